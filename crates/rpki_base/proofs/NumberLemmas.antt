@@ -1,0 +1,187 @@
+-- Number texts: each has one value or one fault, and a scan from the left finds it.
+use Rattle.std.proofs.Common.{◌≡◌, ℕ, ◌+◌, ◌-◌, ◌*◌, ◌<◌, ◌≤◌, ◌≢◌, List, [], ◌∷◌, ◌++◌, length, take, drop, get_or, Result, Ok, Err, MatchResult, arith, refl, sym, ap, ◌∙◌, subst, ◌⊎◌, inl, inr, add-one}
+use Rattle.std.specs.Char.{digit_value}
+use Rattle.std.specs.Int.{IsInRange}
+use Rattle.std.proofs.Math.Seq.{drop-cons}
+use Rattle.std.proofs.lemmas.Str.Parse.{digit_from_value}
+use Rattle.std.proofs.lemmas.Bool.{cases_lt}
+use Rattle.std.specs.Str.Parse.{AllDigits, digits_value, digits_value_after, without_leading_plus}
+use Rattle.std.proofs.lemmas.Str.{digit_value_digit}
+use Rattle.std.proofs.lemmas.List.{take_more, take-append-drop}
+use Rattle.std.proofs.lemmas.Int.Digits.{digits_value_more}
+use Rattle.rpki_base.specs.declared.number.ParseIntError.{ParseIntError}
+use Rattle.rpki_base.specs.declared.number.ParseIntError.TheVariants.{Empty, InvalidDigit, PosOverflow}
+use Rattle.rpki_base.specs.Reading.{Answers}
+use Rattle.rpki_base.specs.Numbers.{IsNumberText, IsValueUpTo, PassesLimit, StopsBelow, HasInvalidDigit, HasNumberFault, DigitsFail}
+
+-- an answer that is right decides the reader, where a text has one value or one fault at most
+pub Answers-from_found : {A E : Type 0} {Has : A → Type 0} {Fails : E → Type 0} (r : Result A E) → MatchResult r Has Fails → ((a b : A) → Has a → Has b → a ≡ b) → ((a : A) (e : E) → Has a → Fails e → ⊥) → ((d e : E) → Fails d → Fails e → d ≡ e) → Answers Has Fails r
+Answers-from_found (Ok x) found one apart same = record {
+  found = found;
+  each_value = λ a h. ap Ok (one x a found h);
+  each_fault = λ e h. absurd (apart x e found h);
+}
+Answers-from_found (Err d) found one apart same = record {
+  found = found;
+  each_value = λ a h. absurd (apart a d h found);
+  each_fault = λ e h. ap Err (same d e found h);
+}
+
+-- digits and one digit more
+pub AllDigits-push : (xs : List ℕ) (c : ℕ) → AllDigits 10 xs → digit_value c < 10 → AllDigits 10 (xs ++ c ∷ [])
+AllDigits-push [] c h l = (l, tt)
+AllDigits-push (x ∷ xs) c h l = (h.0, AllDigits-push xs c h.1 l)
+
+-- digits that follow never lessen the value
+value_after_grows : (m n : ℕ) (ds : List ℕ) → m ≤ n → m ≤ digits_value_after 10 n ds
+value_after_grows m n [] h = h
+value_after_grows m n (c ∷ cs) h = value_after_grows m (n * 10 + digit_value c) cs (omega arith)
+
+-- digits in two parts
+value_after_append : (n : ℕ) (xs ys : List ℕ) → digits_value_after 10 n (xs ++ ys) ≡ digits_value_after 10 (digits_value_after 10 n xs) ys
+value_after_append n [] ys = refl
+value_after_append n (x ∷ xs) ys = value_after_append (n * 10 + digit_value x) xs ys
+
+-- a beginning of digits writes no more than all of them
+value_front : (xs ys : List ℕ) → digits_value 10 xs ≤ digits_value 10 (xs ++ ys)
+value_front xs ys = rw (value_after_append 0 xs ys) (value_after_grows (digits_value 10 xs) (digits_value 10 xs) ys (omega arith))
+
+-- two cuts of one list: the first front begins the second, or reaches past it
+data Meets (xs ys : List ℕ) (c : ℕ) : Type 0 where
+  begins : (more : List ℕ) → ys ≡ xs ++ more → Meets xs ys c
+  beyond : (more : List ℕ) → xs ≡ ys ++ c ∷ more → Meets xs ys c
+
+-- one of the two is so
+meet : (xs zs ys ws : List ℕ) (c : ℕ) → xs ++ zs ≡ ys ++ c ∷ ws → Meets xs ys c
+meet [] zs ys ws c e = begins ys refl
+meet (x ∷ xs) zs [] ws c e = let same : x ≡ c = cc in beyond xs (ap (λ d. d ∷ xs) same)
+meet (x ∷ xs) zs (y ∷ ys) ws c e =
+    let same : x ≡ y = cc in
+    let rest : xs ++ zs ≡ ys ++ c ∷ ws = cc in
+    elim (meet xs zs ys ws c rest) [
+      | begins more f ↦ begins more (ap (λ d. d ∷ ys) (sym same) ∙ ap (λ l. x ∷ l) f)
+      | beyond more f ↦ beyond more (ap (λ d. d ∷ xs) same ∙ ap (λ l. y ∷ l) f)
+    ]
+
+-- all digits have no other byte among them
+no_digit_behind : (ys : List ℕ) (c : ℕ) (ws : List ℕ) → AllDigits 10 (ys ++ c ∷ ws) → 10 ≤ digit_value c → ⊥
+no_digit_behind [] c ws h l = omega (arith, h.0)
+no_digit_behind (y ∷ ys) c ws h l = no_digit_behind ys c ws h.1 l
+
+-- digits that stop at or below the limit have no beginning above it
+pub StopsBelow-not_above : (limit : ℕ) (ds : List ℕ) → StopsBelow limit ds → PassesLimit limit ds → ⊥
+StopsBelow-not_above limit ds s p =
+    elim (meet p.front p.rest s.front s.rest s.byte (sym p.split ∙ s.split)) [
+      | begins more e ↦ (
+          let bound = value_front p.front more in
+          let whole : digits_value 10 (p.front ++ more) ≡ digits_value 10 s.front = ap (digits_value 10) (sym e) in
+          omega (arith, p.above, s.value.within, bound, whole))
+      | beyond more e ↦ no_digit_behind s.front s.byte more (subst (AllDigits 10) e p.all_digits) s.not_digit
+    ]
+
+-- nor are all bytes digits then
+pub StopsBelow-no_numeral : (limit : ℕ) (ds : List ℕ) → StopsBelow limit ds → AllDigits 10 ds → ⊥
+StopsBelow-no_numeral limit ds s h = no_digit_behind s.front s.byte s.rest (subst (AllDigits 10) s.split h) s.not_digit
+
+-- a number text has no beginning above its limit
+IsNumberText-not_above : (limit n : ℕ) (text : List ℕ) → IsNumberText limit text n → PassesLimit limit (without_leading_plus text) → ⊥
+IsNumberText-not_above limit n text h p =
+    let bound = value_front p.front p.rest in
+    let whole : digits_value 10 (p.front ++ p.rest) ≡ digits_value 10 (without_leading_plus text) = ap (digits_value 10) (sym p.split) in
+    omega (arith, p.above, h.within, h.value, bound, whole)
+
+-- no digits pass no limit
+none_above : (limit : ℕ) (ds : List ℕ) → ds ≡ [] → PassesLimit limit ds → ⊥
+none_above limit ds e p =
+    let bound = value_front p.front p.rest in
+    let whole : digits_value 10 (p.front ++ p.rest) ≡ 0 = ap (digits_value 10) (sym p.split ∙ e) in
+    omega (arith, p.above, bound, whole)
+
+-- nor does the empty text
+empty_not_above : (limit : ℕ) (text : List ℕ) → text ≡ [] → PassesLimit limit (without_leading_plus text) → ⊥
+empty_not_above limit text e p = none_above limit (without_leading_plus text) (ap without_leading_plus e) p
+
+-- no text has both a value and a fault
+number_apart : (limit : ℕ) (text : List ℕ) (n : ℕ) (e : ParseIntError) → IsNumberText limit text n → HasNumberFault limit text e → ⊥
+number_apart limit text n Empty h f = (let none : length (without_leading_plus text) ≡ 0 = ap (λ t. length (without_leading_plus t)) f in omega (arith, h.digits.0, none))
+number_apart limit text n InvalidDigit h f = f.no_number n h
+number_apart limit text n PosOverflow h f = IsNumberText-not_above limit n text h f
+
+-- a text has one fault at most
+same_fault : (limit : ℕ) (text : List ℕ) (d e : ParseIntError) → HasNumberFault limit text d → HasNumberFault limit text e → d ≡ e
+same_fault limit text Empty Empty f g = refl
+same_fault limit text Empty InvalidDigit f g = absurd (g.some_text f)
+same_fault limit text Empty PosOverflow f g = absurd (empty_not_above limit text f g)
+same_fault limit text InvalidDigit Empty f g = absurd (f.some_text g)
+same_fault limit text InvalidDigit InvalidDigit f g = refl
+same_fault limit text InvalidDigit PosOverflow f g = absurd (f.not_above g)
+same_fault limit text PosOverflow Empty f g = absurd (empty_not_above limit text g f)
+same_fault limit text PosOverflow InvalidDigit f g = absurd (g.not_above f)
+same_fault limit text PosOverflow PosOverflow f g = refl
+
+-- so a right answer is the only one
+pub number_answers : (limit : ℕ) (text : List ℕ) (r : Result ℕ ParseIntError) → MatchResult r (IsNumberText limit text) (HasNumberFault limit text) → Answers (IsNumberText limit text) (HasNumberFault limit text) r
+number_answers limit text r found = Answers-from_found r found (λ a b h k. sym h.value ∙ k.value) (number_apart limit text) (same_fault limit text)
+
+-- the text gives what the digits behind its plus give
+pub text_from_digits : (limit : ℕ) (text : List ℕ) (r : Result ℕ ParseIntError) → text ≢ [] → 0 < length (without_leading_plus text) → MatchResult r (IsValueUpTo limit (without_leading_plus text)) (DigitsFail limit (without_leading_plus text)) → MatchResult r (IsNumberText limit text) (HasNumberFault limit text)
+text_from_digits limit text (Ok n) some more h = record { digits = (more, h.all_digits); value = h.value; within = h.within }
+text_from_digits limit text (Err Empty) some more h = absurd h
+text_from_digits limit text (Err InvalidDigit) some more h = record {
+  some_text = some;
+  no_number = λ n k. StopsBelow-no_numeral limit _ h k.digits.1;
+  not_above = StopsBelow-not_above limit _ h;
+}
+text_from_digits limit text (Err PosOverflow) some more h = h
+
+-- a byte outside `0` to `9` has no digit's value
+pub value_of_other : (b : ℕ) → (b < 48) ⊎ (57 < b) → 10 ≤ digit_value b
+value_of_other b other = elim (cases_lt (digit_value b) 10) [
+  | inl l ↦ (let range = digit_from_value b l in elim other [ inl low ↦ omega (arith, range.0) | inr high ↦ omega (arith, range.1) ])
+  | inr h ↦ h
+]
+
+-- a list, cut round one of its places
+pub split_at : (xs : List ℕ) (i : ℕ) → i < length xs → xs ≡ take i xs ++ get_or xs i 0 ∷ drop (i + 1) xs
+split_at xs i l = sym (take-append-drop i xs) ∙ ap (λ t. take i xs ++ t) (rw add-one (drop-cons xs i 0 l))
+
+-- one more digit, which stands for n, behind digits of that value
+module _ (limit value n : ℕ) (ds : List ℕ) (i : ℕ) (here : i < length ds) (digit : IsInRange 48 57 (get_or ds i 0)) (is : n ≡ get_or ds i 0 - 48) (sofar : IsValueUpTo limit (take i ds) value) where
+  -- the digit's value
+  digit_is : digit_value (get_or ds i 0) ≡ n
+  digit_is = omega (arith, digit_value_digit (get_or ds i 0) digit)
+
+  -- all are digits still
+  digits_more : AllDigits 10 (take (i + 1) ds)
+  digits_more = rw (take_more ds i 0 here) (AllDigits-push _ _ sofar.all_digits (omega (arith, digit_value_digit (get_or ds i 0) digit)))
+
+  -- their value
+  value_is : digits_value 10 (take (i + 1) ds) ≡ value * 10 + n
+  value_is = digits_value_more 10 ds i here ∙ (rw (sofar.value, digit_is) refl)
+
+  -- where that is within the limit
+  pub value_more : value * 10 + n ≤ limit → IsValueUpTo limit (take (i + 1) ds) (value * 10 + n)
+  value_more fits = record { all_digits = digits_more; value = value_is; within = fits }
+
+  -- and where it isn't
+  pub value_passes : limit < value * 10 + n → PassesLimit limit ds
+  value_passes above = record {
+    front = take (i + 1) ds;
+    rest = drop (i + 1) ds;
+    split = sym (take-append-drop (i + 1) ds);
+    all_digits = digits_more;
+    above = rw value_is above;
+  }
+
+-- a text without bytes is empty
+pub no_text : (text : List ℕ) → length text ≡ 0 → text ≡ []
+no_text [] e = refl
+no_text (x ∷ xs) e = absurd (omega (arith, e))
+
+-- a plus with no digits behind it
+pub no_digits : (limit : ℕ) (text : List ℕ) → text ≢ [] → length (without_leading_plus text) ≡ 0 → HasInvalidDigit limit text
+no_digits limit text some none = record {
+  some_text = some;
+  no_number = λ n h. omega (arith, h.digits.0);
+  not_above = λ p. none_above limit (without_leading_plus text) (no_text _ none) p;
+}

@@ -1,0 +1,122 @@
+-- The elements of a printed list are the texts that were joined.
+use Rattle.std.proofs.Common.{◌≡◌, ℕ, ◌+◌, ◌-◌, ◌<◌, ◌≤◌, List, [], ◌∷◌, ◌++◌, map, length, take, drop, get_or, eqb, true, false, arith, refl, sym, ap, ◌∙◌, codes, lit<}
+use Rattle.std.specs.Int.{IsInRange}
+use Rattle.std.specs.Char.{is_whitespace}
+use Rattle.std.specs.List.{AllByRecursion, slice_split, flat_map}
+use Rattle.std.specs.Str.{trim, trim_start, trim_end, chars, encode_utf8_all, skip_leading_whitespace, drop_trailing_whitespace, all_scalars}
+use Rattle.std.proofs.lemmas.Str.{chars-encodes, encode_ascii}
+use Rattle.std.proofs.lemmas.Bool.Decides.{nat_tests}
+use Rattle.std.proofs.lemmas.Bool.{lt-ltb}
+use Rattle.std.proofs.lemmas.List.{append-nil, take_all, take_more}
+use Rattle.std.proofs.lemmas.Grind.{flat_map-append}
+use Rattle.std.proofs.lemmas.List.Elements.{All-from_recursion}
+use Rattle.std.proofs.lemmas.List.Splits.{slice_split_at, slice_split_none}
+use Rattle.rpki_base.specs.Lists.{kept, elements, joined, comma}
+use Rattle.rpki_base.proofs.ListLemmas.{elements_are}
+
+-- visible ASCII from `-` on, so neither a comma nor white space
+abbrev pub IsShown : ℕ → Type 0
+IsShown b = IsInRange 45 126 b
+
+-- ASCII is its own encoding
+encodes_ascii : (bs : List ℕ) → AllByRecursion (λ b. b < 128) bs → encode_utf8_all bs ≡ bs
+encodes_ascii [] h = refl
+encodes_ascii (b ∷ bs) h = rw (encode_ascii b h.0, encodes_ascii bs h.1)
+
+-- its bytes are scalar values
+scalars_ascii : (bs : List ℕ) → AllByRecursion (λ b. b < 128) bs → all_scalars bs ≡ true
+scalars_ascii [] h = refl
+scalars_ascii (b ∷ bs) h = rw (scalars_ascii bs h.1, lt-ltb b 55296 (omega (arith, h.0)))
+
+-- and its characters
+chars_ascii : (bs : List ℕ) → AllByRecursion (λ b. b < 128) bs → chars bs ≡ bs
+chars_ascii bs h = ap chars (sym (encodes_ascii bs h)) ∙ chars-encodes bs (scalars_ascii bs h)
+
+-- visible bytes are ASCII
+shown_ascii : (bs : List ℕ) → AllByRecursion IsShown bs → AllByRecursion (λ b. b < 128) bs
+shown_ascii [] h = tt
+shown_ascii (b ∷ bs) h = (omega (arith, h.0.1), shown_ascii bs h.1)
+
+-- and no white space
+not_white : (b : ℕ) → IsShown b → is_whitespace b ≡ false
+not_white b h = grind (arith, nat_tests)
+
+-- so trimming takes nothing at the front
+skip_shown : (bs : List ℕ) → AllByRecursion IsShown bs → skip_leading_whitespace bs ≡ bs
+skip_shown [] h = refl
+skip_shown (b ∷ bs) h = rw (not_white b h.0)
+
+-- nor at the back
+drop_shown : (bs : List ℕ) → AllByRecursion IsShown bs → drop_trailing_whitespace bs ≡ bs
+drop_shown [] h = refl
+drop_shown (b ∷ bs) h = rw (not_white b h.0, drop_shown bs h.1)
+
+-- nor at the end of a text
+trim_end_shown : (bs : List ℕ) → AllByRecursion IsShown bs → trim_end bs ≡ bs
+unfolding trim_end
+trim_end_shown bs h = rw (chars_ascii bs (shown_ascii bs h), drop_shown bs h) (encodes_ascii bs (shown_ascii bs h))
+
+-- nor from a text
+pub trim_shown : (bs : List ℕ) → AllByRecursion IsShown bs → trim bs ≡ bs
+unfolding trim_start
+trim_shown bs h = rw (chars_ascii bs (shown_ascii bs h), skip_shown bs h, encodes_ascii bs (shown_ascii bs h)) (trim_end_shown bs h)
+
+-- and takes a space before it
+pub trim_spaced : (bs : List ℕ) → AllByRecursion IsShown bs → trim (32 ∷ bs) ≡ bs
+unfolding trim_start
+trim_spaced bs h = rw (chars_ascii (32 ∷ bs) (lit< tt, shown_ascii bs h), skip_shown bs h, encodes_ascii bs (shown_ascii bs h)) (trim_end_shown bs h)
+
+-- no comma is among them
+no_comma : (bs : List ℕ) → AllByRecursion IsShown bs → AllByRecursion (λ b. eqb b comma ≡ false) bs
+no_comma [] h = tt
+no_comma (b ∷ bs) h = (grind (arith, nat_tests), no_comma bs h.1)
+
+-- joined texts, cut at their commas
+parts_of : (text : List ℕ) (more : List (List ℕ)) → AllByRecursion (λ b. eqb b comma ≡ false) text → AllByRecursion (AllByRecursion IsShown) more → slice_split (λ b. eqb b comma) (text ++ flat_map (λ next. codes ", " ++ next) more) ≡ text ∷ map (λ next. 32 ∷ next) more
+parts_of text [] h k = rw append-nil (slice_split_none (λ b. eqb b comma) text (All-from_recursion _ text h))
+parts_of text (next ∷ more) h k =
+    slice_split_at (λ b. eqb b comma) text comma (32 ∷ next ++ flat_map (λ next. codes ", " ++ next) more) (All-from_recursion _ text h) refl
+    ∙ ap (λ l. text ∷ l) (parts_of (32 ∷ next) more (refl, no_comma next k.0) k.1)
+
+-- a text of visible bytes, one or more
+pub record IsElement (text : List ℕ) : Type 0 where
+  pub shown : AllByRecursion IsShown text
+  pub some : 0 < length text
+
+-- each of these texts is visible
+shown_all : (texts : List (List ℕ)) → AllByRecursion IsElement texts → AllByRecursion (AllByRecursion IsShown) texts
+shown_all [] h = tt
+shown_all (t ∷ texts) h = (h.0.shown, shown_all texts h.1)
+
+-- and is kept with a space before it
+kept_spaced : (texts : List (List ℕ)) → AllByRecursion IsElement texts → kept (map (λ next. 32 ∷ next) texts) ≡ texts
+kept_spaced [] h = refl
+kept_spaced (t ∷ texts) h = rw (trim_spaced t h.0.shown, lt-ltb 0 (length t) h.0.some, kept_spaced texts h.1)
+
+-- the elements of joined texts are those texts
+pub elements-joined : (texts : List (List ℕ)) → AllByRecursion IsElement texts → elements (joined texts) ≡ texts
+elements-joined [] h = elements_are [] ∙ (rw (trim_shown [] tt))
+elements-joined (t ∷ texts) h =
+    elements_are (joined (t ∷ texts))
+    ∙ ap kept (parts_of t texts (no_comma t h.0.shown) (shown_all texts h.1))
+    ∙ (rw (trim_shown t h.0.shown, lt-ltb 0 (length t) h.0.some, kept_spaced texts h.1))
+
+-- what is written behind the first item
+more_shown : {A : Type 0} (show : A → List ℕ) (xs : List A) → flat_map (λ b. codes ", " ++ show b) xs ≡ flat_map (λ next. codes ", " ++ next) (map show xs)
+more_shown show [] = refl
+more_shown show (x ∷ xs) = ap (λ t. 44 ∷ 32 ∷ (show x ++ t)) (more_shown show xs)
+
+-- the first item and a loop over the rest write the joined texts
+pub joined_by_loop : {A : Type 0} (show : A → List ℕ) (items : List A) (first : A) (i : ℕ) → 1 ≤ length items → first ≡ get_or items 0 first → length (take (length items - 1) (drop 1 items)) ≤ i → show first ++ flat_map (λ b. codes ", " ++ show b) (take i (take (length items - 1) (drop 1 items))) ≡ joined (map show items)
+joined_by_loop show [] first i some is end = absurd (omega arith)
+joined_by_loop show (x ∷ xs) first i some is end =
+    let whole : take (length (x ∷ xs) - 1) xs ≡ xs = take_all (length (x ∷ xs) - 1) xs (omega arith) in
+    let all : take i (take (length (x ∷ xs) - 1) xs) ≡ xs = take_all i _ end ∙ whole in
+    rw all (ap (λ f. show f ++ flat_map (λ b. codes ", " ++ show b) xs) is ∙ ap (λ t. show x ++ t) (more_shown show xs))
+
+-- one more item of a loop that writes each
+pub written_more : {A : Type 0} (f : A → List ℕ) (xs : List A) (i : ℕ) (item : A) → i < length xs → item ≡ get_or xs i item → flat_map f (take i xs) ++ f item ≡ flat_map f (take (i + 1) xs)
+written_more f xs i item l is = sym (
+    ap (flat_map f) (take_more xs i item l)
+    ∙ flat_map-append f (take i xs) (get_or xs i item ∷ [])
+    ∙ ap (λ t. flat_map f (take i xs) ++ t) (append-nil (f (get_or xs i item)) ∙ ap f (sym is)))

@@ -1,0 +1,31 @@
+-- Each part adds its value, is left out, or is the first fault.
+use Rattle.std.proofs.Common.{length, map, Ok, Err, sym, ◌∙◌, lit<}
+use Rattle.std.proofs.lemmas.Bool.{eqb-false}
+use Rattle.std.proofs.lemmas.Iterator.Splits.{YieldsList-from_str_split}
+use Rattle.std.proofs.lemmas.Iterator.Consumers.{YieldsList-turn, YieldsList-end, YieldsList-so_far, YieldsList-at}
+use Rattle.std.proofs.lemmas.List.{map-append}
+use Rattle.rpki_base.proofs.ListLemmas.{fault_at, values_more, elements_are}
+use Rattle.rpki_base.proofs.list.read_list.Goals as goal
+
+-- one more value
+pub loop-part-preserved : goal.loop-part-preserved
+loop-part-preserved g c =
+    let some = eqb-false (length c.trim-element.result.now) 0 (sym c.is_empty.ensures ∙ c.if-is_empty.false) in
+    let value = rw c.trim-element.ensures.trim at c.in-Ok.ensures in
+    rw (map-append, c.in_ok-push-in-Ok.ensures.items) (values_more (λ t a. g.T.FromStr.from_str_gives t (Ok a)) (map (λ p. p.now) c.loop-part.yielded) c.in-Some.part.now _ _ c.loop-part.invariant (rw c.trim-element.ensures.trim at some) value)
+
+pub returns-in-Err : goal.returns-in-Err
+returns-in-Err g c =
+    let road = YieldsList-at c.into_iter-part-iterator.ensures.into_iter_gives (YieldsList-from_str_split 44 c.args.text.now (lit< tt) c.split-part-items.ensures.text c.split-part-items.ensures.has_more c.split-part-items.ensures.pattern) in
+    let here = YieldsList-turn road c.loop-part.yielded _ c.loop-part.yielded_by _ _ c.in-Some.part c.in-Some.is c.next.ensures.steps in
+    let sofar = YieldsList-so_far road c.loop-part.yielded _ c.loop-part.yielded_by in
+    let some = eqb-false (length c.trim-element.result.now) 0 (sym c.is_empty.ensures ∙ c.if-is_empty.false) in
+    let fault = rw c.trim-element.ensures.trim at c.in-Err.ensures in
+    let before = rw sofar at c.loop-part.invariant in
+    fault_at (λ t a. g.T.FromStr.from_str_gives t (Ok a)) (λ t e. g.T.FromStr.from_str_gives t (Err e)) c.args.text.now (length c.loop-part.yielded) c.in-Some.part.now c.loop-part.values.items c.in-Err.fault here (rw c.trim-element.ensures.trim at some) before fault
+
+pub returns : goal.returns
+returns g c =
+    let road = YieldsList-at c.into_iter-part-iterator.ensures.into_iter_gives (YieldsList-from_str_split 44 c.args.text.now (lit< tt) c.split-part-items.ensures.text c.split-part-items.ensures.has_more c.split-part-items.ensures.pattern) in
+    let all = YieldsList-end road c.loop-part.yielded _ c.loop-part.yielded_by _ _ c.in-None.is c.next.ensures.steps in
+    rw (elements_are c.args.text.now, ← all.0) c.loop-part.invariant

@@ -1,0 +1,26 @@
+-- Texts cut at the first of some byte.
+use Rattle.std.specs.Prelude.{◌≡◌, ℕ, ◌≢◌, List, ◌∷◌, ◌++◌, EachIndex, slice_index}
+
+-- `b'-'`
+abbrev pub dash : ℕ
+dash = 45
+
+-- `b'/'`
+abbrev pub slash : ℕ
+slash = 47
+
+-- no byte of the text is b
+abbrev pub HasNo : ℕ → List ℕ → Type 0
+HasNo b text = EachIndex text (λ i. slice_index text i ≢ b)
+
+-- the text is left, its first b, and right
+pub record IsCutAt (b : ℕ) (text left right : List ℕ) : Type 0 where
+  pub split : text ≡ left ++ b ∷ right
+  pub first : HasNo b left
+
+-- P holds of the two texts round the first b
+pub record Around (b : ℕ) (text : List ℕ) (P : List ℕ → List ℕ → Type 0) : Type 0 where
+  pub left : List ℕ
+  pub right : List ℕ
+  pub cut : IsCutAt b text left right
+  pub holds : P left right

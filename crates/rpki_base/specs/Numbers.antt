@@ -1,0 +1,59 @@
+-- Decimal texts of numbers up to a limit, and what is wrong with any other text.
+use Rattle.std.specs.Prelude.{◌≡◌, ℕ, ◌<◌, ◌≤◌, ◌≢◌, List, [], ◌∷◌, ◌++◌, codes}
+use Rattle.std.specs.Char.{digit_value}
+use Rattle.std.specs.Str.Parse.{AllDigits, IsNumeral, digits_value, without_leading_plus}
+use Rattle.rpki_base.specs.declared.number.ParseIntError.{ParseIntError}
+use Rattle.rpki_base.specs.declared.number.ParseIntError.TheVariants.{Empty, InvalidDigit, PosOverflow}
+
+-- The text is an optional plus and then ASCII digits, one or more, that write n, which is at most the limit.
+pub record IsNumberText (limit : ℕ) (text : List ℕ) (n : ℕ) : Type 0 where
+  pub digits : IsNumeral 10 (without_leading_plus text)
+  pub value : digits_value 10 (without_leading_plus text) ≡ n
+  pub within : n ≤ limit
+
+-- some beginning of these bytes is all digits, with a value above the limit
+pub record PassesLimit (limit : ℕ) (digits : List ℕ) : Type 0 where
+  pub front : List ℕ
+  pub rest : List ℕ
+  pub split : digits ≡ front ++ rest
+  pub all_digits : AllDigits 10 front
+  pub above : limit < digits_value 10 front
+
+-- there is a text, it writes no number, and its digits don't pass the limit
+pub record HasInvalidDigit (limit : ℕ) (text : List ℕ) : Type 0 where
+  pub some_text : text ≢ []
+  pub no_number : (n : ℕ) → ¬ IsNumberText limit text n
+  pub not_above : ¬ PassesLimit limit (without_leading_plus text)
+
+-- this is the first fault of the text, from left to right
+abbrev pub HasNumberFault : ℕ → List ℕ → ParseIntError → Type 0
+HasNumberFault limit text Empty = text ≡ []
+HasNumberFault limit text InvalidDigit = HasInvalidDigit limit text
+HasNumberFault limit text PosOverflow = PassesLimit limit (without_leading_plus text)
+
+-- what is printed of a fault: the words of Rust's std
+abbrev pub number_fault_text : ParseIntError → List ℕ
+number_fault_text Empty = codes "cannot parse integer from empty string"
+number_fault_text InvalidDigit = codes "invalid digit found in string"
+number_fault_text PosOverflow = codes "number too large to fit in target type"
+
+-- the digits, of which there may be none, write n, which is at most the limit
+pub record IsValueUpTo (limit : ℕ) (digits : List ℕ) (n : ℕ) : Type 0 where
+  pub all_digits : AllDigits 10 digits
+  pub value : digits_value 10 digits ≡ n
+  pub within : n ≤ limit
+
+-- another byte stands behind digits that write at most the limit
+pub record StopsBelow (limit : ℕ) (bytes : List ℕ) : Type 0 where
+  pub front : List ℕ
+  pub byte : ℕ
+  pub rest : List ℕ
+  pub split : bytes ≡ front ++ byte ∷ rest
+  pub value : IsValueUpTo limit front (digits_value 10 front)
+  pub not_digit : 10 ≤ digit_value byte
+
+-- this is why bytes behind the plus write no number
+abbrev pub DigitsFail : ℕ → List ℕ → ParseIntError → Type 0
+DigitsFail limit bytes Empty = ⊥
+DigitsFail limit bytes InvalidDigit = StopsBelow limit bytes
+DigitsFail limit bytes PosOverflow = PassesLimit limit bytes

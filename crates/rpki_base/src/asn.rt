@@ -1,0 +1,134 @@
+//! AS numbers and their texts.
+ghost use Rattle.std.specs.Prelude.{◌≡◌, ◌+◌, ◌^◌, ◌<◌, codes, Some};
+ghost use Rattle.rpki_base.specs.AsnText.{IsAfterAs, ReadsAsn, asn_text};
+ghost use Rattle.rpki_base.specs.Digits.{octets_of};
+
+use crate::number::parse_up_to;
+use std::error::Error;
+use std::fmt;
+use std::marker::Model;
+use std::str::FromStr;
+
+/// An AS number: one of 0 to 4294967295 (RFC 6793).
+///
+/// AS numbers compare, and are in order, as their values.
+#[derive(Clone, Copy, Debug, PartialEq, Eq, PartialOrd, Ord, Hash)]
+pub struct Asn(u32);
+
+impl Model for Asn {
+    ghost use Rattle.std.specs.Prelude.{ℕ, ◌<◌, ◌^◌};
+
+    ghost Value = { ℕ };
+
+    ghost view = { λ asn. asn.0 };
+
+    ghost invariant = { λ asn. asn.0 < 2 ^ 32 };
+
+    ghost inverse = { λ n. record { 0 = n } };
+}
+
+impl Asn {
+    /// The least AS number, 0.
+    pub const MIN: Asn = Asn(u32::MIN);
+
+    /// The greatest AS number, 4294967295.
+    pub const MAX: Asn = Asn(u32::MAX);
+
+    /// The AS number of a value.
+    pub fn from_u32(value: u32) -> Asn
+        ensures { result ≡ value }
+    {
+        Asn(value)
+    }
+
+    /// The value of the AS number.
+    pub fn into_u32(self) -> u32
+        ensures { result ≡ self }
+    {
+        self.0
+    }
+
+    /// The four octets of the value, the highest first.
+    pub fn to_raw(self) -> [u8; 4]
+        ensures { result ≡ octets_of self }
+    {
+        self.0.to_be_bytes()
+    }
+
+    /// The AS number that is `value` more. The caller owes that there is one: `Asn::MAX.into_u32() - self.into_u32()` is at least `value`.
+    pub fn add(self, value: u32) -> Asn
+        requires { self + value < 2 ^ 32 }
+        ensures { result ≡ self + value }
+    {
+        Asn(self.0 + value)
+    }
+}
+
+impl From<u32> for Asn {
+    ghost from_gives = { λ value asn. asn ≡ value };
+
+    fn from(value: u32) -> Asn {
+        Asn(value)
+    }
+}
+
+impl From<Asn> for u32 {
+    ghost from_gives = { λ asn value. value ≡ asn };
+
+    fn from(asn: Asn) -> u32 {
+        asn.0
+    }
+}
+
+/// The text writes no AS number.
+#[derive(Clone, Copy, Debug, PartialEq, Eq)]
+pub struct ParseAsnError;
+
+impl fmt::Display for ParseAsnError {
+    ghost output = { λ _. Some (codes "invalid AS number") };
+
+    fn fmt<W: fmt::Write>(&self, f: &mut fmt::Formatter<W>) -> fmt::Result {
+        f.write_str("invalid AS number")
+    }
+}
+
+impl Error for ParseAsnError {}
+
+/// What follows `as`, in any case of letters, if that stands first.
+fn after_as(text: &[u8]) -> &[u8]
+    ensures { IsAfterAs text.now result.now }
+{
+    if text.len() < 2 {
+        return text;
+    }
+    let (letters, digits) = text.split_at(2);
+    if letters.eq_ignore_ascii_case(b"as") {
+        digits
+    } else {
+        text
+    }
+}
+
+/// Reads an optional `as` in any case of letters, and then the decimal text of a `u32`, as [`crate::number::parse_u32`] does.
+impl FromStr for Asn {
+    type Err = ParseAsnError;
+
+    ghost from_str_gives = { ReadsAsn };
+
+    fn from_str(text: &str) -> Result<Asn, ParseAsnError> {
+        match parse_up_to(u64::from(u32::MAX), after_as(text.as_bytes())) {
+            Ok(value) => Ok(Asn(value as u32)),
+            Err(_) => Err(ParseAsnError),
+        }
+    }
+}
+
+/// Writes `AS` and the value in decimal, as in `AS65000` (RFC 5396, section 2, asplain).
+impl fmt::Display for Asn {
+    ghost output = { λ asn. Some (asn_text asn) };
+
+    fn fmt<W: fmt::Write>(&self, f: &mut fmt::Formatter<W>) -> fmt::Result {
+        let value = self.0;
+        write!(f, "AS{value}")
+    }
+}

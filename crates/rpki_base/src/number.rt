@@ -1,0 +1,87 @@
+//! Decimal texts of numbers, read up to a limit.
+ghost use Rattle.std.specs.Prelude.{◌≡◌, ◌^◌, ◌-◌, ◌<◌, Some, MatchResult};
+ghost use Rattle.std.specs.Str.Parse.{without_leading_plus};
+ghost use Rattle.rpki_base.specs.Reading.{Answers};
+ghost use Rattle.rpki_base.specs.Numbers.{IsNumberText, HasNumberFault, IsValueUpTo, DigitsFail, number_fault_text};
+
+use std::error::Error;
+use std::fmt;
+
+/// What is wrong with a text that writes no number, read from left to right.
+#[derive(Clone, Copy, Debug, PartialEq, Eq)]
+pub enum ParseIntError {
+    /// There is no text.
+    Empty,
+    /// A sign stands alone, or another character stands where a digit is due, and the digits before it don't pass the limit.
+    InvalidDigit,
+    /// The digits pass the greatest number that is wanted.
+    PosOverflow,
+}
+
+impl fmt::Display for ParseIntError {
+    ghost output = { λ fault. Some (number_fault_text fault) };
+
+    fn fmt<W: fmt::Write>(&self, f: &mut fmt::Formatter<W>) -> fmt::Result {
+        f.write_str(match self {
+            ParseIntError::Empty => "cannot parse integer from empty string",
+            ParseIntError::InvalidDigit => "invalid digit found in string",
+            ParseIntError::PosOverflow => "number too large to fit in target type",
+        })
+    }
+}
+
+impl Error for ParseIntError {}
+
+/// What follows a plus, if one stands first.
+fn after_plus(text: &[u8]) -> &[u8]
+    ensures { result.now ≡ without_leading_plus text.now }
+{
+    match text {
+        [b'+', digits @ ..] => digits,
+        _ => text,
+    }
+}
+
+/// The value of digits, 0 where there are none.
+fn read_digits(limit: u64, digits: &[u8]) -> Result<u64, ParseIntError>
+    requires { limit < 2 ^ 32 }
+    ensures { MatchResult result (IsValueUpTo limit digits.now) (DigitsFail limit digits.now) }
+{
+    let mut value: u64 = 0;
+    for byte in digits {
+        if !byte.is_ascii_digit() {
+            return Err(ParseIntError::InvalidDigit);
+        }
+        value = value * 10 + u64::from(*byte - b'0');
+        if value > limit {
+            return Err(ParseIntError::PosOverflow);
+        }
+    }
+    Ok(value)
+}
+
+/// The number that a text writes, at most the limit.
+pub(crate) fn parse_up_to(limit: u64, text: &[u8]) -> Result<u64, ParseIntError>
+    requires { limit < 2 ^ 32 }
+    ensures { Answers (IsNumberText limit text.now) (HasNumberFault limit text.now) result }
+{
+    let digits = after_plus(text);
+    if text.is_empty() {
+        return Err(ParseIntError::Empty);
+    }
+    if digits.is_empty() {
+        return Err(ParseIntError::InvalidDigit);
+    }
+    read_digits(limit, digits)
+}
+
+/// Reads a decimal text of a `u32`: an optional `+`, then one or more ASCII digits, leading zeros among them.
+///
+/// The fault is the first one from left to right: [`ParseIntError::Empty`] where there is no text,
+/// [`ParseIntError::PosOverflow`] where the digits pass 4294967295 before another character stands,
+/// else [`ParseIntError::InvalidDigit`]. A minus sign is such another character.
+pub fn parse_u32(text: &str) -> Result<u32, ParseIntError>
+    ensures { Answers (IsNumberText (2 ^ 32 - 1) text.now) (HasNumberFault (2 ^ 32 - 1) text.now) result }
+{
+    Ok(parse_up_to(u64::from(u32::MAX), text.as_bytes())? as u32)
+}

@@ -1,0 +1,146 @@
+-- Runs of sets: those of a chain, and that a set has one list of them.
+use Rattle.std.proofs.Common.{◌≡◌, ℕ, ◌<◌, ◌≤◌, ◌↔◌, ◌⊎◌, inl, inr, ⊎_elim, Bool, true, List, [], ◌∷◌, length, get_or, map, refl, sym, ap, ◌∙◌, subst, arith}
+use Rattle.std.proofs.lemmas.Bool.{cases_lt}
+use Rattle.std.proofs.lemmas.List.{get_or-map, length-map}
+use Rattle.std.proofs.lemmas.List.Elements.{All-map}
+use Rattle.rpki_chain.specs.Sets.{IsWithin, Covers, IsChain, IsChainOf}
+use Rattle.rpki_chain.proofs.Chains.{Covers-nil, IsChainOf-from, IsChain-from}
+use Rattle.rpki_chain.proofs.Unique.{Covers-head, Covers-tail, Covers-cons_cases, IsChain-unique}
+use Rattle.rpki_chain.proofs.Sorts.{Covers-map}
+use Rattle.rpki_chain.specs.Runs.{Runs, Holds, IsRunsOf}
+
+-- whether a number lies within bounds is decided
+is_decided : (b : ℕ × ℕ) (n : ℕ) → IsWithin b n ⊎ (IsWithin b n → ⊥)
+is_decided b n = ⊎_elim
+    (λ (below : n < b.0). inr (λ w. omega (arith, w.0)))
+    (λ (from : b.0 ≤ n). ⊎_elim
+    (λ (above : b.1 < n). inr (λ w. omega (arith, w.1)))
+    (λ (to : n ≤ b.1). inl (from, to))
+    (cases_lt b.1 n))
+    (cases_lt n b.0)
+
+-- a map that changes nothing
+map-itself : (xs : Runs) → map (λ b. b) xs ≡ xs
+map-itself [] = refl
+map-itself (x ∷ xs) = ap (λ zs. x ∷ zs) (map-itself xs)
+
+module _ {B : Type 0} (f : B → ℕ × ℕ) where
+  -- whether a list covers a number is decided
+  pub Covers-decided : (xs : List B) (n : ℕ) → Covers f xs n ⊎ (Covers f xs n → ⊥)
+  Covers-decided [] n = inr (Covers-nil f n)
+  Covers-decided (x ∷ xs) n = ⊎_elim
+      (λ w. inl (Covers-head f x xs n w))
+      (λ not_here. ⊎_elim
+      (λ c. inl (Covers-tail f x xs n c))
+      (λ not_there. inr (λ c. ⊎_elim not_here not_there (Covers-cons_cases f x xs n c)))
+      (Covers-decided xs n))
+      (is_decided (f x) n)
+
+  -- the bounds of blocks hold what the blocks cover
+  pub Holds-map : (xs : List B) (n : ℕ) → Holds (map f xs) n ↔ Covers f xs n
+  Holds-map xs n = (
+    Covers-map (λ b. b) f (map f xs) xs n (map-itself (map f xs)),
+    Covers-map f (λ b. b) xs (map f xs) n (sym (map-itself (map f xs))),
+  )
+
+  module _ (is_new : B → Bool) where
+    -- the chain of a set is that of any set with the same numbers
+    pub IsChainOf-same : (xs : List B) (S U : ℕ → Type 0) → ((n : ℕ) → S n ↔ U n) → IsChainOf f is_new S xs → IsChainOf f is_new U xs
+    IsChainOf-same xs S U same h = record {
+      runs = λ k d lt. (let run = h.runs k d lt in record {
+        ordered = run.ordered;
+        inside = λ n w. (same n).0 (run.inside n w);
+        starts = λ n next s. run.starts n next ((same n).1 s);
+        ends = λ s. run.ends ((same _).1 s);
+      });
+      every_run = λ b run. h.every_run b (record {
+        ordered = run.ordered;
+        inside = λ n w. (same n).1 (run.inside n w);
+        starts = λ n next s. run.starts n next ((same n).0 s);
+        ends = λ s. run.ends ((same _).0 s);
+      });
+      ascending = h.ascending;
+      new_form = h.new_form;
+      covers = λ n. (λ c. (same n).0 ((h.covers n).0 c), λ s. (h.covers n).1 ((same n).1 s));
+    }
+
+    -- the blocks of the chain of S are its runs
+    pub IsRunsOf-from_chain : (S : ℕ → Type 0) (xs : List B) → IsChainOf f is_new S xs → IsRunsOf S (map f xs)
+    IsRunsOf-from_chain S xs h =
+        let chain = IsChain-from f is_new xs S h in
+        record {
+          members = λ n. (λ c. (h.covers n).0 ((Holds-map xs n).0 c), λ s. (Holds-map xs n).1 ((h.covers n).1 s));
+          ordered = All-map (λ b. b.0 ≤ b.1) f xs chain.ordered;
+          apart = λ i j b below lt.
+              let long = length-map xs f in
+              let d = block_at xs j (omega arith) in
+              let here : get_or (map f xs) i b ≡ f (get_or xs i d) = get_or-map f xs i d b (omega arith) in
+              let there : get_or (map f xs) j b ≡ f (get_or xs j d) = get_or-map f xs j d b (omega arith) in
+              rw (here, there) (chain.apart i j d below (omega arith));
+        }
+      where
+        block_at : (ys : List B) (k : ℕ) → k < length ys → B
+        block_at [] k lt = absurd (omega arith)
+        block_at (y ∷ ys) k lt = y
+
+-- the runs of a set are those of any set with the same numbers
+pub IsRunsOf-same : (xs : Runs) (S U : ℕ → Type 0) → ((n : ℕ) → S n ↔ U n) → IsRunsOf S xs → IsRunsOf U xs
+IsRunsOf-same xs S U same h = record {
+  members = λ n. (λ c. (same n).0 ((h.members n).0 c), λ s. (h.members n).1 ((same n).1 s));
+  ordered = h.ordered;
+  apart = h.apart;
+}
+
+-- runs are a chain of blocks that are their own bounds
+is_chain : (S : ℕ → Type 0) (xs : Runs) → IsRunsOf S xs → IsChain (λ b. b) (λ _. true) xs
+is_chain S xs h = record { ordered = h.ordered; apart = h.apart; new_form = λ k d lt. refl }
+
+-- a set has one list of runs
+pub IsRunsOf-unique : (S : ℕ → Type 0) (xs ys : Runs) → IsRunsOf S xs → IsRunsOf S ys → xs ≡ ys
+IsRunsOf-unique S xs ys hx hy =
+    IsChain-unique (λ b. b) (λ _. true) (λ x y _ _ e. e) xs ys (is_chain S xs hx) (is_chain S ys hy) (λ n.
+    (λ c. (hy.members n).1 ((hx.members n).0 c), λ c. (hx.members n).1 ((hy.members n).0 c)))
+
+-- the bounds of a chain's blocks are the runs of what they hold
+pub IsRunsOf-itself : {B : Type 0} (f : B → ℕ × ℕ) (is_new : B → Bool) (xs ys : List B) → IsChain f is_new xs → xs ≡ ys → IsRunsOf (Holds (map f ys)) (map f xs)
+IsRunsOf-itself {B} f is_new xs ys h same =
+    let runs = IsRunsOf-from_chain f is_new (Covers f xs) xs (IsChainOf-from f is_new xs (Covers f xs) h (λ n. (λ c. c, λ c. c))) in
+    subst (λ (zs : List B). IsRunsOf (Holds (map f zs)) (map f xs)) same (IsRunsOf-same (map f xs) _ _ (λ n. ((Holds-map f xs n).1, (Holds-map f xs n).0)) runs)
+
+module _ {B : Type 0} (f : B → ℕ × ℕ) (is_new : B → Bool) (xs some others : List B) where
+  -- the runs of what two chains have in common
+  pub IsRunsOf-intersection : IsChainOf f is_new (λ n. Covers f some n × Covers f others n) xs → IsRunsOf (λ n. Holds (map f some) n × Holds (map f others) n) (map f xs)
+  IsRunsOf-intersection h = IsRunsOf-same (map f xs) _ _ (λ n. (
+    λ (a, b). ((Holds-map f some n).1 a, (Holds-map f others n).1 b),
+    λ (a, b). ((Holds-map f some n).0 a, (Holds-map f others n).0 b),
+  )) (IsRunsOf-from_chain f is_new _ xs h)
+
+  -- the runs of what one chain has and the other has not
+  pub IsRunsOf-difference : IsChainOf f is_new (λ n. Covers f some n × (Covers f others n → ⊥)) xs → IsRunsOf (λ n. Holds (map f some) n × (Holds (map f others) n → ⊥)) (map f xs)
+  IsRunsOf-difference h = IsRunsOf-same (map f xs) _ _ (λ n. (
+    λ (a, b). ((Holds-map f some n).1 a, λ c. b ((Holds-map f others n).0 c)),
+    λ (a, b). ((Holds-map f some n).0 a, λ c. b ((Holds-map f others n).1 c)),
+  )) (IsRunsOf-from_chain f is_new _ xs h)
+
+  -- the runs of what one chain or the other has
+  pub IsRunsOf-union : IsChainOf f is_new (λ n. Covers f some n ⊎ Covers f others n) xs → IsRunsOf (λ n. Holds (map f some) n ⊎ Holds (map f others) n) (map f xs)
+  IsRunsOf-union h = IsRunsOf-same (map f xs) _ _ (λ n. (
+    ⊎_elim (λ a. inl ((Holds-map f some n).1 a)) (λ b. inr ((Holds-map f others n).1 b)),
+    ⊎_elim (λ a. inl ((Holds-map f some n).0 a)) (λ b. inr ((Holds-map f others n).0 b)),
+  )) (IsRunsOf-from_chain f is_new _ xs h)
+
+-- no bounds, no blocks
+pub no_blocks : {B : Type 0} (f : B → ℕ × ℕ) (xs : List B) → map f xs ≡ [] → xs ≡ []
+no_blocks f xs none = go xs (sym (length-map xs f) ∙ ap length none)
+  where
+    go : {B : Type 0} (ys : List B) → length ys ≡ 0 → ys ≡ []
+    go [] e = refl
+    go (y ∷ ys) e = absurd (omega arith)
+
+-- whether runs hold a number is decided
+pub Holds-decided : (runs : Runs) (n : ℕ) → Holds runs n ⊎ (Holds runs n → ⊥)
+Holds-decided = Covers-decided (λ b. b)
+
+-- lists of runs that hold the same numbers are the same
+pub same_numbers : (a b : Runs) → IsRunsOf (Holds a) a → IsRunsOf (Holds b) b → ((n : ℕ) → Holds a n ↔ Holds b n) → a ≡ b
+same_numbers a b ha hb same = IsRunsOf-unique (Holds a) a b ha (IsRunsOf-same b (Holds b) (Holds a) (λ n. ((same n).1, (same n).0)) hb)

@@ -1,0 +1,37 @@
+-- Sets of whole numbers: what a list of blocks covers, the runs of a set, and the chain of its runs (RFC 3779, 2.2.3.6
+-- and 3.2.3.4: blocks are sorted, don't overlap, and are combined where they are contiguous).
+-- `bounds` gives the least and the greatest number of a block.
+use Rattle.std.specs.Prelude.{◌≡◌, ℕ, ◌+◌, ◌<◌, ◌≤◌, ◌↔◌, Bool, List, IsTrue, All, Any, AllPairs}
+
+-- n is none below the least and none above the greatest number
+abbrev pub IsWithin : ℕ × ℕ → ℕ → Type 0
+IsWithin b n = (b.0 ≤ n) × (n ≤ b.1)
+
+-- n lies in some block of the list
+abbrev pub Covers : {B : Type 0} → (B → ℕ × ℕ) → List B → ℕ → Type 0
+Covers bounds xs n = Any (λ x. IsWithin (bounds x) n) xs
+
+-- a run of S: all numbers from b.0 to b.1 are in S, and neither the one before them nor the one after them is
+pub record IsRun (S : ℕ → Type 0) (b : ℕ × ℕ) : Type 0 where
+  pub ordered : b.0 ≤ b.1
+  pub inside : (n : ℕ) → IsWithin b n → S n
+  pub starts : (n : ℕ) → n + 1 ≡ b.0 → S n → ⊥
+  pub ends : S (b.1 + 1) → ⊥
+
+-- the chain of S: exactly its runs, ascending, each in new form; and each number of S lies in one of them
+pub record IsChainOf {B : Type 0} (bounds : B → ℕ × ℕ) (is_new : B → Bool) (S : ℕ → Type 0) (xs : List B) : Type 0 where
+  pub runs : All (λ x. IsRun S (bounds x)) xs
+  pub every_run : (b : ℕ × ℕ) → IsRun S b → Any (λ x. bounds x ≡ b) xs
+  pub ascending : AllPairs (λ x y. (bounds x).0 < (bounds y).0) xs
+  pub new_form : All (λ x. IsTrue (is_new x)) xs
+  pub covers : (n : ℕ) → Covers bounds xs n ↔ S n
+
+-- ascending blocks that neither overlap nor touch, each in new form
+pub record IsChain {B : Type 0} (bounds : B → ℕ × ℕ) (is_new : B → Bool) (xs : List B) : Type 0 where
+  pub ordered : All (λ x. (bounds x).0 ≤ (bounds x).1) xs
+  pub apart : AllPairs (λ x y. (bounds x).1 + 1 < (bounds y).0) xs
+  pub new_form : All (λ x. IsTrue (is_new x)) xs
+
+-- the numbers of two items
+abbrev pub numbers : {I : Type 0} → (I → ℕ) → I × I → ℕ × ℕ
+numbers number p = (number p.0, number p.1)

@@ -1,0 +1,9 @@
+//! Blocks of resources and chains of them: sets of whole numbers, held as the ascending list of their runs.
+//!
+//! A lawful [`block::Block`] is all that a kind of number has to bring; chains are proved once, over every such kind.
+#![tactic(auto)]
+
+pub mod block;
+mod build;
+pub mod chain;
+pub mod owned;

@@ -1,0 +1,102 @@
+//! An allocator for tests: it passes requests for memory on to another, and refuses those that it
+//! is told to.
+//!
+//! A test makes a [`Refusing`] round the allocator that it was given, and hands out `&refusing`: a
+//! `&` to an allocator is an allocator too, and is `Copy`. It runs what it tests with request 0
+//! refused, then with request 1, and so on up to a run that met no refusal:
+//!
+//! ```rust
+//! for number in 0..1000 {
+//!     let refusing = Refusing::new(rt.alloc(), Plan::RefuseOnly(number));
+//!     let result = read_list(&refusing, text);
+//!     if !refusing.has_refused() {
+//!         return check_answer(result);
+//!     }
+//!     assert_eq!(rt; result, Err(OrMemory::Memory));
+//! }
+//! ```
+#![tactic(auto)]
+
+ghost use Rattle.std.specs.Prelude.{◌≡◌, IsTrue};
+ghost use Rattle.refusing.specs.Plans.{inner_of, plan_of, IsSomeRefusedCount, RefusesSome};
+
+use std::alloc::{AllocError, Allocator, Global};
+
+mod plan;
+mod requests;
+
+pub use plan::Plan;
+use requests::Requests;
+
+/// An allocator that refuses the requests that its plan names, and passes the others on.
+///
+/// A request is a call of `allocate`, also where it is the allocator inside that has no memory for
+/// it. A collection that grows or shrinks asks for its new block, which is one request; giving a
+/// block back is none. Requests are counted from 0, up to `u64::MAX`.
+pub struct Refusing<A: Allocator = Global> {
+    inner: A,
+    requests: Requests,
+}
+
+impl<A: Allocator> Refusing<A> {
+    /// An allocator that had no request yet, with the one that it passes requests on to.
+    pub fn new(inner: A, plan: Plan) -> Refusing<A>
+        ensures inner { inner_of result ≡ inner }
+        ensures plan { plan_of result ≡ plan }
+    {
+        Refusing {
+            inner,
+            requests: Requests::new(plan),
+        }
+    }
+
+    /// Which requests are refused.
+    pub fn plan(&self) -> Plan
+        ensures { result ≡ plan_of self.now }
+    {
+        self.requests.plan()
+    }
+
+    /// How many requests there were, with those that were refused.
+    pub fn asked(&self) -> u64 {
+        self.requests.asked()
+    }
+
+    /// How many requests were refused.
+    pub fn refused(&self) -> u64
+        ensures { IsSomeRefusedCount (plan_of self.now) result }
+    {
+        self.requests.refused()
+    }
+
+    /// Whether a request was refused.
+    pub fn has_refused(&self) -> bool
+        ensures { IsTrue result → RefusesSome (plan_of self.now) }
+    {
+        self.refused() > 0
+    }
+}
+
+impl<A: Allocator> Drop for Refusing<A> {
+    fn drop(self) {
+        let Self {
+            inner: _,
+            requests: _,
+        } = self;
+    }
+}
+
+unsafe impl<A: Allocator> Allocator for Refusing<A> {
+    ghost dealloc_token = { λ heap ty ptr. A.dealloc_token heap.inner ty ptr };
+
+    fn allocate(&self, size: usize, align: usize) -> Result<*mut u8, AllocError> {
+        if self.requests.next_is_refused() {
+            return Err(AllocError);
+        }
+        self.inner.allocate(size, align)
+    }
+
+    unsafe fn deallocate(&self, ptr: *mut u8, size: usize, align: usize) {
+        self.inner.deallocate(ptr, size, align);
+    }
+}

@@ -12,7 +12,7 @@
 //!     if !refusing.has_refused() {
 //!         return check_answer(result);
 //!     }
-//!     assert_eq!(rt; result, Err(OrMemory::Memory));
+//!     assert_eq!(rt; result, Err(AllocError));
 //! }
 //! ```
 #![tactic(auto)]
@@ -30,9 +30,11 @@ use requests::Requests;
 
 /// An allocator that refuses the requests that its plan names, and passes the others on.
 ///
-/// A request is a call of `allocate`, also where it is the allocator inside that has no memory for
-/// it. A collection that grows or shrinks asks for its new block, which is one request; giving a
-/// block back is none. Requests are counted from 0, up to `u64::MAX`.
+/// A request is a call for a new block, counted from 0 by its order in time. It is counted whether
+/// it is refused, granted, or fails in the allocator inside. A collection that grows or shrinks asks
+/// for its new block, which is one request; giving a block back is none. A refused request answers
+/// `AllocError` and changes nothing but the count, which stays at `u64::MAX` once it is there.
+#[derive(Drop)]
 pub struct Refusing<A: Allocator = Global> {
     inner: A,
     requests: Requests,
@@ -57,32 +59,24 @@ impl<A: Allocator> Refusing<A> {
         self.requests.plan()
     }
 
-    /// How many requests there were, with those that were refused.
+    /// How many requests there were, the refused ones too.
+    // No clause can say what the count is, since no clause sees what a cell holds.
     pub fn asked(&self) -> u64 {
         self.requests.asked()
     }
 
-    /// How many requests were refused.
+    /// How many of the requests so far were refused.
     pub fn refused(&self) -> u64
         ensures { IsSomeRefusedCount (plan_of self.now) result }
     {
         self.requests.refused()
     }
 
-    /// Whether a request was refused.
+    /// Whether some request so far was refused. A run after which this is false met no refusal.
     pub fn has_refused(&self) -> bool
         ensures { IsTrue result → RefusesSome (plan_of self.now) }
     {
         self.refused() > 0
-    }
-}
-
-impl<A: Allocator> Drop for Refusing<A> {
-    fn drop(self) {
-        let Self {
-            inner: _,
-            requests: _,
-        } = self;
     }
 }
 

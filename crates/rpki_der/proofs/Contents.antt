@@ -1,0 +1,165 @@
+-- Contents: what the reading answers is what the conditions of X.690 say, and that is how they are spelled.
+use Rattle.std.proofs.Common.{◌≡◌, ℕ, zero, suc, ◌/◌, ◌%◌, ◌^◌, ◌<◌, ◌≤◌, ◌≢◌, Bool, true, false, cond, eqb, ltb, leb, ◌||◌, ◌&&◌, List, [], ◌∷◌, length, get_or, Result, Ok, Err, refl, sym, ap, subst, ◌∙◌, arith, inl, inr}
+use Rattle.std.specs.Int.{w64, to_be_bytes, bytes_high_first}
+use Rattle.std.proofs.lemmas.Bool.{cases_lt, ltb-false, ltb-true, le-ltb, lt-ltb, eqb-false, ne_eqb, leb-false, lt-leb}
+use Rattle.rpki_der.specs.declared.error.DerError.{DerError}
+use Rattle.rpki_der.specs.declared.error.DerError.TheVariants.{BadInteger, BadBitString}
+use Rattle.rpki_der.specs.Der.{IsBytes, big_endian, octets, integer, with_sign, Bits, IsBits, IsUnsigned, IsBitContent, IsNothing}
+use Rattle.rpki_der.specs.Reading.{unsigned, bits, nothing}
+use Rattle.rpki_der.proofs.Steps.{IsCheck, IsBytes-rest, passed, passed_true, ok_is, neither, both_false, one_false, and_false}
+use Rattle.rpki_der.proofs.Numbers.{octets-big_endian, big_endian-octets, octets-zero, octets_head, length-without_zeros}
+
+-- ---- an integer: the reading and the conditions
+
+unsigned_says : (content : List ℕ) (n : ℕ) → unsigned content ≡ Ok n → IsUnsigned content n
+unfolding unsigned
+unsigned_says content n e =
+    let found : Result ℕ DerError = cond (ltb (big_endian content) (2 ^ 32)) (Ok (big_endian content)) (Err BadInteger) in
+    let short = (eqb (length content) 0) || ltb 5 (length content) || leb 128 (get_or content 0 0) in
+    let long = ltb 1 (length content) && (eqb (get_or content 0 0) 0) && ltb (get_or content 1 0) 128 in
+    let g1 = passed short BadInteger (cond long (Err BadInteger) found) n e in
+    let g2 = passed long BadInteger found n g1.1 in
+    let g3 = passed_true (ltb (big_endian content) (2 ^ 32)) BadInteger (Ok (big_endian content)) n g2.1 in
+    let n-is : big_endian content ≡ n = ok_is (big_endian content) n g3.1 in
+    let a = neither ((eqb (length content) 0) || ltb 5 (length content)) (leb 128 (get_or content 0 0)) g1.0 in
+    let b = neither (eqb (length content) 0) (ltb 5 (length content)) a.0 in
+    let some : length content ≢ 0 = eqb-false (length content) 0 b.0 in
+    let small : big_endian content < 2 ^ 32 = ltb-true (big_endian content) (2 ^ 32) g3.0 in
+    record {
+      some = omega arith;
+      few = ltb-false 5 (length content) b.1;
+      sign = leb-false 128 (get_or content 0 0) a.1;
+      minimal = λ p q. ltb-false (get_or content 1 0) 128 (one_false (ltb 1 (length content) && (eqb (get_or content 0 0) 0)) (ltb (get_or content 1 0) 128) g2.0 (rw (lt-ltb 1 (length content) p, q) refl));
+      spelled = n-is;
+      limit = rw (← n-is) small;
+    }
+
+one_alone : (b : Bool) → (ltb 1 1 && b && ltb 0 128) ≡ false
+one_alone true = refl
+one_alone false = refl
+
+first_set : (a b : Bool) → a ≡ false → (a && b) ≡ false
+first_set true b e = absurd cc
+first_set false b e = refl
+
+-- of two or more octets, one that begins with zero goes on with a bit that is 1
+not_long : (content : List ℕ) (n : ℕ) → IsUnsigned content n → (ltb 1 (length content) && (eqb (get_or content 0 0) 0) && ltb (get_or content 1 0) 128) ≡ false
+not_long [] n is = refl
+not_long (b ∷ []) n is = one_alone (eqb b 0)
+not_long (zero ∷ c ∷ cs) n is = let high : 128 ≤ c = is.minimal (omega arith) refl in and_false _ (ltb c 128) (le-ltb c 128 high)
+not_long (suc b ∷ c ∷ cs) n is = first_set _ (ltb c 128) (and_false _ (eqb (suc b) 0) (ne_eqb (suc b) 0 (λ h. omega arith)))
+
+says_unsigned : (content : List ℕ) (n : ℕ) → IsUnsigned content n → unsigned content ≡ Ok n
+unfolding unsigned
+says_unsigned content n is =
+    let t0 : eqb (length content) 0 ≡ false = ne_eqb (length content) 0 (λ h. omega (arith, is.some)) in
+    let t1 : ltb 5 (length content) ≡ false = le-ltb 5 (length content) is.few in
+    let t2 : leb 128 (get_or content 0 0) ≡ false = lt-leb 128 (get_or content 0 0) is.sign in
+    let short : ((eqb (length content) 0) || ltb 5 (length content) || leb 128 (get_or content 0 0)) ≡ false = both_false _ _ (both_false _ _ t0 t1) t2 in
+    let below : ltb n (2 ^ 32) ≡ true = lt-ltb n (2 ^ 32) is.limit in
+    rw (short, not_long content n is, is.spelled, below) refl
+
+pub unsigned_check : IsCheck (λ _. Unit {0}) IsUnsigned unsigned
+unsigned_check = record { takes = λ content n fits e. unsigned_says content n e; again = says_unsigned }
+
+-- ---- an integer: the conditions and the spelling
+
+spelled_of : (content : List ℕ) → IsBytes content → IsUnsigned content (big_endian content) → content ≡ integer (big_endian content)
+unfolding integer
+spelled_of [] fits is = absurd (omega (arith, is.some))
+spelled_of (zero ∷ []) fits is = rw octets-zero refl
+spelled_of (zero ∷ b ∷ bs) fits is =
+    let high : 128 ≤ b = is.minimal (omega arith) refl in
+    let same : octets (big_endian (b ∷ bs)) ≡ b ∷ bs = octets-big_endian (b ∷ bs) (IsBytes-rest 0 (b ∷ bs) fits) (omega arith) (omega (arith, is.few)) (λ h. omega arith) in
+    let not : ltb b 128 ≡ false = le-ltb b 128 high in
+    rw (same, not) refl
+spelled_of (suc b ∷ bs) fits is =
+    let same : octets (big_endian (suc b ∷ bs)) ≡ suc b ∷ bs = octets-big_endian (suc b ∷ bs) fits (omega arith) (omega (arith, is.few)) (λ h. omega arith) in
+    let below : ltb (suc b) 128 ≡ true = lt-ltb (suc b) 128 is.sign in
+    rw (same, below) refl
+
+pub unsigned_spelled : (content : List ℕ) (n : ℕ) → IsBytes content → IsUnsigned content n → content ≡ integer n
+unsigned_spelled content n fits is = spelled_of content fits (subst (IsUnsigned content) (sym is.spelled) is) ∙ ap integer is.spelled
+
+high_zero : (n : ℕ) → n < 2 ^ 32 → to_be_bytes w64 n ≡ 0 ∷ 0 ∷ 0 ∷ 0 ∷ bytes_high_first 4 n
+high_zero n lt =
+    let a7 : n / 256 ^ 7 % 256 ≡ 0 = omega arith in
+    let a6 : n / 256 ^ 6 % 256 ≡ 0 = omega arith in
+    let a5 : n / 256 ^ 5 % 256 ≡ 0 = omega arith in
+    let a4 : n / 256 ^ 4 % 256 ≡ 0 = omega arith in
+    rw (a7, a6, a5, a4) refl
+
+length-octets_32 : (n : ℕ) → n < 2 ^ 32 → length (octets n) ≤ 4
+unfolding octets
+length-octets_32 n lt = rw (high_zero n lt) (length-without_zeros (bytes_high_first 4 n))
+
+says_signed : (n d : ℕ) (ds : List ℕ) → n < 2 ^ 32 → big_endian (d ∷ ds) ≡ n → length (d ∷ ds) ≤ 4 → d ≢ 0 → (b : Bool) → ltb d 128 ≡ b → IsUnsigned (cond b (d ∷ ds) (0 ∷ d ∷ ds)) n
+says_signed n d ds lt back few nonzero true low = record { some = omega arith; few = omega arith; sign = ltb-true d 128 low; minimal = λ p q. absurd (nonzero q); spelled = back; limit = lt }
+says_signed n d ds lt back few nonzero false high = record { some = omega arith; few = omega arith; sign = omega arith; minimal = λ p q. ltb-false d 128 high; spelled = back; limit = lt }
+
+says_spelled : (n : ℕ) (ds : List ℕ) → n < 2 ^ 32 → octets n ≡ ds → IsUnsigned (with_sign ds) n
+says_spelled n [] lt is = record { some = omega arith; few = omega arith; sign = omega arith; minimal = λ p q. absurd (omega arith); spelled = sym (ap big_endian is) ∙ big_endian-octets n (omega arith); limit = lt }
+says_spelled n (d ∷ ds) lt is =
+    let few : length (d ∷ ds) ≤ 4 = omega (arith, length-octets_32 n lt, ap length is) in
+    let back : big_endian (d ∷ ds) ≡ n = sym (ap big_endian is) ∙ big_endian-octets n (omega arith) in
+    elim (cases_lt 0 n) [
+      | inl pos ↦ says_signed n d ds lt back few (λ h. octets_head n pos (omega arith) (ap (λ (x : List ℕ). get_or x 0 0) is ∙ h)) (ltb d 128) refl
+      | inr none ↦
+          let z : n ≡ 0 = omega arith in
+          let e : d ∷ ds ≡ [] = sym is ∙ ap octets z ∙ octets-zero in
+          absurd cc
+    ]
+
+pub spelled_unsigned : (n : ℕ) → n < 2 ^ 32 → IsUnsigned (integer n) n
+unfolding integer
+spelled_unsigned n lt = says_spelled n (octets n) lt refl
+
+pub length-integer : (n : ℕ) → n < 2 ^ 32 → length (integer n) ≤ 5
+length-integer n lt = (spelled_unsigned n lt).few
+
+-- ---- bit strings and NULL
+
+none_used : (u n : ℕ) → (ltb 0 u && (eqb n 0)) ≡ false → n ≡ 0 → u ≡ 0
+none_used u n e h =
+    elim (cases_lt 0 u) [
+      | inl pos ↦ let t : ltb 0 u ≡ true = lt-ltb 0 u pos in let f : eqb n 0 ≡ false = one_false (ltb 0 u) (eqb n 0) e t in absurd (eqb-false n 0 f h)
+      | inr none ↦ omega arith
+    ]
+
+bits_say : (content : List ℕ) (b : Bits) → bits content ≡ Ok b → IsBitContent content b
+unfolding bits
+bits_say [] b e = absurd cc
+bits_say (u ∷ os) b e =
+    let g = passed (ltb 7 u || (ltb 0 u && (eqb (length os) 0))) BadBitString (Ok (record { unused = u; octets = os })) b e in
+    let a = neither (ltb 7 u) (ltb 0 u && (eqb (length os) 0)) g.0 in
+    let made = ok_is (record { unused = u; octets = os }) b g.1 in
+    subst (IsBitContent (u ∷ os)) made (record { counted = record { below = omega (arith, ltb-false 7 u a.0); empty = λ h. none_used u (length os) a.1 h }; spelled = refl })
+
+used : (b : Bits) → IsBits b → (ltb 0 b.unused && (eqb (length b.octets) 0)) ≡ false
+used b is =
+    elim (cases_lt 0 b.unused) [
+      | inl pos ↦ rw (ne_eqb (length b.octets) 0 (λ h. let z : b.unused ≡ 0 = is.empty h in omega arith)) (and_false (ltb 0 b.unused) false refl)
+      | inr none ↦ rw (le-ltb 0 b.unused none) refl
+    ]
+
+say_bits : (content : List ℕ) (b : Bits) → IsBitContent content b → bits content ≡ Ok b
+unfolding bits
+say_bits content b is =
+    let t0 : ltb 7 b.unused ≡ false = le-ltb 7 b.unused (omega (arith, is.counted.below)) in
+    let t1 : (ltb 0 b.unused && (eqb (length b.octets) 0)) ≡ false = used b is.counted in
+    rw (is.spelled, t0, t1) refl
+
+pub bits_check : IsCheck (λ _. Unit {0}) IsBitContent bits
+bits_check = record { takes = λ content b fits e. bits_say content b e; again = say_bits }
+
+nothing_says : (content : List ℕ) (u : Unit {0}) → nothing content ≡ Ok u → content ≡ []
+unfolding nothing
+nothing_says [] u e = refl
+nothing_says (b ∷ bs) u e = absurd cc
+
+says_nothing : (content : List ℕ) (u : Unit {0}) → content ≡ [] → nothing content ≡ Ok u
+unfolding nothing
+says_nothing content u is = rw is refl
+
+pub nothing_check : IsCheck (λ _. Unit {0}) IsNothing nothing
+nothing_check = record { takes = λ content u fits e. nothing_says content u e; again = says_nothing }

@@ -1,0 +1,116 @@
+-- Numbers and the octets that spell them.
+use Rattle.std.proofs.Common.{◌≡◌, ℕ, zero, suc, ◌-◌, ◌^◌, ◌<◌, ◌≤◌, ◌≢◌, List, [], ◌∷◌, ◌++◌, length, get_or, take, drop, replicate, refl, sym, ap, ◌∙◌, arith}
+use Rattle.std.specs.Int.{w64, from_be_bytes, to_be_bytes}
+use Rattle.std.proofs.lemmas.List.{length-append, length-replicate, take-replicate, append-nil, drop_all, length-drop}
+use Rattle.std.proofs.lemmas.Nat.{be_bytes_8, from_be_bytes-to_be_bytes_8}
+use borrow.Rule.Slice.PartMut.{put_mid}
+use Rattle.rpki_der.specs.Der.{IsBytes, big_endian, without_zeros, octets}
+use Rattle.rpki_der.proofs.Steps.{IsBytes-zeros}
+
+-- ---- digits behind zeros, eight in all
+
+abbrev padded : List ℕ → List ℕ
+padded digits = replicate (8 - length digits) 0 ++ digits
+
+-- eight zeros, with digits written over the last of them
+padded_is : (digits written : List ℕ) → length digits ≤ 8 → written ≡ digits
+    → put_mid (8 - length digits) (8 - (8 - length digits)) (0 ∷ 0 ∷ 0 ∷ 0 ∷ 0 ∷ 0 ∷ 0 ∷ 0 ∷ []) written ≡ padded digits
+padded_is digits written le e =
+    let zeros : List ℕ = replicate 8 0 in
+    let front : take (8 - length digits) zeros ≡ replicate (8 - length digits) 0 = take-replicate (8 - length digits) 8 0 (omega arith) in
+    let none : drop (8 - (8 - length digits)) (drop (8 - length digits) zeros) ≡ [] = drop_all (8 - (8 - length digits)) (drop (8 - length digits) zeros) (omega (arith, length-drop (8 - length digits) zeros)) in
+    rw (front, none, e) (ap (λ (x : List ℕ). replicate (8 - length digits) 0 ++ x) (append-nil digits))
+
+-- zeros in front change no number
+from_be_bytes-padded : (ds : List ℕ) → length ds ≤ 8 → from_be_bytes w64 (padded ds) ≡ big_endian ds
+from_be_bytes-padded [] le = refl
+from_be_bytes-padded (a ∷ []) le = omega arith
+from_be_bytes-padded (a ∷ b ∷ []) le = omega arith
+from_be_bytes-padded (a ∷ b ∷ c ∷ []) le = omega arith
+from_be_bytes-padded (a ∷ b ∷ c ∷ d ∷ []) le = omega arith
+from_be_bytes-padded (a ∷ b ∷ c ∷ d ∷ e ∷ []) le = omega arith
+from_be_bytes-padded (a ∷ b ∷ c ∷ d ∷ e ∷ f ∷ []) le = omega arith
+from_be_bytes-padded (a ∷ b ∷ c ∷ d ∷ e ∷ f ∷ g ∷ []) le = omega arith
+from_be_bytes-padded (a ∷ b ∷ c ∷ d ∷ e ∷ f ∷ g ∷ h ∷ []) le = omega arith
+from_be_bytes-padded (a ∷ b ∷ c ∷ d ∷ e ∷ f ∷ g ∷ h ∷ i ∷ ds) le = absurd (omega arith)
+
+-- what eight octets spell of which the last are these digits
+pub number_is : (digits written : List ℕ) → length digits ≤ 8 → written ≡ digits
+    → from_be_bytes w64 (put_mid (8 - length digits) (8 - (8 - length digits)) (0 ∷ 0 ∷ 0 ∷ 0 ∷ 0 ∷ 0 ∷ 0 ∷ 0 ∷ []) written) ≡ big_endian digits
+number_is digits written le e = ap (from_be_bytes w64) (padded_is digits written le e) ∙ from_be_bytes-padded digits le
+
+-- ---- octets without zeros in front
+
+without_zeros-zeros : (n : ℕ) (ds : List ℕ) → without_zeros (replicate n 0 ++ ds) ≡ without_zeros ds
+without_zeros-zeros zero ds = refl
+without_zeros-zeros (suc n) ds = without_zeros-zeros n ds
+
+without_zeros-head : (d : ℕ) (ds : List ℕ) → d ≢ 0 → without_zeros (d ∷ ds) ≡ d ∷ ds
+without_zeros-head zero ds h = absurd (h refl)
+without_zeros-head (suc d) ds h = refl
+
+pub length-without_zeros : (ds : List ℕ) → length (without_zeros ds) ≤ length ds
+length-without_zeros [] = omega arith
+length-without_zeros (zero ∷ ds) = omega (arith, length-without_zeros ds)
+length-without_zeros (suc d ∷ ds) = omega arith
+
+big_endian-without_zeros : (ds : List ℕ) → big_endian (without_zeros ds) ≡ big_endian ds
+big_endian-without_zeros [] = refl
+big_endian-without_zeros (zero ∷ ds) = big_endian-without_zeros ds
+big_endian-without_zeros (suc d ∷ ds) = refl
+
+head_or_nil : (ds : List ℕ) → (without_zeros ds ≡ [] → ⊥) → get_or (without_zeros ds) 0 0 ≢ 0
+head_or_nil [] h e = h refl
+head_or_nil (zero ∷ ds) h e = head_or_nil ds h e
+head_or_nil (suc d ∷ ds) h e = absurd (omega arith)
+
+-- ---- the octets of a number
+
+eight_octets : (n : ℕ) → n < 2 ^ 64 → big_endian (to_be_bytes w64 n) ≡ n
+eight_octets n lt = sym (from_be_bytes-padded (to_be_bytes w64 n) (omega arith)) ∙ from_be_bytes-to_be_bytes_8 n lt
+
+-- the fewest octets of a number spell it
+pub big_endian-octets : (n : ℕ) → n < 2 ^ 64 → big_endian (octets n) ≡ n
+unfolding octets
+big_endian-octets n lt = big_endian-without_zeros (to_be_bytes w64 n) ∙ eight_octets n lt
+
+octets-first : (d : ℕ) (ds : List ℕ) → IsBytes (d ∷ ds) → suc (length ds) ≤ 8 → d ≢ 0 → octets (big_endian (d ∷ ds)) ≡ d ∷ ds
+unfolding octets
+octets-first d ds fits le nonzero =
+    let m = 8 - suc (length ds) in
+    let whole : List ℕ = replicate m 0 ++ d ∷ ds in
+    let len : length whole ≡ 8 = omega (arith, length-append (replicate m 0) (d ∷ ds), length-replicate {A = ℕ} m 0) in
+    let same : from_be_bytes w64 whole ≡ big_endian (d ∷ ds) = from_be_bytes-padded (d ∷ ds) le in
+    ap without_zeros (be_bytes_8 whole (big_endian (d ∷ ds)) len (IsBytes-zeros m (d ∷ ds) fits) (sym same)) ∙ without_zeros-zeros m (d ∷ ds) ∙ without_zeros-head d ds nonzero
+
+-- octets that don't begin with zero are the fewest of their number
+pub octets-big_endian : (ds : List ℕ) → IsBytes ds → 0 < length ds → length ds ≤ 8 → get_or ds 0 0 ≢ 0 → octets (big_endian ds) ≡ ds
+octets-big_endian [] fits some le nonzero = absurd (omega arith)
+octets-big_endian (d ∷ ds) fits some le nonzero = octets-first d ds fits le nonzero
+
+eight : (bs : List ℕ) → IsBytes bs → from_be_bytes w64 bs < 2 ^ 64
+eight bs h = omega (arith, h 0, h 1, h 2, h 3, h 4, h 5, h 6, h 7)
+
+pub big_endian_small : (ds : List ℕ) → IsBytes ds → length ds ≤ 8 → big_endian ds < 2 ^ 64
+big_endian_small ds fits le = rw (← from_be_bytes-padded ds le) (eight (padded ds) (IsBytes-zeros (8 - length ds) ds fits))
+
+pub length-octets : (n : ℕ) → length (octets n) ≤ 8
+unfolding octets
+length-octets n = length-without_zeros (to_be_bytes w64 n)
+
+pub octets-zero : octets 0 ≡ []
+unfolding octets
+octets-zero = refl
+
+-- a number above 0 has an octet, and its first isn't zero
+pub octets_are : (n : ℕ) → 0 < n → n < 2 ^ 64 → (octets n ≡ []) → ⊥
+octets_are n pos lt e =
+    let z : 0 ≡ n = ap big_endian (sym e) ∙ big_endian-octets n lt in
+    omega arith
+
+head_of : (n : ℕ) → (octets n ≡ [] → ⊥) → get_or (octets n) 0 0 ≢ 0
+unfolding octets
+head_of n h = head_or_nil (to_be_bytes w64 n) h
+
+pub octets_head : (n : ℕ) → 0 < n → n < 2 ^ 64 → get_or (octets n) 0 0 ≢ 0
+octets_head n pos lt = head_of n (octets_are n pos lt)

@@ -1,0 +1,140 @@
+-- The readings find the values of their grammars, whatever follows them, and no others.
+use Rattle.std.proofs.Common.{◌≡◌, ℕ, ◌%◌, ◌^◌, ◌<◌, ◌≤◌, ◌≢◌, false, cond, eqb, ltb, List, [], ◌∷◌, ◌++◌, length, take, drop, Result, Ok, Err, refl, sym, ap, subst, ◌∙◌, append_assoc, arith}
+use Rattle.std.proofs.lemmas.Bool.{ltb-false, le-ltb, eqb-true, eqb-false, ne_eqb, eq-eqb}
+use Rattle.std.proofs.lemmas.List.{take_at, drop_at, take-append-drop, length-append, length-take, append_cancel_right}
+use Rattle.rpki_der.specs.declared.error.DerError.{DerError}
+use Rattle.rpki_der.specs.declared.error.DerError.TheVariants.{Truncated, BadTag}
+use Rattle.rpki_der.specs.Der.{Tlv, IsBytes, IsTag, length_octets, header, value, IsValue, IsTlv, Front, Refines, OneFront, IsUnsigned, IsBitContent, IsNothing, IsU32, IsBitString, IsNull}
+use Rattle.rpki_der.specs.Reading.{◌>>=◌, length_at, value_at, tagged_at, unsigned, bits, nothing, u32_at, bit_string_at, null_at, IsReading, refined}
+use Rattle.rpki_der.proofs.Steps.{IsCheck, IsBytes-rest, fits_front, fits_back, bind_ok, passed, passed_true, ok_is}
+use Rattle.rpki_der.proofs.Contents.{unsigned_check, unsigned_spelled, spelled_unsigned, bits_check, nothing_check}
+use Rattle.rpki_der.proofs.Lengths.{length_takes, length_again}
+
+-- ---- values of any tag
+
+value_takes : (bytes : List ℕ) (v : Tlv) (rest : List ℕ) → IsBytes bytes → value_at bytes ≡ Ok (v, rest) → Front IsTlv bytes v rest
+unfolding value_at header
+value_takes [] v rest fits e = absurd cc
+value_takes (tag ∷ bytes) v rest fits e =
+    let finds : ℕ × List ℕ → Result (Tlv × List ℕ) DerError = λ len. cond (ltb (length len.1) len.0) (Err Truncated) (Ok (record { tag = tag; content = take len.0 len.1 }, drop len.0 len.1)) in
+    let g1 = passed (eqb (tag % 32) 31) BadTag (length_at bytes >>= finds) (v, rest) e in
+    let len = bind_ok (length_at bytes) finds (v, rest) g1.1 in
+    let n = len.0.0 in
+    let after = len.0.1 in
+    let content = take n after in
+    let g2 = passed (ltb (length after) n) Truncated (Ok (record { tag = tag; content = content }, drop n after)) (v, rest) len.2 in
+    let made = ok_is (record { tag = tag; content = content }, drop n after) (v, rest) g2.1 in
+    let long = length_takes bytes n after (IsBytes-rest tag bytes fits) len.1 in
+    let enough : n ≤ length after = ltb-false (length after) n g2.0 in
+    let exact : length content ≡ n = omega (arith, length-take n after) in
+    let whole : tag ∷ bytes ≡ value tag content ++ drop n after =
+    rw (exact) (ap (λ (x : List ℕ). tag ∷ x) (long.0 ∙ ap (λ (x : List ℕ). length_octets n ++ x) (sym (take-append-drop n after)) ∙ sym (append_assoc (length_octets n) content (drop n after)))) in
+    let apart : tag % 32 ≢ 31 = eqb-false (tag % 32) 31 g1.0 in
+    let low : tag % 32 < 31 = omega arith in
+    let short : length content < 2 ^ 64 = omega (arith, long.1) in
+    subst (λ (p : Tlv × List ℕ). Front IsTlv (tag ∷ bytes) p.0 p.1) made (value tag content, record { has_tag = low; short = short; spelled = refl }, whole)
+
+value_again_spelled : (tag : ℕ) (content rest : List ℕ) → IsTag tag → length content < 2 ^ 64 → value_at (value tag content ++ rest) ≡ Ok (record { tag = tag; content = content }, rest)
+unfolding value_at header
+value_again_spelled tag content rest low lt =
+    let is_low : eqb (tag % 32) 31 ≡ false = ne_eqb (tag % 32) 31 (λ h. omega arith) in
+    let regrouped : length_octets (length content) ++ content ++ rest ≡ length_octets (length content) ++ (content ++ rest) = append_assoc (length_octets (length content)) content rest in
+    let front : length_at (length_octets (length content) ++ content ++ rest) ≡ Ok (length content, content ++ rest) = ap length_at regrouped ∙ length_again (length content) (content ++ rest) lt in
+    let enough : ltb (length (content ++ rest)) (length content) ≡ false = le-ltb _ _ (omega (arith, length-append content rest)) in
+    rw (is_low, front, enough, take_at content rest (length content) refl, drop_at content rest (length content) refl) refl
+
+value_again : (front : List ℕ) (v : Tlv) (rest : List ℕ) → IsTlv front v → value_at (front ++ rest) ≡ Ok (v, rest)
+value_again front v rest is = ap (λ (x : List ℕ). value_at (x ++ rest)) is.spelled ∙ value_again_spelled v.tag v.content rest is.has_tag is.short
+
+pub value_reading : IsReading IsTlv value_at
+value_reading = record { takes = value_takes; again = value_again }
+
+-- octets begin with at most one value of a grammar that has a reading
+pub one_front : {X : Type 0} (G : List ℕ → X → Type 0) (reading : List ℕ → Result (X × List ℕ) DerError) → IsReading G reading → OneFront G
+one_front G reading is a b x y r s p q e =
+    let both = ok_is (x, r) (y, s) (sym (is.again a x r p) ∙ ap reading e ∙ is.again b y s q) in
+    let same : r ≡ s = ap (λ p. p.1) both in
+    (append_cancel_right a b s (ap (λ t. a ++ t) (sym same) ∙ e), ap (λ p. p.0) both, same)
+
+-- ---- octets of the parts
+
+pub fits_content : (bytes : List ℕ) (tag : ℕ) (content : List ℕ) → IsValue bytes tag content → IsBytes bytes → IsBytes content
+fits_content bytes tag content is h = fits_back (header tag (length content)) content (subst IsBytes is.spelled h)
+
+pub fits_value : {X : Type 0} (G : List ℕ → X → Type 0) (bytes : List ℕ) (x : X) (rest : List ℕ) (found : Front G bytes x rest) → IsBytes bytes → IsBytes found.0
+fits_value G bytes x rest found h = fits_front found.0 rest (subst IsBytes found.2 h)
+
+pub fits_rest : {X : Type 0} (G : List ℕ → X → Type 0) (bytes : List ℕ) (x : X) (rest : List ℕ) (found : Front G bytes x rest) → IsBytes bytes → IsBytes rest
+fits_rest G bytes x rest found h = fits_back found.0 rest (subst IsBytes found.2 h)
+
+-- ---- values of one tag
+
+abbrev pub IsTagged : ℕ → List ℕ → List ℕ → Type 0
+IsTagged tag bytes content = IsValue bytes tag content
+
+tagged_takes : (tag : ℕ) (bytes content rest : List ℕ) → IsBytes bytes → tagged_at tag bytes ≡ Ok (content, rest) → Front (IsTagged tag) bytes content rest
+unfolding tagged_at
+tagged_takes tag bytes content rest fits e =
+    let a = bind_ok (value_at bytes) (λ v. cond (eqb v.0.tag tag) (Ok (v.0.content, v.1)) (Err BadTag)) (content, rest) e in
+    let g = passed_true (eqb a.0.0.tag tag) BadTag (Ok (a.0.0.content, a.0.1)) (content, rest) a.2 in
+    let made = ok_is (a.0.0.content, a.0.1) (content, rest) g.1 in
+    let found = value_takes bytes a.0.0 a.0.1 fits a.1 in
+    let is : IsTagged tag found.0 a.0.0.content = subst (λ (t : ℕ). IsTagged t found.0 a.0.0.content) (eqb-true a.0.0.tag tag g.0) found.1 in
+    subst (λ (p : List ℕ × List ℕ). Front (IsTagged tag) bytes p.0 p.1) made (found.0, is, found.2)
+
+tagged_again : (tag : ℕ) (front content rest : List ℕ) → IsTagged tag front content → tagged_at tag (front ++ rest) ≡ Ok (content, rest)
+unfolding tagged_at
+tagged_again tag front content rest is = rw (value_again front (record { tag = tag; content = content }) rest is, eq-eqb tag tag refl) refl
+
+pub tagged_reading : (tag : ℕ) → IsReading (IsTagged tag) (tagged_at tag)
+tagged_reading tag = record { takes = tagged_takes tag; again = tagged_again tag }
+
+-- ---- values looked at once more
+
+refined_takes : {X Y : Type 0} (G : List ℕ → X → Type 0) (C : X → Y → Type 0) (Fits : X → Type 0) (reading : List ℕ → Result (X × List ℕ) DerError) (check : X → Result Y DerError)
+    → IsReading G reading → ((front : List ℕ) (x : X) → G front x → IsBytes front → Fits x) → IsCheck Fits C check
+    → (bytes : List ℕ) (y : Y) (rest : List ℕ) → IsBytes bytes → refined reading check bytes ≡ Ok (y, rest) → Front (Refines G C) bytes y rest
+unfolding refined
+refined_takes G C Fits reading check is inside says bytes y rest fits e =
+    let a = bind_ok (reading bytes) (λ x. check x.0 >>= λ y. Ok (y, x.1)) (y, rest) e in
+    let b = bind_ok (check a.0.0) (λ y. Ok (y, a.0.1)) (y, rest) a.2 in
+    let made = ok_is (b.0, a.0.1) (y, rest) b.2 in
+    let found = is.takes bytes a.0.0 a.0.1 fits a.1 in
+    let c = says.takes a.0.0 b.0 (inside found.0 a.0.0 found.1 (fits_value G bytes a.0.0 a.0.1 found fits)) b.1 in
+    subst (λ p. Front (Refines G C) bytes p.0 p.1) made (found.0, (a.0.0, found.1, c), found.2)
+
+refined_again : {X Y : Type 0} (G : List ℕ → X → Type 0) (C : X → Y → Type 0) (Fits : X → Type 0) (reading : List ℕ → Result (X × List ℕ) DerError) (check : X → Result Y DerError)
+    → IsReading G reading → IsCheck Fits C check → (front : List ℕ) (y : Y) (rest : List ℕ) → Refines G C front y → refined reading check (front ++ rest) ≡ Ok (y, rest)
+unfolding refined
+refined_again G C Fits reading check is says front y rest r = rw (is.again front r.0 rest r.1, says.again r.0 y r.2) refl
+
+pub refined_reading : {X Y : Type 0} (G : List ℕ → X → Type 0) (C : X → Y → Type 0) (Fits : X → Type 0) (reading : List ℕ → Result (X × List ℕ) DerError) (check : X → Result Y DerError)
+    → IsReading G reading → ((front : List ℕ) (x : X) → G front x → IsBytes front → Fits x) → IsCheck Fits C check → IsReading (Refines G C) (refined reading check)
+refined_reading G C Fits reading check is inside says = record { takes = refined_takes G C Fits reading check is inside says; again = refined_again G C Fits reading check is says }
+
+-- two grammars of the same values have the same readings
+pub same_reading : {X : Type 0} (G H : List ℕ → X → Type 0) (reading : List ℕ → Result (X × List ℕ) DerError)
+    → ((bytes : List ℕ) (x : X) → IsBytes bytes → G bytes x → H bytes x) → ((bytes : List ℕ) (x : X) → H bytes x → G bytes x) → IsReading G reading → IsReading H reading
+same_reading G H reading to from is = record {
+  takes = λ bytes x rest fits e. let found = is.takes bytes x rest fits e in (found.0, to found.0 x (fits_value G bytes x rest found fits) found.1, found.2);
+  again = λ front x rest h. is.again front x rest (from front x h);
+}
+
+-- the content of a tag, by a rule that asks nothing of the octets
+content_reading : {Y : Type 0} (tag : ℕ) (C : List ℕ → Y → Type 0) (check : List ℕ → Result Y DerError) → IsCheck (λ _. Unit {0}) C check → IsReading (Refines (IsTagged tag) C) (refined (tagged_at tag) check)
+content_reading tag C check says = refined_reading (IsTagged tag) C (λ _. Unit {0}) (tagged_at tag) check (tagged_reading tag) (λ front x is fits. tt) says
+
+u32_to : (bytes : List ℕ) (n : ℕ) → IsBytes bytes → Refines (IsTagged 2) IsUnsigned bytes n → IsU32 bytes n
+u32_to bytes n fits is = (is.2.limit, subst (IsTagged 2 bytes) (unsigned_spelled is.0 n (fits_content bytes 2 is.0 is.1 fits) is.2) is.1)
+
+pub u32_reading : IsReading IsU32 u32_at
+u32_reading = same_reading (Refines (IsTagged 2) IsUnsigned) IsU32 u32_at u32_to (λ bytes n is. (_, is.1, spelled_unsigned n is.0)) (content_reading 2 IsUnsigned unsigned unsigned_check)
+
+pub bit_string_reading : IsReading IsBitString bit_string_at
+bit_string_reading =
+    same_reading (Refines (IsTagged 3) IsBitContent) IsBitString bit_string_at
+    (λ bytes b fits is. (is.2.counted, subst (IsTagged 3 bytes) is.2.spelled is.1)) (λ bytes b is. (_, is.1, record { counted = is.0; spelled = refl })) (content_reading 3 IsBitContent bits bits_check)
+
+pub null_reading : IsReading IsNull null_at
+null_reading =
+    same_reading (Refines (IsTagged 5) IsNothing) IsNull null_at (λ bytes u fits is. subst (IsTagged 5 bytes) is.2 is.1) (λ bytes u is. ([], is, refl)) (content_reading 5 IsNothing nothing nothing_check)

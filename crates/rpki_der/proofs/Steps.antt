@@ -1,0 +1,82 @@
+-- Steps of reading that did not fail.
+use Rattle.std.proofs.Common.{◌≡◌, ℕ, zero, suc, ◌+◌, Bool, true, false, cond, ◌||◌, ◌&&◌, List, ◌∷◌, ◌++◌, length, take, drop, replicate, Result, Ok, Err, refl, arith, inl, inr}
+use Rattle.std.proofs.lemmas.Bool.{cases_lt}
+use Rattle.std.proofs.lemmas.List.{get_or-drop, get_or-take, get_or_past, length-take, get_or_append_left, get_or-append-add}
+use Rattle.rpki_der.specs.declared.error.DerError.{DerError}
+use Rattle.rpki_der.specs.Reading.{◌>>=◌}
+use Rattle.rpki_der.specs.Der.{IsBytes}
+
+pub IsBytes-drop : (n : ℕ) (bytes : List ℕ) → IsBytes bytes → IsBytes (drop n bytes)
+IsBytes-drop n bytes h i = rw get_or-drop (h (n + i))
+
+pub IsBytes-take : (n : ℕ) (bytes : List ℕ) → IsBytes bytes → IsBytes (take n bytes)
+IsBytes-take n bytes h i =
+    elim (cases_lt i n) [
+      | inl lt ↦ rw (get_or-take n bytes i 0 lt) (h i)
+      | inr le ↦ rw (get_or_past (take n bytes) i 0 (omega (arith, length-take n bytes))) (omega arith)
+    ]
+
+pub IsBytes-rest : (b : ℕ) (bytes : List ℕ) → IsBytes (b ∷ bytes) → IsBytes bytes
+IsBytes-rest b bytes h i = h (suc i)
+
+pub IsBytes-zero : (bytes : List ℕ) → IsBytes bytes → IsBytes (0 ∷ bytes)
+IsBytes-zero bytes h zero = omega arith
+IsBytes-zero bytes h (suc i) = h i
+
+pub IsBytes-zeros : (n : ℕ) (bytes : List ℕ) → IsBytes bytes → IsBytes (replicate n 0 ++ bytes)
+IsBytes-zeros zero bytes h = h
+IsBytes-zeros (suc n) bytes h = IsBytes-zero (replicate n 0 ++ bytes) (IsBytes-zeros n bytes h)
+
+-- the octets of the parts
+pub fits_front : (a b : List ℕ) → IsBytes (a ++ b) → IsBytes a
+fits_front a b h i =
+    elim (cases_lt i (length a)) [
+      | inl lt ↦ rw (← get_or_append_left a b 0 i lt) (h i)
+      | inr le ↦ rw (get_or_past a i 0 le) (omega arith)
+    ]
+
+pub fits_back : (a b : List ℕ) → IsBytes (a ++ b) → IsBytes b
+fits_back a b h i = rw (← get_or-append-add a b i 0) (h (length a + i))
+
+-- the value of a step that did not fail
+pub bind_ok : {A B : Type 0} (r : Result A DerError) (f : A → Result B DerError) (y : B) → (r >>= f) ≡ Ok y → (x : A) × (r ≡ Ok x) × (f x ≡ Ok y)
+bind_ok (Ok x) f y e = (x, refl, e)
+bind_ok (Err d) f y e = absurd cc
+
+-- a test that did not fail
+pub passed : {A : Type 0} (b : Bool) (d : DerError) (r : Result A DerError) (y : A) → cond b (Err d) r ≡ Ok y → (b ≡ false) × (r ≡ Ok y)
+passed true d r y e = absurd cc
+passed false d r y e = (refl, e)
+
+pub passed_true : {A : Type 0} (b : Bool) (d : DerError) (r : Result A DerError) (y : A) → cond b r (Err d) ≡ Ok y → (b ≡ true) × (r ≡ Ok y)
+passed_true true d r y e = (refl, e)
+passed_true false d r y e = absurd cc
+
+abbrev done : {A : Type 0} → A → Result A DerError
+done x = Ok x
+
+pub ok_is : {A : Type 0} (x y : A) → done x ≡ done y → x ≡ y
+ok_is x y e = cc
+
+pub neither : (a b : Bool) → (a || b) ≡ false → (a ≡ false) × (b ≡ false)
+neither true b e = absurd cc
+neither false b e = (refl, e)
+
+-- two tests that fail
+pub both_false : (a b : Bool) → a ≡ false → b ≡ false → (a || b) ≡ false
+both_false true b p q = absurd cc
+both_false false b p q = q
+
+-- one of two tests fails that don't both pass
+pub one_false : (a b : Bool) → (a && b) ≡ false → a ≡ true → b ≡ false
+one_false true b e p = e
+one_false false b e p = absurd cc
+
+pub and_false : (a b : Bool) → b ≡ false → (a && b) ≡ false
+and_false true b e = e
+and_false false b e = refl
+
+-- a second look at what was read finds what C says
+pub record IsCheck {X Y : Type 0} (Fits : X → Type 0) (C : X → Y → Type 0) (check : X → Result Y DerError) : Type 0 where
+  pub takes : (x : X) (y : Y) → Fits x → check x ≡ Ok y → C x y
+  pub again : (x : X) (y : Y) → C x y → check x ≡ Ok y

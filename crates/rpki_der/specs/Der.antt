@@ -1,0 +1,187 @@
+-- DER values of X.690: the octets of each, and what it means that they stand at the front of others.
+use Rattle.std.specs.Prelude.{◌≡◌, ℕ, zero, suc, ◌+◌, ◌-◌, ◌*◌, ◌≢◌, ◌⊎◌, ◌%◌, ◌^◌, ◌<◌, ◌≤◌, List, [], ◌∷◌, ◌++◌, length, slice_index, nat_lt, if◌then◌else◌}
+use Rattle.std.specs.Int.{w64, to_be_bytes}
+
+-- every item is an octet
+abbrev pub IsBytes : List ℕ → Type 0
+IsBytes bytes = (i : ℕ) → slice_index bytes i < 256
+
+-- the number that octets spell, the most significant first
+abbrev pub big_endian_after : ℕ → List ℕ → ℕ
+big_endian_after n [] = n
+big_endian_after n (b ∷ bs) = big_endian_after (n * 256 + b) bs
+
+abbrev pub big_endian : List ℕ → ℕ
+big_endian bytes = big_endian_after 0 bytes
+
+abbrev pub without_zeros : List ℕ → List ℕ
+without_zeros [] = []
+without_zeros (zero ∷ bs) = without_zeros bs
+without_zeros (suc b ∷ bs) = suc b ∷ bs
+
+-- the fewest octets that spell a number below 2 ^ 64: none for 0
+unfoldable pub octets : ℕ → List ℕ
+octets n = without_zeros (to_be_bytes w64 n)
+
+-- ---- tag, length and content
+
+-- a tag in one octet: the low five bits, which hold its number, aren't all ones (X.690, 8.1.2.2 and 8.1.2.4)
+abbrev pub IsTag : ℕ → Type 0
+IsTag tag = tag % 32 < 31
+
+-- a definite length in the fewest octets: one octet below 128; from 128 on, an octet that is 128 and the count of
+-- the octets behind it, and those (X.690, 8.1.3.4, 8.1.3.5 and 10.1)
+unfoldable pub length_octets : ℕ → List ℕ
+length_octets n = if nat_lt n 128 then n ∷ [] else (128 + length (octets n)) ∷ octets n
+
+-- what stands in front of a content of n octets
+unfoldable pub header : ℕ → ℕ → List ℕ
+header tag n = tag ∷ length_octets n
+
+abbrev pub value : ℕ → List ℕ → List ℕ
+value tag content = header tag (length content) ++ content
+
+-- a value, whatever its tag means
+pub record Tlv : Type 0 where
+  pub tag : ℕ
+  pub content : List ℕ
+
+-- these octets are the value with this tag and this content
+pub record IsValue (bytes : List ℕ) (tag : ℕ) (content : List ℕ) : Type 0 where
+  pub has_tag : IsTag tag
+  pub short : length content < 2 ^ 64
+  pub spelled : bytes ≡ value tag content
+
+-- ---- contents
+
+-- a zero octet in front where the first bit would be 1, which would make the number negative, or where no octet is
+abbrev pub with_sign : List ℕ → List ℕ
+with_sign [] = 0 ∷ []
+with_sign (b ∷ bs) = if nat_lt b 128 then b ∷ bs else 0 ∷ b ∷ bs
+
+-- the content of an INTEGER that isn't negative, in the fewest octets (X.690, 8.3)
+unfoldable pub integer : ℕ → List ℕ
+integer n = with_sign (octets n)
+
+-- the value of a BIT STRING: how many bits of the last octet are unused, and the octets as they stand
+pub record Bits : Type 0 where
+  pub unused : ℕ
+  pub octets : List ℕ
+
+-- at most seven bits are unused, and none where there is no octet (X.690, 8.6.2.2 and 8.6.2.3)
+pub record IsBits (b : Bits) : Type 0 where
+  pub below : b.unused < 8
+  pub empty : length b.octets ≡ 0 → b.unused ≡ 0
+
+abbrev pub bits_with : ℕ → List ℕ → Bits
+bits_with unused octets = record { unused = unused; octets = octets }
+
+abbrev pub bit_content : Bits → List ℕ
+bit_content b = b.unused ∷ b.octets
+
+-- how many bits are used
+abbrev pub bit_count : Bits → ℕ
+bit_count b = 8 * length b.octets - b.unused
+
+-- ---- grammars: the octets are the value that x stands for, whole
+
+abbrev pub IsTlv : List ℕ → Tlv → Type 0
+IsTlv bytes v = IsValue bytes v.tag v.content
+
+-- an INTEGER from 0 to 4294967295
+abbrev pub IsU32 : List ℕ → ℕ → Type 0
+IsU32 bytes n = (n < 2 ^ 32) × IsValue bytes 2 (integer n)
+
+abbrev pub IsBitString : List ℕ → Bits → Type 0
+IsBitString bytes b = IsBits b × IsValue bytes 3 (bit_content b)
+
+abbrev pub IsOctetString : List ℕ → List ℕ → Type 0
+IsOctetString bytes content = IsValue bytes 4 content
+
+abbrev pub IsNull : List ℕ → Unit {0} → Type 0
+IsNull bytes u = IsValue bytes 5 []
+
+-- of a SEQUENCE, the octets that are its content
+abbrev pub IsSequence : List ℕ → List ℕ → Type 0
+IsSequence bytes content = IsValue bytes 48 content
+
+-- ---- grammars from grammars
+
+-- a value of G that says y by the rule C, as a SEQUENCE does by what is in it
+abbrev pub Refines : {X Y : Type 0} → (List ℕ → X → Type 0) → (X → Y → Type 0) → List ℕ → Y → Type 0
+Refines {X} G C bytes y = (x : X) × G bytes x × C x y
+
+-- the octets begin with a value that stands for x, and rest follows it
+abbrev pub Front : {X : Type 0} → (List ℕ → X → Type 0) → List ℕ → X → List ℕ → Type 0
+Front G bytes x rest = (front : List ℕ) × G front x × (bytes ≡ front ++ rest)
+
+-- the octets begin with no value of G
+abbrev pub NoFront : {X : Type 0} → (List ℕ → X → Type 0) → List ℕ → Type 0
+NoFront {X} G bytes = (x : X) (rest : List ℕ) → Front G bytes x rest → ⊥
+
+-- octets begin with at most one value of G, which stands for one thing
+abbrev pub OneFront : {X : Type 0} → (List ℕ → X → Type 0) → Type 0
+OneFront {X} G = (a b : List ℕ) (x y : X) (r s : List ℕ) → G a x → G b y → a ++ r ≡ b ++ s → (a ≡ b) × (x ≡ y) × (r ≡ s)
+
+-- the octets are a value of G and a value of H, and nothing else
+abbrev pub Both : {X Y : Type 0} → (List ℕ → X → Type 0) → (List ℕ → Y → Type 0) → List ℕ → X → Y → Type 0
+Both G H bytes x y = (rest : List ℕ) × Front G bytes x rest × H rest y
+
+-- the octets are values one after another, and nothing else; each is of the grammar of the state that the values
+-- before it led to
+abbrev pub EachFrom : {S X : Type 0} → (S → X → S) → (S → List ℕ → X → Type 0) → S → List ℕ → List X → Type 0
+EachFrom next G state bytes [] = bytes ≡ []
+EachFrom next G state bytes (x ∷ xs) = (rest : List ℕ) × Front (G state) bytes x rest × EachFrom next G (next state x) rest xs
+
+-- the octets are values of G one after another, and nothing else
+abbrev pub Each : {X : Type 0} → (List ℕ → X → Type 0) → List ℕ → List X → Type 0
+Each G = EachFrom (λ (state : Unit {0}) x. state) (λ state. G) tt
+
+-- ---- what is written
+
+abbrev pub u32_value : ℕ → List ℕ
+u32_value n = value 2 (integer n)
+
+abbrev pub bit_string_value : Bits → List ℕ
+bit_string_value b = value 3 (bit_content b)
+
+abbrev pub octet_string_value : List ℕ → List ℕ
+octet_string_value content = value 4 content
+
+abbrev pub null_value : List ℕ
+null_value = value 5 []
+
+abbrev pub sequence_value : List ℕ → List ℕ
+sequence_value content = value 48 content
+
+-- ---- the same by the standard's conditions
+
+-- the first octet is 128 and the count of the others; these are at most eight, don't begin with zero, and spell
+-- 128 or more
+pub record IsLongLength (first : ℕ) (digits : List ℕ) (n : ℕ) : Type 0 where
+  pub count : first ≡ 128 + length digits
+  pub few : length digits ≤ 8
+  pub no_zero : slice_index digits 0 ≢ 0
+  pub large : 128 ≤ n
+  pub spelled : big_endian digits ≡ n
+
+abbrev pub IsLength : List ℕ → ℕ → Type 0
+IsLength [] n = ⊥
+IsLength (first ∷ digits) n = ((first < 128) × (n ≡ first) × (digits ≡ [])) ⊎ IsLongLength first digits n
+
+-- one to five octets; the first bit is 0; of two or more octets the first nine bits aren't all zero
+pub record IsUnsigned (content : List ℕ) (n : ℕ) : Type 0 where
+  pub some : 0 < length content
+  pub few : length content ≤ 5
+  pub sign : slice_index content 0 < 128
+  pub minimal : 1 < length content → slice_index content 0 ≡ 0 → 128 ≤ slice_index content 1
+  pub spelled : big_endian content ≡ n
+  pub limit : n < 2 ^ 32
+
+-- an octet that counts the unused bits, and the octets that hold the bits
+pub record IsBitContent (content : List ℕ) (b : Bits) : Type 0 where
+  pub counted : IsBits b
+  pub spelled : content ≡ bit_content b
+
+abbrev pub IsNothing : List ℕ → Unit {0} → Type 0
+IsNothing content u = content ≡ []

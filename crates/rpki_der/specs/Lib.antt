@@ -1,0 +1,4 @@
+pub mod Der
+pub mod Faults
+pub mod Reading
+pub mod Views

@@ -1,0 +1,108 @@
+-- Reading octets from left to right: the value at the front and what follows it, or the first fault that is met.
+use Rattle.std.specs.Prelude.{◌≡◌, ℕ, zero, suc, ◌-◌, ◌%◌, ◌^◌, List, [], ◌∷◌, ◌++◌, length, take, drop, slice_index, ◌&&◌, ◌||◌, Option, Some, None, Result, Ok, Err, nat_lt, nat_le, ◌==◌, if◌then◌else◌}
+use Rattle.rpki_der.specs.declared.error.DerError.{DerError}
+use Rattle.rpki_der.specs.declared.error.DerError.TheVariants.{Truncated, BadTag, BadLength, BadInteger, BadBitString, BadNull, TrailingData}
+use Rattle.rpki_der.specs.Der.{Tlv, Bits, IsBytes, Front, big_endian}
+
+infixl 10 ◌>>=◌
+abbrev pub ◌>>=◌ : {A B : Type 0} → Result A DerError → (A → Result B DerError) → Result B DerError
+(Ok x) >>= f = f x
+(Err e) >>= f = Err e
+
+-- what a call answered, seen by view, is what reading gives
+abbrev pub Gives : {X Y : Type 0} → (X → Y) → Result X DerError → Result Y DerError → Type 0
+Gives view (Ok x) read = read ≡ Ok (view x)
+Gives view (Err e) read = read ≡ Err e
+
+-- ---- lengths and values
+
+-- the length that count octets spell: no octet is the indefinite form, and eight are the most
+unfoldable pub long_length_at : ℕ → List ℕ → Result (ℕ × List ℕ) DerError
+long_length_at count bytes =
+    if (count == 0) || nat_lt 8 count then Err BadLength else
+    if nat_lt (length bytes) count then Err Truncated else
+    if (slice_index bytes 0 == 0) || nat_lt (big_endian (take count bytes)) 128 then Err BadLength else
+    Ok (big_endian (take count bytes), drop count bytes)
+
+unfoldable pub length_at : List ℕ → Result (ℕ × List ℕ) DerError
+length_at [] = Err Truncated
+length_at (first ∷ bytes) = if nat_lt first 128 then Ok (first, bytes) else long_length_at (first - 128) bytes
+
+unfoldable pub value_at : List ℕ → Result (Tlv × List ℕ) DerError
+value_at [] = Err Truncated
+value_at (tag ∷ bytes) =
+    if tag % 32 == 31 then Err BadTag else do
+      len ← length_at bytes
+      if nat_lt (length len.1) len.0 then Err Truncated else Ok (record { tag = tag; content = take len.0 len.1 }, drop len.0 len.1)
+
+-- the content of the value at the front, which must have this tag
+unfoldable pub tagged_at : ℕ → List ℕ → Result (List ℕ × List ℕ) DerError
+tagged_at tag bytes = do
+  v ← value_at bytes
+  if v.0.tag == tag then Ok (v.0.content, v.1) else Err BadTag
+
+-- ---- contents
+
+unfoldable pub unsigned : List ℕ → Result ℕ DerError
+unsigned content =
+    if (length content == 0) || nat_lt 5 (length content) || nat_le 128 (slice_index content 0) then Err BadInteger else
+    if nat_lt 1 (length content) && (slice_index content 0 == 0) && nat_lt (slice_index content 1) 128 then Err BadInteger else
+    if nat_lt (big_endian content) (2 ^ 32) then Ok (big_endian content) else Err BadInteger
+
+unfoldable pub bits : List ℕ → Result Bits DerError
+bits [] = Err BadBitString
+bits (unused ∷ octets) = if nat_lt 7 unused || (nat_lt 0 unused && (length octets == 0)) then Err BadBitString else Ok (record { unused = unused; octets = octets })
+
+unfoldable pub nothing : List ℕ → Result (Unit {0}) DerError
+nothing [] = Ok tt
+nothing (b ∷ bytes) = Err BadNull
+
+-- no octet is left
+abbrev pub ended : List ℕ → Result (Unit {0}) DerError
+ended bytes = if length bytes == 0 then Ok tt else Err TrailingData
+
+-- ---- readings from readings
+
+-- what reading finds, looked at once more
+unfoldable pub refined : {X Y : Type 0} → (List ℕ → Result (X × List ℕ) DerError) → (X → Result Y DerError) → List ℕ → Result (Y × List ℕ) DerError
+refined reading check bytes = do
+  x ← reading bytes
+  y ← check x.0
+  Ok (y, x.1)
+
+-- what reading finds; at the end of the octets, nothing
+unfoldable pub optional : {X : Type 0} → (List ℕ → Result (X × List ℕ) DerError) → List ℕ → Result (Option X × List ℕ) DerError
+optional reading [] = Ok (None, [])
+optional reading (b ∷ bytes) = do
+  x ← reading (b ∷ bytes)
+  Ok (Some x.0, x.1)
+
+-- what reading finds, again and again to the end of the octets, each time in the state that the values before led
+-- to; a value has an octet at least, so the number of the octets is enough for steps
+unfoldable pub each_from : {S X : Type 0} → (S → X → S) → ℕ → (S → List ℕ → Result (X × List ℕ) DerError) → S → List ℕ → Result (List X) DerError
+each_from next steps reading state [] = Ok []
+each_from next zero reading state (b ∷ bytes) = Err Truncated
+each_from next (suc steps) reading state (b ∷ bytes) = do
+  x ← reading state (b ∷ bytes)
+  xs ← each_from next steps reading (next state x.0) x.1
+  Ok (x.0 ∷ xs)
+
+-- the same with nothing to remember
+abbrev pub each : {X : Type 0} → ℕ → (List ℕ → Result (X × List ℕ) DerError) → List ℕ → Result (List X) DerError
+each steps reading = each_from (λ (state : Unit {0}) x. state) steps (λ state. reading) tt
+
+-- ---- values of one tag
+
+abbrev pub u32_at : List ℕ → Result (ℕ × List ℕ) DerError
+u32_at = refined (tagged_at 2) unsigned
+
+abbrev pub bit_string_at : List ℕ → Result (Bits × List ℕ) DerError
+bit_string_at = refined (tagged_at 3) bits
+
+abbrev pub null_at : List ℕ → Result (Unit {0} × List ℕ) DerError
+null_at = refined (tagged_at 5) nothing
+
+-- reading finds the values of a grammar, whatever follows them, and no others
+pub record IsReading {X : Type 0} (G : List ℕ → X → Type 0) (reading : List ℕ → Result (X × List ℕ) DerError) : Type 0 where
+  pub takes : (bytes : List ℕ) (x : X) (rest : List ℕ) → IsBytes bytes → reading bytes ≡ Ok (x, rest) → Front G bytes x rest
+  pub again : (front : List ℕ) (x : X) (rest : List ℕ) → G front x → reading (front ++ rest) ≡ Ok (x, rest)

@@ -1,0 +1,168 @@
+//! A value that was taken, and what its content says.
+
+ghost use Rattle.std.specs.Prelude.{◌<◌, ◌≤◌, ◌*◌, length};
+
+use crate::cursor::Cursor;
+use crate::error::DerError;
+use crate::value::number_of;
+
+/// The tag and the content of a value. It borrows the octets, so a copy costs nothing.
+///
+/// But for `tag`, every call reads the content alone, whatever the tag is.
+#[derive(Clone, Copy, Debug)]
+pub struct Content<'a> {
+    pub(crate) tag: u8,
+    pub(crate) octets: &'a [u8],
+}
+
+/// The content of a BIT STRING (X.690, 8.6.2): how many bits of the last octet are unused, and the
+/// octets, in which the unused bits may be set. It borrows them, so a copy costs nothing.
+#[derive(Clone, Copy, Debug)]
+pub struct BitString<'a> {
+    unused: u8,
+    octets: &'a [u8],
+    pub ghost below: { unused < 8 },
+    pub ghost counted: { unused ≤ 8 * length octets.now },
+}
+
+impl<'a> Content<'a> {
+    ghost use Rattle.std.specs.Prelude.{◌≡◌, Ok};
+    ghost use Rattle.rpki_der.specs.Der.{IsBitContent, IsNothing, IsUnsigned};
+    ghost use Rattle.rpki_der.specs.Reading.{Gives, bits, nothing, unsigned};
+    ghost use Rattle.rpki_der.specs.Views.{LenientIn, Parses, bits_of, content_octets, left, tlv};
+
+    /// The tag octet.
+    pub fn tag(&self) -> u8
+        ensures { result ≡ (tlv self.now).tag }
+    {
+        self.tag
+    }
+
+    /// The octets of the content.
+    pub fn bytes(&self) -> &'a [u8]
+        ensures { result.now ≡ content_octets self.now }
+    {
+        self.octets
+    }
+
+    /// A cursor over the content, as of a SEQUENCE.
+    pub fn cursor(&self) -> Cursor<'a>
+        ensures octets { left result ≡ content_octets self.now }
+    {
+        Cursor::new(self.octets)
+    }
+
+    /// The content as an INTEGER (X.690, 8.3) from 0 to 4294967295, else `BadInteger`.
+    pub fn to_u32(&self) -> Result<u32, DerError>
+        ensures reads { Parses IsUnsigned (λ n. n) (content_octets self.now) result }
+        ensures exact { Gives (λ n. n) result (unsigned (content_octets self.now)) }
+    {
+        self.parse_u32()
+    }
+
+    /// The content as a BIT STRING (X.690, 8.6.2), else `BadBitString`.
+    pub fn to_bit_string(&self) -> Result<BitString<'a>, DerError>
+        ensures reads { LenientIn self.now (Parses IsBitContent bits_of (content_octets self.now) result) }
+        ensures exact { LenientIn self.now (Gives bits_of result (bits (content_octets self.now))) }
+    {
+        self.parse_bit_string()
+    }
+
+    /// The content as an OCTET STRING (X.690, 8.7), which any octets are.
+    pub fn to_octets(&self) -> Result<&'a [u8], DerError>
+        ensures exact { Gives (λ o. o.now) result (Ok (content_octets self.now)) }
+    {
+        Ok(self.octets)
+    }
+
+    /// The content as a NULL (X.690, 8.8), which has no octet, else `BadNull`.
+    pub fn to_null(&self) -> Result<(), DerError>
+        ensures reads { Parses IsNothing (λ u. u) (content_octets self.now) result }
+        ensures exact { Gives (λ u. u) result (nothing (content_octets self.now)) }
+    {
+        self.parse_null()
+    }
+}
+
+// The readings behind the calls of the same names.
+impl<'a> Content<'a> {
+    ghost use Rattle.std.specs.Prelude.{◌≡◌};
+    ghost use Rattle.rpki_der.specs.Reading.{Gives, bits, nothing, unsigned};
+    ghost use Rattle.rpki_der.specs.Views.{bits_of, content_octets};
+
+    #[tactic(auto, unfolding(crate::specs::Reading::unsigned))]
+    fn parse_u32(&self) -> Result<u32, DerError>
+        ensures exact { Gives (λ n. n) result (unsigned (content_octets self.now)) }
+    {
+        let octets = self.octets;
+        if octets.is_empty() || octets.len() > 5 || octets[0] >= 128 {
+            return Err(DerError::BadInteger);
+        }
+        if octets.len() > 1 && octets[0] == 0 && octets[1] < 128 {
+            return Err(DerError::BadInteger);
+        }
+        let number = number_of(octets);
+        if number > u32::MAX as u64 {
+            return Err(DerError::BadInteger);
+        }
+        Ok(number as u32)
+    }
+
+    #[tactic(auto, unfolding(crate::specs::Reading::bits))]
+    fn parse_bit_string(&self) -> Result<BitString<'a>, DerError>
+        ensures exact { Gives bits_of result (bits (content_octets self.now)) }
+    {
+        let [unused, octets @ ..] = self.octets else {
+            return Err(DerError::BadBitString);
+        };
+        let unused = *unused;
+        if unused > 7 || unused > 0 && octets.is_empty() {
+            return Err(DerError::BadBitString);
+        }
+        Ok(BitString { unused, octets })
+    }
+
+    #[tactic(auto, unfolding(crate::specs::Reading::nothing))]
+    fn parse_null(&self) -> Result<(), DerError>
+        ensures exact { Gives (λ u. u) result (nothing (content_octets self.now)) }
+    {
+        match self.octets {
+            [] => Ok(()),
+            [_, ..] => Err(DerError::BadNull),
+        }
+    }
+}
+
+impl<'a> BitString<'a> {
+    ghost use Rattle.std.specs.Prelude.{◌≡◌, length};
+    ghost use Rattle.rpki_der.specs.Der.{bit_count};
+    ghost use Rattle.rpki_der.specs.Views.{bits_of};
+
+    /// How many bits of the last octet are unused: 0 to 7, and 0 where there is no octet.
+    pub fn unused(&self) -> u8
+        ensures { result ≡ (bits_of self.now).unused }
+    {
+        self.unused
+    }
+
+    /// The octets as they stand, the unused bits among them.
+    pub fn octets(&self) -> &'a [u8]
+        ensures { result.now ≡ (bits_of self.now).octets }
+    {
+        self.octets
+    }
+
+    /// How many octets there are.
+    pub fn octet_len(&self) -> usize
+        ensures { result ≡ length (bits_of self.now).octets }
+    {
+        self.octets.len()
+    }
+
+    /// How many bits are used.
+    pub fn bit_len(&self) -> u128
+        ensures { result ≡ bit_count (bits_of self.now) }
+    {
+        8 * self.octets.len() as u128 - self.unused as u128
+    }
+}

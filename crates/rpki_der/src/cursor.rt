@@ -1,0 +1,214 @@
+//! A place in octets, from which values are taken one after another.
+
+ghost use Rattle.rpki_der.specs.Der.{IsBytes};
+
+use crate::content::{BitString, Content};
+use crate::error::DerError;
+use crate::tag;
+use crate::value::value_of;
+
+/// The octets that are left to read. A take moves the cursor behind the value that it answers, and
+/// where it refuses it leaves the cursor as it was.
+///
+/// A cursor borrows its octets, so a copy costs nothing: take from a copy to look ahead.
+#[derive(Clone, Copy, Debug)]
+pub struct Cursor<'a> {
+    octets: &'a [u8],
+    pub ghost bytes: { IsBytes octets.now },
+}
+
+impl<'a> Cursor<'a> {
+    ghost use Rattle.std.specs.Prelude.{◌≡◌, ◌==◌, length, option_map, slice_get};
+    ghost use Rattle.rpki_der.specs.Der.{IsBitString, IsNull, IsOctetString, IsSequence, IsTlv, IsU32};
+    ghost use Rattle.rpki_der.specs.Reading.{Gives, bit_string_at, ended, null_at, optional, tagged_at, u32_at, value_at};
+    ghost use Rattle.rpki_der.specs.Views.{Lenient, Reads, ReadsOptional, Takes, bits_of, left, tlv};
+
+    /// A cursor at the first of the octets.
+    pub fn new(octets: &'a [u8]) -> Cursor<'a>
+        ensures octets { left result ≡ octets.now }
+    {
+        Cursor { octets }
+    }
+
+    /// Whether no octet is left.
+    pub fn is_empty(&self) -> bool
+        ensures { result ≡ (length (left self.now) == 0) }
+    {
+        self.octets.is_empty()
+    }
+
+    /// The octets that are left.
+    pub fn rest(&self) -> &'a [u8]
+        ensures { result.now ≡ left self.now }
+    {
+        self.octets
+    }
+
+    /// The next octet, which is the tag of the next value if one is there; None at the end.
+    pub fn peek_tag(&self) -> Option<u8>
+        ensures { result ≡ slice_get (left self.now) 0 }
+    {
+        self.octets.first().copied()
+    }
+
+    /// Takes a value of any tag (X.690, 8.1).
+    ///
+    /// `Truncated` where octets are missing, `BadTag` where the low five bits of the tag octet are
+    /// all ones, `BadLength` where the length is indefinite or isn't in the fewest octets.
+    pub fn take_value(&mut self) -> Result<Content<'a>, DerError>
+        ensures reads { Reads IsTlv tlv self.old self.new result }
+        ensures exact { Takes tlv self.old self.new result value_at }
+    {
+        self.next_value()
+    }
+
+    /// Takes a value of any tag as `take_value` does; None at the end, and there alone.
+    pub fn take_opt_value(&mut self) -> Result<Option<Content<'a>>, DerError>
+        ensures reads { ReadsOptional IsTlv tlv self.old self.new result }
+        ensures exact { Takes (λ o. option_map tlv o) self.old self.new result (optional value_at) }
+    {
+        self.next_opt_value()
+    }
+
+    /// Takes a SEQUENCE (X.690, 8.9) and answers a cursor over its content.
+    ///
+    /// The faults are those of `take_value`; `BadTag` also where another value stands there.
+    pub fn take_sequence(&mut self) -> Result<Cursor<'a>, DerError>
+        ensures reads { Reads IsSequence left self.old self.new result }
+        ensures exact { Takes left self.old self.new result (tagged_at 48) }
+    {
+        self.next_sequence()
+    }
+
+    /// Takes an INTEGER (X.690, 8.3) from 0 to 4294967295.
+    ///
+    /// The faults are those of `take_value`; `BadTag` also where another value stands there, and
+    /// `BadInteger` for any other content.
+    pub fn take_u32(&mut self) -> Result<u32, DerError>
+        ensures reads { Reads IsU32 (λ n. n) self.old self.new result }
+        ensures exact { Takes (λ n. n) self.old self.new result u32_at }
+    {
+        self.next_u32()
+    }
+
+    /// Takes a BIT STRING (X.690, 8.6.2). Unused bits that are set are accepted.
+    ///
+    /// The faults are those of `take_value`; `BadTag` also where another value stands there, and
+    /// `BadBitString` for any other content.
+    pub fn take_bit_string(&mut self) -> Result<BitString<'a>, DerError>
+        ensures reads { Lenient self.old (Reads IsBitString bits_of self.old self.new result) }
+        ensures exact { Lenient self.old (Takes bits_of self.old self.new result bit_string_at) }
+    {
+        self.next_bit_string()
+    }
+
+    /// Takes an OCTET STRING (X.690, 8.7).
+    ///
+    /// The faults are those of `take_value`; `BadTag` also where another value stands there.
+    pub fn take_octets(&mut self) -> Result<&'a [u8], DerError>
+        ensures reads { Reads IsOctetString (λ o. o.now) self.old self.new result }
+        ensures exact { Takes (λ o. o.now) self.old self.new result (tagged_at 4) }
+    {
+        self.next_octets()
+    }
+
+    /// Takes a NULL (X.690, 8.8).
+    ///
+    /// The faults are those of `take_value`; `BadTag` also where another value stands there, and
+    /// `BadNull` where it has content.
+    pub fn take_null(&mut self) -> Result<(), DerError>
+        ensures reads { Reads IsNull (λ u. u) self.old self.new result }
+        ensures exact { Takes (λ u. u) self.old self.new result null_at }
+    {
+        self.next_null()
+    }
+
+    /// Ends the reading: `TrailingData` where octets are left.
+    pub fn finish(self) -> Result<(), DerError>
+        ensures exact { Gives (λ u. u) result (ended (left self.entry)) }
+    {
+        if !self.octets.is_empty() {
+            return Err(DerError::TrailingData);
+        }
+        Ok(())
+    }
+}
+
+// The readings behind the takes: which value or which fault the octets give.
+impl<'a> Cursor<'a> {
+    ghost use Rattle.std.specs.Prelude.{option_map};
+    ghost use Rattle.rpki_der.specs.Reading.{bit_string_at, null_at, optional, tagged_at, u32_at, value_at};
+    ghost use Rattle.rpki_der.specs.Views.{Takes, bits_of, content_octets, left, tlv};
+
+    fn next_value(&mut self) -> Result<Content<'a>, DerError>
+        ensures exact { Takes tlv self.old self.new result value_at }
+    {
+        let (value, rest) = value_of(self.octets)?;
+        *self = Cursor::new(rest);
+        Ok(value)
+    }
+
+    #[tactic(auto, unfolding(crate::specs::Reading::optional))]
+    fn next_opt_value(&mut self) -> Result<Option<Content<'a>>, DerError>
+        ensures exact { Takes (λ o. option_map tlv o) self.old self.new result (optional value_at) }
+    {
+        if self.octets.is_empty() {
+            return Ok(None);
+        }
+        Ok(Some(self.next_value()?))
+    }
+
+    #[tactic(auto, unfolding(crate::specs::Reading::tagged_at))]
+    fn next_tagged(&mut self, tag: u8) -> Result<Content<'a>, DerError>
+        ensures exact { Takes content_octets self.old self.new result (tagged_at tag) }
+    {
+        let (value, rest) = value_of(self.octets)?;
+        if value.tag() != tag {
+            return Err(DerError::BadTag);
+        }
+        *self = Cursor::new(rest);
+        Ok(value)
+    }
+
+    fn next_sequence(&mut self) -> Result<Cursor<'a>, DerError>
+        ensures exact { Takes left self.old self.new result (tagged_at 48) }
+    {
+        Ok(self.next_tagged(tag::SEQUENCE)?.cursor())
+    }
+
+    #[tactic(auto, unfolding(crate::specs::Reading::refined))]
+    fn next_u32(&mut self) -> Result<u32, DerError>
+        ensures exact { Takes (λ n. n) self.old self.new result u32_at }
+    {
+        let mut ahead = *self;
+        let number = ahead.next_tagged(tag::INTEGER)?.to_u32()?;
+        *self = ahead;
+        Ok(number)
+    }
+
+    #[tactic(auto, unfolding(crate::specs::Reading::refined))]
+    fn next_bit_string(&mut self) -> Result<BitString<'a>, DerError>
+        ensures exact { Takes bits_of self.old self.new result bit_string_at }
+    {
+        let mut ahead = *self;
+        let bits = ahead.next_tagged(tag::BIT_STRING)?.to_bit_string()?;
+        *self = ahead;
+        Ok(bits)
+    }
+
+    fn next_octets(&mut self) -> Result<&'a [u8], DerError>
+        ensures exact { Takes (λ o. o.now) self.old self.new result (tagged_at 4) }
+    {
+        Ok(self.next_tagged(tag::OCTET_STRING)?.bytes())
+    }
+
+    #[tactic(auto, unfolding(crate::specs::Reading::refined))]
+    fn next_null(&mut self) -> Result<(), DerError>
+        ensures exact { Takes (λ u. u) self.old self.new result null_at }
+    {
+        let mut ahead = *self;
+        ahead.next_tagged(tag::NULL)?.to_null()?;
+        *self = ahead;
+        Ok(())
+    }
+}

@@ -1,0 +1,42 @@
+//! What holds of the values themselves, each law as the contract of a function that does nothing.
+
+ghost use Rattle.std.specs.Prelude.{◌≡◌, ℕ, List, Ok, ◌<◌, ◌^◌, ◌++◌, length};
+ghost use Rattle.rpki_der.specs.Der.{Bits, IsBitString, IsBits, IsBytes, IsLength, IsNull, IsOctetString, IsSequence, IsTlv, IsU32, IsUnsigned, OneFront, bit_string_value, integer, length_octets, null_value, octet_string_value, sequence_value, u32_value};
+ghost use Rattle.rpki_der.specs.Reading.{bit_string_at, null_at, tagged_at, u32_at};
+
+/// Octets begin with at most one value of each kind.
+pub fn one_value()
+    ensures value { OneFront IsTlv }
+    ensures number { OneFront IsU32 }
+    ensures bit_string { OneFront IsBitString }
+    ensures octet_string { OneFront IsOctetString }
+    ensures null { OneFront IsNull }
+    ensures sequence { OneFront IsSequence }
+{}
+
+/// The octets that the writers append are values.
+pub fn written()
+    ensures number { (n : ℕ) → n < 2 ^ 32 → IsU32 (u32_value n) n }
+    ensures bit_string { (b : Bits) → IsBits b → length b.octets < 2 ^ 63 → IsBitString (bit_string_value b) b }
+    ensures octet_string { (o : List ℕ) → length o < 2 ^ 64 → IsOctetString (octet_string_value o) o }
+    ensures null { IsNull null_value tt }
+    ensures sequence { (o : List ℕ) → length o < 2 ^ 64 → IsSequence (sequence_value o) o }
+{}
+
+/// What is written is read back, whatever follows it.
+pub fn read_back()
+    ensures number { (n : ℕ) (rest : List ℕ) → n < 2 ^ 32 → u32_at (u32_value n ++ rest) ≡ Ok (n, rest) }
+    ensures bit_string { (b : Bits) (rest : List ℕ) → IsBits b → length b.octets < 2 ^ 63 → bit_string_at (bit_string_value b ++ rest) ≡ Ok (b, rest) }
+    ensures octet_string { (o rest : List ℕ) → length o < 2 ^ 64 → tagged_at 4 (octet_string_value o ++ rest) ≡ Ok (o, rest) }
+    ensures null { (rest : List ℕ) → null_at (null_value ++ rest) ≡ Ok (tt, rest) }
+    ensures sequence { (o rest : List ℕ) → length o < 2 ^ 64 → tagged_at 48 (sequence_value o ++ rest) ≡ Ok (o, rest) }
+{}
+
+/// Integers and lengths are spelled as the conditions of X.690 (8.1.3, 8.3 and 10.1) say, and in
+/// no other way.
+pub fn spelled()
+    ensures integer { (content : List ℕ) (n : ℕ) → IsBytes content → IsUnsigned content n → content ≡ integer n }
+    ensures integer_again { (n : ℕ) → n < 2 ^ 32 → IsUnsigned (integer n) n }
+    ensures len { (bytes : List ℕ) (n : ℕ) → IsBytes bytes → IsLength bytes n → (bytes ≡ length_octets n) × (n < 2 ^ 64) }
+    ensures len_again { (n : ℕ) → n < 2 ^ 64 → IsLength (length_octets n) n }
+{}

@@ -1,0 +1,23 @@
+//! The part of DER (X.690) that RFC 3779 needs: a cursor that takes values from octets, and
+//! writers that append them.
+//!
+//! Values have a tag of one octet and a definite length in the fewest octets. A [`Cursor`] takes
+//! them one after another, and a refused take leaves it where it was. A [`Content`] is read by the
+//! rule of its type: INTEGER, BIT STRING, OCTET STRING, NULL or SEQUENCE. Nothing is copied.
+#![tactic(auto)]
+
+mod content;
+mod cursor;
+mod error;
+pub mod laws;
+pub mod tag;
+mod value;
+mod write;
+
+pub use content::{BitString, Content};
+pub use cursor::Cursor;
+pub use error::DerError;
+pub use write::{
+    bit_string_len, header_len, null_len, octets_len, put_bit_string, put_header, put_null,
+    put_octets, put_u32, u32_len,
+};

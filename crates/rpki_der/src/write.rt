@@ -1,0 +1,193 @@
+//! Writers that append values to a vector, and the lengths of what they append.
+//!
+//! A writer reserves the whole length first, so where memory is wanting the vector stays as it was.
+
+ghost use Rattle.std.specs.Prelude.{◌≡◌, ◌≤◌, ◌<◌, ◌+◌, ◌^◌, ◌++◌, [], ◌∷◌, length, vec_len, OnOk, OnErr, IsOk};
+ghost use Rattle.std.specs.Vec.{vec_capacity};
+ghost use Rattle.rpki_der.specs.Der.{IsBits, IsTag, bit_string_value, bits_with, header, integer, null_value, octet_string_value, u32_value, value, with_sign, without_zeros};
+
+use crate::tag;
+use std::alloc::{AllocError, Allocator};
+
+/// The octets without the zeros in front.
+fn significant(octets: &[u8]) -> &[u8]
+    ensures digits { result.now ≡ without_zeros octets.now }
+    ensures short { length result.now ≤ length octets.now }
+{
+    let mut rest = octets;
+    while let [0, tail @ ..] = rest {
+        rest = tail;
+    }
+    rest
+}
+
+/// How many octets `put_header` appends.
+#[tactic(auto, unfolding(crate::specs::Der::header, crate::specs::Der::length_octets, crate::specs::Der::octets))]
+pub fn header_len(tag: u8, content_len: usize) -> usize
+    ensures len { result ≡ length (header tag content_len) }
+    ensures short { result ≤ 10 }
+{
+    if content_len < 128 {
+        2
+    } else {
+        2 + significant(&(content_len as u64).to_be_bytes()).len()
+    }
+}
+
+/// Appends the tag octet and the length octets of a value whose content has `content_len` octets
+/// (X.690, 8.1.2, 8.1.3 and 10.1). The low five bits of the tag octet must not all be ones.
+#[tactic(auto, unfolding(crate::specs::Der::header, crate::specs::Der::length_octets, crate::specs::Der::octets))]
+pub fn put_header<A: Allocator>(
+    out: &mut Vec<u8, A>,
+    tag: u8,
+    content_len: usize,
+) -> Result<(), AllocError>
+    requires { IsTag tag }
+    ensures ok { OnOk result (out.new.items ≡ out.old.items ++ header tag content_len) }
+    ensures err { OnErr result (out.new.items ≡ out.old.items) }
+    ensures succeeds { vec_len out.old + length (header tag content_len) ≤ vec_capacity out.old → IsOk result }
+    ensures capacity { vec_capacity out.old ≤ vec_capacity out.new }
+{
+    out.reserve(header_len(tag, content_len))?;
+    out.push(tag)?;
+    if content_len < 128 {
+        out.push(content_len as u8)?;
+    } else {
+        let octets = (content_len as u64).to_be_bytes();
+        let digits = significant(&octets);
+        out.push(128 + digits.len() as u8)?;
+        out.extend_from_slice(digits)?;
+    }
+    Ok(())
+}
+
+/// What stands in front of digits so that their first bit is 0.
+fn sign_of(digits: &[u8]) -> &'static [u8]
+    ensures sign { result.now ++ digits.now ≡ with_sign digits.now }
+    ensures short { length result.now ≤ 1 }
+{
+    match digits {
+        [first, ..] if *first < 128 => &[],
+        _ => &[0],
+    }
+}
+
+/// How many octets a value has whose content has `content_len` octets.
+fn value_len(tag: u8, content_len: usize) -> usize
+    requires { content_len < 2 ^ 63 + 16 }
+    ensures len { result ≡ length (header tag content_len) + content_len }
+    ensures short { result ≤ content_len + 10 }
+{
+    header_len(tag, content_len) + content_len
+}
+
+/// Appends a value whose content is `front` and `back`.
+fn put_value<A: Allocator>(
+    out: &mut Vec<u8, A>,
+    tag: u8,
+    front: &[u8],
+    back: &[u8],
+) -> Result<(), AllocError>
+    requires has_tag { IsTag tag }
+    requires few { length front.now < 16 }
+    ensures ok { OnOk result (out.new.items ≡ out.old.items ++ value tag (front.now ++ back.now)) }
+    ensures err { OnErr result (out.new.items ≡ out.old.items) }
+    ensures succeeds { vec_len out.old + length (value tag (front.now ++ back.now)) ≤ vec_capacity out.old → IsOk result }
+    ensures capacity { vec_capacity out.old ≤ vec_capacity out.new }
+{
+    let content_len = front.len() + back.len();
+    out.reserve(value_len(tag, content_len))?;
+    put_header(out, tag, content_len)?;
+    out.extend_from_slice(front)?;
+    out.extend_from_slice(back)?;
+    Ok(())
+}
+
+/// How many octets the content of an INTEGER has.
+#[tactic(auto, unfolding(crate::specs::Der::integer, crate::specs::Der::octets))]
+fn integer_len(number: u32) -> usize
+    ensures len { result ≡ length (integer number) }
+    ensures short { result ≤ 9 }
+{
+    let octets = (number as u64).to_be_bytes();
+    let digits = significant(&octets);
+    sign_of(digits).len() + digits.len()
+}
+
+/// How many octets `put_u32` appends: at most 7.
+pub fn u32_len(number: u32) -> usize
+    ensures len { result ≡ length (u32_value number) }
+    ensures short { result ≤ 7 }
+{
+    value_len(tag::INTEGER, integer_len(number))
+}
+
+/// Appends an INTEGER (X.690, 8.3).
+#[tactic(auto, unfolding(crate::specs::Der::integer, crate::specs::Der::octets))]
+pub fn put_u32<A: Allocator>(out: &mut Vec<u8, A>, number: u32) -> Result<(), AllocError>
+    ensures ok { OnOk result (out.new.items ≡ out.old.items ++ u32_value number) }
+    ensures err { OnErr result (out.new.items ≡ out.old.items) }
+    ensures succeeds { vec_len out.old + length (u32_value number) ≤ vec_capacity out.old → IsOk result }
+    ensures capacity { vec_capacity out.old ≤ vec_capacity out.new }
+{
+    let octets = (number as u64).to_be_bytes();
+    let digits = significant(&octets);
+    put_value(out, tag::INTEGER, sign_of(digits), digits)
+}
+
+/// How many octets `put_bit_string` appends.
+pub fn bit_string_len(unused: u8, octets: &[u8]) -> usize
+    ensures len { result ≡ length (bit_string_value (bits_with unused octets.now)) }
+{
+    value_len(tag::BIT_STRING, 1 + octets.len())
+}
+
+/// Appends a BIT STRING (X.690, 8.6.2) of octets as they stand, whose last octet has `unused`
+/// unused bits: at most 7, and 0 where there is no octet.
+pub fn put_bit_string<A: Allocator>(
+    out: &mut Vec<u8, A>,
+    unused: u8,
+    octets: &[u8],
+) -> Result<(), AllocError>
+    requires { IsBits (bits_with unused octets.now) }
+    ensures ok { OnOk result (out.new.items ≡ out.old.items ++ bit_string_value (bits_with unused octets.now)) }
+    ensures err { OnErr result (out.new.items ≡ out.old.items) }
+    ensures succeeds { vec_len out.old + length (bit_string_value (bits_with unused octets.now)) ≤ vec_capacity out.old → IsOk result }
+    ensures capacity { vec_capacity out.old ≤ vec_capacity out.new }
+{
+    put_value(out, tag::BIT_STRING, &[unused], octets)
+}
+
+/// How many octets `put_octets` appends.
+pub fn octets_len(octets: &[u8]) -> usize
+    ensures len { result ≡ length (octet_string_value octets.now) }
+{
+    value_len(tag::OCTET_STRING, octets.len())
+}
+
+/// Appends an OCTET STRING (X.690, 8.7).
+pub fn put_octets<A: Allocator>(out: &mut Vec<u8, A>, octets: &[u8]) -> Result<(), AllocError>
+    ensures ok { OnOk result (out.new.items ≡ out.old.items ++ octet_string_value octets.now) }
+    ensures err { OnErr result (out.new.items ≡ out.old.items) }
+    ensures succeeds { vec_len out.old + length (octet_string_value octets.now) ≤ vec_capacity out.old → IsOk result }
+    ensures capacity { vec_capacity out.old ≤ vec_capacity out.new }
+{
+    put_value(out, tag::OCTET_STRING, &[], octets)
+}
+
+/// How many octets `put_null` appends.
+pub fn null_len() -> usize
+    ensures len { result ≡ length null_value }
+{
+    value_len(tag::NULL, 0)
+}
+
+/// Appends a NULL (X.690, 8.8).
+pub fn put_null<A: Allocator>(out: &mut Vec<u8, A>) -> Result<(), AllocError>
+    ensures ok { OnOk result (out.new.items ≡ out.old.items ++ null_value) }
+    ensures err { OnErr result (out.new.items ≡ out.old.items) }
+    ensures succeeds { vec_len out.old + length null_value ≤ vec_capacity out.old → IsOk result }
+    ensures capacity { vec_capacity out.old ≤ vec_capacity out.new }
+{
+    put_value(out, tag::NULL, &[], &[])
+}

@@ -1,0 +1,2 @@
+pub mod PrefixNumbers
+pub mod RangeLemmas

@@ -1,0 +1,87 @@
+//! Prefixes of addresses.
+ghost use Rattle.std.specs.Prelude.{◌≡◌, ◌≤◌};
+ghost use Rattle.rpki_ip.specs.Prefixes.{IsPrefix, cleared, last_of};
+
+use crate::addr::Addr;
+use std::marker::Model;
+
+/// The addresses that begin with the same bits (RFC 3779, 2.2.3.8).
+///
+/// The length is 0 to 128. The bits after it are clear in the prefix's address.
+#[derive(Clone, Copy, Debug, PartialEq, Eq, Hash)]
+pub struct Prefix {
+    addr: Addr,
+    len: u8,
+}
+
+impl Model for Prefix {
+    ghost use Rattle.rpki_ip.specs.Prefixes.{PrefixValue, IsPrefix};
+
+    ghost Value = { PrefixValue };
+
+    ghost view = { λ p. record { first = p.addr; len = p.len } };
+
+    ghost invariant = { λ p. IsPrefix 128 (record { first = p.addr; len = p.len }) };
+
+    ghost inverse = { λ p. record { addr = p.first; len = p.len } };
+}
+
+impl Prefix {
+    /// The prefix of the first `len` bits of an address. The length is at most 128.
+    pub fn new(addr: Addr, len: u8) -> Prefix
+        requires { len ≤ 128 }
+        ensures { result ≡ record { first = cleared 128 addr len; len = len } }
+    {
+        Prefix {
+            addr: addr.to_min(len),
+            len,
+        }
+    }
+
+    /// All addresses: the prefix of length 0.
+    pub fn all() -> Prefix
+        ensures { result ≡ record { first = 0; len = 0 } }
+    {
+        Prefix::new(Addr::from_bits(0), 0)
+    }
+
+    /// The prefix's address, which is its least one.
+    pub fn addr(self) -> Addr
+        ensures value { result ≡ self.first }
+        ensures prefix { IsPrefix 128 self }
+    {
+        self.addr
+    }
+
+    /// How many bits the addresses have in common.
+    pub fn addr_len(self) -> u8
+        ensures value { result ≡ self.len }
+        ensures prefix { IsPrefix 128 self }
+    {
+        self.len
+    }
+
+    /// The least and the greatest address.
+    pub fn range(self) -> (Addr, Addr)
+        ensures min { result.0 ≡ self.first }
+        ensures max { result.1 ≡ last_of 128 self }
+    {
+        (self.min(), self.max())
+    }
+
+    /// The least address.
+    pub fn min(self) -> Addr
+        ensures value { result ≡ self.first }
+        ensures prefix { IsPrefix 128 self }
+    {
+        self.addr
+    }
+
+    /// The greatest address.
+    pub fn max(self) -> Addr
+        ensures value { result ≡ last_of 128 self }
+        ensures prefix { IsPrefix 128 self }
+    {
+        self.addr.to_max(self.len)
+    }
+}

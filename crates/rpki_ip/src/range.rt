@@ -1,0 +1,163 @@
+//! Ranges of addresses.
+ghost use Rattle.std.specs.Prelude.{◌≡◌, ◌+◌, ◌-◌, ◌*◌, ◌^◌, ◌<◌, ◌≤◌, Ok, IfOk, IfErr};
+ghost use Rattle.rpki_ip.specs.Prefixes.{PrefixValue, IsPrefix};
+ghost use Rattle.rpki_ip.specs.Ranges.{IsRangeOf};
+
+use crate::addr::Addr;
+use crate::prefix::Prefix;
+use rpki_chain::block::Block;
+use std::marker::Model;
+
+/// The addresses from a least one to a greatest one, which may be the same (RFC 3779, 2.2.3.9).
+#[derive(Clone, Copy, Debug, PartialEq, Eq, Hash)]
+pub struct AddressRange {
+    min: Addr,
+    max: Addr,
+}
+
+impl Model for AddressRange {
+    ghost use Rattle.rpki_ip.specs.Ranges.{RangeValue, IsRange};
+
+    ghost Value = { RangeValue };
+
+    ghost view = { λ r. record { min = r.min; max = r.max } };
+
+    ghost invariant = { λ r. IsRange (record { min = r.min; max = r.max }) };
+
+    ghost inverse = { λ r. record { min = r.min; max = r.max } };
+}
+
+impl AddressRange {
+    /// The range from the least address to the greatest, which isn't below it.
+    pub fn new(min: Addr, max: Addr) -> AddressRange
+        requires { min ≤ max }
+        ensures { result ≡ record { min = min; max = max } }
+    {
+        AddressRange { min, max }
+    }
+
+    /// The range of a least address and a greatest, which isn't below it.
+    pub fn from_pair(pair: (Addr, Addr)) -> AddressRange
+        requires { pair.0 ≤ pair.1 }
+        ensures { result ≡ record { min = pair.0; max = pair.1 } }
+    {
+        AddressRange::new(pair.0, pair.1)
+    }
+
+    /// The least address.
+    pub fn min(&self) -> Addr
+        ensures value { result ≡ self.now.min }
+        ensures ordered { self.now.min ≤ self.now.max }
+    {
+        self.min
+    }
+
+    /// The greatest address.
+    pub fn max(&self) -> Addr
+        ensures value { result ≡ self.now.max }
+        ensures ordered { self.now.min ≤ self.now.max }
+    {
+        self.max
+    }
+
+    /// Makes another address the least one. It is at most the greatest.
+    pub fn set_min(&mut self, min: Addr)
+        requires { min ≤ self.old.max }
+        ensures { self.new ≡ record { min = min; max = self.old.max } }
+    {
+        self.min = min;
+    }
+
+    /// Makes another address the greatest one. It is at least the least.
+    pub fn set_max(&mut self, max: Addr)
+        requires { self.old.min ≤ max }
+        ensures { self.new ≡ record { min = self.old.min; max = max } }
+    {
+        self.max = max;
+    }
+
+    /// The prefix of exactly the range's addresses, or the range where there is none.
+    pub fn into_prefix(self) -> Result<Prefix, AddressRange>
+        ensures prefix { IfOk result (λ p. IsPrefix 128 p × IsRangeOf p self) }
+        ensures found { (p : PrefixValue) → IsPrefix 128 p → IsRangeOf p self → result ≡ Ok p }
+        ensures none { IfErr result (λ range. range ≡ self) }
+    {
+        let prefix = Prefix::new(self.min(), 128 - self.host_bits());
+        if AddressRange::from(prefix) == self {
+            Ok(prefix)
+        } else {
+            Err(self)
+        }
+    }
+
+    /// The binary logarithm of how many addresses there are, rounded down.
+    fn host_bits(&self) -> u8
+        ensures most { result ≤ 128 }
+        ensures low { 2 ^ result ≤ self.now.max - self.now.min + 1 }
+        ensures high { result < 128 → self.now.max - self.now.min + 1 < 2 * 2 ^ result }
+    {
+        match (self.max.to_bits() - self.min.to_bits()).checked_add(1) {
+            Some(count) => count.ilog2() as u8,
+            None => 128,
+        }
+    }
+}
+
+/// The range of the prefix's addresses.
+impl From<Prefix> for AddressRange {
+    ghost from_gives = { λ p r. IsRangeOf p r };
+
+    fn from(prefix: Prefix) -> AddressRange {
+        AddressRange::new(prefix.min(), prefix.max())
+    }
+}
+
+/// Ranges are blocks of the numbers 0 to 2^128 - 1, with one form.
+impl Block for AddressRange {
+    ghost use Rattle.std.specs.Prelude.{refl, true};
+    ghost use Rattle.rpki_ip.specs.Ranges.{range_bounds, RangeValue-one};
+
+    type Item = Addr;
+
+    ghost first = { 0 };
+
+    ghost last = { 340282366920938463463374607431768211455 };
+
+    ghost number = { λ n. n };
+
+    ghost item_at = { λ n. n };
+
+    ghost bounds = { range_bounds };
+
+    ghost is_new = { λ _. true };
+
+    ghost in_order = { λ x y. refl };
+
+    ghost no_gaps = { λ n low high. refl };
+
+    ghost one_item = { λ x y same. same };
+
+    ghost one_new_form = { λ x y new also same. RangeValue-one x y same };
+
+    fn new(min: Addr, max: Addr) -> AddressRange {
+        AddressRange::new(min, max)
+    }
+
+    fn min(&self) -> Addr {
+        AddressRange::min(self)
+    }
+
+    fn max(&self) -> Addr {
+        let max = AddressRange::max(self);
+        let _below = max.to_bits();
+        max
+    }
+
+    fn next(item: Addr) -> Option<Addr> {
+        item.to_bits().checked_add(1).map(Addr::from_bits)
+    }
+
+    fn previous(item: Addr) -> Option<Addr> {
+        item.to_bits().checked_sub(1).map(Addr::from_bits)
+    }
+}

@@ -1,0 +1,19 @@
+-- How a line is cut into a command, a kind and an argument.
+use Rattle.std.specs.Prelude.{ℕ, Bool, List, ◌==◌}
+use Rattle.std.specs.List.{before_first, after_first}
+
+-- the space, at which a word ends
+abbrev pub is_space : ℕ → Bool
+is_space byte = byte == 32
+
+-- the line up to its first space
+abbrev pub command_of : List ℕ → List ℕ
+command_of line = before_first is_space line
+
+-- what stands behind the command, up to its own first space
+abbrev pub kind_of : List ℕ → List ℕ
+kind_of line = before_first is_space (after_first is_space line)
+
+-- what stands behind the kind
+abbrev pub argument_of : List ℕ → List ℕ
+argument_of line = after_first is_space (after_first is_space line)

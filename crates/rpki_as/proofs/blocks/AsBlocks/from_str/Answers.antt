@@ -1,0 +1,33 @@
+use Rattle.std.proofs.Common.{Vec, Ok, Err}
+use Rattle.std.proofs.lemmas.Result.{err_from_is_err_and}
+use Rattle.rpki_base.specs.Lists.{elements}
+use Rattle.rpki_base.proofs.ListLemmas.{found_weaker}
+use Rattle.rpki_chain.proofs.RunLists.{IsRunsOf-from_chain}
+use Rattle.rpki_as.specs.Blocks.{as_bounds, is_new_as_block}
+use Rattle.rpki_as.specs.BlockText.{IsBlockText, HasBlockFault, ReadsBlock}
+use Rattle.rpki_as.specs.declared.block.AsBlock.{AsBlock}
+use Rattle.rpki_as.proofs.ListLemmas.{list_answers, IsAsListText-as_list_text}
+use Rattle.rpki_as.proofs.blocks.AsBlocks.from_str.Goals as goal
+
+pub returns-in_err-blocks-clause-exact : goal.returns-in_err-blocks-clause-exact
+returns-in_err-blocks-clause-exact g c =
+    let p = err_from_is_err_and c.from_residual.result c.from_residual.ensures.1 in
+    let found = found_weaker (λ t a. ReadsBlock t (Ok a)) IsBlockText (λ t e. ReadsBlock t (Err e)) HasBlockFault (λ t a h. h.exact.found) (λ t e h. h.exact.found) (λ (v : Vec AsBlock _). v.items) (elements c.args.text.now) c.read_list.result c.read_list.ensures in
+    rw (p.1, p.2) (list_answers (λ set. set) c.args.text.now (Err c.in_err-blocks.field-0.0) (rw c.in_err-blocks.was at found))
+
+pub returns-in_err-blocks-clause-reads_back : goal.returns-in_err-blocks-clause-reads_back
+returns-in_err-blocks-clause-reads_back g c =
+    λ set is printed. (returns-in_err-blocks-clause-exact g c).each_value set (IsAsListText-as_list_text c.args.text.now set is printed)
+
+pub returns-clause-exact : goal.returns-clause-exact
+returns-clause-exact g c =
+    let found = found_weaker (λ t a. ReadsBlock t (Ok a)) IsBlockText (λ t e. ReadsBlock t (Err e)) HasBlockFault (λ t a h. h.exact.found) (λ t e h. h.exact.found) (λ (v : Vec AsBlock _). v.items) (elements c.args.text.now) c.read_list.result c.read_list.ensures in
+    list_answers (λ set. set) c.args.text.now _ (record {
+      blocks = c.in_ok-blocks.blocks.items;
+      are_written = rw c.in_ok-blocks.was at found;
+      covered = IsRunsOf-from_chain as_bounds is_new_as_block _ _ (rw c.as_slice.ensures.value at c.in_ok-chain.ensures);
+    })
+
+pub returns-clause-reads_back : goal.returns-clause-reads_back
+returns-clause-reads_back g c =
+    λ set is printed. (returns-clause-exact g c).each_value set (IsAsListText-as_list_text c.args.text.now set is printed)

@@ -1,0 +1,46 @@
+-- Texts of blocks of AS numbers.
+use Rattle.std.specs.Prelude.{◌≡◌, ℕ, ◌≤◌, ◌<◌, ◌^◌, List, ◌∷◌, ◌++◌, Result, Ok}
+use Rattle.rpki_base.specs.AsnText.{IsAsnText, asn_text}
+use Rattle.rpki_base.specs.Cuts.{HasNo, Around, dash}
+use Rattle.rpki_base.specs.Reading.{Answers}
+use Rattle.rpki_as.specs.Blocks.{range_bounds, as_bounds}
+use Rattle.rpki_as.specs.declared.range.AsRange.{AsRange}
+use Rattle.rpki_as.specs.declared.block.AsBlock.{AsBlock}
+use Rattle.rpki_as.specs.declared.block.AsBlock.TheVariants.{Id, Range}
+use Rattle.rpki_as.specs.declared.error.FromStrError.{FromStrError}
+use Rattle.rpki_as.specs.declared.error.FromStrError.TheVariants.{BadAsn, BadRange, BadBlocks}
+
+-- both texts are AS numbers, the first at most the second
+pub record IsRangeBetween (left right : List ℕ) (b : ℕ × ℕ) : Type 0 where
+  pub min_text : IsAsnText left b.0
+  pub max_text : IsAsnText right b.1
+  pub in_order : b.0 ≤ b.1
+
+-- the texts are no such numbers
+abbrev pub NoRange : List ℕ → List ℕ → Type 0
+NoRange left right = (b : ℕ × ℕ) → ¬ IsRangeBetween left right b
+
+-- the text writes the block: without a dash an AS number, and else a range round its first dash
+abbrev pub IsBlockText : List ℕ → AsBlock → Type 0
+IsBlockText text (Id n) = HasNo dash text × IsAsnText text n
+IsBlockText text (Range r) = Around dash text (λ left right. IsRangeBetween left right (range_bounds r))
+
+-- this is what is wrong with a text that writes no block
+abbrev pub HasBlockFault : List ℕ → FromStrError → Type 0
+HasBlockFault text BadAsn = HasNo dash text × ((n : ℕ) → ¬ IsAsnText text n)
+HasBlockFault text BadRange = Around dash text NoRange
+HasBlockFault text BadBlocks = ⊥
+
+-- what is printed of a range
+abbrev pub range_text : AsRange → List ℕ
+range_text r = asn_text (range_bounds r).0 ++ dash ∷ asn_text (range_bounds r).1
+
+-- what is printed of a block
+abbrev pub block_text : AsBlock → List ℕ
+block_text (Id n) = asn_text n
+block_text (Range r) = range_text r
+
+-- The text is read as the block that it writes, or as the fault that it has. What is printed of a block is read as it.
+pub record ReadsBlock (text : List ℕ) (r : Result AsBlock FromStrError) : Type 0 where
+  pub exact : Answers (IsBlockText text) (HasBlockFault text) r
+  pub reads_back : (b : AsBlock) → (as_bounds b).1 < 2 ^ 32 → text ≡ block_text b → r ≡ Ok b

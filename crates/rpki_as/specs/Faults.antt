@@ -1,0 +1,10 @@
+-- What is printed of the faults of AS block texts.
+use Rattle.std.specs.Prelude.{ℕ, List, codes}
+use Rattle.rpki_as.specs.declared.error.FromStrError.{FromStrError}
+use Rattle.rpki_as.specs.declared.error.FromStrError.TheVariants.{BadAsn, BadRange, BadBlocks}
+
+-- the text of each fault
+abbrev pub from_str_error_text : FromStrError → List ℕ
+from_str_error_text BadAsn = codes "Bad AS number. Expected format: AS#"
+from_str_error_text BadRange = codes "Bad AS range. Expected format: AS#-AS#"
+from_str_error_text BadBlocks = codes "Cannot parse blocks."

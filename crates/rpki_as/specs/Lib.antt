@@ -1,0 +1,5 @@
+pub mod BlockForms
+pub mod Blocks
+pub mod BlockText
+pub mod Faults
+pub mod ListText

@@ -1,0 +1,8 @@
+//! Blocks of AS numbers and sets of them (RFC 3779, 3), with their texts.
+#![tactic(auto)]
+
+pub mod block;
+pub mod blocks;
+pub mod error;
+pub mod range;
+mod text;

@@ -12,27 +12,34 @@ use Rattle.rpki_der.proofs.Lengths.{length_takes, length_again}
 
 -- ---- values of any tag
 
+-- the value whose content is the next n octets, and what follows
+abbrev cut : ℕ → ℕ → List ℕ → Tlv × List ℕ
+cut tag n bytes = (record { tag = tag; content = take n bytes }, drop n bytes)
+
+-- a tag, the octets of a length, and as many octets, are a value
+value_front : (tag n : ℕ) (bytes after : List ℕ) (v : Tlv) (rest : List ℕ) → IsTag tag → n < 2 ^ 64 → bytes ≡ length_octets n ++ after → n ≤ length after
+    → cut tag n after ≡ (v, rest) → Front IsTlv (tag ∷ bytes) v rest
+unfolding header
+value_front tag n bytes after v rest low lt split enough made =
+    let content = take n after in
+    let len : length content ≡ n = omega (arith, length-take n after) in
+    let parts : length_octets n ++ content ++ drop n after ≡ bytes = append_assoc (length_octets n) content (drop n after) ∙ ap (λ (x : List ℕ). length_octets n ++ x) (take-append-drop n after) ∙ sym split in
+    let whole : tag ∷ bytes ≡ value tag content ++ drop n after = rw (len, parts) refl in
+    subst (λ (p : Tlv × List ℕ). Front IsTlv (tag ∷ bytes) p.0 p.1) made (value tag content, record { has_tag = low; short = omega arith; spelled = refl }, whole)
+
 value_takes : (bytes : List ℕ) (v : Tlv) (rest : List ℕ) → IsBytes bytes → value_at bytes ≡ Ok (v, rest) → Front IsTlv bytes v rest
-unfolding value_at header
+unfolding value_at
 value_takes [] v rest fits e = absurd cc
 value_takes (tag ∷ bytes) v rest fits e =
-    let finds : ℕ × List ℕ → Result (Tlv × List ℕ) DerError = λ len. cond (ltb (length len.1) len.0) (Err Truncated) (Ok (record { tag = tag; content = take len.0 len.1 }, drop len.0 len.1)) in
+    let finds : ℕ × List ℕ → Result (Tlv × List ℕ) DerError = λ len. cond (ltb (length len.1) len.0) (Err Truncated) (Ok (cut tag len.0 len.1)) in
     let g1 = passed (eqb (tag % 32) 31) BadTag (length_at bytes >>= finds) (v, rest) e in
     let len = bind_ok (length_at bytes) finds (v, rest) g1.1 in
     let n = len.0.0 in
     let after = len.0.1 in
-    let content = take n after in
-    let g2 = passed (ltb (length after) n) Truncated (Ok (record { tag = tag; content = content }, drop n after)) (v, rest) len.2 in
-    let made = ok_is (record { tag = tag; content = content }, drop n after) (v, rest) g2.1 in
+    let g2 = passed (ltb (length after) n) Truncated (Ok (cut tag n after)) (v, rest) len.2 in
     let long = length_takes bytes n after (IsBytes-rest tag bytes fits) len.1 in
-    let enough : n ≤ length after = ltb-false (length after) n g2.0 in
-    let exact : length content ≡ n = omega (arith, length-take n after) in
-    let whole : tag ∷ bytes ≡ value tag content ++ drop n after =
-    rw (exact) (ap (λ (x : List ℕ). tag ∷ x) (long.0 ∙ ap (λ (x : List ℕ). length_octets n ++ x) (sym (take-append-drop n after)) ∙ sym (append_assoc (length_octets n) content (drop n after)))) in
     let apart : tag % 32 ≢ 31 = eqb-false (tag % 32) 31 g1.0 in
-    let low : tag % 32 < 31 = omega arith in
-    let short : length content < 2 ^ 64 = omega (arith, long.1) in
-    subst (λ (p : Tlv × List ℕ). Front IsTlv (tag ∷ bytes) p.0 p.1) made (value tag content, record { has_tag = low; short = short; spelled = refl }, whole)
+    value_front tag n bytes after v rest (omega arith) long.1 long.0 (ltb-false (length after) n g2.0) (ok_is (cut tag n after) (v, rest) g2.1)
 
 value_again_spelled : (tag : ℕ) (content rest : List ℕ) → IsTag tag → length content < 2 ^ 64 → value_at (value tag content ++ rest) ≡ Ok (record { tag = tag; content = content }, rest)
 unfolding value_at header

@@ -33,14 +33,14 @@ impl<'a> Content<'a> {
 
     /// The tag octet.
     pub fn tag(&self) -> u8
-        ensures { result ≡ (tlv self.now).tag }
+        ensures tag { result ≡ (tlv self.now).tag }
     {
         self.tag
     }
 
     /// The octets of the content.
     pub fn bytes(&self) -> &'a [u8]
-        ensures { result.now ≡ content_octets self.now }
+        ensures octets { result.now ≡ content_octets self.now }
     {
         self.octets
     }
@@ -140,28 +140,28 @@ impl<'a> BitString<'a> {
 
     /// How many bits of the last octet are unused: 0 to 7, and 0 where there is no octet.
     pub fn unused(&self) -> u8
-        ensures { result ≡ (bits_of self.now).unused }
+        ensures unused { result ≡ (bits_of self.now).unused }
     {
         self.unused
     }
 
     /// The octets as they stand, the unused bits among them.
     pub fn octets(&self) -> &'a [u8]
-        ensures { result.now ≡ (bits_of self.now).octets }
+        ensures octets { result.now ≡ (bits_of self.now).octets }
     {
         self.octets
     }
 
     /// How many octets there are.
     pub fn octet_len(&self) -> usize
-        ensures { result ≡ length (bits_of self.now).octets }
+        ensures len { result ≡ length (bits_of self.now).octets }
     {
         self.octets.len()
     }
 
     /// How many bits are used.
     pub fn bit_len(&self) -> u128
-        ensures { result ≡ bit_count (bits_of self.now) }
+        ensures len { result ≡ bit_count (bits_of self.now) }
     {
         8 * self.octets.len() as u128 - self.unused as u128
     }

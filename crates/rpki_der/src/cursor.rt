@@ -32,21 +32,21 @@ impl<'a> Cursor<'a> {
 
     /// Whether no octet is left.
     pub fn is_empty(&self) -> bool
-        ensures { result ≡ (length (left self.now) == 0) }
+        ensures empty { result ≡ (length (left self.now) == 0) }
     {
         self.octets.is_empty()
     }
 
     /// The octets that are left.
     pub fn rest(&self) -> &'a [u8]
-        ensures { result.now ≡ left self.now }
+        ensures octets { result.now ≡ left self.now }
     {
         self.octets
     }
 
     /// The next octet, which is the tag of the next value if one is there; None at the end.
     pub fn peek_tag(&self) -> Option<u8>
-        ensures { result ≡ slice_get (left self.now) 0 }
+        ensures next { result ≡ slice_get (left self.now) 0 }
     {
         self.octets.first().copied()
     }

@@ -40,13 +40,13 @@ pub enum DerError {
 impl DerError {
     /// The number of the fault, from 1 to 13.
     pub fn number(&self) -> u8
-        ensures { result ≡ fault_number self.now }
+        ensures number { result ≡ fault_number self.now }
     {
         *self as u8
     }
 
     fn name(&self) -> &'static str
-        ensures { result.now ≡ fault_name self.now }
+        ensures name { result.now ≡ fault_name self.now }
     {
         match self {
             DerError::Truncated => "Truncated",

@@ -11,7 +11,7 @@ use crate::error::DerError;
 /// The number that octets spell, the most significant first.
 pub(crate) fn number_of(digits: &[u8]) -> u64
     requires { length digits.now ≤ 8 }
-    ensures { result ≡ big_endian digits.now }
+    ensures number { result ≡ big_endian digits.now }
 {
     let mut padded = [0; 8];
     padded[8 - digits.len()..].copy_from_slice(digits);
@@ -21,7 +21,7 @@ pub(crate) fn number_of(digits: &[u8]) -> u64
 // The length in the next `count` octets, and what follows them.
 #[tactic(auto, unfolding(crate::specs::Reading::long_length_at))]
 fn long_length_of(count: usize, octets: &[u8]) -> Result<(usize, &[u8]), DerError>
-    ensures { Gives (λ x. (x.0, x.1.now)) result (long_length_at count octets.now) }
+    ensures exact { Gives (λ x. (x.0, x.1.now)) result (long_length_at count octets.now) }
 {
     if count == 0 || count > 8 {
         return Err(DerError::BadLength);
@@ -40,7 +40,7 @@ fn long_length_of(count: usize, octets: &[u8]) -> Result<(usize, &[u8]), DerErro
 // The length at the front of octets, and what follows it.
 #[tactic(auto, unfolding(crate::specs::Reading::length_at))]
 fn length_of(octets: &[u8]) -> Result<(usize, &[u8]), DerError>
-    ensures { Gives (λ x. (x.0, x.1.now)) result (length_at octets.now) }
+    ensures exact { Gives (λ x. (x.0, x.1.now)) result (length_at octets.now) }
 {
     let [first, rest @ ..] = octets else {
         return Err(DerError::Truncated);
@@ -55,7 +55,7 @@ fn length_of(octets: &[u8]) -> Result<(usize, &[u8]), DerError>
 /// The value at the front of octets, and what follows it.
 #[tactic(auto, unfolding(crate::specs::Reading::value_at))]
 pub(crate) fn value_of(octets: &[u8]) -> Result<(Content<'_>, &[u8]), DerError>
-    ensures { Gives (λ x. (tlv x.0, x.1.now)) result (value_at octets.now) }
+    ensures exact { Gives (λ x. (tlv x.0, x.1.now)) result (value_at octets.now) }
 {
     let [tag, rest @ ..] = octets else {
         return Err(DerError::Truncated);

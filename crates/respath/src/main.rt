@@ -1,4 +1,4 @@
-//! Answers each line of the standard input with one line on the standard output.
+//! The program `respath`: it answers each line of the standard input with one line on the standard output.
 #![tactic(auto)]
 
 mod adapters;
@@ -8,12 +8,19 @@ mod device;
 mod engine;
 mod error;
 mod norm;
+#[cfg(test)]
+mod slices;
+#[cfg(test)]
+mod tests;
 
 use adapters::{FromRead, IntoWrite};
 use engine::run;
 use error::RunError;
 use std::io::BufWriter;
 use std::process::ExitCode;
+
+/// The bytes that are kept back before they are written to the standard output.
+const BUFFER: usize = 64 * 1024;
 
 fn main(rt: HostRuntime) -> ExitCode {
     match serve(&rt) {
@@ -28,7 +35,7 @@ fn main(rt: HostRuntime) -> ExitCode {
 
 /// Runs the engine over the standard streams.
 fn serve(rt: &HostRuntime) -> Result<(), RunError> {
-    let Ok(buffered) = BufWriter::new(rt.alloc(), rt.stdout()) else {
+    let Ok(buffered) = BufWriter::with_capacity(rt.alloc(), BUFFER, rt.stdout()) else {
         return Err(RunError::Memory);
     };
     let mut reader = FromRead::new(rt.stdin());

@@ -15,7 +15,7 @@ use Rattle.rpki_base.specs.Numbers.{IsNumberText}
 use Rattle.rpki_base.specs.AsnText.{IsAsnText, IsAsAnd, IsAfterAs, asn_text, ReadsAsn}
 
 -- fronts of one length leave the same rest
-same_rest : (xs ys rest other : List ℕ) → length xs ≡ length ys → xs ++ rest ≡ ys ++ other → rest ≡ other
+pub same_rest : (xs ys rest other : List ℕ) → length xs ≡ length ys → xs ++ rest ≡ ys ++ other → rest ≡ other
 same_rest [] [] rest other l e = e
 same_rest [] (y ∷ ys) rest other l e = absurd (omega (arith, l))
 same_rest (x ∷ xs) [] rest other l e = absurd (omega (arith, l))

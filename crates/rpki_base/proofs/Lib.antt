@@ -1,5 +1,9 @@
+pub mod AddressLemmas
+pub mod AddressReads
 pub mod AsnLemmas
 pub mod CutLemmas
+pub mod DigitLemmas
 pub mod ListLemmas
 pub mod NumberLemmas
+pub mod PrintedAddressLemmas
 pub mod PrintedLemmas

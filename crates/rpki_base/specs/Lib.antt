@@ -1,7 +1,11 @@
+pub mod AddressText
 pub mod AsnText
 pub mod Cuts
 pub mod Digits
 pub mod Lists
 pub mod Memory
 pub mod Numbers
+pub mod Orders
+pub mod PrintedAddress
 pub mod Reading
+pub mod ReadsAddress

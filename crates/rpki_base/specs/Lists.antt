@@ -17,10 +17,14 @@ kept parts = filter (λ part. nat_lt 0 (length part)) (map trim parts)
 unfoldable pub elements : List ℕ → List (List ℕ)
 elements text = kept (slice_split (λ b. b == comma) text)
 
+-- the texts with another between each two of them
+abbrev pub joined_by : List ℕ → List (List ℕ) → List ℕ
+joined_by between [] = []
+joined_by between (text ∷ more) = text ++ flat_map (λ next. between ++ next) more
+
 -- what is printed of a list: the texts with a comma and a space between them
 abbrev pub joined : List (List ℕ) → List ℕ
-joined [] = []
-joined (text ∷ more) = text ++ flat_map (λ next. codes ", " ++ next) more
+joined texts = joined_by (codes ", ") texts
 
 -- each text has the value beside it
 abbrev pub HaveValues : {A : Type 0} → (List ℕ → A → Type 0) → List (List ℕ) → List A → Type 0

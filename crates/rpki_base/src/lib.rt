@@ -1,7 +1,9 @@
-//! What every layer above shares: number texts, AS numbers, lists of texts, and the answer of a call that may want memory.
+//! What every layer above shares: number texts, addresses, AS numbers, lists of texts, and the answer of a call that may want memory.
 #![tactic(auto)]
 
+pub mod addr;
 pub mod asn;
+pub mod laws;
 pub mod list;
 pub mod memory;
 pub mod number;

@@ -7,12 +7,76 @@ ghost use Rattle.rpki_base.specs.Lists.{elements, joined, HaveValues, HasFirstFa
 use crate::memory::OrMemory;
 use std::alloc::Allocator;
 use std::fmt;
+use std::marker::PhantomData;
 use std::str::FromStr;
+
+/// Reads the elements of a list.
+pub trait ReadElement {
+    /// What an element writes.
+    type Value: Drop;
+
+    /// What may be wrong with an element.
+    type Fault;
+
+    // The text writes the value.
+    ghost has: { Self → List ℕ → Self.Value → Type 0 };
+
+    // The text has the fault.
+    ghost fails: { Self → List ℕ → Self.Fault → Type 0 };
+
+    /// The value that the text of an element writes, or what is wrong with it.
+    fn read_element(&self, text: &str) -> Result<Self::Value, Self::Fault>
+        ensures { MatchResult result (has self.now text.now) (fails self.now text.now) };
+}
 
 /// The values that the elements of a list write, in its order.
 ///
 /// The text is cut at its commas, each part is trimmed of white space, and a part that is then
 /// empty is left out. The first element that writes no value is refused with its fault.
+pub fn read_elements<R: ReadElement, A: Allocator + Drop>(
+    alloc: A,
+    reader: &R,
+    text: &str,
+) -> Result<Vec<R::Value, A>, OrMemory<R::Fault>>
+    ensures { MatchResult result
+        (λ values. HaveValues (R.has reader.now) (elements text.now) values.items)
+        (IfRefused (HasFirstFault (R.has reader.now) (R.fails reader.now) (elements text.now))) }
+{
+    let mut values = Vec::new(alloc);
+    for part in text.split(',') {
+        let element = part.trim();
+        if element.is_empty() {
+            continue;
+        }
+        match reader.read_element(element) {
+            Ok(value) => values.push(value)?,
+            Err(fault) => return Err(OrMemory::Refused(fault)),
+        }
+    }
+    Ok(values)
+}
+
+/// Reads elements by their type's own `FromStr`.
+#[derive(Drop)]
+struct ByFromStr<T> {
+    value: PhantomData<T>,
+}
+
+impl<T: FromStr + Drop> ReadElement for ByFromStr<T> {
+    type Value = T;
+
+    type Fault = T::Err;
+
+    ghost has = { λ _ text value. T.from_str_gives text (Ok value) };
+
+    ghost fails = { λ _ text fault. T.from_str_gives text (Err fault) };
+
+    fn read_element(&self, text: &str) -> Result<T, T::Err> {
+        T::from_str(text)
+    }
+}
+
+/// The values that the elements of a list write, each read by its type's own `FromStr`, as [`read_elements`] answers.
 pub fn read_list<T: FromStr + Drop, A: Allocator + Drop>(
     alloc: A,
     text: &str,
@@ -21,18 +85,8 @@ pub fn read_list<T: FromStr + Drop, A: Allocator + Drop>(
         (λ values. HaveValues (λ t value. T.from_str_gives t (Ok value)) (elements text.now) values.items)
         (IfRefused (HasFirstFault (λ t value. T.from_str_gives t (Ok value)) (λ t fault. T.from_str_gives t (Err fault)) (elements text.now))) }
 {
-    let mut values = Vec::new(alloc);
-    for part in text.split(',') {
-        let element = part.trim();
-        if element.is_empty() {
-            continue;
-        }
-        match T::from_str(element) {
-            Ok(value) => values.push(value)?,
-            Err(fault) => return Err(OrMemory::Refused(fault)),
-        }
-    }
-    Ok(values)
+    let reader = ByFromStr { value: PhantomData };
+    read_elements(alloc, &reader, text)
 }
 
 /// Prints items joined by a comma and a space, and nothing where there are none.

@@ -1,18 +1,18 @@
 -- Each part adds its value, is left out, or is the first fault.
-use Rattle.std.proofs.Common.{length, map, Ok, Err, sym, ◌∙◌, lit<}
+use Rattle.std.proofs.Common.{length, map, sym, ◌∙◌, lit<}
 use Rattle.std.proofs.lemmas.Bool.{eqb-false}
 use Rattle.std.proofs.lemmas.Iterator.Splits.{YieldsList-from_str_split}
 use Rattle.std.proofs.lemmas.Iterator.Consumers.{YieldsList-turn, YieldsList-end, YieldsList-so_far, YieldsList-at}
 use Rattle.std.proofs.lemmas.List.{map-append}
 use Rattle.rpki_base.proofs.ListLemmas.{fault_at, values_more, elements_are}
-use Rattle.rpki_base.proofs.list.read_list.Goals as goal
+use Rattle.rpki_base.proofs.list.read_elements.Goals as goal
 
 -- one more value
 pub loop-part-preserved : goal.loop-part-preserved
 loop-part-preserved g c =
     let some = eqb-false (length c.trim-element.result.now) 0 (sym c.is_empty.ensures ∙ c.if-is_empty.false) in
     let value = rw c.trim-element.ensures.trim at c.in-Ok.ensures in
-    rw (map-append, c.in_ok-push-in-Ok.ensures.items) (values_more (λ t a. g.T.FromStr.from_str_gives t (Ok a)) (map (λ p. p.now) c.loop-part.yielded) c.in-Some.part.now _ _ c.loop-part.invariant (rw c.trim-element.ensures.trim at some) value)
+    rw (map-append, c.in_ok-push-in-Ok.ensures.items) (values_more (g.R.ReadElement.has c.args.reader.now) (map (λ p. p.now) c.loop-part.yielded) c.in-Some.part.now _ _ c.loop-part.invariant (rw c.trim-element.ensures.trim at some) value)
 
 pub returns-in-Err : goal.returns-in-Err
 returns-in-Err g c =
@@ -22,7 +22,7 @@ returns-in-Err g c =
     let some = eqb-false (length c.trim-element.result.now) 0 (sym c.is_empty.ensures ∙ c.if-is_empty.false) in
     let fault = rw c.trim-element.ensures.trim at c.in-Err.ensures in
     let before = rw sofar at c.loop-part.invariant in
-    fault_at (λ t a. g.T.FromStr.from_str_gives t (Ok a)) (λ t e. g.T.FromStr.from_str_gives t (Err e)) c.args.text.now (length c.loop-part.yielded) c.in-Some.part.now c.loop-part.values.items c.in-Err.fault here (rw c.trim-element.ensures.trim at some) before fault
+    fault_at (g.R.ReadElement.has c.args.reader.now) (g.R.ReadElement.fails c.args.reader.now) c.args.text.now (length c.loop-part.yielded) c.in-Some.part.now c.loop-part.values.items c.in-Err.fault here (rw c.trim-element.ensures.trim at some) before fault
 
 pub returns : goal.returns
 returns g c =

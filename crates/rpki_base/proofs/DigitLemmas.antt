@@ -1,0 +1,47 @@
+-- On numbers as digits.
+use Rattle.std.proofs.Common.{◌≡◌, ℕ, zero, suc, ◌+◌, ◌*◌, ◌/◌, ◌%◌, ◌^◌, ◌<◌, ◌≤◌, List, [], ◌∷◌, ◌++◌, length, get_or, arith, refl, ◌∙◌, length-append, add-one}
+use Rattle.std.specs.Int.Digits.{number_from_digits}
+use Rattle.std.specs.List.{AllByRecursion}
+use Rattle.std.proofs.lemmas.Int.Digits.{number_push}
+use Rattle.std.proofs.lemmas.Nat.{div_below, mod_below}
+use Rattle.std.proofs.lemmas.Nat.{mul-add-lt}
+use Rattle.std.proofs.Math.Nat.{pow-zero, pow-suc, pow-succ', pow-le-pow_right, div-add-mod, mul_comm}
+use Rattle.rpki_base.specs.Digits.{last_digits}
+
+module _ (base : ℕ) (some : 0 < base) where
+  -- a number below base ^ k is that of its last k digits
+  pub number-last_digits : (k n : ℕ) → n < base ^ k → number_from_digits base (last_digits base k n) ≡ n
+  number-last_digits zero n below = omega (arith, below, pow-zero base)
+  number-last_digits (suc k) n below =
+      let rest : n / base < base ^ k = div_below n base (base ^ k) some (rw pow-suc at below) in
+      number_push base (last_digits base k (n / base)) (n % base)
+      ∙ (rw (number-last_digits k (n / base) rest, mul_comm (n / base) base) (div-add-mod n base))
+
+  pub length-last_digits : (k n : ℕ) → length (last_digits base k n) ≡ k
+  length-last_digits zero n = refl
+  length-last_digits (suc k) n = omega (arith, length-append (last_digits base k (n / base)) ((n % base) ∷ []), length-last_digits k (n / base))
+
+  below_push : (xs : List ℕ) (d : ℕ) → AllByRecursion (λ x. x < base) xs → d < base → AllByRecursion (λ x. x < base) (xs ++ d ∷ [])
+  below_push [] d h l = (l, tt)
+  below_push (x ∷ xs) d h l = (h.0, below_push xs d h.1 l)
+
+  pub last_digits_below : (k n : ℕ) → AllByRecursion (λ x. x < base) (last_digits base k n)
+  last_digits_below zero n = tt
+  last_digits_below (suc k) n = below_push (last_digits base k (n / base)) (n % base) (last_digits_below k (n / base)) (mod_below n base some)
+
+  each_below : (xs : List ℕ) → AllByRecursion (λ x. x < base) xs → (k : ℕ) → get_or xs k 0 < base
+  each_below [] h k = some
+  each_below (x ∷ xs) h k = let later = each_below xs h.1 in elim k as (λ j. get_or (x ∷ xs) j 0 < base) [ zero ↦ h.0 | suc j ↦ later j ]
+
+  pub last_digit_below : (k n i : ℕ) → get_or (last_digits base k n) i 0 < base
+  last_digit_below k n i = each_below (last_digits base k n) (last_digits_below k n) i
+
+  -- one digit more keeps the number below the next power
+  pub next_below : (i v d : ℕ) → v < base ^ i → d < base → v * base + d < base ^ (i + 1)
+  next_below i v d h l = rw (add-one, pow-succ' base i) (mul-add-lt v base d (base ^ i) h l)
+
+  pub below_power : (i k v d : ℕ) → i < k → v < base ^ i → d < base → v * base + d < base ^ k
+  below_power i k v d less h l =
+      let step = next_below i v d h l in
+      let up : base ^ (i + 1) ≤ base ^ k = pow-le-pow_right some (omega arith) in
+      omega (arith, step, up)

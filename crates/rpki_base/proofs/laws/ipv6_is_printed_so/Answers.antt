@@ -1,0 +1,11 @@
+-- The printed text is the one that is asked for.
+use Rattle.std.proofs.Common.{sym, subst}
+use Rattle.rpki_base.specs.PrintedAddress.{IsPrintedIpv6, ipv6_text}
+use Rattle.rpki_base.proofs.PrintedAddressLemmas.{IsPrintedIpv6-ipv6_text, IsPrintedIpv6-one}
+use Rattle.rpki_base.proofs.laws.ipv6_is_printed_so.Goals as goal
+
+pub returns : goal.returns
+returns c = λ n small text. (
+  (λ h. IsPrintedIpv6-one n text (ipv6_text n) h (IsPrintedIpv6-ipv6_text n small)),
+  λ is. subst (IsPrintedIpv6 n) (sym is) (IsPrintedIpv6-ipv6_text n small),
+)

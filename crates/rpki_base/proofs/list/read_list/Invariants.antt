@@ -1,8 +1,0 @@
--- What the loop over the parts keeps.
-use Rattle.std.proofs.Common.{map, Ok}
-use Rattle.rpki_base.specs.Lists.{kept, HaveValues}
-use Rattle.rpki_base.proofs.list.read_list.Given as goal
-
--- the values so far are those of the parts so far, as kept
-abbrev pub invariant-loop-part : goal.invariant-loop-part
-invariant-loop-part g l = HaveValues (λ t a. g.T.FromStr.from_str_gives t (Ok a)) (kept (map (λ p. p.now) l.yielded)) l.values.items

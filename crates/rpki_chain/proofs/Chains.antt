@@ -1,11 +1,17 @@
 -- Lists of blocks that ascend and neither overlap nor touch, and what they cover.
-use Rattle.std.proofs.Common.{◌≡◌, ℕ, ◌+◌, ◌-◌, ◌<◌, ◌≤◌, ◌↔◌, ◌⊎◌, inl, inr, ⊎_elim, Bool, List, [], ◌∷◌, ◌++◌, length, get_or, set, IsTrue, sym, ap, ◌∙◌, subst, arith}
+use Rattle.std.proofs.Common.{◌≡◌, ℕ, ◌+◌, ◌-◌, ◌<◌, ◌≤◌, ◌↔◌, ◌⊎◌, inl, inr, ⊎_elim, Bool, List, [], ◌∷◌, ◌++◌, length, get_or, set, IsTrue, refl, sym, ap, ◌∙◌, subst, arith, zero, suc}
 use Rattle.std.proofs.Math.Nat.{le_refl}
 use Rattle.std.proofs.lemmas.Bool.{cases_lt, cases_eq}
 use Rattle.std.proofs.lemmas.List.{get_or_append_left, get_or_push, length_push, length-set, get_or-set_same, get_or-set_other, get_or_default}
 use Rattle.std.proofs.lemmas.List.Elements.{All-push, All-set}
 use Rattle.std.proofs.lemmas.List.Quantifiers.{Any-push, all_pairs_push, any-set}
 use Rattle.rpki_chain.specs.Sets.{IsWithin, Covers, IsRun, IsChain, IsChainOf}
+
+-- the element at an index
+pub element_at : {B : Type 0} (xs : List B) (i : ℕ) → i < length xs → (x : B) × (x ≡ get_or xs i x)
+element_at [] i lt = absurd (omega arith)
+element_at (x ∷ xs) zero lt = (x, refl)
+element_at (x ∷ xs) (suc i) lt = element_at xs i (omega arith)
 
 module _ {B : Type 0} (f : B → ℕ × ℕ) where
   -- no block covers nothing
@@ -107,6 +113,13 @@ module _ {B : Type 0} (f : B → ℕ × ℕ) where
               (cases_eq j at);
           new_form = All-set (λ x. IsTrue (is_new x)) xs at y new h.new_form;
         }
+
+    -- a later block begins no earlier
+    pub ascends : (xs : List B) → IsChain f is_new xs → (i k : ℕ) (d : B) → i ≤ k → k < length xs → (f (get_or xs i d)).0 ≤ (f (get_or xs k d)).0
+    ascends xs h i k d le lt = ⊎_elim
+        (λ (before : i < k). let a = h.apart i k d before lt in let o = h.ordered i d (omega arith) in omega arith)
+        (λ (not : k ≤ i). let same : i ≡ k = omega arith in let P : ℕ → Type 0 = λ j. (f (get_or xs i d)).0 ≤ (f (get_or xs j d)).0 in subst P same (omega arith))
+        (cases_lt i k)
 
     -- the set that a chain covers has the chain's blocks for its runs
     pub IsChainOf-itself : (xs : List B) → IsChain f is_new xs → IsChainOf f is_new (Covers f xs) xs

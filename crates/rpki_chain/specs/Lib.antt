@@ -4,3 +4,7 @@ pub mod Props
 pub mod Runs
 pub mod Sets
 pub mod View
+pub mod Cut
+pub mod Equality
+pub mod Fit
+pub mod Overhang

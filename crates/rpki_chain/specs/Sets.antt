@@ -1,15 +1,23 @@
 -- Sets of whole numbers: what a list of blocks covers, the runs of a set, and the chain of its runs (RFC 3779, 2.2.3.6
 -- and 3.2.3.4: blocks are sorted, don't overlap, and are combined where they are contiguous).
 -- `bounds` gives the least and the greatest number of a block.
-use Rattle.std.specs.Prelude.{◌≡◌, ℕ, ◌+◌, ◌<◌, ◌≤◌, ◌↔◌, Bool, List, IsTrue, All, Any, AllPairs}
+use Rattle.std.specs.Prelude.{◌≡◌, ℕ, ◌+◌, ◌<◌, ◌≤◌, ◌↔◌, Bool, List, Option, MatchOption, length, slice_index_or, IsTrue, All, Any, AllPairs}
 
 -- n is none below the least and none above the greatest number
 abbrev pub IsWithin : ℕ × ℕ → ℕ → Type 0
 IsWithin b n = (b.0 ≤ n) × (n ≤ b.1)
 
+-- the bounds have a number in common, or touch
+abbrev pub IsBeside : ℕ × ℕ → ℕ × ℕ → Type 0
+IsBeside b c = (b.0 ≤ c.1 + 1) × (c.0 ≤ b.1 + 1)
+
 -- n lies in some block of the list
 abbrev pub Covers : {B : Type 0} → (B → ℕ × ℕ) → List B → ℕ → Type 0
 Covers bounds xs n = Any (λ x. IsWithin (bounds x) n) xs
+
+-- each number that the one list covers is covered by the other
+abbrev pub IsInside : {B : Type 0} → (B → ℕ × ℕ) → List B → List B → Type 0
+IsInside bounds xs ys = (n : ℕ) → Covers bounds xs n → Covers bounds ys n
 
 -- a run of S: all numbers from b.0 to b.1 are in S, and neither the one before them nor the one after them is
 pub record IsRun (S : ℕ → Type 0) (b : ℕ × ℕ) : Type 0 where
@@ -35,3 +43,8 @@ pub record IsChain {B : Type 0} (bounds : B → ℕ × ℕ) (is_new : B → Bool
 -- the numbers of two items
 abbrev pub numbers : {I : Type 0} → (I → ℕ) → I × I → ℕ × ℕ
 numbers number p = (number p.0, number p.1)
+
+-- what is read at an index: the numbers of the block there, or nothing at the end of the list
+abbrev pub HoldsBlock : {B I : Type 0} → (B → ℕ × ℕ) → (I → ℕ) → ℕ → List B → ℕ → Option (I × I) → Type 0
+HoldsBlock {B} bounds number last blocks at block =
+    MatchOption block (at ≡ length blocks) (λ b. (at < length blocks) × ((d : B) → bounds (slice_index_or blocks at d) ≡ numbers number b) × (number b.1 ≤ last))

@@ -1,6 +1,7 @@
 //! A block of resources: a range of items of one kind.
-ghost use Rattle.std.specs.Prelude.{◌≡◌, ℕ, ◌+◌, ◌<◌, ◌≤◌, ◌↔◌, Bool, IsTrue, MatchOption};
+ghost use Rattle.std.specs.Prelude.{◌≡◌, ℕ, ◌+◌, ◌<◌, ◌≤◌, ◌↔◌, ◌⊎◌, ◌==◌, Bool, IsTrue, MatchOption, IfSome, IfNone, min, max};
 ghost use Rattle.std.specs.Ordering.{nat_cmp};
+ghost use Rattle.rpki_chain.specs.Sets.{IsWithin, IsBeside};
 
 /// A range of items, from a minimum to a maximum with all between them (RFC 3779, sections 2 and 3).
 ///
@@ -48,11 +49,13 @@ pub trait Block: Drop {
 
     /// The item that comes next; `None` for the kind's last item alone.
     fn next(item: Self::Item) -> Option<Self::Item>
-        ensures { MatchOption result (number item ≡ last) (λ next. (number item < last) × (number next ≡ number item + 1)) };
+        ensures { MatchOption result (number item ≡ last)
+            (λ next. (number item < last) × (number next ≡ number item + 1)) };
 
     /// The item that comes before; `None` for the kind's first item alone.
     fn previous(item: Self::Item) -> Option<Self::Item>
-        ensures { MatchOption result (number item ≡ first) (λ previous. (first < number item) × (number previous + 1 ≡ number item)) };
+        ensures { MatchOption result (number item ≡ first)
+            (λ previous. (first < number item) × (number previous + 1 ≡ number item)) };
 
     /// The smallest and the largest item.
     fn bounds(&self) -> (Self::Item, Self::Item)
@@ -63,6 +66,58 @@ pub trait Block: Drop {
         ensures to_last { number result.1 ≤ last }
     {
         (self.min(), self.max())
+    }
+
+    /// Whether an item lies in the block.
+    fn contains(&self, item: Self::Item) -> bool
+        ensures { IsTrue result ↔ IsWithin (bounds self.now) (number item) }
+    {
+        self.min() <= item && self.max() >= item
+    }
+
+    /// Whether the blocks have an item in common.
+    fn intersects(&self, other: &Self) -> bool
+        ensures { IsTrue result ↔ ((n : ℕ) × IsWithin (bounds self.now) n × IsWithin (bounds other.now) n) }
+    {
+        self.min() <= other.max() && self.max() >= other.min()
+    }
+
+    /// Whether each item of the block lies in the other.
+    fn is_encompassed(&self, other: &Self) -> bool
+        ensures { IsTrue result ↔ ((n : ℕ) → IsWithin (bounds self.now) n → IsWithin (bounds other.now) n) }
+    {
+        other.min() <= self.min() && other.max() >= self.max()
+    }
+
+    /// The block over both where they overlap or touch, `None` where they are apart.
+    fn sum(&self, other: &Self) -> Option<Self>
+        ensures over { IfSome result (λ sum. (n : ℕ) → IsWithin (bounds sum) n ↔
+            (IsWithin (bounds self.now) n ⊎ IsWithin (bounds other.now) n)) }
+        ensures new_form { IfSome result (λ sum. IsTrue (is_new sum)) }
+        ensures apart { IfNone result (IsBeside (bounds self.now) (bounds other.now) → ⊥) }
+    {
+        let (min, max) = self.bounds();
+        let (low, high) = other.bounds();
+        if let Some(next) = Self::next(max) {
+            if next < low {
+                return None;
+            }
+        }
+        if let Some(next) = Self::next(high) {
+            if next < min {
+                return None;
+            }
+        }
+        let first = if min <= low { min } else { low };
+        let last = if max <= high { high } else { max };
+        Some(Self::new(first, last))
+    }
+
+    /// Whether the blocks have the same bounds, in whatever form they are.
+    fn is_equivalent(&self, other: &Self) -> bool
+        ensures { IsTrue result ↔ (bounds self.now ≡ bounds other.now) }
+    {
+        self.min() == other.min() && self.max() == other.max()
     }
 
     /// Items compare as their numbers.

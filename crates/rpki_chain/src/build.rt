@@ -11,8 +11,10 @@ pub fn sorted_bounds<T: Block, A: Allocator>(
     alloc: A,
     blocks: &[T],
 ) -> Result<Vec<(T::Item, T::Item), A>, AllocError>
-    ensures covers { IfOk result (λ v. (n : ℕ) → Covers (numbers T.number) v.items n ↔ Covers T.bounds blocks.now n) }
-    ensures valid { IfOk result (λ v. All (λ b. (T.number b.0 ≤ T.number b.1) × (T.number b.1 ≤ T.last)) v.items) }
+    ensures covers { IfOk result (λ v. (n : ℕ) →
+        Covers (numbers T.number) v.items n ↔ Covers T.bounds blocks.now n) }
+    ensures valid { IfOk result (λ v.
+        All (λ b. (T.number b.0 ≤ T.number b.1) × (T.number b.1 ≤ T.last)) v.items) }
     ensures ascending { IfOk result (λ v. IsNonDecreasingBy (λ b. T.number b.0) v.items) }
 {
     let mut bounds = Vec::with_capacity(alloc, blocks.len())?;
@@ -46,7 +48,8 @@ pub fn joined<T: Block, A: Allocator>(
     requires valid { All (λ b. (T.number b.0 ≤ T.number b.1) × (T.number b.1 ≤ T.last)) bounds.now }
     requires ascending { IsNonDecreasingBy (λ b. T.number b.0) bounds.now }
     ensures chain { IfOk result (λ v. IsChain T.bounds T.is_new v.items) }
-    ensures covers { IfOk result (λ v. (n : ℕ) → Covers T.bounds v.items n ↔ Covers (numbers T.number) bounds.now n) }
+    ensures covers { IfOk result (λ v. (n : ℕ) →
+        Covers T.bounds v.items n ↔ Covers (numbers T.number) bounds.now n) }
 {
     let mut chain = Vec::new(alloc);
     for (min, max) in bounds {
@@ -67,7 +70,8 @@ pub fn push_joined<T: Block, A: Allocator>(
     requires to_last { T.number max ≤ T.last }
     requires behind { All (λ x. (T.bounds x).0 ≤ T.number min) chain.old.items }
     ensures chain { IsChain T.bounds T.is_new chain.new.items }
-    ensures ok { OnOk result ((n : ℕ) → Covers T.bounds chain.new.items n ↔ (Covers T.bounds chain.old.items n ⊎ IsWithin (T.number min, T.number max) n)) }
+    ensures ok { OnOk result ((n : ℕ) → Covers T.bounds chain.new.items n ↔
+        (Covers T.bounds chain.old.items n ⊎ IsWithin (T.number min, T.number max) n)) }
     ensures behind { All (λ x. (T.bounds x).0 ≤ T.number min) chain.new.items }
     ensures err { OnErr result (chain.new.items ≡ chain.old.items) }
 {

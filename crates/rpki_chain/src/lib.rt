@@ -6,4 +6,11 @@
 pub mod block;
 mod build;
 pub mod chain;
+mod common;
+mod difference;
+mod membership;
+mod overhang;
 pub mod owned;
+mod reads;
+pub mod shared;
+mod trim;

@@ -1,5 +1,6 @@
 //! A chain with the memory that its blocks stand in.
-ghost use Rattle.std.specs.Prelude.{◌≡◌, ℕ, ◌↔◌, List, [], IfOk};
+ghost use Rattle.std.specs.Prelude.{◌≡◌, ℕ, ◌↔◌, List, [], All, IsTrue, IfOk, map};
+ghost use Rattle.rpki_chain.specs.Equality.{same_runs, chains_per, chains_equiv};
 ghost use Rattle.rpki_chain.specs.Sets.{Covers, IsChain, IsChainOf};
 ghost use Rattle.rpki_chain.specs.Owned.{owned_blocks};
 ghost use Rattle.rpki_chain.specs.View.{chain_blocks};
@@ -66,4 +67,48 @@ impl<T: Block, A: Allocator> OwnedChain<T, A> {
         };
         Chain::from_slice_unchecked(blocks.as_slice())
     }
+
+    /// The same chain in memory of its own. `AllocError` where there is none.
+    pub fn clone(&self, alloc: A) -> Result<Self, AllocError>
+        ensures { IfOk result (λ chain. chain ≡ self.now) }
+    {
+        let Some(blocks) = &self.blocks else {
+            return Ok(Self::empty());
+        };
+        let blocks = rebuilt(alloc, blocks.as_slice())?;
+        Ok(Self::from_vec_unchecked(blocks))
+    }
+}
+
+/// Blocks in the form that `new` gives, made anew.
+fn rebuilt<T: Block, A: Allocator>(alloc: A, blocks: &[T]) -> Result<Vec<T, A>, AllocError>
+    requires { All (λ x. IsTrue (T.is_new x)) blocks.now }
+    ensures { IfOk result (λ v. v.items ≡ blocks.now) }
+{
+    let mut new = Vec::with_capacity(alloc, blocks.len())?;
+    for block in blocks {
+        let (min, max) = block.bounds();
+        new.push(T::new(min, max))?;
+    }
+    Ok(new)
+}
+
+impl<T: Block, A: Allocator> PartialEq for OwnedChain<T, A> {
+    ghost eq = { λ a b. same_runs (map T.bounds a) (map T.bounds b) };
+
+    ghost laws = { chains_per T.bounds (λ c. c) };
+
+    /// Chains are equal exactly where they cover the same numbers.
+    fn eq(&self, other: &Self) -> bool
+        ensures value { result ≡ same_runs (map T.bounds self.now) (map T.bounds other.now) }
+        ensures covers { IsTrue result ↔ ((n : ℕ) →
+            Covers T.bounds self.now n ↔ Covers T.bounds other.now n) }
+        ensures same { IsTrue result ↔ (self.now ≡ other.now) }
+    {
+        self.as_chain() == other.as_chain()
+    }
+}
+
+impl<T: Block, A: Allocator> Eq for OwnedChain<T, A> {
+    ghost laws = { chains_equiv T.bounds (λ c. c) };
 }

@@ -1,5 +1,7 @@
 pub mod BlockForms
 pub mod Blocks
 pub mod BlockText
+pub mod Equality
 pub mod Faults
 pub mod ListText
+pub mod Numbers

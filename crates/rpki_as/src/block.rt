@@ -1,4 +1,5 @@
 //! Blocks of AS numbers.
+use crate::iter::AsBlockIter;
 use crate::range::AsRange;
 use rpki_base::asn::Asn;
 use rpki_chain::block::Block;
@@ -10,6 +11,97 @@ pub enum AsBlock {
     Id(Asn),
     /// The numbers of a range, which may be one.
     Range(AsRange),
+}
+
+impl AsBlock {
+    ghost use Rattle.std.specs.Prelude.{◌≡◌, ◌+◌, ◌≤◌, ◌<◌, ◌^◌, ◌↔◌, IsTrue};
+    ghost use Rattle.rpki_chain.specs.Sets.{IsWithin};
+    ghost use Rattle.rpki_as.specs.Blocks.{range_bounds, as_bounds, is_new_as_block};
+    ghost use Rattle.rpki_as.specs.Numbers.{IsListOf, IsSizeOf, numbers_within};
+
+    /// All AS numbers, 0 to 4294967295.
+    pub fn all() -> AsBlock
+        ensures { as_bounds result ≡ (0, 4294967295) }
+    {
+        AsBlock::Range(AsRange::all())
+    }
+
+    /// The range from the first number of a pair to the second, which isn't below it. It is a Range also where both are
+    /// the same.
+    pub fn from_pair(pair: (Asn, Asn)) -> AsBlock
+        requires { pair.0 ≤ pair.1 }
+        ensures { (r : _) × (result ≡ AsBlock.Range r) × (range_bounds r ≡ pair) }
+    {
+        AsBlock::Range(AsRange::new(pair.0, pair.1))
+    }
+
+    /// The least number.
+    pub fn min(&self) -> Asn
+        ensures value { result ≡ (as_bounds self.now).0 }
+        ensures in_order { (as_bounds self.now).0 ≤ (as_bounds self.now).1 }
+    {
+        match self {
+            AsBlock::Id(asn) => *asn,
+            AsBlock::Range(range) => AsRange::min(*range),
+        }
+    }
+
+    /// The greatest number.
+    pub fn max(&self) -> Asn
+        ensures value { result ≡ (as_bounds self.now).1 }
+        ensures in_order { (as_bounds self.now).0 ≤ (as_bounds self.now).1 }
+    {
+        match self {
+            AsBlock::Id(asn) => *asn,
+            AsBlock::Range(range) => AsRange::max(*range),
+        }
+    }
+
+    /// How many numbers the block has, which is 1 to 2^32.
+    pub fn asn_count(self) -> u64
+        ensures from_bounds { result + (as_bounds self).0 ≡ (as_bounds self).1 + 1 }
+        ensures size { IsSizeOf (IsWithin (as_bounds self)) result }
+    {
+        match self {
+            AsBlock::Id(_) => 1,
+            AsBlock::Range(range) => range.asn_count(),
+        }
+    }
+
+    /// Makes a number the least one. The greatest one isn't below it. The block is an Id where both are one number, and
+    /// else a Range.
+    pub fn set_min(&mut self, min: Asn)
+        requires { min ≤ (as_bounds self.old).1 }
+        ensures bounds { as_bounds self.new ≡ (min, (as_bounds self.old).1) }
+        ensures new_form { IsTrue (is_new_as_block self.new) }
+    {
+        *self = <AsBlock as Block>::new(min, AsBlock::max(self));
+    }
+
+    /// Makes a number the greatest one. The least one isn't above it. The block is an Id where both are one number, and
+    /// else a Range.
+    pub fn set_max(&mut self, max: Asn)
+        requires { (as_bounds self.old).0 ≤ max }
+        ensures bounds { as_bounds self.new ≡ ((as_bounds self.old).0, max) }
+        ensures new_form { IsTrue (is_new_as_block self.new) }
+    {
+        *self = <AsBlock as Block>::new(AsBlock::min(self), max);
+    }
+
+    /// Whether the block has all AS numbers.
+    pub fn is_whole_range(&self) -> bool
+        ensures { IsTrue result ↔ (as_bounds self.now ≡ (0, 4294967295)) }
+    {
+        AsBlock::min(self) == Asn::MIN && AsBlock::max(self) == Asn::MAX
+    }
+
+    /// The numbers one by one, ascending.
+    pub fn iter(self) -> AsBlockIter
+        ensures numbers { IsListOf (IsWithin (as_bounds self)) result }
+        ensures list { result ≡ numbers_within (as_bounds self) }
+    {
+        AsBlockIter::over(AsRange::new(AsBlock::min(&self), AsBlock::max(&self)))
+    }
 }
 
 /// As a block, it is an Id where its bounds are one number, and else a Range.
@@ -49,26 +141,83 @@ impl Block for AsBlock {
     }
 
     fn min(&self) -> Asn {
-        match self {
-            AsBlock::Id(asn) => *asn,
-            AsBlock::Range(range) => range.min(),
-        }
+        AsBlock::min(self)
     }
 
     fn max(&self) -> Asn {
-        let max = match self {
-            AsBlock::Id(asn) => *asn,
-            AsBlock::Range(range) => range.max(),
-        };
-        let _below = max.into_u32();
+        let max = AsBlock::max(self);
+        let _number = max.into_u32();
         max
     }
 
     fn next(item: Asn) -> Option<Asn> {
-        item.into_u32().checked_add(1).map(Asn::from_u32)
+        <AsRange as Block>::next(item)
     }
 
     fn previous(item: Asn) -> Option<Asn> {
-        item.into_u32().checked_sub(1).map(Asn::from_u32)
+        <AsRange as Block>::previous(item)
+    }
+}
+
+/// Blocks are equal where their bounds are, whatever their forms.
+impl PartialEq for AsBlock {
+    ghost use Rattle.std.specs.Prelude.{◌≡◌, ◌↔◌, IsTrue};
+    ghost use Rattle.rpki_as.specs.Blocks.{as_bounds};
+    ghost use Rattle.rpki_as.specs.Equality.{have_same_bounds, blocks_per};
+
+    ghost eq = { have_same_bounds };
+
+    ghost laws = { blocks_per };
+
+    fn eq(&self, other: &AsBlock) -> bool
+        ensures value { result ≡ have_same_bounds self.now other.now }
+        ensures same_bounds { IsTrue result ↔ (as_bounds self.now ≡ as_bounds other.now) }
+    {
+        AsBlock::min(self) == AsBlock::min(other) && AsBlock::max(self) == AsBlock::max(other)
+    }
+}
+
+impl Eq for AsBlock {
+    ghost use Rattle.rpki_as.specs.Equality.{blocks_equiv};
+
+    ghost laws = { blocks_equiv };
+}
+
+impl From<Asn> for AsBlock {
+    ghost use Rattle.std.specs.Prelude.{◌≡◌};
+    ghost use Rattle.rpki_as.specs.declared.block.AsBlock.TheVariants.{Id};
+
+    ghost from_gives = { λ asn block. block ≡ Id asn };
+
+    fn from(asn: Asn) -> AsBlock {
+        AsBlock::Id(asn)
+    }
+}
+
+impl From<AsRange> for AsBlock {
+    ghost use Rattle.std.specs.Prelude.{◌≡◌};
+    ghost use Rattle.rpki_as.specs.declared.block.AsBlock.TheVariants.{Range};
+
+    ghost from_gives = { λ range block. block ≡ Range range };
+
+    fn from(range: AsRange) -> AsBlock {
+        AsBlock::Range(range)
+    }
+}
+
+/// The numbers one by one, ascending.
+impl IntoIterator for AsBlock {
+    ghost use Rattle.rpki_chain.specs.Sets.{IsWithin};
+    ghost use Rattle.rpki_as.specs.Blocks.{as_bounds};
+    ghost use Rattle.rpki_as.specs.Numbers.{IsListOf};
+
+    type Item = Asn;
+
+    type IntoIter = AsBlockIter;
+
+    ghost into_iter_gives = { λ block numbers. IsListOf (IsWithin (as_bounds block)) numbers };
+
+    fn into_iter(self) -> AsBlockIter {
+        self.iter()
     }
 }

@@ -4,5 +4,6 @@
 pub mod block;
 pub mod blocks;
 pub mod error;
+pub mod iter;
 pub mod range;
 mod text;

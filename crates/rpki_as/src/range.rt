@@ -2,6 +2,7 @@
 ghost use Rattle.std.specs.Prelude.{◌≡◌, ◌≤◌};
 
 use rpki_base::asn::Asn;
+use rpki_chain::block::Block;
 use std::fmt;
 
 /// The AS numbers from a least one to a greatest one, which may be the same (RFC 3779, 3.2.3.8).
@@ -13,8 +14,10 @@ pub struct AsRange {
 }
 
 impl AsRange {
-    ghost use Rattle.std.specs.Prelude.{◌<◌, ◌^◌};
+    ghost use Rattle.std.specs.Prelude.{◌+◌, ◌<◌, ◌^◌};
+    ghost use Rattle.rpki_chain.specs.Sets.{IsWithin};
     ghost use Rattle.rpki_as.specs.Blocks.{range_bounds};
+    ghost use Rattle.rpki_as.specs.Numbers.{IsSizeOf};
 
     /// The range from the least number to the greatest, which isn't below it.
     pub fn new(min: Asn, max: Asn) -> AsRange
@@ -22,6 +25,13 @@ impl AsRange {
         ensures { range_bounds result ≡ (min, max) }
     {
         AsRange { min, max }
+    }
+
+    /// All AS numbers, 0 to 4294967295.
+    pub fn all() -> AsRange
+        ensures { range_bounds result ≡ (0, 4294967295) }
+    {
+        AsRange::new(Asn::MIN, Asn::MAX)
     }
 
     /// The least number.
@@ -39,6 +49,65 @@ impl AsRange {
     {
         self.max
     }
+
+    /// How many numbers the range has, which is 1 to 2^32.
+    pub fn asn_count(self) -> u64
+        ensures from_bounds { result + (range_bounds self).0 ≡ (range_bounds self).1 + 1 }
+        ensures size { IsSizeOf (IsWithin (range_bounds self)) result }
+    {
+        u64::from(self.max.into_u32()) - u64::from(self.min.into_u32()) + 1
+    }
+}
+
+/// As a block, it has one form.
+impl Block for AsRange {
+    ghost use Rattle.std.specs.Prelude.{refl, true};
+    ghost use Rattle.rpki_as.specs.Blocks.{range_bounds};
+    ghost use Rattle.rpki_as.specs.BlockForms.{AsRange-one_bounds};
+
+    type Item = Asn;
+
+    ghost first = { 0 };
+
+    ghost last = { 4294967295 };
+
+    ghost number = { λ n. n };
+
+    ghost item_at = { λ n. n };
+
+    ghost bounds = { range_bounds };
+
+    ghost is_new = { λ _. true };
+
+    ghost in_order = { λ x y. refl };
+
+    ghost no_gaps = { λ n low high. refl };
+
+    ghost one_item = { λ x y same. same };
+
+    ghost one_new_form = { λ x y new also same. AsRange-one_bounds x y same };
+
+    fn new(min: Asn, max: Asn) -> AsRange {
+        AsRange { min, max }
+    }
+
+    fn min(&self) -> Asn {
+        self.min
+    }
+
+    fn max(&self) -> Asn {
+        let max = self.max;
+        let _number = max.into_u32();
+        max
+    }
+
+    fn next(item: Asn) -> Option<Asn> {
+        item.into_u32().checked_add(1).map(Asn::from_u32)
+    }
+
+    fn previous(item: Asn) -> Option<Asn> {
+        item.into_u32().checked_sub(1).map(Asn::from_u32)
+    }
 }
 
 /// Prints both numbers, also where they are the same, as `AS3-AS5`.
@@ -49,8 +118,8 @@ impl fmt::Display for AsRange {
     ghost output = { λ r. Some (range_text r) };
 
     fn fmt<W: fmt::Write>(&self, f: &mut fmt::Formatter<W>) -> fmt::Result {
-        let min = self.min();
-        let max = self.max();
+        let min = AsRange::min(*self);
+        let max = AsRange::max(*self);
         write!(f, "{min}-{max}")
     }
 }

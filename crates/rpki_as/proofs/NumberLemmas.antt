@@ -1,0 +1,166 @@
+-- Lists of numbers: those of an interval, and those of runs, one after the other.
+use Rattle.std.proofs.Common.{◌≡◌, ℕ, zero, suc, ◌+◌, ◌-◌, ◌<◌, ◌≤◌, ◌↔◌, ◌⊎◌, inl, inr, ⊎_elim, List, [], ◌∷◌, ◌++◌, length, get_or, refl, sym, ap, ◌∙◌, arith, Option, Some, None}
+use Rattle.std.specs.List.{All, AllPairs, Contains, flat_map}
+use Rattle.std.specs.Iterator.{YieldsFirst, MakesProgress, item_count}
+use Rattle.std.proofs.Math.Nat.{le_refl}
+use Rattle.std.proofs.lemmas.Bool.{cases_lt}
+use Rattle.std.proofs.lemmas.List.{length-append, get_or_append_left, get_or-append_right}
+use Rattle.std.proofs.lemmas.List.Elements.{All-tail, Contains-get_or, Contains-append_left, Contains-append_right, Contains-append_cases}
+use Rattle.rpki_chain.specs.Sets.{IsWithin}
+use Rattle.rpki_chain.specs.Runs.{Runs, Holds, IsRunsOf}
+use Rattle.rpki_chain.proofs.Chains.{Covers-nil}
+use Rattle.rpki_chain.proofs.Unique.{Covers-head, Covers-tail, Covers-cons_cases}
+use Rattle.rpki_as.specs.Blocks.{as_bounds}
+use Rattle.rpki_as.specs.declared.block.AsBlock.{AsBlock}
+use Rattle.rpki_as.specs.declared.block.AsBlock.TheVariants.{Id, Range}
+use Rattle.rpki_as.specs.Numbers.{IsListOf, IsSizeOf, numbers_from, numbers_within}
+
+-- how many there are
+pub length-numbers_from : (k a : ℕ) → length (numbers_from k a) ≡ k
+length-numbers_from zero a = refl
+length-numbers_from (suc k) a = ap suc (length-numbers_from k (a + 1))
+
+-- which one stands at a place
+get_or-numbers_from : (k a i d : ℕ) → i < k → get_or (numbers_from k a) i d ≡ a + i
+get_or-numbers_from zero a i d small = absurd (omega arith)
+get_or-numbers_from (suc k) a zero d small = omega arith
+get_or-numbers_from (suc k) a (suc i) d small =
+    let later = get_or-numbers_from k (a + 1) i d (omega arith) in
+    later ∙ omega arith
+
+-- the numbers from the one bound to the other
+pub IsListOf-numbers_within : (b : ℕ × ℕ) → IsListOf (IsWithin b) (numbers_within b)
+unfolding numbers_within
+IsListOf-numbers_within b =
+    let count : ℕ = b.1 + 1 - b.0 in
+    let long = length-numbers_from count b.0 in
+    record {
+      members = λ n. (
+        λ (i, small, here). (let at = get_or-numbers_from count b.0 i n (omega arith) in (omega arith, omega arith)),
+        λ (low, high). (n - b.0, omega arith, get_or-numbers_from count b.0 (n - b.0) n (omega arith) ∙ omega arith),
+      );
+      ascending = λ i j d below small.
+          let here = get_or-numbers_from count b.0 i d (omega arith) in
+          let there = get_or-numbers_from count b.0 j d (omega arith) in
+          omega arith;
+    }
+
+-- how many they are
+pub length-numbers_within : (b : ℕ × ℕ) → length (numbers_within b) ≡ b.1 + 1 - b.0
+unfolding numbers_within
+length-numbers_within b = length-numbers_from (b.1 + 1 - b.0) b.0
+
+-- the first of them, and the others
+pub numbers_within-cons : (a b : ℕ) → a < b → numbers_within (a, b) ≡ a ∷ numbers_within (a + 1, b)
+unfolding numbers_within
+numbers_within-cons a b below =
+    let more : b + 1 - a ≡ suc (b + 1 - (a + 1)) = omega arith in
+    rw more refl
+
+-- one number
+pub numbers_within-one : (a b : ℕ) → a ≡ b → numbers_within (a, b) ≡ a ∷ []
+unfolding numbers_within
+numbers_within-one a b same =
+    let more : b + 1 - a ≡ 1 = omega arith in
+    rw more refl
+
+-- an interval has as many numbers as there are from the one bound to the other
+pub IsSizeOf-within : (b : ℕ × ℕ) (k : ℕ) → k + b.0 ≡ b.1 + 1 → IsSizeOf (IsWithin b) k
+IsSizeOf-within b k is = record {
+  list = numbers_within b;
+  is_list = IsListOf-numbers_within b;
+  size = length-numbers_within b ∙ omega arith;
+}
+
+-- two sets of which the one lies below the other: its list stands first
+IsListOf-append : (S U : ℕ → Type 0) (ms ns : List ℕ) → IsListOf S ms → IsListOf U ns → ((m n : ℕ) → S m → U n → m < n) → IsListOf (λ n. S n ⊎ U n) (ms ++ ns)
+IsListOf-append S U ms ns h k apart = record {
+  members = λ n. (
+    λ c. ⊎_elim (λ m. inl ((h.members n).0 m)) (λ m. inr ((k.members n).0 m)) (Contains-append_cases ms ns n c),
+    ⊎_elim (λ s. Contains-append_left ms ns n ((h.members n).1 s)) (λ u. Contains-append_right ms ns n ((k.members n).1 u)),
+  );
+  ascending = λ i j d below small.
+      let long = length-append ms ns in
+      ⊎_elim
+      (λ (j_in : j < length ms). rw (get_or_append_left ms ns d i (omega arith), get_or_append_left ms ns d j j_in) (h.ascending i j d below j_in))
+      (λ (j_out : length ms ≤ j).
+      let there = get_or-append_right ms ns (length ms) j d refl j_out in
+      ⊎_elim
+      (λ (i_in : i < length ms).
+      let here = get_or_append_left ms ns d i i_in in
+      let m : S (get_or ms i d) = (h.members _).0 (stands ms i d i_in) in
+      let n : U (get_or ns (j - length ms) d) = (k.members _).0 (stands ns (j - length ms) d (omega arith)) in
+      rw (here, there) (apart _ _ m n))
+      (λ (i_out : length ms ≤ i).
+      let here = get_or-append_right ms ns (length ms) i d refl i_out in
+      rw (here, there) (k.ascending (i - length ms) (j - length ms) d (omega arith) (omega arith)))
+      (cases_lt i (length ms)))
+      (cases_lt j (length ms));
+}
+  where
+    stands : (xs : List ℕ) (i d : ℕ) → i < length xs → Contains xs (get_or xs i d)
+    stands xs i d small = Contains-get_or xs i d small
+
+-- the same numbers have the same list
+pub IsListOf-same : (S U : ℕ → Type 0) (ns : List ℕ) → ((n : ℕ) → S n ↔ U n) → IsListOf S ns → IsListOf U ns
+IsListOf-same S U ns same h = record {
+  members = λ n. (λ c. (same n).0 ((h.members n).0 c), λ u. (h.members n).1 ((same n).1 u));
+  ascending = h.ascending;
+}
+
+-- the numbers of runs, run by run
+pub IsListOf-runs : (runs : Runs) → All (λ b. b.0 ≤ b.1) runs → AllPairs (λ b c. b.1 + 1 < c.0) runs → IsListOf (Holds runs) (flat_map numbers_within runs)
+IsListOf-runs [] ordered apart = record {
+  members = λ n. (λ (i, small, here). absurd (omega arith), λ held. absurd (Covers-nil (λ b. b) n held));
+  ascending = λ i j d below small. absurd (omega arith);
+}
+IsListOf-runs (b ∷ runs) ordered apart =
+    let rest = IsListOf-runs runs (All-tail (λ (x : ℕ × ℕ). x.0 ≤ x.1) b runs ordered) (λ i j d below small. apart (suc i) (suc j) d (omega arith) (omega arith)) in
+    IsListOf-same _ _ _ (λ n. (
+      ⊎_elim (Covers-head (λ x. x) b runs n) (Covers-tail (λ x. x) b runs n),
+      Covers-cons_cases (λ x. x) b runs n,
+    )) (IsListOf-append (IsWithin b) (Holds runs) (numbers_within b) (flat_map numbers_within runs) (IsListOf-numbers_within b) rest (λ m n within (k, c, small, here, w).
+    let far : b.1 + 1 < (get_or runs k c).0 = apart 0 (suc k) c (omega arith) (omega arith) in
+    let begins = ap (λ (x : ℕ × ℕ). x.0) here in
+    omega (arith, within.1, w.0)))
+
+-- numbers that ascend are no fewer than their places
+at_least : (ns : List ℕ) (i d : ℕ) → AllPairs (λ m n. m < n) ns → i < length ns → i ≤ get_or ns i d
+at_least ns zero d ascending small = omega arith
+at_least ns (suc i) d ascending small =
+    let before = at_least ns i d ascending (omega arith) in
+    let step = ascending i (suc i) d (omega arith) small in
+    omega arith
+
+-- so a set of numbers below a limit has at most so many
+pub size_below : (limit : ℕ) (S : ℕ → Type 0) (k : ℕ) → IsSizeOf S k → ((n : ℕ) → S n → n < limit) → k ≤ limit
+size_below limit S zero h below = omega arith
+size_below limit S (suc k) h below =
+    let long = h.size in
+    let last = at_least h.list k 0 h.is_list.ascending (omega arith) in
+    let held : S (get_or h.list k 0) = (h.is_list.members _).0 (Contains-get_or h.list k 0 (omega arith)) in
+    let small = below _ held in
+    omega arith
+
+-- the numbers of a block are some
+within_some : (x : AsBlock) → 0 < length (numbers_within (as_bounds x))
+within_some x =
+    let ordered : (as_bounds x).0 ≤ (as_bounds x).1 = in_order x in
+    let long = length-numbers_within (as_bounds x) in
+    omega arith
+  where
+    in_order : (x : AsBlock) → (as_bounds x).0 ≤ (as_bounds x).1
+    in_order (Id n) = le_refl n
+    in_order (Range r) = r.in_order
+
+-- a step at the numbers of a block is one at those of it and of later ones
+pub numbers_step : (o : Option ℕ) (old new rest : List ℕ) (x : AsBlock) → YieldsFirst (λ (ns : List ℕ). ns) (numbers_within (as_bounds x)) o new → old ≡ numbers_within (as_bounds x) ++ rest → YieldsFirst (λ (ns : List ℕ). ns) old o (new ++ rest)
+numbers_step None old new rest x none is = absurd (let some = within_some x in let empty = ap length none.0 in omega arith)
+numbers_step (Some n) old new rest x first is = is ∙ ap (λ (ns : List ℕ). ns ++ rest) first
+
+-- an iterator that yields the first of its numbers gets on
+pub makes_progress : (can : List ℕ → Type 0) → ((ns : List ℕ) → can ns) → (o : Option ℕ) (old new : List ℕ) → YieldsFirst (λ (ns : List ℕ). ns) old o new → MakesProgress can (item_count (λ (ns : List ℕ). ns)) old o new
+makes_progress can may None old new steps = record { on = λ _. tt; keeps = tt; rests = λ _. tt }
+makes_progress can may (Some n) old new steps =
+    let shorter = ap length steps in
+    record { on = λ _. (may new, tt, omega arith); keeps = may new; rests = λ _. tt }

@@ -7,3 +7,5 @@ pub mod ListLemmas
 pub mod NumberLemmas
 pub mod PrintedAddressLemmas
 pub mod PrintedLemmas
+pub mod SmallSetLemmas
+pub mod WalkLemmas

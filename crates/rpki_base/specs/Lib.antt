@@ -9,3 +9,6 @@ pub mod Orders
 pub mod PrintedAddress
 pub mod Reading
 pub mod ReadsAddress
+pub mod SmallSet
+pub mod Steps
+pub mod Walks

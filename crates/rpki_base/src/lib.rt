@@ -7,3 +7,4 @@ pub mod laws;
 pub mod list;
 pub mod memory;
 pub mod number;
+pub mod small_set;

@@ -1,0 +1,11 @@
+-- The search finds just the numbers of the set.
+use Rattle.std.proofs.Common.{◌∙◌, subst}
+use Rattle.rpki_base.specs.SmallSet.{IsSmallSet}
+use Rattle.rpki_base.proofs.SmallSetLemmas.{search_is}
+use Rattle.rpki_base.proofs.small_set.SmallAsnSet.contains.Goals as goal
+
+pub returns : goal.returns
+returns g c =
+    let items = c.as_slice.ensures.value ∙ c.self.view_is in
+    let found = rw items at c.binary_search.ensures.position in
+    rw c.is_ok.ensures.value (search_is c.args.self.now c.args.asn c.binary_search.result (subst IsSmallSet c.self.view_is c.self.invariant) found)

@@ -1,0 +1,11 @@
+-- The walk gives what is in one set alone.
+use Rattle.std.proofs.Common.{◌∙◌, subst}
+use Rattle.rpki_base.specs.SmallSet.{IsSmallSet}
+use Rattle.rpki_base.proofs.SmallSetLemmas.{symmetric_difference_is}
+use Rattle.rpki_base.proofs.small_set.SmallAsnSet.symmetric_difference.Goals as goal
+
+pub returns : goal.returns
+returns g c =
+    let left = c.as_slice.ensures.value ∙ c.self.view_is in
+    let right = c.as_slice-2.ensures.value ∙ c.other.view_is in
+    symmetric_difference_is _ _ c.new.result (subst IsSmallSet c.self.view_is c.self.invariant) (subst IsSmallSet c.other.view_is c.other.invariant) (rw (left, right) at c.new.ensures)

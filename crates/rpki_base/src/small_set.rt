@@ -1,0 +1,191 @@
+//! Small sets of AS numbers: ascending lists without repeats.
+ghost use Rattle.std.specs.Prelude.{◌≡◌, ◌↔◌, [], length, IsTrue, IfOk, Some, Contains, nat_eq, refl};
+ghost use Rattle.std.specs.Cmp.{partial_equiv_from_equiv};
+ghost use Rattle.std.specs.Cmp.Lexicographic.{pointwise, slice_cmp, nat_list_eq_equiv, nat_list_cmp_total, texts_po, texts_ties};
+ghost use Rattle.std.specs.Cmp.Rules.{hashing};
+ghost use Rattle.std.specs.Hash as fed;
+ghost use Rattle.std.specs.Ordering.{nat_cmp};
+ghost use Rattle.std.proofs.Common.{rules};
+ghost use Rattle.rpki_base.specs.SmallSet.{IsSmallSet, IsSmallSetOf, IsInFirstAlone, IsInOne, IsInBoth, IsInEither};
+
+mod iter;
+mod walk;
+
+use crate::asn::Asn;
+pub use iter::{
+    SmallSetDifference, SmallSetIntersection, SmallSetIter, SmallSetSymmetricDifference,
+    SmallSetUnion,
+};
+use std::alloc::{AllocError, Allocator, Global};
+use std::cmp::Ordering;
+use std::hash::{Hash, Hasher};
+use std::marker::Model;
+
+/// A set of AS numbers, kept as an ascending list.
+///
+/// Sets are equal where they have the same numbers, and are in order item by item.
+#[derive(Drop)]
+pub struct SmallAsnSet<A: Allocator = Global> {
+    items: Vec<Asn, A>,
+}
+
+impl<A: Allocator> Model for SmallAsnSet<A> {
+    ghost use Rattle.std.specs.Prelude.{ℕ, List};
+    ghost use Rattle.rpki_base.specs.SmallSet.{IsSmallSet};
+
+    ghost Value = { List ℕ };
+
+    ghost view = { λ set. set.items.items };
+
+    ghost invariant = { λ set. IsSmallSet set.items.items };
+}
+
+impl<A: Allocator> SmallAsnSet<A> {
+    /// The set of the AS numbers of a list in any order, with repeats or not.
+    pub fn from_list(alloc: A, list: &[Asn]) -> Result<SmallAsnSet<A>, AllocError>
+        ensures { IfOk result (λ set. IsSmallSetOf (Contains list.now) set) }
+    {
+        let mut items = Vec::from_slice(alloc, list)?;
+        items.sort_unstable();
+        items.dedup();
+        Ok(SmallAsnSet { items })
+    }
+
+    /// The set of these AS numbers. The caller owes that each is below the next; no vector of one number or none breaks that.
+    pub fn from_vec_unchecked(items: Vec<Asn, A>) -> SmallAsnSet<A>
+        requires { IsSmallSet items.items }
+        ensures { result ≡ items.items }
+    {
+        SmallAsnSet { items }
+    }
+
+    /// The AS numbers of the set, ascending.
+    pub fn iter(&self) -> SmallSetIter<'_>
+        ensures items { result ≡ self.now }
+        ensures ascending { IsSmallSet self.now }
+    {
+        SmallSetIter::new(self.items.as_slice())
+    }
+
+    /// How many AS numbers the set has.
+    pub fn len(&self) -> usize
+        ensures { result ≡ length self.now }
+    {
+        self.items.len()
+    }
+
+    /// Has the set no AS number?
+    pub fn is_empty(&self) -> bool
+        ensures { IsTrue result ↔ (self.now ≡ []) }
+    {
+        self.items.is_empty()
+    }
+
+    /// Is the AS number in the set? This is a binary search.
+    pub fn contains(&self, asn: Asn) -> bool
+        ensures { IsTrue result ↔ Contains self.now asn }
+    {
+        self.items.as_slice().binary_search(&asn).is_ok()
+    }
+
+    /// The AS numbers that are in this set and not in the other.
+    pub fn difference<'a>(&'a self, other: &'a SmallAsnSet<A>) -> SmallSetDifference<'a>
+        ensures { IsSmallSetOf (IsInFirstAlone self.now other.now) result }
+    {
+        SmallSetDifference::new(self.items.as_slice(), other.items.as_slice())
+    }
+
+    /// The AS numbers that are in exactly one of the sets.
+    pub fn symmetric_difference<'a>(
+        &'a self,
+        other: &'a SmallAsnSet<A>,
+    ) -> SmallSetSymmetricDifference<'a>
+        ensures { IsSmallSetOf (IsInOne self.now other.now) result }
+    {
+        SmallSetSymmetricDifference::new(self.items.as_slice(), other.items.as_slice())
+    }
+
+    /// The AS numbers that are in both sets.
+    pub fn intersection<'a>(&'a self, other: &'a SmallAsnSet<A>) -> SmallSetIntersection<'a>
+        ensures { IsSmallSetOf (IsInBoth self.now other.now) result }
+    {
+        SmallSetIntersection::new(self.items.as_slice(), other.items.as_slice())
+    }
+
+    /// The AS numbers that are in one of the sets, or in both.
+    pub fn union<'a>(&'a self, other: &'a SmallAsnSet<A>) -> SmallSetUnion<'a>
+        ensures { IsSmallSetOf (IsInEither self.now other.now) result }
+    {
+        SmallSetUnion::new(self.items.as_slice(), other.items.as_slice())
+    }
+}
+
+impl<A: Allocator + Copy> SmallAsnSet<A> {
+    /// A set of its own with the same AS numbers, by the same allocator.
+    pub fn clone(&self) -> Result<SmallAsnSet<A>, AllocError>
+        ensures { IfOk result (λ set. set ≡ self.now) }
+    {
+        let items = self.items.clone()?;
+        Ok(SmallAsnSet { items })
+    }
+}
+
+impl<'a, A: Allocator> IntoIterator for &'a SmallAsnSet<A> {
+    type Item = Asn;
+
+    type IntoIter = SmallSetIter<'a>;
+
+    ghost into_iter_gives = { λ set iter. iter ≡ set.now };
+
+    fn into_iter(self) -> SmallSetIter<'a> {
+        self.iter()
+    }
+}
+
+impl<A: Allocator> PartialEq for SmallAsnSet<A> {
+    ghost eq = { pointwise nat_eq };
+
+    ghost laws = { partial_equiv_from_equiv nat_list_eq_equiv };
+
+    fn eq(&self, other: &SmallAsnSet<A>) -> bool {
+        self.items == other.items
+    }
+}
+
+impl<A: Allocator> Eq for SmallAsnSet<A> {
+    ghost laws = { nat_list_eq_equiv };
+}
+
+impl<A: Allocator> PartialOrd for SmallAsnSet<A> {
+    ghost partial_cmp = { λ a b. Some (slice_cmp nat_cmp a b) };
+
+    ghost laws = { texts_po };
+
+    fn partial_cmp(&self, other: &SmallAsnSet<A>) -> Option<Ordering> {
+        Some(self.cmp(other))
+    }
+}
+
+impl<A: Allocator> Ord for SmallAsnSet<A> {
+    ghost cmp = { slice_cmp nat_cmp };
+
+    ghost total = { nat_list_cmp_total };
+
+    ghost matches_partial_cmp = { λ a b. refl };
+
+    ghost matches_eq = { texts_ties };
+
+    fn cmp(&self, other: &SmallAsnSet<A>) -> Ordering {
+        self.items.cmp(&other.items)
+    }
+}
+
+impl<A: Allocator> Hash for SmallAsnSet<A> {
+    ghost hash_input = { fed.slice fed.u32 };
+
+    ghost respects_eq = { Prim.search (hashing, rules) };
+
+    fn hash<H: Hasher>(&self, state: &mut H) {
+        self.items.hash(state);
+    }
+}

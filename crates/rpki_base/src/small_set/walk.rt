@@ -1,0 +1,118 @@
+//! One walk over two ascending lists of AS numbers, which all set operations share.
+ghost use Rattle.std.specs.Prelude.{◌≡◌, [], ◌∷◌, ◌+◌, ◌<◌, length, MatchOption};
+ghost use Rattle.rpki_base.specs.Walks.{walk};
+ghost use Rattle.rpki_base.specs.Steps.{IsStep, chosen};
+
+use crate::asn::Asn;
+use std::cmp::Ordering;
+
+/// Where a number of two sets stands.
+#[derive(Clone, Copy)]
+pub(crate) enum Side {
+    Left,
+    Both,
+    Right,
+}
+
+/// Which numbers of two sets are wanted, by where they stand.
+#[derive(Clone, Copy)]
+pub(crate) struct Wanted {
+    pub(crate) left: bool,
+    pub(crate) both: bool,
+    pub(crate) right: bool,
+}
+
+impl Wanted {
+    /// Are the numbers of this side wanted?
+    fn has(self, side: Side) -> bool
+        ensures { result ≡ chosen self side }
+    {
+        match side {
+            Side::Left => self.left,
+            Side::Both => self.both,
+            Side::Right => self.right,
+        }
+    }
+}
+
+/// What is left of two ascending lists.
+#[derive(Clone, Copy)]
+pub(crate) struct Walk<'a> {
+    pub(crate) left: &'a [Asn],
+    pub(crate) right: &'a [Asn],
+}
+
+/// The least number of both lists, where it stands, and what is left behind it.
+#[derive(Clone, Copy)]
+struct Step<'a> {
+    asn: Asn,
+    side: Side,
+    rest: Walk<'a>,
+}
+
+impl<'a> Walk<'a> {
+    /// The next step, if a list has a number left.
+    fn step(&self) -> Option<Step<'a>>
+        ensures { MatchOption result
+            ((self.now.left.now ≡ []) × (self.now.right.now ≡ []))
+            (λ step. IsStep self.now.left.now self.now.right.now step.side step.asn step.rest.left.now step.rest.right.now) }
+    {
+        match (self.left, self.right) {
+            ([], []) => None,
+            ([asn, left @ ..], []) => Some(Step {
+                asn: *asn,
+                side: Side::Left,
+                rest: Walk {
+                    left,
+                    right: self.right,
+                },
+            }),
+            ([], [asn, right @ ..]) => Some(Step {
+                asn: *asn,
+                side: Side::Right,
+                rest: Walk {
+                    left: self.left,
+                    right,
+                },
+            }),
+            ([low, left @ ..], [high, right @ ..]) => Some(match low.cmp(high) {
+                Ordering::Less => Step {
+                    asn: *low,
+                    side: Side::Left,
+                    rest: Walk {
+                        left,
+                        right: self.right,
+                    },
+                },
+                Ordering::Equal => Step {
+                    asn: *low,
+                    side: Side::Both,
+                    rest: Walk { left, right },
+                },
+                Ordering::Greater => Step {
+                    asn: *high,
+                    side: Side::Right,
+                    rest: Walk {
+                        left: self.left,
+                        right,
+                    },
+                },
+            }),
+        }
+    }
+
+    /// The next number that is wanted. Each turn takes a number off one list or both.
+    pub(crate) fn next(&mut self, wanted: Wanted) -> Option<Asn>
+        ensures { MatchOption result
+            ((walk wanted self.old.left.now self.old.right.now ≡ []) × (walk wanted self.new.left.now self.new.right.now ≡ []))
+            (λ asn. walk wanted self.old.left.now self.old.right.now ≡ asn ∷ walk wanted self.new.left.now self.new.right.now) }
+    {
+        while let Some(step) = self.step() {
+            *self = step.rest;
+            if wanted.has(step.side) {
+                return Some(step.asn);
+            }
+        }
+        None
+    }
+}

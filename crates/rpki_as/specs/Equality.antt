@@ -1,17 +1,15 @@
 -- Blocks are compared by their bounds.
-use Rattle.std.specs.Prelude.{ℕ, Bool, ◌==◌, ◌&&◌}
+use Rattle.std.specs.Prelude.{ℕ, Bool}
 use Rattle.std.specs.Cmp.{IsEquivalence, IsPartialEquivalence, on_equiv, and_equiv, nat_eq_equiv, partial_equiv_from_equiv}
+use Rattle.rpki_chain.specs.Equality.{is_same_pair}
 use Rattle.rpki_as.specs.Blocks.{as_bounds}
 use Rattle.rpki_as.specs.declared.block.AsBlock.{AsBlock}
-
--- whether two bounds are the same
-abbrev pub is_same_pair : ℕ × ℕ → ℕ × ℕ → Bool
-is_same_pair a b = (a.0 == b.0) && (a.1 == b.1)
 
 -- whether two blocks have the same bounds
 abbrev pub have_same_bounds : AsBlock → AsBlock → Bool
 have_same_bounds a b = is_same_pair (as_bounds a) (as_bounds b)
 
+-- the laws of `==` of blocks
 pub blocks_equiv : IsEquivalence have_same_bounds
 blocks_equiv = on_equiv as_bounds (and_equiv (on_equiv (λ (p : ℕ × ℕ). p.0) nat_eq_equiv) (on_equiv (λ (p : ℕ × ℕ). p.1) nat_eq_equiv))
 

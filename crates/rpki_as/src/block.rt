@@ -21,7 +21,8 @@ impl AsBlock {
 
     /// All AS numbers, 0 to 4294967295.
     pub fn all() -> AsBlock
-        ensures { as_bounds result ≡ (0, 4294967295) }
+        ensures bounds { as_bounds result ≡ (0, 4294967295) }
+        ensures new_form { IsTrue (is_new_as_block result) }
     {
         AsBlock::Range(AsRange::all())
     }

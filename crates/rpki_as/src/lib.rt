@@ -3,6 +3,7 @@
 
 pub mod block;
 pub mod blocks;
+pub mod builder;
 pub mod error;
 pub mod iter;
 pub mod range;

@@ -2,8 +2,6 @@ use Rattle.std.proofs.Common.{Vec, Ok, Err}
 use Rattle.std.proofs.lemmas.Result.{err_from_is_err_and}
 use Rattle.rpki_base.specs.Lists.{elements}
 use Rattle.rpki_base.proofs.ListLemmas.{found_weaker}
-use Rattle.rpki_chain.proofs.RunLists.{IsRunsOf-from_chain}
-use Rattle.rpki_as.specs.Blocks.{as_bounds, is_new_as_block}
 use Rattle.rpki_as.specs.BlockText.{IsBlockText, HasBlockFault, ReadsBlock}
 use Rattle.rpki_as.specs.declared.block.AsBlock.{AsBlock}
 use Rattle.rpki_as.proofs.ListLemmas.{list_answers, IsAsListText-as_list_text}
@@ -25,7 +23,7 @@ returns-clause-exact g c =
     list_answers (λ set. set) c.args.text.now _ (record {
       blocks = c.in_ok-blocks.blocks.items;
       are_written = rw c.in_ok-blocks.was at found;
-      covered = IsRunsOf-from_chain as_bounds is_new_as_block _ _ (rw c.as_slice.ensures.value at c.in_ok-chain.ensures);
+      covered = rw c.as_slice.ensures.value at c.in_ok-set.ensures;
     })
 
 pub returns-clause-reads_back : goal.returns-clause-reads_back

@@ -1,4 +1,4 @@
-use Rattle.std.proofs.Common.{◌∷◌, refl, sym, ◌∙◌}
+use Rattle.std.proofs.Common.{refl, sym, ◌∙◌}
 use Rattle.rpki_as.specs.Numbers.{numbers_of}
 use Rattle.rpki_as.proofs.NumberLemmas.{numbers_step, makes_progress}
 use Rattle.rpki_as.proofs.iter.AsnIterIterator.next.Goals as goal

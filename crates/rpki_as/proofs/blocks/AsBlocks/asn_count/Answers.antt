@@ -1,0 +1,24 @@
+use Rattle.std.proofs.Common.{arith, ◌≡◌, ◌≤◌, ◌+◌, ◌^◌, length, ◌∙◌}
+use Rattle.std.proofs.lemmas.List.{take_all}
+use Rattle.rpki_as.specs.Blocks.{IsAsChain}
+use Rattle.rpki_as.specs.Numbers.{numbers_of}
+use Rattle.rpki_as.proofs.SetLemmas.{count_step, count_fits, IsSizeOf-chain}
+use Rattle.rpki_as.proofs.blocks.AsBlocks.asn_count.Goals as goal
+
+pub overflow_add-count : goal.overflow_add-count
+overflow_add-count g c =
+    let same = c.as_slice-blocks.ensures.value ∙ c.as_chain.ensures in
+    let chain : IsAsChain c.as_slice-blocks.result.now = rw same c.self.invariant in
+    let fits : c.loop-block.count + c.asn_count-count.result ≤ 2 ^ 32 = count_fits _ _ _ _ _ chain c.loop-block-test.true c.block-item.is c.loop-block.invariant c.asn_count-count.ensures.from_bounds in
+    omega arith
+
+pub loop-block-preserved : goal.loop-block-preserved
+loop-block-preserved g c = count_step _ _ _ _ _ c.loop-block-test.true c.block-item.is c.loop-block.invariant c.asn_count-count.ensures.from_bounds
+
+pub returns : goal.returns
+returns g c =
+    let same = c.as_slice-blocks.ensures.value ∙ c.as_chain.ensures in
+    let chain : IsAsChain c.as_slice-blocks.result.now = rw same c.self.invariant in
+    let all = take_all c.loop-block.block-index c.as_slice-blocks.result.now (omega arith) in
+    let count : c.loop-block.count ≡ length (numbers_of c.as_slice-blocks.result.now) = rw all at c.loop-block.invariant in
+    rw (count, ← c.self.view_is, ← same) (IsSizeOf-chain _ chain)

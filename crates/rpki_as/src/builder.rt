@@ -1,0 +1,64 @@
+//! Sets of AS numbers, built block by block.
+ghost use Rattle.std.specs.Prelude.{◌≡◌, ◌++◌, [], ◌∷◌, IfOk, OnOk, OnErr, map};
+ghost use Rattle.rpki_chain.specs.Runs.{Holds, IsRunsOf};
+ghost use Rattle.rpki_as.specs.Blocks.{as_bounds};
+
+use crate::block::AsBlock;
+use crate::blocks::AsBlocks;
+use std::alloc::{AllocError, Allocator, Global};
+use std::marker::Model;
+
+/// Collects blocks of AS numbers, in any order, for a set of them. It keeps the allocator that it is given.
+///
+/// Contracts see it as the list of the blocks' least and greatest numbers, in the order in which they came.
+#[derive(Drop)]
+pub struct AsBlocksBuilder<A: Allocator = Global> {
+    blocks: Vec<AsBlock, A>,
+}
+
+impl<A: Allocator> Model for AsBlocksBuilder<A> {
+    ghost use Rattle.std.specs.Prelude.{ℕ, List, map};
+    ghost use Rattle.rpki_as.specs.Blocks.{as_bounds};
+
+    ghost Value = { List (ℕ × ℕ) };
+
+    ghost view = { λ b. map as_bounds b.blocks.items };
+}
+
+impl<A: Allocator> AsBlocksBuilder<A> {
+    /// A builder that has no blocks yet.
+    pub fn new(alloc: A) -> AsBlocksBuilder<A>
+        ensures { result ≡ [] }
+    {
+        AsBlocksBuilder {
+            blocks: Vec::new(alloc),
+        }
+    }
+
+    /// Adds a block. `AllocError` where there is no memory for it; then the builder has the blocks that it had.
+    pub fn push(&mut self, block: AsBlock) -> Result<(), AllocError>
+        ensures ok { OnOk result (self.new ≡ self.old ++ as_bounds block ∷ []) }
+        ensures err { OnErr result (self.new ≡ self.old) }
+    {
+        self.blocks.push(block)?;
+        Ok(())
+    }
+
+    /// Adds several blocks. `AllocError` where there is no memory for them; then the builder has the blocks that it had.
+    pub fn extend_from(&mut self, blocks: &[AsBlock]) -> Result<(), AllocError>
+        ensures ok { OnOk result (self.new ≡ self.old ++ map as_bounds blocks.now) }
+        ensures err { OnErr result (self.new ≡ self.old) }
+    {
+        self.blocks.extend_from_slice(blocks)
+    }
+
+    /// The set of the numbers that some of the blocks has. `AllocError` where there is no memory for it.
+    pub fn finalize(self) -> Result<AsBlocks<A>, AllocError>
+    where
+        A: Copy,
+        ensures { IfOk result (IsRunsOf (Holds self)) }
+    {
+        let alloc = *self.blocks.allocator();
+        AsBlocks::from_blocks(alloc, self.blocks.as_slice())
+    }
+}

@@ -11,6 +11,7 @@ use Rattle.rpki_der.proofs.Numbers.{octets-big_endian, big_endian-octets, octets
 
 -- ---- an integer: the reading and the conditions
 
+-- a number that is read meets the conditions
 unsigned_says : (content : List ℕ) (n : ℕ) → unsigned content ≡ Ok n → IsUnsigned content n
 unfolding unsigned
 unsigned_says content n e =
@@ -34,10 +35,12 @@ unsigned_says content n e =
       limit = rw (← n-is) small;
     }
 
+-- one octet is never one too many
 one_alone : (b : Bool) → (ltb 1 1 && b && ltb 0 128) ≡ false
 one_alone true = refl
 one_alone false = refl
 
+-- two tests of which the first fails
 first_set : (a b : Bool) → a ≡ false → (a && b) ≡ false
 first_set true b e = absurd cc
 first_set false b e = refl
@@ -49,6 +52,7 @@ not_long (b ∷ []) n is = one_alone (eqb b 0)
 not_long (zero ∷ c ∷ cs) n is = let high : 128 ≤ c = is.minimal (omega arith) refl in and_false _ (ltb c 128) (le-ltb c 128 high)
 not_long (suc b ∷ c ∷ cs) n is = first_set _ (ltb c 128) (and_false _ (eqb (suc b) 0) (ne_eqb (suc b) 0 (λ h. omega arith)))
 
+-- a number that meets the conditions is read
 says_unsigned : (content : List ℕ) (n : ℕ) → IsUnsigned content n → unsigned content ≡ Ok n
 unfolding unsigned
 says_unsigned content n is =
@@ -59,11 +63,13 @@ says_unsigned content n is =
     let below : ltb n (2 ^ 32) ≡ true = lt-ltb n (2 ^ 32) is.limit in
     rw (short, not_long content n is, is.spelled, below) refl
 
+-- the two together
 pub unsigned_check : IsCheck (λ _. Unit {0}) IsUnsigned unsigned
 unsigned_check = record { takes = λ content n fits e. unsigned_says content n e; again = says_unsigned }
 
 -- ---- an integer: the conditions and the spelling
 
+-- the conditions leave one spelling, by the first octets
 spelled_of : (content : List ℕ) → IsBytes content → IsUnsigned content (big_endian content) → content ≡ integer (big_endian content)
 unfolding integer
 spelled_of [] fits is = absurd (omega (arith, is.some))
@@ -78,9 +84,11 @@ spelled_of (suc b ∷ bs) fits is =
     let below : ltb (suc b) 128 ≡ true = lt-ltb (suc b) 128 is.sign in
     rw (same, below) refl
 
+-- the conditions leave one spelling
 pub unsigned_spelled : (content : List ℕ) (n : ℕ) → IsBytes content → IsUnsigned content n → content ≡ integer n
 unsigned_spelled content n fits is = spelled_of content fits (subst (IsUnsigned content) (sym is.spelled) is) ∙ ap integer is.spelled
 
+-- the four high octets of a number of 32 bits are zero
 high_zero : (n : ℕ) → n < 2 ^ 32 → to_be_bytes w64 n ≡ 0 ∷ 0 ∷ 0 ∷ 0 ∷ bytes_high_first 4 n
 high_zero n lt =
     let a7 : n / 256 ^ 7 % 256 ≡ 0 = omega arith in
@@ -89,14 +97,17 @@ high_zero n lt =
     let a4 : n / 256 ^ 4 % 256 ≡ 0 = omega arith in
     rw (a7, a6, a5, a4) refl
 
+-- so it has four octets at most
 length-octets_32 : (n : ℕ) → n < 2 ^ 32 → length (octets n) ≤ 4
 unfolding octets
 length-octets_32 n lt = rw (high_zero n lt) (length-without_zeros (bytes_high_first 4 n))
 
+-- octets that begin with no zero, with a zero in front where their first bit is 1
 says_signed : (n d : ℕ) (ds : List ℕ) → n < 2 ^ 32 → big_endian (d ∷ ds) ≡ n → length (d ∷ ds) ≤ 4 → d ≢ 0 → (b : Bool) → ltb d 128 ≡ b → IsUnsigned (cond b (d ∷ ds) (0 ∷ d ∷ ds)) n
 says_signed n d ds lt back few nonzero true low = record { some = omega arith; few = omega arith; sign = ltb-true d 128 low; minimal = λ p q. absurd (nonzero q); spelled = back; limit = lt }
 says_signed n d ds lt back few nonzero false high = record { some = omega arith; few = omega arith; sign = omega arith; minimal = λ p q. ltb-false d 128 high; spelled = back; limit = lt }
 
+-- the same for a number, which may have no octets
 says_spelled : (n : ℕ) (ds : List ℕ) → n < 2 ^ 32 → octets n ≡ ds → IsUnsigned (with_sign ds) n
 says_spelled n [] lt is = record { some = omega arith; few = omega arith; sign = omega arith; minimal = λ p q. absurd (omega arith); spelled = sym (ap big_endian is) ∙ big_endian-octets n (omega arith); limit = lt }
 says_spelled n (d ∷ ds) lt is =
@@ -110,15 +121,18 @@ says_spelled n (d ∷ ds) lt is =
           absurd cc
     ]
 
+-- the spelling meets the conditions
 pub spelled_unsigned : (n : ℕ) → n < 2 ^ 32 → IsUnsigned (integer n) n
 unfolding integer
 spelled_unsigned n lt = says_spelled n (octets n) lt refl
 
+-- an INTEGER of 32 bits has a content of five octets at most
 pub length-integer : (n : ℕ) → n < 2 ^ 32 → length (integer n) ≤ 5
 length-integer n lt = (spelled_unsigned n lt).few
 
 -- ---- bit strings and NULL
 
+-- where no octet is, no bit is unused
 none_used : (u n : ℕ) → (ltb 0 u && (eqb n 0)) ≡ false → n ≡ 0 → u ≡ 0
 none_used u n e h =
     elim (cases_lt 0 u) [
@@ -126,6 +140,7 @@ none_used u n e h =
       | inr none ↦ omega arith
     ]
 
+-- a bit string that is read meets the conditions
 bits_say : (content : List ℕ) (b : Bits) → bits content ≡ Ok b → IsBitContent content b
 unfolding bits
 bits_say [] b e = absurd cc
@@ -135,6 +150,7 @@ bits_say (u ∷ os) b e =
     let made = ok_is (record { unused = u; octets = os }) b g.1 in
     subst (IsBitContent (u ∷ os)) made (record { counted = record { below = omega (arith, ltb-false 7 u a.0); empty = λ h. none_used u (length os) a.1 h }; spelled = refl })
 
+-- the conditions pass the test of empty octets
 used : (b : Bits) → IsBits b → (ltb 0 b.unused && (eqb (length b.octets) 0)) ≡ false
 used b is =
     elim (cases_lt 0 b.unused) [
@@ -142,6 +158,7 @@ used b is =
       | inr none ↦ rw (le-ltb 0 b.unused none) refl
     ]
 
+-- a bit string that meets the conditions is read
 say_bits : (content : List ℕ) (b : Bits) → IsBitContent content b → bits content ≡ Ok b
 unfolding bits
 say_bits content b is =
@@ -149,17 +166,21 @@ say_bits content b is =
     let t1 : (ltb 0 b.unused && (eqb (length b.octets) 0)) ≡ false = used b is.counted in
     rw (is.spelled, t0, t1) refl
 
+-- the two together
 pub bits_check : IsCheck (λ _. Unit {0}) IsBitContent bits
 bits_check = record { takes = λ content b fits e. bits_say content b e; again = say_bits }
 
+-- a NULL that is read has no octet
 nothing_says : (content : List ℕ) (u : Unit {0}) → nothing content ≡ Ok u → content ≡ []
 unfolding nothing
 nothing_says [] u e = refl
 nothing_says (b ∷ bs) u e = absurd cc
 
+-- no octets are read as a NULL
 says_nothing : (content : List ℕ) (u : Unit {0}) → content ≡ [] → nothing content ≡ Ok u
 unfolding nothing
 says_nothing content u is = rw is refl
 
+-- the two together
 pub nothing_check : IsCheck (λ _. Unit {0}) IsNothing nothing
 nothing_check = record { takes = λ content u fits e. nothing_says content u e; again = says_nothing }

@@ -11,11 +11,13 @@ use Rattle.rpki_der.proofs.Numbers.{octets-big_endian, big_endian-octets, big_en
 
 -- ---- the reading and the conditions
 
+-- the first of the octets that are taken
 get_or-take_first : (n : ℕ) (bs : List ℕ) → 0 < n → get_or (take n bs) 0 0 ≡ get_or bs 0 0
 get_or-take_first zero bs pos = absurd (omega arith)
 get_or-take_first (suc n) [] pos = refl
 get_or-take_first (suc n) (b ∷ bs) pos = refl
 
+-- a length that is read from further octets meets the conditions
 long_says : (first : ℕ) (bytes : List ℕ) (n : ℕ) (rest : List ℕ) → 128 ≤ first → long_length_at (first - 128) bytes ≡ Ok (n, rest)
     → (digits : List ℕ) × IsLongLength first digits n × (bytes ≡ digits ++ rest)
 unfolding long_length_at
@@ -46,6 +48,7 @@ long_says first bytes n rest large e =
     } in
     (digits, is, rw (← rest-is) (sym (take-append-drop count bytes)))
 
+-- by the first octet, below 128 or not
 length_by : (first : ℕ) (bytes : List ℕ) (n : ℕ) (rest : List ℕ) (b : Bool) → ltb first 128 ≡ b
     → cond b (Ok (first, bytes)) (long_length_at (first - 128) bytes) ≡ Ok (n, rest) → Front IsLength (first ∷ bytes) n rest
 length_by first bytes n rest true t e =
@@ -57,15 +60,18 @@ length_by first bytes n rest false t e =
     let long = long_says first bytes n rest (ltb-false first 128 t) e in
     (first ∷ long.0, inr long.1, ap (λ (x : List ℕ). first ∷ x) long.2)
 
+-- a length that is read meets the conditions
 length_says : (bytes : List ℕ) (n : ℕ) (rest : List ℕ) → length_at bytes ≡ Ok (n, rest) → Front IsLength bytes n rest
 unfolding length_at
 length_says [] n rest e = absurd cc
 length_says (first ∷ bytes) n rest e = length_by first bytes n rest (ltb first 128) refl e
 
+-- octets that begin with no zero are some
 has_some : (ds : List ℕ) → get_or ds 0 0 ≢ 0 → 0 < length ds
 has_some [] h = absurd (h refl)
 has_some (d ∷ ds) h = omega arith
 
+-- a length in further octets that meets the conditions is read
 says_long : (first : ℕ) (ds : List ℕ) (n : ℕ) (rest : List ℕ) → IsLongLength first ds n → long_length_at (length ds) (ds ++ rest) ≡ Ok (n, rest)
 unfolding long_length_at
 says_long first ds n rest is =
@@ -78,6 +84,7 @@ says_long first ds n rest is =
     let g3 : ((eqb (get_or ds 0 0) 0) || ltb n 128) ≡ false = both_false _ _ (ne_eqb (get_or ds 0 0) 0 is.no_zero) (le-ltb n 128 is.large) in
     rw (g1, g2, head, digits, after, is.spelled, g3) refl
 
+-- a length that meets the conditions is read, whatever follows
 says_length : (front : List ℕ) (n : ℕ) (rest : List ℕ) → IsLength front n → length_at (front ++ rest) ≡ Ok (n, rest)
 unfolding length_at
 says_length [] n rest is = absurd is
@@ -89,6 +96,7 @@ says_length (first ∷ digits) n rest (inr is) =
 
 -- ---- the conditions and the spelling
 
+-- the conditions leave one spelling, of a length below 2 ^ 64
 pub length_spelled : (bytes : List ℕ) (n : ℕ) → IsBytes bytes → IsLength bytes n → (bytes ≡ length_octets n) × (n < 2 ^ 64)
 unfolding length_octets
 length_spelled [] n fits is = absurd is
@@ -101,23 +109,27 @@ length_spelled (first ∷ digits) n fits (inr is) =
     let not : ltb n 128 ≡ false = le-ltb n 128 is.large in
     (rw (not, are, is.count) refl, rw (← is.spelled) (big_endian_small digits inside is.few))
 
+-- by the size of the length, below 128 or not
 by_size : (n : ℕ) → n < 2 ^ 64 → (b : Bool) → ltb n 128 ≡ b → IsLength (cond b (n ∷ []) ((128 + length (octets n)) ∷ octets n)) n
 by_size n lt true t = inl (ltb-true n 128 t, refl, refl)
 by_size n lt false t =
     let large : 128 ≤ n = ltb-false n 128 t in
     inr (record { count = refl; few = length-octets n; no_zero = octets_head n (omega arith) lt; large = large; spelled = big_endian-octets n lt })
 
+-- the spelling meets the conditions
 pub spelled_length : (n : ℕ) → n < 2 ^ 64 → IsLength (length_octets n) n
 unfolding length_octets
 spelled_length n lt = by_size n lt (ltb n 128) refl
 
 -- ---- the reading and the spelling
 
+-- a length that is read is spelled so
 pub length_takes : (bytes : List ℕ) (n : ℕ) (rest : List ℕ) → IsBytes bytes → length_at bytes ≡ Ok (n, rest) → (bytes ≡ length_octets n ++ rest) × (n < 2 ^ 64)
 length_takes bytes n rest fits e =
     let found = length_says bytes n rest e in
     let is = length_spelled found.0 n (fits_front found.0 rest (subst IsBytes found.2 fits)) found.1 in
     (found.2 ∙ ap (λ (x : List ℕ). x ++ rest) is.0, is.1)
 
+-- a length that is spelled so is read, whatever follows
 pub length_again : (n : ℕ) (rest : List ℕ) → n < 2 ^ 64 → length_at (length_octets n ++ rest) ≡ Ok (n, rest)
 length_again n rest lt = says_length (length_octets n) n rest (spelled_length n lt)

@@ -11,20 +11,24 @@ use Rattle.rpki_der.proofs.Readings.{fits_rest}
 abbrev pub HasOctets : {X : Type 0} → (List ℕ → X → Type 0) → Type 0
 HasOctets {X} G = (front : List ℕ) (x : X) → G front x → 0 < length front
 
+-- the tag octet is one
 pub value_has_octets : (bytes : List ℕ) (tag : ℕ) (content : List ℕ) → IsValue bytes tag content → 0 < length bytes
 unfolding header
 value_has_octets bytes tag content is = rw is.spelled (omega arith)
 
+-- behind a value fewer octets are left
 pub shorter : {X : Type 0} (G : List ℕ → X → Type 0) → HasOctets G → (bytes : List ℕ) (x : X) (rest : List ℕ) → Front G bytes x rest → length rest < length bytes
 shorter G has bytes x rest found = let some = has found.0 x found.1 in omega (arith, length-append found.0 rest, ap length found.2)
 
 -- ---- the reading and the grammar
 
+-- at the end nothing more is read
 pub each-nil : {S X : Type 0} (next : S → X → S) (steps : ℕ) (reading : S → List ℕ → Result (X × List ℕ) DerError) (state : S) → each_from next steps reading state [] ≡ Ok []
 unfolding each_from
 each-nil next zero reading state = refl
 each-nil next (suc steps) reading state = refl
 
+-- values that are read are those of the grammar
 pub each_takes : {S X : Type 0} (next : S → X → S) (G : S → List ℕ → X → Type 0) (reading : S → List ℕ → Result (X × List ℕ) DerError) → ((state : S) → IsReading (G state) (reading state))
     → (steps : ℕ) (state : S) (bytes : List ℕ) (xs : List X) → IsBytes bytes → each_from next steps reading state bytes ≡ Ok xs → EachFrom next G state bytes xs
 unfolding each_from
@@ -38,6 +42,7 @@ each_takes next G reading is (suc steps) state (b ∷ bytes) xs fits e =
     let after = each_takes next G reading is steps (next state first.0.0) first.0.1 others.0 (fits_rest (G state) (b ∷ bytes) first.0.0 first.0.1 found fits) others.1 in
     subst (EachFrom next G state (b ∷ bytes)) (ok_is (first.0.0 ∷ others.0) xs others.2) (first.0.1, found, after)
 
+-- values of the grammar are read
 pub each_again : {S X : Type 0} (next : S → X → S) (G : S → List ℕ → X → Type 0) (reading : S → List ℕ → Result (X × List ℕ) DerError) → ((state : S) → IsReading (G state) (reading state)) → ((state : S) → HasOctets (G state))
     → (xs : List X) (steps : ℕ) (state : S) (bytes : List ℕ) → length bytes ≤ steps → EachFrom next G state bytes xs → each_from next steps reading state bytes ≡ Ok xs
 unfolding each_from
@@ -64,18 +69,22 @@ pub record SoFar {S X : Type 0} (next : S → X → S) (reading : S → List ℕ
   pub enough : length bytes ≤ steps
   pub whole : with_front front (each_from next steps reading state bytes) ≡ total
 
+-- nothing read so far changes nothing
 with_no_front : {X : Type 0} (read : Result (List X) DerError) → with_front [] read ≡ read
 with_no_front (Ok xs) = refl
 with_no_front (Err e) = refl
 
+-- before the first turn nothing was read
 pub loop_begins : {S X : Type 0} (next : S → X → S) (reading : S → List ℕ → Result (X × List ℕ) DerError) (state : S) (bytes : List ℕ)
     → SoFar next reading [] state bytes (each_from next (length bytes) reading state bytes)
 loop_begins next reading state bytes = record { steps = length bytes; enough = omega arith; whole = with_no_front (each_from next (length bytes) reading state bytes) }
 
+-- one more value, put behind those read so far
 with_one : {X : Type 0} (front : List X) (x : X) (read : Result (List X) DerError) → with_front front (read >>= λ xs. Ok (x ∷ xs)) ≡ with_front (front ++ x ∷ []) read
 with_one front x (Ok xs) = ap (λ (ys : List _). Ok ys) (sym (append_assoc front (x ∷ []) xs))
 with_one front x (Err e) = refl
 
+-- a turn, by the steps that are left
 more_by : {S X : Type 0} (next : S → X → S) (reading : S → List ℕ → Result (X × List ℕ) DerError) (front : List X) (state : S) (b : ℕ) (bytes : List ℕ) (total : Result (List X) DerError) (x : X) (rest : List ℕ) (steps : ℕ)
     → length (b ∷ bytes) ≤ steps → with_front front (each_from next steps reading state (b ∷ bytes)) ≡ total → reading state (b ∷ bytes) ≡ Ok (x, rest) → length rest < length (b ∷ bytes)
     → SoFar next reading (front ++ x ∷ []) (next state x) rest total
@@ -85,22 +94,26 @@ more_by next reading front state b bytes total x rest (suc steps) enough whole r
     let one : with_front front (each_from next (suc steps) reading state (b ∷ bytes)) ≡ with_front front (each_from next steps reading (next state x) rest >>= λ xs. Ok (x ∷ xs)) = rw read refl in
     record { steps = steps; enough = omega arith; whole = sym (one ∙ with_one front x (each_from next steps reading (next state x) rest)) ∙ whole }
 
+-- a turn that reads a value
 pub loop_more : {S X : Type 0} (next : S → X → S) (reading : S → List ℕ → Result (X × List ℕ) DerError) (front : List X) (state : S) (bytes : List ℕ) (total : Result (List X) DerError) (x : X) (rest : List ℕ)
     → SoFar next reading front state bytes total → reading state bytes ≡ Ok (x, rest) → length rest < length bytes → SoFar next reading (front ++ x ∷ []) (next state x) rest total
 loop_more next reading front state [] total x rest so read fewer = absurd (omega arith)
 loop_more next reading front state (b ∷ bytes) total x rest so read fewer = more_by next reading front state b bytes total x rest so.steps so.enough so.whole read fewer
 
+-- at the end of the octets the values read so far are all
 pub loop_ends : {S X : Type 0} (next : S → X → S) (reading : S → List ℕ → Result (X × List ℕ) DerError) (front : List X) (state : S) (bytes : List ℕ) (total : Result (List X) DerError)
     → SoFar next reading front state bytes total → bytes ≡ [] → total ≡ Ok front
 loop_ends next reading front state bytes total so none =
     sym so.whole ∙ ap (λ (t : List ℕ). with_front front (each_from next so.steps reading state t)) none ∙ ap (with_front front) (each-nil next so.steps reading state) ∙ ap (λ (ys : List _). Ok ys) (append-nil front)
 
+-- a turn that fails, by the steps that are left
 fails_by : {S X : Type 0} (next : S → X → S) (reading : S → List ℕ → Result (X × List ℕ) DerError) (front : List X) (state : S) (b : ℕ) (bytes : List ℕ) (e : DerError) (steps : ℕ)
     → length (b ∷ bytes) ≤ steps → reading state (b ∷ bytes) ≡ Err e → with_front front (each_from next steps reading state (b ∷ bytes)) ≡ Err e
 unfolding each_from
 fails_by next reading front state b bytes e zero enough read = absurd (omega arith)
 fails_by next reading front state b bytes e (suc steps) enough read = rw read refl
 
+-- a turn that fails is what the whole fails with
 pub loop_fails : {S X : Type 0} (next : S → X → S) (reading : S → List ℕ → Result (X × List ℕ) DerError) (front : List X) (state : S) (bytes : List ℕ) (total : Result (List X) DerError) (e : DerError)
     → SoFar next reading front state bytes total → bytes ≢ [] → reading state bytes ≡ Err e → total ≡ Err e
 loop_fails next reading front state [] total e so some read = absurd (some refl)
@@ -108,16 +121,20 @@ loop_fails next reading front state (b ∷ bytes) total e so some read = sym so.
 
 -- ---- what an optional reading says
 
+-- Some of two values
 some_is : {X : Type 0} (x y : X) → Some x ≡ Some y → x ≡ y
 some_is x y e = cc
 
+-- what an optional reading makes of a value
 abbrev as_some : {X : Type 0} → X × List ℕ → Result (Option X × List ℕ) DerError
 as_some x = Ok (Some x.0, x.1)
 
+-- its fault is that of the reading
 some_err : {X : Type 0} (r : Result (X × List ℕ) DerError) (e : DerError) → (r >>= as_some) ≡ Err e → r ≡ Err e
 some_err (Ok x) e h = absurd cc
 some_err (Err d) e h = cc
 
+-- Some is what the reading gives before the end
 pub optional_some : {X : Type 0} (reading : List ℕ → Result (X × List ℕ) DerError) (bytes : List ℕ) (x : X) (rest : List ℕ) → optional reading bytes ≡ Ok (Some x, rest) → (bytes ≢ []) × (reading bytes ≡ Ok (x, rest))
 unfolding optional
 optional_some reading [] x rest e = let h = ap (λ p. p.0) (ok_is (None, []) (Some x, rest) e) in absurd cc
@@ -128,6 +145,7 @@ optional_some reading (b ∷ bytes) x rest e =
     let second : a.0.1 ≡ rest = ap (λ p. p.1) both in
     ((λ z. absurd cc), a.1 ∙ ap (λ y. Ok (y, a.0.1)) first ∙ ap (λ (t : List ℕ). Ok (x, t)) second)
 
+-- None is at the end, and nothing is left
 pub optional_none : {X : Type 0} (reading : List ℕ → Result (X × List ℕ) DerError) (bytes rest : List ℕ) → optional reading bytes ≡ Ok (None, rest) → (bytes ≡ []) × (rest ≡ [])
 unfolding optional
 optional_none reading [] rest e = (refl, ap (λ p. p.1) (sym (ok_is (None, []) (None, rest) e)))
@@ -136,6 +154,7 @@ optional_none reading (b ∷ bytes) rest e =
     let h = ap (λ p. p.0) (ok_is (Some a.0.0, a.0.1) (None, rest) a.2) in
     absurd cc
 
+-- a fault is what the reading gives before the end
 pub optional_err : {X : Type 0} (reading : List ℕ → Result (X × List ℕ) DerError) (bytes : List ℕ) (e : DerError) → optional reading bytes ≡ Err e → (bytes ≢ []) × (reading bytes ≡ Err e)
 unfolding optional
 optional_err reading [] e h = absurd cc

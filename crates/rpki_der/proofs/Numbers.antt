@@ -9,6 +9,7 @@ use Rattle.rpki_der.proofs.Steps.{IsBytes-zeros}
 
 -- ---- digits behind zeros, eight in all
 
+-- eight octets that end with the digits
 abbrev padded : List ℕ → List ℕ
 padded digits = replicate (8 - length digits) 0 ++ digits
 
@@ -41,24 +42,29 @@ number_is digits written le e = ap (from_be_bytes w64) (padded_is digits written
 
 -- ---- octets without zeros in front
 
+-- zeros in front go
 without_zeros-zeros : (n : ℕ) (ds : List ℕ) → without_zeros (replicate n 0 ++ ds) ≡ without_zeros ds
 without_zeros-zeros zero ds = refl
 without_zeros-zeros (suc n) ds = without_zeros-zeros n ds
 
+-- octets that begin with no zero stay
 without_zeros-head : (d : ℕ) (ds : List ℕ) → d ≢ 0 → without_zeros (d ∷ ds) ≡ d ∷ ds
 without_zeros-head zero ds h = absurd (h refl)
 without_zeros-head (suc d) ds h = refl
 
+-- no octet is added
 pub length-without_zeros : (ds : List ℕ) → length (without_zeros ds) ≤ length ds
 length-without_zeros [] = omega arith
 length-without_zeros (zero ∷ ds) = omega (arith, length-without_zeros ds)
 length-without_zeros (suc d ∷ ds) = omega arith
 
+-- the number stays
 big_endian-without_zeros : (ds : List ℕ) → big_endian (without_zeros ds) ≡ big_endian ds
 big_endian-without_zeros [] = refl
 big_endian-without_zeros (zero ∷ ds) = big_endian-without_zeros ds
 big_endian-without_zeros (suc d ∷ ds) = refl
 
+-- what stays begins with no zero
 head_or_nil : (ds : List ℕ) → (without_zeros ds ≡ [] → ⊥) → get_or (without_zeros ds) 0 0 ≢ 0
 head_or_nil [] h e = h refl
 head_or_nil (zero ∷ ds) h e = head_or_nil ds h e
@@ -66,6 +72,7 @@ head_or_nil (suc d ∷ ds) h e = absurd (omega arith)
 
 -- ---- the octets of a number
 
+-- eight octets of a number spell it
 eight_octets : (n : ℕ) → n < 2 ^ 64 → big_endian (to_be_bytes w64 n) ≡ n
 eight_octets n lt = sym (from_be_bytes-padded (to_be_bytes w64 n) (omega arith)) ∙ from_be_bytes-to_be_bytes_8 n lt
 
@@ -74,6 +81,7 @@ pub big_endian-octets : (n : ℕ) → n < 2 ^ 64 → big_endian (octets n) ≡ n
 unfolding octets
 big_endian-octets n lt = big_endian-without_zeros (to_be_bytes w64 n) ∙ eight_octets n lt
 
+-- the same where the first octet is in sight
 octets-first : (d : ℕ) (ds : List ℕ) → IsBytes (d ∷ ds) → suc (length ds) ≤ 8 → d ≢ 0 → octets (big_endian (d ∷ ds)) ≡ d ∷ ds
 unfolding octets
 octets-first d ds fits le nonzero =
@@ -88,16 +96,20 @@ pub octets-big_endian : (ds : List ℕ) → IsBytes ds → 0 < length ds → len
 octets-big_endian [] fits some le nonzero = absurd (omega arith)
 octets-big_endian (d ∷ ds) fits some le nonzero = octets-first d ds fits le nonzero
 
+-- eight octets spell a number below 2 ^ 64
 eight : (bs : List ℕ) → IsBytes bs → from_be_bytes w64 bs < 2 ^ 64
 eight bs h = omega (arith, h 0, h 1, h 2, h 3, h 4, h 5, h 6, h 7)
 
+-- at most eight octets spell a number below 2 ^ 64
 pub big_endian_small : (ds : List ℕ) → IsBytes ds → length ds ≤ 8 → big_endian ds < 2 ^ 64
 big_endian_small ds fits le = rw (← from_be_bytes-padded ds le) (eight (padded ds) (IsBytes-zeros (8 - length ds) ds fits))
 
+-- a number below 2 ^ 64 has eight octets at most
 pub length-octets : (n : ℕ) → length (octets n) ≤ 8
 unfolding octets
 length-octets n = length-without_zeros (to_be_bytes w64 n)
 
+-- 0 has none
 pub octets-zero : octets 0 ≡ []
 unfolding octets
 octets-zero = refl
@@ -108,9 +120,11 @@ octets_are n pos lt e =
     let z : 0 ≡ n = ap big_endian (sym e) ∙ big_endian-octets n lt in
     omega arith
 
+-- by the octets, if there are some
 head_of : (n : ℕ) → (octets n ≡ [] → ⊥) → get_or (octets n) 0 0 ≢ 0
 unfolding octets
 head_of n h = head_or_nil (to_be_bytes w64 n) h
 
+-- the first octet of a number above 0 is no zero
 pub octets_head : (n : ℕ) → 0 < n → n < 2 ^ 64 → get_or (octets n) 0 0 ≢ 0
 octets_head n pos lt = head_of n (octets_are n pos lt)

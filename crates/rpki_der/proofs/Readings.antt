@@ -27,6 +27,7 @@ value_front tag n bytes after v rest low lt split enough made =
     let whole : tag ∷ bytes ≡ value tag content ++ drop n after = rw (len, parts) refl in
     subst (λ (p : Tlv × List ℕ). Front IsTlv (tag ∷ bytes) p.0 p.1) made (value tag content, record { has_tag = low; short = omega arith; spelled = refl }, whole)
 
+-- a value that is read is spelled so
 value_takes : (bytes : List ℕ) (v : Tlv) (rest : List ℕ) → IsBytes bytes → value_at bytes ≡ Ok (v, rest) → Front IsTlv bytes v rest
 unfolding value_at
 value_takes [] v rest fits e = absurd cc
@@ -41,6 +42,7 @@ value_takes (tag ∷ bytes) v rest fits e =
     let apart : tag % 32 ≢ 31 = eqb-false (tag % 32) 31 g1.0 in
     value_front tag n bytes after v rest (omega arith) long.1 long.0 (ltb-false (length after) n g2.0) (ok_is (cut tag n after) (v, rest) g2.1)
 
+-- the octets of a tag and a content are read as them
 value_again_spelled : (tag : ℕ) (content rest : List ℕ) → IsTag tag → length content < 2 ^ 64 → value_at (value tag content ++ rest) ≡ Ok (record { tag = tag; content = content }, rest)
 unfolding value_at header
 value_again_spelled tag content rest low lt =
@@ -50,9 +52,11 @@ value_again_spelled tag content rest low lt =
     let enough : ltb (length (content ++ rest)) (length content) ≡ false = le-ltb _ _ (omega (arith, length-append content rest)) in
     rw (is_low, front, enough, take_at content rest (length content) refl, drop_at content rest (length content) refl) refl
 
+-- a value is read, whatever follows
 value_again : (front : List ℕ) (v : Tlv) (rest : List ℕ) → IsTlv front v → value_at (front ++ rest) ≡ Ok (v, rest)
 value_again front v rest is = ap (λ (x : List ℕ). value_at (x ++ rest)) is.spelled ∙ value_again_spelled v.tag v.content rest is.has_tag is.short
 
+-- the two together
 pub value_reading : IsReading IsTlv value_at
 value_reading = record { takes = value_takes; again = value_again }
 
@@ -65,12 +69,15 @@ one_front G reading is a b x y r s p q e =
 
 -- ---- octets of the parts
 
+-- the content of octets is octets
 pub fits_content : (bytes : List ℕ) (tag : ℕ) (content : List ℕ) → IsValue bytes tag content → IsBytes bytes → IsBytes content
 fits_content bytes tag content is h = fits_back (header tag (length content)) content (subst IsBytes is.spelled h)
 
+-- a value at the front of octets is octets
 pub fits_value : {X : Type 0} (G : List ℕ → X → Type 0) (bytes : List ℕ) (x : X) (rest : List ℕ) (found : Front G bytes x rest) → IsBytes bytes → IsBytes found.0
 fits_value G bytes x rest found h = fits_front found.0 rest (subst IsBytes found.2 h)
 
+-- what follows it is octets
 pub fits_rest : {X : Type 0} (G : List ℕ → X → Type 0) (bytes : List ℕ) (x : X) (rest : List ℕ) (found : Front G bytes x rest) → IsBytes bytes → IsBytes rest
 fits_rest G bytes x rest found h = fits_back found.0 rest (subst IsBytes found.2 h)
 
@@ -79,6 +86,7 @@ fits_rest G bytes x rest found h = fits_back found.0 rest (subst IsBytes found.2
 abbrev pub IsTagged : ℕ → List ℕ → List ℕ → Type 0
 IsTagged tag bytes content = IsValue bytes tag content
 
+-- a value of one tag that is read is one
 tagged_takes : (tag : ℕ) (bytes content rest : List ℕ) → IsBytes bytes → tagged_at tag bytes ≡ Ok (content, rest) → Front (IsTagged tag) bytes content rest
 unfolding tagged_at
 tagged_takes tag bytes content rest fits e =
@@ -89,15 +97,18 @@ tagged_takes tag bytes content rest fits e =
     let is : IsTagged tag found.0 a.0.0.content = subst (λ (t : ℕ). IsTagged t found.0 a.0.0.content) (eqb-true a.0.0.tag tag g.0) found.1 in
     subst (λ (p : List ℕ × List ℕ). Front (IsTagged tag) bytes p.0 p.1) made (found.0, is, found.2)
 
+-- a value of the tag is read, whatever follows
 tagged_again : (tag : ℕ) (front content rest : List ℕ) → IsTagged tag front content → tagged_at tag (front ++ rest) ≡ Ok (content, rest)
 unfolding tagged_at
 tagged_again tag front content rest is = rw (value_again front (record { tag = tag; content = content }) rest is, eq-eqb tag tag refl) refl
 
+-- the two together
 pub tagged_reading : (tag : ℕ) → IsReading (IsTagged tag) (tagged_at tag)
 tagged_reading tag = record { takes = tagged_takes tag; again = tagged_again tag }
 
 -- ---- values looked at once more
 
+-- what is read and passes the second look is in the refined grammar
 refined_takes : {X Y : Type 0} (G : List ℕ → X → Type 0) (C : X → Y → Type 0) (Fits : X → Type 0) (reading : List ℕ → Result (X × List ℕ) DerError) (check : X → Result Y DerError)
     → IsReading G reading → ((front : List ℕ) (x : X) → G front x → IsBytes front → Fits x) → IsCheck Fits C check
     → (bytes : List ℕ) (y : Y) (rest : List ℕ) → IsBytes bytes → refined reading check bytes ≡ Ok (y, rest) → Front (Refines G C) bytes y rest
@@ -110,11 +121,13 @@ refined_takes G C Fits reading check is inside says bytes y rest fits e =
     let c = says.takes a.0.0 b.0 (inside found.0 a.0.0 found.1 (fits_value G bytes a.0.0 a.0.1 found fits)) b.1 in
     subst (λ p. Front (Refines G C) bytes p.0 p.1) made (found.0, (a.0.0, found.1, c), found.2)
 
+-- what is in the refined grammar is read and passes
 refined_again : {X Y : Type 0} (G : List ℕ → X → Type 0) (C : X → Y → Type 0) (Fits : X → Type 0) (reading : List ℕ → Result (X × List ℕ) DerError) (check : X → Result Y DerError)
     → IsReading G reading → IsCheck Fits C check → (front : List ℕ) (y : Y) (rest : List ℕ) → Refines G C front y → refined reading check (front ++ rest) ≡ Ok (y, rest)
 unfolding refined
 refined_again G C Fits reading check is says front y rest r = rw (is.again front r.0 rest r.1, says.again r.0 y r.2) refl
 
+-- the two together
 pub refined_reading : {X Y : Type 0} (G : List ℕ → X → Type 0) (C : X → Y → Type 0) (Fits : X → Type 0) (reading : List ℕ → Result (X × List ℕ) DerError) (check : X → Result Y DerError)
     → IsReading G reading → ((front : List ℕ) (x : X) → G front x → IsBytes front → Fits x) → IsCheck Fits C check → IsReading (Refines G C) (refined reading check)
 refined_reading G C Fits reading check is inside says = record { takes = refined_takes G C Fits reading check is inside says; again = refined_again G C Fits reading check is says }
@@ -131,17 +144,21 @@ same_reading G H reading to from is = record {
 content_reading : {Y : Type 0} (tag : ℕ) (C : List ℕ → Y → Type 0) (check : List ℕ → Result Y DerError) → IsCheck (λ _. Unit {0}) C check → IsReading (Refines (IsTagged tag) C) (refined (tagged_at tag) check)
 content_reading tag C check says = refined_reading (IsTagged tag) C (λ _. Unit {0}) (tagged_at tag) check (tagged_reading tag) (λ front x is fits. tt) says
 
+-- a content by the conditions is the content as it is spelled
 u32_to : (bytes : List ℕ) (n : ℕ) → IsBytes bytes → Refines (IsTagged 2) IsUnsigned bytes n → IsU32 bytes n
 u32_to bytes n fits is = (is.2.limit, subst (IsTagged 2 bytes) (unsigned_spelled is.0 n (fits_content bytes 2 is.0 is.1 fits) is.2) is.1)
 
+-- an INTEGER of 32 bits
 pub u32_reading : IsReading IsU32 u32_at
 u32_reading = same_reading (Refines (IsTagged 2) IsUnsigned) IsU32 u32_at u32_to (λ bytes n is. (_, is.1, spelled_unsigned n is.0)) (content_reading 2 IsUnsigned unsigned unsigned_check)
 
+-- a BIT STRING
 pub bit_string_reading : IsReading IsBitString bit_string_at
 bit_string_reading =
     same_reading (Refines (IsTagged 3) IsBitContent) IsBitString bit_string_at
     (λ bytes b fits is. (is.2.counted, subst (IsTagged 3 bytes) is.2.spelled is.1)) (λ bytes b is. (_, is.1, record { counted = is.0; spelled = refl })) (content_reading 3 IsBitContent bits bits_check)
 
+-- a NULL
 pub null_reading : IsReading IsNull null_at
 null_reading =
     same_reading (Refines (IsTagged 5) IsNothing) IsNull null_at (λ bytes u fits is. subst (IsTagged 5 bytes) is.2 is.1) (λ bytes u is. ([], is, refl)) (content_reading 5 IsNothing nothing nothing_check)

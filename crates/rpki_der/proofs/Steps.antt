@@ -1,14 +1,12 @@
 -- Steps of reading that did not fail.
-use Rattle.std.proofs.Common.{◌≡◌, ℕ, zero, suc, ◌+◌, Bool, true, false, cond, ◌||◌, ◌&&◌, List, ◌∷◌, ◌++◌, length, take, drop, replicate, Result, Ok, Err, refl, arith, inl, inr}
+use Rattle.std.proofs.Common.{◌≡◌, ℕ, zero, suc, ◌+◌, Bool, true, false, cond, ◌||◌, ◌&&◌, List, ◌∷◌, ◌++◌, length, take, replicate, Result, Ok, Err, refl, arith, inl, inr}
 use Rattle.std.proofs.lemmas.Bool.{cases_lt}
-use Rattle.std.proofs.lemmas.List.{get_or-drop, get_or-take, get_or_past, length-take, get_or_append_left, get_or-append-add}
+use Rattle.std.proofs.lemmas.List.{get_or-take, get_or_past, length-take, get_or_append_left, get_or-append-add}
 use Rattle.rpki_der.specs.declared.error.DerError.{DerError}
 use Rattle.rpki_der.specs.Reading.{◌>>=◌}
 use Rattle.rpki_der.specs.Der.{IsBytes}
 
-pub IsBytes-drop : (n : ℕ) (bytes : List ℕ) → IsBytes bytes → IsBytes (drop n bytes)
-IsBytes-drop n bytes h i = rw get_or-drop (h (n + i))
-
+-- octets from the front
 pub IsBytes-take : (n : ℕ) (bytes : List ℕ) → IsBytes bytes → IsBytes (take n bytes)
 IsBytes-take n bytes h i =
     elim (cases_lt i n) [
@@ -16,13 +14,16 @@ IsBytes-take n bytes h i =
       | inr le ↦ rw (get_or_past (take n bytes) i 0 (omega (arith, length-take n bytes))) (omega arith)
     ]
 
+-- octets behind the first
 pub IsBytes-rest : (b : ℕ) (bytes : List ℕ) → IsBytes (b ∷ bytes) → IsBytes bytes
 IsBytes-rest b bytes h i = h (suc i)
 
+-- a zero is an octet
 pub IsBytes-zero : (bytes : List ℕ) → IsBytes bytes → IsBytes (0 ∷ bytes)
 IsBytes-zero bytes h zero = omega arith
 IsBytes-zero bytes h (suc i) = h i
 
+-- zeros are octets
 pub IsBytes-zeros : (n : ℕ) (bytes : List ℕ) → IsBytes bytes → IsBytes (replicate n 0 ++ bytes)
 IsBytes-zeros zero bytes h = h
 IsBytes-zeros (suc n) bytes h = IsBytes-zero (replicate n 0 ++ bytes) (IsBytes-zeros n bytes h)
@@ -35,6 +36,7 @@ fits_front a b h i =
       | inr le ↦ rw (get_or_past a i 0 le) (omega arith)
     ]
 
+-- the second part of octets
 pub fits_back : (a b : List ℕ) → IsBytes (a ++ b) → IsBytes b
 fits_back a b h i = rw (← get_or-append-add a b i 0) (h (length a + i))
 
@@ -48,16 +50,20 @@ pub passed : {A : Type 0} (b : Bool) (d : DerError) (r : Result A DerError) (y :
 passed true d r y e = absurd cc
 passed false d r y e = (refl, e)
 
+-- a test that did not fail, the other way round
 pub passed_true : {A : Type 0} (b : Bool) (d : DerError) (r : Result A DerError) (y : A) → cond b r (Err d) ≡ Ok y → (b ≡ true) × (r ≡ Ok y)
 passed_true true d r y e = (refl, e)
 passed_true false d r y e = absurd cc
 
+-- an answer that is Ok
 abbrev done : {A : Type 0} → A → Result A DerError
 done x = Ok x
 
+-- two that are equal are of one value
 pub ok_is : {A : Type 0} (x y : A) → done x ≡ done y → x ≡ y
 ok_is x y e = cc
 
+-- of two tests neither passes
 pub neither : (a b : Bool) → (a || b) ≡ false → (a ≡ false) × (b ≡ false)
 neither true b e = absurd cc
 neither false b e = (refl, e)
@@ -72,6 +78,7 @@ pub one_false : (a b : Bool) → (a && b) ≡ false → a ≡ true → b ≡ fal
 one_false true b e p = e
 one_false false b e p = absurd cc
 
+-- two tests of which the second fails
 pub and_false : (a b : Bool) → b ≡ false → (a && b) ≡ false
 and_false true b e = e
 and_false false b e = refl

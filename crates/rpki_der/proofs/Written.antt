@@ -4,15 +4,19 @@ use Rattle.std.proofs.lemmas.Bool.{lt-ltb}
 use Rattle.rpki_der.specs.Der.{IsTag, IsValue, header, length_octets, value, Bits, IsBits, IsU32, IsBitString, u32_value, bit_string_value}
 use Rattle.rpki_der.proofs.Contents.{length-integer}
 
+-- the octets of a tag and a content are the value
 pub value_is : (tag : ℕ) (content : List ℕ) → IsTag tag → length content < 2 ^ 64 → IsValue (value tag content) tag content
 value_is tag content has_tag short = record { has_tag = has_tag; short = short; spelled = refl }
 
+-- the INTEGER of a number of 32 bits
 pub u32_is : (n : ℕ) → n < 2 ^ 32 → IsU32 (u32_value n) n
 u32_is n lt = (lt, value_is 2 _ (omega arith) (omega (arith, length-integer n lt)))
 
+-- the BIT STRING of bits
 pub bit_string_is : (b : Bits) → IsBits b → length b.octets < 2 ^ 63 → IsBitString (bit_string_value b) b
 bit_string_is b is short = (is, value_is 3 _ (omega arith) (omega arith))
 
+-- two octets stand in front of a short content
 pub length-header : (tag n : ℕ) → n < 128 → length (header tag n) ≡ 2
 unfolding header length_octets
 length-header tag n lt = rw (lt-ltb n 128 lt) (omega arith)

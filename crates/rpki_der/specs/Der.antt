@@ -46,7 +46,7 @@ pub record Tlv : Type 0 where
   pub tag : ℕ
   pub content : List ℕ
 
--- these octets are the value with this tag and this content
+-- these octets are the value with this tag and this content, whose length eight octets can spell
 pub record IsValue (bytes : List ℕ) (tag : ℕ) (content : List ℕ) : Type 0 where
   pub has_tag : IsTag tag
   pub short : length content < 2 ^ 64

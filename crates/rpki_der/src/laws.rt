@@ -1,7 +1,7 @@
 //! What holds of the values themselves, each law as the contract of a function that does nothing.
 
-ghost use Rattle.std.specs.Prelude.{◌≡◌, ℕ, List, Ok, ◌<◌, ◌^◌, ◌++◌, length};
-ghost use Rattle.rpki_der.specs.Der.{Bits, IsBitString, IsBits, IsBytes, IsLength, IsNull, IsOctetString, IsSequence, IsTlv, IsU32, IsUnsigned, OneFront, bit_string_value, integer, length_octets, null_value, octet_string_value, sequence_value, u32_value};
+ghost use Rattle.std.specs.Prelude.{◌≡◌, ℕ, List, Ok, ◌<◌, ◌^◌, ◌∷◌, ◌++◌, length};
+ghost use Rattle.rpki_der.specs.Der.{Bits, IsBitString, IsBits, IsBytes, IsLength, IsNull, IsOctetString, IsSequence, IsTag, IsTlv, IsU32, IsUnsigned, IsValue, OneFront, bit_string_value, integer, length_octets, null_value, octet_string_value, sequence_value, u32_value};
 ghost use Rattle.rpki_der.specs.Reading.{bit_string_at, null_at, tagged_at, u32_at};
 
 /// Octets begin with at most one value of each kind.
@@ -32,9 +32,11 @@ pub fn read_back()
     ensures sequence { (o rest : List ℕ) → length o < 2 ^ 64 → tagged_at 48 (sequence_value o ++ rest) ≡ Ok (o, rest) }
 {}
 
-/// Integers and lengths are spelled as the conditions of X.690 (8.1.3, 8.3 and 10.1) say, and in
-/// no other way.
+/// Values, lengths and integers are spelled as the conditions of X.690 (8.1.2, 8.1.3, 8.3 and 10.1)
+/// say, and in no other way.
 pub fn spelled()
+    ensures value { (tag : ℕ) (len content : List ℕ) → IsTag tag → IsBytes len → IsLength len (length content) → IsValue (tag ∷ (len ++ content)) tag content }
+    ensures value_again { (bytes : List ℕ) (tag : ℕ) (content : List ℕ) → IsValue bytes tag content → (len : List ℕ) × IsLength len (length content) × (bytes ≡ tag ∷ (len ++ content)) }
     ensures integer { (content : List ℕ) (n : ℕ) → IsBytes content → IsUnsigned content n → content ≡ integer n }
     ensures integer_again { (n : ℕ) → n < 2 ^ 32 → IsUnsigned (integer n) n }
     ensures len { (bytes : List ℕ) (n : ℕ) → IsBytes bytes → IsLength bytes n → (bytes ≡ length_octets n) × (n < 2 ^ 64) }

@@ -1,2 +1,2 @@
-pub mod PrefixNumbers
+pub mod AddrTextLemmas
 pub mod RangeLemmas

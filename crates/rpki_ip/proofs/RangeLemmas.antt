@@ -1,9 +1,9 @@
 -- On the prefix of a range's addresses.
 use Rattle.std.proofs.Common.{◌≡◌, ℕ, ◌+◌, ◌-◌, ◌*◌, ◌^◌, ◌<◌, ◌≤◌, ◌∙◌, ap, sym, arith}
 use Rattle.std.proofs.lemmas.Nat.{pow_pos}
-use Rattle.rpki_ip.specs.Prefixes.{PrefixValue, IsPrefix, cleared, last_of}
+use Rattle.rpki_base.specs.Prefixes.{PrefixValue, IsPrefix, cleared, last_of}
 use Rattle.rpki_ip.specs.Ranges.{RangeValue, IsRangeOf}
-use Rattle.rpki_ip.proofs.PrefixNumbers.{cleared_first, power_is}
+use Rattle.rpki_base.proofs.PrefixNumbers.{cleared_first, power_is}
 
 -- where a prefix has the range's addresses, it is the one that the range's beginning and its count give
 pub prefix_of_range : (p q : PrefixValue) (r : RangeValue) (h : ℕ) → IsPrefix 128 p → IsRangeOf p r → h ≤ 128

@@ -1,4 +1,4 @@
--- Definitions: prefixes of a width, and ranges of addresses.
+-- Definitions: families, texts of addresses, and ranges of addresses.
+pub mod AddrText
 pub mod Families
-pub mod Prefixes
 pub mod Ranges

@@ -1,6 +1,6 @@
 -- Ranges of addresses (RFC 3779, 2.2.3.9).
 use Rattle.std.specs.Prelude.{◌≡◌, ℕ, ◌<◌, ◌≤◌, ◌^◌}
-use Rattle.rpki_ip.specs.Prefixes.{PrefixValue, last_of}
+use Rattle.rpki_base.specs.Prefixes.{PrefixValue, last_of}
 
 -- what contracts see of a range: its least and its greatest address
 pub record RangeValue : Type 0 where

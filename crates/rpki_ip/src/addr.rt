@@ -1,9 +1,15 @@
 //! Addresses of either family.
-ghost use Rattle.std.specs.Prelude.{◌≡◌, ◌+◌, ◌-◌, ◌^◌};
+ghost use Rattle.std.specs.Prelude.{◌≡◌, ◌+◌, ◌-◌, ◌*◌, ◌/◌, ◌^◌};
+ghost use Rattle.std.specs.Fmt.{WritesOnOk};
 ghost use Rattle.std.specs.Int.{to_be_bytes, w128};
-ghost use Rattle.rpki_ip.specs.Prefixes.{cleared};
+ghost use Rattle.rpki_base.specs.PrintedAddress.{ipv4_text, ipv6_text};
+ghost use Rattle.rpki_ip.specs.AddrText.{first_of, ReadsIpv4Addr, ReadsIpv6Addr, ReadsAddr};
+ghost use Rattle.rpki_base.specs.Prefixes.{cleared};
 
+use rpki_base::addr::{AddrParseError, IpAddr, Ipv4Addr, Ipv6Addr};
+use std::fmt;
 use std::marker::Model;
+use std::str::FromStr;
 
 /// An address of either family, as a number of 128 bits.
 ///
@@ -32,11 +38,53 @@ impl Addr {
         Addr(bits)
     }
 
+    /// The least address that an IPv4 address stands for: its 32 bits, and then zeros.
+    pub fn from_v4(addr: Ipv4Addr) -> Addr
+        ensures { result ≡ addr * 2 ^ 96 }
+    {
+        Addr(u128::from(addr.to_bits()) << 96)
+    }
+
+    /// The address that an IPv6 address stands for.
+    pub fn from_v6(addr: Ipv6Addr) -> Addr
+        ensures { result ≡ addr }
+    {
+        Addr(addr.to_bits())
+    }
+
+    /// Reads the text of an IPv4 address, as the least address that it stands for.
+    pub fn from_v4_str(text: &str) -> Result<Addr, AddrParseError>
+        ensures { ReadsIpv4Addr text.now result }
+    {
+        Ok(Addr::from_v4(Ipv4Addr::from_str(text)?))
+    }
+
+    /// Reads the text of an IPv6 address.
+    pub fn from_v6_str(text: &str) -> Result<Addr, AddrParseError>
+        ensures { ReadsIpv6Addr text.now result }
+    {
+        Ok(Addr::from_v6(Ipv6Addr::from_str(text)?))
+    }
+
     /// The number of the address.
     pub fn to_bits(self) -> u128
         ensures { result ≡ self }
     {
         self.0
+    }
+
+    /// The IPv4 address that the first 32 bits are.
+    pub fn to_v4(self) -> Ipv4Addr
+        ensures { result ≡ self / 2 ^ 96 }
+    {
+        Ipv4Addr::from_bits((self.0 >> 96) as u32)
+    }
+
+    /// The IPv6 address that the bits are.
+    pub fn to_v6(self) -> Ipv6Addr
+        ensures { result ≡ self }
+    {
+        Ipv6Addr::from_bits(self.0)
     }
 
     /// The sixteen octets of the address, the highest first.
@@ -67,6 +115,22 @@ impl Addr {
             Addr(self.0 | (u128::MAX >> len))
         }
     }
+
+    /// Writes the first 32 bits as an IPv4 address.
+    pub fn fmt_v4<W: fmt::Write>(self, f: &mut fmt::Formatter<W>) -> fmt::Result
+        ensures { WritesOnOk W.write_str_gives f.old result (ipv4_text (self / 2 ^ 96)) f.new }
+    {
+        let addr = self.to_v4();
+        write!(f, "{addr}")
+    }
+
+    /// Writes the address as an IPv6 address.
+    pub fn fmt_v6<W: fmt::Write>(self, f: &mut fmt::Formatter<W>) -> fmt::Result
+        ensures { WritesOnOk W.write_str_gives f.old result (ipv6_text self) f.new }
+    {
+        let addr = self.to_v6();
+        write!(f, "{addr}")
+    }
 }
 
 impl From<u128> for Addr {
@@ -82,5 +146,60 @@ impl From<Addr> for u128 {
 
     fn from(addr: Addr) -> u128 {
         addr.0
+    }
+}
+
+impl From<Ipv4Addr> for Addr {
+    ghost from_gives = { λ ipv4 addr. addr ≡ ipv4 * 2 ^ 96 };
+
+    fn from(addr: Ipv4Addr) -> Addr {
+        Addr::from_v4(addr)
+    }
+}
+
+impl From<Ipv6Addr> for Addr {
+    ghost from_gives = { λ ipv6 addr. addr ≡ ipv6 };
+
+    fn from(addr: Ipv6Addr) -> Addr {
+        Addr::from_v6(addr)
+    }
+}
+
+/// The least address that the address stands for, in its family.
+impl From<IpAddr> for Addr {
+    ghost from_gives = { λ ip addr. addr ≡ first_of ip };
+
+    fn from(addr: IpAddr) -> Addr {
+        match &addr {
+            IpAddr::V4(addr) => Addr::from_v4(*addr),
+            IpAddr::V6(addr) => Addr::from_v6(*addr),
+        }
+    }
+}
+
+impl From<Addr> for Ipv4Addr {
+    ghost from_gives = { λ addr ipv4. ipv4 ≡ addr / 2 ^ 96 };
+
+    fn from(addr: Addr) -> Ipv4Addr {
+        addr.to_v4()
+    }
+}
+
+impl From<Addr> for Ipv6Addr {
+    ghost from_gives = { λ addr ipv6. ipv6 ≡ addr };
+
+    fn from(addr: Addr) -> Ipv6Addr {
+        addr.to_v6()
+    }
+}
+
+/// Reads the text of an address of either family, as the least address that it stands for.
+impl FromStr for Addr {
+    type Err = AddrParseError;
+
+    ghost from_str_gives = { ReadsAddr };
+
+    fn from_str(text: &str) -> Result<Addr, AddrParseError> {
+        Ok(Addr::from(IpAddr::from_str(text)?))
     }
 }

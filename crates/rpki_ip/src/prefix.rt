@@ -1,8 +1,9 @@
 //! Prefixes of addresses.
-ghost use Rattle.std.specs.Prelude.{◌≡◌, ◌≤◌};
-ghost use Rattle.rpki_ip.specs.Prefixes.{IsPrefix, cleared, last_of};
+ghost use Rattle.std.specs.Prelude.{◌≡◌, ◌/◌, ◌^◌, ◌≤◌};
+ghost use Rattle.rpki_base.specs.Prefixes.{IsPrefix, cleared, last_of};
 
 use crate::addr::Addr;
+use rpki_base::addr::{Ipv4Addr, Ipv6Addr};
 use std::marker::Model;
 
 /// The addresses that begin with the same bits (RFC 3779, 2.2.3.8).
@@ -15,7 +16,7 @@ pub struct Prefix {
 }
 
 impl Model for Prefix {
-    ghost use Rattle.rpki_ip.specs.Prefixes.{PrefixValue, IsPrefix};
+    ghost use Rattle.rpki_base.specs.Prefixes.{PrefixValue, IsPrefix};
 
     ghost Value = { PrefixValue };
 
@@ -30,7 +31,8 @@ impl Prefix {
     /// The prefix of the first `len` bits of an address. The length is at most 128.
     pub fn new(addr: Addr, len: u8) -> Prefix
         requires { len ≤ 128 }
-        ensures { result ≡ record { first = cleared 128 addr len; len = len } }
+        ensures value { result ≡ record { first = cleared 128 addr len; len = len } }
+        ensures prefix { IsPrefix 128 result }
     {
         Prefix {
             addr: addr.to_min(len),
@@ -61,10 +63,25 @@ impl Prefix {
         self.len
     }
 
+    /// The prefix's address as an IPv4 address: its first 32 bits.
+    pub fn to_v4(self) -> Ipv4Addr
+        ensures { result ≡ self.first / 2 ^ 96 }
+    {
+        self.addr.to_v4()
+    }
+
+    /// The prefix's address as an IPv6 address.
+    pub fn to_v6(self) -> Ipv6Addr
+        ensures { result ≡ self.first }
+    {
+        self.addr.to_v6()
+    }
+
     /// The least and the greatest address.
     pub fn range(self) -> (Addr, Addr)
         ensures min { result.0 ≡ self.first }
         ensures max { result.1 ≡ last_of 128 self }
+        ensures prefix { IsPrefix 128 self }
     {
         (self.min(), self.max())
     }

@@ -1,6 +1,6 @@
 //! Ranges of addresses.
 ghost use Rattle.std.specs.Prelude.{◌≡◌, ◌+◌, ◌-◌, ◌*◌, ◌^◌, ◌<◌, ◌≤◌, Ok, IfOk, IfErr};
-ghost use Rattle.rpki_ip.specs.Prefixes.{PrefixValue, IsPrefix};
+ghost use Rattle.rpki_base.specs.Prefixes.{PrefixValue, IsPrefix};
 ghost use Rattle.rpki_ip.specs.Ranges.{IsRangeOf};
 
 use crate::addr::Addr;

@@ -1,5 +1,7 @@
-use Rattle.rpki_ip.proofs.PrefixNumbers.{clear_low}
+use Rattle.std.proofs.Common.{◌-◌, arith}
+use Rattle.rpki_base.proofs.PrefixNumbers.{clear_host, host_ones}
 use Rattle.rpki_ip.proofs.addr.Addr.to_min.Goals as goal
 
 pub returns-else-len-ge128 : goal.returns-else-len-ge128
-returns-else-len-ge128 c = rw (← c.self.view_is) (clear_low _ _ c.self.invariant c.if-len-ge128.false)
+returns-else-len-ge128 c =
+    rw (← c.self.view_is) (clear_host 128 (128 - c.args.len) _ _ (omega arith) c.self.invariant (host_ones 128 c.args.len (omega arith)))

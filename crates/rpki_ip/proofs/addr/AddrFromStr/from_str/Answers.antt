@@ -1,0 +1,13 @@
+use Rattle.std.proofs.lemmas.Result.{err_from_is_err_and}
+use Rattle.rpki_base.specs.AddressText.{IsIpText}
+use Rattle.rpki_ip.specs.AddrText.{first_of}
+use Rattle.rpki_ip.proofs.AddrTextLemmas.{first_of_ok, first_of_err}
+use Rattle.rpki_ip.proofs.addr.AddrFromStr.from_str.Goals as goal
+
+pub returns-in_err-from_str : goal.returns-in_err-from_str
+returns-in_err-from_str c =
+    let p = err_from_is_err_and c.from_residual.result c.from_residual.ensures.1 in
+    rw (p.1, p.2) (first_of_err first_of (IsIpText c.args.text.now) _ _ c.in_err-from_str.ensures.exact)
+
+pub returns : goal.returns
+returns c = rw c.from.ensures (first_of_ok first_of (IsIpText c.args.text.now) _ _ c.in_ok-from_str.ensures.exact)

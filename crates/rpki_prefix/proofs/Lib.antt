@@ -1,0 +1,4 @@
+pub mod Covering
+pub mod HostBits
+pub mod MaxLenLemmas
+pub mod TextLemmas

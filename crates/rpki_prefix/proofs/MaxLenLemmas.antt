@@ -1,0 +1,146 @@
+-- A text writes one prefix with a greatest length or without, or has one fault; and what is printed writes what it was printed of.
+use Rattle.std.proofs.Common.{◌≡◌, ℕ, ◌-◌, ◌^◌, ◌≢◌, inl, inr, List, [], ◌∷◌, ◌++◌, decimal, Option, Some, None, Result, MatchResult, All, refl, sym, ap, subst, arith, append-nil}
+use Rattle.std.specs.List.{AllByRecursion}
+use Rattle.std.specs.Str.Parse.{AllDigits}
+use Rattle.std.proofs.lemmas.Fmt.{decimal_is_IsNumeral}
+use Rattle.std.proofs.lemmas.List.Elements.{All-append, All-cons, All-from_recursion, All-weaker}
+use Rattle.std.proofs.lemmas.Str.Parse.{digit_from_value}
+use Rattle.rpki_base.specs.Cuts.{HasNo, Around, slash, dash}
+use Rattle.rpki_base.specs.Numbers.{IsNumberText, HasNumberFault}
+use Rattle.rpki_base.specs.PrintedAddress.{ip_text}
+use Rattle.rpki_base.proofs.AddressBytes.{IsAddressByte, ip_bytes, not_dash}
+use Rattle.rpki_base.proofs.AsnLemmas.{IsNumberText-one, IsNumberText-decimal}
+use Rattle.rpki_base.proofs.CutLemmas.{none_around, around_at}
+use Rattle.rpki_base.proofs.NumberLemmas.{Answers-from_found}
+use Rattle.rpki_prefix.specs.MaxLen.{MaxLenValue, IsMaxLenOf, HasMaxLenError, ArePrefixAndMax, HasMaxLen, IsMaxLenTextOf, IsMaxLenText, HasMaxLenTextFault, max_text, ReadsMaxLen}
+use Rattle.rpki_prefix.specs.PrefixText.{IsPrefixText, HasPrefixTextFault, prefix_text}
+use Rattle.rpki_prefix.specs.Values.{FamilyPrefix, IsFamilyPrefix}
+use Rattle.rpki_prefix.specs.declared.error.MaxLenError.{MaxLenError}
+use Rattle.rpki_prefix.specs.declared.error.MaxLenError.TheVariants.{Overflow, Underflow}
+use Rattle.rpki_prefix.specs.declared.error.ParseMaxLenPrefixError.{ParseMaxLenPrefixError}
+use Rattle.rpki_prefix.specs.declared.error.ParseMaxLenPrefixError.TheVariants.{InvalidPrefix, InvalidMaxLenFormat, InvalidMaxLenValue}
+use Rattle.rpki_prefix.specs.declared.error.ParsePrefixError.{ParsePrefixError}
+use Rattle.rpki_prefix.proofs.HostBits.{few_bits}
+use Rattle.rpki_prefix.proofs.TextLemmas.{number_apart, same_number_fault, IsPrefixText-one, IsPrefixText-no_fault, HasPrefixTextFault-one, IsPrefixText-prefix_text}
+
+-- a text has one prefix and one greatest length round its first dash
+record SameBoth (p q : FamilyPrefix) (m n : ℕ) : Type 0 where
+  prefix : p ≡ q
+  max : m ≡ n
+
+both_one : (text : List ℕ) (p q : FamilyPrefix) (m n : ℕ) → HasMaxLen text p m → HasMaxLen text q n → SameBoth p q m n
+both_one text p q m n h k =
+    let here = around_at dash text k.left k.right (λ l r. ArePrefixAndMax l r p m) k.cut h in
+    record { prefix = IsPrefixText-one k.left p q here.prefix_text k.holds.prefix_text; max = IsNumberText-one (2 ^ 8 - 1) k.right m n here.max_len_text k.holds.max_len_text }
+
+abbrev paired : FamilyPrefix → Option ℕ → MaxLenValue
+paired p m = record { prefix = p; max_len = m }
+
+value_one : (text : List ℕ) (p q : FamilyPrefix) (m n : Option ℕ) → IsMaxLenTextOf text p m → IsMaxLenTextOf text q n
+    → paired p m ≡ paired q n
+value_one text p q None None h k = let same = IsPrefixText-one text p q h.1 k.1 in λ i. record { prefix = same i; max_len = None }
+value_one text p q None (Some n) h k = absurd (none_around dash text _ h.0 k.0)
+value_one text p q (Some m) None h k = absurd (none_around dash text _ k.0 h.0)
+value_one text p q (Some m) (Some n) h k = let same = both_one text p q m n h.0 k.0 in λ i. record { prefix = same.prefix i; max_len = Some (same.max i) }
+
+text_one : (text : List ℕ) (x y : MaxLenValue) → IsMaxLenText text x → IsMaxLenText text y → x ≡ y
+text_one text x y h k = value_one text x.prefix y.prefix x.max_len y.max_len h k
+
+-- a greatest length of the prefix has no error
+max_apart : (p : FamilyPrefix) (n : ℕ) (f : MaxLenError) → IsMaxLenOf p (Some n) → HasMaxLenError p (Some n) f → ⊥
+max_apart p n Overflow h above = let upto = h.1 in omega (arith, upto, above)
+max_apart p n Underflow h k = let from = h.0 in let below = k.1 in omega (arith, from, below)
+
+max_error_one : (p : FamilyPrefix) (n : ℕ) (f g : MaxLenError) → HasMaxLenError p (Some n) f → HasMaxLenError p (Some n) g → f ≡ g
+max_error_one p n Overflow Overflow h k = refl
+max_error_one p n Overflow Underflow h k = absurd (let upto = k.0 in omega (arith, h, upto))
+max_error_one p n Underflow Overflow h k = absurd (let upto = h.0 in omega (arith, k, upto))
+max_error_one p n Underflow Underflow h k = refl
+
+apart_of : (text : List ℕ) (p : FamilyPrefix) (m : Option ℕ) (e : ParseMaxLenPrefixError) → IsMaxLenTextOf text p m → HasMaxLenTextFault text e → ⊥
+apart_of text p None (InvalidPrefix f) h (inl k) = IsPrefixText-no_fault text p f h.1 k.1
+apart_of text p None (InvalidPrefix f) h (inr k) = none_around dash text _ h.0 k
+apart_of text p None (InvalidMaxLenFormat f) h k = none_around dash text _ h.0 k
+apart_of text p None (InvalidMaxLenValue f) h (q, n, both, _) = none_around dash text _ h.0 both
+apart_of text p (Some m) (InvalidPrefix f) h (inl k) = none_around dash text _ k.0 h.0
+apart_of text p (Some m) (InvalidPrefix f) h (inr k) =
+    let here = around_at dash text k.left k.right (λ l r. ArePrefixAndMax l r p m) k.cut h.0 in
+    IsPrefixText-no_fault k.left p f here.prefix_text k.holds
+apart_of text p (Some m) (InvalidMaxLenFormat f) h k =
+    let here = around_at dash text k.left k.right (λ l r. ArePrefixAndMax l r p m) k.cut h.0 in
+    let (q, is, fault) = k.holds in
+    number_apart k.right m f here.max_len_text fault
+apart_of text p (Some m) (InvalidMaxLenValue f) h (q, n, both, fault) =
+    let same = both_one text q p n m both h.0 in
+    max_apart p m f h.1 (subst (λ r. HasMaxLenError r (Some m) f) same.prefix (subst (λ k. HasMaxLenError q (Some k) f) same.max fault))
+
+text_apart : (text : List ℕ) (m : MaxLenValue) (e : ParseMaxLenPrefixError) → IsMaxLenText text m → HasMaxLenTextFault text e → ⊥
+text_apart text m e h k = apart_of text m.prefix m.max_len e h k
+
+-- a prefix before the dash has no fault there
+faulty_prefix : (text : List ℕ) (f : ParsePrefixError) (P : List ℕ → Type 0) → HasMaxLenTextFault text (InvalidPrefix f) → Around dash text (λ l r. (p : FamilyPrefix) × IsPrefixText l p × P r) → ⊥
+faulty_prefix text f P (inl h) k = none_around dash text _ h.0 k
+faulty_prefix text f P (inr h) k =
+    let (p, is, _) = k.holds in
+    IsPrefixText-no_fault k.left p f is (around_at dash text k.left k.right (λ l r. HasPrefixTextFault l f) k.cut h)
+
+as_around : (text : List ℕ) (p : FamilyPrefix) (n : ℕ) → HasMaxLen text p n → Around dash text (λ l r. (q : FamilyPrefix) × IsPrefixText l q × IsNumberText (2 ^ 8 - 1) r n)
+as_around text p n h = record { left = h.left; right = h.right; cut = h.cut; holds = (p, h.holds.prefix_text, h.holds.max_len_text) }
+
+number_and_fault : (text : List ℕ) (p : FamilyPrefix) (n : ℕ) (f : _) → HasMaxLen text p n → HasMaxLenTextFault text (InvalidMaxLenFormat f) → ⊥
+number_and_fault text p n f h k =
+    let here = around_at dash text k.left k.right (λ l r. ArePrefixAndMax l r p n) k.cut h in
+    let (q, is, fault) = k.holds in
+    number_apart k.right n f here.max_len_text fault
+
+fault_one : (text : List ℕ) (d e : ParseMaxLenPrefixError) → HasMaxLenTextFault text d → HasMaxLenTextFault text e → d ≡ e
+fault_one text (InvalidPrefix f) (InvalidPrefix g) (inl h) (inl k) = ap InvalidPrefix (HasPrefixTextFault-one text f g h.1 k.1)
+fault_one text (InvalidPrefix f) (InvalidPrefix g) (inl h) (inr k) = absurd (none_around dash text _ h.0 k)
+fault_one text (InvalidPrefix f) (InvalidPrefix g) (inr h) (inl k) = absurd (none_around dash text _ k.0 h)
+fault_one text (InvalidPrefix f) (InvalidPrefix g) (inr h) (inr k) =
+    ap InvalidPrefix (HasPrefixTextFault-one k.left f g (around_at dash text k.left k.right (λ l r. HasPrefixTextFault l f) k.cut h) k.holds)
+fault_one text (InvalidPrefix f) (InvalidMaxLenFormat g) h k = absurd (faulty_prefix text f _ h k)
+fault_one text (InvalidPrefix f) (InvalidMaxLenValue g) h (p, n, both, _) = absurd (faulty_prefix text f _ h (as_around text p n both))
+fault_one text (InvalidMaxLenFormat f) (InvalidPrefix g) h k = absurd (faulty_prefix text g _ k h)
+fault_one text (InvalidMaxLenFormat f) (InvalidMaxLenFormat g) h k =
+    let (p, is, fault) = around_at dash text k.left k.right (λ l r. (q : FamilyPrefix) × IsPrefixText l q × HasNumberFault (2 ^ 8 - 1) r f) k.cut h in
+    let (q, iz, other) = k.holds in
+    ap InvalidMaxLenFormat (same_number_fault k.right f g fault other)
+fault_one text (InvalidMaxLenFormat f) (InvalidMaxLenValue g) h (p, n, both, _) = absurd (number_and_fault text p n f both h)
+fault_one text (InvalidMaxLenValue f) (InvalidPrefix g) (p, n, both, _) k = absurd (faulty_prefix text g _ k (as_around text p n both))
+fault_one text (InvalidMaxLenValue f) (InvalidMaxLenFormat g) (p, n, both, _) k = absurd (number_and_fault text p n g both k)
+fault_one text (InvalidMaxLenValue f) (InvalidMaxLenValue g) (p, m, both, fault) (q, n, others, other) =
+    let same = both_one text p q m n both others in
+    ap InvalidMaxLenValue (max_error_one q n f g (subst (λ r. HasMaxLenError r (Some n) f) same.prefix (subst (λ k. HasMaxLenError p (Some k) f) same.max fault)) other)
+
+-- a printed prefix has no dash
+no_dash_digits : (ds : List ℕ) → AllDigits 10 ds → AllByRecursion (λ b. b ≢ dash) ds
+no_dash_digits [] h = tt
+no_dash_digits (c ∷ cs) h = let range = digit_from_value c h.0 in ((λ e. let low = range.0 in omega (arith, e, low)), no_dash_digits cs h.1)
+
+prefix_no_dash : (p : FamilyPrefix) → IsFamilyPrefix p → HasNo dash (prefix_text p)
+prefix_no_dash p h =
+    let few = few_bits p.addr in
+    let short = h.short in
+    let digits : All (λ b. b ≢ dash) (decimal p.len) = All-from_recursion _ (decimal p.len) (no_dash_digits (decimal p.len) (decimal_is_IsNumeral p.len (omega (arith, short, few))).0.1) in
+    let all = All-append (λ b. b ≢ dash) (ip_text p.addr) (slash ∷ decimal p.len) (All-weaker IsAddressByte _ not_dash (ip_text p.addr) (ip_bytes p.addr)) (All-cons (λ b. b ≢ dash) slash (decimal p.len) (λ e. omega (arith, e)) digits) in
+    λ k l. all k 0 l
+
+written : (p : FamilyPrefix) (m : Option ℕ) → IsFamilyPrefix p → IsMaxLenOf p m → IsMaxLenTextOf (prefix_text p ++ max_text m) p m
+written p None h within = rw (append-nil (prefix_text p)) (prefix_no_dash p h, IsPrefixText-prefix_text p h)
+written p (Some n) h within =
+    let few = few_bits p.addr in
+    let upto = within.1 in (
+      record {
+        left = prefix_text p;
+        right = decimal n;
+        cut = record { split = refl; first = prefix_no_dash p h };
+        holds = record { prefix_text = IsPrefixText-prefix_text p h; max_len_text = IsNumberText-decimal (2 ^ 8 - 1) n (omega (arith, upto, few)) (omega (arith, upto, few)) };
+      },
+      within,
+    )
+
+pub reads_max_len : (text : List ℕ) (r : Result MaxLenValue ParseMaxLenPrefixError) → MatchResult r (IsMaxLenText text) (HasMaxLenTextFault text) → ReadsMaxLen text r
+reads_max_len text r found =
+    let exact = Answers-from_found r found (text_one text) (text_apart text) (fault_one text) in
+    record { exact = exact; reads_back = λ m h is. exact.each_value m (subst (λ t. IsMaxLenText t m) (sym is) (written m.prefix m.max_len h.0 h.1)) }

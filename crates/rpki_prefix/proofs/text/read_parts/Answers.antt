@@ -1,0 +1,44 @@
+use Rattle.std.proofs.Common.{None, Some, length, lit<, ap, sym, ◌∙◌}
+use Rattle.std.proofs.lemmas.Bool.{eqb-false}
+use Rattle.std.proofs.lemmas.Str.Pattern.{split_parts}
+use Rattle.std.proofs.lemmas.Result.{err_from_is_err_and}
+use Rattle.rpki_prefix.proofs.text.read_parts.Goals as goal
+
+pub returns-in_default : goal.returns-in_default
+returns-in_default c =
+    let some = eqb-false (length c.args.text.now) 0 (sym c.is_empty.ensures ∙ c.if-is_empty.false) in
+    let none = split_parts 47 c.args.text.now None c.in_default.ensures.cases (lit< tt) in
+    ((λ e. some (ap length e)), none)
+
+pub returns-in_err-addr : goal.returns-in_err-addr
+returns-in_err-addr c =
+    let p = err_from_is_err_and c.from_residual.result c.from_residual.ensures.1 in
+    let parts = split_parts 47 c.args.text.now (Some (c.in-Some.addr, c.in-Some.len)) c.in-Some.ensures.cases (lit< tt) in
+    let fault = c.in_err-addr.ensures.exact.found in
+    rw (p.1, p.2) (record {
+      left = c.in-Some.addr.now;
+      right = c.in-Some.len.now;
+      cut = record { split = parts.0; first = parts.1 };
+      holds = (fault.1, fault.0);
+    })
+
+pub returns-in_err-len : goal.returns-in_err-len
+returns-in_err-len c =
+    let p = err_from_is_err_and c.from_residual-in_err-len.result c.from_residual-in_err-len.ensures.1 in
+    let parts = split_parts 47 c.args.text.now (Some (c.in-Some.addr, c.in-Some.len)) c.in-Some.ensures.cases (lit< tt) in
+    rw (p.1, p.2) (record {
+      left = c.in-Some.addr.now;
+      right = c.in-Some.len.now;
+      cut = record { split = parts.0; first = parts.1 };
+      holds = (c.in_ok-addr.addr, c.in_ok-addr.ensures.exact.found, c.in_err-len.ensures.found);
+    })
+
+pub returns : goal.returns
+returns c =
+    let parts = split_parts 47 c.args.text.now (Some (c.in-Some.addr, c.in-Some.len)) c.in-Some.ensures.cases (lit< tt) in
+    record {
+      left = c.in-Some.addr.now;
+      right = c.in-Some.len.now;
+      cut = record { split = parts.0; first = parts.1 };
+      holds = record { addr_text = c.in_ok-addr.ensures.exact.found; len_text = c.in_ok-len.ensures.found };
+    }

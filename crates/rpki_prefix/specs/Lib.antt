@@ -1,0 +1,6 @@
+-- Definitions: prefixes of one family, their order, their texts, and greatest lengths.
+pub mod MaxLen
+pub mod Order
+pub mod OrderLaws
+pub mod PrefixText
+pub mod Values

@@ -1,0 +1,90 @@
+-- Prefixes with a greatest length, as route origin authorizations have them (RFC 9582, 4.3.2), and their texts.
+use Rattle.std.specs.Prelude.{◌≡◌, ℕ, ◌-◌, ◌^◌, ◌≤◌, ◌<◌, ◌⊎◌, List, [], ◌∷◌, ◌++◌, codes, decimal, min, max, Option, Some, None, Result, Ok}
+use Rattle.std.specs.declared.cmp.Ordering.{Ordering}
+use Rattle.std.specs.Option.{option_cmp}
+use Rattle.std.specs.Ordering.{on, then_cmp, flip_args, nat_cmp}
+use Rattle.rpki_base.specs.Cuts.{HasNo, Around, dash}
+use Rattle.rpki_base.specs.Numbers.{IsNumberText, HasNumberFault}
+use Rattle.rpki_base.specs.Reading.{Answers}
+use Rattle.rpki_prefix.specs.Order.{prefix_cmp}
+use Rattle.rpki_prefix.specs.PrefixText.{IsPrefixText, HasPrefixTextFault, prefix_text}
+use Rattle.rpki_prefix.specs.Values.{FamilyPrefix, IsFamilyPrefix, width}
+use Rattle.rpki_prefix.specs.declared.error.MaxLenError.{MaxLenError}
+use Rattle.rpki_prefix.specs.declared.error.MaxLenError.TheVariants.{Overflow, Underflow}
+use Rattle.rpki_prefix.specs.declared.error.ParseMaxLenPrefixError.{ParseMaxLenPrefixError}
+use Rattle.rpki_prefix.specs.declared.error.ParseMaxLenPrefixError.TheVariants.{InvalidPrefix, InvalidMaxLenFormat, InvalidMaxLenValue}
+
+-- what contracts see of a prefix with a greatest length, which may be missing
+pub record MaxLenValue : Type 0 where
+  pub prefix : FamilyPrefix
+  pub max_len : Option ℕ
+
+-- a greatest length, if there is one, lies between the prefix's length and the family's
+abbrev pub IsMaxLenOf : FamilyPrefix → Option ℕ → Type 0
+IsMaxLenOf p None = Unit {0}
+IsMaxLenOf p (Some n) = (p.len ≤ n) × (n ≤ width p.addr)
+
+-- the prefix is one, and the greatest length is one of its
+abbrev pub IsMaxLenPrefix : MaxLenValue → Type 0
+IsMaxLenPrefix m = IsFamilyPrefix m.prefix × IsMaxLenOf m.prefix m.max_len
+
+-- why there is none: what is above the family's greatest length comes first
+abbrev pub HasMaxLenError : FamilyPrefix → Option ℕ → MaxLenError → Type 0
+HasMaxLenError p None e = ⊥
+HasMaxLenError p (Some n) Overflow = width p.addr < n
+HasMaxLenError p (Some n) Underflow = (n ≤ width p.addr) × (n < p.len)
+
+-- a greatest length raised to the prefix's length, or lowered to the family's
+abbrev pub saturated : FamilyPrefix → Option ℕ → Option ℕ
+saturated p None = None
+saturated p (Some n) = Some (max p.len (min n (width p.addr)))
+
+-- the greatest length, or the prefix's length where there is none
+abbrev pub resolved : FamilyPrefix → Option ℕ → ℕ
+resolved p None = p.len
+resolved p (Some n) = n
+
+-- by the prefix, then some greatest length before none, then the larger before the smaller
+abbrev pub max_len_cmp : MaxLenValue → MaxLenValue → Ordering
+max_len_cmp = then_cmp (on (λ m. m.prefix) prefix_cmp) (flip_args (on (λ m. m.max_len) (option_cmp nat_cmp)))
+
+-- the words that describe an error
+abbrev pub max_len_error_text : MaxLenError → List ℕ
+max_len_error_text Overflow = codes "max-length too large"
+max_len_error_text Underflow = codes "max-length smaller than prefix length"
+
+-- the texts are a prefix and a number of 8 bits
+pub record ArePrefixAndMax (left right : List ℕ) (p : FamilyPrefix) (n : ℕ) : Type 0 where
+  pub prefix_text : IsPrefixText left p
+  pub max_len_text : IsNumberText (2 ^ 8 - 1) right n
+
+-- a prefix and a greatest length stand round the first dash
+abbrev pub HasMaxLen : List ℕ → FamilyPrefix → ℕ → Type 0
+HasMaxLen text p n = Around dash text (λ left right. ArePrefixAndMax left right p n)
+
+-- the text has no dash and is a prefix, or is a prefix, a dash and a greatest length of the prefix
+abbrev pub IsMaxLenTextOf : List ℕ → FamilyPrefix → Option ℕ → Type 0
+IsMaxLenTextOf text p None = HasNo dash text × IsPrefixText text p
+IsMaxLenTextOf text p (Some n) = HasMaxLen text p n × IsMaxLenOf p (Some n)
+
+abbrev pub IsMaxLenText : List ℕ → MaxLenValue → Type 0
+IsMaxLenText text m = IsMaxLenTextOf text m.prefix m.max_len
+
+-- this is the first fault of the text: of the prefix, of the number's text, of the number
+abbrev pub HasMaxLenTextFault : List ℕ → ParseMaxLenPrefixError → Type 0
+HasMaxLenTextFault text (InvalidPrefix f) = (HasNo dash text × HasPrefixTextFault text f) ⊎ Around dash text (λ left right. HasPrefixTextFault left f)
+HasMaxLenTextFault text (InvalidMaxLenFormat f) = Around dash text (λ left right. (p : FamilyPrefix) × IsPrefixText left p × HasNumberFault (2 ^ 8 - 1) right f)
+HasMaxLenTextFault text (InvalidMaxLenValue f) = (p : FamilyPrefix) × (n : ℕ) × HasMaxLen text p n × HasMaxLenError p (Some n) f
+
+-- what is printed: the prefix, and a dash and the greatest length where there is one
+abbrev pub max_text : Option ℕ → List ℕ
+max_text None = []
+max_text (Some n) = dash ∷ decimal n
+
+abbrev pub max_len_text : MaxLenValue → List ℕ
+max_len_text m = prefix_text m.prefix ++ max_text m.max_len
+
+-- The text is read exactly where it writes a prefix with a greatest length or without, else as its first fault; what is printed is read back.
+pub record ReadsMaxLen (text : List ℕ) (r : Result MaxLenValue ParseMaxLenPrefixError) : Type 0 where
+  pub exact : Answers (IsMaxLenText text) (HasMaxLenTextFault text) r
+  pub reads_back : (m : MaxLenValue) → IsMaxLenPrefix m → text ≡ max_len_text m → r ≡ Ok m

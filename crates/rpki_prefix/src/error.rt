@@ -1,0 +1,191 @@
+//! What is wrong with prefixes and their texts.
+ghost use Rattle.std.specs.Prelude.{◌≡◌, Some};
+
+use rpki_base::addr::AddrParseError;
+use rpki_base::number::ParseIntError;
+use std::fmt;
+use thiserror::Error;
+
+/// Why an address and a length are no prefix.
+#[derive(Clone, Copy, Debug, PartialEq, Eq)]
+pub enum PrefixError {
+    /// The length is above the family's: 32 for IPv4, 128 for IPv6.
+    LenOverflow,
+    /// A bit after the first ones is set.
+    NonZeroHost,
+}
+
+impl PrefixError {
+    ghost use Rattle.rpki_prefix.specs.Values.{prefix_error_text};
+
+    /// What the error says.
+    pub fn static_description(self) -> &'static str
+        ensures { result.now ≡ prefix_error_text self }
+    {
+        match self {
+            PrefixError::LenOverflow => "prefix length too large",
+            PrefixError::NonZeroHost => "non-zero host portion",
+        }
+    }
+}
+
+impl From<PrefixError> for &'static str {
+    ghost use Rattle.rpki_prefix.specs.Values.{prefix_error_text};
+
+    ghost from_gives = { λ error text. text.now ≡ prefix_error_text error };
+
+    fn from(error: PrefixError) -> &'static str {
+        error.static_description()
+    }
+}
+
+impl fmt::Display for PrefixError {
+    ghost use Rattle.rpki_prefix.specs.Values.{prefix_error_text};
+
+    ghost output = { λ error. Some (prefix_error_text error) };
+
+    fn fmt<W: fmt::Write>(&self, f: &mut fmt::Formatter<W>) -> fmt::Result {
+        f.write_str(self.static_description())
+    }
+}
+
+impl std::error::Error for PrefixError {}
+
+/// What is wrong with the text of a prefix. The first fault in this order is answered.
+#[derive(Clone, Copy, Debug, PartialEq, Eq, Error)]
+pub enum ParsePrefixError {
+    /// There is no text.
+    #[error("empty string")]
+    Empty,
+    /// There is no slash.
+    #[error("missing length portion")]
+    MissingLen,
+    /// What stands before the first slash is no address.
+    #[error("invalid address: {0}")]
+    InvalidAddr(AddrParseError),
+    /// What stands behind it is no decimal text of a `u8`.
+    #[error("invalid length: {0}")]
+    InvalidLen(ParseIntError),
+    /// The address and the length are no prefix.
+    #[error("{0}")]
+    InvalidPrefix(PrefixError),
+}
+
+impl From<AddrParseError> for ParsePrefixError {
+    ghost use Rattle.rpki_prefix.specs.declared.error.ParsePrefixError.TheVariants.{InvalidAddr};
+
+    ghost from_gives = { λ fault error. error ≡ InvalidAddr fault };
+
+    fn from(fault: AddrParseError) -> ParsePrefixError {
+        ParsePrefixError::InvalidAddr(fault)
+    }
+}
+
+impl From<ParseIntError> for ParsePrefixError {
+    ghost use Rattle.rpki_prefix.specs.declared.error.ParsePrefixError.TheVariants.{InvalidLen};
+
+    ghost from_gives = { λ fault error. error ≡ InvalidLen fault };
+
+    fn from(fault: ParseIntError) -> ParsePrefixError {
+        ParsePrefixError::InvalidLen(fault)
+    }
+}
+
+impl From<PrefixError> for ParsePrefixError {
+    ghost use Rattle.rpki_prefix.specs.declared.error.ParsePrefixError.TheVariants.{InvalidPrefix};
+
+    ghost from_gives = { λ fault error. error ≡ InvalidPrefix fault };
+
+    fn from(fault: PrefixError) -> ParsePrefixError {
+        ParsePrefixError::InvalidPrefix(fault)
+    }
+}
+
+/// Why a number is no greatest length of a prefix.
+#[derive(Clone, Copy, Debug, PartialEq, Eq)]
+pub enum MaxLenError {
+    /// It is above the family's: 32 for IPv4, 128 for IPv6.
+    Overflow,
+    /// It is below the prefix's length.
+    Underflow,
+}
+
+impl MaxLenError {
+    ghost use Rattle.rpki_prefix.specs.MaxLen.{max_len_error_text};
+
+    /// What the error says.
+    pub fn static_description(self) -> &'static str
+        ensures { result.now ≡ max_len_error_text self }
+    {
+        match self {
+            MaxLenError::Overflow => "max-length too large",
+            MaxLenError::Underflow => "max-length smaller than prefix length",
+        }
+    }
+}
+
+impl From<MaxLenError> for &'static str {
+    ghost use Rattle.rpki_prefix.specs.MaxLen.{max_len_error_text};
+
+    ghost from_gives = { λ error text. text.now ≡ max_len_error_text error };
+
+    fn from(error: MaxLenError) -> &'static str {
+        error.static_description()
+    }
+}
+
+impl fmt::Display for MaxLenError {
+    ghost use Rattle.rpki_prefix.specs.MaxLen.{max_len_error_text};
+
+    ghost output = { λ error. Some (max_len_error_text error) };
+
+    fn fmt<W: fmt::Write>(&self, f: &mut fmt::Formatter<W>) -> fmt::Result {
+        f.write_str(self.static_description())
+    }
+}
+
+impl std::error::Error for MaxLenError {}
+
+/// What is wrong with the text of a prefix with a greatest length. The first fault in this order is answered.
+#[derive(Clone, Copy, Debug, PartialEq, Eq, Error)]
+pub enum ParseMaxLenPrefixError {
+    /// What stands before the first dash, or the whole text where there is none, is no prefix.
+    #[error("{0}")]
+    InvalidPrefix(ParsePrefixError),
+    /// What stands behind it is no decimal text of a `u8`.
+    #[error("invalid max length: {0}")]
+    InvalidMaxLenFormat(ParseIntError),
+    /// The number is no greatest length of the prefix.
+    #[error("{0}")]
+    InvalidMaxLenValue(MaxLenError),
+}
+
+impl From<ParsePrefixError> for ParseMaxLenPrefixError {
+    ghost use Rattle.rpki_prefix.specs.declared.error.ParseMaxLenPrefixError.TheVariants.{InvalidPrefix};
+
+    ghost from_gives = { λ fault error. error ≡ InvalidPrefix fault };
+
+    fn from(fault: ParsePrefixError) -> ParseMaxLenPrefixError {
+        ParseMaxLenPrefixError::InvalidPrefix(fault)
+    }
+}
+
+impl From<ParseIntError> for ParseMaxLenPrefixError {
+    ghost use Rattle.rpki_prefix.specs.declared.error.ParseMaxLenPrefixError.TheVariants.{InvalidMaxLenFormat};
+
+    ghost from_gives = { λ fault error. error ≡ InvalidMaxLenFormat fault };
+
+    fn from(fault: ParseIntError) -> ParseMaxLenPrefixError {
+        ParseMaxLenPrefixError::InvalidMaxLenFormat(fault)
+    }
+}
+
+impl From<MaxLenError> for ParseMaxLenPrefixError {
+    ghost use Rattle.rpki_prefix.specs.declared.error.ParseMaxLenPrefixError.TheVariants.{InvalidMaxLenValue};
+
+    ghost from_gives = { λ fault error. error ≡ InvalidMaxLenValue fault };
+
+    fn from(fault: MaxLenError) -> ParseMaxLenPrefixError {
+        ParseMaxLenPrefixError::InvalidMaxLenValue(fault)
+    }
+}

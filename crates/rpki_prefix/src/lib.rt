@@ -1,0 +1,8 @@
+//! Prefixes of IPv4 and IPv6 addresses, with a greatest length or without, as routing and route origins have them.
+#![tactic(auto)]
+
+pub mod error;
+pub mod max_len;
+mod order;
+pub mod prefix;
+mod text;

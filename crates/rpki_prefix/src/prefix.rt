@@ -1,0 +1,201 @@
+//! Prefixes of addresses of one family.
+ghost use Rattle.std.specs.Prelude.{◌≡◌, ◌+◌, ◌^◌, ◌<◌, ◌≤◌, MatchResult, not};
+ghost use Rattle.rpki_base.specs.declared.addr.IpAddr.TheVariants.{V4, V6};
+ghost use Rattle.rpki_prefix.specs.Values.{IsPrefixOf, IsRelaxedPrefixOf, HasPrefixError, HasRelaxedPrefixError, IsFamilyPrefix, bits, width, is_v6, cleared_addr, filled_addr, last_addr};
+
+use crate::error::PrefixError;
+use rpki_base::addr::{IpAddr, Ipv4Addr, Ipv6Addr};
+use std::marker::Model;
+
+/// The addresses of one family that begin with the same bits (RFC 4632, 3.1; RFC 4291, 2.3).
+///
+/// The length is 0 to 32 for IPv4 and 0 to 128 for IPv6. The bits after it, the host bits, are clear in the prefix's
+/// address.
+#[derive(Clone, Copy, Debug, PartialEq, Eq, Hash)]
+pub struct Prefix {
+    addr: IpAddr,
+    len: u8,
+}
+
+impl Model for Prefix {
+    ghost use Rattle.rpki_prefix.specs.Values.{FamilyPrefix, IsFamilyPrefix};
+
+    ghost Value = { FamilyPrefix };
+
+    ghost view = { λ p. record { addr = p.addr; len = p.len } };
+
+    ghost invariant = { λ p. IsFamilyPrefix (record { addr = p.addr; len = p.len }) };
+
+    ghost inverse = { λ p. record { addr = p.addr; len = p.len } };
+}
+
+/// How many bits an address has: the greatest length of a prefix of its family.
+fn address_bits(addr: &IpAddr) -> u8
+    ensures { result ≡ width addr.now }
+{
+    match addr {
+        IpAddr::V4(_) => 32,
+        IpAddr::V6(_) => 128,
+    }
+}
+
+/// The number whose last `count` bits are set, and no other.
+fn host_mask(count: u8) -> u128
+    requires { count ≤ 128 }
+    ensures { result + 1 ≡ 2 ^ count }
+{
+    if count == 0 {
+        0
+    } else {
+        u128::MAX >> (128 - count)
+    }
+}
+
+/// The address with the bits after the first `len` cleared.
+fn clear_host(addr: &IpAddr, len: u8) -> IpAddr
+    requires { len ≤ width addr.now }
+    ensures value { result ≡ cleared_addr addr.now len }
+    ensures below { bits addr.now < 2 ^ width addr.now }
+{
+    let mask = host_mask(address_bits(addr) - len);
+    match addr {
+        IpAddr::V4(addr) => IpAddr::V4(Ipv4Addr::from_bits(addr.to_bits() & !(mask as u32))),
+        IpAddr::V6(addr) => IpAddr::V6(Ipv6Addr::from_bits(addr.to_bits() & !mask)),
+    }
+}
+
+/// The address with the bits after the first `len` set.
+fn set_host(addr: &IpAddr, len: u8) -> IpAddr
+    requires { len ≤ width addr.now }
+    ensures { result ≡ filled_addr addr.now len }
+{
+    let mask = host_mask(address_bits(addr) - len);
+    match addr {
+        IpAddr::V4(addr) => IpAddr::V4(Ipv4Addr::from_bits(addr.to_bits() | mask as u32)),
+        IpAddr::V6(addr) => IpAddr::V6(Ipv6Addr::from_bits(addr.to_bits() | mask)),
+    }
+}
+
+impl Prefix {
+    /// The prefix of an address and a length.
+    ///
+    /// A length above the family's is refused as [`PrefixError::LenOverflow`], and then host bits that are set as
+    /// [`PrefixError::NonZeroHost`].
+    pub fn new(addr: IpAddr, len: u8) -> Result<Prefix, PrefixError>
+        ensures { MatchResult result (IsPrefixOf addr len) (HasPrefixError addr len) }
+    {
+        let prefix = Prefix::new_relaxed(addr, len)?;
+        if prefix.addr != addr {
+            return Err(PrefixError::NonZeroHost);
+        }
+        Ok(prefix)
+    }
+
+    /// The IPv4 prefix of an address and a length, as [`Prefix::new`].
+    pub fn new_v4(addr: Ipv4Addr, len: u8) -> Result<Prefix, PrefixError>
+        ensures { MatchResult result (IsPrefixOf (V4 addr) len) (HasPrefixError (V4 addr) len) }
+    {
+        Prefix::new(IpAddr::V4(addr), len)
+    }
+
+    /// The IPv6 prefix of an address and a length, as [`Prefix::new`].
+    pub fn new_v6(addr: Ipv6Addr, len: u8) -> Result<Prefix, PrefixError>
+        ensures { MatchResult result (IsPrefixOf (V6 addr) len) (HasPrefixError (V6 addr) len) }
+    {
+        Prefix::new(IpAddr::V6(addr), len)
+    }
+
+    /// The prefix of the first bits of an address, whose host bits are cleared.
+    ///
+    /// A length above the family's is refused as [`PrefixError::LenOverflow`], and nothing else.
+    pub fn new_relaxed(addr: IpAddr, len: u8) -> Result<Prefix, PrefixError>
+        ensures { MatchResult result (IsRelaxedPrefixOf addr len) (HasRelaxedPrefixError addr len) }
+    {
+        if len > address_bits(&addr) {
+            return Err(PrefixError::LenOverflow);
+        }
+        Ok(Prefix {
+            addr: clear_host(&addr, len),
+            len,
+        })
+    }
+
+    /// The IPv4 prefix of the first bits of an address, as [`Prefix::new_relaxed`].
+    pub fn new_v4_relaxed(addr: Ipv4Addr, len: u8) -> Result<Prefix, PrefixError>
+        ensures { MatchResult result (IsRelaxedPrefixOf (V4 addr) len) (HasRelaxedPrefixError (V4 addr) len) }
+    {
+        Prefix::new_relaxed(IpAddr::V4(addr), len)
+    }
+
+    /// The IPv6 prefix of the first bits of an address, as [`Prefix::new_relaxed`].
+    pub fn new_v6_relaxed(addr: Ipv6Addr, len: u8) -> Result<Prefix, PrefixError>
+        ensures { MatchResult result (IsRelaxedPrefixOf (V6 addr) len) (HasRelaxedPrefixError (V6 addr) len) }
+    {
+        Prefix::new_relaxed(IpAddr::V6(addr), len)
+    }
+
+    /// Is it a prefix of IPv4 addresses?
+    pub fn is_v4(self) -> bool
+        ensures { result ≡ not (is_v6 self.addr) }
+    {
+        match self.addr {
+            IpAddr::V4(_) => true,
+            IpAddr::V6(_) => false,
+        }
+    }
+
+    /// Is it a prefix of IPv6 addresses?
+    pub fn is_v6(self) -> bool
+        ensures { result ≡ is_v6 self.addr }
+    {
+        !self.is_v4()
+    }
+
+    /// The prefix's address, which is its least one.
+    pub fn addr(self) -> IpAddr
+        ensures value { result ≡ self.addr }
+        ensures prefix { IsFamilyPrefix self }
+    {
+        self.addr
+    }
+
+    /// How many bits the addresses have in common.
+    pub fn len(self) -> u8
+        ensures value { result ≡ self.len }
+        ensures prefix { IsFamilyPrefix self }
+    {
+        self.len
+    }
+
+    /// The greatest length of a prefix of the family: 32 or 128.
+    pub(crate) fn greatest_len(self) -> u8
+        ensures value { result ≡ width self.addr }
+        ensures prefix { IsFamilyPrefix self }
+    {
+        address_bits(&self.addr)
+    }
+
+    /// The prefix's address and length.
+    pub fn addr_and_len(self) -> (IpAddr, u8)
+        ensures addr { result.0 ≡ self.addr }
+        ensures len { result.1 ≡ self.len }
+    {
+        (self.addr, self.len)
+    }
+
+    /// The least address.
+    pub fn min_addr(self) -> IpAddr
+        ensures value { result ≡ self.addr }
+        ensures prefix { IsFamilyPrefix self }
+    {
+        self.addr
+    }
+
+    /// The greatest address.
+    pub fn max_addr(self) -> IpAddr
+        ensures value { result ≡ last_addr self }
+        ensures prefix { IsFamilyPrefix self }
+    {
+        set_host(&self.addr, self.len)
+    }
+}

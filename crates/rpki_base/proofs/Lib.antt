@@ -1,3 +1,4 @@
+pub mod AddressBytes
 pub mod AddressLemmas
 pub mod AddressReads
 pub mod AsnLemmas
@@ -5,6 +6,7 @@ pub mod CutLemmas
 pub mod DigitLemmas
 pub mod ListLemmas
 pub mod NumberLemmas
+pub mod PrefixNumbers
 pub mod PrintedAddressLemmas
 pub mod PrintedLemmas
 pub mod SmallSetLemmas

@@ -6,6 +6,7 @@ pub mod Lists
 pub mod Memory
 pub mod Numbers
 pub mod Orders
+pub mod Prefixes
 pub mod PrintedAddress
 pub mod Reading
 pub mod ReadsAddress

@@ -85,3 +85,10 @@ pub fn parse_u32(text: &str) -> Result<u32, ParseIntError>
 {
     Ok(parse_up_to(u64::from(u32::MAX), text.as_bytes())? as u32)
 }
+
+/// Reads a decimal text of a `u8`, as [`parse_u32`] reads one of a `u32`. The greatest number is 255.
+pub fn parse_u8(text: &str) -> Result<u8, ParseIntError>
+    ensures { Answers (IsNumberText (2 ^ 8 - 1) text.now) (HasNumberFault (2 ^ 8 - 1) text.now) result }
+{
+    Ok(parse_up_to(u64::from(u8::MAX), text.as_bytes())? as u8)
+}

@@ -1,0 +1,64 @@
+-- On masks, which clear or set the last bits of a number, and on the numbers of prefixes.
+use Rattle.std.proofs.Common.{◌≡◌, ℕ, suc, ◌+◌, ◌-◌, ◌*◌, ◌/◌, ◌%◌, ◌^◌, ◌<◌, ◌≤◌, ◌∙◌, ap, arith, inl, inr, bit_and, bit_or}
+use Rattle.std.proofs.Math.Nat.{two-pow-succ, pow-le-pow_right}
+use Rattle.std.proofs.lemmas.Bool.{cases_order}
+use Rattle.std.proofs.lemmas.Nat.{pow_pos, pow_below, and_mask, shr_split, mod_below, mod-mul-add}
+use Rattle.std.proofs.lemmas.Nat.Bits.{ones_shr, and_high_mask}
+use Rattle.std.specs.Int.Bits.{or_add_and}
+use Rattle.rpki_base.specs.Prefixes.{PrefixValue, IsPrefix, IsIn, cleared}
+
+-- `n & !m` of w bits, where the last k bits of m are set and no other, clears the last k bits
+pub clear_host : (w k n m : ℕ) → k ≤ w → n < 2 ^ w → m + 1 ≡ 2 ^ k → bit_and n (2 ^ w - 1 - m) ≡ n / 2 ^ k * 2 ^ k
+clear_host w k n m within below mask =
+    let most : 2 ^ k ≤ 2 ^ w = pow-le-pow_right {n = 2} (omega arith) within in
+    let high : 2 ^ w - 1 - m ≡ 2 ^ w - 2 ^ k = omega (arith, mask, most) in
+    ap (λ x. bit_and n x) high ∙ and_high_mask w k within n below
+
+-- and `n | m` sets them
+pub set_host : (k n m : ℕ) → m + 1 ≡ 2 ^ k → bit_or n m + 1 ≡ n / 2 ^ k * 2 ^ k + 2 ^ k
+set_host k n m mask =
+    let is : m ≡ 2 ^ k - 1 = omega (arith, mask) in
+    let sum : bit_or n m + bit_and n m ≡ n + m = or_add_and n m in
+    let low : bit_and n m ≡ n % 2 ^ k = ap (λ x. bit_and n x) is ∙ and_mask n k in
+    let parts : n / 2 ^ k * 2 ^ k + n % 2 ^ k ≡ n = shr_split n k in
+    omega (arith, sum, low, parts, mask)
+
+-- the mask `MAX >> len` of w bits has its last w - len bits set
+pub host_ones : (w len : ℕ) → len ≤ w → (2 ^ w - 1) / 2 ^ len + 1 ≡ 2 ^ (w - len)
+host_ones w len short =
+    let ones : (2 ^ w - 1) / 2 ^ len ≡ 2 ^ (w - len) - 1 = ones_shr w len short in
+    let some : 0 < 2 ^ (w - len) = pow_pos (w - len) in
+    omega (arith, ones, some)
+
+-- clearing the bits behind its length leaves a prefix's first number as it is
+pub cleared_first : (w : ℕ) (p : PrefixValue) → IsPrefix w p → cleared w p.first p.len ≡ p.first
+cleared_first w p is =
+    let parts : p.first / 2 ^ (w - p.len) * 2 ^ (w - p.len) + p.first % 2 ^ (w - p.len) ≡ p.first = shr_split p.first (w - p.len) in
+    omega (arith, parts, is.aligned)
+
+-- a power of 2 is known by the power of 2 that is at most it and more than half of it
+pub power_is : (h k : ℕ) → 2 ^ h ≤ 2 ^ k → (h < k → 2 ^ k < 2 * 2 ^ h) → h ≡ k
+power_is h k low high = elim (cases_order h k) [
+  | inl same ↦ same
+  | inr (inl less) ↦ absurd (
+      let twice : 2 ^ suc h ≡ 2 ^ h + 2 ^ h = two-pow-succ h in
+      let most : 2 ^ suc h ≤ 2 ^ k = pow-le-pow_right {n = 2} (omega arith) less in
+      let below : 2 ^ k < 2 * 2 ^ h = high less in
+      omega (arith, twice, most, below))
+  | inr (inr more) ↦ absurd (let above : 2 ^ k < 2 ^ h = pow_below k h more in omega (arith, above, low))
+]
+
+-- clearing the bits behind a length gives a prefix of that length
+pub cleared_prefix : (w n len : ℕ) → len ≤ w → n < 2 ^ w → IsPrefix w (record { first = cleared w n len; len = len })
+cleared_prefix w n len short below =
+    let some : 0 < 2 ^ (w - len) = pow_pos (w - len) in
+    let parts : n / 2 ^ (w - len) * 2 ^ (w - len) + n % 2 ^ (w - len) ≡ n = shr_split n (w - len) in
+    record { short = short; aligned = (let e : n / 2 ^ (w - len) * 2 ^ (w - len) + 0 ≡ n / 2 ^ (w - len) * 2 ^ (w - len) = omega arith in rw e at (mod-mul-add (n / 2 ^ (w - len)) (2 ^ (w - len)) 0 some)); below = omega (arith, parts, below) }
+
+-- which holds the number
+pub cleared_holds : (w n len : ℕ) → IsIn w (record { first = cleared w n len; len = len }) n
+cleared_holds w n len =
+    let some : 0 < 2 ^ (w - len) = pow_pos (w - len) in
+    let parts : n / 2 ^ (w - len) * 2 ^ (w - len) + n % 2 ^ (w - len) ≡ n = shr_split n (w - len) in
+    let rest : n % 2 ^ (w - len) < 2 ^ (w - len) = mod_below n (2 ^ (w - len)) some in
+    record { from = omega (arith, parts); upto = omega (arith, parts, rest) }

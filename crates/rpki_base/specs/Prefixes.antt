@@ -1,0 +1,42 @@
+-- Prefixes of a width: 32 bits for IPv4, 128 bits for IPv6 and for addresses of either family.
+use Rattle.std.specs.Prelude.{◌≡◌, ℕ, ◌+◌, ◌-◌, ◌*◌, ◌/◌, ◌%◌, ◌^◌, ◌<◌, ◌≤◌}
+
+-- what contracts see of a prefix: its first number, and how many of its leading bits are fixed
+pub record PrefixValue : Type 0 where
+  pub first : ℕ
+  pub len : ℕ
+
+-- p is a prefix of width w: its first number, of w bits, is a multiple of how many numbers the prefix has (RFC 3779, 2.1.1)
+pub record IsPrefix (w : ℕ) (p : PrefixValue) : Type 0 where
+  pub short : p.len ≤ w
+  pub aligned : p.first % 2 ^ (w - p.len) ≡ 0
+  pub below : p.first < 2 ^ w
+
+-- n is one of the numbers of the prefix p of width w
+pub record IsIn (w : ℕ) (p : PrefixValue) (n : ℕ) : Type 0 where
+  pub from : p.first ≤ n
+  pub upto : n < p.first + 2 ^ (w - p.len)
+
+-- each number of p is in the set S
+abbrev pub IsInside : ℕ → (ℕ → Type 0) → PrefixValue → Type 0
+IsInside w S p = (n : ℕ) → IsIn w p n → S n
+
+-- q is the parent of p: it is one bit shorter, and holds p
+pub record IsParent (w : ℕ) (q p : PrefixValue) : Type 0 where
+  pub is_prefix : IsPrefix w q
+  pub shorter : p.len ≡ q.len + 1
+  pub holds : IsInside w (IsIn w q) p
+
+-- p is a maximal prefix inside S: it has no parent, or one that isn't inside
+pub record IsMaximal (w : ℕ) (S : ℕ → Type 0) (p : PrefixValue) : Type 0 where
+  pub is_prefix : IsPrefix w p
+  pub inside : IsInside w S p
+  pub greatest : (q : PrefixValue) → IsParent w q p → ¬ IsInside w S q
+
+-- the greatest number of a prefix
+abbrev pub last_of : ℕ → PrefixValue → ℕ
+last_of w p = p.first + 2 ^ (w - p.len) - 1
+
+-- the number of w bits with the bits after the first len cleared: the multiple of 2 ^ (w - len) at n or below it
+abbrev pub cleared : ℕ → ℕ → ℕ → ℕ
+cleared w n len = n / 2 ^ (w - len) * 2 ^ (w - len)

@@ -1,6 +1,6 @@
 //! The order of prefixes: IPv4 before IPv6, then by the greatest address, then the longer prefix first.
 //!
-//! So a prefix stands behind all that it covers.
+//! So a prefix isn't before what it covers.
 ghost use Rattle.std.specs.Prelude.{◌≡◌, ◌↔◌, IsTrue, false, refl};
 ghost use Rattle.std.proofs.Common.{rules};
 ghost use Rattle.std.specs.Cmp.{partial_order_from_own_ties};
@@ -15,8 +15,9 @@ use rpki_base::addr::IpAddr;
 use std::cmp::Ordering;
 
 impl Prefix {
-    /// Are both prefixes of one family, and is each address of the other one of this one's? What it covers doesn't
-    /// stand behind it in the order of prefixes.
+    /// Are both prefixes of one family, and is each address of the other one of this one's?
+    ///
+    /// A prefix isn't before what it covers in the order of prefixes.
     pub fn covers(self, other: Prefix) -> bool
         ensures value { IsTrue result ↔ CoversPrefix self other }
         ensures order { IsTrue result → is_lt (prefix_cmp self other) ≡ false }
@@ -47,9 +48,8 @@ impl Ord for Prefix {
     ghost matches_eq = { prefix_ties ⟦<IpAddr as PartialEq>⟧.eq (record { of_v4 = λ m n. refl; of_v6 = λ m n. refl; v4_v6 = λ m n. refl; v6_v4 = λ m n. refl }) };
 
     fn cmp(&self, other: &Prefix) -> Ordering {
-        self.max_addr()
-            .cmp(&other.max_addr())
-            .then(other.len().cmp(&self.len()))
+        let by_address = self.max_addr().cmp(&other.max_addr());
+        by_address.then(other.len().cmp(&self.len()))
     }
 }
 

@@ -4,9 +4,11 @@ use Rattle.rpki_base.specs.Reading.{Answers}
 use Rattle.rpki_ip.specs.AddrText.{IsFirstOf}
 
 module _ {X E : Type 0} (first : X → ℕ) (Writes : X → Type 0) (Fails : E → Type 0) where
+  -- an answer is one value
   ok_one : (x y : X) (r : Result X E) → r ≡ Ok x → r ≡ Ok y → x ≡ y
   ok_one x y r h k = cc
 
+  -- an answer, and its least number
   pub first_of_ok : (x : X) → Answers Writes Fails (Ok x) → Answers (IsFirstOf first Writes) Fails (Ok (first x))
   first_of_ok x h = record {
     found = (x, h.found, refl);
@@ -14,6 +16,7 @@ module _ {X E : Type 0} (first : X → ℕ) (Writes : X → Type 0) (Fails : E �
     each_fault = λ e f. absurd (let z = h.each_fault e f in cc);
   }
 
+  -- a fault stays
   pub first_of_err : (e : E) → Answers Writes Fails (Err e) → Answers (IsFirstOf first Writes) Fails (Err e)
   first_of_err e h = record {
     found = h.found;

@@ -17,12 +17,14 @@ pub record LiesRound (p q : FamilyPrefix) : Type 0 where
   pub from : bits p.addr ≤ bits q.addr
   pub upto : last_bits q ≤ last_bits p
 
+-- where they do, p covers q
 pub covers_round : (p q : FamilyPrefix) → LiesRound p q → CoversPrefix p q
 covers_round p q r =
     let some : 0 < 2 ^ (width p.addr - p.len) = pow_pos (width p.addr - p.len) in
     let more : 0 < 2 ^ (width q.addr - q.len) = pow_pos (width q.addr - q.len) in
     record { family = r.family; inside = λ n i. record { from = omega (arith, r.from, i.from); upto = omega (arith, r.upto, i.upto) } }
 
+-- and where p covers q, they do
 pub round_covers : (p q : FamilyPrefix) → CoversPrefix p q → LiesRound p q
 round_covers p q c =
     let some : 0 < 2 ^ (width p.addr - p.len) = pow_pos (width p.addr - p.len) in
@@ -31,21 +33,25 @@ round_covers p q c =
     let last : IsIn (width p.addr) (interval p) (last_bits q) = c.inside (last_bits q) (record { from = omega arith; upto = omega arith }) in
     record { family = c.family; from = first.from; upto = omega (arith, last.upto) }
 
+-- addresses of one family have as many bits
 same_width : (a b : IpAddr) → is_v6 a ≡ is_v6 b → width a ≡ width b
 same_width (V4 m) (V4 n) e = refl
 same_width (V4 m) (V6 n) e = absurd (let f : false ≡ true = e in cc)
 same_width (V6 m) (V4 n) e = absurd (let f : true ≡ false = e in cc)
 same_width (V6 m) (V6 n) e = refl
 
+-- families that are the same tie
 bool_same : (a b : Bool) → a ≡ b → bool_cmp a b ≡ Equal
 bool_same false false e = refl
 bool_same false true e = absurd (let f : false ≡ true = e in cc)
 bool_same true false e = absurd (let f : true ≡ false = e in cc)
 bool_same true true e = refl
 
+-- a greater number comes later
 nat_greater : (x y : ℕ) → y < x → nat_cmp x y ≡ Greater
 nat_greater x y h = rw (le-ltb x y (omega arith), ne_eqb x y (λ e. omega arith)) refl
 
+-- equal numbers tie
 nat_same : (x y : ℕ) → x ≡ y → nat_cmp x y ≡ Equal
 nat_same x y h = rw (le-ltb x y (omega arith), eq-eqb x y h) refl
 
@@ -56,6 +62,7 @@ begins_later w a b k l short longer ends =
     let some : 0 < 2 ^ (w - k) = pow_pos (w - k) in
     omega (arith, less, some, ends)
 
+-- a prefix that covers another isn't before it
 pub not_before : (p q : FamilyPrefix) → p.len ≤ width p.addr → LiesRound p q → is_lt (prefix_cmp p q) ≡ false
 not_before p q short r = elim (cases_order (last_bits p) (last_bits q)) [
   | inr (inl less) ↦ absurd (omega (arith, less, r.upto))
@@ -76,18 +83,21 @@ pub record BeginsRound (p q : FamilyPrefix) : Type 0 where
   pub family : is_v6 p.addr ≡ is_v6 q.addr
   pub from : bits p.addr ≤ bits q.addr
 
+-- the test of two families says that they are the same
 pub same_bool : (a b : Bool) → beq a b ≡ true → a ≡ b
 same_bool false false e = refl
 same_bool false true e = absurd (cc)
 same_bool true false e = absurd (cc)
 same_bool true true e = refl
 
+-- and is met where they are
 pub beq_same : (a b : Bool) → a ≡ b → beq a b ≡ true
 beq_same false false e = refl
 beq_same false true e = e
 beq_same true false e = sym e
 beq_same true true e = refl
 
+-- the number of the greatest address
 pub bits_last : (p : FamilyPrefix) → bits (last_addr p) ≡ last_bits p
 bits_last p = bits_with p.addr (last_bits p)
   where

@@ -33,9 +33,11 @@ both_one text p q m n h k =
     let here = around_at dash text k.left k.right (λ l r. ArePrefixAndMax l r p m) k.cut h in
     record { prefix = IsPrefixText-one k.left p q here.prefix_text k.holds.prefix_text; max = IsNumberText-one (2 ^ 8 - 1) k.right m n here.max_len_text k.holds.max_len_text }
 
+-- a prefix and a greatest length
 abbrev paired : FamilyPrefix → Option ℕ → MaxLenValue
 paired p m = record { prefix = p; max_len = m }
 
+-- a text writes one prefix and greatest length
 value_one : (text : List ℕ) (p q : FamilyPrefix) (m n : Option ℕ) → IsMaxLenTextOf text p m → IsMaxLenTextOf text q n
     → paired p m ≡ paired q n
 value_one text p q None None h k = let same = IsPrefixText-one text p q h.1 k.1 in λ i. record { prefix = same i; max_len = None }
@@ -43,6 +45,7 @@ value_one text p q None (Some n) h k = absurd (none_around dash text _ h.0 k.0)
 value_one text p q (Some m) None h k = absurd (none_around dash text _ k.0 h.0)
 value_one text p q (Some m) (Some n) h k = let same = both_one text p q m n h.0 k.0 in λ i. record { prefix = same.prefix i; max_len = Some (same.max i) }
 
+-- so it writes one value
 text_one : (text : List ℕ) (x y : MaxLenValue) → IsMaxLenText text x → IsMaxLenText text y → x ≡ y
 text_one text x y h k = value_one text x.prefix y.prefix x.max_len y.max_len h k
 
@@ -51,12 +54,14 @@ max_apart : (p : FamilyPrefix) (n : ℕ) (f : MaxLenError) → IsMaxLenOf p (Som
 max_apart p n Overflow h above = let upto = h.1 in omega (arith, upto, above)
 max_apart p n Underflow h k = let from = h.0 in let below = k.1 in omega (arith, from, below)
 
+-- there is one error
 max_error_one : (p : FamilyPrefix) (n : ℕ) (f g : MaxLenError) → HasMaxLenError p (Some n) f → HasMaxLenError p (Some n) g → f ≡ g
 max_error_one p n Overflow Overflow h k = refl
 max_error_one p n Overflow Underflow h k = absurd (let upto = k.0 in omega (arith, h, upto))
 max_error_one p n Underflow Overflow h k = absurd (let upto = h.0 in omega (arith, k, upto))
 max_error_one p n Underflow Underflow h k = refl
 
+-- a text that writes a prefix and a greatest length has no fault
 apart_of : (text : List ℕ) (p : FamilyPrefix) (m : Option ℕ) (e : ParseMaxLenPrefixError) → IsMaxLenTextOf text p m → HasMaxLenTextFault text e → ⊥
 apart_of text p None (InvalidPrefix f) h (inl k) = IsPrefixText-no_fault text p f h.1 k.1
 apart_of text p None (InvalidPrefix f) h (inr k) = none_around dash text _ h.0 k
@@ -74,6 +79,7 @@ apart_of text p (Some m) (InvalidMaxLenValue f) h (q, n, both, fault) =
     let same = both_one text q p n m both h.0 in
     max_apart p m f h.1 (subst (λ r. HasMaxLenError r (Some m) f) same.prefix (subst (λ k. HasMaxLenError q (Some k) f) same.max fault))
 
+-- so a text that writes a value has none
 text_apart : (text : List ℕ) (m : MaxLenValue) (e : ParseMaxLenPrefixError) → IsMaxLenText text m → HasMaxLenTextFault text e → ⊥
 text_apart text m e h k = apart_of text m.prefix m.max_len e h k
 
@@ -84,15 +90,18 @@ faulty_prefix text f P (inr h) k =
     let (p, is, _) = k.holds in
     IsPrefixText-no_fault k.left p f is (around_at dash text k.left k.right (λ l r. HasPrefixTextFault l f) k.cut h)
 
+-- the prefix and the number, found round the dash
 as_around : (text : List ℕ) (p : FamilyPrefix) (n : ℕ) → HasMaxLen text p n → Around dash text (λ l r. (q : FamilyPrefix) × IsPrefixText l q × IsNumberText (2 ^ 8 - 1) r n)
 as_around text p n h = record { left = h.left; right = h.right; cut = h.cut; holds = (p, h.holds.prefix_text, h.holds.max_len_text) }
 
+-- what stands behind the dash is a number or isn't
 number_and_fault : (text : List ℕ) (p : FamilyPrefix) (n : ℕ) (f : _) → HasMaxLen text p n → HasMaxLenTextFault text (InvalidMaxLenFormat f) → ⊥
 number_and_fault text p n f h k =
     let here = around_at dash text k.left k.right (λ l r. ArePrefixAndMax l r p n) k.cut h in
     let (q, is, fault) = k.holds in
     number_apart k.right n f here.max_len_text fault
 
+-- a text has one fault
 fault_one : (text : List ℕ) (d e : ParseMaxLenPrefixError) → HasMaxLenTextFault text d → HasMaxLenTextFault text e → d ≡ e
 fault_one text (InvalidPrefix f) (InvalidPrefix g) (inl h) (inl k) = ap InvalidPrefix (HasPrefixTextFault-one text f g h.1 k.1)
 fault_one text (InvalidPrefix f) (InvalidPrefix g) (inl h) (inr k) = absurd (none_around dash text _ h.0 k)
@@ -118,6 +127,7 @@ no_dash_digits : (ds : List ℕ) → AllDigits 10 ds → AllByRecursion (λ b. b
 no_dash_digits [] h = tt
 no_dash_digits (c ∷ cs) h = let range = digit_from_value c h.0 in ((λ e. let low = range.0 in omega (arith, e, low)), no_dash_digits cs h.1)
 
+-- nor has the prefix with its length
 prefix_no_dash : (p : FamilyPrefix) → IsFamilyPrefix p → HasNo dash (prefix_text p)
 prefix_no_dash p h =
     let few = few_bits p.addr in
@@ -126,6 +136,7 @@ prefix_no_dash p h =
     let all = All-append (λ b. b ≢ dash) (ip_text p.addr) (slash ∷ decimal p.len) (All-weaker IsAddressByte _ not_dash (ip_text p.addr) (ip_bytes p.addr)) (All-cons (λ b. b ≢ dash) slash (decimal p.len) (λ e. omega (arith, e)) digits) in
     λ k l. all k 0 l
 
+-- what is printed of a value writes it
 written : (p : FamilyPrefix) (m : Option ℕ) → IsFamilyPrefix p → IsMaxLenOf p m → IsMaxLenTextOf (prefix_text p ++ max_text m) p m
 written p None h within = rw (append-nil (prefix_text p)) (prefix_no_dash p h, IsPrefixText-prefix_text p h)
 written p (Some n) h within =
@@ -140,6 +151,7 @@ written p (Some n) h within =
       within,
     )
 
+-- what is found is the answer, and what is printed is read back
 pub reads_max_len : (text : List ℕ) (r : Result MaxLenValue ParseMaxLenPrefixError) → MatchResult r (IsMaxLenText text) (HasMaxLenTextFault text) → ReadsMaxLen text r
 reads_max_len text r found =
     let exact = Answers-from_found r found (text_one text) (text_apart text) (fault_one text) in

@@ -26,6 +26,7 @@ use Rattle.rpki_prefix.specs.declared.error.PrefixError.TheVariants.{LenOverflow
 pub number_apart : (text : List ℕ) (n : ℕ) (f : ParseIntError) → IsNumberText (2 ^ 8 - 1) text n → HasNumberFault (2 ^ 8 - 1) text f → ⊥
 number_apart text n f h k = let e = (number_answers (2 ^ 8 - 1) text (Err f) k).each_value n h in cc
 
+-- and one alone
 pub same_number_fault : (text : List ℕ) (f g : ParseIntError) → HasNumberFault (2 ^ 8 - 1) text f → HasNumberFault (2 ^ 8 - 1) text g → f ≡ g
 same_number_fault text f g h k = err_one (Err f) refl ((number_answers (2 ^ 8 - 1) text (Err f) h).each_fault g k)
   where
@@ -42,9 +43,11 @@ parts_one text a b m n h k =
     let here = around_at slash text k.left k.right (λ l r. AreParts l r a m) k.cut h in
     record { address = IsIpText-one k.left a b here.addr_text k.holds.addr_text; length = IsNumberText-one (2 ^ 8 - 1) k.right m n here.len_text k.holds.len_text }
 
+-- nothing has no slash
 empty_around : (text : List ℕ) (P : List ℕ → List ℕ → Type 0) → text ≡ [] → Around slash text P → ⊥
 empty_around text P e h = none_around slash text P (subst (HasNo slash) (sym e) (λ k small. absurd (omega (arith, small)))) h
 
+-- a text with an address and a length has no fault of them
 parts_apart : (text : List ℕ) (a : IpAddr) (n : ℕ) (e : ParsePrefixError) → HasParts text a n → HasNoParts text e → ⊥
 parts_apart text a n Empty h k = empty_around text _ k h
 parts_apart text a n MissingLen h k = none_around slash text _ k.1 h
@@ -54,9 +57,11 @@ parts_apart text a n (InvalidLen f) h k =
     number_apart h.right n f h.holds.len_text fault
 parts_apart text a n (InvalidPrefix f) h k = k
 
+-- what stands before the slash is an address or isn't
 no_addr_and_addr : (text : List ℕ) (F : Type 0) (g : ParseIntError) → Around slash text (λ l r. ((a : IpAddr) → ¬ IsIpText l a) × F) → Around slash text (λ l r. (a : IpAddr) × IsIpText l a × HasNumberFault (2 ^ 8 - 1) r g) → ⊥
 no_addr_and_addr text F g h k = let (a, is, fault) = k.holds in (around_at slash text k.left k.right (λ l r. ((b : IpAddr) → ¬ IsIpText l b) × F) k.cut h).0 a is
 
+-- a text without them has one fault
 no_parts_one : (text : List ℕ) (d e : ParsePrefixError) → HasNoParts text d → HasNoParts text e → d ≡ e
 no_parts_one text Empty Empty h k = refl
 no_parts_one text Empty MissingLen h k = absurd (k.0 h)
@@ -89,17 +94,20 @@ module _ (Rule : IpAddr → ℕ → FamilyPrefix → Type 0) (Fails : IpAddr →
     (apart : (a : IpAddr) (n : ℕ) (p : FamilyPrefix) (f : PrefixError) → Rule a n p → Fails a n f → ⊥)
     (fails_one : (a : IpAddr) (n : ℕ) (f g : PrefixError) → Fails a n f → Fails a n g → f ≡ g)
   where
+    -- a text writes one prefix
     text_one : (text : List ℕ) (p q : FamilyPrefix) → IsTextBy Rule text p → IsTextBy Rule text q → p ≡ q
     text_one text p q h k =
         let same = parts_one text h.addr k.addr h.len k.len h.parts k.parts in
         rule_one k.addr k.len p q (subst (λ a. Rule a k.len p) same.address (subst (λ n. Rule h.addr n p) same.length h.prefix)) k.prefix
 
+    -- and has no fault then
     text_apart : (text : List ℕ) (p : FamilyPrefix) (e : ParsePrefixError) → IsTextBy Rule text p → HasTextFaultBy Fails text e → ⊥
     text_apart text p e h (inl k) = parts_apart text h.addr h.len e h.parts k
     text_apart text p e h (inr (a, n, f, parts, fault, _)) =
         let same = parts_one text h.addr a h.len n h.parts parts in
         apart a n p f (subst (λ b. Rule b n p) same.address (subst (λ m. Rule h.addr m p) same.length h.prefix)) fault
 
+    -- and else one fault
     fault_one : (text : List ℕ) (d e : ParsePrefixError) → HasTextFaultBy Fails text d → HasTextFaultBy Fails text e → d ≡ e
     fault_one text d e (inl h) (inl k) = no_parts_one text d e h k
     fault_one text d e (inl h) (inr (a, n, f, parts, _, _)) = absurd (parts_apart text a n d parts h)
@@ -108,6 +116,7 @@ module _ (Rule : IpAddr → ℕ → FamilyPrefix → Type 0) (Fails : IpAddr →
         let same = parts_one text a b n m parts others in
         u ∙ ap InvalidPrefix (fails_one b m f g (subst (λ c. Fails c m f) same.address (subst (λ l. Fails a l f) same.length h)) k) ∙ sym v
 
+    -- so what is found is the answer
     answers_by : (text : List ℕ) (r : Result FamilyPrefix ParsePrefixError) → MatchResult r (IsTextBy Rule text) (HasTextFaultBy Fails text) → Answers (IsTextBy Rule text) (HasTextFaultBy Fails text) r
     answers_by text r found = Answers-from_found r found (text_one text) (text_apart text) (fault_one text)
 
@@ -115,32 +124,39 @@ module _ (Rule : IpAddr → ℕ → FamilyPrefix → Type 0) (Fails : IpAddr →
 prefix_one : (a : IpAddr) (n : ℕ) (p q : FamilyPrefix) → IsPrefixOf a n p → IsPrefixOf a n q → p ≡ q
 prefix_one a n p q h k = λ i. record { addr = (h.same_addr ∙ sym k.same_addr) i; len = (h.same_len ∙ sym k.same_len) i }
 
+-- a prefix and an error exclude each other
 prefix_apart : (a : IpAddr) (n : ℕ) (p : FamilyPrefix) (f : PrefixError) → IsPrefixOf a n p → HasPrefixError a n f → ⊥
 prefix_apart a n p LenOverflow h above = let short : n ≤ width a = rw (h.same_addr, h.same_len) at h.is_prefix.short in omega (arith, short, above)
 prefix_apart a n p NonZeroHost h k = k.1 (rw (h.same_addr, h.same_len) at h.is_prefix.aligned)
 
+-- there is one error
 error_one : (a : IpAddr) (n : ℕ) (f g : PrefixError) → HasPrefixError a n f → HasPrefixError a n g → f ≡ g
 error_one a n LenOverflow LenOverflow h k = refl
 error_one a n LenOverflow NonZeroHost h k = absurd (omega (arith, h, k.0))
 error_one a n NonZeroHost LenOverflow h k = absurd (omega (arith, k, h.0))
 error_one a n NonZeroHost NonZeroHost h k = refl
 
+-- the same where host bits are cleared
 relaxed_one : (a : IpAddr) (n : ℕ) (p q : FamilyPrefix) → IsRelaxedPrefixOf a n p → IsRelaxedPrefixOf a n q → p ≡ q
 relaxed_one a n p q h k = λ i. record { addr = (h.same_bits ∙ sym k.same_bits) i; len = (h.same_len ∙ sym k.same_len) i }
 
+-- clearing bits leaves the family
 same_width : (a : IpAddr) (n : ℕ) → width (cleared_addr a n) ≡ width a
 same_width (V4 m) n = refl
 same_width (V6 m) n = refl
 
+-- a prefix and an error exclude each other
 relaxed_apart : (a : IpAddr) (n : ℕ) (p : FamilyPrefix) (f : PrefixError) → IsRelaxedPrefixOf a n p → HasRelaxedPrefixError a n f → ⊥
 relaxed_apart a n p LenOverflow h above = let short : n ≤ width a = rw (h.same_bits, h.same_len, same_width a n) at h.is_prefix.short in omega (arith, short, above)
 relaxed_apart a n p NonZeroHost h k = k
 
+-- there is one error
 relaxed_error_one : (a : IpAddr) (n : ℕ) (f g : PrefixError) → HasRelaxedPrefixError a n f → HasRelaxedPrefixError a n g → f ≡ g
 relaxed_error_one a n LenOverflow LenOverflow h k = refl
 relaxed_error_one a n LenOverflow NonZeroHost h k = absurd k
 relaxed_error_one a n NonZeroHost g h k = absurd h
 
+-- what is found by the relaxed reader is the answer
 pub reads_relaxed : (text : List ℕ) (r : Result FamilyPrefix ParsePrefixError) → MatchResult r (IsRelaxedPrefixText text) (HasRelaxedPrefixTextFault text) → Answers (IsRelaxedPrefixText text) (HasRelaxedPrefixTextFault text) r
 reads_relaxed = answers_by IsRelaxedPrefixOf HasRelaxedPrefixError relaxed_one relaxed_apart relaxed_error_one
 
@@ -149,6 +165,7 @@ is_address : (a : IpAddr) → bits a < 2 ^ width a → IsAddress a
 is_address (V4 n) below = below
 is_address (V6 n) below = below
 
+-- what is printed of a prefix writes it
 pub IsPrefixText-prefix_text : (p : FamilyPrefix) → IsFamilyPrefix p → IsPrefixText (prefix_text p) p
 IsPrefixText-prefix_text p h =
     let few = few_bits p.addr in
@@ -165,18 +182,23 @@ IsPrefixText-prefix_text p h =
       prefix = record { same_addr = refl; same_len = refl; is_prefix = h };
     }
 
+-- what is found by the strict reader is the answer
 pub prefix_text_answers : (text : List ℕ) (r : Result FamilyPrefix ParsePrefixError) → MatchResult r (IsPrefixText text) (HasPrefixTextFault text) → Answers (IsPrefixText text) (HasPrefixTextFault text) r
 prefix_text_answers = answers_by IsPrefixOf HasPrefixError prefix_one prefix_apart error_one
 
+-- a text writes one prefix
 pub IsPrefixText-one : (text : List ℕ) (p q : FamilyPrefix) → IsPrefixText text p → IsPrefixText text q → p ≡ q
 IsPrefixText-one = text_one IsPrefixOf HasPrefixError prefix_one prefix_apart error_one
 
+-- and has no fault then
 pub IsPrefixText-no_fault : (text : List ℕ) (p : FamilyPrefix) (e : ParsePrefixError) → IsPrefixText text p → HasPrefixTextFault text e → ⊥
 IsPrefixText-no_fault = text_apart IsPrefixOf HasPrefixError prefix_one prefix_apart error_one
 
+-- and else one fault
 pub HasPrefixTextFault-one : (text : List ℕ) (d e : ParsePrefixError) → HasPrefixTextFault text d → HasPrefixTextFault text e → d ≡ e
 HasPrefixTextFault-one = fault_one IsPrefixOf HasPrefixError prefix_one prefix_apart error_one
 
+-- and what is printed is read back
 pub reads_prefix : (text : List ℕ) (r : Result FamilyPrefix ParsePrefixError) → MatchResult r (IsPrefixText text) (HasPrefixTextFault text) → ReadsPrefix text r
 reads_prefix text r found =
     let exact = prefix_text_answers text r found in

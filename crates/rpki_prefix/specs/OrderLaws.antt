@@ -19,11 +19,13 @@ pub record IsSameAddress (test : IpAddr → IpAddr → Bool) : Type 0 where
   pub v4_v6 : (m n : ℕ) → test (V4 m) (V6 n) ≡ false
   pub v6_v4 : (m n : ℕ) → test (V6 m) (V4 n) ≡ false
 
+-- both comparisons tie
 is_eq_then : (a b : Ordering) → is_eq (ordering_then a b) ≡ (is_eq a && is_eq b)
 is_eq_then Less b = refl
 is_eq_then Equal b = refl
 is_eq_then Greater b = refl
 
+-- numbers tie where they are equal
 is_eq_nat : (x y : ℕ) → is_eq (nat_cmp x y) ≡ eqb x y
 is_eq_nat x y = elim (cases_order x y) [
   | inl e ↦ rw (le-ltb x y (omega arith), eq-eqb x y e) refl
@@ -31,6 +33,7 @@ is_eq_nat x y = elim (cases_order x y) [
   | inr (inr g) ↦ rw (le-ltb x y (omega arith), ne_eqb x y (λ e. omega arith)) refl
 ]
 
+-- the test of equality, turned round
 eq_turned : (x y : ℕ) → eqb x y ≡ eqb y x
 eq_turned x y = elim (cases_eq x y) [ inl e ↦ rw (eq-eqb x y e, eq-eqb y x (sym e)) refl | inr n ↦ rw (ne_eqb x y n, ne_eqb y x (λ e. n (sym e))) refl ]
 
@@ -55,6 +58,7 @@ same_keys w a b k l =
     ∙ (λ i. is_eq_nat (a + 2 ^ (w - k) - 1) (b + 2 ^ (w - l) - 1) i && is_eq_nat l k i))
 
 module _ (test : IpAddr → IpAddr → Bool) (is : IsSameAddress test) where
+  -- the keys of two addresses with lengths
   ties_at : (a b : IpAddr) (k l : ℕ) → (test a b && eqb k l) ≡ is_eq (prefix_cmp (record { addr = a; len = k }) (record { addr = b; len = l }))
   ties_at (V4 m) (V4 n) k l = rw (is.of_v4 m n) (same_keys 32 m n k l)
   ties_at (V6 m) (V6 n) k l = rw (is.of_v6 m n) (same_keys 128 m n k l)

@@ -3,12 +3,11 @@
 # and N short lines, for N of 50,000, 100,000 and 200,000. Growth per doubling is about 2 where the work is N log N.
 top=$(CDPATH= cd -- "$(dirname -- "$0")/.." && pwd) || exit 1
 printf '' | "$top/respath" || exit 1
-exec python3 - "$top/crates/respath/out/respath" <<'PROGRAM'
-import os, random, sys, tempfile, time
+inputs=$(mktemp -d) || exit 1
+trap 'rm -rf "$inputs"' EXIT
 
-program = sys.argv[1]
-SIZES = [50_000, 100_000, 200_000]
-RUNS = 3
+python3 - "$inputs" <<'PROGRAM' || exit 1
+import random, sys
 
 
 def blocks(count):
@@ -30,29 +29,51 @@ def lines(count):
     return "".join(f"norm as AS{at + 1}, {at}\n" for at in range(count))
 
 
-def measured(text):
-    """Seconds and peak MiB of one run over the text."""
-    with tempfile.TemporaryFile() as given, open(os.devnull, "w") as away:
-        given.write(text.encode())
-        given.seek(0)
-        start = time.monotonic()
-        child = os.posix_spawn(program, [program], os.environ, file_actions=[
-            (os.POSIX_SPAWN_DUP2, given.fileno(), 0), (os.POSIX_SPAWN_DUP2, away.fileno(), 1)])
-        _, status, usage = os.wait4(child, 0)
-        seconds = time.monotonic() - start
-    if status != 0:
-        sys.exit(f"the program ended with status {status}")
-    return seconds, usage.ru_maxrss / 1024
+for size in (50_000, 100_000, 200_000):
+    for name, made in (("shuffled-list", shuffled), ("sorted-list", ascending), ("short-lines", lines)):
+        with open(f"{sys.argv[1]}/{name}.{size}", "w") as out:
+            out.write(made(size))
+PROGRAM
+
+python3 - "$top/crates/respath/out/respath" "$inputs" <<'PROGRAM'
+import os, select, subprocess, sys, time
+
+program, inputs = sys.argv[1:]
+RUNS = 7
 
 
-print(f"{'input':<16}{'size':>9}{'MiB in':>9}{'seconds':>10}{'growth':>8}{'peak MiB':>10}{'growth':>8}")
-for name, made in (("shuffled list", shuffled), ("sorted list", ascending), ("short lines", lines)):
+def peak_of(process):
+    """The peak MiB of a process that runs, as the kernel tells it."""
+    with open(f"/proc/{process.pid}/status") as lines:
+        return next((int(line.split()[1]) / 1024 for line in lines if line.startswith("VmHWM:")), 0.0)
+
+
+def measured(path):
+    """Seconds and peak MiB of one run over the file."""
+    peak = 0.0
+    start = time.monotonic()
+    with open(path) as given:
+        process = subprocess.Popen([program], stdin=given, stdout=subprocess.PIPE)
+    while True:
+        # The program waits while its answers aren't taken, so the last look finds nearly all that it held.
+        select.select([process.stdout], [], [])
+        peak = max(peak, peak_of(process))
+        if not os.read(process.stdout.fileno(), 1 << 16):
+            break
+    if process.wait() != 0:
+        sys.exit(f"the program ended with status {process.returncode}")
+    return time.monotonic() - start, peak
+
+
+print(f"{'input':<14}{'N':>8}{'MiB in':>8}{'seconds':>9}{'growth':>8}{'peak MiB':>10}{'growth':>8}")
+for name in ("shuffled-list", "sorted-list", "short-lines"):
     before = None
-    for size in SIZES:
-        text = made(size)
-        runs = [measured(text) for _ in range(RUNS)]
+    for size in (50_000, 100_000, 200_000):
+        path = f"{inputs}/{name}.{size}"
+        runs = [measured(path) for _ in range(RUNS)]
         seconds, peak = min(run[0] for run in runs), min(run[1] for run in runs)
         growth = ("", "") if before is None else (f"{seconds / before[0]:.2f}", f"{peak / before[1]:.2f}")
-        print(f"{name:<16}{size:>9}{len(text) / 2**20:>9.2f}{seconds:>10.3f}{growth[0]:>8}{peak:>10.1f}{growth[1]:>8}")
+        mebibytes = os.path.getsize(path) / 2**20
+        print(f"{name:<14}{size:>8}{mebibytes:>8.2f}{seconds:>9.3f}{growth[0]:>8}{peak:>10.1f}{growth[1]:>8}")
         before = (seconds, peak)
 PROGRAM

@@ -1,0 +1,30 @@
+#!/bin/sh
+# How the time of union, intersection and difference grows with the sets: two sets of N blocks of AS numbers each, which
+# interleave, for N of 100,000, 200,000 and 400,000. Growth per doubling is about 2.
+top=$(CDPATH= cd -- "$(dirname -- "$0")/.." && pwd) || exit 1
+program=$top/crates/growth/out/growth
+if ! [ -x "$program" ]; then
+    echo "sets: proving and building the program, which takes some minutes the first time" >&2
+    log=$(mktemp) || exit 1
+    (cd "$top/crates/growth" && rt run </dev/null >"$log" 2>&1)
+    if ! [ -x "$program" ]; then
+        tail -n 20 "$log" >&2
+        exit 1
+    fi
+    rm -f "$log"
+fi
+
+# The best of seven runs.
+for run in 1 2 3 4 5 6 7; do
+    "$program" 100000 200000 400000 2>&1 >/dev/null
+done | awk '
+    { if (!(($1, $2) in best) || $3 < best[$1, $2]) best[$1, $2] = $3 }
+    END {
+        printf "%-14s%8s%9s%8s\n", "call", "N", "seconds", "growth"
+        calls = split("union intersection difference", call)
+        for (at = 1; at <= calls; at++)
+            for (size = 100000; size <= 400000; size *= 2) {
+                growth = size == 100000 ? "" : sprintf("%.2f", best[call[at], size] / best[call[at], size / 2])
+                printf "%-14s%8d%9.4f%8s\n", call[at], size, best[call[at], size] / 1000000, growth
+            }
+    }'

@@ -1,0 +1,60 @@
+//! A kind of block for tests: pairs of `u64`, the smaller or equal one first.
+ghost use Rattle.std.specs.Prelude.{ℕ, ◌^◌, ◌≤◌, true};
+
+use rpki_chain::block::Block;
+
+/// All numbers from `min` to `max`.
+#[derive(Drop)]
+pub struct Pair {
+    min: u64,
+    max: u64,
+    pub ghost ordered: { min ≤ max },
+}
+
+impl Block for Pair {
+    ghost use Rattle.std.specs.Prelude.{ℕ, ◌^◌, ◌-◌, ◌≤◌, true};
+    ghost use Rattle.std.proofs.Common.{refl};
+    ghost use Rattle.rpki_tests.specs.Pairs.{pair_bounds, Pair-same};
+
+    type Item = u64;
+
+    ghost first = { 0 };
+
+    ghost last = { 18446744073709551615 };
+
+    ghost number = { λ n. n };
+
+    ghost item_at = { λ n. n };
+
+    ghost bounds = { pair_bounds };
+
+    ghost is_new = { λ p. true };
+
+    ghost in_order = { λ x y. refl };
+
+    ghost no_gaps = { λ n low high. refl };
+
+    ghost one_item = { λ x y same. same };
+
+    ghost one_new_form = { Pair-same };
+
+    fn new(min: u64, max: u64) -> Self {
+        Pair { min, max }
+    }
+
+    fn min(&self) -> u64 {
+        self.min
+    }
+
+    fn max(&self) -> u64 {
+        self.max
+    }
+
+    fn next(item: u64) -> Option<u64> {
+        item.checked_add(1)
+    }
+
+    fn previous(item: u64) -> Option<u64> {
+        item.checked_sub(1)
+    }
+}

@@ -5,6 +5,8 @@
 #[cfg(test)]
 mod addresses;
 #[cfg(test)]
+mod as_blocks;
+#[cfg(test)]
 mod base;
 #[cfg(test)]
 mod chain;

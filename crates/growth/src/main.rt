@@ -9,9 +9,8 @@ use rpki_as::blocks::AsBlocks;
 use rpki_as::range::AsRange;
 use rpki_base::asn::Asn;
 use std::alloc::{AllocError, Global};
-use std::env;
-use std::io;
 use std::time::Instant;
+use std::{env, io};
 
 /// How far the blocks of a set stand apart.
 const STEP: u32 = 8;

@@ -1,2 +1,3 @@
 pub mod AddrTextLemmas
 pub mod RangeLemmas
+pub mod WholeLemmas

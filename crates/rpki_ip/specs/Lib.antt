@@ -1,4 +1,5 @@
--- Definitions: families, texts of addresses, and ranges of addresses.
+-- Definitions: families, texts of addresses, ranges of addresses, and whole IPv4 addresses.
 pub mod AddrText
 pub mod Families
 pub mod Ranges
+pub mod Whole

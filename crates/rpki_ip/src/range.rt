@@ -1,7 +1,9 @@
 //! Ranges of addresses.
-ghost use Rattle.std.specs.Prelude.{◌≡◌, ◌+◌, ◌-◌, ◌*◌, ◌^◌, ◌<◌, ◌≤◌, Ok, IfOk, IfErr};
+ghost use Rattle.std.specs.Prelude.{◌≡◌, ◌+◌, ◌-◌, ◌*◌, ◌^◌, ◌<◌, ◌≤◌, ◌↔◌, IsTrue, Ok, IfOk, IfErr};
 ghost use Rattle.rpki_base.specs.Prefixes.{PrefixValue, IsPrefix};
-ghost use Rattle.rpki_ip.specs.Ranges.{IsRangeOf};
+ghost use Rattle.rpki_chain.specs.Sets.{IsWithin};
+ghost use Rattle.rpki_ip.specs.Ranges.{IsRangeOf, range_bounds};
+ghost use Rattle.rpki_ip.specs.Whole.{IsWhole, HasWholeBounds};
 
 use crate::addr::Addr;
 use crate::prefix::Prefix;
@@ -74,6 +76,15 @@ impl AddressRange {
         ensures { self.new ≡ record { min = self.old.min; max = max } }
     {
         self.max = max;
+    }
+
+    /// Whether the range consists of whole IPv4 addresses: its least address ends with 96 zeros and its greatest with
+    /// 96 ones, as the range between two IPv4 addresses does.
+    pub fn is_whole_v4(&self) -> bool
+        ensures bounds { IsTrue result ↔ HasWholeBounds (range_bounds self.now) }
+        ensures set { IsTrue result ↔ IsWhole (IsWithin (range_bounds self.now)) }
+    {
+        self.min.to_min(32) == self.min && self.max.to_max(32) == self.max
     }
 
     /// The prefix of exactly the range's addresses, or the range where there is none.

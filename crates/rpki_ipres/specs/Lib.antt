@@ -1,0 +1,3 @@
+pub mod BlockForms
+pub mod Blocks
+pub mod Equality

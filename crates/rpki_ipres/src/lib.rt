@@ -1,0 +1,4 @@
+//! Blocks of IP addresses and sets of them (RFC 3779, 2).
+#![tactic(auto)]
+
+pub mod block;

@@ -1,5 +1,5 @@
-//! What no clause says, as tests over all libraries: worked rows and vectors as tables, each public call once with
-//! ample memory, and each request for memory refused in turn.
+//! What no clause says of numbers, addresses, chains and sets of AS numbers, as tests: worked rows and vectors as tables,
+//! each public call once with ample memory, and each request for memory refused in turn.
 #![tactic(auto)]
 
 #[cfg(test)]
@@ -10,12 +10,6 @@ mod as_blocks;
 mod base;
 #[cfg(test)]
 mod chain;
-#[cfg(test)]
-mod der;
 pub mod pairs;
-#[cfg(test)]
-mod prefixes;
-#[cfg(test)]
-mod ranges;
 #[cfg(test)]
 mod small_set;

@@ -1,0 +1,6 @@
+//! What no clause says of DER, as tests: worked rows as tables, every fault by its number, octets cut and altered, and
+//! each request for memory refused in turn.
+#![tactic(auto)]
+
+#[cfg(test)]
+mod values;

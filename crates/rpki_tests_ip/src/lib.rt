@@ -1,0 +1,8 @@
+//! What no clause says of prefixes, ranges, and blocks and sets of IP addresses, as tests: worked rows and vectors as
+//! tables, each public call once with ample memory, and each request for memory refused in turn.
+#![tactic(auto)]
+
+#[cfg(test)]
+mod prefixes;
+#[cfg(test)]
+mod ranges;

@@ -1,3 +1,4 @@
 pub mod AddrTextLemmas
 pub mod RangeLemmas
+pub mod TextLemmas
 pub mod WholeLemmas

@@ -1,5 +1,5 @@
 -- Texts of addresses of either family, read as numbers of 128 bits.
-use Rattle.std.specs.Prelude.{◌≡◌, ℕ, ◌*◌, ◌^◌, List, Result}
+use Rattle.std.specs.Prelude.{◌≡◌, ℕ, ◌+◌, ◌-◌, ◌*◌, ◌^◌, List, Result}
 use Rattle.rpki_base.specs.AddressText.{IsIpv4Text, IsIpv6Text, IsIpText}
 use Rattle.rpki_base.specs.Reading.{Answers}
 use Rattle.rpki_base.specs.declared.addr.AddrParseError.{AddrParseError}
@@ -11,6 +11,11 @@ use Rattle.rpki_base.specs.declared.addr.IpAddr.TheVariants.{V4, V6}
 abbrev pub first_of : IpAddr → ℕ
 first_of (V4 n) = n * 2 ^ 96
 first_of (V6 n) = n
+
+-- and the greatest: its 32 bits are followed by 96 ones
+abbrev pub greatest_of : IpAddr → ℕ
+greatest_of (V4 n) = n * 2 ^ 96 + (2 ^ 96 - 1)
+greatest_of (V6 n) = n
 
 -- a is the least number of something that the text writes
 abbrev pub IsFirstOf : {X : Type 0} → (X → ℕ) → (X → Type 0) → ℕ → Type 0

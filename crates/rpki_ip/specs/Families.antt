@@ -1,5 +1,7 @@
 -- The two families of addresses (RFC 3779, 2.2.3.3).
 use Rattle.std.specs.Prelude.{ℕ}
+use Rattle.rpki_base.specs.declared.addr.IpAddr.{IpAddr}
+use Rattle.rpki_base.specs.declared.addr.IpAddr.TheVariants.{V4, V6}
 use Rattle.rpki_ip.specs.declared.family.AddressFamily.{AddressFamily}
 use Rattle.rpki_ip.specs.declared.family.AddressFamily.TheVariants.{Ipv4, Ipv6}
 
@@ -7,3 +9,8 @@ use Rattle.rpki_ip.specs.declared.family.AddressFamily.TheVariants.{Ipv4, Ipv6}
 abbrev pub bits_of : AddressFamily → ℕ
 bits_of Ipv4 = 32
 bits_of Ipv6 = 128
+
+-- the family of an address
+abbrev pub family_of : IpAddr → AddressFamily
+family_of (V4 n) = Ipv4
+family_of (V6 n) = Ipv6

@@ -1,0 +1,171 @@
+-- A text of a prefix or a range has one value or one fault at most.
+use Rattle.std.proofs.Common.{◌≡◌, ℕ, ◌-◌, ◌^◌, ◌<◌, ◌≤◌, ◌⊎◌, inl, inr, List, Option, Some, Result, Ok, Err, MatchResult, arith, refl, sym, ap, ◌∙◌, subst}
+use Rattle.rpki_base.specs.AddressText.{IsIpv4Text, IsIpv6Text}
+use Rattle.rpki_base.specs.Cuts.{HasNo, IsCutAt, Around, slash, dash}
+use Rattle.rpki_base.specs.Numbers.{IsNumberText}
+use Rattle.rpki_base.specs.Prefixes.{PrefixValue, cleared}
+use Rattle.rpki_base.specs.Reading.{Answers}
+use Rattle.rpki_base.specs.declared.addr.IpAddr.{IpAddr}
+use Rattle.rpki_base.specs.declared.addr.IpAddr.TheVariants.{V4, V6}
+use Rattle.rpki_base.specs.declared.number.ParseIntError.{ParseIntError}
+use Rattle.rpki_base.specs.declared.number.ParseIntError.TheVariants.{PosOverflow}
+use Rattle.rpki_base.proofs.AddressReads.{IsIpText-one}
+use Rattle.rpki_base.proofs.AsnLemmas.{IsNumberText-one}
+use Rattle.rpki_base.proofs.CutLemmas.{HasNo-no_cut, around_at}
+use Rattle.rpki_base.proofs.NumberLemmas.{number_answers}
+use Rattle.rpki_ip.specs.AddrText.{first_of, greatest_of}
+use Rattle.rpki_ip.specs.BlockText.{IsAddressText, HasAddressFault, WithAddress, IsPrefixAt, HasLengthFault, IsPrefixBetween, HasPrefixFault, IsRangeFrom, HasPairFault, IsRangeBetween, HasRangeFault, IsSingleText, IsPrefixText, HasPrefixTextFault, IsRangeText, HasRangeTextFault, HasFaultAround}
+use Rattle.rpki_ip.specs.Families.{bits_of, family_of}
+use Rattle.rpki_ip.specs.Ranges.{RangeValue}
+use Rattle.rpki_ip.specs.declared.error.FromStrError.{FromStrError}
+use Rattle.rpki_ip.specs.declared.error.FromStrError.TheVariants as Fault
+use Rattle.rpki_ip.specs.declared.family.AddressFamily.{AddressFamily}
+use Rattle.rpki_ip.specs.declared.family.AddressFamily.TheVariants.{Ipv4, Ipv6}
+
+-- A stage of a reader finds something, of which the rest speaks, or it has a fault of its own. Where both are one at most, so are the values and faults of the whole.
+module _ {S X : Type 0} (At : S → Type 0) (None : FromStrError → Type 0) (same : (s t : S) → At s → At t → s ≡ t) (apart : (s : S) (e : FromStrError) → At s → None e → ⊥) (one_none : (d e : FromStrError) → None d → None e → d ≡ e) (Has : S → X → Type 0) (Fails : S → FromStrError → Type 0) (one : (s : S) (r q : Result X FromStrError) → MatchResult r (Has s) (Fails s) → MatchResult q (Has s) (Fails s) → r ≡ q) where
+  pub stage_one : (r q : Result X FromStrError) → MatchResult r (λ x. (s : S) × At s × Has s x) (λ e. None e ⊎ ((s : S) × At s × Fails s e)) → MatchResult q (λ x. (s : S) × At s × Has s x) (λ e. None e ⊎ ((s : S) × At s × Fails s e)) → r ≡ q
+  stage_one (Ok x) (Ok y) (s, at, h) (t, here, k) = one t (Ok x) (Ok y) (subst (λ z. Has z x) (same s t at here) h) k
+  stage_one (Ok x) (Err e) (s, at, h) (inl none) = absurd (apart s e at none)
+  stage_one (Ok x) (Err e) (s, at, h) (inr (t, here, k)) = one t (Ok x) (Err e) (subst (λ z. Has z x) (same s t at here) h) k
+  stage_one (Err d) (Ok y) (inl none) (t, here, k) = absurd (apart t d here none)
+  stage_one (Err d) (Ok y) (inr (s, at, h)) (t, here, k) = one t (Err d) (Ok y) (subst (λ z. Fails z d) (same s t at here) h) k
+  stage_one (Err d) (Err e) (inl none) (inl gone) = ap Err (one_none d e none gone)
+  stage_one (Err d) (Err e) (inl none) (inr (t, here, k)) = absurd (apart t d here none)
+  stage_one (Err d) (Err e) (inr (s, at, h)) (inl gone) = absurd (apart s e at gone)
+  stage_one (Err d) (Err e) (inr (s, at, h)) (inr (t, here, k)) = one t (Err d) (Err e) (subst (λ z. Fails z d) (same s t at here) h) k
+
+-- the stage that reads an address
+module _ {X : Type 0} (w : Option AddressFamily) (text : List ℕ) (Has : IpAddr → X → Type 0) (Fails : IpAddr → FromStrError → Type 0) (one : (a : IpAddr) (r q : Result X FromStrError) → MatchResult r (Has a) (Fails a) → MatchResult q (Has a) (Fails a) → r ≡ q) where
+  address_one : (r q : Result X FromStrError) → MatchResult r (λ x. WithAddress w text (λ a. Has a x)) (λ e. HasAddressFault w text e ⊎ WithAddress w text (λ a. Fails a e)) → MatchResult q (λ x. WithAddress w text (λ a. Has a x)) (λ e. HasAddressFault w text e ⊎ WithAddress w text (λ a. Fails a e)) → r ≡ q
+  address_one = stage_one (IsAddressText w text) (HasAddressFault w text) (λ a b h k. IsIpText-one text a b h.1 k.1) (λ a e h none. none.0 a h) (λ d e h k. h.1 ∙ sym k.1) Has Fails one
+
+-- the stage that cuts a text, or misses the byte to cut at
+module _ {X : Type 0} (b : ℕ) (text : List ℕ) (Has : List ℕ → List ℕ → X → Type 0) (Fails : List ℕ → List ℕ → FromStrError → Type 0) (one : (l q : List ℕ) (r s : Result X FromStrError) → MatchResult r (Has l q) (Fails l q) → MatchResult s (Has l q) (Fails l q) → r ≡ s) where
+  -- the two parts
+  IsCut : List ℕ × List ℕ → Type 0
+  IsCut parts = IsCutAt b text parts.0 parts.1
+
+  same_cut : (c d : List ℕ × List ℕ) → IsCut c → IsCut d → c ≡ d
+  unfolding IsCut
+  same_cut c d h k =
+      let same = around_at b text d.0 d.1 (λ l q. (c.0 ≡ l) × (c.1 ≡ q)) k (record { left = c.0; right = c.1; cut = h; holds = (refl, refl) }) in
+      λ i. (same.0 i, same.1 i)
+
+  Says : Result X FromStrError → Type 0
+  Says r = MatchResult r (λ x. Around b text (λ l q. Has l q x)) (λ e. HasFaultAround b text Fails e)
+
+  Staged : Result X FromStrError → Type 0
+  Staged r = MatchResult r (λ x. (c : List ℕ × List ℕ) × IsCut c × Has c.0 c.1 x) (λ e. (HasNo b text × (e ≡ Fault.MissingSeparator)) ⊎ ((c : List ℕ × List ℕ) × IsCut c × Fails c.0 c.1 e))
+
+  staged : (r : Result X FromStrError) → Says r → Staged r
+  unfolding Says Staged IsCut
+  staged (Ok x) h = ((h.left, h.right), h.cut, h.holds)
+  staged (Err e) (inl none) = inl none
+  staged (Err e) (inr h) = inr ((h.left, h.right), h.cut, h.holds)
+
+  pub cut_one : (r q : Result X FromStrError) → MatchResult r (λ x. Around b text (λ l q. Has l q x)) (λ e. HasFaultAround b text Fails e) → MatchResult q (λ x. Around b text (λ l q. Has l q x)) (λ e. HasFaultAround b text Fails e) → r ≡ q
+  unfolding Says Staged IsCut
+  cut_one r q h k = stage_one IsCut (λ e. HasNo b text × (e ≡ Fault.MissingSeparator)) same_cut (λ c e cut none. HasNo-no_cut b text c.0 c.1 none.0 cut) (λ d e m n. m.1 ∙ sym n.1) (λ c. Has c.0 c.1) (λ c. Fails c.0 c.1) (λ c. one c.0 c.1) r q (staged r h) (staged q k)
+
+-- one fault, of a value that has two
+err_one : {A E : Type 0} (d e : E) (r : Result A E) → r ≡ Err d → r ≡ Err e → d ≡ e
+err_one d e r h k = cc
+
+-- a length that the family has, and the fault of any other
+length_apart : (a : IpAddr) (text : List ℕ) (n : ℕ) (f : ParseIntError) → IsNumberText (2 ^ 8 - 1) text n → n ≤ bits_of (family_of a) → HasLengthFault a text f → ⊥
+length_apart a text n f h small (inl fault) = let e = (number_answers (2 ^ 8 - 1) text (Err f) fault).each_value n h in cc
+length_apart a text n f h small (inr (m, is, above, _)) = let e = IsNumberText-one (2 ^ 8 - 1) text m n is h in omega (arith, e, above, small)
+
+same_length_fault : (a : IpAddr) (text : List ℕ) (f g : ParseIntError) → HasLengthFault a text f → HasLengthFault a text g → f ≡ g
+same_length_fault a text f g (inl h) (inl k) = err_one f g (Err f) refl ((number_answers (2 ^ 8 - 1) text (Err f) h).each_fault g k)
+same_length_fault a text f g (inl h) (inr (m, is, _, _)) = let e = (number_answers (2 ^ 8 - 1) text (Err f) h).each_value m is in cc
+same_length_fault a text f g (inr (m, is, _, _)) (inl k) = let e = (number_answers (2 ^ 8 - 1) text (Err g) k).each_value m is in cc
+same_length_fault a text f g (inr (_, _, _, d)) (inr (_, _, _, e)) = d ∙ sym e
+
+-- at an address
+prefix_at_one : (text : List ℕ) (a : IpAddr) (r q : Result PrefixValue FromStrError) → MatchResult r (IsPrefixAt a text) (λ e. (f : ParseIntError) × HasLengthFault a text f × (e ≡ Fault.PrefixLen f)) → MatchResult q (IsPrefixAt a text) (λ e. (f : ParseIntError) × HasLengthFault a text f × (e ≡ Fault.PrefixLen f)) → r ≡ q
+prefix_at_one text a (Ok p) (Ok s) h k =
+    let len = IsNumberText-one (2 ^ 8 - 1) text p.len s.len h.length_text k.length_text in
+    let first = h.first ∙ ap (cleared 128 (first_of a)) len ∙ sym k.first in
+    ap Ok (λ i. record { first = first i; len = len i })
+prefix_at_one text a (Ok p) (Err e) h (f, fault, _) = absurd (length_apart a text p.len f h.length_text h.within fault)
+prefix_at_one text a (Err d) (Ok s) (f, fault, _) k = absurd (length_apart a text s.len f k.length_text k.within fault)
+prefix_at_one text a (Err d) (Err e) (f, h, u) (g, k, v) = ap Err (u ∙ ap Fault.PrefixLen (same_length_fault a text f g h k) ∙ sym v)
+
+-- from one address to another
+range_from_one : (a b : IpAddr) (r q : Result RangeValue FromStrError) → MatchResult r (IsRangeFrom a b) (HasPairFault a b) → MatchResult q (IsRangeFrom a b) (HasPairFault a b) → r ≡ q
+range_from_one a b (Ok x) (Ok y) h k =
+    let min = h.min ∙ sym k.min in
+    let max = h.max ∙ sym k.max in
+    ap Ok (λ i. record { min = min i; max = max i })
+range_from_one a b (Ok x) (Err e) h (inl (other, _)) = absurd (other h.one_family)
+range_from_one a b (Ok x) (Err e) h (inr (_, above, _)) = absurd (let low = h.min in let high = h.max in let ordered = h.ordered in omega (arith, low, high, ordered, above))
+range_from_one a b (Err d) (Ok y) (inl (other, _)) k = absurd (other k.one_family)
+range_from_one a b (Err d) (Ok y) (inr (_, above, _)) k = absurd (let low = k.min in let high = k.max in let ordered = k.ordered in omega (arith, low, high, ordered, above))
+range_from_one a b (Err d) (Err e) (inl (_, h)) (inl (_, k)) = ap Err (h ∙ sym k)
+range_from_one a b (Err d) (Err e) (inl (other, _)) (inr (family, _, _)) = absurd (other family)
+range_from_one a b (Err d) (Err e) (inr (family, _, _)) (inl (other, _)) = absurd (other family)
+range_from_one a b (Err d) (Err e) (inr (_, _, h)) (inr (_, _, k)) = ap Err (h ∙ sym k)
+
+-- round a slash, and round a dash
+prefix_between_one : (w : Option AddressFamily) (l q : List ℕ) (r s : Result PrefixValue FromStrError) → MatchResult r (IsPrefixBetween w l q) (HasPrefixFault w l q) → MatchResult s (IsPrefixBetween w l q) (HasPrefixFault w l q) → r ≡ s
+prefix_between_one w l q = address_one w l (λ a p. IsPrefixAt a q p) (λ a e. (f : ParseIntError) × HasLengthFault a q f × (e ≡ Fault.PrefixLen f)) (prefix_at_one q)
+
+range_between_one : (w : Option AddressFamily) (l q : List ℕ) (r s : Result RangeValue FromStrError) → MatchResult r (IsRangeBetween w l q) (HasRangeFault w l q) → MatchResult s (IsRangeBetween w l q) (HasRangeFault w l q) → r ≡ s
+range_between_one w l q = address_one w l (λ a x. WithAddress w q (λ b. IsRangeFrom a b x)) (λ a e. HasAddressFault w q e ⊎ WithAddress w q (λ b. HasPairFault a b e)) (λ a. address_one w q (IsRangeFrom a) (HasPairFault a) (range_from_one a))
+
+-- a text of one form has one value or one fault at most
+pub prefix_one : (w : Option AddressFamily) (text : List ℕ) (r s : Result PrefixValue FromStrError) → MatchResult r (IsPrefixText w text) (HasPrefixTextFault w text) → MatchResult s (IsPrefixText w text) (HasPrefixTextFault w text) → r ≡ s
+prefix_one w text = cut_one slash text (IsPrefixBetween w) (HasPrefixFault w) (prefix_between_one w)
+
+pub range_one : (w : Option AddressFamily) (text : List ℕ) (r s : Result RangeValue FromStrError) → MatchResult r (IsRangeText w text) (HasRangeTextFault w text) → MatchResult s (IsRangeText w text) (HasRangeTextFault w text) → r ≡ s
+range_one w text = cut_one dash text (IsRangeBetween w) (HasRangeFault w) (range_between_one w)
+
+pub single_one : (w : Option AddressFamily) (text : List ℕ) (r s : Result RangeValue FromStrError) → MatchResult r (IsSingleText w text) (HasAddressFault w text) → MatchResult s (IsSingleText w text) (HasAddressFault w text) → r ≡ s
+single_one w text (Ok x) (Ok y) (a, at, h) (b, here, k) =
+    let same = IsIpText-one text a b at.1 here.1 in
+    let min = h.min ∙ ap first_of same ∙ sym k.min in
+    let max = h.max ∙ ap greatest_of same ∙ sym k.max in
+    ap Ok (λ i. record { min = min i; max = max i })
+single_one w text (Ok x) (Err e) (a, at, h) none = absurd (none.0 a at)
+single_one w text (Err d) (Ok y) none (a, at, h) = absurd (none.0 a at)
+single_one w text (Err d) (Err e) h k = ap Err (h.1 ∙ sym k.1)
+
+-- where an answer that is right is the only one, it is decided
+pub answers_by_one : {A E : Type 0} {Has : A → Type 0} {Fails : E → Type 0} → ((r s : Result A E) → MatchResult r Has Fails → MatchResult s Has Fails → r ≡ s) → (r : Result A E) → MatchResult r Has Fails → Answers Has Fails r
+answers_by_one one r found = record { found = found; each_value = λ a h. one r (Ok a) found h; each_fault = λ e h. one r (Err e) found h }
+
+-- a reader of the parts round a byte, and one that misses it
+module _ {X : Type 0} (b : ℕ) (text : List ℕ) (Has : List ℕ → List ℕ → X → Type 0) (Fails : List ℕ → List ℕ → FromStrError → Type 0) (one : (r s : Result X FromStrError) → MatchResult r (λ x. Around b text (λ l q. Has l q x)) (λ e. HasFaultAround b text Fails e) → MatchResult s (λ x. Around b text (λ l q. Has l q x)) (λ e. HasFaultAround b text Fails e) → r ≡ s) where
+  pub cut_answers : (l q : List ℕ) → IsCutAt b text l q → (r : Result X FromStrError) → MatchResult r (Has l q) (Fails l q) → Answers (λ x. Around b text (λ l q. Has l q x)) (λ e. HasFaultAround b text Fails e) r
+  cut_answers l q cut (Ok x) h = answers_by_one one (Ok x) (record { left = l; right = q; cut = cut; holds = h })
+  cut_answers l q cut (Err e) h = answers_by_one one (Err e) (inr (record { left = l; right = q; cut = cut; holds = h }))
+
+  pub no_cut_answers : HasNo b text → Answers (λ x. Around b text (λ l q. Has l q x)) (λ e. HasFaultAround b text Fails e) (Err Fault.MissingSeparator)
+  no_cut_answers none = answers_by_one one (Err Fault.MissingSeparator) (inl (none, refl))
+
+-- an address, and a length that it doesn't have
+pub too_long : (w : Option AddressFamily) (left right : List ℕ) (a : IpAddr) (n : ℕ) → IsAddressText w left a → IsNumberText (2 ^ 8 - 1) right n → bits_of (family_of a) < n → HasPrefixFault w left right (Fault.PrefixLen PosOverflow)
+too_long w left right a n is number above = inr (a, is, (PosOverflow, inr (n, number, above, refl), refl))
+
+-- a text that writes no IPv4 address, and one that writes no IPv6 address
+pub no_v4 : (text : List ℕ) → ((n : ℕ) → ¬ IsIpv4Text text n) → (a : IpAddr) → ¬ IsAddressText (Some Ipv4) text a
+no_v4 text none (V4 n) h = none n h.1
+no_v4 text none (V6 n) h = let e = h.0 in cc
+
+pub no_v6 : (text : List ℕ) → ((n : ℕ) → ¬ IsIpv6Text text n) → (a : IpAddr) → ¬ IsAddressText (Some Ipv6) text a
+no_v6 text none (V4 n) h = let e = h.0 in cc
+no_v6 text none (V6 n) h = none n h.1
+
+-- an address begins where it ends or before
+first_greatest : (a : IpAddr) → first_of a ≤ greatest_of a
+first_greatest (V4 n) = omega arith
+first_greatest (V6 n) = omega arith
+
+-- so an address alone is a range
+pub single_of : (a : IpAddr) (r : RangeValue) (min max : ℕ) → r ≡ record { min = min; max = max } → min ≡ first_of a → max ≡ greatest_of a → IsRangeFrom a a r
+single_of a r min max is first last =
+    let low : r.min ≡ first_of a = ap (λ (x : RangeValue). x.min) is ∙ first in
+    let high : r.max ≡ greatest_of a = ap (λ (x : RangeValue). x.max) is ∙ last in
+    record { one_family = refl; min = low; max = high; ordered = rw (low, high) (first_greatest a) }

@@ -1,0 +1,106 @@
+-- Texts of prefixes and ranges of addresses. The family that is wanted may be one, or, with None, either.
+use Rattle.std.specs.Prelude.{◌≡◌, ℕ, ◌-◌, ◌^◌, ◌≤◌, ◌<◌, ◌⊎◌, List, Option, None, Some}
+use Rattle.rpki_base.specs.AddressText.{IsIpText}
+use Rattle.rpki_base.specs.Cuts.{HasNo, Around, slash, dash}
+use Rattle.rpki_base.specs.Numbers.{IsNumberText, HasNumberFault}
+use Rattle.rpki_base.specs.Prefixes.{PrefixValue, cleared}
+use Rattle.rpki_base.specs.declared.addr.AddrParseError.{AddrParseError}
+use Rattle.rpki_base.specs.declared.addr.AddrParseError.TheVariants as Address
+use Rattle.rpki_base.specs.declared.addr.IpAddr.{IpAddr}
+use Rattle.rpki_base.specs.declared.number.ParseIntError.{ParseIntError}
+use Rattle.rpki_base.specs.declared.number.ParseIntError.TheVariants.{PosOverflow}
+use Rattle.rpki_ip.specs.AddrText.{first_of, greatest_of}
+use Rattle.rpki_ip.specs.Families.{bits_of, family_of}
+use Rattle.rpki_ip.specs.Ranges.{RangeValue}
+use Rattle.rpki_ip.specs.declared.error.FromStrError.{FromStrError}
+use Rattle.rpki_ip.specs.declared.error.FromStrError.TheVariants as Fault
+use Rattle.rpki_ip.specs.declared.family.AddressFamily.{AddressFamily}
+use Rattle.rpki_ip.specs.declared.family.AddressFamily.TheVariants.{Ipv4, Ipv6}
+
+-- the address is of a family that is wanted
+abbrev pub IsWanted : Option AddressFamily → IpAddr → Type 0
+IsWanted None a = Unit {0}
+IsWanted (Some family) a = family_of a ≡ family
+
+-- the text writes such an address
+abbrev pub IsAddressText : Option AddressFamily → List ℕ → IpAddr → Type 0
+IsAddressText wanted text a = IsWanted wanted a × IsIpText text a
+
+-- the fault of a text that writes none
+abbrev pub address_fault : Option AddressFamily → AddrParseError
+address_fault None = Address.Ip
+address_fault (Some Ipv4) = Address.Ipv4
+address_fault (Some Ipv6) = Address.Ipv6
+
+-- the text writes no such address, for which this is its fault
+abbrev pub HasAddressFault : Option AddressFamily → List ℕ → FromStrError → Type 0
+HasAddressFault wanted text e = ((a : IpAddr) → ¬ IsAddressText wanted text a) × (e ≡ Fault.Addr (address_fault wanted))
+
+-- the text writes such an address, of which P holds
+abbrev pub WithAddress : Option AddressFamily → List ℕ → (IpAddr → Type 0) → Type 0
+WithAddress wanted text P = (a : IpAddr) × IsAddressText wanted text a × P a
+
+-- the text writes a length that the address's family has, and p is the prefix of that length at the address
+pub record IsPrefixAt (a : IpAddr) (text : List ℕ) (p : PrefixValue) : Type 0 where
+  pub length_text : IsNumberText (2 ^ 8 - 1) text p.len
+  pub within : p.len ≤ bits_of (family_of a)
+  pub first : p.first ≡ cleared 128 (first_of a) p.len
+
+-- the text is no number of a `u8` for the reason f, or one that is more than the address has bits
+abbrev pub HasLengthFault : IpAddr → List ℕ → ParseIntError → Type 0
+HasLengthFault a text f = HasNumberFault (2 ^ 8 - 1) text f ⊎ ((n : ℕ) × IsNumberText (2 ^ 8 - 1) text n × (bits_of (family_of a) < n) × (f ≡ PosOverflow))
+
+-- an address and a length write the prefix
+abbrev pub IsPrefixBetween : Option AddressFamily → List ℕ → List ℕ → PrefixValue → Type 0
+IsPrefixBetween wanted left right p = WithAddress wanted left (λ a. IsPrefixAt a right p)
+
+-- what is wrong with an address and a length: first the address, then the length
+abbrev pub HasPrefixFault : Option AddressFamily → List ℕ → List ℕ → FromStrError → Type 0
+HasPrefixFault wanted left right e =
+    HasAddressFault wanted left e
+    ⊎ WithAddress wanted left (λ a. (f : ParseIntError) × HasLengthFault a right f × (e ≡ Fault.PrefixLen f))
+
+-- the range from the first number of an address to the last of another, of the same family
+pub record IsRangeFrom (a b : IpAddr) (r : RangeValue) : Type 0 where
+  pub one_family : family_of a ≡ family_of b
+  pub min : r.min ≡ first_of a
+  pub max : r.max ≡ greatest_of b
+  pub ordered : r.min ≤ r.max
+
+-- what is wrong with two addresses: first their families, then their order
+abbrev pub HasPairFault : IpAddr → IpAddr → FromStrError → Type 0
+HasPairFault a b e =
+    ((¬ (family_of a ≡ family_of b)) × (e ≡ Fault.FamilyMismatch))
+    ⊎ ((family_of a ≡ family_of b) × (greatest_of b < first_of a) × (e ≡ Fault.BadRange))
+
+-- two addresses write the range
+abbrev pub IsRangeBetween : Option AddressFamily → List ℕ → List ℕ → RangeValue → Type 0
+IsRangeBetween wanted left right r = WithAddress wanted left (λ a. WithAddress wanted right (λ b. IsRangeFrom a b r))
+
+-- what is wrong with two texts: first the first address, then the second, then both
+abbrev pub HasRangeFault : Option AddressFamily → List ℕ → List ℕ → FromStrError → Type 0
+HasRangeFault wanted left right e =
+    HasAddressFault wanted left e
+    ⊎ WithAddress wanted left (λ a. HasAddressFault wanted right e ⊎ WithAddress wanted right (λ b. HasPairFault a b e))
+
+-- an address alone writes the range of its numbers
+abbrev pub IsSingleText : Option AddressFamily → List ℕ → RangeValue → Type 0
+IsSingleText wanted text r = WithAddress wanted text (λ a. IsRangeFrom a a r)
+
+-- The text is a prefix round its first slash.
+abbrev pub IsPrefixText : Option AddressFamily → List ℕ → PrefixValue → Type 0
+IsPrefixText wanted text p = Around slash text (λ left right. IsPrefixBetween wanted left right p)
+
+-- The text is a range round its first dash.
+abbrev pub IsRangeText : Option AddressFamily → List ℕ → RangeValue → Type 0
+IsRangeText wanted text r = Around dash text (λ left right. IsRangeBetween wanted left right r)
+
+-- the byte that separates the two parts is missing, or this is wrong with the parts round its first
+abbrev pub HasFaultAround : ℕ → List ℕ → (List ℕ → List ℕ → FromStrError → Type 0) → FromStrError → Type 0
+HasFaultAround b text Fails e = (HasNo b text × (e ≡ Fault.MissingSeparator)) ⊎ Around b text (λ left right. Fails left right e)
+
+abbrev pub HasPrefixTextFault : Option AddressFamily → List ℕ → FromStrError → Type 0
+HasPrefixTextFault wanted text e = HasFaultAround slash text (HasPrefixFault wanted) e
+
+abbrev pub HasRangeTextFault : Option AddressFamily → List ℕ → FromStrError → Type 0
+HasRangeTextFault wanted text e = HasFaultAround dash text (HasRangeFault wanted) e

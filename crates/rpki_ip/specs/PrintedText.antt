@@ -1,0 +1,35 @@
+-- What is printed of prefixes and ranges, as those of a family.
+use Rattle.std.specs.Prelude.{ℕ, ◌/◌, ◌^◌, ◌==◌, if◌then◌else◌, List, ◌∷◌, ◌++◌, decimal}
+use Rattle.rpki_base.specs.Cuts.{slash, dash}
+use Rattle.rpki_base.specs.Prefixes.{PrefixValue}
+use Rattle.rpki_base.specs.PrintedAddress.{ip_text}
+use Rattle.rpki_base.specs.declared.addr.IpAddr.{IpAddr}
+use Rattle.rpki_base.specs.declared.addr.IpAddr.TheVariants.{V4, V6}
+use Rattle.rpki_ip.specs.Families.{bits_of}
+use Rattle.rpki_ip.specs.Ranges.{RangeValue}
+use Rattle.rpki_ip.specs.declared.family.AddressFamily.{AddressFamily}
+use Rattle.rpki_ip.specs.declared.family.AddressFamily.TheVariants.{Ipv4, Ipv6}
+
+-- the bits that an address of the family has: in IPv4 the first 32
+abbrev pub shown_bits : AddressFamily → ℕ → ℕ
+shown_bits Ipv4 n = n / 2 ^ 96
+shown_bits Ipv6 n = n
+
+-- the address of the family with these bits
+abbrev pub as_ip : AddressFamily → ℕ → IpAddr
+as_ip Ipv4 bits = V4 bits
+as_ip Ipv6 bits = V6 bits
+
+-- what is printed of an address
+abbrev pub addr_text : AddressFamily → ℕ → List ℕ
+addr_text family n = ip_text (as_ip family (shown_bits family n))
+
+-- of a prefix: its address and its length, which is left out where it is the family's greatest
+abbrev pub prefix_text : AddressFamily → PrefixValue → List ℕ
+prefix_text family p = if p.len == bits_of family then addr_text family p.first else addr_text family p.first ++ slash ∷ decimal p.len
+
+-- of a range: its least and its greatest address, or one of them where both are printed alike
+abbrev pub range_text : AddressFamily → RangeValue → List ℕ
+range_text family r =
+    if shown_bits family r.min == shown_bits family r.max then addr_text family r.min
+    else addr_text family r.min ++ dash ∷ addr_text family r.max

@@ -1,0 +1,258 @@
+//! Texts of prefixes and ranges, read and printed.
+//!
+//! A text is read as one of IPv4, as one of IPv6, or as one of either family. It is printed as one of IPv4, by the first
+//! 32 bits of each address, or as one of IPv6.
+ghost use Rattle.std.specs.Prelude.{◌≡◌, ◌↔◌, IsTrue, None, Some, MatchResult};
+ghost use Rattle.std.specs.Fmt.{WritesOnOk};
+ghost use Rattle.rpki_base.specs.Reading.{Answers};
+ghost use Rattle.rpki_ip.specs.AddrText.{first_of, greatest_of};
+ghost use Rattle.rpki_ip.specs.BlockText.{IsAddressText, address_fault, IsPrefixBetween, HasPrefixFault, IsRangeBetween, HasRangeFault, IsSingleText, HasAddressFault, IsPrefixText, HasPrefixTextFault, IsRangeText, HasRangeTextFault};
+ghost use Rattle.rpki_ip.specs.Families.{family_of as the_family};
+ghost use Rattle.rpki_ip.specs.PrintedText.{shown_bits, as_ip, prefix_text, range_text};
+ghost use Rattle.rpki_ip.specs.declared.family.AddressFamily.TheVariants.{Ipv4, Ipv6};
+
+use crate::addr::Addr;
+use crate::error::FromStrError;
+use crate::family::AddressFamily;
+use crate::prefix::Prefix;
+use crate::range::AddressRange;
+use rpki_base::addr::{AddrParseError, IpAddr, Ipv4Addr, Ipv6Addr};
+use rpki_base::number::{ParseIntError, parse_u8};
+use std::fmt;
+use std::str::FromStr;
+
+/// The family of an address.
+fn family_of(addr: &IpAddr) -> AddressFamily
+    ensures { result ≡ the_family addr.now }
+{
+    match addr {
+        IpAddr::V4(_) => AddressFamily::Ipv4,
+        IpAddr::V6(_) => AddressFamily::Ipv6,
+    }
+}
+
+/// The greatest number that an address stands for.
+fn greatest(addr: &IpAddr) -> Addr
+    ensures { result ≡ greatest_of addr.now }
+{
+    match addr {
+        IpAddr::V4(addr) => Addr::from_v4(*addr).to_max(32),
+        IpAddr::V6(addr) => Addr::from_v6(*addr),
+    }
+}
+
+/// The address that a text writes, in the family that is wanted or in either.
+fn read_address(wanted: Option<AddressFamily>, text: &str) -> Result<IpAddr, AddrParseError>
+    ensures { MatchResult result (IsAddressText wanted text.now) (λ e. (e ≡ address_fault wanted) × ((a : _) → ¬ IsAddressText wanted text.now a)) }
+{
+    match wanted {
+        Some(AddressFamily::Ipv4) => Ok(IpAddr::V4(Ipv4Addr::from_str(text)?)),
+        Some(AddressFamily::Ipv6) => Ok(IpAddr::V6(Ipv6Addr::from_str(text)?)),
+        None => IpAddr::from_str(text),
+    }
+}
+
+/// The prefix that an address and a length write.
+fn prefix_between(
+    wanted: Option<AddressFamily>,
+    left: &str,
+    right: &str,
+) -> Result<Prefix, FromStrError>
+    ensures { MatchResult result (IsPrefixBetween wanted left.now right.now) (HasPrefixFault wanted left.now right.now) }
+{
+    let addr = read_address(wanted, left)?;
+    let len = parse_u8(right)?;
+    if len > family_of(&addr).max_addr_len() {
+        return Err(FromStrError::PrefixLen(ParseIntError::PosOverflow));
+    }
+    Ok(Prefix::new(Addr::from(addr), len))
+}
+
+/// The range from one address to another.
+fn range_between(
+    wanted: Option<AddressFamily>,
+    left: &str,
+    right: &str,
+) -> Result<AddressRange, FromStrError>
+    ensures { MatchResult result (IsRangeBetween wanted left.now right.now) (HasRangeFault wanted left.now right.now) }
+{
+    let first = read_address(wanted, left)?;
+    let last = read_address(wanted, right)?;
+    if family_of(&first) != family_of(&last) {
+        return Err(FromStrError::FamilyMismatch);
+    }
+    let (min, max) = (Addr::from(first), greatest(&last));
+    if min > max {
+        return Err(FromStrError::BadRange);
+    }
+    Ok(AddressRange::new(min, max))
+}
+
+/// Reads an address and a length round the first slash, in the family that is wanted or in either. The bits behind the
+/// length are cleared.
+///
+/// The fault is the first of these: [`FromStrError::MissingSeparator`] where there is no slash, [`FromStrError::Addr`],
+/// and [`FromStrError::PrefixLen`], also of a length above 32 in IPv4 and above 128 in IPv6.
+pub fn read_prefix(wanted: Option<AddressFamily>, text: &str) -> Result<Prefix, FromStrError>
+    ensures { Answers (IsPrefixText wanted text.now) (HasPrefixTextFault wanted text.now) result }
+{
+    match text.split_once('/') {
+        Some((left, right)) => prefix_between(wanted, left, right),
+        None => Err(FromStrError::MissingSeparator),
+    }
+}
+
+/// Reads two addresses round the first dash, in the family that is wanted or in either.
+///
+/// The fault is the first of these: [`FromStrError::MissingSeparator`] where there is no dash, [`FromStrError::Addr`]
+/// of the first address and of the second, [`FromStrError::FamilyMismatch`] where they are of two families, and
+/// [`FromStrError::BadRange`] where the first is above the second.
+pub fn read_range(wanted: Option<AddressFamily>, text: &str) -> Result<AddressRange, FromStrError>
+    ensures { Answers (IsRangeText wanted text.now) (HasRangeTextFault wanted text.now) result }
+{
+    match text.split_once('-') {
+        Some((left, right)) => range_between(wanted, left, right),
+        None => Err(FromStrError::MissingSeparator),
+    }
+}
+
+/// Reads one address, in the family that is wanted or in either, as the range of its numbers. Any other text is
+/// refused by [`FromStrError::Addr`].
+pub fn read_single(wanted: Option<AddressFamily>, text: &str) -> Result<AddressRange, FromStrError>
+    ensures { Answers (IsSingleText wanted text.now) (HasAddressFault wanted text.now) result }
+{
+    let addr = read_address(wanted, text)?;
+    Ok(AddressRange::new(Addr::from(addr), greatest(&addr)))
+}
+
+/// The address as one of the family: in IPv4 its first 32 bits.
+fn shown(family: AddressFamily, addr: Addr) -> IpAddr
+    ensures { result ≡ as_ip family (shown_bits family addr) }
+{
+    match family {
+        AddressFamily::Ipv4 => IpAddr::V4(addr.to_v4()),
+        AddressFamily::Ipv6 => IpAddr::V6(addr.to_v6()),
+    }
+}
+
+/// Whether both addresses are printed alike as those of the family.
+fn look_alike(family: AddressFamily, a: Addr, b: Addr) -> bool
+    ensures { IsTrue result ↔ (shown_bits family a ≡ shown_bits family b) }
+{
+    match family {
+        AddressFamily::Ipv4 => a.to_v4() == b.to_v4(),
+        AddressFamily::Ipv6 => a == b,
+    }
+}
+
+impl Prefix {
+    /// Reads an IPv4 address and a length round the first slash, as [`read_prefix`] does.
+    pub fn from_v4_str(text: &str) -> Result<Prefix, FromStrError>
+        ensures { Answers (IsPrefixText (Some Ipv4) text.now) (HasPrefixTextFault (Some Ipv4) text.now) result }
+    {
+        read_prefix(Some(AddressFamily::Ipv4), text)
+    }
+
+    /// Reads an IPv6 address and a length round the first slash, as [`read_prefix`] does.
+    pub fn from_v6_str(text: &str) -> Result<Prefix, FromStrError>
+        ensures { Answers (IsPrefixText (Some Ipv6) text.now) (HasPrefixTextFault (Some Ipv6) text.now) result }
+    {
+        read_prefix(Some(AddressFamily::Ipv6), text)
+    }
+
+    /// Writes the prefix as one of the family.
+    fn fmt_as<W: fmt::Write>(&self, family: AddressFamily, f: &mut fmt::Formatter<W>) -> fmt::Result
+        ensures { WritesOnOk W.write_str_gives f.old result (prefix_text family self.now) f.new }
+    {
+        let addr = shown(family, self.addr());
+        let len = self.addr_len();
+        if len == family.max_addr_len() {
+            write!(f, "{addr}")
+        } else {
+            write!(f, "{addr}/{len}")
+        }
+    }
+
+    /// Writes the first 32 bits of the address as an IPv4 address, a slash and the length, of which the last two are
+    /// left out where the length is 32.
+    pub fn fmt_v4<W: fmt::Write>(&self, f: &mut fmt::Formatter<W>) -> fmt::Result
+        ensures { WritesOnOk W.write_str_gives f.old result (prefix_text Ipv4 self.now) f.new }
+    {
+        self.fmt_as(AddressFamily::Ipv4, f)
+    }
+
+    /// Writes the address as an IPv6 address, a slash and the length, of which the last two are left out where the
+    /// length is 128.
+    pub fn fmt_v6<W: fmt::Write>(&self, f: &mut fmt::Formatter<W>) -> fmt::Result
+        ensures { WritesOnOk W.write_str_gives f.old result (prefix_text Ipv6 self.now) f.new }
+    {
+        self.fmt_as(AddressFamily::Ipv6, f)
+    }
+}
+
+/// Reads an address of either family and a length round the first slash, as [`read_prefix`] does.
+impl FromStr for Prefix {
+    type Err = FromStrError;
+
+    ghost from_str_gives = { λ text r. Answers (IsPrefixText None text) (HasPrefixTextFault None text) r };
+
+    fn from_str(text: &str) -> Result<Prefix, FromStrError> {
+        read_prefix(None, text)
+    }
+}
+
+impl AddressRange {
+    /// Reads two IPv4 addresses round the first dash, as [`read_range`] does.
+    pub fn from_v4_str(text: &str) -> Result<AddressRange, FromStrError>
+        ensures { Answers (IsRangeText (Some Ipv4) text.now) (HasRangeTextFault (Some Ipv4) text.now) result }
+    {
+        read_range(Some(AddressFamily::Ipv4), text)
+    }
+
+    /// Reads two IPv6 addresses round the first dash, as [`read_range`] does.
+    pub fn from_v6_str(text: &str) -> Result<AddressRange, FromStrError>
+        ensures { Answers (IsRangeText (Some Ipv6) text.now) (HasRangeTextFault (Some Ipv6) text.now) result }
+    {
+        read_range(Some(AddressFamily::Ipv6), text)
+    }
+
+    /// Writes the range as one of the family.
+    fn fmt_as<W: fmt::Write>(&self, family: AddressFamily, f: &mut fmt::Formatter<W>) -> fmt::Result
+        ensures { WritesOnOk W.write_str_gives f.old result (range_text family self.now) f.new }
+    {
+        let min = shown(family, self.min());
+        let max = shown(family, self.max());
+        if look_alike(family, self.min(), self.max()) {
+            write!(f, "{min}")
+        } else {
+            write!(f, "{min}-{max}")
+        }
+    }
+
+    /// Writes the first 32 bits of the least and the greatest address as IPv4 addresses with a dash between them, or
+    /// only one where they are alike.
+    pub fn fmt_v4<W: fmt::Write>(&self, f: &mut fmt::Formatter<W>) -> fmt::Result
+        ensures { WritesOnOk W.write_str_gives f.old result (range_text Ipv4 self.now) f.new }
+    {
+        self.fmt_as(AddressFamily::Ipv4, f)
+    }
+
+    /// Writes the least and the greatest address as IPv6 addresses with a dash between them, or only one where they are
+    /// the same.
+    pub fn fmt_v6<W: fmt::Write>(&self, f: &mut fmt::Formatter<W>) -> fmt::Result
+        ensures { WritesOnOk W.write_str_gives f.old result (range_text Ipv6 self.now) f.new }
+    {
+        self.fmt_as(AddressFamily::Ipv6, f)
+    }
+}
+
+/// Reads two addresses of one family, which may be either, round the first dash, as [`read_range`] does.
+impl FromStr for AddressRange {
+    type Err = FromStrError;
+
+    ghost from_str_gives = { λ text r. Answers (IsRangeText None text) (HasRangeTextFault None text) r };
+
+    fn from_str(text: &str) -> Result<AddressRange, FromStrError> {
+        read_range(None, text)
+    }
+}

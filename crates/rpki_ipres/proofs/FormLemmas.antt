@@ -1,6 +1,6 @@
 -- Which blocks are in new form, and prefixes of a family as prefixes of 128 bits.
-use Rattle.std.proofs.Common.{◌≡◌, ℕ, zero, suc, ◌+◌, ◌-◌, ◌*◌, ◌/◌, ◌%◌, ◌^◌, ◌<◌, ◌≤◌, Bool, true, false, ◌||◌, IsTrue, refl, ap, sym, ◌∙◌, arith}
-use Rattle.std.specs.Prelude.{◌==◌, not}
+use Rattle.std.proofs.Common.{◌≡◌, ℕ, zero, suc, ◌+◌, ◌-◌, ◌*◌, ◌/◌, ◌%◌, ◌^◌, ◌<◌, ◌≤◌, Bool, true, false, IsTrue, refl, ap, sym, ◌∙◌, arith, Option, Some, None}
+use Rattle.std.specs.Prelude.{◌==◌, if◌then◌else◌, is_none}
 use Rattle.std.proofs.Math.Nat.{mul-mod_left, mul_assoc}
 use Rattle.std.proofs.lemmas.Bool.{eq-eqb, eqb-true, le-leb}
 use Rattle.std.proofs.lemmas.Nat.{pow_pos, pow-add, shr_split}
@@ -11,8 +11,9 @@ use Rattle.rpki_base.proofs.PrefixNumbers.{cleared_first}
 use Rattle.rpki_prefix.specs.Values.{FamilyPrefix, IsFamilyPrefix}
 use Rattle.rpki_ip.specs.AddrText.{first_of}
 use Rattle.rpki_ip.specs.Ranges.{RangeValue, IsRangeOf, range_bounds}
-use Rattle.rpki_ipres.specs.BlockForms.{both_pass}
-use Rattle.rpki_ipres.specs.Blocks.{prefix_bounds, has_length, passes_upto, are_of_a_prefix, is_new_ip_block}
+use Rattle.rpki_ipres.specs.BlockForms.{both_pass, IpBlock-one_new_form}
+use Rattle.rpki_ipres.specs.Blocks.{prefix_bounds, ip_bounds, has_length, length_upto, length_of, is_new_ip_block, block_from, new_ip_block}
+use Rattle.rpki_ipres.specs.declared.block.IpBlock.{IpBlock}
 use Rattle.rpki_ipres.specs.declared.block.IpBlock.TheVariants.{Prefix, Range}
 
 -- a prefix has its length
@@ -37,31 +38,69 @@ of_length r len below short pass =
     let count : r.min + 2 ^ (128 - len) ≡ r.max + 1 = eqb-true _ _ parts.1 in
     (record { first = r.min; len = len }, record { short = short; aligned = aligned; below = omega (arith, some, count, below) }, record { begins = refl; ends = omega (arith, some, count) })
 
--- a test that is passed up to a limit is passed by some number
-passed_at : (n : ℕ) (test : ℕ → Bool) → passes_upto n test ≡ true → (k : ℕ) × (k ≤ n) × (test k ≡ true)
-unfolding passes_upto
-passed_at zero test pass = (0, omega arith, pass)
-passed_at (suc n) test pass = last_or (passes_upto n test) refl (passed_at n test)
+-- a length that is found is had
+found_length : (n : ℕ) (b : ℕ × ℕ) (len : ℕ) → length_upto n b ≡ Some len → (len ≤ n) × (has_length b len ≡ true)
+unfolding length_upto
+found_length zero b len found = by_test (has_length b zero) refl
   where
-    last_or : (b : Bool) → passes_upto n test ≡ b → (passes_upto n test ≡ true → (k : ℕ) × (k ≤ n) × (test k ≡ true)) → (k : ℕ) × (k ≤ suc n) × (test k ≡ true)
-    last_or true h before = let (k, small, here) = before h in (k, omega (arith, small), here)
-    last_or false h before = (suc n, omega arith, ap (λ (b : Bool). b || test (suc n)) (sym h) ∙ pass)
+    by_test : (t : Bool) → has_length b zero ≡ t → (len ≤ zero) × (has_length b len ≡ true)
+    by_test true here =
+        let same : Some zero ≡ Some len = ap (λ (t : Bool). if t then Some zero else None) (sym here) ∙ found in
+        let is : zero ≡ len = cc in
+        (omega (arith, is), ap (has_length b) (sym is) ∙ here)
+    by_test false here =
+        let none : None ≡ Some len = ap (λ (t : Bool). if t then Some zero else None) (sym here) ∙ found in
+        absurd cc
+found_length (suc n) b len found = by_test (has_length b (suc n)) refl (found_length n b len)
+  where
+    by_test : (t : Bool) → has_length b (suc n) ≡ t → (length_upto n b ≡ Some len → (len ≤ n) × (has_length b len ≡ true)) → (len ≤ suc n) × (has_length b len ≡ true)
+    by_test true here before =
+        let same : Some (suc n) ≡ Some len = ap (λ (t : Bool). if t then Some (suc n) else length_upto n b) (sym here) ∙ found in
+        let is : suc n ≡ len = cc in
+        (omega (arith, is), ap (has_length b) (sym is) ∙ here)
+    by_test false here before =
+        let (small, has) = before (ap (λ (t : Bool). if t then Some (suc n) else length_upto n b) (sym here) ∙ found) in
+        (omega (arith, small), has)
 
--- bounds of no prefix are found to be so
-not_of_a_prefix : (r : RangeValue) → r.max < 2 ^ 128 → ((p : PrefixValue) → IsPrefix 128 p → IsRangeOf p r → ⊥) → are_of_a_prefix (range_bounds r) ≡ true → ⊥
-unfolding are_of_a_prefix
-not_of_a_prefix r below none found =
-    let (k, small, pass) = passed_at 128 (has_length (range_bounds r)) found in
-    let (p, is, of) = of_length r k below small pass in
-    none p is of
-
--- so a range that is of no prefix is in new form
+-- bounds of no prefix have no length
 pub new_range : (r : RangeValue) → r.max < 2 ^ 128 → ((p : PrefixValue) → IsPrefix 128 p → IsRangeOf p r → ⊥) → IsTrue (is_new_ip_block (Range r))
-new_range r below none = by_test (are_of_a_prefix (range_bounds r)) refl
+unfolding length_of
+new_range r below no_prefix = by_length (length_of (range_bounds r)) refl
   where
-    by_test : (b : Bool) → are_of_a_prefix (range_bounds r) ≡ b → not (are_of_a_prefix (range_bounds r)) ≡ true
-    by_test true h = absurd (not_of_a_prefix r below none h)
-    by_test false h = ap not h
+    by_length : (o : Option ℕ) → length_of (range_bounds r) ≡ o → is_none (length_of (range_bounds r)) ≡ true
+    by_length None e = ap is_none e
+    by_length (Some len) e =
+        let (short, has) = found_length 128 (range_bounds r) len e in
+        let (p, is, of) = of_length r len below short has in
+        absurd (no_prefix p is of)
+
+-- a prefix of the length that bounds have has these bounds
+bounds_of_length : (b : ℕ × ℕ) (len : ℕ) → has_length b len ≡ true → prefix_bounds (record { first = b.0; len = len }) ≡ b
+unfolding has_length
+bounds_of_length b len has =
+    let count : b.0 + 2 ^ (128 - len) ≡ b.1 + 1 = eqb-true _ _ (both_pass (b.0 % 2 ^ (128 - len) == 0) (b.0 + 2 ^ (128 - len) == b.1 + 1) has).1 in
+    let last : b.0 + 2 ^ (128 - len) - 1 ≡ b.1 = omega (arith, count) in
+    λ i. (b.0, last i)
+
+-- the block that is made of bounds has these bounds, and is in new form
+pub record IsMadeOf (b : ℕ × ℕ) (x : IpBlock) : Type 0 where
+  pub bounds : ip_bounds x ≡ b
+  pub new_form : IsTrue (is_new_ip_block x)
+
+pub new_block : (b : ℕ × ℕ) → IsMadeOf b (new_ip_block b)
+unfolding length_of
+new_block b = by_length (length_of b) refl
+  where
+    by_length : (o : Option ℕ) → length_of b ≡ o → IsMadeOf b (block_from b o)
+    by_length None e = record { bounds = refl; new_form = ap is_none e }
+    by_length (Some len) e =
+        let (short, has) = found_length 128 b len e in
+        let bounds = bounds_of_length b len has in
+        record { bounds = bounds; new_form = rw (le-leb len 128 short) (ap (λ c. has_length c len) bounds ∙ has) }
+
+-- so it is any block in new form with these bounds
+pub is_new_block : (x : IpBlock) → IsTrue (is_new_ip_block x) → new_ip_block (ip_bounds x) ≡ x
+is_new_block x new = let made = new_block (ip_bounds x) in IpBlock-one_new_form (new_ip_block (ip_bounds x)) x made.new_form new made.bounds
 
 -- a prefix of IPv4 is one of 128 bits, with 96 zeros behind its address
 prefix_of_v4 : (n len : ℕ) → IsPrefix 32 (record { first = n; len = len }) → IsPrefix 128 (record { first = n * 2 ^ 96; len = len })

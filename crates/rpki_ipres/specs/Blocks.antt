@@ -1,5 +1,5 @@
 -- Blocks of addresses (RFC 3779, 2.2.3.7 to 2.2.3.9): their bounds and their form.
-use Rattle.std.specs.Prelude.{ℕ, zero, suc, ◌+◌, ◌-◌, ◌%◌, ◌^◌, Bool, not, ◌==◌, ◌&&◌, ◌||◌, nat_le}
+use Rattle.std.specs.Prelude.{ℕ, zero, suc, ◌+◌, ◌-◌, ◌%◌, ◌^◌, Bool, ◌==◌, ◌&&◌, if◌then◌else◌, nat_le, Option, Some, None, is_none}
 use Rattle.rpki_base.specs.Prefixes.{PrefixValue, last_of}
 use Rattle.rpki_ip.specs.Ranges.{range_bounds}
 use Rattle.rpki_ipres.specs.declared.block.IpBlock.{IpBlock}
@@ -18,16 +18,24 @@ ip_bounds (Range r) = range_bounds r
 unfoldable pub has_length : ℕ × ℕ → ℕ → Bool
 has_length b len = (b.0 % 2 ^ (128 - len) == 0) && (b.0 + 2 ^ (128 - len) == b.1 + 1)
 
--- whether some number from 0 to n passes a test
-unfoldable pub passes_upto : ℕ → (ℕ → Bool) → Bool
-passes_upto zero test = test 0
-passes_upto (suc n) test = passes_upto n test || test (suc n)
+-- the greatest length up to n of a prefix with exactly these addresses, if there is one
+unfoldable pub length_upto : ℕ → ℕ × ℕ → Option ℕ
+length_upto zero b = if has_length b zero then Some zero else None
+length_upto (suc n) b = if has_length b (suc n) then Some (suc n) else length_upto n b
 
--- whether the addresses are those of some prefix
-unfoldable pub are_of_a_prefix : ℕ × ℕ → Bool
-are_of_a_prefix b = passes_upto 128 (has_length b)
+-- the length of the prefix with exactly these addresses, if there is one
+unfoldable pub length_of : ℕ × ℕ → Option ℕ
+length_of b = length_upto 128 b
 
 -- whether the block is a Prefix where its addresses are those of one, and else a Range (RFC 3779, 2.2.3.7)
 abbrev pub is_new_ip_block : IpBlock → Bool
 is_new_ip_block (Prefix p) = nat_le p.len 128 && has_length (prefix_bounds p) p.len
-is_new_ip_block (Range r) = not (are_of_a_prefix (range_bounds r))
+is_new_ip_block (Range r) = is_none (length_of (range_bounds r))
+
+-- the block in that form from b.0 to b.1
+abbrev pub block_from : ℕ × ℕ → Option ℕ → IpBlock
+block_from b (Some len) = Prefix (record { first = b.0; len = len })
+block_from b None = Range (record { min = b.0; max = b.1 })
+
+abbrev pub new_ip_block : ℕ × ℕ → IpBlock
+new_ip_block b = block_from b (length_of b)

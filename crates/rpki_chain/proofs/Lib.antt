@@ -3,11 +3,13 @@ pub mod Chains
 mod CutTurns
 mod Cutting
 mod FitTurns
-mod Halves
 mod Insides
+mod LawLemmas
 mod MeetTurns
 mod Meets
 pub mod RunLists
+mod Searches
+pub mod SetLemmas
 pub mod Shortest
 mod Sides
 pub mod Sorts

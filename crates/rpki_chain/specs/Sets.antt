@@ -26,6 +26,12 @@ pub record IsRun (S : ℕ → Type 0) (b : ℕ × ℕ) : Type 0 where
   pub starts : (n : ℕ) → n + 1 ≡ b.0 → S n → ⊥
   pub ends : S (b.1 + 1) → ⊥
 
+-- the first run of S that doesn't end before n
+pub record IsRunFrom (S : ℕ → Type 0) (n : ℕ) (b : ℕ × ℕ) : Type 0 where
+  pub run : IsRun S b
+  pub reaches : n ≤ b.1
+  pub first : (m : ℕ) → n ≤ m → m < b.0 → S m → ⊥
+
 -- the chain of S: exactly its runs, ascending, each in new form; and each number of S lies in one of them
 pub record IsChainOf {B : Type 0} (bounds : B → ℕ × ℕ) (is_new : B → Bool) (S : ℕ → Type 0) (xs : List B) : Type 0 where
   pub runs : All (λ x. IsRun S (bounds x)) xs

@@ -78,7 +78,7 @@ impl<'a, T: Block> Chain<'a, T> {
 impl<T: Block> Chain<'_, T> {
     ghost use Rattle.std.specs.Prelude.{◌≡◌, ℕ, ◌+◌, ◌≤◌, ◌↔◌, List, length, IsTrue, IsOk, IfOk, IfErr};
     ghost use Rattle.rpki_base.specs.Memory.{IfRefused};
-    ghost use Rattle.rpki_chain.specs.Sets.{Covers, IsInside, IsChainOf};
+    ghost use Rattle.rpki_chain.specs.Sets.{IsWithin, Covers, IsInside, IsChainOf};
     ghost use Rattle.rpki_chain.specs.View.{chain_blocks};
 
     /// Whether an item lies in one of the blocks. A binary search.
@@ -87,6 +87,24 @@ impl<T: Block> Chain<'_, T> {
     {
         let mut own = self;
         membership::contains_item(&mut own, item)
+    }
+
+    /// Whether each item of a block lies in one of the blocks. A binary search.
+    pub fn contains_block(self, block: &T) -> bool
+        ensures { IsTrue result ↔ ((n : ℕ) →
+            IsWithin (T.bounds block.now) n → Covers T.bounds (chain_blocks self.entry) n) }
+    {
+        let mut own = self;
+        membership::contains_block(&mut own, block)
+    }
+
+    /// Whether an item of a block lies in one of the blocks. A binary search.
+    pub fn intersects_block(self, block: &T) -> bool
+        ensures { IsTrue result ↔ ((n : ℕ) ×
+            IsWithin (T.bounds block.now) n × Covers T.bounds (chain_blocks self.entry) n) }
+    {
+        let mut own = self;
+        membership::intersects_block(&mut own, block)
     }
 
     /// Whether each of its numbers is one of the other's.

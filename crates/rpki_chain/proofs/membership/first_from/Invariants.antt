@@ -1,7 +1,7 @@
--- No block before the part that is searched reaches the item, and none behind it does.
-use Rattle.std.proofs.Common.{◌≡◌, ℕ, ◌-◌, ◌<◌, ◌≤◌, length, get_or}
-use Rattle.rpki_chain.specs.Sets.{IsChain}
-use Rattle.rpki_chain.proofs.membership.contains_item.Given as goal
+-- All blocks before the part that is searched end before the item; the one behind it was found, or none is there.
+use Rattle.std.proofs.Common.{◌≡◌, ℕ, ◌-◌, ◌<◌, ◌≤◌, length, get_or, IfSome}
+use Rattle.rpki_chain.specs.Sets.{IsChain, HoldsBlock}
+use Rattle.rpki_chain.proofs.membership.first_from.Given as goal
 
 abbrev pub invariant-loop-low : goal.invariant-loop-low
 invariant-loop-low g l = record {
@@ -10,7 +10,8 @@ invariant-loop-low g l = record {
   ordered : l.low ≤ l.high;
   within : l.high ≤ length (g.R.Reads.blocks l.fn.chain);
   below : (k : ℕ) (d : _) → k < l.low → k < length (g.R.Reads.blocks l.fn.chain) → (g.T.Block.bounds (get_or (g.R.Reads.blocks l.fn.chain) k d)).1 < g.T.Block.number l.item;
-  above : (k : ℕ) (d : _) → l.high ≤ k → k < length (g.R.Reads.blocks l.fn.chain) → g.T.Block.number l.item < (g.T.Block.bounds (get_or (g.R.Reads.blocks l.fn.chain) k d)).0;
+  found : HoldsBlock g.T.Block.bounds g.T.Block.number g.T.Block.last (g.R.Reads.blocks l.fn.chain) l.high l.found;
+  reaches : IfSome l.found (λ b. g.T.Block.number l.item ≤ g.T.Block.number b.1);
 }
 
 abbrev pub decreases-loop-low : goal.decreases-loop-low

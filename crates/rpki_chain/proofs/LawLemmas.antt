@@ -1,0 +1,18 @@
+-- Sets with the same numbers are one list of runs, and a set that has a number is not empty.
+use Rattle.std.proofs.Common.{◌≡◌, ℕ, ◌≤◌, ◌↔◌, [], ◌∷◌, refl}
+use Rattle.std.proofs.Math.Nat.{le_refl}
+use Rattle.std.proofs.lemmas.List.Elements.{All-head}
+use Rattle.rpki_chain.specs.Runs.{Runs, IsRunsOf}
+use Rattle.rpki_chain.proofs.RunLists.{IsRunsOf-same, IsRunsOf-unique}
+use Rattle.rpki_chain.proofs.Unique.{Covers-head}
+
+-- sets with the same numbers are one
+pub one_set : (S U : ℕ → Type 0) (a b : Runs) → IsRunsOf S a → IsRunsOf U b → ((n : ℕ) → S n ↔ U n) → a ≡ b
+one_set S U a b h k same = IsRunsOf-unique U a b (IsRunsOf-same a S U same h) k
+
+-- a set that has no number is empty
+pub empty_set : (S : ℕ → Type 0) (a : Runs) → IsRunsOf S a → ((n : ℕ) → S n → ⊥) → a ≡ []
+empty_set S [] h none = refl
+empty_set S (b ∷ runs) h none =
+    let ordered : b.0 ≤ b.1 = All-head (λ (x : ℕ × ℕ). x.0 ≤ x.1) b runs h.ordered in
+    absurd (none b.0 ((h.members b.0).0 (Covers-head (λ x. x) b runs b.0 (le_refl b.0, ordered))))

@@ -1,0 +1,104 @@
+-- Chains of blocks, and the sets that they are.
+use Rattle.std.proofs.Common.{◌≡◌, ℕ, ◌+◌, ◌-◌, ◌<◌, ◌≤◌, ◌↔◌, ◌⊎◌, inl, inr, ⊎_elim, Bool, List, [], ◌∷◌, length, get_or, map, refl, sym, ap, ◌++◌, Result, IfOk, subst, arith}
+use Rattle.std.specs.Bool.{Decides}
+use Rattle.std.specs.Cmp.Lexicographic.{pointwise_decides}
+use Rattle.std.proofs.lemmas.Bool.{cases_lt}
+use Rattle.std.proofs.lemmas.Grind.{common_steps}
+use Rattle.std.proofs.lemmas.Result.{IfOk-weaker}
+use Rattle.std.proofs.lemmas.List.Elements.{All-map}
+use Rattle.rpki_chain.specs.BlockSets.{IsBlockSet, IsBlockChain}
+use Rattle.rpki_chain.specs.Equality.{is_same_pair, same_runs}
+use Rattle.rpki_chain.specs.Sets.{Covers, IsInside, IsChain}
+use Rattle.rpki_chain.specs.Runs.{Runs, Holds, IsRunsOf}
+use Rattle.rpki_chain.proofs.Chains.{Covers-nil}
+use Rattle.rpki_chain.proofs.Unique.{Covers-head, Covers-tail, Covers-cons_cases}
+use Rattle.rpki_chain.proofs.RunLists.{IsRunsOf-itself, IsRunsOf-same, Holds-map}
+
+-- whether two sets are the same is what the comparison of their bounds tells
+pub same_runs_decides : (a b : Runs) → Decides (same_runs a b) (a ≡ b)
+same_runs_decides a b = pointwise_decides {E = is_same_pair} is_same_pair_decides a b
+  where
+    is_same_pair_decides : (a b : ℕ × ℕ) → Decides (is_same_pair a b) (a ≡ b)
+    is_same_pair_decides a b = (
+      λ t. (let low : a.0 ≡ b.0 = grind (arith, common_steps) in let high : a.1 ≡ b.1 = grind (arith, common_steps) in λ i. (low i, high i)),
+      λ e. (let low = ap (λ (p : ℕ × ℕ). p.0) e in let high = ap (λ (p : ℕ × ℕ). p.1) e in grind (arith, common_steps)),
+    )
+
+module _ {B : Type 0} (f : B → ℕ × ℕ) where
+  -- a chain covers a number exactly where its set holds it
+  pub held_by_set : (P : Type 0) (blocks : List B) (n : ℕ) → P ↔ Covers f blocks n → P ↔ Holds (map f blocks) n
+  held_by_set P blocks n h = (λ p. (Holds-map f blocks n).1 (h.0 p), λ held. h.1 ((Holds-map f blocks n).0 held))
+
+  -- and each of some numbers, or one of them
+  pub all_held_by_set : (P : Type 0) (S : ℕ → Type 0) (blocks : List B) → P ↔ ((n : ℕ) → S n → Covers f blocks n) → P ↔ ((n : ℕ) → S n → Holds (map f blocks) n)
+  all_held_by_set P S blocks h = (
+    λ p n s. (Holds-map f blocks n).1 (h.0 p n s),
+    λ all. h.1 (λ n s. (Holds-map f blocks n).0 (all n s)),
+  )
+
+  pub some_held_by_set : (P : Type 0) (S : ℕ → Type 0) (blocks : List B) → P ↔ ((n : ℕ) × S n × Covers f blocks n) → P ↔ ((n : ℕ) × S n × Holds (map f blocks) n)
+  some_held_by_set P S blocks h = (
+    λ p. (let held = h.0 p in (held.0, held.1, (Holds-map f blocks held.0).1 held.2)),
+    λ (n, s, held). h.1 (n, s, (Holds-map f blocks n).0 held),
+  )
+
+  -- a chain lies in another exactly where its set does
+  pub inside_set : (P : Type 0) (own other : List B) → P ↔ IsInside f own other → P ↔ ((n : ℕ) → Holds (map f own) n → Holds (map f other) n)
+  inside_set P own other h = (
+    λ p n held. (Holds-map f other n).1 (h.0 p n ((Holds-map f own n).0 held)),
+    λ inside. h.1 (λ n covered. (Holds-map f other n).0 (inside n ((Holds-map f own n).1 covered))),
+  )
+
+  -- what is made of the chain of S is the set S
+  pub made : {E : Type 0} (r : Result Runs E) (S : ℕ → Type 0) (blocks : List B) → IsRunsOf S (map f blocks) → IfOk r (λ set. set ≡ map f blocks) → IfOk r (IsRunsOf S)
+  made r S blocks runs h = IfOk-weaker r _ _ (λ set same. subst (IsRunsOf S) (sym same) runs) h
+
+  -- two lists of blocks, one after the other, cover what one or the other covers
+  covers_both : (own other : List B) (n : ℕ) → Covers f (own ++ other) n ↔ (Covers f own n ⊎ Covers f other n)
+  covers_both [] other n = (inr, ⊎_elim (λ c. absurd (Covers-nil f n c)) (λ c. c))
+  covers_both (x ∷ own) other n =
+      let rest = covers_both own other n in (
+        λ c. ⊎_elim (λ w. inl (Covers-head f x own n w)) (λ r. ⊎_elim (λ a. inl (Covers-tail f x own n a)) inr (rest.0 r)) (Covers-cons_cases f x (own ++ other) n c),
+        ⊎_elim
+            (λ a. ⊎_elim (Covers-head f x (own ++ other) n) (λ r. Covers-tail f x (own ++ other) n (rest.1 (inl r))) (Covers-cons_cases f x own n a))
+            (λ b. Covers-tail f x (own ++ other) n (rest.1 (inr b))),
+      )
+
+  -- the blocks of two chains, one after the other, cover what one or the other holds
+  pub IsRunsOf-both : (runs : Runs) (own other : List B) → IsRunsOf (Covers f (own ++ other)) runs → IsRunsOf (λ n. Holds (map f own) n ⊎ Holds (map f other) n) runs
+  IsRunsOf-both runs own other h = IsRunsOf-same runs _ _ (λ n. (
+    λ c. ⊎_elim (λ a. inl ((Holds-map f own n).1 a)) (λ b. inr ((Holds-map f other n).1 b)) ((covers_both own other n).0 c),
+    λ held. (covers_both own other n).1 (⊎_elim (λ a. inl ((Holds-map f own n).0 a)) (λ b. inr ((Holds-map f other n).0 b)) held),
+  )) h
+
+  module _ (is_new : B → Bool) (last : ℕ) where
+    -- no block of a chain has greater numbers than its last block
+    pub IsBlockChain-from_last : (blocks : List B) → IsChain f is_new blocks → ((d : B) → 0 < length blocks → (f (get_or blocks (length blocks - 1) d)).1 ≤ last) → IsBlockChain f is_new last blocks
+    IsBlockChain-from_last blocks chain highest = record {
+      chain = chain;
+      below = λ k d small.
+          let end = highest d (omega arith) in
+          ⊎_elim
+          (λ (before : k < length blocks - 1).
+          let far : (f (get_or blocks k d)).1 + 1 < (f (get_or blocks (length blocks - 1) d)).0 = chain.apart k (length blocks - 1) d before (omega arith) in
+          let ordered : (f (get_or blocks (length blocks - 1) d)).0 ≤ (f (get_or blocks (length blocks - 1) d)).1 = chain.ordered (length blocks - 1) d (omega arith) in
+          omega arith)
+          (λ (at : length blocks - 1 ≤ k).
+          let same : k ≡ length blocks - 1 = omega arith in
+          rw same end)
+          (cases_lt k (length blocks - 1));
+    }
+
+    -- a chain is a set
+    pub IsBlockSet-from_chain : (blocks : List B) → IsBlockChain f is_new last blocks → IsBlockSet last (map f blocks)
+    IsBlockSet-from_chain blocks h = record {
+      are_runs = IsRunsOf-itself f is_new blocks blocks h.chain refl;
+      below = All-map (λ (b : ℕ × ℕ). b.1 ≤ last) f blocks h.below;
+    }
+
+    -- a chain inside another is what they have in common
+    pub IsRunsOf-inside : (own other : List B) → IsBlockChain f is_new last own → IsInside f own other → IsRunsOf (λ n. Holds (map f own) n × Holds (map f other) n) (map f own)
+    IsRunsOf-inside own other h inside = IsRunsOf-same (map f own) _ _ (λ n. (
+      λ held. (held, (Holds-map f other n).1 (inside n ((Holds-map f own n).0 held))),
+      λ (held, also). held,
+    )) (IsBlockSet-from_chain own h).are_runs

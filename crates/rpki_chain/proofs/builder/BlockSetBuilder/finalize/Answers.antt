@@ -1,0 +1,7 @@
+use Rattle.std.proofs.lemmas.Result.{IfOk-weaker}
+use Rattle.rpki_chain.proofs.RunLists.{IsRunsOf-same, Holds-map}
+use Rattle.rpki_chain.proofs.builder.BlockSetBuilder.finalize.Goals as goal
+
+pub returns : goal.returns
+returns g c = rw (← c.self.view_is, ← c.as_slice.ensures.value)
+    (IfOk-weaker c.from_blocks.result _ _ (λ runs h. IsRunsOf-same runs _ _ (λ n. ((Holds-map g.T.Block.bounds _ n).1, (Holds-map g.T.Block.bounds _ n).0)) h) c.from_blocks.ensures)

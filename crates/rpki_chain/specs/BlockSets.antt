@@ -1,0 +1,14 @@
+-- Sets of the items of one kind, whose numbers end at `last`: as runs, and as the chain that holds them.
+use Rattle.std.specs.Prelude.{ℕ, ◌≤◌, Bool, List, All}
+use Rattle.rpki_chain.specs.Runs.{Runs, Holds, IsRunsOf}
+use Rattle.rpki_chain.specs.Sets.{IsChain}
+
+-- the runs of a set of numbers up to the last
+pub record IsBlockSet (last : ℕ) (runs : Runs) : Type 0 where
+  pub are_runs : IsRunsOf (Holds runs) runs
+  pub below : All (λ b. b.1 ≤ last) runs
+
+-- a chain of blocks of numbers up to the last
+pub record IsBlockChain {B : Type 0} (bounds : B → ℕ × ℕ) (is_new : B → Bool) (last : ℕ) (blocks : List B) : Type 0 where
+  pub chain : IsChain bounds is_new blocks
+  pub below : All (λ x. (bounds x).1 ≤ last) blocks

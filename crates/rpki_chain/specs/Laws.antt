@@ -1,0 +1,15 @@
+-- Unions, intersections and differences of sets of whole numbers, in the words that the calls use, for their laws.
+use Rattle.std.specs.Prelude.{◌⊎◌}
+use Rattle.rpki_chain.specs.Runs.{Runs, Holds, IsRunsOf}
+
+-- the numbers that one or the other has
+abbrev pub IsUnion : Runs → Runs → Runs → Type 0
+IsUnion a b set = IsRunsOf (λ n. Holds a n ⊎ Holds b n) set
+
+-- the numbers that both have
+abbrev pub IsIntersection : Runs → Runs → Runs → Type 0
+IsIntersection a b set = IsRunsOf (λ n. Holds a n × Holds b n) set
+
+-- the numbers that the one has and the other has not
+abbrev pub IsDifference : Runs → Runs → Runs → Type 0
+IsDifference a b set = IsRunsOf (λ n. Holds a n × (Holds b n → ⊥)) set

@@ -1,0 +1,64 @@
+//! Sets of the items of a kind, built block by block.
+ghost use Rattle.std.specs.Prelude.{◌≡◌, ◌++◌, [], ◌∷◌, IfOk, OnOk, OnErr, map};
+ghost use Rattle.rpki_chain.specs.Runs.{Holds, IsRunsOf};
+
+use crate::block::Block;
+use crate::set::BlockSet;
+use std::alloc::{AllocError, Allocator, Global};
+use std::marker::Model;
+
+/// Collects blocks, in any order, for a set of their items. It keeps the allocator that it is given.
+///
+/// Contracts see it as the list of the blocks' least and greatest numbers, in the order in which they came.
+#[derive(Drop)]
+pub struct BlockSetBuilder<T: Block, A: Allocator = Global> {
+    blocks: Vec<T, A>,
+}
+
+impl<T: Block, A: Allocator> Model for BlockSetBuilder<T, A> {
+    ghost use Rattle.std.specs.Prelude.{ℕ, List, map};
+
+    ghost Value = { List (ℕ × ℕ) };
+
+    ghost view = { λ b. map T.bounds b.blocks.items };
+}
+
+impl<T: Block, A: Allocator> BlockSetBuilder<T, A> {
+    /// A builder that has no blocks yet.
+    pub fn new(alloc: A) -> Self
+        ensures { result ≡ [] }
+    {
+        BlockSetBuilder {
+            blocks: Vec::new(alloc),
+        }
+    }
+
+    /// Adds a block. `AllocError` where there is no memory for it; then the builder has the blocks that it had.
+    pub fn push(&mut self, block: T) -> Result<(), AllocError>
+        ensures ok { OnOk result (self.new ≡ self.old ++ T.bounds block ∷ []) }
+        ensures err { OnErr result (self.new ≡ self.old) }
+    {
+        self.blocks.push(block)?;
+        Ok(())
+    }
+
+    /// Adds several blocks. `AllocError` where there is no memory for them; then the builder has the blocks that it had.
+    pub fn extend_from(&mut self, blocks: &[T]) -> Result<(), AllocError>
+    where
+        T: Copy,
+        ensures ok { OnOk result (self.new ≡ self.old ++ map T.bounds blocks.now) }
+        ensures err { OnErr result (self.new ≡ self.old) }
+    {
+        self.blocks.extend_from_slice(blocks)
+    }
+
+    /// The set of the items that some of the blocks has. `AllocError` where there is no memory for it.
+    pub fn finalize(self) -> Result<BlockSet<T, A>, AllocError>
+    where
+        A: Copy,
+        ensures { IfOk result (IsRunsOf (Holds self)) }
+    {
+        let alloc = *self.blocks.allocator();
+        BlockSet::from_blocks(alloc, self.blocks.as_slice())
+    }
+}

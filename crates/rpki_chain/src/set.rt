@@ -1,0 +1,228 @@
+//! Sets of the items of a kind.
+ghost use Rattle.std.specs.Prelude.{◌≡◌, ℕ, ◌↔◌, ◌⊎◌, [], All, IsTrue, IfOk, OnOk, OnErr, map};
+ghost use Rattle.std.specs.Slice.Iter.{iter_rest};
+ghost use Rattle.rpki_chain.specs.BlockSets.{IsBlockChain, IsBlockSet};
+ghost use Rattle.rpki_chain.specs.Equality.{same_runs, runs_per, runs_equiv};
+ghost use Rattle.rpki_chain.specs.Runs.{Runs, Holds, IsRunsOf};
+ghost use Rattle.rpki_chain.specs.Sets.{IsWithin, Covers, IsChain};
+ghost use Rattle.rpki_chain.specs.View.{chain_blocks};
+
+use crate::block::Block;
+use crate::chain::Chain;
+use crate::owned::OwnedChain;
+use crate::shared::SharedChain;
+use rpki_base::memory::OrMemory;
+use std::alloc::{AllocError, Allocator, Global};
+use std::marker::Model;
+use std::slice::Iter;
+
+/// A set of the items of one kind. Sets of the same items are equal. Its memory may have several owners, and the empty
+/// set has none.
+///
+/// Contracts see the set as the ascending list of its runs, each as its least and its greatest number.
+#[derive(Drop)]
+pub struct BlockSet<T: Block, A: Allocator = Global> {
+    chain: SharedChain<T, A>,
+}
+
+impl<T: Block, A: Allocator> Model for BlockSet<T, A> {
+    ghost Value = { Runs };
+
+    ghost view = { λ s. map T.bounds s.chain };
+
+    ghost invariant = { λ s. IsBlockChain T.bounds T.is_new T.last s.chain };
+}
+
+impl<T: Block, A: Allocator> BlockSet<T, A> {
+    /// The set of no items.
+    pub fn empty() -> Self
+        ensures { result ≡ [] }
+    {
+        BlockSet {
+            chain: SharedChain::empty(),
+        }
+    }
+
+    /// The set of the items that some block has. The blocks may come in any order and may overlap. `AllocError` where
+    /// there is no memory for it.
+    pub fn from_blocks(alloc: A, blocks: &[T]) -> Result<Self, AllocError>
+    where
+        A: Copy,
+        ensures { IfOk result (IsRunsOf (Covers T.bounds blocks.now)) }
+    {
+        let chain = OwnedChain::from_blocks(alloc, blocks)?;
+        Self::from_owned(alloc, chain)
+    }
+
+    /// The set of a chain's items, for several owners. `AllocError` where there is no memory for it.
+    pub fn from_owned(alloc: A, chain: OwnedChain<T, A>) -> Result<Self, AllocError>
+        ensures { IfOk result (λ set. set ≡ map T.bounds chain) }
+    {
+        read_greatest(chain.as_chain().as_slice());
+        let chain = SharedChain::from_owned(alloc, chain)?;
+        Ok(BlockSet { chain })
+    }
+
+    /// The same set, whose memory has one owner more.
+    pub fn clone(&self) -> Result<Self, AllocError>
+        ensures { IfOk result (λ set. set ≡ self.now) }
+    {
+        let chain = self.chain.clone()?;
+        Ok(BlockSet { chain })
+    }
+
+    /// The chain of the set: its runs, each in the form that `new` gives.
+    pub fn as_chain(&self) -> Chain<'_, T>
+        ensures blocks { map T.bounds (chain_blocks result) ≡ self.now }
+        ensures chain { IsBlockChain T.bounds T.is_new T.last (chain_blocks result) }
+    {
+        self.chain.as_chain()
+    }
+
+    /// The blocks of the set, ascending: its runs, each in the form that `new` gives.
+    pub fn as_slice(&self) -> &[T]
+        ensures blocks { map T.bounds result.now ≡ self.now }
+        ensures chain { IsBlockChain T.bounds T.is_new T.last result.now }
+        ensures set { IsBlockSet T.last self.now }
+    {
+        self.as_chain().as_slice()
+    }
+
+    /// The blocks of the set one by one, ascending: its runs, each in the form that `new` gives.
+    pub fn iter(&self) -> Iter<'_, T>
+        ensures blocks { map T.bounds (iter_rest result) ≡ self.now }
+        ensures new_form { All (λ block. IsTrue (T.is_new block)) (iter_rest result) }
+        ensures set { IsBlockSet T.last self.now }
+    {
+        self.as_slice().iter()
+    }
+
+    /// Whether the set has no items.
+    pub fn is_empty(&self) -> bool
+        ensures { IsTrue result ↔ (self.now ≡ []) }
+    {
+        self.as_slice().is_empty()
+    }
+
+    /// Whether the set has an item.
+    pub fn contains_item(&self, item: T::Item) -> bool
+        ensures { IsTrue result ↔ Holds self.now (T.number item) }
+    {
+        self.as_chain().contains_item(item)
+    }
+
+    /// Whether the set has each item of a block.
+    pub fn contains_block(&self, block: &T) -> bool
+        ensures { IsTrue result ↔ ((n : ℕ) → IsWithin (T.bounds block.now) n → Holds self.now n) }
+    {
+        self.as_chain().contains_block(block)
+    }
+
+    /// Whether the set has an item of a block.
+    pub fn intersects_block(&self, block: &T) -> bool
+        ensures { IsTrue result ↔ ((n : ℕ) × IsWithin (T.bounds block.now) n × Holds self.now n) }
+    {
+        self.as_chain().intersects_block(block)
+    }
+
+    /// Whether the set has each item of another.
+    pub fn contains(&self, other: &BlockSet<T, A>) -> bool
+        ensures { IsTrue result ↔ ((n : ℕ) → Holds other.now n → Holds self.now n) }
+    {
+        other.as_chain().is_encompassed(self.as_chain())
+    }
+
+    /// The set of the items that both have. `AllocError` where there is no memory for it.
+    pub fn intersection(&self, alloc: A, other: &BlockSet<T, A>) -> Result<Self, AllocError>
+    where
+        A: Copy,
+        ensures { IfOk result (IsRunsOf (λ n. Holds self.now n × Holds other.now n)) }
+    {
+        match self.as_chain().trim(alloc, other.as_chain()) {
+            Ok(()) => self.clone(),
+            Err(OrMemory::Refused(common)) => Self::from_owned(alloc, common),
+            Err(OrMemory::Memory(error)) => Err(error),
+        }
+    }
+
+    /// Keeps the items that the other has too. `AllocError` where there is no memory for it; then the set stays as it
+    /// was.
+    pub fn intersection_assign(
+        &mut self,
+        alloc: A,
+        other: &BlockSet<T, A>,
+    ) -> Result<(), AllocError>
+    where
+        A: Copy,
+        ensures ok { OnOk result (IsRunsOf (λ n. Holds self.old n × Holds other.now n) self.new) }
+        ensures err { OnErr result (self.new ≡ self.old) }
+    {
+        let common = self.intersection(alloc, other)?;
+        *self = common;
+        Ok(())
+    }
+
+    /// The set of the items that the other doesn't have. `AllocError` where there is no memory for it.
+    pub fn difference(&self, alloc: A, other: &BlockSet<T, A>) -> Result<Self, AllocError>
+    where
+        A: Copy,
+        ensures { IfOk result (IsRunsOf (λ n. Holds self.now n × (Holds other.now n → ⊥))) }
+    {
+        let chain = self.as_chain().difference(alloc, other.as_chain())?;
+        Self::from_owned(alloc, chain)
+    }
+
+    /// The set of the items that one or the other has. `AllocError` where there is no memory for it.
+    pub fn union(&self, alloc: A, other: &BlockSet<T, A>) -> Result<Self, AllocError>
+    where
+        T: Copy,
+        A: Copy,
+        ensures { IfOk result (IsRunsOf (λ n. Holds self.now n ⊎ Holds other.now n)) }
+    {
+        let blocks = self.as_slice();
+        let others = other.as_slice();
+        let mut both = Vec::with_capacity(alloc, blocks.len().saturating_add(others.len()))?;
+        both.extend_from_slice(blocks)?;
+        both.extend_from_slice(others)?;
+        Self::from_blocks(alloc, both.as_slice())
+    }
+}
+
+/// Reads the greatest number of a chain, which is in its last block, so that no number is known to be above the kind's
+/// last.
+fn read_greatest<T: Block>(blocks: &[T])
+    requires { IsChain T.bounds T.is_new blocks.now }
+    ensures { IsBlockChain T.bounds T.is_new T.last blocks.now }
+{
+    if let Some(last) = blocks.last() {
+        let _greatest = last.max();
+    }
+}
+
+/// The set of no items.
+impl<T: Block, A: Allocator> Default for BlockSet<T, A> {
+    ghost is_default = { λ set. set ≡ [] };
+
+    fn default() -> Self {
+        BlockSet::empty()
+    }
+}
+
+/// Sets are equal exactly where they have the same items.
+impl<T: Block, A: Allocator> PartialEq for BlockSet<T, A> {
+    ghost eq = { λ a b. same_runs a b };
+
+    ghost laws = { runs_per };
+
+    fn eq(&self, other: &Self) -> bool
+        ensures value { result ≡ same_runs self.now other.now }
+        ensures same { IsTrue result ↔ (self.now ≡ other.now) }
+        ensures numbers { IsTrue result ↔ ((n : ℕ) → Holds self.now n ↔ Holds other.now n) }
+    {
+        self.as_chain() == other.as_chain()
+    }
+}
+
+impl<T: Block, A: Allocator> Eq for BlockSet<T, A> {
+    ghost laws = { runs_equiv };
+}

@@ -3,6 +3,9 @@ pub mod AddressLemmas
 pub mod AddressReads
 pub mod AsnLemmas
 pub mod CutLemmas
+pub mod DerCursors
+pub mod DerReadings
+pub mod DerWriting
 pub mod DigitLemmas
 pub mod ListLemmas
 pub mod NumberLemmas

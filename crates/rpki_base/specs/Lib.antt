@@ -1,6 +1,10 @@
 pub mod AddressText
+pub mod AsnDer
 pub mod AsnText
 pub mod Cuts
+pub mod DerReading
+pub mod DerViews
+pub mod DerWriting
 pub mod Digits
 pub mod Lists
 pub mod Memory

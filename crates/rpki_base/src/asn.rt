@@ -3,6 +3,8 @@ ghost use Rattle.std.specs.Prelude.{◌≡◌, ◌+◌, ◌^◌, ◌<◌, codes,
 ghost use Rattle.rpki_base.specs.AsnText.{IsAfterAs, ReadsAsn, asn_text};
 ghost use Rattle.rpki_base.specs.Digits.{octets_of};
 
+mod der;
+
 use crate::number::parse_up_to;
 use std::error::Error;
 use std::fmt;

@@ -1,8 +1,10 @@
-//! What every layer above shares: number texts, addresses, AS numbers, lists of texts, and the answer of a call that may want memory.
+//! What every layer above shares: number texts, addresses, AS numbers, lists of texts, sequences in DER, and the answer of
+//! a call that may want memory.
 #![tactic(auto)]
 
 pub mod addr;
 pub mod asn;
+pub mod der;
 pub mod laws;
 pub mod list;
 pub mod memory;

@@ -1,4 +1,5 @@
 //! The refusal of a call that also takes memory.
+use rpki_der::DerError;
 use std::alloc::{AllocError, AllocFailed};
 
 /// Why a call that takes memory answered no value.
@@ -27,5 +28,16 @@ impl<E, T: Drop> From<AllocFailed<T>> for OrMemory<E> {
 
     fn from(failed: AllocFailed<T>) -> OrMemory<E> {
         OrMemory::Memory(AllocError::from(failed))
+    }
+}
+
+impl From<DerError> for OrMemory<DerError> {
+    ghost use Rattle.std.specs.Prelude.{◌≡◌};
+    ghost use Rattle.rpki_base.specs.declared.memory.OrMemory.TheVariants.{Refused};
+
+    ghost from_gives = { λ fault error. error ≡ Refused fault };
+
+    fn from(fault: DerError) -> OrMemory<DerError> {
+        OrMemory::Refused(fault)
     }
 }

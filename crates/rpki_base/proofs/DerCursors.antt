@@ -1,0 +1,83 @@
+-- From the reading to the grammar, for calls that take memory, or that look at the tag first.
+use Rattle.std.proofs.Common.{◌≡◌, ℕ, Bool, true, false, cond, List, Option, Some, None, Result, Ok, Err, refl, ap, sym, ◌∙◌, option_map}
+use Rattle.rpki_der.specs.declared.cursor.Cursor.{Cursor}
+use Rattle.rpki_der.specs.declared.error.DerError.{DerError}
+use Rattle.rpki_der.specs.Der.{IsBytes}
+use Rattle.rpki_der.specs.Reading.{◌>>=◌, IsReading, optional}
+use Rattle.rpki_der.specs.Views.{ReadsOptional, Takes, left}
+use Rattle.rpki_der.proofs.Cursors.{none_by, reads_optional_by}
+use Rattle.rpki_der.proofs.Steps.{ok_is}
+use Rattle.rpki_base.specs.declared.memory.OrMemory.{OrMemory}
+use Rattle.rpki_base.specs.declared.memory.OrMemory.TheVariants.{Refused, Memory}
+use Rattle.rpki_base.specs.DerReading.{begins_with, if_tagged}
+use Rattle.rpki_base.specs.DerViews.{ReadsOrMemory, ReadsTagged, TakesOrMemory}
+
+-- a take that may want memory
+pub reads_or_memory_by : {X Y : Type 0} (G : List ℕ → Y → Type 0) (reading : List ℕ → Result (Y × List ℕ) DerError) (view : X → Y) (old new : Cursor) (result : Result X (OrMemory DerError))
+    → IsReading G reading → IsBytes (left old) → TakesOrMemory view old new result reading → ReadsOrMemory G view old new result
+reads_or_memory_by G reading view old new (Ok x) is fits took = is.takes (left old) (view x) (left new) fits took
+reads_or_memory_by G reading view old new (Err (Refused e)) is fits took = (none_by G reading (left old) e is took.0, took.1)
+reads_or_memory_by G reading view old new (Err (Memory e)) is fits took = (tt, took.1)
+
+-- a take that answers None at the end, of values as they are
+pub reads_optional_value_by : {X : Type 0} (G : List ℕ → X → Type 0) (reading : List ℕ → Result (X × List ℕ) DerError) (old new : Cursor) (result : Result (Option X) DerError)
+    → IsReading G reading → IsBytes (left old) → Takes (λ o. o) old new result (optional reading) → ReadsOptional G (λ x. x) old new result
+reads_optional_value_by {X} G reading old new result is fits took = reads_optional_by G reading (λ x. x) old new result is fits (mapped result took)
+  where
+    mapped : (result : Result (Option X) DerError) → Takes (λ o. o) old new result (optional reading) → Takes (λ o. option_map (λ x. x) o) old new result (optional reading)
+    mapped (Ok None) took = took
+    mapped (Ok (Some x)) took = took
+    mapped (Err e) took = took
+
+-- what a reading gives, as something that may not be there
+abbrev as_some : {X : Type 0} → X × List ℕ → Result (Option X × List ℕ) DerError
+as_some x = Ok (Some x.0, x.1)
+
+-- Some of two values
+some_is : {X : Type 0} (x y : X) → Some x ≡ Some y → x ≡ y
+some_is x y e = cc
+
+-- a fault is that of the reading
+some_err : {X : Type 0} (r : Result (X × List ℕ) DerError) (e : DerError) → (r >>= as_some) ≡ Err e → r ≡ Err e
+some_err (Ok x) e h = absurd cc
+some_err (Err d) e h = cc
+
+-- Some is of what the reading gives
+some_ok : {X : Type 0} (r : Result (X × List ℕ) DerError) (x : X) (rest : List ℕ) → (r >>= as_some) ≡ Ok (Some x, rest) → r ≡ Ok (x, rest)
+some_ok (Ok (y, t)) x rest e =
+    let both = ok_is (Some y, t) (Some x, rest) e in
+    let first : y ≡ x = some_is y x (ap (λ p. p.0) both) in
+    let second : t ≡ rest = ap (λ p. p.1) both in
+    ap (λ y. Ok (y, t)) first ∙ ap (λ (t : List ℕ). Ok (x, t)) second
+some_ok (Err d) x rest e = absurd cc
+
+-- and None is never
+none_ok : {X : Type 0} (r : Result (X × List ℕ) DerError) (rest : List ℕ) → (r >>= as_some) ≡ Ok (None, rest) → ⊥
+none_ok (Ok (y, t)) rest e = let h = ap (λ p. p.0) (ok_is (Some y, t) (None, rest) e) in cc
+none_ok (Err d) rest e = cc
+
+-- a take of a value that is there if its tag is
+pub reads_tagged_by : {X : Type 0} (tag : ℕ) (G : List ℕ → X → Type 0) (reading : List ℕ → Result (X × List ℕ) DerError) (old new : Cursor) (result : Result (Option X) DerError)
+    → IsReading G reading → IsBytes (left old) → Takes (λ o. o) old new result (if_tagged tag reading) → ReadsTagged tag G old new result
+unfolding if_tagged
+reads_tagged_by {X} tag G reading old new result is fits = decided result
+  where
+    read : Bool → Result (Option X × List ℕ) DerError
+    read b = cond b (reading (left old) >>= as_some) (Ok (None, left old))
+
+    none : (b : Bool) → begins_with tag (left old) ≡ b → read b ≡ Ok (None, left new) → ReadsTagged tag G old new (Ok None)
+    none true t took = absurd (none_ok (reading (left old)) (left new) took)
+    none false t took = (t, sym (ap (λ p. p.1) (ok_is (None, left old) (None, left new) took)))
+
+    some : (x : X) (b : Bool) → begins_with tag (left old) ≡ b → read b ≡ Ok (Some x, left new) → ReadsTagged tag G old new (Ok (Some x))
+    some x true t took = (t, is.takes (left old) x (left new) fits (some_ok (reading (left old)) x (left new) took))
+    some x false t took = let h = ap (λ p. p.0) (ok_is (None, left old) (Some x, left new) took) in absurd cc
+
+    fails : (e : DerError) (b : Bool) → begins_with tag (left old) ≡ b → read b ≡ Err e → new ≡ old → ReadsTagged tag G old new (Err e)
+    fails e true t took kept = (t, none_by G reading (left old) e is (some_err (reading (left old)) e took), kept)
+    fails e false t took kept = absurd cc
+
+    decided : (result : Result (Option X) DerError) → Takes (λ o. o) old new result (if_tagged tag reading) → ReadsTagged tag G old new result
+    decided (Ok None) took = none (begins_with tag (left old)) refl took
+    decided (Ok (Some x)) took = some x (begins_with tag (left old)) refl took
+    decided (Err e) took = fails e (begins_with tag (left old)) refl took.0 took.1

@@ -1,0 +1,79 @@
+-- What the readings of blocks and other values share: values of one of two tags, two values in a content, a value that
+-- is there if its tag is, values that are passed over, and a SEQUENCE of values (X.690, 8.9 and 8.10).
+use Rattle.std.specs.Prelude.{◌≡◌, ◌⊎◌, ℕ, Bool, false, List, [], ◌∷◌, length, Option, Some, None, Result, Ok, Err, ◌==◌, if◌then◌else◌}
+use Rattle.rpki_der.specs.declared.error.DerError.{DerError}
+use Rattle.rpki_der.specs.declared.error.DerError.TheVariants.{BadTag}
+use Rattle.rpki_der.specs.Der.{Tlv, Both, Each, EachFrom, IsSequence, Refines}
+use Rattle.rpki_der.specs.Reading.{◌>>=◌, each_from, ended, refined, tagged_at}
+
+-- ---- one of two tags
+
+-- a value of the tag that says x by One, or a SEQUENCE that says it by Two
+abbrev pub SaysByTag : {X : Type 0} → ℕ → (List ℕ → X → Type 0) → (List ℕ → X → Type 0) → Tlv → X → Type 0
+SaysByTag tag One Two v x = ((v.tag ≡ tag) × One v.content x) ⊎ ((v.tag ≡ 48) × Two v.content x)
+
+unfoldable pub by_tag : {X : Type 0} → ℕ → (List ℕ → Result X DerError) → (List ℕ → Result X DerError) → Tlv → Result X DerError
+by_tag tag one two v =
+    if v.tag == tag then one v.content else
+    if v.tag == 48 then two v.content else
+    Err BadTag
+
+-- ---- two values in a content
+
+-- the content is two values of G, and nothing else, which say y by C
+abbrev pub SaysPair : {X Y : Type 0} → (List ℕ → X → Type 0) → (X → X → Y → Type 0) → List ℕ → Y → Type 0
+SaysPair {X} G C content y = (first : X) × (second : X) × Both G G content first second × C first second y
+
+-- what two values say is looked at before the end of the content
+unfoldable pub pair_in : {X Y : Type 0} → (List ℕ → Result (X × List ℕ) DerError) → (X → X → Result Y DerError) → List ℕ → Result Y DerError
+pair_in reading check content = do
+  first ← reading content
+  second ← reading first.1
+  y ← check first.0 second.0
+  end ← ended second.1
+  Ok y
+
+-- ---- passed over
+
+-- a value of G, whatever it stands for
+abbrev pub Skips : {X : Type 0} → (List ℕ → X → Type 0) → List ℕ → Unit {0} → Type 0
+Skips G = Refines G (λ x u. Unit {0})
+
+abbrev pub skipping : {X : Type 0} → (List ℕ → Result (X × List ℕ) DerError) → List ℕ → Result (Unit {0} × List ℕ) DerError
+skipping reading = refined reading (λ x. Ok tt)
+
+-- ---- only if its tag is there
+
+-- whether the next octet is this one
+abbrev pub begins_with : ℕ → List ℕ → Bool
+begins_with octet [] = false
+begins_with octet (b ∷ bytes) = b == octet
+
+-- what reading finds where the next octet is the tag; elsewhere, and at the end, nothing, and no octet is taken
+unfoldable pub if_tagged : {X : Type 0} → ℕ → (List ℕ → Result (X × List ℕ) DerError) → List ℕ → Result (Option X × List ℕ) DerError
+if_tagged tag reading bytes =
+    if begins_with tag bytes then (reading bytes >>= λ x. Ok (Some x.0, x.1)) else Ok (None, bytes)
+
+-- ---- a SEQUENCE of values
+
+-- a SEQUENCE of values, each of the grammar of the state that the values before it led to, and nothing else
+abbrev pub IsSequenceFrom : {S X : Type 0} → (S → X → S) → (S → List ℕ → X → Type 0) → S → List ℕ → List X → Type 0
+IsSequenceFrom next G state = Refines IsSequence (EachFrom next G state)
+
+-- a SEQUENCE of values of G, and nothing else
+abbrev pub IsSequenceOf : {X : Type 0} → (List ℕ → X → Type 0) → List ℕ → List X → Type 0
+IsSequenceOf G = Refines IsSequence (Each G)
+
+-- all values of a content
+unfoldable pub values_from : {S X : Type 0} → (S → X → S) → (S → List ℕ → Result (X × List ℕ) DerError) → S → List ℕ → Result (List X) DerError
+values_from next reading state content = each_from next (length content) reading state content
+
+abbrev pub sequence_from : {S X : Type 0} → (S → X → S) → (S → List ℕ → Result (X × List ℕ) DerError) → S → List ℕ → Result (List X × List ℕ) DerError
+sequence_from next reading state = refined (tagged_at 48) (values_from next reading state)
+
+-- the same with nothing to remember
+abbrev pub values_of : {X : Type 0} → (List ℕ → Result (X × List ℕ) DerError) → List ℕ → Result (List X) DerError
+values_of reading = values_from (λ (state : Unit {0}) x. state) (λ state. reading) tt
+
+abbrev pub sequence_of : {X : Type 0} → (List ℕ → Result (X × List ℕ) DerError) → List ℕ → Result (List X × List ℕ) DerError
+sequence_of reading = refined (tagged_at 48) (values_of reading)

@@ -1,0 +1,108 @@
+//! AS numbers in DER: an INTEGER (RFC 3779, 3.2.3.10, ASId).
+use crate::asn::Asn;
+use rpki_der::{Content, Cursor, DerError, put_u32, tag, u32_len};
+use std::alloc::{AllocError, Allocator};
+
+impl Asn {
+    ghost use Rattle.std.specs.Prelude.{◌≡◌, ℕ, List, Ok, ◌≤◌, ◌<◌, ◌^◌, ◌+◌, ◌++◌, length, option_map, vec_len, OnOk, OnErr, IsOk};
+    ghost use Rattle.std.specs.Vec.{vec_capacity};
+    ghost use Rattle.rpki_der.specs.Der.{IsUnsigned};
+    ghost use Rattle.rpki_der.specs.Reading.{Gives, unsigned};
+    ghost use Rattle.rpki_der.specs.Views.{Parses, Reads, Takes, content_octets};
+    ghost use Rattle.rpki_base.specs.AsnDer.{IsAsNumber, SaysAsNumber, as_number_at, as_number_octets, skip_number};
+    ghost use Rattle.rpki_base.specs.DerReading.{Skips, if_tagged, skipping};
+    ghost use Rattle.rpki_base.specs.DerViews.{ReadsTagged};
+
+    /// Takes an AS number.
+    ///
+    /// The faults are those of [`Cursor::take_u32`].
+    pub fn take_from(cursor: &mut Cursor<'_>) -> Result<Asn, DerError>
+        ensures reads { Reads IsAsNumber (λ n. n) cursor.old cursor.new result }
+        ensures exact { Takes (λ n. n) cursor.old cursor.new result as_number_at }
+    {
+        let number = cursor.take_u32()?;
+        Ok(Asn(number))
+    }
+
+    /// Takes an AS number as `take_from` does where the next octet is the tag of an INTEGER; None where it isn't, and at
+    /// the end.
+    pub fn take_opt_from(cursor: &mut Cursor<'_>) -> Result<Option<Asn>, DerError>
+        ensures reads { ReadsTagged 2 IsAsNumber cursor.old cursor.new result }
+        ensures exact { Takes (λ n. n) cursor.old cursor.new result (if_tagged 2 as_number_at) }
+    {
+        Asn::next_opt(cursor)
+    }
+
+    /// Passes over an AS number, with the faults of `take_from`.
+    pub fn skip_in(cursor: &mut Cursor<'_>) -> Result<(), DerError>
+        ensures reads { Reads (Skips IsAsNumber) (λ u. u) cursor.old cursor.new result }
+        ensures exact { Takes (λ u. u) cursor.old cursor.new result (skipping as_number_at) }
+    {
+        Asn::pass_over(cursor)
+    }
+
+    /// The AS number that a content says, whatever the tag is, else `BadInteger`.
+    pub fn parse_content(content: &Content<'_>) -> Result<Asn, DerError>
+        ensures reads { Parses IsUnsigned (λ n. n) (content_octets content.now) result }
+        ensures exact { Gives (λ n. n) result (unsigned (content_octets content.now)) }
+    {
+        let number = content.to_u32()?;
+        Ok(Asn(number))
+    }
+
+    /// Looks whether a content says an AS number, whatever the tag is, else `BadInteger`.
+    pub fn skip_content(content: &Content<'_>) -> Result<(), DerError>
+        ensures reads { Parses SaysAsNumber (λ u. u) (content_octets content.now) result }
+        ensures exact { Gives (λ u. u) result (skip_number (content_octets content.now)) }
+    {
+        content.to_u32()?;
+        Ok(())
+    }
+
+    /// How many octets `encode` appends: at most 7.
+    pub fn encoded_len(&self) -> usize
+        ensures len { result ≡ length (as_number_octets self.now) }
+        ensures short { result ≤ 7 }
+    {
+        u32_len(self.0)
+    }
+
+    /// Appends the AS number. `AllocError` where there is no memory for it; then the octets stay as they were.
+    pub fn encode<A: Allocator>(&self, out: &mut Vec<u8, A>) -> Result<(), AllocError>
+        ensures ok { OnOk result (out.new.items ≡ out.old.items ++ as_number_octets self.now) }
+        ensures err { OnErr result (out.new.items ≡ out.old.items) }
+        ensures succeeds { vec_len out.old + length (as_number_octets self.now) ≤ vec_capacity out.old → IsOk result }
+        ensures capacity { vec_capacity out.old ≤ vec_capacity out.new }
+        // It is read back, whatever follows it.
+        ensures read_back { (rest : List ℕ) → as_number_at (as_number_octets self.now ++ rest) ≡ Ok (self.now, rest) }
+    {
+        let number = self.0;
+        put_u32(out, number)
+    }
+}
+
+// The readings behind the calls.
+impl Asn {
+    ghost use Rattle.std.specs.Prelude.{◌≡◌};
+    ghost use Rattle.rpki_der.specs.Views.{Takes};
+    ghost use Rattle.rpki_base.specs.AsnDer.{as_number_at};
+    ghost use Rattle.rpki_base.specs.DerReading.{if_tagged, skipping};
+
+    #[tactic(auto, unfolding(crate::specs::DerReading::if_tagged))]
+    fn next_opt(cursor: &mut Cursor<'_>) -> Result<Option<Asn>, DerError>
+        ensures exact { Takes (λ n. n) cursor.old cursor.new result (if_tagged 2 as_number_at) }
+    {
+        if cursor.peek_tag() != Some(tag::INTEGER) {
+            return Ok(None);
+        }
+        Ok(Some(Asn::take_from(cursor)?))
+    }
+
+    #[tactic(auto, unfolding(rpki_der::specs::Reading::refined))]
+    fn pass_over(cursor: &mut Cursor<'_>) -> Result<(), DerError>
+        ensures exact { Takes (λ u. u) cursor.old cursor.new result (skipping as_number_at) }
+    {
+        Asn::take_from(cursor)?;
+        Ok(())
+    }
+}

@@ -1,0 +1,104 @@
+//! Reading the values of a SEQUENCE.
+ghost use Rattle.std.specs.Prelude.{◌≡◌, ◌<◌, ℕ, List, Result, length, map};
+ghost use Rattle.rpki_der.specs.declared.error.DerError.{DerError as Fault};
+ghost use Rattle.rpki_der.specs.Reading.{IsReading, optional};
+ghost use Rattle.rpki_der.specs.Views.{Lenient, Takes, left};
+ghost use Rattle.rpki_base.specs.DerReading.{IsSequenceFrom, sequence_from, values_from};
+ghost use Rattle.rpki_base.specs.DerViews.{GivesOrMemory, ReadsOrMemory, TakesOrMemory};
+
+use crate::memory::OrMemory;
+use rpki_der::{Cursor, DerError};
+use std::alloc::Allocator;
+
+/// Reads values that stand one after another. What the next one may be can depend on a state, to which the values before
+/// it led.
+pub trait ReadNext {
+    /// What is read.
+    type Value: Drop;
+
+    /// What is remembered of the values before.
+    type State: Copy;
+
+    // The state before the first value.
+    ghost first: { Self → Self.State };
+
+    // The state after a value.
+    ghost after: { Self → Self.State → Self.Value → Self.State };
+
+    // The octets are a value, in this state.
+    ghost grammar: { Self → Self.State → List ℕ → Self.Value → Type 0 };
+
+    // The value at the front of octets and what follows it, or the first fault.
+    ghost reading: { Self → Self.State → List ℕ → Result (Self.Value × List ℕ) Fault };
+
+    /// The state before the first value.
+    fn first_state(&self) -> Self::State
+        ensures { result ≡ first self.now };
+
+    /// The state after a value.
+    fn state_after(&self, state: Self::State, value: &Self::Value) -> Self::State
+        ensures { result ≡ after self.now state value.now };
+
+    /// Takes the next value; None at the end, and there alone. The cursor stays where a value is refused.
+    fn take_next(
+        &self,
+        state: Self::State,
+        cursor: &mut Cursor<'_>,
+    ) -> Result<Option<Self::Value>, DerError>
+        ensures exact { Lenient cursor.old (Takes (λ value. value) cursor.old cursor.new result (optional (reading self.now state))) };
+
+    // The reading finds the values of the grammar, whatever follows them, and no others.
+    ghost is_reading: { (reader : Self) (state : Self.State) → IsReading (grammar reader state) (reading reader state) };
+
+    // A value has an octet at least.
+    ghost has_octets: { (reader : Self) (state : Self.State) (front : List ℕ) (value : Self.Value) → grammar reader state front value → 0 < length front };
+}
+
+/// All values of a content, to its end. `Refused` with the first fault, `Memory` where there is no memory for them.
+pub fn read_values<R: ReadNext, A: Allocator>(
+    alloc: A,
+    reader: &R,
+    content: Cursor<'_>,
+) -> Result<Vec<R::Value, A>, OrMemory<DerError>>
+    ensures exact { Lenient content.entry (GivesOrMemory (λ values. values.items) result
+        (values_from (R.after reader.now) (R.reading reader.now) (R.first reader.now) (left content.entry))) }
+{
+    let mut inside = content;
+    let mut values = Vec::new(alloc);
+    let mut state = reader.first_state();
+    while let Some(value) = reader.take_next(state, &mut inside)? {
+        state = reader.state_after(state, &value);
+        values.push(value)?;
+    }
+    Ok(values)
+}
+
+/// Takes a SEQUENCE of values, which may be none. `Refused` with the first fault, `Memory` where there is no memory for
+/// the values; the cursor then stays.
+pub fn take_sequence_of<R: ReadNext, A: Allocator>(
+    alloc: A,
+    reader: &R,
+    cursor: &mut Cursor<'_>,
+) -> Result<Vec<R::Value, A>, OrMemory<DerError>>
+    ensures reads { Lenient cursor.old (ReadsOrMemory (IsSequenceFrom (R.after reader.now) (R.grammar reader.now) (R.first reader.now))
+        (λ values. values.items) cursor.old cursor.new result) }
+    ensures exact { Lenient cursor.old (TakesOrMemory (λ values. values.items) cursor.old cursor.new result
+        (sequence_from (R.after reader.now) (R.reading reader.now) (R.first reader.now))) }
+{
+    next_sequence(alloc, reader, cursor)
+}
+
+#[tactic(auto, unfolding(rpki_der::specs::Reading::refined))]
+fn next_sequence<R: ReadNext, A: Allocator>(
+    alloc: A,
+    reader: &R,
+    cursor: &mut Cursor<'_>,
+) -> Result<Vec<R::Value, A>, OrMemory<DerError>>
+    ensures exact { TakesOrMemory (λ values. values.items) cursor.old cursor.new result
+        (sequence_from (R.after reader.now) (R.reading reader.now) (R.first reader.now)) }
+{
+    let mut ahead = *cursor;
+    let values = read_values(alloc, reader, ahead.take_sequence()?)?;
+    *cursor = ahead;
+    Ok(values)
+}

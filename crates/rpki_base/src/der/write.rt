@@ -1,0 +1,79 @@
+//! Writing values one after another, and in a SEQUENCE.
+ghost use Rattle.std.specs.Prelude.{◌≡◌, ◌≤◌, ◌+◌, ◌^◌, ◌++◌, ℕ, List, length, vec_len, OnOk, OnErr, IsOk, IfSome, IfNone};
+ghost use Rattle.std.specs.Vec.{vec_capacity};
+ghost use Rattle.rpki_base.specs.DerWriting.{octets_of_all, sequence_octets};
+
+use rpki_der::{header_len, put_header, tag};
+use std::alloc::{AllocError, Allocator};
+
+/// Values that are written in DER.
+pub trait Encode {
+    // What is written of a value.
+    ghost octets: { Self → List ℕ };
+
+    /// How many octets `encode` appends.
+    fn encoded_len(&self) -> usize
+        ensures len { result ≡ length (octets self.now) };
+
+    /// Appends the value. `AllocError` where there is no memory for it; then the octets stay as they were.
+    fn encode<A: Allocator>(&self, out: &mut Vec<u8, A>) -> Result<(), AllocError>
+        ensures ok { OnOk result (out.new.items ≡ out.old.items ++ octets self.now) }
+        ensures err { OnErr result (out.new.items ≡ out.old.items) }
+        ensures succeeds { vec_len out.old + length (octets self.now) ≤ vec_capacity out.old → IsOk result }
+        ensures capacity { vec_capacity out.old ≤ vec_capacity out.new };
+}
+
+/// How many octets the values have, one after another; None where no length can tell it.
+fn len_of_all<V: Encode>(values: &[V]) -> Option<usize>
+    ensures some { IfSome result (λ n. n ≡ length (octets_of_all V.octets values.now)) }
+    ensures none { IfNone result (2 ^ 64 ≤ length (octets_of_all V.octets values.now)) }
+{
+    let mut total: usize = 0;
+    for value in values {
+        total = total.checked_add(value.encoded_len())?;
+    }
+    Some(total)
+}
+
+/// Appends the values, one after another. `AllocError` where there is no memory for all of them, or where no length can
+/// tell how many octets they have; then the octets stay as they were.
+pub fn encode_all<V: Encode, A: Allocator>(
+    values: &[V],
+    out: &mut Vec<u8, A>,
+) -> Result<(), AllocError>
+    ensures ok { OnOk result (out.new.items ≡ out.old.items ++ octets_of_all V.octets values.now) }
+    ensures err { OnErr result (out.new.items ≡ out.old.items) }
+    ensures succeeds { vec_len out.old + length (octets_of_all V.octets values.now) ≤ vec_capacity out.old → IsOk result }
+    ensures capacity { vec_capacity out.old ≤ vec_capacity out.new }
+{
+    let Some(total) = len_of_all(values) else {
+        return Err(AllocError);
+    };
+    out.reserve(total)?;
+    for value in values {
+        value.encode(out)?;
+    }
+    Ok(())
+}
+
+/// Appends a SEQUENCE of the values. `AllocError` where there is no memory for all of it, or where no length can tell how
+/// many octets it has; then the octets stay as they were.
+pub fn encode_sequence<V: Encode, A: Allocator>(
+    values: &[V],
+    out: &mut Vec<u8, A>,
+) -> Result<(), AllocError>
+    ensures ok { OnOk result (out.new.items ≡ out.old.items ++ sequence_octets V.octets values.now) }
+    ensures err { OnErr result (out.new.items ≡ out.old.items) }
+    ensures succeeds { vec_len out.old + length (sequence_octets V.octets values.now) ≤ vec_capacity out.old → IsOk result }
+    ensures capacity { vec_capacity out.old ≤ vec_capacity out.new }
+{
+    let Some(content_len) = len_of_all(values) else {
+        return Err(AllocError);
+    };
+    let Some(total) = header_len(tag::SEQUENCE, content_len).checked_add(content_len) else {
+        return Err(AllocError);
+    };
+    out.reserve(total)?;
+    put_header(out, tag::SEQUENCE, content_len)?;
+    encode_all(values, out)
+}

@@ -1,6 +1,6 @@
 //! Texts of lists: read at their commas, and printed with them.
-ghost use Rattle.std.specs.Prelude.{◌≡◌, ℕ, List, map, Some, Result, Ok, Err, MatchResult};
-ghost use Rattle.std.specs.Fmt.{WritesOnOk};
+ghost use Rattle.std.specs.Prelude.{◌≡◌, ℕ, List, map, Option, Some, Result, Ok, Err, MatchResult};
+ghost use Rattle.std.specs.Fmt.{WritesOnOk, DisplaysOnOk};
 ghost use Rattle.rpki_base.specs.Memory.{IfRefused};
 ghost use Rattle.rpki_base.specs.Lists.{elements, joined, HaveValues, HasFirstFault};
 
@@ -89,7 +89,60 @@ pub fn read_list<T: FromStr + Drop, A: Allocator + Drop>(
     read_elements(alloc, &reader, text)
 }
 
+/// Prints the elements of a list.
+pub trait FmtElement {
+    /// What is printed.
+    type Item;
+
+    // The text of an item, if it is known.
+    ghost text: { Self → Self.Item → Option (List ℕ) };
+
+    /// Writes the text of an item.
+    fn fmt_element<W: fmt::Write>(
+        &self,
+        item: &Self::Item,
+        f: &mut fmt::Formatter<W>,
+    ) -> fmt::Result
+        ensures writes { DisplaysOnOk W.write_str_gives f.old result (text self.now item.now) f.new };
+}
+
 /// Prints items joined by a comma and a space, and nothing where there are none.
+pub fn fmt_elements<P: FmtElement, W: fmt::Write>(
+    printer: &P,
+    items: &[P::Item],
+    f: &mut fmt::Formatter<W>,
+) -> fmt::Result
+    // Whatever text the printer writes of each item, these texts are joined.
+    ensures { (show : P.Item → List ℕ) → ((item : P.Item) → P.text printer.now item ≡ Some (show item))
+        → WritesOnOk W.write_str_gives f.old result (joined (map show items.now)) f.new }
+{
+    if let [first, rest @ ..] = items {
+        printer.fmt_element(first, f)?;
+        for item in rest {
+            f.write_str(", ")?;
+            printer.fmt_element(item, f)?;
+        }
+    }
+    Ok(())
+}
+
+/// Prints elements by their type's own `Display`.
+#[derive(Drop)]
+struct ByDisplay<T> {
+    item: PhantomData<T>,
+}
+
+impl<T: fmt::Display> FmtElement for ByDisplay<T> {
+    type Item = T;
+
+    ghost text = { λ _ item. T.output item };
+
+    fn fmt_element<W: fmt::Write>(&self, item: &T, f: &mut fmt::Formatter<W>) -> fmt::Result {
+        item.fmt(f)
+    }
+}
+
+/// Prints items, each by its type's own `Display`, as [`fmt_elements`] does.
 pub fn fmt_joined<T: fmt::Display, W: fmt::Write>(
     items: &[T],
     f: &mut fmt::Formatter<W>,
@@ -98,11 +151,6 @@ pub fn fmt_joined<T: fmt::Display, W: fmt::Write>(
     ensures { (show : T → List ℕ) → ((item : T) → T.output item ≡ Some (show item))
         → WritesOnOk W.write_str_gives f.old result (joined (map show items.now)) f.new }
 {
-    if let [first, rest @ ..] = items {
-        write!(f, "{first}")?;
-        for item in rest {
-            write!(f, ", {item}")?;
-        }
-    }
-    Ok(())
+    let printer = ByDisplay { item: PhantomData };
+    fmt_elements(&printer, items, f)
 }

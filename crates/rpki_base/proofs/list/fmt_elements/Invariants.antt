@@ -2,9 +2,9 @@
 use Rattle.std.proofs.Common.{◌≡◌, ℕ, List, Some, ◌++◌, take, codes}
 use Rattle.std.specs.List.{flat_map}
 use Rattle.std.specs.Fmt.{HasWritten, IsPlainFormatter}
-use Rattle.rpki_base.proofs.list.fmt_joined.Given as goal
+use Rattle.rpki_base.proofs.list.fmt_elements.Given as goal
 
 -- what has been written of the rest
 abbrev pub invariant-loop-item : goal.invariant-loop-item
 invariant-loop-item g l =
-    (show : g.row.T.Denot → List ℕ) → ((item : g.row.T.Denot) → g.T.Display.output item ≡ Some (show item)) → IsPlainFormatter l.initial.f → HasWritten g.W.Write.write_str_gives l.initial.f (flat_map (λ b. codes ", " ++ show b) (take l.item-index l.rest)) l.f
+    (show : _ → List ℕ) → ((item : _) → g.P.FmtElement.text l.printer item ≡ Some (show item)) → IsPlainFormatter l.initial.f → HasWritten g.W.Write.write_str_gives l.initial.f (flat_map (λ b. codes ", " ++ show b) (take l.item-index l.rest)) l.f

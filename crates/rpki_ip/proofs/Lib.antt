@@ -1,4 +1,9 @@
 pub mod AddrTextLemmas
+pub mod DerReadings
+pub mod DerWritten
+pub mod Multiples
+pub mod PrefixBits
 pub mod RangeLemmas
+pub mod Shortest
 pub mod TextLemmas
 pub mod WholeLemmas

@@ -1,0 +1,147 @@
+-- The readings find the families and prefixes of the grammars, whatever follows them, and no others.
+use Rattle.std.proofs.Common.{◌≡◌, ℕ, ◌+◌, ◌-◌, ◌*◌, ◌/◌, ◌^◌, ◌<◌, ◌≤◌, ◌||◌, ◌&&◌, Bool, true, false, cond, eqb, ltb, List, [], ◌∷◌, length, get_or, Result, Ok, Err, refl, sym, ap, subst, ◌∙◌, arith, inl, inr}
+use Rattle.std.specs.Prelude.{IsErrAnd, MatchResult}
+use Rattle.std.proofs.lemmas.Bool.{ltb-false, le-ltb, eqb-true, cases_lt}
+use Rattle.rpki_base.specs.Prefixes.{PrefixValue}
+use Rattle.rpki_der.specs.declared.error.DerError.{DerError}
+use Rattle.rpki_der.specs.declared.error.DerError.TheVariants.{BadPrefix, BadFamily}
+use Rattle.rpki_der.specs.Der.{Bits, IsBits, IsBitContent, bit_content, bit_count, big_endian, IsValue, Refines}
+use Rattle.rpki_der.specs.Reading.{Gives, bits, tagged_at, IsReading}
+use Rattle.rpki_der.proofs.Steps.{IsCheck, bind_ok, passed, ok_is, neither, both_false}
+use Rattle.rpki_der.proofs.Contents.{bits_check}
+use Rattle.rpki_der.proofs.Readings.{IsTagged, refined_reading, same_reading, tagged_reading}
+use Rattle.rpki_ip.specs.declared.family.AddressFamily.{AddressFamily}
+use Rattle.rpki_ip.specs.declared.family.AddressFamily.TheVariants.{Ipv4, Ipv6}
+use Rattle.rpki_ip.specs.FamilyDer.{SaysFamily, IsFamilyDer, family_octets, family_of, family_at}
+use Rattle.rpki_ip.specs.PrefixDer.{SaysPrefix, IsPrefixContent, IsPrefixDer, prefix_of, prefix_in, prefix_at}
+
+-- ---- a fault under another name
+
+-- no result is both Ok and Err
+ok_or_err : {A : Type 0} (x : A) (e : DerError) (r : Result A DerError) → r ≡ Ok x → r ≡ Err e → ⊥
+ok_or_err x e r p q = cc
+
+-- a reading whose fault gets another name still answers what the rule says
+pub renamed : {X Y E : Type 0} (Fits : X → Type 0) (C : X → Y → Type 0) (check : X → Result Y DerError) (x : X) (read : Result Y DerError) (named : Result Y E) (P : DerError → E → Type 0)
+    → IsCheck Fits C check → Fits x → Gives (λ y. y) read (check x) → MatchResult read (λ y. named ≡ Ok y) (λ e. IsErrAnd named (P e)) → MatchResult named (C x) (λ _. (y : Y) → C x y → ⊥)
+renamed Fits C check x (Ok y) named P is fits gives same = subst (λ r. MatchResult r (C x) (λ _. (z : _) → C x z → ⊥)) (sym same) (is.takes x y fits gives)
+renamed Fits C check x (Err e) (Ok y) P is fits gives same = absurd same
+renamed Fits C check x (Err e) (Err d) P is fits gives same = λ y c. ok_or_err y e (check x) (is.again x y c) gives
+
+-- ---- families
+
+-- both of two tests pass
+both_true : (a b : Bool) → (a && b) ≡ true → (a ≡ true) × (b ≡ true)
+both_true true b e = (refl, e)
+both_true false b e = absurd cc
+
+-- two octets by their places
+two : (content : List ℕ) (a b : ℕ) → length content ≡ 2 → get_or content 0 0 ≡ a → get_or content 1 0 ≡ b → content ≡ a ∷ b ∷ []
+two [] a b n x y = absurd (omega arith)
+two (c ∷ []) a b n x y = absurd (omega arith)
+two (c ∷ d ∷ []) a b n x y = ap (λ t. t ∷ d ∷ []) x ∙ ap (λ t. a ∷ t ∷ []) y
+two (c ∷ d ∷ e ∷ rest) a b n x y = absurd (omega arith)
+
+-- the octets of a family whose test passes
+are_two : (content : List ℕ) (b : ℕ) → ((eqb (length content) 2) && (eqb (get_or content 0 0) 0) && (eqb (get_or content 1 0) b)) ≡ true → content ≡ 0 ∷ b ∷ []
+are_two content b e =
+    let x = both_true ((eqb (length content) 2) && (eqb (get_or content 0 0) 0)) (eqb (get_or content 1 0) b) e in
+    let y = both_true (eqb (length content) 2) (eqb (get_or content 0 0) 0) x.0 in
+    two content 0 b (eqb-true (length content) 2 y.0) (eqb-true (get_or content 0 0) 0 y.1) (eqb-true (get_or content 1 0) b x.1)
+
+-- a family by its tests
+family_by : (content : List ℕ) (f : AddressFamily) (one other : Bool)
+    → ((eqb (length content) 2) && (eqb (get_or content 0 0) 0) && (eqb (get_or content 1 0) 1)) ≡ one
+    → ((eqb (length content) 2) && (eqb (get_or content 0 0) 0) && (eqb (get_or content 1 0) 2)) ≡ other
+    → cond one (Ok Ipv4) (cond other (Ok Ipv6) (Err BadFamily)) ≡ Ok f → SaysFamily content f
+family_by content f true other t s e = subst (SaysFamily content) (ok_is Ipv4 f e) (are_two content 1 t)
+family_by content f false true t s e = subst (SaysFamily content) (ok_is Ipv6 f e) (are_two content 2 s)
+family_by content f false false t s e = absurd cc
+
+-- a family that is read is said
+family_says : (content : List ℕ) (f : AddressFamily) → family_of content ≡ Ok f → SaysFamily content f
+unfolding family_of
+family_says content f e = family_by content f _ _ refl refl e
+
+-- the octets of a family are read
+family_back : (f : AddressFamily) → family_of (family_octets f) ≡ Ok f
+unfolding family_of
+family_back Ipv4 = refl
+family_back Ipv6 = refl
+
+-- the two together
+pub family_check : IsCheck (λ _. Unit {0}) SaysFamily family_of
+family_check = record { takes = λ content f fits e. family_says content f e; again = λ content f s. ap family_of s ∙ family_back f }
+
+-- an OCTET STRING of a family
+pub family_reading : IsReading IsFamilyDer family_at
+family_reading =
+    same_reading (Refines (IsTagged 4) SaysFamily) IsFamilyDer family_at (λ bytes f fits is. subst (IsTagged 4 bytes) is.2 is.1) (λ bytes f is. (family_octets f, is, refl))
+    (refined_reading (IsTagged 4) SaysFamily (λ _. Unit {0}) (tagged_at 4) family_of (tagged_reading 4) (λ front content is fits. tt) family_check)
+
+-- ---- prefixes
+
+-- no more bits are unused than there are
+counted : (b : Bits) → IsBits b → b.unused ≤ 8 * length b.octets
+counted b is =
+    elim (cases_lt 0 (length b.octets)) [
+      | inl some ↦ omega (arith, is.below, some)
+      | inr none ↦ let z : b.unused ≡ 0 = is.empty (omega arith) in omega (arith, z)
+    ]
+
+-- a prefix that is read is said by the bits
+pub prefix_says : (limit : ℕ) (b : Bits) (p : PrefixValue) → IsBits b → prefix_of limit b ≡ Ok p → SaysPrefix limit b p
+unfolding prefix_of
+prefix_says limit b p is e =
+    let made : PrefixValue = record { first = big_endian b.octets / 2 ^ b.unused * 2 ^ (128 - bit_count b); len = bit_count b } in
+    let g = passed (ltb 16 (length b.octets) || ltb limit (bit_count b)) BadPrefix (Ok made) p e in
+    let n = neither (ltb 16 (length b.octets)) (ltb limit (bit_count b)) g.0 in
+    subst (SaysPrefix limit b) (ok_is made p g.1) (record {
+      few = ltb-false 16 (length b.octets) n.0;
+      len = omega (arith, counted b is);
+      short = ltb-false limit (bit_count b) n.1;
+      first = refl;
+    })
+
+-- a prefix that bits say is read
+pub prefix_again : (limit : ℕ) (b : Bits) (p : PrefixValue) → SaysPrefix limit b p → prefix_of limit b ≡ Ok p
+unfolding prefix_of
+prefix_again limit b p s =
+    let u : bit_count b ≡ p.len = omega (arith, s.len) in
+    let t : (ltb 16 (length b.octets) || ltb limit p.len) ≡ false = both_false _ _ (le-ltb 16 (length b.octets) s.few) (le-ltb limit p.len s.short) in
+    rw (u, t, ← s.first) refl
+
+-- the two together
+pub bits_prefix_check : (limit : ℕ) → IsCheck IsBits (SaysPrefix limit) (prefix_of limit)
+bits_prefix_check limit = record { takes = prefix_says limit; again = prefix_again limit }
+
+-- a content that is read as a prefix says it
+prefix_in_says : (limit : ℕ) (content : List ℕ) (p : PrefixValue) → prefix_in limit content ≡ Ok p → IsPrefixContent limit content p
+unfolding prefix_in
+prefix_in_says limit content p e =
+    let x = bind_ok (bits content) (prefix_of limit) p e in
+    let is = bits_check.takes content x.0 tt x.1 in
+    (x.0, is, prefix_says limit x.0 p is.counted x.2)
+
+-- a content that says a prefix is read as it
+prefix_in_again : (limit : ℕ) (content : List ℕ) (p : PrefixValue) → IsPrefixContent limit content p → prefix_in limit content ≡ Ok p
+unfolding prefix_in
+prefix_in_again limit content p is = rw (bits_check.again content is.0 is.1) (prefix_again limit is.0 p is.2)
+
+-- the two together
+pub prefix_check : (limit : ℕ) → IsCheck (λ _. Unit {0}) (IsPrefixContent limit) (prefix_in limit)
+prefix_check limit = record { takes = λ content p fits e. prefix_in_says limit content p e; again = prefix_in_again limit }
+
+-- the BIT STRING of a prefix, by its content and as a bit string
+prefix_to : (limit : ℕ) (bytes : List ℕ) (p : PrefixValue) → Refines (IsTagged 3) (IsPrefixContent limit) bytes p → IsPrefixDer limit bytes p
+prefix_to limit bytes p (content, is, (b, says, prefix)) = (b, (says.counted, subst (IsTagged 3 bytes) says.spelled is), prefix)
+
+-- and the other way round
+prefix_from : (limit : ℕ) (bytes : List ℕ) (p : PrefixValue) → IsPrefixDer limit bytes p → Refines (IsTagged 3) (IsPrefixContent limit) bytes p
+prefix_from limit bytes p (b, (counted, is), prefix) = (bit_content b, is, (b, record { counted = counted; spelled = refl }, prefix))
+
+-- a BIT STRING of a prefix
+pub prefix_reading : (limit : ℕ) → IsReading (IsPrefixDer limit) (prefix_at limit)
+prefix_reading limit =
+    same_reading (Refines (IsTagged 3) (IsPrefixContent limit)) (IsPrefixDer limit) (prefix_at limit) (λ bytes p fits is. prefix_to limit bytes p is) (prefix_from limit)
+    (refined_reading (IsTagged 3) (IsPrefixContent limit) (λ _. Unit {0}) (tagged_at 3) (prefix_in limit) (tagged_reading 3) (λ front content is fits. tt) (prefix_check limit))

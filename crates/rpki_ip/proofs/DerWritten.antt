@@ -1,0 +1,83 @@
+-- What is written is in the grammars, and how long it is.
+use Rattle.std.proofs.Common.{◌≡◌, ℕ, ◌+◌, ◌-◌, ◌*◌, ◌%◌, ◌^◌, ◌<◌, ◌≤◌, true, ltb, List, ◌∷◌, ◌++◌, length, refl, sym, ap, ◌∙◌, append_assoc, arith}
+use Rattle.std.proofs.lemmas.Bool.{lt-ltb}
+use Rattle.std.proofs.lemmas.Nat.{pow_pos}
+use Rattle.std.proofs.lemmas.List.{length-append}
+use Rattle.rpki_base.specs.Prefixes.{PrefixValue, IsPrefix}
+use Rattle.rpki_der.specs.Der.{Bits, header, length_octets, bit_string_value}
+use Rattle.rpki_der.proofs.Written.{value_is}
+use Rattle.rpki_ip.specs.declared.family.AddressFamily.{AddressFamily}
+use Rattle.rpki_ip.specs.declared.family.AddressFamily.TheVariants.{Ipv4, Ipv6}
+use Rattle.rpki_ip.specs.FamilyDer.{IsFamilyDer, family_der, family_octets}
+use Rattle.rpki_ip.specs.PrefixDer.{IsPrefixDer, prefix_bits, prefix_der}
+use Rattle.rpki_ip.specs.RangeDer.{IsRangeDer, IsRangeWithin, IsShortestFrom, IsShortestTo, range_content, range_der, without_end_ones, without_end_zeros}
+use Rattle.rpki_ip.specs.Ranges.{RangeValue}
+use Rattle.rpki_ip.proofs.Multiples.{IsMultiple, multiple_diff, multiple_least, multiple_mod, multiple_self, mod_multiple}
+use Rattle.rpki_ip.proofs.PrefixBits.{bits_few, bits_fit, bits_say}
+use Rattle.rpki_ip.proofs.Shortest.{shortest_from_is, shortest_to_is}
+
+-- ---- lengths
+
+-- the BIT STRING of at most sixteen octets
+length_bit_string : (unused : ℕ) (octets : List ℕ) → length octets ≤ 16 → length (bit_string_value (record { unused = unused; octets = octets })) < 20
+unfolding header length_octets
+length_bit_string unused octets few =
+    let small : ltb (length (unused ∷ octets)) 128 ≡ true = lt-ltb (length (unused ∷ octets)) 128 (omega arith) in
+    rw small (omega arith)
+
+-- of a prefix
+pub length_prefix : (p : PrefixValue) → IsPrefix 128 p → length (prefix_der p) < 20
+length_prefix p is = length_bit_string _ _ (bits_few p is)
+
+-- what was appended in three parts
+pub joined : (old first front back first' front' back' a b c d : List ℕ) → a ≡ old → b ≡ a ++ first → c ≡ b ++ front → d ≡ c ++ back → first ≡ first' → front ≡ front' → back ≡ back'
+    → d ≡ old ++ (first' ++ (front' ++ back'))
+joined old first front back first' front' back' a b c d ea eb ec ed e1 e2 e3 =
+    ed ∙ ap (λ t. t ++ back) (ec ∙ ap (λ t. t ++ front) (eb ∙ ap (λ t. t ++ first) ea)) ∙ append_assoc (old ++ first) front back ∙ append_assoc old first (front ++ back)
+    ∙ ap (λ t. old ++ (t ++ (front ++ back))) e1 ∙ ap (λ t. old ++ (first' ++ (t ++ back))) e2 ∙ ap (λ t. old ++ (first' ++ (front' ++ t))) e3
+
+-- ---- values
+
+-- the OCTET STRING of a family
+pub family_written : (family : AddressFamily) → IsFamilyDer (family_der family) family
+family_written Ipv4 = value_is 4 _ (omega arith) (omega arith)
+family_written Ipv6 = value_is 4 _ (omega arith) (omega arith)
+
+-- the BIT STRING of a prefix
+pub prefix_written : (limit : ℕ) (p : PrefixValue) → IsPrefix 128 p → p.len ≤ limit → IsPrefixDer limit (prefix_der p) p
+prefix_written limit p is short = (prefix_bits p, (bits_fit p is, value_is 3 _ (omega arith) (omega (arith, bits_few p is))), bits_say limit p is short)
+
+-- a least address of limit bits is written with at most limit bits
+from_short : (limit a : ℕ) → limit ≤ 128 → a < 2 ^ 128 → a % 2 ^ (128 - limit) ≡ 0 → (without_end_zeros a).len ≤ limit
+from_short limit a le lt z = (shortest_from_is a lt).shortest (record { first = a; len = limit }) (record { short = le; aligned = z; below = lt }) refl
+
+-- and so is a greatest address of limit bits
+to_short : (limit a : ℕ) → limit ≤ 128 → a < 2 ^ 128 → (a + 1) % 2 ^ (128 - limit) ≡ 0 → (without_end_ones a).len ≤ limit
+to_short limit a le lt z =
+    let pos : 0 < 2 ^ (128 - limit) = pow_pos (128 - limit) in
+    let m : IsMultiple (2 ^ (128 - limit)) (a + 1) = mod_multiple (128 - limit) (a + 1) z in
+    let enough : 2 ^ (128 - limit) ≤ a + 1 = multiple_least (2 ^ (128 - limit)) a m in
+    (shortest_to_is a lt).shortest (record { first = a + 1 - 2 ^ (128 - limit); len = limit })
+    (record { short = le; aligned = multiple_mod (2 ^ (128 - limit)) (a + 1 - 2 ^ (128 - limit)) pos (multiple_diff (2 ^ (128 - limit)) (2 ^ (128 - limit)) (a + 1) (multiple_self _) m); below = omega arith })
+    (omega arith)
+
+-- the SEQUENCE of a range
+pub range_written : (limit : ℕ) (r : RangeValue) → limit ≤ 128 → IsRangeWithin limit r → IsRangeDer limit (range_der r) r
+range_written limit r le is =
+    let low : r.min < 2 ^ 128 = omega (arith, is.is_range.ordered, is.is_range.below) in
+    let p = shortest_from_is r.min low in
+    let q = shortest_to_is r.max is.is_range.below in
+    let first = prefix_der (without_end_zeros r.min) in
+    let second = prefix_der (without_end_ones r.max) in
+    let a : length first < 20 = length_prefix (without_end_zeros r.min) p.is_prefix in
+    let b : length second < 20 = length_prefix (without_end_ones r.max) q.is_prefix in
+    let short : length (first ++ second) < 2 ^ 64 = omega (arith, length-append first second) in (
+      range_content r,
+      value_is 48 _ (omega arith) short,
+      (
+        without_end_zeros r.min,
+        without_end_ones r.max,
+        (second, (first, prefix_written limit (without_end_zeros r.min) p.is_prefix (from_short limit r.min le low is.zeros), refl), prefix_written limit (without_end_ones r.max) q.is_prefix (to_short limit r.max le is.is_range.below is.ones)),
+        record { begins = refl; ends = sym q.ends; ordered = is.is_range.ordered },
+      ),
+    )

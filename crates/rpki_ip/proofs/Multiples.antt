@@ -1,0 +1,103 @@
+-- Multiples, and the greatest power of 2 of which a number is one.
+use Rattle.std.proofs.Common.{◌≡◌, ℕ, suc, zero, ◌+◌, ◌-◌, ◌*◌, ◌/◌, ◌%◌, ◌^◌, ◌<◌, ◌≤◌, ◌∙◌, ap, sym, refl, arith, inl, inr}
+use Rattle.std.proofs.lemmas.Bool.{cases_lt}
+use Rattle.std.proofs.lemmas.Nat.{pow-add, shr_split, div-add-mod', mod-mul-add, div-mul-add}
+use Rattle.std.proofs.Math.Nat.{mul-le-mul_right, mul-sub, two-pow-succ}
+use Rattle.std.specs.Int.Count.{count_trailing_zeros}
+use lib.Count.{under}
+
+-- a is a multiple of s
+pub record IsMultiple (s a : ℕ) : Type 0 where
+  pub times : ℕ
+  pub is : a ≡ times * s
+
+-- s is one of itself
+pub multiple_self : (s : ℕ) → IsMultiple s s
+multiple_self s = record { times = 1; is = omega arith }
+
+-- the sum of two
+pub multiple_sum : (s a b : ℕ) → IsMultiple s a → IsMultiple s b → IsMultiple s (a + b)
+multiple_sum s a b m n = record {
+  times = m.times + n.times;
+  is = (let e : a ≡ m.times * s = m.is in let f : b ≡ n.times * s = n.is in omega arith);
+}
+
+-- the difference of two
+pub multiple_diff : (s a b : ℕ) → IsMultiple s a → IsMultiple s b → IsMultiple s (b - a)
+multiple_diff s a b m n = record {
+  times = n.times - m.times;
+  is =
+      (let e : a ≡ m.times * s = m.is in
+      let f : b ≡ n.times * s = n.is in
+      let g : s * (n.times - m.times) ≡ s * n.times - s * m.times = mul-sub s n.times m.times in rw (e, f) (omega (arith, g)));
+}
+
+-- one that isn't 0 is at least s
+pub multiple_least : (s a : ℕ) → IsMultiple s (a + 1) → s ≤ a + 1
+multiple_least s a m =
+    elim (cases_lt 0 m.times) [
+      | inl some ↦ (let k : 1 * s ≤ m.times * s = mul-le-mul_right s some in let e : a + 1 ≡ m.times * s = m.is in omega (arith, k, e))
+      | inr none ↦ absurd (let z : m.times ≡ 0 = omega (arith, none) in let e : a + 1 ≡ m.times * s = m.is in let f : a + 1 ≡ 0 * s = rw z at e in omega (arith, f))
+    ]
+
+-- a multiple of a power of 2 is one of each smaller power
+pub multiple_smaller : (j k a : ℕ) → j ≤ k → IsMultiple (2 ^ k) a → IsMultiple (2 ^ j) a
+multiple_smaller j k a h m = record {
+  times = m.times * 2 ^ (k - j);
+  is =
+      (let split : k ≡ (k - j) + j = omega (arith, h) in
+      let e : 2 ^ k ≡ 2 ^ (k - j) * 2 ^ j = ap (λ i. 2 ^ i) split ∙ pow-add 2 (k - j) j in
+      let f : a ≡ m.times * 2 ^ k = m.is in rw (f, e) (omega arith));
+}
+
+-- nothing is left of one behind the division
+pub multiple_mod : (s a : ℕ) → 0 < s → IsMultiple s a → a % s ≡ 0
+multiple_mod s a pos m = let e : a ≡ m.times * s + 0 = m.is ∙ omega arith in ap (λ x. x % s) e ∙ mod-mul-add m.times s 0 pos
+
+-- where nothing is left, it is one
+pub mod_multiple : (j a : ℕ) → a % 2 ^ j ≡ 0 → IsMultiple (2 ^ j) a
+mod_multiple j a z = let e : a / 2 ^ j * 2 ^ j + a % 2 ^ j ≡ a = shr_split a j in record { times = a / 2 ^ j; is = omega (arith, e, z) }
+
+-- divided and multiplied again it is itself
+pub multiple_div : (s a : ℕ) → 0 < s → IsMultiple s a → a / s * s ≡ a
+multiple_div s a pos m = let e : a ≡ m.times * s + 0 = m.is ∙ omega arith in ap (λ x. x / s * s) e ∙ ap (λ x. x * s) (div-mul-add m.times s 0 pos) ∙ sym m.is
+
+-- ---- zeros at the end of a number
+
+-- one digit more
+under_divides : (n t d : ℕ) → n % 2 ≡ d → IsMultiple (2 ^ t) (n / 2) → IsMultiple (2 ^ under d t) n
+under_divides n t zero z m =
+    let e : n / 2 * 2 + n % 2 ≡ n = div-add-mod' n 2 in
+    let f : n / 2 ≡ m.times * 2 ^ t = m.is in
+    let d : 2 ^ suc t ≡ 2 ^ t + 2 ^ t = two-pow-succ t in
+    record { times = m.times; is = rw d (omega (arith, e, f, z)) }
+under_divides n t (suc d) z m = record { times = n; is = omega arith }
+
+-- a number is a multiple of the power of 2 that its zeros at the end are
+pub zeros_divide : (w n : ℕ) → IsMultiple (2 ^ count_trailing_zeros w n) n
+unfolding count_trailing_zeros
+zeros_divide zero n = record { times = n; is = omega arith }
+zeros_divide (suc w) n = under_divides n (count_trailing_zeros w (n / 2)) (n % 2) refl (zeros_divide w (n / 2))
+
+-- one digit more leaves it the greatest
+under_greatest : (n t d j : ℕ) → n % 2 ≡ d → ((i : ℕ) → suc i ≡ j → IsMultiple (2 ^ i) (n / 2) → i ≤ t) → IsMultiple (2 ^ j) n → j ≤ under d t
+under_greatest n t d zero z f m = omega arith
+under_greatest n t zero (suc i) z f m =
+    let d : 2 ^ suc i ≡ 2 ^ i + 2 ^ i = two-pow-succ i in
+    let g : n ≡ m.times * 2 ^ suc i = m.is in
+    let k : i ≤ t = f i refl (record {
+      times = m.times;
+      is = (let g' : n ≡ m.times * 2 ^ i * 2 + 0 = rw d at g ∙ omega arith in ap (λ x. x / 2) g' ∙ div-mul-add (m.times * 2 ^ i) 2 0 (omega arith));
+    }) in omega arith
+under_greatest n t (suc d) (suc i) z f m =
+    let q : 2 ^ suc i ≡ 2 ^ i + 2 ^ i = two-pow-succ i in
+    let g : n ≡ m.times * 2 ^ suc i = m.is in
+    let g' : n ≡ m.times * (2 ^ i + 2 ^ i) = rw q at g in
+    let g'' : n ≡ m.times * 2 ^ i * 2 + 0 = g' ∙ omega arith in
+    let r : n % 2 ≡ 0 = ap (λ x. x % 2) g'' ∙ mod-mul-add (m.times * 2 ^ i) 2 0 (omega arith) in absurd (omega arith)
+
+-- and of no greater power of 2 up to 2 ^ w
+pub zeros_greatest : (w n j : ℕ) → j ≤ w → IsMultiple (2 ^ j) n → j ≤ count_trailing_zeros w n
+unfolding count_trailing_zeros
+zeros_greatest zero n j h m = h
+zeros_greatest (suc w) n j h m = under_greatest n (count_trailing_zeros w (n / 2)) (n % 2) j refl (λ i e k. zeros_greatest w (n / 2) i (omega arith) k) m

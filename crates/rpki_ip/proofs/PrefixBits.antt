@@ -1,0 +1,142 @@
+-- The bits of a prefix, as octets and as a number.
+use Rattle.std.proofs.Common.{◌≡◌, ℕ, zero, suc, ◌+◌, ◌-◌, ◌*◌, ◌/◌, ◌%◌, ◌^◌, ◌<◌, ◌≤◌, List, [], ◌∷◌, length, get_or, take, refl, sym, ap, ◌∙◌, arith}
+use Rattle.std.specs.Int.{bytes_high_first, byte_at, to_be_bytes, w128}
+use Rattle.std.proofs.lemmas.Nat.{pow-add, pow_pos, mod_low, shl-shr, shr-shr, shr_split, shr_below, shl_below, div-add-mod'}
+use Rattle.std.proofs.lemmas.List.{length-take}
+use Rattle.std.proofs.Math.Nat.{div-div-eq-div-mul, pow-suc}
+use Rattle.rpki_base.specs.Prefixes.{PrefixValue, IsPrefix}
+use Rattle.rpki_der.specs.Der.{IsBytes, Bits, IsBits, big_endian, big_endian_after}
+use Rattle.rpki_der.proofs.Steps.{IsBytes-rest}
+use Rattle.rpki_ip.specs.PrefixDer.{SaysPrefix, prefix_bits, octet_count}
+
+-- ---- the number that octets spell
+
+-- one octet more, from any number on
+more_after : (n : ℕ) (xs : List ℕ) (i : ℕ) → i < length xs → big_endian_after n (take (suc i) xs) ≡ big_endian_after n (take i xs) * 256 + get_or xs i 0
+more_after n [] i lt = absurd (omega arith)
+more_after n (x ∷ xs) zero lt = refl
+more_after n (x ∷ xs) (suc i) lt = more_after (n * 256 + x) xs i (omega arith)
+
+-- one octet more
+pub big_endian_more : (xs : List ℕ) (i : ℕ) → i < length xs → big_endian (take (i + 1) xs) ≡ big_endian (take i xs) * 256 + get_or xs i 0
+big_endian_more xs i lt = let e : i + 1 ≡ suc i = omega arith in rw e (more_after 0 xs i lt)
+
+-- an octet is eight bits
+pub octet_more : (i : ℕ) → 2 ^ (8 * (i + 1)) ≡ 2 ^ (8 * i) * 256
+octet_more i = let e : 8 * (i + 1) ≡ 8 * i + 8 = omega arith in ap (λ k. 2 ^ k) e ∙ pow-add 2 (8 * i) 8
+
+-- the same for all octets
+octet_powers : (k : ℕ) → 256 ^ k ≡ 2 ^ (8 * k)
+octet_powers zero = refl
+octet_powers (suc k) =
+    let a : 256 ^ suc k ≡ 256 ^ k * 256 = pow-suc 256 k in
+    let b : 8 * suc k ≡ 8 * (k + 1) = omega arith in
+    let c : 2 ^ (8 * suc k) ≡ 2 ^ (8 * k) * 256 = ap (λ (j : ℕ). 2 ^ j) b ∙ octet_more k in
+    rw c (omega (arith, a, octet_powers k))
+
+-- octets behind a number of j bits
+below_after : (xs : List ℕ) (n j : ℕ) → IsBytes xs → n < 2 ^ j → big_endian_after n xs < 2 ^ (j + 8 * length xs)
+below_after [] n j fits lt = let e : j + 8 * length {A = ℕ} [] ≡ j = omega arith in rw e lt
+below_after (x ∷ xs) n j fits lt =
+    let e : j + 8 * suc (length xs) ≡ (j + 8) + 8 * length xs = omega arith in
+    let p : 2 ^ (j + 8) ≡ 2 ^ j * 256 = pow-add 2 j 8 in
+    rw e (below_after xs (n * 256 + x) (j + 8) (IsBytes-rest x xs fits) (rw p (omega (arith, lt, fits 0))))
+
+-- octets spell a number of their bits
+pub big_endian_below : (xs : List ℕ) → IsBytes xs → big_endian xs < 2 ^ (8 * length xs)
+big_endian_below xs fits = let z : 0 + 8 * length xs ≡ 8 * length xs = omega arith in rw z at (below_after xs 0 0 fits (omega arith))
+
+-- bits with zeros behind them, of which only those stay that are used
+pub used_bits : (n k u m : ℕ) → m ≡ k + u → n * 2 ^ k / 2 ^ m ≡ n / 2 ^ u
+used_bits n k u m e = ap (λ (j : ℕ). n * 2 ^ k / 2 ^ j) e ∙ sym (shr-shr (n * 2 ^ k) k u) ∙ ap (λ (t : ℕ). t / 2 ^ u) (shl-shr n k)
+
+-- ---- the first octets of a number
+
+-- an octet of a number
+byte_is : (k n : ℕ) → byte_at k n ≡ n / 256 ^ k % 256
+byte_is zero n = ap (λ (t : ℕ). t % 256) (sym (omega arith))
+byte_is (suc k) n = refl
+
+-- the octets before it, and it
+one_octet : (k a : ℕ) → a / 256 ^ suc k * 256 + byte_at k a ≡ a / 256 ^ k
+one_octet k a =
+    let c : 256 ^ suc k ≡ 256 ^ k * 256 = pow-suc 256 k in
+    let d : a / 256 ^ suc k ≡ a / 256 ^ k / 256 = ap (λ (t : ℕ). a / t) c ∙ sym (div-div-eq-div-mul a (256 ^ k) 256) in
+    rw (d, byte_is k a) (div-add-mod' (a / 256 ^ k) 256)
+
+-- the first n of the last k octets, behind the octets before them
+first_octets : (n k a : ℕ) → n ≤ k → big_endian_after (a / 256 ^ k) (take n (bytes_high_first k a)) ≡ a / 256 ^ (k - n)
+first_octets zero k a le = let e : k - 0 ≡ k = omega arith in rw e refl
+first_octets (suc n) zero a le = absurd (omega arith)
+first_octets (suc n) (suc k) a le =
+    let e : suc k - suc n ≡ k - n = omega arith in
+    rw (e, one_octet k a) (first_octets n k a (omega arith))
+
+-- how many octets there are
+length_octets_of : (k a : ℕ) → length (bytes_high_first k a) ≡ k
+length_octets_of zero a = refl
+length_octets_of (suc k) a = ap suc (length_octets_of k a)
+
+-- sixteen octets are enough
+none_above : (a : ℕ) → a < 2 ^ 128 → a / 256 ^ 16 ≡ 0
+none_above a lt = omega arith
+
+-- the first n octets of an address spell its first bits
+pub first_bits : (n a : ℕ) → n ≤ 16 → a < 2 ^ 128 → big_endian (take n (to_be_bytes w128 a)) ≡ a / 2 ^ (8 * (16 - n))
+first_bits n a le lt =
+    let z : a / 256 ^ 16 ≡ 0 = none_above a lt in
+    ap (λ (t : ℕ). big_endian_after t (take n (bytes_high_first 16 a))) (sym z) ∙ first_octets n 16 a le ∙ ap (λ (t : ℕ). a / t) (octet_powers (16 - n))
+
+-- these are n
+pub length_first : (n a : ℕ) → n ≤ 16 → length (take n (to_be_bytes w128 a)) ≡ n
+length_first n a le = omega (arith, length-take n (to_be_bytes w128 a), length_octets_of 16 a)
+
+-- ---- the bits of a prefix
+
+-- they are a bit string
+pub bits_fit : (p : PrefixValue) → IsPrefix 128 p → IsBits (prefix_bits p)
+bits_fit p is =
+    let count : octet_count p.len ≤ 16 = omega (arith, is.short) in
+    let n : length (take (octet_count p.len) (to_be_bytes w128 p.first)) ≡ octet_count p.len = length_first (octet_count p.len) p.first count in
+    record { below = omega arith; empty = λ z. omega (arith, n, z) }
+
+-- of sixteen octets at most
+pub bits_few : (p : PrefixValue) → IsPrefix 128 p → length (prefix_bits p).octets ≤ 16
+bits_few p is = omega (arith, is.short, length_first (octet_count p.len) p.first (omega (arith, is.short)))
+
+-- and say the prefix
+pub bits_say : (limit : ℕ) (p : PrefixValue) → IsPrefix 128 p → p.len ≤ limit → SaysPrefix limit (prefix_bits p) p
+bits_say limit p is short =
+    let count : octet_count p.len ≤ 16 = omega (arith, is.short) in
+    let enough : p.len ≤ 8 * octet_count p.len = omega arith in
+    let n : length (take (octet_count p.len) (to_be_bytes w128 p.first)) ≡ octet_count p.len = length_first (octet_count p.len) p.first count in
+    let number : big_endian (take (octet_count p.len) (to_be_bytes w128 p.first)) ≡ p.first / 2 ^ (8 * (16 - octet_count p.len)) = first_bits (octet_count p.len) p.first count is.below in
+    let sum : 8 * (16 - octet_count p.len) + (8 * octet_count p.len - p.len) ≡ 128 - p.len = omega (arith, is.short) in
+    let split : p.first / 2 ^ (128 - p.len) * 2 ^ (128 - p.len) + p.first % 2 ^ (128 - p.len) ≡ p.first = shr_split p.first (128 - p.len) in
+    record {
+      few = omega arith;
+      len = omega arith;
+      short = short;
+      first =
+          (let back : p.first ≡ p.first / 2 ^ (128 - p.len) * 2 ^ (128 - p.len) = omega (arith, split, is.aligned) in
+          let parts : p.first / 2 ^ (8 * (16 - octet_count p.len)) / 2 ^ (8 * octet_count p.len - p.len) ≡ p.first / 2 ^ (128 - p.len) =
+          shr-shr p.first (8 * (16 - octet_count p.len)) (8 * octet_count p.len - p.len) ∙ ap (λ (j : ℕ). p.first / 2 ^ j) sum in
+          rw (number, parts) back);
+    }
+
+-- nothing is left of a shifted number below the shift
+shifted : (n k : ℕ) → n * 2 ^ k % 2 ^ k ≡ 0
+shifted n k = let e : n * 2 ^ k ≡ n * 2 ^ k + 0 = omega arith in ap (λ t. t % 2 ^ k) e ∙ mod_low n k 0 (pow_pos k)
+
+-- what bits say is a prefix
+pub said_prefix : (limit : ℕ) (b : Bits) (p : PrefixValue) → limit ≤ 128 → IsBytes b.octets → SaysPrefix limit b p → IsPrefix 128 p
+said_prefix limit b p le fits s = record {
+  short = omega (arith, s.short, le);
+  aligned = rw s.first (shifted (big_endian b.octets / 2 ^ b.unused) (128 - p.len));
+  below =
+      (let n : big_endian b.octets < 2 ^ (8 * length b.octets) = big_endian_below b.octets fits in
+      let e : 8 * length b.octets ≡ p.len + b.unused = omega (arith, s.len) in
+      let k : big_endian b.octets / 2 ^ b.unused < 2 ^ p.len = shr_below (big_endian b.octets) p.len b.unused (rw e at n) in
+      let m : big_endian b.octets / 2 ^ b.unused * 2 ^ (128 - p.len) < 2 ^ (p.len + (128 - p.len)) = shl_below (big_endian b.octets / 2 ^ b.unused) p.len (128 - p.len) k in
+      let w : p.len + (128 - p.len) ≡ 128 = omega (arith, s.short, le) in rw s.first (rw w at m));
+}

@@ -1,0 +1,81 @@
+-- The shortest prefixes that begin or end with an address.
+use Rattle.std.proofs.Common.{◌≡◌, ℕ, ◌+◌, ◌-◌, ◌*◌, ◌/◌, ◌%◌, ◌^◌, ◌<◌, ◌≤◌, refl, sym, ap, ◌∙◌, arith}
+use Rattle.std.proofs.lemmas.Nat.{pow_pos, div-mul-add, trailing_le}
+use Rattle.std.specs.Int.{w128, trailing_zeros, trailing_ones, bit_not}
+use Rattle.std.specs.Int.Count.{count_trailing_zeros}
+use Rattle.rpki_base.specs.Prefixes.{PrefixValue, IsPrefix, cleared}
+use Rattle.rpki_ip.specs.RangeDer.{IsShortestFrom, IsShortestTo, without_end_zeros, without_end_ones}
+use Rattle.rpki_ip.proofs.Multiples.{IsMultiple, multiple_self, multiple_sum, multiple_diff, multiple_least, multiple_smaller, multiple_mod, mod_multiple, multiple_div, zeros_divide, zeros_greatest}
+
+-- ---- a first address
+
+-- an address without the zeros at its end is the shortest prefix that begins with it
+pub shortest_from_is : (a : ℕ) → a < 2 ^ 128 → IsShortestFrom a (without_end_zeros a)
+shortest_from_is a lt =
+    let few : count_trailing_zeros 128 a ≤ 128 = trailing_le 128 a in
+    let back : 128 - (128 - count_trailing_zeros 128 a) ≡ count_trailing_zeros 128 a = omega arith in
+    record {
+      is_prefix = record { short = omega arith; aligned = rw back (multiple_mod (2 ^ count_trailing_zeros 128 a) a (pow_pos _) (zeros_divide 128 a)); below = lt };
+      begins = refl;
+      shortest = λ q is e.
+          let m : IsMultiple (2 ^ (128 - q.len)) a = mod_multiple (128 - q.len) a (rw (← e) is.aligned) in
+          let j : 128 - q.len ≤ count_trailing_zeros 128 a = zeros_greatest 128 a (128 - q.len) (omega arith) m in
+          omega (arith, is.short);
+    }
+
+-- clearing the bits behind it changes nothing
+pub cleared_from : (a : ℕ) → cleared 128 a (128 - trailing_zeros w128 a) ≡ a
+cleared_from a =
+    let few : count_trailing_zeros 128 a ≤ 128 = trailing_le 128 a in
+    let back : 128 - (128 - count_trailing_zeros 128 a) ≡ count_trailing_zeros 128 a = omega arith in
+    rw back (multiple_div (2 ^ count_trailing_zeros 128 a) a (pow_pos _) (zeros_divide 128 a))
+
+-- ---- a last address
+
+-- a power of 2 that divides what is left above an address divides the number behind it
+ends : (w k a : ℕ) → k ≤ w → a < 2 ^ w → IsMultiple (2 ^ k) (2 ^ w - 1 - a) → IsMultiple (2 ^ k) (a + 1)
+ends w k a le lt m = let e : a + 1 ≡ 2 ^ w - (2 ^ w - 1 - a) = omega arith in rw e (multiple_diff (2 ^ k) (2 ^ w - 1 - a) (2 ^ w) m (multiple_smaller k w (2 ^ w) le (multiple_self (2 ^ w))))
+
+-- and the other way round
+ends_again : (w k a : ℕ) → k ≤ w → a < 2 ^ w → IsMultiple (2 ^ k) (a + 1) → IsMultiple (2 ^ k) (2 ^ w - 1 - a)
+ends_again w k a le lt m = let e : 2 ^ w - 1 - a ≡ 2 ^ w - (a + 1) = omega arith in rw e (multiple_diff (2 ^ k) (a + 1) (2 ^ w) m (multiple_smaller k w (2 ^ w) le (multiple_self (2 ^ w))))
+
+-- the number behind an address is a multiple of the power of 2 that its ones at the end are
+ones_end : (a : ℕ) → a < 2 ^ 128 → IsMultiple (2 ^ trailing_ones w128 a) (a + 1)
+ones_end a lt = ends 128 (trailing_ones w128 a) a (trailing_le 128 (bit_not w128 a)) lt (zeros_divide 128 (bit_not w128 a))
+
+-- an address without the ones at its end is the shortest prefix that ends with it
+pub shortest_to_is : (a : ℕ) → a < 2 ^ 128 → IsShortestTo a (without_end_ones a)
+shortest_to_is a lt =
+    let few : trailing_ones w128 a ≤ 128 = trailing_le 128 (bit_not w128 a) in
+    let back : 128 - (128 - trailing_ones w128 a) ≡ trailing_ones w128 a = omega arith in
+    let m : IsMultiple (2 ^ trailing_ones w128 a) (a + 1) = ones_end a lt in
+    let pos : 0 < 2 ^ trailing_ones w128 a = pow_pos (trailing_ones w128 a) in
+    let enough : 2 ^ trailing_ones w128 a ≤ a + 1 = multiple_least (2 ^ trailing_ones w128 a) a m in
+    record {
+      is_prefix = record {
+        short = omega arith;
+        aligned = rw back (multiple_mod (2 ^ trailing_ones w128 a) (a + 1 - 2 ^ trailing_ones w128 a) pos (multiple_diff (2 ^ trailing_ones w128 a) (2 ^ trailing_ones w128 a) (a + 1) (multiple_self _) m));
+        below = omega arith;
+      };
+      ends = rw back (omega arith);
+      shortest = λ q is e.
+          let some : 0 < 2 ^ (128 - q.len) = pow_pos (128 - q.len) in
+          let z : IsMultiple (2 ^ (128 - q.len)) (q.first + 2 ^ (128 - q.len)) = multiple_sum _ _ _ (mod_multiple (128 - q.len) q.first is.aligned) (multiple_self _) in
+          let next : q.first + 2 ^ (128 - q.len) ≡ a + 1 = omega (arith, e, some) in
+          let n : IsMultiple (2 ^ (128 - q.len)) (a + 1) = rw (← next) z in
+          let j : 128 - q.len ≤ trailing_ones w128 a = zeros_greatest 128 (bit_not w128 a) (128 - q.len) (omega arith) (ends_again 128 (128 - q.len) a (omega arith) lt n) in
+          omega (arith, is.short);
+    }
+
+-- clearing the bits behind it clears these ones
+pub cleared_to : (a : ℕ) → a < 2 ^ 128 → cleared 128 a (128 - trailing_ones w128 a) ≡ a + 1 - 2 ^ trailing_ones w128 a
+cleared_to a lt =
+    let few : trailing_ones w128 a ≤ 128 = trailing_le 128 (bit_not w128 a) in
+    let back : 128 - (128 - trailing_ones w128 a) ≡ trailing_ones w128 a = omega arith in
+    let m : IsMultiple (2 ^ trailing_ones w128 a) (a + 1) = ones_end a lt in
+    let pos : 0 < 2 ^ trailing_ones w128 a = pow_pos (trailing_ones w128 a) in
+    let enough : 2 ^ trailing_ones w128 a ≤ a + 1 = multiple_least (2 ^ trailing_ones w128 a) a m in
+    let d : IsMultiple (2 ^ trailing_ones w128 a) (a + 1 - 2 ^ trailing_ones w128 a) = multiple_diff (2 ^ trailing_ones w128 a) (2 ^ trailing_ones w128 a) (a + 1) (multiple_self _) m in
+    let e : a ≡ d.times * 2 ^ trailing_ones w128 a + (2 ^ trailing_ones w128 a - 1) = (let f : a + 1 - 2 ^ trailing_ones w128 a ≡ d.times * 2 ^ trailing_ones w128 a = d.is in omega arith) in
+    rw back (ap (λ x. x / 2 ^ trailing_ones w128 a * 2 ^ trailing_ones w128 a) e ∙ ap (λ x. x * 2 ^ trailing_ones w128 a) (div-mul-add d.times (2 ^ trailing_ones w128 a) (2 ^ trailing_ones w128 a - 1) (omega arith)) ∙ sym d.is)

@@ -1,0 +1,12 @@
+-- Each grammar has a reading.
+use Rattle.rpki_der.proofs.Readings.{one_front}
+use Rattle.rpki_ip.specs.FamilyDer.{IsFamilyDer, family_at}
+use Rattle.rpki_ip.specs.PrefixDer.{IsPrefixDer, prefix_at}
+use Rattle.rpki_ip.proofs.DerReadings.{family_reading, prefix_reading}
+use Rattle.rpki_ip.proofs.der.laws.one_value.Goals as goal
+
+pub returns : goal.returns
+returns c = record {
+  family = one_front IsFamilyDer family_at family_reading;
+  prefix = λ limit. one_front (IsPrefixDer limit) (prefix_at limit) (prefix_reading limit);
+}

@@ -1,0 +1,49 @@
+-- A prefix in DER (RFC 3779, 2.2.3.8; X.690, 8.6 and 11.2).
+use Rattle.std.specs.Prelude.{◌≡◌, ℕ, ◌+◌, ◌-◌, ◌*◌, ◌/◌, ◌^◌, ◌≤◌, List, ◌||◌, length, take, Result, Ok, Err, nat_lt, if◌then◌else◌}
+use Rattle.std.specs.Int.{w128, to_be_bytes}
+use Rattle.rpki_base.specs.Prefixes.{PrefixValue}
+use Rattle.rpki_der.specs.declared.error.DerError.{DerError}
+use Rattle.rpki_der.specs.declared.error.DerError.TheVariants.{BadPrefix}
+use Rattle.rpki_der.specs.Der.{Bits, IsBitContent, IsBitString, Refines, big_endian, bit_count, bit_string_value}
+use Rattle.rpki_der.specs.Reading.{◌>>=◌, bits, tagged_at, refined}
+
+-- a bit string of at most 16 octets says the prefix of its used bits, which zeros follow up to 128 bits; the unused
+-- bits count as zero whatever they are, and limit is the greatest length
+pub record SaysPrefix (limit : ℕ) (b : Bits) (p : PrefixValue) : Type 0 where
+  pub few : length b.octets ≤ 16
+  pub len : p.len + b.unused ≡ 8 * length b.octets
+  pub short : p.len ≤ limit
+  pub first : p.first ≡ big_endian b.octets / 2 ^ b.unused * 2 ^ (128 - p.len)
+
+-- the content of a BIT STRING says it
+abbrev pub IsPrefixContent : ℕ → List ℕ → PrefixValue → Type 0
+IsPrefixContent limit = Refines IsBitContent (SaysPrefix limit)
+
+abbrev pub IsPrefixDer : ℕ → List ℕ → PrefixValue → Type 0
+IsPrefixDer limit = Refines IsBitString (SaysPrefix limit)
+
+-- ---- what is written
+
+-- how many octets the first len bits of an address need
+abbrev pub octet_count : ℕ → ℕ
+octet_count len = (len + 7) / 8
+
+-- the bits of a prefix, in the fewest octets; those that aren't used are zero, as they are in its first address
+abbrev pub prefix_bits : PrefixValue → Bits
+prefix_bits p = record { unused = 8 * octet_count p.len - p.len; octets = take (octet_count p.len) (to_be_bytes w128 p.first) }
+
+abbrev pub prefix_der : PrefixValue → List ℕ
+prefix_der p = bit_string_value (prefix_bits p)
+
+-- ---- reading
+
+unfoldable pub prefix_of : ℕ → Bits → Result PrefixValue DerError
+prefix_of limit b =
+    if nat_lt 16 (length b.octets) || nat_lt limit (bit_count b) then Err BadPrefix else
+    Ok (record { first = big_endian b.octets / 2 ^ b.unused * 2 ^ (128 - bit_count b); len = bit_count b })
+
+unfoldable pub prefix_in : ℕ → List ℕ → Result PrefixValue DerError
+prefix_in limit content = bits content >>= prefix_of limit
+
+abbrev pub prefix_at : ℕ → List ℕ → Result (PrefixValue × List ℕ) DerError
+prefix_at limit = refined (tagged_at 3) (prefix_in limit)

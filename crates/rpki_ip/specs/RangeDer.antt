@@ -1,0 +1,59 @@
+-- A range of addresses in DER (RFC 3779, 2.2.3.9).
+use Rattle.std.specs.Prelude.{◌≡◌, ℕ, ◌+◌, ◌-◌, ◌%◌, ◌^◌, ◌≤◌, List, ◌++◌}
+use Rattle.std.specs.Int.{w128, trailing_zeros, trailing_ones}
+use Rattle.rpki_base.specs.Prefixes.{PrefixValue, IsPrefix, last_of}
+use Rattle.rpki_der.specs.Der.{IsSequence, Both, Refines, sequence_value}
+use Rattle.rpki_ip.specs.PrefixDer.{IsPrefixDer, prefix_der}
+use Rattle.rpki_ip.specs.Ranges.{RangeValue, IsRange}
+
+-- the bits of the least address come first, without zeros at their end, and those of the greatest second, without
+-- ones: so the least address is the first of a prefix, and the greatest the last of another
+pub record IsSpan (p q : PrefixValue) (r : RangeValue) : Type 0 where
+  pub begins : r.min ≡ p.first
+  pub ends : r.max ≡ last_of 128 q
+  pub ordered : r.min ≤ r.max
+
+-- two prefixes, and nothing else; limit is the greatest length of each
+abbrev pub SaysRange : ℕ → List ℕ → RangeValue → Type 0
+SaysRange limit content r = (p : PrefixValue) × (q : PrefixValue) × Both (IsPrefixDer limit) (IsPrefixDer limit) content p q × IsSpan p q r
+
+abbrev pub IsRangeDer : ℕ → List ℕ → RangeValue → Type 0
+IsRangeDer limit = Refines IsSequence (SaysRange limit)
+
+-- ---- what is written
+
+-- an address without all the zero bits at its end
+abbrev pub without_end_zeros : ℕ → PrefixValue
+without_end_zeros a = record { first = a; len = 128 - trailing_zeros w128 a }
+
+-- an address without all the one bits at its end
+abbrev pub without_end_ones : ℕ → PrefixValue
+without_end_ones a = record { first = a + 1 - 2 ^ trailing_ones w128 a; len = 128 - trailing_ones w128 a }
+
+abbrev pub range_content : RangeValue → List ℕ
+range_content r = prefix_der (without_end_zeros r.min) ++ prefix_der (without_end_ones r.max)
+
+abbrev pub range_der : RangeValue → List ℕ
+range_der r = sequence_value (range_content r)
+
+-- ---- the same by the shortest prefixes
+
+-- of the prefixes whose first address is a, the shortest
+pub record IsShortestFrom (a : ℕ) (p : PrefixValue) : Type 0 where
+  pub is_prefix : IsPrefix 128 p
+  pub begins : p.first ≡ a
+  pub shortest : (q : PrefixValue) → IsPrefix 128 q → q.first ≡ a → p.len ≤ q.len
+
+-- of the prefixes whose last address is a, the shortest
+pub record IsShortestTo (a : ℕ) (p : PrefixValue) : Type 0 where
+  pub is_prefix : IsPrefix 128 p
+  pub ends : last_of 128 p ≡ a
+  pub shortest : (q : PrefixValue) → IsPrefix 128 q → last_of 128 q ≡ a → p.len ≤ q.len
+
+-- ---- which ranges a family has
+
+-- the least address is limit bits and zeros behind them, the greatest limit bits and ones
+pub record IsRangeWithin (limit : ℕ) (r : RangeValue) : Type 0 where
+  pub is_range : IsRange r
+  pub zeros : r.min % 2 ^ (128 - limit) ≡ 0
+  pub ones : (r.max + 1) % 2 ^ (128 - limit) ≡ 0

@@ -1,0 +1,33 @@
+//! Refusals of octets that were taken from their value.
+ghost use Rattle.std.specs.Prelude.{Some, codes};
+
+use std::error::Error;
+use std::fmt;
+
+/// A bit string is too long for a prefix: it has more than sixteen octets.
+#[derive(Clone, Copy, Debug, PartialEq, Eq)]
+pub struct DecodePrefixError;
+
+impl fmt::Display for DecodePrefixError {
+    ghost output = { λ _. Some (codes "invalid prefix in IP resources") };
+
+    fn fmt<W: fmt::Write>(&self, f: &mut fmt::Formatter<W>) -> fmt::Result {
+        f.write_str("invalid prefix in IP resources")
+    }
+}
+
+impl Error for DecodePrefixError {}
+
+/// Octets name no family of addresses.
+#[derive(Clone, Copy, Debug, PartialEq, Eq)]
+pub struct DecodeFamilyError;
+
+impl fmt::Display for DecodeFamilyError {
+    ghost output = { λ _. Some (codes "invalid address family in IP resources") };
+
+    fn fmt<W: fmt::Write>(&self, f: &mut fmt::Formatter<W>) -> fmt::Result {
+        f.write_str("invalid address family in IP resources")
+    }
+}
+
+impl Error for DecodeFamilyError {}

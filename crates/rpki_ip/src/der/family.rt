@@ -1,0 +1,74 @@
+//! Address families in DER.
+use crate::der::error::DecodeFamilyError;
+use crate::family::AddressFamily;
+use rpki_der::{Cursor, DerError, put_octets};
+use std::alloc::{AllocError, Allocator};
+
+impl AddressFamily {
+    ghost use Rattle.std.specs.Prelude.{◌≡◌, ◌≤◌, ◌+◌, ◌++◌, length, vec_len, OnOk, OnErr, IsOk, MatchResult};
+    ghost use Rattle.rpki_ip.specs.declared.family.AddressFamily.{AddressFamily as SomeFamily};
+    ghost use Rattle.std.specs.Vec.{vec_capacity};
+    ghost use Rattle.rpki_der.specs.Reading.{Gives};
+    ghost use Rattle.rpki_der.specs.Views.{Reads, Takes};
+    ghost use Rattle.rpki_ip.specs.FamilyDer.{IsFamilyDer, SaysFamily, family_at, family_der, family_octets, family_of};
+
+    /// The family that two octets name (RFC 3779, 2.2.3.3): 0 and 1 for IPv4, 0 and 2 for IPv6.
+    pub fn from_octets(octets: &[u8]) -> Result<AddressFamily, DecodeFamilyError>
+        ensures { MatchResult result (SaysFamily octets.now) (λ _. (family : SomeFamily) → ¬ SaysFamily octets.now family) }
+    {
+        Self::named_by(octets).map_err(|_| DecodeFamilyError)
+    }
+
+    /// Takes the OCTET STRING of a family (RFC 3779, 2.2.3.3; RFC 6487, 4.8.10).
+    ///
+    /// The faults are those of [`Cursor::take_value`]; `BadTag` also where another value stands there, and `BadFamily`
+    /// where its octets name no family.
+    pub fn take_from(cursor: &mut Cursor<'_>) -> Result<AddressFamily, DerError>
+        ensures reads { Reads IsFamilyDer (λ f. f) cursor.old cursor.new result }
+        ensures exact { Takes (λ f. f) cursor.old cursor.new result family_at }
+    {
+        Self::next(cursor)
+    }
+
+    /// Appends the OCTET STRING of the family. `AllocError` where there is no memory for it.
+    pub fn encode<A: Allocator>(&self, out: &mut Vec<u8, A>) -> Result<(), AllocError>
+        ensures ok { OnOk result (out.new.items ≡ out.old.items ++ family_der self.now) }
+        ensures err { OnErr result (out.new.items ≡ out.old.items) }
+        ensures succeeds { vec_len out.old + length (family_der self.now) ≤ vec_capacity out.old → IsOk result }
+        ensures capacity { vec_capacity out.old ≤ vec_capacity out.new }
+    {
+        put_octets(out, self.octets())
+    }
+
+    // The octets that name the family.
+    fn octets(&self) -> &'static [u8]
+        ensures { result.now ≡ family_octets self.now }
+    {
+        match self {
+            AddressFamily::Ipv4 => &[0, 1],
+            AddressFamily::Ipv6 => &[0, 2],
+        }
+    }
+
+    // The reading behind `from_octets` and the takes.
+    #[tactic(auto, unfolding(crate::specs::FamilyDer::family_of))]
+    fn named_by(octets: &[u8]) -> Result<AddressFamily, DerError>
+        ensures exact { Gives (λ f. f) result (family_of octets.now) }
+    {
+        match octets {
+            [0, 1] => Ok(AddressFamily::Ipv4),
+            [0, 2] => Ok(AddressFamily::Ipv6),
+            _ => Err(DerError::BadFamily),
+        }
+    }
+
+    #[tactic(auto, unfolding(rpki_der::specs::Reading::refined))]
+    fn next(cursor: &mut Cursor<'_>) -> Result<AddressFamily, DerError>
+        ensures exact { Takes (λ f. f) cursor.old cursor.new result family_at }
+    {
+        let mut ahead = *cursor;
+        let family = Self::named_by(ahead.take_octets()?)?;
+        *cursor = ahead;
+        Ok(family)
+    }
+}

@@ -1,0 +1,41 @@
+//! What holds of the octets of families, prefixes and ranges, each law as the contract of a function that does nothing.
+ghost use Rattle.std.specs.Prelude.{◌≡◌, ℕ, List, Ok, ◌<◌, ◌≤◌, ◌^◌, ◌++◌};
+ghost use Rattle.rpki_base.specs.Prefixes.{IsPrefix, PrefixValue};
+ghost use Rattle.rpki_der.specs.Der.{Bits, IsBytes, OneFront};
+ghost use Rattle.rpki_ip.specs.declared.family.AddressFamily.{AddressFamily};
+ghost use Rattle.rpki_ip.specs.FamilyDer.{IsFamilyDer, family_at, family_der};
+ghost use Rattle.rpki_ip.specs.PrefixDer.{IsPrefixDer, SaysPrefix, prefix_at, prefix_der};
+ghost use Rattle.rpki_ip.specs.RangeDer.{IsRangeDer, IsRangeWithin, IsShortestFrom, IsShortestTo, range_der, without_end_ones, without_end_zeros};
+ghost use Rattle.rpki_ip.specs.Ranges.{IsRange, RangeValue};
+
+/// Octets begin with at most one value of each kind.
+pub fn one_value()
+    ensures family { OneFront IsFamilyDer }
+    ensures prefix { (limit : ℕ) → OneFront (IsPrefixDer limit) }
+{}
+
+/// The octets that `encode` appends are values: of a family; of a prefix that isn't longer than the limit; of a range whose
+/// bounds need no more bits than the limit.
+pub fn written()
+    ensures family { (family : AddressFamily) → IsFamilyDer (family_der family) family }
+    ensures prefix { (limit : ℕ) (p : PrefixValue) → IsPrefix 128 p → p.len ≤ limit → IsPrefixDer limit (prefix_der p) p }
+    ensures range { (limit : ℕ) (r : RangeValue) → limit ≤ 128 → IsRangeWithin limit r → IsRangeDer limit (range_der r) r }
+{}
+
+/// What is written is read back, whatever follows it.
+pub fn read_back()
+    ensures family { (family : AddressFamily) (rest : List ℕ) → family_at (family_der family ++ rest) ≡ Ok (family, rest) }
+    ensures prefix { (limit : ℕ) (p : PrefixValue) (rest : List ℕ) → IsPrefix 128 p → p.len ≤ limit → prefix_at limit (prefix_der p ++ rest) ≡ Ok (p, rest) }
+{}
+
+/// What bits say is a prefix.
+pub fn is_prefix()
+    ensures { (limit : ℕ) (b : Bits) (p : PrefixValue) → limit ≤ 128 → IsBytes b.octets → SaysPrefix limit b p → IsPrefix 128 p }
+{}
+
+/// An address without the zeros at its end is the shortest prefix that begins with it, and without the ones at its end the
+/// shortest that ends with it.
+pub fn shortest()
+    ensures zeros { (a : ℕ) → a < 2 ^ 128 → IsShortestFrom a (without_end_zeros a) }
+    ensures ones { (a : ℕ) → a < 2 ^ 128 → IsShortestTo a (without_end_ones a) }
+{}

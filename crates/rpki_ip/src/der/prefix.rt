@@ -1,0 +1,163 @@
+//! Prefixes in DER.
+ghost use Rattle.std.specs.Prelude.{◌≡◌, ◌≤◌, ◌-◌, ◌*◌, ◌^◌, length};
+ghost use Rattle.rpki_der.specs.Der.{big_endian};
+
+use crate::addr::Addr;
+use crate::der::error::DecodePrefixError;
+use crate::family::AddressFamily;
+use crate::prefix::Prefix;
+use rpki_der::{BitString, Content, Cursor, DerError, bit_string_len, put_bit_string, tag};
+use std::alloc::{AllocError, Allocator};
+
+impl Prefix {
+    ghost use Rattle.std.specs.Prelude.{◌≡◌, ◌≤◌, ◌<◌, ◌+◌, ◌++◌, length, vec_len, OnOk, OnErr, IsOk, MatchResult};
+    ghost use Rattle.std.specs.Vec.{vec_capacity};
+    ghost use Rattle.rpki_base.specs.Prefixes.{IsPrefix, PrefixValue};
+    ghost use Rattle.rpki_der.specs.Reading.{Gives};
+    ghost use Rattle.rpki_der.specs.Views.{Lenient, LenientIn, Parses, Reads, Takes, content_octets};
+    ghost use Rattle.rpki_der.specs.Views.{bits_of as bit_string_of};
+    ghost use Rattle.rpki_ip.specs.Families.{bits_of};
+    ghost use Rattle.rpki_ip.specs.PrefixDer.{IsPrefixContent, IsPrefixDer, SaysPrefix, prefix_at, prefix_der, prefix_in};
+
+    /// The prefix whose addresses begin with the bits of a bit string (RFC 3779, 2.2.3.8), which has at most sixteen
+    /// octets. Its unused bits may be set, and count as zero.
+    pub fn from_bit_string(bits: &BitString<'_>) -> Result<Prefix, DecodePrefixError>
+        ensures { MatchResult result (SaysPrefix 128 (bit_string_of bits.now)) (λ _. (p : PrefixValue) → ¬ SaysPrefix 128 (bit_string_of bits.now) p) }
+    {
+        Self::of_bits(bits, 128).map_err(|_| DecodePrefixError)
+    }
+
+    /// Takes the BIT STRING of a prefix (RFC 3779, 2.2.3.8). Its unused bits may be set, and count as zero.
+    ///
+    /// The faults are those of [`Cursor::take_bit_string`], and `BadPrefix` for more than sixteen octets.
+    pub fn take_from(cursor: &mut Cursor<'_>) -> Result<Prefix, DerError>
+        ensures reads { Lenient cursor.old (Reads (IsPrefixDer 128) (λ p. p) cursor.old cursor.new result) }
+        ensures exact { Lenient cursor.old (Takes (λ p. p) cursor.old cursor.new result (prefix_at 128)) }
+    {
+        Self::next(cursor)
+    }
+
+    /// The content as the BIT STRING of a prefix, whatever the tag is.
+    ///
+    /// `BadBitString` for any other content, `BadPrefix` for more than sixteen octets.
+    pub fn parse_content(content: &Content<'_>) -> Result<Prefix, DerError>
+        ensures reads { LenientIn content.now (Parses (IsPrefixContent 128) (λ p. p) (content_octets content.now) result) }
+        ensures exact { LenientIn content.now (Gives (λ p. p) result (prefix_in 128 (content_octets content.now))) }
+    {
+        Self::of_content(content, 128)
+    }
+
+    /// The content as the BIT STRING of a prefix of the family, whatever the tag is.
+    ///
+    /// `BadBitString` for any other content, `BadPrefix` for more than sixteen octets and for a prefix that is longer
+    /// than the family's addresses.
+    pub fn parse_content_with_family(
+        content: &Content<'_>,
+        family: AddressFamily,
+    ) -> Result<Prefix, DerError>
+        ensures reads { LenientIn content.now (Parses (IsPrefixContent (bits_of family)) (λ p. p) (content_octets content.now) result) }
+        ensures exact { LenientIn content.now (Gives (λ p. p) result (prefix_in (bits_of family) (content_octets content.now))) }
+    {
+        Self::of_content(content, family.max_addr_len())
+    }
+
+    /// How many octets `encode` appends.
+    pub fn encoded_len(&self) -> usize
+        ensures len { result ≡ length (prefix_der self.now) }
+        ensures short { result < 20 }
+    {
+        let (unused, octets, count) = self.parts();
+        bit_string_len(unused, &octets[..count])
+    }
+
+    /// Appends the BIT STRING of the prefix, whose unused bits are zero (RFC 3779, 2.2.3.8; X.690, 11.2). `AllocError`
+    /// where there is no memory for it.
+    pub fn encode<A: Allocator>(&self, out: &mut Vec<u8, A>) -> Result<(), AllocError>
+        ensures prefix { IsPrefix 128 self.now }
+        ensures ok { OnOk result (out.new.items ≡ out.old.items ++ prefix_der self.now) }
+        ensures err { OnErr result (out.new.items ≡ out.old.items) }
+        ensures succeeds { vec_len out.old + length (prefix_der self.now) ≤ vec_capacity out.old → IsOk result }
+        ensures capacity { vec_capacity out.old ≤ vec_capacity out.new }
+    {
+        let (unused, octets, count) = self.parts();
+        put_bit_string(out, unused, &octets[..count])
+    }
+}
+
+impl Prefix {
+    ghost use Rattle.std.specs.Prelude.{◌≡◌, ◌≤◌, take};
+    ghost use Rattle.rpki_base.specs.Prefixes.{IsPrefix};
+    ghost use Rattle.rpki_der.specs.Der.{bits_with};
+    ghost use Rattle.rpki_ip.specs.PrefixDer.{prefix_bits};
+
+    // How many bits of the last octet aren't used, the octets of the address, and how many of them the prefix needs.
+    fn parts(&self) -> (u8, [u8; 16], usize)
+        ensures bits { bits_with result.0 (take result.2 result.1) ≡ prefix_bits self.now }
+        ensures few { result.2 ≤ 16 }
+        ensures prefix { IsPrefix 128 self.now }
+    {
+        let len = self.addr_len() as usize;
+        let count = len.div_ceil(8);
+        ((8 * count - len) as u8, self.addr().to_bytes(), count)
+    }
+}
+
+// The readings behind the calls.
+impl Prefix {
+    ghost use Rattle.std.specs.Prelude.{◌≡◌, ◌≤◌};
+    ghost use Rattle.rpki_der.specs.Reading.{Gives};
+    ghost use Rattle.rpki_der.specs.Views.{Takes, content_octets};
+    ghost use Rattle.rpki_der.specs.Views.{bits_of as bit_string_of};
+    ghost use Rattle.rpki_ip.specs.PrefixDer.{prefix_at, prefix_in, prefix_of};
+
+    // The prefix of the bits, of at most `limit` bits.
+    #[tactic(auto, unfolding(crate::specs::PrefixDer::prefix_of))]
+    fn of_bits(bits: &BitString<'_>, limit: u8) -> Result<Prefix, DerError>
+        requires { limit ≤ 128 }
+        ensures exact { Gives (λ p. p) result (prefix_of limit (bit_string_of bits.now)) }
+    {
+        let len = bits.bit_len();
+        if bits.octet_len() > 16 || len > limit as u128 {
+            return Err(DerError::BadPrefix);
+        }
+        Ok(Prefix::new(beginning_with(bits.octets()), len as u8))
+    }
+
+    #[tactic(auto, unfolding(crate::specs::PrefixDer::prefix_in))]
+    fn of_content(content: &Content<'_>, limit: u8) -> Result<Prefix, DerError>
+        requires { limit ≤ 128 }
+        ensures exact { Gives (λ p. p) result (prefix_in limit (content_octets content.now)) }
+    {
+        Self::of_bits(&content.to_bit_string()?, limit)
+    }
+
+    #[tactic(auto, unfolding(rpki_der::specs::Reading::refined, rpki_der::specs::Reading::tagged_at))]
+    fn next(cursor: &mut Cursor<'_>) -> Result<Prefix, DerError>
+        ensures exact { Takes (λ p. p) cursor.old cursor.new result (prefix_at 128) }
+    {
+        let mut ahead = *cursor;
+        let value = ahead.take_value()?;
+        if value.tag() != tag::BIT_STRING {
+            return Err(DerError::BadTag);
+        }
+        let prefix = Self::of_content(&value, 128)?;
+        *cursor = ahead;
+        Ok(prefix)
+    }
+}
+
+// The address that begins with the octets, with zeros behind them.
+fn beginning_with(octets: &[u8]) -> Addr
+    requires { length octets.now ≤ 16 }
+    ensures { result ≡ big_endian octets.now * 2 ^ (128 - 8 * length octets.now) }
+{
+    let mut bits: u128 = 0;
+    for octet in octets {
+        bits = bits * 256 + *octet as u128;
+    }
+    if octets.is_empty() {
+        Addr::from_bits(0)
+    } else {
+        Addr::from_bits(bits << (128 - 8 * octets.len()))
+    }
+}

@@ -1,0 +1,67 @@
+//! Ranges of addresses in DER.
+ghost use Rattle.std.specs.Prelude.{◌≡◌};
+ghost use Rattle.rpki_ip.specs.RangeDer.{IsShortestFrom, IsShortestTo, without_end_ones, without_end_zeros};
+
+use crate::addr::Addr;
+use crate::prefix::Prefix;
+use crate::range::AddressRange;
+use rpki_der::{header_len, put_header, tag};
+use std::alloc::{AllocError, Allocator};
+
+impl AddressRange {
+    ghost use Rattle.std.specs.Prelude.{◌≡◌, ◌≤◌, ◌<◌, ◌+◌, ◌++◌, length, vec_len, OnOk, OnErr, IsOk};
+    ghost use Rattle.std.specs.Vec.{vec_capacity};
+    ghost use Rattle.rpki_ip.specs.Ranges.{IsRange};
+    ghost use Rattle.rpki_ip.specs.RangeDer.{range_content, range_der};
+
+    /// How many octets `encode` appends.
+    pub fn encoded_len(&self) -> usize
+        ensures len { result ≡ length (range_der self.now) }
+        ensures short { result < 64 }
+    {
+        let content_len = self.content_len();
+        header_len(tag::SEQUENCE, content_len) + content_len
+    }
+
+    /// Appends the SEQUENCE of the range (RFC 3779, 2.2.3.9): the least address without all the zero bits at its end, and
+    /// the greatest without all the one bits at its end. `AllocError` where there is no memory for it.
+    pub fn encode<A: Allocator>(&self, out: &mut Vec<u8, A>) -> Result<(), AllocError>
+        ensures range { IsRange self.now }
+        ensures ok { OnOk result (out.new.items ≡ out.old.items ++ range_der self.now) }
+        ensures err { OnErr result (out.new.items ≡ out.old.items) }
+        ensures succeeds { vec_len out.old + length (range_der self.now) ≤ vec_capacity out.old → IsOk result }
+        ensures capacity { vec_capacity out.old ≤ vec_capacity out.new }
+    {
+        let first = shortest_from(self.min());
+        let second = shortest_to(self.max());
+        out.reserve(self.encoded_len())?;
+        put_header(out, tag::SEQUENCE, self.content_len())?;
+        first.encode(out)?;
+        second.encode(out)?;
+        Ok(())
+    }
+
+    // How many octets the content of the SEQUENCE has.
+    fn content_len(&self) -> usize
+        ensures len { result ≡ length (range_content self.now) }
+        ensures short { result ≤ 40 }
+    {
+        shortest_from(self.min()).encoded_len() + shortest_to(self.max()).encoded_len()
+    }
+}
+
+// The shortest prefix that begins with an address.
+fn shortest_from(min: Addr) -> Prefix
+    ensures value { result ≡ without_end_zeros min }
+    ensures shortest { IsShortestFrom min result }
+{
+    Prefix::new(min, 128 - min.to_bits().trailing_zeros() as u8)
+}
+
+// The shortest prefix that ends with an address.
+fn shortest_to(max: Addr) -> Prefix
+    ensures value { result ≡ without_end_ones max }
+    ensures shortest { IsShortestTo max result }
+{
+    Prefix::new(max, 128 - max.to_bits().trailing_ones() as u8)
+}

@@ -102,12 +102,13 @@ block_of b ordered = by_test (b.0 == b.1) refl
       text = rw other refl;
     }
 
-blocks_of : (set : Runs) → All (λ b. b.0 ≤ b.1) set → All (λ b. b.1 < 2 ^ 32) set → AreBlocksOf set
+blocks_of : (set : Runs) → All (λ b. b.0 ≤ b.1) set → All (λ b. b.1 ≤ 4294967295) set → AreBlocksOf set
 blocks_of [] ordered below = record { blocks = []; bounds = refl; texts = refl; written = tt; shown = tt }
 blocks_of (b ∷ set) ordered below =
     let first = block_of b (All-head (λ (x : ℕ × ℕ). x.0 ≤ x.1) b set ordered) in
-    let rest = blocks_of set (All-tail (λ (x : ℕ × ℕ). x.0 ≤ x.1) b set ordered) (All-tail (λ (x : ℕ × ℕ). x.1 < 2 ^ 32) b set below) in
-    let small : (as_bounds first.block).1 < 2 ^ 32 = rw first.bounds (All-head (λ (x : ℕ × ℕ). x.1 < 2 ^ 32) b set below) in
+    let rest = blocks_of set (All-tail (λ (x : ℕ × ℕ). x.0 ≤ x.1) b set ordered) (All-tail (λ (x : ℕ × ℕ). x.1 ≤ 4294967295) b set below) in
+    let limit : (as_bounds first.block).1 ≤ 4294967295 = rw first.bounds (All-head (λ (x : ℕ × ℕ). x.1 ≤ 4294967295) b set below) in
+    let small : (as_bounds first.block).1 < 2 ^ 32 = omega arith in
     let one_bounds = first.bounds in
     let more_bounds = rest.bounds in
     let one_text = first.text in

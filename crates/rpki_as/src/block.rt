@@ -163,15 +163,15 @@ impl Block for AsBlock {
 /// Blocks are equal where their bounds are, whatever their forms.
 impl PartialEq for AsBlock {
     ghost use Rattle.std.specs.Prelude.{◌≡◌, ◌↔◌, IsTrue};
+    ghost use Rattle.rpki_chain.specs.Equality.{have_same_bounds, blocks_per};
     ghost use Rattle.rpki_as.specs.Blocks.{as_bounds};
-    ghost use Rattle.rpki_as.specs.Equality.{have_same_bounds, blocks_per};
 
-    ghost eq = { have_same_bounds };
+    ghost eq = { have_same_bounds as_bounds };
 
-    ghost laws = { blocks_per };
+    ghost laws = { blocks_per as_bounds };
 
     fn eq(&self, other: &AsBlock) -> bool
-        ensures value { result ≡ have_same_bounds self.now other.now }
+        ensures value { result ≡ have_same_bounds as_bounds self.now other.now }
         ensures same_bounds { IsTrue result ↔ (as_bounds self.now ≡ as_bounds other.now) }
     {
         AsBlock::min(self) == AsBlock::min(other) && AsBlock::max(self) == AsBlock::max(other)
@@ -179,9 +179,10 @@ impl PartialEq for AsBlock {
 }
 
 impl Eq for AsBlock {
-    ghost use Rattle.rpki_as.specs.Equality.{blocks_equiv};
+    ghost use Rattle.rpki_chain.specs.Equality.{blocks_equiv};
+    ghost use Rattle.rpki_as.specs.Blocks.{as_bounds};
 
-    ghost laws = { blocks_equiv };
+    ghost laws = { blocks_equiv as_bounds };
 }
 
 impl From<Asn> for AsBlock {

@@ -5,6 +5,7 @@ ghost use Rattle.rpki_as.specs.Blocks.{as_bounds};
 
 use crate::block::AsBlock;
 use crate::blocks::AsBlocks;
+use rpki_chain::builder::BlockSetBuilder;
 use std::alloc::{AllocError, Allocator, Global};
 use std::marker::Model;
 
@@ -13,16 +14,15 @@ use std::marker::Model;
 /// Contracts see it as the list of the blocks' least and greatest numbers, in the order in which they came.
 #[derive(Drop)]
 pub struct AsBlocksBuilder<A: Allocator = Global> {
-    blocks: Vec<AsBlock, A>,
+    blocks: BlockSetBuilder<AsBlock, A>,
 }
 
 impl<A: Allocator> Model for AsBlocksBuilder<A> {
-    ghost use Rattle.std.specs.Prelude.{ℕ, List, map};
-    ghost use Rattle.rpki_as.specs.Blocks.{as_bounds};
+    ghost use Rattle.std.specs.Prelude.{ℕ, List};
 
     ghost Value = { List (ℕ × ℕ) };
 
-    ghost view = { λ b. map as_bounds b.blocks.items };
+    ghost view = { λ b. b.blocks };
 }
 
 impl<A: Allocator> AsBlocksBuilder<A> {
@@ -31,7 +31,7 @@ impl<A: Allocator> AsBlocksBuilder<A> {
         ensures { result ≡ [] }
     {
         AsBlocksBuilder {
-            blocks: Vec::new(alloc),
+            blocks: BlockSetBuilder::new(alloc),
         }
     }
 
@@ -40,8 +40,7 @@ impl<A: Allocator> AsBlocksBuilder<A> {
         ensures ok { OnOk result (self.new ≡ self.old ++ as_bounds block ∷ []) }
         ensures err { OnErr result (self.new ≡ self.old) }
     {
-        self.blocks.push(block)?;
-        Ok(())
+        self.blocks.push(block)
     }
 
     /// Adds several blocks. `AllocError` where there is no memory for them; then the builder has the blocks that it had.
@@ -49,7 +48,7 @@ impl<A: Allocator> AsBlocksBuilder<A> {
         ensures ok { OnOk result (self.new ≡ self.old ++ map as_bounds blocks.now) }
         ensures err { OnErr result (self.new ≡ self.old) }
     {
-        self.blocks.extend_from_slice(blocks)
+        self.blocks.extend_from(blocks)
     }
 
     /// The set of the numbers that some of the blocks has. `AllocError` where there is no memory for it.
@@ -58,7 +57,7 @@ impl<A: Allocator> AsBlocksBuilder<A> {
         A: Copy,
         ensures { IfOk result (IsRunsOf (Holds self)) }
     {
-        let alloc = *self.blocks.allocator();
-        AsBlocks::from_blocks(alloc, self.blocks.as_slice())
+        let set = self.blocks.finalize()?;
+        Ok(AsBlocks::from_set(set))
     }
 }

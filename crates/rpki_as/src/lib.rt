@@ -6,6 +6,5 @@ pub mod blocks;
 pub mod builder;
 pub mod error;
 pub mod iter;
-pub mod laws;
 pub mod range;
 mod text;

@@ -12,9 +12,20 @@ is_same_pair a b = (a.0 == b.0) && (a.1 == b.1)
 abbrev pub same_runs : Runs → Runs → Bool
 same_runs a b = pointwise is_same_pair a b
 
--- the laws of `==` of lists of bounds
+-- whether two blocks have the same bounds
+abbrev pub have_same_bounds : {B : Type 0} → (B → ℕ × ℕ) → B → B → Bool
+have_same_bounds bounds a b = is_same_pair (bounds a) (bounds b)
+
+-- the laws of `==` of blocks
+pub blocks_equiv : {B : Type 0} (bounds : B → ℕ × ℕ) → IsEquivalence (have_same_bounds bounds)
+blocks_equiv bounds = on_equiv bounds (and_equiv (on_equiv (λ (p : ℕ × ℕ). p.0) nat_eq_equiv) (on_equiv (λ (p : ℕ × ℕ). p.1) nat_eq_equiv))
+
+pub blocks_per : {B : Type 0} (bounds : B → ℕ × ℕ) → IsPartialEquivalence (have_same_bounds bounds)
+blocks_per bounds = partial_equiv_from_equiv (blocks_equiv bounds)
+
+-- of lists of bounds
 pub runs_equiv : IsEquivalence same_runs
-runs_equiv = lists_equiv (and_equiv (on_equiv (λ (p : ℕ × ℕ). p.0) nat_eq_equiv) (on_equiv (λ (p : ℕ × ℕ). p.1) nat_eq_equiv))
+runs_equiv = lists_equiv (blocks_equiv (λ (p : ℕ × ℕ). p))
 
 pub runs_per : IsPartialEquivalence same_runs
 runs_per = partial_equiv_from_equiv runs_equiv

@@ -1,5 +1,5 @@
 //! Sets of the items of a kind.
-ghost use Rattle.std.specs.Prelude.{◌≡◌, ℕ, ◌↔◌, ◌⊎◌, [], All, IsTrue, IfOk, OnOk, OnErr, map};
+ghost use Rattle.std.specs.Prelude.{◌≡◌, ℕ, ◌↔◌, ◌⊎◌, [], ◌∷◌, All, IsTrue, IfOk, OnOk, OnErr, map};
 ghost use Rattle.std.specs.Slice.Iter.{iter_rest};
 ghost use Rattle.rpki_chain.specs.BlockSets.{IsBlockChain, IsBlockSet};
 ghost use Rattle.rpki_chain.specs.Equality.{same_runs, runs_per, runs_equiv};
@@ -41,6 +41,18 @@ impl<T: Block, A: Allocator> BlockSet<T, A> {
         BlockSet {
             chain: SharedChain::empty(),
         }
+    }
+
+    /// The set of the items of one block. `AllocError` where there is no memory for it.
+    pub fn from_block(alloc: A, block: T) -> Result<Self, AllocError>
+    where
+        A: Copy,
+        ensures { IfOk result (λ set. set ≡ T.bounds block ∷ []) }
+    {
+        let (min, max) = block.bounds();
+        let mut blocks = Vec::with_capacity(alloc, 1)?;
+        blocks.push(T::new(min, max))?;
+        Self::from_owned(alloc, OwnedChain::from_vec_unchecked(blocks))
     }
 
     /// The set of the items that some block has. The blocks may come in any order and may overlap. `AllocError` where

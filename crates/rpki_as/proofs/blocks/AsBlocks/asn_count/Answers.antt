@@ -1,15 +1,14 @@
-use Rattle.std.proofs.Common.{arith, ◌≡◌, ◌≤◌, ◌+◌, ◌^◌, length, ◌∙◌}
+use Rattle.std.proofs.Common.{arith, ◌≡◌, ◌≤◌, ◌+◌, ◌^◌, length, map}
 use Rattle.std.proofs.lemmas.List.{take_all}
-use Rattle.rpki_as.specs.Blocks.{IsAsChain}
+use Rattle.rpki_as.specs.Blocks.{as_bounds, IsAsSet}
 use Rattle.rpki_as.specs.Numbers.{numbers_of}
-use Rattle.rpki_as.proofs.SetLemmas.{count_step, count_fits, IsSizeOf-chain}
+use Rattle.rpki_as.proofs.CountLemmas.{count_step, count_fits, IsSizeOf-blocks}
 use Rattle.rpki_as.proofs.blocks.AsBlocks.asn_count.Goals as goal
 
 pub overflow_add-count : goal.overflow_add-count
 overflow_add-count g c =
-    let same = c.as_slice-blocks.ensures.value ∙ c.as_chain.ensures in
-    let chain : IsAsChain c.as_slice-blocks.result.now = rw same c.self.invariant in
-    let fits : c.loop-block.count + c.asn_count-count.result ≤ 2 ^ 32 = count_fits _ _ _ _ _ chain c.loop-block-test.true c.block-item.is c.loop-block.invariant c.asn_count-count.ensures.from_bounds in
+    let set : IsAsSet (map as_bounds c.as_slice-blocks.result.now) = rw c.as_slice-blocks.ensures.blocks c.as_slice-blocks.ensures.set in
+    let fits : c.loop-block.count + c.asn_count-count.result ≤ 2 ^ 32 = count_fits _ _ _ _ _ set c.loop-block-test.true c.block-item.is c.loop-block.invariant c.asn_count-count.ensures.from_bounds in
     omega arith
 
 pub loop-block-preserved : goal.loop-block-preserved
@@ -17,8 +16,7 @@ loop-block-preserved g c = count_step _ _ _ _ _ c.loop-block-test.true c.block-i
 
 pub returns : goal.returns
 returns g c =
-    let same = c.as_slice-blocks.ensures.value ∙ c.as_chain.ensures in
-    let chain : IsAsChain c.as_slice-blocks.result.now = rw same c.self.invariant in
+    let set : IsAsSet (map as_bounds c.as_slice-blocks.result.now) = rw c.as_slice-blocks.ensures.blocks c.as_slice-blocks.ensures.set in
     let all = take_all c.loop-block.block-index c.as_slice-blocks.result.now (omega arith) in
     let count : c.loop-block.count ≡ length (numbers_of c.as_slice-blocks.result.now) = rw all at c.loop-block.invariant in
-    rw (count, ← c.self.view_is, ← same) (IsSizeOf-chain _ chain)
+    rw (count, ← c.self.view_is, ← c.as_slice-blocks.ensures.blocks) (IsSizeOf-blocks _ set)

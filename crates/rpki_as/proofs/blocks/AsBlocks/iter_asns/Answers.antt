@@ -1,5 +1,10 @@
-use Rattle.rpki_as.proofs.SetLemmas.{IsListOf-chain}
+use Rattle.std.proofs.Common.{map}
+use Rattle.std.specs.Slice.Iter.{iter_rest}
+use Rattle.rpki_as.specs.Blocks.{as_bounds, IsAsSet}
+use Rattle.rpki_as.proofs.CountLemmas.{IsListOf-blocks}
 use Rattle.rpki_as.proofs.blocks.AsBlocks.iter_asns.Goals as goal
 
 pub returns : goal.returns
-returns g c = rw (c.over.ensures, c.iter.ensures.rest, c.as_slice.ensures.value, c.as_chain.ensures, ← c.self.view_is) (IsListOf-chain _ c.self.invariant)
+returns g c =
+    let set : IsAsSet (map as_bounds (iter_rest c.iter.result)) = rw c.iter.ensures.blocks c.iter.ensures.set in
+    rw (c.over.ensures, ← c.self.view_is, ← c.iter.ensures.blocks) (IsListOf-blocks _ set)

@@ -5,5 +5,5 @@ use Rattle.rpki_as.proofs.blocks.AsBlocksDisplay.fmt.Goals as goal
 
 pub returns-clause-writes : goal.returns-clause-writes
 returns-clause-writes g c =
-    let texts = run_texts c.as_slice.result.now c.as_slice.ensures.chain.new_form in
-    rw (← c.self.view_is, ← c.as_chain.ensures, ← c.as_slice.ensures.value, ← texts) (c.fmt_joined.ensures block_text (λ b. refl))
+    let texts = run_texts c.as_slice.result.now c.as_slice.ensures.chain.chain.new_form in
+    rw (← c.self.view_is, ← c.as_slice.ensures.blocks, ← texts) (c.fmt_joined.ensures block_text (λ b. refl))

@@ -1,19 +1,22 @@
--- The readings find the families and prefixes of the grammars, whatever follows them, and no others.
+-- The readings find the families, prefixes and ranges of the grammars, whatever follows them, and no others.
 use Rattle.std.proofs.Common.{◌≡◌, ℕ, ◌+◌, ◌-◌, ◌*◌, ◌/◌, ◌^◌, ◌<◌, ◌≤◌, ◌||◌, ◌&&◌, Bool, true, false, cond, eqb, ltb, List, [], ◌∷◌, length, get_or, Result, Ok, Err, refl, sym, ap, subst, ◌∙◌, arith, inl, inr}
 use Rattle.std.specs.Prelude.{IsErrAnd, MatchResult}
 use Rattle.std.proofs.lemmas.Bool.{ltb-false, le-ltb, eqb-true, cases_lt}
-use Rattle.rpki_base.specs.Prefixes.{PrefixValue}
+use Rattle.rpki_base.specs.Prefixes.{PrefixValue, last_of}
+use Rattle.rpki_base.proofs.DerReadings.{pair_check}
 use Rattle.rpki_der.specs.declared.error.DerError.{DerError}
-use Rattle.rpki_der.specs.declared.error.DerError.TheVariants.{BadPrefix, BadFamily}
-use Rattle.rpki_der.specs.Der.{Bits, IsBits, IsBitContent, bit_content, bit_count, big_endian, IsValue, Refines}
-use Rattle.rpki_der.specs.Reading.{Gives, bits, tagged_at, IsReading}
+use Rattle.rpki_der.specs.declared.error.DerError.TheVariants.{BadPrefix, BadFamily, ReversedRange}
+use Rattle.rpki_der.specs.Der.{Bits, IsBits, IsBitContent, IsBytes, IsSequence, bit_content, bit_count, big_endian, Refines}
+use Rattle.rpki_der.specs.Reading.{Gives, bits, refined, tagged_at, IsReading}
 use Rattle.rpki_der.proofs.Steps.{IsCheck, bind_ok, passed, ok_is, neither, both_false}
 use Rattle.rpki_der.proofs.Contents.{bits_check}
-use Rattle.rpki_der.proofs.Readings.{IsTagged, refined_reading, same_reading, tagged_reading}
+use Rattle.rpki_der.proofs.Readings.{IsTagged, fits_content, refined_reading, same_reading, tagged_reading}
 use Rattle.rpki_ip.specs.declared.family.AddressFamily.{AddressFamily}
 use Rattle.rpki_ip.specs.declared.family.AddressFamily.TheVariants.{Ipv4, Ipv6}
 use Rattle.rpki_ip.specs.FamilyDer.{SaysFamily, IsFamilyDer, family_octets, family_of, family_at}
 use Rattle.rpki_ip.specs.PrefixDer.{SaysPrefix, IsPrefixContent, IsPrefixDer, prefix_of, prefix_in, prefix_at}
+use Rattle.rpki_ip.specs.RangeDer.{IsRangeDer, IsSpan, SaysRange, range_in, span_of}
+use Rattle.rpki_ip.specs.Ranges.{RangeValue}
 
 -- ---- a fault under another name
 
@@ -145,3 +148,28 @@ pub prefix_reading : (limit : ℕ) → IsReading (IsPrefixDer limit) (prefix_at 
 prefix_reading limit =
     same_reading (Refines (IsTagged 3) (IsPrefixContent limit)) (IsPrefixDer limit) (prefix_at limit) (λ bytes p fits is. prefix_to limit bytes p is) (prefix_from limit)
     (refined_reading (IsTagged 3) (IsPrefixContent limit) (λ _. Unit {0}) (tagged_at 3) (prefix_in limit) (tagged_reading 3) (λ front content is fits. tt) (prefix_check limit))
+
+-- ---- ranges
+
+-- a range that is read is the span of its prefixes
+span_says : (p q : PrefixValue) (r : RangeValue) → span_of p q ≡ Ok r → IsSpan p q r
+unfolding span_of
+span_says p q r e =
+    let made : RangeValue = record { min = p.first; max = last_of 128 q } in
+    let g = passed (ltb (last_of 128 q) p.first) ReversedRange (Ok made) r e in
+    subst (IsSpan p q) (ok_is made r g.1) (record { begins = refl; ends = refl; ordered = ltb-false (last_of 128 q) p.first g.0 })
+
+-- and the span of two prefixes is read
+span_again : (p q : PrefixValue) (r : RangeValue) → IsSpan p q r → span_of p q ≡ Ok r
+unfolding span_of
+span_again p q r is =
+    let ordered : ltb (last_of 128 q) p.first ≡ false = le-ltb (last_of 128 q) p.first (subst (λ n. n ≤ last_of 128 q) is.begins (subst (λ n. r.min ≤ n) is.ends is.ordered)) in
+    rw ordered (λ i. Ok (record { min = sym is.begins i; max = sym is.ends i }))
+
+-- the content of a range
+pub range_check : (limit : ℕ) → IsCheck IsBytes (SaysRange limit) (range_in limit)
+range_check limit = pair_check (IsPrefixDer limit) IsSpan (prefix_at limit) span_of (prefix_reading limit) span_says span_again
+
+-- the SEQUENCE of a range
+pub range_reading : (limit : ℕ) → IsReading (IsRangeDer limit) (refined (tagged_at 48) (range_in limit))
+range_reading limit = refined_reading IsSequence (SaysRange limit) IsBytes (tagged_at 48) (range_in limit) (tagged_reading 48) (λ front content is fits. fits_content front 48 content is fits) (range_check limit)

@@ -1,9 +1,12 @@
 -- A range of addresses in DER (RFC 3779, 2.2.3.9).
-use Rattle.std.specs.Prelude.{◌≡◌, ℕ, ◌+◌, ◌-◌, ◌%◌, ◌^◌, ◌≤◌, List, ◌++◌}
+use Rattle.std.specs.Prelude.{◌≡◌, ℕ, ◌+◌, ◌-◌, ◌%◌, ◌^◌, ◌≤◌, List, ◌++◌, Result, Ok, Err, nat_lt, if◌then◌else◌}
 use Rattle.std.specs.Int.{w128, trailing_zeros, trailing_ones}
 use Rattle.rpki_base.specs.Prefixes.{PrefixValue, IsPrefix, last_of}
-use Rattle.rpki_der.specs.Der.{IsSequence, Both, Refines, sequence_value}
-use Rattle.rpki_ip.specs.PrefixDer.{IsPrefixDer, prefix_der}
+use Rattle.rpki_base.specs.DerReading.{SaysPair, pair_in}
+use Rattle.rpki_der.specs.declared.error.DerError.{DerError}
+use Rattle.rpki_der.specs.declared.error.DerError.TheVariants.{ReversedRange}
+use Rattle.rpki_der.specs.Der.{IsSequence, Refines, sequence_value}
+use Rattle.rpki_ip.specs.PrefixDer.{IsPrefixDer, prefix_at, prefix_der}
 use Rattle.rpki_ip.specs.Ranges.{RangeValue, IsRange}
 
 -- the bits of the least address come first, without zeros at their end, and those of the greatest second, without
@@ -15,7 +18,7 @@ pub record IsSpan (p q : PrefixValue) (r : RangeValue) : Type 0 where
 
 -- two prefixes, and nothing else; limit is the greatest length of each
 abbrev pub SaysRange : ℕ → List ℕ → RangeValue → Type 0
-SaysRange limit content r = (p : PrefixValue) × (q : PrefixValue) × Both (IsPrefixDer limit) (IsPrefixDer limit) content p q × IsSpan p q r
+SaysRange limit = SaysPair (IsPrefixDer limit) IsSpan
 
 abbrev pub IsRangeDer : ℕ → List ℕ → RangeValue → Type 0
 IsRangeDer limit = Refines IsSequence (SaysRange limit)
@@ -57,3 +60,12 @@ pub record IsRangeWithin (limit : ℕ) (r : RangeValue) : Type 0 where
   pub is_range : IsRange r
   pub zeros : r.min % 2 ^ (128 - limit) ≡ 0
   pub ones : (r.max + 1) % 2 ^ (128 - limit) ≡ 0
+
+-- ---- reading
+
+unfoldable pub span_of : PrefixValue → PrefixValue → Result RangeValue DerError
+span_of p q = if nat_lt (last_of 128 q) p.first then Err ReversedRange else Ok (record { min = p.first; max = last_of 128 q })
+
+-- the content of the SEQUENCE of a range
+abbrev pub range_in : ℕ → List ℕ → Result RangeValue DerError
+range_in limit = pair_in (prefix_at limit) span_of

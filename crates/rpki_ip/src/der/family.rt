@@ -1,11 +1,13 @@
 //! Address families in DER.
 use crate::der::error::DecodeFamilyError;
 use crate::family::AddressFamily;
-use rpki_der::{Cursor, DerError, put_octets};
+use rpki_der::{Cursor, DerError, put_octets, tag};
 use std::alloc::{AllocError, Allocator};
 
 impl AddressFamily {
-    ghost use Rattle.std.specs.Prelude.{◌≡◌, ◌≤◌, ◌+◌, ◌++◌, length, vec_len, OnOk, OnErr, IsOk, MatchResult};
+    ghost use Rattle.std.specs.Prelude.{◌≡◌, ℕ, List, Ok, ◌≤◌, ◌+◌, ◌++◌, length, vec_len, OnOk, OnErr, IsOk, MatchResult};
+    ghost use Rattle.rpki_base.specs.DerReading.{Skips, if_tagged, skipping};
+    ghost use Rattle.rpki_base.specs.DerViews.{ReadsTagged};
     ghost use Rattle.rpki_ip.specs.declared.family.AddressFamily.{AddressFamily as SomeFamily};
     ghost use Rattle.std.specs.Vec.{vec_capacity};
     ghost use Rattle.rpki_der.specs.Reading.{Gives};
@@ -30,12 +32,31 @@ impl AddressFamily {
         Self::next(cursor)
     }
 
+    /// Takes a family as `take_from` does where the next octet is the tag of an OCTET STRING; None where it isn't, and at
+    /// the end.
+    pub fn take_opt_from(cursor: &mut Cursor<'_>) -> Result<Option<AddressFamily>, DerError>
+        ensures reads { ReadsTagged 4 IsFamilyDer cursor.old cursor.new result }
+        ensures exact { Takes (λ f. f) cursor.old cursor.new result (if_tagged 4 family_at) }
+    {
+        Self::next_opt(cursor)
+    }
+
+    /// Passes over what `take_opt_from` takes, with the same faults.
+    pub fn skip_opt_in(cursor: &mut Cursor<'_>) -> Result<Option<()>, DerError>
+        ensures reads { ReadsTagged 4 (Skips IsFamilyDer) cursor.old cursor.new result }
+        ensures exact { Takes (λ u. u) cursor.old cursor.new result (if_tagged 4 (skipping family_at)) }
+    {
+        Self::pass_over_opt(cursor)
+    }
+
     /// Appends the OCTET STRING of the family. `AllocError` where there is no memory for it.
     pub fn encode<A: Allocator>(&self, out: &mut Vec<u8, A>) -> Result<(), AllocError>
         ensures ok { OnOk result (out.new.items ≡ out.old.items ++ family_der self.now) }
         ensures err { OnErr result (out.new.items ≡ out.old.items) }
         ensures succeeds { vec_len out.old + length (family_der self.now) ≤ vec_capacity out.old → IsOk result }
         ensures capacity { vec_capacity out.old ≤ vec_capacity out.new }
+        // It is read back, whatever follows it.
+        ensures read_back { (rest : List ℕ) → family_at (family_der self.now ++ rest) ≡ Ok (self.now, rest) }
     {
         put_octets(out, self.octets())
     }
@@ -49,8 +70,16 @@ impl AddressFamily {
             AddressFamily::Ipv6 => &[0, 2],
         }
     }
+}
 
-    // The reading behind `from_octets` and the takes.
+// The readings behind the calls.
+impl AddressFamily {
+    ghost use Rattle.std.specs.Prelude.{◌≡◌};
+    ghost use Rattle.rpki_base.specs.DerReading.{if_tagged, skipping};
+    ghost use Rattle.rpki_der.specs.Reading.{Gives};
+    ghost use Rattle.rpki_der.specs.Views.{Takes};
+    ghost use Rattle.rpki_ip.specs.FamilyDer.{family_at, family_of};
+
     #[tactic(auto, unfolding(crate::specs::FamilyDer::family_of))]
     fn named_by(octets: &[u8]) -> Result<AddressFamily, DerError>
         ensures exact { Gives (λ f. f) result (family_of octets.now) }
@@ -70,5 +99,33 @@ impl AddressFamily {
         let family = Self::named_by(ahead.take_octets()?)?;
         *cursor = ahead;
         Ok(family)
+    }
+
+    #[tactic(auto, unfolding(rpki_base::specs::DerReading::if_tagged))]
+    fn next_opt(cursor: &mut Cursor<'_>) -> Result<Option<AddressFamily>, DerError>
+        ensures exact { Takes (λ f. f) cursor.old cursor.new result (if_tagged 4 family_at) }
+    {
+        if cursor.peek_tag() != Some(tag::OCTET_STRING) {
+            return Ok(None);
+        }
+        Ok(Some(Self::next(cursor)?))
+    }
+
+    #[tactic(auto, unfolding(rpki_base::specs::DerReading::if_tagged))]
+    fn pass_over_opt(cursor: &mut Cursor<'_>) -> Result<Option<()>, DerError>
+        ensures exact { Takes (λ u. u) cursor.old cursor.new result (if_tagged 4 (skipping family_at)) }
+    {
+        if cursor.peek_tag() != Some(tag::OCTET_STRING) {
+            return Ok(None);
+        }
+        Ok(Some(Self::pass_over(cursor)?))
+    }
+
+    #[tactic(auto, unfolding(rpki_der::specs::Reading::refined))]
+    fn pass_over(cursor: &mut Cursor<'_>) -> Result<(), DerError>
+        ensures exact { Takes (λ u. u) cursor.old cursor.new result (skipping family_at) }
+    {
+        Self::next(cursor)?;
+        Ok(())
     }
 }

@@ -1,17 +1,18 @@
 //! What holds of the octets of families, prefixes and ranges, each law as the contract of a function that does nothing.
-ghost use Rattle.std.specs.Prelude.{◌≡◌, ℕ, List, Ok, ◌<◌, ◌≤◌, ◌^◌, ◌++◌};
+ghost use Rattle.std.specs.Prelude.{ℕ, ◌<◌, ◌≤◌, ◌^◌};
 ghost use Rattle.rpki_base.specs.Prefixes.{IsPrefix, PrefixValue};
 ghost use Rattle.rpki_der.specs.Der.{Bits, IsBytes, OneFront};
 ghost use Rattle.rpki_ip.specs.declared.family.AddressFamily.{AddressFamily};
-ghost use Rattle.rpki_ip.specs.FamilyDer.{IsFamilyDer, family_at, family_der};
-ghost use Rattle.rpki_ip.specs.PrefixDer.{IsPrefixDer, SaysPrefix, prefix_at, prefix_der};
+ghost use Rattle.rpki_ip.specs.FamilyDer.{IsFamilyDer, family_der};
+ghost use Rattle.rpki_ip.specs.PrefixDer.{IsPrefixDer, SaysPrefix, prefix_der};
 ghost use Rattle.rpki_ip.specs.RangeDer.{IsRangeDer, IsRangeWithin, IsShortestFrom, IsShortestTo, range_der, without_end_ones, without_end_zeros};
-ghost use Rattle.rpki_ip.specs.Ranges.{IsRange, RangeValue};
+ghost use Rattle.rpki_ip.specs.Ranges.{RangeValue};
 
 /// Octets begin with at most one value of each kind.
 pub fn one_value()
     ensures family { OneFront IsFamilyDer }
     ensures prefix { (limit : ℕ) → OneFront (IsPrefixDer limit) }
+    ensures range { (limit : ℕ) → OneFront (IsRangeDer limit) }
 {}
 
 /// The octets that `encode` appends are values: of a family; of a prefix that isn't longer than the limit; of a range whose
@@ -20,12 +21,6 @@ pub fn written()
     ensures family { (family : AddressFamily) → IsFamilyDer (family_der family) family }
     ensures prefix { (limit : ℕ) (p : PrefixValue) → IsPrefix 128 p → p.len ≤ limit → IsPrefixDer limit (prefix_der p) p }
     ensures range { (limit : ℕ) (r : RangeValue) → limit ≤ 128 → IsRangeWithin limit r → IsRangeDer limit (range_der r) r }
-{}
-
-/// What is written is read back, whatever follows it.
-pub fn read_back()
-    ensures family { (family : AddressFamily) (rest : List ℕ) → family_at (family_der family ++ rest) ≡ Ok (family, rest) }
-    ensures prefix { (limit : ℕ) (p : PrefixValue) (rest : List ℕ) → IsPrefix 128 p → p.len ≤ limit → prefix_at limit (prefix_der p ++ rest) ≡ Ok (p, rest) }
 {}
 
 /// What bits say is a prefix.

@@ -10,7 +10,7 @@ use rpki_der::{BitString, Content, Cursor, DerError, bit_string_len, put_bit_str
 use std::alloc::{AllocError, Allocator};
 
 impl Prefix {
-    ghost use Rattle.std.specs.Prelude.{◌≡◌, ◌≤◌, ◌<◌, ◌+◌, ◌++◌, length, vec_len, OnOk, OnErr, IsOk, MatchResult};
+    ghost use Rattle.std.specs.Prelude.{◌≡◌, ℕ, List, Ok, ◌≤◌, ◌<◌, ◌+◌, ◌++◌, length, vec_len, OnOk, OnErr, IsOk, MatchResult};
     ghost use Rattle.std.specs.Vec.{vec_capacity};
     ghost use Rattle.rpki_base.specs.Prefixes.{IsPrefix, PrefixValue};
     ghost use Rattle.rpki_der.specs.Reading.{Gives};
@@ -78,6 +78,8 @@ impl Prefix {
         ensures err { OnErr result (out.new.items ≡ out.old.items) }
         ensures succeeds { vec_len out.old + length (prefix_der self.now) ≤ vec_capacity out.old → IsOk result }
         ensures capacity { vec_capacity out.old ≤ vec_capacity out.new }
+        // It is read back, whatever follows it, where its length isn't above the limit.
+        ensures read_back { (limit : ℕ) (rest : List ℕ) → self.now.len ≤ limit → prefix_at limit (prefix_der self.now ++ rest) ≡ Ok (self.now, rest) }
     {
         let (unused, octets, count) = self.parts();
         put_bit_string(out, unused, &octets[..count])

@@ -1,12 +1,15 @@
 -- Each grammar has a reading.
 use Rattle.rpki_der.proofs.Readings.{one_front}
+use Rattle.rpki_der.specs.Reading.{refined, tagged_at}
 use Rattle.rpki_ip.specs.FamilyDer.{IsFamilyDer, family_at}
 use Rattle.rpki_ip.specs.PrefixDer.{IsPrefixDer, prefix_at}
-use Rattle.rpki_ip.proofs.DerReadings.{family_reading, prefix_reading}
+use Rattle.rpki_ip.specs.RangeDer.{IsRangeDer, range_in}
+use Rattle.rpki_ip.proofs.DerReadings.{family_reading, prefix_reading, range_reading}
 use Rattle.rpki_ip.proofs.der.laws.one_value.Goals as goal
 
 pub returns : goal.returns
 returns c = record {
   family = one_front IsFamilyDer family_at family_reading;
   prefix = λ limit. one_front (IsPrefixDer limit) (prefix_at limit) (prefix_reading limit);
+  range = λ limit. one_front (IsRangeDer limit) (refined (tagged_at 48) (range_in limit)) (range_reading limit);
 }

@@ -1,0 +1,116 @@
+// Octets of each kind, cut and altered.
+use rpki_base::asn::Asn;
+use rpki_base::memory::OrMemory;
+use rpki_der::{Cursor, DerError};
+use std::alloc::{AllocError, Global};
+use std::process::Abort;
+use std::test::Fail;
+
+// What reads the octets.
+#[derive(Clone, Copy, Debug)]
+enum Reader {
+    Number,
+}
+
+// What was read.
+#[derive(Drop, PartialEq)]
+enum Value {
+    Number(Asn),
+}
+
+impl Reader {
+    fn take(self, _alloc: Global, cursor: &mut Cursor<'_>) -> Result<Value, OrMemory<DerError>> {
+        match self {
+            Reader::Number => Ok(Value::Number(Asn::take_from(cursor)?)),
+        }
+    }
+}
+
+impl Value {
+    fn octets(&self, alloc: Global) -> Result<Vec<u8>, AllocError> {
+        let mut out = Vec::new(alloc);
+        match self {
+            Value::Number(number) => number.encode(&mut out)?,
+        }
+        Ok(out)
+    }
+}
+
+const ENCODINGS: [(Reader, &str); 3] = [
+    (Reader::Number, "020100"),
+    (Reader::Number, "02020080"),
+    (Reader::Number, "020500ffffffff"),
+];
+
+// With one octet more behind it, which is left.
+#[test]
+fn encodings_are_written_as_they_were_read(rt: HostRuntime) -> Result<(), Fail> {
+    for (reader, text) in ENCODINGS {
+        let mut octets = hex::decode(rt.alloc(), text)?;
+        octets.push(0x02)?;
+        let mut cursor = Cursor::new(&octets);
+        let Ok(value) = reader.take(rt.alloc(), &mut cursor) else {
+            panic!(rt; "{reader:?} refuses {text}");
+        };
+        assert_eq!(rt; cursor.rest(), [0x02].as_slice(), "{text}");
+        assert_eq!(rt; cursor.finish(), Err(DerError::TrailingData));
+        let written = value.octets(rt.alloc())?;
+        assert_eq!(rt; hex::encode(rt.alloc(), &written)?.as_str(), text);
+    }
+    Ok(())
+}
+
+#[test]
+fn proper_beginnings_are_truncated(rt: HostRuntime) -> Result<(), Fail> {
+    for (reader, text) in ENCODINGS {
+        let octets = hex::decode(rt.alloc(), text)?;
+        for len in 0..octets.len() {
+            let start = &octets[..len];
+            let mut cursor = Cursor::new(start);
+            let answer = reader.take(rt.alloc(), &mut cursor);
+            let is_truncated = matches!(&answer, Err(OrMemory::Refused(DerError::Truncated)));
+            assert!(rt; is_truncated, "{reader:?} of {text} at {len}");
+            assert_eq!(rt; cursor.rest(), start);
+        }
+    }
+    Ok(())
+}
+
+// Refused with the cursor where it was, or read as a value that is read again from what is written of it.
+fn check_altered(
+    rt: &impl Abort,
+    alloc: Global,
+    reader: Reader,
+    octets: &[u8],
+) -> Result<(), AllocError> {
+    let mut cursor = Cursor::new(octets);
+    match reader.take(alloc, &mut cursor) {
+        Ok(value) => {
+            let written = value.octets(alloc)?;
+            let again = reader.take(alloc, &mut Cursor::new(&written));
+            assert!(rt; matches!(&again, Ok(read) if *read == value), "{reader:?}");
+            Ok(())
+        }
+        Err(OrMemory::Refused(_)) => {
+            assert_eq!(rt; cursor.rest(), octets);
+            Ok(())
+        }
+        Err(OrMemory::Memory(error)) => Err(error),
+    }
+}
+
+#[test]
+fn altered_octets_are_refused_or_read_back(rt: HostRuntime) -> Result<(), Fail> {
+    for (reader, text) in ENCODINGS {
+        let mut octets = hex::decode(rt.alloc(), text)?;
+        for at in 0..octets.len() {
+            let kept = octets[at];
+            for octet in 0..=255 {
+                octets[at] = octet;
+                check_altered(&rt, rt.alloc(), reader, &octets)?;
+            }
+            octets[at] = kept;
+        }
+    }
+    Ok(())
+}

@@ -17,6 +17,16 @@ use Rattle.rpki_base.specs.DerReading.{IsSequenceFrom, SaysByTag, SaysPair, Skip
 pub skips_reading : {X : Type 0} (G : List ℕ → X → Type 0) (reading : List ℕ → Result (X × List ℕ) DerError) → IsReading G reading → IsReading (Skips G) (skipping reading)
 skips_reading G reading is = refined_reading G (λ x u. Unit {0}) (λ x. Unit {0}) reading (λ x. Ok tt) is (λ front x g fits. tt) (record { takes = λ x u fits e. tt; again = λ x u c. refl })
 
+-- ---- named
+
+-- what a content says, under another name
+pub mapped_check : {W X Y : Type 0} (Fits : W → Type 0) (C : W → X → Type 0) (check : W → Result X DerError) (f : X → Y) → IsCheck Fits C check
+    → IsCheck Fits (λ w y. (x : X) × C w x × (y ≡ f x)) (λ w. check w >>= λ x. Ok (f x))
+mapped_check Fits C check f is = record {
+  takes = λ w y fits e. let a = bind_ok (check w) (λ x. Ok (f x)) y e in (a.0, is.takes w a.0 fits a.1, sym (ok_is (f a.0) y a.2));
+  again = λ w y (x, says, named). rw (is.again w x says, named) refl;
+}
+
 -- ---- one of two tags
 
 -- what a value says by its tag

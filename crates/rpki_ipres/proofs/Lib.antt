@@ -1,1 +1,3 @@
 pub mod FormLemmas
+pub mod SetLemmas
+pub mod WholeLemmas

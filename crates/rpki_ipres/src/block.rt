@@ -17,6 +17,7 @@ pub enum IpBlock {
 impl IpBlock {
     ghost use Rattle.std.specs.Prelude.{◌≡◌, ◌≤◌, ◌↔◌, IsTrue};
     ghost use Rattle.rpki_base.specs.Prefixes.{PrefixValue, IsPrefix};
+    ghost use Rattle.rpki_ip.specs.Whole.{HasWholeBounds};
     ghost use Rattle.rpki_ipres.specs.Blocks.{prefix_bounds, ip_bounds, is_new_ip_block};
 
     /// All addresses: the prefix of length 0.
@@ -71,6 +72,13 @@ impl IpBlock {
             IpBlock::Prefix(prefix) => prefix.max(),
             IpBlock::Range(range) => AddressRange::max(range),
         }
+    }
+
+    /// Whether the block consists of whole IPv4 addresses.
+    pub(crate) fn is_whole_v4(&self) -> bool
+        ensures { IsTrue result ↔ HasWholeBounds (ip_bounds self.now) }
+    {
+        AddressRange::new(IpBlock::min(self), IpBlock::max(self)).is_whole_v4()
     }
 }
 

@@ -2,3 +2,6 @@
 #![tactic(auto)]
 
 pub mod block;
+pub mod blocks;
+pub mod builder;
+pub mod laws;

@@ -1,0 +1,57 @@
+-- Which sets consist of whole IPv4 addresses, by their runs.
+use Rattle.std.proofs.Common.{◌≡◌, ℕ, ◌+◌, ◌-◌, ◌%◌, ◌^◌, ◌<◌, ◌≤◌, inl, inr, true, List, length, get_or, map, refl, sym, ap, ◌∙◌, subst, arith}
+use Rattle.std.specs.Prelude.{All}
+use Rattle.std.proofs.Math.Nat.{le_refl}
+use Rattle.std.proofs.lemmas.Bool.{cases_order}
+use Rattle.std.proofs.lemmas.List.{get_or-map, length-map}
+use Rattle.std.proofs.lemmas.List.Elements.{All-map}
+use Rattle.rpki_chain.specs.Runs.{Runs, Holds, IsRunsOf}
+use Rattle.rpki_chain.specs.Sets.{IsRun, IsChainOf}
+use Rattle.rpki_chain.proofs.Chains.{IsChainOf-from}
+use Rattle.rpki_ip.specs.Whole.{IsWhole, HasWholeBounds}
+use Rattle.rpki_ip.proofs.WholeLemmas.{whole_set}
+use Rattle.rpki_ipres.specs.Blocks.{ip_bounds}
+use Rattle.rpki_ipres.specs.declared.block.IpBlock.{IpBlock}
+
+-- a run of a whole set has whole bounds
+whole_run : (S : ℕ → Type 0) (b : ℕ × ℕ) → IsRun S b → IsWhole S → HasWholeBounds b
+whole_run S b run whole =
+    let least : S b.0 = run.inside b.0 (le_refl b.0, run.ordered) in
+    let greatest : S b.1 = run.inside b.1 (run.ordered, le_refl b.1) in
+    record {
+      begins = elim (cases_order (b.0 % 2 ^ 96) 0) [
+        | inl e ↦ e
+        | inr (inl less) ↦ absurd (omega (arith, less))
+        | inr (inr more) ↦ absurd (run.starts (b.0 - 1) (omega (arith, more)) (whole b.0 (b.0 - 1) (omega (arith, more)) least))
+      ];
+      ends = elim (cases_order ((b.1 + 1) % 2 ^ 96) 0) [
+        | inl e ↦ e
+        | inr (inl less) ↦ absurd (omega (arith, less))
+        | inr (inr more) ↦ absurd (run.ends (whole b.1 (b.1 + 1) (omega (arith, more)) greatest))
+      ];
+    }
+
+-- so all runs of a whole set have
+pub whole_runs : (runs : Runs) → IsRunsOf (Holds runs) runs → IsWhole (Holds runs) → All HasWholeBounds runs
+whole_runs runs h whole k d small =
+    let chain : IsChainOf (λ (b : ℕ × ℕ). b) (λ _. true) (Holds runs) runs =
+    IsChainOf-from (λ (b : ℕ × ℕ). b) (λ _. true) runs (Holds runs) (record { ordered = h.ordered; apart = h.apart; new_form = λ k d small. refl }) (λ n. (λ held. held, λ held. held)) in
+    whole_run (Holds runs) _ (chain.runs k d small) whole
+
+-- and runs with whole bounds are a whole set
+pub runs_whole : (runs : Runs) → All HasWholeBounds runs → IsWhole (Holds runs)
+runs_whole runs all m n same (k, b, small, here, within) =
+    (k, b, small, here, whole_set b (subst HasWholeBounds here (all k b small)) m n same within)
+
+-- a block of a chain whose set is whole has whole bounds
+pub whole_block : (blocks : List IpBlock) (runs : Runs) (i : ℕ) (x : IpBlock) → map ip_bounds blocks ≡ runs → IsRunsOf (Holds runs) runs → i < length blocks → x ≡ get_or blocks i x → IsWhole (Holds runs) → HasWholeBounds (ip_bounds x)
+whole_block blocks runs i x bounds h small here whole =
+    let all : All HasWholeBounds (map ip_bounds blocks) = subst (All HasWholeBounds) (sym bounds) (whole_runs runs h whole) in
+    let long = length-map blocks ip_bounds in
+    let at : get_or (map ip_bounds blocks) i (ip_bounds x) ≡ ip_bounds (get_or blocks i x) = get_or-map ip_bounds blocks i x (ip_bounds x) small in
+    subst HasWholeBounds (at ∙ ap ip_bounds (sym here)) (all i (ip_bounds x) (omega (arith, long, small)))
+
+-- and blocks that all have are a whole set
+pub blocks_whole : (blocks : List IpBlock) (runs : Runs) (n : ℕ) → map ip_bounds blocks ≡ runs → length blocks ≤ n → ((k : ℕ) (d : IpBlock) → k < n → HasWholeBounds (ip_bounds (get_or blocks k d))) → IsWhole (Holds runs)
+blocks_whole blocks runs n bounds end each =
+    runs_whole runs (subst (All HasWholeBounds) bounds (All-map HasWholeBounds ip_bounds blocks (λ k d small. each k d (omega (arith, end, small)))))

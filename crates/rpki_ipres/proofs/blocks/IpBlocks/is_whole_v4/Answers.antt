@@ -1,0 +1,33 @@
+use Rattle.std.proofs.Common.{◌≡◌, ◌∙◌, false, true, inl, inr, get_or, refl, sym, ap, subst, arith}
+use Rattle.std.proofs.lemmas.Bool.{cases_order}
+use Rattle.std.proofs.lemmas.List.{get_or_default}
+use Rattle.rpki_ip.specs.Whole.{HasWholeBounds}
+use Rattle.rpki_ipres.specs.Blocks.{ip_bounds}
+use Rattle.rpki_ipres.proofs.WholeLemmas.{whole_block, blocks_whole}
+use Rattle.rpki_ipres.proofs.blocks.IpBlocks.is_whole_v4.Goals as goal
+
+pub loop-block-preserved : goal.loop-block-preserved
+loop-block-preserved g c = λ k d before.
+    let blocks = c.as_slice-blocks.result.now in
+    let whole = c.is_whole_v4.ensures.0 c.if-not-is_whole_v4.false in
+    elim (cases_order k c.loop-block.block-index) [
+      | inl e ↦ (
+          let here : c.block-item.result ≡ get_or blocks k d = c.block-item.is ∙ get_or_default blocks c.loop-block.block-index c.block-item.result d c.loop-block-test.true ∙ ap (λ i. get_or blocks i d) (sym e) in
+          subst (λ x. HasWholeBounds (ip_bounds x)) here whole)
+      | inr (inl less) ↦ c.loop-block.invariant k d less
+      | inr (inr more) ↦ absurd (omega (arith, more, before))
+    ]
+
+pub returns-then-not-is_whole_v4 : goal.returns-then-not-is_whole_v4
+returns-then-not-is_whole_v4 g c =
+    let bounds = rw c.self.view_is at c.as_slice-blocks.ensures.blocks in
+    let runs = rw c.self.view_is at c.as_slice-blocks.ensures.set.are_runs in
+    let no = c.if-not-is_whole_v4.true in (
+      λ t. absurd (let z : false ≡ true = t in cc),
+      λ whole. sym no ∙ c.is_whole_v4.ensures.1 (whole_block _ _ c.loop-block.block-index c.block-item.result bounds runs c.loop-block-test.true c.block-item.is whole),
+    )
+
+pub returns : goal.returns
+returns g c =
+    let bounds = rw c.self.view_is at c.as_slice-blocks.ensures.blocks in
+    (λ t. blocks_whole _ _ c.loop-block.block-index bounds (omega (arith, c.loop-block-test.false)) c.loop-block.invariant, λ whole. refl)

@@ -1,0 +1,63 @@
+//! Sets of addresses, built block by block.
+ghost use Rattle.std.specs.Prelude.{◌≡◌, ◌++◌, [], ◌∷◌, IfOk, OnOk, OnErr, map};
+ghost use Rattle.rpki_chain.specs.Runs.{Holds, IsRunsOf};
+ghost use Rattle.rpki_ipres.specs.Blocks.{ip_bounds};
+
+use crate::block::IpBlock;
+use crate::blocks::IpBlocks;
+use rpki_chain::builder::BlockSetBuilder;
+use std::alloc::{AllocError, Allocator, Global};
+use std::marker::Model;
+
+/// Collects blocks of addresses, in any order, for a set of them. It keeps the allocator that it is given.
+///
+/// Contracts see it as the list of the blocks' least and greatest addresses, in the order in which they came.
+#[derive(Drop)]
+pub struct IpBlocksBuilder<A: Allocator = Global> {
+    blocks: BlockSetBuilder<IpBlock, A>,
+}
+
+impl<A: Allocator> Model for IpBlocksBuilder<A> {
+    ghost use Rattle.std.specs.Prelude.{ℕ, List};
+
+    ghost Value = { List (ℕ × ℕ) };
+
+    ghost view = { λ b. b.blocks };
+}
+
+impl<A: Allocator> IpBlocksBuilder<A> {
+    /// A builder that has no blocks yet.
+    pub fn new(alloc: A) -> IpBlocksBuilder<A>
+        ensures { result ≡ [] }
+    {
+        IpBlocksBuilder {
+            blocks: BlockSetBuilder::new(alloc),
+        }
+    }
+
+    /// Adds a block. `AllocError` where there is no memory for it; then the builder has the blocks that it had.
+    pub fn push(&mut self, block: IpBlock) -> Result<(), AllocError>
+        ensures ok { OnOk result (self.new ≡ self.old ++ ip_bounds block ∷ []) }
+        ensures err { OnErr result (self.new ≡ self.old) }
+    {
+        self.blocks.push(block)
+    }
+
+    /// Adds several blocks. `AllocError` where there is no memory for them; then the builder has the blocks that it had.
+    pub fn extend_from(&mut self, blocks: &[IpBlock]) -> Result<(), AllocError>
+        ensures ok { OnOk result (self.new ≡ self.old ++ map ip_bounds blocks.now) }
+        ensures err { OnErr result (self.new ≡ self.old) }
+    {
+        self.blocks.extend_from(blocks)
+    }
+
+    /// The set of the addresses that some of the blocks has. `AllocError` where there is no memory for it.
+    pub fn finalize(self) -> Result<IpBlocks<A>, AllocError>
+    where
+        A: Copy,
+        ensures { IfOk result (IsRunsOf (Holds self)) }
+    {
+        let set = self.blocks.finalize()?;
+        Ok(IpBlocks::from_set(set))
+    }
+}

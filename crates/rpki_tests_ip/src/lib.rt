@@ -5,4 +5,8 @@
 #[cfg(test)]
 mod prefixes;
 #[cfg(test)]
+mod range_texts;
+#[cfg(test)]
 mod ranges;
+#[cfg(test)]
+mod shown;

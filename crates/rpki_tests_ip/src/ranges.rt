@@ -8,7 +8,10 @@ use rpki_ip::addr::Addr;
 use rpki_ip::family::AddressFamily;
 use rpki_ip::prefix::Prefix;
 use rpki_ip::range::AddressRange;
+use rpki_prefix::max_len::MaxLenPrefix;
+use rpki_prefix::prefix::Prefix as FamilyPrefix;
 use std::fmt;
+use std::hash::{FoldHasher, Hash, Hasher};
 use std::str::FromStr;
 use std::test::Fail;
 
@@ -193,5 +196,28 @@ fn ranges_as_blocks(rt: HostRuntime) -> Result<(), Fail> {
     assert!(rt; low.sum(&high) == Some(range(0, u128::MAX)));
     let chain = OwnedChain::from_blocks(rt.alloc(), &[high, range(1, 2), low])?;
     assert!(rt; chain.as_chain().as_slice() == [range(0, u128::MAX)].as_slice());
+    Ok(())
+}
+
+// ---- hashes
+
+fn hash_of<T: Hash>(value: &T) -> u64 {
+    let mut hasher = FoldHasher::default();
+    value.hash(&mut hasher);
+    hasher.finish()
+}
+
+#[test]
+fn equal_values_have_equal_hashes(rt: HostRuntime) -> Result<(), Fail> {
+    let low = Addr::from_str("10.0.0.0")?;
+    assert!(rt; hash_of(&low) == hash_of(&Addr::from_bits(10 << 120)));
+    let prefix = Prefix::new(low, 8);
+    assert!(rt; hash_of(&prefix) == hash_of(&Prefix::from_str("10.0.0.1/8")?));
+    let span = range(10 << 120, (11 << 120) - 1);
+    assert!(rt; hash_of(&span) == hash_of(&AddressRange::from(prefix)));
+    let family = FamilyPrefix::from_str("10.0.0.0/8")?;
+    assert!(rt; hash_of(&family) == hash_of(&FamilyPrefix::from_str_relaxed("10.1.0.0/8")?));
+    let least = MaxLenPrefix::from(family);
+    assert!(rt; hash_of(&least) == hash_of(&MaxLenPrefix::from_str("10.0.0.0/8")?));
     Ok(())
 }

@@ -1,8 +1,9 @@
 -- From the reading to the grammar, for calls that take memory, or that look at the tag first.
-use Rattle.std.proofs.Common.{◌≡◌, ℕ, Bool, true, false, cond, List, Option, Some, None, Result, Ok, Err, refl, ap, sym, ◌∙◌, option_map}
+use Rattle.std.proofs.Common.{◌≡◌, ℕ, Bool, true, false, cond, List, ◌++◌, Option, Some, None, Result, Ok, Err, refl, ap, subst, sym, ◌∙◌, option_map}
+use Rattle.std.specs.Prelude.{MatchResult}
 use Rattle.rpki_der.specs.declared.cursor.Cursor.{Cursor}
 use Rattle.rpki_der.specs.declared.error.DerError.{DerError}
-use Rattle.rpki_der.specs.Der.{IsBytes}
+use Rattle.rpki_der.specs.Der.{IsBytes, Refines}
 use Rattle.rpki_der.specs.Reading.{◌>>=◌, IsReading, optional}
 use Rattle.rpki_der.specs.Views.{ReadsOptional, Takes, left}
 use Rattle.rpki_der.proofs.Cursors.{none_by, reads_optional_by}
@@ -10,7 +11,8 @@ use Rattle.rpki_der.proofs.Steps.{ok_is}
 use Rattle.rpki_base.specs.declared.memory.OrMemory.{OrMemory}
 use Rattle.rpki_base.specs.declared.memory.OrMemory.TheVariants.{Refused, Memory}
 use Rattle.rpki_base.specs.DerReading.{begins_with, if_tagged}
-use Rattle.rpki_base.specs.DerViews.{ReadsOrMemory, ReadsTagged, TakesOrMemory}
+use Rattle.rpki_base.specs.DerViews.{ReadsOrMemory, ReadsTagged, TakesOrMemory, TakesSaidOrMemory}
+use Rattle.rpki_base.specs.Memory.{IsMemory}
 
 -- a take that may want memory
 pub reads_or_memory_by : {X Y : Type 0} (G : List ℕ → Y → Type 0) (reading : List ℕ → Result (Y × List ℕ) DerError) (view : X → Y) (old new : Cursor) (result : Result X (OrMemory DerError))
@@ -81,3 +83,30 @@ reads_tagged_by {X} tag G reading old new result is fits = decided result
     decided (Ok None) took = none (begins_with tag (left old)) refl took
     decided (Ok (Some x)) took = some x (begins_with tag (left old)) refl took
     decided (Err e) took = fails e (begins_with tag (left old)) refl took.0 took.1
+
+-- no result is both Ok and Err
+ok_or_err : {A : Type 0} (x : A) (e : DerError) (r : Result A DerError) → r ≡ Ok x → r ≡ Err e → ⊥
+ok_or_err x e r p q = cc
+
+-- a take that answers what is said by what the reading gives
+pub reads_said_by : {X Y : Type 0} (G : List ℕ → Y → Type 0) (C : Y → X → Type 0) (reading : List ℕ → Result (Y × List ℕ) DerError) (old new : Cursor) (result : Result X (OrMemory DerError))
+    → IsReading G reading → IsBytes (left old) → TakesSaidOrMemory C old new result reading → ReadsOrMemory (Refines G C) (λ x. x) old new result
+reads_said_by G C reading old new (Ok x) is fits (y, read, says) = let found = is.takes (left old) y (left new) fits read in (found.0, (y, found.1, says), found.2)
+reads_said_by G C reading old new (Err (Refused e)) is fits (failed, kept) = ((λ x rest found. none_by G reading (left old) e is failed found.1.0 rest (found.0, found.1.1, found.2)), kept)
+reads_said_by G C reading old new (Err (Memory e)) is fits (failed, kept) = (tt, kept)
+
+-- such a take, where a value stands at the front: it answers the one thing that the value says
+pub takes_said : {X Y : Type 0} (G : List ℕ → Y → Type 0) (C : Y → X → Type 0) (reading : List ℕ → Result (Y × List ℕ) DerError) (old new : Cursor) (result : Result X (OrMemory DerError))
+    → IsReading G reading → ((y : Y) (a b : X) → C y a → C y b → a ≡ b) → TakesSaidOrMemory C old new result reading
+    → (front rest : List ℕ) (y : Y) (x : X) → G front y → C y x → left old ≡ front ++ rest → MatchResult result (λ read. (read ≡ x) × (left new ≡ rest)) IsMemory
+takes_said {X} {Y} G C reading old new result is one took front rest y x grammar says at = decided result took
+  where
+    expected : reading (left old) ≡ Ok (y, rest)
+    expected = ap reading at ∙ is.again front y rest grammar
+
+    decided : (result : Result X (OrMemory DerError)) → TakesSaidOrMemory C old new result reading → MatchResult result (λ read. (read ≡ x) × (left new ≡ rest)) IsMemory
+    decided (Ok read) (z, found, tell) =
+        let both = ok_is (z, left new) (y, rest) (sym found ∙ expected) in
+        (one y read x (subst (λ y. C y read) (ap (λ p. p.0) both) tell) says, ap (λ p. p.1) both)
+    decided (Err (Refused e)) (failed, kept) = absurd (ok_or_err (y, rest) e (reading (left old)) expected failed)
+    decided (Err (Memory e)) (failed, kept) = tt

@@ -1,14 +1,24 @@
--- Lists that are written: they are values of the grammar, and no two lists are written alike.
-use Rattle.std.proofs.Common.{◌≡◌, ℕ, ◌^◌, ◌<◌, List, [], ◌∷◌, length, Result, Ok, refl, sym, ap, ◌∙◌, arith}
+-- Lists that are written: they are values of the grammar, and no two lists are written alike, also in a SEQUENCE.
+use Rattle.std.proofs.Common.{◌≡◌, ℕ, ◌+◌, ◌^◌, ◌<◌, ◌≤◌, ◌⊎◌, Bool, cond, ltb, List, [], ◌∷◌, ◌++◌, length, drop, Result, Ok, refl, sym, ap, ◌∙◌, arith, inl, inr}
+use Rattle.std.proofs.lemmas.Bool.{cases_lt, le-ltb, lt-ltb}
+use Rattle.std.proofs.lemmas.List.{drop_at}
 use Rattle.std.specs.List.{AllByRecursion}
 use Rattle.rpki_der.specs.declared.error.DerError.{DerError}
-use Rattle.rpki_der.specs.Der.{Each}
+use Rattle.rpki_der.specs.Der.{Each, header, length_octets, octets, sequence_value}
 use Rattle.rpki_der.specs.Reading.{IsReading, each}
 use Rattle.rpki_der.proofs.Steps.{ok_is}
 use Rattle.rpki_der.proofs.Lists.{HasOctets, each_again}
 use Rattle.rpki_der.proofs.Written.{value_is}
 use Rattle.rpki_base.specs.DerReading.{IsSequenceOf}
 use Rattle.rpki_base.specs.DerWriting.{octets_of_all, sequence_octets}
+
+-- the first of lists that are one
+head_of : (a b : ℕ) (xs ys : List ℕ) → a ∷ xs ≡ b ∷ ys → a ≡ b
+head_of a b xs ys e = cc
+
+-- and what follows it
+tail_of : (a b : ℕ) (xs ys : List ℕ) → a ∷ xs ≡ b ∷ ys → xs ≡ ys
+tail_of a b xs ys e = cc
 
 module _ {X : Type 0} (G : List ℕ → X → Type 0) (octets : X → List ℕ) where
   -- values that are written one after another are such values
@@ -29,3 +39,25 @@ module _ {X : Type 0} (G : List ℕ → X → Type 0) (octets : X → List ℕ) 
       let first : each steps reading (octets_of_all octets xs) ≡ Ok xs = each_again next (λ _. G) (λ _. reading) (λ _. is) (λ _. has) xs steps tt (octets_of_all octets xs) (omega arith) (each_written xs all) in
       let second : each steps reading (octets_of_all octets ys) ≡ Ok ys = each_again next (λ _. G) (λ _. reading) (λ _. is) (λ _. has) ys steps tt (octets_of_all octets ys) (let e = ap (λ (t : List ℕ). length t) same in omega arith) (each_written ys also) in
       ok_is xs ys (sym first ∙ ap (each steps reading) same ∙ second)
+
+-- what follows the octets of a length is known by them, since the first tells how many others there are
+after_length : (m n : ℕ) (xs ys : List ℕ) → length_octets m ++ xs ≡ length_octets n ++ ys → xs ≡ ys
+unfolding length_octets
+after_length m n xs ys = by_order (cases_lt m 128) (cases_lt n 128)
+  where
+    spelled : ℕ → Bool → List ℕ
+    spelled k short = cond short (k ∷ []) ((128 + length (octets k)) ∷ octets k)
+
+    by_order : (m < 128) ⊎ (128 ≤ m) → (n < 128) ⊎ (128 ≤ n) → spelled m (ltb m 128) ++ xs ≡ spelled n (ltb n 128) ++ ys → xs ≡ ys
+    by_order (inl a) (inl b) = rw (lt-ltb m 128 a, lt-ltb n 128 b) (λ e. tail_of m n xs ys e)
+    by_order (inl a) (inr b) = rw (lt-ltb m 128 a, le-ltb n 128 b) (λ e. absurd (let h : m ≡ 128 + length (octets n) = head_of m (128 + length (octets n)) xs (octets n ++ ys) e in omega (arith, h, a)))
+    by_order (inr a) (inl b) = rw (le-ltb m 128 a, lt-ltb n 128 b) (λ e. absurd (let h : 128 + length (octets m) ≡ n = head_of (128 + length (octets m)) n (octets m ++ xs) ys e in omega (arith, h, b)))
+    by_order (inr a) (inr b) = rw (le-ltb m 128 a, le-ltb n 128 b) (λ e.
+        let h : 128 + length (octets m) ≡ 128 + length (octets n) = head_of (128 + length (octets m)) (128 + length (octets n)) (octets m ++ xs) (octets n ++ ys) e in
+        let t = tail_of (128 + length (octets m)) (128 + length (octets n)) (octets m ++ xs) (octets n ++ ys) e in
+        sym (drop_at (octets m) xs (length (octets m)) refl) ∙ ap (λ (ts : List ℕ). drop (length (octets m)) ts) t ∙ drop_at (octets n) ys (length (octets m)) (omega (arith, h)))
+
+-- SEQUENCEs that are written alike have one content
+pub one_content : (xs ys : List ℕ) → sequence_value xs ≡ sequence_value ys → xs ≡ ys
+unfolding header
+one_content xs ys same = after_length (length xs) (length ys) xs ys (tail_of 48 48 (length_octets (length xs) ++ xs) (length_octets (length ys) ++ ys) same)

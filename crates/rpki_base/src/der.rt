@@ -3,4 +3,4 @@ mod read;
 mod write;
 
 pub use read::{ReadNext, read_values, take_sequence_of};
-pub use write::{Encode, encode_all, encode_sequence};
+pub use write::{Encode, encode_all, encode_sequence, sequence_len};

@@ -25,6 +25,12 @@ length_bit_string unused octets few =
     let small : ltb (length (unused ∷ octets)) 128 ≡ true = lt-ltb (length (unused ∷ octets)) 128 (omega arith) in
     rw small (omega arith)
 
+-- of a family
+pub length_family : (family : AddressFamily) → length (family_der family) ≡ 4
+unfolding header length_octets
+length_family Ipv4 = refl
+length_family Ipv6 = refl
+
 -- of a prefix
 pub length_prefix : (p : PrefixValue) → IsPrefix 128 p → length (prefix_der p) < 20
 length_prefix p is = length_bit_string _ _ (bits_few p is)

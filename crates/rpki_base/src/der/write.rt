@@ -56,6 +56,15 @@ pub fn encode_all<V: Encode, A: Allocator>(
     Ok(())
 }
 
+/// How many octets `encode_sequence` appends; None where no length can tell it.
+pub fn sequence_len<V: Encode>(values: &[V]) -> Option<usize>
+    ensures some { IfSome result (λ n. n ≡ length (sequence_octets V.octets values.now)) }
+    ensures none { IfNone result (2 ^ 64 ≤ length (sequence_octets V.octets values.now)) }
+{
+    let content_len = len_of_all(values)?;
+    header_len(tag::SEQUENCE, content_len).checked_add(content_len)
+}
+
 /// Appends a SEQUENCE of the values. `AllocError` where there is no memory for all of it, or where no length can tell how
 /// many octets it has; then the octets stay as they were.
 pub fn encode_sequence<V: Encode, A: Allocator>(

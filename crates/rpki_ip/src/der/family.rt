@@ -1,7 +1,7 @@
 //! Address families in DER.
 use crate::der::error::DecodeFamilyError;
 use crate::family::AddressFamily;
-use rpki_der::{Cursor, DerError, put_octets, tag};
+use rpki_der::{Cursor, DerError, octets_len, put_octets, tag};
 use std::alloc::{AllocError, Allocator};
 
 impl AddressFamily {
@@ -47,6 +47,14 @@ impl AddressFamily {
         ensures exact { Takes (λ u. u) cursor.old cursor.new result (if_tagged 4 (skipping family_at)) }
     {
         Self::pass_over_opt(cursor)
+    }
+
+    /// How many octets `encode` appends.
+    pub fn encoded_len(&self) -> usize
+        ensures len { result ≡ length (family_der self.now) }
+        ensures short { result ≡ 4 }
+    {
+        octets_len(self.octets())
     }
 
     /// Appends the OCTET STRING of the family. `AllocError` where there is no memory for it.

@@ -34,7 +34,19 @@ impl Prefix {
         ensures reads { Lenient cursor.old (Reads (IsPrefixDer 128) (λ p. p) cursor.old cursor.new result) }
         ensures exact { Lenient cursor.old (Takes (λ p. p) cursor.old cursor.new result (prefix_at 128)) }
     {
-        Self::next(cursor)
+        Self::next(cursor, 128)
+    }
+
+    /// Takes the BIT STRING of a prefix of the family as `take_from` does. `BadPrefix` also for a prefix that is longer than
+    /// the family's addresses.
+    pub fn take_from_with_family(
+        cursor: &mut Cursor<'_>,
+        family: AddressFamily,
+    ) -> Result<Prefix, DerError>
+        ensures reads { Lenient cursor.old (Reads (IsPrefixDer (bits_of family)) (λ p. p) cursor.old cursor.new result) }
+        ensures exact { Lenient cursor.old (Takes (λ p. p) cursor.old cursor.new result (prefix_at (bits_of family))) }
+    {
+        Self::next(cursor, family.max_addr_len())
     }
 
     /// The content as the BIT STRING of a prefix, whatever the tag is.
@@ -134,15 +146,16 @@ impl Prefix {
     }
 
     #[tactic(auto, unfolding(rpki_der::specs::Reading::refined, rpki_der::specs::Reading::tagged_at))]
-    fn next(cursor: &mut Cursor<'_>) -> Result<Prefix, DerError>
-        ensures exact { Takes (λ p. p) cursor.old cursor.new result (prefix_at 128) }
+    fn next(cursor: &mut Cursor<'_>, limit: u8) -> Result<Prefix, DerError>
+        requires { limit ≤ 128 }
+        ensures exact { Takes (λ p. p) cursor.old cursor.new result (prefix_at limit) }
     {
         let mut ahead = *cursor;
         let value = ahead.take_value()?;
         if value.tag() != tag::BIT_STRING {
             return Err(DerError::BadTag);
         }
-        let prefix = Self::of_content(&value, 128)?;
+        let prefix = Self::of_content(&value, limit)?;
         *cursor = ahead;
         Ok(prefix)
     }

@@ -5,3 +5,5 @@ pub mod block;
 pub mod blocks;
 pub mod builder;
 pub mod laws;
+pub mod list;
+pub mod text;

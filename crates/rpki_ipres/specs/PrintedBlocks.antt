@@ -1,0 +1,31 @@
+-- What is printed of blocks of addresses, as those of a family.
+use Rattle.std.specs.Prelude.{ℕ, List, map}
+use Rattle.rpki_base.specs.Lists.{joined}
+use Rattle.rpki_base.specs.Prefixes.{IsPrefix}
+use Rattle.rpki_ip.specs.PrintedText.{prefix_text, range_text}
+use Rattle.rpki_ip.specs.Ranges.{IsRange}
+use Rattle.rpki_ip.specs.Whole.{HasWholeBounds}
+use Rattle.rpki_ip.specs.declared.family.AddressFamily.{AddressFamily}
+use Rattle.rpki_ip.specs.declared.family.AddressFamily.TheVariants.{Ipv4, Ipv6}
+use Rattle.rpki_ipres.specs.Blocks.{ip_bounds}
+use Rattle.rpki_ipres.specs.declared.block.IpBlock.{IpBlock}
+use Rattle.rpki_ipres.specs.declared.block.IpBlock.TheVariants.{Prefix, Range}
+
+-- what is printed of a block, in its own form
+abbrev pub block_text : AddressFamily → IpBlock → List ℕ
+block_text family (Prefix p) = prefix_text family p
+block_text family (Range r) = range_text family r
+
+-- what is printed of a list of blocks
+abbrev pub block_list_text : AddressFamily → List IpBlock → List ℕ
+block_list_text family blocks = joined (map (block_text family) blocks)
+
+-- the block is a prefix of 128 bits, or a range of addresses of 128 bits
+abbrev pub IsBlock : IpBlock → Type 0
+IsBlock (Prefix p) = IsPrefix 128 p
+IsBlock (Range r) = IsRange r
+
+-- the block is one of the family: any of IPv6, and in IPv4 one of whole addresses
+abbrev pub IsBlockOf : AddressFamily → IpBlock → Type 0
+IsBlockOf Ipv4 b = IsBlock b × HasWholeBounds (ip_bounds b)
+IsBlockOf Ipv6 b = IsBlock b

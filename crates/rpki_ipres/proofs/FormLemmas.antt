@@ -13,6 +13,7 @@ use Rattle.rpki_ip.specs.AddrText.{first_of}
 use Rattle.rpki_ip.specs.Ranges.{RangeValue, IsRangeOf, range_bounds}
 use Rattle.rpki_ipres.specs.BlockForms.{both_pass, IpBlock-one_new_form}
 use Rattle.rpki_ipres.specs.Blocks.{prefix_bounds, ip_bounds, has_length, length_upto, length_of, is_new_ip_block, block_from, new_ip_block}
+use Rattle.rpki_ipres.specs.PrintedBlocks.{IsBlock}
 use Rattle.rpki_ipres.specs.declared.block.IpBlock.{IpBlock}
 use Rattle.rpki_ipres.specs.declared.block.IpBlock.TheVariants.{Prefix, Range}
 
@@ -28,15 +29,22 @@ has_own_length p is =
 pub new_prefix : (p : PrefixValue) → IsPrefix 128 p → IsTrue (is_new_ip_block (Prefix p))
 new_prefix p is = rw (le-leb p.len 128 is.short) (has_own_length p is)
 
--- bounds with a length are those of a prefix
-of_length : (r : RangeValue) (len : ℕ) → r.max < 2 ^ 128 → len ≤ 128 → has_length (range_bounds r) len ≡ true → (p : PrefixValue) × IsPrefix 128 p × IsRangeOf p r
+-- bounds with a length begin a prefix of that length
+prefix_of_length : (b : ℕ × ℕ) (len : ℕ) → b.1 < 2 ^ 128 → len ≤ 128 → has_length b len ≡ true → IsPrefix 128 (record { first = b.0; len = len })
 unfolding has_length
-of_length r len below short pass =
-    let parts = both_pass (r.min % 2 ^ (128 - len) == 0) (r.min + 2 ^ (128 - len) == r.max + 1) pass in
+prefix_of_length b len below short has =
+    let parts = both_pass (b.0 % 2 ^ (128 - len) == 0) (b.0 + 2 ^ (128 - len) == b.1 + 1) has in
     let some : 0 < 2 ^ (128 - len) = pow_pos (128 - len) in
-    let aligned : r.min % 2 ^ (128 - len) ≡ 0 = eqb-true _ _ parts.0 in
-    let count : r.min + 2 ^ (128 - len) ≡ r.max + 1 = eqb-true _ _ parts.1 in
-    (record { first = r.min; len = len }, record { short = short; aligned = aligned; below = omega (arith, some, count, below) }, record { begins = refl; ends = omega (arith, some, count) })
+    let count : b.0 + 2 ^ (128 - len) ≡ b.1 + 1 = eqb-true _ _ parts.1 in
+    record { short = short; aligned = eqb-true _ _ parts.0; below = omega (arith, some, count, below) }
+
+-- which has these bounds
+bounds_of_length : (b : ℕ × ℕ) (len : ℕ) → has_length b len ≡ true → prefix_bounds (record { first = b.0; len = len }) ≡ b
+unfolding has_length
+bounds_of_length b len has =
+    let count : b.0 + 2 ^ (128 - len) ≡ b.1 + 1 = eqb-true _ _ (both_pass (b.0 % 2 ^ (128 - len) == 0) (b.0 + 2 ^ (128 - len) == b.1 + 1) has).1 in
+    let last : b.0 + 2 ^ (128 - len) - 1 ≡ b.1 = omega (arith, count) in
+    λ i. (b.0, last i)
 
 -- a length that is found is had
 found_length : (n : ℕ) (b : ℕ × ℕ) (len : ℕ) → length_upto n b ≡ Some len → (len ≤ n) × (has_length b len ≡ true)
@@ -71,16 +79,8 @@ new_range r below no_prefix = by_length (length_of (range_bounds r)) refl
     by_length None e = ap is_none e
     by_length (Some len) e =
         let (short, has) = found_length 128 (range_bounds r) len e in
-        let (p, is, of) = of_length r len below short has in
-        absurd (no_prefix p is of)
-
--- a prefix of the length that bounds have has these bounds
-bounds_of_length : (b : ℕ × ℕ) (len : ℕ) → has_length b len ≡ true → prefix_bounds (record { first = b.0; len = len }) ≡ b
-unfolding has_length
-bounds_of_length b len has =
-    let count : b.0 + 2 ^ (128 - len) ≡ b.1 + 1 = eqb-true _ _ (both_pass (b.0 % 2 ^ (128 - len) == 0) (b.0 + 2 ^ (128 - len) == b.1 + 1) has).1 in
-    let last : b.0 + 2 ^ (128 - len) - 1 ≡ b.1 = omega (arith, count) in
-    λ i. (b.0, last i)
+        let last : prefix_bounds (record { first = r.min; len = len }) ≡ range_bounds r = bounds_of_length (range_bounds r) len has in
+        absurd (no_prefix (record { first = r.min; len = len }) (prefix_of_length (range_bounds r) len below short has) (record { begins = refl; ends = sym (ap (λ (b : ℕ × ℕ). b.1) last) }))
 
 -- the block that is made of bounds has these bounds, and is in new form
 pub record IsMadeOf (b : ℕ × ℕ) (x : IpBlock) : Type 0 where
@@ -98,7 +98,16 @@ new_block b = by_length (length_of b) refl
         let bounds = bounds_of_length b len has in
         record { bounds = bounds; new_form = rw (le-leb len 128 short) (ap (λ c. has_length c len) bounds ∙ has) }
 
--- so it is any block in new form with these bounds
+-- a block that is made of the bounds of addresses is one of addresses
+pub new_block_fits : (b : ℕ × ℕ) → b.0 ≤ b.1 → b.1 < 2 ^ 128 → IsBlock (new_ip_block b)
+unfolding length_of
+new_block_fits b ordered below = by_length (length_of b) refl
+  where
+    by_length : (o : Option ℕ) → length_of b ≡ o → IsBlock (block_from b o)
+    by_length None e = record { ordered = ordered; below = below }
+    by_length (Some len) e = let (short, has) = found_length 128 b len e in prefix_of_length b len below short has
+
+-- any block in new form is the one that is made of its bounds
 pub is_new_block : (x : IpBlock) → IsTrue (is_new_ip_block x) → new_ip_block (ip_bounds x) ≡ x
 is_new_block x new = let made = new_block (ip_bounds x) in IpBlock-one_new_form (new_ip_block (ip_bounds x)) x made.new_form new made.bounds
 

@@ -3,5 +3,6 @@ pub mod ListLemmas
 pub mod PrintedLemmas
 pub mod PrintedLists
 pub mod SetLemmas
+pub mod SetTextLemmas
 pub mod TextLemmas
 pub mod WholeLemmas

@@ -4,3 +4,4 @@ pub mod BlockText
 pub mod Equality
 pub mod ListText
 pub mod PrintedBlocks
+pub mod SetText

@@ -1,17 +1,25 @@
 //! Sets of addresses.
-ghost use Rattle.std.specs.Prelude.{◌≡◌, ℕ, ◌↔◌, ◌⊎◌, [], ◌∷◌, All, IsTrue, IfOk, OnOk, OnErr, map};
+ghost use Rattle.std.specs.Prelude.{◌≡◌, ℕ, ◌↔◌, ◌⊎◌, [], ◌∷◌, All, IsTrue, IfOk, OnOk, OnErr, map, MatchResult};
 ghost use Rattle.std.specs.Slice.Iter.{iter_rest};
-ghost use Rattle.rpki_chain.specs.BlockSets.{IsBlockSet};
+ghost use Rattle.rpki_base.specs.Memory.{IsMemory};
+ghost use Rattle.rpki_base.specs.Reading.{AnswersOrMemory};
 ghost use Rattle.rpki_chain.specs.Equality.{same_runs, runs_per, runs_equiv};
 ghost use Rattle.rpki_chain.specs.Runs.{Runs, Holds, IsRunsOf};
 ghost use Rattle.rpki_chain.specs.Sets.{IsWithin, Covers};
 ghost use Rattle.rpki_ip.specs.Ranges.{range_bounds};
 ghost use Rattle.rpki_ip.specs.Whole.{IsWhole};
+ghost use Rattle.rpki_ip.specs.declared.family.AddressFamily.TheVariants.{Ipv4, Ipv6};
 ghost use Rattle.rpki_ipres.specs.Blocks.{ip_bounds, is_new_ip_block};
+ghost use Rattle.rpki_ipres.specs.ListText.{HasIpBlocks, HasIpBlocksFault};
+ghost use Rattle.rpki_ipres.specs.SetText.{IsIpSet, IsFamilySet, IsSetOf, set_text};
 
 use crate::block::IpBlock;
+use crate::family::IpBlocksForFamily;
+use crate::list::read_ip_blocks;
+use rpki_base::memory::OrMemory;
 use rpki_chain::owned::OwnedChain;
 use rpki_chain::set::BlockSet;
+use rpki_ip::error::FromStrError;
 use rpki_ip::range::AddressRange;
 use std::alloc::{AllocError, Allocator, Global};
 use std::marker::Model;
@@ -93,9 +101,48 @@ impl<A: Allocator> IpBlocks<A> {
     pub fn iter(&self) -> Iter<'_, IpBlock>
         ensures blocks { map ip_bounds (iter_rest result) ≡ self.now }
         ensures new_form { All (λ block. IsTrue (is_new_ip_block block)) (iter_rest result) }
-        ensures set { IsBlockSet 340282366920938463463374607431768211455 self.now }
+        ensures set { IsIpSet self.now }
     {
         self.set.iter()
+    }
+
+    /// The blocks of the set, ascending: its runs, each a Prefix where it is one, and else a Range.
+    pub(crate) fn as_slice(&self) -> &[IpBlock]
+        ensures blocks { map ip_bounds result.now ≡ self.now }
+        ensures new_form { All (λ block. IsTrue (is_new_ip_block block)) result.now }
+        ensures set { IsIpSet self.now }
+    {
+        self.set.as_slice()
+    }
+
+    /// The set, to be displayed as one of IPv4: its blocks, ascending, joined by a comma and a space.
+    pub fn as_v4(&self) -> IpBlocksForFamily<'_, A>
+        ensures { result ≡ (Ipv4, self.now) }
+    {
+        IpBlocksForFamily::v4(self)
+    }
+
+    /// The set, to be displayed as one of IPv6: its blocks, ascending, joined by a comma and a space.
+    pub fn as_v6(&self) -> IpBlocksForFamily<'_, A>
+        ensures { result ≡ (Ipv6, self.now) }
+    {
+        IpBlocksForFamily::v6(self)
+    }
+
+    /// The set that a list of blocks writes: of IPv6 if a colon stands anywhere in it, and else of IPv4. The text is
+    /// cut at commas, white space round an element is dropped, and so is an element that is empty then. The first
+    /// element that is no block of the family is refused by [`FromStrError::FamilyMismatch`].
+    pub fn from_str(alloc: A, text: &str) -> Result<IpBlocks<A>, OrMemory<FromStrError>>
+    where
+        A: Copy,
+        ensures exact { AnswersOrMemory (λ set. set) (IsSetOf (HasIpBlocks text.now)) (HasIpBlocksFault text.now) result }
+        // What is printed of a set is read as that set: in IPv4 where it consists of whole IPv4 addresses, in IPv6 always.
+        ensures reads_back { (family : _) (set : Runs) → IsFamilySet family set → text.now ≡ set_text family set
+            → MatchResult result (λ read. read ≡ set) IsMemory }
+    {
+        let blocks = read_ip_blocks(alloc, text)?;
+        let set = Self::from_blocks(alloc, blocks.as_slice())?;
+        Ok(set)
     }
 
     /// Whether the set has each address of another.

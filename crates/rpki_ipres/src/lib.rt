@@ -1,9 +1,10 @@
-//! Blocks of IP addresses and sets of them (RFC 3779, 2).
+//! Blocks of IP addresses and sets of them (RFC 3779, 2), with their texts.
 #![tactic(auto)]
 
 pub mod block;
 pub mod blocks;
 pub mod builder;
+pub mod family;
 pub mod laws;
 pub mod list;
 pub mod text;

@@ -1,0 +1,78 @@
+-- A list writes one set at most, or has one fault, and what is printed of a set is read as that set.
+use Rattle.std.proofs.Common.{◌≡◌, ◌≤◌, List, [], ◌∷◌, map, get_or, Ok, Err, IsTrue, refl, sym, ◌∙◌, subst, arith}
+use Rattle.std.specs.List.{All}
+use Rattle.std.proofs.lemmas.List.Elements.{All-head, All-tail, All-map}
+use Rattle.rpki_base.specs.Reading.{AnswersOrMemory}
+use Rattle.rpki_base.specs.declared.memory.OrMemory.{OrMemory}
+use Rattle.rpki_chain.specs.Runs.{Runs, Holds, IsRunsOf}
+use Rattle.rpki_chain.specs.Sets.{Covers}
+use Rattle.rpki_chain.proofs.RunLists.{Holds-map, IsRunsOf-same, IsRunsOf-unique}
+use Rattle.rpki_ip.specs.Whole.{HasWholeBounds}
+use Rattle.rpki_ip.specs.declared.family.AddressFamily.{AddressFamily}
+use Rattle.rpki_ip.specs.declared.family.AddressFamily.TheVariants.{Ipv4, Ipv6}
+use Rattle.rpki_ipres.specs.Blocks.{ip_bounds, is_new_ip_block, new_ip_block}
+use Rattle.rpki_ipres.specs.PrintedBlocks.{IsBlockOf}
+use Rattle.rpki_ipres.specs.SetText.{IsSetOf, IsIpSet, IsFamilySet}
+use Rattle.rpki_ipres.specs.declared.block.IpBlock.{IpBlock}
+use Rattle.rpki_ipres.proofs.FormLemmas.{new_block, new_block_fits, is_new_block}
+use Rattle.rpki_ipres.proofs.WholeLemmas.{whole_runs}
+
+module _ {V E : Type 0} (view : V → List IpBlock) (Has : List IpBlock → Type 0) (Fails : E → Type 0) where
+  -- the set of the blocks that were read is the one that the text writes
+  pub set_answers : (v : V) (set : Runs) → AnswersOrMemory view Has Fails (Ok v) → IsRunsOf (Covers ip_bounds (view v)) set → AnswersOrMemory (λ (s : Runs). s) (IsSetOf Has) Fails (Ok set)
+  set_answers v set h covered = record {
+    found = record { blocks = view v; are_written = h.found; covered = covered };
+    each_value = λ other is. (
+        let same : view v ≡ is.blocks = h.each_value is.blocks is.are_written in
+        IsRunsOf-unique (Covers ip_bounds is.blocks) set other (subst (λ blocks. IsRunsOf (Covers ip_bounds blocks) set) same covered) is.covered);
+    each_fault = h.each_fault;
+  }
+
+  -- a refusal is that of the list
+  pub set_refused : (e : OrMemory E) → AnswersOrMemory view Has Fails (Err e) → AnswersOrMemory (λ (s : Runs). s) (IsSetOf Has) Fails (Err e)
+  set_refused e h = record { found = h.found; each_value = λ set is. h.each_value is.blocks is.are_written; each_fault = h.each_fault }
+
+-- the blocks that are made of runs have their bounds
+pub bounds_made : (set : Runs) → map ip_bounds (map new_ip_block set) ≡ set
+bounds_made [] = refl
+bounds_made (b ∷ set) =
+    let first = (new_block b).bounds in
+    let rest = bounds_made set in
+    cc
+
+-- and the blocks of a set are those that are made of its runs
+pub blocks_made : (xs : List IpBlock) → All (λ x. IsTrue (is_new_ip_block x)) xs → map new_ip_block (map ip_bounds xs) ≡ xs
+blocks_made [] new = refl
+blocks_made (x ∷ xs) new =
+    let first = is_new_block x (All-head (λ y. IsTrue (is_new_ip_block y)) x xs new) in
+    let rest = blocks_made xs (All-tail (λ y. IsTrue (is_new_ip_block y)) x xs new) in
+    cc
+
+-- the set of blocks with the bounds of runs is that of the runs
+set_of_bounds : (xs : List IpBlock) (set read : Runs) → IsIpSet set → map ip_bounds xs ≡ map ip_bounds (map new_ip_block set) → IsRunsOf (Covers ip_bounds xs) read → read ≡ set
+set_of_bounds xs set read is bounds covered =
+    let same : map ip_bounds xs ≡ set = bounds ∙ bounds_made set in
+    IsRunsOf-unique (Holds set) read set (IsRunsOf-same read (Covers ip_bounds xs) (Holds set) (λ n. (
+      λ c. subst (λ runs. Holds runs n) same ((Holds-map ip_bounds xs n).1 c),
+      λ h. (Holds-map ip_bounds xs n).0 (subst (λ runs. Holds runs n) (sym same) h),
+    )) covered) is.are_runs
+
+-- the blocks of a set of addresses are blocks of addresses
+blocks_fit : (set : Runs) → IsIpSet set → All (IsBlockOf Ipv6) (map new_ip_block set)
+blocks_fit set is = All-map (IsBlockOf Ipv6) new_ip_block set (λ k d small.
+    let below : (get_or set k d).1 ≤ 340282366920938463463374607431768211455 = is.below k d small in
+    new_block_fits (get_or set k d) (is.are_runs.ordered k d small) (omega (arith, below)))
+
+-- and those of a set of the family are of the family
+pub blocks_of_family : (family : AddressFamily) (set : Runs) → IsFamilySet family set → All (IsBlockOf family) (map new_ip_block set)
+blocks_of_family Ipv6 set is = blocks_fit set is
+blocks_of_family Ipv4 set (is, whole) = λ k d small. (blocks_fit set is k d small, whole_blocks k d small)
+  where
+    whole_blocks : All (λ x. HasWholeBounds (ip_bounds x)) (map new_ip_block set)
+    whole_blocks = All-map (λ x. HasWholeBounds (ip_bounds x)) new_ip_block set (λ k d small.
+        subst HasWholeBounds (sym (new_block (get_or set k d)).bounds) (whole_runs set is.are_runs whole k d small))
+
+-- so the set that was read from blocks with their bounds is that set
+pub read_as : (family : AddressFamily) (xs : List IpBlock) (set read : Runs) → IsFamilySet family set → map ip_bounds xs ≡ map ip_bounds (map new_ip_block set) → IsRunsOf (Covers ip_bounds xs) read → read ≡ set
+read_as Ipv4 xs set read is bounds covered = set_of_bounds xs set read is.0 bounds covered
+read_as Ipv6 xs set read is bounds covered = set_of_bounds xs set read is bounds covered

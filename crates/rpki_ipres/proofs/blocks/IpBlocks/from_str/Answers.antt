@@ -1,0 +1,24 @@
+use Rattle.std.proofs.Common.{Vec}
+use Rattle.std.proofs.lemmas.Result.{err_from_is_err_and}
+use Rattle.rpki_ipres.specs.ListText.{HasIpBlocks, HasIpBlocksFault}
+use Rattle.rpki_ipres.specs.declared.block.IpBlock.{IpBlock}
+use Rattle.rpki_ipres.proofs.SetTextLemmas.{set_answers, set_refused, blocks_of_family, read_as}
+use Rattle.rpki_ipres.proofs.blocks.IpBlocks.from_str.Goals as goal
+
+pub returns-in_err-blocks-clause-exact : goal.returns-in_err-blocks-clause-exact
+returns-in_err-blocks-clause-exact g c =
+    let p = err_from_is_err_and c.from_residual.result c.from_residual.ensures.1 in
+    rw (p.1, p.2) (set_refused (λ (v : Vec IpBlock _). v.items) (HasIpBlocks c.args.text.now) (HasIpBlocksFault c.args.text.now) c.in_err-blocks.field-0.0 (rw c.in_err-blocks.was at c.read_ip_blocks.ensures.exact))
+
+pub returns-in_err-blocks-clause-reads_back : goal.returns-in_err-blocks-clause-reads_back
+returns-in_err-blocks-clause-reads_back g c = λ family set is printed.
+    let p = err_from_is_err_and c.from_residual.result c.from_residual.ensures.1 in
+    rw (p.1, p.2) (rw c.in_err-blocks.was at (c.read_ip_blocks.ensures.reads_back family _ (blocks_of_family family set is) printed))
+
+pub returns-clause-exact : goal.returns-clause-exact
+returns-clause-exact g c =
+    set_answers (λ (v : Vec IpBlock _). v.items) (HasIpBlocks c.args.text.now) (HasIpBlocksFault c.args.text.now) c.in_ok-blocks.blocks _ (rw c.in_ok-blocks.was at c.read_ip_blocks.ensures.exact) (rw c.as_slice.ensures.value at c.in_ok-set.ensures)
+
+pub returns-clause-reads_back : goal.returns-clause-reads_back
+returns-clause-reads_back g c = λ family set is printed.
+    read_as family _ set _ is (rw c.in_ok-blocks.was at (c.read_ip_blocks.ensures.reads_back family _ (blocks_of_family family set is) printed)) (rw c.as_slice.ensures.value at c.in_ok-set.ensures)

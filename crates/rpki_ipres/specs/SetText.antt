@@ -1,0 +1,30 @@
+-- Texts of sets of addresses.
+use Rattle.std.specs.Prelude.{ℕ, List, map}
+use Rattle.rpki_chain.specs.BlockSets.{IsBlockSet}
+use Rattle.rpki_chain.specs.Runs.{Runs, Holds, IsRunsOf}
+use Rattle.rpki_chain.specs.Sets.{Covers}
+use Rattle.rpki_ip.specs.Whole.{IsWhole}
+use Rattle.rpki_ip.specs.declared.family.AddressFamily.{AddressFamily}
+use Rattle.rpki_ip.specs.declared.family.AddressFamily.TheVariants.{Ipv4, Ipv6}
+use Rattle.rpki_ipres.specs.Blocks.{ip_bounds, new_ip_block}
+use Rattle.rpki_ipres.specs.PrintedBlocks.{block_list_text}
+use Rattle.rpki_ipres.specs.declared.block.IpBlock.{IpBlock}
+
+-- the set is that of the addresses in some block of a list that Has holds of
+pub record IsSetOf (Has : List IpBlock → Type 0) (set : Runs) : Type 0 where
+  pub blocks : List IpBlock
+  pub are_written : Has blocks
+  pub covered : IsRunsOf (Covers ip_bounds blocks) set
+
+-- what is printed of a set as one of the family: the blocks of its runs, each in new form
+abbrev pub set_text : AddressFamily → Runs → List ℕ
+set_text family set = block_list_text family (map new_ip_block set)
+
+-- the runs of a set of addresses, which are below 2 ^ 128
+abbrev pub IsIpSet : Runs → Type 0
+IsIpSet set = IsBlockSet 340282366920938463463374607431768211455 set
+
+-- the set is one of the family: any of IPv6, and in IPv4 one of whole addresses
+abbrev pub IsFamilySet : AddressFamily → Runs → Type 0
+IsFamilySet Ipv4 set = IsIpSet set × IsWhole (Holds set)
+IsFamilySet Ipv6 set = IsIpSet set

@@ -1,0 +1,61 @@
+//! Sets of addresses, to be displayed as those of a family.
+ghost use Rattle.std.specs.Prelude.{◌≡◌, Some};
+ghost use Rattle.rpki_ip.specs.declared.family.AddressFamily.TheVariants.{Ipv4, Ipv6};
+ghost use Rattle.rpki_ipres.specs.SetText.{set_text};
+
+use crate::blocks::IpBlocks;
+use crate::list::fmt_blocks;
+use rpki_ip::family::AddressFamily;
+use std::alloc::{Allocator, Global};
+use std::fmt;
+use std::marker::Model;
+
+/// A set of addresses that is displayed as one of a family.
+///
+/// Contracts see it as the family and the runs of the set.
+#[derive(Drop)]
+pub struct IpBlocksForFamily<'a, A: Allocator = Global> {
+    family: AddressFamily,
+    blocks: &'a IpBlocks<A>,
+}
+
+impl<'a, A: Allocator> Model for IpBlocksForFamily<'a, A> {
+    ghost use Rattle.rpki_chain.specs.Runs.{Runs};
+    ghost use Rattle.rpki_ip.specs.declared.family.AddressFamily.{AddressFamily};
+
+    ghost Value = { AddressFamily × Runs };
+
+    ghost view = { λ d. (d.family, d.blocks.now) };
+}
+
+impl<'a, A: Allocator> IpBlocksForFamily<'a, A> {
+    /// The set, to be displayed as one of IPv4.
+    pub fn v4(blocks: &'a IpBlocks<A>) -> IpBlocksForFamily<'a, A>
+        ensures { result ≡ (Ipv4, blocks.now) }
+    {
+        IpBlocksForFamily {
+            family: AddressFamily::Ipv4,
+            blocks,
+        }
+    }
+
+    /// The set, to be displayed as one of IPv6.
+    pub fn v6(blocks: &'a IpBlocks<A>) -> IpBlocksForFamily<'a, A>
+        ensures { result ≡ (Ipv6, blocks.now) }
+    {
+        IpBlocksForFamily {
+            family: AddressFamily::Ipv6,
+            blocks,
+        }
+    }
+}
+
+/// Prints the blocks of the set, ascending, joined by a comma and a space; nothing, where the set is empty. Each is
+/// printed as [`IpBlock::fmt_v4`](crate::block::IpBlock::fmt_v4) or `fmt_v6` writes it.
+impl<'a, A: Allocator> fmt::Display for IpBlocksForFamily<'a, A> {
+    ghost output = { λ d. Some (set_text d.0 d.1) };
+
+    fn fmt<W: fmt::Write>(&self, f: &mut fmt::Formatter<W>) -> fmt::Result {
+        fmt_blocks(self.family, self.blocks.as_slice(), f)
+    }
+}

@@ -1,3 +1,6 @@
+pub mod AsDer
+pub mod AsDerLaws
+pub mod AsDerReading
 pub mod BlockForms
 pub mod Blocks
 pub mod BlockText

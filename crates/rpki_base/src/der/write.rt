@@ -79,10 +79,10 @@ pub fn encode_sequence<V: Encode, A: Allocator>(
     let Some(content_len) = len_of_all(values) else {
         return Err(AllocError);
     };
-    let Some(total) = header_len(tag::SEQUENCE, content_len).checked_add(content_len) else {
+    let Some(whole_len) = header_len(tag::SEQUENCE, content_len).checked_add(content_len) else {
         return Err(AllocError);
     };
-    out.reserve(total)?;
+    out.reserve(whole_len)?;
     put_header(out, tag::SEQUENCE, content_len)?;
     encode_all(values, out)
 }

@@ -1,0 +1,219 @@
+-- What is written of blocks and sets of AS numbers, and that it is read back.
+use Rattle.std.proofs.Common.{◌≡◌, ℕ, zero, suc, ◌+◌, ◌*◌, ◌^◌, ◌<◌, ◌≤◌, ◌↔◌, ◌⊎◌, IsTrue, List, [], ◌∷◌, ◌++◌, length, map, get_or, Result, refl, sym, ap, subst, ◌∙◌, arith, inl, inr, ⊎_elim}
+use Rattle.std.specs.List.{AllByRecursion, flat_map}
+use Rattle.std.specs.Prelude.{All, MatchResult}
+use Rattle.std.proofs.lemmas.Bool.{cases_lt, eq-eqb, ne_eqb}
+use Rattle.std.proofs.lemmas.Grind.{common_steps}
+use Rattle.std.proofs.lemmas.List.{length-append}
+use Rattle.std.proofs.lemmas.List.Elements.{recursion_from_All}
+use Rattle.rpki_chain.specs.Runs.{Runs, Holds}
+use Rattle.rpki_chain.specs.Sets.{Covers}
+use Rattle.rpki_chain.proofs.RunLists.{Holds-map, IsRunsOf-same, IsRunsOf-unique, same_numbers}
+use Rattle.rpki_der.specs.declared.cursor.Cursor.{Cursor}
+use Rattle.rpki_der.specs.declared.error.DerError.{DerError}
+use Rattle.rpki_der.specs.Der.{IsBytes, OneFront, header, integer, sequence_value}
+use Rattle.rpki_der.specs.Reading.{IsReading}
+use Rattle.rpki_der.specs.Views.{left}
+use Rattle.rpki_der.proofs.Contents.{length-integer}
+use Rattle.rpki_der.proofs.Readings.{one_front}
+use Rattle.rpki_der.proofs.Written.{length-header, u32_is, value_is}
+use Rattle.rpki_base.specs.AsnDer.{as_number_octets}
+use Rattle.rpki_base.specs.DerReading.{IsSequenceOf}
+use Rattle.rpki_base.specs.DerViews.{ReadsOrMemory, TakesSaidOrMemory}
+use Rattle.rpki_base.specs.Memory.{IsMemory}
+use Rattle.rpki_base.specs.declared.memory.OrMemory.{OrMemory}
+use Rattle.rpki_base.proofs.DerCursors.{reads_said_by, takes_said}
+use Rattle.rpki_base.proofs.DerReadings.{sequence_reading}
+use Rattle.rpki_base.proofs.DerWriting.{sequence_written, written_alike}
+use Rattle.rpki_as.specs.AsDer.{IsAsBlock, IsAsBlockSequence, SaysSet, as_block_octets, as_range_content, as_run_octets, as_sequence_octets, as_set_octets}
+use Rattle.rpki_as.specs.AsDerLaws.{block_has_octets, block_reading}
+use Rattle.rpki_as.specs.AsDerReading.{as_block_at, as_blocks_at}
+use Rattle.rpki_as.specs.Blocks.{IsAsSet, as_bounds, is_new_as_block}
+use Rattle.rpki_as.specs.declared.block.AsBlock.{AsBlock}
+use Rattle.rpki_as.specs.declared.block.AsBlock.TheVariants.{Id, Range}
+
+-- ---- blocks
+
+-- an AS number has seven octets at most
+length-number : (n : ℕ) → n < 2 ^ 32 → length (as_number_octets n) ≤ 7
+length-number n lt = let few = length-integer n lt in omega (arith, few, length-header 2 (length (integer n)) (omega arith), length-append (header 2 (length (integer n))) (integer n))
+
+-- two have fourteen
+length-content : (b : ℕ × ℕ) → b.0 ≤ b.1 → b.1 < 2 ^ 32 → length (as_range_content b) ≤ 14
+length-content b ordered lt = omega (arith, length-number b.0 (omega arith), length-number b.1 lt, length-append (as_number_octets b.0) (as_number_octets b.1))
+
+-- what is written of a block is the block
+pub block_written : (x : AsBlock) → (as_bounds x).1 < 2 ^ 32 → IsAsBlock (as_block_octets x) x
+block_written (Id n) lt = u32_is n lt
+block_written (Range r) lt =
+    let short = length-content (r.min, r.max) r.in_order lt in
+    (as_range_content (r.min, r.max), value_is 48 (as_range_content (r.min, r.max)) (omega arith) (omega arith), (as_number_octets r.max, (as_number_octets r.min, u32_is r.min (let le = r.in_order in omega arith), refl), u32_is r.max lt))
+
+-- in new form, that is what is written of its run
+run_written : (x : AsBlock) → IsTrue (is_new_as_block x) → as_block_octets x ≡ as_run_octets (as_bounds x)
+run_written (Id n) new = rw (eq-eqb n n refl) refl
+run_written (Range r) new = let apart : r.min ≡ r.max → ⊥ = (λ e. grind (arith, common_steps)) in rw (ne_eqb r.min r.max apart) refl
+
+-- the same of all blocks
+pub runs_written : (xs : List AsBlock) → All (λ x. IsTrue (is_new_as_block x)) xs → flat_map as_block_octets xs ≡ as_set_octets (map as_bounds xs)
+runs_written xs new = by_each xs (recursion_from_All (λ x. IsTrue (is_new_as_block x)) xs new)
+  where
+    by_each : (xs : List AsBlock) → AllByRecursion (λ x. IsTrue (is_new_as_block x)) xs → flat_map as_block_octets xs ≡ as_set_octets (map as_bounds xs)
+    by_each [] all = refl
+    by_each (x ∷ xs) all = ap (λ (t : List ℕ). t ++ flat_map as_block_octets xs) (run_written x all.0) ∙ ap (λ (t : List ℕ). as_run_octets (as_bounds x) ++ t) (by_each xs all.1)
+
+-- ---- the blocks of a set
+
+-- the block of a run, in new form
+block_by : (b : ℕ × ℕ) → (b.0 < b.1) ⊎ (b.1 ≤ b.0) → AsBlock
+block_by b (inl lt) = Range (record { min = b.0; max = b.1; in_order = omega (arith, lt) })
+block_by b (inr le) = Id b.0
+
+block_of_run : ℕ × ℕ → AsBlock
+block_of_run b = block_by b (cases_lt b.0 b.1)
+
+-- its bounds are those of the run
+by_bounds : (b : ℕ × ℕ) (order : (b.0 < b.1) ⊎ (b.1 ≤ b.0)) → b.0 ≤ b.1 → as_bounds (block_by b order) ≡ b
+unfolding block_by
+by_bounds b (inl lt) le = refl
+by_bounds b (inr ge) le = let same : b.0 ≡ b.1 = omega (arith, ge, le) in ap (λ (n : ℕ). (b.0, n)) same
+
+-- and it is in new form
+by_new : (b : ℕ × ℕ) (order : (b.0 < b.1) ⊎ (b.1 ≤ b.0)) → IsTrue (is_new_as_block (block_by b order))
+unfolding block_by
+by_new b (inl lt) = rw (ne_eqb b.0 b.1 (λ e. omega (arith, lt, e))) refl
+by_new b (inr ge) = refl
+
+-- the runs of a set, each in order and below 2 ^ 32
+IsRun32 : ℕ × ℕ → Type 0
+IsRun32 b = (b.0 ≤ b.1) × (b.1 < 2 ^ 32)
+
+runs_32 : (set : Runs) → IsAsSet set → AllByRecursion IsRun32 set
+unfolding IsRun32
+runs_32 set is = recursion_from_All IsRun32 set (λ k d small. (is.are_runs.ordered k d small, (let le = is.below k d small in omega arith)))
+
+-- the blocks of runs have their bounds
+blocks_bounds : (set : Runs) → AllByRecursion IsRun32 set → map as_bounds (map block_of_run set) ≡ set
+unfolding IsRun32 block_of_run
+blocks_bounds [] all = refl
+blocks_bounds (b ∷ set) all = ap (λ (c : ℕ × ℕ). c ∷ map as_bounds (map block_of_run set)) (by_bounds b (cases_lt b.0 b.1) all.0.0) ∙ ap (λ (t : Runs). b ∷ t) (blocks_bounds set all.1)
+
+-- what is written of them is what is written of the set
+blocks_octets : (set : Runs) → AllByRecursion IsRun32 set → flat_map as_block_octets (map block_of_run set) ≡ as_set_octets set
+unfolding IsRun32 block_of_run
+blocks_octets [] all = refl
+blocks_octets (b ∷ set) all =
+    let one : as_block_octets (block_of_run b) ≡ as_run_octets b = run_written (block_of_run b) (by_new b (cases_lt b.0 b.1)) ∙ ap as_run_octets (by_bounds b (cases_lt b.0 b.1) all.0.0) in
+    ap (λ (t : List ℕ). t ++ flat_map as_block_octets (map block_of_run set)) one ∙ ap (λ (t : List ℕ). as_run_octets b ++ t) (blocks_octets set all.1)
+
+-- and each is a block
+blocks_are : (set : Runs) → AllByRecursion IsRun32 set → AllByRecursion (λ x. IsAsBlock (as_block_octets x) x) (map block_of_run set)
+unfolding IsRun32 block_of_run
+blocks_are [] all = tt
+blocks_are (b ∷ set) all =
+    let bound : (as_bounds (block_of_run b)).1 ≡ b.1 = ap (λ (c : ℕ × ℕ). c.1) (by_bounds b (cases_lt b.0 b.1) all.0.0) in
+    (block_written (block_of_run b) (subst (λ n. n < 2 ^ 32) (sym bound) all.0.1), blocks_are set all.1)
+
+-- they stand for the set
+blocks_say : (set : Runs) → IsAsSet set → SaysSet (map block_of_run set) set
+blocks_say set is =
+    let bounds = blocks_bounds set (runs_32 set is) in
+    let held = Holds-map as_bounds (map block_of_run set) in
+    IsRunsOf-same set (Holds set) (Covers as_bounds (map block_of_run set)) (λ n. (
+      λ h. (held n).0 (subst (λ (t : Runs). Holds t n) (sym bounds) h),
+      λ c. subst (λ (t : Runs). Holds t n) bounds ((held n).1 c),
+    )) is.are_runs
+
+-- ---- how long they are
+
+-- each run begins two above the one before
+run_places : (set : Runs) → IsAsSet set → (k : ℕ) (d : ℕ × ℕ) → k < length set → k + k ≤ (get_or set k d).0
+run_places set is zero d small = omega arith
+run_places set is (suc k) d small =
+    let before = run_places set is k d (omega arith) in
+    let ordered : (get_or set k d).0 ≤ (get_or set k d).1 = is.are_runs.ordered k d (omega arith) in
+    let apart : (get_or set k d).1 + 1 < (get_or set (suc k) d).0 = is.are_runs.apart k (suc k) d (omega arith) small in
+    omega arith
+
+-- so there are at most 2 ^ 31
+run_count : (set : Runs) → IsAsSet set → length set ≤ 2 ^ 31
+run_count [] is = omega arith
+run_count (b ∷ set) is =
+    let n = length set in
+    let low = run_places (b ∷ set) is n b (omega arith) in
+    let ordered : (get_or (b ∷ set) n b).0 ≤ (get_or (b ∷ set) n b).1 = is.are_runs.ordered n b (omega arith) in
+    let below : (get_or (b ∷ set) n b).1 ≤ 4294967295 = is.below n b (omega arith) in
+    omega arith
+
+-- a run has sixteen octets at most
+length-run : (b : ℕ × ℕ) → IsRun32 b → length (as_run_octets b) ≤ 16
+unfolding IsRun32
+length-run b is = ⊎_elim
+    (λ (lt : b.0 < b.1).
+    let short = length-content b is.0 is.1 in
+    rw (ne_eqb b.0 b.1 (λ e. omega (arith, lt, e))) (omega (arith, short, length-header 48 (length (as_range_content b)) (omega (arith, short)), length-append (header 48 (length (as_range_content b))) (as_range_content b))))
+    (λ (ge : b.1 ≤ b.0).
+    let same : b.0 ≡ b.1 = omega (arith, ge, is.0) in
+    rw (eq-eqb b.0 b.1 same) (let few = length-number b.0 (omega (arith, same, is.1)) in omega (arith, few)))
+    (cases_lt b.0 b.1)
+
+length-runs : (set : Runs) → AllByRecursion IsRun32 set → length (as_set_octets set) ≤ 16 * length set
+length-runs [] all = omega arith
+length-runs (b ∷ set) all = omega (arith, length-run b all.0, length-runs set all.1, length-append (as_run_octets b) (as_set_octets set))
+
+-- so a length tells how many octets a set has
+pub set_octets_short : (set : Runs) → IsAsSet set → length (as_set_octets set) < 2 ^ 64
+set_octets_short set is = omega (arith, length-runs set (runs_32 set is), run_count set is)
+
+-- ---- sequences
+
+-- a SEQUENCE of blocks
+pub blocks_reading : IsReading (IsSequenceOf IsAsBlock) as_blocks_at
+blocks_reading = sequence_reading (λ (state : Unit {0}) (x : AsBlock). state) (λ state. IsAsBlock) (λ state. as_block_at) (λ state. block_reading) (λ state. block_has_octets) tt
+
+-- what is written of a set, in one SEQUENCE, is a SEQUENCE of its blocks
+sequence_blocks : (set : Runs) → IsAsSet set → IsSequenceOf IsAsBlock (as_sequence_octets set) (map block_of_run set)
+sequence_blocks set is =
+    let all = runs_32 set is in
+    let octets = blocks_octets set all in
+    let written = sequence_written IsAsBlock as_block_octets (map block_of_run set) (blocks_are set all) (subst (λ (t : List ℕ). length t < 2 ^ 64) (sym octets) (set_octets_short set is)) in
+    subst (λ (t : List ℕ). IsSequenceOf IsAsBlock (sequence_value t) (map block_of_run set)) octets written
+
+-- so it stands for the set
+pub sequence_says : (set : Runs) → IsAsSet set → IsAsBlockSequence (as_sequence_octets set) set
+sequence_says set is = (map block_of_run set, sequence_blocks set is, blocks_say set is)
+
+-- octets begin with at most one such SEQUENCE, which stands for one set
+pub one_sequence : OneFront IsAsBlockSequence
+one_sequence a b x y r s (xs, is, says) (ys, also, tell) same =
+    let one = one_front (IsSequenceOf IsAsBlock) as_blocks_at blocks_reading a b xs ys r s is also same in
+    (one.0, IsRunsOf-unique (Covers as_bounds ys) x y (subst (λ (t : List AsBlock). SaysSet t x) one.1 says) tell, one.2)
+
+-- sets that are written alike have the same numbers, and sets of the same numbers are written alike
+pub written_as_numbers : (a b : Runs) → IsAsSet a → IsAsSet b → (as_set_octets a ≡ as_set_octets b) ↔ ((n : ℕ) → Holds a n ↔ Holds b n)
+written_as_numbers a b is also = (
+  λ same n. (
+      let all = runs_32 a is in
+      let more = runs_32 b also in
+      let blocks = written_alike IsAsBlock as_block_octets as_block_at block_reading block_has_octets (map block_of_run a) (map block_of_run b) (blocks_are a all) (blocks_are b more) (blocks_octets a all ∙ same ∙ sym (blocks_octets b more)) in
+      let one : a ≡ b = sym (blocks_bounds a all) ∙ ap (λ (t : List AsBlock). map as_bounds t) blocks ∙ blocks_bounds b more in
+      (subst (λ (t : Runs). Holds t n) one, subst (λ (t : Runs). Holds t n) (sym one))
+      ),
+  λ same. ap as_set_octets (same_numbers a b is.are_runs also.are_runs same),
+)
+
+-- ---- takes
+
+-- blocks say one set
+one_set : (blocks : List AsBlock) (a b : Runs) → SaysSet blocks a → SaysSet blocks b → a ≡ b
+one_set blocks a b says tell = IsRunsOf-unique (Covers as_bounds blocks) a b says tell
+
+-- a take that answers what the blocks say answers a set of the grammar
+pub reads_set : (old new : Cursor) (result : Result Runs (OrMemory DerError)) → IsBytes (left old) → TakesSaidOrMemory SaysSet old new result as_blocks_at → ReadsOrMemory IsAsBlockSequence (λ set. set) old new result
+reads_set old new result fits took = reads_said_by (IsSequenceOf IsAsBlock) SaysSet as_blocks_at old new result blocks_reading fits took
+
+-- and what is written of a set as that set
+pub reads_back_set : (old new : Cursor) (result : Result Runs (OrMemory DerError)) → TakesSaidOrMemory SaysSet old new result as_blocks_at
+    → (set : Runs) (rest : List ℕ) → IsAsSet set → left old ≡ as_sequence_octets set ++ rest → MatchResult result (λ read. (read ≡ set) × (left new ≡ rest)) IsMemory
+reads_back_set old new result took set rest is at =
+    takes_said (IsSequenceOf IsAsBlock) SaysSet as_blocks_at old new result blocks_reading one_set took (as_sequence_octets set) rest (map block_of_run set) set (sequence_blocks set is) (blocks_say set is) at

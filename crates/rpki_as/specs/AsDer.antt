@@ -1,0 +1,62 @@
+-- Blocks of AS numbers and sequences of them in DER (RFC 3779, 3.2.3.4 to 3.2.3.10).
+use Rattle.std.specs.Prelude.{◌⊎◌, ℕ, List, ◌++◌, ◌==◌, if◌then◌else◌}
+use Rattle.rpki_chain.specs.Runs.{Runs, IsRunsOf}
+use Rattle.rpki_chain.specs.Sets.{Covers}
+use Rattle.rpki_der.specs.Der.{Both, IsSequence, Refines, sequence_value}
+use Rattle.rpki_base.specs.AsnDer.{IsAsNumber, as_number_octets}
+use Rattle.rpki_base.specs.DerReading.{IsSequenceOf}
+use Rattle.rpki_base.specs.DerWriting.{octets_of_all, sequence_octets}
+use Rattle.rpki_as.specs.Blocks.{range_bounds, as_bounds}
+use Rattle.rpki_as.specs.declared.range.AsRange.{AsRange}
+use Rattle.rpki_as.specs.declared.block.AsBlock.{AsBlock}
+use Rattle.rpki_as.specs.declared.block.AsBlock.TheVariants.{Id, Range}
+
+-- a SEQUENCE of the least number and the greatest, and nothing else; the least isn't above the greatest, as in each
+-- range (3.2.3.8, 3.2.3.9)
+abbrev pub IsAsRange : List ℕ → AsRange → Type 0
+IsAsRange bytes r = (content : List ℕ) × IsSequence bytes content × Both IsAsNumber IsAsNumber content r.min r.max
+
+-- an AS number or a range (3.2.3.5)
+abbrev pub IsAsBlock : List ℕ → AsBlock → Type 0
+IsAsBlock bytes (Id n) = IsAsNumber bytes n
+IsAsBlock bytes (Range r) = IsAsRange bytes r
+
+-- an AS number, or a SEQUENCE of two, whichever is the greater
+abbrev pub IsBlockInAnyOrder : List ℕ → Unit {0} → Type 0
+IsBlockInAnyOrder bytes u =
+    ((n : ℕ) × IsAsNumber bytes n) ⊎
+    ((content : List ℕ) × IsSequence bytes content × ((first : ℕ) × (second : ℕ) × Both IsAsNumber IsAsNumber content first second))
+
+-- the runs of the numbers that some block has
+abbrev pub SaysSet : List AsBlock → Runs → Type 0
+SaysSet blocks set = IsRunsOf (Covers as_bounds blocks) set
+
+-- a SEQUENCE of blocks, in any order, overlapping or not, and nothing else; it stands for the set of their numbers
+-- (3.2.3.4, ASIdOrRange)
+abbrev pub IsAsBlockSequence : List ℕ → Runs → Type 0
+IsAsBlockSequence = Refines (IsSequenceOf IsAsBlock) SaysSet
+
+-- ---- what is written
+
+abbrev pub as_range_content : ℕ × ℕ → List ℕ
+as_range_content b = as_number_octets b.0 ++ as_number_octets b.1
+
+abbrev pub as_range_octets : ℕ × ℕ → List ℕ
+as_range_octets b = sequence_value (as_range_content b)
+
+-- a block in its own form
+abbrev pub as_block_octets : AsBlock → List ℕ
+as_block_octets (Id n) = as_number_octets n
+as_block_octets (Range r) = as_range_octets (range_bounds r)
+
+-- a run: an AS number where it is one, else the SEQUENCE of its bounds (3.2.3.5)
+abbrev pub as_run_octets : ℕ × ℕ → List ℕ
+as_run_octets b = if b.0 == b.1 then as_number_octets b.0 else as_range_octets b
+
+-- the runs of a set, one after another
+abbrev pub as_set_octets : Runs → List ℕ
+as_set_octets set = octets_of_all as_run_octets set
+
+-- the same in one SEQUENCE (3.2.3.4)
+abbrev pub as_sequence_octets : Runs → List ℕ
+as_sequence_octets set = sequence_octets as_run_octets set

@@ -1,0 +1,51 @@
+-- Reading blocks of AS numbers from left to right, with the first fault that is met.
+use Rattle.std.specs.Prelude.{◌⊎◌, ℕ, ◌<◌, ◌≤◌, List, Result, Ok, Err}
+use Rattle.std.proofs.Common.{inl, inr}
+use Rattle.std.proofs.lemmas.Bool.{cases_lt}
+use Rattle.rpki_der.specs.declared.error.DerError.{DerError}
+use Rattle.rpki_der.specs.declared.error.DerError.TheVariants.{ReversedRange}
+use Rattle.rpki_der.specs.Der.{Tlv}
+use Rattle.rpki_der.specs.Reading.{◌>>=◌, refined, unsigned, value_at}
+use Rattle.rpki_base.specs.AsnDer.{as_number_at, skip_number}
+use Rattle.rpki_base.specs.DerReading.{by_tag, pair_in, sequence_of}
+use Rattle.rpki_as.specs.declared.range.AsRange.{AsRange}
+use Rattle.rpki_as.specs.declared.block.AsBlock.{AsBlock}
+use Rattle.rpki_as.specs.declared.block.AsBlock.TheVariants.{Id, Range}
+
+-- the range of two numbers in order
+abbrev pub range_by : (min max : ℕ) → (max < min) ⊎ (min ≤ max) → Result AsRange DerError
+range_by min max (inl reversed) = Err ReversedRange
+range_by min max (inr in_order) = Ok (record { min = min; max = max; in_order = in_order })
+
+unfoldable pub range_of : ℕ → ℕ → Result AsRange DerError
+range_of min max = range_by min max (cases_lt max min)
+
+abbrev pub as_range_in : List ℕ → Result AsRange DerError
+as_range_in = pair_in as_number_at range_of
+
+abbrev pub as_id_in : List ℕ → Result AsBlock DerError
+as_id_in content = unsigned content >>= λ n. Ok (Id n)
+
+abbrev pub as_range_block_in : List ℕ → Result AsBlock DerError
+as_range_block_in content = as_range_in content >>= λ r. Ok (Range r)
+
+abbrev pub as_block_of : Tlv → Result AsBlock DerError
+as_block_of = by_tag 2 as_id_in as_range_block_in
+
+abbrev pub as_block_at : List ℕ → Result (AsBlock × List ℕ) DerError
+as_block_at = refined value_at as_block_of
+
+-- the blocks of a SEQUENCE
+abbrev pub as_blocks_at : List ℕ → Result (List AsBlock × List ℕ) DerError
+as_blocks_at = sequence_of as_block_at
+
+-- ---- passed over
+
+abbrev pub skip_pair : List ℕ → Result (Unit {0}) DerError
+skip_pair = pair_in as_number_at (λ first second. Ok tt)
+
+abbrev pub skip_block_of : Tlv → Result (Unit {0}) DerError
+skip_block_of = by_tag 2 skip_number skip_pair
+
+abbrev pub skip_block_at : List ℕ → Result (Unit {0} × List ℕ) DerError
+skip_block_at = refined value_at skip_block_of

@@ -1,0 +1,62 @@
+//! Sets of AS numbers in DER: a SEQUENCE of blocks (RFC 3779, 3.2.3.4).
+use crate::blocks::AsBlocks;
+use crate::der::block::AsBlockReader;
+use rpki_base::der::{encode_all, take_sequence_of};
+use rpki_base::memory::OrMemory;
+use rpki_der::{Cursor, DerError};
+use std::alloc::{AllocError, Allocator};
+
+impl<A: Allocator> AsBlocks<A> {
+    ghost use Rattle.std.specs.Prelude.{◌≡◌, ℕ, List, ◌≤◌, ◌+◌, ◌++◌, length, vec_len, OnOk, OnErr, IsOk, MatchResult};
+    ghost use Rattle.std.specs.Vec.{vec_capacity};
+    ghost use Rattle.rpki_chain.specs.Runs.{Runs};
+    ghost use Rattle.rpki_der.specs.Views.{Lenient, left};
+    ghost use Rattle.rpki_base.specs.DerViews.{ReadsOrMemory, TakesSaidOrMemory};
+    ghost use Rattle.rpki_base.specs.Memory.{IsMemory};
+    ghost use Rattle.rpki_as.specs.AsDer.{IsAsBlockSequence, SaysSet, as_sequence_octets, as_set_octets};
+    ghost use Rattle.rpki_as.specs.AsDerReading.{as_blocks_at};
+    ghost use Rattle.rpki_as.specs.Blocks.{IsAsSet};
+
+    /// Takes a SEQUENCE of blocks, which may be none, and answers the set of their numbers. The blocks may come in any
+    /// order and may overlap.
+    ///
+    /// `Refused` with the first fault: that of the SEQUENCE as in [`Cursor::take_sequence`], or that of a block as in
+    /// [`AsBlock::take_opt_from`](crate::block::AsBlock::take_opt_from). `Memory` where there is no memory for the blocks.
+    pub fn take_from(alloc: A, cursor: &mut Cursor<'_>) -> Result<AsBlocks<A>, OrMemory<DerError>>
+    where
+        A: Copy,
+        ensures reads { Lenient cursor.old (ReadsOrMemory IsAsBlockSequence (λ set. set) cursor.old cursor.new result) }
+        ensures exact { Lenient cursor.old (TakesSaidOrMemory SaysSet cursor.old cursor.new result as_blocks_at) }
+        // What is written of a set, in one SEQUENCE, is read as that set, whatever follows it.
+        ensures reads_back { (set : Runs) (rest : List ℕ) → IsAsSet set → left cursor.old ≡ as_sequence_octets set ++ rest
+            → MatchResult result (λ read. (read ≡ set) × (left cursor.new ≡ rest)) IsMemory }
+    {
+        Self::next_set(alloc, cursor)
+    }
+
+    /// Appends the blocks of the set, ascending: its runs, each as an AS number where it is one, and else as the SEQUENCE
+    /// of its bounds. Nothing stands round them. `AllocError` where there is no memory for all of them; then the octets
+    /// stay as they were.
+    pub fn encode<B: Allocator>(&self, out: &mut Vec<u8, B>) -> Result<(), AllocError>
+        ensures ok { OnOk result (out.new.items ≡ out.old.items ++ as_set_octets self.now) }
+        ensures err { OnErr result (out.new.items ≡ out.old.items) }
+        ensures succeeds { vec_len out.old + length (as_set_octets self.now) ≤ vec_capacity out.old → IsOk result }
+        ensures capacity { vec_capacity out.old ≤ vec_capacity out.new }
+        ensures set { IsAsSet self.now }
+    {
+        encode_all(self.iter().as_slice(), out)
+    }
+
+    // The reading behind `take_from`.
+    fn next_set(alloc: A, cursor: &mut Cursor<'_>) -> Result<AsBlocks<A>, OrMemory<DerError>>
+    where
+        A: Copy,
+        ensures exact { TakesSaidOrMemory SaysSet cursor.old cursor.new result as_blocks_at }
+    {
+        let mut ahead = *cursor;
+        let blocks = take_sequence_of(alloc, &AsBlockReader, &mut ahead)?;
+        let set = AsBlocks::from_blocks(alloc, blocks.as_slice())?;
+        *cursor = ahead;
+        Ok(set)
+    }
+}

@@ -1,0 +1,20 @@
+//! What holds of the octets of blocks and sets, each law as the contract of a function that does nothing.
+ghost use Rattle.std.specs.Prelude.{◌≡◌, ◌↔◌, ℕ};
+ghost use Rattle.rpki_chain.specs.Runs.{Runs, Holds};
+ghost use Rattle.rpki_der.specs.Der.{OneFront};
+ghost use Rattle.rpki_as.specs.AsDer.{IsAsBlock, IsAsBlockSequence, as_sequence_octets, as_set_octets};
+ghost use Rattle.rpki_as.specs.Blocks.{IsAsSet};
+
+/// Octets begin with at most one block, and with at most one SEQUENCE of blocks, which stands for one set.
+pub fn one_value()
+    ensures block { OneFront IsAsBlock }
+    ensures sequence { OneFront IsAsBlockSequence }
+{}
+
+/// What is written of a set, put in one SEQUENCE, stands for the set. Sets are written alike exactly where they have the
+/// same numbers.
+pub fn written_sets()
+    ensures sequence { (set : Runs) → IsAsSet set → IsAsBlockSequence (as_sequence_octets set) set }
+    ensures alike { (a b : Runs) → IsAsSet a → IsAsSet b →
+        (as_set_octets a ≡ as_set_octets b) ↔ ((n : ℕ) → Holds a n ↔ Holds b n) }
+{}

@@ -2,6 +2,8 @@
 use rpki_base::asn::Asn;
 use rpki_base::memory::OrMemory;
 use rpki_der::{Cursor, DerError};
+use rpki_ip::family::AddressFamily;
+use rpki_ip::prefix::Prefix;
 use std::alloc::{AllocError, Global};
 use std::process::Abort;
 use std::test::Fail;
@@ -10,18 +12,24 @@ use std::test::Fail;
 #[derive(Clone, Copy, Debug)]
 enum Reader {
     Number,
+    Family,
+    Prefix,
 }
 
 // What was read.
 #[derive(Drop, PartialEq)]
 enum Value {
     Number(Asn),
+    Family(AddressFamily),
+    Prefix(Prefix),
 }
 
 impl Reader {
     fn take(self, _alloc: Global, cursor: &mut Cursor<'_>) -> Result<Value, OrMemory<DerError>> {
         match self {
             Reader::Number => Ok(Value::Number(Asn::take_from(cursor)?)),
+            Reader::Family => Ok(Value::Family(AddressFamily::take_from(cursor)?)),
+            Reader::Prefix => Ok(Value::Prefix(Prefix::take_from(cursor)?)),
         }
     }
 }
@@ -31,15 +39,23 @@ impl Value {
         let mut out = Vec::new(alloc);
         match self {
             Value::Number(number) => number.encode(&mut out)?,
+            Value::Family(family) => family.encode(&mut out)?,
+            Value::Prefix(prefix) => prefix.encode(&mut out)?,
         }
         Ok(out)
     }
 }
 
-const ENCODINGS: [(Reader, &str); 3] = [
+const ENCODINGS: [(Reader, &str); 9] = [
     (Reader::Number, "020100"),
     (Reader::Number, "02020080"),
     (Reader::Number, "020500ffffffff"),
+    (Reader::Family, "04020001"),
+    (Reader::Family, "04020002"),
+    (Reader::Prefix, "030100"),
+    (Reader::Prefix, "0303040a40"),
+    (Reader::Prefix, "0306070a00000180"),
+    (Reader::Prefix, "03110020010000020000030000000000000001"),
 ];
 
 // With one octet more behind it, which is left.

@@ -5,6 +5,8 @@
 #[cfg(test)]
 mod altered;
 #[cfg(test)]
+mod families_and_prefixes;
+#[cfg(test)]
 mod numbers;
 #[cfg(test)]
 mod values;

@@ -1,6 +1,7 @@
 #!/bin/sh
-# How the time and the memory of `norm as` grow with the input: lists of N elements in one line, shuffled and sorted,
-# and N short lines, for N of 50,000, 100,000 and 200,000. Growth per doubling is about 2 where the work is N log N.
+# How the time and the memory of `norm` grow with the input, for AS numbers, IPv4 and IPv6: lists of N elements in one
+# line, shuffled and sorted, and N short lines, for N of 50,000, 100,000 and 200,000. Growth per doubling is about 2 where
+# the work is N log N.
 top=$(CDPATH= cd -- "$(dirname -- "$0")/.." && pwd) || exit 1
 printf '' | "$top/respath" || exit 1
 inputs=$(mktemp -d) || exit 1
@@ -10,29 +11,42 @@ python3 - "$inputs" <<'PROGRAM' || exit 1
 import random, sys
 
 
-def blocks(count):
+def as_number(number):
+    return f"AS{number}"
+
+
+def ipv4(number):
+    return ".".join(str(number >> shift & 255) for shift in (24, 16, 8, 0))
+
+
+def ipv6(number):
+    return f"2001:db8::{number >> 16:x}:{number & 0xFFFF:x}"
+
+
+def blocks(written, count):
     """Blocks that neither overlap nor touch, ascending."""
-    return [f"AS{16 * at}-AS{16 * at + at % 9}" for at in range(count)]
+    return [f"{written(16 * at)}-{written(16 * at + at % 9)}" for at in range(count)]
 
 
-def shuffled(count):
-    elements = blocks(count)
+def shuffled(kind, written, count):
+    elements = blocks(written, count)
     random.Random(count).shuffle(elements)
-    return "norm as " + ", ".join(elements) + "\n"
+    return f"norm {kind} " + ", ".join(elements) + "\n"
 
 
-def ascending(count):
-    return "norm as " + ", ".join(blocks(count)) + "\n"
+def ascending(kind, written, count):
+    return f"norm {kind} " + ", ".join(blocks(written, count)) + "\n"
 
 
-def lines(count):
-    return "".join(f"norm as AS{at + 1}, {at}\n" for at in range(count))
+def lines(kind, written, count):
+    return "".join(f"norm {kind} {written(at + 1)}, {written(at)}\n" for at in range(count))
 
 
 for size in (50_000, 100_000, 200_000):
-    for name, made in (("shuffled-list", shuffled), ("sorted-list", ascending), ("short-lines", lines)):
-        with open(f"{sys.argv[1]}/{name}.{size}", "w") as out:
-            out.write(made(size))
+    for kind, written in (("as", as_number), ("v4", ipv4), ("v6", ipv6)):
+        for name, made in (("shuffled", shuffled), ("sorted", ascending), ("lines", lines)):
+            with open(f"{sys.argv[1]}/{kind}-{name}.{size}", "w") as out:
+                out.write(made(kind, written, size))
 PROGRAM
 
 python3 - "$top/crates/respath/out/respath" "$inputs" <<'PROGRAM'
@@ -66,7 +80,7 @@ def measured(path):
 
 
 print(f"{'input':<14}{'N':>8}{'MiB in':>8}{'seconds':>9}{'growth':>8}{'peak MiB':>10}{'growth':>8}")
-for name in ("shuffled-list", "sorted-list", "short-lines"):
+for name in (f"{kind}-{made}" for kind in ("as", "v4", "v6") for made in ("shuffled", "sorted", "lines")):
     before = None
     for size in (50_000, 100_000, 200_000):
         path = f"{inputs}/{name}.{size}"

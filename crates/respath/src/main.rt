@@ -8,6 +8,7 @@ mod device;
 mod engine;
 mod error;
 mod norm;
+mod shown;
 #[cfg(test)]
 mod slices;
 #[cfg(test)]

@@ -3,8 +3,8 @@ ghost use Rattle.std.specs.Prelude.{IfOk};
 ghost use Rattle.std.specs.String.{string_bytes};
 ghost use Rattle.respath.specs.Norm.{IsNormAnswer, IsNormAs};
 
+use crate::shown::shown;
 use rpki_as::blocks::AsBlocks;
-use rpki_base::memory::OrMemory;
 use std::alloc::{AllocError, Allocator};
 
 /// The answer to `norm KIND LIST`.
@@ -21,9 +21,5 @@ pub fn norm<A: Allocator + Copy>(alloc: A, kind: &str, list: &str) -> Result<Str
 fn norm_as<A: Allocator + Copy>(alloc: A, list: &str) -> Result<String<A>, AllocError>
     ensures { IfOk result (λ text. IsNormAs list.now (string_bytes text)) }
 {
-    match AsBlocks::from_str(alloc, list) {
-        Ok(set) => format!(in alloc; "{set}"),
-        Err(OrMemory::Refused(fault)) => format!(in alloc; "error: {fault}"),
-        Err(OrMemory::Memory(error)) => Err(error),
-    }
+    shown(alloc, AsBlocks::from_str(alloc, list))
 }

@@ -1,6 +1,5 @@
 -- A text of a prefix or a range has one value or one fault at most.
-use Rattle.std.proofs.Common.{◌≡◌, ℕ, ◌-◌, ◌^◌, ◌<◌, ◌≤◌, ◌⊎◌, inl, inr, List, Option, Some, Result, Ok, Err, MatchResult, arith, refl, sym, ap, ◌∙◌, subst}
-use Rattle.rpki_base.specs.AddressText.{IsIpv4Text, IsIpv6Text}
+use Rattle.std.proofs.Common.{◌≡◌, ℕ, ◌-◌, ◌^◌, ◌<◌, ◌≤◌, ◌⊎◌, inl, inr, List, Option, Result, Ok, Err, MatchResult, arith, refl, sym, ap, ◌∙◌, subst}
 use Rattle.rpki_base.specs.Cuts.{HasNo, IsCutAt, Around, slash, dash}
 use Rattle.rpki_base.specs.Numbers.{IsNumberText}
 use Rattle.rpki_base.specs.Prefixes.{PrefixValue, cleared}
@@ -20,7 +19,6 @@ use Rattle.rpki_ip.specs.Ranges.{RangeValue}
 use Rattle.rpki_ip.specs.declared.error.FromStrError.{FromStrError}
 use Rattle.rpki_ip.specs.declared.error.FromStrError.TheVariants as Fault
 use Rattle.rpki_ip.specs.declared.family.AddressFamily.{AddressFamily}
-use Rattle.rpki_ip.specs.declared.family.AddressFamily.TheVariants.{Ipv4, Ipv6}
 
 -- A stage of a reader finds something, of which the rest speaks, or it has a fault of its own. Where both are one at most, so are the values and faults of the whole.
 module _ {S X : Type 0} (At : S → Type 0) (None : FromStrError → Type 0) (same : (s t : S) → At s → At t → s ≡ t) (apart : (s : S) (e : FromStrError) → At s → None e → ⊥) (one_none : (d e : FromStrError) → None d → None e → d ≡ e) (Has : S → X → Type 0) (Fails : S → FromStrError → Type 0) (one : (s : S) (r q : Result X FromStrError) → MatchResult r (Has s) (Fails s) → MatchResult q (Has s) (Fails s) → r ≡ q) where
@@ -148,15 +146,6 @@ module _ {X : Type 0} (b : ℕ) (text : List ℕ) (Has : List ℕ → List ℕ �
 -- an address, and a length that it doesn't have
 pub too_long : (w : Option AddressFamily) (left right : List ℕ) (a : IpAddr) (n : ℕ) → IsAddressText w left a → IsNumberText (2 ^ 8 - 1) right n → bits_of (family_of a) < n → HasPrefixFault w left right (Fault.PrefixLen PosOverflow)
 too_long w left right a n is number above = inr (a, is, (PosOverflow, inr (n, number, above, refl), refl))
-
--- a text that writes no IPv4 address, and one that writes no IPv6 address
-pub no_v4 : (text : List ℕ) → ((n : ℕ) → ¬ IsIpv4Text text n) → (a : IpAddr) → ¬ IsAddressText (Some Ipv4) text a
-no_v4 text none (V4 n) h = none n h.1
-no_v4 text none (V6 n) h = let e = h.0 in cc
-
-pub no_v6 : (text : List ℕ) → ((n : ℕ) → ¬ IsIpv6Text text n) → (a : IpAddr) → ¬ IsAddressText (Some Ipv6) text a
-no_v6 text none (V4 n) h = let e = h.0 in cc
-no_v6 text none (V6 n) h = none n h.1
 
 -- an address begins where it ends or before
 first_greatest : (a : IpAddr) → first_of a ≤ greatest_of a

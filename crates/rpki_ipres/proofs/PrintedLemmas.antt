@@ -1,5 +1,5 @@
 -- What is printed of a block is a text of a block with its bounds.
-use Rattle.std.proofs.Common.{◌≡◌, ℕ, ◌+◌, ◌-◌, ◌%◌, ◌^◌, ◌≤◌, ◌<◌, ◌≢◌, inl, inr, List, ◌∷◌, ◌++◌, Some, Result, MatchResult, All, arith, lit<, refl, sym, ap, ◌∙◌, subst, decimal}
+use Rattle.std.proofs.Common.{◌≡◌, ℕ, ◌+◌, ◌-◌, ◌%◌, ◌^◌, ◌≤◌, ◌<◌, ◌≢◌, inl, inr, List, ◌∷◌, ◌++◌, None, Some, Result, MatchResult, All, arith, lit<, refl, sym, ap, ◌∙◌, subst, decimal}
 use Rattle.std.proofs.Math.Nat.{pow-le-pow_right}
 use Rattle.std.proofs.lemmas.Bool.{cases_lt, cases_eq, eq-eqb, ne_eqb}
 use Rattle.std.proofs.lemmas.List.Elements.{All-cons, All-append, All-weaker}
@@ -25,7 +25,7 @@ use Rattle.rpki_ip.specs.declared.family.AddressFamily.TheVariants.{Ipv4, Ipv6}
 use Rattle.rpki_ip.proofs.TextLemmas.{single_of}
 use Rattle.rpki_ipres.specs.BlockText.{IsBlockText, HasBlockFault}
 use Rattle.rpki_ipres.specs.Blocks.{ip_bounds}
-use Rattle.rpki_ipres.specs.PrintedBlocks.{block_text, IsBlockOf}
+use Rattle.rpki_ipres.specs.PrintedBlocks.{block_text, IsBlockOf, ReadsBlock}
 use Rattle.rpki_ipres.specs.declared.block.IpBlock.{IpBlock}
 use Rattle.rpki_ipres.specs.declared.block.IpBlock.TheVariants.{Prefix, Range}
 
@@ -173,3 +173,18 @@ pub block_back : (family : AddressFamily) (text : List ℕ) (r : Result IpBlock 
 block_back family text r exact b h is =
     let w = subst (λ t. WritesBoundsOf family t b) (sym is) (written_of family b h) in
     rw (exact.each_value w.block w.written) w.bounds
+
+-- a block of one family that the text writes is one of either
+either_family : (family : AddressFamily) (text : List ℕ) (b : IpBlock) → IsBlockText (Some family) text b → IsBlockText None text b
+either_family family text (Prefix p) h = let (a, is, at) = h.holds in record { left = h.left; right = h.right; cut = h.cut; holds = (a, (tt, is.1), at) }
+either_family family text (Range r) (none, inl h) = let (a, is, (b, iz, from)) = h.holds in (none, inl (record { left = h.left; right = h.right; cut = h.cut; holds = (a, (tt, is.1), (b, (tt, iz.1), from)) }))
+either_family family text (Range r) (none, inr (apart, (a, is, from))) = (none, inr (apart, (a, (tt, is.1), from)))
+
+-- so a reader of either family reads both back
+pub reads_block : (text : List ℕ) (r : Result IpBlock FromStrError) → Answers (IsBlockText None text) (HasBlockFault None text) r → ReadsBlock text r
+reads_block text r exact = record {
+  exact = exact;
+  reads_back = λ family b h is. (
+      let w = subst (λ t. WritesBoundsOf family t b) (sym is) (written_of family b h) in
+      rw (exact.each_value w.block (either_family family text w.block w.written)) w.bounds);
+}

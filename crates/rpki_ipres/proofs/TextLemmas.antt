@@ -15,11 +15,11 @@ use Rattle.rpki_ipres.specs.declared.block.IpBlock.{IpBlock}
 use Rattle.rpki_ipres.specs.declared.block.IpBlock.TheVariants.{Prefix, Range}
 
 -- a text without a byte, and a text that has it
-pub byte_apart : (b : ℕ) (text : List ℕ) → HasNo b text → HasByte b text → ⊥
+byte_apart : (b : ℕ) (text : List ℕ) → HasNo b text → HasByte b text → ⊥
 byte_apart b text none (i, small, is) = none i small is
 
 -- a text that doesn't have it
-pub no_byte : (b : ℕ) (text : List ℕ) → ¬ HasByte b text → HasNo b text
+no_byte : (b : ℕ) (text : List ℕ) → ¬ HasByte b text → HasNo b text
 no_byte b text none i small is = none (i, small, is)
 
 -- a test for it

@@ -1,12 +1,15 @@
 -- What is printed of blocks of addresses, as those of a family.
-use Rattle.std.specs.Prelude.{ℕ, List, map}
+use Rattle.std.specs.Prelude.{◌≡◌, ℕ, List, map, None, Result, MatchResult}
 use Rattle.rpki_base.specs.Lists.{joined}
 use Rattle.rpki_base.specs.Prefixes.{IsPrefix}
+use Rattle.rpki_base.specs.Reading.{Answers}
 use Rattle.rpki_ip.specs.PrintedText.{prefix_text, range_text}
 use Rattle.rpki_ip.specs.Ranges.{IsRange}
 use Rattle.rpki_ip.specs.Whole.{HasWholeBounds}
+use Rattle.rpki_ip.specs.declared.error.FromStrError.{FromStrError}
 use Rattle.rpki_ip.specs.declared.family.AddressFamily.{AddressFamily}
 use Rattle.rpki_ip.specs.declared.family.AddressFamily.TheVariants.{Ipv4, Ipv6}
+use Rattle.rpki_ipres.specs.BlockText.{IsBlockText, HasBlockFault}
 use Rattle.rpki_ipres.specs.Blocks.{ip_bounds}
 use Rattle.rpki_ipres.specs.declared.block.IpBlock.{IpBlock}
 use Rattle.rpki_ipres.specs.declared.block.IpBlock.TheVariants.{Prefix, Range}
@@ -29,3 +32,8 @@ IsBlock (Range r) = IsRange r
 abbrev pub IsBlockOf : AddressFamily → IpBlock → Type 0
 IsBlockOf Ipv4 b = IsBlock b × HasWholeBounds (ip_bounds b)
 IsBlockOf Ipv6 b = IsBlock b
+
+-- The text is read as the block of either family that it writes, or as the fault that it has. What is printed of a block of a family is read as a block with its bounds.
+pub record ReadsBlock (text : List ℕ) (r : Result IpBlock FromStrError) : Type 0 where
+  pub exact : Answers (IsBlockText None text) (HasBlockFault None text) r
+  pub reads_back : (family : AddressFamily) (block : IpBlock) → IsBlockOf family block → text ≡ block_text family block → MatchResult r (λ read. ip_bounds read ≡ ip_bounds block) (λ _. ⊥)

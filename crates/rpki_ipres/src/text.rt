@@ -2,14 +2,14 @@
 //!
 //! A text is read as one of IPv4, as one of IPv6, or as one of either family. A block is printed as one of IPv4, by the
 //! first 32 bits of its bounds, or as one of IPv6.
-ghost use Rattle.std.specs.Prelude.{◌≡◌, ◌↔◌, IsTrue, None, Some, MatchResult};
+ghost use Rattle.std.specs.Prelude.{◌≡◌, ◌↔◌, IsTrue, Some, MatchResult};
 ghost use Rattle.std.specs.Fmt.{WritesOnOk};
 ghost use Rattle.rpki_base.specs.Reading.{Answers};
 ghost use Rattle.rpki_ip.specs.declared.family.AddressFamily.TheVariants.{Ipv4, Ipv6};
 ghost use Rattle.rpki_ipres.specs.BlockText.{IsBlockText, HasBlockFault};
 ghost use Rattle.rpki_ipres.specs.Blocks.{ip_bounds};
 ghost use Rattle.rpki_ipres.specs.ListText.{HasByte};
-ghost use Rattle.rpki_ipres.specs.PrintedBlocks.{block_text, IsBlockOf};
+ghost use Rattle.rpki_ipres.specs.PrintedBlocks.{block_text, IsBlockOf, ReadsBlock};
 
 use crate::block::IpBlock;
 use rpki_ip::error::FromStrError;
@@ -107,7 +107,7 @@ impl IpBlock {
 impl FromStr for IpBlock {
     type Err = FromStrError;
 
-    ghost from_str_gives = { λ text r. Answers (IsBlockText None text) (HasBlockFault None text) r };
+    ghost from_str_gives = { ReadsBlock };
 
     fn from_str(text: &str) -> Result<IpBlock, FromStrError> {
         read_block(None, text)

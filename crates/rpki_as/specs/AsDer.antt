@@ -32,7 +32,7 @@ abbrev pub SaysSet : List AsBlock → Runs → Type 0
 SaysSet blocks set = IsRunsOf (Covers as_bounds blocks) set
 
 -- a SEQUENCE of blocks, in any order, overlapping or not, and nothing else; it stands for the set of their numbers
--- (3.2.3.4, ASIdOrRange)
+-- (3.2.3.4, asIdsOrRanges)
 abbrev pub IsAsBlockSequence : List ℕ → Runs → Type 0
 IsAsBlockSequence = Refines (IsSequenceOf IsAsBlock) SaysSet
 

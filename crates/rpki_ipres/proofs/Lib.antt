@@ -1,8 +1,10 @@
+pub mod BlockWritten
 pub mod FormLemmas
 pub mod ListLemmas
 pub mod PrintedLemmas
 pub mod PrintedLists
 pub mod SetLemmas
 pub mod SetTextLemmas
+pub mod SetWritten
 pub mod TextLemmas
 pub mod WholeLemmas

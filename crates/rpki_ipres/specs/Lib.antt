@@ -1,4 +1,7 @@
+pub mod BlockDer
 pub mod BlockForms
+pub mod BlockReading
+pub mod BlockReadingLaws
 pub mod Blocks
 pub mod BlockText
 pub mod Equality

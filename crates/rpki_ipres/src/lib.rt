@@ -4,6 +4,7 @@
 pub mod block;
 pub mod blocks;
 pub mod builder;
+pub mod der;
 pub mod family;
 pub mod laws;
 pub mod list;

@@ -1,0 +1,68 @@
+-- Blocks of addresses and sequences of them in DER (RFC 3779, 2.2.3.3 to 2.2.3.9).
+use Rattle.std.specs.Prelude.{◌≡◌, ℕ, ◌≤◌, List, [], ◌∷◌, ◌++◌}
+use Rattle.rpki_base.specs.DerReading.{IsSequenceOf}
+use Rattle.rpki_base.specs.DerWriting.{sequence_octets}
+use Rattle.rpki_base.specs.Prefixes.{IsPrefix}
+use Rattle.rpki_chain.specs.BlockSets.{IsBlockSet}
+use Rattle.rpki_chain.specs.Runs.{Runs, Holds, IsRunsOf}
+use Rattle.rpki_chain.specs.Sets.{Covers}
+use Rattle.rpki_der.specs.Der.{Refines, sequence_value}
+use Rattle.rpki_ip.specs.declared.family.AddressFamily.{AddressFamily}
+use Rattle.rpki_ip.specs.declared.family.AddressFamily.TheVariants.{Ipv4, Ipv6}
+use Rattle.rpki_ip.specs.FamilyDer.{family_der}
+use Rattle.rpki_ip.specs.PrefixDer.{IsPrefixDer, prefix_der}
+use Rattle.rpki_ip.specs.RangeDer.{IsRangeDer, IsRangeWithin, range_der}
+use Rattle.rpki_ip.specs.Whole.{IsWhole}
+use Rattle.rpki_ipres.specs.Blocks.{ip_bounds, new_ip_block}
+use Rattle.rpki_ipres.specs.declared.block.IpBlock.{IpBlock}
+use Rattle.rpki_ipres.specs.declared.block.IpBlock.TheVariants.{Prefix, Range}
+
+-- a prefix or a range (2.2.3.7); limit is the greatest length of a prefix
+abbrev pub IsIpBlockDer : ℕ → List ℕ → IpBlock → Type 0
+IsIpBlockDer limit bytes (Prefix p) = IsPrefixDer limit bytes p
+IsIpBlockDer limit bytes (Range r) = IsRangeDer limit bytes r
+
+-- the runs of the addresses that some block has
+abbrev pub SaysSet : List IpBlock → Runs → Type 0
+SaysSet blocks set = IsRunsOf (Covers ip_bounds blocks) set
+
+-- a SEQUENCE of blocks, in any order, overlapping or not, and nothing else; it stands for the set of their addresses
+-- (2.2.3.6)
+abbrev pub IsIpBlockSequence : ℕ → List ℕ → Runs → Type 0
+IsIpBlockSequence limit = Refines (IsSequenceOf (IsIpBlockDer limit)) SaysSet
+
+-- ---- what is written
+
+-- a block in its own form
+abbrev pub ip_block_der : IpBlock → List ℕ
+ip_block_der (Prefix p) = prefix_der p
+ip_block_der (Range r) = range_der r
+
+-- a run: a prefix where its addresses are those of one, else a range (2.2.3.7)
+abbrev pub ip_run_der : ℕ × ℕ → List ℕ
+ip_run_der run = ip_block_der (new_ip_block run)
+
+-- the runs of a set in one SEQUENCE (2.2.3.6)
+abbrev pub ip_set_der : Runs → List ℕ
+ip_set_der set = sequence_octets ip_run_der set
+
+-- the family and the runs of a set in one SEQUENCE (2.2.3.2); nothing for the empty set
+abbrev pub ip_family_der : AddressFamily → Runs → List ℕ
+ip_family_der family [] = []
+ip_family_der family (run ∷ runs) = sequence_value (family_der family ++ ip_set_der (run ∷ runs))
+
+-- ---- what a limit allows
+
+-- the bounds of the block need no more bits than the limit
+abbrev pub IsBlockWithin : ℕ → IpBlock → Type 0
+IsBlockWithin limit (Prefix p) = IsPrefix 128 p × (p.len ≤ limit)
+IsBlockWithin limit (Range r) = IsRangeWithin limit r
+
+-- runs of numbers of 128 bits
+abbrev pub IsIpSet : Runs → Type 0
+IsIpSet set = IsBlockSet 340282366920938463463374607431768211455 set
+
+-- the addresses are those of the family, as numbers of 128 bits
+abbrev pub IsOfFamily : AddressFamily → Runs → Type 0
+IsOfFamily Ipv4 set = IsWhole (Holds set)
+IsOfFamily Ipv6 set = Unit {0}

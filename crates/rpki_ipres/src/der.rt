@@ -1,0 +1,4 @@
+//! Blocks and sets of addresses in DER (RFC 3779, section 2.2.3).
+mod block;
+mod blocks;
+pub mod laws;

@@ -1,0 +1,140 @@
+//! Sets of addresses in DER: a SEQUENCE of blocks (RFC 3779, 2.2.3.6).
+ghost use Rattle.std.specs.Prelude.{◌≡◌, ◌≤◌, ◌+◌, ◌++◌, length, vec_len, OnOk, OnErr, IsOk};
+ghost use Rattle.std.specs.Vec.{vec_capacity};
+ghost use Rattle.rpki_base.specs.DerWriting.{sequence_octets};
+ghost use Rattle.rpki_der.specs.Der.{sequence_value};
+ghost use Rattle.rpki_ip.specs.FamilyDer.{family_der};
+ghost use Rattle.rpki_ipres.specs.BlockDer.{ip_block_der};
+
+use crate::block::IpBlock;
+use crate::blocks::IpBlocks;
+use crate::der::block::IpBlockReader;
+use rpki_base::der::{encode_sequence, sequence_len, take_sequence_of};
+use rpki_base::memory::OrMemory;
+use rpki_der::{Cursor, DerError, header_len, put_header, tag};
+use rpki_ip::family::AddressFamily;
+use std::alloc::{AllocError, Allocator};
+
+impl<A: Allocator> IpBlocks<A> {
+    ghost use Rattle.std.specs.Prelude.{◌≡◌, ℕ, List, ◌<◌, ◌≤◌, ◌+◌, ◌^◌, ◌++◌, length, vec_len, OnOk, OnErr, IsOk, MatchResult};
+    ghost use Rattle.std.specs.Vec.{vec_capacity};
+    ghost use Rattle.rpki_chain.specs.Runs.{Runs};
+    ghost use Rattle.rpki_der.specs.Views.{Lenient, left};
+    ghost use Rattle.rpki_base.specs.DerViews.{ReadsOrMemory, TakesSaidOrMemory};
+    ghost use Rattle.rpki_base.specs.DerWriting.{octets_of_all};
+    ghost use Rattle.rpki_base.specs.Memory.{IsMemory};
+    ghost use Rattle.rpki_ip.specs.Families.{bits_of};
+    ghost use Rattle.rpki_ipres.specs.BlockDer.{IsIpBlockSequence, IsIpSet, IsOfFamily, SaysSet, ip_family_der, ip_run_der, ip_set_der};
+    ghost use Rattle.rpki_ipres.specs.BlockReading.{ip_blocks_at};
+
+    /// Takes a SEQUENCE of blocks, which may be none, and answers the set of their addresses. The blocks may come in any
+    /// order and may overlap, and their prefixes have lengths up to 128.
+    ///
+    /// `Refused` with the first fault: that of the SEQUENCE as in [`Cursor::take_sequence`], or that of a block as in
+    /// [`IpBlock::take_opt_from`]. `Memory` where there is no memory for the blocks. The cursor then stays.
+    pub fn take_from(alloc: A, cursor: &mut Cursor<'_>) -> Result<IpBlocks<A>, OrMemory<DerError>>
+    where
+        A: Copy,
+        ensures reads { Lenient cursor.old (ReadsOrMemory (IsIpBlockSequence 128) (λ set. set) cursor.old cursor.new result) }
+        ensures exact { Lenient cursor.old (TakesSaidOrMemory SaysSet cursor.old cursor.new result (ip_blocks_at 128)) }
+        // What is written of a set is read as that set, whatever follows it.
+        ensures reads_back { (set : Runs) (rest : List ℕ) → IsIpSet set → length (octets_of_all ip_run_der set) < 2 ^ 64
+            → left cursor.old ≡ ip_set_der set ++ rest → MatchResult result (λ read. (read ≡ set) × (left cursor.new ≡ rest)) IsMemory }
+    {
+        Self::next_set(alloc, cursor, AddressFamily::Ipv6)
+    }
+
+    /// Takes a SEQUENCE of blocks of the family as `take_from` does. `BadPrefix` also for a prefix that is longer than the
+    /// family's addresses.
+    pub fn take_from_with_family(
+        alloc: A,
+        cursor: &mut Cursor<'_>,
+        family: AddressFamily,
+    ) -> Result<IpBlocks<A>, OrMemory<DerError>>
+    where
+        A: Copy,
+        ensures reads { Lenient cursor.old (ReadsOrMemory (IsIpBlockSequence (bits_of family)) (λ set. set) cursor.old cursor.new result) }
+        ensures exact { Lenient cursor.old (TakesSaidOrMemory SaysSet cursor.old cursor.new result (ip_blocks_at (bits_of family))) }
+        // What is written of a set of the family is read as that set, whatever follows it.
+        ensures reads_back { (set : Runs) (rest : List ℕ) → IsIpSet set → IsOfFamily family set → length (octets_of_all ip_run_der set) < 2 ^ 64
+            → left cursor.old ≡ ip_set_der set ++ rest → MatchResult result (λ read. (read ≡ set) × (left cursor.new ≡ rest)) IsMemory }
+    {
+        Self::next_set(alloc, cursor, family)
+    }
+
+    /// Appends the SEQUENCE of the set's runs, ascending: each as a prefix where its addresses are those of one, and else
+    /// as the SEQUENCE of its bounds. `AllocError` where there is no memory for all of it; then the octets stay as they
+    /// were.
+    pub fn encode<B: Allocator>(&self, out: &mut Vec<u8, B>) -> Result<(), AllocError>
+        ensures ok { OnOk result (out.new.items ≡ out.old.items ++ ip_set_der self.now) }
+        ensures err { OnErr result (out.new.items ≡ out.old.items) }
+        ensures succeeds { vec_len out.old + length (ip_set_der self.now) ≤ vec_capacity out.old → IsOk result }
+        ensures capacity { vec_capacity out.old ≤ vec_capacity out.new }
+        ensures set { IsIpSet self.now }
+    {
+        encode_sequence(self.iter().as_slice(), out)
+    }
+
+    /// Appends the SEQUENCE of the family and of what `encode` appends (RFC 3779, 2.2.3.2), and nothing for the empty set.
+    /// `AllocError` where there is no memory for all of it; then the octets stay as they were.
+    pub fn encode_family<B: Allocator>(
+        &self,
+        family: AddressFamily,
+        out: &mut Vec<u8, B>,
+    ) -> Result<(), AllocError>
+        ensures ok { OnOk result (out.new.items ≡ out.old.items ++ ip_family_der family self.now) }
+        ensures err { OnErr result (out.new.items ≡ out.old.items) }
+        ensures succeeds { vec_len out.old + length (ip_family_der family self.now) ≤ vec_capacity out.old → IsOk result }
+        ensures capacity { vec_capacity out.old ≤ vec_capacity out.new }
+        ensures set { IsIpSet self.now }
+    {
+        let blocks = self.iter().as_slice();
+        if blocks.is_empty() {
+            return Ok(());
+        }
+        put_family(out, family, blocks)
+    }
+
+    // The reading behind the takes.
+    fn next_set(
+        alloc: A,
+        cursor: &mut Cursor<'_>,
+        family: AddressFamily,
+    ) -> Result<IpBlocks<A>, OrMemory<DerError>>
+    where
+        A: Copy,
+        ensures exact { TakesSaidOrMemory SaysSet cursor.old cursor.new result (ip_blocks_at (bits_of family)) }
+    {
+        let mut ahead = *cursor;
+        let blocks = take_sequence_of(alloc, &IpBlockReader { family }, &mut ahead)?;
+        let set = IpBlocks::from_blocks(alloc, blocks.as_slice())?;
+        *cursor = ahead;
+        Ok(set)
+    }
+}
+
+/// Appends the SEQUENCE of a family and of the SEQUENCE of blocks.
+fn put_family<B: Allocator>(
+    out: &mut Vec<u8, B>,
+    family: AddressFamily,
+    blocks: &[IpBlock],
+) -> Result<(), AllocError>
+    ensures ok { OnOk result (out.new.items ≡ out.old.items ++ sequence_value (family_der family ++ sequence_octets ip_block_der blocks.now)) }
+    ensures err { OnErr result (out.new.items ≡ out.old.items) }
+    ensures succeeds { vec_len out.old + length (sequence_value (family_der family ++ sequence_octets ip_block_der blocks.now)) ≤ vec_capacity out.old → IsOk result }
+    ensures capacity { vec_capacity out.old ≤ vec_capacity out.new }
+{
+    let Some(blocks_len) = sequence_len(blocks) else {
+        return Err(AllocError);
+    };
+    let Some(content_len) = family.encoded_len().checked_add(blocks_len) else {
+        return Err(AllocError);
+    };
+    let Some(total) = header_len(tag::SEQUENCE, content_len).checked_add(content_len) else {
+        return Err(AllocError);
+    };
+    out.reserve(total)?;
+    put_header(out, tag::SEQUENCE, content_len)?;
+    family.encode(out)?;
+    encode_sequence(blocks, out)
+}

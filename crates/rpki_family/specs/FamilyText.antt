@@ -1,0 +1,15 @@
+-- Texts of blocks of a family.
+use Rattle.std.specs.Prelude.{◌≡◌, ℕ, List, Some, Result, MatchResult}
+use Rattle.rpki_base.specs.Reading.{Answers}
+use Rattle.rpki_ip.specs.declared.error.FromStrError.{FromStrError}
+use Rattle.rpki_ip.specs.declared.family.AddressFamily.{AddressFamily}
+use Rattle.rpki_ipres.specs.Blocks.{ip_bounds}
+use Rattle.rpki_ipres.specs.BlockText.{IsBlockText, HasBlockFault}
+use Rattle.rpki_ipres.specs.PrintedBlocks.{IsBlockOf, block_text}
+use Rattle.rpki_ipres.specs.declared.block.IpBlock.{IpBlock}
+
+-- The text is read as the block of the family that it writes, or as the fault that it has. What is printed of a block of
+-- the family is read as a block with its bounds.
+pub record ReadsBlock (family : AddressFamily) (text : List ℕ) (r : Result IpBlock FromStrError) : Type 0 where
+  pub exact : Answers (IsBlockText (Some family) text) (HasBlockFault (Some family) text) r
+  pub reads_back : (block : IpBlock) → IsBlockOf family block → text ≡ block_text family block → MatchResult r (λ read. ip_bounds read ≡ ip_bounds block) (λ _. ⊥)

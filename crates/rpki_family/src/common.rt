@@ -1,0 +1,83 @@
+//! What the types of the two families share.
+ghost use Rattle.std.specs.Prelude.{◌≡◌, ℕ, List, All, IfOk, map, MatchResult};
+ghost use Rattle.rpki_base.specs.Memory.{IsMemory};
+ghost use Rattle.rpki_base.specs.Reading.{AnswersOrMemory};
+ghost use Rattle.rpki_chain.specs.Runs.{Runs, Holds, IsRunsOf};
+ghost use Rattle.rpki_chain.specs.Sets.{Covers};
+ghost use Rattle.rpki_ip.specs.Whole.{IsWhole};
+ghost use Rattle.rpki_ip.specs.declared.family.AddressFamily.TheVariants.{Ipv4};
+ghost use Rattle.rpki_ipres.specs.Blocks.{ip_bounds};
+ghost use Rattle.rpki_ipres.specs.ListText.{HasBlocks, HasBlocksFault};
+ghost use Rattle.rpki_ipres.specs.PrintedBlocks.{block_list_text, IsBlockOf};
+ghost use Rattle.rpki_ipres.specs.declared.block.IpBlock.{IpBlock};
+ghost use Rattle.rpki_ipres.specs.SetText.{IsFamilySet, IsSetOf, set_text};
+
+use rpki_base::memory::OrMemory;
+use rpki_ip::error::FromStrError;
+use rpki_ip::family::AddressFamily;
+use rpki_ipres::block::IpBlock;
+use rpki_ipres::blocks::IpBlocks;
+use rpki_ipres::list::{read_v4_blocks, read_v6_blocks};
+use std::alloc::{AllocError, Allocator};
+
+/// A block of a family.
+pub(crate) trait FamilyBlock: Copy {
+    // The block of addresses of either family that it is.
+    ghost block: { Self → IpBlock };
+
+    // What holds of the bounds of a block of the family.
+    ghost fits: { ℕ × ℕ → Type 0 };
+
+    /// The block of addresses of either family that it is.
+    fn to_block(&self) -> IpBlock
+        ensures value { result ≡ block self.now }
+        ensures bounds { fits (ip_bounds result) };
+}
+
+/// The set of the addresses that some block of a family has.
+pub(crate) fn set_of<B: FamilyBlock, A: Allocator + Copy>(
+    alloc: A,
+    blocks: &[B],
+) -> Result<IpBlocks<A>, AllocError>
+    ensures set { IfOk result (IsRunsOf (Covers (λ b. ip_bounds (B.block b)) blocks.now)) }
+    ensures bounds { IfOk result (λ _. All (λ b. B.fits (ip_bounds (B.block b))) blocks.now) }
+{
+    let mut own = Vec::with_capacity(alloc, blocks.len())?;
+    for block in blocks {
+        own.push(block.to_block())?;
+    }
+    IpBlocks::from_blocks(alloc, own.as_slice())
+}
+
+/// The blocks that a list of the family writes.
+fn read_blocks<A: Allocator + Drop>(
+    alloc: A,
+    family: AddressFamily,
+    text: &str,
+) -> Result<Vec<IpBlock, A>, OrMemory<FromStrError>>
+    ensures exact { AnswersOrMemory (λ v. v.items) (HasBlocks family text.now) (HasBlocksFault family text.now) result }
+    ensures reads_back { (blocks : List IpBlock) → All (IsBlockOf family) blocks → text.now ≡ block_list_text family blocks
+        → MatchResult result (λ v. map ip_bounds v.items ≡ map ip_bounds blocks) IsMemory }
+{
+    match family {
+        AddressFamily::Ipv4 => read_v4_blocks(alloc, text),
+        AddressFamily::Ipv6 => read_v6_blocks(alloc, text),
+    }
+}
+
+/// The set that a list of blocks of the family writes.
+pub(crate) fn read_set<A: Allocator + Copy>(
+    alloc: A,
+    family: AddressFamily,
+    text: &str,
+) -> Result<IpBlocks<A>, OrMemory<FromStrError>>
+    ensures exact { AnswersOrMemory (λ set. set) (IsSetOf (HasBlocks family text.now)) (HasBlocksFault family text.now) result }
+    // What is printed of a set of the family is read as that set.
+    ensures reads_back { (set : Runs) → IsFamilySet family set → text.now ≡ set_text family set
+        → MatchResult result (λ read. read ≡ set) IsMemory }
+    ensures whole { IfOk result (λ set. family ≡ Ipv4 → IsWhole (Holds set)) }
+{
+    let blocks = read_blocks(alloc, family, text)?;
+    let set = IpBlocks::from_blocks(alloc, blocks.as_slice())?;
+    Ok(set)
+}

@@ -1,0 +1,6 @@
+//! Blocks and sets of addresses of one family, with their texts.
+#![tactic(auto)]
+
+mod common;
+pub mod v4;
+pub mod v6;

@@ -3,13 +3,14 @@ use Rattle.std.proofs.Common.{◌≡◌, ℕ, ◌+◌, ◌-◌, ◌*◌, ◌%◌
 use Rattle.std.specs.List.{AllByRecursion, flat_map}
 use Rattle.std.specs.Prelude.{All, nat_le}
 use Rattle.std.proofs.lemmas.Bool.{cases_lt, eqb-true, leb-true}
+use Rattle.std.proofs.lemmas.List.{length-append}
 use Rattle.std.proofs.lemmas.List.Elements.{recursion_from_All}
 use Rattle.std.proofs.lemmas.List.Folds.{flat_map-map}
 use Rattle.std.proofs.lemmas.Nat.{pow_below, pow_pos}
 use Rattle.rpki_chain.specs.Runs.{Runs, Holds, IsRunsOf}
 use Rattle.rpki_chain.specs.Sets.{Covers}
 use Rattle.rpki_chain.proofs.RunLists.{Holds-map, IsRunsOf-same, IsRunsOf-unique, same_numbers}
-use Rattle.rpki_der.specs.Der.{sequence_value}
+use Rattle.rpki_der.specs.Der.{header, sequence_value}
 use Rattle.rpki_base.specs.DerReading.{IsSequenceOf}
 use Rattle.rpki_base.specs.DerWriting.{octets_of_all, sequence_octets}
 use Rattle.rpki_base.specs.Prefixes.{IsPrefix}
@@ -129,6 +130,14 @@ family_runs Ipv6 set is any = recursion_from_All (IsRunWithin 128) set (λ k d s
 few_family : (family : AddressFamily) → bits_of family ≤ 128
 few_family Ipv4 = omega arith
 few_family Ipv6 = omega arith
+
+-- a SEQUENCE that stands in octets is no longer than they are
+pub content_short : (bytes content rest : List ℕ) → length bytes < 2 ^ 64 → bytes ≡ sequence_value content ++ rest → length content < 2 ^ 64
+content_short bytes content rest short at =
+    let whole : length bytes ≡ length (sequence_value content ++ rest) = ap (λ (t : List ℕ). length t) at in
+    let parts : length (sequence_value content ++ rest) ≡ length (sequence_value content) + length rest = length-append (sequence_value content) rest in
+    let value : length (sequence_value content) ≡ length (header 48 (length content)) + length content = length-append (header 48 (length content)) content in
+    omega (arith, short, whole, parts, value)
 
 -- what is written of a set is a SEQUENCE of its blocks
 pub set_written : (family : AddressFamily) (set : Runs) → IsIpSet set → IsOfFamily family set → length (octets_of_all ip_run_der set) < 2 ^ 64 → IsSequenceOf (IsIpBlockDer (bits_of family)) (ip_set_der set) (map new_ip_block set)

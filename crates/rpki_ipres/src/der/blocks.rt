@@ -21,10 +21,9 @@ impl<A: Allocator> IpBlocks<A> {
     ghost use Rattle.rpki_chain.specs.Runs.{Runs};
     ghost use Rattle.rpki_der.specs.Views.{Lenient, left};
     ghost use Rattle.rpki_base.specs.DerViews.{ReadsOrMemory, TakesSaidOrMemory};
-    ghost use Rattle.rpki_base.specs.DerWriting.{octets_of_all};
     ghost use Rattle.rpki_base.specs.Memory.{IsMemory};
     ghost use Rattle.rpki_ip.specs.Families.{bits_of};
-    ghost use Rattle.rpki_ipres.specs.BlockDer.{IsIpBlockSequence, IsIpSet, IsOfFamily, SaysSet, ip_family_der, ip_run_der, ip_set_der};
+    ghost use Rattle.rpki_ipres.specs.BlockDer.{IsIpBlockSequence, IsIpSet, IsOfFamily, SaysSet, ip_family_der, ip_set_der};
     ghost use Rattle.rpki_ipres.specs.BlockReading.{ip_blocks_at};
 
     /// Takes a SEQUENCE of blocks, which may be none, and answers the set of their addresses. The blocks may come in any
@@ -38,7 +37,7 @@ impl<A: Allocator> IpBlocks<A> {
         ensures reads { Lenient cursor.old (ReadsOrMemory (IsIpBlockSequence 128) (λ set. set) cursor.old cursor.new result) }
         ensures exact { Lenient cursor.old (TakesSaidOrMemory SaysSet cursor.old cursor.new result (ip_blocks_at 128)) }
         // What is written of a set is read as that set, whatever follows it.
-        ensures reads_back { (set : Runs) (rest : List ℕ) → IsIpSet set → length (octets_of_all ip_run_der set) < 2 ^ 64
+        ensures reads_back { (set : Runs) (rest : List ℕ) → IsIpSet set
             → left cursor.old ≡ ip_set_der set ++ rest → MatchResult result (λ read. (read ≡ set) × (left cursor.new ≡ rest)) IsMemory }
     {
         Self::next_set(alloc, cursor, AddressFamily::Ipv6)
@@ -56,7 +55,7 @@ impl<A: Allocator> IpBlocks<A> {
         ensures reads { Lenient cursor.old (ReadsOrMemory (IsIpBlockSequence (bits_of family)) (λ set. set) cursor.old cursor.new result) }
         ensures exact { Lenient cursor.old (TakesSaidOrMemory SaysSet cursor.old cursor.new result (ip_blocks_at (bits_of family))) }
         // What is written of a set of the family is read as that set, whatever follows it.
-        ensures reads_back { (set : Runs) (rest : List ℕ) → IsIpSet set → IsOfFamily family set → length (octets_of_all ip_run_der set) < 2 ^ 64
+        ensures reads_back { (set : Runs) (rest : List ℕ) → IsIpSet set → IsOfFamily family set
             → left cursor.old ≡ ip_set_der set ++ rest → MatchResult result (λ read. (read ≡ set) × (left cursor.new ≡ rest)) IsMemory }
     {
         Self::next_set(alloc, cursor, family)
@@ -104,7 +103,9 @@ impl<A: Allocator> IpBlocks<A> {
     where
         A: Copy,
         ensures exact { TakesSaidOrMemory SaysSet cursor.old cursor.new result (ip_blocks_at (bits_of family)) }
+        ensures short { length (left cursor.old) < 2 ^ 64 }
     {
+        let _len = cursor.rest().len();
         let mut ahead = *cursor;
         let blocks = take_sequence_of(alloc, &IpBlockReader { family }, &mut ahead)?;
         let set = IpBlocks::from_blocks(alloc, blocks.as_slice())?;

@@ -10,7 +10,7 @@ ghost use Rattle.rpki_ip.specs.declared.family.AddressFamily.TheVariants.{Ipv4};
 ghost use Rattle.rpki_ipres.specs.Blocks.{ip_bounds};
 ghost use Rattle.rpki_ipres.specs.Equality.{have_same_bounds, blocks_per, blocks_equiv};
 ghost use Rattle.rpki_ipres.specs.ListText.{HasBlocks, HasBlocksFault};
-ghost use Rattle.rpki_ipres.specs.PrintedBlocks.{block_text};
+ghost use Rattle.rpki_ipres.specs.PrintedBlocks.{IsBlockOf, block_text};
 ghost use Rattle.rpki_ipres.specs.SetText.{IsFamilySet, IsSetOf, set_text};
 ghost use Rattle.rpki_ipres.specs.declared.block.IpBlock.TheVariants.{Prefix};
 ghost use Rattle.rpki_family.specs.FamilyText.{ReadsBlock};
@@ -77,7 +77,7 @@ impl Ipv4Block {
     /// The greatest address.
     pub fn max(&self) -> Ipv4Addr
         ensures value { result * 2 ^ 96 + (2 ^ 96 - 1) ≡ (ip_bounds self.now).1 }
-        ensures whole { HasWholeBounds (ip_bounds self.now) }
+        ensures block { IsBlockOf Ipv4 self.now }
     {
         self.block.max().to_v4()
     }

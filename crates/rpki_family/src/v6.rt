@@ -9,7 +9,7 @@ ghost use Rattle.rpki_ip.specs.declared.family.AddressFamily.TheVariants.{Ipv6};
 ghost use Rattle.rpki_ipres.specs.Blocks.{ip_bounds};
 ghost use Rattle.rpki_ipres.specs.Equality.{have_same_bounds, blocks_per, blocks_equiv};
 ghost use Rattle.rpki_ipres.specs.ListText.{HasBlocks, HasBlocksFault};
-ghost use Rattle.rpki_ipres.specs.PrintedBlocks.{block_text};
+ghost use Rattle.rpki_ipres.specs.PrintedBlocks.{IsBlockOf, block_text};
 ghost use Rattle.rpki_ipres.specs.SetText.{IsFamilySet, IsSetOf, set_text};
 ghost use Rattle.rpki_ipres.specs.declared.block.IpBlock.TheVariants.{Prefix};
 ghost use Rattle.rpki_family.specs.FamilyText.{ReadsBlock};
@@ -70,7 +70,8 @@ impl Ipv6Block {
 
     /// The greatest address.
     pub fn max(&self) -> Ipv6Addr
-        ensures { result ≡ (ip_bounds self.now).1 }
+        ensures value { result ≡ (ip_bounds self.now).1 }
+        ensures block { IsBlockOf Ipv6 self.now }
     {
         self.block.max().to_v6()
     }

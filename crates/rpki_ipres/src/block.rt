@@ -19,6 +19,7 @@ impl IpBlock {
     ghost use Rattle.rpki_base.specs.Prefixes.{PrefixValue, IsPrefix};
     ghost use Rattle.rpki_ip.specs.Whole.{HasWholeBounds};
     ghost use Rattle.rpki_ipres.specs.Blocks.{prefix_bounds, ip_bounds, is_new_ip_block};
+    ghost use Rattle.rpki_ipres.specs.PrintedBlocks.{IsBlock};
 
     /// All addresses: the prefix of length 0.
     pub fn all() -> IpBlock
@@ -67,10 +68,15 @@ impl IpBlock {
     pub fn max(&self) -> Addr
         ensures value { result ≡ (ip_bounds self.now).1 }
         ensures in_order { (ip_bounds self.now).0 ≤ (ip_bounds self.now).1 }
+        ensures block { IsBlock self.now }
     {
         match self {
             IpBlock::Prefix(prefix) => prefix.max(),
-            IpBlock::Range(range) => AddressRange::max(range),
+            IpBlock::Range(range) => {
+                let max = AddressRange::max(range);
+                let _below = max.to_bits();
+                max
+            }
         }
     }
 

@@ -1,12 +1,12 @@
 -- The readings find the families, prefixes and ranges of the grammars, whatever follows them, and no others.
-use Rattle.std.proofs.Common.{◌≡◌, ℕ, ◌+◌, ◌-◌, ◌*◌, ◌/◌, ◌^◌, ◌<◌, ◌≤◌, ◌||◌, ◌&&◌, Bool, true, false, cond, eqb, ltb, List, [], ◌∷◌, length, get_or, Result, Ok, Err, refl, sym, ap, subst, ◌∙◌, arith, inl, inr}
+use Rattle.std.proofs.Common.{◌≡◌, ℕ, ◌-◌, ◌*◌, ◌/◌, ◌^◌, ◌≤◌, ◌||◌, ◌&&◌, Bool, true, false, cond, eqb, ltb, List, [], ◌∷◌, length, get_or, Result, Ok, Err, refl, sym, ap, subst, ◌∙◌, arith, inl, inr}
 use Rattle.std.specs.Prelude.{IsErrAnd, MatchResult}
 use Rattle.std.proofs.lemmas.Bool.{ltb-false, le-ltb, eqb-true, cases_lt}
 use Rattle.rpki_base.specs.Prefixes.{PrefixValue, last_of}
 use Rattle.rpki_base.proofs.DerReadings.{pair_check}
 use Rattle.rpki_der.specs.declared.error.DerError.{DerError}
 use Rattle.rpki_der.specs.declared.error.DerError.TheVariants.{BadPrefix, BadFamily, ReversedRange}
-use Rattle.rpki_der.specs.Der.{Bits, IsBits, IsBitContent, IsBytes, IsSequence, bit_content, bit_count, big_endian, Refines}
+use Rattle.rpki_der.specs.Der.{Bits, IsBits, IsBytes, IsSequence, bit_content, bit_count, big_endian, Refines}
 use Rattle.rpki_der.specs.Reading.{Gives, bits, refined, tagged_at, IsReading}
 use Rattle.rpki_der.proofs.Steps.{IsCheck, bind_ok, passed, ok_is, neither, both_false}
 use Rattle.rpki_der.proofs.Contents.{bits_check}

@@ -1,16 +1,16 @@
 -- What is written is in the grammars, and how long it is.
-use Rattle.std.proofs.Common.{◌≡◌, ℕ, ◌+◌, ◌-◌, ◌*◌, ◌%◌, ◌^◌, ◌<◌, ◌≤◌, true, ltb, List, ◌∷◌, ◌++◌, length, refl, sym, ap, ◌∙◌, append_assoc, arith}
+use Rattle.std.proofs.Common.{◌≡◌, ℕ, ◌+◌, ◌-◌, ◌%◌, ◌^◌, ◌<◌, ◌≤◌, true, ltb, List, ◌∷◌, ◌++◌, length, refl, sym, ap, ◌∙◌, append_assoc, arith}
 use Rattle.std.proofs.lemmas.Bool.{lt-ltb}
 use Rattle.std.proofs.lemmas.Nat.{pow_pos}
 use Rattle.std.proofs.lemmas.List.{length-append}
 use Rattle.rpki_base.specs.Prefixes.{PrefixValue, IsPrefix}
-use Rattle.rpki_der.specs.Der.{Bits, header, length_octets, bit_string_value}
+use Rattle.rpki_der.specs.Der.{header, length_octets, bit_string_value}
 use Rattle.rpki_der.proofs.Written.{value_is}
 use Rattle.rpki_ip.specs.declared.family.AddressFamily.{AddressFamily}
 use Rattle.rpki_ip.specs.declared.family.AddressFamily.TheVariants.{Ipv4, Ipv6}
-use Rattle.rpki_ip.specs.FamilyDer.{IsFamilyDer, family_der, family_octets}
+use Rattle.rpki_ip.specs.FamilyDer.{IsFamilyDer, family_der}
 use Rattle.rpki_ip.specs.PrefixDer.{IsPrefixDer, prefix_bits, prefix_der}
-use Rattle.rpki_ip.specs.RangeDer.{IsRangeDer, IsRangeWithin, IsShortestFrom, IsShortestTo, range_content, range_der, without_end_ones, without_end_zeros}
+use Rattle.rpki_ip.specs.RangeDer.{IsRangeDer, IsRangeWithin, range_content, range_der, without_end_ones, without_end_zeros}
 use Rattle.rpki_ip.specs.Ranges.{RangeValue}
 use Rattle.rpki_ip.proofs.Multiples.{IsMultiple, multiple_diff, multiple_least, multiple_mod, multiple_self, mod_multiple}
 use Rattle.rpki_ip.proofs.PrefixBits.{bits_few, bits_fit, bits_say}

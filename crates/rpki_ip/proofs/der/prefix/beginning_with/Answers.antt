@@ -1,5 +1,5 @@
 -- So far the bits are the number that the octets spell, and as many.
-use Rattle.std.proofs.Common.{◌≡◌, ◌≤◌, ◌<◌, ◌+◌, ◌-◌, ◌*◌, ◌^◌, ◌∙◌, length, get_or, take, ap, sym, arith}
+use Rattle.std.proofs.Common.{◌≡◌, ◌≤◌, ◌+◌, ◌-◌, ◌*◌, ◌^◌, ◌∙◌, length, get_or, take, ap, sym, arith}
 use Rattle.std.proofs.lemmas.Nat.{shl_whole}
 use Rattle.std.proofs.Math.Nat.{pow-le-pow_right}
 use Rattle.std.proofs.lemmas.List.{take_all}

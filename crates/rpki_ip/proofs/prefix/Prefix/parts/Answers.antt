@@ -1,5 +1,5 @@
 -- The count is rounded up.
-use Rattle.std.proofs.Common.{◌≡◌, ◌+◌, ◌-◌, ◌*◌, ◌/◌, ◌∙◌, ℕ, ap, arith, take}
+use Rattle.std.proofs.Common.{◌≡◌, ◌-◌, ◌*◌, ◌∙◌, ap, arith, take}
 use Rattle.std.specs.Int.{w128, to_be_bytes}
 use Rattle.rpki_der.specs.Der.{bits_with}
 use Rattle.rpki_ip.specs.PrefixDer.{octet_count}

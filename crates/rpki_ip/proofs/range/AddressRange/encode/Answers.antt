@@ -1,5 +1,5 @@
 -- The header, and the two prefixes behind it.
-use Rattle.std.proofs.Common.{◌≡◌, ◌++◌, ◌∙◌, length, ap}
+use Rattle.std.proofs.Common.{◌≡◌, ◌∙◌, ap}
 use Rattle.rpki_der.specs.Der.{header}
 use Rattle.rpki_ip.specs.PrefixDer.{prefix_der}
 use Rattle.rpki_ip.specs.RangeDer.{without_end_zeros, without_end_ones}

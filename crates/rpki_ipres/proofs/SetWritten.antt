@@ -1,5 +1,5 @@
 -- What is written of sets of addresses, and that it is read back.
-use Rattle.std.proofs.Common.{◌≡◌, ℕ, ◌+◌, ◌-◌, ◌*◌, ◌%◌, ◌^◌, ◌<◌, ◌≤◌, ◌↔◌, IsTrue, false, eqb, List, [], ◌∷◌, ◌++◌, length, map, refl, sym, ap, subst, ◌∙◌, arith, inl, inr}
+use Rattle.std.proofs.Common.{◌≡◌, ℕ, ◌+◌, ◌-◌, ◌%◌, ◌^◌, ◌<◌, ◌≤◌, ◌↔◌, IsTrue, false, eqb, List, [], ◌∷◌, ◌++◌, length, map, refl, sym, ap, subst, ◌∙◌, arith, inl, inr}
 use Rattle.std.specs.List.{AllByRecursion, flat_map}
 use Rattle.std.specs.Prelude.{All, nat_le}
 use Rattle.std.proofs.lemmas.Bool.{cases_lt, eqb-true, leb-true}
@@ -7,20 +7,18 @@ use Rattle.std.proofs.lemmas.List.{length-append}
 use Rattle.std.proofs.lemmas.List.Elements.{recursion_from_All}
 use Rattle.std.proofs.lemmas.List.Folds.{flat_map-map}
 use Rattle.std.proofs.lemmas.Nat.{pow_below, pow_pos}
-use Rattle.rpki_chain.specs.Runs.{Runs, Holds, IsRunsOf}
+use Rattle.rpki_chain.specs.Runs.{Runs, Holds}
 use Rattle.rpki_chain.specs.Sets.{Covers}
 use Rattle.rpki_chain.proofs.RunLists.{Holds-map, IsRunsOf-same, IsRunsOf-unique, same_numbers}
 use Rattle.rpki_der.specs.Der.{header, sequence_value}
 use Rattle.rpki_base.specs.DerReading.{IsSequenceOf}
 use Rattle.rpki_base.specs.DerWriting.{octets_of_all, sequence_octets}
-use Rattle.rpki_base.specs.Prefixes.{IsPrefix}
 use Rattle.rpki_base.proofs.DerWriting.{one_content, sequence_written, written_alike}
 use Rattle.rpki_ip.specs.declared.family.AddressFamily.{AddressFamily}
 use Rattle.rpki_ip.specs.declared.family.AddressFamily.TheVariants.{Ipv4, Ipv6}
 use Rattle.rpki_ip.specs.Families.{bits_of}
 use Rattle.rpki_ip.specs.FamilyDer.{family_der}
 use Rattle.rpki_ip.specs.RangeDer.{IsRangeWithin}
-use Rattle.rpki_ip.specs.Ranges.{RangeValue, range_bounds}
 use Rattle.rpki_ip.specs.Whole.{HasWholeBounds}
 use Rattle.rpki_ip.proofs.Multiples.{IsMultiple, mod_multiple, multiple_diff, multiple_least}
 use Rattle.rpki_ipres.specs.BlockDer.{IsBlockWithin, IsIpBlockDer, IsIpSet, IsOfFamily, SaysSet, ip_block_der, ip_family_der, ip_run_der, ip_set_der}

@@ -1,5 +1,5 @@
 -- Blocks of addresses and sequences of them in DER (RFC 3779, 2.2.3.3 to 2.2.3.9).
-use Rattle.std.specs.Prelude.{◌≡◌, ℕ, ◌≤◌, List, [], ◌∷◌, ◌++◌}
+use Rattle.std.specs.Prelude.{ℕ, ◌≤◌, List, [], ◌∷◌, ◌++◌}
 use Rattle.rpki_base.specs.DerReading.{IsSequenceOf}
 use Rattle.rpki_base.specs.DerWriting.{sequence_octets}
 use Rattle.rpki_base.specs.Prefixes.{IsPrefix}

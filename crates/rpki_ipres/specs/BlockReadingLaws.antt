@@ -1,16 +1,14 @@
 -- The reading finds the blocks of the grammar, whatever follows them, and no others: what readers of lists are told of it.
 use Rattle.std.proofs.Common.{◌≡◌, ℕ, ◌<◌, List, length, refl, sym, subst, arith, inl, inr}
-use Rattle.rpki_der.specs.Der.{Bits, IsBytes, IsTlv, IsValue, Refines, Tlv, bit_content}
+use Rattle.rpki_der.specs.Der.{IsBytes, IsTlv, IsValue, Refines, Tlv, bit_content}
 use Rattle.rpki_der.specs.Reading.{IsReading}
 use Rattle.rpki_der.proofs.Lists.{value_has_octets}
 use Rattle.rpki_der.proofs.Readings.{same_reading}
 use Rattle.rpki_der.proofs.Steps.{IsCheck}
-use Rattle.rpki_base.specs.Prefixes.{PrefixValue}
 use Rattle.rpki_base.proofs.DerReadings.{by_tag_reading, mapped_check, sequence_reading}
 use Rattle.rpki_base.specs.DerReading.{IsSequenceOf, SaysByTag}
 use Rattle.rpki_ip.specs.PrefixDer.{IsPrefixContent, prefix_in}
 use Rattle.rpki_ip.specs.RangeDer.{SaysRange, range_in}
-use Rattle.rpki_ip.specs.Ranges.{RangeValue}
 use Rattle.rpki_ip.proofs.DerReadings.{prefix_check, range_check}
 use Rattle.rpki_ipres.specs.BlockDer.{IsIpBlockDer}
 use Rattle.rpki_ipres.specs.BlockReading.{prefix_block_in, range_block_in, ip_block_at, ip_blocks_at}

@@ -1,13 +1,8 @@
 -- What is written of the blocks is what is written of the runs, of which there are some.
-use Rattle.std.proofs.Common.{◌≡◌, ◌+◌, ◌≤◌, ◌++◌, ℕ, List, false, eqb, length, map, ap, sym, subst, ◌∙◌, vec_len, IsTrue}
+use Rattle.std.proofs.Common.{◌≡◌, ◌+◌, ◌≤◌, ◌++◌, ℕ, List, length, map, ap, sym, subst, ◌∙◌, vec_len, IsTrue}
 use Rattle.std.specs.Prelude.{All, OnOk, IsOk}
 use Rattle.std.specs.Slice.Iter.{iter_rest}
 use Rattle.std.specs.Vec.{vec_capacity}
-use Rattle.rpki_der.specs.Der.{sequence_value}
-use Rattle.rpki_base.specs.DerWriting.{sequence_octets}
-use Rattle.rpki_chain.specs.Runs.{Runs}
-use Rattle.rpki_ip.specs.FamilyDer.{family_der}
-use Rattle.rpki_ipres.specs.BlockDer.{ip_block_der, ip_family_der}
 use Rattle.rpki_ipres.specs.Blocks.{ip_bounds, is_new_ip_block}
 use Rattle.rpki_ipres.specs.declared.block.IpBlock.{IpBlock}
 use Rattle.rpki_ipres.proofs.SetWritten.{family_written}

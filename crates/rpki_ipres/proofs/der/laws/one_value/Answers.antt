@@ -1,6 +1,5 @@
 -- Each grammar has a reading, and blocks stand for one set.
-use Rattle.std.proofs.Common.{List, sym, subst}
-use Rattle.rpki_chain.specs.Runs.{Runs}
+use Rattle.std.proofs.Common.{List, subst}
 use Rattle.rpki_der.proofs.Readings.{one_front}
 use Rattle.rpki_base.specs.DerReading.{IsSequenceOf}
 use Rattle.rpki_ipres.specs.BlockDer.{IsIpBlockDer, SaysSet}

@@ -2,12 +2,11 @@
 ghost use Rattle.std.specs.Prelude.{◌≡◌, ℕ, ◌↔◌, [], ◌∷◌, IsTrue, IfOk, Some, MatchResult, ⊤};
 ghost use Rattle.rpki_base.specs.Memory.{IsMemory};
 ghost use Rattle.rpki_base.specs.Reading.{AnswersOrMemory};
-ghost use Rattle.rpki_chain.specs.Equality.{same_runs, runs_per, runs_equiv};
+ghost use Rattle.rpki_chain.specs.Equality.{have_same_bounds, blocks_per, blocks_equiv, same_runs, runs_per, runs_equiv};
 ghost use Rattle.rpki_chain.specs.Runs.{Runs, Holds, IsRunsOf};
 ghost use Rattle.rpki_chain.specs.Sets.{Covers};
 ghost use Rattle.rpki_ip.specs.declared.family.AddressFamily.TheVariants.{Ipv6};
 ghost use Rattle.rpki_ipres.specs.Blocks.{ip_bounds};
-ghost use Rattle.rpki_ipres.specs.Equality.{have_same_bounds, blocks_per, blocks_equiv};
 ghost use Rattle.rpki_ipres.specs.ListText.{HasBlocks, HasBlocksFault};
 ghost use Rattle.rpki_ipres.specs.PrintedBlocks.{IsBlockOf, block_text};
 ghost use Rattle.rpki_ipres.specs.SetText.{IsFamilySet, IsSetOf, set_text};
@@ -79,12 +78,12 @@ impl Ipv6Block {
 
 /// Blocks are equal where their bounds are, whatever their forms.
 impl PartialEq for Ipv6Block {
-    ghost eq = { have_same_bounds };
+    ghost eq = { have_same_bounds ip_bounds };
 
-    ghost laws = { blocks_per };
+    ghost laws = { blocks_per ip_bounds };
 
     fn eq(&self, other: &Ipv6Block) -> bool
-        ensures value { result ≡ have_same_bounds self.now other.now }
+        ensures value { result ≡ have_same_bounds ip_bounds self.now other.now }
         ensures same_bounds { IsTrue result ↔ (ip_bounds self.now ≡ ip_bounds other.now) }
     {
         self.block == other.block
@@ -92,7 +91,7 @@ impl PartialEq for Ipv6Block {
 }
 
 impl Eq for Ipv6Block {
-    ghost laws = { blocks_equiv };
+    ghost laws = { blocks_equiv ip_bounds };
 }
 
 impl From<Ipv6Block> for IpBlock {

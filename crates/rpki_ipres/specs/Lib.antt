@@ -4,7 +4,6 @@ pub mod BlockReading
 pub mod BlockReadingLaws
 pub mod Blocks
 pub mod BlockText
-pub mod Equality
 pub mod ListText
 pub mod PrintedBlocks
 pub mod SetText

@@ -143,14 +143,14 @@ impl Block for IpBlock {
 impl PartialEq for IpBlock {
     ghost use Rattle.std.specs.Prelude.{◌≡◌, ◌↔◌, IsTrue};
     ghost use Rattle.rpki_ipres.specs.Blocks.{ip_bounds};
-    ghost use Rattle.rpki_ipres.specs.Equality.{have_same_bounds, blocks_per};
+    ghost use Rattle.rpki_chain.specs.Equality.{have_same_bounds, blocks_per};
 
-    ghost eq = { have_same_bounds };
+    ghost eq = { have_same_bounds ip_bounds };
 
-    ghost laws = { blocks_per };
+    ghost laws = { blocks_per ip_bounds };
 
     fn eq(&self, other: &IpBlock) -> bool
-        ensures value { result ≡ have_same_bounds self.now other.now }
+        ensures value { result ≡ have_same_bounds ip_bounds self.now other.now }
         ensures same_bounds { IsTrue result ↔ (ip_bounds self.now ≡ ip_bounds other.now) }
     {
         IpBlock::min(self) == IpBlock::min(other) && IpBlock::max(self) == IpBlock::max(other)
@@ -158,9 +158,10 @@ impl PartialEq for IpBlock {
 }
 
 impl Eq for IpBlock {
-    ghost use Rattle.rpki_ipres.specs.Equality.{blocks_equiv};
+    ghost use Rattle.rpki_chain.specs.Equality.{blocks_equiv};
+    ghost use Rattle.rpki_ipres.specs.Blocks.{ip_bounds};
 
-    ghost laws = { blocks_equiv };
+    ghost laws = { blocks_equiv ip_bounds };
 }
 
 impl From<Prefix> for IpBlock {

@@ -3,6 +3,10 @@
 #![tactic(auto)]
 
 #[cfg(test)]
+mod block_texts;
+#[cfg(test)]
+mod blocks;
+#[cfg(test)]
 mod prefixes;
 #[cfg(test)]
 mod range_texts;

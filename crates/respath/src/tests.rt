@@ -51,6 +51,56 @@ const ROWS: [(&[u8], &[u8]); 20] = [
     ),
 ];
 
+/// Lines of lists of IPv4 and IPv6 blocks, and what is written for each.
+const IP_ROWS: [(&[u8], &[u8]); 19] = [
+    (b"norm v4", b"\n"),
+    (b"norm v6 , ,", b"\n"),
+    (b"norm v4 10.0.0.1", b"10.0.0.1\n"),
+    (
+        b"norm v4 10.0.0.0-10.0.0.10, 10.0.0.11-10.0.0.20",
+        b"10.0.0.0-10.0.0.20\n",
+    ),
+    (b"norm v4 0.0.0.0-255.255.255.255", b"0.0.0.0/0\n"),
+    (b"norm v4 10.0.0.0/+8", b"10.0.0.0/8\n"),
+    (b"norm v4 10.1.2.3/8", b"10.0.0.0/8\n"),
+    (
+        b"norm v4 10.0.0.0/33",
+        b"error: bad prefix length: number too large to fit in target type\n",
+    ),
+    (
+        b"norm v4 10.0.0.0/",
+        b"error: bad prefix length: cannot parse integer from empty string\n",
+    ),
+    (
+        b"norm v4 10.0.0.1-10.0.0.2/24",
+        b"error: invalid IPv4 address syntax\n",
+    ),
+    (
+        b"norm v4 10.0.0.5-10.0.0.4",
+        b"error: invalid address range\n",
+    ),
+    (b"norm v4 ::1", b"error: address family mismatch\n"),
+    (
+        b"norm v4 10.0.0.0, ::1",
+        b"error: address family mismatch\n",
+    ),
+    (b"norm v6 10.0.0.0", b"error: address family mismatch\n"),
+    (
+        b"norm v6 ::ffff:10.0.0.1, 10.0.0.1",
+        b"error: address family mismatch\n",
+    ),
+    (b"norm v6 1:0:0:2:0:0:0:3", b"1:0:0:2::3\n"),
+    (
+        b"norm v6 ::ffff:1.2.3.4/96",
+        b"::ffff:0.0.0.0/96\n",
+    ),
+    (b"norm v6 ::-ffff:ffff:ffff:ffff:ffff:ffff:ffff:ffff", b"::/0\n"),
+    (
+        b"norm v6 2001:db8:0:20::, 2001:db8:0:10::/64, 2001:db8:0:30::-2001:db8:0:30::FF, 2001:db8:0:10::/72",
+        b"2001:db8:0:10::/64, 2001:db8:0:20::, 2001:db8:0:30::/120\n",
+    ),
+];
+
 /// A run of several lines, and what is written for it.
 const INPUT: &[u8] = b"norm as AS5, 3, 4\n\nn\xff\nnorm as 1-\nnorm as AS9";
 
@@ -60,15 +110,28 @@ const OUTPUT: &[u8] = b"AS3-AS5\nerror: unknown command\nerror: not UTF-8\n\
 /// The lengths of the beginnings of that output that end a line, and of the empty one.
 const ENDS: [usize; 6] = [0, 8, 31, 48, 94, 98];
 
+/// Runs an input, and looks at all that is written.
+fn is_answered(rt: &impl Abort, heap: Global, input: &[u8], output: &[u8]) {
+    let mut room = [0u8; 128];
+    let mut source = SliceSource::new(input, Habits::GOOD);
+    let mut sink = SliceSink::new(&mut room, Habits::GOOD);
+    assert_eq!(rt; run(heap, &mut source, &mut sink), Ok(()));
+    assert_eq!(rt; source.rest().len(), 0);
+    assert_eq!(rt; sink.written(), output);
+}
+
 #[test]
 fn each_row_is_answered(rt: HostRuntime) -> Result<(), Fail> {
     for (input, output) in ROWS {
-        let mut room = [0u8; 128];
-        let mut source = SliceSource::new(input, Habits::GOOD);
-        let mut sink = SliceSink::new(&mut room, Habits::GOOD);
-        assert_eq!(rt; run(rt.alloc(), &mut source, &mut sink), Ok(()));
-        assert_eq!(rt; source.rest().len(), 0);
-        assert_eq!(rt; sink.written(), output);
+        is_answered(&rt, rt.alloc(), input, output);
+    }
+    Ok(())
+}
+
+#[test]
+fn each_row_of_addresses_is_answered(rt: HostRuntime) -> Result<(), Fail> {
+    for (input, output) in IP_ROWS {
+        is_answered(&rt, rt.alloc(), input, output);
     }
     Ok(())
 }

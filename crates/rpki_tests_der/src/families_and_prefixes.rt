@@ -182,6 +182,19 @@ fn bits_that_are_too_many_for_a_prefix(rt: HostRuntime) -> Result<(), Fail> {
     Ok(())
 }
 
+#[test]
+fn prefixes_of_a_family(rt: HostRuntime) -> Result<(), Fail> {
+    let wanted = Prefix::from_v6_str("a00:1:8000::/33")?;
+    let mut cursor = Cursor::new(&[0x03, 0x06, 0x07, 0x0a, 0x00, 0x00, 0x01, 0x80]);
+    let short = Prefix::take_from_with_family(&mut cursor, AddressFamily::Ipv4);
+    assert_eq!(rt; short, Err(DerError::BadPrefix));
+    assert_eq!(rt; cursor.rest().len(), 8);
+    let long = Prefix::take_from_with_family(&mut cursor, AddressFamily::Ipv6);
+    assert_eq!(rt; long, Ok(wanted));
+    assert!(rt; cursor.is_empty());
+    Ok(())
+}
+
 // Whatever the tag is; with a family, the length is at most that of its addresses.
 #[test]
 fn contents_as_prefixes(rt: HostRuntime) -> Result<(), Fail> {

@@ -5,7 +5,11 @@
 #[cfg(test)]
 mod altered;
 #[cfg(test)]
+mod as_blocks;
+#[cfg(test)]
 mod families_and_prefixes;
+#[cfg(test)]
+mod ip_blocks;
 #[cfg(test)]
 mod numbers;
 #[cfg(test)]

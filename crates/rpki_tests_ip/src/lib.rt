@@ -1,4 +1,4 @@
-//! What no clause says of prefixes, ranges, and blocks and sets of IP addresses, as tests: worked rows and vectors as
+//! What no clause says of prefixes, ranges and blocks of IP addresses, as tests: worked rows and vectors as
 //! tables, each public call once with ample memory, and each request for memory refused in turn.
 #![tactic(auto)]
 

@@ -21,7 +21,8 @@ use Rattle.rpki_ip.specs.FamilyDer.{family_der}
 use Rattle.rpki_ip.specs.RangeDer.{IsRangeWithin}
 use Rattle.rpki_ip.specs.Whole.{HasWholeBounds}
 use Rattle.rpki_ip.proofs.Multiples.{IsMultiple, mod_multiple, multiple_diff, multiple_least}
-use Rattle.rpki_ipres.specs.BlockDer.{IsBlockWithin, IsIpBlockDer, IsIpSet, IsOfFamily, SaysSet, ip_block_der, ip_family_der, ip_run_der, ip_set_der}
+use Rattle.rpki_ipres.specs.BlockDer.{IsBlockWithin, IsIpBlockDer, IsOfFamily, SaysSet, ip_block_der, ip_family_der, ip_run_der, ip_set_der}
+use Rattle.rpki_ipres.specs.SetText.{IsIpSet}
 use Rattle.rpki_ipres.specs.BlockForms.{both_pass}
 use Rattle.rpki_ipres.specs.BlockReading.{ip_block_at}
 use Rattle.rpki_ipres.specs.Blocks.{has_length, ip_bounds, is_new_ip_block, new_ip_block, prefix_bounds}

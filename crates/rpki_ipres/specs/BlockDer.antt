@@ -3,7 +3,6 @@ use Rattle.std.specs.Prelude.{ℕ, ◌≤◌, List, [], ◌∷◌, ◌++◌}
 use Rattle.rpki_base.specs.DerReading.{IsSequenceOf}
 use Rattle.rpki_base.specs.DerWriting.{sequence_octets}
 use Rattle.rpki_base.specs.Prefixes.{IsPrefix}
-use Rattle.rpki_chain.specs.BlockSets.{IsBlockSet}
 use Rattle.rpki_chain.specs.Runs.{Runs, Holds, IsRunsOf}
 use Rattle.rpki_chain.specs.Sets.{Covers}
 use Rattle.rpki_der.specs.Der.{Refines, sequence_value}
@@ -57,10 +56,6 @@ ip_family_der family (run ∷ runs) = sequence_value (family_der family ++ ip_se
 abbrev pub IsBlockWithin : ℕ → IpBlock → Type 0
 IsBlockWithin limit (Prefix p) = IsPrefix 128 p × (p.len ≤ limit)
 IsBlockWithin limit (Range r) = IsRangeWithin limit r
-
--- runs of numbers of 128 bits
-abbrev pub IsIpSet : Runs → Type 0
-IsIpSet set = IsBlockSet 340282366920938463463374607431768211455 set
 
 -- the addresses are those of the family, as numbers of 128 bits
 abbrev pub IsOfFamily : AddressFamily → Runs → Type 0

@@ -23,8 +23,9 @@ impl<A: Allocator> IpBlocks<A> {
     ghost use Rattle.rpki_base.specs.DerViews.{ReadsOrMemory, TakesSaidOrMemory};
     ghost use Rattle.rpki_base.specs.Memory.{IsMemory};
     ghost use Rattle.rpki_ip.specs.Families.{bits_of};
-    ghost use Rattle.rpki_ipres.specs.BlockDer.{IsIpBlockSequence, IsIpSet, IsOfFamily, SaysSet, ip_family_der, ip_set_der};
+    ghost use Rattle.rpki_ipres.specs.BlockDer.{IsIpBlockSequence, IsOfFamily, SaysSet, ip_family_der, ip_set_der};
     ghost use Rattle.rpki_ipres.specs.BlockReading.{ip_blocks_at};
+    ghost use Rattle.rpki_ipres.specs.SetText.{IsIpSet};
 
     /// Takes a SEQUENCE of blocks, which may be none, and answers the set of their addresses. The blocks may come in any
     /// order and may overlap, and their prefixes have lengths up to 128.

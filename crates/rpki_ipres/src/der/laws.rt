@@ -2,7 +2,8 @@
 ghost use Rattle.std.specs.Prelude.{◌≡◌, ℕ, ◌↔◌};
 ghost use Rattle.rpki_chain.specs.Runs.{Runs, Holds};
 ghost use Rattle.rpki_der.specs.Der.{OneFront};
-ghost use Rattle.rpki_ipres.specs.BlockDer.{IsIpBlockDer, IsIpBlockSequence, IsIpSet, ip_set_der};
+ghost use Rattle.rpki_ipres.specs.BlockDer.{IsIpBlockDer, IsIpBlockSequence, ip_set_der};
+ghost use Rattle.rpki_ipres.specs.SetText.{IsIpSet};
 
 /// Octets begin with at most one block, and with at most one SEQUENCE of blocks, which stands for one set.
 pub fn one_value()

@@ -86,75 +86,119 @@ fn reordered<T: Copy>(alloc: Global, blocks: &[T]) -> Result<Vec<T>, AllocError>
     Ok(taken)
 }
 
+/// The set of such blocks.
+fn as_set(alloc: Global, count: usize, offset: u32) -> Result<AsBlocks, AllocError> {
+    let blocks = as_blocks(alloc, count, offset)?;
+    AsBlocks::from_blocks(alloc, &blocks)
+}
+
 /// Builds two sets, and times what they give.
 fn measure_operations(rt: &HostRuntime, count: usize) -> io::Result<()> {
-    let alloc = rt.alloc();
-    let one = AsBlocks::from_blocks(alloc, &as_blocks(alloc, count, 0)?)?;
-    let other = AsBlocks::from_blocks(alloc, &as_blocks(alloc, count, 2)?)?;
+    let one = as_set(rt.alloc(), count, 0)?;
+    let other = as_set(rt.alloc(), count, 2)?;
+    measure_union(rt, count, &one, &other)?;
+    measure_intersection(rt, count, &one, &other)?;
+    measure_difference(rt, count, &one, &other)
+}
 
+fn measure_union(
+    rt: &HostRuntime,
+    count: usize,
+    one: &AsBlocks,
+    other: &AsBlocks,
+) -> io::Result<()> {
     let start = Instant::now(rt)?;
-    let union = one.union(alloc, &other)?;
-    report(rt, "union", count, start, union.iter().len(), "blocks")?;
+    let union = one.union(rt.alloc(), other)?;
+    report_set(rt, "union", count, start, &union)
+}
 
+fn measure_intersection(
+    rt: &HostRuntime,
+    count: usize,
+    one: &AsBlocks,
+    other: &AsBlocks,
+) -> io::Result<()> {
     let start = Instant::now(rt)?;
-    let intersection = one.intersection(alloc, &other)?;
-    report(
-        rt,
-        "intersection",
-        count,
-        start,
-        intersection.iter().len(),
-        "blocks",
-    )?;
+    let intersection = one.intersection(rt.alloc(), other)?;
+    report_set(rt, "intersection", count, start, &intersection)
+}
 
+fn measure_difference(
+    rt: &HostRuntime,
+    count: usize,
+    one: &AsBlocks,
+    other: &AsBlocks,
+) -> io::Result<()> {
     let start = Instant::now(rt)?;
-    let difference = one.difference(alloc, &other)?;
-    report(
-        rt,
-        "difference",
-        count,
-        start,
-        difference.iter().len(),
-        "blocks",
-    )
+    let difference = one.difference(rt.alloc(), other)?;
+    report_set(rt, "difference", count, start, &difference)
+}
+
+/// A SEQUENCE of blocks of AS numbers, which aren't ascending.
+fn as_octets(alloc: Global, count: usize) -> Result<Vec<u8>, AllocError> {
+    let blocks = reordered(alloc, &as_blocks(alloc, count, 0)?)?;
+    let mut octets = Vec::new(alloc);
+    encode_sequence(&blocks, &mut octets)?;
+    Ok(octets)
+}
+
+/// A SEQUENCE of blocks of addresses, which aren't ascending.
+fn ip_octets(alloc: Global, count: usize) -> Result<Vec<u8>, AllocError> {
+    let blocks = reordered(alloc, &ip_blocks(alloc, count)?)?;
+    let mut octets = Vec::new(alloc);
+    encode_sequence(&blocks, &mut octets)?;
+    Ok(octets)
 }
 
 /// Reads blocks of AS numbers from a SEQUENCE, and writes their set.
 fn measure_as_der(rt: &HostRuntime, count: usize) -> io::Result<()> {
-    let alloc = rt.alloc();
-    let mut octets = Vec::new(alloc);
-    let blocks = as_blocks(alloc, count, 0)?;
-    encode_sequence(&reordered(alloc, &blocks)?, &mut octets)?;
-
+    let octets = as_octets(rt.alloc(), count)?;
     let start = Instant::now(rt)?;
-    let Ok(set) = AsBlocks::take_from(alloc, &mut Cursor::new(&octets)) else {
-        return Err(io::ErrorKind::InvalidData.into());
-    };
-    report(rt, "as-take_from", count, start, set.iter().len(), "blocks")?;
+    match AsBlocks::take_from(rt.alloc(), &mut Cursor::new(&octets)) {
+        Ok(set) => {
+            report_set(rt, "as-take_from", count, start, &set)?;
+            measure_as_writing(rt, count, &set)
+        }
+        Err(_) => Err(io::ErrorKind::InvalidData.into()),
+    }
+}
 
-    let mut written = Vec::new(alloc);
+fn measure_as_writing(rt: &HostRuntime, count: usize, set: &AsBlocks) -> io::Result<()> {
+    let mut octets = Vec::new(rt.alloc());
     let start = Instant::now(rt)?;
-    set.encode(&mut written)?;
-    report(rt, "as-encode", count, start, written.len(), "octets")
+    set.encode(&mut octets)?;
+    report(rt, "as-encode", count, start, octets.len(), "octets")
 }
 
 /// Reads blocks of addresses from a SEQUENCE, and writes their set.
 fn measure_ip_der(rt: &HostRuntime, count: usize) -> io::Result<()> {
-    let alloc = rt.alloc();
-    let mut octets = Vec::new(alloc);
-    let blocks = ip_blocks(alloc, count)?;
-    encode_sequence(&reordered(alloc, &blocks)?, &mut octets)?;
-
+    let octets = ip_octets(rt.alloc(), count)?;
     let start = Instant::now(rt)?;
-    let Ok(set) = IpBlocks::take_from(alloc, &mut Cursor::new(&octets)) else {
-        return Err(io::ErrorKind::InvalidData.into());
-    };
-    report(rt, "ip-take_from", count, start, set.iter().len(), "blocks")?;
+    match IpBlocks::take_from(rt.alloc(), &mut Cursor::new(&octets)) {
+        Ok(set) => {
+            report(rt, "ip-take_from", count, start, set.iter().len(), "blocks")?;
+            measure_ip_writing(rt, count, &set)
+        }
+        Err(_) => Err(io::ErrorKind::InvalidData.into()),
+    }
+}
 
-    let mut written = Vec::new(alloc);
+fn measure_ip_writing(rt: &HostRuntime, count: usize, set: &IpBlocks) -> io::Result<()> {
+    let mut octets = Vec::new(rt.alloc());
     let start = Instant::now(rt)?;
-    set.encode(&mut written)?;
-    report(rt, "ip-encode", count, start, written.len(), "octets")
+    set.encode(&mut octets)?;
+    report(rt, "ip-encode", count, start, octets.len(), "octets")
+}
+
+/// Prints how many blocks a call gave, and how long it took since the start.
+fn report_set(
+    rt: &HostRuntime,
+    call: &str,
+    count: usize,
+    start: Instant,
+    set: &AsBlocks,
+) -> io::Result<()> {
+    report(rt, call, count, start, set.iter().len(), "blocks")
 }
 
 /// Prints how much a call gave, and how long it took since the start.

@@ -90,11 +90,11 @@ const IP_ROWS: [(&[u8], &[u8]); 19] = [
         b"error: address family mismatch\n",
     ),
     (b"norm v6 1:0:0:2:0:0:0:3", b"1:0:0:2::3\n"),
+    (b"norm v6 ::ffff:1.2.3.4/96", b"::ffff:0.0.0.0/96\n"),
     (
-        b"norm v6 ::ffff:1.2.3.4/96",
-        b"::ffff:0.0.0.0/96\n",
+        b"norm v6 ::-ffff:ffff:ffff:ffff:ffff:ffff:ffff:ffff",
+        b"::/0\n",
     ),
-    (b"norm v6 ::-ffff:ffff:ffff:ffff:ffff:ffff:ffff:ffff", b"::/0\n"),
     (
         b"norm v6 2001:db8:0:20::, 2001:db8:0:10::/64, 2001:db8:0:30::-2001:db8:0:30::FF, 2001:db8:0:10::/72",
         b"2001:db8:0:10::/64, 2001:db8:0:20::, 2001:db8:0:30::/120\n",

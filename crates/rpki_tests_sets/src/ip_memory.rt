@@ -53,23 +53,6 @@ fn block(text: &str) -> IpBlock {
 }
 
 #[test]
-fn makes_sets_of_blocks(rt: HostRuntime) -> Result<(), Fail> {
-    for number in 0..100 {
-        let refusing = Refusing::new(rt.alloc(), Plan::RefuseOnly(number));
-        let blocks = [block("10.0.1.0/24"), block("10.0.0.0/24")];
-        let set = IpBlocks::from_blocks(&refusing, &blocks);
-        if !refusing.has_refused() {
-            assert!(rt; number > 0);
-            assert!(rt; prints_v4(rt.alloc(), &set?, "10.0.0.0/23")?);
-            return Ok(());
-        }
-        assert!(rt; set == Err(AllocError), "{number}");
-        assert!(rt; blocks[0] == block("10.0.1.0/24"), "{number}");
-    }
-    panic!(rt; "each run was refused memory");
-}
-
-#[test]
 fn makes_the_whole_set(rt: HostRuntime) -> Result<(), Fail> {
     for number in 0..100 {
         let refusing = Refusing::new(rt.alloc(), Plan::RefuseOnly(number));
@@ -120,83 +103,6 @@ fn operands<A: Allocator + Copy>(alloc: A) -> Result<(IpBlocks<A>, IpBlocks<A>),
     let own = IpBlocks::from_blocks(alloc, &[block("10.0.0.1-10.0.0.9"), block("10.0.0.20/30")])?;
     let other = IpBlocks::from_blocks(alloc, &[block("10.0.0.5-10.0.0.21"), block("10.0.0.40")])?;
     Ok((own, other))
-}
-
-#[test]
-fn unions(rt: HostRuntime) -> Result<(), Fail> {
-    for number in 0..100 {
-        let refusing = Refusing::new(rt.alloc(), Plan::RefuseOnly(number));
-        let Ok((own, other)) = operands(&refusing) else {
-            continue;
-        };
-        let union = own.union(&refusing, &other);
-        assert!(rt; prints_v4(rt.alloc(), &own, OWN)?, "{number}");
-        assert!(rt; prints_v4(rt.alloc(), &other, OTHER)?, "{number}");
-        if !refusing.has_refused() {
-            assert!(rt; prints_v4(rt.alloc(), &union?, "10.0.0.1-10.0.0.23, 10.0.0.40")?);
-            return Ok(());
-        }
-        assert!(rt; union == Err(AllocError), "{number}");
-    }
-    panic!(rt; "each run was refused memory");
-}
-
-#[test]
-fn differences(rt: HostRuntime) -> Result<(), Fail> {
-    for number in 0..100 {
-        let refusing = Refusing::new(rt.alloc(), Plan::RefuseOnly(number));
-        let Ok((own, other)) = operands(&refusing) else {
-            continue;
-        };
-        let rest = own.difference(&refusing, &other);
-        assert!(rt; prints_v4(rt.alloc(), &own, OWN)?, "{number}");
-        assert!(rt; prints_v4(rt.alloc(), &other, OTHER)?, "{number}");
-        if !refusing.has_refused() {
-            assert!(rt; prints_v4(rt.alloc(), &rest?, "10.0.0.1-10.0.0.4, 10.0.0.22/31")?);
-            return Ok(());
-        }
-        assert!(rt; rest == Err(AllocError), "{number}");
-    }
-    panic!(rt; "each run was refused memory");
-}
-
-#[test]
-fn intersections(rt: HostRuntime) -> Result<(), Fail> {
-    for number in 0..100 {
-        let refusing = Refusing::new(rt.alloc(), Plan::RefuseOnly(number));
-        let Ok((own, other)) = operands(&refusing) else {
-            continue;
-        };
-        let common = own.intersection(&refusing, &other);
-        assert!(rt; prints_v4(rt.alloc(), &own, OWN)?, "{number}");
-        assert!(rt; prints_v4(rt.alloc(), &other, OTHER)?, "{number}");
-        if !refusing.has_refused() {
-            assert!(rt; prints_v4(rt.alloc(), &common?, "10.0.0.5-10.0.0.9, 10.0.0.20/31")?);
-            return Ok(());
-        }
-        assert!(rt; common == Err(AllocError), "{number}");
-    }
-    panic!(rt; "each run was refused memory");
-}
-
-#[test]
-fn intersections_in_place(rt: HostRuntime) -> Result<(), Fail> {
-    for number in 0..100 {
-        let refusing = Refusing::new(rt.alloc(), Plan::RefuseOnly(number));
-        let Ok((mut own, other)) = operands(&refusing) else {
-            continue;
-        };
-        let assigned = own.intersection_assign(&refusing, &other);
-        assert!(rt; prints_v4(rt.alloc(), &other, OTHER)?, "{number}");
-        if !refusing.has_refused() {
-            assert!(rt; assigned == Ok(()));
-            assert!(rt; prints_v4(rt.alloc(), &own, "10.0.0.5-10.0.0.9, 10.0.0.20/31")?);
-            return Ok(());
-        }
-        assert!(rt; assigned == Err(AllocError), "{number}");
-        assert!(rt; prints_v4(rt.alloc(), &own, OWN)?, "{number}");
-    }
-    panic!(rt; "each run was refused memory");
 }
 
 #[test]

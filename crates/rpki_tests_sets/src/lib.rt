@@ -3,10 +3,6 @@
 #![tactic(auto)]
 
 #[cfg(test)]
-mod families;
-#[cfg(test)]
-mod family_memory;
-#[cfg(test)]
 mod ip_memory;
 #[cfg(test)]
 mod ip_sets;

@@ -6,9 +6,9 @@ use Rattle.std.proofs.lemmas.Bool.{cases_lt, eq-eqb, ne_eqb}
 use Rattle.std.proofs.lemmas.Grind.{common_steps}
 use Rattle.std.proofs.lemmas.List.{length-append}
 use Rattle.std.proofs.lemmas.List.Elements.{recursion_from_All}
-use Rattle.rpki_chain.specs.Runs.{Runs, Holds}
+use Rattle.rpki_chain.specs.Runs.{Runs, Holds, IsRunsOfBlocks}
 use Rattle.rpki_chain.specs.Sets.{Covers}
-use Rattle.rpki_chain.proofs.RunLists.{Holds-map, IsRunsOf-same, IsRunsOf-unique, same_numbers}
+use Rattle.rpki_chain.proofs.RunLists.{IsRunsOf-unique, IsRunsOfBlocks-bounds, same_numbers}
 use Rattle.rpki_der.specs.declared.cursor.Cursor.{Cursor}
 use Rattle.rpki_der.specs.declared.error.DerError.{DerError}
 use Rattle.rpki_der.specs.Der.{IsBytes, OneFront, header, integer, sequence_value}
@@ -25,7 +25,7 @@ use Rattle.rpki_base.specs.declared.memory.OrMemory.{OrMemory}
 use Rattle.rpki_base.proofs.DerCursors.{reads_said_by, takes_said}
 use Rattle.rpki_base.proofs.DerReadings.{sequence_reading}
 use Rattle.rpki_base.proofs.DerWriting.{sequence_written, written_alike}
-use Rattle.rpki_as.specs.AsDer.{IsAsBlock, IsAsBlockSequence, SaysSet, as_block_octets, as_range_content, as_run_octets, as_sequence_octets, as_set_octets}
+use Rattle.rpki_as.specs.AsDer.{IsAsBlock, IsAsBlockSequence, as_block_octets, as_range_content, as_run_octets, as_sequence_octets, as_set_octets}
 use Rattle.rpki_as.specs.AsDerLaws.{block_has_octets, block_reading}
 use Rattle.rpki_as.specs.AsDerReading.{as_block_at, as_blocks_at}
 use Rattle.rpki_as.specs.Blocks.{IsAsSet, as_bounds, is_new_as_block}
@@ -115,14 +115,8 @@ blocks_are (b ∷ set) all =
     (block_written (block_of_run b) (subst (λ n. n < 2 ^ 32) (sym bound) all.0.1), blocks_are set all.1)
 
 -- they stand for the set
-blocks_say : (set : Runs) → IsAsSet set → SaysSet (map block_of_run set) set
-blocks_say set is =
-    let bounds = blocks_bounds set (runs_32 set is) in
-    let held = Holds-map as_bounds (map block_of_run set) in
-    IsRunsOf-same set (Holds set) (Covers as_bounds (map block_of_run set)) (λ n. (
-      λ h. (held n).0 (subst (λ (t : Runs). Holds t n) (sym bounds) h),
-      λ c. subst (λ (t : Runs). Holds t n) bounds ((held n).1 c),
-    )) is.are_runs
+blocks_say : (set : Runs) → IsAsSet set → IsRunsOfBlocks as_bounds (map block_of_run set) set
+blocks_say set is = IsRunsOfBlocks-bounds as_bounds (map block_of_run set) set (blocks_bounds set (runs_32 set is)) is.are_runs
 
 -- ---- how long they are
 
@@ -187,7 +181,7 @@ sequence_says set is = (map block_of_run set, sequence_blocks set is, blocks_say
 pub one_sequence : OneFront IsAsBlockSequence
 one_sequence a b x y r s (xs, is, says) (ys, also, tell) same =
     let one = one_front (IsSequenceOf IsAsBlock) as_blocks_at blocks_reading a b xs ys r s is also same in
-    (one.0, IsRunsOf-unique (Covers as_bounds ys) x y (subst (λ (t : List AsBlock). SaysSet t x) one.1 says) tell, one.2)
+    (one.0, IsRunsOf-unique (Covers as_bounds ys) x y (subst (λ (t : List AsBlock). IsRunsOfBlocks as_bounds t x) one.1 says) tell, one.2)
 
 -- sets that are written alike have the same numbers, and sets of the same numbers are written alike
 pub written_as_numbers : (a b : Runs) → IsAsSet a → IsAsSet b → (as_set_octets a ≡ as_set_octets b) ↔ ((n : ℕ) → Holds a n ↔ Holds b n)
@@ -205,15 +199,15 @@ written_as_numbers a b is also = (
 -- ---- takes
 
 -- blocks say one set
-one_set : (blocks : List AsBlock) (a b : Runs) → SaysSet blocks a → SaysSet blocks b → a ≡ b
+one_set : (blocks : List AsBlock) (a b : Runs) → IsRunsOfBlocks as_bounds blocks a → IsRunsOfBlocks as_bounds blocks b → a ≡ b
 one_set blocks a b says tell = IsRunsOf-unique (Covers as_bounds blocks) a b says tell
 
 -- a take that answers what the blocks say answers a set of the grammar
-pub reads_set : (old new : Cursor) (result : Result Runs (OrMemory DerError)) → IsBytes (left old) → TakesSaidOrMemory SaysSet old new result as_blocks_at → ReadsOrMemory IsAsBlockSequence (λ set. set) old new result
-reads_set old new result fits took = reads_said_by (IsSequenceOf IsAsBlock) SaysSet as_blocks_at old new result blocks_reading fits took
+pub reads_set : (old new : Cursor) (result : Result Runs (OrMemory DerError)) → IsBytes (left old) → TakesSaidOrMemory (IsRunsOfBlocks as_bounds) old new result as_blocks_at → ReadsOrMemory IsAsBlockSequence (λ set. set) old new result
+reads_set old new result fits took = reads_said_by (IsSequenceOf IsAsBlock) (IsRunsOfBlocks as_bounds) as_blocks_at old new result blocks_reading fits took
 
 -- and what is written of a set as that set
-pub reads_back_set : (old new : Cursor) (result : Result Runs (OrMemory DerError)) → TakesSaidOrMemory SaysSet old new result as_blocks_at
+pub reads_back_set : (old new : Cursor) (result : Result Runs (OrMemory DerError)) → TakesSaidOrMemory (IsRunsOfBlocks as_bounds) old new result as_blocks_at
     → (set : Runs) (rest : List ℕ) → IsAsSet set → left old ≡ as_sequence_octets set ++ rest → MatchResult result (λ read. (read ≡ set) × (left new ≡ rest)) IsMemory
 reads_back_set old new result took set rest is at =
-    takes_said (IsSequenceOf IsAsBlock) SaysSet as_blocks_at old new result blocks_reading one_set took (as_sequence_octets set) rest (map block_of_run set) set (sequence_blocks set is) (blocks_say set is) at
+    takes_said (IsSequenceOf IsAsBlock) (IsRunsOfBlocks as_bounds) as_blocks_at old new result blocks_reading one_set took (as_sequence_octets set) rest (map block_of_run set) set (sequence_blocks set is) (blocks_say set is) at

@@ -15,8 +15,8 @@ use Rattle.rpki_base.proofs.AsnLemmas.{asn_text_bytes}
 use Rattle.rpki_base.proofs.ListLemmas.{AnswersOrMemory-from_found, HaveValues-one, first_fault_apart, same_first_fault}
 use Rattle.rpki_base.proofs.PrintedLemmas.{IsShown, IsElement, elements-joined}
 use Rattle.rpki_chain.specs.Sets.{Covers}
-use Rattle.rpki_chain.specs.Runs.{Runs, Holds, IsRunsOf}
-use Rattle.rpki_chain.proofs.RunLists.{Holds-map, IsRunsOf-same, IsRunsOf-unique}
+use Rattle.rpki_chain.specs.Runs.{Runs, IsRunsOfBlocks}
+use Rattle.rpki_chain.proofs.RunLists.{IsRunsOf-unique, IsRunsOfBlocks-bounds}
 use Rattle.rpki_as.specs.Blocks.{as_bounds, is_new_as_block, IsAsSet}
 use Rattle.rpki_as.specs.BlockText.{IsBlockText, HasBlockFault, block_text}
 use Rattle.rpki_as.specs.ListText.{IsAsListText, HasAsListFault, run_text, as_list_text}
@@ -29,7 +29,7 @@ use Rattle.rpki_as.proofs.BlockLemmas.{IsBlockText-one, IsBlockText-block_text, 
 IsAsListText-one : (text : List ℕ) (a b : Runs) → IsAsListText text a → IsAsListText text b → a ≡ b
 IsAsListText-one text a b h k =
     let same = HaveValues-one IsBlockText IsBlockText-one (elements text) h.blocks k.blocks h.are_written k.are_written in
-    IsRunsOf-unique (Covers as_bounds h.blocks) a b h.covered (subst (λ blocks. IsRunsOf (Covers as_bounds blocks) b) (sym same) k.covered)
+    IsRunsOf-unique (Covers as_bounds h.blocks) a b h.covered (subst (λ blocks. IsRunsOfBlocks as_bounds blocks b) (sym same) k.covered)
 
 -- a reader that finds what the text has meets the whole contract
 pub list_answers : {V : Type 0} (view : V → Runs) (text : List ℕ) (r : Result V (OrMemory FromStrError)) → MatchResult r (λ v. IsAsListText text (view v)) (IfRefused (HasAsListFault text)) → AnswersOrMemory view (IsAsListText text) (HasAsListFault text) r
@@ -129,8 +129,5 @@ IsAsListText-as_list_text text set is printed =
     record {
       blocks = of.blocks;
       are_written = rw parts of.written;
-      covered = IsRunsOf-same set (Holds set) (Covers as_bounds of.blocks) (λ n. (
-        λ h. (Holds-map as_bounds of.blocks n).0 (subst (λ runs. Holds runs n) (sym of.bounds) h),
-        λ c. subst (λ runs. Holds runs n) of.bounds ((Holds-map as_bounds of.blocks n).1 c),
-      )) is.are_runs;
+      covered = IsRunsOfBlocks-bounds as_bounds of.blocks set of.bounds is.are_runs;
     }

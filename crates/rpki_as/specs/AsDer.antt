@@ -1,7 +1,6 @@
 -- Blocks of AS numbers and sequences of them in DER (RFC 3779, 3.2.3.4 to 3.2.3.10).
 use Rattle.std.specs.Prelude.{◌⊎◌, ℕ, List, ◌++◌, ◌==◌, if◌then◌else◌}
-use Rattle.rpki_chain.specs.Runs.{Runs, IsRunsOf}
-use Rattle.rpki_chain.specs.Sets.{Covers}
+use Rattle.rpki_chain.specs.Runs.{Runs, IsRunsOfBlocks}
 use Rattle.rpki_der.specs.Der.{Both, IsSequence, Refines, sequence_value}
 use Rattle.rpki_base.specs.AsnDer.{IsAsNumber, as_number_octets}
 use Rattle.rpki_base.specs.DerReading.{IsSequenceOf}
@@ -27,14 +26,10 @@ IsBlockInAnyOrder bytes u =
     ((n : ℕ) × IsAsNumber bytes n) ⊎
     ((content : List ℕ) × IsSequence bytes content × ((first : ℕ) × (second : ℕ) × Both IsAsNumber IsAsNumber content first second))
 
--- the runs of the numbers that some block has
-abbrev pub SaysSet : List AsBlock → Runs → Type 0
-SaysSet blocks set = IsRunsOf (Covers as_bounds blocks) set
-
 -- a SEQUENCE of blocks, in any order, overlapping or not, and nothing else; it stands for the set of their numbers
 -- (3.2.3.4, asIdsOrRanges)
 abbrev pub IsAsBlockSequence : List ℕ → Runs → Type 0
-IsAsBlockSequence = Refines (IsSequenceOf IsAsBlock) SaysSet
+IsAsBlockSequence = Refines (IsSequenceOf IsAsBlock) (IsRunsOfBlocks as_bounds)
 
 -- ---- what is written
 

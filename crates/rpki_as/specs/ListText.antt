@@ -3,18 +3,15 @@ use Rattle.std.specs.Prelude.{ℕ, List, ◌∷◌, ◌++◌, ◌==◌, if◌the
 use Rattle.rpki_base.specs.AsnText.{asn_text}
 use Rattle.rpki_base.specs.Cuts.{dash}
 use Rattle.rpki_base.specs.Lists.{elements, joined, HaveValues, HasFirstFault}
-use Rattle.rpki_chain.specs.Sets.{Covers}
-use Rattle.rpki_chain.specs.Runs.{Runs, IsRunsOf}
+use Rattle.rpki_chain.specs.Runs.{Runs, IsSetOfBlocks}
 use Rattle.rpki_as.specs.Blocks.{as_bounds}
 use Rattle.rpki_as.specs.BlockText.{IsBlockText, HasBlockFault}
 use Rattle.rpki_as.specs.declared.block.AsBlock.{AsBlock}
 use Rattle.rpki_as.specs.declared.error.FromStrError.{FromStrError}
 
 -- each element of the text writes a block, and the set is that of the numbers in some block
-pub record IsAsListText (text : List ℕ) (set : Runs) : Type 0 where
-  pub blocks : List AsBlock
-  pub are_written : HaveValues IsBlockText (elements text) blocks
-  pub covered : IsRunsOf (Covers as_bounds blocks) set
+abbrev pub IsAsListText : List ℕ → Runs → Type 0
+IsAsListText text = IsSetOfBlocks as_bounds (HaveValues IsBlockText (elements text))
 
 -- the first element that writes no block has this fault
 abbrev pub HasAsListFault : List ℕ → FromStrError → Type 0

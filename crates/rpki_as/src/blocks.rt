@@ -4,8 +4,7 @@ ghost use Rattle.std.specs.Slice.Iter.{iter_rest};
 ghost use Rattle.rpki_base.specs.Memory.{IsMemory};
 ghost use Rattle.rpki_base.specs.Reading.{AnswersOrMemory};
 ghost use Rattle.rpki_chain.specs.Equality.{same_runs, runs_per, runs_equiv};
-ghost use Rattle.rpki_chain.specs.Runs.{Runs, Holds, IsRunsOf};
-ghost use Rattle.rpki_chain.specs.Sets.{Covers};
+ghost use Rattle.rpki_chain.specs.Runs.{Runs, Holds, IsRunsOf, IsRunsOfBlocks};
 ghost use Rattle.rpki_as.specs.Blocks.{as_bounds, is_new_as_block, IsAsSet};
 ghost use Rattle.rpki_as.specs.ListText.{IsAsListText, HasAsListFault, as_list_text};
 ghost use Rattle.rpki_as.specs.Numbers.{IsListOf, IsSizeOf};
@@ -64,7 +63,7 @@ impl<A: Allocator> AsBlocks<A> {
     pub fn from_blocks(alloc: A, blocks: &[AsBlock]) -> Result<AsBlocks<A>, AllocError>
     where
         A: Copy,
-        ensures { IfOk result (IsRunsOf (Covers as_bounds blocks.now)) }
+        ensures { IfOk result (IsRunsOfBlocks as_bounds blocks.now) }
     {
         let set = BlockSet::from_blocks(alloc, blocks)?;
         Ok(Self::from_set(set))

@@ -7,7 +7,7 @@ use Rattle.rpki_chain.specs.Sets.{IsWithin, Covers, IsChain, IsChainOf}
 use Rattle.rpki_chain.proofs.Chains.{Covers-nil, IsChainOf-from, IsChain-from}
 use Rattle.rpki_chain.proofs.Unique.{Covers-head, Covers-tail, Covers-cons_cases, IsChain-unique}
 use Rattle.rpki_chain.proofs.Sorts.{Covers-map}
-use Rattle.rpki_chain.specs.Runs.{Runs, Holds, IsRunsOf}
+use Rattle.rpki_chain.specs.Runs.{Runs, Holds, IsRunsOf, IsRunsOfBlocks}
 
 -- whether a number lies within bounds is decided
 is_decided : (b : ℕ × ℕ) (n : ℕ) → IsWithin b n ⊎ (IsWithin b n → ⊥)
@@ -100,6 +100,13 @@ pub IsRunsOf-unique : (S : ℕ → Type 0) (xs ys : Runs) → IsRunsOf S xs → 
 IsRunsOf-unique S xs ys hx hy =
     IsChain-unique (λ b. b) (λ _. true) (λ x y _ _ e. e) xs ys (is_chain S xs hx) (is_chain S ys hy) (λ n.
     (λ c. (hy.members n).1 ((hx.members n).0 c), λ c. (hx.members n).1 ((hy.members n).0 c)))
+
+-- blocks whose bounds are the runs of a set cover that set
+pub IsRunsOfBlocks-bounds : {B : Type 0} (f : B → ℕ × ℕ) (xs : List B) (set : Runs) → map f xs ≡ set → IsRunsOf (Holds set) set → IsRunsOfBlocks f xs set
+IsRunsOfBlocks-bounds f xs set same = IsRunsOf-same set (Holds set) (Covers f xs) (λ n. (
+  λ h. (Holds-map f xs n).0 (subst (λ runs. Holds runs n) (sym same) h),
+  λ c. subst (λ runs. Holds runs n) same ((Holds-map f xs n).1 c),
+))
 
 -- the bounds of a chain's blocks are the runs of what they hold
 pub IsRunsOf-itself : {B : Type 0} (f : B → ℕ × ℕ) (is_new : B → Bool) (xs ys : List B) → IsChain f is_new xs → xs ≡ ys → IsRunsOf (Holds (map f ys)) (map f xs)

@@ -3,8 +3,8 @@ ghost use Rattle.std.specs.Prelude.{◌≡◌, ℕ, ◌↔◌, ◌⊎◌, [], �
 ghost use Rattle.std.specs.Slice.Iter.{iter_rest};
 ghost use Rattle.rpki_chain.specs.BlockSets.{IsBlockChain, IsBlockSet};
 ghost use Rattle.rpki_chain.specs.Equality.{same_runs, runs_per, runs_equiv};
-ghost use Rattle.rpki_chain.specs.Runs.{Runs, Holds, IsRunsOf};
-ghost use Rattle.rpki_chain.specs.Sets.{IsWithin, Covers, IsChain};
+ghost use Rattle.rpki_chain.specs.Runs.{Runs, Holds, IsRunsOf, IsRunsOfBlocks};
+ghost use Rattle.rpki_chain.specs.Sets.{IsWithin, IsChain};
 ghost use Rattle.rpki_chain.specs.View.{chain_blocks};
 
 use crate::block::Block;
@@ -60,7 +60,7 @@ impl<T: Block, A: Allocator> BlockSet<T, A> {
     pub fn from_blocks(alloc: A, blocks: &[T]) -> Result<Self, AllocError>
     where
         A: Copy,
-        ensures { IfOk result (IsRunsOf (Covers T.bounds blocks.now)) }
+        ensures { IfOk result (IsRunsOfBlocks T.bounds blocks.now) }
     {
         let chain = OwnedChain::from_blocks(alloc, blocks)?;
         Self::from_owned(alloc, chain)

@@ -3,8 +3,7 @@ use Rattle.std.proofs.Common.{◌≡◌, ℕ, ◌+◌, ◌<◌, List, [], ◌∷
 use Rattle.std.specs.List.{All}
 use Rattle.std.proofs.lemmas.List.{map-append, take_more}
 use Rattle.std.proofs.lemmas.Simd.{map-map}
-use Rattle.rpki_chain.specs.Runs.{Runs, Holds, IsRunsOf}
-use Rattle.rpki_chain.specs.Sets.{Covers}
+use Rattle.rpki_chain.specs.Runs.{Runs, Holds, IsRunsOfBlocks}
 use Rattle.rpki_chain.proofs.RunLists.{IsRunsOf-same}
 use Rattle.rpki_chain.proofs.Sorts.{Covers-map}
 use Rattle.rpki_ip.specs.Whole.{IsWhole, HasWholeBounds}
@@ -13,7 +12,7 @@ use Rattle.rpki_ipres.specs.Blocks.{ip_bounds}
 use Rattle.rpki_ipres.specs.declared.block.IpBlock.{IpBlock}
 
 -- the set of blocks with whole bounds is whole
-pub whole_cover : (blocks : List IpBlock) (set : Runs) → All (λ b. HasWholeBounds (ip_bounds b)) blocks → IsRunsOf (Covers ip_bounds blocks) set → IsWhole (Holds set)
+pub whole_cover : (blocks : List IpBlock) (set : Runs) → All (λ b. HasWholeBounds (ip_bounds b)) blocks → IsRunsOfBlocks ip_bounds blocks set → IsWhole (Holds set)
 whole_cover blocks set all is m n same held =
     let (k, b, small, here, within) = (is.members m).0 held in
     (is.members n).1 (k, b, small, here, whole_set (ip_bounds b) (subst (λ x. HasWholeBounds (ip_bounds x)) here (all k b small)) m n same within)
@@ -24,7 +23,7 @@ turned_more block xs i x small here =
     ap (map block) (take_more xs i x small) ∙ map-append block (take i xs) (get_or xs i x ∷ []) ∙ ap (λ y. map block (take i xs) ++ block y ∷ []) (sym here)
 
 -- the set of the blocks that others are
-pub set_of_turned : {B : Type 0} (block : B → IpBlock) (xs : List B) (ys : List IpBlock) (set : Runs) → ys ≡ map block xs → IsRunsOf (Covers ip_bounds ys) set → IsRunsOf (Covers (λ x. ip_bounds (block x)) xs) set
+pub set_of_turned : {B : Type 0} (block : B → IpBlock) (xs : List B) (ys : List IpBlock) (set : Runs) → ys ≡ map block xs → IsRunsOfBlocks ip_bounds ys set → IsRunsOfBlocks (λ x. ip_bounds (block x)) xs set
 set_of_turned block xs ys set same is =
     let bounds : map ip_bounds ys ≡ map (λ x. ip_bounds (block x)) xs = ap (map ip_bounds) same ∙ map-map ip_bounds block xs in
     IsRunsOf-same set _ _ (λ n. (Covers-map ip_bounds (λ x. ip_bounds (block x)) ys xs n bounds, Covers-map (λ x. ip_bounds (block x)) ip_bounds xs ys n (sym bounds))) is

@@ -2,8 +2,7 @@
 ghost use Rattle.std.specs.Prelude.{◌≡◌, ℕ, List, All, IfOk, map, MatchResult};
 ghost use Rattle.rpki_base.specs.Memory.{IsMemory};
 ghost use Rattle.rpki_base.specs.Reading.{AnswersOrMemory};
-ghost use Rattle.rpki_chain.specs.Runs.{Runs, Holds, IsRunsOf};
-ghost use Rattle.rpki_chain.specs.Sets.{Covers};
+ghost use Rattle.rpki_chain.specs.Runs.{Runs, Holds, IsRunsOfBlocks};
 ghost use Rattle.rpki_ip.specs.Whole.{IsWhole};
 ghost use Rattle.rpki_ip.specs.declared.family.AddressFamily.TheVariants.{Ipv4};
 ghost use Rattle.rpki_ipres.specs.Blocks.{ip_bounds};
@@ -39,7 +38,7 @@ pub(crate) fn set_of<B: FamilyBlock, A: Allocator + Copy>(
     alloc: A,
     blocks: &[B],
 ) -> Result<IpBlocks<A>, AllocError>
-    ensures set { IfOk result (IsRunsOf (Covers (λ b. ip_bounds (B.block b)) blocks.now)) }
+    ensures set { IfOk result (IsRunsOfBlocks (λ b. ip_bounds (B.block b)) blocks.now) }
     ensures bounds { IfOk result (λ _. All (λ b. B.fits (ip_bounds (B.block b))) blocks.now) }
 {
     let mut own = Vec::with_capacity(alloc, blocks.len())?;

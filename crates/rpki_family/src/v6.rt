@@ -3,8 +3,7 @@ ghost use Rattle.std.specs.Prelude.{◌≡◌, ℕ, ◌↔◌, [], ◌∷◌, Is
 ghost use Rattle.rpki_base.specs.Memory.{IsMemory};
 ghost use Rattle.rpki_base.specs.Reading.{AnswersOrMemory};
 ghost use Rattle.rpki_chain.specs.Equality.{have_same_bounds, blocks_per, blocks_equiv, same_runs, runs_per, runs_equiv};
-ghost use Rattle.rpki_chain.specs.Runs.{Runs, Holds, IsRunsOf};
-ghost use Rattle.rpki_chain.specs.Sets.{Covers};
+ghost use Rattle.rpki_chain.specs.Runs.{Runs, Holds, IsRunsOfBlocks};
 ghost use Rattle.rpki_ip.specs.declared.family.AddressFamily.TheVariants.{Ipv6};
 ghost use Rattle.rpki_ipres.specs.Blocks.{ip_bounds};
 ghost use Rattle.rpki_ipres.specs.ListText.{HasBlocks, HasBlocksFault};
@@ -180,7 +179,7 @@ impl<A: Allocator> Ipv6Blocks<A> {
     pub fn from_blocks(alloc: A, blocks: &[Ipv6Block]) -> Result<Ipv6Blocks<A>, AllocError>
     where
         A: Copy,
-        ensures { IfOk result (IsRunsOf (Covers ip_bounds blocks.now)) }
+        ensures { IfOk result (IsRunsOfBlocks ip_bounds blocks.now) }
     {
         let blocks = set_of(alloc, blocks)?;
         Ok(Ipv6Blocks { blocks })

@@ -4,9 +4,9 @@ use Rattle.std.specs.List.{All}
 use Rattle.std.proofs.lemmas.List.Elements.{All-head, All-tail, All-map}
 use Rattle.rpki_base.specs.Reading.{AnswersOrMemory}
 use Rattle.rpki_base.specs.declared.memory.OrMemory.{OrMemory}
-use Rattle.rpki_chain.specs.Runs.{Runs, Holds, IsRunsOf}
+use Rattle.rpki_chain.specs.Runs.{Runs, IsRunsOfBlocks}
 use Rattle.rpki_chain.specs.Sets.{Covers}
-use Rattle.rpki_chain.proofs.RunLists.{Holds-map, IsRunsOf-same, IsRunsOf-unique}
+use Rattle.rpki_chain.proofs.RunLists.{IsRunsOf-unique, IsRunsOfBlocks-bounds}
 use Rattle.rpki_ip.specs.Whole.{HasWholeBounds}
 use Rattle.rpki_ip.specs.declared.family.AddressFamily.{AddressFamily}
 use Rattle.rpki_ip.specs.declared.family.AddressFamily.TheVariants.{Ipv4, Ipv6}
@@ -19,12 +19,12 @@ use Rattle.rpki_ipres.proofs.WholeLemmas.{whole_runs}
 
 module _ {V E : Type 0} (view : V → List IpBlock) (Has : List IpBlock → Type 0) (Fails : E → Type 0) where
   -- the set of the blocks that were read is the one that the text writes
-  pub set_answers : (v : V) (set : Runs) → AnswersOrMemory view Has Fails (Ok v) → IsRunsOf (Covers ip_bounds (view v)) set → AnswersOrMemory (λ (s : Runs). s) (IsSetOf Has) Fails (Ok set)
+  pub set_answers : (v : V) (set : Runs) → AnswersOrMemory view Has Fails (Ok v) → IsRunsOfBlocks ip_bounds (view v) set → AnswersOrMemory (λ (s : Runs). s) (IsSetOf Has) Fails (Ok set)
   set_answers v set h covered = record {
     found = record { blocks = view v; are_written = h.found; covered = covered };
     each_value = λ other is. (
         let same : view v ≡ is.blocks = h.each_value is.blocks is.are_written in
-        IsRunsOf-unique (Covers ip_bounds is.blocks) set other (subst (λ blocks. IsRunsOf (Covers ip_bounds blocks) set) same covered) is.covered);
+        IsRunsOf-unique (Covers ip_bounds is.blocks) set other (subst (λ blocks. IsRunsOfBlocks ip_bounds blocks set) same covered) is.covered);
     each_fault = h.each_fault;
   }
 
@@ -49,13 +49,9 @@ blocks_made (x ∷ xs) new =
     cc
 
 -- the set of blocks with the bounds of runs is that of the runs
-set_of_bounds : (xs : List IpBlock) (set read : Runs) → IsIpSet set → map ip_bounds xs ≡ map ip_bounds (map new_ip_block set) → IsRunsOf (Covers ip_bounds xs) read → read ≡ set
+set_of_bounds : (xs : List IpBlock) (set read : Runs) → IsIpSet set → map ip_bounds xs ≡ map ip_bounds (map new_ip_block set) → IsRunsOfBlocks ip_bounds xs read → read ≡ set
 set_of_bounds xs set read is bounds covered =
-    let same : map ip_bounds xs ≡ set = bounds ∙ bounds_made set in
-    IsRunsOf-unique (Holds set) read set (IsRunsOf-same read (Covers ip_bounds xs) (Holds set) (λ n. (
-      λ c. subst (λ runs. Holds runs n) same ((Holds-map ip_bounds xs n).1 c),
-      λ h. (Holds-map ip_bounds xs n).0 (subst (λ runs. Holds runs n) (sym same) h),
-    )) covered) is.are_runs
+    IsRunsOf-unique (Covers ip_bounds xs) read set covered (IsRunsOfBlocks-bounds ip_bounds xs set (bounds ∙ bounds_made set) is.are_runs)
 
 -- the blocks of a set of addresses are blocks of addresses
 blocks_fit : (set : Runs) → IsIpSet set → All (IsBlockOf Ipv6) (map new_ip_block set)
@@ -72,7 +68,11 @@ blocks_of_family Ipv4 set (is, whole) = λ k d small. (blocks_fit set is k d sma
     whole_blocks = All-map (λ x. HasWholeBounds (ip_bounds x)) new_ip_block set (λ k d small.
         subst HasWholeBounds (sym (new_block (get_or set k d)).bounds) (whole_runs set is.are_runs whole k d small))
 
+-- a set of the family is a set of addresses
+pub is_ip_set : (family : AddressFamily) (set : Runs) → IsFamilySet family set → IsIpSet set
+is_ip_set Ipv4 set is = is.0
+is_ip_set Ipv6 set is = is
+
 -- so the set that was read from blocks with their bounds is that set
-pub read_as : (family : AddressFamily) (xs : List IpBlock) (set read : Runs) → IsFamilySet family set → map ip_bounds xs ≡ map ip_bounds (map new_ip_block set) → IsRunsOf (Covers ip_bounds xs) read → read ≡ set
-read_as Ipv4 xs set read is bounds covered = set_of_bounds xs set read is.0 bounds covered
-read_as Ipv6 xs set read is bounds covered = set_of_bounds xs set read is bounds covered
+pub read_as : (family : AddressFamily) (xs : List IpBlock) (set read : Runs) → IsFamilySet family set → map ip_bounds xs ≡ map ip_bounds (map new_ip_block set) → IsRunsOfBlocks ip_bounds xs read → read ≡ set
+read_as family xs set read is = set_of_bounds xs set read (is_ip_set family set is)

@@ -7,9 +7,9 @@ use Rattle.std.proofs.lemmas.List.{length-append}
 use Rattle.std.proofs.lemmas.List.Elements.{recursion_from_All}
 use Rattle.std.proofs.lemmas.List.Folds.{flat_map-map}
 use Rattle.std.proofs.lemmas.Nat.{pow_below, pow_pos}
-use Rattle.rpki_chain.specs.Runs.{Runs, Holds}
+use Rattle.rpki_chain.specs.Runs.{Runs, Holds, IsRunsOfBlocks}
 use Rattle.rpki_chain.specs.Sets.{Covers}
-use Rattle.rpki_chain.proofs.RunLists.{Holds-map, IsRunsOf-same, IsRunsOf-unique, same_numbers}
+use Rattle.rpki_chain.proofs.RunLists.{IsRunsOf-unique, IsRunsOfBlocks-bounds, same_numbers}
 use Rattle.rpki_der.specs.Der.{header, sequence_value}
 use Rattle.rpki_base.specs.DerReading.{IsSequenceOf}
 use Rattle.rpki_base.specs.DerWriting.{octets_of_all, sequence_octets}
@@ -21,8 +21,8 @@ use Rattle.rpki_ip.specs.FamilyDer.{family_der}
 use Rattle.rpki_ip.specs.RangeDer.{IsRangeWithin}
 use Rattle.rpki_ip.specs.Whole.{HasWholeBounds}
 use Rattle.rpki_ip.proofs.Multiples.{IsMultiple, mod_multiple, multiple_diff, multiple_least}
-use Rattle.rpki_ipres.specs.BlockDer.{IsBlockWithin, IsIpBlockDer, IsOfFamily, SaysSet, ip_block_der, ip_family_der, ip_run_der, ip_set_der}
-use Rattle.rpki_ipres.specs.SetText.{IsIpSet}
+use Rattle.rpki_ipres.specs.BlockDer.{IsBlockWithin, IsIpBlockDer, ip_block_der, ip_family_der, ip_run_der, ip_set_der}
+use Rattle.rpki_ipres.specs.SetText.{IsFamilySet, IsIpSet}
 use Rattle.rpki_ipres.specs.BlockForms.{both_pass}
 use Rattle.rpki_ipres.specs.BlockReading.{ip_block_at}
 use Rattle.rpki_ipres.specs.Blocks.{has_length, ip_bounds, is_new_ip_block, new_ip_block, prefix_bounds}
@@ -31,6 +31,7 @@ use Rattle.rpki_ipres.specs.declared.block.IpBlock.TheVariants.{Prefix, Range}
 use Rattle.rpki_ipres.specs.BlockReadingLaws.{block_has_octets, block_reading}
 use Rattle.rpki_ipres.proofs.BlockWritten.{block_written}
 use Rattle.rpki_ipres.proofs.FormLemmas.{IsMadeOf, is_new_block, new_block}
+use Rattle.rpki_ipres.proofs.SetTextLemmas.{bounds_made}
 use Rattle.rpki_ipres.proofs.WholeLemmas.{whole_runs}
 
 -- ---- runs and their blocks
@@ -97,32 +98,22 @@ family_written family (x ∷ xs) set new bounds some =
 
 -- ---- the blocks of a set
 
--- they have the runs as bounds
-blocks_bounds : (set : Runs) → map ip_bounds (map new_ip_block set) ≡ set
-blocks_bounds [] = refl
-blocks_bounds (run ∷ set) = ap (λ (b : ℕ × ℕ). b ∷ map ip_bounds (map new_ip_block set)) (new_block run).bounds ∙ ap (λ (t : Runs). run ∷ t) (blocks_bounds set)
-
--- and stand for the set
-pub blocks_say : (set : Runs) → IsIpSet set → SaysSet (map new_ip_block set) set
-blocks_say set is =
-    let held = Holds-map ip_bounds (map new_ip_block set) in
-    IsRunsOf-same set (Holds set) (Covers ip_bounds (map new_ip_block set)) (λ n. (
-      λ h. (held n).0 (subst (λ (t : Runs). Holds t n) (sym (blocks_bounds set)) h),
-      λ c. subst (λ (t : Runs). Holds t n) (blocks_bounds set) ((held n).1 c),
-    )) is.are_runs
+-- they stand for the set
+pub blocks_say : (set : Runs) → IsIpSet set → IsRunsOfBlocks ip_bounds (map new_ip_block set) set
+blocks_say set is = IsRunsOfBlocks-bounds ip_bounds (map new_ip_block set) set (bounds_made set) is.are_runs
 
 -- blocks stand for one set
-pub one_set : (blocks : List IpBlock) (a b : Runs) → SaysSet blocks a → SaysSet blocks b → a ≡ b
+pub one_set : (blocks : List IpBlock) (a b : Runs) → IsRunsOfBlocks ip_bounds blocks a → IsRunsOfBlocks ip_bounds blocks b → a ≡ b
 one_set blocks a b = IsRunsOf-unique (Covers ip_bounds blocks) a b
 
 -- ---- sequences
 
 -- the runs of a set of a family need no more bits than the family's addresses
-family_runs : (family : AddressFamily) (set : Runs) → IsIpSet set → IsOfFamily family set → AllByRecursion (IsRunWithin (bits_of family)) set
-family_runs Ipv4 set is whole = recursion_from_All (IsRunWithin 32) set (λ k d small.
+family_runs : (family : AddressFamily) (set : Runs) → IsFamilySet family set → AllByRecursion (IsRunWithin (bits_of family)) set
+family_runs Ipv4 set (is, whole) = recursion_from_All (IsRunWithin 32) set (λ k d small.
     let bounds : HasWholeBounds _ = whole_runs set is.are_runs whole k d small in
     record { is_range = record { ordered = is.are_runs.ordered k d small; below = (let most = is.below k d small in omega (arith, most)) }; zeros = bounds.begins; ones = bounds.ends })
-family_runs Ipv6 set is any = recursion_from_All (IsRunWithin 128) set (λ k d small.
+family_runs Ipv6 set is = recursion_from_All (IsRunWithin 128) set (λ k d small.
     record { is_range = record { ordered = is.are_runs.ordered k d small; below = (let most = is.below k d small in omega (arith, most)) }; zeros = omega arith; ones = omega arith })
 
 -- no family has more than 128 bits
@@ -139,10 +130,10 @@ content_short bytes content rest short at =
     omega (arith, short, whole, parts, value)
 
 -- what is written of a set is a SEQUENCE of its blocks
-pub set_written : (family : AddressFamily) (set : Runs) → IsIpSet set → IsOfFamily family set → length (octets_of_all ip_run_der set) < 2 ^ 64 → IsSequenceOf (IsIpBlockDer (bits_of family)) (ip_set_der set) (map new_ip_block set)
-set_written family set is of short =
+pub set_written : (family : AddressFamily) (set : Runs) → IsFamilySet family set → length (octets_of_all ip_run_der set) < 2 ^ 64 → IsSequenceOf (IsIpBlockDer (bits_of family)) (ip_set_der set) (map new_ip_block set)
+set_written family set is short =
     let octets : octets_of_all ip_block_der (map new_ip_block set) ≡ octets_of_all ip_run_der set = flat_map-map ip_block_der new_ip_block set in
-    let all = runs_written (bits_of family) set (few_family family) (family_runs family set is of) in
+    let all = runs_written (bits_of family) set (few_family family) (family_runs family set is) in
     let written = sequence_written (IsIpBlockDer (bits_of family)) ip_block_der (map new_ip_block set) all (subst (λ (t : List ℕ). length t < 2 ^ 64) (sym octets) short) in
     subst (λ (t : List ℕ). IsSequenceOf (IsIpBlockDer (bits_of family)) (sequence_value t) (map new_ip_block set)) octets written
 
@@ -151,11 +142,11 @@ pub written_as_numbers : (a b : Runs) → IsIpSet a → IsIpSet b → (ip_set_de
 written_as_numbers a b is also = (
   λ same n. (
       let content : octets_of_all ip_run_der a ≡ octets_of_all ip_run_der b = one_content (octets_of_all ip_run_der a) (octets_of_all ip_run_der b) same in
-      let all = runs_written 128 a (omega arith) (family_runs Ipv6 a is tt) in
-      let more = runs_written 128 b (omega arith) (family_runs Ipv6 b also tt) in
+      let all = runs_written 128 a (omega arith) (family_runs Ipv6 a is) in
+      let more = runs_written 128 b (omega arith) (family_runs Ipv6 b also) in
       let blocks = written_alike (IsIpBlockDer 128) ip_block_der (ip_block_at 128) (block_reading 128) (block_has_octets 128) (map new_ip_block a) (map new_ip_block b) all more
       (flat_map-map ip_block_der new_ip_block a ∙ content ∙ sym (flat_map-map ip_block_der new_ip_block b)) in
-      let one : a ≡ b = sym (blocks_bounds a) ∙ ap (λ (t : List IpBlock). map ip_bounds t) blocks ∙ blocks_bounds b in
+      let one : a ≡ b = sym (bounds_made a) ∙ ap (λ (t : List IpBlock). map ip_bounds t) blocks ∙ bounds_made b in
       (subst (λ (t : Runs). Holds t n) one, subst (λ (t : Runs). Holds t n) (sym one))
       ),
   λ same. ap ip_set_der (same_numbers a b is.are_runs also.are_runs same),

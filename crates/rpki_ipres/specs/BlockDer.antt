@@ -3,15 +3,12 @@ use Rattle.std.specs.Prelude.{ℕ, ◌≤◌, List, [], ◌∷◌, ◌++◌}
 use Rattle.rpki_base.specs.DerReading.{IsSequenceOf}
 use Rattle.rpki_base.specs.DerWriting.{sequence_octets}
 use Rattle.rpki_base.specs.Prefixes.{IsPrefix}
-use Rattle.rpki_chain.specs.Runs.{Runs, Holds, IsRunsOf}
-use Rattle.rpki_chain.specs.Sets.{Covers}
+use Rattle.rpki_chain.specs.Runs.{Runs, IsRunsOfBlocks}
 use Rattle.rpki_der.specs.Der.{Refines, sequence_value}
 use Rattle.rpki_ip.specs.declared.family.AddressFamily.{AddressFamily}
-use Rattle.rpki_ip.specs.declared.family.AddressFamily.TheVariants.{Ipv4, Ipv6}
 use Rattle.rpki_ip.specs.FamilyDer.{family_der}
 use Rattle.rpki_ip.specs.PrefixDer.{IsPrefixDer, prefix_der}
 use Rattle.rpki_ip.specs.RangeDer.{IsRangeDer, IsRangeWithin, range_der}
-use Rattle.rpki_ip.specs.Whole.{IsWhole}
 use Rattle.rpki_ipres.specs.Blocks.{ip_bounds, new_ip_block}
 use Rattle.rpki_ipres.specs.declared.block.IpBlock.{IpBlock}
 use Rattle.rpki_ipres.specs.declared.block.IpBlock.TheVariants.{Prefix, Range}
@@ -21,14 +18,10 @@ abbrev pub IsIpBlockDer : ℕ → List ℕ → IpBlock → Type 0
 IsIpBlockDer limit bytes (Prefix p) = IsPrefixDer limit bytes p
 IsIpBlockDer limit bytes (Range r) = IsRangeDer limit bytes r
 
--- the runs of the addresses that some block has
-abbrev pub SaysSet : List IpBlock → Runs → Type 0
-SaysSet blocks set = IsRunsOf (Covers ip_bounds blocks) set
-
 -- a SEQUENCE of blocks, in any order, overlapping or not, and nothing else; it stands for the set of their addresses
 -- (2.2.3.6)
 abbrev pub IsIpBlockSequence : ℕ → List ℕ → Runs → Type 0
-IsIpBlockSequence limit = Refines (IsSequenceOf (IsIpBlockDer limit)) SaysSet
+IsIpBlockSequence limit = Refines (IsSequenceOf (IsIpBlockDer limit)) (IsRunsOfBlocks ip_bounds)
 
 -- ---- what is written
 
@@ -56,8 +49,3 @@ ip_family_der family (run ∷ runs) = sequence_value (family_der family ++ ip_se
 abbrev pub IsBlockWithin : ℕ → IpBlock → Type 0
 IsBlockWithin limit (Prefix p) = IsPrefix 128 p × (p.len ≤ limit)
 IsBlockWithin limit (Range r) = IsRangeWithin limit r
-
--- the addresses are those of the family, as numbers of 128 bits
-abbrev pub IsOfFamily : AddressFamily → Runs → Type 0
-IsOfFamily Ipv4 set = IsWhole (Holds set)
-IsOfFamily Ipv6 set = Unit {0}

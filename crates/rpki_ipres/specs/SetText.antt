@@ -1,8 +1,7 @@
 -- Texts of sets of addresses.
 use Rattle.std.specs.Prelude.{ℕ, List, map}
 use Rattle.rpki_chain.specs.BlockSets.{IsBlockSet}
-use Rattle.rpki_chain.specs.Runs.{Runs, Holds, IsRunsOf}
-use Rattle.rpki_chain.specs.Sets.{Covers}
+use Rattle.rpki_chain.specs.Runs.{Runs, Holds, IsSetOfBlocks}
 use Rattle.rpki_ip.specs.Whole.{IsWhole}
 use Rattle.rpki_ip.specs.declared.family.AddressFamily.{AddressFamily}
 use Rattle.rpki_ip.specs.declared.family.AddressFamily.TheVariants.{Ipv4, Ipv6}
@@ -11,10 +10,8 @@ use Rattle.rpki_ipres.specs.PrintedBlocks.{block_list_text}
 use Rattle.rpki_ipres.specs.declared.block.IpBlock.{IpBlock}
 
 -- the set is that of the addresses in some block of a list that Has holds of
-pub record IsSetOf (Has : List IpBlock → Type 0) (set : Runs) : Type 0 where
-  pub blocks : List IpBlock
-  pub are_written : Has blocks
-  pub covered : IsRunsOf (Covers ip_bounds blocks) set
+abbrev pub IsSetOf : (List IpBlock → Type 0) → Runs → Type 0
+IsSetOf = IsSetOfBlocks ip_bounds
 
 -- what is printed of a set as one of the family: the blocks of its runs, each in new form
 abbrev pub set_text : AddressFamily → Runs → List ℕ

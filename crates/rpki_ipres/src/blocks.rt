@@ -4,8 +4,8 @@ ghost use Rattle.std.specs.Slice.Iter.{iter_rest};
 ghost use Rattle.rpki_base.specs.Memory.{IsMemory};
 ghost use Rattle.rpki_base.specs.Reading.{AnswersOrMemory};
 ghost use Rattle.rpki_chain.specs.Equality.{same_runs, runs_per, runs_equiv};
-ghost use Rattle.rpki_chain.specs.Runs.{Runs, Holds, IsRunsOf};
-ghost use Rattle.rpki_chain.specs.Sets.{IsWithin, Covers};
+ghost use Rattle.rpki_chain.specs.Runs.{Runs, Holds, IsRunsOf, IsRunsOfBlocks};
+ghost use Rattle.rpki_chain.specs.Sets.{IsWithin};
 ghost use Rattle.rpki_ip.specs.Ranges.{range_bounds};
 ghost use Rattle.rpki_ip.specs.Whole.{IsWhole};
 ghost use Rattle.rpki_ip.specs.declared.family.AddressFamily.TheVariants.{Ipv4, Ipv6};
@@ -69,7 +69,7 @@ impl<A: Allocator> IpBlocks<A> {
     pub fn from_blocks(alloc: A, blocks: &[IpBlock]) -> Result<IpBlocks<A>, AllocError>
     where
         A: Copy,
-        ensures { IfOk result (IsRunsOf (Covers ip_bounds blocks.now)) }
+        ensures { IfOk result (IsRunsOfBlocks ip_bounds blocks.now) }
     {
         let set = BlockSet::from_blocks(alloc, blocks)?;
         Ok(IpBlocks::from_set(set))

@@ -116,6 +116,21 @@ fn every_fault_of_a_list_is_one(rt: HostRuntime) {
 // ---- sets
 
 #[test]
+fn the_whole_and_the_empty_set(rt: HostRuntime) -> Result<(), Fail> {
+    let all = IpBlocks::all(rt.alloc())?;
+    assert!(rt; prints_v4(rt.alloc(), &all, "0.0.0.0/0")?);
+    assert!(rt; prints_v6(rt.alloc(), &all, "::/0")?);
+    assert!(rt; !all.is_empty() && all.is_whole_v4());
+    let empty: IpBlocks = IpBlocks::empty();
+    assert!(rt; empty.is_empty() && empty.is_whole_v4());
+    assert!(rt; prints_v4(rt.alloc(), &empty, "")? && prints_v6(rt.alloc(), &empty, "")?);
+    assert!(rt; empty == IpBlocks::default() && empty != all);
+    assert!(rt; all.contains(&empty) && !empty.contains(&all));
+    assert!(rt; all.clone()? == all && empty.clone()? == empty);
+    Ok(())
+}
+
+#[test]
 fn blocks_of_a_set(rt: HostRuntime) -> Result<(), Fail> {
     let (one, two) = (IpBlock::from_str("::4-::7")?, IpBlock::from_str("::1")?);
     let set = IpBlocks::from_blocks(rt.alloc(), &[one, IpBlock::from_str("::9")?, two])?;
@@ -204,3 +219,20 @@ fn sets_and_single_blocks(rt: HostRuntime) -> Result<(), Fail> {
 }
 
 // ---- builders
+
+#[test]
+fn builds_sets(rt: HostRuntime) -> Result<(), Fail> {
+    let mut builder = IpBlocksBuilder::new(rt.alloc());
+    builder.push(IpBlock::from_str("10.0.0.7")?)?;
+    builder.push(IpBlock::from_str("10.0.0.4-10.0.0.6")?)?;
+    let set = builder.finalize()?;
+    assert!(rt; prints_v4(rt.alloc(), &set, "10.0.0.4/30")?);
+    let mut builder = IpBlocksBuilder::new(rt.alloc());
+    let (one, two) = (IpBlock::from_str("::9")?, IpBlock::from_str("::2-::4")?);
+    builder.extend_from(&[one, two, IpBlock::from_str("::3-::8")?])?;
+    let set = builder.finalize()?;
+    assert!(rt; prints_v6(rt.alloc(), &set, "::2-::9")?);
+    let none = IpBlocksBuilder::new(rt.alloc()).finalize()?;
+    assert!(rt; none.is_empty());
+    Ok(())
+}

@@ -5,4 +5,6 @@
 #[cfg(test)]
 mod ip_memory;
 #[cfg(test)]
+mod ip_operations;
+#[cfg(test)]
 mod ip_sets;

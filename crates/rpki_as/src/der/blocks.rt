@@ -9,13 +9,13 @@ use std::alloc::{AllocError, Allocator};
 impl<A: Allocator> AsBlocks<A> {
     ghost use Rattle.std.specs.Prelude.{◌≡◌, ℕ, List, ◌≤◌, ◌+◌, ◌++◌, length, vec_len, OnOk, OnErr, IsOk, MatchResult};
     ghost use Rattle.std.specs.Vec.{vec_capacity};
-    ghost use Rattle.rpki_chain.specs.Runs.{Runs};
+    ghost use Rattle.rpki_chain.specs.Runs.{Runs, IsRunsOfBlocks};
     ghost use Rattle.rpki_der.specs.Views.{Lenient, left};
     ghost use Rattle.rpki_base.specs.DerViews.{ReadsOrMemory, TakesSaidOrMemory};
     ghost use Rattle.rpki_base.specs.Memory.{IsMemory};
-    ghost use Rattle.rpki_as.specs.AsDer.{IsAsBlockSequence, SaysSet, as_sequence_octets, as_set_octets};
+    ghost use Rattle.rpki_as.specs.AsDer.{IsAsBlockSequence, as_sequence_octets, as_set_octets};
     ghost use Rattle.rpki_as.specs.AsDerReading.{as_blocks_at};
-    ghost use Rattle.rpki_as.specs.Blocks.{IsAsSet};
+    ghost use Rattle.rpki_as.specs.Blocks.{IsAsSet, as_bounds};
 
     /// Takes a SEQUENCE of blocks, which may be none, and answers the set of their numbers. The blocks may come in any
     /// order and may overlap.
@@ -26,7 +26,7 @@ impl<A: Allocator> AsBlocks<A> {
     where
         A: Copy,
         ensures reads { Lenient cursor.old (ReadsOrMemory IsAsBlockSequence (λ set. set) cursor.old cursor.new result) }
-        ensures exact { Lenient cursor.old (TakesSaidOrMemory SaysSet cursor.old cursor.new result as_blocks_at) }
+        ensures exact { Lenient cursor.old (TakesSaidOrMemory (IsRunsOfBlocks as_bounds) cursor.old cursor.new result as_blocks_at) }
         // What is written of a set, in one SEQUENCE, is read as that set, whatever follows it.
         ensures reads_back { (set : Runs) (rest : List ℕ) → IsAsSet set → left cursor.old ≡ as_sequence_octets set ++ rest
             → MatchResult result (λ read. (read ≡ set) × (left cursor.new ≡ rest)) IsMemory }
@@ -51,7 +51,7 @@ impl<A: Allocator> AsBlocks<A> {
     fn next_set(alloc: A, cursor: &mut Cursor<'_>) -> Result<AsBlocks<A>, OrMemory<DerError>>
     where
         A: Copy,
-        ensures exact { TakesSaidOrMemory SaysSet cursor.old cursor.new result as_blocks_at }
+        ensures exact { TakesSaidOrMemory (IsRunsOfBlocks as_bounds) cursor.old cursor.new result as_blocks_at }
     {
         let mut ahead = *cursor;
         let blocks = take_sequence_of(alloc, &AsBlockReader, &mut ahead)?;

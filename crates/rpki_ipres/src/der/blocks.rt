@@ -18,14 +18,15 @@ use std::alloc::{AllocError, Allocator};
 impl<A: Allocator> IpBlocks<A> {
     ghost use Rattle.std.specs.Prelude.{◌≡◌, ℕ, List, ◌<◌, ◌≤◌, ◌+◌, ◌^◌, ◌++◌, length, vec_len, OnOk, OnErr, IsOk, MatchResult};
     ghost use Rattle.std.specs.Vec.{vec_capacity};
-    ghost use Rattle.rpki_chain.specs.Runs.{Runs};
+    ghost use Rattle.rpki_chain.specs.Runs.{Runs, IsRunsOfBlocks};
     ghost use Rattle.rpki_der.specs.Views.{Lenient, left};
     ghost use Rattle.rpki_base.specs.DerViews.{ReadsOrMemory, TakesSaidOrMemory};
     ghost use Rattle.rpki_base.specs.Memory.{IsMemory};
     ghost use Rattle.rpki_ip.specs.Families.{bits_of};
-    ghost use Rattle.rpki_ipres.specs.BlockDer.{IsIpBlockSequence, IsOfFamily, SaysSet, ip_family_der, ip_set_der};
+    ghost use Rattle.rpki_ipres.specs.BlockDer.{IsIpBlockSequence, ip_family_der, ip_set_der};
     ghost use Rattle.rpki_ipres.specs.BlockReading.{ip_blocks_at};
-    ghost use Rattle.rpki_ipres.specs.SetText.{IsIpSet};
+    ghost use Rattle.rpki_ipres.specs.Blocks.{ip_bounds};
+    ghost use Rattle.rpki_ipres.specs.SetText.{IsFamilySet, IsIpSet};
 
     /// Takes a SEQUENCE of blocks, which may be none, and answers the set of their addresses. The blocks may come in any
     /// order and may overlap, and their prefixes have lengths up to 128.
@@ -36,7 +37,7 @@ impl<A: Allocator> IpBlocks<A> {
     where
         A: Copy,
         ensures reads { Lenient cursor.old (ReadsOrMemory (IsIpBlockSequence 128) (λ set. set) cursor.old cursor.new result) }
-        ensures exact { Lenient cursor.old (TakesSaidOrMemory SaysSet cursor.old cursor.new result (ip_blocks_at 128)) }
+        ensures exact { Lenient cursor.old (TakesSaidOrMemory (IsRunsOfBlocks ip_bounds) cursor.old cursor.new result (ip_blocks_at 128)) }
         // What is written of a set is read as that set, whatever follows it.
         ensures reads_back { (set : Runs) (rest : List ℕ) → IsIpSet set
             → left cursor.old ≡ ip_set_der set ++ rest → MatchResult result (λ read. (read ≡ set) × (left cursor.new ≡ rest)) IsMemory }
@@ -54,9 +55,9 @@ impl<A: Allocator> IpBlocks<A> {
     where
         A: Copy,
         ensures reads { Lenient cursor.old (ReadsOrMemory (IsIpBlockSequence (bits_of family)) (λ set. set) cursor.old cursor.new result) }
-        ensures exact { Lenient cursor.old (TakesSaidOrMemory SaysSet cursor.old cursor.new result (ip_blocks_at (bits_of family))) }
+        ensures exact { Lenient cursor.old (TakesSaidOrMemory (IsRunsOfBlocks ip_bounds) cursor.old cursor.new result (ip_blocks_at (bits_of family))) }
         // What is written of a set of the family is read as that set, whatever follows it.
-        ensures reads_back { (set : Runs) (rest : List ℕ) → IsIpSet set → IsOfFamily family set
+        ensures reads_back { (set : Runs) (rest : List ℕ) → IsFamilySet family set
             → left cursor.old ≡ ip_set_der set ++ rest → MatchResult result (λ read. (read ≡ set) × (left cursor.new ≡ rest)) IsMemory }
     {
         Self::next_set(alloc, cursor, family)
@@ -103,7 +104,7 @@ impl<A: Allocator> IpBlocks<A> {
     ) -> Result<IpBlocks<A>, OrMemory<DerError>>
     where
         A: Copy,
-        ensures exact { TakesSaidOrMemory SaysSet cursor.old cursor.new result (ip_blocks_at (bits_of family)) }
+        ensures exact { TakesSaidOrMemory (IsRunsOfBlocks ip_bounds) cursor.old cursor.new result (ip_blocks_at (bits_of family)) }
         ensures short { length (left cursor.old) < 2 ^ 64 }
     {
         let _len = cursor.rest().len();

@@ -2,7 +2,9 @@
 use Rattle.std.proofs.Common.{List, subst}
 use Rattle.rpki_der.proofs.Readings.{one_front}
 use Rattle.rpki_base.specs.DerReading.{IsSequenceOf}
-use Rattle.rpki_ipres.specs.BlockDer.{IsIpBlockDer, SaysSet}
+use Rattle.rpki_chain.specs.Runs.{IsRunsOfBlocks}
+use Rattle.rpki_ipres.specs.BlockDer.{IsIpBlockDer}
+use Rattle.rpki_ipres.specs.Blocks.{ip_bounds}
 use Rattle.rpki_ipres.specs.BlockReading.{ip_block_at, ip_blocks_at}
 use Rattle.rpki_ipres.specs.declared.block.IpBlock.{IpBlock}
 use Rattle.rpki_ipres.specs.BlockReadingLaws.{block_reading, blocks_reading}
@@ -14,5 +16,5 @@ returns c = record {
   block = λ limit. one_front (IsIpBlockDer limit) (ip_block_at limit) (block_reading limit);
   set = λ limit a b x y r s (xs, is, says) (ys, also, tell) same.
       let one = one_front (IsSequenceOf (IsIpBlockDer limit)) (ip_blocks_at limit) (blocks_reading limit) a b xs ys r s is also same in
-      (one.0, one_set ys x y (subst (λ (t : List IpBlock). SaysSet t x) one.1 says) tell, one.2);
+      (one.0, one_set ys x y (subst (λ (t : List IpBlock). IsRunsOfBlocks ip_bounds t x) one.1 says) tell, one.2);
 }

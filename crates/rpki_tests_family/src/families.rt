@@ -245,19 +245,26 @@ fn ipv6_lists_that_are_refused(rt: HostRuntime) {
 // ---- sets
 
 #[test]
-fn the_whole_and_the_empty_sets(rt: HostRuntime) -> Result<(), Fail> {
+fn the_whole_and_the_empty_set_of_ipv4(rt: HostRuntime) -> Result<(), Fail> {
     let all = Ipv4Blocks::all(rt.alloc())?;
     assert!(rt; prints(rt.alloc(), &all, "0.0.0.0/0")?);
+    assert!(rt; all.clone()? == all);
     let empty: Ipv4Blocks = Ipv4Blocks::empty();
     assert!(rt; prints(rt.alloc(), &empty, "")? && empty.ip_blocks().is_empty());
     assert!(rt; empty == Ipv4Blocks::default() && empty != all);
-    assert!(rt; all.clone()? == all && empty.clone()? == empty);
+    assert!(rt; empty.clone()? == empty);
+    Ok(())
+}
+
+#[test]
+fn the_whole_and_the_empty_set_of_ipv6(rt: HostRuntime) -> Result<(), Fail> {
     let all = Ipv6Blocks::all(rt.alloc())?;
     assert!(rt; prints(rt.alloc(), &all, "::/0")?);
+    assert!(rt; all.clone()? == all);
     let empty: Ipv6Blocks = Ipv6Blocks::empty();
     assert!(rt; prints(rt.alloc(), &empty, "")? && empty.ip_blocks().is_empty());
     assert!(rt; empty == Ipv6Blocks::default() && empty != all);
-    assert!(rt; all.clone()? == all && empty.clone()? == empty);
+    assert!(rt; empty.clone()? == empty);
     Ok(())
 }
 

@@ -6,7 +6,6 @@ use Rattle.rpki_base.specs.Lists.{elements, joined, HaveValues, HasFirstFault}
 use Rattle.rpki_chain.specs.Runs.{Runs, IsSetOfBlocks}
 use Rattle.rpki_as.specs.Blocks.{as_bounds}
 use Rattle.rpki_as.specs.BlockText.{IsBlockText, HasBlockFault}
-use Rattle.rpki_as.specs.declared.block.AsBlock.{AsBlock}
 use Rattle.rpki_as.specs.declared.error.FromStrError.{FromStrError}
 
 -- each element of the text writes a block, and the set is that of the numbers in some block

@@ -8,7 +8,7 @@ use Rattle.std.proofs.NetLemmas.Ipv6.{IsDotted-not_colon_hex}
 use Rattle.std.proofs.NetLemmas.Theorems.{IsIpv4Text_unique, IsIpv6Text_unique}
 use Rattle.std.proofs.NetLemmas.Texts.{IsColonHex-ipv6_text}
 use Rattle.rpki_base.specs.Digits.{groups_of, from_groups, octets_of, from_octets}
-use Rattle.rpki_base.specs.declared.addr.AddrParseError.TheVariants.{Ipv4, Ipv6, Ip}
+use Rattle.rpki_base.specs.declared.addr.AddrParseError.TheVariants.{Ipv4, Ipv6}
 use Rattle.rpki_base.specs.declared.addr.IpAddr.{IpAddr}
 use Rattle.rpki_base.specs.declared.addr.IpAddr.TheVariants.{V4, V6}
 use Rattle.rpki_base.specs.AddressText.{IsIpv4Text, IsIpv6Text, IsIpText}
@@ -102,13 +102,3 @@ reads_ip_ok text a h = record {
   exact = record { found = h; each_value = λ b k. ap Ok (IsIpText-one text a b h k); each_fault = λ e f. absurd (f.1 a h) };
   reads_back = λ b small is. ap Ok (IsIpText-one text a b h (rw is (IsIpText-ip_text b small)));
 }
-
-pub reads_ip_err : (text : List ℕ) → ((n : ℕ) → ¬ IsIpv4Text text n) → ((n : ℕ) → ¬ IsIpv6Text text n) → ReadsIp text (Err Ip)
-reads_ip_err text no_v4 no_v6 = record {
-  exact = record { found = (refl, none); each_value = λ a k. absurd (none a k); each_fault = λ e f. ap Err (sym f.0) };
-  reads_back = λ a small is. absurd (none a (rw is (IsIpText-ip_text a small)));
-}
-  where
-    none : (a : IpAddr) → ¬ IsIpText text a
-    none (V4 n) h = no_v4 n h
-    none (V6 n) h = no_v6 n h

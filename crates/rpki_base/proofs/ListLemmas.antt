@@ -2,7 +2,7 @@
 use Rattle.std.proofs.Common.{◌≡◌, ℕ, ◌+◌, ◌<◌, List, [], ◌∷◌, ◌++◌, length, take, drop, get_or, cond, eqb, ltb, true, false, Bool, Result, Ok, Err, MatchResult, arith, refl, sym, ap, ◌∙◌, subst, add-one}
 use Rattle.std.specs.List.{slice_split}
 use Rattle.std.specs.Str.{trim}
-use Rattle.std.proofs.lemmas.List.{take-append-drop, append-nil}
+use Rattle.std.proofs.lemmas.List.{take-append-drop}
 use Rattle.std.proofs.lemmas.Bool.{lt-ltb}
 use Rattle.std.proofs.Math.Seq.{drop-cons}
 use Rattle.rpki_base.specs.declared.memory.OrMemory.{OrMemory}
@@ -95,10 +95,6 @@ kept-append (x ∷ xs) ys = cond-append (ltb 0 (length (trim x))) (trim x) (kept
 pub kept_one : (part : List ℕ) → (length (trim part) ≡ 0 → ⊥) → kept (part ∷ []) ≡ trim part ∷ []
 kept_one part some = let is : ltb 0 (length (trim part)) ≡ true = lt-ltb 0 (length (trim part)) (omega (arith, some)) in rw is
 
--- and white space alone isn't
-pub kept_none : (part : List ℕ) → length (trim part) ≡ 0 → kept (part ∷ []) ≡ []
-kept_none part none = rw none
-
 -- the parts, cut round one of them
 pub parts_at : (parts : List (List ℕ)) (i : ℕ) (d : List ℕ) → i < length parts → parts ≡ take i parts ++ get_or parts i d ∷ drop (i + 1) parts
 parts_at parts i d l = sym (take-append-drop i parts) ∙ ap (λ t. take i parts ++ t) (rw add-one (drop-cons parts i d l))
@@ -134,10 +130,6 @@ fault_at Has Fails text i part values e at some before fault = record {
 pub values_more : {A : Type 0} (Has : List ℕ → A → Type 0) (parts : List (List ℕ)) (part : List ℕ) (values : List A) (value : A) → HaveValues Has (kept parts) values → (length (trim part) ≡ 0 → ⊥) → Has (trim part) value → HaveValues Has (kept (parts ++ part ∷ [])) (values ++ value ∷ [])
 values_more Has parts part values value h some here =
     rw (kept-append parts (part ∷ []), kept_one part some) (HaveValues-append Has (kept parts) (trim part ∷ []) values (value ∷ []) h (here, tt))
-
--- one more part that is left out
-pub values_same : {A : Type 0} (Has : List ℕ → A → Type 0) (parts : List (List ℕ)) (part : List ℕ) (values : List A) → HaveValues Has (kept parts) values → length (trim part) ≡ 0 → HaveValues Has (kept (parts ++ part ∷ [])) values
-values_same Has parts part values h none = rw (kept-append parts (part ∷ []), kept_none part none, append-nil) h
 
 -- what an element's reader says, in words that follow from it
 module _ {A E : Type 0} (Gives Has : List ℕ → A → Type 0) (Refuses Fails : List ℕ → E → Type 0) (has : (t : List ℕ) (a : A) → Gives t a → Has t a) (fails : (t : List ℕ) (e : E) → Refuses t e → Fails t e) where

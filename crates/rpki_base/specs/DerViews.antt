@@ -5,40 +5,30 @@ use Rattle.rpki_der.specs.declared.error.DerError.{DerError}
 use Rattle.rpki_der.specs.Der.{Front, NoFront}
 use Rattle.rpki_der.specs.Views.{left}
 use Rattle.rpki_base.specs.declared.memory.OrMemory.{OrMemory}
-use Rattle.rpki_base.specs.declared.memory.OrMemory.TheVariants.{Refused, Memory}
+use Rattle.rpki_base.specs.Memory.{IfRefused}
 use Rattle.rpki_base.specs.DerReading.{begins_with}
 
--- the refusal is the fault that reading meets; want of memory says nothing
-abbrev pub FailsOrMemory : {Y : Type 0} → OrMemory DerError → Result Y DerError → Type 0
-FailsOrMemory (Refused fault) read = read ≡ Err fault
-FailsOrMemory (Memory error) read = Unit {0}
-
--- what a call answered, seen by view, is what reading gives, unless memory was wanting
+-- what a call answered, seen by view, is what reading gives, its fault too; want of memory says nothing
 abbrev pub GivesOrMemory : {X Y : Type 0} → (X → Y) → Result X (OrMemory DerError) → Result Y DerError → Type 0
 GivesOrMemory view (Ok x) read = read ≡ Ok (view x)
-GivesOrMemory view (Err e) read = FailsOrMemory e read
+GivesOrMemory view (Err e) read = IfRefused (λ fault. read ≡ Err fault) e
 
 -- The answer, seen by view, is what reading gives where the cursor stood, its fault too, and the cursor then stands
 -- where reading ends. A refusal, and want of memory, leave it where it stood.
 abbrev pub TakesOrMemory : {X Y : Type 0} → (X → Y) → Cursor → Cursor → Result X (OrMemory DerError) → (List ℕ → Result (Y × List ℕ) DerError) → Type 0
 TakesOrMemory view old new (Ok x) reading = reading (left old) ≡ Ok (view x, left new)
-TakesOrMemory view old new (Err e) reading = FailsOrMemory e (reading (left old)) × (new ≡ old)
+TakesOrMemory view old new (Err e) reading = IfRefused (λ fault. reading (left old) ≡ Err fault) e × (new ≡ old)
 
 -- The same, where what reading gives says the answer by C.
 abbrev pub TakesSaidOrMemory : {X Y : Type 0} → (Y → X → Type 0) → Cursor → Cursor → Result X (OrMemory DerError) → (List ℕ → Result (Y × List ℕ) DerError) → Type 0
 TakesSaidOrMemory {X} {Y} C old new (Ok x) reading = (y : Y) × (reading (left old) ≡ Ok (y, left new)) × C y x
-TakesSaidOrMemory C old new (Err e) reading = FailsOrMemory e (reading (left old)) × (new ≡ old)
-
--- no value of G stands there; want of memory says nothing
-abbrev pub NoneOrMemory : {X : Type 0} → OrMemory DerError → (List ℕ → X → Type 0) → List ℕ → Type 0
-NoneOrMemory (Refused fault) G bytes = NoFront G bytes
-NoneOrMemory (Memory error) G bytes = Unit {0}
+TakesSaidOrMemory C old new (Err e) reading = IfRefused (λ fault. reading (left old) ≡ Err fault) e × (new ≡ old)
 
 -- The answer, seen by view, is the value of the grammar that the cursor stood at, and it then stands behind it.
 -- A refusal means that it stood at none. Then, and where memory was wanting, it stays.
 abbrev pub ReadsOrMemory : {X Y : Type 0} → (List ℕ → Y → Type 0) → (X → Y) → Cursor → Cursor → Result X (OrMemory DerError) → Type 0
 ReadsOrMemory G view old new (Ok x) = Front G (left old) (view x) (left new)
-ReadsOrMemory G view old new (Err e) = NoneOrMemory e G (left old) × (new ≡ old)
+ReadsOrMemory G view old new (Err e) = IfRefused (λ fault. NoFront G (left old)) e × (new ≡ old)
 
 -- The answer is None exactly where the next octet isn't the tag, and at the end; the cursor then stays. Else it is the
 -- value of the grammar that the cursor stood at, or a refusal where it stood at none.

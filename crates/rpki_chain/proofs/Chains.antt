@@ -3,7 +3,7 @@ use Rattle.std.proofs.Common.{◌≡◌, ℕ, ◌+◌, ◌-◌, ◌<◌, ◌≤�
 use Rattle.std.proofs.Math.Nat.{le_refl}
 use Rattle.std.proofs.lemmas.Bool.{cases_lt, cases_eq}
 use Rattle.std.proofs.lemmas.List.{get_or_append_left, get_or_push, length_push, length-set, get_or-set_same, get_or-set_other, get_or_default}
-use Rattle.std.proofs.lemmas.List.Elements.{All-push, All-set}
+use Rattle.std.proofs.lemmas.List.Elements.{All-push}
 use Rattle.std.proofs.lemmas.List.Quantifiers.{Any-push, all_pairs_push, any-set}
 use Rattle.rpki_chain.specs.Sets.{IsWithin, Covers, IsRun, IsChain, IsChainOf}
 
@@ -40,10 +40,6 @@ module _ {B : Type 0} (f : B → ℕ × ℕ) where
   -- the same, with the bounds by another name
   pub Covers-push_as : (xs : List B) (y : B) (b : ℕ × ℕ) → f y ≡ b → (n : ℕ) → Covers f (xs ++ y ∷ []) n ↔ (Covers f xs n ⊎ IsWithin b n)
   Covers-push_as xs y b same n = subst (λ (c : ℕ × ℕ). Covers f (xs ++ y ∷ []) n ↔ (Covers f xs n ⊎ IsWithin c n)) same (Covers-push xs y n)
-
-  -- a block that lies in the last one
-  pub Covers-in_last : (xs : List B) (at : ℕ) (x : B) (b : ℕ × ℕ) → at < length xs → x ≡ get_or xs at x → (f x).0 ≤ b.0 → b.1 ≤ (f x).1 → (n : ℕ) → Covers f xs n ↔ (Covers f xs n ⊎ IsWithin b n)
-  Covers-in_last xs at x b lt is low high n = (inl, ⊎_elim (λ c. c) (λ w. (at, x, lt, sym is, (omega (arith, w.0), omega (arith, w.1)))))
 
   -- the last block, made longer
   pub Covers-grown : (xs : List B) (at : ℕ) (x y : B) (b : ℕ × ℕ) → at < length xs → x ≡ get_or xs at x → (f y).0 ≡ (f x).0 → (f y).1 ≡ b.1 → (f x).0 ≤ b.0 → b.0 ≤ (f x).1 + 1 → (f x).1 ≤ b.1 → (n : ℕ) → Covers f (set xs at y) n ↔ (Covers f xs n ⊎ IsWithin b n)
@@ -88,31 +84,6 @@ module _ {B : Type 0} (f : B → ℕ × ℕ) where
           (cases_lt (k + 1) (length xs)));
       new_form = All-push (λ x. IsTrue (is_new x)) xs y h.new_form new;
     }
-
-    -- a chain whose last block is made longer
-    pub IsChain-grown : (xs : List B) (at : ℕ) (x y : B) → IsChain f is_new xs → at + 1 ≡ length xs → x ≡ get_or xs at x → (f y).0 ≡ (f x).0 → (f y).0 ≤ (f y).1 → IsTrue (is_new y) → IsChain f is_new (set xs at y)
-    IsChain-grown xs at x y h end is low o new =
-        let lt : at < length xs = omega arith in
-        let len = length-set xs at y in
-        record {
-          ordered = All-set (λ x. (f x).0 ≤ (f x).1) xs at y o h.ordered;
-          apart = λ i j d below within. ⊎_elim
-              (λ (same : j ≡ at).
-              let R : B → B → Type 0 = λ u v. (f u).1 + 1 < (f v).0 in
-              let a = h.apart i at d (omega arith) lt in
-              let e : get_or xs at d ≡ x = get_or_default xs at d x lt ∙ sym is in
-              let b : (f (get_or xs i d)).1 + 1 < (f y).0 = rw low (rw (← e) a) in
-              let ne : i ≡ at → ⊥ = λ q. omega arith in
-              let u = get_or-set_other xs at i y d ne in
-              let v : get_or (set xs at y) j d ≡ y = ap (λ k. get_or (set xs at y) k d) same ∙ get_or-set_same xs at y d lt in
-              rw (u, v) b)
-              (λ other.
-              let a : (f (get_or xs i d)).1 + 1 < (f (get_or xs j d)).0 = h.apart i j d below (omega arith) in
-              let ne : i ≡ at → ⊥ = λ q. omega arith in
-              rw (get_or-set_other xs at i y d ne, get_or-set_other xs at j y d other) a)
-              (cases_eq j at);
-          new_form = All-set (λ x. IsTrue (is_new x)) xs at y new h.new_form;
-        }
 
     -- a later block begins no earlier
     pub ascends : (xs : List B) → IsChain f is_new xs → (i k : ℕ) (d : B) → i ≤ k → k < length xs → (f (get_or xs i d)).0 ≤ (f (get_or xs k d)).0

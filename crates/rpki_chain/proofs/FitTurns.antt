@@ -4,9 +4,8 @@ use Rattle.rpki_chain.specs.Sets.{HoldsBlock, numbers}
 use Rattle.rpki_chain.specs.Fit.{IsFit}
 use Rattle.rpki_chain.specs.declared.overhang.Fit.TheVariants as fit
 use Rattle.rpki_chain.specs.Overhang.{IsOverhang}
-use Rattle.rpki_chain.specs.Sets.{IsInside}
 use Rattle.rpki_chain.proofs.Sides.{IsAt, bounds_of}
-use Rattle.rpki_chain.proofs.Insides.{Inside, Inside-skip, Inside-fit, Inside-end, Inside-none_left, Inside-beyond}
+use Rattle.rpki_chain.proofs.Insides.{Inside, Inside-skip, Inside-fit, Inside-none_left, Inside-beyond}
 
 module _ {B I : Type 0} (f : B → ℕ × ℕ) (is_new : B → Bool) (number : I → ℕ) where
   -- the other's next block is looked at
@@ -24,12 +23,6 @@ module _ {B I : Type 0} (f : B → ℕ × ℕ) (is_new : B → Bool) (number : I
   fit-inside xs ys i j (Some b) (Some c) next w h =
       let at : IsAt f xs i (Some (numbers number b)) = w.own_at in
       (at.0, λ after. Inside-fit f is_new xs ys i j (numbers number b) (numbers number c) (bounds_of number next) w h.0 h.1 after)
-
-  -- no block was left out
-  pub fit-end : (xs ys : List B) (i j : ℕ) (own other : Option (I × I)) → Inside f is_new xs ys i (bounds_of number own) j (bounds_of number other) → IsFit number own other fit.End → IsInside f xs ys
-  fit-end xs ys i j None other w h = Inside-end f is_new xs ys i j (bounds_of number other) w
-  fit-end xs ys i j (Some b) None w h = absurd h
-  fit-end xs ys i j (Some b) (Some c) w h = absurd h
 
   -- the block at hand is an overhang
   pub fit-beyond : (last : ℕ) (xs ys : List B) (i j : ℕ) (own other : Option (I × I)) (min max : I) → Inside f is_new xs ys i (bounds_of number own) j (bounds_of number other) → HoldsBlock f number last xs i own → HoldsBlock f number last ys j other → IsFit number own other (fit.Beyond min max) → IsOverhang f number last xs ys (record { own_at = i; min = min; max = max; other_at = j; other = other })

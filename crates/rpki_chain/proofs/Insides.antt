@@ -58,10 +58,6 @@ module _ {B : Type 0} (f : B → ℕ × ℕ) (is_new : B → Bool) where
         before_next f is_new xs i b w.own_chain w.own_at next after n (omega arith));
   }
 
-  -- all blocks were passed
-  pub Inside-end : (xs ys : List B) (i j : ℕ) (c : Option (ℕ × ℕ)) → Inside xs ys i None j c → (n : ℕ) → Covers f xs n → Covers f ys n
-  Inside-end xs ys i j c w n o = w.inside n o tt
-
   -- the block at hand doesn't lie in the other chain
   pub Inside-none_left : (xs ys : List B) (i j : ℕ) (b : ℕ × ℕ) → Inside xs ys i (Some b) j None → ((n : ℕ) → Covers f xs n → Covers f ys n) → ⊥
   Inside-none_left xs ys i j b w all =

@@ -1,5 +1,5 @@
 -- Runs of sets: those of a chain, and that a set has one list of them.
-use Rattle.std.proofs.Common.{◌≡◌, ℕ, ◌<◌, ◌≤◌, ◌↔◌, ◌⊎◌, inl, inr, ⊎_elim, Bool, true, List, [], ◌∷◌, length, get_or, map, refl, sym, ap, ◌∙◌, subst, arith}
+use Rattle.std.proofs.Common.{◌≡◌, ℕ, ◌<◌, ◌≤◌, ◌↔◌, ◌⊎◌, inl, inr, ⊎_elim, Bool, true, List, [], ◌∷◌, length, get_or, map, refl, sym, ap, subst, arith}
 use Rattle.std.proofs.lemmas.Bool.{cases_lt}
 use Rattle.std.proofs.lemmas.List.{get_or-map, length-map}
 use Rattle.std.proofs.lemmas.List.Elements.{All-map}
@@ -44,26 +44,6 @@ module _ {B : Type 0} (f : B → ℕ × ℕ) where
   )
 
   module _ (is_new : B → Bool) where
-    -- the chain of a set is that of any set with the same numbers
-    pub IsChainOf-same : (xs : List B) (S U : ℕ → Type 0) → ((n : ℕ) → S n ↔ U n) → IsChainOf f is_new S xs → IsChainOf f is_new U xs
-    IsChainOf-same xs S U same h = record {
-      runs = λ k d lt. (let run = h.runs k d lt in record {
-        ordered = run.ordered;
-        inside = λ n w. (same n).0 (run.inside n w);
-        starts = λ n next s. run.starts n next ((same n).1 s);
-        ends = λ s. run.ends ((same _).1 s);
-      });
-      every_run = λ b run. h.every_run b (record {
-        ordered = run.ordered;
-        inside = λ n w. (same n).1 (run.inside n w);
-        starts = λ n next s. run.starts n next ((same n).0 s);
-        ends = λ s. run.ends ((same _).0 s);
-      });
-      ascending = h.ascending;
-      new_form = h.new_form;
-      covers = λ n. (λ c. (same n).0 ((h.covers n).0 c), λ s. (h.covers n).1 ((same n).1 s));
-    }
-
     -- the blocks of the chain of S are its runs
     pub IsRunsOf-from_chain : (S : ℕ → Type 0) (xs : List B) → IsChainOf f is_new S xs → IsRunsOf S (map f xs)
     IsRunsOf-from_chain S xs h =
@@ -128,21 +108,6 @@ module _ {B : Type 0} (f : B → ℕ × ℕ) (is_new : B → Bool) (xs some othe
     λ (a, b). ((Holds-map f some n).1 a, λ c. b ((Holds-map f others n).0 c)),
     λ (a, b). ((Holds-map f some n).0 a, λ c. b ((Holds-map f others n).1 c)),
   )) (IsRunsOf-from_chain f is_new _ xs h)
-
-  -- the runs of what one chain or the other has
-  pub IsRunsOf-union : IsChainOf f is_new (λ n. Covers f some n ⊎ Covers f others n) xs → IsRunsOf (λ n. Holds (map f some) n ⊎ Holds (map f others) n) (map f xs)
-  IsRunsOf-union h = IsRunsOf-same (map f xs) _ _ (λ n. (
-    ⊎_elim (λ a. inl ((Holds-map f some n).1 a)) (λ b. inr ((Holds-map f others n).1 b)),
-    ⊎_elim (λ a. inl ((Holds-map f some n).0 a)) (λ b. inr ((Holds-map f others n).0 b)),
-  )) (IsRunsOf-from_chain f is_new _ xs h)
-
--- no bounds, no blocks
-pub no_blocks : {B : Type 0} (f : B → ℕ × ℕ) (xs : List B) → map f xs ≡ [] → xs ≡ []
-no_blocks f xs none = go xs (sym (length-map xs f) ∙ ap length none)
-  where
-    go : {B : Type 0} (ys : List B) → length ys ≡ 0 → ys ≡ []
-    go [] e = refl
-    go (y ∷ ys) e = absurd (omega arith)
 
 -- whether runs hold a number is decided
 pub Holds-decided : (runs : Runs) (n : ℕ) → Holds runs n ⊎ (Holds runs n → ⊥)

@@ -60,9 +60,3 @@ map-at f g [] ys i x y lt below at there e = absurd (omega arith)
 map-at f g (z ∷ zs) [] i x y lt below at there e = absurd (omega arith)
 map-at f g (z ∷ zs) (w ∷ ws) zero x y lt below at there e = ap f at ∙ (cc) ∙ ap g (sym there)
 map-at f g (z ∷ zs) (w ∷ ws) (suc i) x y lt below at there e = map-at f g zs ws i x y (omega arith) (omega arith) at there (cc)
-
--- what agrees up to an index, and there, agrees up to the next
-pub map-more : {B C : Type 0} (f : B → ℕ × ℕ) (g : C → ℕ × ℕ) (xs : List B) (ys : List C) (i : ℕ) (x : B) (y : C) → i < length xs → i < length ys → x ≡ get_or xs i x → y ≡ get_or ys i y → f x ≡ g y → map f (take i xs) ≡ map g (take i ys) → map f (take (i + 1) xs) ≡ map g (take (i + 1) ys)
-map-more f g xs ys i x y lt below at there same before =
-    let more : take i xs ++ x ∷ [] ≡ take (i + 1) xs = ap (λ z. take i xs ++ z ∷ []) at ∙ sym (take_more xs i x lt) in
-    ap (map f) (sym more) ∙ map-push_taken f g (take i xs) ys i x y below there same before

@@ -69,16 +69,6 @@ pub record SoFar {S X : Type 0} (next : S → X → S) (reading : S → List ℕ
   pub enough : length bytes ≤ steps
   pub whole : with_front front (each_from next steps reading state bytes) ≡ total
 
--- nothing read so far changes nothing
-with_no_front : {X : Type 0} (read : Result (List X) DerError) → with_front [] read ≡ read
-with_no_front (Ok xs) = refl
-with_no_front (Err e) = refl
-
--- before the first turn nothing was read
-pub loop_begins : {S X : Type 0} (next : S → X → S) (reading : S → List ℕ → Result (X × List ℕ) DerError) (state : S) (bytes : List ℕ)
-    → SoFar next reading [] state bytes (each_from next (length bytes) reading state bytes)
-loop_begins next reading state bytes = record { steps = length bytes; enough = omega arith; whole = with_no_front (each_from next (length bytes) reading state bytes) }
-
 -- one more value, put behind those read so far
 with_one : {X : Type 0} (front : List X) (x : X) (read : Result (List X) DerError) → with_front front (read >>= λ xs. Ok (x ∷ xs)) ≡ with_front (front ++ x ∷ []) read
 with_one front x (Ok xs) = ap (λ (ys : List _). Ok ys) (sym (append_assoc front (x ∷ []) xs))

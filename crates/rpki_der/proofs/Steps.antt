@@ -1,18 +1,10 @@
 -- Steps of reading that did not fail.
-use Rattle.std.proofs.Common.{◌≡◌, ℕ, zero, suc, ◌+◌, Bool, true, false, cond, ◌||◌, ◌&&◌, List, ◌∷◌, ◌++◌, length, take, replicate, Result, Ok, Err, refl, arith, inl, inr}
+use Rattle.std.proofs.Common.{◌≡◌, ℕ, zero, suc, ◌+◌, Bool, true, false, cond, ◌||◌, ◌&&◌, List, ◌∷◌, ◌++◌, length, replicate, Result, Ok, Err, refl, arith, inl, inr}
 use Rattle.std.proofs.lemmas.Bool.{cases_lt}
-use Rattle.std.proofs.lemmas.List.{get_or-take, get_or_past, length-take, get_or_append_left, get_or-append-add}
+use Rattle.std.proofs.lemmas.List.{get_or_past, get_or_append_left, get_or-append-add}
 use Rattle.rpki_der.specs.declared.error.DerError.{DerError}
 use Rattle.rpki_der.specs.Reading.{◌>>=◌}
 use Rattle.rpki_der.specs.Der.{IsBytes}
-
--- octets from the front
-pub IsBytes-take : (n : ℕ) (bytes : List ℕ) → IsBytes bytes → IsBytes (take n bytes)
-IsBytes-take n bytes h i =
-    elim (cases_lt i n) [
-      | inl lt ↦ rw (get_or-take n bytes i 0 lt) (h i)
-      | inr le ↦ rw (get_or_past (take n bytes) i 0 (omega (arith, length-take n bytes))) (omega arith)
-    ]
 
 -- octets behind the first
 pub IsBytes-rest : (b : ℕ) (bytes : List ℕ) → IsBytes (b ∷ bytes) → IsBytes bytes

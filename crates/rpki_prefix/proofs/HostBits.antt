@@ -1,13 +1,10 @@
 -- On the host bits of addresses: the bits after a prefix's length.
-use Rattle.std.proofs.Common.{◌≡◌, ℕ, ◌+◌, ◌-◌, ◌*◌, ◌/◌, ◌%◌, ◌^◌, ◌<◌, ◌≤◌, ◌∙◌, ap, refl, arith, bit_and, bit_or, lit≤}
-use Rattle.std.proofs.lemmas.Nat.{shr_split}
+use Rattle.std.proofs.Common.{◌≡◌, ℕ, ◌+◌, ◌-◌, ◌^◌, ◌<◌, ◌≤◌, ◌∙◌, refl, arith, bit_and, bit_or, lit≤}
 use Rattle.rpki_base.specs.Prefixes.{cleared}
 use Rattle.rpki_base.specs.declared.addr.IpAddr.{IpAddr}
 use Rattle.rpki_base.specs.declared.addr.IpAddr.TheVariants.{V4, V6}
 use Rattle.rpki_base.proofs.PrefixNumbers.{clear_host, set_host, cleared_prefix, cleared_holds}
-use Rattle.rpki_prefix.specs.Values.{IsRelaxedPrefixOf, HasPrefixError, HasRelaxedPrefixError, width, bits, cleared_addr}
-use Rattle.rpki_prefix.specs.declared.error.PrefixError.{PrefixError}
-use Rattle.rpki_prefix.specs.declared.error.PrefixError.TheVariants.{LenOverflow, NonZeroHost}
+use Rattle.rpki_prefix.specs.Values.{IsRelaxedPrefixOf, width, bits, cleared_addr}
 
 -- what `n & !m` is, where the host bits of m are set
 pub cleared_by : (w n len m r : ℕ) → n < 2 ^ w → m + 1 ≡ 2 ^ (w - len) → r ≡ bit_and n (2 ^ w - 1 - m) → r ≡ cleared w n len
@@ -21,16 +18,6 @@ filled_by w n len m r mask is = omega (arith, is, set_host (w - len) n m mask)
 pub relaxed_prefix : (a : IpAddr) (len : ℕ) → len ≤ width a → bits a < 2 ^ width a → IsRelaxedPrefixOf a len (record { addr = cleared_addr a len; len = len })
 relaxed_prefix (V4 n) len short below = record { same_bits = refl; same_len = refl; is_prefix = cleared_prefix 32 n len short below; holds = cleared_holds 32 n len }
 relaxed_prefix (V6 n) len short below = record { same_bits = refl; same_len = refl; is_prefix = cleared_prefix 128 n len short below; holds = cleared_holds 128 n len }
-
--- an address whose host bits are clear is left as it is
-pub clear_already : (a : IpAddr) (len : ℕ) → bits a % 2 ^ (width a - len) ≡ 0 → cleared_addr a len ≡ a
-clear_already (V4 n) len clear = ap V4 (let parts : n / 2 ^ (32 - len) * 2 ^ (32 - len) + n % 2 ^ (32 - len) ≡ n = shr_split n (32 - len) in omega (arith, parts, clear))
-clear_already (V6 n) len clear = ap V6 (let parts : n / 2 ^ (128 - len) * 2 ^ (128 - len) + n % 2 ^ (128 - len) ≡ n = shr_split n (128 - len) in omega (arith, parts, clear))
-
--- what is refused where host bits may be set is refused where they may not
-pub strict_error : (a : IpAddr) (len : ℕ) (e : PrefixError) → HasRelaxedPrefixError a len e → HasPrefixError a len e
-strict_error a len LenOverflow above = above
-strict_error a len NonZeroHost never = absurd never
 
 -- no address has more than 128 bits
 pub few_bits : (a : IpAddr) → width a ≤ 128

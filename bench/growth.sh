@@ -50,10 +50,11 @@ for size in (50_000, 100_000, 200_000):
 PROGRAM
 
 python3 - "$top/crates/respath/out/respath" "$inputs" <<'PROGRAM'
-import os, select, subprocess, sys, time
+import os, select, subprocess, sys
 
 program, inputs = sys.argv[1:]
-RUNS = 7
+SIZES = (50_000, 100_000, 200_000)
+RUNS = 15
 
 
 def peak_of(process):
@@ -63,9 +64,8 @@ def peak_of(process):
 
 
 def measured(path):
-    """Seconds and peak MiB of one run over the file."""
+    """Seconds of the processor and peak MiB of one run over the file."""
     peak = 0.0
-    start = time.monotonic()
     with open(path) as given:
         process = subprocess.Popen([program], stdin=given, stdout=subprocess.PIPE)
     while True:
@@ -74,20 +74,21 @@ def measured(path):
         peak = max(peak, peak_of(process))
         if not os.read(process.stdout.fileno(), 1 << 16):
             break
-    if process.wait() != 0:
-        sys.exit(f"the program ended with status {process.returncode}")
-    return time.monotonic() - start, peak
+    _, status, used = os.wait4(process.pid, 0)
+    if status != 0:
+        sys.exit(f"the program ended with status {status}")
+    return used.ru_utime + used.ru_stime, peak
 
 
 print(f"{'input':<14}{'N':>8}{'MiB in':>8}{'seconds':>9}{'growth':>8}{'peak MiB':>10}{'growth':>8}")
 for name in (f"{kind}-{made}" for kind in ("as", "v4", "v6") for made in ("shuffled", "sorted", "lines")):
+    # In rounds over all sizes, so that a slow moment of the machine doesn't meet one size alone.
+    rounds = [[measured(f"{inputs}/{name}.{size}") for size in SIZES] for _ in range(RUNS)]
     before = None
-    for size in (50_000, 100_000, 200_000):
-        path = f"{inputs}/{name}.{size}"
-        runs = [measured(path) for _ in range(RUNS)]
+    for size, runs in zip(SIZES, zip(*rounds)):
         seconds, peak = min(run[0] for run in runs), min(run[1] for run in runs)
         growth = ("", "") if before is None else (f"{seconds / before[0]:.2f}", f"{peak / before[1]:.2f}")
-        mebibytes = os.path.getsize(path) / 2**20
+        mebibytes = os.path.getsize(f"{inputs}/{name}.{size}") / 2**20
         print(f"{name:<14}{size:>8}{mebibytes:>8.2f}{seconds:>9.3f}{growth[0]:>8}{peak:>10.1f}{growth[1]:>8}")
         before = (seconds, peak)
 PROGRAM

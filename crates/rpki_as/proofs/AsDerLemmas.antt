@@ -1,14 +1,15 @@
 -- What is written of blocks and sets of AS numbers, and that it is read back.
-use Rattle.std.proofs.Common.{◌≡◌, ℕ, zero, suc, ◌+◌, ◌*◌, ◌^◌, ◌<◌, ◌≤◌, ◌↔◌, ◌⊎◌, IsTrue, List, [], ◌∷◌, ◌++◌, length, map, get_or, Result, refl, sym, ap, subst, ◌∙◌, arith, inl, inr, ⊎_elim}
+use Rattle.std.proofs.Common.{◌≡◌, ℕ, zero, suc, ◌+◌, ◌*◌, ◌^◌, ◌<◌, ◌≤◌, ◌↔◌, List, [], ◌∷◌, ◌++◌, length, map, get_or, Result, refl, sym, ap, subst, ◌∙◌, arith, ⊎_elim}
 use Rattle.std.specs.List.{AllByRecursion, flat_map}
-use Rattle.std.specs.Prelude.{All, MatchResult}
+use Rattle.std.specs.Prelude.{MatchResult}
 use Rattle.std.proofs.lemmas.Bool.{cases_lt, eq-eqb, ne_eqb}
-use Rattle.std.proofs.lemmas.Grind.{common_steps}
 use Rattle.std.proofs.lemmas.List.{length-append}
 use Rattle.std.proofs.lemmas.List.Elements.{recursion_from_All}
+use Rattle.std.proofs.lemmas.List.Folds.{flat_map-map}
 use Rattle.rpki_chain.specs.Runs.{Runs, Holds, IsRunsOfBlocks}
 use Rattle.rpki_chain.specs.Sets.{Covers}
-use Rattle.rpki_chain.proofs.RunLists.{IsRunsOf-unique, IsRunsOfBlocks-bounds, same_numbers}
+use Rattle.rpki_chain.proofs.RunLists.{IsRunsOf-unique, same_numbers}
+use Rattle.rpki_chain.proofs.SetLemmas.{bounds_made, made_of_set}
 use Rattle.rpki_der.specs.declared.cursor.Cursor.{Cursor}
 use Rattle.rpki_der.specs.declared.error.DerError.{DerError}
 use Rattle.rpki_der.specs.Der.{IsBytes, OneFront, header, integer, sequence_value}
@@ -28,7 +29,8 @@ use Rattle.rpki_base.proofs.DerWriting.{sequence_written, written_alike}
 use Rattle.rpki_as.specs.AsDer.{IsAsBlock, IsAsBlockSequence, as_block_octets, as_range_content, as_run_octets, as_sequence_octets, as_set_octets}
 use Rattle.rpki_as.specs.AsDerLaws.{block_has_octets, block_reading}
 use Rattle.rpki_as.specs.AsDerReading.{as_block_at, as_blocks_at}
-use Rattle.rpki_as.specs.Blocks.{IsAsSet, as_bounds, is_new_as_block}
+use Rattle.rpki_as.specs.BlockForms.{new_block_bounds}
+use Rattle.rpki_as.specs.Blocks.{IsAsSet, as_bounds, new_as_block}
 use Rattle.rpki_as.specs.declared.block.AsBlock.{AsBlock}
 use Rattle.rpki_as.specs.declared.block.AsBlock.TheVariants.{Id, Range}
 
@@ -43,46 +45,13 @@ length-content : (b : ℕ × ℕ) → b.0 ≤ b.1 → b.1 < 2 ^ 32 → length (a
 length-content b ordered lt = omega (arith, length-number b.0 (omega arith), length-number b.1 lt, length-append (as_number_octets b.0) (as_number_octets b.1))
 
 -- what is written of a block is the block
-pub block_written : (x : AsBlock) → (as_bounds x).1 < 2 ^ 32 → IsAsBlock (as_block_octets x) x
-block_written (Id n) lt = u32_is n lt
-block_written (Range r) lt =
-    let short = length-content (r.min, r.max) r.in_order lt in
-    (as_range_content (r.min, r.max), value_is 48 (as_range_content (r.min, r.max)) (omega arith) (omega arith), (as_number_octets r.max, (as_number_octets r.min, u32_is r.min (let le = r.in_order in omega arith), refl), u32_is r.max lt))
-
--- in new form, that is what is written of its run
-run_written : (x : AsBlock) → IsTrue (is_new_as_block x) → as_block_octets x ≡ as_run_octets (as_bounds x)
-run_written (Id n) new = rw (eq-eqb n n refl) refl
-run_written (Range r) new = let apart : r.min ≡ r.max → ⊥ = (λ e. grind (arith, common_steps)) in rw (ne_eqb r.min r.max apart) refl
-
--- the same of all blocks
-pub runs_written : (xs : List AsBlock) → All (λ x. IsTrue (is_new_as_block x)) xs → flat_map as_block_octets xs ≡ as_set_octets (map as_bounds xs)
-runs_written xs new = by_each xs (recursion_from_All (λ x. IsTrue (is_new_as_block x)) xs new)
-  where
-    by_each : (xs : List AsBlock) → AllByRecursion (λ x. IsTrue (is_new_as_block x)) xs → flat_map as_block_octets xs ≡ as_set_octets (map as_bounds xs)
-    by_each [] all = refl
-    by_each (x ∷ xs) all = ap (λ (t : List ℕ). t ++ flat_map as_block_octets xs) (run_written x all.0) ∙ ap (λ (t : List ℕ). as_run_octets (as_bounds x) ++ t) (by_each xs all.1)
+pub block_written : (x : AsBlock) → (as_bounds x).0 ≤ (as_bounds x).1 → (as_bounds x).1 < 2 ^ 32 → IsAsBlock (as_block_octets x) x
+block_written (Id n) ordered lt = u32_is n lt
+block_written (Range r) ordered lt =
+    let short = length-content (r.min, r.max) ordered lt in
+    (ordered, (as_range_content (r.min, r.max), value_is 48 (as_range_content (r.min, r.max)) (omega arith) (omega arith), (as_number_octets r.max, (as_number_octets r.min, u32_is r.min (omega arith), refl), u32_is r.max lt)))
 
 -- ---- the blocks of a set
-
--- the block of a run, in new form
-block_by : (b : ℕ × ℕ) → (b.0 < b.1) ⊎ (b.1 ≤ b.0) → AsBlock
-block_by b (inl lt) = Range (record { min = b.0; max = b.1; in_order = omega (arith, lt) })
-block_by b (inr le) = Id b.0
-
-block_of_run : ℕ × ℕ → AsBlock
-block_of_run b = block_by b (cases_lt b.0 b.1)
-
--- its bounds are those of the run
-by_bounds : (b : ℕ × ℕ) (order : (b.0 < b.1) ⊎ (b.1 ≤ b.0)) → b.0 ≤ b.1 → as_bounds (block_by b order) ≡ b
-unfolding block_by
-by_bounds b (inl lt) le = refl
-by_bounds b (inr ge) le = let same : b.0 ≡ b.1 = omega (arith, ge, le) in ap (λ (n : ℕ). (b.0, n)) same
-
--- and it is in new form
-by_new : (b : ℕ × ℕ) (order : (b.0 < b.1) ⊎ (b.1 ≤ b.0)) → IsTrue (is_new_as_block (block_by b order))
-unfolding block_by
-by_new b (inl lt) = rw (ne_eqb b.0 b.1 (λ e. omega (arith, lt, e))) refl
-by_new b (inr ge) = refl
 
 -- the runs of a set, each in order and below 2 ^ 32
 IsRun32 : ℕ × ℕ → Type 0
@@ -93,30 +62,28 @@ unfolding IsRun32
 runs_32 set is = recursion_from_All IsRun32 set (λ k d small. (is.are_runs.ordered k d small, (let le = is.below k d small in omega arith)))
 
 -- the blocks of runs have their bounds
-blocks_bounds : (set : Runs) → AllByRecursion IsRun32 set → map as_bounds (map block_of_run set) ≡ set
-unfolding IsRun32 block_of_run
-blocks_bounds [] all = refl
-blocks_bounds (b ∷ set) all = ap (λ (c : ℕ × ℕ). c ∷ map as_bounds (map block_of_run set)) (by_bounds b (cases_lt b.0 b.1) all.0.0) ∙ ap (λ (t : Runs). b ∷ t) (blocks_bounds set all.1)
+blocks_bounds : (set : Runs) → IsAsSet set → map as_bounds (map new_as_block set) ≡ set
+blocks_bounds = bounds_made as_bounds new_as_block 4294967295 (λ b ordered to. new_block_bounds b)
 
 -- what is written of them is what is written of the set
-blocks_octets : (set : Runs) → AllByRecursion IsRun32 set → flat_map as_block_octets (map block_of_run set) ≡ as_set_octets set
-unfolding IsRun32 block_of_run
-blocks_octets [] all = refl
-blocks_octets (b ∷ set) all =
-    let one : as_block_octets (block_of_run b) ≡ as_run_octets b = run_written (block_of_run b) (by_new b (cases_lt b.0 b.1)) ∙ ap as_run_octets (by_bounds b (cases_lt b.0 b.1) all.0.0) in
-    ap (λ (t : List ℕ). t ++ flat_map as_block_octets (map block_of_run set)) one ∙ ap (λ (t : List ℕ). as_run_octets b ++ t) (blocks_octets set all.1)
+blocks_octets : (set : Runs) → flat_map as_block_octets (map new_as_block set) ≡ as_set_octets set
+blocks_octets set = flat_map-map as_block_octets new_as_block set
 
--- and each is a block
-blocks_are : (set : Runs) → AllByRecursion IsRun32 set → AllByRecursion (λ x. IsAsBlock (as_block_octets x) x) (map block_of_run set)
-unfolding IsRun32 block_of_run
+-- the block of a run is one
+block_is : (b : ℕ × ℕ) → IsRun32 b → IsAsBlock (as_run_octets b) (new_as_block b)
+unfolding IsRun32
+block_is b is =
+    block_written (new_as_block b)
+    (subst (λ (c : ℕ × ℕ). c.0 ≤ c.1) (sym (new_block_bounds b)) is.0)
+    (subst (λ (c : ℕ × ℕ). c.1 < 2 ^ 32) (sym (new_block_bounds b)) is.1)
+
+blocks_are : (set : Runs) → AllByRecursion IsRun32 set → AllByRecursion (λ x. IsAsBlock (as_block_octets x) x) (map new_as_block set)
 blocks_are [] all = tt
-blocks_are (b ∷ set) all =
-    let bound : (as_bounds (block_of_run b)).1 ≡ b.1 = ap (λ (c : ℕ × ℕ). c.1) (by_bounds b (cases_lt b.0 b.1) all.0.0) in
-    (block_written (block_of_run b) (subst (λ n. n < 2 ^ 32) (sym bound) all.0.1), blocks_are set all.1)
+blocks_are (b ∷ set) all = (block_is b all.0, blocks_are set all.1)
 
 -- they stand for the set
-blocks_say : (set : Runs) → IsAsSet set → IsRunsOfBlocks as_bounds (map block_of_run set) set
-blocks_say set is = IsRunsOfBlocks-bounds as_bounds (map block_of_run set) set (blocks_bounds set (runs_32 set is)) is.are_runs
+blocks_say : (set : Runs) → IsAsSet set → IsRunsOfBlocks as_bounds (map new_as_block set) set
+blocks_say = made_of_set as_bounds new_as_block 4294967295 (λ b ordered to. new_block_bounds b)
 
 -- ---- how long they are
 
@@ -166,16 +133,16 @@ pub blocks_reading : IsReading (IsSequenceOf IsAsBlock) as_blocks_at
 blocks_reading = sequence_reading (λ (state : Unit {0}) (x : AsBlock). state) (λ state. IsAsBlock) (λ state. as_block_at) (λ state. block_reading) (λ state. block_has_octets) tt
 
 -- what is written of a set, in one SEQUENCE, is a SEQUENCE of its blocks
-sequence_blocks : (set : Runs) → IsAsSet set → IsSequenceOf IsAsBlock (as_sequence_octets set) (map block_of_run set)
+sequence_blocks : (set : Runs) → IsAsSet set → IsSequenceOf IsAsBlock (as_sequence_octets set) (map new_as_block set)
 sequence_blocks set is =
     let all = runs_32 set is in
-    let octets = blocks_octets set all in
-    let written = sequence_written IsAsBlock as_block_octets (map block_of_run set) (blocks_are set all) (subst (λ (t : List ℕ). length t < 2 ^ 64) (sym octets) (set_octets_short set is)) in
-    subst (λ (t : List ℕ). IsSequenceOf IsAsBlock (sequence_value t) (map block_of_run set)) octets written
+    let octets = blocks_octets set in
+    let written = sequence_written IsAsBlock as_block_octets (map new_as_block set) (blocks_are set all) (subst (λ (t : List ℕ). length t < 2 ^ 64) (sym octets) (set_octets_short set is)) in
+    subst (λ (t : List ℕ). IsSequenceOf IsAsBlock (sequence_value t) (map new_as_block set)) octets written
 
 -- so it stands for the set
 pub sequence_says : (set : Runs) → IsAsSet set → IsAsBlockSequence (as_sequence_octets set) set
-sequence_says set is = (map block_of_run set, sequence_blocks set is, blocks_say set is)
+sequence_says set is = (map new_as_block set, sequence_blocks set is, blocks_say set is)
 
 -- octets begin with at most one such SEQUENCE, which stands for one set
 pub one_sequence : OneFront IsAsBlockSequence
@@ -189,8 +156,8 @@ written_as_numbers a b is also = (
   λ same n. (
       let all = runs_32 a is in
       let more = runs_32 b also in
-      let blocks = written_alike IsAsBlock as_block_octets as_block_at block_reading block_has_octets (map block_of_run a) (map block_of_run b) (blocks_are a all) (blocks_are b more) (blocks_octets a all ∙ same ∙ sym (blocks_octets b more)) in
-      let one : a ≡ b = sym (blocks_bounds a all) ∙ ap (λ (t : List AsBlock). map as_bounds t) blocks ∙ blocks_bounds b more in
+      let blocks = written_alike IsAsBlock as_block_octets as_block_at block_reading block_has_octets (map new_as_block a) (map new_as_block b) (blocks_are a all) (blocks_are b more) (blocks_octets a ∙ same ∙ sym (blocks_octets b)) in
+      let one : a ≡ b = sym (blocks_bounds a is) ∙ ap (λ (t : List AsBlock). map as_bounds t) blocks ∙ blocks_bounds b also in
       (subst (λ (t : Runs). Holds t n) one, subst (λ (t : Runs). Holds t n) (sym one))
       ),
   λ same. ap as_set_octets (same_numbers a b is.are_runs also.are_runs same),
@@ -210,4 +177,4 @@ reads_set old new result fits took = reads_said_by (IsSequenceOf IsAsBlock) (IsR
 pub reads_back_set : (old new : Cursor) (result : Result Runs (OrMemory DerError)) → TakesSaidOrMemory (IsRunsOfBlocks as_bounds) old new result as_blocks_at
     → (set : Runs) (rest : List ℕ) → IsAsSet set → left old ≡ as_sequence_octets set ++ rest → MatchResult result (λ read. (read ≡ set) × (left new ≡ rest)) IsMemory
 reads_back_set old new result took set rest is at =
-    takes_said (IsSequenceOf IsAsBlock) (IsRunsOfBlocks as_bounds) as_blocks_at old new result blocks_reading one_set took (as_sequence_octets set) rest (map block_of_run set) set (sequence_blocks set is) (blocks_say set is) at
+    takes_said (IsSequenceOf IsAsBlock) (IsRunsOfBlocks as_bounds) as_blocks_at old new result blocks_reading one_set took (as_sequence_octets set) rest (map new_as_block set) set (sequence_blocks set is) (blocks_say set is) at

@@ -1,13 +1,13 @@
 -- A text writes one block at most, or has one fault; what is printed of a block writes it.
-use Rattle.std.proofs.Common.{◌≡◌, ℕ, suc, ◌<◌, ◌^◌, List, [], ◌∷◌, length, get_or, Result, Ok, Err, MatchResult, arith, refl, sym, ap, subst, zero}
+use Rattle.std.proofs.Common.{◌≡◌, ℕ, suc, ◌<◌, ◌≤◌, ◌^◌, List, [], ◌∷◌, length, get_or, Result, Ok, Err, MatchResult, arith, refl, sym, ap, subst, zero}
 use Rattle.std.specs.Int.{IsInRange}
 use Rattle.std.specs.List.{AllByRecursion}
 use Rattle.rpki_base.specs.AsnText.{asn_text}
 use Rattle.rpki_base.specs.Cuts.{HasNo, dash}
 use Rattle.rpki_base.proofs.AsnLemmas.{IsAsnText-asn_text, IsAsnText-one, asn_text_bytes}
 use Rattle.rpki_base.proofs.CutLemmas.{none_around, around_at}
-use Rattle.rpki_as.specs.Blocks.{range_bounds, as_bounds}
-use Rattle.rpki_as.specs.BlockForms.{AsRange-one}
+use Rattle.rpki_chain.specs.Ranges.{range_bounds}
+use Rattle.rpki_as.specs.Blocks.{as_bounds}
 use Rattle.rpki_as.specs.BlockText.{IsRangeBetween, NoRange, IsBlockText, HasBlockFault, block_text, ReadsBlock}
 use Rattle.rpki_as.specs.declared.block.AsBlock.{AsBlock}
 use Rattle.rpki_as.specs.declared.block.AsBlock.TheVariants.{Id, Range}
@@ -21,7 +21,9 @@ IsBlockText-one text (Id m) (Range s) h k = absurd (none_around dash text _ h.0 
 IsBlockText-one text (Range r) (Id n) h k = absurd (none_around dash text _ k.0 h)
 IsBlockText-one text (Range r) (Range s) h k =
     let same = around_at dash text h.left h.right (λ left right. IsRangeBetween left right (range_bounds s)) h.cut k in
-    ap Range (AsRange-one r s (IsAsnText-one h.left r.min s.min h.holds.min_text same.min_text) (IsAsnText-one h.right r.max s.max h.holds.max_text same.max_text))
+    let min = IsAsnText-one h.left r.min s.min h.holds.min_text same.min_text in
+    let max = IsAsnText-one h.right r.max s.max h.holds.max_text same.max_text in
+    λ i. Range (record { min = min i; max = max i })
 
 -- no text has a value and a fault
 pub block_apart : (text : List ℕ) (b : AsBlock) (e : FromStrError) → IsBlockText text b → HasBlockFault text e → ⊥
@@ -52,10 +54,10 @@ no_dash bs h i small e = omega (arith, (byte_at bs i h small).0, e)
     byte_at (b ∷ bs) (suc i) h small = byte_at bs i h.1 (omega arith)
 
 -- what is printed of a block writes it
-pub IsBlockText-block_text : (b : AsBlock) → (as_bounds b).1 < 2 ^ 32 → IsBlockText (block_text b) b
-IsBlockText-block_text (Id n) small = (no_dash (asn_text n) (asn_text_bytes n small), IsAsnText-asn_text n small)
-IsBlockText-block_text (Range r) small =
-    let low : r.min < 2 ^ 32 = omega (arith, r.in_order, small) in
+pub IsBlockText-block_text : (b : AsBlock) → (as_bounds b).0 ≤ (as_bounds b).1 → (as_bounds b).1 < 2 ^ 32 → IsBlockText (block_text b) b
+IsBlockText-block_text (Id n) ordered small = (no_dash (asn_text n) (asn_text_bytes n small), IsAsnText-asn_text n small)
+IsBlockText-block_text (Range r) ordered small =
+    let low : r.min < 2 ^ 32 = omega arith in
     record {
       left = asn_text r.min;
       right = asn_text r.max;
@@ -63,7 +65,7 @@ IsBlockText-block_text (Range r) small =
       holds = record {
         min_text = IsAsnText-asn_text r.min low;
         max_text = IsAsnText-asn_text r.max small;
-        in_order = r.in_order;
+        in_order = ordered;
       };
     }
 
@@ -75,7 +77,7 @@ reads_block text (Ok b) found = record {
     each_value = λ a h. ap Ok (IsBlockText-one text b a found h);
     each_fault = λ e f. absurd (block_apart text b e found f);
   };
-  reads_back = λ a small is. ap Ok (IsBlockText-one text b a found (subst (λ t. IsBlockText t a) (sym is) (IsBlockText-block_text a small)));
+  reads_back = λ a ordered small is. ap Ok (IsBlockText-one text b a found (subst (λ t. IsBlockText t a) (sym is) (IsBlockText-block_text a ordered small)));
 }
 reads_block text (Err d) found = record {
   exact = record {
@@ -83,5 +85,5 @@ reads_block text (Err d) found = record {
     each_value = λ a h. absurd (block_apart text a d h found);
     each_fault = λ e f. ap Err (same_block_fault text d e found f);
   };
-  reads_back = λ a small is. absurd (block_apart text a d (subst (λ t. IsBlockText t a) (sym is) (IsBlockText-block_text a small)) found);
+  reads_back = λ a ordered small is. absurd (block_apart text a d (subst (λ t. IsBlockText t a) (sym is) (IsBlockText-block_text a ordered small)) found);
 }

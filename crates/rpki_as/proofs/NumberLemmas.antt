@@ -2,7 +2,6 @@
 use Rattle.std.proofs.Common.{◌≡◌, ℕ, zero, suc, ◌+◌, ◌-◌, ◌<◌, ◌≤◌, ◌↔◌, ◌⊎◌, inl, inr, ⊎_elim, List, [], ◌∷◌, ◌++◌, length, get_or, refl, ap, ◌∙◌, arith, Option, Some, None}
 use Rattle.std.specs.List.{All, AllPairs, Contains, flat_map}
 use Rattle.std.specs.Iterator.{YieldsFirst, MakesProgress, item_count}
-use Rattle.std.proofs.Math.Nat.{le_refl}
 use Rattle.std.proofs.lemmas.Bool.{cases_lt}
 use Rattle.std.proofs.lemmas.List.{length-append, get_or_append_left, get_or-append_right}
 use Rattle.std.proofs.lemmas.List.Elements.{All-tail, Contains-get_or, Contains-append_left, Contains-append_right, Contains-append_cases}
@@ -12,7 +11,6 @@ use Rattle.rpki_chain.proofs.Chains.{Covers-nil}
 use Rattle.rpki_chain.proofs.Unique.{Covers-head, Covers-tail, Covers-cons_cases}
 use Rattle.rpki_as.specs.Blocks.{as_bounds}
 use Rattle.rpki_as.specs.declared.block.AsBlock.{AsBlock}
-use Rattle.rpki_as.specs.declared.block.AsBlock.TheVariants.{Id, Range}
 use Rattle.rpki_as.specs.Numbers.{IsListOf, IsSizeOf, numbers_from, numbers_within}
 
 -- how many there are
@@ -143,20 +141,13 @@ size_below limit S (suc k) h below =
     omega arith
 
 -- the numbers of a block are some
-within_some : (x : AsBlock) → 0 < length (numbers_within (as_bounds x))
-within_some x =
-    let ordered : (as_bounds x).0 ≤ (as_bounds x).1 = in_order x in
-    let long = length-numbers_within (as_bounds x) in
-    omega arith
-  where
-    in_order : (x : AsBlock) → (as_bounds x).0 ≤ (as_bounds x).1
-    in_order (Id n) = le_refl n
-    in_order (Range r) = r.in_order
+within_some : (x : AsBlock) → (as_bounds x).0 ≤ (as_bounds x).1 → 0 < length (numbers_within (as_bounds x))
+within_some x ordered = let long = length-numbers_within (as_bounds x) in omega arith
 
 -- a step at the numbers of a block is one at those of it and of later ones
-pub numbers_step : (o : Option ℕ) (old new rest : List ℕ) (x : AsBlock) → YieldsFirst (λ (ns : List ℕ). ns) (numbers_within (as_bounds x)) o new → old ≡ numbers_within (as_bounds x) ++ rest → YieldsFirst (λ (ns : List ℕ). ns) old o (new ++ rest)
-numbers_step None old new rest x none is = absurd (let some = within_some x in let empty = ap length none.0 in omega arith)
-numbers_step (Some n) old new rest x first is = is ∙ ap (λ (ns : List ℕ). ns ++ rest) first
+pub numbers_step : (o : Option ℕ) (old new rest : List ℕ) (x : AsBlock) → (as_bounds x).0 ≤ (as_bounds x).1 → YieldsFirst (λ (ns : List ℕ). ns) (numbers_within (as_bounds x)) o new → old ≡ numbers_within (as_bounds x) ++ rest → YieldsFirst (λ (ns : List ℕ). ns) old o (new ++ rest)
+numbers_step None old new rest x ordered none is = absurd (let some = within_some x ordered in let empty = ap length none.0 in omega arith)
+numbers_step (Some n) old new rest x ordered first is = is ∙ ap (λ (ns : List ℕ). ns ++ rest) first
 
 -- an iterator that yields the first of its numbers gets on
 pub makes_progress : (can : List ℕ → Type 0) → ((ns : List ℕ) → can ns) → (o : Option ℕ) (old new : List ℕ) → YieldsFirst (λ (ns : List ℕ). ns) old o new → MakesProgress can (item_count (λ (ns : List ℕ). ns)) old o new

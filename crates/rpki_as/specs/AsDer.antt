@@ -1,19 +1,19 @@
 -- Blocks of AS numbers and sequences of them in DER (RFC 3779, 3.2.3.4 to 3.2.3.10).
-use Rattle.std.specs.Prelude.{◌⊎◌, ℕ, List, ◌++◌, ◌==◌, if◌then◌else◌}
+use Rattle.std.specs.Prelude.{◌⊎◌, ℕ, ◌≤◌, List, ◌++◌}
+use Rattle.rpki_chain.specs.Ranges.{RangeValue, range_bounds}
 use Rattle.rpki_chain.specs.Runs.{Runs, IsRunsOfBlocks}
 use Rattle.rpki_der.specs.Der.{Both, IsSequence, Refines, sequence_value}
 use Rattle.rpki_base.specs.AsnDer.{IsAsNumber, as_number_octets}
 use Rattle.rpki_base.specs.DerReading.{IsSequenceOf}
 use Rattle.rpki_base.specs.DerWriting.{octets_of_all, sequence_octets}
-use Rattle.rpki_as.specs.Blocks.{range_bounds, as_bounds}
-use Rattle.rpki_as.specs.declared.range.AsRange.{AsRange}
+use Rattle.rpki_as.specs.Blocks.{as_bounds, new_as_block}
 use Rattle.rpki_as.specs.declared.block.AsBlock.{AsBlock}
 use Rattle.rpki_as.specs.declared.block.AsBlock.TheVariants.{Id, Range}
 
--- a SEQUENCE of the least number and the greatest, and nothing else; the least isn't above the greatest, as in each
--- range (3.2.3.8, 3.2.3.9)
-abbrev pub IsAsRange : List ℕ → AsRange → Type 0
-IsAsRange bytes r = (content : List ℕ) × IsSequence bytes content × Both IsAsNumber IsAsNumber content r.min r.max
+-- a SEQUENCE of the least number and the greatest, and nothing else; the least isn't above the greatest (3.2.3.8,
+-- 3.2.3.9)
+abbrev pub IsAsRange : List ℕ → RangeValue → Type 0
+IsAsRange bytes r = (r.min ≤ r.max) × ((content : List ℕ) × IsSequence bytes content × Both IsAsNumber IsAsNumber content r.min r.max)
 
 -- an AS number or a range (3.2.3.5)
 abbrev pub IsAsBlock : List ℕ → AsBlock → Type 0
@@ -46,7 +46,7 @@ as_block_octets (Range r) = as_range_octets (range_bounds r)
 
 -- a run: an AS number where it is one, else the SEQUENCE of its bounds (3.2.3.5)
 abbrev pub as_run_octets : ℕ × ℕ → List ℕ
-as_run_octets b = if b.0 == b.1 then as_number_octets b.0 else as_range_octets b
+as_run_octets run = as_block_octets (new_as_block run)
 
 -- the runs of a set, one after another
 abbrev pub as_set_octets : Runs → List ℕ

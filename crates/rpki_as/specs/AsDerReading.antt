@@ -1,26 +1,20 @@
 -- Reading blocks of AS numbers from left to right, with the first fault that is met.
-use Rattle.std.specs.Prelude.{◌⊎◌, ℕ, ◌<◌, ◌≤◌, List, Result, Ok, Err}
-use Rattle.std.proofs.Common.{inl, inr}
-use Rattle.std.proofs.lemmas.Bool.{cases_lt}
+use Rattle.std.specs.Prelude.{ℕ, nat_lt, if◌then◌else◌, List, Result, Ok, Err}
+use Rattle.rpki_chain.specs.Ranges.{RangeValue}
 use Rattle.rpki_der.specs.declared.error.DerError.{DerError}
 use Rattle.rpki_der.specs.declared.error.DerError.TheVariants.{ReversedRange}
 use Rattle.rpki_der.specs.Der.{Tlv}
 use Rattle.rpki_der.specs.Reading.{◌>>=◌, refined, unsigned, value_at}
 use Rattle.rpki_base.specs.AsnDer.{as_number_at, skip_number}
 use Rattle.rpki_base.specs.DerReading.{by_tag, pair_in, sequence_of}
-use Rattle.rpki_as.specs.declared.range.AsRange.{AsRange}
 use Rattle.rpki_as.specs.declared.block.AsBlock.{AsBlock}
 use Rattle.rpki_as.specs.declared.block.AsBlock.TheVariants.{Id, Range}
 
 -- the range of two numbers in order
-abbrev pub range_by : (min max : ℕ) → (max < min) ⊎ (min ≤ max) → Result AsRange DerError
-range_by min max (inl reversed) = Err ReversedRange
-range_by min max (inr in_order) = Ok (record { min = min; max = max; in_order = in_order })
+unfoldable pub range_of : ℕ → ℕ → Result RangeValue DerError
+range_of min max = if nat_lt max min then Err ReversedRange else Ok (record { min = min; max = max })
 
-unfoldable pub range_of : ℕ → ℕ → Result AsRange DerError
-range_of min max = range_by min max (cases_lt max min)
-
-abbrev pub as_range_in : List ℕ → Result AsRange DerError
+abbrev pub as_range_in : List ℕ → Result RangeValue DerError
 as_range_in = pair_in as_number_at range_of
 
 abbrev pub as_id_in : List ℕ → Result AsBlock DerError

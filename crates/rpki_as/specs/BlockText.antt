@@ -3,8 +3,8 @@ use Rattle.std.specs.Prelude.{◌≡◌, ℕ, ◌≤◌, ◌<◌, ◌^◌, List,
 use Rattle.rpki_base.specs.AsnText.{IsAsnText, asn_text}
 use Rattle.rpki_base.specs.Cuts.{HasNo, Around, dash}
 use Rattle.rpki_base.specs.Reading.{Answers}
-use Rattle.rpki_as.specs.Blocks.{range_bounds, as_bounds}
-use Rattle.rpki_as.specs.declared.range.AsRange.{AsRange}
+use Rattle.rpki_chain.specs.Ranges.{RangeValue, range_bounds}
+use Rattle.rpki_as.specs.Blocks.{as_bounds}
 use Rattle.rpki_as.specs.declared.block.AsBlock.{AsBlock}
 use Rattle.rpki_as.specs.declared.block.AsBlock.TheVariants.{Id, Range}
 use Rattle.rpki_as.specs.declared.error.FromStrError.{FromStrError}
@@ -32,8 +32,8 @@ HasBlockFault text BadRange = Around dash text NoRange
 HasBlockFault text BadBlocks = ⊥
 
 -- what is printed of a range
-abbrev pub range_text : AsRange → List ℕ
-range_text r = asn_text (range_bounds r).0 ++ dash ∷ asn_text (range_bounds r).1
+abbrev pub range_text : RangeValue → List ℕ
+range_text r = asn_text r.min ++ dash ∷ asn_text r.max
 
 -- what is printed of a block
 abbrev pub block_text : AsBlock → List ℕ
@@ -43,4 +43,4 @@ block_text (Range r) = range_text r
 -- The text is read as the block that it writes, or as the fault that it has. What is printed of a block is read as it.
 pub record ReadsBlock (text : List ℕ) (r : Result AsBlock FromStrError) : Type 0 where
   pub exact : Answers (IsBlockText text) (HasBlockFault text) r
-  pub reads_back : (b : AsBlock) → (as_bounds b).1 < 2 ^ 32 → text ≡ block_text b → r ≡ Ok b
+  pub reads_back : (b : AsBlock) → (as_bounds b).0 ≤ (as_bounds b).1 → (as_bounds b).1 < 2 ^ 32 → text ≡ block_text b → r ≡ Ok b

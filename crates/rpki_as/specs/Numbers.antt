@@ -1,8 +1,8 @@
 -- Sets of numbers as lists: all their numbers, ascending, and how many they are.
 use Rattle.std.specs.Prelude.{◌≡◌, ℕ, zero, suc, ◌+◌, ◌-◌, ◌<◌, ◌↔◌, List, [], ◌∷◌, length, AllPairs, Option, Some, None}
 use Rattle.std.specs.List.{Contains, flat_map}
-use Rattle.rpki_as.specs.Blocks.{range_bounds, as_bounds}
-use Rattle.rpki_as.specs.declared.range.AsRange.{AsRange}
+use Rattle.rpki_chain.specs.Ranges.{RangeValue, range_bounds}
+use Rattle.rpki_as.specs.Blocks.{as_bounds}
 use Rattle.rpki_as.specs.declared.block.AsBlock.{AsBlock}
 
 -- all numbers of S, ascending, each once
@@ -26,7 +26,7 @@ unfoldable pub numbers_within : ℕ × ℕ → List ℕ
 numbers_within b = numbers_from (b.1 + 1 - b.0) b.0
 
 -- the numbers of a range, if there is one
-abbrev pub numbers_left : Option AsRange → List ℕ
+abbrev pub numbers_left : Option RangeValue → List ℕ
 numbers_left None = []
 numbers_left (Some r) = numbers_within (range_bounds r)
 

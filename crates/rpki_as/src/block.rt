@@ -16,13 +16,13 @@ pub enum AsBlock {
 impl AsBlock {
     ghost use Rattle.std.specs.Prelude.{◌≡◌, ◌+◌, ◌≤◌, ◌<◌, ◌^◌, ◌↔◌, IsTrue};
     ghost use Rattle.rpki_chain.specs.Sets.{IsWithin};
-    ghost use Rattle.rpki_as.specs.Blocks.{range_bounds, as_bounds, is_new_as_block};
+    ghost use Rattle.rpki_as.specs.Blocks.{as_bounds, new_as_block};
     ghost use Rattle.rpki_as.specs.Numbers.{IsListOf, IsSizeOf, numbers_within};
 
     /// All AS numbers, 0 to 4294967295.
     pub fn all() -> AsBlock
         ensures bounds { as_bounds result ≡ (0, 4294967295) }
-        ensures new_form { IsTrue (is_new_as_block result) }
+        ensures value { result ≡ new_as_block (0, 4294967295) }
     {
         AsBlock::Range(AsRange::all())
     }
@@ -31,7 +31,7 @@ impl AsBlock {
     /// the same.
     pub fn from_pair(pair: (Asn, Asn)) -> AsBlock
         requires { pair.0 ≤ pair.1 }
-        ensures { (r : _) × (result ≡ AsBlock.Range r) × (range_bounds r ≡ pair) }
+        ensures { result ≡ AsBlock.Range (record { min = pair.0; max = pair.1 }) }
     {
         AsBlock::Range(AsRange::new(pair.0, pair.1))
     }
@@ -74,7 +74,7 @@ impl AsBlock {
     pub fn set_min(&mut self, min: Asn)
         requires { min ≤ (as_bounds self.old).1 }
         ensures bounds { as_bounds self.new ≡ (min, (as_bounds self.old).1) }
-        ensures new_form { IsTrue (is_new_as_block self.new) }
+        ensures value { self.new ≡ new_as_block (min, (as_bounds self.old).1) }
     {
         *self = <AsBlock as Block>::new(min, AsBlock::max(self));
     }
@@ -84,7 +84,7 @@ impl AsBlock {
     pub fn set_max(&mut self, max: Asn)
         requires { (as_bounds self.old).0 ≤ max }
         ensures bounds { as_bounds self.new ≡ ((as_bounds self.old).0, max) }
-        ensures new_form { IsTrue (is_new_as_block self.new) }
+        ensures value { self.new ≡ new_as_block ((as_bounds self.old).0, max) }
     {
         *self = <AsBlock as Block>::new(AsBlock::min(self), max);
     }
@@ -100,6 +100,7 @@ impl AsBlock {
     pub fn iter(self) -> AsBlockIter
         ensures numbers { IsListOf (IsWithin (as_bounds self)) result }
         ensures list { result ≡ numbers_within (as_bounds self) }
+        ensures in_order { (as_bounds self).0 ≤ (as_bounds self).1 }
     {
         AsBlockIter::over(AsRange::new(AsBlock::min(&self), AsBlock::max(&self)))
     }
@@ -108,8 +109,8 @@ impl AsBlock {
 /// As a block, it is an Id where its bounds are one number, and else a Range.
 impl Block for AsBlock {
     ghost use Rattle.std.specs.Prelude.{refl};
-    ghost use Rattle.rpki_as.specs.Blocks.{as_bounds, is_new_as_block};
-    ghost use Rattle.rpki_as.specs.BlockForms.{AsBlock-one_new_form};
+    ghost use Rattle.rpki_as.specs.Blocks.{as_bounds, new_as_block};
+    ghost use Rattle.rpki_as.specs.BlockForms.{new_block_bounds};
 
     type Item = Asn;
 
@@ -123,7 +124,7 @@ impl Block for AsBlock {
 
     ghost bounds = { as_bounds };
 
-    ghost is_new = { is_new_as_block };
+    ghost form = { new_as_block };
 
     ghost in_order = { λ x y. refl };
 
@@ -131,7 +132,7 @@ impl Block for AsBlock {
 
     ghost one_item = { λ x y same. same };
 
-    ghost one_new_form = { AsBlock-one_new_form };
+    ghost form_bounds = { λ b ordered to. new_block_bounds b };
 
     fn new(min: Asn, max: Asn) -> AsBlock {
         if min == max {

@@ -1,11 +1,11 @@
 //! Sets of AS numbers.
-ghost use Rattle.std.specs.Prelude.{◌≡◌, ℕ, ◌↔◌, ◌⊎◌, [], ◌∷◌, All, IsTrue, IfOk, OnOk, OnErr, Some, map, MatchResult};
+ghost use Rattle.std.specs.Prelude.{◌≡◌, ℕ, ◌↔◌, ◌⊎◌, [], ◌∷◌, IsTrue, IfOk, OnOk, OnErr, Some, map, MatchResult};
 ghost use Rattle.std.specs.Slice.Iter.{iter_rest};
 ghost use Rattle.rpki_base.specs.Memory.{IsMemory};
 ghost use Rattle.rpki_base.specs.Reading.{AnswersOrMemory};
 ghost use Rattle.rpki_chain.specs.Equality.{same_runs, runs_per, runs_equiv};
 ghost use Rattle.rpki_chain.specs.Runs.{Runs, Holds, IsRunsOf, IsRunsOfBlocks};
-ghost use Rattle.rpki_as.specs.Blocks.{as_bounds, is_new_as_block, IsAsSet};
+ghost use Rattle.rpki_as.specs.Blocks.{as_bounds, new_as_block, IsAsSet};
 ghost use Rattle.rpki_as.specs.ListText.{IsAsListText, HasAsListFault, as_list_text};
 ghost use Rattle.rpki_as.specs.Numbers.{IsListOf, IsSizeOf};
 
@@ -106,7 +106,7 @@ impl<A: Allocator> AsBlocks<A> {
     /// The blocks of the set one by one, ascending: its runs, each an Id where it is one number, and else a Range.
     pub fn iter(&self) -> Iter<'_, AsBlock>
         ensures blocks { map as_bounds (iter_rest result) ≡ self.now }
-        ensures new_form { All (λ block. IsTrue (is_new_as_block block)) (iter_rest result) }
+        ensures made { iter_rest result ≡ map new_as_block self.now }
         ensures set { IsAsSet self.now }
     {
         self.set.iter()

@@ -4,55 +4,68 @@ ghost use Rattle.std.specs.Prelude.{◌≡◌, ◌≤◌};
 use rpki_base::asn::Asn;
 use rpki_chain::block::Block;
 use std::fmt;
+use std::marker::Model;
 
 /// The AS numbers from a least one to a greatest one, which may be the same (RFC 3779, 3.2.3.8).
 #[derive(Clone, Copy, Debug, PartialEq, Eq)]
 pub struct AsRange {
     min: Asn,
     max: Asn,
-    ghost in_order: { min ≤ max },
+}
+
+impl Model for AsRange {
+    ghost use Rattle.std.specs.Prelude.{◌≤◌};
+    ghost use Rattle.rpki_chain.specs.Ranges.{RangeValue};
+
+    ghost Value = { RangeValue };
+
+    ghost view = { λ r. record { min = r.min; max = r.max } };
+
+    ghost invariant = { λ r. r.min ≤ r.max };
+
+    ghost inverse = { λ r. record { min = r.min; max = r.max } };
 }
 
 impl AsRange {
     ghost use Rattle.std.specs.Prelude.{◌+◌, ◌<◌, ◌^◌};
     ghost use Rattle.rpki_chain.specs.Sets.{IsWithin};
-    ghost use Rattle.rpki_as.specs.Blocks.{range_bounds};
+    ghost use Rattle.rpki_chain.specs.Ranges.{range_bounds};
     ghost use Rattle.rpki_as.specs.Numbers.{IsSizeOf};
 
     /// The range from the least number to the greatest, which isn't below it.
     pub fn new(min: Asn, max: Asn) -> AsRange
         requires { min ≤ max }
-        ensures { range_bounds result ≡ (min, max) }
+        ensures { result ≡ record { min = min; max = max } }
     {
         AsRange { min, max }
     }
 
     /// All AS numbers, 0 to 4294967295.
     pub fn all() -> AsRange
-        ensures { range_bounds result ≡ (0, 4294967295) }
+        ensures { result ≡ record { min = 0; max = 4294967295 } }
     {
         AsRange::new(Asn::MIN, Asn::MAX)
     }
 
     /// The least number.
     pub fn min(self) -> Asn
-        ensures value { result ≡ (range_bounds self).0 }
-        ensures in_order { (range_bounds self).0 ≤ (range_bounds self).1 }
+        ensures value { result ≡ self.min }
+        ensures in_order { self.min ≤ self.max }
     {
         self.min
     }
 
     /// The greatest number.
     pub fn max(self) -> Asn
-        ensures value { result ≡ (range_bounds self).1 }
-        ensures in_order { (range_bounds self).0 ≤ (range_bounds self).1 }
+        ensures value { result ≡ self.max }
+        ensures in_order { self.min ≤ self.max }
     {
         self.max
     }
 
     /// How many numbers the range has, which is 1 to 2^32.
     pub fn asn_count(self) -> u64
-        ensures from_bounds { result + (range_bounds self).0 ≡ (range_bounds self).1 + 1 }
+        ensures from_bounds { result + self.min ≡ self.max + 1 }
         ensures size { IsSizeOf (IsWithin (range_bounds self)) result }
     {
         u64::from(self.max.into_u32()) - u64::from(self.min.into_u32()) + 1
@@ -61,9 +74,8 @@ impl AsRange {
 
 /// As a block, it has one form.
 impl Block for AsRange {
-    ghost use Rattle.std.specs.Prelude.{refl, true};
-    ghost use Rattle.rpki_as.specs.Blocks.{range_bounds};
-    ghost use Rattle.rpki_as.specs.BlockForms.{AsRange-one_bounds};
+    ghost use Rattle.std.specs.Prelude.{refl};
+    ghost use Rattle.rpki_chain.specs.Ranges.{range_bounds, new_range};
 
     type Item = Asn;
 
@@ -77,7 +89,7 @@ impl Block for AsRange {
 
     ghost bounds = { range_bounds };
 
-    ghost is_new = { λ _. true };
+    ghost form = { new_range };
 
     ghost in_order = { λ x y. refl };
 
@@ -85,7 +97,7 @@ impl Block for AsRange {
 
     ghost one_item = { λ x y same. same };
 
-    ghost one_new_form = { λ x y new also same. AsRange-one_bounds x y same };
+    ghost form_bounds = { λ b ordered to. refl };
 
     fn new(min: Asn, max: Asn) -> AsRange {
         AsRange { min, max }

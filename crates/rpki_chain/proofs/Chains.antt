@@ -1,11 +1,11 @@
 -- Lists of blocks that ascend and neither overlap nor touch, and what they cover.
-use Rattle.std.proofs.Common.{◌≡◌, ℕ, ◌+◌, ◌-◌, ◌<◌, ◌≤◌, ◌↔◌, ◌⊎◌, inl, inr, ⊎_elim, Bool, List, [], ◌∷◌, ◌++◌, length, get_or, set, IsTrue, refl, sym, ap, ◌∙◌, subst, arith, zero, suc}
+use Rattle.std.proofs.Common.{◌≡◌, ℕ, ◌+◌, ◌-◌, ◌<◌, ◌≤◌, ◌↔◌, ◌⊎◌, inl, inr, ⊎_elim, List, [], ◌∷◌, ◌++◌, length, get_or, set, refl, sym, ap, ◌∙◌, subst, arith, zero, suc}
 use Rattle.std.proofs.Math.Nat.{le_refl}
 use Rattle.std.proofs.lemmas.Bool.{cases_lt, cases_eq}
 use Rattle.std.proofs.lemmas.List.{get_or_append_left, get_or_push, length_push, length-set, get_or-set_same, get_or-set_other, get_or_default}
 use Rattle.std.proofs.lemmas.List.Elements.{All-push}
 use Rattle.std.proofs.lemmas.List.Quantifiers.{Any-push, all_pairs_push, any-set}
-use Rattle.rpki_chain.specs.Sets.{IsWithin, Covers, IsRun, IsChain, IsChainOf}
+use Rattle.rpki_chain.specs.Sets.{IsNew, IsWithin, Covers, IsRun, IsChain, IsChainOf}
 
 -- the element at an index
 pub element_at : {B : Type 0} (xs : List B) (i : ℕ) → i < length xs → (x : B) × (x ≡ get_or xs i x)
@@ -64,13 +64,13 @@ module _ {B : Type 0} (f : B → ℕ × ℕ) where
             (λ w. any-set P xs at y lt (omega arith, omega arith)),
       )
 
-  module _ (is_new : B → Bool) where
+  module _ (form : ℕ × ℕ → B) where
     -- no blocks are a chain
-    pub IsChain-nil : IsChain f is_new []
+    pub IsChain-nil : IsChain f form []
     IsChain-nil = record { ordered = λ k d lt. absurd (omega arith); apart = λ i j d lt below. absurd (omega arith); new_form = λ k d lt. absurd (omega arith) }
 
     -- a chain with one more block behind it that doesn't touch the last
-    pub IsChain-push : (xs : List B) (y : B) → IsChain f is_new xs → (f y).0 ≤ (f y).1 → IsTrue (is_new y) → ((at : ℕ) (d : B) → at + 1 ≡ length xs → (f (get_or xs at d)).1 + 1 < (f y).0) → IsChain f is_new (xs ++ y ∷ [])
+    pub IsChain-push : (xs : List B) (y : B) → IsChain f form xs → (f y).0 ≤ (f y).1 → IsNew f form y → ((at : ℕ) (d : B) → at + 1 ≡ length xs → (f (get_or xs at d)).1 + 1 < (f y).0) → IsChain f form (xs ++ y ∷ [])
     IsChain-push xs y h o new last = record {
       ordered = All-push (λ x. (f x).0 ≤ (f x).1) xs y h.ordered o;
       apart = all_pairs_push (λ x z. (f x).1 + 1 < (f z).0) xs y h.apart (λ k d lt. ⊎_elim
@@ -82,18 +82,18 @@ module _ {B : Type 0} (f : B → ℕ × ℕ) where
           omega arith)
           (λ (here : length xs ≤ k + 1). last k d (omega arith))
           (cases_lt (k + 1) (length xs)));
-      new_form = All-push (λ x. IsTrue (is_new x)) xs y h.new_form new;
+      new_form = All-push (λ x. IsNew f form x) xs y h.new_form new;
     }
 
     -- a later block begins no earlier
-    pub ascends : (xs : List B) → IsChain f is_new xs → (i k : ℕ) (d : B) → i ≤ k → k < length xs → (f (get_or xs i d)).0 ≤ (f (get_or xs k d)).0
+    pub ascends : (xs : List B) → IsChain f form xs → (i k : ℕ) (d : B) → i ≤ k → k < length xs → (f (get_or xs i d)).0 ≤ (f (get_or xs k d)).0
     ascends xs h i k d le lt = ⊎_elim
         (λ (before : i < k). let a = h.apart i k d before lt in let o = h.ordered i d (omega arith) in omega arith)
         (λ (not : k ≤ i). let same : i ≡ k = omega arith in let P : ℕ → Type 0 = λ j. (f (get_or xs i d)).0 ≤ (f (get_or xs j d)).0 in subst P same (omega arith))
         (cases_lt i k)
 
     -- the set that a chain covers has the chain's blocks for its runs
-    pub IsChainOf-itself : (xs : List B) → IsChain f is_new xs → IsChainOf f is_new (Covers f xs) xs
+    pub IsChainOf-itself : (xs : List B) → IsChain f form xs → IsChainOf f form (Covers f xs) xs
     IsChainOf-itself xs h =
         let apart = λ (i j : ℕ) (d : B) (below : i < j) (lt : j < length xs). h.apart i j d below lt in
         let alone : (k n : ℕ) (d : B) → k < length xs → (f (get_or xs k d)).0 ≤ n + 1 → n ≤ (f (get_or xs k d)).1 + 1 → Covers f xs n → IsWithin (f (get_or xs k d)) n =
@@ -144,7 +144,7 @@ module _ {B : Type 0} (f : B → ℕ × ℕ) where
         }
 
     -- the same for any set that has the chain's numbers
-    pub IsChainOf-from : (xs : List B) (S : ℕ → Type 0) → IsChain f is_new xs → ((n : ℕ) → Covers f xs n ↔ S n) → IsChainOf f is_new S xs
+    pub IsChainOf-from : (xs : List B) (S : ℕ → Type 0) → IsChain f form xs → ((n : ℕ) → Covers f xs n ↔ S n) → IsChainOf f form S xs
     IsChainOf-from xs S h same =
         let own = IsChainOf-itself xs h in
         record {
@@ -166,7 +166,7 @@ module _ {B : Type 0} (f : B → ℕ × ℕ) where
         }
 
     -- the chain of a set is a chain: two runs of one set neither overlap nor touch
-    pub IsChain-from : (xs : List B) (S : ℕ → Type 0) → IsChainOf f is_new S xs → IsChain f is_new xs
+    pub IsChain-from : (xs : List B) (S : ℕ → Type 0) → IsChainOf f form S xs → IsChain f form xs
     IsChain-from xs S h = record {
       ordered = λ k d lt. (h.runs k d lt).ordered;
       apart = λ i j d below lt.

@@ -1,21 +1,21 @@
 -- A walk over a chain and over another whose numbers are taken out of it.
-use Rattle.std.proofs.Common.{◌≡◌, ℕ, ◌+◌, ◌<◌, ◌≤◌, ◌↔◌, ◌⊎◌, inl, inr, ⊎_elim, Bool, List, [], ◌∷◌, ◌++◌, length, get_or, IsTrue, refl, sym, ap, ◌∙◌, subst, arith, Option, Some, None, MatchOption}
+use Rattle.std.proofs.Common.{◌≡◌, ℕ, ◌+◌, ◌<◌, ◌≤◌, ◌↔◌, ◌⊎◌, inl, inr, ⊎_elim, List, [], ◌∷◌, ◌++◌, length, get_or, refl, sym, ap, ◌∙◌, subst, arith, Option, Some, None, MatchOption}
 use Rattle.std.proofs.lemmas.Bool.{cases_lt}
-use Rattle.rpki_chain.specs.Sets.{IsWithin, Covers, IsChain}
+use Rattle.rpki_chain.specs.Sets.{IsNew, IsWithin, Covers, IsChain}
 use Rattle.rpki_chain.proofs.Chains.{Covers-push_as, Covers-at, IsChain-push, element_at, ascends}
 use Rattle.rpki_chain.specs.Overhang.{Before}
 use Rattle.rpki_chain.proofs.Sides.{IsAt}
 
-module _ {B : Type 0} (f : B → ℕ × ℕ) (is_new : B → Bool) where
+module _ {B : Type 0} (f : B → ℕ × ℕ) (form : ℕ × ℕ → B) where
   -- the block of `xs` at i, from some number on
   abbrev pub IsRest : List B → ℕ → Option (ℕ × ℕ) → Type 0
   IsRest xs i rest = MatchOption rest (i ≡ length xs) (λ b. (i < length xs) × ((d : B) → (f (get_or xs i d)).1 ≡ b.1) × ((d : B) → (f (get_or xs i d)).0 ≤ b.0) × (b.0 ≤ b.1))
 
   -- the pieces `out` are the numbers of `xs` before the rest that aren't in `ys`
   pub record Walk (xs ys : List B) (i : ℕ) (rest : Option (ℕ × ℕ)) (j : ℕ) (cut : Option (ℕ × ℕ)) (out : List B) : Type 0 where
-    pub own_chain : IsChain f is_new xs
-    pub other_chain : IsChain f is_new ys
-    pub chain : IsChain f is_new out
+    pub own_chain : IsChain f form xs
+    pub other_chain : IsChain f form ys
+    pub chain : IsChain f form out
     pub rest_is : IsRest xs i rest
     pub cut_is : IsAt f ys j cut
     pub passed : (b : ℕ × ℕ) → rest ≡ Some b → (k : ℕ) (d : B) → k < j → k < length ys → (f (get_or ys k d)).1 < b.0
@@ -37,7 +37,7 @@ module _ {B : Type 0} (f : B → ℕ × ℕ) (is_new : B → Bool) where
       let same_low = ap (λ (z : B). (f z).0) e in
       ⊎_elim
       (λ (early : k < j). let p = w.passed b refl k x early lt in omega (arith, v.1))
-      (λ (late : j ≤ k). let up = ascends f is_new ys w.other_chain j k x late lt in omega (arith, v.0))
+      (λ (late : j ≤ k). let up = ascends f form ys w.other_chain j k x late lt in omega (arith, v.0))
       (cases_lt k j)
 
   -- the numbers of the rest are numbers of the chain
@@ -58,9 +58,9 @@ module _ {B : Type 0} (f : B → ℕ × ℕ) (is_new : B → Bool) where
       Covers-at f ys j n found.0 at.0 (subst (λ (p : ℕ × ℕ). IsWithin p n) (sym here) v)
 
   -- a piece that begins where the rest does stands apart from those before it
-  pub piece : (xs ys out : List B) (i j : ℕ) (b : ℕ × ℕ) (cut : Option (ℕ × ℕ)) → Walk xs ys i (Some b) j cut out → (y : B) → (f y).0 ≡ b.0 → (f y).0 ≤ (f y).1 → IsTrue (is_new y) → ((c : ℕ × ℕ) → cut ≡ Some c → b.0 < c.0) → IsChain f is_new (out ++ y ∷ [])
+  pub piece : (xs ys out : List B) (i j : ℕ) (b : ℕ × ℕ) (cut : Option (ℕ × ℕ)) → Walk xs ys i (Some b) j cut out → (y : B) → (f y).0 ≡ b.0 → (f y).0 ≤ (f y).1 → IsNew f form y → ((c : ℕ × ℕ) → cut ≡ Some c → b.0 < c.0) → IsChain f form (out ++ y ∷ [])
   piece xs ys out i j b cut w y begins ordered new before =
-      IsChain-push f is_new out y w.chain ordered new (λ at d end.
+      IsChain-push f form out y w.chain ordered new (λ at d end.
       let lt : at < length out = omega arith in
       let o = w.chain.ordered at d lt in
       let n = (f (get_or out at d)).1 in
@@ -73,7 +73,7 @@ module _ {B : Type 0} (f : B → ℕ × ℕ) (is_new : B → Bool) where
       (cases_lt (n + 1) b.0))
 
   -- the rest is decided, and the next block of the chain is at hand
-  pub Walk-next : (xs ys out new : List B) (i j : ℕ) (b : ℕ × ℕ) (cut next : Option (ℕ × ℕ)) → Walk xs ys i (Some b) j cut out → IsAt f xs (i + 1) next → IsChain f is_new new → ((n : ℕ) → Covers f new n ↔ (Covers f xs n × (Covers f ys n → ⊥) × (n ≤ b.1))) → Walk xs ys (i + 1) next j cut new
+  pub Walk-next : (xs ys out new : List B) (i j : ℕ) (b : ℕ × ℕ) (cut next : Option (ℕ × ℕ)) → Walk xs ys i (Some b) j cut out → IsAt f xs (i + 1) next → IsChain f form new → ((n : ℕ) → Covers f new n ↔ (Covers f xs n × (Covers f ys n → ⊥) × (n ≤ b.1))) → Walk xs ys (i + 1) next j cut new
   Walk-next xs ys out new i j b cut None w head chain covers =
       let rest : IsRest xs i (Some b) = w.rest_is in
       let end : i + 1 ≡ length xs = head in
@@ -126,7 +126,7 @@ module _ {B : Type 0} (f : B → ℕ × ℕ) (is_new : B → Bool) where
       (λ (before : k < i). let a = w.own_chain.apart k i x before rest.0 in let oi = w.own_chain.ordered i x rest.0 in omega (arith, v.1))
       (λ (late : i ≤ k). let same : k ≡ i = omega arith in let P : ℕ → Type 0 = λ m. (f (get_or xs m x)).1 ≡ b.1 in let h : (f (get_or xs k x)).1 ≡ b.1 = subst P (sym same) high in omega (arith, v.1))
       (cases_lt k i))
-      (λ (late : i + 1 ≤ k). let up = ascends f is_new xs w.own_chain (i + 1) k x late lt in absurd (omega (arith, v.0)))
+      (λ (late : i + 1 ≤ k). let up = ascends f form xs w.own_chain (i + 1) k x late lt in absurd (omega (arith, v.0)))
       (cases_lt k (i + 1))) in
       let same_number : (a b : ℕ × ℕ) → Some a ≡ Some b → a ≡ b = λ a b e. cc in
       record {
@@ -141,7 +141,7 @@ module _ {B : Type 0} (f : B → ℕ × ℕ) (is_new : B → Bool) where
       }
 
   -- the whole rest is kept
-  pub Walk-keep : (xs ys out : List B) (i j : ℕ) (b : ℕ × ℕ) (cut next : Option (ℕ × ℕ)) (y : B) → Walk xs ys i (Some b) j cut out → f y ≡ b → IsTrue (is_new y) → ((c : ℕ × ℕ) → cut ≡ Some c → b.1 < c.0) → IsAt f xs (i + 1) next → Walk xs ys (i + 1) next j cut (out ++ y ∷ [])
+  pub Walk-keep : (xs ys out : List B) (i j : ℕ) (b : ℕ × ℕ) (cut next : Option (ℕ × ℕ)) (y : B) → Walk xs ys i (Some b) j cut out → f y ≡ b → IsNew f form y → ((c : ℕ × ℕ) → cut ≡ Some c → b.1 < c.0) → IsAt f xs (i + 1) next → Walk xs ys (i + 1) next j cut (out ++ y ∷ [])
   Walk-keep xs ys out i j b cut next y w is new before head =
       let rest : IsRest xs i (Some b) = w.rest_is in
       let ordered = rest.3 in
@@ -222,7 +222,7 @@ module _ {B : Type 0} (f : B → ℕ × ℕ) (is_new : B → Bool) where
       }
 
   -- the rest begins before the cut and reaches into it
-  pub Walk-split : (xs ys out : List B) (i j : ℕ) (b c r : ℕ × ℕ) (y : B) → Walk xs ys i (Some b) j (Some c) out → b.0 < c.0 → c.0 ≤ b.1 → (f y).0 ≡ b.0 → (f y).1 + 1 ≡ c.0 → IsTrue (is_new y) → r.0 ≡ c.0 → r.1 ≡ b.1 → Walk xs ys i (Some r) j (Some c) (out ++ y ∷ [])
+  pub Walk-split : (xs ys out : List B) (i j : ℕ) (b c r : ℕ × ℕ) (y : B) → Walk xs ys i (Some b) j (Some c) out → b.0 < c.0 → c.0 ≤ b.1 → (f y).0 ≡ b.0 → (f y).1 + 1 ≡ c.0 → IsNew f form y → r.0 ≡ c.0 → r.1 ≡ b.1 → Walk xs ys i (Some r) j (Some c) (out ++ y ∷ [])
   Walk-split xs ys out i j b c r y w low inner from to new begins ends =
       let rest : IsRest xs i (Some b) = w.rest_is in
       let at : IsAt f ys j (Some c) = w.cut_is in

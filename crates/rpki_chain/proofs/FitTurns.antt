@@ -1,5 +1,5 @@
 -- The turns of the walk that finds an overhang, as the code takes them.
-use Rattle.std.proofs.Common.{◌≡◌, ℕ, ◌+◌, ◌<◌, Bool, List, length, sym, ap, subst, Option, Some, None}
+use Rattle.std.proofs.Common.{◌≡◌, ℕ, ◌+◌, ◌<◌, List, length, sym, ap, subst, Option, Some, None}
 use Rattle.rpki_chain.specs.Sets.{HoldsBlock, numbers}
 use Rattle.rpki_chain.specs.Fit.{IsFit}
 use Rattle.rpki_chain.specs.declared.overhang.Fit.TheVariants as fit
@@ -7,25 +7,25 @@ use Rattle.rpki_chain.specs.Overhang.{IsOverhang}
 use Rattle.rpki_chain.proofs.Sides.{IsAt, bounds_of}
 use Rattle.rpki_chain.proofs.Insides.{Inside, Inside-skip, Inside-fit, Inside-none_left, Inside-beyond}
 
-module _ {B I : Type 0} (f : B → ℕ × ℕ) (is_new : B → Bool) (number : I → ℕ) where
+module _ {B I : Type 0} (f : B → ℕ × ℕ) (form : ℕ × ℕ → B) (number : I → ℕ) where
   -- the other's next block is looked at
-  pub fit-skip : (xs ys : List B) (i j : ℕ) (own other next : Option (I × I)) → Inside f is_new xs ys i (bounds_of number own) j (bounds_of number other) → IsFit number own other fit.Skip → (j < length ys) × (IsAt f ys (j + 1) (bounds_of number next) → Inside f is_new xs ys i (bounds_of number own) (j + 1) (bounds_of number next))
+  pub fit-skip : (xs ys : List B) (i j : ℕ) (own other next : Option (I × I)) → Inside f form xs ys i (bounds_of number own) j (bounds_of number other) → IsFit number own other fit.Skip → (j < length ys) × (IsAt f ys (j + 1) (bounds_of number next) → Inside f form xs ys i (bounds_of number own) (j + 1) (bounds_of number next))
   fit-skip xs ys i j None other next w h = absurd h
   fit-skip xs ys i j (Some b) None next w h = absurd h
   fit-skip xs ys i j (Some b) (Some c) next w h =
       let at : IsAt f ys j (Some (numbers number c)) = w.other_at in
-      (at.0, λ after. Inside-skip f is_new xs ys i j (numbers number b) (numbers number c) (bounds_of number next) w h after)
+      (at.0, λ after. Inside-skip f form xs ys i j (numbers number b) (numbers number c) (bounds_of number next) w h after)
 
   -- the next block is looked at
-  pub fit-inside : (xs ys : List B) (i j : ℕ) (own other next : Option (I × I)) → Inside f is_new xs ys i (bounds_of number own) j (bounds_of number other) → IsFit number own other fit.Inside → (i < length xs) × (IsAt f xs (i + 1) (bounds_of number next) → Inside f is_new xs ys (i + 1) (bounds_of number next) j (bounds_of number other))
+  pub fit-inside : (xs ys : List B) (i j : ℕ) (own other next : Option (I × I)) → Inside f form xs ys i (bounds_of number own) j (bounds_of number other) → IsFit number own other fit.Inside → (i < length xs) × (IsAt f xs (i + 1) (bounds_of number next) → Inside f form xs ys (i + 1) (bounds_of number next) j (bounds_of number other))
   fit-inside xs ys i j None other next w h = absurd h
   fit-inside xs ys i j (Some b) None next w h = absurd h
   fit-inside xs ys i j (Some b) (Some c) next w h =
       let at : IsAt f xs i (Some (numbers number b)) = w.own_at in
-      (at.0, λ after. Inside-fit f is_new xs ys i j (numbers number b) (numbers number c) (bounds_of number next) w h.0 h.1 after)
+      (at.0, λ after. Inside-fit f form xs ys i j (numbers number b) (numbers number c) (bounds_of number next) w h.0 h.1 after)
 
   -- the block at hand is an overhang
-  pub fit-beyond : (last : ℕ) (xs ys : List B) (i j : ℕ) (own other : Option (I × I)) (min max : I) → Inside f is_new xs ys i (bounds_of number own) j (bounds_of number other) → HoldsBlock f number last xs i own → HoldsBlock f number last ys j other → IsFit number own other (fit.Beyond min max) → IsOverhang f number last xs ys (record { own_at = i; min = min; max = max; other_at = j; other = other })
+  pub fit-beyond : (last : ℕ) (xs ys : List B) (i j : ℕ) (own other : Option (I × I)) (min max : I) → Inside f form xs ys i (bounds_of number own) j (bounds_of number other) → HoldsBlock f number last xs i own → HoldsBlock f number last ys j other → IsFit number own other (fit.Beyond min max) → IsOverhang f number last xs ys (record { own_at = i; min = min; max = max; other_at = j; other = other })
   fit-beyond last xs ys i j None other min max w hx hy h = absurd h
   fit-beyond last xs ys i j (Some b) None min max w hx hy h =
       let is : Some b ≡ Some (min, max) = (λ k. Some (sym h.0 k, sym h.1 k)) in
@@ -35,7 +35,7 @@ module _ {B I : Type 0} (f : B → ℕ × ℕ) (is_new : B → Bool) (number : I
         other_block = hy;
         inside = λ n o less. w.inside n o (rw (← same) less);
         passed = λ n o before. rw same (w.passed n o tt);
-        outside = Inside-none_left f is_new xs ys i j (numbers number b) w;
+        outside = Inside-none_left f form xs ys i j (numbers number b) w;
       }
   fit-beyond last xs ys i j (Some b) (Some c) min max w hx hy h =
       let is : Some b ≡ Some (min, max) = (λ k. Some (sym h.0 k, sym h.1 k)) in
@@ -45,5 +45,5 @@ module _ {B I : Type 0} (f : B → ℕ × ℕ) (is_new : B → Bool) (number : I
         other_block = hy;
         inside = λ n o less. w.inside n o (rw (← same) less);
         passed = λ n o before. rw same (w.passed n o before);
-        outside = Inside-beyond f is_new xs ys i j (numbers number b) (numbers number c) w h.2 h.3;
+        outside = Inside-beyond f form xs ys i j (numbers number b) (numbers number c) w h.2 h.3;
       }

@@ -1,5 +1,5 @@
 -- A walk over two chains that finds the first block of the one that doesn't lie in the other.
-use Rattle.std.proofs.Common.{ℕ, ◌+◌, ◌<◌, ◌≤◌, ◌⊎◌, ⊎_elim, Bool, List, sym, subst, arith, Option, Some, None}
+use Rattle.std.proofs.Common.{ℕ, ◌+◌, ◌<◌, ◌≤◌, ◌⊎◌, ⊎_elim, List, sym, subst, arith, Option, Some, None}
 use Rattle.std.proofs.lemmas.Bool.{cases_lt}
 use Rattle.rpki_chain.specs.Sets.{Covers, IsChain}
 use Rattle.rpki_chain.proofs.Chains.{IsChainOf-itself}
@@ -7,25 +7,25 @@ use Rattle.rpki_chain.proofs.Chains.{element_at}
 use Rattle.rpki_chain.specs.Overhang.{Before}
 use Rattle.rpki_chain.proofs.Sides.{IsAt, ordered_at, covers_at, high_at, up_to, before_next, none_before_first}
 
-module _ {B : Type 0} (f : B → ℕ × ℕ) (is_new : B → Bool) where
+module _ {B : Type 0} (f : B → ℕ × ℕ) (form : ℕ × ℕ → B) where
   -- what comes before the block of `xs` at hand lies in `ys`
   pub record Inside (xs ys : List B) (i : ℕ) (b : Option (ℕ × ℕ)) (j : ℕ) (c : Option (ℕ × ℕ)) : Type 0 where
-    pub own_chain : IsChain f is_new xs
-    pub other_chain : IsChain f is_new ys
+    pub own_chain : IsChain f form xs
+    pub other_chain : IsChain f form ys
     pub own_at : IsAt f xs i b
     pub other_at : IsAt f ys j c
     pub inside : (n : ℕ) → Covers f xs n → Before b n → Covers f ys n
     pub passed : (n : ℕ) → Covers f ys n → Before c n → Before b n
 
   -- nothing was passed yet
-  pub Inside-start : (xs ys : List B) (b c : Option (ℕ × ℕ)) → IsChain f is_new xs → IsChain f is_new ys → IsAt f xs 0 b → IsAt f ys 0 c → Inside xs ys 0 b 0 c
+  pub Inside-start : (xs ys : List B) (b c : Option (ℕ × ℕ)) → IsChain f form xs → IsChain f form ys → IsAt f xs 0 b → IsAt f ys 0 c → Inside xs ys 0 b 0 c
   Inside-start xs ys b c hx hy own other = record {
     own_chain = hx;
     other_chain = hy;
     own_at = own;
     other_at = other;
-    inside = λ n o before. absurd (none_before_first f is_new xs b hx own n o before);
-    passed = λ n o before. absurd (none_before_first f is_new ys c hy other n o before);
+    inside = λ n o before. absurd (none_before_first f form xs b hx own n o before);
+    passed = λ n o before. absurd (none_before_first f form ys c hy other n o before);
   }
 
   -- the other's block ends before
@@ -36,7 +36,7 @@ module _ {B : Type 0} (f : B → ℕ × ℕ) (is_new : B → Bool) where
     own_at = w.own_at;
     other_at = after;
     inside = w.inside;
-    passed = λ n o before. (let le = up_to f is_new ys j c w.other_chain w.other_at next after n o before in omega arith);
+    passed = λ n o before. (let le = up_to f form ys j c w.other_chain w.other_at next after n o before in omega arith);
   }
 
   -- the block lies in the other's
@@ -47,35 +47,35 @@ module _ {B : Type 0} (f : B → ℕ × ℕ) (is_new : B → Bool) where
     own_at = after;
     other_at = w.other_at;
     inside = λ n o before. (
-        let le = up_to f is_new xs i b w.own_chain w.own_at next after n o before in
+        let le = up_to f form xs i b w.own_chain w.own_at next after n o before in
         ⊎_elim
         (λ (early : n < b.0). w.inside n o early)
-        (λ (from : b.0 ≤ n). covers_at f is_new ys j c w.other_chain w.other_at n (omega arith) (omega arith))
+        (λ (from : b.0 ≤ n). covers_at f form ys j c w.other_chain w.other_at n (omega arith) (omega arith))
         (cases_lt n b.0));
     passed = λ n o before. (
         let less : n < b.0 = w.passed n o before in
-        let ordered = ordered_at f is_new xs i b w.own_chain w.own_at in
-        before_next f is_new xs i b w.own_chain w.own_at next after n (omega arith));
+        let ordered = ordered_at f form xs i b w.own_chain w.own_at in
+        before_next f form xs i b w.own_chain w.own_at next after n (omega arith));
   }
 
   -- the block at hand doesn't lie in the other chain
   pub Inside-none_left : (xs ys : List B) (i j : ℕ) (b : ℕ × ℕ) → Inside xs ys i (Some b) j None → ((n : ℕ) → Covers f xs n → Covers f ys n) → ⊥
   Inside-none_left xs ys i j b w all =
-      let ordered = ordered_at f is_new xs i b w.own_chain w.own_at in
-      let less : b.0 < b.0 = w.passed b.0 (all b.0 (covers_at f is_new xs i b w.own_chain w.own_at b.0 (omega arith) ordered)) tt in
+      let ordered = ordered_at f form xs i b w.own_chain w.own_at in
+      let less : b.0 < b.0 = w.passed b.0 (all b.0 (covers_at f form xs i b w.own_chain w.own_at b.0 (omega arith) ordered)) tt in
       omega arith
 
   -- nor where it begins before the other's block, or ends behind it
   pub Inside-beyond : (xs ys : List B) (i j : ℕ) (b c : ℕ × ℕ) → Inside xs ys i (Some b) j (Some c) → b.0 ≤ c.1 → (b.0 < c.0) ⊎ (c.1 < b.1) → ((n : ℕ) → Covers f xs n → Covers f ys n) → ⊥
   Inside-beyond xs ys i j b c w meets way all =
-      let ordered = ordered_at f is_new xs i b w.own_chain w.own_at in
+      let ordered = ordered_at f form xs i b w.own_chain w.own_at in
       ⊎_elim
-      (λ (early : b.0 < c.0). let less : b.0 < b.0 = w.passed b.0 (all b.0 (covers_at f is_new xs i b w.own_chain w.own_at b.0 (omega arith) ordered)) early in omega arith)
+      (λ (early : b.0 < c.0). let less : b.0 < b.0 = w.passed b.0 (all b.0 (covers_at f form xs i b w.own_chain w.own_at b.0 (omega arith) ordered)) early in omega arith)
       (λ (late : c.1 < b.1).
       let at : IsAt f ys j (Some c) = w.other_at in
       let x = (element_at ys j at.0).0 in
-      let u = high_at f is_new ys j c w.other_chain w.other_at x in
-      let covered : Covers f ys (c.1 + 1) = all (c.1 + 1) (covers_at f is_new xs i b w.own_chain w.own_at (c.1 + 1) (omega arith) (omega arith)) in
-      let run = (IsChainOf-itself f is_new ys w.other_chain).runs j x at.0 in
+      let u = high_at f form ys j c w.other_chain w.other_at x in
+      let covered : Covers f ys (c.1 + 1) = all (c.1 + 1) (covers_at f form xs i b w.own_chain w.own_at (c.1 + 1) (omega arith) (omega arith)) in
+      let run = (IsChainOf-itself f form ys w.other_chain).runs j x at.0 in
       run.ends (subst (λ m. Covers f ys (m + 1)) (sym u) covered))
       way

@@ -1,5 +1,5 @@
 -- Runs of sets: those of a chain, and that a set has one list of them.
-use Rattle.std.proofs.Common.{◌≡◌, ℕ, ◌<◌, ◌≤◌, ◌↔◌, ◌⊎◌, inl, inr, ⊎_elim, Bool, true, List, [], ◌∷◌, length, get_or, map, refl, sym, ap, subst, arith}
+use Rattle.std.proofs.Common.{◌≡◌, ℕ, ◌<◌, ◌≤◌, ◌↔◌, ◌⊎◌, inl, inr, ⊎_elim, List, [], ◌∷◌, length, get_or, map, refl, sym, ap, subst, arith}
 use Rattle.std.proofs.lemmas.Bool.{cases_lt}
 use Rattle.std.proofs.lemmas.List.{get_or-map, length-map}
 use Rattle.std.proofs.lemmas.List.Elements.{All-map}
@@ -43,11 +43,11 @@ module _ {B : Type 0} (f : B → ℕ × ℕ) where
     Covers-map f (λ b. b) xs (map f xs) n (sym (map-itself (map f xs))),
   )
 
-  module _ (is_new : B → Bool) where
+  module _ (form : ℕ × ℕ → B) where
     -- the blocks of the chain of S are its runs
-    pub IsRunsOf-from_chain : (S : ℕ → Type 0) (xs : List B) → IsChainOf f is_new S xs → IsRunsOf S (map f xs)
+    pub IsRunsOf-from_chain : (S : ℕ → Type 0) (xs : List B) → IsChainOf f form S xs → IsRunsOf S (map f xs)
     IsRunsOf-from_chain S xs h =
-        let chain = IsChain-from f is_new xs S h in
+        let chain = IsChain-from f form xs S h in
         record {
           members = λ n. (λ c. (h.covers n).0 ((Holds-map xs n).0 c), λ s. (Holds-map xs n).1 ((h.covers n).1 s));
           ordered = All-map (λ b. b.0 ≤ b.1) f xs chain.ordered;
@@ -72,13 +72,13 @@ IsRunsOf-same xs S U same h = record {
 }
 
 -- runs are a chain of blocks that are their own bounds
-is_chain : (S : ℕ → Type 0) (xs : Runs) → IsRunsOf S xs → IsChain (λ b. b) (λ _. true) xs
+is_chain : (S : ℕ → Type 0) (xs : Runs) → IsRunsOf S xs → IsChain (λ b. b) (λ b. b) xs
 is_chain S xs h = record { ordered = h.ordered; apart = h.apart; new_form = λ k d lt. refl }
 
 -- a set has one list of runs
 pub IsRunsOf-unique : (S : ℕ → Type 0) (xs ys : Runs) → IsRunsOf S xs → IsRunsOf S ys → xs ≡ ys
 IsRunsOf-unique S xs ys hx hy =
-    IsChain-unique (λ b. b) (λ _. true) (λ x y _ _ e. e) xs ys (is_chain S xs hx) (is_chain S ys hy) (λ n.
+    IsChain-unique (λ b. b) (λ b. b) xs ys (is_chain S xs hx) (is_chain S ys hy) (λ n.
     (λ c. (hy.members n).1 ((hx.members n).0 c), λ c. (hx.members n).1 ((hy.members n).0 c)))
 
 -- blocks whose bounds are the runs of a set cover that set
@@ -89,25 +89,25 @@ IsRunsOfBlocks-bounds f xs set same = IsRunsOf-same set (Holds set) (Covers f xs
 ))
 
 -- the bounds of a chain's blocks are the runs of what they hold
-pub IsRunsOf-itself : {B : Type 0} (f : B → ℕ × ℕ) (is_new : B → Bool) (xs ys : List B) → IsChain f is_new xs → xs ≡ ys → IsRunsOf (Holds (map f ys)) (map f xs)
-IsRunsOf-itself {B} f is_new xs ys h same =
-    let runs = IsRunsOf-from_chain f is_new (Covers f xs) xs (IsChainOf-from f is_new xs (Covers f xs) h (λ n. (λ c. c, λ c. c))) in
+pub IsRunsOf-itself : {B : Type 0} (f : B → ℕ × ℕ) (form : ℕ × ℕ → B) (xs ys : List B) → IsChain f form xs → xs ≡ ys → IsRunsOf (Holds (map f ys)) (map f xs)
+IsRunsOf-itself {B} f form xs ys h same =
+    let runs = IsRunsOf-from_chain f form (Covers f xs) xs (IsChainOf-from f form xs (Covers f xs) h (λ n. (λ c. c, λ c. c))) in
     subst (λ (zs : List B). IsRunsOf (Holds (map f zs)) (map f xs)) same (IsRunsOf-same (map f xs) _ _ (λ n. ((Holds-map f xs n).1, (Holds-map f xs n).0)) runs)
 
-module _ {B : Type 0} (f : B → ℕ × ℕ) (is_new : B → Bool) (xs some others : List B) where
+module _ {B : Type 0} (f : B → ℕ × ℕ) (form : ℕ × ℕ → B) (xs some others : List B) where
   -- the runs of what two chains have in common
-  pub IsRunsOf-intersection : IsChainOf f is_new (λ n. Covers f some n × Covers f others n) xs → IsRunsOf (λ n. Holds (map f some) n × Holds (map f others) n) (map f xs)
+  pub IsRunsOf-intersection : IsChainOf f form (λ n. Covers f some n × Covers f others n) xs → IsRunsOf (λ n. Holds (map f some) n × Holds (map f others) n) (map f xs)
   IsRunsOf-intersection h = IsRunsOf-same (map f xs) _ _ (λ n. (
     λ (a, b). ((Holds-map f some n).1 a, (Holds-map f others n).1 b),
     λ (a, b). ((Holds-map f some n).0 a, (Holds-map f others n).0 b),
-  )) (IsRunsOf-from_chain f is_new _ xs h)
+  )) (IsRunsOf-from_chain f form _ xs h)
 
   -- the runs of what one chain has and the other has not
-  pub IsRunsOf-difference : IsChainOf f is_new (λ n. Covers f some n × (Covers f others n → ⊥)) xs → IsRunsOf (λ n. Holds (map f some) n × (Holds (map f others) n → ⊥)) (map f xs)
+  pub IsRunsOf-difference : IsChainOf f form (λ n. Covers f some n × (Covers f others n → ⊥)) xs → IsRunsOf (λ n. Holds (map f some) n × (Holds (map f others) n → ⊥)) (map f xs)
   IsRunsOf-difference h = IsRunsOf-same (map f xs) _ _ (λ n. (
     λ (a, b). ((Holds-map f some n).1 a, λ c. b ((Holds-map f others n).0 c)),
     λ (a, b). ((Holds-map f some n).0 a, λ c. b ((Holds-map f others n).1 c)),
-  )) (IsRunsOf-from_chain f is_new _ xs h)
+  )) (IsRunsOf-from_chain f form _ xs h)
 
 -- whether runs hold a number is decided
 pub Holds-decided : (runs : Runs) (n : ℕ) → Holds runs n ⊎ (Holds runs n → ⊥)

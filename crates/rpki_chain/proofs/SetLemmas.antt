@@ -1,18 +1,19 @@
 -- Chains of blocks, and the sets that they are.
-use Rattle.std.proofs.Common.{◌≡◌, ℕ, ◌+◌, ◌-◌, ◌<◌, ◌≤◌, ◌↔◌, ◌⊎◌, inl, inr, ⊎_elim, Bool, List, [], ◌∷◌, length, get_or, map, refl, sym, ap, ◌++◌, Result, IfOk, subst, arith}
+use Rattle.std.proofs.Common.{◌≡◌, ℕ, ◌+◌, ◌-◌, ◌<◌, ◌≤◌, ◌↔◌, ◌⊎◌, inl, inr, ⊎_elim, List, [], ◌∷◌, length, get_or, map, refl, sym, ap, ◌++◌, Result, IfOk, subst, arith}
 use Rattle.std.specs.Bool.{Decides}
+use Rattle.std.specs.Prelude.{All}
 use Rattle.std.specs.Cmp.Lexicographic.{pointwise_decides}
 use Rattle.std.proofs.lemmas.Bool.{cases_lt}
 use Rattle.std.proofs.lemmas.Grind.{common_steps}
 use Rattle.std.proofs.lemmas.Result.{IfOk-weaker}
-use Rattle.std.proofs.lemmas.List.Elements.{All-map}
+use Rattle.std.proofs.lemmas.List.Elements.{All-map, All-tail}
 use Rattle.rpki_chain.specs.BlockSets.{IsBlockSet, IsBlockChain}
 use Rattle.rpki_chain.specs.Equality.{is_same_pair, same_runs}
-use Rattle.rpki_chain.specs.Sets.{Covers, IsInside, IsChain}
-use Rattle.rpki_chain.specs.Runs.{Runs, Holds, IsRunsOf}
+use Rattle.rpki_chain.specs.Sets.{Covers, IsInside, IsNew, IsChain}
+use Rattle.rpki_chain.specs.Runs.{Runs, Holds, IsRunsOf, IsRunsOfBlocks}
 use Rattle.rpki_chain.proofs.Chains.{Covers-nil}
 use Rattle.rpki_chain.proofs.Unique.{Covers-head, Covers-tail, Covers-cons_cases}
-use Rattle.rpki_chain.proofs.RunLists.{IsRunsOf-itself, IsRunsOf-same, Holds-map}
+use Rattle.rpki_chain.proofs.RunLists.{IsRunsOf-itself, IsRunsOf-same, IsRunsOfBlocks-bounds, Holds-map}
 
 -- whether two sets are the same is what the comparison of their bounds tells
 pub same_runs_decides : (a b : Runs) → Decides (same_runs a b) (a ≡ b)
@@ -71,9 +72,32 @@ module _ {B : Type 0} (f : B → ℕ × ℕ) where
     λ held. (covers_both own other n).1 (⊎_elim (λ a. inl ((Holds-map f own n).0 a)) (λ b. inr ((Holds-map f other n).0 b)) held),
   )) h
 
-  module _ (is_new : B → Bool) (last : ℕ) where
+  -- blocks in new form are those that are made of their bounds
+  pub blocks_made : (form : ℕ × ℕ → B) (xs : List B) → All (IsNew f form) xs → map form (map f xs) ≡ xs
+  blocks_made form [] new = refl
+  blocks_made form (x ∷ xs) new =
+      let first : x ≡ form (f x) = new 0 x (omega arith) in
+      let rest = blocks_made form xs (All-tail (IsNew f form) x xs new) in
+      cc
+
+  -- and the blocks that are made of the runs of a set have these runs for their bounds
+  pub bounds_made : (form : ℕ × ℕ → B) (last : ℕ) → ((b : ℕ × ℕ) → b.0 ≤ b.1 → b.1 ≤ last → f (form b) ≡ b) → (set : Runs) → IsBlockSet last set → map f (map form set) ≡ set
+  bounds_made form last law set is = by_each set is.are_runs.ordered is.below
+    where
+      by_each : (set : Runs) → All (λ b. b.0 ≤ b.1) set → All (λ b. b.1 ≤ last) set → map f (map form set) ≡ set
+      by_each [] ordered below = refl
+      by_each (b ∷ set) ordered below =
+          let first = law b (ordered 0 b (omega arith)) (below 0 b (omega arith)) in
+          let rest = by_each set (All-tail (λ (x : ℕ × ℕ). x.0 ≤ x.1) b set ordered) (All-tail (λ (x : ℕ × ℕ). x.1 ≤ last) b set below) in
+          cc
+
+  -- so they stand for the set
+  pub made_of_set : (form : ℕ × ℕ → B) (last : ℕ) → ((b : ℕ × ℕ) → b.0 ≤ b.1 → b.1 ≤ last → f (form b) ≡ b) → (set : Runs) → IsBlockSet last set → IsRunsOfBlocks f (map form set) set
+  made_of_set form last law set is = IsRunsOfBlocks-bounds f (map form set) set (bounds_made form last law set is) is.are_runs
+
+  module _ (form : ℕ × ℕ → B) (last : ℕ) where
     -- no block of a chain has greater numbers than its last block
-    pub IsBlockChain-from_last : (blocks : List B) → IsChain f is_new blocks → ((d : B) → 0 < length blocks → (f (get_or blocks (length blocks - 1) d)).1 ≤ last) → IsBlockChain f is_new last blocks
+    pub IsBlockChain-from_last : (blocks : List B) → IsChain f form blocks → ((d : B) → 0 < length blocks → (f (get_or blocks (length blocks - 1) d)).1 ≤ last) → IsBlockChain f form last blocks
     IsBlockChain-from_last blocks chain highest = record {
       chain = chain;
       below = λ k d small.
@@ -90,14 +114,14 @@ module _ {B : Type 0} (f : B → ℕ × ℕ) where
     }
 
     -- a chain is a set
-    pub IsBlockSet-from_chain : (blocks : List B) → IsBlockChain f is_new last blocks → IsBlockSet last (map f blocks)
+    pub IsBlockSet-from_chain : (blocks : List B) → IsBlockChain f form last blocks → IsBlockSet last (map f blocks)
     IsBlockSet-from_chain blocks h = record {
-      are_runs = IsRunsOf-itself f is_new blocks blocks h.chain refl;
+      are_runs = IsRunsOf-itself f form blocks blocks h.chain refl;
       below = All-map (λ (b : ℕ × ℕ). b.1 ≤ last) f blocks h.below;
     }
 
     -- a chain inside another is what they have in common
-    pub IsRunsOf-inside : (own other : List B) → IsBlockChain f is_new last own → IsInside f own other → IsRunsOf (λ n. Holds (map f own) n × Holds (map f other) n) (map f own)
+    pub IsRunsOf-inside : (own other : List B) → IsBlockChain f form last own → IsInside f own other → IsRunsOf (λ n. Holds (map f own) n × Holds (map f other) n) (map f own)
     IsRunsOf-inside own other h inside = IsRunsOf-same (map f own) _ _ (λ n. (
       λ held. (held, (Holds-map f other n).1 (inside n ((Holds-map f own n).0 held))),
       λ (held, also). held,

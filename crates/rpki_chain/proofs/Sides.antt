@@ -1,5 +1,5 @@
 -- One side of a walk over two chains: the block at hand, and the numbers before it.
-use Rattle.std.proofs.Common.{◌≡◌, ℕ, ◌+◌, ◌<◌, ◌≤◌, ⊎_elim, Bool, List, length, get_or, ap, subst, arith, Option, Some, None, MatchOption}
+use Rattle.std.proofs.Common.{◌≡◌, ℕ, ◌+◌, ◌<◌, ◌≤◌, ⊎_elim, List, length, get_or, ap, subst, arith, Option, Some, None, MatchOption}
 use Rattle.std.proofs.lemmas.Bool.{cases_lt}
 use Rattle.rpki_chain.specs.Overhang.{Before}
 use Rattle.std.specs.Option.{option_map}
@@ -19,8 +19,8 @@ pub IsAt-from : {B I : Type 0} (f : B → ℕ × ℕ) (number : I → ℕ) (last
 IsAt-from f number last xs i None h = h
 IsAt-from f number last xs i (Some b) h = (h.0, h.1)
 
-module _ {B : Type 0} (f : B → ℕ × ℕ) (is_new : B → Bool) where
-  module _ (xs : List B) (i : ℕ) (b : ℕ × ℕ) (h : IsChain f is_new xs) (at : IsAt f xs i (Some b)) where
+module _ {B : Type 0} (f : B → ℕ × ℕ) (form : ℕ × ℕ → B) where
+  module _ (xs : List B) (i : ℕ) (b : ℕ × ℕ) (h : IsChain f form xs) (at : IsAt f xs i (Some b)) where
     -- the block at hand, by some element
     pub low_at : (d : B) → (f (get_or xs i d)).0 ≡ b.0
     low_at d = ap (λ (p : ℕ × ℕ). p.0) (at.1 d)
@@ -42,7 +42,7 @@ module _ {B : Type 0} (f : B → ℕ × ℕ) (is_new : B → Bool) where
     pub index_before : (k : ℕ) (x : B) → k < length xs → (f (get_or xs k x)).0 < b.0 → k < i
     index_before k x lt less = ⊎_elim
         (λ (yes : k < i). yes)
-        (λ (no : i ≤ k). let up = ascends f is_new xs h i k x no lt in let l = low_at x in absurd (omega arith))
+        (λ (no : i ≤ k). let up = ascends f form xs h i k x no lt in let l = low_at x in absurd (omega arith))
         (cases_lt k i)
 
     -- there is a gap before the block at hand
@@ -72,7 +72,7 @@ module _ {B : Type 0} (f : B → ℕ × ℕ) (is_new : B → Bool) where
         not_before : (next : Option (ℕ × ℕ)) → IsAt f xs (i + 1) next → (k : ℕ) (x : B) → k < length xs → i + 1 ≤ k → (n : ℕ) → (f (get_or xs k x)).0 ≤ n → Before next n → ⊥
         not_before None end k x lt beyond n from before = let e : i + 1 ≡ length xs = end in omega arith
         not_before (Some c) at' k x lt beyond n from before =
-            let up = ascends f is_new xs h (i + 1) k x beyond lt in
+            let up = ascends f form xs h (i + 1) k x beyond lt in
             let l = ap (λ (p : ℕ × ℕ). p.0) (at'.1 x) in
             omega arith
 
@@ -87,10 +87,10 @@ module _ {B : Type 0} (f : B → ℕ × ℕ) (is_new : B → Bool) where
         omega arith
 
   -- no number of a chain comes before its first block
-  pub none_before_first : (xs : List B) (b : Option (ℕ × ℕ)) → IsChain f is_new xs → IsAt f xs 0 b → (n : ℕ) → Covers f xs n → Before b n → ⊥
+  pub none_before_first : (xs : List B) (b : Option (ℕ × ℕ)) → IsChain f form xs → IsAt f xs 0 b → (n : ℕ) → Covers f xs n → Before b n → ⊥
   none_before_first xs None h at n c before = let e : 0 ≡ length xs = at in let lt = c.2 in omega arith
   none_before_first xs (Some b) h at n (k, x, lt, e, v) before =
-      let up = ascends f is_new xs h 0 k x (omega arith) lt in
+      let up = ascends f form xs h 0 k x (omega arith) lt in
       let l = ap (λ (z : B). (f z).0) e in
       let begins = low_at xs 0 b h at x in
       omega (arith, v.0)

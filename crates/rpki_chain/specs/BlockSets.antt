@@ -1,5 +1,5 @@
 -- Sets of the items of one kind, whose numbers end at `last`: as runs, and as the chain that holds them.
-use Rattle.std.specs.Prelude.{ℕ, ◌≤◌, Bool, List, All}
+use Rattle.std.specs.Prelude.{ℕ, ◌≤◌, List, All}
 use Rattle.rpki_chain.specs.Runs.{Runs, Holds, IsRunsOf}
 use Rattle.rpki_chain.specs.Sets.{IsChain}
 
@@ -9,6 +9,6 @@ pub record IsBlockSet (last : ℕ) (runs : Runs) : Type 0 where
   pub below : All (λ b. b.1 ≤ last) runs
 
 -- a chain of blocks of numbers up to the last
-pub record IsBlockChain {B : Type 0} (bounds : B → ℕ × ℕ) (is_new : B → Bool) (last : ℕ) (blocks : List B) : Type 0 where
-  pub chain : IsChain bounds is_new blocks
+pub record IsBlockChain {B : Type 0} (bounds : B → ℕ × ℕ) (form : ℕ × ℕ → B) (last : ℕ) (blocks : List B) : Type 0 where
+  pub chain : IsChain bounds form blocks
   pub below : All (λ x. (bounds x).1 ≤ last) blocks

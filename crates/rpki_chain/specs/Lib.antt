@@ -7,6 +7,7 @@ pub mod Laws
 pub mod Overhang
 pub mod Owned
 pub mod Props
+pub mod Ranges
 pub mod Runs
 pub mod Sets
 pub mod View

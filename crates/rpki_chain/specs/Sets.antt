@@ -1,7 +1,7 @@
 -- Sets of whole numbers: what a list of blocks covers, the runs of a set, and the chain of its runs (RFC 3779, 2.2.3.6
 -- and 3.2.3.4: blocks are sorted, don't overlap, and are combined where they are contiguous).
 -- `bounds` gives the least and the greatest number of a block.
-use Rattle.std.specs.Prelude.{◌≡◌, ℕ, ◌+◌, ◌<◌, ◌≤◌, ◌↔◌, Bool, List, Option, MatchOption, length, slice_index_or, IsTrue, All, Any, AllPairs}
+use Rattle.std.specs.Prelude.{◌≡◌, ℕ, ◌+◌, ◌<◌, ◌≤◌, ◌↔◌, List, Option, MatchOption, length, slice_index_or, All, Any, AllPairs}
 
 -- n is none below the least and none above the greatest number
 abbrev pub IsWithin : ℕ × ℕ → ℕ → Type 0
@@ -19,6 +19,10 @@ Covers bounds xs n = Any (λ x. IsWithin (bounds x) n) xs
 abbrev pub IsInside : {B : Type 0} → (B → ℕ × ℕ) → List B → List B → Type 0
 IsInside bounds xs ys = (n : ℕ) → Covers bounds xs n → Covers bounds ys n
 
+-- the block is in new form: the one that `form` makes of its bounds
+abbrev pub IsNew : {B : Type 0} → (B → ℕ × ℕ) → (ℕ × ℕ → B) → B → Type 0
+IsNew bounds form x = x ≡ form (bounds x)
+
 -- a run of S: all numbers from b.0 to b.1 are in S, and neither the one before them nor the one after them is
 pub record IsRun (S : ℕ → Type 0) (b : ℕ × ℕ) : Type 0 where
   pub ordered : b.0 ≤ b.1
@@ -33,18 +37,18 @@ pub record IsRunFrom (S : ℕ → Type 0) (n : ℕ) (b : ℕ × ℕ) : Type 0 wh
   pub first : (m : ℕ) → n ≤ m → m < b.0 → S m → ⊥
 
 -- the chain of S: exactly its runs, ascending, each in new form; and each number of S lies in one of them
-pub record IsChainOf {B : Type 0} (bounds : B → ℕ × ℕ) (is_new : B → Bool) (S : ℕ → Type 0) (xs : List B) : Type 0 where
+pub record IsChainOf {B : Type 0} (bounds : B → ℕ × ℕ) (form : ℕ × ℕ → B) (S : ℕ → Type 0) (xs : List B) : Type 0 where
   pub runs : All (λ x. IsRun S (bounds x)) xs
   pub every_run : (b : ℕ × ℕ) → IsRun S b → Any (λ x. bounds x ≡ b) xs
   pub ascending : AllPairs (λ x y. (bounds x).0 < (bounds y).0) xs
-  pub new_form : All (λ x. IsTrue (is_new x)) xs
+  pub new_form : All (IsNew bounds form) xs
   pub covers : (n : ℕ) → Covers bounds xs n ↔ S n
 
 -- ascending blocks that neither overlap nor touch, each in new form
-pub record IsChain {B : Type 0} (bounds : B → ℕ × ℕ) (is_new : B → Bool) (xs : List B) : Type 0 where
+pub record IsChain {B : Type 0} (bounds : B → ℕ × ℕ) (form : ℕ × ℕ → B) (xs : List B) : Type 0 where
   pub ordered : All (λ x. (bounds x).0 ≤ (bounds x).1) xs
   pub apart : AllPairs (λ x y. (bounds x).1 + 1 < (bounds y).0) xs
-  pub new_form : All (λ x. IsTrue (is_new x)) xs
+  pub new_form : All (IsNew bounds form) xs
 
 -- the numbers of two items
 abbrev pub numbers : {I : Type 0} → (I → ℕ) → I × I → ℕ × ℕ

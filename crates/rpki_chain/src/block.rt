@@ -1,7 +1,7 @@
 //! A block of resources: a range of items of one kind.
-ghost use Rattle.std.specs.Prelude.{◌≡◌, ℕ, ◌+◌, ◌<◌, ◌≤◌, ◌↔◌, ◌⊎◌, ◌==◌, Bool, IsTrue, MatchOption, IfSome, IfNone, min, max};
+ghost use Rattle.std.specs.Prelude.{◌≡◌, ℕ, ◌+◌, ◌<◌, ◌≤◌, ◌↔◌, ◌⊎◌, ◌==◌, IsTrue, MatchOption, IfSome, IfNone, min, max};
 ghost use Rattle.std.specs.Ordering.{nat_cmp};
-ghost use Rattle.rpki_chain.specs.Sets.{IsWithin, IsBeside};
+ghost use Rattle.rpki_chain.specs.Sets.{IsWithin, IsBeside, IsNew};
 
 /// A range of items, from a minimum to a maximum with all between them (RFC 3779, sections 2 and 3).
 ///
@@ -26,14 +26,14 @@ pub trait Block: Drop {
     /// The numbers of the minimum and of the maximum.
     ghost bounds: { Self → ℕ × ℕ };
 
-    /// Whether the value has the form that `new` gives.
-    ghost is_new: { Self → Bool };
+    /// The block of given bounds, in the form that `new` gives.
+    ghost form: { ℕ × ℕ → Self };
 
     /// The block from `min` to `max`, which must not be below `min`.
     fn new(min: Self::Item, max: Self::Item) -> Self
         requires { number min ≤ number max }
         ensures bounds { bounds result ≡ (number min, number max) }
-        ensures new_form { IsTrue (is_new result) };
+        ensures value { result ≡ form (number min, number max) };
 
     /// The smallest item. It is never above the largest.
     fn min(&self) -> Self::Item
@@ -93,7 +93,7 @@ pub trait Block: Drop {
     fn sum(&self, other: &Self) -> Option<Self>
         ensures over { IfSome result (λ sum. (n : ℕ) → IsWithin (bounds sum) n ↔
             (IsWithin (bounds self.now) n ⊎ IsWithin (bounds other.now) n)) }
-        ensures new_form { IfSome result (λ sum. IsTrue (is_new sum)) }
+        ensures new_form { IfSome result (IsNew bounds form) }
         ensures apart { IfNone result (IsBeside (bounds self.now) (bounds other.now) → ⊥) }
     {
         let (min, max) = self.bounds();
@@ -129,6 +129,6 @@ pub trait Block: Drop {
     /// An item is known by its number.
     ghost one_item: { (x y : Self.Item) → number x ≡ number y → x ≡ y };
 
-    /// The form that `new` gives depends on the bounds alone.
-    ghost one_new_form: { (x y : Self) → IsTrue (is_new x) → IsTrue (is_new y) → bounds x ≡ bounds y → x ≡ y };
+    /// The block of given bounds has these bounds.
+    ghost form_bounds: { (b : ℕ × ℕ) → b.0 ≤ b.1 → b.1 ≤ last → bounds (form b) ≡ b };
 }

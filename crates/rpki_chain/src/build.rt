@@ -47,7 +47,7 @@ pub fn joined<T: Block, A: Allocator>(
 ) -> Result<Vec<T, A>, AllocError>
     requires valid { All (λ b. (T.number b.0 ≤ T.number b.1) × (T.number b.1 ≤ T.last)) bounds.now }
     requires ascending { IsNonDecreasingBy (λ b. T.number b.0) bounds.now }
-    ensures chain { IfOk result (λ v. IsChain T.bounds T.is_new v.items) }
+    ensures chain { IfOk result (λ v. IsChain T.bounds T.form v.items) }
     ensures covers { IfOk result (λ v. (n : ℕ) →
         Covers T.bounds v.items n ↔ Covers (numbers T.number) bounds.now n) }
 {
@@ -65,11 +65,11 @@ pub fn push_joined<T: Block, A: Allocator>(
     min: T::Item,
     max: T::Item,
 ) -> Result<(), AllocError>
-    requires chain { IsChain T.bounds T.is_new chain.old.items }
+    requires chain { IsChain T.bounds T.form chain.old.items }
     requires ordered { T.number min ≤ T.number max }
     requires to_last { T.number max ≤ T.last }
     requires behind { All (λ x. (T.bounds x).0 ≤ T.number min) chain.old.items }
-    ensures chain { IsChain T.bounds T.is_new chain.new.items }
+    ensures chain { IsChain T.bounds T.form chain.new.items }
     ensures ok { OnOk result ((n : ℕ) → Covers T.bounds chain.new.items n ↔
         (Covers T.bounds chain.old.items n ⊎ IsWithin (T.number min, T.number max) n)) }
     ensures behind { All (λ x. (T.bounds x).0 ≤ T.number min) chain.new.items }

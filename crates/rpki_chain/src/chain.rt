@@ -1,5 +1,6 @@
 //! The borrowed view of a chain, and the operations on the sets that chains are.
 ghost use Rattle.std.specs.Prelude.{◌≡◌, ℕ, ◌↔◌, List, IsTrue, map};
+ghost use Rattle.std.specs.Coded.{Coded-set};
 ghost use Rattle.rpki_chain.specs.Sets.{IsChain};
 ghost use Rattle.rpki_chain.specs.Props.{IsChain-prop};
 
@@ -14,7 +15,7 @@ use std::slice::Iter;
 /// of the numbers that they cover (RFC 3779, 2.2.3.6 and 3.2.3.4).
 pub struct Chain<'a, T: Block> {
     blocks: &'a [T],
-    pub ghost is_chain: { IsChain T.bounds T.is_new blocks.now } by { IsChain-prop T.bounds T.is_new blocks.now },
+    pub ghost is_chain: { IsChain T.bounds T.form blocks.now } by { IsChain-prop (Coded-set T.code) T.bounds T.form blocks.now },
 }
 
 impl<'a, T: Block> Chain<'a, T> {
@@ -32,7 +33,7 @@ impl<'a, T: Block> Chain<'a, T> {
 
     /// A view of blocks that are a chain already.
     pub(crate) fn from_slice_unchecked(blocks: &'a [T]) -> Self
-        requires { IsChain T.bounds T.is_new blocks.now }
+        requires { IsChain T.bounds T.form blocks.now }
         ensures { chain_blocks result ≡ blocks.now }
     {
         Chain { blocks }
@@ -42,9 +43,9 @@ impl<'a, T: Block> Chain<'a, T> {
     /// chain of these numbers, and no list of blocks with the same cover is shorter.
     pub fn as_slice(self) -> &'a [T]
         ensures value { result.now ≡ chain_blocks self.entry }
-        ensures chain { IsChainOf T.bounds T.is_new (Covers T.bounds result.now) result.now }
+        ensures chain { IsChainOf T.bounds T.form (Covers T.bounds result.now) result.now }
         ensures only { (blocks : List T) →
-            IsChainOf T.bounds T.is_new (Covers T.bounds result.now) blocks →
+            IsChainOf T.bounds T.form (Covers T.bounds result.now) blocks →
             blocks ≡ result.now }
         ensures shortest { (blocks : List T) →
             ((n : ℕ) → Covers T.bounds blocks n ↔ Covers T.bounds result.now n) →
@@ -124,7 +125,7 @@ impl<T: Block> Chain<'_, T> {
         other: Chain<'_, T>,
     ) -> Result<(), OrMemory<OwnedChain<T, A>>>
         ensures ok { IsOk result ↔ IsInside T.bounds (chain_blocks self.entry) (chain_blocks other.entry) }
-        ensures refused { IfErr result (IfRefused (λ chain. IsChainOf T.bounds T.is_new (λ n.
+        ensures refused { IfErr result (IfRefused (λ chain. IsChainOf T.bounds T.form (λ n.
             Covers T.bounds (chain_blocks self.entry) n ×
             Covers T.bounds (chain_blocks other.entry) n) chain)) }
         ensures few { IfErr result (IfRefused (λ chain.
@@ -142,7 +143,7 @@ impl<T: Block> Chain<'_, T> {
         alloc: A,
         other: Chain<'_, T>,
     ) -> Result<OwnedChain<T, A>, AllocError>
-        ensures difference { IfOk result (λ chain. IsChainOf T.bounds T.is_new (λ n.
+        ensures difference { IfOk result (λ chain. IsChainOf T.bounds T.form (λ n.
             Covers T.bounds (chain_blocks self.entry) n ×
             (Covers T.bounds (chain_blocks other.entry) n → ⊥)) chain) }
         ensures few { IfOk result (λ chain.

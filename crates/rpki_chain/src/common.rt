@@ -98,7 +98,7 @@ pub fn common_from<T: Block, A: Allocator, X: Reads<T>, Y: Reads<T>>(
     overhang: Overhang<T::Item>,
 ) -> Result<OwnedChain<T, A>, AllocError>
     requires { IsOverhang T.bounds T.number T.last (X.blocks own.old) (Y.blocks other.old) overhang }
-    ensures common { IfOk result (λ chain. IsChainOf T.bounds T.is_new (λ n.
+    ensures common { IfOk result (λ chain. IsChainOf T.bounds T.form (λ n.
         Covers T.bounds (X.blocks own.old) n × Covers T.bounds (Y.blocks other.old) n) chain) }
     ensures few { IfOk result (λ chain.
         length chain ≤ length (X.blocks own.old) + length (Y.blocks other.old)) }

@@ -103,7 +103,7 @@ pub fn difference<T: Block, A: Allocator, X: Reads<T>, Y: Reads<T>>(
     own: &mut X,
     other: &mut Y,
 ) -> Result<OwnedChain<T, A>, AllocError>
-    ensures difference { IfOk result (λ chain. IsChainOf T.bounds T.is_new (λ n.
+    ensures difference { IfOk result (λ chain. IsChainOf T.bounds T.form (λ n.
         Covers T.bounds (X.blocks own.old) n × (Covers T.bounds (Y.blocks other.old) n → ⊥)) chain) }
     ensures few { IfOk result (λ chain.
         length chain ≤ length (X.blocks own.old) + length (Y.blocks other.old)) }

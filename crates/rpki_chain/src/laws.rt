@@ -1,7 +1,17 @@
 //! Laws of what the calls on sets answer. Each holds of any answers that meet the calls' contracts.
 ghost use Rattle.std.specs.Prelude.{◌≡◌, ℕ, ◌↔◌, []};
-ghost use Rattle.rpki_chain.specs.Runs.{Runs, Holds, IsRunsOf};
+ghost use Rattle.std.specs.Prelude.{map};
+ghost use Rattle.rpki_chain.specs.BlockSets.{IsBlockSet};
+ghost use Rattle.rpki_chain.specs.Runs.{Runs, Holds, IsRunsOf, IsRunsOfBlocks};
 ghost use Rattle.rpki_chain.specs.Laws.{IsUnion, IsIntersection, IsDifference};
+
+use crate::block::Block;
+
+/// The blocks that are made of the runs of a set stand for the set.
+pub fn blocks_of_runs<T: Block>()
+    ensures bounds { (set : Runs) → IsBlockSet T.last set → map T.bounds (map T.form set) ≡ set }
+    ensures set { (set : Runs) → IsBlockSet T.last set → IsRunsOfBlocks T.bounds (map T.form set) set }
+{}
 
 /// Union is commutative, associative and idempotent.
 pub fn laws_of_union()

@@ -1,7 +1,7 @@
 //! A chain with the memory that its blocks stand in.
 ghost use Rattle.std.specs.Prelude.{◌≡◌, ℕ, ◌↔◌, List, [], All, IsTrue, IfOk, map};
 ghost use Rattle.rpki_chain.specs.Equality.{same_runs, chains_per, chains_equiv};
-ghost use Rattle.rpki_chain.specs.Sets.{Covers, IsChain, IsChainOf};
+ghost use Rattle.rpki_chain.specs.Sets.{Covers, IsNew, IsChain, IsChainOf};
 ghost use Rattle.rpki_chain.specs.Owned.{owned_blocks};
 ghost use Rattle.rpki_chain.specs.View.{chain_blocks};
 
@@ -22,7 +22,7 @@ impl<T: Block, A: Allocator> Model for OwnedChain<T, A> {
 
     ghost view = { λ chain. owned_blocks chain.blocks };
 
-    ghost invariant = { λ chain. IsChain T.bounds T.is_new (owned_blocks chain.blocks) };
+    ghost invariant = { λ chain. IsChain T.bounds T.form (owned_blocks chain.blocks) };
 }
 
 impl<T: Block, A: Allocator> OwnedChain<T, A> {
@@ -38,7 +38,7 @@ impl<T: Block, A: Allocator> OwnedChain<T, A> {
     pub fn from_blocks(alloc: A, blocks: &[T]) -> Result<Self, AllocError>
     where
         A: Copy,
-        ensures { IfOk result (λ chain. IsChainOf T.bounds T.is_new (Covers T.bounds blocks.now) chain) }
+        ensures { IfOk result (λ chain. IsChainOf T.bounds T.form (Covers T.bounds blocks.now) chain) }
     {
         let bounds = sorted_bounds(alloc, blocks)?;
         let blocks = joined(alloc, bounds.as_slice())?;
@@ -47,7 +47,7 @@ impl<T: Block, A: Allocator> OwnedChain<T, A> {
 
     /// The chain of blocks that are a chain already. An empty vector is given back to its allocator.
     pub fn from_vec_unchecked(blocks: Vec<T, A>) -> Self
-        requires { IsChain T.bounds T.is_new blocks.items }
+        requires { IsChain T.bounds T.form blocks.items }
         ensures { result ≡ blocks.items }
     {
         if blocks.is_empty() {
@@ -82,7 +82,7 @@ impl<T: Block, A: Allocator> OwnedChain<T, A> {
 
 /// Blocks in the form that `new` gives, made anew.
 fn rebuilt<T: Block, A: Allocator>(alloc: A, blocks: &[T]) -> Result<Vec<T, A>, AllocError>
-    requires { All (λ x. IsTrue (T.is_new x)) blocks.now }
+    requires { All (IsNew T.bounds T.form) blocks.now }
     ensures { IfOk result (λ v. v.items ≡ blocks.now) }
 {
     let mut new = Vec::with_capacity(alloc, blocks.len())?;

@@ -14,7 +14,7 @@ pub trait Reads<T: Block> {
     /// How many blocks there are.
     fn len(&self) -> usize
         ensures value { result ≡ length (blocks self.now) }
-        ensures chain { IsChain T.bounds T.is_new (blocks self.now) };
+        ensures chain { IsChain T.bounds T.form (blocks self.now) };
 
     /// The bounds of the block at an index.
     fn read(&mut self, at: usize) -> (T::Item, T::Item)
@@ -46,7 +46,7 @@ impl<T: Block> Reads<T> for Chain<'_, T> {
 pub fn read_at<T: Block, R: Reads<T>>(chain: &mut R, at: usize) -> Option<(T::Item, T::Item)>
     requires { at ≤ length (R.blocks chain.old) }
     ensures block { HoldsBlock T.bounds T.number T.last (R.blocks chain.old) at result }
-    ensures chain { IsChain T.bounds T.is_new (R.blocks chain.old) }
+    ensures chain { IsChain T.bounds T.form (R.blocks chain.old) }
     ensures valid { IfSome result (λ b. (T.first ≤ T.number b.0) × (T.number b.1 ≤ T.last)) }
     ensures bound { length (R.blocks chain.old) < 2 ^ 64 }
     ensures kept { R.blocks chain.new ≡ R.blocks chain.old }

@@ -1,5 +1,5 @@
 //! Sets of the items of a kind.
-ghost use Rattle.std.specs.Prelude.{◌≡◌, ℕ, ◌↔◌, ◌⊎◌, [], ◌∷◌, All, IsTrue, IfOk, OnOk, OnErr, map};
+ghost use Rattle.std.specs.Prelude.{◌≡◌, ℕ, ◌↔◌, ◌⊎◌, [], ◌∷◌, IsTrue, IfOk, OnOk, OnErr, map};
 ghost use Rattle.std.specs.Slice.Iter.{iter_rest};
 ghost use Rattle.rpki_chain.specs.BlockSets.{IsBlockChain, IsBlockSet};
 ghost use Rattle.rpki_chain.specs.Equality.{same_runs, runs_per, runs_equiv};
@@ -30,7 +30,7 @@ impl<T: Block, A: Allocator> Model for BlockSet<T, A> {
 
     ghost view = { λ s. map T.bounds s.chain };
 
-    ghost invariant = { λ s. IsBlockChain T.bounds T.is_new T.last s.chain };
+    ghost invariant = { λ s. IsBlockChain T.bounds T.form T.last s.chain };
 }
 
 impl<T: Block, A: Allocator> BlockSet<T, A> {
@@ -86,7 +86,7 @@ impl<T: Block, A: Allocator> BlockSet<T, A> {
     /// The chain of the set: its runs, each in the form that `new` gives.
     pub fn as_chain(&self) -> Chain<'_, T>
         ensures blocks { map T.bounds (chain_blocks result) ≡ self.now }
-        ensures chain { IsBlockChain T.bounds T.is_new T.last (chain_blocks result) }
+        ensures chain { IsBlockChain T.bounds T.form T.last (chain_blocks result) }
     {
         self.chain.as_chain()
     }
@@ -94,7 +94,8 @@ impl<T: Block, A: Allocator> BlockSet<T, A> {
     /// The blocks of the set, ascending: its runs, each in the form that `new` gives.
     pub fn as_slice(&self) -> &[T]
         ensures blocks { map T.bounds result.now ≡ self.now }
-        ensures chain { IsBlockChain T.bounds T.is_new T.last result.now }
+        ensures made { result.now ≡ map T.form self.now }
+        ensures chain { IsBlockChain T.bounds T.form T.last result.now }
         ensures set { IsBlockSet T.last self.now }
     {
         self.as_chain().as_slice()
@@ -103,7 +104,7 @@ impl<T: Block, A: Allocator> BlockSet<T, A> {
     /// The blocks of the set one by one, ascending: its runs, each in the form that `new` gives.
     pub fn iter(&self) -> Iter<'_, T>
         ensures blocks { map T.bounds (iter_rest result) ≡ self.now }
-        ensures new_form { All (λ block. IsTrue (T.is_new block)) (iter_rest result) }
+        ensures made { iter_rest result ≡ map T.form self.now }
         ensures set { IsBlockSet T.last self.now }
     {
         self.as_slice().iter()
@@ -203,8 +204,8 @@ impl<T: Block, A: Allocator> BlockSet<T, A> {
 /// Reads the greatest number of a chain, which is in its last block, so that no number is known to be above the kind's
 /// last.
 fn read_greatest<T: Block>(blocks: &[T])
-    requires { IsChain T.bounds T.is_new blocks.now }
-    ensures { IsBlockChain T.bounds T.is_new T.last blocks.now }
+    requires { IsChain T.bounds T.form blocks.now }
+    ensures { IsBlockChain T.bounds T.form T.last blocks.now }
 {
     if let Some(last) = blocks.last() {
         let _greatest = last.max();

@@ -23,7 +23,7 @@ impl<T: Block, A: Allocator> Model for SharedChain<T, A> {
 
     ghost view = { λ c. shared_blocks c.chain };
 
-    ghost invariant = { λ c. IsChain T.bounds T.is_new (shared_blocks c.chain) };
+    ghost invariant = { λ c. IsChain T.bounds T.form (shared_blocks c.chain) };
 }
 
 impl<T: Block, A: Allocator> SharedChain<T, A> {
@@ -49,7 +49,7 @@ impl<T: Block, A: Allocator> SharedChain<T, A> {
     pub fn from_blocks(alloc: A, blocks: &[T]) -> Result<Self, AllocError>
     where
         A: Copy,
-        ensures { IfOk result (λ chain. IsChainOf T.bounds T.is_new (Covers T.bounds blocks.now) chain) }
+        ensures { IfOk result (λ chain. IsChainOf T.bounds T.form (Covers T.bounds blocks.now) chain) }
     {
         let chain = OwnedChain::from_blocks(alloc, blocks)?;
         Self::from_owned(alloc, chain)

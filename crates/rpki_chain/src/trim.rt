@@ -30,7 +30,7 @@ pub fn trim<T: Block, A: Allocator, X: Reads<T>, Y: Reads<T>>(
     other: &mut Y,
 ) -> Result<(), OrMemory<OwnedChain<T, A>>>
     ensures ok { IsOk result ↔ IsInside T.bounds (X.blocks own.old) (Y.blocks other.old) }
-    ensures refused { IfErr result (IfRefused (λ chain. IsChainOf T.bounds T.is_new (λ n.
+    ensures refused { IfErr result (IfRefused (λ chain. IsChainOf T.bounds T.form (λ n.
         Covers T.bounds (X.blocks own.old) n × Covers T.bounds (Y.blocks other.old) n) chain)) }
     ensures few { IfErr result (IfRefused (λ chain.
         length chain ≤ length (X.blocks own.old) + length (Y.blocks other.old))) }

@@ -125,8 +125,8 @@ impl From<Prefix> for AddressRange {
 
 /// Ranges are blocks of the numbers 0 to 2^128 - 1, with one form.
 impl Block for AddressRange {
-    ghost use Rattle.std.specs.Prelude.{refl, true};
-    ghost use Rattle.rpki_ip.specs.Ranges.{range_bounds, RangeValue-one};
+    ghost use Rattle.std.specs.Prelude.{refl};
+    ghost use Rattle.rpki_chain.specs.Ranges.{range_bounds, new_range};
 
     type Item = Addr;
 
@@ -140,7 +140,7 @@ impl Block for AddressRange {
 
     ghost bounds = { range_bounds };
 
-    ghost is_new = { λ _. true };
+    ghost form = { new_range };
 
     ghost in_order = { λ x y. refl };
 
@@ -148,7 +148,7 @@ impl Block for AddressRange {
 
     ghost one_item = { λ x y same. same };
 
-    ghost one_new_form = { λ x y new also same. RangeValue-one x y same };
+    ghost form_bounds = { λ b ordered to. refl };
 
     fn new(min: Addr, max: Addr) -> AddressRange {
         AddressRange::new(min, max)

@@ -1,15 +1,15 @@
 -- Chains of blocks of addresses, and the sets that they are.
-use Rattle.std.proofs.Common.{◌≤◌, IsTrue, [], ◌∷◌, refl, lit≤, arith}
+use Rattle.std.proofs.Common.{◌≤◌, [], ◌∷◌, refl, lit≤, arith}
 use Rattle.std.proofs.lemmas.List.Elements.{All-cons, All-nil}
-use Rattle.rpki_chain.specs.Sets.{IsChain}
+use Rattle.rpki_chain.specs.Sets.{IsNew, IsChain}
 use Rattle.rpki_ipres.proofs.FormLemmas.{new_prefix}
-use Rattle.rpki_ipres.specs.Blocks.{ip_bounds, is_new_ip_block}
+use Rattle.rpki_ipres.specs.Blocks.{ip_bounds, new_ip_block}
 use Rattle.rpki_ipres.specs.declared.block.IpBlock.TheVariants.{Prefix}
 
 -- the one block of all addresses
-pub IsChain-all : IsChain ip_bounds is_new_ip_block (Prefix (record { first = 0; len = 0 }) ∷ [])
+pub IsChain-all : IsChain ip_bounds new_ip_block (Prefix (record { first = 0; len = 0 }) ∷ [])
 IsChain-all = record {
   ordered = All-cons (λ x. (ip_bounds x).0 ≤ (ip_bounds x).1) (Prefix (record { first = 0; len = 0 })) [] (lit≤ tt) (All-nil (λ x. (ip_bounds x).0 ≤ (ip_bounds x).1));
   apart = λ i j d below small. absurd (omega arith);
-  new_form = All-cons (λ x. IsTrue (is_new_ip_block x)) (Prefix (record { first = 0; len = 0 })) [] (new_prefix (record { first = 0; len = 0 }) (record { short = lit≤ tt; aligned = refl; below = lit≤ tt })) (All-nil (λ x. IsTrue (is_new_ip_block x)));
+  new_form = All-cons (IsNew ip_bounds new_ip_block) (Prefix (record { first = 0; len = 0 })) [] (new_prefix (record { first = 0; len = 0 }) (record { short = lit≤ tt; aligned = refl; below = lit≤ tt })) (All-nil (IsNew ip_bounds new_ip_block));
 }

@@ -1,20 +1,22 @@
 -- A list writes one set at most, or has one fault, and what is printed of a set is read as that set.
-use Rattle.std.proofs.Common.{◌≡◌, ◌≤◌, List, [], ◌∷◌, map, get_or, Ok, Err, IsTrue, refl, sym, ◌∙◌, subst, arith}
+use Rattle.std.proofs.Common.{◌≡◌, ◌≤◌, List, map, get_or, Ok, Err, sym, ◌∙◌, subst, arith}
 use Rattle.std.specs.List.{All}
-use Rattle.std.proofs.lemmas.List.Elements.{All-head, All-tail, All-map}
+use Rattle.std.proofs.lemmas.List.Elements.{All-map}
 use Rattle.rpki_base.specs.Reading.{AnswersOrMemory}
 use Rattle.rpki_base.specs.declared.memory.OrMemory.{OrMemory}
 use Rattle.rpki_chain.specs.Runs.{Runs, IsRunsOfBlocks}
 use Rattle.rpki_chain.specs.Sets.{Covers}
 use Rattle.rpki_chain.proofs.RunLists.{IsRunsOf-unique, IsRunsOfBlocks-bounds}
+use Rattle.rpki_chain.proofs.SetLemmas.{bounds_made}
 use Rattle.rpki_ip.specs.Whole.{HasWholeBounds}
 use Rattle.rpki_ip.specs.declared.family.AddressFamily.{AddressFamily}
 use Rattle.rpki_ip.specs.declared.family.AddressFamily.TheVariants.{Ipv4, Ipv6}
-use Rattle.rpki_ipres.specs.Blocks.{ip_bounds, is_new_ip_block, new_ip_block}
+use Rattle.rpki_ipres.specs.BlockForms.{new_block_bounds}
+use Rattle.rpki_ipres.specs.Blocks.{ip_bounds, new_ip_block}
 use Rattle.rpki_ipres.specs.PrintedBlocks.{IsBlockOf}
 use Rattle.rpki_ipres.specs.SetText.{IsSetOf, IsIpSet, IsFamilySet}
 use Rattle.rpki_ipres.specs.declared.block.IpBlock.{IpBlock}
-use Rattle.rpki_ipres.proofs.FormLemmas.{new_block, new_block_fits, is_new_block}
+use Rattle.rpki_ipres.proofs.FormLemmas.{new_block_fits}
 use Rattle.rpki_ipres.proofs.WholeLemmas.{whole_runs}
 
 module _ {V E : Type 0} (view : V → List IpBlock) (Has : List IpBlock → Type 0) (Fails : E → Type 0) where
@@ -33,25 +35,13 @@ module _ {V E : Type 0} (view : V → List IpBlock) (Has : List IpBlock → Type
   set_refused e h = record { found = h.found; each_value = λ set is. h.each_value is.blocks is.are_written; each_fault = h.each_fault }
 
 -- the blocks that are made of runs have their bounds
-pub bounds_made : (set : Runs) → map ip_bounds (map new_ip_block set) ≡ set
-bounds_made [] = refl
-bounds_made (b ∷ set) =
-    let first = (new_block b).bounds in
-    let rest = bounds_made set in
-    cc
-
--- and the blocks of a set are those that are made of its runs
-pub blocks_made : (xs : List IpBlock) → All (λ x. IsTrue (is_new_ip_block x)) xs → map new_ip_block (map ip_bounds xs) ≡ xs
-blocks_made [] new = refl
-blocks_made (x ∷ xs) new =
-    let first = is_new_block x (All-head (λ y. IsTrue (is_new_ip_block y)) x xs new) in
-    let rest = blocks_made xs (All-tail (λ y. IsTrue (is_new_ip_block y)) x xs new) in
-    cc
+pub blocks_bounds : (set : Runs) → IsIpSet set → map ip_bounds (map new_ip_block set) ≡ set
+blocks_bounds = bounds_made ip_bounds new_ip_block 340282366920938463463374607431768211455 (λ b ordered to. new_block_bounds b)
 
 -- the set of blocks with the bounds of runs is that of the runs
 set_of_bounds : (xs : List IpBlock) (set read : Runs) → IsIpSet set → map ip_bounds xs ≡ map ip_bounds (map new_ip_block set) → IsRunsOfBlocks ip_bounds xs read → read ≡ set
 set_of_bounds xs set read is bounds covered =
-    IsRunsOf-unique (Covers ip_bounds xs) read set covered (IsRunsOfBlocks-bounds ip_bounds xs set (bounds ∙ bounds_made set) is.are_runs)
+    IsRunsOf-unique (Covers ip_bounds xs) read set covered (IsRunsOfBlocks-bounds ip_bounds xs set (bounds ∙ blocks_bounds set is) is.are_runs)
 
 -- the blocks of a set of addresses are blocks of addresses
 blocks_fit : (set : Runs) → IsIpSet set → All (IsBlockOf Ipv6) (map new_ip_block set)
@@ -66,7 +56,7 @@ blocks_of_family Ipv4 set (is, whole) = λ k d small. (blocks_fit set is k d sma
   where
     whole_blocks : All (λ x. HasWholeBounds (ip_bounds x)) (map new_ip_block set)
     whole_blocks = All-map (λ x. HasWholeBounds (ip_bounds x)) new_ip_block set (λ k d small.
-        subst HasWholeBounds (sym (new_block (get_or set k d)).bounds) (whole_runs set is.are_runs whole k d small))
+        subst HasWholeBounds (sym (new_block_bounds (get_or set k d))) (whole_runs set is.are_runs whole k d small))
 
 -- a set of the family is a set of addresses
 pub is_ip_set : (family : AddressFamily) (set : Runs) → IsFamilySet family set → IsIpSet set

@@ -1,5 +1,5 @@
 -- Which sets consist of whole IPv4 addresses, by their runs.
-use Rattle.std.proofs.Common.{◌≡◌, ℕ, ◌+◌, ◌-◌, ◌%◌, ◌^◌, ◌<◌, ◌≤◌, inl, inr, true, List, length, get_or, map, refl, sym, ap, ◌∙◌, subst, arith}
+use Rattle.std.proofs.Common.{◌≡◌, ℕ, ◌+◌, ◌-◌, ◌%◌, ◌^◌, ◌<◌, ◌≤◌, inl, inr, List, length, get_or, map, refl, sym, ap, ◌∙◌, subst, arith}
 use Rattle.std.specs.Prelude.{All}
 use Rattle.std.proofs.Math.Nat.{le_refl}
 use Rattle.std.proofs.lemmas.Bool.{cases_order}
@@ -34,8 +34,8 @@ whole_run S b run whole =
 -- so all runs of a whole set have
 pub whole_runs : (runs : Runs) → IsRunsOf (Holds runs) runs → IsWhole (Holds runs) → All HasWholeBounds runs
 whole_runs runs h whole k d small =
-    let chain : IsChainOf (λ (b : ℕ × ℕ). b) (λ _. true) (Holds runs) runs =
-    IsChainOf-from (λ (b : ℕ × ℕ). b) (λ _. true) runs (Holds runs) (record { ordered = h.ordered; apart = h.apart; new_form = λ k d small. refl }) (λ n. (λ held. held, λ held. held)) in
+    let chain : IsChainOf (λ (b : ℕ × ℕ). b) (λ b. b) (Holds runs) runs =
+    IsChainOf-from (λ (b : ℕ × ℕ). b) (λ b. b) runs (Holds runs) (record { ordered = h.ordered; apart = h.apart; new_form = λ k d small. refl }) (λ n. (λ held. held, λ held. held)) in
     whole_run (Holds runs) _ (chain.runs k d small) whole
 
 -- and runs with whole bounds are a whole set

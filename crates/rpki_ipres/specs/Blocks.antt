@@ -1,5 +1,5 @@
 -- Blocks of addresses (RFC 3779, 2.2.3.7 to 2.2.3.9): their bounds and their form.
-use Rattle.std.specs.Prelude.{ℕ, zero, suc, ◌+◌, ◌-◌, ◌%◌, ◌^◌, Bool, ◌==◌, ◌&&◌, if◌then◌else◌, nat_le, Option, Some, None, is_none}
+use Rattle.std.specs.Prelude.{ℕ, zero, suc, ◌+◌, ◌-◌, ◌%◌, ◌^◌, Bool, ◌==◌, ◌&&◌, if◌then◌else◌, Option, Some, None}
 use Rattle.rpki_base.specs.Prefixes.{PrefixValue, last_of}
 use Rattle.rpki_ip.specs.Ranges.{range_bounds}
 use Rattle.rpki_ipres.specs.declared.block.IpBlock.{IpBlock}
@@ -27,12 +27,7 @@ length_upto (suc n) b = if has_length b (suc n) then Some (suc n) else length_up
 unfoldable pub length_of : ℕ × ℕ → Option ℕ
 length_of b = length_upto 128 b
 
--- whether the block is a Prefix where its addresses are those of one, and else a Range (RFC 3779, 2.2.3.7)
-abbrev pub is_new_ip_block : IpBlock → Bool
-is_new_ip_block (Prefix p) = nat_le p.len 128 && has_length (prefix_bounds p) p.len
-is_new_ip_block (Range r) = is_none (length_of (range_bounds r))
-
--- the block in that form from b.0 to b.1
+-- the block of given bounds: a Prefix where its addresses are those of one, and else a Range (RFC 3779, 2.2.3.7)
 abbrev pub block_from : ℕ × ℕ → Option ℕ → IpBlock
 block_from b (Some len) = Prefix (record { first = b.0; len = len })
 block_from b None = Range (record { min = b.0; max = b.1 })

@@ -18,7 +18,7 @@ impl IpBlock {
     ghost use Rattle.std.specs.Prelude.{◌≡◌, ◌≤◌, ◌↔◌, IsTrue};
     ghost use Rattle.rpki_base.specs.Prefixes.{PrefixValue, IsPrefix};
     ghost use Rattle.rpki_ip.specs.Whole.{HasWholeBounds};
-    ghost use Rattle.rpki_ipres.specs.Blocks.{prefix_bounds, ip_bounds, is_new_ip_block};
+    ghost use Rattle.rpki_ipres.specs.Blocks.{prefix_bounds, ip_bounds, new_ip_block};
     ghost use Rattle.rpki_ipres.specs.PrintedBlocks.{IsBlock};
 
     /// All addresses: the prefix of length 0.
@@ -33,7 +33,7 @@ impl IpBlock {
     pub fn from_pair(pair: (Addr, Addr)) -> IpBlock
         requires { pair.0 ≤ pair.1 }
         ensures bounds { ip_bounds result ≡ pair }
-        ensures new_form { IsTrue (is_new_ip_block result) }
+        ensures value { result ≡ new_ip_block pair }
         ensures prefix { (p : PrefixValue) → IsPrefix 128 p → prefix_bounds p ≡ pair → result ≡ IpBlock.Prefix p }
     {
         let _below = pair.1.to_bits();
@@ -91,8 +91,8 @@ impl IpBlock {
 /// As a block, it is a Prefix where its addresses are those of a prefix, and else a Range.
 impl Block for IpBlock {
     ghost use Rattle.std.specs.Prelude.{refl};
-    ghost use Rattle.rpki_ipres.specs.Blocks.{ip_bounds, is_new_ip_block};
-    ghost use Rattle.rpki_ipres.specs.BlockForms.{IpBlock-one_new_form};
+    ghost use Rattle.rpki_ipres.specs.Blocks.{ip_bounds, new_ip_block};
+    ghost use Rattle.rpki_ipres.specs.BlockForms.{new_block_bounds};
 
     type Item = Addr;
 
@@ -106,7 +106,7 @@ impl Block for IpBlock {
 
     ghost bounds = { ip_bounds };
 
-    ghost is_new = { is_new_ip_block };
+    ghost form = { new_ip_block };
 
     ghost in_order = { λ x y. refl };
 
@@ -114,7 +114,7 @@ impl Block for IpBlock {
 
     ghost one_item = { λ x y same. same };
 
-    ghost one_new_form = { IpBlock-one_new_form };
+    ghost form_bounds = { λ b ordered to. new_block_bounds b };
 
     fn new(min: Addr, max: Addr) -> IpBlock {
         IpBlock::from_pair((min, max))

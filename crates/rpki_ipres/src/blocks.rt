@@ -1,5 +1,5 @@
 //! Sets of addresses.
-ghost use Rattle.std.specs.Prelude.{◌≡◌, ℕ, ◌↔◌, ◌⊎◌, [], ◌∷◌, All, IsTrue, IfOk, OnOk, OnErr, map, MatchResult};
+ghost use Rattle.std.specs.Prelude.{◌≡◌, ℕ, ◌↔◌, ◌⊎◌, [], ◌∷◌, IsTrue, IfOk, OnOk, OnErr, map, MatchResult};
 ghost use Rattle.std.specs.Slice.Iter.{iter_rest};
 ghost use Rattle.rpki_base.specs.Memory.{IsMemory};
 ghost use Rattle.rpki_base.specs.Reading.{AnswersOrMemory};
@@ -9,7 +9,7 @@ ghost use Rattle.rpki_chain.specs.Sets.{IsWithin};
 ghost use Rattle.rpki_ip.specs.Ranges.{range_bounds};
 ghost use Rattle.rpki_ip.specs.Whole.{IsWhole};
 ghost use Rattle.rpki_ip.specs.declared.family.AddressFamily.TheVariants.{Ipv4, Ipv6};
-ghost use Rattle.rpki_ipres.specs.Blocks.{ip_bounds, is_new_ip_block};
+ghost use Rattle.rpki_ipres.specs.Blocks.{ip_bounds, new_ip_block};
 ghost use Rattle.rpki_ipres.specs.ListText.{HasIpBlocks, HasIpBlocksFault};
 ghost use Rattle.rpki_ipres.specs.SetText.{IsIpSet, IsFamilySet, IsSetOf, set_text};
 
@@ -100,7 +100,7 @@ impl<A: Allocator> IpBlocks<A> {
     /// The blocks of the set one by one, ascending: its runs, each a Prefix where it is one, and else a Range.
     pub fn iter(&self) -> Iter<'_, IpBlock>
         ensures blocks { map ip_bounds (iter_rest result) ≡ self.now }
-        ensures new_form { All (λ block. IsTrue (is_new_ip_block block)) (iter_rest result) }
+        ensures made { iter_rest result ≡ map new_ip_block self.now }
         ensures set { IsIpSet self.now }
     {
         self.set.iter()
@@ -109,7 +109,7 @@ impl<A: Allocator> IpBlocks<A> {
     /// The blocks of the set, ascending: its runs, each a Prefix where it is one, and else a Range.
     pub(crate) fn as_slice(&self) -> &[IpBlock]
         ensures blocks { map ip_bounds result.now ≡ self.now }
-        ensures new_form { All (λ block. IsTrue (is_new_ip_block block)) result.now }
+        ensures made { result.now ≡ map new_ip_block self.now }
         ensures set { IsIpSet self.now }
     {
         self.set.as_slice()

@@ -27,7 +27,7 @@ returns-clause-chain g c =
     let new : (bounds c.new-2.result).0 ≡ g.T.Block.number c.args.min = ap (λ (p : ℕ × ℕ). p.0) c.new-2.ensures.bounds in
     let ends : (bounds c.new-2.result).1 ≡ g.T.Block.number c.args.max = ap (λ (p : ℕ × ℕ). p.1) c.new-2.ensures.bounds in
     let ordered = c.requires.ordered in
-    rw c.in_ok-push.ensures.items (IsChain-push bounds g.T.Block.is_new items c.new-2.result c.requires.chain (omega arith) c.new-2.ensures.new_form
+    rw c.in_ok-push.ensures.items (IsChain-push bounds g.T.Block.form items c.new-2.result c.requires.chain (omega arith) (c.new-2.ensures.value ∙ ap g.T.Block.form (sym c.new-2.ensures.bounds))
     (elim c.match-checked_sub.branch [
       | in-Some+else-le+else-is_reached w ↦ λ at d end.
           let last = w.index.result.now in

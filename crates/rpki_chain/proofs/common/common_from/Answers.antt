@@ -1,5 +1,5 @@
 -- Each turn is done with one block and keeps the walk; at its end one chain has no block any more.
-use Rattle.std.proofs.Common.{◌+◌, ◌∙◌, arith, refl}
+use Rattle.std.proofs.Common.{◌+◌, ◌∙◌, ap, sym, arith, refl}
 use Rattle.rpki_chain.specs.Sets.{Covers}
 use Rattle.rpki_chain.proofs.Chains.{IsChainOf-from}
 use Rattle.rpki_chain.proofs.Sides.{IsAt-from}
@@ -10,11 +10,11 @@ use Rattle.rpki_chain.proofs.common.common_from.Goals as goal
 pub loop-own_at-init : goal.loop-own_at-init
 loop-own_at-init g c =
     let f = g.T.Block.bounds in
-    let is_new = g.T.Block.is_new in
+    let form = g.T.Block.form in
     let number = g.T.Block.number in
     let first = c.in_ok-chain.ensures in
     record {
-      walk = rw first.value (Meet-start f is_new number g.T.Block.last _ _ c.args.overhang c.requires c.len-own_len.ensures.chain c.len-other_len.ensures.chain);
+      walk = rw first.value (Meet-start f form number g.T.Block.last _ _ c.args.overhang c.requires c.len-own_len.ensures.chain c.len-other_len.ensures.chain);
       own_bound = (let len = c.len-own_len.ensures.value in omega arith);
       other_bound = (let len = c.len-other_len.ensures.value in omega arith);
       own_kept = first.kept;
@@ -22,19 +22,19 @@ loop-own_at-init g c =
     }
 
 pub next_meeting-requires-clause-own : goal.next_meeting-requires-clause-own
-next_meeting-requires-clause-own g c = meet-ordered g.T.Block.bounds g.T.Block.is_new g.T.Block.number _ _ _ _ _ c.loop-own_at.own_block _ c.loop-own_at.invariant.walk
+next_meeting-requires-clause-own g c = meet-ordered g.T.Block.bounds g.T.Block.form g.T.Block.number _ _ _ _ _ c.loop-own_at.own_block _ c.loop-own_at.invariant.walk
 
 pub next_meeting-requires-clause-other : goal.next_meeting-requires-clause-other
-next_meeting-requires-clause-other g c = meet-ordered g.T.Block.bounds g.T.Block.is_new g.T.Block.number _ _ _ _ _ c.loop-own_at.other_block _ (Meet-swap g.T.Block.bounds g.T.Block.is_new _ _ _ _ _ _ _ c.loop-own_at.invariant.walk)
+next_meeting-requires-clause-other g c = meet-ordered g.T.Block.bounds g.T.Block.form g.T.Block.number _ _ _ _ _ c.loop-own_at.other_block _ (Meet-swap g.T.Block.bounds g.T.Block.form _ _ _ _ _ _ _ c.loop-own_at.invariant.walk)
 
 pub loop-own_at-preserved-in-OwnBefore : goal.loop-own_at-preserved-in-OwnBefore
 loop-own_at-preserved-in-OwnBefore g c =
     let f = g.T.Block.bounds in
-    let is_new = g.T.Block.is_new in
+    let form = g.T.Block.form in
     let number = g.T.Block.number in
     let inv = c.loop-own_at.invariant in
     let read = c.read_at-own_block.ensures in
-    let turn = meet-own_before f is_new number _ _ _ _ _ c.loop-own_at.own_block c.loop-own_at.other_block c.read_at-own_block.result inv.walk c.in-OwnBefore.ensures in
+    let turn = meet-own_before f form number _ _ _ _ _ c.loop-own_at.own_block c.loop-own_at.other_block c.read_at-own_block.result inv.walk c.in-OwnBefore.ensures in
     record {
       walk = turn.1 (IsAt-from f number g.T.Block.last _ (c.loop-own_at.own_at + 1) _ (rw inv.own_kept at read.block));
       own_bound = inv.own_bound;
@@ -46,11 +46,11 @@ loop-own_at-preserved-in-OwnBefore g c =
 pub loop-own_at-preserved-in-OtherBefore : goal.loop-own_at-preserved-in-OtherBefore
 loop-own_at-preserved-in-OtherBefore g c =
     let f = g.T.Block.bounds in
-    let is_new = g.T.Block.is_new in
+    let form = g.T.Block.form in
     let number = g.T.Block.number in
     let inv = c.loop-own_at.invariant in
     let read = c.read_at-other_block.ensures in
-    let turn = meet-other_before f is_new number _ _ _ _ _ c.loop-own_at.own_block c.loop-own_at.other_block c.read_at-other_block.result inv.walk c.in-OtherBefore.ensures in
+    let turn = meet-other_before f form number _ _ _ _ _ c.loop-own_at.own_block c.loop-own_at.other_block c.read_at-other_block.result inv.walk c.in-OtherBefore.ensures in
     record {
       walk = turn.1 (IsAt-from f number g.T.Block.last _ (c.loop-own_at.other_at + 1) _ (rw inv.other_kept at read.block));
       own_bound = inv.own_bound;
@@ -62,11 +62,11 @@ loop-own_at-preserved-in-OtherBefore g c =
 pub loop-own_at-preserved-in-OwnEnds : goal.loop-own_at-preserved-in-OwnEnds
 loop-own_at-preserved-in-OwnEnds g c =
     let f = g.T.Block.bounds in
-    let is_new = g.T.Block.is_new in
+    let form = g.T.Block.form in
     let number = g.T.Block.number in
     let inv = c.loop-own_at.invariant in
     let read = c.read_at-own_block-in-OwnEnds.ensures in
-    let turn = meet-own_ends f is_new number _ _ _ _ _ c.loop-own_at.own_block c.loop-own_at.other_block c.read_at-own_block-in-OwnEnds.result c.in-OwnEnds.low c.in-OwnEnds.high c.new.result inv.walk c.in-OwnEnds.ensures c.new.ensures.bounds c.new.ensures.new_form in
+    let turn = meet-own_ends f form number _ _ _ _ _ c.loop-own_at.own_block c.loop-own_at.other_block c.read_at-own_block-in-OwnEnds.result c.in-OwnEnds.low c.in-OwnEnds.high c.new.result inv.walk c.in-OwnEnds.ensures c.new.ensures.bounds (c.new.ensures.value ∙ ap form (sym c.new.ensures.bounds)) in
     record {
       walk = rw c.in_ok-push-in-OwnEnds.ensures.items (turn.1 (IsAt-from f number g.T.Block.last _ (c.loop-own_at.own_at + 1) _ (rw inv.own_kept at read.block)));
       own_bound = inv.own_bound;
@@ -78,11 +78,11 @@ loop-own_at-preserved-in-OwnEnds g c =
 pub loop-own_at-preserved : goal.loop-own_at-preserved
 loop-own_at-preserved g c =
     let f = g.T.Block.bounds in
-    let is_new = g.T.Block.is_new in
+    let form = g.T.Block.form in
     let number = g.T.Block.number in
     let inv = c.loop-own_at.invariant in
     let read = c.read_at-other_block-in-OtherEnds.ensures in
-    let turn = meet-other_ends f is_new number _ _ _ _ _ c.loop-own_at.own_block c.loop-own_at.other_block c.read_at-other_block-in-OtherEnds.result c.in-OtherEnds.low c.in-OtherEnds.high c.new-in-OtherEnds.result inv.walk c.in-OtherEnds.ensures c.new-in-OtherEnds.ensures.bounds c.new-in-OtherEnds.ensures.new_form in
+    let turn = meet-other_ends f form number _ _ _ _ _ c.loop-own_at.own_block c.loop-own_at.other_block c.read_at-other_block-in-OtherEnds.result c.in-OtherEnds.low c.in-OtherEnds.high c.new-in-OtherEnds.result inv.walk c.in-OtherEnds.ensures c.new-in-OtherEnds.ensures.bounds (c.new-in-OtherEnds.ensures.value ∙ ap form (sym c.new-in-OtherEnds.ensures.bounds)) in
     record {
       walk = rw c.in_ok-push-in-OtherEnds.ensures.items (turn.1 (IsAt-from f number g.T.Block.last _ (c.loop-own_at.other_at + 1) _ (rw inv.other_kept at read.block)));
       own_bound = inv.own_bound;
@@ -94,7 +94,7 @@ loop-own_at-preserved g c =
 pub returns-clause-common : goal.returns-clause-common
 returns-clause-common g c =
     let f = g.T.Block.bounds in
-    let is_new = g.T.Block.is_new in
+    let form = g.T.Block.form in
     let number = g.T.Block.number in
     let inv = c.loop-own_at.invariant in
-    rw c.from_vec_unchecked.ensures (IsChainOf-from f is_new c.loop-own_at.chain.items (λ n. Covers f (g.X.Reads.blocks c.args.own.now) n × Covers f (g.Y.Reads.blocks c.args.other.now) n) inv.walk.chain (Meet-end f is_new _ _ _ _ _ _ _ inv.walk (meet-none f is_new number c.loop-own_at.own_block c.loop-own_at.other_block c.in-End.ensures)))
+    rw c.from_vec_unchecked.ensures (IsChainOf-from f form c.loop-own_at.chain.items (λ n. Covers f (g.X.Reads.blocks c.args.own.now) n × Covers f (g.Y.Reads.blocks c.args.other.now) n) inv.walk.chain (Meet-end f form _ _ _ _ _ _ _ inv.walk (meet-none f form number c.loop-own_at.own_block c.loop-own_at.other_block c.in-End.ensures)))

@@ -7,7 +7,7 @@ use Rattle.rpki_chain.proofs.common.common_from.Given as goal
 
 abbrev pub invariant-loop-own_at : goal.invariant-loop-own_at
 invariant-loop-own_at g l = record {
-  walk : Meet g.T.Block.bounds g.T.Block.is_new (g.X.Reads.blocks l.fn.own) (g.Y.Reads.blocks l.fn.other) l.own_at (option_map (numbers g.T.Block.number) l.own_block) l.other_at (option_map (numbers g.T.Block.number) l.other_block) l.chain.items;
+  walk : Meet g.T.Block.bounds g.T.Block.form (g.X.Reads.blocks l.fn.own) (g.Y.Reads.blocks l.fn.other) l.own_at (option_map (numbers g.T.Block.number) l.own_block) l.other_at (option_map (numbers g.T.Block.number) l.other_block) l.chain.items;
   own_bound : length (g.X.Reads.blocks l.fn.own) < 2 ^ 64;
   other_bound : length (g.Y.Reads.blocks l.fn.other) < 2 ^ 64;
   own_kept : g.X.Reads.blocks l.own ≡ g.X.Reads.blocks l.fn.own;

@@ -1,7 +1,7 @@
 -- A block in new form, made anew from its bounds, is the same.
-use Rattle.std.proofs.Common.{◌≡◌, ℕ, ◌+◌, ◌<◌, ◌++◌, ◌∷◌, [], IsTrue, ap, sym, ◌∙◌, take, arith, length, get_or}
+use Rattle.std.proofs.Common.{◌≡◌, ℕ, ◌+◌, ◌<◌, ◌++◌, ◌∷◌, [], ap, sym, ◌∙◌, take, arith, length, get_or}
 use Rattle.std.proofs.lemmas.List.{take_more}
-use Rattle.rpki_chain.specs.Sets.{numbers}
+use Rattle.rpki_chain.specs.Sets.{IsNew, numbers}
 use Rattle.rpki_chain.proofs.Chains.{element_at}
 use Rattle.rpki_chain.proofs.common.first_blocks.Goals as goal
 
@@ -22,7 +22,7 @@ new-requires g c =
 pub loop-at-preserved : goal.loop-at-preserved
 loop-at-preserved g c =
     let f = g.T.Block.bounds in
-    let is_new = g.T.Block.is_new in
+    let form = g.T.Block.form in
     let inv = c.loop-at.invariant in
     let xs = g.X.Reads.blocks c.args.own.now in
     let test = c.loop-at-test.true in
@@ -31,9 +31,8 @@ loop-at-preserved g c =
     let found = element_at xs c.loop-at.at within in
     let x = found.0 in
     let here : f (get_or xs c.loop-at.at x) ≡ numbers g.T.Block.number c.read-min.result = rw inv.kept at (c.read-min.ensures.value x) in
-    let same : f c.new.result ≡ f x = c.new.ensures.bounds ∙ sym here ∙ ap f (sym found.1) in
-    let form : IsTrue (is_new x) = rw found.1 (inv.chain.new_form c.loop-at.at x within) in
-    let is : c.new.result ≡ x = g.met.T.Block.one_new_form c.new.result x c.new.ensures.new_form form same in
+    let new : IsNew f form x = rw found.1 (inv.chain.new_form c.loop-at.at x within) in
+    let is : c.new.result ≡ x = c.new.ensures.value ∙ ap form (sym here ∙ ap f (sym found.1)) ∙ sym new in
     let more : take c.loop-at.at xs ++ x ∷ [] ≡ take (c.loop-at.at + 1) xs = ap (λ y. take c.loop-at.at xs ++ y ∷ []) found.1 ∙ sym (take_more xs c.loop-at.at x within) in
     record {
       made = c.in_ok-push.ensures.items ∙ ap (λ ys. ys ++ c.new.result ∷ []) inv.made ∙ ap (λ y. take c.loop-at.at xs ++ y ∷ []) is ∙ more;

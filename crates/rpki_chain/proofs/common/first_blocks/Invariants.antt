@@ -7,6 +7,6 @@ abbrev pub invariant-loop-at : goal.invariant-loop-at
 invariant-loop-at g l = record {
   made : l.chain.items ≡ take l.at (g.X.Reads.blocks l.fn.own);
   kept : g.X.Reads.blocks l.own ≡ g.X.Reads.blocks l.fn.own;
-  chain : IsChain g.T.Block.bounds g.T.Block.is_new (g.X.Reads.blocks l.fn.own);
+  chain : IsChain g.T.Block.bounds g.T.Block.form (g.X.Reads.blocks l.fn.own);
   bound : l.len ≤ length (g.X.Reads.blocks l.fn.own);
 }

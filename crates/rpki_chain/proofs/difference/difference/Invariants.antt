@@ -7,7 +7,7 @@ use Rattle.rpki_chain.proofs.difference.difference.Given as goal
 
 abbrev pub invariant-loop-other_at : goal.invariant-loop-other_at
 invariant-loop-other_at g l = record {
-  walk : Walk g.T.Block.bounds g.T.Block.is_new (g.X.Reads.blocks l.fn.own) (g.Y.Reads.blocks l.fn.other) l.own_at (option_map (numbers g.T.Block.number) l.rest) l.other_at (option_map (numbers g.T.Block.number) l.cut) l.chain.items;
+  walk : Walk g.T.Block.bounds g.T.Block.form (g.X.Reads.blocks l.fn.own) (g.Y.Reads.blocks l.fn.other) l.own_at (option_map (numbers g.T.Block.number) l.rest) l.other_at (option_map (numbers g.T.Block.number) l.cut) l.chain.items;
   few : length l.chain.items ≤ l.own_at + l.other_at;
   valid : IfSome l.rest (λ b. (g.T.Block.first ≤ g.T.Block.number b.0) × (g.T.Block.number b.1 ≤ g.T.Block.last));
   own_bound : length (g.X.Reads.blocks l.fn.own) < 2 ^ 64;

@@ -21,7 +21,7 @@ loop-low-preserved-then-lt g c =
       kept = c.read-min.ensures.kept ∙ inv.kept;
       ordered = omega arith;
       within = within;
-      below = λ k d le lt. behind_all f g.T.Block.is_new _ middle k _ d inv.chain inside (λ e. let v = ap (λ (p : ℕ × ℕ). p.1) (value e) in omega arith) (omega arith);
+      below = λ k d le lt. behind_all f g.T.Block.form _ middle k _ d inv.chain inside (λ e. let v = ap (λ (p : ℕ × ℕ). p.1) (value e) in omega arith) (omega arith);
       found = inv.found;
       reaches = inv.reaches;
     }
@@ -31,4 +31,4 @@ returns-clause-block g c =
     let inv = c.loop-low.invariant in
     let ordered = inv.ordered in
     let done = c.loop-low-test.false in
-    first_found g.T.Block.bounds g.T.Block.is_new (g.R.Reads.blocks c.args.chain.now) (g.T.Block.number c.args.item) c.loop-low.high (λ k d before lt. inv.below k d (omega arith) lt) g.T.Block.number g.T.Block.last c.loop-low.found inv.chain inv.found inv.reaches
+    first_found g.T.Block.bounds g.T.Block.form (g.R.Reads.blocks c.args.chain.now) (g.T.Block.number c.args.item) c.loop-low.high (λ k d before lt. inv.below k d (omega arith) lt) g.T.Block.number g.T.Block.last c.loop-low.found inv.chain inv.found inv.reaches

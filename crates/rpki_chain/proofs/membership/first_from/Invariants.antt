@@ -5,7 +5,7 @@ use Rattle.rpki_chain.proofs.membership.first_from.Given as goal
 
 abbrev pub invariant-loop-low : goal.invariant-loop-low
 invariant-loop-low g l = record {
-  chain : IsChain g.T.Block.bounds g.T.Block.is_new (g.R.Reads.blocks l.fn.chain);
+  chain : IsChain g.T.Block.bounds g.T.Block.form (g.R.Reads.blocks l.fn.chain);
   kept : g.R.Reads.blocks l.chain ≡ g.R.Reads.blocks l.fn.chain;
   ordered : l.low ≤ l.high;
   within : l.high ≤ length (g.R.Reads.blocks l.fn.chain);

@@ -8,12 +8,12 @@ use Rattle.rpki_chain.proofs.overhang.first_overhang.Goals as goal
 pub loop-other_at-init : goal.loop-other_at-init
 loop-other_at-init g c =
     let f = g.T.Block.bounds in
-    let is_new = g.T.Block.is_new in
+    let form = g.T.Block.form in
     let number = g.T.Block.number in
     let own = c.read_at-own_block.ensures in
     let other = c.read_at-other_block.ensures in
     record {
-      walk = Inside-start f is_new _ _ _ _ own.chain other.chain (IsAt-from f number g.T.Block.last _ 0 _ own.block) (IsAt-from f number g.T.Block.last _ 0 _ other.block);
+      walk = Inside-start f form _ _ _ _ own.chain other.chain (IsAt-from f number g.T.Block.last _ 0 _ own.block) (IsAt-from f number g.T.Block.last _ 0 _ other.block);
       own_block = own.block;
       other_block = other.block;
       own_bound = own.bound;
@@ -25,12 +25,12 @@ loop-other_at-init g c =
 pub loop-other_at-preserved-in-Skip : goal.loop-other_at-preserved-in-Skip
 loop-other_at-preserved-in-Skip g c =
     let f = g.T.Block.bounds in
-    let is_new = g.T.Block.is_new in
+    let form = g.T.Block.form in
     let number = g.T.Block.number in
     let inv = c.loop-other_at.invariant in
     let read = c.read_at-other_block-in-Skip.ensures in
     let block = rw inv.other_kept at read.block in
-    let turn = fit-skip f is_new number _ _ _ _ c.loop-other_at.own_block c.loop-other_at.other_block c.read_at-other_block-in-Skip.result inv.walk c.in-Skip.ensures in
+    let turn = fit-skip f form number _ _ _ _ c.loop-other_at.own_block c.loop-other_at.other_block c.read_at-other_block-in-Skip.result inv.walk c.in-Skip.ensures in
     record {
       walk = turn.1 (IsAt-from f number g.T.Block.last _ (c.loop-other_at.other_at + 1) _ block);
       own_block = inv.own_block;
@@ -44,12 +44,12 @@ loop-other_at-preserved-in-Skip g c =
 pub loop-other_at-preserved : goal.loop-other_at-preserved
 loop-other_at-preserved g c =
     let f = g.T.Block.bounds in
-    let is_new = g.T.Block.is_new in
+    let form = g.T.Block.form in
     let number = g.T.Block.number in
     let inv = c.loop-other_at.invariant in
     let read = c.read_at-own_block-in-Inside.ensures in
     let block = rw inv.own_kept at read.block in
-    let turn = fit-inside f is_new number _ _ _ _ c.loop-other_at.own_block c.loop-other_at.other_block c.read_at-own_block-in-Inside.result inv.walk c.in-Inside.ensures in
+    let turn = fit-inside f form number _ _ _ _ c.loop-other_at.own_block c.loop-other_at.other_block c.read_at-own_block-in-Inside.result inv.walk c.in-Inside.ensures in
     record {
       walk = turn.1 (IsAt-from f number g.T.Block.last _ (c.loop-other_at.own_at + 1) _ block);
       own_block = block;
@@ -63,4 +63,4 @@ loop-other_at-preserved g c =
 pub returns-in-Beyond-clause-value : goal.returns-in-Beyond-clause-value
 returns-in-Beyond-clause-value g c =
     let inv = c.loop-other_at.invariant in
-    fit-beyond g.T.Block.bounds g.T.Block.is_new g.T.Block.number g.T.Block.last _ _ _ _ c.loop-other_at.own_block c.loop-other_at.other_block c.in-Beyond.min c.in-Beyond.max inv.walk inv.own_block inv.other_block c.in-Beyond.ensures
+    fit-beyond g.T.Block.bounds g.T.Block.form g.T.Block.number g.T.Block.last _ _ _ _ c.loop-other_at.own_block c.loop-other_at.other_block c.in-Beyond.min c.in-Beyond.max inv.walk inv.own_block inv.other_block c.in-Beyond.ensures

@@ -7,7 +7,7 @@ use Rattle.rpki_chain.proofs.overhang.first_overhang.Given as goal
 
 abbrev pub invariant-loop-other_at : goal.invariant-loop-other_at
 invariant-loop-other_at g l = record {
-  walk : Inside g.T.Block.bounds g.T.Block.is_new (g.X.Reads.blocks l.fn.own) (g.Y.Reads.blocks l.fn.other) l.own_at (option_map (numbers g.T.Block.number) l.own_block) l.other_at (option_map (numbers g.T.Block.number) l.other_block);
+  walk : Inside g.T.Block.bounds g.T.Block.form (g.X.Reads.blocks l.fn.own) (g.Y.Reads.blocks l.fn.other) l.own_at (option_map (numbers g.T.Block.number) l.own_block) l.other_at (option_map (numbers g.T.Block.number) l.other_block);
   own_block : HoldsBlock g.T.Block.bounds g.T.Block.number g.T.Block.last (g.X.Reads.blocks l.fn.own) l.own_at l.own_block;
   other_block : HoldsBlock g.T.Block.bounds g.T.Block.number g.T.Block.last (g.Y.Reads.blocks l.fn.other) l.other_at l.other_block;
   own_bound : length (g.X.Reads.blocks l.fn.own) < 2 ^ 64;

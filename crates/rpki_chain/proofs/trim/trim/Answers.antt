@@ -6,6 +6,6 @@ use Rattle.rpki_chain.proofs.trim.trim.Goals as goal
 pub returns-in-Ok-clause-refused : goal.returns-in-Ok-clause-refused
 returns-in-Ok-clause-refused g c =
     let f = g.T.Block.bounds in
-    let is_new = g.T.Block.is_new in
-    subst (λ xs. IsChainOf f is_new (λ n. Covers f xs n × Covers f (g.Y.Reads.blocks c.args.other.now) n) c.in-Ok.chain) c.first_overhang.ensures.own_kept
-    (subst (λ ys. IsChainOf f is_new (λ n. Covers f (g.X.Reads.blocks c.first_overhang.new.own) n × Covers f ys n) c.in-Ok.chain) c.first_overhang.ensures.other_kept c.in-Ok.ensures.common)
+    let form = g.T.Block.form in
+    subst (λ xs. IsChainOf f form (λ n. Covers f xs n × Covers f (g.Y.Reads.blocks c.args.other.now) n) c.in-Ok.chain) c.first_overhang.ensures.own_kept
+    (subst (λ ys. IsChainOf f form (λ n. Covers f (g.X.Reads.blocks c.first_overhang.new.own) n × Covers f ys n) c.in-Ok.chain) c.first_overhang.ensures.other_kept c.in-Ok.ensures.common)

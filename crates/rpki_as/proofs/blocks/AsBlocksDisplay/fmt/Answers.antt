@@ -1,9 +1,6 @@
 use Rattle.std.proofs.Common.{refl}
 use Rattle.rpki_as.specs.BlockText.{block_text}
-use Rattle.rpki_as.proofs.ListLemmas.{run_texts}
 use Rattle.rpki_as.proofs.blocks.AsBlocksDisplay.fmt.Goals as goal
 
 pub returns-clause-writes : goal.returns-clause-writes
-returns-clause-writes g c =
-    let texts = run_texts c.as_slice.result.now c.as_slice.ensures.chain.chain.new_form in
-    rw (← c.self.view_is, ← c.as_slice.ensures.blocks, ← texts) (c.fmt_joined.ensures block_text (λ b. refl))
+returns-clause-writes g c = rw (← c.self.view_is, ← c.as_slice.ensures.made) (c.fmt_joined.ensures block_text (λ b. refl))

@@ -12,7 +12,7 @@ steps : (c : goal.Joined-lt) → c.args.self.now ≡ c.bounds-min.result.0 ∷ c
 steps c =
     let min : c.bounds-min.result.0 ≡ c.in_ok-range.range.min = c.bounds-min.ensures.min in
     let max : c.bounds-min.result.1 ≡ c.in_ok-range.range.max = c.bounds-min.ensures.max in
-    let ordered = c.in_ok-range.range.in_order in
+    let ordered = c.bounds-min.ensures.ordered in
     before c ∙ elim c.if-lt.branch [
       | then-lt w ↦
           let test = sym c.lt.ensures ∙ w.if-lt.true in

@@ -5,10 +5,10 @@ use Rattle.rpki_chain.proofs.Unique.{IsChain-unique}
 use Rattle.rpki_chain.proofs.chain.Chain.as_slice.Goals as goal
 
 pub returns-clause-chain : goal.returns-clause-chain
-returns-clause-chain g c = IsChainOf-itself g.T.Block.bounds g.T.Block.is_new _ c.args.self.is_chain
+returns-clause-chain g c = IsChainOf-itself g.T.Block.bounds g.T.Block.form _ c.args.self.is_chain
 
 pub returns-clause-only : goal.returns-clause-only
-returns-clause-only g c blocks chain = IsChain-unique g.T.Block.bounds g.T.Block.is_new g.met.T.Block.one_new_form blocks _ (IsChain-from g.T.Block.bounds g.T.Block.is_new blocks _ chain) c.args.self.is_chain chain.covers
+returns-clause-only g c blocks chain = IsChain-unique g.T.Block.bounds g.T.Block.form blocks _ (IsChain-from g.T.Block.bounds g.T.Block.form blocks _ chain) c.args.self.is_chain chain.covers
 
 pub returns-clause-shortest : goal.returns-clause-shortest
-returns-clause-shortest g c blocks same = IsChain-shortest g.T.Block.bounds g.T.Block.is_new _ blocks c.args.self.is_chain same
+returns-clause-shortest g c blocks same = IsChain-shortest g.T.Block.bounds g.T.Block.form _ blocks c.args.self.is_chain same

@@ -23,7 +23,7 @@ returns-clause-covers g c =
     let self = c.args.self.now in
     let other = c.args.other.now in (
       λ t n. (Covers-map bounds bounds _ _ n (c.have_same_bounds.ensures.0 t), Covers-map bounds bounds _ _ n (sym (c.have_same_bounds.ensures.0 t))),
-      λ h. c.have_same_bounds.ensures.1 (ap (map bounds) (IsChain-unique bounds g.T.Block.is_new g.met.T.Block.one_new_form _ _ self.is_chain other.is_chain h)),
+      λ h. c.have_same_bounds.ensures.1 (ap (map bounds) (IsChain-unique bounds g.T.Block.form _ _ self.is_chain other.is_chain h)),
     )
 
 pub returns-clause-same : goal.returns-clause-same
@@ -31,6 +31,6 @@ returns-clause-same g c =
     let bounds = g.T.Block.bounds in
     let self = c.args.self.now in
     let other = c.args.other.now in (
-      λ t. IsChain-unique bounds g.T.Block.is_new g.met.T.Block.one_new_form _ _ self.is_chain other.is_chain (λ n. (Covers-map bounds bounds _ _ n (c.have_same_bounds.ensures.0 t), Covers-map bounds bounds _ _ n (sym (c.have_same_bounds.ensures.0 t)))),
+      λ t. IsChain-unique bounds g.T.Block.form _ _ self.is_chain other.is_chain (λ n. (Covers-map bounds bounds _ _ n (c.have_same_bounds.ensures.0 t), Covers-map bounds bounds _ _ n (sym (c.have_same_bounds.ensures.0 t)))),
       λ e. c.have_same_bounds.ensures.1 (ap (map bounds) e),
     )

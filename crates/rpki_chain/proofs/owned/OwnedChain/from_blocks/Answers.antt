@@ -6,7 +6,7 @@ use Rattle.rpki_chain.proofs.owned.OwnedChain.from_blocks.Goals as goal
 pub returns : goal.returns
 returns g c =
     let bounds = g.T.Block.bounds in
-    rw c.from_vec_unchecked.ensures (IsChainOf-from bounds g.T.Block.is_new c.in_ok-blocks.blocks.items (Covers bounds c.args.blocks.now) c.in_ok-blocks.ensures.chain (λ n.
+    rw c.from_vec_unchecked.ensures (IsChainOf-from bounds g.T.Block.form c.in_ok-blocks.blocks.items (Covers bounds c.args.blocks.now) c.in_ok-blocks.ensures.chain (λ n.
     let covers = c.in_ok-blocks.ensures.covers n in
     let sorted = rw c.as_slice.ensures.value at covers in
     let before = c.in_ok-bounds.ensures.covers n in

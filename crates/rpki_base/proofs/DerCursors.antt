@@ -7,7 +7,8 @@ use Rattle.rpki_der.specs.Der.{IsBytes, Refines}
 use Rattle.rpki_der.specs.Reading.{◌>>=◌, IsReading, optional}
 use Rattle.rpki_der.specs.Views.{ReadsOptional, Takes, left}
 use Rattle.rpki_der.proofs.Cursors.{none_by, reads_optional_by}
-use Rattle.rpki_der.proofs.Steps.{ok_is}
+use Rattle.rpki_der.proofs.Lists.{as_some, some_is, some_err}
+use Rattle.rpki_der.proofs.Steps.{ok_is, ok_or_err}
 use Rattle.rpki_base.specs.declared.memory.OrMemory.{OrMemory}
 use Rattle.rpki_base.specs.declared.memory.OrMemory.TheVariants.{Refused, Memory}
 use Rattle.rpki_base.specs.DerReading.{begins_with, if_tagged}
@@ -30,19 +31,6 @@ reads_optional_value_by {X} G reading old new result is fits took = reads_option
     mapped (Ok None) took = took
     mapped (Ok (Some x)) took = took
     mapped (Err e) took = took
-
--- what a reading gives, as something that may not be there
-abbrev as_some : {X : Type 0} → X × List ℕ → Result (Option X × List ℕ) DerError
-as_some x = Ok (Some x.0, x.1)
-
--- Some of two values
-some_is : {X : Type 0} (x y : X) → Some x ≡ Some y → x ≡ y
-some_is x y e = cc
-
--- a fault is that of the reading
-some_err : {X : Type 0} (r : Result (X × List ℕ) DerError) (e : DerError) → (r >>= as_some) ≡ Err e → r ≡ Err e
-some_err (Ok x) e h = absurd cc
-some_err (Err d) e h = cc
 
 -- Some is of what the reading gives
 some_ok : {X : Type 0} (r : Result (X × List ℕ) DerError) (x : X) (rest : List ℕ) → (r >>= as_some) ≡ Ok (Some x, rest) → r ≡ Ok (x, rest)
@@ -83,10 +71,6 @@ reads_tagged_by {X} tag G reading old new result is fits = decided result
     decided (Ok None) took = none (begins_with tag (left old)) refl took
     decided (Ok (Some x)) took = some x (begins_with tag (left old)) refl took
     decided (Err e) took = fails e (begins_with tag (left old)) refl took.0 took.1
-
--- no result is both Ok and Err
-ok_or_err : {A : Type 0} (x : A) (e : DerError) (r : Result A DerError) → r ≡ Ok x → r ≡ Err e → ⊥
-ok_or_err x e r p q = cc
 
 -- a take that answers what is said by what the reading gives
 pub reads_said_by : {X Y : Type 0} (G : List ℕ → Y → Type 0) (C : Y → X → Type 0) (reading : List ℕ → Result (Y × List ℕ) DerError) (old new : Cursor) (result : Result X (OrMemory DerError))

@@ -1,12 +1,12 @@
 -- Contents: what the reading answers is what the conditions of X.690 say, and that is how they are spelled.
 use Rattle.std.proofs.Common.{◌≡◌, ℕ, zero, suc, ◌/◌, ◌%◌, ◌^◌, ◌<◌, ◌≤◌, ◌≢◌, Bool, true, false, cond, eqb, ltb, leb, ◌||◌, ◌&&◌, List, [], ◌∷◌, length, get_or, Result, Ok, Err, refl, sym, ap, subst, ◌∙◌, arith, inl, inr}
 use Rattle.std.specs.Int.{w64, to_be_bytes, bytes_high_first}
-use Rattle.std.proofs.lemmas.Bool.{cases_lt, ltb-false, ltb-true, le-ltb, lt-ltb, eqb-false, ne_eqb, leb-false, lt-leb}
+use Rattle.std.proofs.lemmas.Bool.{cases_lt, ltb-false, ltb-true, le-ltb, lt-ltb, eqb-false, ne_eqb, leb-false, lt-leb, or_parts, or_from}
 use Rattle.rpki_der.specs.declared.error.DerError.{DerError}
 use Rattle.rpki_der.specs.declared.error.DerError.TheVariants.{BadInteger, BadBitString}
 use Rattle.rpki_der.specs.Der.{IsBytes, big_endian, octets, integer, with_sign, Bits, IsBits, IsUnsigned, IsBitContent, IsNothing}
 use Rattle.rpki_der.specs.Reading.{unsigned, bits, nothing}
-use Rattle.rpki_der.proofs.Steps.{IsCheck, IsBytes-rest, passed, passed_true, ok_is, neither, both_false, one_false, and_false}
+use Rattle.rpki_der.proofs.Steps.{IsCheck, IsBytes-rest, passed, passed_true, ok_is, one_false, and_false}
 use Rattle.rpki_der.proofs.Numbers.{octets-big_endian, big_endian-octets, octets-zero, octets_head, length-without_zeros}
 
 -- ---- an integer: the reading and the conditions
@@ -22,8 +22,8 @@ unsigned_says content n e =
     let g2 = passed long BadInteger found n g1.1 in
     let g3 = passed_true (ltb (big_endian content) (2 ^ 32)) BadInteger (Ok (big_endian content)) n g2.1 in
     let n-is : big_endian content ≡ n = ok_is (big_endian content) n g3.1 in
-    let a = neither ((eqb (length content) 0) || ltb 5 (length content)) (leb 128 (get_or content 0 0)) g1.0 in
-    let b = neither (eqb (length content) 0) (ltb 5 (length content)) a.0 in
+    let a = or_parts ((eqb (length content) 0) || ltb 5 (length content)) (leb 128 (get_or content 0 0)) g1.0 in
+    let b = or_parts (eqb (length content) 0) (ltb 5 (length content)) a.0 in
     let some : length content ≢ 0 = eqb-false (length content) 0 b.0 in
     let small : big_endian content < 2 ^ 32 = ltb-true (big_endian content) (2 ^ 32) g3.0 in
     record {
@@ -59,7 +59,7 @@ says_unsigned content n is =
     let t0 : eqb (length content) 0 ≡ false = ne_eqb (length content) 0 (λ h. omega (arith, is.some)) in
     let t1 : ltb 5 (length content) ≡ false = le-ltb 5 (length content) is.few in
     let t2 : leb 128 (get_or content 0 0) ≡ false = lt-leb 128 (get_or content 0 0) is.sign in
-    let short : ((eqb (length content) 0) || ltb 5 (length content) || leb 128 (get_or content 0 0)) ≡ false = both_false _ _ (both_false _ _ t0 t1) t2 in
+    let short : ((eqb (length content) 0) || ltb 5 (length content) || leb 128 (get_or content 0 0)) ≡ false = or_from _ _ (or_from _ _ t0 t1) t2 in
     let below : ltb n (2 ^ 32) ≡ true = lt-ltb n (2 ^ 32) is.limit in
     rw (short, not_long content n is, is.spelled, below) refl
 
@@ -146,7 +146,7 @@ unfolding bits
 bits_say [] b e = absurd cc
 bits_say (u ∷ os) b e =
     let g = passed (ltb 7 u || (ltb 0 u && (eqb (length os) 0))) BadBitString (Ok (record { unused = u; octets = os })) b e in
-    let a = neither (ltb 7 u) (ltb 0 u && (eqb (length os) 0)) g.0 in
+    let a = or_parts (ltb 7 u) (ltb 0 u && (eqb (length os) 0)) g.0 in
     let made = ok_is (record { unused = u; octets = os }) b g.1 in
     subst (IsBitContent (u ∷ os)) made (record { counted = record { below = omega (arith, ltb-false 7 u a.0); empty = λ h. none_used u (length os) a.1 h }; spelled = refl })
 

@@ -5,12 +5,8 @@ use Rattle.rpki_der.specs.declared.error.DerError.{DerError}
 use Rattle.rpki_der.specs.Der.{IsBytes, NoFront}
 use Rattle.rpki_der.specs.Reading.{Gives, IsReading, optional}
 use Rattle.rpki_der.specs.Views.{left, Takes, Reads, ReadsOptional, Parses}
-use Rattle.rpki_der.proofs.Steps.{IsCheck}
+use Rattle.rpki_der.proofs.Steps.{IsCheck, ok_or_err}
 use Rattle.rpki_der.proofs.Lists.{optional_some, optional_none, optional_err}
-
--- no result is both Ok and Err
-ok_or_err : {A : Type 0} (x : A) (e : DerError) (r : Result A DerError) → r ≡ Ok x → r ≡ Err e → ⊥
-ok_or_err x e r p q = cc
 
 -- a reading that fails finds no value of its grammar
 pub none_by : {X : Type 0} (G : List ℕ → X → Type 0) (reading : List ℕ → Result (X × List ℕ) DerError) (bytes : List ℕ) (e : DerError) → IsReading G reading → reading bytes ≡ Err e → NoFront G bytes

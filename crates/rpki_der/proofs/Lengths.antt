@@ -1,12 +1,12 @@
 -- Lengths: what the reading answers is what the conditions of X.690 say, and that is how they are spelled.
 use Rattle.std.proofs.Common.{◌≡◌, ℕ, zero, suc, ◌+◌, ◌-◌, ◌^◌, ◌<◌, ◌≤◌, ◌≢◌, Bool, true, false, cond, eqb, ltb, ◌||◌, List, [], ◌∷◌, ◌++◌, length, get_or, take, drop, Result, Ok, Err, refl, sym, ap, subst, ◌∙◌, arith, inl, inr}
-use Rattle.std.proofs.lemmas.Bool.{ltb-false, ltb-true, le-ltb, lt-ltb, eqb-false, ne_eqb}
+use Rattle.std.proofs.lemmas.Bool.{ltb-false, ltb-true, le-ltb, lt-ltb, eqb-false, ne_eqb, or_parts, or_from}
 use Rattle.std.proofs.lemmas.List.{take_at, drop_at, take-append-drop, length-append, length-take, get_or_append_left}
 use Rattle.rpki_der.specs.declared.error.DerError.{DerError}
 use Rattle.rpki_der.specs.declared.error.DerError.TheVariants.{Truncated, BadLength}
 use Rattle.rpki_der.specs.Der.{IsBytes, big_endian, octets, length_octets, IsLength, IsLongLength, Front}
 use Rattle.rpki_der.specs.Reading.{long_length_at, length_at}
-use Rattle.rpki_der.proofs.Steps.{IsBytes-rest, fits_front, passed, ok_is, neither, both_false}
+use Rattle.rpki_der.proofs.Steps.{IsBytes-rest, fits_front, passed, ok_is}
 use Rattle.rpki_der.proofs.Numbers.{octets-big_endian, big_endian-octets, big_endian_small, length-octets, octets_head}
 
 -- ---- the reading and the conditions
@@ -31,8 +31,8 @@ long_says first bytes n rest large e =
     let made = ok_is (big_endian digits, drop count bytes) (n, rest) g3.1 in
     let n-is : big_endian digits ≡ n = ap (λ (p : ℕ × List ℕ). p.0) made in
     let rest-is : drop count bytes ≡ rest = ap (λ (p : ℕ × List ℕ). p.1) made in
-    let a = neither (eqb count 0) (ltb 8 count) g1.0 in
-    let b = neither (eqb (get_or bytes 0 0) 0) (ltb (big_endian digits) 128) g3.0 in
+    let a = or_parts (eqb count 0) (ltb 8 count) g1.0 in
+    let b = or_parts (eqb (get_or bytes 0 0) 0) (ltb (big_endian digits) 128) g3.0 in
     let some : count ≢ 0 = eqb-false count 0 a.0 in
     let few : count ≤ 8 = ltb-false 8 count a.1 in
     let enough : count ≤ length bytes = ltb-false (length bytes) count g2.0 in
@@ -76,12 +76,12 @@ says_long : (first : ℕ) (ds : List ℕ) (n : ℕ) (rest : List ℕ) → IsLong
 unfolding long_length_at
 says_long first ds n rest is =
     let some : 0 < length ds = has_some ds is.no_zero in
-    let g1 : ((eqb (length ds) 0) || ltb 8 (length ds)) ≡ false = both_false _ _ (ne_eqb (length ds) 0 (λ h. omega arith)) (le-ltb 8 (length ds) is.few) in
+    let g1 : ((eqb (length ds) 0) || ltb 8 (length ds)) ≡ false = or_from _ _ (ne_eqb (length ds) 0 (λ h. omega arith)) (le-ltb 8 (length ds) is.few) in
     let g2 : ltb (length (ds ++ rest)) (length ds) ≡ false = le-ltb _ _ (omega (arith, length-append ds rest)) in
     let head : get_or (ds ++ rest) 0 0 ≡ get_or ds 0 0 = get_or_append_left ds rest 0 0 some in
     let digits : take (length ds) (ds ++ rest) ≡ ds = take_at ds rest (length ds) refl in
     let after : drop (length ds) (ds ++ rest) ≡ rest = drop_at ds rest (length ds) refl in
-    let g3 : ((eqb (get_or ds 0 0) 0) || ltb n 128) ≡ false = both_false _ _ (ne_eqb (get_or ds 0 0) 0 is.no_zero) (le-ltb n 128 is.large) in
+    let g3 : ((eqb (get_or ds 0 0) 0) || ltb n 128) ≡ false = or_from _ _ (ne_eqb (get_or ds 0 0) 0 is.no_zero) (le-ltb n 128 is.large) in
     rw (g1, g2, head, digits, after, is.spelled, g3) refl
 
 -- a length that meets the conditions is read, whatever follows

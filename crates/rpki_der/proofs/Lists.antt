@@ -112,15 +112,15 @@ loop_fails next reading front state (b ∷ bytes) total e so some read = sym so.
 -- ---- what an optional reading says
 
 -- Some of two values
-some_is : {X : Type 0} (x y : X) → Some x ≡ Some y → x ≡ y
+pub some_is : {X : Type 0} (x y : X) → Some x ≡ Some y → x ≡ y
 some_is x y e = cc
 
 -- what an optional reading makes of a value
-abbrev as_some : {X : Type 0} → X × List ℕ → Result (Option X × List ℕ) DerError
+abbrev pub as_some : {X : Type 0} → X × List ℕ → Result (Option X × List ℕ) DerError
 as_some x = Ok (Some x.0, x.1)
 
 -- its fault is that of the reading
-some_err : {X : Type 0} (r : Result (X × List ℕ) DerError) (e : DerError) → (r >>= as_some) ≡ Err e → r ≡ Err e
+pub some_err : {X : Type 0} (r : Result (X × List ℕ) DerError) (e : DerError) → (r >>= as_some) ≡ Err e → r ≡ Err e
 some_err (Ok x) e h = absurd cc
 some_err (Err d) e h = cc
 

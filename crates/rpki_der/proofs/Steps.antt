@@ -1,5 +1,5 @@
 -- Steps of reading that did not fail.
-use Rattle.std.proofs.Common.{◌≡◌, ℕ, zero, suc, ◌+◌, Bool, true, false, cond, ◌||◌, ◌&&◌, List, ◌∷◌, ◌++◌, length, replicate, Result, Ok, Err, refl, arith, inl, inr}
+use Rattle.std.proofs.Common.{◌≡◌, ℕ, zero, suc, ◌+◌, Bool, true, false, cond, ◌&&◌, List, ◌∷◌, ◌++◌, length, replicate, Result, Ok, Err, refl, arith, inl, inr}
 use Rattle.std.proofs.lemmas.Bool.{cases_lt}
 use Rattle.std.proofs.lemmas.List.{get_or_past, get_or_append_left, get_or-append-add}
 use Rattle.rpki_der.specs.declared.error.DerError.{DerError}
@@ -55,16 +55,6 @@ done x = Ok x
 pub ok_is : {A : Type 0} (x y : A) → done x ≡ done y → x ≡ y
 ok_is x y e = cc
 
--- of two tests neither passes
-pub neither : (a b : Bool) → (a || b) ≡ false → (a ≡ false) × (b ≡ false)
-neither true b e = absurd cc
-neither false b e = (refl, e)
-
--- two tests that fail
-pub both_false : (a b : Bool) → a ≡ false → b ≡ false → (a || b) ≡ false
-both_false true b p q = absurd cc
-both_false false b p q = q
-
 -- one of two tests fails that don't both pass
 pub one_false : (a b : Bool) → (a && b) ≡ false → a ≡ true → b ≡ false
 one_false true b e p = e
@@ -74,6 +64,10 @@ one_false false b e p = absurd cc
 pub and_false : (a b : Bool) → b ≡ false → (a && b) ≡ false
 and_false true b e = e
 and_false false b e = refl
+
+-- an answer isn't both
+pub ok_or_err : {A : Type 0} (x : A) (e : DerError) (r : Result A DerError) → r ≡ Ok x → r ≡ Err e → ⊥
+ok_or_err x e r p q = cc
 
 -- a second look at what was read finds what C says
 pub record IsCheck {X Y : Type 0} (Fits : X → Type 0) (C : X → Y → Type 0) (check : X → Result Y DerError) : Type 0 where

@@ -29,6 +29,11 @@ octets n = without_zeros (to_be_bytes w64 n)
 abbrev pub IsTag : ℕ → Type 0
 IsTag tag = tag % 32 < 31
 
+-- the tag octet of a class (0 is universal, 2 that of the context), primitive (0) or constructed (1), and a tag number
+-- below 31 (X.690, 8.1.2.2 to 8.1.2.5)
+abbrev pub tag_octet : ℕ → ℕ → ℕ → ℕ
+tag_octet class form number = class * 64 + form * 32 + number
+
 -- a definite length in the fewest octets: one octet below 128; from 128 on, an octet that is 128 and the count of
 -- the octets behind it, and those (X.690, 8.1.3.4, 8.1.3.5 and 10.1)
 unfoldable pub length_octets : ℕ → List ℕ

@@ -62,7 +62,8 @@ impl<'a> Content<'a> {
 
     /// The content as a BIT STRING (X.690, 8.6.2), else `BadBitString`.
     pub fn to_bit_string(&self) -> Result<BitString<'a>, DerError>
-        ensures reads { LenientIn self.now (Parses IsBitContent bits_of (content_octets self.now) result) }
+        ensures reads { LenientIn self.now
+            (Parses IsBitContent bits_of (content_octets self.now) result) }
         ensures exact { LenientIn self.now (Gives bits_of result (bits (content_octets self.now))) }
     {
         self.parse_bit_string()
@@ -84,9 +85,9 @@ impl<'a> Content<'a> {
     }
 }
 
-// The readings behind the calls of the same names.
+// The readings behind the calls: each stands apart from its call, whose further clause, `reads`,
+// follows from `exact` by a theorem on the grammar.
 impl<'a> Content<'a> {
-    ghost use Rattle.std.specs.Prelude.{◌≡◌};
     ghost use Rattle.rpki_der.specs.Reading.{Gives, bits, nothing, unsigned};
     ghost use Rattle.rpki_der.specs.Views.{bits_of, content_octets};
 

@@ -134,7 +134,8 @@ impl<'a> Cursor<'a> {
     }
 }
 
-// The readings behind the takes: which value or which fault the octets give.
+// The readings behind the takes: which value or which fault the octets give. Each stands apart from
+// its take, whose further clause, `reads`, follows from this one by a theorem on the grammar.
 impl<'a> Cursor<'a> {
     ghost use Rattle.std.specs.Prelude.{option_map};
     ghost use Rattle.rpki_der.specs.Reading.{bit_string_at, null_at, optional, tagged_at, u32_at, value_at};

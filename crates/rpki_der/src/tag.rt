@@ -1,14 +1,19 @@
 //! The tag octets of the types that are read and written (X.690, section 8).
 
+/// An INTEGER (8.3).
 pub const INTEGER: u8 = 0x02;
 
+/// A BIT STRING, primitive (8.6).
 pub const BIT_STRING: u8 = 0x03;
 
+/// An OCTET STRING, primitive (8.7).
 pub const OCTET_STRING: u8 = 0x04;
 
+/// A NULL (8.8).
 pub const NULL: u8 = 0x05;
 
+/// A SEQUENCE, which is constructed (8.9).
 pub const SEQUENCE: u8 = 0x30;
 
-/// `[0]`, constructed.
+/// `[0]` of the context, constructed (8.14).
 pub const CONTEXT_0: u8 = 0xa0;

@@ -2,7 +2,7 @@
 //!
 //! A writer reserves the whole length first, so where memory is wanting the vector stays as it was.
 
-ghost use Rattle.std.specs.Prelude.{◌≡◌, ◌≤◌, ◌<◌, ◌+◌, ◌^◌, ◌++◌, [], ◌∷◌, length, vec_len, OnOk, OnErr, IsOk};
+ghost use Rattle.std.specs.Prelude.{◌≡◌, ◌≤◌, ◌<◌, ◌+◌, ◌^◌, ◌++◌, length, vec_len, OnOk, OnErr, IsOk};
 ghost use Rattle.std.specs.Vec.{vec_capacity};
 ghost use Rattle.rpki_der.specs.Der.{IsBits, IsTag, bit_string_value, bits_with, header, integer, null_value, octet_string_value, u32_value, value, with_sign, without_zeros};
 
@@ -45,7 +45,8 @@ pub fn put_header<A: Allocator>(
     requires { IsTag tag }
     ensures ok { OnOk result (out.new.items ≡ out.old.items ++ header tag content_len) }
     ensures err { OnErr result (out.new.items ≡ out.old.items) }
-    ensures succeeds { vec_len out.old + length (header tag content_len) ≤ vec_capacity out.old → IsOk result }
+    ensures succeeds { vec_len out.old + length (header tag content_len) ≤ vec_capacity out.old
+        → IsOk result }
     ensures capacity { vec_capacity out.old ≤ vec_capacity out.new }
 {
     out.reserve(header_len(tag, content_len))?;
@@ -92,7 +93,8 @@ fn put_value<A: Allocator>(
     requires few { length front.now < 16 }
     ensures ok { OnOk result (out.new.items ≡ out.old.items ++ value tag (front.now ++ back.now)) }
     ensures err { OnErr result (out.new.items ≡ out.old.items) }
-    ensures succeeds { vec_len out.old + length (value tag (front.now ++ back.now)) ≤ vec_capacity out.old → IsOk result }
+    ensures succeeds { vec_len out.old + length (value tag (front.now ++ back.now))
+        ≤ vec_capacity out.old → IsOk result }
     ensures capacity { vec_capacity out.old ≤ vec_capacity out.new }
 {
     let content_len = front.len() + back.len();
@@ -127,7 +129,8 @@ pub fn u32_len(number: u32) -> usize
 pub fn put_u32<A: Allocator>(out: &mut Vec<u8, A>, number: u32) -> Result<(), AllocError>
     ensures ok { OnOk result (out.new.items ≡ out.old.items ++ u32_value number) }
     ensures err { OnErr result (out.new.items ≡ out.old.items) }
-    ensures succeeds { vec_len out.old + length (u32_value number) ≤ vec_capacity out.old → IsOk result }
+    ensures succeeds { vec_len out.old + length (u32_value number) ≤ vec_capacity out.old
+        → IsOk result }
     ensures capacity { vec_capacity out.old ≤ vec_capacity out.new }
 {
     let octets = (number as u64).to_be_bytes();
@@ -150,9 +153,11 @@ pub fn put_bit_string<A: Allocator>(
     octets: &[u8],
 ) -> Result<(), AllocError>
     requires { IsBits (bits_with unused octets.now) }
-    ensures ok { OnOk result (out.new.items ≡ out.old.items ++ bit_string_value (bits_with unused octets.now)) }
+    ensures ok { OnOk result
+        (out.new.items ≡ out.old.items ++ bit_string_value (bits_with unused octets.now)) }
     ensures err { OnErr result (out.new.items ≡ out.old.items) }
-    ensures succeeds { vec_len out.old + length (bit_string_value (bits_with unused octets.now)) ≤ vec_capacity out.old → IsOk result }
+    ensures succeeds { vec_len out.old + length (bit_string_value (bits_with unused octets.now))
+        ≤ vec_capacity out.old → IsOk result }
     ensures capacity { vec_capacity out.old ≤ vec_capacity out.new }
 {
     put_value(out, tag::BIT_STRING, &[unused], octets)
@@ -169,7 +174,8 @@ pub fn octets_len(octets: &[u8]) -> usize
 pub fn put_octets<A: Allocator>(out: &mut Vec<u8, A>, octets: &[u8]) -> Result<(), AllocError>
     ensures ok { OnOk result (out.new.items ≡ out.old.items ++ octet_string_value octets.now) }
     ensures err { OnErr result (out.new.items ≡ out.old.items) }
-    ensures succeeds { vec_len out.old + length (octet_string_value octets.now) ≤ vec_capacity out.old → IsOk result }
+    ensures succeeds { vec_len out.old + length (octet_string_value octets.now)
+        ≤ vec_capacity out.old → IsOk result }
     ensures capacity { vec_capacity out.old ≤ vec_capacity out.new }
 {
     put_value(out, tag::OCTET_STRING, &[], octets)

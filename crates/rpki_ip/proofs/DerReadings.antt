@@ -1,14 +1,14 @@
 -- The readings find the families, prefixes and ranges of the grammars, whatever follows them, and no others.
 use Rattle.std.proofs.Common.{◌≡◌, ℕ, ◌-◌, ◌*◌, ◌/◌, ◌^◌, ◌≤◌, ◌||◌, ◌&&◌, Bool, true, false, cond, eqb, ltb, List, [], ◌∷◌, length, get_or, Result, Ok, Err, refl, sym, ap, subst, ◌∙◌, arith, inl, inr}
 use Rattle.std.specs.Prelude.{IsErrAnd, MatchResult}
-use Rattle.std.proofs.lemmas.Bool.{ltb-false, le-ltb, eqb-true, cases_lt}
+use Rattle.std.proofs.lemmas.Bool.{ltb-false, le-ltb, eqb-true, cases_lt, and_parts, or_parts, or_from}
 use Rattle.rpki_base.specs.Prefixes.{PrefixValue, last_of}
 use Rattle.rpki_base.proofs.DerReadings.{pair_check}
 use Rattle.rpki_der.specs.declared.error.DerError.{DerError}
 use Rattle.rpki_der.specs.declared.error.DerError.TheVariants.{BadPrefix, BadFamily, ReversedRange}
 use Rattle.rpki_der.specs.Der.{Bits, IsBits, IsBytes, IsSequence, bit_content, bit_count, big_endian, Refines}
 use Rattle.rpki_der.specs.Reading.{Gives, bits, refined, tagged_at, IsReading}
-use Rattle.rpki_der.proofs.Steps.{IsCheck, bind_ok, passed, ok_is, neither, both_false}
+use Rattle.rpki_der.proofs.Steps.{IsCheck, bind_ok, passed, ok_is, ok_or_err}
 use Rattle.rpki_der.proofs.Contents.{bits_check}
 use Rattle.rpki_der.proofs.Readings.{IsTagged, fits_content, refined_reading, same_reading, tagged_reading}
 use Rattle.rpki_ip.specs.declared.family.AddressFamily.{AddressFamily}
@@ -20,10 +20,6 @@ use Rattle.rpki_ip.specs.Ranges.{RangeValue}
 
 -- ---- a fault under another name
 
--- no result is both Ok and Err
-ok_or_err : {A : Type 0} (x : A) (e : DerError) (r : Result A DerError) → r ≡ Ok x → r ≡ Err e → ⊥
-ok_or_err x e r p q = cc
-
 -- a reading whose fault gets another name still answers what the rule says
 pub renamed : {X Y E : Type 0} (Fits : X → Type 0) (C : X → Y → Type 0) (check : X → Result Y DerError) (x : X) (read : Result Y DerError) (named : Result Y E) (P : DerError → E → Type 0)
     → IsCheck Fits C check → Fits x → Gives (λ y. y) read (check x) → MatchResult read (λ y. named ≡ Ok y) (λ e. IsErrAnd named (P e)) → MatchResult named (C x) (λ _. (y : Y) → C x y → ⊥)
@@ -32,11 +28,6 @@ renamed Fits C check x (Err e) (Ok y) P is fits gives same = absurd same
 renamed Fits C check x (Err e) (Err d) P is fits gives same = λ y c. ok_or_err y e (check x) (is.again x y c) gives
 
 -- ---- families
-
--- both of two tests pass
-both_true : (a b : Bool) → (a && b) ≡ true → (a ≡ true) × (b ≡ true)
-both_true true b e = (refl, e)
-both_true false b e = absurd cc
 
 -- two octets by their places
 two : (content : List ℕ) (a b : ℕ) → length content ≡ 2 → get_or content 0 0 ≡ a → get_or content 1 0 ≡ b → content ≡ a ∷ b ∷ []
@@ -48,8 +39,8 @@ two (c ∷ d ∷ e ∷ rest) a b n x y = absurd (omega arith)
 -- the octets of a family whose test passes
 are_two : (content : List ℕ) (b : ℕ) → ((eqb (length content) 2) && (eqb (get_or content 0 0) 0) && (eqb (get_or content 1 0) b)) ≡ true → content ≡ 0 ∷ b ∷ []
 are_two content b e =
-    let x = both_true ((eqb (length content) 2) && (eqb (get_or content 0 0) 0)) (eqb (get_or content 1 0) b) e in
-    let y = both_true (eqb (length content) 2) (eqb (get_or content 0 0) 0) x.0 in
+    let x = and_parts ((eqb (length content) 2) && (eqb (get_or content 0 0) 0)) (eqb (get_or content 1 0) b) e in
+    let y = and_parts (eqb (length content) 2) (eqb (get_or content 0 0) 0) x.0 in
     two content 0 b (eqb-true (length content) 2 y.0) (eqb-true (get_or content 0 0) 0 y.1) (eqb-true (get_or content 1 0) b x.1)
 
 -- a family by its tests
@@ -98,7 +89,7 @@ unfolding prefix_of
 prefix_says limit b p is e =
     let made : PrefixValue = record { first = big_endian b.octets / 2 ^ b.unused * 2 ^ (128 - bit_count b); len = bit_count b } in
     let g = passed (ltb 16 (length b.octets) || ltb limit (bit_count b)) BadPrefix (Ok made) p e in
-    let n = neither (ltb 16 (length b.octets)) (ltb limit (bit_count b)) g.0 in
+    let n = or_parts (ltb 16 (length b.octets)) (ltb limit (bit_count b)) g.0 in
     subst (SaysPrefix limit b) (ok_is made p g.1) (record {
       few = ltb-false 16 (length b.octets) n.0;
       len = omega (arith, counted b is);
@@ -111,7 +102,7 @@ pub prefix_again : (limit : ℕ) (b : Bits) (p : PrefixValue) → SaysPrefix lim
 unfolding prefix_of
 prefix_again limit b p s =
     let u : bit_count b ≡ p.len = omega (arith, s.len) in
-    let t : (ltb 16 (length b.octets) || ltb limit p.len) ≡ false = both_false _ _ (le-ltb 16 (length b.octets) s.few) (le-ltb limit p.len s.short) in
+    let t : (ltb 16 (length b.octets) || ltb limit p.len) ≡ false = or_from _ _ (le-ltb 16 (length b.octets) s.few) (le-ltb limit p.len s.short) in
     rw (u, t, ← s.first) refl
 
 -- the two together

@@ -1,6 +1,8 @@
 //! The refusal of a call that also takes memory.
 use rpki_der::DerError;
 use std::alloc::{AllocError, AllocFailed};
+use std::error::Error;
+use std::fmt;
 
 /// Why a call that takes memory answered no value.
 #[derive(Clone, Copy, Debug, PartialEq, Eq, Drop)]
@@ -41,3 +43,19 @@ impl From<DerError> for OrMemory<DerError> {
         OrMemory::Refused(fault)
     }
 }
+
+/// Writes the refusal as it writes itself, and `out of memory` where a request for memory was refused.
+impl<E: fmt::Display> fmt::Display for OrMemory<E> {
+    ghost use Rattle.rpki_base.specs.Memory.{or_memory_text};
+
+    ghost output = { or_memory_text E.output };
+
+    fn fmt<W: fmt::Write>(&self, f: &mut fmt::Formatter<W>) -> fmt::Result {
+        match self {
+            OrMemory::Refused(fault) => fault.fmt(f),
+            OrMemory::Memory(_) => f.write_str("out of memory"),
+        }
+    }
+}
+
+impl<E: Error> Error for OrMemory<E> {}

@@ -12,5 +12,7 @@ pub mod NumberLemmas
 pub mod PrefixNumbers
 pub mod PrintedAddressLemmas
 pub mod PrintedLemmas
+pub mod ReadingLemmas
 pub mod SmallSetLemmas
 pub mod WalkLemmas
+pub mod WalkSizes

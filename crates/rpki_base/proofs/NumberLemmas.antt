@@ -12,20 +12,8 @@ use Rattle.std.proofs.lemmas.Int.Digits.{digits_value_more}
 use Rattle.rpki_base.specs.declared.number.ParseIntError.{ParseIntError}
 use Rattle.rpki_base.specs.declared.number.ParseIntError.TheVariants.{Empty, InvalidDigit, PosOverflow}
 use Rattle.rpki_base.specs.Reading.{Answers}
+use Rattle.rpki_base.proofs.ReadingLemmas.{Answers-from_found}
 use Rattle.rpki_base.specs.Numbers.{IsNumberText, IsValueUpTo, PassesLimit, StopsBelow, HasInvalidDigit, HasNumberFault, DigitsFail}
-
--- an answer that is right decides the reader, where a text has one value or one fault at most
-pub Answers-from_found : {A E : Type 0} {Has : A → Type 0} {Fails : E → Type 0} (r : Result A E) → MatchResult r Has Fails → ((a b : A) → Has a → Has b → a ≡ b) → ((a : A) (e : E) → Has a → Fails e → ⊥) → ((d e : E) → Fails d → Fails e → d ≡ e) → Answers Has Fails r
-Answers-from_found (Ok x) found one apart same = record {
-  found = found;
-  each_value = λ a h. ap Ok (one x a found h);
-  each_fault = λ e h. absurd (apart x e found h);
-}
-Answers-from_found (Err d) found one apart same = record {
-  found = found;
-  each_value = λ a h. absurd (apart a d h found);
-  each_fault = λ e h. ap Err (same d e found h);
-}
 
 -- digits and one digit more
 pub AllDigits-push : (xs : List ℕ) (c : ℕ) → AllDigits 10 xs → digit_value c < 10 → AllDigits 10 (xs ++ c ∷ [])

@@ -57,7 +57,8 @@ impl Asn {
         self.0.to_be_bytes()
     }
 
-    /// The AS number that is `value` more. The caller owes that there is one: `Asn::MAX.into_u32() - self.into_u32()` is at least `value`.
+    /// The AS number that is `value` more. The caller owes that there is one: `Asn::MAX.into_u32() - self.into_u32()`
+    /// is at least `value`.
     pub fn add(self, value: u32) -> Asn
         requires { self + value < 2 ^ 32 }
         ensures { result ≡ self + value }
@@ -111,7 +112,8 @@ fn after_as(text: &[u8]) -> &[u8]
     }
 }
 
-/// Reads an optional `as` in any case of letters, and then the decimal text of a `u32`, as [`crate::number::parse_u32`] does.
+/// Reads an optional `as` in any case of letters, and then the decimal text of a `u32`, as
+/// [`crate::number::parse_u32`] does.
 impl FromStr for Asn {
     type Err = ParseAsnError;
 

@@ -1,5 +1,5 @@
 //! What callers may rely on and no single call says.
-ghost use Rattle.std.specs.Prelude.{◌≡◌, ◌↔◌, ℕ, ◌<◌, ◌^◌, List, Contains};
+ghost use Rattle.std.specs.Prelude.{◌≡◌, ◌↔◌, ℕ, ◌<◌, ◌-◌, ◌^◌, List, Contains, IsTrue};
 ghost use Rattle.std.specs.Ordering.{nat_cmp};
 ghost use Rattle.rpki_base.specs.Orders.{ip_cmp};
 ghost use Rattle.rpki_base.specs.PrintedAddress.{IsPrintedIpv6, ipv6_text};
@@ -8,10 +8,21 @@ ghost use Rattle.rpki_base.specs.SmallSet.{IsSmallSet};
 
 use crate::addr::{IpAddr, Ipv4Addr, Ipv6Addr};
 use crate::asn::Asn;
+use crate::small_set::SmallAsnSet;
+use std::alloc::Allocator;
+
+/// `Asn::MIN` and `Asn::MAX` are the least and the greatest AS number, 0 and 4294967295 (RFC 6793).
+pub fn ends_of_asns() -> (Asn, Asn)
+    ensures min { result.0 ≡ 0 }
+    ensures max { result.1 ≡ 2 ^ 32 - 1 }
+{
+    (Asn::MIN, Asn::MAX)
+}
 
 /// The text that is printed of an IPv6 address is the one that RFC 5952 asks for.
 pub fn ipv6_is_printed_so()
-    ensures { (n : ℕ) → n < 2 ^ 128 → (text : List ℕ) → (IsPrintedIpv6 n text) ↔ (text ≡ ipv6_text n) }
+    ensures { (n : ℕ) → n < 2 ^ 128 → (text : List ℕ)
+        → (IsPrintedIpv6 n text) ↔ (text ≡ ipv6_text n) }
 {}
 
 /// AS numbers and addresses are in order as their numbers, and IPv4 addresses are before IPv6 addresses.
@@ -22,7 +33,24 @@ pub fn orders_are_of_numbers()
     ensures either { (a b : EitherAddr) → ⟦<IpAddr as Ord>⟧.cmp a b ≡ ip_cmp a b }
 {}
 
+/// AS numbers and addresses are equal exactly where they are the same, addresses of either family where the families
+/// are too.
+pub fn equal_where_the_same()
+    ensures asn { (a b : ℕ) → IsTrue (⟦<Asn as PartialEq>⟧.eq a b) ↔ (a ≡ b) }
+    ensures ipv4 { (a b : ℕ) → IsTrue (⟦<Ipv4Addr as PartialEq>⟧.eq a b) ↔ (a ≡ b) }
+    ensures ipv6 { (a b : ℕ) → IsTrue (⟦<Ipv6Addr as PartialEq>⟧.eq a b) ↔ (a ≡ b) }
+    ensures either { (a b : EitherAddr) → IsTrue (⟦<IpAddr as PartialEq>⟧.eq a b) ↔ (a ≡ b) }
+{}
+
+/// Small sets are equal exactly where they have the same numbers.
+pub fn equal_small_sets<A: Allocator>()
+    ensures { (a b : List ℕ) → IsSmallSet a → IsSmallSet b
+        → IsTrue (⟦<SmallAsnSet<A> as PartialEq>⟧.eq a b)
+        ↔ ((n : ℕ) → (Contains a n) ↔ (Contains b n)) }
+{}
+
 /// Small sets of the same numbers are one list, so they are equal, and hash and compare alike.
 pub fn one_small_set()
-    ensures { (a b : List ℕ) → IsSmallSet a → IsSmallSet b → ((n : ℕ) → (Contains a n) ↔ (Contains b n)) → a ≡ b }
+    ensures { (a b : List ℕ) → IsSmallSet a → IsSmallSet b
+        → ((n : ℕ) → (Contains a n) ↔ (Contains b n)) → a ≡ b }
 {}

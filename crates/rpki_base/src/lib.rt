@@ -1,5 +1,5 @@
-//! What every layer above shares: number texts, addresses, AS numbers, lists of texts, sequences in DER, and the answer of
-//! a call that may want memory.
+//! What every layer above shares: number texts, addresses, AS numbers, lists of texts, sequences in DER, and the
+//! answer of a call that may want memory.
 #![tactic(auto)]
 
 pub mod addr;
@@ -10,3 +10,9 @@ pub mod list;
 pub mod memory;
 pub mod number;
 pub mod small_set;
+
+pub use addr::{AddrParseError, IpAddr, Ipv4Addr, Ipv6Addr};
+pub use asn::{Asn, ParseAsnError};
+pub use memory::OrMemory;
+pub use number::ParseIntError;
+pub use small_set::SmallAsnSet;

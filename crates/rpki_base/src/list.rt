@@ -33,7 +33,7 @@ pub trait ReadElement {
 ///
 /// The text is cut at its commas, each part is trimmed of white space, and a part that is then
 /// empty is left out. The first element that writes no value is refused with its fault.
-pub fn read_elements<R: ReadElement, A: Allocator + Drop>(
+pub fn read_elements<R: ReadElement, A: Allocator>(
     alloc: A,
     reader: &R,
     text: &str,
@@ -77,13 +77,17 @@ impl<T: FromStr + Drop> ReadElement for ByFromStr<T> {
 }
 
 /// The values that the elements of a list write, each read by its type's own `FromStr`, as [`read_elements`] answers.
-pub fn read_list<T: FromStr + Drop, A: Allocator + Drop>(
+pub fn read_list<T: FromStr + Drop, A: Allocator>(
     alloc: A,
     text: &str,
 ) -> Result<Vec<T, A>, OrMemory<T::Err>>
     ensures { MatchResult result
-        (λ values. HaveValues (λ t value. T.from_str_gives t (Ok value)) (elements text.now) values.items)
-        (IfRefused (HasFirstFault (λ t value. T.from_str_gives t (Ok value)) (λ t fault. T.from_str_gives t (Err fault)) (elements text.now))) }
+        (λ values. HaveValues (λ t value. T.from_str_gives t (Ok value))
+        (elements text.now) values.items)
+        (IfRefused (HasFirstFault
+        (λ t value. T.from_str_gives t (Ok value))
+        (λ t fault. T.from_str_gives t (Err fault))
+        (elements text.now))) }
 {
     let reader = ByFromStr { value: PhantomData };
     read_elements(alloc, &reader, text)
@@ -103,7 +107,8 @@ pub trait FmtElement {
         item: &Self::Item,
         f: &mut fmt::Formatter<W>,
     ) -> fmt::Result
-        ensures writes { DisplaysOnOk W.write_str_gives f.old result (text self.now item.now) f.new };
+        ensures writes { DisplaysOnOk W.write_str_gives f.old result
+            (text self.now item.now) f.new };
 }
 
 /// Prints items joined by a comma and a space, and nothing where there are none.
@@ -113,7 +118,8 @@ pub fn fmt_elements<P: FmtElement, W: fmt::Write>(
     f: &mut fmt::Formatter<W>,
 ) -> fmt::Result
     // Whatever text the printer writes of each item, these texts are joined.
-    ensures { (show : P.Item → List ℕ) → ((item : P.Item) → P.text printer.now item ≡ Some (show item))
+    ensures { (show : P.Item → List ℕ)
+        → ((item : P.Item) → P.text printer.now item ≡ Some (show item))
         → WritesOnOk W.write_str_gives f.old result (joined (map show items.now)) f.new }
 {
     if let [first, rest @ ..] = items {

@@ -12,7 +12,8 @@ use std::fmt;
 pub enum ParseIntError {
     /// There is no text.
     Empty,
-    /// A sign stands alone, or another character stands where a digit is due, and the digits before it don't pass the limit.
+    /// A sign stands alone, or another character stands where a digit is due, and the digits before it don't pass the
+    /// limit.
     InvalidDigit,
     /// The digits pass the greatest number that is wanted.
     PosOverflow,
@@ -81,14 +82,16 @@ pub(crate) fn parse_up_to(limit: u64, text: &[u8]) -> Result<u64, ParseIntError>
 /// [`ParseIntError::PosOverflow`] where the digits pass 4294967295 before another character stands,
 /// else [`ParseIntError::InvalidDigit`]. A minus sign is such another character.
 pub fn parse_u32(text: &str) -> Result<u32, ParseIntError>
-    ensures { Answers (IsNumberText (2 ^ 32 - 1) text.now) (HasNumberFault (2 ^ 32 - 1) text.now) result }
+    ensures { Answers (IsNumberText (2 ^ 32 - 1) text.now)
+        (HasNumberFault (2 ^ 32 - 1) text.now) result }
 {
     Ok(parse_up_to(u64::from(u32::MAX), text.as_bytes())? as u32)
 }
 
 /// Reads a decimal text of a `u8`, as [`parse_u32`] reads one of a `u32`. The greatest number is 255.
 pub fn parse_u8(text: &str) -> Result<u8, ParseIntError>
-    ensures { Answers (IsNumberText (2 ^ 8 - 1) text.now) (HasNumberFault (2 ^ 8 - 1) text.now) result }
+    ensures { Answers (IsNumberText (2 ^ 8 - 1) text.now)
+        (HasNumberFault (2 ^ 8 - 1) text.now) result }
 {
     Ok(parse_up_to(u64::from(u8::MAX), text.as_bytes())? as u8)
 }

@@ -1,5 +1,5 @@
 //! Small sets of AS numbers: ascending lists without repeats.
-ghost use Rattle.std.specs.Prelude.{◌≡◌, ◌↔◌, [], length, IsTrue, IfOk, Some, Contains, nat_eq, refl};
+ghost use Rattle.std.specs.Prelude.{◌≡◌, ◌↔◌, ◌+◌, ◌^◌, ◌<◌, ◌≤◌, [], length, IsTrue, IfOk, Some, Contains, nat_eq, refl};
 ghost use Rattle.std.specs.Cmp.{partial_equiv_from_equiv};
 ghost use Rattle.std.specs.Cmp.Lexicographic.{pointwise, slice_cmp, nat_list_eq_equiv, nat_list_cmp_total, texts_po, texts_ties};
 ghost use Rattle.std.specs.Cmp.Rules.{hashing};
@@ -18,6 +18,7 @@ pub use iter::{
 };
 use std::alloc::{AllocError, Allocator, Global};
 use std::cmp::Ordering;
+use std::fmt;
 use std::hash::{Hash, Hasher};
 use std::marker::Model;
 
@@ -51,7 +52,16 @@ impl<A: Allocator> SmallAsnSet<A> {
         Ok(SmallAsnSet { items })
     }
 
-    /// The set of these AS numbers. The caller owes that each is below the next; no vector of one number or none breaks that.
+    /// A set of its own with the same AS numbers. `AllocError` where there is no memory for it.
+    pub fn clone(&self, alloc: A) -> Result<SmallAsnSet<A>, AllocError>
+        ensures { IfOk result (λ set. set ≡ self.now) }
+    {
+        let items = Vec::from_slice(alloc, self.items.as_slice())?;
+        Ok(SmallAsnSet { items })
+    }
+
+    /// The set of these AS numbers. The caller owes that each is below the next; no vector of one number or none
+    /// breaks that.
     pub fn from_vec_unchecked(items: Vec<Asn, A>) -> SmallAsnSet<A>
         requires { IsSmallSet items.items }
         ensures { result ≡ items.items }
@@ -63,6 +73,7 @@ impl<A: Allocator> SmallAsnSet<A> {
     pub fn iter(&self) -> SmallSetIter<'_>
         ensures items { result ≡ self.now }
         ensures ascending { IsSmallSet self.now }
+        ensures fits { length result < 2 ^ 64 }
     {
         SmallSetIter::new(self.items.as_slice())
     }
@@ -90,7 +101,9 @@ impl<A: Allocator> SmallAsnSet<A> {
 
     /// The AS numbers that are in this set and not in the other.
     pub fn difference<'a>(&'a self, other: &'a SmallAsnSet<A>) -> SmallSetDifference<'a>
-        ensures { IsSmallSetOf (IsInFirstAlone self.now other.now) result }
+        ensures set { IsSmallSetOf (IsInFirstAlone self.now other.now) result }
+        ensures few { length result ≤ length self.now }
+        ensures fits { length result < 2 ^ 64 }
     {
         SmallSetDifference::new(self.items.as_slice(), other.items.as_slice())
     }
@@ -100,33 +113,30 @@ impl<A: Allocator> SmallAsnSet<A> {
         &'a self,
         other: &'a SmallAsnSet<A>,
     ) -> SmallSetSymmetricDifference<'a>
-        ensures { IsSmallSetOf (IsInOne self.now other.now) result }
+        ensures set { IsSmallSetOf (IsInOne self.now other.now) result }
+        ensures few { length result ≤ length self.now + length other.now }
+        ensures fits { length result < 2 ^ 64 }
     {
         SmallSetSymmetricDifference::new(self.items.as_slice(), other.items.as_slice())
     }
 
     /// The AS numbers that are in both sets.
     pub fn intersection<'a>(&'a self, other: &'a SmallAsnSet<A>) -> SmallSetIntersection<'a>
-        ensures { IsSmallSetOf (IsInBoth self.now other.now) result }
+        ensures set { IsSmallSetOf (IsInBoth self.now other.now) result }
+        ensures few { length result ≤ length self.now }
+        ensures few_of_other { length result ≤ length other.now }
+        ensures fits { length result < 2 ^ 64 }
     {
         SmallSetIntersection::new(self.items.as_slice(), other.items.as_slice())
     }
 
     /// The AS numbers that are in one of the sets, or in both.
     pub fn union<'a>(&'a self, other: &'a SmallAsnSet<A>) -> SmallSetUnion<'a>
-        ensures { IsSmallSetOf (IsInEither self.now other.now) result }
+        ensures set { IsSmallSetOf (IsInEither self.now other.now) result }
+        ensures few { length result ≤ length self.now + length other.now }
+        ensures fits { length result < 2 ^ 64 }
     {
         SmallSetUnion::new(self.items.as_slice(), other.items.as_slice())
-    }
-}
-
-impl<A: Allocator + Copy> SmallAsnSet<A> {
-    /// A set of its own with the same AS numbers, by the same allocator.
-    pub fn clone(&self) -> Result<SmallAsnSet<A>, AllocError>
-        ensures { IfOk result (λ set. set ≡ self.now) }
-    {
-        let items = self.items.clone()?;
-        Ok(SmallAsnSet { items })
     }
 }
 
@@ -139,6 +149,12 @@ impl<'a, A: Allocator> IntoIterator for &'a SmallAsnSet<A> {
 
     fn into_iter(self) -> SmallSetIter<'a> {
         self.iter()
+    }
+}
+
+impl<A: Allocator> fmt::Debug for SmallAsnSet<A> {
+    fn fmt<W: fmt::Write>(&self, f: &mut fmt::Formatter<W>) -> fmt::Result {
+        f.debug_set().entries(self.iter()).finish()
     }
 }
 

@@ -12,6 +12,7 @@ use Rattle.rpki_base.proofs.AddressReads.{IsIpText-one}
 use Rattle.rpki_base.proofs.AsnLemmas.{IsNumberText-one}
 use Rattle.rpki_base.proofs.CutLemmas.{HasNo-no_cut, around_at}
 use Rattle.rpki_base.proofs.NumberLemmas.{number_answers}
+pub use Rattle.rpki_base.proofs.ReadingLemmas.{answers_by_one}
 use Rattle.rpki_ip.specs.AddrText.{first_of, greatest_of}
 use Rattle.rpki_ip.specs.BlockText.{IsAddressText, HasAddressFault, WithAddress, IsPrefixAt, HasLengthFault, IsPrefixBetween, HasPrefixFault, IsRangeFrom, HasPairFault, IsRangeBetween, HasRangeFault, IsSingleText, IsPrefixText, HasPrefixTextFault, IsRangeText, HasRangeTextFault, HasFaultAround}
 use Rattle.rpki_ip.specs.Families.{bits_of, family_of}
@@ -129,10 +130,6 @@ single_one w text (Ok x) (Ok y) (a, at, h) (b, here, k) =
 single_one w text (Ok x) (Err e) (a, at, h) none = absurd (none.0 a at)
 single_one w text (Err d) (Ok y) none (a, at, h) = absurd (none.0 a at)
 single_one w text (Err d) (Err e) h k = ap Err (h.1 ∙ sym k.1)
-
--- where an answer that is right is the only one, it is decided
-pub answers_by_one : {A E : Type 0} {Has : A → Type 0} {Fails : E → Type 0} → ((r s : Result A E) → MatchResult r Has Fails → MatchResult s Has Fails → r ≡ s) → (r : Result A E) → MatchResult r Has Fails → Answers Has Fails r
-answers_by_one one r found = record { found = found; each_value = λ a h. one r (Ok a) found h; each_fault = λ e h. one r (Err e) found h }
 
 -- a reader of the parts round a byte, and one that misses it
 module _ {X : Type 0} (b : ℕ) (text : List ℕ) (Has : List ℕ → List ℕ → X → Type 0) (Fails : List ℕ → List ℕ → FromStrError → Type 0) (one : (r s : Result X FromStrError) → MatchResult r (λ x. Around b text (λ l q. Has l q x)) (λ e. HasFaultAround b text Fails e) → MatchResult s (λ x. Around b text (λ l q. Has l q x)) (λ e. HasFaultAround b text Fails e) → r ≡ s) where

@@ -11,7 +11,7 @@ use Rattle.rpki_base.specs.PrintedAddress.{ip_text}
 use Rattle.rpki_base.proofs.AddressBytes.{IsAddressByte, ip_bytes, not_dash}
 use Rattle.rpki_base.proofs.AsnLemmas.{IsNumberText-one, IsNumberText-decimal}
 use Rattle.rpki_base.proofs.CutLemmas.{none_around, around_at}
-use Rattle.rpki_base.proofs.NumberLemmas.{Answers-from_found}
+use Rattle.rpki_base.proofs.ReadingLemmas.{Answers-from_found}
 use Rattle.rpki_prefix.specs.MaxLen.{MaxLenValue, IsMaxLenOf, HasMaxLenError, ArePrefixAndMax, HasMaxLen, IsMaxLenTextOf, IsMaxLenText, HasMaxLenTextFault, max_text, ReadsMaxLen}
 use Rattle.rpki_prefix.specs.PrefixText.{IsPrefixText, HasPrefixTextFault, prefix_text}
 use Rattle.rpki_prefix.specs.Values.{FamilyPrefix, IsFamilyPrefix}

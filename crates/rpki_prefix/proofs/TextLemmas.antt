@@ -13,7 +13,8 @@ use Rattle.rpki_base.proofs.AddressBytes.{ip_bytes, no_slash}
 use Rattle.rpki_base.proofs.AddressReads.{IsIpText-one, IsIpText-ip_text}
 use Rattle.rpki_base.proofs.AsnLemmas.{IsNumberText-one, IsNumberText-decimal}
 use Rattle.rpki_base.proofs.CutLemmas.{none_around, around_at}
-use Rattle.rpki_base.proofs.NumberLemmas.{number_answers, Answers-from_found}
+use Rattle.rpki_base.proofs.NumberLemmas.{number_answers}
+use Rattle.rpki_base.proofs.ReadingLemmas.{Answers-from_found}
 use Rattle.rpki_prefix.proofs.HostBits.{few_bits}
 use Rattle.rpki_prefix.specs.PrefixText.{AreParts, HasParts, HasNoParts, IsTextBy, HasTextFaultBy, IsPrefixText, HasPrefixTextFault, IsRelaxedPrefixText, HasRelaxedPrefixTextFault, prefix_text, ReadsPrefix}
 use Rattle.rpki_prefix.specs.Values.{FamilyPrefix, IsFamilyPrefix, IsPrefixOf, IsRelaxedPrefixOf, HasPrefixError, HasRelaxedPrefixError, cleared_addr, width, bits}

@@ -127,7 +127,7 @@ fn order_and_hash(rt: HostRuntime) -> Result<(), Fail> {
     assert!(rt; low != longer);
     let same = set_of(rt.alloc(), &[5, 1, 5])?;
     assert!(rt; low == same && hash_of(&low) == hash_of(&same));
-    let copy = low.clone()?;
+    let copy = low.clone(rt.alloc())?;
     assert!(rt; copy == low);
     Ok(())
 }
@@ -144,7 +144,7 @@ fn made_with_refusal(rt: &impl Abort, heap: Global, number: u64) -> Result<bool,
         assert!(rt; refusing.has_refused());
         return Ok(false);
     };
-    let copied = set.clone();
+    let copied = set.clone(&refusing);
     // The set stands, whatever came of the copy.
     let values = values_of(heap, set.iter())?;
     assert!(rt; values.as_slice() == [1, 2, 3].as_slice());

@@ -4,7 +4,7 @@ use rpki_der::{Content, Cursor, DerError, put_u32, tag, u32_len};
 use std::alloc::{AllocError, Allocator};
 
 impl Asn {
-    ghost use Rattle.std.specs.Prelude.{◌≡◌, ℕ, List, Ok, ◌≤◌, ◌<◌, ◌^◌, ◌+◌, ◌++◌, length, option_map, vec_len, OnOk, OnErr, IsOk};
+    ghost use Rattle.std.specs.Prelude.{◌≡◌, ℕ, List, Ok, ◌≤◌, ◌+◌, ◌++◌, length, vec_len, OnOk, OnErr, IsOk};
     ghost use Rattle.std.specs.Vec.{vec_capacity};
     ghost use Rattle.rpki_der.specs.Der.{IsUnsigned};
     ghost use Rattle.rpki_der.specs.Reading.{Gives, unsigned};
@@ -24,8 +24,8 @@ impl Asn {
         Ok(Asn(number))
     }
 
-    /// Takes an AS number as `take_from` does where the next octet is the tag of an INTEGER; None where it isn't, and at
-    /// the end.
+    /// Takes an AS number as `take_from` does where the next octet is the tag of an INTEGER; None where it isn't, and
+    /// at the end.
     pub fn take_opt_from(cursor: &mut Cursor<'_>) -> Result<Option<Asn>, DerError>
         ensures reads { ReadsTagged 2 IsAsNumber cursor.old cursor.new result }
         ensures exact { Takes (λ n. n) cursor.old cursor.new result (if_tagged 2 as_number_at) }
@@ -71,19 +71,21 @@ impl Asn {
     pub fn encode<A: Allocator>(&self, out: &mut Vec<u8, A>) -> Result<(), AllocError>
         ensures ok { OnOk result (out.new.items ≡ out.old.items ++ as_number_octets self.now) }
         ensures err { OnErr result (out.new.items ≡ out.old.items) }
-        ensures succeeds { vec_len out.old + length (as_number_octets self.now) ≤ vec_capacity out.old → IsOk result }
+        ensures succeeds { vec_len out.old + length (as_number_octets self.now)
+            ≤ vec_capacity out.old → IsOk result }
         ensures capacity { vec_capacity out.old ≤ vec_capacity out.new }
         // It is read back, whatever follows it.
-        ensures read_back { (rest : List ℕ) → as_number_at (as_number_octets self.now ++ rest) ≡ Ok (self.now, rest) }
+        ensures read_back { (rest : List ℕ)
+            → as_number_at (as_number_octets self.now ++ rest) ≡ Ok (self.now, rest) }
     {
         let number = self.0;
         put_u32(out, number)
     }
 }
 
-// The readings behind the calls.
+// The readings behind the calls: each stands apart from its call, whose further clause, `reads`, follows from `exact`
+// by a theorem on the grammar.
 impl Asn {
-    ghost use Rattle.std.specs.Prelude.{◌≡◌};
     ghost use Rattle.rpki_der.specs.Views.{Takes};
     ghost use Rattle.rpki_base.specs.AsnDer.{as_number_at};
     ghost use Rattle.rpki_base.specs.DerReading.{if_tagged, skipping};

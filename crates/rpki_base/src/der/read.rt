@@ -1,5 +1,5 @@
 //! Reading the values of a SEQUENCE.
-ghost use Rattle.std.specs.Prelude.{◌≡◌, ◌<◌, ℕ, List, Result, length, map};
+ghost use Rattle.std.specs.Prelude.{◌≡◌, ◌<◌, ℕ, List, Result, length};
 ghost use Rattle.rpki_der.specs.declared.error.DerError.{DerError as Fault};
 ghost use Rattle.rpki_der.specs.Reading.{IsReading, optional};
 ghost use Rattle.rpki_der.specs.Views.{Lenient, Takes, left};
@@ -10,8 +10,8 @@ use crate::memory::OrMemory;
 use rpki_der::{Cursor, DerError};
 use std::alloc::Allocator;
 
-/// Reads values that stand one after another. What the next one may be can depend on a state, to which the values before
-/// it led.
+/// Reads values that stand one after another. What the next one may be can depend on a state, to which the values
+/// before it led.
 pub trait ReadNext {
     /// What is read.
     type Value: Drop;
@@ -45,13 +45,17 @@ pub trait ReadNext {
         state: Self::State,
         cursor: &mut Cursor<'_>,
     ) -> Result<Option<Self::Value>, DerError>
-        ensures exact { Lenient cursor.old (Takes (λ value. value) cursor.old cursor.new result (optional (reading self.now state))) };
+        ensures exact { Lenient cursor.old
+            (Takes (λ value. value) cursor.old cursor.new result
+            (optional (reading self.now state))) };
 
     // The reading finds the values of the grammar, whatever follows them, and no others.
-    ghost is_reading: { (reader : Self) (state : Self.State) → IsReading (grammar reader state) (reading reader state) };
+    ghost is_reading: { (reader : Self) (state : Self.State)
+        → IsReading (grammar reader state) (reading reader state) };
 
     // A value has an octet at least.
-    ghost has_octets: { (reader : Self) (state : Self.State) (front : List ℕ) (value : Self.Value) → grammar reader state front value → 0 < length front };
+    ghost has_octets: { (reader : Self) (state : Self.State) (front : List ℕ) (value : Self.Value)
+        → grammar reader state front value → 0 < length front };
 }
 
 /// All values of a content, to its end. `Refused` with the first fault, `Memory` where there is no memory for them.
@@ -61,7 +65,8 @@ pub fn read_values<R: ReadNext, A: Allocator>(
     content: Cursor<'_>,
 ) -> Result<Vec<R::Value, A>, OrMemory<DerError>>
     ensures exact { Lenient content.entry (GivesOrMemory (λ values. values.items) result
-        (values_from (R.after reader.now) (R.reading reader.now) (R.first reader.now) (left content.entry))) }
+        (values_from (R.after reader.now) (R.reading reader.now) (R.first reader.now)
+        (left content.entry))) }
 {
     let mut inside = content;
     let mut values = Vec::new(alloc);
@@ -80,14 +85,18 @@ pub fn take_sequence_of<R: ReadNext, A: Allocator>(
     reader: &R,
     cursor: &mut Cursor<'_>,
 ) -> Result<Vec<R::Value, A>, OrMemory<DerError>>
-    ensures reads { Lenient cursor.old (ReadsOrMemory (IsSequenceFrom (R.after reader.now) (R.grammar reader.now) (R.first reader.now))
+    ensures reads { Lenient cursor.old
+        (ReadsOrMemory
+        (IsSequenceFrom (R.after reader.now) (R.grammar reader.now) (R.first reader.now))
         (λ values. values.items) cursor.old cursor.new result) }
-    ensures exact { Lenient cursor.old (TakesOrMemory (λ values. values.items) cursor.old cursor.new result
+    ensures exact { Lenient cursor.old
+        (TakesOrMemory (λ values. values.items) cursor.old cursor.new result
         (sequence_from (R.after reader.now) (R.reading reader.now) (R.first reader.now))) }
 {
     next_sequence(alloc, reader, cursor)
 }
 
+// The reading behind the take, whose further clause, `reads`, follows from `exact` by a theorem on the grammar.
 #[tactic(auto, unfolding(rpki_der::specs::Reading::refined))]
 fn next_sequence<R: ReadNext, A: Allocator>(
     alloc: A,

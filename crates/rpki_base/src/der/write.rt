@@ -19,7 +19,8 @@ pub trait Encode {
     fn encode<A: Allocator>(&self, out: &mut Vec<u8, A>) -> Result<(), AllocError>
         ensures ok { OnOk result (out.new.items ≡ out.old.items ++ octets self.now) }
         ensures err { OnErr result (out.new.items ≡ out.old.items) }
-        ensures succeeds { vec_len out.old + length (octets self.now) ≤ vec_capacity out.old → IsOk result }
+        ensures succeeds { vec_len out.old + length (octets self.now) ≤ vec_capacity out.old
+            → IsOk result }
         ensures capacity { vec_capacity out.old ≤ vec_capacity out.new };
 }
 
@@ -43,7 +44,8 @@ pub fn encode_all<V: Encode, A: Allocator>(
 ) -> Result<(), AllocError>
     ensures ok { OnOk result (out.new.items ≡ out.old.items ++ octets_of_all V.octets values.now) }
     ensures err { OnErr result (out.new.items ≡ out.old.items) }
-    ensures succeeds { vec_len out.old + length (octets_of_all V.octets values.now) ≤ vec_capacity out.old → IsOk result }
+    ensures succeeds { vec_len out.old + length (octets_of_all V.octets values.now)
+        ≤ vec_capacity out.old → IsOk result }
     ensures capacity { vec_capacity out.old ≤ vec_capacity out.new }
 {
     let Some(total) = len_of_all(values) else {
@@ -65,15 +67,17 @@ pub fn sequence_len<V: Encode>(values: &[V]) -> Option<usize>
     header_len(tag::SEQUENCE, content_len).checked_add(content_len)
 }
 
-/// Appends a SEQUENCE of the values. `AllocError` where there is no memory for all of it, or where no length can tell how
-/// many octets it has; then the octets stay as they were.
+/// Appends a SEQUENCE of the values. `AllocError` where there is no memory for all of it, or where no length can tell
+/// how many octets it has; then the octets stay as they were.
 pub fn encode_sequence<V: Encode, A: Allocator>(
     values: &[V],
     out: &mut Vec<u8, A>,
 ) -> Result<(), AllocError>
-    ensures ok { OnOk result (out.new.items ≡ out.old.items ++ sequence_octets V.octets values.now) }
+    ensures ok { OnOk result
+        (out.new.items ≡ out.old.items ++ sequence_octets V.octets values.now) }
     ensures err { OnErr result (out.new.items ≡ out.old.items) }
-    ensures succeeds { vec_len out.old + length (sequence_octets V.octets values.now) ≤ vec_capacity out.old → IsOk result }
+    ensures succeeds { vec_len out.old + length (sequence_octets V.octets values.now)
+        ≤ vec_capacity out.old → IsOk result }
     ensures capacity { vec_capacity out.old ≤ vec_capacity out.new }
 {
     let Some(content_len) = len_of_all(values) else {

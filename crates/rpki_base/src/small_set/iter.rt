@@ -1,4 +1,5 @@
-//! Iterators over small sets: ascending, each number once. They take no memory, and each turn takes a number off one list or off both.
+//! Iterators over small sets: ascending, each number once. They take no memory, and each turn takes a number off one
+//! list or off both.
 ghost use Rattle.std.specs.Prelude.{◌≡◌};
 ghost use Rattle.std.specs.Iterator.{YieldsFirst, item_count};
 ghost use Rattle.rpki_base.specs.Walks.{walk, only_left, only_one, only_both, any_side};
@@ -8,7 +9,7 @@ use crate::asn::Asn;
 use std::marker::Model;
 
 /// The AS numbers of a set.
-#[derive(Drop)]
+#[derive(Debug, Drop)]
 pub struct SmallSetIter<'a> {
     items: &'a [Asn],
 }
@@ -44,7 +45,7 @@ impl<'a> Iterator for SmallSetIter<'a> {
 }
 
 /// The AS numbers that are in one set and not in the other.
-#[derive(Drop)]
+#[derive(Debug, Drop)]
 pub struct SmallSetDifference<'a> {
     walk: Walk<'a>,
 }
@@ -87,7 +88,7 @@ impl<'a> Iterator for SmallSetDifference<'a> {
 }
 
 /// The AS numbers that are in exactly one of two sets.
-#[derive(Drop)]
+#[derive(Debug, Drop)]
 pub struct SmallSetSymmetricDifference<'a> {
     walk: Walk<'a>,
 }
@@ -130,7 +131,7 @@ impl<'a> Iterator for SmallSetSymmetricDifference<'a> {
 }
 
 /// The AS numbers that are in both of two sets.
-#[derive(Drop)]
+#[derive(Debug, Drop)]
 pub struct SmallSetIntersection<'a> {
     walk: Walk<'a>,
 }
@@ -173,7 +174,7 @@ impl<'a> Iterator for SmallSetIntersection<'a> {
 }
 
 /// The AS numbers that are in one of two sets, or in both.
-#[derive(Drop)]
+#[derive(Debug, Drop)]
 pub struct SmallSetUnion<'a> {
     walk: Walk<'a>,
 }

@@ -1,5 +1,5 @@
 //! One walk over two ascending lists of AS numbers, which all set operations share.
-ghost use Rattle.std.specs.Prelude.{◌≡◌, [], ◌∷◌, ◌+◌, ◌<◌, length, MatchOption};
+ghost use Rattle.std.specs.Prelude.{◌≡◌, [], ◌∷◌, MatchOption};
 ghost use Rattle.rpki_base.specs.Walks.{walk};
 ghost use Rattle.rpki_base.specs.Steps.{IsStep, chosen};
 
@@ -36,7 +36,7 @@ impl Wanted {
 }
 
 /// What is left of two ascending lists.
-#[derive(Clone, Copy)]
+#[derive(Clone, Copy, Debug)]
 pub(crate) struct Walk<'a> {
     pub(crate) left: &'a [Asn],
     pub(crate) right: &'a [Asn],
@@ -55,7 +55,8 @@ impl<'a> Walk<'a> {
     fn step(&self) -> Option<Step<'a>>
         ensures { MatchOption result
             ((self.now.left.now ≡ []) × (self.now.right.now ≡ []))
-            (λ step. IsStep self.now.left.now self.now.right.now step.side step.asn step.rest.left.now step.rest.right.now) }
+            (λ step. IsStep self.now.left.now self.now.right.now
+            step.side step.asn step.rest.left.now step.rest.right.now) }
     {
         match (self.left, self.right) {
             ([], []) => None,
@@ -104,8 +105,10 @@ impl<'a> Walk<'a> {
     /// The next number that is wanted. Each turn takes a number off one list or both.
     pub(crate) fn next(&mut self, wanted: Wanted) -> Option<Asn>
         ensures { MatchOption result
-            ((walk wanted self.old.left.now self.old.right.now ≡ []) × (walk wanted self.new.left.now self.new.right.now ≡ []))
-            (λ asn. walk wanted self.old.left.now self.old.right.now ≡ asn ∷ walk wanted self.new.left.now self.new.right.now) }
+            ((walk wanted self.old.left.now self.old.right.now ≡ [])
+            × (walk wanted self.new.left.now self.new.right.now ≡ []))
+            (λ asn. walk wanted self.old.left.now self.old.right.now
+            ≡ asn ∷ walk wanted self.new.left.now self.new.right.now) }
     {
         while let Some(step) = self.step() {
             *self = step.rest;

@@ -2,7 +2,12 @@
 #![tactic(auto)]
 
 pub mod error;
+pub mod laws;
 pub mod max_len;
 mod order;
 pub mod prefix;
 mod text;
+
+pub use error::{MaxLenError, ParseMaxLenPrefixError, ParsePrefixError, PrefixError};
+pub use max_len::MaxLenPrefix;
+pub use prefix::Prefix;

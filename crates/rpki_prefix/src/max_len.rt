@@ -6,7 +6,6 @@ ghost use Rattle.std.specs.Cmp.Rules.{comparing};
 ghost use Rattle.std.specs.Ordering.{as_partial_cmp};
 ghost use Rattle.rpki_prefix.specs.MaxLen.{IsMaxLenOf, HasMaxLenError, saturated, resolved, max_len_cmp, max_len_text, ReadsMaxLen};
 ghost use Rattle.rpki_prefix.specs.OrderLaws.{max_len_ties};
-ghost use Rattle.rpki_prefix.specs.Values.{IsFamilyPrefix};
 
 use crate::error::{MaxLenError, ParseMaxLenPrefixError};
 use crate::prefix::Prefix;
@@ -130,7 +129,13 @@ impl Ord for MaxLenPrefix {
 
     ghost matches_partial_cmp = { Prim.search (comparing, rules) };
 
-    ghost matches_eq = { max_len_ties ⟦<IpAddr as PartialEq>⟧.eq (record { of_v4 = λ m n. refl; of_v6 = λ m n. refl; v4_v6 = λ m n. refl; v6_v4 = λ m n. refl }) };
+    ghost matches_eq = { max_len_ties ⟦<IpAddr as PartialEq>⟧.eq
+        (record {
+          of_v4 = λ m n. refl;
+          of_v6 = λ m n. refl;
+          v4_v6 = λ m n. refl;
+          v6_v4 = λ m n. refl;
+        }) };
 
     fn cmp(&self, other: &MaxLenPrefix) -> Ordering {
         self.prefix
@@ -142,7 +147,14 @@ impl Ord for MaxLenPrefix {
 impl PartialOrd for MaxLenPrefix {
     ghost partial_cmp = { as_partial_cmp max_len_cmp };
 
-    ghost laws = { partial_order_from_own_ties (Prim.search (comparing, rules) depth 9) (max_len_ties ⟦<IpAddr as PartialEq>⟧.eq (record { of_v4 = λ m n. refl; of_v6 = λ m n. refl; v4_v6 = λ m n. refl; v6_v4 = λ m n. refl })) };
+    ghost laws = { partial_order_from_own_ties (Prim.search (comparing, rules) depth 9)
+        (max_len_ties ⟦<IpAddr as PartialEq>⟧.eq
+        (record {
+          of_v4 = λ m n. refl;
+          of_v6 = λ m n. refl;
+          v4_v6 = λ m n. refl;
+          v6_v4 = λ m n. refl;
+        })) };
 
     fn partial_cmp(&self, other: &MaxLenPrefix) -> Option<Ordering> {
         Some(self.cmp(other))

@@ -45,7 +45,13 @@ impl Ord for Prefix {
 
     ghost matches_partial_cmp = { Prim.search (comparing, rules) };
 
-    ghost matches_eq = { prefix_ties ⟦<IpAddr as PartialEq>⟧.eq (record { of_v4 = λ m n. refl; of_v6 = λ m n. refl; v4_v6 = λ m n. refl; v6_v4 = λ m n. refl }) };
+    ghost matches_eq = { prefix_ties ⟦<IpAddr as PartialEq>⟧.eq
+        (record {
+          of_v4 = λ m n. refl;
+          of_v6 = λ m n. refl;
+          v4_v6 = λ m n. refl;
+          v6_v4 = λ m n. refl;
+        }) };
 
     fn cmp(&self, other: &Prefix) -> Ordering {
         let by_address = self.max_addr().cmp(&other.max_addr());
@@ -56,7 +62,14 @@ impl Ord for Prefix {
 impl PartialOrd for Prefix {
     ghost partial_cmp = { as_partial_cmp prefix_cmp };
 
-    ghost laws = { partial_order_from_own_ties (Prim.search (comparing, rules) depth 9) (prefix_ties ⟦<IpAddr as PartialEq>⟧.eq (record { of_v4 = λ m n. refl; of_v6 = λ m n. refl; v4_v6 = λ m n. refl; v6_v4 = λ m n. refl })) };
+    ghost laws = { partial_order_from_own_ties (Prim.search (comparing, rules) depth 9)
+        (prefix_ties ⟦<IpAddr as PartialEq>⟧.eq
+        (record {
+          of_v4 = λ m n. refl;
+          of_v6 = λ m n. refl;
+          v4_v6 = λ m n. refl;
+          v6_v4 = λ m n. refl;
+        })) };
 
     fn partial_cmp(&self, other: &Prefix) -> Option<Ordering> {
         Some(self.cmp(other))

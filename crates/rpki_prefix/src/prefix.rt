@@ -122,14 +122,16 @@ impl Prefix {
 
     /// The IPv4 prefix of the first bits of an address, as [`Prefix::new_relaxed`].
     pub fn new_v4_relaxed(addr: Ipv4Addr, len: u8) -> Result<Prefix, PrefixError>
-        ensures { MatchResult result (IsRelaxedPrefixOf (V4 addr) len) (HasRelaxedPrefixError (V4 addr) len) }
+        ensures { MatchResult result (IsRelaxedPrefixOf (V4 addr) len)
+            (HasRelaxedPrefixError (V4 addr) len) }
     {
         Prefix::new_relaxed(IpAddr::V4(addr), len)
     }
 
     /// The IPv6 prefix of the first bits of an address, as [`Prefix::new_relaxed`].
     pub fn new_v6_relaxed(addr: Ipv6Addr, len: u8) -> Result<Prefix, PrefixError>
-        ensures { MatchResult result (IsRelaxedPrefixOf (V6 addr) len) (HasRelaxedPrefixError (V6 addr) len) }
+        ensures { MatchResult result (IsRelaxedPrefixOf (V6 addr) len)
+            (HasRelaxedPrefixError (V6 addr) len) }
     {
         Prefix::new_relaxed(IpAddr::V6(addr), len)
     }

@@ -28,7 +28,8 @@ fn read_parts(text: &str) -> Result<(IpAddr, u8), ParsePrefixError>
 impl Prefix {
     /// Reads an address, a slash and a length, as [`FromStr`] does, but clears host bits that are set.
     pub fn from_str_relaxed(text: &str) -> Result<Prefix, ParsePrefixError>
-        ensures { Answers (IsRelaxedPrefixText text.now) (HasRelaxedPrefixTextFault text.now) result }
+        ensures { Answers (IsRelaxedPrefixText text.now)
+            (HasRelaxedPrefixTextFault text.now) result }
     {
         let (addr, len) = read_parts(text)?;
         Ok(Prefix::new_relaxed(addr, len)?)

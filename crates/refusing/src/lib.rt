@@ -1,20 +1,22 @@
 //! An allocator for tests: it passes requests for memory on to another, and refuses those that it
 //! is told to.
 //!
-//! A test makes a [`Refusing`] round the allocator that it was given, and hands out `&refusing`: a
-//! `&` to an allocator is an allocator too, and is `Copy`. It runs what it tests with request 0
-//! refused, then with request 1, and so on up to a run that met no refusal:
+//! [`refuse_in_turn`] runs something with request 0 refused, then with request 1, and so on up to a
+//! run that met no refusal, and looks at how each run ended:
 //!
 //! ```rust
-//! for number in 0..1000 {
-//!     let refusing = Refusing::new(rt.alloc(), Plan::RefuseOnly(number));
-//!     let result = read_list(&refusing, text);
-//!     if !refusing.has_refused() {
-//!         return check_answer(result);
+//! let refused = refuse_in_turn(rt.alloc(), 1000, |refusing: &Refusing| {
+//!     match read_list(refusing, text) {
+//!         Ok(list) if is_wanted(&list) => Outcome::Expected,
+//!         Err(OrMemory::Memory(_)) => Outcome::OutOfMemory,
+//!         _ => Outcome::Unexpected,
 //!     }
-//!     assert_eq!(rt; result, Err(AllocError));
-//! }
+//! });
+//! assert!(rt; refused.is_ok());
 //! ```
+//!
+//! A test that wants one plan makes a [`Refusing`] round the allocator that it was given, and hands
+//! out `&refusing`: a `&` to an allocator is an allocator too, and is `Copy`.
 #![tactic(auto)]
 
 ghost use Rattle.std.specs.Prelude.{◌≡◌, IsTrue};
@@ -22,9 +24,11 @@ ghost use Rattle.refusing.specs.Plans.{inner_of, plan_of, IsSomeRefusedCount, Re
 
 use std::alloc::{AllocError, Allocator, Global};
 
+mod in_turn;
 mod plan;
 mod requests;
 
+pub use in_turn::{Outcome, refuse_in_turn};
 pub use plan::Plan;
 use requests::Requests;
 

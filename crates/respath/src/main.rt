@@ -1,22 +1,9 @@
 //! The program `respath`: it answers each line of the standard input with one line on the standard output.
 #![tactic(auto)]
 
-mod adapters;
-mod answer;
-mod command;
-mod device;
-mod engine;
-mod error;
-mod norm;
-mod shown;
-#[cfg(test)]
-mod slices;
-#[cfg(test)]
-mod tests;
-
-use adapters::{FromRead, IntoWrite};
-use engine::run;
-use error::RunError;
+use respath_engine::adapters::{FromRead, IntoWrite};
+use respath_engine::engine::run;
+use respath_engine::error::RunError;
 use std::io::BufWriter;
 use std::process::ExitCode;
 

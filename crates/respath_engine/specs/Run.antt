@@ -1,0 +1,43 @@
+-- What a run leaves in a writer. `old` and `new` are the known bytes that it held.
+use Rattle.std.specs.Prelude.{◌≡◌, ℕ, List, [], ◌∷◌, ◌++◌, Option}
+use Rattle.std.specs.List.{AllZip, flat_map}
+use Rattle.std.specs.Io.KnownBytes.{Appends}
+use Rattle.rpki_lines.specs.Answer.{IsAnswer}
+use Rattle.respath_engine.specs.Lines.{lines_of}
+
+-- a text as a line
+abbrev pub ended : List ℕ → List ℕ
+ended text = text ++ 10 ∷ []
+
+-- Of these bytes all but `unwritten`, at their end, was written, and nothing else.
+pub record HasWritten (old new : Option (List ℕ)) (bytes unwritten : List ℕ) : Type 0 where
+  pub written : List ℕ
+  pub bytes_are : bytes ≡ written ++ unwritten
+  pub wrote : Appends old new written
+
+-- The line was answered, and of its answer as a line all but `unwritten` was written.
+pub record HasAnsweredLine (old new : Option (List ℕ)) (line unwritten : List ℕ) : Type 0 where
+  pub text : List ℕ
+  pub is_answer : IsAnswer line text
+  pub wrote : HasWritten old new (ended text) unwritten
+
+-- Of these lines all but `rest`, at their end, were answered, in order,
+-- and of those answers as lines all but `unwritten` was written.
+pub record HasAnswered (old new : Option (List ℕ)) (lines rest : List (List ℕ)) (unwritten : List ℕ) : Type 0 where
+  pub answered : List (List ℕ)
+  pub texts : List (List ℕ)
+  pub lines_are : lines ≡ answered ++ rest
+  pub are_answers : AllZip IsAnswer answered texts
+  pub wrote : HasWritten old new (flat_map ended texts) unwritten
+
+-- the answers of all lines of the input were written whole
+abbrev pub AnswersAll : Option (List ℕ) → Option (List ℕ) → List ℕ → Type 0
+AnswersAll old new input = HasAnswered old new (lines_of input) [] []
+
+-- the answers of some first lines were written whole
+abbrev pub AnswersFirst : Option (List ℕ) → Option (List ℕ) → List ℕ → Type 0
+AnswersFirst old new input = (rest : List (List ℕ)) × HasAnswered old new (lines_of input) rest []
+
+-- a beginning of the answers was written
+abbrev pub BeginsAnswers : Option (List ℕ) → Option (List ℕ) → List ℕ → Type 0
+BeginsAnswers old new input = (rest : List (List ℕ)) × ((unwritten : List ℕ) × HasAnswered old new (lines_of input) rest unwritten)

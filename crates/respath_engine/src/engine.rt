@@ -1,0 +1,152 @@
+//! Reads the whole input, and then answers each line of it.
+ghost use Rattle.std.specs.Prelude.{◌≡◌, ◌<◌, ◌∷◌, [], ℕ, length, position, true, IfOk, IfSome, OnOk, OnErr, IsErrOf, List};
+ghost use Rattle.std.specs.Io.KnownBytes.{IsAtEnd};
+ghost use Rattle.respath_engine.specs.Lines.{is_end, lines_of};
+ghost use Rattle.respath_engine.specs.Run.{HasWritten, HasAnsweredLine, AnswersAll, AnswersFirst, BeginsAnswers};
+
+use crate::device::{DeviceFault, Sink, Source};
+use crate::error::RunError;
+use rpki_lines::answer;
+use std::alloc::Allocator;
+
+/// The bytes that one read asks for.
+const PIECE: usize = 64 * 1024;
+
+/// Reads the whole input, and then answers each line, in order, with one line. No failed call is tried again,
+/// and the writer is flushed at the end.
+///
+/// [`RunError::Read`] and [`RunError::Write`] are answered where a call of the device failed, or a write took
+/// nothing; [`RunError::Memory`] where a request for memory was refused.
+pub fn run<A: Allocator + Copy, R: Source, W: Sink>(
+    alloc: A,
+    reader: &mut R,
+    writer: &mut W,
+) -> Result<(), RunError>
+    // No call failed, nothing is left to be read, and each line's answer was written whole.
+    ensures unmarked { OnOk result ((R.mark reader.new ≡ R.mark reader.old) × (W.mark writer.new ≡ W.mark writer.old)) }
+    ensures read_whole { OnOk result (IsAtEnd (R.left reader.new)) }
+    ensures answered { OnOk result (IfSome (R.left reader.old)
+        (AnswersAll (W.written writer.old) (W.written writer.new))) }
+
+    // A read failed, and nothing was written.
+    ensures read { IsErrOf result RunError.Read → R.mark reader.new ≡ true }
+    ensures nothing_written { IsErrOf result RunError.Read → writer.new ≡ writer.old }
+
+    // No call failed, and the answers to the earlier lines were written whole, and nothing else.
+    ensures memory_unmarked { IsErrOf result RunError.Memory →
+        (R.mark reader.new ≡ R.mark reader.old) × (W.mark writer.new ≡ W.mark writer.old) }
+    ensures some_answered { IsErrOf result RunError.Memory → IfSome (R.left reader.old)
+        (AnswersFirst (W.written writer.old) (W.written writer.new)) }
+
+    // A write or a flush failed, or a write took nothing, and a beginning of the answers was written.
+    ensures write { IsErrOf result RunError.Write → W.mark writer.new ≡ true }
+    ensures some_written { IsErrOf result RunError.Write → IfSome (R.left reader.old)
+        (BeginsAnswers (W.written writer.old) (W.written writer.new)) }
+{
+    let input = read_to_end(alloc, reader)?;
+    answer_lines(alloc, &input, writer)?;
+    writer.flush().map_err(|_| RunError::Write)
+}
+
+/// Reads until nothing is left.
+fn read_to_end<A: Allocator, R: Source>(alloc: A, reader: &mut R) -> Result<Vec<u8, A>, RunError>
+    ensures unmarked { OnOk result (R.mark reader.new ≡ R.mark reader.old) }
+    ensures whole { OnOk result (IsAtEnd (R.left reader.new)) }
+    ensures bytes { IfOk result (λ input. IfSome (R.left reader.old) (λ bytes. input.items ≡ bytes)) }
+    ensures read { IsErrOf result RunError.Read → R.mark reader.new ≡ true }
+    ensures memory { IsErrOf result RunError.Memory → R.mark reader.new ≡ R.mark reader.old }
+    ensures not_write { IsErrOf result RunError.Write → ⊥ }
+{
+    let mut input = Vec::new(alloc);
+    let mut piece = [0u8; PIECE];
+    loop {
+        let count = match reader.read(&mut piece) {
+            Ok(count) => count,
+            Err(DeviceFault) => return Err(RunError::Read),
+        };
+        if count == 0 {
+            return Ok(input);
+        }
+        input.extend_from_slice(&piece[..count])?;
+    }
+}
+
+/// Answers each line of a text.
+fn answer_lines<A: Allocator + Copy, W: Sink>(
+    alloc: A,
+    text: &[u8],
+    writer: &mut W,
+) -> Result<(), RunError>
+    ensures unmarked { OnOk result (W.mark writer.new ≡ W.mark writer.old) }
+    ensures answered { OnOk result (AnswersAll (W.written writer.old) (W.written writer.new) text.now) }
+    ensures memory_unmarked { IsErrOf result RunError.Memory → W.mark writer.new ≡ W.mark writer.old }
+    ensures some_answered { IsErrOf result RunError.Memory → AnswersFirst (W.written writer.old) (W.written writer.new) text.now }
+    ensures write { IsErrOf result RunError.Write → W.mark writer.new ≡ true }
+    ensures some_written { IsErrOf result RunError.Write → BeginsAnswers (W.written writer.old) (W.written writer.new) text.now }
+    ensures not_read { IsErrOf result RunError.Read → ⊥ }
+{
+    let mut rest = text;
+    while !rest.is_empty() {
+        let (line, after) = cut_line(rest);
+        answer_line(alloc, line, writer)?;
+        rest = after;
+    }
+    Ok(())
+}
+
+/// The first line of a text that isn't empty, and what stands behind its end.
+#[tactic(auto, using(crate::proofs::LineLemmas::first_line, crate::proofs::LineLemmas::only_line))]
+fn cut_line(text: &[u8]) -> (&[u8], &[u8])
+    requires { 0 < length text.now }
+    ensures first { lines_of text.now ≡ result.0.now ∷ lines_of result.1.now }
+    ensures shorter { length result.1.now < length text.now }
+{
+    match line_end(text) {
+        Some(at) => (&text[..at], &text[at + 1..]),
+        None => (text, &[]),
+    }
+}
+
+/// Where the first line of a text ends, if something ends it.
+fn line_end(text: &[u8]) -> Option<usize>
+    ensures { result ≡ position is_end text.now }
+{
+    text.iter().position(|byte| *byte == b'\n')
+}
+
+/// Makes the whole answer to a line, and then writes it.
+#[tactic(auto, using(crate::proofs::RunLemmas::line_answered))]
+fn answer_line<A: Allocator + Copy, W: Sink>(
+    alloc: A,
+    line: &[u8],
+    writer: &mut W,
+) -> Result<(), RunError>
+    ensures unmarked { OnOk result (W.mark writer.new ≡ W.mark writer.old) }
+    ensures answered { OnOk result (HasAnsweredLine (W.written writer.old) (W.written writer.new) line.now []) }
+    ensures memory { IsErrOf result RunError.Memory → writer.new ≡ writer.old }
+    ensures write { IsErrOf result RunError.Write → W.mark writer.new ≡ true }
+    ensures some_written { IsErrOf result RunError.Write → (unwritten : List ℕ) × HasAnsweredLine (W.written writer.old) (W.written writer.new) line.now unwritten }
+    ensures not_read { IsErrOf result RunError.Read → ⊥ }
+{
+    let mut text = answer(alloc, line)?;
+    text.push('\n')?;
+    write_all(writer, text.as_bytes()).map_err(|_| RunError::Write)
+}
+
+/// Writes a whole piece. No call is tried again.
+fn write_all<W: Sink>(writer: &mut W, piece: &[u8]) -> Result<(), DeviceFault>
+    ensures unmarked { OnOk result (W.mark writer.new ≡ W.mark writer.old) }
+    ensures whole { OnOk result (HasWritten (W.written writer.old) (W.written writer.new) piece.now []) }
+    ensures mark { OnErr result (W.mark writer.new ≡ true) }
+    ensures some_written { OnErr result ((unwritten : List ℕ) × HasWritten (W.written writer.old) (W.written writer.new) piece.now unwritten) }
+{
+    let mut rest = piece;
+    while !rest.is_empty() {
+        let count = writer.write(rest)?;
+        if count == 0 {
+            return Err(DeviceFault);
+        }
+        rest = &rest[count..];
+    }
+    Ok(())
+}

@@ -1,0 +1,4 @@
+pub mod Answer
+pub mod Command
+pub mod Norm
+pub mod Shown

@@ -25,7 +25,7 @@ use Rattle.rpki_as.specs.declared.error.FromStrError.{FromStrError}
 use Rattle.rpki_as.proofs.BlockLemmas.{IsBlockText-one, IsBlockText-block_text, block_apart, same_block_fault}
 
 -- a text writes one set at most
-IsAsListText-one : (text : List ℕ) (a b : Runs) → IsAsListText text a → IsAsListText text b → a ≡ b
+pub IsAsListText-one : (text : List ℕ) (a b : Runs) → IsAsListText text a → IsAsListText text b → a ≡ b
 IsAsListText-one text a b h k =
     let same = HaveValues-one IsBlockText IsBlockText-one (elements text) h.blocks k.blocks h.are_written k.are_written in
     IsRunsOf-unique (Covers as_bounds h.blocks) a b h.covered (subst (λ blocks. IsRunsOfBlocks as_bounds blocks b) (sym same) k.covered)

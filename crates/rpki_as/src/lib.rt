@@ -7,5 +7,6 @@ pub mod builder;
 pub mod der;
 pub mod error;
 pub mod iter;
+pub mod laws;
 pub mod range;
 mod text;

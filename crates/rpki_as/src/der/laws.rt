@@ -2,12 +2,14 @@
 ghost use Rattle.std.specs.Prelude.{◌≡◌, ◌↔◌, ℕ};
 ghost use Rattle.rpki_chain.specs.Runs.{Runs, Holds};
 ghost use Rattle.rpki_der.specs.Der.{OneFront};
-ghost use Rattle.rpki_as.specs.AsDer.{IsAsBlock, IsAsBlockSequence, as_sequence_octets, as_set_octets};
+ghost use Rattle.rpki_as.specs.AsDer.{IsAsBlock, IsBlockInAnyOrder, IsAsBlockSequence, as_sequence_octets, as_set_octets};
 ghost use Rattle.rpki_as.specs.Blocks.{IsAsSet};
 
-/// Octets begin with at most one block, and with at most one SEQUENCE of blocks, which stands for one set.
+/// Octets begin with at most one block, with at most one value that is passed over as a block, and with at most one
+/// SEQUENCE of blocks, which stands for one set.
 pub fn one_value()
     ensures block { OneFront IsAsBlock }
+    ensures skipped { OneFront IsBlockInAnyOrder }
     ensures sequence { OneFront IsAsBlockSequence }
 {}
 

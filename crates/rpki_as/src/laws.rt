@@ -1,0 +1,14 @@
+//! What holds of the texts of sets, each law as the contract of a function that does nothing.
+ghost use Rattle.std.specs.Prelude.{◌≡◌, ℕ, List, ◌↔◌};
+ghost use Rattle.rpki_chain.specs.Runs.{Runs, Holds};
+ghost use Rattle.rpki_as.specs.Blocks.{IsAsSet};
+ghost use Rattle.rpki_as.specs.ListText.{IsAsListText, as_list_text};
+
+/// What is printed of a set is a list that writes the set. A list writes one set at most, so two sets print alike exactly
+/// where they have the same numbers.
+pub fn printed_sets()
+    ensures written { (set : Runs) → IsAsSet set → IsAsListText (as_list_text set) set }
+    ensures one_set { (text : List ℕ) (a b : Runs) → IsAsListText text a → IsAsListText text b → a ≡ b }
+    ensures alike { (a b : Runs) → IsAsSet a → IsAsSet b →
+        (as_list_text a ≡ as_list_text b) ↔ ((n : ℕ) → Holds a n ↔ Holds b n) }
+{}

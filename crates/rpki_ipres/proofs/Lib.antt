@@ -1,10 +1,13 @@
 pub mod BlockWritten
+pub mod FamilyWritten
 pub mod FormLemmas
 pub mod ListLemmas
 pub mod PrintedLemmas
 pub mod PrintedLists
+pub mod PrintedSets
 pub mod SetLemmas
 pub mod SetTextLemmas
 pub mod SetWritten
 pub mod TextLemmas
 pub mod WholeLemmas
+pub mod WholeSets

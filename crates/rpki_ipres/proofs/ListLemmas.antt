@@ -52,10 +52,14 @@ same_element_fault family text d e (inl h) (inr k) = absurd (k.0 h.0)
 same_element_fault family text d e (inr h) (inl k) = absurd (h.0 k.0)
 same_element_fault family text d e (inr h) (inr k) = same_fault (IsBlockText (Some family) text) (HasBlockFault (Some family) text) (block_one (Some family) text) d e h.1 k.1
 
--- a list of one family
+-- a list of one family writes one list of blocks at most
+pub same_blocks : (family : AddressFamily) (text : List ℕ) (a b : List IpBlock) → HasBlocks family text a → HasBlocks family text b → a ≡ b
+same_blocks family text = HaveValues-one (IsElementText family) (λ t a b h k. same_block (Some family) t a b h.1 k.1) (elements text)
+
+-- or has one fault
 pub family_answers : {V : Type 0} (view : V → List IpBlock) (family : AddressFamily) (text : List ℕ) (r : Result V (OrMemory FromStrError)) → MatchResult r (λ v. HasBlocks family text (view v)) (IfRefused (HasBlocksFault family text)) → AnswersOrMemory view (HasBlocks family text) (HasBlocksFault family text) r
 family_answers view family text r found = AnswersOrMemory-from_found view _ _
-    (HaveValues-one (IsElementText family) (λ t a b h k. same_block (Some family) t a b h.1 k.1) (elements text))
+    (same_blocks family text)
     (first_fault_apart (IsElementText family) (HasElementFault family) (element_apart family) (elements text))
     (same_first_fault (IsElementText family) (HasElementFault family) (element_apart family) (same_element_fault family) (elements text))
     r found
@@ -70,7 +74,7 @@ same_family text f g (inr h) (inr k) = h.1 ∙ sym k.1
 mismatch_apart : (family : AddressFamily) (text : List ℕ) (a : IpBlock) (e : FromStrError) → IsBlockText (Some family) text a → HasMismatch family text e → ⊥
 mismatch_apart family text a e h k = k.0 a h
 
-same_ip_blocks : (text : List ℕ) (a b : List IpBlock) → HasIpBlocks text a → HasIpBlocks text b → a ≡ b
+pub same_ip_blocks : (text : List ℕ) (a b : List IpBlock) → HasIpBlocks text a → HasIpBlocks text b → a ≡ b
 same_ip_blocks text a b (f, is, h) (g, iz, k) =
     HaveValues-one (IsBlockText (Some f)) (same_block (Some f)) (elements text) a b h (subst (λ w. HaveValues (IsBlockText (Some w)) (elements text) b) (same_family text g f iz is) k)
 

@@ -178,10 +178,10 @@ not_foreign Ipv4 b is = no_colon (block_text Ipv4 b) (small_block b is)
 not_foreign Ipv6 b is = λ foreign. foreign.1 (block_colon b is)
 
 -- blocks that the texts write, with the bounds of bs
-record WritesAll (Has : List ℕ → IpBlock → Type 0) (texts : List (List ℕ)) (bs : List IpBlock) : Type 0 where
-  values : List IpBlock
-  have : HaveValues Has texts values
-  bounds : map ip_bounds values ≡ map ip_bounds bs
+pub record WritesAll (Has : List ℕ → IpBlock → Type 0) (texts : List (List ℕ)) (bs : List IpBlock) : Type 0 where
+  pub values : List IpBlock
+  pub have : HaveValues Has texts values
+  pub bounds : map ip_bounds values ≡ map ip_bounds bs
 
 module _ (family : AddressFamily) (Has : List ℕ → IpBlock → Type 0) (own : (b c : IpBlock) → IsBlockOf family b → IsBlockText (Some family) (block_text family b) c → Has (block_text family b) c) where
   all_written : (bs : List IpBlock) → All (IsBlockOf family) bs → WritesAll Has (map (block_text family) bs) bs
@@ -201,11 +201,15 @@ module _ (family : AddressFamily) (Has : List ℕ → IpBlock → Type 0) (own :
   list_written : (text : List ℕ) (bs : List IpBlock) → All (IsBlockOf family) bs → text ≡ block_list_text family bs → WritesAll Has (elements text) bs
   list_written text bs is printed = rw (printed, elements-joined (map (block_text family) bs) (all_elements bs is)) (all_written bs is)
 
--- what is printed of blocks is told to be of their family, unless there are none
-record WritesList (text : List ℕ) (bs : List IpBlock) : Type 0 where
-  family : AddressFamily
-  is : IsFamilyOf text family
-  writes : WritesAll (IsBlockText (Some family)) (elements text) bs
+-- what is printed of blocks is a list of their family
+pub family_list : (family : AddressFamily) (text : List ℕ) (bs : List IpBlock) → All (IsBlockOf family) bs → text ≡ block_list_text family bs → WritesAll (IsElementText family) (elements text) bs
+family_list family = list_written family (IsElementText family) (λ b c h t. (not_foreign family b h, t))
+
+-- and is told to be of their family, unless there are none
+pub record WritesList (text : List ℕ) (bs : List IpBlock) : Type 0 where
+  pub family : AddressFamily
+  pub is : IsFamilyOf text family
+  pub writes : WritesAll (IsBlockText (Some family)) (elements text) bs
 
 told_v4 : (text : List ℕ) (bs : List IpBlock) → All (IsBlockOf Ipv4) bs → text ≡ block_list_text Ipv4 bs → WritesList text bs
 told_v4 text bs is printed = record {
@@ -214,7 +218,7 @@ told_v4 text bs is printed = record {
   writes = list_written Ipv4 (IsBlockText (Some Ipv4)) (λ b c h t. t) text bs is printed;
 }
 
-list_told : (family : AddressFamily) (text : List ℕ) (bs : List IpBlock) → All (IsBlockOf family) bs → text ≡ block_list_text family bs → WritesList text bs
+pub list_told : (family : AddressFamily) (text : List ℕ) (bs : List IpBlock) → All (IsBlockOf family) bs → text ≡ block_list_text family bs → WritesList text bs
 list_told Ipv4 text bs is printed = told_v4 text bs is printed
 list_told Ipv6 text [] is printed = told_v4 text [] (All-nil (IsBlockOf Ipv4)) printed
 list_told Ipv6 text (b ∷ bs) is printed = record {
@@ -231,7 +235,7 @@ module _ {V : Type 0} (view : V → List IpBlock) (text : List ℕ) (r : Result 
 
   pub family_list_back : (family : AddressFamily) → AnswersOrMemory view (HasBlocks family text) (HasBlocksFault family text) r → (bs : List IpBlock) → All (IsBlockOf family) bs → text ≡ block_list_text family bs → MatchResult r (λ v. map ip_bounds (view v) ≡ map ip_bounds bs) IsMemory
   family_list_back family exact bs is printed =
-      let all = list_written family (IsElementText family) (λ b c h t. (not_foreign family b h, t)) text bs is printed in
+      let all = family_list family text bs is printed in
       of_values bs all.values all.bounds r (exact.each_value all.values all.have)
 
   pub ip_list_back : AnswersOrMemory view (HasIpBlocks text) (HasIpBlocksFault text) r → (family : AddressFamily) (bs : List IpBlock) → All (IsBlockOf family) bs → text ≡ block_list_text family bs → MatchResult r (λ v. map ip_bounds (view v) ≡ map ip_bounds bs) IsMemory

@@ -4,9 +4,10 @@ use Rattle.rpki_base.specs.DerReading.{IsSequenceOf}
 use Rattle.rpki_base.specs.DerWriting.{sequence_octets}
 use Rattle.rpki_base.specs.Prefixes.{IsPrefix}
 use Rattle.rpki_chain.specs.Runs.{Runs, IsRunsOfBlocks}
-use Rattle.rpki_der.specs.Der.{Refines, sequence_value}
+use Rattle.rpki_der.specs.Der.{Both, IsSequence, Refines, sequence_value}
 use Rattle.rpki_ip.specs.declared.family.AddressFamily.{AddressFamily}
-use Rattle.rpki_ip.specs.FamilyDer.{family_der}
+use Rattle.rpki_ip.specs.Families.{bits_of}
+use Rattle.rpki_ip.specs.FamilyDer.{IsFamilyDer, family_der}
 use Rattle.rpki_ip.specs.PrefixDer.{IsPrefixDer, prefix_der}
 use Rattle.rpki_ip.specs.RangeDer.{IsRangeDer, IsRangeWithin, range_der}
 use Rattle.rpki_ipres.specs.Blocks.{ip_bounds, new_ip_block}
@@ -22,6 +23,10 @@ IsIpBlockDer limit bytes (Range r) = IsRangeDer limit bytes r
 -- (2.2.3.6)
 abbrev pub IsIpBlockSequence : ℕ → List ℕ → Runs → Type 0
 IsIpBlockSequence limit = Refines (IsSequenceOf (IsIpBlockDer limit)) (IsRunsOfBlocks ip_bounds)
+
+-- a family and a SEQUENCE of its blocks, which stands for a set, in one SEQUENCE (2.2.3.2)
+abbrev pub IsIpFamily : List ℕ → AddressFamily × Runs → Type 0
+IsIpFamily bytes f = (content : List ℕ) × IsSequence bytes content × Both IsFamilyDer (IsIpBlockSequence (bits_of f.0)) content f.0 f.1
 
 -- ---- what is written
 

@@ -1,5 +1,6 @@
+use Rattle.rpki_ipres.proofs.FamilyWritten.{family_as_numbers}
 use Rattle.rpki_ipres.proofs.SetWritten.{written_as_numbers}
 use Rattle.rpki_ipres.proofs.der.laws.canonical.Goals as goal
 
 pub returns : goal.returns
-returns c = written_as_numbers
+returns c = record { set = written_as_numbers; family = family_as_numbers }

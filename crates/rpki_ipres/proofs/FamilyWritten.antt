@@ -1,0 +1,90 @@
+-- What is written of sets, alone and behind their family, stands for them, and octets stand for one set at most.
+use Rattle.std.proofs.Common.{◌≡◌, ◌≢◌, ℕ, ◌+◌, ◌<◌, ◌^◌, ◌↔◌, List, [], ◌∷◌, ◌++◌, length, map, refl, sym, ap, subst, ◌∙◌, arith}
+use Rattle.std.proofs.lemmas.List.{append_cancel_left, length-append}
+use Rattle.rpki_der.specs.Der.{OneFront, header, sequence_value}
+use Rattle.rpki_der.specs.Reading.{tagged_at}
+use Rattle.rpki_der.proofs.Readings.{IsTagged, one_front, tagged_reading}
+use Rattle.rpki_der.proofs.Written.{value_is}
+use Rattle.rpki_base.specs.DerReading.{IsSequenceOf}
+use Rattle.rpki_base.specs.DerWriting.{octets_of_all}
+use Rattle.rpki_base.proofs.DerWriting.{one_content}
+use Rattle.rpki_chain.specs.Runs.{Runs, Holds, IsRunsOfBlocks}
+use Rattle.rpki_chain.proofs.RunLists.{same_numbers}
+use Rattle.rpki_ip.specs.Families.{bits_of}
+use Rattle.rpki_ip.specs.FamilyDer.{IsFamilyDer, family_at, family_der}
+use Rattle.rpki_ip.specs.declared.family.AddressFamily.{AddressFamily}
+use Rattle.rpki_ip.proofs.DerReadings.{family_reading}
+use Rattle.rpki_ip.proofs.DerWritten.{family_written}
+use Rattle.rpki_ipres.specs.BlockDer.{IsIpBlockDer, IsIpBlockSequence, IsIpFamily, ip_family_der, ip_run_der, ip_set_der}
+use Rattle.rpki_ipres.specs.BlockReading.{ip_blocks_at}
+use Rattle.rpki_ipres.specs.BlockReadingLaws.{blocks_reading}
+use Rattle.rpki_ipres.specs.Blocks.{ip_bounds, new_ip_block}
+use Rattle.rpki_ipres.specs.SetText.{IsFamilySet}
+use Rattle.rpki_ipres.specs.declared.block.IpBlock.{IpBlock}
+use Rattle.rpki_ipres.proofs.SetTextLemmas.{is_ip_set}
+use Rattle.rpki_ipres.proofs.SetWritten.{blocks_say, one_set, set_written, written_as_numbers}
+
+-- a SEQUENCE is longer than what is in it
+content_shorter : (content : List ℕ) → length (sequence_value content) < 2 ^ 64 → length content < 2 ^ 64
+content_shorter content short =
+    let parts = length-append (header 48 (length content)) content in
+    omega (arith, short, parts)
+
+-- ---- sets alone
+
+-- what is written of a set of a family is a SEQUENCE of blocks of the family, which stands for the set
+pub sequence_says : (family : AddressFamily) (set : Runs) → IsFamilySet family set → length (ip_set_der set) < 2 ^ 64 → IsIpBlockSequence (bits_of family) (ip_set_der set) set
+sequence_says family set is short = (
+  map new_ip_block set,
+  set_written family set is (content_shorter (octets_of_all ip_run_der set) short),
+  blocks_say set (is_ip_set family set is),
+)
+
+-- octets begin with at most one SEQUENCE of blocks, which stands for one set
+pub one_sequence : (limit : ℕ) → OneFront (IsIpBlockSequence limit)
+one_sequence limit a b x y r s (xs, is, says) (ys, also, tell) same =
+    let one = one_front (IsSequenceOf (IsIpBlockDer limit)) (ip_blocks_at limit) (blocks_reading limit) a b xs ys r s is also same in
+    (one.0, one_set ys x y (subst (λ (t : List IpBlock). IsRunsOfBlocks ip_bounds t x) one.1 says) tell, one.2)
+
+-- ---- sets behind their family
+
+-- what is written of a family and a set, which has a number, stands for both
+pub family_says : (family : AddressFamily) (set : Runs) → IsFamilySet family set → set ≢ [] → length (ip_family_der family set) < 2 ^ 64 → IsIpFamily (ip_family_der family set) (family, set)
+family_says family [] is some short = absurd (some refl)
+family_says family (run ∷ set) is some short =
+    let content : List ℕ = family_der family ++ ip_set_der (run ∷ set) in
+    let small : length content < 2 ^ 64 = content_shorter content short in
+    let parts : length content ≡ length (family_der family) + length (ip_set_der (run ∷ set)) = length-append (family_der family) (ip_set_der (run ∷ set)) in (
+      content,
+      value_is 48 content (omega arith) small,
+      (
+        ip_set_der (run ∷ set),
+        (family_der family, family_written family, refl),
+        sequence_says family (run ∷ set) is (omega (arith, small, parts)),
+      ),
+    )
+
+-- octets begin with at most one such value, which stands for one family and one set
+pub one_family : OneFront IsIpFamily
+one_family a b x y r s (content, is, (rest, (front, first, split), says)) (other, also, (more, (back, second, parts), tell)) same =
+    let whole = one_front (IsTagged 48) (tagged_at 48) (tagged_reading 48) a b content other r s is also same in
+    let family = one_front IsFamilyDer family_at family_reading front back x.0 y.0 rest more first second (sym split ∙ whole.1 ∙ parts) in
+    let own : IsIpBlockSequence (bits_of y.0) rest x.1 = subst (λ (f : AddressFamily). IsIpBlockSequence (bits_of f) rest x.1) family.1 says in
+    let set = one_sequence (bits_of y.0) rest more x.1 y.1 [] [] own tell (ap (λ (t : List ℕ). t ++ []) family.2) in
+    (whole.0, (λ i. (family.1 i, set.1 i)), whole.2)
+
+-- sets of a family that are written alike have the same addresses, and sets of the same addresses are written alike
+pub family_as_numbers : (family : AddressFamily) (a b : Runs) → IsFamilySet family a → IsFamilySet family b → (ip_family_der family a ≡ ip_family_der family b) ↔ ((n : ℕ) → Holds a n ↔ Holds b n)
+unfolding header
+family_as_numbers family a b is also = (
+  one_set_of a b is also,
+  λ same. ap (ip_family_der family) (same_numbers a b (is_ip_set family a is).are_runs (is_ip_set family b also).are_runs same),
+)
+  where
+    one_set_of : (a b : Runs) → IsFamilySet family a → IsFamilySet family b → ip_family_der family a ≡ ip_family_der family b → (n : ℕ) → Holds a n ↔ Holds b n
+    one_set_of [] [] is also same = λ n. (λ h. h, λ h. h)
+    one_set_of [] (run ∷ b) is also same = absurd cc
+    one_set_of (run ∷ a) [] is also same = absurd cc
+    one_set_of (run ∷ a) (next ∷ b) is also same =
+        let content = one_content (family_der family ++ ip_set_der (run ∷ a)) (family_der family ++ ip_set_der (next ∷ b)) same in
+        (written_as_numbers (run ∷ a) (next ∷ b) (is_ip_set family (run ∷ a) is) (is_ip_set family (next ∷ b) also)).0 (append_cancel_left (family_der family) (ip_set_der (run ∷ a)) (ip_set_der (next ∷ b)) content)

@@ -1,0 +1,55 @@
+-- What is printed of a set is a list text with that set, a list text has one set at most, and so sets of the same addresses
+-- alone print alike.
+use Rattle.std.proofs.Common.{◌≡◌, ℕ, ◌↔◌, List, map, refl, sym, ap, ◌∙◌, subst}
+use Rattle.rpki_chain.specs.Runs.{Runs, Holds, IsRunsOfBlocks}
+use Rattle.rpki_chain.specs.Sets.{Covers}
+use Rattle.rpki_chain.proofs.RunLists.{IsRunsOf-unique, IsRunsOfBlocks-bounds, same_numbers}
+use Rattle.rpki_ip.specs.declared.family.AddressFamily.{AddressFamily}
+use Rattle.rpki_ipres.specs.Blocks.{ip_bounds, new_ip_block}
+use Rattle.rpki_ipres.specs.ListText.{HasBlocks, HasIpBlocks}
+use Rattle.rpki_ipres.specs.SetText.{IsSetOf, IsIpSet, IsFamilySet, set_text}
+use Rattle.rpki_ipres.specs.declared.block.IpBlock.{IpBlock}
+use Rattle.rpki_ipres.proofs.ListLemmas.{same_blocks, same_ip_blocks}
+use Rattle.rpki_ipres.proofs.PrintedLists.{family_list, list_told}
+use Rattle.rpki_ipres.proofs.SetTextLemmas.{bounds_made, blocks_of_family, is_ip_set}
+
+module _ (Has : List IpBlock → Type 0) where
+  -- blocks with the bounds of a set's are those of the set
+  set_of : (set : Runs) (xs : List IpBlock) → IsIpSet set → Has xs → map ip_bounds xs ≡ map ip_bounds (map new_ip_block set) → IsSetOf Has set
+  set_of set xs is has bounds = record { blocks = xs; are_written = has; covered = IsRunsOfBlocks-bounds ip_bounds xs set (bounds ∙ bounds_made set) is.are_runs }
+
+  -- one list of blocks has one set
+  one_set : ((xs ys : List IpBlock) → Has xs → Has ys → xs ≡ ys) → (a b : Runs) → IsSetOf Has a → IsSetOf Has b → a ≡ b
+  one_set one a b h k =
+      let same = one k.blocks h.blocks k.are_written h.are_written in
+      IsRunsOf-unique (Covers ip_bounds h.blocks) a b h.covered (subst (λ xs. IsRunsOfBlocks ip_bounds xs b) same k.covered)
+
+-- lists of a family
+pub family_written : (family : AddressFamily) (set : Runs) → IsFamilySet family set → IsSetOf (HasBlocks family (set_text family set)) set
+family_written family set is =
+    let all = family_list family (set_text family set) (map new_ip_block set) (blocks_of_family family set is) refl in
+    set_of (HasBlocks family (set_text family set)) set all.values (is_ip_set family set is) all.have all.bounds
+
+pub one_family_set : (family : AddressFamily) (text : List ℕ) (a b : Runs) → IsSetOf (HasBlocks family text) a → IsSetOf (HasBlocks family text) b → a ≡ b
+one_family_set family text = one_set (HasBlocks family text) (same_blocks family text)
+
+-- lists that tell no family
+pub either_written : (family : AddressFamily) (set : Runs) → IsFamilySet family set → IsSetOf (HasIpBlocks (set_text family set)) set
+either_written family set is =
+    let told = list_told family (set_text family set) (map new_ip_block set) (blocks_of_family family set is) refl in
+    let all = told.writes in
+    set_of (HasIpBlocks (set_text family set)) set all.values (is_ip_set family set is) (told.family, told.is, all.have) all.bounds
+
+pub one_either_set : (text : List ℕ) (a b : Runs) → IsSetOf (HasIpBlocks text) a → IsSetOf (HasIpBlocks text) b → a ≡ b
+one_either_set text = one_set (HasIpBlocks text) (same_ip_blocks text)
+
+-- sets of a family
+pub printed_as_numbers : (family : AddressFamily) (a b : Runs) → IsFamilySet family a → IsFamilySet family b → (set_text family a ≡ set_text family b) ↔ ((n : ℕ) → Holds a n ↔ Holds b n)
+printed_as_numbers family a b is also = (
+  λ printed n. (
+      let written = subst (λ text. IsSetOf (HasBlocks family text) a) printed (family_written family a is) in
+      let same : a ≡ b = one_family_set family (set_text family b) a b written (family_written family b also) in
+      (subst (λ (set : Runs). Holds set n) same, subst (λ (set : Runs). Holds set n) (sym same))
+      ),
+  λ same. ap (set_text family) (same_numbers a b (is_ip_set family a is).are_runs (is_ip_set family b also).are_runs same),
+)

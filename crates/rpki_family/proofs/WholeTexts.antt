@@ -19,6 +19,8 @@ use Rattle.rpki_ipres.specs.Blocks.{prefix_bounds, ip_bounds}
 use Rattle.rpki_ipres.specs.ListText.{IsElementText}
 use Rattle.rpki_ipres.specs.declared.block.IpBlock.{IpBlock}
 use Rattle.rpki_ipres.specs.declared.block.IpBlock.TheVariants.{Prefix, Range}
+use Rattle.rpki_ipres.proofs.FormLemmas.{family_prefix}
+use Rattle.rpki_prefix.specs.Values.{FamilyPrefix, IsFamilyPrefix, width}
 
 -- a prefix of at most 32 bits has whole bounds
 whole_prefix : (p : PrefixValue) (n : ℕ) → p.len ≤ 32 → p.first ≡ cleared 128 n p.len → HasWholeBounds (prefix_bounds p)
@@ -35,7 +37,15 @@ whole_prefix p n short first =
           ∙ mul-mod_left (n / 2 ^ (128 - p.len) * 2 ^ (32 - p.len) + 2 ^ (32 - p.len)) (2 ^ 96);
     }
 
--- and so has a range between IPv4 addresses
+-- so has the block of an IPv4 prefix
+pub whole_family_prefix : (p : FamilyPrefix) → IsFamilyPrefix p → family_of p.addr ≡ Ipv4 → HasWholeBounds (prefix_bounds (record { first = first_of p.addr; len = p.len }))
+whole_family_prefix p is v4 = whole_prefix (record { first = first_of p.addr; len = p.len }) (first_of p.addr) (short p.addr is.short v4) (sym (family_prefix p is))
+  where
+    short : (a : IpAddr) → p.len ≤ width a → family_of a ≡ Ipv4 → p.len ≤ 32
+    short (V4 n) le e = le
+    short (V6 n) le e = absurd (let z : Ipv6 ≡ Ipv4 = e in cc)
+
+-- and a range between IPv4 addresses
 whole_range : (r : RangeValue) (a b : IpAddr) → family_of a ≡ Ipv4 → family_of b ≡ Ipv4 → IsRangeFrom a b r → HasWholeBounds (range_bounds r)
 whole_range r (V4 m) (V4 n) e f h =
     let min : r.min ≡ m * 2 ^ 96 = h.min in

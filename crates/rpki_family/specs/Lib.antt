@@ -1,1 +1,2 @@
 pub mod FamilyText
+pub mod PrefixBlocks

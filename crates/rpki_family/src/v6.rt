@@ -1,9 +1,10 @@
 //! Blocks and sets of IPv6 addresses.
-ghost use Rattle.std.specs.Prelude.{◌≡◌, ℕ, ◌↔◌, [], ◌∷◌, IsTrue, IfOk, Some, MatchResult, ⊤};
+ghost use Rattle.std.specs.Prelude.{◌≡◌, ℕ, ◌↔◌, ◌⊎◌, [], ◌∷◌, IsTrue, IfOk, Some, MatchResult, ⊤};
 ghost use Rattle.rpki_base.specs.Memory.{IsMemory};
 ghost use Rattle.rpki_base.specs.Reading.{AnswersOrMemory};
 ghost use Rattle.rpki_chain.specs.Equality.{have_same_bounds, blocks_per, blocks_equiv, same_runs, runs_per, runs_equiv};
-ghost use Rattle.rpki_chain.specs.Runs.{Runs, Holds, IsRunsOfBlocks};
+ghost use Rattle.rpki_chain.specs.Runs.{Runs, Holds, IsRunsOf, IsRunsOfBlocks};
+ghost use Rattle.rpki_chain.specs.Sets.{IsWithin};
 ghost use Rattle.rpki_ip.specs.declared.family.AddressFamily.TheVariants.{Ipv6};
 ghost use Rattle.rpki_ipres.specs.Blocks.{ip_bounds};
 ghost use Rattle.rpki_ipres.specs.ListText.{HasBlocks, HasBlocksFault};
@@ -11,14 +12,16 @@ ghost use Rattle.rpki_ipres.specs.PrintedBlocks.{IsBlockOf, block_text};
 ghost use Rattle.rpki_ipres.specs.SetText.{IsFamilySet, IsSetOf, set_text};
 ghost use Rattle.rpki_ipres.specs.declared.block.IpBlock.TheVariants.{Prefix};
 ghost use Rattle.rpki_family.specs.FamilyText.{ReadsBlock};
+ghost use Rattle.rpki_family.specs.PrefixBlocks.{IsPrefixBlock};
 
 use crate::common::{FamilyBlock, read_set, set_of};
-use rpki_base::addr::Ipv6Addr;
+use rpki_base::addr::{IpAddr, Ipv6Addr};
 use rpki_base::memory::OrMemory;
 use rpki_ip::error::FromStrError;
 use rpki_ip::family::AddressFamily;
 use rpki_ipres::block::IpBlock;
 use rpki_ipres::blocks::IpBlocks;
+use rpki_prefix::prefix::Prefix as FamilyPrefix;
 use std::alloc::{AllocError, Allocator, Global};
 use std::fmt;
 use std::marker::Model;
@@ -49,6 +52,18 @@ impl Ipv6Block {
     {
         Ipv6Block {
             block: IpBlock::all(),
+        }
+    }
+
+    /// The addresses of a prefix, or None where the prefix is of IPv4.
+    pub fn from_prefix(prefix: FamilyPrefix) -> Option<Ipv6Block>
+        ensures { IsPrefixBlock Ipv6 prefix result }
+    {
+        match prefix.addr() {
+            IpAddr::V6(_) => Some(Ipv6Block {
+                block: IpBlock::from(prefix),
+            }),
+            IpAddr::V4(_) => None,
         }
     }
 
@@ -204,6 +219,64 @@ impl<A: Allocator> Ipv6Blocks<A> {
         ensures { IfOk result (λ set. set ≡ self.now) }
     {
         let blocks = self.blocks.clone()?;
+        Ok(Ipv6Blocks { blocks })
+    }
+
+    /// Whether the set has no addresses.
+    pub fn is_empty(&self) -> bool
+        ensures { IsTrue result ↔ (self.now ≡ []) }
+    {
+        self.blocks.is_empty()
+    }
+
+    /// Whether the set has each address of another.
+    pub fn contains(&self, other: &Ipv6Blocks<A>) -> bool
+        ensures { IsTrue result ↔ ((n : ℕ) → Holds other.now n → Holds self.now n) }
+    {
+        self.blocks.contains(&other.blocks)
+    }
+
+    /// Whether the set has each address of a block.
+    pub fn contains_block(&self, block: Ipv6Block) -> bool
+        ensures { IsTrue result ↔ ((n : ℕ) → IsWithin (ip_bounds block) n → Holds self.now n) }
+    {
+        self.blocks.contains_block(block.block)
+    }
+
+    /// Whether the set has an address of a block.
+    pub fn intersects_block(&self, block: Ipv6Block) -> bool
+        ensures { IsTrue result ↔ ((n : ℕ) × IsWithin (ip_bounds block) n × Holds self.now n) }
+    {
+        self.blocks.intersects_block(block.block)
+    }
+
+    /// The set of the addresses that both have. `AllocError` where there is no memory for it.
+    pub fn intersection(&self, alloc: A, other: &Ipv6Blocks<A>) -> Result<Ipv6Blocks<A>, AllocError>
+    where
+        A: Copy,
+        ensures { IfOk result (IsRunsOf (λ n. Holds self.now n × Holds other.now n)) }
+    {
+        let blocks = self.blocks.intersection(alloc, &other.blocks)?;
+        Ok(Ipv6Blocks { blocks })
+    }
+
+    /// The set of the addresses that the other doesn't have. `AllocError` where there is no memory for it.
+    pub fn difference(&self, alloc: A, other: &Ipv6Blocks<A>) -> Result<Ipv6Blocks<A>, AllocError>
+    where
+        A: Copy,
+        ensures { IfOk result (IsRunsOf (λ n. Holds self.now n × (Holds other.now n → ⊥))) }
+    {
+        let blocks = self.blocks.difference(alloc, &other.blocks)?;
+        Ok(Ipv6Blocks { blocks })
+    }
+
+    /// The set of the addresses that one or the other has. `AllocError` where there is no memory for it.
+    pub fn union(&self, alloc: A, other: &Ipv6Blocks<A>) -> Result<Ipv6Blocks<A>, AllocError>
+    where
+        A: Copy,
+        ensures { IfOk result (IsRunsOf (λ n. Holds self.now n ⊎ Holds other.now n)) }
+    {
+        let blocks = self.blocks.union(alloc, &other.blocks)?;
         Ok(Ipv6Blocks { blocks })
     }
 

@@ -1,0 +1,13 @@
+-- Blocks of a family that are prefixes.
+use Rattle.std.specs.Prelude.{◌≡◌, ◌≢◌, Option, MatchOption}
+use Rattle.rpki_ip.specs.AddrText.{first_of}
+use Rattle.rpki_ip.specs.Families.{family_of}
+use Rattle.rpki_ip.specs.declared.family.AddressFamily.{AddressFamily}
+use Rattle.rpki_ipres.specs.declared.block.IpBlock.{IpBlock}
+use Rattle.rpki_ipres.specs.declared.block.IpBlock.TheVariants.{Prefix}
+use Rattle.rpki_prefix.specs.Values.{FamilyPrefix}
+
+-- the block of the prefix's addresses, where the prefix is one of the family, and else none
+abbrev pub IsPrefixBlock : AddressFamily → FamilyPrefix → Option IpBlock → Type 0
+IsPrefixBlock family p r =
+    MatchOption r (family_of p.addr ≢ family) (λ block. (family_of p.addr ≡ family) × (block ≡ Prefix (record { first = first_of p.addr; len = p.len })))

@@ -20,12 +20,20 @@ use rpki_ipres::list::{read_v4_blocks, read_v6_blocks};
 use std::alloc::{AllocError, Allocator};
 
 /// A block of a family.
-pub(crate) trait FamilyBlock: Copy {
+pub trait FamilyBlock: Copy {
     // The block of addresses of either family that it is.
     ghost block: { Self → IpBlock };
 
+    // The block of the family that a block of addresses is.
+    ghost of: { IpBlock → Self };
+
     // What holds of the bounds of a block of the family.
     ghost fits: { ℕ × ℕ → Type 0 };
+
+    /// The block of the family that a block of addresses is.
+    fn from_block(ip: IpBlock) -> Self
+        requires { fits (ip_bounds ip) }
+        ensures { result ≡ of ip };
 
     /// The block of addresses of either family that it is.
     fn to_block(&self) -> IpBlock

@@ -2,5 +2,6 @@
 #![tactic(auto)]
 
 mod common;
+pub mod iter;
 pub mod v4;
 pub mod v6;

@@ -1,5 +1,5 @@
 //! Blocks and sets of IPv4 addresses.
-ghost use Rattle.std.specs.Prelude.{◌≡◌, ℕ, ◌+◌, ◌-◌, ◌*◌, ◌^◌, ◌↔◌, ◌⊎◌, [], ◌∷◌, IsTrue, IfOk, Some, MatchResult};
+ghost use Rattle.std.specs.Prelude.{◌≡◌, ℕ, ◌+◌, ◌-◌, ◌*◌, ◌^◌, ◌↔◌, ◌⊎◌, [], ◌∷◌, IsTrue, IfOk, Some, map, MatchResult};
 ghost use Rattle.rpki_base.specs.Memory.{IsMemory};
 ghost use Rattle.rpki_base.specs.Reading.{AnswersOrMemory};
 ghost use Rattle.rpki_chain.specs.Equality.{have_same_bounds, blocks_per, blocks_equiv, same_runs, runs_per, runs_equiv};
@@ -7,7 +7,7 @@ ghost use Rattle.rpki_chain.specs.Runs.{Runs, Holds, IsRunsOf, IsRunsOfBlocks};
 ghost use Rattle.rpki_chain.specs.Sets.{IsWithin};
 ghost use Rattle.rpki_ip.specs.Whole.{IsWhole, HasWholeBounds};
 ghost use Rattle.rpki_ip.specs.declared.family.AddressFamily.TheVariants.{Ipv4};
-ghost use Rattle.rpki_ipres.specs.Blocks.{ip_bounds};
+ghost use Rattle.rpki_ipres.specs.Blocks.{ip_bounds, new_ip_block};
 ghost use Rattle.rpki_ipres.specs.ListText.{HasBlocks, HasBlocksFault};
 ghost use Rattle.rpki_ipres.specs.PrintedBlocks.{IsBlockOf, block_text};
 ghost use Rattle.rpki_ipres.specs.SetText.{IsFamilySet, IsSetOf, set_text};
@@ -16,6 +16,7 @@ ghost use Rattle.rpki_family.specs.FamilyText.{ReadsBlock};
 ghost use Rattle.rpki_family.specs.PrefixBlocks.{IsPrefixBlock};
 
 use crate::common::{FamilyBlock, read_set, set_of};
+use crate::iter::BlockIter;
 use rpki_base::addr::{IpAddr, Ipv4Addr};
 use rpki_base::memory::OrMemory;
 use rpki_ip::error::FromStrError;
@@ -125,7 +126,13 @@ impl From<Ipv4Block> for IpBlock {
 impl FamilyBlock for Ipv4Block {
     ghost block = { λ b. b };
 
+    ghost of = { λ block. block };
+
     ghost fits = { HasWholeBounds };
+
+    fn from_block(ip: IpBlock) -> Ipv4Block {
+        Ipv4Block { block: ip }
+    }
 
     fn to_block(&self) -> IpBlock {
         self.block
@@ -220,8 +227,10 @@ impl<A: Allocator> Ipv4Blocks<A> {
     /// The set as one of addresses of either family.
     pub fn ip_blocks(&self) -> &IpBlocks<A>
         ensures value { result.now ≡ self.now }
+        ensures set { IsFamilySet Ipv4 self.now }
         ensures whole { IsWhole (Holds self.now) }
     {
+        let _blocks = self.blocks.iter(); // read so that the proof sees that no address is above the last one
         &self.blocks
     }
 
@@ -238,6 +247,15 @@ impl<A: Allocator> Ipv4Blocks<A> {
         ensures { IsTrue result ↔ (self.now ≡ []) }
     {
         self.blocks.is_empty()
+    }
+
+    /// The blocks of the set one by one, ascending: its runs, each a prefix where it is one, and else a range.
+    pub fn iter(&self) -> BlockIter<'_, Ipv4Block>
+        ensures blocks { map ip_bounds result ≡ self.now }
+        ensures made { result ≡ map new_ip_block self.now }
+        ensures set { IsFamilySet Ipv4 self.now }
+    {
+        BlockIter::over(self.blocks.iter())
     }
 
     /// Whether the set has each address of another.
@@ -306,6 +324,24 @@ impl<A: Allocator> Ipv4Blocks<A> {
             Ok(blocks) => Ok(Ipv4Blocks { blocks }),
             Err(fault) => Err(fault),
         }
+    }
+}
+
+impl<'a, A: Allocator> IntoIterator for &'a Ipv4Blocks<A> {
+    type Item = Ipv4Block;
+
+    type IntoIter = BlockIter<'a, Ipv4Block>;
+
+    ghost into_iter_gives = { λ set blocks. blocks ≡ map new_ip_block set.now };
+
+    fn into_iter(self) -> BlockIter<'a, Ipv4Block> {
+        self.iter()
+    }
+}
+
+impl<A: Allocator> fmt::Debug for Ipv4Blocks<A> {
+    fn fmt<W: fmt::Write>(&self, f: &mut fmt::Formatter<W>) -> fmt::Result {
+        f.debug_set().entries(self).finish()
     }
 }
 

@@ -1,0 +1,12 @@
+use Rattle.std.proofs.Common.{subst}
+use Rattle.std.specs.List.{All}
+use Rattle.std.specs.Slice.Iter.{iter_rest}
+use Rattle.std.proofs.lemmas.List.Elements.{All-tail}
+use Rattle.rpki_ipres.specs.Blocks.{ip_bounds}
+use Rattle.rpki_ipres.specs.declared.block.IpBlock.{IpBlock}
+use Rattle.rpki_family.proofs.iter.BlockIterIterator.next.Goals as goal
+
+pub invariant_of-self-2 : goal.invariant_of-self-2
+invariant_of-self-2 g c =
+    let fits = λ (block : IpBlock). g.B.FamilyBlock.fits (ip_bounds block) in
+    All-tail fits c.in_ok-block.block.now (iter_rest c.next.new.self) (subst (All fits) c.in_ok-block.ensures.steps c.self.invariant)

@@ -12,7 +12,7 @@ use Rattle.rpki_ip.specs.FamilyDer.{IsFamilyDer, family_der}
 use Rattle.rpki_ip.specs.PrefixDer.{IsPrefixDer, prefix_bits, prefix_der}
 use Rattle.rpki_ip.specs.RangeDer.{IsRangeDer, IsRangeWithin, range_content, range_der, without_end_ones, without_end_zeros}
 use Rattle.rpki_ip.specs.Ranges.{RangeValue}
-use Rattle.rpki_ip.proofs.Multiples.{IsMultiple, multiple_diff, multiple_least, multiple_mod, multiple_self, mod_multiple}
+use Rattle.rpki_cover.proofs.Multiples.{IsMultiple, multiple_diff, multiple_least, multiple_mod, multiple_self, mod_multiple}
 use Rattle.rpki_ip.proofs.PrefixBits.{bits_few, bits_fit, bits_say}
 use Rattle.rpki_ip.proofs.Shortest.{shortest_from_is, shortest_to_is}
 

@@ -1,7 +1,7 @@
 pub mod AddrTextLemmas
+pub mod CoverLemmas
 pub mod DerReadings
 pub mod DerWritten
-pub mod Multiples
 pub mod PrefixBits
 pub mod RangeLemmas
 pub mod Shortest

@@ -2,6 +2,7 @@
 #![tactic(auto)]
 
 pub mod addr;
+pub mod cover;
 pub mod der;
 pub mod error;
 pub mod family;

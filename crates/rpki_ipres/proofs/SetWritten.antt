@@ -20,7 +20,7 @@ use Rattle.rpki_ip.specs.Families.{bits_of}
 use Rattle.rpki_ip.specs.FamilyDer.{family_der}
 use Rattle.rpki_ip.specs.RangeDer.{IsRangeWithin}
 use Rattle.rpki_ip.specs.Whole.{HasWholeBounds}
-use Rattle.rpki_ip.proofs.Multiples.{IsMultiple, mod_multiple, multiple_diff, multiple_least}
+use Rattle.rpki_cover.proofs.Multiples.{IsMultiple, mod_multiple, multiple_diff, multiple_least}
 use Rattle.rpki_ipres.specs.BlockDer.{IsBlockWithin, IsIpBlockDer, ip_block_der, ip_family_der, ip_run_der, ip_set_der}
 use Rattle.rpki_ipres.specs.PrintedBlocks.{IsBlock}
 use Rattle.rpki_ipres.specs.SetText.{IsFamilySet, IsIpSet}

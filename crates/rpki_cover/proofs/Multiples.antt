@@ -40,6 +40,22 @@ multiple_least s a m =
       | inr none ↦ absurd (let z : m.times ≡ 0 = omega (arith, none) in let e : a + 1 ≡ m.times * s = m.is in let f : a + 1 ≡ 0 * s = rw z at e in omega (arith, f))
     ]
 
+-- one that is greater than another is greater by s at least
+pub multiple_gap : (s a b : ℕ) → IsMultiple s a → IsMultiple s b → a < b → a + s ≤ b
+multiple_gap s a b m n h =
+    elim (cases_lt m.times n.times) [
+      | inl l ↦ (let k : (m.times + 1) * s ≤ n.times * s = mul-le-mul_right s (omega arith) in
+          let e : a ≡ m.times * s = m.is in
+          let f : b ≡ n.times * s = n.is in omega arith)
+      | inr g ↦ (let k : n.times * s ≤ m.times * s = mul-le-mul_right s g in
+          let e : a ≡ m.times * s = m.is in
+          let f : b ≡ n.times * s = n.is in absurd (omega arith))
+    ]
+
+-- so is 0
+pub multiple_zero : (s : ℕ) → IsMultiple s 0
+multiple_zero s = record { times = 0; is = omega arith }
+
 -- a multiple of a power of 2 is one of each smaller power
 pub multiple_smaller : (j k a : ℕ) → j ≤ k → IsMultiple (2 ^ k) a → IsMultiple (2 ^ j) a
 multiple_smaller j k a h m = record {
@@ -61,6 +77,22 @@ mod_multiple j a z = let e : a / 2 ^ j * 2 ^ j + a % 2 ^ j ≡ a = shr_split a j
 -- divided and multiplied again it is itself
 pub multiple_div : (s a : ℕ) → 0 < s → IsMultiple s a → a / s * s ≡ a
 multiple_div s a pos m = let e : a ≡ m.times * s + 0 = m.is ∙ omega arith in ap (λ x. x / s * s) e ∙ ap (λ x. x * s) (div-mul-add m.times s 0 pos) ∙ sym m.is
+
+-- ---- blocks of 2 ^ k numbers from a multiple of 2 ^ k on
+
+-- of two blocks that share a number, the smaller lies in the larger
+pub record Nested (a s b t : ℕ) : Type 0 where
+  pub from : a ≤ b
+  pub upto : b + t ≤ a + s
+
+pub nested : (j k a b : ℕ) → j ≤ k → IsMultiple (2 ^ k) a → IsMultiple (2 ^ j) b → b < a + 2 ^ k → a < b + 2 ^ j → Nested a (2 ^ k) b (2 ^ j)
+nested j k a b h m n p q =
+    let m' : IsMultiple (2 ^ j) a = multiple_smaller j k a h m in
+    let e : IsMultiple (2 ^ j) (a + 2 ^ k) = multiple_smaller j k (a + 2 ^ k) h (multiple_sum (2 ^ k) a (2 ^ k) m (multiple_self (2 ^ k))) in
+    record {
+      from = elim (cases_lt b a) [ inl l ↦ (let g : b + 2 ^ j ≤ a = multiple_gap (2 ^ j) b a n m' l in absurd (omega arith)) | inr g ↦ g ];
+      upto = multiple_gap (2 ^ j) b (a + 2 ^ k) n e p;
+    }
 
 -- ---- zeros at the end of a number
 

@@ -1,0 +1,60 @@
+-- The greatest block of 2 ^ k numbers at the beginning of a range.
+use Rattle.std.proofs.Common.{◌≡◌, ℕ, suc, zero, ◌+◌, ◌%◌, ◌^◌, ◌≤◌, Bool, true, eqb, leb, ◌&&◌, arith, inl, inr}
+use Rattle.std.proofs.lemmas.Bool.{cases_Bool, cases_order, and_parts, eqb-true, leb-true, eq-eqb, le-leb, and_from}
+use Rattle.std.proofs.lemmas.Nat.{pow_pos}
+use Rattle.rpki_cover.proofs.Multiples.{IsMultiple, multiple_mod, mod_multiple}
+use Rattle.rpki_cover.specs.Walk.{free_bits_upto, free_bits}
+
+-- 2 ^ k numbers from a on are a block, which ends at b or before
+pub record Fits (a b k : ℕ) : Type 0 where
+  pub aligned : IsMultiple (2 ^ k) a
+  pub within : a + 2 ^ k ≤ b + 1
+
+-- the greatest such k up to w
+pub record IsGreatest (w a b k : ℕ) : Type 0 where
+  pub upto : k ≤ w
+  pub fits : Fits a b k
+  pub greatest : (j : ℕ) → j ≤ w → Fits a b j → j ≤ k
+
+-- the definition finds it
+pub free_bits_upto_is : (w a b : ℕ) → a ≤ b → IsGreatest w a b (free_bits_upto w a b)
+free_bits_upto_is zero a b h = record {
+  upto = omega arith;
+  fits = record { aligned = record { times = a; is = omega arith }; within = omega arith };
+  greatest = λ j l f. l;
+}
+free_bits_upto_is (suc w) a b h =
+    let test : Bool = eqb (a % 2 ^ suc w) 0 && leb (a + 2 ^ suc w) (b + 1) in
+    let IH : IsGreatest w a b (free_bits_upto w a b) = free_bits_upto_is w a b h in
+    elim (cases_Bool (eqb (a % 2 ^ suc w) 0 && leb (a + 2 ^ suc w) (b + 1))) [
+      | inl e ↦ rw e (
+          let both : (eqb (a % 2 ^ suc w) 0 ≡ true) × (leb (a + 2 ^ suc w) (b + 1) ≡ true) = and_parts (eqb (a % 2 ^ suc w) 0) (leb (a + 2 ^ suc w) (b + 1)) e in
+          record {
+            upto = omega arith;
+            fits = record { aligned = mod_multiple (suc w) a (eqb-true _ _ both.0); within = leb-true _ _ both.1 };
+            greatest = λ j l f. l;
+          })
+      | inr e ↦ rw e (record {
+        upto = (let u : free_bits_upto w a b ≤ w = IH.upto in omega arith);
+        fits = IH.fits;
+        greatest = λ j l f. elim (cases_order j (suc w)) [
+          | inl q ↦ absurd (
+              let f' : Fits a b (suc w) = rw q at f in
+              let t : (eqb (a % 2 ^ suc w) 0 && leb (a + 2 ^ suc w) (b + 1)) ≡ true =
+              and_from _ _ (eq-eqb _ _ (multiple_mod (2 ^ suc w) a (pow_pos (suc w)) f'.aligned)) (le-leb _ _ f'.within) in cc)
+          | inr (inl q) ↦ IH.greatest j (omega arith) f
+          | inr (inr q) ↦ absurd (omega arith)
+        ];
+      })
+    ]
+
+-- whatever the width
+pub free_bits_is : (w a b : ℕ) → a ≤ b → IsGreatest w a b (free_bits w a b)
+unfolding free_bits
+free_bits_is w a b h = free_bits_upto_is w a b h
+
+-- there is one
+pub same_greatest : (w a b j k : ℕ) → IsGreatest w a b j → IsGreatest w a b k → j ≡ k
+same_greatest w a b j k m n =
+    let p : j ≤ k = n.greatest j m.upto m.fits in
+    let q : k ≤ j = m.greatest k n.upto n.fits in omega arith

@@ -1,0 +1,12 @@
+pub mod CoverList
+pub mod Counting
+pub mod FreeBits
+pub mod Greatest
+pub mod Joined
+pub mod Membership
+pub mod Multiples
+pub mod Nesting
+pub mod Shortest
+pub mod Steps
+pub mod Unique
+pub mod Widening

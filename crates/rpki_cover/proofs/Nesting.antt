@@ -1,0 +1,74 @@
+-- Prefixes inside ranges and inside one another.
+use Rattle.std.proofs.Common.{◌≡◌, ℕ, ◌+◌, ◌-◌, ◌*◌, ◌/◌, ◌%◌, ◌^◌, ◌<◌, ◌≤◌, ◌⊎◌, refl, arith, inl, inr}
+use Rattle.std.proofs.lemmas.Bool.{cases_lt}
+use Rattle.std.proofs.lemmas.Nat.{pow_pos}
+use Rattle.rpki_cover.proofs.Greatest.{Fits, IsGreatest}
+use Rattle.rpki_cover.proofs.Multiples.{IsMultiple, mod_multiple, nested, Nested}
+use Rattle.rpki_base.proofs.PrefixNumbers.{cleared_prefix, cleared_holds}
+use Rattle.rpki_base.specs.Prefixes.{PrefixValue, IsPrefix, IsIn, IsInside, IsParent, cleared}
+
+-- the numbers from a to b
+abbrev pub InRange : ℕ → ℕ → ℕ → Type 0
+InRange a b n = (a ≤ n) × (n ≤ b)
+
+-- the prefix lies from a to b, by its bounds
+pub record Within (w : ℕ) (p : PrefixValue) (a b : ℕ) : Type 0 where
+  pub from : a ≤ p.first
+  pub upto : p.first + 2 ^ (w - p.len) ≤ b + 1
+
+-- a prefix has its first number
+pub first_in : (w : ℕ) (p : PrefixValue) → IsIn w p p.first
+first_in w p = record { from = omega arith; upto = (let h : 0 < 2 ^ (w - p.len) = pow_pos (w - p.len) in omega arith) }
+
+-- a prefix is inside the range exactly where its bounds are
+pub within_of : (w a b : ℕ) (p : PrefixValue) → IsInside w (InRange a b) p → Within w p a b
+within_of w a b p i =
+    let h : 0 < 2 ^ (w - p.len) = pow_pos (w - p.len) in
+    let f : InRange a b p.first = i p.first (first_in w p) in
+    let l : InRange a b (p.first + 2 ^ (w - p.len) - 1) = i (p.first + 2 ^ (w - p.len) - 1) (record { from = omega arith; upto = omega arith }) in
+    record { from = f.0; upto = (let u : p.first + 2 ^ (w - p.len) - 1 ≤ b = l.1 in omega arith) }
+
+pub of_within : (w a b : ℕ) (p : PrefixValue) → Within w p a b → IsInside w (InRange a b) p
+of_within w a b p i n h = (omega (arith, i.from, h.from), omega (arith, i.upto, h.upto))
+
+-- a prefix is inside another by its bounds
+pub inside_of : (w : ℕ) (q p : PrefixValue) → p.first ≤ q.first → q.first + 2 ^ (w - q.len) ≤ p.first + 2 ^ (w - p.len) → IsInside w (IsIn w p) q
+inside_of w q p h k n i = record { from = omega (arith, i.from); upto = omega (arith, i.upto) }
+
+-- its first number is a multiple of how many it has
+pub multiple_at : (w : ℕ) (p : PrefixValue) → IsPrefix w p → IsMultiple (2 ^ (w - p.len)) p.first
+multiple_at w p is = mod_multiple (w - p.len) p.first is.aligned
+
+-- a prefix inside the range lies in the greatest block at its beginning, or behind it
+pub no_straddle : (w a b k : ℕ) (p : PrefixValue) → IsGreatest w a b k → IsPrefix w p → Within w p a b
+    → (p.first + 2 ^ (w - p.len) ≤ a + 2 ^ k) ⊎ (a + 2 ^ k ≤ p.first)
+no_straddle w a b k p g is i =
+    let h : 0 < 2 ^ (w - p.len) = pow_pos (w - p.len) in
+    let h' : 0 < 2 ^ k = pow_pos k in
+    let from : a ≤ p.first = i.from in
+    let upto : p.first + 2 ^ (w - p.len) ≤ b + 1 = i.upto in
+    let m : IsMultiple (2 ^ (w - p.len)) p.first = multiple_at w p is in
+    elim (cases_lt p.first (a + 2 ^ k)) [
+      | inr r ↦ inr r
+      | inl l ↦ elim (cases_lt k (w - p.len)) [
+        | inr s ↦ inl (nested (w - p.len) k a p.first s g.fits.aligned m l (omega arith)).upto
+        | inl s ↦ absurd (
+            let n : Nested p.first (2 ^ (w - p.len)) a (2 ^ k) = nested k (w - p.len) p.first a (omega arith) m g.fits.aligned (omega arith) l in
+            let e : p.first ≡ a = (let u : p.first ≤ a = n.from in omega arith) in
+            let f : Fits a b (w - p.len) = record { aligned = rw e at m; within = rw e at upto } in
+            let t : w - p.len ≤ k = g.greatest (w - p.len) (omega arith) f in omega arith)
+      ]
+    ]
+
+-- a prefix of positive length has a parent
+pub parent_of : (w : ℕ) (p : PrefixValue) → IsPrefix w p → 0 < p.len → (q : PrefixValue) × IsParent w q p × (q.first ≤ p.first)
+parent_of w p is pos =
+    let prefix : IsPrefix w (record { first = cleared w p.first (p.len - 1); len = p.len - 1 }) = cleared_prefix w p.first (p.len - 1) (omega (arith, is.short)) is.below in
+    let held : IsIn w (record { first = cleared w p.first (p.len - 1); len = p.len - 1 }) p.first = cleared_holds w p.first (p.len - 1) in
+    let some : 0 < 2 ^ (w - p.len) = pow_pos (w - p.len) in
+    let n : Nested (cleared w p.first (p.len - 1)) (2 ^ (w - (p.len - 1))) p.first (2 ^ (w - p.len)) =
+    nested (w - p.len) (w - (p.len - 1)) _ p.first (omega arith) (mod_multiple _ _ prefix.aligned) (multiple_at w p is) held.upto (omega (arith, held.from, some)) in (
+      record { first = cleared w p.first (p.len - 1); len = p.len - 1 },
+      record { is_prefix = prefix; shorter = omega arith; holds = inside_of w p (record { first = cleared w p.first (p.len - 1); len = p.len - 1 }) n.from n.upto },
+      held.from,
+    )

@@ -1,0 +1,143 @@
+//! The cover list of a range of numbers, one prefix after the other.
+ghost use Rattle.std.specs.Prelude.{◌≡◌, ◌+◌, ◌*◌, ◌^◌, ◌<◌, ◌≤◌, [], length, MatchOption};
+ghost use Rattle.std.specs.Iterator.{YieldsFirst, item_count};
+ghost use Rattle.rpki_cover.specs.Covers.{IsShortestCover};
+ghost use Rattle.rpki_cover.specs.Walk.{free_bits};
+
+use std::marker::Model;
+
+/// A prefix of numbers: a first number, and how many of its leading bits are fixed. The others are clear in it.
+#[derive(Clone, Copy)]
+pub struct NumberPrefix {
+    first: u128,
+    len: u8,
+}
+
+impl Model for NumberPrefix {
+    ghost use Rattle.rpki_base.specs.Prefixes.{PrefixValue};
+
+    ghost Value = { PrefixValue };
+
+    ghost view = { λ p. record { first = p.first; len = p.len } };
+
+    ghost inverse = { λ p. record { first = p.first; len = p.len } };
+}
+
+impl NumberPrefix {
+    /// The first number.
+    pub fn first(self) -> u128
+        ensures { result ≡ self.first }
+    {
+        self.first
+    }
+
+    /// How many bits are fixed.
+    pub fn len(self) -> u8
+        ensures { result ≡ self.len }
+    {
+        self.len
+    }
+}
+
+/// The prefixes of the cover list of a range of numbers of a width that are left, ascending. Contracts see it as their
+/// list.
+///
+/// The cover list has exactly the maximal prefixes inside the range. Its union is the range, and no list of prefixes
+/// with that union is shorter.
+#[derive(Drop)]
+pub struct Cover {
+    width: u8,
+    left: Option<(u128, u128)>,
+}
+
+impl Model for Cover {
+    ghost use Rattle.std.specs.Prelude.{List, ◌≤◌, ◌<◌, ◌^◌, IfSome};
+    ghost use Rattle.rpki_base.specs.Prefixes.{PrefixValue};
+    ghost use Rattle.rpki_cover.specs.Walk.{left_cover};
+
+    ghost Value = { List PrefixValue };
+
+    ghost view = { λ c. left_cover c.width c.left };
+
+    ghost invariant = { λ c. (c.width ≤ 128) × IfSome c.left (λ r. (r.0 ≤ r.1) × (r.1 < 2 ^ c.width)) };
+}
+
+impl Cover {
+    /// The cover list of the numbers from `first` to `last`, which have at most `width` bits.
+    pub fn new(width: u8, first: u128, last: u128) -> Cover
+        requires width { width ≤ 128 }
+        requires order { first ≤ last }
+        requires below { last < 2 ^ width }
+        ensures cover { IsShortestCover width (λ n. (first ≤ n) × (n ≤ last)) result }
+        ensures few { 2 ≤ width → length result + 2 ≤ 2 * width }
+    {
+        Cover {
+            width,
+            left: Some((first, last)),
+        }
+    }
+}
+
+/// No prefixes.
+impl Default for Cover {
+    ghost is_default = { λ cover. cover ≡ [] };
+
+    fn default() -> Cover {
+        Cover {
+            width: 0,
+            left: None,
+        }
+    }
+}
+
+impl Iterator for Cover {
+    type Item = NumberPrefix;
+
+    ghost next_gives = { YieldsFirst (λ prefixes. prefixes) };
+
+    ghost remaining = { item_count (λ prefixes. prefixes) };
+
+    fn next(&mut self) -> Option<NumberPrefix> {
+        let Some((first, last)) = self.left else {
+            return None;
+        };
+        let free = free_bits(self.width, first, last);
+        self.left = behind(first, last, free);
+        Some(NumberPrefix {
+            first,
+            len: self.width - free,
+        })
+    }
+}
+
+/// How many bits aren't fixed in the greatest prefix that begins with `first` and ends with `last` or before: at most as
+/// many as `first` ends with zeros, and as the binary logarithm of how many numbers there are.
+fn free_bits(width: u8, first: u128, last: u128) -> u8
+    requires width { width ≤ 128 }
+    requires order { first ≤ last }
+    requires below { last < 2 ^ width }
+    ensures value { result ≡ free_bits width first last }
+    ensures most { result ≤ width }
+{
+    let aligned = first.trailing_zeros();
+    let fitting = match (last - first).checked_add(1) {
+        Some(count) => count.ilog2(),
+        None => 128,
+    };
+    (aligned.min(fitting) as u8).min(width)
+}
+
+/// The numbers that are left behind the first 2^free, from the least to the last.
+fn behind(first: u128, last: u128, free: u8) -> Option<(u128, u128)>
+    ensures { MatchOption result (last < first + 2 ^ free) (λ r. (r ≡ (first + 2 ^ free, last)) × (first + 2 ^ free ≤ last)) }
+{
+    if free >= 128 {
+        return None;
+    }
+    let next = first.checked_add(1 << free)?;
+    if next <= last {
+        Some((next, last))
+    } else {
+        None
+    }
+}

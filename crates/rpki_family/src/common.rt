@@ -16,7 +16,7 @@ use rpki_ip::error::FromStrError;
 use rpki_ip::family::AddressFamily;
 use rpki_ipres::block::IpBlock;
 use rpki_ipres::blocks::IpBlocks;
-use rpki_ipres::list::{read_v4_blocks, read_v6_blocks};
+use rpki_ipres::list::read_blocks;
 use std::alloc::{AllocError, Allocator};
 
 /// A block of a family.
@@ -54,22 +54,6 @@ pub(crate) fn set_of<B: FamilyBlock, A: Allocator + Copy>(
         own.push(block.to_block())?;
     }
     IpBlocks::from_blocks(alloc, own.as_slice())
-}
-
-/// The blocks that a list of the family writes.
-fn read_blocks<A: Allocator + Drop>(
-    alloc: A,
-    family: AddressFamily,
-    text: &str,
-) -> Result<Vec<IpBlock, A>, OrMemory<FromStrError>>
-    ensures exact { AnswersOrMemory (λ v. v.items) (HasBlocks family text.now) (HasBlocksFault family text.now) result }
-    ensures reads_back { (blocks : List IpBlock) → All (IsBlockOf family) blocks → text.now ≡ block_list_text family blocks
-        → MatchResult result (λ v. map ip_bounds v.items ≡ map ip_bounds blocks) IsMemory }
-{
-    match family {
-        AddressFamily::Ipv4 => read_v4_blocks(alloc, text),
-        AddressFamily::Ipv6 => read_v6_blocks(alloc, text),
-    }
 }
 
 /// The set that a list of blocks of the family writes.

@@ -52,8 +52,9 @@ fn read_address(wanted: Option<AddressFamily>, text: &str) -> Result<IpAddr, Add
     }
 }
 
-/// The prefix that an address and a length write.
-fn prefix_between(
+/// The prefix that an address and a length write, in the family that is wanted or in either. The bits behind the length
+/// are cleared. The fault is [`FromStrError::Addr`], and then [`FromStrError::PrefixLen`].
+pub fn prefix_between(
     wanted: Option<AddressFamily>,
     left: &str,
     right: &str,
@@ -68,8 +69,12 @@ fn prefix_between(
     Ok(Prefix::new(Addr::from(addr), len))
 }
 
-/// The range from one address to another.
-fn range_between(
+/// The range from one address to another, in the family that is wanted or in either.
+///
+/// The fault is the first of these: [`FromStrError::Addr`] of the first address and of the second,
+/// [`FromStrError::FamilyMismatch`] where they are of two families, and [`FromStrError::BadRange`] where the first is
+/// above the second.
+pub fn range_between(
     wanted: Option<AddressFamily>,
     left: &str,
     right: &str,
@@ -160,8 +165,13 @@ impl Prefix {
         read_prefix(Some(AddressFamily::Ipv6), text)
     }
 
-    /// Writes the prefix as one of the family.
-    fn fmt_as<W: fmt::Write>(&self, family: AddressFamily, f: &mut fmt::Formatter<W>) -> fmt::Result
+    /// Writes the prefix as one of the family: its address, in IPv4 the first 32 bits of it, a slash and the length, of
+    /// which the last two are left out where the length is that of an address.
+    pub fn fmt_as<W: fmt::Write>(
+        &self,
+        family: AddressFamily,
+        f: &mut fmt::Formatter<W>,
+    ) -> fmt::Result
         ensures { WritesOnOk W.write_str_gives f.old result (prefix_text family self.now) f.new }
     {
         let addr = shown(family, self.addr());
@@ -173,16 +183,14 @@ impl Prefix {
         }
     }
 
-    /// Writes the first 32 bits of the address as an IPv4 address, a slash and the length, of which the last two are
-    /// left out where the length is 32.
+    /// Writes the prefix as one of IPv4, as [`Prefix::fmt_as`] does.
     pub fn fmt_v4<W: fmt::Write>(&self, f: &mut fmt::Formatter<W>) -> fmt::Result
         ensures { WritesOnOk W.write_str_gives f.old result (prefix_text Ipv4 self.now) f.new }
     {
         self.fmt_as(AddressFamily::Ipv4, f)
     }
 
-    /// Writes the address as an IPv6 address, a slash and the length, of which the last two are left out where the
-    /// length is 128.
+    /// Writes the prefix as one of IPv6, as [`Prefix::fmt_as`] does.
     pub fn fmt_v6<W: fmt::Write>(&self, f: &mut fmt::Formatter<W>) -> fmt::Result
         ensures { WritesOnOk W.write_str_gives f.old result (prefix_text Ipv6 self.now) f.new }
     {
@@ -216,8 +224,13 @@ impl AddressRange {
         read_range(Some(AddressFamily::Ipv6), text)
     }
 
-    /// Writes the range as one of the family.
-    fn fmt_as<W: fmt::Write>(&self, family: AddressFamily, f: &mut fmt::Formatter<W>) -> fmt::Result
+    /// Writes the range as one of the family: the least and the greatest address, in IPv4 the first 32 bits of each, with
+    /// a dash between them, or only one where they are alike.
+    pub fn fmt_as<W: fmt::Write>(
+        &self,
+        family: AddressFamily,
+        f: &mut fmt::Formatter<W>,
+    ) -> fmt::Result
         ensures { WritesOnOk W.write_str_gives f.old result (range_text family self.now) f.new }
     {
         let min = shown(family, self.min());
@@ -229,16 +242,14 @@ impl AddressRange {
         }
     }
 
-    /// Writes the first 32 bits of the least and the greatest address as IPv4 addresses with a dash between them, or
-    /// only one where they are alike.
+    /// Writes the range as one of IPv4, as [`AddressRange::fmt_as`] does.
     pub fn fmt_v4<W: fmt::Write>(&self, f: &mut fmt::Formatter<W>) -> fmt::Result
         ensures { WritesOnOk W.write_str_gives f.old result (range_text Ipv4 self.now) f.new }
     {
         self.fmt_as(AddressFamily::Ipv4, f)
     }
 
-    /// Writes the least and the greatest address as IPv6 addresses with a dash between them, or only one where they are
-    /// the same.
+    /// Writes the range as one of IPv6, as [`AddressRange::fmt_as`] does.
     pub fn fmt_v6<W: fmt::Write>(&self, f: &mut fmt::Formatter<W>) -> fmt::Result
         ensures { WritesOnOk W.write_str_gives f.old result (range_text Ipv6 self.now) f.new }
     {

@@ -1,30 +1,17 @@
--- A text of a block has one value or one fault at most, and each form is found by the bytes that cut the text.
-use Rattle.std.proofs.Common.{◌≡◌, ℕ, inl, inr, List, Option, Result, Ok, Err, MatchResult, Bool, true, false, IsTrue, ◌↔◌, refl, sym, ap, ◌∙◌}
-use Rattle.rpki_base.specs.Cuts.{HasNo, Around, slash, dash}
+-- A text of a block has one value or one fault at most, and each form is found by the byte that cuts the text.
+use Rattle.std.proofs.Common.{◌≡◌, ℕ, inl, inr, List, Option, Result, Ok, Err, MatchResult, refl, sym, ap, ◌∙◌}
+use Rattle.rpki_base.specs.Cuts.{HasNo, IsCutAt, Around, slash, dash}
 use Rattle.rpki_base.specs.Prefixes.{PrefixValue}
 use Rattle.rpki_base.specs.Reading.{Answers}
 use Rattle.rpki_base.proofs.CutLemmas.{none_around}
-use Rattle.rpki_ip.specs.BlockText.{IsPrefixText, HasPrefixTextFault, IsRangeText, HasRangeTextFault, IsSingleText, HasAddressFault}
+use Rattle.rpki_ip.specs.BlockText.{IsPrefixBetween, HasPrefixFault, IsPrefixText, HasPrefixTextFault, IsRangeBetween, HasRangeFault, IsRangeText, HasRangeTextFault, IsSingleText, HasAddressFault}
 use Rattle.rpki_ip.specs.Ranges.{RangeValue}
 use Rattle.rpki_ip.specs.declared.error.FromStrError.{FromStrError}
 use Rattle.rpki_ip.specs.declared.family.AddressFamily.{AddressFamily}
 use Rattle.rpki_ip.proofs.TextLemmas.{prefix_one, range_one, single_one, answers_by_one}
 use Rattle.rpki_ipres.specs.BlockText.{IsBlockText, HasBlockFault}
-use Rattle.rpki_ipres.specs.ListText.{HasByte}
 use Rattle.rpki_ipres.specs.declared.block.IpBlock.{IpBlock}
 use Rattle.rpki_ipres.specs.declared.block.IpBlock.TheVariants.{Prefix, Range}
-
--- a text without a byte, and a text that has it
-byte_apart : (b : ℕ) (text : List ℕ) → HasNo b text → HasByte b text → ⊥
-byte_apart b text none (i, small, is) = none i small is
-
--- a text that doesn't have it
-no_byte : (b : ℕ) (text : List ℕ) → ¬ HasByte b text → HasNo b text
-no_byte b text none i small is = none (i, small, is)
-
--- a test for it
-pub not_there : (b : ℕ) (text : List ℕ) (test : Bool) → (IsTrue test ↔ HasByte b text) → test ≡ false → ¬ HasByte b text
-not_there b text test same is h = let z : test ≡ true = same.1 h in cc
 
 -- the block of a prefix, and of a range
 abbrev pub of_prefix : Result PrefixValue FromStrError → Result IpBlock FromStrError
@@ -85,26 +72,15 @@ module _ (w : Option AddressFamily) (text : List ℕ) where
   block_answers : (r : Result IpBlock FromStrError) → Says r → Answers (IsBlockText w text) (HasBlockFault w text) r
   block_answers r found = answers_by_one block_one r found
 
-  -- the reader of each form reads the block
-  says_prefix : HasByte slash text → (x : Result PrefixValue FromStrError) → MatchResult x (IsPrefixText w text) (HasPrefixTextFault w text) → Says (of_prefix x)
-  says_prefix cut (Ok p) h = h
-  says_prefix cut (Err e) (inl none) = absurd (byte_apart slash text none.0 cut)
-  says_prefix cut (Err e) (inr h) = inl h
+  -- the reader of the parts of each form reads the block
+  pub prefix_answers : (left right : List ℕ) → IsCutAt slash text left right → (x : Result PrefixValue FromStrError) → MatchResult x (IsPrefixBetween w left right) (HasPrefixFault w left right) → Answers (IsBlockText w text) (HasBlockFault w text) (of_prefix x)
+  prefix_answers left right cut (Ok p) h = block_answers (Ok (Prefix p)) (record { left = left; right = right; cut = cut; holds = h })
+  prefix_answers left right cut (Err e) h = block_answers (Err e) (inl (record { left = left; right = right; cut = cut; holds = h }))
 
-  says_range : HasNo slash text → HasByte dash text → (x : Result RangeValue FromStrError) → MatchResult x (IsRangeText w text) (HasRangeTextFault w text) → Says (of_range x)
-  says_range none cut (Ok r) h = (none, inl h)
-  says_range none cut (Err e) (inl apart) = absurd (byte_apart dash text apart.0 cut)
-  says_range none cut (Err e) (inr h) = inr (none, inl h)
+  pub range_answers : HasNo slash text → (left right : List ℕ) → IsCutAt dash text left right → (x : Result RangeValue FromStrError) → MatchResult x (IsRangeBetween w left right) (HasRangeFault w left right) → Answers (IsBlockText w text) (HasBlockFault w text) (of_range x)
+  range_answers none left right cut (Ok r) h = block_answers (Ok (Range r)) (none, inl (record { left = left; right = right; cut = cut; holds = h }))
+  range_answers none left right cut (Err e) h = block_answers (Err e) (inr (none, inl (record { left = left; right = right; cut = cut; holds = h })))
 
-  says_single : HasNo slash text → HasNo dash text → (x : Result RangeValue FromStrError) → MatchResult x (IsSingleText w text) (HasAddressFault w text) → Says (of_range x)
-  says_single none apart (Ok r) h = (none, inr (apart, h))
-  says_single none apart (Err e) h = inr (none, inr (apart, h))
-
-  pub prefix_answers : HasByte slash text → (x : Result PrefixValue FromStrError) → Answers (IsPrefixText w text) (HasPrefixTextFault w text) x → Answers (IsBlockText w text) (HasBlockFault w text) (of_prefix x)
-  prefix_answers cut x h = block_answers (of_prefix x) (says_prefix cut x h.found)
-
-  pub range_answers : ¬ HasByte slash text → HasByte dash text → (x : Result RangeValue FromStrError) → Answers (IsRangeText w text) (HasRangeTextFault w text) x → Answers (IsBlockText w text) (HasBlockFault w text) (of_range x)
-  range_answers none cut x h = block_answers (of_range x) (says_range (no_byte slash text none) cut x h.found)
-
-  pub single_answers : ¬ HasByte slash text → ¬ HasByte dash text → (x : Result RangeValue FromStrError) → Answers (IsSingleText w text) (HasAddressFault w text) x → Answers (IsBlockText w text) (HasBlockFault w text) (of_range x)
-  single_answers none apart x h = block_answers (of_range x) (says_single (no_byte slash text none) (no_byte dash text apart) x h.found)
+  pub single_answers : HasNo slash text → HasNo dash text → (x : Result RangeValue FromStrError) → Answers (IsSingleText w text) (HasAddressFault w text) x → Answers (IsBlockText w text) (HasBlockFault w text) (of_range x)
+  single_answers none apart (Ok r) h = block_answers (Ok (Range r)) (none, inr (apart, h.found))
+  single_answers none apart (Err e) h = block_answers (Err e) (inr (none, inr (apart, h.found)))

@@ -3,7 +3,6 @@ ghost use Rattle.std.specs.Prelude.{◌≡◌, ◌↔◌, IsTrue, All, List, Som
 ghost use Rattle.std.specs.Fmt.{WritesOnOk};
 ghost use Rattle.rpki_base.specs.Memory.{IsMemory};
 ghost use Rattle.rpki_base.specs.Reading.{AnswersOrMemory};
-ghost use Rattle.rpki_ip.specs.declared.family.AddressFamily.TheVariants.{Ipv4, Ipv6};
 ghost use Rattle.rpki_ipres.specs.BlockText.{IsBlockText};
 ghost use Rattle.rpki_ipres.specs.Blocks.{ip_bounds};
 ghost use Rattle.rpki_ipres.specs.ListText.{IsForeign, IsElementText, HasElementFault, HasBlocks, HasBlocksFault, IsFamilyOf, HasMismatch, HasIpBlocks, HasIpBlocksFault};
@@ -75,42 +74,22 @@ impl ReadElement for ByColon {
     }
 }
 
-/// The blocks that the elements of a list of IPv4 blocks write, in its order.
+/// The blocks that the elements of a list of blocks of a family write, in its order.
 ///
 /// The text is cut at its commas, each part is trimmed of white space, and a part that is then empty is left out. The
-/// first element that writes no block is refused: by [`FromStrError::FamilyMismatch`] where it has a colon, and else by
-/// the fault of [`IpBlock::from_v4_str`].
-pub fn read_v4_blocks<A: Allocator + Drop>(
+/// first element that writes no block is refused: by [`FromStrError::FamilyMismatch`] where it has a colon in a list of
+/// IPv4, or a dot and no colon in one of IPv6, and else by the fault of [`IpBlock::from_v4_str`] or `from_v6_str`.
+pub fn read_blocks<A: Allocator + Drop>(
     alloc: A,
+    family: AddressFamily,
     text: &str,
 ) -> Result<Vec<IpBlock, A>, OrMemory<FromStrError>>
-    ensures exact { AnswersOrMemory (λ v. v.items) (HasBlocks Ipv4 text.now) (HasBlocksFault Ipv4 text.now) result }
-    // What is printed of blocks of whole addresses as IPv4 is read as blocks of their bounds.
-    ensures reads_back { (blocks : List IpBlock) → All (IsBlockOf Ipv4) blocks → text.now ≡ block_list_text Ipv4 blocks
+    ensures exact { AnswersOrMemory (λ v. v.items) (HasBlocks family text.now) (HasBlocksFault family text.now) result }
+    // What is printed of blocks of the family is read as blocks of their bounds.
+    ensures reads_back { (blocks : List IpBlock) → All (IsBlockOf family) blocks → text.now ≡ block_list_text family blocks
         → MatchResult result (λ v. map ip_bounds v.items ≡ map ip_bounds blocks) IsMemory }
 {
-    let reader = InFamily {
-        family: AddressFamily::Ipv4,
-    };
-    read_elements(alloc, &reader, text)
-}
-
-/// The blocks that the elements of a list of IPv6 blocks write, in its order, as [`read_v4_blocks`] answers.
-///
-/// The first element that writes no block is refused: by [`FromStrError::FamilyMismatch`] where it has a dot and no
-/// colon, and else by the fault of [`IpBlock::from_v6_str`].
-pub fn read_v6_blocks<A: Allocator + Drop>(
-    alloc: A,
-    text: &str,
-) -> Result<Vec<IpBlock, A>, OrMemory<FromStrError>>
-    ensures exact { AnswersOrMemory (λ v. v.items) (HasBlocks Ipv6 text.now) (HasBlocksFault Ipv6 text.now) result }
-    // What is printed of blocks as IPv6 is read as blocks of their bounds.
-    ensures reads_back { (blocks : List IpBlock) → All (IsBlockOf Ipv6) blocks → text.now ≡ block_list_text Ipv6 blocks
-        → MatchResult result (λ v. map ip_bounds v.items ≡ map ip_bounds blocks) IsMemory }
-{
-    let reader = InFamily {
-        family: AddressFamily::Ipv6,
-    };
+    let reader = InFamily { family };
     read_elements(alloc, &reader, text)
 }
 
@@ -126,7 +105,7 @@ fn family_of(text: &str) -> AddressFamily
 }
 
 /// The blocks that the elements of a list write, in its order: IPv6 blocks if a colon stands anywhere in the list, and
-/// else IPv4 blocks. It is cut as by [`read_v4_blocks`].
+/// else IPv4 blocks. It is cut as by [`read_blocks`].
 ///
 /// The first element that writes no block of the family is refused by [`FromStrError::FamilyMismatch`].
 pub fn read_ip_blocks<A: Allocator + Drop>(
@@ -160,10 +139,7 @@ impl FmtElement for AsFamily {
         block: &IpBlock,
         f: &mut fmt::Formatter<W>,
     ) -> fmt::Result {
-        match self.family {
-            AddressFamily::Ipv4 => block.fmt_v4(f),
-            AddressFamily::Ipv6 => block.fmt_v6(f),
-        }
+        block.fmt_as(self.family, f)
     }
 }
 

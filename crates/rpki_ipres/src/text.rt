@@ -14,7 +14,7 @@ ghost use Rattle.rpki_ipres.specs.PrintedBlocks.{block_text, IsBlockOf, ReadsBlo
 use crate::block::IpBlock;
 use rpki_ip::error::FromStrError;
 use rpki_ip::family::AddressFamily;
-use rpki_ip::text::{read_prefix, read_range, read_single};
+use rpki_ip::text::{prefix_between, range_between, read_single};
 use std::fmt;
 use std::marker::Model;
 use std::str::FromStr;
@@ -31,11 +31,11 @@ pub(crate) fn has_byte(byte: u8, text: &str) -> bool
 pub(crate) fn read_block(wanted: Option<AddressFamily>, text: &str) -> Result<IpBlock, FromStrError>
     ensures { Answers (IsBlockText wanted text.now) (HasBlockFault wanted text.now) result }
 {
-    if has_byte(b'/', text) {
-        return Ok(IpBlock::Prefix(read_prefix(wanted, text)?));
+    if let Some((left, right)) = text.split_once('/') {
+        return Ok(IpBlock::Prefix(prefix_between(wanted, left, right)?));
     }
-    if has_byte(b'-', text) {
-        return Ok(IpBlock::Range(read_range(wanted, text)?));
+    if let Some((left, right)) = text.split_once('-') {
+        return Ok(IpBlock::Range(range_between(wanted, left, right)?));
     }
     Ok(IpBlock::Range(read_single(wanted, text)?))
 }
@@ -65,15 +65,26 @@ impl IpBlock {
         read_block(Some(AddressFamily::Ipv6), text)
     }
 
+    /// Writes the block as one of the family, as [`Prefix::fmt_as`] and [`AddressRange::fmt_as`] do.
+    pub fn fmt_as<W: fmt::Write>(
+        &self,
+        family: AddressFamily,
+        f: &mut fmt::Formatter<W>,
+    ) -> fmt::Result
+        ensures { WritesOnOk W.write_str_gives f.old result (block_text family self.now) f.new }
+    {
+        match self {
+            IpBlock::Prefix(prefix) => prefix.fmt_as(family, f),
+            IpBlock::Range(range) => range.fmt_as(family, f),
+        }
+    }
+
     /// Writes the block as one of IPv4: a prefix as the first 32 bits of its address and, where it isn't 32, its length
     /// behind a slash; a range as the first 32 bits of its bounds, with a dash between them where they aren't alike.
     pub fn fmt_v4<W: fmt::Write>(&self, f: &mut fmt::Formatter<W>) -> fmt::Result
         ensures { WritesOnOk W.write_str_gives f.old result (block_text Ipv4 self.now) f.new }
     {
-        match self {
-            IpBlock::Prefix(prefix) => prefix.fmt_v4(f),
-            IpBlock::Range(range) => range.fmt_v4(f),
-        }
+        self.fmt_as(AddressFamily::Ipv4, f)
     }
 
     /// Writes the block as one of IPv6: a prefix as its address and, where it isn't 128, its length behind a slash; a
@@ -81,10 +92,7 @@ impl IpBlock {
     pub fn fmt_v6<W: fmt::Write>(&self, f: &mut fmt::Formatter<W>) -> fmt::Result
         ensures { WritesOnOk W.write_str_gives f.old result (block_text Ipv6 self.now) f.new }
     {
-        match self {
-            IpBlock::Prefix(prefix) => prefix.fmt_v6(f),
-            IpBlock::Range(range) => range.fmt_v6(f),
-        }
+        self.fmt_as(AddressFamily::Ipv6, f)
     }
 
     /// The block, to be displayed as one of IPv4, as [`IpBlock::fmt_v4`] writes it.

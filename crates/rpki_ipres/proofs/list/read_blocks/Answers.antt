@@ -1,0 +1,11 @@
+use Rattle.std.proofs.Common.{Vec}
+use Rattle.rpki_ipres.specs.declared.block.IpBlock.{IpBlock}
+use Rattle.rpki_ipres.proofs.ListLemmas.{family_answers}
+use Rattle.rpki_ipres.proofs.PrintedLists.{family_list_back}
+use Rattle.rpki_ipres.proofs.list.read_blocks.Goals as goal
+
+pub returns-clause-exact : goal.returns-clause-exact
+returns-clause-exact g c = family_answers (λ (v : Vec IpBlock _). v.items) c.args.family c.args.text.now c.read_elements.result c.read_elements.ensures
+
+pub returns-clause-reads_back : goal.returns-clause-reads_back
+returns-clause-reads_back g c = family_list_back (λ (v : Vec IpBlock _). v.items) c.args.text.now c.read_elements.result c.args.family (returns-clause-exact g c)

@@ -45,17 +45,20 @@ impl<R: Read> Source for FromRead<R> {
 pub struct IntoWrite<W> {
     writer: W,
     failed: bool,
+    flushed: bool,
 }
 
 impl<W: Write> IntoWrite<W> {
-    /// The writer, none of whose calls has failed.
+    /// The writer, none of whose calls has failed. What it may hold back from before counts as not flushed.
     pub fn new(writer: W) -> IntoWrite<W>
         ensures clear { ⟦<IntoWrite<W> as Sink>⟧.mark result ≡ false }
         ensures written { ⟦<IntoWrite<W> as Sink>⟧.written result ≡ W.contents writer }
+        ensures unflushed { ⟦<IntoWrite<W> as Sink>⟧.flushed result ≡ false }
     {
         IntoWrite {
             writer,
             failed: false,
+            flushed: false,
         }
     }
 }
@@ -65,7 +68,10 @@ impl<W: Write> Sink for IntoWrite<W> {
 
     ghost mark = { λ sink. sink.failed };
 
+    ghost flushed = { λ sink. sink.flushed };
+
     fn write(&mut self, piece: &[u8]) -> Result<usize, DeviceFault> {
+        self.flushed = false;
         match self.writer.write(piece) {
             Ok(count) => {
                 if count == 0 && !piece.is_empty() {
@@ -82,8 +88,12 @@ impl<W: Write> Sink for IntoWrite<W> {
 
     fn flush(&mut self) -> Result<(), DeviceFault> {
         match self.writer.flush() {
-            Ok(()) => Ok(()),
+            Ok(()) => {
+                self.flushed = true;
+                Ok(())
+            }
             Err(_) => {
+                self.flushed = false;
                 self.failed = true;
                 Err(DeviceFault)
             }

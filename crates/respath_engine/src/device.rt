@@ -1,7 +1,7 @@
 //! What the engine reads from and writes to.
-ghost use Rattle.std.specs.Prelude.{◌≡◌, ◌≤◌, ℕ, Bool, List, Option, length, IfOk};
+ghost use Rattle.std.specs.Prelude.{◌≡◌, ◌≤◌, ℕ, Bool, false, List, Option, length, IfOk};
 ghost use Rattle.std.specs.Io.KnownBytes.{ReadConsumes, WriteAppends, Keeps};
-ghost use Rattle.respath_engine.specs.Device.{MarksFailure, MarksWrite};
+ghost use Rattle.respath_engine.specs.Device.{MarksFailure, MarksWrite, TellsFlush};
 
 /// A call of a device failed. What failed is the device's own affair.
 #[derive(Clone, Copy, Debug, PartialEq, Eq)]
@@ -31,14 +31,20 @@ pub trait Sink {
     /// Whether a call has failed, or a write took nothing of a piece that wasn't empty.
     ghost mark: { Self → Bool };
 
-    /// Takes the front of a piece and answers how many bytes it took. A failed write takes none.
+    /// Whether all that the sink took has been handed on: its last call was a flush that was Ok.
+    ghost flushed: { Self → Bool };
+
+    /// Takes the front of a piece and answers how many bytes it took. A failed write takes none. Until the next flush
+    /// that is Ok the sink isn't flushed, whatever the write answers.
     fn write(&mut self, piece: &[u8]) -> Result<usize, DeviceFault>
         ensures bound { IfOk result (λ n. n ≤ length piece.now) }
         ensures bytes { WriteAppends (written self.old) (written self.new) result piece.now }
-        ensures mark { MarksWrite (mark self.old) (mark self.new) result piece.now };
+        ensures mark { MarksWrite (mark self.old) (mark self.new) result piece.now }
+        ensures unflushed { flushed self.new ≡ false };
 
-    /// Hands on what the sink still holds back.
+    /// Hands on what the sink still holds back. After a flush that fails the sink isn't flushed.
     fn flush(&mut self) -> Result<(), DeviceFault>
         ensures bytes { Keeps (written self.old) (written self.new) }
-        ensures mark { MarksFailure (mark self.old) (mark self.new) result };
+        ensures mark { MarksFailure (mark self.old) (mark self.new) result }
+        ensures flushed { TellsFlush (flushed self.new) result };
 }

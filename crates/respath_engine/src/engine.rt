@@ -13,7 +13,7 @@ use std::alloc::Allocator;
 const PIECE: usize = 64 * 1024;
 
 /// Reads the whole input, and then answers each line, in order, with one line. No failed call is tried again,
-/// and the writer is flushed at the end.
+/// and the writer is flushed at the end, of an empty input too.
 ///
 /// [`RunError::Read`] and [`RunError::Write`] are answered where a call of the device failed, or a write took
 /// nothing; [`RunError::Memory`] where a request for memory was refused.
@@ -22,11 +22,12 @@ pub fn run<A: Allocator + Copy, R: Source, W: Sink>(
     reader: &mut R,
     writer: &mut W,
 ) -> Result<(), RunError>
-    // No call failed, nothing is left to be read, and each line's answer was written whole.
+    // No call failed, nothing is left to be read, each line's answer was written whole, and the writer is flushed.
     ensures unmarked { OnOk result ((R.mark reader.new ≡ R.mark reader.old) × (W.mark writer.new ≡ W.mark writer.old)) }
     ensures read_whole { OnOk result (IsAtEnd (R.left reader.new)) }
     ensures answered { OnOk result (IfSome (R.left reader.old)
         (AnswersAll (W.written writer.old) (W.written writer.new))) }
+    ensures flushed { OnOk result (W.flushed writer.new ≡ true) }
 
     // A read failed, and nothing was written.
     ensures read { IsErrOf result RunError.Read → R.mark reader.new ≡ true }

@@ -1,0 +1,100 @@
+//! A run, and what is seen of it as plain values.
+use crate::slices::{Habits, SliceSink, SliceSource};
+use crate::streams::{SliceReader, SliceWriter};
+use respath_engine::adapters::{FromRead, IntoWrite};
+use respath_engine::engine::run;
+use respath_engine::error::RunError;
+use std::alloc::{Allocator, Global};
+
+/// The bytes that a sink has room for.
+pub const ROOM: usize = 128;
+
+/// An input, and what is written for it.
+#[derive(Clone, Copy)]
+pub struct Row {
+    pub input: &'static [u8],
+    pub output: &'static [u8],
+}
+
+/// What is seen of a run.
+#[derive(Clone, Copy)]
+pub struct Seen {
+    pub ended: Result<(), RunError>,
+    /// How many bytes are left to be read.
+    pub left: usize,
+    /// The calls of the reader.
+    pub reads: u64,
+    /// How many bytes were written.
+    pub written: usize,
+    /// Whether those are the first ones of the wanted output.
+    pub begins: bool,
+    /// The calls of the writer, flushes too.
+    pub writes: u64,
+    /// Whether the last call of the writer was a flush that was Ok.
+    pub flushed: bool,
+}
+
+/// Whose devices a run is over.
+#[derive(Clone, Copy, Debug)]
+pub enum Devices {
+    /// The engine's own.
+    Own,
+    /// std's, by the adapters.
+    Std,
+}
+
+impl Devices {
+    pub const ALL: [Devices; 2] = [Devices::Own, Devices::Std];
+
+    /// Runs an input over such devices.
+    pub fn run(self, heap: Global, row: &Row, reading: Habits, writing: Habits) -> Seen {
+        match self {
+            Devices::Own => run_own(heap, row, reading, writing),
+            Devices::Std => run_std(heap, row, reading, writing),
+        }
+    }
+}
+
+/// Runs an input over the engine's own devices.
+pub fn run_own<A: Allocator + Copy>(alloc: A, row: &Row, reading: Habits, writing: Habits) -> Seen {
+    let mut room = [0u8; ROOM];
+    let mut source = SliceSource::new(row.input, reading);
+    let mut sink = SliceSink::new(&mut room, writing);
+    let ended = run(alloc, &mut source, &mut sink);
+    look(ended, row, &source, &sink)
+}
+
+/// Runs an input over a reader and a writer of std.
+fn run_std(heap: Global, row: &Row, reading: Habits, writing: Habits) -> Seen {
+    let mut room = [0u8; ROOM];
+    let mut reader = SliceReader {
+        source: SliceSource::new(row.input, reading),
+    };
+    let mut writer = SliceWriter {
+        sink: SliceSink::new(&mut room, writing),
+    };
+    let ended = run(
+        heap,
+        &mut FromRead::new(&mut reader),
+        &mut IntoWrite::new(&mut writer),
+    );
+    look(ended, row, &reader.source, &writer.sink)
+}
+
+/// Looks at the devices after a run.
+fn look(
+    ended: Result<(), RunError>,
+    row: &Row,
+    source: &SliceSource<'_>,
+    sink: &SliceSink<'_>,
+) -> Seen {
+    Seen {
+        ended,
+        left: source.rest().len(),
+        reads: source.calls(),
+        written: sink.written().len(),
+        begins: row.output.starts_with(sink.written()),
+        writes: sink.calls(),
+        flushed: sink.is_flushed(),
+    }
+}

@@ -1,0 +1,42 @@
+//! The answer to a line, by its command.
+use crate::print::cut;
+use crate::question::Question;
+use crate::takes::Form;
+use crate::{as_sets, chains, ip_sets, orders, small_sets, takes, texts};
+use rpki_ip::family::AddressFamily;
+use std::alloc::{AllocError, Allocator};
+
+/// The answer to a line. `AllocError` where there is no memory for it.
+pub fn answer<A: Allocator + Copy>(alloc: A, line: &str) -> Result<String<A>, AllocError> {
+    let (command, rest) = cut(line, ' ');
+    let (kind, operands) = cut(rest, ' ');
+    match command {
+        "text" => texts::answer(alloc, kind, operands),
+        "take" => takes::answer(alloc, Form::Printed, kind, operands),
+        "written" => takes::answer(alloc, Form::Written, kind, operands),
+        "order" => orders::order(alloc, rest),
+        "covers" => orders::covers(alloc, rest),
+        "small" => small_sets::answer(alloc, kind, operands),
+        "chain" => chains::answer(alloc, kind, operands),
+        "pair" => chains::pair_answer(alloc, kind, operands),
+        _ => set_answer(alloc, command, kind, operands),
+    }
+}
+
+/// The answer to a question of sets of a kind.
+fn set_answer<A: Allocator + Copy>(
+    alloc: A,
+    command: &str,
+    kind: &str,
+    operands: &str,
+) -> Result<String<A>, AllocError> {
+    let Some(question) = Question::named(command) else {
+        return String::from_str(alloc, "no such command");
+    };
+    match kind {
+        "as" => as_sets::answer(alloc, question, operands),
+        "v4" => ip_sets::answer(alloc, AddressFamily::Ipv4, question, operands),
+        "v6" => ip_sets::answer(alloc, AddressFamily::Ipv6, question, operands),
+        _ => String::from_str(alloc, "no such kind"),
+    }
+}

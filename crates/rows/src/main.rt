@@ -1,0 +1,39 @@
+//! The program `rows`: each line of the standard input is a call of the libraries, and is answered with one line on the
+//! standard output. Each call is made again with each of its requests for memory refused; where such a run does anything
+//! but tell that memory is wanting, the line's answer says so.
+#![tactic(auto)]
+
+mod altered;
+mod as_sets;
+mod chains;
+mod ip_sets;
+mod line;
+mod orders;
+mod pairs;
+mod print;
+mod question;
+mod refusals;
+mod small_sets;
+mod takes;
+mod texts;
+mod values;
+
+use print::cut;
+use std::alloc::{AllocError, Global};
+use std::io;
+
+fn main(rt: HostRuntime) -> io::Result<()> {
+    for line in rt.lines(rt.alloc()) {
+        let answer = answer(rt.alloc(), line?.as_str())?;
+        println!(rt; "{answer}")?;
+    }
+    Ok(())
+}
+
+/// The answer to a line. `altered` reads many values, and has memory refused for each.
+fn answer(alloc: Global, line: &str) -> Result<String, AllocError> {
+    match cut(line, ' ') {
+        ("altered", operands) => altered::answer(alloc, operands),
+        _ => refusals::answer(alloc, line),
+    }
+}

@@ -1,0 +1,67 @@
+//! What a line asks of sets.
+
+/// What is asked of a set.
+#[derive(Clone, Copy)]
+pub enum Question {
+    /// The set of all numbers.
+    All,
+    /// The set that a builder makes of blocks.
+    Build,
+    /// The set of a slice of blocks.
+    FromBlocks,
+    /// Its octets.
+    Octets,
+    /// How many numbers it has.
+    Count,
+    /// Its numbers, one by one.
+    Numbers,
+    /// Whether it has a number, or each address of a block.
+    Has,
+    /// Whether it has an address of a block.
+    Meets,
+    /// What is asked of it and another set.
+    Both(Operation),
+}
+
+/// What is asked of two sets.
+#[derive(Clone, Copy)]
+pub enum Operation {
+    Union,
+    Intersection,
+    /// An intersection that takes the place of the first set.
+    Assign,
+    Difference,
+    Contains,
+    Equal,
+}
+
+impl Question {
+    /// The question of this name.
+    pub fn named(name: &str) -> Option<Question> {
+        match name {
+            "all" => Some(Question::All),
+            "build" => Some(Question::Build),
+            "from_blocks" => Some(Question::FromBlocks),
+            "octets" => Some(Question::Octets),
+            "count" => Some(Question::Count),
+            "numbers" => Some(Question::Numbers),
+            "has" => Some(Question::Has),
+            "meets" => Some(Question::Meets),
+            _ => Some(Question::Both(Operation::named(name)?)),
+        }
+    }
+}
+
+impl Operation {
+    fn named(name: &str) -> Option<Operation> {
+        match name {
+            "union" => Some(Operation::Union),
+            "intersection" => Some(Operation::Intersection),
+            "assign" => Some(Operation::Assign),
+            "difference" => Some(Operation::Difference),
+            "contains" => Some(Operation::Contains),
+            "equal" => Some(Operation::Equal),
+            _ => None,
+        }
+    }
+}

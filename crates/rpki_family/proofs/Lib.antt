@@ -1,2 +1,1 @@
 pub mod SetLemmas
-pub mod WholeTexts

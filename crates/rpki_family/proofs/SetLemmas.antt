@@ -1,24 +1,17 @@
 -- Sets of blocks of a family.
-use Rattle.std.proofs.Common.{◌≡◌, ℕ, ◌+◌, ◌<◌, List, [], ◌∷◌, ◌++◌, length, get_or, map, take, IsTrue, sym, ap, ◌∙◌, subst}
+use Rattle.std.proofs.Common.{◌≡◌, ℕ, ◌+◌, ◌<◌, List, [], ◌∷◌, ◌++◌, length, get_or, map, take, sym, ap, ◌∙◌, subst}
 use Rattle.std.specs.List.{All}
 use Rattle.std.proofs.lemmas.List.{map-append, take_more}
 use Rattle.std.proofs.lemmas.Simd.{map-map}
-use Rattle.rpki_chain.specs.Runs.{Runs, Holds, IsRunsOfBlocks}
+use Rattle.rpki_chain.specs.Runs.{Runs, IsRunsOfBlocks}
 use Rattle.rpki_chain.proofs.RunLists.{IsRunsOf-same}
 use Rattle.rpki_chain.proofs.Sorts.{Covers-map}
-use Rattle.rpki_ip.specs.Whole.{IsWhole, HasWholeBounds}
-use Rattle.rpki_ip.proofs.WholeLemmas.{whole_set}
+use Rattle.rpki_ip.specs.Whole.{HasWholeBounds}
 use Rattle.rpki_ip.specs.declared.family.AddressFamily.TheVariants.{Ipv4}
-use Rattle.rpki_ipres.specs.Blocks.{ip_bounds, is_new_ip_block, new_ip_block}
+use Rattle.rpki_ipres.specs.Blocks.{ip_bounds, new_ip_block}
 use Rattle.rpki_ipres.specs.SetText.{IsFamilySet}
-use Rattle.rpki_ipres.proofs.SetTextLemmas.{blocks_made, blocks_of_family}
+use Rattle.rpki_ipres.proofs.SetTextLemmas.{blocks_of_family}
 use Rattle.rpki_ipres.specs.declared.block.IpBlock.{IpBlock}
-
--- the set of blocks with whole bounds is whole
-pub whole_cover : (blocks : List IpBlock) (set : Runs) → All (λ b. HasWholeBounds (ip_bounds b)) blocks → IsRunsOfBlocks ip_bounds blocks set → IsWhole (Holds set)
-whole_cover blocks set all is m n same held =
-    let (k, b, small, here, within) = (is.members m).0 held in
-    (is.members n).1 (k, b, small, here, whole_set (ip_bounds b) (subst (λ x. HasWholeBounds (ip_bounds x)) here (all k b small)) m n same within)
 
 -- one more block is turned
 pub turned_more : {B : Type 0} (block : B → IpBlock) (xs : List B) (i : ℕ) (x : B) → i < length xs → x ≡ get_or xs i x → map block (take (i + 1) xs) ≡ map block (take i xs) ++ block x ∷ []
@@ -31,10 +24,6 @@ set_of_turned block xs ys set same is =
     let bounds : map ip_bounds ys ≡ map (λ x. ip_bounds (block x)) xs = ap (map ip_bounds) same ∙ map-map ip_bounds block xs in
     IsRunsOf-same set _ _ (λ n. (Covers-map ip_bounds (λ x. ip_bounds (block x)) ys xs n bounds, Covers-map (λ x. ip_bounds (block x)) ip_bounds xs ys n (sym bounds))) is
 
--- the blocks of runs, in new form
-pub made_of : (xs : List IpBlock) (set : Runs) → map ip_bounds xs ≡ set → All (λ x. IsTrue (is_new_ip_block x)) xs → xs ≡ map new_ip_block set
-made_of xs set bounds new = sym (blocks_made xs new) ∙ ap (map new_ip_block) bounds
-
--- have whole bounds where the set is whole
+-- the blocks of a whole set have whole bounds
 pub whole_blocks : (xs : List IpBlock) (set : Runs) → xs ≡ map new_ip_block set → IsFamilySet Ipv4 set → All (λ b. HasWholeBounds (ip_bounds b)) xs
 whole_blocks xs set made is = subst (All (λ b. HasWholeBounds (ip_bounds b))) (sym made) (λ k d small. (blocks_of_family Ipv4 set is k d small).1)

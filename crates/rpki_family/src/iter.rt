@@ -6,6 +6,7 @@ ghost use Rattle.rpki_ipres.specs.Blocks.{ip_bounds};
 
 use crate::common::FamilyBlock;
 use rpki_ipres::block::IpBlock;
+use std::fmt;
 use std::marker::{Model, PhantomData};
 use std::slice::Iter;
 
@@ -38,6 +39,12 @@ impl<'a, B: FamilyBlock> BlockIter<'a, B> {
             left: blocks,
             family: PhantomData,
         }
+    }
+}
+
+impl<B: FamilyBlock> fmt::Debug for BlockIter<'_, B> {
+    fn fmt<W: fmt::Write>(&self, f: &mut fmt::Formatter<W>) -> fmt::Result {
+        f.debug_tuple("BlockIter").field(&self.left).finish()
     }
 }
 

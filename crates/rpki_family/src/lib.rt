@@ -5,3 +5,7 @@ mod common;
 pub mod iter;
 pub mod v4;
 pub mod v6;
+
+pub use iter::BlockIter;
+pub use v4::{Ipv4Block, Ipv4Blocks};
+pub use v6::{Ipv6Block, Ipv6Blocks};

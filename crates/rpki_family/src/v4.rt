@@ -230,7 +230,7 @@ impl<A: Allocator> Ipv4Blocks<A> {
         ensures set { IsFamilySet Ipv4 self.now }
         ensures whole { IsWhole (Holds self.now) }
     {
-        let _blocks = self.blocks.iter(); // read so that the proof sees that no address is above the last one
+        let _blocks = self.blocks.iter(); // read so that the proof sees that each number has 128 bits
         &self.blocks
     }
 

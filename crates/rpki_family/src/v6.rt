@@ -219,7 +219,7 @@ impl<A: Allocator> Ipv6Blocks<A> {
         ensures value { result.now ≡ self.now }
         ensures set { IsFamilySet Ipv6 self.now }
     {
-        let _blocks = self.blocks.iter(); // read so that the proof sees that no address is above the last one
+        let _blocks = self.blocks.iter(); // read so that the proof sees that each number has 128 bits
         &self.blocks
     }
 

@@ -10,4 +10,5 @@ pub mod SetTextLemmas
 pub mod SetWritten
 pub mod TextLemmas
 pub mod WholeLemmas
+pub mod WholeReadings
 pub mod WholeSets

@@ -65,7 +65,7 @@ family_answers view family text r found = AnswersOrMemory-from_found view _ _
     r found
 
 -- a list that tells no family has one
-same_family : (text : List ℕ) (f g : AddressFamily) → IsFamilyOf text f → IsFamilyOf text g → f ≡ g
+pub same_family : (text : List ℕ) (f g : AddressFamily) → IsFamilyOf text f → IsFamilyOf text g → f ≡ g
 same_family text f g (inl h) (inl k) = h.1 ∙ sym k.1
 same_family text f g (inl h) (inr k) = absurd (k.0 h.0)
 same_family text f g (inr h) (inl k) = absurd (h.0 k.0)

@@ -11,12 +11,12 @@ use Rattle.rpki_ipres.specs.SetText.{IsSetOf, IsIpSet, IsFamilySet, set_text}
 use Rattle.rpki_ipres.specs.declared.block.IpBlock.{IpBlock}
 use Rattle.rpki_ipres.proofs.ListLemmas.{same_blocks, same_ip_blocks}
 use Rattle.rpki_ipres.proofs.PrintedLists.{family_list, list_told}
-use Rattle.rpki_ipres.proofs.SetTextLemmas.{bounds_made, blocks_of_family, is_ip_set}
+use Rattle.rpki_ipres.proofs.SetTextLemmas.{blocks_bounds, blocks_of_family, is_ip_set}
 
 module _ (Has : List IpBlock → Type 0) where
   -- blocks with the bounds of a set's are those of the set
   set_of : (set : Runs) (xs : List IpBlock) → IsIpSet set → Has xs → map ip_bounds xs ≡ map ip_bounds (map new_ip_block set) → IsSetOf Has set
-  set_of set xs is has bounds = record { blocks = xs; are_written = has; covered = IsRunsOfBlocks-bounds ip_bounds xs set (bounds ∙ bounds_made set) is.are_runs }
+  set_of set xs is has bounds = record { blocks = xs; are_written = has; covered = IsRunsOfBlocks-bounds ip_bounds xs set (bounds ∙ blocks_bounds set is) is.are_runs }
 
   -- one list of blocks has one set
   one_set : ((xs ys : List IpBlock) → Has xs → Has ys → xs ≡ ys) → (a b : Runs) → IsSetOf Has a → IsSetOf Has b → a ≡ b

@@ -10,7 +10,7 @@ ghost use Rattle.rpki_ip.specs.Ranges.{range_bounds};
 ghost use Rattle.rpki_ip.specs.Whole.{IsWhole};
 ghost use Rattle.rpki_ip.specs.declared.family.AddressFamily.TheVariants.{Ipv4, Ipv6};
 ghost use Rattle.rpki_ipres.specs.Blocks.{ip_bounds, new_ip_block};
-ghost use Rattle.rpki_ipres.specs.ListText.{HasIpBlocks, HasIpBlocksFault};
+ghost use Rattle.rpki_ipres.specs.ListText.{HasIpBlocks, HasIpBlocksFault, IsFamilyOf};
 ghost use Rattle.rpki_ipres.specs.SetText.{IsIpSet, IsFamilySet, IsSetOf, set_text};
 
 use crate::block::IpBlock;
@@ -22,6 +22,7 @@ use rpki_chain::set::BlockSet;
 use rpki_ip::error::FromStrError;
 use rpki_ip::range::AddressRange;
 use std::alloc::{AllocError, Allocator, Global};
+use std::fmt;
 use std::marker::Model;
 use std::slice::Iter;
 
@@ -136,6 +137,7 @@ impl<A: Allocator> IpBlocks<A> {
     where
         A: Copy,
         ensures exact { AnswersOrMemory (λ set. set) (IsSetOf (HasIpBlocks text.now)) (HasIpBlocksFault text.now) result }
+        ensures whole { IfOk result (λ set. IsFamilyOf text.now Ipv4 → IsWhole (Holds set)) }
         // What is printed of a set is read as that set: in IPv4 where it consists of whole IPv4 addresses, in IPv6 always.
         ensures reads_back { (family : _) (set : Runs) → IsFamilySet family set → text.now ≡ set_text family set
             → MatchResult result (λ read. read ≡ set) IsMemory }
@@ -225,6 +227,24 @@ impl<A: Allocator> IpBlocks<A> {
     {
         let set = self.set.union(alloc, &other.set)?;
         Ok(IpBlocks { set })
+    }
+}
+
+impl<'a, A: Allocator> IntoIterator for &'a IpBlocks<A> {
+    type Item = &'a IpBlock;
+
+    type IntoIter = Iter<'a, IpBlock>;
+
+    ghost into_iter_gives = { λ set blocks. iter_rest blocks ≡ map new_ip_block set.now };
+
+    fn into_iter(self) -> Iter<'a, IpBlock> {
+        self.iter()
+    }
+}
+
+impl<A: Allocator> fmt::Debug for IpBlocks<A> {
+    fn fmt<W: fmt::Write>(&self, f: &mut fmt::Formatter<W>) -> fmt::Result {
+        f.debug_set().entries(self).finish()
     }
 }
 

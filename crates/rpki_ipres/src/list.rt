@@ -1,8 +1,10 @@
 //! Texts of lists of blocks, read and printed.
-ghost use Rattle.std.specs.Prelude.{◌≡◌, ◌↔◌, IsTrue, All, List, Some, map, MatchResult};
+ghost use Rattle.std.specs.Prelude.{◌≡◌, ◌↔◌, IsTrue, IfOk, All, List, Some, map, MatchResult};
 ghost use Rattle.std.specs.Fmt.{WritesOnOk};
 ghost use Rattle.rpki_base.specs.Memory.{IsMemory};
 ghost use Rattle.rpki_base.specs.Reading.{AnswersOrMemory};
+ghost use Rattle.rpki_ip.specs.Whole.{HasWholeBounds};
+ghost use Rattle.rpki_ip.specs.declared.family.AddressFamily.TheVariants.{Ipv4};
 ghost use Rattle.rpki_ipres.specs.BlockText.{IsBlockText};
 ghost use Rattle.rpki_ipres.specs.Blocks.{ip_bounds};
 ghost use Rattle.rpki_ipres.specs.ListText.{IsForeign, IsElementText, HasElementFault, HasBlocks, HasBlocksFault, IsFamilyOf, HasMismatch, HasIpBlocks, HasIpBlocksFault};
@@ -88,6 +90,8 @@ pub fn read_blocks<A: Allocator + Drop>(
     // What is printed of blocks of the family is read as blocks of their bounds.
     ensures reads_back { (blocks : List IpBlock) → All (IsBlockOf family) blocks → text.now ≡ block_list_text family blocks
         → MatchResult result (λ v. map ip_bounds v.items ≡ map ip_bounds blocks) IsMemory }
+    // Blocks of IPv4 begin and end with whole addresses.
+    ensures whole { IfOk result (λ v. family ≡ Ipv4 → All (λ block. HasWholeBounds (ip_bounds block)) v.items) }
 {
     let reader = InFamily { family };
     read_elements(alloc, &reader, text)

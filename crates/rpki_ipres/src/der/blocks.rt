@@ -16,13 +16,15 @@ use rpki_ip::family::AddressFamily;
 use std::alloc::{AllocError, Allocator};
 
 impl<A: Allocator> IpBlocks<A> {
-    ghost use Rattle.std.specs.Prelude.{◌≡◌, ℕ, List, ◌<◌, ◌≤◌, ◌+◌, ◌^◌, ◌++◌, length, vec_len, OnOk, OnErr, IsOk, MatchResult};
+    ghost use Rattle.std.specs.Prelude.{◌≡◌, ℕ, List, ◌<◌, ◌≤◌, ◌+◌, ◌^◌, ◌++◌, length, vec_len, OnOk, OnErr, IsOk, IfOk, MatchResult};
     ghost use Rattle.std.specs.Vec.{vec_capacity};
-    ghost use Rattle.rpki_chain.specs.Runs.{Runs, IsRunsOfBlocks};
+    ghost use Rattle.rpki_chain.specs.Runs.{Runs, Holds, IsRunsOfBlocks};
     ghost use Rattle.rpki_der.specs.Views.{Lenient, left};
     ghost use Rattle.rpki_base.specs.DerViews.{ReadsOrMemory, TakesSaidOrMemory};
     ghost use Rattle.rpki_base.specs.Memory.{IsMemory};
     ghost use Rattle.rpki_ip.specs.Families.{bits_of};
+    ghost use Rattle.rpki_ip.specs.Whole.{IsWhole};
+    ghost use Rattle.rpki_ip.specs.declared.family.AddressFamily.TheVariants.{Ipv4};
     ghost use Rattle.rpki_ipres.specs.BlockDer.{IsIpBlockSequence, ip_family_der, ip_set_der};
     ghost use Rattle.rpki_ipres.specs.BlockReading.{ip_blocks_at};
     ghost use Rattle.rpki_ipres.specs.Blocks.{ip_bounds};
@@ -56,6 +58,7 @@ impl<A: Allocator> IpBlocks<A> {
         A: Copy,
         ensures reads { Lenient cursor.old (ReadsOrMemory (IsIpBlockSequence (bits_of family)) (λ set. set) cursor.old cursor.new result) }
         ensures exact { Lenient cursor.old (TakesSaidOrMemory (IsRunsOfBlocks ip_bounds) cursor.old cursor.new result (ip_blocks_at (bits_of family))) }
+        ensures whole { IfOk result (λ set. family ≡ Ipv4 → IsWhole (Holds set)) }
         // What is written of a set of the family is read as that set, whatever follows it.
         ensures reads_back { (set : Runs) (rest : List ℕ) → IsFamilySet family set
             → left cursor.old ≡ ip_set_der set ++ rest → MatchResult result (λ read. (read ≡ set) × (left cursor.new ≡ rest)) IsMemory }
@@ -77,7 +80,9 @@ impl<A: Allocator> IpBlocks<A> {
     }
 
     /// Appends the SEQUENCE of the family and of what `encode` appends (RFC 3779, 2.2.3.2), and nothing for the empty set.
-    /// `AllocError` where there is no memory for all of it; then the octets stay as they were.
+    ///
+    /// A set that is one of the family is read back, from IPv4 if it consists of whole IPv4 addresses. Off those, what is
+    /// written for IPv4 has prefixes and bounds of more than 32 bits, which readers of IPv4 refuse. `AllocError` where there is no memory for all of it; then the octets stay as they were.
     pub fn encode_family<B: Allocator>(
         &self,
         family: AddressFamily,
@@ -107,7 +112,7 @@ impl<A: Allocator> IpBlocks<A> {
         ensures exact { TakesSaidOrMemory (IsRunsOfBlocks ip_bounds) cursor.old cursor.new result (ip_blocks_at (bits_of family)) }
         ensures short { length (left cursor.old) < 2 ^ 64 }
     {
-        let _len = cursor.rest().len();
+        let _len = cursor.rest().len(); // read so that the proof sees that the octets are fewer than 2^64
         let mut ahead = *cursor;
         let blocks = take_sequence_of(alloc, &IpBlockReader { family }, &mut ahead)?;
         let set = IpBlocks::from_blocks(alloc, blocks.as_slice())?;

@@ -1,4 +1,4 @@
-use Rattle.rpki_family.proofs.SetLemmas.{whole_cover}
+use Rattle.rpki_ipres.proofs.WholeReadings.{whole_cover}
 use Rattle.rpki_family.proofs.v4.Ipv4Blocks.from_blocks.Goals as goal
 
 pub invariant_of-result : goal.invariant_of-result

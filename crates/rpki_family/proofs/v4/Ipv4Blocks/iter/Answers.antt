@@ -2,12 +2,12 @@ use Rattle.std.proofs.Common.{map, ◌∙◌, ap}
 use Rattle.std.specs.Slice.Iter.{iter_rest}
 use Rattle.std.proofs.lemmas.List.{map-id}
 use Rattle.rpki_ipres.specs.Blocks.{new_ip_block}
-use Rattle.rpki_family.proofs.SetLemmas.{made_of, whole_blocks}
+use Rattle.rpki_family.proofs.SetLemmas.{whole_blocks}
 use Rattle.rpki_family.proofs.v4.Ipv4Blocks.iter.Goals as goal
 
 pub over-requires : goal.over-requires
-over-requires g c = whole_blocks (iter_rest c.iter.result) _ (made_of (iter_rest c.iter.result) _ c.iter.ensures.blocks c.iter.ensures.new_form) (c.iter.ensures.set, c.self.invariant)
+over-requires g c = whole_blocks (iter_rest c.iter.result) _ c.iter.ensures.made (c.iter.ensures.set, c.self.invariant)
 
 pub returns-clause-made : goal.returns-clause-made
 returns-clause-made g c =
-    c.over.ensures ∙ map-id (iter_rest c.iter.result) ∙ made_of (iter_rest c.iter.result) _ c.iter.ensures.blocks c.iter.ensures.new_form ∙ ap (map new_ip_block) c.self.view_is
+    c.over.ensures ∙ map-id (iter_rest c.iter.result) ∙ c.iter.ensures.made ∙ ap (map new_ip_block) c.self.view_is

@@ -2,6 +2,7 @@ use Rattle.std.proofs.Common.{Vec}
 use Rattle.std.proofs.lemmas.Result.{err_from_is_err_and}
 use Rattle.rpki_ipres.specs.ListText.{HasIpBlocks, HasIpBlocksFault}
 use Rattle.rpki_ipres.specs.declared.block.IpBlock.{IpBlock}
+use Rattle.rpki_ipres.proofs.WholeReadings.{whole_cover, whole_untold_list}
 use Rattle.rpki_ipres.proofs.SetTextLemmas.{set_answers, set_refused, blocks_of_family, read_as}
 use Rattle.rpki_ipres.proofs.blocks.IpBlocks.from_str.Goals as goal
 
@@ -22,3 +23,8 @@ returns-clause-exact g c =
 pub returns-clause-reads_back : goal.returns-clause-reads_back
 returns-clause-reads_back g c = λ family set is printed.
     read_as family _ set _ is (rw c.in_ok-blocks.was at (c.read_ip_blocks.ensures.reads_back family _ (blocks_of_family family set is) printed)) (rw c.as_slice.ensures.value at c.in_ok-set.ensures)
+
+pub returns-clause-whole : goal.returns-clause-whole
+returns-clause-whole g c = λ v4.
+    let read = rw c.in_ok-blocks.was at c.read_ip_blocks.ensures.exact in
+    whole_cover c.in_ok-blocks.blocks.items _ (whole_untold_list c.args.text.now c.in_ok-blocks.blocks.items v4 read.found) (rw c.as_slice.ensures.value at c.in_ok-set.ensures)

@@ -10,6 +10,7 @@ use Rattle.rpki_ipres.specs.BlockDer.{IsIpBlockDer, ip_run_der, ip_set_der}
 use Rattle.rpki_ipres.specs.BlockReading.{ip_blocks_at}
 use Rattle.rpki_ipres.specs.Blocks.{ip_bounds, new_ip_block}
 use Rattle.rpki_ipres.specs.BlockReadingLaws.{blocks_reading}
+use Rattle.rpki_ipres.proofs.WholeReadings.{whole_when_taken}
 use Rattle.rpki_ipres.proofs.SetTextLemmas.{is_ip_set}
 use Rattle.rpki_ipres.proofs.SetWritten.{blocks_say, content_short, one_set, set_written}
 use Rattle.rpki_ipres.proofs.blocks.IpBlocks.take_from_with_family.Goals as goal
@@ -20,3 +21,6 @@ returns-clause-reads g c = reads_said_by (IsSequenceOf (IsIpBlockDer (bits_of c.
 pub returns-clause-reads_back : goal.returns-clause-reads_back
 returns-clause-reads_back g c = λ set rest is at. takes_said (IsSequenceOf (IsIpBlockDer (bits_of c.args.family))) (IsRunsOfBlocks ip_bounds) (ip_blocks_at (bits_of c.args.family)) c.args.cursor.now c.next_set.new.cursor c.next_set.result (blocks_reading (bits_of c.args.family)) one_set c.next_set.ensures.exact
     (ip_set_der set) rest (map new_ip_block set) set (set_written c.args.family set is (content_short (left c.args.cursor.now) (octets_of_all ip_run_der set) rest c.next_set.ensures.short at)) (blocks_say set (is_ip_set c.args.family set is)) at
+
+pub returns-clause-whole : goal.returns-clause-whole
+returns-clause-whole g c = whole_when_taken c.args.family c.args.cursor.now c.next_set.new.cursor c.next_set.result (returns-clause-reads g c)

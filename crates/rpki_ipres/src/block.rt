@@ -36,7 +36,7 @@ impl IpBlock {
         ensures value { result ≡ new_ip_block pair }
         ensures prefix { (p : PrefixValue) → IsPrefix 128 p → prefix_bounds p ≡ pair → result ≡ IpBlock.Prefix p }
     {
-        let _below = pair.1.to_bits();
+        let _number = pair.1.to_bits(); // read so that the proof sees that the number has 128 bits
         match AddressRange::from_pair(pair).into_prefix() {
             Ok(prefix) => IpBlock::Prefix(prefix),
             Err(range) => IpBlock::Range(range),
@@ -74,7 +74,7 @@ impl IpBlock {
             IpBlock::Prefix(prefix) => prefix.max(),
             IpBlock::Range(range) => {
                 let max = AddressRange::max(range);
-                let _below = max.to_bits();
+                let _number = max.to_bits(); // read so that the proof sees that the number has 128 bits
                 max
             }
         }
@@ -126,7 +126,7 @@ impl Block for IpBlock {
 
     fn max(&self) -> Addr {
         let max = IpBlock::max(self);
-        let _below = max.to_bits();
+        let _number = max.to_bits(); // read so that the proof sees that the number has 128 bits
         max
     }
 

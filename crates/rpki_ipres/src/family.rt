@@ -50,6 +50,15 @@ impl<'a, A: Allocator> IpBlocksForFamily<'a, A> {
     }
 }
 
+impl<'a, A: Allocator> fmt::Debug for IpBlocksForFamily<'a, A> {
+    fn fmt<W: fmt::Write>(&self, f: &mut fmt::Formatter<W>) -> fmt::Result {
+        f.debug_struct("IpBlocksForFamily")
+            .field("family", &self.family)
+            .field("blocks", self.blocks)
+            .finish()
+    }
+}
+
 /// Prints the blocks of the set, ascending, joined by a comma and a space; nothing, where the set is empty. Each is
 /// printed as [`IpBlock::fmt_v4`](crate::block::IpBlock::fmt_v4) or `fmt_v6` writes it.
 impl<'a, A: Allocator> fmt::Display for IpBlocksForFamily<'a, A> {

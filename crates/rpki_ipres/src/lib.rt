@@ -9,3 +9,9 @@ pub mod family;
 pub mod laws;
 pub mod list;
 pub mod text;
+
+pub use block::IpBlock;
+pub use blocks::IpBlocks;
+pub use builder::IpBlocksBuilder;
+pub use family::IpBlocksForFamily;
+pub use text::{DisplayV4Block, DisplayV6Block};

@@ -1,6 +1,6 @@
 //! Reads the whole input, and then answers each line of it.
-ghost use Rattle.std.specs.Prelude.{◌≡◌, ◌<◌, ◌∷◌, [], ℕ, length, position, true, IfOk, IfSome, OnOk, OnErr, IsErrOf, List};
-ghost use Rattle.std.specs.Io.KnownBytes.{IsAtEnd};
+ghost use Rattle.std.specs.Prelude.{◌≡◌, ◌<◌, ◌∷◌, [], ℕ, length, position, true, IfOk, IfErr, IfSome, OnOk, OnErr, IsErrOf, List};
+ghost use Rattle.std.specs.Io.KnownBytes.{IsAtEnd, Keeps};
 ghost use Rattle.respath_engine.specs.Lines.{is_end, lines_of};
 ghost use Rattle.respath_engine.specs.Run.{HasWritten, HasAnsweredLine, AnswersAll, AnswersFirst, BeginsAnswers};
 
@@ -46,7 +46,7 @@ pub fn run<A: Allocator + Copy, R: Source, W: Sink>(
 {
     let input = read_to_end(alloc, reader)?;
     answer_lines(alloc, &input, writer)?;
-    writer.flush().map_err(|_| RunError::Write)
+    flush_all(writer)
 }
 
 /// Reads until nothing is left.
@@ -150,4 +150,14 @@ fn write_all<W: Sink>(writer: &mut W, piece: &[u8]) -> Result<(), DeviceFault>
         rest = &rest[count..];
     }
     Ok(())
+}
+
+/// Hands on all that was written. No call is tried again.
+fn flush_all<W: Sink>(writer: &mut W) -> Result<(), RunError>
+    ensures unmarked { OnOk result (W.mark writer.new ≡ W.mark writer.old) }
+    ensures flushed { OnOk result (W.flushed writer.new ≡ true) }
+    ensures write { IfErr result (λ error. (error ≡ RunError.Write) × (W.mark writer.new ≡ true)) }
+    ensures kept { Keeps (W.written writer.old) (W.written writer.new) }
+{
+    writer.flush().map_err(|_| RunError::Write)
 }

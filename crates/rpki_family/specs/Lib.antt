@@ -1,2 +1,3 @@
 pub mod FamilyText
 pub mod PrefixBlocks
+pub mod SetCovers

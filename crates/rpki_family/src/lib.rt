@@ -3,6 +3,7 @@
 
 mod common;
 pub mod iter;
+pub mod prefixes;
 pub mod v4;
 pub mod v6;
 

@@ -99,11 +99,11 @@ pub whole_untold_list : (text : List ℕ) (blocks : List IpBlock) → IsFamilyOf
 whole_untold_list text blocks v4 (family, told, have) =
     whole_values (IsBlockText (Some Ipv4)) (λ t b h. h) (elements text) blocks (subst (λ f. HaveValues (IsBlockText (Some f)) (elements text) blocks) (same_family text family Ipv4 told v4) have)
 
--- the reader of lists answers such blocks
-pub whole_when_read : {V : Type 0} (view : V → List IpBlock) (family : AddressFamily) (text : List ℕ) (r : Result V (OrMemory FromStrError)) → AnswersOrMemory view (HasBlocks family text) (HasBlocksFault family text) r
+-- so the reader of lists answers such blocks
+pub whole_family_list : {V : Type 0} (view : V → List IpBlock) (family : AddressFamily) (text : List ℕ) (r : Result V (OrMemory FromStrError)) → AnswersOrMemory view (HasBlocks family text) (HasBlocksFault family text) r
     → IfOk r (λ v. family ≡ Ipv4 → All (λ b. HasWholeBounds (ip_bounds b)) (view v))
-whole_when_read view family text (Ok v) exact = λ ipv4. whole_list text (view v) (subst (λ f. HasBlocks f text (view v)) ipv4 exact.found)
-whole_when_read view family text (Err e) exact = tt
+whole_family_list view family text (Ok v) exact = λ v4. whole_list text (view v) (subst (λ f. HasBlocks f text (view v)) v4 exact.found)
+whole_family_list view family text (Err e) exact = tt
 
 -- ---- octets
 

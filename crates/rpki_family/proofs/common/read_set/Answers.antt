@@ -1,9 +1,9 @@
-use Rattle.std.proofs.Common.{Vec, subst}
+use Rattle.std.proofs.Common.{Vec}
 use Rattle.std.proofs.lemmas.Result.{err_from_is_err_and}
 use Rattle.rpki_ipres.specs.ListText.{HasBlocks, HasBlocksFault}
 use Rattle.rpki_ipres.specs.declared.block.IpBlock.{IpBlock}
 use Rattle.rpki_ipres.proofs.SetTextLemmas.{set_answers, set_refused, blocks_of_family, read_as}
-use Rattle.rpki_ipres.proofs.WholeReadings.{whole_cover, whole_list}
+use Rattle.rpki_ipres.proofs.WholeReadings.{whole_cover}
 use Rattle.rpki_family.proofs.common.read_set.Goals as goal
 
 pub returns-in_err-blocks-clause-exact : goal.returns-in_err-blocks-clause-exact
@@ -26,6 +26,4 @@ returns-clause-reads_back g c = λ set is printed.
 
 pub returns-clause-whole : goal.returns-clause-whole
 returns-clause-whole g c = λ ipv4.
-    let read = rw c.in_ok-blocks.was at c.read_blocks.ensures.exact in
-    let has = subst (λ family. HasBlocks family c.args.text.now c.in_ok-blocks.blocks.items) ipv4 read.found in
-    whole_cover c.in_ok-blocks.blocks.items _ (whole_list c.args.text.now c.in_ok-blocks.blocks.items has) (rw c.as_slice.ensures.value at c.in_ok-set.ensures)
+    whole_cover c.in_ok-blocks.blocks.items _ ((rw c.in_ok-blocks.was at c.read_blocks.ensures.whole) ipv4) (rw c.as_slice.ensures.value at c.in_ok-set.ensures)

@@ -1,8 +1,8 @@
 use Rattle.std.proofs.Common.{Vec}
 use Rattle.rpki_ipres.specs.declared.block.IpBlock.{IpBlock}
-use Rattle.rpki_ipres.proofs.WholeReadings.{whole_when_read}
 use Rattle.rpki_ipres.proofs.ListLemmas.{family_answers}
 use Rattle.rpki_ipres.proofs.PrintedLists.{family_list_back}
+use Rattle.rpki_ipres.proofs.WholeReadings.{whole_family_list}
 use Rattle.rpki_ipres.proofs.list.read_blocks.Goals as goal
 
 pub returns-clause-exact : goal.returns-clause-exact
@@ -12,4 +12,4 @@ pub returns-clause-reads_back : goal.returns-clause-reads_back
 returns-clause-reads_back g c = family_list_back (λ (v : Vec IpBlock _). v.items) c.args.text.now c.read_elements.result c.args.family (returns-clause-exact g c)
 
 pub returns-clause-whole : goal.returns-clause-whole
-returns-clause-whole g c = whole_when_read (λ (v : Vec IpBlock _). v.items) c.args.family c.args.text.now c.read_elements.result (returns-clause-exact g c)
+returns-clause-whole g c = whole_family_list (λ (v : Vec IpBlock _). v.items) c.args.family c.args.text.now c.read_elements.result (returns-clause-exact g c)

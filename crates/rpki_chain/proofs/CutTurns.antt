@@ -17,7 +17,7 @@ module _ {B I : Type 0} (f : B → ℕ × ℕ) (form : ℕ × ℕ → B) (number
   -- at the end there is no rest
   pub turn-end : (rest cut : Option (I × I)) → IsCut number rest cut End → rest ≡ None
   turn-end None cut h = refl
-  turn-end (Some b) None h = absurd h
+  turn-end (Some b) None h = absurd cc
   turn-end (Some b) (Some c) h = absurd h
 
   -- then the pieces are the numbers of the one chain that aren't in the other
@@ -27,19 +27,21 @@ module _ {B I : Type 0} (f : B → ℕ × ℕ) (form : ℕ × ℕ → B) (number
 
   -- the next cut is looked at
   pub turn-skip : (xs ys out : List B) (i j : ℕ) (rest cut : Option (I × I)) → Walk f form xs ys i (At rest) j (At cut) out → IsCut number rest cut Skip → (j < length ys) × ((next : Option (I × I)) → IsAt f ys (j + 1) (At next) → Walk f form xs ys i (At rest) (j + 1) (At next) out)
-  turn-skip xs ys out i j None cut w h = absurd h
-  turn-skip xs ys out i j (Some b) None w h = absurd h
+  turn-skip xs ys out i j None cut w h = absurd cc
+  turn-skip xs ys out i j (Some b) None w h = absurd cc
   turn-skip xs ys out i j (Some b) (Some c) w h =
       let at : IsAt f ys j (Some (numbers number c)) = w.cut_is in
       (at.0, λ next head. Walk-skip f form xs ys out i j (numbers number b) (numbers number c) (At next) w h head)
 
   -- a piece is kept, and the next block of the chain is looked at
   pub turn-keep : (xs ys out : List B) (i j : ℕ) (rest cut : Option (I × I)) (min max : I) → Walk f form xs ys i (At rest) j (At cut) out → IsCut number rest cut (Keep min max) → (i < length xs) × (number min ≤ number max) × ((next : Option (I × I)) (y : B) → f y ≡ numbers number (min, max) → IsNew f form y → IsAt f xs (i + 1) (At next) → Walk f form xs ys (i + 1) (At next) j (At cut) (out ++ y ∷ []))
-  turn-keep xs ys out i j None cut min max w h = absurd h
+  turn-keep xs ys out i j None cut min max w h = absurd cc
   turn-keep xs ys out i j (Some b) None min max w h =
       let rest : IsRest f form xs i (Some (numbers number b)) = w.rest_is in
-      let low = ap number h.0 in
-      let high = ap number h.1 in
+      let from : min ≡ b.0 = cc in
+      let to : max ≡ b.1 = cc in
+      let low = ap number from in
+      let high = ap number to in
       let ordered = rest.3 in (
         rest.0,
         omega arith,
@@ -73,16 +75,16 @@ module _ {B I : Type 0} (f : B → ℕ × ℕ) (form : ℕ × ℕ → B) (number
 
   -- nothing is kept, and the next block of the chain is looked at
   pub turn-drop : (xs ys out : List B) (i j : ℕ) (rest cut : Option (I × I)) → Walk f form xs ys i (At rest) j (At cut) out → IsCut number rest cut Drop → (i < length xs) × ((next : Option (I × I)) → IsAt f xs (i + 1) (At next) → Walk f form xs ys (i + 1) (At next) j (At cut) out)
-  turn-drop xs ys out i j None cut w h = absurd h
-  turn-drop xs ys out i j (Some b) None w h = absurd h
+  turn-drop xs ys out i j None cut w h = absurd cc
+  turn-drop xs ys out i j (Some b) None w h = absurd cc
   turn-drop xs ys out i j (Some b) (Some c) w h =
       let rest : IsRest f form xs i (Some (numbers number b)) = w.rest_is in
       (rest.0, λ next head. Walk-drop f form xs ys out i j (numbers number b) (numbers number c) (At next) w h.0 h.1 head)
 
   -- what is left behind a cut is at hand, with the next cut
   pub turn-advance : (first last : ℕ) (xs ys out : List B) (i j : ℕ) (rest cut : Option (I × I)) (next max : I) → Walk f form xs ys i (At rest) j (At cut) out → IsCut number rest cut (Advance next max) → IfSome rest (λ b. (first ≤ number b.0) × (number b.1 ≤ last)) → (j < length ys) × (first ≤ number next) × (number max ≤ last) × ((after : Option (I × I)) → IsAt f ys (j + 1) (At after) → Walk f form xs ys i (At (Some (next, max))) (j + 1) (At after) out)
-  turn-advance first last xs ys out i j None cut next max w h valid = absurd h
-  turn-advance first last xs ys out i j (Some b) None next max w h valid = absurd h
+  turn-advance first last xs ys out i j None cut next max w h valid = absurd cc
+  turn-advance first last xs ys out i j (Some b) None next max w h valid = absurd cc
   turn-advance first last xs ys out i j (Some b) (Some c) next max w (begins, (meets, beyond, goes, to)) valid =
       let at : IsAt f ys j (Some (numbers number c)) = w.cut_is in
       let high = ap number to in
@@ -99,8 +101,8 @@ module _ {B I : Type 0} (f : B → ℕ × ℕ) (form : ℕ × ℕ → B) (number
 
   -- the same, with the piece before the cut kept
   pub turn-split : (first last : ℕ) (xs ys out : List B) (i j : ℕ) (rest cut : Option (I × I)) (min end next max : I) → Walk f form xs ys i (At rest) j (At cut) out → IsCut number rest cut (Split min end next max) → IfSome rest (λ b. (first ≤ number b.0) × (number b.1 ≤ last)) → (j < length ys) × (number min ≤ number end) × (first ≤ number next) × (number max ≤ last) × ((after : Option (I × I)) (y : B) → f y ≡ numbers number (min, end) → IsNew f form y → IsAt f ys (j + 1) (At after) → Walk f form xs ys i (At (Some (next, max))) (j + 1) (At after) (out ++ y ∷ []))
-  turn-split first last xs ys out i j None cut min end next max w h valid = absurd h
-  turn-split first last xs ys out i j (Some b) None min end next max w h valid = absurd h
+  turn-split first last xs ys out i j None cut min end next max w h valid = absurd cc
+  turn-split first last xs ys out i j (Some b) None min end next max w h valid = absurd cc
   turn-split first last xs ys out i j (Some b) (Some c) min end next max w (begins, from, ends, (meets, beyond, goes, to)) valid =
       let at : IsAt f ys j (Some (numbers number c)) = w.cut_is in
       let low = ap number from in

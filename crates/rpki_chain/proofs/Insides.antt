@@ -1,9 +1,8 @@
 -- A walk over two chains that finds the first block of the one that doesn't lie in the other.
 use Rattle.std.proofs.Common.{ℕ, ◌+◌, ◌<◌, ◌≤◌, ◌⊎◌, ⊎_elim, List, sym, subst, arith, Option, Some, None}
 use Rattle.std.proofs.lemmas.Bool.{cases_lt}
-use Rattle.rpki_chain.specs.Sets.{Covers, IsChain}
-use Rattle.rpki_chain.proofs.Chains.{IsChainOf-itself}
-use Rattle.rpki_chain.proofs.Chains.{element_at}
+use Rattle.rpki_chain.specs.Sets.{IsWithin, Covers, IsChain}
+use Rattle.rpki_chain.proofs.Chains.{IsChainOf-itself, element_at}
 use Rattle.rpki_chain.specs.Overhang.{Before}
 use Rattle.rpki_chain.proofs.Sides.{IsAt, ordered_at, covers_at, high_at, up_to, before_next, none_before_first}
 
@@ -59,23 +58,23 @@ module _ {B : Type 0} (f : B → ℕ × ℕ) (form : ℕ × ℕ → B) where
   }
 
   -- the block at hand doesn't lie in the other chain
-  pub Inside-none_left : (xs ys : List B) (i j : ℕ) (b : ℕ × ℕ) → Inside xs ys i (Some b) j None → ((n : ℕ) → Covers f xs n → Covers f ys n) → ⊥
+  pub Inside-none_left : (xs ys : List B) (i j : ℕ) (b : ℕ × ℕ) → Inside xs ys i (Some b) j None → ((n : ℕ) → IsWithin b n → Covers f ys n) → ⊥
   Inside-none_left xs ys i j b w all =
       let ordered = ordered_at f form xs i b w.own_chain w.own_at in
-      let less : b.0 < b.0 = w.passed b.0 (all b.0 (covers_at f form xs i b w.own_chain w.own_at b.0 (omega arith) ordered)) tt in
+      let less : b.0 < b.0 = w.passed b.0 (all b.0 (omega arith, ordered)) tt in
       omega arith
 
   -- nor where it begins before the other's block, or ends behind it
-  pub Inside-beyond : (xs ys : List B) (i j : ℕ) (b c : ℕ × ℕ) → Inside xs ys i (Some b) j (Some c) → b.0 ≤ c.1 → (b.0 < c.0) ⊎ (c.1 < b.1) → ((n : ℕ) → Covers f xs n → Covers f ys n) → ⊥
+  pub Inside-beyond : (xs ys : List B) (i j : ℕ) (b c : ℕ × ℕ) → Inside xs ys i (Some b) j (Some c) → b.0 ≤ c.1 → (b.0 < c.0) ⊎ (c.1 < b.1) → ((n : ℕ) → IsWithin b n → Covers f ys n) → ⊥
   Inside-beyond xs ys i j b c w meets way all =
       let ordered = ordered_at f form xs i b w.own_chain w.own_at in
       ⊎_elim
-      (λ (early : b.0 < c.0). let less : b.0 < b.0 = w.passed b.0 (all b.0 (covers_at f form xs i b w.own_chain w.own_at b.0 (omega arith) ordered)) early in omega arith)
+      (λ (early : b.0 < c.0). let less : b.0 < b.0 = w.passed b.0 (all b.0 (omega arith, ordered)) early in omega arith)
       (λ (late : c.1 < b.1).
       let at : IsAt f ys j (Some c) = w.other_at in
       let x = (element_at ys j at.0).0 in
       let u = high_at f form ys j c w.other_chain w.other_at x in
-      let covered : Covers f ys (c.1 + 1) = all (c.1 + 1) (covers_at f form xs i b w.own_chain w.own_at (c.1 + 1) (omega arith) (omega arith)) in
+      let covered : Covers f ys (c.1 + 1) = all (c.1 + 1) (omega arith, omega arith) in
       let run = (IsChainOf-itself f form ys w.other_chain).runs j x at.0 in
       run.ends (subst (λ m. Covers f ys (m + 1)) (sym u) covered))
       way

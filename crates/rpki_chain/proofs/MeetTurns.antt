@@ -35,24 +35,24 @@ module _ {B I : Type 0} (f : B → ℕ × ℕ) (form : ℕ × ℕ → B) (number
 
   -- the one chain's block ends before the other's
   pub meet-own_before : (xs ys out : List B) (i j : ℕ) (own other next : Option (I × I)) → Meet f form xs ys i (At own) j (At other) out → IsMeeting number own other meeting.OwnBefore → (i < length xs) × (IsAt f xs (i + 1) (At next) → Meet f form xs ys (i + 1) (At next) j (At other) out)
-  meet-own_before xs ys out i j None other next w h = absurd h
-  meet-own_before xs ys out i j (Some b) None next w h = absurd h
+  meet-own_before xs ys out i j None other next w h = absurd cc
+  meet-own_before xs ys out i j (Some b) None next w h = absurd cc
   meet-own_before xs ys out i j (Some b) (Some c) next w h =
       let at : IsAt f xs i (Some (numbers number b)) = w.own_at in
       (at.0, λ after. Meet-before f form xs ys out i j (numbers number b) (numbers number c) (At next) w h after)
 
   -- the other chain's block ends before
   pub meet-other_before : (xs ys out : List B) (i j : ℕ) (own other next : Option (I × I)) → Meet f form xs ys i (At own) j (At other) out → IsMeeting number own other meeting.OtherBefore → (j < length ys) × (IsAt f ys (j + 1) (At next) → Meet f form xs ys i (At own) (j + 1) (At next) out)
-  meet-other_before xs ys out i j None other next w h = absurd h
-  meet-other_before xs ys out i j (Some b) None next w h = absurd h
+  meet-other_before xs ys out i j None other next w h = absurd cc
+  meet-other_before xs ys out i j (Some b) None next w h = absurd cc
   meet-other_before xs ys out i j (Some b) (Some c) next w h =
       let at : IsAt f ys j (Some (numbers number c)) = w.other_at in
       (at.0, λ after. Meet-swap f form ys xs out (j + 1) i (At next) (At (Some b)) (Meet-before f form ys xs out j i (numbers number c) (numbers number b) (At next) (Meet-swap f form xs ys out i j (At (Some b)) (At (Some c)) w) h after))
 
   -- they meet, and the one chain's block ends first
   pub meet-own_ends : (xs ys out : List B) (i j : ℕ) (own other next : Option (I × I)) (low high : I) (y : B) → Meet f form xs ys i (At own) j (At other) out → IsMeeting number own other (meeting.OwnEnds low high) → f y ≡ numbers number (low, high) → IsNew f form y → (i < length xs) × (IsAt f xs (i + 1) (At next) → Meet f form xs ys (i + 1) (At next) j (At other) (out ++ y ∷ []))
-  meet-own_ends xs ys out i j None other next low high y w h is new = absurd h
-  meet-own_ends xs ys out i j (Some b) None next low high y w h is new = absurd h
+  meet-own_ends xs ys out i j None other next low high y w h is new = absurd cc
+  meet-own_ends xs ys out i j (Some b) None next low high y w h is new = absurd cc
   meet-own_ends xs ys out i j (Some b) (Some c) next low high y w h is new =
       let at : IsAt f xs i (Some (numbers number b)) = w.own_at in
       let begins : (f y).0 ≡ number low = ap (λ (p : ℕ × ℕ). p.0) is in
@@ -68,8 +68,8 @@ module _ {B I : Type 0} (f : B → ℕ × ℕ) (form : ℕ × ℕ → B) (number
 
   -- they meet, and the other chain's block ends first
   pub meet-other_ends : (xs ys out : List B) (i j : ℕ) (own other next : Option (I × I)) (low high : I) (y : B) → Meet f form xs ys i (At own) j (At other) out → IsMeeting number own other (meeting.OtherEnds low high) → f y ≡ numbers number (low, high) → IsNew f form y → (j < length ys) × (IsAt f ys (j + 1) (At next) → Meet f form xs ys i (At own) (j + 1) (At next) (out ++ y ∷ []))
-  meet-other_ends xs ys out i j None other next low high y w h is new = absurd h
-  meet-other_ends xs ys out i j (Some b) None next low high y w h is new = absurd h
+  meet-other_ends xs ys out i j None other next low high y w h is new = absurd cc
+  meet-other_ends xs ys out i j (Some b) None next low high y w h is new = absurd cc
   meet-other_ends xs ys out i j (Some b) (Some c) next low high y w h is new =
       let at : IsAt f ys j (Some (numbers number c)) = w.other_at in
       let begins : (f y).0 ≡ number low = ap (λ (p : ℕ × ℕ). p.0) is in

@@ -1,25 +1,7 @@
 -- What becomes of the rest b of a block at the next block c that is taken out, the cut.
-use Rattle.std.specs.Prelude.{◌≡◌, ℕ, ◌+◌, ◌<◌, ◌≤◌, ◌⊎◌, Option, Some, None, ⊤}
+use Rattle.std.specs.Prelude.{◌≡◌, ℕ, ◌+◌, ◌<◌, ◌≤◌, ◌⊎◌, Option, Some, None}
 use Rattle.rpki_chain.specs.declared.difference.Cut.{Cut}
 use Rattle.rpki_chain.specs.declared.difference.Cut.TheVariants.{End, Skip, Keep, Drop, Split, Advance}
-
--- there is no rest
-abbrev pub IsEnd : {I : Type 0} → Cut I → Type 0
-IsEnd End = ⊤
-IsEnd Skip = ⊥
-IsEnd (Keep min max) = ⊥
-IsEnd Drop = ⊥
-IsEnd (Split min end next max) = ⊥
-IsEnd (Advance next max) = ⊥
-
--- all of it stays
-abbrev pub IsWhole : {I : Type 0} → I × I → Cut I → Type 0
-IsWhole b End = ⊥
-IsWhole b Skip = ⊥
-IsWhole b (Keep min max) = (min ≡ b.0) × (max ≡ b.1)
-IsWhole b Drop = ⊥
-IsWhole b (Split min end next max) = ⊥
-IsWhole b (Advance next max) = ⊥
 
 -- what is kept at last: all of it where the cut comes later, else the part before a cut that takes its end
 abbrev pub IsKept : {I : Type 0} → (I → ℕ) → I × I → I × I → I → Type 0
@@ -38,6 +20,6 @@ IsCutBy number b c (Split min end next max) = (number b.0 < number c.0) × (min 
 IsCutBy number b c (Advance next max) = (number c.0 ≤ number b.0) × GoesOn number b c next max
 
 abbrev pub IsCut : {I : Type 0} → (I → ℕ) → Option (I × I) → Option (I × I) → Cut I → Type 0
-IsCut number None cut turn = IsEnd turn
-IsCut number (Some b) None turn = IsWhole b turn
+IsCut number None cut turn = turn ≡ End
+IsCut number (Some b) None turn = turn ≡ Keep b.0 b.1
 IsCut number (Some b) (Some c) turn = IsCutBy number b c turn

@@ -1,5 +1,5 @@
 //! A block of resources: a range of items of one kind.
-ghost use Rattle.std.specs.Prelude.{◌≡◌, ℕ, ◌+◌, ◌<◌, ◌≤◌, ◌↔◌, ◌⊎◌, ◌==◌, IsTrue, MatchOption, IfSome, IfNone, min, max};
+ghost use Rattle.std.specs.Prelude.{◌≡◌, ℕ, ◌+◌, ◌<◌, ◌≤◌, ◌↔◌, ◌⊎◌, IsTrue, MatchOption, IfSome, IfNone, min, max};
 ghost use Rattle.std.specs.Ordering.{nat_cmp};
 ghost use Rattle.rpki_chain.specs.Sets.{IsWithin, IsBeside, IsNew};
 
@@ -77,14 +77,16 @@ pub trait Block: Drop {
 
     /// Whether the blocks have an item in common.
     fn intersects(&self, other: &Self) -> bool
-        ensures { IsTrue result ↔ ((n : ℕ) × IsWithin (bounds self.now) n × IsWithin (bounds other.now) n) }
+        ensures { IsTrue result ↔
+            ((n : ℕ) × IsWithin (bounds self.now) n × IsWithin (bounds other.now) n) }
     {
         self.min() <= other.max() && self.max() >= other.min()
     }
 
     /// Whether each item of the block lies in the other.
     fn is_encompassed(&self, other: &Self) -> bool
-        ensures { IsTrue result ↔ ((n : ℕ) → IsWithin (bounds self.now) n → IsWithin (bounds other.now) n) }
+        ensures { IsTrue result ↔
+            ((n : ℕ) → IsWithin (bounds self.now) n → IsWithin (bounds other.now) n) }
     {
         other.min() <= self.min() && other.max() >= self.max()
     }

@@ -1,5 +1,5 @@
 //! The borrowed view of a chain, and the operations on the sets that chains are.
-ghost use Rattle.std.specs.Prelude.{◌≡◌, ℕ, ◌↔◌, List, IsTrue, map};
+ghost use Rattle.std.specs.Prelude.{◌≡◌, ◌↔◌, IsTrue, map};
 ghost use Rattle.std.specs.Coded.{Coded-set};
 ghost use Rattle.rpki_chain.specs.Sets.{IsChain};
 ghost use Rattle.rpki_chain.specs.Props.{IsChain-prop};
@@ -15,7 +15,7 @@ use std::slice::Iter;
 /// of the numbers that they cover (RFC 3779, 2.2.3.6 and 3.2.3.4).
 pub struct Chain<'a, T: Block> {
     blocks: &'a [T],
-    pub ghost is_chain: { IsChain T.bounds T.form blocks.now } by { IsChain-prop (Coded-set T.code) T.bounds T.form blocks.now },
+    pub ghost is_chain: { IsChain T.bounds T.form blocks.now } by { IsChain-prop (Coded-set T.code) },
 }
 
 impl<'a, T: Block> Chain<'a, T> {
@@ -77,7 +77,7 @@ impl<'a, T: Block> Chain<'a, T> {
 }
 
 impl<T: Block> Chain<'_, T> {
-    ghost use Rattle.std.specs.Prelude.{◌≡◌, ℕ, ◌+◌, ◌≤◌, ◌↔◌, List, length, IsTrue, IsOk, IfOk, IfErr};
+    ghost use Rattle.std.specs.Prelude.{ℕ, ◌+◌, ◌≤◌, ◌↔◌, length, IsTrue, IsOk, IfOk, IfErr};
     ghost use Rattle.rpki_base.specs.Memory.{IfRefused};
     ghost use Rattle.rpki_chain.specs.Sets.{IsWithin, Covers, IsInside, IsChainOf};
     ghost use Rattle.rpki_chain.specs.View.{chain_blocks};
@@ -110,7 +110,8 @@ impl<T: Block> Chain<'_, T> {
 
     /// Whether each of its numbers is one of the other's.
     pub fn is_encompassed(self, other: Chain<'_, T>) -> bool
-        ensures { IsTrue result ↔ IsInside T.bounds (chain_blocks self.entry) (chain_blocks other.entry) }
+        ensures { IsTrue result ↔
+            IsInside T.bounds (chain_blocks self.entry) (chain_blocks other.entry) }
     {
         let mut own = self;
         let mut other = other;
@@ -124,7 +125,8 @@ impl<T: Block> Chain<'_, T> {
         alloc: A,
         other: Chain<'_, T>,
     ) -> Result<(), OrMemory<OwnedChain<T, A>>>
-        ensures ok { IsOk result ↔ IsInside T.bounds (chain_blocks self.entry) (chain_blocks other.entry) }
+        ensures ok { IsOk result ↔
+            IsInside T.bounds (chain_blocks self.entry) (chain_blocks other.entry) }
         ensures refused { IfErr result (IfRefused (λ chain. IsChainOf T.bounds T.form (λ n.
             Covers T.bounds (chain_blocks self.entry) n ×
             Covers T.bounds (chain_blocks other.entry) n) chain)) }
@@ -156,9 +158,11 @@ impl<T: Block> Chain<'_, T> {
 }
 
 impl<T: Block> Clone for Chain<'_, T> {
-    ghost use Rattle.std.specs.Prelude.{◌≡◌};
+    ghost use Rattle.std.specs.Prelude.{◌≡◌, ⊤};
 
     ghost is_clone = { λ chain copy. copy ≡ chain };
+
+    ghost is_infallible = { λ _. ⊤ };
 
     fn clone(&self) -> Result<Self, AllocError> {
         Ok(*self)
@@ -204,6 +208,7 @@ fn have_same_bounds<T: Block>(some: &[T], others: &[T]) -> bool
     if some.len() != others.len() {
         return false;
     }
+    // The blocks passed have the same bounds, one by one.
     for (i, block) in some.iter().enumerate() {
         if !block.is_equivalent(&others[i]) {
             return false;

@@ -1,6 +1,6 @@
 //! The numbers that two chains have in common.
-ghost use Rattle.std.specs.Prelude.{◌≡◌, ℕ, ◌+◌, ◌-◌, ◌^◌, ◌<◌, ◌≤◌, ◌↔◌, ◌⊎◌, List, [], length, take, IsTrue, IfOk, IfSome, Option};
-ghost use Rattle.rpki_chain.specs.Sets.{Covers, IsChain, IsChainOf};
+ghost use Rattle.std.specs.Prelude.{◌≡◌, ◌+◌, ◌≤◌, ◌⊎◌, length, take, IfOk, IfSome};
+ghost use Rattle.rpki_chain.specs.Sets.{Covers, IsChainOf};
 ghost use Rattle.rpki_chain.specs.Fit.{IsMeeting, IsMeetingOf};
 ghost use Rattle.rpki_chain.specs.Overhang.{IsOverhang};
 
@@ -80,8 +80,10 @@ fn first_blocks<T: Block, A: Allocator, X: Reads<T>>(
     ensures value { IfOk result (λ v. v.items ≡ take len (X.blocks own.old)) }
     ensures kept { X.blocks own.new ≡ X.blocks own.old }
 {
+    // The length is asked for what its contract tells: that the blocks are a chain.
     let _len = own.len();
     let mut chain = Vec::new(alloc);
+    // A block in new form is the one that is made of its bounds, so each comes out as it was.
     for at in 0..len {
         let (min, max) = own.read(at);
         chain.push(T::new(min, max))?;
@@ -97,7 +99,8 @@ pub fn common_from<T: Block, A: Allocator, X: Reads<T>, Y: Reads<T>>(
     other: &mut Y,
     overhang: Overhang<T::Item>,
 ) -> Result<OwnedChain<T, A>, AllocError>
-    requires { IsOverhang T.bounds T.number T.last (X.blocks own.old) (Y.blocks other.old) overhang }
+    requires { IsOverhang T.bounds T.number T.last
+        (X.blocks own.old) (Y.blocks other.old) overhang }
     ensures common { IfOk result (λ chain. IsChainOf T.bounds T.form (λ n.
         Covers T.bounds (X.blocks own.old) n × Covers T.bounds (Y.blocks other.old) n) chain) }
     ensures few { IfOk result (λ chain.
@@ -105,6 +108,7 @@ pub fn common_from<T: Block, A: Allocator, X: Reads<T>, Y: Reads<T>>(
     ensures own_kept { X.blocks own.new ≡ X.blocks own.old }
     ensures other_kept { Y.blocks other.new ≡ Y.blocks other.old }
 {
+    // The lengths are asked for what their contract tells: that the blocks are chains, of fewer than 2^64 blocks.
     let _own_len = own.len();
     let _other_len = other.len();
     let mut chain = first_blocks(alloc, own, overhang.own_at)?;
@@ -112,6 +116,9 @@ pub fn common_from<T: Block, A: Allocator, X: Reads<T>, Y: Reads<T>>(
     let mut other_at = overhang.other_at;
     let mut own_block = Some((overhang.min, overhang.max));
     let mut other_block = overhang.other;
+    // `chain` has what both have before one of the blocks at hand. A turn is done with the block that ends first: what the
+    // other one has of it is pushed, and nothing that comes later in either chain can reach it. So each turn passes a
+    // block, and the walk ends where one chain has none left.
     loop {
         match next_meeting::<T>(own_block, other_block) {
             Meeting::End => break,

@@ -1,6 +1,6 @@
 //! The numbers of one chain that aren't in another.
-ghost use Rattle.std.specs.Prelude.{◌≡◌, ℕ, ◌+◌, ◌-◌, ◌^◌, ◌<◌, ◌≤◌, ◌↔◌, ◌⊎◌, List, [], length, IsTrue, All, IfOk, IfSome, Option};
-ghost use Rattle.rpki_chain.specs.Sets.{Covers, IsChain, IsChainOf, numbers};
+ghost use Rattle.std.specs.Prelude.{◌≡◌, ◌+◌, ◌<◌, ◌≤◌, length, IfOk, IfSome};
+ghost use Rattle.rpki_chain.specs.Sets.{Covers, IsChainOf};
 ghost use Rattle.rpki_chain.specs.Cut.{IsCut, IsCutBy};
 
 use crate::block::Block;
@@ -115,6 +115,9 @@ pub fn difference<T: Block, A: Allocator, X: Reads<T>, Y: Reads<T>>(
     let mut other_at = 0;
     let mut rest = read_at(own, 0);
     let mut cut = read_at(other, 0);
+    // `rest` is what is left of the block at `own_at`, and `cut` is the block at `other_at` that may be taken out of it. All
+    // that comes before the rest is decided: what stays of it is in `chain`. No cut that was passed reaches the rest. A
+    // turn is done with the rest or with the cut, so the walk ends, and it keeps one piece at most.
     loop {
         match next_cut::<T>(rest, cut) {
             Cut::End => break,

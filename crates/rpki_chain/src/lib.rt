@@ -18,3 +18,10 @@ mod reads;
 pub mod set;
 pub mod shared;
 mod trim;
+
+pub use block::Block;
+pub use builder::BlockSetBuilder;
+pub use chain::Chain;
+pub use owned::OwnedChain;
+pub use set::BlockSet;
+pub use shared::SharedChain;

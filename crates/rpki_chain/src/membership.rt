@@ -1,6 +1,6 @@
 //! Whether a chain has an item, or the items of a block.
-ghost use Rattle.std.specs.Prelude.{◌≡◌, ℕ, ◌+◌, ◌-◌, ◌<◌, ◌≤◌, ◌↔◌, length, IsTrue, MatchOption};
-ghost use Rattle.rpki_chain.specs.Sets.{IsWithin, Covers, IsChain, IsRunFrom, numbers};
+ghost use Rattle.std.specs.Prelude.{◌≡◌, ℕ, ◌≤◌, ◌↔◌, IsTrue, MatchOption};
+ghost use Rattle.rpki_chain.specs.Sets.{IsWithin, Covers, IsRunFrom, numbers};
 
 use crate::block::Block;
 use crate::reads::Reads;
@@ -15,6 +15,9 @@ pub fn first_from<T: Block, R: Reads<T>>(chain: &mut R, item: T::Item) -> Option
     let mut low = 0;
     let mut high = chain.len();
     let mut found = None;
+    // The blocks before `low` end before the item. The one at `high` doesn't, and its bounds are in `found`, unless `high`
+    // is still the end of the chain. Each turn leaves half of the blocks between them, so they meet at the first block that
+    // doesn't end before the item.
     while low < high {
         let middle = low + (high - low) / 2;
         let (min, max) = chain.read(middle);

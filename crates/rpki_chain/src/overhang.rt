@@ -1,6 +1,6 @@
 //! Where a chain leaves another one.
-ghost use Rattle.std.specs.Prelude.{◌≡◌, ℕ, ◌+◌, ◌-◌, ◌^◌, ◌<◌, ◌≤◌, ◌↔◌, ◌⊎◌, List, [], length, IsTrue, IfSome, MatchOption, Option};
-ghost use Rattle.rpki_chain.specs.Sets.{Covers, IsInside, IsChain, HoldsBlock};
+ghost use Rattle.std.specs.Prelude.{◌≡◌, MatchOption};
+ghost use Rattle.rpki_chain.specs.Sets.{IsInside};
 ghost use Rattle.rpki_chain.specs.Fit.{IsFit, IsFitIn};
 ghost use Rattle.rpki_chain.specs.Overhang.{IsOverhang};
 
@@ -74,6 +74,9 @@ pub fn first_overhang<T: Block, X: Reads<T>, Y: Reads<T>>(
     let mut other_at = 0;
     let mut own_block = read_at(own, 0);
     let mut other_block = read_at(other, 0);
+    // What comes before the one chain's block at hand lies in the other chain, and what comes before the other's block at
+    // hand comes before that block too. A turn passes one of the two blocks, so the walk ends; a block that some block of
+    // the other doesn't hold ends it at once, since chains have gaps between their blocks.
     loop {
         match next_fit::<T>(own_block, other_block) {
             Fit::End => return None,

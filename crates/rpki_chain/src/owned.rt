@@ -2,7 +2,7 @@
 ghost use Rattle.std.specs.Prelude.{◌≡◌, ℕ, ◌↔◌, List, [], All, IsTrue, IfOk, map};
 ghost use Rattle.rpki_chain.specs.Equality.{same_runs, chains_per, chains_equiv};
 ghost use Rattle.rpki_chain.specs.Sets.{Covers, IsNew, IsChain, IsChainOf};
-ghost use Rattle.rpki_chain.specs.Owned.{owned_blocks};
+ghost use Rattle.rpki_chain.specs.Owned.{owned_blocks, IsOwned};
 ghost use Rattle.rpki_chain.specs.View.{chain_blocks};
 
 use crate::block::Block;
@@ -22,7 +22,7 @@ impl<T: Block, A: Allocator> Model for OwnedChain<T, A> {
 
     ghost view = { λ chain. owned_blocks chain.blocks };
 
-    ghost invariant = { λ chain. IsChain T.bounds T.form (owned_blocks chain.blocks) };
+    ghost invariant = { λ chain. IsOwned T.bounds T.form chain.blocks };
 }
 
 impl<T: Block, A: Allocator> OwnedChain<T, A> {
@@ -38,7 +38,8 @@ impl<T: Block, A: Allocator> OwnedChain<T, A> {
     pub fn from_blocks(alloc: A, blocks: &[T]) -> Result<Self, AllocError>
     where
         A: Copy,
-        ensures { IfOk result (λ chain. IsChainOf T.bounds T.form (Covers T.bounds blocks.now) chain) }
+        ensures { IfOk result (λ chain.
+            IsChainOf T.bounds T.form (Covers T.bounds blocks.now) chain) }
     {
         let bounds = sorted_bounds(alloc, blocks)?;
         let blocks = joined(alloc, bounds.as_slice())?;
@@ -86,6 +87,7 @@ fn rebuilt<T: Block, A: Allocator>(alloc: A, blocks: &[T]) -> Result<Vec<T, A>, 
     ensures { IfOk result (λ v. v.items ≡ blocks.now) }
 {
     let mut new = Vec::with_capacity(alloc, blocks.len())?;
+    // A block in new form is the one that is made of its bounds, so each comes out as it was.
     for block in blocks {
         let (min, max) = block.bounds();
         new.push(T::new(min, max))?;

@@ -1,7 +1,6 @@
 //! The seam between chains and the walks over them: blocks are read by their place, one at a time.
-ghost use Rattle.std.specs.Prelude.{◌≡◌, ℕ, ◌+◌, ◌^◌, ◌<◌, ◌≤◌, List, length, slice_index_or, IfSome};
+ghost use Rattle.std.specs.Prelude.{◌≡◌, ◌^◌, ◌<◌, ◌≤◌, List, length, slice_index_or, IfSome};
 ghost use Rattle.rpki_chain.specs.Sets.{IsChain, HoldsBlock, numbers};
-ghost use Rattle.rpki_chain.specs.View.{chain_blocks};
 
 use crate::block::Block;
 use crate::chain::Chain;
@@ -19,14 +18,14 @@ pub trait Reads<T: Block> {
     /// The bounds of the block at an index.
     fn read(&mut self, at: usize) -> (T::Item, T::Item)
         requires { at < length (blocks self.old) }
-        ensures value { (d : T) → T.bounds (slice_index_or (blocks self.old) at d) ≡ numbers T.number result }
+        ensures value { (d : T) →
+            T.bounds (slice_index_or (blocks self.old) at d) ≡ numbers T.number result }
         ensures from_first { T.first ≤ T.number result.0 }
         ensures to_last { T.number result.1 ≤ T.last }
         ensures kept { blocks self.new ≡ blocks self.old };
 }
 
 impl<T: Block> Reads<T> for Chain<'_, T> {
-    ghost use Rattle.std.specs.Prelude.{List};
     ghost use Rattle.rpki_chain.specs.View.{chain_blocks};
 
     ghost blocks = { λ chain. chain_blocks chain };

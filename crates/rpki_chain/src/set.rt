@@ -208,6 +208,7 @@ fn read_greatest<T: Block>(blocks: &[T])
     ensures { IsBlockChain T.bounds T.form T.last blocks.now }
 {
     if let Some(last) = blocks.last() {
+        // Read for what it tells: that the number is at most the kind's last, and so are all before it.
         let _greatest = last.max();
     }
 }

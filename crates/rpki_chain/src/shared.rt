@@ -1,8 +1,8 @@
 //! A chain that several owners hold.
 ghost use Rattle.std.specs.Prelude.{◌≡◌, ℕ, ◌↔◌, List, [], IsTrue, IfOk, map};
 ghost use Rattle.rpki_chain.specs.Equality.{same_runs, chains_per, chains_equiv};
-ghost use Rattle.rpki_chain.specs.Sets.{Covers, IsChain, IsChainOf};
-ghost use Rattle.rpki_chain.specs.Owned.{shared_blocks};
+ghost use Rattle.rpki_chain.specs.Sets.{Covers, IsChainOf};
+ghost use Rattle.rpki_chain.specs.Owned.{shared_blocks, IsShared};
 ghost use Rattle.rpki_chain.specs.View.{chain_blocks};
 
 use crate::block::Block;
@@ -23,7 +23,7 @@ impl<T: Block, A: Allocator> Model for SharedChain<T, A> {
 
     ghost view = { λ c. shared_blocks c.chain };
 
-    ghost invariant = { λ c. IsChain T.bounds T.form (shared_blocks c.chain) };
+    ghost invariant = { λ c. IsShared T.bounds T.form c.chain };
 }
 
 impl<T: Block, A: Allocator> SharedChain<T, A> {
@@ -49,7 +49,8 @@ impl<T: Block, A: Allocator> SharedChain<T, A> {
     pub fn from_blocks(alloc: A, blocks: &[T]) -> Result<Self, AllocError>
     where
         A: Copy,
-        ensures { IfOk result (λ chain. IsChainOf T.bounds T.form (Covers T.bounds blocks.now) chain) }
+        ensures { IfOk result (λ chain.
+            IsChainOf T.bounds T.form (Covers T.bounds blocks.now) chain) }
     {
         let chain = OwnedChain::from_blocks(alloc, blocks)?;
         Self::from_owned(alloc, chain)

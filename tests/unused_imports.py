@@ -1,0 +1,85 @@
+#!/usr/bin/env python3
+"""unused_imports.py [CRATE..]: names of `ghost use` lines that no clause below them uses, and lines of clauses over
+100 columns, in the sources of the crates (of all, where none is named). `rt tidy` sees to the files of proofs alone.
+
+A name at the head of a file serves the clauses of that file, but for the blocks that have `ghost use` lines of their own:
+these hide the file's. Ends with status 1 where there is something to mend."""
+import re
+import sys
+from pathlib import Path
+
+ROOT = Path(__file__).resolve().parent.parent / "crates"
+WIDTH = 100
+
+
+def without_comments(text):
+    """The text with its comments blanked, so that places stay the same."""
+    return re.sub(r"//[^\n]*", lambda it: " " * len(it[0]), text)
+
+
+def clauses(text):
+    """The places (from, to) of what stands between the braces of contracts, ghost members and ghost fields."""
+    for word in re.finditer(r"\b(requires|ensures|ghost(?! use)|by)\b[^{};()]*\{", text):
+        at, depth = word.end(), 1
+        while depth and at < len(text):
+            depth += {"{": 1, "}": -1}.get(text[at], 0)
+            at += 1
+        yield word.end(), at - 1
+
+
+def imports(text):
+    """Each name that a `ghost use` line brings, with the place of the line."""
+    for line in re.finditer(r"ghost use ([^;]*);", text):
+        path = line[1].strip()
+        names = path[path.index("{") + 1 : path.rindex("}")] if "{" in path else path.split(".")[-1]
+        for name in names.split(","):
+            yield name.split(" as ")[-1].strip(), line.start()
+
+
+def stands_in(name, text):
+    """Whether a clause uses the name: an operator by the first of its signs, a word as a whole."""
+    signs = [sign for sign in name.split("◌") if sign]
+    if "◌" in name:
+        return signs[0] in text
+    return re.search(rf"(?<![\w'-]){re.escape(name)}(?![\w'-])", text) is not None
+
+
+def blocks(text):
+    """The places of the items that are blocks: from a head at the start of a line to the brace that closes it."""
+    for head in re.finditer(r"^(?:pub(?:\([a-z]+\))? )?(?:unsafe )?(?:impl|trait)\b", text, re.M):
+        end = re.compile(r"^\}", re.M).search(text, head.start())
+        yield head.start(), end.end() if end else len(text)
+
+
+def faults(path):
+    source = path.read_text()
+    text = without_comments(source)
+    said = list(clauses(text))
+    own = [(start, end) for start, end in blocks(text) if "ghost use" in text[start:end]]
+    for name, at in imports(text):
+        block = next((it for it in own if it[0] <= at < it[1]), None)
+        if block:
+            seen = [it for it in said if block[0] <= it[0] < block[1]]
+        else:
+            seen = [it for it in said if not any(start <= it[0] < end for start, end in own)]
+        if not any(stands_in(name, text[start:end]) for start, end in seen):
+            yield text.count("\n", 0, at) + 1, f"{name} is used by no clause"
+    lines = source.split("\n")
+    long = {text.count("\n", 0, at) for start, end in said for at in range(start, end) if text[at] == "\n" or at == start}
+    for number in sorted(long):
+        if len(lines[number]) > WIDTH:
+            yield number + 1, f"{len(lines[number])} columns"
+
+
+def main():
+    names = sys.argv[1:] or sorted(it.name for it in ROOT.iterdir() if (it / "src").is_dir())
+    found = 0
+    for name in names:
+        for path in sorted((ROOT / name / "src").rglob("*.rt")):
+            for line, what in faults(path):
+                print(f"{path.relative_to(ROOT.parent)}:{line}: {what}")
+                found += 1
+    sys.exit(found > 0)
+
+
+main()

@@ -1,10 +1,10 @@
 -- Lists of blocks that ascend and neither overlap nor touch, and what they cover.
-use Rattle.std.proofs.Common.{◌≡◌, ℕ, ◌+◌, ◌-◌, ◌<◌, ◌≤◌, ◌↔◌, ◌⊎◌, inl, inr, ⊎_elim, List, [], ◌∷◌, ◌++◌, length, get_or, set, refl, sym, ap, ◌∙◌, subst, arith, zero, suc}
+use Rattle.std.proofs.Common.{◌≡◌, ℕ, ◌+◌, ◌-◌, ◌<◌, ◌≤◌, ◌↔◌, ◌⊎◌, inl, inr, ⊎_elim, List, [], ◌∷◌, ◌++◌, length, get_or, refl, sym, ap, ◌∙◌, subst, arith, zero, suc}
 use Rattle.std.proofs.Math.Nat.{le_refl}
-use Rattle.std.proofs.lemmas.Bool.{cases_lt, cases_eq}
-use Rattle.std.proofs.lemmas.List.{get_or_append_left, get_or_push, length_push, length-set, get_or-set_same, get_or-set_other, get_or_default}
+use Rattle.std.proofs.lemmas.Bool.{cases_lt}
+use Rattle.std.proofs.lemmas.List.{get_or_append_left, get_or_push, length_push, get_or_default}
 use Rattle.std.proofs.lemmas.List.Elements.{All-push}
-use Rattle.std.proofs.lemmas.List.Quantifiers.{Any-push, all_pairs_push, any-set}
+use Rattle.std.proofs.lemmas.List.Quantifiers.{Any-push, all_pairs_push}
 use Rattle.rpki_chain.specs.Sets.{IsNew, IsWithin, Covers, IsRun, IsChain, IsChainOf}
 
 -- the element at an index
@@ -40,29 +40,6 @@ module _ {B : Type 0} (f : B → ℕ × ℕ) where
   -- the same, with the bounds by another name
   pub Covers-push_as : (xs : List B) (y : B) (b : ℕ × ℕ) → f y ≡ b → (n : ℕ) → Covers f (xs ++ y ∷ []) n ↔ (Covers f xs n ⊎ IsWithin b n)
   Covers-push_as xs y b same n = subst (λ (c : ℕ × ℕ). Covers f (xs ++ y ∷ []) n ↔ (Covers f xs n ⊎ IsWithin c n)) same (Covers-push xs y n)
-
-  -- the last block, made longer
-  pub Covers-grown : (xs : List B) (at : ℕ) (x y : B) (b : ℕ × ℕ) → at < length xs → x ≡ get_or xs at x → (f y).0 ≡ (f x).0 → (f y).1 ≡ b.1 → (f x).0 ≤ b.0 → b.0 ≤ (f x).1 + 1 → (f x).1 ≤ b.1 → (n : ℕ) → Covers f (set xs at y) n ↔ (Covers f xs n ⊎ IsWithin b n)
-  Covers-grown xs at x y b lt is low high begins touches longer n =
-      let P : B → Type 0 = λ z. IsWithin (f z) n in
-      let len = length-set xs at y in (
-        λ (k, z, below, e, w). ⊎_elim
-            (λ (same : k ≡ at).
-            let v : IsWithin (f y) n = subst P (sym e ∙ ap (λ i. get_or (set xs at y) i z) same ∙ get_or-set_same xs at y z lt) w in
-            ⊎_elim (λ (inside : n < (f x).1 + 1). inl (at, x, lt, sym is, (omega arith, omega arith)))
-            (λ (outside : (f x).1 + 1 ≤ n). inr (omega arith, omega arith))
-            (cases_lt n ((f x).1 + 1)))
-            (λ other. inl (k, z, omega arith, sym (get_or-set_other xs at k y z other) ∙ e, w))
-            (cases_eq k at),
-        ⊎_elim
-            (λ (k, z, below, e, w). ⊎_elim
-            (λ (same : k ≡ at).
-            let v : IsWithin (f x) n = subst P (sym e ∙ ap (λ i. get_or xs i z) same ∙ get_or_default xs at z x lt ∙ sym is) w in
-            any-set P xs at y lt (omega arith, omega arith))
-            (λ other. (k, z, omega arith, get_or-set_other xs at k y z other ∙ e, w))
-            (cases_eq k at))
-            (λ w. any-set P xs at y lt (omega arith, omega arith)),
-      )
 
   module _ (form : ℕ × ℕ → B) where
     -- no blocks are a chain

@@ -4,6 +4,7 @@ mod CutTurns
 mod Cutting
 mod FitTurns
 mod Insides
+mod Joining
 mod LawLemmas
 mod MeetTurns
 mod Meets

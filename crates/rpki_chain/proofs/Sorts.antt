@@ -1,5 +1,5 @@
 -- What a sort of pairs of items says of their numbers, and what a map of a list says of what it covers.
-use Rattle.std.proofs.Common.{◌≡◌, ℕ, ◌+◌, ◌<◌, ◌↔◌, ◌⊎◌, inl, inr, ⊎_elim, List, [], ◌∷◌, ◌++◌, length, get_or, map, take, refl, sym, ap, ◌∙◌, subst, arith, zero, suc, Ordering}
+use Rattle.std.proofs.Common.{◌≡◌, ℕ, ◌+◌, ◌<◌, ⊎_elim, List, [], ◌∷◌, ◌++◌, length, get_or, map, take, refl, sym, ap, ◌∙◌, subst, arith, zero, suc, Ordering}
 use Rattle.std.specs.Ordering.{is_lt, nat_cmp, ordering_then}
 use Rattle.std.proofs.Common.{Less}
 use Rattle.std.specs.Cmp.{nat_cmp_is}
@@ -8,7 +8,6 @@ use Rattle.std.proofs.lemmas.Bool.{cases_lt, false≢true}
 use Rattle.std.proofs.lemmas.List.{take_more, map-append}
 use Rattle.std.proofs.lemmas.List.Sorted.{Contains-permutation, IsNonDecreasingBy-from_all_adjacent}
 use Rattle.rpki_chain.specs.Sets.{IsWithin, Covers}
-use Rattle.rpki_chain.proofs.Chains.{Covers-push}
 
 -- pairs sorted by their items ascend by the number of the first
 pub IsNonDecreasingBy-from_pairs : {I : Type 0} (number : I → ℕ) (cmp : I → I → Ordering) → ((x y : I) → cmp x y ≡ nat_cmp (number x) (number y)) → (xs : List (I × I)) → IsSorted (λ x y. ordering_then (cmp x.0 y.0) (cmp x.1 y.1)) xs → IsNonDecreasingBy (λ b. number b.0) xs
@@ -44,15 +43,6 @@ pub Covers-permutation : {B : Type 0} (f : B → ℕ × ℕ) (xs ys : List B) (n
 Covers-permutation f xs ys n p (k, x, lt, is, w) =
     let there = Contains-permutation xs ys x p (k, lt, is) in
     (there.0, x, there.1, there.2, w)
-
--- a loop's step: the list ys covers what xs does and the element at i
-pub Covers-more : {B C : Type 0} (f : B → ℕ × ℕ) (g : C → ℕ × ℕ) (xs ys : List B) (zs : List C) (i : ℕ) (z : C) → i < length zs → z ≡ get_or zs i z → ((n : ℕ) → Covers f ys n ↔ (Covers f xs n ⊎ IsWithin (g z) n)) → ((n : ℕ) → Covers f xs n ↔ Covers g (take i zs) n) → (n : ℕ) → Covers f ys n ↔ Covers g (take (i + 1) zs) n
-Covers-more f g xs ys zs i z lt is step before n =
-    let more : take i zs ++ z ∷ [] ≡ take (i + 1) zs = ap (λ y. take i zs ++ y ∷ []) is ∙ sym (take_more zs i z lt) in
-    let push = Covers-push g (take i zs) z n in (
-      λ h. subst (λ us. Covers g us n) more (push.1 (⊎_elim (λ c. inl ((before n).0 c)) inr ((step n).0 h))),
-      λ h. (step n).1 (⊎_elim (λ c. inl ((before n).1 c)) inr (push.0 (subst (λ us. Covers g us n) (sym more) h))),
-    )
 
 -- lists with the same bounds have them at each place
 pub map-at : {B C : Type 0} (f : B → ℕ × ℕ) (g : C → ℕ × ℕ) (xs : List B) (ys : List C) (i : ℕ) (x : B) (y : C) → i < length xs → i < length ys → x ≡ get_or xs i x → y ≡ get_or ys i y → map f xs ≡ map g ys → f x ≡ g y

@@ -3,6 +3,7 @@ pub mod BlockSets
 pub mod Cut
 pub mod Equality
 pub mod Fit
+pub mod Joining
 pub mod Laws
 pub mod Overhang
 pub mod Owned

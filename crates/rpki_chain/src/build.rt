@@ -1,7 +1,8 @@
 //! Blocks in any order become a chain: their bounds are sorted, and joined in one pass.
-ghost use Rattle.std.specs.Prelude.{◌≡◌, ℕ, ◌+◌, ◌<◌, ◌≤◌, ◌↔◌, ◌⊎◌, List, [], length, ◌==◌, All, IsTrue, IfOk, OnOk, OnErr};
+ghost use Rattle.std.specs.Prelude.{ℕ, ◌+◌, ◌≤◌, ◌↔◌, ◌⊎◌, All, IsTrue, IfOk};
 ghost use Rattle.std.specs.List.Sorted.{IsNonDecreasingBy};
-ghost use Rattle.rpki_chain.specs.Sets.{IsWithin, Covers, IsChain, IsChainOf, numbers};
+ghost use Rattle.rpki_chain.specs.Joining.{IsHeld, IsBehind};
+ghost use Rattle.rpki_chain.specs.Sets.{IsWithin, Covers, IsChain, numbers};
 
 use crate::block::Block;
 use std::alloc::{AllocError, Allocator};
@@ -32,6 +33,7 @@ pub fn sorted_bounds<T: Block, A: Allocator>(
 fn is_ascending<T: Block>(bounds: &[(T::Item, T::Item)]) -> bool
     ensures { IsTrue result ↔ IsNonDecreasingBy (λ b. T.number b.0) bounds.now }
 {
+    // No bounds before `at` begin below those in front of them.
     for at in 1..bounds.len() {
         if bounds[at].0 < bounds[at - 1].0 {
             return false;
@@ -41,6 +43,9 @@ fn is_ascending<T: Block>(bounds: &[(T::Item, T::Item)]) -> bool
 }
 
 /// The chain of bounds that come by ascending minimum.
+///
+/// A run is at hand, and all blocks of the chain so far end before it and don't touch it. Each turn takes the next
+/// bounds, which begin no earlier than the run does: so nothing that comes later can reach a run that was closed.
 pub fn joined<T: Block, A: Allocator>(
     alloc: A,
     bounds: &[(T::Item, T::Item)],
@@ -52,41 +57,44 @@ pub fn joined<T: Block, A: Allocator>(
         Covers T.bounds v.items n ↔ Covers (numbers T.number) bounds.now n) }
 {
     let mut chain = Vec::new(alloc);
-    for (min, max) in bounds {
-        push_joined(&mut chain, *min, *max)?;
+    let Some(first) = bounds.first() else {
+        return Ok(chain);
+    };
+    let mut run = *first;
+    for at in 1..bounds.len() {
+        run = run_with(&mut chain, run, bounds[at])?;
     }
+    chain.push(T::new(run.0, run.1))?;
     Ok(chain)
 }
 
-/// Puts a block behind a chain of which no block begins after it, and joins it to the last one where they overlap or
-/// touch.
-pub fn push_joined<T: Block, A: Allocator>(
+/// The run at hand once the next bounds are taken in: the run over both where they overlap or touch. Else the run is
+/// closed, which puts its block behind the chain, and the next bounds are the run at hand.
+fn run_with<T: Block, A: Allocator>(
     chain: &mut Vec<T, A>,
-    min: T::Item,
-    max: T::Item,
-) -> Result<(), AllocError>
-    requires chain { IsChain T.bounds T.form chain.old.items }
-    requires ordered { T.number min ≤ T.number max }
-    requires to_last { T.number max ≤ T.last }
-    requires behind { All (λ x. (T.bounds x).0 ≤ T.number min) chain.old.items }
-    ensures chain { IsChain T.bounds T.form chain.new.items }
-    ensures ok { OnOk result ((n : ℕ) → Covers T.bounds chain.new.items n ↔
-        (Covers T.bounds chain.old.items n ⊎ IsWithin (T.number min, T.number max) n)) }
-    ensures behind { All (λ x. (T.bounds x).0 ≤ T.number min) chain.new.items }
-    ensures err { OnErr result (chain.new.items ≡ chain.old.items) }
+    run: (T::Item, T::Item),
+    next: (T::Item, T::Item),
+) -> Result<(T::Item, T::Item), AllocError>
+    requires run { IsBehind T.bounds T.form T.last chain.old.items (numbers T.number run) }
+    requires ordered { T.number next.0 ≤ T.number next.1 }
+    requires to_last { T.number next.1 ≤ T.last }
+    requires behind { T.number run.0 ≤ T.number next.0 }
+    ensures run { IfOk result (λ r.
+        IsBehind T.bounds T.form T.last chain.new.items (numbers T.number r)) }
+    ensures behind { IfOk result (λ r. T.number r.0 ≤ T.number next.0) }
+    ensures held { IfOk result (λ r. (n : ℕ) →
+        IsHeld T.bounds chain.new.items (numbers T.number r) n ↔
+        (IsHeld T.bounds chain.old.items (numbers T.number run) n ⊎
+        IsWithin (numbers T.number next) n)) }
 {
-    if let Some(at) = chain.len().checked_sub(1) {
-        let (low, high) = chain[at].bounds();
-        if max <= high {
-            return Ok(());
-        }
-        if is_reached::<T>(high, min) {
-            chain[at] = T::new(low, max);
-            return Ok(());
-        }
+    if next.1 <= run.1 {
+        return Ok(run);
     }
-    chain.push(T::new(min, max))?;
-    Ok(())
+    if is_reached::<T>(run.1, next.0) {
+        return Ok((run.0, next.1));
+    }
+    chain.push(T::new(run.0, run.1))?;
+    Ok(next)
 }
 
 /// Whether an item comes right after another one or is not above it.

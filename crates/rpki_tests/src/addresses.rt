@@ -1,170 +1,125 @@
-//! Addresses and their texts.
+// Addresses of either family: their texts, bounds and conversions.
+use crate::checks::{holds, same};
+use probing::prints;
 use rpki_base::addr::{AddrParseError, IpAddr, Ipv4Addr, Ipv6Addr};
-use std::hash::{FoldHasher, Hash, Hasher};
+use rpki_ip::addr::Addr;
+use rpki_ip::family::AddressFamily;
+use std::alloc::{AllocError, Global};
+use std::fmt;
 use std::str::FromStr;
 use std::test::Fail;
 
-#[test]
-fn ipv6_texts(rt: HostRuntime) -> Result<(), Fail> {
-    for (text, want) in [
-        ("::", "::"),
-        ("::1:2:3:4:5:6:7", "0:1:2:3:4:5:6:7"),
-        ("::1:2:3:4:5:1.2.3.4", "0:1:2:3:4:5:102:304"),
-        ("::FFFF:0:0", "::ffff:0.0.0.0"),
-        ("1:2:3:4:5:6:7::", "1:2:3:4:5:6:7:0"),
-        ("::1.2.3.4", "::102:304"),
-        ("1:0:0:2:3:0:0:4", "1::2:3:0:0:4"),
-        ("2001:db8:0:0:0:0:0:0", "2001:db8::"),
-        ("1:0:0:2:0:0:0:3", "1:0:0:2::3"),
-        ("1:2:3:4:5:6:1.2.3.4", "1:2:3:4:5:6:102:304"),
-        ("1::ffff:255.255.255.255", "1::ffff:ffff:ffff"),
-        ("::ffff:1.2.3.4", "::ffff:1.2.3.4"),
-        ("0001:00aB:0:Cd:0:ef01:0:0", "1:ab:0:cd:0:ef01::"),
-        ("1:2::4:5:6:7:8", "1:2:0:4:5:6:7:8"),
-        ("0:0:0:0:0:0:0:1", "::1"),
-    ] {
-        match Ipv6Addr::from_str(text) {
-            Ok(address) => {
-                let printed = address.to_string(rt.alloc())?;
-                assert_eq!(rt; printed.as_str(), want, "{text}");
-            }
-            Err(_) => assert!(rt; false, "{text}"),
+/// An address, displayed in a family.
+#[derive(Clone, Copy)]
+struct Shown {
+    addr: Addr,
+    family: AddressFamily,
+}
+
+impl fmt::Display for Shown {
+    fn fmt<W: fmt::Write>(&self, f: &mut fmt::Formatter<W>) -> fmt::Result {
+        match &self.family {
+            AddressFamily::Ipv4 => self.addr.fmt_v4(f),
+            AddressFamily::Ipv6 => self.addr.fmt_v6(f),
         }
     }
+}
+
+fn is_printed(alloc: Global, bits: u128, v4: &str, v6: &str) -> Result<bool, AllocError> {
+    let addr = Addr::from_bits(bits);
+    let as_v4 = Shown {
+        addr,
+        family: AddressFamily::Ipv4,
+    };
+    let as_v6 = Shown {
+        addr,
+        family: AddressFamily::Ipv6,
+    };
+    Ok(prints(alloc, &as_v4, v4)? && prints(alloc, &as_v6, v6)?)
+}
+
+#[test]
+fn addresses_are_printed_in_a_family(rt: HostRuntime) -> Result<(), Fail> {
+    let bits = 0x0a01_0203_u128 << 96;
+    holds(&rt, is_printed(rt.alloc(), bits, "10.1.2.3", "a01:203::")?);
+    holds(&rt, is_printed(rt.alloc(), 1, "0.0.0.0", "::1")?);
     Ok(())
 }
 
 #[test]
-fn refused_ipv6_texts(rt: HostRuntime) -> Result<(), Fail> {
-    for text in [
-        "::1:2:3:4:5:6:7:8",
-        "1.2.3.4::",
-        "12345::",
-        ":1",
-        "",
-        "1::2::3",
-        "1:2:3:4:5:6:7::8",
-        "1.2.3.4",
-        "1:2:3:4:5:6:7",
-        "1:2:3:4:5:6:7:8:9",
-        "1:2:3:4:5:6:7:8:",
-        "1:2:3:4:5:6:7:1.2.3.4",
-        "1:2:3:4:5:1.2.3.4::",
-        "::ffff:01.2.3.4",
-        ":::",
-        "1:::2",
-        "g::",
-        " ::",
-        "::1%1",
-        "[::1]",
-    ] {
-        assert!(rt;
-            Ipv6Addr::from_str(text) == Err(AddrParseError::Ipv6),
-            "{text}"
-        );
+fn texts_of_addresses(rt: HostRuntime) {
+    let (v4, v6) = (0x0a01_0203_u128 << 96, 0x2001_0db8_u128 << 96);
+    same(&rt, Addr::from_v4_str("10.1.2.3"), Ok(Addr::from_bits(v4)));
+    same(&rt, Addr::from_v4_str("::1"), Err(AddrParseError::Ipv4));
+    same(
+        &rt,
+        Addr::from_v6_str("2001:db8::"),
+        Ok(Addr::from_bits(v6)),
+    );
+    same(
+        &rt,
+        Addr::from_v6_str("10.1.2.3"),
+        Err(AddrParseError::Ipv6),
+    );
+    same(&rt, Addr::from_str("10.1.2.3"), Ok(Addr::from_bits(v4)));
+    same(&rt, Addr::from_str("2001:db8::"), Ok(Addr::from_bits(v6)));
+    same(&rt, Addr::from_str("10.1.2"), Err(AddrParseError::Ip));
+}
+
+// A length, and the least and the greatest address that 10.1.2.3 has the first so many bits with.
+const BOUNDS: [(u8, &str, &str); 6] = [
+    (0, "::", "ffff:ffff:ffff:ffff:ffff:ffff:ffff:ffff"),
+    (16, "a01::", "a01:ffff:ffff:ffff:ffff:ffff:ffff:ffff"),
+    (32, "a01:203::", "a01:203:ffff:ffff:ffff:ffff:ffff:ffff"),
+    (127, "a01:203::", "a01:203::1"),
+    (128, "a01:203::", "a01:203::"),
+    (200, "a01:203::", "a01:203::"),
+];
+
+#[test]
+fn least_and_greatest_addresses(rt: HostRuntime) {
+    let addr = Addr::from_v4(Ipv4Addr::from_bits(0x0a01_0203));
+    for (len, min, max) in &BOUNDS {
+        assert!(rt; Addr::from_v6_str(min) == Ok(addr.to_min(*len)), "{len}");
+        assert!(rt; Addr::from_v6_str(max) == Ok(addr.to_max(*len)), "{len}");
     }
-    Ok(())
 }
 
 #[test]
-fn ipv4_texts(rt: HostRuntime) -> Result<(), Fail> {
-    for (text, want) in [
-        ("0.0.0.0", 0),
-        ("1.0.0.2", 0x01000002),
-        ("10.1.2.3", 0x0a010203),
-        ("255.255.255.255", 0xffffffff),
-    ] {
-        assert!(rt;
-            Ipv4Addr::from_str(text) == Ok(Ipv4Addr::from_bits(want)),
-            "{text}"
-        );
-        let printed = Ipv4Addr::from_bits(want).to_string(rt.alloc())?;
-        assert_eq!(rt; printed.as_str(), text);
-    }
-    for text in [
-        "1.2.3.256",
-        "1.2.3.4.",
-        "+1.2.3.4",
-        "01.0.0.0",
-        "1.2.3",
-        "1.2.3.0004",
-        "1.2.3.00",
-        "1.2.3.4.5",
-        "1..3.4",
-        "1.2.3.-4",
-        "0x1.2.3.4",
-        " 1.2.3.4",
-        "1.2.3.4/8",
-        "",
-        "::1",
-    ] {
-        assert!(rt;
-            Ipv4Addr::from_str(text) == Err(AddrParseError::Ipv4),
-            "{text}"
-        );
-    }
-    Ok(())
+fn conversions_of_addresses(rt: HostRuntime) {
+    let v4 = Ipv4Addr::from_bits(0x0a01_0203);
+    let addr = Addr::from(v4);
+    same(&rt, addr, Addr::from(IpAddr::V4(v4)));
+    same(&rt, addr, Addr::from_v4(v4));
+    same(&rt, addr.to_v4(), v4);
+    same(&rt, Ipv4Addr::from(addr), v4);
+    same(
+        &rt,
+        addr.to_bytes(),
+        [10, 1, 2, 3, 0, 0, 0, 0, 0, 0, 0, 0, 0, 0, 0, 0],
+    );
+    let v6 = Ipv6Addr::from_bits(7);
+    let addr = Addr::from(v6);
+    same(&rt, addr, Addr::from(IpAddr::V6(v6)));
+    same(&rt, addr, Addr::from_v6(v6));
+    same(&rt, addr.to_v6(), v6);
+    same(&rt, Ipv6Addr::from(addr), v6);
 }
 
 #[test]
-fn texts_of_either(rt: HostRuntime) -> Result<(), Fail> {
-    let ipv4 = IpAddr::from(Ipv4Addr::from_bits(0x01020304));
-    let ipv6 = IpAddr::from(Ipv6Addr::from_bits(0xffff01020304));
-    assert!(rt; IpAddr::from_str("1.2.3.4") == Ok(ipv4));
-    assert!(rt; IpAddr::from_str("::ffff:1.2.3.4") == Ok(ipv6));
-    assert!(rt; IpAddr::from_str("1.2.3") == Err(AddrParseError::Ip));
-    assert!(rt; ipv4 != ipv6);
-    assert!(rt; ipv4.is_ipv4() && !ipv6.is_ipv4());
-    let printed = ipv4.to_string(rt.alloc())?;
-    assert_eq!(rt; printed.as_str(), "1.2.3.4");
-    let printed = ipv6.to_string(rt.alloc())?;
-    assert_eq!(rt; printed.as_str(), "::ffff:1.2.3.4");
-    Ok(())
+fn addresses_are_their_numbers(rt: HostRuntime) {
+    let five = Addr::from_bits(5);
+    same(&rt, Addr::from(5_u128), five);
+    same(&rt, u128::from(five), 5);
+    same(&rt, five.to_bits(), 5);
+    holds(&rt, five < Addr::from_bits(6));
+    holds(&rt, five <= five);
 }
 
 #[test]
-fn address_faults(rt: HostRuntime) -> Result<(), Fail> {
-    for (fault, want) in [
-        (AddrParseError::Ipv4, "invalid IPv4 address syntax"),
-        (AddrParseError::Ipv6, "invalid IPv6 address syntax"),
-        (AddrParseError::Ip, "invalid IP address syntax"),
-    ] {
-        let text = fault.to_string(rt.alloc())?;
-        assert_eq!(rt; text.as_str(), want);
-    }
-    Ok(())
-}
-
-#[test]
-fn address_values(rt: HostRuntime) -> Result<(), Fail> {
-    let ipv4 = Ipv4Addr::from(0x0a010203u32);
-    assert!(rt; ipv4.to_bits() == 0x0a010203 && u32::from(ipv4) == 0x0a010203);
-    assert!(rt; ipv4.octets() == [10, 1, 2, 3]);
-    let bits = 0x20010db8000000000000000000010203u128;
-    let ipv6 = Ipv6Addr::from(bits);
-    assert!(rt; ipv6.to_bits() == bits && u128::from(ipv6) == bits);
-    assert!(rt; ipv6.segments() == [0x2001, 0xdb8, 0, 0, 0, 0, 1, 0x203]);
-    Ok(())
-}
-
-fn hash_of<T: Hash>(value: &T) -> u64 {
-    let mut hasher = FoldHasher::default();
-    value.hash(&mut hasher);
-    hasher.finish()
-}
-
-#[test]
-fn address_order_and_hash(rt: HostRuntime) -> Result<(), Fail> {
-    let low = Ipv4Addr::from_bits(0x0a000000);
-    let high = Ipv4Addr::from_bits(0xc0000000);
-    let least = Ipv6Addr::from_bits(0);
-    let other = Ipv6Addr::from_bits(1 << 127);
-    assert!(rt; low < high && high > low);
-    assert!(rt; least < other && other > least);
-    assert!(rt; IpAddr::V4(low) < IpAddr::V4(high) && IpAddr::V4(high) < IpAddr::V6(least));
-    assert!(rt; IpAddr::V6(least) < IpAddr::V6(other) && IpAddr::V6(other) > IpAddr::V4(high));
-    assert!(rt; hash_of(&low) == hash_of(&Ipv4Addr::from(0x0a000000)));
-    assert!(rt; hash_of(&other) == hash_of(&Ipv6Addr::from(1 << 127)));
-    assert!(rt; hash_of(&IpAddr::V4(low)) == hash_of(&IpAddr::from(low)));
-    Ok(())
+fn lengths_of_families(rt: HostRuntime) {
+    let (v4, v6) = (AddressFamily::Ipv4, AddressFamily::Ipv6);
+    same(&rt, v4.max_addr_len(), 32);
+    same(&rt, v6.max_addr_len(), 128);
+    holds(&rt, v4 != v6);
 }

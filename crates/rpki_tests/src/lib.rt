@@ -1,5 +1,5 @@
-//! What no clause says of numbers, addresses, chains and sets of AS numbers, as tests: worked rows and vectors as tables,
-//! each public call once with ample memory, and each request for memory refused in turn.
+//! What no clause says of numbers, addresses, prefixes, ranges and blocks, and what no line of the program `rows` can say of
+//! them: values and their parts, conversions, forms of blocks, hashes, and the texts of faults. No test here owns memory.
 #![tactic(auto)]
 
 #[cfg(test)]
@@ -7,9 +7,16 @@ mod addresses;
 #[cfg(test)]
 mod as_blocks;
 #[cfg(test)]
-mod base;
+mod checks;
 #[cfg(test)]
-mod chain;
-pub mod pairs;
+mod faults;
 #[cfg(test)]
-mod small_set;
+mod hashes;
+#[cfg(test)]
+mod ip_blocks;
+#[cfg(test)]
+mod numbers;
+#[cfg(test)]
+mod prefixes;
+#[cfg(test)]
+mod ranges;

@@ -1,4 +1,5 @@
 pub mod Answer
 pub mod Command
+pub mod Kinds
 pub mod Norm
 pub mod Shown

@@ -6,6 +6,7 @@ ghost use Rattle.std.specs.String.{string_bytes};
 ghost use Rattle.rpki_lines.specs.Answer.{IsAnswer};
 
 mod command;
+mod kind;
 mod norm;
 mod shown;
 

@@ -4,6 +4,7 @@ ghost use Rattle.std.specs.String.{string_bytes};
 ghost use Rattle.rpki_ip.specs.declared.family.AddressFamily.TheVariants.{Ipv4, Ipv6};
 ghost use Rattle.rpki_lines.specs.Norm.{IsNormAnswer, IsNormAs, IsNormIp};
 
+use crate::kind::{Kind, kind_named};
 use crate::shown::shown;
 use rpki_as::blocks::AsBlocks;
 use rpki_family::v4::Ipv4Blocks;
@@ -18,11 +19,11 @@ pub(crate) fn norm<A: Allocator + Copy>(
 ) -> Result<String<A>, AllocError>
     ensures { IfOk result (λ text. IsNormAnswer kind.now list.now (string_bytes text)) }
 {
-    match kind {
-        "as" => norm_as(alloc, list),
-        "v4" => norm_v4(alloc, list),
-        "v6" => norm_v6(alloc, list),
-        _ => String::from_str(alloc, "error: unknown kind"),
+    match kind_named(kind) {
+        Some(Kind::As) => norm_as(alloc, list),
+        Some(Kind::V4) => norm_v4(alloc, list),
+        Some(Kind::V6) => norm_v6(alloc, list),
+        None => String::from_str(alloc, "error: unknown kind"),
     }
 }
 

@@ -190,6 +190,24 @@ impl<A: Allocator> AsBlocks<A> {
     }
 }
 
+impl<'a, A: Allocator> IntoIterator for &'a AsBlocks<A> {
+    type Item = &'a AsBlock;
+
+    type IntoIter = Iter<'a, AsBlock>;
+
+    ghost into_iter_gives = { λ set blocks. iter_rest blocks ≡ map new_as_block set.now };
+
+    fn into_iter(self) -> Iter<'a, AsBlock> {
+        self.iter()
+    }
+}
+
+impl<A: Allocator> fmt::Debug for AsBlocks<A> {
+    fn fmt<W: fmt::Write>(&self, f: &mut fmt::Formatter<W>) -> fmt::Result {
+        f.debug_set().entries(self).finish()
+    }
+}
+
 /// The set of no numbers.
 impl<A: Allocator> Default for AsBlocks<A> {
     ghost is_default = { λ set. set ≡ [] };

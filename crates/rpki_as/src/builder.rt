@@ -7,6 +7,7 @@ use crate::block::AsBlock;
 use crate::blocks::AsBlocks;
 use rpki_chain::builder::BlockSetBuilder;
 use std::alloc::{AllocError, Allocator, Global};
+use std::fmt;
 use std::marker::Model;
 
 /// Collects blocks of AS numbers, in any order, for a set of them. It keeps the allocator that it is given.
@@ -59,5 +60,11 @@ impl<A: Allocator> AsBlocksBuilder<A> {
     {
         let set = self.blocks.finalize()?;
         Ok(AsBlocks::from_set(set))
+    }
+}
+
+impl<A: Allocator> fmt::Debug for AsBlocksBuilder<A> {
+    fn fmt<W: fmt::Write>(&self, f: &mut fmt::Formatter<W>) -> fmt::Result {
+        f.debug_struct("AsBlocksBuilder").finish_non_exhaustive()
     }
 }

@@ -10,7 +10,7 @@ use std::marker::Model;
 use std::slice::Iter;
 
 /// The numbers of a block that are left. Contracts see it as their list.
-#[derive(Drop)]
+#[derive(Debug, Drop)]
 pub struct AsBlockIter {
     left: Option<AsRange>,
 }
@@ -61,7 +61,7 @@ impl Iterator for AsBlockIter {
 }
 
 /// The numbers of a set that are left. Contracts see it as their list.
-#[derive(Drop)]
+#[derive(Debug, Drop)]
 pub struct AsnIter<'a> {
     current: AsBlockIter,
     later: Iter<'a, AsBlock>,

@@ -10,3 +10,10 @@ pub mod iter;
 pub mod laws;
 pub mod range;
 mod text;
+
+pub use block::AsBlock;
+pub use blocks::AsBlocks;
+pub use builder::AsBlocksBuilder;
+pub use error::FromStrError;
+pub use iter::{AsBlockIter, AsnIter};
+pub use range::AsRange;

@@ -109,7 +109,7 @@ impl Block for AsRange {
 
     fn max(&self) -> Asn {
         let max = self.max;
-        let _number = max.into_u32();
+        let _number = max.into_u32(); // read so that the proof sees that the number has 32 bits
         max
     }
 

@@ -66,7 +66,7 @@ impl AsBlock {
         // It is read back, whatever follows it.
         ensures read_back { (rest : List ℕ) → as_block_at (as_block_octets self.now ++ rest) ≡ Ok (self.now, rest) }
     {
-        let _greatest = AsBlock::max(self).into_u32();
+        let _number = AsBlock::max(self).into_u32(); // read so that the proof sees that the number has 32 bits
         self.append_to(out)
     }
 }

@@ -8,5 +8,5 @@ use Rattle.rpki_as.proofs.block.AsBlock.encode.Goals as goal
 
 pub returns-clause-read_back : goal.returns-clause-read_back
 returns-clause-read_back g c =
-    let below : (as_bounds c.args.self.now).1 < 2 ^ 32 = omega (arith, c.into_u32-greatest.type_inv, c.into_u32-greatest.ensures, c.max.ensures.value) in
+    let below : (as_bounds c.args.self.now).1 < 2 ^ 32 = omega (arith, c.into_u32-number.type_inv, c.into_u32-number.ensures, c.max.ensures.value) in
     λ rest. block_reading.again (as_block_octets c.args.self.now) c.args.self.now rest (block_written c.args.self.now c.max.ensures.in_order below)

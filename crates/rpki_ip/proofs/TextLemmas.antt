@@ -140,6 +140,11 @@ module _ {X : Type 0} (b : ℕ) (text : List ℕ) (Has : List ℕ → List ℕ �
   pub no_cut_answers : HasNo b text → Answers (λ x. Around b text (λ l q. Has l q x)) (λ e. HasFaultAround b text Fails e) (Err Fault.MissingSeparator)
   no_cut_answers none = answers_by_one one (Err Fault.MissingSeparator) (inl (none, refl))
 
+-- what is so of two addresses is so of their texts
+pub range_said : (w : Option AddressFamily) (left right : List ℕ) (a b : IpAddr) → IsAddressText w left a → IsAddressText w right b → (r : Result RangeValue FromStrError) → MatchResult r (IsRangeFrom a b) (HasPairFault a b) → MatchResult r (IsRangeBetween w left right) (HasRangeFault w left right)
+range_said w left right a b at there (Ok r) h = (a, at, (b, there, h))
+range_said w left right a b at there (Err e) h = inr (a, at, inr (b, there, h))
+
 -- an address, and a length that it doesn't have
 pub too_long : (w : Option AddressFamily) (left right : List ℕ) (a : IpAddr) (n : ℕ) → IsAddressText w left a → IsNumberText (2 ^ 8 - 1) right n → bits_of (family_of a) < n → HasPrefixFault w left right (Fault.PrefixLen PosOverflow)
 too_long w left right a n is number above = inr (a, is, (PosOverflow, inr (n, number, above, refl), refl))

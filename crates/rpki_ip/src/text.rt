@@ -5,8 +5,8 @@
 ghost use Rattle.std.specs.Prelude.{◌≡◌, ◌↔◌, IsTrue, None, Some, MatchResult};
 ghost use Rattle.std.specs.Fmt.{WritesOnOk};
 ghost use Rattle.rpki_base.specs.Reading.{Answers};
-ghost use Rattle.rpki_ip.specs.AddrText.{first_of, greatest_of};
-ghost use Rattle.rpki_ip.specs.BlockText.{IsAddressText, address_fault, IsPrefixBetween, HasPrefixFault, IsRangeBetween, HasRangeFault, IsSingleText, HasAddressFault, IsPrefixText, HasPrefixTextFault, IsRangeText, HasRangeTextFault};
+ghost use Rattle.rpki_ip.specs.AddrText.{greatest_of};
+ghost use Rattle.rpki_ip.specs.BlockText.{IsAddressText, address_fault, IsPrefixBetween, HasPrefixFault, IsRangeFrom, HasPairFault, IsRangeBetween, HasRangeFault, IsSingleText, HasAddressFault, IsPrefixText, HasPrefixTextFault, IsRangeText, HasRangeTextFault};
 ghost use Rattle.rpki_ip.specs.Families.{family_of as the_family};
 ghost use Rattle.rpki_ip.specs.PrintedText.{shown_bits, as_ip, prefix_text, range_text};
 ghost use Rattle.rpki_ip.specs.declared.family.AddressFamily.TheVariants.{Ipv4, Ipv6};
@@ -83,6 +83,14 @@ pub fn range_between(
 {
     let first = read_address(wanted, left)?;
     let last = read_address(wanted, right)?;
+    range_from(first, last)
+}
+
+/// The range from one address to another of its family. Where there is none, it is first their families that differ, and
+/// then their order.
+fn range_from(first: IpAddr, last: IpAddr) -> Result<AddressRange, FromStrError>
+    ensures { MatchResult result (IsRangeFrom first last) (HasPairFault first last) }
+{
     if family_of(&first) != family_of(&last) {
         return Err(FromStrError::FamilyMismatch);
     }

@@ -10,9 +10,8 @@ impl AddressFamily {
     ghost use Rattle.rpki_base.specs.DerViews.{ReadsTagged};
     ghost use Rattle.rpki_ip.specs.declared.family.AddressFamily.{AddressFamily as SomeFamily};
     ghost use Rattle.std.specs.Vec.{vec_capacity};
-    ghost use Rattle.rpki_der.specs.Reading.{Gives};
     ghost use Rattle.rpki_der.specs.Views.{Reads, Takes};
-    ghost use Rattle.rpki_ip.specs.FamilyDer.{IsFamilyDer, SaysFamily, family_at, family_der, family_octets, family_of};
+    ghost use Rattle.rpki_ip.specs.FamilyDer.{IsFamilyDer, SaysFamily, family_at, family_der, family_octets};
 
     /// The family that two octets name (RFC 3779, 2.2.3.3): 0 and 1 for IPv4, 0 and 2 for IPv6.
     pub fn from_octets(octets: &[u8]) -> Result<AddressFamily, DecodeFamilyError>
@@ -82,7 +81,6 @@ impl AddressFamily {
 
 // The readings behind the calls.
 impl AddressFamily {
-    ghost use Rattle.std.specs.Prelude.{◌≡◌};
     ghost use Rattle.rpki_base.specs.DerReading.{if_tagged, skipping};
     ghost use Rattle.rpki_der.specs.Reading.{Gives};
     ghost use Rattle.rpki_der.specs.Views.{Takes};

@@ -118,7 +118,7 @@ impl Prefix {
 
 // The readings behind the calls.
 impl Prefix {
-    ghost use Rattle.std.specs.Prelude.{◌≡◌, ◌≤◌};
+    ghost use Rattle.std.specs.Prelude.{◌≤◌};
     ghost use Rattle.rpki_der.specs.Reading.{Gives};
     ghost use Rattle.rpki_der.specs.Views.{Takes, content_octets};
     ghost use Rattle.rpki_der.specs.Views.{bits_of as bit_string_of};

@@ -1,138 +1,50 @@
-// Sets of addresses: their lists as rows, each call with ample memory, and their builder.
-use rpki_base::memory::OrMemory;
+// Sets of addresses of either family.
+use crate::checks::{holds, holds_where_refused};
+use probing::prints;
+use refusing::Refusing;
 use rpki_ip::addr::Addr;
-use rpki_ip::error::FromStrError;
 use rpki_ip::range::AddressRange;
 use rpki_ipres::block::IpBlock;
 use rpki_ipres::blocks::IpBlocks;
-use rpki_ipres::builder::IpBlocksBuilder;
 use rpki_ipres::family::IpBlocksForFamily;
-use std::alloc::{AllocError, Allocator};
+use std::alloc::{AllocError, Allocator, Global};
 use std::str::FromStr;
 use std::test::Fail;
-
-/// Whether this is what is printed of a set in IPv4.
-pub fn prints_v4<A: Allocator, B: Allocator>(
-    alloc: A,
-    set: &IpBlocks<B>,
-    text: &str,
-) -> Result<bool, AllocError> {
-    let printed = format!(in alloc; "{}", set.as_v4())?;
-    Ok(printed.as_str() == text)
-}
-
-/// Whether this is what is printed of a set in IPv6.
-pub fn prints_v6<A: Allocator, B: Allocator>(
-    alloc: A,
-    set: &IpBlocks<B>,
-    text: &str,
-) -> Result<bool, AllocError> {
-    let printed = format!(in alloc; "{}", set.as_v6())?;
-    Ok(printed.as_str() == text)
-}
-
-// ---- lists
-
-#[test]
-fn lists_of_ipv4_blocks(rt: HostRuntime) -> Result<(), Fail> {
-    for (list, text) in [
-        ("", ""),
-        (" , ,,\t", ""),
-        (
-            "10.20.0.0, 10.0.0.0/16, 10.30.0.0-10.30.0.255, 10.0.10.0/24",
-            "10.0.0.0/16, 10.20.0.0, 10.30.0.0/24",
-        ),
-        (
-            "10.0.0.0-10.0.0.10, 10.0.0.11-10.0.0.20",
-            "10.0.0.0-10.0.0.20",
-        ),
-        ("0.0.0.0-255.255.255.255", "0.0.0.0/0"),
-        ("10.0.0.0/+8", "10.0.0.0/8"),
-        (
-            "192.168.0.0/16,10.1.0.0-10.1.2.255,\u{3000}10.0.0.0\u{85}",
-            "10.0.0.0, 10.1.0.0-10.1.2.255, 192.168.0.0/16",
-        ),
-        ("192.168.0.0, 10.0.0.0/8, ", "10.0.0.0/8, 192.168.0.0"),
-        ("10.0.0.2, 10.0.0.0, 10.0.0.1", "10.0.0.0-10.0.0.2"),
-        ("255.255.255.255, 0.0.0.0-255.255.255.254", "0.0.0.0/0"),
-    ] {
-        let set = IpBlocks::from_str(rt.alloc(), list)?;
-        assert!(rt; prints_v4(rt.alloc(), &set, text)?, "{list}");
-        assert!(rt; set == IpBlocks::from_str(rt.alloc(), text)?, "{list}");
-        assert!(rt; set.is_whole_v4(), "{list}");
-    }
-    Ok(())
-}
-
-#[test]
-fn lists_of_ipv6_blocks(rt: HostRuntime) -> Result<(), Fail> {
-    for (list, text) in [
-        (
-            "2001:db8:0:20::, 2001:db8:0:10::/64, 2001:db8:0:30::-2001:db8:0:30::FF, 2001:db8:0:10::/72",
-            "2001:db8:0:10::/64, 2001:db8:0:20::, 2001:db8:0:30::/120",
-        ),
-        ("::1, 2001:db8::/32", "::1, 2001:db8::/32"),
-        (
-            "::ffff:10.0.0.1-::ffff:10.0.0.2",
-            "::ffff:10.0.0.1-::ffff:10.0.0.2",
-        ),
-        ("::ffff:1.2.3.4/96", "::ffff:0.0.0.0/96"),
-        (
-            "2001:db8::-2001:db8:ffff:ffff:ffff:ffff:ffff:ffff",
-            "2001:db8::/32",
-        ),
-        ("::8-::f, ::4/126, ::3", "::3-::f"),
-        ("ffff::/16, fffe::/16, ::/128", "::, fffe::/15"),
-        ("1:0:0:2:0:0:0:3", "1:0:0:2::3"),
-    ] {
-        let set = IpBlocks::from_str(rt.alloc(), list)?;
-        assert!(rt; prints_v6(rt.alloc(), &set, text)?, "{list}");
-        assert!(rt; set == IpBlocks::from_str(rt.alloc(), text)?, "{list}");
-    }
-    Ok(())
-}
-
-#[test]
-fn every_fault_of_a_list_is_one(rt: HostRuntime) {
-    for list in [
-        "10.0.0.0, ::1",
-        "::1, 10.0.0.0",
-        "10.0.0.0, ::1, 2001:db8::/32",
-        "x",
-        "10.0.0.0/33",
-        "10.0.0.5-10.0.0.4",
-        "10.0.0.0; 10.0.0.1",
-        "::/129",
-        "::2-::1",
-        "::, x",
-        ":",
-    ] {
-        let set = IpBlocks::from_str(rt.alloc(), list);
-        let fault = OrMemory::Refused(FromStrError::FamilyMismatch);
-        assert!(rt; set == Err(fault), "{list}");
-    }
-}
-
-// ---- sets
 
 #[test]
 fn the_set_of_all_addresses(rt: HostRuntime) -> Result<(), Fail> {
     let all = IpBlocks::all(rt.alloc())?;
-    assert!(rt; prints_v4(rt.alloc(), &all, "0.0.0.0/0")?);
-    assert!(rt; prints_v6(rt.alloc(), &all, "::/0")?);
-    assert!(rt; !all.is_empty() && all.is_whole_v4());
-    assert!(rt; all.clone()? == all);
+    holds(&rt, !all.is_empty());
+    holds(&rt, all.is_whole_v4());
+    holds(&rt, all.clone()? == all);
+    Ok(())
+}
+
+#[test]
+fn the_set_of_all_addresses_is_printed(rt: HostRuntime) -> Result<(), Fail> {
+    let all = IpBlocks::all(rt.alloc())?;
+    holds(&rt, prints(rt.alloc(), &all.as_v4(), "0.0.0.0/0")?);
+    holds(&rt, prints(rt.alloc(), &all.as_v6(), "::/0")?);
     Ok(())
 }
 
 #[test]
 fn the_empty_set(rt: HostRuntime) -> Result<(), Fail> {
     let empty: IpBlocks = IpBlocks::empty();
-    assert!(rt; empty.is_empty() && empty.is_whole_v4());
-    assert!(rt; prints_v4(rt.alloc(), &empty, "")?);
-    assert!(rt; prints_v6(rt.alloc(), &empty, "")?);
-    assert!(rt; empty == IpBlocks::default());
-    assert!(rt; empty.clone()? == empty);
+    holds(&rt, empty.is_empty());
+    holds(&rt, empty.is_whole_v4());
+    holds(&rt, empty == IpBlocks::default());
+    holds(&rt, empty.clone()? == empty);
+    Ok(())
+}
+
+#[test]
+fn the_empty_set_has_no_blocks(rt: HostRuntime) -> Result<(), Fail> {
+    let empty: IpBlocks = IpBlocks::empty();
+    holds(&rt, prints(rt.alloc(), &empty.as_v4(), "")?);
+    holds(&rt, prints(rt.alloc(), &empty.as_v6(), "")?);
+    holds(&rt, !empty.contains_block(IpBlock::all()));
+    holds(&rt, !empty.intersects_block(IpBlock::all()));
     Ok(())
 }
 
@@ -140,126 +52,186 @@ fn the_empty_set(rt: HostRuntime) -> Result<(), Fail> {
 fn the_whole_set_contains_the_empty_one(rt: HostRuntime) -> Result<(), Fail> {
     let all = IpBlocks::all(rt.alloc())?;
     let empty = IpBlocks::empty();
-    assert!(rt; empty != all);
-    assert!(rt; all.contains(&empty) && !empty.contains(&all));
-    Ok(())
-}
-
-#[test]
-fn sets_of_blocks(rt: HostRuntime) -> Result<(), Fail> {
-    let (one, two) = (IpBlock::from_str("::4-::7")?, IpBlock::from_str("::1")?);
-    let set = IpBlocks::from_blocks(rt.alloc(), &[one, IpBlock::from_str("::9")?, two])?;
-    assert!(rt; prints_v6(rt.alloc(), &set, "::1, ::4/126, ::9")?);
-    let none: [IpBlock; 0] = [];
-    assert!(rt; IpBlocks::from_blocks(rt.alloc(), &none)?.is_empty());
+    holds(&rt, empty != all);
+    holds(&rt, all.contains(&empty));
+    holds(&rt, !empty.contains(&all));
     Ok(())
 }
 
 #[test]
 fn blocks_of_a_set(rt: HostRuntime) -> Result<(), Fail> {
     let set = IpBlocks::from_str(rt.alloc(), "::4-::7, ::9, ::1")?;
-    assert_eq!(rt; set.iter().count(), 3);
+    holds(&rt, set.iter().count() == 3);
     let mut last = Addr::from_bits(0);
     for block in set.iter() {
         assert!(rt; last < IpBlock::min(block) && matches!(block, IpBlock::Prefix(_)));
         last = IpBlock::max(block);
     }
-    assert!(rt; last == Addr::from_bits(9));
+    holds(&rt, last == Addr::from_bits(9));
     Ok(())
 }
 
 #[test]
 fn sets_shown_as_those_of_a_family(rt: HostRuntime) -> Result<(), Fail> {
     let set = IpBlocks::from_str(rt.alloc(), "::4-::7, ::9, ::1")?;
-    let shown = format!(in rt.alloc(); "{}", IpBlocksForFamily::v6(&set))?;
-    assert_eq!(rt; shown.as_str(), "::1, ::4/126, ::9");
-    let shown = format!(in rt.alloc(); "{}", IpBlocksForFamily::v4(&set))?;
-    assert_eq!(rt; shown.as_str(), "0.0.0.0/128, 0.0.0.0/126, 0.0.0.0/128");
+    holds(
+        &rt,
+        prints(
+            rt.alloc(),
+            &IpBlocksForFamily::v6(&set),
+            "::1, ::4/126, ::9",
+        )?,
+    );
+    let text = "0.0.0.0/128, 0.0.0.0/126, 0.0.0.0/128";
+    holds(&rt, prints(rt.alloc(), &IpBlocksForFamily::v4(&set), text)?);
     Ok(())
 }
 
+// A list, and whether its set is one of whole IPv4 addresses.
+const WHOLE: [(&str, bool); 11] = [
+    ("10.0.0.1-10.0.0.2, 10.0.0.7", true),
+    (
+        "10.20.0.0, 10.0.0.0/16, 10.30.0.0-10.30.0.255, 10.0.10.0/24",
+        true,
+    ),
+    ("255.255.255.255, 0.0.0.0-255.255.255.254", true),
+    ("2001:db8::/32, ::/0", true),
+    ("2001:db8::/32, fd00::/8", true),
+    ("2001:db8::/33", false),
+    ("::1-::2", false),
+    ("2001:db8::/32, fd00::1", false),
+    ("2001:db8::/33, 2001:db8:8000::/33", true),
+    ("a00::/8, c00::/32", true),
+    ("a00::/8, c00::/33", false),
+];
+
+fn is_whole(alloc: Global, list: &str) -> Result<bool, Fail> {
+    Ok(IpBlocks::from_str(alloc, list)?.is_whole_v4())
+}
+
 #[test]
-fn whole_sets(rt: HostRuntime) -> Result<(), Fail> {
-    for (list, whole) in [
-        ("10.0.0.1-10.0.0.2, 10.0.0.7", true),
-        ("2001:db8::/32, ::/0", true),
-        ("2001:db8::/32, fd00::/8", true),
-        ("2001:db8::/33", false),
-        ("::1-::2", false),
-        ("2001:db8::/32, fd00::1", false),
-        ("2001:db8::/33, 2001:db8:8000::/33", true),
-    ] {
-        let set = IpBlocks::from_str(rt.alloc(), list)?;
-        assert!(rt; set.is_whole_v4() == whole, "{list}");
+fn sets_of_whole_ipv4_addresses(rt: HostRuntime) -> Result<(), Fail> {
+    for (list, whole) in &WHOLE {
+        assert!(rt; is_whole(rt.alloc(), list)? == *whole, "{list}");
     }
     Ok(())
 }
 
-#[test]
-fn sets_that_contain_sets(rt: HostRuntime) -> Result<(), Fail> {
-    let set = IpBlocks::from_str(rt.alloc(), "10.0.0.0/16, 192.168.0.0/16")?;
-    for (list, within) in [
-        ("10.0.0.0/16, 192.168.0.0/16", true),
-        ("192.168.0.0/16", true),
-        ("10.0.0.0/17", true),
-        ("10.0.0.1-10.0.255.254", true),
-        ("", true),
-        ("9.9.9.255-10.0.255.255", false),
-        ("10.0.10.0-10.1.0.0", false),
-        ("9.9.9.255-10.1.0.0", false),
-        ("192.168.7.1, 172.16.0.0", false),
-    ] {
-        let other = IpBlocks::from_str(rt.alloc(), list)?;
-        assert!(rt; set.contains(&other) == within, "{list}");
-    }
-    let joined = IpBlocks::from_str(rt.alloc(), "10.0.0.0-10.0.0.10, 10.0.0.11-10.0.0.20")?;
-    let between = IpBlocks::from_str(rt.alloc(), "10.0.0.5-10.0.0.15")?;
-    assert!(rt; joined.contains(&between) && !between.contains(&joined));
-    Ok(())
+// A block, and whether the set has each of its addresses.
+const IN_SET: [(&str, bool); 10] = [
+    ("10.0.0.0/16", true),
+    ("10.0.7.0/24", true),
+    ("10.1.2.3", true),
+    ("10.1.2.0-10.1.3.7", true),
+    ("10.1.2.0-10.1.3.8", false),
+    ("10.0.255.255-10.1.2.0", false),
+    ("0.0.0.0/0", false),
+    ("10.1.0.0-10.1.1.255", false),
+    ("193.0.0.0/8", false),
+    ("9.255.255.255", false),
+];
+
+fn has_range(set: &IpBlocks, text: &str) -> Result<bool, Fail> {
+    let block = IpBlock::from_str(text)?;
+    Ok(set.contains_roa(AddressRange::new(IpBlock::min(&block), IpBlock::max(&block))))
 }
 
 #[test]
-fn sets_and_single_blocks(rt: HostRuntime) -> Result<(), Fail> {
+fn ranges_in_a_set(rt: HostRuntime) -> Result<(), Fail> {
     let set = IpBlocks::from_str(rt.alloc(), "10.0.0.0/16, 10.1.2.0-10.1.3.7, 192.168.0.0/16")?;
-    for (text, within, meets) in [
-        ("10.0.0.0/16", true, true),
-        ("10.0.7.0/24", true, true),
-        ("10.1.2.3", true, true),
-        ("10.1.2.0-10.1.3.7", true, true),
-        ("10.1.2.0-10.1.3.8", false, true),
-        ("10.0.255.255-10.1.2.0", false, true),
-        ("0.0.0.0/0", false, true),
-        ("10.1.0.0-10.1.1.255", false, false),
-        ("193.0.0.0/8", false, false),
-        ("9.255.255.255", false, false),
-    ] {
-        let block = IpBlock::from_str(text)?;
-        assert!(rt; set.contains_block(block) == within, "{text}");
-        assert!(rt; set.intersects_block(block) == meets, "{text}");
-        let range = AddressRange::new(IpBlock::min(&block), IpBlock::max(&block));
-        assert!(rt; set.contains_roa(range) == within, "{text}");
+    for (text, within) in &IN_SET {
+        assert!(rt; has_range(&set, text)? == *within, "{text}");
     }
-    let empty: IpBlocks = IpBlocks::empty();
-    assert!(rt; !empty.contains_block(IpBlock::all()));
-    assert!(rt; !empty.intersects_block(IpBlock::all()));
     Ok(())
 }
 
-// ---- builders
+// ---- operands stay as they were, whether or not the operation was refused memory
+
+const OWN: &str = "10.0.0.1-10.0.0.9, 10.0.0.20/30";
+
+const OTHER: &str = "10.0.0.5-10.0.0.21, 10.0.0.40";
+
+// An operation, and what is printed of what it gives.
+const OPERATIONS: [(u32, &str); 4] = [
+    (0, "10.0.0.1-10.0.0.23, 10.0.0.40"),
+    (1, "10.0.0.5-10.0.0.9, 10.0.0.20/31"),
+    (2, "10.0.0.1-10.0.0.4, 10.0.0.22/31"),
+    (3, OWN),
+];
+
+fn gives<A: Allocator + Copy>(
+    alloc: A,
+    operation: u32,
+    own: &IpBlocks<A>,
+    other: &IpBlocks<A>,
+) -> Result<IpBlocks<A>, AllocError> {
+    match operation {
+        0 => own.union(alloc, other),
+        1 => own.intersection(alloc, other),
+        2 => own.difference(alloc, other),
+        _ => own.clone(),
+    }
+}
+
+fn gives_so<A: Allocator + Copy>(
+    alloc: A,
+    operation: u32,
+    own: &IpBlocks<A>,
+    other: &IpBlocks<A>,
+    text: &str,
+) -> Result<bool, AllocError> {
+    let set = gives(alloc, operation, own, other)?;
+    prints(alloc, &set.as_v4(), text)
+}
+
+fn set<A: Allocator + Copy>(alloc: A, list: &str) -> Result<IpBlocks<A>, AllocError> {
+    match IpBlocks::from_str(alloc, list) {
+        Ok(set) => Ok(set),
+        Err(_) => Err(AllocError),
+    }
+}
+
+fn are_operands<A: Allocator + Copy>(
+    alloc: A,
+    own: &IpBlocks<A>,
+    other: &IpBlocks<A>,
+) -> Result<bool, AllocError> {
+    Ok(prints(alloc, &own.as_v4(), OWN)? && prints(alloc, &other.as_v4(), OTHER)?)
+}
+
+/// Whether an operation gives what it should and leaves both sets, whatever comes of it.
+fn leaves<A: Allocator + Copy>(
+    alloc: A,
+    operation: u32,
+    own: &IpBlocks<A>,
+    other: &IpBlocks<A>,
+    text: &str,
+) -> Result<bool, AllocError> {
+    let gives = gives_so(alloc, operation, own, other, text);
+    if are_operands(alloc, own, other)? {
+        gives
+    } else {
+        Ok(false)
+    }
+}
+
+fn leaves_operands<A: Allocator + Copy>(
+    alloc: A,
+    operation: u32,
+    text: &str,
+) -> Result<bool, AllocError> {
+    let own = set(alloc, OWN)?;
+    let other = set(alloc, OTHER)?;
+    leaves(alloc, operation, &own, &other, text)
+}
 
 #[test]
-fn builds_sets(rt: HostRuntime) -> Result<(), Fail> {
-    let mut builder = IpBlocksBuilder::new(rt.alloc());
-    builder.push(IpBlock::from_str("10.0.0.7")?)?;
-    builder.push(IpBlock::from_str("10.0.0.4-10.0.0.6")?)?;
-    let set = builder.finalize()?;
-    assert!(rt; prints_v4(rt.alloc(), &set, "10.0.0.4/30")?);
-    let mut builder = IpBlocksBuilder::new(rt.alloc());
-    let (one, two) = (IpBlock::from_str("::9")?, IpBlock::from_str("::2-::4")?);
-    builder.extend_from(&[one, two, IpBlock::from_str("::3-::8")?])?;
-    let set = builder.finalize()?;
-    assert!(rt; prints_v6(rt.alloc(), &set, "::2-::9")?);
-    let none = IpBlocksBuilder::new(rt.alloc()).finalize()?;
-    assert!(rt; none.is_empty());
-    Ok(())
+fn operands_stay_where_memory_is_refused(rt: HostRuntime) {
+    for (operation, text) in &OPERATIONS {
+        let is_so = holds_where_refused(
+            rt.alloc(),
+            |refusing: &Refusing| leaves_operands(refusing, *operation, text),
+        );
+        assert!(rt; is_so, "{text}");
+    }
 }

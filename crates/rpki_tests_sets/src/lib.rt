@@ -1,10 +1,18 @@
-//! What no clause says of sets of IP addresses, as tests: worked rows and vectors as tables, each public call once with
-//! ample memory, and each request for memory refused in turn.
+//! What no clause says of lists, chains and sets, and what no line of the program `rows` can say of them: iterators to their
+//! end, operands after a refusal, copies, sets of all and of no numbers, and calls that take no memory.
 #![tactic(auto)]
 
 #[cfg(test)]
-mod ip_memory;
+mod as_sets;
 #[cfg(test)]
-mod ip_operations;
+mod chains;
+#[cfg(test)]
+mod checks;
+#[cfg(test)]
+mod family_sets;
 #[cfg(test)]
 mod ip_sets;
+#[cfg(test)]
+mod lists;
+#[cfg(test)]
+mod small_sets;

@@ -1,5 +1,0 @@
-pub mod Answer
-pub mod Command
-pub mod Kinds
-pub mod Norm
-pub mod Shown

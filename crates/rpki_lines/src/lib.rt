@@ -6,11 +6,13 @@ ghost use Rattle.std.specs.String.{string_bytes};
 ghost use Rattle.rpki_lines.specs.Answer.{IsAnswer};
 
 mod command;
+mod cover;
 mod kind;
 mod norm;
 mod shown;
 
 use command::cut_word;
+use cover::cover;
 use norm::norm;
 use std::alloc::{AllocError, Allocator};
 
@@ -28,6 +30,7 @@ pub fn answer<A: Allocator + Copy>(alloc: A, line: &[u8]) -> Result<String<A>, A
     let (kind, argument) = cut_word(rest);
     match command {
         "norm" => norm(alloc, kind, argument),
+        "cover" => cover(alloc, kind, argument),
         _ => String::from_str(alloc, "error: unknown command"),
     }
 }

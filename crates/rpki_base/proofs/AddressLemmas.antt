@@ -44,7 +44,7 @@ IsDotted-ipv4 text octets h = record {
 }
 
 -- the last two groups of four octets
-two_groups : (text octets : List ℕ) (n : ℕ) → std.IsDotted text octets → from_octets octets ≡ n → segments_of octets ≡ (n / 0x10000) ∷ (n % 0x10000) ∷ []
+pub two_groups : (text octets : List ℕ) (n : ℕ) → std.IsDotted text octets → from_octets octets ≡ n → segments_of octets ≡ (n / 0x10000) ∷ (n % 0x10000) ∷ []
 two_groups text octets n h is =
     let value : (((0 + h.a) * 256 + h.b) * 256 + h.c) * 256 + h.d ≡ n = ap from_octets (sym h.value) ∙ is in
     let high : h.a * 256 + h.b ≡ n / 0x10000 = omega (arith, value, h.fit.0, h.fit.1, h.fit.2, h.fit.3) in

@@ -1,5 +1,6 @@
 pub mod AddressBytes
 pub mod AddressLemmas
+pub mod AddressReading
 pub mod AddressReads
 pub mod AsnLemmas
 pub mod CutLemmas
@@ -7,12 +8,15 @@ pub mod DerCursors
 pub mod DerReadings
 pub mod DerWriting
 pub mod DigitLemmas
+pub mod GroupReading
 pub mod ListLemmas
 pub mod NumberLemmas
 pub mod PrefixNumbers
+pub mod PrintLemmas
 pub mod PrintedAddressLemmas
 pub mod PrintedLemmas
 pub mod ReadingLemmas
 pub mod SmallSetLemmas
+pub mod Tables
 pub mod WalkLemmas
 pub mod WalkSizes

@@ -187,6 +187,15 @@ last_bits n = by_rest (n % 2 ^ 32) (n / 0x10000 % 0x10000) (n % 0x10000) (omega 
         let d : low % 256 ≡ r % 256 = omega (arith, down) in
         rw (a, b, c, d) (dotted_is _ _ _ _)
 
+-- the text of an address that is not mapped
+pub unmapped_is : (n : ℕ) → n < 2 ^ 128 → ¬ IsMapped n → ipv6_text n ≡ hex_groups_text (groups_of n)
+unfolding ipv6_text std_ipv6_text
+unmapped_is n small other = by_test (bytes_eq (take 6 (groups_of n)) (0 ∷ 0 ∷ 0 ∷ 0 ∷ 0 ∷ 0xffff ∷ [])) (bytes_eq-Decides (take 6 (groups_of n)) (0 ∷ 0 ∷ 0 ∷ 0 ∷ 0 ∷ 0xffff ∷ []))
+  where
+    by_test : (b : Bool) → Decides b (take 6 (groups_of n) ≡ 0 ∷ 0 ∷ 0 ∷ 0 ∷ 0 ∷ 0xffff ∷ []) → cond b (codes "::ffff:" ++ std.ipv4_text (std_octets_of (drop 6 (groups_of n)))) (hex_groups_text (groups_of n)) ≡ hex_groups_text (groups_of n)
+    by_test true h = absurd (other (first_six n small (h.0 refl)))
+    by_test false h = refl
+
 -- what std prints is printed so
 pub IsPrintedIpv6-ipv6_text : (n : ℕ) → n < 2 ^ 128 → IsPrintedIpv6 n (ipv6_text n)
 unfolding ipv6_text std_ipv6_text
@@ -236,3 +245,7 @@ IsPrintedIpv6-one n text other (inr (_, inl h)) (inr (_, inl k)) = one_shortened
 IsPrintedIpv6-one n text other (inr (_, inl h)) (inr (_, inr k)) = absurd (let few = k.no_two h.front h.n h.back h.chosen.run in omega (arith, few, h.two))
 IsPrintedIpv6-one n text other (inr (_, inr h)) (inr (_, inl k)) = absurd (let few = h.no_two k.front k.n k.back k.chosen.run in omega (arith, few, k.two))
 IsPrintedIpv6-one n text other (inr (_, inr h)) (inr (_, inr k)) = h.spelled ∙ sym k.spelled
+
+-- the text of an address that is mapped
+pub mapped_is : (n : ℕ) → n < 2 ^ 128 → IsMapped n → ipv6_text n ≡ codes "::ffff:" ++ ipv4_text (n % 2 ^ 32)
+mapped_is n small mapped = IsPrintedIpv6-one n _ _ (IsPrintedIpv6-ipv6_text n small) (inl (mapped, refl))

@@ -1,3 +1,4 @@
+pub mod AddressReading
 pub mod AddressText
 pub mod AsnDer
 pub mod AsnText
@@ -6,6 +7,7 @@ pub mod DerReading
 pub mod DerViews
 pub mod DerWriting
 pub mod Digits
+pub mod GroupsRead
 pub mod Lists
 pub mod Memory
 pub mod Numbers

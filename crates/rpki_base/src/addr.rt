@@ -5,6 +5,8 @@ ghost use Rattle.rpki_base.specs.ReadsAddress.{address_fault_text};
 ghost use Rattle.rpki_base.specs.declared.addr.IpAddr.TheVariants.{V4 as the_v4, V6 as the_v6};
 
 mod groups;
+mod print;
+mod read;
 mod text;
 
 use groups::split_groups;

@@ -1,6 +1,6 @@
 //! The bits of an IPv6 address as groups.
 ghost use Rattle.std.specs.Prelude.{◌≡◌, ◌/◌, ◌%◌};
-ghost use Rattle.rpki_base.specs.Digits.{groups_of, from_groups};
+ghost use Rattle.rpki_base.specs.Digits.{groups_of};
 
 /// The bits before the last group, and the last group.
 fn split_group(bits: u128) -> (u128, u16)
@@ -23,15 +23,4 @@ pub(crate) fn split_groups(bits: u128) -> [u16; 8]
     let (bits, b) = split_group(bits);
     let (_, a) = split_group(bits);
     [a, b, c, d, e, f, g, h]
-}
-
-/// The address of these groups.
-pub(crate) fn join_groups(groups: [u16; 8]) -> u128
-    ensures { result ≡ from_groups groups }
-{
-    let mut bits: u128 = 0;
-    for group in &groups {
-        bits = bits * 0x10000 + u128::from(*group);
-    }
-    bits
 }

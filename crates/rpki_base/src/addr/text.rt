@@ -1,20 +1,13 @@
 //! Texts of addresses, read and printed.
 ghost use Rattle.std.specs.Prelude.{◌≡◌, Some};
-ghost use Rattle.rpki_base.specs.Digits.{from_octets};
 ghost use Rattle.rpki_base.specs.PrintedAddress.{ipv4_text, ipv6_text, ip_text};
 ghost use Rattle.rpki_base.specs.ReadsAddress.{ReadsIpv4, ReadsIpv6, ReadsIp};
 
-use super::groups::{join_groups, split_groups};
+use super::print::{IPV4_ROOM, IPV6_ROOM, put_ipv4, put_ipv6};
+use super::read::{ipv4_of, ipv6_of};
 use super::{AddrParseError, IpAddr, Ipv4Addr, Ipv6Addr};
 use std::str::FromStr;
-use std::{fmt, net};
-
-/// The address of these octets.
-fn join_octets(octets: [u8; 4]) -> u32
-    ensures { result ≡ from_octets octets }
-{
-    u32::from_be_bytes(octets)
-}
+use std::{fmt, str};
 
 /// Reads four decimals with dots between them, each 0 to 255 without leading zeros (RFC 4291, section 2.2).
 ///
@@ -25,9 +18,9 @@ impl FromStr for Ipv4Addr {
     ghost from_str_gives = { ReadsIpv4 };
 
     fn from_str(text: &str) -> Result<Ipv4Addr, AddrParseError> {
-        match net::Ipv4Addr::from_str(text) {
-            Ok(address) => Ok(Ipv4Addr(join_octets(address.octets()))),
-            Err(_) => Err(AddrParseError::Ipv4),
+        match ipv4_of(text.as_bytes()) {
+            Some(bits) => Ok(Ipv4Addr(bits)),
+            None => Err(AddrParseError::Ipv4),
         }
     }
 }
@@ -43,9 +36,9 @@ impl FromStr for Ipv6Addr {
     ghost from_str_gives = { ReadsIpv6 };
 
     fn from_str(text: &str) -> Result<Ipv6Addr, AddrParseError> {
-        match net::Ipv6Addr::from_str(text) {
-            Ok(address) => Ok(Ipv6Addr(join_groups(address.segments()))),
-            Err(_) => Err(AddrParseError::Ipv6),
+        match ipv6_of(text.as_bytes()) {
+            Some(bits) => Ok(Ipv6Addr(bits)),
+            None => Err(AddrParseError::Ipv6),
         }
     }
 }
@@ -72,8 +65,11 @@ impl fmt::Display for Ipv4Addr {
     ghost output = { λ address. Some (ipv4_text address) };
 
     fn fmt<W: fmt::Write>(&self, f: &mut fmt::Formatter<W>) -> fmt::Result {
-        let [a, b, c, d] = self.octets();
-        write!(f, "{a}.{b}.{c}.{d}")
+        let mut out = [0; IPV4_ROOM];
+        let end = put_ipv4(&mut out, 0, self.octets());
+        // The bytes are ASCII, so they are a text.
+        let text = str::from_utf8(&out[..end]).map_err(|_| fmt::Error)?;
+        f.write_str(text)
     }
 }
 
@@ -82,10 +78,12 @@ impl fmt::Display for Ipv4Addr {
 impl fmt::Display for Ipv6Addr {
     ghost output = { λ address. Some (ipv6_text address) };
 
-    #[tactic(auto, unfolding(crate::specs::PrintedAddress::ipv6_text))]
     fn fmt<W: fmt::Write>(&self, f: &mut fmt::Formatter<W>) -> fmt::Result {
-        let address = net::Ipv6Addr::from_segments(split_groups(self.0));
-        write!(f, "{address}")
+        let mut out = [0; IPV6_ROOM];
+        let end = put_ipv6(&mut out, self.0);
+        // The bytes are ASCII, so they are a text.
+        let text = str::from_utf8(&out[..end]).map_err(|_| fmt::Error)?;
+        f.write_str(text)
     }
 }
 

@@ -13,13 +13,7 @@ use Rattle.rpki_base.specs.declared.asn.ParseAsnError.{ParseAsnError}
 use Rattle.std.proofs.Math.Seq.{take-append_seam}
 use Rattle.rpki_base.specs.Numbers.{IsNumberText}
 use Rattle.rpki_base.specs.AsnText.{IsAsnText, IsAsAnd, IsAfterAs, asn_text, ReadsAsn}
-
--- fronts of one length leave the same rest
-pub same_rest : (xs ys rest other : List ℕ) → length xs ≡ length ys → xs ++ rest ≡ ys ++ other → rest ≡ other
-same_rest [] [] rest other l e = e
-same_rest [] (y ∷ ys) rest other l e = absurd (omega (arith, l))
-same_rest (x ∷ xs) [] rest other l e = absurd (omega (arith, l))
-same_rest (x ∷ xs) (y ∷ ys) rest other l e = let tail : xs ++ rest ≡ ys ++ other = cc in same_rest xs ys rest other (omega (arith, l)) tail
+use Rattle.rpki_base.proofs.CutLemmas.{same_rest}
 
 -- lower case keeps the length
 length_lower : (letters : List ℕ) → length (str_to_ascii_lowercase letters) ≡ length letters

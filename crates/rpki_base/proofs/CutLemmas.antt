@@ -1,5 +1,5 @@
 -- On texts cut at a byte: a text without the byte isn't cut, and a text is cut in one way.
-use Rattle.std.proofs.Common.{◌≡◌, ℕ, suc, List, [], ◌∷◌, ◌++◌, arith, refl, sym, ◌∙◌, subst}
+use Rattle.std.proofs.Common.{◌≡◌, ℕ, suc, List, [], ◌∷◌, ◌++◌, length, arith, refl, sym, ◌∙◌, subst}
 use Rattle.rpki_base.specs.Cuts.{HasNo, IsCutAt, Around}
 
 byte_apart : (b : ℕ) (left right : List ℕ) → HasNo b (left ++ b ∷ right) → ⊥
@@ -28,3 +28,10 @@ pub around_at : (b : ℕ) (text left right : List ℕ) (P : List ℕ → List �
 around_at b text left right P cut h =
     let same = one_cut b h.left h.right left right h.cut.first cut.first (sym h.cut.split ∙ cut.split) in
     subst (λ l. P l right) same.0 (subst (λ r. P h.left r) same.1 h.holds)
+
+-- fronts of one length leave the same rest
+pub same_rest : (xs ys rest other : List ℕ) → length xs ≡ length ys → xs ++ rest ≡ ys ++ other → rest ≡ other
+same_rest [] [] rest other l e = e
+same_rest [] (y ∷ ys) rest other l e = absurd (omega (arith, l))
+same_rest (x ∷ xs) [] rest other l e = absurd (omega (arith, l))
+same_rest (x ∷ xs) (y ∷ ys) rest other l e = let tail : xs ++ rest ≡ ys ++ other = cc in same_rest xs ys rest other (omega (arith, l)) tail

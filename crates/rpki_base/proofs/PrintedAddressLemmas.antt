@@ -14,7 +14,7 @@ use Rattle.std.proofs.lemmas.Slice.Eq.{bytes_eq-Decides}
 use Rattle.rpki_base.specs.Digits.{last_digits, groups_of}
 use Rattle.rpki_base.specs.PrintedAddress.{ipv4_text, hex_text, groups_text, HasZeroRun, IsFirstLongestRun, IsShortened, IsUnshortened, IsMapped, IsPrintedIpv6, ipv6_text}
 use Rattle.rpki_base.proofs.AddressLemmas.{dotted_is}
-use Rattle.rpki_base.proofs.AsnLemmas.{same_rest}
+use Rattle.rpki_base.proofs.CutLemmas.{same_rest}
 use Rattle.rpki_base.proofs.DigitLemmas.{number-last_digits, last_digits_below}
 
 -- a group in hexadecimal, as std writes it

@@ -62,7 +62,7 @@ fn read_digits(limit: u64, digits: &[u8]) -> Result<u64, ParseIntError>
 }
 
 /// The number that a text writes, at most the limit.
-pub(crate) fn parse_up_to(limit: u64, text: &[u8]) -> Result<u64, ParseIntError>
+pub fn parse_up_to(limit: u64, text: &[u8]) -> Result<u64, ParseIntError>
     requires { limit < 2 ^ 32 }
     ensures { Answers (IsNumberText limit text.now) (HasNumberFault limit text.now) result }
 {

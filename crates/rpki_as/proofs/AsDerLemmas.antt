@@ -21,8 +21,8 @@ use Rattle.rpki_der.proofs.Written.{length-header, u32_is, value_is}
 use Rattle.rpki_base.specs.AsnDer.{as_number_octets}
 use Rattle.rpki_base.specs.DerReading.{IsSequenceOf}
 use Rattle.rpki_base.specs.DerViews.{ReadsOrMemory, TakesSaidOrMemory}
-use Rattle.rpki_base.specs.Memory.{IsMemory}
-use Rattle.rpki_base.specs.declared.memory.OrMemory.{OrMemory}
+use Rattle.rpki_text.specs.Memory.{IsMemory}
+use Rattle.rpki_text.specs.declared.memory.OrMemory.{OrMemory}
 use Rattle.rpki_base.proofs.DerCursors.{reads_said_by, takes_said}
 use Rattle.rpki_base.proofs.DerReadings.{sequence_reading}
 use Rattle.rpki_base.proofs.DerWriting.{sequence_written, written_alike}

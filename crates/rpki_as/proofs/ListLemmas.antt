@@ -4,14 +4,14 @@ use Rattle.std.specs.Int.{IsInRange}
 use Rattle.std.specs.List.{All, AllByRecursion}
 use Rattle.std.proofs.lemmas.List.Elements.{All-head, All-tail}
 use Rattle.rpki_base.specs.AsnText.{asn_text}
-use Rattle.rpki_base.specs.Cuts.{dash}
-use Rattle.rpki_base.specs.Lists.{elements, HaveValues}
-use Rattle.rpki_base.specs.Memory.{IfRefused}
-use Rattle.rpki_base.specs.Reading.{AnswersOrMemory}
-use Rattle.rpki_base.specs.declared.memory.OrMemory.{OrMemory}
+use Rattle.rpki_text.specs.Cuts.{dash}
+use Rattle.rpki_text.specs.Lists.{elements, HaveValues}
+use Rattle.rpki_text.specs.Memory.{IfRefused}
+use Rattle.rpki_text.specs.Reading.{AnswersOrMemory}
+use Rattle.rpki_text.specs.declared.memory.OrMemory.{OrMemory}
 use Rattle.rpki_base.proofs.AsnLemmas.{asn_text_bytes}
-use Rattle.rpki_base.proofs.ListLemmas.{AnswersOrMemory-from_found, HaveValues-one, first_fault_apart, same_first_fault}
-use Rattle.rpki_base.proofs.PrintedLemmas.{IsShown, IsElement, elements-joined}
+use Rattle.rpki_text.proofs.ListLemmas.{AnswersOrMemory-from_found, HaveValues-one, first_fault_apart, same_first_fault}
+use Rattle.rpki_text.proofs.PrintedLemmas.{IsShown, IsElement, elements-joined}
 use Rattle.rpki_chain.specs.Sets.{Covers}
 use Rattle.rpki_chain.specs.Runs.{Runs, IsRunsOfBlocks}
 use Rattle.rpki_chain.proofs.RunLists.{IsRunsOf-unique, IsRunsOfBlocks-bounds}

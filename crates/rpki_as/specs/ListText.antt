@@ -1,6 +1,6 @@
 -- Texts of sets of AS numbers.
 use Rattle.std.specs.Prelude.{ℕ, List, map}
-use Rattle.rpki_base.specs.Lists.{elements, joined, HaveValues, HasFirstFault}
+use Rattle.rpki_text.specs.Lists.{elements, joined, HaveValues, HasFirstFault}
 use Rattle.rpki_chain.specs.Runs.{Runs, IsSetOfBlocks}
 use Rattle.rpki_as.specs.Blocks.{as_bounds, new_as_block}
 use Rattle.rpki_as.specs.BlockText.{IsBlockText, HasBlockFault, block_text}

@@ -1,8 +1,8 @@
 //! Sets of AS numbers.
 ghost use Rattle.std.specs.Prelude.{◌≡◌, ℕ, ◌↔◌, ◌⊎◌, [], ◌∷◌, IsTrue, IfOk, OnOk, OnErr, Some, map, MatchResult};
 ghost use Rattle.std.specs.Slice.Iter.{iter_rest};
-ghost use Rattle.rpki_base.specs.Memory.{IsMemory};
-ghost use Rattle.rpki_base.specs.Reading.{AnswersOrMemory};
+ghost use Rattle.rpki_text.specs.Memory.{IsMemory};
+ghost use Rattle.rpki_text.specs.Reading.{AnswersOrMemory};
 ghost use Rattle.rpki_chain.specs.Equality.{same_runs, runs_per, runs_equiv};
 ghost use Rattle.rpki_chain.specs.Runs.{Runs, Holds, IsRunsOf, IsRunsOfBlocks};
 ghost use Rattle.rpki_as.specs.Blocks.{as_bounds, new_as_block, IsAsSet};

@@ -9,13 +9,13 @@ use Rattle.std.proofs.NetLemmas.Alphabet.{IsDigitOrDot, All-ipv4_text, All-hex_g
 use Rattle.std.proofs.NetLemmas.Texts.{AllSegments, AllSegments-drop}
 use Rattle.std.proofs.lemmas.Bool.{cond_both}
 use Rattle.std.proofs.lemmas.List.Elements.{All-weaker, All-append, All-from_recursion}
-use Rattle.rpki_base.specs.Cuts.{HasNo, slash, dash}
-use Rattle.rpki_base.specs.Digits.{octets_of, groups_of}
+use Rattle.rpki_text.specs.Cuts.{HasNo, slash, dash}
+use Rattle.rpki_text.specs.Digits.{octets_of, groups_of}
 use Rattle.rpki_base.specs.PrintedAddress.{ipv4_text, ipv6_text, ip_text}
 use Rattle.rpki_base.specs.declared.addr.IpAddr.{IpAddr}
 use Rattle.rpki_base.specs.declared.addr.IpAddr.TheVariants.{V4, V6}
 use Rattle.rpki_base.proofs.AddressLemmas.{dotted_is}
-use Rattle.rpki_base.proofs.DigitLemmas.{last_digit_below}
+use Rattle.rpki_text.proofs.DigitLemmas.{last_digit_below}
 
 -- a dot, a decimal digit or a colon, or a letter from `a` to `f`
 abbrev pub IsAddressByte : ℕ → Type 0

@@ -5,8 +5,8 @@ use Rattle.std.proofs.lemmas.List.{append-nil}
 use Rattle.std.specs.Net.Addr.{segments_of}
 use Rattle.std.specs.Net.Grammar as std
 use Rattle.std.specs.Net.Text.{dotted_text}
-use Rattle.rpki_base.specs.Digits.{from_octets}
-use Rattle.rpki_base.specs.Lists.{joined_by, HaveValues}
+use Rattle.rpki_text.specs.Digits.{from_octets}
+use Rattle.rpki_text.specs.Lists.{joined_by, HaveValues}
 use Rattle.rpki_base.specs.AddressText.{dotted, IsIpv4Text, IsGroupText, AreGroups, AreGroupsAndIpv4, AreGroupsAtEnd, IsGroupsText}
 
 -- four decimals with dots between them, as std writes them

@@ -10,7 +10,7 @@ use Rattle.std.proofs.lemmas.Int.Digits.{digits_value-lt}
 use Rattle.std.proofs.Math.Nat.{pow-le-pow_right}
 use Rattle.std.proofs.lemmas.Bool.{cases_lt}
 use Rattle.std.proofs.NetLemmas.Ipv6.{read_ipv6_sound, read_ipv6_complete, EndsGroups-nil}
-use Rattle.rpki_base.specs.Digits.{from_octets, from_groups}
+use Rattle.rpki_text.specs.Digits.{from_octets, from_groups}
 use Rattle.rpki_base.specs.AddressReading.{with_octets, with_number}
 use Rattle.rpki_base.proofs.PrintLemmas.{decimal_two, decimal_three}
 use Rattle.std.specs.Char.{digit_value}

@@ -7,7 +7,7 @@ use Rattle.std.specs.Net.Grammar as std
 use Rattle.std.proofs.NetLemmas.Ipv6.{IsDotted-not_colon_hex}
 use Rattle.std.proofs.NetLemmas.Theorems.{IsIpv4Text_unique, IsIpv6Text_unique}
 use Rattle.std.proofs.NetLemmas.Texts.{IsColonHex-ipv6_text}
-use Rattle.rpki_base.specs.Digits.{groups_of, from_groups, octets_of, from_octets}
+use Rattle.rpki_text.specs.Digits.{groups_of, from_groups, octets_of, from_octets}
 use Rattle.rpki_base.specs.declared.addr.AddrParseError.TheVariants.{Ipv4, Ipv6}
 use Rattle.rpki_base.specs.declared.addr.IpAddr.{IpAddr}
 use Rattle.rpki_base.specs.declared.addr.IpAddr.TheVariants.{V4, V6}
@@ -15,7 +15,7 @@ use Rattle.rpki_base.specs.AddressText.{IsIpv4Text, IsIpv6Text, IsIpText}
 use Rattle.rpki_base.specs.PrintedAddress.{ipv4_text, ipv6_text, ip_text}
 use Rattle.rpki_base.specs.ReadsAddress.{ReadsIpv4, ReadsIpv6, ReadsIp, IsAddress}
 use Rattle.rpki_base.proofs.AddressLemmas.{IsIpv4Text-dotted, IsDotted-ipv4, IsGroupsText-colon_hex, IsColonHex-groups}
-use Rattle.rpki_base.proofs.DigitLemmas.{number-last_digits, length-last_digits, last_digits_below, last_digit_below}
+use Rattle.rpki_text.proofs.DigitLemmas.{number-last_digits, length-last_digits, last_digits_below, last_digit_below}
 
 -- a text writes one IPv4 address at most
 pub IsIpv4Text-one : (text : List ℕ) (m n : ℕ) → IsIpv4Text text m → IsIpv4Text text n → m ≡ n

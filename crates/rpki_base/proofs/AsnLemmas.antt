@@ -11,9 +11,9 @@ use Rattle.std.proofs.lemmas.Str.Ascii.{lowercase_is}
 use Rattle.std.proofs.lemmas.Bool.{cases_lt}
 use Rattle.rpki_base.specs.declared.asn.ParseAsnError.{ParseAsnError}
 use Rattle.std.proofs.Math.Seq.{take-append_seam}
-use Rattle.rpki_base.specs.Numbers.{IsNumberText}
+use Rattle.rpki_text.specs.Numbers.{IsNumberText}
 use Rattle.rpki_base.specs.AsnText.{IsAsnText, IsAsAnd, IsAfterAs, asn_text, ReadsAsn}
-use Rattle.rpki_base.proofs.CutLemmas.{same_rest}
+use Rattle.rpki_text.proofs.CutLemmas.{same_rest}
 
 -- lower case keeps the length
 length_lower : (letters : List ℕ) → length (str_to_ascii_lowercase letters) ≡ length letters

@@ -9,11 +9,11 @@ use Rattle.rpki_der.specs.Views.{ReadsOptional, Takes, left}
 use Rattle.rpki_der.proofs.Cursors.{none_by, reads_optional_by}
 use Rattle.rpki_der.proofs.Lists.{as_some, some_is, some_err}
 use Rattle.rpki_der.proofs.Steps.{ok_is, ok_or_err}
-use Rattle.rpki_base.specs.declared.memory.OrMemory.{OrMemory}
-use Rattle.rpki_base.specs.declared.memory.OrMemory.TheVariants.{Refused, Memory}
+use Rattle.rpki_text.specs.declared.memory.OrMemory.{OrMemory}
+use Rattle.rpki_text.specs.declared.memory.OrMemory.TheVariants.{Refused, Memory}
 use Rattle.rpki_base.specs.DerReading.{begins_with, if_tagged}
 use Rattle.rpki_base.specs.DerViews.{ReadsOrMemory, ReadsTagged, TakesOrMemory, TakesSaidOrMemory}
-use Rattle.rpki_base.specs.Memory.{IsMemory}
+use Rattle.rpki_text.specs.Memory.{IsMemory}
 
 -- a take that may want memory
 pub reads_or_memory_by : {X Y : Type 0} (G : List ℕ → Y → Type 0) (reading : List ℕ → Result (Y × List ℕ) DerError) (view : X → Y) (old new : Cursor) (result : Result X (OrMemory DerError))

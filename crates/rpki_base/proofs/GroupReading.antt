@@ -12,12 +12,12 @@ use Rattle.std.proofs.NetLemmas.Ipv4.{read_ipv4_sound}
 use Rattle.std.specs.Int.Digits.{number_from_digits_after}
 use Rattle.std.specs.Net.Addr.{segments_of}
 use Rattle.std.specs.Net.Reader.{Read, Segments, read_byte, read_ipv4, read_ipv4_if, read_segment, read_separator, read_segments, read_tail, read_ipv6, after}
-use Rattle.rpki_base.specs.Digits.{from_groups, from_octets}
+use Rattle.rpki_text.specs.Digits.{from_groups, from_octets}
 use Rattle.rpki_base.specs.AddressReading.{numbered, with_number, with_octets}
 use Rattle.rpki_base.specs.GroupsRead.{IsSoFar, parts}
 use Rattle.rpki_base.specs.declared.addr.read.Groups.{Groups}
 use Rattle.rpki_base.proofs.AddressLemmas.{two_groups}
-use Rattle.rpki_base.proofs.DigitLemmas.{next_below, below_power}
+use Rattle.rpki_text.proofs.DigitLemmas.{next_below, below_power}
 
 -- groups behind others, as numbers
 number_after_is : (n : ℕ) (ys : List ℕ) → number_from_digits_after 0x10000 n ys ≡ n * 0x10000 ^ length ys + from_groups ys

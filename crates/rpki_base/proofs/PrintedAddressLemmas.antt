@@ -11,11 +11,11 @@ use Rattle.std.proofs.lemmas.Bool.{cases_lt, cases_eq, lt-leb}
 use Rattle.std.proofs.lemmas.Nat.{div_below}
 use Rattle.std.proofs.lemmas.List.{append_cancel_left}
 use Rattle.std.proofs.lemmas.Slice.Eq.{bytes_eq-Decides}
-use Rattle.rpki_base.specs.Digits.{last_digits, groups_of}
+use Rattle.rpki_text.specs.Digits.{last_digits, groups_of}
 use Rattle.rpki_base.specs.PrintedAddress.{ipv4_text, hex_text, groups_text, HasZeroRun, IsFirstLongestRun, IsShortened, IsUnshortened, IsMapped, IsPrintedIpv6, ipv6_text}
 use Rattle.rpki_base.proofs.AddressLemmas.{dotted_is}
-use Rattle.rpki_base.proofs.CutLemmas.{same_rest}
-use Rattle.rpki_base.proofs.DigitLemmas.{number-last_digits, last_digits_below}
+use Rattle.rpki_text.proofs.CutLemmas.{same_rest}
+use Rattle.rpki_text.proofs.DigitLemmas.{number-last_digits, last_digits_below}
 
 -- a group in hexadecimal, as std writes it
 hex_is : (g : ℕ) → g < 0x10000 → hex g ≡ hex_text g

@@ -2,7 +2,7 @@
 use Rattle.std.specs.Prelude.{ℕ, List, Bool, length, nat_lt, if◌then◌else◌}
 use Rattle.std.specs.Char.{digit_value}
 use Rattle.std.specs.Net.Reader.{Segments}
-use Rattle.rpki_base.specs.Digits.{from_groups, from_octets}
+use Rattle.rpki_text.specs.Digits.{from_groups, from_octets}
 
 -- the groups that were read as one number, how many they are, whether they end in an IPv4 text, and what follows them
 abbrev pub numbered : Segments → ℕ × ℕ × Bool × List ℕ

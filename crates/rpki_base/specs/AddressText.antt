@@ -2,8 +2,8 @@
 use Rattle.std.specs.Prelude.{◌≡◌, ℕ, ◌-◌, ◌+◌, ◌/◌, ◌%◌, ◌≤◌, ◌⊎◌, List, [], ◌∷◌, ◌++◌, length, map, replicate, codes, decimal}
 use Rattle.std.specs.Int.Digits.{AllBelowBase}
 use Rattle.std.specs.Str.Parse.{IsNumeral, digits_value}
-use Rattle.rpki_base.specs.Digits.{from_octets, from_groups}
-use Rattle.rpki_base.specs.Lists.{joined_by, HaveValues}
+use Rattle.rpki_text.specs.Digits.{from_octets, from_groups}
+use Rattle.rpki_text.specs.Lists.{joined_by, HaveValues}
 use Rattle.rpki_base.specs.declared.addr.IpAddr.{IpAddr}
 use Rattle.rpki_base.specs.declared.addr.IpAddr.TheVariants.{V4, V6}
 

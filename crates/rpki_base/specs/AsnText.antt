@@ -2,8 +2,8 @@
 use Rattle.std.specs.Prelude.{◌≡◌, ℕ, ◌-◌, ◌^◌, ◌<◌, ◌⊎◌, List, [], ◌++◌, Result, Ok, codes, decimal}
 use Rattle.std.specs.Str.{str_to_ascii_lowercase}
 use Rattle.rpki_base.specs.declared.asn.ParseAsnError.{ParseAsnError}
-use Rattle.rpki_base.specs.Numbers.{IsNumberText}
-use Rattle.rpki_base.specs.Reading.{Answers}
+use Rattle.rpki_text.specs.Numbers.{IsNumberText}
+use Rattle.rpki_text.specs.Reading.{Answers}
 
 -- nothing, or `as` in any case of letters
 abbrev pub IsAsLetters : List ℕ → Type 0

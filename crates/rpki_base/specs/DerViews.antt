@@ -4,8 +4,8 @@ use Rattle.rpki_der.specs.declared.cursor.Cursor.{Cursor}
 use Rattle.rpki_der.specs.declared.error.DerError.{DerError}
 use Rattle.rpki_der.specs.Der.{Front, NoFront}
 use Rattle.rpki_der.specs.Views.{left}
-use Rattle.rpki_base.specs.declared.memory.OrMemory.{OrMemory}
-use Rattle.rpki_base.specs.Memory.{IfRefused}
+use Rattle.rpki_text.specs.declared.memory.OrMemory.{OrMemory}
+use Rattle.rpki_text.specs.Memory.{IfRefused}
 use Rattle.rpki_base.specs.DerReading.{begins_with}
 
 -- what a call answered, seen by view, is what reading gives, its fault too; want of memory says nothing

@@ -1,7 +1,7 @@
 -- How far a reader of groups has come.
 use Rattle.std.specs.Prelude.{◌≡◌, ℕ, ◌-◌, ◌^◌, ◌<◌, ◌≤◌, ◌==◌, Bool, true, List, length, if◌then◌else◌}
 use Rattle.std.specs.Net.Reader.{Segments, after, read_segments}
-use Rattle.rpki_base.specs.Digits.{from_groups}
+use Rattle.rpki_text.specs.Digits.{from_groups}
 use Rattle.rpki_base.specs.declared.addr.read.Groups.{Groups}
 
 -- what is known of groups that were read: their number, how many they are, whether an IPv4 text closes them, what follows

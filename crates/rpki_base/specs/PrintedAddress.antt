@@ -3,8 +3,8 @@ use Rattle.std.specs.Prelude.{◌≡◌, ℕ, ◌/◌, ◌%◌, ◌^◌, ◌≤�
 use Rattle.std.specs.Char.{digit_char}
 use Rattle.std.specs.Net.Text as std
 use Rattle.rpki_base.specs.AddressText.{dotted}
-use Rattle.rpki_base.specs.Digits.{last_digits, octets_of, groups_of}
-use Rattle.rpki_base.specs.Lists.{joined_by}
+use Rattle.rpki_text.specs.Digits.{last_digits, octets_of, groups_of}
+use Rattle.rpki_text.specs.Lists.{joined_by}
 use Rattle.rpki_base.specs.declared.addr.IpAddr.{IpAddr}
 use Rattle.rpki_base.specs.declared.addr.IpAddr.TheVariants.{V4, V6}
 

@@ -2,7 +2,7 @@
 use Rattle.std.specs.Prelude.{◌≡◌, ℕ, ◌^◌, ◌<◌, List, Result, Ok, codes}
 use Rattle.rpki_base.specs.AddressText.{IsIpv4Text, IsIpv6Text, IsIpText}
 use Rattle.rpki_base.specs.PrintedAddress.{ipv4_text, ipv6_text, ip_text}
-use Rattle.rpki_base.specs.Reading.{Answers}
+use Rattle.rpki_text.specs.Reading.{Answers}
 use Rattle.rpki_base.specs.declared.addr.AddrParseError.{AddrParseError}
 use Rattle.rpki_base.specs.declared.addr.AddrParseError.TheVariants.{Ipv4, Ipv6, Ip}
 use Rattle.rpki_base.specs.declared.addr.IpAddr.{IpAddr}

@@ -1,6 +1,6 @@
 //! IP addresses: IPv4, IPv6, and either.
 ghost use Rattle.std.specs.Prelude.{◌≡◌, ◌↔◌, IsTrue, Some};
-ghost use Rattle.rpki_base.specs.Digits.{octets_of, groups_of};
+ghost use Rattle.rpki_text.specs.Digits.{octets_of, groups_of};
 ghost use Rattle.rpki_base.specs.ReadsAddress.{address_fault_text};
 ghost use Rattle.rpki_base.specs.declared.addr.IpAddr.TheVariants.{V4 as the_v4, V6 as the_v6};
 

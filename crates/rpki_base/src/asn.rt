@@ -1,11 +1,11 @@
 //! AS numbers and their texts.
 ghost use Rattle.std.specs.Prelude.{◌≡◌, ◌+◌, ◌^◌, ◌<◌, codes, Some};
 ghost use Rattle.rpki_base.specs.AsnText.{IsAfterAs, ReadsAsn, asn_text};
-ghost use Rattle.rpki_base.specs.Digits.{octets_of};
+ghost use Rattle.rpki_text.specs.Digits.{octets_of};
 
 mod der;
 
-use crate::number::parse_up_to;
+use rpki_text::number::parse_up_to;
 use std::error::Error;
 use std::fmt;
 use std::marker::Model;
@@ -113,7 +113,7 @@ fn after_as(text: &[u8]) -> &[u8]
 }
 
 /// Reads an optional `as` in any case of letters, and then the decimal text of a `u32`, as
-/// [`crate::number::parse_u32`] does.
+/// [`rpki_text::number::parse_u32`] does.
 impl FromStr for Asn {
     type Err = ParseAsnError;
 

@@ -6,9 +6,6 @@ pub mod addr;
 pub mod asn;
 pub mod der;
 pub mod laws;
-pub mod list;
-pub mod memory;
-pub mod number;
 pub mod small_set;
 
 pub use addr::{AddrParseError, IpAddr, Ipv4Addr, Ipv6Addr};
@@ -16,3 +13,6 @@ pub use asn::{Asn, ParseAsnError};
 pub use memory::OrMemory;
 pub use number::ParseIntError;
 pub use small_set::SmallAsnSet;
+
+/// Texts, which stand in a crate of their own below this one.
+pub use rpki_text::{list, memory, number};

@@ -78,7 +78,7 @@ impl<'a, T: Block> Chain<'a, T> {
 
 impl<T: Block> Chain<'_, T> {
     ghost use Rattle.std.specs.Prelude.{ℕ, ◌+◌, ◌≤◌, ◌↔◌, length, IsTrue, IsOk, IfOk, IfErr};
-    ghost use Rattle.rpki_base.specs.Memory.{IfRefused};
+    ghost use Rattle.rpki_text.specs.Memory.{IfRefused};
     ghost use Rattle.rpki_chain.specs.Sets.{IsWithin, Covers, IsInside, IsChainOf};
     ghost use Rattle.rpki_chain.specs.View.{chain_blocks};
 

@@ -1,6 +1,6 @@
 //! Whether a chain lies in another, and what of it does.
 ghost use Rattle.std.specs.Prelude.{◌≡◌, ◌+◌, ◌≤◌, ◌↔◌, length, IsTrue, IsOk, IfErr};
-ghost use Rattle.rpki_base.specs.Memory.{IfRefused};
+ghost use Rattle.rpki_text.specs.Memory.{IfRefused};
 ghost use Rattle.rpki_chain.specs.Sets.{Covers, IsInside, IsChainOf};
 
 use crate::block::Block;

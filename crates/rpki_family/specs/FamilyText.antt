@@ -1,6 +1,6 @@
 -- Texts of blocks of a family.
 use Rattle.std.specs.Prelude.{◌≡◌, ℕ, List, Some, Result, MatchResult}
-use Rattle.rpki_base.specs.Reading.{Answers}
+use Rattle.rpki_text.specs.Reading.{Answers}
 use Rattle.rpki_ip.specs.declared.error.FromStrError.{FromStrError}
 use Rattle.rpki_ip.specs.declared.family.AddressFamily.{AddressFamily}
 use Rattle.rpki_ipres.specs.Blocks.{ip_bounds}

@@ -1,7 +1,7 @@
 //! What the types of the two families share.
 ghost use Rattle.std.specs.Prelude.{◌≡◌, ℕ, List, All, IfOk, map, MatchResult};
-ghost use Rattle.rpki_base.specs.Memory.{IsMemory};
-ghost use Rattle.rpki_base.specs.Reading.{AnswersOrMemory};
+ghost use Rattle.rpki_text.specs.Memory.{IsMemory};
+ghost use Rattle.rpki_text.specs.Reading.{AnswersOrMemory};
 ghost use Rattle.rpki_chain.specs.Runs.{Runs, Holds, IsRunsOfBlocks};
 ghost use Rattle.rpki_ip.specs.Whole.{IsWhole};
 ghost use Rattle.rpki_ip.specs.declared.family.AddressFamily.TheVariants.{Ipv4};

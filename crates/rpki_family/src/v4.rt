@@ -1,7 +1,7 @@
 //! Blocks and sets of IPv4 addresses.
 ghost use Rattle.std.specs.Prelude.{◌≡◌, ℕ, ◌+◌, ◌-◌, ◌*◌, ◌^◌, ◌↔◌, ◌⊎◌, [], ◌∷◌, IsTrue, IfOk, Some, map, MatchResult};
-ghost use Rattle.rpki_base.specs.Memory.{IsMemory};
-ghost use Rattle.rpki_base.specs.Reading.{AnswersOrMemory};
+ghost use Rattle.rpki_text.specs.Memory.{IsMemory};
+ghost use Rattle.rpki_text.specs.Reading.{AnswersOrMemory};
 ghost use Rattle.rpki_chain.specs.Equality.{have_same_bounds, blocks_per, blocks_equiv, same_runs, runs_per, runs_equiv};
 ghost use Rattle.rpki_chain.specs.Runs.{Runs, Holds, IsRunsOf, IsRunsOfBlocks};
 ghost use Rattle.rpki_chain.specs.Sets.{IsWithin};

@@ -1,18 +1,18 @@
 -- A text of a prefix or a range has one value or one fault at most.
 use Rattle.std.proofs.Common.{◌≡◌, ℕ, ◌-◌, ◌^◌, ◌<◌, ◌≤◌, ◌⊎◌, inl, inr, List, Option, Result, Ok, Err, MatchResult, arith, refl, sym, ap, ◌∙◌, subst}
-use Rattle.rpki_base.specs.Cuts.{HasNo, IsCutAt, Around, slash, dash}
-use Rattle.rpki_base.specs.Numbers.{IsNumberText}
+use Rattle.rpki_text.specs.Cuts.{HasNo, IsCutAt, Around, slash, dash}
+use Rattle.rpki_text.specs.Numbers.{IsNumberText}
 use Rattle.rpki_base.specs.Prefixes.{PrefixValue, cleared}
-use Rattle.rpki_base.specs.Reading.{Answers}
+use Rattle.rpki_text.specs.Reading.{Answers}
 use Rattle.rpki_base.specs.declared.addr.IpAddr.{IpAddr}
 use Rattle.rpki_base.specs.declared.addr.IpAddr.TheVariants.{V4, V6}
-use Rattle.rpki_base.specs.declared.number.ParseIntError.{ParseIntError}
-use Rattle.rpki_base.specs.declared.number.ParseIntError.TheVariants.{PosOverflow}
+use Rattle.rpki_text.specs.declared.number.ParseIntError.{ParseIntError}
+use Rattle.rpki_text.specs.declared.number.ParseIntError.TheVariants.{PosOverflow}
 use Rattle.rpki_base.proofs.AddressReads.{IsIpText-one}
 use Rattle.rpki_base.proofs.AsnLemmas.{IsNumberText-one}
-use Rattle.rpki_base.proofs.CutLemmas.{HasNo-no_cut, around_at}
-use Rattle.rpki_base.proofs.NumberLemmas.{number_answers}
-pub use Rattle.rpki_base.proofs.ReadingLemmas.{answers_by_one}
+use Rattle.rpki_text.proofs.CutLemmas.{HasNo-no_cut, around_at}
+use Rattle.rpki_text.proofs.NumberLemmas.{number_answers}
+pub use Rattle.rpki_text.proofs.ReadingLemmas.{answers_by_one}
 use Rattle.rpki_ip.specs.AddrText.{first_of, greatest_of}
 use Rattle.rpki_ip.specs.BlockText.{IsAddressText, HasAddressFault, WithAddress, IsPrefixAt, HasLengthFault, IsPrefixBetween, HasPrefixFault, IsRangeFrom, HasPairFault, IsRangeBetween, HasRangeFault, IsSingleText, IsPrefixText, HasPrefixTextFault, IsRangeText, HasRangeTextFault, HasFaultAround}
 use Rattle.rpki_ip.specs.Families.{bits_of, family_of}

@@ -1,7 +1,7 @@
 -- Texts of addresses of either family, read as numbers of 128 bits.
 use Rattle.std.specs.Prelude.{◌≡◌, ℕ, ◌+◌, ◌-◌, ◌*◌, ◌^◌, List, Result}
 use Rattle.rpki_base.specs.AddressText.{IsIpv4Text, IsIpv6Text, IsIpText}
-use Rattle.rpki_base.specs.Reading.{Answers}
+use Rattle.rpki_text.specs.Reading.{Answers}
 use Rattle.rpki_base.specs.declared.addr.AddrParseError.{AddrParseError}
 use Rattle.rpki_base.specs.declared.addr.AddrParseError.TheVariants.{Ipv4, Ipv6, Ip}
 use Rattle.rpki_base.specs.declared.addr.IpAddr.{IpAddr}

@@ -1,6 +1,6 @@
 -- What is printed of prefixes and ranges, as those of a family.
 use Rattle.std.specs.Prelude.{ℕ, ◌/◌, ◌^◌, ◌==◌, if◌then◌else◌, List, ◌∷◌, ◌++◌, decimal}
-use Rattle.rpki_base.specs.Cuts.{slash, dash}
+use Rattle.rpki_text.specs.Cuts.{slash, dash}
 use Rattle.rpki_base.specs.Prefixes.{PrefixValue}
 use Rattle.rpki_base.specs.PrintedAddress.{ip_text}
 use Rattle.rpki_base.specs.declared.addr.IpAddr.{IpAddr}

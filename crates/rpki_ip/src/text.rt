@@ -4,7 +4,7 @@
 //! 32 bits of each address, or as one of IPv6.
 ghost use Rattle.std.specs.Prelude.{◌≡◌, ◌↔◌, IsTrue, None, Some, MatchResult};
 ghost use Rattle.std.specs.Fmt.{WritesOnOk};
-ghost use Rattle.rpki_base.specs.Reading.{Answers};
+ghost use Rattle.rpki_text.specs.Reading.{Answers};
 ghost use Rattle.rpki_ip.specs.AddrText.{greatest_of};
 ghost use Rattle.rpki_ip.specs.BlockText.{IsAddressText, address_fault, IsPrefixBetween, HasPrefixFault, IsRangeFrom, HasPairFault, IsRangeBetween, HasRangeFault, IsSingleText, HasAddressFault, IsPrefixText, HasPrefixTextFault, IsRangeText, HasRangeTextFault};
 ghost use Rattle.rpki_ip.specs.Families.{family_of as the_family};

@@ -1,11 +1,11 @@
 -- A text of a list of blocks has one list of values or one first fault.
 use Rattle.std.proofs.Common.{◌≡◌, ℕ, inl, inr, Bool, true, false, IsTrue, ◌↔◌, List, Option, Some, Result, Ok, Err, MatchResult, refl, sym, ◌∙◌, subst}
-use Rattle.rpki_base.specs.Lists.{elements, HaveValues, HasFirstFault}
-use Rattle.rpki_base.specs.Memory.{IfRefused}
-use Rattle.rpki_base.specs.Reading.{AnswersOrMemory}
-use Rattle.rpki_base.specs.declared.memory.OrMemory.{OrMemory}
-use Rattle.rpki_base.specs.declared.memory.OrMemory.TheVariants.{Refused, Memory}
-use Rattle.rpki_base.proofs.ListLemmas.{AnswersOrMemory-from_found, HaveValues-one, first_fault_apart, same_first_fault}
+use Rattle.rpki_text.specs.Lists.{elements, HaveValues, HasFirstFault}
+use Rattle.rpki_text.specs.Memory.{IfRefused}
+use Rattle.rpki_text.specs.Reading.{AnswersOrMemory}
+use Rattle.rpki_text.specs.declared.memory.OrMemory.{OrMemory}
+use Rattle.rpki_text.specs.declared.memory.OrMemory.TheVariants.{Refused, Memory}
+use Rattle.rpki_text.proofs.ListLemmas.{AnswersOrMemory-from_found, HaveValues-one, first_fault_apart, same_first_fault}
 use Rattle.rpki_ip.specs.declared.error.FromStrError.{FromStrError}
 use Rattle.rpki_ip.specs.declared.family.AddressFamily.{AddressFamily}
 use Rattle.rpki_ipres.specs.BlockText.{IsBlockText, HasBlockFault}

@@ -4,10 +4,10 @@ use Rattle.std.proofs.Math.Nat.{pow-le-pow_right}
 use Rattle.std.proofs.lemmas.Bool.{cases_lt, cases_eq, eq-eqb, ne_eqb}
 use Rattle.std.proofs.lemmas.List.Elements.{All-cons, All-append, All-weaker}
 use Rattle.std.proofs.lemmas.Nat.{pow_pos}
-use Rattle.rpki_base.specs.Cuts.{HasNo, slash, dash}
+use Rattle.rpki_text.specs.Cuts.{HasNo, slash, dash}
 use Rattle.rpki_base.specs.Prefixes.{PrefixValue, IsPrefix, cleared, last_of}
 use Rattle.rpki_base.specs.PrintedAddress.{ip_text}
-use Rattle.rpki_base.specs.Reading.{Answers}
+use Rattle.rpki_text.specs.Reading.{Answers}
 use Rattle.rpki_base.specs.ReadsAddress.{IsAddress}
 use Rattle.rpki_base.specs.declared.addr.IpAddr.{IpAddr}
 use Rattle.rpki_base.proofs.AddressBytes.{IsAddressByte, ip_bytes, not_slash, no_slash, no_dash}

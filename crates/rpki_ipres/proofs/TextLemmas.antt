@@ -1,9 +1,9 @@
 -- A text of a block has one value or one fault at most, and each form is found by the byte that cuts the text.
 use Rattle.std.proofs.Common.{◌≡◌, ℕ, inl, inr, List, Option, Result, Ok, Err, MatchResult, refl, sym, ap, ◌∙◌}
-use Rattle.rpki_base.specs.Cuts.{HasNo, IsCutAt, Around, slash, dash}
+use Rattle.rpki_text.specs.Cuts.{HasNo, IsCutAt, Around, slash, dash}
 use Rattle.rpki_base.specs.Prefixes.{PrefixValue}
-use Rattle.rpki_base.specs.Reading.{Answers}
-use Rattle.rpki_base.proofs.CutLemmas.{none_around}
+use Rattle.rpki_text.specs.Reading.{Answers}
+use Rattle.rpki_text.proofs.CutLemmas.{none_around}
 use Rattle.rpki_ip.specs.BlockText.{IsPrefixBetween, HasPrefixFault, IsPrefixText, HasPrefixTextFault, IsRangeBetween, HasRangeFault, IsRangeText, HasRangeTextFault, IsSingleText, HasAddressFault}
 use Rattle.rpki_ip.specs.Ranges.{RangeValue}
 use Rattle.rpki_ip.specs.declared.error.FromStrError.{FromStrError}

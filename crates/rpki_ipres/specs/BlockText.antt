@@ -1,6 +1,6 @@
 -- Texts of blocks of addresses. The family that is wanted may be one, or, with None, either.
 use Rattle.std.specs.Prelude.{◌⊎◌, List, ℕ, Option}
-use Rattle.rpki_base.specs.Cuts.{HasNo, Around, slash, dash}
+use Rattle.rpki_text.specs.Cuts.{HasNo, Around, slash, dash}
 use Rattle.rpki_ip.specs.BlockText.{IsPrefixText, IsRangeText, IsSingleText, HasAddressFault, HasPrefixFault, HasRangeFault}
 use Rattle.rpki_ip.specs.declared.error.FromStrError.{FromStrError}
 use Rattle.rpki_ip.specs.declared.family.AddressFamily.{AddressFamily}

@@ -1,6 +1,6 @@
 -- Texts of lists of blocks of addresses.
 use Rattle.std.specs.Prelude.{◌≡◌, ℕ, ◌<◌, ◌⊎◌, List, Some, length, slice_index}
-use Rattle.rpki_base.specs.Lists.{elements, HaveValues, HasFirstFault}
+use Rattle.rpki_text.specs.Lists.{elements, HaveValues, HasFirstFault}
 use Rattle.rpki_ip.specs.declared.error.FromStrError.{FromStrError}
 use Rattle.rpki_ip.specs.declared.error.FromStrError.TheVariants.{FamilyMismatch}
 use Rattle.rpki_ip.specs.declared.family.AddressFamily.{AddressFamily}

@@ -1,8 +1,8 @@
 -- What is printed of blocks of addresses, as those of a family.
 use Rattle.std.specs.Prelude.{◌≡◌, ℕ, List, map, None, Result, MatchResult}
-use Rattle.rpki_base.specs.Lists.{joined}
+use Rattle.rpki_text.specs.Lists.{joined}
 use Rattle.rpki_base.specs.Prefixes.{IsPrefix}
-use Rattle.rpki_base.specs.Reading.{Answers}
+use Rattle.rpki_text.specs.Reading.{Answers}
 use Rattle.rpki_ip.specs.PrintedText.{prefix_text, range_text}
 use Rattle.rpki_ip.specs.Ranges.{IsRange}
 use Rattle.rpki_ip.specs.Whole.{HasWholeBounds}

@@ -4,7 +4,7 @@
 //! first 32 bits of its bounds, or as one of IPv6.
 ghost use Rattle.std.specs.Prelude.{◌≡◌, ◌↔◌, IsTrue, Some, MatchResult};
 ghost use Rattle.std.specs.Fmt.{WritesOnOk};
-ghost use Rattle.rpki_base.specs.Reading.{Answers};
+ghost use Rattle.rpki_text.specs.Reading.{Answers};
 ghost use Rattle.rpki_ip.specs.declared.family.AddressFamily.TheVariants.{Ipv4, Ipv6};
 ghost use Rattle.rpki_ipres.specs.BlockText.{IsBlockText, HasBlockFault};
 ghost use Rattle.rpki_ipres.specs.Blocks.{ip_bounds};

@@ -1,9 +1,9 @@
 -- What `cover` shows.
 use Rattle.std.proofs.Common.{◌≡◌, ℕ, List, Result, Ok, Err, MatchResult, ap, ◌∙◌, inl, inr}
-use Rattle.rpki_base.specs.Memory.{IfRefused}
+use Rattle.rpki_text.specs.Memory.{IfRefused}
 use Rattle.rpki_base.specs.Prefixes.{PrefixValue}
-use Rattle.rpki_base.specs.declared.memory.OrMemory.{OrMemory}
-use Rattle.rpki_base.specs.declared.memory.OrMemory.TheVariants.{Refused, Memory}
+use Rattle.rpki_text.specs.declared.memory.OrMemory.{OrMemory}
+use Rattle.rpki_text.specs.declared.memory.OrMemory.TheVariants.{Refused, Memory}
 use Rattle.rpki_ip.specs.Faults.{from_str_error_text}
 use Rattle.rpki_ip.specs.declared.error.FromStrError.{FromStrError}
 use Rattle.rpki_ip.specs.declared.family.AddressFamily.{AddressFamily}

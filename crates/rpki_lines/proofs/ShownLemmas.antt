@@ -1,9 +1,9 @@
 -- What an answer shows of a call that reads a text.
 use Rattle.std.proofs.Common.{inl, inr}
 use Rattle.std.specs.Prelude.{ℕ, List, Result, Ok, Err}
-use Rattle.rpki_base.specs.Reading.{AnswersOrMemory}
-use Rattle.rpki_base.specs.declared.memory.OrMemory.{OrMemory}
-use Rattle.rpki_base.specs.declared.memory.OrMemory.TheVariants.{Refused, Memory}
+use Rattle.rpki_text.specs.Reading.{AnswersOrMemory}
+use Rattle.rpki_text.specs.declared.memory.OrMemory.{OrMemory}
+use Rattle.rpki_text.specs.declared.memory.OrMemory.TheVariants.{Refused, Memory}
 use Rattle.rpki_lines.specs.Shown.{ShowsValueOrFault, ShowsResult}
 
 -- what is shown of the call is a value that the text has, or a fault that it has

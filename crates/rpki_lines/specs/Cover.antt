@@ -1,8 +1,8 @@
 -- What `cover` answers: the shortest list of prefixes with the addresses that a list of blocks writes, or the fault of the
 -- list.
 use Rattle.std.specs.Prelude.{◌≡◌, ◌≢◌, ℕ, List, ◌∷◌, ◌++◌, map, codes, decimal}
-use Rattle.rpki_base.specs.Cuts.{slash}
-use Rattle.rpki_base.specs.Lists.{joined}
+use Rattle.rpki_text.specs.Cuts.{slash}
+use Rattle.rpki_text.specs.Lists.{joined}
 use Rattle.rpki_base.specs.Prefixes.{PrefixValue}
 use Rattle.rpki_chain.specs.Runs.{Runs, Holds}
 use Rattle.rpki_cover.specs.Covers.{IsShortestCover}

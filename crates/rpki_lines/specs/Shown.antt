@@ -1,7 +1,7 @@
 -- How an answer shows what a call gave.
 use Rattle.std.specs.Prelude.{◌≡◌, ◌⊎◌, ℕ, List, ◌++◌, Result, Ok, Err, codes}
-use Rattle.rpki_base.specs.declared.memory.OrMemory.{OrMemory}
-use Rattle.rpki_base.specs.declared.memory.OrMemory.TheVariants.{Refused, Memory}
+use Rattle.rpki_text.specs.declared.memory.OrMemory.{OrMemory}
+use Rattle.rpki_text.specs.declared.memory.OrMemory.TheVariants.{Refused, Memory}
 
 -- a fault's text, behind `error: `
 abbrev pub error_line : List ℕ → List ℕ

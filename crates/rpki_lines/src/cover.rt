@@ -1,7 +1,7 @@
 //! The command `cover`: a list of blocks becomes the shortest list of prefixes with the same addresses.
 ghost use Rattle.std.specs.Prelude.{◌≡◌, List, Some, IfOk, MatchResult};
 ghost use Rattle.std.specs.String.{string_bytes};
-ghost use Rattle.rpki_base.specs.Memory.{IfRefused};
+ghost use Rattle.rpki_text.specs.Memory.{IfRefused};
 ghost use Rattle.rpki_ip.specs.declared.family.AddressFamily.TheVariants.{Ipv4, Ipv6};
 ghost use Rattle.rpki_ipres.specs.ListText.{HasBlocksFault};
 ghost use Rattle.rpki_lines.specs.Cover.{IsCoverAnswer, IsCoverIp, IsCoverOf, prefix_with_length, cover_text};

@@ -5,13 +5,13 @@ use Rattle.std.specs.Str.Parse.{AllDigits}
 use Rattle.std.proofs.lemmas.Fmt.{decimal_is_IsNumeral}
 use Rattle.std.proofs.lemmas.List.Elements.{All-append, All-cons, All-from_recursion, All-weaker}
 use Rattle.std.proofs.lemmas.Str.Parse.{digit_from_value}
-use Rattle.rpki_base.specs.Cuts.{HasNo, Around, slash, dash}
-use Rattle.rpki_base.specs.Numbers.{IsNumberText, HasNumberFault}
+use Rattle.rpki_text.specs.Cuts.{HasNo, Around, slash, dash}
+use Rattle.rpki_text.specs.Numbers.{IsNumberText, HasNumberFault}
 use Rattle.rpki_base.specs.PrintedAddress.{ip_text}
 use Rattle.rpki_base.proofs.AddressBytes.{IsAddressByte, ip_bytes, not_dash}
 use Rattle.rpki_base.proofs.AsnLemmas.{IsNumberText-one, IsNumberText-decimal}
-use Rattle.rpki_base.proofs.CutLemmas.{none_around, around_at}
-use Rattle.rpki_base.proofs.ReadingLemmas.{Answers-from_found}
+use Rattle.rpki_text.proofs.CutLemmas.{none_around, around_at}
+use Rattle.rpki_text.proofs.ReadingLemmas.{Answers-from_found}
 use Rattle.rpki_prefix.specs.MaxLen.{MaxLenValue, IsMaxLenOf, HasMaxLenError, ArePrefixAndMax, HasMaxLen, IsMaxLenTextOf, IsMaxLenText, HasMaxLenTextFault, max_text, ReadsMaxLen}
 use Rattle.rpki_prefix.specs.PrefixText.{IsPrefixText, HasPrefixTextFault, prefix_text}
 use Rattle.rpki_prefix.specs.Values.{FamilyPrefix, IsFamilyPrefix}

@@ -3,9 +3,9 @@ use Rattle.std.specs.Prelude.{◌≡◌, ℕ, ◌-◌, ◌^◌, ◌≤◌, ◌<�
 use Rattle.std.specs.declared.cmp.Ordering.{Ordering}
 use Rattle.std.specs.Option.{option_cmp}
 use Rattle.std.specs.Ordering.{on, then_cmp, flip_args, nat_cmp}
-use Rattle.rpki_base.specs.Cuts.{HasNo, Around, dash}
-use Rattle.rpki_base.specs.Numbers.{IsNumberText, HasNumberFault}
-use Rattle.rpki_base.specs.Reading.{Answers}
+use Rattle.rpki_text.specs.Cuts.{HasNo, Around, dash}
+use Rattle.rpki_text.specs.Numbers.{IsNumberText, HasNumberFault}
+use Rattle.rpki_text.specs.Reading.{Answers}
 use Rattle.rpki_prefix.specs.Order.{prefix_cmp}
 use Rattle.rpki_prefix.specs.PrefixText.{IsPrefixText, HasPrefixTextFault, prefix_text}
 use Rattle.rpki_prefix.specs.Values.{FamilyPrefix, IsFamilyPrefix, width}

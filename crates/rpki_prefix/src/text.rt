@@ -1,6 +1,6 @@
 //! Texts of prefixes.
 ghost use Rattle.std.specs.Prelude.{Some};
-ghost use Rattle.rpki_base.specs.Reading.{Answers};
+ghost use Rattle.rpki_text.specs.Reading.{Answers};
 ghost use Rattle.rpki_prefix.specs.PrefixText.{FindsParts, ReadsPrefix, IsRelaxedPrefixText, HasRelaxedPrefixTextFault, prefix_text};
 
 use crate::error::ParsePrefixError;

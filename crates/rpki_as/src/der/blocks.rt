@@ -12,7 +12,7 @@ impl<A: Allocator> AsBlocks<A> {
     ghost use Rattle.rpki_chain.specs.Runs.{Runs, IsRunsOfBlocks};
     ghost use Rattle.rpki_der.specs.Views.{Lenient, left};
     ghost use Rattle.rpki_base.specs.DerViews.{ReadsOrMemory, TakesSaidOrMemory};
-    ghost use Rattle.rpki_base.specs.Memory.{IsMemory};
+    ghost use Rattle.rpki_text.specs.Memory.{IsMemory};
     ghost use Rattle.rpki_as.specs.AsDer.{IsAsBlockSequence, as_sequence_octets, as_set_octets};
     ghost use Rattle.rpki_as.specs.AsDerReading.{as_blocks_at};
     ghost use Rattle.rpki_as.specs.Blocks.{IsAsSet, as_bounds};

@@ -1,6 +1,6 @@
 //! The bits of an IPv6 address as groups.
 ghost use Rattle.std.specs.Prelude.{◌≡◌, ◌/◌, ◌%◌};
-ghost use Rattle.rpki_base.specs.Digits.{groups_of};
+ghost use Rattle.rpki_text.specs.Digits.{groups_of};
 
 /// The bits before the last group, and the last group.
 fn split_group(bits: u128) -> (u128, u16)

@@ -4,7 +4,7 @@
 ghost use Rattle.std.specs.Prelude.{◌≡◌, ◌==◌, true, ◌+◌, ◌*◌, ◌-◌, ◌^◌, ◌<◌, ◌≤◌, ℕ, List, None, false, length, get_or, nat_lt, option_map, option_and_then, IfSome, MatchOption};
 ghost use Rattle.std.specs.Char.{digit_value};
 ghost use Rattle.std.specs.Net.Reader as Reader;
-ghost use Rattle.rpki_base.specs.Digits.{from_octets};
+ghost use Rattle.rpki_text.specs.Digits.{from_octets};
 ghost use Rattle.rpki_base.specs.AddressReading.{numbered, with_number, with_octets, hex_value};
 ghost use Rattle.rpki_base.specs.GroupsRead.{IsSoFar, parts};
 

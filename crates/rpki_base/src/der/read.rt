@@ -6,7 +6,7 @@ ghost use Rattle.rpki_der.specs.Views.{Lenient, Takes, left};
 ghost use Rattle.rpki_base.specs.DerReading.{IsSequenceFrom, sequence_from, values_from};
 ghost use Rattle.rpki_base.specs.DerViews.{GivesOrMemory, ReadsOrMemory, TakesOrMemory};
 
-use crate::memory::OrMemory;
+use rpki_text::memory::OrMemory;
 use rpki_der::{Cursor, DerError};
 use std::alloc::Allocator;
 

@@ -21,7 +21,7 @@ impl<A: Allocator> IpBlocks<A> {
     ghost use Rattle.rpki_chain.specs.Runs.{Runs, Holds, IsRunsOfBlocks};
     ghost use Rattle.rpki_der.specs.Views.{Lenient, left};
     ghost use Rattle.rpki_base.specs.DerViews.{ReadsOrMemory, TakesSaidOrMemory};
-    ghost use Rattle.rpki_base.specs.Memory.{IsMemory};
+    ghost use Rattle.rpki_text.specs.Memory.{IsMemory};
     ghost use Rattle.rpki_ip.specs.Families.{bits_of};
     ghost use Rattle.rpki_ip.specs.Whole.{IsWhole};
     ghost use Rattle.rpki_ip.specs.declared.family.AddressFamily.TheVariants.{Ipv4};

@@ -1,7 +1,7 @@
 use Rattle.std.proofs.Common.{None, Some, Ok, Err, lit<}
 use Rattle.std.proofs.lemmas.Result.{err_from_is_err_and}
 use Rattle.std.proofs.lemmas.Str.Pattern.{split_parts}
-use Rattle.rpki_base.specs.Cuts.{slash, dash}
+use Rattle.rpki_text.specs.Cuts.{slash, dash}
 use Rattle.rpki_ipres.proofs.TextLemmas.{prefix_answers, range_answers, single_answers}
 use Rattle.rpki_ipres.proofs.text.read_block.Goals as goal
 

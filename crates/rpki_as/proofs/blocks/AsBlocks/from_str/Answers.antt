@@ -1,7 +1,7 @@
 use Rattle.std.proofs.Common.{Vec, Ok, Err}
 use Rattle.std.proofs.lemmas.Result.{err_from_is_err_and}
-use Rattle.rpki_base.specs.Lists.{elements}
-use Rattle.rpki_base.proofs.ListLemmas.{found_weaker}
+use Rattle.rpki_text.specs.Lists.{elements}
+use Rattle.rpki_text.proofs.ListLemmas.{found_weaker}
 use Rattle.rpki_as.specs.BlockText.{IsBlockText, HasBlockFault, ReadsBlock}
 use Rattle.rpki_as.specs.declared.block.AsBlock.{AsBlock}
 use Rattle.rpki_as.proofs.ListLemmas.{list_answers, IsAsListText-as_list_text}

@@ -2,7 +2,7 @@
 use Rattle.std.proofs.Common.{◌++◌, sym, ap, ap₂, ◌∙◌}
 use Rattle.std.specs.Net.Text.{hex_groups_text}
 use Rattle.rpki_base.specs.AddressText.{dotted}
-use Rattle.rpki_base.specs.Digits.{octets_of}
+use Rattle.rpki_text.specs.Digits.{octets_of}
 use Rattle.rpki_base.proofs.PrintedAddressLemmas.{mapped_is, unmapped_is}
 use Rattle.rpki_base.proofs.addr.print.put_ipv6.Goals as goal
 

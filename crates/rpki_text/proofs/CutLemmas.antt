@@ -1,6 +1,6 @@
 -- On texts cut at a byte: a text without the byte isn't cut, and a text is cut in one way.
 use Rattle.std.proofs.Common.{◌≡◌, ℕ, suc, List, [], ◌∷◌, ◌++◌, length, arith, refl, sym, ◌∙◌, subst}
-use Rattle.rpki_base.specs.Cuts.{HasNo, IsCutAt, Around}
+use Rattle.rpki_text.specs.Cuts.{HasNo, IsCutAt, Around}
 
 byte_apart : (b : ℕ) (left right : List ℕ) → HasNo b (left ++ b ∷ right) → ⊥
 byte_apart b [] right none = none 0 (omega arith) refl

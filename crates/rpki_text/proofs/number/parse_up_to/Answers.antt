@@ -2,8 +2,8 @@
 use Rattle.std.proofs.Common.{◌≡◌, ◌<◌, length, arith, sym, ap, ◌∙◌}
 use Rattle.std.proofs.lemmas.Bool.{eqb-true, eqb-false}
 use Rattle.std.specs.Str.Parse.{without_leading_plus}
-use Rattle.rpki_base.proofs.NumberLemmas.{number_answers, text_from_digits, no_text, no_digits}
-use Rattle.rpki_base.proofs.number.parse_up_to.Goals as goal
+use Rattle.rpki_text.proofs.NumberLemmas.{number_answers, text_from_digits, no_text, no_digits}
+use Rattle.rpki_text.proofs.number.parse_up_to.Goals as goal
 
 pub returns-then-is_empty : goal.returns-then-is_empty
 returns-then-is_empty c = number_answers _ _ _ (no_text _ (eqb-true _ _ (sym c.is_empty.ensures ∙ c.if-is_empty.true)))

@@ -4,8 +4,8 @@ use Rattle.std.proofs.lemmas.Bool.{eqb-false}
 use Rattle.std.proofs.lemmas.Iterator.Splits.{YieldsList-from_str_split}
 use Rattle.std.proofs.lemmas.Iterator.Consumers.{YieldsList-turn, YieldsList-end, YieldsList-so_far, YieldsList-at}
 use Rattle.std.proofs.lemmas.List.{map-append}
-use Rattle.rpki_base.proofs.ListLemmas.{fault_at, values_more, elements_are}
-use Rattle.rpki_base.proofs.list.read_elements.Goals as goal
+use Rattle.rpki_text.proofs.ListLemmas.{fault_at, values_more, elements_are}
+use Rattle.rpki_text.proofs.list.read_elements.Goals as goal
 
 -- one more value
 pub loop-part-preserved : goal.loop-part-preserved

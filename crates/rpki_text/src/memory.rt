@@ -14,7 +14,7 @@ pub enum OrMemory<E> {
 }
 
 impl<E> From<AllocError> for OrMemory<E> {
-    ghost use Rattle.rpki_base.specs.Memory.{IsMemory};
+    ghost use Rattle.rpki_text.specs.Memory.{IsMemory};
 
     ghost from_gives = { λ _ error. IsMemory error };
 
@@ -24,7 +24,7 @@ impl<E> From<AllocError> for OrMemory<E> {
 }
 
 impl<E, T: Drop> From<AllocFailed<T>> for OrMemory<E> {
-    ghost use Rattle.rpki_base.specs.Memory.{IsMemory};
+    ghost use Rattle.rpki_text.specs.Memory.{IsMemory};
 
     ghost from_gives = { λ _ error. IsMemory error };
 
@@ -35,7 +35,7 @@ impl<E, T: Drop> From<AllocFailed<T>> for OrMemory<E> {
 
 impl From<DerError> for OrMemory<DerError> {
     ghost use Rattle.std.specs.Prelude.{◌≡◌};
-    ghost use Rattle.rpki_base.specs.declared.memory.OrMemory.TheVariants.{Refused};
+    ghost use Rattle.rpki_text.specs.declared.memory.OrMemory.TheVariants.{Refused};
 
     ghost from_gives = { λ fault error. error ≡ Refused fault };
 
@@ -46,7 +46,7 @@ impl From<DerError> for OrMemory<DerError> {
 
 /// Writes the refusal as it writes itself, and `out of memory` where a request for memory was refused.
 impl<E: fmt::Display> fmt::Display for OrMemory<E> {
-    ghost use Rattle.rpki_base.specs.Memory.{or_memory_text};
+    ghost use Rattle.rpki_text.specs.Memory.{or_memory_text};
 
     ghost output = { or_memory_text E.output };
 

@@ -1,7 +1,7 @@
 -- What the reader of a text answers, said once for all readers.
 use Rattle.std.specs.Prelude.{◌≡◌, Result, Ok, Err, MatchResult}
-use Rattle.rpki_base.specs.Memory.{IsMemory, IfRefused}
-use Rattle.rpki_base.specs.declared.memory.OrMemory.{OrMemory}
+use Rattle.rpki_text.specs.Memory.{IsMemory, IfRefused}
+use Rattle.rpki_text.specs.declared.memory.OrMemory.{OrMemory}
 
 -- What is answered is a value that the text has, or a fault that it has; each value that it has is the answer, and so is each fault.
 -- So a text has one value or one fault at most, and the answer is decided wherever it has one.

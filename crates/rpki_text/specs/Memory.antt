@@ -1,7 +1,7 @@
 -- What the refusal of a call that takes memory says.
 use Rattle.std.specs.Prelude.{ℕ, List, Option, Some, codes}
-use Rattle.rpki_base.specs.declared.memory.OrMemory.{OrMemory}
-use Rattle.rpki_base.specs.declared.memory.OrMemory.TheVariants.{Refused, Memory}
+use Rattle.rpki_text.specs.declared.memory.OrMemory.{OrMemory}
+use Rattle.rpki_text.specs.declared.memory.OrMemory.TheVariants.{Refused, Memory}
 
 -- a request for memory was refused
 abbrev pub IsMemory : {E : Type 0} → OrMemory E → Type 0

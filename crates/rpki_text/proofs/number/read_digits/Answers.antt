@@ -1,7 +1,7 @@
 -- One more digit adds to the value, passes the limit, or is no digit.
 use Rattle.std.proofs.Common.{◌+◌, take, drop, get_or, arith, refl}
-use Rattle.rpki_base.proofs.NumberLemmas.{value_more, value_passes, value_of_other, split_at}
-use Rattle.rpki_base.proofs.number.read_digits.Goals as goal
+use Rattle.rpki_text.proofs.NumberLemmas.{value_more, value_passes, value_of_other, split_at}
+use Rattle.rpki_text.proofs.number.read_digits.Goals as goal
 
 pub returns-then-not-is_ascii_digit : goal.returns-then-not-is_ascii_digit
 returns-then-not-is_ascii_digit c =

@@ -11,8 +11,8 @@ use Rattle.std.proofs.lemmas.List.{append-nil, take_all, take_more}
 use Rattle.std.proofs.lemmas.Grind.{flat_map-append}
 use Rattle.std.proofs.lemmas.List.Elements.{All-from_recursion}
 use Rattle.std.proofs.lemmas.List.Splits.{slice_split_at, slice_split_none}
-use Rattle.rpki_base.specs.Lists.{kept, elements, joined, comma}
-use Rattle.rpki_base.proofs.ListLemmas.{elements_are}
+use Rattle.rpki_text.specs.Lists.{kept, elements, joined, comma}
+use Rattle.rpki_text.proofs.ListLemmas.{elements_are}
 
 -- visible ASCII from `-` on, so neither a comma nor white space
 abbrev pub IsShown : ℕ → Type 0

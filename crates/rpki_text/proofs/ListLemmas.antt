@@ -5,11 +5,11 @@ use Rattle.std.specs.Str.{trim}
 use Rattle.std.proofs.lemmas.List.{take-append-drop}
 use Rattle.std.proofs.lemmas.Bool.{lt-ltb}
 use Rattle.std.proofs.Math.Seq.{drop-cons}
-use Rattle.rpki_base.specs.declared.memory.OrMemory.{OrMemory}
-use Rattle.rpki_base.specs.declared.memory.OrMemory.TheVariants.{Refused, Memory}
-use Rattle.rpki_base.specs.Memory.{IfRefused}
-use Rattle.rpki_base.specs.Reading.{AnswersOrMemory}
-use Rattle.rpki_base.specs.Lists.{kept, elements, comma, HaveValues, HasFirstFault}
+use Rattle.rpki_text.specs.declared.memory.OrMemory.{OrMemory}
+use Rattle.rpki_text.specs.declared.memory.OrMemory.TheVariants.{Refused, Memory}
+use Rattle.rpki_text.specs.Memory.{IfRefused}
+use Rattle.rpki_text.specs.Reading.{AnswersOrMemory}
+use Rattle.rpki_text.specs.Lists.{kept, elements, comma, HaveValues, HasFirstFault}
 
 -- an answer that is right decides a reader that may want memory, where there is one value or one fault at most
 module _ {A V E : Type 0} (view : V → A) (Has : A → Type 0) (Fails : E → Type 0) (one : (a b : A) → Has a → Has b → a ≡ b) (apart : (a : A) (e : E) → Has a → Fails e → ⊥) (same : (d e : E) → Fails d → Fails e → d ≡ e) where

@@ -1,7 +1,7 @@
 -- The value is that of the digits so far.
 use Rattle.std.proofs.Common.{take}
-use Rattle.rpki_base.specs.Numbers.{IsValueUpTo}
-use Rattle.rpki_base.proofs.number.read_digits.Given as goal
+use Rattle.rpki_text.specs.Numbers.{IsValueUpTo}
+use Rattle.rpki_text.proofs.number.read_digits.Given as goal
 
 abbrev pub invariant-loop-byte : goal.invariant-loop-byte
 invariant-loop-byte l = IsValueUpTo l.limit (take l.byte-index l.digits) l.value

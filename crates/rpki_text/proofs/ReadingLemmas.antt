@@ -1,7 +1,7 @@
 -- Where a text has one value or one fault at most, an answer that is right decides its reader.
 use Rattle.std.proofs.Common.{◌≡◌, Result, Ok, Err, ap}
 use Rattle.std.specs.Prelude.{MatchResult}
-use Rattle.rpki_base.specs.Reading.{Answers}
+use Rattle.rpki_text.specs.Reading.{Answers}
 
 -- by two answers: those that are right are one
 pub answers_by_one : {A E : Type 0} {Has : A → Type 0} {Fails : E → Type 0} → ((r s : Result A E) → MatchResult r Has Fails → MatchResult s Has Fails → r ≡ s) → (r : Result A E) → MatchResult r Has Fails → Answers Has Fails r

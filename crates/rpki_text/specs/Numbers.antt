@@ -2,8 +2,8 @@
 use Rattle.std.specs.Prelude.{◌≡◌, ℕ, ◌<◌, ◌≤◌, ◌≢◌, List, [], ◌∷◌, ◌++◌, codes}
 use Rattle.std.specs.Char.{digit_value}
 use Rattle.std.specs.Str.Parse.{AllDigits, IsNumeral, digits_value, without_leading_plus}
-use Rattle.rpki_base.specs.declared.number.ParseIntError.{ParseIntError}
-use Rattle.rpki_base.specs.declared.number.ParseIntError.TheVariants.{Empty, InvalidDigit, PosOverflow}
+use Rattle.rpki_text.specs.declared.number.ParseIntError.{ParseIntError}
+use Rattle.rpki_text.specs.declared.number.ParseIntError.TheVariants.{Empty, InvalidDigit, PosOverflow}
 
 -- The text is an optional plus and then ASCII digits, one or more, that write n, which is at most the limit.
 pub record IsNumberText (limit : ℕ) (text : List ℕ) (n : ℕ) : Type 0 where

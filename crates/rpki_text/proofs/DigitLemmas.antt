@@ -6,7 +6,7 @@ use Rattle.std.proofs.lemmas.Int.Digits.{number_push}
 use Rattle.std.proofs.lemmas.Nat.{div_below, mod_below}
 use Rattle.std.proofs.lemmas.Nat.{mul-add-lt}
 use Rattle.std.proofs.Math.Nat.{pow-zero, pow-suc, pow-succ', pow-le-pow_right, div-add-mod, mul_comm}
-use Rattle.rpki_base.specs.Digits.{last_digits}
+use Rattle.rpki_text.specs.Digits.{last_digits}
 
 module _ (base : ℕ) (some : 0 < base) where
   -- a number below base ^ k is that of its last k digits

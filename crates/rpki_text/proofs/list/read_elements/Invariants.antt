@@ -1,7 +1,7 @@
 -- What the loop over the parts keeps.
 use Rattle.std.proofs.Common.{map}
-use Rattle.rpki_base.specs.Lists.{kept, HaveValues}
-use Rattle.rpki_base.proofs.list.read_elements.Given as goal
+use Rattle.rpki_text.specs.Lists.{kept, HaveValues}
+use Rattle.rpki_text.proofs.list.read_elements.Given as goal
 
 -- the values so far are those of the parts so far, as kept
 abbrev pub invariant-loop-part : goal.invariant-loop-part

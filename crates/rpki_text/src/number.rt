@@ -1,8 +1,8 @@
 //! Decimal texts of numbers, read up to a limit.
 ghost use Rattle.std.specs.Prelude.{◌≡◌, ◌^◌, ◌-◌, ◌<◌, Some, MatchResult};
 ghost use Rattle.std.specs.Str.Parse.{without_leading_plus};
-ghost use Rattle.rpki_base.specs.Reading.{Answers};
-ghost use Rattle.rpki_base.specs.Numbers.{IsNumberText, HasNumberFault, IsValueUpTo, DigitsFail, number_fault_text};
+ghost use Rattle.rpki_text.specs.Reading.{Answers};
+ghost use Rattle.rpki_text.specs.Numbers.{IsNumberText, HasNumberFault, IsValueUpTo, DigitsFail, number_fault_text};
 
 use std::error::Error;
 use std::fmt;

@@ -1,8 +1,8 @@
 //! Texts of lists: read at their commas, and printed with them.
 ghost use Rattle.std.specs.Prelude.{◌≡◌, ℕ, List, map, Option, Some, Result, Ok, Err, MatchResult};
 ghost use Rattle.std.specs.Fmt.{WritesOnOk, DisplaysOnOk};
-ghost use Rattle.rpki_base.specs.Memory.{IfRefused};
-ghost use Rattle.rpki_base.specs.Lists.{elements, joined, HaveValues, HasFirstFault};
+ghost use Rattle.rpki_text.specs.Memory.{IfRefused};
+ghost use Rattle.rpki_text.specs.Lists.{elements, joined, HaveValues, HasFirstFault};
 
 use crate::memory::OrMemory;
 use std::alloc::Allocator;

@@ -9,11 +9,11 @@ use Rattle.std.specs.Str.Parse.{AllDigits, digits_value, digits_value_after, wit
 use Rattle.std.proofs.lemmas.Str.{digit_value_digit}
 use Rattle.std.proofs.lemmas.List.{take_more, take-append-drop}
 use Rattle.std.proofs.lemmas.Int.Digits.{digits_value_more}
-use Rattle.rpki_base.specs.declared.number.ParseIntError.{ParseIntError}
-use Rattle.rpki_base.specs.declared.number.ParseIntError.TheVariants.{Empty, InvalidDigit, PosOverflow}
-use Rattle.rpki_base.specs.Reading.{Answers}
-use Rattle.rpki_base.proofs.ReadingLemmas.{Answers-from_found}
-use Rattle.rpki_base.specs.Numbers.{IsNumberText, IsValueUpTo, PassesLimit, StopsBelow, HasInvalidDigit, HasNumberFault, DigitsFail}
+use Rattle.rpki_text.specs.declared.number.ParseIntError.{ParseIntError}
+use Rattle.rpki_text.specs.declared.number.ParseIntError.TheVariants.{Empty, InvalidDigit, PosOverflow}
+use Rattle.rpki_text.specs.Reading.{Answers}
+use Rattle.rpki_text.proofs.ReadingLemmas.{Answers-from_found}
+use Rattle.rpki_text.specs.Numbers.{IsNumberText, IsValueUpTo, PassesLimit, StopsBelow, HasInvalidDigit, HasNumberFault, DigitsFail}
 
 -- digits and one digit more
 pub AllDigits-push : (xs : List ℕ) (c : ℕ) → AllDigits 10 xs → digit_value c < 10 → AllDigits 10 (xs ++ c ∷ [])

@@ -2,7 +2,7 @@
 use Rattle.std.proofs.Common.{◌≡◌, ℕ, List, Some, ◌++◌, take, codes}
 use Rattle.std.specs.List.{flat_map}
 use Rattle.std.specs.Fmt.{HasWritten, IsPlainFormatter}
-use Rattle.rpki_base.proofs.list.fmt_elements.Given as goal
+use Rattle.rpki_text.proofs.list.fmt_elements.Given as goal
 
 -- what has been written of the rest
 abbrev pub invariant-loop-item : goal.invariant-loop-item

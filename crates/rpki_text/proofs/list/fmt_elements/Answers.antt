@@ -1,8 +1,8 @@
 -- The first item and the loop write the joined texts.
 use Rattle.std.proofs.Common.{◌++◌, refl, codes}
 use Rattle.std.proofs.Output.{has_written_append, has_written_of_eq}
-use Rattle.rpki_base.proofs.PrintedLemmas.{joined_by_loop, written_more}
-use Rattle.rpki_base.proofs.list.fmt_elements.Goals as goal
+use Rattle.rpki_text.proofs.PrintedLemmas.{joined_by_loop, written_more}
+use Rattle.rpki_text.proofs.list.fmt_elements.Goals as goal
 
 pub loop-item-preserved : goal.loop-item-preserved
 loop-item-preserved g c = λ show h plain.

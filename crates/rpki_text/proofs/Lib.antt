@@ -1,0 +1,7 @@
+-- Lemmas on what readers answer, on numbers in decimal and on lists of texts.
+pub mod CutLemmas
+pub mod DigitLemmas
+pub mod ListLemmas
+pub mod NumberLemmas
+pub mod PrintedLemmas
+pub mod ReadingLemmas

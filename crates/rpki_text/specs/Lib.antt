@@ -1,0 +1,7 @@
+-- Definitions: what a reader answers, and the texts of numbers and of lists.
+pub mod Cuts
+pub mod Digits
+pub mod Lists
+pub mod Memory
+pub mod Numbers
+pub mod Reading

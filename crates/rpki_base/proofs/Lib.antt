@@ -1,16 +1,8 @@
-pub mod AddressBytes
-pub mod AddressLemmas
-pub mod AddressReading
-pub mod AddressReads
 pub mod AsnLemmas
 pub mod DerCursors
 pub mod DerReadings
 pub mod DerWriting
-pub mod GroupReading
 pub mod PrefixNumbers
-pub mod PrintLemmas
-pub mod PrintedAddressLemmas
 pub mod SmallSetLemmas
-pub mod Tables
 pub mod WalkLemmas
 pub mod WalkSizes

@@ -1,15 +1,10 @@
-pub mod AddressReading
-pub mod AddressText
 pub mod AsnDer
 pub mod AsnText
 pub mod DerReading
 pub mod DerViews
 pub mod DerWriting
-pub mod GroupsRead
 pub mod Orders
 pub mod Prefixes
-pub mod PrintedAddress
-pub mod ReadsAddress
 pub mod SmallSet
 pub mod Steps
 pub mod Walks

@@ -2,11 +2,11 @@
 ghost use Rattle.std.specs.Prelude.{◌≡◌, ◌↔◌, ℕ, ◌<◌, ◌-◌, ◌^◌, List, Contains, IsTrue};
 ghost use Rattle.std.specs.Ordering.{nat_cmp};
 ghost use Rattle.rpki_base.specs.Orders.{ip_cmp};
-ghost use Rattle.rpki_base.specs.PrintedAddress.{IsPrintedIpv6, ipv6_text};
-ghost use Rattle.rpki_base.specs.declared.addr.IpAddr.{IpAddr as EitherAddr};
+ghost use Rattle.rpki_addr.specs.PrintedAddress.{IsPrintedIpv6, ipv6_text};
+ghost use Rattle.rpki_addr.specs.declared.addr.IpAddr.{IpAddr as EitherAddr};
 ghost use Rattle.rpki_base.specs.SmallSet.{IsSmallSet};
 
-use crate::addr::{IpAddr, Ipv4Addr, Ipv6Addr};
+use rpki_addr::addr::{IpAddr, Ipv4Addr, Ipv6Addr};
 use crate::asn::Asn;
 use crate::small_set::SmallAsnSet;
 use std::alloc::Allocator;

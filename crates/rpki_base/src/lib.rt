@@ -2,7 +2,6 @@
 //! answer of a call that may want memory.
 #![tactic(auto)]
 
-pub mod addr;
 pub mod asn;
 pub mod der;
 pub mod laws;
@@ -16,3 +15,6 @@ pub use small_set::SmallAsnSet;
 
 /// Texts, which stand in a crate of their own below this one.
 pub use rpki_text::{list, memory, number};
+
+/// Addresses, which stand in a crate of their own below this one.
+pub use rpki_addr::addr;

@@ -4,11 +4,11 @@ use Rattle.rpki_text.specs.Cuts.{HasNo, IsCutAt, Around, slash, dash}
 use Rattle.rpki_text.specs.Numbers.{IsNumberText}
 use Rattle.rpki_base.specs.Prefixes.{PrefixValue, cleared}
 use Rattle.rpki_text.specs.Reading.{Answers}
-use Rattle.rpki_base.specs.declared.addr.IpAddr.{IpAddr}
-use Rattle.rpki_base.specs.declared.addr.IpAddr.TheVariants.{V4, V6}
+use Rattle.rpki_addr.specs.declared.addr.IpAddr.{IpAddr}
+use Rattle.rpki_addr.specs.declared.addr.IpAddr.TheVariants.{V4, V6}
 use Rattle.rpki_text.specs.declared.number.ParseIntError.{ParseIntError}
 use Rattle.rpki_text.specs.declared.number.ParseIntError.TheVariants.{PosOverflow}
-use Rattle.rpki_base.proofs.AddressReads.{IsIpText-one}
+use Rattle.rpki_addr.proofs.AddressReads.{IsIpText-one}
 use Rattle.rpki_base.proofs.AsnLemmas.{IsNumberText-one}
 use Rattle.rpki_text.proofs.CutLemmas.{HasNo-no_cut, around_at}
 use Rattle.rpki_text.proofs.NumberLemmas.{number_answers}

@@ -1,11 +1,11 @@
 -- Texts of addresses of either family, read as numbers of 128 bits.
 use Rattle.std.specs.Prelude.{◌≡◌, ℕ, ◌+◌, ◌-◌, ◌*◌, ◌^◌, List, Result}
-use Rattle.rpki_base.specs.AddressText.{IsIpv4Text, IsIpv6Text, IsIpText}
+use Rattle.rpki_addr.specs.AddressText.{IsIpv4Text, IsIpv6Text, IsIpText}
 use Rattle.rpki_text.specs.Reading.{Answers}
-use Rattle.rpki_base.specs.declared.addr.AddrParseError.{AddrParseError}
-use Rattle.rpki_base.specs.declared.addr.AddrParseError.TheVariants.{Ipv4, Ipv6, Ip}
-use Rattle.rpki_base.specs.declared.addr.IpAddr.{IpAddr}
-use Rattle.rpki_base.specs.declared.addr.IpAddr.TheVariants.{V4, V6}
+use Rattle.rpki_addr.specs.declared.addr.AddrParseError.{AddrParseError}
+use Rattle.rpki_addr.specs.declared.addr.AddrParseError.TheVariants.{Ipv4, Ipv6, Ip}
+use Rattle.rpki_addr.specs.declared.addr.IpAddr.{IpAddr}
+use Rattle.rpki_addr.specs.declared.addr.IpAddr.TheVariants.{V4, V6}
 
 -- the least number that an address stands for: the 32 bits of an IPv4 address are followed by 96 zeros
 abbrev pub first_of : IpAddr → ℕ

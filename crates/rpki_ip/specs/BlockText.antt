@@ -1,12 +1,12 @@
 -- Texts of prefixes and ranges of addresses. The family that is wanted may be one, or, with None, either.
 use Rattle.std.specs.Prelude.{◌≡◌, ℕ, ◌-◌, ◌^◌, ◌≤◌, ◌<◌, ◌⊎◌, List, Option, None, Some}
-use Rattle.rpki_base.specs.AddressText.{IsIpText}
+use Rattle.rpki_addr.specs.AddressText.{IsIpText}
 use Rattle.rpki_text.specs.Cuts.{HasNo, Around, slash, dash}
 use Rattle.rpki_text.specs.Numbers.{IsNumberText, HasNumberFault}
 use Rattle.rpki_base.specs.Prefixes.{PrefixValue, cleared}
-use Rattle.rpki_base.specs.declared.addr.AddrParseError.{AddrParseError}
-use Rattle.rpki_base.specs.declared.addr.AddrParseError.TheVariants as Address
-use Rattle.rpki_base.specs.declared.addr.IpAddr.{IpAddr}
+use Rattle.rpki_addr.specs.declared.addr.AddrParseError.{AddrParseError}
+use Rattle.rpki_addr.specs.declared.addr.AddrParseError.TheVariants as Address
+use Rattle.rpki_addr.specs.declared.addr.IpAddr.{IpAddr}
 use Rattle.rpki_text.specs.declared.number.ParseIntError.{ParseIntError}
 use Rattle.rpki_text.specs.declared.number.ParseIntError.TheVariants.{PosOverflow}
 use Rattle.rpki_ip.specs.AddrText.{first_of, greatest_of}

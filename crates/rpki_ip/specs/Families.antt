@@ -1,7 +1,7 @@
 -- The two families of addresses (RFC 3779, 2.2.3.3).
 use Rattle.std.specs.Prelude.{ℕ}
-use Rattle.rpki_base.specs.declared.addr.IpAddr.{IpAddr}
-use Rattle.rpki_base.specs.declared.addr.IpAddr.TheVariants.{V4, V6}
+use Rattle.rpki_addr.specs.declared.addr.IpAddr.{IpAddr}
+use Rattle.rpki_addr.specs.declared.addr.IpAddr.TheVariants.{V4, V6}
 use Rattle.rpki_ip.specs.declared.family.AddressFamily.{AddressFamily}
 use Rattle.rpki_ip.specs.declared.family.AddressFamily.TheVariants.{Ipv4, Ipv6}
 

@@ -1,7 +1,7 @@
 -- What is printed of the faults of texts of prefixes, ranges and blocks.
 use Rattle.std.specs.Prelude.{ℕ, List, ◌++◌, codes}
 use Rattle.rpki_text.specs.Numbers.{number_fault_text}
-use Rattle.rpki_base.specs.ReadsAddress.{address_fault_text}
+use Rattle.rpki_addr.specs.ReadsAddress.{address_fault_text}
 use Rattle.rpki_ip.specs.declared.error.FromStrError.{FromStrError}
 use Rattle.rpki_ip.specs.declared.error.FromStrError.TheVariants.{Addr, PrefixLen, MissingSeparator, FamilyMismatch, BadBlocks, BadRange}
 

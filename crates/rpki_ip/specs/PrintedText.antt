@@ -2,9 +2,9 @@
 use Rattle.std.specs.Prelude.{ℕ, ◌/◌, ◌^◌, ◌==◌, if◌then◌else◌, List, ◌∷◌, ◌++◌, decimal}
 use Rattle.rpki_text.specs.Cuts.{slash, dash}
 use Rattle.rpki_base.specs.Prefixes.{PrefixValue}
-use Rattle.rpki_base.specs.PrintedAddress.{ip_text}
-use Rattle.rpki_base.specs.declared.addr.IpAddr.{IpAddr}
-use Rattle.rpki_base.specs.declared.addr.IpAddr.TheVariants.{V4, V6}
+use Rattle.rpki_addr.specs.PrintedAddress.{ip_text}
+use Rattle.rpki_addr.specs.declared.addr.IpAddr.{IpAddr}
+use Rattle.rpki_addr.specs.declared.addr.IpAddr.TheVariants.{V4, V6}
 use Rattle.rpki_ip.specs.Families.{bits_of}
 use Rattle.rpki_ip.specs.Ranges.{RangeValue}
 use Rattle.rpki_ip.specs.declared.family.AddressFamily.{AddressFamily}

@@ -2,7 +2,7 @@
 ghost use Rattle.std.specs.Prelude.{◌≡◌, ◌+◌, ◌-◌, ◌*◌, ◌/◌, ◌^◌};
 ghost use Rattle.std.specs.Fmt.{WritesOnOk};
 ghost use Rattle.std.specs.Int.{to_be_bytes, w128};
-ghost use Rattle.rpki_base.specs.PrintedAddress.{ipv4_text, ipv6_text};
+ghost use Rattle.rpki_addr.specs.PrintedAddress.{ipv4_text, ipv6_text};
 ghost use Rattle.rpki_ip.specs.AddrText.{first_of, ReadsIpv4Addr, ReadsIpv6Addr, ReadsAddr};
 ghost use Rattle.rpki_base.specs.Prefixes.{cleared};
 

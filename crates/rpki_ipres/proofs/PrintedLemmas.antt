@@ -6,12 +6,12 @@ use Rattle.std.proofs.lemmas.List.Elements.{All-cons, All-append, All-weaker}
 use Rattle.std.proofs.lemmas.Nat.{pow_pos}
 use Rattle.rpki_text.specs.Cuts.{HasNo, slash, dash}
 use Rattle.rpki_base.specs.Prefixes.{PrefixValue, IsPrefix, cleared, last_of}
-use Rattle.rpki_base.specs.PrintedAddress.{ip_text}
+use Rattle.rpki_addr.specs.PrintedAddress.{ip_text}
 use Rattle.rpki_text.specs.Reading.{Answers}
-use Rattle.rpki_base.specs.ReadsAddress.{IsAddress}
-use Rattle.rpki_base.specs.declared.addr.IpAddr.{IpAddr}
-use Rattle.rpki_base.proofs.AddressBytes.{IsAddressByte, ip_bytes, not_slash, no_slash, no_dash}
-use Rattle.rpki_base.proofs.AddressReads.{IsIpText-ip_text}
+use Rattle.rpki_addr.specs.ReadsAddress.{IsAddress}
+use Rattle.rpki_addr.specs.declared.addr.IpAddr.{IpAddr}
+use Rattle.rpki_addr.proofs.AddressBytes.{IsAddressByte, ip_bytes, not_slash, no_slash, no_dash}
+use Rattle.rpki_addr.proofs.AddressReads.{IsIpText-ip_text}
 use Rattle.rpki_base.proofs.AsnLemmas.{IsNumberText-decimal}
 use Rattle.rpki_base.proofs.PrefixNumbers.{cleared_first}
 use Rattle.rpki_ip.specs.AddrText.{first_of, greatest_of}

@@ -7,17 +7,17 @@ use Rattle.std.proofs.lemmas.Bool.{cond_both}
 use Rattle.std.proofs.lemmas.Fmt.{decimal_is_IsNumeral}
 use Rattle.std.proofs.lemmas.List.Elements.{All-head, All-tail, All-nil, All-cons, All-append, All-weaker, All-from_get_or, recursion_from_All}
 use Rattle.std.proofs.lemmas.Str.Parse.{digit_at}
-use Rattle.rpki_base.specs.AddressText.{IsGroupText, IsGroupsText, dotted}
+use Rattle.rpki_addr.specs.AddressText.{IsGroupText, IsGroupsText, dotted}
 use Rattle.rpki_text.specs.Cuts.{slash, dash}
 use Rattle.rpki_text.specs.Digits.{octets_of}
 use Rattle.rpki_text.specs.Lists.{elements, joined_by, HaveValues}
 use Rattle.rpki_text.specs.Memory.{IsMemory}
-use Rattle.rpki_base.specs.PrintedAddress.{ipv4_text, ipv6_text}
+use Rattle.rpki_addr.specs.PrintedAddress.{ipv4_text, ipv6_text}
 use Rattle.rpki_text.specs.Reading.{AnswersOrMemory}
 use Rattle.rpki_text.specs.declared.memory.OrMemory.{OrMemory}
-use Rattle.rpki_base.proofs.AddressBytes.{IsAddressByte, ip_bytes}
-use Rattle.rpki_base.proofs.AddressLemmas.{dotted_is}
-use Rattle.rpki_base.proofs.AddressReads.{IsIpv6Text-ipv6_text}
+use Rattle.rpki_addr.proofs.AddressBytes.{IsAddressByte, ip_bytes}
+use Rattle.rpki_addr.proofs.AddressLemmas.{dotted_is}
+use Rattle.rpki_addr.proofs.AddressReads.{IsIpv6Text-ipv6_text}
 use Rattle.rpki_text.proofs.DigitLemmas.{last_digit_below, length-last_digits}
 use Rattle.rpki_text.proofs.PrintedLemmas.{IsShown, IsElement, elements-joined}
 use Rattle.rpki_ip.specs.Families.{bits_of}

@@ -12,8 +12,8 @@ use Rattle.rpki_base.specs.DerViews.{ReadsOrMemory}
 use Rattle.rpki_text.specs.Lists.{elements, HaveValues}
 use Rattle.rpki_base.specs.Prefixes.{PrefixValue, cleared}
 use Rattle.rpki_text.specs.Reading.{AnswersOrMemory}
-use Rattle.rpki_base.specs.declared.addr.IpAddr.{IpAddr}
-use Rattle.rpki_base.specs.declared.addr.IpAddr.TheVariants.{V4, V6}
+use Rattle.rpki_addr.specs.declared.addr.IpAddr.{IpAddr}
+use Rattle.rpki_addr.specs.declared.addr.IpAddr.TheVariants.{V4, V6}
 use Rattle.rpki_text.specs.declared.memory.OrMemory.{OrMemory}
 use Rattle.rpki_chain.specs.Runs.{Runs, Holds, IsRunsOfBlocks}
 use Rattle.rpki_ip.specs.AddrText.{first_of}

@@ -5,8 +5,8 @@ use Rattle.std.proofs.lemmas.Nat.{pow_pos, pow_below}
 use Rattle.std.specs.Ordering.{is_lt, bool_cmp, nat_cmp}
 use mathlib.Core.Bool.{beq}
 use Rattle.std.specs.declared.cmp.Ordering.TheVariants.{Equal, Greater}
-use Rattle.rpki_base.specs.declared.addr.IpAddr.{IpAddr}
-use Rattle.rpki_base.specs.declared.addr.IpAddr.TheVariants.{V4, V6}
+use Rattle.rpki_addr.specs.declared.addr.IpAddr.{IpAddr}
+use Rattle.rpki_addr.specs.declared.addr.IpAddr.TheVariants.{V4, V6}
 use Rattle.rpki_base.specs.Prefixes.{IsIn}
 use Rattle.rpki_prefix.specs.Order.{prefix_cmp, last_bits}
 use Rattle.rpki_prefix.specs.Values.{FamilyPrefix, CoversPrefix, interval, width, bits, with_bits, last_addr, is_v6}

@@ -7,8 +7,8 @@ use Rattle.std.proofs.lemmas.List.Elements.{All-append, All-cons, All-from_recur
 use Rattle.std.proofs.lemmas.Str.Parse.{digit_from_value}
 use Rattle.rpki_text.specs.Cuts.{HasNo, Around, slash, dash}
 use Rattle.rpki_text.specs.Numbers.{IsNumberText, HasNumberFault}
-use Rattle.rpki_base.specs.PrintedAddress.{ip_text}
-use Rattle.rpki_base.proofs.AddressBytes.{IsAddressByte, ip_bytes, not_dash}
+use Rattle.rpki_addr.specs.PrintedAddress.{ip_text}
+use Rattle.rpki_addr.proofs.AddressBytes.{IsAddressByte, ip_bytes, not_dash}
 use Rattle.rpki_base.proofs.AsnLemmas.{IsNumberText-one, IsNumberText-decimal}
 use Rattle.rpki_text.proofs.CutLemmas.{none_around, around_at}
 use Rattle.rpki_text.proofs.ReadingLemmas.{Answers-from_found}

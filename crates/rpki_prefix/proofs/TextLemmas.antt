@@ -1,16 +1,16 @@
 -- A text writes one prefix, or has one fault; and what is printed of a prefix writes it.
 use Rattle.std.proofs.Common.{◌≡◌, ℕ, ◌-◌, ◌^◌, ◌≤◌, ◌<◌, inl, inr, List, [], decimal, Result, Err, MatchResult, refl, sym, ap, ◌∙◌, subst, arith}
-use Rattle.rpki_base.specs.AddressText.{IsIpText}
+use Rattle.rpki_addr.specs.AddressText.{IsIpText}
 use Rattle.rpki_text.specs.Cuts.{HasNo, Around, slash}
 use Rattle.rpki_text.specs.Numbers.{IsNumberText, HasNumberFault}
-use Rattle.rpki_base.specs.PrintedAddress.{ip_text}
+use Rattle.rpki_addr.specs.PrintedAddress.{ip_text}
 use Rattle.rpki_text.specs.Reading.{Answers}
-use Rattle.rpki_base.specs.ReadsAddress.{IsAddress}
-use Rattle.rpki_base.specs.declared.addr.IpAddr.{IpAddr}
-use Rattle.rpki_base.specs.declared.addr.IpAddr.TheVariants.{V4, V6}
+use Rattle.rpki_addr.specs.ReadsAddress.{IsAddress}
+use Rattle.rpki_addr.specs.declared.addr.IpAddr.{IpAddr}
+use Rattle.rpki_addr.specs.declared.addr.IpAddr.TheVariants.{V4, V6}
 use Rattle.rpki_text.specs.declared.number.ParseIntError.{ParseIntError}
-use Rattle.rpki_base.proofs.AddressBytes.{ip_bytes, no_slash}
-use Rattle.rpki_base.proofs.AddressReads.{IsIpText-one, IsIpText-ip_text}
+use Rattle.rpki_addr.proofs.AddressBytes.{ip_bytes, no_slash}
+use Rattle.rpki_addr.proofs.AddressReads.{IsIpText-one, IsIpText-ip_text}
 use Rattle.rpki_base.proofs.AsnLemmas.{IsNumberText-one, IsNumberText-decimal}
 use Rattle.rpki_text.proofs.CutLemmas.{none_around, around_at}
 use Rattle.rpki_text.proofs.NumberLemmas.{number_answers}

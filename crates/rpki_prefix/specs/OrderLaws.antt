@@ -6,8 +6,8 @@ use Rattle.std.specs.declared.cmp.Ordering.{Ordering}
 use Rattle.std.specs.declared.cmp.Ordering.TheVariants.{Less, Equal, Greater}
 use Rattle.std.specs.Option.{option_eq, option_cmp}
 use Rattle.std.specs.Ordering.{is_eq, nat_cmp, ordering_then}
-use Rattle.rpki_base.specs.declared.addr.IpAddr.{IpAddr}
-use Rattle.rpki_base.specs.declared.addr.IpAddr.TheVariants.{V4, V6}
+use Rattle.rpki_addr.specs.declared.addr.IpAddr.{IpAddr}
+use Rattle.rpki_addr.specs.declared.addr.IpAddr.TheVariants.{V4, V6}
 use Rattle.rpki_prefix.specs.MaxLen.{MaxLenValue, max_len_cmp}
 use Rattle.rpki_prefix.specs.Order.{prefix_cmp}
 use Rattle.rpki_prefix.specs.Values.{FamilyPrefix}

@@ -1,12 +1,12 @@
 -- Texts of prefixes: an address, a slash, and a length (RFC 4632, 3.1; RFC 4291, 2.3).
 use Rattle.std.specs.Prelude.{◌≡◌, ℕ, ◌-◌, ◌^◌, ◌≢◌, ◌⊎◌, List, [], ◌∷◌, ◌++◌, decimal, Result, Ok, MatchResult}
-use Rattle.rpki_base.specs.AddressText.{IsIpText}
+use Rattle.rpki_addr.specs.AddressText.{IsIpText}
 use Rattle.rpki_text.specs.Cuts.{HasNo, Around, slash}
 use Rattle.rpki_text.specs.Numbers.{IsNumberText, HasNumberFault}
-use Rattle.rpki_base.specs.PrintedAddress.{ip_text}
+use Rattle.rpki_addr.specs.PrintedAddress.{ip_text}
 use Rattle.rpki_text.specs.Reading.{Answers}
-use Rattle.rpki_base.specs.declared.addr.AddrParseError.TheVariants.{Ip}
-use Rattle.rpki_base.specs.declared.addr.IpAddr.{IpAddr}
+use Rattle.rpki_addr.specs.declared.addr.AddrParseError.TheVariants.{Ip}
+use Rattle.rpki_addr.specs.declared.addr.IpAddr.{IpAddr}
 use Rattle.rpki_prefix.specs.Values.{FamilyPrefix, IsFamilyPrefix, IsPrefixOf, IsRelaxedPrefixOf, HasPrefixError, HasRelaxedPrefixError}
 use Rattle.rpki_prefix.specs.declared.error.PrefixError.{PrefixError}
 use Rattle.rpki_prefix.specs.declared.error.ParsePrefixError.{ParsePrefixError}

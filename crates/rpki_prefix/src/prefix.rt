@@ -1,6 +1,6 @@
 //! Prefixes of addresses of one family.
 ghost use Rattle.std.specs.Prelude.{◌≡◌, ◌+◌, ◌^◌, ◌<◌, ◌≤◌, MatchResult, not};
-ghost use Rattle.rpki_base.specs.declared.addr.IpAddr.TheVariants.{V4, V6};
+ghost use Rattle.rpki_addr.specs.declared.addr.IpAddr.TheVariants.{V4, V6};
 ghost use Rattle.rpki_prefix.specs.Values.{IsPrefixOf, IsRelaxedPrefixOf, HasPrefixError, HasRelaxedPrefixError, IsFamilyPrefix, bits, width, is_v6, cleared_addr, filled_addr, last_addr};
 
 use crate::error::PrefixError;

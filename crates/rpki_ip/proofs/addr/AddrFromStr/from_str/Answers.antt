@@ -1,5 +1,5 @@
 use Rattle.std.proofs.lemmas.Result.{err_from_is_err_and}
-use Rattle.rpki_base.specs.AddressText.{IsIpText}
+use Rattle.rpki_addr.specs.AddressText.{IsIpText}
 use Rattle.rpki_ip.specs.AddrText.{first_of}
 use Rattle.rpki_ip.proofs.AddrTextLemmas.{first_of_ok, first_of_err}
 use Rattle.rpki_ip.proofs.addr.AddrFromStr.from_str.Goals as goal

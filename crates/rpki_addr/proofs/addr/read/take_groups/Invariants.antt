@@ -1,0 +1,10 @@
+-- The groups so far are the first ones.
+use Rattle.std.proofs.Common.{◌-◌}
+use Rattle.rpki_addr.specs.GroupsRead.{IsSoFar}
+use Rattle.rpki_addr.proofs.addr.read.take_groups.Given as goal
+
+abbrev pub invariant-loop-longer : goal.invariant-loop-longer
+invariant-loop-longer l = IsSoFar l.room l.text l.groups
+
+abbrev pub decreases-loop-longer : goal.decreases-loop-longer
+decreases-loop-longer l = l.room - l.groups.count

@@ -1,0 +1,189 @@
+//! Addresses written into a buffer, each byte once.
+//!
+//! What is put stands behind the bytes that a caller has there; the answer is where it ends.
+ghost use Rattle.std.specs.Prelude.{◌≡◌, ◌+◌, ◌*◌, ◌/◌, ◌<◌, ◌≤◌, [], ◌∷◌, ◌++◌, length, take, decimal};
+ghost use Rattle.std.specs.Char.{digit_char};
+ghost use Rattle.std.specs.Net.Text.{hex, groups_text as std_groups_text, hex_groups_text, longest_zero_run};
+ghost use Rattle.rpki_addr.specs.AddressText.{dotted};
+ghost use Rattle.rpki_addr.specs.PrintedAddress.{ipv6_text};
+
+use super::Ipv4Addr;
+use super::groups::split_groups;
+
+/// The most bytes of an IPv4 text.
+pub(crate) const IPV4_ROOM: usize = 15;
+
+/// The most bytes of an IPv6 text, and one for the colon behind a last group.
+pub(crate) const IPV6_ROOM: usize = 40;
+
+/// Puts a byte.
+#[inline(always)]
+fn put(out: &mut [u8], at: usize, byte: u8) -> usize
+    requires { at < length out.old }
+    ensures text { take result out.new ≡ take at out.old ++ byte ∷ [] }
+    ensures end { result ≡ at + 1 }
+{
+    out[at] = byte;
+    at + 1
+}
+
+/// Puts bytes.
+fn put_all(out: &mut [u8], at: usize, bytes: &[u8]) -> usize
+    requires { at + length bytes.now ≤ length out.old }
+    ensures text { take result out.new ≡ take at out.old ++ bytes.now }
+    ensures end { result ≡ at + length bytes.now }
+{
+    let mut end = at;
+    for byte in bytes {
+        end = put(out, end, *byte);
+    }
+    end
+}
+
+/// Puts an octet in decimal.
+fn put_octet(out: &mut [u8], at: usize, octet: u8) -> usize
+    requires { at + 3 ≤ length out.old }
+    ensures text { take result out.new ≡ take at out.old ++ decimal octet }
+    ensures end { result ≤ at + 3 }
+{
+    if octet >= 100 {
+        let at = put(out, at, b'0' + octet / 100);
+        let at = put(out, at, b'0' + octet / 10 % 10);
+        return put(out, at, b'0' + octet % 10);
+    }
+    if octet >= 10 {
+        let at = put(out, at, b'0' + octet / 10);
+        return put(out, at, b'0' + octet % 10);
+    }
+    put(out, at, b'0' + octet)
+}
+
+/// Puts four octets in decimal with dots between them.
+pub(crate) fn put_ipv4(out: &mut [u8], at: usize, octets: [u8; 4]) -> usize
+    requires { at + 15 ≤ length out.old }
+    ensures text { take result out.new ≡ take at out.old ++ dotted octets }
+    ensures end { result ≤ at + 15 }
+{
+    let [a, b, c, d] = octets;
+    let at = put_octet(out, at, a);
+    let at = put(out, at, b'.');
+    let at = put_octet(out, at, b);
+    let at = put(out, at, b'.');
+    let at = put_octet(out, at, c);
+    let at = put(out, at, b'.');
+    put_octet(out, at, d)
+}
+
+/// The hexadecimal digits, in lower case (RFC 5952, 4.3).
+static HEX_DIGITS: [u8; 16] = [
+    b'0', b'1', b'2', b'3', b'4', b'5', b'6', b'7', b'8', b'9', b'a', b'b', b'c', b'd', b'e', b'f',
+];
+
+/// The digit of this value.
+#[inline(always)]
+fn hex_digit(value: u16) -> u8
+    requires { value < 16 }
+    ensures { result ≡ digit_char value }
+{
+    HEX_DIGITS[usize::from(value)]
+}
+
+/// Puts a group in hexadecimal without leading zeros (RFC 5952, 4.1).
+fn put_group(out: &mut [u8], at: usize, group: u16) -> usize
+    requires { at + 4 ≤ length out.old }
+    ensures text { take result out.new ≡ take at out.old ++ hex group }
+    ensures end { result ≤ at + 4 }
+{
+    if group >= 0x1000 {
+        let at = put(out, at, hex_digit(group / 0x1000));
+        let at = put(out, at, hex_digit(group / 0x100 % 16));
+        let at = put(out, at, hex_digit(group / 0x10 % 16));
+        return put(out, at, hex_digit(group % 16));
+    }
+    if group >= 0x100 {
+        let at = put(out, at, hex_digit(group / 0x100 % 16));
+        let at = put(out, at, hex_digit(group / 0x10 % 16));
+        return put(out, at, hex_digit(group % 16));
+    }
+    if group >= 0x10 {
+        let at = put(out, at, hex_digit(group / 0x10 % 16));
+        return put(out, at, hex_digit(group % 16));
+    }
+    put(out, at, hex_digit(group % 16))
+}
+
+/// Puts groups with colons between them.
+fn put_groups(out: &mut [u8], at: usize, groups: &[u16]) -> usize
+    requires { at + 5 * length groups.now ≤ length out.old }
+    ensures text { take result out.new ≡ take at out.old ++ std_groups_text groups.now }
+    ensures end { result ≤ at + 5 * length groups.now }
+{
+    let [first, rest @ ..] = groups else {
+        return at;
+    };
+    let mut end = put_group(out, at, *first);
+    for group in rest {
+        end = put(out, end, b':');
+        end = put_group(out, end, *group);
+    }
+    end
+}
+
+/// Zero groups that stand one after another.
+#[derive(Clone, Copy)]
+struct ZeroRun {
+    start: usize,
+    len: usize,
+}
+
+/// The longest run of zero groups, and of several that are as long the first (RFC 5952, 4.2.3).
+fn longest_run(groups: &[u16]) -> ZeroRun
+    ensures value { (result.start, result.len) ≡ longest_zero_run groups.now }
+    ensures within { result.start + result.len ≤ length groups.now }
+{
+    let mut longest = ZeroRun {
+        start: groups.len(),
+        len: 0,
+    };
+    let mut start = groups.len();
+    let mut len = 0;
+    while start > 0 {
+        start -= 1;
+        len = if groups[start] == 0 { len + 1 } else { 0 };
+        // From the end on, so that a run in front of one that is as long takes its place.
+        if len >= longest.len {
+            longest = ZeroRun { start, len };
+        }
+    }
+    longest
+}
+
+/// Puts groups, the longest run of two or more zeros as two colons (RFC 5952, 4.2).
+fn put_shortened(out: &mut [u8], groups: &[u16]) -> usize
+    requires { 5 * length groups.now ≤ length out.old }
+    ensures text { take result out.new ≡ hex_groups_text groups.now }
+    ensures end { result ≤ length out.old }
+{
+    let run = longest_run(groups);
+    if run.len < 2 {
+        return put_groups(out, 0, groups);
+    }
+    let at = put_groups(out, 0, &groups[..run.start]);
+    let at = put(out, at, b':');
+    let at = put(out, at, b':');
+    put_groups(out, at, &groups[run.start + run.len..])
+}
+
+/// Puts the IPv6 address of these bits. An IPv4-mapped one ends in its IPv4 address (RFC 5952, 5).
+pub(crate) fn put_ipv6(out: &mut [u8], bits: u128) -> usize
+    requires { 40 ≤ length out.old }
+    ensures text { take result out.new ≡ ipv6_text bits }
+    ensures end { result ≤ length out.old }
+{
+    if bits / 0x1_0000_0000 == 0xffff {
+        let low = Ipv4Addr::from_bits((bits % 0x1_0000_0000) as u32);
+        let at = put_all(out, 0, b"::ffff:");
+        return put_ipv4(out, at, low.octets());
+    }
+    put_shortened(out, &split_groups(bits))
+}

@@ -1,0 +1,346 @@
+//! Addresses read from bytes, each byte about once.
+//!
+//! What a reader takes stands at the front of a text; it answers what that writes, and what stands behind it.
+ghost use Rattle.std.specs.Prelude.{◌≡◌, ◌==◌, true, ◌+◌, ◌*◌, ◌-◌, ◌^◌, ◌<◌, ◌≤◌, ℕ, List, None, false, length, get_or, nat_lt, option_map, option_and_then, IfSome, MatchOption};
+ghost use Rattle.std.specs.Char.{digit_value};
+ghost use Rattle.std.specs.Net.Reader as Reader;
+ghost use Rattle.rpki_text.specs.Digits.{from_octets};
+ghost use Rattle.rpki_addr.specs.AddressReading.{numbered, with_number, with_octets, hex_value};
+ghost use Rattle.rpki_addr.specs.GroupsRead.{IsSoFar, parts};
+
+/// The value of the decimal digit at a place, or 10 or more where none is there.
+#[inline(always)]
+fn decimal_at(text: &[u8], at: usize) -> u8
+    ensures digit { result < 10 → digit_value (get_or text.now at 0) ≡ result }
+    ensures some { result < 10 → at < length text.now }
+    ensures other { 10 ≤ result → 10 ≤ digit_value (get_or text.now at 0) }
+{
+    if at < text.len() && text[at] >= b'0' {
+        text[at] - b'0'
+    } else {
+        10
+    }
+}
+
+/// Takes a decimal of 0 to 255 without leading zeros.
+#[inline(always)]
+fn take_octet(text: &[u8]) -> Option<(u8, &[u8])>
+    ensures { Reader.read_view (λ n. n) result ≡ Reader.read_octet text.now }
+{
+    let first = decimal_at(text, 0);
+    if first >= 10 {
+        return None;
+    }
+    let second = decimal_at(text, 1);
+    if second >= 10 {
+        return Some((first, &text[1..]));
+    }
+    if first == 0 {
+        return None;
+    }
+    let third = decimal_at(text, 2);
+    if third >= 10 {
+        return Some((first * 10 + second, &text[2..]));
+    }
+    let octet = (u32::from(first) * 10 + u32::from(second)) * 10 + u32::from(third);
+    if octet > 255 {
+        return None;
+    }
+    if decimal_at(text, 3) < 10 {
+        return None;
+    }
+    Some((octet as u8, &text[3..]))
+}
+
+/// What stands behind this byte at the front.
+#[inline(always)]
+fn behind(byte: u8, text: &[u8]) -> Option<&[u8]>
+    ensures { option_map (λ rest. rest.now) result ≡ Reader.read_byte byte text.now }
+{
+    let (first, rest) = text.split_first()?;
+    if *first == byte { Some(rest) } else { None }
+}
+
+/// Takes a dot and an octet.
+#[inline(always)]
+fn take_next_octet(text: &[u8]) -> Option<(u8, &[u8])>
+    ensures { Reader.read_view (λ n. n) result
+        ≡ option_and_then Reader.read_octet (Reader.read_byte 46 text.now) }
+{
+    take_octet(behind(b'.', text)?)
+}
+
+/// Takes an IPv4 text, as the number of its address.
+#[tactic(auto, unfolding(std::specs::Net::Reader::read_ipv4))]
+fn take_ipv4(text: &[u8]) -> Option<(u32, &[u8])>
+    ensures { Reader.read_view (λ n. n) result ≡ option_map with_octets (Reader.read_ipv4 text.now) }
+{
+    let (a, text) = take_octet(text)?;
+    let (b, text) = take_next_octet(text)?;
+    let (c, text) = take_next_octet(text)?;
+    let (d, text) = take_next_octet(text)?;
+    Some((number_of([a, b, c, d]), text))
+}
+
+/// The number of the address of these octets.
+#[inline(always)]
+fn number_of(octets: [u8; 4]) -> u32
+    ensures { result ≡ from_octets octets }
+{
+    u32::from_be_bytes(octets)
+}
+
+/// Is there a dot at this place?
+#[inline(always)]
+fn is_dot(text: &[u8], at: usize) -> bool
+    ensures { result ≡ (get_or text.now at 0 == 46) }
+{
+    at < text.len() && text[at] == b'.'
+}
+
+/// Is there a dot behind one, two or three bytes? An IPv4 text begins so.
+#[inline(always)]
+fn has_early_dot(text: &[u8]) -> bool
+    ensures { result ≡ false → Reader.read_ipv4 text.now ≡ None }
+{
+    if is_dot(text, 1) {
+        return true;
+    }
+    if is_dot(text, 2) {
+        return true;
+    }
+    is_dot(text, 3)
+}
+
+/// Takes an IPv4 text where it may stand for two groups, so there must be room for both.
+#[inline(always)]
+fn take_last_two(text: &[u8], has_room: bool) -> Option<(u32, &[u8])>
+    ensures { Reader.read_view (λ n. n) result
+        ≡ option_map with_octets (Reader.read_ipv4_if has_room text.now) }
+{
+    if !has_room {
+        return None;
+    }
+    if !has_early_dot(text) {
+        return None;
+    }
+    take_ipv4(text)
+}
+
+/// The value of each byte as a hexadecimal digit, or 16.
+static HEX_VALUES: [u8; 256] = [
+    16, 16, 16, 16, 16, 16, 16, 16, 16, 16, 16, 16, 16, 16, 16, 16, 16, 16, 16, 16, 16, 16, 16, 16,
+    16, 16, 16, 16, 16, 16, 16, 16, 16, 16, 16, 16, 16, 16, 16, 16, 16, 16, 16, 16, 16, 16, 16, 16,
+    0, 1, 2, 3, 4, 5, 6, 7, 8, 9, 16, 16, 16, 16, 16, 16, 16, 10, 11, 12, 13, 14, 15, 16, 16, 16,
+    16, 16, 16, 16, 16, 16, 16, 16, 16, 16, 16, 16, 16, 16, 16, 16, 16, 16, 16, 16, 16, 16, 16, 10,
+    11, 12, 13, 14, 15, 16, 16, 16, 16, 16, 16, 16, 16, 16, 16, 16, 16, 16, 16, 16, 16, 16, 16, 16,
+    16, 16, 16, 16, 16, 16, 16, 16, 16, 16, 16, 16, 16, 16, 16, 16, 16, 16, 16, 16, 16, 16, 16, 16,
+    16, 16, 16, 16, 16, 16, 16, 16, 16, 16, 16, 16, 16, 16, 16, 16, 16, 16, 16, 16, 16, 16, 16, 16,
+    16, 16, 16, 16, 16, 16, 16, 16, 16, 16, 16, 16, 16, 16, 16, 16, 16, 16, 16, 16, 16, 16, 16, 16,
+    16, 16, 16, 16, 16, 16, 16, 16, 16, 16, 16, 16, 16, 16, 16, 16, 16, 16, 16, 16, 16, 16, 16, 16,
+    16, 16, 16, 16, 16, 16, 16, 16, 16, 16, 16, 16, 16, 16, 16, 16, 16, 16, 16, 16, 16, 16, 16, 16,
+    16, 16, 16, 16, 16, 16, 16, 16, 16, 16, 16, 16, 16, 16,
+];
+
+/// The value of a hexadecimal digit, or 16 at any other byte.
+#[inline(always)]
+fn hex_value(byte: u8) -> u8
+    ensures { result ≡ hex_value byte }
+{
+    HEX_VALUES[usize::from(byte)]
+}
+
+/// The value of the hexadecimal digit at a place, or 16 where none is there.
+#[inline(always)]
+#[tactic(auto, unfolding(crate::specs::AddressReading::hex_value))]
+fn hex_at(text: &[u8], at: usize) -> u8
+    ensures digit { result < 16 → digit_value (get_or text.now at 0) ≡ result }
+    ensures some { result < 16 → at < length text.now }
+    ensures other { 16 ≤ result → 16 ≤ digit_value (get_or text.now at 0) }
+{
+    if at < text.len() {
+        hex_value(text[at])
+    } else {
+        16
+    }
+}
+
+/// Takes a group: one to four hexadecimal digits.
+#[inline(always)]
+fn take_group(text: &[u8]) -> Option<(u16, &[u8])>
+    ensures { Reader.read_view (λ n. n) result ≡ Reader.read_segment text.now }
+{
+    let first = hex_at(text, 0);
+    if first >= 16 {
+        return None;
+    }
+    let second = hex_at(text, 1);
+    if second >= 16 {
+        return Some((u16::from(first), &text[1..]));
+    }
+    let two = u16::from(first) * 16 + u16::from(second);
+    let third = hex_at(text, 2);
+    if third >= 16 {
+        return Some((two, &text[2..]));
+    }
+    let three = two * 16 + u16::from(third);
+    let fourth = hex_at(text, 3);
+    if fourth >= 16 {
+        return Some((three, &text[3..]));
+    }
+    if hex_at(text, 4) < 16 {
+        return None;
+    }
+    Some((three * 16 + u16::from(fourth), &text[4..]))
+}
+
+/// Groups that were read, with colons between them.
+#[derive(Clone, Copy)]
+struct Groups<'a> {
+    /// The groups as one number, the first one the highest.
+    bits: u128,
+    /// How many they are.
+    count: usize,
+    /// Whether an IPv4 text wrote the last two, behind which no group can follow.
+    closed: bool,
+    /// What stands behind them.
+    rest: &'a [u8],
+}
+
+impl<'a> Groups<'a> {
+    /// What stands behind the colon before the next group. Before the first group is none.
+    #[inline(always)]
+    fn next_text(&self) -> Option<&'a [u8]>
+        ensures { option_map (λ rest. rest.now) result
+            ≡ Reader.read_separator (self.now.count == 0) self.now.rest.now }
+    {
+        if self.count == 0 {
+            return Some(self.rest);
+        }
+        behind(b':', self.rest)
+    }
+
+    /// The groups and the next one, or the next two by an IPv4 text; None where none follows, or none has room.
+    #[inline(always)]
+    fn longer(&self, room: usize) -> Option<Groups<'a>>
+        requires within { self.now.count ≤ room }
+        requires small { self.now.bits < 0x10000 ^ self.now.count }
+        requires at_most { room ≤ 8 }
+        ensures so_far { (text : List ℕ) → IsSoFar room text self.now → MatchOption result
+            (parts self.now ≡ numbered (Reader.read_segments room true text))
+            (λ groups. IsSoFar room text groups) }
+        ensures more { IfSome result (λ groups. self.now.count < groups.count) }
+    {
+        if self.closed {
+            return None;
+        }
+        if self.count == room {
+            return None;
+        }
+        let Some(text) = self.next_text() else {
+            return None;
+        };
+        if let Some((low, rest)) = take_last_two(text, self.count + 1 < room) {
+            return Some(Groups {
+                bits: self.bits * 0x1_0000_0000 + u128::from(low),
+                count: self.count + 2,
+                closed: true,
+                rest,
+            });
+        }
+        let Some((group, rest)) = take_group(text) else {
+            return None;
+        };
+        Some(Groups {
+            bits: self.bits * 0x10000 + u128::from(group),
+            count: self.count + 1,
+            closed: false,
+            rest,
+        })
+    }
+}
+
+/// Takes groups as long as one follows and has room.
+fn take_groups(text: &[u8], room: usize) -> Groups<'_>
+    requires { room ≤ 8 }
+    ensures value { parts result ≡ numbered (Reader.read_segments room true text.now) }
+    ensures small { result.bits < 0x10000 ^ result.count }
+    ensures within { result.count ≤ room }
+{
+    let mut groups = Groups {
+        bits: 0,
+        count: 0,
+        closed: false,
+        rest: text,
+    };
+    while let Some(longer) = groups.longer(room) {
+        groups = longer;
+    }
+    groups
+}
+
+/// What stands behind two colons at the front.
+#[inline(always)]
+fn behind_colons(text: &[u8]) -> Option<&[u8]>
+    ensures { option_map (λ rest. rest.now) result
+        ≡ option_and_then (Reader.read_byte 58) (Reader.read_byte 58 text.now) }
+{
+    behind(b':', behind(b':', text)?)
+}
+
+/// The number of groups that so many zero groups follow.
+fn with_zeros(bits: u128, count: usize) -> u128
+    requires { bits * 0x10000 ^ count < 2 ^ 128 }
+    ensures { result ≡ bits * 0x10000 ^ count }
+{
+    let mut all = bits;
+    let mut left = count;
+    while left > 0 {
+        all = all * 0x10000;
+        left -= 1;
+    }
+    all
+}
+
+/// Takes an IPv6 text, as the number of its address.
+fn take_ipv6(text: &[u8]) -> Option<(u128, &[u8])>
+    ensures { Reader.read_view (λ n. n) result ≡ option_map with_number (Reader.read_ipv6 text.now) }
+{
+    let front = take_groups(text, 8);
+    if front.count == 8 {
+        return Some((front.bits, front.rest));
+    }
+    if front.closed {
+        return None;
+    }
+    let Some(text) = behind_colons(front.rest) else {
+        return None;
+    };
+    // Two colons stand for one group of zeros at least.
+    let back = take_groups(text, 7 - front.count);
+    let bits = with_zeros(front.bits, 8 - front.count) + back.bits;
+    Some((bits, back.rest))
+}
+
+/// The value, where nothing stands behind it.
+#[inline(always)]
+fn if_whole<T: Copy>(read: Option<(T, &[u8])>) -> Option<T>
+    ensures { result ≡ Reader.whole_value (Reader.read_view (λ x. x) read.entry) }
+{
+    let (value, rest) = read?;
+    if rest.is_empty() { Some(value) } else { None }
+}
+
+/// The number of the address that an IPv4 text writes.
+pub(crate) fn ipv4_of(text: &[u8]) -> Option<u32>
+    ensures { result ≡ Reader.whole_value (option_map with_octets (Reader.read_ipv4 text.now)) }
+{
+    if_whole(take_ipv4(text))
+}
+
+/// The number of the address that an IPv6 text writes.
+pub(crate) fn ipv6_of(text: &[u8]) -> Option<u128>
+    ensures { result ≡ Reader.whole_value (option_map with_number (Reader.read_ipv6 text.now)) }
+{
+    if_whole(take_ipv6(text))
+}

@@ -1,0 +1,100 @@
+//! Texts of addresses, read and printed.
+ghost use Rattle.std.specs.Prelude.{◌≡◌, Some};
+ghost use Rattle.rpki_addr.specs.PrintedAddress.{ipv4_text, ipv6_text, ip_text};
+ghost use Rattle.rpki_addr.specs.ReadsAddress.{ReadsIpv4, ReadsIpv6, ReadsIp};
+
+use super::print::{IPV4_ROOM, IPV6_ROOM, put_ipv4, put_ipv6};
+use super::read::{ipv4_of, ipv6_of};
+use super::{AddrParseError, IpAddr, Ipv4Addr, Ipv6Addr};
+use std::str::FromStr;
+use std::{fmt, str};
+
+/// Reads four decimals with dots between them, each 0 to 255 without leading zeros (RFC 4291, section 2.2).
+///
+/// Any other text is refused by [`AddrParseError::Ipv4`].
+impl FromStr for Ipv4Addr {
+    type Err = AddrParseError;
+
+    ghost from_str_gives = { ReadsIpv4 };
+
+    fn from_str(text: &str) -> Result<Ipv4Addr, AddrParseError> {
+        match ipv4_of(text.as_bytes()) {
+            Some(bits) => Ok(Ipv4Addr(bits)),
+            None => Err(AddrParseError::Ipv4),
+        }
+    }
+}
+
+/// Reads the forms of RFC 4291, section 2.2: eight groups of one to four hexadecimal digits, or
+/// fewer with one `::` for the zero groups between, at least one. The last two groups may be an
+/// IPv4 text.
+///
+/// Any other text is refused by [`AddrParseError::Ipv6`].
+impl FromStr for Ipv6Addr {
+    type Err = AddrParseError;
+
+    ghost from_str_gives = { ReadsIpv6 };
+
+    fn from_str(text: &str) -> Result<Ipv6Addr, AddrParseError> {
+        match ipv6_of(text.as_bytes()) {
+            Some(bits) => Ok(Ipv6Addr(bits)),
+            None => Err(AddrParseError::Ipv6),
+        }
+    }
+}
+
+/// Reads an IPv4 text or an IPv6 text. Any other text is refused by [`AddrParseError::Ip`].
+impl FromStr for IpAddr {
+    type Err = AddrParseError;
+
+    ghost from_str_gives = { ReadsIp };
+
+    fn from_str(text: &str) -> Result<IpAddr, AddrParseError> {
+        if let Ok(address) = Ipv4Addr::from_str(text) {
+            return Ok(IpAddr::V4(address));
+        }
+        match Ipv6Addr::from_str(text) {
+            Ok(address) => Ok(IpAddr::V6(address)),
+            Err(_) => Err(AddrParseError::Ip),
+        }
+    }
+}
+
+/// Writes four decimals with dots between them.
+impl fmt::Display for Ipv4Addr {
+    ghost output = { λ address. Some (ipv4_text address) };
+
+    fn fmt<W: fmt::Write>(&self, f: &mut fmt::Formatter<W>) -> fmt::Result {
+        let mut out = [0; IPV4_ROOM];
+        let end = put_ipv4(&mut out, 0, self.octets());
+        // The bytes are ASCII, so they are a text.
+        let text = str::from_utf8(&out[..end]).map_err(|_| fmt::Error)?;
+        f.write_str(text)
+    }
+}
+
+/// Writes the form of RFC 5952: lower-case groups, with the first longest run of two or more zero
+/// groups as `::`, and an IPv4-mapped address as `::ffff:` and its IPv4 address.
+impl fmt::Display for Ipv6Addr {
+    ghost output = { λ address. Some (ipv6_text address) };
+
+    fn fmt<W: fmt::Write>(&self, f: &mut fmt::Formatter<W>) -> fmt::Result {
+        let mut out = [0; IPV6_ROOM];
+        let end = put_ipv6(&mut out, self.0);
+        // The bytes are ASCII, so they are a text.
+        let text = str::from_utf8(&out[..end]).map_err(|_| fmt::Error)?;
+        f.write_str(text)
+    }
+}
+
+/// Writes the address as its family does.
+impl fmt::Display for IpAddr {
+    ghost output = { λ address. Some (ip_text address) };
+
+    fn fmt<W: fmt::Write>(&self, f: &mut fmt::Formatter<W>) -> fmt::Result {
+        match self {
+            IpAddr::V4(address) => write!(f, "{address}"),
+            IpAddr::V6(address) => write!(f, "{address}"),
+        }
+    }
+}

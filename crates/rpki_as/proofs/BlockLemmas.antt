@@ -6,7 +6,7 @@ use Rattle.rpki_base.specs.AsnText.{asn_text}
 use Rattle.rpki_text.specs.Cuts.{HasNo, dash}
 use Rattle.rpki_base.proofs.AsnLemmas.{IsAsnText-asn_text, IsAsnText-one, asn_text_bytes}
 use Rattle.rpki_text.proofs.CutLemmas.{none_around, around_at}
-use Rattle.rpki_chain.specs.Ranges.{range_bounds}
+use Rattle.rpki_blocks.specs.Ranges.{range_bounds}
 use Rattle.rpki_as.specs.Blocks.{as_bounds}
 use Rattle.rpki_as.specs.BlockText.{IsRangeBetween, NoRange, IsBlockText, HasBlockFault, block_text, ReadsBlock}
 use Rattle.rpki_as.specs.declared.block.AsBlock.{AsBlock}

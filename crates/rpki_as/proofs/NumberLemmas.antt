@@ -5,10 +5,10 @@ use Rattle.std.specs.Iterator.{YieldsFirst, MakesProgress, item_count}
 use Rattle.std.proofs.lemmas.Bool.{cases_lt}
 use Rattle.std.proofs.lemmas.List.{length-append, get_or_append_left, get_or-append_right}
 use Rattle.std.proofs.lemmas.List.Elements.{All-tail, Contains-get_or, Contains-append_left, Contains-append_right, Contains-append_cases}
-use Rattle.rpki_chain.specs.Sets.{IsWithin}
+use Rattle.rpki_blocks.specs.Sets.{IsWithin}
 use Rattle.rpki_chain.specs.Runs.{Runs, Holds}
-use Rattle.rpki_chain.proofs.Chains.{Covers-nil}
-use Rattle.rpki_chain.proofs.Unique.{Covers-head, Covers-tail, Covers-cons_cases}
+use Rattle.rpki_blocks.proofs.Chains.{Covers-nil}
+use Rattle.rpki_blocks.proofs.Unique.{Covers-head, Covers-tail, Covers-cons_cases}
 use Rattle.rpki_as.specs.Blocks.{as_bounds}
 use Rattle.rpki_as.specs.declared.block.AsBlock.{AsBlock}
 use Rattle.rpki_as.specs.Numbers.{IsListOf, IsSizeOf, numbers_from, numbers_within}

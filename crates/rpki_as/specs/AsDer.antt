@@ -1,6 +1,6 @@
 -- Blocks of AS numbers and sequences of them in DER (RFC 3779, 3.2.3.4 to 3.2.3.10).
 use Rattle.std.specs.Prelude.{◌⊎◌, ℕ, ◌≤◌, List, ◌++◌}
-use Rattle.rpki_chain.specs.Ranges.{RangeValue, range_bounds}
+use Rattle.rpki_blocks.specs.Ranges.{RangeValue, range_bounds}
 use Rattle.rpki_chain.specs.Runs.{Runs, IsRunsOfBlocks}
 use Rattle.rpki_der.specs.Der.{Both, IsSequence, Refines, sequence_value}
 use Rattle.rpki_base.specs.AsnDer.{IsAsNumber, as_number_octets}

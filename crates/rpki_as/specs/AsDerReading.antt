@@ -1,6 +1,6 @@
 -- Reading blocks of AS numbers from left to right, with the first fault that is met.
 use Rattle.std.specs.Prelude.{ℕ, nat_lt, if◌then◌else◌, List, Result, Ok, Err}
-use Rattle.rpki_chain.specs.Ranges.{RangeValue}
+use Rattle.rpki_blocks.specs.Ranges.{RangeValue}
 use Rattle.rpki_der.specs.declared.error.DerError.{DerError}
 use Rattle.rpki_der.specs.declared.error.DerError.TheVariants.{ReversedRange}
 use Rattle.rpki_der.specs.Der.{Tlv}

@@ -2,7 +2,7 @@
 use Rattle.std.proofs.Common.{◌≡◌, ℕ, Bool, true, false, refl, ap}
 use Rattle.std.specs.Prelude.{◌==◌, if◌then◌else◌}
 use Rattle.std.proofs.lemmas.Bool.{eqb-true}
-use Rattle.rpki_chain.specs.Ranges.{new_range}
+use Rattle.rpki_blocks.specs.Ranges.{new_range}
 use Rattle.rpki_as.specs.Blocks.{as_bounds, new_as_block}
 use Rattle.rpki_as.specs.declared.block.AsBlock.TheVariants.{Id, Range}
 

@@ -1,7 +1,7 @@
 -- Blocks of AS numbers (RFC 3779, 3.2.3.5 to 3.2.3.8): their bounds and their form, and sets of AS numbers.
 use Rattle.std.specs.Prelude.{ℕ, ◌==◌, if◌then◌else◌}
 use Rattle.rpki_chain.specs.BlockSets.{IsBlockSet}
-use Rattle.rpki_chain.specs.Ranges.{range_bounds, new_range}
+use Rattle.rpki_blocks.specs.Ranges.{range_bounds, new_range}
 use Rattle.rpki_chain.specs.Runs.{Runs}
 use Rattle.rpki_as.specs.declared.block.AsBlock.{AsBlock}
 use Rattle.rpki_as.specs.declared.block.AsBlock.TheVariants.{Id, Range}

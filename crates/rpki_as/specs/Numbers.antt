@@ -1,7 +1,7 @@
 -- Sets of numbers as lists: all their numbers, ascending, and how many they are.
 use Rattle.std.specs.Prelude.{◌≡◌, ℕ, zero, suc, ◌+◌, ◌-◌, ◌<◌, ◌↔◌, List, [], ◌∷◌, length, AllPairs, Option, Some, None}
 use Rattle.std.specs.List.{Contains, flat_map}
-use Rattle.rpki_chain.specs.Ranges.{RangeValue, range_bounds}
+use Rattle.rpki_blocks.specs.Ranges.{RangeValue, range_bounds}
 use Rattle.rpki_as.specs.Blocks.{as_bounds}
 use Rattle.rpki_as.specs.declared.block.AsBlock.{AsBlock}
 

@@ -15,7 +15,7 @@ pub enum AsBlock {
 
 impl AsBlock {
     ghost use Rattle.std.specs.Prelude.{◌≡◌, ◌+◌, ◌≤◌, ◌<◌, ◌^◌, ◌↔◌, IsTrue};
-    ghost use Rattle.rpki_chain.specs.Sets.{IsWithin};
+    ghost use Rattle.rpki_blocks.specs.Sets.{IsWithin};
     ghost use Rattle.rpki_as.specs.Blocks.{as_bounds, new_as_block};
     ghost use Rattle.rpki_as.specs.Numbers.{IsListOf, IsSizeOf, numbers_within};
 
@@ -164,7 +164,7 @@ impl Block for AsBlock {
 /// Blocks are equal where their bounds are, whatever their forms.
 impl PartialEq for AsBlock {
     ghost use Rattle.std.specs.Prelude.{◌≡◌, ◌↔◌, IsTrue};
-    ghost use Rattle.rpki_chain.specs.Equality.{have_same_bounds, blocks_per};
+    ghost use Rattle.rpki_blocks.specs.Equality.{have_same_bounds, blocks_per};
     ghost use Rattle.rpki_as.specs.Blocks.{as_bounds};
 
     ghost eq = { have_same_bounds as_bounds };
@@ -180,7 +180,7 @@ impl PartialEq for AsBlock {
 }
 
 impl Eq for AsBlock {
-    ghost use Rattle.rpki_chain.specs.Equality.{blocks_equiv};
+    ghost use Rattle.rpki_blocks.specs.Equality.{blocks_equiv};
     ghost use Rattle.rpki_as.specs.Blocks.{as_bounds};
 
     ghost laws = { blocks_equiv as_bounds };
@@ -210,7 +210,7 @@ impl From<AsRange> for AsBlock {
 
 /// The numbers one by one, ascending.
 impl IntoIterator for AsBlock {
-    ghost use Rattle.rpki_chain.specs.Sets.{IsWithin};
+    ghost use Rattle.rpki_blocks.specs.Sets.{IsWithin};
     ghost use Rattle.rpki_as.specs.Blocks.{as_bounds};
     ghost use Rattle.rpki_as.specs.Numbers.{IsListOf};
 

@@ -3,7 +3,7 @@ ghost use Rattle.std.specs.Prelude.{◌≡◌, ℕ, ◌↔◌, ◌⊎◌, [], �
 ghost use Rattle.std.specs.Slice.Iter.{iter_rest};
 ghost use Rattle.rpki_text.specs.Memory.{IsMemory};
 ghost use Rattle.rpki_text.specs.Reading.{AnswersOrMemory};
-ghost use Rattle.rpki_chain.specs.Equality.{same_runs, runs_per, runs_equiv};
+ghost use Rattle.rpki_blocks.specs.Equality.{same_runs, runs_per, runs_equiv};
 ghost use Rattle.rpki_chain.specs.Runs.{Runs, Holds, IsRunsOf, IsRunsOfBlocks};
 ghost use Rattle.rpki_as.specs.Blocks.{as_bounds, new_as_block, IsAsSet};
 ghost use Rattle.rpki_as.specs.ListText.{IsAsListText, HasAsListFault, as_list_text};

@@ -25,7 +25,7 @@ impl Model for AsBlockIter {
 }
 
 impl AsBlockIter {
-    ghost use Rattle.rpki_chain.specs.Ranges.{range_bounds};
+    ghost use Rattle.rpki_blocks.specs.Ranges.{range_bounds};
     ghost use Rattle.rpki_as.specs.Numbers.{numbers_within};
 
     /// The numbers of a range.

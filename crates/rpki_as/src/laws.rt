@@ -1,6 +1,6 @@
 //! What holds of ranges and of the texts of sets, each law as the contract of a function that does nothing.
 ghost use Rattle.std.specs.Prelude.{◌≡◌, ℕ, List, ◌↔◌, IsTrue};
-ghost use Rattle.rpki_chain.specs.Ranges.{RangeValue};
+ghost use Rattle.rpki_blocks.specs.Ranges.{RangeValue};
 ghost use Rattle.rpki_chain.specs.Runs.{Runs, Holds};
 ghost use Rattle.rpki_as.specs.Blocks.{IsAsSet};
 ghost use Rattle.rpki_as.specs.ListText.{IsAsListText, as_list_text};

@@ -15,7 +15,7 @@ pub struct AsRange {
 
 impl Model for AsRange {
     ghost use Rattle.std.specs.Prelude.{◌≤◌};
-    ghost use Rattle.rpki_chain.specs.Ranges.{RangeValue};
+    ghost use Rattle.rpki_blocks.specs.Ranges.{RangeValue};
 
     ghost Value = { RangeValue };
 
@@ -28,8 +28,8 @@ impl Model for AsRange {
 
 impl AsRange {
     ghost use Rattle.std.specs.Prelude.{◌+◌, ◌<◌, ◌^◌};
-    ghost use Rattle.rpki_chain.specs.Sets.{IsWithin};
-    ghost use Rattle.rpki_chain.specs.Ranges.{range_bounds};
+    ghost use Rattle.rpki_blocks.specs.Sets.{IsWithin};
+    ghost use Rattle.rpki_blocks.specs.Ranges.{range_bounds};
     ghost use Rattle.rpki_as.specs.Numbers.{IsSizeOf};
 
     /// The range from the least number to the greatest, which isn't below it.
@@ -75,7 +75,7 @@ impl AsRange {
 /// As a block, it has one form.
 impl Block for AsRange {
     ghost use Rattle.std.specs.Prelude.{refl};
-    ghost use Rattle.rpki_chain.specs.Ranges.{range_bounds, new_range};
+    ghost use Rattle.rpki_blocks.specs.Ranges.{range_bounds, new_range};
 
     type Item = Asn;
 

@@ -1,6 +1,6 @@
 //! Texts of AS blocks.
 ghost use Rattle.std.specs.Prelude.{◌≡◌, Some, MatchOption};
-ghost use Rattle.rpki_chain.specs.Ranges.{range_bounds};
+ghost use Rattle.rpki_blocks.specs.Ranges.{range_bounds};
 ghost use Rattle.rpki_as.specs.BlockText.{ReadsBlock, block_text, IsRangeBetween, NoRange};
 
 use crate::block::AsBlock;

@@ -8,11 +8,11 @@ use Rattle.std.proofs.lemmas.Grind.{common_steps}
 use Rattle.std.proofs.lemmas.Result.{IfOk-weaker}
 use Rattle.std.proofs.lemmas.List.Elements.{All-map, All-tail}
 use Rattle.rpki_chain.specs.BlockSets.{IsBlockSet, IsBlockChain}
-use Rattle.rpki_chain.specs.Equality.{is_same_pair, same_runs}
-use Rattle.rpki_chain.specs.Sets.{Covers, IsInside, IsNew, IsChain}
+use Rattle.rpki_blocks.specs.Equality.{is_same_pair, same_runs}
+use Rattle.rpki_blocks.specs.Sets.{Covers, IsInside, IsNew, IsChain}
 use Rattle.rpki_chain.specs.Runs.{Runs, Holds, IsRunsOf, IsRunsOfBlocks}
-use Rattle.rpki_chain.proofs.Chains.{Covers-nil}
-use Rattle.rpki_chain.proofs.Unique.{Covers-head, Covers-tail, Covers-cons_cases}
+use Rattle.rpki_blocks.proofs.Chains.{Covers-nil}
+use Rattle.rpki_blocks.proofs.Unique.{Covers-head, Covers-tail, Covers-cons_cases}
 use Rattle.rpki_chain.proofs.RunLists.{IsRunsOf-itself, IsRunsOf-same, IsRunsOfBlocks-bounds, Holds-map}
 
 -- whether two sets are the same is what the comparison of their bounds tells

@@ -1,14 +1,4 @@
 -- Definitions: sets and their runs, and what the contracts see of a chain.
 pub mod BlockSets
-pub mod Cut
-pub mod Equality
-pub mod Fit
-pub mod Joining
 pub mod Laws
-pub mod Overhang
-pub mod Owned
-pub mod Props
-pub mod Ranges
 pub mod Runs
-pub mod Sets
-pub mod View

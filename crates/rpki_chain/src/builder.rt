@@ -2,7 +2,7 @@
 ghost use Rattle.std.specs.Prelude.{◌≡◌, ◌++◌, [], ◌∷◌, IfOk, OnOk, OnErr, map};
 ghost use Rattle.rpki_chain.specs.Runs.{Holds, IsRunsOf};
 
-use crate::block::Block;
+use rpki_blocks::block::Block;
 use crate::set::BlockSet;
 use std::alloc::{AllocError, Allocator, Global};
 use std::marker::Model;

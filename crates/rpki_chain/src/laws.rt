@@ -4,7 +4,7 @@ ghost use Rattle.rpki_chain.specs.BlockSets.{IsBlockSet};
 ghost use Rattle.rpki_chain.specs.Runs.{Runs, Holds, IsRunsOf, IsRunsOfBlocks};
 ghost use Rattle.rpki_chain.specs.Laws.{IsUnion, IsIntersection, IsDifference};
 
-use crate::block::Block;
+use rpki_blocks::block::Block;
 
 /// The blocks that are made of the runs of a set stand for the set.
 pub fn blocks_of_runs<T: Block>()

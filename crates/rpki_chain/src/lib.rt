@@ -4,20 +4,9 @@
 //! proved once, over every such kind.
 #![tactic(auto)]
 
-pub mod block;
-mod build;
 pub mod builder;
-pub mod chain;
-mod common;
-mod difference;
 pub mod laws;
-mod membership;
-mod overhang;
-pub mod owned;
-mod reads;
 pub mod set;
-pub mod shared;
-mod trim;
 
 pub use block::Block;
 pub use builder::BlockSetBuilder;
@@ -25,3 +14,6 @@ pub use chain::Chain;
 pub use owned::OwnedChain;
 pub use set::BlockSet;
 pub use shared::SharedChain;
+
+/// Blocks and chains, which stand in a crate of their own below this one.
+pub use rpki_blocks::{block, chain, owned, shared};

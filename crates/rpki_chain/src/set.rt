@@ -2,16 +2,16 @@
 ghost use Rattle.std.specs.Prelude.{◌≡◌, ℕ, ◌↔◌, ◌⊎◌, [], ◌∷◌, IsTrue, IfOk, OnOk, OnErr, map};
 ghost use Rattle.std.specs.Slice.Iter.{iter_rest};
 ghost use Rattle.rpki_chain.specs.BlockSets.{IsBlockChain, IsBlockSet};
-ghost use Rattle.rpki_chain.specs.Equality.{same_runs, runs_per, runs_equiv};
+ghost use Rattle.rpki_blocks.specs.Equality.{same_runs, runs_per, runs_equiv};
 ghost use Rattle.rpki_chain.specs.Runs.{Runs, Holds, IsRunsOf, IsRunsOfBlocks};
-ghost use Rattle.rpki_chain.specs.Sets.{IsWithin, IsChain};
-ghost use Rattle.rpki_chain.specs.View.{chain_blocks};
+ghost use Rattle.rpki_blocks.specs.Sets.{IsWithin, IsChain};
+ghost use Rattle.rpki_blocks.specs.View.{chain_blocks};
 
-use crate::block::Block;
-use crate::chain::Chain;
-use crate::owned::OwnedChain;
-use crate::shared::SharedChain;
-use rpki_base::memory::OrMemory;
+use rpki_blocks::block::Block;
+use rpki_blocks::chain::Chain;
+use rpki_blocks::owned::OwnedChain;
+use rpki_blocks::shared::SharedChain;
+use rpki_text::memory::OrMemory;
 use std::alloc::{AllocError, Allocator, Global};
 use std::marker::Model;
 use std::slice::Iter;

@@ -6,11 +6,11 @@ use Rattle.std.proofs.lemmas.List.{get_or-map, length-map, map-append}
 use Rattle.std.proofs.lemmas.Nat.{pow_pos}
 use Rattle.std.proofs.lemmas.List.Elements.{All-head, All-tail, All-map}
 use Rattle.rpki_base.specs.Prefixes.{PrefixValue}
-use Rattle.rpki_chain.proofs.Chains.{Covers-nil}
+use Rattle.rpki_blocks.proofs.Chains.{Covers-nil}
 use Rattle.rpki_chain.proofs.RunLists.{Holds-map}
-use Rattle.rpki_chain.proofs.Unique.{Covers-head, Covers-tail, Covers-cons_cases}
+use Rattle.rpki_blocks.proofs.Unique.{Covers-head, Covers-tail, Covers-cons_cases}
 use Rattle.rpki_chain.specs.Runs.{Runs, Holds}
-use Rattle.rpki_chain.specs.Sets.{IsWithin}
+use Rattle.rpki_blocks.specs.Sets.{IsWithin}
 use Rattle.rpki_cover.proofs.CoverList.{CoverOf, cover_none, cover_list_covers}
 use Rattle.rpki_cover.proofs.Joined.{cover_same, cover_joined}
 use Rattle.rpki_cover.proofs.Multiples.{IsMultiple, mod_multiple, multiple_gap, multiple_self, multiple_smaller}

@@ -5,7 +5,7 @@ use Rattle.std.proofs.lemmas.List.{map-append, take_more}
 use Rattle.std.proofs.lemmas.Simd.{map-map}
 use Rattle.rpki_chain.specs.Runs.{Runs, IsRunsOfBlocks}
 use Rattle.rpki_chain.proofs.RunLists.{IsRunsOf-same}
-use Rattle.rpki_chain.proofs.Sorts.{Covers-map}
+use Rattle.rpki_blocks.proofs.Sorts.{Covers-map}
 use Rattle.rpki_ip.specs.Whole.{HasWholeBounds}
 use Rattle.rpki_ip.specs.declared.family.AddressFamily.TheVariants.{Ipv4}
 use Rattle.rpki_ipres.specs.Blocks.{ip_bounds, new_ip_block}

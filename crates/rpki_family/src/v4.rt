@@ -2,9 +2,9 @@
 ghost use Rattle.std.specs.Prelude.{◌≡◌, ℕ, ◌+◌, ◌-◌, ◌*◌, ◌^◌, ◌↔◌, ◌⊎◌, [], ◌∷◌, IsTrue, IfOk, Some, map, MatchResult};
 ghost use Rattle.rpki_text.specs.Memory.{IsMemory};
 ghost use Rattle.rpki_text.specs.Reading.{AnswersOrMemory};
-ghost use Rattle.rpki_chain.specs.Equality.{have_same_bounds, blocks_per, blocks_equiv, same_runs, runs_per, runs_equiv};
+ghost use Rattle.rpki_blocks.specs.Equality.{have_same_bounds, blocks_per, blocks_equiv, same_runs, runs_per, runs_equiv};
 ghost use Rattle.rpki_chain.specs.Runs.{Runs, Holds, IsRunsOf, IsRunsOfBlocks};
-ghost use Rattle.rpki_chain.specs.Sets.{IsWithin};
+ghost use Rattle.rpki_blocks.specs.Sets.{IsWithin};
 ghost use Rattle.rpki_ip.specs.Whole.{IsWhole, HasWholeBounds};
 ghost use Rattle.rpki_ip.specs.declared.family.AddressFamily.TheVariants.{Ipv4};
 ghost use Rattle.rpki_ipres.specs.Blocks.{ip_bounds, new_ip_block};

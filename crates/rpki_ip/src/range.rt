@@ -1,7 +1,7 @@
 //! Ranges of addresses.
 ghost use Rattle.std.specs.Prelude.{◌≡◌, ◌+◌, ◌-◌, ◌*◌, ◌^◌, ◌<◌, ◌≤◌, ◌↔◌, IsTrue, Ok, IfOk, IfErr};
 ghost use Rattle.rpki_base.specs.Prefixes.{PrefixValue, IsPrefix};
-ghost use Rattle.rpki_chain.specs.Sets.{IsWithin};
+ghost use Rattle.rpki_blocks.specs.Sets.{IsWithin};
 ghost use Rattle.rpki_ip.specs.Ranges.{IsRangeOf, range_bounds};
 ghost use Rattle.rpki_ip.specs.Whole.{IsWhole, HasWholeBounds};
 
@@ -126,7 +126,7 @@ impl From<Prefix> for AddressRange {
 /// Ranges are blocks of the numbers 0 to 2^128 - 1, with one form.
 impl Block for AddressRange {
     ghost use Rattle.std.specs.Prelude.{refl};
-    ghost use Rattle.rpki_chain.specs.Ranges.{range_bounds, new_range};
+    ghost use Rattle.rpki_blocks.specs.Ranges.{range_bounds, new_range};
 
     type Item = Addr;
 

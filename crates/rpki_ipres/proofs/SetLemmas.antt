@@ -1,7 +1,7 @@
 -- Chains of blocks of addresses, and the sets that they are.
 use Rattle.std.proofs.Common.{◌≤◌, [], ◌∷◌, refl, lit≤, arith}
 use Rattle.std.proofs.lemmas.List.Elements.{All-cons, All-nil}
-use Rattle.rpki_chain.specs.Sets.{IsNew, IsChain}
+use Rattle.rpki_blocks.specs.Sets.{IsNew, IsChain}
 use Rattle.rpki_ipres.proofs.FormLemmas.{new_prefix}
 use Rattle.rpki_ipres.specs.Blocks.{ip_bounds, new_ip_block}
 use Rattle.rpki_ipres.specs.declared.block.IpBlock.TheVariants.{Prefix}

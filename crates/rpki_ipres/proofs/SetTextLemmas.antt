@@ -5,7 +5,7 @@ use Rattle.std.proofs.lemmas.List.Elements.{All-map}
 use Rattle.rpki_text.specs.Reading.{AnswersOrMemory}
 use Rattle.rpki_text.specs.declared.memory.OrMemory.{OrMemory}
 use Rattle.rpki_chain.specs.Runs.{Runs, IsRunsOfBlocks}
-use Rattle.rpki_chain.specs.Sets.{Covers}
+use Rattle.rpki_blocks.specs.Sets.{Covers}
 use Rattle.rpki_chain.proofs.RunLists.{IsRunsOf-unique, IsRunsOfBlocks-bounds}
 use Rattle.rpki_chain.proofs.SetLemmas.{bounds_made}
 use Rattle.rpki_ip.specs.Whole.{HasWholeBounds}

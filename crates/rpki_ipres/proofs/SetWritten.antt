@@ -7,7 +7,7 @@ use Rattle.std.proofs.lemmas.List.Elements.{recursion_from_All}
 use Rattle.std.proofs.lemmas.List.Folds.{flat_map-map}
 use Rattle.std.proofs.lemmas.Nat.{pow_below, pow_pos}
 use Rattle.rpki_chain.specs.Runs.{Runs, Holds, IsRunsOfBlocks}
-use Rattle.rpki_chain.specs.Sets.{Covers}
+use Rattle.rpki_blocks.specs.Sets.{Covers}
 use Rattle.rpki_chain.proofs.RunLists.{IsRunsOf-unique, same_numbers}
 use Rattle.rpki_chain.proofs.SetLemmas.{made_of_set}
 use Rattle.rpki_der.specs.Der.{header, sequence_value}

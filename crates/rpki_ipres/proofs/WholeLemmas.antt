@@ -6,8 +6,8 @@ use Rattle.std.proofs.lemmas.Bool.{cases_order}
 use Rattle.std.proofs.lemmas.List.{get_or-map, length-map}
 use Rattle.std.proofs.lemmas.List.Elements.{All-map}
 use Rattle.rpki_chain.specs.Runs.{Runs, Holds, IsRunsOf}
-use Rattle.rpki_chain.specs.Sets.{IsRun, IsChainOf}
-use Rattle.rpki_chain.proofs.Chains.{IsChainOf-from}
+use Rattle.rpki_blocks.specs.Sets.{IsRun, IsChainOf}
+use Rattle.rpki_blocks.proofs.Chains.{IsChainOf-from}
 use Rattle.rpki_ip.specs.Whole.{IsWhole, HasWholeBounds}
 use Rattle.rpki_ip.proofs.WholeLemmas.{whole_set}
 use Rattle.rpki_ipres.specs.Blocks.{ip_bounds}

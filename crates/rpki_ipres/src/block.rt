@@ -143,7 +143,7 @@ impl Block for IpBlock {
 impl PartialEq for IpBlock {
     ghost use Rattle.std.specs.Prelude.{◌≡◌, ◌↔◌, IsTrue};
     ghost use Rattle.rpki_ipres.specs.Blocks.{ip_bounds};
-    ghost use Rattle.rpki_chain.specs.Equality.{have_same_bounds, blocks_per};
+    ghost use Rattle.rpki_blocks.specs.Equality.{have_same_bounds, blocks_per};
 
     ghost eq = { have_same_bounds ip_bounds };
 
@@ -158,7 +158,7 @@ impl PartialEq for IpBlock {
 }
 
 impl Eq for IpBlock {
-    ghost use Rattle.rpki_chain.specs.Equality.{blocks_equiv};
+    ghost use Rattle.rpki_blocks.specs.Equality.{blocks_equiv};
     ghost use Rattle.rpki_ipres.specs.Blocks.{ip_bounds};
 
     ghost laws = { blocks_equiv ip_bounds };

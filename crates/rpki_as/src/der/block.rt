@@ -4,7 +4,7 @@ ghost use Rattle.rpki_der.specs.Reading.{Gives};
 ghost use Rattle.rpki_der.specs.Views.{left, tlv};
 ghost use Rattle.rpki_as.specs.AsDer.{as_range_content};
 ghost use Rattle.rpki_as.specs.AsDerReading.{as_block_of, as_range_in, skip_block_of, skip_pair};
-ghost use Rattle.rpki_chain.specs.Ranges.{range_bounds};
+ghost use Rattle.rpki_blocks.specs.Ranges.{range_bounds};
 
 use crate::block::AsBlock;
 use crate::range::AsRange;

@@ -1,5 +1,5 @@
 use Rattle.std.proofs.Common.{arith, ap}
-use Rattle.rpki_chain.specs.Ranges.{RangeValue}
+use Rattle.rpki_blocks.specs.Ranges.{RangeValue}
 use Rattle.rpki_as.proofs.NumberLemmas.{IsSizeOf-within}
 use Rattle.rpki_as.proofs.range.AsRange.asn_count.Goals as goal
 

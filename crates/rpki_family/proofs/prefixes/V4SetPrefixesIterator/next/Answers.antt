@@ -2,7 +2,7 @@ use Rattle.std.proofs.Common.{◌≡◌, ◌∷◌, refl, sym, subst, ◌∙◌}
 use Rattle.std.specs.List.{All}
 use Rattle.std.specs.Slice.Iter.{iter_rest}
 use Rattle.std.proofs.lemmas.List.Elements.{All-head, All-tail}
-use Rattle.rpki_chain.specs.Sets.{IsWithin}
+use Rattle.rpki_blocks.specs.Sets.{IsWithin}
 use Rattle.rpki_cover.specs.Covers.{IsShortestCover}
 use Rattle.rpki_family.proofs.CoverLemmas.{set_step, block_below, same_bounds, makes_progress}
 use Rattle.rpki_family.specs.SetCovers.{blocks_cover}

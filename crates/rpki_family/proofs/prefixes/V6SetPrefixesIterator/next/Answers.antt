@@ -1,5 +1,5 @@
 use Rattle.std.proofs.Common.{◌≡◌, refl, sym, subst, ◌∙◌}
-use Rattle.rpki_chain.specs.Sets.{IsWithin}
+use Rattle.rpki_blocks.specs.Sets.{IsWithin}
 use Rattle.rpki_cover.specs.Covers.{IsShortestCover}
 use Rattle.rpki_family.proofs.CoverLemmas.{set_step, block_below, same_bounds, makes_progress}
 use Rattle.rpki_family.specs.SetCovers.{blocks_cover}

@@ -1,0 +1,100 @@
+-- Each turn is done with one block and keeps the walk; at its end one chain has no block any more.
+use Rattle.std.proofs.Common.{◌+◌, ◌∙◌, ap, sym, arith, refl}
+use Rattle.rpki_blocks.specs.Sets.{Covers}
+use Rattle.rpki_blocks.proofs.Chains.{IsChainOf-from}
+use Rattle.rpki_blocks.proofs.Sides.{IsAt-from}
+use Rattle.rpki_blocks.proofs.Meets.{Meet-swap, Meet-end}
+use Rattle.rpki_blocks.proofs.MeetTurns.{Meet-start, meet-ordered, meet-own_before, meet-other_before, meet-own_ends, meet-other_ends, meet-none}
+use Rattle.rpki_blocks.proofs.common.common_from.Goals as goal
+
+pub loop-own_at-init : goal.loop-own_at-init
+loop-own_at-init g c =
+    let f = g.T.Block.bounds in
+    let form = g.T.Block.form in
+    let number = g.T.Block.number in
+    let first = c.in_ok-chain.ensures in
+    record {
+      walk = rw first.value (Meet-start f form number g.T.Block.last _ _ c.args.overhang c.requires c.len-own_len.ensures.chain c.len-other_len.ensures.chain);
+      own_bound = (let len = c.len-own_len.ensures.value in omega arith);
+      other_bound = (let len = c.len-other_len.ensures.value in omega arith);
+      own_kept = first.kept;
+      other_kept = refl;
+    }
+
+pub next_meeting-requires-clause-own : goal.next_meeting-requires-clause-own
+next_meeting-requires-clause-own g c = meet-ordered g.T.Block.bounds g.T.Block.form g.T.Block.number _ _ _ _ _ c.loop-own_at.own_block _ c.loop-own_at.invariant.walk
+
+pub next_meeting-requires-clause-other : goal.next_meeting-requires-clause-other
+next_meeting-requires-clause-other g c = meet-ordered g.T.Block.bounds g.T.Block.form g.T.Block.number _ _ _ _ _ c.loop-own_at.other_block _ (Meet-swap g.T.Block.bounds g.T.Block.form _ _ _ _ _ _ _ c.loop-own_at.invariant.walk)
+
+pub loop-own_at-preserved-in-OwnBefore : goal.loop-own_at-preserved-in-OwnBefore
+loop-own_at-preserved-in-OwnBefore g c =
+    let f = g.T.Block.bounds in
+    let form = g.T.Block.form in
+    let number = g.T.Block.number in
+    let inv = c.loop-own_at.invariant in
+    let read = c.read_at-own_block.ensures in
+    let turn = meet-own_before f form number _ _ _ _ _ c.loop-own_at.own_block c.loop-own_at.other_block c.read_at-own_block.result inv.walk c.in-OwnBefore.ensures in
+    record {
+      walk = turn.1 (IsAt-from f number g.T.Block.last _ (c.loop-own_at.own_at + 1) _ (rw inv.own_kept at read.block));
+      own_bound = inv.own_bound;
+      other_bound = inv.other_bound;
+      own_kept = read.kept ∙ inv.own_kept;
+      other_kept = inv.other_kept;
+    }
+
+pub loop-own_at-preserved-in-OtherBefore : goal.loop-own_at-preserved-in-OtherBefore
+loop-own_at-preserved-in-OtherBefore g c =
+    let f = g.T.Block.bounds in
+    let form = g.T.Block.form in
+    let number = g.T.Block.number in
+    let inv = c.loop-own_at.invariant in
+    let read = c.read_at-other_block.ensures in
+    let turn = meet-other_before f form number _ _ _ _ _ c.loop-own_at.own_block c.loop-own_at.other_block c.read_at-other_block.result inv.walk c.in-OtherBefore.ensures in
+    record {
+      walk = turn.1 (IsAt-from f number g.T.Block.last _ (c.loop-own_at.other_at + 1) _ (rw inv.other_kept at read.block));
+      own_bound = inv.own_bound;
+      other_bound = inv.other_bound;
+      own_kept = inv.own_kept;
+      other_kept = read.kept ∙ inv.other_kept;
+    }
+
+pub loop-own_at-preserved-in-OwnEnds : goal.loop-own_at-preserved-in-OwnEnds
+loop-own_at-preserved-in-OwnEnds g c =
+    let f = g.T.Block.bounds in
+    let form = g.T.Block.form in
+    let number = g.T.Block.number in
+    let inv = c.loop-own_at.invariant in
+    let read = c.read_at-own_block-in-OwnEnds.ensures in
+    let turn = meet-own_ends f form number _ _ _ _ _ c.loop-own_at.own_block c.loop-own_at.other_block c.read_at-own_block-in-OwnEnds.result c.in-OwnEnds.low c.in-OwnEnds.high c.new.result inv.walk c.in-OwnEnds.ensures c.new.ensures.bounds (c.new.ensures.value ∙ ap form (sym c.new.ensures.bounds)) in
+    record {
+      walk = rw c.in_ok-push-in-OwnEnds.ensures.items (turn.1 (IsAt-from f number g.T.Block.last _ (c.loop-own_at.own_at + 1) _ (rw inv.own_kept at read.block)));
+      own_bound = inv.own_bound;
+      other_bound = inv.other_bound;
+      own_kept = read.kept ∙ inv.own_kept;
+      other_kept = inv.other_kept;
+    }
+
+pub loop-own_at-preserved : goal.loop-own_at-preserved
+loop-own_at-preserved g c =
+    let f = g.T.Block.bounds in
+    let form = g.T.Block.form in
+    let number = g.T.Block.number in
+    let inv = c.loop-own_at.invariant in
+    let read = c.read_at-other_block-in-OtherEnds.ensures in
+    let turn = meet-other_ends f form number _ _ _ _ _ c.loop-own_at.own_block c.loop-own_at.other_block c.read_at-other_block-in-OtherEnds.result c.in-OtherEnds.low c.in-OtherEnds.high c.new-in-OtherEnds.result inv.walk c.in-OtherEnds.ensures c.new-in-OtherEnds.ensures.bounds (c.new-in-OtherEnds.ensures.value ∙ ap form (sym c.new-in-OtherEnds.ensures.bounds)) in
+    record {
+      walk = rw c.in_ok-push-in-OtherEnds.ensures.items (turn.1 (IsAt-from f number g.T.Block.last _ (c.loop-own_at.other_at + 1) _ (rw inv.other_kept at read.block)));
+      own_bound = inv.own_bound;
+      other_bound = inv.other_bound;
+      own_kept = inv.own_kept;
+      other_kept = read.kept ∙ inv.other_kept;
+    }
+
+pub returns-clause-common : goal.returns-clause-common
+returns-clause-common g c =
+    let f = g.T.Block.bounds in
+    let form = g.T.Block.form in
+    let number = g.T.Block.number in
+    let inv = c.loop-own_at.invariant in
+    rw c.from_vec_unchecked.ensures (IsChainOf-from f form c.loop-own_at.chain.items (λ n. Covers f (g.X.Reads.blocks c.args.own.now) n × Covers f (g.Y.Reads.blocks c.args.other.now) n) inv.walk.chain (Meet-end f form _ _ _ _ _ _ _ inv.walk (meet-none f form number c.loop-own_at.own_block c.loop-own_at.other_block c.in-End.ensures)))

@@ -1,0 +1,142 @@
+-- Each turn is done with one block and keeps the walk; at its end all blocks of the one chain are decided.
+use Rattle.std.proofs.Common.{◌+◌, ◌∙◌, ap, sym, arith}
+use Rattle.std.proofs.lemmas.List.{length_push}
+use Rattle.rpki_blocks.specs.Sets.{Covers}
+use Rattle.rpki_blocks.proofs.Chains.{IsChainOf-from}
+use Rattle.rpki_blocks.proofs.Sides.{IsAt-from}
+use Rattle.rpki_blocks.proofs.CutTurns.{Walk-start, turn-end, turn-done, turn-skip, turn-keep, turn-drop, turn-advance, turn-split}
+use Rattle.rpki_blocks.proofs.difference.difference.Goals as goal
+
+pub loop-other_at-init : goal.loop-other_at-init
+loop-other_at-init g c =
+    let f = g.T.Block.bounds in
+    let form = g.T.Block.form in
+    let number = g.T.Block.number in
+    let last = g.T.Block.last in
+    let rest = c.read_at-rest.ensures in
+    let cut = c.read_at-cut.ensures in
+    record {
+      walk = rw c.new-chain.ensures.items (Walk-start f form number _ _ c.read_at-rest.result c.read_at-cut.result rest.chain cut.chain (IsAt-from f number last _ 0 _ rest.block) (IsAt-from f number last _ 0 _ cut.block));
+      few = (let none = c.new-chain.ensures.items in rw none (omega arith));
+      valid = rest.valid;
+      own_bound = rest.bound;
+      other_bound = cut.bound;
+      own_kept = rest.kept;
+      other_kept = cut.kept;
+    }
+
+pub loop-other_at-preserved-in-Skip : goal.loop-other_at-preserved-in-Skip
+loop-other_at-preserved-in-Skip g c =
+    let f = g.T.Block.bounds in
+    let form = g.T.Block.form in
+    let number = g.T.Block.number in
+    let first = g.T.Block.first in
+    let last = g.T.Block.last in
+    let inv = c.loop-other_at.invariant in
+    let few = inv.few in
+    let read = c.read_at-cut-in-Skip.ensures in
+    let turn = turn-skip f form number _ _ _ _ _ c.loop-other_at.rest c.loop-other_at.cut inv.walk c.in-Skip.ensures in
+    record {
+      walk = turn.1 c.read_at-cut-in-Skip.result (IsAt-from f number last _ (c.loop-other_at.other_at + 1) _ (rw inv.other_kept at read.block));
+      few = omega arith;
+      valid = inv.valid;
+      own_bound = inv.own_bound;
+      other_bound = inv.other_bound;
+      own_kept = inv.own_kept;
+      other_kept = read.kept ∙ inv.other_kept;
+    }
+
+pub loop-other_at-preserved-in-Keep : goal.loop-other_at-preserved-in-Keep
+loop-other_at-preserved-in-Keep g c =
+    let f = g.T.Block.bounds in
+    let form = g.T.Block.form in
+    let number = g.T.Block.number in
+    let first = g.T.Block.first in
+    let last = g.T.Block.last in
+    let inv = c.loop-other_at.invariant in
+    let few = inv.few in
+    let read = c.read_at-rest-in-Keep.ensures in
+    let turn = turn-keep f form number _ _ _ _ _ c.loop-other_at.rest c.loop-other_at.cut c.in-Keep.min c.in-Keep.max inv.walk c.in-Keep.ensures in
+    let pushed = length_push c.loop-other_at.chain.items c.new.result in
+    record {
+      walk = rw c.in_ok-push-in-Keep.ensures.items (turn.2 c.read_at-rest-in-Keep.result c.new.result c.new.ensures.bounds (c.new.ensures.value ∙ ap form (sym c.new.ensures.bounds)) (IsAt-from f number last _ (c.loop-other_at.own_at + 1) _ (rw inv.own_kept at read.block)));
+      few = rw c.in_ok-push-in-Keep.ensures.items (omega arith);
+      valid = read.valid;
+      own_bound = inv.own_bound;
+      other_bound = inv.other_bound;
+      own_kept = read.kept ∙ inv.own_kept;
+      other_kept = inv.other_kept;
+    }
+
+pub loop-other_at-preserved-in-Drop : goal.loop-other_at-preserved-in-Drop
+loop-other_at-preserved-in-Drop g c =
+    let f = g.T.Block.bounds in
+    let form = g.T.Block.form in
+    let number = g.T.Block.number in
+    let first = g.T.Block.first in
+    let last = g.T.Block.last in
+    let inv = c.loop-other_at.invariant in
+    let few = inv.few in
+    let read = c.read_at-rest-in-Drop.ensures in
+    let turn = turn-drop f form number _ _ _ _ _ c.loop-other_at.rest c.loop-other_at.cut inv.walk c.in-Drop.ensures in
+    record {
+      walk = turn.1 c.read_at-rest-in-Drop.result (IsAt-from f number last _ (c.loop-other_at.own_at + 1) _ (rw inv.own_kept at read.block));
+      few = omega arith;
+      valid = read.valid;
+      own_bound = inv.own_bound;
+      other_bound = inv.other_bound;
+      own_kept = read.kept ∙ inv.own_kept;
+      other_kept = inv.other_kept;
+    }
+
+pub loop-other_at-preserved-in-Split : goal.loop-other_at-preserved-in-Split
+loop-other_at-preserved-in-Split g c =
+    let f = g.T.Block.bounds in
+    let form = g.T.Block.form in
+    let number = g.T.Block.number in
+    let first = g.T.Block.first in
+    let last = g.T.Block.last in
+    let inv = c.loop-other_at.invariant in
+    let few = inv.few in
+    let read = c.read_at-cut-in-Split.ensures in
+    let turn = turn-split f form number first last _ _ _ _ _ c.loop-other_at.rest c.loop-other_at.cut c.in-Split.min c.in-Split.end c.in-Split.next c.in-Split.max inv.walk c.in-Split.ensures inv.valid in
+    let pushed = length_push c.loop-other_at.chain.items c.new-in-Split.result in
+    record {
+      walk = rw c.in_ok-push-in-Split.ensures.items (turn.4 c.read_at-cut-in-Split.result c.new-in-Split.result c.new-in-Split.ensures.bounds (c.new-in-Split.ensures.value ∙ ap form (sym c.new-in-Split.ensures.bounds)) (IsAt-from f number last _ (c.loop-other_at.other_at + 1) _ (rw inv.other_kept at read.block)));
+      few = rw c.in_ok-push-in-Split.ensures.items (omega arith);
+      valid = (turn.2, turn.3);
+      own_bound = inv.own_bound;
+      other_bound = inv.other_bound;
+      own_kept = inv.own_kept;
+      other_kept = read.kept ∙ inv.other_kept;
+    }
+
+pub loop-other_at-preserved : goal.loop-other_at-preserved
+loop-other_at-preserved g c =
+    let f = g.T.Block.bounds in
+    let form = g.T.Block.form in
+    let number = g.T.Block.number in
+    let first = g.T.Block.first in
+    let last = g.T.Block.last in
+    let inv = c.loop-other_at.invariant in
+    let few = inv.few in
+    let read = c.read_at-cut-in-Advance.ensures in
+    let turn = turn-advance f form number first last _ _ _ _ _ c.loop-other_at.rest c.loop-other_at.cut c.in-Advance.next c.in-Advance.max inv.walk c.in-Advance.ensures inv.valid in
+    record {
+      walk = turn.3 c.read_at-cut-in-Advance.result (IsAt-from f number last _ (c.loop-other_at.other_at + 1) _ (rw inv.other_kept at read.block));
+      few = omega arith;
+      valid = (turn.1, turn.2);
+      own_bound = inv.own_bound;
+      other_bound = inv.other_bound;
+      own_kept = inv.own_kept;
+      other_kept = read.kept ∙ inv.other_kept;
+    }
+
+pub returns-clause-difference : goal.returns-clause-difference
+returns-clause-difference g c =
+    let f = g.T.Block.bounds in
+    let form = g.T.Block.form in
+    let number = g.T.Block.number in
+    let inv = c.loop-other_at.invariant in
+    let none = turn-end f form number c.loop-other_at.rest c.loop-other_at.cut c.in-End.ensures in
+    rw c.from_vec_unchecked.ensures (IsChainOf-from f form c.loop-other_at.chain.items (λ n. Covers f (g.X.Reads.blocks c.args.own.now) n × (Covers f (g.Y.Reads.blocks c.args.other.now) n → ⊥)) inv.walk.chain (turn-done f form number _ _ _ _ _ c.loop-other_at.rest _ inv.walk none))

@@ -1,0 +1,16 @@
+-- How the two blocks lie decides the fit.
+use Rattle.std.proofs.Common.{◌<◌, ◌≤◌, refl, arith, inr}
+use Rattle.std.proofs.lemmas.Grind.{common_steps}
+use Rattle.rpki_blocks.proofs.overhang.fit_in.Goals as goal
+
+pub returns-then-lt-3 : goal.returns-then-lt-3
+returns-then-lt-3 g c =
+    let meets : g.T.Block.number c.args.min ≤ g.T.Block.number c.args.high = grind (arith, common_steps, g.met.T.Block.in_order, g.met.T.Item.Ord.matches_partial_cmp, c.if-lt.ensures) in
+    let beyond : g.T.Block.number c.args.high < g.T.Block.number c.args.max = grind (arith, common_steps, g.met.T.Block.in_order, g.met.T.Item.Ord.matches_partial_cmp, c.if-lt-3.ensures) in
+    (refl, refl, meets, inr beyond)
+
+pub returns : goal.returns
+returns g c =
+    let begins : g.T.Block.number c.args.low ≤ g.T.Block.number c.args.min = grind (arith, common_steps, g.met.T.Block.in_order, g.met.T.Item.Ord.matches_partial_cmp, c.if-lt-2.ensures) in
+    let ends : g.T.Block.number c.args.max ≤ g.T.Block.number c.args.high = grind (arith, common_steps, g.met.T.Block.in_order, g.met.T.Item.Ord.matches_partial_cmp, c.if-lt-3.ensures) in
+    (begins, ends)

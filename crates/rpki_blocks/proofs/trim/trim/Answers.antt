@@ -1,0 +1,18 @@
+-- What is refused is what the chains, which are still the same, have in common.
+use Rattle.std.proofs.Common.{subst}
+use Rattle.rpki_blocks.specs.Sets.{Covers, IsChainOf}
+use Rattle.rpki_blocks.proofs.FitTurns.{overhang-not_inside}
+use Rattle.rpki_blocks.proofs.trim.trim.Goals as goal
+
+pub returns-in-Ok-clause-ok : goal.returns-in-Ok-clause-ok
+returns-in-Ok-clause-ok g c = (λ e. absurd cc, λ all. absurd (overhang-not_inside g.T.Block.bounds g.T.Block.form g.T.Block.number g.T.Block.last _ _ c.in-Some.overhang c.in-Some.ensures.value all))
+
+pub returns-in-Err-clause-ok : goal.returns-in-Err-clause-ok
+returns-in-Err-clause-ok g c = (λ e. absurd cc, λ all. absurd (overhang-not_inside g.T.Block.bounds g.T.Block.form g.T.Block.number g.T.Block.last _ _ c.in-Some.overhang c.in-Some.ensures.value all))
+
+pub returns-in-Ok-clause-refused : goal.returns-in-Ok-clause-refused
+returns-in-Ok-clause-refused g c =
+    let f = g.T.Block.bounds in
+    let form = g.T.Block.form in
+    subst (λ xs. IsChainOf f form (λ n. Covers f xs n × Covers f (g.Y.Reads.blocks c.args.other.now) n) c.in-Ok.chain) c.first_overhang.ensures.own_kept
+    (subst (λ ys. IsChainOf f form (λ n. Covers f (g.X.Reads.blocks c.first_overhang.new.own) n × Covers f ys n) c.in-Ok.chain) c.first_overhang.ensures.other_kept c.in-Ok.ensures.common)

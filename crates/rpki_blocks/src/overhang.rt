@@ -1,0 +1,102 @@
+//! Where a chain leaves another one.
+ghost use Rattle.std.specs.Prelude.{◌≡◌, MatchOption};
+ghost use Rattle.rpki_blocks.specs.Sets.{IsInside};
+ghost use Rattle.rpki_blocks.specs.Fit.{IsFit, IsFitIn};
+ghost use Rattle.rpki_blocks.specs.Overhang.{IsOverhang};
+
+use crate::block::Block;
+use crate::reads::{Reads, read_at};
+
+/// How the next block of a chain stands to that of another.
+#[derive(Clone, Copy)]
+pub enum Fit<I> {
+    /// There is none.
+    End,
+    /// The other's ends before it: the other's next one is looked at.
+    Skip,
+    /// It lies in the other's.
+    Inside,
+    /// Some of it lies in no block of the other.
+    Beyond { min: I, max: I },
+}
+
+/// The first block of a chain that doesn't lie in another, and the other's block at hand.
+#[derive(Clone, Copy)]
+pub struct Overhang<I> {
+    pub own_at: usize,
+    pub min: I,
+    pub max: I,
+    pub other_at: usize,
+    pub other: Option<(I, I)>,
+}
+
+/// Looks at the next blocks.
+fn next_fit<T: Block>(
+    own: Option<(T::Item, T::Item)>,
+    other: Option<(T::Item, T::Item)>,
+) -> Fit<T::Item>
+    ensures { IsFit T.number own other result }
+{
+    match (own, other) {
+        (None, _) => Fit::End,
+        (Some((min, max)), None) => Fit::Beyond { min, max },
+        (Some((min, max)), Some((low, high))) => fit_in::<T>(min, max, low, high),
+    }
+}
+
+/// Looks at the block from `min` to `max` beside the other chain's from `low` to `high`.
+fn fit_in<T: Block>(min: T::Item, max: T::Item, low: T::Item, high: T::Item) -> Fit<T::Item>
+    ensures { IsFitIn T.number (min, max) (low, high) result }
+{
+    if high < min {
+        return Fit::Skip;
+    }
+    if min < low {
+        return Fit::Beyond { min, max };
+    }
+    if high < max {
+        return Fit::Beyond { min, max };
+    }
+    Fit::Inside
+}
+
+/// Finds the first block that doesn't lie in the other chain. Each turn is done with one block.
+pub fn first_overhang<T: Block, X: Reads<T>, Y: Reads<T>>(
+    own: &mut X,
+    other: &mut Y,
+) -> Option<Overhang<T::Item>>
+    ensures value { MatchOption result (IsInside T.bounds (X.blocks own.old) (Y.blocks other.old))
+        (IsOverhang T.bounds T.number T.last (X.blocks own.old) (Y.blocks other.old)) }
+    ensures own_kept { X.blocks own.new ≡ X.blocks own.old }
+    ensures other_kept { Y.blocks other.new ≡ Y.blocks other.old }
+{
+    let mut own_at = 0;
+    let mut other_at = 0;
+    let mut own_block = read_at(own, 0);
+    let mut other_block = read_at(other, 0);
+    // What comes before the one chain's block at hand lies in the other chain, and what comes before the other's block at
+    // hand comes before that block too. A turn passes one of the two blocks, so the walk ends; a block that some block of
+    // the other doesn't hold ends it at once, since chains have gaps between their blocks.
+    loop {
+        match next_fit::<T>(own_block, other_block) {
+            Fit::End => return None,
+            Fit::Skip => {
+                other_at += 1;
+                other_block = read_at(other, other_at);
+            }
+            Fit::Inside => {
+                own_at += 1;
+                own_block = read_at(own, own_at);
+            }
+            Fit::Beyond { min, max } => {
+                return Some(Overhang {
+                    own_at,
+                    min,
+                    max,
+                    other_at,
+                    other: other_block,
+                });
+            }
+        }
+    }
+}

@@ -1,0 +1,116 @@
+//! A chain with the memory that its blocks stand in.
+ghost use Rattle.std.specs.Prelude.{◌≡◌, ℕ, ◌↔◌, List, [], All, IsTrue, IfOk, map};
+ghost use Rattle.rpki_blocks.specs.Equality.{same_runs, chains_per, chains_equiv};
+ghost use Rattle.rpki_blocks.specs.Sets.{Covers, IsNew, IsChain, IsChainOf};
+ghost use Rattle.rpki_blocks.specs.Owned.{owned_blocks, IsOwned};
+ghost use Rattle.rpki_blocks.specs.View.{chain_blocks};
+
+use crate::block::Block;
+use crate::build::{joined, sorted_bounds};
+use crate::chain::Chain;
+use std::alloc::{AllocError, Allocator, Global};
+use std::marker::Model;
+
+/// A chain that owns its blocks. The empty one holds no memory.
+#[derive(Drop)]
+pub struct OwnedChain<T: Block, A: Allocator = Global> {
+    blocks: Option<Vec<T, A>>,
+}
+
+impl<T: Block, A: Allocator> Model for OwnedChain<T, A> {
+    ghost Value = { List T };
+
+    ghost view = { λ chain. owned_blocks chain.blocks };
+
+    ghost invariant = { λ chain. IsOwned T.bounds T.form chain.blocks };
+}
+
+impl<T: Block, A: Allocator> OwnedChain<T, A> {
+    /// The chain with no blocks. It holds no memory.
+    pub fn empty() -> Self
+        ensures { result ≡ [] }
+    {
+        OwnedChain { blocks: None }
+    }
+
+    /// The chain of the numbers that the blocks cover. They may come in any order and may overlap; where they ascend
+    /// already they are not sorted. `AllocError` where there is no memory for it.
+    pub fn from_blocks(alloc: A, blocks: &[T]) -> Result<Self, AllocError>
+    where
+        A: Copy,
+        ensures { IfOk result (λ chain.
+            IsChainOf T.bounds T.form (Covers T.bounds blocks.now) chain) }
+    {
+        let bounds = sorted_bounds(alloc, blocks)?;
+        let blocks = joined(alloc, bounds.as_slice())?;
+        Ok(Self::from_vec_unchecked(blocks))
+    }
+
+    /// The chain of blocks that are a chain already. An empty vector is given back to its allocator.
+    pub fn from_vec_unchecked(blocks: Vec<T, A>) -> Self
+        requires { IsChain T.bounds T.form blocks.items }
+        ensures { result ≡ blocks.items }
+    {
+        if blocks.is_empty() {
+            return Self::empty();
+        }
+        OwnedChain {
+            blocks: Some(blocks),
+        }
+    }
+
+    /// The view of the chain.
+    pub fn as_chain(&self) -> Chain<'_, T>
+        ensures { chain_blocks result ≡ self.now }
+    {
+        let Some(blocks) = &self.blocks else {
+            return Chain::empty();
+        };
+        Chain::from_slice_unchecked(blocks.as_slice())
+    }
+
+    /// The same chain in memory of its own. `AllocError` where there is none.
+    pub fn clone(&self, alloc: A) -> Result<Self, AllocError>
+        ensures { IfOk result (λ chain. chain ≡ self.now) }
+    {
+        let Some(blocks) = &self.blocks else {
+            return Ok(Self::empty());
+        };
+        let blocks = rebuilt(alloc, blocks.as_slice())?;
+        Ok(Self::from_vec_unchecked(blocks))
+    }
+}
+
+/// Blocks in the form that `new` gives, made anew.
+fn rebuilt<T: Block, A: Allocator>(alloc: A, blocks: &[T]) -> Result<Vec<T, A>, AllocError>
+    requires { All (IsNew T.bounds T.form) blocks.now }
+    ensures { IfOk result (λ v. v.items ≡ blocks.now) }
+{
+    let mut new = Vec::with_capacity(alloc, blocks.len())?;
+    // A block in new form is the one that is made of its bounds, so each comes out as it was.
+    for block in blocks {
+        let (min, max) = block.bounds();
+        new.push(T::new(min, max))?;
+    }
+    Ok(new)
+}
+
+impl<T: Block, A: Allocator> PartialEq for OwnedChain<T, A> {
+    ghost eq = { λ a b. same_runs (map T.bounds a) (map T.bounds b) };
+
+    ghost laws = { chains_per T.bounds (λ c. c) };
+
+    /// Chains are equal exactly where they cover the same numbers.
+    fn eq(&self, other: &Self) -> bool
+        ensures value { result ≡ same_runs (map T.bounds self.now) (map T.bounds other.now) }
+        ensures covers { IsTrue result ↔ ((n : ℕ) →
+            Covers T.bounds self.now n ↔ Covers T.bounds other.now n) }
+        ensures same { IsTrue result ↔ (self.now ≡ other.now) }
+    {
+        self.as_chain() == other.as_chain()
+    }
+}
+
+impl<T: Block, A: Allocator> Eq for OwnedChain<T, A> {
+    ghost laws = { chains_equiv T.bounds (λ c. c) };
+}

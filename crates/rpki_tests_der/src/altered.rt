@@ -1,197 +1,152 @@
-// Octets of each kind, cut and altered.
-use rpki_as::block::AsBlock;
-use rpki_as::blocks::AsBlocks;
-use rpki_base::asn::Asn;
-use rpki_base::der::encode_sequence;
-use rpki_base::memory::OrMemory;
-use rpki_der::{Cursor, DerError};
-use rpki_ip::family::AddressFamily;
-use rpki_ip::prefix::Prefix;
-use rpki_ipres::block::IpBlock;
-use rpki_ipres::blocks::IpBlocks;
+// A dozen values, each taken by the reader of its tag and appended again: as they stand, cut, and with each octet in place
+// of each of theirs.
+use rpki_der::{
+    Content, Cursor, DerError, put_bit_string, put_header, put_null, put_octets, put_u32, tag,
+};
 use std::alloc::{AllocError, Global};
-use std::process::Abort;
 use std::test::Fail;
 
-const IPV4: AddressFamily = AddressFamily::Ipv4;
+const VALUES: &str = "020100 02020080 020500ffffffff 030100 03020400 0303040a40 0306070a00000180 \
+                      04020001 0403000201 0500 3000 3006020103020104 a0020500";
 
-// What reads the octets.
-#[derive(Clone, Copy, Debug)]
-enum Reader {
-    Number,
-    Family,
-    Prefix,
-    AsBlock,
-    AsBlocks,
-    IpBlock,
-    Ipv4Block,
-    IpBlocks,
-    Ipv4Blocks,
-}
-
-// What was read.
-#[derive(Drop, PartialEq)]
-enum Value {
-    Number(Asn),
-    Family(AddressFamily),
-    Prefix(Prefix),
-    AsBlock(AsBlock),
-    AsBlocks(AsBlocks),
-    IpBlock(IpBlock),
-    IpBlocks(IpBlocks),
-}
-
-// What the readers of blocks, which answer None at the end alone, are taken to answer there.
-const AT_END: DerError = DerError::Truncated;
-
-impl Reader {
-    fn take(self, alloc: Global, cursor: &mut Cursor<'_>) -> Result<Value, OrMemory<DerError>> {
-        match self {
-            Reader::Number => Ok(Value::Number(Asn::take_from(cursor)?)),
-            Reader::Family => Ok(Value::Family(AddressFamily::take_from(cursor)?)),
-            Reader::Prefix => Ok(Value::Prefix(Prefix::take_from(cursor)?)),
-            Reader::AsBlock => {
-                let block = AsBlock::take_opt_from(cursor)?.ok_or(AT_END)?;
-                Ok(Value::AsBlock(block))
-            }
-            Reader::AsBlocks => Ok(Value::AsBlocks(AsBlocks::take_from(alloc, cursor)?)),
-            Reader::IpBlock => {
-                let block = IpBlock::take_opt_from(cursor)?.ok_or(AT_END)?;
-                Ok(Value::IpBlock(block))
-            }
-            Reader::Ipv4Block => {
-                let block = IpBlock::take_opt_from_with_family(cursor, IPV4)?.ok_or(AT_END)?;
-                Ok(Value::IpBlock(block))
-            }
-            Reader::IpBlocks => Ok(Value::IpBlocks(IpBlocks::take_from(alloc, cursor)?)),
-            Reader::Ipv4Blocks => {
-                let set = IpBlocks::take_from_with_family(alloc, cursor, IPV4)?;
-                Ok(Value::IpBlocks(set))
-            }
-        }
+fn copy_number(cursor: &mut Cursor<'_>, out: &mut Vec<u8>) -> Result<Option<DerError>, AllocError> {
+    match cursor.take_u32() {
+        Ok(number) => put_u32(out, number)?,
+        Err(fault) => return Ok(Some(fault)),
     }
+    Ok(None)
 }
 
-impl Value {
-    fn octets(&self, alloc: Global) -> Result<Vec<u8>, AllocError> {
-        let mut out = Vec::new(alloc);
-        match self {
-            Value::Number(number) => number.encode(&mut out)?,
-            Value::Family(family) => family.encode(&mut out)?,
-            Value::Prefix(prefix) => prefix.encode(&mut out)?,
-            Value::AsBlock(block) => block.encode(&mut out)?,
-            Value::AsBlocks(set) => encode_sequence(set.iter().as_slice(), &mut out)?,
-            Value::IpBlock(block) => block.encode(&mut out)?,
-            Value::IpBlocks(set) => set.encode(&mut out)?,
-        }
-        Ok(out)
+fn copy_bits(cursor: &mut Cursor<'_>, out: &mut Vec<u8>) -> Result<Option<DerError>, AllocError> {
+    match cursor.take_bit_string() {
+        Ok(bits) => put_bit_string(out, bits.unused(), bits.octets())?,
+        Err(fault) => return Ok(Some(fault)),
     }
+    Ok(None)
 }
 
-const ENCODINGS: [(Reader, &str); 21] = [
-    (Reader::Number, "020100"),
-    (Reader::Number, "02020080"),
-    (Reader::Number, "020500ffffffff"),
-    (Reader::Family, "04020001"),
-    (Reader::Family, "04020002"),
-    (Reader::Prefix, "030100"),
-    (Reader::Prefix, "0303040a40"),
-    (Reader::Prefix, "0306070a00000180"),
-    (Reader::Prefix, "03110020010000020000030000000000000001"),
-    (Reader::AsBlock, "020107"),
-    (Reader::AsBlock, "3008020203e8020203e9"),
-    (Reader::AsBlocks, "3000"),
-    (
-        Reader::AsBlocks,
-        "301402010002020080300b02020100020500ffffffff",
-    ),
-    (Reader::IpBlock, "0303040a40"),
-    (Reader::IpBlock, "300c0304040a02300304000a0240"),
-    (Reader::Ipv4Block, "0303040a40"),
-    (Reader::Ipv4Block, "300c0304040a02300304000a0240"),
-    (Reader::Ipv4Block, "300a0301000305007ffffffe"),
-    (Reader::IpBlocks, "3000"),
-    (Reader::IpBlocks, "30120303000a000305000a1400000304000a1e00"),
-    (
-        Reader::Ipv4Blocks,
-        "30120303000a000305000a1400000304000a1e00",
-    ),
-];
+fn copy_octets(cursor: &mut Cursor<'_>, out: &mut Vec<u8>) -> Result<Option<DerError>, AllocError> {
+    match cursor.take_octets() {
+        Ok(octets) => put_octets(out, octets)?,
+        Err(fault) => return Ok(Some(fault)),
+    }
+    Ok(None)
+}
 
-// With one octet more behind it, which is left.
-fn check_written(rt: &impl Abort, alloc: Global, reader: Reader, text: &str) -> Result<(), Fail> {
-    let mut octets = hex::decode(alloc, text)?;
-    octets.push(0x02)?;
-    let mut cursor = Cursor::new(&octets);
-    let Ok(value) = reader.take(alloc, &mut cursor) else {
-        panic!(rt; "{reader:?} refuses {text}");
-    };
-    assert_eq!(rt; cursor.rest(), [0x02].as_slice(), "{text}");
-    assert_eq!(rt; cursor.finish(), Err(DerError::TrailingData));
-    let written = value.octets(alloc)?;
-    assert_eq!(rt; hex::encode(alloc, &written)?.as_str(), text);
+fn copy_null(cursor: &mut Cursor<'_>, out: &mut Vec<u8>) -> Result<Option<DerError>, AllocError> {
+    match cursor.take_null() {
+        Ok(()) => put_null(out)?,
+        Err(fault) => return Ok(Some(fault)),
+    }
+    Ok(None)
+}
+
+fn copy_content(
+    cursor: &mut Cursor<'_>,
+    out: &mut Vec<u8>,
+) -> Result<Option<DerError>, AllocError> {
+    match cursor.take_value() {
+        Ok(value) => put_content(out, &value)?,
+        Err(fault) => return Ok(Some(fault)),
+    }
+    Ok(None)
+}
+
+fn put_content(out: &mut Vec<u8>, value: &Content<'_>) -> Result<(), AllocError> {
+    let tag = value.tag();
+    if tag % 32 < 31 {
+        put_header(out, tag, value.bytes().len())?;
+        out.extend_from_slice(value.bytes())?;
+    }
     Ok(())
+}
+
+/// Takes a value by the reader of its tag, and appends it. What is wrong with it, if something is.
+fn copy(cursor: &mut Cursor<'_>, out: &mut Vec<u8>) -> Result<Option<DerError>, AllocError> {
+    match cursor.peek_tag() {
+        Some(tag::INTEGER) => copy_number(cursor, out),
+        Some(tag::BIT_STRING) => copy_bits(cursor, out),
+        Some(tag::OCTET_STRING) => copy_octets(cursor, out),
+        Some(tag::NULL) => copy_null(cursor, out),
+        _ => copy_content(cursor, out),
+    }
+}
+
+/// Whether the value is appended as it stands, and the octet behind it is left.
+fn is_copied(alloc: Global, text: &str) -> Result<bool, Fail> {
+    let mut octets = hex::decode(alloc, text)?;
+    octets.push(0x05)?;
+    let mut out = Vec::new(alloc);
+    let mut cursor = Cursor::new(&octets);
+    let is_whole = copy(&mut cursor, &mut out)? == None && cursor.rest() == [0x05].as_slice();
+    out.push(0x05)?;
+    Ok(is_whole && out == octets && cursor.finish() == Err(DerError::TrailingData))
 }
 
 #[test]
-fn encodings_are_written_as_they_were_read(rt: HostRuntime) -> Result<(), Fail> {
-    for (reader, text) in ENCODINGS {
-        check_written(&rt, rt.alloc(), reader, text)?;
+fn values_are_written_as_they_were_read(rt: HostRuntime) -> Result<(), Fail> {
+    for text in VALUES.split(' ') {
+        assert!(rt; is_copied(rt.alloc(), text)?, "{text}");
     }
     Ok(())
+}
+
+fn is_truncated(alloc: Global, start: &[u8]) -> Result<bool, AllocError> {
+    let mut out = Vec::new(alloc);
+    let mut cursor = Cursor::new(start);
+    Ok(copy(&mut cursor, &mut out)? == Some(DerError::Truncated) && cursor.rest() == start)
+}
+
+/// Whether each proper beginning of the octets is Truncated, and the cursor stays.
+fn are_truncated(alloc: Global, octets: &[u8]) -> Result<bool, AllocError> {
+    for len in 0..octets.len() {
+        if !is_truncated(alloc, &octets[..len])? {
+            return Ok(false);
+        }
+    }
+    Ok(true)
 }
 
 #[test]
 fn proper_beginnings_are_truncated(rt: HostRuntime) -> Result<(), Fail> {
-    for (reader, text) in ENCODINGS {
+    for text in VALUES.split(' ') {
         let octets = hex::decode(rt.alloc(), text)?;
-        for len in 0..octets.len() {
-            let start = &octets[..len];
-            let mut cursor = Cursor::new(start);
-            let answer = reader.take(rt.alloc(), &mut cursor);
-            let is_truncated = matches!(&answer, Err(OrMemory::Refused(DerError::Truncated)));
-            assert!(rt; is_truncated, "{reader:?} of {text} at {len}");
-            assert_eq!(rt; cursor.rest(), start);
-        }
+        assert!(rt; are_truncated(rt.alloc(), &octets)?, "{text}");
     }
     Ok(())
 }
 
-// Refused with the cursor where it was, or read as a value that is read again from what is written of it.
-fn check_altered(
-    rt: &impl Abort,
-    alloc: Global,
-    reader: Reader,
-    octets: &[u8],
-) -> Result<(), AllocError> {
+/// Whether the octets are refused with the cursor where it was, or read as a value whose octets are those before the cursor.
+fn is_exact(alloc: Global, octets: &[u8]) -> Result<bool, AllocError> {
+    let mut out = Vec::new(alloc);
     let mut cursor = Cursor::new(octets);
-    match reader.take(alloc, &mut cursor) {
-        Ok(value) => {
-            let written = value.octets(alloc)?;
-            let again = reader.take(alloc, &mut Cursor::new(&written));
-            assert!(rt; matches!(&again, Ok(read) if *read == value), "{reader:?}");
-            Ok(())
-        }
-        Err(OrMemory::Refused(_)) => {
-            assert_eq!(rt; cursor.rest(), octets);
-            Ok(())
-        }
-        Err(OrMemory::Memory(error)) => Err(error),
+    if copy(&mut cursor, &mut out)?.is_some() {
+        return Ok(cursor.rest() == octets);
     }
+    out.extend_from_slice(cursor.rest())?;
+    Ok(out.as_slice() == octets)
+}
+
+/// The same with each octet in place of each of them.
+fn are_exact(alloc: Global, octets: &mut [u8]) -> Result<bool, AllocError> {
+    for at in 0..octets.len() {
+        let kept = octets[at];
+        for octet in 0..=255 {
+            octets[at] = octet;
+            if !is_exact(alloc, octets)? {
+                return Ok(false);
+            }
+        }
+        octets[at] = kept;
+    }
+    Ok(true)
 }
 
 #[test]
-fn altered_octets_are_refused_or_read_back(rt: HostRuntime) -> Result<(), Fail> {
-    for (reader, text) in ENCODINGS {
+fn altered_octets_are_refused_or_read_exactly(rt: HostRuntime) -> Result<(), Fail> {
+    for text in VALUES.split(' ') {
         let mut octets = hex::decode(rt.alloc(), text)?;
-        for at in 0..octets.len() {
-            let kept = octets[at];
-            for octet in 0..=255 {
-                octets[at] = octet;
-                check_altered(&rt, rt.alloc(), reader, &octets)?;
-            }
-            octets[at] = kept;
-        }
+        assert!(rt; are_exact(rt.alloc(), octets.as_mut_slice())?, "{text}");
     }
     Ok(())
 }

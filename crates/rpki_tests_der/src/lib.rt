@@ -1,16 +1,18 @@
-//! What no clause says of DER, as tests: worked rows as tables, every fault by its number, octets cut and altered, and
-//! each request for memory refused in turn.
+//! What no clause says of DER, and what no line of the program `rows` can say of it: single values, contents whatever their
+//! tag, lengths, and writers where memory is refused.
 #![tactic(auto)]
 
 #[cfg(test)]
 mod altered;
 #[cfg(test)]
-mod as_blocks;
+mod checks;
 #[cfg(test)]
-mod families_and_prefixes;
+mod contents;
 #[cfg(test)]
-mod ip_blocks;
+mod prefixes;
 #[cfg(test)]
-mod numbers;
+mod refused;
 #[cfg(test)]
 mod values;
+#[cfg(test)]
+mod written;

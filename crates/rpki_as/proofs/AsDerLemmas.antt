@@ -27,9 +27,9 @@ use Rattle.rpki_base.proofs.DerCursors.{reads_said_by, takes_said}
 use Rattle.rpki_base.proofs.DerReadings.{sequence_reading}
 use Rattle.rpki_base.proofs.DerWriting.{sequence_written, written_alike}
 use Rattle.rpki_as.specs.AsDer.{IsAsBlock, IsAsBlockSequence, as_block_octets, as_range_content, as_run_octets, as_sequence_octets, as_set_octets}
-use Rattle.rpki_as.specs.AsDerLaws.{block_has_octets, block_reading}
+use Rattle.rpki_as.specs.AsDerLaws.{as_block_has_octets, as_block_reading}
 use Rattle.rpki_as.specs.AsDerReading.{as_block_at, as_blocks_at}
-use Rattle.rpki_as.specs.BlockForms.{new_block_bounds}
+use Rattle.rpki_as.specs.BlockForms.{new_as_block_bounds}
 use Rattle.rpki_as.specs.Blocks.{IsAsSet, as_bounds, new_as_block}
 use Rattle.rpki_as.specs.declared.block.AsBlock.{AsBlock}
 use Rattle.rpki_as.specs.declared.block.AsBlock.TheVariants.{Id, Range}
@@ -63,7 +63,7 @@ runs_32 set is = recursion_from_All IsRun32 set (λ k d small. (is.are_runs.orde
 
 -- the blocks of runs have their bounds
 blocks_bounds : (set : Runs) → IsAsSet set → map as_bounds (map new_as_block set) ≡ set
-blocks_bounds = bounds_made as_bounds new_as_block 4294967295 (λ b ordered to. new_block_bounds b)
+blocks_bounds = bounds_made as_bounds new_as_block 4294967295 (λ b ordered to. new_as_block_bounds b)
 
 -- what is written of them is what is written of the set
 blocks_octets : (set : Runs) → flat_map as_block_octets (map new_as_block set) ≡ as_set_octets set
@@ -74,8 +74,8 @@ block_is : (b : ℕ × ℕ) → IsRun32 b → IsAsBlock (as_run_octets b) (new_a
 unfolding IsRun32
 block_is b is =
     block_written (new_as_block b)
-    (subst (λ (c : ℕ × ℕ). c.0 ≤ c.1) (sym (new_block_bounds b)) is.0)
-    (subst (λ (c : ℕ × ℕ). c.1 < 2 ^ 32) (sym (new_block_bounds b)) is.1)
+    (subst (λ (c : ℕ × ℕ). c.0 ≤ c.1) (sym (new_as_block_bounds b)) is.0)
+    (subst (λ (c : ℕ × ℕ). c.1 < 2 ^ 32) (sym (new_as_block_bounds b)) is.1)
 
 blocks_are : (set : Runs) → AllByRecursion IsRun32 set → AllByRecursion (λ x. IsAsBlock (as_block_octets x) x) (map new_as_block set)
 blocks_are [] all = tt
@@ -83,7 +83,7 @@ blocks_are (b ∷ set) all = (block_is b all.0, blocks_are set all.1)
 
 -- they stand for the set
 blocks_say : (set : Runs) → IsAsSet set → IsRunsOfBlocks as_bounds (map new_as_block set) set
-blocks_say = made_of_set as_bounds new_as_block 4294967295 (λ b ordered to. new_block_bounds b)
+blocks_say = made_of_set as_bounds new_as_block 4294967295 (λ b ordered to. new_as_block_bounds b)
 
 -- ---- how long they are
 
@@ -130,7 +130,7 @@ set_octets_short set is = omega (arith, length-runs set (runs_32 set is), run_co
 
 -- a SEQUENCE of blocks
 pub blocks_reading : IsReading (IsSequenceOf IsAsBlock) as_blocks_at
-blocks_reading = sequence_reading (λ (state : Unit {0}) (x : AsBlock). state) (λ state. IsAsBlock) (λ state. as_block_at) (λ state. block_reading) (λ state. block_has_octets) tt
+blocks_reading = sequence_reading (λ (state : Unit {0}) (x : AsBlock). state) (λ state. IsAsBlock) (λ state. as_block_at) (λ state. as_block_reading) (λ state. as_block_has_octets) tt
 
 -- what is written of a set, in one SEQUENCE, is a SEQUENCE of its blocks
 sequence_blocks : (set : Runs) → IsAsSet set → IsSequenceOf IsAsBlock (as_sequence_octets set) (map new_as_block set)
@@ -156,7 +156,7 @@ written_as_numbers a b is also = (
   λ same n. (
       let all = runs_32 a is in
       let more = runs_32 b also in
-      let blocks = written_alike IsAsBlock as_block_octets as_block_at block_reading block_has_octets (map new_as_block a) (map new_as_block b) (blocks_are a all) (blocks_are b more) (blocks_octets a ∙ same ∙ sym (blocks_octets b)) in
+      let blocks = written_alike IsAsBlock as_block_octets as_block_at as_block_reading as_block_has_octets (map new_as_block a) (map new_as_block b) (blocks_are a all) (blocks_are b more) (blocks_octets a ∙ same ∙ sym (blocks_octets b)) in
       let one : a ≡ b = sym (blocks_bounds a is) ∙ ap (λ (t : List AsBlock). map as_bounds t) blocks ∙ blocks_bounds b also in
       (subst (λ (t : Runs). Holds t n) one, subst (λ (t : Runs). Holds t n) (sym one))
       ),

@@ -8,25 +8,25 @@ use Rattle.rpki_base.proofs.AsnLemmas.{IsAsnText-asn_text, IsAsnText-one, asn_te
 use Rattle.rpki_text.proofs.CutLemmas.{none_around, around_at}
 use Rattle.rpki_blocks.specs.Ranges.{range_bounds}
 use Rattle.rpki_as.specs.Blocks.{as_bounds}
-use Rattle.rpki_as.specs.BlockText.{IsRangeBetween, NoRange, IsBlockText, HasBlockFault, block_text, ReadsBlock}
+use Rattle.rpki_as.specs.BlockText.{IsAsRangeBetween, NoRange, IsAsBlockText, HasAsBlockFault, as_block_text, ReadsAsBlock}
 use Rattle.rpki_as.specs.declared.block.AsBlock.{AsBlock}
 use Rattle.rpki_as.specs.declared.block.AsBlock.TheVariants.{Id, Range}
 use Rattle.rpki_as.specs.declared.error.FromStrError.{FromStrError}
 use Rattle.rpki_as.specs.declared.error.FromStrError.TheVariants.{BadAsn, BadRange, BadBlocks}
 
 -- a text writes one block at most
-pub IsBlockText-one : (text : List ℕ) (a b : AsBlock) → IsBlockText text a → IsBlockText text b → a ≡ b
-IsBlockText-one text (Id m) (Id n) h k = ap Id (IsAsnText-one text m n h.1 k.1)
-IsBlockText-one text (Id m) (Range s) h k = absurd (none_around dash text _ h.0 k)
-IsBlockText-one text (Range r) (Id n) h k = absurd (none_around dash text _ k.0 h)
-IsBlockText-one text (Range r) (Range s) h k =
-    let same = around_at dash text h.left h.right (λ left right. IsRangeBetween left right (range_bounds s)) h.cut k in
+pub IsAsBlockText-one : (text : List ℕ) (a b : AsBlock) → IsAsBlockText text a → IsAsBlockText text b → a ≡ b
+IsAsBlockText-one text (Id m) (Id n) h k = ap Id (IsAsnText-one text m n h.1 k.1)
+IsAsBlockText-one text (Id m) (Range s) h k = absurd (none_around dash text _ h.0 k)
+IsAsBlockText-one text (Range r) (Id n) h k = absurd (none_around dash text _ k.0 h)
+IsAsBlockText-one text (Range r) (Range s) h k =
+    let same = around_at dash text h.left h.right (λ left right. IsAsRangeBetween left right (range_bounds s)) h.cut k in
     let min = IsAsnText-one h.left r.min s.min h.holds.min_text same.min_text in
     let max = IsAsnText-one h.right r.max s.max h.holds.max_text same.max_text in
     λ i. Range (record { min = min i; max = max i })
 
 -- no text has a value and a fault
-pub block_apart : (text : List ℕ) (b : AsBlock) (e : FromStrError) → IsBlockText text b → HasBlockFault text e → ⊥
+pub block_apart : (text : List ℕ) (b : AsBlock) (e : FromStrError) → IsAsBlockText text b → HasAsBlockFault text e → ⊥
 block_apart text (Id n) BadAsn h f = f.1 n h.1
 block_apart text (Id n) BadRange h f = none_around dash text _ h.0 f
 block_apart text (Id n) BadBlocks h f = absurd f
@@ -35,7 +35,7 @@ block_apart text (Range r) BadRange h f = around_at dash text h.left h.right NoR
 block_apart text (Range r) BadBlocks h f = absurd f
 
 -- no text has two faults
-pub same_block_fault : (text : List ℕ) (d e : FromStrError) → HasBlockFault text d → HasBlockFault text e → d ≡ e
+pub same_block_fault : (text : List ℕ) (d e : FromStrError) → HasAsBlockFault text d → HasAsBlockFault text e → d ≡ e
 same_block_fault text BadAsn BadAsn f g = refl
 same_block_fault text BadAsn BadRange f g = absurd (none_around dash text _ f.0 g)
 same_block_fault text BadRange BadAsn f g = absurd (none_around dash text _ g.0 f)
@@ -54,9 +54,9 @@ no_dash bs h i small e = omega (arith, (byte_at bs i h small).0, e)
     byte_at (b ∷ bs) (suc i) h small = byte_at bs i h.1 (omega arith)
 
 -- what is printed of a block writes it
-pub IsBlockText-block_text : (b : AsBlock) → (as_bounds b).0 ≤ (as_bounds b).1 → (as_bounds b).1 < 2 ^ 32 → IsBlockText (block_text b) b
-IsBlockText-block_text (Id n) ordered small = (no_dash (asn_text n) (asn_text_bytes n small), IsAsnText-asn_text n small)
-IsBlockText-block_text (Range r) ordered small =
+pub IsAsBlockText-block_text : (b : AsBlock) → (as_bounds b).0 ≤ (as_bounds b).1 → (as_bounds b).1 < 2 ^ 32 → IsAsBlockText (as_block_text b) b
+IsAsBlockText-block_text (Id n) ordered small = (no_dash (asn_text n) (asn_text_bytes n small), IsAsnText-asn_text n small)
+IsAsBlockText-block_text (Range r) ordered small =
     let low : r.min < 2 ^ 32 = omega arith in
     record {
       left = asn_text r.min;
@@ -70,14 +70,14 @@ IsBlockText-block_text (Range r) ordered small =
     }
 
 -- a reader that finds what the text has meets the whole contract
-pub reads_block : (text : List ℕ) (r : Result AsBlock FromStrError) → MatchResult r (IsBlockText text) (HasBlockFault text) → ReadsBlock text r
+pub reads_block : (text : List ℕ) (r : Result AsBlock FromStrError) → MatchResult r (IsAsBlockText text) (HasAsBlockFault text) → ReadsAsBlock text r
 reads_block text (Ok b) found = record {
   exact = record {
     found = found;
-    each_value = λ a h. ap Ok (IsBlockText-one text b a found h);
+    each_value = λ a h. ap Ok (IsAsBlockText-one text b a found h);
     each_fault = λ e f. absurd (block_apart text b e found f);
   };
-  reads_back = λ a ordered small is. ap Ok (IsBlockText-one text b a found (subst (λ t. IsBlockText t a) (sym is) (IsBlockText-block_text a ordered small)));
+  reads_back = λ a ordered small is. ap Ok (IsAsBlockText-one text b a found (subst (λ t. IsAsBlockText t a) (sym is) (IsAsBlockText-block_text a ordered small)));
 }
 reads_block text (Err d) found = record {
   exact = record {
@@ -85,5 +85,5 @@ reads_block text (Err d) found = record {
     each_value = λ a h. absurd (block_apart text a d h found);
     each_fault = λ e f. ap Err (same_block_fault text d e found f);
   };
-  reads_back = λ a ordered small is. absurd (block_apart text a d (subst (λ t. IsBlockText t a) (sym is) (IsBlockText-block_text a ordered small)) found);
+  reads_back = λ a ordered small is. absurd (block_apart text a d (subst (λ t. IsAsBlockText t a) (sym is) (IsAsBlockText-block_text a ordered small)) found);
 }

@@ -15,27 +15,27 @@ use Rattle.rpki_text.proofs.PrintedLemmas.{IsShown, IsElement, elements-joined}
 use Rattle.rpki_blocks.specs.Sets.{Covers}
 use Rattle.rpki_chain.specs.Runs.{Runs, IsRunsOfBlocks}
 use Rattle.rpki_chain.proofs.RunLists.{IsRunsOf-unique, IsRunsOfBlocks-bounds}
-use Rattle.rpki_as.specs.BlockForms.{new_block_bounds}
+use Rattle.rpki_as.specs.BlockForms.{new_as_block_bounds}
 use Rattle.rpki_as.specs.Blocks.{as_bounds, new_as_block, IsAsSet}
-use Rattle.rpki_as.specs.BlockText.{IsBlockText, HasBlockFault, block_text}
+use Rattle.rpki_as.specs.BlockText.{IsAsBlockText, HasAsBlockFault, as_block_text}
 use Rattle.rpki_as.specs.ListText.{IsAsListText, HasAsListFault, as_list_text}
 use Rattle.rpki_as.specs.declared.block.AsBlock.{AsBlock}
 use Rattle.rpki_as.specs.declared.block.AsBlock.TheVariants.{Id, Range}
 use Rattle.rpki_as.specs.declared.error.FromStrError.{FromStrError}
-use Rattle.rpki_as.proofs.BlockLemmas.{IsBlockText-one, IsBlockText-block_text, block_apart, same_block_fault}
+use Rattle.rpki_as.proofs.BlockLemmas.{IsAsBlockText-one, IsAsBlockText-block_text, block_apart, same_block_fault}
 
 -- a text writes one set at most
 pub IsAsListText-one : (text : List ℕ) (a b : Runs) → IsAsListText text a → IsAsListText text b → a ≡ b
 IsAsListText-one text a b h k =
-    let same = HaveValues-one IsBlockText IsBlockText-one (elements text) h.blocks k.blocks h.are_written k.are_written in
+    let same = HaveValues-one IsAsBlockText IsAsBlockText-one (elements text) h.blocks k.blocks h.are_written k.are_written in
     IsRunsOf-unique (Covers as_bounds h.blocks) a b h.covered (subst (λ blocks. IsRunsOfBlocks as_bounds blocks b) (sym same) k.covered)
 
 -- a reader that finds what the text has meets the whole contract
 pub list_answers : {V : Type 0} (view : V → Runs) (text : List ℕ) (r : Result V (OrMemory FromStrError)) → MatchResult r (λ v. IsAsListText text (view v)) (IfRefused (HasAsListFault text)) → AnswersOrMemory view (IsAsListText text) (HasAsListFault text) r
 list_answers view text r found =
     AnswersOrMemory-from_found view (IsAsListText text) (HasAsListFault text) (IsAsListText-one text)
-    (λ set e h. first_fault_apart IsBlockText HasBlockFault block_apart (elements text) h.blocks e h.are_written)
-    (same_first_fault IsBlockText HasBlockFault block_apart same_block_fault (elements text)) r found
+    (λ set e h. first_fault_apart IsAsBlockText HasAsBlockFault block_apart (elements text) h.blocks e h.are_written)
+    (same_first_fault IsAsBlockText HasAsBlockFault block_apart same_block_fault (elements text)) r found
 
 -- what is printed of a number can stand in a list
 number_shown : (bs : List ℕ) → AllByRecursion (IsInRange 48 90) bs → AllByRecursion IsShown bs
@@ -50,7 +50,7 @@ asn_shown : (n : ℕ) → n < 2 ^ 32 → AllByRecursion IsShown (asn_text n)
 asn_shown n small = number_shown (asn_text n) (asn_text_bytes n small)
 
 -- and so can what is printed of a block
-block_element : (b : AsBlock) → (as_bounds b).0 ≤ (as_bounds b).1 → (as_bounds b).1 < 2 ^ 32 → IsElement (block_text b)
+block_element : (b : AsBlock) → (as_bounds b).0 ≤ (as_bounds b).1 → (as_bounds b).1 < 2 ^ 32 → IsElement (as_block_text b)
 block_element (Id n) ordered small = record { shown = asn_shown n small; some = omega arith }
 block_element (Range r) ordered small = record {
   shown = shown-append (asn_text r.min) (dash ∷ asn_text r.max) (asn_shown r.min (omega arith)) ((lit≤ tt, lit≤ tt), asn_shown r.max small);
@@ -60,21 +60,21 @@ block_element (Range r) ordered small = record {
 -- the blocks of the runs are written by what is printed of them, which can stand in a list
 record AreBlocksOf (set : Runs) : Type 0 where
   bounds : map as_bounds (map new_as_block set) ≡ set
-  written : HaveValues IsBlockText (map block_text (map new_as_block set)) (map new_as_block set)
-  shown : AllByRecursion IsElement (map block_text (map new_as_block set))
+  written : HaveValues IsAsBlockText (map as_block_text (map new_as_block set)) (map new_as_block set)
+  shown : AllByRecursion IsElement (map as_block_text (map new_as_block set))
 
 blocks_of : (set : Runs) → All (λ b. b.0 ≤ b.1) set → All (λ b. b.1 ≤ 4294967295) set → AreBlocksOf set
 blocks_of [] ordered below = record { bounds = refl; written = tt; shown = tt }
 blocks_of (b ∷ set) ordered below =
     let rest = blocks_of set (All-tail (λ (x : ℕ × ℕ). x.0 ≤ x.1) b set ordered) (All-tail (λ (x : ℕ × ℕ). x.1 ≤ 4294967295) b set below) in
-    let bounds = new_block_bounds b in
+    let bounds = new_as_block_bounds b in
     let in_order : (as_bounds (new_as_block b)).0 ≤ (as_bounds (new_as_block b)).1 = rw bounds (All-head (λ (x : ℕ × ℕ). x.0 ≤ x.1) b set ordered) in
     let limit : (as_bounds (new_as_block b)).1 ≤ 4294967295 = rw bounds (All-head (λ (x : ℕ × ℕ). x.1 ≤ 4294967295) b set below) in
     let small : (as_bounds (new_as_block b)).1 < 2 ^ 32 = omega arith in
     let more_bounds = rest.bounds in
     record {
       bounds = cc;
-      written = (IsBlockText-block_text (new_as_block b) in_order small, rest.written);
+      written = (IsAsBlockText-block_text (new_as_block b) in_order small, rest.written);
       shown = (block_element (new_as_block b) in_order small, rest.shown);
     }
 
@@ -82,7 +82,7 @@ blocks_of (b ∷ set) ordered below =
 pub IsAsListText-as_list_text : (text : List ℕ) (set : Runs) → IsAsSet set → text ≡ as_list_text set → IsAsListText text set
 IsAsListText-as_list_text text set is printed =
     let of = blocks_of set is.are_runs.ordered is.below in
-    let parts : elements text ≡ map block_text (map new_as_block set) = rw printed (elements-joined (map block_text (map new_as_block set)) of.shown) in
+    let parts : elements text ≡ map as_block_text (map new_as_block set) = rw printed (elements-joined (map as_block_text (map new_as_block set)) of.shown) in
     record {
       blocks = map new_as_block set;
       are_written = rw parts of.written;

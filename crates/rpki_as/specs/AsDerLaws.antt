@@ -67,9 +67,9 @@ block_from bytes (Id n) is = (record { tag = 2; content = integer n }, is.1, inl
 block_from bytes (Range r) (ordered, (content, is, both)) = (record { tag = 48; content = content }, is, inr (refl, (r, (r.min, r.max, both, (ordered, refl)), refl)))
 
 -- a block
-pub block_reading : IsReading IsAsBlock as_block_at
+pub as_block_reading : IsReading IsAsBlock as_block_at
 unfolding SaysId SaysRange
-block_reading =
+as_block_reading =
     same_reading (Refines IsTlv (SaysByTag 2 SaysId SaysRange)) IsAsBlock as_block_at block_to block_from
     (by_tag_reading 2 SaysId SaysRange as_id_in as_range_block_in (λ e. omega arith) (mapped_check IsBytes IsUnsigned unsigned Id number_check) (mapped_check IsBytes (SaysPair IsAsNumber IsBetween) as_range_in Range range_check))
   where
@@ -77,9 +77,9 @@ block_reading =
     number_check = record { takes = λ content n fits e. unsigned_check.takes content n tt e; again = unsigned_check.again }
 
 -- a block has an octet
-pub block_has_octets : HasOctets IsAsBlock
-block_has_octets front (Id n) is = value_has_octets front 2 (integer n) is.1
-block_has_octets front (Range r) is = value_has_octets front 48 is.1.0 is.1.1
+pub as_block_has_octets : HasOctets IsAsBlock
+as_block_has_octets front (Id n) is = value_has_octets front 2 (integer n) is.1
+as_block_has_octets front (Range r) is = value_has_octets front 48 is.1.0 is.1.1
 
 -- ---- blocks that are passed over
 

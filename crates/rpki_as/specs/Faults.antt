@@ -4,7 +4,7 @@ use Rattle.rpki_as.specs.declared.error.FromStrError.{FromStrError}
 use Rattle.rpki_as.specs.declared.error.FromStrError.TheVariants.{BadAsn, BadRange, BadBlocks}
 
 -- the text of each fault
-abbrev pub from_str_error_text : FromStrError → List ℕ
-from_str_error_text BadAsn = codes "Bad AS number. Expected format: AS#"
-from_str_error_text BadRange = codes "Bad AS range. Expected format: AS#-AS#"
-from_str_error_text BadBlocks = codes "Cannot parse blocks."
+abbrev pub as_from_str_error_text : FromStrError → List ℕ
+as_from_str_error_text BadAsn = codes "Bad AS number. Expected format: AS#"
+as_from_str_error_text BadRange = codes "Bad AS range. Expected format: AS#-AS#"
+as_from_str_error_text BadBlocks = codes "Cannot parse blocks."

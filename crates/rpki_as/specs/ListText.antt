@@ -3,17 +3,17 @@ use Rattle.std.specs.Prelude.{ℕ, List, map}
 use Rattle.rpki_text.specs.Lists.{elements, joined, HaveValues, HasFirstFault}
 use Rattle.rpki_chain.specs.Runs.{Runs, IsSetOfBlocks}
 use Rattle.rpki_as.specs.Blocks.{as_bounds, new_as_block}
-use Rattle.rpki_as.specs.BlockText.{IsBlockText, HasBlockFault, block_text}
+use Rattle.rpki_as.specs.BlockText.{IsAsBlockText, HasAsBlockFault, as_block_text}
 use Rattle.rpki_as.specs.declared.error.FromStrError.{FromStrError}
 
 -- each element of the text writes a block, and the set is that of the numbers in some block
 abbrev pub IsAsListText : List ℕ → Runs → Type 0
-IsAsListText text = IsSetOfBlocks as_bounds (HaveValues IsBlockText (elements text))
+IsAsListText text = IsSetOfBlocks as_bounds (HaveValues IsAsBlockText (elements text))
 
 -- the first element that writes no block has this fault
 abbrev pub HasAsListFault : List ℕ → FromStrError → Type 0
-HasAsListFault text fault = HasFirstFault IsBlockText HasBlockFault (elements text) fault
+HasAsListFault text fault = HasFirstFault IsAsBlockText HasAsBlockFault (elements text) fault
 
 -- what is printed of a set: the blocks of its runs, each in new form
 abbrev pub as_list_text : Runs → List ℕ
-as_list_text set = joined (map block_text (map new_as_block set))
+as_list_text set = joined (map as_block_text (map new_as_block set))

@@ -110,7 +110,7 @@ impl AsBlock {
 impl Block for AsBlock {
     ghost use Rattle.std.specs.Prelude.{refl};
     ghost use Rattle.rpki_as.specs.Blocks.{as_bounds, new_as_block};
-    ghost use Rattle.rpki_as.specs.BlockForms.{new_block_bounds};
+    ghost use Rattle.rpki_as.specs.BlockForms.{new_as_block_bounds};
 
     type Item = Asn;
 
@@ -132,7 +132,7 @@ impl Block for AsBlock {
 
     ghost one_item = { λ x y same. same };
 
-    ghost form_bounds = { λ b ordered to. new_block_bounds b };
+    ghost form_bounds = { λ b ordered to. new_as_block_bounds b };
 
     fn new(min: Asn, max: Asn) -> AsBlock {
         if min == max {

@@ -1,6 +1,6 @@
 //! What is wrong with a text of AS blocks.
 ghost use Rattle.std.specs.Prelude.{◌≡◌, Some};
-ghost use Rattle.rpki_as.specs.Faults.{from_str_error_text};
+ghost use Rattle.rpki_as.specs.Faults.{as_from_str_error_text};
 ghost use Rattle.rpki_as.specs.declared.error.FromStrError.TheVariants.{BadAsn};
 
 use rpki_base::asn::ParseAsnError;
@@ -19,7 +19,7 @@ pub enum FromStrError {
 }
 
 impl fmt::Display for FromStrError {
-    ghost output = { λ fault. Some (from_str_error_text fault) };
+    ghost output = { λ fault. Some (as_from_str_error_text fault) };
 
     fn fmt<W: fmt::Write>(&self, f: &mut fmt::Formatter<W>) -> fmt::Result {
         match self {

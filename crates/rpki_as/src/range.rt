@@ -125,9 +125,9 @@ impl Block for AsRange {
 /// Prints both numbers, also where they are the same, as `AS3-AS5`.
 impl fmt::Display for AsRange {
     ghost use Rattle.std.specs.Prelude.{Some};
-    ghost use Rattle.rpki_as.specs.BlockText.{range_text};
+    ghost use Rattle.rpki_as.specs.BlockText.{as_range_text};
 
-    ghost output = { λ r. Some (range_text r) };
+    ghost output = { λ r. Some (as_range_text r) };
 
     fn fmt<W: fmt::Write>(&self, f: &mut fmt::Formatter<W>) -> fmt::Result {
         let min = AsRange::min(*self);

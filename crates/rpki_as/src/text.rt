@@ -1,7 +1,7 @@
 //! Texts of AS blocks.
 ghost use Rattle.std.specs.Prelude.{◌≡◌, Some, MatchOption};
 ghost use Rattle.rpki_blocks.specs.Ranges.{range_bounds};
-ghost use Rattle.rpki_as.specs.BlockText.{ReadsBlock, block_text, IsRangeBetween, NoRange};
+ghost use Rattle.rpki_as.specs.BlockText.{ReadsAsBlock, as_block_text, IsAsRangeBetween, NoRange};
 
 use crate::block::AsBlock;
 use crate::error::FromStrError;
@@ -12,7 +12,7 @@ use std::str::FromStr;
 
 /// The range between the numbers of two texts, if both are AS numbers, the first at most the second.
 fn read_range(left: &str, right: &str) -> Option<AsRange>
-    ensures { MatchOption result (NoRange left.now right.now) (λ r. IsRangeBetween left.now right.now (range_bounds r)) }
+    ensures { MatchOption result (NoRange left.now right.now) (λ r. IsAsRangeBetween left.now right.now (range_bounds r)) }
 {
     let min = Asn::from_str(left).ok()?;
     let max = Asn::from_str(right).ok()?;
@@ -26,7 +26,7 @@ fn read_range(left: &str, right: &str) -> Option<AsRange>
 impl FromStr for AsBlock {
     type Err = FromStrError;
 
-    ghost from_str_gives = { ReadsBlock };
+    ghost from_str_gives = { ReadsAsBlock };
 
     fn from_str(text: &str) -> Result<AsBlock, FromStrError> {
         let Some((left, right)) = text.split_once('-') else {
@@ -41,7 +41,7 @@ impl FromStr for AsBlock {
 
 /// Prints an Id as its number and a Range as a range.
 impl fmt::Display for AsBlock {
-    ghost output = { λ b. Some (block_text b) };
+    ghost output = { λ b. Some (as_block_text b) };
 
     fn fmt<W: fmt::Write>(&self, f: &mut fmt::Formatter<W>) -> fmt::Result {
         match self {

@@ -3,7 +3,7 @@ use Rattle.std.proofs.Common.{◌≡◌, ℕ, zero, suc, ◌<◌, ◌⊎◌, inl
 use Rattle.std.specs.List.{AllByRecursion}
 use Rattle.std.specs.List.Sorted.{IsStrictlyIncreasing}
 use Rattle.std.proofs.lemmas.Bool.{cases_lt, cases_eq}
-use Rattle.rpki_base.specs.Walks.{kept, all_kept, walk_step, walk}
+use Rattle.rpki_base.specs.Walks.{kept_items, all_kept, walk_step, walk}
 use Rattle.rpki_base.specs.declared.small_set.walk.Wanted.{Wanted}
 
 -- n is one of the numbers
@@ -71,7 +71,7 @@ IsStrictlyIncreasing-rises (x ∷ xs) h (suc k) small =
     rw add-one (rw add-one at next)
 
 -- a number before others, wanted or not
-kept_is : (b : Bool) (x n : ℕ) (zs : List ℕ) → Among n (kept b x zs) ↔ ((IsTrue b × (x ≡ n)) ⊎ Among n zs)
+kept_is : (b : Bool) (x n : ℕ) (zs : List ℕ) → Among n (kept_items b x zs) ↔ ((IsTrue b × (x ≡ n)) ⊎ Among n zs)
 kept_is true x n zs = ((λ h. elim h [ inl is ↦ inl (refl, is) | inr later ↦ inr later ]), λ h. elim h [ inl is ↦ inl is.1 | inr later ↦ inr later ])
 kept_is false x n zs = ((λ h. inr h), λ h. elim h [ inl is ↦ (let never = is.0 in cc) | inr later ↦ later ])
 
@@ -79,7 +79,7 @@ all_kept_is : (b : Bool) (n : ℕ) (zs : List ℕ) → Among n (all_kept b zs) �
 all_kept_is true n zs = ((λ h. (refl, h)), λ h. h.1)
 all_kept_is false n zs = ((λ h. absurd h), λ h. (let never = h.0 in cc))
 
-above_kept : (b : Bool) (m x : ℕ) (zs : List ℕ) → m < x → Above m zs → Above m (kept b x zs)
+above_kept : (b : Bool) (m x : ℕ) (zs : List ℕ) → m < x → Above m zs → Above m (kept_items b x zs)
 above_kept true m x zs less h = (less, h)
 above_kept false m x zs less h = h
 
@@ -87,7 +87,7 @@ above_all_kept : (b : Bool) (m : ℕ) (zs : List ℕ) → Above m zs → Above m
 above_all_kept true m zs h = h
 above_all_kept false m zs h = tt
 
-rises_kept : (b : Bool) (x : ℕ) (zs : List ℕ) → Above x zs → Rises zs → Rises (kept b x zs)
+rises_kept : (b : Bool) (x : ℕ) (zs : List ℕ) → Above x zs → Rises zs → Rises (kept_items b x zs)
 rises_kept true x zs h k = (h, k)
 rises_kept false x zs h k = k
 
@@ -104,7 +104,7 @@ IsWanted wanted xs ys n =
 
 -- one turn: the least number x is of the left list alone
 module _ (wanted : Wanted) (x n : ℕ) (xs ys zs : List ℕ) (before : Above x ys) (rest : Among n zs ↔ IsWanted wanted xs ys n) where
-  left_turn : Among n (kept wanted.left x zs) ↔ IsWanted wanted (x ∷ xs) ys n
+  left_turn : Among n (kept_items wanted.left x zs) ↔ IsWanted wanted (x ∷ xs) ys n
   left_turn = (
     (λ h. elim ((kept_is wanted.left x n zs).0 h) [
       | inl is ↦ inl (is.0, inl is.1, λ other. let less = above_is x n ys before other in omega (arith, less, is.1))
@@ -127,7 +127,7 @@ module _ (wanted : Wanted) (x n : ℕ) (xs ys zs : List ℕ) (before : Above x y
 
 -- one turn: the least number y is of the right list alone
 module _ (wanted : Wanted) (y n : ℕ) (xs ys zs : List ℕ) (before : Above y xs) (rest : Among n zs ↔ IsWanted wanted xs ys n) where
-  right_turn : Among n (kept wanted.right y zs) ↔ IsWanted wanted xs (y ∷ ys) n
+  right_turn : Among n (kept_items wanted.right y zs) ↔ IsWanted wanted xs (y ∷ ys) n
   right_turn = (
     (λ h. elim ((kept_is wanted.right y n zs).0 h) [
       | inl is ↦ inr (inr (is.0, (λ other. let less = above_is y n xs before other in omega (arith, less, is.1)), inl is.1))
@@ -150,7 +150,7 @@ module _ (wanted : Wanted) (y n : ℕ) (xs ys zs : List ℕ) (before : Above y x
 
 -- one turn: both lists begin with it
 module _ (wanted : Wanted) (x y n : ℕ) (xs ys zs : List ℕ) (same : x ≡ y) (above_left : Above x xs) (above_right : Above y ys) (rest : Among n zs ↔ IsWanted wanted xs ys n) where
-  both_turn : Among n (kept wanted.both x zs) ↔ IsWanted wanted (x ∷ xs) (y ∷ ys) n
+  both_turn : Among n (kept_items wanted.both x zs) ↔ IsWanted wanted (x ∷ xs) (y ∷ ys) n
   both_turn = (
     (λ h. elim ((kept_is wanted.both x n zs).0 h) [
       | inl is ↦ inr (inl (is.0, inl is.1, inl (sym same ∙ is.1)))

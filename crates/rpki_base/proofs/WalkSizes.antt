@@ -1,16 +1,16 @@
 -- How many numbers a walk over two lists gives at most.
 use Rattle.std.proofs.Common.{ℕ, suc, ◌+◌, ◌≤◌, List, [], ◌∷◌, length, arith, inl, inr, lt-ltb, le-ltb}
 use Rattle.std.proofs.lemmas.Bool.{cases_lt}
-use Rattle.rpki_base.specs.Walks.{kept, all_kept, walk_step, walk, only_left, only_one, only_both, any_side}
+use Rattle.rpki_base.specs.Walks.{kept_items, all_kept, walk_step, walk, only_left, only_one, only_both, any_side}
 use Rattle.rpki_base.specs.declared.small_set.walk.Wanted.{Wanted}
 
 -- what a walk keeps stays within this bound on the lengths of both lists, whichever list a number comes from
 record IsBound (wanted : Wanted) (bound : ℕ → ℕ → ℕ) : Type 0 where
   all_left : (xs : List ℕ) → length (all_kept wanted.left xs) ≤ bound (length xs) 0
   all_right : (ys : List ℕ) → length (all_kept wanted.right ys) ≤ bound 0 (length ys)
-  left : (m n x : ℕ) (zs : List ℕ) → length zs ≤ bound m n → length (kept wanted.left x zs) ≤ bound (suc m) n
-  right : (m n y : ℕ) (zs : List ℕ) → length zs ≤ bound m n → length (kept wanted.right y zs) ≤ bound m (suc n)
-  both : (m n x : ℕ) (zs : List ℕ) → length zs ≤ bound m n → length (kept wanted.both x zs) ≤ bound (suc m) (suc n)
+  left : (m n x : ℕ) (zs : List ℕ) → length zs ≤ bound m n → length (kept_items wanted.left x zs) ≤ bound (suc m) n
+  right : (m n y : ℕ) (zs : List ℕ) → length zs ≤ bound m n → length (kept_items wanted.right y zs) ≤ bound m (suc n)
+  both : (m n x : ℕ) (zs : List ℕ) → length zs ≤ bound m n → length (kept_items wanted.both x zs) ≤ bound (suc m) (suc n)
 
 module _ (wanted : Wanted) (bound : ℕ → ℕ → ℕ) (is : IsBound wanted bound) where
   -- a walk from x on, where `others` walks over what follows x and a list

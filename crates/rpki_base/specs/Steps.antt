@@ -3,7 +3,7 @@ use Rattle.std.specs.Prelude.{◌≡◌, ℕ, ◌+◌, ◌<◌, List, length, Bo
 use Rattle.rpki_base.specs.declared.small_set.walk.Wanted.{Wanted}
 use Rattle.rpki_base.specs.declared.small_set.walk.Side.{Side}
 use Rattle.rpki_base.specs.declared.small_set.walk.Side.TheVariants.{Left, Both, Right}
-use Rattle.rpki_base.specs.Walks.{kept, walk}
+use Rattle.rpki_base.specs.Walks.{kept_items, walk}
 
 -- whether numbers of this side are wanted
 abbrev pub chosen : Wanted → Side → Bool
@@ -13,5 +13,5 @@ chosen wanted Right = wanted.right
 
 -- n stands first in a walk over both lists, whatever is wanted, and these are left
 pub record IsStep (left right : List ℕ) (side : Side) (n : ℕ) (next_left next_right : List ℕ) : Type 0 where
-  pub gives : (wanted : Wanted) → walk wanted left right ≡ kept (chosen wanted side) n (walk wanted next_left next_right)
+  pub gives : (wanted : Wanted) → walk wanted left right ≡ kept_items (chosen wanted side) n (walk wanted next_left next_right)
   pub fewer : length next_left + length next_right < length left + length right

@@ -3,8 +3,8 @@ use Rattle.std.specs.Prelude.{ℕ, List, [], ◌∷◌, Bool, true, false, nat_l
 use Rattle.rpki_base.specs.declared.small_set.walk.Wanted.{Wanted}
 
 -- the number before others, if it is wanted
-abbrev pub kept : Bool → ℕ → List ℕ → List ℕ
-kept wanted n others = if wanted then n ∷ others else others
+abbrev pub kept_items : Bool → ℕ → List ℕ → List ℕ
+kept_items wanted n others = if wanted then n ∷ others else others
 
 -- all of these, if they are wanted
 abbrev pub all_kept : Bool → List ℕ → List ℕ
@@ -14,9 +14,9 @@ all_kept wanted numbers = if wanted then numbers else []
 abbrev pub walk_step : Wanted → ℕ → List ℕ → (List ℕ → List ℕ) → List ℕ → List ℕ
 walk_step wanted x left others [] = all_kept wanted.left (x ∷ left)
 walk_step wanted x left others (y ∷ right) =
-    if nat_lt x y then kept wanted.left x (others (y ∷ right))
-    else (if nat_lt y x then kept wanted.right y (walk_step wanted x left others right)
-    else kept wanted.both x (others right))
+    if nat_lt x y then kept_items wanted.left x (others (y ∷ right))
+    else (if nat_lt y x then kept_items wanted.right y (walk_step wanted x left others right)
+    else kept_items wanted.both x (others right))
 
 -- the wanted numbers of both lists, ascending
 abbrev pub walk : Wanted → List ℕ → List ℕ → List ℕ

@@ -4,12 +4,12 @@ use Rattle.rpki_text.specs.Reading.{Answers}
 use Rattle.rpki_ip.specs.declared.error.FromStrError.{FromStrError}
 use Rattle.rpki_ip.specs.declared.family.AddressFamily.{AddressFamily}
 use Rattle.rpki_ipres.specs.Blocks.{ip_bounds}
-use Rattle.rpki_ipres.specs.BlockText.{IsBlockText, HasBlockFault}
-use Rattle.rpki_ipres.specs.PrintedBlocks.{IsBlockOf, block_text}
+use Rattle.rpki_ipres.specs.BlockText.{IsIpBlockText, HasIpBlockFault}
+use Rattle.rpki_ipres.specs.PrintedBlocks.{IsBlockOf, ip_block_text}
 use Rattle.rpki_ipres.specs.declared.block.IpBlock.{IpBlock}
 
 -- The text is read as the block of the family that it writes, or as the fault that it has. What is printed of a block of
 -- the family is read as a block with its bounds.
-pub record ReadsBlock (family : AddressFamily) (text : List ℕ) (r : Result IpBlock FromStrError) : Type 0 where
-  pub exact : Answers (IsBlockText (Some family) text) (HasBlockFault (Some family) text) r
-  pub reads_back : (block : IpBlock) → IsBlockOf family block → text ≡ block_text family block → MatchResult r (λ read. ip_bounds read ≡ ip_bounds block) (λ _. ⊥)
+pub record ReadsFamilyBlock (family : AddressFamily) (text : List ℕ) (r : Result IpBlock FromStrError) : Type 0 where
+  pub exact : Answers (IsIpBlockText (Some family) text) (HasIpBlockFault (Some family) text) r
+  pub reads_back : (block : IpBlock) → IsBlockOf family block → text ≡ ip_block_text family block → MatchResult r (λ read. ip_bounds read ≡ ip_bounds block) (λ _. ⊥)

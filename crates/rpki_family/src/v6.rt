@@ -8,10 +8,10 @@ ghost use Rattle.rpki_blocks.specs.Sets.{IsWithin};
 ghost use Rattle.rpki_ip.specs.declared.family.AddressFamily.TheVariants.{Ipv6};
 ghost use Rattle.rpki_ipres.specs.Blocks.{ip_bounds, new_ip_block};
 ghost use Rattle.rpki_ipres.specs.ListText.{HasBlocks, HasBlocksFault};
-ghost use Rattle.rpki_ipres.specs.PrintedBlocks.{IsBlockOf, block_text};
+ghost use Rattle.rpki_ipres.specs.PrintedBlocks.{IsBlockOf, ip_block_text};
 ghost use Rattle.rpki_ipres.specs.SetText.{IsFamilySet, IsSetOf, set_text};
 ghost use Rattle.rpki_ipres.specs.declared.block.IpBlock.TheVariants.{Prefix};
-ghost use Rattle.rpki_family.specs.FamilyText.{ReadsBlock};
+ghost use Rattle.rpki_family.specs.FamilyText.{ReadsFamilyBlock};
 ghost use Rattle.rpki_family.specs.PrefixBlocks.{IsPrefixBlock};
 
 use crate::common::{FamilyBlock, read_set, set_of};
@@ -138,7 +138,7 @@ impl FamilyBlock for Ipv6Block {
 impl FromStr for Ipv6Block {
     type Err = FromStrError;
 
-    ghost from_str_gives = { ReadsBlock Ipv6 };
+    ghost from_str_gives = { ReadsFamilyBlock Ipv6 };
 
     fn from_str(text: &str) -> Result<Ipv6Block, FromStrError> {
         match IpBlock::from_v6_str(text) {
@@ -151,7 +151,7 @@ impl FromStr for Ipv6Block {
 /// Prints a prefix as its address and, where it isn't 128, its length behind a slash, and a range as its bounds with a
 /// dash between them, or as one address where they are one.
 impl fmt::Display for Ipv6Block {
-    ghost output = { λ block. Some (block_text Ipv6 block) };
+    ghost output = { λ block. Some (ip_block_text Ipv6 block) };
 
     fn fmt<W: fmt::Write>(&self, f: &mut fmt::Formatter<W>) -> fmt::Result {
         self.block.fmt_v6(f)

@@ -14,7 +14,7 @@ use Rattle.rpki_text.proofs.CutLemmas.{HasNo-no_cut, around_at}
 use Rattle.rpki_text.proofs.NumberLemmas.{number_answers}
 pub use Rattle.rpki_text.proofs.ReadingLemmas.{answers_by_one}
 use Rattle.rpki_ip.specs.AddrText.{first_of, greatest_of}
-use Rattle.rpki_ip.specs.BlockText.{IsAddressText, HasAddressFault, WithAddress, IsPrefixAt, HasLengthFault, IsPrefixBetween, HasPrefixFault, IsRangeFrom, HasPairFault, IsRangeBetween, HasRangeFault, IsSingleText, IsPrefixText, HasPrefixTextFault, IsRangeText, HasRangeTextFault, HasFaultAround}
+use Rattle.rpki_ip.specs.BlockText.{IsAddressText, HasAddressFault, WithAddress, IsPrefixAt, HasLengthFault, IsPrefixBetween, HasPrefixFault, IsRangeFrom, HasPairFault, IsIpRangeBetween, HasRangeFault, IsSingleText, IsIpPrefixText, HasIpPrefixTextFault, IsRangeText, HasRangeTextFault, HasFaultAround}
 use Rattle.rpki_ip.specs.Families.{bits_of, family_of}
 use Rattle.rpki_ip.specs.Ranges.{RangeValue}
 use Rattle.rpki_ip.specs.declared.error.FromStrError.{FromStrError}
@@ -111,15 +111,15 @@ range_from_one a b (Err d) (Err e) (inr (_, _, h)) (inr (_, _, k)) = ap Err (h �
 prefix_between_one : (w : Option AddressFamily) (l q : List ℕ) (r s : Result PrefixValue FromStrError) → MatchResult r (IsPrefixBetween w l q) (HasPrefixFault w l q) → MatchResult s (IsPrefixBetween w l q) (HasPrefixFault w l q) → r ≡ s
 prefix_between_one w l q = address_one w l (λ a p. IsPrefixAt a q p) (λ a e. (f : ParseIntError) × HasLengthFault a q f × (e ≡ Fault.PrefixLen f)) (prefix_at_one q)
 
-range_between_one : (w : Option AddressFamily) (l q : List ℕ) (r s : Result RangeValue FromStrError) → MatchResult r (IsRangeBetween w l q) (HasRangeFault w l q) → MatchResult s (IsRangeBetween w l q) (HasRangeFault w l q) → r ≡ s
+range_between_one : (w : Option AddressFamily) (l q : List ℕ) (r s : Result RangeValue FromStrError) → MatchResult r (IsIpRangeBetween w l q) (HasRangeFault w l q) → MatchResult s (IsIpRangeBetween w l q) (HasRangeFault w l q) → r ≡ s
 range_between_one w l q = address_one w l (λ a x. WithAddress w q (λ b. IsRangeFrom a b x)) (λ a e. HasAddressFault w q e ⊎ WithAddress w q (λ b. HasPairFault a b e)) (λ a. address_one w q (IsRangeFrom a) (HasPairFault a) (range_from_one a))
 
 -- a text of one form has one value or one fault at most
-pub prefix_one : (w : Option AddressFamily) (text : List ℕ) (r s : Result PrefixValue FromStrError) → MatchResult r (IsPrefixText w text) (HasPrefixTextFault w text) → MatchResult s (IsPrefixText w text) (HasPrefixTextFault w text) → r ≡ s
+pub prefix_one : (w : Option AddressFamily) (text : List ℕ) (r s : Result PrefixValue FromStrError) → MatchResult r (IsIpPrefixText w text) (HasIpPrefixTextFault w text) → MatchResult s (IsIpPrefixText w text) (HasIpPrefixTextFault w text) → r ≡ s
 prefix_one w text = cut_one slash text (IsPrefixBetween w) (HasPrefixFault w) (prefix_between_one w)
 
 pub range_one : (w : Option AddressFamily) (text : List ℕ) (r s : Result RangeValue FromStrError) → MatchResult r (IsRangeText w text) (HasRangeTextFault w text) → MatchResult s (IsRangeText w text) (HasRangeTextFault w text) → r ≡ s
-range_one w text = cut_one dash text (IsRangeBetween w) (HasRangeFault w) (range_between_one w)
+range_one w text = cut_one dash text (IsIpRangeBetween w) (HasRangeFault w) (range_between_one w)
 
 pub single_one : (w : Option AddressFamily) (text : List ℕ) (r s : Result RangeValue FromStrError) → MatchResult r (IsSingleText w text) (HasAddressFault w text) → MatchResult s (IsSingleText w text) (HasAddressFault w text) → r ≡ s
 single_one w text (Ok x) (Ok y) (a, at, h) (b, here, k) =
@@ -141,7 +141,7 @@ module _ {X : Type 0} (b : ℕ) (text : List ℕ) (Has : List ℕ → List ℕ �
   no_cut_answers none = answers_by_one one (Err Fault.MissingSeparator) (inl (none, refl))
 
 -- what is so of two addresses is so of their texts
-pub range_said : (w : Option AddressFamily) (left right : List ℕ) (a b : IpAddr) → IsAddressText w left a → IsAddressText w right b → (r : Result RangeValue FromStrError) → MatchResult r (IsRangeFrom a b) (HasPairFault a b) → MatchResult r (IsRangeBetween w left right) (HasRangeFault w left right)
+pub range_said : (w : Option AddressFamily) (left right : List ℕ) (a b : IpAddr) → IsAddressText w left a → IsAddressText w right b → (r : Result RangeValue FromStrError) → MatchResult r (IsRangeFrom a b) (HasPairFault a b) → MatchResult r (IsIpRangeBetween w left right) (HasRangeFault w left right)
 range_said w left right a b at there (Ok r) h = (a, at, (b, there, h))
 range_said w left right a b at there (Err e) h = inr (a, at, inr (b, there, h))
 

@@ -74,8 +74,8 @@ HasPairFault a b e =
     ⊎ ((family_of a ≡ family_of b) × (greatest_of b < first_of a) × (e ≡ Fault.BadRange))
 
 -- two addresses write the range
-abbrev pub IsRangeBetween : Option AddressFamily → List ℕ → List ℕ → RangeValue → Type 0
-IsRangeBetween wanted left right r = WithAddress wanted left (λ a. WithAddress wanted right (λ b. IsRangeFrom a b r))
+abbrev pub IsIpRangeBetween : Option AddressFamily → List ℕ → List ℕ → RangeValue → Type 0
+IsIpRangeBetween wanted left right r = WithAddress wanted left (λ a. WithAddress wanted right (λ b. IsRangeFrom a b r))
 
 -- what is wrong with two texts: first the first address, then the second, then both
 abbrev pub HasRangeFault : Option AddressFamily → List ℕ → List ℕ → FromStrError → Type 0
@@ -88,19 +88,19 @@ abbrev pub IsSingleText : Option AddressFamily → List ℕ → RangeValue → T
 IsSingleText wanted text r = WithAddress wanted text (λ a. IsRangeFrom a a r)
 
 -- The text is a prefix round its first slash.
-abbrev pub IsPrefixText : Option AddressFamily → List ℕ → PrefixValue → Type 0
-IsPrefixText wanted text p = Around slash text (λ left right. IsPrefixBetween wanted left right p)
+abbrev pub IsIpPrefixText : Option AddressFamily → List ℕ → PrefixValue → Type 0
+IsIpPrefixText wanted text p = Around slash text (λ left right. IsPrefixBetween wanted left right p)
 
 -- The text is a range round its first dash.
 abbrev pub IsRangeText : Option AddressFamily → List ℕ → RangeValue → Type 0
-IsRangeText wanted text r = Around dash text (λ left right. IsRangeBetween wanted left right r)
+IsRangeText wanted text r = Around dash text (λ left right. IsIpRangeBetween wanted left right r)
 
 -- the byte that separates the two parts is missing, or this is wrong with the parts round its first
 abbrev pub HasFaultAround : ℕ → List ℕ → (List ℕ → List ℕ → FromStrError → Type 0) → FromStrError → Type 0
 HasFaultAround b text Fails e = (HasNo b text × (e ≡ Fault.MissingSeparator)) ⊎ Around b text (λ left right. Fails left right e)
 
-abbrev pub HasPrefixTextFault : Option AddressFamily → List ℕ → FromStrError → Type 0
-HasPrefixTextFault wanted text e = HasFaultAround slash text (HasPrefixFault wanted) e
+abbrev pub HasIpPrefixTextFault : Option AddressFamily → List ℕ → FromStrError → Type 0
+HasIpPrefixTextFault wanted text e = HasFaultAround slash text (HasPrefixFault wanted) e
 
 abbrev pub HasRangeTextFault : Option AddressFamily → List ℕ → FromStrError → Type 0
 HasRangeTextFault wanted text e = HasFaultAround dash text (HasRangeFault wanted) e

@@ -6,10 +6,10 @@ use Rattle.rpki_ip.specs.declared.error.FromStrError.{FromStrError}
 use Rattle.rpki_ip.specs.declared.error.FromStrError.TheVariants.{Addr, PrefixLen, MissingSeparator, FamilyMismatch, BadBlocks, BadRange}
 
 -- the text of each fault
-abbrev pub from_str_error_text : FromStrError → List ℕ
-from_str_error_text (Addr fault) = address_fault_text fault
-from_str_error_text (PrefixLen fault) = codes "bad prefix length: " ++ number_fault_text fault
-from_str_error_text MissingSeparator = codes "missing separator"
-from_str_error_text FamilyMismatch = codes "address family mismatch"
-from_str_error_text BadBlocks = codes "cannot parse blocks"
-from_str_error_text BadRange = codes "invalid address range"
+abbrev pub ip_from_str_error_text : FromStrError → List ℕ
+ip_from_str_error_text (Addr fault) = address_fault_text fault
+ip_from_str_error_text (PrefixLen fault) = codes "bad prefix length: " ++ number_fault_text fault
+ip_from_str_error_text MissingSeparator = codes "missing separator"
+ip_from_str_error_text FamilyMismatch = codes "address family mismatch"
+ip_from_str_error_text BadBlocks = codes "cannot parse blocks"
+ip_from_str_error_text BadRange = codes "invalid address range"

@@ -25,11 +25,11 @@ abbrev pub addr_text : AddressFamily → ℕ → List ℕ
 addr_text family n = ip_text (as_ip family (shown_bits family n))
 
 -- of a prefix: its address and its length, which is left out where it is the family's greatest
-abbrev pub prefix_text : AddressFamily → PrefixValue → List ℕ
-prefix_text family p = if p.len == bits_of family then addr_text family p.first else addr_text family p.first ++ slash ∷ decimal p.len
+abbrev pub ip_prefix_text : AddressFamily → PrefixValue → List ℕ
+ip_prefix_text family p = if p.len == bits_of family then addr_text family p.first else addr_text family p.first ++ slash ∷ decimal p.len
 
 -- of a range: its least and its greatest address, or one of them where both are printed alike
-abbrev pub range_text : AddressFamily → RangeValue → List ℕ
-range_text family r =
+abbrev pub ip_range_text : AddressFamily → RangeValue → List ℕ
+ip_range_text family r =
     if shown_bits family r.min == shown_bits family r.max then addr_text family r.min
     else addr_text family r.min ++ dash ∷ addr_text family r.max

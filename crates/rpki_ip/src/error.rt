@@ -1,6 +1,6 @@
 //! What is wrong with a text of prefixes, ranges or blocks of addresses.
 ghost use Rattle.std.specs.Prelude.{◌≡◌, Some};
-ghost use Rattle.rpki_ip.specs.Faults.{from_str_error_text};
+ghost use Rattle.rpki_ip.specs.Faults.{ip_from_str_error_text};
 ghost use Rattle.rpki_ip.specs.declared.error.FromStrError.TheVariants.{Addr, PrefixLen};
 
 use rpki_base::addr::AddrParseError;
@@ -26,7 +26,7 @@ pub enum FromStrError {
 }
 
 impl fmt::Display for FromStrError {
-    ghost output = { λ fault. Some (from_str_error_text fault) };
+    ghost output = { λ fault. Some (ip_from_str_error_text fault) };
 
     fn fmt<W: fmt::Write>(&self, f: &mut fmt::Formatter<W>) -> fmt::Result {
         match self {

@@ -6,9 +6,9 @@ ghost use Rattle.std.specs.Prelude.{◌≡◌, ◌↔◌, IsTrue, None, Some, Ma
 ghost use Rattle.std.specs.Fmt.{WritesOnOk};
 ghost use Rattle.rpki_text.specs.Reading.{Answers};
 ghost use Rattle.rpki_ip.specs.AddrText.{greatest_of};
-ghost use Rattle.rpki_ip.specs.BlockText.{IsAddressText, address_fault, IsPrefixBetween, HasPrefixFault, IsRangeFrom, HasPairFault, IsRangeBetween, HasRangeFault, IsSingleText, HasAddressFault, IsPrefixText, HasPrefixTextFault, IsRangeText, HasRangeTextFault};
+ghost use Rattle.rpki_ip.specs.BlockText.{IsAddressText, address_fault, IsPrefixBetween, HasPrefixFault, IsRangeFrom, HasPairFault, IsIpRangeBetween, HasRangeFault, IsSingleText, HasAddressFault, IsIpPrefixText, HasIpPrefixTextFault, IsRangeText, HasRangeTextFault};
 ghost use Rattle.rpki_ip.specs.Families.{family_of as the_family};
-ghost use Rattle.rpki_ip.specs.PrintedText.{shown_bits, as_ip, prefix_text, range_text};
+ghost use Rattle.rpki_ip.specs.PrintedText.{shown_bits, as_ip, ip_prefix_text, ip_range_text};
 ghost use Rattle.rpki_ip.specs.declared.family.AddressFamily.TheVariants.{Ipv4, Ipv6};
 
 use crate::addr::Addr;
@@ -79,7 +79,7 @@ pub fn range_between(
     left: &str,
     right: &str,
 ) -> Result<AddressRange, FromStrError>
-    ensures { MatchResult result (IsRangeBetween wanted left.now right.now) (HasRangeFault wanted left.now right.now) }
+    ensures { MatchResult result (IsIpRangeBetween wanted left.now right.now) (HasRangeFault wanted left.now right.now) }
 {
     let first = read_address(wanted, left)?;
     let last = read_address(wanted, right)?;
@@ -107,7 +107,7 @@ fn range_from(first: IpAddr, last: IpAddr) -> Result<AddressRange, FromStrError>
 /// The fault is the first of these: [`FromStrError::MissingSeparator`] where there is no slash, [`FromStrError::Addr`],
 /// and [`FromStrError::PrefixLen`], also of a length above 32 in IPv4 and above 128 in IPv6.
 pub fn read_prefix(wanted: Option<AddressFamily>, text: &str) -> Result<Prefix, FromStrError>
-    ensures { Answers (IsPrefixText wanted text.now) (HasPrefixTextFault wanted text.now) result }
+    ensures { Answers (IsIpPrefixText wanted text.now) (HasIpPrefixTextFault wanted text.now) result }
 {
     match text.split_once('/') {
         Some((left, right)) => prefix_between(wanted, left, right),
@@ -161,14 +161,14 @@ fn look_alike(family: AddressFamily, a: Addr, b: Addr) -> bool
 impl Prefix {
     /// Reads an IPv4 address and a length round the first slash, as [`read_prefix`] does.
     pub fn from_v4_str(text: &str) -> Result<Prefix, FromStrError>
-        ensures { Answers (IsPrefixText (Some Ipv4) text.now) (HasPrefixTextFault (Some Ipv4) text.now) result }
+        ensures { Answers (IsIpPrefixText (Some Ipv4) text.now) (HasIpPrefixTextFault (Some Ipv4) text.now) result }
     {
         read_prefix(Some(AddressFamily::Ipv4), text)
     }
 
     /// Reads an IPv6 address and a length round the first slash, as [`read_prefix`] does.
     pub fn from_v6_str(text: &str) -> Result<Prefix, FromStrError>
-        ensures { Answers (IsPrefixText (Some Ipv6) text.now) (HasPrefixTextFault (Some Ipv6) text.now) result }
+        ensures { Answers (IsIpPrefixText (Some Ipv6) text.now) (HasIpPrefixTextFault (Some Ipv6) text.now) result }
     {
         read_prefix(Some(AddressFamily::Ipv6), text)
     }
@@ -180,7 +180,7 @@ impl Prefix {
         family: AddressFamily,
         f: &mut fmt::Formatter<W>,
     ) -> fmt::Result
-        ensures { WritesOnOk W.write_str_gives f.old result (prefix_text family self.now) f.new }
+        ensures { WritesOnOk W.write_str_gives f.old result (ip_prefix_text family self.now) f.new }
     {
         let addr = shown(family, self.addr());
         let len = self.addr_len();
@@ -193,14 +193,14 @@ impl Prefix {
 
     /// Writes the prefix as one of IPv4, as [`Prefix::fmt_as`] does.
     pub fn fmt_v4<W: fmt::Write>(&self, f: &mut fmt::Formatter<W>) -> fmt::Result
-        ensures { WritesOnOk W.write_str_gives f.old result (prefix_text Ipv4 self.now) f.new }
+        ensures { WritesOnOk W.write_str_gives f.old result (ip_prefix_text Ipv4 self.now) f.new }
     {
         self.fmt_as(AddressFamily::Ipv4, f)
     }
 
     /// Writes the prefix as one of IPv6, as [`Prefix::fmt_as`] does.
     pub fn fmt_v6<W: fmt::Write>(&self, f: &mut fmt::Formatter<W>) -> fmt::Result
-        ensures { WritesOnOk W.write_str_gives f.old result (prefix_text Ipv6 self.now) f.new }
+        ensures { WritesOnOk W.write_str_gives f.old result (ip_prefix_text Ipv6 self.now) f.new }
     {
         self.fmt_as(AddressFamily::Ipv6, f)
     }
@@ -210,7 +210,7 @@ impl Prefix {
 impl FromStr for Prefix {
     type Err = FromStrError;
 
-    ghost from_str_gives = { λ text r. Answers (IsPrefixText None text) (HasPrefixTextFault None text) r };
+    ghost from_str_gives = { λ text r. Answers (IsIpPrefixText None text) (HasIpPrefixTextFault None text) r };
 
     fn from_str(text: &str) -> Result<Prefix, FromStrError> {
         read_prefix(None, text)
@@ -239,7 +239,7 @@ impl AddressRange {
         family: AddressFamily,
         f: &mut fmt::Formatter<W>,
     ) -> fmt::Result
-        ensures { WritesOnOk W.write_str_gives f.old result (range_text family self.now) f.new }
+        ensures { WritesOnOk W.write_str_gives f.old result (ip_range_text family self.now) f.new }
     {
         let min = shown(family, self.min());
         let max = shown(family, self.max());
@@ -252,14 +252,14 @@ impl AddressRange {
 
     /// Writes the range as one of IPv4, as [`AddressRange::fmt_as`] does.
     pub fn fmt_v4<W: fmt::Write>(&self, f: &mut fmt::Formatter<W>) -> fmt::Result
-        ensures { WritesOnOk W.write_str_gives f.old result (range_text Ipv4 self.now) f.new }
+        ensures { WritesOnOk W.write_str_gives f.old result (ip_range_text Ipv4 self.now) f.new }
     {
         self.fmt_as(AddressFamily::Ipv4, f)
     }
 
     /// Writes the range as one of IPv6, as [`AddressRange::fmt_as`] does.
     pub fn fmt_v6<W: fmt::Write>(&self, f: &mut fmt::Formatter<W>) -> fmt::Result
-        ensures { WritesOnOk W.write_str_gives f.old result (range_text Ipv6 self.now) f.new }
+        ensures { WritesOnOk W.write_str_gives f.old result (ip_range_text Ipv6 self.now) f.new }
     {
         self.fmt_as(AddressFamily::Ipv6, f)
     }

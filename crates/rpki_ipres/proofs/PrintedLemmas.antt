@@ -23,9 +23,9 @@ use Rattle.rpki_ip.specs.declared.error.FromStrError.{FromStrError}
 use Rattle.rpki_ip.specs.declared.family.AddressFamily.{AddressFamily}
 use Rattle.rpki_ip.specs.declared.family.AddressFamily.TheVariants.{Ipv4, Ipv6}
 use Rattle.rpki_ip.proofs.TextLemmas.{single_of}
-use Rattle.rpki_ipres.specs.BlockText.{IsBlockText, HasBlockFault}
+use Rattle.rpki_ipres.specs.BlockText.{IsIpBlockText, HasIpBlockFault}
 use Rattle.rpki_ipres.specs.Blocks.{ip_bounds}
-use Rattle.rpki_ipres.specs.PrintedBlocks.{block_text, IsBlockOf, ReadsBlock}
+use Rattle.rpki_ipres.specs.PrintedBlocks.{ip_block_text, IsBlockOf, ReadsIpBlock}
 use Rattle.rpki_ipres.specs.declared.block.IpBlock.{IpBlock}
 use Rattle.rpki_ipres.specs.declared.block.IpBlock.TheVariants.{Prefix, Range}
 
@@ -37,7 +37,7 @@ no_slash_between left right h k =
 
 -- printed addresses in each form
 module _ (family : AddressFamily) (a : IpAddr) (is : IsAddressText (Some family) (ip_text a) a) where
-  shown_prefix : (p : PrefixValue) → p.len ≤ bits_of (family_of a) → p.len ≤ 128 → p.first ≡ cleared 128 (first_of a) p.len → IsBlockText (Some family) (ip_text a ++ slash ∷ decimal p.len) (Prefix p)
+  shown_prefix : (p : PrefixValue) → p.len ≤ bits_of (family_of a) → p.len ≤ 128 → p.first ≡ cleared 128 (first_of a) p.len → IsIpBlockText (Some family) (ip_text a ++ slash ∷ decimal p.len) (Prefix p)
   shown_prefix p fits small first = record {
     left = ip_text a;
     right = decimal p.len;
@@ -45,10 +45,10 @@ module _ (family : AddressFamily) (a : IpAddr) (is : IsAddressText (Some family)
     holds = (a, is, record { length_text = IsNumberText-decimal (2 ^ 8 - 1) p.len (omega (arith, small)) (omega (arith, small)); within = fits; first = first });
   }
 
-  shown_single : (r : RangeValue) → IsRangeFrom a a r → IsBlockText (Some family) (ip_text a) (Range r)
+  shown_single : (r : RangeValue) → IsRangeFrom a a r → IsIpBlockText (Some family) (ip_text a) (Range r)
   shown_single r from = (no_slash (ip_text a) (ip_bytes a), inr (no_dash (ip_text a) (ip_bytes a), (a, is, from)))
 
-  shown_range : (b : IpAddr) (r : RangeValue) → IsAddressText (Some family) (ip_text b) b → IsRangeFrom a b r → IsBlockText (Some family) (ip_text a ++ dash ∷ ip_text b) (Range r)
+  shown_range : (b : IpAddr) (r : RangeValue) → IsAddressText (Some family) (ip_text b) b → IsRangeFrom a b r → IsIpBlockText (Some family) (ip_text a ++ dash ∷ ip_text b) (Range r)
   shown_range b r iz from = (
     no_slash_between (ip_text a) (ip_text b) (ip_bytes a) (ip_bytes b),
     inl (record {
@@ -125,11 +125,11 @@ last_single Ipv6 p e begins = let size : 2 ^ (128 - p.len) ≡ 1 = ap (λ l. 2 ^
 -- a block that the text writes, with the bounds of b
 pub record WritesBoundsOf (family : AddressFamily) (text : List ℕ) (b : IpBlock) : Type 0 where
   pub block : IpBlock
-  pub written : IsBlockText (Some family) text block
+  pub written : IsIpBlockText (Some family) text block
   pub bounds : ip_bounds block ≡ ip_bounds b
 
 -- what is printed of a block writes its bounds
-pub written_of : (family : AddressFamily) (b : IpBlock) → IsBlockOf family b → WritesBoundsOf family (block_text family b) b
+pub written_of : (family : AddressFamily) (b : IpBlock) → IsBlockOf family b → WritesBoundsOf family (ip_block_text family b) b
 written_of family (Prefix p) h =
     let begins = begins_of family (Prefix p) h in
     let prefix = prefix_of family p h in
@@ -169,19 +169,19 @@ written_of family (Range r) h =
     ]
 
 -- so a reader that answers what a text writes reads it back
-pub block_back : (family : AddressFamily) (text : List ℕ) (r : Result IpBlock FromStrError) → Answers (IsBlockText (Some family) text) (HasBlockFault (Some family) text) r → (b : IpBlock) → IsBlockOf family b → text ≡ block_text family b → MatchResult r (λ read. ip_bounds read ≡ ip_bounds b) (λ _. ⊥)
+pub block_back : (family : AddressFamily) (text : List ℕ) (r : Result IpBlock FromStrError) → Answers (IsIpBlockText (Some family) text) (HasIpBlockFault (Some family) text) r → (b : IpBlock) → IsBlockOf family b → text ≡ ip_block_text family b → MatchResult r (λ read. ip_bounds read ≡ ip_bounds b) (λ _. ⊥)
 block_back family text r exact b h is =
     let w = subst (λ t. WritesBoundsOf family t b) (sym is) (written_of family b h) in
     rw (exact.each_value w.block w.written) w.bounds
 
 -- a block of one family that the text writes is one of either
-either_family : (family : AddressFamily) (text : List ℕ) (b : IpBlock) → IsBlockText (Some family) text b → IsBlockText None text b
+either_family : (family : AddressFamily) (text : List ℕ) (b : IpBlock) → IsIpBlockText (Some family) text b → IsIpBlockText None text b
 either_family family text (Prefix p) h = let (a, is, at) = h.holds in record { left = h.left; right = h.right; cut = h.cut; holds = (a, (tt, is.1), at) }
 either_family family text (Range r) (none, inl h) = let (a, is, (b, iz, from)) = h.holds in (none, inl (record { left = h.left; right = h.right; cut = h.cut; holds = (a, (tt, is.1), (b, (tt, iz.1), from)) }))
 either_family family text (Range r) (none, inr (apart, (a, is, from))) = (none, inr (apart, (a, (tt, is.1), from)))
 
 -- so a reader of either family reads both back
-pub reads_block : (text : List ℕ) (r : Result IpBlock FromStrError) → Answers (IsBlockText None text) (HasBlockFault None text) r → ReadsBlock text r
+pub reads_block : (text : List ℕ) (r : Result IpBlock FromStrError) → Answers (IsIpBlockText None text) (HasIpBlockFault None text) r → ReadsIpBlock text r
 reads_block text r exact = record {
   exact = exact;
   reads_back = λ family b h is. (

@@ -25,10 +25,10 @@ use Rattle.rpki_ip.specs.PrintedText.{shown_bits, as_ip, addr_text}
 use Rattle.rpki_ip.specs.declared.error.FromStrError.{FromStrError}
 use Rattle.rpki_ip.specs.declared.family.AddressFamily.{AddressFamily}
 use Rattle.rpki_ip.specs.declared.family.AddressFamily.TheVariants.{Ipv4, Ipv6}
-use Rattle.rpki_ipres.specs.BlockText.{IsBlockText}
+use Rattle.rpki_ipres.specs.BlockText.{IsIpBlockText}
 use Rattle.rpki_ipres.specs.Blocks.{ip_bounds}
 use Rattle.rpki_ipres.specs.ListText.{HasByte, dot, colon, IsForeign, IsElementText, HasBlocks, HasBlocksFault, IsFamilyOf, HasIpBlocks, HasIpBlocksFault}
-use Rattle.rpki_ipres.specs.PrintedBlocks.{block_text, block_list_text, IsBlockOf}
+use Rattle.rpki_ipres.specs.PrintedBlocks.{ip_block_text, block_list_text, IsBlockOf}
 use Rattle.rpki_ipres.specs.declared.block.IpBlock.{IpBlock}
 use Rattle.rpki_ipres.specs.declared.block.IpBlock.TheVariants.{Prefix, Range}
 use Rattle.rpki_ipres.proofs.PrintedLemmas.{written_of, prefix_of}
@@ -95,7 +95,7 @@ first_below Ipv6 (Prefix p) is = is.below
 first_below Ipv6 (Range r) is = let ordered = is.ordered in let below = is.below in omega (arith, ordered, below)
 
 -- so a byte of each address of a family stands in what is printed of a block
-block_byte : (family : AddressFamily) (byte : ℕ) → ((n : ℕ) → n < 2 ^ 128 → HasByte byte (addr_text family n)) → (b : IpBlock) → IsBlockOf family b → HasByte byte (block_text family b)
+block_byte : (family : AddressFamily) (byte : ℕ) → ((n : ℕ) → n < 2 ^ 128 → HasByte byte (addr_text family n)) → (b : IpBlock) → IsBlockOf family b → HasByte byte (ip_block_text family b)
 block_byte family byte each (Prefix p) is =
     let here = each p.first (first_below family (Prefix p) is) in
     cond_both (p.len == bits_of family) (addr_text family p.first) (addr_text family p.first ++ slash ∷ decimal p.len) (HasByte byte) (λ _. here) (λ _. byte_more byte (addr_text family p.first) (slash ∷ decimal p.len) here)
@@ -103,7 +103,7 @@ block_byte family byte each (Range r) is =
     let here = each r.min (first_below family (Range r) is) in
     cond_both (shown_bits family r.min == shown_bits family r.max) (addr_text family r.min) (addr_text family r.min ++ dash ∷ addr_text family r.max) (HasByte byte) (λ _. here) (λ _. byte_more byte (addr_text family r.min) (dash ∷ addr_text family r.max) here)
 
-block_colon : (b : IpBlock) → IsBlockOf Ipv6 b → HasByte colon (block_text Ipv6 b)
+block_colon : (b : IpBlock) → IsBlockOf Ipv6 b → HasByte colon (ip_block_text Ipv6 b)
 block_colon = block_byte Ipv6 colon ipv6_text_colon
 
 -- the bytes of a decimal, and of a block
@@ -111,7 +111,7 @@ decimal_bytes : (n : ℕ) → n < 2 ^ 64 → All (IsInRange 48 57) (decimal n)
 decimal_bytes n small = All-from_get_or (IsInRange 48 57) (decimal n) 0 (λ i h. digit_at (decimal n) i (decimal_is_IsNumeral n small).0.1 h)
 
 module _ (P : ℕ → Type 0) (slash_too : P slash) (dash_too : P dash) (digits_too : (b : ℕ) → IsInRange 48 57 b → P b) (family : AddressFamily) (address : (n : ℕ) → All P (addr_text family n)) where
-  block_bytes : (b : IpBlock) → IsBlockOf family b → All P (block_text family b)
+  block_bytes : (b : IpBlock) → IsBlockOf family b → All P (ip_block_text family b)
   block_bytes (Prefix p) is =
       let short = (prefix_of family p is).short in
       let len = decimal_bytes p.len (omega (arith, short)) in
@@ -130,18 +130,18 @@ shown_byte b (inr (inr h)) = let low = h.0 in let high = h.1 in (omega (arith, l
 shown_digit : (b : ℕ) → IsInRange 48 57 b → IsShown b
 shown_digit b h = let low = h.0 in let high = h.1 in (omega (arith, low), omega (arith, high))
 
-block_shown : (family : AddressFamily) (b : IpBlock) → IsBlockOf family b → All IsShown (block_text family b)
+block_shown : (family : AddressFamily) (b : IpBlock) → IsBlockOf family b → All IsShown (ip_block_text family b)
 block_shown family = block_bytes IsShown (lit≤ tt, lit≤ tt) (lit≤ tt, lit≤ tt) shown_digit family (λ n. All-weaker IsAddressByte IsShown shown_byte _ (ip_bytes (as_ip family (shown_bits family n))))
 
 some_byte : (b : ℕ) (text : List ℕ) → HasByte b text → 0 < length text
 some_byte b text (i, small, _) = omega (arith, small)
 
-block_some : (family : AddressFamily) (b : IpBlock) → IsBlockOf family b → 0 < length (block_text family b)
-block_some Ipv4 b is = some_byte dot (block_text Ipv4 b) (block_byte Ipv4 dot (λ n _. ipv4_text_dot (n / 2 ^ 96)) b is)
-block_some Ipv6 b is = some_byte colon (block_text Ipv6 b) (block_colon b is)
+block_some : (family : AddressFamily) (b : IpBlock) → IsBlockOf family b → 0 < length (ip_block_text family b)
+block_some Ipv4 b is = some_byte dot (ip_block_text Ipv4 b) (block_byte Ipv4 dot (λ n _. ipv4_text_dot (n / 2 ^ 96)) b is)
+block_some Ipv6 b is = some_byte colon (ip_block_text Ipv6 b) (block_colon b is)
 
-block_element : (family : AddressFamily) (b : IpBlock) → IsBlockOf family b → IsElement (block_text family b)
-block_element family b is = record { shown = recursion_from_All IsShown (block_text family b) (block_shown family b is); some = block_some family b is }
+block_element : (family : AddressFamily) (b : IpBlock) → IsBlockOf family b → IsElement (ip_block_text family b)
+block_element family b is = record { shown = recursion_from_All IsShown (ip_block_text family b) (block_shown family b is); some = block_some family b is }
 
 -- what is printed of IPv4 has no colon
 small_address : (n : ℕ) → All (IsInRange 45 57) (ipv4_text n)
@@ -153,16 +153,16 @@ small_digit b h = let low = h.0 in (omega (arith, low), h.1)
 widened : (b : ℕ) → IsInRange 45 57 b → IsInRange 32 57 b
 widened b h = let low = h.0 in (omega (arith, low), h.1)
 
-small_block : (b : IpBlock) → IsBlockOf Ipv4 b → All (IsInRange 32 57) (block_text Ipv4 b)
+small_block : (b : IpBlock) → IsBlockOf Ipv4 b → All (IsInRange 32 57) (ip_block_text Ipv4 b)
 small_block = block_bytes (IsInRange 32 57) (lit≤ tt, lit≤ tt) (lit≤ tt, lit≤ tt) small_digit Ipv4 (λ n. All-weaker (IsInRange 45 57) (IsInRange 32 57) widened _ (small_address (n / 2 ^ 96)))
 
-small_more : (bs : List IpBlock) → All (IsBlockOf Ipv4) bs → All (IsInRange 32 57) (flat_map (λ next. codes ", " ++ next) (map (block_text Ipv4) bs))
+small_more : (bs : List IpBlock) → All (IsBlockOf Ipv4) bs → All (IsInRange 32 57) (flat_map (λ next. codes ", " ++ next) (map (ip_block_text Ipv4) bs))
 small_more [] is = All-nil (IsInRange 32 57)
 small_more (b ∷ bs) is =
     let first = small_block b (All-head (IsBlockOf Ipv4) b bs is) in
     let rest = small_more bs (All-tail (IsBlockOf Ipv4) b bs is) in
-    let text = block_text Ipv4 b ++ flat_map (λ next. codes ", " ++ next) (map (block_text Ipv4) bs) in
-    let all = All-append (IsInRange 32 57) (block_text Ipv4 b) (flat_map (λ next. codes ", " ++ next) (map (block_text Ipv4) bs)) first rest in
+    let text = ip_block_text Ipv4 b ++ flat_map (λ next. codes ", " ++ next) (map (ip_block_text Ipv4) bs) in
+    let all = All-append (IsInRange 32 57) (ip_block_text Ipv4 b) (flat_map (λ next. codes ", " ++ next) (map (ip_block_text Ipv4) bs)) first rest in
     All-cons (IsInRange 32 57) 44 (32 ∷ text) (lit≤ tt, lit≤ tt) (All-cons (IsInRange 32 57) 32 text (lit≤ tt, lit≤ tt) all)
 
 no_colon : (text : List ℕ) → All (IsInRange 32 57) text → ¬ HasByte colon text
@@ -170,11 +170,11 @@ no_colon text all (i, small, is) = let high = (all i 0 small).1 in omega (arith,
 
 list_no_colon : (bs : List IpBlock) → All (IsBlockOf Ipv4) bs → ¬ HasByte colon (block_list_text Ipv4 bs)
 list_no_colon [] is = no_colon [] (All-nil (IsInRange 32 57))
-list_no_colon (b ∷ bs) is = no_colon (block_list_text Ipv4 (b ∷ bs)) (All-append (IsInRange 32 57) (block_text Ipv4 b) (flat_map (λ next. codes ", " ++ next) (map (block_text Ipv4) bs)) (small_block b (All-head (IsBlockOf Ipv4) b bs is)) (small_more bs (All-tail (IsBlockOf Ipv4) b bs is)))
+list_no_colon (b ∷ bs) is = no_colon (block_list_text Ipv4 (b ∷ bs)) (All-append (IsInRange 32 57) (ip_block_text Ipv4 b) (flat_map (λ next. codes ", " ++ next) (map (ip_block_text Ipv4) bs)) (small_block b (All-head (IsBlockOf Ipv4) b bs is)) (small_more bs (All-tail (IsBlockOf Ipv4) b bs is)))
 
 -- so a printed block isn't taken for one of the other family
-not_foreign : (family : AddressFamily) (b : IpBlock) → IsBlockOf family b → ¬ IsForeign family (block_text family b)
-not_foreign Ipv4 b is = no_colon (block_text Ipv4 b) (small_block b is)
+not_foreign : (family : AddressFamily) (b : IpBlock) → IsBlockOf family b → ¬ IsForeign family (ip_block_text family b)
+not_foreign Ipv4 b is = no_colon (ip_block_text Ipv4 b) (small_block b is)
 not_foreign Ipv6 b is = λ foreign. foreign.1 (block_colon b is)
 
 -- blocks that the texts write, with the bounds of bs
@@ -183,8 +183,8 @@ pub record WritesAll (Has : List ℕ → IpBlock → Type 0) (texts : List (List
   pub have : HaveValues Has texts values
   pub bounds : map ip_bounds values ≡ map ip_bounds bs
 
-module _ (family : AddressFamily) (Has : List ℕ → IpBlock → Type 0) (own : (b c : IpBlock) → IsBlockOf family b → IsBlockText (Some family) (block_text family b) c → Has (block_text family b) c) where
-  all_written : (bs : List IpBlock) → All (IsBlockOf family) bs → WritesAll Has (map (block_text family) bs) bs
+module _ (family : AddressFamily) (Has : List ℕ → IpBlock → Type 0) (own : (b c : IpBlock) → IsBlockOf family b → IsIpBlockText (Some family) (ip_block_text family b) c → Has (ip_block_text family b) c) where
+  all_written : (bs : List IpBlock) → All (IsBlockOf family) bs → WritesAll Has (map (ip_block_text family) bs) bs
   all_written [] is = record { values = []; have = tt; bounds = refl }
   all_written (b ∷ bs) is =
       let here = All-head (IsBlockOf family) b bs is in
@@ -194,12 +194,12 @@ module _ (family : AddressFamily) (Has : List ℕ → IpBlock → Type 0) (own :
       let more = rest.bounds in
       record { values = first.block ∷ rest.values; have = (own b first.block here first.written, rest.have); bounds = cc }
 
-  all_elements : (bs : List IpBlock) → All (IsBlockOf family) bs → AllByRecursion IsElement (map (block_text family) bs)
+  all_elements : (bs : List IpBlock) → All (IsBlockOf family) bs → AllByRecursion IsElement (map (ip_block_text family) bs)
   all_elements [] is = tt
   all_elements (b ∷ bs) is = (block_element family b (All-head (IsBlockOf family) b bs is), all_elements bs (All-tail (IsBlockOf family) b bs is))
 
   list_written : (text : List ℕ) (bs : List IpBlock) → All (IsBlockOf family) bs → text ≡ block_list_text family bs → WritesAll Has (elements text) bs
-  list_written text bs is printed = rw (printed, elements-joined (map (block_text family) bs) (all_elements bs is)) (all_written bs is)
+  list_written text bs is printed = rw (printed, elements-joined (map (ip_block_text family) bs) (all_elements bs is)) (all_written bs is)
 
 -- what is printed of blocks is a list of their family
 pub family_list : (family : AddressFamily) (text : List ℕ) (bs : List IpBlock) → All (IsBlockOf family) bs → text ≡ block_list_text family bs → WritesAll (IsElementText family) (elements text) bs
@@ -209,13 +209,13 @@ family_list family = list_written family (IsElementText family) (λ b c h t. (no
 pub record WritesList (text : List ℕ) (bs : List IpBlock) : Type 0 where
   pub family : AddressFamily
   pub is : IsFamilyOf text family
-  pub writes : WritesAll (IsBlockText (Some family)) (elements text) bs
+  pub writes : WritesAll (IsIpBlockText (Some family)) (elements text) bs
 
 told_v4 : (text : List ℕ) (bs : List IpBlock) → All (IsBlockOf Ipv4) bs → text ≡ block_list_text Ipv4 bs → WritesList text bs
 told_v4 text bs is printed = record {
   family = Ipv4;
   is = inr (subst (λ t. ¬ HasByte colon t) (sym printed) (list_no_colon bs is), refl);
-  writes = list_written Ipv4 (IsBlockText (Some Ipv4)) (λ b c h t. t) text bs is printed;
+  writes = list_written Ipv4 (IsIpBlockText (Some Ipv4)) (λ b c h t. t) text bs is printed;
 }
 
 pub list_told : (family : AddressFamily) (text : List ℕ) (bs : List IpBlock) → All (IsBlockOf family) bs → text ≡ block_list_text family bs → WritesList text bs
@@ -223,8 +223,8 @@ list_told Ipv4 text bs is printed = told_v4 text bs is printed
 list_told Ipv6 text [] is printed = told_v4 text [] (All-nil (IsBlockOf Ipv4)) printed
 list_told Ipv6 text (b ∷ bs) is printed = record {
   family = Ipv6;
-  is = inl (subst (HasByte colon) (sym printed) (byte_more colon (block_text Ipv6 b) _ (block_colon b (All-head (IsBlockOf Ipv6) b bs is))), refl);
-  writes = list_written Ipv6 (IsBlockText (Some Ipv6)) (λ b c h t. t) text (b ∷ bs) is printed;
+  is = inl (subst (HasByte colon) (sym printed) (byte_more colon (ip_block_text Ipv6 b) _ (block_colon b (All-head (IsBlockOf Ipv6) b bs is))), refl);
+  writes = list_written Ipv6 (IsIpBlockText (Some Ipv6)) (λ b c h t. t) text (b ∷ bs) is printed;
 }
 
 -- so a reader that answers what a text writes reads it back

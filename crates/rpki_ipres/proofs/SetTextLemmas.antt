@@ -11,7 +11,7 @@ use Rattle.rpki_chain.proofs.SetLemmas.{bounds_made}
 use Rattle.rpki_ip.specs.Whole.{HasWholeBounds}
 use Rattle.rpki_ip.specs.declared.family.AddressFamily.{AddressFamily}
 use Rattle.rpki_ip.specs.declared.family.AddressFamily.TheVariants.{Ipv4, Ipv6}
-use Rattle.rpki_ipres.specs.BlockForms.{new_block_bounds}
+use Rattle.rpki_ipres.specs.BlockForms.{new_ip_block_bounds}
 use Rattle.rpki_ipres.specs.Blocks.{ip_bounds, new_ip_block}
 use Rattle.rpki_ipres.specs.PrintedBlocks.{IsBlockOf}
 use Rattle.rpki_ipres.specs.SetText.{IsSetOf, IsIpSet, IsFamilySet}
@@ -36,7 +36,7 @@ module _ {V E : Type 0} (view : V → List IpBlock) (Has : List IpBlock → Type
 
 -- the blocks that are made of runs have their bounds
 pub blocks_bounds : (set : Runs) → IsIpSet set → map ip_bounds (map new_ip_block set) ≡ set
-blocks_bounds = bounds_made ip_bounds new_ip_block 340282366920938463463374607431768211455 (λ b ordered to. new_block_bounds b)
+blocks_bounds = bounds_made ip_bounds new_ip_block 340282366920938463463374607431768211455 (λ b ordered to. new_ip_block_bounds b)
 
 -- the set of blocks with the bounds of runs is that of the runs
 set_of_bounds : (xs : List IpBlock) (set read : Runs) → IsIpSet set → map ip_bounds xs ≡ map ip_bounds (map new_ip_block set) → IsRunsOfBlocks ip_bounds xs read → read ≡ set
@@ -56,7 +56,7 @@ blocks_of_family Ipv4 set (is, whole) = λ k d small. (blocks_fit set is k d sma
   where
     whole_blocks : All (λ x. HasWholeBounds (ip_bounds x)) (map new_ip_block set)
     whole_blocks = All-map (λ x. HasWholeBounds (ip_bounds x)) new_ip_block set (λ k d small.
-        subst HasWholeBounds (sym (new_block_bounds (get_or set k d))) (whole_runs set is.are_runs whole k d small))
+        subst HasWholeBounds (sym (new_ip_block_bounds (get_or set k d))) (whole_runs set is.are_runs whole k d small))
 
 -- a set of the family is a set of addresses
 pub is_ip_set : (family : AddressFamily) (set : Runs) → IsFamilySet family set → IsIpSet set

@@ -24,12 +24,12 @@ use Rattle.rpki_cover.proofs.Multiples.{IsMultiple, mod_multiple, multiple_diff,
 use Rattle.rpki_ipres.specs.BlockDer.{IsBlockWithin, IsIpBlockDer, ip_block_der, ip_family_der, ip_run_der, ip_set_der}
 use Rattle.rpki_ipres.specs.PrintedBlocks.{IsBlock}
 use Rattle.rpki_ipres.specs.SetText.{IsFamilySet, IsIpSet}
-use Rattle.rpki_ipres.specs.BlockForms.{new_block_bounds}
+use Rattle.rpki_ipres.specs.BlockForms.{new_ip_block_bounds}
 use Rattle.rpki_ipres.specs.BlockReading.{ip_block_at}
 use Rattle.rpki_ipres.specs.Blocks.{ip_bounds, new_ip_block}
 use Rattle.rpki_ipres.specs.declared.block.IpBlock.{IpBlock}
 use Rattle.rpki_ipres.specs.declared.block.IpBlock.TheVariants.{Prefix, Range}
-use Rattle.rpki_ipres.specs.BlockReadingLaws.{block_has_octets, block_reading}
+use Rattle.rpki_ipres.specs.BlockReadingLaws.{ip_block_has_octets, ip_block_reading}
 use Rattle.rpki_ipres.proofs.BlockWritten.{block_written}
 use Rattle.rpki_ipres.proofs.FormLemmas.{new_block_fits}
 use Rattle.rpki_ipres.proofs.SetTextLemmas.{blocks_bounds}
@@ -65,7 +65,7 @@ made_within limit run (Range r) le bounds fits is = subst (λ (b : ℕ × ℕ). 
 
 -- what is written of it is the block of the run
 run_written : (limit : ℕ) (run : ℕ × ℕ) → limit ≤ 128 → IsRunWithin limit run → IsIpBlockDer limit (ip_run_der run) (new_ip_block run)
-run_written limit run le is = block_written limit (new_ip_block run) le (made_within limit run (new_ip_block run) le (new_block_bounds run) (new_block_fits run is.is_range.ordered is.is_range.below) is)
+run_written limit run le is = block_written limit (new_ip_block run) le (made_within limit run (new_ip_block run) le (new_ip_block_bounds run) (new_block_fits run is.is_range.ordered is.is_range.below) is)
 
 -- the same of all runs
 runs_written : (limit : ℕ) (set : Runs) → limit ≤ 128 → AllByRecursion (IsRunWithin limit) set → AllByRecursion (λ x. IsIpBlockDer limit (ip_block_der x) x) (map new_ip_block set)
@@ -85,7 +85,7 @@ family_written family (run ∷ set) some = ap (λ (t : List ℕ). sequence_value
 
 -- they stand for the set
 pub blocks_say : (set : Runs) → IsIpSet set → IsRunsOfBlocks ip_bounds (map new_ip_block set) set
-blocks_say = made_of_set ip_bounds new_ip_block 340282366920938463463374607431768211455 (λ b ordered to. new_block_bounds b)
+blocks_say = made_of_set ip_bounds new_ip_block 340282366920938463463374607431768211455 (λ b ordered to. new_ip_block_bounds b)
 
 -- blocks stand for one set
 pub one_set : (blocks : List IpBlock) (a b : Runs) → IsRunsOfBlocks ip_bounds blocks a → IsRunsOfBlocks ip_bounds blocks b → a ≡ b
@@ -129,7 +129,7 @@ written_as_numbers a b is also = (
       let content : octets_of_all ip_run_der a ≡ octets_of_all ip_run_der b = one_content (octets_of_all ip_run_der a) (octets_of_all ip_run_der b) same in
       let all = runs_written 128 a (omega arith) (family_runs Ipv6 a is) in
       let more = runs_written 128 b (omega arith) (family_runs Ipv6 b also) in
-      let blocks = written_alike (IsIpBlockDer 128) ip_block_der (ip_block_at 128) (block_reading 128) (block_has_octets 128) (map new_ip_block a) (map new_ip_block b) all more
+      let blocks = written_alike (IsIpBlockDer 128) ip_block_der (ip_block_at 128) (ip_block_reading 128) (ip_block_has_octets 128) (map new_ip_block a) (map new_ip_block b) all more
       (written_as_runs a ∙ content ∙ sym (written_as_runs b)) in
       let one : a ≡ b = sym (blocks_bounds a is) ∙ ap (λ (t : List IpBlock). map ip_bounds t) blocks ∙ blocks_bounds b also in
       (subst (λ (t : Runs). Holds t n) one, subst (λ (t : Runs). Holds t n) (sym one))

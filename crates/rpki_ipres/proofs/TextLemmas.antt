@@ -4,12 +4,12 @@ use Rattle.rpki_text.specs.Cuts.{HasNo, IsCutAt, Around, slash, dash}
 use Rattle.rpki_base.specs.Prefixes.{PrefixValue}
 use Rattle.rpki_text.specs.Reading.{Answers}
 use Rattle.rpki_text.proofs.CutLemmas.{none_around}
-use Rattle.rpki_ip.specs.BlockText.{IsPrefixBetween, HasPrefixFault, IsPrefixText, HasPrefixTextFault, IsRangeBetween, HasRangeFault, IsRangeText, HasRangeTextFault, IsSingleText, HasAddressFault}
+use Rattle.rpki_ip.specs.BlockText.{IsPrefixBetween, HasPrefixFault, IsIpPrefixText, HasIpPrefixTextFault, IsIpRangeBetween, HasRangeFault, IsRangeText, HasRangeTextFault, IsSingleText, HasAddressFault}
 use Rattle.rpki_ip.specs.Ranges.{RangeValue}
 use Rattle.rpki_ip.specs.declared.error.FromStrError.{FromStrError}
 use Rattle.rpki_ip.specs.declared.family.AddressFamily.{AddressFamily}
 use Rattle.rpki_ip.proofs.TextLemmas.{prefix_one, range_one, single_one, answers_by_one}
-use Rattle.rpki_ipres.specs.BlockText.{IsBlockText, HasBlockFault}
+use Rattle.rpki_ipres.specs.BlockText.{IsIpBlockText, HasIpBlockFault}
 use Rattle.rpki_ipres.specs.declared.block.IpBlock.{IpBlock}
 use Rattle.rpki_ipres.specs.declared.block.IpBlock.TheVariants.{Prefix, Range}
 
@@ -25,7 +25,7 @@ of_range (Err e) = Err e
 module _ (w : Option AddressFamily) (text : List ℕ) where
   -- what is right of a text
   abbrev pub Says : Result IpBlock FromStrError → Type 0
-  Says r = MatchResult r (IsBlockText w text) (HasBlockFault w text)
+  Says r = MatchResult r (IsIpBlockText w text) (HasIpBlockFault w text)
 
   -- the text is cut at b
   IsCut : ℕ → Type 0
@@ -41,7 +41,7 @@ module _ (w : Option AddressFamily) (text : List ℕ) where
 
   -- the answer, by the form of the text
   data Formed (r : Result IpBlock FromStrError) : Type 0 where
-    prefix : IsCut slash → (x : Result PrefixValue FromStrError) → MatchResult x (IsPrefixText w text) (HasPrefixTextFault w text) → r ≡ of_prefix x → Formed r
+    prefix : IsCut slash → (x : Result PrefixValue FromStrError) → MatchResult x (IsIpPrefixText w text) (HasIpPrefixTextFault w text) → r ≡ of_prefix x → Formed r
     range : HasNo slash text → IsCut dash → (x : Result RangeValue FromStrError) → MatchResult x (IsRangeText w text) (HasRangeTextFault w text) → r ≡ of_range x → Formed r
     single : HasNo slash text → HasNo dash text → (x : Result RangeValue FromStrError) → MatchResult x (IsSingleText w text) (HasAddressFault w text) → r ≡ of_range x → Formed r
 
@@ -69,18 +69,18 @@ module _ (w : Option AddressFamily) (text : List ℕ) where
   block_one r s h k = formed_one r s (formed r h) (formed s k)
 
   -- so one that is right is the only one
-  block_answers : (r : Result IpBlock FromStrError) → Says r → Answers (IsBlockText w text) (HasBlockFault w text) r
+  block_answers : (r : Result IpBlock FromStrError) → Says r → Answers (IsIpBlockText w text) (HasIpBlockFault w text) r
   block_answers r found = answers_by_one block_one r found
 
   -- the reader of the parts of each form reads the block
-  pub prefix_answers : (left right : List ℕ) → IsCutAt slash text left right → (x : Result PrefixValue FromStrError) → MatchResult x (IsPrefixBetween w left right) (HasPrefixFault w left right) → Answers (IsBlockText w text) (HasBlockFault w text) (of_prefix x)
+  pub prefix_answers : (left right : List ℕ) → IsCutAt slash text left right → (x : Result PrefixValue FromStrError) → MatchResult x (IsPrefixBetween w left right) (HasPrefixFault w left right) → Answers (IsIpBlockText w text) (HasIpBlockFault w text) (of_prefix x)
   prefix_answers left right cut (Ok p) h = block_answers (Ok (Prefix p)) (record { left = left; right = right; cut = cut; holds = h })
   prefix_answers left right cut (Err e) h = block_answers (Err e) (inl (record { left = left; right = right; cut = cut; holds = h }))
 
-  pub range_answers : HasNo slash text → (left right : List ℕ) → IsCutAt dash text left right → (x : Result RangeValue FromStrError) → MatchResult x (IsRangeBetween w left right) (HasRangeFault w left right) → Answers (IsBlockText w text) (HasBlockFault w text) (of_range x)
+  pub range_answers : HasNo slash text → (left right : List ℕ) → IsCutAt dash text left right → (x : Result RangeValue FromStrError) → MatchResult x (IsIpRangeBetween w left right) (HasRangeFault w left right) → Answers (IsIpBlockText w text) (HasIpBlockFault w text) (of_range x)
   range_answers none left right cut (Ok r) h = block_answers (Ok (Range r)) (none, inl (record { left = left; right = right; cut = cut; holds = h }))
   range_answers none left right cut (Err e) h = block_answers (Err e) (inr (none, inl (record { left = left; right = right; cut = cut; holds = h })))
 
-  pub single_answers : HasNo slash text → HasNo dash text → (x : Result RangeValue FromStrError) → Answers (IsSingleText w text) (HasAddressFault w text) x → Answers (IsBlockText w text) (HasBlockFault w text) (of_range x)
+  pub single_answers : HasNo slash text → HasNo dash text → (x : Result RangeValue FromStrError) → Answers (IsSingleText w text) (HasAddressFault w text) x → Answers (IsIpBlockText w text) (HasIpBlockFault w text) (of_range x)
   single_answers none apart (Ok r) h = block_answers (Ok (Range r)) (none, inr (apart, h.found))
   single_answers none apart (Err e) h = block_answers (Err e) (inr (none, inr (apart, h.found)))

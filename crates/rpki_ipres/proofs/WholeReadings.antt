@@ -27,7 +27,7 @@ use Rattle.rpki_ip.specs.declared.family.AddressFamily.{AddressFamily}
 use Rattle.rpki_ip.specs.declared.family.AddressFamily.TheVariants.{Ipv4, Ipv6}
 use Rattle.rpki_ip.proofs.WholeLemmas.{whole_set}
 use Rattle.rpki_ipres.specs.BlockDer.{IsIpBlockDer, IsIpBlockSequence}
-use Rattle.rpki_ipres.specs.BlockText.{IsBlockText}
+use Rattle.rpki_ipres.specs.BlockText.{IsIpBlockText}
 use Rattle.rpki_ipres.specs.Blocks.{prefix_bounds, ip_bounds}
 use Rattle.rpki_ipres.specs.ListText.{IsElementText, IsFamilyOf, HasBlocks, HasBlocksFault, HasIpBlocks}
 use Rattle.rpki_ipres.specs.declared.block.IpBlock.{IpBlock}
@@ -74,7 +74,7 @@ whole_range r (V4 m) (V6 n) e f h = absurd (let z : Ipv6 ≡ Ipv4 = f in cc)
 whole_range r (V6 m) b e f h = absurd (let z : Ipv6 ≡ Ipv4 = e in cc)
 
 -- so has a block that is read as one of IPv4
-pub whole_text : (text : List ℕ) (b : IpBlock) → IsBlockText (Some Ipv4) text b → HasWholeBounds (ip_bounds b)
+pub whole_text : (text : List ℕ) (b : IpBlock) → IsIpBlockText (Some Ipv4) text b → HasWholeBounds (ip_bounds b)
 whole_text text (Prefix p) h =
     let (a, is, at) = h.holds in
     whole_prefix p (first_of a) (subst (λ family. p.len ≤ bits_of family) is.0 at.within) at.first
@@ -82,7 +82,7 @@ whole_text text (Range r) (none, inl h) = let (a, is, (b, also, from)) = h.holds
 whole_text text (Range r) (none, inr (no_dash, (a, is, from))) = whole_range r a a is.0 is.0 from
 
 -- and each block of a list of IPv4
-pub whole_values : (Has : List ℕ → IpBlock → Type 0) → ((text : List ℕ) (b : IpBlock) → Has text b → IsBlockText (Some Ipv4) text b) → (texts : List (List ℕ)) (blocks : List IpBlock) → HaveValues Has texts blocks
+pub whole_values : (Has : List ℕ → IpBlock → Type 0) → ((text : List ℕ) (b : IpBlock) → Has text b → IsIpBlockText (Some Ipv4) text b) → (texts : List (List ℕ)) (blocks : List IpBlock) → HaveValues Has texts blocks
     → All (λ b. HasWholeBounds (ip_bounds b)) blocks
 whole_values Has is_text [] [] h = All-nil (λ b. HasWholeBounds (ip_bounds b))
 whole_values Has is_text [] (b ∷ blocks) h = absurd h
@@ -97,7 +97,7 @@ whole_list text = whole_values (IsElementText Ipv4) (λ t b h. h.1) (elements te
 -- and of one that tells it
 pub whole_untold_list : (text : List ℕ) (blocks : List IpBlock) → IsFamilyOf text Ipv4 → HasIpBlocks text blocks → All (λ b. HasWholeBounds (ip_bounds b)) blocks
 whole_untold_list text blocks v4 (family, told, have) =
-    whole_values (IsBlockText (Some Ipv4)) (λ t b h. h) (elements text) blocks (subst (λ f. HaveValues (IsBlockText (Some f)) (elements text) blocks) (same_family text family Ipv4 told v4) have)
+    whole_values (IsIpBlockText (Some Ipv4)) (λ t b h. h) (elements text) blocks (subst (λ f. HaveValues (IsIpBlockText (Some f)) (elements text) blocks) (same_family text family Ipv4 told v4) have)
 
 -- so the reader of lists answers such blocks
 pub whole_family_list : {V : Type 0} (view : V → List IpBlock) (family : AddressFamily) (text : List ℕ) (r : Result V (OrMemory FromStrError)) → AnswersOrMemory view (HasBlocks family text) (HasBlocksFault family text) r

@@ -42,9 +42,9 @@ found_length (suc n) b len found = by_test (has_length b (suc n)) refl (found_le
         (omega (arith, small), has)
 
 -- so the block has them
-pub new_block_bounds : (b : ℕ × ℕ) → ip_bounds (new_ip_block b) ≡ b
+pub new_ip_block_bounds : (b : ℕ × ℕ) → ip_bounds (new_ip_block b) ≡ b
 unfolding length_of
-new_block_bounds b = by_length (length_of b) refl
+new_ip_block_bounds b = by_length (length_of b) refl
   where
     by_length : (o : Option ℕ) → length_of b ≡ o → ip_bounds (block_from b o) ≡ b
     by_length None e = refl

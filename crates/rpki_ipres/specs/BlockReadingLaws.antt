@@ -52,17 +52,17 @@ block_from limit bytes (Prefix p) (b, (counted, is), prefix) =
 block_from limit bytes (Range r) (content, is, says) = (record { tag = 48; content = content }, is, inr (refl, (r, says, refl)))
 
 -- a prefix or a range
-pub block_reading : (limit : ℕ) → IsReading (IsIpBlockDer limit) (ip_block_at limit)
+pub ip_block_reading : (limit : ℕ) → IsReading (IsIpBlockDer limit) (ip_block_at limit)
 unfolding Says
-block_reading limit =
+ip_block_reading limit =
     same_reading (Refines IsTlv (Says limit)) (IsIpBlockDer limit) (ip_block_at limit) (λ bytes block fits is. block_to limit bytes block is) (block_from limit)
     (by_tag_reading 3 (Named (IsPrefixContent limit) Prefix) (Named (SaysRange limit) Range) (prefix_block_in limit) (range_block_in limit) (λ e. omega (arith, e)) (prefix_says limit) (range_says limit))
 
 -- a block has an octet at least
-pub block_has_octets : (limit : ℕ) (front : List ℕ) (block : IpBlock) → IsIpBlockDer limit front block → 0 < length front
-block_has_octets limit front (Prefix p) is = value_has_octets front 3 (bit_content is.0) is.1.1
-block_has_octets limit front (Range r) is = value_has_octets front 48 is.0 is.1
+pub ip_block_has_octets : (limit : ℕ) (front : List ℕ) (block : IpBlock) → IsIpBlockDer limit front block → 0 < length front
+ip_block_has_octets limit front (Prefix p) is = value_has_octets front 3 (bit_content is.0) is.1.1
+ip_block_has_octets limit front (Range r) is = value_has_octets front 48 is.0 is.1
 
 -- a SEQUENCE of blocks
 pub blocks_reading : (limit : ℕ) → IsReading (IsSequenceOf (IsIpBlockDer limit)) (ip_blocks_at limit)
-blocks_reading limit = sequence_reading (λ (state : Unit {0}) (x : IpBlock). state) (λ state. IsIpBlockDer limit) (λ state. ip_block_at limit) (λ state. block_reading limit) (λ state. block_has_octets limit) tt
+blocks_reading limit = sequence_reading (λ (state : Unit {0}) (x : IpBlock). state) (λ state. IsIpBlockDer limit) (λ state. ip_block_at limit) (λ state. ip_block_reading limit) (λ state. ip_block_has_octets limit) tt

@@ -5,7 +5,7 @@ use Rattle.rpki_ip.specs.declared.error.FromStrError.{FromStrError}
 use Rattle.rpki_ip.specs.declared.error.FromStrError.TheVariants.{FamilyMismatch}
 use Rattle.rpki_ip.specs.declared.family.AddressFamily.{AddressFamily}
 use Rattle.rpki_ip.specs.declared.family.AddressFamily.TheVariants.{Ipv4, Ipv6}
-use Rattle.rpki_ipres.specs.BlockText.{IsBlockText, HasBlockFault}
+use Rattle.rpki_ipres.specs.BlockText.{IsIpBlockText, HasIpBlockFault}
 use Rattle.rpki_ipres.specs.declared.block.IpBlock.{IpBlock}
 
 -- `b'.'`
@@ -27,13 +27,13 @@ IsForeign Ipv6 text = HasByte dot text × ¬ HasByte colon text
 
 -- an element of a list of the family
 abbrev pub IsElementText : AddressFamily → List ℕ → IpBlock → Type 0
-IsElementText family text block = (¬ IsForeign family text) × IsBlockText (Some family) text block
+IsElementText family text block = (¬ IsForeign family text) × IsIpBlockText (Some family) text block
 
 -- and its fault
 abbrev pub HasElementFault : AddressFamily → List ℕ → FromStrError → Type 0
 HasElementFault family text e =
     (IsForeign family text × (e ≡ FamilyMismatch))
-    ⊎ ((¬ IsForeign family text) × HasBlockFault (Some family) text e)
+    ⊎ ((¬ IsForeign family text) × HasIpBlockFault (Some family) text e)
 
 -- The blocks that a list of the family writes, in its order, and its first fault.
 abbrev pub HasBlocks : AddressFamily → List ℕ → List IpBlock → Type 0
@@ -48,11 +48,11 @@ IsFamilyOf text family = (HasByte colon text × (family ≡ Ipv6)) ⊎ ((¬ HasB
 
 -- in such a list, each element that writes no block of the family is taken for one of the other
 abbrev pub HasMismatch : AddressFamily → List ℕ → FromStrError → Type 0
-HasMismatch family text e = ((block : IpBlock) → ¬ IsBlockText (Some family) text block) × (e ≡ FamilyMismatch)
+HasMismatch family text e = ((block : IpBlock) → ¬ IsIpBlockText (Some family) text block) × (e ≡ FamilyMismatch)
 
 -- The blocks that a list of a family that isn't told writes, and its first fault.
 abbrev pub HasIpBlocks : List ℕ → List IpBlock → Type 0
-HasIpBlocks text blocks = (family : AddressFamily) × IsFamilyOf text family × HaveValues (IsBlockText (Some family)) (elements text) blocks
+HasIpBlocks text blocks = (family : AddressFamily) × IsFamilyOf text family × HaveValues (IsIpBlockText (Some family)) (elements text) blocks
 
 abbrev pub HasIpBlocksFault : List ℕ → FromStrError → Type 0
-HasIpBlocksFault text e = (family : AddressFamily) × IsFamilyOf text family × HasFirstFault (IsBlockText (Some family)) (HasMismatch family) (elements text) e
+HasIpBlocksFault text e = (family : AddressFamily) × IsFamilyOf text family × HasFirstFault (IsIpBlockText (Some family)) (HasMismatch family) (elements text) e

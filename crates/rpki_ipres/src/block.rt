@@ -92,7 +92,7 @@ impl IpBlock {
 impl Block for IpBlock {
     ghost use Rattle.std.specs.Prelude.{refl};
     ghost use Rattle.rpki_ipres.specs.Blocks.{ip_bounds, new_ip_block};
-    ghost use Rattle.rpki_ipres.specs.BlockForms.{new_block_bounds};
+    ghost use Rattle.rpki_ipres.specs.BlockForms.{new_ip_block_bounds};
 
     type Item = Addr;
 
@@ -114,7 +114,7 @@ impl Block for IpBlock {
 
     ghost one_item = { λ x y same. same };
 
-    ghost form_bounds = { λ b ordered to. new_block_bounds b };
+    ghost form_bounds = { λ b ordered to. new_ip_block_bounds b };
 
     fn new(min: Addr, max: Addr) -> IpBlock {
         IpBlock::from_pair((min, max))

@@ -5,10 +5,10 @@ ghost use Rattle.rpki_text.specs.Memory.{IsMemory};
 ghost use Rattle.rpki_text.specs.Reading.{AnswersOrMemory};
 ghost use Rattle.rpki_ip.specs.Whole.{HasWholeBounds};
 ghost use Rattle.rpki_ip.specs.declared.family.AddressFamily.TheVariants.{Ipv4};
-ghost use Rattle.rpki_ipres.specs.BlockText.{IsBlockText};
+ghost use Rattle.rpki_ipres.specs.BlockText.{IsIpBlockText};
 ghost use Rattle.rpki_ipres.specs.Blocks.{ip_bounds};
 ghost use Rattle.rpki_ipres.specs.ListText.{IsForeign, IsElementText, HasElementFault, HasBlocks, HasBlocksFault, IsFamilyOf, HasMismatch, HasIpBlocks, HasIpBlocksFault};
-ghost use Rattle.rpki_ipres.specs.PrintedBlocks.{block_text, block_list_text, IsBlockOf};
+ghost use Rattle.rpki_ipres.specs.PrintedBlocks.{ip_block_text, block_list_text, IsBlockOf};
 ghost use Rattle.rpki_ipres.specs.declared.block.IpBlock.{IpBlock};
 
 use crate::block::IpBlock;
@@ -64,7 +64,7 @@ impl ReadElement for ByColon {
 
     type Fault = FromStrError;
 
-    ghost has = { λ reader. IsBlockText (Some reader.family) };
+    ghost has = { λ reader. IsIpBlockText (Some reader.family) };
 
     ghost fails = { λ reader. HasMismatch reader.family };
 
@@ -136,7 +136,7 @@ struct AsFamily {
 impl FmtElement for AsFamily {
     type Item = IpBlock;
 
-    ghost text = { λ printer block. Some (block_text printer.family block) };
+    ghost text = { λ printer block. Some (ip_block_text printer.family block) };
 
     fn fmt_element<W: fmt::Write>(
         &self,

@@ -6,10 +6,10 @@ ghost use Rattle.std.specs.Prelude.{◌≡◌, ◌↔◌, IsTrue, Some, MatchRes
 ghost use Rattle.std.specs.Fmt.{WritesOnOk};
 ghost use Rattle.rpki_text.specs.Reading.{Answers};
 ghost use Rattle.rpki_ip.specs.declared.family.AddressFamily.TheVariants.{Ipv4, Ipv6};
-ghost use Rattle.rpki_ipres.specs.BlockText.{IsBlockText, HasBlockFault};
+ghost use Rattle.rpki_ipres.specs.BlockText.{IsIpBlockText, HasIpBlockFault};
 ghost use Rattle.rpki_ipres.specs.Blocks.{ip_bounds};
 ghost use Rattle.rpki_ipres.specs.ListText.{HasByte};
-ghost use Rattle.rpki_ipres.specs.PrintedBlocks.{block_text, IsBlockOf, ReadsBlock};
+ghost use Rattle.rpki_ipres.specs.PrintedBlocks.{ip_block_text, IsBlockOf, ReadsIpBlock};
 
 use crate::block::IpBlock;
 use rpki_ip::error::FromStrError;
@@ -29,7 +29,7 @@ pub(crate) fn has_byte(byte: u8, text: &str) -> bool
 /// The block that a text writes, in the family that is wanted or in either: a prefix round its first slash, else a range
 /// round its first dash, else one address.
 pub(crate) fn read_block(wanted: Option<AddressFamily>, text: &str) -> Result<IpBlock, FromStrError>
-    ensures { Answers (IsBlockText wanted text.now) (HasBlockFault wanted text.now) result }
+    ensures { Answers (IsIpBlockText wanted text.now) (HasIpBlockFault wanted text.now) result }
 {
     if let Some((left, right)) = text.split_once('/') {
         return Ok(IpBlock::Prefix(prefix_between(wanted, left, right)?));
@@ -47,9 +47,9 @@ impl IpBlock {
     /// The fault is the first that is met: [`FromStrError::Addr`] of an address; [`FromStrError::PrefixLen`] of a length,
     /// also of one above 32; [`FromStrError::BadRange`] where the first address of a range is above the second.
     pub fn from_v4_str(text: &str) -> Result<IpBlock, FromStrError>
-        ensures exact { Answers (IsBlockText (Some Ipv4) text.now) (HasBlockFault (Some Ipv4) text.now) result }
+        ensures exact { Answers (IsIpBlockText (Some Ipv4) text.now) (HasIpBlockFault (Some Ipv4) text.now) result }
         // What is printed of a block of whole addresses as one of IPv4 is read as a block with its bounds.
-        ensures reads_back { (block : IpBlock) → IsBlockOf Ipv4 block → text.now ≡ block_text Ipv4 block
+        ensures reads_back { (block : IpBlock) → IsBlockOf Ipv4 block → text.now ≡ ip_block_text Ipv4 block
             → MatchResult result (λ read. ip_bounds read ≡ ip_bounds block) (λ _. ⊥) }
     {
         read_block(Some(AddressFamily::Ipv4), text)
@@ -57,9 +57,9 @@ impl IpBlock {
 
     /// Reads a block of IPv6 addresses, as [`IpBlock::from_v4_str`] reads one of IPv4. A prefix has a length up to 128.
     pub fn from_v6_str(text: &str) -> Result<IpBlock, FromStrError>
-        ensures exact { Answers (IsBlockText (Some Ipv6) text.now) (HasBlockFault (Some Ipv6) text.now) result }
+        ensures exact { Answers (IsIpBlockText (Some Ipv6) text.now) (HasIpBlockFault (Some Ipv6) text.now) result }
         // What is printed of a block as one of IPv6 is read as a block with its bounds.
-        ensures reads_back { (block : IpBlock) → IsBlockOf Ipv6 block → text.now ≡ block_text Ipv6 block
+        ensures reads_back { (block : IpBlock) → IsBlockOf Ipv6 block → text.now ≡ ip_block_text Ipv6 block
             → MatchResult result (λ read. ip_bounds read ≡ ip_bounds block) (λ _. ⊥) }
     {
         read_block(Some(AddressFamily::Ipv6), text)
@@ -71,7 +71,7 @@ impl IpBlock {
         family: AddressFamily,
         f: &mut fmt::Formatter<W>,
     ) -> fmt::Result
-        ensures { WritesOnOk W.write_str_gives f.old result (block_text family self.now) f.new }
+        ensures { WritesOnOk W.write_str_gives f.old result (ip_block_text family self.now) f.new }
     {
         match self {
             IpBlock::Prefix(prefix) => prefix.fmt_as(family, f),
@@ -82,7 +82,7 @@ impl IpBlock {
     /// Writes the block as one of IPv4: a prefix as the first 32 bits of its address and, where it isn't 32, its length
     /// behind a slash; a range as the first 32 bits of its bounds, with a dash between them where they aren't alike.
     pub fn fmt_v4<W: fmt::Write>(&self, f: &mut fmt::Formatter<W>) -> fmt::Result
-        ensures { WritesOnOk W.write_str_gives f.old result (block_text Ipv4 self.now) f.new }
+        ensures { WritesOnOk W.write_str_gives f.old result (ip_block_text Ipv4 self.now) f.new }
     {
         self.fmt_as(AddressFamily::Ipv4, f)
     }
@@ -90,7 +90,7 @@ impl IpBlock {
     /// Writes the block as one of IPv6: a prefix as its address and, where it isn't 128, its length behind a slash; a
     /// range as its bounds, with a dash between them where they aren't the same.
     pub fn fmt_v6<W: fmt::Write>(&self, f: &mut fmt::Formatter<W>) -> fmt::Result
-        ensures { WritesOnOk W.write_str_gives f.old result (block_text Ipv6 self.now) f.new }
+        ensures { WritesOnOk W.write_str_gives f.old result (ip_block_text Ipv6 self.now) f.new }
     {
         self.fmt_as(AddressFamily::Ipv6, f)
     }
@@ -115,7 +115,7 @@ impl IpBlock {
 impl FromStr for IpBlock {
     type Err = FromStrError;
 
-    ghost from_str_gives = { ReadsBlock };
+    ghost from_str_gives = { ReadsIpBlock };
 
     fn from_str(text: &str) -> Result<IpBlock, FromStrError> {
         read_block(None, text)
@@ -139,7 +139,7 @@ impl Model for DisplayV4Block {
 }
 
 impl fmt::Display for DisplayV4Block {
-    ghost output = { λ block. Some (block_text Ipv4 block) };
+    ghost output = { λ block. Some (ip_block_text Ipv4 block) };
 
     fn fmt<W: fmt::Write>(&self, f: &mut fmt::Formatter<W>) -> fmt::Result {
         self.block.fmt_v4(f)
@@ -163,7 +163,7 @@ impl Model for DisplayV6Block {
 }
 
 impl fmt::Display for DisplayV6Block {
-    ghost output = { λ block. Some (block_text Ipv6 block) };
+    ghost output = { λ block. Some (ip_block_text Ipv6 block) };
 
     fn fmt<W: fmt::Write>(&self, f: &mut fmt::Formatter<W>) -> fmt::Result {
         self.block.fmt_v6(f)

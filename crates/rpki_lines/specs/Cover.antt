@@ -28,7 +28,7 @@ IsCoverOf family list ps = (set : Runs) × IsSetOf (HasBlocks family list) set �
 
 -- to a list of blocks of a family
 abbrev pub IsCoverIp : AddressFamily → List ℕ → List ℕ → Type 0
-IsCoverIp family list text = ShowsValueOrFault (IsCoverOf family list) (cover_text family) (HasBlocksFault family list) IpFaults.from_str_error_text text
+IsCoverIp family list text = ShowsValueOrFault (IsCoverOf family list) (cover_text family) (HasBlocksFault family list) IpFaults.ip_from_str_error_text text
 
 -- to a list of blocks of this kind
 pub record IsCoverAnswer (kind list text : List ℕ) : Type 0 where

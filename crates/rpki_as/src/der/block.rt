@@ -202,7 +202,7 @@ pub(crate) struct AsBlockReader;
 
 impl ReadNext for AsBlockReader {
     ghost use Rattle.rpki_as.specs.AsDer.{IsAsBlock};
-    ghost use Rattle.rpki_as.specs.AsDerLaws.{block_has_octets, block_reading};
+    ghost use Rattle.rpki_as.specs.AsDerLaws.{as_block_has_octets, as_block_reading};
     ghost use Rattle.rpki_as.specs.AsDerReading.{as_block_at};
 
     type Value = AsBlock;
@@ -217,9 +217,9 @@ impl ReadNext for AsBlockReader {
 
     ghost reading = { λ _ _. as_block_at };
 
-    ghost is_reading = { λ _ _. block_reading };
+    ghost is_reading = { λ _ _. as_block_reading };
 
-    ghost has_octets = { λ _ _. block_has_octets };
+    ghost has_octets = { λ _ _. as_block_has_octets };
 
     fn first_state(&self) {}
 

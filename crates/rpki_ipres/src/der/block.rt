@@ -144,7 +144,7 @@ impl ReadNext for IpBlockReader {
     ghost use Rattle.rpki_ip.specs.Families.{bits_of};
     ghost use Rattle.rpki_ipres.specs.BlockDer.{IsIpBlockDer};
     ghost use Rattle.rpki_ipres.specs.BlockReading.{ip_block_at};
-    ghost use Rattle.rpki_ipres.specs.BlockReadingLaws.{block_has_octets, block_reading};
+    ghost use Rattle.rpki_ipres.specs.BlockReadingLaws.{ip_block_has_octets, ip_block_reading};
 
     type Value = IpBlock;
 
@@ -158,9 +158,9 @@ impl ReadNext for IpBlockReader {
 
     ghost reading = { λ reader _. ip_block_at (bits_of reader.family) };
 
-    ghost is_reading = { λ reader _. block_reading (bits_of reader.family) };
+    ghost is_reading = { λ reader _. ip_block_reading (bits_of reader.family) };
 
-    ghost has_octets = { λ reader _. block_has_octets (bits_of reader.family) };
+    ghost has_octets = { λ reader _. ip_block_has_octets (bits_of reader.family) };
 
     fn first_state(&self) {}
 

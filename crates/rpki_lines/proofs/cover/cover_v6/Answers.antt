@@ -1,7 +1,7 @@
 use Rattle.std.proofs.Common.{refl}
 use Rattle.std.specs.String.{string_bytes}
 use Rattle.std.proofs.lemmas.Result.{IfOk-weaker}
-use Rattle.rpki_ip.specs.Faults.{from_str_error_text}
+use Rattle.rpki_ip.specs.Faults.{ip_from_str_error_text}
 use Rattle.rpki_ip.specs.declared.family.AddressFamily.TheVariants.{Ipv6}
 use Rattle.rpki_lines.proofs.CoverLemmas.{shows_cover}
 use Rattle.rpki_lines.specs.Cover.{cover_text}
@@ -10,4 +10,4 @@ use Rattle.rpki_lines.proofs.cover.cover_v6.Goals as goal
 pub returns : goal.returns
 returns g c =
     IfOk-weaker c.shown.result _ _ (λ text. shows_cover Ipv6 c.args.list.now c.v6_prefixes.result c.v6_prefixes.ensures (string_bytes text))
-    (c.shown.ensures (λ cover. cover_text cover.0 cover.1) (λ cover. refl) from_str_error_text (λ fault. refl))
+    (c.shown.ensures (λ cover. cover_text cover.0 cover.1) (λ cover. refl) ip_from_str_error_text (λ fault. refl))

@@ -2,13 +2,13 @@
 use Rattle.rpki_der.proofs.Readings.{one_front}
 use Rattle.rpki_ipres.specs.BlockDer.{IsIpBlockDer}
 use Rattle.rpki_ipres.specs.BlockReading.{ip_block_at}
-use Rattle.rpki_ipres.specs.BlockReadingLaws.{block_reading}
+use Rattle.rpki_ipres.specs.BlockReadingLaws.{ip_block_reading}
 use Rattle.rpki_ipres.proofs.FamilyWritten.{one_sequence, one_family}
 use Rattle.rpki_ipres.proofs.der.laws.one_value.Goals as goal
 
 pub returns : goal.returns
 returns c = record {
-  block = λ limit. one_front (IsIpBlockDer limit) (ip_block_at limit) (block_reading limit);
+  block = λ limit. one_front (IsIpBlockDer limit) (ip_block_at limit) (ip_block_reading limit);
   set = one_sequence;
   family = one_family;
 }

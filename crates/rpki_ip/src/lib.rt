@@ -6,6 +6,7 @@ pub mod cover;
 pub mod der;
 pub mod error;
 pub mod family;
+pub mod laws;
 pub mod prefix;
 pub mod range;
 pub mod text;

@@ -1,0 +1,6 @@
+//! Proved callers of the libraries: each shows that the contracts of the calls that it makes fit together.
+#![tactic(auto)]
+
+pub mod octets;
+pub mod sets;
+pub mod texts;

@@ -10,3 +10,10 @@ pub mod laws;
 pub mod prefix;
 pub mod range;
 pub mod text;
+
+pub use addr::Addr;
+pub use cover::{V4Prefixes, V6Prefixes};
+pub use error::FromStrError;
+pub use family::AddressFamily;
+pub use prefix::Prefix;
+pub use range::AddressRange;

@@ -1,7 +1,7 @@
 -- What was written is the set's SEQUENCE with nothing behind it.
 use Rattle.std.proofs.Common.{◌≡◌, ℕ, List, [], ◌++◌, sym, ap, ◌∙◌, subst}
 use Rattle.std.proofs.lemmas.List.{append-nil}
-use Rattle.rpki_base.specs.Memory.{IsMemory}
+use Rattle.rpki_text.specs.Memory.{IsMemory}
 use Rattle.rpki_ipres.specs.BlockDer.{ip_set_der}
 use Rattle.uses.proofs.octets.written_and_read.Goals as goal
 

@@ -1,5 +1,5 @@
 use Rattle.std.proofs.Common.{◌≡◌, ap, ◌∙◌, subst}
-use Rattle.rpki_base.specs.Memory.{IsMemory}
+use Rattle.rpki_text.specs.Memory.{IsMemory}
 use Rattle.rpki_chain.specs.Runs.{Runs}
 use Rattle.rpki_ip.specs.declared.family.AddressFamily.{AddressFamily}
 use Rattle.rpki_ip.specs.declared.family.AddressFamily.TheVariants.{Ipv6}

@@ -6,7 +6,8 @@ use crate::{as_sets, chains, ip_sets, orders, small_sets, takes, texts};
 use rpki_ip::family::AddressFamily;
 use std::alloc::{AllocError, Allocator};
 
-/// The answer to a line. `AllocError` where there is no memory for it.
+/// The answer to a line. One with another command than these goes, as it is, to the library that answers the lines of
+/// `respath`. `AllocError` where there is no memory for the answer.
 pub fn answer<A: Allocator + Copy>(alloc: A, line: &str) -> Result<String<A>, AllocError> {
     let (command, rest) = cut(line, ' ');
     let (kind, operands) = cut(rest, ' ');
@@ -19,20 +20,20 @@ pub fn answer<A: Allocator + Copy>(alloc: A, line: &str) -> Result<String<A>, Al
         "small" => small_sets::answer(alloc, kind, operands),
         "chain" => chains::answer(alloc, kind, operands),
         "pair" => chains::pair_answer(alloc, kind, operands),
-        _ => set_answer(alloc, command, kind, operands),
+        _ => match Question::named(command) {
+            Some(question) => set_answer(alloc, question, kind, operands),
+            None => rpki_lines::answer(alloc, line.as_bytes()),
+        },
     }
 }
 
 /// The answer to a question of sets of a kind.
 fn set_answer<A: Allocator + Copy>(
     alloc: A,
-    command: &str,
+    question: Question,
     kind: &str,
     operands: &str,
 ) -> Result<String<A>, AllocError> {
-    let Some(question) = Question::named(command) else {
-        return String::from_str(alloc, "no such command");
-    };
     match kind {
         "as" => as_sets::answer(alloc, question, operands),
         "v4" => ip_sets::answer(alloc, AddressFamily::Ipv4, question, operands),

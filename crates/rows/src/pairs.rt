@@ -1,8 +1,7 @@
 //! A kind of block of its own: pairs of `u64`, the smaller or equal one first.
-ghost use Rattle.std.specs.Prelude.{ℕ, ◌^◌, ◌≤◌, true};
-
 use rpki_chain::block::Block;
 use std::fmt;
+use std::marker::Model;
 use std::str::FromStr;
 
 /// All numbers from `min` to `max`.
@@ -10,13 +9,24 @@ use std::str::FromStr;
 pub struct Pair {
     min: u64,
     max: u64,
-    pub ghost ordered: { min ≤ max },
+}
+
+impl Model for Pair {
+    ghost use Rattle.std.specs.Prelude.{◌≤◌};
+    ghost use Rattle.rpki_chain.specs.Ranges.{RangeValue};
+
+    ghost Value = { RangeValue };
+
+    ghost view = { λ p. record { min = p.min; max = p.max } };
+
+    ghost invariant = { λ p. p.min ≤ p.max };
+
+    ghost inverse = { λ p. record { min = p.min; max = p.max } };
 }
 
 impl Block for Pair {
-    ghost use Rattle.std.specs.Prelude.{ℕ, ◌^◌, ◌-◌, ◌≤◌, true};
-    ghost use Rattle.std.proofs.Common.{refl};
-    ghost use Rattle.rows.specs.Pairs.{pair_bounds, Pair-same};
+    ghost use Rattle.std.specs.Prelude.{refl};
+    ghost use Rattle.rpki_chain.specs.Ranges.{range_bounds, new_range};
 
     type Item = u64;
 
@@ -28,9 +38,9 @@ impl Block for Pair {
 
     ghost item_at = { λ n. n };
 
-    ghost bounds = { pair_bounds };
+    ghost bounds = { range_bounds };
 
-    ghost is_new = { λ p. true };
+    ghost form = { new_range };
 
     ghost in_order = { λ x y. refl };
 
@@ -38,7 +48,7 @@ impl Block for Pair {
 
     ghost one_item = { λ x y same. same };
 
-    ghost one_new_form = { Pair-same };
+    ghost form_bounds = { λ b ordered to. refl };
 
     fn new(min: u64, max: u64) -> Self {
         Pair { min, max }

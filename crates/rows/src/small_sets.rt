@@ -57,7 +57,7 @@ fn of_sets<A: Allocator + Copy>(
 }
 
 fn copy<A: Allocator + Copy>(alloc: A, set: &SmallAsnSet<A>) -> Result<String<A>, AllocError> {
-    let copy = set.clone()?;
+    let copy = set.clone(alloc)?;
     numbers(alloc, copy.iter())
 }
 

@@ -1,7 +1,7 @@
 //! Addresses written into a buffer, each byte once.
 //!
 //! What is put stands behind the bytes that a caller has there; the answer is where it ends.
-ghost use Rattle.std.specs.Prelude.{◌≡◌, ◌+◌, ◌*◌, ◌/◌, ◌<◌, ◌≤◌, [], ◌∷◌, ◌++◌, length, take, decimal};
+ghost use Rattle.std.specs.Prelude.{◌≡◌, ◌+◌, ◌*◌, ◌<◌, ◌≤◌, [], ◌∷◌, ◌++◌, length, take, decimal};
 ghost use Rattle.std.specs.Char.{digit_char};
 ghost use Rattle.std.specs.Net.Text.{hex, groups_text as std_groups_text, hex_groups_text, longest_zero_run};
 ghost use Rattle.rpki_addr.specs.AddressText.{dotted};

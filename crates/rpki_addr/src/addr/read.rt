@@ -1,7 +1,7 @@
 //! Addresses read from bytes, each byte about once.
 //!
 //! What a reader takes stands at the front of a text; it answers what that writes, and what stands behind it.
-ghost use Rattle.std.specs.Prelude.{◌≡◌, ◌==◌, true, ◌+◌, ◌*◌, ◌-◌, ◌^◌, ◌<◌, ◌≤◌, ℕ, List, None, false, length, get_or, nat_lt, option_map, option_and_then, IfSome, MatchOption};
+ghost use Rattle.std.specs.Prelude.{◌≡◌, ◌==◌, true, ◌*◌, ◌^◌, ◌<◌, ◌≤◌, ℕ, List, None, false, length, get_or, option_map, option_and_then, IfSome, MatchOption};
 ghost use Rattle.std.specs.Char.{digit_value};
 ghost use Rattle.std.specs.Net.Reader as Reader;
 ghost use Rattle.rpki_text.specs.Digits.{from_octets};
@@ -73,7 +73,8 @@ fn take_next_octet(text: &[u8]) -> Option<(u8, &[u8])>
 /// Takes an IPv4 text, as the number of its address.
 #[tactic(auto, unfolding(std::specs::Net::Reader::read_ipv4))]
 fn take_ipv4(text: &[u8]) -> Option<(u32, &[u8])>
-    ensures { Reader.read_view (λ n. n) result ≡ option_map with_octets (Reader.read_ipv4 text.now) }
+    ensures { Reader.read_view (λ n. n) result
+        ≡ option_map with_octets (Reader.read_ipv4 text.now) }
 {
     let (a, text) = take_octet(text)?;
     let (b, text) = take_next_octet(text)?;
@@ -304,7 +305,8 @@ fn with_zeros(bits: u128, count: usize) -> u128
 
 /// Takes an IPv6 text, as the number of its address.
 fn take_ipv6(text: &[u8]) -> Option<(u128, &[u8])>
-    ensures { Reader.read_view (λ n. n) result ≡ option_map with_number (Reader.read_ipv6 text.now) }
+    ensures { Reader.read_view (λ n. n) result
+        ≡ option_map with_number (Reader.read_ipv6 text.now) }
 {
     let front = take_groups(text, 8);
     if front.count == 8 {

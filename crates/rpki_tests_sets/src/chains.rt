@@ -110,7 +110,11 @@ fn a_vector_of_one_block(rt: HostRuntime) -> Result<(), Fail> {
     Ok(())
 }
 
-fn is_joined(alloc: Global, ranges: &[AddressRange], all: AddressRange) -> Result<bool, AllocError> {
+fn is_joined(
+    alloc: Global,
+    ranges: &[AddressRange],
+    all: AddressRange,
+) -> Result<bool, AllocError> {
     let chain = OwnedChain::from_blocks(alloc, ranges)?;
     Ok(chain.as_chain().as_slice() == [all].as_slice())
 }
@@ -118,26 +122,42 @@ fn is_joined(alloc: Global, ranges: &[AddressRange], all: AddressRange) -> Resul
 #[test]
 fn chains_of_ranges_of_addresses(rt: HostRuntime) -> Result<(), Fail> {
     let high = AddressRange::from_str("::5-ffff:ffff:ffff:ffff:ffff:ffff:ffff:ffff")?;
-    let (low, inside) = (AddressRange::from_str("::-::4")?, AddressRange::from_str("::1-::2")?);
+    let (low, inside) = (
+        AddressRange::from_str("::-::4")?,
+        AddressRange::from_str("::1-::2")?,
+    );
     let all = AddressRange::from_str("::-ffff:ffff:ffff:ffff:ffff:ffff:ffff:ffff")?;
-    holds(&rt, is_joined(rt.alloc(), &[high, inside, low], all) == Ok(true));
+    holds(
+        &rt,
+        is_joined(rt.alloc(), &[high, inside, low], all) == Ok(true),
+    );
     Ok(())
 }
 
 // ---- calls that take no memory
 
+fn is_trimmed(refusing: &Refusing, own: Chain<'_, AsBlock>, other: Chain<'_, AsBlock>) -> bool {
+    own.trim(refusing, other).is_ok() && own.is_encompassed(other)
+}
+
 /// Whether a chain lies in the chain of the numbers 0 to 17 and 19 to 50, by both calls.
-fn lies_within(alloc: Global, refusing: &Refusing, own: Chain<'_, AsBlock>) -> Result<bool, AllocError> {
+fn lies_within(
+    alloc: Global,
+    refusing: &Refusing,
+    own: Chain<'_, AsBlock>,
+) -> Result<bool, AllocError> {
     let other = OwnedChain::from_blocks(alloc, &[block(0, 17), block(19, 50)])?;
-    let is_ok = own.trim(refusing, other.as_chain()).is_ok();
-    Ok(is_ok && own.is_encompassed(other.as_chain()))
+    Ok(is_trimmed(refusing, own, other.as_chain()))
 }
 
 #[test]
 fn a_trim_that_is_ok_takes_no_memory(rt: HostRuntime) -> Result<(), Fail> {
     let refusing = Refusing::new(rt.alloc(), Plan::RefuseAll);
     let own = chain(rt.alloc())?;
-    holds(&rt, lies_within(rt.alloc(), &refusing, own.as_chain()) == Ok(true));
+    holds(
+        &rt,
+        lies_within(rt.alloc(), &refusing, own.as_chain()) == Ok(true),
+    );
     holds(&rt, refusing.asked() == 0);
     Ok(())
 }

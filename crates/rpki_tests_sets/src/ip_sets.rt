@@ -215,14 +215,23 @@ fn leaves<A: Allocator + Copy>(
     }
 }
 
+fn leaves_other<A: Allocator + Copy>(
+    alloc: A,
+    operation: u32,
+    own: &IpBlocks<A>,
+    text: &str,
+) -> Result<bool, AllocError> {
+    let other = set(alloc, OTHER)?;
+    leaves(alloc, operation, own, &other, text)
+}
+
 fn leaves_operands<A: Allocator + Copy>(
     alloc: A,
     operation: u32,
     text: &str,
 ) -> Result<bool, AllocError> {
     let own = set(alloc, OWN)?;
-    let other = set(alloc, OTHER)?;
-    leaves(alloc, operation, &own, &other, text)
+    leaves_other(alloc, operation, &own, text)
 }
 
 #[test]

@@ -6,9 +6,9 @@ ghost use Rattle.rpki_addr.specs.PrintedAddress.{IsPrintedIpv6, ipv6_text};
 ghost use Rattle.rpki_addr.specs.declared.addr.IpAddr.{IpAddr as EitherAddr};
 ghost use Rattle.rpki_base.specs.SmallSet.{IsSmallSet};
 
-use rpki_addr::addr::{IpAddr, Ipv4Addr, Ipv6Addr};
 use crate::asn::Asn;
 use crate::small_set::SmallAsnSet;
+use rpki_addr::addr::{IpAddr, Ipv4Addr, Ipv6Addr};
 use std::alloc::Allocator;
 
 /// `Asn::MIN` and `Asn::MAX` are the least and the greatest AS number, 0 and 4294967295 (RFC 6793).

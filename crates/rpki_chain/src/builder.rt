@@ -2,8 +2,8 @@
 ghost use Rattle.std.specs.Prelude.{◌≡◌, ◌++◌, [], ◌∷◌, IfOk, OnOk, OnErr, map};
 ghost use Rattle.rpki_chain.specs.Runs.{Holds, IsRunsOf};
 
-use rpki_blocks::block::Block;
 use crate::set::BlockSet;
+use rpki_blocks::block::Block;
 use std::alloc::{AllocError, Allocator, Global};
 use std::marker::Model;
 

@@ -86,15 +86,15 @@ fn sets_in_order(rt: HostRuntime) -> Result<(), Fail> {
     Ok(())
 }
 
-fn is_same(set: &SmallAsnSet<&Refusing>) -> Result<bool, AllocError> {
-    let copy = set.clone()?;
+fn is_same<A: Allocator + Copy>(alloc: A, set: &SmallAsnSet<A>) -> Result<bool, AllocError> {
+    let copy = set.clone(alloc)?;
     Ok(copy == *set)
 }
 
 /// Whether the copy of a set is the same; the set stands, whatever comes of the copy.
 fn is_copied(refusing: &Refusing) -> Result<bool, AllocError> {
     let set = set_of(refusing, &[3, 1, 3, 2])?;
-    let is_same = is_same(&set);
+    let is_same = is_same(refusing, &set);
     if has_parts(&set) { is_same } else { Ok(false) }
 }
 

@@ -6,8 +6,8 @@ ghost use Rattle.rpki_der.specs.Views.{Lenient, Takes, left};
 ghost use Rattle.rpki_base.specs.DerReading.{IsSequenceFrom, sequence_from, values_from};
 ghost use Rattle.rpki_base.specs.DerViews.{GivesOrMemory, ReadsOrMemory, TakesOrMemory};
 
-use rpki_text::memory::OrMemory;
 use rpki_der::{Cursor, DerError};
+use rpki_text::memory::OrMemory;
 use std::alloc::Allocator;
 
 /// Reads values that stand one after another. What the next one may be can depend on a state, to which the values

@@ -1,11 +1,11 @@
 //! Addresses written into a buffer, each byte once.
 //!
 //! What is put stands behind the bytes that a caller has there; the answer is where it ends.
-ghost use Rattle.std.specs.Prelude.{◌≡◌, ◌+◌, ◌*◌, ◌<◌, ◌≤◌, [], ◌∷◌, ◌++◌, length, take, decimal};
+ghost use Rattle.std.specs.Prelude.{◌≡◌, ◌+◌, ◌*◌, ◌<◌, ◌≤◌, [], ◌∷◌, ◌++◌, length, take, codes, decimal, nat_lt};
 ghost use Rattle.std.specs.Char.{digit_char};
 ghost use Rattle.std.specs.Net.Text.{hex, groups_text as std_groups_text, hex_groups_text, longest_zero_run};
 ghost use Rattle.rpki_addr.specs.AddressText.{dotted};
-ghost use Rattle.rpki_addr.specs.PrintedAddress.{ipv6_text};
+ghost use Rattle.rpki_addr.specs.PrintedAddress.{ipv4_text, ipv6_text};
 
 use super::Ipv4Addr;
 use super::groups::split_groups;
@@ -136,6 +136,16 @@ struct ZeroRun {
     len: usize,
 }
 
+impl ZeroRun {
+    /// Is it printed as two colons? A single zero group isn't (RFC 5952, 4.2.2).
+    #[inline(always)]
+    fn is_shortened(self) -> bool
+        ensures { result ≡ nat_lt 1 self.len }
+    {
+        self.len > 1
+    }
+}
+
 /// The longest run of zero groups, and of several that are as long the first (RFC 5952, 4.2.3).
 fn longest_run(groups: &[u16]) -> ZeroRun
     ensures value { (result.start, result.len) ≡ longest_zero_run groups.now }
@@ -165,13 +175,23 @@ fn put_shortened(out: &mut [u8], groups: &[u16]) -> usize
     ensures end { result ≤ length out.old }
 {
     let run = longest_run(groups);
-    if run.len < 2 {
-        return put_groups(out, 0, groups);
+    if run.is_shortened() {
+        let at = put_groups(out, 0, &groups[..run.start]);
+        let at = put(out, at, b':');
+        let at = put(out, at, b':');
+        return put_groups(out, at, &groups[run.start + run.len..]);
     }
-    let at = put_groups(out, 0, &groups[..run.start]);
-    let at = put(out, at, b':');
-    let at = put(out, at, b':');
-    put_groups(out, at, &groups[run.start + run.len..])
+    put_groups(out, 0, groups)
+}
+
+/// Puts the IPv4-mapped address of an IPv4 address (RFC 4291, 2.5.5.2), with dots.
+fn put_mapped(out: &mut [u8], low: Ipv4Addr) -> usize
+    requires { 22 ≤ length out.old }
+    ensures text { take result out.new ≡ codes "::ffff:" ++ ipv4_text low }
+    ensures end { result ≤ 22 }
+{
+    let at = put_all(out, 0, b"::ffff:");
+    put_ipv4(out, at, low.octets())
 }
 
 /// Puts the IPv6 address of these bits. An IPv4-mapped one ends in its IPv4 address (RFC 5952, 5).
@@ -181,9 +201,7 @@ pub(crate) fn put_ipv6(out: &mut [u8], bits: u128) -> usize
     ensures end { result ≤ length out.old }
 {
     if bits / 0x1_0000_0000 == 0xffff {
-        let low = Ipv4Addr::from_bits((bits % 0x1_0000_0000) as u32);
-        let at = put_all(out, 0, b"::ffff:");
-        return put_ipv4(out, at, low.octets());
+        return put_mapped(out, Ipv4Addr::from_bits((bits % 0x1_0000_0000) as u32));
     }
     put_shortened(out, &split_groups(bits))
 }

@@ -1,15 +1,14 @@
 -- A mapped address ends in its IPv4 address, and any other is its groups.
-use Rattle.std.proofs.Common.{◌++◌, sym, ap, ap₂, ◌∙◌}
+use Rattle.std.proofs.Common.{◌++◌, codes, sym, ap, ◌∙◌}
 use Rattle.std.specs.Net.Text.{hex_groups_text}
-use Rattle.rpki_addr.specs.AddressText.{dotted}
-use Rattle.rpki_text.specs.Digits.{octets_of}
+use Rattle.rpki_addr.specs.PrintedAddress.{ipv4_text}
 use Rattle.rpki_addr.proofs.PrintedAddressLemmas.{mapped_is, unmapped_is}
 use Rattle.rpki_addr.proofs.addr.print.put_ipv6.Goals as goal
 
 pub returns-then-bits-eq65535-clause-text : goal.returns-then-bits-eq65535-clause-text
 returns-then-bits-eq65535-clause-text c =
-    c.put_ipv4.ensures.text
-    ∙ ap₂ (λ front octets. front ++ dotted octets) c.put_all-at.ensures.text (c.octets.ensures ∙ ap octets_of c.from_bits-low.ensures)
+    c.put_mapped.ensures.text
+    ∙ ap (λ low. codes "::ffff:" ++ ipv4_text low) c.from_bits.ensures
     ∙ sym (mapped_is c.args.bits c.ranges.bits.fits c.if-bits-eq65535.true)
 
 pub returns-clause-text : goal.returns-clause-text

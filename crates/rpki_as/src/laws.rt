@@ -16,7 +16,8 @@ pub fn equal_where_the_same()
 /// where they have the same numbers.
 pub fn printed_sets()
     ensures written { (set : Runs) → IsAsSet set → IsAsListText (as_list_text set) set }
-    ensures one_set { (text : List ℕ) (a b : Runs) → IsAsListText text a → IsAsListText text b → a ≡ b }
+    ensures one_set { (text : List ℕ) (a b : Runs) →
+        IsAsListText text a → IsAsListText text b → a ≡ b }
     ensures alike { (a b : Runs) → IsAsSet a → IsAsSet b →
         (as_list_text a ≡ as_list_text b) ↔ ((n : ℕ) → Holds a n ↔ Holds b n) }
 {}

@@ -91,7 +91,8 @@ pub fn read_blocks<A: Allocator + Drop>(
     ensures reads_back { (blocks : List IpBlock) → All (IsBlockOf family) blocks → text.now ≡ block_list_text family blocks
         → MatchResult result (λ v. map ip_bounds v.items ≡ map ip_bounds blocks) IsMemory }
     // Blocks of IPv4 begin and end with whole addresses.
-    ensures whole { IfOk result (λ v. family ≡ Ipv4 → All (λ block. HasWholeBounds (ip_bounds block)) v.items) }
+    ensures whole { IfOk result (λ v. family ≡ Ipv4
+        → All (λ block. HasWholeBounds (ip_bounds block)) v.items) }
 {
     let reader = InFamily { family };
     read_elements(alloc, &reader, text)

@@ -17,8 +17,8 @@ pub fn one_value()
 /// What is written of a set of a family, of fewer than 2^64 octets, is a SEQUENCE of the family's blocks that stands for
 /// the set. What is written of a set that isn't empty and of its family stands for both.
 pub fn written_sets()
-    ensures sequence { (family : _) (set : Runs) → IsFamilySet family set → length (ip_set_der set) < 2 ^ 64 →
-        IsIpBlockSequence (bits_of family) (ip_set_der set) set }
+    ensures sequence { (family : _) (set : Runs) → IsFamilySet family set →
+        length (ip_set_der set) < 2 ^ 64 → IsIpBlockSequence (bits_of family) (ip_set_der set) set }
     ensures family { (family : _) (set : Runs) → IsFamilySet family set → set ≢ [] →
         length (ip_family_der family set) < 2 ^ 64 → IsIpFamily (ip_family_der family set) (family, set) }
 {}

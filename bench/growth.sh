@@ -1,7 +1,7 @@
 #!/bin/sh
 # How the time and the memory of `norm` grow with the input, for AS numbers, IPv4 and IPv6: lists of N elements in one
-# line, shuffled and sorted, and N short lines, for N of 50,000, 100,000 and 200,000. Growth per doubling is about 2 where
-# the work is N log N.
+# line, shuffled and sorted, and N short lines, for N of 50,000, 100,000 and 200,000; and those of `cover` over N random
+# IPv4 prefixes. Growth per doubling is about 2 where the work is N log N.
 top=$(CDPATH= cd -- "$(dirname -- "$0")/.." && pwd) || exit 1
 printf '' | "$top/respath" || exit 1
 inputs=$(mktemp -d) || exit 1
@@ -38,6 +38,13 @@ def ascending(kind, written, count):
     return f"norm {kind} " + ", ".join(blocks(written, count)) + "\n"
 
 
+def covered(written, count):
+    """Random prefixes of 18 to 32 bits."""
+    chance = random.Random(count)
+    made = ((chance.getrandbits(32), chance.randint(18, 32)) for _ in range(count))
+    return "cover v4 " + ", ".join(f"{written(bits)}/{length}" for bits, length in made) + "\n"
+
+
 def lines(kind, written, count):
     return "".join(f"norm {kind} {written(at + 1)}, {written(at)}\n" for at in range(count))
 
@@ -47,6 +54,8 @@ for size in (50_000, 100_000, 200_000):
         for name, made in (("shuffled", shuffled), ("sorted", ascending), ("lines", lines)):
             with open(f"{sys.argv[1]}/{kind}-{name}.{size}", "w") as out:
                 out.write(made(kind, written, size))
+    with open(f"{sys.argv[1]}/v4-cover.{size}", "w") as out:
+        out.write(covered(ipv4, size))
 PROGRAM
 
 python3 - "$top/crates/respath/out/respath" "$inputs" <<'PROGRAM'
@@ -81,7 +90,7 @@ def measured(path):
 
 
 print(f"{'input':<14}{'N':>8}{'MiB in':>8}{'seconds':>9}{'growth':>8}{'peak MiB':>10}{'growth':>8}")
-for name in (f"{kind}-{made}" for kind in ("as", "v4", "v6") for made in ("shuffled", "sorted", "lines")):
+for name in [f"{kind}-{made}" for kind in ("as", "v4", "v6") for made in ("shuffled", "sorted", "lines")] + ["v4-cover"]:
     # In rounds over all sizes, so that a slow moment of the machine doesn't meet one size alone.
     rounds = [[measured(f"{inputs}/{name}.{size}") for size in SIZES] for _ in range(RUNS)]
     before = None

@@ -6,6 +6,7 @@ ghost use Rattle.rpki_ip.specs.declared.family.AddressFamily.TheVariants.{Ipv4, 
 ghost use Rattle.rpki_ipres.specs.ListText.{HasBlocksFault};
 ghost use Rattle.rpki_lines.specs.Cover.{IsCoverAnswer, IsCoverIp, IsCoverOf, prefix_with_length, cover_text};
 
+use crate::kind::{Kind, kind_named};
 use crate::shown::shown;
 use rpki_base::list::{FmtElement, fmt_elements};
 use rpki_base::memory::OrMemory;
@@ -26,10 +27,10 @@ pub(crate) fn cover<A: Allocator + Copy>(
 ) -> Result<String<A>, AllocError>
     ensures { IfOk result (λ text. IsCoverAnswer kind.now list.now (string_bytes text)) }
 {
-    match kind {
-        "v4" => cover_v4(alloc, list),
-        "v6" => cover_v6(alloc, list),
-        _ => String::from_str(alloc, "error: unknown kind"),
+    match kind_named(kind) {
+        Some(Kind::V4) => cover_v4(alloc, list),
+        Some(Kind::V6) => cover_v6(alloc, list),
+        Some(Kind::As) | None => String::from_str(alloc, "error: unknown kind"),
     }
 }
 

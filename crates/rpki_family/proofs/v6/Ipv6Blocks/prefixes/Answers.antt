@@ -9,6 +9,6 @@ use Rattle.rpki_family.proofs.v6.Ipv6Blocks.prefixes.Goals as goal
 pub returns : goal.returns
 returns g c = record {
   cover = subst (IsShortestCover 128 (Holds c.args.self.now))
-      (begun c.args.self.now c.default.result (iter_rest c.iter.result) c.default.ensures (c.iter.ensures.blocks ∙ c.ip_blocks.ensures))
-      (set_covered c.args.self.now (subst IsIpSet c.ip_blocks.ensures c.iter.ensures.set));
+      (begun c.args.self.now c.default.result (iter_rest c.iter.result) c.default.ensures (c.iter.ensures.blocks ∙ c.ip_blocks.ensures.value))
+      (set_covered c.args.self.now (subst IsIpSet c.ip_blocks.ensures.value c.iter.ensures.set));
 }

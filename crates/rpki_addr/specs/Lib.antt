@@ -2,5 +2,6 @@
 pub mod AddressReading
 pub mod AddressText
 pub mod GroupsRead
+pub mod Orders
 pub mod PrintedAddress
 pub mod ReadsAddress

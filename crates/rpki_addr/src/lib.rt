@@ -2,3 +2,4 @@
 #![tactic(auto)]
 
 pub mod addr;
+pub mod laws;

@@ -3,7 +3,6 @@ pub mod AsnText
 pub mod DerReading
 pub mod DerViews
 pub mod DerWriting
-pub mod Orders
 pub mod Prefixes
 pub mod SmallSet
 pub mod Steps

@@ -1,7 +1,6 @@
 //! What callers may rely on and no single call says.
 ghost use Rattle.std.specs.Prelude.{◌≡◌, ◌↔◌, ℕ, ◌<◌, ◌-◌, ◌^◌, List, Contains, IsTrue};
 ghost use Rattle.std.specs.Ordering.{nat_cmp};
-ghost use Rattle.rpki_base.specs.Orders.{ip_cmp};
 ghost use Rattle.rpki_addr.specs.PrintedAddress.{IsPrintedIpv6, ipv6_text};
 ghost use Rattle.rpki_addr.specs.declared.addr.IpAddr.{IpAddr as EitherAddr};
 ghost use Rattle.rpki_base.specs.SmallSet.{IsSmallSet};
@@ -25,12 +24,9 @@ pub fn ipv6_is_printed_so()
         → (IsPrintedIpv6 n text) ↔ (text ≡ ipv6_text n) }
 {}
 
-/// AS numbers and addresses are in order as their numbers, and IPv4 addresses are before IPv6 addresses.
+/// AS numbers are in order as their numbers.
 pub fn orders_are_of_numbers()
-    ensures asn { (a b : ℕ) → ⟦<Asn as Ord>⟧.cmp a b ≡ nat_cmp a b }
-    ensures ipv4 { (a b : ℕ) → ⟦<Ipv4Addr as Ord>⟧.cmp a b ≡ nat_cmp a b }
-    ensures ipv6 { (a b : ℕ) → ⟦<Ipv6Addr as Ord>⟧.cmp a b ≡ nat_cmp a b }
-    ensures either { (a b : EitherAddr) → ⟦<IpAddr as Ord>⟧.cmp a b ≡ ip_cmp a b }
+    ensures { (a b : ℕ) → ⟦<Asn as Ord>⟧.cmp a b ≡ nat_cmp a b }
 {}
 
 /// AS numbers and addresses are equal exactly where they are the same, addresses of either family where the families

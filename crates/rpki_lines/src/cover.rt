@@ -56,7 +56,10 @@ fn v4_prefixes<A: Allocator + Copy>(
     ensures { MatchResult result (λ cover. (cover.0 ≡ Ipv4) × IsCoverOf Ipv4 list.now cover.1) (IfRefused (HasBlocksFault Ipv4 list.now)) }
 {
     let set = Ipv4Blocks::from_str(alloc, list)?;
-    let prefixes = set.prefixes().collect(alloc)?;
+    let mut prefixes = Vec::new(alloc);
+    for prefix in set.prefixes() {
+        prefixes.push(prefix)?;
+    }
     Ok(Prefixes {
         family: AddressFamily::Ipv4,
         prefixes,
@@ -71,7 +74,10 @@ fn v6_prefixes<A: Allocator + Copy>(
     ensures { MatchResult result (λ cover. (cover.0 ≡ Ipv6) × IsCoverOf Ipv6 list.now cover.1) (IfRefused (HasBlocksFault Ipv6 list.now)) }
 {
     let set = Ipv6Blocks::from_str(alloc, list)?;
-    let prefixes = set.prefixes().collect(alloc)?;
+    let mut prefixes = Vec::new(alloc);
+    for prefix in set.prefixes() {
+        prefixes.push(prefix)?;
+    }
     Ok(Prefixes {
         family: AddressFamily::Ipv6,
         prefixes,

@@ -1,6 +1,7 @@
 -- A run behind a chain is made longer, or closed: then it is the last block of the chain.
 use Rattle.std.proofs.Common.{◌≡◌, ℕ, ◌+◌, ◌<◌, ◌≤◌, ◌↔◌, ◌⊎◌, inl, inr, ⊎_elim, List, [], ◌∷◌, ◌++◌, length, get_or, take, sym, ap, ◌∙◌, subst, arith}
 use Rattle.std.proofs.lemmas.List.{take_more}
+use Rattle.std.proofs.lemmas.List.Elements.{All-push}
 use Rattle.rpki_blocks.specs.Joining.{IsHeld, IsBehind}
 use Rattle.rpki_blocks.specs.Sets.{IsNew, IsWithin, Covers, IsChain}
 use Rattle.rpki_blocks.proofs.Chains.{IsChain-nil, IsChain-push, Covers-nil, Covers-push, Covers-push_as}
@@ -28,6 +29,22 @@ module _ {B : Type 0} (f : B → ℕ × ℕ) (form : ℕ × ℕ → B) (last : �
       )) (λ m. (λ c. absurd (Covers-nil f m c), λ c. absurd (Covers-nil g m c))) n
 
   module _ (xs : List B) (run : ℕ × ℕ) (h : IsBehind f form last xs run) where
+    -- the run is made longer
+    pub longer_run : (longer : ℕ × ℕ) → longer.0 ≡ run.0 → run.1 ≤ longer.1 → longer.1 ≤ last → IsBehind f form last xs longer
+    longer_run longer from to to_last = record {
+      chain = h.chain;
+      ordered = (let o = h.ordered in omega arith);
+      to_last = to_last;
+      apart = λ k d lt. (let far = h.apart k d lt in omega arith);
+    }
+
+    -- and takes in the next bounds, where it is over both
+    pub longer_held : (longer next : ℕ × ℕ) (n : ℕ) → (IsWithin longer n ↔ (IsWithin run n ⊎ IsWithin next n)) → IsHeld f xs longer n ↔ (IsHeld f xs run n ⊎ IsWithin next n)
+    longer_held longer next n over = (
+      ⊎_elim (λ c. inl (inl c)) (λ w. ⊎_elim (λ v. inl (inr v)) inr (over.0 w)),
+      ⊎_elim (⊎_elim inl (λ v. inr (over.1 (inl v)))) (λ v. inr (over.1 (inr v))),
+    )
+
     module _ (y : B) (is : f y ≡ run) (new : IsNew f form y) where
       -- the run is closed
       pub closed_run : IsChain f form (xs ++ y ∷ [])
@@ -40,6 +57,16 @@ module _ {B : Type 0} (f : B → ℕ × ℕ) (form : ℕ × ℕ → B) (last : �
       pub held_closed : (n : ℕ) → Covers f (xs ++ y ∷ []) n ↔ IsHeld f xs run n
       held_closed = Covers-push_as f xs y run is
 
-      -- and the next bounds are the run at hand
+      -- and the next bounds, which don't touch it, are the run at hand
+      pub next_run : (next : ℕ × ℕ) → next.0 ≤ next.1 → next.1 ≤ last → run.1 + 1 < next.0 → IsBehind f form last (xs ++ y ∷ []) next
+      next_run next ordered to_last apart = record {
+        chain = closed_run;
+        ordered = ordered;
+        to_last = to_last;
+        apart = All-push (λ x. (f x).1 + 1 < next.0) xs y
+            (λ k d lt. (let far = h.apart k d lt in let o = h.ordered in omega arith))
+            (let high : (f y).1 ≡ run.1 = ap (λ (b : ℕ × ℕ). b.1) is in omega arith);
+      }
+
       pub held_next : (next : ℕ × ℕ) (n : ℕ) → IsHeld f (xs ++ y ∷ []) next n ↔ (IsHeld f xs run n ⊎ IsWithin next n)
       held_next next n = (⊎_elim (λ c. inl ((held_closed n).0 c)) inr, ⊎_elim (λ a. inl ((held_closed n).1 a)) inr)

@@ -1,25 +1,9 @@
--- What a sort of pairs of items says of their numbers, and what a map of a list says of what it covers.
-use Rattle.std.proofs.Common.{◌≡◌, ℕ, ◌+◌, ◌<◌, ⊎_elim, List, [], ◌∷◌, ◌++◌, length, get_or, map, take, refl, sym, ap, ◌∙◌, subst, arith, zero, suc, Ordering}
-use Rattle.std.specs.Ordering.{is_lt, nat_cmp, ordering_then}
-use Rattle.std.proofs.Common.{Less}
-use Rattle.std.specs.Cmp.{nat_cmp_is}
-use Rattle.std.specs.List.Sorted.{IsPermutation, IsSorted, IsNonDecreasingBy}
-use Rattle.std.proofs.lemmas.Bool.{cases_lt, false≢true}
+-- What another order of a list, or a list with the same bounds, says of what it covers.
+use Rattle.std.proofs.Common.{◌≡◌, ℕ, ◌+◌, ◌<◌, List, [], ◌∷◌, ◌++◌, length, get_or, map, take, refl, sym, ap, ◌∙◌, subst, arith, zero, suc}
+use Rattle.std.specs.List.Sorted.{IsPermutation}
 use Rattle.std.proofs.lemmas.List.{take_more, map-append}
-use Rattle.std.proofs.lemmas.List.Sorted.{Contains-permutation, IsNonDecreasingBy-from_all_adjacent}
+use Rattle.std.proofs.lemmas.List.Sorted.{Contains-permutation}
 use Rattle.rpki_blocks.specs.Sets.{IsWithin, Covers}
-
--- pairs sorted by their items ascend by the number of the first
-pub IsNonDecreasingBy-from_pairs : {I : Type 0} (number : I → ℕ) (cmp : I → I → Ordering) → ((x y : I) → cmp x y ≡ nat_cmp (number x) (number y)) → (xs : List (I × I)) → IsSorted (λ x y. ordering_then (cmp x.0 y.0) (cmp x.1 y.1)) xs → IsNonDecreasingBy (λ b. number b.0) xs
-IsNonDecreasingBy-from_pairs {I} number cmp in_order xs up = IsNonDecreasingBy-from_all_adjacent (λ (b : I × I). number b.0) xs (λ k d lt.
-    let this : I × I = get_or xs k d in
-    let next : I × I = get_or xs (k + 1) d in
-    ⊎_elim
-    (λ (falls : number next.0 < number this.0).
-    let less : cmp next.0 this.0 ≡ Less = in_order next.0 this.0 ∙ sym (nat_cmp_is (number next.0) (number this.0) Less falls) in
-    absurd (false≢true (sym (up k d (omega arith) lt) ∙ ap (λ r. is_lt (ordering_then r (cmp next.1 this.1))) less)))
-    (λ rises. rises)
-    (cases_lt (number next.0) (number this.0)))
 
 -- a loop's step: what was mapped and what was passed grow by one
 pub map-push_taken : {B C : Type 0} (f : B → ℕ × ℕ) (g : C → ℕ × ℕ) (xs : List B) (ys : List C) (i : ℕ) (x : B) (y : C) → i < length ys → y ≡ get_or ys i y → f x ≡ g y → map f xs ≡ map g (take i ys) → map f (xs ++ x ∷ []) ≡ map g (take (i + 1) ys)

@@ -1,100 +1,86 @@
-//! Blocks in any order become a chain: their bounds are sorted, and joined in one pass.
-ghost use Rattle.std.specs.Prelude.{ℕ, ◌+◌, ◌≤◌, ◌↔◌, ◌⊎◌, All, IsTrue, IfOk};
+//! Blocks in any order become a chain in the memory that they stand in: they are sorted, and joined in one pass.
+ghost use Rattle.std.specs.Prelude.{◌≡◌, ℕ, ◌+◌, ◌<◌, ◌≤◌, ◌↔◌, ◌⊎◌, IsTrue, IfSome, IfNone};
 ghost use Rattle.std.specs.List.Sorted.{IsNonDecreasingBy};
-ghost use Rattle.rpki_blocks.specs.Joining.{IsHeld, IsBehind};
+ghost use Rattle.std.specs.Ordering.{nat_cmp};
 ghost use Rattle.rpki_blocks.specs.Sets.{IsWithin, Covers, IsChain, numbers};
 
 use crate::block::Block;
-use std::alloc::{AllocError, Allocator};
+use std::alloc::Allocator;
+use std::cmp::Ordering;
 
-/// The bounds of the blocks, by ascending minimum.
-pub fn sorted_bounds<T: Block, A: Allocator>(
-    alloc: A,
-    blocks: &[T],
-) -> Result<Vec<(T::Item, T::Item), A>, AllocError>
-    ensures covers { IfOk result (λ v. (n : ℕ) →
-        Covers (numbers T.number) v.items n ↔ Covers T.bounds blocks.now n) }
-    ensures valid { IfOk result (λ v.
-        All (λ b. (T.number b.0 ≤ T.number b.1) × (T.number b.1 ≤ T.last)) v.items) }
-    ensures ascending { IfOk result (λ v. IsNonDecreasingBy (λ b. T.number b.0) v.items) }
+/// Makes the blocks the chain of the numbers that they cover. It takes no memory, and gives none back.
+pub fn join<T: Block, A: Allocator>(blocks: &mut Vec<T, A>)
+    ensures chain { IsChain T.bounds T.form blocks.new.items }
+    ensures covers { (n : ℕ) →
+        Covers T.bounds blocks.new.items n ↔ Covers T.bounds blocks.old.items n }
 {
-    let mut bounds = Vec::with_capacity(alloc, blocks.len())?;
-    for block in blocks {
-        bounds.push(block.bounds())?;
-    }
-    if is_ascending::<T>(bounds.as_slice()) {
-        return Ok(bounds);
-    }
-    bounds.sort_unstable();
-    Ok(bounds)
+    sort(blocks);
+    join_ascending(blocks);
 }
 
-/// Whether the bounds come by ascending minimum.
-fn is_ascending<T: Block>(bounds: &[(T::Item, T::Item)]) -> bool
-    ensures { IsTrue result ↔ IsNonDecreasingBy (λ b. T.number b.0) bounds.now }
+/// Brings blocks into the order of their minima. Where they come so, it looks at each once and moves none.
+fn sort<T: Block, A: Allocator>(blocks: &mut Vec<T, A>)
+    ensures covers { (n : ℕ) →
+        Covers T.bounds blocks.new.items n ↔ Covers T.bounds blocks.old.items n }
+    ensures ascending { IsNonDecreasingBy (λ b. (T.bounds b).0) blocks.new.items }
 {
-    // No bounds before `at` begin below those in front of them.
-    for at in 1..bounds.len() {
-        if bounds[at].0 < bounds[at - 1].0 {
-            return false;
-        }
-    }
-    true
+    blocks.sort_unstable_by(
+        |one: &T, other: &T| -> Ordering
+            ensures { result ≡ nat_cmp (T.bounds one.now).0 (T.bounds other.now).0 }
+        { one.min().cmp(&other.min()) },
+    );
 }
 
-/// The chain of bounds that come by ascending minimum.
+/// Joins blocks that come by ascending minimum.
 ///
-/// A run is at hand, and all blocks of the chain so far end before it and don't touch it. Each turn takes the next
-/// bounds, which begin no earlier than the run does: so nothing that comes later can reach a run that was closed.
-pub fn joined<T: Block, A: Allocator>(
-    alloc: A,
-    bounds: &[(T::Item, T::Item)],
-) -> Result<Vec<T, A>, AllocError>
-    requires valid { All (λ b. (T.number b.0 ≤ T.number b.1) × (T.number b.1 ≤ T.last)) bounds.now }
-    requires ascending { IsNonDecreasingBy (λ b. T.number b.0) bounds.now }
-    ensures chain { IfOk result (λ v. IsChain T.bounds T.form v.items) }
-    ensures covers { IfOk result (λ v. (n : ℕ) →
-        Covers T.bounds v.items n ↔ Covers (numbers T.number) bounds.now n) }
+/// A run is at hand. In front of `closed` stand the blocks of the runs before it, which end before it and don't touch
+/// it. Each turn takes the next block, which begins no earlier than the run does: so nothing that comes later can reach
+/// a run that was closed. A run is over one block at least, so its block has a place among those that were passed.
+fn join_ascending<T: Block, A: Allocator>(blocks: &mut Vec<T, A>)
+    requires { IsNonDecreasingBy (λ b. (T.bounds b).0) blocks.old.items }
+    ensures chain { IsChain T.bounds T.form blocks.new.items }
+    ensures covers { (n : ℕ) →
+        Covers T.bounds blocks.new.items n ↔ Covers T.bounds blocks.old.items n }
 {
-    let mut chain = Vec::new(alloc);
-    let Some(first) = bounds.first() else {
-        return Ok(chain);
+    let Some(first) = blocks.first() else {
+        return;
     };
-    let mut run = *first;
-    for at in 1..bounds.len() {
-        run = run_with(&mut chain, run, bounds[at])?;
+    let mut run = first.bounds();
+    let mut closed = 0;
+    for at in 1..blocks.len() {
+        let next = blocks[at].bounds();
+        if let Some(longer) = run_over::<T>(run, next) {
+            run = longer;
+            continue;
+        }
+        blocks[closed] = T::new(run.0, run.1);
+        closed += 1;
+        run = next;
     }
-    chain.push(T::new(run.0, run.1))?;
-    Ok(chain)
+    blocks[closed] = T::new(run.0, run.1);
+    blocks.truncate(closed + 1);
 }
 
-/// The run at hand once the next bounds are taken in: the run over both where they overlap or touch. Else the run is
-/// closed, which puts its block behind the chain, and the next bounds are the run at hand.
-fn run_with<T: Block, A: Allocator>(
-    chain: &mut Vec<T, A>,
+/// The run over a run and bounds that begin no earlier, where they overlap or touch.
+fn run_over<T: Block>(
     run: (T::Item, T::Item),
     next: (T::Item, T::Item),
-) -> Result<(T::Item, T::Item), AllocError>
-    requires run { IsBehind T.bounds T.form T.last chain.old.items (numbers T.number run) }
+) -> Option<(T::Item, T::Item)>
+    requires behind { T.number run.0 ≤ T.number next.0 }
     requires ordered { T.number next.0 ≤ T.number next.1 }
     requires to_last { T.number next.1 ≤ T.last }
-    requires behind { T.number run.0 ≤ T.number next.0 }
-    ensures run { IfOk result (λ r.
-        IsBehind T.bounds T.form T.last chain.new.items (numbers T.number r)) }
-    ensures behind { IfOk result (λ r. T.number r.0 ≤ T.number next.0) }
-    ensures held { IfOk result (λ r. (n : ℕ) →
-        IsHeld T.bounds chain.new.items (numbers T.number r) n ↔
-        (IsHeld T.bounds chain.old.items (numbers T.number run) n ⊎
-        IsWithin (numbers T.number next) n)) }
+    ensures from { IfSome result (λ r. r.0 ≡ run.0) }
+    ensures to { IfSome result (λ r.
+        (T.number run.1 ≤ T.number r.1) × ((r.1 ≡ run.1) ⊎ (r.1 ≡ next.1))) }
+    ensures over { IfSome result (λ r. (n : ℕ) → IsWithin (numbers T.number r) n ↔
+        (IsWithin (numbers T.number run) n ⊎ IsWithin (numbers T.number next) n)) }
+    ensures apart { IfNone result (T.number run.1 + 1 < T.number next.0) }
 {
-    if next.1 <= run.1 {
-        return Ok(run);
+    if !is_reached::<T>(run.1, next.0) {
+        return None;
     }
-    if is_reached::<T>(run.1, next.0) {
-        return Ok((run.0, next.1));
-    }
-    chain.push(T::new(run.0, run.1))?;
-    Ok(next)
+    let max = if run.1 < next.1 { next.1 } else { run.1 };
+    Some((run.0, max))
 }
 
 /// Whether an item comes right after another one or is not above it.

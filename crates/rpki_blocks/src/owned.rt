@@ -6,7 +6,7 @@ ghost use Rattle.rpki_blocks.specs.Owned.{owned_blocks, IsOwned};
 ghost use Rattle.rpki_blocks.specs.View.{chain_blocks};
 
 use crate::block::Block;
-use crate::build::{joined, sorted_bounds};
+use crate::build::join;
 use crate::chain::Chain;
 use std::alloc::{AllocError, Allocator, Global};
 use std::marker::Model;
@@ -34,16 +34,22 @@ impl<T: Block, A: Allocator> OwnedChain<T, A> {
     }
 
     /// The chain of the numbers that the blocks cover. They may come in any order and may overlap; where they ascend
-    /// already they are not sorted. `AllocError` where there is no memory for it.
+    /// already they are not sorted. `AllocError` where there is no memory for as many blocks as there are.
     pub fn from_blocks(alloc: A, blocks: &[T]) -> Result<Self, AllocError>
-    where
-        A: Copy,
         ensures { IfOk result (λ chain.
             IsChainOf T.bounds T.form (Covers T.bounds blocks.now) chain) }
     {
-        let bounds = sorted_bounds(alloc, blocks)?;
-        let blocks = joined(alloc, bounds.as_slice())?;
-        Ok(Self::from_vec_unchecked(blocks))
+        let blocks = rebuilt(alloc, blocks)?;
+        Ok(Self::from_vec(blocks))
+    }
+
+    /// The chain of the numbers that the blocks cover. They may come in any order and may overlap. It is made in their
+    /// own memory: none is taken, and the chain keeps all of it, but for an empty one, which holds none.
+    pub fn from_vec(mut blocks: Vec<T, A>) -> Self
+        ensures { IsChainOf T.bounds T.form (Covers T.bounds blocks.items) result }
+    {
+        join(&mut blocks);
+        Self::from_vec_unchecked(blocks)
     }
 
     /// The chain of blocks that are a chain already. An empty vector is given back to its allocator.
@@ -81,13 +87,12 @@ impl<T: Block, A: Allocator> OwnedChain<T, A> {
     }
 }
 
-/// Blocks in the form that `new` gives, made anew.
+/// Blocks made anew, each of its bounds. So a block in the form that `new` gives comes out as it was.
 fn rebuilt<T: Block, A: Allocator>(alloc: A, blocks: &[T]) -> Result<Vec<T, A>, AllocError>
-    requires { All (IsNew T.bounds T.form) blocks.now }
-    ensures { IfOk result (λ v. v.items ≡ blocks.now) }
+    ensures bounds { IfOk result (λ v. map T.bounds v.items ≡ map T.bounds blocks.now) }
+    ensures same { IfOk result (λ v. All (IsNew T.bounds T.form) blocks.now → v.items ≡ blocks.now) }
 {
     let mut new = Vec::with_capacity(alloc, blocks.len())?;
-    // A block in new form is the one that is made of its bounds, so each comes out as it was.
     for block in blocks {
         let (min, max) = block.bounds();
         new.push(T::new(min, max))?;

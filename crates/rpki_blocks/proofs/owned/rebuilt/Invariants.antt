@@ -1,6 +1,10 @@
--- The blocks passed were made anew.
-use Rattle.std.proofs.Common.{◌≡◌, take}
+-- The blocks passed were made anew, each of its bounds.
+use Rattle.std.proofs.Common.{◌≡◌, All, map, take}
+use Rattle.rpki_blocks.specs.Sets.{IsNew}
 use Rattle.rpki_blocks.proofs.owned.rebuilt.Given as goal
 
 abbrev pub invariant-loop-block : goal.invariant-loop-block
-invariant-loop-block g l = l.new.items ≡ take l.block-index l.blocks
+invariant-loop-block g l = record {
+  bounds : map g.T.Block.bounds l.new.items ≡ map g.T.Block.bounds (take l.block-index l.blocks);
+  same : All (IsNew g.T.Block.bounds g.T.Block.form) l.blocks → l.new.items ≡ take l.block-index l.blocks;
+}

@@ -1,13 +1,16 @@
--- What was sorted and joined is the chain of what the blocks cover.
+-- Blocks made anew cover what the blocks covered.
+use Rattle.std.proofs.Common.{sym}
 use Rattle.rpki_blocks.specs.Sets.{Covers}
-use Rattle.rpki_blocks.proofs.Chains.{IsChainOf-from}
+use Rattle.rpki_blocks.proofs.Chains.{IsChain-from, IsChainOf-from}
+use Rattle.rpki_blocks.proofs.Sorts.{Covers-map}
 use Rattle.rpki_blocks.proofs.owned.OwnedChain.from_blocks.Goals as goal
 
 pub returns : goal.returns
 returns g c =
-    let bounds = g.T.Block.bounds in
-    rw c.from_vec_unchecked.ensures (IsChainOf-from bounds g.T.Block.form c.in_ok-blocks.blocks.items (Covers bounds c.args.blocks.now) c.in_ok-blocks.ensures.chain (λ n.
-    let covers = c.in_ok-blocks.ensures.covers n in
-    let sorted = rw c.as_slice.ensures.value at covers in
-    let before = c.in_ok-bounds.ensures.covers n in
-    (λ h. before.0 (sorted.0 h), λ h. sorted.1 (before.1 h))))
+    let f = g.T.Block.bounds in
+    let chain = c.from_vec.ensures in
+    let same = c.in_ok-blocks.ensures.bounds in
+    IsChainOf-from f g.T.Block.form _ (Covers f c.args.blocks.now) (IsChain-from f g.T.Block.form _ _ chain) (λ n. (
+      λ h. Covers-map f f _ _ n same ((chain.covers n).0 h),
+      λ h. (chain.covers n).1 (Covers-map f f _ _ n (sym same) h),
+    ))

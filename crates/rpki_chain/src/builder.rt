@@ -52,13 +52,14 @@ impl<T: Block, A: Allocator> BlockSetBuilder<T, A> {
         self.blocks.extend_from_slice(blocks)
     }
 
-    /// The set of the items that some of the blocks has. `AllocError` where there is no memory for it.
+    /// The set of the items that some of the blocks has, made in the builder's memory. `AllocError` where there is no
+    /// memory for what its owners share.
     pub fn finalize(self) -> Result<BlockSet<T, A>, AllocError>
     where
         A: Copy,
         ensures { IfOk result (IsRunsOf (Holds self)) }
     {
         let alloc = *self.blocks.allocator();
-        BlockSet::from_blocks(alloc, self.blocks.as_slice())
+        BlockSet::from_vec(alloc, self.blocks)
     }
 }

@@ -66,6 +66,14 @@ impl<T: Block, A: Allocator> BlockSet<T, A> {
         Self::from_owned(alloc, chain)
     }
 
+    /// The set of the items that some block has, made in the memory of the blocks, which may come in any order and may
+    /// overlap. `AllocError` where there is no memory for what its owners share.
+    pub fn from_vec(alloc: A, blocks: Vec<T, A>) -> Result<Self, AllocError>
+        ensures { IfOk result (IsRunsOfBlocks T.bounds blocks.items) }
+    {
+        Self::from_owned(alloc, OwnedChain::from_vec(blocks))
+    }
+
     /// The set of a chain's items, for several owners. `AllocError` where there is no memory for it.
     pub fn from_owned(alloc: A, chain: OwnedChain<T, A>) -> Result<Self, AllocError>
         ensures { IfOk result (λ set. set ≡ map T.bounds chain) }

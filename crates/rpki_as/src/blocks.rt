@@ -69,6 +69,15 @@ impl<A: Allocator> AsBlocks<A> {
         Ok(Self::from_set(set))
     }
 
+    /// The set of the numbers that some block has, made in the memory of the blocks, which may come in any order and may
+    /// overlap. `AllocError` where there is no memory for what its owners share.
+    pub fn from_vec(alloc: A, blocks: Vec<AsBlock, A>) -> Result<AsBlocks<A>, AllocError>
+        ensures { IfOk result (IsRunsOfBlocks as_bounds blocks.items) }
+    {
+        let set = BlockSet::from_vec(alloc, blocks)?;
+        Ok(Self::from_set(set))
+    }
+
     /// A set of blocks as a set of AS numbers.
     pub(crate) fn from_set(set: BlockSet<AsBlock, A>) -> AsBlocks<A>
         ensures { result ≡ set }
@@ -185,7 +194,7 @@ impl<A: Allocator> AsBlocks<A> {
             → MatchResult result (λ read. read ≡ set) IsMemory }
     {
         let blocks: Vec<AsBlock, A> = read_list(alloc, text)?;
-        let set = Self::from_blocks(alloc, blocks.as_slice())?;
+        let set = Self::from_vec(alloc, blocks)?;
         Ok(set)
     }
 }

@@ -55,7 +55,7 @@ impl<A: Allocator> AsBlocks<A> {
     {
         let mut ahead = *cursor;
         let blocks = take_sequence_of(alloc, &AsBlockReader, &mut ahead)?;
-        let set = AsBlocks::from_blocks(alloc, blocks.as_slice())?;
+        let set = AsBlocks::from_vec(alloc, blocks)?;
         *cursor = ahead;
         Ok(set)
     }

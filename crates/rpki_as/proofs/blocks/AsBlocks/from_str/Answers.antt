@@ -23,7 +23,7 @@ returns-clause-exact g c =
     list_answers (λ set. set) c.args.text.now _ (record {
       blocks = c.in_ok-blocks.blocks.items;
       are_written = rw c.in_ok-blocks.was at found;
-      covered = rw c.as_slice.ensures.value at c.in_ok-set.ensures;
+      covered = c.in_ok-set.ensures;
     })
 
 pub returns-clause-reads_back : goal.returns-clause-reads_back

@@ -76,6 +76,15 @@ impl<A: Allocator> IpBlocks<A> {
         Ok(IpBlocks::from_set(set))
     }
 
+    /// The set of the addresses that some block has, made in the memory of the blocks, which may come in any order and may
+    /// overlap. `AllocError` where there is no memory for what its owners share.
+    pub fn from_vec(alloc: A, blocks: Vec<IpBlock, A>) -> Result<IpBlocks<A>, AllocError>
+        ensures { IfOk result (IsRunsOfBlocks ip_bounds blocks.items) }
+    {
+        let set = BlockSet::from_vec(alloc, blocks)?;
+        Ok(IpBlocks::from_set(set))
+    }
+
     /// A set of addresses as one of these.
     pub(crate) fn from_set(set: BlockSet<IpBlock, A>) -> IpBlocks<A>
         ensures { result ≡ set }
@@ -143,7 +152,7 @@ impl<A: Allocator> IpBlocks<A> {
             → MatchResult result (λ read. read ≡ set) IsMemory }
     {
         let blocks = read_ip_blocks(alloc, text)?;
-        let set = Self::from_blocks(alloc, blocks.as_slice())?;
+        let set = Self::from_vec(alloc, blocks)?;
         Ok(set)
     }
 

@@ -18,13 +18,13 @@ returns-in_err-blocks-clause-reads_back g c = λ family set is printed.
 
 pub returns-clause-exact : goal.returns-clause-exact
 returns-clause-exact g c =
-    set_answers (λ (v : Vec IpBlock _). v.items) (HasIpBlocks c.args.text.now) (HasIpBlocksFault c.args.text.now) c.in_ok-blocks.blocks _ (rw c.in_ok-blocks.was at c.read_ip_blocks.ensures.exact) (rw c.as_slice.ensures.value at c.in_ok-set.ensures)
+    set_answers (λ (v : Vec IpBlock _). v.items) (HasIpBlocks c.args.text.now) (HasIpBlocksFault c.args.text.now) c.in_ok-blocks.blocks _ (rw c.in_ok-blocks.was at c.read_ip_blocks.ensures.exact) c.in_ok-set.ensures
 
 pub returns-clause-reads_back : goal.returns-clause-reads_back
 returns-clause-reads_back g c = λ family set is printed.
-    read_as family _ set _ is (rw c.in_ok-blocks.was at (c.read_ip_blocks.ensures.reads_back family _ (blocks_of_family family set is) printed)) (rw c.as_slice.ensures.value at c.in_ok-set.ensures)
+    read_as family _ set _ is (rw c.in_ok-blocks.was at (c.read_ip_blocks.ensures.reads_back family _ (blocks_of_family family set is) printed)) c.in_ok-set.ensures
 
 pub returns-clause-whole : goal.returns-clause-whole
 returns-clause-whole g c = λ v4.
     let read = rw c.in_ok-blocks.was at c.read_ip_blocks.ensures.exact in
-    whole_cover c.in_ok-blocks.blocks.items _ (whole_untold_list c.args.text.now c.in_ok-blocks.blocks.items v4 read.found) (rw c.as_slice.ensures.value at c.in_ok-set.ensures)
+    whole_cover c.in_ok-blocks.blocks.items _ (whole_untold_list c.args.text.now c.in_ok-blocks.blocks.items v4 read.found) c.in_ok-set.ensures

@@ -53,7 +53,7 @@ pub(crate) fn set_of<B: FamilyBlock, A: Allocator + Copy>(
     for block in blocks {
         own.push(block.to_block())?;
     }
-    IpBlocks::from_blocks(alloc, own.as_slice())
+    IpBlocks::from_vec(alloc, own)
 }
 
 /// The set that a list of blocks of the family writes.
@@ -69,6 +69,6 @@ pub(crate) fn read_set<A: Allocator + Copy>(
     ensures whole { IfOk result (λ set. family ≡ Ipv4 → IsWhole (Holds set)) }
 {
     let blocks = read_blocks(alloc, family, text)?;
-    let set = IpBlocks::from_blocks(alloc, blocks.as_slice())?;
+    let set = IpBlocks::from_vec(alloc, blocks)?;
     Ok(set)
 }

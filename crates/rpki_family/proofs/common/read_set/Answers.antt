@@ -18,12 +18,12 @@ returns-in_err-blocks-clause-reads_back g c = λ set is printed.
 
 pub returns-clause-exact : goal.returns-clause-exact
 returns-clause-exact g c =
-    set_answers (λ (v : Vec IpBlock _). v.items) (HasBlocks c.args.family c.args.text.now) (HasBlocksFault c.args.family c.args.text.now) c.in_ok-blocks.blocks _ (rw c.in_ok-blocks.was at c.read_blocks.ensures.exact) (rw c.as_slice.ensures.value at c.in_ok-set.ensures)
+    set_answers (λ (v : Vec IpBlock _). v.items) (HasBlocks c.args.family c.args.text.now) (HasBlocksFault c.args.family c.args.text.now) c.in_ok-blocks.blocks _ (rw c.in_ok-blocks.was at c.read_blocks.ensures.exact) c.in_ok-set.ensures
 
 pub returns-clause-reads_back : goal.returns-clause-reads_back
 returns-clause-reads_back g c = λ set is printed.
-    read_as c.args.family _ set _ is (rw c.in_ok-blocks.was at (c.read_blocks.ensures.reads_back _ (blocks_of_family c.args.family set is) printed)) (rw c.as_slice.ensures.value at c.in_ok-set.ensures)
+    read_as c.args.family _ set _ is (rw c.in_ok-blocks.was at (c.read_blocks.ensures.reads_back _ (blocks_of_family c.args.family set is) printed)) c.in_ok-set.ensures
 
 pub returns-clause-whole : goal.returns-clause-whole
 returns-clause-whole g c = λ ipv4.
-    whole_cover c.in_ok-blocks.blocks.items _ ((rw c.in_ok-blocks.was at c.read_blocks.ensures.whole) ipv4) (rw c.as_slice.ensures.value at c.in_ok-set.ensures)
+    whole_cover c.in_ok-blocks.blocks.items _ ((rw c.in_ok-blocks.was at c.read_blocks.ensures.whole) ipv4) c.in_ok-set.ensures

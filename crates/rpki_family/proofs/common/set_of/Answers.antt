@@ -27,9 +27,8 @@ pub returns-clause-set : goal.returns-clause-set
 returns-clause-set g c =
     let all = take_all c.loop-block.block-index c.args.blocks.now (omega (arith, c.loop-block-test.false)) in
     let items = rw all at c.loop-block.invariant.0 in
-    let made = rw c.as_slice.ensures.value at c.from_blocks.ensures in
-    IfOk-weaker c.from_blocks.result _ _ (λ set is. set_of_turned g.B.FamilyBlock.block c.args.blocks.now _ set items is) made
+    IfOk-weaker c.from_vec.result _ _ (λ set is. set_of_turned g.B.FamilyBlock.block c.args.blocks.now _ set items is) c.from_vec.ensures
 
 pub returns-clause-bounds : goal.returns-clause-bounds
 returns-clause-bounds g c =
-    IfOk-weaker c.from_blocks.result _ _ (λ set is k d small. c.loop-block.invariant.1 k d (omega (arith, small, c.loop-block-test.false))) c.from_blocks.ensures
+    IfOk-weaker c.from_vec.result _ _ (λ set is k d small. c.loop-block.invariant.1 k d (omega (arith, small, c.loop-block-test.false))) c.from_vec.ensures

@@ -7,6 +7,7 @@ mod Insides
 mod Joining
 mod MeetTurns
 mod Meets
+mod Merges
 mod Searches
 pub mod Shortest
 mod Sides

@@ -8,4 +8,5 @@ pub mod Owned
 pub mod Props
 pub mod Ranges
 pub mod Sets
+pub mod Turn
 pub mod View

@@ -62,7 +62,7 @@ fn join_ascending<T: Block, A: Allocator>(blocks: &mut Vec<T, A>)
 }
 
 /// The run over a run and bounds that begin no earlier, where they overlap or touch.
-fn run_over<T: Block>(
+pub fn run_over<T: Block>(
     run: (T::Item, T::Item),
     next: (T::Item, T::Item),
 ) -> Option<(T::Item, T::Item)>

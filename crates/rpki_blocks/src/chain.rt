@@ -6,7 +6,7 @@ ghost use Rattle.rpki_blocks.specs.Props.{IsChain-prop};
 
 use crate::block::Block;
 use crate::owned::OwnedChain;
-use crate::{difference, membership, trim};
+use crate::{difference, membership, trim, union};
 use rpki_text::memory::OrMemory;
 use std::alloc::{AllocError, Allocator};
 use std::slice::Iter;
@@ -77,7 +77,7 @@ impl<'a, T: Block> Chain<'a, T> {
 }
 
 impl<T: Block> Chain<'_, T> {
-    ghost use Rattle.std.specs.Prelude.{ℕ, ◌+◌, ◌≤◌, ◌↔◌, length, IsTrue, IsOk, IfOk, IfErr};
+    ghost use Rattle.std.specs.Prelude.{ℕ, ◌+◌, ◌≤◌, ◌↔◌, ◌⊎◌, length, IsTrue, IsOk, IfOk, IfErr};
     ghost use Rattle.rpki_text.specs.Memory.{IfRefused};
     ghost use Rattle.rpki_blocks.specs.Sets.{IsWithin, Covers, IsInside, IsChainOf};
     ghost use Rattle.rpki_blocks.specs.View.{chain_blocks};
@@ -154,6 +154,24 @@ impl<T: Block> Chain<'_, T> {
         let mut own = self;
         let mut other = other;
         difference::difference(alloc, &mut own, &mut other)
+    }
+
+    /// The chain of its numbers and the other's. It has no more blocks than both together. `AllocError` where there is
+    /// no memory for it.
+    pub fn union<A: Allocator>(
+        self,
+        alloc: A,
+        other: Chain<'_, T>,
+    ) -> Result<OwnedChain<T, A>, AllocError>
+        ensures union { IfOk result (λ chain. IsChainOf T.bounds T.form (λ n.
+            Covers T.bounds (chain_blocks self.entry) n ⊎
+            Covers T.bounds (chain_blocks other.entry) n) chain) }
+        ensures few { IfOk result (λ chain.
+            length chain ≤ length (chain_blocks self.entry) + length (chain_blocks other.entry)) }
+    {
+        let mut own = self;
+        let mut other = other;
+        union::union(alloc, &mut own, &mut other)
     }
 }
 

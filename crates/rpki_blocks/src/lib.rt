@@ -12,3 +12,4 @@ pub mod owned;
 mod reads;
 pub mod shared;
 mod trim;
+mod union;

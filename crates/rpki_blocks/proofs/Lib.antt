@@ -1,5 +1,6 @@
 -- Lemmas on chains, runs and sorted bounds.
 pub mod Chains
+mod Counts
 mod CutTurns
 mod Cutting
 mod FitTurns
@@ -11,5 +12,6 @@ mod Merges
 mod Searches
 pub mod Shortest
 mod Sides
+mod Steps
 pub mod Sorts
 pub mod Unique

@@ -5,8 +5,12 @@ ghost use Rattle.rpki_blocks.specs.Sets.{IsChain};
 ghost use Rattle.rpki_blocks.specs.Props.{IsChain-prop};
 
 use crate::block::Block;
+use crate::counted::Counted;
+use crate::difference::difference_counted;
+use crate::membership::{contains_block, contains_item_counted, intersects_block};
 use crate::owned::OwnedChain;
-use crate::{difference, membership, trim, union};
+use crate::trim::{is_encompassed, trim_counted};
+use crate::union::union_counted;
 use rpki_text::memory::OrMemory;
 use std::alloc::{AllocError, Allocator};
 use std::slice::Iter;
@@ -86,8 +90,7 @@ impl<T: Block> Chain<'_, T> {
     pub fn contains_item(self, item: T::Item) -> bool
         ensures { IsTrue result ↔ Covers T.bounds (chain_blocks self.entry) (T.number item) }
     {
-        let mut own = self;
-        membership::contains_item(&mut own, item)
+        contains_item_counted(&mut Counted::new(self), item)
     }
 
     /// Whether each item of a block lies in one of the blocks. A binary search.
@@ -95,8 +98,7 @@ impl<T: Block> Chain<'_, T> {
         ensures { IsTrue result ↔ ((n : ℕ) →
             IsWithin (T.bounds block.now) n → Covers T.bounds (chain_blocks self.entry) n) }
     {
-        let mut own = self;
-        membership::contains_block(&mut own, block)
+        contains_block(&mut Counted::new(self), block)
     }
 
     /// Whether an item of a block lies in one of the blocks. A binary search.
@@ -104,8 +106,7 @@ impl<T: Block> Chain<'_, T> {
         ensures { IsTrue result ↔ ((n : ℕ) ×
             IsWithin (T.bounds block.now) n × Covers T.bounds (chain_blocks self.entry) n) }
     {
-        let mut own = self;
-        membership::intersects_block(&mut own, block)
+        intersects_block(&mut Counted::new(self), block)
     }
 
     /// Whether each of its numbers is one of the other's.
@@ -113,9 +114,7 @@ impl<T: Block> Chain<'_, T> {
         ensures { IsTrue result ↔
             IsInside T.bounds (chain_blocks self.entry) (chain_blocks other.entry) }
     {
-        let mut own = self;
-        let mut other = other;
-        trim::is_encompassed(&mut own, &mut other)
+        is_encompassed(&mut Counted::new(self), &mut Counted::new(other))
     }
 
     /// `Ok` where each of its numbers is one of the other's, with no memory taken. Else `Refused` with the chain of the
@@ -133,9 +132,7 @@ impl<T: Block> Chain<'_, T> {
         ensures few { IfErr result (IfRefused (λ chain.
             length chain ≤ length (chain_blocks self.entry) + length (chain_blocks other.entry))) }
     {
-        let mut own = self;
-        let mut other = other;
-        trim::trim(alloc, &mut own, &mut other)
+        trim_counted(alloc, &mut Counted::new(self), &mut Counted::new(other))
     }
 
     /// The chain of its numbers that aren't the other's. It has no more blocks than both together. `AllocError` where
@@ -151,9 +148,7 @@ impl<T: Block> Chain<'_, T> {
         ensures few { IfOk result (λ chain.
             length chain ≤ length (chain_blocks self.entry) + length (chain_blocks other.entry)) }
     {
-        let mut own = self;
-        let mut other = other;
-        difference::difference(alloc, &mut own, &mut other)
+        difference_counted(alloc, &mut Counted::new(self), &mut Counted::new(other))
     }
 
     /// The chain of its numbers and the other's. It has no more blocks than both together. `AllocError` where there is
@@ -169,9 +164,7 @@ impl<T: Block> Chain<'_, T> {
         ensures few { IfOk result (λ chain.
             length chain ≤ length (chain_blocks self.entry) + length (chain_blocks other.entry)) }
     {
-        let mut own = self;
-        let mut other = other;
-        union::union(alloc, &mut own, &mut other)
+        union_counted(alloc, &mut Counted::new(self), &mut Counted::new(other))
     }
 }
 

@@ -1,5 +1,5 @@
 //! The numbers that two chains have in common.
-ghost use Rattle.std.specs.Prelude.{◌≡◌, ◌+◌, ◌≤◌, ◌⊎◌, length, take, IfOk, IfSome};
+ghost use Rattle.std.specs.Prelude.{◌≡◌, ◌+◌, ◌-◌, ◌≤◌, ◌⊎◌, length, take, IfOk, IfSome};
 ghost use Rattle.rpki_blocks.specs.Sets.{Covers, IsChainOf};
 ghost use Rattle.rpki_blocks.specs.Fit.{IsMeeting, IsMeetingOf};
 ghost use Rattle.rpki_blocks.specs.Overhang.{IsOverhang};
@@ -79,6 +79,7 @@ fn first_blocks<T: Block, A: Allocator, X: Reads<T>>(
     requires { len ≤ length (X.blocks own.old) }
     ensures value { IfOk result (λ v. v.items ≡ take len (X.blocks own.old)) }
     ensures kept { X.blocks own.new ≡ X.blocks own.old }
+    ensures reads { X.count own.new ≤ X.count own.old + len }
 {
     // The length is asked for what its contract tells: that the blocks are a chain.
     let _len = own.len();
@@ -107,6 +108,11 @@ pub fn common_from<T: Block, A: Allocator, X: Reads<T>, Y: Reads<T>>(
         length chain ≤ length (X.blocks own.old) + length (Y.blocks other.old)) }
     ensures own_kept { X.blocks own.new ≡ X.blocks own.old }
     ensures other_kept { Y.blocks other.new ≡ Y.blocks other.old }
+    // The blocks before the overhang are read once, and so are those behind it.
+    ensures own_reads { X.count own.new ≤ X.count own.old + overhang.own_at +
+        (length (X.blocks own.old) - (overhang.own_at + 1)) }
+    ensures other_reads { Y.count other.new ≤ Y.count other.old +
+        (length (Y.blocks other.old) - (overhang.other_at + 1)) }
 {
     // The lengths are asked for what their contract tells: that the blocks are chains, of fewer than 2^64 blocks.
     let _own_len = own.len();

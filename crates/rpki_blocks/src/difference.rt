@@ -96,9 +96,9 @@ fn behind<T: Block>(item: T::Item) -> T::Item
     }
 }
 
-/// The chain of the numbers of one chain that aren't in the other. Each turn is done with one block, and keeps one piece
-/// at most.
-pub fn difference<T: Block, A: Allocator, X: Reads<T>, Y: Reads<T>>(
+/// The chain of the numbers of one chain that aren't in the other, as [`crate::chain::Chain::difference`] answers it. Both
+/// together are read no more often than they have blocks: each turn is done with one block, and keeps one piece at most.
+pub fn difference_counted<T: Block, A: Allocator, X: Reads<T>, Y: Reads<T>>(
     alloc: A,
     own: &mut X,
     other: &mut Y,
@@ -109,6 +109,8 @@ pub fn difference<T: Block, A: Allocator, X: Reads<T>, Y: Reads<T>>(
         length chain ≤ length (X.blocks own.old) + length (Y.blocks other.old)) }
     ensures own_kept { X.blocks own.new ≡ X.blocks own.old }
     ensures other_kept { Y.blocks other.new ≡ Y.blocks other.old }
+    ensures reads { X.count own.new + Y.count other.new ≤ X.count own.old + Y.count other.old +
+        (length (X.blocks own.old) + length (Y.blocks other.old)) }
 {
     let mut chain = Vec::new(alloc);
     let mut own_at = 0;

@@ -1,5 +1,5 @@
 //! Where a chain leaves another one.
-ghost use Rattle.std.specs.Prelude.{◌≡◌, MatchOption};
+ghost use Rattle.std.specs.Prelude.{◌≡◌, ◌+◌, ◌-◌, ◌≤◌, length, IfSome, MatchOption};
 ghost use Rattle.rpki_blocks.specs.Sets.{IsInside};
 ghost use Rattle.rpki_blocks.specs.Fit.{IsFit, IsFitIn};
 ghost use Rattle.rpki_blocks.specs.Overhang.{IsOverhang};
@@ -69,6 +69,13 @@ pub fn first_overhang<T: Block, X: Reads<T>, Y: Reads<T>>(
         (IsOverhang T.bounds T.number T.last (X.blocks own.old) (Y.blocks other.old)) }
     ensures own_kept { X.blocks own.new ≡ X.blocks own.old }
     ensures other_kept { Y.blocks other.new ≡ Y.blocks other.old }
+    ensures own_reads { X.count own.new ≤ X.count own.old + length (X.blocks own.old) }
+    ensures other_reads { Y.count other.new ≤ Y.count other.old + length (Y.blocks other.old) }
+    // What comes behind the blocks at hand wasn't read.
+    ensures own_left { IfSome result (λ o. X.count own.new + (length (X.blocks own.old) - (o.own_at + 1)) ≤
+        X.count own.old + length (X.blocks own.old)) }
+    ensures other_left { IfSome result (λ o. Y.count other.new + (length (Y.blocks other.old) - (o.other_at + 1)) ≤
+        Y.count other.old + length (Y.blocks other.old)) }
 {
     let mut own_at = 0;
     let mut other_at = 0;

@@ -1,5 +1,5 @@
 //! Whether a chain lies in another, and what of it does.
-ghost use Rattle.std.specs.Prelude.{◌≡◌, ◌+◌, ◌≤◌, ◌↔◌, length, IsTrue, IsOk, IfErr};
+ghost use Rattle.std.specs.Prelude.{◌≡◌, ◌+◌, ◌*◌, ◌≤◌, ◌↔◌, length, IsTrue, IsOk, IfErr};
 ghost use Rattle.rpki_text.specs.Memory.{IfRefused};
 ghost use Rattle.rpki_blocks.specs.Sets.{Covers, IsInside, IsChainOf};
 
@@ -23,8 +23,9 @@ pub fn is_encompassed<T: Block, X: Reads<T>, Y: Reads<T>>(own: &mut X, other: &m
     }
 }
 
-/// Ok where the one chain lies in the other, with no memory taken; else a refusal with what they have in common.
-pub fn trim<T: Block, A: Allocator, X: Reads<T>, Y: Reads<T>>(
+/// Ok where the one chain lies in the other, with no memory taken; else a refusal with what they have in common, as
+/// [`crate::chain::Chain::trim`] answers it. The one chain is read at most twice, and the other at most once.
+pub fn trim_counted<T: Block, A: Allocator, X: Reads<T>, Y: Reads<T>>(
     alloc: A,
     own: &mut X,
     other: &mut Y,
@@ -36,6 +37,8 @@ pub fn trim<T: Block, A: Allocator, X: Reads<T>, Y: Reads<T>>(
         length chain ≤ length (X.blocks own.old) + length (Y.blocks other.old))) }
     ensures own_kept { X.blocks own.new ≡ X.blocks own.old }
     ensures other_kept { Y.blocks other.new ≡ Y.blocks other.old }
+    ensures reads { X.count own.new + Y.count other.new ≤ X.count own.old + Y.count other.old +
+        (2 * length (X.blocks own.old) + length (Y.blocks other.old)) }
 {
     match first_overhang(own, other) {
         None => Ok(()),

@@ -71,8 +71,9 @@ fn run_with<T: Block, A: Allocator>(
     Ok(next)
 }
 
-/// The chain of the numbers that one chain or the other has. Each turn is done with one block, the one that begins first.
-pub fn union<T: Block, A: Allocator, X: Reads<T>, Y: Reads<T>>(
+/// The chain of the numbers that one chain or the other has, as [`crate::chain::Chain::union`] answers it. Both together
+/// are read no more often than they have blocks: each turn is done with one block, the one that begins first.
+pub fn union_counted<T: Block, A: Allocator, X: Reads<T>, Y: Reads<T>>(
     alloc: A,
     own: &mut X,
     other: &mut Y,
@@ -83,6 +84,8 @@ pub fn union<T: Block, A: Allocator, X: Reads<T>, Y: Reads<T>>(
         length chain ≤ length (X.blocks own.old) + length (Y.blocks other.old)) }
     ensures own_kept { X.blocks own.new ≡ X.blocks own.old }
     ensures other_kept { Y.blocks other.new ≡ Y.blocks other.old }
+    ensures reads { X.count own.new + Y.count other.new ≤ X.count own.old + Y.count other.old +
+        (length (X.blocks own.old) + length (Y.blocks other.old)) }
 {
     // No more blocks than both have can come out, so the memory is taken once.
     let mut chain = Vec::with_capacity(alloc, own.len().saturating_add(other.len()))?;

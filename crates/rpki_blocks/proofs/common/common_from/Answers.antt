@@ -1,7 +1,9 @@
 -- Each turn is done with one block and keeps the walk; at its end one chain has no block any more.
 use Rattle.std.proofs.Common.{◌+◌, ◌∙◌, ap, sym, arith, refl}
+use Rattle.std.proofs.Math.Nat.{le_refl}
 use Rattle.rpki_blocks.specs.Sets.{Covers}
 use Rattle.rpki_blocks.proofs.Chains.{IsChainOf-from}
+use Rattle.rpki_blocks.proofs.Counts.{read_next}
 use Rattle.rpki_blocks.proofs.Sides.{IsAt-from}
 use Rattle.rpki_blocks.proofs.Meets.{Meet-swap, Meet-end}
 use Rattle.rpki_blocks.proofs.MeetTurns.{Meet-start, meet-ordered, meet-own_before, meet-other_before, meet-own_ends, meet-other_ends, meet-none}
@@ -13,7 +15,10 @@ loop-own_at-init g c =
     let form = g.T.Block.form in
     let number = g.T.Block.number in
     let first = c.in_ok-chain.ensures in
+    let read = first.reads in
     record {
+      own_reads = omega arith;
+      other_reads = le_refl _;
       walk = rw first.value (Meet-start f form number g.T.Block.last _ _ c.args.overhang c.requires c.len-own_len.ensures.chain c.len-other_len.ensures.chain);
       own_bound = (let len = c.len-own_len.ensures.value in omega arith);
       other_bound = (let len = c.len-other_len.ensures.value in omega arith);
@@ -35,8 +40,13 @@ loop-own_at-preserved-in-OwnBefore g c =
     let inv = c.loop-own_at.invariant in
     let read = c.read_at-own_block.ensures in
     let turn = meet-own_before f form number _ _ _ _ _ c.loop-own_at.own_block c.loop-own_at.other_block c.read_at-own_block.result inv.walk c.in-OwnBefore.ensures in
+    let block = rw inv.own_kept at read.block in
+    let more = read_next f number g.T.Block.last _ c.loop-own_at.own_at c.read_at-own_block.result _ _ block read.counted in
+    let before = inv.own_reads in
     record {
-      walk = turn.1 (IsAt-from f number g.T.Block.last _ (c.loop-own_at.own_at + 1) _ (rw inv.own_kept at read.block));
+      own_reads = omega arith;
+      other_reads = inv.other_reads;
+      walk = turn.1 (IsAt-from f number g.T.Block.last _ (c.loop-own_at.own_at + 1) _ block);
       own_bound = inv.own_bound;
       other_bound = inv.other_bound;
       own_kept = read.kept ∙ inv.own_kept;
@@ -51,8 +61,13 @@ loop-own_at-preserved-in-OtherBefore g c =
     let inv = c.loop-own_at.invariant in
     let read = c.read_at-other_block.ensures in
     let turn = meet-other_before f form number _ _ _ _ _ c.loop-own_at.own_block c.loop-own_at.other_block c.read_at-other_block.result inv.walk c.in-OtherBefore.ensures in
+    let block = rw inv.other_kept at read.block in
+    let more = read_next f number g.T.Block.last _ c.loop-own_at.other_at c.read_at-other_block.result _ _ block read.counted in
+    let before = inv.other_reads in
     record {
-      walk = turn.1 (IsAt-from f number g.T.Block.last _ (c.loop-own_at.other_at + 1) _ (rw inv.other_kept at read.block));
+      own_reads = inv.own_reads;
+      other_reads = omega arith;
+      walk = turn.1 (IsAt-from f number g.T.Block.last _ (c.loop-own_at.other_at + 1) _ block);
       own_bound = inv.own_bound;
       other_bound = inv.other_bound;
       own_kept = inv.own_kept;
@@ -67,8 +82,13 @@ loop-own_at-preserved-in-OwnEnds g c =
     let inv = c.loop-own_at.invariant in
     let read = c.read_at-own_block-in-OwnEnds.ensures in
     let turn = meet-own_ends f form number _ _ _ _ _ c.loop-own_at.own_block c.loop-own_at.other_block c.read_at-own_block-in-OwnEnds.result c.in-OwnEnds.low c.in-OwnEnds.high c.new.result inv.walk c.in-OwnEnds.ensures c.new.ensures.bounds (c.new.ensures.value ∙ ap form (sym c.new.ensures.bounds)) in
+    let block = rw inv.own_kept at read.block in
+    let more = read_next f number g.T.Block.last _ c.loop-own_at.own_at c.read_at-own_block-in-OwnEnds.result _ _ block read.counted in
+    let before = inv.own_reads in
     record {
-      walk = rw c.in_ok-push-in-OwnEnds.ensures.items (turn.1 (IsAt-from f number g.T.Block.last _ (c.loop-own_at.own_at + 1) _ (rw inv.own_kept at read.block)));
+      own_reads = omega arith;
+      other_reads = inv.other_reads;
+      walk = rw c.in_ok-push-in-OwnEnds.ensures.items (turn.1 (IsAt-from f number g.T.Block.last _ (c.loop-own_at.own_at + 1) _ block));
       own_bound = inv.own_bound;
       other_bound = inv.other_bound;
       own_kept = read.kept ∙ inv.own_kept;
@@ -83,8 +103,13 @@ loop-own_at-preserved g c =
     let inv = c.loop-own_at.invariant in
     let read = c.read_at-other_block-in-OtherEnds.ensures in
     let turn = meet-other_ends f form number _ _ _ _ _ c.loop-own_at.own_block c.loop-own_at.other_block c.read_at-other_block-in-OtherEnds.result c.in-OtherEnds.low c.in-OtherEnds.high c.new-in-OtherEnds.result inv.walk c.in-OtherEnds.ensures c.new-in-OtherEnds.ensures.bounds (c.new-in-OtherEnds.ensures.value ∙ ap form (sym c.new-in-OtherEnds.ensures.bounds)) in
+    let block = rw inv.other_kept at read.block in
+    let more = read_next f number g.T.Block.last _ c.loop-own_at.other_at c.read_at-other_block-in-OtherEnds.result _ _ block read.counted in
+    let before = inv.other_reads in
     record {
-      walk = rw c.in_ok-push-in-OtherEnds.ensures.items (turn.1 (IsAt-from f number g.T.Block.last _ (c.loop-own_at.other_at + 1) _ (rw inv.other_kept at read.block)));
+      own_reads = inv.own_reads;
+      other_reads = omega arith;
+      walk = rw c.in_ok-push-in-OtherEnds.ensures.items (turn.1 (IsAt-from f number g.T.Block.last _ (c.loop-own_at.other_at + 1) _ block));
       own_bound = inv.own_bound;
       other_bound = inv.other_bound;
       own_kept = inv.own_kept;

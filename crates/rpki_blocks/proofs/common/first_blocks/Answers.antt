@@ -35,6 +35,7 @@ loop-at-preserved g c =
     let is : c.new.result ≡ x = c.new.ensures.value ∙ ap form (sym here ∙ ap f (sym found.1)) ∙ sym new in
     let more : take c.loop-at.at xs ++ x ∷ [] ≡ take (c.loop-at.at + 1) xs = ap (λ y. take c.loop-at.at xs ++ y ∷ []) found.1 ∙ sym (take_more xs c.loop-at.at x within) in
     record {
+      reads = (let before = inv.reads in let counted = c.read-min.ensures.counted in omega arith);
       made = c.in_ok-push.ensures.items ∙ ap (λ ys. ys ++ c.new.result ∷ []) inv.made ∙ ap (λ y. take c.loop-at.at xs ++ y ∷ []) is ∙ more;
       kept = c.read-min.ensures.kept ∙ inv.kept;
       chain = inv.chain;

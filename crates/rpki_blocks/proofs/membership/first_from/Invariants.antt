@@ -1,10 +1,12 @@
 -- All blocks before the part that is searched end before the item; the one behind it was found, or none is there.
 use Rattle.std.proofs.Common.{◌≡◌, ℕ, ◌-◌, ◌<◌, ◌≤◌, length, get_or, IfSome}
 use Rattle.rpki_blocks.specs.Sets.{IsChain, HoldsBlock}
+use Rattle.rpki_blocks.proofs.Counts.{Halved}
 use Rattle.rpki_blocks.proofs.membership.first_from.Given as goal
 
 abbrev pub invariant-loop-low : goal.invariant-loop-low
 invariant-loop-low g l = record {
+  halved : Halved (length (g.R.Reads.blocks l.fn.chain)) (l.high - l.low) (g.R.Reads.count l.fn.chain) (g.R.Reads.count l.chain);
   chain : IsChain g.T.Block.bounds g.T.Block.form (g.R.Reads.blocks l.fn.chain);
   kept : g.R.Reads.blocks l.chain ≡ g.R.Reads.blocks l.fn.chain;
   ordered : l.low ≤ l.high;

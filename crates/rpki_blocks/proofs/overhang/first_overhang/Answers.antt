@@ -1,5 +1,6 @@
 -- Each turn is done with one block, and a block that reaches beyond the other chain is an overhang.
-use Rattle.std.proofs.Common.{◌+◌, ◌∙◌}
+use Rattle.std.proofs.Common.{◌+◌, ◌∙◌, arith}
+use Rattle.rpki_blocks.proofs.Counts.{read_first, read_next}
 use Rattle.rpki_blocks.proofs.Sides.{IsAt-from}
 use Rattle.rpki_blocks.proofs.Insides.{Inside-start}
 use Rattle.rpki_blocks.proofs.FitTurns.{fit-skip, fit-inside, fit-beyond}
@@ -13,6 +14,8 @@ loop-other_at-init g c =
     let own = c.read_at-own_block.ensures in
     let other = c.read_at-other_block.ensures in
     record {
+      own_reads = read_first f number g.T.Block.last _ _ _ _ own.block own.counted;
+      other_reads = read_first f number g.T.Block.last _ _ _ _ other.block other.counted;
       walk = Inside-start f form _ _ _ _ own.chain other.chain (IsAt-from f number g.T.Block.last _ 0 _ own.block) (IsAt-from f number g.T.Block.last _ 0 _ other.block);
       own_block = own.block;
       other_block = other.block;
@@ -31,7 +34,11 @@ loop-other_at-preserved-in-Skip g c =
     let read = c.read_at-other_block-in-Skip.ensures in
     let block = rw inv.other_kept at read.block in
     let turn = fit-skip f form number _ _ _ _ c.loop-other_at.own_block c.loop-other_at.other_block c.read_at-other_block-in-Skip.result inv.walk c.in-Skip.ensures in
+    let more = read_next f number g.T.Block.last _ c.loop-other_at.other_at c.read_at-other_block-in-Skip.result _ _ block read.counted in
+    let before = inv.other_reads in
     record {
+      own_reads = inv.own_reads;
+      other_reads = omega arith;
       walk = turn.1 (IsAt-from f number g.T.Block.last _ (c.loop-other_at.other_at + 1) _ block);
       own_block = inv.own_block;
       other_block = block;
@@ -50,7 +57,11 @@ loop-other_at-preserved g c =
     let read = c.read_at-own_block-in-Inside.ensures in
     let block = rw inv.own_kept at read.block in
     let turn = fit-inside f form number _ _ _ _ c.loop-other_at.own_block c.loop-other_at.other_block c.read_at-own_block-in-Inside.result inv.walk c.in-Inside.ensures in
+    let more = read_next f number g.T.Block.last _ c.loop-other_at.own_at c.read_at-own_block-in-Inside.result _ _ block read.counted in
+    let before = inv.own_reads in
     record {
+      own_reads = omega arith;
+      other_reads = inv.other_reads;
       walk = turn.1 (IsAt-from f number g.T.Block.last _ (c.loop-other_at.own_at + 1) _ block);
       own_block = block;
       other_block = inv.other_block;

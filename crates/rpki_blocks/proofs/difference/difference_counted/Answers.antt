@@ -4,8 +4,9 @@ use Rattle.std.proofs.lemmas.List.{length_push}
 use Rattle.rpki_blocks.specs.Sets.{Covers}
 use Rattle.rpki_blocks.proofs.Chains.{IsChainOf-from}
 use Rattle.rpki_blocks.proofs.Sides.{IsAt-from}
+use Rattle.rpki_blocks.proofs.Counts.{read_first, read_next}
 use Rattle.rpki_blocks.proofs.CutTurns.{Walk-start, turn-end, turn-done, turn-skip, turn-keep, turn-drop, turn-advance, turn-split}
-use Rattle.rpki_blocks.proofs.difference.difference.Goals as goal
+use Rattle.rpki_blocks.proofs.difference.difference_counted.Goals as goal
 
 pub loop-other_at-init : goal.loop-other_at-init
 loop-other_at-init g c =
@@ -16,6 +17,8 @@ loop-other_at-init g c =
     let rest = c.read_at-rest.ensures in
     let cut = c.read_at-cut.ensures in
     record {
+      own_reads = read_first f number last _ _ _ _ rest.block rest.counted;
+      other_reads = read_first f number last _ _ _ _ cut.block cut.counted;
       walk = rw c.new-chain.ensures.items (Walk-start f form number _ _ c.read_at-rest.result c.read_at-cut.result rest.chain cut.chain (IsAt-from f number last _ 0 _ rest.block) (IsAt-from f number last _ 0 _ cut.block));
       few = (let none = c.new-chain.ensures.items in rw none (omega arith));
       valid = rest.valid;
@@ -36,8 +39,13 @@ loop-other_at-preserved-in-Skip g c =
     let few = inv.few in
     let read = c.read_at-cut-in-Skip.ensures in
     let turn = turn-skip f form number _ _ _ _ _ c.loop-other_at.rest c.loop-other_at.cut inv.walk c.in-Skip.ensures in
+    let block = rw inv.other_kept at read.block in
+    let more = read_next f number last _ c.loop-other_at.other_at c.read_at-cut-in-Skip.result _ _ block read.counted in
+    let before = inv.other_reads in
     record {
-      walk = turn.1 c.read_at-cut-in-Skip.result (IsAt-from f number last _ (c.loop-other_at.other_at + 1) _ (rw inv.other_kept at read.block));
+      own_reads = inv.own_reads;
+      other_reads = omega arith;
+      walk = turn.1 c.read_at-cut-in-Skip.result (IsAt-from f number last _ (c.loop-other_at.other_at + 1) _ block);
       few = omega arith;
       valid = inv.valid;
       own_bound = inv.own_bound;
@@ -58,8 +66,13 @@ loop-other_at-preserved-in-Keep g c =
     let read = c.read_at-rest-in-Keep.ensures in
     let turn = turn-keep f form number _ _ _ _ _ c.loop-other_at.rest c.loop-other_at.cut c.in-Keep.min c.in-Keep.max inv.walk c.in-Keep.ensures in
     let pushed = length_push c.loop-other_at.chain.items c.new.result in
+    let block = rw inv.own_kept at read.block in
+    let more = read_next f number last _ c.loop-other_at.own_at c.read_at-rest-in-Keep.result _ _ block read.counted in
+    let before = inv.own_reads in
     record {
-      walk = rw c.in_ok-push-in-Keep.ensures.items (turn.2 c.read_at-rest-in-Keep.result c.new.result c.new.ensures.bounds (c.new.ensures.value ∙ ap form (sym c.new.ensures.bounds)) (IsAt-from f number last _ (c.loop-other_at.own_at + 1) _ (rw inv.own_kept at read.block)));
+      own_reads = omega arith;
+      other_reads = inv.other_reads;
+      walk = rw c.in_ok-push-in-Keep.ensures.items (turn.2 c.read_at-rest-in-Keep.result c.new.result c.new.ensures.bounds (c.new.ensures.value ∙ ap form (sym c.new.ensures.bounds)) (IsAt-from f number last _ (c.loop-other_at.own_at + 1) _ block));
       few = rw c.in_ok-push-in-Keep.ensures.items (omega arith);
       valid = read.valid;
       own_bound = inv.own_bound;
@@ -79,8 +92,13 @@ loop-other_at-preserved-in-Drop g c =
     let few = inv.few in
     let read = c.read_at-rest-in-Drop.ensures in
     let turn = turn-drop f form number _ _ _ _ _ c.loop-other_at.rest c.loop-other_at.cut inv.walk c.in-Drop.ensures in
+    let block = rw inv.own_kept at read.block in
+    let more = read_next f number last _ c.loop-other_at.own_at c.read_at-rest-in-Drop.result _ _ block read.counted in
+    let before = inv.own_reads in
     record {
-      walk = turn.1 c.read_at-rest-in-Drop.result (IsAt-from f number last _ (c.loop-other_at.own_at + 1) _ (rw inv.own_kept at read.block));
+      own_reads = omega arith;
+      other_reads = inv.other_reads;
+      walk = turn.1 c.read_at-rest-in-Drop.result (IsAt-from f number last _ (c.loop-other_at.own_at + 1) _ block);
       few = omega arith;
       valid = read.valid;
       own_bound = inv.own_bound;
@@ -101,8 +119,13 @@ loop-other_at-preserved-in-Split g c =
     let read = c.read_at-cut-in-Split.ensures in
     let turn = turn-split f form number first last _ _ _ _ _ c.loop-other_at.rest c.loop-other_at.cut c.in-Split.min c.in-Split.end c.in-Split.next c.in-Split.max inv.walk c.in-Split.ensures inv.valid in
     let pushed = length_push c.loop-other_at.chain.items c.new-in-Split.result in
+    let block = rw inv.other_kept at read.block in
+    let more = read_next f number last _ c.loop-other_at.other_at c.read_at-cut-in-Split.result _ _ block read.counted in
+    let before = inv.other_reads in
     record {
-      walk = rw c.in_ok-push-in-Split.ensures.items (turn.4 c.read_at-cut-in-Split.result c.new-in-Split.result c.new-in-Split.ensures.bounds (c.new-in-Split.ensures.value ∙ ap form (sym c.new-in-Split.ensures.bounds)) (IsAt-from f number last _ (c.loop-other_at.other_at + 1) _ (rw inv.other_kept at read.block)));
+      own_reads = inv.own_reads;
+      other_reads = omega arith;
+      walk = rw c.in_ok-push-in-Split.ensures.items (turn.4 c.read_at-cut-in-Split.result c.new-in-Split.result c.new-in-Split.ensures.bounds (c.new-in-Split.ensures.value ∙ ap form (sym c.new-in-Split.ensures.bounds)) (IsAt-from f number last _ (c.loop-other_at.other_at + 1) _ block));
       few = rw c.in_ok-push-in-Split.ensures.items (omega arith);
       valid = (turn.2, turn.3);
       own_bound = inv.own_bound;
@@ -122,8 +145,13 @@ loop-other_at-preserved g c =
     let few = inv.few in
     let read = c.read_at-cut-in-Advance.ensures in
     let turn = turn-advance f form number first last _ _ _ _ _ c.loop-other_at.rest c.loop-other_at.cut c.in-Advance.next c.in-Advance.max inv.walk c.in-Advance.ensures inv.valid in
+    let block = rw inv.other_kept at read.block in
+    let more = read_next f number last _ c.loop-other_at.other_at c.read_at-cut-in-Advance.result _ _ block read.counted in
+    let before = inv.other_reads in
     record {
-      walk = turn.3 c.read_at-cut-in-Advance.result (IsAt-from f number last _ (c.loop-other_at.other_at + 1) _ (rw inv.other_kept at read.block));
+      own_reads = inv.own_reads;
+      other_reads = omega arith;
+      walk = turn.3 c.read_at-cut-in-Advance.result (IsAt-from f number last _ (c.loop-other_at.other_at + 1) _ block);
       few = omega arith;
       valid = (turn.1, turn.2);
       own_bound = inv.own_bound;

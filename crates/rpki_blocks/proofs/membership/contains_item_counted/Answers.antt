@@ -3,7 +3,7 @@ use Rattle.std.proofs.Common.{◌≤◌, IsTrue, arith}
 use Rattle.std.proofs.lemmas.Grind.{common_steps}
 use Rattle.rpki_blocks.specs.Sets.{Covers, numbers}
 use Rattle.rpki_blocks.proofs.Searches.{has_number}
-use Rattle.rpki_blocks.proofs.membership.contains_item.Goals as goal
+use Rattle.rpki_blocks.proofs.membership.contains_item_counted.Goals as goal
 
 pub returns-in-Some-clause-value : goal.returns-in-Some-clause-value
 returns-in-Some-clause-value g c =

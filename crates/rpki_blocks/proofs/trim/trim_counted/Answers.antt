@@ -2,7 +2,7 @@
 use Rattle.std.proofs.Common.{subst}
 use Rattle.rpki_blocks.specs.Sets.{Covers, IsChainOf}
 use Rattle.rpki_blocks.proofs.FitTurns.{overhang-not_inside}
-use Rattle.rpki_blocks.proofs.trim.trim.Goals as goal
+use Rattle.rpki_blocks.proofs.trim.trim_counted.Goals as goal
 
 pub returns-in-Ok-clause-ok : goal.returns-in-Ok-clause-ok
 returns-in-Ok-clause-ok g c = (λ e. absurd cc, λ all. absurd (overhang-not_inside g.T.Block.bounds g.T.Block.form g.T.Block.number g.T.Block.last _ _ c.in-Some.overhang c.in-Some.ensures.value all))

@@ -1,10 +1,11 @@
 -- Each turn takes in the block that begins first; at the end the last run is closed, and nothing is left.
-use Rattle.std.proofs.Common.{◌+◌, ◌∙◌, ap, sym}
+use Rattle.std.proofs.Common.{◌∙◌, ap, sym, arith}
 use Rattle.rpki_blocks.specs.Sets.{numbers}
+use Rattle.rpki_blocks.proofs.Counts.{read_first, read_next}
 use Rattle.rpki_blocks.proofs.Joining.{closed_run}
 use Rattle.rpki_blocks.proofs.Merges.{Merge-swap, merge-ordered, merge-start, merge-turn, merge-done, closed_union, union_few}
-use Rattle.rpki_blocks.proofs.union.union.Goals as goal
-use Rattle.rpki_blocks.proofs.union.union.Goals.{in-Own, in-Other}
+use Rattle.rpki_blocks.proofs.union.union_counted.Goals as goal
+use Rattle.rpki_blocks.proofs.union.union_counted.Goals.{in-Own, in-Other}
 
 pub loop-min-init : goal.loop-min-init
 loop-min-init g c =
@@ -17,6 +18,8 @@ loop-min-init g c =
     let own = c.read_at-own_block.ensures in
     let other = c.read_at-other_block.ensures in
     record {
+      own_reads = read_first f number last _ _ _ _ own.block own.counted;
+      other_reads = read_first f number last _ _ _ _ other.block other.counted;
       walk = rw c.in_ok-chain.ensures.items (elim c.match-next_turn.branch [
         | in-Own w ↦ rw w.run-is (merge-start f form number last xs ys c.read_at-own_block.result c.read_at-other_block.result (w.in-Own.min, w.in-Own.max) own.chain other.chain own.block other.block w.in-Own.ensures.0 w.in-Own.ensures.1)
         | in-Other w ↦ rw w.run-is (Merge-swap f form last _ _ _ _ _ _ _ _ (merge-start f form number last ys xs c.read_at-other_block.result c.read_at-own_block.result (w.in-Other.min, w.in-Other.max) other.chain own.chain other.block own.block w.in-Other.ensures.0 w.in-Other.ensures.1))
@@ -45,7 +48,11 @@ loop-min-preserved-in-Own-next_turn g c =
     let read = c.read_at-own_block-in-Own-next_turn.ensures in
     let block = rw inv.own_kept at read.block in
     let step = c.in_ok-run-in-Own-next_turn.ensures in
+    let more = read_next f number last _ c.loop-min.own_at c.read_at-own_block-in-Own-next_turn.result _ _ block read.counted in
+    let before = inv.own_reads in
     record {
+      own_reads = omega arith;
+      other_reads = inv.other_reads;
       walk = merge-turn f form number last _ _ _ _ c.loop-min.own_block c.loop-min.other_block c.read_at-own_block-in-Own-next_turn.result c.in-Own-next_turn.min c.in-Own-next_turn.max _ _ _ _ inv.walk c.in-Own-next_turn.ensures.0 c.in-Own-next_turn.ensures.1 block step.run step.behind step.held;
       own_block = block;
       other_block = inv.other_block;
@@ -65,7 +72,11 @@ loop-min-preserved g c =
     let read = c.read_at-other_block-in-Other-next_turn.ensures in
     let block = rw inv.other_kept at read.block in
     let step = c.in_ok-run-in-Other-next_turn.ensures in
+    let more = read_next f number last _ c.loop-min.other_at c.read_at-other_block-in-Other-next_turn.result _ _ block read.counted in
+    let before = inv.other_reads in
     record {
+      own_reads = inv.own_reads;
+      other_reads = omega arith;
       walk = Merge-swap f form last _ _ _ _ _ _ _ _ (merge-turn f form number last _ _ _ _ c.loop-min.other_block c.loop-min.own_block c.read_at-other_block-in-Other-next_turn.result c.in-Other-next_turn.min c.in-Other-next_turn.max _ _ _ _ (Merge-swap f form last _ _ _ _ _ _ _ _ inv.walk) c.in-Other-next_turn.ensures.0 c.in-Other-next_turn.ensures.1 block step.run step.behind step.held);
       own_block = inv.own_block;
       other_block = block;

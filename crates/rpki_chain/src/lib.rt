@@ -5,13 +5,18 @@
 #![tactic(auto)]
 
 pub mod builder;
+pub mod choice;
+pub mod der;
 pub mod laws;
+pub mod resources;
 pub mod set;
 
 pub use block::Block;
 pub use builder::BlockSetBuilder;
 pub use chain::Chain;
+pub use choice::{InheritedResources, Listed, ResourcesChoice};
 pub use owned::OwnedChain;
+pub use resources::ResourcesBuilder;
 pub use set::BlockSet;
 pub use shared::SharedChain;
 

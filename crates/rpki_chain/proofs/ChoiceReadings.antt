@@ -1,0 +1,83 @@
+-- The reading of resources finds what the grammar says, and nothing else.
+use Rattle.std.proofs.Common.{◌≡◌, ◌≢◌, ℕ, ◌≤◌, List, [], ◌∷◌, Some, Result, Ok, refl, sym, subst, ◌∙◌, arith, inl, inr, slice_get}
+use Rattle.rpki_der.specs.declared.error.DerError.{DerError}
+use Rattle.rpki_der.specs.Der.{IsBytes, IsNothing, IsSequence, IsTlv, IsValue, Refines}
+use Rattle.rpki_der.specs.Reading.{IsReading, nothing}
+use Rattle.rpki_der.proofs.Contents.{nothing_check}
+use Rattle.rpki_der.proofs.Readings.{same_reading}
+use Rattle.rpki_der.proofs.Steps.{IsCheck, bind_ok}
+use Rattle.rpki_base.specs.DerReading.{SaysByTag}
+use Rattle.rpki_base.proofs.DerReadings.{by_tag_reading, mapped_check}
+use Rattle.rpki_chain.specs.declared.choice.ResourcesChoice.{ResourcesChoice}
+use Rattle.rpki_chain.specs.declared.choice.ResourcesChoice.TheVariants.{Missing, Inherit, Blocks}
+use Rattle.rpki_chain.specs.ChoiceDer.{IsChoiceOf, choice_at, inherited_in, listed_in, some_in, some_of}
+use Rattle.rpki_chain.specs.Runs.{Runs, Holds, IsRunsOfBlocks}
+use Rattle.rpki_blocks.specs.Sets.{Covers}
+use Rattle.rpki_blocks.proofs.Chains.{Covers-nil}
+use Rattle.rpki_blocks.proofs.Unique.{Covers-head}
+
+-- blocks of which the first has a number have numbers
+pub has_numbers : {B : Type 0} (f : B → ℕ × ℕ) (xs : List B) (x : B) (set : Runs) → slice_get xs 0 ≡ Some x → (f x).0 ≤ (f x).1 → IsRunsOfBlocks f xs set → set ≢ []
+has_numbers f [] x set at ordered is none = absurd cc
+has_numbers {B} f (y ∷ ys) x set at ordered is none =
+    let first : y ≡ x = cc in
+    let covered : Covers f (y ∷ ys) (f y).0 = Covers-head f y ys (f y).0 (omega arith, subst (λ (z : B). (f z).0 ≤ (f z).1) (sym first) ordered) in
+    Covers-nil (λ b. b) (f y).0 (subst (λ (runs : Runs). Holds runs (f y).0) none ((is.members (f y).0).1 covered))
+
+module _ {X : Type 0} (Says : List ℕ → List X → Type 0) (values : List ℕ → Result (List X) DerError) (check : IsCheck IsBytes Says values) where
+  -- a content that says inherited resources, and one that says listed ones
+  SaysInherit : List ℕ → ResourcesChoice (List X) → Type 0
+  SaysInherit content choice = (u : Unit {0}) × IsNothing content u × (choice ≡ Inherit)
+
+  SaysSome : List ℕ → List X → Type 0
+  SaysSome content xs = Says content xs × (xs ≢ [])
+
+  SaysListed : List ℕ → ResourcesChoice (List X) → Type 0
+  SaysListed content choice = (xs : List X) × SaysSome content xs × (choice ≡ Blocks xs)
+
+  -- one value at least
+  some_says : (xs ys : List X) → some_of xs ≡ Ok ys → (xs ≡ ys) × (ys ≢ [])
+  some_says [] ys e = absurd cc
+  some_says (x ∷ xs) ys e = let same : x ∷ xs ≡ ys = cc in (same, λ none. (let no : x ∷ xs ≡ [] = same ∙ none in absurd cc))
+
+  some_again : (xs : List X) → xs ≢ [] → some_of xs ≡ Ok xs
+  some_again [] some = absurd (some refl)
+  some_again (x ∷ xs) some = refl
+
+  some_check : IsCheck IsBytes SaysSome (some_in values)
+  unfolding SaysSome
+  some_check = record {
+    takes = λ content xs fits e.
+        let a = bind_ok (values content) some_of xs e in
+        let b = some_says a.0 xs a.2 in
+        (subst (Says content) b.0 (check.takes content a.0 fits a.1), b.1);
+    again = λ content xs (says, some). rw (check.again content xs says) (some_again xs some);
+  }
+
+  nothing_is : IsCheck IsBytes IsNothing nothing
+  nothing_is = record { takes = λ content u fits e. nothing_check.takes content u tt e; again = nothing_check.again }
+
+  Sequences : List ℕ → List X → Type 0
+  Sequences = Refines IsSequence Says
+
+  to : (bytes : List ℕ) (choice : ResourcesChoice (List X)) → IsBytes bytes → Refines IsTlv (SaysByTag 5 SaysInherit SaysListed) bytes choice → IsChoiceOf Sequences bytes choice
+  unfolding Sequences SaysInherit SaysListed SaysSome
+  to bytes choice fits (v, is, inl (t, (u, none, e))) =
+      subst (IsChoiceOf Sequences bytes) (sym e) (subst (λ (content : List ℕ). IsValue bytes 5 content) none (subst (λ (tag : ℕ). IsValue bytes tag v.content) t is))
+  to bytes choice fits (v, is, inr (t, (xs, (says, some), e))) =
+      subst (IsChoiceOf Sequences bytes) (sym e) ((v.content, subst (λ (tag : ℕ). IsValue bytes tag v.content) t is, says), some)
+
+  from : (bytes : List ℕ) (choice : ResourcesChoice (List X)) → IsChoiceOf Sequences bytes choice → Refines IsTlv (SaysByTag 5 SaysInherit SaysListed) bytes choice
+  unfolding Sequences SaysInherit SaysListed SaysSome
+  from bytes Missing is = absurd is
+  from bytes Inherit is = (record { tag = 5; content = [] }, is, inl (refl, (tt, refl, refl)))
+  from bytes (Blocks xs) ((content, is, says), some) = (record { tag = 48; content = content }, is, inr (refl, (xs, (says, some), refl)))
+
+  -- resources whose blocks are the values of a content
+  pub choice_reading : IsReading (IsChoiceOf (Refines IsSequence Says)) (choice_at values)
+  unfolding Sequences SaysInherit SaysListed SaysSome
+  choice_reading =
+      same_reading (Refines IsTlv (SaysByTag 5 SaysInherit SaysListed)) (IsChoiceOf Sequences) (choice_at values) to from
+      (by_tag_reading 5 SaysInherit SaysListed inherited_in (listed_in values) (λ e. omega arith)
+      (mapped_check IsBytes IsNothing nothing (λ u. Inherit) nothing_is)
+      (mapped_check IsBytes SaysSome (some_in values) Blocks some_check))

@@ -1,0 +1,57 @@
+-- Resources in DER (RFC 3779, 2.2.3.5 and 3.2.3.3), whatever their blocks are.
+use Rattle.std.specs.Prelude.{◌≡◌, ◌≢◌, ℕ, List, [], ◌∷◌, Result, Ok, Err}
+use Rattle.rpki_der.specs.declared.error.DerError.{DerError}
+use Rattle.rpki_der.specs.declared.error.DerError.TheVariants.{EmptyBlocks}
+use Rattle.rpki_der.specs.Der.{IsNull, Refines, Tlv, null_value}
+use Rattle.rpki_der.specs.Reading.{◌>>=◌, nothing, refined, value_at}
+use Rattle.rpki_text.specs.declared.memory.OrMemory.{OrMemory}
+use Rattle.rpki_text.specs.Memory.{IfRefused}
+use Rattle.rpki_base.specs.DerReading.{by_tag}
+use Rattle.rpki_chain.specs.declared.choice.ResourcesChoice.{ResourcesChoice}
+use Rattle.rpki_chain.specs.declared.choice.ResourcesChoice.TheVariants.{Missing, Inherit, Blocks}
+use Rattle.rpki_chain.specs.Choices.{ListsBy}
+
+-- NULL for inherited resources, and else a sequence of S, of one value at least
+abbrev pub IsChoiceOf : {X : Type 0} → (List ℕ → List X → Type 0) → List ℕ → ResourcesChoice (List X) → Type 0
+IsChoiceOf S bytes Missing = ⊥
+IsChoiceOf S bytes Inherit = IsNull bytes tt
+IsChoiceOf S bytes (Blocks xs) = S bytes xs × (xs ≢ [])
+
+-- the same, where the values of a sequence stand for what is listed by the rule C
+abbrev pub IsResourcesOf : {X Y : Type 0} → (List ℕ → List X → Type 0) → (List X → Y → Type 0) → List ℕ → ResourcesChoice Y → Type 0
+IsResourcesOf S C = Refines (IsChoiceOf S) (ListsBy C)
+
+-- ---- what is written: nothing for missing resources
+
+abbrev pub choice_octets : {Y : Type 0} → (Y → List ℕ) → ResourcesChoice Y → List ℕ
+choice_octets octets Missing = []
+choice_octets octets Inherit = null_value
+choice_octets octets (Blocks y) = octets y
+
+-- ---- what is read, from left to right, with the first fault
+
+-- one value at least
+abbrev pub some_of : {X : Type 0} → List X → Result (List X) DerError
+some_of [] = Err EmptyBlocks
+some_of (x ∷ xs) = Ok (x ∷ xs)
+
+abbrev pub some_in : {X : Type 0} → (List ℕ → Result (List X) DerError) → List ℕ → Result (List X) DerError
+some_in values content = values content >>= some_of
+
+abbrev pub inherited_in : {X : Type 0} → List ℕ → Result (ResourcesChoice X) DerError
+inherited_in content = nothing content >>= λ u. Ok Inherit
+
+abbrev pub listed_in : {X : Type 0} → (List ℕ → Result (List X) DerError) → List ℕ → Result (ResourcesChoice (List X)) DerError
+listed_in values content = some_in values content >>= λ xs. Ok (Blocks xs)
+
+abbrev pub choice_in : {X : Type 0} → (List ℕ → Result (List X) DerError) → Tlv → Result (ResourcesChoice (List X)) DerError
+choice_in values = by_tag 5 inherited_in (listed_in values)
+
+-- resources at the front, whose blocks are the values of a content
+abbrev pub choice_at : {X : Type 0} → (List ℕ → Result (List X) DerError) → List ℕ → Result (ResourcesChoice (List X) × List ℕ) DerError
+choice_at values = refined value_at (choice_in values)
+
+-- what a call answered is said, by C, by what reading gives; want of memory says nothing
+abbrev pub GivesSaidOrMemory : {X Y : Type 0} → (Y → X → Type 0) → Result X (OrMemory DerError) → Result Y DerError → Type 0
+GivesSaidOrMemory {X} {Y} C (Ok x) read = (y : Y) × (read ≡ Ok y) × C y x
+GivesSaidOrMemory C (Err e) read = IfRefused (λ fault. read ≡ Err fault) e

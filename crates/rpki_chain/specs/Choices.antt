@@ -1,0 +1,28 @@
+-- What is said of resources: that they are missing, inherited or listed.
+use Rattle.std.specs.Prelude.{◌≡◌, ℕ, List, [], Option, Some, Result, Ok, Err, codes, ⊤}
+use Rattle.rpki_text.specs.declared.memory.OrMemory.{OrMemory}
+use Rattle.rpki_text.specs.declared.memory.OrMemory.TheVariants.{Refused, Memory}
+use Rattle.rpki_chain.specs.declared.choice.ResourcesChoice.{ResourcesChoice}
+use Rattle.rpki_chain.specs.declared.choice.ResourcesChoice.TheVariants.{Missing, Inherit, Blocks}
+
+-- M where the resources are missing, I where they are inherited, and B of what is listed
+abbrev pub MatchChoice : {X : Type 0} → ResourcesChoice X → Type 0 → Type 0 → (X → Type 0) → Type 0
+MatchChoice Missing M I B = M
+MatchChoice Inherit M I B = I
+MatchChoice (Blocks x) M I B = B x
+
+-- the same choice, where what is listed stands in the relation R
+abbrev pub ListsBy : {X Y : Type 0} → (X → Y → Type 0) → ResourcesChoice X → ResourcesChoice Y → Type 0
+ListsBy {X} {Y} R x y = MatchChoice x (y ≡ Missing) (y ≡ Inherit) (λ listed. (other : Y) × R listed other × (y ≡ Blocks other))
+
+-- the call refuses what it was given
+abbrev pub IsRefused : {X E : Type 0} → Result X (OrMemory E) → Type 0
+IsRefused (Ok x) = ⊥
+IsRefused (Err (Refused e)) = ⊤
+IsRefused (Err (Memory e)) = ⊥
+
+-- what is printed: nothing, `inherit`, or the text of what is listed, if it is known
+abbrev pub choice_text : {X : Type 0} → (X → Option (List ℕ)) → ResourcesChoice X → Option (List ℕ)
+choice_text text Missing = Some []
+choice_text text Inherit = Some (codes "inherit")
+choice_text text (Blocks x) = text x

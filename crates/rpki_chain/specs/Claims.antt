@@ -1,0 +1,38 @@
+-- Claims on the numbers of a kind, and what builders make.
+use Rattle.std.specs.Prelude.{◌≡◌, ◌≢◌, ℕ, List, [], ◌∷◌, Option, Some, None, ⊤}
+use Rattle.rpki_chain.specs.Runs.{Runs, Holds, IsRunsOf}
+use Rattle.rpki_chain.specs.declared.choice.ResourcesChoice.{ResourcesChoice}
+use Rattle.rpki_chain.specs.declared.choice.ResourcesChoice.TheVariants.{Missing, Inherit, Blocks}
+
+-- missing, inherited, or the runs of a set
+abbrev pub Claim : Type 0
+Claim = ResourcesChoice Runs
+
+-- what is listed isn't empty
+abbrev pub ListsSome : Claim → Type 0
+ListsSome Missing = ⊤
+ListsSome Inherit = ⊤
+ListsSome (Blocks runs) = runs ≢ []
+
+-- what is listed is such a set, and isn't empty
+abbrev pub IsClaim : (Runs → Type 0) → Claim → Type 0
+IsClaim IsSet Missing = ⊤
+IsClaim IsSet Inherit = ⊤
+IsClaim IsSet (Blocks runs) = IsSet runs × (runs ≢ [])
+
+-- the claim that lists a set, and a missing one where the set is empty
+abbrev pub claim_of : Runs → Claim
+claim_of [] = Missing
+claim_of (run ∷ runs) = Blocks (run ∷ runs)
+
+-- ---- built block by block
+
+-- the blocks so far, which are none where resources are inherited
+abbrev pub blocks_so_far : Option (List (ℕ × ℕ)) → List (ℕ × ℕ)
+blocks_so_far None = []
+blocks_so_far (Some blocks) = blocks
+
+-- the claim is inherited, or lists the set of the numbers that some block has
+abbrev pub IsBuilt : Option (List (ℕ × ℕ)) → Claim → Type 0
+IsBuilt None claim = claim ≡ Inherit
+IsBuilt (Some blocks) claim = (set : Runs) × IsRunsOf (Holds blocks) set × (claim ≡ claim_of set)

@@ -1,0 +1,105 @@
+//! What is said of resources: that there are none, that they are the issuer's, or which they are.
+ghost use Rattle.std.specs.Prelude.{◌≡◌, ◌↔◌, IsTrue, IfOk, Ok, MatchResult, ⊤};
+ghost use Rattle.rpki_text.specs.Memory.{IsMemory};
+ghost use Rattle.rpki_chain.specs.Choices.{ListsBy, MatchChoice, IsRefused, choice_text};
+ghost use Rattle.rpki_chain.specs.declared.choice.ResourcesChoice.TheVariants.{Missing, Inherit};
+
+use rpki_text::memory::OrMemory;
+use std::alloc::AllocError;
+use std::fmt;
+
+/// Resources of one kind: missing, inherited from the issuer, or listed (RFC 3779, 2.2.3.5 and 3.2.3.3).
+#[derive(Debug, PartialEq, Eq, Drop)]
+pub enum ResourcesChoice<T> {
+    /// There are none.
+    Missing,
+    /// They are those of the issuer.
+    Inherit,
+    /// They are these.
+    Blocks(T),
+}
+
+/// Sets that resources list.
+pub trait Listed: Drop {
+    // The set of nothing.
+    ghost nothing: { Self };
+
+    /// The set of nothing.
+    fn empty() -> Self
+        ensures { result ≡ nothing };
+
+    /// A set that equals this one. `AllocError` where there is no memory for it.
+    fn copy(&self) -> Result<Self, AllocError>
+        ensures { IfOk result (λ copy. copy ≡ self.now) };
+}
+
+/// Resources are inherited, and so are no set by themselves.
+#[derive(Clone, Copy, Debug, PartialEq, Eq)]
+pub struct InheritedResources;
+
+impl<T> ResourcesChoice<T> {
+    /// Whether the resources are those of the issuer.
+    pub fn is_inherited(&self) -> bool
+        ensures { IsTrue result ↔ (self.now ≡ Inherit) }
+    {
+        matches!(self, ResourcesChoice::Inherit)
+    }
+
+    /// Whether the resources are inherited or listed.
+    pub fn is_present(&self) -> bool
+        ensures { IsTrue result ↔ (self.now ≡ Missing → ⊥) }
+    {
+        !matches!(self, ResourcesChoice::Missing)
+    }
+
+    /// The same choice, with what the function answers in the place of what is listed. The function is called there alone.
+    pub fn map_blocks<U, F: FnOnce(T) -> U>(self, f: F) -> ResourcesChoice<U>
+        requires { MatchChoice self ⊤ ⊤ (F.pre f) }
+        ensures { ListsBy (F.post f) self result }
+    {
+        match self {
+            ResourcesChoice::Missing => ResourcesChoice::Missing,
+            ResourcesChoice::Inherit => ResourcesChoice::Inherit,
+            ResourcesChoice::Blocks(listed) => ResourcesChoice::Blocks(f(listed)),
+        }
+    }
+}
+
+impl<T: Listed> ResourcesChoice<T> {
+    /// The set that is listed, or the set of nothing where the resources are missing. `Refused` where they are inherited,
+    /// `Memory` where there is no memory for a copy of what is listed.
+    pub fn to_blocks(&self) -> Result<T, OrMemory<InheritedResources>>
+        ensures { MatchChoice self.now (result ≡ Ok T.nothing) (IsRefused result)
+            (λ listed. MatchResult result (λ set. set ≡ listed) IsMemory) }
+    {
+        match self {
+            ResourcesChoice::Missing => Ok(T::empty()),
+            ResourcesChoice::Inherit => Err(OrMemory::Refused(InheritedResources)),
+            ResourcesChoice::Blocks(listed) => Ok(listed.copy()?),
+        }
+    }
+
+    /// A choice that equals this one. `AllocError` where there is no memory for what it lists.
+    pub fn clone(&self) -> Result<Self, AllocError>
+        ensures { IfOk result (λ choice. choice ≡ self.now) }
+    {
+        match self {
+            ResourcesChoice::Missing => Ok(ResourcesChoice::Missing),
+            ResourcesChoice::Inherit => Ok(ResourcesChoice::Inherit),
+            ResourcesChoice::Blocks(listed) => Ok(ResourcesChoice::Blocks(listed.copy()?)),
+        }
+    }
+}
+
+/// Prints nothing for missing resources, `inherit` for inherited ones, and else what is listed.
+impl<T: fmt::Display> fmt::Display for ResourcesChoice<T> {
+    ghost output = { choice_text T.output };
+
+    fn fmt<W: fmt::Write>(&self, f: &mut fmt::Formatter<W>) -> fmt::Result {
+        match self {
+            ResourcesChoice::Missing => Ok(()),
+            ResourcesChoice::Inherit => f.write_str("inherit"),
+            ResourcesChoice::Blocks(listed) => listed.fmt(f),
+        }
+    }
+}

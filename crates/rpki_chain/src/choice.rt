@@ -1,6 +1,7 @@
 //! What is said of resources: that there are none, that they are the issuer's, or which they are.
 ghost use Rattle.std.specs.Prelude.{◌≡◌, ◌↔◌, IsTrue, IfOk, Ok, MatchResult, ⊤};
 ghost use Rattle.rpki_text.specs.Memory.{IsMemory};
+ghost use Rattle.rpki_chain.specs.ChoiceEquality.{choice_eq, choice_equiv, choice_per};
 ghost use Rattle.rpki_chain.specs.Choices.{ListsBy, MatchChoice, IsRefused, choice_text};
 ghost use Rattle.rpki_chain.specs.declared.choice.ResourcesChoice.TheVariants.{Missing, Inherit};
 
@@ -9,7 +10,7 @@ use std::alloc::AllocError;
 use std::fmt;
 
 /// Resources of one kind: missing, inherited from the issuer, or listed (RFC 3779, 2.2.3.5 and 3.2.3.3).
-#[derive(Debug, PartialEq, Eq, Drop)]
+#[derive(Debug, Drop)]
 pub enum ResourcesChoice<T> {
     /// There are none.
     Missing,
@@ -102,4 +103,28 @@ impl<T: fmt::Display> fmt::Display for ResourcesChoice<T> {
             ResourcesChoice::Blocks(listed) => listed.fmt(f),
         }
     }
+}
+
+/// Resources are equal where both are missing, both are inherited, or both list what is equal.
+impl<T: PartialEq> PartialEq for ResourcesChoice<T> {
+    ghost eq = { choice_eq T.eq };
+
+    ghost laws = { choice_per T.eq T.laws };
+
+    fn eq(&self, other: &Self) -> bool
+        ensures { result ≡ choice_eq T.eq self.now other.now }
+    {
+        match self {
+            ResourcesChoice::Missing => matches!(other, ResourcesChoice::Missing),
+            ResourcesChoice::Inherit => matches!(other, ResourcesChoice::Inherit),
+            ResourcesChoice::Blocks(listed) => match other {
+                ResourcesChoice::Blocks(others) => listed == others,
+                _ => false,
+            },
+        }
+    }
+}
+
+impl<T: Eq> Eq for ResourcesChoice<T> {
+    ghost laws = { choice_equiv T.eq T.Eq.laws };
 }

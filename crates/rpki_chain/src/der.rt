@@ -1,21 +1,23 @@
 //! Resources in DER: NULL where they are inherited, and else a SEQUENCE of blocks, one at least (RFC 3779, 2.2.3.5 and
 //! 3.2.3.3).
-ghost use Rattle.std.specs.Prelude.{◌≢◌, [], IfOk};
+ghost use Rattle.std.specs.Prelude.{◌≡◌, ◌≢◌, ◌≤◌, ◌+◌, ◌^◌, ◌++◌, [], length, vec_len, IfOk, IfSome, IfNone, OnOk, OnErr, IsOk};
+ghost use Rattle.std.specs.Vec.{vec_capacity};
 ghost use Rattle.rpki_der.specs.Views.{Lenient, left, tlv};
 ghost use Rattle.rpki_base.specs.DerReading.{IsSequenceFrom, values_from};
 ghost use Rattle.rpki_base.specs.DerViews.{ReadsOrMemory, TakesSaidOrMemory};
+ghost use Rattle.rpki_base.specs.DerWriting.{sequence_octets};
 ghost use Rattle.rpki_chain.specs.Choices.{ListsBy};
-ghost use Rattle.rpki_chain.specs.ChoiceDer.{GivesSaidOrMemory, IsResourcesOf, choice_at, choice_in, some_in};
+ghost use Rattle.rpki_chain.specs.ChoiceDer.{GivesSaidOrMemory, IsResourcesOf, choice_at, choice_in, choice_octets, some_in};
 ghost use Rattle.rpki_chain.specs.Claims.{ListsSome};
 ghost use Rattle.rpki_chain.specs.Runs.{IsRunsOfBlocks};
 
 use crate::choice::ResourcesChoice;
 use crate::set::BlockSet;
-use rpki_base::der::{ReadNext, read_values};
+use rpki_base::der::{Encode, ReadNext, encode_sequence, read_values, sequence_len};
 use rpki_blocks::block::Block;
-use rpki_der::{Content, Cursor, DerError, tag};
+use rpki_der::{Content, Cursor, DerError, null_len, put_null, tag};
 use rpki_text::memory::OrMemory;
-use std::alloc::Allocator;
+use std::alloc::{AllocError, Allocator};
 
 /// Takes resources: a NULL, or a SEQUENCE of blocks in any order, overlapping or not.
 ///
@@ -90,4 +92,37 @@ fn set_within<T: Block, R: ReadNext<Value = T>, A: Allocator + Copy>(
     };
     let _bounds = first.bounds(); // read so that the proof sees that the block, and so the set, has a number
     Ok(BlockSet::from_blocks(alloc, blocks.as_slice())?)
+}
+
+/// How many octets `encode_choice` appends; None where no length can tell it.
+pub fn choice_len<V: Encode>(choice: &ResourcesChoice<&[V]>) -> Option<usize>
+    ensures some { IfSome result (λ n. n ≡ length (choice_octets (λ blocks. sequence_octets V.octets blocks.now) choice.now)) }
+    ensures none { IfNone result (2 ^ 64 ≤ length (choice_octets (λ blocks. sequence_octets V.octets blocks.now) choice.now)) }
+{
+    match choice {
+        ResourcesChoice::Missing => Some(0),
+        ResourcesChoice::Inherit => Some(null_len()),
+        ResourcesChoice::Blocks(blocks) => sequence_len(blocks),
+    }
+}
+
+/// Appends resources: nothing for missing ones, a NULL for inherited ones, and else the SEQUENCE of the blocks.
+/// `AllocError` where there is no memory for all of it, or where no length can tell how many octets it has; then the octets
+/// stay as they were.
+pub fn encode_choice<V: Encode, A: Allocator>(
+    choice: &ResourcesChoice<&[V]>,
+    out: &mut Vec<u8, A>,
+) -> Result<(), AllocError>
+    ensures ok { OnOk result
+        (out.new.items ≡ out.old.items ++ choice_octets (λ blocks. sequence_octets V.octets blocks.now) choice.now) }
+    ensures err { OnErr result (out.new.items ≡ out.old.items) }
+    ensures succeeds { vec_len out.old + length (choice_octets (λ blocks. sequence_octets V.octets blocks.now) choice.now)
+        ≤ vec_capacity out.old → IsOk result }
+    ensures capacity { vec_capacity out.old ≤ vec_capacity out.new }
+{
+    match choice {
+        ResourcesChoice::Missing => Ok(()),
+        ResourcesChoice::Inherit => put_null(out),
+        ResourcesChoice::Blocks(blocks) => encode_sequence(blocks, out),
+    }
 }

@@ -58,7 +58,7 @@ by_tag_reading tag One Two one two apart is also =
 -- ---- two values in a content
 
 -- at the end nothing is left
-ended_is : (bytes : List ℕ) (u : Unit {0}) → ended bytes ≡ Ok u → bytes ≡ []
+pub ended_is : (bytes : List ℕ) (u : Unit {0}) → ended bytes ≡ Ok u → bytes ≡ []
 ended_is bytes u e = nil_from_length bytes (eqb-true (length bytes) 0 (passed_true (eqb (length bytes) 0) TrailingData (Ok tt) u e).0)
 
 -- two values that are read say what the grammar says

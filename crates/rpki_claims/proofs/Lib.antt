@@ -1,0 +1,5 @@
+pub mod Gathering
+pub mod Loops
+pub mod Members
+pub mod Said
+pub mod Written

@@ -5,6 +5,7 @@ pub mod ListLemmas
 pub mod PrintedLemmas
 pub mod PrintedLists
 pub mod PrintedSets
+pub mod ResourcesWritten
 pub mod SetLemmas
 pub mod SetTextLemmas
 pub mod SetWritten

@@ -15,6 +15,8 @@ use Rattle.rpki_text.specs.Reading.{AnswersOrMemory}
 use Rattle.rpki_addr.specs.declared.addr.IpAddr.{IpAddr}
 use Rattle.rpki_addr.specs.declared.addr.IpAddr.TheVariants.{V4, V6}
 use Rattle.rpki_text.specs.declared.memory.OrMemory.{OrMemory}
+use Rattle.rpki_chain.specs.Claims.{Claim}
+use Rattle.rpki_chain.specs.declared.choice.ResourcesChoice.TheVariants.{Missing, Inherit, Blocks}
 use Rattle.rpki_chain.specs.Runs.{Runs, Holds, IsRunsOfBlocks}
 use Rattle.rpki_ip.specs.AddrText.{first_of}
 use Rattle.rpki_ip.specs.BlockText.{IsRangeFrom}
@@ -30,6 +32,8 @@ use Rattle.rpki_ipres.specs.BlockDer.{IsIpBlockDer, IsIpBlockSequence}
 use Rattle.rpki_ipres.specs.BlockText.{IsIpBlockText}
 use Rattle.rpki_ipres.specs.Blocks.{prefix_bounds, ip_bounds}
 use Rattle.rpki_ipres.specs.ListText.{IsElementText, IsFamilyOf, HasBlocks, HasBlocksFault, HasIpBlocks}
+use Rattle.rpki_ipres.specs.Resources.{IsWholeClaim}
+use Rattle.rpki_ipres.specs.ResourcesDer.{IsIpResources}
 use Rattle.rpki_ipres.specs.declared.block.IpBlock.{IpBlock}
 use Rattle.rpki_ipres.specs.declared.block.IpBlock.TheVariants.{Prefix, Range}
 use Rattle.rpki_ipres.proofs.FormLemmas.{family_prefix}
@@ -139,3 +143,14 @@ whole_sequence Ipv6 bytes set v4 says = absurd cc
 pub whole_when_taken : (family : AddressFamily) (old new : Cursor) (r : Result Runs (OrMemory DerError)) → ReadsOrMemory (IsIpBlockSequence (bits_of family)) (λ set. set) old new r → IfOk r (λ set. family ≡ Ipv4 → IsWhole (Holds set))
 whole_when_taken family old new (Ok set) (front, says, split) = λ v4. whole_sequence family front set v4 says
 whole_when_taken family old new (Err e) reads = tt
+
+-- and so are the resources of IPv4 that octets stand for
+whole_claim : (family : AddressFamily) (bytes : List ℕ) (claim : Claim) → family ≡ Ipv4 → IsIpResources (bits_of family) bytes claim → IsWholeClaim claim
+whole_claim Ipv4 bytes claim v4 (Missing, is, says) = absurd is
+whole_claim Ipv4 bytes claim v4 (Inherit, is, says) = subst IsWholeClaim (sym says) tt
+whole_claim Ipv4 bytes claim v4 (Blocks blocks, ((content, is, each), some), (set, covers, same)) = subst IsWholeClaim (sym same) (whole_cover blocks set (whole_each content blocks each) covers)
+whole_claim Ipv6 bytes claim v4 says = absurd cc
+
+pub whole_claim_when_taken : (family : AddressFamily) (old new : Cursor) (r : Result Claim (OrMemory DerError)) → ReadsOrMemory (IsIpResources (bits_of family)) (λ claim. claim) old new r → IfOk r (λ claim. family ≡ Ipv4 → IsWholeClaim claim)
+whole_claim_when_taken family old new (Ok claim) (front, says, split) = λ v4. whole_claim family front claim v4 says
+whole_claim_when_taken family old new (Err e) reads = tt

@@ -6,4 +6,7 @@ pub mod Blocks
 pub mod BlockText
 pub mod ListText
 pub mod PrintedBlocks
+pub mod Resources
+pub mod ResourcesDer
+pub mod ResourcesReadingLaws
 pub mod SetText

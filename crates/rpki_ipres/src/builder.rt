@@ -5,7 +5,9 @@ ghost use Rattle.rpki_ipres.specs.Blocks.{ip_bounds};
 
 use crate::block::IpBlock;
 use crate::blocks::IpBlocks;
+use crate::resources::IpResources;
 use rpki_chain::builder::BlockSetBuilder;
+use rpki_chain::resources::{CollectBlocks, ResourcesBuilder};
 use std::alloc::{AllocError, Allocator, Global};
 use std::fmt;
 use std::marker::Model;
@@ -60,6 +62,35 @@ impl<A: Allocator> IpBlocksBuilder<A> {
     {
         let set = self.blocks.finalize()?;
         Ok(IpBlocks::from_set(set))
+    }
+}
+
+/// Builds resources of addresses: inherited ones, or a list of blocks, which is empty at first.
+///
+/// Contracts see it as the list of the blocks' least and greatest addresses, in the order in which they came, and as None
+/// where the resources are inherited.
+pub type IpResourcesBuilder<A> = ResourcesBuilder<IpBlocksBuilder<A>>;
+
+impl<A: Allocator + Copy> CollectBlocks for IpBlocksBuilder<A> {
+    type Memory = A;
+
+    type Resources = IpResources<A>;
+
+    ghost blocks = { λ b. b };
+
+    ghost claim = { λ r. r };
+
+    fn start(alloc: A) -> IpBlocksBuilder<A> {
+        IpBlocksBuilder::new(alloc)
+    }
+
+    fn finish(self) -> Result<IpResources<A>, AllocError> {
+        let blocks = self.finalize()?;
+        Ok(IpResources::blocks(blocks))
+    }
+
+    fn inherited() -> IpResources<A> {
+        IpResources::inherit()
     }
 }
 

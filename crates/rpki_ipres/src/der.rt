@@ -1,4 +1,5 @@
-//! Blocks and sets of addresses in DER (RFC 3779, section 2.2.3).
+//! Blocks, sets and resources of addresses in DER (RFC 3779, section 2.2.3).
 mod block;
 mod blocks;
 pub mod laws;
+mod resources;

@@ -1,4 +1,4 @@
-//! Blocks of IP addresses and sets of them (RFC 3779, 2), with their texts.
+//! Blocks of IP addresses, sets of them and resources (RFC 3779, 2), with their texts and their DER.
 #![tactic(auto)]
 
 pub mod block;
@@ -8,10 +8,12 @@ pub mod der;
 pub mod family;
 pub mod laws;
 pub mod list;
+pub mod resources;
 pub mod text;
 
 pub use block::IpBlock;
 pub use blocks::IpBlocks;
-pub use builder::IpBlocksBuilder;
+pub use builder::{IpBlocksBuilder, IpResourcesBuilder};
 pub use family::IpBlocksForFamily;
+pub use resources::{InheritedIpResources, IpResources};
 pub use text::{DisplayV4Block, DisplayV6Block};

@@ -1,7 +1,8 @@
 //! Sets of addresses in DER: a SEQUENCE of blocks (RFC 3779, 2.2.3.6).
-ghost use Rattle.std.specs.Prelude.{◌≡◌, ◌≤◌, ◌+◌, ◌++◌, length, vec_len, OnOk, OnErr, IsOk};
+ghost use Rattle.std.specs.Prelude.{◌≡◌, ◌≤◌, ◌+◌, ◌^◌, ◌++◌, length, vec_len, OnOk, OnErr, IsOk, IfSome, IfNone};
 ghost use Rattle.std.specs.Vec.{vec_capacity};
 ghost use Rattle.rpki_base.specs.DerWriting.{sequence_octets};
+ghost use Rattle.rpki_chain.specs.ChoiceDer.{choice_octets};
 ghost use Rattle.rpki_der.specs.Der.{sequence_value};
 ghost use Rattle.rpki_ip.specs.FamilyDer.{family_der};
 ghost use Rattle.rpki_ipres.specs.BlockDer.{ip_block_der};
@@ -9,8 +10,10 @@ ghost use Rattle.rpki_ipres.specs.BlockDer.{ip_block_der};
 use crate::block::IpBlock;
 use crate::blocks::IpBlocks;
 use crate::der::block::IpBlockReader;
-use rpki_base::der::{encode_sequence, sequence_len, take_sequence_of};
+use rpki_base::der::{encode_sequence, take_sequence_of};
 use rpki_base::memory::OrMemory;
+use rpki_chain::choice::ResourcesChoice;
+use rpki_chain::der::{choice_len, encode_choice};
 use rpki_der::{Cursor, DerError, header_len, put_header, tag};
 use rpki_ip::family::AddressFamily;
 use std::alloc::{AllocError, Allocator};
@@ -98,7 +101,7 @@ impl<A: Allocator> IpBlocks<A> {
         if blocks.is_empty() {
             return Ok(());
         }
-        put_family(out, family, blocks)
+        put_family(out, family, &ResourcesChoice::Blocks(blocks))
     }
 
     // The reading behind the takes.
@@ -121,21 +124,18 @@ impl<A: Allocator> IpBlocks<A> {
     }
 }
 
-/// Appends the SEQUENCE of a family and of the SEQUENCE of blocks.
-fn put_family<B: Allocator>(
+/// Appends the SEQUENCE of a family and of its resources.
+pub(crate) fn put_family<B: Allocator>(
     out: &mut Vec<u8, B>,
     family: AddressFamily,
-    blocks: &[IpBlock],
+    resources: &ResourcesChoice<&[IpBlock]>,
 ) -> Result<(), AllocError>
-    ensures ok { OnOk result (out.new.items ≡ out.old.items ++ sequence_value (family_der family ++ sequence_octets ip_block_der blocks.now)) }
+    ensures ok { OnOk result (out.new.items ≡ out.old.items ++ sequence_value (family_der family ++ choice_octets (λ blocks. sequence_octets ip_block_der blocks.now) resources.now)) }
     ensures err { OnErr result (out.new.items ≡ out.old.items) }
-    ensures succeeds { vec_len out.old + length (sequence_value (family_der family ++ sequence_octets ip_block_der blocks.now)) ≤ vec_capacity out.old → IsOk result }
+    ensures succeeds { vec_len out.old + length (sequence_value (family_der family ++ choice_octets (λ blocks. sequence_octets ip_block_der blocks.now) resources.now)) ≤ vec_capacity out.old → IsOk result }
     ensures capacity { vec_capacity out.old ≤ vec_capacity out.new }
 {
-    let Some(blocks_len) = sequence_len(blocks) else {
-        return Err(AllocError);
-    };
-    let Some(content_len) = family.encoded_len().checked_add(blocks_len) else {
+    let Some(content_len) = family_content_len(family, resources) else {
         return Err(AllocError);
     };
     let Some(total) = header_len(tag::SEQUENCE, content_len).checked_add(content_len) else {
@@ -144,5 +144,28 @@ fn put_family<B: Allocator>(
     out.reserve(total)?;
     put_header(out, tag::SEQUENCE, content_len)?;
     family.encode(out)?;
-    encode_sequence(blocks, out)
+    encode_choice(resources, out)
+}
+
+/// How many octets a family and its resources have; None where no length can tell it.
+fn family_content_len(
+    family: AddressFamily,
+    resources: &ResourcesChoice<&[IpBlock]>,
+) -> Option<usize>
+    ensures some { IfSome result (λ n. n ≡ length (family_der family ++ choice_octets (λ blocks. sequence_octets ip_block_der blocks.now) resources.now)) }
+    ensures none { IfNone result (2 ^ 64 ≤ length (family_der family ++ choice_octets (λ blocks. sequence_octets ip_block_der blocks.now) resources.now)) }
+{
+    family.encoded_len().checked_add(choice_len(resources)?)
+}
+
+/// How many octets `put_family` appends; None where no length can tell it.
+pub(crate) fn family_len(
+    family: AddressFamily,
+    resources: &ResourcesChoice<&[IpBlock]>,
+) -> Option<usize>
+    ensures some { IfSome result (λ n. n ≡ length (sequence_value (family_der family ++ choice_octets (λ blocks. sequence_octets ip_block_der blocks.now) resources.now))) }
+    ensures none { IfNone result (2 ^ 64 ≤ length (sequence_value (family_der family ++ choice_octets (λ blocks. sequence_octets ip_block_der blocks.now) resources.now))) }
+{
+    let content_len = family_content_len(family, resources)?;
+    header_len(tag::SEQUENCE, content_len).checked_add(content_len)
 }

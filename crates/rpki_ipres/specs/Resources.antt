@@ -1,0 +1,28 @@
+-- Resources of addresses: missing, inherited, or the runs of a set that isn't empty.
+use Rattle.std.specs.Prelude.{Option, Some, None, ⊤}
+use Rattle.rpki_chain.specs.Claims.{Claim, IsClaim}
+use Rattle.rpki_chain.specs.Runs.{Holds}
+use Rattle.rpki_chain.specs.declared.choice.ResourcesChoice.TheVariants.{Missing, Inherit, Blocks}
+use Rattle.rpki_ip.specs.Whole.{IsWhole}
+use Rattle.rpki_ip.specs.declared.family.AddressFamily.{AddressFamily}
+use Rattle.rpki_ipres.specs.SetText.{IsFamilySet, IsIpSet}
+
+-- what is listed is a set of addresses
+abbrev pub IsIpClaim : Claim → Type 0
+IsIpClaim = IsClaim IsIpSet
+
+-- what is listed is a set of the family: any of IPv6, and in IPv4 one of whole addresses
+abbrev pub IsFamilyClaim : AddressFamily → Claim → Type 0
+IsFamilyClaim family = IsClaim (IsFamilySet family)
+
+-- what is listed consists of whole IPv4 addresses
+abbrev pub IsWholeClaim : Claim → Type 0
+IsWholeClaim Missing = ⊤
+IsWholeClaim Inherit = ⊤
+IsWholeClaim (Blocks set) = IsWhole (Holds set)
+
+-- a claim that isn't missing
+abbrev pub if_present : Claim → Option Claim
+if_present Missing = None
+if_present Inherit = Some Inherit
+if_present (Blocks set) = Some (Blocks set)

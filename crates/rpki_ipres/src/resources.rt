@@ -1,0 +1,218 @@
+//! Resources of addresses: missing, inherited from the issuer, or listed.
+ghost use Rattle.std.specs.Prelude.{◌≡◌, ◌≢◌, ◌↔◌, [], IsTrue, IsErr, IfOk, Ok, Some, MatchResult, codes, ⊤};
+ghost use Rattle.rpki_text.specs.Memory.{IsMemory};
+ghost use Rattle.rpki_chain.specs.Choices.{IsRefused, MatchChoice};
+ghost use Rattle.rpki_base.specs.DerWriting.{sequence_octets};
+ghost use Rattle.rpki_blocks.specs.Equality.{same_runs, runs_per, runs_equiv};
+ghost use Rattle.rpki_chain.specs.ChoiceDer.{choice_octets};
+ghost use Rattle.rpki_chain.specs.ChoiceEquality.{choice_eq, choice_per, choice_equiv};
+ghost use Rattle.rpki_chain.specs.Claims.{ListsSome, claim_of};
+ghost use Rattle.rpki_chain.specs.declared.choice.ResourcesChoice.TheVariants.{Missing, Inherit};
+ghost use Rattle.rpki_ipres.specs.BlockDer.{ip_block_der};
+ghost use Rattle.rpki_ipres.specs.Resources.{IsIpClaim};
+ghost use Rattle.rpki_ipres.specs.ResourcesDer.{ip_resources_der};
+
+use crate::block::IpBlock;
+use crate::blocks::IpBlocks;
+use rpki_base::memory::OrMemory;
+use rpki_chain::choice::{InheritedResources, Listed, ResourcesChoice};
+use rpki_chain::set::BlockSet;
+use std::alloc::{AllocError, Allocator, Global};
+use std::error::Error;
+use std::fmt;
+use std::marker::Model;
+
+/// The resources of one family of addresses: missing, inherited from the issuer, or a set of addresses that isn't empty
+/// (RFC 3779, 2.2.3.4 to 2.2.3.6).
+///
+/// Contracts see them as Missing, as Inherit, or as Blocks of the runs of the set, of which there is one at least.
+#[derive(Drop)]
+pub struct IpResources<A: Allocator = Global> {
+    choice: ResourcesChoice<IpBlocks<A>>,
+}
+
+impl<A: Allocator> Model for IpResources<A> {
+    ghost use Rattle.rpki_chain.specs.Claims.{Claim, ListsSome};
+
+    ghost Value = { Claim };
+
+    ghost view = { λ r. r.choice };
+
+    ghost invariant = { λ r. ListsSome r.choice };
+}
+
+impl<A: Allocator> IpResources<A> {
+    /// No resources.
+    pub fn missing() -> IpResources<A>
+        ensures { result ≡ Missing }
+    {
+        IpResources {
+            choice: ResourcesChoice::Missing,
+        }
+    }
+
+    /// The resources of the issuer.
+    pub fn inherit() -> IpResources<A>
+        ensures { result ≡ Inherit }
+    {
+        IpResources {
+            choice: ResourcesChoice::Inherit,
+        }
+    }
+
+    /// The addresses of a set, and missing resources where it has none.
+    pub fn blocks(blocks: IpBlocks<A>) -> IpResources<A>
+        ensures { result ≡ claim_of blocks }
+    {
+        if blocks.is_empty() {
+            return Self::missing();
+        }
+        IpResources {
+            choice: ResourcesChoice::Blocks(blocks),
+        }
+    }
+
+    /// Whether there are no resources.
+    pub fn is_missing(&self) -> bool
+        ensures { IsTrue result ↔ (self.now ≡ Missing) }
+    {
+        matches!(self.choice, ResourcesChoice::Missing)
+    }
+
+    /// Whether the resources are those of the issuer.
+    pub fn is_inherited(&self) -> bool
+        ensures { IsTrue result ↔ (self.now ≡ Inherit) }
+    {
+        self.choice.is_inherited()
+    }
+
+    /// Whether the resources are inherited or listed.
+    pub fn is_present(&self) -> bool
+        ensures present { IsTrue result ↔ (self.now ≢ Missing) }
+        ensures some { ListsSome self.now }
+    {
+        self.choice.is_present()
+    }
+
+    /// The set that is listed, and the set of no addresses where the resources are missing. `Refused` where they are
+    /// inherited, `Memory` where there is no memory for the set.
+    pub fn to_blocks(&self) -> Result<IpBlocks<A>, OrMemory<InheritedIpResources>>
+        ensures { MatchChoice self.now (result ≡ Ok []) (IsRefused result)
+            (λ listed. MatchResult result (λ set. set ≡ listed) IsMemory) }
+    {
+        match self.choice.to_blocks() {
+            Ok(set) => Ok(set),
+            Err(OrMemory::Refused(fault)) => Err(OrMemory::Refused(InheritedIpResources::from(
+                fault,
+            ))),
+            Err(OrMemory::Memory(fault)) => Err(OrMemory::Memory(fault)),
+        }
+    }
+
+    /// The same resources. `AllocError` where there is no memory for them.
+    pub fn clone(&self) -> Result<IpResources<A>, AllocError>
+        ensures { IfOk result (λ resources. resources ≡ self.now) }
+    {
+        let choice = self.choice.clone()?;
+        Ok(IpResources { choice })
+    }
+}
+
+// What the reader and the writer see.
+impl<A: Allocator> IpResources<A> {
+    /// A choice that was read. What it lists isn't empty.
+    pub(crate) fn from_choice(choice: ResourcesChoice<BlockSet<IpBlock, A>>) -> IpResources<A>
+        requires { ListsSome choice }
+        ensures { result ≡ choice }
+    {
+        IpResources {
+            choice: choice.map_blocks(IpBlocks::from_set),
+        }
+    }
+
+    /// The blocks that are listed, ascending.
+    pub(crate) fn as_slices(&self) -> ResourcesChoice<&[IpBlock]>
+        ensures octets { choice_octets (λ blocks. sequence_octets ip_block_der blocks.now) result ≡ ip_resources_der self.now }
+        ensures claim { IsIpClaim self.now }
+    {
+        match &self.choice {
+            ResourcesChoice::Missing => ResourcesChoice::Missing,
+            ResourcesChoice::Inherit => ResourcesChoice::Inherit,
+            ResourcesChoice::Blocks(blocks) => ResourcesChoice::Blocks(blocks.as_slice()),
+        }
+    }
+}
+
+impl<A: Allocator> IpBlocks<A> {
+    ghost use Rattle.std.specs.Prelude.{◌≡◌, [], IsErr, Ok};
+    ghost use Rattle.rpki_chain.specs.Choices.{MatchChoice};
+
+    /// The set that resources list, and the set of no addresses where they are missing. Inherited resources are refused.
+    pub fn from_resources(resources: IpResources<A>) -> Result<IpBlocks<A>, InheritedIpResources>
+        ensures { MatchChoice resources (result ≡ Ok []) (IsErr result) (λ listed. result ≡ Ok listed) }
+    {
+        match resources.choice {
+            ResourcesChoice::Missing => Ok(IpBlocks::empty()),
+            ResourcesChoice::Inherit => Err(InheritedIpResources),
+            ResourcesChoice::Blocks(blocks) => Ok(blocks),
+        }
+    }
+}
+
+impl<A: Allocator> Listed for IpBlocks<A> {
+    ghost nothing = { [] };
+
+    fn empty() -> IpBlocks<A> {
+        IpBlocks::empty()
+    }
+
+    fn copy(&self) -> Result<IpBlocks<A>, AllocError> {
+        IpBlocks::clone(self)
+    }
+}
+
+impl<A: Allocator> fmt::Debug for IpResources<A> {
+    fn fmt<W: fmt::Write>(&self, f: &mut fmt::Formatter<W>) -> fmt::Result {
+        self.choice.fmt(f)
+    }
+}
+
+/// Resources are equal where both are missing, both are inherited, or both list the same addresses.
+impl<A: Allocator> PartialEq for IpResources<A> {
+    ghost eq = { choice_eq same_runs };
+
+    ghost laws = { choice_per same_runs runs_per };
+
+    fn eq(&self, other: &IpResources<A>) -> bool
+        ensures value { result ≡ choice_eq same_runs self.now other.now }
+        ensures same { IsTrue result ↔ (self.now ≡ other.now) }
+    {
+        self.choice == other.choice
+    }
+}
+
+impl<A: Allocator> Eq for IpResources<A> {
+    ghost laws = { choice_equiv same_runs runs_equiv };
+}
+
+/// Resources are inherited, and so are no set of addresses by themselves.
+#[derive(Clone, Copy, Debug, PartialEq, Eq)]
+pub struct InheritedIpResources;
+
+impl From<InheritedResources> for InheritedIpResources {
+    ghost from_gives = { λ _ _. ⊤ };
+
+    fn from(_fault: InheritedResources) -> InheritedIpResources {
+        InheritedIpResources
+    }
+}
+
+impl fmt::Display for InheritedIpResources {
+    ghost output = { λ _. Some (codes "inherited IP resources") };
+
+    fn fmt<W: fmt::Write>(&self, f: &mut fmt::Formatter<W>) -> fmt::Result {
+        f.write_str("inherited IP resources")
+    }
+}
+
+impl Error for InheritedIpResources {}

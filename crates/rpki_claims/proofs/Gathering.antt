@@ -1,5 +1,7 @@
 -- Members to the end of the octets: what is found is what stands there, each family once.
 use Rattle.std.proofs.Common.{◌≡◌, ◌≢◌, ℕ, zero, suc, ◌≤◌, Bool, false, eqb, List, [], ◌∷◌, ◌++◌, length, Option, Some, None, Result, Ok, refl, ap, subst, ◌∙◌, arith}
+use Rattle.std.specs.List.{AllByRecursion}
+use Rattle.std.specs.Prelude.{IfSome}
 use Rattle.std.proofs.lemmas.Bool.{ne_eqb}
 use Rattle.std.proofs.lemmas.List.{append-nil, length-append}
 use Rattle.rpki_der.specs.declared.error.DerError.{DerError}
@@ -144,3 +146,24 @@ module _ {X : Type 0} (G : AddressFamily → List ℕ → X → Type 0) (claim_a
   families_reading =
       refined_reading IsSequence (SaysFamilies G) IsBytes (tagged_at 48) (families_in claim_at) (tagged_reading 48) (λ front content h fits. fits_content front 48 content h fits)
       (record { takes = families_say; again = families_again })
+
+module _ {X : Type 0} (G : AddressFamily → List ℕ → X → Type 0) where
+  -- some octets are this claim of the family
+  abbrev pub IsThere : AddressFamily → X → Type 0
+  IsThere family x = (bytes : List ℕ) × G family bytes x
+
+  -- the claims of a family stand in its members
+  claims_there : (family : AddressFamily) (members : List (AddressFamily × X)) (content : List ℕ) → Each (IsMember G) content members → AllByRecursion (IsThere family) (claims_among family members)
+  claims_there family [] content all = tt
+  claims_there Ipv4 ((Ipv4, x) ∷ members) content (rest, (front, (inner, is, (after, first, claim)), at), all) = ((after, claim), claims_there Ipv4 members rest all)
+  claims_there Ipv4 ((Ipv6, x) ∷ members) content (rest, found, all) = claims_there Ipv4 members rest all
+  claims_there Ipv6 ((Ipv4, x) ∷ members) content (rest, found, all) = claims_there Ipv6 members rest all
+  claims_there Ipv6 ((Ipv6, x) ∷ members) content (rest, (front, (inner, is, (after, first, claim)), at), all) = ((after, claim), claims_there Ipv6 members rest all)
+
+  -- and so does what they gather
+  one_there : (family : AddressFamily) (o : Option X) → AllByRecursion (IsThere family) (listed o) → IfSome o (IsThere family)
+  one_there family None all = tt
+  one_there family (Some x) all = all.0
+
+  pub each_there : (family : AddressFamily) (bytes : List ℕ) (fs : ByFamily X) → IsFamilies G bytes fs → IfSome (of_family family fs) (IsThere family)
+  each_there family bytes fs (content, is, (members, all, some, gathered)) = one_there family (of_family family fs) (subst (AllByRecursion (IsThere family)) (gathered family) (claims_there family members content all))

@@ -1,33 +1,36 @@
 -- What is written of resources, alone and by families, stands for them, and octets stand for one claim at most.
-use Rattle.std.proofs.Common.{◌≡◌, ◌≢◌, ℕ, ◌+◌, ◌^◌, ◌<◌, List, [], ◌∷◌, ◌++◌, length, map, Option, Some, None, refl, sym, ap, subst, ◌∙◌, arith}
+use Rattle.std.proofs.Common.{◌≡◌, ◌≢◌, ◌↔◌, ℕ, ◌+◌, ◌^◌, ◌<◌, List, [], ◌∷◌, ◌++◌, length, map, Option, Some, None, refl, sym, ap, subst, ◌∙◌, arith}
 use Rattle.std.specs.Prelude.{IfSome}
-use Rattle.std.proofs.lemmas.List.{length-append}
-use Rattle.rpki_der.specs.Der.{OneFront, null_value}
+use Rattle.std.proofs.lemmas.List.{append_cancel_left, length-append}
+use Rattle.rpki_der.specs.Der.{OneFront, header}
 use Rattle.rpki_der.proofs.Readings.{one_front}
 use Rattle.rpki_der.proofs.Written.{value_is}
 use Rattle.rpki_base.specs.DerReading.{IsSequenceOf}
 use Rattle.rpki_base.specs.DerWriting.{octets_of_all}
+use Rattle.rpki_base.proofs.DerWriting.{one_content}
 use Rattle.rpki_chain.specs.ChoiceDer.{IsChoiceOf}
 use Rattle.rpki_chain.specs.Claims.{Claim}
 use Rattle.rpki_chain.specs.Runs.{Runs, IsRunsOfBlocks}
 use Rattle.rpki_chain.specs.declared.choice.ResourcesChoice.{ResourcesChoice}
 use Rattle.rpki_chain.specs.declared.choice.ResourcesChoice.TheVariants.{Missing, Inherit, Blocks}
 use Rattle.rpki_chain.proofs.ClaimLemmas.{lists_one}
-use Rattle.rpki_claims.specs.Families.{ByFamily}
+use Rattle.rpki_chain.proofs.RunLists.{same_numbers}
+use Rattle.rpki_claims.specs.Families.{option_der}
 use Rattle.rpki_claims.proofs.Gathering.{families_reading}
 use Rattle.rpki_claims.proofs.Said.{one_families, one_said}
 use Rattle.rpki_claims.proofs.Written.{Writes, content_shorter, families_written}
 use Rattle.rpki_ip.specs.Families.{bits_of}
+use Rattle.rpki_ip.specs.FamilyDer.{family_der}
 use Rattle.rpki_ip.specs.declared.family.AddressFamily.{AddressFamily}
 use Rattle.rpki_ip.specs.declared.family.AddressFamily.TheVariants.{Ipv4, Ipv6}
 use Rattle.rpki_ipres.specs.BlockDer.{IsIpBlockDer, ip_run_der}
 use Rattle.rpki_ipres.specs.Blocks.{ip_bounds, new_ip_block}
-use Rattle.rpki_ipres.specs.Resources.{IsFamilyClaim, if_present}
-use Rattle.rpki_ipres.specs.ResourcesDer.{IsIpFamilies, IsIpResources, SaysClaimOf, ip_families_at, ip_families_der, ip_resources_at, ip_resources_der}
+use Rattle.rpki_ipres.specs.Resources.{IsFamilyClaim, IsIpClaim, if_present}
+use Rattle.rpki_ipres.specs.ResourcesDer.{IsIpFamilies, IsIpResources, SaysClaimOf, ip_families_at, ip_families_der, ip_member_der, ip_resources_at, ip_resources_der}
 use Rattle.rpki_ipres.specs.ResourcesReadingLaws.{resources_reading}
 use Rattle.rpki_ipres.specs.declared.block.IpBlock.{IpBlock}
 use Rattle.rpki_ipres.proofs.SetTextLemmas.{is_ip_set}
-use Rattle.rpki_ipres.proofs.SetWritten.{blocks_say, one_set, set_written}
+use Rattle.rpki_ipres.proofs.SetWritten.{blocks_say, one_set, set_written, written_as_numbers}
 
 -- the blocks that were read are of one claim at most
 one_claim : (choice : ResourcesChoice (List IpBlock)) (a b : Claim) → SaysClaimOf choice a → SaysClaimOf choice b → a ≡ b
@@ -83,3 +86,74 @@ front_short bytes front rest short at =
     let whole : length bytes ≡ length (front ++ rest) = ap (λ (t : List ℕ). length t) at in
     let parts : length (front ++ rest) ≡ length front + length rest = length-append front rest in
     omega (arith, short, whole, parts)
+
+-- ---- written alike
+
+-- a claim that is there
+some_claim : (a b : Claim) → Some a ≡ Some b → a ≡ b
+some_claim a b same = cc
+
+-- claims that are there alike are one
+same_present : (a b : Claim) → if_present a ≡ if_present b → a ≡ b
+same_present Missing Missing same = refl
+same_present Missing Inherit same = absurd cc
+same_present Missing (Blocks y) same = absurd cc
+same_present Inherit Missing same = absurd cc
+same_present Inherit Inherit same = refl
+same_present Inherit (Blocks y) same = some_claim Inherit (Blocks y) same
+same_present (Blocks x) Missing same = absurd cc
+same_present (Blocks x) Inherit same = some_claim (Blocks x) Inherit same
+same_present (Blocks x) (Blocks y) same = some_claim (Blocks x) (Blocks y) same
+
+-- resources that are written alike are one
+resources_alike : (a b : Claim) → IsIpClaim a → IsIpClaim b → ip_resources_der a ≡ ip_resources_der b → a ≡ b
+unfolding header
+resources_alike Missing Missing is also same = refl
+resources_alike Missing Inherit is also same = absurd cc
+resources_alike Missing (Blocks y) is also same = absurd cc
+resources_alike Inherit Missing is also same = absurd cc
+resources_alike Inherit Inherit is also same = refl
+resources_alike Inherit (Blocks y) is also same = absurd cc
+resources_alike (Blocks x) Missing is also same = absurd cc
+resources_alike (Blocks x) Inherit is also same = absurd cc
+resources_alike (Blocks x) (Blocks y) is also same =
+    ap (λ (t : Runs). Blocks t) (same_numbers x y is.0.are_runs also.0.are_runs ((written_as_numbers x y is.0 also.0).0 same))
+
+pub resources_as_claims : (a b : Claim) → IsIpClaim a → IsIpClaim b → (ip_resources_der a ≡ ip_resources_der b) ↔ (a ≡ b)
+resources_as_claims a b is also = (resources_alike a b is also, ap ip_resources_der)
+
+-- and so are those that are written alike behind one family
+members_alike : (family : AddressFamily) (a b : Option Claim) → ((x y : Claim) → a ≡ Some x → b ≡ Some y → ip_resources_der x ≡ ip_resources_der y → x ≡ y) → option_der ip_resources_der family a ≡ option_der ip_resources_der family b → a ≡ b
+unfolding header
+members_alike family None None one same = refl
+members_alike family None (Some y) one same = absurd cc
+members_alike family (Some x) None one same = absurd cc
+members_alike family (Some x) (Some y) one same =
+    let content = one_content (family_der family ++ ip_resources_der x) (family_der family ++ ip_resources_der y) same in
+    ap (λ (t : Claim). Some t) (one x y refl refl (append_cancel_left (family_der family) (ip_resources_der x) (ip_resources_der y) content))
+
+-- the claim that is there is the claim
+present_is : (a x : Claim) → if_present a ≡ Some x → a ≡ x
+present_is Missing x there = absurd cc
+present_is Inherit x there = some_claim Inherit x there
+present_is (Blocks y) x there = some_claim (Blocks y) x there
+
+pub members_as_claims : (family : AddressFamily) (a b : Claim) → IsIpClaim a → IsIpClaim b → (ip_member_der family a ≡ ip_member_der family b) ↔ (a ≡ b)
+members_as_claims family a b is also = (
+  λ same. same_present a b (members_alike family (if_present a) (if_present b) (λ x y first second alike.
+      resources_alike x y (subst IsIpClaim (present_is a x first) is) (subst IsIpClaim (present_is b y second) also) alike) same),
+  ap (ip_member_der family),
+)
+
+-- families that are written alike, in fewer octets than a length can tell, have the same resources
+pub families_as_claims : (v4 v6 w4 w6 : Claim) → IsFamilyClaim Ipv4 v4 → IsFamilyClaim Ipv6 v6 → (v4 ≡ Missing → v6 ≢ Missing) → IsFamilyClaim Ipv4 w4 → IsFamilyClaim Ipv6 w6 → (w4 ≡ Missing → w6 ≢ Missing) → length (ip_families_der v4 v6) < 2 ^ 64
+    → (ip_families_der v4 v6 ≡ ip_families_der w4 w6) ↔ ((v4 ≡ w4) × (v6 ≡ w6))
+families_as_claims v4 v6 w4 w6 first second some third fourth more short = (
+  λ same. (
+      let is = claims_written v4 v6 first second some short in
+      let also = claims_written w4 w6 third fourth more (subst (λ (t : List ℕ). length t < 2 ^ 64) same short) in
+      let one = one_of_families (ip_families_der v4 v6) (ip_families_der w4 w6) (if_present v4, if_present v6) (if_present w4, if_present w6) [] [] is also (ap (λ (t : List ℕ). t ++ []) same) in
+      (same_present v4 w4 (ap (λ p. p.0) one.1), same_present v6 w6 (ap (λ p. p.1) one.1))
+      ),
+  λ same. λ i. ip_families_der (same.0 i) (same.1 i),
+)

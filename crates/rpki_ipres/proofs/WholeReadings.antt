@@ -1,7 +1,7 @@
 -- What is read as IPv4, from texts and from octets, consists of whole IPv4 addresses.
-use Rattle.std.proofs.Common.{◌≡◌, ℕ, ◌+◌, ◌-◌, ◌*◌, ◌/◌, ◌%◌, ◌^◌, ◌<◌, ◌≤◌, inl, inr, List, [], ◌∷◌, Some, Result, Ok, Err, sym, ap, ◌∙◌, subst, arith}
+use Rattle.std.proofs.Common.{◌≡◌, ℕ, ◌+◌, ◌-◌, ◌*◌, ◌/◌, ◌%◌, ◌^◌, ◌<◌, ◌≤◌, inl, inr, List, [], ◌∷◌, Option, Some, None, Result, Ok, Err, refl, sym, ap, ◌∙◌, subst, arith}
 use Rattle.std.specs.List.{All}
-use Rattle.std.specs.Prelude.{IfOk}
+use Rattle.std.specs.Prelude.{IfOk, IfSome}
 use Rattle.std.proofs.Math.Nat.{mul-mod_left, mul_assoc, add-mul}
 use Rattle.std.proofs.lemmas.List.Elements.{All-cons, All-nil}
 use Rattle.std.proofs.lemmas.Nat.{pow_pos, pow-add}
@@ -16,6 +16,8 @@ use Rattle.rpki_addr.specs.declared.addr.IpAddr.{IpAddr}
 use Rattle.rpki_addr.specs.declared.addr.IpAddr.TheVariants.{V4, V6}
 use Rattle.rpki_text.specs.declared.memory.OrMemory.{OrMemory}
 use Rattle.rpki_chain.specs.Claims.{Claim}
+use Rattle.rpki_claims.specs.Families.{ByFamily}
+use Rattle.rpki_claims.proofs.Gathering.{IsThere, each_there}
 use Rattle.rpki_chain.specs.declared.choice.ResourcesChoice.TheVariants.{Missing, Inherit, Blocks}
 use Rattle.rpki_chain.specs.Runs.{Runs, Holds, IsRunsOfBlocks}
 use Rattle.rpki_ip.specs.AddrText.{first_of}
@@ -33,7 +35,7 @@ use Rattle.rpki_ipres.specs.BlockText.{IsIpBlockText}
 use Rattle.rpki_ipres.specs.Blocks.{prefix_bounds, ip_bounds}
 use Rattle.rpki_ipres.specs.ListText.{IsElementText, IsFamilyOf, HasBlocks, HasBlocksFault, HasIpBlocks}
 use Rattle.rpki_ipres.specs.Resources.{IsWholeClaim}
-use Rattle.rpki_ipres.specs.ResourcesDer.{IsIpResources}
+use Rattle.rpki_ipres.specs.ResourcesDer.{IsIpFamilies, IsIpResources}
 use Rattle.rpki_ipres.specs.declared.block.IpBlock.{IpBlock}
 use Rattle.rpki_ipres.specs.declared.block.IpBlock.TheVariants.{Prefix, Range}
 use Rattle.rpki_ipres.proofs.FormLemmas.{family_prefix}
@@ -154,3 +156,12 @@ whole_claim Ipv6 bytes claim v4 says = absurd cc
 pub whole_claim_when_taken : (family : AddressFamily) (old new : Cursor) (r : Result Claim (OrMemory DerError)) → ReadsOrMemory (IsIpResources (bits_of family)) (λ claim. claim) old new r → IfOk r (λ claim. family ≡ Ipv4 → IsWholeClaim claim)
 whole_claim_when_taken family old new (Ok claim) (front, says, split) = λ v4. whole_claim family front claim v4 says
 whole_claim_when_taken family old new (Err e) reads = tt
+
+-- and so is what stands there for IPv4
+some_whole : (o : Option Claim) → IfSome o (IsThere (λ family. IsIpResources (bits_of family)) Ipv4) → IfSome o IsWholeClaim
+some_whole None there = tt
+some_whole (Some claim) there = whole_claim Ipv4 there.0 claim refl there.1
+
+pub whole_families_when_taken : (old new : Cursor) (r : Result (ByFamily Claim) (OrMemory DerError)) → ReadsOrMemory IsIpFamilies (λ found. found) old new r → IfOk r (λ found. IfSome found.0 IsWholeClaim)
+whole_families_when_taken old new (Ok found) (front, says, split) = some_whole found.0 (each_there (λ family. IsIpResources (bits_of family)) Ipv4 front found says)
+whole_families_when_taken old new (Err e) reads = tt

@@ -1,17 +1,25 @@
-//! What holds of the octets of blocks and sets, each law as the contract of a function that does nothing.
+//! What holds of the octets of blocks, sets and resources, each law as the contract of a function that does nothing.
 ghost use Rattle.std.specs.Prelude.{◌≡◌, ◌≢◌, ℕ, [], ◌<◌, ◌^◌, ◌↔◌, length};
+ghost use Rattle.rpki_chain.specs.Claims.{Claim};
 ghost use Rattle.rpki_chain.specs.Runs.{Runs, Holds};
+ghost use Rattle.rpki_chain.specs.declared.choice.ResourcesChoice.TheVariants.{Missing};
 ghost use Rattle.rpki_der.specs.Der.{OneFront};
 ghost use Rattle.rpki_ip.specs.Families.{bits_of};
+ghost use Rattle.rpki_ip.specs.declared.family.AddressFamily.TheVariants.{Ipv4, Ipv6};
 ghost use Rattle.rpki_ipres.specs.BlockDer.{IsIpBlockDer, IsIpBlockSequence, IsIpFamily, ip_family_der, ip_set_der};
+ghost use Rattle.rpki_ipres.specs.Resources.{IsFamilyClaim, IsIpClaim, if_present};
+ghost use Rattle.rpki_ipres.specs.ResourcesDer.{IsIpFamilies, IsIpResources, ip_families_der, ip_member_der, ip_resources_der};
 ghost use Rattle.rpki_ipres.specs.SetText.{IsFamilySet, IsIpSet};
 
 /// Octets begin with at most one block, with at most one SEQUENCE of blocks, which stands for one set, and with at most
-/// one SEQUENCE of a family and of the SEQUENCE of its blocks, which stands for one family and one set.
+/// one SEQUENCE of a family and of the SEQUENCE of its blocks, which stands for one family and one set. They begin with the
+/// resources of at most one claim, and with at most one SEQUENCE of families, which have one claim each.
 pub fn one_value()
     ensures block { (limit : ℕ) → OneFront (IsIpBlockDer limit) }
     ensures set { (limit : ℕ) → OneFront (IsIpBlockSequence limit) }
     ensures family { OneFront IsIpFamily }
+    ensures resources { (limit : ℕ) → OneFront (IsIpResources limit) }
+    ensures families { OneFront IsIpFamilies }
 {}
 
 /// What is written of a set of a family, of fewer than 2^64 octets, is a SEQUENCE of the family's blocks that stands for
@@ -30,4 +38,26 @@ pub fn canonical()
         (ip_set_der a ≡ ip_set_der b) ↔ ((n : ℕ) → Holds a n ↔ Holds b n) }
     ensures family { (family : _) (a b : Runs) → IsFamilySet family a → IsFamilySet family b →
         (ip_family_der family a ≡ ip_family_der family b) ↔ ((n : ℕ) → Holds a n ↔ Holds b n) }
+{}
+
+/// What is written of resources of a family that aren't missing, of fewer than 2^64 octets, is the resources. What is written
+/// of families, of which one at least isn't missing, is the families that aren't.
+pub fn written_resources()
+    ensures resources { (family : _) (claim : Claim) → IsFamilyClaim family claim → claim ≢ Missing →
+        length (ip_resources_der claim) < 2 ^ 64 → IsIpResources (bits_of family) (ip_resources_der claim) claim }
+    ensures families { (v4 v6 : Claim) → IsFamilyClaim Ipv4 v4 → IsFamilyClaim Ipv6 v6 → (v4 ≡ Missing → v6 ≢ Missing) →
+        length (ip_families_der v4 v6) < 2 ^ 64 → IsIpFamilies (ip_families_der v4 v6) (if_present v4, if_present v6) }
+{}
+
+/// Resources are written alike exactly where they are one claim, alone and behind one family. Families, of which one at
+/// least isn't missing, are written alike in fewer than 2^64 octets exactly where both have the same claim.
+pub fn canonical_resources()
+    ensures resources { (a b : Claim) → IsIpClaim a → IsIpClaim b → (ip_resources_der a ≡ ip_resources_der b) ↔ (a ≡ b) }
+    ensures family { (family : _) (a b : Claim) → IsIpClaim a → IsIpClaim b →
+        (ip_member_der family a ≡ ip_member_der family b) ↔ (a ≡ b) }
+    ensures families { (v4 v6 w4 w6 : Claim) →
+        IsFamilyClaim Ipv4 v4 → IsFamilyClaim Ipv6 v6 → (v4 ≡ Missing → v6 ≢ Missing) →
+        IsFamilyClaim Ipv4 w4 → IsFamilyClaim Ipv6 w6 → (w4 ≡ Missing → w6 ≢ Missing) →
+        length (ip_families_der v4 v6) < 2 ^ 64 →
+        (ip_families_der v4 v6 ≡ ip_families_der w4 w6) ↔ ((v4 ≡ w4) × (v6 ≡ w6)) }
 {}

@@ -67,7 +67,89 @@ impl<A: Allocator> IpResources<A> {
         encode_choice(&self.as_slices(), out)
     }
 
-    // The reading behind the take.
+    /// Appends the SEQUENCE of the family and of what `encode` appends (RFC 3779, 2.2.3.2), and nothing for missing resources.
+    ///
+    /// Resources of the family are read back, from IPv4 if what they list consists of whole IPv4 addresses. `AllocError`
+    /// where there is no memory for all of it; then the octets stay as they were.
+    pub fn encode_family<B: Allocator>(
+        &self,
+        family: AddressFamily,
+        out: &mut Vec<u8, B>,
+    ) -> Result<(), AllocError>
+        ensures ok { OnOk result (out.new.items ≡ out.old.items ++ ip_member_der family self.now) }
+        ensures err { OnErr result (out.new.items ≡ out.old.items) }
+        ensures succeeds { vec_len out.old + length (ip_member_der family self.now) ≤ vec_capacity out.old → IsOk result }
+        ensures capacity { vec_capacity out.old ≤ vec_capacity out.new }
+        ensures claim { IsIpClaim self.now }
+    {
+        let resources = self.as_slices();
+        if self.is_missing() {
+            return Ok(());
+        }
+        put_family(out, family, &resources)
+    }
+
+    /// How many octets `encode_family` appends; None where no length can tell it.
+    fn member_len(&self, family: AddressFamily) -> Option<usize>
+        ensures some { IfSome result (λ n. n ≡ length (ip_member_der family self.now)) }
+        ensures none { IfNone result (2 ^ 64 ≤ length (ip_member_der family self.now)) }
+    {
+        if self.is_missing() {
+            return Some(0);
+        }
+        family_len(family, &self.as_slices())
+    }
+
+    /// Takes a SEQUENCE of families and answers the resources of IPv4 and of IPv6, None where a family isn't there. The
+    /// families come in any order, each at most once, one at least (RFC 3779, 2.2.3.1 to 2.2.3.3; RFC 6487, 4.8.10).
+    ///
+    /// `Refused` with the first fault: that of a SEQUENCE or of a family; `DuplicateFamily` for a family that was there
+    /// before, ahead of its resources; that of its resources as in `take_from`; `TrailingData` for octets that are left
+    /// behind them; `NoFamily` where the SEQUENCE is empty. `Memory` where there is no memory for the blocks. The cursor then
+    /// stays.
+    pub fn take_families_from(
+        alloc: A,
+        cursor: &mut Cursor<'_>,
+    ) -> Result<(Option<IpResources<A>>, Option<IpResources<A>>), OrMemory<DerError>>
+    where
+        A: Copy,
+        ensures reads { Lenient cursor.old (ReadsOrMemory IsIpFamilies (λ found. found) cursor.old cursor.new result) }
+        ensures exact { Lenient cursor.old (TakesSaidOrMemory SaysClaims cursor.old cursor.new result ip_families_at) }
+        ensures whole { IfOk result (λ found. IfSome found.0 IsWholeClaim) }
+        // What is written of families is read as them, whatever follows; one that was missing is None.
+        ensures reads_back { (v4 v6 : Claim) (rest : List ℕ) → IsFamilyClaim Ipv4 v4 → IsFamilyClaim Ipv6 v6 → (v4 ≡ Missing → v6 ≢ Missing)
+            → left cursor.old ≡ ip_families_der v4 v6 ++ rest
+            → MatchResult result (λ read. (read ≡ (if_present v4, if_present v6)) × (left cursor.new ≡ rest)) IsMemory }
+    {
+        Self::next_families(alloc, cursor)
+    }
+
+    /// Appends the SEQUENCE of the families that have resources, IPv4 first, each as `encode_family` appends it. One of them
+    /// at least isn't missing. `AllocError` where there is no memory for all of it; then the octets stay as they were.
+    pub fn encode_families<B: Allocator>(
+        v4: &IpResources<A>,
+        v6: &IpResources<A>,
+        out: &mut Vec<u8, B>,
+    ) -> Result<(), AllocError>
+        requires { v4.now ≡ Missing → v6.now ≢ Missing }
+        ensures ok { OnOk result (out.new.items ≡ out.old.items ++ ip_families_der v4.now v6.now) }
+        ensures err { OnErr result (out.new.items ≡ out.old.items) }
+        ensures succeeds { vec_len out.old + length (ip_families_der v4.now v6.now) ≤ vec_capacity out.old → IsOk result }
+        ensures capacity { vec_capacity out.old ≤ vec_capacity out.new }
+    {
+        let Some(content_len) = members_len(v4, v6) else {
+            return Err(AllocError);
+        };
+        let Some(total) = header_len(tag::SEQUENCE, content_len).checked_add(content_len) else {
+            return Err(AllocError);
+        };
+        out.reserve(total)?;
+        put_header(out, tag::SEQUENCE, content_len)?;
+        v4.encode_family(AddressFamily::Ipv4, out)?;
+        v6.encode_family(AddressFamily::Ipv6, out)
+    }
+
+    // The readings behind the takes.
     fn next(
         alloc: A,
         cursor: &mut Cursor<'_>,
@@ -81,5 +163,66 @@ impl<A: Allocator> IpResources<A> {
         let _len = cursor.rest().len(); // read so that the proof sees that the octets are fewer than 2^64
         let choice = take_choice(alloc, &IpBlockReader { family }, cursor)?;
         Ok(IpResources::from_choice(choice))
+    }
+
+    fn next_families(
+        alloc: A,
+        cursor: &mut Cursor<'_>,
+    ) -> Result<(Option<IpResources<A>>, Option<IpResources<A>>), OrMemory<DerError>>
+    where
+        A: Copy,
+        ensures reads { ReadsOrMemory IsIpFamilies (λ found. found) cursor.old cursor.new result }
+        ensures exact { TakesSaidOrMemory SaysClaims cursor.old cursor.new result ip_families_at }
+        ensures short { length (left cursor.old) < 2 ^ 64 }
+    {
+        let _len = cursor.rest().len(); // read so that the proof sees that the octets are fewer than 2^64
+        take_families(&IpResourcesReader { alloc }, cursor)
+    }
+}
+
+/// How many octets the members of both families have; None where no length can tell it.
+fn members_len<A: Allocator>(v4: &IpResources<A>, v6: &IpResources<A>) -> Option<usize>
+    ensures some { IfSome result (λ n. n ≡ length (ip_member_der Ipv4 v4.now ++ ip_member_der Ipv6 v6.now)) }
+    ensures none { IfNone result (2 ^ 64 ≤ length (ip_member_der Ipv4 v4.now ++ ip_member_der Ipv6 v6.now)) }
+{
+    let v4_len = v4.member_len(AddressFamily::Ipv4)?;
+    v4_len.checked_add(v6.member_len(AddressFamily::Ipv6)?)
+}
+
+/// Reads the resources of families.
+#[derive(Clone, Copy, Debug)]
+struct IpResourcesReader<A: Allocator> {
+    alloc: A,
+}
+
+impl<A: Allocator + Copy> ReadClaim for IpResourcesReader<A> {
+    ghost use Rattle.std.specs.Prelude.{List};
+    ghost use Rattle.rpki_base.specs.DerReading.{IsSequenceOf};
+    ghost use Rattle.rpki_chain.specs.ChoiceDer.{IsChoiceOf};
+    ghost use Rattle.rpki_chain.specs.declared.choice.ResourcesChoice.{ResourcesChoice};
+    ghost use Rattle.rpki_ip.specs.Families.{bits_of};
+    ghost use Rattle.rpki_ipres.specs.BlockDer.{IsIpBlockDer};
+    ghost use Rattle.rpki_ipres.specs.ResourcesDer.{SaysClaimOf, ip_resources_at};
+    ghost use Rattle.rpki_ipres.specs.ResourcesReadingLaws.{resources_reading};
+    ghost use Rattle.rpki_ipres.specs.declared.block.IpBlock.{IpBlock};
+
+    type Claim = IpResources<A>;
+
+    ghost Found = { ResourcesChoice (List IpBlock) };
+
+    ghost says = { λ _. SaysClaimOf };
+
+    ghost grammar = { λ _ family. IsChoiceOf (IsSequenceOf (IsIpBlockDer (bits_of family))) };
+
+    ghost reading = { λ _ family. ip_resources_at (bits_of family) };
+
+    ghost is_reading = { λ _ family. resources_reading (bits_of family) };
+
+    fn take_claim(
+        &self,
+        family: AddressFamily,
+        cursor: &mut Cursor<'_>,
+    ) -> Result<IpResources<A>, OrMemory<DerError>> {
+        IpResources::take_from(self.alloc, cursor, family)
     }
 }

@@ -66,7 +66,7 @@ blocks_bounds : (set : Runs) → IsAsSet set → map as_bounds (map new_as_block
 blocks_bounds = bounds_made as_bounds new_as_block 4294967295 (λ b ordered to. new_as_block_bounds b)
 
 -- what is written of them is what is written of the set
-blocks_octets : (set : Runs) → flat_map as_block_octets (map new_as_block set) ≡ as_set_octets set
+pub blocks_octets : (set : Runs) → flat_map as_block_octets (map new_as_block set) ≡ as_set_octets set
 blocks_octets set = flat_map-map as_block_octets new_as_block set
 
 -- the block of a run is one
@@ -82,7 +82,7 @@ blocks_are [] all = tt
 blocks_are (b ∷ set) all = (block_is b all.0, blocks_are set all.1)
 
 -- they stand for the set
-blocks_say : (set : Runs) → IsAsSet set → IsRunsOfBlocks as_bounds (map new_as_block set) set
+pub blocks_say : (set : Runs) → IsAsSet set → IsRunsOfBlocks as_bounds (map new_as_block set) set
 blocks_say = made_of_set as_bounds new_as_block 4294967295 (λ b ordered to. new_as_block_bounds b)
 
 -- ---- how long they are
@@ -122,9 +122,12 @@ length-runs : (set : Runs) → AllByRecursion IsRun32 set → length (as_set_oct
 length-runs [] all = omega arith
 length-runs (b ∷ set) all = omega (arith, length-run b all.0, length-runs set all.1, length-append (as_run_octets b) (as_set_octets set))
 
--- so a length tells how many octets a set has
-pub set_octets_short : (set : Runs) → IsAsSet set → length (as_set_octets set) < 2 ^ 64
-set_octets_short set is = omega (arith, length-runs set (runs_32 set is), run_count set is)
+-- so a set has at most 2 ^ 35 octets
+pub set_octets_few : (set : Runs) → IsAsSet set → length (as_set_octets set) ≤ 2 ^ 35
+set_octets_few set is = omega (arith, length-runs set (runs_32 set is), run_count set is)
+
+set_octets_short : (set : Runs) → IsAsSet set → length (as_set_octets set) < 2 ^ 64
+set_octets_short set is = omega (arith, set_octets_few set is)
 
 -- ---- sequences
 
@@ -133,7 +136,7 @@ pub blocks_reading : IsReading (IsSequenceOf IsAsBlock) as_blocks_at
 blocks_reading = sequence_reading (λ (state : Unit {0}) (x : AsBlock). state) (λ state. IsAsBlock) (λ state. as_block_at) (λ state. as_block_reading) (λ state. as_block_has_octets) tt
 
 -- what is written of a set, in one SEQUENCE, is a SEQUENCE of its blocks
-sequence_blocks : (set : Runs) → IsAsSet set → IsSequenceOf IsAsBlock (as_sequence_octets set) (map new_as_block set)
+pub sequence_blocks : (set : Runs) → IsAsSet set → IsSequenceOf IsAsBlock (as_sequence_octets set) (map new_as_block set)
 sequence_blocks set is =
     let all = runs_32 set is in
     let octets = blocks_octets set in
@@ -166,7 +169,7 @@ written_as_numbers a b is also = (
 -- ---- takes
 
 -- blocks say one set
-one_set : (blocks : List AsBlock) (a b : Runs) → IsRunsOfBlocks as_bounds blocks a → IsRunsOfBlocks as_bounds blocks b → a ≡ b
+pub one_set : (blocks : List AsBlock) (a b : Runs) → IsRunsOfBlocks as_bounds blocks a → IsRunsOfBlocks as_bounds blocks b → a ≡ b
 one_set blocks a b says tell = IsRunsOf-unique (Covers as_bounds blocks) a b says tell
 
 -- a take that answers what the blocks say answers a set of the grammar

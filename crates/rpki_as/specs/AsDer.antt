@@ -1,10 +1,14 @@
--- Blocks of AS numbers and sequences of them in DER (RFC 3779, 3.2.3.4 to 3.2.3.10).
+-- Blocks of AS numbers, sequences of them and AS resources in DER (RFC 3779, 3.2.3).
 use Rattle.std.specs.Prelude.{◌⊎◌, ℕ, ◌≤◌, List, ◌++◌}
 use Rattle.rpki_blocks.specs.Ranges.{RangeValue, range_bounds}
+use Rattle.rpki_chain.specs.declared.choice.ResourcesChoice.{ResourcesChoice}
+use Rattle.rpki_chain.specs.ChoiceDer.{IsChoiceOf, choice_octets}
+use Rattle.rpki_chain.specs.Choices.{ListsBy}
+use Rattle.rpki_chain.specs.Claims.{Claim}
 use Rattle.rpki_chain.specs.Runs.{Runs, IsRunsOfBlocks}
-use Rattle.rpki_der.specs.Der.{Both, IsSequence, Refines, sequence_value}
+use Rattle.rpki_der.specs.Der.{Both, IsSequence, Refines, sequence_value, value}
 use Rattle.rpki_base.specs.AsnDer.{IsAsNumber, as_number_octets}
-use Rattle.rpki_base.specs.DerReading.{IsSequenceOf}
+use Rattle.rpki_base.specs.DerReading.{Encloses, IsSequenceOf}
 use Rattle.rpki_base.specs.DerWriting.{octets_of_all, sequence_octets}
 use Rattle.rpki_as.specs.Blocks.{as_bounds, new_as_block}
 use Rattle.rpki_as.specs.declared.block.AsBlock.{AsBlock}
@@ -31,6 +35,15 @@ IsBlockInAnyOrder bytes u =
 abbrev pub IsAsBlockSequence : List ℕ → Runs → Type 0
 IsAsBlockSequence = Refines (IsSequenceOf IsAsBlock) (IsRunsOfBlocks as_bounds)
 
+-- a SEQUENCE of one value of context tag 0 (128 + 32: of the context, constructed), in which stands a NULL for inherited
+-- resources, and else a SEQUENCE of blocks, one at least (3.2.3.1 to 3.2.3.4; RFC 6487, 4.8.11)
+abbrev pub IsAsChoice : List ℕ → ResourcesChoice (List AsBlock) → Type 0
+IsAsChoice = Encloses 48 (Encloses 160 (IsChoiceOf (IsSequenceOf IsAsBlock)))
+
+-- what is listed stands for the set of its numbers
+abbrev pub IsAsResources : List ℕ → Claim → Type 0
+IsAsResources = Refines IsAsChoice (ListsBy (IsRunsOfBlocks as_bounds))
+
 -- ---- what is written
 
 abbrev pub as_range_content : ℕ × ℕ → List ℕ
@@ -55,3 +68,7 @@ as_set_octets set = octets_of_all as_run_octets set
 -- the same in one SEQUENCE (3.2.3.4)
 abbrev pub as_sequence_octets : Runs → List ℕ
 as_sequence_octets set = sequence_octets as_run_octets set
+
+-- resources that aren't missing (3.2.3.1)
+abbrev pub as_resources_octets : Claim → List ℕ
+as_resources_octets claim = sequence_value (value 160 (choice_octets as_sequence_octets claim))

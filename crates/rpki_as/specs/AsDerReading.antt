@@ -6,7 +6,9 @@ use Rattle.rpki_der.specs.declared.error.DerError.TheVariants.{ReversedRange}
 use Rattle.rpki_der.specs.Der.{Tlv}
 use Rattle.rpki_der.specs.Reading.{◌>>=◌, refined, unsigned, value_at}
 use Rattle.rpki_base.specs.AsnDer.{as_number_at, skip_number}
-use Rattle.rpki_base.specs.DerReading.{by_tag, pair_in, sequence_of}
+use Rattle.rpki_base.specs.DerReading.{by_tag, enclosed_at, pair_in, sequence_of, values_of}
+use Rattle.rpki_chain.specs.declared.choice.ResourcesChoice.{ResourcesChoice}
+use Rattle.rpki_chain.specs.ChoiceDer.{choice_at}
 use Rattle.rpki_as.specs.declared.block.AsBlock.{AsBlock}
 use Rattle.rpki_as.specs.declared.block.AsBlock.TheVariants.{Id, Range}
 
@@ -32,6 +34,10 @@ as_block_at = refined value_at as_block_of
 -- the blocks of a SEQUENCE
 abbrev pub as_blocks_at : List ℕ → Result (List AsBlock × List ℕ) DerError
 as_blocks_at = sequence_of as_block_at
+
+-- resources, of which the blocks are known
+abbrev pub as_choice_at : List ℕ → Result (ResourcesChoice (List AsBlock) × List ℕ) DerError
+as_choice_at = enclosed_at 48 (enclosed_at 160 (choice_at (values_of as_block_at)))
 
 -- ---- passed over
 

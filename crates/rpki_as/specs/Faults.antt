@@ -1,4 +1,4 @@
--- What is printed of the faults of AS block texts.
+-- What is printed of faults.
 use Rattle.std.specs.Prelude.{ℕ, List, codes}
 use Rattle.rpki_as.specs.declared.error.FromStrError.{FromStrError}
 use Rattle.rpki_as.specs.declared.error.FromStrError.TheVariants.{BadAsn, BadRange, BadBlocks}
@@ -8,3 +8,7 @@ abbrev pub as_from_str_error_text : FromStrError → List ℕ
 as_from_str_error_text BadAsn = codes "Bad AS number. Expected format: AS#"
 as_from_str_error_text BadRange = codes "Bad AS range. Expected format: AS#-AS#"
 as_from_str_error_text BadBlocks = codes "Cannot parse blocks."
+
+-- and that of resources which are no set by themselves
+abbrev pub inherited_text : List ℕ
+inherited_text = codes "inherited AS resources"

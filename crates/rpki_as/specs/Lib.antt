@@ -7,3 +7,4 @@ pub mod BlockText
 pub mod Faults
 pub mod ListText
 pub mod Numbers
+pub mod ResourcesText

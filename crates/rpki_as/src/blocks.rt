@@ -1,20 +1,23 @@
 //! Sets of AS numbers.
-ghost use Rattle.std.specs.Prelude.{◌≡◌, ℕ, ◌↔◌, ◌⊎◌, [], ◌∷◌, IsTrue, IfOk, OnOk, OnErr, Some, map, MatchResult};
+ghost use Rattle.std.specs.Prelude.{◌≡◌, ℕ, ◌↔◌, ◌⊎◌, [], ◌∷◌, IsTrue, IfOk, IsErr, Ok, OnOk, OnErr, Some, map, MatchResult};
 ghost use Rattle.std.specs.Slice.Iter.{iter_rest};
 ghost use Rattle.rpki_text.specs.Memory.{IsMemory};
 ghost use Rattle.rpki_text.specs.Reading.{AnswersOrMemory};
 ghost use Rattle.rpki_blocks.specs.Equality.{same_runs, runs_per, runs_equiv};
+ghost use Rattle.rpki_chain.specs.Choices.{MatchChoice};
 ghost use Rattle.rpki_chain.specs.Runs.{Runs, Holds, IsRunsOf, IsRunsOfBlocks};
 ghost use Rattle.rpki_as.specs.Blocks.{as_bounds, new_as_block, IsAsSet};
 ghost use Rattle.rpki_as.specs.ListText.{IsAsListText, HasAsListFault, as_list_text};
 ghost use Rattle.rpki_as.specs.Numbers.{IsListOf, IsSizeOf};
 
 use crate::block::AsBlock;
-use crate::error::FromStrError;
+use crate::error::{FromStrError, InheritedAsResources};
 use crate::iter::AsnIter;
+use crate::resources::AsResources;
 use rpki_base::asn::Asn;
 use rpki_base::list::{fmt_joined, read_list};
 use rpki_base::memory::OrMemory;
+use rpki_chain::choice::{Listed, ResourcesChoice};
 use rpki_chain::set::BlockSet;
 use std::alloc::{AllocError, Allocator, Global};
 use std::fmt;
@@ -76,6 +79,18 @@ impl<A: Allocator> AsBlocks<A> {
     {
         let set = BlockSet::from_vec(alloc, blocks)?;
         Ok(Self::from_set(set))
+    }
+
+    /// The set that AS resources list, and the empty set where they are missing. `InheritedAsResources` where they are
+    /// inherited.
+    pub fn from_resources(resources: AsResources<A>) -> Result<AsBlocks<A>, InheritedAsResources>
+        ensures { MatchChoice resources (result ≡ Ok []) (IsErr result) (λ listed. result ≡ Ok listed) }
+    {
+        match resources.into_choice() {
+            ResourcesChoice::Missing => Ok(AsBlocks::empty()),
+            ResourcesChoice::Inherit => Err(InheritedAsResources),
+            ResourcesChoice::Blocks(blocks) => Ok(blocks),
+        }
     }
 
     /// A set of blocks as a set of AS numbers.
@@ -251,5 +266,17 @@ impl<A: Allocator> fmt::Display for AsBlocks<A> {
 
     fn fmt<W: fmt::Write>(&self, f: &mut fmt::Formatter<W>) -> fmt::Result {
         fmt_joined(self.set.as_slice(), f)
+    }
+}
+
+impl<A: Allocator> Listed for AsBlocks<A> {
+    ghost nothing = { [] };
+
+    fn empty() -> AsBlocks<A> {
+        AsBlocks::empty()
+    }
+
+    fn copy(&self) -> Result<AsBlocks<A>, AllocError> {
+        self.clone()
     }
 }

@@ -1,11 +1,13 @@
-//! Sets of AS numbers, built block by block.
+//! Sets of AS numbers, and AS resources, built block by block.
 ghost use Rattle.std.specs.Prelude.{◌≡◌, ◌++◌, [], ◌∷◌, IfOk, OnOk, OnErr, map};
 ghost use Rattle.rpki_chain.specs.Runs.{Holds, IsRunsOf};
 ghost use Rattle.rpki_as.specs.Blocks.{as_bounds};
 
 use crate::block::AsBlock;
 use crate::blocks::AsBlocks;
+use crate::resources::AsResources;
 use rpki_chain::builder::BlockSetBuilder;
+use rpki_chain::resources::{CollectBlocks, ResourcesBuilder};
 use std::alloc::{AllocError, Allocator, Global};
 use std::fmt;
 use std::marker::Model;
@@ -68,3 +70,29 @@ impl<A: Allocator> fmt::Debug for AsBlocksBuilder<A> {
         f.debug_struct("AsBlocksBuilder").finish_non_exhaustive()
     }
 }
+
+impl<A: Allocator + Copy> CollectBlocks for AsBlocksBuilder<A> {
+    type Memory = A;
+
+    type Resources = AsResources<A>;
+
+    ghost blocks = { λ blocks. blocks };
+
+    ghost claim = { λ claim. claim };
+
+    fn start(alloc: A) -> AsBlocksBuilder<A> {
+        AsBlocksBuilder::new(alloc)
+    }
+
+    fn finish(self) -> Result<AsResources<A>, AllocError> {
+        let blocks = self.finalize()?;
+        Ok(AsResources::blocks(blocks))
+    }
+
+    fn inherited() -> AsResources<A> {
+        AsResources::inherit()
+    }
+}
+
+/// Builds AS resources: inherited ones, or a list, to which a function adds blocks of AS numbers.
+pub type AsResourcesBuilder<A = Global> = ResourcesBuilder<AsBlocksBuilder<A>>;

@@ -1,9 +1,10 @@
-//! What is wrong with a text of AS blocks.
+//! What is wrong with a text of AS blocks, and with resources that are no set by themselves.
 ghost use Rattle.std.specs.Prelude.{◌≡◌, Some};
-ghost use Rattle.rpki_as.specs.Faults.{as_from_str_error_text};
+ghost use Rattle.rpki_as.specs.Faults.{as_from_str_error_text, inherited_text};
 ghost use Rattle.rpki_as.specs.declared.error.FromStrError.TheVariants.{BadAsn};
 
 use rpki_base::asn::ParseAsnError;
+use rpki_chain::choice::InheritedResources;
 use std::error::Error;
 use std::fmt;
 
@@ -37,5 +38,25 @@ impl From<ParseAsnError> for FromStrError {
 
     fn from(_error: ParseAsnError) -> FromStrError {
         FromStrError::BadAsn
+    }
+}
+
+/// AS resources are inherited, and so are no set by themselves.
+#[derive(Clone, Copy, Debug, PartialEq, Eq)]
+pub struct InheritedAsResources;
+
+impl fmt::Display for InheritedAsResources {
+    ghost output = { λ _. Some inherited_text };
+
+    fn fmt<W: fmt::Write>(&self, f: &mut fmt::Formatter<W>) -> fmt::Result {
+        f.write_str("inherited AS resources")
+    }
+}
+
+impl Error for InheritedAsResources {}
+
+impl From<InheritedResources> for InheritedAsResources {
+    fn from(_inherited: InheritedResources) -> InheritedAsResources {
+        InheritedAsResources
     }
 }

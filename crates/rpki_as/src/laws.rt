@@ -1,9 +1,11 @@
-//! What holds of ranges and of the texts of sets, each law as the contract of a function that does nothing.
+//! What holds of ranges and of the texts of sets and resources, each law as the contract of a function that does nothing.
 ghost use Rattle.std.specs.Prelude.{◌≡◌, ℕ, List, ◌↔◌, IsTrue};
 ghost use Rattle.rpki_blocks.specs.Ranges.{RangeValue};
+ghost use Rattle.rpki_chain.specs.Claims.{Claim, IsClaim};
 ghost use Rattle.rpki_chain.specs.Runs.{Runs, Holds};
 ghost use Rattle.rpki_as.specs.Blocks.{IsAsSet};
 ghost use Rattle.rpki_as.specs.ListText.{IsAsListText, as_list_text};
+ghost use Rattle.rpki_as.specs.ResourcesText.{IsAsResourcesText, as_resources_text};
 
 use crate::range::AsRange;
 
@@ -20,4 +22,14 @@ pub fn printed_sets()
         IsAsListText text a → IsAsListText text b → a ≡ b }
     ensures alike { (a b : Runs) → IsAsSet a → IsAsSet b →
         (as_list_text a ≡ as_list_text b) ↔ ((n : ℕ) → Holds a n ↔ Holds b n) }
+{}
+
+/// What is printed of resources is a text that writes them. A text writes one claim at most, so two are printed alike
+/// exactly where they are equal.
+pub fn printed_resources()
+    ensures written { (claim : Claim) → IsClaim IsAsSet claim → IsAsResourcesText (as_resources_text claim) claim }
+    ensures one_claim { (text : List ℕ) (a b : Claim) →
+        IsAsResourcesText text a → IsAsResourcesText text b → a ≡ b }
+    ensures alike { (a b : Claim) → IsClaim IsAsSet a → IsClaim IsAsSet b →
+        (as_resources_text a ≡ as_resources_text b) ↔ (a ≡ b) }
 {}

@@ -9,11 +9,13 @@ pub mod error;
 pub mod iter;
 pub mod laws;
 pub mod range;
+pub mod resources;
 mod text;
 
 pub use block::AsBlock;
 pub use blocks::AsBlocks;
-pub use builder::AsBlocksBuilder;
-pub use error::FromStrError;
+pub use builder::{AsBlocksBuilder, AsResourcesBuilder};
+pub use error::{FromStrError, InheritedAsResources};
 pub use iter::{AsBlockIter, AsnIter};
 pub use range::AsRange;
+pub use resources::AsResources;

@@ -4,12 +4,12 @@ use Rattle.std.proofs.lemmas.Bool.{eqb-true, eq-eqb, ne_eqb}
 use Rattle.std.proofs.lemmas.List.{nil_from_length, append-nil}
 use Rattle.rpki_der.specs.declared.error.DerError.{DerError}
 use Rattle.rpki_der.specs.declared.error.DerError.TheVariants.{BadTag, TrailingData}
-use Rattle.rpki_der.specs.Der.{Tlv, IsBytes, IsTlv, IsSequence, Refines, EachFrom}
+use Rattle.rpki_der.specs.Der.{Tlv, IsBytes, IsTlv, IsSequence, IsValue, OneFront, Refines, EachFrom}
 use Rattle.rpki_der.specs.Reading.{◌>>=◌, IsReading, ended, refined, tagged_at, value_at}
 use Rattle.rpki_der.proofs.Steps.{IsCheck, bind_ok, ok_is, passed_true}
-use Rattle.rpki_der.proofs.Readings.{fits_content, fits_rest, refined_reading, tagged_reading, value_reading}
+use Rattle.rpki_der.proofs.Readings.{fits_content, fits_rest, one_front, refined_reading, tagged_reading, value_reading}
 use Rattle.rpki_der.proofs.Lists.{HasOctets, each_again, each_takes}
-use Rattle.rpki_base.specs.DerReading.{IsSequenceFrom, SaysByTag, SaysPair, Skips, by_tag, pair_in, sequence_from, skipping, values_from}
+use Rattle.rpki_base.specs.DerReading.{Encloses, IsSequenceFrom, SaysByTag, SaysPair, Skips, by_tag, enclosed_at, only, pair_in, sequence_from, skipping, values_from}
 
 -- ---- passed over
 
@@ -61,6 +61,26 @@ by_tag_reading tag One Two one two apart is also =
 pub ended_is : (bytes : List ℕ) (u : Unit {0}) → ended bytes ≡ Ok u → bytes ≡ []
 ended_is bytes u e = nil_from_length bytes (eqb-true (length bytes) 0 (passed_true (eqb (length bytes) 0) TrailingData (Ok tt) u e).0)
 
+-- the one value of a content
+pub only_check : {X : Type 0} (G : List ℕ → X → Type 0) (reading : List ℕ → Result (X × List ℕ) DerError) → IsReading G reading → IsCheck IsBytes G (only reading)
+unfolding only
+only_check G reading is = record {
+  takes = λ content x fits e.
+      let a = bind_ok (reading content) (λ y. ended y.1 >>= λ end. Ok y.0) x e in
+      let b = bind_ok (ended a.0.1) (λ end. Ok a.0.0) x a.2 in
+      let found = is.takes content a.0.0 a.0.1 fits a.1 in
+      let whole : content ≡ found.0 = found.2 ∙ ap (λ (t : List ℕ). found.0 ++ t) (ended_is a.0.1 b.0 b.1) ∙ append-nil found.0 in
+      subst (λ y. G content y) (ok_is a.0.0 x b.2) (subst (λ (t : List ℕ). G t a.0.0) (sym whole) found.1);
+  again = λ content x says.
+      let read : reading content ≡ Ok (x, []) = ap reading (sym (append-nil content)) ∙ is.again content x [] says in
+      rw read refl;
+}
+
+-- and a value that encloses one
+pub enclosed_reading : {X : Type 0} (tag : ℕ) (G : List ℕ → X → Type 0) (reading : List ℕ → Result (X × List ℕ) DerError) → IsReading G reading → IsReading (Encloses tag G) (enclosed_at tag reading)
+enclosed_reading tag G reading is =
+    refined_reading (λ bytes content. IsValue bytes tag content) G IsBytes (tagged_at tag) (only reading) (tagged_reading tag) (λ front content h fits. fits_content front tag content h fits) (only_check G reading is)
+
 -- two values that are read say what the grammar says
 pair_says : {X Y : Type 0} (G : List ℕ → X → Type 0) (C : X → X → Y → Type 0) (reading : List ℕ → Result (X × List ℕ) DerError) (check : X → X → Result Y DerError)
     → IsReading G reading → ((first second : X) (y : Y) → check first second ≡ Ok y → C first second y)
@@ -109,3 +129,11 @@ pub sequence_reading : {S X : Type 0} (next : S → X → S) (G : S → List ℕ
     → ((state : S) → IsReading (G state) (reading state)) → ((state : S) → HasOctets (G state)) → (state : S) → IsReading (IsSequenceFrom next G state) (sequence_from next reading state)
 sequence_reading next G reading is has state =
     refined_reading IsSequence (EachFrom next G state) IsBytes (tagged_at 48) (values_from next reading state) (tagged_reading 48) (λ front content h fits. fits_content front 48 content h fits) (values_check next G reading is has state)
+
+-- ---- what values say
+
+-- octets begin with at most one thing that is said, where a value says one thing at most
+pub one_front_said : {X Y : Type 0} (G : List ℕ → X → Type 0) (C : X → Y → Type 0) (reading : List ℕ → Result (X × List ℕ) DerError) → IsReading G reading → ((x : X) (a b : Y) → C x a → C x b → a ≡ b) → OneFront (Refines G C)
+one_front_said {X} G C reading is one a b x y r s (u, grammar, says) (v, also, tells) same =
+    let front = one_front G reading is a b u v r s grammar also same in
+    (front.0, one v x y (subst (λ (w : X). C w x) front.1 says) tells, front.2)

@@ -1,9 +1,9 @@
--- What the readings of blocks and other values share: values of one of two tags, two values in a content, a value that
+-- What the readings of blocks and other values share: values of one of two tags, one or two in a content, a value that
 -- is there if its tag is, values that are passed over, and a SEQUENCE of values (X.690, 8.9 and 8.10).
 use Rattle.std.specs.Prelude.{◌≡◌, ◌⊎◌, ℕ, Bool, false, List, [], ◌∷◌, length, Option, Some, None, Result, Ok, Err, ◌==◌, if◌then◌else◌}
 use Rattle.rpki_der.specs.declared.error.DerError.{DerError}
 use Rattle.rpki_der.specs.declared.error.DerError.TheVariants.{BadTag}
-use Rattle.rpki_der.specs.Der.{Tlv, Both, Each, EachFrom, IsSequence, Refines}
+use Rattle.rpki_der.specs.Der.{Tlv, Both, Each, EachFrom, IsSequence, IsValue, Refines}
 use Rattle.rpki_der.specs.Reading.{◌>>=◌, each_from, ended, refined, tagged_at}
 
 -- ---- one of two tags
@@ -32,6 +32,22 @@ pair_in reading check content = do
   y ← check first.0 second.0
   end ← ended second.1
   Ok y
+
+-- ---- one value in a content
+
+-- a value of the tag whose content is a value of G, and nothing else, as explicit tags have it (X.690, 8.14)
+abbrev pub Encloses : {X : Type 0} → ℕ → (List ℕ → X → Type 0) → List ℕ → X → Type 0
+Encloses tag G = Refines (λ bytes content. IsValue bytes tag content) G
+
+-- what reading finds in a content, and nothing else
+unfoldable pub only : {X : Type 0} → (List ℕ → Result (X × List ℕ) DerError) → List ℕ → Result X DerError
+only reading content = do
+  x ← reading content
+  end ← ended x.1
+  Ok x.0
+
+abbrev pub enclosed_at : {X : Type 0} → ℕ → (List ℕ → Result (X × List ℕ) DerError) → List ℕ → Result (X × List ℕ) DerError
+enclosed_at tag reading = refined (tagged_at tag) (only reading)
 
 -- ---- passed over
 

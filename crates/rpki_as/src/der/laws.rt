@@ -1,8 +1,10 @@
-//! What holds of the octets of blocks and sets, each law as the contract of a function that does nothing.
-ghost use Rattle.std.specs.Prelude.{◌≡◌, ◌↔◌, ℕ};
+//! What holds of the octets of blocks, sets and resources, each law as the contract of a function that does nothing.
+ghost use Rattle.std.specs.Prelude.{◌≡◌, ◌≢◌, ◌↔◌, ℕ};
+ghost use Rattle.rpki_chain.specs.Claims.{Claim, IsClaim};
 ghost use Rattle.rpki_chain.specs.Runs.{Runs, Holds};
+ghost use Rattle.rpki_chain.specs.declared.choice.ResourcesChoice.TheVariants.{Missing};
 ghost use Rattle.rpki_der.specs.Der.{OneFront};
-ghost use Rattle.rpki_as.specs.AsDer.{IsAsBlock, IsBlockInAnyOrder, IsAsBlockSequence, as_sequence_octets, as_set_octets};
+ghost use Rattle.rpki_as.specs.AsDer.{IsAsBlock, IsBlockInAnyOrder, IsAsBlockSequence, IsAsResources, as_resources_octets, as_sequence_octets, as_set_octets};
 ghost use Rattle.rpki_as.specs.Blocks.{IsAsSet};
 
 /// Octets begin with at most one block, with at most one value that is passed over as a block, and with at most one
@@ -19,4 +21,14 @@ pub fn written_sets()
     ensures sequence { (set : Runs) → IsAsSet set → IsAsBlockSequence (as_sequence_octets set) set }
     ensures alike { (a b : Runs) → IsAsSet a → IsAsSet b →
         (as_set_octets a ≡ as_set_octets b) ↔ ((n : ℕ) → Holds a n ↔ Holds b n) }
+{}
+
+/// Octets begin with at most one value that is AS resources, which stands for one claim. What is written of resources that
+/// aren't missing stands for them, and two such are written alike exactly where they are equal.
+pub fn written_resources()
+    ensures one { OneFront IsAsResources }
+    ensures written { (claim : Claim) → IsClaim IsAsSet claim → claim ≢ Missing →
+        IsAsResources (as_resources_octets claim) claim }
+    ensures alike { (a b : Claim) → IsClaim IsAsSet a → IsClaim IsAsSet b → a ≢ Missing → b ≢ Missing →
+        (as_resources_octets a ≡ as_resources_octets b) ↔ (a ≡ b) }
 {}

@@ -1,0 +1,99 @@
+-- A text writes one claim at most, or has one fault; what is printed of resources writes them.
+use Rattle.std.proofs.Common.{◌≡◌, ℕ, List, [], ◌∷◌, ◌++◌, Result, MatchResult, codes, refl, ap, ◌∙◌, slice_index, map, arith, eqb, Bool, true, false}
+use Rattle.std.specs.List.{flat_map}
+use Rattle.std.specs.Bool.{Decides}
+use Rattle.std.specs.Cmp.Lexicographic.{pointwise, pointwise_decides}
+use Rattle.std.proofs.lemmas.Bool.{eqb-true, eq-eqb}
+use Rattle.rpki_text.specs.Lists.{elements}
+use Rattle.rpki_text.specs.Memory.{IfRefused}
+use Rattle.rpki_text.specs.Reading.{AnswersOrMemory}
+use Rattle.rpki_text.specs.declared.memory.OrMemory.{OrMemory}
+use Rattle.rpki_text.specs.declared.memory.OrMemory.TheVariants.{Refused, Memory}
+use Rattle.rpki_text.proofs.ListLemmas.{AnswersOrMemory-from_found, first_fault_apart, same_first_fault}
+use Rattle.rpki_chain.specs.Claims.{Claim, IsClaim, claim_of}
+use Rattle.rpki_chain.specs.Runs.{Runs}
+use Rattle.rpki_chain.specs.declared.choice.ResourcesChoice.TheVariants.{Missing, Inherit, Blocks}
+use Rattle.rpki_chain.proofs.ClaimLemmas.{empty_set}
+use Rattle.rpki_as.specs.Blocks.{IsAsSet, new_as_block}
+use Rattle.rpki_as.specs.BlockText.{IsAsBlockText, HasAsBlockFault, as_block_text}
+use Rattle.rpki_as.specs.ListText.{IsAsListText, HasAsListFault, as_list_text}
+use Rattle.rpki_as.specs.ResourcesText.{IsInherit, IsAsResourcesText, HasAsResourcesFault, as_resources_text}
+use Rattle.rpki_as.specs.declared.block.AsBlock.{AsBlock}
+use Rattle.rpki_as.specs.declared.block.AsBlock.TheVariants.{Id, Range}
+use Rattle.rpki_as.specs.declared.error.FromStrError.{FromStrError}
+use Rattle.rpki_as.proofs.BlockLemmas.{block_apart, same_block_fault}
+use Rattle.rpki_as.proofs.ListLemmas.{IsAsListText-as_list_text, IsAsListText-one}
+
+-- what isn't told isn't so
+pub not_true : (b : Bool) (P : Type 0) → Decides b P → b ≡ false → ¬ P
+not_true true P decides e = absurd cc
+not_true false P decides e = λ p. (let t : false ≡ true = decides.1 p in absurd cc)
+
+module _ (text : List ℕ) where
+  -- whether it is `inherit` is what its comparison tells
+  pub inherit_decides : Decides (pointwise eqb text (codes "inherit")) (IsInherit text)
+  inherit_decides = pointwise_decides {E = eqb} (λ a b. (eqb-true a b, eq-eqb a b)) text (codes "inherit")
+
+  -- a text writes one claim at most
+  pub one_claim : (a b : Claim) → IsAsResourcesText text a → IsAsResourcesText text b → a ≡ b
+  one_claim Missing Missing h k = refl
+  one_claim Missing Inherit h k = absurd (h.0 k)
+  one_claim Missing (Blocks y) h k = absurd (k.2 (IsAsListText-one text y [] k.1 h.1))
+  one_claim Inherit Missing h k = absurd (k.0 h)
+  one_claim Inherit Inherit h k = refl
+  one_claim Inherit (Blocks y) h k = absurd (k.0 h)
+  one_claim (Blocks x) Missing h k = absurd (h.2 (IsAsListText-one text x [] h.1 k.1))
+  one_claim (Blocks x) Inherit h k = absurd (h.0 k)
+  one_claim (Blocks x) (Blocks y) h k = ap (λ (runs : Runs). Blocks runs) (IsAsListText-one text x y h.1 k.1)
+
+  -- and has no fault then
+  list_apart : (set : Runs) (e : FromStrError) → IsAsListText text set → HasAsListFault text e → ⊥
+  list_apart set e h f = first_fault_apart IsAsBlockText HasAsBlockFault block_apart (elements text) h.blocks e h.are_written f
+
+  claim_apart : (a : Claim) (e : FromStrError) → IsAsResourcesText text a → HasAsResourcesFault text e → ⊥
+  claim_apart Missing e h f = list_apart [] e h.1 f.1
+  claim_apart Inherit e h f = f.0 h
+  claim_apart (Blocks x) e h f = list_apart x e h.1 f.1
+
+  -- a reader that finds what the text has meets the whole contract
+  pub resources_answers : (r : Result Claim (OrMemory FromStrError)) → MatchResult r (IsAsResourcesText text) (IfRefused (HasAsResourcesFault text)) → AnswersOrMemory (λ claim. claim) (IsAsResourcesText text) (HasAsResourcesFault text) r
+  resources_answers r found =
+      AnswersOrMemory-from_found (λ (claim : Claim). claim) (IsAsResourcesText text) (HasAsResourcesFault text) one_claim claim_apart
+      (λ d e f g. same_first_fault IsAsBlockText HasAsBlockFault block_apart same_block_fault (elements text) d e f.1 g.1) r found
+
+  -- the fault of a list is that of a text which isn't `inherit`
+  pub list_fault : ¬ IsInherit text → (d : OrMemory FromStrError) → IfRefused (HasAsListFault text) d → IfRefused (HasAsResourcesFault text) d
+  list_fault other (Refused e) f = (other, f)
+  list_fault other (Memory e) f = tt
+
+  -- a list writes the claim that lists its set
+  pub list_claim : ¬ IsInherit text → (set : Runs) → IsAsListText text set → IsAsResourcesText text (claim_of set)
+  list_claim other [] h = (other, h)
+  list_claim other (run ∷ runs) h = (other, h, λ none. absurd cc)
+
+-- ---- printed
+
+-- what is printed of a block begins with an `A`
+first_is : (b : AsBlock) (more : List ℕ) → slice_index (as_block_text b ++ more) 0 ≡ 65
+first_is (Id n) more = refl
+first_is (Range r) more = refl
+
+-- a text that does, or an empty one, isn't `inherit`
+begins_otherwise : (text : List ℕ) → slice_index text 0 ≡ 65 → IsInherit text → ⊥
+begins_otherwise text first e = let other : slice_index text 0 ≡ 105 = ap (λ t. slice_index t 0) e in omega (arith, first, other)
+
+is_empty : (text : List ℕ) → text ≡ [] → IsInherit text → ⊥
+is_empty text none e = let other : slice_index text 0 ≡ 105 = ap (λ t. slice_index t 0) e in let zero : slice_index text 0 ≡ 0 = ap (λ t. slice_index t 0) none in omega (arith, zero, other)
+
+-- so what is printed of numbers isn't
+not_inherit : (set : Runs) (text : List ℕ) → text ≡ as_list_text set → IsInherit text → ⊥
+not_inherit [] text printed = is_empty text printed
+not_inherit (run ∷ runs) text printed =
+    let more = flat_map (λ next. codes ", " ++ next) (map as_block_text (map new_as_block runs)) in
+    begins_otherwise text (ap (λ t. slice_index t 0) printed ∙ first_is (new_as_block run) more)
+
+-- what is printed of resources writes them
+pub printed_resources : (text : List ℕ) (claim : Claim) → IsClaim IsAsSet claim → text ≡ as_resources_text claim → IsAsResourcesText text claim
+printed_resources text Missing is printed = (not_inherit [] text printed, IsAsListText-as_list_text text [] (empty_set 4294967295) printed)
+printed_resources text Inherit is printed = printed
+printed_resources text (Blocks set) is printed = (not_inherit set text printed, IsAsListText-as_list_text text set is.0 printed, is.1)

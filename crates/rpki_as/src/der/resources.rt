@@ -1,0 +1,108 @@
+//! AS resources in DER: a SEQUENCE of a tagged NULL or SEQUENCE of blocks (RFC 3779, 3.2.3.1 to 3.2.3.4; RFC 6487, 4.8.11).
+ghost use Rattle.rpki_der.specs.Reading.{tagged_at};
+ghost use Rattle.rpki_der.specs.Views.{Takes, left};
+
+use crate::der::block::AsBlockReader;
+use crate::resources::AsResources;
+use rpki_base::memory::OrMemory;
+use rpki_chain::der::{choice_len, encode_choice, take_choice};
+use rpki_der::{Cursor, DerError, header_len, put_header, tag};
+use std::alloc::{AllocError, Allocator};
+
+impl<A: Allocator> AsResources<A> {
+    ghost use Rattle.std.specs.Prelude.{◌≡◌, ◌≢◌, ℕ, List, ◌≤◌, ◌+◌, ◌++◌, length, vec_len, OnOk, OnErr, IsOk, MatchResult};
+    ghost use Rattle.std.specs.Vec.{vec_capacity};
+    ghost use Rattle.rpki_chain.specs.Choices.{ListsBy};
+    ghost use Rattle.rpki_chain.specs.Claims.{Claim, IsClaim};
+    ghost use Rattle.rpki_chain.specs.Runs.{IsRunsOfBlocks};
+    ghost use Rattle.rpki_chain.specs.declared.choice.ResourcesChoice.TheVariants.{Missing};
+    ghost use Rattle.rpki_der.specs.Views.{Lenient, left};
+    ghost use Rattle.rpki_base.specs.DerViews.{ReadsOrMemory, TakesSaidOrMemory};
+    ghost use Rattle.rpki_text.specs.Memory.{IsMemory};
+    ghost use Rattle.rpki_as.specs.AsDer.{IsAsResources, as_resources_octets};
+    ghost use Rattle.rpki_as.specs.AsDerReading.{as_choice_at};
+    ghost use Rattle.rpki_as.specs.Blocks.{IsAsSet, as_bounds};
+
+    /// Takes AS resources, which are inherited or listed. The blocks may come in any order and may overlap.
+    ///
+    /// `Refused` with the first fault: that of the SEQUENCE and of the tagged value in it as in [`Cursor::take_sequence`]; where
+    /// that has neither a NULL nor a SEQUENCE, `BadTag`; `BadNull` for a NULL with content; the fault of a block as in
+    /// [`AsBlock::take_opt_from`](crate::block::AsBlock::take_opt_from); `EmptyBlocks` for a SEQUENCE of no block; and then
+    /// `TrailingData` for octets that are left in one of the two that enclose it. `Memory` where there is no memory for the
+    /// blocks. The cursor then stays.
+    pub fn take_from(
+        alloc: A,
+        cursor: &mut Cursor<'_>,
+    ) -> Result<AsResources<A>, OrMemory<DerError>>
+    where
+        A: Copy,
+        ensures reads { Lenient cursor.old (ReadsOrMemory IsAsResources (λ claim. claim) cursor.old cursor.new result) }
+        ensures exact { Lenient cursor.old (TakesSaidOrMemory (ListsBy (IsRunsOfBlocks as_bounds)) cursor.old cursor.new result as_choice_at) }
+        // What is written of resources is read as them, whatever follows it.
+        ensures reads_back { (claim : Claim) (rest : List ℕ) → IsClaim IsAsSet claim → claim ≢ Missing → left cursor.old ≡ as_resources_octets claim ++ rest
+            → MatchResult result (λ read. (read ≡ claim) × (left cursor.new ≡ rest)) IsMemory }
+    {
+        Self::next_resources(alloc, cursor)
+    }
+
+    /// Appends the resources, which aren't missing: inherited ones as a NULL, and else the SEQUENCE of the runs that are
+    /// listed, ascending, each as an AS number where it is one, and else as the SEQUENCE of its bounds. Round that stand a
+    /// tag and a SEQUENCE. `AllocError` where there is no memory for all of it; then the octets stay as they were.
+    pub fn encode<B: Allocator>(&self, out: &mut Vec<u8, B>) -> Result<(), AllocError>
+        requires { self.now ≢ Missing }
+        ensures ok { OnOk result (out.new.items ≡ out.old.items ++ as_resources_octets self.now) }
+        ensures err { OnErr result (out.new.items ≡ out.old.items) }
+        ensures succeeds { vec_len out.old + length (as_resources_octets self.now) ≤ vec_capacity out.old → IsOk result }
+        ensures capacity { vec_capacity out.old ≤ vec_capacity out.new }
+        ensures claim { IsClaim IsAsSet self.now }
+    {
+        let choice = self.as_choice();
+        let Some(choice_len) = choice_len(&choice) else {
+            return Err(AllocError);
+        };
+        let Some(tagged_len) = header_len(tag::CONTEXT_0, choice_len).checked_add(choice_len) else {
+            return Err(AllocError);
+        };
+        let Some(whole_len) = header_len(tag::SEQUENCE, tagged_len).checked_add(tagged_len) else {
+            return Err(AllocError);
+        };
+        out.reserve(whole_len)?;
+        put_header(out, tag::SEQUENCE, tagged_len)?;
+        put_header(out, tag::CONTEXT_0, choice_len)?;
+        encode_choice(&choice, out)
+    }
+
+    // The reading behind `take_from`.
+    #[tactic(auto, unfolding(rpki_der::specs::Reading::refined, rpki_base::specs::DerReading::only))]
+    fn next_resources(
+        alloc: A,
+        cursor: &mut Cursor<'_>,
+    ) -> Result<AsResources<A>, OrMemory<DerError>>
+    where
+        A: Copy,
+        ensures exact { TakesSaidOrMemory (ListsBy (IsRunsOfBlocks as_bounds)) cursor.old cursor.new result as_choice_at }
+    {
+        let mut ahead = *cursor;
+        let mut inside = ahead.take_sequence()?;
+        let mut tagged = take_tagged(&mut inside, tag::CONTEXT_0)?;
+        let choice = take_choice(alloc, &AsBlockReader, &mut tagged)?;
+        tagged.finish()?;
+        inside.finish()?;
+        *cursor = ahead;
+        Ok(AsResources::from_choice(choice))
+    }
+}
+
+/// Takes a value of a tag and answers a cursor over its content.
+#[tactic(auto, unfolding(rpki_der::specs::Reading::tagged_at))]
+fn take_tagged<'a>(cursor: &mut Cursor<'a>, tag: u8) -> Result<Cursor<'a>, DerError>
+    ensures exact { Takes left cursor.old cursor.new result (tagged_at tag) }
+{
+    let mut ahead = *cursor;
+    let value = ahead.take_value()?;
+    if value.tag() != tag {
+        return Err(DerError::BadTag);
+    }
+    *cursor = ahead;
+    Ok(value.cursor())
+}

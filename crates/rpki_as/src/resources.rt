@@ -1,0 +1,196 @@
+//! AS numbers that are missing, inherited from the issuer, or listed (RFC 3779, 3.2.3).
+ghost use Rattle.std.specs.Prelude.{◌≡◌, ◌≢◌, ◌↔◌, [], IsTrue, IfOk, Ok, Some, MatchResult};
+ghost use Rattle.rpki_text.specs.Memory.{IsMemory};
+ghost use Rattle.rpki_text.specs.Reading.{AnswersOrMemory};
+ghost use Rattle.rpki_blocks.specs.Equality.{same_runs, runs_per, runs_equiv};
+ghost use Rattle.rpki_chain.specs.ChoiceEquality.{choice_eq, choice_equiv, choice_per};
+ghost use Rattle.rpki_chain.specs.Choices.{MatchChoice, IsRefused};
+ghost use Rattle.rpki_chain.specs.ChoiceDer.{choice_octets};
+ghost use Rattle.rpki_chain.specs.Claims.{Claim, IsClaim, ListsSome, claim_of};
+ghost use Rattle.rpki_chain.specs.declared.choice.ResourcesChoice.TheVariants.{Missing, Inherit};
+ghost use Rattle.rpki_base.specs.DerWriting.{sequence_octets};
+ghost use Rattle.rpki_as.specs.AsDer.{as_block_octets, as_sequence_octets};
+ghost use Rattle.rpki_as.specs.Blocks.{IsAsSet};
+ghost use Rattle.rpki_as.specs.ResourcesText.{IsAsResourcesText, HasAsResourcesFault, as_resources_text};
+
+use crate::block::AsBlock;
+use crate::blocks::AsBlocks;
+use crate::error::{FromStrError, InheritedAsResources};
+use rpki_base::memory::OrMemory;
+use rpki_chain::choice::ResourcesChoice;
+use rpki_chain::set::BlockSet;
+use std::alloc::{AllocError, Allocator, Global};
+use std::fmt;
+use std::marker::Model;
+
+/// AS numbers that are missing, inherited from the issuer, or listed. A listed set isn't empty.
+///
+/// Contracts see them as missing, inherited, or the ascending list of the runs of what is listed, which isn't empty.
+#[derive(Drop)]
+pub struct AsResources<A: Allocator = Global> {
+    choice: ResourcesChoice<AsBlocks<A>>,
+}
+
+impl<A: Allocator> Model for AsResources<A> {
+    ghost use Rattle.rpki_chain.specs.Claims.{Claim, ListsSome};
+
+    ghost Value = { Claim };
+
+    ghost view = { λ r. r.choice };
+
+    ghost invariant = { λ r. ListsSome r.choice };
+}
+
+impl<A: Allocator> AsResources<A> {
+    /// Missing resources: there are none.
+    pub fn missing() -> AsResources<A>
+        ensures { result ≡ Missing }
+    {
+        AsResources {
+            choice: ResourcesChoice::Missing,
+        }
+    }
+
+    /// Resources that are those of the issuer.
+    pub fn inherit() -> AsResources<A>
+        ensures { result ≡ Inherit }
+    {
+        AsResources {
+            choice: ResourcesChoice::Inherit,
+        }
+    }
+
+    /// Resources that list a set, and missing ones where the set is empty.
+    pub fn blocks(blocks: AsBlocks<A>) -> AsResources<A>
+        ensures { result ≡ claim_of blocks }
+    {
+        if blocks.is_empty() {
+            return AsResources::missing();
+        }
+        AsResources {
+            choice: ResourcesChoice::Blocks(blocks),
+        }
+    }
+
+    /// Whether the resources are those of the issuer.
+    pub fn is_inherited(&self) -> bool
+        ensures { IsTrue result ↔ (self.now ≡ Inherit) }
+    {
+        self.choice.is_inherited()
+    }
+
+    /// Whether there are none.
+    pub fn is_missing(&self) -> bool
+        ensures { IsTrue result ↔ (self.now ≡ Missing) }
+    {
+        !self.choice.is_present()
+    }
+
+    /// Whether the resources are inherited or listed.
+    pub fn is_present(&self) -> bool
+        ensures { IsTrue result ↔ (self.now ≢ Missing) }
+    {
+        self.choice.is_present()
+    }
+
+    /// The set that is listed, and the empty set where the resources are missing. `Refused` where they are inherited,
+    /// `Memory` where there is no memory for a set that is listed.
+    pub fn to_blocks(&self) -> Result<AsBlocks<A>, OrMemory<InheritedAsResources>>
+        ensures { MatchChoice self.now (result ≡ Ok []) (IsRefused result)
+            (λ listed. MatchResult result (λ set. set ≡ listed) IsMemory) }
+    {
+        match self.choice.to_blocks() {
+            Ok(blocks) => Ok(blocks),
+            Err(OrMemory::Refused(inherited)) => Err(OrMemory::Refused(inherited.into())),
+            Err(OrMemory::Memory(error)) => Err(OrMemory::Memory(error)),
+        }
+    }
+
+    /// The same resources; a set that they list has one owner more.
+    pub fn clone(&self) -> Result<AsResources<A>, AllocError>
+        ensures { IfOk result (λ resources. resources ≡ self.now) }
+    {
+        let choice = self.choice.clone()?;
+        Ok(AsResources { choice })
+    }
+
+    /// Resources that list no empty set, as AS resources.
+    pub(crate) fn from_choice(choice: ResourcesChoice<BlockSet<AsBlock, A>>) -> AsResources<A>
+        requires { ListsSome choice }
+        ensures { result ≡ choice }
+    {
+        AsResources {
+            choice: choice.map_blocks(AsBlocks::from_set),
+        }
+    }
+
+    /// The blocks that are listed, each a run in the form that `new` gives.
+    pub(crate) fn as_choice(&self) -> ResourcesChoice<&[AsBlock]>
+        ensures octets { choice_octets (λ blocks. sequence_octets as_block_octets blocks.now) result ≡ choice_octets as_sequence_octets self.now }
+        ensures claim { IsClaim IsAsSet self.now }
+    {
+        match &self.choice {
+            ResourcesChoice::Missing => ResourcesChoice::Missing,
+            ResourcesChoice::Inherit => ResourcesChoice::Inherit,
+            ResourcesChoice::Blocks(blocks) => ResourcesChoice::Blocks(blocks.iter().as_slice()),
+        }
+    }
+
+    /// What is said of the AS numbers.
+    pub(crate) fn into_choice(self) -> ResourcesChoice<AsBlocks<A>>
+        ensures { result ≡ self }
+    {
+        self.choice
+    }
+
+    /// The resources that a text writes: `inherit` exactly, and else a list of blocks as in [`AsBlocks::from_str`]. They are
+    /// missing where the list has no blocks. The first element of a list that is no block is refused, as its own fault.
+    pub fn from_str(alloc: A, text: &str) -> Result<AsResources<A>, OrMemory<FromStrError>>
+    where
+        A: Copy,
+        ensures exact { AnswersOrMemory (λ claim. claim) (IsAsResourcesText text.now) (HasAsResourcesFault text.now) result }
+        // What is printed of resources is read as them.
+        ensures reads_back { (claim : Claim) → IsClaim IsAsSet claim → text.now ≡ as_resources_text claim
+            → MatchResult result (λ read. read ≡ claim) IsMemory }
+    {
+        if text == "inherit" {
+            return Ok(AsResources::inherit());
+        }
+        let blocks = AsBlocks::from_str(alloc, text)?;
+        Ok(AsResources::blocks(blocks))
+    }
+}
+
+impl<A: Allocator> fmt::Debug for AsResources<A> {
+    fn fmt<W: fmt::Write>(&self, f: &mut fmt::Formatter<W>) -> fmt::Result {
+        self.choice.fmt(f)
+    }
+}
+
+/// Resources are equal where both are missing, both are inherited, or both list the same numbers.
+impl<A: Allocator> PartialEq for AsResources<A> {
+    ghost eq = { λ a b. choice_eq same_runs a b };
+
+    ghost laws = { choice_per same_runs runs_per };
+
+    fn eq(&self, other: &AsResources<A>) -> bool
+        ensures value { result ≡ choice_eq same_runs self.now other.now }
+        ensures same { IsTrue result ↔ (self.now ≡ other.now) }
+    {
+        self.choice == other.choice
+    }
+}
+
+impl<A: Allocator> Eq for AsResources<A> {
+    ghost laws = { choice_equiv same_runs runs_equiv };
+}
+
+/// Prints nothing for missing resources, `inherit` for inherited ones, and else the blocks that are listed, ascending,
+/// joined by a comma and a space.
+impl<A: Allocator> fmt::Display for AsResources<A> {
+    ghost output = { λ claim. Some (as_resources_text claim) };
+
+    fn fmt<W: fmt::Write>(&self, f: &mut fmt::Formatter<W>) -> fmt::Result {
+        self.choice.fmt(f)
+    }
+}

@@ -109,6 +109,17 @@ module _ {B : Type 0} (f : B → ℕ × ℕ) (form : ℕ × ℕ → B) (xs some 
     λ (a, b). ((Holds-map f some n).0 a, λ c. b ((Holds-map f others n).1 c)),
   )) (IsRunsOf-from_chain f form _ xs h)
 
+  -- the runs of what one chain or the other has
+  pub IsRunsOf-union : IsChainOf f form (λ n. Covers f some n ⊎ Covers f others n) xs → IsRunsOf (λ n. Holds (map f some) n ⊎ Holds (map f others) n) (map f xs)
+  IsRunsOf-union h = IsRunsOf-same (map f xs) _ _ (λ n. (
+    ⊎_elim (λ a. inl ((Holds-map f some n).1 a)) (λ b. inr ((Holds-map f others n).1 b)),
+    ⊎_elim (λ a. inl ((Holds-map f some n).0 a)) (λ b. inr ((Holds-map f others n).0 b)),
+  )) (IsRunsOf-from_chain f form _ xs h)
+
+-- the runs of one set or another are those of the other or the one
+pub IsRunsOf-swap : (S U : ℕ → Type 0) (xs : Runs) → IsRunsOf (λ n. S n ⊎ U n) xs → IsRunsOf (λ n. U n ⊎ S n) xs
+IsRunsOf-swap S U xs h = IsRunsOf-same xs _ _ (λ n. (⊎_elim inr inl, ⊎_elim inr inl)) h
+
 -- whether runs hold a number is decided
 pub Holds-decided : (runs : Runs) (n : ℕ) → Holds runs n ⊎ (Holds runs n → ⊥)
 Holds-decided = Covers-decided (λ b. b)

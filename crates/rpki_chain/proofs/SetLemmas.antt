@@ -1,5 +1,5 @@
 -- Chains of blocks, and the sets that they are.
-use Rattle.std.proofs.Common.{◌≡◌, ℕ, ◌+◌, ◌-◌, ◌<◌, ◌≤◌, ◌↔◌, ◌⊎◌, inl, inr, ⊎_elim, List, [], ◌∷◌, length, get_or, map, refl, sym, ap, ◌++◌, Result, IfOk, subst, arith}
+use Rattle.std.proofs.Common.{◌≡◌, ℕ, ◌+◌, ◌-◌, ◌<◌, ◌≤◌, ◌↔◌, ◌⊎◌, inl, ⊎_elim, List, [], ◌∷◌, length, get_or, map, refl, sym, ap, Result, IfOk, subst, arith}
 use Rattle.std.specs.Bool.{Decides}
 use Rattle.std.specs.Prelude.{All}
 use Rattle.std.specs.Cmp.Lexicographic.{pointwise_decides}
@@ -12,7 +12,6 @@ use Rattle.rpki_blocks.specs.Equality.{is_same_pair, same_runs}
 use Rattle.rpki_blocks.specs.Sets.{Covers, IsInside, IsNew, IsChain}
 use Rattle.rpki_chain.specs.Runs.{Runs, Holds, IsRunsOf, IsRunsOfBlocks}
 use Rattle.rpki_blocks.proofs.Chains.{Covers-nil}
-use Rattle.rpki_blocks.proofs.Unique.{Covers-head, Covers-tail, Covers-cons_cases}
 use Rattle.rpki_chain.proofs.RunLists.{IsRunsOf-itself, IsRunsOf-same, IsRunsOfBlocks-bounds, Holds-map}
 
 -- whether two sets are the same is what the comparison of their bounds tells
@@ -53,24 +52,6 @@ module _ {B : Type 0} (f : B → ℕ × ℕ) where
   -- what is made of the chain of S is the set S
   pub made : {E : Type 0} (r : Result Runs E) (S : ℕ → Type 0) (blocks : List B) → IsRunsOf S (map f blocks) → IfOk r (λ set. set ≡ map f blocks) → IfOk r (IsRunsOf S)
   made r S blocks runs h = IfOk-weaker r _ _ (λ set same. subst (IsRunsOf S) (sym same) runs) h
-
-  -- two lists of blocks, one after the other, cover what one or the other covers
-  covers_both : (own other : List B) (n : ℕ) → Covers f (own ++ other) n ↔ (Covers f own n ⊎ Covers f other n)
-  covers_both [] other n = (inr, ⊎_elim (λ c. absurd (Covers-nil f n c)) (λ c. c))
-  covers_both (x ∷ own) other n =
-      let rest = covers_both own other n in (
-        λ c. ⊎_elim (λ w. inl (Covers-head f x own n w)) (λ r. ⊎_elim (λ a. inl (Covers-tail f x own n a)) inr (rest.0 r)) (Covers-cons_cases f x (own ++ other) n c),
-        ⊎_elim
-            (λ a. ⊎_elim (Covers-head f x (own ++ other) n) (λ r. Covers-tail f x (own ++ other) n (rest.1 (inl r))) (Covers-cons_cases f x own n a))
-            (λ b. Covers-tail f x (own ++ other) n (rest.1 (inr b))),
-      )
-
-  -- the blocks of two chains, one after the other, cover what one or the other holds
-  pub IsRunsOf-both : (runs : Runs) (own other : List B) → IsRunsOf (Covers f (own ++ other)) runs → IsRunsOf (λ n. Holds (map f own) n ⊎ Holds (map f other) n) runs
-  IsRunsOf-both runs own other h = IsRunsOf-same runs _ _ (λ n. (
-    λ c. ⊎_elim (λ a. inl ((Holds-map f own n).1 a)) (λ b. inr ((Holds-map f other n).1 b)) ((covers_both own other n).0 c),
-    λ held. (covers_both own other n).1 (⊎_elim (λ a. inl ((Holds-map f own n).0 a)) (λ b. inr ((Holds-map f other n).0 b)) held),
-  )) h
 
   -- blocks in new form are those that are made of their bounds
   pub blocks_made : (form : ℕ × ℕ → B) (xs : List B) → All (IsNew f form) xs → map form (map f xs) ≡ xs
@@ -125,4 +106,11 @@ module _ {B : Type 0} (f : B → ℕ × ℕ) where
     IsRunsOf-inside own other h inside = IsRunsOf-same (map f own) _ _ (λ n. (
       λ held. (held, (Holds-map f other n).1 (inside n ((Holds-map f own n).0 held))),
       λ (held, also). held,
+    )) (IsBlockSet-from_chain own h).are_runs
+
+    -- a chain is its union with one of no blocks
+    pub IsRunsOf-with_none : (own other : List B) → IsBlockChain f form last own → other ≡ [] → IsRunsOf (λ n. Holds (map f own) n ⊎ Holds (map f other) n) (map f own)
+    IsRunsOf-with_none own other h none = IsRunsOf-same (map f own) _ _ (λ n. (
+      inl,
+      ⊎_elim (λ held. held) (λ held. absurd (Covers-nil f n (subst (λ xs. Covers f xs n) none ((Holds-map f other n).0 held)))),
     )) (IsBlockSet-from_chain own h).are_runs

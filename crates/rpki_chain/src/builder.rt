@@ -44,12 +44,15 @@ impl<T: Block, A: Allocator> BlockSetBuilder<T, A> {
 
     /// Adds several blocks. `AllocError` where there is no memory for them; then the builder has the blocks that it had.
     pub fn extend_from(&mut self, blocks: &[T]) -> Result<(), AllocError>
-    where
-        T: Copy,
         ensures ok { OnOk result (self.new ≡ self.old ++ map T.bounds blocks.now) }
         ensures err { OnErr result (self.new ≡ self.old) }
     {
-        self.blocks.extend_from_slice(blocks)
+        self.blocks.reserve(blocks.len())?;
+        for block in blocks {
+            let (min, max) = block.bounds();
+            self.blocks.push(T::new(min, max))?;
+        }
+        Ok(())
     }
 
     /// The set of the items that some of the blocks has, made in the builder's memory. `AllocError` where there is no

@@ -15,10 +15,15 @@ pub use block::Block;
 pub use builder::BlockSetBuilder;
 pub use chain::Chain;
 pub use choice::{InheritedResources, Listed, ResourcesChoice};
+pub use counted::Counted;
 pub use owned::OwnedChain;
+pub use reads::Reads;
 pub use resources::ResourcesBuilder;
 pub use set::BlockSet;
 pub use shared::SharedChain;
 
 /// Blocks and chains, which stand in a crate of their own below this one.
-pub use rpki_blocks::{block, chain, owned, shared};
+pub use rpki_blocks::{block, chain, counted, owned, reads, shared};
+
+/// The calls on chains whose reads are counted.
+pub use rpki_blocks::{contains_item_counted, difference_counted, trim_counted, union_counted};

@@ -196,16 +196,19 @@ impl<T: Block, A: Allocator> BlockSet<T, A> {
     /// The set of the items that one or the other has. `AllocError` where there is no memory for it.
     pub fn union(&self, alloc: A, other: &BlockSet<T, A>) -> Result<Self, AllocError>
     where
-        T: Copy,
         A: Copy,
         ensures { IfOk result (IsRunsOf (λ n. Holds self.now n ⊎ Holds other.now n)) }
     {
-        let blocks = self.as_slice();
-        let others = other.as_slice();
-        let mut both = Vec::with_capacity(alloc, blocks.len().saturating_add(others.len()))?;
-        both.extend_from_slice(blocks)?;
-        both.extend_from_slice(others)?;
-        Self::from_blocks(alloc, both.as_slice())
+        let own = self.as_chain();
+        let others = other.as_chain();
+        if others.is_empty() {
+            return self.clone();
+        }
+        if own.is_empty() {
+            return other.clone();
+        }
+        let chain = own.union(alloc, others)?;
+        Self::from_owned(alloc, chain)
     }
 }
 

@@ -3,5 +3,6 @@
 
 pub mod errors;
 pub mod octets;
+pub mod resources;
 pub mod sets;
 pub mod texts;

@@ -3,6 +3,7 @@ ghost use Rattle.std.specs.Prelude.{◌≡◌, ℕ, ◌+◌, ◌-◌, ◌*◌, �
 ghost use Rattle.rpki_text.specs.Memory.{IsMemory};
 ghost use Rattle.rpki_text.specs.Reading.{AnswersOrMemory};
 ghost use Rattle.rpki_blocks.specs.Equality.{have_same_bounds, blocks_per, blocks_equiv, same_runs, runs_per, runs_equiv};
+ghost use Rattle.rpki_chain.specs.Claims.{claim_of};
 ghost use Rattle.rpki_chain.specs.Runs.{Runs, Holds, IsRunsOf, IsRunsOfBlocks};
 ghost use Rattle.rpki_blocks.specs.Sets.{IsWithin};
 ghost use Rattle.rpki_ip.specs.Whole.{IsWhole, HasWholeBounds};
@@ -10,6 +11,7 @@ ghost use Rattle.rpki_ip.specs.declared.family.AddressFamily.TheVariants.{Ipv4};
 ghost use Rattle.rpki_ipres.specs.Blocks.{ip_bounds, new_ip_block};
 ghost use Rattle.rpki_ipres.specs.ListText.{HasBlocks, HasBlocksFault};
 ghost use Rattle.rpki_ipres.specs.PrintedBlocks.{IsBlockOf, ip_block_text};
+ghost use Rattle.rpki_ipres.specs.Resources.{IsFamilyClaim};
 ghost use Rattle.rpki_ipres.specs.SetText.{IsFamilySet, IsSetOf, set_text};
 ghost use Rattle.rpki_ipres.specs.declared.block.IpBlock.TheVariants.{Prefix};
 ghost use Rattle.rpki_family.specs.FamilyText.{ReadsFamilyBlock};
@@ -23,6 +25,7 @@ use rpki_ip::error::FromStrError;
 use rpki_ip::family::AddressFamily;
 use rpki_ipres::block::IpBlock;
 use rpki_ipres::blocks::IpBlocks;
+use rpki_ipres::resources::IpResources;
 use rpki_prefix::prefix::Prefix as FamilyPrefix;
 use std::alloc::{AllocError, Allocator, Global};
 use std::fmt;
@@ -232,6 +235,15 @@ impl<A: Allocator> Ipv4Blocks<A> {
     {
         let _blocks = self.blocks.iter(); // read so that the proof sees that each number has 128 bits
         &self.blocks
+    }
+
+    /// The resources that list the set, whose memory has one owner more, and missing ones where it has no addresses.
+    pub fn to_ip_resources(&self) -> Result<IpResources<A>, AllocError>
+        ensures claim { IfOk result (λ resources. resources ≡ claim_of self.now) }
+        ensures family { IfOk result (IsFamilyClaim Ipv4) }
+    {
+        let blocks = self.ip_blocks().clone()?;
+        Ok(IpResources::blocks(blocks))
     }
 
     /// The same set, whose memory has one owner more.

@@ -9,7 +9,7 @@ use Rattle.rpki_base.specs.DerReading.{IsSequenceOf}
 use Rattle.rpki_base.specs.DerWriting.{octets_of_all}
 use Rattle.rpki_base.proofs.DerWriting.{one_content}
 use Rattle.rpki_chain.specs.ChoiceDer.{IsChoiceOf}
-use Rattle.rpki_chain.specs.Claims.{Claim}
+use Rattle.rpki_chain.specs.Claims.{Claim, claim_of}
 use Rattle.rpki_chain.specs.Runs.{Runs, IsRunsOfBlocks}
 use Rattle.rpki_chain.specs.declared.choice.ResourcesChoice.{ResourcesChoice}
 use Rattle.rpki_chain.specs.declared.choice.ResourcesChoice.TheVariants.{Missing, Inherit, Blocks}
@@ -28,6 +28,7 @@ use Rattle.rpki_ipres.specs.Blocks.{ip_bounds, new_ip_block}
 use Rattle.rpki_ipres.specs.Resources.{IsFamilyClaim, IsIpClaim, if_present}
 use Rattle.rpki_ipres.specs.ResourcesDer.{IsIpFamilies, IsIpResources, SaysClaimOf, ip_families_at, ip_families_der, ip_member_der, ip_resources_at, ip_resources_der}
 use Rattle.rpki_ipres.specs.ResourcesReadingLaws.{resources_reading}
+use Rattle.rpki_ipres.specs.SetText.{IsFamilySet}
 use Rattle.rpki_ipres.specs.declared.block.IpBlock.{IpBlock}
 use Rattle.rpki_ipres.proofs.SetTextLemmas.{is_ip_set}
 use Rattle.rpki_ipres.proofs.SetWritten.{blocks_say, one_set, set_written, written_as_numbers}
@@ -51,6 +52,11 @@ one_of_families =
 some_blocks : (set : Runs) → set ≢ [] → map new_ip_block set ≢ []
 some_blocks [] some = absurd (some refl)
 some_blocks (run ∷ set) some = λ none. absurd cc
+
+-- a set of a family is claimed as one of it
+pub set_claimed : (family : AddressFamily) (set : Runs) → IsFamilySet family set → IsFamilyClaim family (claim_of set)
+set_claimed family [] is = tt
+set_claimed family (run ∷ set) is = (is, λ none. absurd cc)
 
 -- what is written of resources of a family is the resources
 pub resources_written : (family : AddressFamily) (claim : Claim) → IsFamilyClaim family claim → claim ≢ Missing → length (ip_resources_der claim) < 2 ^ 64 → IsIpResources (bits_of family) (ip_resources_der claim) claim

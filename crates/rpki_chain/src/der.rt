@@ -91,7 +91,7 @@ fn set_within<T: Block, R: ReadNext<Value = T>, A: Allocator + Copy>(
         return Err(OrMemory::Refused(DerError::EmptyBlocks));
     };
     let _bounds = first.bounds(); // read so that the proof sees that the block, and so the set, has a number
-    Ok(BlockSet::from_blocks(alloc, blocks.as_slice())?)
+    Ok(BlockSet::from_vec(alloc, blocks)?)
 }
 
 /// How many octets `encode_choice` appends; None where no length can tell it.

@@ -5,5 +5,5 @@ use Rattle.rpki_chain.proofs.der.set_within.Goals as goal
 
 pub returns-clause-some : goal.returns-clause-some
 returns-clause-some g c =
-    let first : slice_get c.as_slice.result.now 0 ≡ Some c.in-Some.first.now = ap (λ xs. slice_get xs 0) (c.as_slice.ensures.value ∙ sym c.deref.ensures.value) ∙ sym c.in-Some.ensures.value in
-    has_numbers g.T.Block.bounds c.as_slice.result.now c.in-Some.first.now c.in_ok-from_blocks.field-0 first (omega (arith, c.bounds-bounds.ensures.ordered)) c.in_ok-from_blocks.ensures
+    let first : slice_get c.in_ok-blocks.blocks.items 0 ≡ Some c.in-Some.first.now = ap (λ xs. slice_get xs 0) (sym c.deref.ensures.value) ∙ sym c.in-Some.ensures.value in
+    has_numbers g.T.Block.bounds c.in_ok-blocks.blocks.items c.in-Some.first.now c.in_ok-from_vec.field-0 first (omega (arith, c.bounds-bounds.ensures.ordered)) c.in_ok-from_vec.ensures

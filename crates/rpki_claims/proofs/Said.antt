@@ -5,14 +5,18 @@ use Rattle.std.specs.Prelude.{MatchResult}
 use Rattle.rpki_der.specs.declared.cursor.Cursor.{Cursor}
 use Rattle.rpki_der.specs.declared.error.DerError.{DerError}
 use Rattle.rpki_der.specs.Der.{Each, OneFront, Refines}
+use Rattle.rpki_der.specs.Reading.{IsReading}
 use Rattle.rpki_der.specs.Views.{left}
 use Rattle.rpki_text.specs.declared.memory.OrMemory.{OrMemory}
 use Rattle.rpki_text.specs.declared.memory.OrMemory.TheVariants.{Refused, Memory}
 use Rattle.rpki_text.specs.Memory.{IsMemory}
 use Rattle.rpki_base.specs.DerViews.{ReadsOrMemory}
+use Rattle.rpki_base.proofs.DerReadings.{one_front_said}
 use Rattle.rpki_ip.specs.declared.family.AddressFamily.{AddressFamily}
 use Rattle.rpki_ip.specs.declared.family.AddressFamily.TheVariants.{Ipv4, Ipv6}
 use Rattle.rpki_claims.specs.Families.{AreGathered, ByFamily, IsFamilies, IsMember, SaysByFamily, SaysOption, claims_among, listed}
+use Rattle.rpki_claims.specs.FamiliesReading.{families_at}
+use Rattle.rpki_claims.proofs.Gathering.{families_reading}
 
 -- octets are of one grammar where they are of the other, so what is read of one is of the other
 pub reads_same : {X : Type 0} (G H : List ℕ → X → Type 0) (old new : Cursor) (result : Result X (OrMemory DerError)) → ((bytes : List ℕ) (x : X) → G bytes x → H bytes x) → ((bytes : List ℕ) (x : X) → H bytes x → G bytes x)
@@ -27,10 +31,6 @@ pub read_back_by : {X : Type 0} (G : List ℕ → X → Type 0) (old new : Curso
 read_back_by G old new (Ok y) one (other, also, split) front rest x is at = let o = one other front y x (left new) rest also is (sym split ∙ at) in (o.1, o.2)
 read_back_by G old new (Err (Refused e)) one (none, kept) front rest x is at = absurd (none x rest (front, is, at))
 read_back_by G old new (Err (Memory e)) one (none, kept) front rest x is at = tt
-
--- octets begin with one value at most, which stands for one thing
-pub one_said : {X Y : Type 0} (G : List ℕ → Y → Type 0) (C : Y → X → Type 0) → OneFront G → ((y : Y) (a b : X) → C y a → C y b → a ≡ b) → OneFront (Refines G C)
-one_said G C one said a b x y r s (u, is, says) (v, also, tells) same = let o = one a b u v r s is also same in (o.0, said v x y (subst (λ w. C w x) o.1 says) tells, o.2)
 
 -- the first of two lists that are one, and what follows it
 one_listed : {X : Type 0} (x : X) (xs : List X) (o : Option X) → x ∷ xs ≡ listed o → (o ≡ Some x) × (xs ≡ [])
@@ -171,5 +171,6 @@ module _ {X Y : Type 0} (G : AddressFamily → List ℕ → Y → Type 0) (C : Y
       ((t.v4, t.v6), (content, is, (t.members, t.all, t.some some, t.gathered)), t.says)
 
   -- octets begin with at most one SEQUENCE of families, which have one claim each
-  pub one_families : OneFront (IsFamilies G) → ((y : Y) (a b : X) → C y a → C y b → a ≡ b) → OneFront (IsFamilies Stands)
-  one_families one said a b x y r s is also = one_said (IsFamilies G) (SaysByFamily C) one (one_by_family C said) a b x y r s (stood_for a x is) (stood_for b y also)
+  pub one_families : (claim_at : AddressFamily → List ℕ → Result (Y × List ℕ) DerError) → ((family : AddressFamily) → IsReading (G family) (claim_at family)) → ((y : Y) (a b : X) → C y a → C y b → a ≡ b) → OneFront (IsFamilies Stands)
+  one_families claim_at reading one a b x y r s is also =
+      one_front_said (IsFamilies G) (SaysByFamily C) (families_at claim_at) (families_reading G claim_at reading) (one_by_family C one) a b x y r s (stood_for a x is) (stood_for b y also)

@@ -3,10 +3,10 @@ use Rattle.std.proofs.Common.{◌≡◌, ◌≢◌, ◌↔◌, ℕ, ◌+◌, ◌
 use Rattle.std.specs.Prelude.{IfSome}
 use Rattle.std.proofs.lemmas.List.{append_cancel_left, length-append}
 use Rattle.rpki_der.specs.Der.{OneFront, header}
-use Rattle.rpki_der.proofs.Readings.{one_front}
 use Rattle.rpki_der.proofs.Written.{value_is}
 use Rattle.rpki_base.specs.DerReading.{IsSequenceOf}
 use Rattle.rpki_base.specs.DerWriting.{octets_of_all}
+use Rattle.rpki_base.proofs.DerReadings.{one_front_said}
 use Rattle.rpki_base.proofs.DerWriting.{one_content}
 use Rattle.rpki_chain.specs.ChoiceDer.{IsChoiceOf}
 use Rattle.rpki_chain.specs.Claims.{Claim, claim_of}
@@ -16,8 +16,7 @@ use Rattle.rpki_chain.specs.declared.choice.ResourcesChoice.TheVariants.{Missing
 use Rattle.rpki_chain.proofs.ClaimLemmas.{lists_one}
 use Rattle.rpki_chain.proofs.RunLists.{same_numbers}
 use Rattle.rpki_claims.specs.Families.{option_der}
-use Rattle.rpki_claims.proofs.Gathering.{families_reading}
-use Rattle.rpki_claims.proofs.Said.{one_families, one_said}
+use Rattle.rpki_claims.proofs.Said.{one_families}
 use Rattle.rpki_claims.proofs.Written.{Writes, content_shorter, families_written}
 use Rattle.rpki_ip.specs.Families.{bits_of}
 use Rattle.rpki_ip.specs.FamilyDer.{family_der}
@@ -26,7 +25,7 @@ use Rattle.rpki_ip.specs.declared.family.AddressFamily.TheVariants.{Ipv4, Ipv6}
 use Rattle.rpki_ipres.specs.BlockDer.{IsIpBlockDer, ip_run_der}
 use Rattle.rpki_ipres.specs.Blocks.{ip_bounds, new_ip_block}
 use Rattle.rpki_ipres.specs.Resources.{IsFamilyClaim, IsIpClaim, if_present}
-use Rattle.rpki_ipres.specs.ResourcesDer.{IsIpFamilies, IsIpResources, SaysClaimOf, ip_families_at, ip_families_der, ip_member_der, ip_resources_at, ip_resources_der}
+use Rattle.rpki_ipres.specs.ResourcesDer.{IsIpFamilies, IsIpResources, SaysClaimOf, ip_families_der, ip_member_der, ip_resources_at, ip_resources_der}
 use Rattle.rpki_ipres.specs.ResourcesReadingLaws.{resources_reading}
 use Rattle.rpki_ipres.specs.SetText.{IsFamilySet}
 use Rattle.rpki_ipres.specs.declared.block.IpBlock.{IpBlock}
@@ -39,14 +38,12 @@ one_claim = lists_one (IsRunsOfBlocks ip_bounds) one_set
 
 -- octets begin with the resources of at most one claim
 pub one_resources : (limit : ℕ) → OneFront (IsIpResources limit)
-one_resources limit =
-    one_said (IsChoiceOf (IsSequenceOf (IsIpBlockDer limit))) SaysClaimOf (one_front (IsChoiceOf (IsSequenceOf (IsIpBlockDer limit))) (ip_resources_at limit) (resources_reading limit)) one_claim
+one_resources limit = one_front_said (IsChoiceOf (IsSequenceOf (IsIpBlockDer limit))) SaysClaimOf (ip_resources_at limit) (resources_reading limit) one_claim
 
 -- and with at most one SEQUENCE of families, which have one claim each
 pub one_of_families : OneFront IsIpFamilies
 one_of_families =
-    let G : AddressFamily → List ℕ → ResourcesChoice (List IpBlock) → Type 0 = λ family. IsChoiceOf (IsSequenceOf (IsIpBlockDer (bits_of family))) in
-    one_families G SaysClaimOf (one_front _ ip_families_at (families_reading G (λ family. ip_resources_at (bits_of family)) (λ family. resources_reading (bits_of family)))) one_claim
+    one_families (λ family. IsChoiceOf (IsSequenceOf (IsIpBlockDer (bits_of family)))) SaysClaimOf (λ family. ip_resources_at (bits_of family)) (λ family. resources_reading (bits_of family)) one_claim
 
 -- runs have blocks
 some_blocks : (set : Runs) → set ≢ [] → map new_ip_block set ≢ []

@@ -69,7 +69,7 @@ impl<A: Allocator> IpBlocksBuilder<A> {
 ///
 /// Contracts see it as the list of the blocks' least and greatest addresses, in the order in which they came, and as None
 /// where the resources are inherited.
-pub type IpResourcesBuilder<A> = ResourcesBuilder<IpBlocksBuilder<A>>;
+pub type IpResourcesBuilder<A = Global> = ResourcesBuilder<IpBlocksBuilder<A>>;
 
 impl<A: Allocator + Copy> CollectBlocks for IpBlocksBuilder<A> {
     type Memory = A;

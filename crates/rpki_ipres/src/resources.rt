@@ -131,7 +131,7 @@ impl<A: Allocator> IpResources<A> {
     }
 
     /// The blocks that are listed, ascending.
-    pub(crate) fn as_slices(&self) -> ResourcesChoice<&[IpBlock]>
+    pub(crate) fn as_choice(&self) -> ResourcesChoice<&[IpBlock]>
         ensures octets { choice_octets (λ blocks. sequence_octets ip_block_der blocks.now) result ≡ ip_resources_der self.now }
         ensures claim { IsIpClaim self.now }
     {

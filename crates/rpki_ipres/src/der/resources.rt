@@ -1,9 +1,8 @@
 //! Resources of addresses in DER: of one family, and by families (RFC 3779, 2.2.3.1 to 2.2.3.6).
-ghost use Rattle.std.specs.Prelude.{◌≡◌, ◌≤◌, ◌+◌, ◌++◌, ◌^◌, length, vec_len, OnOk, OnErr, IsOk, IfSome, IfNone};
-ghost use Rattle.std.specs.Vec.{vec_capacity};
-ghost use Rattle.rpki_chain.specs.declared.choice.ResourcesChoice.TheVariants.{Missing};
+ghost use Rattle.std.specs.Prelude.{◌≡◌, ◌≤◌, ◌++◌, ◌^◌, length, IfSome, IfNone};
 ghost use Rattle.rpki_ip.specs.declared.family.AddressFamily.TheVariants.{Ipv4, Ipv6};
-ghost use Rattle.rpki_ipres.specs.ResourcesDer.{ip_families_der, ip_member_der};
+ghost use Rattle.rpki_ipres.specs.Resources.{IsIpClaim};
+ghost use Rattle.rpki_ipres.specs.ResourcesDer.{ip_member_der};
 
 use crate::der::block::IpBlockReader;
 use crate::der::blocks::{family_len, put_family};
@@ -64,7 +63,7 @@ impl<A: Allocator> IpResources<A> {
         ensures capacity { vec_capacity out.old ≤ vec_capacity out.new }
         ensures claim { IsIpClaim self.now }
     {
-        encode_choice(&self.as_slices(), out)
+        encode_choice(&self.as_choice(), out)
     }
 
     /// Appends the SEQUENCE of the family and of what `encode` appends (RFC 3779, 2.2.3.2), and nothing for missing resources.
@@ -82,7 +81,7 @@ impl<A: Allocator> IpResources<A> {
         ensures capacity { vec_capacity out.old ≤ vec_capacity out.new }
         ensures claim { IsIpClaim self.now }
     {
-        let resources = self.as_slices();
+        let resources = self.as_choice();
         if self.is_missing() {
             return Ok(());
         }
@@ -93,11 +92,13 @@ impl<A: Allocator> IpResources<A> {
     fn member_len(&self, family: AddressFamily) -> Option<usize>
         ensures some { IfSome result (λ n. n ≡ length (ip_member_der family self.now)) }
         ensures none { IfNone result (2 ^ 64 ≤ length (ip_member_der family self.now)) }
+        ensures claim { IsIpClaim self.now }
     {
+        let resources = self.as_choice();
         if self.is_missing() {
             return Some(0);
         }
-        family_len(family, &self.as_slices())
+        family_len(family, &resources)
     }
 
     /// Takes a SEQUENCE of families and answers the resources of IPv4 and of IPv6, None where a family isn't there. The
@@ -136,6 +137,7 @@ impl<A: Allocator> IpResources<A> {
         ensures err { OnErr result (out.new.items ≡ out.old.items) }
         ensures succeeds { vec_len out.old + length (ip_families_der v4.now v6.now) ≤ vec_capacity out.old → IsOk result }
         ensures capacity { vec_capacity out.old ≤ vec_capacity out.new }
+        ensures claims { IsIpClaim v4.now × IsIpClaim v6.now }
     {
         let Some(content_len) = members_len(v4, v6) else {
             return Err(AllocError);
@@ -184,9 +186,11 @@ impl<A: Allocator> IpResources<A> {
 fn members_len<A: Allocator>(v4: &IpResources<A>, v6: &IpResources<A>) -> Option<usize>
     ensures some { IfSome result (λ n. n ≡ length (ip_member_der Ipv4 v4.now ++ ip_member_der Ipv6 v6.now)) }
     ensures none { IfNone result (2 ^ 64 ≤ length (ip_member_der Ipv4 v4.now ++ ip_member_der Ipv6 v6.now)) }
+    ensures claims { IsIpClaim v4.now × IsIpClaim v6.now }
 {
-    let v4_len = v4.member_len(AddressFamily::Ipv4)?;
-    v4_len.checked_add(v6.member_len(AddressFamily::Ipv6)?)
+    let v4_len = v4.member_len(AddressFamily::Ipv4);
+    let v6_len = v6.member_len(AddressFamily::Ipv6);
+    v4_len?.checked_add(v6_len?)
 }
 
 /// Reads the resources of families.

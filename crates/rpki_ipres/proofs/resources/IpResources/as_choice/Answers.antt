@@ -5,7 +5,7 @@ use Rattle.rpki_base.specs.DerWriting.{sequence_octets}
 use Rattle.rpki_ipres.specs.BlockDer.{ip_block_der}
 use Rattle.rpki_ipres.specs.ResourcesDer.{ip_resources_der}
 use Rattle.rpki_ipres.proofs.SetWritten.{written_as_runs}
-use Rattle.rpki_ipres.proofs.resources.IpResources.as_slices.Goals as goal
+use Rattle.rpki_ipres.proofs.resources.IpResources.as_choice.Goals as goal
 
 pub returns-in-Blocks-clause-octets : goal.returns-in-Blocks-clause-octets
 returns-in-Blocks-clause-octets g c =

@@ -162,6 +162,20 @@ fn a_trim_that_is_ok_takes_no_memory(rt: HostRuntime) -> Result<(), Fail> {
     Ok(())
 }
 
+/// Whether a chain is made of blocks with no request beyond the one for the blocks.
+fn is_made_in_place(refusing: &Refusing) -> Result<bool, AllocError> {
+    let blocks = Vec::from_array(refusing, [block(23, 48), block(1, 2), block(3, 4)])?;
+    let asked = refusing.asked();
+    let chain = OwnedChain::from_vec(blocks);
+    Ok(is_chain(chain.as_chain()) && refusing.asked() == asked)
+}
+
+#[test]
+fn a_chain_is_made_in_the_memory_of_its_blocks(rt: HostRuntime) {
+    let refusing = Refusing::new(rt.alloc(), Plan::RefuseNone);
+    holds(&rt, is_made_in_place(&refusing) == Ok(true));
+}
+
 fn shares_nothing(refusing: &Refusing) -> Result<bool, AllocError> {
     let none: OwnedChain<AsBlock, &Refusing> = OwnedChain::empty();
     is_shared(&SharedChain::from_owned(refusing, none)?)

@@ -2,6 +2,7 @@
 #![tactic(auto)]
 
 pub mod errors;
+pub mod families;
 pub mod octets;
 pub mod resources;
 pub mod sets;

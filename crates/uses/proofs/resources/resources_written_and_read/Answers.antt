@@ -1,13 +1,9 @@
 -- What was written is the resources' octets with nothing behind them.
-use Rattle.std.proofs.Common.{◌≡◌, ℕ, List, [], ◌++◌, sym, ap, ◌∙◌, subst}
-use Rattle.std.proofs.lemmas.List.{append-nil}
+use Rattle.std.proofs.Common.{[], subst}
 use Rattle.rpki_text.specs.Memory.{IsMemory}
 use Rattle.rpki_as.specs.AsDer.{as_resources_octets}
+use Rattle.uses.proofs.Octets.{only}
 use Rattle.uses.proofs.resources.resources_written_and_read.Goals as goal
-
--- octets of which nothing is left out stand for what was written
-only : (octets slice items old written : List ℕ) → octets ≡ slice → slice ≡ items → items ≡ old ++ written → old ≡ [] → octets ≡ written ++ []
-only octets slice items old written same value ok none = same ∙ value ∙ ok ∙ ap (λ (t : List ℕ). t ++ written) none ∙ sym (append-nil written)
 
 pub returns-in-Ok : goal.returns-in-Ok
 returns-in-Ok g c =

@@ -1,0 +1,7 @@
+-- Octets that were written to an empty vector.
+use Rattle.std.proofs.Common.{◌≡◌, ℕ, List, [], ◌++◌, sym, ap, ◌∙◌}
+use Rattle.std.proofs.lemmas.List.{append-nil}
+
+-- octets of which nothing is left out stand for what was written
+pub only : (octets slice items old written : List ℕ) → octets ≡ slice → slice ≡ items → items ≡ old ++ written → old ≡ [] → octets ≡ written ++ []
+only octets slice items old written same value ok none = same ∙ value ∙ ok ∙ ap (λ (t : List ℕ). t ++ written) none ∙ sym (append-nil written)

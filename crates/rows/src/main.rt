@@ -6,6 +6,7 @@
 mod altered;
 mod as_sets;
 mod chains;
+mod claims;
 mod covers;
 mod ip_sets;
 mod line;

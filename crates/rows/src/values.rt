@@ -1,7 +1,9 @@
 //! DER values of each kind: how they are read, written and printed.
+use crate::claims::{self, Families};
 use crate::print;
 use rpki_as::block::AsBlock;
 use rpki_as::blocks::AsBlocks;
+use rpki_as::resources::AsResources;
 use rpki_base::asn::Asn;
 use rpki_base::der::encode_sequence;
 use rpki_base::memory::OrMemory;
@@ -10,6 +12,7 @@ use rpki_ip::family::AddressFamily;
 use rpki_ip::prefix::Prefix;
 use rpki_ipres::block::IpBlock;
 use rpki_ipres::blocks::IpBlocks;
+use rpki_ipres::resources::IpResources;
 use std::alloc::{AllocError, Allocator};
 
 /// What reads a value.
@@ -19,6 +22,10 @@ pub enum Reader {
     AsBlocks,
     /// A set of addresses, of any family where none is named.
     IpBlocks(Option<AddressFamily>),
+    AsResources,
+    IpResources(AddressFamily),
+    /// The resources of addresses, by families.
+    Families,
 }
 
 /// What reads a value that takes no memory.
@@ -54,6 +61,9 @@ pub enum Value<A: Allocator> {
     Item(Item),
     AsBlocks(AsBlocks<A>),
     IpBlocks(IpBlocks<A>),
+    AsResources(AsResources<A>),
+    IpResources(IpResources<A>),
+    Families(Families<A>),
 }
 
 const IPV4: Option<AddressFamily> = Some(AddressFamily::Ipv4);
@@ -68,6 +78,10 @@ impl Reader {
             "ipblocks" => Some(Reader::IpBlocks(None)),
             "ipblocks4" => Some(Reader::IpBlocks(IPV4)),
             "ipblocks6" => Some(Reader::IpBlocks(IPV6)),
+            "asres" => Some(Reader::AsResources),
+            "ipres4" => Some(Reader::IpResources(AddressFamily::Ipv4)),
+            "ipres6" => Some(Reader::IpResources(AddressFamily::Ipv6)),
+            "families" => Some(Reader::Families),
             "prefix" => Some(Reader::Item(ItemReader::Prefix(None))),
             "prefix4" => Some(Reader::Item(ItemReader::Prefix(IPV4))),
             "prefix6" => Some(Reader::Item(ItemReader::Prefix(IPV6))),
@@ -92,6 +106,12 @@ impl Reader {
                 let set = IpBlocks::take_from_with_family(alloc, cursor, family)?;
                 Ok(Value::IpBlocks(set))
             }
+            Reader::AsResources => Ok(Value::AsResources(AsResources::take_from(alloc, cursor)?)),
+            Reader::IpResources(family) => {
+                let resources = IpResources::take_from(alloc, cursor, family)?;
+                Ok(Value::IpResources(resources))
+            }
+            Reader::Families => Ok(Value::Families(Families::take(alloc, cursor)?)),
         }
     }
 
@@ -99,6 +119,7 @@ impl Reader {
     pub fn printed_family(self) -> AddressFamily {
         match self {
             Reader::IpBlocks(Some(family))
+            | Reader::IpResources(family)
             | Reader::Item(ItemReader::Prefix(Some(family)))
             | Reader::Item(ItemReader::IpBlock(Some(family))) => family,
             _ => AddressFamily::Ipv6,
@@ -212,6 +233,9 @@ impl<A: Allocator + Copy> Value<A> {
             Value::Item(item) => item.encode(output),
             Value::AsBlocks(set) => encode_sequence(set.iter().as_slice(), output),
             Value::IpBlocks(set) => set.encode(output),
+            Value::AsResources(resources) => claims::encode_as(resources, output),
+            Value::IpResources(resources) => claims::encode_ip(resources, output),
+            Value::Families(families) => families.encode(output),
         }
     }
 
@@ -221,6 +245,9 @@ impl<A: Allocator + Copy> Value<A> {
             (Value::Item(item), Value::Item(other)) => item == other,
             (Value::AsBlocks(set), Value::AsBlocks(other)) => set == other,
             (Value::IpBlocks(set), Value::IpBlocks(other)) => set == other,
+            (Value::AsResources(resources), Value::AsResources(other)) => resources == other,
+            (Value::IpResources(resources), Value::IpResources(other)) => resources == other,
+            (Value::Families(families), Value::Families(other)) => families.is(other),
             _ => false,
         }
     }
@@ -231,6 +258,9 @@ impl<A: Allocator + Copy> Value<A> {
             Value::Item(item) => item.text(alloc, family),
             Value::AsBlocks(set) => format!(in alloc; "{set}"),
             Value::IpBlocks(set) => print::ip_set(alloc, family, set),
+            Value::AsResources(resources) => claims::as_text(alloc, resources),
+            Value::IpResources(resources) => claims::ip_text(alloc, family, resources),
+            Value::Families(families) => families.text(alloc),
         }
     }
 

@@ -1,6 +1,9 @@
 pub mod Answer
 pub mod Command
 pub mod Cover
+pub mod Der
+pub mod Hexadecimal
 pub mod Kinds
 pub mod Norm
+pub mod Read
 pub mod Shown

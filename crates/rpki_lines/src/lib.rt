@@ -7,13 +7,18 @@ ghost use Rattle.rpki_lines.specs.Answer.{IsAnswer};
 
 mod command;
 mod cover;
+mod der;
+mod hexadecimal;
 mod kind;
 mod norm;
+mod read;
 mod shown;
 
 use command::cut_word;
 use cover::cover;
+use der::der;
 use norm::norm;
+use read::read;
 use std::alloc::{AllocError, Allocator};
 
 /// The answer to a line, both without the end of a line. A line that isn't UTF-8, or begins with no command, is
@@ -30,6 +35,8 @@ pub fn answer<A: Allocator + Copy>(alloc: A, line: &[u8]) -> Result<String<A>, A
     let (kind, argument) = cut_word(rest);
     match command {
         "norm" => norm(alloc, kind, argument),
+        "der" => der(alloc, kind, argument),
+        "read" => read(alloc, kind, argument),
         "cover" => cover(alloc, kind, argument),
         _ => String::from_str(alloc, "error: unknown command"),
     }

@@ -1,4 +1,5 @@
-//! What holds of ranges and of the texts of sets and resources, each law as the contract of a function that does nothing.
+//! What holds of ranges and of the texts of sets and resources, each law as the contract of a function that does
+//! nothing.
 ghost use Rattle.std.specs.Prelude.{◌≡◌, ℕ, List, ◌↔◌, IsTrue};
 ghost use Rattle.rpki_blocks.specs.Ranges.{RangeValue};
 ghost use Rattle.rpki_chain.specs.Claims.{Claim, IsClaim};
@@ -14,8 +15,8 @@ pub fn equal_where_the_same()
     ensures { (r s : RangeValue) → IsTrue (⟦<AsRange as PartialEq>⟧.eq r s) ↔ (r ≡ s) }
 {}
 
-/// What is printed of a set is a list that writes the set. A list writes one set at most, so two sets print alike exactly
-/// where they have the same numbers.
+/// What is printed of a set is a list that writes the set. A list writes one set at most, so two sets print alike
+/// exactly where they have the same numbers.
 pub fn printed_sets()
     ensures written { (set : Runs) → IsAsSet set → IsAsListText (as_list_text set) set }
     ensures one_set { (text : List ℕ) (a b : Runs) →

@@ -143,8 +143,9 @@ impl<A: Allocator> AsResources<A> {
         self.choice
     }
 
-    /// The resources that a text writes: `inherit` exactly, and else a list of blocks as in [`AsBlocks::from_str`]. They are
-    /// missing where the list has no blocks. The first element of a list that is no block is refused, as its own fault.
+    /// The resources that a text writes: `inherit` exactly, and else a list of blocks as in [`AsBlocks::from_str`].
+    /// They are missing where the list has no blocks. The first element of a list that is no block is refused, as its
+    /// own fault.
     pub fn from_str(alloc: A, text: &str) -> Result<AsResources<A>, OrMemory<FromStrError>>
     where
         A: Copy,

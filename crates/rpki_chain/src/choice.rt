@@ -53,7 +53,8 @@ impl<T> ResourcesChoice<T> {
         !matches!(self, ResourcesChoice::Missing)
     }
 
-    /// The same choice, with what the function answers in the place of what is listed. The function is called there alone.
+    /// The same choice, with what the function answers in the place of what is listed. The function is called there
+    /// alone.
     pub fn map_blocks<U, F: FnOnce(T) -> U>(self, f: F) -> ResourcesChoice<U>
         requires { MatchChoice self ⊤ ⊤ (F.pre f) }
         ensures { ListsBy (F.post f) self result }
@@ -67,8 +68,8 @@ impl<T> ResourcesChoice<T> {
 }
 
 impl<T: Listed> ResourcesChoice<T> {
-    /// The set that is listed, or the set of nothing where the resources are missing. `Refused` where they are inherited,
-    /// `Memory` where there is no memory for a copy of what is listed.
+    /// The set that is listed, or the set of nothing where the resources are missing. `Refused` where they are
+    /// inherited, `Memory` where there is no memory for a copy of what is listed.
     pub fn to_blocks(&self) -> Result<T, OrMemory<InheritedResources>>
         ensures { MatchChoice self.now (result ≡ Ok T.nothing) (IsRefused result)
             (λ listed. MatchResult result (λ set. set ≡ listed) IsMemory) }

@@ -21,9 +21,9 @@ use std::alloc::{AllocError, Allocator};
 
 /// Takes resources: a NULL, or a SEQUENCE of blocks in any order, overlapping or not.
 ///
-/// `Refused` with the first fault: one of [`Cursor::take_value`], `BadTag` where neither stands there, `BadNull` for a NULL
-/// with content, the fault of a block, or `EmptyBlocks` for a SEQUENCE of none. `Memory` where there is no memory for the
-/// blocks. The cursor then stays.
+/// `Refused` with the first fault: one of [`Cursor::take_value`], `BadTag` where neither stands there, `BadNull` for a
+/// NULL with content, the fault of a block, or `EmptyBlocks` for a SEQUENCE of none. `Memory` where there is no memory
+/// for the blocks. The cursor then stays.
 pub fn take_choice<T: Block, R: ReadNext<Value = T>, A: Allocator + Copy>(
     alloc: A,
     reader: &R,
@@ -107,8 +107,8 @@ pub fn choice_len<V: Encode>(choice: &ResourcesChoice<&[V]>) -> Option<usize>
 }
 
 /// Appends resources: nothing for missing ones, a NULL for inherited ones, and else the SEQUENCE of the blocks.
-/// `AllocError` where there is no memory for all of it, or where no length can tell how many octets it has; then the octets
-/// stay as they were.
+/// `AllocError` where there is no memory for all of it, or where no length can tell how many octets it has; then the
+/// octets stay as they were.
 pub fn encode_choice<V: Encode, A: Allocator>(
     choice: &ResourcesChoice<&[V]>,
     out: &mut Vec<u8, A>,

@@ -26,8 +26,8 @@ pub trait CollectBlocks: Drop {
     fn start(alloc: Self::Memory) -> Self
         ensures { blocks result ≡ [] };
 
-    /// The resources that list the numbers of the blocks, or missing ones where no block was collected. `AllocError` where
-    /// there is no memory for them.
+    /// The resources that list the numbers of the blocks, or missing ones where no block was collected. `AllocError`
+    /// where there is no memory for them.
     fn finish(self) -> Result<Self::Resources, AllocError>
         ensures { IfOk result (λ resources. IsBuilt (Some (blocks self)) (claim resources)) };
 
@@ -74,7 +74,8 @@ impl<B: CollectBlocks> ResourcesBuilder<B> {
     }
 
     /// Hands the list so far to the function, and one without blocks where the resources were inherited. The resources
-    /// then are listed, with what the function left in the list, and the answer is the function's, where it refuses too.
+    /// then are listed, with what the function left in the list, and the answer is the function's, where it refuses
+    /// too.
     pub fn blocks<F: FnOnce(&mut B) -> Result<(), AllocError>>(
         &mut self,
         build: F,
@@ -92,8 +93,8 @@ impl<B: CollectBlocks> ResourcesBuilder<B> {
         answer
     }
 
-    /// The resources: inherited ones, those of the numbers that are listed, or missing ones where none is. `AllocError` where
-    /// there is no memory for them.
+    /// The resources: inherited ones, those of the numbers that are listed, or missing ones where none is. `AllocError`
+    /// where there is no memory for them.
     pub fn finalize(self) -> Result<B::Resources, AllocError>
         ensures { IfOk result (λ resources. IsBuilt self (B.claim resources)) }
     {

@@ -49,9 +49,9 @@ pub trait ReadClaim {
 
 /// Takes a SEQUENCE of families in any order, each at most once and with its claim, one at least.
 ///
-/// `Refused` with the first fault: that of a SEQUENCE, of a family or of a claim; `DuplicateFamily` for a family that was
-/// there before, ahead of its claim; `TrailingData` for octets that are left behind a claim; `NoFamily` where the SEQUENCE
-/// is empty. `Memory` where there is no memory for a claim. The cursor then stays.
+/// `Refused` with the first fault: that of a SEQUENCE, of a family or of a claim; `DuplicateFamily` for a family that
+/// was there before, ahead of its claim; `TrailingData` for octets that are left behind a claim; `NoFamily` where the
+/// SEQUENCE is empty. `Memory` where there is no memory for a claim. The cursor then stays.
 pub fn take_families<R: ReadClaim>(
     reader: &R,
     cursor: &mut Cursor<'_>,

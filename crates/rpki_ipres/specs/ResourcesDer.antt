@@ -17,8 +17,8 @@ use Rattle.rpki_ipres.specs.Blocks.{ip_bounds}
 use Rattle.rpki_ipres.specs.Resources.{if_present}
 use Rattle.rpki_ipres.specs.declared.block.IpBlock.{IpBlock}
 
--- a NULL for inherited resources, else a SEQUENCE of blocks, one at least, which stands for the set of
--- their addresses (2.2.3.4 to 2.2.3.6); limit is the greatest length of a prefix
+-- a NULL for inherited resources, else a SEQUENCE of blocks, one at least, which stands for the set
+-- of their addresses (2.2.3.4 to 2.2.3.6); limit is the greatest length of a prefix
 abbrev pub IsIpResources : ℕ → List ℕ → Claim → Type 0
 IsIpResources limit = IsResourcesOf (IsSequenceOf (IsIpBlockDer limit)) (IsRunsOfBlocks ip_bounds)
 

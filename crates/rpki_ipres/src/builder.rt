@@ -46,7 +46,8 @@ impl<A: Allocator> IpBlocksBuilder<A> {
         self.blocks.push(block)
     }
 
-    /// Adds several blocks. `AllocError` where there is no memory for them; then the builder has the blocks that it had.
+    /// Adds several blocks. `AllocError` where there is no memory for them; then the builder has the blocks that it
+    /// had.
     pub fn extend_from(&mut self, blocks: &[IpBlock]) -> Result<(), AllocError>
         ensures ok { OnOk result (self.new ≡ self.old ++ map ip_bounds blocks.now) }
         ensures err { OnErr result (self.new ≡ self.old) }
@@ -67,8 +68,8 @@ impl<A: Allocator> IpBlocksBuilder<A> {
 
 /// Builds resources of addresses: inherited ones, or a list of blocks, which is empty at first.
 ///
-/// Contracts see it as the list of the blocks' least and greatest addresses, in the order in which they came, and as None
-/// where the resources are inherited.
+/// Contracts see it as the list of the blocks' least and greatest addresses, in the order in which they came, and as
+/// None where the resources are inherited.
 pub type IpResourcesBuilder<A = Global> = ResourcesBuilder<IpBlocksBuilder<A>>;
 
 impl<A: Allocator + Copy> CollectBlocks for IpBlocksBuilder<A> {

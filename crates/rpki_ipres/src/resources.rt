@@ -147,7 +147,8 @@ impl<A: Allocator> IpBlocks<A> {
     ghost use Rattle.std.specs.Prelude.{◌≡◌, [], IsErr, Ok};
     ghost use Rattle.rpki_chain.specs.Choices.{MatchChoice};
 
-    /// The set that resources list, and the set of no addresses where they are missing. Inherited resources are refused.
+    /// The set that resources list, and the set of no addresses where they are missing. Inherited resources are
+    /// refused.
     pub fn from_resources(resources: IpResources<A>) -> Result<IpBlocks<A>, InheritedIpResources>
         ensures { MatchChoice resources (result ≡ Ok []) (IsErr result) (λ listed. result ≡ Ok listed) }
     {

@@ -1,1 +1,1 @@
-pub mod Octets
+pub mod AllWritten

@@ -24,8 +24,8 @@ pub fn addresses_in_the_end<A: Allocator + Copy>(
     builder.finalize()
 }
 
-/// The resources of IPv4 and IPv6 as they are read again from what is written of them: the same, and None where they are
-/// missing. One of them at least isn't. `AllocError` where there is no memory for them.
+/// The resources of IPv4 and IPv6 as they are read again from what is written of them: the same, and None where they
+/// are missing. One of them at least isn't. `AllocError` where there is no memory for them.
 pub fn families_written_and_read<A: Allocator + Copy>(
     alloc: A,
     v4: &IpResources<A>,

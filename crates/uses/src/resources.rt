@@ -22,8 +22,8 @@ pub fn listed_in_the_end<A: Allocator + Copy>(
     builder.finalize()
 }
 
-/// Resources as they are read again from what is written of them: the same. They aren't missing. `AllocError` where there
-/// is no memory for them.
+/// Resources as they are read again from what is written of them: the same. They aren't missing. `AllocError` where
+/// there is no memory for them.
 pub fn resources_written_and_read<A: Allocator + Copy>(
     alloc: A,
     resources: &AsResources<A>,

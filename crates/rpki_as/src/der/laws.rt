@@ -15,16 +15,16 @@ pub fn one_value()
     ensures sequence { OneFront IsAsBlockSequence }
 {}
 
-/// What is written of a set, put in one SEQUENCE, stands for the set. Sets are written alike exactly where they have the
-/// same numbers.
+/// What is written of a set, put in one SEQUENCE, stands for the set. Sets are written alike exactly where they have
+/// the same numbers.
 pub fn written_sets()
     ensures sequence { (set : Runs) → IsAsSet set → IsAsBlockSequence (as_sequence_octets set) set }
     ensures alike { (a b : Runs) → IsAsSet a → IsAsSet b →
         (as_set_octets a ≡ as_set_octets b) ↔ ((n : ℕ) → Holds a n ↔ Holds b n) }
 {}
 
-/// Octets begin with at most one value that is AS resources, which stands for one claim. What is written of resources that
-/// aren't missing stands for them, and two such are written alike exactly where they are equal.
+/// Octets begin with at most one value that is AS resources, which stands for one claim. What is written of resources
+/// that aren't missing stands for them, and two such are written alike exactly where they are equal.
 pub fn written_resources()
     ensures one { OneFront IsAsResources }
     ensures written { (claim : Claim) → IsClaim IsAsSet claim → claim ≢ Missing →

@@ -1,4 +1,5 @@
-//! AS resources in DER: a SEQUENCE of a tagged NULL or SEQUENCE of blocks (RFC 3779, 3.2.3.1 to 3.2.3.4; RFC 6487, 4.8.11).
+//! AS resources in DER: a SEQUENCE of a tagged NULL or SEQUENCE of blocks (RFC 3779, 3.2.3.1 to 3.2.3.4; RFC 6487,
+//! 4.8.11).
 ghost use Rattle.rpki_der.specs.Reading.{tagged_at};
 ghost use Rattle.rpki_der.specs.Views.{Takes, left};
 
@@ -25,11 +26,11 @@ impl<A: Allocator> AsResources<A> {
 
     /// Takes AS resources, which are inherited or listed. The blocks may come in any order and may overlap.
     ///
-    /// `Refused` with the first fault: that of the SEQUENCE and of the tagged value in it as in [`Cursor::take_sequence`]; where
-    /// that has neither a NULL nor a SEQUENCE, `BadTag`; `BadNull` for a NULL with content; the fault of a block as in
-    /// [`AsBlock::take_opt_from`](crate::block::AsBlock::take_opt_from); `EmptyBlocks` for a SEQUENCE of no block; and then
-    /// `TrailingData` for octets that are left in one of the two that enclose it. `Memory` where there is no memory for the
-    /// blocks. The cursor then stays.
+    /// `Refused` with the first fault: that of the SEQUENCE and of the tagged value in it as in
+    /// [`Cursor::take_sequence`]; where that has neither a NULL nor a SEQUENCE, `BadTag`; `BadNull` for a NULL with
+    /// content; the fault of a block as in [`AsBlock::take_opt_from`](crate::block::AsBlock::take_opt_from);
+    /// `EmptyBlocks` for a SEQUENCE of no block; and then `TrailingData` for octets that are left in one of the two
+    /// that enclose it. `Memory` where there is no memory for the blocks. The cursor then stays.
     pub fn take_from(
         alloc: A,
         cursor: &mut Cursor<'_>,
@@ -45,9 +46,10 @@ impl<A: Allocator> AsResources<A> {
         Self::next_resources(alloc, cursor)
     }
 
-    /// Appends the resources, which aren't missing: inherited ones as a NULL, and else the SEQUENCE of the runs that are
-    /// listed, ascending, each as an AS number where it is one, and else as the SEQUENCE of its bounds. Round that stand a
-    /// tag and a SEQUENCE. `AllocError` where there is no memory for all of it; then the octets stay as they were.
+    /// Appends the resources, which aren't missing: inherited ones as a NULL, and else the SEQUENCE of the runs that
+    /// are listed, ascending, each as an AS number where it is one, and else as the SEQUENCE of its bounds. Round that
+    /// stand a tag and a SEQUENCE. `AllocError` where there is no memory for all of it; then the octets stay as they
+    /// were.
     pub fn encode<B: Allocator>(&self, out: &mut Vec<u8, B>) -> Result<(), AllocError>
         requires { self.now ≢ Missing }
         ensures ok { OnOk result (out.new.items ≡ out.old.items ++ as_resources_octets self.now) }

@@ -33,8 +33,8 @@ impl<A: Allocator> IpBlocks<A> {
     ghost use Rattle.rpki_ipres.specs.Blocks.{ip_bounds};
     ghost use Rattle.rpki_ipres.specs.SetText.{IsFamilySet, IsIpSet};
 
-    /// Takes a SEQUENCE of blocks, which may be none, and answers the set of their addresses. The blocks may come in any
-    /// order and may overlap, and their prefixes have lengths up to 128.
+    /// Takes a SEQUENCE of blocks, which may be none, and answers the set of their addresses. The blocks may come in
+    /// any order and may overlap, and their prefixes have lengths up to 128.
     ///
     /// `Refused` with the first fault: that of the SEQUENCE as in [`Cursor::take_sequence`], or that of a block as in
     /// [`IpBlock::take_opt_from`]. `Memory` where there is no memory for the blocks. The cursor then stays.
@@ -50,8 +50,8 @@ impl<A: Allocator> IpBlocks<A> {
         Self::next_set(alloc, cursor, AddressFamily::Ipv6)
     }
 
-    /// Takes a SEQUENCE of blocks of the family as `take_from` does. `BadPrefix` also for a prefix that is longer than the
-    /// family's addresses.
+    /// Takes a SEQUENCE of blocks of the family as `take_from` does. `BadPrefix` also for a prefix that is longer than
+    /// the family's addresses.
     pub fn take_from_with_family(
         alloc: A,
         cursor: &mut Cursor<'_>,
@@ -69,9 +69,9 @@ impl<A: Allocator> IpBlocks<A> {
         Self::next_set(alloc, cursor, family)
     }
 
-    /// Appends the SEQUENCE of the set's runs, ascending: each as a prefix where its addresses are those of one, and else
-    /// as the SEQUENCE of its bounds. `AllocError` where there is no memory for all of it; then the octets stay as they
-    /// were.
+    /// Appends the SEQUENCE of the set's runs, ascending: each as a prefix where its addresses are those of one, and
+    /// else as the SEQUENCE of its bounds. `AllocError` where there is no memory for all of it; then the octets stay as
+    /// they were.
     pub fn encode<B: Allocator>(&self, out: &mut Vec<u8, B>) -> Result<(), AllocError>
         ensures ok { OnOk result (out.new.items ≡ out.old.items ++ ip_set_der self.now) }
         ensures err { OnErr result (out.new.items ≡ out.old.items) }
@@ -82,10 +82,12 @@ impl<A: Allocator> IpBlocks<A> {
         encode_sequence(self.iter().as_slice(), out)
     }
 
-    /// Appends the SEQUENCE of the family and of what `encode` appends (RFC 3779, 2.2.3.2), and nothing for the empty set.
+    /// Appends the SEQUENCE of the family and of what `encode` appends (RFC 3779, 2.2.3.2), and nothing for the empty
+    /// set.
     ///
-    /// A set that is one of the family is read back, from IPv4 if it consists of whole IPv4 addresses. Off those, what is
-    /// written for IPv4 has prefixes and bounds of more than 32 bits, which readers of IPv4 refuse. `AllocError` where there is no memory for all of it; then the octets stay as they were.
+    /// A set that is one of the family is read back, from IPv4 if it consists of whole IPv4 addresses. Off those, what
+    /// is written for IPv4 has prefixes and bounds of more than 32 bits, which readers of IPv4 refuse. `AllocError`
+    /// where there is no memory for all of it; then the octets stay as they were.
     pub fn encode_family<B: Allocator>(
         &self,
         family: AddressFamily,

@@ -12,8 +12,8 @@ ghost use Rattle.rpki_ipres.specs.ResourcesDer.{IsIpFamilies, IsIpResources, ip_
 ghost use Rattle.rpki_ipres.specs.SetText.{IsFamilySet, IsIpSet};
 
 /// Octets begin with at most one block, with at most one SEQUENCE of blocks, which stands for one set, and with at most
-/// one SEQUENCE of a family and of the SEQUENCE of its blocks, which stands for one family and one set. They begin with the
-/// resources of at most one claim, and with at most one SEQUENCE of families, which have one claim each.
+/// one SEQUENCE of a family and of the SEQUENCE of its blocks, which stands for one family and one set. They begin with
+/// the resources of at most one claim, and with at most one SEQUENCE of families, which have one claim each.
 pub fn one_value()
     ensures block { (limit : ℕ) → OneFront (IsIpBlockDer limit) }
     ensures set { (limit : ℕ) → OneFront (IsIpBlockSequence limit) }
@@ -22,8 +22,8 @@ pub fn one_value()
     ensures families { OneFront IsIpFamilies }
 {}
 
-/// What is written of a set of a family, of fewer than 2^64 octets, is a SEQUENCE of the family's blocks that stands for
-/// the set. What is written of a set that isn't empty and of its family stands for both.
+/// What is written of a set of a family, of fewer than 2^64 octets, is a SEQUENCE of the family's blocks that stands
+/// for the set. What is written of a set that isn't empty and of its family stands for both.
 pub fn written_sets()
     ensures sequence { (family : _) (set : Runs) → IsFamilySet family set →
         length (ip_set_der set) < 2 ^ 64 → IsIpBlockSequence (bits_of family) (ip_set_der set) set }
@@ -40,8 +40,8 @@ pub fn canonical()
         (ip_family_der family a ≡ ip_family_der family b) ↔ ((n : ℕ) → Holds a n ↔ Holds b n) }
 {}
 
-/// What is written of resources of a family that aren't missing, of fewer than 2^64 octets, is the resources. What is written
-/// of families, of which one at least isn't missing, is the families that aren't.
+/// What is written of resources of a family that aren't missing, of fewer than 2^64 octets, is the resources. What is
+/// written of families, of which one at least isn't missing, is the families that aren't.
 pub fn written_resources()
     ensures resources { (family : _) (claim : Claim) → IsFamilyClaim family claim → claim ≢ Missing →
         length (ip_resources_der claim) < 2 ^ 64 → IsIpResources (bits_of family) (ip_resources_der claim) claim }

@@ -27,12 +27,12 @@ impl<A: Allocator> IpResources<A> {
     ghost use Rattle.rpki_ipres.specs.Resources.{IsFamilyClaim, IsIpClaim, IsWholeClaim, if_present};
     ghost use Rattle.rpki_ipres.specs.ResourcesDer.{IsIpFamilies, IsIpResources, SaysClaimOf, SaysClaims, ip_families_at, ip_families_der, ip_member_der, ip_resources_at, ip_resources_der};
 
-    /// Takes the resources of a family: a NULL where they are inherited, and else a SEQUENCE of blocks of the family, one at
-    /// least, in any order, overlapping or not.
+    /// Takes the resources of a family: a NULL where they are inherited, and else a SEQUENCE of blocks of the family,
+    /// one at least, in any order, overlapping or not.
     ///
-    /// `Refused` with the first fault: one of [`Cursor::take_value`]; `BadTag` where neither stands there; `BadNull` for a
-    /// NULL with content; that of a block as in [`IpBlock::take_opt_from_with_family`]; `EmptyBlocks` for a SEQUENCE of none.
-    /// `Memory` where there is no memory for the blocks. The cursor then stays.
+    /// `Refused` with the first fault: one of [`Cursor::take_value`]; `BadTag` where neither stands there; `BadNull`
+    /// for a NULL with content; that of a block as in [`IpBlock::take_opt_from_with_family`]; `EmptyBlocks` for a
+    /// SEQUENCE of none. `Memory` where there is no memory for the blocks. The cursor then stays.
     ///
     /// [`IpBlock::take_opt_from_with_family`]: crate::block::IpBlock::take_opt_from_with_family
     pub fn take_from(
@@ -52,9 +52,9 @@ impl<A: Allocator> IpResources<A> {
         Self::next(alloc, cursor, family)
     }
 
-    /// Appends a NULL for inherited resources, and else the SEQUENCE of the set's runs, ascending: each as a prefix where its
-    /// addresses are those of one, and else as the SEQUENCE of its bounds. Missing resources have no octets. `AllocError`
-    /// where there is no memory for all of it; then the octets stay as they were.
+    /// Appends a NULL for inherited resources, and else the SEQUENCE of the set's runs, ascending: each as a prefix
+    /// where its addresses are those of one, and else as the SEQUENCE of its bounds. Missing resources have no octets.
+    /// `AllocError` where there is no memory for all of it; then the octets stay as they were.
     pub fn encode<B: Allocator>(&self, out: &mut Vec<u8, B>) -> Result<(), AllocError>
         requires { self.now ≢ Missing }
         ensures ok { OnOk result (out.new.items ≡ out.old.items ++ ip_resources_der self.now) }
@@ -66,10 +66,11 @@ impl<A: Allocator> IpResources<A> {
         encode_choice(&self.as_choice(), out)
     }
 
-    /// Appends the SEQUENCE of the family and of what `encode` appends (RFC 3779, 2.2.3.2), and nothing for missing resources.
+    /// Appends the SEQUENCE of the family and of what `encode` appends (RFC 3779, 2.2.3.2), and nothing for missing
+    /// resources.
     ///
-    /// Resources of the family are read back, from IPv4 if what they list consists of whole IPv4 addresses. `AllocError`
-    /// where there is no memory for all of it; then the octets stay as they were.
+    /// Resources of the family are read back, from IPv4 if what they list consists of whole IPv4 addresses.
+    /// `AllocError` where there is no memory for all of it; then the octets stay as they were.
     pub fn encode_family<B: Allocator>(
         &self,
         family: AddressFamily,
@@ -106,8 +107,8 @@ impl<A: Allocator> IpResources<A> {
     ///
     /// `Refused` with the first fault: that of a SEQUENCE or of a family; `DuplicateFamily` for a family that was there
     /// before, ahead of its resources; that of its resources as in `take_from`; `TrailingData` for octets that are left
-    /// behind them; `NoFamily` where the SEQUENCE is empty. `Memory` where there is no memory for the blocks. The cursor then
-    /// stays.
+    /// behind them; `NoFamily` where the SEQUENCE is empty. `Memory` where there is no memory for the blocks. The
+    /// cursor then stays.
     pub fn take_families_from(
         alloc: A,
         cursor: &mut Cursor<'_>,
@@ -125,8 +126,9 @@ impl<A: Allocator> IpResources<A> {
         Self::next_families(alloc, cursor)
     }
 
-    /// Appends the SEQUENCE of the families that have resources, IPv4 first, each as `encode_family` appends it. One of them
-    /// at least isn't missing. `AllocError` where there is no memory for all of it; then the octets stay as they were.
+    /// Appends the SEQUENCE of the families that have resources, IPv4 first, each as `encode_family` appends it. One of
+    /// them at least isn't missing. `AllocError` where there is no memory for all of it; then the octets stay as they
+    /// were.
     pub fn encode_families<B: Allocator>(
         v4: &IpResources<A>,
         v6: &IpResources<A>,

@@ -2,7 +2,7 @@
 use Rattle.std.proofs.Common.{[], subst}
 use Rattle.rpki_text.specs.Memory.{IsMemory}
 use Rattle.rpki_ipres.specs.ResourcesDer.{ip_families_der}
-use Rattle.uses.proofs.Octets.{only}
+use Rattle.uses.proofs.AllWritten.{only}
 use Rattle.uses.proofs.families.families_written_and_read.Goals as goal
 
 pub returns-in-Ok : goal.returns-in-Ok

@@ -2,7 +2,7 @@
 use Rattle.std.proofs.Common.{[], subst}
 use Rattle.rpki_text.specs.Memory.{IsMemory}
 use Rattle.rpki_as.specs.AsDer.{as_resources_octets}
-use Rattle.uses.proofs.Octets.{only}
+use Rattle.uses.proofs.AllWritten.{only}
 use Rattle.uses.proofs.resources.resources_written_and_read.Goals as goal
 
 pub returns-in-Ok : goal.returns-in-Ok

@@ -5,6 +5,8 @@
 #[cfg(test)]
 mod altered;
 #[cfg(test)]
+mod as_resources;
+#[cfg(test)]
 mod checks;
 #[cfg(test)]
 mod contents;

@@ -2,8 +2,9 @@
 //! times on standard error.
 //!
 //! For each N that an argument names: two sets of N blocks of AS numbers that interleave, of which each block of the one
-//! overlaps one of the other, and no two touch; then N blocks of AS numbers and N blocks of addresses, which are read
-//! from a SEQUENCE where they stand in another order, and written as a set.
+//! overlaps one of the other, and no two touch; two such sets of addresses, whose blocks lie apart; then N blocks of AS
+//! numbers and N blocks of addresses, which are read from a SEQUENCE where they stand in another order, and written as a
+//! set.
 #![tactic(auto)]
 
 use rpki_as::block::AsBlock;
@@ -26,6 +27,9 @@ const STEP: u32 = 8;
 /// How far the blocks of addresses stand apart.
 const ADDRESS_STEP: u128 = 1 << 64;
 
+/// How far the one set of addresses begins before the other.
+const ADDRESS_OFFSET: u128 = 1 << 32;
+
 /// How far blocks that stand side by side are apart in the other order: a prime, so that each is met once.
 const STRIDE: usize = 7919;
 
@@ -33,6 +37,7 @@ fn main(rt: HostRuntime) -> io::Result<()> {
     for word in env::args(&rt)?.skip(1) {
         if let Ok(count) = word.as_str().parse::<usize>() {
             measure_operations(&rt, count)?;
+            measure_ip_operations(&rt, count)?;
             measure_as_der(&rt, count)?;
             measure_ip_der(&rt, count)?;
         }
@@ -54,10 +59,10 @@ fn as_blocks(alloc: Global, count: usize, offset: u32) -> Result<Vec<AsBlock>, A
     Ok(blocks)
 }
 
-/// So many blocks of three addresses each.
-fn ip_blocks(alloc: Global, count: usize) -> Result<Vec<IpBlock>, AllocError> {
+/// So many blocks of three addresses each, the first at an offset.
+fn ip_blocks(alloc: Global, count: usize, offset: u128) -> Result<Vec<IpBlock>, AllocError> {
     let mut blocks = Vec::new(alloc);
-    let mut next = Some(0);
+    let mut next = Some(offset);
     for _ in 0..count {
         let Some(min) = next else { break };
         let Some(max) = u128::checked_add(min, 2) else {
@@ -98,7 +103,8 @@ fn measure_operations(rt: &HostRuntime, count: usize) -> io::Result<()> {
     let other = as_set(rt.alloc(), count, 2)?;
     measure_union(rt, count, &one, &other)?;
     measure_intersection(rt, count, &one, &other)?;
-    measure_difference(rt, count, &one, &other)
+    measure_difference(rt, count, &one, &other)?;
+    measure_contains(rt, count, &one, &other)
 }
 
 fn measure_union(
@@ -134,6 +140,44 @@ fn measure_difference(
     report_set(rt, "difference", count, start, &difference)
 }
 
+/// How long it takes to find that the union of two sets contains the one.
+fn measure_contains(
+    rt: &HostRuntime,
+    count: usize,
+    one: &AsBlocks,
+    other: &AsBlocks,
+) -> io::Result<()> {
+    let union = one.union(rt.alloc(), other)?;
+    let start = Instant::now(rt)?;
+    let contained = union.contains(one);
+    report(rt, "contains", count, start, usize::from(contained), "set")
+}
+
+/// The set of such blocks.
+fn ip_set(alloc: Global, count: usize, offset: u128) -> Result<IpBlocks, AllocError> {
+    let blocks = ip_blocks(alloc, count, offset)?;
+    IpBlocks::from_blocks(alloc, &blocks)
+}
+
+/// Builds two sets of addresses, and times their union and whether it contains the one.
+fn measure_ip_operations(rt: &HostRuntime, count: usize) -> io::Result<()> {
+    let one = ip_set(rt.alloc(), count, 0)?;
+    let other = ip_set(rt.alloc(), count, ADDRESS_OFFSET)?;
+    let start = Instant::now(rt)?;
+    let union = one.union(rt.alloc(), &other)?;
+    report(rt, "ip-union", count, start, union.iter().len(), "blocks")?;
+    let start = Instant::now(rt)?;
+    let contained = union.contains(&one);
+    report(
+        rt,
+        "ip-contains",
+        count,
+        start,
+        usize::from(contained),
+        "set",
+    )
+}
+
 /// A SEQUENCE of blocks of AS numbers, which aren't ascending.
 fn as_octets(alloc: Global, count: usize) -> Result<Vec<u8>, AllocError> {
     let blocks = reordered(alloc, &as_blocks(alloc, count, 0)?)?;
@@ -144,7 +188,7 @@ fn as_octets(alloc: Global, count: usize) -> Result<Vec<u8>, AllocError> {
 
 /// A SEQUENCE of blocks of addresses, which aren't ascending.
 fn ip_octets(alloc: Global, count: usize) -> Result<Vec<u8>, AllocError> {
-    let blocks = reordered(alloc, &ip_blocks(alloc, count)?)?;
+    let blocks = reordered(alloc, &ip_blocks(alloc, count, 0)?)?;
     let mut octets = Vec::new(alloc);
     encode_sequence(&blocks, &mut octets)?;
     Ok(octets)

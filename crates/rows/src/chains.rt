@@ -73,6 +73,7 @@ fn of_chains<A: Allocator + Copy>(
 ) -> Result<String<A>, AllocError> {
     match question {
         "difference" => difference(alloc, chain, other),
+        "union" => union(alloc, chain, other),
         "trim" => trim(alloc, chain, other),
         "within" => print::boolean(alloc, chain.is_encompassed(other)),
         "equal" => print::boolean(alloc, chain == other),
@@ -101,6 +102,15 @@ fn difference<A: Allocator + Copy>(
 ) -> Result<String<A>, AllocError> {
     let difference = chain.difference(alloc, other)?;
     text(alloc, difference.as_chain())
+}
+
+fn union<A: Allocator + Copy>(
+    alloc: A,
+    chain: Chain<'_, Pair>,
+    other: Chain<'_, Pair>,
+) -> Result<String<A>, AllocError> {
+    let union = chain.union(alloc, other)?;
+    text(alloc, union.as_chain())
 }
 
 fn trim<A: Allocator + Copy>(

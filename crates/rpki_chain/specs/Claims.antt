@@ -25,6 +25,12 @@ abbrev pub claim_of : Runs → Claim
 claim_of [] = Missing
 claim_of (run ∷ runs) = Blocks (run ∷ runs)
 
+-- the claim that lists what is seen of a set
+abbrev pub claim_by : {X : Type 0} → (X → Runs) → ResourcesChoice X → Claim
+claim_by runs Missing = Missing
+claim_by runs Inherit = Inherit
+claim_by runs (Blocks x) = Blocks (runs x)
+
 -- ---- built block by block
 
 -- the blocks so far, which are none where resources are inherited

@@ -5,4 +5,5 @@ pub mod ChoiceEquality
 pub mod Choices
 pub mod Claims
 pub mod Laws
+pub mod Paths
 pub mod Runs

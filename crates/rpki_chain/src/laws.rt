@@ -1,8 +1,13 @@
 //! Laws of what the calls on sets answer. Each holds of any answers that meet the calls' contracts.
-ghost use Rattle.std.specs.Prelude.{◌≡◌, ℕ, ◌↔◌, [], map};
+ghost use Rattle.std.specs.Prelude.{◌≡◌, ℕ, ◌<◌, ◌↔◌, List, [], map, take, length, slice_index_or, All, Contains};
 ghost use Rattle.rpki_chain.specs.BlockSets.{IsBlockSet};
 ghost use Rattle.rpki_chain.specs.Runs.{Runs, Holds, IsRunsOf, IsRunsOfBlocks};
 ghost use Rattle.rpki_chain.specs.Laws.{IsUnion, IsIntersection, IsDifference};
+ghost use Rattle.rpki_chain.specs.Claims.{Claim};
+ghost use Rattle.rpki_chain.specs.Paths.{Lists, Leaves, IsIssued, IsExcess, IsLeft, ExceedsAt, IsPathResult, IsFirstRefusal, one_step};
+ghost use Rattle.rpki_chain.specs.declared.path.Overclaim.{Overclaim};
+ghost use Rattle.rpki_chain.specs.declared.path.Overclaim.TheVariants.{Refuse, Trim};
+ghost use Rattle.rpki_chain.specs.declared.path.Step.{Step};
 
 use rpki_blocks::block::Block;
 
@@ -40,4 +45,42 @@ pub fn laws_of_difference()
         IsDifference a b rest → IsIntersection a b common → IsUnion rest common set → set ≡ a }
     ensures inside { (a b rest : Runs) → IsDifference a b rest →
         (rest ≡ []) ↔ ((n : ℕ) → Holds a n → Holds b n) }
+{}
+
+/// A claim is a path of one step: it leaves what the path leaves, and is refused as the path is. What it leaves where it
+/// is accepted, it leaves in mode Trim; and to trim once more by the same claim changes nothing.
+pub fn laws_of_claims()
+    ensures path_of_one { (root issued : Runs) (claim : Claim) (mode : Overclaim) →
+        IsIssued (Holds root) claim mode issued
+        ↔ IsPathResult (λ claim. claim) (Holds root) (one_step claim mode) issued }
+    ensures refusal_of_one { (root excess : Runs) (claim : Claim) (mode : Overclaim) →
+        IsExcess (Holds root) claim mode excess
+        ↔ IsFirstRefusal (λ claim. claim) (Holds root) (one_step claim mode)
+        (record { step = 0; fault = excess }) }
+    ensures trimmed_alike { (root issued trimmed : Runs) (claim : Claim) →
+        IsIssued (Holds root) claim Refuse issued → IsIssued (Holds root) claim Trim trimmed
+        → trimmed ≡ issued }
+    ensures trimmed_twice { (root once twice : Runs) (claim : Claim) →
+        IsIssued (Holds root) claim Trim once → IsIssued (Holds once) claim Trim twice → twice ≡ once }
+{}
+
+/// What a path leaves lies in its root and in each set that a step lists, and a claim that was accepted in mode Refuse lies
+/// in what the steps before it leave: no accepted set passes its issuer. No step in mode Trim is refused; and what a path
+/// leaves doesn't depend on the order of its steps, nor on how often one stands in it.
+pub fn laws_of_paths()
+    ensures inside_root { (root set : Runs) (steps : List (Step Claim)) →
+        IsPathResult (λ claim. claim) (Holds root) steps set → (n : ℕ) → Holds set n → Holds root n }
+    ensures inside_each { (root set : Runs) (steps : List (Step Claim)) →
+        IsPathResult (λ claim. claim) (Holds root) steps set → (n : ℕ) → Holds set n
+        → All (λ step. Leaves step.claim n) steps }
+    ensures inside_issuer { (root set : Runs) (steps : List (Step Claim)) (at : ℕ) (step : Step Claim) →
+        IsPathResult (λ claim. claim) (Holds root) steps set → at < length steps
+        → slice_index_or steps at step ≡ step → step.mode ≡ Refuse → (n : ℕ) → Lists step.claim n
+        → IsLeft (λ claim. claim) (Holds root) (take at steps) n }
+    ensures trims { (root : Runs) (steps : List (Step Claim)) → All (λ step. step.mode ≡ Trim) steps →
+        (at n : ℕ) → ExceedsAt (λ claim. claim) (Holds root) steps at n → ⊥ }
+    ensures any_order { (root set other : Runs) (steps others : List (Step Claim)) →
+        ((step : Step Claim) → Contains steps step ↔ Contains others step)
+        → IsPathResult (λ claim. claim) (Holds root) steps set
+        → IsPathResult (λ claim. claim) (Holds root) others other → set ≡ other }
 {}

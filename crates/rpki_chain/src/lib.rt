@@ -8,8 +8,10 @@ pub mod builder;
 pub mod choice;
 pub mod der;
 pub mod laws;
+pub mod path;
 pub mod resources;
 pub mod set;
+mod verify;
 
 pub use block::Block;
 pub use builder::BlockSetBuilder;
@@ -17,6 +19,7 @@ pub use chain::Chain;
 pub use choice::{InheritedResources, Listed, ResourcesChoice};
 pub use counted::Counted;
 pub use owned::OwnedChain;
+pub use path::{Overclaim, PathRefusal, Step};
 pub use reads::Reads;
 pub use resources::ResourcesBuilder;
 pub use set::BlockSet;

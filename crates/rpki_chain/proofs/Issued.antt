@@ -1,0 +1,80 @@
+-- What one claim leaves, and by what it exceeds: each of its outcomes, and that there is one.
+use Rattle.std.proofs.Common.{◌≡◌, ◌≢◌, ℕ, ◌≤◌, ⊎_elim, [], ◌∷◌, refl, sym, subst}
+use Rattle.std.proofs.Math.Nat.{le_refl}
+use Rattle.std.proofs.lemmas.List.Elements.{All-head}
+use Rattle.rpki_blocks.proofs.Chains.{Covers-nil}
+use Rattle.rpki_blocks.proofs.Unique.{Covers-head}
+use Rattle.rpki_chain.specs.Claims.{Claim}
+use Rattle.rpki_chain.specs.Laws.{IsIntersection, IsDifference}
+use Rattle.rpki_chain.specs.Paths.{Lists, Leaves, Exceeds, IsIssued, IsExcess}
+use Rattle.rpki_chain.specs.Runs.{Runs, Holds, IsRunsOf}
+use Rattle.rpki_chain.specs.declared.choice.ResourcesChoice.TheVariants.{Inherit, Blocks}
+use Rattle.rpki_chain.specs.declared.path.Overclaim.{Overclaim}
+use Rattle.rpki_chain.specs.declared.path.Overclaim.TheVariants.{Refuse, Trim}
+use Rattle.rpki_chain.proofs.RunLists.{Holds-decided, IsRunsOf-same, IsRunsOf-unique}
+
+-- no runs hold no number
+pub none_held : (runs : Runs) (n : ℕ) → runs ≡ [] → Holds runs n → ⊥
+none_held runs n none held = Covers-nil (λ x. x) n (subst (λ (r : Runs). Holds r n) none held)
+
+-- and some runs hold one
+pub some_held : (S : ℕ → Type 0) (runs : Runs) → IsRunsOf S runs → runs ≢ [] → (n : ℕ) × S n
+some_held S [] h some = absurd (some refl)
+some_held S (b ∷ runs) h some =
+    let ordered : b.0 ≤ b.1 = All-head (λ (x : ℕ × ℕ). x.0 ≤ x.1) b runs h.ordered in
+    (b.0, (h.members b.0).0 (Covers-head (λ x. x) b runs b.0 (le_refl b.0, ordered)))
+
+-- where nothing is left of a difference, the one set lies in the other
+pub inside_by_none : (a b rest : Runs) → IsDifference a b rest → rest ≡ [] → (n : ℕ) → Holds a n → Holds b n
+inside_by_none a b rest h none n held = ⊎_elim
+    (λ (other : Holds b n). other)
+    (λ (outside : Holds b n → ⊥). absurd (none_held rest n none ((h.members n).1 (held, outside))))
+    (Holds-decided b n)
+
+-- a claim that lists no number exceeds nothing
+pub not_exceeded : (S : ℕ → Type 0) (claim : Claim) (mode : Overclaim) (n : ℕ) → (Lists claim n → ⊥) → Exceeds S claim mode n → ⊥
+not_exceeded S claim Refuse n none e = none e.0
+not_exceeded S claim Trim n none e = e
+
+-- nor does one that lists numbers of the issuer
+not_exceeded_inside : (S : ℕ → Type 0) (claim : Claim) (mode : Overclaim) (n : ℕ) → (Lists claim n → S n) → Exceeds S claim mode n → ⊥
+not_exceeded_inside S claim Refuse n inside e = e.1 (inside e.0)
+not_exceeded_inside S claim Trim n inside e = e
+
+module _ (set : Runs) (claim : Claim) (mode : Overclaim) where
+  pub issued-inherit : (issued : Runs) → claim ≡ Inherit → issued ≡ set → IsRunsOf (Holds set) set → IsIssued (Holds set) claim mode issued
+  issued-inherit issued is same runs = subst (λ (c : Claim). IsIssued (Holds set) c mode issued) (sym is) (record {
+    runs = subst (λ (r : Runs). IsRunsOf (λ n. Holds set n × Leaves Inherit n) r) (sym same) (IsRunsOf-same set _ _ (λ n. (λ held. (held, tt), λ x. x.0)) runs);
+    accepted = λ n. not_exceeded (Holds set) Inherit mode n (λ none. none);
+  })
+
+  module _ (listed : Runs) (is : claim ≡ Blocks listed) where
+    pub issued-inside : (issued : Runs) → ((n : ℕ) → Holds listed n → Holds set n) → issued ≡ listed → IsRunsOf (Holds listed) listed → IsIssued (Holds set) claim mode issued
+    issued-inside issued inside same runs = subst (λ (c : Claim). IsIssued (Holds set) c mode issued) (sym is) (record {
+      runs = subst (λ (r : Runs). IsRunsOf (λ n. Holds set n × Holds listed n) r) (sym same) (IsRunsOf-same listed _ _ (λ n. (λ held. (inside n held, held), λ x. x.1)) runs);
+      accepted = λ n. not_exceeded_inside (Holds set) (Blocks listed) mode n (inside n);
+    })
+
+    pub issued-trim : (issued : Runs) → mode ≡ Trim → IsIntersection set listed issued → IsIssued (Holds set) claim mode issued
+    issued-trim issued trim both = subst (λ (c : Claim). IsIssued (Holds set) c mode issued) (sym is) (record {
+      runs = both;
+      accepted = λ n e. subst (λ (m : Overclaim). Exceeds (Holds set) (Blocks listed) m n) trim e;
+    })
+
+    pub excess-refuse : (excess : Runs) → mode ≡ Refuse → IsDifference listed set excess → (((n : ℕ) → Holds listed n → Holds set n) → ⊥) → IsExcess (Holds set) claim mode excess
+    excess-refuse excess refuse over not_inside =
+        let done : IsExcess (Holds set) (Blocks listed) Refuse excess = record {
+          runs = over;
+          some = λ none. not_inside (inside_by_none listed set excess over none);
+        } in
+        subst (λ (c : Claim). IsExcess (Holds set) c mode excess) (sym is) (subst (λ (m : Overclaim). IsExcess (Holds set) (Blocks listed) m excess) (sym refuse) done)
+
+module _ (S : ℕ → Type 0) (claim : Claim) (mode : Overclaim) where
+  pub one_issued : (a b : Runs) → IsIssued S claim mode a → IsIssued S claim mode b → a ≡ b
+  one_issued a b h k = IsRunsOf-unique (λ n. S n × Leaves claim n) a b h.runs k.runs
+
+  pub one_excess : (a b : Runs) → IsExcess S claim mode a → IsExcess S claim mode b → a ≡ b
+  one_excess a b h k = IsRunsOf-unique (Exceeds S claim mode) a b h.runs k.runs
+
+  pub issued_or_excess : (a b : Runs) → IsIssued S claim mode a → IsExcess S claim mode b → ⊥
+  issued_or_excess a b h k = let (n, e) = some_held (Exceeds S claim mode) b k.runs k.some in h.accepted n e

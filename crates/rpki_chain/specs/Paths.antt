@@ -1,0 +1,78 @@
+-- Claims on the numbers that an issuer has, and what a path of claims leaves of a root: sets by membership
+-- (RFC 3779, 2.3 and 3.3; RFC 6487, 7.2; RFC 8360, 4.2).
+use Rattle.std.specs.Prelude.{◌≡◌, ◌≢◌, ℕ, ◌<◌, List, [], ◌∷◌, take, slice_index_or, length, All, ⊤}
+use Rattle.rpki_chain.specs.Claims.{Claim}
+use Rattle.rpki_chain.specs.Runs.{Runs, Holds, IsRunsOf}
+use Rattle.rpki_chain.specs.declared.choice.ResourcesChoice.TheVariants.{Missing, Inherit, Blocks}
+use Rattle.rpki_chain.specs.declared.path.Overclaim.{Overclaim}
+use Rattle.rpki_chain.specs.declared.path.Overclaim.TheVariants.{Refuse, Trim}
+use Rattle.rpki_chain.specs.declared.path.PathRefusal.{PathRefusal}
+use Rattle.rpki_chain.specs.declared.path.Step.{Step}
+
+-- ---- one claim
+
+-- the claim lists n
+abbrev pub Lists : Claim → ℕ → Type 0
+Lists Missing n = ⊥
+Lists Inherit n = ⊥
+Lists (Blocks runs) n = Holds runs n
+
+-- the claim leaves a number n that the issuer has: it isn't missing, and lists n if it lists a set
+abbrev pub Leaves : Claim → ℕ → Type 0
+Leaves Missing n = ⊥
+Leaves Inherit n = ⊤
+Leaves (Blocks runs) n = Holds runs n
+
+-- by n the claim is refused: it lists n, an issuer that has the numbers S has not, and its mode is Refuse
+abbrev pub Exceeds : (ℕ → Type 0) → Claim → Overclaim → ℕ → Type 0
+Exceeds S claim Refuse n = Lists claim n × (S n → ⊥)
+Exceeds S claim Trim n = ⊥
+
+-- the claim isn't refused, and the runs are those of what it leaves of S
+pub record IsIssued (S : ℕ → Type 0) (claim : Claim) (mode : Overclaim) (issued : Runs) : Type 0 where
+  pub runs : IsRunsOf (λ n. S n × Leaves claim n) issued
+  pub accepted : (n : ℕ) → Exceeds S claim mode n → ⊥
+
+-- the claim is refused, and the runs are those of the numbers by which it is, of which there are some
+pub record IsExcess (S : ℕ → Type 0) (claim : Claim) (mode : Overclaim) (excess : Runs) : Type 0 where
+  pub runs : IsRunsOf (Exceeds S claim mode) excess
+  pub some : excess ≢ []
+
+-- ---- a set that an issuer's claim covers
+
+-- the issuer's claim leaves each number of S
+abbrev pub IsCovered : (ℕ → Type 0) → Claim → Type 0
+IsCovered S issuer = (n : ℕ) → S n → Leaves issuer n
+
+-- the runs are those of the numbers of S that the issuer's claim doesn't leave, of which there are some
+pub record IsUncovered (S : ℕ → Type 0) (issuer : Claim) (excess : Runs) : Type 0 where
+  pub runs : IsRunsOf (λ n. S n × (Leaves issuer n → ⊥)) excess
+  pub some : excess ≢ []
+
+-- ---- a path of claims
+
+-- the path of one step
+abbrev pub one_step : {R : Type 0} → R → Overclaim → List (Step R)
+one_step claim mode = record { claim = claim; mode = mode } ∷ []
+
+module _ {R : Type 0} (claim : R → Claim) where
+  -- n is left by a path from S: it is in S, no step is missing, and each set that a step lists has it
+  abbrev pub IsLeft : (ℕ → Type 0) → List (Step R) → ℕ → Type 0
+  IsLeft S steps n = S n × All (λ step. Leaves (claim step.claim) n) steps
+
+  -- by n the step at a place is refused: it exceeds what the steps before it leave
+  abbrev pub ExceedsAt : (ℕ → Type 0) → List (Step R) → ℕ → ℕ → Type 0
+  ExceedsAt S steps at n =
+      (step : Step R) × (at < length steps) × (slice_index_or steps at step ≡ step)
+      × Exceeds (IsLeft S (take at steps)) (claim step.claim) step.mode n
+
+  -- no step is refused, and the runs are those of what the path leaves
+  pub record IsPathResult (S : ℕ → Type 0) (steps : List (Step R)) (result : Runs) : Type 0 where
+    pub runs : IsRunsOf (IsLeft S steps) result
+    pub accepted : (at n : ℕ) → ExceedsAt S steps at n → ⊥
+
+  -- the step is refused and none before it is, and the runs are those of the numbers by which it is
+  pub record IsFirstRefusal (S : ℕ → Type 0) (steps : List (Step R)) (refusal : PathRefusal Runs) : Type 0 where
+    pub excess : IsRunsOf (ExceedsAt S steps refusal.step) refusal.fault
+    pub some : refusal.fault ≢ []
+    pub first : (at n : ℕ) → at < refusal.step → ExceedsAt S steps at n → ⊥

@@ -1,0 +1,45 @@
+//! Claims along a path of issuers, each made on what the issuers before leave (RFC 3779, 2.3 and 3.3).
+ghost use Rattle.std.specs.Prelude.{◌≡◌};
+ghost use Rattle.rpki_chain.specs.Claims.{Claim, claim_by};
+
+use crate::choice::ResourcesChoice;
+use crate::set::BlockSet;
+use rpki_blocks::block::Block;
+use std::alloc::Allocator;
+
+/// What becomes of a claim that lists more than its issuer has.
+#[derive(Clone, Copy, Debug, PartialEq, Eq)]
+pub enum Overclaim {
+    /// It is refused (RFC 6487, 7.2).
+    Refuse,
+    /// It counts for what the issuer has of it (RFC 8360, 4.2).
+    Trim,
+}
+
+/// A step of a path: what is claimed, and what becomes of it where it is more than the steps before leave.
+#[derive(Debug, Drop)]
+pub struct Step<R> {
+    /// The resources that are claimed.
+    pub claim: R,
+    /// What becomes of a claim that lists too much.
+    pub mode: Overclaim,
+}
+
+/// The first step of a path that is refused.
+#[derive(Debug, Drop)]
+pub struct PathRefusal<F> {
+    /// The place of the step, counted from 0.
+    pub step: usize,
+    /// Why it is refused.
+    pub fault: F,
+}
+
+/// Resources that claim a set of the items of a kind.
+pub trait Claims<T: Block, A: Allocator> {
+    // What is claimed.
+    ghost claim: { Self → Claim };
+
+    /// What is claimed, with the set that is listed.
+    fn claimed(&self) -> ResourcesChoice<&BlockSet<T, A>>
+        ensures { claim_by (λ set. set.now) result ≡ claim self.now };
+}

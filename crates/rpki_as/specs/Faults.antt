@@ -1,5 +1,7 @@
 -- What is printed of faults.
-use Rattle.std.specs.Prelude.{ℕ, List, codes}
+use Rattle.std.specs.Prelude.{ℕ, List, ◌++◌, codes}
+use Rattle.rpki_chain.specs.Runs.{Runs}
+use Rattle.rpki_as.specs.ListText.{as_list_text}
 use Rattle.rpki_as.specs.declared.error.FromStrError.{FromStrError}
 use Rattle.rpki_as.specs.declared.error.FromStrError.TheVariants.{BadAsn, BadRange, BadBlocks}
 
@@ -12,3 +14,7 @@ as_from_str_error_text BadBlocks = codes "Cannot parse blocks."
 -- and that of resources which are no set by themselves
 abbrev pub inherited_text : List ℕ
 inherited_text = codes "inherited AS resources"
+
+-- and that of AS numbers which are claimed and which the issuer doesn't have
+abbrev pub overclaimed_text : Runs → List ℕ
+overclaimed_text excess = codes "overclaimed AS resources: " ++ as_list_text excess

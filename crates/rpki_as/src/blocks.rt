@@ -100,6 +100,13 @@ impl<A: Allocator> AsBlocks<A> {
         AsBlocks { set }
     }
 
+    /// The set as one of blocks.
+    pub(crate) fn as_set(&self) -> &BlockSet<AsBlock, A>
+        ensures { result.now ≡ self.now }
+    {
+        &self.set
+    }
+
     /// The same set, whose memory has one owner more.
     pub fn clone(&self) -> Result<AsBlocks<A>, AllocError>
         ensures { IfOk result (λ set. set ≡ self.now) }

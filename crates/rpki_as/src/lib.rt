@@ -11,6 +11,7 @@ pub mod laws;
 pub mod range;
 pub mod resources;
 mod text;
+pub mod verify;
 
 pub use block::AsBlock;
 pub use blocks::AsBlocks;
@@ -19,3 +20,4 @@ pub use error::{FromStrError, InheritedAsResources};
 pub use iter::{AsBlockIter, AsnIter};
 pub use range::AsRange;
 pub use resources::AsResources;
+pub use verify::{AsStep, OverclaimedAsResources};

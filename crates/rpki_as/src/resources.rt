@@ -18,6 +18,7 @@ use crate::blocks::AsBlocks;
 use crate::error::{FromStrError, InheritedAsResources};
 use rpki_base::memory::OrMemory;
 use rpki_chain::choice::ResourcesChoice;
+use rpki_chain::path::Claims;
 use rpki_chain::set::BlockSet;
 use std::alloc::{AllocError, Allocator, Global};
 use std::fmt;
@@ -159,6 +160,18 @@ impl<A: Allocator> AsResources<A> {
         }
         let blocks = AsBlocks::from_str(alloc, text)?;
         Ok(AsResources::blocks(blocks))
+    }
+}
+
+impl<A: Allocator> Claims<AsBlock, A> for AsResources<A> {
+    ghost claim = { λ claim. claim };
+
+    fn claimed(&self) -> ResourcesChoice<&BlockSet<AsBlock, A>> {
+        match &self.choice {
+            ResourcesChoice::Missing => ResourcesChoice::Missing,
+            ResourcesChoice::Inherit => ResourcesChoice::Inherit,
+            ResourcesChoice::Blocks(blocks) => ResourcesChoice::Blocks(blocks.as_set()),
+        }
     }
 }
 

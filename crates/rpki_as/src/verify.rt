@@ -1,0 +1,169 @@
+//! What claims of AS numbers leave of a set (RFC 3779, 3.3; RFC 6487, 7.2; RFC 8360, 4).
+ghost use Rattle.std.specs.Prelude.{◌≡◌, ℕ, ◌↔◌, IsTrue, IsOk, IfOk, IfErr, Some};
+ghost use Rattle.rpki_text.specs.Memory.{IfRefused};
+ghost use Rattle.rpki_text.specs.Reading.{AnswersOrMemory};
+ghost use Rattle.rpki_blocks.specs.Equality.{same_runs, runs_per, runs_equiv};
+ghost use Rattle.rpki_chain.specs.Paths.{IsIssued, IsExcess, IsCovered, IsUncovered, IsPathResult, IsFirstRefusal};
+ghost use Rattle.rpki_chain.specs.Runs.{Holds};
+ghost use Rattle.rpki_as.specs.Faults.{overclaimed_text};
+
+use crate::block::AsBlock;
+use crate::blocks::AsBlocks;
+use crate::resources::AsResources;
+use rpki_base::memory::OrMemory;
+use rpki_chain::path::{Claims, Overclaim, PathRefusal, Step};
+use rpki_chain::set::BlockSet;
+use std::alloc::{AllocError, Allocator, Global};
+use std::error::Error;
+use std::fmt;
+use std::marker::Model;
+
+/// A step of a path: the AS numbers that are claimed, and what becomes of a claim that lists too many.
+pub type AsStep<A = Global> = Step<AsResources<A>>;
+
+/// AS numbers are claimed that the issuer doesn't have.
+///
+/// Contracts see the runs of these numbers.
+#[derive(Drop)]
+pub struct OverclaimedAsResources<A: Allocator = Global> {
+    excess: AsBlocks<A>,
+}
+
+impl<A: Allocator> Model for OverclaimedAsResources<A> {
+    ghost use Rattle.rpki_chain.specs.Runs.{Runs};
+
+    ghost Value = { Runs };
+
+    ghost view = { λ fault. fault.excess };
+}
+
+impl<A: Allocator> OverclaimedAsResources<A> {
+    /// The numbers that are claimed and that the issuer doesn't have.
+    pub fn excess(&self) -> &AsBlocks<A>
+        ensures { result.now ≡ self.now }
+    {
+        &self.excess
+    }
+
+    /// The same fault; its numbers have one owner more.
+    pub fn clone(&self) -> Result<OverclaimedAsResources<A>, AllocError>
+        ensures { IfOk result (λ fault. fault ≡ self.now) }
+    {
+        let excess = self.excess.clone()?;
+        Ok(OverclaimedAsResources { excess })
+    }
+}
+
+impl<A: Allocator> AsBlocks<A> {
+    /// What a claim leaves of the set: nothing where it is missing, all where it is inherited, and what both have where it
+    /// lists a set. `Refused` with the excess where the mode is [`Overclaim::Refuse`] and the claim lists more than the set
+    /// has; `Memory` where there is no memory for the answer.
+    pub fn verify_issued(
+        &self,
+        alloc: A,
+        resources: &AsResources<A>,
+        mode: Overclaim,
+    ) -> Result<AsBlocks<A>, OrMemory<OverclaimedAsResources<A>>>
+    where
+        A: Copy,
+        ensures { AnswersOrMemory (λ set. set) (IsIssued (Holds self.now) resources.now mode)
+            (IsExcess (Holds self.now) resources.now mode) result }
+    {
+        match self
+            .as_set()
+            .verify_issued(alloc, resources.claimed(), mode)
+        {
+            Ok(set) => Ok(AsBlocks::from_set(set)),
+            Err(OrMemory::Refused(set)) => Err(OrMemory::Refused(overclaimed(set))),
+            Err(OrMemory::Memory(error)) => Err(OrMemory::Memory(error)),
+        }
+    }
+
+    /// Whether the claim of an issuer has the whole set: a missing one the empty set alone, an inherited one each set, and
+    /// one that lists a set what lies in it; this takes no memory. `Refused` with what the issuer doesn't have, `Memory`
+    /// where there is no memory for that.
+    pub fn verify_covered(
+        &self,
+        alloc: A,
+        issuer: &AsResources<A>,
+    ) -> Result<(), OrMemory<OverclaimedAsResources<A>>>
+    where
+        A: Copy,
+        ensures ok { IsOk result ↔ IsCovered (Holds self.now) issuer.now }
+        ensures refused { IfErr result (IfRefused (IsUncovered (Holds self.now) issuer.now)) }
+    {
+        match self.as_set().verify_covered(alloc, issuer.claimed()) {
+            Ok(()) => Ok(()),
+            Err(OrMemory::Refused(set)) => Err(OrMemory::Refused(overclaimed(set))),
+            Err(OrMemory::Memory(error)) => Err(OrMemory::Memory(error)),
+        }
+    }
+
+    /// What a path of claims leaves of the set, each made on what the steps before it leave: all of the set where there is
+    /// no step. `Refused` with the first step that is refused, counted from 0, and its excess; `Memory` where there is no
+    /// memory for a set on the way.
+    pub fn verify_path(
+        &self,
+        alloc: A,
+        steps: &[AsStep<A>],
+    ) -> Result<AsBlocks<A>, OrMemory<PathRefusal<OverclaimedAsResources<A>>>>
+    where
+        A: Copy,
+        ensures { AnswersOrMemory (λ set. set) (IsPathResult (λ claim. claim) (Holds self.now) steps.now)
+            (IsFirstRefusal (λ claim. claim) (Holds self.now) steps.now) result }
+    {
+        match self.as_set().verify_path(alloc, steps) {
+            Ok(set) => Ok(AsBlocks::from_set(set)),
+            Err(OrMemory::Refused(refusal)) => Err(OrMemory::Refused(PathRefusal {
+                step: refusal.step,
+                fault: overclaimed(refusal.fault),
+            })),
+            Err(OrMemory::Memory(error)) => Err(OrMemory::Memory(error)),
+        }
+    }
+}
+
+/// The fault of an excess.
+fn overclaimed<A: Allocator>(excess: BlockSet<AsBlock, A>) -> OverclaimedAsResources<A>
+    ensures { result ≡ excess }
+{
+    OverclaimedAsResources {
+        excess: AsBlocks::from_set(excess),
+    }
+}
+
+impl<A: Allocator> fmt::Debug for OverclaimedAsResources<A> {
+    fn fmt<W: fmt::Write>(&self, f: &mut fmt::Formatter<W>) -> fmt::Result {
+        self.excess.fmt(f)
+    }
+}
+
+/// Faults are equal where their excess is.
+impl<A: Allocator> PartialEq for OverclaimedAsResources<A> {
+    ghost eq = { λ a b. same_runs a b };
+
+    ghost laws = { runs_per };
+
+    fn eq(&self, other: &OverclaimedAsResources<A>) -> bool
+        ensures value { result ≡ same_runs self.now other.now }
+        ensures same { IsTrue result ↔ (self.now ≡ other.now) }
+    {
+        self.excess == other.excess
+    }
+}
+
+impl<A: Allocator> Eq for OverclaimedAsResources<A> {
+    ghost laws = { runs_equiv };
+}
+
+/// Prints the blocks of the excess, ascending, joined by a comma and a space, after a text of what it is.
+impl<A: Allocator> fmt::Display for OverclaimedAsResources<A> {
+    ghost output = { λ excess. Some (overclaimed_text excess) };
+
+    fn fmt<W: fmt::Write>(&self, f: &mut fmt::Formatter<W>) -> fmt::Result {
+        f.write_str("overclaimed AS resources: ")?;
+        fmt::Display::fmt(&self.excess, f)
+    }
+}
+
+impl<A: Allocator> Error for OverclaimedAsResources<A> {}

@@ -10,6 +10,7 @@ pub mod SetLemmas
 pub mod SetTextLemmas
 pub mod SetWritten
 pub mod TextLemmas
+mod WholeClaims
 pub mod WholeLemmas
 pub mod WholeReadings
 pub mod WholeSets

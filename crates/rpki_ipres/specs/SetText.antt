@@ -1,5 +1,5 @@
 -- Texts of sets of addresses.
-use Rattle.std.specs.Prelude.{ℕ, List, map}
+use Rattle.std.specs.Prelude.{ℕ, List, ◌++◌, map, codes}
 use Rattle.rpki_chain.specs.BlockSets.{IsBlockSet}
 use Rattle.rpki_chain.specs.Runs.{Runs, Holds, IsSetOfBlocks}
 use Rattle.rpki_ip.specs.Whole.{IsWhole}
@@ -16,6 +16,11 @@ IsSetOf = IsSetOfBlocks ip_bounds
 -- what is printed of a set as one of the family: the blocks of its runs, each in new form
 abbrev pub set_text : AddressFamily → Runs → List ℕ
 set_text family set = block_list_text family (map new_ip_block set)
+
+-- what is printed of addresses which are claimed and which the issuer doesn't have
+abbrev pub overclaimed_text : AddressFamily → Runs → List ℕ
+overclaimed_text Ipv4 excess = codes "overclaimed IPv4 resources: " ++ set_text Ipv4 excess
+overclaimed_text Ipv6 excess = codes "overclaimed IPv6 resources: " ++ set_text Ipv6 excess
 
 -- the runs of a set of addresses, which are below 2 ^ 128
 abbrev pub IsIpSet : Runs → Type 0

@@ -92,6 +92,13 @@ impl<A: Allocator> IpBlocks<A> {
         IpBlocks { set }
     }
 
+    /// The set as one of blocks.
+    pub(crate) fn as_set(&self) -> &BlockSet<IpBlock, A>
+        ensures { result.now ≡ self.now }
+    {
+        &self.set
+    }
+
     /// The same set, whose memory has one owner more.
     pub fn clone(&self) -> Result<IpBlocks<A>, AllocError>
         ensures { IfOk result (λ set. set ≡ self.now) }

@@ -1,9 +1,15 @@
 //! Laws of what the calls on sets answer, and of what is printed of sets. Each holds of any answers that meet the calls' contracts.
-ghost use Rattle.std.specs.Prelude.{◌≡◌, ℕ, List, ◌↔◌};
+ghost use Rattle.std.specs.Prelude.{◌≡◌, ℕ, List, ◌↔◌, All};
+ghost use Rattle.rpki_chain.specs.Claims.{Claim};
 ghost use Rattle.rpki_chain.specs.Laws.{IsUnion, IsIntersection, IsDifference};
+ghost use Rattle.rpki_chain.specs.Paths.{IsIssued, IsExcess, IsUncovered, IsPathResult, IsFirstRefusal};
 ghost use Rattle.rpki_chain.specs.Runs.{Runs, Holds};
+ghost use Rattle.rpki_chain.specs.declared.path.Overclaim.{Overclaim};
+ghost use Rattle.rpki_chain.specs.declared.path.PathRefusal.{PathRefusal};
+ghost use Rattle.rpki_chain.specs.declared.path.Step.{Step};
 ghost use Rattle.rpki_ip.specs.Whole.{IsWhole};
 ghost use Rattle.rpki_ipres.specs.ListText.{HasBlocks, HasIpBlocks};
+ghost use Rattle.rpki_ipres.specs.Resources.{IsWholeClaim};
 ghost use Rattle.rpki_ipres.specs.SetText.{IsFamilySet, IsSetOf, set_text};
 
 /// The union, the intersection and the difference of sets of whole IPv4 addresses consist of whole IPv4 addresses.
@@ -13,6 +19,23 @@ pub fn laws_of_whole_sets()
         IsWhole (Holds a) → IsWhole (Holds b) → IsIntersection a b set → IsWhole (Holds set) }
     ensures difference { (a b set : Runs) →
         IsWhole (Holds a) → IsWhole (Holds b) → IsDifference a b set → IsWhole (Holds set) }
+{}
+
+/// Where a set and the claims on it consist of whole IPv4 addresses, so does what a claim or a path of claims leaves, and so
+/// does the excess of what is refused.
+pub fn laws_of_whole_claims()
+    ensures issued { (set issued : Runs) (claim : Claim) (mode : Overclaim) → IsWhole (Holds set) → IsWholeClaim claim →
+        IsIssued (Holds set) claim mode issued → IsWhole (Holds issued) }
+    ensures excess { (set excess : Runs) (claim : Claim) (mode : Overclaim) → IsWhole (Holds set) → IsWholeClaim claim →
+        IsExcess (Holds set) claim mode excess → IsWhole (Holds excess) }
+    ensures uncovered { (set excess : Runs) (issuer : Claim) → IsWhole (Holds set) → IsWholeClaim issuer →
+        IsUncovered (Holds set) issuer excess → IsWhole (Holds excess) }
+    ensures result { (set left : Runs) (steps : List (Step Claim)) → IsWhole (Holds set) →
+        All (λ step. IsWholeClaim step.claim) steps → IsPathResult (λ claim. claim) (Holds set) steps left →
+        IsWhole (Holds left) }
+    ensures refusal { (set : Runs) (steps : List (Step Claim)) (refusal : PathRefusal Runs) → IsWhole (Holds set) →
+        All (λ step. IsWholeClaim step.claim) steps → IsFirstRefusal (λ claim. claim) (Holds set) steps refusal →
+        IsWhole (Holds refusal.fault) }
 {}
 
 /// What is printed of a set of a family is a list of that family that writes the set, and a list that tells no family

@@ -8,12 +8,16 @@ pub mod der;
 pub mod family;
 pub mod laws;
 pub mod list;
+pub mod overclaim;
 pub mod resources;
 pub mod text;
+pub mod verify;
 
 pub use block::IpBlock;
 pub use blocks::IpBlocks;
 pub use builder::{IpBlocksBuilder, IpResourcesBuilder};
 pub use family::IpBlocksForFamily;
+pub use overclaim::{OverclaimedIpResources, OverclaimedIpv4Resources, OverclaimedIpv6Resources};
 pub use resources::{InheritedIpResources, IpResources};
 pub use text::{DisplayV4Block, DisplayV6Block};
+pub use verify::IpStep;

@@ -16,6 +16,7 @@ use crate::block::IpBlock;
 use crate::blocks::IpBlocks;
 use rpki_base::memory::OrMemory;
 use rpki_chain::choice::{InheritedResources, Listed, ResourcesChoice};
+use rpki_chain::path::Claims;
 use rpki_chain::set::BlockSet;
 use std::alloc::{AllocError, Allocator, Global};
 use std::error::Error;
@@ -169,6 +170,18 @@ impl<A: Allocator> Listed for IpBlocks<A> {
 
     fn copy(&self) -> Result<IpBlocks<A>, AllocError> {
         IpBlocks::clone(self)
+    }
+}
+
+impl<A: Allocator> Claims<IpBlock, A> for IpResources<A> {
+    ghost claim = { λ claim. claim };
+
+    fn claimed(&self) -> ResourcesChoice<&BlockSet<IpBlock, A>> {
+        match &self.choice {
+            ResourcesChoice::Missing => ResourcesChoice::Missing,
+            ResourcesChoice::Inherit => ResourcesChoice::Inherit,
+            ResourcesChoice::Blocks(blocks) => ResourcesChoice::Blocks(blocks.as_set()),
+        }
     }
 }
 

@@ -1,5 +1,5 @@
 -- Claims on the numbers that an issuer has, and what a path of claims leaves of a root: sets by membership
--- (RFC 3779, 2.3 and 3.3; RFC 6487, 7.2; RFC 8360, 4.2).
+-- (RFC 3779, 2.3 and 3.3; RFC 6487, 7.2; RFC 8360, 4).
 use Rattle.std.specs.Prelude.{◌≡◌, ◌≢◌, ℕ, ◌<◌, List, [], ◌∷◌, take, slice_index_or, length, All, ⊤}
 use Rattle.rpki_chain.specs.Claims.{Claim}
 use Rattle.rpki_chain.specs.Runs.{Runs, Holds, IsRunsOf}

@@ -12,7 +12,7 @@ use std::alloc::Allocator;
 pub enum Overclaim {
     /// It is refused (RFC 6487, 7.2).
     Refuse,
-    /// It counts for what the issuer has of it (RFC 8360, 4.2).
+    /// It counts for what the issuer has of it (RFC 8360, 4).
     Trim,
 }
 

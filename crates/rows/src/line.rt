@@ -2,7 +2,7 @@
 use crate::print::cut;
 use crate::question::Question;
 use crate::takes::Form;
-use crate::{as_sets, chains, covers, ip_sets, orders, small_sets, takes, texts};
+use crate::{as_sets, chains, covers, ip_sets, long, orders, small_sets, takes, texts};
 use rpki_ip::family::AddressFamily;
 use std::alloc::{AllocError, Allocator};
 
@@ -20,6 +20,7 @@ pub fn answer<A: Allocator + Copy>(alloc: A, line: &str) -> Result<String<A>, Al
         "small" => small_sets::answer(alloc, kind, operands),
         "chain" => chains::answer(alloc, kind, operands),
         "pair" => chains::pair_answer(alloc, kind, operands),
+        "long" => long::answer(alloc, kind, operands),
         "prefixes" => covers::answer(alloc, kind, operands),
         _ => match Question::named(command) {
             Some(question) => set_answer(alloc, question, kind, operands),

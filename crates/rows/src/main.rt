@@ -10,6 +10,7 @@ mod claims;
 mod covers;
 mod ip_sets;
 mod line;
+mod long;
 mod orders;
 mod pairs;
 mod print;

@@ -1,0 +1,5 @@
+mod ChangeLemmas
+mod ClaimLemmas
+mod KindLemmas
+mod PrintLemmas
+mod TextLemmas

@@ -1,0 +1,16 @@
+-- What is printed of a kind, by whether its list is empty.
+use Rattle.std.proofs.Common.{◌≡◌, ℕ, ◌↔◌, Bool, true, false, IsTrue, List, [], ◌∷◌, ◌++◌, refl, sym, ap, ◌∙◌}
+use Rattle.std.specs.Prelude.{if◌then◌else◌}
+use Rattle.rpki_chain.specs.Runs.{Runs}
+use Rattle.rpki_resources.specs.Triples.{is_none}
+use Rattle.rpki_resources.specs.TripleText.{kind_text}
+
+-- whether a set is empty is what its list tells
+none_is : (b : Bool) (set : Runs) → IsTrue b ↔ (set ≡ []) → b ≡ is_none set
+none_is true [] h = refl
+none_is false [] h = h.1 refl
+none_is true (run ∷ runs) h = absurd (let e : run ∷ runs ≡ [] = h.0 refl in cc)
+none_is false (run ∷ runs) h = refl
+
+pub kind_is : (kind : List ℕ) (text : Runs → List ℕ) (b : Bool) (x y set : Runs) → IsTrue b ↔ (x ≡ []) → x ≡ set → y ≡ set → (if b then [] else kind ++ text y) ≡ kind_text kind text set
+kind_is kind text b x y set h same also = rw (none_is b x h, same, also) refl

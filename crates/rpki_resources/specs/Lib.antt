@@ -1,0 +1,3 @@
+pub mod TripleFaults
+pub mod Triples
+pub mod TripleText

@@ -1,0 +1,24 @@
+-- What is wrong with the three lists of a set, and what is printed of it.
+use Rattle.std.specs.Prelude.{ℕ, List, ◌++◌, codes}
+use Rattle.rpki_as.specs.Faults.{as_from_str_error_text}
+use Rattle.rpki_as.specs.ListText.{IsAsListText, HasAsListFault}
+use Rattle.rpki_chain.specs.Runs.{Runs}
+use Rattle.rpki_ip.specs.Faults.{ip_from_str_error_text}
+use Rattle.rpki_resources.specs.TripleText.{IsIpv4ListText, HasIpv4ListFault, HasIpv6ListFault}
+use Rattle.rpki_resources.specs.declared.error.FromStrError.{FromStrError}
+use Rattle.rpki_resources.specs.declared.error.FromStrError.TheVariants.{Asn, Ipv4, Ipv6}
+
+-- the first list that writes no set of its kind has this fault
+abbrev pub HasTripleFault : List ℕ → List ℕ → List ℕ → FromStrError → Type 0
+HasTripleFault asn ipv4 ipv6 (Asn fault) = HasAsListFault asn fault
+HasTripleFault asn ipv4 ipv6 (Ipv4 fault) = ((set : Runs) × IsAsListText asn set) × HasIpv4ListFault ipv4 fault
+HasTripleFault asn ipv4 ipv6 (Ipv6 fault) = ((set : Runs) × IsAsListText asn set) × ((set : Runs) × IsIpv4ListText ipv4 set) × HasIpv6ListFault ipv6 fault
+
+-- what is printed of a fault: which list has it, and the fault of that list
+abbrev pub triple_fault_text : FromStrError → List ℕ
+triple_fault_text (Asn fault) = codes "cannot parse ASN resources: " ++ as_from_str_error_text fault
+triple_fault_text (Ipv4 fault) = codes "cannot parse IPv4 resources: " ++ ip_from_str_error_text fault
+triple_fault_text (Ipv6 fault) = codes "cannot parse IPv6 resources: " ++ ip_from_str_error_text fault
+
+abbrev pub inherit_text : List ℕ
+inherit_text = codes "cannot determine resources for certificate using inherit"

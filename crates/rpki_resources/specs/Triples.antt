@@ -1,0 +1,127 @@
+-- Sets of the three kinds of resources (RFC 3779, 2 and 3), and what differs between two of them.
+use Rattle.std.specs.Prelude.{◌≡◌, ℕ, ◌↔◌, ◌⊎◌, [], ◌∷◌, Bool, true, false, ◌&&◌}
+use Rattle.std.specs.Cmp.{IsEquivalence, IsPartialEquivalence, on_equiv, and_equiv, partial_equiv_from_equiv}
+use Rattle.rpki_blocks.specs.Equality.{same_runs, runs_equiv}
+use Rattle.rpki_chain.specs.Claims.{Claim}
+use Rattle.rpki_chain.specs.Laws.{IsUnion, IsIntersection, IsDifference}
+use Rattle.rpki_chain.specs.Runs.{Runs, Holds}
+use Rattle.rpki_chain.specs.declared.choice.ResourcesChoice.TheVariants.{Missing, Inherit, Blocks}
+use Rattle.rpki_as.specs.Blocks.{IsAsSet}
+use Rattle.rpki_ip.specs.declared.family.AddressFamily.{AddressFamily}
+use Rattle.rpki_ip.specs.declared.family.AddressFamily.TheVariants.{Ipv4, Ipv6}
+use Rattle.rpki_ipres.specs.SetText.{IsFamilySet}
+
+-- one set of each kind, as runs
+pub record Triple : Type 0 where
+  pub asn : Runs
+  pub ipv4 : Runs
+  pub ipv6 : Runs
+
+-- P of the set of each kind
+pub record InEach (P : (Triple → Runs) → Type 0) : Type 0 where
+  pub asn : P (λ t. t.asn)
+  pub ipv4 : P (λ t. t.ipv4)
+  pub ipv6 : P (λ t. t.ipv6)
+
+-- each set is one of its kind; that of IPv4 consists of whole addresses
+pub record IsTriple (t : Triple) : Type 0 where
+  pub asn : IsAsSet t.asn
+  pub ipv4 : IsFamilySet Ipv4 t.ipv4
+  pub ipv6 : IsFamilySet Ipv6 t.ipv6
+
+-- no resources
+abbrev pub no_resources : Triple
+no_resources = record { asn = []; ipv4 = []; ipv6 = [] }
+
+-- all AS numbers (RFC 6793, 1) and all addresses of both families, which are kept as 128 bits
+abbrev pub all_resources : Triple
+all_resources = record {
+  asn = (0, 4294967295) ∷ [];
+  ipv4 = (0, 340282366920938463463374607431768211455) ∷ [];
+  ipv6 = (0, 340282366920938463463374607431768211455) ∷ [];
+}
+
+-- the set of the addresses of a family
+abbrev pub of_family : AddressFamily → Triple → Runs
+of_family Ipv4 t = t.ipv4
+of_family Ipv6 t = t.ipv6
+
+-- whether a set has nothing, and whether all three have nothing
+abbrev pub is_none : Runs → Bool
+is_none [] = true
+is_none (run ∷ runs) = false
+
+abbrev pub is_no_triple : Triple → Bool
+is_no_triple t = is_none t.asn && (is_none t.ipv4 && is_none t.ipv6)
+
+-- ---- kind by kind
+
+abbrev pub IsUnionOf : Triple → Triple → Triple → Type 0
+IsUnionOf a b t = InEach (λ kind. IsUnion (kind a) (kind b) (kind t))
+
+abbrev pub IsIntersectionOf : Triple → Triple → Triple → Type 0
+IsIntersectionOf a b t = InEach (λ kind. IsIntersection (kind a) (kind b) (kind t))
+
+abbrev pub IsDifferenceOf : Triple → Triple → Triple → Type 0
+IsDifferenceOf a b t = InEach (λ kind. IsDifference (kind a) (kind b) (kind t))
+
+-- the first has each number of the second
+abbrev pub HasEachOf : Triple → Triple → Type 0
+HasEachOf a b = InEach (λ kind. (n : ℕ) → Holds (kind b) n → Holds (kind a) n)
+
+-- both have the same numbers
+abbrev pub HaveSameNumbers : Triple → Triple → Type 0
+HaveSameNumbers a b = InEach (λ kind. (n : ℕ) → Holds (kind a) n ↔ Holds (kind b) n)
+
+-- whether they are the same
+abbrev pub is_same_triple : Triple → Triple → Bool
+is_same_triple a b = same_runs a.asn b.asn && (same_runs a.ipv4 b.ipv4 && same_runs a.ipv6 b.ipv6)
+
+-- ---- what differs
+
+pub record Changes : Type 0 where
+  pub added : Triple
+  pub removed : Triple
+
+-- what the first has beyond the second, and what it lacks
+pub record AreChanges (a b : Triple) (d : Changes) : Type 0 where
+  pub added : IsDifferenceOf a b d.added
+  pub removed : IsDifferenceOf b a d.removed
+
+abbrev pub no_changes : Changes
+no_changes = record { added = no_resources; removed = no_resources }
+
+abbrev pub are_same_changes : Changes → Changes → Bool
+are_same_changes d e = is_same_triple d.added e.added && is_same_triple d.removed e.removed
+
+-- ---- claims
+
+-- the claim lists the set, which is empty where it is missing
+abbrev pub ListsRuns : Claim → Runs → Type 0
+ListsRuns Missing set = set ≡ []
+ListsRuns Inherit set = ⊥
+ListsRuns (Blocks listed) set = set ≡ listed
+
+-- so of each kind
+pub record AreListed (a b c : Claim) (t : Triple) : Type 0 where
+  pub asn : ListsRuns a t.asn
+  pub ipv4 : ListsRuns b t.ipv4
+  pub ipv6 : ListsRuns c t.ipv6
+
+-- one of the claims at least is inherited
+abbrev pub IsOneInherited : Claim → Claim → Claim → Type 0
+IsOneInherited asn ipv4 ipv6 = (asn ≡ Inherit) ⊎ ((ipv4 ≡ Inherit) ⊎ (ipv6 ≡ Inherit))
+
+-- ---- the laws of `==`
+
+pub triples_equiv : IsEquivalence is_same_triple
+triples_equiv = and_equiv (on_equiv (λ (t : Triple). t.asn) runs_equiv) (and_equiv (on_equiv (λ (t : Triple). t.ipv4) runs_equiv) (on_equiv (λ (t : Triple). t.ipv6) runs_equiv))
+
+pub triples_per : IsPartialEquivalence is_same_triple
+triples_per = partial_equiv_from_equiv triples_equiv
+
+pub changes_equiv : IsEquivalence are_same_changes
+changes_equiv = and_equiv (on_equiv (λ (d : Changes). d.added) triples_equiv) (on_equiv (λ (d : Changes). d.removed) triples_equiv)
+
+pub changes_per : IsPartialEquivalence are_same_changes
+changes_per = partial_equiv_from_equiv changes_equiv

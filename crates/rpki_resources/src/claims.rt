@@ -1,0 +1,84 @@
+//! Sets of resources and claims on them.
+ghost use Rattle.std.specs.Prelude.{◌≡◌, IfOk, IsErr, Ok, MatchResult};
+ghost use Rattle.rpki_text.specs.Memory.{IfRefused};
+ghost use Rattle.rpki_chain.specs.Claims.{IsClaim, claim_of};
+ghost use Rattle.rpki_chain.specs.Choices.{IsRefused};
+ghost use Rattle.rpki_as.specs.Blocks.{IsAsSet};
+ghost use Rattle.rpki_ip.specs.declared.family.AddressFamily.TheVariants.{Ipv4, Ipv6};
+ghost use Rattle.rpki_ipres.specs.Resources.{IsFamilyClaim, IsWholeClaim};
+ghost use Rattle.rpki_resources.specs.Triples.{AreListed, IsOneInherited};
+
+use crate::error::InheritError;
+use crate::set::ResourceSet;
+use rpki_as::AsResources;
+use rpki_base::memory::OrMemory;
+use rpki_family::{Ipv4Blocks, Ipv6Blocks};
+use rpki_ipres::IpResources;
+use std::alloc::{AllocError, Allocator};
+
+/// What resources of one kind list, with the refusal of inherited ones that all kinds share.
+fn listed<T: Drop, E: Drop>(blocks: Result<T, OrMemory<E>>) -> Result<T, OrMemory<InheritError>>
+    ensures listed { MatchResult blocks (λ set. result ≡ Ok set) (λ _. IsErr result) }
+    ensures refused { IsRefused result → IsRefused blocks }
+{
+    match blocks {
+        Ok(set) => Ok(set),
+        Err(OrMemory::Refused(_)) => Err(OrMemory::Refused(InheritError)),
+        Err(OrMemory::Memory(error)) => Err(OrMemory::Memory(error)),
+    }
+}
+
+impl<A: Allocator> ResourceSet<A> {
+    /// The set of what is listed, and of nothing where resources are missing; what is listed of IPv4 consists of whole
+    /// addresses. [`InheritError`] where some are inherited. `Memory` where there is no memory for the set.
+    pub fn from_resources(
+        asn: &AsResources<A>,
+        ipv4: &IpResources<A>,
+        ipv6: &IpResources<A>,
+    ) -> Result<ResourceSet<A>, OrMemory<InheritError>>
+        requires { IsWholeClaim ipv4.now }
+        ensures found { MatchResult result (AreListed asn.now ipv4.now ipv6.now)
+            (IfRefused (λ _. IsOneInherited asn.now ipv4.now ipv6.now)) }
+        ensures inherited { IsOneInherited asn.now ipv4.now ipv6.now → IsRefused result }
+    {
+        if asn.is_inherited() || ipv4.is_inherited() || ipv6.is_inherited() {
+            return Err(OrMemory::Refused(InheritError));
+        }
+        let asn = listed(asn.to_blocks())?;
+        let ipv4 = listed(ipv4.to_blocks())?;
+        let ipv6 = listed(ipv6.to_blocks())?;
+        Ok(ResourceSet::new(
+            asn,
+            Ipv4Blocks::from_ip_blocks(ipv4),
+            Ipv6Blocks::from_ip_blocks(ipv6),
+        ))
+    }
+
+    /// Resources that list the AS numbers, and missing ones where there are none. `AllocError` where there is no memory
+    /// for them.
+    pub fn to_as_resources(&self) -> Result<AsResources<A>, AllocError>
+        ensures claim { IfOk result (λ resources. resources ≡ claim_of self.now.asn) }
+        ensures set { IfOk result (IsClaim IsAsSet) }
+    {
+        let blocks = self.asn().clone()?;
+        Ok(AsResources::blocks(blocks))
+    }
+
+    /// Resources that list the IPv4 addresses, and missing ones where there are none. `AllocError` where there is no
+    /// memory for them.
+    pub fn to_ip_resources_v4(&self) -> Result<IpResources<A>, AllocError>
+        ensures claim { IfOk result (λ resources. resources ≡ claim_of self.now.ipv4) }
+        ensures family { IfOk result (IsFamilyClaim Ipv4) }
+    {
+        self.ipv4().to_ip_resources()
+    }
+
+    /// Resources that list the IPv6 addresses, and missing ones where there are none. `AllocError` where there is no
+    /// memory for them.
+    pub fn to_ip_resources_v6(&self) -> Result<IpResources<A>, AllocError>
+        ensures claim { IfOk result (λ resources. resources ≡ claim_of self.now.ipv6) }
+        ensures family { IfOk result (IsFamilyClaim Ipv6) }
+    {
+        self.ipv6().to_ip_resources()
+    }
+}

@@ -1,0 +1,89 @@
+//! What differs between two sets of resources.
+ghost use Rattle.std.specs.Prelude.{◌≡◌, ◌↔◌, IsTrue, IfOk};
+ghost use Rattle.rpki_resources.specs.Triples.{Changes, are_same_changes, changes_equiv, changes_per, no_changes};
+
+use crate::set::ResourceSet;
+use std::alloc::{AllocError, Allocator, Global};
+use std::fmt;
+use std::marker::Model;
+
+/// What one set of resources has beyond another, and what it lacks.
+#[derive(Drop)]
+pub struct ResourceDiff<A: Allocator = Global> {
+    added: ResourceSet<A>,
+    removed: ResourceSet<A>,
+}
+
+impl<A: Allocator> Model for ResourceDiff<A> {
+    ghost use Rattle.rpki_resources.specs.Triples.{Changes};
+
+    ghost Value = { Changes };
+
+    ghost view = { λ d. record { added = d.added; removed = d.removed } };
+}
+
+impl<A: Allocator> ResourceDiff<A> {
+    /// What is added and what is removed.
+    pub(crate) fn new(added: ResourceSet<A>, removed: ResourceSet<A>) -> ResourceDiff<A>
+        ensures { result ≡ record { added = added; removed = removed } }
+    {
+        ResourceDiff { added, removed }
+    }
+
+    /// Whether nothing differs.
+    pub fn is_empty(&self) -> bool
+        ensures { IsTrue result ↔ (self.now ≡ no_changes) }
+    {
+        self.added.is_empty() && self.removed.is_empty()
+    }
+
+    /// What the first set has beyond the second.
+    pub fn added(&self) -> &ResourceSet<A>
+        ensures { result.now ≡ self.now.added }
+    {
+        &self.added
+    }
+
+    /// What the first set lacks of the second.
+    pub fn removed(&self) -> &ResourceSet<A>
+        ensures { result.now ≡ self.now.removed }
+    {
+        &self.removed
+    }
+
+    /// The same differences; the memory of their sets has one owner more.
+    pub fn clone(&self) -> Result<ResourceDiff<A>, AllocError>
+        ensures { IfOk result (λ diff. diff ≡ self.now) }
+    {
+        let added = self.added.clone()?;
+        let removed = self.removed.clone()?;
+        Ok(ResourceDiff::new(added, removed))
+    }
+}
+
+impl<A: Allocator> fmt::Debug for ResourceDiff<A> {
+    fn fmt<W: fmt::Write>(&self, f: &mut fmt::Formatter<W>) -> fmt::Result {
+        f.debug_struct("ResourceDiff")
+            .field("added", &self.added)
+            .field("removed", &self.removed)
+            .finish()
+    }
+}
+
+/// Differences are equal where the same is added and the same is removed.
+impl<A: Allocator> PartialEq for ResourceDiff<A> {
+    ghost eq = { are_same_changes };
+
+    ghost laws = { changes_per };
+
+    fn eq(&self, other: &ResourceDiff<A>) -> bool
+        ensures value { result ≡ are_same_changes self.now other.now }
+        ensures same { IsTrue result ↔ (self.now ≡ other.now) }
+    {
+        self.added == other.added && self.removed == other.removed
+    }
+}
+
+impl<A: Allocator> Eq for ResourceDiff<A> {
+    ghost laws = { changes_equiv };
+}

@@ -1,0 +1,45 @@
+//! What is wrong with the lists of a set, and with resources that are no set by themselves.
+ghost use Rattle.std.specs.Prelude.{Some};
+ghost use Rattle.rpki_resources.specs.TripleFaults.{triple_fault_text, inherit_text};
+
+use std::error::Error;
+use std::fmt;
+
+/// Which of the three lists of a set can't be read, and its fault.
+#[derive(Clone, Copy, Debug, PartialEq, Eq)]
+pub enum FromStrError {
+    /// The list of AS numbers.
+    Asn(rpki_as::error::FromStrError),
+    /// The list of IPv4 addresses.
+    Ipv4(rpki_ip::error::FromStrError),
+    /// The list of IPv6 addresses.
+    Ipv6(rpki_ip::error::FromStrError),
+}
+
+impl fmt::Display for FromStrError {
+    ghost output = { λ fault. Some (triple_fault_text fault) };
+
+    fn fmt<W: fmt::Write>(&self, f: &mut fmt::Formatter<W>) -> fmt::Result {
+        match self {
+            FromStrError::Asn(fault) => write!(f, "cannot parse ASN resources: {fault}"),
+            FromStrError::Ipv4(fault) => write!(f, "cannot parse IPv4 resources: {fault}"),
+            FromStrError::Ipv6(fault) => write!(f, "cannot parse IPv6 resources: {fault}"),
+        }
+    }
+}
+
+impl Error for FromStrError {}
+
+/// Resources are inherited, and so are no set by themselves.
+#[derive(Clone, Copy, Debug, PartialEq, Eq)]
+pub struct InheritError;
+
+impl fmt::Display for InheritError {
+    ghost output = { λ _. Some inherit_text };
+
+    fn fmt<W: fmt::Write>(&self, f: &mut fmt::Formatter<W>) -> fmt::Result {
+        f.write_str("cannot determine resources for certificate using inherit")
+    }
+}
+
+impl Error for InheritError {}

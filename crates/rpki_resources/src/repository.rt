@@ -1,0 +1,3 @@
+//! What certificates and signed objects say.
+
+pub mod resources;

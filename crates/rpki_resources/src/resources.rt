@@ -1,0 +1,4 @@
+//! Numbers and addresses as routing and route origins have them.
+
+pub mod addr;
+pub mod asn;

@@ -1,0 +1,7 @@
+//! AS numbers, and small sets of them.
+
+pub use rpki_base::asn::{Asn, ParseAsnError};
+pub use rpki_base::small_set::{
+    SmallAsnSet, SmallSetDifference, SmallSetIntersection, SmallSetIter,
+    SmallSetSymmetricDifference, SmallSetUnion,
+};

@@ -1,0 +1,282 @@
+//! Sets of AS numbers, of IPv4 addresses and of IPv6 addresses.
+ghost use Rattle.std.specs.Prelude.{◌≡◌, ◌≢◌, ℕ, ◌↔◌, [], IsTrue, IfOk, MatchOption};
+ghost use Rattle.rpki_blocks.specs.Sets.{IsWithin};
+ghost use Rattle.rpki_chain.specs.Runs.{Holds};
+ghost use Rattle.rpki_as.specs.Blocks.{IsAsSet};
+ghost use Rattle.rpki_ip.specs.Ranges.{range_bounds};
+ghost use Rattle.rpki_ip.specs.declared.family.AddressFamily.TheVariants.{Ipv4, Ipv6};
+ghost use Rattle.rpki_ipres.specs.SetText.{IsFamilySet};
+ghost use Rattle.rpki_resources.specs.Triples.{AreChanges, HasEachOf, HaveSameNumbers, IsDifferenceOf, IsIntersectionOf, IsUnionOf, all_resources, is_no_triple, is_same_triple, no_resources, of_family, triples_equiv, triples_per};
+
+use crate::diff::ResourceDiff;
+use rpki_as::AsBlocks;
+use rpki_base::Asn;
+use rpki_family::{Ipv4Blocks, Ipv6Blocks};
+use rpki_ip::{AddressFamily, AddressRange};
+use std::alloc::{AllocError, Allocator, Global};
+use std::fmt;
+use std::marker::Model;
+
+/// A set of AS numbers, one of IPv4 addresses and one of IPv6 addresses. Sets of the same numbers and addresses are equal
+/// and print alike. Their memory may have several owners, and empty ones have none.
+///
+/// Contracts see the three as the ascending lists of their runs; that of IPv4 consists of whole addresses.
+#[derive(Drop)]
+pub struct ResourceSet<A: Allocator = Global> {
+    asn: AsBlocks<A>,
+    ipv4: Ipv4Blocks<A>,
+    ipv6: Ipv6Blocks<A>,
+}
+
+impl<A: Allocator> Model for ResourceSet<A> {
+    ghost use Rattle.rpki_resources.specs.Triples.{Triple};
+
+    ghost Value = { Triple };
+
+    ghost view = { λ s. record { asn = s.asn; ipv4 = s.ipv4; ipv6 = s.ipv6 } };
+}
+
+impl<A: Allocator> ResourceSet<A> {
+    /// The set of these AS numbers and addresses.
+    pub fn new(asn: AsBlocks<A>, ipv4: Ipv4Blocks<A>, ipv6: Ipv6Blocks<A>) -> ResourceSet<A>
+        ensures { result ≡ record { asn = asn; ipv4 = ipv4; ipv6 = ipv6 } }
+    {
+        ResourceSet { asn, ipv4, ipv6 }
+    }
+
+    /// The set of no resources.
+    pub fn empty() -> ResourceSet<A>
+        ensures { result ≡ no_resources }
+    {
+        ResourceSet::new(AsBlocks::empty(), Ipv4Blocks::empty(), Ipv6Blocks::empty())
+    }
+
+    /// The set of all AS numbers and all addresses. `AllocError` where there is no memory for it.
+    pub fn all(alloc: A) -> Result<ResourceSet<A>, AllocError>
+    where
+        A: Copy,
+        ensures { IfOk result (λ set. set ≡ all_resources) }
+    {
+        let asn = AsBlocks::all(alloc)?;
+        let ipv4 = Ipv4Blocks::all(alloc)?;
+        let ipv6 = Ipv6Blocks::all(alloc)?;
+        Ok(ResourceSet::new(asn, ipv4, ipv6))
+    }
+
+    /// The same set, whose memory has one owner more.
+    pub fn clone(&self) -> Result<ResourceSet<A>, AllocError>
+        ensures { IfOk result (λ set. set ≡ self.now) }
+    {
+        let asn = self.asn.clone()?;
+        let ipv4 = self.ipv4.clone()?;
+        let ipv6 = self.ipv6.clone()?;
+        Ok(ResourceSet::new(asn, ipv4, ipv6))
+    }
+
+    /// Whether there are no resources of any kind.
+    pub fn is_empty(&self) -> bool
+        ensures value { result ≡ is_no_triple self.now }
+        ensures none { IsTrue result ↔ (self.now ≡ no_resources) }
+    {
+        self.asn.is_empty() && self.ipv4.is_empty() && self.ipv6.is_empty()
+    }
+
+    /// Puts other AS numbers in the place of those of the set.
+    pub fn set_asn(&mut self, asn: AsBlocks<A>)
+        ensures { self.new ≡ record { asn = asn; ipv4 = self.old.ipv4; ipv6 = self.old.ipv6 } }
+    {
+        self.asn = asn;
+    }
+
+    /// Puts other IPv4 addresses in the place of those of the set.
+    pub fn set_ipv4(&mut self, ipv4: Ipv4Blocks<A>)
+        ensures { self.new ≡ record { asn = self.old.asn; ipv4 = ipv4; ipv6 = self.old.ipv6 } }
+    {
+        self.ipv4 = ipv4;
+    }
+
+    /// Puts other IPv6 addresses in the place of those of the set.
+    pub fn set_ipv6(&mut self, ipv6: Ipv6Blocks<A>)
+        ensures { self.new ≡ record { asn = self.old.asn; ipv4 = self.old.ipv4; ipv6 = ipv6 } }
+    {
+        self.ipv6 = ipv6;
+    }
+
+    /// The AS numbers.
+    pub fn asn(&self) -> &AsBlocks<A>
+        ensures value { result.now ≡ self.now.asn }
+        ensures set { IsAsSet self.now.asn }
+    {
+        let _blocks = self.asn.iter(); // read so that the proof sees that each number is one of an AS
+        &self.asn
+    }
+
+    /// The IPv4 addresses.
+    pub fn ipv4(&self) -> &Ipv4Blocks<A>
+        ensures value { result.now ≡ self.now.ipv4 }
+        ensures set { IsFamilySet Ipv4 self.now.ipv4 }
+    {
+        let _blocks = self.ipv4.ip_blocks(); // read so that the proof sees that the addresses are whole
+        &self.ipv4
+    }
+
+    /// The IPv6 addresses.
+    pub fn ipv6(&self) -> &Ipv6Blocks<A>
+        ensures value { result.now ≡ self.now.ipv6 }
+        ensures set { IsFamilySet Ipv6 self.now.ipv6 }
+    {
+        let _blocks = self.ipv6.ip_blocks(); // read so that the proof sees that each number has 128 bits
+        &self.ipv6
+    }
+
+    /// The AS numbers, or None where there are none.
+    pub fn asn_opt(&self) -> Option<&AsBlocks<A>>
+        ensures { MatchOption result (self.now.asn ≡ []) (λ set. (set.now ≡ self.now.asn) × (set.now ≢ [])) }
+    {
+        if self.asn.is_empty() {
+            return None;
+        }
+        Some(&self.asn)
+    }
+
+    /// The IPv4 addresses, or None where there are none.
+    pub fn ipv4_opt(&self) -> Option<&Ipv4Blocks<A>>
+        ensures { MatchOption result (self.now.ipv4 ≡ []) (λ set. (set.now ≡ self.now.ipv4) × (set.now ≢ [])) }
+    {
+        if self.ipv4.is_empty() {
+            return None;
+        }
+        Some(&self.ipv4)
+    }
+
+    /// The IPv6 addresses, or None where there are none.
+    pub fn ipv6_opt(&self) -> Option<&Ipv6Blocks<A>>
+        ensures { MatchOption result (self.now.ipv6 ≡ []) (λ set. (set.now ≡ self.now.ipv6) × (set.now ≢ [])) }
+    {
+        if self.ipv6.is_empty() {
+            return None;
+        }
+        Some(&self.ipv6)
+    }
+
+    /// Whether the set has each number and each address of another.
+    pub fn contains(&self, other: &ResourceSet<A>) -> bool
+        ensures { IsTrue result ↔ HasEachOf self.now other.now }
+    {
+        self.asn.contains(&other.asn)
+            && self.ipv4.contains(&other.ipv4)
+            && self.ipv6.contains(&other.ipv6)
+    }
+
+    /// Whether the set has an AS number.
+    pub fn contains_asn(&self, asn: Asn) -> bool
+        ensures { IsTrue result ↔ Holds self.now.asn asn }
+    {
+        self.asn.contains_asn(asn)
+    }
+
+    /// Whether the set of a family has each address of a range, as those that an entry of a route origin authorization
+    /// names (RFC 9582, 4.3).
+    pub fn contains_roa_address(&self, family: AddressFamily, addresses: AddressRange) -> bool
+        ensures { IsTrue result ↔ ((n : ℕ) → IsWithin (range_bounds addresses) n → Holds (of_family family self.now) n) }
+    {
+        match family {
+            AddressFamily::Ipv4 => self.ipv4.ip_blocks().contains_roa(addresses),
+            AddressFamily::Ipv6 => self.ipv6.ip_blocks().contains_roa(addresses),
+        }
+    }
+
+    /// The set of what one or the other has. `AllocError` where there is no memory for it.
+    pub fn union(&self, alloc: A, other: &ResourceSet<A>) -> Result<ResourceSet<A>, AllocError>
+    where
+        A: Copy,
+        ensures { IfOk result (IsUnionOf self.now other.now) }
+    {
+        let asn = self.asn.union(alloc, &other.asn)?;
+        let ipv4 = self.ipv4.union(alloc, &other.ipv4)?;
+        let ipv6 = self.ipv6.union(alloc, &other.ipv6)?;
+        Ok(ResourceSet::new(asn, ipv4, ipv6))
+    }
+
+    /// The set of what both have. `AllocError` where there is no memory for it.
+    pub fn intersection(
+        &self,
+        alloc: A,
+        other: &ResourceSet<A>,
+    ) -> Result<ResourceSet<A>, AllocError>
+    where
+        A: Copy,
+        ensures { IfOk result (IsIntersectionOf self.now other.now) }
+    {
+        let asn = self.asn.intersection(alloc, &other.asn)?;
+        let ipv4 = self.ipv4.intersection(alloc, &other.ipv4)?;
+        let ipv6 = self.ipv6.intersection(alloc, &other.ipv6)?;
+        Ok(ResourceSet::new(asn, ipv4, ipv6))
+    }
+
+    /// The set of what the other doesn't have.
+    fn minus(&self, alloc: A, other: &ResourceSet<A>) -> Result<ResourceSet<A>, AllocError>
+    where
+        A: Copy,
+        ensures { IfOk result (IsDifferenceOf self.now other.now) }
+    {
+        let asn = self.asn.difference(alloc, &other.asn)?;
+        let ipv4 = self.ipv4.difference(alloc, &other.ipv4)?;
+        let ipv6 = self.ipv6.difference(alloc, &other.ipv6)?;
+        Ok(ResourceSet::new(asn, ipv4, ipv6))
+    }
+
+    /// What the set has beyond another, and what it lacks: added is what the other doesn't have, removed what it alone has.
+    /// `AllocError` where there is no memory for it.
+    pub fn difference(
+        &self,
+        alloc: A,
+        other: &ResourceSet<A>,
+    ) -> Result<ResourceDiff<A>, AllocError>
+    where
+        A: Copy,
+        ensures { IfOk result (AreChanges self.now other.now) }
+    {
+        let added = self.minus(alloc, other)?;
+        let removed = other.minus(alloc, self)?;
+        Ok(ResourceDiff::new(added, removed))
+    }
+}
+
+impl<A: Allocator> fmt::Debug for ResourceSet<A> {
+    fn fmt<W: fmt::Write>(&self, f: &mut fmt::Formatter<W>) -> fmt::Result {
+        f.debug_struct("ResourceSet")
+            .field("asn", &self.asn)
+            .field("ipv4", &self.ipv4)
+            .field("ipv6", &self.ipv6)
+            .finish()
+    }
+}
+
+/// The set of no resources.
+impl<A: Allocator> Default for ResourceSet<A> {
+    ghost is_default = { λ set. set ≡ no_resources };
+
+    fn default() -> ResourceSet<A> {
+        ResourceSet::empty()
+    }
+}
+
+/// Sets are equal exactly where they have the same numbers and addresses of each kind.
+impl<A: Allocator> PartialEq for ResourceSet<A> {
+    ghost eq = { is_same_triple };
+
+    ghost laws = { triples_per };
+
+    fn eq(&self, other: &ResourceSet<A>) -> bool
+        ensures value { result ≡ is_same_triple self.now other.now }
+        ensures same { IsTrue result ↔ (self.now ≡ other.now) }
+        ensures numbers { IsTrue result ↔ HaveSameNumbers self.now other.now }
+    {
+        self.asn == other.asn && self.ipv4 == other.ipv4 && self.ipv6 == other.ipv6
+    }
+}
+
+impl<A: Allocator> Eq for ResourceSet<A> {
+    ghost laws = { triples_equiv };
+}

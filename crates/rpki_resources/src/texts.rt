@@ -1,0 +1,121 @@
+//! Texts of sets of resources and of what differs between two of them.
+ghost use Rattle.std.specs.Prelude.{◌≡◌, ℕ, List, [], ◌++◌, Some, MatchResult, codes, if◌then◌else◌};
+ghost use Rattle.std.specs.Fmt.{WritesOnOk};
+ghost use Rattle.rpki_text.specs.Memory.{IsMemory};
+ghost use Rattle.rpki_text.specs.Reading.{AnswersOrMemory};
+ghost use Rattle.rpki_as.specs.ListText.{as_list_text};
+ghost use Rattle.rpki_resources.specs.Triples.{Triple, IsTriple};
+ghost use Rattle.rpki_resources.specs.TripleFaults.{HasTripleFault};
+ghost use Rattle.rpki_resources.specs.TripleText.{IsTripleText, change_text, changes_text, ipv4_text, ipv6_text, triple_text};
+
+use crate::diff::ResourceDiff;
+use crate::error::FromStrError;
+use crate::set::ResourceSet;
+use rpki_as::AsBlocks;
+use rpki_base::memory::OrMemory;
+use rpki_family::{Ipv4Blocks, Ipv6Blocks};
+use std::alloc::Allocator;
+use std::fmt;
+
+impl<A: Allocator> ResourceSet<A> {
+    /// The set that three lists of blocks write, each as [`AsBlocks::from_str`], [`Ipv4Blocks::from_str`] and
+    /// [`Ipv6Blocks::from_str`] read it. They are read in this order, and the first that can't be read is refused by its
+    /// own fault.
+    pub fn from_strs(
+        alloc: A,
+        asn: &str,
+        ipv4: &str,
+        ipv6: &str,
+    ) -> Result<ResourceSet<A>, OrMemory<FromStrError>>
+    where
+        A: Copy,
+        ensures exact { AnswersOrMemory (λ set. set) (IsTripleText asn.now ipv4.now ipv6.now) (HasTripleFault asn.now ipv4.now ipv6.now) result }
+        // What is printed of the three lists of a set is read as that set.
+        ensures reads_back { (set : Triple) → IsTriple set → asn.now ≡ as_list_text set.asn
+            → ipv4.now ≡ ipv4_text set.ipv4 → ipv6.now ≡ ipv6_text set.ipv6
+            → MatchResult result (λ read. read ≡ set) IsMemory }
+    {
+        let asn = match AsBlocks::from_str(alloc, asn) {
+            Ok(set) => set,
+            Err(OrMemory::Refused(fault)) => {
+                return Err(OrMemory::Refused(FromStrError::Asn(fault)));
+            }
+            Err(OrMemory::Memory(error)) => return Err(OrMemory::Memory(error)),
+        };
+        let ipv4 = match Ipv4Blocks::from_str(alloc, ipv4) {
+            Ok(set) => set,
+            Err(OrMemory::Refused(fault)) => {
+                return Err(OrMemory::Refused(FromStrError::Ipv4(fault)));
+            }
+            Err(OrMemory::Memory(error)) => return Err(OrMemory::Memory(error)),
+        };
+        match Ipv6Blocks::from_str(alloc, ipv6) {
+            Ok(ipv6) => Ok(ResourceSet::new(asn, ipv4, ipv6)),
+            Err(OrMemory::Refused(fault)) => Err(OrMemory::Refused(FromStrError::Ipv6(fault))),
+            Err(OrMemory::Memory(error)) => Err(OrMemory::Memory(error)),
+        }
+    }
+}
+
+/// Prints each kind with its list in quotes.
+impl<A: Allocator> fmt::Display for ResourceSet<A> {
+    ghost output = { λ set. Some (triple_text set) };
+
+    fn fmt<W: fmt::Write>(&self, f: &mut fmt::Formatter<W>) -> fmt::Result {
+        let asn = self.asn();
+        let ipv4 = self.ipv4();
+        let ipv6 = self.ipv6();
+        write!(f, "asn: '{asn}', ipv4: '{ipv4}', ipv6: '{ipv6}'")
+    }
+}
+
+/// Writes a kind and its list, and nothing where the list is empty.
+fn fmt_kind<T: fmt::Display, W: fmt::Write>(
+    kind: &str,
+    is_empty: bool,
+    list: &T,
+    f: &mut fmt::Formatter<W>,
+) -> fmt::Result
+    ensures { (text : List ℕ) → T.output list.now ≡ Some text
+        → WritesOnOk W.write_str_gives f.old result (if is_empty then [] else kind.now ++ text) f.new }
+{
+    if is_empty {
+        return Ok(());
+    }
+    f.write_str(kind)?;
+    list.fmt(f)
+}
+
+/// Writes a word, and the kinds of which there is anything.
+fn fmt_change<A: Allocator, W: fmt::Write>(
+    word: &str,
+    set: &ResourceSet<A>,
+    f: &mut fmt::Formatter<W>,
+) -> fmt::Result
+    ensures { WritesOnOk W.write_str_gives f.old result (change_text word.now set.now) f.new }
+{
+    f.write_str(word)?;
+    fmt_kind(" asn: ", set.asn().is_empty(), set.asn(), f)?;
+    fmt_kind(" ipv4: ", set.ipv4().is_empty(), set.ipv4(), f)?;
+    fmt_kind(" ipv6: ", set.ipv6().is_empty(), set.ipv6(), f)
+}
+
+/// Prints what is added and what is removed, each where there is anything of it.
+impl<A: Allocator> fmt::Display for ResourceDiff<A> {
+    ghost output = { λ diff. Some (changes_text diff) };
+
+    fn fmt<W: fmt::Write>(&self, f: &mut fmt::Formatter<W>) -> fmt::Result {
+        let added = self.added();
+        let removed = self.removed();
+        match (added.is_empty(), removed.is_empty()) {
+            (true, true) => f.write_str("<no changes in resources>"),
+            (true, false) => fmt_change("Removed:", removed, f),
+            (false, true) => fmt_change("Added:", added, f),
+            (false, false) => {
+                fmt_change("Added:", added, f)?;
+                f.write_str(" ")?;
+                fmt_change("Removed:", removed, f)
+            }
+        }
+    }
+}

@@ -55,9 +55,9 @@ impl<A: Allocator> OverclaimedAsResources<A> {
 }
 
 impl<A: Allocator> AsBlocks<A> {
-    /// What a claim leaves of the set: nothing where it is missing, all where it is inherited, and what both have where it
-    /// lists a set. `Refused` with the excess where the mode is [`Overclaim::Refuse`] and the claim lists more than the set
-    /// has; `Memory` where there is no memory for the answer.
+    /// What a claim leaves of the set: nothing where it is missing, all where it is inherited, and what both have where
+    /// it lists a set. `Refused` with the excess where the mode is [`Overclaim::Refuse`] and the claim lists more than
+    /// the set has; `Memory` where there is no memory for the answer.
     pub fn verify_issued(
         &self,
         alloc: A,
@@ -79,9 +79,9 @@ impl<A: Allocator> AsBlocks<A> {
         }
     }
 
-    /// Whether the claim of an issuer has the whole set: a missing one the empty set alone, an inherited one each set, and
-    /// one that lists a set what lies in it; this takes no memory. `Refused` with what the issuer doesn't have, `Memory`
-    /// where there is no memory for that.
+    /// Whether the claim of an issuer has the whole set: a missing one the empty set alone, an inherited one each set,
+    /// and one that lists a set what lies in it; this takes no memory. `Refused` with what the issuer doesn't have,
+    /// `Memory` where there is no memory for that.
     pub fn verify_covered(
         &self,
         alloc: A,
@@ -99,9 +99,9 @@ impl<A: Allocator> AsBlocks<A> {
         }
     }
 
-    /// What a path of claims leaves of the set, each made on what the steps before it leave: all of the set where there is
-    /// no step. `Refused` with the first step that is refused, counted from 0, and its excess; `Memory` where there is no
-    /// memory for a set on the way.
+    /// What a path of claims leaves of the set, each made on what the steps before it leave: all of the set where there
+    /// is no step. `Refused` with the first step that is refused, counted from 0, and its excess; `Memory` where there
+    /// is no memory for a set on the way.
     pub fn verify_path(
         &self,
         alloc: A,

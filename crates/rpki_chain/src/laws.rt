@@ -47,8 +47,8 @@ pub fn laws_of_difference()
         (rest ≡ []) ↔ ((n : ℕ) → Holds a n → Holds b n) }
 {}
 
-/// A claim is a path of one step: it leaves what the path leaves, and is refused as the path is. What it leaves where it
-/// is accepted, it leaves in mode Trim; and to trim once more by the same claim changes nothing.
+/// A claim is a path of one step: it leaves what the path leaves, and is refused as the path is. What it leaves where
+/// it is accepted, it leaves in mode Trim; and to trim once more by the same claim changes nothing.
 pub fn laws_of_claims()
     ensures path_of_one { (root issued : Runs) (claim : Claim) (mode : Overclaim) →
         IsIssued (Holds root) claim mode issued
@@ -64,9 +64,9 @@ pub fn laws_of_claims()
         IsIssued (Holds root) claim Trim once → IsIssued (Holds once) claim Trim twice → twice ≡ once }
 {}
 
-/// What a path leaves lies in its root and in each set that a step lists, and a claim that was accepted in mode Refuse lies
-/// in what the steps before it leave: no accepted set passes its issuer. No step in mode Trim is refused; and what a path
-/// leaves doesn't depend on the order of its steps, nor on how often one stands in it.
+/// What a path leaves lies in its root and in each set that a step lists, and a claim that was accepted in mode Refuse
+/// lies in what the steps before it leave: no accepted set passes its issuer. No step in mode Trim is refused; and what
+/// a path leaves doesn't depend on the order of its steps, nor on how often one stands in it.
 pub fn laws_of_paths()
     ensures inside_root { (root set : Runs) (steps : List (Step Claim)) →
         IsPathResult (λ claim. claim) (Holds root) steps set → (n : ℕ) → Holds set n → Holds root n }

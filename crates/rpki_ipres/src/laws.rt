@@ -21,8 +21,8 @@ pub fn laws_of_whole_sets()
         IsWhole (Holds a) → IsWhole (Holds b) → IsDifference a b set → IsWhole (Holds set) }
 {}
 
-/// Where a set and the claims on it consist of whole IPv4 addresses, so does what a claim or a path of claims leaves, and so
-/// does the excess of what is refused.
+/// Where a set and the claims on it consist of whole IPv4 addresses, so does what a claim or a path of claims leaves,
+/// and so does the excess of what is refused.
 pub fn laws_of_whole_claims()
     ensures issued { (set issued : Runs) (claim : Claim) (mode : Overclaim) → IsWhole (Holds set) → IsWholeClaim claim →
         IsIssued (Holds set) claim mode issued → IsWhole (Holds issued) }

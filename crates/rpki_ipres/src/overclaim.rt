@@ -150,7 +150,8 @@ impl<A: Allocator> Eq for OverclaimedIpv4Resources<A> {
     ghost laws = { runs_equiv };
 }
 
-/// Prints the blocks of the excess as those of IPv4, ascending, joined by a comma and a space, after a text of what it is.
+/// Prints the blocks of the excess as those of IPv4, ascending, joined by a comma and a space, after a text of what it
+/// is.
 impl<A: Allocator> fmt::Display for OverclaimedIpv4Resources<A> {
     ghost output = { λ excess. Some (overclaimed_text Ipv4 excess) };
 
@@ -212,7 +213,8 @@ impl<A: Allocator> Eq for OverclaimedIpv6Resources<A> {
     ghost laws = { runs_equiv };
 }
 
-/// Prints the blocks of the excess as those of IPv6, ascending, joined by a comma and a space, after a text of what it is.
+/// Prints the blocks of the excess as those of IPv6, ascending, joined by a comma and a space, after a text of what it
+/// is.
 impl<A: Allocator> fmt::Display for OverclaimedIpv6Resources<A> {
     ghost output = { λ excess. Some (overclaimed_text Ipv6 excess) };
 

@@ -15,4 +15,6 @@ mod ip_sets;
 #[cfg(test)]
 mod lists;
 #[cfg(test)]
+mod paths;
+#[cfg(test)]
 mod small_sets;

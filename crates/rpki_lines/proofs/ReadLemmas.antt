@@ -1,5 +1,5 @@
 -- What a take at the front of octets, and then their end, tell of all of them.
-use Rattle.std.proofs.Common.{◌≡◌, ◌≢◌, ℕ, List, [], ◌++◌, Result, Ok, Err, MatchResult, inl, inr, sym, subst, ◌∙◌}
+use Rattle.std.proofs.Common.{◌≢◌, ℕ, List, [], Result, Ok, Err, MatchResult, inl, inr, sym, subst, ◌∙◌}
 use Rattle.std.proofs.lemmas.List.{append-nil}
 use Rattle.rpki_der.specs.Der.{Front, NoFront, OneFront}
 use Rattle.rpki_der.specs.Views.{left}

@@ -1,5 +1,5 @@
 -- What `der` answers: the octets of the resources that a text writes, or the fault of the text.
-use Rattle.std.specs.Prelude.{◌≡◌, ◌≢◌, ℕ, List, [], ◌∷◌, codes}
+use Rattle.std.specs.Prelude.{◌≡◌, ◌≢◌, ℕ, List, [], codes}
 use Rattle.rpki_chain.specs.Claims.{Claim, claim_of}
 use Rattle.rpki_chain.specs.Runs.{Runs}
 use Rattle.rpki_chain.specs.declared.choice.ResourcesChoice.TheVariants.{Missing, Inherit, Blocks}

@@ -13,5 +13,5 @@ returns g c =
     let is = rw c.as_slice.ensures.value at c.as_resources_in.ensures in
     IfOk-weaker c.shown.result _ _
     (λ answer shows. shows_text IsAsResources as_resources_text c.args.text.now octets (string_bytes answer) (rw c.in-Some.is at c.in_ok-octets.ensures)
-      (shows_octets IsAsResources as_resources_text octets c.as_resources_in.result is (string_bytes answer) shows))
+    (shows_octets IsAsResources as_resources_text octets c.as_resources_in.result is (string_bytes answer) shows))
     (c.shown.ensures as_resources_text (λ claim. refl) fault_text (λ fault. refl))

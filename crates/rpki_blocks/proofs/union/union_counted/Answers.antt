@@ -106,3 +106,9 @@ returns-clause-union g c =
 
 pub returns-clause-few : goal.returns-clause-few
 returns-clause-few g c = union_few g.T.Block.bounds g.T.Block.form _ _ _ (returns-clause-union g c)
+
+pub returns-clause-reads : goal.returns-clause-reads
+returns-clause-reads g c =
+    let own = c.loop-min.invariant.own_reads in
+    let other = c.loop-min.invariant.other_reads in
+    omega arith

@@ -1,8 +1,8 @@
 #!/bin/sh
-# How the time of union, intersection, difference and inclusion grows with the sets, which are two of N blocks of AS numbers
-# or of addresses each that interleave, and how that of reading and writing DER grows: SEQUENCEs of N blocks of AS numbers
-# or addresses, in another order than ascending, and the sets that they say; for N of 100,000, 200,000 and 400,000. Growth
-# per doubling is about 2.
+# How the time of making a set of ascending blocks grows, and that of union, intersection, difference and inclusion of two
+# sets of N blocks of AS numbers or of addresses each that interleave; and how that of reading and writing DER grows:
+# SEQUENCEs of N blocks of AS numbers or addresses, in another order than ascending, and the sets that they say; for N of
+# 100,000, 200,000 and 400,000. Growth per doubling is about 2.
 top=$(CDPATH= cd -- "$(dirname -- "$0")/.." && pwd) || exit 1
 program=$top/crates/growth/out/growth
 if ! [ -x "$program" ]; then
@@ -22,11 +22,11 @@ for run in 1 2 3 4 5 6 7; do
 done | awk '
     { if (!(($1, $2) in best) || $3 < best[$1, $2]) best[$1, $2] = $3 }
     END {
-        printf "%-14s%8s%9s%8s\n", "call", "N", "seconds", "growth"
-        calls = split("union intersection difference contains ip-union ip-contains as-take_from as-encode ip-take_from ip-encode", call)
+        printf "%-16s%8s%9s%8s\n", "call", "N", "seconds", "growth"
+        calls = split("from_blocks union intersection difference contains ip-from_blocks ip-union ip-intersection ip-difference ip-contains as-take_from as-encode ip-take_from ip-encode", call)
         for (at = 1; at <= calls; at++)
             for (size = 100000; size <= 400000; size *= 2) {
                 growth = size == 100000 ? "" : sprintf("%.2f", best[call[at], size] / best[call[at], size / 2])
-                printf "%-14s%8d%9.4f%8s\n", call[at], size, best[call[at], size] / 1000000, growth
+                printf "%-16s%8d%9.4f%8s\n", call[at], size, best[call[at], size] / 1000000, growth
             }
     }'

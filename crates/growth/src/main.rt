@@ -97,14 +97,23 @@ fn as_set(alloc: Global, count: usize, offset: u32) -> Result<AsBlocks, AllocErr
     AsBlocks::from_blocks(alloc, &blocks)
 }
 
-/// Builds two sets, and times what they give.
+/// Builds two sets, the first of a list that it times, and times what they give.
 fn measure_operations(rt: &HostRuntime, count: usize) -> io::Result<()> {
-    let one = as_set(rt.alloc(), count, 0)?;
+    let one = measure_as_building(rt, count)?;
     let other = as_set(rt.alloc(), count, 2)?;
     measure_union(rt, count, &one, &other)?;
     measure_intersection(rt, count, &one, &other)?;
     measure_difference(rt, count, &one, &other)?;
     measure_contains(rt, count, &one, &other)
+}
+
+/// How long it takes to make a set of blocks that ascend.
+fn measure_as_building(rt: &HostRuntime, count: usize) -> io::Result<AsBlocks> {
+    let blocks = as_blocks(rt.alloc(), count, 0)?;
+    let start = Instant::now(rt)?;
+    let set = AsBlocks::from_blocks(rt.alloc(), &blocks)?;
+    report_set(rt, "from_blocks", count, start, &set)?;
+    Ok(set)
 }
 
 fn measure_union(
@@ -159,23 +168,42 @@ fn ip_set(alloc: Global, count: usize, offset: u128) -> Result<IpBlocks, AllocEr
     IpBlocks::from_blocks(alloc, &blocks)
 }
 
-/// Builds two sets of addresses, and times their union and whether it contains the one.
+/// Builds two sets of addresses, the first of a list that it times, and times what they give.
 fn measure_ip_operations(rt: &HostRuntime, count: usize) -> io::Result<()> {
-    let one = ip_set(rt.alloc(), count, 0)?;
+    let one = measure_ip_building(rt, count)?;
     let other = ip_set(rt.alloc(), count, ADDRESS_OFFSET)?;
     let start = Instant::now(rt)?;
-    let union = one.union(rt.alloc(), &other)?;
-    report(rt, "ip-union", count, start, union.iter().len(), "blocks")?;
+    let intersection = one.intersection(rt.alloc(), &other)?;
+    report_ip_set(rt, "ip-intersection", count, start, &intersection)?;
     let start = Instant::now(rt)?;
-    let contained = union.contains(&one);
-    report(
-        rt,
-        "ip-contains",
-        count,
-        start,
-        usize::from(contained),
-        "set",
-    )
+    let difference = one.difference(rt.alloc(), &other)?;
+    report_ip_set(rt, "ip-difference", count, start, &difference)?;
+    measure_ip_union(rt, count, &one, &other)
+}
+
+/// How long it takes to make a set of blocks of addresses that ascend.
+fn measure_ip_building(rt: &HostRuntime, count: usize) -> io::Result<IpBlocks> {
+    let blocks = ip_blocks(rt.alloc(), count, 0)?;
+    let start = Instant::now(rt)?;
+    let set = IpBlocks::from_blocks(rt.alloc(), &blocks)?;
+    report_ip_set(rt, "ip-from_blocks", count, start, &set)?;
+    Ok(set)
+}
+
+/// How long it takes to unite two sets of addresses, and to find that the union contains the one.
+fn measure_ip_union(
+    rt: &HostRuntime,
+    count: usize,
+    one: &IpBlocks,
+    other: &IpBlocks,
+) -> io::Result<()> {
+    let start = Instant::now(rt)?;
+    let union = one.union(rt.alloc(), other)?;
+    report_ip_set(rt, "ip-union", count, start, &union)?;
+    let start = Instant::now(rt)?;
+    let contained = union.contains(one);
+    let contained = usize::from(contained);
+    report(rt, "ip-contains", count, start, contained, "set")
 }
 
 /// A SEQUENCE of blocks of AS numbers, which aren't ascending.
@@ -220,7 +248,7 @@ fn measure_ip_der(rt: &HostRuntime, count: usize) -> io::Result<()> {
     let start = Instant::now(rt)?;
     match IpBlocks::take_from(rt.alloc(), &mut Cursor::new(&octets)) {
         Ok(set) => {
-            report(rt, "ip-take_from", count, start, set.iter().len(), "blocks")?;
+            report_ip_set(rt, "ip-take_from", count, start, &set)?;
             measure_ip_writing(rt, count, &set)
         }
         Err(_) => Err(io::ErrorKind::InvalidData.into()),
@@ -241,6 +269,17 @@ fn report_set(
     count: usize,
     start: Instant,
     set: &AsBlocks,
+) -> io::Result<()> {
+    report(rt, call, count, start, set.iter().len(), "blocks")
+}
+
+/// Prints how many blocks of addresses a call gave, and how long it took since the start.
+fn report_ip_set(
+    rt: &HostRuntime,
+    call: &str,
+    count: usize,
+    start: Instant,
+    set: &IpBlocks,
 ) -> io::Result<()> {
     report(rt, call, count, start, set.iter().len(), "blocks")
 }

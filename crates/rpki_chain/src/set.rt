@@ -60,10 +60,11 @@ impl<T: Block, A: Allocator> BlockSet<T, A> {
     pub fn from_blocks(alloc: A, blocks: &[T]) -> Result<Self, AllocError>
     where
         A: Copy,
+        T: Copy,
         ensures { IfOk result (IsRunsOfBlocks T.bounds blocks.now) }
     {
-        let chain = OwnedChain::from_blocks(alloc, blocks)?;
-        Self::from_owned(alloc, chain)
+        let blocks = Vec::from_slice(alloc, blocks)?;
+        Self::from_vec(alloc, blocks)
     }
 
     /// The set of the items that some block has, made in the memory of the blocks, which may come in any order and may

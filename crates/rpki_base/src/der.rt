@@ -3,4 +3,4 @@ mod read;
 mod write;
 
 pub use read::{ReadNext, read_values, take_sequence_of};
-pub use write::{Encode, encode_all, encode_sequence, sequence_len};
+pub use write::{Encode, append_sequence, encode_all, encode_sequence, len_of_all, sequence_len};

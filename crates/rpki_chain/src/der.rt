@@ -1,11 +1,11 @@
 //! Resources in DER: NULL where they are inherited, and else a SEQUENCE of blocks, one at least (RFC 3779, 2.2.3.5 and
 //! 3.2.3.3).
-ghost use Rattle.std.specs.Prelude.{◌≡◌, ◌≢◌, ◌≤◌, ◌+◌, ◌^◌, ◌++◌, [], length, vec_len, IfOk, IfSome, IfNone, OnOk, OnErr, IsOk};
+ghost use Rattle.std.specs.Prelude.{◌≡◌, ◌≢◌, ◌≤◌, ◌<◌, ◌+◌, ◌^◌, ◌++◌, [], length, vec_len, IfOk, IfSome, IfNone, OnOk, OnErr, IsOk};
 ghost use Rattle.std.specs.Vec.{vec_capacity};
 ghost use Rattle.rpki_der.specs.Views.{Lenient, left, tlv};
 ghost use Rattle.rpki_base.specs.DerReading.{IsSequenceFrom, values_from};
 ghost use Rattle.rpki_base.specs.DerViews.{ReadsOrMemory, TakesSaidOrMemory};
-ghost use Rattle.rpki_base.specs.DerWriting.{sequence_octets};
+ghost use Rattle.rpki_base.specs.DerWriting.{octets_of_all, sequence_octets};
 ghost use Rattle.rpki_chain.specs.Choices.{ListsBy};
 ghost use Rattle.rpki_chain.specs.ChoiceDer.{GivesSaidOrMemory, IsResourcesOf, choice_at, choice_in, choice_octets, some_in};
 ghost use Rattle.rpki_chain.specs.Claims.{ListsSome};
@@ -13,9 +13,9 @@ ghost use Rattle.rpki_chain.specs.Runs.{IsRunsOfBlocks};
 
 use crate::choice::ResourcesChoice;
 use crate::set::BlockSet;
-use rpki_base::der::{Encode, ReadNext, encode_sequence, read_values, sequence_len};
+use rpki_base::der::{Encode, ReadNext, append_sequence, encode_sequence, len_of_all, read_values};
 use rpki_blocks::block::Block;
-use rpki_der::{Content, Cursor, DerError, null_len, put_null, tag};
+use rpki_der::{Content, Cursor, DerError, append_null, header_len, null_len, put_null, tag};
 use rpki_text::memory::OrMemory;
 use std::alloc::{AllocError, Allocator};
 
@@ -94,15 +94,34 @@ fn set_within<T: Block, R: ReadNext<Value = T>, A: Allocator + Copy>(
     Ok(BlockSet::from_vec(alloc, blocks)?)
 }
 
-/// How many octets `encode_choice` appends; None where no length can tell it.
-pub fn choice_len<V: Encode>(choice: &ResourcesChoice<&[V]>) -> Option<usize>
-    ensures some { IfSome result (λ n. n ≡ length (choice_octets (λ blocks. sequence_octets V.octets blocks.now) choice.now)) }
-    ensures none { IfNone result (2 ^ 64 ≤ length (choice_octets (λ blocks. sequence_octets V.octets blocks.now) choice.now)) }
+/// How many octets the blocks have that are listed, without the header of their SEQUENCE, or else all that is written;
+/// None where no vector can hold them.
+pub fn content_len<V: Encode>(choice: &ResourcesChoice<&[V]>) -> Option<usize>
+    ensures some { IfSome result (λ n. n ≡ length (choice_octets (λ blocks. octets_of_all V.octets blocks.now) choice.now)) }
+    ensures few { IfSome result (λ n. n < 2 ^ 63) }
+    ensures none { IfNone result (2 ^ 63 ≤ length (choice_octets (λ blocks. octets_of_all V.octets blocks.now) choice.now)) }
+{
+    let content_len = match choice {
+        ResourcesChoice::Missing => 0,
+        ResourcesChoice::Inherit => null_len(),
+        ResourcesChoice::Blocks(blocks) => len_of_all(blocks)?,
+    };
+    if content_len > isize::MAX as usize {
+        return None;
+    }
+    Some(content_len)
+}
+
+/// How many octets `encode_choice` appends, whose content has `content_len`.
+pub fn choice_len<V: Encode>(choice: &ResourcesChoice<&[V]>, content_len: usize) -> usize
+    requires len { content_len ≡ length (choice_octets (λ blocks. octets_of_all V.octets blocks.now) choice.now) }
+    requires few { content_len < 2 ^ 63 }
+    ensures len { result ≡ length (choice_octets (λ blocks. sequence_octets V.octets blocks.now) choice.now) }
+    ensures short { result ≤ content_len + 10 }
 {
     match choice {
-        ResourcesChoice::Missing => Some(0),
-        ResourcesChoice::Inherit => Some(null_len()),
-        ResourcesChoice::Blocks(blocks) => sequence_len(blocks),
+        ResourcesChoice::Blocks(_) => header_len(tag::SEQUENCE, content_len) + content_len,
+        _ => content_len,
     }
 }
 
@@ -124,5 +143,25 @@ pub fn encode_choice<V: Encode, A: Allocator>(
         ResourcesChoice::Missing => Ok(()),
         ResourcesChoice::Inherit => put_null(out),
         ResourcesChoice::Blocks(blocks) => encode_sequence(blocks, out),
+    }
+}
+
+/// Appends what `encode_choice` does, where there is room for it, of resources whose content has `content_len` octets.
+pub fn append_choice<V: Encode, A: Allocator>(
+    choice: &ResourcesChoice<&[V]>,
+    content_len: usize,
+    out: &mut Vec<u8, A>,
+)
+    requires len { content_len ≡ length (choice_octets (λ blocks. octets_of_all V.octets blocks.now) choice.now) }
+    requires room { vec_len out.old + length (choice_octets (λ blocks. sequence_octets V.octets blocks.now) choice.now)
+        ≤ vec_capacity out.old }
+    ensures items { out.new.items
+        ≡ out.old.items ++ choice_octets (λ blocks. sequence_octets V.octets blocks.now) choice.now }
+    ensures capacity { vec_capacity out.old ≤ vec_capacity out.new }
+{
+    match choice {
+        ResourcesChoice::Missing => {}
+        ResourcesChoice::Inherit => append_null(out),
+        ResourcesChoice::Blocks(blocks) => append_sequence(blocks, content_len, out),
     }
 }

@@ -18,6 +18,7 @@ pub use content::{BitString, Content};
 pub use cursor::Cursor;
 pub use error::DerError;
 pub use write::{
-    bit_string_len, header_len, null_len, octets_len, put_bit_string, put_header, put_null,
-    put_octets, put_u32, u32_len,
+    append_bit_string, append_header, append_null, append_octets, append_u32, bit_string_len,
+    header_len, null_len, octets_len, put_bit_string, put_header, put_null, put_octets, put_u32,
+    u32_len,
 };

@@ -1,6 +1,7 @@
 //! Writers that append values to a vector, and the lengths of what they append.
 //!
-//! A writer reserves the whole length first, so where memory is wanting the vector stays as it was.
+//! A `put` reserves the whole length first, so where memory is wanting the vector stays as it was. An `append` is for
+//! callers that reserved room for more than the one value: it takes no memory.
 
 ghost use Rattle.std.specs.Prelude.{◌≡◌, ◌≤◌, ◌<◌, ◌+◌, ◌^◌, ◌++◌, length, vec_len, OnOk, OnErr, IsOk};
 ghost use Rattle.std.specs.Vec.{vec_capacity};
@@ -36,7 +37,6 @@ pub fn header_len(tag: u8, content_len: usize) -> usize
 
 /// Appends the tag octet and the length octets of a value whose content has `content_len` octets
 /// (X.690, 8.1.2, 8.1.3 and 10.1). The low five bits of the tag octet must not all be ones.
-#[tactic(auto, unfolding(crate::specs::Der::header, crate::specs::Der::length_octets, crate::specs::Der::octets))]
 pub fn put_header<A: Allocator>(
     out: &mut Vec<u8, A>,
     tag: u8,
@@ -50,16 +50,37 @@ pub fn put_header<A: Allocator>(
     ensures capacity { vec_capacity out.old ≤ vec_capacity out.new }
 {
     out.reserve(header_len(tag, content_len))?;
-    out.push(tag)?;
+    append_header(out, tag, content_len);
+    Ok(())
+}
+
+/// Appends what `put_header` does, where there is room for it.
+#[tactic(auto, unfolding(crate::specs::Der::header, crate::specs::Der::length_octets, crate::specs::Der::octets))]
+pub fn append_header<A: Allocator>(out: &mut Vec<u8, A>, tag: u8, content_len: usize)
+    requires has_tag { IsTag tag }
+    requires room { vec_len out.old + length (header tag content_len) ≤ vec_capacity out.old }
+    ensures items { out.new.items ≡ out.old.items ++ header tag content_len }
+    ensures capacity { vec_capacity out.old ≤ vec_capacity out.new }
+{
+    out.push_reserved(tag);
     if content_len < 128 {
-        out.push(content_len as u8)?;
+        out.push_reserved(content_len as u8);
     } else {
         let octets = (content_len as u64).to_be_bytes();
         let digits = significant(&octets);
-        out.push(128 + digits.len() as u8)?;
-        out.extend_from_slice(digits)?;
+        out.push_reserved(128 + digits.len() as u8);
+        append(out, digits);
     }
-    Ok(())
+}
+
+/// Appends octets, for which there is room.
+fn append<A: Allocator>(out: &mut Vec<u8, A>, octets: &[u8])
+    requires room { vec_len out.old + length octets.now ≤ vec_capacity out.old }
+    ensures items { out.new.items ≡ out.old.items ++ octets.now }
+    ensures capacity { vec_capacity out.old ≤ vec_capacity out.new }
+{
+    // There is room, so nothing is refused.
+    let _appended = out.extend_from_slice(octets);
 }
 
 /// What stands in front of digits so that their first bit is 0.
@@ -82,27 +103,18 @@ fn value_len(tag: u8, content_len: usize) -> usize
     header_len(tag, content_len) + content_len
 }
 
-/// Appends a value whose content is `front` and `back`.
-fn put_value<A: Allocator>(
-    out: &mut Vec<u8, A>,
-    tag: u8,
-    front: &[u8],
-    back: &[u8],
-) -> Result<(), AllocError>
+/// Appends a value whose content is `front` and `back`, for which there is room.
+fn append_value<A: Allocator>(out: &mut Vec<u8, A>, tag: u8, front: &[u8], back: &[u8])
     requires has_tag { IsTag tag }
     requires few { length front.now < 16 }
-    ensures ok { OnOk result (out.new.items ≡ out.old.items ++ value tag (front.now ++ back.now)) }
-    ensures err { OnErr result (out.new.items ≡ out.old.items) }
-    ensures succeeds { vec_len out.old + length (value tag (front.now ++ back.now))
-        ≤ vec_capacity out.old → IsOk result }
+    requires room { vec_len out.old + length (value tag (front.now ++ back.now))
+        ≤ vec_capacity out.old }
+    ensures items { out.new.items ≡ out.old.items ++ value tag (front.now ++ back.now) }
     ensures capacity { vec_capacity out.old ≤ vec_capacity out.new }
 {
-    let content_len = front.len() + back.len();
-    out.reserve(value_len(tag, content_len))?;
-    put_header(out, tag, content_len)?;
-    out.extend_from_slice(front)?;
-    out.extend_from_slice(back)?;
-    Ok(())
+    append_header(out, tag, front.len() + back.len());
+    append(out, front);
+    append(out, back);
 }
 
 /// How many octets the content of an INTEGER has.
@@ -125,7 +137,6 @@ pub fn u32_len(number: u32) -> usize
 }
 
 /// Appends an INTEGER (X.690, 8.3).
-#[tactic(auto, unfolding(crate::specs::Der::integer, crate::specs::Der::octets))]
 pub fn put_u32<A: Allocator>(out: &mut Vec<u8, A>, number: u32) -> Result<(), AllocError>
     ensures ok { OnOk result (out.new.items ≡ out.old.items ++ u32_value number) }
     ensures err { OnErr result (out.new.items ≡ out.old.items) }
@@ -133,9 +144,21 @@ pub fn put_u32<A: Allocator>(out: &mut Vec<u8, A>, number: u32) -> Result<(), Al
         → IsOk result }
     ensures capacity { vec_capacity out.old ≤ vec_capacity out.new }
 {
+    out.reserve(u32_len(number))?;
+    append_u32(out, number);
+    Ok(())
+}
+
+/// Appends what `put_u32` does, where there is room for it.
+#[tactic(auto, unfolding(crate::specs::Der::integer, crate::specs::Der::octets))]
+pub fn append_u32<A: Allocator>(out: &mut Vec<u8, A>, number: u32)
+    requires room { vec_len out.old + length (u32_value number) ≤ vec_capacity out.old }
+    ensures items { out.new.items ≡ out.old.items ++ u32_value number }
+    ensures capacity { vec_capacity out.old ≤ vec_capacity out.new }
+{
     let octets = (number as u64).to_be_bytes();
     let digits = significant(&octets);
-    put_value(out, tag::INTEGER, sign_of(digits), digits)
+    append_value(out, tag::INTEGER, sign_of(digits), digits)
 }
 
 /// How many octets `put_bit_string` appends.
@@ -160,7 +183,21 @@ pub fn put_bit_string<A: Allocator>(
         ≤ vec_capacity out.old → IsOk result }
     ensures capacity { vec_capacity out.old ≤ vec_capacity out.new }
 {
-    put_value(out, tag::BIT_STRING, &[unused], octets)
+    out.reserve(bit_string_len(unused, octets))?;
+    append_bit_string(out, unused, octets);
+    Ok(())
+}
+
+/// Appends what `put_bit_string` does, where there is room for it.
+pub fn append_bit_string<A: Allocator>(out: &mut Vec<u8, A>, unused: u8, octets: &[u8])
+    requires bits { IsBits (bits_with unused octets.now) }
+    requires room { vec_len out.old + length (bit_string_value (bits_with unused octets.now))
+        ≤ vec_capacity out.old }
+    ensures items { out.new.items
+        ≡ out.old.items ++ bit_string_value (bits_with unused octets.now) }
+    ensures capacity { vec_capacity out.old ≤ vec_capacity out.new }
+{
+    append_value(out, tag::BIT_STRING, &[unused], octets)
 }
 
 /// How many octets `put_octets` appends.
@@ -178,7 +215,19 @@ pub fn put_octets<A: Allocator>(out: &mut Vec<u8, A>, octets: &[u8]) -> Result<(
         ≤ vec_capacity out.old → IsOk result }
     ensures capacity { vec_capacity out.old ≤ vec_capacity out.new }
 {
-    put_value(out, tag::OCTET_STRING, &[], octets)
+    out.reserve(octets_len(octets))?;
+    append_octets(out, octets);
+    Ok(())
+}
+
+/// Appends what `put_octets` does, where there is room for it.
+pub fn append_octets<A: Allocator>(out: &mut Vec<u8, A>, octets: &[u8])
+    requires room { vec_len out.old + length (octet_string_value octets.now)
+        ≤ vec_capacity out.old }
+    ensures items { out.new.items ≡ out.old.items ++ octet_string_value octets.now }
+    ensures capacity { vec_capacity out.old ≤ vec_capacity out.new }
+{
+    append_value(out, tag::OCTET_STRING, &[], octets)
 }
 
 /// How many octets `put_null` appends.
@@ -195,5 +244,16 @@ pub fn put_null<A: Allocator>(out: &mut Vec<u8, A>) -> Result<(), AllocError>
     ensures succeeds { vec_len out.old + length null_value ≤ vec_capacity out.old → IsOk result }
     ensures capacity { vec_capacity out.old ≤ vec_capacity out.new }
 {
-    put_value(out, tag::NULL, &[], &[])
+    out.reserve(null_len())?;
+    append_null(out);
+    Ok(())
+}
+
+/// Appends what `put_null` does, where there is room for it.
+pub fn append_null<A: Allocator>(out: &mut Vec<u8, A>)
+    requires room { vec_len out.old + length null_value ≤ vec_capacity out.old }
+    ensures items { out.new.items ≡ out.old.items ++ null_value }
+    ensures capacity { vec_capacity out.old ≤ vec_capacity out.new }
+{
+    append_value(out, tag::NULL, &[], &[])
 }

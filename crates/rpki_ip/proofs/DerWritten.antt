@@ -36,10 +36,10 @@ pub length_prefix : (p : PrefixValue) → IsPrefix 128 p → length (prefix_der 
 length_prefix p is = length_bit_string _ _ (bits_few p is)
 
 -- what was appended in three parts
-pub joined : (old first front back first' front' back' a b c d : List ℕ) → a ≡ old → b ≡ a ++ first → c ≡ b ++ front → d ≡ c ++ back → first ≡ first' → front ≡ front' → back ≡ back'
+pub joined : (old first front back first' front' back' b c d : List ℕ) → b ≡ old ++ first → c ≡ b ++ front → d ≡ c ++ back → first ≡ first' → front ≡ front' → back ≡ back'
     → d ≡ old ++ (first' ++ (front' ++ back'))
-joined old first front back first' front' back' a b c d ea eb ec ed e1 e2 e3 =
-    ed ∙ ap (λ t. t ++ back) (ec ∙ ap (λ t. t ++ front) (eb ∙ ap (λ t. t ++ first) ea)) ∙ append_assoc (old ++ first) front back ∙ append_assoc old first (front ++ back)
+joined old first front back first' front' back' b c d eb ec ed e1 e2 e3 =
+    ed ∙ ap (λ t. t ++ back) (ec ∙ ap (λ t. t ++ front) eb) ∙ append_assoc (old ++ first) front back ∙ append_assoc old first (front ++ back)
     ∙ ap (λ t. old ++ (t ++ (front ++ back))) e1 ∙ ap (λ t. old ++ (first' ++ (t ++ back))) e2 ∙ ap (λ t. old ++ (first' ++ (front' ++ t))) e3
 
 -- ---- values

@@ -1,6 +1,7 @@
 -- Resources of addresses in DER, of one family and by families (RFC 3779, 2.2.3.1 to 2.2.3.6).
 use Rattle.std.specs.Prelude.{ℕ, List, Result}
 use Rattle.rpki_base.specs.DerReading.{IsSequenceOf, values_of}
+use Rattle.rpki_base.specs.DerWriting.{octets_of_all}
 use Rattle.rpki_chain.specs.ChoiceDer.{IsResourcesOf, choice_at, choice_octets}
 use Rattle.rpki_chain.specs.Choices.{ListsBy}
 use Rattle.rpki_chain.specs.Claims.{Claim}
@@ -11,7 +12,7 @@ use Rattle.rpki_claims.specs.FamiliesReading.{families_at}
 use Rattle.rpki_der.specs.declared.error.DerError.{DerError}
 use Rattle.rpki_ip.specs.Families.{bits_of}
 use Rattle.rpki_ip.specs.declared.family.AddressFamily.{AddressFamily}
-use Rattle.rpki_ipres.specs.BlockDer.{IsIpBlockDer, ip_set_der}
+use Rattle.rpki_ipres.specs.BlockDer.{IsIpBlockDer, ip_run_der, ip_set_der}
 use Rattle.rpki_ipres.specs.BlockReading.{ip_block_at}
 use Rattle.rpki_ipres.specs.Blocks.{ip_bounds}
 use Rattle.rpki_ipres.specs.Resources.{if_present}
@@ -47,6 +48,10 @@ SaysClaims = SaysByFamily SaysClaimOf
 -- a NULL, or the runs of the set in one SEQUENCE; nothing for missing resources
 abbrev pub ip_resources_der : Claim → List ℕ
 ip_resources_der = choice_octets ip_set_der
+
+-- the same without the header of that SEQUENCE
+abbrev pub ip_content_der : Claim → List ℕ
+ip_content_der = choice_octets (octets_of_all ip_run_der)
 
 -- the family and its resources in one SEQUENCE (2.2.3.2); nothing for missing resources
 abbrev pub ip_member_der : AddressFamily → Claim → List ℕ

@@ -2,7 +2,7 @@
 ghost use Rattle.std.specs.Prelude.{◌≡◌, ◌≢◌, ◌↔◌, [], IsTrue, IsErr, IfOk, Ok, Some, MatchResult, codes, ⊤};
 ghost use Rattle.rpki_text.specs.Memory.{IsMemory};
 ghost use Rattle.rpki_chain.specs.Choices.{IsRefused, MatchChoice};
-ghost use Rattle.rpki_base.specs.DerWriting.{sequence_octets};
+ghost use Rattle.rpki_base.specs.DerWriting.{octets_of_all, sequence_octets};
 ghost use Rattle.rpki_blocks.specs.Equality.{same_runs, runs_per, runs_equiv};
 ghost use Rattle.rpki_chain.specs.ChoiceDer.{choice_octets};
 ghost use Rattle.rpki_chain.specs.ChoiceEquality.{choice_eq, choice_per, choice_equiv};
@@ -10,7 +10,7 @@ ghost use Rattle.rpki_chain.specs.Claims.{ListsSome, claim_of};
 ghost use Rattle.rpki_chain.specs.declared.choice.ResourcesChoice.TheVariants.{Missing, Inherit};
 ghost use Rattle.rpki_ipres.specs.BlockDer.{ip_block_der};
 ghost use Rattle.rpki_ipres.specs.Resources.{IsIpClaim};
-ghost use Rattle.rpki_ipres.specs.ResourcesDer.{ip_resources_der};
+ghost use Rattle.rpki_ipres.specs.ResourcesDer.{ip_content_der, ip_resources_der};
 
 use crate::block::IpBlock;
 use crate::blocks::IpBlocks;
@@ -134,6 +134,7 @@ impl<A: Allocator> IpResources<A> {
     /// The blocks that are listed, ascending.
     pub(crate) fn as_choice(&self) -> ResourcesChoice<&[IpBlock]>
         ensures octets { choice_octets (λ blocks. sequence_octets ip_block_der blocks.now) result ≡ ip_resources_der self.now }
+        ensures content { choice_octets (λ blocks. octets_of_all ip_block_der blocks.now) result ≡ ip_content_der self.now }
         ensures claim { IsIpClaim self.now }
     {
         match &self.choice {

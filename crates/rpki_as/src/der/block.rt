@@ -10,7 +10,7 @@ use crate::block::AsBlock;
 use crate::range::AsRange;
 use rpki_base::asn::Asn;
 use rpki_base::der::{Encode, ReadNext};
-use rpki_der::{Content, Cursor, DerError, header_len, put_header, tag};
+use rpki_der::{Content, Cursor, DerError, append_header, header_len, tag};
 use std::alloc::{AllocError, Allocator};
 
 impl AsBlock {
@@ -67,11 +67,11 @@ impl AsBlock {
         ensures read_back { (rest : List ℕ) → as_block_at (as_block_octets self.now ++ rest) ≡ Ok (self.now, rest) }
     {
         let _number = AsBlock::max(self).into_u32(); // read so that the proof sees that the number has 32 bits
-        self.append_to(out)
+        self.put(out)
     }
 }
 
-// The readings and the writer behind the calls.
+// The readings and the writers behind the calls.
 impl AsBlock {
     ghost use Rattle.std.specs.Prelude.{◌≡◌, ◌≤◌, ◌+◌, ◌++◌, length, vec_len, OnOk, OnErr, IsOk};
     ghost use Rattle.std.specs.Vec.{vec_capacity};
@@ -80,21 +80,28 @@ impl AsBlock {
     ghost use Rattle.rpki_der.specs.Views.{Takes, tlv};
     ghost use Rattle.rpki_as.specs.AsDerReading.{as_block_at, as_block_of, skip_block_at, skip_block_of};
 
-    fn append_to<A: Allocator>(&self, out: &mut Vec<u8, A>) -> Result<(), AllocError>
+    fn put<A: Allocator>(&self, out: &mut Vec<u8, A>) -> Result<(), AllocError>
         ensures ok { OnOk result (out.new.items ≡ out.old.items ++ as_block_octets self.now) }
         ensures err { OnErr result (out.new.items ≡ out.old.items) }
         ensures succeeds { vec_len out.old + length (as_block_octets self.now) ≤ vec_capacity out.old → IsOk result }
         ensures capacity { vec_capacity out.old ≤ vec_capacity out.new }
     {
+        out.reserve(AsBlock::encoded_len(self))?;
+        self.append_to(out);
+        Ok(())
+    }
+
+    fn append_to<A: Allocator>(&self, out: &mut Vec<u8, A>)
+        requires room { vec_len out.old + length (as_block_octets self.now) ≤ vec_capacity out.old }
+        ensures items { out.new.items ≡ out.old.items ++ as_block_octets self.now }
+        ensures capacity { vec_capacity out.old ≤ vec_capacity out.new }
+    {
         match self {
-            AsBlock::Id(asn) => asn.encode(out),
+            AsBlock::Id(asn) => asn.append(out),
             AsBlock::Range(range) => {
-                let (min, max) = (AsRange::min(*range), AsRange::max(*range));
-                out.reserve(self.encoded_len())?;
-                put_header(out, tag::SEQUENCE, range_content_len(range))?;
-                min.encode(out)?;
-                max.encode(out)?;
-                Ok(())
+                append_header(out, tag::SEQUENCE, range_content_len(range));
+                AsRange::min(*range).append(out);
+                AsRange::max(*range).append(out);
             }
         }
     }
@@ -239,7 +246,7 @@ impl Encode for AsBlock {
         AsBlock::encoded_len(self)
     }
 
-    fn encode<A: Allocator>(&self, out: &mut Vec<u8, A>) -> Result<(), AllocError> {
-        AsBlock::encode(self, out)
+    fn append<A: Allocator>(&self, out: &mut Vec<u8, A>) {
+        self.append_to(out)
     }
 }

@@ -6,8 +6,8 @@ ghost use Rattle.rpki_der.specs.Views.{Takes, left};
 use crate::der::block::AsBlockReader;
 use crate::resources::AsResources;
 use rpki_base::memory::OrMemory;
-use rpki_chain::der::{choice_len, encode_choice, take_choice};
-use rpki_der::{Cursor, DerError, header_len, put_header, tag};
+use rpki_chain::der::{append_choice, choice_len, content_len, take_choice};
+use rpki_der::{Cursor, DerError, append_header, header_len, tag};
 use std::alloc::{AllocError, Allocator};
 
 impl<A: Allocator> AsResources<A> {
@@ -59,19 +59,16 @@ impl<A: Allocator> AsResources<A> {
         ensures claim { IsClaim IsAsSet self.now }
     {
         let choice = self.as_choice();
-        let Some(choice_len) = choice_len(&choice) else {
+        let Some(content_len) = content_len(&choice) else {
             return Err(AllocError);
         };
-        let Some(tagged_len) = header_len(tag::CONTEXT_0, choice_len).checked_add(choice_len) else {
-            return Err(AllocError);
-        };
-        let Some(whole_len) = header_len(tag::SEQUENCE, tagged_len).checked_add(tagged_len) else {
-            return Err(AllocError);
-        };
-        out.reserve(whole_len)?;
-        put_header(out, tag::SEQUENCE, tagged_len)?;
-        put_header(out, tag::CONTEXT_0, choice_len)?;
-        encode_choice(&choice, out)
+        let choice_len = choice_len(&choice, content_len);
+        let tagged_len = header_len(tag::CONTEXT_0, choice_len) + choice_len;
+        out.reserve(header_len(tag::SEQUENCE, tagged_len) + tagged_len)?;
+        append_header(out, tag::SEQUENCE, tagged_len);
+        append_header(out, tag::CONTEXT_0, choice_len);
+        append_choice(&choice, content_len, out);
+        Ok(())
     }
 
     // The reading behind `take_from`.

@@ -1,6 +1,6 @@
 //! AS numbers in DER: an INTEGER (RFC 3779, 3.2.3.10, ASId).
 use crate::asn::Asn;
-use rpki_der::{Content, Cursor, DerError, put_u32, tag, u32_len};
+use rpki_der::{Content, Cursor, DerError, append_u32, put_u32, tag, u32_len};
 use std::alloc::{AllocError, Allocator};
 
 impl Asn {
@@ -80,6 +80,15 @@ impl Asn {
     {
         let number = self.0;
         put_u32(out, number)
+    }
+
+    /// Appends what `encode` does, where there is room for it.
+    pub fn append<A: Allocator>(&self, out: &mut Vec<u8, A>)
+        requires room { vec_len out.old + length (as_number_octets self.now) ≤ vec_capacity out.old }
+        ensures items { out.new.items ≡ out.old.items ++ as_number_octets self.now }
+        ensures capacity { vec_capacity out.old ≤ vec_capacity out.new }
+    {
+        append_u32(out, self.0)
     }
 }
 

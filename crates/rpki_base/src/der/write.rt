@@ -3,7 +3,7 @@ ghost use Rattle.std.specs.Prelude.{◌≡◌, ◌≤◌, ◌+◌, ◌^◌, ◌+
 ghost use Rattle.std.specs.Vec.{vec_capacity};
 ghost use Rattle.rpki_base.specs.DerWriting.{octets_of_all, sequence_octets};
 
-use rpki_der::{header_len, put_header, tag};
+use rpki_der::{append_header, header_len, tag};
 use std::alloc::{AllocError, Allocator};
 
 /// Values that are written in DER.
@@ -11,21 +11,19 @@ pub trait Encode {
     // What is written of a value.
     ghost octets: { Self → List ℕ };
 
-    /// How many octets `encode` appends.
+    /// How many octets `append` appends.
     fn encoded_len(&self) -> usize
         ensures len { result ≡ length (octets self.now) };
 
-    /// Appends the value. `AllocError` where there is no memory for it; then the octets stay as they were.
-    fn encode<A: Allocator>(&self, out: &mut Vec<u8, A>) -> Result<(), AllocError>
-        ensures ok { OnOk result (out.new.items ≡ out.old.items ++ octets self.now) }
-        ensures err { OnErr result (out.new.items ≡ out.old.items) }
-        ensures succeeds { vec_len out.old + length (octets self.now) ≤ vec_capacity out.old
-            → IsOk result }
+    /// Appends the value, for which there is room.
+    fn append<A: Allocator>(&self, out: &mut Vec<u8, A>)
+        requires room { vec_len out.old + length (octets self.now) ≤ vec_capacity out.old }
+        ensures items { out.new.items ≡ out.old.items ++ octets self.now }
         ensures capacity { vec_capacity out.old ≤ vec_capacity out.new };
 }
 
-/// How many octets the values have, one after another; None where no length can tell it.
-fn len_of_all<V: Encode>(values: &[V]) -> Option<usize>
+/// How many octets `encode_all` appends; None where no length can tell it.
+pub fn len_of_all<V: Encode>(values: &[V]) -> Option<usize>
     ensures some { IfSome result (λ n. n ≡ length (octets_of_all V.octets values.now)) }
     ensures none { IfNone result (2 ^ 64 ≤ length (octets_of_all V.octets values.now)) }
 {
@@ -52,10 +50,20 @@ pub fn encode_all<V: Encode, A: Allocator>(
         return Err(AllocError);
     };
     out.reserve(total)?;
-    for value in values {
-        value.encode(out)?;
-    }
+    append_all(values, out);
     Ok(())
+}
+
+/// Appends the values, one after another, for which there is room.
+fn append_all<V: Encode, A: Allocator>(values: &[V], out: &mut Vec<u8, A>)
+    requires room { vec_len out.old + length (octets_of_all V.octets values.now)
+        ≤ vec_capacity out.old }
+    ensures items { out.new.items ≡ out.old.items ++ octets_of_all V.octets values.now }
+    ensures capacity { vec_capacity out.old ≤ vec_capacity out.new }
+{
+    for value in values {
+        value.append(out);
+    }
 }
 
 /// How many octets `encode_sequence` appends; None where no length can tell it.
@@ -87,6 +95,22 @@ pub fn encode_sequence<V: Encode, A: Allocator>(
         return Err(AllocError);
     };
     out.reserve(whole_len)?;
-    put_header(out, tag::SEQUENCE, content_len)?;
-    encode_all(values, out)
+    append_sequence(values, content_len, out);
+    Ok(())
+}
+
+/// Appends what `encode_sequence` does, where there is room for it, of values that have `content_len` octets.
+pub fn append_sequence<V: Encode, A: Allocator>(
+    values: &[V],
+    content_len: usize,
+    out: &mut Vec<u8, A>,
+)
+    requires len { content_len ≡ length (octets_of_all V.octets values.now) }
+    requires room { vec_len out.old + length (sequence_octets V.octets values.now)
+        ≤ vec_capacity out.old }
+    ensures items { out.new.items ≡ out.old.items ++ sequence_octets V.octets values.now }
+    ensures capacity { vec_capacity out.old ≤ vec_capacity out.new }
+{
+    append_header(out, tag::SEQUENCE, content_len);
+    append_all(values, out);
 }

@@ -1,7 +1,7 @@
 //! Address families in DER.
 use crate::der::error::DecodeFamilyError;
 use crate::family::AddressFamily;
-use rpki_der::{Cursor, DerError, octets_len, put_octets, tag};
+use rpki_der::{Cursor, DerError, append_octets, octets_len, put_octets, tag};
 use std::alloc::{AllocError, Allocator};
 
 impl AddressFamily {
@@ -66,6 +66,15 @@ impl AddressFamily {
         ensures read_back { (rest : List ℕ) → family_at (family_der self.now ++ rest) ≡ Ok (self.now, rest) }
     {
         put_octets(out, self.octets())
+    }
+
+    /// Appends what `encode` does, where there is room for it.
+    pub fn append<A: Allocator>(&self, out: &mut Vec<u8, A>)
+        requires room { vec_len out.old + length (family_der self.now) ≤ vec_capacity out.old }
+        ensures items { out.new.items ≡ out.old.items ++ family_der self.now }
+        ensures capacity { vec_capacity out.old ≤ vec_capacity out.new }
+    {
+        append_octets(out, self.octets())
     }
 
     // The octets that name the family.

@@ -6,7 +6,9 @@ use crate::addr::Addr;
 use crate::der::error::DecodePrefixError;
 use crate::family::AddressFamily;
 use crate::prefix::Prefix;
-use rpki_der::{BitString, Content, Cursor, DerError, bit_string_len, put_bit_string, tag};
+use rpki_der::{
+    BitString, Content, Cursor, DerError, append_bit_string, bit_string_len, put_bit_string, tag,
+};
 use std::alloc::{AllocError, Allocator};
 
 impl Prefix {
@@ -95,6 +97,16 @@ impl Prefix {
     {
         let (unused, octets, count) = self.parts();
         put_bit_string(out, unused, &octets[..count])
+    }
+
+    /// Appends what `encode` does, where there is room for it.
+    pub fn append<A: Allocator>(&self, out: &mut Vec<u8, A>)
+        requires room { vec_len out.old + length (prefix_der self.now) ≤ vec_capacity out.old }
+        ensures items { out.new.items ≡ out.old.items ++ prefix_der self.now }
+        ensures capacity { vec_capacity out.old ≤ vec_capacity out.new }
+    {
+        let (unused, octets, count) = self.parts();
+        append_bit_string(out, unused, &octets[..count])
     }
 }
 

@@ -5,7 +5,7 @@ ghost use Rattle.rpki_ip.specs.RangeDer.{IsShortestFrom, IsShortestTo, without_e
 use crate::addr::Addr;
 use crate::prefix::Prefix;
 use crate::range::AddressRange;
-use rpki_der::{header_len, put_header, tag};
+use rpki_der::{append_header, header_len, tag};
 use std::alloc::{AllocError, Allocator};
 
 impl AddressRange {
@@ -32,19 +32,34 @@ impl AddressRange {
         ensures succeeds { vec_len out.old + length (range_der self.now) ≤ vec_capacity out.old → IsOk result }
         ensures capacity { vec_capacity out.old ≤ vec_capacity out.new }
     {
+        let content_len = self.content_len();
+        out.reserve(header_len(tag::SEQUENCE, content_len) + content_len)?;
+        self.append(out);
+        Ok(())
+    }
+
+    /// Appends what `encode` does, where there is room for it.
+    pub fn append<A: Allocator>(&self, out: &mut Vec<u8, A>)
+        requires room { vec_len out.old + length (range_der self.now) ≤ vec_capacity out.old }
+        ensures items { out.new.items ≡ out.old.items ++ range_der self.now }
+        ensures capacity { vec_capacity out.old ≤ vec_capacity out.new }
+    {
         let first = shortest_from(self.min());
         let second = shortest_to(self.max());
-        out.reserve(self.encoded_len())?;
-        put_header(out, tag::SEQUENCE, self.content_len())?;
-        first.encode(out)?;
-        second.encode(out)?;
-        Ok(())
+        append_header(
+            out,
+            tag::SEQUENCE,
+            first.encoded_len() + second.encoded_len(),
+        );
+        first.append(out);
+        second.append(out);
     }
 
     // How many octets the content of the SEQUENCE has.
     fn content_len(&self) -> usize
         ensures len { result ≡ length (range_content self.now) }
         ensures short { result ≤ 40 }
+        ensures range { IsRange self.now }
     {
         shortest_from(self.min()).encoded_len() + shortest_to(self.max()).encoded_len()
     }

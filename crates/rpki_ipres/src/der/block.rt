@@ -77,6 +77,23 @@ impl IpBlock {
     }
 }
 
+impl Encode for IpBlock {
+    ghost use Rattle.rpki_ipres.specs.BlockDer.{ip_block_der};
+
+    ghost octets = { ip_block_der };
+
+    fn encoded_len(&self) -> usize {
+        IpBlock::encoded_len(self)
+    }
+
+    fn append<A: Allocator>(&self, out: &mut Vec<u8, A>) {
+        match self {
+            IpBlock::Prefix(prefix) => prefix.append(out),
+            IpBlock::Range(range) => range.append(out),
+        }
+    }
+}
+
 // The readings behind the calls.
 impl IpBlock {
     ghost use Rattle.std.specs.Prelude.{◌≡◌};
@@ -168,19 +185,5 @@ impl ReadNext for IpBlockReader {
 
     fn take_next(&self, _state: (), cursor: &mut Cursor<'_>) -> Result<Option<IpBlock>, DerError> {
         IpBlock::next_opt(cursor, self.family)
-    }
-}
-
-impl Encode for IpBlock {
-    ghost use Rattle.rpki_ipres.specs.BlockDer.{ip_block_der};
-
-    ghost octets = { ip_block_der };
-
-    fn encoded_len(&self) -> usize {
-        IpBlock::encoded_len(self)
-    }
-
-    fn encode<A: Allocator>(&self, out: &mut Vec<u8, A>) -> Result<(), AllocError> {
-        IpBlock::encode(self, out)
     }
 }

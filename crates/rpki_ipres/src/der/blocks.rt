@@ -1,7 +1,7 @@
 //! Sets of addresses in DER: a SEQUENCE of blocks (RFC 3779, 2.2.3.6).
-ghost use Rattle.std.specs.Prelude.{◌≡◌, ◌≤◌, ◌+◌, ◌^◌, ◌++◌, length, vec_len, OnOk, OnErr, IsOk, IfSome, IfNone};
+ghost use Rattle.std.specs.Prelude.{◌≡◌, ◌≤◌, ◌<◌, ◌+◌, ◌^◌, ◌++◌, length, vec_len, OnOk, OnErr, IsOk};
 ghost use Rattle.std.specs.Vec.{vec_capacity};
-ghost use Rattle.rpki_base.specs.DerWriting.{sequence_octets};
+ghost use Rattle.rpki_base.specs.DerWriting.{octets_of_all, sequence_octets};
 ghost use Rattle.rpki_chain.specs.ChoiceDer.{choice_octets};
 ghost use Rattle.rpki_der.specs.Der.{sequence_value};
 ghost use Rattle.rpki_ip.specs.FamilyDer.{family_der};
@@ -13,8 +13,8 @@ use crate::der::block::IpBlockReader;
 use rpki_base::der::{encode_sequence, take_sequence_of};
 use rpki_base::memory::OrMemory;
 use rpki_chain::choice::ResourcesChoice;
-use rpki_chain::der::{choice_len, encode_choice};
-use rpki_der::{Cursor, DerError, header_len, put_header, tag};
+use rpki_chain::der::{append_choice, choice_len, content_len};
+use rpki_der::{Cursor, DerError, append_header, header_len, tag};
 use rpki_ip::family::AddressFamily;
 use std::alloc::{AllocError, Allocator};
 
@@ -137,37 +137,60 @@ pub(crate) fn put_family<B: Allocator>(
     ensures succeeds { vec_len out.old + length (sequence_value (family_der family ++ choice_octets (λ blocks. sequence_octets ip_block_der blocks.now) resources.now)) ≤ vec_capacity out.old → IsOk result }
     ensures capacity { vec_capacity out.old ≤ vec_capacity out.new }
 {
-    let Some(content_len) = family_content_len(family, resources) else {
+    let Some(content_len) = content_len(resources) else {
         return Err(AllocError);
     };
-    let Some(total) = header_len(tag::SEQUENCE, content_len).checked_add(content_len) else {
-        return Err(AllocError);
-    };
-    out.reserve(total)?;
-    put_header(out, tag::SEQUENCE, content_len)?;
-    family.encode(out)?;
-    encode_choice(resources, out)
+    out.reserve(family_len(family, resources, content_len))?;
+    append_family(family, resources, content_len, out);
+    Ok(())
 }
 
-/// How many octets a family and its resources have; None where no length can tell it.
+/// Appends what `put_family` does, where there is room for it, of resources whose content has `content_len` octets.
+pub(crate) fn append_family<B: Allocator>(
+    family: AddressFamily,
+    resources: &ResourcesChoice<&[IpBlock]>,
+    content_len: usize,
+    out: &mut Vec<u8, B>,
+)
+    requires len { content_len ≡ length (choice_octets (λ blocks. octets_of_all ip_block_der blocks.now) resources.now) }
+    requires few { content_len < 2 ^ 63 }
+    requires room { vec_len out.old + length (sequence_value (family_der family ++ choice_octets (λ blocks. sequence_octets ip_block_der blocks.now) resources.now)) ≤ vec_capacity out.old }
+    ensures items { out.new.items ≡ out.old.items ++ sequence_value (family_der family ++ choice_octets (λ blocks. sequence_octets ip_block_der blocks.now) resources.now) }
+    ensures capacity { vec_capacity out.old ≤ vec_capacity out.new }
+{
+    append_header(
+        out,
+        tag::SEQUENCE,
+        family_content_len(family, resources, content_len),
+    );
+    family.append(out);
+    append_choice(resources, content_len, out);
+}
+
+/// How many octets a family and its resources have, whose content has `content_len`.
 fn family_content_len(
     family: AddressFamily,
     resources: &ResourcesChoice<&[IpBlock]>,
-) -> Option<usize>
-    ensures some { IfSome result (λ n. n ≡ length (family_der family ++ choice_octets (λ blocks. sequence_octets ip_block_der blocks.now) resources.now)) }
-    ensures none { IfNone result (2 ^ 64 ≤ length (family_der family ++ choice_octets (λ blocks. sequence_octets ip_block_der blocks.now) resources.now)) }
+    content_len: usize,
+) -> usize
+    requires len { content_len ≡ length (choice_octets (λ blocks. octets_of_all ip_block_der blocks.now) resources.now) }
+    requires few { content_len < 2 ^ 63 }
+    ensures len { result ≡ length (family_der family ++ choice_octets (λ blocks. sequence_octets ip_block_der blocks.now) resources.now) }
+    ensures short { result ≤ content_len + 14 }
 {
-    family.encoded_len().checked_add(choice_len(resources)?)
+    family.encoded_len() + choice_len(resources, content_len)
 }
 
-/// How many octets `put_family` appends; None where no length can tell it.
+/// How many octets `append_family` appends.
 pub(crate) fn family_len(
     family: AddressFamily,
     resources: &ResourcesChoice<&[IpBlock]>,
-) -> Option<usize>
-    ensures some { IfSome result (λ n. n ≡ length (sequence_value (family_der family ++ choice_octets (λ blocks. sequence_octets ip_block_der blocks.now) resources.now))) }
-    ensures none { IfNone result (2 ^ 64 ≤ length (sequence_value (family_der family ++ choice_octets (λ blocks. sequence_octets ip_block_der blocks.now) resources.now))) }
+    content_len: usize,
+) -> usize
+    requires len { content_len ≡ length (choice_octets (λ blocks. octets_of_all ip_block_der blocks.now) resources.now) }
+    requires few { content_len < 2 ^ 63 }
+    ensures len { result ≡ length (sequence_value (family_der family ++ choice_octets (λ blocks. sequence_octets ip_block_der blocks.now) resources.now)) }
 {
-    let content_len = family_content_len(family, resources)?;
-    header_len(tag::SEQUENCE, content_len).checked_add(content_len)
+    let members_len = family_content_len(family, resources, content_len);
+    header_len(tag::SEQUENCE, members_len) + members_len
 }

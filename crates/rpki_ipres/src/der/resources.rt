@@ -1,16 +1,11 @@
 //! Resources of addresses in DER: of one family, and by families (RFC 3779, 2.2.3.1 to 2.2.3.6).
-ghost use Rattle.std.specs.Prelude.{◌≡◌, ◌≤◌, ◌++◌, ◌^◌, length, IfSome, IfNone};
-ghost use Rattle.rpki_ip.specs.declared.family.AddressFamily.TheVariants.{Ipv4, Ipv6};
-ghost use Rattle.rpki_ipres.specs.Resources.{IsIpClaim};
-ghost use Rattle.rpki_ipres.specs.ResourcesDer.{ip_member_der};
-
 use crate::der::block::IpBlockReader;
-use crate::der::blocks::{family_len, put_family};
+use crate::der::blocks::{append_family, family_len, put_family};
 use crate::resources::IpResources;
 use rpki_base::memory::OrMemory;
-use rpki_chain::der::{encode_choice, take_choice};
+use rpki_chain::der::{content_len, encode_choice, take_choice};
 use rpki_claims::{ReadClaim, take_families};
-use rpki_der::{Cursor, DerError, header_len, put_header, tag};
+use rpki_der::{Cursor, DerError, append_header, header_len, tag};
 use rpki_ip::family::AddressFamily;
 use std::alloc::{AllocError, Allocator};
 
@@ -25,7 +20,7 @@ impl<A: Allocator> IpResources<A> {
     ghost use Rattle.rpki_ip.specs.Families.{bits_of};
     ghost use Rattle.rpki_ip.specs.declared.family.AddressFamily.TheVariants.{Ipv4, Ipv6};
     ghost use Rattle.rpki_ipres.specs.Resources.{IsFamilyClaim, IsIpClaim, IsWholeClaim, if_present};
-    ghost use Rattle.rpki_ipres.specs.ResourcesDer.{IsIpFamilies, IsIpResources, SaysClaimOf, SaysClaims, ip_families_at, ip_families_der, ip_member_der, ip_resources_at, ip_resources_der};
+    ghost use Rattle.rpki_ipres.specs.ResourcesDer.{IsIpFamilies, IsIpResources, SaysClaimOf, SaysClaims, ip_content_der, ip_families_at, ip_families_der, ip_member_der, ip_resources_at, ip_resources_der};
 
     /// Takes the resources of a family: a NULL where they are inherited, and else a SEQUENCE of blocks of the family,
     /// one at least, in any order, overlapping or not.
@@ -89,17 +84,48 @@ impl<A: Allocator> IpResources<A> {
         put_family(out, family, &resources)
     }
 
-    /// How many octets `encode_family` appends; None where no length can tell it.
-    fn member_len(&self, family: AddressFamily) -> Option<usize>
-        ensures some { IfSome result (λ n. n ≡ length (ip_member_der family self.now)) }
-        ensures none { IfNone result (2 ^ 64 ≤ length (ip_member_der family self.now)) }
+    // How many octets stand in the SEQUENCE of the blocks, or else in all that is written of the resources; None where no
+    // vector can hold them.
+    fn content_len(&self) -> Option<usize>
+        ensures some { IfSome result (λ n. n ≡ length (ip_content_der self.now)) }
+        ensures few { IfSome result (λ n. n < 2 ^ 63) }
+        ensures none { IfNone result (2 ^ 63 ≤ length (ip_content_der self.now)) }
         ensures claim { IsIpClaim self.now }
+    {
+        content_len(&self.as_choice())
+    }
+
+    // How many octets `encode_family` appends, of resources whose content has `content_len`.
+    fn member_len(&self, family: AddressFamily, content_len: usize) -> usize
+        requires len { content_len ≡ length (ip_content_der self.now) }
+        requires few { content_len < 2 ^ 63 }
+        ensures len { result ≡ length (ip_member_der family self.now) }
     {
         let resources = self.as_choice();
         if self.is_missing() {
-            return Some(0);
+            return 0;
         }
-        family_len(family, &resources)
+        family_len(family, &resources, content_len)
+    }
+
+    // Appends what `encode_family` does, where there is room for it, of resources whose content has `content_len` octets.
+    fn append_member<B: Allocator>(
+        &self,
+        family: AddressFamily,
+        content_len: usize,
+        out: &mut Vec<u8, B>,
+    )
+        requires len { content_len ≡ length (ip_content_der self.now) }
+        requires few { content_len < 2 ^ 63 }
+        requires room { vec_len out.old + length (ip_member_der family self.now) ≤ vec_capacity out.old }
+        ensures items { out.new.items ≡ out.old.items ++ ip_member_der family self.now }
+        ensures capacity { vec_capacity out.old ≤ vec_capacity out.new }
+    {
+        let resources = self.as_choice();
+        if self.is_missing() {
+            return;
+        }
+        append_family(family, &resources, content_len, out);
     }
 
     /// Takes a SEQUENCE of families and answers the resources of IPv4 and of IPv6, None where a family isn't there. The
@@ -141,16 +167,22 @@ impl<A: Allocator> IpResources<A> {
         ensures capacity { vec_capacity out.old ≤ vec_capacity out.new }
         ensures claims { IsIpClaim v4.now × IsIpClaim v6.now }
     {
-        let Some(content_len) = members_len(v4, v6) else {
+        let (Some(v4_len), Some(v6_len)) = (v4.content_len(), v6.content_len()) else {
+            return Err(AllocError);
+        };
+        let v4_member = v4.member_len(AddressFamily::Ipv4, v4_len);
+        let Some(content_len) = v4_member.checked_add(v6.member_len(AddressFamily::Ipv6, v6_len))
+        else {
             return Err(AllocError);
         };
         let Some(total) = header_len(tag::SEQUENCE, content_len).checked_add(content_len) else {
             return Err(AllocError);
         };
         out.reserve(total)?;
-        put_header(out, tag::SEQUENCE, content_len)?;
-        v4.encode_family(AddressFamily::Ipv4, out)?;
-        v6.encode_family(AddressFamily::Ipv6, out)
+        append_header(out, tag::SEQUENCE, content_len);
+        v4.append_member(AddressFamily::Ipv4, v4_len, out);
+        v6.append_member(AddressFamily::Ipv6, v6_len, out);
+        Ok(())
     }
 
     // The readings behind the takes.
@@ -182,17 +214,6 @@ impl<A: Allocator> IpResources<A> {
         let _len = cursor.rest().len(); // read so that the proof sees that the octets are fewer than 2^64
         take_families(&IpResourcesReader { alloc }, cursor)
     }
-}
-
-/// How many octets the members of both families have; None where no length can tell it.
-fn members_len<A: Allocator>(v4: &IpResources<A>, v6: &IpResources<A>) -> Option<usize>
-    ensures some { IfSome result (λ n. n ≡ length (ip_member_der Ipv4 v4.now ++ ip_member_der Ipv6 v6.now)) }
-    ensures none { IfNone result (2 ^ 64 ≤ length (ip_member_der Ipv4 v4.now ++ ip_member_der Ipv6 v6.now)) }
-    ensures claims { IsIpClaim v4.now × IsIpClaim v6.now }
-{
-    let v4_len = v4.member_len(AddressFamily::Ipv4);
-    let v6_len = v6.member_len(AddressFamily::Ipv6);
-    v4_len?.checked_add(v6_len?)
 }
 
 /// Reads the resources of families.

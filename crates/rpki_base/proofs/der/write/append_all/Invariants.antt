@@ -2,7 +2,7 @@
 use Rattle.std.proofs.Common.{◌≡◌, ◌≤◌, ◌+◌, ◌++◌, length, take, drop, vec_len}
 use Rattle.std.specs.Vec.{vec_capacity}
 use Rattle.rpki_base.specs.DerWriting.{octets_of_all}
-use Rattle.rpki_base.proofs.der.write.encode_all.Given as goal
+use Rattle.rpki_base.proofs.der.write.append_all.Given as goal
 
 -- what is written so far, and that there is room for the rest
 abbrev pub invariant-loop-value : goal.invariant-loop-value

@@ -1,5 +1,6 @@
 pub mod CoverLemmas
 pub mod DerLemmas
 pub mod HexadecimalLemmas
+pub mod PathLemmas
 pub mod ReadLemmas
 pub mod ShownLemmas

@@ -5,6 +5,7 @@ use Rattle.rpki_lines.specs.Command.{command_of, kind_of, argument_of}
 use Rattle.rpki_lines.specs.Cover.{IsCoverAnswer}
 use Rattle.rpki_lines.specs.Der.{IsDerAnswer}
 use Rattle.rpki_lines.specs.Norm.{IsNormAnswer}
+use Rattle.rpki_lines.specs.Path.{IsPathAnswer}
 use Rattle.rpki_lines.specs.Read.{IsReadAnswer}
 
 -- the first word of a line is none of the commands
@@ -13,6 +14,7 @@ pub record IsUnknown (command : List ℕ) : Type 0 where
   pub no_der : command ≢ codes "der"
   pub no_read : command ≢ codes "read"
   pub no_cover : command ≢ codes "cover"
+  pub no_path : command ≢ codes "path"
 
 -- this text is answered to this line
 pub record IsAnswer (line text : List ℕ) : Type 0 where
@@ -21,4 +23,5 @@ pub record IsAnswer (line text : List ℕ) : Type 0 where
   pub der : IsUtf8 line → command_of line ≡ codes "der" → IsDerAnswer (kind_of line) (argument_of line) text
   pub read : IsUtf8 line → command_of line ≡ codes "read" → IsReadAnswer (kind_of line) (argument_of line) text
   pub cover : IsUtf8 line → command_of line ≡ codes "cover" → IsCoverAnswer (kind_of line) (argument_of line) text
+  pub path : IsUtf8 line → command_of line ≡ codes "path" → IsPathAnswer (kind_of line) (argument_of line) text
   pub unknown : IsUtf8 line → IsUnknown (command_of line) → text ≡ codes "error: unknown command"

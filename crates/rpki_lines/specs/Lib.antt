@@ -5,5 +5,6 @@ pub mod Der
 pub mod Hexadecimal
 pub mod Kinds
 pub mod Norm
+pub mod Path
 pub mod Read
 pub mod Shown

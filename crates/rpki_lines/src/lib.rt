@@ -10,14 +10,18 @@ mod cover;
 mod der;
 mod hexadecimal;
 mod kind;
+mod lists;
 mod norm;
+mod path;
 mod read;
 mod shown;
+mod steps;
 
 use command::cut_word;
 use cover::cover;
 use der::der;
 use norm::norm;
+use path::path;
 use read::read;
 use std::alloc::{AllocError, Allocator};
 
@@ -38,6 +42,7 @@ pub fn answer<A: Allocator + Copy>(alloc: A, line: &[u8]) -> Result<String<A>, A
         "der" => der(alloc, kind, argument),
         "read" => read(alloc, kind, argument),
         "cover" => cover(alloc, kind, argument),
+        "path" => path(alloc, kind, argument),
         _ => String::from_str(alloc, "error: unknown command"),
     }
 }

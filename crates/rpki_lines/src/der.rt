@@ -3,16 +3,14 @@ ghost use Rattle.std.specs.Prelude.{◌≡◌, IfOk, MatchResult};
 ghost use Rattle.std.specs.String.{string_bytes};
 ghost use Rattle.rpki_text.specs.Memory.{IfRefused};
 ghost use Rattle.rpki_as.specs.AsDer.{as_resources_octets};
-ghost use Rattle.rpki_ip.specs.declared.family.AddressFamily.TheVariants.{Ipv4, Ipv6};
 ghost use Rattle.rpki_ipres.specs.ListText.{HasBlocksFault};
 ghost use Rattle.rpki_lines.specs.Der.{HasIpResourcesFault, IsDerAnswer, IsDerAs, IsDerIp, IsIpResourcesText, IsListed, family_octets, octets_text};
 
 use crate::hexadecimal::hexadecimal_of;
 use crate::kind::{Kind, kind_named};
+use crate::lists::ip_set;
 use rpki_as::resources::AsResources;
 use rpki_base::memory::OrMemory;
-use rpki_family::v4::Ipv4Blocks;
-use rpki_family::v6::Ipv6Blocks;
 use rpki_ip::error::FromStrError;
 use rpki_ip::family::AddressFamily;
 use rpki_ipres::resources::IpResources;
@@ -86,32 +84,19 @@ fn ip_resources<A: Allocator + Copy>(
     if list == "inherit" {
         return Ok(IpResources::inherit());
     }
-    match family {
-        AddressFamily::Ipv4 => listed_v4(alloc, list),
-        AddressFamily::Ipv6 => listed_v6(alloc, list),
-    }
+    listed(alloc, family, list)
 }
 
-/// The resources that a list of IPv4 blocks writes.
-fn listed_v4<A: Allocator + Copy>(
+/// The resources that a list of blocks of a family writes.
+fn listed<A: Allocator + Copy>(
     alloc: A,
+    family: AddressFamily,
     list: &str,
 ) -> Result<IpResources<A>, OrMemory<FromStrError>>
-    ensures { MatchResult result (IsListed Ipv4 list.now) (IfRefused (HasBlocksFault Ipv4 list.now)) }
+    ensures { MatchResult result (IsListed family list.now) (IfRefused (HasBlocksFault family list.now)) }
 {
-    let set = Ipv4Blocks::from_str(alloc, list)?;
-    Ok(set.to_ip_resources()?)
-}
-
-/// The resources that a list of IPv6 blocks writes.
-fn listed_v6<A: Allocator + Copy>(
-    alloc: A,
-    list: &str,
-) -> Result<IpResources<A>, OrMemory<FromStrError>>
-    ensures { MatchResult result (IsListed Ipv6 list.now) (IfRefused (HasBlocksFault Ipv6 list.now)) }
-{
-    let set = Ipv6Blocks::from_str(alloc, list)?;
-    Ok(set.to_ip_resources()?)
+    let set = ip_set(alloc, family, list)?;
+    Ok(IpResources::blocks(set))
 }
 
 /// The octets of a list of families that has resources of this family alone.

@@ -1,14 +1,13 @@
 // Sets of AS numbers.
 ghost use Rattle.std.specs.Prelude.{◌≡◌, IfOk};
 
-use crate::checks::{holds, holds_where_refused};
-use probing::prints;
-use refusing::Refusing;
+use crate::checks::holds;
+use rpki_as::block::AsBlock;
 use rpki_as::blocks::AsBlocks;
 use rpki_base::asn::Asn;
 use rpki_base::memory::OrMemory;
-use std::alloc::{AllocError, Allocator};
-use std::test::Fail;
+use rpki_chain::block::Block;
+use std::alloc::{AllocError, Allocator, Global};
 
 /// A set as it is read again from what is printed of it: the same set. `AllocError` where there is no memory for it.
 pub fn printed_and_read<A: Allocator + Copy>(
@@ -26,73 +25,91 @@ pub fn printed_and_read<A: Allocator + Copy>(
     }
 }
 
-#[test]
-fn sets_are_printed_and_read(rt: HostRuntime) -> Result<(), Fail> {
-    let set = AsBlocks::from_str(rt.alloc(), "aS5, 3, +4,AS4294967295,, AS7-AS7")?;
-    holds(&rt, printed_and_read(rt.alloc(), &set)? == set);
-    Ok(())
+/// The block of the numbers from the lesser to the greater.
+fn block(one: u32, other: u32) -> AsBlock {
+    <AsBlock as Block>::new(Asn::from_u32(one.min(other)), Asn::from_u32(one.max(other)))
 }
 
-#[test]
-fn sets_give_their_numbers_to_the_last(rt: HostRuntime) -> Result<(), Fail> {
-    let set = AsBlocks::from_str(rt.alloc(), "AS1, AS3-AS5, AS4294967295")?;
-    let mut numbers = set.iter_asns();
-    for want in &[1, 3, 4, 5, 4294967295] {
-        assert!(rt; numbers.next() == Some(Asn::from_u32(*want)), "{want}");
+/// The set of the numbers 1, 3 to 5 and 4294967295.
+fn five(alloc: Global) -> Result<AsBlocks, AllocError> {
+    AsBlocks::from_blocks(
+        alloc,
+        &[block(3, 5), block(4294967295, 4294967295), block(1, 1)],
+    )
+}
+
+fn copy_is_same(set: &AsBlocks) -> bool {
+    match set.clone() {
+        Ok(copy) => copy == *set,
+        Err(_) => false,
     }
-    holds(&rt, numbers.next() == None);
-    holds(&rt, numbers.next() == None);
-    Ok(())
+}
+
+fn is_printed_and_read(alloc: Global, set: &AsBlocks) -> bool {
+    match printed_and_read(alloc, set) {
+        Ok(read) => read == *set,
+        Err(_) => false,
+    }
+}
+
+/// Whether a set of five numbers gives five, and then none.
+fn gives_five(set: &AsBlocks) -> bool {
+    let mut numbers = set.iter_asns();
+    for _ in 0..5 {
+        if numbers.next() == None {
+            return false;
+        }
+    }
+    numbers.next() == None && numbers.next() == None
+}
+
+fn is_five(alloc: Global, set: &AsBlocks) -> bool {
+    let has_blocks = set.iter().count() == 3 && !set.is_empty();
+    has_blocks && gives_five(set) && is_printed_and_read(alloc, set)
+}
+
+fn five_is_right(alloc: Global) -> bool {
+    match five(alloc) {
+        Ok(set) => is_five(alloc, &set),
+        Err(_) => false,
+    }
+}
+
+/// Whether a set has all numbers.
+fn is_whole(all: &AsBlocks) -> bool {
+    let empty = AsBlocks::empty();
+    all.asn_count() == 4294967296 && *all != empty && all.contains(&empty) && !empty.contains(all)
+}
+
+fn whole_is_right(alloc: Global) -> bool {
+    match AsBlocks::all(alloc) {
+        Ok(all) => is_whole(&all) && copy_is_same(&all),
+        Err(_) => false,
+    }
+}
+
+fn is_none(set: &AsBlocks) -> bool {
+    set.is_empty() && set.asn_count() == 0 && set.iter_asns().next() == None
+}
+
+fn empty_is_right() -> bool {
+    let empty = AsBlocks::empty();
+    is_none(&empty) && is_none(&AsBlocks::default()) && copy_is_same(&empty)
 }
 
 #[test]
-fn sets_show_their_blocks(rt: HostRuntime) -> Result<(), Fail> {
-    let set = AsBlocks::from_str(rt.alloc(), "AS1, AS3-AS5, AS4294967295")?;
-    holds(&rt, set.iter().count() == 3);
-    holds(&rt, !set.is_empty());
-    Ok(())
-}
-
-#[test]
-fn the_whole_set(rt: HostRuntime) -> Result<(), Fail> {
-    let all = AsBlocks::all(rt.alloc())?;
-    holds(&rt, all.asn_count() == 4294967296);
-    holds(&rt, all.clone()? == all);
-    Ok(())
-}
-
-#[test]
-fn the_empty_set(rt: HostRuntime) {
-    let empty: AsBlocks = AsBlocks::empty();
-    holds(&rt, empty.is_empty());
-    holds(&rt, empty.asn_count() == 0);
-    holds(&rt, empty.iter_asns().next() == None);
-    holds(&rt, empty == AsBlocks::default());
-}
-
-#[test]
-fn the_whole_set_contains_the_empty_one(rt: HostRuntime) -> Result<(), Fail> {
-    let all = AsBlocks::all(rt.alloc())?;
-    let empty: AsBlocks = AsBlocks::empty();
-    holds(&rt, empty != all);
-    holds(&rt, all.contains(&empty));
-    holds(&rt, !empty.contains(&all));
-    Ok(())
+fn sets_of_as_numbers(rt: HostRuntime) {
+    holds(&rt, five_is_right(rt.alloc()));
+    holds(&rt, whole_is_right(rt.alloc()));
+    holds(&rt, empty_is_right());
 }
 
 // ---- operands stay as they were, whether or not the operation was refused memory
 
-const OWN: &str = "AS1-AS9, AS20-AS30";
-
-const OTHER: &str = "AS5-AS22, AS40";
-
-// An operation, and what is printed of what it gives.
-const OPERATIONS: [(u32, &str); 4] = [
-    (0, "AS1-AS30, AS40"),
-    (1, "AS5-AS9, AS20-AS22"),
-    (2, "AS1-AS4, AS23-AS30"),
-    (3, OWN),
-];
+/// The blocks of two sets.
+fn operands() -> ([AsBlock; 2], [AsBlock; 2]) {
+    ([block(1, 9), block(20, 30)], [block(5, 22), block(40, 40)])
+}
 
 fn gives<A: Allocator + Copy>(
     alloc: A,
@@ -108,74 +125,27 @@ fn gives<A: Allocator + Copy>(
     }
 }
 
-fn gives_so<A: Allocator + Copy>(
-    alloc: A,
-    operation: u32,
-    own: &AsBlocks<A>,
-    other: &AsBlocks<A>,
-    text: &str,
-) -> Result<bool, AllocError> {
-    let set = gives(alloc, operation, own, other)?;
-    prints(alloc, &set, text)
+fn are_operands<A: Allocator>(own: &AsBlocks<A>, other: &AsBlocks<A>) -> bool {
+    let (ours, others) = operands();
+    own.iter().as_slice() == ours.as_slice() && other.iter().as_slice() == others.as_slice()
 }
 
-fn set<A: Allocator + Copy>(alloc: A, list: &str) -> Result<AsBlocks<A>, AllocError> {
-    match AsBlocks::from_str(alloc, list) {
-        Ok(set) => Ok(set),
-        Err(_) => Err(AllocError),
-    }
-}
-
-fn are_operands<A: Allocator + Copy>(
-    alloc: A,
-    own: &AsBlocks<A>,
-    other: &AsBlocks<A>,
-) -> Result<bool, AllocError> {
-    Ok(prints(alloc, own, OWN)? && prints(alloc, other, OTHER)?)
-}
-
-/// Whether an operation gives what it should and leaves both sets, whatever comes of it.
 fn leaves<A: Allocator + Copy>(
     alloc: A,
     operation: u32,
     own: &AsBlocks<A>,
     other: &AsBlocks<A>,
-    text: &str,
 ) -> Result<bool, AllocError> {
-    let gives = gives_so(alloc, operation, own, other, text);
-    if are_operands(alloc, own, other)? {
-        gives
-    } else {
-        Ok(false)
+    match gives(alloc, operation, own, other) {
+        Err(error) if are_operands(own, other) => Err(error),
+        made => Ok(made.is_ok() && are_operands(own, other)),
     }
 }
 
-fn leaves_other<A: Allocator + Copy>(
-    alloc: A,
-    operation: u32,
-    own: &AsBlocks<A>,
-    text: &str,
-) -> Result<bool, AllocError> {
-    let other = set(alloc, OTHER)?;
-    leaves(alloc, operation, own, &other, text)
-}
-
-fn leaves_operands<A: Allocator + Copy>(
-    alloc: A,
-    operation: u32,
-    text: &str,
-) -> Result<bool, AllocError> {
-    let own = set(alloc, OWN)?;
-    leaves_other(alloc, operation, &own, text)
-}
-
-#[test]
-fn operands_stay_where_memory_is_refused(rt: HostRuntime) {
-    for (operation, text) in &OPERATIONS {
-        let is_so = holds_where_refused(
-            rt.alloc(),
-            |refusing: &Refusing| leaves_operands(refusing, *operation, text),
-        );
-        assert!(rt; is_so, "{text}");
-    }
+/// Whether an operation leaves both sets, whatever comes of it.
+pub fn leaves_operands<A: Allocator + Copy>(alloc: A, operation: u32) -> Result<bool, AllocError> {
+    let (ours, others) = operands();
+    let own = AsBlocks::from_blocks(alloc, &ours)?;
+    let other = AsBlocks::from_blocks(alloc, &others)?;
+    leaves(alloc, operation, &own, &other)
 }

@@ -7,10 +7,9 @@ use rpki_chain::block::Block;
 use rpki_chain::chain::Chain;
 use rpki_chain::owned::OwnedChain;
 use rpki_chain::shared::SharedChain;
+use rpki_ip::addr::Addr;
 use rpki_ip::range::AddressRange;
 use std::alloc::{AllocError, Allocator, Global};
-use std::str::FromStr;
-use std::test::Fail;
 
 /// The block with these bounds.
 fn block(one: u32, other: u32) -> AsBlock {
@@ -22,33 +21,14 @@ fn chain<A: Allocator + Copy>(alloc: A) -> Result<OwnedChain<AsBlock, A>, AllocE
     OwnedChain::from_blocks(alloc, &[block(23, 48), block(1, 2), block(3, 4)])
 }
 
+/// Whether a chain is that one.
 fn is_chain(chain: Chain<'_, AsBlock>) -> bool {
-    chain.as_slice() == [block(1, 4), block(23, 48)].as_slice()
+    let is_listed = chain.as_slice() == [block(1, 4), block(23, 48)].as_slice();
+    is_listed && chain.len() == 2 && chain.iter().count() == 2
 }
 
-#[test]
-fn chains_show_their_blocks(rt: HostRuntime) -> Result<(), Fail> {
-    let owned = chain(rt.alloc())?;
-    let view = owned.as_chain();
-    holds(&rt, view.len() == 2);
-    holds(&rt, !view.is_empty());
-    holds(&rt, view.iter().count() == 2);
-    holds(&rt, is_chain(view));
-    Ok(())
-}
-
-#[test]
-fn the_empty_chain(rt: HostRuntime) {
-    let empty: OwnedChain<AsBlock> = OwnedChain::empty();
-    holds(&rt, empty.as_chain().is_empty());
-    holds(&rt, empty.as_chain().len() == 0);
-    holds(&rt, empty.as_chain() == Chain::empty());
-}
-
-#[test]
-fn the_empty_shared_chain(rt: HostRuntime) {
-    let empty: SharedChain<AsBlock> = SharedChain::empty();
-    holds(&rt, empty.as_chain().is_empty());
+fn is_none(chain: Chain<'_, AsBlock>) -> bool {
+    chain.is_empty() && chain.len() == 0 && chain == Chain::empty()
 }
 
 fn copy_is_same(alloc: Global, owned: &OwnedChain<AsBlock>) -> Result<bool, AllocError> {
@@ -56,29 +36,15 @@ fn copy_is_same(alloc: Global, owned: &OwnedChain<AsBlock>) -> Result<bool, Allo
     Ok(copy == *owned && copy.as_chain() == owned.as_chain())
 }
 
-#[test]
-fn chains_are_copied(rt: HostRuntime) -> Result<(), Fail> {
-    let owned = chain(rt.alloc())?;
-    holds(&rt, copy_is_same(rt.alloc(), &owned) == Ok(true));
-    holds(&rt, owned.as_chain() != Chain::empty());
-    Ok(())
-}
-
-fn shared(alloc: Global) -> Result<SharedChain<AsBlock>, AllocError> {
-    SharedChain::from_owned(alloc, chain(alloc)?)
+fn owned_is_right(alloc: Global) -> Result<bool, AllocError> {
+    let owned = chain(alloc)?;
+    let is_told = is_chain(owned.as_chain());
+    Ok(is_told && copy_is_same(alloc, &owned) == Ok(true))
 }
 
 fn is_shared<A: Allocator>(shared: &SharedChain<AsBlock, A>) -> Result<bool, AllocError> {
     let other = shared.clone()?;
     Ok(*shared == other)
-}
-
-#[test]
-fn chains_are_shared(rt: HostRuntime) -> Result<(), Fail> {
-    let shared = shared(rt.alloc())?;
-    holds(&rt, is_shared(&shared) == Ok(true));
-    holds(&rt, is_chain(shared.as_chain()));
-    Ok(())
 }
 
 /// Whether the chain of other blocks differs from a shared one.
@@ -87,79 +53,71 @@ fn differs(alloc: Global, shared: &SharedChain<AsBlock>) -> Result<bool, AllocEr
     Ok(joined != *shared && joined.as_chain().as_slice() == [block(1, 8)].as_slice())
 }
 
-#[test]
-fn shared_chains_differ(rt: HostRuntime) -> Result<(), Fail> {
-    let shared = shared(rt.alloc())?;
-    holds(&rt, differs(rt.alloc(), &shared) == Ok(true));
-    Ok(())
+fn shared_is_right(alloc: Global) -> Result<bool, AllocError> {
+    let shared = SharedChain::from_owned(alloc, chain(alloc)?)?;
+    let is_told = is_chain(shared.as_chain());
+    Ok(is_told && is_shared(&shared) == Ok(true) && differs(alloc, &shared) == Ok(true))
 }
 
-#[test]
-fn vectors_that_are_chains(rt: HostRuntime) {
-    let none: Vec<AsBlock> = Vec::new(rt.alloc());
-    let none = OwnedChain::from_vec_unchecked(none);
-    holds(&rt, none.as_chain().is_empty());
-}
-
-#[test]
-fn a_vector_of_one_block(rt: HostRuntime) -> Result<(), Fail> {
-    let mut one = Vec::new(rt.alloc());
-    one.push(AsBlock::Id(Asn::from_u32(7)))?;
+/// Whether the vector of one block is its chain.
+fn one_is_kept(alloc: Global) -> Result<bool, AllocError> {
+    let one = Vec::from_array(alloc, [AsBlock::Id(Asn::from_u32(7))])?;
     let one = OwnedChain::from_vec_unchecked(one);
-    holds(&rt, one.as_chain().as_slice() == [block(7, 7)].as_slice());
-    Ok(())
+    Ok(one.as_chain().as_slice() == [block(7, 7)].as_slice())
 }
 
-fn is_joined(
-    alloc: Global,
-    ranges: &[AddressRange],
-    all: AddressRange,
-) -> Result<bool, AllocError> {
-    let chain = OwnedChain::from_blocks(alloc, ranges)?;
-    Ok(chain.as_chain().as_slice() == [all].as_slice())
+fn none_is_kept(alloc: Global) -> bool {
+    let none: OwnedChain<AsBlock> = OwnedChain::from_vec_unchecked(Vec::new(alloc));
+    none.as_chain().is_empty()
+}
+
+fn empty_is_none() -> bool {
+    let owned: OwnedChain<AsBlock> = OwnedChain::empty();
+    let shared: SharedChain<AsBlock> = SharedChain::empty();
+    is_none(owned.as_chain()) && is_none(shared.as_chain())
+}
+
+/// The range of the addresses from the lesser to the greater.
+fn range(one: u128, other: u128) -> AddressRange {
+    let (min, max) = (one.min(other), one.max(other));
+    <AddressRange as Block>::new(Addr::from_bits(min), Addr::from_bits(max))
+}
+
+fn ranges_are_joined(alloc: Global) -> Result<bool, AllocError> {
+    let ranges = [range(5, u128::MAX), range(1, 2), range(0, 4)];
+    let chain = OwnedChain::from_blocks(alloc, &ranges)?;
+    Ok(chain.as_chain().as_slice() == [range(0, u128::MAX)].as_slice())
 }
 
 #[test]
-fn chains_of_ranges_of_addresses(rt: HostRuntime) -> Result<(), Fail> {
-    let high = AddressRange::from_str("::5-ffff:ffff:ffff:ffff:ffff:ffff:ffff:ffff")?;
-    let (low, inside) = (
-        AddressRange::from_str("::-::4")?,
-        AddressRange::from_str("::1-::2")?,
-    );
-    let all = AddressRange::from_str("::-ffff:ffff:ffff:ffff:ffff:ffff:ffff:ffff")?;
-    holds(
-        &rt,
-        is_joined(rt.alloc(), &[high, inside, low], all) == Ok(true),
-    );
-    Ok(())
+fn chains(rt: HostRuntime) {
+    holds(&rt, empty_is_none());
+    holds(&rt, none_is_kept(rt.alloc()));
+    holds(&rt, one_is_kept(rt.alloc()) == Ok(true));
+    holds(&rt, owned_is_right(rt.alloc()) == Ok(true));
+    holds(&rt, shared_is_right(rt.alloc()) == Ok(true));
+    holds(&rt, ranges_are_joined(rt.alloc()) == Ok(true));
 }
 
 // ---- calls that take no memory
 
+/// Whether a chain lies in another, by both calls.
 fn is_trimmed(refusing: &Refusing, own: Chain<'_, AsBlock>, other: Chain<'_, AsBlock>) -> bool {
     own.trim(refusing, other).is_ok() && own.is_encompassed(other)
 }
 
-/// Whether a chain lies in the chain of the numbers 0 to 17 and 19 to 50, by both calls.
-fn lies_within(
-    alloc: Global,
-    refusing: &Refusing,
-    own: Chain<'_, AsBlock>,
-) -> Result<bool, AllocError> {
+/// Whether the chain lies in the chain of the numbers 0 to 17 and 19 to 50.
+fn lies_within(alloc: Global, refusing: &Refusing) -> Result<bool, AllocError> {
+    let own = chain(alloc)?;
     let other = OwnedChain::from_blocks(alloc, &[block(0, 17), block(19, 50)])?;
-    Ok(is_trimmed(refusing, own, other.as_chain()))
+    Ok(is_trimmed(refusing, own.as_chain(), other.as_chain()))
 }
 
 #[test]
-fn a_trim_that_is_ok_takes_no_memory(rt: HostRuntime) -> Result<(), Fail> {
+fn a_trim_that_is_ok_takes_no_memory(rt: HostRuntime) {
     let refusing = Refusing::new(rt.alloc(), Plan::RefuseAll);
-    let own = chain(rt.alloc())?;
-    holds(
-        &rt,
-        lies_within(rt.alloc(), &refusing, own.as_chain()) == Ok(true),
-    );
+    holds(&rt, lies_within(rt.alloc(), &refusing) == Ok(true));
     holds(&rt, refusing.asked() == 0);
-    Ok(())
 }
 
 /// Whether a chain is made of blocks with no request beyond the one for the blocks.
@@ -191,9 +149,7 @@ fn sharing_the_empty_chain_takes_no_memory(rt: HostRuntime) {
 #[test]
 fn a_refused_chain_asks_once(rt: HostRuntime) {
     let refusing = Refusing::new(rt.alloc(), Plan::RefuseAll);
-    holds(
-        &rt,
-        SharedChain::from_blocks(&refusing, &[block(1, 4)]).is_err(),
-    );
+    let shared = SharedChain::from_blocks(&refusing, &[block(1, 4)]);
+    holds(&rt, shared.is_err());
     holds(&rt, refusing.asked() == 1);
 }

@@ -1,194 +1,170 @@
 // Sets of addresses of one family.
-use crate::checks::{holds, holds_where_refused};
+use crate::checks::holds;
 use probing::prints;
-use refusing::Refusing;
 use rpki_family::v4::{Ipv4Block, Ipv4Blocks};
 use rpki_family::v6::{Ipv6Block, Ipv6Blocks};
 use rpki_ipres::blocks::IpBlocks;
 use std::alloc::{AllocError, Allocator, Global};
 use std::str::FromStr;
-use std::test::Fail;
+
+// ---- IPv4
 
 fn v4_copy_is_same<A: Allocator + Copy>(set: &Ipv4Blocks<A>) -> Result<bool, AllocError> {
     let copy = set.clone()?;
     Ok(copy == *set)
 }
 
-/// Whether a set is the default one, which is the empty one.
 fn is_default_v4_set(set: &Ipv4Blocks) -> bool {
-    let default = Ipv4Blocks::default();
-    *set == default && default.ip_blocks().is_empty()
+    *set == Ipv4Blocks::default()
 }
 
-fn is_empty_v4_set(alloc: Global, set: &Ipv4Blocks) -> Result<bool, AllocError> {
-    Ok(set.ip_blocks().is_empty() && prints(alloc, set, "")?)
+fn is_empty_v4_set(alloc: Global, set: &Ipv4Blocks) -> bool {
+    set.ip_blocks().is_empty()
+        && is_default_v4_set(set)
+        && v4_copy_is_same(set) == Ok(true)
+        && prints(alloc, set, "") == Ok(true)
 }
 
-#[test]
-fn the_empty_set_of_ipv4(rt: HostRuntime) {
-    let empty: Ipv4Blocks = Ipv4Blocks::empty();
-    holds(&rt, is_empty_v4_set(rt.alloc(), &empty) == Ok(true));
-    holds(&rt, v4_copy_is_same(&empty) == Ok(true));
-    holds(&rt, is_default_v4_set(&empty));
-}
-
-#[test]
-fn the_whole_set_of_ipv4(rt: HostRuntime) -> Result<(), Fail> {
-    let all = Ipv4Blocks::all(rt.alloc())?;
-    holds(&rt, prints(rt.alloc(), &all, "0.0.0.0/0") == Ok(true));
-    holds(&rt, !is_default_v4_set(&all));
-    Ok(())
-}
-
-fn v6_copy_is_same<A: Allocator + Copy>(set: &Ipv6Blocks<A>) -> Result<bool, AllocError> {
-    let copy = set.clone()?;
-    Ok(copy == *set)
-}
-
-/// Whether a set is the default one, which is the empty one.
-fn is_default_v6_set(set: &Ipv6Blocks) -> bool {
-    let default = Ipv6Blocks::default();
-    *set == default && default.ip_blocks().is_empty()
-}
-
-fn is_empty_v6_set(alloc: Global, set: &Ipv6Blocks) -> Result<bool, AllocError> {
-    Ok(set.ip_blocks().is_empty() && prints(alloc, set, "")?)
-}
-
-#[test]
-fn the_empty_set_of_ipv6(rt: HostRuntime) {
-    let empty: Ipv6Blocks = Ipv6Blocks::empty();
-    holds(&rt, is_empty_v6_set(rt.alloc(), &empty) == Ok(true));
-    holds(&rt, v6_copy_is_same(&empty) == Ok(true));
-    holds(&rt, is_default_v6_set(&empty));
-}
-
-#[test]
-fn the_whole_set_of_ipv6(rt: HostRuntime) -> Result<(), Fail> {
-    let all = Ipv6Blocks::all(rt.alloc())?;
-    holds(&rt, prints(rt.alloc(), &all, "::/0") == Ok(true));
-    holds(&rt, !is_default_v6_set(&all));
-    Ok(())
-}
-
-// A line feed is white space too.
-#[test]
-fn a_list_with_a_line_feed(rt: HostRuntime) -> Result<(), Fail> {
-    holds(
-        &rt,
-        Ipv6Blocks::from_str(rt.alloc(), "\n,")?
-            .ip_blocks()
-            .is_empty(),
-    );
-    Ok(())
-}
-
-fn v4_set_prints(alloc: Global, list: &str, text: &str) -> Result<bool, Fail> {
-    let blocks = IpBlocks::from_str(alloc, list)?;
-    if !blocks.is_whole_v4() {
-        return Ok(false);
+fn all_of_v4_is_right(alloc: Global) -> bool {
+    match Ipv4Blocks::all(alloc) {
+        Ok(all) => !is_default_v4_set(&all) && prints(alloc, &all, "0.0.0.0/0") == Ok(true),
+        Err(_) => false,
     }
-    let set = Ipv4Blocks::from_ip_blocks(blocks);
-    Ok(prints(alloc, &set, text)?)
 }
 
-fn v6_set_prints(alloc: Global, list: &str, text: &str) -> Result<bool, Fail> {
-    let set = Ipv6Blocks::from_ip_blocks(IpBlocks::from_str(alloc, list)?);
-    Ok(prints(alloc, &set, text)?)
+fn v4_set_prints(alloc: Global, blocks: IpBlocks, text: &str) -> bool {
+    if !blocks.is_whole_v4() {
+        return false;
+    }
+    prints(alloc, &Ipv4Blocks::from_ip_blocks(blocks), text) == Ok(true)
+}
+
+fn list_prints_as_v4(alloc: Global, list: &str, text: &str) -> bool {
+    match IpBlocks::from_str(alloc, list) {
+        Ok(blocks) => v4_set_prints(alloc, blocks, text),
+        Err(_) => false,
+    }
 }
 
 #[test]
-fn sets_of_one_family_of_sets_of_addresses(rt: HostRuntime) -> Result<(), Fail> {
+fn sets_of_ipv4(rt: HostRuntime) {
+    holds(&rt, is_empty_v4_set(rt.alloc(), &Ipv4Blocks::empty()));
+    holds(&rt, all_of_v4_is_right(rt.alloc()));
+    let text = "10.0.0.0/8, 12.0.0.0";
     holds(
         &rt,
-        v4_set_prints(rt.alloc(), "a00::/8, c00::/32", "10.0.0.0/8, 12.0.0.0")?,
+        list_prints_as_v4(rt.alloc(), "a00::/8, c00::/32", text),
     );
-    holds(
-        &rt,
-        v6_set_prints(rt.alloc(), "10.0.0.0/8, 12.0.0.0", "a00::/8, c00::/32")?,
-    );
-    Ok(())
 }
 
 fn v4_block(text: &str) -> Ipv4Block {
     Ipv4Block::from_str(text).unwrap_or(Ipv4Block::all())
 }
 
+fn three_v4_blocks() -> [Ipv4Block; 3] {
+    [
+        v4_block("10.0.1.0/24"),
+        v4_block("9.0.0.0"),
+        v4_block("10.0.0.0/24"),
+    ]
+}
+
+pub fn makes_v4_set<A: Allocator + Copy>(alloc: A) -> Result<bool, AllocError> {
+    let set = Ipv4Blocks::from_blocks(alloc, &three_v4_blocks())?;
+    prints(alloc, &set, "9.0.0.0, 10.0.0.0/23")
+}
+
+/// Whether the copy of a set is the same; the set stands, whatever comes of the copy.
+fn v4_set_is_copied<A: Allocator + Copy>(all: &Ipv4Blocks<A>) -> Result<bool, AllocError> {
+    let is_same = v4_copy_is_same(all);
+    if all.contains_block(Ipv4Block::all()) {
+        is_same
+    } else {
+        Ok(false)
+    }
+}
+
+pub fn copies_v4_set<A: Allocator + Copy>(alloc: A) -> Result<bool, AllocError> {
+    let all = Ipv4Blocks::all(alloc)?;
+    v4_set_is_copied(&all)
+}
+
+// ---- IPv6
+
+fn v6_copy_is_same<A: Allocator + Copy>(set: &Ipv6Blocks<A>) -> Result<bool, AllocError> {
+    let copy = set.clone()?;
+    Ok(copy == *set)
+}
+
+fn is_default_v6_set(set: &Ipv6Blocks) -> bool {
+    *set == Ipv6Blocks::default()
+}
+
+fn is_empty_v6_set(alloc: Global, set: &Ipv6Blocks) -> bool {
+    set.ip_blocks().is_empty()
+        && is_default_v6_set(set)
+        && v6_copy_is_same(set) == Ok(true)
+        && prints(alloc, set, "") == Ok(true)
+}
+
+fn all_of_v6_is_right(alloc: Global) -> bool {
+    match Ipv6Blocks::all(alloc) {
+        Ok(all) => !is_default_v6_set(&all) && prints(alloc, &all, "::/0") == Ok(true),
+        Err(_) => false,
+    }
+}
+
+// A line feed is white space too.
+fn line_feed_is_read(alloc: Global) -> bool {
+    match Ipv6Blocks::from_str(alloc, "\n,") {
+        Ok(set) => set.ip_blocks().is_empty(),
+        Err(_) => false,
+    }
+}
+
+fn list_prints_as_v6(alloc: Global, list: &str, text: &str) -> bool {
+    match IpBlocks::from_str(alloc, list) {
+        Ok(blocks) => prints(alloc, &Ipv6Blocks::from_ip_blocks(blocks), text) == Ok(true),
+        Err(_) => false,
+    }
+}
+
+#[test]
+fn sets_of_ipv6(rt: HostRuntime) {
+    holds(&rt, is_empty_v6_set(rt.alloc(), &Ipv6Blocks::empty()));
+    holds(&rt, all_of_v6_is_right(rt.alloc()));
+    holds(&rt, line_feed_is_read(rt.alloc()));
+    let text = "a00::/8, c00::/32";
+    holds(
+        &rt,
+        list_prints_as_v6(rt.alloc(), "10.0.0.0/8, 12.0.0.0", text),
+    );
+}
+
 fn v6_block(text: &str) -> Ipv6Block {
     Ipv6Block::from_str(text).unwrap_or(Ipv6Block::all())
 }
 
-fn makes_v4_set<A: Allocator + Copy>(alloc: A) -> Result<bool, AllocError> {
-    let blocks = [
-        v4_block("10.0.1.0/24"),
-        v4_block("9.0.0.0"),
-        v4_block("10.0.0.0/24"),
-    ];
-    let set = Ipv4Blocks::from_blocks(alloc, &blocks)?;
-    Ok(set.ip_blocks().is_whole_v4() && prints(alloc, &set, "9.0.0.0, 10.0.0.0/23")?)
+fn three_v6_blocks() -> [Ipv6Block; 3] {
+    [v6_block("::6/127"), v6_block("::1"), v6_block("::4-::5")]
 }
 
-fn makes_v6_set<A: Allocator + Copy>(alloc: A) -> Result<bool, AllocError> {
-    let blocks = [v6_block("::6/127"), v6_block("::1"), v6_block("::4-::5")];
-    let set = Ipv6Blocks::from_blocks(alloc, &blocks)?;
+pub fn makes_v6_set<A: Allocator + Copy>(alloc: A) -> Result<bool, AllocError> {
+    let set = Ipv6Blocks::from_blocks(alloc, &three_v6_blocks())?;
     prints(alloc, &set, "::1, ::4/126")
 }
 
-#[test]
-fn sets_are_made_of_blocks_where_memory_is_refused(rt: HostRuntime) {
-    holds(
-        &rt,
-        holds_where_refused(rt.alloc(), |refusing: &Refusing| makes_v4_set(refusing)),
-    );
-    holds(
-        &rt,
-        holds_where_refused(rt.alloc(), |refusing: &Refusing| makes_v6_set(refusing)),
-    );
-}
-
 /// Whether the copy of a set is the same; the set stands, whatever comes of the copy.
-fn v4_set_is_copied<A: Allocator + Copy>(
-    alloc: A,
-    set: &Ipv4Blocks<A>,
-) -> Result<bool, AllocError> {
-    let is_same = v4_copy_is_same(set);
-    if prints(alloc, set, "0.0.0.0/0")? {
+fn v6_set_is_copied<A: Allocator + Copy>(all: &Ipv6Blocks<A>) -> Result<bool, AllocError> {
+    let is_same = v6_copy_is_same(all);
+    if all.contains_block(Ipv6Block::all()) {
         is_same
     } else {
         Ok(false)
     }
 }
 
-fn copies_v4_set<A: Allocator + Copy>(alloc: A) -> Result<bool, AllocError> {
-    let all = Ipv4Blocks::all(alloc)?;
-    v4_set_is_copied(alloc, &all)
-}
-
-fn v6_set_is_copied<A: Allocator + Copy>(
-    alloc: A,
-    set: &Ipv6Blocks<A>,
-) -> Result<bool, AllocError> {
-    let is_same = v6_copy_is_same(set);
-    if prints(alloc, set, "::/0")? {
-        is_same
-    } else {
-        Ok(false)
-    }
-}
-
-fn copies_v6_set<A: Allocator + Copy>(alloc: A) -> Result<bool, AllocError> {
+pub fn copies_v6_set<A: Allocator + Copy>(alloc: A) -> Result<bool, AllocError> {
     let all = Ipv6Blocks::all(alloc)?;
-    v6_set_is_copied(alloc, &all)
-}
-
-#[test]
-fn sets_are_copied_where_memory_is_refused(rt: HostRuntime) {
-    holds(
-        &rt,
-        holds_where_refused(rt.alloc(), |refusing: &Refusing| copies_v4_set(refusing)),
-    );
-    holds(
-        &rt,
-        holds_where_refused(rt.alloc(), |refusing: &Refusing| copies_v6_set(refusing)),
-    );
+    v6_set_is_copied(&all)
 }

@@ -1,90 +1,85 @@
 // Sets of addresses of either family.
-use crate::checks::{holds, holds_where_refused};
+use crate::checks::holds;
 use probing::prints;
-use refusing::Refusing;
+use rpki_chain::block::Block;
 use rpki_ip::addr::Addr;
+use rpki_ip::error::FromStrError;
 use rpki_ip::range::AddressRange;
 use rpki_ipres::block::IpBlock;
 use rpki_ipres::blocks::IpBlocks;
 use rpki_ipres::family::IpBlocksForFamily;
 use std::alloc::{AllocError, Allocator, Global};
 use std::str::FromStr;
-use std::test::Fail;
 
-#[test]
-fn the_set_of_all_addresses(rt: HostRuntime) -> Result<(), Fail> {
-    let all = IpBlocks::all(rt.alloc())?;
-    holds(&rt, !all.is_empty());
-    holds(&rt, all.is_whole_v4());
-    holds(&rt, all.clone()? == all);
-    Ok(())
-}
-
-#[test]
-fn the_set_of_all_addresses_is_printed(rt: HostRuntime) -> Result<(), Fail> {
-    let all = IpBlocks::all(rt.alloc())?;
-    holds(&rt, prints(rt.alloc(), &all.as_v4(), "0.0.0.0/0")?);
-    holds(&rt, prints(rt.alloc(), &all.as_v6(), "::/0")?);
-    Ok(())
-}
-
-#[test]
-fn the_empty_set(rt: HostRuntime) -> Result<(), Fail> {
-    let empty: IpBlocks = IpBlocks::empty();
-    holds(&rt, empty.is_empty());
-    holds(&rt, empty.is_whole_v4());
-    holds(&rt, empty == IpBlocks::default());
-    holds(&rt, empty.clone()? == empty);
-    Ok(())
-}
-
-#[test]
-fn the_empty_set_has_no_blocks(rt: HostRuntime) -> Result<(), Fail> {
-    let empty: IpBlocks = IpBlocks::empty();
-    holds(&rt, prints(rt.alloc(), &empty.as_v4(), "")?);
-    holds(&rt, prints(rt.alloc(), &empty.as_v6(), "")?);
-    holds(&rt, !empty.contains_block(IpBlock::all()));
-    holds(&rt, !empty.intersects_block(IpBlock::all()));
-    Ok(())
-}
-
-#[test]
-fn the_whole_set_contains_the_empty_one(rt: HostRuntime) -> Result<(), Fail> {
-    let all = IpBlocks::all(rt.alloc())?;
-    let empty = IpBlocks::empty();
-    holds(&rt, empty != all);
-    holds(&rt, all.contains(&empty));
-    holds(&rt, !empty.contains(&all));
-    Ok(())
-}
-
-#[test]
-fn blocks_of_a_set(rt: HostRuntime) -> Result<(), Fail> {
-    let set = IpBlocks::from_str(rt.alloc(), "::4-::7, ::9, ::1")?;
-    holds(&rt, set.iter().count() == 3);
-    let mut last = Addr::from_bits(0);
-    for block in set.iter() {
-        assert!(rt; last < IpBlock::min(block) && matches!(block, IpBlock::Prefix(_)));
-        last = IpBlock::max(block);
+fn copy_is_same(set: &IpBlocks) -> bool {
+    match set.clone() {
+        Ok(copy) => copy == *set,
+        Err(_) => false,
     }
-    holds(&rt, last == Addr::from_bits(9));
-    Ok(())
+}
+
+/// Whether a set has all addresses.
+fn is_whole(all: &IpBlocks) -> bool {
+    let empty = IpBlocks::empty();
+    !all.is_empty()
+        && all.is_whole_v4()
+        && *all != empty
+        && all.contains(&empty)
+        && !empty.contains(all)
+}
+
+fn whole_is_right(alloc: Global) -> bool {
+    match IpBlocks::all(alloc) {
+        Ok(all) => is_whole(&all) && copy_is_same(&all),
+        Err(_) => false,
+    }
+}
+
+fn is_none(set: &IpBlocks) -> bool {
+    let has_some = set.contains_block(IpBlock::all()) || set.intersects_block(IpBlock::all());
+    set.is_empty() && set.is_whole_v4() && !has_some
+}
+
+fn empty_is_right() -> bool {
+    let empty = IpBlocks::empty();
+    is_none(&empty) && is_none(&IpBlocks::default()) && copy_is_same(&empty)
+}
+
+/// The block of the addresses from the lesser to the greater.
+fn block(one: u128, other: u128) -> IpBlock {
+    let (min, max) = (one.min(other), one.max(other));
+    <IpBlock as Block>::new(Addr::from_bits(min), Addr::from_bits(max))
+}
+
+/// Whether each block of a set of three is a Prefix.
+fn are_prefixes(set: &IpBlocks) -> bool {
+    matches!(
+        set.iter().as_slice(),
+        [IpBlock::Prefix(_), IpBlock::Prefix(_), IpBlock::Prefix(_)]
+    )
+}
+
+fn is_shown(alloc: Global, set: &IpBlocks) -> bool {
+    prints(alloc, &IpBlocksForFamily::v6(set), "::1, ::4/126, ::9") == Ok(true)
+}
+
+fn is_shown_as_v4(alloc: Global, set: &IpBlocks) -> bool {
+    let text = "0.0.0.0/128, 0.0.0.0/126, 0.0.0.0/128";
+    prints(alloc, &IpBlocksForFamily::v4(set), text) == Ok(true)
+}
+
+fn three_are_right(alloc: Global) -> bool {
+    match IpBlocks::from_blocks(alloc, &[block(4, 7), block(9, 9), block(1, 1)]) {
+        Ok(set) => are_prefixes(&set) && is_shown(alloc, &set) && is_shown_as_v4(alloc, &set),
+        Err(_) => false,
+    }
 }
 
 #[test]
-fn sets_shown_as_those_of_a_family(rt: HostRuntime) -> Result<(), Fail> {
-    let set = IpBlocks::from_str(rt.alloc(), "::4-::7, ::9, ::1")?;
-    holds(
-        &rt,
-        prints(
-            rt.alloc(),
-            &IpBlocksForFamily::v6(&set),
-            "::1, ::4/126, ::9",
-        )?,
-    );
-    let text = "0.0.0.0/128, 0.0.0.0/126, 0.0.0.0/128";
-    holds(&rt, prints(rt.alloc(), &IpBlocksForFamily::v4(&set), text)?);
-    Ok(())
+fn sets_of_addresses(rt: HostRuntime) {
+    holds(&rt, three_are_right(rt.alloc()));
+    holds(&rt, whole_is_right(rt.alloc()));
+    holds(&rt, empty_is_right());
 }
 
 // A list, and whether its set is one of whole IPv4 addresses.
@@ -105,16 +100,19 @@ const WHOLE: [(&str, bool); 11] = [
     ("a00::/8, c00::/33", false),
 ];
 
-fn is_whole(alloc: Global, list: &str) -> Result<bool, Fail> {
-    Ok(IpBlocks::from_str(alloc, list)?.is_whole_v4())
+/// Whether a list's set is one of whole IPv4 addresses; None where the list is none.
+fn list_is_whole(alloc: Global, list: &str) -> Option<bool> {
+    match IpBlocks::from_str(alloc, list) {
+        Ok(set) => Some(set.is_whole_v4()),
+        Err(_) => None,
+    }
 }
 
 #[test]
-fn sets_of_whole_ipv4_addresses(rt: HostRuntime) -> Result<(), Fail> {
+fn sets_of_whole_ipv4_addresses(rt: HostRuntime) {
     for (list, whole) in &WHOLE {
-        assert!(rt; is_whole(rt.alloc(), list)? == *whole, "{list}");
+        holds(&rt, list_is_whole(rt.alloc(), list) == Some(*whole));
     }
-    Ok(())
 }
 
 // A block, and whether the set has each of its addresses.
@@ -131,33 +129,40 @@ const IN_SET: [(&str, bool); 10] = [
     ("9.255.255.255", false),
 ];
 
-fn has_range(set: &IpBlocks, text: &str) -> Result<bool, Fail> {
+fn range(text: &str) -> Result<AddressRange, FromStrError> {
     let block = IpBlock::from_str(text)?;
-    Ok(set.contains_roa(AddressRange::new(IpBlock::min(&block), IpBlock::max(&block))))
+    Ok(AddressRange::new(IpBlock::min(&block), IpBlock::max(&block)))
+}
+
+/// Whether a set has the ranges that it should.
+fn has_ranges(set: &IpBlocks) -> bool {
+    for (text, within) in &IN_SET {
+        match range(text) {
+            Ok(range) if set.contains_roa(range) == *within => {}
+            _ => return false,
+        }
+    }
+    true
+}
+
+fn set_has_ranges(alloc: Global) -> bool {
+    match IpBlocks::from_str(alloc, "10.0.0.0/16, 10.1.2.0-10.1.3.7, 192.168.0.0/16") {
+        Ok(set) => has_ranges(&set),
+        Err(_) => false,
+    }
 }
 
 #[test]
-fn ranges_in_a_set(rt: HostRuntime) -> Result<(), Fail> {
-    let set = IpBlocks::from_str(rt.alloc(), "10.0.0.0/16, 10.1.2.0-10.1.3.7, 192.168.0.0/16")?;
-    for (text, within) in &IN_SET {
-        assert!(rt; has_range(&set, text)? == *within, "{text}");
-    }
-    Ok(())
+fn ranges_in_a_set(rt: HostRuntime) {
+    holds(&rt, set_has_ranges(rt.alloc()));
 }
 
 // ---- operands stay as they were, whether or not the operation was refused memory
 
-const OWN: &str = "10.0.0.1-10.0.0.9, 10.0.0.20/30";
-
-const OTHER: &str = "10.0.0.5-10.0.0.21, 10.0.0.40";
-
-// An operation, and what is printed of what it gives.
-const OPERATIONS: [(u32, &str); 4] = [
-    (0, "10.0.0.1-10.0.0.23, 10.0.0.40"),
-    (1, "10.0.0.5-10.0.0.9, 10.0.0.20/31"),
-    (2, "10.0.0.1-10.0.0.4, 10.0.0.22/31"),
-    (3, OWN),
-];
+/// The blocks of two sets.
+fn operands() -> ([IpBlock; 2], [IpBlock; 2]) {
+    ([block(1, 9), block(20, 30)], [block(5, 22), block(40, 40)])
+}
 
 fn gives<A: Allocator + Copy>(
     alloc: A,
@@ -173,74 +178,27 @@ fn gives<A: Allocator + Copy>(
     }
 }
 
-fn gives_so<A: Allocator + Copy>(
-    alloc: A,
-    operation: u32,
-    own: &IpBlocks<A>,
-    other: &IpBlocks<A>,
-    text: &str,
-) -> Result<bool, AllocError> {
-    let set = gives(alloc, operation, own, other)?;
-    prints(alloc, &set.as_v4(), text)
+fn are_operands<A: Allocator>(own: &IpBlocks<A>, other: &IpBlocks<A>) -> bool {
+    let (ours, others) = operands();
+    own.iter().as_slice() == ours.as_slice() && other.iter().as_slice() == others.as_slice()
 }
 
-fn set<A: Allocator + Copy>(alloc: A, list: &str) -> Result<IpBlocks<A>, AllocError> {
-    match IpBlocks::from_str(alloc, list) {
-        Ok(set) => Ok(set),
-        Err(_) => Err(AllocError),
-    }
-}
-
-fn are_operands<A: Allocator + Copy>(
-    alloc: A,
-    own: &IpBlocks<A>,
-    other: &IpBlocks<A>,
-) -> Result<bool, AllocError> {
-    Ok(prints(alloc, &own.as_v4(), OWN)? && prints(alloc, &other.as_v4(), OTHER)?)
-}
-
-/// Whether an operation gives what it should and leaves both sets, whatever comes of it.
 fn leaves<A: Allocator + Copy>(
     alloc: A,
     operation: u32,
     own: &IpBlocks<A>,
     other: &IpBlocks<A>,
-    text: &str,
 ) -> Result<bool, AllocError> {
-    let gives = gives_so(alloc, operation, own, other, text);
-    if are_operands(alloc, own, other)? {
-        gives
-    } else {
-        Ok(false)
+    match gives(alloc, operation, own, other) {
+        Err(error) if are_operands(own, other) => Err(error),
+        made => Ok(made.is_ok() && are_operands(own, other)),
     }
 }
 
-fn leaves_other<A: Allocator + Copy>(
-    alloc: A,
-    operation: u32,
-    own: &IpBlocks<A>,
-    text: &str,
-) -> Result<bool, AllocError> {
-    let other = set(alloc, OTHER)?;
-    leaves(alloc, operation, own, &other, text)
-}
-
-fn leaves_operands<A: Allocator + Copy>(
-    alloc: A,
-    operation: u32,
-    text: &str,
-) -> Result<bool, AllocError> {
-    let own = set(alloc, OWN)?;
-    leaves_other(alloc, operation, &own, text)
-}
-
-#[test]
-fn operands_stay_where_memory_is_refused(rt: HostRuntime) {
-    for (operation, text) in &OPERATIONS {
-        let is_so = holds_where_refused(
-            rt.alloc(),
-            |refusing: &Refusing| leaves_operands(refusing, *operation, text),
-        );
-        assert!(rt; is_so, "{text}");
-    }
+/// Whether an operation leaves both sets, whatever comes of it.
+pub fn leaves_operands<A: Allocator + Copy>(alloc: A, operation: u32) -> Result<bool, AllocError> {
+    let (ours, others) = operands();
+    let own = IpBlocks::from_blocks(alloc, &ours)?;
+    let other = IpBlocks::from_blocks(alloc, &others)?;
+    leaves(alloc, operation, &own, &other)
 }

@@ -17,4 +17,6 @@ mod lists;
 #[cfg(test)]
 mod paths;
 #[cfg(test)]
+mod refused;
+#[cfg(test)]
 mod small_sets;

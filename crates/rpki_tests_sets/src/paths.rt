@@ -1,17 +1,15 @@
 // Paths of claims on AS numbers, and claims that should have a whole set.
-use crate::checks::{holds, holds_where_refused};
+use crate::checks::holds;
 use probing::prints;
-use refusing::Refusing;
 use rpki_as::blocks::AsBlocks;
 use rpki_as::resources::AsResources;
 use rpki_as::verify::{AsStep, OverclaimedAsResources};
 use rpki_base::memory::OrMemory;
 use rpki_chain::path::{Overclaim, PathRefusal};
-use std::alloc::{AllocError, Allocator};
-use std::test::Fail;
+use std::alloc::{AllocError, Allocator, Global};
 
 // A root, the steps of a path, and what is printed of the result, or of the fault behind the place of its step.
-const PATHS: [(&str, &str, &str); 23] = [
+pub const PATHS: [(&str, &str, &str); 23] = [
     (
         "AS1-AS10",
         "trim AS5-AS20|inherit|refuse AS6, AS12",
@@ -132,38 +130,31 @@ fn gives<A: Allocator + Copy>(
     }
 }
 
-fn is_path<A: Allocator + Copy>(alloc: A, row: &(&str, &str, &str)) -> Result<bool, AllocError> {
+fn row_holds<A: Allocator + Copy>(alloc: A, row: &(&str, &str, &str)) -> Result<bool, AllocError> {
     let root = set(alloc, row.0)?;
     let steps = steps(alloc, row.1)?;
-    gives(alloc, &root, steps.as_slice(), row.2)
+    gives(alloc, &root, &steps, row.2)
 }
 
-#[test]
-fn paths(rt: HostRuntime) -> Result<(), Fail> {
-    for row in &PATHS {
-        assert!(rt; is_path(rt.alloc(), row)?, "{}", row.1);
-    }
-    Ok(())
-}
-
-#[test]
-fn paths_where_memory_is_refused(rt: HostRuntime) {
-    for row in &PATHS {
-        holds(
-            &rt,
-            holds_where_refused(rt.alloc(), |refusing: &Refusing| is_path(refusing, row)),
-        );
+/// Whether the path of this number gives what it should.
+pub fn is_path<A: Allocator + Copy>(alloc: A, number: usize) -> Result<bool, AllocError> {
+    match PATHS.get(number) {
+        Some(row) => row_holds(alloc, row),
+        None => Ok(false),
     }
 }
 
-#[test]
-fn a_path_without_steps(rt: HostRuntime) -> Result<(), Fail> {
-    let root = set(rt.alloc(), "AS1-AS10")?;
-    holds(&rt, gives(rt.alloc(), &root, &[], "AS1-AS10")?);
-    Ok(())
+fn has_no_steps(alloc: Global) -> Result<bool, AllocError> {
+    let root = set(alloc, "AS1-AS10")?;
+    gives(alloc, &root, &[], "AS1-AS10")
 }
 
-fn many_steps<A: Allocator + Copy>(alloc: A) -> Result<Vec<AsStep<A>, A>, AllocError> {
+#[test]
+fn a_path_without_steps(rt: HostRuntime) {
+    holds(&rt, has_no_steps(rt.alloc()) == Ok(true));
+}
+
+fn many_steps(alloc: Global) -> Result<Vec<AsStep>, AllocError> {
     let mut steps = Vec::new(alloc);
     for _ in 0..1000 {
         steps.push(step(alloc, "trim AS2-AS20")?)?;
@@ -171,12 +162,15 @@ fn many_steps<A: Allocator + Copy>(alloc: A) -> Result<Vec<AsStep<A>, A>, AllocE
     Ok(steps)
 }
 
+fn has_many_steps(alloc: Global) -> Result<bool, AllocError> {
+    let root = set(alloc, "AS1-AS10")?;
+    let steps = many_steps(alloc)?;
+    gives(alloc, &root, &steps, "AS2-AS10")
+}
+
 #[test]
-fn a_path_of_a_thousand_steps(rt: HostRuntime) -> Result<(), Fail> {
-    let steps = many_steps(rt.alloc())?;
-    let root = set(rt.alloc(), "AS1-AS10")?;
-    holds(&rt, gives(rt.alloc(), &root, steps.as_slice(), "AS2-AS10")?);
-    Ok(())
+fn a_path_of_a_thousand_steps(rt: HostRuntime) {
+    holds(&rt, has_many_steps(rt.alloc()) == Ok(true));
 }
 
 // A set, the claim of an issuer, and what is printed of the fault; nothing where there is none.
@@ -193,23 +187,28 @@ const COVERED: [(&str, &str, &str); 6] = [
     ),
 ];
 
-fn is_covered_so<A: Allocator + Copy>(
-    alloc: A,
-    row: &(&str, &str, &str),
+fn covers_so(
+    alloc: Global,
+    issuer: &AsResources,
+    own: &AsBlocks,
+    want: &str,
 ) -> Result<bool, AllocError> {
-    let own = set(alloc, row.0)?;
-    let issuer = claim(alloc, row.1)?;
-    match own.verify_covered(alloc, &issuer) {
-        Ok(()) => Ok(row.2.is_empty()),
-        Err(OrMemory::Refused(fault)) => prints(alloc, &fault, row.2),
+    match own.verify_covered(alloc, issuer) {
+        Ok(()) => Ok(want.is_empty()),
+        Err(OrMemory::Refused(fault)) => prints(alloc, &fault, want),
         Err(OrMemory::Memory(error)) => Err(error),
     }
 }
 
+fn is_covered_so(alloc: Global, row: &(&str, &str, &str)) -> Result<bool, AllocError> {
+    let own = set(alloc, row.0)?;
+    let issuer = claim(alloc, row.1)?;
+    covers_so(alloc, &issuer, &own, row.2)
+}
+
 #[test]
-fn sets_are_covered(rt: HostRuntime) -> Result<(), Fail> {
+fn sets_are_covered(rt: HostRuntime) {
     for row in &COVERED {
-        assert!(rt; is_covered_so(rt.alloc(), row)?, "{}", row.0);
+        holds(&rt, is_covered_so(rt.alloc(), row) == Ok(true));
     }
-    Ok(())
 }

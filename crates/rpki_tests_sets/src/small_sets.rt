@@ -1,107 +1,18 @@
 // Small sets of AS numbers.
 ghost use Rattle.std.specs.Iterator.{IsFinite};
 
-use crate::checks::{holds, holds_where_refused};
+use crate::checks::holds;
 use probing::hash_of;
 use refusing::{Plan, Refusing};
 use rpki_base::asn::Asn;
 use rpki_base::laws::{ipv6_is_printed_so, one_small_set, orders_are_of_numbers};
 use rpki_base::small_set::SmallAsnSet;
-use std::alloc::{AllocError, Allocator};
-use std::test::Fail;
+use std::alloc::{AllocError, Allocator, Global};
 
-fn set_of<A: Allocator + Copy>(alloc: A, numbers: &[u32]) -> Result<SmallAsnSet<A>, AllocError> {
-    let mut asns = Vec::new(alloc);
-    for number in numbers {
-        asns.push(Asn::from_u32(*number))?;
-    }
-    SmallAsnSet::from_list(alloc, asns.as_slice())
-}
-
-fn has_len<A: Allocator + Copy>(alloc: A, numbers: &[u32], len: usize) -> Result<bool, AllocError> {
-    let set = set_of(alloc, numbers)?;
-    Ok(set.len() == len && set.is_empty() == (len == 0))
-}
-
-#[test]
-fn sizes_of_sets(rt: HostRuntime) -> Result<(), Fail> {
-    let rows: [(&[u32], usize); 6] = [
-        (&[3, 1, 3, 2], 3),
-        (&[], 0),
-        (&[7], 1),
-        (&[7, 7, 7], 1),
-        (&[4294967295, 0, 4294967295], 2),
-        (&[9, 8, 7, 6, 5, 4, 3, 2, 1], 9),
-    ];
-    for (numbers, len) in &rows {
-        assert!(rt; has_len(rt.alloc(), numbers, *len)?, "{len}");
-    }
-    Ok(())
-}
-
-#[test]
-fn members(rt: HostRuntime) -> Result<(), Fail> {
-    let set = set_of(rt.alloc(), &[8, 2, 4, 6, 2])?;
-    for number in 0..10 {
-        let inside = number % 2 == 0 && number != 0;
-        assert!(rt; set.contains(Asn::from_u32(number)) == inside, "{number}");
-    }
-    Ok(())
-}
-
-#[test]
-fn members_in_a_loop(rt: HostRuntime) -> Result<(), Fail> {
-    let set = set_of(rt.alloc(), &[8, 2, 4, 6, 2])?;
-    let mut sum = 0u64;
-    for asn in &set {
-        sum = sum.saturating_add(u64::from(asn.into_u32()));
-    }
-    holds(&rt, sum == 20);
-    Ok(())
-}
-
-#[test]
-fn sets_of_sorted_vectors(rt: HostRuntime) {
-    let none: SmallAsnSet = SmallAsnSet::from_vec_unchecked(Vec::new(rt.alloc()));
-    holds(&rt, none.is_empty());
-    holds(&rt, none.len() == 0);
-    holds(&rt, !none.contains(Asn::MIN));
-}
-
-#[test]
-fn equal_sets_have_equal_hashes(rt: HostRuntime) -> Result<(), Fail> {
-    let one = set_of(rt.alloc(), &[1, 5])?;
-    let other = set_of(rt.alloc(), &[5, 1, 5])?;
-    holds(&rt, one == other);
-    holds(&rt, hash_of(&one) == hash_of(&other));
-    Ok(())
-}
-
-#[test]
-fn sets_in_order(rt: HostRuntime) -> Result<(), Fail> {
-    let low = set_of(rt.alloc(), &[1, 5])?;
-    let longer = set_of(rt.alloc(), &[5, 1, 6])?;
-    holds(&rt, low < longer);
-    holds(&rt, low != longer);
-    Ok(())
-}
-
-fn is_same<A: Allocator + Copy>(alloc: A, set: &SmallAsnSet<A>) -> Result<bool, AllocError> {
-    let copy = set.clone(alloc)?;
-    Ok(copy == *set)
-}
-
-/// Whether the copy of a set is the same; the set stands, whatever comes of the copy.
-fn is_copied(refusing: &Refusing) -> Result<bool, AllocError> {
-    let set = set_of(refusing, &[3, 1, 3, 2])?;
-    let is_same = is_same(refusing, &set);
-    if has_parts(&set) { is_same } else { Ok(false) }
-}
-
-#[test]
-fn sets_are_copied_where_memory_is_refused(rt: HostRuntime) {
-    let is_so = holds_where_refused(rt.alloc(), |refusing: &Refusing| is_copied(refusing));
-    holds(&rt, is_so);
+/// The set of the numbers 1, 2 and 3.
+fn three<A: Allocator>(alloc: A) -> Result<SmallAsnSet<A>, AllocError> {
+    let (one, two, three) = (Asn::from_u32(1), Asn::from_u32(2), Asn::from_u32(3));
+    SmallAsnSet::from_list(alloc, &[three, one, three, two])
 }
 
 /// How many numbers an iterator gives.
@@ -116,43 +27,84 @@ fn size<I: Iterator<Item = Asn>>(asns: I) -> u64
     size
 }
 
-/// Whether each iterator over a set of three numbers and the empty one gives what it should.
-fn are_given<A: Allocator>(set: &SmallAsnSet<A>, none: &SmallAsnSet<A>) -> bool {
-    let one = (
+/// How many numbers each iterator over two sets gives.
+fn sizes<A: Allocator>(set: &SmallAsnSet<A>, other: &SmallAsnSet<A>) -> [u64; 5] {
+    [
         size(set.iter()),
-        size(set.union(none)),
-        size(set.difference(none)),
-    );
-    let other = (
-        size(set.symmetric_difference(none)),
-        size(set.intersection(none)),
-    );
-    one == (3, 3, 3) && other == (3, 0)
+        size(set.union(other)),
+        size(set.difference(other)),
+        size(set.symmetric_difference(other)),
+        size(set.intersection(other)),
+    ]
 }
 
-fn has_parts<A: Allocator>(set: &SmallAsnSet<A>) -> bool {
-    let contains = (set.contains(Asn::from_u32(3)), set.contains(Asn::MIN));
-    set.len() == 3 && !set.is_empty() && contains == (true, false)
+fn sum<A: Allocator>(set: &SmallAsnSet<A>) -> u64 {
+    let mut sum = 0u64;
+    for asn in set {
+        sum = sum.saturating_add(u64::from(asn.into_u32()));
+    }
+    sum
+}
+
+/// Whether a set of three numbers has them, and 0 not.
+fn is_three<A: Allocator>(set: &SmallAsnSet<A>) -> bool {
+    let ends = (set.contains(Asn::MIN), set.contains(Asn::from_u32(3)));
+    set.len() == 3 && !set.is_empty() && ends == (false, true) && sum(set) == 6
+}
+
+fn is_none<A: Allocator>(set: &SmallAsnSet<A>) -> bool {
+    set.len() == 0 && set.is_empty() && !set.contains(Asn::MIN)
 }
 
 /// Whether a set of three numbers stands to the empty one as it should.
-fn is_beside_none<A: Allocator + Copy>(alloc: A, set: &SmallAsnSet<A>) -> bool {
+fn stand_so<A: Allocator>(set: &SmallAsnSet<A>, none: &SmallAsnSet<A>) -> bool {
+    sizes(set, none) == [3, 3, 3, 3, 0] && *none < *set && *none != *set
+}
+
+fn are_right<A: Allocator + Copy>(alloc: A, set: &SmallAsnSet<A>) -> bool {
     let none = SmallAsnSet::from_vec_unchecked(Vec::new(alloc));
-    let is_after = (*set != none, none < *set);
-    are_given(set, &none) && is_after == (true, true)
+    is_three(set) && is_none(&none) && stand_so(set, &none)
 }
 
 fn asks_nothing(refusing: &Refusing) -> Result<bool, AllocError> {
-    let set = set_of(refusing, &[3, 1, 3, 2])?;
+    let set = three(refusing)?;
     let asked = refusing.asked();
-    let is_right = is_beside_none(refusing, &set) && has_parts(&set);
-    Ok(is_right && asked > 0 && refusing.asked() == asked)
+    Ok(are_right(refusing, &set) && asked > 0 && refusing.asked() == asked)
 }
 
 #[test]
 fn calls_without_memory(rt: HostRuntime) {
     let refusing = Refusing::new(rt.alloc(), Plan::RefuseNone);
     holds(&rt, asks_nothing(&refusing) == Ok(true));
+}
+
+fn is_same(one: &SmallAsnSet, other: &SmallAsnSet) -> bool {
+    *one == *other && hash_of(one) == hash_of(other)
+}
+
+/// Whether a set equals the one of the same numbers without repeats.
+fn are_same(alloc: Global) -> Result<bool, AllocError> {
+    let set = three(alloc)?;
+    let asns = [Asn::from_u32(1), Asn::from_u32(2), Asn::from_u32(3)];
+    let other = SmallAsnSet::from_list(alloc, &asns)?;
+    Ok(is_same(&set, &other))
+}
+
+#[test]
+fn equal_sets_have_equal_hashes(rt: HostRuntime) {
+    holds(&rt, are_same(rt.alloc()) == Ok(true));
+}
+
+fn copy_is_same<A: Allocator + Copy>(alloc: A, set: &SmallAsnSet<A>) -> Result<bool, AllocError> {
+    let copy = set.clone(alloc)?;
+    Ok(copy == *set)
+}
+
+/// Whether the copy of a set is the same; the set stands, whatever comes of the copy.
+pub fn copies<A: Allocator + Copy>(alloc: A) -> Result<bool, AllocError> {
+    let set = three(alloc)?;
+    let is_same = copy_is_same(alloc, &set);
+    if is_three(&set) { is_same } else { Ok(false) }
 }
 
 #[test]

@@ -1,0 +1,69 @@
+// Runs where each request for memory is refused in turn.
+use crate::checks::{holds, holds_where_refused};
+use crate::{as_sets, family_sets, ip_sets, paths, small_sets};
+use refusing::Refusing;
+use std::alloc::{AllocError, Global};
+
+/// What is run.
+#[derive(Clone, Copy)]
+enum Case {
+    /// An operation on two sets of AS numbers.
+    AsOperation(u32),
+    /// An operation on two sets of addresses.
+    IpOperation(u32),
+    /// A path of this number.
+    Path(usize),
+    SmallCopy,
+    V4Set,
+    V6Set,
+    V4Copy,
+    V6Copy,
+}
+
+/// Whether a run does what it should.
+fn holds_so(case: Case, refusing: &Refusing) -> Result<bool, AllocError> {
+    match case {
+        Case::AsOperation(operation) => as_sets::leaves_operands(refusing, operation),
+        Case::IpOperation(operation) => ip_sets::leaves_operands(refusing, operation),
+        Case::Path(number) => paths::is_path(refusing, number),
+        Case::SmallCopy => small_sets::copies(refusing),
+        Case::V4Set => family_sets::makes_v4_set(refusing),
+        Case::V6Set => family_sets::makes_v6_set(refusing),
+        Case::V4Copy => family_sets::copies_v4_set(refusing),
+        Case::V6Copy => family_sets::copies_v6_set(refusing),
+    }
+}
+
+fn is_right(alloc: Global, case: Case) -> bool {
+    holds_where_refused(alloc, |refusing: &Refusing| holds_so(case, refusing))
+}
+
+const CASES: [Case; 5] = [
+    Case::SmallCopy,
+    Case::V4Set,
+    Case::V6Set,
+    Case::V4Copy,
+    Case::V6Copy,
+];
+
+#[test]
+fn sets_are_made_and_copied(rt: HostRuntime) {
+    for case in &CASES {
+        holds(&rt, is_right(rt.alloc(), *case));
+    }
+}
+
+#[test]
+fn operands_stay(rt: HostRuntime) {
+    for operation in 0..4 {
+        holds(&rt, is_right(rt.alloc(), Case::AsOperation(operation)));
+        holds(&rt, is_right(rt.alloc(), Case::IpOperation(operation)));
+    }
+}
+
+#[test]
+fn paths_of_claims(rt: HostRuntime) {
+    for number in 0..paths::PATHS.len() {
+        holds(&rt, is_right(rt.alloc(), Case::Path(number)));
+    }
+}

@@ -1,0 +1,63 @@
+-- What a take at the front of octets, and then their end, tell of all of them.
+use Rattle.std.proofs.Common.{arith, ◌≡◌, ◌≢◌, ℕ, length, List, [], ◌∷◌, MatchResult, IsErr, inl, Result, Ok, Err, refl, sym, subst, ◌∙◌}
+use Rattle.std.proofs.lemmas.Bool.{ne_eqb}
+use Rattle.std.proofs.lemmas.List.{append-nil}
+use Rattle.rpki_der.specs.Der.{Front, NoFront, OneFront}
+use Rattle.rpki_der.specs.Reading.{ended}
+use Rattle.rpki_der.specs.declared.error.DerError.{DerError}
+use Rattle.rpki_text.specs.Memory.{IfRefused}
+use Rattle.rpki_text.specs.declared.memory.OrMemory.{OrMemory}
+use Rattle.rpki_text.specs.declared.memory.OrMemory.TheVariants.{Refused, Memory}
+use Rattle.std.specs.Result.{IsErrAnd}
+use Rattle.rpki_chain.specs.Claims.{Claim}
+use Rattle.rpki_chain.specs.Paths.{IsPathResult}
+use Rattle.rpki_chain.specs.Runs.{Runs, Holds}
+use Rattle.rpki_chain.specs.declared.path.Step.{Step}
+use Rattle.rpki_resources.specs.Triples.{HasEachOf, Triple}
+use Rattle.callers.specs.Certificates.{HasNone, HasNoneOrMore, IsLeftInEach}
+
+-- the end was seen
+pub nothing_left : (octets : List ℕ) (u : Unit {0}) → ended octets ≡ Ok u → octets ≡ []
+nothing_left [] u e = refl
+nothing_left (octet ∷ octets) u e =
+    let no = ne_eqb (length (octet ∷ octets)) 0 (λ z. omega (arith, z)) in
+    let never = rw no at e in cc
+
+-- or octets that are left
+pub something_left : (octets : List ℕ) (fault : DerError) → ended octets ≡ Err fault → octets ≢ []
+something_left [] fault e = cc
+something_left (octet ∷ octets) fault e = λ n. cc
+
+module _ {X : Type 0} (G : List ℕ → X → Type 0) (octets : List ℕ) where
+  -- nothing is left behind the value
+  pub whole_value : (x : X) → Front G octets x [] → G octets x
+  whole_value x front = subst (λ bytes. G bytes x) (sym (front.2 ∙ append-nil front.0)) front.1
+
+  -- no value stands at the front
+  pub none_in_front : (e : OrMemory DerError) → IfRefused (λ _. NoFront G octets) e → IfRefused (λ _. HasNone G octets) e
+  none_in_front (Refused fault) none = λ y is. none y [] (octets, is, sym (append-nil octets))
+  none_in_front (Memory error) none = tt
+
+  pub none_or_more : (e : OrMemory DerError) → IfRefused (λ _. NoFront G octets) e → IfRefused (λ _. HasNoneOrMore G octets) e
+  none_or_more (Refused fault) none = inl none
+  none_or_more (Memory error) none = tt
+
+  -- octets are left behind the value
+  pub none_before_more : OneFront G → (x : X) (rest : List ℕ) → Front G octets x rest → rest ≢ [] → HasNone G octets
+  none_before_more one x rest front some y is =
+      some (one front.0 octets x y rest [] front.1 is (sym front.2 ∙ sym (append-nil octets))).2
+
+-- what is passed on is said of the answer
+pub passed_on : {X E : Type 0} (Q : X → Type 0) (P : E → Type 0) (e : OrMemory E) (answer : Result X (OrMemory E))
+    → IsErr answer × IsErrAnd answer (λ (f : OrMemory E). f ≡ e) → IfRefused P e → MatchResult answer Q (IfRefused P)
+passed_on Q P e (Err f) passed h = subst (IfRefused P) (sym passed.1) h
+passed_on Q P e (Ok x) passed h = let never = passed.0 in cc
+
+-- what a path leaves in each kind lies in its root
+pub inside : ((root set : Runs) (steps : List (Step Claim)) → IsPathResult (λ claim. claim) (Holds root) steps set → (n : ℕ) → Holds set n → Holds root n)
+    → (root : Triple) (numbers v4 v6 : List (Step Claim)) (set : Triple) → IsLeftInEach root numbers v4 v6 set → HasEachOf root set
+inside law root numbers v4 v6 set is = record {
+  asn = law root.asn set.asn numbers is.asn;
+  ipv4 = law root.ipv4 set.ipv4 v4 is.ipv4;
+  ipv6 = law root.ipv6 set.ipv6 v6 is.ipv6;
+}

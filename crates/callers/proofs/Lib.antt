@@ -1,0 +1,3 @@
+pub mod AllWritten
+pub mod CertificateLemmas
+pub mod TableLemmas

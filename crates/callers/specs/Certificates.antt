@@ -1,0 +1,37 @@
+-- What octets of certificates aren't, and what a path of claims leaves of a root's resources, kind by kind
+-- (RFC 3779, 2.3 and 3.3; RFC 6487, 7.2).
+use Rattle.std.specs.Prelude.{◌≢◌, ◌⊎◌, ℕ, List, []}
+use Rattle.rpki_chain.specs.Claims.{Claim}
+use Rattle.rpki_chain.specs.Paths.{IsFirstRefusal, IsPathResult}
+use Rattle.rpki_chain.specs.Runs.{Runs, Holds}
+use Rattle.rpki_chain.specs.declared.path.Step.{Step}
+use Rattle.rpki_der.specs.Der.{Front, NoFront}
+use Rattle.rpki_resources.specs.Triples.{Triple}
+use Rattle.callers.specs.declared.certificates.Overclaimed.{Overclaimed}
+use Rattle.callers.specs.declared.certificates.Overclaimed.TheVariants.{Asn, Ipv4, Ipv6}
+
+-- these octets are no value
+abbrev pub HasNone : {V : Type 0} → (List ℕ → V → Type 0) → List ℕ → Type 0
+HasNone {V} Is octets = (value : V) → ¬ Is octets value
+
+-- no value stands at the front of these octets, or octets are left behind it
+abbrev pub HasNoneOrMore : {V : Type 0} → (List ℕ → V → Type 0) → List ℕ → Type 0
+HasNoneOrMore {V} Is octets = NoFront Is octets ⊎ ((value : V) × (rest : List ℕ) × Front Is octets value rest × (rest ≢ []))
+
+-- the set is what a path of claims leaves of the root's
+abbrev pub IsLeft : Runs → List (Step Claim) → Runs → Type 0
+IsLeft root steps set = IsPathResult (λ claim. claim) (Holds root) steps set
+
+-- so of each kind, each with its own path: of AS numbers, of IPv4 and of IPv6 addresses
+pub record IsLeftInEach (root : Triple) (numbers v4 v6 : List (Step Claim)) (set : Triple) : Type 0 where
+  pub asn : IsLeft root.asn numbers set.asn
+  pub ipv4 : IsLeft root.ipv4 v4 set.ipv4
+  pub ipv6 : IsLeft root.ipv6 v6 set.ipv6
+
+-- the refusal is the first one of the path of its kind, and the paths of the kinds before it have none
+abbrev pub IsFirstOverclaim : {A : Type 0} → Triple → List (Step Claim) → List (Step Claim) → List (Step Claim) → Overclaimed A → Type 0
+IsFirstOverclaim root numbers v4 v6 (Asn refusal) = IsFirstRefusal (λ claim. claim) (Holds root.asn) numbers refusal
+IsFirstOverclaim root numbers v4 v6 (Ipv4 refusal) =
+    ((set : Runs) × IsLeft root.asn numbers set) × IsFirstRefusal (λ claim. claim) (Holds root.ipv4) v4 refusal
+IsFirstOverclaim root numbers v4 v6 (Ipv6 refusal) =
+    ((set : Runs) × IsLeft root.asn numbers set) × ((set : Runs) × IsLeft root.ipv4 v4 set) × IsFirstRefusal (λ claim. claim) (Holds root.ipv6) v6 refusal

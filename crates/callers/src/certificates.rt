@@ -1,0 +1,139 @@
+//! A reader of certificates: what stands in the two extensions of RFC 3779, and what a path of claims leaves of a root's
+//! resources.
+ghost use Rattle.std.specs.Prelude.{IfOk, IfSome, MatchResult, All};
+ghost use Rattle.rpki_text.specs.Memory.{IfRefused};
+ghost use Rattle.rpki_chain.specs.Paths.{IsFirstRefusal, IsPathResult};
+ghost use Rattle.rpki_chain.specs.Runs.{Holds};
+ghost use Rattle.rpki_as.specs.AsDer.{IsAsResources};
+ghost use Rattle.rpki_ipres.specs.Resources.{IsWholeClaim};
+ghost use Rattle.rpki_ipres.specs.ResourcesDer.{IsIpFamilies};
+ghost use Rattle.rpki_resources.specs.Triples.{HasEachOf};
+ghost use Rattle.callers.specs.Certificates.{HasNone, HasNoneOrMore, IsFirstOverclaim, IsLeftInEach};
+
+use rpki_der::{Cursor, DerError};
+use rpki_resources::OrMemory;
+use rpki_resources::repository::resources::{
+    AsResources, AsStep, IpResources, IpStep, Ipv4Blocks, Ipv6Blocks, OverclaimedAsResources,
+    OverclaimedIpv4Resources, OverclaimedIpv6Resources, PathRefusal, ResourceSet,
+};
+use std::alloc::{Allocator, Global};
+
+/// The AS resources that octets are, all of them: the value of the extension of RFC 3779, 3.2. `Refused` with the first
+/// fault where they are none, `Memory` where there is no memory for them.
+pub fn read_as<A: Allocator + Copy>(
+    alloc: A,
+    octets: &[u8],
+) -> Result<AsResources<A>, OrMemory<DerError>>
+    ensures { MatchResult result (IsAsResources octets.now)
+        (IfRefused (λ _. HasNoneOrMore IsAsResources octets.now)) }
+{
+    let mut cursor = Cursor::new(octets);
+    let resources = AsResources::take_from(alloc, &mut cursor)?;
+    cursor.finish()?;
+    Ok(resources)
+}
+
+/// The resources of IPv4 and of IPv6 that octets are, all of them, and None where a family isn't there: the value of the
+/// extension of RFC 3779, 2.2. `Refused` and `Memory` as in [`read_as`].
+pub fn read_families<A: Allocator + Copy>(
+    alloc: A,
+    octets: &[u8],
+) -> Result<(Option<IpResources<A>>, Option<IpResources<A>>), OrMemory<DerError>>
+    ensures claims { MatchResult result (IsIpFamilies octets.now)
+        (IfRefused (λ _. HasNone IsIpFamilies octets.now)) }
+    ensures whole { IfOk result (λ found. IfSome found.0 IsWholeClaim) }
+{
+    rpki_ipres::der::laws::one_value(); // so that the proof sees that octets begin with one list of families at most
+    let mut cursor = Cursor::new(octets);
+    let families = IpResources::take_families_from(alloc, &mut cursor)?;
+    cursor.finish()?;
+    Ok(families)
+}
+
+/// A claim on a path lists more than is left for it: the place of its certificate, and what it lists too much.
+#[derive(Debug, Drop)]
+pub enum Overclaimed<A: Allocator = Global> {
+    /// AS numbers.
+    Asn(PathRefusal<OverclaimedAsResources<A>>),
+    /// IPv4 addresses.
+    Ipv4(PathRefusal<OverclaimedIpv4Resources<A>>),
+    /// IPv6 addresses.
+    Ipv6(PathRefusal<OverclaimedIpv6Resources<A>>),
+}
+
+/// What the claims of the certificates on a path leave of a root's resources; those of IPv4 consist of whole addresses, as
+/// what [`read_families`] answers does. `Refused` with the first claim that lists too much, of AS numbers before IPv4 and
+/// IPv4 before IPv6; `Memory` where there is no memory for a set on the way.
+pub fn verified<A: Allocator + Copy>(
+    alloc: A,
+    root: &ResourceSet<A>,
+    asn: &[AsStep<A>],
+    ipv4: &[IpStep<A>],
+    ipv6: &[IpStep<A>],
+) -> Result<ResourceSet<A>, OrMemory<Overclaimed<A>>>
+    requires { All (λ step. IsWholeClaim step.claim) ipv4.now }
+    ensures path { MatchResult result (IsLeftInEach root.now asn.now ipv4.now ipv6.now)
+        (IfRefused (IsFirstOverclaim root.now asn.now ipv4.now ipv6.now)) }
+    ensures inside { IfOk result (HasEachOf root.now) }
+{
+    rpki_chain::laws::laws_of_paths(); // so that the proof sees that what a path leaves lies in its root
+    let asn = match root.asn().verify_path(alloc, asn) {
+        Ok(set) => set,
+        Err(OrMemory::Refused(refusal)) => {
+            return Err(OrMemory::Refused(Overclaimed::Asn(refusal)));
+        }
+        Err(OrMemory::Memory(error)) => return Err(OrMemory::Memory(error)),
+    };
+    let ipv4 = match verified_v4(alloc, root.ipv4(), ipv4) {
+        Ok(set) => set,
+        Err(OrMemory::Refused(refusal)) => {
+            return Err(OrMemory::Refused(Overclaimed::Ipv4(refusal)));
+        }
+        Err(OrMemory::Memory(error)) => return Err(OrMemory::Memory(error)),
+    };
+    match verified_v6(alloc, root.ipv6(), ipv6) {
+        Ok(ipv6) => Ok(ResourceSet::new(asn, ipv4, ipv6)),
+        Err(OrMemory::Refused(refusal)) => Err(OrMemory::Refused(Overclaimed::Ipv6(refusal))),
+        Err(OrMemory::Memory(error)) => Err(OrMemory::Memory(error)),
+    }
+}
+
+/// What a path of claims leaves of IPv4 addresses. The claims consist of whole IPv4 addresses.
+pub fn verified_v4<A: Allocator + Copy>(
+    alloc: A,
+    root: &Ipv4Blocks<A>,
+    steps: &[IpStep<A>],
+) -> Result<Ipv4Blocks<A>, OrMemory<PathRefusal<OverclaimedIpv4Resources<A>>>>
+    requires { All (λ step. IsWholeClaim step.claim) steps.now }
+    ensures { MatchResult result (IsPathResult (λ claim. claim) (Holds root.now) steps.now)
+        (IfRefused (IsFirstRefusal (λ claim. claim) (Holds root.now) steps.now)) }
+{
+    rpki_ipres::laws::laws_of_whole_claims(); // so that the proof sees that the answer consists of whole addresses
+    match root.ip_blocks().verify_path(alloc, steps) {
+        Ok(set) => Ok(Ipv4Blocks::from_ip_blocks(set)),
+        Err(OrMemory::Refused(refusal)) => Err(OrMemory::Refused(PathRefusal {
+            step: refusal.step,
+            fault: refusal.fault.v4(),
+        })),
+        Err(OrMemory::Memory(error)) => Err(OrMemory::Memory(error)),
+    }
+}
+
+/// What a path of claims leaves of IPv6 addresses.
+pub fn verified_v6<A: Allocator + Copy>(
+    alloc: A,
+    root: &Ipv6Blocks<A>,
+    steps: &[IpStep<A>],
+) -> Result<Ipv6Blocks<A>, OrMemory<PathRefusal<OverclaimedIpv6Resources<A>>>>
+    ensures { MatchResult result (IsPathResult (λ claim. claim) (Holds root.now) steps.now)
+        (IfRefused (IsFirstRefusal (λ claim. claim) (Holds root.now) steps.now)) }
+{
+    match root.ip_blocks().verify_path(alloc, steps) {
+        Ok(set) => Ok(Ipv6Blocks::from_ip_blocks(set)),
+        Err(OrMemory::Refused(refusal)) => Err(OrMemory::Refused(PathRefusal {
+            step: refusal.step,
+            fault: refusal.fault.v6(),
+        })),
+        Err(OrMemory::Memory(error)) => Err(OrMemory::Memory(error)),
+    }
+}

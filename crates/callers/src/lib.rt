@@ -1,0 +1,14 @@
+//! Proved callers of the libraries, each a short function with a contract of its own: what a reader of certificates, a
+//! maker of route origin authorizations and router filters, a router's cache and a protocol that carries texts ask of
+//! these libraries. They rest on the contracts of public calls alone; `docs/CALLING.md` shows them.
+#![tactic(auto)]
+
+pub mod builders;
+pub mod cache;
+pub mod certificates;
+pub mod conditions;
+pub mod errors;
+pub mod filters;
+pub mod octets;
+pub mod sets;
+pub mod texts;

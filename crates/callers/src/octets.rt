@@ -1,0 +1,89 @@
+//! Sets and resources that are written in DER, and read again from what was written: each is the same.
+ghost use Rattle.std.specs.Prelude.{◌≡◌, ◌≢◌, IfOk};
+ghost use Rattle.rpki_chain.specs.declared.choice.ResourcesChoice.TheVariants.{Missing};
+ghost use Rattle.rpki_ip.specs.declared.family.AddressFamily.TheVariants.{Ipv4};
+ghost use Rattle.rpki_ipres.specs.Resources.{IsFamilyClaim, if_present};
+
+use rpki_der::{Cursor, put_header, tag};
+use rpki_resources::OrMemory;
+use rpki_resources::repository::resources::{AsBlocks, AsResources, IpBlocks, IpResources};
+use std::alloc::{AllocError, Allocator};
+
+/// A set of addresses as it is read again from its SEQUENCE. `AllocError` where there is no memory for it.
+pub fn written_and_read<A: Allocator + Copy>(
+    alloc: A,
+    set: &IpBlocks<A>,
+) -> Result<IpBlocks<A>, AllocError>
+    ensures { IfOk result (λ read. read ≡ set.now) }
+{
+    let mut octets = Vec::new(alloc);
+    set.encode(&mut octets)?;
+    let mut cursor = Cursor::new(octets.as_slice());
+    match IpBlocks::take_from(alloc, &mut cursor) {
+        Ok(read) => Ok(read),
+        Err(OrMemory::Memory(error)) => Err(error),
+        Err(OrMemory::Refused(_)) => unreachable!(),
+    }
+}
+
+/// A set of AS numbers as it is read again from what is written of it, put in one SEQUENCE. `AllocError` where there is no
+/// memory for it.
+pub fn as_written_and_read<A: Allocator + Copy>(
+    alloc: A,
+    set: &AsBlocks<A>,
+) -> Result<AsBlocks<A>, AllocError>
+    ensures { IfOk result (λ read. read ≡ set.now) }
+{
+    let mut content = Vec::new(alloc);
+    set.encode(&mut content)?;
+    let inside = content.as_slice();
+    let mut octets = Vec::new(alloc);
+    put_header(&mut octets, tag::SEQUENCE, inside.len())?;
+    octets.extend_from_slice(inside)?;
+    let mut cursor = Cursor::new(octets.as_slice());
+    match AsBlocks::take_from(alloc, &mut cursor) {
+        Ok(read) => Ok(read),
+        Err(OrMemory::Memory(error)) => Err(error),
+        Err(OrMemory::Refused(_)) => unreachable!(),
+    }
+}
+
+/// AS resources as they are read again from what is written of them. They aren't missing. `AllocError` where there is no
+/// memory for them.
+pub fn resources_written_and_read<A: Allocator + Copy>(
+    alloc: A,
+    resources: &AsResources<A>,
+) -> Result<AsResources<A>, AllocError>
+    requires { resources.now ≢ Missing }
+    ensures { IfOk result (λ read. read ≡ resources.now) }
+{
+    let mut octets = Vec::new(alloc);
+    resources.encode(&mut octets)?;
+    let mut cursor = Cursor::new(octets.as_slice());
+    match AsResources::take_from(alloc, &mut cursor) {
+        Ok(read) => Ok(read),
+        Err(OrMemory::Memory(error)) => Err(error),
+        Err(OrMemory::Refused(_)) => unreachable!(),
+    }
+}
+
+/// The resources of IPv4 and IPv6 as they are read again from what is written of them, and None where they are missing.
+/// One of them at least isn't. `AllocError` where there is no memory for them.
+pub fn families_written_and_read<A: Allocator + Copy>(
+    alloc: A,
+    v4: &IpResources<A>,
+    v6: &IpResources<A>,
+) -> Result<(Option<IpResources<A>>, Option<IpResources<A>>), AllocError>
+    requires whole { IsFamilyClaim Ipv4 v4.now }
+    requires present { v4.now ≡ Missing → v6.now ≢ Missing }
+    ensures { IfOk result (λ read. read ≡ (if_present v4.now, if_present v6.now)) }
+{
+    let mut octets = Vec::new(alloc);
+    IpResources::encode_families(v4, v6, &mut octets)?;
+    let mut cursor = Cursor::new(octets.as_slice());
+    match IpResources::take_families_from(alloc, &mut cursor) {
+        Ok(read) => Ok(read),
+        Err(OrMemory::Memory(error)) => Err(error),
+        Err(OrMemory::Refused(_)) => unreachable!(),
+    }
+}

@@ -1,0 +1,76 @@
+//! Sets that are sent as texts: printed, and read again from what was printed. Each is the same.
+ghost use Rattle.std.specs.Prelude.{◌≡◌, IfOk};
+
+use rpki_resources::OrMemory;
+use rpki_resources::repository::resources::{IpBlocks, Ipv4Blocks, Ipv6Blocks, ResourceSet};
+use std::alloc::{AllocError, Allocator};
+
+/// A set of IPv4 addresses as it is read again from what is printed of it: the same set. `AllocError` where there is no
+/// memory for it.
+pub fn v4_printed_and_read<A: Allocator + Copy>(
+    alloc: A,
+    set: &Ipv4Blocks<A>,
+) -> Result<Ipv4Blocks<A>, AllocError>
+    ensures { IfOk result (λ read. read ≡ set.now) }
+{
+    let text = format!(in alloc; "{set}")?;
+    let _blocks = set.ip_blocks(); // read so that the proof sees that the set is one of the family
+    match Ipv4Blocks::from_str(alloc, text.as_str()) {
+        Ok(read) => Ok(read),
+        Err(OrMemory::Memory(error)) => Err(error),
+        Err(OrMemory::Refused(_)) => unreachable!(),
+    }
+}
+
+/// A set of IPv6 addresses, as [`v4_printed_and_read`].
+pub fn v6_printed_and_read<A: Allocator + Copy>(
+    alloc: A,
+    set: &Ipv6Blocks<A>,
+) -> Result<Ipv6Blocks<A>, AllocError>
+    ensures { IfOk result (λ read. read ≡ set.now) }
+{
+    let text = format!(in alloc; "{set}")?;
+    let _blocks = set.ip_blocks(); // read so that the proof sees that the set is one of the family
+    match Ipv6Blocks::from_str(alloc, text.as_str()) {
+        Ok(read) => Ok(read),
+        Err(OrMemory::Memory(error)) => Err(error),
+        Err(OrMemory::Refused(_)) => unreachable!(),
+    }
+}
+
+/// A set of addresses of either family, printed as one of IPv6, as [`v4_printed_and_read`].
+pub fn printed_and_read<A: Allocator + Copy>(
+    alloc: A,
+    set: &IpBlocks<A>,
+) -> Result<IpBlocks<A>, AllocError>
+    ensures { IfOk result (λ read. read ≡ set.now) }
+{
+    let shown = set.as_v6();
+    let text = format!(in alloc; "{shown}")?;
+    let _blocks = set.iter(); // read so that the proof sees that each number has 128 bits
+    match IpBlocks::from_str(alloc, text.as_str()) {
+        Ok(read) => Ok(read),
+        Err(OrMemory::Memory(error)) => Err(error),
+        Err(OrMemory::Refused(_)) => unreachable!(),
+    }
+}
+
+/// A set of resources of the three kinds, sent as three lists, as [`v4_printed_and_read`].
+pub fn resources_printed_and_read<A: Allocator + Copy>(
+    alloc: A,
+    set: &ResourceSet<A>,
+) -> Result<ResourceSet<A>, AllocError>
+    ensures { IfOk result (λ read. read ≡ set.now) }
+{
+    let asn = set.asn();
+    let ipv4 = set.ipv4();
+    let ipv6 = set.ipv6();
+    let asn = format!(in alloc; "{asn}")?;
+    let ipv4 = format!(in alloc; "{ipv4}")?;
+    let ipv6 = format!(in alloc; "{ipv6}")?;
+    match ResourceSet::from_strs(alloc, asn.as_str(), ipv4.as_str(), ipv6.as_str()) {
+        Ok(read) => Ok(read),
+        Err(OrMemory::Memory(error)) => Err(error),
+        Err(OrMemory::Refused(_)) => unreachable!(),
+    }
+}

@@ -2,7 +2,7 @@
 use crate::print::cut;
 use crate::question::Question;
 use crate::takes::Form;
-use crate::{as_sets, chains, covers, ip_sets, long, orders, small_sets, takes, texts};
+use crate::{as_sets, chains, covers, ip_sets, long, orders, small_sets, takes, texts, triples};
 use rpki_ip::family::AddressFamily;
 use std::alloc::{AllocError, Allocator};
 
@@ -22,6 +22,8 @@ pub fn answer<A: Allocator + Copy>(alloc: A, line: &str) -> Result<String<A>, Al
         "pair" => chains::pair_answer(alloc, kind, operands),
         "long" => long::answer(alloc, kind, operands),
         "prefixes" => covers::answer(alloc, kind, operands),
+        "set" => triples::set(alloc, rest),
+        "diff" => triples::difference(alloc, rest),
         _ => match Question::named(command) {
             Some(question) => set_answer(alloc, question, kind, operands),
             None => rpki_lines::answer(alloc, line.as_bytes()),

@@ -19,6 +19,7 @@ mod refusals;
 mod small_sets;
 mod takes;
 mod texts;
+mod triples;
 mod values;
 
 use print::cut;

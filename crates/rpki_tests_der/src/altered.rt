@@ -1,152 +1,130 @@
 // A dozen values, each taken by the reader of its tag and appended again: as they stand, cut, and with each octet in place
 // of each of theirs.
+use crate::checks::holds;
 use rpki_der::{
-    Content, Cursor, DerError, put_bit_string, put_header, put_null, put_octets, put_u32, tag,
+    BitString, Content, Cursor, DerError, put_bit_string, put_header, put_null, put_octets,
+    put_u32, tag,
 };
 use std::alloc::{AllocError, Global};
-use std::test::Fail;
 
-const VALUES: &str = "020100 02020080 020500ffffffff 030100 03020400 0303040a40 0306070a00000180 \
-                      04020001 0403000201 0500 3000 3006020103020104 a0020500";
+const VALUES: [&[u8]; 13] = [
+    b"\x02\x01\x00",
+    b"\x02\x02\x00\x80",
+    b"\x02\x05\x00\xff\xff\xff\xff",
+    b"\x03\x01\x00",
+    b"\x03\x02\x04\x00",
+    b"\x03\x03\x04\x0a\x40",
+    b"\x03\x06\x07\x0a\x00\x00\x01\x80",
+    b"\x04\x02\x00\x01",
+    b"\x04\x03\x00\x02\x01",
+    b"\x05\x00",
+    b"\x30\x00",
+    b"\x30\x06\x02\x01\x03\x02\x01\x04",
+    b"\xa0\x02\x05\x00",
+];
 
-fn copy_number(cursor: &mut Cursor<'_>, out: &mut Vec<u8>) -> Result<Option<DerError>, AllocError> {
-    match cursor.take_u32() {
-        Ok(number) => put_u32(out, number)?,
-        Err(fault) => return Ok(Some(fault)),
-    }
-    Ok(None)
+/// What the reader of a tag gives.
+#[derive(Clone, Copy)]
+enum Taken<'a> {
+    Number(u32),
+    Bits(BitString<'a>),
+    Octets(&'a [u8]),
+    Null,
+    Content(Content<'a>),
 }
 
-fn copy_bits(cursor: &mut Cursor<'_>, out: &mut Vec<u8>) -> Result<Option<DerError>, AllocError> {
-    match cursor.take_bit_string() {
-        Ok(bits) => put_bit_string(out, bits.unused(), bits.octets())?,
-        Err(fault) => return Ok(Some(fault)),
-    }
-    Ok(None)
-}
-
-fn copy_octets(cursor: &mut Cursor<'_>, out: &mut Vec<u8>) -> Result<Option<DerError>, AllocError> {
-    match cursor.take_octets() {
-        Ok(octets) => put_octets(out, octets)?,
-        Err(fault) => return Ok(Some(fault)),
-    }
-    Ok(None)
-}
-
-fn copy_null(cursor: &mut Cursor<'_>, out: &mut Vec<u8>) -> Result<Option<DerError>, AllocError> {
-    match cursor.take_null() {
-        Ok(()) => put_null(out)?,
-        Err(fault) => return Ok(Some(fault)),
-    }
-    Ok(None)
-}
-
-fn copy_content(
-    cursor: &mut Cursor<'_>,
-    out: &mut Vec<u8>,
-) -> Result<Option<DerError>, AllocError> {
-    match cursor.take_value() {
-        Ok(value) => put_content(out, &value)?,
-        Err(fault) => return Ok(Some(fault)),
-    }
-    Ok(None)
-}
-
-fn put_content(out: &mut Vec<u8>, value: &Content<'_>) -> Result<(), AllocError> {
-    let tag = value.tag();
-    if tag % 32 < 31 {
-        put_header(out, tag, value.bytes().len())?;
-        out.extend_from_slice(value.bytes())?;
-    }
-    Ok(())
-}
-
-/// Takes a value by the reader of its tag, and appends it. What is wrong with it, if something is.
-fn copy(cursor: &mut Cursor<'_>, out: &mut Vec<u8>) -> Result<Option<DerError>, AllocError> {
+/// Takes a value by the reader of its tag.
+fn take<'a>(cursor: &mut Cursor<'a>) -> Result<Taken<'a>, DerError> {
     match cursor.peek_tag() {
-        Some(tag::INTEGER) => copy_number(cursor, out),
-        Some(tag::BIT_STRING) => copy_bits(cursor, out),
-        Some(tag::OCTET_STRING) => copy_octets(cursor, out),
-        Some(tag::NULL) => copy_null(cursor, out),
-        _ => copy_content(cursor, out),
+        Some(tag::INTEGER) => Ok(Taken::Number(cursor.take_u32()?)),
+        Some(tag::NULL) => cursor.take_null().and(Ok(Taken::Null)),
+        _ => take_octets(cursor),
     }
 }
 
-/// Whether the value is appended as it stands, and the octet behind it is left.
-fn is_copied(alloc: Global, text: &str) -> Result<bool, Fail> {
-    let mut octets = hex::decode(alloc, text)?;
-    octets.push(0x05)?;
-    let mut out = Vec::new(alloc);
-    let mut cursor = Cursor::new(&octets);
-    let is_whole = copy(&mut cursor, &mut out)? == None && cursor.rest() == [0x05].as_slice();
-    out.push(0x05)?;
-    Ok(is_whole && out == octets && cursor.finish() == Err(DerError::TrailingData))
+fn take_octets<'a>(cursor: &mut Cursor<'a>) -> Result<Taken<'a>, DerError> {
+    match cursor.peek_tag() {
+        Some(tag::BIT_STRING) => Ok(Taken::Bits(cursor.take_bit_string()?)),
+        Some(tag::OCTET_STRING) => Ok(Taken::Octets(cursor.take_octets()?)),
+        _ => Ok(Taken::Content(cursor.take_value()?)),
+    }
 }
 
-#[test]
-fn values_are_written_as_they_were_read(rt: HostRuntime) -> Result<(), Fail> {
-    for text in VALUES.split(' ') {
-        assert!(rt; is_copied(rt.alloc(), text)?, "{text}");
+/// Appends a value.
+fn put(taken: Taken<'_>, out: &mut Vec<u8>) -> Result<(), AllocError> {
+    match taken {
+        Taken::Number(number) => put_u32(out, number),
+        Taken::Bits(bits) => put_bit_string(out, bits.unused(), bits.octets()),
+        Taken::Octets(octets) => put_octets(out, octets),
+        Taken::Null => put_null(out),
+        Taken::Content(content) => put_content(content, out),
+    }
+}
+
+fn put_content(content: Content<'_>, out: &mut Vec<u8>) -> Result<(), AllocError> {
+    let tag = content.tag();
+    if tag % 32 < 31 {
+        put_header(out, tag, content.bytes().len())?;
+        out.extend_from_slice(content.bytes())?;
     }
     Ok(())
 }
 
-fn is_truncated(alloc: Global, start: &[u8]) -> Result<bool, AllocError> {
+/// Whether these are the octets that are appended for a value.
+fn is_put_so(alloc: Global, taken: Taken<'_>, octets: &[u8]) -> bool {
     let mut out = Vec::new(alloc);
-    let mut cursor = Cursor::new(start);
-    Ok(copy(&mut cursor, &mut out)? == Some(DerError::Truncated) && cursor.rest() == start)
+    put(taken, &mut out).is_ok() && out.as_slice() == octets
 }
 
-/// Whether each proper beginning of the octets is Truncated, and the cursor stays.
-fn are_truncated(alloc: Global, octets: &[u8]) -> Result<bool, AllocError> {
+/// How the octets are read: the fault, with the cursor where it was, or how many octets are left behind a value that is
+/// appended as it stands. None where anything else is done.
+fn left(alloc: Global, octets: &[u8]) -> Option<Result<usize, DerError>> {
+    let mut cursor = Cursor::new(octets);
+    let taken = take(&mut cursor);
+    let rest = cursor.rest();
+    match (taken, octets.strip_suffix(rest)) {
+        (Ok(taken), Some(own)) if is_put_so(alloc, taken, own) => Some(Ok(rest.len())),
+        (Err(fault), Some([])) => Some(Err(fault)),
+        _ => None,
+    }
+}
+
+/// Whether each proper beginning of the octets is Truncated.
+fn are_truncated(alloc: Global, octets: &[u8]) -> bool {
     for len in 0..octets.len() {
-        if !is_truncated(alloc, &octets[..len])? {
-            return Ok(false);
+        if left(alloc, &octets[..len]) != Some(Err(DerError::Truncated)) {
+            return false;
         }
     }
-    Ok(true)
+    true
 }
 
-#[test]
-fn proper_beginnings_are_truncated(rt: HostRuntime) -> Result<(), Fail> {
-    for text in VALUES.split(' ') {
-        let octets = hex::decode(rt.alloc(), text)?;
-        assert!(rt; are_truncated(rt.alloc(), &octets)?, "{text}");
-    }
-    Ok(())
-}
-
-/// Whether the octets are refused with the cursor where it was, or read as a value whose octets are those before the cursor.
-fn is_exact(alloc: Global, octets: &[u8]) -> Result<bool, AllocError> {
-    let mut out = Vec::new(alloc);
-    let mut cursor = Cursor::new(octets);
-    if copy(&mut cursor, &mut out)?.is_some() {
-        return Ok(cursor.rest() == octets);
-    }
-    out.extend_from_slice(cursor.rest())?;
-    Ok(out.as_slice() == octets)
-}
-
-/// The same with each octet in place of each of them.
-fn are_exact(alloc: Global, octets: &mut [u8]) -> Result<bool, AllocError> {
+/// Whether the octets are refused, or read as a value that is appended as it stands, with each octet in place of each of
+/// them.
+fn are_exact(alloc: Global, octets: &mut [u8]) -> bool {
+    let mut is_exact = true;
     for at in 0..octets.len() {
         let kept = octets[at];
         for octet in 0..=255 {
             octets[at] = octet;
-            if !is_exact(alloc, octets)? {
-                return Ok(false);
-            }
+            is_exact = left(alloc, octets).is_some() && is_exact;
         }
         octets[at] = kept;
     }
-    Ok(true)
+    is_exact
+}
+
+/// Whether an octet behind the value is left where it is, and all of the above.
+fn is_right(alloc: Global, value: &[u8]) -> Result<bool, AllocError> {
+    let mut octets = value.to_vec(alloc)?;
+    let is_exact = are_truncated(alloc, &octets) && are_exact(alloc, &mut octets);
+    octets.push(0x05)?;
+    Ok(is_exact && left(alloc, &octets) == Some(Ok(1)))
 }
 
 #[test]
-fn altered_octets_are_refused_or_read_exactly(rt: HostRuntime) -> Result<(), Fail> {
-    for text in VALUES.split(' ') {
-        let mut octets = hex::decode(rt.alloc(), text)?;
-        assert!(rt; are_exact(rt.alloc(), octets.as_mut_slice())?, "{text}");
+fn values_are_written_as_they_were_read(rt: HostRuntime) {
+    for value in &VALUES {
+        holds(&rt, is_right(rt.alloc(), value) == Ok(true));
     }
-    Ok(())
 }

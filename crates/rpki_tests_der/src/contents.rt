@@ -1,95 +1,102 @@
 // Contents, which are read whatever their tag is, and laws.
 use crate::checks::{holds, same};
 use rpki_base::asn::Asn;
-use rpki_der::{Cursor, DerError, laws};
+use rpki_der::{Content, Cursor, DerError, laws};
 use rpki_ip::der::DecodeFamilyError;
 use rpki_ip::family::AddressFamily;
-use std::alloc::Global;
 use std::test::Fail;
+
+/// The tag and the octets of a content, by each call.
+fn parts(content: &Content<'_>, tag: u8, octets: &[u8]) -> bool {
+    content.tag() == tag
+        && content.bytes() == octets
+        && content.to_octets() == Ok(octets)
+        && content.cursor().rest() == octets
+}
+
+/// A content as a number and as NULL.
+fn readings(content: &Content<'_>) -> (Result<u32, DerError>, Result<(), DerError>) {
+    (content.to_u32(), content.to_null())
+}
 
 #[test]
 fn a_content_shows_its_octets(rt: HostRuntime) -> Result<(), Fail> {
-    let content = Cursor::new(&[0x81, 0x02, 0x01, 0x80]).take_value()?;
-    same(&rt, content.tag(), 0x81);
-    same(&rt, content.bytes(), [0x01, 0x80].as_slice());
-    same(&rt, content.to_octets(), Ok([0x01, 0x80].as_slice()));
-    same(&rt, content.cursor().rest(), [0x01, 0x80].as_slice());
-    same(&rt, content.to_u32(), Ok(384));
-    same(&rt, content.to_null(), Err(DerError::BadNull));
+    let content = Cursor::new(b"\x81\x02\x01\x80").take_value()?;
+    holds(&rt, parts(&content, 0x81, b"\x01\x80"));
+    same(&rt, readings(&content), (Ok(384), Err(DerError::BadNull)));
     Ok(())
 }
 
 #[test]
 fn a_content_of_no_octets(rt: HostRuntime) -> Result<(), Fail> {
-    let empty = Cursor::new(&[0x80, 0x00]).take_value()?;
-    same(&rt, empty.to_null(), Ok(()));
-    same(&rt, empty.to_u32(), Err(DerError::BadInteger));
-    holds(
-        &rt,
-        matches!(&empty.to_bit_string(), Err(DerError::BadBitString)),
-    );
+    let content = Cursor::new(b"\x80\x00").take_value()?;
+    holds(&rt, parts(&content, 0x80, b""));
+    same(&rt, readings(&content), (Err(DerError::BadInteger), Ok(())));
     Ok(())
 }
 
+/// The unused bits of a content that is a BIT STRING, its octets, and how many there are and how many bits they say.
+fn bit_string(octets: &[u8]) -> Result<(u8, &[u8], usize, u128), DerError> {
+    let bits = Cursor::new(octets).take_value()?.to_bit_string()?;
+    Ok((
+        bits.unused(),
+        bits.octets(),
+        bits.octet_len(),
+        bits.bit_len(),
+    ))
+}
+
 #[test]
-fn a_bit_string_shows_its_octets_as_they_stand(rt: HostRuntime) -> Result<(), Fail> {
-    let content = Cursor::new(&[0x81, 0x02, 0x01, 0x81]).take_value()?;
-    let bits = content.to_bit_string()?;
-    same(&rt, bits.unused(), 1);
-    same(&rt, bits.octets(), [0x81].as_slice());
-    same(&rt, bits.octet_len(), 1);
-    same(&rt, bits.bit_len(), 7);
-    Ok(())
+fn a_bit_string_shows_its_octets_as_they_stand(rt: HostRuntime) {
+    let parts = (1, b"\x81".as_slice(), 1, 7);
+    same(&rt, bit_string(b"\x81\x02\x01\x81"), Ok(parts));
+    same(&rt, bit_string(b"\x80\x00"), Err(DerError::BadBitString));
 }
 
 /// Whether a content is this AS number, or none, and its skip answers the same.
-fn is_number(alloc: Global, row: &(&str, Result<u32, DerError>)) -> Result<bool, Fail> {
-    let octets = hex::decode(alloc, row.0)?;
-    let content = Cursor::new(&octets).take_value()?;
-    let number = Asn::parse_content(&content).map(Asn::into_u32);
-    Ok(number == row.1 && Asn::skip_content(&content) == row.1.map(|_| ()))
+fn is_number(content: &Content<'_>, number: Result<u32, DerError>) -> bool {
+    Asn::parse_content(content).map(Asn::into_u32) == number
+        && Asn::skip_content(content).err() == number.err()
 }
 
-const NUMBERS: [(&str, Result<u32, DerError>); 6] = [
-    ("810105", Ok(5)),
-    ("0403008000", Ok(32768)),
-    ("0500", Err(DerError::BadInteger)),
-    ("0302007f", Err(DerError::BadInteger)),
-    ("800180", Err(DerError::BadInteger)),
-    ("02050100000000", Err(DerError::BadInteger)),
+fn says_number(octets: &[u8], number: Result<u32, DerError>) -> bool {
+    match Cursor::new(octets).take_value() {
+        Ok(content) => is_number(&content, number),
+        Err(_) => false,
+    }
+}
+
+const NUMBERS: [(&[u8], Result<u32, DerError>); 6] = [
+    (b"\x81\x01\x05", Ok(5)),
+    (b"\x04\x03\x00\x80\x00", Ok(32768)),
+    (b"\x05\x00", Err(DerError::BadInteger)),
+    (b"\x03\x02\x00\x7f", Err(DerError::BadInteger)),
+    (b"\x80\x01\x80", Err(DerError::BadInteger)),
+    (b"\x02\x05\x01\x00\x00\x00\x00", Err(DerError::BadInteger)),
 ];
 
 #[test]
-fn contents_as_numbers(rt: HostRuntime) -> Result<(), Fail> {
-    for row in &NUMBERS {
-        assert!(rt; is_number(rt.alloc(), row)?, "{}", row.0);
+fn contents_as_numbers(rt: HostRuntime) {
+    for (octets, number) in &NUMBERS {
+        holds(&rt, says_number(octets, *number));
     }
-    Ok(())
 }
+
+const FAMILIES: [(&[u8], Result<AddressFamily, DecodeFamilyError>); 8] = [
+    (b"\x00\x01", Ok(AddressFamily::Ipv4)),
+    (b"\x00\x02", Ok(AddressFamily::Ipv6)),
+    (b"", Err(DecodeFamilyError)),
+    (b"\x01", Err(DecodeFamilyError)),
+    (b"\x00\x00", Err(DecodeFamilyError)),
+    (b"\x00\x03", Err(DecodeFamilyError)),
+    (b"\x01\x01", Err(DecodeFamilyError)),
+    (b"\x00\x01\x01", Err(DecodeFamilyError)),
+];
 
 #[test]
 fn octets_of_families(rt: HostRuntime) {
-    same(
-        &rt,
-        AddressFamily::from_octets(&[0, 1]),
-        Ok(AddressFamily::Ipv4),
-    );
-    same(
-        &rt,
-        AddressFamily::from_octets(&[0, 2]),
-        Ok(AddressFamily::Ipv6),
-    );
-}
-
-#[test]
-fn octets_that_name_no_family(rt: HostRuntime) {
-    let rows: [&[u8]; 6] = [&[], &[1], &[0, 0], &[0, 3], &[1, 1], &[0, 1, 1]];
-    for octets in &rows {
-        same(
-            &rt,
-            AddressFamily::from_octets(octets),
-            Err(DecodeFamilyError),
-        );
+    for (octets, family) in &FAMILIES {
+        same(&rt, AddressFamily::from_octets(octets), *family);
     }
 }
 

@@ -5,7 +5,7 @@
 #[cfg(test)]
 mod altered;
 #[cfg(test)]
-mod as_resources;
+mod builders;
 #[cfg(test)]
 mod checks;
 #[cfg(test)]

@@ -1,83 +1,88 @@
-// Prefixes in bit strings and in contents, and the texts of faults.
+// Prefixes in bit strings and in contents.
 use crate::checks::holds;
-use probing::prints;
-use rpki_der::{BitString, Cursor, DerError};
-use rpki_ip::der::{DecodeFamilyError, DecodePrefixError};
+use rpki_der::{Content, Cursor, DerError};
 use rpki_ip::family::AddressFamily;
 use rpki_ip::prefix::Prefix;
-use std::alloc::Global;
-use std::test::Fail;
+
+/// Whether a BIT STRING says this prefix.
+fn says(octets: &[u8], text: &str) -> bool {
+    match (
+        Cursor::new(octets).take_bit_string(),
+        Prefix::from_v6_str(text),
+    ) {
+        (Ok(bits), Ok(prefix)) => Prefix::from_bit_string(&bits) == Ok(prefix),
+        _ => false,
+    }
+}
 
 // DER, and the prefix that it says.
-const PREFIXES: [(&str, &str); 9] = [
-    ("030100", "::/0"),
-    ("0302000a", "a00::/8"),
-    ("0302040f", "::/4"),
-    ("0303040a4f", "a40::/12"),
+const PREFIXES: [(&[u8], &str); 9] = [
+    (b"\x03\x01\x00", "::/0"),
+    (b"\x03\x02\x00\x0a", "a00::/8"),
+    (b"\x03\x02\x04\x0f", "::/4"),
+    (b"\x03\x03\x04\x0a\x4f", "a40::/12"),
     // RFC 3779, 2.1.1: 10.5.0.4, 10.5.0/23 and 2001:0:200/39
-    ("0305000a050004", "a05:4::/32"),
-    ("0304010a0500", "a05::/23"),
-    ("0306012001000002", "2001:0:200::/39"),
-    ("0306070a000001ff", "a00:1:8000::/33"),
+    (b"\x03\x05\x00\x0a\x05\x00\x04", "a05:4::/32"),
+    (b"\x03\x04\x01\x0a\x05\x00", "a05::/23"),
+    (b"\x03\x06\x01\x20\x01\x00\x00\x02", "2001:0:200::/39"),
+    (b"\x03\x06\x07\x0a\x00\x00\x01\xff", "a00:1:8000::/33"),
     (
-        "03110020010000020000030000000000000001",
+        b"\x03\x11\x00\x20\x01\x00\x00\x02\x00\x00\x03\x00\x00\x00\x00\x00\x00\x00\x01",
         "2001:0:200:3::1/128",
     ),
 ];
 
-fn is_prefix(alloc: Global, text: &str, prefix: &str) -> Result<bool, Fail> {
-    let octets = hex::decode(alloc, text)?;
-    let bits: BitString<'_> = Cursor::new(&octets).take_bit_string()?;
-    Ok(Prefix::from_bit_string(&bits) == Ok(Prefix::from_v6_str(prefix)?))
-}
-
 #[test]
-fn bit_strings_as_prefixes(rt: HostRuntime) -> Result<(), Fail> {
-    for (text, prefix) in &PREFIXES {
-        assert!(rt; is_prefix(rt.alloc(), text, prefix)?, "{text}");
+fn bit_strings_as_prefixes(rt: HostRuntime) {
+    for (octets, text) in &PREFIXES {
+        holds(&rt, says(octets, text));
     }
-    Ok(())
 }
 
 /// Whether 17 octets with so many unused bits are too many.
-fn are_too_many(alloc: Global, unused: u8) -> Result<bool, Fail> {
-    let mut octets = vec![in alloc; 0; 20]?;
+fn are_too_many(unused: u8) -> bool {
+    let mut octets = [0; 20];
     octets[0] = 0x03;
     octets[1] = 0x12;
     octets[2] = unused;
-    let bits = Cursor::new(&octets).take_bit_string()?;
-    Ok(bits.octet_len() == 17 && Prefix::from_bit_string(&bits) == Err(DecodePrefixError))
+    match Cursor::new(&octets).take_bit_string() {
+        Ok(bits) => bits.octet_len() == 17 && Prefix::from_bit_string(&bits).is_err(),
+        Err(_) => false,
+    }
 }
 
 #[test]
-fn bits_that_are_too_many_for_a_prefix(rt: HostRuntime) -> Result<(), Fail> {
+fn bits_that_are_too_many_for_a_prefix(rt: HostRuntime) {
     for unused in 0..8 {
-        assert!(rt; are_too_many(rt.alloc(), unused)?, "{unused}");
+        holds(&rt, are_too_many(unused));
     }
-    Ok(())
 }
 
 // A content whatever its tag is, and the prefix that it says in IPv4 and in IPv6.
-const CONTENTS: [(&str, Result<&str, DerError>, Result<&str, DerError>); 6] = [
-    ("8102040f", Ok("::/4"), Ok("::/4")),
-    ("0405000a000001", Ok("a00:1::/32"), Ok("a00:1::/32")),
+const CONTENTS: [(&[u8], Result<&str, DerError>, Result<&str, DerError>); 6] = [
+    (b"\x81\x02\x04\x0f", Ok("::/4"), Ok("::/4")),
     (
-        "8106070a00000180",
+        b"\x04\x05\x00\x0a\x00\x00\x01",
+        Ok("a00:1::/32"),
+        Ok("a00:1::/32"),
+    ),
+    (
+        b"\x81\x06\x07\x0a\x00\x00\x01\x80",
         Err(DerError::BadPrefix),
         Ok("a00:1:8000::/33"),
     ),
     (
-        "8106000a00000180",
+        b"\x81\x06\x00\x0a\x00\x00\x01\x80",
         Err(DerError::BadPrefix),
         Ok("a00:1:8000::/40"),
     ),
     (
-        "800101",
+        b"\x80\x01\x01",
         Err(DerError::BadBitString),
         Err(DerError::BadBitString),
     ),
     (
-        "0500",
+        b"\x05\x00",
         Err(DerError::BadBitString),
         Err(DerError::BadBitString),
     ),
@@ -91,42 +96,24 @@ fn is(found: Result<Prefix, DerError>, wanted: Result<&str, DerError>) -> bool {
     }
 }
 
-fn is_content(
-    alloc: Global,
-    row: &(&str, Result<&str, DerError>, Result<&str, DerError>),
-) -> Result<bool, Fail> {
-    let octets = hex::decode(alloc, row.0)?;
-    let content = Cursor::new(&octets).take_value()?;
-    let v4 = Prefix::parse_content_with_family(&content, AddressFamily::Ipv4);
-    let v6 = Prefix::parse_content_with_family(&content, AddressFamily::Ipv6);
-    Ok(is(v4, row.1) && is(v6, row.2) && is(Prefix::parse_content(&content), row.2))
-}
-
-#[test]
-fn contents_as_prefixes(rt: HostRuntime) -> Result<(), Fail> {
-    for row in &CONTENTS {
-        assert!(rt; is_content(rt.alloc(), row)?, "{}", row.0);
+/// What a content says in a family, and, where none is named, in either.
+fn read(octets: &[u8], family: Option<AddressFamily>) -> Result<Prefix, DerError> {
+    let content: Content<'_> = Cursor::new(octets).take_value()?;
+    match family {
+        Some(family) => Prefix::parse_content_with_family(&content, family),
+        None => Prefix::parse_content(&content),
     }
-    Ok(())
+}
+
+fn reads(row: &(&[u8], Result<&str, DerError>, Result<&str, DerError>)) -> bool {
+    is(read(row.0, Some(AddressFamily::Ipv4)), row.1)
+        && is(read(row.0, Some(AddressFamily::Ipv6)), row.2)
+        && is(read(row.0, None), row.2)
 }
 
 #[test]
-fn texts_of_faults(rt: HostRuntime) -> Result<(), Fail> {
-    holds(
-        &rt,
-        prints(
-            rt.alloc(),
-            &DecodePrefixError,
-            "invalid prefix in IP resources",
-        )?,
-    );
-    holds(
-        &rt,
-        prints(
-            rt.alloc(),
-            &DecodeFamilyError,
-            "invalid address family in IP resources",
-        )?,
-    );
-    Ok(())
+fn contents_as_prefixes(rt: HostRuntime) {
+    for row in &CONTENTS {
+        holds(&rt, reads(row));
+    }
 }

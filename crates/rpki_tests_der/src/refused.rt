@@ -1,6 +1,5 @@
 // Writers where memory is refused: each asks once, for all that it writes, and a refused one leaves what is there.
-use crate::checks::same;
-use crate::written::even_numbers;
+use crate::checks::holds;
 use refusing::{Plan, Refusing};
 use rpki_as::block::AsBlock;
 use rpki_as::blocks::AsBlocks;
@@ -14,7 +13,6 @@ use rpki_ipres::block::IpBlock;
 use rpki_ipres::blocks::IpBlocks;
 use std::alloc::{AllocError, Allocator, Global};
 use std::str::FromStr;
-use std::test::Fail;
 
 /// Whether a writer whose one request is refused leaves the octet that is there, and writes with one request when it is
 /// called again.
@@ -25,12 +23,15 @@ fn asks_once<F: Fn(&mut Vec<u8, &Refusing>) -> Result<(), AllocError>>(
     requires { F.IsAlwaysCallable put }
 {
     let refusing = Refusing::new(alloc, Plan::RefuseOnly(1));
-    let mut out = Vec::with_capacity(&refusing, 1)?;
-    out.push(0x7f)?;
-    let is_refused = put(&mut out) == Err(AllocError)
-        && out.as_slice() == [0x7f].as_slice()
-        && refusing.has_refused();
-    Ok(is_refused && put(&mut out) == Ok(()) && refusing.asked() == 3)
+    let mut out = Vec::from_array(&refusing, [0x7f])?;
+    let is_refused = put(&mut out).is_err() && refusing.has_refused();
+    let is_left = is_refused && out.as_slice() == [0x7f].as_slice();
+    Ok(is_left && put(&mut out).is_ok() && refusing.asked() == 3)
+}
+
+fn a_range() -> AddressRange {
+    let range = AddressRange::from_str("10.2.48.0-10.2.64.255");
+    range.unwrap_or(AddressRange::from(Prefix::all()))
 }
 
 /// One of the writers of single values.
@@ -45,28 +46,20 @@ fn put_value<A: Allocator>(writer: u32, out: &mut Vec<u8, A>) -> Result<(), Allo
         6 => AddressFamily::Ipv6.encode(out),
         7 => Prefix::all().encode(out),
         8 => AsBlock::all().encode(out),
-        _ => IpBlock::all().encode(out),
+        9 => IpBlock::all().encode(out),
+        _ => a_range().encode(out),
     }
 }
 
 #[test]
-fn values(rt: HostRuntime) -> Result<(), Fail> {
-    for writer in 0..10 {
+fn values(rt: HostRuntime) {
+    for writer in 0..11 {
         let is_right = asks_once(
             rt.alloc(),
             |out: &mut Vec<u8, &Refusing>| put_value(writer, out),
         );
-        assert!(rt; is_right == Ok(true), "writer {writer}");
+        holds(&rt, is_right == Ok(true));
     }
-    Ok(())
-}
-
-#[test]
-fn ranges_of_addresses(rt: HostRuntime) -> Result<(), Fail> {
-    let range = AddressRange::from_str("10.2.48.0-10.2.64.255")?;
-    let is_right = asks_once(rt.alloc(), |out: &mut Vec<u8, &Refusing>| range.encode(out));
-    same(&rt, is_right, Ok(true));
-    Ok(())
 }
 
 /// One of the writers of blocks of AS numbers.
@@ -83,17 +76,35 @@ fn put_as_blocks<A: Allocator>(
     }
 }
 
-#[test]
-fn blocks_of_as_numbers(rt: HostRuntime) -> Result<(), Fail> {
-    let set = AsBlocks::from_blocks(rt.alloc(), &even_numbers(rt.alloc())?)?;
-    for writer in 0..3 {
-        let is_right = asks_once(
-            rt.alloc(),
-            |out: &mut Vec<u8, &Refusing>| put_as_blocks(writer, &set, out),
-        );
-        assert!(rt; is_right == Ok(true), "writer {writer}");
+/// The even numbers AS0 to AS126, each a block of its own: their length takes two octets.
+fn even_numbers() -> [AsBlock; 64] {
+    let mut blocks = [AsBlock::Id(Asn::MIN); 64];
+    for (half, block) in blocks.iter_mut().enumerate() {
+        *block = AsBlock::Id(Asn::from_u32(2 * half as u32));
     }
-    Ok(())
+    blocks
+}
+
+fn as_writer_asks_once(alloc: Global, writer: u32, set: &AsBlocks) -> bool {
+    let is_right = asks_once(
+        alloc,
+        |out: &mut Vec<u8, &Refusing>| put_as_blocks(writer, set, out),
+    );
+    is_right == Ok(true)
+}
+
+fn even_numbers_ask_once(alloc: Global, writer: u32) -> bool {
+    match AsBlocks::from_blocks(alloc, &even_numbers()) {
+        Ok(set) => as_writer_asks_once(alloc, writer, &set),
+        Err(_) => false,
+    }
+}
+
+#[test]
+fn blocks_of_as_numbers(rt: HostRuntime) {
+    for writer in 0..3 {
+        holds(&rt, even_numbers_ask_once(rt.alloc(), writer));
+    }
 }
 
 /// One of the writers of blocks of addresses.
@@ -108,16 +119,25 @@ fn put_ip_blocks<A: Allocator>(
     }
 }
 
-#[test]
-fn blocks_of_addresses(rt: HostRuntime) -> Result<(), Fail> {
+fn ip_writer_asks_once(alloc: Global, writer: u32, set: &IpBlocks) -> bool {
+    let is_right = asks_once(
+        alloc,
+        |out: &mut Vec<u8, &Refusing>| put_ip_blocks(writer, set, out),
+    );
+    is_right == Ok(true)
+}
+
+fn addresses_ask_once(alloc: Global, writer: u32) -> bool {
     let list = "10.0.0.0/8, 10.2.48.0-10.2.64.255, 11.0.0.0-11.0.0.2";
-    let set = IpBlocks::from_str(rt.alloc(), list)?;
-    for writer in 0..2 {
-        let is_right = asks_once(
-            rt.alloc(),
-            |out: &mut Vec<u8, &Refusing>| put_ip_blocks(writer, &set, out),
-        );
-        assert!(rt; is_right == Ok(true), "writer {writer}");
+    match IpBlocks::from_str(alloc, list) {
+        Ok(set) => ip_writer_asks_once(alloc, writer, &set),
+        Err(_) => false,
     }
-    Ok(())
+}
+
+#[test]
+fn blocks_of_addresses(rt: HostRuntime) {
+    for writer in 0..2 {
+        holds(&rt, addresses_ask_once(rt.alloc(), writer));
+    }
 }

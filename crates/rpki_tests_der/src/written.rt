@@ -1,6 +1,5 @@
 // What is written, and how long it is.
 use crate::checks::{holds, same};
-use probing::prints;
 use rpki_as::block::AsBlock;
 use rpki_as::blocks::AsBlocks;
 use rpki_base::asn::Asn;
@@ -18,299 +17,272 @@ use std::alloc::{AllocError, Global};
 use std::str::FromStr;
 use std::test::Fail;
 
-/// Whether the octets are these, in hexadecimal.
-fn are(alloc: Global, octets: &[u8], text: &str) -> Result<bool, AllocError> {
-    prints(alloc, &hex::encode(alloc, octets)?, text)
-}
-
-const HEADERS: [(usize, &str); 8] = [
-    (0, "3000"),
-    (127, "307f"),
-    (128, "308180"),
-    (198, "3081c6"),
-    (256, "30820100"),
-    (65536, "3083010000"),
-    (4294967296, "30850100000000"),
-    (usize::MAX, "3088ffffffffffffffff"),
+const HEADERS: [(usize, &[u8]); 8] = [
+    (0, b"\x30\x00"),
+    (127, b"\x30\x7f"),
+    (128, b"\x30\x81\x80"),
+    (198, b"\x30\x81\xc6"),
+    (256, b"\x30\x82\x01\x00"),
+    (65536, b"\x30\x83\x01\x00\x00"),
+    (4294967296, b"\x30\x85\x01\x00\x00\x00\x00"),
+    (usize::MAX, b"\x30\x88\xff\xff\xff\xff\xff\xff\xff\xff"),
 ];
 
-fn is_header(alloc: Global, len: usize, text: &str) -> Result<bool, AllocError> {
+fn is_header(alloc: Global, len: usize, octets: &[u8]) -> bool {
     let mut out = Vec::new(alloc);
-    put_header(&mut out, tag::SEQUENCE, len)?;
-    Ok(are(alloc, &out, text)? && header_len(tag::SEQUENCE, len) == out.len())
+    put_header(&mut out, tag::SEQUENCE, len).is_ok() && out.as_slice() == octets
 }
 
 #[test]
-fn headers(rt: HostRuntime) -> Result<(), Fail> {
-    for (len, text) in &HEADERS {
-        assert!(rt; is_header(rt.alloc(), *len, text)?, "{text}");
+fn headers(rt: HostRuntime) {
+    for (len, octets) in &HEADERS {
+        holds(&rt, is_header(rt.alloc(), *len, octets));
+        same(&rt, header_len(tag::SEQUENCE, *len), octets.len());
     }
-    Ok(())
 }
 
-fn is_read_back(alloc: Global, len: usize) -> Result<bool, Fail> {
+/// Whether the octets begin with an OCTET STRING of so many.
+fn begin_with(octets: &[u8], len: usize) -> bool {
+    match Cursor::new(octets).take_octets() {
+        Ok(content) => content.len() == len,
+        Err(_) => false,
+    }
+}
+
+fn is_read_back(alloc: Global, content: &[u8]) -> bool {
+    let mut out = Vec::new(alloc);
+    put_octets(&mut out, content).is_ok()
+        && out.len() == octets_len(content)
+        && begin_with(&out, content.len())
+}
+
+fn are_read_back(alloc: Global, len: usize) -> Result<bool, AllocError> {
     let content = vec![in alloc; 0; len]?;
-    let mut out = Vec::new(alloc);
-    put_octets(&mut out, &content)?;
-    let read = Cursor::new(&out).take_octets()?;
-    Ok(read.len() == len && octets_len(&content) == out.len())
+    Ok(is_read_back(alloc, &content))
 }
 
 #[test]
-fn long_contents_are_read_back(rt: HostRuntime) -> Result<(), Fail> {
+fn long_contents_are_read_back(rt: HostRuntime) {
     for len in &[127, 128, 255, 256, 65535, 65536] {
-        assert!(rt; is_read_back(rt.alloc(), *len)?, "{len} octets");
+        holds(&rt, are_read_back(rt.alloc(), *len) == Ok(true));
     }
-    Ok(())
 }
 
-const NUMBERS: [(u32, &str); 7] = [
-    (0, "020100"),
-    (127, "02017f"),
-    (128, "02020080"),
-    (256, "02020100"),
-    (65000, "020300fde8"),
-    (2147483648, "02050080000000"),
-    (4294967295, "020500ffffffff"),
+const NUMBERS: [(u32, &[u8]); 7] = [
+    (0, b"\x02\x01\x00"),
+    (127, b"\x02\x01\x7f"),
+    (128, b"\x02\x02\x00\x80"),
+    (256, b"\x02\x02\x01\x00"),
+    (65000, b"\x02\x03\x00\xfd\xe8"),
+    (2147483648, b"\x02\x05\x00\x80\x00\x00\x00"),
+    (4294967295, b"\x02\x05\x00\xff\xff\xff\xff"),
 ];
 
-fn is_number(alloc: Global, number: u32, text: &str) -> Result<bool, AllocError> {
+fn is_number(alloc: Global, number: u32, octets: &[u8]) -> bool {
     let mut out = Vec::new(alloc);
-    put_u32(&mut out, number)?;
-    let is_long = Asn::from_u32(number).encoded_len() == out.len() && u32_len(number) == out.len();
-    Ok(are(alloc, &out, text)? && is_long)
+    put_u32(&mut out, number).is_ok() && out.as_slice() == octets
 }
 
 #[test]
-fn numbers(rt: HostRuntime) -> Result<(), Fail> {
-    for (number, text) in &NUMBERS {
-        assert!(rt; is_number(rt.alloc(), *number, text)?, "{text}");
+fn numbers(rt: HostRuntime) {
+    for (number, octets) in &NUMBERS {
+        holds(&rt, is_number(rt.alloc(), *number, octets));
+        same(&rt, u32_len(*number), octets.len());
+        same(&rt, Asn::from_u32(*number).encoded_len(), octets.len());
     }
-    Ok(())
+}
+
+fn put_values(out: &mut Vec<u8>) -> Result<(), AllocError> {
+    put_null(out)?;
+    put_bit_string(out, 4, b"\x0a\x4f")?;
+    put_octets(out, b"\x00\x02")
 }
 
 #[test]
-fn values_are_appended(rt: HostRuntime) -> Result<(), Fail> {
+fn values_are_appended(rt: HostRuntime) {
     let mut out = Vec::new(rt.alloc());
-    put_null(&mut out)?;
-    same(&rt, out.len(), null_len());
-    put_bit_string(&mut out, 4, &[0x0a, 0x4f])?;
-    same(&rt, out.len(), null_len() + 5);
-    same(&rt, bit_string_len(4, &[0x0a, 0x4f]), 5);
-    put_octets(&mut out, &[0x00, 0x02])?;
-    holds(&rt, are(rt.alloc(), &out, "05000303040a4f04020002")?);
-    Ok(())
+    same(&rt, put_values(&mut out), Ok(()));
+    let octets = b"\x05\x00\x03\x03\x04\x0a\x4f\x04\x02\x00\x02".as_slice();
+    same(&rt, out.as_slice(), octets);
+}
+
+#[test]
+fn lengths_of_values(rt: HostRuntime) {
+    same(&rt, null_len(), 2);
+    same(&rt, bit_string_len(4, b"\x0a\x4f"), 5);
+    same(&rt, octets_len(b"\x00\x02"), 4);
 }
 
 // ---- lengths of what is written of a block
 
-fn as_block_is_long(text: &str, len: usize) -> Result<bool, Fail> {
-    Ok(AsBlock::from_str(text)?.encoded_len() == len)
-}
-
-#[test]
-fn lengths_of_as_blocks(rt: HostRuntime) -> Result<(), Fail> {
-    for (text, len) in &[
-        ("AS7", 3),
-        ("AS4294967295", 7),
-        ("AS7-AS7", 8),
-        ("0-4294967295", 12),
-    ] {
-        assert!(rt; as_block_is_long(text, *len)?, "{text}");
-    }
-    Ok(())
-}
-
-// A prefix or a range, and what is written of it.
-const BLOCKS: [(&str, &str); 14] = [
-    ("0.0.0.0/0", "030100"),
-    ("0.0.0.0/4", "03020400"),
-    ("10.64.0.0/12", "0303040a40"),
-    ("10.5.0.4/32", "0305000a050004"),
-    (
-        "2001:0:200:3::1/128",
-        "03110020010000020000030000000000000001",
-    ),
-    ("2001:0:200::/39", "0306012001000002"),
-    // RFC 3779, appendix B
-    ("10.2.48.0-10.2.64.255", "300c0304040a02300304000a0240"),
-    ("0.0.0.0-127.255.255.254", "300a0301000305007ffffffe"),
-    ("10.0.0.0-10.255.255.255", "30080302010a0302000a"),
-    ("0.0.0.0-15.255.255.255", "300703010003020400"),
-    ("0.0.0.0-255.255.255.255", "3006030100030100"),
-    ("0.0.0.1-0.0.0.1", "300e0305000000000103050100000000"),
-    ("a00:1:8000::/33", "0306070a00000180"),
-    (
-        "::1-::2",
-        "30260311000000000000000000000000000000000103110000000000000000000000000000000002",
-    ),
+const AS_BLOCKS: [(&str, usize); 4] = [
+    ("AS7", 3),
+    ("AS4294967295", 7),
+    ("AS7-AS7", 8),
+    ("0-4294967295", 12),
 ];
 
-fn is_block(alloc: Global, text: &str, written: &str) -> Result<bool, Fail> {
-    let block = IpBlock::from_str(text)?;
-    let mut out = Vec::new(alloc);
-    block.encode(&mut out)?;
-    Ok(are(alloc, &out, written)? && block.encoded_len() == out.len())
+fn as_block_len(text: &str) -> usize {
+    match AsBlock::from_str(text) {
+        Ok(block) => block.encoded_len(),
+        Err(_) => 0,
+    }
 }
 
 #[test]
-fn blocks_of_addresses(rt: HostRuntime) -> Result<(), Fail> {
-    for (text, written) in &BLOCKS {
-        assert!(rt; is_block(rt.alloc(), text, written)?, "{text}");
+fn lengths_of_as_blocks(rt: HostRuntime) {
+    for (text, len) in &AS_BLOCKS {
+        same(&rt, as_block_len(text), *len);
     }
-    Ok(())
 }
 
-fn is_range(alloc: Global, text: &str, written: &str) -> Result<bool, Fail> {
-    let range = AddressRange::from_str(text)?;
-    let mut out = Vec::new(alloc);
-    range.encode(&mut out)?;
-    Ok(are(alloc, &out, written)? && range.encoded_len() == out.len())
+// A prefix or a range, and how many octets are written of it.
+const BLOCKS: [(&str, usize); 14] = [
+    ("0.0.0.0/0", 3),
+    ("0.0.0.0/4", 4),
+    ("10.64.0.0/12", 5),
+    ("10.5.0.4/32", 7),
+    ("2001:0:200:3::1/128", 19),
+    ("2001:0:200::/39", 8),
+    // RFC 3779, appendix B
+    ("10.2.48.0-10.2.64.255", 14),
+    ("0.0.0.0-127.255.255.254", 12),
+    ("10.0.0.0-10.255.255.255", 10),
+    ("0.0.0.0-15.255.255.255", 9),
+    ("0.0.0.0-255.255.255.255", 8),
+    ("0.0.0.1-0.0.0.1", 16),
+    ("a00:1:8000::/33", 8),
+    ("::1-::2", 40),
+];
+
+fn block_len(text: &str) -> usize {
+    match IpBlock::from_str(text) {
+        Ok(block) => block.encoded_len(),
+        Err(_) => 0,
+    }
 }
 
-fn is_prefix(alloc: Global, text: &str, written: &str) -> Result<bool, Fail> {
-    let prefix = Prefix::from_str(text)?;
-    let mut out = Vec::new(alloc);
-    prefix.encode(&mut out)?;
-    Ok(are(alloc, &out, written)? && prefix.encoded_len() == out.len())
+fn prefix_or_range_len(text: &str) -> usize {
+    match (Prefix::from_str(text), AddressRange::from_str(text)) {
+        (Ok(prefix), _) => prefix.encoded_len(),
+        (_, Ok(range)) => range.encoded_len(),
+        _ => 0,
+    }
 }
 
 #[test]
-fn prefixes_and_ranges(rt: HostRuntime) -> Result<(), Fail> {
-    for (text, written) in &BLOCKS {
-        let is_told = if text.contains('/') {
-            is_prefix(rt.alloc(), text, written)?
-        } else {
-            is_range(rt.alloc(), text, written)?
-        };
-        assert!(rt; is_told, "{text}");
+fn lengths_of_blocks_of_addresses(rt: HostRuntime) {
+    for (text, len) in &BLOCKS {
+        same(&rt, block_len(text), *len);
+        same(&rt, prefix_or_range_len(text), *len);
     }
-    Ok(())
+}
+
+/// Whether the octets are read as a block that is a Prefix; None where they aren't read.
+fn is_prefix(octets: &[u8]) -> Option<bool> {
+    match IpBlock::take_opt_from(&mut Cursor::new(octets)) {
+        Ok(Some(IpBlock::Prefix(_))) => Some(true),
+        Ok(Some(IpBlock::Range(_))) => Some(false),
+        _ => None,
+    }
 }
 
 // The form of a block is that of its octets: the bounds of a range may be those of a prefix.
 #[test]
-fn forms_of_blocks(rt: HostRuntime) -> Result<(), Fail> {
-    let prefix = IpBlock::take_opt_from(&mut Cursor::new(&[0x03, 0x02, 0x00, 0x0a]))?;
-    let octets = [0x30, 0x08, 0x03, 0x02, 0x00, 0x0a, 0x03, 0x02, 0x00, 0x0a];
-    let range = IpBlock::take_opt_from(&mut Cursor::new(&octets))?;
-    holds(&rt, matches!(&prefix, Some(IpBlock::Prefix(_))));
-    holds(&rt, matches!(&range, Some(IpBlock::Range(_))));
-    same(&rt, range, prefix);
-    Ok(())
+fn forms_of_blocks(rt: HostRuntime) {
+    let prefix = b"\x03\x02\x00\x0a";
+    let range = b"\x30\x08\x03\x02\x00\x0a\x03\x02\x00\x0a";
+    same(&rt, is_prefix(prefix), Some(true));
+    same(&rt, is_prefix(range), Some(false));
+    same(
+        &rt,
+        IpBlock::take_opt_from(&mut Cursor::new(prefix)),
+        IpBlock::take_opt_from(&mut Cursor::new(range)),
+    );
 }
 
 // With the family and the set in a SEQUENCE; nothing for the empty set.
-const OF_FAMILIES: [(&str, AddressFamily, &str); 4] = [
+const OF_FAMILIES: [(&str, AddressFamily, &[u8]); 4] = [
     (
         "10.0.0.0/8",
         AddressFamily::Ipv4,
-        "300a0402000130040302000a",
+        b"\x30\x0a\x04\x02\x00\x01\x30\x04\x03\x02\x00\x0a",
     ),
-    ("a00::/8", AddressFamily::Ipv6, "300a0402000230040302000a"),
-    ("", AddressFamily::Ipv4, ""),
-    ("", AddressFamily::Ipv6, ""),
+    (
+        "a00::/8",
+        AddressFamily::Ipv6,
+        b"\x30\x0a\x04\x02\x00\x02\x30\x04\x03\x02\x00\x0a",
+    ),
+    ("", AddressFamily::Ipv4, b""),
+    ("", AddressFamily::Ipv6, b""),
 ];
 
-fn is_of_family(
-    alloc: Global,
-    list: &str,
-    family: AddressFamily,
-    text: &str,
-) -> Result<bool, Fail> {
-    let set = IpBlocks::from_str(alloc, list)?;
+fn is_of_family(alloc: Global, set: &IpBlocks, family: AddressFamily, octets: &[u8]) -> bool {
     let mut out = Vec::new(alloc);
-    set.encode_family(family, &mut out)?;
-    Ok(are(alloc, &out, text)?)
+    set.encode_family(family, &mut out).is_ok() && out.as_slice() == octets
+}
+
+fn list_is_of_family(alloc: Global, list: &str, family: AddressFamily, octets: &[u8]) -> bool {
+    match IpBlocks::from_str(alloc, list) {
+        Ok(set) => is_of_family(alloc, &set, family, octets),
+        Err(_) => false,
+    }
 }
 
 #[test]
-fn sets_with_their_families(rt: HostRuntime) -> Result<(), Fail> {
-    for (list, family, text) in &OF_FAMILIES {
-        assert!(rt; is_of_family(rt.alloc(), list, *family, text)?, "{list}");
+fn sets_with_their_families(rt: HostRuntime) {
+    for (list, family, octets) in &OF_FAMILIES {
+        holds(&rt, list_is_of_family(rt.alloc(), list, *family, octets));
     }
-    Ok(())
 }
 
 // ---- sequences
 
-/// The even numbers AS0 to AS126, each a block of its own.
-pub fn even_numbers(alloc: Global) -> Result<Vec<AsBlock>, AllocError> {
-    let mut blocks = Vec::new(alloc);
-    for half in 0..64 {
-        blocks.push(AsBlock::Id(Asn::from_u32(2 * half)))?;
-    }
-    Ok(blocks)
-}
-
-/// The octets of a set, with no SEQUENCE round them.
-fn bare(alloc: Global, blocks: &[AsBlock]) -> Result<Vec<u8>, AllocError> {
-    let set = AsBlocks::from_blocks(alloc, blocks)?;
-    let mut out = Vec::new(alloc);
-    set.encode(&mut out)?;
-    Ok(out)
-}
+/// Sixty-four blocks, each of one number that is written as three octets.
+const SMALL_NUMBERS: [AsBlock; 64] = [AsBlock::Id(Asn::MIN); 64];
 
 #[test]
-fn a_length_of_two_octets(rt: HostRuntime) -> Result<(), Fail> {
-    let blocks = even_numbers(rt.alloc())?;
-    let bare = bare(rt.alloc(), &blocks)?;
-    same(&rt, bare.len(), 192);
-    holds(&rt, bare.starts_with(&[0x02, 0x01, 0x00, 0x02, 0x01, 0x02]));
-    let mut octets = Vec::new(rt.alloc());
-    encode_sequence(&blocks, &mut octets)?;
-    same(&rt, octets.len(), 195);
-    same(&rt, sequence_len(&blocks), Some(195));
-    holds(&rt, octets.starts_with(&[0x30, 0x81, 0xc0]));
-    holds(&rt, octets.ends_with(&bare));
-    Ok(())
+fn lengths_of_sequences(rt: HostRuntime) {
+    same(&rt, sequence_len(&SMALL_NUMBERS), Some(195));
+    same(&rt, sequence_len::<AsBlock>(&[]), Some(2));
 }
 
-fn is_set_read_back(alloc: Global, octets: &[u8], blocks: &[AsBlock]) -> Result<bool, Fail> {
-    let mut cursor = Cursor::new(octets);
-    let read = AsBlocks::take_from(alloc, &mut cursor)?;
-    Ok(read == AsBlocks::from_blocks(alloc, blocks)? && cursor.is_empty())
+fn seven() -> AsBlock {
+    AsBlock::from(Asn::from_u32(7))
 }
 
-#[test]
-fn a_length_of_two_octets_is_read(rt: HostRuntime) -> Result<(), Fail> {
-    let blocks = even_numbers(rt.alloc())?;
-    let mut octets = Vec::new(rt.alloc());
-    encode_sequence(&blocks, &mut octets)?;
-    holds(&rt, is_set_read_back(rt.alloc(), &octets, &blocks)?);
-    Ok(())
+fn all() -> AsBlock {
+    AsBlock::from_pair((Asn::MIN, Asn::MAX))
 }
 
 // The values as they are given, whether or not they are the blocks of a set.
 #[test]
-fn values_one_after_another(rt: HostRuntime) -> Result<(), Fail> {
-    let seven = AsBlock::from(Asn::from_u32(7));
-    let blocks = [seven, AsBlock::from_pair((Asn::MIN, Asn::MAX)), seven];
+fn values_one_after_another(rt: HostRuntime) {
     let mut out = Vec::new(rt.alloc());
-    encode_all(&blocks, &mut out)?;
-    holds(
+    same(
         &rt,
-        are(rt.alloc(), &out, "020107300a020100020500ffffffff020107")?,
+        encode_all(&[seven(), all(), seven()], &mut out),
+        Ok(()),
     );
-    encode_all::<AsBlock, Global>(&[], &mut out)?;
-    same(&rt, out.len(), 18);
-    Ok(())
+    same(&rt, encode_all::<AsBlock, Global>(&[], &mut out), Ok(()));
+    let octets = b"\x02\x01\x07\x30\x0a\x02\x01\x00\x02\x05\x00\xff\xff\xff\xff\x02\x01\x07";
+    same(&rt, out.as_slice(), octets.as_slice());
 }
 
 #[test]
-fn values_in_a_sequence(rt: HostRuntime) -> Result<(), Fail> {
-    let seven = AsBlock::from(Asn::from_u32(7));
-    let blocks = [seven, AsBlock::from_pair((Asn::MIN, Asn::MAX)), seven];
+fn values_in_a_sequence(rt: HostRuntime) {
     let mut out = Vec::new(rt.alloc());
-    encode_sequence(&blocks, &mut out)?;
-    encode_sequence::<AsBlock, Global>(&[], &mut out)?;
-    holds(
+    same(
         &rt,
-        are(
-            rt.alloc(),
-            &out,
-            "3012020107300a020100020500ffffffff0201073000",
-        )?,
+        encode_sequence(&[seven(), all(), seven()], &mut out),
+        Ok(()),
     );
-    Ok(())
+    same(
+        &rt,
+        encode_sequence::<AsBlock, Global>(&[], &mut out),
+        Ok(()),
+    );
+    let octets =
+        b"\x30\x12\x02\x01\x07\x30\x0a\x02\x01\x00\x02\x05\x00\xff\xff\xff\xff\x02\x01\x07\x30\x00";
+    same(&rt, out.as_slice(), octets.as_slice());
 }

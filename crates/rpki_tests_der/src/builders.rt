@@ -1,0 +1,50 @@
+// Resources that are built with functions.
+use crate::checks::holds;
+use probing::prints;
+use rpki_as::{AsBlock, AsResourcesBuilder};
+use rpki_base::asn::Asn;
+use std::alloc::{AllocError, Global};
+
+fn id(number: u32) -> AsBlock {
+    AsBlock::Id(Asn::from_u32(number))
+}
+
+/// Whether this is printed of what a builder gives.
+fn builds(alloc: Global, builder: AsResourcesBuilder, text: &str) -> Result<bool, AllocError> {
+    let resources = builder.finalize()?;
+    prints(alloc, &resources, text)
+}
+
+/// What is listed before resources are inherited is dropped, and what is listed after that stays: two calls add to one
+/// list.
+fn lists_anew(alloc: Global) -> Result<bool, AllocError> {
+    let mut builder = AsResourcesBuilder::new(alloc);
+    builder.blocks(|blocks| blocks.push(id(5)))?;
+    builder.inherit();
+    builder.blocks(|blocks| blocks.push(id(7)))?;
+    builder.blocks(|blocks| blocks.push(id(8)))?;
+    builds(alloc, builder, "AS7-AS8")
+}
+
+/// What a function pushed before it refused stays.
+fn keeps_what_was_pushed(alloc: Global) -> Result<bool, AllocError> {
+    let mut builder = AsResourcesBuilder::new(alloc);
+    let answer = builder.blocks(|blocks| {
+        blocks.push(id(9))?;
+        Err(AllocError)
+    });
+    Ok(builds(alloc, builder, "AS9")? && answer.is_err())
+}
+
+/// A builder of which nothing is asked.
+fn begins_as_missing(alloc: Global) -> Result<bool, AllocError> {
+    let resources = AsResourcesBuilder::new(alloc).finalize()?;
+    Ok(resources.is_missing())
+}
+
+#[test]
+fn resources_are_built(rt: HostRuntime) {
+    holds(&rt, lists_anew(rt.alloc()) == Ok(true));
+    holds(&rt, keeps_what_was_pushed(rt.alloc()) == Ok(true));
+    holds(&rt, begins_as_missing(rt.alloc()) == Ok(true));
+}

@@ -19,4 +19,6 @@ mod paths;
 #[cfg(test)]
 mod refused;
 #[cfg(test)]
+mod resource_sets;
+#[cfg(test)]
 mod small_sets;

@@ -1,10 +1,11 @@
 -- Contents: what the reading answers is what the conditions of X.690 say, and that is how they are spelled.
-use Rattle.std.proofs.Common.{◌≡◌, ℕ, zero, suc, ◌/◌, ◌%◌, ◌^◌, ◌<◌, ◌≤◌, ◌≢◌, Bool, true, false, cond, eqb, ltb, leb, ◌||◌, ◌&&◌, List, [], ◌∷◌, length, get_or, Result, Ok, Err, refl, sym, ap, subst, ◌∙◌, arith, inl, inr}
+use Rattle.std.proofs.Common.{◌≡◌, ℕ, zero, suc, ◌-◌, ◌/◌, ◌%◌, ◌^◌, ◌<◌, ◌≤◌, ◌≢◌, Bool, true, false, cond, eqb, ltb, leb, ◌||◌, ◌&&◌, List, [], ◌∷◌, ◌++◌, length, get_or, drop, Result, Ok, Err, refl, sym, ap, subst, ◌∙◌, arith, inl, inr}
 use Rattle.std.specs.Int.{w64, to_be_bytes, bytes_high_first}
 use Rattle.std.proofs.lemmas.Bool.{cases_lt, ltb-false, ltb-true, le-ltb, lt-ltb, eqb-false, ne_eqb, leb-false, lt-leb, or_parts, or_from}
+use Rattle.std.proofs.lemmas.List.{drop_at, length-append}
 use Rattle.rpki_der.specs.declared.error.DerError.{DerError}
 use Rattle.rpki_der.specs.declared.error.DerError.TheVariants.{BadInteger, BadBitString}
-use Rattle.rpki_der.specs.Der.{IsBytes, big_endian, octets, integer, with_sign, Bits, IsBits, IsUnsigned, IsBitContent, IsNothing}
+use Rattle.rpki_der.specs.Der.{IsBytes, big_endian, octets, integer, with_sign, without_zeros, Bits, IsBits, IsUnsigned, IsBitContent, IsNothing}
 use Rattle.rpki_der.specs.Reading.{unsigned, bits, nothing}
 use Rattle.rpki_der.proofs.Steps.{IsCheck, IsBytes-rest, passed, passed_true, ok_is, one_false, and_false}
 use Rattle.rpki_der.proofs.Numbers.{octets-big_endian, big_endian-octets, octets-zero, octets_head, length-without_zeros}
@@ -129,6 +130,26 @@ spelled_unsigned n lt = says_spelled n (octets n) lt refl
 -- an INTEGER of 32 bits has a content of five octets at most
 pub length-integer : (n : ℕ) → n < 2 ^ 32 → length (integer n) ≤ 5
 length-integer n lt = (spelled_unsigned n lt).few
+
+-- the digits of a number, with their sign, are the end of the octets that have them, if these begin with a zero
+signed_end : (ds : List ℕ) → (front : List ℕ) × (0 ∷ ds ≡ front ++ with_sign (without_zeros ds))
+signed_end [] = ([], refl)
+signed_end (zero ∷ ds) = let end = signed_end ds in (0 ∷ end.0, ap (λ (t : List ℕ). 0 ∷ t) end.1)
+signed_end (suc d ∷ ds) = by_sign (ltb (suc d) 128)
+  where
+    by_sign : (b : Bool) → (front : List ℕ) × (0 ∷ suc d ∷ ds ≡ front ++ cond b (suc d ∷ ds) (0 ∷ suc d ∷ ds))
+    by_sign true = (0 ∷ [], refl)
+    by_sign false = ([], refl)
+
+-- an INTEGER of 32 bits is the end of the number's eight octets
+pub integer-end : (n : ℕ) → n < 2 ^ 32 → drop (8 - length (integer n)) (to_be_bytes w64 n) ≡ integer n
+unfolding integer octets
+integer-end n lt =
+    let rest : List ℕ = 0 ∷ 0 ∷ 0 ∷ bytes_high_first 4 n in
+    let content : List ℕ = with_sign (without_zeros rest) in
+    let end = signed_end rest in
+    let count : length end.0 ≡ 8 - length content = omega (arith, ap (λ (t : List ℕ). length t) end.1, length-append end.0 content) in
+    rw (high_zero n lt) (ap (drop (8 - length content)) end.1 ∙ drop_at end.0 content (8 - length content) count)
 
 -- ---- bit strings and NULL
 

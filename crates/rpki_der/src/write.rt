@@ -5,7 +5,7 @@
 
 ghost use Rattle.std.specs.Prelude.{◌≡◌, ◌≤◌, ◌<◌, ◌+◌, ◌^◌, ◌++◌, length, vec_len, OnOk, OnErr, IsOk};
 ghost use Rattle.std.specs.Vec.{vec_capacity};
-ghost use Rattle.rpki_der.specs.Der.{IsBits, IsTag, bit_string_value, bits_with, header, integer, null_value, octet_string_value, u32_value, value, with_sign, without_zeros};
+ghost use Rattle.rpki_der.specs.Der.{IsBits, IsTag, bit_string_value, bits_with, header, integer, length_octets, null_value, octet_string_value, u32_value, with_sign, without_zeros};
 
 use crate::tag;
 use std::alloc::{AllocError, Allocator};
@@ -55,7 +55,7 @@ pub fn put_header<A: Allocator>(
 }
 
 /// Appends what `put_header` does, where there is room for it.
-#[tactic(auto, unfolding(crate::specs::Der::header, crate::specs::Der::length_octets, crate::specs::Der::octets))]
+#[tactic(auto, unfolding(crate::specs::Der::header, crate::specs::Der::length_octets))]
 pub fn append_header<A: Allocator>(out: &mut Vec<u8, A>, tag: u8, content_len: usize)
     requires has_tag { IsTag tag }
     requires room { vec_len out.old + length (header tag content_len) ≤ vec_capacity out.old }
@@ -66,11 +66,23 @@ pub fn append_header<A: Allocator>(out: &mut Vec<u8, A>, tag: u8, content_len: u
     if content_len < 128 {
         out.push_reserved(content_len as u8);
     } else {
-        let octets = (content_len as u64).to_be_bytes();
-        let digits = significant(&octets);
-        out.push_reserved(128 + digits.len() as u8);
-        append(out, digits);
+        append_long_length(out, content_len);
     }
+}
+
+/// Appends the octets of a length of 128 or more, which few values have; there is room for them.
+#[cold]
+#[tactic(auto, unfolding(crate::specs::Der::length_octets, crate::specs::Der::octets))]
+fn append_long_length<A: Allocator>(out: &mut Vec<u8, A>, content_len: usize)
+    requires long { 128 ≤ content_len }
+    requires room { vec_len out.old + length (length_octets content_len) ≤ vec_capacity out.old }
+    ensures items { out.new.items ≡ out.old.items ++ length_octets content_len }
+    ensures capacity { vec_capacity out.old ≤ vec_capacity out.new }
+{
+    let octets = (content_len as u64).to_be_bytes();
+    let digits = significant(&octets);
+    out.push_reserved(128 + digits.len() as u8);
+    append(out, digits);
 }
 
 /// Appends octets, for which there is room.
@@ -103,25 +115,11 @@ fn value_len(tag: u8, content_len: usize) -> usize
     header_len(tag, content_len) + content_len
 }
 
-/// Appends a value whose content is `front` and `back`, for which there is room.
-fn append_value<A: Allocator>(out: &mut Vec<u8, A>, tag: u8, front: &[u8], back: &[u8])
-    requires has_tag { IsTag tag }
-    requires few { length front.now < 16 }
-    requires room { vec_len out.old + length (value tag (front.now ++ back.now))
-        ≤ vec_capacity out.old }
-    ensures items { out.new.items ≡ out.old.items ++ value tag (front.now ++ back.now) }
-    ensures capacity { vec_capacity out.old ≤ vec_capacity out.new }
-{
-    append_header(out, tag, front.len() + back.len());
-    append(out, front);
-    append(out, back);
-}
-
 /// How many octets the content of an INTEGER has.
 #[tactic(auto, unfolding(crate::specs::Der::integer, crate::specs::Der::octets))]
 fn integer_len(number: u32) -> usize
     ensures len { result ≡ length (integer number) }
-    ensures short { result ≤ 9 }
+    ensures short { result ≤ 5 }
 {
     let octets = (number as u64).to_be_bytes();
     let digits = significant(&octets);
@@ -150,15 +148,15 @@ pub fn put_u32<A: Allocator>(out: &mut Vec<u8, A>, number: u32) -> Result<(), Al
 }
 
 /// Appends what `put_u32` does, where there is room for it.
-#[tactic(auto, unfolding(crate::specs::Der::integer, crate::specs::Der::octets))]
 pub fn append_u32<A: Allocator>(out: &mut Vec<u8, A>, number: u32)
     requires room { vec_len out.old + length (u32_value number) ≤ vec_capacity out.old }
     ensures items { out.new.items ≡ out.old.items ++ u32_value number }
     ensures capacity { vec_capacity out.old ≤ vec_capacity out.new }
 {
+    let content_len = integer_len(number);
     let octets = (number as u64).to_be_bytes();
-    let digits = significant(&octets);
-    append_value(out, tag::INTEGER, sign_of(digits), digits)
+    append_header(out, tag::INTEGER, content_len);
+    append(out, &octets[8 - content_len..]);
 }
 
 /// How many octets `put_bit_string` appends.
@@ -197,7 +195,9 @@ pub fn append_bit_string<A: Allocator>(out: &mut Vec<u8, A>, unused: u8, octets:
         ≡ out.old.items ++ bit_string_value (bits_with unused octets.now) }
     ensures capacity { vec_capacity out.old ≤ vec_capacity out.new }
 {
-    append_value(out, tag::BIT_STRING, &[unused], octets)
+    append_header(out, tag::BIT_STRING, 1 + octets.len());
+    out.push_reserved(unused);
+    append(out, octets);
 }
 
 /// How many octets `put_octets` appends.
@@ -227,7 +227,8 @@ pub fn append_octets<A: Allocator>(out: &mut Vec<u8, A>, octets: &[u8])
     ensures items { out.new.items ≡ out.old.items ++ octet_string_value octets.now }
     ensures capacity { vec_capacity out.old ≤ vec_capacity out.new }
 {
-    append_value(out, tag::OCTET_STRING, &[], octets)
+    append_header(out, tag::OCTET_STRING, octets.len());
+    append(out, octets);
 }
 
 /// How many octets `put_null` appends.
@@ -255,5 +256,5 @@ pub fn append_null<A: Allocator>(out: &mut Vec<u8, A>)
     ensures items { out.new.items ≡ out.old.items ++ null_value }
     ensures capacity { vec_capacity out.old ≤ vec_capacity out.new }
 {
-    append_value(out, tag::NULL, &[], &[])
+    append_header(out, tag::NULL, 0);
 }

@@ -191,6 +191,6 @@ pub(crate) fn family_len(
     requires few { content_len < 2 ^ 63 }
     ensures len { result ≡ length (sequence_value (family_der family ++ choice_octets (λ blocks. sequence_octets ip_block_der blocks.now) resources.now)) }
 {
-    let members_len = family_content_len(family, resources, content_len);
-    header_len(tag::SEQUENCE, members_len) + members_len
+    let member_len = family_content_len(family, resources, content_len);
+    header_len(tag::SEQUENCE, member_len) + member_len
 }

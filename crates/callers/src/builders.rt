@@ -2,11 +2,8 @@
 ghost use Rattle.std.specs.Prelude.{[], ◌∷◌, Some, IfOk};
 ghost use Rattle.rpki_chain.specs.Claims.{IsBuilt};
 ghost use Rattle.rpki_as.specs.Blocks.{as_bounds};
-ghost use Rattle.rpki_ipres.specs.Blocks.{ip_bounds};
 
-use rpki_resources::repository::resources::{
-    AsBlock, AsResources, AsResourcesBuilder, IpBlock, IpResources, IpResourcesBuilder,
-};
+use rpki_resources::repository::resources::{AsBlock, AsResources, AsResourcesBuilder};
 use std::alloc::{AllocError, Allocator};
 
 /// AS resources that list one block. They were to be inherited before. `AllocError` where there is no memory for them.
@@ -17,19 +14,6 @@ pub fn listed_in_the_end<A: Allocator + Copy>(
     ensures { IfOk result (IsBuilt (Some (as_bounds block ∷ []))) }
 {
     let mut builder: AsResourcesBuilder<A> = AsResourcesBuilder::new(alloc);
-    builder.inherit();
-    builder.blocks(|blocks| blocks.push(block))?;
-    builder.finalize()
-}
-
-/// The same of addresses.
-pub fn addresses_in_the_end<A: Allocator + Copy>(
-    alloc: A,
-    block: IpBlock,
-) -> Result<IpResources<A>, AllocError>
-    ensures { IfOk result (IsBuilt (Some (ip_bounds block ∷ []))) }
-{
-    let mut builder: IpResourcesBuilder<A> = IpResourcesBuilder::new(alloc);
     builder.inherit();
     builder.blocks(|blocks| blocks.push(block))?;
     builder.finalize()

@@ -51,7 +51,7 @@ pub fn read_families<A: Allocator + Copy>(
 }
 
 /// A claim on a path lists more than is left for it: the place of its certificate, and what it lists too much.
-#[derive(Debug, Drop)]
+#[derive(Drop)]
 pub enum Overclaimed<A: Allocator = Global> {
     /// AS numbers.
     Asn(PathRefusal<OverclaimedAsResources<A>>),

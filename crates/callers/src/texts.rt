@@ -2,43 +2,11 @@
 ghost use Rattle.std.specs.Prelude.{◌≡◌, IfOk};
 
 use rpki_resources::OrMemory;
-use rpki_resources::repository::resources::{IpBlocks, Ipv4Blocks, Ipv6Blocks, ResourceSet};
+use rpki_resources::repository::resources::{IpBlocks, ResourceSet};
 use std::alloc::{AllocError, Allocator};
 
-/// A set of IPv4 addresses as it is read again from what is printed of it: the same set. `AllocError` where there is no
-/// memory for it.
-pub fn v4_printed_and_read<A: Allocator + Copy>(
-    alloc: A,
-    set: &Ipv4Blocks<A>,
-) -> Result<Ipv4Blocks<A>, AllocError>
-    ensures { IfOk result (λ read. read ≡ set.now) }
-{
-    let text = format!(in alloc; "{set}")?;
-    let _blocks = set.ip_blocks(); // read so that the proof sees that the set is one of the family
-    match Ipv4Blocks::from_str(alloc, text.as_str()) {
-        Ok(read) => Ok(read),
-        Err(OrMemory::Memory(error)) => Err(error),
-        Err(OrMemory::Refused(_)) => unreachable!(),
-    }
-}
-
-/// A set of IPv6 addresses, as [`v4_printed_and_read`].
-pub fn v6_printed_and_read<A: Allocator + Copy>(
-    alloc: A,
-    set: &Ipv6Blocks<A>,
-) -> Result<Ipv6Blocks<A>, AllocError>
-    ensures { IfOk result (λ read. read ≡ set.now) }
-{
-    let text = format!(in alloc; "{set}")?;
-    let _blocks = set.ip_blocks(); // read so that the proof sees that the set is one of the family
-    match Ipv6Blocks::from_str(alloc, text.as_str()) {
-        Ok(read) => Ok(read),
-        Err(OrMemory::Memory(error)) => Err(error),
-        Err(OrMemory::Refused(_)) => unreachable!(),
-    }
-}
-
-/// A set of addresses of either family, printed as one of IPv6, as [`v4_printed_and_read`].
+/// A set of addresses of either family, printed as one of IPv6, as it is read again. `AllocError` where there is no memory
+/// for it.
 pub fn printed_and_read<A: Allocator + Copy>(
     alloc: A,
     set: &IpBlocks<A>,
@@ -55,7 +23,8 @@ pub fn printed_and_read<A: Allocator + Copy>(
     }
 }
 
-/// A set of resources of the three kinds, sent as three lists, as [`v4_printed_and_read`].
+/// A set of resources of the three kinds, sent as three lists, as it is read again. `AllocError` where there is no memory
+/// for it.
 pub fn resources_printed_and_read<A: Allocator + Copy>(
     alloc: A,
     set: &ResourceSet<A>,

@@ -1,12 +1,17 @@
 //! DER values that are cut and altered, through one reader.
 ghost use Rattle.std.specs.Prelude.{◌<◌, length};
 
+use crate::claims::Families;
 use crate::print::cut;
-use crate::values::{Item, Reader, Value};
+use crate::values::{Item, Reader, Skip, Value};
 use hex::FromHexError;
 use refusing::{Outcome, Refusing, refuse_in_turn};
+use rpki_as::blocks::AsBlocks;
+use rpki_as::resources::AsResources;
 use rpki_base::memory::OrMemory;
-use rpki_der::Cursor;
+use rpki_der::{Cursor, DerError};
+use rpki_ipres::blocks::IpBlocks;
+use rpki_ipres::resources::IpResources;
 use std::alloc::{AllocError, Allocator, Global};
 
 /// How many requests for memory one reading may make.
@@ -15,18 +20,9 @@ const REQUESTS: u64 = 64;
 /// How often each fault was met, at its number; and at 0, how often none.
 type Counts = [u64; 16];
 
-/// What a reader makes of some octets.
-#[derive(Clone, Copy, PartialEq)]
-enum Reading {
-    /// A value that is read back from the octets that are written of it; or none, or one that is skipped.
-    Read,
-    /// A fault of this number, with the cursor where it was.
-    Refused(u8),
-    /// A refusal with the cursor moved.
-    Moved,
-    /// A value that is not read back from the octets that are written of it.
-    NotReadBack,
-}
+/// What a reader makes of some octets: the number of its fault, with the cursor where it was; 0 for a value that is read
+/// back from the octets that are written of it, and for one that is skipped; and `None` for anything else.
+type Reading = Option<u8>;
 
 /// The answer to `altered READER HEX`: of the beginnings of these octets, and of the octets with each of the 256 values
 /// at each place, how many are read, and how many are refused by each fault.
@@ -45,16 +41,14 @@ pub fn answer(alloc: Global, operands: &str) -> Result<String, AllocError> {
 fn count_all(alloc: Global, reader: Reader, octets: &mut [u8]) -> Result<String, AllocError> {
     let mut counts = [0; 16];
     for at in 0..octets.len() {
-        if !count(alloc, reader, &octets[..at], &mut counts)?
-            || !count_place(alloc, reader, octets, at, &mut counts)?
-        {
+        if !count_place(alloc, reader, octets, at, &mut counts)? {
             return format!(in alloc; "wrong at {at}");
         }
     }
     text(alloc, &counts)
 }
 
-/// Counts the readings with each octet at a place. False where one of them is wrong.
+/// Counts the readings of what stands before a place, and with each octet at it. False where one of them is wrong.
 fn count_place(
     alloc: Global,
     reader: Reader,
@@ -64,8 +58,8 @@ fn count_place(
 ) -> Result<bool, AllocError>
     requires { at < length octets.old }
 {
+    let mut is_right = count(alloc, reader, &octets[..at], counts)?;
     let kept = octets[at];
-    let mut is_right = true;
     for octet in 0..=255 {
         octets[at] = octet;
         is_right = count(alloc, reader, octets, counts)? && is_right;
@@ -85,16 +79,21 @@ fn count(
     let refused = refuse_in_turn(alloc, REQUESTS, |refusing: &Refusing| {
         outcome(refusing, reader, octets, reading)
     });
-    let number = match reading {
-        Reading::Read => 0,
-        Reading::Refused(number) => number,
-        Reading::Moved | Reading::NotReadBack => return Ok(false),
+    Ok(count_one(reading, counts) && refused.is_ok())
+}
+
+/// Counts a reading at its number. False where it has none.
+fn count_one(reading: Reading, counts: &mut Counts) -> bool {
+    let Some(number) = reading else {
+        return false;
     };
     match counts.get_mut(number as usize) {
-        Some(count) => *count = count.saturating_add(1),
-        None => return Ok(false),
+        Some(count) => {
+            *count = count.saturating_add(1);
+            true
+        }
+        None => false,
     }
-    Ok(refused.is_ok())
 }
 
 fn outcome(refusing: &Refusing, reader: Reader, octets: &[u8], expected: Reading) -> Outcome {
@@ -110,43 +109,96 @@ fn read<A: Allocator + Copy>(
     reader: Reader,
     octets: &[u8],
 ) -> Result<Reading, AllocError> {
+    match reader {
+        Reader::Item(reader) => read_value::<A, Item>(alloc, reader, octets),
+        Reader::Skip(skip) => read_skipped(skip, octets),
+        Reader::AsBlocks => read_value::<A, AsBlocks<A>>(alloc, (), octets),
+        Reader::IpBlocks(family) => read_value::<A, IpBlocks<A>>(alloc, family, octets),
+        Reader::AsResources => read_value::<A, AsResources<A>>(alloc, (), octets),
+        Reader::IpResources(family) => read_value::<A, IpResources<A>>(alloc, family, octets),
+        Reader::Families => read_value::<A, Families<A>>(alloc, (), octets),
+    }
+}
+
+fn read_value<A: Allocator + Copy, V: Value<A>>(
+    alloc: A,
+    reader: V::Reader,
+    octets: &[u8],
+) -> Result<Reading, AllocError> {
     let mut cursor = Cursor::new(octets);
-    let value = reader.take(alloc, &mut cursor);
-    match value {
+    match V::take(alloc, reader, &mut cursor) {
         Ok(value) => read_back(alloc, reader, &value),
-        Err(_) if cursor.rest().len() != octets.len() => Ok(Reading::Moved),
-        Err(OrMemory::Refused(fault)) => Ok(Reading::Refused(fault.number())),
-        Err(OrMemory::Memory(error)) => Err(error),
+        Err(error) => refused(error, cursor.rest().len() == octets.len()),
+    }
+}
+
+/// A value that is skipped isn't read back. One that isn't there is skipped in no octets too.
+fn read_skipped(skip: Skip, octets: &[u8]) -> Result<Reading, AllocError> {
+    let mut cursor = Cursor::new(octets);
+    match skip.skip(&mut cursor) {
+        Ok(Some(())) => Ok(Some(0)),
+        Ok(None) => Ok(same(matches!(skip.skip(&mut Cursor::new(&[])), Ok(None)))),
+        Err(fault) => {
+            let is_in_place = cursor.rest().len() == octets.len();
+            refused(OrMemory::Refused(fault), is_in_place)
+        }
+    }
+}
+
+/// What a refusal is, which must leave the cursor where it was.
+fn refused(error: OrMemory<DerError>, is_in_place: bool) -> Result<Reading, AllocError> {
+    if !is_in_place {
+        return Ok(None);
+    }
+    match error {
+        OrMemory::Refused(fault) => Ok(Some(fault.number())),
+        OrMemory::Memory(error) => Err(error),
     }
 }
 
 /// Writes a value that was read, and reads it again.
-fn read_back<A: Allocator + Copy>(
+fn read_back<A: Allocator + Copy, V: Value<A>>(
     alloc: A,
-    reader: Reader,
-    value: &Value<A>,
+    reader: V::Reader,
+    value: &V,
 ) -> Result<Reading, AllocError> {
-    if matches!(value, Value::Item(Item::Skipped)) {
-        return Ok(Reading::Read);
-    }
     let mut octets = Vec::new(alloc);
     value.encode(&mut octets)?;
-    let mut cursor = Cursor::new(&octets);
-    match reader.take(alloc, &mut cursor) {
-        Ok(again) if again.is(value) && cursor.is_empty() => Ok(Reading::Read),
+    read_again(alloc, reader, value, &octets)
+}
+
+fn read_again<A: Allocator + Copy, V: Value<A>>(
+    alloc: A,
+    reader: V::Reader,
+    value: &V,
+    octets: &[u8],
+) -> Result<Reading, AllocError> {
+    let mut cursor = Cursor::new(octets);
+    match V::take(alloc, reader, &mut cursor) {
+        Ok(again) => Ok(same(value.is(&again) && cursor.is_empty())),
+        Err(OrMemory::Refused(_)) => Ok(None),
         Err(OrMemory::Memory(error)) => Err(error),
-        _ => Ok(Reading::NotReadBack),
     }
+}
+
+/// The reading of a value that is read back, or isn't.
+fn same(is_same: bool) -> Reading {
+    if is_same { Some(0) } else { None }
 }
 
 fn text(alloc: Global, counts: &Counts) -> Result<String, AllocError> {
     let read = counts[0];
     let mut text = format!(in alloc; "read {read}")?;
     for number in 1..counts.len() {
-        let count = counts[number];
-        if count > 0 {
-            write!(text, ", {number}: {count}")?;
-        }
+        append(&mut text, number, counts[number])?;
     }
     Ok(text)
+}
+
+/// Appends how often a fault was met, where it was.
+fn append(text: &mut String, number: usize, count: u64) -> Result<(), AllocError> {
+    if count > 0 {
+        write!(text, ", {number}: {count}")?;
+    }
+    Ok(())
 }

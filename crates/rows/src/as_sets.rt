@@ -1,14 +1,12 @@
 //! What sets of AS numbers answer.
+use crate::lists::Lists;
 use crate::print::{self, cut};
 use crate::question::{Operation, Question};
 use crate::small_sets::numbers;
 use rpki_as::block::AsBlock;
 use rpki_as::blocks::AsBlocks;
 use rpki_as::builder::AsBlocksBuilder;
-use rpki_as::error::FromStrError;
 use rpki_base::asn::Asn;
-use rpki_base::list::read_list;
-use rpki_base::memory::OrMemory;
 use std::alloc::{AllocError, Allocator};
 use std::str::FromStr;
 
@@ -18,30 +16,34 @@ pub fn answer<A: Allocator + Copy>(
     question: Question,
     operands: &str,
 ) -> Result<String<A>, AllocError> {
-    let (left, right) = cut(operands, '|');
     match question {
-        Question::All => text(alloc, AsBlocks::all(alloc)),
-        Question::Build | Question::FromBlocks => {
-            print::answer(alloc, of_blocks(alloc, question, left, right))
-        }
-        _ => print::answer(alloc, of_set(alloc, question, left, right)),
+        Question::All => print::made(alloc, AsBlocks::all(alloc)),
+        Question::Build | Question::FromBlocks => of_lists(alloc, question, operands),
+        _ => of_operands(alloc, question, operands),
     }
 }
 
 /// The set that is made of blocks.
+fn of_lists<A: Allocator + Copy>(
+    alloc: A,
+    question: Question,
+    operands: &str,
+) -> Result<String<A>, AllocError> {
+    match Lists::<AsBlock, A>::read(alloc, operands) {
+        Ok(lists) => of_blocks(alloc, question, &lists.left, &lists.right),
+        Err(error) => print::refused(alloc, error),
+    }
+}
+
 fn of_blocks<A: Allocator + Copy>(
     alloc: A,
     question: Question,
-    left: &str,
-    right: &str,
-) -> Result<String<A>, OrMemory<FromStrError>> {
-    let blocks = read_list(alloc, left)?;
+    blocks: &[AsBlock],
+    more: &[AsBlock],
+) -> Result<String<A>, AllocError> {
     match question {
-        Question::Build => {
-            let more = read_list(alloc, right)?;
-            Ok(text(alloc, build(alloc, &blocks, &more))?)
-        }
-        _ => Ok(text(alloc, AsBlocks::from_blocks(alloc, &blocks))?),
+        Question::Build => build(alloc, blocks, more),
+        _ => print::made(alloc, AsBlocks::from_blocks(alloc, blocks)),
     }
 }
 
@@ -50,47 +52,66 @@ fn build<A: Allocator + Copy>(
     alloc: A,
     blocks: &[AsBlock],
     more: &[AsBlock],
-) -> Result<AsBlocks<A>, AllocError> {
+) -> Result<String<A>, AllocError> {
     let mut builder = AsBlocksBuilder::new(alloc);
-    for (at, block) in blocks.iter().enumerate() {
-        if builder.push(*block).is_err() {
-            return after_refusal(alloc, builder, &blocks[..at]);
-        }
-    }
-    match builder.extend_from(more) {
-        Ok(()) => builder.finalize(),
-        Err(_) => after_refusal(alloc, builder, blocks),
+    let pushed = push(&mut builder, blocks, more);
+    match builder.finalize() {
+        Ok(set) => built(alloc, &set, pushed),
+        Err(error) => Err(error),
     }
 }
 
-/// `AllocError` where a builder that refused a block holds those that came before; else the set that it holds.
-fn after_refusal<A: Allocator + Copy>(
+/// Pushes the blocks one by one, and more at once. `Err` has those that came before the one that was refused memory.
+fn push<'a, A: Allocator + Copy>(
+    builder: &mut AsBlocksBuilder<A>,
+    blocks: &'a [AsBlock],
+    more: &[AsBlock],
+) -> Result<(), &'a [AsBlock]> {
+    for (at, block) in blocks.iter().enumerate() {
+        if builder.push(*block).is_err() {
+            return Err(&blocks[..at]);
+        }
+    }
+    match builder.extend_from(more) {
+        Ok(()) => Ok(()),
+        Err(AllocError) => Err(blocks),
+    }
+}
+
+/// The set of a builder. `AllocError` where it refused a block and holds those that came before.
+fn built<A: Allocator + Copy>(
     alloc: A,
-    builder: AsBlocksBuilder<A>,
+    set: &AsBlocks<A>,
+    pushed: Result<(), &[AsBlock]>,
+) -> Result<String<A>, AllocError> {
+    match pushed {
+        Err(blocks) if is_set_of(alloc, set, blocks)? => Err(AllocError),
+        _ => format!(in alloc; "{set}"),
+    }
+}
+
+fn is_set_of<A: Allocator + Copy>(
+    alloc: A,
+    set: &AsBlocks<A>,
     blocks: &[AsBlock],
-) -> Result<AsBlocks<A>, AllocError> {
-    let set = builder.finalize()?;
-    if set == AsBlocks::from_blocks(alloc, blocks)? {
-        Err(AllocError)
-    } else {
-        Ok(set)
+) -> Result<bool, AllocError> {
+    let other = AsBlocks::from_blocks(alloc, blocks)?;
+    Ok(*set == other)
+}
+
+fn of_operands<A: Allocator + Copy>(
+    alloc: A,
+    question: Question,
+    operands: &str,
+) -> Result<String<A>, AllocError> {
+    let (left, right) = cut(operands, '|');
+    match AsBlocks::from_str(alloc, left) {
+        Ok(set) => of_set(alloc, question, &set, right),
+        Err(error) => print::refused(alloc, error),
     }
 }
 
 fn of_set<A: Allocator + Copy>(
-    alloc: A,
-    question: Question,
-    left: &str,
-    right: &str,
-) -> Result<String<A>, OrMemory<FromStrError>> {
-    let set = AsBlocks::from_str(alloc, left)?;
-    match question {
-        Question::Both(operation) => of_both(alloc, operation, &set, right),
-        _ => Ok(of_one(alloc, question, &set, right)?),
-    }
-}
-
-fn of_one<A: Allocator + Copy>(
     alloc: A,
     question: Question,
     set: &AsBlocks<A>,
@@ -98,9 +119,10 @@ fn of_one<A: Allocator + Copy>(
 ) -> Result<String<A>, AllocError> {
     match question {
         Question::Octets => octets(alloc, set),
-        Question::Count => count(alloc, set),
+        Question::Count => print::value(alloc, set.asn_count()),
         Question::Numbers => numbers(alloc, set.iter_asns()),
         Question::Has => has(alloc, set, right),
+        Question::Both(operation) => of_both(alloc, operation, set, right),
         _ => String::from_str(alloc, "no such command"),
     }
 }
@@ -110,9 +132,11 @@ fn of_both<A: Allocator + Copy>(
     operation: Operation,
     set: &AsBlocks<A>,
     right: &str,
-) -> Result<String<A>, OrMemory<FromStrError>> {
-    let other = AsBlocks::from_str(alloc, right)?;
-    Ok(of_two(alloc, operation, set, &other)?)
+) -> Result<String<A>, AllocError> {
+    match AsBlocks::from_str(alloc, right) {
+        Ok(other) => of_two(alloc, operation, set, &other),
+        Err(error) => print::refused(alloc, error),
+    }
 }
 
 fn of_two<A: Allocator + Copy>(
@@ -122,45 +146,43 @@ fn of_two<A: Allocator + Copy>(
     other: &AsBlocks<A>,
 ) -> Result<String<A>, AllocError> {
     match operation {
-        Operation::Union => text(alloc, set.union(alloc, other)),
-        Operation::Intersection => text(alloc, set.intersection(alloc, other)),
-        Operation::Assign => text(alloc, assign(alloc, set, other)),
-        Operation::Difference => text(alloc, set.difference(alloc, other)),
+        Operation::Union => print::made(alloc, set.union(alloc, other)),
+        Operation::Intersection => print::made(alloc, set.intersection(alloc, other)),
+        Operation::Assign => assign(alloc, set, other),
+        Operation::Difference => print::made(alloc, set.difference(alloc, other)),
         Operation::Contains => print::boolean(alloc, set.contains(other)),
         Operation::Equal => print::boolean(alloc, set == other),
     }
 }
 
-/// The intersection, taken in place. `AllocError` where it was refused memory and has left the set as it was.
+/// The intersection, taken in place.
 fn assign<A: Allocator + Copy>(
     alloc: A,
     set: &AsBlocks<A>,
     other: &AsBlocks<A>,
-) -> Result<AsBlocks<A>, AllocError> {
+) -> Result<String<A>, AllocError> {
     let mut common = set.clone()?;
-    match common.intersection_assign(alloc, other) {
-        Err(error) if common == *set => Err(error),
-        _ => Ok(common),
-    }
+    let assigned = common.intersection_assign(alloc, other);
+    assigned_text(alloc, set, &common, assigned)
 }
 
-fn text<A: Allocator + Copy>(
+/// The set that an assignment gave. `AllocError` where it was refused memory and has left the set as it was.
+fn assigned_text<A: Allocator + Copy>(
     alloc: A,
-    set: Result<AsBlocks<A>, AllocError>,
+    before: &AsBlocks<A>,
+    set: &AsBlocks<A>,
+    assigned: Result<(), AllocError>,
 ) -> Result<String<A>, AllocError> {
-    let set = set?;
-    format!(in alloc; "{set}")
+    match assigned {
+        Err(error) if set == before => Err(error),
+        _ => format!(in alloc; "{set}"),
+    }
 }
 
 fn octets<A: Allocator + Copy>(alloc: A, set: &AsBlocks<A>) -> Result<String<A>, AllocError> {
     let mut output = print::output(alloc)?;
     let write = set.encode(&mut output);
     print::written(alloc, &output, write)
-}
-
-fn count<A: Allocator + Copy>(alloc: A, set: &AsBlocks<A>) -> Result<String<A>, AllocError> {
-    let count = set.asn_count();
-    format!(in alloc; "{count}")
 }
 
 fn has<A: Allocator + Copy>(
@@ -170,6 +192,6 @@ fn has<A: Allocator + Copy>(
 ) -> Result<String<A>, AllocError> {
     match Asn::from_str(number) {
         Ok(asn) => print::boolean(alloc, set.contains_asn(asn)),
-        Err(fault) => format!(in alloc; "error: {fault}"),
+        Err(fault) => print::error(alloc, fault),
     }
 }

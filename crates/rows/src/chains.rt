@@ -1,7 +1,8 @@
 //! What chains over pairs of `u64` answer.
-use crate::pairs::{Pair, ParsePairError};
+use crate::lists::Lists;
+use crate::names::named;
+use crate::pairs::Pair;
 use crate::print::{self, cut};
-use rpki_base::list::read_list;
 use rpki_base::memory::OrMemory;
 use rpki_chain::block::Block;
 use rpki_chain::chain::Chain;
@@ -10,123 +11,219 @@ use rpki_chain::shared::SharedChain;
 use std::alloc::{AllocError, Allocator};
 use std::str::FromStr;
 
+/// What is asked of the chain of a list.
+#[derive(Clone, Copy)]
+enum Question {
+    FromBlocks,
+    Copy,
+    /// A copy that shares its memory.
+    Shared,
+    /// Whether it has the least number of a pair.
+    Contains,
+    /// Whether it has each number of a pair.
+    Has,
+    /// Whether it has some number of a pair.
+    Meets,
+    /// What is asked of it and the chain of another list.
+    Both(Operation),
+}
+
+/// What is asked of two chains.
+#[derive(Clone, Copy)]
+enum Operation {
+    Difference,
+    Union,
+    Trim,
+    Within,
+    Equal,
+}
+
+const QUESTIONS: [(&str, Question); 11] = [
+    ("from_blocks", Question::FromBlocks),
+    ("copy", Question::Copy),
+    ("shared", Question::Shared),
+    ("contains", Question::Contains),
+    ("has", Question::Has),
+    ("meets", Question::Meets),
+    ("difference", Question::Both(Operation::Difference)),
+    ("union", Question::Both(Operation::Union)),
+    ("trim", Question::Both(Operation::Trim)),
+    ("within", Question::Both(Operation::Within)),
+    ("equal", Question::Both(Operation::Equal)),
+];
+
+/// What is printed of a chain.
+#[derive(Clone, Copy)]
+pub enum Shown {
+    /// Its blocks.
+    Blocks,
+    /// How many blocks it has.
+    Count,
+}
+
 /// The answer to `chain QUESTION A` and `chain QUESTION A|B`.
 pub fn answer<A: Allocator + Copy>(
     alloc: A,
-    question: &str,
+    name: &str,
     operands: &str,
 ) -> Result<String<A>, AllocError> {
-    let (left, right) = cut(operands, '|');
-    print::answer(alloc, of_lists(alloc, question, left, right))
+    match named(&QUESTIONS, name) {
+        Some(question) => of_lists(alloc, question, operands),
+        None => String::from_str(alloc, "no such command"),
+    }
 }
 
 fn of_lists<A: Allocator + Copy>(
     alloc: A,
-    question: &str,
-    left: &str,
-    right: &str,
-) -> Result<String<A>, OrMemory<ParsePairError>> {
-    let blocks = read_list::<Pair, A>(alloc, left)?;
-    let more = read_list::<Pair, A>(alloc, right)?;
-    match question {
-        "shared" => Ok(shared(alloc, &blocks)?),
-        _ => Ok(of_blocks(alloc, question, &blocks, &more)?),
+    question: Question,
+    operands: &str,
+) -> Result<String<A>, AllocError> {
+    match Lists::<Pair, A>::read(alloc, operands) {
+        Ok(lists) => of_blocks(alloc, question, &lists.left, &lists.right),
+        Err(error) => print::refused(alloc, error),
     }
 }
 
 fn of_blocks<A: Allocator + Copy>(
     alloc: A,
-    question: &str,
+    question: Question,
     blocks: &[Pair],
     more: &[Pair],
 ) -> Result<String<A>, AllocError> {
-    let chain = OwnedChain::from_blocks(alloc, blocks)?;
     match question {
-        "from_blocks" => text(alloc, chain.as_chain()),
-        "copy" => copy(alloc, &chain),
-        _ => of_chain(alloc, question, chain.as_chain(), more),
+        Question::Shared => shared(alloc, blocks),
+        _ => of_owned(
+            alloc,
+            question,
+            OwnedChain::from_blocks(alloc, blocks),
+            more,
+        ),
+    }
+}
+
+fn of_owned<A: Allocator + Copy>(
+    alloc: A,
+    question: Question,
+    chain: Result<OwnedChain<Pair, A>, AllocError>,
+    more: &[Pair],
+) -> Result<String<A>, AllocError> {
+    match chain {
+        Ok(chain) => of_chain(alloc, question, &chain, more),
+        Err(error) => Err(error),
     }
 }
 
 fn of_chain<A: Allocator + Copy>(
     alloc: A,
-    question: &str,
-    chain: Chain<'_, Pair>,
+    question: Question,
+    chain: &OwnedChain<Pair, A>,
     more: &[Pair],
 ) -> Result<String<A>, AllocError> {
-    match (question, more) {
-        ("contains", [block]) => print::boolean(alloc, chain.contains_item(block.min())),
-        ("has", [block]) => print::boolean(alloc, chain.contains_block(block)),
-        ("meets", [block]) => print::boolean(alloc, chain.intersects_block(block)),
-        _ => {
-            let other = OwnedChain::from_blocks(alloc, more)?;
-            of_chains(alloc, question, chain, other.as_chain())
+    match question {
+        Question::Copy => owned_text(alloc, Shown::Blocks, chain.clone(alloc)),
+        Question::Contains | Question::Has | Question::Meets => {
+            of_pair(alloc, question, chain.as_chain(), more)
         }
+        Question::Both(operation) => of_both(alloc, operation, chain.as_chain(), more),
+        _ => text(alloc, Shown::Blocks, chain.as_chain()),
     }
 }
 
-fn of_chains<A: Allocator + Copy>(
+fn of_pair<A: Allocator + Copy>(
     alloc: A,
-    question: &str,
+    question: Question,
     chain: Chain<'_, Pair>,
-    other: Chain<'_, Pair>,
+    pairs: &[Pair],
 ) -> Result<String<A>, AllocError> {
-    match question {
-        "difference" => difference(alloc, chain, other),
-        "union" => union(alloc, chain, other),
-        "trim" => trim(alloc, chain, other),
-        "within" => print::boolean(alloc, chain.is_encompassed(other)),
-        "equal" => print::boolean(alloc, chain == other),
+    match pairs {
+        [pair] => print::boolean(alloc, has(question, chain, pair)),
         _ => String::from_str(alloc, "no such command"),
     }
 }
 
-fn copy<A: Allocator + Copy>(
+fn has(question: Question, chain: Chain<'_, Pair>, pair: &Pair) -> bool {
+    match question {
+        Question::Contains => chain.contains_item(pair.min()),
+        Question::Has => chain.contains_block(pair),
+        _ => chain.intersects_block(pair),
+    }
+}
+
+fn of_both<A: Allocator + Copy>(
     alloc: A,
-    chain: &OwnedChain<Pair, A>,
+    operation: Operation,
+    chain: Chain<'_, Pair>,
+    more: &[Pair],
 ) -> Result<String<A>, AllocError> {
-    let copy = chain.clone(alloc)?;
-    text(alloc, copy.as_chain())
+    let other = OwnedChain::from_blocks(alloc, more)?;
+    of_chains(alloc, operation, chain, other.as_chain())
+}
+
+fn of_chains<A: Allocator + Copy>(
+    alloc: A,
+    operation: Operation,
+    chain: Chain<'_, Pair>,
+    other: Chain<'_, Pair>,
+) -> Result<String<A>, AllocError> {
+    match operation {
+        Operation::Difference => {
+            owned_text(alloc, Shown::Blocks, chain.difference(alloc, other))
+        },
+        Operation::Union => owned_text(alloc, Shown::Blocks, chain.union(alloc, other)),
+        Operation::Trim => trim(alloc, Shown::Blocks, chain, other),
+        Operation::Within => print::boolean(alloc, chain.is_encompassed(other)),
+        Operation::Equal => print::boolean(alloc, chain == other),
+    }
 }
 
 fn shared<A: Allocator + Copy>(alloc: A, blocks: &[Pair]) -> Result<String<A>, AllocError> {
     let chain = SharedChain::from_blocks(alloc, blocks)?;
     let other = chain.clone()?;
-    text(alloc, other.as_chain())
+    text(alloc, Shown::Blocks, other.as_chain())
 }
 
-fn difference<A: Allocator + Copy>(
+/// `ok` where the first chain is within the other, and else what is shown of their common blocks.
+pub fn trim<A: Allocator + Copy>(
     alloc: A,
-    chain: Chain<'_, Pair>,
-    other: Chain<'_, Pair>,
-) -> Result<String<A>, AllocError> {
-    let difference = chain.difference(alloc, other)?;
-    text(alloc, difference.as_chain())
-}
-
-fn union<A: Allocator + Copy>(
-    alloc: A,
-    chain: Chain<'_, Pair>,
-    other: Chain<'_, Pair>,
-) -> Result<String<A>, AllocError> {
-    let union = chain.union(alloc, other)?;
-    text(alloc, union.as_chain())
-}
-
-fn trim<A: Allocator + Copy>(
-    alloc: A,
+    shown: Shown,
     chain: Chain<'_, Pair>,
     other: Chain<'_, Pair>,
 ) -> Result<String<A>, AllocError> {
     match chain.trim(alloc, other) {
         Ok(()) => String::from_str(alloc, "ok"),
-        Err(OrMemory::Refused(common)) => text(alloc, common.as_chain()),
+        Err(OrMemory::Refused(common)) => text(alloc, shown, common.as_chain()),
         Err(OrMemory::Memory(error)) => Err(error),
     }
 }
 
+/// What is shown of a chain, where there was memory for it.
+pub fn owned_text<A: Allocator + Copy>(
+    alloc: A,
+    shown: Shown,
+    chain: Result<OwnedChain<Pair, A>, AllocError>,
+) -> Result<String<A>, AllocError> {
+    match chain {
+        Ok(chain) => text(alloc, shown, chain.as_chain()),
+        Err(error) => Err(error),
+    }
+}
+
+fn text<A: Allocator + Copy>(
+    alloc: A,
+    shown: Shown,
+    chain: Chain<'_, Pair>,
+) -> Result<String<A>, AllocError> {
+    match shown {
+        Shown::Blocks => list(alloc, chain),
+        Shown::Count => {
+            let len = chain.len();
+            format!(in alloc; "{len} blocks")
+        }
+    }
+}
+
 /// The blocks of a chain, joined by commas.
-fn text<A: Allocator + Copy>(alloc: A, chain: Chain<'_, Pair>) -> Result<String<A>, AllocError> {
+fn list<A: Allocator + Copy>(alloc: A, chain: Chain<'_, Pair>) -> Result<String<A>, AllocError> {
     let mut list = String::new(alloc);
     for block in chain.iter() {
         print::append(&mut list, ", ", block)?;
@@ -141,9 +238,21 @@ pub fn pair_answer<A: Allocator + Copy>(
     operands: &str,
 ) -> Result<String<A>, AllocError> {
     let (left, right) = cut(operands, '|');
-    match (Pair::from_str(left), Pair::from_str(right)) {
-        (Ok(pair), Ok(other)) => of_pairs(alloc, question, &pair, &other),
-        (Err(fault), _) | (_, Err(fault)) => format!(in alloc; "error: {fault}"),
+    match Pair::from_str(left) {
+        Ok(pair) => of_first(alloc, question, &pair, right),
+        Err(fault) => print::error(alloc, fault),
+    }
+}
+
+fn of_first<A: Allocator + Copy>(
+    alloc: A,
+    question: &str,
+    pair: &Pair,
+    right: &str,
+) -> Result<String<A>, AllocError> {
+    match Pair::from_str(right) {
+        Ok(other) => of_pairs(alloc, question, pair, &other),
+        Err(fault) => print::error(alloc, fault),
     }
 }
 
@@ -154,14 +263,18 @@ fn of_pairs<A: Allocator + Copy>(
     other: &Pair,
 ) -> Result<String<A>, AllocError> {
     match question {
-        "sum" => match pair.sum(other) {
-            Some(sum) => format!(in alloc; "{sum}"),
-            None => String::from_str(alloc, "none"),
-        },
+        "sum" => sum(alloc, pair, other),
         "contains" => print::boolean(alloc, pair.contains(other.min())),
         "intersects" => print::boolean(alloc, pair.intersects(other)),
         "within" => print::boolean(alloc, pair.is_encompassed(other)),
         "equal" => print::boolean(alloc, pair.is_equivalent(other)),
         _ => String::from_str(alloc, "no such command"),
+    }
+}
+
+fn sum<A: Allocator + Copy>(alloc: A, pair: &Pair, other: &Pair) -> Result<String<A>, AllocError> {
+    match pair.sum(other) {
+        Some(sum) => print::value(alloc, sum),
+        None => String::from_str(alloc, "none"),
     }
 }

@@ -1,9 +1,11 @@
 //! Ranges of addresses as their shortest lists of prefixes.
+ghost use Rattle.std.specs.Iterator.{IsFinite};
+
 use crate::print;
+use rpki_ip::family::AddressFamily;
 use rpki_ip::prefix::Prefix;
 use rpki_ip::range::AddressRange;
 use std::alloc::{AllocError, Allocator};
-use std::fmt;
 
 /// The answer to `prefixes v4 MIN-MAX` and `prefixes v6 MIN-MAX`: each prefix that the range between two IPv6 addresses
 /// gives for the family, with its length.
@@ -13,43 +15,36 @@ pub fn answer<A: Allocator + Copy>(
     text: &str,
 ) -> Result<String<A>, AllocError> {
     match AddressRange::from_v6_str(text) {
-        Ok(range) if kind == "v4" => v4_prefixes(alloc, range),
-        Ok(range) => v6_prefixes(alloc, range),
-        Err(fault) => format!(in alloc; "error: {fault}"),
+        Ok(range) if kind == "v4" => list(alloc, AddressFamily::Ipv4, range.to_v4_prefixes()),
+        Ok(range) => list(alloc, AddressFamily::Ipv6, range.to_v6_prefixes()),
+        Err(fault) => print::error(alloc, fault),
     }
 }
 
-fn v4_prefixes<A: Allocator + Copy>(
+fn list<A: Allocator + Copy, I: Iterator<Item = Prefix>>(
     alloc: A,
-    range: AddressRange,
-) -> Result<String<A>, AllocError> {
+    family: AddressFamily,
+    prefixes: I,
+) -> Result<String<A>, AllocError>
+    requires can { I.can_next prefixes }
+    requires ends { IsFinite (I.remaining prefixes) }
+{
     let mut list = String::new(alloc);
-    for prefix in range.to_v4_prefixes() {
-        let addr = prefix.to_v4();
-        append(&mut list, addr, prefix)?;
+    for prefix in prefixes {
+        append(&mut list, family, prefix)?;
     }
     Ok(list)
 }
 
-fn v6_prefixes<A: Allocator + Copy>(
-    alloc: A,
-    range: AddressRange,
-) -> Result<String<A>, AllocError> {
-    let mut list = String::new(alloc);
-    for prefix in range.to_v6_prefixes() {
-        let addr = prefix.to_v6();
-        append(&mut list, addr, prefix)?;
-    }
-    Ok(list)
-}
-
-/// Appends a prefix, whose address is printed as this, behind a separator where another stands before it.
-fn append<T: fmt::Display + Drop, A: Allocator>(
+/// Appends a prefix, behind a separator where another stands before it.
+fn append<A: Allocator>(
     list: &mut String<A>,
-    addr: T,
+    family: AddressFamily,
     prefix: Prefix,
 ) -> Result<(), AllocError> {
-    print::append(list, ", ", addr)?;
-    let len = prefix.addr_len();
-    write!(list, "/{len}")
+    match family {
+        AddressFamily::Ipv4 => print::append(list, ", ", prefix.to_v4())?,
+        AddressFamily::Ipv6 => print::append(list, ", ", prefix.to_v6())?,
+    }
+    print::append(list, "/", prefix.addr_len())
 }

@@ -1,7 +1,8 @@
 //! What sets of addresses of one family answer.
+use crate::lists::Lists;
 use crate::print::{self, cut};
 use crate::question::{Operation, Question};
-use rpki_base::list::read_list;
+use crate::values::octets;
 use rpki_base::memory::OrMemory;
 use rpki_family::v4::Ipv4Blocks;
 use rpki_family::v6::Ipv6Blocks;
@@ -19,63 +20,103 @@ pub fn answer<A: Allocator + Copy>(
     question: Question,
     operands: &str,
 ) -> Result<String<A>, AllocError> {
-    let (left, right) = cut(operands, '|');
     match question {
         Question::All => text(alloc, family, IpBlocks::all(alloc)),
-        Question::Build | Question::FromBlocks => {
-            print::answer(alloc, of_blocks(alloc, family, question, left, right))
-        }
-        _ => print::answer(alloc, of_set(alloc, family, question, left, right)),
+        Question::Build | Question::FromBlocks => of_lists(alloc, family, question, operands),
+        _ => of_operands(alloc, family, question, operands),
     }
 }
 
 /// The set that is made of blocks.
+fn of_lists<A: Allocator + Copy>(
+    alloc: A,
+    family: AddressFamily,
+    question: Question,
+    operands: &str,
+) -> Result<String<A>, AllocError> {
+    match Lists::<IpBlock, A>::read(alloc, operands) {
+        Ok(lists) => of_blocks(alloc, family, question, &lists.left, &lists.right),
+        Err(error) => print::refused(alloc, error),
+    }
+}
+
 fn of_blocks<A: Allocator + Copy>(
     alloc: A,
     family: AddressFamily,
     question: Question,
-    left: &str,
-    right: &str,
-) -> Result<String<A>, OrMemory<FromStrError>> {
-    let blocks = read_list(alloc, left)?;
+    blocks: &[IpBlock],
+    more: &[IpBlock],
+) -> Result<String<A>, AllocError> {
     match question {
-        Question::Build => {
-            let more = read_list(alloc, right)?;
-            Ok(text(alloc, family, build(alloc, &blocks, &more))?)
-        }
-        _ => Ok(text(alloc, family, IpBlocks::from_blocks(alloc, &blocks))?),
+        Question::Build => build(alloc, family, blocks, more),
+        _ => text(alloc, family, IpBlocks::from_blocks(alloc, blocks)),
     }
 }
 
 /// The set of blocks that are pushed one by one, and of more that come at once.
 fn build<A: Allocator + Copy>(
     alloc: A,
+    family: AddressFamily,
     blocks: &[IpBlock],
     more: &[IpBlock],
-) -> Result<IpBlocks<A>, AllocError> {
+) -> Result<String<A>, AllocError> {
     let mut builder = IpBlocksBuilder::new(alloc);
-    for (at, block) in blocks.iter().enumerate() {
-        if builder.push(*block).is_err() {
-            return after_refusal(alloc, builder, &blocks[..at]);
-        }
-    }
-    match builder.extend_from(more) {
-        Ok(()) => builder.finalize(),
-        Err(_) => after_refusal(alloc, builder, blocks),
+    let pushed = push(&mut builder, blocks, more);
+    match builder.finalize() {
+        Ok(set) => built(alloc, family, &set, pushed),
+        Err(error) => Err(error),
     }
 }
 
-/// `AllocError` where a builder that refused a block holds those that came before; else the set that it holds.
-fn after_refusal<A: Allocator + Copy>(
+/// Pushes the blocks one by one, and more at once. `Err` has those that came before the one that was refused memory.
+fn push<'a, A: Allocator + Copy>(
+    builder: &mut IpBlocksBuilder<A>,
+    blocks: &'a [IpBlock],
+    more: &[IpBlock],
+) -> Result<(), &'a [IpBlock]> {
+    for (at, block) in blocks.iter().enumerate() {
+        if builder.push(*block).is_err() {
+            return Err(&blocks[..at]);
+        }
+    }
+    match builder.extend_from(more) {
+        Ok(()) => Ok(()),
+        Err(AllocError) => Err(blocks),
+    }
+}
+
+/// The set of a builder. `AllocError` where it refused a block and holds those that came before.
+fn built<A: Allocator + Copy>(
     alloc: A,
-    builder: IpBlocksBuilder<A>,
+    family: AddressFamily,
+    set: &IpBlocks<A>,
+    pushed: Result<(), &[IpBlock]>,
+) -> Result<String<A>, AllocError> {
+    match pushed {
+        Err(blocks) if is_set_of(alloc, set, blocks)? => Err(AllocError),
+        _ => print::ip_set(alloc, family, set),
+    }
+}
+
+fn is_set_of<A: Allocator + Copy>(
+    alloc: A,
+    set: &IpBlocks<A>,
     blocks: &[IpBlock],
-) -> Result<IpBlocks<A>, AllocError> {
-    let set = builder.finalize()?;
-    if set == IpBlocks::from_blocks(alloc, blocks)? {
-        Err(AllocError)
-    } else {
-        Ok(set)
+) -> Result<bool, AllocError> {
+    let other = IpBlocks::from_blocks(alloc, blocks)?;
+    Ok(*set == other)
+}
+
+fn of_operands<A: Allocator + Copy>(
+    alloc: A,
+    family: AddressFamily,
+    question: Question,
+    operands: &str,
+) -> Result<String<A>, AllocError> {
+    let (left, right) = cut(operands, '|');
+    match read(alloc, family, left) {
+        Ok(set) => of_set(alloc, family, question, &set, right),
+        Err(error) => print::refused(alloc, error),
     }
 }
 
@@ -83,16 +124,14 @@ fn of_set<A: Allocator + Copy>(
     alloc: A,
     family: AddressFamily,
     question: Question,
-    left: &str,
+    set: &IpBlocks<A>,
     right: &str,
-) -> Result<String<A>, OrMemory<FromStrError>> {
-    let set = read(alloc, family, left)?;
+) -> Result<String<A>, AllocError> {
     match question {
-        Question::Octets => Ok(octets(alloc, &set)?),
-        Question::Has => Ok(print::boolean(alloc, set.contains_block(block(family, right)?))?),
-        Question::Meets => Ok(print::boolean(alloc, set.intersects_block(block(family, right)?))?),
-        Question::Both(operation) => of_both(alloc, family, operation, &set, right),
-        _ => Ok(String::from_str(alloc, "no such command")?),
+        Question::Octets => octets(alloc, set),
+        Question::Has | Question::Meets => has(alloc, family, question, set, right),
+        Question::Both(operation) => of_both(alloc, family, operation, set, right),
+        _ => String::from_str(alloc, "no such command"),
     }
 }
 
@@ -103,18 +142,47 @@ fn read<A: Allocator + Copy>(
     list: &str,
 ) -> Result<IpBlocks<A>, OrMemory<FromStrError>> {
     match family {
-        AddressFamily::Ipv4 => Ok(Ipv4Blocks::from_str(alloc, list)?.ip_blocks().clone()?),
-        AddressFamily::Ipv6 => Ok(Ipv6Blocks::from_str(alloc, list)?.ip_blocks().clone()?),
+        AddressFamily::Ipv4 => read_v4(alloc, list),
+        AddressFamily::Ipv6 => read_v6(alloc, list),
     }
 }
 
-/// The block that a text writes in the family.
-fn block(family: AddressFamily, text: &str) -> Result<IpBlock, OrMemory<FromStrError>> {
-    let block = match family {
+fn read_v4<A: Allocator + Copy>(
+    alloc: A,
+    list: &str,
+) -> Result<IpBlocks<A>, OrMemory<FromStrError>> {
+    let set = Ipv4Blocks::from_str(alloc, list)?;
+    Ok(set.ip_blocks().clone()?)
+}
+
+fn read_v6<A: Allocator + Copy>(
+    alloc: A,
+    list: &str,
+) -> Result<IpBlocks<A>, OrMemory<FromStrError>> {
+    let set = Ipv6Blocks::from_str(alloc, list)?;
+    Ok(set.ip_blocks().clone()?)
+}
+
+/// Whether a set has each address of the block that a text writes in the family, or some address of it.
+fn has<A: Allocator + Copy>(
+    alloc: A,
+    family: AddressFamily,
+    question: Question,
+    set: &IpBlocks<A>,
+    text: &str,
+) -> Result<String<A>, AllocError> {
+    match (block(family, text), question) {
+        (Ok(block), Question::Has) => print::boolean(alloc, set.contains_block(block)),
+        (Ok(block), _) => print::boolean(alloc, set.intersects_block(block)),
+        (Err(fault), _) => print::error(alloc, fault),
+    }
+}
+
+fn block(family: AddressFamily, text: &str) -> Result<IpBlock, FromStrError> {
+    match family {
         AddressFamily::Ipv4 => IpBlock::from_v4_str(text),
         AddressFamily::Ipv6 => IpBlock::from_v6_str(text),
-    };
-    block.map_err(OrMemory::Refused)
+    }
 }
 
 fn of_both<A: Allocator + Copy>(
@@ -123,9 +191,11 @@ fn of_both<A: Allocator + Copy>(
     operation: Operation,
     set: &IpBlocks<A>,
     right: &str,
-) -> Result<String<A>, OrMemory<FromStrError>> {
-    let other = read(alloc, family, right)?;
-    Ok(of_two(alloc, family, operation, set, &other)?)
+) -> Result<String<A>, AllocError> {
+    match read(alloc, family, right) {
+        Ok(other) => of_two(alloc, family, operation, set, &other),
+        Err(error) => print::refused(alloc, error),
+    }
 }
 
 fn of_two<A: Allocator + Copy>(
@@ -138,23 +208,36 @@ fn of_two<A: Allocator + Copy>(
     match operation {
         Operation::Union => text(alloc, family, set.union(alloc, other)),
         Operation::Intersection => text(alloc, family, set.intersection(alloc, other)),
-        Operation::Assign => text(alloc, family, assign(alloc, set, other)),
+        Operation::Assign => assign(alloc, family, set, other),
         Operation::Difference => text(alloc, family, set.difference(alloc, other)),
         Operation::Contains => print::boolean(alloc, set.contains(other)),
         Operation::Equal => print::boolean(alloc, set == other),
     }
 }
 
-/// The intersection, taken in place. `AllocError` where it was refused memory and has left the set as it was.
+/// The intersection, taken in place.
 fn assign<A: Allocator + Copy>(
     alloc: A,
+    family: AddressFamily,
     set: &IpBlocks<A>,
     other: &IpBlocks<A>,
-) -> Result<IpBlocks<A>, AllocError> {
+) -> Result<String<A>, AllocError> {
     let mut common = set.clone()?;
-    match common.intersection_assign(alloc, other) {
-        Err(error) if common == *set => Err(error),
-        _ => Ok(common),
+    let assigned = common.intersection_assign(alloc, other);
+    assigned_text(alloc, family, set, &common, assigned)
+}
+
+/// The set that an assignment gave. `AllocError` where it was refused memory and has left the set as it was.
+fn assigned_text<A: Allocator + Copy>(
+    alloc: A,
+    family: AddressFamily,
+    before: &IpBlocks<A>,
+    set: &IpBlocks<A>,
+    assigned: Result<(), AllocError>,
+) -> Result<String<A>, AllocError> {
+    match assigned {
+        Err(error) if set == before => Err(error),
+        _ => print::ip_set(alloc, family, set),
     }
 }
 
@@ -163,11 +246,8 @@ fn text<A: Allocator + Copy>(
     family: AddressFamily,
     set: Result<IpBlocks<A>, AllocError>,
 ) -> Result<String<A>, AllocError> {
-    print::ip_set(alloc, family, &set?)
-}
-
-fn octets<A: Allocator + Copy>(alloc: A, set: &IpBlocks<A>) -> Result<String<A>, AllocError> {
-    let mut output = print::output(alloc)?;
-    let write = set.encode(&mut output);
-    print::written(alloc, &output, write)
+    match set {
+        Ok(set) => print::ip_set(alloc, family, &set),
+        Err(error) => Err(error),
+    }
 }

@@ -17,13 +17,26 @@ pub fn answer<A: Allocator + Copy>(alloc: A, line: &str) -> Result<String<A>, Al
         "written" => takes::answer(alloc, Form::Written, kind, operands),
         "order" => orders::order(alloc, rest),
         "covers" => orders::covers(alloc, rest),
+        "prefixes" => covers::answer(alloc, kind, operands),
+        "set" => triples::set(alloc, rest),
+        "diff" => triples::difference(alloc, rest),
+        _ => lists_answer(alloc, line, kind, operands),
+    }
+}
+
+/// The answer to a line of lists, whose kind and operands these are.
+fn lists_answer<A: Allocator + Copy>(
+    alloc: A,
+    line: &str,
+    kind: &str,
+    operands: &str,
+) -> Result<String<A>, AllocError> {
+    let (command, _) = cut(line, ' ');
+    match command {
         "small" => small_sets::answer(alloc, kind, operands),
         "chain" => chains::answer(alloc, kind, operands),
         "pair" => chains::pair_answer(alloc, kind, operands),
         "long" => long::answer(alloc, kind, operands),
-        "prefixes" => covers::answer(alloc, kind, operands),
-        "set" => triples::set(alloc, rest),
-        "diff" => triples::difference(alloc, rest),
         _ => match Question::named(command) {
             Some(question) => set_answer(alloc, question, kind, operands),
             None => rpki_lines::answer(alloc, line.as_bytes()),

@@ -1,7 +1,7 @@
 //! Chains of many blocks: one has each fourth number from 0 on, the other the numbers two above.
+use crate::chains::{Shown, owned_text, trim};
 use crate::pairs::Pair;
 use crate::print;
-use rpki_base::memory::OrMemory;
 use rpki_base::number::parse_u32;
 use rpki_chain::block::Block;
 use rpki_chain::chain::Chain;
@@ -16,7 +16,7 @@ pub fn answer<A: Allocator + Copy>(
 ) -> Result<String<A>, AllocError> {
     match parse_u32(count) {
         Ok(count) => of_count(alloc, question, u64::from(count)),
-        Err(fault) => format!(in alloc; "error: {fault}"),
+        Err(fault) => print::error(alloc, fault),
     }
 }
 
@@ -26,11 +26,17 @@ fn of_count<A: Allocator + Copy>(
     count: u64,
 ) -> Result<String<A>, AllocError> {
     let fourths = every_fourth(alloc, count, 0)?;
-    if question == "contains" {
-        return print::boolean(alloc, has_fourths(fourths.as_chain(), count));
-    }
+    of_fourths(alloc, question, count, fourths.as_chain())
+}
+
+fn of_fourths<A: Allocator + Copy>(
+    alloc: A,
+    question: &str,
+    count: u64,
+    chain: Chain<'_, Pair>,
+) -> Result<String<A>, AllocError> {
     let others = every_fourth(alloc, count, 2)?;
-    of_chains(alloc, question, fourths.as_chain(), others.as_chain())
+    of_chains(alloc, question, count, chain, others.as_chain())
 }
 
 /// The chain of so many numbers, each four above the one before it.
@@ -49,47 +55,38 @@ fn every_fourth<A: Allocator + Copy>(
 
 /// Whether the chain has each fourth number, and none that comes right behind one.
 fn has_fourths(chain: Chain<'_, Pair>, count: u64) -> bool {
-    (0..count).all(|at| {
+    for at in 0..count {
         let number = at.saturating_mul(4);
-        chain.contains_item(number) && !chain.contains_item(number.saturating_add(1))
-    })
+        if !chain.contains_item(number) || chain.contains_item(number.saturating_add(1)) {
+            return false;
+        }
+    }
+    true
 }
 
 fn of_chains<A: Allocator + Copy>(
     alloc: A,
     question: &str,
+    count: u64,
     chain: Chain<'_, Pair>,
     other: Chain<'_, Pair>,
 ) -> Result<String<A>, AllocError> {
     match question {
-        "union" => {
-            let union = chain.union(alloc, other)?;
-            blocks(alloc, union.as_chain())
-        }
-        "difference" => {
-            let difference = chain.difference(alloc, other)?;
-            print::boolean(alloc, difference.as_chain() == chain)
-        }
-        "trim" => trim(alloc, chain, other),
-        "within" => trim(alloc, chain, chain),
+        "contains" => print::boolean(alloc, has_fourths(chain, count)),
+        "union" => owned_text(alloc, Shown::Count, chain.union(alloc, other)),
+        "difference" => difference(alloc, chain, other),
+        "trim" => trim(alloc, Shown::Count, chain, other),
+        "within" => trim(alloc, Shown::Count, chain, chain),
         _ => String::from_str(alloc, "no such command"),
     }
 }
 
-fn trim<A: Allocator + Copy>(
+/// Whether the difference of two chains is the first of them.
+fn difference<A: Allocator + Copy>(
     alloc: A,
     chain: Chain<'_, Pair>,
     other: Chain<'_, Pair>,
 ) -> Result<String<A>, AllocError> {
-    match chain.trim(alloc, other) {
-        Ok(()) => String::from_str(alloc, "ok"),
-        Err(OrMemory::Refused(common)) => blocks(alloc, common.as_chain()),
-        Err(OrMemory::Memory(error)) => Err(error),
-    }
-}
-
-/// How many blocks a chain has.
-fn blocks<A: Allocator + Copy>(alloc: A, chain: Chain<'_, Pair>) -> Result<String<A>, AllocError> {
-    let len = chain.len();
-    format!(in alloc; "{len} blocks")
+    let difference = chain.difference(alloc, other)?;
+    print::boolean(alloc, difference.as_chain() == chain)
 }

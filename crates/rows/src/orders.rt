@@ -13,7 +13,7 @@ pub fn order<A: Allocator + Copy>(alloc: A, rest: &str) -> Result<String<A>, All
     let right = MaxLenPrefix::from_str(right.trim_matches(' '));
     match (left, right) {
         (Ok(left), Ok(right)) => String::from_str(alloc, order_word(left.cmp(&right))),
-        (Err(fault), _) | (_, Err(fault)) => format!(in alloc; "error: {fault}"),
+        (Err(fault), _) | (_, Err(fault)) => print::error(alloc, fault),
     }
 }
 
@@ -33,6 +33,6 @@ pub fn covers<A: Allocator + Copy>(alloc: A, rest: &str) -> Result<String<A>, Al
     let right = Prefix::from_str(right.trim_matches(' '));
     match (left, right) {
         (Ok(left), Ok(right)) => print::boolean(alloc, left.covers(right)),
-        (Err(fault), _) | (_, Err(fault)) => format!(in alloc; "error: {fault}"),
+        (Err(fault), _) | (_, Err(fault)) => print::error(alloc, fault),
     }
 }

@@ -19,27 +19,53 @@ pub fn boolean<A: Allocator + Copy>(alloc: A, answer: bool) -> Result<String<A>,
     String::from_str(alloc, if answer { "true" } else { "false" })
 }
 
+/// A value.
+pub fn value<T: fmt::Display + Drop, A: Allocator + Copy>(
+    alloc: A,
+    value: T,
+) -> Result<String<A>, AllocError> {
+    format!(in alloc; "{value}")
+}
+
+/// A value, where there was memory for it.
+pub fn made<T: fmt::Display + Drop, A: Allocator + Copy>(
+    alloc: A,
+    made: Result<T, AllocError>,
+) -> Result<String<A>, AllocError> {
+    match made {
+        Ok(made) => value(alloc, made),
+        Err(error) => Err(error),
+    }
+}
+
 /// A value, or `error: ` and the fault.
 pub fn result<T: fmt::Display + Drop, E: fmt::Display + Drop, A: Allocator + Copy>(
     alloc: A,
     found: Result<T, E>,
 ) -> Result<String<A>, AllocError> {
     match found {
-        Ok(value) => format!(in alloc; "{value}"),
-        Err(fault) => format!(in alloc; "error: {fault}"),
+        Ok(found) => value(alloc, found),
+        Err(fault) => error(alloc, fault),
     }
 }
 
-/// An answer, or `error: ` and the fault. `AllocError` where memory was wanting.
-pub fn answer<E: fmt::Display + Drop, A: Allocator + Copy>(
+/// `error: ` and the fault. `AllocError` where memory was wanting.
+pub fn refused<E: fmt::Display + Drop, A: Allocator + Copy>(
     alloc: A,
-    answer: Result<String<A>, OrMemory<E>>,
+    found: OrMemory<E>,
 ) -> Result<String<A>, AllocError> {
-    match answer {
-        Ok(text) => Ok(text),
-        Err(OrMemory::Refused(fault)) => format!(in alloc; "error: {fault}"),
-        Err(OrMemory::Memory(error)) => Err(error),
+    match found {
+        OrMemory::Refused(fault) => error(alloc, fault),
+        OrMemory::Memory(error) => Err(error),
     }
+}
+
+/// `error: ` and the fault.
+pub fn error<E: fmt::Display + Drop, A: Allocator + Copy>(
+    alloc: A,
+    fault: E,
+) -> Result<String<A>, AllocError> {
+    format!(in alloc; "error: {fault}")
 }
 
 /// Appends an item to a list, behind the separator where one stands before it.
@@ -52,6 +78,17 @@ pub fn append<T: fmt::Display + Drop, A: Allocator>(
         list.push_str(separator)?;
     }
     write!(list, "{item}")
+}
+
+/// Appends a text, behind a space where another stands before it.
+pub fn append_text<A: Allocator>(
+    list: &mut String<A>,
+    text: Result<String<A>, AllocError>,
+) -> Result<(), AllocError> {
+    match text {
+        Ok(text) => append(list, " ", text),
+        Err(error) => Err(error),
+    }
 }
 
 /// What stands in an output before something is written to it.

@@ -30,8 +30,15 @@ fn limit(line: &str) -> u64 {
 
 fn outcome(refusing: &Refusing, line: &str, expected: &str) -> Outcome {
     match line::answer(refusing, line) {
-        Ok(answer) if answer.as_str() == expected => Outcome::Expected,
-        Ok(_) => Outcome::Unexpected,
+        Ok(answer) => compared(answer.as_str() == expected),
         Err(AllocError) => Outcome::OutOfMemory,
+    }
+}
+
+fn compared(is_expected: bool) -> Outcome {
+    if is_expected {
+        Outcome::Expected
+    } else {
+        Outcome::Unexpected
     }
 }

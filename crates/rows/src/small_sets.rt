@@ -1,11 +1,10 @@
 //! What small sets of AS numbers answer.
 ghost use Rattle.std.specs.Iterator.{IsFinite};
 
+use crate::lists::Lists;
 use crate::orders::order_word;
-use crate::print::{self, cut};
-use rpki_base::asn::{Asn, ParseAsnError};
-use rpki_base::list::read_list;
-use rpki_base::memory::OrMemory;
+use crate::print;
+use rpki_base::asn::Asn;
 use rpki_base::small_set::SmallAsnSet;
 use std::alloc::{AllocError, Allocator};
 
@@ -15,28 +14,30 @@ pub fn answer<A: Allocator + Copy>(
     operation: &str,
     operands: &str,
 ) -> Result<String<A>, AllocError> {
-    let (left, right) = cut(operands, '|');
-    print::answer(alloc, of_lists(alloc, operation, left, right))
+    match Lists::<Asn, A>::read(alloc, operands) {
+        Ok(lists) => of_list(alloc, operation, &lists.left, &lists.right),
+        Err(error) => print::refused(alloc, error),
+    }
 }
 
-fn of_lists<A: Allocator + Copy>(
+fn of_list<A: Allocator + Copy>(
     alloc: A,
     operation: &str,
-    left: &str,
-    right: &str,
-) -> Result<String<A>, OrMemory<ParseAsnError>> {
-    let set = read(alloc, left)?;
-    let other = read(alloc, right)?;
-    Ok(of_sets(alloc, operation, &set, &other)?)
+    left: &[Asn],
+    right: &[Asn],
+) -> Result<String<A>, AllocError> {
+    let set = SmallAsnSet::from_list(alloc, left)?;
+    of_set(alloc, operation, &set, right)
 }
 
-/// The set of the numbers of a list.
-fn read<A: Allocator + Copy>(
+fn of_set<A: Allocator + Copy>(
     alloc: A,
-    list: &str,
-) -> Result<SmallAsnSet<A>, OrMemory<ParseAsnError>> {
-    let asns = read_list::<Asn, A>(alloc, list)?;
-    Ok(SmallAsnSet::from_list(alloc, &asns)?)
+    operation: &str,
+    set: &SmallAsnSet<A>,
+    right: &[Asn],
+) -> Result<String<A>, AllocError> {
+    let other = SmallAsnSet::from_list(alloc, right)?;
+    of_sets(alloc, operation, set, &other)
 }
 
 fn of_sets<A: Allocator + Copy>(

@@ -1,9 +1,15 @@
 //! What the readers of DER answer.
+use crate::claims::Families;
 use crate::print;
-use crate::values::Reader;
+use crate::values::{Item, Reader, Skip, Value, octets as octets_of};
 use hex::FromHexError;
+use rpki_as::blocks::AsBlocks;
+use rpki_as::resources::AsResources;
 use rpki_base::memory::OrMemory;
-use rpki_der::{Content, Cursor};
+use rpki_der::{Content, Cursor, DerError};
+use rpki_ip::family::AddressFamily;
+use rpki_ipres::blocks::IpBlocks;
+use rpki_ipres::resources::IpResources;
 use std::alloc::{AllocError, Allocator};
 
 /// What is asked of what was read.
@@ -48,34 +54,98 @@ fn read<A: Allocator + Copy>(
     reader: Reader,
     octets: &[u8],
 ) -> Result<String<A>, AllocError> {
-    let mut cursor = Cursor::new(octets);
-    let read = reader.take(alloc, &mut cursor);
-    let rest = cursor.rest();
-    match (read, form) {
-        (Ok(value), Form::Printed) => {
-            with_rest(alloc, value.text(alloc, reader.printed_family()), rest)
+    let asked = (form, reader.printed_family());
+    match reader {
+        Reader::Item(reader) => read_value::<A, Item>(alloc, asked, reader, octets),
+        Reader::Skip(skip) => skipped(alloc, form, skip, octets),
+        Reader::AsBlocks => read_value::<A, AsBlocks<A>>(alloc, asked, (), octets),
+        Reader::IpBlocks(family) => read_value::<A, IpBlocks<A>>(alloc, asked, family, octets),
+        Reader::AsResources => read_value::<A, AsResources<A>>(alloc, asked, (), octets),
+        Reader::IpResources(family) => {
+            read_value::<A, IpResources<A>>(alloc, asked, family, octets)
         }
-        (Ok(value), Form::Written) => value.octets(alloc),
-        (Err(_), _) if rest.len() != octets.len() => moved(alloc),
-        (Err(OrMemory::Refused(fault)), _) => format!(in alloc; "error: {fault}"),
-        (Err(OrMemory::Memory(error)), _) => Err(error),
+        Reader::Families => read_value::<A, Families<A>>(alloc, asked, (), octets),
     }
 }
 
-/// A refused reader must leave the cursor where it was.
-fn moved<A: Allocator + Copy>(alloc: A) -> Result<String<A>, AllocError> {
-    String::from_str(alloc, "refused with the cursor moved")
+fn read_value<A: Allocator + Copy, V: Value<A>>(
+    alloc: A,
+    asked: (Form, AddressFamily),
+    reader: V::Reader,
+    octets: &[u8],
+) -> Result<String<A>, AllocError> {
+    let mut cursor = Cursor::new(octets);
+    match V::take(alloc, reader, &mut cursor) {
+        Ok(value) => value_text(alloc, asked, &value, cursor.rest()),
+        Err(error) => refused(alloc, error, cursor.rest().len() == octets.len()),
+    }
+}
+
+/// What is asked of a value, printed in a family, and behind it the octets that are left.
+fn value_text<A: Allocator + Copy, V: Value<A>>(
+    alloc: A,
+    asked: (Form, AddressFamily),
+    value: &V,
+    rest: &[u8],
+) -> Result<String<A>, AllocError> {
+    match asked {
+        (Form::Printed, family) => with_rest(alloc, value.text(alloc, family), rest),
+        (Form::Written, _) => octets_of(alloc, value),
+    }
+}
+
+/// Whether a value was skipped. It is written as no octets.
+fn skipped<A: Allocator + Copy>(
+    alloc: A,
+    form: Form,
+    skip: Skip,
+    octets: &[u8],
+) -> Result<String<A>, AllocError> {
+    let mut cursor = Cursor::new(octets);
+    match skip.skip(&mut cursor) {
+        Ok(found) => skipped_text(alloc, form, found, cursor.rest()),
+        Err(fault) => {
+            let is_in_place = cursor.rest().len() == octets.len();
+            refused(alloc, OrMemory::Refused(fault), is_in_place)
+        }
+    }
+}
+
+fn skipped_text<A: Allocator + Copy>(
+    alloc: A,
+    form: Form,
+    found: Option<()>,
+    rest: &[u8],
+) -> Result<String<A>, AllocError> {
+    match (form, found) {
+        (Form::Printed, Some(())) => with_rest(alloc, String::from_str(alloc, "skipped"), rest),
+        (Form::Printed, None) => with_rest(alloc, String::from_str(alloc, "none"), rest),
+        (Form::Written, _) => Ok(String::new(alloc)),
+    }
+}
+
+/// A fault. A reader that refuses must leave the cursor where it was.
+fn refused<A: Allocator + Copy>(
+    alloc: A,
+    error: OrMemory<DerError>,
+    is_in_place: bool,
+) -> Result<String<A>, AllocError> {
+    if is_in_place {
+        print::refused(alloc, error)
+    } else {
+        String::from_str(alloc, "refused with the cursor moved")
+    }
 }
 
 /// One value of any tag: its tag and its content.
 fn content<A: Allocator + Copy>(alloc: A, octets: &[u8]) -> Result<String<A>, AllocError> {
     let mut cursor = Cursor::new(octets);
-    let read = cursor.take_value();
-    let rest = cursor.rest();
-    match read {
-        Ok(content) => with_rest(alloc, content_text(alloc, content), rest),
-        Err(_) if rest.len() != octets.len() => moved(alloc),
-        Err(fault) => format!(in alloc; "error: {fault}"),
+    match cursor.take_value() {
+        Ok(content) => with_rest(alloc, content_text(alloc, content), cursor.rest()),
+        Err(fault) => {
+            let is_in_place = cursor.rest().len() == octets.len();
+            refused(alloc, OrMemory::Refused(fault), is_in_place)
+        }
     }
 }
 

@@ -1,10 +1,9 @@
 //! What the readers of texts answer.
-use crate::print;
-use crate::values::{Item, Value};
+use crate::values::{Item, Value, octets};
+use crate::{ip_sets, print};
 use rpki_as::block::AsBlock;
 use rpki_base::addr::{IpAddr, Ipv4Addr, Ipv6Addr};
 use rpki_base::asn::Asn;
-use rpki_base::memory::OrMemory;
 use rpki_base::number::{parse_u8, parse_u32};
 use rpki_ip::error::FromStrError;
 use rpki_ip::family::AddressFamily;
@@ -30,6 +29,17 @@ pub fn answer<A: Allocator + Copy>(
         "addr6" => print::result(alloc, Ipv6Addr::from_str(text)),
         "u8" => print::result(alloc, parse_u8(text)),
         "u32" => print::result(alloc, parse_u32(text)),
+        _ => prefix_answer(alloc, reader, text),
+    }
+}
+
+/// The answer of the readers of prefixes, of AS blocks and of sets of addresses.
+fn prefix_answer<A: Allocator + Copy>(
+    alloc: A,
+    reader: &str,
+    text: &str,
+) -> Result<String<A>, AllocError> {
+    match reader {
         "prefix" => print::result(alloc, Prefix::from_str(text)),
         "relaxed" => print::result(alloc, Prefix::from_str_relaxed(text)),
         "maxlen" => print::result(alloc, MaxLenPrefix::from_str(text)),
@@ -45,21 +55,42 @@ fn ip_block_answer<A: Allocator + Copy>(
     reader: &str,
     text: &str,
 ) -> Result<String<A>, AllocError> {
+    match ip_block(reader, text) {
+        Some(Ok(block)) => ip_block_text(alloc, reader, text, block),
+        Some(Err(fault)) => print::error(alloc, fault),
+        None => String::from_str(alloc, "no such reader of texts"),
+    }
+}
+
+/// What a reader of one block of addresses makes of a text.
+fn ip_block(reader: &str, text: &str) -> Option<Result<IpBlock, FromStrError>> {
     match reader {
-        "v4block" => ip_block(alloc, IpBlock::from_v4_str(text)),
-        "v6block" => ip_block(alloc, IpBlock::from_v6_str(text)),
-        "ipblock" => ip_block(alloc, IpBlock::from_str(text)),
-        "rprefix" => { in_own_family(alloc, text, ip::Prefix::from_str(text).map(IpBlock::Prefix)) }
-        "rprefix4" => ip_block(alloc, ip::Prefix::from_v4_str(text).map(IpBlock::Prefix)),
-        "rprefix6" => ip_block(alloc, ip::Prefix::from_v6_str(text).map(IpBlock::Prefix)),
-        "rrange" => in_own_family(
-            alloc,
-            text,
-            AddressRange::from_str(text).map(IpBlock::Range),
-        ),
-        "rrange4" => ip_block(alloc, AddressRange::from_v4_str(text).map(IpBlock::Range)),
-        "rrange6" => ip_block(alloc, AddressRange::from_v6_str(text).map(IpBlock::Range)),
-        _ => String::from_str(alloc, "no such reader of texts"),
+        "v4block" => Some(IpBlock::from_v4_str(text)),
+        "v6block" => Some(IpBlock::from_v6_str(text)),
+        "ipblock" => Some(IpBlock::from_str(text)),
+        "rprefix" => Some(ip::Prefix::from_str(text).map(IpBlock::Prefix)),
+        "rprefix4" => Some(ip::Prefix::from_v4_str(text).map(IpBlock::Prefix)),
+        "rprefix6" => Some(ip::Prefix::from_v6_str(text).map(IpBlock::Prefix)),
+        "rrange" => Some(AddressRange::from_str(text).map(IpBlock::Range)),
+        "rrange4" => Some(AddressRange::from_v4_str(text).map(IpBlock::Range)),
+        "rrange6" => Some(AddressRange::from_v6_str(text).map(IpBlock::Range)),
+        _ => None,
+    }
+}
+
+/// A prefix or a range printed in the family of its text; any other block in each family, and its octets.
+fn ip_block_text<A: Allocator + Copy>(
+    alloc: A,
+    reader: &str,
+    text: &str,
+    block: IpBlock,
+) -> Result<String<A>, AllocError> {
+    match reader {
+        "rprefix" | "rrange" => print::ip_block(alloc, family(text), block),
+        _ => {
+            let families = [AddressFamily::Ipv4, AddressFamily::Ipv6];
+            item(alloc, Item::IpBlock(block), &families)
+        }
     }
 }
 
@@ -70,21 +101,7 @@ fn as_block<A: Allocator + Copy>(
 ) -> Result<String<A>, AllocError> {
     match block {
         Ok(block) => item(alloc, Item::AsBlock(block), &[AddressFamily::Ipv6]),
-        Err(fault) => format!(in alloc; "error: {fault}"),
-    }
-}
-
-/// A block printed in each family and its octets, or the fault.
-fn ip_block<A: Allocator + Copy>(
-    alloc: A,
-    block: Result<IpBlock, FromStrError>,
-) -> Result<String<A>, AllocError> {
-    match block {
-        Ok(block) => {
-            let families = [AddressFamily::Ipv4, AddressFamily::Ipv6];
-            item(alloc, Item::IpBlock(block), &families)
-        }
-        Err(fault) => format!(in alloc; "error: {fault}"),
+        Err(fault) => print::error(alloc, fault),
     }
 }
 
@@ -96,22 +113,10 @@ fn item<A: Allocator + Copy>(
 ) -> Result<String<A>, AllocError> {
     let mut answer = String::new(alloc);
     for family in families {
-        print::append(&mut answer, " ", item.text(alloc, *family)?)?;
+        print::append_text(&mut answer, item.text(alloc, *family))?;
     }
-    print::append(&mut answer, " ", Value::Item(item).octets(alloc)?)?;
+    print::append_text(&mut answer, octets(alloc, &item))?;
     Ok(answer)
-}
-
-/// A block printed in the family of its text, or the fault.
-fn in_own_family<A: Allocator + Copy>(
-    alloc: A,
-    text: &str,
-    block: Result<IpBlock, FromStrError>,
-) -> Result<String<A>, AllocError> {
-    match block {
-        Ok(block) => print::ip_block(alloc, family(text), block),
-        Err(fault) => format!(in alloc; "error: {fault}"),
-    }
 }
 
 /// The family of a text: IPv6 has colons.
@@ -126,18 +131,17 @@ fn family(text: &str) -> AddressFamily {
 /// A set printed in the family of its text and its octets, or the fault.
 fn ip_blocks<A: Allocator + Copy>(alloc: A, text: &str) -> Result<String<A>, AllocError> {
     match IpBlocks::from_str(alloc, text) {
-        Ok(set) => set_with_octets(alloc, family(text), set),
-        Err(OrMemory::Refused(fault)) => format!(in alloc; "error: {fault}"),
-        Err(OrMemory::Memory(error)) => Err(error),
+        Ok(set) => set_with_octets(alloc, family(text), &set),
+        Err(error) => print::refused(alloc, error),
     }
 }
 
 fn set_with_octets<A: Allocator + Copy>(
     alloc: A,
     family: AddressFamily,
-    set: IpBlocks<A>,
+    set: &IpBlocks<A>,
 ) -> Result<String<A>, AllocError> {
-    let text = print::ip_set(alloc, family, &set)?;
-    let octets = Value::IpBlocks(set).octets(alloc)?;
+    let text = print::ip_set(alloc, family, set)?;
+    let octets = octets(alloc, set)?;
     format!(in alloc; "{text} {octets}")
 }

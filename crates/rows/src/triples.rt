@@ -1,5 +1,5 @@
 //! What sets of all three kinds of resources answer.
-use crate::print::cut;
+use crate::print::{cut, refused};
 use rpki_base::memory::OrMemory;
 use rpki_resources::repository::resources::set::{FromStrError, ResourceSet};
 use std::alloc::{AllocError, Allocator};
@@ -50,16 +50,6 @@ fn read<A: Allocator + Copy>(
     let (asn, addresses) = cut(lists, ';');
     let (ipv4, ipv6) = cut(addresses, ';');
     ResourceSet::from_strs(alloc, asn, ipv4, ipv6)
-}
-
-fn refused<A: Allocator + Copy>(
-    alloc: A,
-    error: OrMemory<FromStrError>,
-) -> Result<String<A>, AllocError> {
-    match error {
-        OrMemory::Refused(fault) => format!(in alloc; "error: {fault}"),
-        OrMemory::Memory(error) => Err(error),
-    }
 }
 
 /// What is printed of a value.

@@ -1,0 +1,23 @@
+//! The two lists of a line.
+use crate::print::cut;
+use rpki_base::list::read_list;
+use rpki_base::memory::OrMemory;
+use std::alloc::Allocator;
+use std::str::FromStr;
+
+/// What the lists `A` and `B` of `A|B` have: of `A` alone, the second is empty.
+#[derive(Drop)]
+pub struct Lists<T: Drop, A: Allocator> {
+    pub left: Vec<T, A>,
+    pub right: Vec<T, A>,
+}
+
+impl<T: FromStr + Drop, A: Allocator + Copy> Lists<T, A> {
+    /// Reads both lists, the first one before the other.
+    pub fn read(alloc: A, operands: &str) -> Result<Lists<T, A>, OrMemory<T::Err>> {
+        let (left, right) = cut(operands, '|');
+        let left = read_list(alloc, left)?;
+        let right = read_list(alloc, right)?;
+        Ok(Lists { left, right })
+    }
+}

@@ -80,8 +80,8 @@ const BOUNDS: [(u8, &str, &str); 6] = [
 fn least_and_greatest_addresses(rt: HostRuntime) {
     let addr = Addr::from_v4(Ipv4Addr::from_bits(0x0a01_0203));
     for (len, min, max) in &BOUNDS {
-        assert!(rt; Addr::from_v6_str(min) == Ok(addr.to_min(*len)), "{len}");
-        assert!(rt; Addr::from_v6_str(max) == Ok(addr.to_max(*len)), "{len}");
+        same(&rt, Addr::from_v6_str(min), Ok(addr.to_min(*len)));
+        same(&rt, Addr::from_v6_str(max), Ok(addr.to_max(*len)));
     }
 }
 

@@ -5,7 +5,6 @@ use rpki_as::range::AsRange;
 use rpki_base::asn::Asn;
 use rpki_chain::block::Block;
 use std::str::FromStr;
-use std::test::Fail;
 
 /// The block with these bounds, in the form that `new` gives.
 fn block(one: u32, other: u32) -> AsBlock {
@@ -19,27 +18,32 @@ const COUNTS: [(&str, u64); 4] = [
     ("0-4294967295", 4294967296),
 ];
 
-#[test]
-fn counts_of_blocks(rt: HostRuntime) -> Result<(), Fail> {
-    for (text, count) in &COUNTS {
-        assert!(rt; AsBlock::from_str(text)?.asn_count() == *count, "{text}");
+fn count_of(text: &str) -> Option<u64> {
+    match AsBlock::from_str(text) {
+        Ok(block) => Some(block.asn_count()),
+        Err(_) => None,
     }
-    same(&rt, AsRange::all().asn_count(), 4294967296);
-    Ok(())
 }
 
 #[test]
-fn blocks_are_equal_by_their_bounds(rt: HostRuntime) -> Result<(), Fail> {
+fn counts_of_blocks(rt: HostRuntime) {
+    for (text, count) in &COUNTS {
+        same(&rt, count_of(text), Some(*count));
+    }
+    same(&rt, AsRange::all().asn_count(), 4294967296);
+}
+
+#[test]
+fn blocks_are_equal_by_their_bounds(rt: HostRuntime) {
     let seven = Asn::from_u32(7);
     let pair = AsBlock::from_pair((seven, seven));
     same(&rt, pair, AsBlock::Id(seven));
-    same(&rt, pair, AsBlock::from_str("AS7-AS7")?);
+    same(&rt, Some(pair), AsBlock::from_str("AS7-AS7").ok());
     holds(&rt, pair != AsBlock::from(Asn::from_u32(8)));
     holds(&rt, matches!(pair, AsBlock::Range(_)));
     holds(&rt, matches!(block(7, 7), AsBlock::Id(_)));
     same(&rt, AsBlock::from(AsRange::all()), AsBlock::all());
     same(&rt, AsRange::all(), AsRange::new(Asn::MIN, Asn::MAX));
-    Ok(())
 }
 
 #[test]
@@ -71,7 +75,7 @@ fn blocks_take_a_least_number(rt: HostRuntime) {
 fn blocks_give_their_numbers_to_the_last(rt: HostRuntime) {
     let mut numbers = block(4294967291, 4294967295).iter();
     for want in 4294967291..4294967295 {
-        assert!(rt; numbers.next() == Some(Asn::from_u32(want)), "{want}");
+        same(&rt, numbers.next(), Some(Asn::from_u32(want)));
     }
     same(&rt, numbers.next(), Some(Asn::MAX));
     same(&rt, numbers.next(), None);

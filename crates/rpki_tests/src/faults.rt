@@ -1,11 +1,16 @@
 // The text of each fault, and faults that are made of others.
 use crate::checks::{holds, same};
-use probing::all_print;
-use rpki_as::error::FromStrError as AsFromStrError;
+use probing::{all_print, prints};
+use rpki_as::error::{FromStrError as AsFromStrError, InheritedAsResources};
 use rpki_base::addr::AddrParseError;
 use rpki_base::asn::ParseAsnError;
+use rpki_base::memory::OrMemory;
 use rpki_base::number::ParseIntError;
+use rpki_ip::der::{DecodeFamilyError, DecodePrefixError};
 use rpki_ip::error::FromStrError;
+use rpki_ipres::blocks::IpBlocks;
+use rpki_ipres::overclaim::OverclaimedIpResources;
+use rpki_ipres::resources::{InheritedIpResources, IpResources};
 use rpki_prefix::error::{MaxLenError, ParseMaxLenPrefixError, ParsePrefixError, PrefixError};
 use std::alloc::{AllocError, Global};
 use std::error::Error;
@@ -139,6 +144,87 @@ fn faults_of_prefixes(rt: HostRuntime) -> Result<(), Fail> {
     holds(&rt, errors_print(rt.alloc(), &PREFIXES)?);
     holds(&rt, errors_print(rt.alloc(), &MAX_LENGTHS)?);
     Ok(())
+}
+
+const PREFIX_OCTETS: [(DecodePrefixError, &str); 1] = [(
+    DecodePrefixError,
+    "invalid prefix in IP resources",
+)];
+
+const FAMILY_OCTETS: [(DecodeFamilyError, &str); 1] = [(
+    DecodeFamilyError,
+    "invalid address family in IP resources",
+)];
+
+#[test]
+fn faults_of_octets(rt: HostRuntime) -> Result<(), Fail> {
+    holds(&rt, errors_print(rt.alloc(), &PREFIX_OCTETS)?);
+    holds(&rt, errors_print(rt.alloc(), &FAMILY_OCTETS)?);
+    Ok(())
+}
+
+const INHERITED_AS: [(InheritedAsResources, &str); 1] = [(
+    InheritedAsResources,
+    "inherited AS resources",
+)];
+
+const INHERITED_IP: [(InheritedIpResources, &str); 1] = [(
+    InheritedIpResources,
+    "inherited IP resources",
+)];
+
+#[test]
+fn faults_of_inherited_resources(rt: HostRuntime) -> Result<(), Fail> {
+    holds(&rt, errors_print(rt.alloc(), &INHERITED_AS)?);
+    holds(&rt, errors_print(rt.alloc(), &INHERITED_IP)?);
+    Ok(())
+}
+
+/// The fault of a claim of a set whose issuer has nothing.
+fn fault_of(alloc: Global, set: &IpBlocks) -> Option<OverclaimedIpResources> {
+    match set.verify_covered(alloc, &IpResources::missing()) {
+        Err(OrMemory::Refused(fault)) => Some(fault),
+        _ => None,
+    }
+}
+
+/// The fault of a claim of a list whose issuer has nothing.
+fn overclaim(alloc: Global, list: &str) -> Option<OverclaimedIpResources> {
+    match IpBlocks::from_str(alloc, list) {
+        Ok(set) => fault_of(alloc, &set),
+        Err(_) => None,
+    }
+}
+
+fn prints_as_v4(alloc: Global, fault: OverclaimedIpResources, text: &str) -> bool {
+    if !fault.excess().is_whole_v4() {
+        return false;
+    }
+    prints(alloc, &fault.v4(), text) == Ok(true)
+}
+
+fn prints_as_v6(alloc: Global, fault: OverclaimedIpResources, text: &str) -> bool {
+    prints(alloc, &fault.v6(), text) == Ok(true)
+}
+
+#[test]
+fn faults_of_claims_of_ipv4(rt: HostRuntime) {
+    let text = "overclaimed IPv4 resources: 10.0.0.0/8, 12.0.0.0-12.0.0.2";
+    let is_so = match overclaim(rt.alloc(), "12.0.0.0-12.0.0.2, 10.0.0.0/8") {
+        Some(fault) => prints_as_v4(rt.alloc(), fault, text),
+        None => false,
+    };
+    holds(&rt, is_so);
+}
+
+#[test]
+fn faults_of_claims_of_ipv6(rt: HostRuntime) {
+    let text = "overclaimed IPv6 resources: ::1, 2001:db8::/32";
+    let is_so = match overclaim(rt.alloc(), "2001:db8::/32, ::1") {
+        Some(fault) => prints_as_v6(rt.alloc(), fault, text),
+        None => false,
+    };
+    holds(&rt, is_so);
 }
 
 #[test]

@@ -14,7 +14,6 @@ use rpki_ipres::block::IpBlock;
 use rpki_prefix::prefix::Prefix as FamilyPrefix;
 use std::alloc::Global;
 use std::str::FromStr;
-use std::test::Fail;
 
 /// The block with these bounds, in the form that `new` gives.
 fn block(one: u128, other: u128) -> IpBlock {
@@ -60,10 +59,7 @@ const FORMS: [(u128, u128, Option<u8>); 10] = [
 fn forms_of_new_blocks(rt: HostRuntime) {
     for (min, max, len) in &FORMS {
         let made = block(*min, *max);
-        assert!(rt;
-            len_of(&made) == *len && has_bounds(&made, *min, *max),
-            "{min} {max}"
-        );
+        holds(&rt, len_of(&made) == *len && has_bounds(&made, *min, *max));
     }
 }
 
@@ -99,12 +95,19 @@ const SLASH_ZERO: [(&str, bool); 6] = [
     ("0.0.0.0-255.255.255.255", false),
 ];
 
-#[test]
-fn texts_of_all_addresses(rt: HostRuntime) -> Result<(), Fail> {
-    for (text, all) in &SLASH_ZERO {
-        assert!(rt; IpBlock::from_str(text)?.is_slash_zero() == *all, "{text}");
+/// Whether a text is a block, and all addresses as a prefix or not.
+fn is_slash_zero(text: &str, wanted: bool) -> bool {
+    match IpBlock::from_str(text) {
+        Ok(block) => block.is_slash_zero() == wanted,
+        Err(_) => false,
     }
-    Ok(())
+}
+
+#[test]
+fn texts_of_all_addresses(rt: HostRuntime) {
+    for (text, all) in &SLASH_ZERO {
+        holds(&rt, is_slash_zero(text, *all));
+    }
 }
 
 /// Whether a block is this Prefix.
@@ -124,29 +127,31 @@ fn is_range(block: &IpBlock, range: AddressRange) -> bool {
 }
 
 #[test]
-fn blocks_of_prefixes_and_ranges(rt: HostRuntime) -> Result<(), Fail> {
-    let prefix = Prefix::new(Addr::from_v4_str("10.0.0.0")?, 8);
+fn blocks_of_prefixes_and_ranges(rt: HostRuntime) {
+    let prefix = Prefix::new(Addr::from_bits(FIRST), 8);
     holds(&rt, is_prefix(&IpBlock::from(prefix), prefix));
     let span = AddressRange::from(prefix);
     holds(&rt, is_range(&IpBlock::from(span), span));
     same(&rt, IpBlock::from(prefix), IpBlock::from(span));
-    Ok(())
+}
+
+/// Whether a text is a prefix of one family, and its block a Prefix with this length and these bounds.
+fn is_block_of(text: &str, len: u8, min: u128, max: u128) -> bool {
+    match FamilyPrefix::from_str(text) {
+        Ok(prefix) => {
+            let block = IpBlock::from(prefix);
+            len_of(&block) == Some(len) && has_bounds(&block, min, max)
+        }
+        Err(_) => false,
+    }
 }
 
 #[test]
-fn blocks_of_prefixes_of_one_family(rt: HostRuntime) -> Result<(), Fail> {
-    let block = IpBlock::from(FamilyPrefix::from_str("10.0.0.0/8")?);
-    holds(
-        &rt,
-        is_prefix(&block, Prefix::new(Addr::from_v4_str("10.0.0.0")?, 8)),
-    );
-    let block = IpBlock::from(FamilyPrefix::from_str("2001:db8::/32")?);
-    same(&rt, len_of(&block), Some(32));
-    holds(
-        &rt,
-        has_bounds(&block, 0x2001_0db8_u128 << 96, (0x2001_0db9_u128 << 96) - 1),
-    );
-    Ok(())
+fn blocks_of_prefixes_of_one_family(rt: HostRuntime) {
+    let (low, high) = (0x2001_0db8_u128 << 96, 0x2001_0db9_u128 << 96);
+    holds(&rt, is_block_of("2001:db8::/32", 32, low, high - 1));
+    let last = (0x0b00_0000_u128 << 96) - 1;
+    holds(&rt, is_block_of("10.0.0.0/8", 8, FIRST, last));
 }
 
 #[test]
@@ -202,24 +207,26 @@ const V4_BLOCKS: [(&str, u32, u32, &str); 5] = [
     ("10.0.0.0/0", 0, u32::MAX, "0.0.0.0/0"),
 ];
 
-fn is_v4_block(alloc: Global, row: &(&str, u32, u32, &str)) -> Result<bool, Fail> {
-    let (text, min, max, printed) = *row;
-    let block = Ipv4Block::from_str(text)?;
-    Ok(
-        block.min() == Ipv4Addr::from_bits(min)
-            && block.max() == Ipv4Addr::from_bits(max)
-            && Ipv4Block::from_str(printed) == Ok(block)
-            && Ok(IpBlock::from(block)) == IpBlock::from_v4_str(text)
-            && prints(alloc, &block, printed)?,
-    )
+fn v4_block_is(alloc: Global, block: Ipv4Block, row: &(&str, u32, u32, &str)) -> bool {
+    let bounds = (Ipv4Addr::from_bits(row.1), Ipv4Addr::from_bits(row.2));
+    (block.min(), block.max()) == bounds
+        && Ok(IpBlock::from(block)) == IpBlock::from_v4_str(row.0)
+        && prints(alloc, &block, row.3) == Ok(true)
+}
+
+/// Whether both texts are the block, in whichever form.
+fn is_v4_block(alloc: Global, row: &(&str, u32, u32, &str)) -> bool {
+    match (Ipv4Block::from_str(row.0), Ipv4Block::from_str(row.3)) {
+        (Ok(block), Ok(printed)) => block == printed && v4_block_is(alloc, block, row),
+        _ => false,
+    }
 }
 
 #[test]
-fn blocks_of_ipv4(rt: HostRuntime) -> Result<(), Fail> {
+fn blocks_of_ipv4(rt: HostRuntime) {
     for row in &V4_BLOCKS {
-        assert!(rt; is_v4_block(rt.alloc(), row)?, "{}", row.0);
+        holds(&rt, is_v4_block(rt.alloc(), row));
     }
-    Ok(())
 }
 
 const V6_BLOCKS: [(&str, u128, u128, &str); 6] = [
@@ -236,52 +243,63 @@ const V6_BLOCKS: [(&str, u128, u128, &str); 6] = [
     ),
 ];
 
-fn is_v6_block(alloc: Global, row: &(&str, u128, u128, &str)) -> Result<bool, Fail> {
-    let (text, min, max, printed) = *row;
-    let block = Ipv6Block::from_str(text)?;
-    Ok(
-        block.min() == Ipv6Addr::from_bits(min)
-            && block.max() == Ipv6Addr::from_bits(max)
-            && Ipv6Block::from_str(printed) == Ok(block)
-            && Ok(IpBlock::from(block)) == IpBlock::from_v6_str(text)
-            && prints(alloc, &block, printed)?,
-    )
+fn v6_block_is(alloc: Global, block: Ipv6Block, row: &(&str, u128, u128, &str)) -> bool {
+    let bounds = (Ipv6Addr::from_bits(row.1), Ipv6Addr::from_bits(row.2));
+    (block.min(), block.max()) == bounds
+        && Ok(IpBlock::from(block)) == IpBlock::from_v6_str(row.0)
+        && prints(alloc, &block, row.3) == Ok(true)
 }
 
-#[test]
-fn blocks_of_ipv6(rt: HostRuntime) -> Result<(), Fail> {
-    for row in &V6_BLOCKS {
-        assert!(rt; is_v6_block(rt.alloc(), row)?, "{}", row.0);
+/// Whether both texts are the block, in whichever form.
+fn is_v6_block(alloc: Global, row: &(&str, u128, u128, &str)) -> bool {
+    match (Ipv6Block::from_str(row.0), Ipv6Block::from_str(row.3)) {
+        (Ok(block), Ok(printed)) => block == printed && v6_block_is(alloc, block, row),
+        _ => false,
     }
-    Ok(())
 }
 
 #[test]
-fn blocks_of_all_ipv4_addresses(rt: HostRuntime) -> Result<(), Fail> {
-    let all = Ipv4Block::all();
-    holds(&rt, all.is_slash_zero());
-    holds(&rt, prints(rt.alloc(), &all, "0.0.0.0/0")?);
-    let range = Ipv4Block::from_str("0.0.0.0-255.255.255.255")?;
-    holds(&rt, !range.is_slash_zero());
-    same(&rt, range, all);
-    let half = Ipv4Block::from_str("0.0.0.0/1")?;
-    holds(&rt, !half.is_slash_zero());
-    holds(&rt, half != all);
-    Ok(())
+fn blocks_of_ipv6(rt: HostRuntime) {
+    for row in &V6_BLOCKS {
+        holds(&rt, is_v6_block(rt.alloc(), row));
+    }
+}
+
+/// Whether a text is a block, all addresses as a prefix or not, and equal to that or not.
+fn v4_block_stands(text: &str, is_slash_zero: bool, is_all: bool) -> bool {
+    match Ipv4Block::from_str(text) {
+        Ok(block) => {
+            block.is_slash_zero() == is_slash_zero && (block == Ipv4Block::all()) == is_all
+        }
+        Err(_) => false,
+    }
 }
 
 #[test]
-fn blocks_of_all_ipv6_addresses(rt: HostRuntime) -> Result<(), Fail> {
-    let all = Ipv6Block::all();
-    holds(&rt, all.is_slash_zero());
-    holds(&rt, prints(rt.alloc(), &all, "::/0")?);
-    let range = Ipv6Block::from_str("::-ffff:ffff:ffff:ffff:ffff:ffff:ffff:ffff")?;
-    holds(&rt, !range.is_slash_zero());
-    same(&rt, range, all);
-    let half = Ipv6Block::from_str("::/1")?;
-    holds(&rt, !half.is_slash_zero());
-    holds(&rt, half != all);
-    Ok(())
+fn blocks_of_all_ipv4_addresses(rt: HostRuntime) {
+    holds(&rt, Ipv4Block::all().is_slash_zero());
+    holds(&rt, v4_block_stands("0.0.0.0/0", true, true));
+    holds(&rt, v4_block_stands("0.0.0.0-255.255.255.255", false, true));
+    holds(&rt, v4_block_stands("0.0.0.0/1", false, false));
+}
+
+/// The same of IPv6.
+fn v6_block_stands(text: &str, is_slash_zero: bool, is_all: bool) -> bool {
+    match Ipv6Block::from_str(text) {
+        Ok(block) => {
+            block.is_slash_zero() == is_slash_zero && (block == Ipv6Block::all()) == is_all
+        }
+        Err(_) => false,
+    }
+}
+
+#[test]
+fn blocks_of_all_ipv6_addresses(rt: HostRuntime) {
+    holds(&rt, Ipv6Block::all().is_slash_zero());
+    holds(&rt, v6_block_stands("::/0", true, true));
+    let all = "::-ffff:ffff:ffff:ffff:ffff:ffff:ffff:ffff";
+    holds(&rt, v6_block_stands(all, false, true));
+    holds(&rt, v6_block_stands("::/1", false, false));
 }
 
 const NO_V4_BLOCKS: [(&str, FromStrError); 4] = [
@@ -315,9 +333,9 @@ fn is_no_v6_block(row: &(&str, FromStrError)) -> bool {
 #[test]
 fn texts_that_are_no_block_of_one_family(rt: HostRuntime) {
     for row in &NO_V4_BLOCKS {
-        assert!(rt; is_no_v4_block(row), "{}", row.0);
+        holds(&rt, is_no_v4_block(row));
     }
     for row in &NO_V6_BLOCKS {
-        assert!(rt; is_no_v6_block(row), "{}", row.0);
+        holds(&rt, is_no_v6_block(row));
     }
 }

@@ -1,5 +1,5 @@
 //! What no clause says of numbers, addresses, prefixes, ranges and blocks, and what no line of the program `rows` can say of
-//! them: values and their parts, conversions, forms of blocks, hashes, and the texts of faults. No test here owns memory.
+//! them: values and their parts, conversions, forms of blocks, hashes, and the texts of faults.
 #![tactic(auto)]
 
 #[cfg(test)]

@@ -34,9 +34,10 @@ const IPV4_TEXTS: [(&str, u32); 4] = [
 #[test]
 fn texts_of_ipv4_addresses(rt: HostRuntime) {
     for (text, bits) in &IPV4_TEXTS {
-        assert!(rt;
-            Ipv4Addr::from_str(text) == Ok(Ipv4Addr::from_bits(*bits)),
-            "{text}"
+        same(
+            &rt,
+            Ipv4Addr::from_str(text),
+            Ok(Ipv4Addr::from_bits(*bits)),
         );
     }
 }

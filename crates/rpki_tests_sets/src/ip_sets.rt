@@ -68,9 +68,18 @@ fn is_shown_as_v4(alloc: Global, set: &IpBlocks) -> bool {
     prints(alloc, &IpBlocksForFamily::v4(set), text) == Ok(true)
 }
 
+/// The set of the addresses 1, 4 to 7 and 9.
+fn three(alloc: Global) -> Result<IpBlocks, AllocError> {
+    IpBlocks::from_blocks(alloc, &[block(4, 7), block(9, 9), block(1, 1)])
+}
+
+fn is_three(alloc: Global, set: &IpBlocks) -> bool {
+    are_prefixes(set) && is_shown(alloc, set) && is_shown_as_v4(alloc, set)
+}
+
 fn three_are_right(alloc: Global) -> bool {
-    match IpBlocks::from_blocks(alloc, &[block(4, 7), block(9, 9), block(1, 1)]) {
-        Ok(set) => are_prefixes(&set) && is_shown(alloc, &set) && is_shown_as_v4(alloc, &set),
+    match three(alloc) {
+        Ok(set) => is_three(alloc, &set),
         Err(_) => false,
     }
 }

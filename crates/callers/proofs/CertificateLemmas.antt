@@ -1,5 +1,5 @@
 -- What a take at the front of octets, and then their end, tell of all of them.
-use Rattle.std.proofs.Common.{arith, ◌≡◌, ◌≢◌, ℕ, length, List, [], ◌∷◌, MatchResult, IsErr, inl, Result, Ok, Err, refl, sym, subst, ◌∙◌}
+use Rattle.std.proofs.Common.{arith, ◌≡◌, ◌≢◌, ℕ, length, List, [], ◌∷◌, MatchResult, IsErr, Result, Ok, Err, refl, sym, subst, ◌∙◌}
 use Rattle.std.proofs.lemmas.Bool.{ne_eqb}
 use Rattle.std.proofs.lemmas.List.{append-nil}
 use Rattle.rpki_der.specs.Der.{Front, NoFront, OneFront}
@@ -14,7 +14,7 @@ use Rattle.rpki_chain.specs.Paths.{IsPathResult}
 use Rattle.rpki_chain.specs.Runs.{Runs, Holds}
 use Rattle.rpki_chain.specs.declared.path.Step.{Step}
 use Rattle.rpki_resources.specs.Triples.{HasEachOf, Triple}
-use Rattle.callers.specs.Certificates.{HasNone, HasNoneOrMore, IsLeftInEach}
+use Rattle.callers.specs.Certificates.{HasNone, IsLeftInEach}
 
 -- the end was seen
 pub nothing_left : (octets : List ℕ) (u : Unit {0}) → ended octets ≡ Ok u → octets ≡ []
@@ -37,10 +37,6 @@ module _ {X : Type 0} (G : List ℕ → X → Type 0) (octets : List ℕ) where
   pub none_in_front : (e : OrMemory DerError) → IfRefused (λ _. NoFront G octets) e → IfRefused (λ _. HasNone G octets) e
   none_in_front (Refused fault) none = λ y is. none y [] (octets, is, sym (append-nil octets))
   none_in_front (Memory error) none = tt
-
-  pub none_or_more : (e : OrMemory DerError) → IfRefused (λ _. NoFront G octets) e → IfRefused (λ _. HasNoneOrMore G octets) e
-  none_or_more (Refused fault) none = inl none
-  none_or_more (Memory error) none = tt
 
   -- octets are left behind the value
   pub none_before_more : OneFront G → (x : X) (rest : List ℕ) → Front G octets x rest → rest ≢ [] → HasNone G octets

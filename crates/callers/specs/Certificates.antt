@@ -1,11 +1,10 @@
 -- What octets of certificates aren't, and what a path of claims leaves of a root's resources, kind by kind
 -- (RFC 3779, 2.3 and 3.3; RFC 6487, 7.2).
-use Rattle.std.specs.Prelude.{◌≢◌, ◌⊎◌, ℕ, List, []}
+use Rattle.std.specs.Prelude.{ℕ, List}
 use Rattle.rpki_chain.specs.Claims.{Claim}
 use Rattle.rpki_chain.specs.Paths.{IsFirstRefusal, IsPathResult}
 use Rattle.rpki_chain.specs.Runs.{Runs, Holds}
 use Rattle.rpki_chain.specs.declared.path.Step.{Step}
-use Rattle.rpki_der.specs.Der.{Front, NoFront}
 use Rattle.rpki_resources.specs.Triples.{Triple}
 use Rattle.callers.specs.declared.certificates.Overclaimed.{Overclaimed}
 use Rattle.callers.specs.declared.certificates.Overclaimed.TheVariants.{Asn, Ipv4, Ipv6}
@@ -13,10 +12,6 @@ use Rattle.callers.specs.declared.certificates.Overclaimed.TheVariants.{Asn, Ipv
 -- these octets are no value
 abbrev pub HasNone : {V : Type 0} → (List ℕ → V → Type 0) → List ℕ → Type 0
 HasNone {V} Is octets = (value : V) → ¬ Is octets value
-
--- no value stands at the front of these octets, or octets are left behind it
-abbrev pub HasNoneOrMore : {V : Type 0} → (List ℕ → V → Type 0) → List ℕ → Type 0
-HasNoneOrMore {V} Is octets = NoFront Is octets ⊎ ((value : V) × (rest : List ℕ) × Front Is octets value rest × (rest ≢ []))
 
 -- the set is what a path of claims leaves of the root's
 abbrev pub IsLeft : Runs → List (Step Claim) → Runs → Type 0

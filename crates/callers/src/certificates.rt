@@ -8,7 +8,7 @@ ghost use Rattle.rpki_as.specs.AsDer.{IsAsResources};
 ghost use Rattle.rpki_ipres.specs.Resources.{IsWholeClaim};
 ghost use Rattle.rpki_ipres.specs.ResourcesDer.{IsIpFamilies};
 ghost use Rattle.rpki_resources.specs.Triples.{HasEachOf};
-ghost use Rattle.callers.specs.Certificates.{HasNone, HasNoneOrMore, IsFirstOverclaim, IsLeftInEach};
+ghost use Rattle.callers.specs.Certificates.{HasNone, IsFirstOverclaim, IsLeftInEach};
 
 use rpki_der::{Cursor, DerError};
 use rpki_resources::OrMemory;
@@ -25,8 +25,9 @@ pub fn read_as<A: Allocator + Copy>(
     octets: &[u8],
 ) -> Result<AsResources<A>, OrMemory<DerError>>
     ensures { MatchResult result (IsAsResources octets.now)
-        (IfRefused (λ _. HasNoneOrMore IsAsResources octets.now)) }
+        (IfRefused (λ _. HasNone IsAsResources octets.now)) }
 {
+    rpki_as::der::laws::written_resources(); // so that the proof sees that octets begin with one claim at most
     let mut cursor = Cursor::new(octets);
     let resources = AsResources::take_from(alloc, &mut cursor)?;
     cursor.finish()?;

@@ -13,7 +13,8 @@ pub fn union_of_three<A: Allocator + Copy>(
     two: &Ipv4Blocks<A>,
     three: &Ipv4Blocks<A>,
 ) -> Result<Ipv4Blocks<A>, AllocError>
-    ensures { IfOk result (IsRunsOf (λ n. (Holds one.now n ⊎ Holds two.now n) ⊎ Holds three.now n)) }
+    ensures { IfOk result
+        (IsRunsOf (λ n. (Holds one.now n ⊎ Holds two.now n) ⊎ Holds three.now n)) }
 {
     let both = one.union(alloc, two)?;
     both.union(alloc, three)

@@ -9,13 +9,13 @@ mod chains;
 #[cfg(test)]
 mod checks;
 #[cfg(test)]
+mod covered;
+#[cfg(test)]
 mod family_sets;
 #[cfg(test)]
 mod ip_sets;
 #[cfg(test)]
 mod lists;
-#[cfg(test)]
-mod paths;
 #[cfg(test)]
 mod refused;
 #[cfg(test)]

@@ -1,6 +1,6 @@
 // Runs where each request for memory is refused in turn.
 use crate::checks::{holds, holds_where_refused};
-use crate::{as_sets, family_sets, ip_sets, paths, small_sets};
+use crate::{as_sets, family_sets, ip_sets, small_sets};
 use refusing::Refusing;
 use std::alloc::{AllocError, Global};
 
@@ -11,8 +11,6 @@ enum Case {
     AsOperation(u32),
     /// An operation on two sets of addresses.
     IpOperation(u32),
-    /// A path of this number.
-    Path(usize),
     SmallCopy,
     V4Set,
     V6Set,
@@ -25,7 +23,6 @@ fn holds_so(case: Case, refusing: &Refusing) -> Result<bool, AllocError> {
     match case {
         Case::AsOperation(operation) => as_sets::leaves_operands(refusing, operation),
         Case::IpOperation(operation) => ip_sets::leaves_operands(refusing, operation),
-        Case::Path(number) => paths::is_path(refusing, number),
         Case::SmallCopy => small_sets::copies(refusing),
         Case::V4Set => family_sets::makes_v4_set(refusing),
         Case::V6Set => family_sets::makes_v6_set(refusing),
@@ -58,12 +55,5 @@ fn operands_stay(rt: HostRuntime) {
     for operation in 0..4 {
         holds(&rt, is_right(rt.alloc(), Case::AsOperation(operation)));
         holds(&rt, is_right(rt.alloc(), Case::IpOperation(operation)));
-    }
-}
-
-#[test]
-fn paths_of_claims(rt: HostRuntime) {
-    for number in 0..paths::PATHS.len() {
-        holds(&rt, is_right(rt.alloc(), Case::Path(number)));
     }
 }

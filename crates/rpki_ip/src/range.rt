@@ -1,5 +1,5 @@
 //! Ranges of addresses.
-ghost use Rattle.std.specs.Prelude.{◌≡◌, ◌+◌, ◌-◌, ◌*◌, ◌^◌, ◌<◌, ◌≤◌, ◌↔◌, IsTrue, Ok, IfOk, IfErr};
+ghost use Rattle.std.specs.Prelude.{◌≡◌, ◌≤◌, ◌↔◌, IsTrue, Ok, IfOk, IfErr, IfSome, IfNone};
 ghost use Rattle.rpki_base.specs.Prefixes.{PrefixValue, IsPrefix};
 ghost use Rattle.rpki_blocks.specs.Sets.{IsWithin};
 ghost use Rattle.rpki_ip.specs.Ranges.{IsRangeOf, range_bounds};
@@ -93,23 +93,26 @@ impl AddressRange {
         ensures found { (p : PrefixValue) → IsPrefix 128 p → IsRangeOf p self → result ≡ Ok p }
         ensures none { IfErr result (λ range. range ≡ self) }
     {
-        let prefix = Prefix::new(self.min(), 128 - self.host_bits());
-        if AddressRange::from(prefix) == self {
-            Ok(prefix)
-        } else {
-            Err(self)
+        match self.prefix_len() {
+            Some(len) => Ok(Prefix::new(self.min, len)),
+            None => Err(self),
         }
     }
 
-    /// The binary logarithm of how many addresses there are, rounded down.
-    fn host_bits(&self) -> u8
-        ensures most { result ≤ 128 }
-        ensures low { 2 ^ result ≤ self.now.max - self.now.min + 1 }
-        ensures high { result < 128 → self.now.max - self.now.min + 1 < 2 * 2 ^ result }
+    /// The length of the prefix of exactly the range's addresses, `None` where there is none. The bits behind those that a
+    /// prefix's addresses begin with are clear in its least address and set in its greatest: so their difference is all
+    /// of them.
+    fn prefix_len(&self) -> Option<u8>
+        ensures some { IfSome result (λ len. IsPrefix 128 (record { first = self.now.min; len = len })
+            × IsRangeOf (record { first = self.now.min; len = len }) self.now) }
+        ensures none { IfNone result ((p : PrefixValue) → IsPrefix 128 p → IsRangeOf p self.now → ⊥) }
     {
-        match (self.max.to_bits() - self.min.to_bits()).checked_add(1) {
-            Some(count) => count.ilog2() as u8,
-            None => 128,
+        let min = self.min.to_bits();
+        let host_bits = self.max.to_bits() - min;
+        if host_bits & host_bits.wrapping_add(1) == 0 && min & host_bits == 0 {
+            Some(host_bits.leading_zeros() as u8)
+        } else {
+            None
         }
     }
 }

@@ -11,7 +11,6 @@ use crate::reads::{Reads, read_at};
 use std::alloc::{AllocError, Allocator};
 
 /// What the next blocks of two chains have in common, and which of them ends first.
-#[derive(Clone, Copy)]
 pub enum Meeting<I> {
     /// One chain has no block any more.
     End,

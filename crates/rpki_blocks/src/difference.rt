@@ -9,7 +9,6 @@ use crate::reads::{Reads, read_at};
 use std::alloc::{AllocError, Allocator};
 
 /// What becomes of the rest of a block at the next block that is taken out, the cut.
-#[derive(Clone, Copy)]
 pub enum Cut<I> {
     /// There is no rest.
     End,

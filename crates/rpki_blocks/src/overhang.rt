@@ -8,7 +8,6 @@ use crate::block::Block;
 use crate::reads::{Reads, read_at};
 
 /// How the next block of a chain stands to that of another.
-#[derive(Clone, Copy)]
 pub enum Fit<I> {
     /// There is none.
     End,
@@ -21,7 +20,7 @@ pub enum Fit<I> {
 }
 
 /// The first block of a chain that doesn't lie in another, and the other's block at hand.
-#[derive(Clone, Copy)]
+#[derive(Drop)]
 pub struct Overhang<I> {
     pub own_at: usize,
     pub min: I,

@@ -11,7 +11,6 @@ use crate::reads::{Reads, read_at};
 use std::alloc::{AllocError, Allocator};
 
 /// Which of the next blocks of two chains begins first.
-#[derive(Clone, Copy)]
 pub enum Turn<I> {
     /// Neither chain has one.
     End,

@@ -32,6 +32,25 @@ next_meeting-requires-clause-own g c = meet-ordered g.T.Block.bounds g.T.Block.f
 pub next_meeting-requires-clause-other : goal.next_meeting-requires-clause-other
 next_meeting-requires-clause-other g c = meet-ordered g.T.Block.bounds g.T.Block.form g.T.Block.number _ _ _ _ _ c.loop-own_at.other_block _ (Meet-swap g.T.Block.bounds g.T.Block.form _ _ _ _ _ _ _ c.loop-own_at.invariant.walk)
 
+pub overflow_add-own_at : goal.overflow_add-own_at
+overflow_add-own_at g c =
+    let inv = c.loop-own_at.invariant in
+    let within = (meet-own_before g.T.Block.bounds g.T.Block.form g.T.Block.number _ _ _ _ _ c.loop-own_at.own_block c.loop-own_at.other_block c.loop-own_at.own_block inv.walk c.in-OwnBefore.ensures).0 in
+    let bound = inv.own_bound in
+    omega arith
+
+pub read_at-own_block-requires : goal.read_at-own_block-requires
+read_at-own_block-requires g c =
+    let inv = c.loop-own_at.invariant in
+    let within = (meet-own_before g.T.Block.bounds g.T.Block.form g.T.Block.number _ _ _ _ _ c.loop-own_at.own_block c.loop-own_at.other_block c.loop-own_at.own_block inv.walk c.in-OwnBefore.ensures).0 in
+    rw inv.own_kept (omega arith)
+
+pub loop-own_at-smaller-in-OwnBefore : goal.loop-own_at-smaller-in-OwnBefore
+loop-own_at-smaller-in-OwnBefore g c =
+    let inv = c.loop-own_at.invariant in
+    let within = (meet-own_before g.T.Block.bounds g.T.Block.form g.T.Block.number _ _ _ _ _ c.loop-own_at.own_block c.loop-own_at.other_block c.loop-own_at.own_block inv.walk c.in-OwnBefore.ensures).0 in
+    omega arith
+
 pub loop-own_at-preserved-in-OwnBefore : goal.loop-own_at-preserved-in-OwnBefore
 loop-own_at-preserved-in-OwnBefore g c =
     let f = g.T.Block.bounds in
@@ -52,6 +71,25 @@ loop-own_at-preserved-in-OwnBefore g c =
       own_kept = read.kept ∙ inv.own_kept;
       other_kept = inv.other_kept;
     }
+
+pub overflow_add-other_at : goal.overflow_add-other_at
+overflow_add-other_at g c =
+    let inv = c.loop-own_at.invariant in
+    let within = (meet-other_before g.T.Block.bounds g.T.Block.form g.T.Block.number _ _ _ _ _ c.loop-own_at.own_block c.loop-own_at.other_block c.loop-own_at.other_block inv.walk c.in-OtherBefore.ensures).0 in
+    let bound = inv.other_bound in
+    omega arith
+
+pub read_at-other_block-requires : goal.read_at-other_block-requires
+read_at-other_block-requires g c =
+    let inv = c.loop-own_at.invariant in
+    let within = (meet-other_before g.T.Block.bounds g.T.Block.form g.T.Block.number _ _ _ _ _ c.loop-own_at.own_block c.loop-own_at.other_block c.loop-own_at.other_block inv.walk c.in-OtherBefore.ensures).0 in
+    rw inv.other_kept (omega arith)
+
+pub loop-own_at-smaller-in-OtherBefore : goal.loop-own_at-smaller-in-OtherBefore
+loop-own_at-smaller-in-OtherBefore g c =
+    let inv = c.loop-own_at.invariant in
+    let within = (meet-other_before g.T.Block.bounds g.T.Block.form g.T.Block.number _ _ _ _ _ c.loop-own_at.own_block c.loop-own_at.other_block c.loop-own_at.other_block inv.walk c.in-OtherBefore.ensures).0 in
+    omega arith
 
 pub loop-own_at-preserved-in-OtherBefore : goal.loop-own_at-preserved-in-OtherBefore
 loop-own_at-preserved-in-OtherBefore g c =
@@ -74,6 +112,31 @@ loop-own_at-preserved-in-OtherBefore g c =
       other_kept = read.kept ∙ inv.other_kept;
     }
 
+pub returns-in_err-push-in-OwnEnds-clause-own_reads : goal.returns-in_err-push-in-OwnEnds-clause-own_reads
+returns-in_err-push-in-OwnEnds-clause-own_reads g c = let before = c.loop-own_at.invariant.own_reads in omega arith
+
+pub returns-in_err-push-in-OwnEnds-clause-other_reads : goal.returns-in_err-push-in-OwnEnds-clause-other_reads
+returns-in_err-push-in-OwnEnds-clause-other_reads g c = let before = c.loop-own_at.invariant.other_reads in omega arith
+
+pub overflow_add-own_at-in-OwnEnds : goal.overflow_add-own_at-in-OwnEnds
+overflow_add-own_at-in-OwnEnds g c =
+    let inv = c.loop-own_at.invariant in
+    let within = (meet-own_ends g.T.Block.bounds g.T.Block.form g.T.Block.number _ _ _ _ _ c.loop-own_at.own_block c.loop-own_at.other_block c.loop-own_at.own_block c.in-OwnEnds.low c.in-OwnEnds.high c.new.result inv.walk c.in-OwnEnds.ensures c.new.ensures.bounds (c.new.ensures.value ∙ ap g.T.Block.form (sym c.new.ensures.bounds))).0 in
+    let bound = inv.own_bound in
+    omega arith
+
+pub read_at-own_block-requires-in-OwnEnds : goal.read_at-own_block-requires-in-OwnEnds
+read_at-own_block-requires-in-OwnEnds g c =
+    let inv = c.loop-own_at.invariant in
+    let within = (meet-own_ends g.T.Block.bounds g.T.Block.form g.T.Block.number _ _ _ _ _ c.loop-own_at.own_block c.loop-own_at.other_block c.loop-own_at.own_block c.in-OwnEnds.low c.in-OwnEnds.high c.new.result inv.walk c.in-OwnEnds.ensures c.new.ensures.bounds (c.new.ensures.value ∙ ap g.T.Block.form (sym c.new.ensures.bounds))).0 in
+    rw inv.own_kept (omega arith)
+
+pub loop-own_at-smaller-in-OwnEnds : goal.loop-own_at-smaller-in-OwnEnds
+loop-own_at-smaller-in-OwnEnds g c =
+    let inv = c.loop-own_at.invariant in
+    let within = (meet-own_ends g.T.Block.bounds g.T.Block.form g.T.Block.number _ _ _ _ _ c.loop-own_at.own_block c.loop-own_at.other_block c.loop-own_at.own_block c.in-OwnEnds.low c.in-OwnEnds.high c.new.result inv.walk c.in-OwnEnds.ensures c.new.ensures.bounds (c.new.ensures.value ∙ ap g.T.Block.form (sym c.new.ensures.bounds))).0 in
+    omega arith
+
 pub loop-own_at-preserved-in-OwnEnds : goal.loop-own_at-preserved-in-OwnEnds
 loop-own_at-preserved-in-OwnEnds g c =
     let f = g.T.Block.bounds in
@@ -94,6 +157,31 @@ loop-own_at-preserved-in-OwnEnds g c =
       own_kept = read.kept ∙ inv.own_kept;
       other_kept = inv.other_kept;
     }
+
+pub returns-in_err-push-in-OtherEnds-clause-own_reads : goal.returns-in_err-push-in-OtherEnds-clause-own_reads
+returns-in_err-push-in-OtherEnds-clause-own_reads g c = let before = c.loop-own_at.invariant.own_reads in omega arith
+
+pub returns-in_err-push-in-OtherEnds-clause-other_reads : goal.returns-in_err-push-in-OtherEnds-clause-other_reads
+returns-in_err-push-in-OtherEnds-clause-other_reads g c = let before = c.loop-own_at.invariant.other_reads in omega arith
+
+pub overflow_add-other_at-in-OtherEnds : goal.overflow_add-other_at-in-OtherEnds
+overflow_add-other_at-in-OtherEnds g c =
+    let inv = c.loop-own_at.invariant in
+    let within = (meet-other_ends g.T.Block.bounds g.T.Block.form g.T.Block.number _ _ _ _ _ c.loop-own_at.own_block c.loop-own_at.other_block c.loop-own_at.other_block c.in-OtherEnds.low c.in-OtherEnds.high c.new-in-OtherEnds.result inv.walk c.in-OtherEnds.ensures c.new-in-OtherEnds.ensures.bounds (c.new-in-OtherEnds.ensures.value ∙ ap g.T.Block.form (sym c.new-in-OtherEnds.ensures.bounds))).0 in
+    let bound = inv.other_bound in
+    omega arith
+
+pub read_at-other_block-requires-in-OtherEnds : goal.read_at-other_block-requires-in-OtherEnds
+read_at-other_block-requires-in-OtherEnds g c =
+    let inv = c.loop-own_at.invariant in
+    let within = (meet-other_ends g.T.Block.bounds g.T.Block.form g.T.Block.number _ _ _ _ _ c.loop-own_at.own_block c.loop-own_at.other_block c.loop-own_at.other_block c.in-OtherEnds.low c.in-OtherEnds.high c.new-in-OtherEnds.result inv.walk c.in-OtherEnds.ensures c.new-in-OtherEnds.ensures.bounds (c.new-in-OtherEnds.ensures.value ∙ ap g.T.Block.form (sym c.new-in-OtherEnds.ensures.bounds))).0 in
+    rw inv.other_kept (omega arith)
+
+pub loop-own_at-smaller : goal.loop-own_at-smaller
+loop-own_at-smaller g c =
+    let inv = c.loop-own_at.invariant in
+    let within = (meet-other_ends g.T.Block.bounds g.T.Block.form g.T.Block.number _ _ _ _ _ c.loop-own_at.own_block c.loop-own_at.other_block c.loop-own_at.other_block c.in-OtherEnds.low c.in-OtherEnds.high c.new-in-OtherEnds.result inv.walk c.in-OtherEnds.ensures c.new-in-OtherEnds.ensures.bounds (c.new-in-OtherEnds.ensures.value ∙ ap g.T.Block.form (sym c.new-in-OtherEnds.ensures.bounds))).0 in
+    omega arith
 
 pub loop-own_at-preserved : goal.loop-own_at-preserved
 loop-own_at-preserved g c =
@@ -123,3 +211,9 @@ returns-clause-common g c =
     let number = g.T.Block.number in
     let inv = c.loop-own_at.invariant in
     rw c.from_vec_unchecked.ensures (IsChainOf-from f form c.loop-own_at.chain.items (λ n. Covers f (g.X.Reads.blocks c.args.own.now) n × Covers f (g.Y.Reads.blocks c.args.other.now) n) inv.walk.chain (Meet-end f form _ _ _ _ _ _ _ inv.walk (meet-none f form number c.loop-own_at.own_block c.loop-own_at.other_block c.in-End.ensures)))
+
+pub returns-clause-own_reads : goal.returns-clause-own_reads
+returns-clause-own_reads g c = let before = c.loop-own_at.invariant.own_reads in omega arith
+
+pub returns-clause-other_reads : goal.returns-clause-other_reads
+returns-clause-other_reads g c = let before = c.loop-own_at.invariant.other_reads in omega arith

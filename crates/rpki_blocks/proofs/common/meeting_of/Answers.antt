@@ -3,6 +3,12 @@ use Rattle.std.proofs.Common.{◌≤◌, refl, arith, ⊎_elim, ap}
 use Rattle.std.proofs.lemmas.Grind.{common_steps}
 use Rattle.rpki_blocks.proofs.common.meeting_of.Goals as goal
 
+pub returns-then-lt : goal.returns-then-lt
+returns-then-lt g c = grind (arith, common_steps, g.met.T.Block.in_order, g.met.T.Item.Ord.matches_partial_cmp, c.if-lt.ensures)
+
+pub returns-then-lt-2 : goal.returns-then-lt-2
+returns-then-lt-2 g c = grind (arith, common_steps, g.met.T.Block.in_order, g.met.T.Item.Ord.matches_partial_cmp, c.if-lt-2.ensures)
+
 pub returns-then-le : goal.returns-then-le
 returns-then-le g c =
     let number = g.T.Block.number in

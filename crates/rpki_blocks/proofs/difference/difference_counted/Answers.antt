@@ -28,6 +28,25 @@ loop-other_at-init g c =
       other_kept = cut.kept;
     }
 
+pub overflow_add-other_at : goal.overflow_add-other_at
+overflow_add-other_at g c =
+    let inv = c.loop-other_at.invariant in
+    let within = (turn-skip g.T.Block.bounds g.T.Block.form g.T.Block.number _ _ _ _ _ c.loop-other_at.rest c.loop-other_at.cut inv.walk c.in-Skip.ensures).0 in
+    let bound = inv.other_bound in
+    omega arith
+
+pub read_at-cut-requires-in-Skip : goal.read_at-cut-requires-in-Skip
+read_at-cut-requires-in-Skip g c =
+    let inv = c.loop-other_at.invariant in
+    let within = (turn-skip g.T.Block.bounds g.T.Block.form g.T.Block.number _ _ _ _ _ c.loop-other_at.rest c.loop-other_at.cut inv.walk c.in-Skip.ensures).0 in
+    rw inv.other_kept (omega arith)
+
+pub loop-other_at-smaller-in-Skip : goal.loop-other_at-smaller-in-Skip
+loop-other_at-smaller-in-Skip g c =
+    let inv = c.loop-other_at.invariant in
+    let within = (turn-skip g.T.Block.bounds g.T.Block.form g.T.Block.number _ _ _ _ _ c.loop-other_at.rest c.loop-other_at.cut inv.walk c.in-Skip.ensures).0 in
+    omega arith
+
 pub loop-other_at-preserved-in-Skip : goal.loop-other_at-preserved-in-Skip
 loop-other_at-preserved-in-Skip g c =
     let f = g.T.Block.bounds in
@@ -53,6 +72,31 @@ loop-other_at-preserved-in-Skip g c =
       own_kept = inv.own_kept;
       other_kept = read.kept ∙ inv.other_kept;
     }
+
+pub returns-in_err-push-in-Keep-clause-reads : goal.returns-in_err-push-in-Keep-clause-reads
+returns-in_err-push-in-Keep-clause-reads g c =
+    let own = c.loop-other_at.invariant.own_reads in
+    let other = c.loop-other_at.invariant.other_reads in
+    omega arith
+
+pub overflow_add-own_at : goal.overflow_add-own_at
+overflow_add-own_at g c =
+    let inv = c.loop-other_at.invariant in
+    let within = (turn-keep g.T.Block.bounds g.T.Block.form g.T.Block.number _ _ _ _ _ c.loop-other_at.rest c.loop-other_at.cut c.in-Keep.min c.in-Keep.max inv.walk c.in-Keep.ensures).0 in
+    let bound = inv.own_bound in
+    omega arith
+
+pub read_at-rest-requires-in-Keep : goal.read_at-rest-requires-in-Keep
+read_at-rest-requires-in-Keep g c =
+    let inv = c.loop-other_at.invariant in
+    let within = (turn-keep g.T.Block.bounds g.T.Block.form g.T.Block.number _ _ _ _ _ c.loop-other_at.rest c.loop-other_at.cut c.in-Keep.min c.in-Keep.max inv.walk c.in-Keep.ensures).0 in
+    rw inv.own_kept (omega arith)
+
+pub loop-other_at-smaller-in-Keep : goal.loop-other_at-smaller-in-Keep
+loop-other_at-smaller-in-Keep g c =
+    let inv = c.loop-other_at.invariant in
+    let within = (turn-keep g.T.Block.bounds g.T.Block.form g.T.Block.number _ _ _ _ _ c.loop-other_at.rest c.loop-other_at.cut c.in-Keep.min c.in-Keep.max inv.walk c.in-Keep.ensures).0 in
+    omega arith
 
 pub loop-other_at-preserved-in-Keep : goal.loop-other_at-preserved-in-Keep
 loop-other_at-preserved-in-Keep g c =
@@ -81,6 +125,25 @@ loop-other_at-preserved-in-Keep g c =
       other_kept = inv.other_kept;
     }
 
+pub overflow_add-own_at-in-Drop : goal.overflow_add-own_at-in-Drop
+overflow_add-own_at-in-Drop g c =
+    let inv = c.loop-other_at.invariant in
+    let within = (turn-drop g.T.Block.bounds g.T.Block.form g.T.Block.number _ _ _ _ _ c.loop-other_at.rest c.loop-other_at.cut inv.walk c.in-Drop.ensures).0 in
+    let bound = inv.own_bound in
+    omega arith
+
+pub read_at-rest-requires-in-Drop : goal.read_at-rest-requires-in-Drop
+read_at-rest-requires-in-Drop g c =
+    let inv = c.loop-other_at.invariant in
+    let within = (turn-drop g.T.Block.bounds g.T.Block.form g.T.Block.number _ _ _ _ _ c.loop-other_at.rest c.loop-other_at.cut inv.walk c.in-Drop.ensures).0 in
+    rw inv.own_kept (omega arith)
+
+pub loop-other_at-smaller-in-Drop : goal.loop-other_at-smaller-in-Drop
+loop-other_at-smaller-in-Drop g c =
+    let inv = c.loop-other_at.invariant in
+    let within = (turn-drop g.T.Block.bounds g.T.Block.form g.T.Block.number _ _ _ _ _ c.loop-other_at.rest c.loop-other_at.cut inv.walk c.in-Drop.ensures).0 in
+    omega arith
+
 pub loop-other_at-preserved-in-Drop : goal.loop-other_at-preserved-in-Drop
 loop-other_at-preserved-in-Drop g c =
     let f = g.T.Block.bounds in
@@ -106,6 +169,31 @@ loop-other_at-preserved-in-Drop g c =
       own_kept = read.kept ∙ inv.own_kept;
       other_kept = inv.other_kept;
     }
+
+pub returns-in_err-push-in-Split-clause-reads : goal.returns-in_err-push-in-Split-clause-reads
+returns-in_err-push-in-Split-clause-reads g c =
+    let own = c.loop-other_at.invariant.own_reads in
+    let other = c.loop-other_at.invariant.other_reads in
+    omega arith
+
+pub overflow_add-other_at-in-Split : goal.overflow_add-other_at-in-Split
+overflow_add-other_at-in-Split g c =
+    let inv = c.loop-other_at.invariant in
+    let within = (turn-split g.T.Block.bounds g.T.Block.form g.T.Block.number g.T.Block.first g.T.Block.last _ _ _ _ _ c.loop-other_at.rest c.loop-other_at.cut c.in-Split.min c.in-Split.end c.in-Split.next c.in-Split.max inv.walk c.in-Split.ensures inv.valid).0 in
+    let bound = inv.other_bound in
+    omega arith
+
+pub read_at-cut-requires-in-Split : goal.read_at-cut-requires-in-Split
+read_at-cut-requires-in-Split g c =
+    let inv = c.loop-other_at.invariant in
+    let within = (turn-split g.T.Block.bounds g.T.Block.form g.T.Block.number g.T.Block.first g.T.Block.last _ _ _ _ _ c.loop-other_at.rest c.loop-other_at.cut c.in-Split.min c.in-Split.end c.in-Split.next c.in-Split.max inv.walk c.in-Split.ensures inv.valid).0 in
+    rw inv.other_kept (omega arith)
+
+pub loop-other_at-smaller-in-Split : goal.loop-other_at-smaller-in-Split
+loop-other_at-smaller-in-Split g c =
+    let inv = c.loop-other_at.invariant in
+    let within = (turn-split g.T.Block.bounds g.T.Block.form g.T.Block.number g.T.Block.first g.T.Block.last _ _ _ _ _ c.loop-other_at.rest c.loop-other_at.cut c.in-Split.min c.in-Split.end c.in-Split.next c.in-Split.max inv.walk c.in-Split.ensures inv.valid).0 in
+    omega arith
 
 pub loop-other_at-preserved-in-Split : goal.loop-other_at-preserved-in-Split
 loop-other_at-preserved-in-Split g c =
@@ -133,6 +221,25 @@ loop-other_at-preserved-in-Split g c =
       own_kept = inv.own_kept;
       other_kept = read.kept ∙ inv.other_kept;
     }
+
+pub overflow_add-other_at-in-Advance : goal.overflow_add-other_at-in-Advance
+overflow_add-other_at-in-Advance g c =
+    let inv = c.loop-other_at.invariant in
+    let within = (turn-advance g.T.Block.bounds g.T.Block.form g.T.Block.number g.T.Block.first g.T.Block.last _ _ _ _ _ c.loop-other_at.rest c.loop-other_at.cut c.in-Advance.next c.in-Advance.max inv.walk c.in-Advance.ensures inv.valid).0 in
+    let bound = inv.other_bound in
+    omega arith
+
+pub read_at-cut-requires-in-Advance : goal.read_at-cut-requires-in-Advance
+read_at-cut-requires-in-Advance g c =
+    let inv = c.loop-other_at.invariant in
+    let within = (turn-advance g.T.Block.bounds g.T.Block.form g.T.Block.number g.T.Block.first g.T.Block.last _ _ _ _ _ c.loop-other_at.rest c.loop-other_at.cut c.in-Advance.next c.in-Advance.max inv.walk c.in-Advance.ensures inv.valid).0 in
+    rw inv.other_kept (omega arith)
+
+pub loop-other_at-smaller : goal.loop-other_at-smaller
+loop-other_at-smaller g c =
+    let inv = c.loop-other_at.invariant in
+    let within = (turn-advance g.T.Block.bounds g.T.Block.form g.T.Block.number g.T.Block.first g.T.Block.last _ _ _ _ _ c.loop-other_at.rest c.loop-other_at.cut c.in-Advance.next c.in-Advance.max inv.walk c.in-Advance.ensures inv.valid).0 in
+    omega arith
 
 pub loop-other_at-preserved : goal.loop-other_at-preserved
 loop-other_at-preserved g c =
@@ -168,3 +275,9 @@ returns-clause-difference g c =
     let inv = c.loop-other_at.invariant in
     let none = turn-end f form number c.loop-other_at.rest c.loop-other_at.cut c.in-End.ensures in
     rw c.from_vec_unchecked.ensures (IsChainOf-from f form c.loop-other_at.chain.items (λ n. Covers f (g.X.Reads.blocks c.args.own.now) n × (Covers f (g.Y.Reads.blocks c.args.other.now) n → ⊥)) inv.walk.chain (turn-done f form number _ _ _ _ _ c.loop-other_at.rest _ inv.walk none))
+
+pub returns-clause-reads : goal.returns-clause-reads
+returns-clause-reads g c =
+    let own = c.loop-other_at.invariant.own_reads in
+    let other = c.loop-other_at.invariant.other_reads in
+    omega arith

@@ -25,6 +25,25 @@ loop-other_at-init g c =
       other_kept = other.kept;
     }
 
+pub overflow_add-other_at : goal.overflow_add-other_at
+overflow_add-other_at g c =
+    let inv = c.loop-other_at.invariant in
+    let within = (fit-skip g.T.Block.bounds g.T.Block.form g.T.Block.number _ _ _ _ c.loop-other_at.own_block c.loop-other_at.other_block c.loop-other_at.other_block inv.walk c.in-Skip.ensures).0 in
+    let bound = inv.other_bound in
+    omega arith
+
+pub read_at-other_block-requires-in-Skip : goal.read_at-other_block-requires-in-Skip
+read_at-other_block-requires-in-Skip g c =
+    let inv = c.loop-other_at.invariant in
+    let within = (fit-skip g.T.Block.bounds g.T.Block.form g.T.Block.number _ _ _ _ c.loop-other_at.own_block c.loop-other_at.other_block c.loop-other_at.other_block inv.walk c.in-Skip.ensures).0 in
+    rw inv.other_kept (omega arith)
+
+pub loop-other_at-smaller-in-Skip : goal.loop-other_at-smaller-in-Skip
+loop-other_at-smaller-in-Skip g c =
+    let inv = c.loop-other_at.invariant in
+    let within = (fit-skip g.T.Block.bounds g.T.Block.form g.T.Block.number _ _ _ _ c.loop-other_at.own_block c.loop-other_at.other_block c.loop-other_at.other_block inv.walk c.in-Skip.ensures).0 in
+    omega arith
+
 pub loop-other_at-preserved-in-Skip : goal.loop-other_at-preserved-in-Skip
 loop-other_at-preserved-in-Skip g c =
     let f = g.T.Block.bounds in
@@ -47,6 +66,25 @@ loop-other_at-preserved-in-Skip g c =
       own_kept = inv.own_kept;
       other_kept = read.kept ∙ inv.other_kept;
     }
+
+pub overflow_add-own_at : goal.overflow_add-own_at
+overflow_add-own_at g c =
+    let inv = c.loop-other_at.invariant in
+    let within = (fit-inside g.T.Block.bounds g.T.Block.form g.T.Block.number _ _ _ _ c.loop-other_at.own_block c.loop-other_at.other_block c.loop-other_at.own_block inv.walk c.in-Inside.ensures).0 in
+    let bound = inv.own_bound in
+    omega arith
+
+pub read_at-own_block-requires-in-Inside : goal.read_at-own_block-requires-in-Inside
+read_at-own_block-requires-in-Inside g c =
+    let inv = c.loop-other_at.invariant in
+    let within = (fit-inside g.T.Block.bounds g.T.Block.form g.T.Block.number _ _ _ _ c.loop-other_at.own_block c.loop-other_at.other_block c.loop-other_at.own_block inv.walk c.in-Inside.ensures).0 in
+    rw inv.own_kept (omega arith)
+
+pub loop-other_at-smaller : goal.loop-other_at-smaller
+loop-other_at-smaller g c =
+    let inv = c.loop-other_at.invariant in
+    let within = (fit-inside g.T.Block.bounds g.T.Block.form g.T.Block.number _ _ _ _ c.loop-other_at.own_block c.loop-other_at.other_block c.loop-other_at.own_block inv.walk c.in-Inside.ensures).0 in
+    omega arith
 
 pub loop-other_at-preserved : goal.loop-other_at-preserved
 loop-other_at-preserved g c =

@@ -1,7 +1,16 @@
 -- How the two blocks lie decides the fit.
-use Rattle.std.proofs.Common.{◌<◌, ◌≤◌, refl, arith, inr}
+use Rattle.std.proofs.Common.{◌<◌, ◌≤◌, refl, arith, inl, inr}
 use Rattle.std.proofs.lemmas.Grind.{common_steps}
 use Rattle.rpki_blocks.proofs.overhang.fit_in.Goals as goal
+
+pub returns-then-lt : goal.returns-then-lt
+returns-then-lt g c = grind (arith, common_steps, g.met.T.Block.in_order, g.met.T.Item.Ord.matches_partial_cmp, c.if-lt.ensures)
+
+pub returns-then-lt-2 : goal.returns-then-lt-2
+returns-then-lt-2 g c =
+    let meets : g.T.Block.number c.args.min ≤ g.T.Block.number c.args.high = grind (arith, common_steps, g.met.T.Block.in_order, g.met.T.Item.Ord.matches_partial_cmp, c.if-lt.ensures) in
+    let begins : g.T.Block.number c.args.min < g.T.Block.number c.args.low = grind (arith, common_steps, g.met.T.Block.in_order, g.met.T.Item.Ord.matches_partial_cmp, c.if-lt-2.ensures) in
+    (refl, refl, meets, inl begins)
 
 pub returns-then-lt-3 : goal.returns-then-lt-3
 returns-then-lt-3 g c =

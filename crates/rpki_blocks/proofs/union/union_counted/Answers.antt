@@ -1,7 +1,7 @@
 -- Each turn takes in the block that begins first; at the end the last run is closed, and nothing is left.
 use Rattle.std.proofs.Common.{◌∙◌, ap, sym, arith}
 use Rattle.rpki_blocks.specs.Sets.{numbers}
-use Rattle.rpki_blocks.proofs.Counts.{read_first, read_next}
+use Rattle.rpki_blocks.proofs.Counts.{read_first, read_next, block_within}
 use Rattle.rpki_blocks.proofs.Joining.{closed_run}
 use Rattle.rpki_blocks.proofs.Merges.{Merge-swap, merge-ordered, merge-start, merge-turn, merge-done, closed_union, union_few}
 use Rattle.rpki_blocks.proofs.union.union_counted.Goals as goal
@@ -38,6 +38,28 @@ run_with-requires-clause-ordered g c = merge-ordered g.T.Block.bounds g.T.Block.
 pub run_with-requires-in-Other-next_turn-clause-ordered : goal.run_with-requires-in-Other-next_turn-clause-ordered
 run_with-requires-in-Other-next_turn-clause-ordered g c = merge-ordered g.T.Block.bounds g.T.Block.form g.T.Block.number g.T.Block.last _ _ _ _ c.loop-min.other_block _ _ _ _ _ c.in-Other-next_turn.ensures.0 (Merge-swap g.T.Block.bounds g.T.Block.form g.T.Block.last _ _ _ _ _ _ _ _ c.loop-min.invariant.walk)
 
+pub returns-in_err-run-in-Own-next_turn-clause-reads : goal.returns-in_err-run-in-Own-next_turn-clause-reads
+returns-in_err-run-in-Own-next_turn-clause-reads g c =
+    let own = c.loop-min.invariant.own_reads in
+    let other = c.loop-min.invariant.other_reads in
+    omega arith
+
+pub overflow_add-own_at : goal.overflow_add-own_at
+overflow_add-own_at g c =
+    let within = block_within g.T.Block.bounds g.T.Block.number g.T.Block.last _ c.loop-min.own_at c.loop-min.own_block (c.in-Own-next_turn.min, c.in-Own-next_turn.max) c.loop-min.invariant.own_block c.in-Own-next_turn.ensures.0 in
+    let bound = c.loop-min.invariant.own_bound in
+    omega arith
+
+pub read_at-own_block-requires-in-Own-next_turn : goal.read_at-own_block-requires-in-Own-next_turn
+read_at-own_block-requires-in-Own-next_turn g c =
+    let within = block_within g.T.Block.bounds g.T.Block.number g.T.Block.last _ c.loop-min.own_at c.loop-min.own_block (c.in-Own-next_turn.min, c.in-Own-next_turn.max) c.loop-min.invariant.own_block c.in-Own-next_turn.ensures.0 in
+    rw c.loop-min.invariant.own_kept (omega arith)
+
+pub loop-min-smaller-in-Own-next_turn : goal.loop-min-smaller-in-Own-next_turn
+loop-min-smaller-in-Own-next_turn g c =
+    let within = block_within g.T.Block.bounds g.T.Block.number g.T.Block.last _ c.loop-min.own_at c.loop-min.own_block (c.in-Own-next_turn.min, c.in-Own-next_turn.max) c.loop-min.invariant.own_block c.in-Own-next_turn.ensures.0 in
+    omega arith
+
 pub loop-min-preserved-in-Own-next_turn : goal.loop-min-preserved-in-Own-next_turn
 loop-min-preserved-in-Own-next_turn g c =
     let f = g.T.Block.bounds in
@@ -62,6 +84,28 @@ loop-min-preserved-in-Own-next_turn g c =
       other_kept = inv.other_kept;
     }
 
+pub returns-in_err-run-in-Other-next_turn-clause-reads : goal.returns-in_err-run-in-Other-next_turn-clause-reads
+returns-in_err-run-in-Other-next_turn-clause-reads g c =
+    let own = c.loop-min.invariant.own_reads in
+    let other = c.loop-min.invariant.other_reads in
+    omega arith
+
+pub overflow_add-other_at : goal.overflow_add-other_at
+overflow_add-other_at g c =
+    let within = block_within g.T.Block.bounds g.T.Block.number g.T.Block.last _ c.loop-min.other_at c.loop-min.other_block (c.in-Other-next_turn.min, c.in-Other-next_turn.max) c.loop-min.invariant.other_block c.in-Other-next_turn.ensures.0 in
+    let bound = c.loop-min.invariant.other_bound in
+    omega arith
+
+pub read_at-other_block-requires-in-Other-next_turn : goal.read_at-other_block-requires-in-Other-next_turn
+read_at-other_block-requires-in-Other-next_turn g c =
+    let within = block_within g.T.Block.bounds g.T.Block.number g.T.Block.last _ c.loop-min.other_at c.loop-min.other_block (c.in-Other-next_turn.min, c.in-Other-next_turn.max) c.loop-min.invariant.other_block c.in-Other-next_turn.ensures.0 in
+    rw c.loop-min.invariant.other_kept (omega arith)
+
+pub loop-min-smaller : goal.loop-min-smaller
+loop-min-smaller g c =
+    let within = block_within g.T.Block.bounds g.T.Block.number g.T.Block.last _ c.loop-min.other_at c.loop-min.other_block (c.in-Other-next_turn.min, c.in-Other-next_turn.max) c.loop-min.invariant.other_block c.in-Other-next_turn.ensures.0 in
+    omega arith
+
 pub loop-min-preserved : goal.loop-min-preserved
 loop-min-preserved g c =
     let f = g.T.Block.bounds in
@@ -85,6 +129,12 @@ loop-min-preserved g c =
       own_kept = inv.own_kept;
       other_kept = read.kept ∙ inv.other_kept;
     }
+
+pub returns-in_err-push-clause-reads : goal.returns-in_err-push-clause-reads
+returns-in_err-push-clause-reads g c =
+    let own = c.loop-min.invariant.own_reads in
+    let other = c.loop-min.invariant.other_reads in
+    omega arith
 
 pub from_vec_unchecked-requires : goal.from_vec_unchecked-requires
 from_vec_unchecked-requires g c =

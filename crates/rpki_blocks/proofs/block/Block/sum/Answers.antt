@@ -19,6 +19,50 @@ over_both s b d lowest lowest' low highest highest' high meets meets' n = (
   ⊎_elim (λ v. (omega (arith, v.0), omega (arith, v.1))) (λ v. (omega (arith, v.0), omega (arith, v.1))),
 )
 
+pub returns-then-lt-clause-apart : goal.returns-then-lt-clause-apart
+returns-then-lt-clause-apart g c beside =
+    let number = g.Self.Block.number in
+    let far : number c.in-Some.next < number c.bounds-low.result.0 = grind (arith, common_steps, g.met.Self.Block.in_order, g.met.Self.Item.Ord.matches_partial_cmp, c.if-lt.ensures) in
+    let is = c.in-Some.ensures.1 in
+    let own_high = c.bounds-min.ensures.max in
+    let other_low = c.bounds-low.ensures.min in
+    let near = beside.1 in
+    omega arith
+
+pub returns-then-lt-2-clause-apart : goal.returns-then-lt-2-clause-apart
+returns-then-lt-2-clause-apart g c beside =
+    let number = g.Self.Block.number in
+    let far : number c.in-Some-next.next < number c.bounds-min.result.0 = grind (arith, common_steps, g.met.Self.Block.in_order, g.met.Self.Item.Ord.matches_partial_cmp, c.if-lt-2.ensures) in
+    let is = c.in-Some-next.ensures.1 in
+    let own_low = c.bounds-min.ensures.min in
+    let other_high = c.bounds-low.ensures.max in
+    let near = beside.0 in
+    omega arith
+
+pub new-requires : goal.new-requires
+new-requires g c =
+    let number = g.Self.Block.number in
+    let min = c.bounds-min.result.0 in
+    let max = c.bounds-min.result.1 in
+    let first : number c.if-le.first ≤ number min =
+    elim c.if-le.branch [
+      | then-le w ↦ (let is = ap number w.first-is in omega arith)
+      | else-le w ↦
+          let is : number c.if-le.first ≡ number c.bounds-low.result.0 = ap number w.first-is in
+          let le : number c.bounds-low.result.0 ≤ number min = grind (arith, common_steps, g.met.Self.Block.in_order, g.met.Self.Item.Ord.matches_partial_cmp, w.if-le.ensures) in
+          omega arith
+    ] in
+    let last : number max ≤ number c.if-le-2.last =
+    elim c.if-le-2.branch [
+      | then-le-2 w ↦
+          let is : number c.if-le-2.last ≡ number c.bounds-low.result.1 = ap number w.last-is in
+          let le : number max ≤ number c.bounds-low.result.1 = grind (arith, common_steps, g.met.Self.Block.in_order, g.met.Self.Item.Ord.matches_partial_cmp, w.if-le-2.ensures) in
+          omega arith
+      | else-le-2 w ↦ (let is = ap number w.last-is in omega arith)
+    ] in
+    let ordered = c.bounds-min.ensures.ordered in
+    omega arith
+
 pub returns-clause-over : goal.returns-clause-over
 returns-clause-over g c =
     let number = g.Self.Block.number in

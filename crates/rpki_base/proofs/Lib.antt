@@ -6,3 +6,4 @@ pub mod PrefixNumbers
 pub mod SmallSetLemmas
 pub mod WalkLemmas
 pub mod WalkSizes
+pub mod WritingLemmas

@@ -1,5 +1,5 @@
 -- What claims list.
-use Rattle.std.proofs.Common.{◌≡◌, ℕ, false, true, [], Result, Ok, Err, sym, ap, ◌∙◌, subst}
+use Rattle.std.proofs.Common.{◌≡◌, false, true, [], Result, Ok, Err, sym, ap, ◌∙◌, subst}
 use Rattle.std.specs.Prelude.{MatchResult}
 use Rattle.rpki_blocks.proofs.Chains.{Covers-nil}
 use Rattle.rpki_text.specs.Memory.{IsMemory}

@@ -1,5 +1,6 @@
 mod ChangeLemmas
 mod ClaimLemmas
 mod KindLemmas
+mod MadeLemmas
 mod PrintLemmas
 mod TextLemmas

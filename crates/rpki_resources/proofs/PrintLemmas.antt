@@ -1,5 +1,5 @@
 -- What is printed of a kind, by whether its list is empty.
-use Rattle.std.proofs.Common.{◌≡◌, ℕ, ◌↔◌, Bool, true, false, IsTrue, List, [], ◌∷◌, ◌++◌, refl, sym, ap, ◌∙◌}
+use Rattle.std.proofs.Common.{◌≡◌, ℕ, ◌↔◌, Bool, true, false, IsTrue, List, [], ◌∷◌, ◌++◌, refl}
 use Rattle.std.specs.Prelude.{if◌then◌else◌}
 use Rattle.rpki_chain.specs.Runs.{Runs}
 use Rattle.rpki_resources.specs.Triples.{is_none}

@@ -1,5 +1,7 @@
 -- Three lists that are read one after another.
-use Rattle.std.proofs.Common.{◌≡◌, List, ℕ, Result, Ok, Err, ap, subst}
+use Rattle.std.proofs.Common.{◌≡◌, List, ℕ, Result, Ok, Err, ap}
+use Rattle.std.specs.declared.alloc.AllocError.{AllocError}
+use Rattle.rpki_text.specs.Memory.{IsMemory}
 use Rattle.rpki_text.specs.Reading.{AnswersOrMemory}
 use Rattle.rpki_text.specs.declared.memory.OrMemory.{OrMemory}
 use Rattle.rpki_text.specs.declared.memory.OrMemory.TheVariants.{Refused, Memory}
@@ -9,7 +11,7 @@ use Rattle.rpki_ip.specs.declared.error.FromStrError as ip_fault
 use Rattle.rpki_chain.specs.Runs.{Runs}
 use Rattle.rpki_resources.specs.Triples.{Triple}
 use Rattle.rpki_resources.specs.TripleText.{IsIpv4ListText, IsIpv6ListText, HasIpv4ListFault, HasIpv6ListFault, IsTripleText}
-use Rattle.rpki_resources.specs.TripleFaults.{HasTripleFault}
+use Rattle.rpki_resources.specs.TripleFaults.{HasTripleFault, refusal_of}
 use Rattle.rpki_resources.specs.declared.error.FromStrError.{FromStrError}
 use Rattle.rpki_resources.specs.declared.error.FromStrError.TheVariants.{Asn, Ipv4, Ipv6}
 
@@ -26,47 +28,50 @@ OfIpv6 c = AnswersOrMemory (λ (set : Runs). set) (IsIpv6ListText c) (HasIpv6Lis
 abbrev pub OfAll : List ℕ → List ℕ → List ℕ → Result Triple (OrMemory FromStrError) → Type 0
 OfAll a b c = AnswersOrMemory (λ (set : Triple). set) (IsTripleText a b c) (HasTripleFault a b c)
 
+-- the refusal of a list for want of memory is one of all three
+pub wants_memory : {E : Type 0} (kind : E → FromStrError) (d : OrMemory E) → IsMemory d → IsMemory (refusal_of kind d)
+wants_memory kind (Refused fault) h = h
+wants_memory kind (Memory error) h = tt
+
 module _ (a b c : List ℕ) where
-  pub asn_fault : (d : OrMemory as_fault.FromStrError) (fault : as_fault.FromStrError) → d ≡ Refused fault → OfAsn a (Err d) → OfAll a b c (Err (Refused (Asn fault)))
-  asn_fault d fault is answered = record {
+  -- where memory is wanting nothing is said of the lists
+  no_memory : (error : AllocError) → OfAll a b c (Err (Memory error))
+  no_memory error = record { found = tt; each_value = λ t read. tt; each_fault = λ e has. tt }
+
+  pub asn_fault : (d : OrMemory as_fault.FromStrError) → OfAsn a (Err d) → OfAll a b c (Err (refusal_of Asn d))
+  asn_fault (Memory error) h = no_memory error
+  asn_fault (Refused fault) h = record {
     found = h.found;
     each_value = λ t read. h.each_value t.asn read.asn;
     each_fault = each;
   }
     where
-      h : OfAsn a (Err (Refused fault))
-      h = subst (λ (e : OrMemory as_fault.FromStrError). OfAsn a (Err e)) is answered
-
       each : (e : FromStrError) → HasTripleFault a b c e → Asn fault ≡ e
       each (Asn e) has = ap Asn (h.each_fault e has)
       each (Ipv4 e) has = absurd (h.each_value has.0.0 has.0.1)
       each (Ipv6 e) has = absurd (h.each_value has.0.0 has.0.1)
 
-  pub ipv4_fault : (asn : Runs) (d : OrMemory ip_fault.FromStrError) (fault : ip_fault.FromStrError) → d ≡ Refused fault → OfAsn a (Ok asn) → OfIpv4 b (Err d) → OfAll a b c (Err (Refused (Ipv4 fault)))
-  ipv4_fault asn d fault is first answered = record {
+  pub ipv4_fault : (asn : Runs) (d : OrMemory ip_fault.FromStrError) → OfAsn a (Ok asn) → OfIpv4 b (Err d) → OfAll a b c (Err (refusal_of Ipv4 d))
+  ipv4_fault asn (Memory error) first h = no_memory error
+  ipv4_fault asn (Refused fault) first h = record {
     found = ((asn, first.found), h.found);
     each_value = λ t read. h.each_value t.ipv4 read.ipv4;
     each_fault = each;
   }
     where
-      h : OfIpv4 b (Err (Refused fault))
-      h = subst (λ (e : OrMemory ip_fault.FromStrError). OfIpv4 b (Err e)) is answered
-
       each : (e : FromStrError) → HasTripleFault a b c e → Ipv4 fault ≡ e
       each (Asn e) has = absurd (first.each_fault e has)
       each (Ipv4 e) has = ap Ipv4 (h.each_fault e has.1)
       each (Ipv6 e) has = absurd (h.each_value has.1.0 has.1.1)
 
-  pub ipv6_fault : (asn ipv4 : Runs) (d : OrMemory ip_fault.FromStrError) (fault : ip_fault.FromStrError) → d ≡ Refused fault → OfAsn a (Ok asn) → OfIpv4 b (Ok ipv4) → OfIpv6 c (Err d) → OfAll a b c (Err (Refused (Ipv6 fault)))
-  ipv6_fault asn ipv4 d fault is first second answered = record {
+  pub ipv6_fault : (asn ipv4 : Runs) (d : OrMemory ip_fault.FromStrError) → OfAsn a (Ok asn) → OfIpv4 b (Ok ipv4) → OfIpv6 c (Err d) → OfAll a b c (Err (refusal_of Ipv6 d))
+  ipv6_fault asn ipv4 (Memory error) first second h = no_memory error
+  ipv6_fault asn ipv4 (Refused fault) first second h = record {
     found = ((asn, first.found), (ipv4, second.found), h.found);
     each_value = λ t read. h.each_value t.ipv6 read.ipv6;
     each_fault = each;
   }
     where
-      h : OfIpv6 c (Err (Refused fault))
-      h = subst (λ (e : OrMemory ip_fault.FromStrError). OfIpv6 c (Err e)) is answered
-
       each : (e : FromStrError) → HasTripleFault a b c e → Ipv6 fault ≡ e
       each (Asn e) has = absurd (first.each_fault e has)
       each (Ipv4 e) has = absurd (second.each_fault e has.1)

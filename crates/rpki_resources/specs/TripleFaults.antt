@@ -1,5 +1,7 @@
 -- What is wrong with the three lists of a set, and what is printed of it.
 use Rattle.std.specs.Prelude.{ℕ, List, ◌++◌, codes}
+use Rattle.rpki_text.specs.declared.memory.OrMemory.{OrMemory}
+use Rattle.rpki_text.specs.declared.memory.OrMemory.TheVariants.{Refused, Memory}
 use Rattle.rpki_as.specs.Faults.{as_from_str_error_text}
 use Rattle.rpki_as.specs.ListText.{IsAsListText, HasAsListFault}
 use Rattle.rpki_chain.specs.Runs.{Runs}
@@ -13,6 +15,11 @@ abbrev pub HasTripleFault : List ℕ → List ℕ → List ℕ → FromStrError 
 HasTripleFault asn ipv4 ipv6 (Asn fault) = HasAsListFault asn fault
 HasTripleFault asn ipv4 ipv6 (Ipv4 fault) = ((set : Runs) × IsAsListText asn set) × HasIpv4ListFault ipv4 fault
 HasTripleFault asn ipv4 ipv6 (Ipv6 fault) = ((set : Runs) × IsAsListText asn set) × ((set : Runs) × IsIpv4ListText ipv4 set) × HasIpv6ListFault ipv6 fault
+
+-- the refusal of one of the lists; want of memory is the same for each
+abbrev pub refusal_of : {E : Type 0} → (E → FromStrError) → OrMemory E → OrMemory FromStrError
+refusal_of kind (Refused fault) = Refused (kind fault)
+refusal_of kind (Memory error) = Memory error
 
 -- what is printed of a fault: which list has it, and the fault of that list
 abbrev pub triple_fault_text : FromStrError → List ℕ

@@ -1,5 +1,5 @@
 //! What differs between two sets of resources.
-ghost use Rattle.std.specs.Prelude.{◌≡◌, ◌↔◌, IsTrue, IfOk};
+ghost use Rattle.std.specs.Prelude.{◌≡◌, ◌↔◌, IsTrue, IfOk, Ok, Err, MatchResult};
 ghost use Rattle.rpki_resources.specs.Triples.{Changes, are_same_changes, changes_equiv, changes_per, no_changes};
 
 use crate::set::ResourceSet;
@@ -23,11 +23,17 @@ impl<A: Allocator> Model for ResourceDiff<A> {
 }
 
 impl<A: Allocator> ResourceDiff<A> {
-    /// What is added and what is removed.
-    pub(crate) fn new(added: ResourceSet<A>, removed: ResourceSet<A>) -> ResourceDiff<A>
-        ensures { result ≡ record { added = added; removed = removed } }
+    /// What is added and what is removed, where there was memory for the second.
+    pub(crate) fn of_two(
+        added: ResourceSet<A>,
+        removed: Result<ResourceSet<A>, AllocError>,
+    ) -> Result<ResourceDiff<A>, AllocError>
+        ensures { MatchResult removed (λ set. result ≡ Ok (record { added = added; removed = set })) (λ error. result ≡ Err error) }
     {
-        ResourceDiff { added, removed }
+        match removed {
+            Ok(removed) => Ok(ResourceDiff { added, removed }),
+            Err(error) => Err(error),
+        }
     }
 
     /// Whether nothing differs.
@@ -56,8 +62,7 @@ impl<A: Allocator> ResourceDiff<A> {
         ensures { IfOk result (λ diff. diff ≡ self.now) }
     {
         let added = self.added.clone()?;
-        let removed = self.removed.clone()?;
-        Ok(ResourceDiff::new(added, removed))
+        ResourceDiff::of_two(added, self.removed.clone())
     }
 }
 

@@ -1,5 +1,5 @@
 //! Sets of AS numbers, of IPv4 addresses and of IPv6 addresses.
-ghost use Rattle.std.specs.Prelude.{◌≡◌, ◌≢◌, ℕ, ◌↔◌, [], IsTrue, IfOk, MatchOption};
+ghost use Rattle.std.specs.Prelude.{◌≡◌, ◌≢◌, ℕ, ◌↔◌, [], IsTrue, IfOk, Ok, Err, MatchOption, MatchResult};
 ghost use Rattle.rpki_blocks.specs.Sets.{IsWithin};
 ghost use Rattle.rpki_chain.specs.Runs.{Holds};
 ghost use Rattle.rpki_as.specs.Blocks.{IsAsSet};
@@ -44,6 +44,20 @@ impl<A: Allocator> ResourceSet<A> {
         ResourceSet { asn, ipv4, ipv6 }
     }
 
+    /// The set of three, where there was memory for the last.
+    fn of_three(
+        asn: AsBlocks<A>,
+        ipv4: Ipv4Blocks<A>,
+        ipv6: Result<Ipv6Blocks<A>, AllocError>,
+    ) -> Result<ResourceSet<A>, AllocError>
+        ensures { MatchResult ipv6 (λ set. result ≡ Ok (record { asn = asn; ipv4 = ipv4; ipv6 = set })) (λ error. result ≡ Err error) }
+    {
+        match ipv6 {
+            Ok(ipv6) => Ok(ResourceSet::new(asn, ipv4, ipv6)),
+            Err(error) => Err(error),
+        }
+    }
+
     /// The set of no resources.
     pub fn empty() -> ResourceSet<A>
         ensures { result ≡ no_resources }
@@ -59,8 +73,7 @@ impl<A: Allocator> ResourceSet<A> {
     {
         let asn = AsBlocks::all(alloc)?;
         let ipv4 = Ipv4Blocks::all(alloc)?;
-        let ipv6 = Ipv6Blocks::all(alloc)?;
-        Ok(ResourceSet::new(asn, ipv4, ipv6))
+        ResourceSet::of_three(asn, ipv4, Ipv6Blocks::all(alloc))
     }
 
     /// The same set, whose memory has one owner more.
@@ -69,8 +82,7 @@ impl<A: Allocator> ResourceSet<A> {
     {
         let asn = self.asn.clone()?;
         let ipv4 = self.ipv4.clone()?;
-        let ipv6 = self.ipv6.clone()?;
-        Ok(ResourceSet::new(asn, ipv4, ipv6))
+        ResourceSet::of_three(asn, ipv4, self.ipv6.clone())
     }
 
     /// Whether there are no resources of any kind.
@@ -194,8 +206,7 @@ impl<A: Allocator> ResourceSet<A> {
     {
         let asn = self.asn.union(alloc, &other.asn)?;
         let ipv4 = self.ipv4.union(alloc, &other.ipv4)?;
-        let ipv6 = self.ipv6.union(alloc, &other.ipv6)?;
-        Ok(ResourceSet::new(asn, ipv4, ipv6))
+        ResourceSet::of_three(asn, ipv4, self.ipv6.union(alloc, &other.ipv6))
     }
 
     /// The set of what both have. `AllocError` where there is no memory for it.
@@ -210,8 +221,7 @@ impl<A: Allocator> ResourceSet<A> {
     {
         let asn = self.asn.intersection(alloc, &other.asn)?;
         let ipv4 = self.ipv4.intersection(alloc, &other.ipv4)?;
-        let ipv6 = self.ipv6.intersection(alloc, &other.ipv6)?;
-        Ok(ResourceSet::new(asn, ipv4, ipv6))
+        ResourceSet::of_three(asn, ipv4, self.ipv6.intersection(alloc, &other.ipv6))
     }
 
     /// The set of what the other doesn't have.
@@ -222,8 +232,7 @@ impl<A: Allocator> ResourceSet<A> {
     {
         let asn = self.asn.difference(alloc, &other.asn)?;
         let ipv4 = self.ipv4.difference(alloc, &other.ipv4)?;
-        let ipv6 = self.ipv6.difference(alloc, &other.ipv6)?;
-        Ok(ResourceSet::new(asn, ipv4, ipv6))
+        ResourceSet::of_three(asn, ipv4, self.ipv6.difference(alloc, &other.ipv6))
     }
 
     /// What the set has beyond another, and what it lacks: added is what the other doesn't have, removed what it alone has.
@@ -238,8 +247,7 @@ impl<A: Allocator> ResourceSet<A> {
         ensures { IfOk result (AreChanges self.now other.now) }
     {
         let added = self.minus(alloc, other)?;
-        let removed = other.minus(alloc, self)?;
-        Ok(ResourceDiff::new(added, removed))
+        ResourceDiff::of_two(added, other.minus(alloc, self))
     }
 }
 

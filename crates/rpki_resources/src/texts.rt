@@ -5,7 +5,8 @@ ghost use Rattle.rpki_text.specs.Memory.{IsMemory};
 ghost use Rattle.rpki_text.specs.Reading.{AnswersOrMemory};
 ghost use Rattle.rpki_as.specs.ListText.{as_list_text};
 ghost use Rattle.rpki_resources.specs.Triples.{Triple, IsTriple};
-ghost use Rattle.rpki_resources.specs.TripleFaults.{HasTripleFault};
+ghost use Rattle.rpki_resources.specs.TripleFaults.{HasTripleFault, refusal_of};
+ghost use Rattle.rpki_resources.specs.declared.error.FromStrError.TheVariants.{Asn, Ipv4, Ipv6};
 ghost use Rattle.rpki_resources.specs.TripleText.{IsTripleText, change_text, changes_text, ipv4_text, ipv6_text, triple_text};
 
 use crate::diff::ResourceDiff;
@@ -16,6 +17,36 @@ use rpki_base::memory::OrMemory;
 use rpki_family::{Ipv4Blocks, Ipv6Blocks};
 use std::alloc::Allocator;
 use std::fmt;
+
+/// The refusal of the list of AS numbers.
+fn of_asn(fault: OrMemory<rpki_as::error::FromStrError>) -> OrMemory<FromStrError>
+    ensures { result ≡ refusal_of Asn fault }
+{
+    match fault {
+        OrMemory::Refused(fault) => OrMemory::Refused(FromStrError::Asn(fault)),
+        OrMemory::Memory(error) => OrMemory::Memory(error),
+    }
+}
+
+/// The refusal of the list of IPv4 addresses.
+fn of_ipv4(fault: OrMemory<rpki_ip::error::FromStrError>) -> OrMemory<FromStrError>
+    ensures { result ≡ refusal_of Ipv4 fault }
+{
+    match fault {
+        OrMemory::Refused(fault) => OrMemory::Refused(FromStrError::Ipv4(fault)),
+        OrMemory::Memory(error) => OrMemory::Memory(error),
+    }
+}
+
+/// The refusal of the list of IPv6 addresses.
+fn of_ipv6(fault: OrMemory<rpki_ip::error::FromStrError>) -> OrMemory<FromStrError>
+    ensures { result ≡ refusal_of Ipv6 fault }
+{
+    match fault {
+        OrMemory::Refused(fault) => OrMemory::Refused(FromStrError::Ipv6(fault)),
+        OrMemory::Memory(error) => OrMemory::Memory(error),
+    }
+}
 
 impl<A: Allocator> ResourceSet<A> {
     /// The set that three lists of blocks write, each as [`AsBlocks::from_str`], [`Ipv4Blocks::from_str`] and
@@ -37,22 +68,15 @@ impl<A: Allocator> ResourceSet<A> {
     {
         let asn = match AsBlocks::from_str(alloc, asn) {
             Ok(set) => set,
-            Err(OrMemory::Refused(fault)) => {
-                return Err(OrMemory::Refused(FromStrError::Asn(fault)));
-            }
-            Err(OrMemory::Memory(error)) => return Err(OrMemory::Memory(error)),
+            Err(fault) => return Err(of_asn(fault)),
         };
         let ipv4 = match Ipv4Blocks::from_str(alloc, ipv4) {
             Ok(set) => set,
-            Err(OrMemory::Refused(fault)) => {
-                return Err(OrMemory::Refused(FromStrError::Ipv4(fault)));
-            }
-            Err(OrMemory::Memory(error)) => return Err(OrMemory::Memory(error)),
+            Err(fault) => return Err(of_ipv4(fault)),
         };
         match Ipv6Blocks::from_str(alloc, ipv6) {
             Ok(ipv6) => Ok(ResourceSet::new(asn, ipv4, ipv6)),
-            Err(OrMemory::Refused(fault)) => Err(OrMemory::Refused(FromStrError::Ipv6(fault))),
-            Err(OrMemory::Memory(error)) => Err(OrMemory::Memory(error)),
+            Err(fault) => Err(of_ipv6(fault)),
         }
     }
 }

@@ -1,5 +1,5 @@
 use Rattle.std.proofs.Common.{◌≡◌, [], ap, sym}
-use Rattle.rpki_resources.specs.Triples.{Triple, Changes, no_resources}
+use Rattle.rpki_resources.specs.Triples.{Triple, Changes}
 use Rattle.rpki_resources.proofs.ChangeLemmas.{restored, one_difference, same_where_none, none_where_same}
 use Rattle.rpki_resources.proofs.laws.laws_of_changes.Goals as goal
 

@@ -1,4 +1,4 @@
-use Rattle.std.proofs.Common.{◌≡◌, ℕ, List, ◌++◌, codes, refl, sym, ap₂, ap, ◌∙◌}
+use Rattle.std.proofs.Common.{ℕ, List, ◌++◌, codes, refl, ap₂, ap}
 use Rattle.std.proofs.Output.{has_written_append, has_written_of_eq}
 use Rattle.rpki_as.specs.ListText.{as_list_text}
 use Rattle.rpki_resources.specs.TripleText.{ipv4_text, ipv6_text}

@@ -1,4 +1,6 @@
+use Rattle.rpki_chain.specs.Laws.{IsUnion}
+use Rattle.rpki_resources.proofs.MadeLemmas.{made}
 use Rattle.rpki_resources.proofs.set.ResourceSet.union.Goals as goal
 
 pub returns : goal.returns
-returns g c = rw (c.new.ensures, ← c.self.view_is, ← c.other.view_is) (record { asn = c.in_ok-asn.ensures; ipv4 = c.in_ok-ipv4.ensures; ipv6 = c.in_ok-ipv6.ensures })
+returns g c = rw (← c.self.view_is, ← c.other.view_is) (made IsUnion _ _ _ _ _ _ c.of_three.ensures c.in_ok-asn.ensures c.in_ok-ipv4.ensures c.union-3.ensures)

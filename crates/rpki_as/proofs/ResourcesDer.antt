@@ -2,7 +2,7 @@
 use Rattle.std.proofs.Common.{◌≡◌, ◌≢◌, ℕ, ◌+◌, ◌^◌, ◌<◌, ◌≤◌, ◌↔◌, List, [], ◌∷◌, ◌++◌, length, map, Result, refl, ap, arith, ⊎_elim}
 use Rattle.std.specs.Prelude.{MatchResult}
 use Rattle.std.proofs.lemmas.Bool.{cases_lt, le-ltb, lt-ltb}
-use Rattle.std.proofs.lemmas.List.{length-append}
+use Rattle.std.proofs.lemmas.List.{append_assoc, length-append}
 use Rattle.rpki_der.specs.declared.cursor.Cursor.{Cursor}
 use Rattle.rpki_der.specs.declared.error.DerError.{DerError}
 use Rattle.rpki_der.specs.Der.{Each, IsBytes, OneFront, header, length_octets, value}
@@ -90,6 +90,16 @@ inner_few : (claim : Claim) → IsClaim IsAsSet claim → length (choice_octets 
 inner_few Missing is = omega arith
 inner_few Inherit is = let few = length-value 5 [] in omega (arith, few)
 inner_few (Blocks set) is = let few = set_octets_few set is.0 in omega (arith, few, length-value 48 (as_set_octets set))
+
+-- what is appended of a value in two headers
+pub enclosed_twice : (old inner : List ℕ) → old ++ header 48 (length (header 160 (length inner)) + length inner) ++ header 160 (length inner) ++ inner ≡ old ++ value 48 (value 160 inner)
+enclosed_twice old inner =
+    rw (
+      append_assoc old (header 48 (length (header 160 (length inner)) + length inner)) (header 160 (length inner)),
+      append_assoc old (header 48 (length (header 160 (length inner)) + length inner) ++ header 160 (length inner)) inner,
+      append_assoc (header 48 (length (header 160 (length inner)) + length inner)) (header 160 (length inner)) inner,
+      length-append (header 160 (length inner)) inner,
+    ) refl
 
 -- what is written of a claim has its blocks
 written_blocks : (claim : Claim) → IsClaim IsAsSet claim → claim ≢ Missing → IsAsChoice (as_resources_octets claim) (blocks_of claim)

@@ -1,6 +1,6 @@
 -- Blocks with other bounds at one place decide it.
 use Rattle.std.proofs.Common.{◌≡◌, arith}
-use Rattle.std.proofs.lemmas.Grind.{common_steps}
+use Rattle.std.proofs.lemmas.Bool.Decides.{nat_tests}
 use Rattle.rpki_blocks.proofs.Sorts.{map-at}
 use Rattle.rpki_blocks.proofs.chain.have_same_bounds.Goals as goal
 
@@ -8,5 +8,5 @@ pub returns-then-not-is_equivalent : goal.returns-then-not-is_equivalent
 returns-then-not-is_equivalent g c = (
   λ t. cc,
   λ e. let same : g.T.Block.bounds c.index-some-i.result ≡ g.T.Block.bounds c.index-others-i.result = map-at g.T.Block.bounds g.T.Block.bounds c.args.some.now c.args.others.now c.loop-i.i _ _ (omega arith) (omega arith) c.index-some-i.is c.index-others-i.is e in
-      grind (arith, common_steps),
+      grind (arith, nat_tests),
 )

@@ -1,6 +1,6 @@
 -- The block lies in the first one that doesn't end before it begins, or in none.
 use Rattle.std.proofs.Common.{◌≤◌, ◌<◌, IsTrue, arith}
-use Rattle.std.proofs.lemmas.Grind.{common_steps}
+use Rattle.std.proofs.lemmas.Bool.Decides.{nat_tests}
 use Rattle.rpki_blocks.specs.Sets.{Covers, numbers}
 use Rattle.rpki_blocks.proofs.Searches.{has_all}
 use Rattle.rpki_blocks.proofs.membership.contains_block.Goals as goal
@@ -13,9 +13,9 @@ returns-then-le-clause-value g c =
     let max = c.bounds-min.ensures.max in
     let ordered = c.bounds-min.ensures.ordered in
     let has = has_all (Covers g.T.Block.bounds (g.R.Reads.blocks c.args.chain.now)) (number c.bounds-min.result.0) (numbers number c.in-Some.found) c.in-Some.ensures.block block min (omega arith) in
-    let low : number c.in-Some.found.0 ≤ block.0 = grind (arith, common_steps, g.met.T.Block.in_order, g.met.T.Item.Ord.matches_partial_cmp, c.if-le.ensures) in (
-      λ (t : IsTrue c.le-then-le.result). let high : block.1 ≤ number c.in-Some.found.1 = grind (arith, common_steps, g.met.T.Block.in_order, g.met.T.Item.Ord.matches_partial_cmp) in has.0 (low, high),
-      λ all. let high : block.1 ≤ number c.in-Some.found.1 = (has.1 all).1 in grind (arith, common_steps, g.met.T.Block.in_order, g.met.T.Item.Ord.matches_partial_cmp),
+    let low : number c.in-Some.found.0 ≤ block.0 = grind (arith, nat_tests, g.met.T.Block.in_order, g.met.T.Item.Ord.matches_partial_cmp, c.if-le.ensures) in (
+      λ (t : IsTrue c.le-then-le.result). let high : block.1 ≤ number c.in-Some.found.1 = grind (arith, nat_tests, g.met.T.Block.in_order, g.met.T.Item.Ord.matches_partial_cmp) in has.0 (low, high),
+      λ all. let high : block.1 ≤ number c.in-Some.found.1 = (has.1 all).1 in grind (arith, nat_tests, g.met.T.Block.in_order, g.met.T.Item.Ord.matches_partial_cmp),
     )
 
 pub returns-else-le-clause-value : goal.returns-else-le-clause-value
@@ -26,7 +26,7 @@ returns-else-le-clause-value g c =
     let ordered = c.bounds-min.ensures.ordered in
     let max = c.bounds-min.ensures.max in
     let has = has_all (Covers g.T.Block.bounds (g.R.Reads.blocks c.args.chain.now)) (number c.bounds-min.result.0) (numbers number c.in-Some.found) c.in-Some.ensures.block block min (omega arith) in
-    let above : block.0 < number c.in-Some.found.0 = grind (arith, common_steps, g.met.T.Block.in_order, g.met.T.Item.Ord.matches_partial_cmp, c.if-le.ensures) in (
-      λ (t : IsTrue c.le.result). absurd (grind (arith, common_steps, c.if-le.false)),
+    let above : block.0 < number c.in-Some.found.0 = grind (arith, nat_tests, g.met.T.Block.in_order, g.met.T.Item.Ord.matches_partial_cmp, c.if-le.ensures) in (
+      λ (t : IsTrue c.le.result). absurd (grind (arith, nat_tests, c.if-le.false)),
       λ all. let low = (has.1 all).0 in absurd (omega arith),
     )

@@ -1,6 +1,6 @@
 -- The part that is searched halves, and what is found is the block behind it.
 use Rattle.std.proofs.Common.{ℕ, ◌-◌, ◌<◌, ◌≤◌, length, ap, ◌∙◌, arith}
-use Rattle.std.proofs.lemmas.Grind.{common_steps}
+use Rattle.std.proofs.lemmas.Bool.Decides.{nat_tests}
 use Rattle.rpki_blocks.proofs.Counts.{Halved-step}
 use Rattle.rpki_blocks.proofs.Searches.{behind_all, first_found}
 use Rattle.rpki_blocks.proofs.membership.first_from.Goals as goal
@@ -17,7 +17,7 @@ loop-low-preserved-then-lt g c =
     let to_high = half.to_high in
     let inside : middle < length (g.R.Reads.blocks c.args.chain.now) = omega arith in
     let value = rw inv.kept at c.read-min.ensures.value in
-    let less : g.T.Block.number c.read-min.result.1 < g.T.Block.number c.args.item = grind (arith, common_steps, g.met.T.Block.in_order, g.met.T.Item.Ord.matches_partial_cmp, c.if-lt.ensures) in
+    let less : g.T.Block.number c.read-min.result.1 < g.T.Block.number c.args.item = grind (arith, nat_tests, g.met.T.Block.in_order, g.met.T.Item.Ord.matches_partial_cmp, c.if-lt.ensures) in
     record {
       halved = Halved-step _ (c.loop-low.high - c.loop-low.low) _ _ _ _ inv.halved (omega arith) half.halves_behind c.read-min.ensures.counted;
       chain = inv.chain;
@@ -40,7 +40,7 @@ loop-low-preserved g c =
     let to_high = half.to_high in
     let inside : middle < length (g.R.Reads.blocks c.args.chain.now) = omega arith in
     let value = rw inv.kept at c.read-min.ensures.value in
-    let reaches : g.T.Block.number c.args.item ≤ g.T.Block.number c.read-min.result.1 = grind (arith, common_steps, g.met.T.Block.in_order, g.met.T.Item.Ord.matches_partial_cmp, c.if-lt.ensures) in
+    let reaches : g.T.Block.number c.args.item ≤ g.T.Block.number c.read-min.result.1 = grind (arith, nat_tests, g.met.T.Block.in_order, g.met.T.Item.Ord.matches_partial_cmp, c.if-lt.ensures) in
     record {
       halved = Halved-step _ (c.loop-low.high - c.loop-low.low) _ _ _ _ inv.halved (omega arith) half.halves c.read-min.ensures.counted;
       chain = inv.chain;

@@ -1,7 +1,7 @@
 -- Blocks that are not apart lie together between the lesser minimum and the greater maximum.
 use Rattle.std.proofs.Common.{◌≡◌, ℕ, ◌+◌, ◌<◌, ◌≤◌, ◌↔◌, ◌⊎◌, inl, inr, ⊎_elim, ap, arith}
 use Rattle.std.proofs.lemmas.Bool.{cases_lt}
-use Rattle.std.proofs.lemmas.Grind.{common_steps}
+use Rattle.std.proofs.lemmas.Bool.Decides.{nat_tests}
 use Rattle.rpki_blocks.specs.Sets.{IsWithin}
 use Rattle.rpki_blocks.proofs.block.Block.sum.Goals as goal
 use Rattle.rpki_blocks.proofs.block.Block.sum.Goals.{in-Some+else-lt, in_default, in-Some-next+else-lt-2, in_default-next, then-le, else-le, then-le-2, else-le-2}
@@ -22,7 +22,7 @@ over_both s b d lowest lowest' low highest highest' high meets meets' n = (
 pub returns-then-lt-clause-apart : goal.returns-then-lt-clause-apart
 returns-then-lt-clause-apart g c beside =
     let number = g.Self.Block.number in
-    let far : number c.in-Some.next < number c.bounds-low.result.0 = grind (arith, common_steps, g.met.Self.Block.in_order, g.met.Self.Item.Ord.matches_partial_cmp, c.if-lt.ensures) in
+    let far : number c.in-Some.next < number c.bounds-low.result.0 = grind (arith, nat_tests, g.met.Self.Block.in_order, g.met.Self.Item.Ord.matches_partial_cmp, c.if-lt.ensures) in
     let is = c.in-Some.ensures.1 in
     let own_high = c.bounds-min.ensures.max in
     let other_low = c.bounds-low.ensures.min in
@@ -32,7 +32,7 @@ returns-then-lt-clause-apart g c beside =
 pub returns-then-lt-2-clause-apart : goal.returns-then-lt-2-clause-apart
 returns-then-lt-2-clause-apart g c beside =
     let number = g.Self.Block.number in
-    let far : number c.in-Some-next.next < number c.bounds-min.result.0 = grind (arith, common_steps, g.met.Self.Block.in_order, g.met.Self.Item.Ord.matches_partial_cmp, c.if-lt-2.ensures) in
+    let far : number c.in-Some-next.next < number c.bounds-min.result.0 = grind (arith, nat_tests, g.met.Self.Block.in_order, g.met.Self.Item.Ord.matches_partial_cmp, c.if-lt-2.ensures) in
     let is = c.in-Some-next.ensures.1 in
     let own_low = c.bounds-min.ensures.min in
     let other_high = c.bounds-low.ensures.max in
@@ -49,14 +49,14 @@ new-requires g c =
       | then-le w ↦ (let is = ap number w.first-is in omega arith)
       | else-le w ↦
           let is : number c.if-le.first ≡ number c.bounds-low.result.0 = ap number w.first-is in
-          let le : number c.bounds-low.result.0 ≤ number min = grind (arith, common_steps, g.met.Self.Block.in_order, g.met.Self.Item.Ord.matches_partial_cmp, w.if-le.ensures) in
+          let le : number c.bounds-low.result.0 ≤ number min = grind (arith, nat_tests, g.met.Self.Block.in_order, g.met.Self.Item.Ord.matches_partial_cmp, w.if-le.ensures) in
           omega arith
     ] in
     let last : number max ≤ number c.if-le-2.last =
     elim c.if-le-2.branch [
       | then-le-2 w ↦
           let is : number c.if-le-2.last ≡ number c.bounds-low.result.1 = ap number w.last-is in
-          let le : number max ≤ number c.bounds-low.result.1 = grind (arith, common_steps, g.met.Self.Block.in_order, g.met.Self.Item.Ord.matches_partial_cmp, w.if-le-2.ensures) in
+          let le : number max ≤ number c.bounds-low.result.1 = grind (arith, nat_tests, g.met.Self.Block.in_order, g.met.Self.Item.Ord.matches_partial_cmp, w.if-le-2.ensures) in
           omega arith
       | else-le-2 w ↦ (let is = ap number w.last-is in omega arith)
     ] in
@@ -77,28 +77,28 @@ returns-clause-over g c =
     elim c.if-le.branch [
       | then-le w ↦
           let is : number c.if-le.first ≡ number min = ap number w.first-is in
-          let le : number min ≤ number low = grind (arith, common_steps, g.met.Self.Block.in_order, g.met.Self.Item.Ord.matches_partial_cmp, w.if-le.ensures) in
+          let le : number min ≤ number low = grind (arith, nat_tests, g.met.Self.Block.in_order, g.met.Self.Item.Ord.matches_partial_cmp, w.if-le.ensures) in
           (omega arith, omega arith, inl is)
       | else-le w ↦
           let is : number c.if-le.first ≡ number low = ap number w.first-is in
-          let le : number low ≤ number min = grind (arith, common_steps, g.met.Self.Block.in_order, g.met.Self.Item.Ord.matches_partial_cmp, w.if-le.ensures) in
+          let le : number low ≤ number min = grind (arith, nat_tests, g.met.Self.Block.in_order, g.met.Self.Item.Ord.matches_partial_cmp, w.if-le.ensures) in
           (omega arith, omega arith, inr is)
     ] in
     let last : (number max ≤ number c.if-le-2.last) × (number high ≤ number c.if-le-2.last) × ((number c.if-le-2.last ≡ number max) ⊎ (number c.if-le-2.last ≡ number high)) =
     elim c.if-le-2.branch [
       | then-le-2 w ↦
           let is : number c.if-le-2.last ≡ number high = ap number w.last-is in
-          let le : number max ≤ number high = grind (arith, common_steps, g.met.Self.Block.in_order, g.met.Self.Item.Ord.matches_partial_cmp, w.if-le-2.ensures) in
+          let le : number max ≤ number high = grind (arith, nat_tests, g.met.Self.Block.in_order, g.met.Self.Item.Ord.matches_partial_cmp, w.if-le-2.ensures) in
           (omega arith, omega arith, inr is)
       | else-le-2 w ↦
           let is : number c.if-le-2.last ≡ number max = ap number w.last-is in
-          let le : number high ≤ number max = grind (arith, common_steps, g.met.Self.Block.in_order, g.met.Self.Item.Ord.matches_partial_cmp, w.if-le-2.ensures) in
+          let le : number high ≤ number max = grind (arith, nat_tests, g.met.Self.Block.in_order, g.met.Self.Item.Ord.matches_partial_cmp, w.if-le-2.ensures) in
           (omega arith, omega arith, inl is)
     ] in
     let meets : number low ≤ number max + 1 =
     elim c.match-next.branch [
       | in-Some+else-lt w ↦
-          let le : number low ≤ number w.in-Some.next = grind (arith, common_steps, g.met.Self.Block.in_order, g.met.Self.Item.Ord.matches_partial_cmp, w.if-lt.ensures) in
+          let le : number low ≤ number w.in-Some.next = grind (arith, nat_tests, g.met.Self.Block.in_order, g.met.Self.Item.Ord.matches_partial_cmp, w.if-lt.ensures) in
           let is = w.in-Some.ensures.1 in
           omega arith
       | in_default w ↦
@@ -110,7 +110,7 @@ returns-clause-over g c =
     let meets' : number min ≤ number high + 1 =
     elim c.match-next-2.branch [
       | in-Some-next+else-lt-2 w ↦
-          let le : number min ≤ number w.in-Some-next.next = grind (arith, common_steps, g.met.Self.Block.in_order, g.met.Self.Item.Ord.matches_partial_cmp, w.if-lt-2.ensures) in
+          let le : number min ≤ number w.in-Some-next.next = grind (arith, nat_tests, g.met.Self.Block.in_order, g.met.Self.Item.Ord.matches_partial_cmp, w.if-lt-2.ensures) in
           let is = w.in-Some-next.ensures.1 in
           omega arith
       | in_default-next w ↦

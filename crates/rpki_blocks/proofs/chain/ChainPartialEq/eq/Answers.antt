@@ -1,6 +1,6 @@
 -- Chains with the same bounds cover the same numbers, and a set has one chain.
 use Rattle.std.proofs.Common.{◌≡◌, ℕ, map, ap, sym, arith}
-use Rattle.std.proofs.lemmas.Grind.{common_steps}
+use Rattle.std.proofs.lemmas.Bool.Decides.{nat_tests}
 use Rattle.std.specs.Bool.{Decides, one_answer}
 use Rattle.std.specs.Cmp.Lexicographic.{pointwise_decides}
 use Rattle.rpki_blocks.specs.Equality.{is_same_pair}
@@ -10,8 +10,8 @@ use Rattle.rpki_blocks.proofs.chain.ChainPartialEq.eq.Goals as goal
 
 is_same_pair_decides : (a b : ℕ × ℕ) → Decides (is_same_pair a b) (a ≡ b)
 is_same_pair_decides a b = (
-  λ t. let low : a.0 ≡ b.0 = grind (arith, common_steps) in let high : a.1 ≡ b.1 = grind (arith, common_steps) in λ i. (low i, high i),
-  λ e. let low : a.0 ≡ b.0 = ap (λ (p : ℕ × ℕ). p.0) e in let high : a.1 ≡ b.1 = ap (λ (p : ℕ × ℕ). p.1) e in grind (arith, common_steps),
+  λ t. let low : a.0 ≡ b.0 = grind (arith, nat_tests) in let high : a.1 ≡ b.1 = grind (arith, nat_tests) in λ i. (low i, high i),
+  λ e. let low : a.0 ≡ b.0 = ap (λ (p : ℕ × ℕ). p.0) e in let high : a.1 ≡ b.1 = ap (λ (p : ℕ × ℕ). p.1) e in grind (arith, nat_tests),
 )
 
 pub returns-clause-value : goal.returns-clause-value

@@ -1,3 +1,4 @@
 pub mod AllWritten
 pub mod CertificateLemmas
+pub mod IssuedLemmas
 pub mod TableLemmas

@@ -1,1 +1,2 @@
 pub mod Certificates
+pub mod Issued

@@ -9,6 +9,7 @@ pub mod certificates;
 pub mod conditions;
 pub mod errors;
 pub mod filters;
+pub mod issued;
 pub mod octets;
 pub mod sets;
 pub mod texts;

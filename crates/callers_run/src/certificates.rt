@@ -1,0 +1,80 @@
+//! Certificates: what octets are, and what an issuer verifies of them.
+use crate::print::{self, cut};
+use crate::sets::from_lists;
+use callers::issued::Unverified;
+use rpki_resources::OrMemory;
+use rpki_resources::repository::resources::{Overclaim, ResourceSet};
+use std::alloc::Global;
+
+/// `read_as HEX`
+pub fn read_as(alloc: Global, hex: &str) -> anyhow::Result<String> {
+    let octets = hex::decode(alloc, hex)?;
+    print::value(
+        alloc,
+        callers::certificates::read_as(alloc, octets.as_slice())?,
+    )
+}
+
+/// `read_families HEX`
+pub fn read_families(alloc: Global, hex: &str) -> anyhow::Result<String> {
+    let octets = hex::decode(alloc, hex)?;
+    let (v4, v6) = callers::certificates::read_families(alloc, octets.as_slice())?;
+    print::families(alloc, v4, v6)
+}
+
+/// `verified_octets refuse A ; B ; C | HEX | HEX`, or with `trim`: the resources of an issuer, and the octets of AS
+/// identifiers and of address blocks.
+pub fn verified_octets(alloc: Global, operands: &str) -> anyhow::Result<String> {
+    let (issuer, extensions) = cut(operands, '|');
+    let (mode, lists) = cut(issuer, ' ');
+    let issuer = from_lists(alloc, lists)?;
+    verified(alloc, &issuer, extensions, mode_named(mode))
+}
+
+fn mode_named(name: &str) -> Overclaim {
+    match name {
+        "trim" => Overclaim::Trim,
+        _ => Overclaim::Refuse,
+    }
+}
+
+fn verified(
+    alloc: Global,
+    issuer: &ResourceSet,
+    extensions: &str,
+    mode: Overclaim,
+) -> anyhow::Result<String> {
+    let (numbers, addresses) = cut(extensions, '|');
+    let numbers = hex::decode(alloc, numbers)?;
+    let addresses = hex::decode(alloc, addresses)?;
+    answer(alloc, issuer, &numbers, &addresses, mode)
+}
+
+fn answer(
+    alloc: Global,
+    issuer: &ResourceSet,
+    numbers: &[u8],
+    addresses: &[u8],
+    mode: Overclaim,
+) -> anyhow::Result<String> {
+    match callers::issued::verified_octets(alloc, issuer, numbers, addresses, mode) {
+        Ok(set) => print::value(alloc, set),
+        Err(OrMemory::Refused(reason)) => refused(alloc, reason),
+        Err(OrMemory::Memory(error)) => Err(error.into()),
+    }
+}
+
+fn refused(alloc: Global, reason: Unverified) -> anyhow::Result<String> {
+    match reason {
+        Unverified::AsOctets(fault) => print::value(
+            alloc,
+            format!(in alloc; "AS octets: {fault}")?,
+        ),
+        Unverified::Asn(excess) => print::value(alloc, excess),
+        Unverified::AddressOctets(fault) => {
+            print::value(alloc, format!(in alloc; "address octets: {fault}")?)
+        }
+        Unverified::Ipv4(excess) => print::value(alloc, excess),
+        Unverified::Ipv6(excess) => print::value(alloc, excess),
+    }
+}

@@ -1,0 +1,61 @@
+//! Sets and resources in DER.
+ghost use Rattle.rpki_ip.specs.declared.family.AddressFamily.TheVariants.{Ipv4};
+ghost use Rattle.rpki_ipres.specs.Resources.{IsFamilyClaim};
+
+use crate::print::{self, cut};
+use crate::sets::as_v6;
+use rpki_resources::repository::resources::{
+    AsBlocks, AsResources, IpBlocks, IpResources, Ipv4Blocks, Ipv6Blocks,
+};
+use std::alloc::Global;
+
+/// `written_and_read LIST` of addresses of either family.
+pub fn written_and_read(alloc: Global, list: &str) -> anyhow::Result<String> {
+    let set = IpBlocks::from_str(alloc, list)?;
+    as_v6(alloc, callers::octets::written_and_read(alloc, &set))
+}
+
+/// `as_written_and_read LIST` of AS numbers.
+pub fn as_written_and_read(alloc: Global, list: &str) -> anyhow::Result<String> {
+    let set = AsBlocks::from_str(alloc, list)?;
+    print::made(alloc, callers::octets::as_written_and_read(alloc, &set))
+}
+
+/// `resources_written_and_read LIST` of AS numbers, or `inherit`.
+pub fn resources_written_and_read(alloc: Global, list: &str) -> anyhow::Result<String> {
+    let resources = AsResources::from_str(alloc, list)?;
+    if resources.is_missing() {
+        return print::text(alloc, "missing");
+    }
+    print::made(
+        alloc,
+        callers::octets::resources_written_and_read(alloc, &resources),
+    )
+}
+
+/// `families_written_and_read A | B` of IPv4 and of IPv6.
+pub fn families_written_and_read(alloc: Global, lists: &str) -> anyhow::Result<String> {
+    let (v4, v6) = cut(lists, '|');
+    let v4 = Ipv4Blocks::from_str(alloc, v4)?.to_ip_resources()?;
+    with_v6(alloc, &v4, v6)
+}
+
+fn with_v6(alloc: Global, v4: &IpResources, list: &str) -> anyhow::Result<String>
+    requires { IsFamilyClaim Ipv4 v4.now }
+{
+    let v6 = Ipv6Blocks::from_str(alloc, list)?.to_ip_resources()?;
+    if v4.is_missing() && v6.is_missing() {
+        return print::text(alloc, "missing");
+    }
+    let (v4, v6) = callers::octets::families_written_and_read(alloc, v4, &v6)?;
+    print::families(alloc, v4, v6)
+}
+
+/// `append LIST` of AS numbers, or `inherit`: the octets, of which missing resources have none.
+pub fn append(alloc: Global, list: &str) -> anyhow::Result<String> {
+    let resources = AsResources::from_str(alloc, list)?;
+    let mut octets = Vec::new(alloc);
+    callers::conditions::append(&resources, &mut octets)?;
+    let text = hex::encode(alloc, octets.as_slice())?;
+    Ok(text)
+}

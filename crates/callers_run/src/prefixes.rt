@@ -1,0 +1,71 @@
+//! Prefixes: filters of routes, and a router's cache.
+use crate::print::{self, cut};
+use callers::{cache, filters};
+use rpki_resources::repository::resources::{Ipv4Blocks, Ipv6Blocks, Prefix};
+use rpki_resources::resources::addr::Prefix as FamilyPrefix;
+use std::alloc::{AllocError, Global};
+
+/// `v4_filter LIST`
+pub fn v4_filter(alloc: Global, list: &str) -> anyhow::Result<String> {
+    let set = Ipv4Blocks::from_str(alloc, list)?;
+    v4_text(alloc, filters::v4_filter(alloc, &set))
+}
+
+fn v4_text(alloc: Global, prefixes: Result<Vec<Prefix>, AllocError>) -> anyhow::Result<String> {
+    let prefixes = prefixes?;
+    let mut text = String::new(alloc);
+    for prefix in &prefixes {
+        print::append(&mut text, prefix.to_v4())?;
+        write!(text, "/{}", prefix.addr_len())?;
+    }
+    Ok(text)
+}
+
+/// `v6_filter LIST`
+pub fn v6_filter(alloc: Global, list: &str) -> anyhow::Result<String> {
+    let set = Ipv6Blocks::from_str(alloc, list)?;
+    v6_text(alloc, filters::v6_filter(alloc, &set))
+}
+
+fn v6_text(alloc: Global, prefixes: Result<Vec<Prefix>, AllocError>) -> anyhow::Result<String> {
+    let prefixes = prefixes?;
+    let mut text = String::new(alloc);
+    for prefix in &prefixes {
+        print::append(&mut text, prefix.to_v6())?;
+        write!(text, "/{}", prefix.addr_len())?;
+    }
+    Ok(text)
+}
+
+/// `table PREFIX, ..`
+pub fn table(alloc: Global, list: &str) -> anyhow::Result<String> {
+    let table = sorted(alloc, list)?;
+    joined(alloc, &table)
+}
+
+/// `covering PREFIX, .. | PREFIX`: those of the table that cover the route.
+pub fn covering(alloc: Global, operands: &str) -> anyhow::Result<String> {
+    let (list, route) = cut(operands, '|');
+    let route = route.parse::<FamilyPrefix>()?;
+    let table = sorted(alloc, list)?;
+    joined(alloc, &cache::covering(alloc, &table, route)?)
+}
+
+/// The table of a list of prefixes.
+fn sorted(alloc: Global, list: &str) -> anyhow::Result<Vec<FamilyPrefix>> {
+    let mut prefixes = Vec::new(alloc);
+    for text in list.split(',') {
+        let prefix = text.trim().parse::<FamilyPrefix>()?;
+        prefixes.push(prefix)?;
+    }
+    let table = cache::table(alloc, &prefixes)?;
+    Ok(table)
+}
+
+fn joined(alloc: Global, prefixes: &[FamilyPrefix]) -> anyhow::Result<String> {
+    let mut text = String::new(alloc);
+    for prefix in prefixes {
+        print::append(&mut text, *prefix)?;
+    }
+    Ok(text)
+}

@@ -3,10 +3,12 @@
 ghost use Rattle.std.specs.Prelude.{◌≡◌};
 ghost use Rattle.std.specs.Iterator.{YieldsFirst, item_count};
 ghost use Rattle.rpki_base.specs.Walks.{walk, only_left, only_one, only_both, any_side};
+ghost use Rattle.rpki_base.specs.declared.small_set.walk.Wanted.{Wanted as WantedOf};
 
 use super::walk::{Walk, Wanted};
 use crate::asn::Asn;
-use std::marker::Model;
+use std::fmt;
+use std::marker::{Model, PhantomData};
 
 /// The AS numbers of a set.
 #[derive(Debug, Drop)]
@@ -44,38 +46,50 @@ impl<'a> Iterator for SmallSetIter<'a> {
     }
 }
 
-/// The AS numbers that are in one set and not in the other.
-#[derive(Debug, Drop)]
-pub struct SmallSetDifference<'a> {
-    walk: Walk<'a>,
+/// An operation on two sets.
+pub trait Operation {
+    // Which of their numbers it gives, by where they stand.
+    ghost WANTED: { WantedOf };
+
+    const WANTED: Wanted;
 }
 
-impl<'a> Model for SmallSetDifference<'a> {
+/// The AS numbers of two sets that an operation gives.
+#[derive(Drop)]
+pub struct SmallSetOperation<'a, O: Operation> {
+    walk: Walk<'a>,
+    operation: PhantomData<O>,
+}
+
+impl<'a, O: Operation> Model for SmallSetOperation<'a, O> {
     ghost use Rattle.std.specs.Prelude.{ℕ, List};
-    ghost use Rattle.rpki_base.specs.Walks.{walk as walk_of, only_left};
+    ghost use Rattle.rpki_base.specs.Walks.{walk as walk_of};
 
     ghost Value = { List ℕ };
 
-    ghost view = { λ iter. walk_of only_left iter.walk.left.now iter.walk.right.now };
+    ghost view = { λ iter. walk_of O.WANTED iter.walk.left.now iter.walk.right.now };
 }
 
-impl<'a> SmallSetDifference<'a> {
-    const WANTED: Wanted = Wanted {
-        left: true,
-        both: false,
-        right: false,
-    };
-
-    pub(crate) fn new(left: &'a [Asn], right: &'a [Asn]) -> SmallSetDifference<'a>
-        ensures { result ≡ walk only_left left.now right.now }
+impl<'a, O: Operation> SmallSetOperation<'a, O> {
+    pub(crate) fn new(left: &'a [Asn], right: &'a [Asn]) -> SmallSetOperation<'a, O>
+        ensures { result ≡ walk O.WANTED left.now right.now }
     {
-        SmallSetDifference {
+        SmallSetOperation {
             walk: Walk { left, right },
+            operation: PhantomData,
         }
     }
 }
 
-impl<'a> Iterator for SmallSetDifference<'a> {
+impl<O: Operation> fmt::Debug for SmallSetOperation<'_, O> {
+    fn fmt<W: fmt::Write>(&self, f: &mut fmt::Formatter<W>) -> fmt::Result {
+        f.debug_tuple("SmallSetOperation")
+            .field(&self.walk)
+            .finish()
+    }
+}
+
+impl<O: Operation> Iterator for SmallSetOperation<'_, O> {
     type Item = Asn;
 
     ghost next_gives = { YieldsFirst (λ rest. rest) };
@@ -83,135 +97,54 @@ impl<'a> Iterator for SmallSetDifference<'a> {
     ghost remaining = { item_count (λ rest. rest) };
 
     fn next(&mut self) -> Option<Asn> {
-        self.walk.next(SmallSetDifference::WANTED)
+        self.walk.next(O::WANTED)
     }
+}
+
+/// What gives the AS numbers that are in one set and not in the other.
+pub enum Difference {}
+
+impl Operation for Difference {
+    ghost WANTED = { only_left };
+
+    const WANTED: Wanted = Wanted::LEFT;
+}
+
+/// The AS numbers that are in one set and not in the other.
+pub type SmallSetDifference<'a> = SmallSetOperation<'a, Difference>;
+
+/// What gives the AS numbers that are in exactly one of two sets.
+pub enum SymmetricDifference {}
+
+impl Operation for SymmetricDifference {
+    ghost WANTED = { only_one };
+
+    const WANTED: Wanted = Wanted::ONE;
 }
 
 /// The AS numbers that are in exactly one of two sets.
-#[derive(Debug, Drop)]
-pub struct SmallSetSymmetricDifference<'a> {
-    walk: Walk<'a>,
-}
+pub type SmallSetSymmetricDifference<'a> = SmallSetOperation<'a, SymmetricDifference>;
 
-impl<'a> Model for SmallSetSymmetricDifference<'a> {
-    ghost use Rattle.std.specs.Prelude.{ℕ, List};
-    ghost use Rattle.rpki_base.specs.Walks.{walk as walk_of, only_one};
+/// What gives the AS numbers that are in both of two sets.
+pub enum Intersection {}
 
-    ghost Value = { List ℕ };
+impl Operation for Intersection {
+    ghost WANTED = { only_both };
 
-    ghost view = { λ iter. walk_of only_one iter.walk.left.now iter.walk.right.now };
-}
-
-impl<'a> SmallSetSymmetricDifference<'a> {
-    const WANTED: Wanted = Wanted {
-        left: true,
-        both: false,
-        right: true,
-    };
-
-    pub(crate) fn new(left: &'a [Asn], right: &'a [Asn]) -> SmallSetSymmetricDifference<'a>
-        ensures { result ≡ walk only_one left.now right.now }
-    {
-        SmallSetSymmetricDifference {
-            walk: Walk { left, right },
-        }
-    }
-}
-
-impl<'a> Iterator for SmallSetSymmetricDifference<'a> {
-    type Item = Asn;
-
-    ghost next_gives = { YieldsFirst (λ rest. rest) };
-
-    ghost remaining = { item_count (λ rest. rest) };
-
-    fn next(&mut self) -> Option<Asn> {
-        self.walk.next(SmallSetSymmetricDifference::WANTED)
-    }
+    const WANTED: Wanted = Wanted::BOTH;
 }
 
 /// The AS numbers that are in both of two sets.
-#[derive(Debug, Drop)]
-pub struct SmallSetIntersection<'a> {
-    walk: Walk<'a>,
-}
+pub type SmallSetIntersection<'a> = SmallSetOperation<'a, Intersection>;
 
-impl<'a> Model for SmallSetIntersection<'a> {
-    ghost use Rattle.std.specs.Prelude.{ℕ, List};
-    ghost use Rattle.rpki_base.specs.Walks.{walk as walk_of, only_both};
+/// What gives the AS numbers that are in one of two sets, or in both.
+pub enum Union {}
 
-    ghost Value = { List ℕ };
+impl Operation for Union {
+    ghost WANTED = { any_side };
 
-    ghost view = { λ iter. walk_of only_both iter.walk.left.now iter.walk.right.now };
-}
-
-impl<'a> SmallSetIntersection<'a> {
-    const WANTED: Wanted = Wanted {
-        left: false,
-        both: true,
-        right: false,
-    };
-
-    pub(crate) fn new(left: &'a [Asn], right: &'a [Asn]) -> SmallSetIntersection<'a>
-        ensures { result ≡ walk only_both left.now right.now }
-    {
-        SmallSetIntersection {
-            walk: Walk { left, right },
-        }
-    }
-}
-
-impl<'a> Iterator for SmallSetIntersection<'a> {
-    type Item = Asn;
-
-    ghost next_gives = { YieldsFirst (λ rest. rest) };
-
-    ghost remaining = { item_count (λ rest. rest) };
-
-    fn next(&mut self) -> Option<Asn> {
-        self.walk.next(SmallSetIntersection::WANTED)
-    }
+    const WANTED: Wanted = Wanted::ANY;
 }
 
 /// The AS numbers that are in one of two sets, or in both.
-#[derive(Debug, Drop)]
-pub struct SmallSetUnion<'a> {
-    walk: Walk<'a>,
-}
-
-impl<'a> Model for SmallSetUnion<'a> {
-    ghost use Rattle.std.specs.Prelude.{ℕ, List};
-    ghost use Rattle.rpki_base.specs.Walks.{walk as walk_of, any_side};
-
-    ghost Value = { List ℕ };
-
-    ghost view = { λ iter. walk_of any_side iter.walk.left.now iter.walk.right.now };
-}
-
-impl<'a> SmallSetUnion<'a> {
-    const WANTED: Wanted = Wanted {
-        left: true,
-        both: true,
-        right: true,
-    };
-
-    pub(crate) fn new(left: &'a [Asn], right: &'a [Asn]) -> SmallSetUnion<'a>
-        ensures { result ≡ walk any_side left.now right.now }
-    {
-        SmallSetUnion {
-            walk: Walk { left, right },
-        }
-    }
-}
-
-impl<'a> Iterator for SmallSetUnion<'a> {
-    type Item = Asn;
-
-    ghost next_gives = { YieldsFirst (λ rest. rest) };
-
-    ghost remaining = { item_count (λ rest. rest) };
-
-    fn next(&mut self) -> Option<Asn> {
-        self.walk.next(SmallSetUnion::WANTED)
-    }
-}
+pub type SmallSetUnion<'a> = SmallSetOperation<'a, Union>;

@@ -16,13 +16,37 @@ pub(crate) enum Side {
 
 /// Which numbers of two sets are wanted, by where they stand.
 #[derive(Clone, Copy)]
-pub(crate) struct Wanted {
-    pub(crate) left: bool,
-    pub(crate) both: bool,
-    pub(crate) right: bool,
+pub struct Wanted {
+    left: bool,
+    both: bool,
+    right: bool,
 }
 
 impl Wanted {
+    pub(crate) const LEFT: Wanted = Wanted {
+        left: true,
+        both: false,
+        right: false,
+    };
+
+    pub(crate) const ONE: Wanted = Wanted {
+        left: true,
+        both: false,
+        right: true,
+    };
+
+    pub(crate) const BOTH: Wanted = Wanted {
+        left: false,
+        both: true,
+        right: false,
+    };
+
+    pub(crate) const ANY: Wanted = Wanted {
+        left: true,
+        both: true,
+        right: true,
+    };
+
     /// Are the numbers of this side wanted?
     fn has(self, side: Side) -> bool
         ensures { result ≡ chosen self side }

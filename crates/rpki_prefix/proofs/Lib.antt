@@ -1,4 +1,5 @@
 pub mod Covering
 pub mod HostBits
 pub mod MaxLenLemmas
+pub mod OrderLemmas
 pub mod TextLemmas

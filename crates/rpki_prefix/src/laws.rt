@@ -1,5 +1,7 @@
 //! What callers may rely on and no single call says.
 ghost use Rattle.std.specs.Prelude.{◌≡◌, ◌↔◌, IsTrue};
+ghost use Rattle.std.specs.Cmp.{IsTotalOrder};
+ghost use Rattle.std.specs.declared.cmp.Ordering.TheVariants.{Equal};
 ghost use Rattle.rpki_prefix.specs.MaxLen.{MaxLenValue};
 ghost use Rattle.rpki_prefix.specs.Values.{FamilyPrefix};
 
@@ -12,4 +14,10 @@ pub fn equal_where_the_same()
     ensures prefix { (p q : FamilyPrefix) → IsTrue (⟦<Prefix as PartialEq>⟧.eq p q) ↔ (p ≡ q) }
     ensures max_len { (m n : MaxLenValue)
         → IsTrue (⟦<MaxLenPrefix as PartialEq>⟧.eq m n) ↔ (m ≡ n) }
+{}
+
+/// The order of prefixes is total, and prefixes stand at one place in it exactly where they are the same.
+pub fn total_order()
+    ensures total { IsTotalOrder ⟦<Prefix as Ord>⟧.cmp }
+    ensures ties { (p q : FamilyPrefix) → (⟦<Prefix as Ord>⟧.cmp p q ≡ Equal) ↔ (p ≡ q) }
 {}

@@ -226,7 +226,10 @@ impl<'a, A: Allocator> IntoIterator for &'a AsBlocks<A> {
 
     type IntoIter = Iter<'a, AsBlock>;
 
-    ghost into_iter_gives = { λ set blocks. iter_rest blocks ≡ map new_as_block set.now };
+    // what `iter` says
+    ghost into_iter_gives = { λ set blocks. (map as_bounds (iter_rest blocks) ≡ set.now)
+        × (iter_rest blocks ≡ map new_as_block set.now)
+        × IsAsSet set.now };
 
     fn into_iter(self) -> Iter<'a, AsBlock> {
         self.iter()

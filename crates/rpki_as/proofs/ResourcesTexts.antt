@@ -1,9 +1,7 @@
 -- A text writes one claim at most, or has one fault; what is printed of resources writes them.
-use Rattle.std.proofs.Common.{◌≡◌, ℕ, List, [], ◌∷◌, ◌++◌, Result, MatchResult, codes, refl, ap, ◌∙◌, slice_index, map, arith, eqb, Bool, true, false}
+use Rattle.std.proofs.Common.{◌≡◌, ℕ, List, [], ◌∷◌, ◌++◌, Result, MatchResult, codes, refl, ap, ◌∙◌, slice_index, map, arith, Bool, true, false}
 use Rattle.std.specs.List.{flat_map}
 use Rattle.std.specs.Bool.{Decides}
-use Rattle.std.specs.Cmp.Lexicographic.{pointwise, pointwise_decides}
-use Rattle.std.proofs.lemmas.Bool.{eqb-true, eq-eqb}
 use Rattle.rpki_text.specs.Lists.{elements}
 use Rattle.rpki_text.specs.Memory.{IfRefused}
 use Rattle.rpki_text.specs.Reading.{AnswersOrMemory}
@@ -30,10 +28,6 @@ not_true true P decides e = absurd cc
 not_true false P decides e = λ p. (let t : false ≡ true = decides.1 p in absurd cc)
 
 module _ (text : List ℕ) where
-  -- whether it is `inherit` is what its comparison tells
-  pub inherit_decides : Decides (pointwise eqb text (codes "inherit")) (IsInherit text)
-  inherit_decides = pointwise_decides {E = eqb} (λ a b. (eqb-true a b, eq-eqb a b)) text (codes "inherit")
-
   -- a text writes one claim at most
   pub one_claim : (a b : Claim) → IsAsResourcesText text a → IsAsResourcesText text b → a ≡ b
   one_claim Missing Missing h k = refl

@@ -11,3 +11,6 @@ over-requires g c = whole_blocks (iter_rest c.iter.result) _ c.iter.ensures.made
 pub returns-clause-made : goal.returns-clause-made
 returns-clause-made g c =
     c.over.ensures ∙ map-id (iter_rest c.iter.result) ∙ c.iter.ensures.made ∙ ap (map new_ip_block) c.self.view_is
+
+pub returns-clause-set : goal.returns-clause-set
+returns-clause-set g c = rw (← c.self.view_is) (c.iter.ensures.set, c.self.invariant)

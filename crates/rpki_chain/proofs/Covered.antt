@@ -1,6 +1,11 @@
 -- What an issuer's claim leaves out of a set.
 use Rattle.std.proofs.Common.{◌≡◌, ℕ, ◌==◌, ◌↔◌, ◌⊎◌, inl, inr, ⊎_elim, Bool, true, IsTrue, List, [], ◌∷◌, length, map, refl, sym, ap, subst, ◌∙◌, arith}
+use Rattle.std.specs.Prelude.{Result, Ok, Err, IsOk, IfErr, IsErrAnd}
+use Rattle.std.proofs.lemmas.Bool.{false≢true}
 use Rattle.std.proofs.lemmas.Grind.{common_steps}
+use Rattle.rpki_text.specs.declared.memory.OrMemory.{OrMemory}
+use Rattle.rpki_text.specs.declared.memory.OrMemory.TheVariants.{Refused, Memory}
+use Rattle.rpki_text.specs.Memory.{IsMemory, IfRefused}
 use Rattle.rpki_chain.specs.Claims.{Claim}
 use Rattle.rpki_chain.specs.Laws.{IsDifference}
 use Rattle.rpki_chain.specs.Paths.{Leaves, IsCovered, IsUncovered}
@@ -24,6 +29,12 @@ none_by_length f (x ∷ blocks) set b is e = (
   λ t. let told : (length (x ∷ blocks) == 0) ≡ true = sym e ∙ t in let none : length (x ∷ blocks) ≡ 0 = grind (arith, common_steps) in absurd (omega (arith, none)),
   λ none. let long = ap length (is ∙ none) in absurd (omega arith),
 )
+
+-- a call that wants memory answers that it isn't so, and tells nothing else
+pub wants_memory : {X E : Type 0} (C : Type 0) (Q : E → Type 0) (r : Result X (OrMemory E)) → (C → ⊥) → IsErrAnd r IsMemory → (IsOk r ↔ C) × IfErr r (IfRefused Q)
+wants_memory C Q (Ok x) none h = absurd h
+wants_memory C Q (Err (Refused e)) none h = absurd h
+wants_memory C Q (Err (Memory e)) none h = ((λ ok. absurd (false≢true ok), λ c. absurd (none c)), tt)
 
 module _ (set : Runs) (issuer : Claim) where
   -- a missing claim covers the empty set alone

@@ -1,7 +1,11 @@
 -- What one claim leaves, and by what it exceeds: each of its outcomes, and that there is one.
 use Rattle.std.proofs.Common.{◌≡◌, ◌≢◌, ℕ, ◌≤◌, ⊎_elim, [], ◌∷◌, refl, sym, subst}
+use Rattle.std.specs.Prelude.{Result, Ok, Err, IsErrAnd, MatchResult}
 use Rattle.std.proofs.Math.Nat.{le_refl}
 use Rattle.std.proofs.lemmas.List.Elements.{All-head}
+use Rattle.rpki_text.specs.declared.memory.OrMemory.{OrMemory}
+use Rattle.rpki_text.specs.declared.memory.OrMemory.TheVariants.{Refused, Memory}
+use Rattle.rpki_text.specs.Memory.{IsMemory, IfRefused}
 use Rattle.rpki_blocks.proofs.Chains.{Covers-nil}
 use Rattle.rpki_blocks.proofs.Unique.{Covers-head}
 use Rattle.rpki_chain.specs.Claims.{Claim}
@@ -12,6 +16,12 @@ use Rattle.rpki_chain.specs.declared.choice.ResourcesChoice.TheVariants.{Inherit
 use Rattle.rpki_chain.specs.declared.path.Overclaim.{Overclaim}
 use Rattle.rpki_chain.specs.declared.path.Overclaim.TheVariants.{Refuse, Trim}
 use Rattle.rpki_chain.proofs.RunLists.{Holds-decided, IsRunsOf-same, IsRunsOf-unique}
+
+-- a call that wants memory answers neither
+pub wants_memory : {X E : Type 0} (P : X → Type 0) (Q : E → Type 0) (r : Result X (OrMemory E)) → IsErrAnd r IsMemory → MatchResult r P (IfRefused Q)
+wants_memory P Q (Ok x) h = absurd h
+wants_memory P Q (Err (Refused e)) h = absurd h
+wants_memory P Q (Err (Memory e)) h = tt
 
 -- no runs hold no number
 pub none_held : (runs : Runs) (n : ℕ) → runs ≡ [] → Holds runs n → ⊥

@@ -1,7 +1,8 @@
 -- Runs of sets: those of a chain, and that a set has one list of them.
-use Rattle.std.proofs.Common.{◌≡◌, ℕ, ◌<◌, ◌≤◌, ◌↔◌, ◌⊎◌, inl, inr, ⊎_elim, List, [], ◌∷◌, length, get_or, map, refl, sym, ap, subst, arith}
+use Rattle.std.proofs.Common.{◌≡◌, ℕ, suc, ◌+◌, ◌<◌, ◌≤◌, ◌↔◌, ◌⊎◌, inl, inr, ⊎_elim, List, [], ◌∷◌, ◌++◌, length, get_or, map, take, refl, sym, ap, ◌∙◌, subst, arith}
 use Rattle.std.proofs.lemmas.Bool.{cases_lt}
-use Rattle.std.proofs.lemmas.List.{get_or-map, length-map}
+use Rattle.std.proofs.lemmas.List.{append_assoc, get_or-map, length-map, map-append}
+use Rattle.std.proofs.Math.Seq.{take-suc}
 use Rattle.std.proofs.lemmas.List.Elements.{All-map}
 use Rattle.rpki_blocks.specs.Sets.{IsWithin, Covers, IsChain, IsChainOf}
 use Rattle.rpki_blocks.proofs.Chains.{Covers-nil, IsChainOf-from, IsChain-from}
@@ -127,3 +128,14 @@ Holds-decided = Covers-decided (λ b. b)
 -- lists of runs that hold the same numbers are the same
 pub same_numbers : (a b : Runs) → IsRunsOf (Holds a) a → IsRunsOf (Holds b) b → ((n : ℕ) → Holds a n ↔ Holds b n) → a ≡ b
 same_numbers a b ha hb same = IsRunsOf-unique (Holds a) a b ha (IsRunsOf-same b (Holds b) (Holds a) (λ n. ((same n).1, (same n).0)) hb)
+
+-- ---- what a builder has
+
+-- one block more was added, made anew with the bounds of the next
+pub added_next : {T : Type 0} (f : T → ℕ × ℕ) (before : Runs) (made blocks : List T) (i : ℕ) (next new : T) → map f made ≡ before ++ map f (take i blocks)
+    → i < length blocks → next ≡ get_or blocks i next → f new ≡ f next → map f (made ++ new ∷ []) ≡ before ++ map f (take (i + 1) blocks)
+added_next f before made blocks i next new added lt is same =
+    let one : i + 1 ≡ suc i = omega arith in
+    map-append f made (new ∷ []) ∙ ap (λ xs. xs ++ f new ∷ []) added ∙ append_assoc before (map f (take i blocks)) (f new ∷ [])
+    ∙ ap (λ x. before ++ (map f (take i blocks) ++ x ∷ [])) (same ∙ ap f is)
+    ∙ ap (λ xs. before ++ xs) (sym (ap (map f) (ap (λ k. take k blocks) one ∙ take-suc blocks i next lt) ∙ map-append f (take i blocks) (get_or blocks i next ∷ [])))

@@ -50,7 +50,7 @@ impl<T: Block, A: Allocator> BlockSetBuilder<T, A> {
         self.blocks.reserve(blocks.len())?;
         for block in blocks {
             let (min, max) = block.bounds();
-            self.blocks.push(T::new(min, max))?;
+            self.blocks.push_reserved(T::new(min, max));
         }
         Ok(())
     }

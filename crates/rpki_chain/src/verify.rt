@@ -5,6 +5,7 @@ ghost use Rattle.rpki_text.specs.Reading.{AnswersOrMemory};
 ghost use Rattle.rpki_chain.specs.Claims.{claim_by};
 ghost use Rattle.rpki_chain.specs.Paths.{IsIssued, IsExcess, IsCovered, IsUncovered, IsPathResult, IsFirstRefusal, Leaves};
 ghost use Rattle.rpki_chain.specs.Runs.{Holds, IsRunsOf};
+ghost use Rattle.rpki_chain.specs.declared.choice.ResourcesChoice.TheVariants.{Blocks};
 
 use crate::choice::ResourcesChoice;
 use crate::path::{Claims, Overclaim, PathRefusal, Step};
@@ -78,11 +79,23 @@ fn issued_by<T: Block, A: Allocator + Copy>(
     ensures { MatchResult result (IsIssued (Holds set.now) (claim_by (λ set. set.now) claim.entry) mode)
         (IfRefused (IsExcess (Holds set.now) (claim_by (λ set. set.now) claim.entry) mode)) }
 {
-    let listed = match claim {
-        ResourcesChoice::Missing => return Ok(BlockSet::empty()),
-        ResourcesChoice::Inherit => return Ok(shared(set)?),
-        ResourcesChoice::Blocks(listed) => listed,
-    };
+    match claim {
+        ResourcesChoice::Missing => Ok(BlockSet::empty()),
+        ResourcesChoice::Inherit => Ok(shared(set)?),
+        ResourcesChoice::Blocks(listed) => listed_by(set, alloc, listed, mode),
+    }
+}
+
+/// What a claim that lists a set leaves, or the excess.
+fn listed_by<T: Block, A: Allocator + Copy>(
+    set: &BlockSet<T, A>,
+    alloc: A,
+    listed: &BlockSet<T, A>,
+    mode: Overclaim,
+) -> Result<BlockSet<T, A>, OrMemory<BlockSet<T, A>>>
+    ensures { MatchResult result (IsIssued (Holds set.now) (Blocks listed.now) mode)
+        (IfRefused (IsExcess (Holds set.now) (Blocks listed.now) mode)) }
+{
     if set.contains(listed) {
         return Ok(shared(listed)?);
     }

@@ -19,6 +19,10 @@ module _ {B I : Type 0} (f : B → ℕ × ℕ) (number : I → ℕ) (last : ℕ)
   pub block_within : (xs : List B) (at : ℕ) (block : Option (I × I)) (b : I × I) → HoldsBlock f number last xs at block → block ≡ Some b → at < length xs
   block_within xs at block b here is = (subst (HoldsBlock f number last xs at) is here).0
 
+  -- and ends no later than the kind's last number
+  pub block_to_last : (xs : List B) (at : ℕ) (block : Option (I × I)) (b : I × I) → HoldsBlock f number last xs at block → block ≡ Some b → number b.1 ≤ last
+  block_to_last xs at block b here is = (subst (HoldsBlock f number last xs at) is here).2
+
 -- each read halved what is searched, and so took one digit off
 abbrev pub Halved : ℕ → ℕ → ℕ → ℕ → Type 0
 Halved len size old count = (old ≤ count) × ((digits : ℕ) → len < 2 ^ digits → (count ≤ old + digits) × (size * 2 ^ (count - old) < 2 ^ digits))

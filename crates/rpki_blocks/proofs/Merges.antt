@@ -5,7 +5,7 @@ use Rattle.std.proofs.lemmas.List.{drop_more, drop_all, length-append}
 use Rattle.std.specs.Option.{IfSome}
 use Rattle.rpki_blocks.specs.Joining.{IsHeld, IsBehind}
 use Rattle.rpki_blocks.specs.Sets.{IsNew, IsWithin, Covers, IsChain, IsChainOf, HoldsBlock, numbers}
-use Rattle.rpki_blocks.proofs.Chains.{Covers-nil, element_at, IsChainOf-from, IsChain-from}
+use Rattle.rpki_blocks.proofs.Chains.{Covers-nil, IsChain-nil, element_at, IsChainOf-from, IsChain-from}
 use Rattle.rpki_blocks.proofs.Joining.{first_run, closed_run, held_closed}
 use Rattle.rpki_blocks.proofs.Sides.{IsAt, IsAt-from, bounds_of, ordered_at, covers_at}
 use Rattle.rpki_blocks.proofs.Shortest.{IsChain-shortest}
@@ -147,6 +147,20 @@ module _ {B I : Type 0} (f : B → ℕ × ℕ) (form : ℕ × ℕ → B) (number
   merge-ordered xs ys i j own min max other out run is w =
       let side = subst (λ o. Side f form xs i (At o) run) is w.own_side in
       ordered_at f form xs i (numbers number (min, max)) side.chain side.at
+
+  -- and begins no earlier than the run
+  pub merge-later : (xs ys : List B) (i j : ℕ) (own : Option (I × I)) (min max : I) (other : Option (ℕ × ℕ)) (out : List B) (run : ℕ × ℕ) → own ≡ Some (min, max) → Merge f form last xs ys i (At own) j other out run → run.0 ≤ number min
+  merge-later xs ys i j own min max other out run is w = (subst (λ o. Side f form xs i (At o) run) is w.own_side).later
+
+  -- where neither chain has a block, nothing is in the union
+  pub merge-none : (xs ys : List B) (own other : Option (I × I)) → HoldsBlock f number last xs 0 own → HoldsBlock f number last ys 0 other → own ≡ None → other ≡ None → IsChainOf f form (λ n. Covers f xs n ⊎ Covers f ys n) []
+  merge-none xs ys own other at other_at end other_end =
+      let none : 0 ≡ length xs = subst (HoldsBlock f number last xs 0) end at in
+      let other_none : 0 ≡ length ys = subst (HoldsBlock f number last ys 0) other_end other_at in
+      IsChainOf-from f form [] (λ n. Covers f xs n ⊎ Covers f ys n) (IsChain-nil f form) (λ n. (
+        λ c. absurd (Covers-nil f n c),
+        ⊎_elim (λ c. (let lt = c.2 in absurd (omega arith))) (λ c. (let lt = c.2 in absurd (omega arith))),
+      ))
 
   pub merge-start : (xs ys : List B) (own other : Option (I × I)) (run : I × I) → IsChain f form xs → IsChain f form ys → HoldsBlock f number last xs 0 own → HoldsBlock f number last ys 0 other → own ≡ Some run → IfSome other (λ b. number run.0 ≤ number b.0) → Merge f form last xs ys 0 (At own) 0 (At other) [] (numbers number run)
   merge-start xs ys own other run own_chain other_chain at other_at is later =

@@ -34,3 +34,12 @@ returns-in-Err-clause-reads g c =
     let again = rw c.first_overhang.ensures.own_kept at c.common_from.ensures.own_reads in
     let rest = rw c.first_overhang.ensures.other_kept at c.common_from.ensures.other_reads in
     omega arith
+
+pub returns-in-None-clause-reads : goal.returns-in-None-clause-reads
+returns-in-None-clause-reads g c =
+    let own = c.first_overhang.ensures.own_reads in
+    let other = c.first_overhang.ensures.other_reads in
+    omega arith
+
+pub returns-in-Ok-clause-few : goal.returns-in-Ok-clause-few
+returns-in-Ok-clause-few g c = rw (c.first_overhang.ensures.own_kept, c.first_overhang.ensures.other_kept) at c.in-Ok.ensures.few

@@ -1,11 +1,25 @@
 -- Each turn takes in the block that begins first; at the end the last run is closed, and nothing is left.
 use Rattle.std.proofs.Common.{◌∙◌, ap, sym, arith}
 use Rattle.rpki_blocks.specs.Sets.{numbers}
-use Rattle.rpki_blocks.proofs.Counts.{read_first, read_next, block_within}
+use Rattle.rpki_blocks.proofs.Counts.{read_first, read_next, block_within, block_to_last}
 use Rattle.rpki_blocks.proofs.Joining.{closed_run}
-use Rattle.rpki_blocks.proofs.Merges.{Merge-swap, merge-ordered, merge-start, merge-turn, merge-done, closed_union, union_few}
+use Rattle.rpki_blocks.proofs.Merges.{Merge-swap, merge-ordered, merge-later, merge-none, merge-start, merge-turn, merge-done, closed_union, union_few}
 use Rattle.rpki_blocks.proofs.union.union_counted.Goals as goal
 use Rattle.rpki_blocks.proofs.union.union_counted.Goals.{in-Own, in-Other}
+
+pub returns-in-End-clause-union : goal.returns-in-End-clause-union
+returns-in-End-clause-union g c =
+    let own = c.read_at-own_block.ensures in
+    let other = c.read_at-other_block.ensures in
+    rw c.empty.ensures (merge-none g.T.Block.bounds g.T.Block.form g.T.Block.number g.T.Block.last _ _ c.read_at-own_block.result c.read_at-other_block.result own.block other.block c.in-End.ensures.0 c.in-End.ensures.1)
+
+pub returns-in-End-clause-reads : goal.returns-in-End-clause-reads
+returns-in-End-clause-reads g c =
+    let own = c.read_at-own_block.ensures in
+    let other = c.read_at-other_block.ensures in
+    let own_reads = read_first g.T.Block.bounds g.T.Block.number g.T.Block.last _ _ _ _ own.block own.counted in
+    let other_reads = read_first g.T.Block.bounds g.T.Block.number g.T.Block.last _ _ _ _ other.block other.counted in
+    omega arith
 
 pub loop-min-init : goal.loop-min-init
 loop-min-init g c =
@@ -32,8 +46,20 @@ loop-min-init g c =
       other_kept = other.kept;
     }
 
+pub run_with-requires-clause-behind : goal.run_with-requires-clause-behind
+run_with-requires-clause-behind g c = merge-later g.T.Block.bounds g.T.Block.form g.T.Block.number g.T.Block.last _ _ _ _ c.loop-min.own_block _ _ _ _ _ c.in-Own-next_turn.ensures.0 c.loop-min.invariant.walk
+
+pub run_with-requires-clause-to_last : goal.run_with-requires-clause-to_last
+run_with-requires-clause-to_last g c = block_to_last g.T.Block.bounds g.T.Block.number g.T.Block.last _ _ c.loop-min.own_block (c.in-Own-next_turn.min, c.in-Own-next_turn.max) c.loop-min.invariant.own_block c.in-Own-next_turn.ensures.0
+
 pub run_with-requires-clause-ordered : goal.run_with-requires-clause-ordered
 run_with-requires-clause-ordered g c = merge-ordered g.T.Block.bounds g.T.Block.form g.T.Block.number g.T.Block.last _ _ _ _ c.loop-min.own_block _ _ _ _ _ c.in-Own-next_turn.ensures.0 c.loop-min.invariant.walk
+
+pub run_with-requires-in-Other-next_turn-clause-behind : goal.run_with-requires-in-Other-next_turn-clause-behind
+run_with-requires-in-Other-next_turn-clause-behind g c = merge-later g.T.Block.bounds g.T.Block.form g.T.Block.number g.T.Block.last _ _ _ _ c.loop-min.other_block _ _ _ _ _ c.in-Other-next_turn.ensures.0 (Merge-swap g.T.Block.bounds g.T.Block.form g.T.Block.last _ _ _ _ _ _ _ _ c.loop-min.invariant.walk)
+
+pub run_with-requires-in-Other-next_turn-clause-to_last : goal.run_with-requires-in-Other-next_turn-clause-to_last
+run_with-requires-in-Other-next_turn-clause-to_last g c = block_to_last g.T.Block.bounds g.T.Block.number g.T.Block.last _ _ c.loop-min.other_block (c.in-Other-next_turn.min, c.in-Other-next_turn.max) c.loop-min.invariant.other_block c.in-Other-next_turn.ensures.0
 
 pub run_with-requires-in-Other-next_turn-clause-ordered : goal.run_with-requires-in-Other-next_turn-clause-ordered
 run_with-requires-in-Other-next_turn-clause-ordered g c = merge-ordered g.T.Block.bounds g.T.Block.form g.T.Block.number g.T.Block.last _ _ _ _ c.loop-min.other_block _ _ _ _ _ c.in-Other-next_turn.ensures.0 (Merge-swap g.T.Block.bounds g.T.Block.form g.T.Block.last _ _ _ _ _ _ _ _ c.loop-min.invariant.walk)

@@ -43,3 +43,6 @@ returns-in-None-clause-reads g c =
 
 pub returns-in-Ok-clause-few : goal.returns-in-Ok-clause-few
 returns-in-Ok-clause-few g c = rw (c.first_overhang.ensures.own_kept, c.first_overhang.ensures.other_kept) at c.in-Ok.ensures.few
+
+pub common_from-requires : goal.common_from-requires
+common_from-requires g c = rw (c.first_overhang.ensures.own_kept, c.first_overhang.ensures.other_kept) c.in-Some.ensures.value

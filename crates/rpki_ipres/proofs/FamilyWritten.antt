@@ -1,6 +1,6 @@
 -- What is written of sets, alone and behind their family, stands for them, and octets stand for one set at most.
 use Rattle.std.proofs.Common.{◌≡◌, ◌≢◌, ℕ, ◌+◌, ◌<◌, ◌^◌, ◌↔◌, List, [], ◌∷◌, ◌++◌, length, map, refl, sym, ap, subst, ◌∙◌, arith}
-use Rattle.std.proofs.lemmas.List.{append_cancel_left, length-append}
+use Rattle.std.proofs.lemmas.List.{append_assoc, append_cancel_left, length-append}
 use Rattle.rpki_der.specs.Der.{OneFront, header, sequence_value}
 use Rattle.rpki_der.specs.Reading.{tagged_at}
 use Rattle.rpki_der.proofs.Readings.{IsTagged, one_front, tagged_reading}
@@ -23,6 +23,12 @@ use Rattle.rpki_ipres.specs.SetText.{IsFamilySet}
 use Rattle.rpki_ipres.specs.declared.block.IpBlock.{IpBlock}
 use Rattle.rpki_ipres.proofs.SetTextLemmas.{is_ip_set}
 use Rattle.rpki_ipres.proofs.SetWritten.{blocks_say, one_set, set_written, written_as_numbers}
+
+-- what is appended of two behind the header of a SEQUENCE
+pub two_written : (old one two : List ℕ) (n : ℕ) → n ≡ length one + length two → old ++ header 48 n ++ one ++ two ≡ old ++ sequence_value (one ++ two)
+two_written old one two n long =
+    append_assoc (old ++ header 48 n) one two ∙ append_assoc old (header 48 n) (one ++ two)
+    ∙ ap (λ m. old ++ (header 48 m ++ (one ++ two))) (long ∙ sym (length-append one two))
 
 -- a SEQUENCE is longer than what is in it
 content_shorter : (content : List ℕ) → length (sequence_value content) < 2 ^ 64 → length content < 2 ^ 64

@@ -1,6 +1,7 @@
 //! Blocks of whole numbers and chains of them: the ascending list of a set's runs, and the walks over one or two such lists.
 #![tactic(auto)]
 
+mod ascending;
 pub mod block;
 mod build;
 pub mod chain;

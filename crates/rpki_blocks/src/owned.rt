@@ -1,10 +1,11 @@
 //! A chain with the memory that its blocks stand in.
-ghost use Rattle.std.specs.Prelude.{◌≡◌, ℕ, ◌↔◌, List, [], All, IsTrue, IfOk, map};
+ghost use Rattle.std.specs.Prelude.{◌≡◌, ℕ, ◌↔◌, List, [], All, IsTrue, IfOk, OnOk, map};
 ghost use Rattle.rpki_blocks.specs.Equality.{same_runs, chains_per, chains_equiv};
 ghost use Rattle.rpki_blocks.specs.Sets.{Covers, IsNew, IsChain, IsChainOf};
 ghost use Rattle.rpki_blocks.specs.Owned.{owned_blocks, IsOwned};
 ghost use Rattle.rpki_blocks.specs.View.{chain_blocks};
 
+use crate::ascending::join_ascending_into;
 use crate::block::Block;
 use crate::build::join;
 use crate::chain::Chain;
@@ -39,8 +40,13 @@ impl<T: Block, A: Allocator> OwnedChain<T, A> {
         ensures { IfOk result (λ chain.
             IsChainOf T.bounds T.form (Covers T.bounds blocks.now) chain) }
     {
-        let blocks = rebuilt(alloc, blocks)?;
-        Ok(Self::from_vec(blocks))
+        let mut chain = Vec::with_capacity(alloc, blocks.len())?;
+        if join_ascending_into(&mut chain, blocks)? {
+            return Ok(Self::from_vec_unchecked(chain));
+        }
+        chain.clear();
+        rebuild(&mut chain, blocks)?;
+        Ok(Self::from_vec(chain))
     }
 
     /// The chain of the numbers that the blocks cover. They may come in any order and may overlap. It is made in their
@@ -82,22 +88,24 @@ impl<T: Block, A: Allocator> OwnedChain<T, A> {
         let Some(blocks) = &self.blocks else {
             return Ok(Self::empty());
         };
-        let blocks = rebuilt(alloc, blocks.as_slice())?;
-        Ok(Self::from_vec_unchecked(blocks))
+        let mut copy = Vec::with_capacity(alloc, blocks.len())?;
+        rebuild(&mut copy, blocks.as_slice())?;
+        Ok(Self::from_vec_unchecked(copy))
     }
 }
 
-/// Blocks made anew, each of its bounds. So a block in the form that `new` gives comes out as it was.
-fn rebuilt<T: Block, A: Allocator>(alloc: A, blocks: &[T]) -> Result<Vec<T, A>, AllocError>
-    ensures bounds { IfOk result (λ v. map T.bounds v.items ≡ map T.bounds blocks.now) }
-    ensures same { IfOk result (λ v. All (IsNew T.bounds T.form) blocks.now → v.items ≡ blocks.now) }
+/// Puts blocks that are made anew, each of its bounds, into an empty vector. So a block in the form that `new` gives comes
+/// out as it was.
+fn rebuild<T: Block, A: Allocator>(new: &mut Vec<T, A>, blocks: &[T]) -> Result<(), AllocError>
+    requires { new.old.items ≡ [] }
+    ensures bounds { OnOk result (map T.bounds new.new.items ≡ map T.bounds blocks.now) }
+    ensures same { OnOk result (All (IsNew T.bounds T.form) blocks.now → new.new.items ≡ blocks.now) }
 {
-    let mut new = Vec::with_capacity(alloc, blocks.len())?;
     for block in blocks {
         let (min, max) = block.bounds();
         new.push(T::new(min, max))?;
     }
-    Ok(new)
+    Ok(())
 }
 
 impl<T: Block, A: Allocator> PartialEq for OwnedChain<T, A> {

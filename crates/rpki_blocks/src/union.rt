@@ -46,7 +46,7 @@ fn next_turn<T: Block>(
 
 /// The run at hand once the next bounds are taken in: the run over both where they overlap or touch. Else the run is
 /// closed, which puts its block behind the chain, and the next bounds are the run at hand.
-fn run_with<T: Block, A: Allocator>(
+pub fn run_with<T: Block, A: Allocator>(
     chain: &mut Vec<T, A>,
     run: (T::Item, T::Item),
     next: (T::Item, T::Item),

@@ -63,8 +63,7 @@ impl<T: Block, A: Allocator> BlockSet<T, A> {
         T: Copy,
         ensures { IfOk result (IsRunsOfBlocks T.bounds blocks.now) }
     {
-        let blocks = Vec::from_slice(alloc, blocks)?;
-        Self::from_vec(alloc, blocks)
+        Self::from_owned(alloc, OwnedChain::from_blocks(alloc, blocks)?)
     }
 
     /// The set of the items that some block has, made in the memory of the blocks, which may come in any order and may

@@ -1,7 +1,7 @@
 -- The blocks passed were made anew, each of its bounds.
 use Rattle.std.proofs.Common.{◌≡◌, All, map, take}
 use Rattle.rpki_blocks.specs.Sets.{IsNew}
-use Rattle.rpki_blocks.proofs.owned.rebuilt.Given as goal
+use Rattle.rpki_blocks.proofs.owned.rebuild.Given as goal
 
 abbrev pub invariant-loop-block : goal.invariant-loop-block
 invariant-loop-block g l = record {

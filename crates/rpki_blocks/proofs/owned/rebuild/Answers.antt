@@ -3,7 +3,7 @@ use Rattle.std.proofs.Common.{◌≡◌, ◌+◌, ◌++◌, ◌∷◌, [], ap, s
 use Rattle.std.proofs.lemmas.List.{take_all, take_more}
 use Rattle.rpki_blocks.specs.Sets.{IsNew}
 use Rattle.rpki_blocks.proofs.Sorts.{map-push_taken}
-use Rattle.rpki_blocks.proofs.owned.rebuilt.Goals as goal
+use Rattle.rpki_blocks.proofs.owned.rebuild.Goals as goal
 
 pub loop-block-preserved : goal.loop-block-preserved
 loop-block-preserved g c =

@@ -1,0 +1,44 @@
+-- Each turn takes in the next block; and the last run is closed in the end.
+use Rattle.std.proofs.Common.{◌≡◌, ℕ, ◌↔◌, ◌⊎◌, ◌∙◌, ap, subst, sym, arith}
+use Rattle.std.proofs.lemmas.List.{take_all}
+use Rattle.rpki_blocks.specs.Joining.{IsHeld}
+use Rattle.rpki_blocks.specs.Sets.{IsWithin, numbers}
+use Rattle.rpki_blocks.proofs.Joining.{taken_more, closed_run, held_closed}
+use Rattle.rpki_blocks.proofs.ascending.join_ascending_into.Goals as goal
+
+pub loop-at-preserved : goal.loop-at-preserved
+loop-at-preserved g c =
+    let f = g.T.Block.bounds in
+    let number = g.T.Block.number in
+    let blocks = c.args.blocks.now in
+    let block = c.index-blocks-at.result in
+    let low = c.bounds-next.ensures.min in
+    let high = c.bounds-next.ensures.max in
+    let step = c.in_ok-run.ensures in
+    let new = c.run_with.new.chain.items in
+    let made = numbers number c.in_ok-run.run' in
+    let held = IsHeld f c.loop-at.chain.items (numbers number c.loop-at.run) in
+    let same : numbers number c.bounds-next.result ≡ f block = λ i. (low i, high i) in
+    let taken : (n : ℕ) → IsHeld f new made n ↔ (held n ⊎ IsWithin (f block) n) =
+    subst (λ (b : ℕ × ℕ). (n : ℕ) → IsHeld f new made n ↔ (held n ⊎ IsWithin b n)) same step.held in
+    let test = c.loop-at-test.true in
+    record {
+      within = omega arith;
+      run = step.run;
+      held = taken_more held (IsHeld f new made) f blocks c.loop-at.at block (omega arith) c.index-blocks-at.is taken c.loop-at.invariant.held;
+    }
+
+pub returns-clause-chain : goal.returns-clause-chain
+returns-clause-chain g c = λ _.
+    let form = g.T.Block.form in
+    rw c.in_ok-push.ensures.items (closed_run g.T.Block.bounds form g.T.Block.last c.loop-at.chain.items (numbers g.T.Block.number c.loop-at.run) c.loop-at.invariant.run c.new.result c.new.ensures.bounds (c.new.ensures.value ∙ ap form (sym c.new.ensures.bounds)))
+
+pub returns-clause-covers : goal.returns-clause-covers
+returns-clause-covers g c = λ _ n.
+    let f = g.T.Block.bounds in
+    let form = g.T.Block.form in
+    let test = c.loop-at-test.false in
+    let within = c.loop-at.invariant.within in
+    let before = rw (take_all c.loop-at.at c.args.blocks.now (omega arith)) at (c.loop-at.invariant.held n) in
+    let closed = held_closed f form g.T.Block.last c.loop-at.chain.items (numbers g.T.Block.number c.loop-at.run) c.loop-at.invariant.run c.new.result c.new.ensures.bounds (c.new.ensures.value ∙ ap form (sym c.new.ensures.bounds)) n in
+    rw c.in_ok-push.ensures.items (λ h. before.0 (closed.0 h), λ h. closed.1 (before.1 h))

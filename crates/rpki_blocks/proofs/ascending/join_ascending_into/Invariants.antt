@@ -1,0 +1,15 @@
+-- The runs closed and the run at hand hold what the blocks passed cover.
+use Rattle.std.proofs.Common.{ℕ, ◌≤◌, ◌↔◌, take, length}
+use Rattle.rpki_blocks.specs.Joining.{IsHeld, IsBehind}
+use Rattle.rpki_blocks.specs.Sets.{Covers, numbers}
+use Rattle.rpki_blocks.proofs.ascending.join_ascending_into.Given as goal
+
+abbrev pub invariant-loop-at : goal.invariant-loop-at
+invariant-loop-at g l =
+    let f = g.T.Block.bounds in
+    let number = g.T.Block.number in
+    record {
+      within : l.at ≤ length l.blocks;
+      run : IsBehind f g.T.Block.form g.T.Block.last l.chain.items (numbers number l.run);
+      held : (n : ℕ) → IsHeld f l.chain.items (numbers number l.run) n ↔ Covers f (take l.at l.blocks) n;
+    }

@@ -1,5 +1,5 @@
 -- What is printed of a list of blocks is read as blocks of their bounds.
-use Rattle.std.proofs.Common.{◌≡◌, ℕ, zero, suc, ◌/◌, ◌%◌, ◌^◌, ◌≤◌, ◌<◌, ◌==◌, inl, inr, List, [], ◌∷◌, ◌++◌, length, map, codes, decimal, Some, Result, Ok, Err, MatchResult, All, refl, sym, ap, ◌∙◌, subst, arith, lit<, lit≤}
+use Rattle.std.proofs.Common.{◌≡◌, ℕ, zero, suc, ◌/◌, ◌%◌, ◌^◌, ◌≤◌, ◌<◌, ◌==◌, inl, inr, List, [], ◌∷◌, ◌++◌, length, map, codes, decimal, Some, Result, Ok, Err, MatchResult, All, refl, sym, ap, ◌∙◌, subst, arith, lit<, lit≤, Contains}
 use Rattle.std.specs.Int.{IsInRange}
 use Rattle.std.specs.List.{AllByRecursion, flat_map}
 use Rattle.std.proofs.NetLemmas.Alphabet.{IsDigitOrDot, All-ipv4_text}
@@ -27,11 +27,15 @@ use Rattle.rpki_ip.specs.declared.family.AddressFamily.{AddressFamily}
 use Rattle.rpki_ip.specs.declared.family.AddressFamily.TheVariants.{Ipv4, Ipv6}
 use Rattle.rpki_ipres.specs.BlockText.{IsIpBlockText}
 use Rattle.rpki_ipres.specs.Blocks.{ip_bounds}
-use Rattle.rpki_ipres.specs.ListText.{HasByte, dot, colon, IsForeign, IsElementText, HasBlocks, HasBlocksFault, IsFamilyOf, HasIpBlocks, HasIpBlocksFault}
+use Rattle.rpki_ipres.specs.ListText.{dot, colon, IsForeign, IsElementText, HasBlocks, HasBlocksFault, IsFamilyOf, HasIpBlocks, HasIpBlocksFault}
 use Rattle.rpki_ipres.specs.PrintedBlocks.{ip_block_text, block_list_text, IsBlockOf}
 use Rattle.rpki_ipres.specs.declared.block.IpBlock.{IpBlock}
 use Rattle.rpki_ipres.specs.declared.block.IpBlock.TheVariants.{Prefix, Range}
 use Rattle.rpki_ipres.proofs.PrintedLemmas.{written_of, prefix_of}
+
+-- a byte b stands in the text
+abbrev HasByte : ℕ → List ℕ → Type 0
+HasByte b text = Contains text b
 
 -- a byte stands in a text that is split at it
 byte_there : (b : ℕ) (front back : List ℕ) → HasByte b (front ++ b ∷ back)

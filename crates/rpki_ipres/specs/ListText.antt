@@ -1,5 +1,5 @@
 -- Texts of lists of blocks of addresses.
-use Rattle.std.specs.Prelude.{◌≡◌, ℕ, ◌<◌, ◌⊎◌, List, Some, length, slice_index}
+use Rattle.std.specs.Prelude.{◌≡◌, ℕ, ◌⊎◌, List, Some, Contains}
 use Rattle.rpki_text.specs.Lists.{elements, HaveValues, HasFirstFault}
 use Rattle.rpki_ip.specs.declared.error.FromStrError.{FromStrError}
 use Rattle.rpki_ip.specs.declared.error.FromStrError.TheVariants.{FamilyMismatch}
@@ -16,14 +16,10 @@ dot = 46
 abbrev pub colon : ℕ
 colon = 58
 
--- a byte b stands in the text
-abbrev pub HasByte : ℕ → List ℕ → Type 0
-HasByte b text = (i : ℕ) × (i < length text) × (slice_index text i ≡ b)
-
 -- the element is taken for one of the other family: in a list of IPv4 by a colon, in one of IPv6 by a dot and no colon
 abbrev pub IsForeign : AddressFamily → List ℕ → Type 0
-IsForeign Ipv4 text = HasByte colon text
-IsForeign Ipv6 text = HasByte dot text × ¬ HasByte colon text
+IsForeign Ipv4 text = Contains text colon
+IsForeign Ipv6 text = Contains text dot × ¬ Contains text colon
 
 -- an element of a list of the family
 abbrev pub IsElementText : AddressFamily → List ℕ → IpBlock → Type 0
@@ -44,7 +40,7 @@ HasBlocksFault family text e = HasFirstFault (IsElementText family) (HasElementF
 
 -- the family of a list that tells none: IPv6 if a colon stands anywhere in it, and else IPv4
 abbrev pub IsFamilyOf : List ℕ → AddressFamily → Type 0
-IsFamilyOf text family = (HasByte colon text × (family ≡ Ipv6)) ⊎ ((¬ HasByte colon text) × (family ≡ Ipv4))
+IsFamilyOf text family = (Contains text colon × (family ≡ Ipv6)) ⊎ ((¬ Contains text colon) × (family ≡ Ipv4))
 
 -- in such a list, each element that writes no block of the family is taken for one of the other
 abbrev pub HasMismatch : AddressFamily → List ℕ → FromStrError → Type 0

@@ -2,13 +2,12 @@
 //!
 //! A text is read as one of IPv4, as one of IPv6, or as one of either family. A block is printed as one of IPv4, by the
 //! first 32 bits of its bounds, or as one of IPv6.
-ghost use Rattle.std.specs.Prelude.{◌≡◌, ◌↔◌, IsTrue, Some, MatchResult};
+ghost use Rattle.std.specs.Prelude.{◌≡◌, ◌↔◌, IsTrue, Some, Contains, MatchResult};
 ghost use Rattle.std.specs.Fmt.{WritesOnOk};
 ghost use Rattle.rpki_text.specs.Reading.{Answers};
 ghost use Rattle.rpki_ip.specs.declared.family.AddressFamily.TheVariants.{Ipv4, Ipv6};
 ghost use Rattle.rpki_ipres.specs.BlockText.{IsIpBlockText, HasIpBlockFault};
 ghost use Rattle.rpki_ipres.specs.Blocks.{ip_bounds};
-ghost use Rattle.rpki_ipres.specs.ListText.{HasByte};
 ghost use Rattle.rpki_ipres.specs.PrintedBlocks.{ip_block_text, IsBlockOf, ReadsIpBlock};
 
 use crate::block::IpBlock;
@@ -21,7 +20,7 @@ use std::str::FromStr;
 
 /// Whether the ASCII character stands in the text.
 pub(crate) fn has_byte(byte: u8, text: &str) -> bool
-    ensures { IsTrue result ↔ HasByte byte text.now }
+    ensures { IsTrue result ↔ Contains text.now byte }
 {
     text.as_bytes().contains(&byte)
 }

@@ -1,8 +1,5 @@
 -- The resources of a family that a text writes.
-use Rattle.std.proofs.Common.{◌≡◌, ◌≢◌, ℕ, List, [], ◌∷◌, Result, Ok, Err, MatchResult, codes, eqb}
-use Rattle.std.specs.Bool.{Decides}
-use Rattle.std.specs.Cmp.Lexicographic.{pointwise, pointwise_decides}
-use Rattle.std.proofs.lemmas.Bool.{eqb-true, eq-eqb}
+use Rattle.std.proofs.Common.{◌≢◌, ℕ, List, [], ◌∷◌, Result, Ok, Err, MatchResult, codes}
 use Rattle.rpki_chain.specs.Claims.{Claim}
 use Rattle.rpki_ip.specs.declared.error.FromStrError.{FromStrError}
 use Rattle.rpki_ip.specs.declared.family.AddressFamily.{AddressFamily}
@@ -11,10 +8,6 @@ use Rattle.rpki_text.specs.Memory.{IfRefused}
 use Rattle.rpki_text.specs.declared.memory.OrMemory.{OrMemory}
 use Rattle.rpki_text.specs.declared.memory.OrMemory.TheVariants.{Refused, Memory}
 use Rattle.rpki_lines.specs.Der.{HasIpResourcesFault, IsIpResourcesText, IsListed}
-
--- whether a text is `inherit` is what its comparison tells
-pub inherit_decides : (text : List ℕ) → Decides (pointwise eqb text (codes "inherit")) (text ≡ codes "inherit")
-inherit_decides text = pointwise_decides {E = eqb} (λ a b. (eqb-true a b, eq-eqb a b)) text (codes "inherit")
 
 module _ (family : AddressFamily) (list : List ℕ) (other : list ≢ codes "inherit") where
   listed_claim : (claim : Claim) → IsListed family list claim → IsIpResourcesText family list claim

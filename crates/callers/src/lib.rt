@@ -1,6 +1,16 @@
 //! Proved callers of the libraries, each a short function with a contract of its own: what a reader of certificates, a
 //! maker of route origin authorizations and router filters, a router's cache and a protocol that carries texts ask of
 //! these libraries. They rest on the contracts of public calls alone; `docs/CALLING.md` shows them.
+//!
+//! The program `callers_run` calls each of them:
+//!
+//! ```rust
+//! match callers::issued::verified_octets(alloc, issuer, numbers, addresses, mode) {
+//!     Ok(set) => print::value(alloc, set),
+//!     Err(OrMemory::Refused(reason)) => refused(alloc, reason),
+//!     Err(OrMemory::Memory(error)) => Err(error.into()),
+//! }
+//! ```
 #![tactic(auto)]
 
 pub mod builders;

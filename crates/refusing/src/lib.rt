@@ -2,17 +2,12 @@
 //! is told to.
 //!
 //! [`refuse_in_turn`] runs something with request 0 refused, then with request 1, and so on up to a
-//! run that met no refusal, and looks at how each run ended:
+//! run that met no refusal, and looks at how each run ended, as the program `rows` does:
 //!
 //! ```rust
-//! let refused = refuse_in_turn(rt.alloc(), 1000, |refusing: &Refusing| {
-//!     match read_list(refusing, text) {
-//!         Ok(list) if is_wanted(&list) => Outcome::Expected,
-//!         Err(OrMemory::Memory(_)) => Outcome::OutOfMemory,
-//!         _ => Outcome::Unexpected,
-//!     }
+//! let refused = refuse_in_turn(alloc, limit(line), |refusing: &Refusing| {
+//!     outcome(refusing, line, text)
 //! });
-//! assert!(rt; refused.is_ok());
 //! ```
 //!
 //! A test that wants one plan makes a [`Refusing`] round the allocator that it was given, and hands

@@ -1,5 +1,13 @@
 //! The engine of the program `respath`: it reads an input whole, and then answers each line of it. What a line is
 //! answered is no affair of its own ([`rpki_lines::answer`]).
+//!
+//! The program runs it over the standard streams:
+//!
+//! ```rust
+//! let mut reader = FromRead::new(rt.stdin());
+//! let mut writer = IntoWrite::new(buffered);
+//! run(rt.alloc(), &mut reader, &mut writer)
+//! ```
 #![tactic(auto)]
 
 pub mod adapters;

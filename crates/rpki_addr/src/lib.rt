@@ -1,4 +1,12 @@
 //! Addresses of IPv4 and of IPv6 and their texts (RFC 791, RFC 4291, RFC 5952).
+//!
+//! Addresses are made of their bits, and put into other types, as in `rpki_tests::addresses`:
+//!
+//! ```rust
+//! let v4 = Ipv4Addr::from_bits(0x0a01_0203);
+//! let addr = Addr::from(v4);
+//! same(&rt, addr, Addr::from(IpAddr::V4(v4)));
+//! ```
 #![tactic(auto)]
 
 pub mod addr;

@@ -1,4 +1,13 @@
 //! Blocks of AS numbers and sets of them (RFC 3779, 3), with their texts.
+//!
+//! Resources are built block by block, as in `callers::builders::listed_in_the_end`:
+//!
+//! ```rust
+//! let mut builder: AsResourcesBuilder<A> = AsResourcesBuilder::new(alloc);
+//! builder.inherit();
+//! builder.blocks(|blocks| blocks.push(block))?;
+//! builder.finalize()
+//! ```
 #![tactic(auto)]
 
 pub mod block;

@@ -1,5 +1,14 @@
 //! What every layer above shares: number texts, addresses, AS numbers, lists of texts, sequences in DER, and the
 //! answer of a call that may want memory.
+//!
+//! The AS number behind another is asked for where there is one, as in `callers::conditions::behind`:
+//!
+//! ```rust
+//! if asn == Asn::MAX {
+//!     return None;
+//! }
+//! Some(asn.add(1))
+//! ```
 #![tactic(auto)]
 
 pub mod asn;

@@ -2,6 +2,16 @@
 //!
 //! A lawful [`block::Block`] is all that a kind of number has to bring; chains, sets and their builder are
 //! proved once, over every such kind.
+//!
+//! An issuer's set is asked for what is claimed of it, as in `callers::issued`:
+//!
+//! ```rust
+//! match issuer.verify_issued(alloc, &claim, mode) {
+//!     Ok(set) => Ok(set),
+//!     Err(OrMemory::Refused(excess)) => Err(OrMemory::Refused(Unverified::Asn(excess))),
+//!     Err(OrMemory::Memory(error)) => Err(OrMemory::Memory(error)),
+//! }
+//! ```
 #![tactic(auto)]
 
 pub mod builder;

@@ -1,4 +1,12 @@
 //! Shortest covers of ranges of numbers by prefixes.
+//!
+//! The prefixes of a set of addresses come from it, one after the other, as in `callers::filters::v4_filter`:
+//!
+//! ```rust
+//! for prefix in set.prefixes() {
+//!     list.push(prefix)?;
+//! }
+//! ```
 #![tactic(auto)]
 
 pub mod cover;

@@ -4,6 +4,14 @@
 //! Values have a tag of one octet and a definite length in the fewest octets. A [`Cursor`] takes
 //! them one after another, and a refused take leaves it where it was. A [`Content`] is read by the
 //! rule of its type: INTEGER, BIT STRING, OCTET STRING, NULL or SEQUENCE. Nothing is copied.
+//!
+//! Octets are read by a cursor, and refused where some are left, as in `callers::certificates::read_as`:
+//!
+//! ```rust
+//! let mut cursor = Cursor::new(octets);
+//! let resources = AsResources::take_from(alloc, &mut cursor)?;
+//! cursor.finish()?;
+//! ```
 #![tactic(auto)]
 
 mod content;

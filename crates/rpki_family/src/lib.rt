@@ -1,4 +1,11 @@
 //! Blocks and sets of addresses of one family, with their texts.
+//!
+//! Sets are joined, as in `callers::sets::union_of_three`:
+//!
+//! ```rust
+//! let both = one.union(alloc, two)?;
+//! both.union(alloc, three)
+//! ```
 #![tactic(auto)]
 
 mod common;

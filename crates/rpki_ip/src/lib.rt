@@ -1,4 +1,14 @@
 //! Addresses of both families as numbers, their prefixes and ranges (RFC 3779, section 2), and the texts of these.
+//!
+//! A range is read, and becomes the fewest prefixes, as in the program `rows`:
+//!
+//! ```rust
+//! match AddressRange::from_v6_str(text) {
+//!     Ok(range) if kind == "v4" => list(alloc, AddressFamily::Ipv4, range.to_v4_prefixes()),
+//!     Ok(range) => list(alloc, AddressFamily::Ipv6, range.to_v6_prefixes()),
+//!     Err(fault) => print::error(alloc, fault),
+//! }
+//! ```
 #![tactic(auto)]
 
 pub mod addr;

@@ -1,4 +1,12 @@
 //! Blocks of IP addresses, sets of them and resources (RFC 3779, 2), with their texts and their DER.
+//!
+//! Resources of both families are written, as in the program `holdings`:
+//!
+//! ```rust
+//! let mut octets = Vec::new(alloc);
+//! IpResources::encode_families(v4, v6, &mut octets)?;
+//! Ok(Some(octets))
+//! ```
 #![tactic(auto)]
 
 pub mod block;

@@ -1,4 +1,11 @@
 //! What a line is answered: a command is looked up by the line's first word, and its answer is one line of text.
+//!
+//! A line has one answer, to which the engine adds its end:
+//!
+//! ```rust
+//! let mut text = answer(alloc, line)?;
+//! text.push('\n')?;
+//! ```
 #![tactic(auto)]
 
 ghost use Rattle.std.specs.Prelude.{IfOk};

@@ -1,4 +1,14 @@
 //! Prefixes of IPv4 and IPv6 addresses, with a greatest length or without, as routing and route origins have them.
+//!
+//! The prefixes that cover a route are found in a table, as in `callers::cache::covering`:
+//!
+//! ```rust
+//! for prefix in table {
+//!     if prefix.covers(route) {
+//!         found.push(*prefix)?;
+//!     }
+//! }
+//! ```
 #![tactic(auto)]
 
 pub mod error;

@@ -2,6 +2,14 @@
 //!
 //! [`resources::addr`], [`resources::asn`] and [`repository::resources`] name every type where a user of the Rust crate
 //! `rpki` looks for it.
+//!
+//! A set is read from three lists, as in the program `callers_run`:
+//!
+//! ```rust
+//! let (asn, addresses) = cut(lists, ';');
+//! let (ipv4, ipv6) = cut(addresses, ';');
+//! ResourceSet::from_strs(alloc, asn, ipv4, ipv6)
+//! ```
 #![tactic(auto)]
 
 mod claims;

@@ -1,4 +1,14 @@
 //! Texts: what a reader answers, number texts, lists of texts, and the answer of a call that may want memory.
+//!
+//! A refusal and want of memory are told apart, as in `callers::errors::fault_of`:
+//!
+//! ```rust
+//! match AsBlocks::from_str(alloc, list) {
+//!     Ok(_) => Ok(None),
+//!     Err(OrMemory::Refused(fault)) => Ok(Some(fault)),
+//!     Err(OrMemory::Memory(error)) => Err(error),
+//! }
+//! ```
 #![tactic(auto)]
 
 pub mod list;

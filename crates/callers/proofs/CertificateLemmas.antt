@@ -1,8 +1,8 @@
 -- What a take at the front of octets, and then their end, tell of all of them.
 use Rattle.std.proofs.Common.{arith, ◌≡◌, ◌≢◌, ℕ, length, List, [], ◌∷◌, MatchResult, IsErr, Result, Ok, Err, refl, sym, subst, ◌∙◌}
 use Rattle.std.proofs.lemmas.Bool.{ne_eqb}
-use Rattle.std.proofs.lemmas.List.{append-nil}
-use Rattle.rpki_der.specs.Der.{Front, NoFront, OneFront}
+use Rattle.rpki_der.specs.Der.{HasNone, NoFront}
+use Rattle.rpki_der.specs.Fronts.{none_where_no_front}
 use Rattle.rpki_der.specs.Reading.{ended}
 use Rattle.rpki_der.specs.declared.error.DerError.{DerError}
 use Rattle.rpki_text.specs.Memory.{IfRefused}
@@ -14,7 +14,7 @@ use Rattle.rpki_chain.specs.Paths.{IsPathResult}
 use Rattle.rpki_chain.specs.Runs.{Runs, Holds}
 use Rattle.rpki_chain.specs.declared.path.Step.{Step}
 use Rattle.rpki_resources.specs.Triples.{HasEachOf, Triple}
-use Rattle.callers.specs.Certificates.{HasNone, IsLeftInEach}
+use Rattle.callers.specs.Certificates.{IsLeftInEach}
 
 -- the end was seen
 pub nothing_left : (octets : List ℕ) (u : Unit {0}) → ended octets ≡ Ok u → octets ≡ []
@@ -28,20 +28,11 @@ pub something_left : (octets : List ℕ) (fault : DerError) → ended octets ≡
 something_left [] fault e = cc
 something_left (octet ∷ octets) fault e = λ n. cc
 
-module _ {X : Type 0} (G : List ℕ → X → Type 0) (octets : List ℕ) where
-  -- nothing is left behind the value
-  pub whole_value : (x : X) → Front G octets x [] → G octets x
-  whole_value x front = subst (λ bytes. G bytes x) (sym (front.2 ∙ append-nil front.0)) front.1
-
-  -- no value stands at the front
-  pub none_in_front : (e : OrMemory DerError) → IfRefused (λ _. NoFront G octets) e → IfRefused (λ _. HasNone G octets) e
-  none_in_front (Refused fault) none = λ y is. none y [] (octets, is, sym (append-nil octets))
-  none_in_front (Memory error) none = tt
-
-  -- octets are left behind the value
-  pub none_before_more : OneFront G → (x : X) (rest : List ℕ) → Front G octets x rest → rest ≢ [] → HasNone G octets
-  none_before_more one x rest front some y is =
-      some (one front.0 octets x y rest [] front.1 is (sym front.2 ∙ sym (append-nil octets))).2
+-- no value stands at the front
+pub none_in_front : {X : Type 0} (G : List ℕ → X → Type 0) (octets : List ℕ) (e : OrMemory DerError)
+    → IfRefused (λ _. NoFront G octets) e → IfRefused (λ _. HasNone G octets) e
+none_in_front G octets (Refused fault) none = none_where_no_front G octets none
+none_in_front G octets (Memory error) none = tt
 
 -- what is passed on is said of the answer
 pub passed_on : {X E : Type 0} (Q : X → Type 0) (P : E → Type 0) (e : OrMemory E) (answer : Result X (OrMemory E))

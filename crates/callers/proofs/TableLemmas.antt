@@ -1,45 +1,18 @@
 -- Prefixes that were sorted and freed of duplicates, and those that were found to cover a route.
-use Rattle.std.proofs.Common.{rules, arith, ◌≡◌, ◌↔◌, ℕ, suc, ◌+◌, ◌<◌, length, get_or, Bool, true, false, inl, inr, List, [], ◌∷◌, ◌++◌, take, Contains, IsTrue, eqb, refl, sym, ap, ap₂, ◌∙◌, subst}
-use Rattle.std.proofs.lemmas.Bool.{and_parts, eqb-true}
+use Rattle.std.proofs.Common.{arith, ◌≡◌, ◌↔◌, ℕ, suc, ◌+◌, ◌<◌, length, get_or, Bool, inl, inr, List, [], ◌∷◌, ◌++◌, take, Contains, IsTrue, refl, sym, ap, ◌∙◌, subst}
 use Rattle.std.proofs.lemmas.Cmp.{tied_itself}
 use Rattle.std.proofs.lemmas.List.Elements.{Contains-append_left, Contains-push, Contains-push_cases}
 use Rattle.std.proofs.lemmas.List.Filters.{dedup_is}
 use Rattle.std.proofs.lemmas.List.Kept.{Contains-dedup, Contains-from_dedup, IsStrictlySortedBy-dedup}
 use Rattle.std.proofs.lemmas.List.Sorted.{Contains-permutation, IsPermutation-sym}
 use Rattle.std.proofs.Math.Seq.{take-suc}
-use Rattle.std.specs.Cmp.{IsEquivalence, IsTotalOrder, both_ways}
-use Rattle.std.specs.Cmp.Rules.{comparing}
+use Rattle.std.specs.Cmp.{Equal-is, IsEquivalence, IsTotalOrder, both_ways}
 use Rattle.std.specs.List.Retain.{IsFiltered, DiffersFromLast}
 use Rattle.std.specs.List.Sorted.{IsPermutation, IsSorted, IsStrictlySortedBy}
 use Rattle.std.specs.Ordering.{eq_by_cmp, is_eq}
-use Rattle.rpki_addr.specs.declared.addr.IpAddr.{IpAddr}
-use Rattle.rpki_addr.specs.declared.addr.IpAddr.TheVariants.{V4, V6}
+use Rattle.std.specs.declared.cmp.Ordering.TheVariants.{Equal}
 use Rattle.rpki_prefix.specs.Order.{prefix_cmp}
-use Rattle.rpki_prefix.specs.OrderLaws.{prefix_ties}
 use Rattle.rpki_prefix.specs.Values.{CoversPrefix, FamilyPrefix}
-
-total : IsTotalOrder prefix_cmp
-total = Prim.search (comparing, rules) depth 9
-
--- a test of whether two addresses are one
-abbrev same_addr : IpAddr → IpAddr → Bool
-same_addr (V4 m) (V4 n) = eqb m n
-same_addr (V6 m) (V6 n) = eqb m n
-same_addr (V4 m) (V6 n) = false
-same_addr (V6 m) (V4 n) = false
-
-same_addr-true : (a b : IpAddr) → same_addr a b ≡ true → a ≡ b
-same_addr-true (V4 m) (V4 n) e = ap V4 (eqb-true m n e)
-same_addr-true (V6 m) (V6 n) e = ap V6 (eqb-true m n e)
-same_addr-true (V4 m) (V6 n) e = cc
-same_addr-true (V6 m) (V4 n) e = cc
-
--- prefixes at one place in the order are the same
-tied : (p q : FamilyPrefix) → is_eq (prefix_cmp p q) ≡ true → p ≡ q
-tied p q e =
-    let both = and_parts (same_addr p.addr q.addr) (eqb p.len q.len)
-    (prefix_ties same_addr (record { of_v4 = λ m n. refl; of_v6 = λ m n. refl; v4_v6 = λ m n. refl; v6_v4 = λ m n. refl }) p q ∙ e) in
-    ap₂ (λ (a : IpAddr) (k : ℕ). let prefix : FamilyPrefix = record { addr = a; len = k } in prefix) (same_addr-true p.addr q.addr both.0) (eqb-true p.len q.len both.1)
 
 module _ (equal : FamilyPrefix → FamilyPrefix → Bool) (same : (p q : FamilyPrefix) → IsTrue (equal p q) ↔ (p ≡ q)) where
   equivalence : IsEquivalence equal
@@ -49,16 +22,17 @@ module _ (equal : FamilyPrefix → FamilyPrefix → Bool) (same : (p q : FamilyP
     congr = λ p q r e. ap (λ (s : FamilyPrefix). equal s r) ((same p q).0 e);
   }
 
-  ties : (p q : FamilyPrefix) → equal p q ≡ eq_by_cmp prefix_cmp p q
-  ties p q =
-      both_ways (equal p q) (is_eq (prefix_cmp p q))
-      (λ e. ap (λ (r : FamilyPrefix). is_eq (prefix_cmp p r)) (sym ((same p q).0 e)) ∙ ap is_eq (tied_itself total p))
-      (λ e. (same p q).1 (tied p q e))
+  module _ (total : IsTotalOrder prefix_cmp) (tied : (p q : FamilyPrefix) → (prefix_cmp p q ≡ Equal) ↔ (p ≡ q)) where
+    ties : (p q : FamilyPrefix) → equal p q ≡ eq_by_cmp prefix_cmp p q
+    ties p q =
+        both_ways (equal p q) (is_eq (prefix_cmp p q))
+        (λ e. ap (λ (r : FamilyPrefix). is_eq (prefix_cmp p r)) (sym ((same p q).0 e)) ∙ ap is_eq (tied_itself total p))
+        (λ e. (same p q).1 ((tied p q).0 ((Equal-is (prefix_cmp p q)).0 e)))
 
-  -- what is left is in order, each prefix once
-  pub ascending : (sorted left : List FamilyPrefix) → IsSorted prefix_cmp sorted
-      → IsFiltered (DiffersFromLast equal) [] sorted left → IsStrictlySortedBy prefix_cmp left
-  ascending sorted left ascends filtered = rw (dedup_is equal sorted left filtered) (IsStrictlySortedBy-dedup total ties sorted ascends)
+    -- what is left is in order, each prefix once
+    pub ascending : (sorted left : List FamilyPrefix) → IsSorted prefix_cmp sorted
+        → IsFiltered (DiffersFromLast equal) [] sorted left → IsStrictlySortedBy prefix_cmp left
+    ascending sorted left ascends filtered = rw (dedup_is equal sorted left filtered) (IsStrictlySortedBy-dedup total ties sorted ascends)
 
   -- and has the prefixes of the list
   pub members : (list sorted left : List FamilyPrefix) → IsPermutation list sorted → IsFiltered (DiffersFromLast equal) [] sorted left

@@ -1,6 +1,6 @@
--- What octets of certificates aren't, and what a path of claims leaves of a root's resources, kind by kind
+-- What a path of claims leaves of a root's resources, kind by kind
 -- (RFC 3779, 2.3 and 3.3; RFC 6487, 7.2).
-use Rattle.std.specs.Prelude.{ℕ, List}
+use Rattle.std.specs.Prelude.{List}
 use Rattle.rpki_chain.specs.Claims.{Claim}
 use Rattle.rpki_chain.specs.Paths.{IsFirstRefusal, IsPathResult}
 use Rattle.rpki_chain.specs.Runs.{Runs, Holds}
@@ -8,10 +8,6 @@ use Rattle.rpki_chain.specs.declared.path.Step.{Step}
 use Rattle.rpki_resources.specs.Triples.{Triple}
 use Rattle.callers.specs.declared.certificates.Overclaimed.{Overclaimed}
 use Rattle.callers.specs.declared.certificates.Overclaimed.TheVariants.{Asn, Ipv4, Ipv6}
-
--- these octets are no value
-abbrev pub HasNone : {V : Type 0} → (List ℕ → V → Type 0) → List ℕ → Type 0
-HasNone {V} Is octets = (value : V) → ¬ Is octets value
 
 -- the set is what a path of claims leaves of the root's
 abbrev pub IsLeft : Runs → List (Step Claim) → Runs → Type 0

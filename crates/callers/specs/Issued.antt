@@ -1,6 +1,7 @@
 -- What octets of a certificate's extensions claim of an issuer's resources (RFC 3779, 2.3 and 3.3; RFC 6487, 7.2;
 -- RFC 8360, 4).
 use Rattle.std.specs.Prelude.{◌≡◌, ℕ, ◌⊎◌, List, Option, Some, None}
+use Rattle.rpki_der.specs.Der.{HasNone}
 use Rattle.rpki_chain.specs.Claims.{Claim}
 use Rattle.rpki_chain.specs.Paths.{IsExcess, IsIssued}
 use Rattle.rpki_chain.specs.Runs.{Runs, Holds}
@@ -10,7 +11,6 @@ use Rattle.rpki_claims.specs.Families.{ByFamily}
 use Rattle.rpki_as.specs.AsDer.{IsAsResources}
 use Rattle.rpki_ipres.specs.ResourcesDer.{IsIpFamilies}
 use Rattle.rpki_resources.specs.Triples.{Triple}
-use Rattle.callers.specs.Certificates.{HasNone}
 use Rattle.callers.specs.declared.issued.Unverified.{Unverified}
 use Rattle.callers.specs.declared.issued.Unverified.TheVariants.{AsOctets, Asn, AddressOctets, Ipv4, Ipv6}
 

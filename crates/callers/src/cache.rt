@@ -14,7 +14,9 @@ pub fn table<A: Allocator>(alloc: A, prefixes: &[Prefix]) -> Result<Vec<Prefix, 
     ensures members { IfOk result (λ table.
         (p : FamilyPrefix) → Contains table.items p ↔ Contains prefixes.now p) }
 {
-    rpki_prefix::laws::equal_where_the_same(); // so that the proof sees that only duplicates are dropped
+    // so that the proof sees that the order is total, and that only duplicates are dropped
+    rpki_prefix::laws::total_order();
+    rpki_prefix::laws::equal_where_the_same();
     let mut table = Vec::from_slice(alloc, prefixes)?;
     table.sort_unstable();
     table.dedup();

@@ -1,6 +1,7 @@
 //! A reader of certificates: what stands in the two extensions of RFC 3779, and what a path of claims leaves of a root's
 //! resources.
 ghost use Rattle.std.specs.Prelude.{IfOk, IfSome, MatchResult, All};
+ghost use Rattle.rpki_der.specs.Der.{HasNone};
 ghost use Rattle.rpki_text.specs.Memory.{IfRefused};
 ghost use Rattle.rpki_chain.specs.Paths.{IsFirstRefusal, IsPathResult};
 ghost use Rattle.rpki_chain.specs.Runs.{Holds};
@@ -8,7 +9,7 @@ ghost use Rattle.rpki_as.specs.AsDer.{IsAsResources};
 ghost use Rattle.rpki_ipres.specs.Resources.{IsWholeClaim};
 ghost use Rattle.rpki_ipres.specs.ResourcesDer.{IsIpFamilies};
 ghost use Rattle.rpki_resources.specs.Triples.{HasEachOf};
-ghost use Rattle.callers.specs.Certificates.{HasNone, IsFirstOverclaim, IsLeftInEach};
+ghost use Rattle.callers.specs.Certificates.{IsFirstOverclaim, IsLeftInEach};
 
 use rpki_der::{Cursor, DerError};
 use rpki_resources::OrMemory;

@@ -1,12 +1,12 @@
 //! A reader of certificates, from the octets of both extensions of RFC 3779 to the set that the issuer verifies.
 ghost use Rattle.std.specs.Prelude.{◌≡◌, IfOk, IfSome, MatchResult};
+ghost use Rattle.rpki_der.specs.Der.{HasNone};
 ghost use Rattle.rpki_text.specs.Memory.{IfRefused};
 ghost use Rattle.rpki_chain.specs.Paths.{IsIssued};
 ghost use Rattle.rpki_chain.specs.Runs.{Holds};
 ghost use Rattle.rpki_ipres.specs.Resources.{IsWholeClaim};
 ghost use Rattle.rpki_ipres.specs.ResourcesDer.{IsIpFamilies};
 ghost use Rattle.rpki_resources.specs.Triples.{HasEachOf};
-ghost use Rattle.callers.specs.Certificates.{HasNone};
 ghost use Rattle.callers.specs.Issued.{AreAddressesOf, AreClaimed, AreIssued, AreNotAddressesOf, AreNotIssued, AreNotNumbersOf, AreNumbersOf, IsUnverified, IsV4Excess, IsV6Excess, IsVerified, claim_or_missing};
 
 use crate::certificates::{read_as, read_families};

@@ -124,6 +124,10 @@ Front G bytes x rest = (front : List ℕ) × G front x × (bytes ≡ front ++ re
 abbrev pub NoFront : {X : Type 0} → (List ℕ → X → Type 0) → List ℕ → Type 0
 NoFront {X} G bytes = (x : X) (rest : List ℕ) → Front G bytes x rest → ⊥
 
+-- the octets, all of them, are no value of G
+abbrev pub HasNone : {X : Type 0} → (List ℕ → X → Type 0) → List ℕ → Type 0
+HasNone {X} G bytes = (x : X) → ¬ G bytes x
+
 -- octets begin with at most one value of G, which stands for one thing
 abbrev pub OneFront : {X : Type 0} → (List ℕ → X → Type 0) → Type 0
 OneFront {X} G = (a b : List ℕ) (x y : X) (r s : List ℕ) → G a x → G b y → a ++ r ≡ b ++ s → (a ≡ b) × (x ≡ y) × (r ≡ s)

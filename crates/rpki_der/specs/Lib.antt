@@ -1,4 +1,5 @@
 pub mod Der
 pub mod Faults
+pub mod Fronts
 pub mod Reading
 pub mod Views

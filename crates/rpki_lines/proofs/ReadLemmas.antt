@@ -1,7 +1,7 @@
 -- What a take at the front of octets, and then their end, tell of all of them.
-use Rattle.std.proofs.Common.{◌≢◌, ℕ, List, [], Result, Ok, Err, MatchResult, inl, inr, sym, subst, ◌∙◌}
-use Rattle.std.proofs.lemmas.List.{append-nil}
-use Rattle.rpki_der.specs.Der.{Front, NoFront, OneFront}
+use Rattle.std.proofs.Common.{ℕ, List, Result, Ok, Err, MatchResult, inl, inr, subst}
+use Rattle.rpki_der.specs.Der.{HasNone, OneFront}
+use Rattle.rpki_der.specs.Fronts.{none_where_more, none_where_no_front, whole_value}
 use Rattle.rpki_der.specs.Views.{left}
 use Rattle.rpki_der.specs.declared.cursor.Cursor.{Cursor}
 use Rattle.rpki_der.specs.declared.error.DerError.{DerError}
@@ -11,33 +11,20 @@ use Rattle.rpki_text.specs.declared.memory.OrMemory.TheVariants.{Refused, Memory
 use Rattle.rpki_base.specs.DerViews.{ReadsOrMemory}
 use Rattle.rpki_der.specs.Faults.{fault_text}
 use Rattle.rpki_lines.specs.Hexadecimal.{IsHexadecimal}
-use Rattle.rpki_lines.specs.Read.{HasNone, IsEnded, ShowsHexadecimal, ShowsOctets}
+use Rattle.rpki_lines.specs.Read.{IsEnded, ShowsHexadecimal, ShowsOctets}
 use Rattle.rpki_lines.specs.Shown.{ShowsResult}
 use Rattle.rpki_lines.proofs.HexadecimalLemmas.{one_octets}
 
 module _ {X : Type 0} (G : List ℕ → X → Type 0) where
-  -- nothing is left behind the value
-  pub whole_value : (octets : List ℕ) (x : X) → Front G octets x [] → G octets x
-  whole_value octets x front = subst (λ bytes. G bytes x) (sym (front.2 ∙ append-nil front.0)) front.1
-
-  -- no value stands at the front
-  pub none_where_no_front : (octets : List ℕ) → NoFront G octets → (y : X) → ¬ G octets y
-  none_where_no_front octets none y is = none y [] (octets, is, sym (append-nil octets))
-
-  -- octets are left behind the value
-  pub none_where_more : OneFront G → (octets : List ℕ) (x : X) (rest : List ℕ) → Front G octets x rest → rest ≢ [] → (y : X) → ¬ G octets y
-  none_where_more one octets x rest front some y is =
-      some (one front.0 octets x y rest [] front.1 is (sym front.2 ∙ sym (append-nil octets))).2
-
   -- a take and the end behind it
   pub ended_take : OneFront G → (old new : Cursor) (taken : Result X (OrMemory DerError)) → ReadsOrMemory G (λ x. x) old new taken
       → (answer : Result X (OrMemory DerError)) → IsEnded taken (left new) answer
       → MatchResult answer (G (left old)) (IfRefused (λ (fault : DerError). HasNone G (left old)))
   ended_take one old new (Ok x) reads (Ok y) (same, nothing) =
-      rw same (whole_value (left old) x (rw nothing at reads))
-  ended_take one old new (Ok x) reads (Err (Refused fault)) more = none_where_more one (left old) x (left new) reads more
+      rw same (whole_value G (left old) x (rw nothing at reads))
+  ended_take one old new (Ok x) reads (Err (Refused fault)) more = none_where_more G (left old) one x (left new) reads more
   ended_take one old new (Ok x) reads (Err (Memory error)) impossible = absurd impossible
-  ended_take one old new (Err (Refused fault)) reads answer is = rw is (none_where_no_front (left old) reads.0)
+  ended_take one old new (Err (Refused fault)) reads answer is = rw is (none_where_no_front G (left old) reads.0)
   ended_take one old new (Err (Memory error)) reads answer is = rw is tt
 
   module _ (value_text : X → List ℕ) where

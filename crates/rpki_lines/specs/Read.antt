@@ -1,5 +1,6 @@
 -- What `read` answers: the resources that octets in hexadecimal are in DER, or that they are none.
 use Rattle.std.specs.Prelude.{◌≡◌, ◌≢◌, ◌⊎◌, ℕ, List, [], Option, Some, None, Result, Ok, Err, codes}
+use Rattle.rpki_der.specs.Der.{HasNone}
 use Rattle.rpki_der.specs.Faults.{fault_text}
 use Rattle.rpki_der.specs.declared.error.DerError.{DerError}
 use Rattle.rpki_text.specs.declared.memory.OrMemory.{OrMemory}
@@ -15,10 +16,6 @@ use Rattle.rpki_ipres.specs.ResourcesDer.{IsIpFamilies}
 use Rattle.rpki_ipres.specs.SetText.{set_text}
 use Rattle.rpki_lines.specs.Hexadecimal.{IsHexadecimal}
 use Rattle.rpki_lines.specs.Shown.{error_line}
-
--- these octets are no value
-abbrev pub HasNone : {V : Type 0} → (List ℕ → V → Type 0) → List ℕ → Type 0
-HasNone {V} Is octets = (value : V) → ¬ Is octets value
 
 -- what was taken is answered if no octets are left, and else a refusal
 abbrev pub IsEnded : {V : Type 0} → Result V (OrMemory DerError) → List ℕ → Result V (OrMemory DerError) → Type 0

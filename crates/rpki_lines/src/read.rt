@@ -1,13 +1,14 @@
 //! The command `read`: octets in hexadecimal become the resources that they are in DER.
 ghost use Rattle.std.specs.Prelude.{IfOk, ◌≡◌, MatchResult};
 ghost use Rattle.std.specs.String.{string_bytes};
+ghost use Rattle.rpki_der.specs.Der.{HasNone};
 ghost use Rattle.rpki_der.specs.Views.{left};
 ghost use Rattle.rpki_text.specs.Memory.{IfRefused};
 ghost use Rattle.rpki_as.specs.AsDer.{IsAsResources};
 ghost use Rattle.rpki_claims.specs.Families.{of_family};
 ghost use Rattle.rpki_ipres.specs.ResourcesDer.{IsIpFamilies};
 ghost use Rattle.rpki_ipres.specs.SetText.{set_text};
-ghost use Rattle.rpki_lines.specs.Read.{HasNone, IsEnded, IsReadAnswer, IsReadAs, IsReadIp, ShowsFamily, family_text};
+ghost use Rattle.rpki_lines.specs.Read.{IsEnded, IsReadAnswer, IsReadAs, IsReadIp, ShowsFamily, family_text};
 
 use crate::hexadecimal::octets_of;
 use crate::kind::{Kind, kind_named};

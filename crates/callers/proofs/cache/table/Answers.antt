@@ -3,7 +3,7 @@ use Rattle.callers.proofs.TableLemmas.{ascending, members}
 use Rattle.callers.proofs.cache.table.Goals as goal
 
 pub returns-clause-ascending : goal.returns-clause-ascending
-returns-clause-ascending g c = ascending _ c.equal_where_the_same.ensures.prefix _ _ c.sort_unstable.ensures.sorted c.dedup.ensures.filtered
+returns-clause-ascending g c = ascending _ c.equal_where_the_same.ensures.prefix c.total_order.ensures.total c.total_order.ensures.ties _ _ c.sort_unstable.ensures.sorted c.dedup.ensures.filtered
 
 pub returns-clause-members : goal.returns-clause-members
 returns-clause-members g c =

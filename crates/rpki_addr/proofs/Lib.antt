@@ -1,9 +1,11 @@
--- Lemmas on the texts of addresses.
+-- Lemmas on the texts of addresses, and on masks.
+pub mod AddrTextLemmas
 pub mod AddressBytes
 pub mod AddressLemmas
 pub mod AddressReading
 pub mod AddressReads
 pub mod GroupReading
+pub mod Masks
 pub mod PrintLemmas
 pub mod PrintedAddressLemmas
 pub mod Tables

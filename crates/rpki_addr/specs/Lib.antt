@@ -1,6 +1,8 @@
--- Definitions: the texts of addresses, read and printed.
+-- Definitions: the texts of addresses, read and printed, and addresses of either family as numbers of 128 bits.
+pub mod AddrText
 pub mod AddressReading
 pub mod AddressText
+pub mod Bits
 pub mod GroupsRead
 pub mod Orders
 pub mod PrintedAddress

@@ -10,4 +10,5 @@
 #![tactic(auto)]
 
 pub mod addr;
+pub mod bits;
 pub mod laws;

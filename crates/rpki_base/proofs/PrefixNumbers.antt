@@ -1,34 +1,10 @@
--- On masks, which clear or set the last bits of a number, and on the numbers of prefixes.
-use Rattle.std.proofs.Common.{◌≡◌, ℕ, suc, ◌+◌, ◌-◌, ◌*◌, ◌/◌, ◌%◌, ◌^◌, ◌<◌, ◌≤◌, ◌∙◌, ap, arith, inl, inr, bit_and, bit_or}
+-- On the numbers of prefixes.
+use Rattle.std.proofs.Common.{◌≡◌, ℕ, suc, ◌+◌, ◌-◌, ◌*◌, ◌/◌, ◌%◌, ◌^◌, ◌<◌, ◌≤◌, ◌∙◌, ap, arith, inl, inr}
 use Rattle.std.proofs.Math.Nat.{two-pow-succ, pow-le-pow_right}
 use Rattle.std.proofs.lemmas.Bool.{cases_order}
-use Rattle.std.proofs.lemmas.Nat.{pow_pos, pow_below, and_mask, shr_split, mod_below, mod-mul-add}
-use Rattle.std.proofs.lemmas.Nat.Bits.{ones_shr, and_high_mask}
-use Rattle.std.specs.Int.Bits.{or_add_and}
-use Rattle.rpki_base.specs.Prefixes.{PrefixValue, IsPrefix, IsIn, cleared}
-
--- `n & !m` of w bits, where the last k bits of m are set and no other, clears the last k bits
-pub clear_host : (w k n m : ℕ) → k ≤ w → n < 2 ^ w → m + 1 ≡ 2 ^ k → bit_and n (2 ^ w - 1 - m) ≡ n / 2 ^ k * 2 ^ k
-clear_host w k n m within below mask =
-    let most : 2 ^ k ≤ 2 ^ w = pow-le-pow_right {n = 2} (omega arith) within in
-    let high : 2 ^ w - 1 - m ≡ 2 ^ w - 2 ^ k = omega (arith, mask, most) in
-    ap (λ x. bit_and n x) high ∙ and_high_mask w k within n below
-
--- and `n | m` sets them
-pub set_host : (k n m : ℕ) → m + 1 ≡ 2 ^ k → bit_or n m + 1 ≡ n / 2 ^ k * 2 ^ k + 2 ^ k
-set_host k n m mask =
-    let is : m ≡ 2 ^ k - 1 = omega (arith, mask) in
-    let sum : bit_or n m + bit_and n m ≡ n + m = or_add_and n m in
-    let low : bit_and n m ≡ n % 2 ^ k = ap (λ x. bit_and n x) is ∙ and_mask n k in
-    let parts : n / 2 ^ k * 2 ^ k + n % 2 ^ k ≡ n = shr_split n k in
-    omega (arith, sum, low, parts, mask)
-
--- the mask `MAX >> len` of w bits has its last w - len bits set
-pub host_ones : (w len : ℕ) → len ≤ w → (2 ^ w - 1) / 2 ^ len + 1 ≡ 2 ^ (w - len)
-host_ones w len short =
-    let ones : (2 ^ w - 1) / 2 ^ len ≡ 2 ^ (w - len) - 1 = ones_shr w len short in
-    let some : 0 < 2 ^ (w - len) = pow_pos (w - len) in
-    omega (arith, ones, some)
+use Rattle.std.proofs.lemmas.Nat.{pow_pos, pow_below, shr_split, mod_below, mod-mul-add}
+use Rattle.rpki_addr.specs.Bits.{cleared}
+use Rattle.rpki_base.specs.Prefixes.{PrefixValue, IsPrefix, IsIn}
 
 -- clearing the bits behind its length leaves a prefix's first number as it is
 pub cleared_first : (w : ℕ) (p : PrefixValue) → IsPrefix w p → cleared w p.first p.len ≡ p.first

@@ -1,5 +1,5 @@
 -- Prefixes of a width: 32 bits for IPv4, 128 bits for IPv6 and for addresses of either family.
-use Rattle.std.specs.Prelude.{◌≡◌, ℕ, ◌+◌, ◌-◌, ◌*◌, ◌/◌, ◌%◌, ◌^◌, ◌<◌, ◌≤◌}
+use Rattle.std.specs.Prelude.{◌≡◌, ℕ, ◌+◌, ◌-◌, ◌%◌, ◌^◌, ◌<◌, ◌≤◌}
 
 -- what contracts see of a prefix: its first number, and how many of its leading bits are fixed
 pub record PrefixValue : Type 0 where
@@ -36,7 +36,3 @@ pub record IsMaximal (w : ℕ) (S : ℕ → Type 0) (p : PrefixValue) : Type 0 w
 -- the greatest number of a prefix
 abbrev pub last_of : ℕ → PrefixValue → ℕ
 last_of w p = p.first + 2 ^ (w - p.len) - 1
-
--- the number of w bits with the bits after the first len cleared: the multiple of 2 ^ (w - len) at n or below it
-abbrev pub cleared : ℕ → ℕ → ℕ → ℕ
-cleared w n len = n / 2 ^ (w - len) * 2 ^ (w - len)

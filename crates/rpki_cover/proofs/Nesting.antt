@@ -5,7 +5,8 @@ use Rattle.std.proofs.lemmas.Nat.{pow_pos}
 use Rattle.rpki_cover.proofs.Greatest.{Fits, IsGreatest}
 use Rattle.rpki_cover.proofs.Multiples.{IsMultiple, mod_multiple, nested, Nested}
 use Rattle.rpki_base.proofs.PrefixNumbers.{cleared_prefix, cleared_holds}
-use Rattle.rpki_base.specs.Prefixes.{PrefixValue, IsPrefix, IsIn, IsInside, IsParent, cleared}
+use Rattle.rpki_addr.specs.Bits.{cleared}
+use Rattle.rpki_base.specs.Prefixes.{PrefixValue, IsPrefix, IsIn, IsInside, IsParent}
 
 -- the numbers from a to b
 abbrev pub InRange : ℕ → ℕ → ℕ → Type 0

@@ -1,6 +1,6 @@
 -- Blocks of a family that are prefixes.
 use Rattle.std.specs.Prelude.{◌≡◌, ◌≢◌, Option, MatchOption}
-use Rattle.rpki_ip.specs.AddrText.{first_of}
+use Rattle.rpki_addr.specs.AddrText.{first_of}
 use Rattle.rpki_ip.specs.Families.{family_of}
 use Rattle.rpki_ip.specs.declared.family.AddressFamily.{AddressFamily}
 use Rattle.rpki_ipres.specs.declared.block.IpBlock.{IpBlock}

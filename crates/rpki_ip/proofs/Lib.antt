@@ -1,4 +1,3 @@
-pub mod AddrTextLemmas
 pub mod CoverLemmas
 pub mod DerReadings
 pub mod DerWritten

@@ -3,7 +3,7 @@ use Rattle.std.proofs.Common.{◌≡◌, ℕ, ◌+◌, ◌-◌, ◌*◌, ◌/◌
 use Rattle.std.proofs.lemmas.Nat.{pow_pos, div-mul-add, trailing_le}
 use Rattle.std.specs.Int.{w128, trailing_zeros, trailing_ones, bit_not}
 use Rattle.std.specs.Int.Count.{count_trailing_zeros}
-use Rattle.rpki_base.specs.Prefixes.{cleared}
+use Rattle.rpki_addr.specs.Bits.{cleared}
 use Rattle.rpki_ip.specs.RangeDer.{IsShortestFrom, IsShortestTo, without_end_zeros, without_end_ones}
 use Rattle.rpki_cover.proofs.Multiples.{IsMultiple, multiple_self, multiple_sum, multiple_diff, multiple_least, multiple_smaller, multiple_mod, mod_multiple, multiple_div, zeros_divide, zeros_greatest}
 

@@ -2,7 +2,8 @@
 use Rattle.std.proofs.Common.{◌≡◌, ℕ, ◌-◌, ◌^◌, ◌<◌, ◌≤◌, ◌⊎◌, inl, inr, List, Option, Result, Ok, Err, MatchResult, arith, refl, sym, ap, ◌∙◌, subst}
 use Rattle.rpki_text.specs.Cuts.{HasNo, IsCutAt, Around, slash, dash}
 use Rattle.rpki_text.specs.Numbers.{IsNumberText}
-use Rattle.rpki_base.specs.Prefixes.{PrefixValue, cleared}
+use Rattle.rpki_addr.specs.Bits.{cleared}
+use Rattle.rpki_base.specs.Prefixes.{PrefixValue}
 use Rattle.rpki_text.specs.Reading.{Answers}
 use Rattle.rpki_addr.specs.declared.addr.IpAddr.{IpAddr}
 use Rattle.rpki_addr.specs.declared.addr.IpAddr.TheVariants.{V4, V6}
@@ -13,7 +14,7 @@ use Rattle.rpki_base.proofs.AsnLemmas.{IsNumberText-one}
 use Rattle.rpki_text.proofs.CutLemmas.{HasNo-no_cut, around_at}
 use Rattle.rpki_text.proofs.NumberLemmas.{number_answers}
 pub use Rattle.rpki_text.proofs.ReadingLemmas.{answers_by_one}
-use Rattle.rpki_ip.specs.AddrText.{first_of, greatest_of}
+use Rattle.rpki_addr.specs.AddrText.{first_of, greatest_of}
 use Rattle.rpki_ip.specs.BlockText.{IsAddressText, HasAddressFault, WithAddress, IsPrefixAt, HasLengthFault, IsPrefixBetween, HasPrefixFault, IsRangeFrom, HasPairFault, IsIpRangeBetween, HasRangeFault, IsSingleText, IsIpPrefixText, HasIpPrefixTextFault, IsRangeText, HasRangeTextFault, HasFaultAround}
 use Rattle.rpki_ip.specs.Families.{bits_of, family_of}
 use Rattle.rpki_ip.specs.Ranges.{RangeValue}

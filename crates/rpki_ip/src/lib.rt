@@ -11,7 +11,6 @@
 //! ```
 #![tactic(auto)]
 
-pub mod addr;
 pub mod cover;
 pub mod der;
 pub mod error;
@@ -21,9 +20,12 @@ pub mod prefix;
 pub mod range;
 pub mod text;
 
-pub use addr::Addr;
 pub use cover::{V4Prefixes, V6Prefixes};
 pub use error::FromStrError;
 pub use family::AddressFamily;
 pub use prefix::Prefix;
 pub use range::AddressRange;
+
+/// Addresses, which stand in a crate of their own below this one.
+pub use rpki_addr::bits as addr;
+pub use rpki_addr::bits::Addr;

@@ -1,8 +1,9 @@
 //! Prefixes of addresses.
 ghost use Rattle.std.specs.Prelude.{◌≡◌, ◌/◌, ◌^◌, ◌≤◌};
-ghost use Rattle.rpki_base.specs.Prefixes.{IsPrefix, cleared, last_of};
+ghost use Rattle.rpki_addr.specs.Bits.{cleared};
+ghost use Rattle.rpki_base.specs.Prefixes.{IsPrefix, last_of};
 
-use crate::addr::Addr;
+use rpki_addr::bits::Addr;
 use rpki_base::addr::{Ipv4Addr, Ipv6Addr};
 use std::marker::Model;
 

@@ -5,8 +5,8 @@ ghost use Rattle.rpki_blocks.specs.Sets.{IsWithin};
 ghost use Rattle.rpki_ip.specs.Ranges.{IsRangeOf, range_bounds};
 ghost use Rattle.rpki_ip.specs.Whole.{IsWhole, HasWholeBounds};
 
-use crate::addr::Addr;
 use crate::prefix::Prefix;
+use rpki_addr::bits::Addr;
 use rpki_chain::block::Block;
 use std::marker::Model;
 

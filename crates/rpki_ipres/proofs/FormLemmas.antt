@@ -4,12 +4,13 @@ use Rattle.std.specs.Prelude.{◌==◌, if◌then◌else◌}
 use Rattle.std.proofs.Math.Nat.{mul-mod_left, mul_assoc}
 use Rattle.std.proofs.lemmas.Bool.{cases_order, eq-eqb, eqb-true}
 use Rattle.std.proofs.lemmas.Nat.{pow_pos, pow_below, pow-add, shr_split}
-use Rattle.rpki_base.specs.Prefixes.{PrefixValue, IsPrefix, cleared}
+use Rattle.rpki_addr.specs.Bits.{cleared}
+use Rattle.rpki_base.specs.Prefixes.{PrefixValue, IsPrefix}
 use Rattle.rpki_addr.specs.declared.addr.IpAddr.{IpAddr}
 use Rattle.rpki_addr.specs.declared.addr.IpAddr.TheVariants.{V4, V6}
 use Rattle.rpki_base.proofs.PrefixNumbers.{cleared_first}
 use Rattle.rpki_prefix.specs.Values.{FamilyPrefix, IsFamilyPrefix}
-use Rattle.rpki_ip.specs.AddrText.{first_of}
+use Rattle.rpki_addr.specs.AddrText.{first_of}
 use Rattle.rpki_ip.specs.Ranges.{RangeValue, IsRangeOf, range_bounds}
 use Rattle.rpki_ipres.specs.BlockForms.{both_pass, bounds_of_length, found_length}
 use Rattle.rpki_ipres.specs.Blocks.{prefix_bounds, has_length, length_upto, length_of, block_from, new_ip_block}

@@ -5,7 +5,8 @@ use Rattle.std.proofs.lemmas.Bool.{cases_lt, cases_eq, eq-eqb, ne_eqb}
 use Rattle.std.proofs.lemmas.List.Elements.{All-cons, All-append, All-weaker}
 use Rattle.std.proofs.lemmas.Nat.{pow_pos}
 use Rattle.rpki_text.specs.Cuts.{HasNo, slash, dash}
-use Rattle.rpki_base.specs.Prefixes.{PrefixValue, IsPrefix, cleared, last_of}
+use Rattle.rpki_addr.specs.Bits.{cleared}
+use Rattle.rpki_base.specs.Prefixes.{PrefixValue, IsPrefix, last_of}
 use Rattle.rpki_addr.specs.PrintedAddress.{ip_text}
 use Rattle.rpki_text.specs.Reading.{Answers}
 use Rattle.rpki_addr.specs.ReadsAddress.{IsAddress}
@@ -14,7 +15,7 @@ use Rattle.rpki_addr.proofs.AddressBytes.{IsAddressByte, ip_bytes, not_slash, no
 use Rattle.rpki_addr.proofs.AddressReads.{IsIpText-ip_text}
 use Rattle.rpki_base.proofs.AsnLemmas.{IsNumberText-decimal}
 use Rattle.rpki_base.proofs.PrefixNumbers.{cleared_first}
-use Rattle.rpki_ip.specs.AddrText.{first_of, greatest_of}
+use Rattle.rpki_addr.specs.AddrText.{first_of, greatest_of}
 use Rattle.rpki_ip.specs.BlockText.{IsAddressText, IsRangeFrom}
 use Rattle.rpki_ip.specs.Families.{bits_of, family_of}
 use Rattle.rpki_ip.specs.PrintedText.{shown_bits, as_ip}

@@ -10,7 +10,8 @@ use Rattle.rpki_der.specs.declared.cursor.Cursor.{Cursor}
 use Rattle.rpki_der.specs.declared.error.DerError.{DerError}
 use Rattle.rpki_base.specs.DerViews.{ReadsOrMemory}
 use Rattle.rpki_text.specs.Lists.{elements, HaveValues}
-use Rattle.rpki_base.specs.Prefixes.{PrefixValue, cleared}
+use Rattle.rpki_addr.specs.Bits.{cleared}
+use Rattle.rpki_base.specs.Prefixes.{PrefixValue}
 use Rattle.rpki_text.specs.Reading.{AnswersOrMemory}
 use Rattle.rpki_addr.specs.declared.addr.IpAddr.{IpAddr}
 use Rattle.rpki_addr.specs.declared.addr.IpAddr.TheVariants.{V4, V6}
@@ -20,7 +21,7 @@ use Rattle.rpki_claims.specs.Families.{ByFamily}
 use Rattle.rpki_claims.proofs.Gathering.{IsThere, each_there}
 use Rattle.rpki_chain.specs.declared.choice.ResourcesChoice.TheVariants.{Missing, Inherit, Blocks}
 use Rattle.rpki_chain.specs.Runs.{Runs, Holds, IsRunsOfBlocks}
-use Rattle.rpki_ip.specs.AddrText.{first_of}
+use Rattle.rpki_addr.specs.AddrText.{first_of}
 use Rattle.rpki_ip.specs.BlockText.{IsRangeFrom}
 use Rattle.rpki_ip.specs.Families.{bits_of, family_of}
 use Rattle.rpki_ip.specs.PrefixDer.{SaysPrefix}

@@ -1,9 +1,10 @@
 -- On the host bits of addresses: the bits after a prefix's length.
 use Rattle.std.proofs.Common.{◌≡◌, ℕ, ◌+◌, ◌-◌, ◌^◌, ◌<◌, ◌≤◌, ◌∙◌, refl, arith, bit_and, bit_or, lit≤}
-use Rattle.rpki_base.specs.Prefixes.{cleared}
+use Rattle.rpki_addr.specs.Bits.{cleared}
 use Rattle.rpki_addr.specs.declared.addr.IpAddr.{IpAddr}
 use Rattle.rpki_addr.specs.declared.addr.IpAddr.TheVariants.{V4, V6}
-use Rattle.rpki_base.proofs.PrefixNumbers.{clear_host, set_host, cleared_prefix, cleared_holds}
+use Rattle.rpki_addr.proofs.Masks.{clear_host, set_host}
+use Rattle.rpki_base.proofs.PrefixNumbers.{cleared_prefix, cleared_holds}
 use Rattle.rpki_prefix.specs.Values.{IsRelaxedPrefixOf, width, bits, cleared_addr}
 
 -- what `n & !m` is, where the host bits of m are set

@@ -2,10 +2,10 @@
 ghost use Rattle.std.specs.Prelude.{◌≡◌, ◌≤◌, ◌-◌, ◌*◌, ◌^◌, length};
 ghost use Rattle.rpki_der.specs.Der.{big_endian};
 
-use crate::addr::Addr;
 use crate::der::error::DecodePrefixError;
 use crate::family::AddressFamily;
 use crate::prefix::Prefix;
+use rpki_addr::bits::Addr;
 use rpki_der::{
     BitString, Content, Cursor, DerError, append_bit_string, bit_string_len, put_bit_string, tag,
 };

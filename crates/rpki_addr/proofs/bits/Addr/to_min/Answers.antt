@@ -1,6 +1,6 @@
 use Rattle.std.proofs.Common.{◌-◌, arith}
-use Rattle.rpki_base.proofs.PrefixNumbers.{clear_host, host_ones}
-use Rattle.rpki_ip.proofs.addr.Addr.to_min.Goals as goal
+use Rattle.rpki_addr.proofs.Masks.{clear_host, host_ones}
+use Rattle.rpki_addr.proofs.bits.Addr.to_min.Goals as goal
 
 pub returns-else-len-ge128 : goal.returns-else-len-ge128
 returns-else-len-ge128 c =

@@ -1,7 +1,7 @@
 use Rattle.std.proofs.Common.{◌≤◌, ◌^◌, ◌/◌, ◌-◌, arith}
 use Rattle.std.proofs.lemmas.Nat.{or_lt, shr_le}
-use Rattle.rpki_base.proofs.PrefixNumbers.{set_host, host_ones}
-use Rattle.rpki_ip.proofs.addr.Addr.to_max.Goals as goal
+use Rattle.rpki_addr.proofs.Masks.{set_host, host_ones}
+use Rattle.rpki_addr.proofs.bits.Addr.to_max.Goals as goal
 
 pub returns-else-len-ge128 : goal.returns-else-len-ge128
 returns-else-len-ge128 c = rw (← c.self.view_is) (set_host (128 - c.args.len) _ _ (host_ones 128 c.args.len (omega arith)))

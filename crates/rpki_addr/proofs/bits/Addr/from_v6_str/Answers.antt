@@ -1,7 +1,7 @@
 use Rattle.std.proofs.lemmas.Result.{err_from_is_err_and}
 use Rattle.rpki_addr.specs.AddressText.{IsIpv6Text}
-use Rattle.rpki_ip.proofs.AddrTextLemmas.{first_of_ok, first_of_err}
-use Rattle.rpki_ip.proofs.addr.Addr.from_v6_str.Goals as goal
+use Rattle.rpki_addr.proofs.AddrTextLemmas.{first_of_ok, first_of_err}
+use Rattle.rpki_addr.proofs.bits.Addr.from_v6_str.Goals as goal
 
 pub returns-in_err-from_str : goal.returns-in_err-from_str
 returns-in_err-from_str c =

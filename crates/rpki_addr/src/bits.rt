@@ -1,12 +1,12 @@
-//! Addresses of either family.
+//! Addresses of either family, as numbers of 128 bits.
 ghost use Rattle.std.specs.Prelude.{◌≡◌, ◌+◌, ◌-◌, ◌*◌, ◌/◌, ◌^◌};
 ghost use Rattle.std.specs.Fmt.{WritesOnOk};
 ghost use Rattle.std.specs.Int.{to_be_bytes, w128};
 ghost use Rattle.rpki_addr.specs.PrintedAddress.{ipv4_text, ipv6_text};
-ghost use Rattle.rpki_ip.specs.AddrText.{first_of, ReadsIpv4Addr, ReadsIpv6Addr, ReadsAddr};
-ghost use Rattle.rpki_base.specs.Prefixes.{cleared};
+ghost use Rattle.rpki_addr.specs.AddrText.{first_of, ReadsIpv4Addr, ReadsIpv6Addr, ReadsAddr};
+ghost use Rattle.rpki_addr.specs.Bits.{cleared};
 
-use rpki_base::addr::{AddrParseError, IpAddr, Ipv4Addr, Ipv6Addr};
+use crate::addr::{AddrParseError, IpAddr, Ipv4Addr, Ipv6Addr};
 use std::fmt;
 use std::marker::Model;
 use std::str::FromStr;

@@ -1,0 +1,6 @@
+-- The first bits of a number.
+use Rattle.std.specs.Prelude.{ℕ, ◌-◌, ◌*◌, ◌/◌, ◌^◌}
+
+-- the number of w bits with the bits after the first len cleared: the multiple of 2 ^ (w - len) at n or below it
+abbrev pub cleared : ℕ → ℕ → ℕ → ℕ
+cleared w n len = n / 2 ^ (w - len) * 2 ^ (w - len)

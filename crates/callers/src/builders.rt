@@ -1,7 +1,7 @@
 //! Resources that are built block by block.
 ghost use Rattle.std.specs.Prelude.{[], ◌∷◌, Some, IfOk};
 ghost use Rattle.rpki_chain.specs.Claims.{IsBuilt};
-ghost use Rattle.rpki_as.specs.Blocks.{as_bounds};
+ghost use Rattle.rpki_asblock.specs.Blocks.{as_bounds};
 
 use rpki_resources::repository::resources::{AsBlock, AsResources, AsResourcesBuilder};
 use std::alloc::{AllocError, Allocator};

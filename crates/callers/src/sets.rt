@@ -1,7 +1,7 @@
 //! Sets that are joined, and gone over block by block.
 ghost use Rattle.std.specs.Prelude.{◌≡◌, ◌⊎◌, IfOk, map};
 ghost use Rattle.rpki_chain.specs.Runs.{Holds, IsRunsOf};
-ghost use Rattle.rpki_as.specs.Blocks.{as_bounds};
+ghost use Rattle.rpki_asblock.specs.Blocks.{as_bounds};
 
 use rpki_resources::repository::resources::{AsBlock, AsBlocks, Ipv4Blocks};
 use std::alloc::{AllocError, Allocator};

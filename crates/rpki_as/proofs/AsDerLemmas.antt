@@ -1,5 +1,5 @@
--- What is written of blocks and sets of AS numbers, and that it is read back.
-use Rattle.std.proofs.Common.{◌≡◌, ℕ, zero, suc, ◌+◌, ◌*◌, ◌^◌, ◌<◌, ◌≤◌, ◌↔◌, List, [], ◌∷◌, ◌++◌, length, map, get_or, Result, refl, sym, ap, subst, ◌∙◌, arith, ⊎_elim}
+-- What is written of sets of AS numbers, and that it is read back.
+use Rattle.std.proofs.Common.{◌≡◌, ℕ, zero, suc, ◌+◌, ◌*◌, ◌^◌, ◌<◌, ◌≤◌, ◌↔◌, List, [], ◌∷◌, ◌++◌, length, map, get_or, Result, sym, ap, subst, ◌∙◌, arith, ⊎_elim}
 use Rattle.std.specs.List.{AllByRecursion, flat_map}
 use Rattle.std.specs.Prelude.{MatchResult}
 use Rattle.std.proofs.lemmas.Bool.{cases_lt, eq-eqb, ne_eqb}
@@ -12,13 +12,11 @@ use Rattle.rpki_chain.proofs.RunLists.{IsRunsOf-unique, same_numbers}
 use Rattle.rpki_chain.proofs.SetLemmas.{bounds_made, made_of_set}
 use Rattle.rpki_der.specs.declared.cursor.Cursor.{Cursor}
 use Rattle.rpki_der.specs.declared.error.DerError.{DerError}
-use Rattle.rpki_der.specs.Der.{IsBytes, OneFront, header, integer, sequence_value}
+use Rattle.rpki_der.specs.Der.{IsBytes, OneFront, header, sequence_value}
 use Rattle.rpki_der.specs.Reading.{IsReading}
 use Rattle.rpki_der.specs.Views.{left}
-use Rattle.rpki_der.proofs.Contents.{length-integer}
 use Rattle.rpki_der.proofs.Readings.{one_front}
-use Rattle.rpki_der.proofs.Written.{length-header, u32_is, value_is}
-use Rattle.rpki_base.specs.AsnDer.{as_number_octets}
+use Rattle.rpki_der.proofs.Written.{length-header}
 use Rattle.rpki_base.specs.DerReading.{IsSequenceOf}
 use Rattle.rpki_base.specs.DerViews.{ReadsOrMemory, TakesSaidOrMemory}
 use Rattle.rpki_text.specs.Memory.{IsMemory}
@@ -26,30 +24,16 @@ use Rattle.rpki_text.specs.declared.memory.OrMemory.{OrMemory}
 use Rattle.rpki_base.proofs.DerCursors.{reads_said_by, takes_said}
 use Rattle.rpki_base.proofs.DerReadings.{sequence_reading}
 use Rattle.rpki_base.proofs.DerWriting.{sequence_written, written_alike}
-use Rattle.rpki_as.specs.AsDer.{IsAsBlock, IsAsBlockSequence, as_block_octets, as_range_content, as_run_octets, as_sequence_octets, as_set_octets}
-use Rattle.rpki_as.specs.AsDerLaws.{as_block_has_octets, as_block_reading}
-use Rattle.rpki_as.specs.AsDerReading.{as_block_at, as_blocks_at}
-use Rattle.rpki_as.specs.BlockForms.{new_as_block_bounds}
-use Rattle.rpki_as.specs.Blocks.{IsAsSet, as_bounds, new_as_block}
-use Rattle.rpki_as.specs.declared.block.AsBlock.{AsBlock}
-use Rattle.rpki_as.specs.declared.block.AsBlock.TheVariants.{Id, Range}
-
--- ---- blocks
-
--- an AS number has seven octets at most
-length-number : (n : ℕ) → n < 2 ^ 32 → length (as_number_octets n) ≤ 7
-length-number n lt = let few = length-integer n lt in omega (arith, few, length-header 2 (length (integer n)) (omega arith), length-append (header 2 (length (integer n))) (integer n))
-
--- two have fourteen
-length-content : (b : ℕ × ℕ) → b.0 ≤ b.1 → b.1 < 2 ^ 32 → length (as_range_content b) ≤ 14
-length-content b ordered lt = omega (arith, length-number b.0 (omega arith), length-number b.1 lt, length-append (as_number_octets b.0) (as_number_octets b.1))
-
--- what is written of a block is the block
-pub block_written : (x : AsBlock) → (as_bounds x).0 ≤ (as_bounds x).1 → (as_bounds x).1 < 2 ^ 32 → IsAsBlock (as_block_octets x) x
-block_written (Id n) ordered lt = u32_is n lt
-block_written (Range r) ordered lt =
-    let short = length-content (r.min, r.max) ordered lt in
-    (ordered, (as_range_content (r.min, r.max), value_is 48 (as_range_content (r.min, r.max)) (omega arith) (omega arith), (as_number_octets r.max, (as_number_octets r.min, u32_is r.min (omega arith), refl), u32_is r.max lt)))
+use Rattle.rpki_as.specs.AsDer.{IsAsBlockSequence, as_run_octets, as_sequence_octets, as_set_octets}
+use Rattle.rpki_asblock.specs.AsDer.{IsAsBlock, as_block_octets, as_range_content}
+use Rattle.rpki_asblock.specs.AsDerLaws.{as_block_has_octets, as_block_reading}
+use Rattle.rpki_as.specs.AsDerReading.{as_blocks_at}
+use Rattle.rpki_asblock.specs.AsDerReading.{as_block_at}
+use Rattle.rpki_asblock.specs.BlockForms.{new_as_block_bounds}
+use Rattle.rpki_as.specs.Blocks.{IsAsSet}
+use Rattle.rpki_asblock.specs.Blocks.{as_bounds, new_as_block}
+use Rattle.rpki_asblock.specs.declared.block.AsBlock.{AsBlock}
+use Rattle.rpki_asblock.proofs.AsDerLemmas.{block_written, length-content, length-number}
 
 -- ---- the blocks of a set
 

@@ -24,11 +24,14 @@ use Rattle.rpki_chain.specs.Claims.{Claim, IsClaim}
 use Rattle.rpki_chain.specs.Runs.{Runs, IsRunsOfBlocks}
 use Rattle.rpki_chain.proofs.ChoiceReadings.{choice_reading}
 use Rattle.rpki_chain.proofs.ClaimLemmas.{lists_one}
-use Rattle.rpki_as.specs.AsDer.{IsAsBlock, IsAsChoice, IsAsResources, as_resources_octets, as_sequence_octets, as_set_octets}
-use Rattle.rpki_as.specs.AsDerLaws.{as_block_has_octets, as_block_reading}
-use Rattle.rpki_as.specs.AsDerReading.{as_block_at, as_choice_at}
-use Rattle.rpki_as.specs.Blocks.{IsAsSet, as_bounds, new_as_block}
-use Rattle.rpki_as.specs.declared.block.AsBlock.{AsBlock}
+use Rattle.rpki_as.specs.AsDer.{IsAsChoice, IsAsResources, as_resources_octets, as_sequence_octets, as_set_octets}
+use Rattle.rpki_asblock.specs.AsDer.{IsAsBlock}
+use Rattle.rpki_asblock.specs.AsDerLaws.{as_block_has_octets, as_block_reading}
+use Rattle.rpki_as.specs.AsDerReading.{as_choice_at}
+use Rattle.rpki_asblock.specs.AsDerReading.{as_block_at}
+use Rattle.rpki_as.specs.Blocks.{IsAsSet}
+use Rattle.rpki_asblock.specs.Blocks.{as_bounds, new_as_block}
+use Rattle.rpki_asblock.specs.declared.block.AsBlock.{AsBlock}
 use Rattle.rpki_as.proofs.AsDerLemmas.{blocks_say, one_set, sequence_blocks, set_octets_few}
 
 -- ---- readings

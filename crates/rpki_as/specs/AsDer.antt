@@ -1,34 +1,16 @@
--- Blocks of AS numbers, sequences of them and AS resources in DER (RFC 3779, 3.2.3).
-use Rattle.std.specs.Prelude.{◌⊎◌, ℕ, ◌≤◌, List, ◌++◌}
-use Rattle.rpki_blocks.specs.Ranges.{RangeValue, range_bounds}
+-- Sequences of blocks of AS numbers and AS resources in DER (RFC 3779, 3.2.3).
+use Rattle.std.specs.Prelude.{ℕ, List}
 use Rattle.rpki_chain.specs.declared.choice.ResourcesChoice.{ResourcesChoice}
 use Rattle.rpki_chain.specs.ChoiceDer.{IsChoiceOf, choice_octets}
 use Rattle.rpki_chain.specs.Choices.{ListsBy}
 use Rattle.rpki_chain.specs.Claims.{Claim}
 use Rattle.rpki_chain.specs.Runs.{Runs, IsRunsOfBlocks}
-use Rattle.rpki_der.specs.Der.{Both, IsSequence, Refines, sequence_value, value}
-use Rattle.rpki_base.specs.AsnDer.{IsAsNumber, as_number_octets}
+use Rattle.rpki_der.specs.Der.{Refines, sequence_value, value}
 use Rattle.rpki_base.specs.DerReading.{Encloses, IsSequenceOf}
 use Rattle.rpki_base.specs.DerWriting.{octets_of_all, sequence_octets}
-use Rattle.rpki_as.specs.Blocks.{as_bounds, new_as_block}
-use Rattle.rpki_as.specs.declared.block.AsBlock.{AsBlock}
-use Rattle.rpki_as.specs.declared.block.AsBlock.TheVariants.{Id, Range}
-
--- a SEQUENCE of the least number and the greatest, and nothing else; the least isn't above the greatest (3.2.3.8,
--- 3.2.3.9)
-abbrev pub IsAsRange : List ℕ → RangeValue → Type 0
-IsAsRange bytes r = (r.min ≤ r.max) × ((content : List ℕ) × IsSequence bytes content × Both IsAsNumber IsAsNumber content r.min r.max)
-
--- an AS number or a range (3.2.3.5)
-abbrev pub IsAsBlock : List ℕ → AsBlock → Type 0
-IsAsBlock bytes (Id n) = IsAsNumber bytes n
-IsAsBlock bytes (Range r) = IsAsRange bytes r
-
--- an AS number, or a SEQUENCE of two, whichever is the greater
-abbrev pub IsBlockInAnyOrder : List ℕ → Unit {0} → Type 0
-IsBlockInAnyOrder bytes u =
-    ((n : ℕ) × IsAsNumber bytes n) ⊎
-    ((content : List ℕ) × IsSequence bytes content × ((first : ℕ) × (second : ℕ) × Both IsAsNumber IsAsNumber content first second))
+use Rattle.rpki_asblock.specs.AsDer.{IsAsBlock, as_block_octets}
+use Rattle.rpki_asblock.specs.Blocks.{as_bounds, new_as_block}
+use Rattle.rpki_asblock.specs.declared.block.AsBlock.{AsBlock}
 
 -- a SEQUENCE of blocks, in any order, overlapping or not, and nothing else; it stands for the set of their numbers
 -- (3.2.3.4, asIdsOrRanges)
@@ -45,17 +27,6 @@ abbrev pub IsAsResources : List ℕ → Claim → Type 0
 IsAsResources = Refines IsAsChoice (ListsBy (IsRunsOfBlocks as_bounds))
 
 -- ---- what is written
-
-abbrev pub as_range_content : ℕ × ℕ → List ℕ
-as_range_content b = as_number_octets b.0 ++ as_number_octets b.1
-
-abbrev pub as_range_octets : ℕ × ℕ → List ℕ
-as_range_octets b = sequence_value (as_range_content b)
-
--- a block in its own form
-abbrev pub as_block_octets : AsBlock → List ℕ
-as_block_octets (Id n) = as_number_octets n
-as_block_octets (Range r) = as_range_octets (range_bounds r)
 
 -- a run: an AS number where it is one, else the SEQUENCE of its bounds (3.2.3.5)
 abbrev pub as_run_octets : ℕ × ℕ → List ℕ

@@ -1,35 +1,11 @@
--- Reading blocks of AS numbers from left to right, with the first fault that is met.
-use Rattle.std.specs.Prelude.{ℕ, nat_lt, if◌then◌else◌, List, Result, Ok, Err}
-use Rattle.rpki_blocks.specs.Ranges.{RangeValue}
+-- Reading sequences of blocks of AS numbers and AS resources from left to right, with the first fault that is met.
+use Rattle.std.specs.Prelude.{ℕ, List, Result}
 use Rattle.rpki_der.specs.declared.error.DerError.{DerError}
-use Rattle.rpki_der.specs.declared.error.DerError.TheVariants.{ReversedRange}
-use Rattle.rpki_der.specs.Der.{Tlv}
-use Rattle.rpki_der.specs.Reading.{◌>>=◌, refined, unsigned, value_at}
-use Rattle.rpki_base.specs.AsnDer.{as_number_at, skip_number}
-use Rattle.rpki_base.specs.DerReading.{by_tag, enclosed_at, pair_in, sequence_of, values_of}
+use Rattle.rpki_base.specs.DerReading.{enclosed_at, sequence_of, values_of}
 use Rattle.rpki_chain.specs.declared.choice.ResourcesChoice.{ResourcesChoice}
 use Rattle.rpki_chain.specs.ChoiceDer.{choice_at}
-use Rattle.rpki_as.specs.declared.block.AsBlock.{AsBlock}
-use Rattle.rpki_as.specs.declared.block.AsBlock.TheVariants.{Id, Range}
-
--- the range of two numbers in order
-unfoldable pub range_of : ℕ → ℕ → Result RangeValue DerError
-range_of min max = if nat_lt max min then Err ReversedRange else Ok (record { min = min; max = max })
-
-abbrev pub as_range_in : List ℕ → Result RangeValue DerError
-as_range_in = pair_in as_number_at range_of
-
-abbrev pub as_id_in : List ℕ → Result AsBlock DerError
-as_id_in content = unsigned content >>= λ n. Ok (Id n)
-
-abbrev pub as_range_block_in : List ℕ → Result AsBlock DerError
-as_range_block_in content = as_range_in content >>= λ r. Ok (Range r)
-
-abbrev pub as_block_of : Tlv → Result AsBlock DerError
-as_block_of = by_tag 2 as_id_in as_range_block_in
-
-abbrev pub as_block_at : List ℕ → Result (AsBlock × List ℕ) DerError
-as_block_at = refined value_at as_block_of
+use Rattle.rpki_asblock.specs.AsDerReading.{as_block_at}
+use Rattle.rpki_asblock.specs.declared.block.AsBlock.{AsBlock}
 
 -- the blocks of a SEQUENCE
 abbrev pub as_blocks_at : List ℕ → Result (List AsBlock × List ℕ) DerError
@@ -38,14 +14,3 @@ as_blocks_at = sequence_of as_block_at
 -- resources, of which the blocks are known
 abbrev pub as_choice_at : List ℕ → Result (ResourcesChoice (List AsBlock) × List ℕ) DerError
 as_choice_at = enclosed_at 48 (enclosed_at 160 (choice_at (values_of as_block_at)))
-
--- ---- passed over
-
-abbrev pub skip_pair : List ℕ → Result (Unit {0}) DerError
-skip_pair = pair_in as_number_at (λ first second. Ok tt)
-
-abbrev pub skip_block_of : Tlv → Result (Unit {0}) DerError
-skip_block_of = by_tag 2 skip_number skip_pair
-
-abbrev pub skip_block_at : List ℕ → Result (Unit {0} × List ℕ) DerError
-skip_block_at = refined value_at skip_block_of

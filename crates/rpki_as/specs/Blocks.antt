@@ -1,19 +1,6 @@
--- Blocks of AS numbers (RFC 3779, 3.2.3.5 to 3.2.3.8): their bounds and their form, and sets of AS numbers.
-use Rattle.std.specs.Prelude.{ℕ, ◌==◌, if◌then◌else◌}
+-- Sets of AS numbers.
 use Rattle.rpki_chain.specs.BlockSets.{IsBlockSet}
-use Rattle.rpki_blocks.specs.Ranges.{range_bounds, new_range}
 use Rattle.rpki_chain.specs.Runs.{Runs}
-use Rattle.rpki_as.specs.declared.block.AsBlock.{AsBlock}
-use Rattle.rpki_as.specs.declared.block.AsBlock.TheVariants.{Id, Range}
-
--- the least and the greatest number of a block
-abbrev pub as_bounds : AsBlock → ℕ × ℕ
-as_bounds (Id n) = (n, n)
-as_bounds (Range r) = range_bounds r
-
--- the block of given bounds: an Id where they are one number, and else a Range
-abbrev pub new_as_block : ℕ × ℕ → AsBlock
-new_as_block b = if b.0 == b.1 then Id b.0 else Range (new_range b)
 
 -- the runs of a set of AS numbers, which are 0 to 4294967295 (RFC 6793, 1)
 abbrev pub IsAsSet : Runs → Type 0

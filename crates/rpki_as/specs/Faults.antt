@@ -2,16 +2,8 @@
 use Rattle.std.specs.Prelude.{ℕ, List, ◌++◌, codes}
 use Rattle.rpki_chain.specs.Runs.{Runs}
 use Rattle.rpki_as.specs.ListText.{as_list_text}
-use Rattle.rpki_as.specs.declared.error.FromStrError.{FromStrError}
-use Rattle.rpki_as.specs.declared.error.FromStrError.TheVariants.{BadAsn, BadRange, BadBlocks}
 
--- the text of each fault
-abbrev pub as_from_str_error_text : FromStrError → List ℕ
-as_from_str_error_text BadAsn = codes "Bad AS number. Expected format: AS#"
-as_from_str_error_text BadRange = codes "Bad AS range. Expected format: AS#-AS#"
-as_from_str_error_text BadBlocks = codes "Cannot parse blocks."
-
--- and that of resources which are no set by themselves
+-- the text of resources which are no set by themselves
 abbrev pub inherited_text : List ℕ
 inherited_text = codes "inherited AS resources"
 

@@ -1,10 +1,6 @@
 pub mod AsDer
-pub mod AsDerLaws
 pub mod AsDerReading
-pub mod BlockForms
 pub mod Blocks
-pub mod BlockText
 pub mod Faults
 pub mod ListText
-pub mod Numbers
 pub mod ResourcesText

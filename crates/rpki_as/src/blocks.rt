@@ -6,14 +6,15 @@ ghost use Rattle.rpki_text.specs.Reading.{AnswersOrMemory};
 ghost use Rattle.rpki_blocks.specs.Equality.{same_runs, runs_per, runs_equiv};
 ghost use Rattle.rpki_chain.specs.Choices.{MatchChoice};
 ghost use Rattle.rpki_chain.specs.Runs.{Runs, Holds, IsRunsOf, IsRunsOfBlocks};
-ghost use Rattle.rpki_as.specs.Blocks.{as_bounds, new_as_block, IsAsSet};
+ghost use Rattle.rpki_as.specs.Blocks.{IsAsSet};
+ghost use Rattle.rpki_asblock.specs.Blocks.{as_bounds, new_as_block};
 ghost use Rattle.rpki_as.specs.ListText.{IsAsListText, HasAsListFault, as_list_text};
-ghost use Rattle.rpki_as.specs.Numbers.{IsListOf, IsSizeOf};
+ghost use Rattle.rpki_asblock.specs.Numbers.{IsListOf, IsSizeOf};
 
-use crate::block::AsBlock;
 use crate::error::{FromStrError, InheritedAsResources};
 use crate::iter::AsnIter;
 use crate::resources::AsResources;
+use rpki_asblock::block::AsBlock;
 use rpki_base::asn::Asn;
 use rpki_base::list::{fmt_joined, read_list};
 use rpki_base::memory::OrMemory;

@@ -1,5 +1,4 @@
-//! Blocks of AS numbers, sets of them and AS resources in DER (RFC 3779, 3.2.3).
-mod block;
+//! Sets of AS numbers and AS resources in DER (RFC 3779, 3.2.3).
 mod blocks;
 pub mod laws;
 mod resources;

@@ -1,19 +1,13 @@
 //! What holds of ranges and of the texts of sets and resources, each law as the contract of a function that does
 //! nothing.
-ghost use Rattle.std.specs.Prelude.{◌≡◌, ℕ, List, ◌↔◌, IsTrue};
-ghost use Rattle.rpki_blocks.specs.Ranges.{RangeValue};
+ghost use Rattle.std.specs.Prelude.{◌≡◌, ℕ, List, ◌↔◌};
 ghost use Rattle.rpki_chain.specs.Claims.{Claim, IsClaim};
 ghost use Rattle.rpki_chain.specs.Runs.{Runs, Holds};
 ghost use Rattle.rpki_as.specs.Blocks.{IsAsSet};
 ghost use Rattle.rpki_as.specs.ListText.{IsAsListText, as_list_text};
 ghost use Rattle.rpki_as.specs.ResourcesText.{IsAsResourcesText, as_resources_text};
 
-use crate::range::AsRange;
-
-/// Ranges are equal exactly where their least and their greatest numbers are the same.
-pub fn equal_where_the_same()
-    ensures { (r s : RangeValue) → IsTrue (⟦<AsRange as PartialEq>⟧.eq r s) ↔ (r ≡ s) }
-{}
+pub use rpki_asblock::laws::equal_where_the_same;
 
 /// What is printed of a set is a list that writes the set. A list writes one set at most, so two sets print alike
 /// exactly where they have the same numbers.

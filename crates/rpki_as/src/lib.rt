@@ -1,4 +1,4 @@
-//! Blocks of AS numbers and sets of them (RFC 3779, 3), with their texts.
+//! Sets of AS numbers, AS resources and what claims of them leave (RFC 3779, 3), with their texts and their DER.
 //!
 //! Resources are built block by block, as in `callers::builders::listed_in_the_end`:
 //!
@@ -10,23 +10,21 @@
 //! ```
 #![tactic(auto)]
 
-pub mod block;
 pub mod blocks;
 pub mod builder;
 pub mod der;
 pub mod error;
 pub mod iter;
 pub mod laws;
-pub mod range;
 pub mod resources;
-mod text;
 pub mod verify;
 
-pub use block::AsBlock;
 pub use blocks::AsBlocks;
 pub use builder::{AsBlocksBuilder, AsResourcesBuilder};
-pub use error::{FromStrError, InheritedAsResources};
-pub use iter::{AsBlockIter, AsnIter};
-pub use range::AsRange;
+pub use error::InheritedAsResources;
+pub use iter::AsnIter;
 pub use resources::AsResources;
 pub use verify::{AsStep, OverclaimedAsResources};
+
+/// Blocks of AS numbers, which stand in a crate of their own below this one.
+pub use rpki_asblock::{AsBlock, AsBlockIter, AsRange, FromStrError, block, range};

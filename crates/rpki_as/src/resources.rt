@@ -9,13 +9,14 @@ ghost use Rattle.rpki_chain.specs.ChoiceDer.{choice_octets};
 ghost use Rattle.rpki_chain.specs.Claims.{Claim, IsClaim, ListsSome, claim_of};
 ghost use Rattle.rpki_chain.specs.declared.choice.ResourcesChoice.TheVariants.{Missing, Inherit};
 ghost use Rattle.rpki_base.specs.DerWriting.{sequence_octets};
-ghost use Rattle.rpki_as.specs.AsDer.{as_block_octets, as_sequence_octets};
+ghost use Rattle.rpki_as.specs.AsDer.{as_sequence_octets};
+ghost use Rattle.rpki_asblock.specs.AsDer.{as_block_octets};
 ghost use Rattle.rpki_as.specs.Blocks.{IsAsSet};
 ghost use Rattle.rpki_as.specs.ResourcesText.{IsAsResourcesText, HasAsResourcesFault, as_resources_text};
 
-use crate::block::AsBlock;
 use crate::blocks::AsBlocks;
 use crate::error::{FromStrError, InheritedAsResources};
+use rpki_asblock::block::AsBlock;
 use rpki_base::memory::OrMemory;
 use rpki_chain::choice::ResourcesChoice;
 use rpki_chain::path::Claims;

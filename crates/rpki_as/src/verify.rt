@@ -7,9 +7,9 @@ ghost use Rattle.rpki_chain.specs.Paths.{IsIssued, IsExcess, IsCovered, IsUncove
 ghost use Rattle.rpki_chain.specs.Runs.{Holds};
 ghost use Rattle.rpki_as.specs.Faults.{overclaimed_text};
 
-use crate::block::AsBlock;
 use crate::blocks::AsBlocks;
 use crate::resources::AsResources;
+use rpki_asblock::block::AsBlock;
 use rpki_base::memory::OrMemory;
 use rpki_chain::path::{Claims, Overclaim, PathRefusal, Step};
 use rpki_chain::set::BlockSet;

@@ -4,7 +4,7 @@ use Rattle.rpki_chain.specs.Claims.{Claim, claim_of}
 use Rattle.rpki_chain.specs.Runs.{Runs}
 use Rattle.rpki_chain.specs.declared.choice.ResourcesChoice.TheVariants.{Missing, Inherit, Blocks}
 use Rattle.rpki_as.specs.AsDer.{as_resources_octets}
-use Rattle.rpki_as.specs.Faults as AsFaults
+use Rattle.rpki_asblock.specs.Faults as AsFaults
 use Rattle.rpki_as.specs.ResourcesText.{IsAsResourcesText, HasAsResourcesFault}
 use Rattle.rpki_ip.specs.Faults as IpFaults
 use Rattle.rpki_ip.specs.declared.error.FromStrError.{FromStrError}

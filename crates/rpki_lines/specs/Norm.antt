@@ -1,6 +1,6 @@
 -- What `norm` answers: the set that a list writes, as its one list of blocks, or the fault of the list.
 use Rattle.std.specs.Prelude.{◌≡◌, ◌≢◌, ℕ, List, codes}
-use Rattle.rpki_as.specs.Faults as AsFaults
+use Rattle.rpki_asblock.specs.Faults as AsFaults
 use Rattle.rpki_as.specs.ListText.{IsAsListText, HasAsListFault, as_list_text}
 use Rattle.rpki_ip.specs.Faults as IpFaults
 use Rattle.rpki_ip.specs.declared.family.AddressFamily.{AddressFamily}

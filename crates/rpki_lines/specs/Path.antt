@@ -13,6 +13,7 @@ use Rattle.rpki_chain.specs.declared.path.Overclaim.TheVariants.{Refuse, Trim}
 use Rattle.rpki_chain.specs.declared.path.PathRefusal.{PathRefusal}
 use Rattle.rpki_chain.specs.declared.path.Step.{Step}
 use Rattle.rpki_as.specs.Faults as AsFaults
+use Rattle.rpki_asblock.specs.Faults as AsBlockFaults
 use Rattle.rpki_as.specs.ListText.{IsAsListText, HasAsListFault, as_list_text}
 use Rattle.rpki_ip.specs.Faults as IpFaults
 use Rattle.rpki_ip.specs.declared.family.AddressFamily.{AddressFamily}
@@ -108,7 +109,7 @@ IsPathOf {E} Writes list_text excess_text Fails fault_text path text =
 
 -- of AS numbers
 abbrev pub IsPathAs : List ℕ → List ℕ → Type 0
-IsPathAs = IsPathOf IsAsListText as_list_text AsFaults.overclaimed_text HasAsListFault AsFaults.as_from_str_error_text
+IsPathAs = IsPathOf IsAsListText as_list_text AsFaults.overclaimed_text HasAsListFault AsBlockFaults.as_from_str_error_text
 
 -- of addresses of a family
 abbrev pub IsPathIp : AddressFamily → List ℕ → List ℕ → Type 0

@@ -4,7 +4,8 @@ ghost use Rattle.rpki_chain.specs.Claims.{Claim, IsClaim};
 ghost use Rattle.rpki_chain.specs.Runs.{Runs, Holds};
 ghost use Rattle.rpki_chain.specs.declared.choice.ResourcesChoice.TheVariants.{Missing};
 ghost use Rattle.rpki_der.specs.Der.{OneFront};
-ghost use Rattle.rpki_as.specs.AsDer.{IsAsBlock, IsBlockInAnyOrder, IsAsBlockSequence, IsAsResources, as_resources_octets, as_sequence_octets, as_set_octets};
+ghost use Rattle.rpki_as.specs.AsDer.{IsAsBlockSequence, IsAsResources, as_resources_octets, as_sequence_octets, as_set_octets};
+ghost use Rattle.rpki_asblock.specs.AsDer.{IsAsBlock, IsBlockInAnyOrder};
 ghost use Rattle.rpki_as.specs.Blocks.{IsAsSet};
 
 /// Octets begin with at most one block, with at most one value that is passed over as a block, and with at most one

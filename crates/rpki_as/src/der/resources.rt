@@ -3,8 +3,8 @@
 ghost use Rattle.rpki_der.specs.Reading.{tagged_at};
 ghost use Rattle.rpki_der.specs.Views.{Takes, left};
 
-use crate::der::block::AsBlockReader;
 use crate::resources::AsResources;
+use rpki_asblock::der::AsBlockReader;
 use rpki_base::memory::OrMemory;
 use rpki_chain::der::{append_choice, choice_len, content_len, take_choice};
 use rpki_der::{Cursor, DerError, append_header, header_len, tag};
@@ -22,7 +22,8 @@ impl<A: Allocator> AsResources<A> {
     ghost use Rattle.rpki_text.specs.Memory.{IsMemory};
     ghost use Rattle.rpki_as.specs.AsDer.{IsAsResources, as_resources_octets};
     ghost use Rattle.rpki_as.specs.AsDerReading.{as_choice_at};
-    ghost use Rattle.rpki_as.specs.Blocks.{IsAsSet, as_bounds};
+    ghost use Rattle.rpki_as.specs.Blocks.{IsAsSet};
+    ghost use Rattle.rpki_asblock.specs.Blocks.{as_bounds};
 
     /// Takes AS resources, which are inherited or listed. The blocks may come in any order and may overlap.
     ///

@@ -1,7 +1,7 @@
 use Rattle.std.proofs.Common.{refl}
 use Rattle.std.specs.String.{string_bytes}
 use Rattle.std.proofs.lemmas.Result.{IfOk-weaker}
-use Rattle.rpki_as.specs.Faults.{as_from_str_error_text}
+use Rattle.rpki_asblock.specs.Faults.{as_from_str_error_text}
 use Rattle.rpki_as.specs.ListText.{IsAsListText, HasAsListFault, as_list_text}
 use Rattle.rpki_lines.proofs.ShownLemmas.{ShowsValueOrFault-of_reader}
 use Rattle.rpki_lines.proofs.norm.norm_as.Goals as goal

@@ -1,6 +1,6 @@
 use Rattle.std.proofs.Common.{inr, refl}
 use Rattle.std.proofs.lemmas.Result.{IfOk-weaker}
-use Rattle.rpki_as.specs.Faults.{as_from_str_error_text}
+use Rattle.rpki_asblock.specs.Faults.{as_from_str_error_text}
 use Rattle.rpki_lines.proofs.path.path_as.Goals as goal
 
 pub returns-in-Err-Refused : goal.returns-in-Err-Refused

@@ -3,7 +3,8 @@ use Rattle.std.proofs.Common.{sym, ap, ◌∙◌}
 use Rattle.rpki_der.specs.Der.{sequence_value}
 use Rattle.rpki_base.specs.DerWriting.{sequence_octets}
 use Rattle.rpki_chain.specs.ChoiceDer.{choice_octets}
-use Rattle.rpki_as.specs.AsDer.{as_block_octets, as_sequence_octets}
+use Rattle.rpki_as.specs.AsDer.{as_sequence_octets}
+use Rattle.rpki_asblock.specs.AsDer.{as_block_octets}
 use Rattle.rpki_as.proofs.AsDerLemmas.{blocks_octets}
 use Rattle.rpki_as.proofs.resources.AsResources.as_choice.Goals as goal
 

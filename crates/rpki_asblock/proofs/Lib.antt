@@ -1,0 +1,3 @@
+pub mod AsDerLemmas
+pub mod BlockLemmas
+pub mod NumberLemmas

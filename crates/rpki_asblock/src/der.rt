@@ -1,0 +1,4 @@
+//! Blocks of AS numbers in DER (RFC 3779, 3.2.3.5 to 3.2.3.9).
+mod block;
+
+pub use block::AsBlockReader;

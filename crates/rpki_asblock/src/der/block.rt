@@ -1,0 +1,252 @@
+//! Blocks of AS numbers in DER: an INTEGER, or a SEQUENCE of two (RFC 3779, 3.2.3.5 and 3.2.3.8).
+ghost use Rattle.std.specs.Prelude.{◌≡◌, ◌≤◌, ◌<◌, length};
+ghost use Rattle.rpki_der.specs.Reading.{Gives};
+ghost use Rattle.rpki_der.specs.Views.{left, tlv};
+ghost use Rattle.rpki_asblock.specs.AsDer.{as_range_content};
+ghost use Rattle.rpki_asblock.specs.AsDerReading.{as_block_of, as_range_in, skip_block_of, skip_pair};
+ghost use Rattle.rpki_blocks.specs.Ranges.{range_bounds};
+
+use crate::block::AsBlock;
+use crate::range::AsRange;
+use rpki_base::asn::Asn;
+use rpki_base::der::{Encode, ReadNext};
+use rpki_der::{Content, Cursor, DerError, append_header, header_len, tag};
+use std::alloc::{AllocError, Allocator};
+
+impl AsBlock {
+    ghost use Rattle.std.specs.Prelude.{◌≡◌, ℕ, List, Ok, ◌≤◌, ◌<◌, ◌+◌, ◌++◌, length, vec_len, OnOk, OnErr, IsOk};
+    ghost use Rattle.std.specs.Vec.{vec_capacity};
+    ghost use Rattle.rpki_der.specs.Reading.{optional};
+    ghost use Rattle.rpki_der.specs.Views.{Lenient, ReadsOptional, Takes};
+    ghost use Rattle.rpki_asblock.specs.AsDer.{IsAsBlock, IsBlockInAnyOrder, as_block_octets};
+    ghost use Rattle.rpki_asblock.specs.AsDerReading.{as_block_at, skip_block_at};
+
+    /// Takes the next block; None at the end, and there alone.
+    ///
+    /// The faults are those of [`Cursor::take_value`] and `BadInteger`; `BadTag` also where neither an INTEGER nor a
+    /// SEQUENCE stands there, `ReversedRange` where the first number of a range is above the second, and `TrailingData`
+    /// where more than two numbers are in it.
+    pub fn take_opt_from(cursor: &mut Cursor<'_>) -> Result<Option<AsBlock>, DerError>
+        ensures reads { Lenient cursor.old (ReadsOptional IsAsBlock (λ block. block) cursor.old cursor.new result) }
+        ensures exact { Lenient cursor.old (Takes (λ block. block) cursor.old cursor.new result (optional as_block_at)) }
+    {
+        AsBlock::next_opt(cursor)
+    }
+
+    /// Passes over the next block; None at the end, and there alone. The faults are those of `take_opt_from` without
+    /// `ReversedRange`: the numbers of a range may be in any order.
+    pub fn skip_opt_in(cursor: &mut Cursor<'_>) -> Result<Option<()>, DerError>
+        ensures reads { ReadsOptional IsBlockInAnyOrder (λ u. u) cursor.old cursor.new result }
+        ensures exact { Takes (λ u. u) cursor.old cursor.new result (optional skip_block_at) }
+    {
+        AsBlock::pass_over_opt(cursor)
+    }
+
+    /// How many octets `encode` appends: at most 16.
+    pub fn encoded_len(&self) -> usize
+        ensures len { result ≡ length (as_block_octets self.now) }
+        ensures short { result ≤ 16 }
+    {
+        match self {
+            AsBlock::Id(asn) => asn.encoded_len(),
+            AsBlock::Range(range) => {
+                let content_len = range_content_len(range);
+                header_len(tag::SEQUENCE, content_len) + content_len
+            }
+        }
+    }
+
+    /// Appends the block in its own form. `AllocError` where there is no memory for it; then the octets stay as they
+    /// were.
+    pub fn encode<A: Allocator>(&self, out: &mut Vec<u8, A>) -> Result<(), AllocError>
+        ensures ok { OnOk result (out.new.items ≡ out.old.items ++ as_block_octets self.now) }
+        ensures err { OnErr result (out.new.items ≡ out.old.items) }
+        ensures succeeds { vec_len out.old + length (as_block_octets self.now) ≤ vec_capacity out.old → IsOk result }
+        ensures capacity { vec_capacity out.old ≤ vec_capacity out.new }
+        // It is read back, whatever follows it.
+        ensures read_back { (rest : List ℕ) → as_block_at (as_block_octets self.now ++ rest) ≡ Ok (self.now, rest) }
+    {
+        let _number = AsBlock::max(self).into_u32(); // read so that the proof sees that the number has 32 bits
+        self.put(out)
+    }
+}
+
+// The readings and the writers behind the calls.
+impl AsBlock {
+    ghost use Rattle.std.specs.Prelude.{◌≡◌, ◌≤◌, ◌+◌, ◌++◌, length, vec_len, OnOk, OnErr, IsOk};
+    ghost use Rattle.std.specs.Vec.{vec_capacity};
+    ghost use Rattle.rpki_asblock.specs.AsDer.{as_block_octets};
+    ghost use Rattle.rpki_der.specs.Reading.{Gives, optional};
+    ghost use Rattle.rpki_der.specs.Views.{Takes, tlv};
+    ghost use Rattle.rpki_asblock.specs.AsDerReading.{as_block_at, as_block_of, skip_block_at, skip_block_of};
+
+    fn put<A: Allocator>(&self, out: &mut Vec<u8, A>) -> Result<(), AllocError>
+        ensures ok { OnOk result (out.new.items ≡ out.old.items ++ as_block_octets self.now) }
+        ensures err { OnErr result (out.new.items ≡ out.old.items) }
+        ensures succeeds { vec_len out.old + length (as_block_octets self.now) ≤ vec_capacity out.old → IsOk result }
+        ensures capacity { vec_capacity out.old ≤ vec_capacity out.new }
+    {
+        out.reserve(AsBlock::encoded_len(self))?;
+        self.append_to(out);
+        Ok(())
+    }
+
+    fn append_to<A: Allocator>(&self, out: &mut Vec<u8, A>)
+        requires room { vec_len out.old + length (as_block_octets self.now) ≤ vec_capacity out.old }
+        ensures items { out.new.items ≡ out.old.items ++ as_block_octets self.now }
+        ensures capacity { vec_capacity out.old ≤ vec_capacity out.new }
+    {
+        match self {
+            AsBlock::Id(asn) => asn.append(out),
+            AsBlock::Range(range) => {
+                append_header(out, tag::SEQUENCE, range_content_len(range));
+                AsRange::min(*range).append(out);
+                AsRange::max(*range).append(out);
+            }
+        }
+    }
+
+    #[tactic(auto, unfolding(rpki_der::specs::Reading::optional))]
+    fn next_opt(cursor: &mut Cursor<'_>) -> Result<Option<AsBlock>, DerError>
+        ensures exact { Takes (λ block. block) cursor.old cursor.new result (optional as_block_at) }
+    {
+        if cursor.is_empty() {
+            return Ok(None);
+        }
+        Ok(Some(AsBlock::next(cursor)?))
+    }
+
+    #[tactic(auto, unfolding(rpki_der::specs::Reading::refined))]
+    fn next(cursor: &mut Cursor<'_>) -> Result<AsBlock, DerError>
+        ensures exact { Takes (λ block. block) cursor.old cursor.new result as_block_at }
+    {
+        let mut ahead = *cursor;
+        let block = AsBlock::of_value(&ahead.take_value()?)?;
+        *cursor = ahead;
+        Ok(block)
+    }
+
+    #[tactic(auto, unfolding(rpki_base::specs::DerReading::by_tag))]
+    fn of_value(value: &Content<'_>) -> Result<AsBlock, DerError>
+        ensures exact { Gives (λ block. block) result (as_block_of (tlv value.now)) }
+    {
+        match value.tag() {
+            tag::INTEGER => Ok(AsBlock::Id(Asn::parse_content(value)?)),
+            tag::SEQUENCE => Ok(AsBlock::Range(range_within(value.cursor())?)),
+            _ => Err(DerError::BadTag),
+        }
+    }
+
+    #[tactic(auto, unfolding(rpki_der::specs::Reading::optional))]
+    fn pass_over_opt(cursor: &mut Cursor<'_>) -> Result<Option<()>, DerError>
+        ensures exact { Takes (λ u. u) cursor.old cursor.new result (optional skip_block_at) }
+    {
+        if cursor.is_empty() {
+            return Ok(None);
+        }
+        Ok(Some(AsBlock::pass_over(cursor)?))
+    }
+
+    #[tactic(auto, unfolding(rpki_der::specs::Reading::refined))]
+    fn pass_over(cursor: &mut Cursor<'_>) -> Result<(), DerError>
+        ensures exact { Takes (λ u. u) cursor.old cursor.new result skip_block_at }
+    {
+        let mut ahead = *cursor;
+        AsBlock::pass_over_value(&ahead.take_value()?)?;
+        *cursor = ahead;
+        Ok(())
+    }
+
+    #[tactic(auto, unfolding(rpki_base::specs::DerReading::by_tag))]
+    fn pass_over_value(value: &Content<'_>) -> Result<(), DerError>
+        ensures exact { Gives (λ u. u) result (skip_block_of (tlv value.now)) }
+    {
+        match value.tag() {
+            tag::INTEGER => Asn::skip_content(value),
+            tag::SEQUENCE => skip_pair_within(value.cursor()),
+            _ => Err(DerError::BadTag),
+        }
+    }
+}
+
+/// The range in the content of a SEQUENCE.
+#[tactic(auto, unfolding(rpki_base::specs::DerReading::pair_in))]
+fn range_within(content: Cursor<'_>) -> Result<AsRange, DerError>
+    ensures exact { Gives (λ range. range) result (as_range_in (left content.entry)) }
+{
+    let mut inside = content;
+    let min = Asn::take_from(&mut inside)?;
+    let max = Asn::take_from(&mut inside)?;
+    if min > max {
+        return Err(DerError::ReversedRange);
+    }
+    inside.finish()?;
+    Ok(AsRange::new(min, max))
+}
+
+/// Passes over two AS numbers in the content of a SEQUENCE.
+#[tactic(auto, unfolding(rpki_base::specs::DerReading::pair_in))]
+fn skip_pair_within(content: Cursor<'_>) -> Result<(), DerError>
+    ensures exact { Gives (λ u. u) result (skip_pair (left content.entry)) }
+{
+    let mut inside = content;
+    Asn::take_from(&mut inside)?;
+    Asn::take_from(&mut inside)?;
+    inside.finish()
+}
+
+/// How many octets the content of a range has.
+fn range_content_len(range: &AsRange) -> usize
+    ensures len { result ≡ length (as_range_content (range_bounds range.now)) }
+    ensures short { result ≤ 14 }
+{
+    AsRange::min(*range).encoded_len() + AsRange::max(*range).encoded_len()
+}
+
+/// Reads blocks one after another.
+#[derive(Clone, Copy, Debug)]
+pub struct AsBlockReader;
+
+impl ReadNext for AsBlockReader {
+    ghost use Rattle.rpki_asblock.specs.AsDer.{IsAsBlock};
+    ghost use Rattle.rpki_asblock.specs.AsDerLaws.{as_block_has_octets, as_block_reading};
+    ghost use Rattle.rpki_asblock.specs.AsDerReading.{as_block_at};
+
+    type Value = AsBlock;
+
+    type State = ();
+
+    ghost first = { λ _. tt };
+
+    ghost after = { λ _ state block. state };
+
+    ghost grammar = { λ _ _. IsAsBlock };
+
+    ghost reading = { λ _ _. as_block_at };
+
+    ghost is_reading = { λ _ _. as_block_reading };
+
+    ghost has_octets = { λ _ _. as_block_has_octets };
+
+    fn first_state(&self) {}
+
+    fn state_after(&self, _state: (), _block: &AsBlock) {}
+
+    fn take_next(&self, _state: (), cursor: &mut Cursor<'_>) -> Result<Option<AsBlock>, DerError> {
+        AsBlock::next_opt(cursor)
+    }
+}
+
+impl Encode for AsBlock {
+    ghost use Rattle.rpki_asblock.specs.AsDer.{as_block_octets};
+
+    ghost octets = { as_block_octets };
+
+    fn encoded_len(&self) -> usize {
+        AsBlock::encoded_len(self)
+    }
+
+    fn append<A: Allocator>(&self, out: &mut Vec<u8, A>) {
+        self.append_to(out)
+    }
+}

@@ -22,11 +22,11 @@ use Rattle.rpki_family.specs.SetCovers.{runs_cover, blocks_cover, Ipv4Of}
 use Rattle.rpki_ip.specs.Ranges.{RangeValue, range_bounds}
 use Rattle.rpki_ip.specs.Whole.{IsWhole, HasWholeBounds}
 use Rattle.rpki_ipres.proofs.WholeLemmas.{whole_runs}
-use Rattle.rpki_ipres.specs.Blocks.{ip_bounds}
-use Rattle.rpki_ipres.specs.PrintedBlocks.{IsBlock}
+use Rattle.rpki_ipblock.specs.Blocks.{ip_bounds}
+use Rattle.rpki_ipblock.specs.PrintedBlocks.{IsBlock}
 use Rattle.rpki_ipres.specs.SetText.{IsIpSet}
-use Rattle.rpki_ipres.specs.declared.block.IpBlock.{IpBlock}
-use Rattle.rpki_ipres.specs.declared.block.IpBlock.TheVariants.{Prefix, Range}
+use Rattle.rpki_ipblock.specs.declared.block.IpBlock.{IpBlock}
+use Rattle.rpki_ipblock.specs.declared.block.IpBlock.TheVariants.{Prefix, Range}
 
 -- ---- runs of numbers of w bits
 

@@ -8,10 +8,10 @@ use Rattle.rpki_chain.proofs.RunLists.{IsRunsOf-same}
 use Rattle.rpki_blocks.proofs.Sorts.{Covers-map}
 use Rattle.rpki_ip.specs.Whole.{HasWholeBounds}
 use Rattle.rpki_ip.specs.declared.family.AddressFamily.TheVariants.{Ipv4}
-use Rattle.rpki_ipres.specs.Blocks.{ip_bounds, new_ip_block}
+use Rattle.rpki_ipblock.specs.Blocks.{ip_bounds, new_ip_block}
 use Rattle.rpki_ipres.specs.SetText.{IsFamilySet}
 use Rattle.rpki_ipres.proofs.SetTextLemmas.{blocks_of_family}
-use Rattle.rpki_ipres.specs.declared.block.IpBlock.{IpBlock}
+use Rattle.rpki_ipblock.specs.declared.block.IpBlock.{IpBlock}
 
 -- one more block is turned
 pub turned_more : {B : Type 0} (block : B → IpBlock) (xs : List B) (i : ℕ) (x : B) → i < length xs → x ≡ get_or xs i x → map block (take (i + 1) xs) ≡ map block (take i xs) ++ block x ∷ []

@@ -5,10 +5,10 @@ ghost use Rattle.rpki_text.specs.Reading.{AnswersOrMemory};
 ghost use Rattle.rpki_chain.specs.Runs.{Runs, Holds, IsRunsOfBlocks};
 ghost use Rattle.rpki_ip.specs.Whole.{IsWhole};
 ghost use Rattle.rpki_ip.specs.declared.family.AddressFamily.TheVariants.{Ipv4};
-ghost use Rattle.rpki_ipres.specs.Blocks.{ip_bounds};
-ghost use Rattle.rpki_ipres.specs.ListText.{HasBlocks, HasBlocksFault};
-ghost use Rattle.rpki_ipres.specs.PrintedBlocks.{block_list_text, IsBlockOf};
-ghost use Rattle.rpki_ipres.specs.declared.block.IpBlock.{IpBlock};
+ghost use Rattle.rpki_ipblock.specs.Blocks.{ip_bounds};
+ghost use Rattle.rpki_ipblock.specs.ListText.{HasBlocks, HasBlocksFault};
+ghost use Rattle.rpki_ipblock.specs.PrintedBlocks.{block_list_text, IsBlockOf};
+ghost use Rattle.rpki_ipblock.specs.declared.block.IpBlock.{IpBlock};
 ghost use Rattle.rpki_ipres.specs.SetText.{IsFamilySet, IsSetOf, set_text};
 
 use rpki_base::memory::OrMemory;

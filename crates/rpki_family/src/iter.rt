@@ -2,7 +2,7 @@
 ghost use Rattle.std.specs.Prelude.{◌≡◌, All, map};
 ghost use Rattle.std.specs.Iterator.{YieldsFirst, item_count};
 ghost use Rattle.std.specs.Slice.Iter.{iter_rest};
-ghost use Rattle.rpki_ipres.specs.Blocks.{ip_bounds};
+ghost use Rattle.rpki_ipblock.specs.Blocks.{ip_bounds};
 
 use crate::common::FamilyBlock;
 use rpki_ipres::block::IpBlock;
@@ -20,7 +20,7 @@ pub struct BlockIter<'a, B: FamilyBlock> {
 impl<'a, B: FamilyBlock> Model for BlockIter<'a, B> {
     ghost use Rattle.std.specs.Prelude.{List, All, map};
     ghost use Rattle.std.specs.Slice.Iter.{iter_rest};
-    ghost use Rattle.rpki_ipres.specs.Blocks.{ip_bounds};
+    ghost use Rattle.rpki_ipblock.specs.Blocks.{ip_bounds};
 
     ghost Value = { List B };
 

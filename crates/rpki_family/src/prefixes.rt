@@ -27,7 +27,7 @@ impl<'a> Model for V4SetPrefixes<'a> {
     ghost use Rattle.rpki_base.specs.Prefixes.{PrefixValue};
     ghost use Rattle.rpki_family.specs.SetCovers.{blocks_cover};
     ghost use Rattle.rpki_ip.specs.Whole.{HasWholeBounds};
-    ghost use Rattle.rpki_ipres.specs.Blocks.{ip_bounds};
+    ghost use Rattle.rpki_ipblock.specs.Blocks.{ip_bounds};
 
     ghost Value = { List PrefixValue };
 

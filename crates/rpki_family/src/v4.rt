@@ -8,12 +8,12 @@ ghost use Rattle.rpki_chain.specs.Runs.{Runs, Holds, IsRunsOf, IsRunsOfBlocks};
 ghost use Rattle.rpki_blocks.specs.Sets.{IsWithin};
 ghost use Rattle.rpki_ip.specs.Whole.{IsWhole, HasWholeBounds};
 ghost use Rattle.rpki_ip.specs.declared.family.AddressFamily.TheVariants.{Ipv4};
-ghost use Rattle.rpki_ipres.specs.Blocks.{ip_bounds, new_ip_block};
-ghost use Rattle.rpki_ipres.specs.ListText.{HasBlocks, HasBlocksFault};
-ghost use Rattle.rpki_ipres.specs.PrintedBlocks.{IsBlockOf, ip_block_text};
+ghost use Rattle.rpki_ipblock.specs.Blocks.{ip_bounds, new_ip_block};
+ghost use Rattle.rpki_ipblock.specs.ListText.{HasBlocks, HasBlocksFault};
+ghost use Rattle.rpki_ipblock.specs.PrintedBlocks.{IsBlockOf, ip_block_text};
 ghost use Rattle.rpki_ipres.specs.Resources.{IsFamilyClaim};
 ghost use Rattle.rpki_ipres.specs.SetText.{IsFamilySet, IsSetOf, set_text};
-ghost use Rattle.rpki_ipres.specs.declared.block.IpBlock.TheVariants.{Prefix};
+ghost use Rattle.rpki_ipblock.specs.declared.block.IpBlock.TheVariants.{Prefix};
 ghost use Rattle.rpki_family.specs.FamilyText.{ReadsFamilyBlock};
 ghost use Rattle.rpki_family.specs.PrefixBlocks.{IsPrefixBlock};
 
@@ -42,8 +42,8 @@ pub struct Ipv4Block {
 
 impl Model for Ipv4Block {
     ghost use Rattle.rpki_ip.specs.Whole.{HasWholeBounds};
-    ghost use Rattle.rpki_ipres.specs.Blocks.{ip_bounds};
-    ghost use Rattle.rpki_ipres.specs.declared.block.IpBlock.{IpBlock};
+    ghost use Rattle.rpki_ipblock.specs.Blocks.{ip_bounds};
+    ghost use Rattle.rpki_ipblock.specs.declared.block.IpBlock.{IpBlock};
 
     ghost Value = { IpBlock };
 

@@ -15,12 +15,13 @@ use Rattle.rpki_ip.specs.FamilyDer.{IsFamilyDer, family_at, family_der}
 use Rattle.rpki_ip.specs.declared.family.AddressFamily.{AddressFamily}
 use Rattle.rpki_ip.proofs.DerReadings.{family_reading}
 use Rattle.rpki_ip.proofs.DerWritten.{family_written}
-use Rattle.rpki_ipres.specs.BlockDer.{IsIpBlockDer, IsIpBlockSequence, IsIpFamily, ip_family_der, ip_run_der, ip_set_der}
-use Rattle.rpki_ipres.specs.BlockReading.{ip_blocks_at}
-use Rattle.rpki_ipres.specs.BlockReadingLaws.{blocks_reading}
-use Rattle.rpki_ipres.specs.Blocks.{ip_bounds, new_ip_block}
+use Rattle.rpki_ipblock.specs.BlockDer.{IsIpBlockDer}
+use Rattle.rpki_ipblock.specs.BlockReading.{ip_blocks_at}
+use Rattle.rpki_ipblock.specs.BlockReadingLaws.{blocks_reading}
+use Rattle.rpki_ipblock.specs.Blocks.{ip_bounds, new_ip_block}
+use Rattle.rpki_ipblock.specs.declared.block.IpBlock.{IpBlock}
+use Rattle.rpki_ipres.specs.SetDer.{IsIpBlockSequence, IsIpFamily, ip_family_der, ip_run_der, ip_set_der}
 use Rattle.rpki_ipres.specs.SetText.{IsFamilySet}
-use Rattle.rpki_ipres.specs.declared.block.IpBlock.{IpBlock}
 use Rattle.rpki_ipres.proofs.SetTextLemmas.{is_ip_set}
 use Rattle.rpki_ipres.proofs.SetWritten.{blocks_say, one_set, set_written, written_as_numbers}
 

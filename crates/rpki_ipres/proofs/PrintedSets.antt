@@ -5,12 +5,12 @@ use Rattle.rpki_chain.specs.Runs.{Runs, Holds, IsRunsOfBlocks}
 use Rattle.rpki_blocks.specs.Sets.{Covers}
 use Rattle.rpki_chain.proofs.RunLists.{IsRunsOf-unique, IsRunsOfBlocks-bounds, same_numbers}
 use Rattle.rpki_ip.specs.declared.family.AddressFamily.{AddressFamily}
-use Rattle.rpki_ipres.specs.Blocks.{ip_bounds, new_ip_block}
-use Rattle.rpki_ipres.specs.ListText.{HasBlocks, HasIpBlocks}
+use Rattle.rpki_ipblock.specs.Blocks.{ip_bounds, new_ip_block}
+use Rattle.rpki_ipblock.specs.ListText.{HasBlocks, HasIpBlocks}
+use Rattle.rpki_ipblock.specs.declared.block.IpBlock.{IpBlock}
+use Rattle.rpki_ipblock.proofs.ListLemmas.{same_blocks, same_ip_blocks}
+use Rattle.rpki_ipblock.proofs.PrintedLists.{family_list, list_told}
 use Rattle.rpki_ipres.specs.SetText.{IsSetOf, IsIpSet, IsFamilySet, set_text}
-use Rattle.rpki_ipres.specs.declared.block.IpBlock.{IpBlock}
-use Rattle.rpki_ipres.proofs.ListLemmas.{same_blocks, same_ip_blocks}
-use Rattle.rpki_ipres.proofs.PrintedLists.{family_list, list_told}
 use Rattle.rpki_ipres.proofs.SetTextLemmas.{blocks_bounds, blocks_of_family, is_ip_set}
 
 module _ (Has : List IpBlock → Type 0) where

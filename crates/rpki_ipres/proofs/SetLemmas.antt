@@ -2,9 +2,9 @@
 use Rattle.std.proofs.Common.{◌≤◌, [], ◌∷◌, refl, lit≤, arith}
 use Rattle.std.proofs.lemmas.List.Elements.{All-cons, All-nil}
 use Rattle.rpki_blocks.specs.Sets.{IsNew, IsChain}
-use Rattle.rpki_ipres.proofs.FormLemmas.{new_prefix}
-use Rattle.rpki_ipres.specs.Blocks.{ip_bounds, new_ip_block}
-use Rattle.rpki_ipres.specs.declared.block.IpBlock.TheVariants.{Prefix}
+use Rattle.rpki_ipblock.proofs.FormLemmas.{new_prefix}
+use Rattle.rpki_ipblock.specs.Blocks.{ip_bounds, new_ip_block}
+use Rattle.rpki_ipblock.specs.declared.block.IpBlock.TheVariants.{Prefix}
 
 -- the one block of all addresses
 pub IsChain-all : IsChain ip_bounds new_ip_block (Prefix (record { first = 0; len = 0 }) ∷ [])

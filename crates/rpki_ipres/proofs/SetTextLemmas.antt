@@ -11,12 +11,12 @@ use Rattle.rpki_chain.proofs.SetLemmas.{bounds_made}
 use Rattle.rpki_ip.specs.Whole.{HasWholeBounds}
 use Rattle.rpki_ip.specs.declared.family.AddressFamily.{AddressFamily}
 use Rattle.rpki_ip.specs.declared.family.AddressFamily.TheVariants.{Ipv4, Ipv6}
-use Rattle.rpki_ipres.specs.BlockForms.{new_ip_block_bounds}
-use Rattle.rpki_ipres.specs.Blocks.{ip_bounds, new_ip_block}
-use Rattle.rpki_ipres.specs.PrintedBlocks.{IsBlockOf}
+use Rattle.rpki_ipblock.specs.BlockForms.{new_ip_block_bounds}
+use Rattle.rpki_ipblock.specs.Blocks.{ip_bounds, new_ip_block}
+use Rattle.rpki_ipblock.specs.PrintedBlocks.{IsBlockOf}
+use Rattle.rpki_ipblock.specs.declared.block.IpBlock.{IpBlock}
+use Rattle.rpki_ipblock.proofs.FormLemmas.{new_block_fits}
 use Rattle.rpki_ipres.specs.SetText.{IsSetOf, IsIpSet, IsFamilySet}
-use Rattle.rpki_ipres.specs.declared.block.IpBlock.{IpBlock}
-use Rattle.rpki_ipres.proofs.FormLemmas.{new_block_fits}
 use Rattle.rpki_ipres.proofs.WholeLemmas.{whole_runs}
 
 module _ {V E : Type 0} (view : V → List IpBlock) (Has : List IpBlock → Type 0) (Fails : E → Type 0) where

@@ -21,17 +21,18 @@ use Rattle.rpki_ip.specs.FamilyDer.{family_der}
 use Rattle.rpki_ip.specs.RangeDer.{IsRangeWithin}
 use Rattle.rpki_ip.specs.Whole.{HasWholeBounds}
 use Rattle.rpki_cover.proofs.Multiples.{IsMultiple, mod_multiple, multiple_diff, multiple_least}
-use Rattle.rpki_ipres.specs.BlockDer.{IsBlockWithin, IsIpBlockDer, ip_block_der, ip_family_der, ip_run_der, ip_set_der}
-use Rattle.rpki_ipres.specs.PrintedBlocks.{IsBlock}
+use Rattle.rpki_ipblock.specs.BlockDer.{IsBlockWithin, IsIpBlockDer, ip_block_der}
+use Rattle.rpki_ipblock.specs.PrintedBlocks.{IsBlock}
+use Rattle.rpki_ipblock.specs.BlockForms.{new_ip_block_bounds}
+use Rattle.rpki_ipblock.specs.BlockReading.{ip_block_at}
+use Rattle.rpki_ipblock.specs.Blocks.{ip_bounds, new_ip_block}
+use Rattle.rpki_ipblock.specs.declared.block.IpBlock.{IpBlock}
+use Rattle.rpki_ipblock.specs.declared.block.IpBlock.TheVariants.{Prefix, Range}
+use Rattle.rpki_ipblock.specs.BlockReadingLaws.{ip_block_has_octets, ip_block_reading}
+use Rattle.rpki_ipblock.proofs.BlockWritten.{block_written}
+use Rattle.rpki_ipblock.proofs.FormLemmas.{new_block_fits}
+use Rattle.rpki_ipres.specs.SetDer.{ip_family_der, ip_run_der, ip_set_der}
 use Rattle.rpki_ipres.specs.SetText.{IsFamilySet, IsIpSet}
-use Rattle.rpki_ipres.specs.BlockForms.{new_ip_block_bounds}
-use Rattle.rpki_ipres.specs.BlockReading.{ip_block_at}
-use Rattle.rpki_ipres.specs.Blocks.{ip_bounds, new_ip_block}
-use Rattle.rpki_ipres.specs.declared.block.IpBlock.{IpBlock}
-use Rattle.rpki_ipres.specs.declared.block.IpBlock.TheVariants.{Prefix, Range}
-use Rattle.rpki_ipres.specs.BlockReadingLaws.{ip_block_has_octets, ip_block_reading}
-use Rattle.rpki_ipres.proofs.BlockWritten.{block_written}
-use Rattle.rpki_ipres.proofs.FormLemmas.{new_block_fits}
 use Rattle.rpki_ipres.proofs.SetTextLemmas.{blocks_bounds}
 use Rattle.rpki_ipres.proofs.WholeLemmas.{whole_runs}
 

@@ -1,12 +1,5 @@
-pub mod BlockDer
-pub mod BlockForms
-pub mod BlockReading
-pub mod BlockReadingLaws
-pub mod Blocks
-pub mod BlockText
-pub mod ListText
-pub mod PrintedBlocks
 pub mod Resources
 pub mod ResourcesDer
 pub mod ResourcesReadingLaws
+pub mod SetDer
 pub mod SetText

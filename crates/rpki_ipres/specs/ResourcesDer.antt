@@ -12,11 +12,12 @@ use Rattle.rpki_claims.specs.FamiliesReading.{families_at}
 use Rattle.rpki_der.specs.declared.error.DerError.{DerError}
 use Rattle.rpki_ip.specs.Families.{bits_of}
 use Rattle.rpki_ip.specs.declared.family.AddressFamily.{AddressFamily}
-use Rattle.rpki_ipres.specs.BlockDer.{IsIpBlockDer, ip_run_der, ip_set_der}
-use Rattle.rpki_ipres.specs.BlockReading.{ip_block_at}
-use Rattle.rpki_ipres.specs.Blocks.{ip_bounds}
+use Rattle.rpki_ipblock.specs.BlockDer.{IsIpBlockDer}
+use Rattle.rpki_ipblock.specs.BlockReading.{ip_block_at}
+use Rattle.rpki_ipblock.specs.Blocks.{ip_bounds}
+use Rattle.rpki_ipblock.specs.declared.block.IpBlock.{IpBlock}
+use Rattle.rpki_ipres.specs.SetDer.{ip_run_der, ip_set_der}
 use Rattle.rpki_ipres.specs.Resources.{if_present}
-use Rattle.rpki_ipres.specs.declared.block.IpBlock.{IpBlock}
 
 -- a NULL for inherited resources, else a SEQUENCE of blocks, one at least, which stands for the set
 -- of their addresses (2.2.3.4 to 2.2.3.6); limit is the greatest length of a prefix

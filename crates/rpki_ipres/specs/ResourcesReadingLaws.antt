@@ -7,11 +7,11 @@ use Rattle.rpki_base.proofs.DerReadings.{values_check}
 use Rattle.rpki_base.specs.DerReading.{IsSequenceOf, values_of}
 use Rattle.rpki_chain.specs.ChoiceDer.{IsChoiceOf}
 use Rattle.rpki_chain.proofs.ChoiceReadings.{choice_reading}
-use Rattle.rpki_ipres.specs.BlockDer.{IsIpBlockDer}
-use Rattle.rpki_ipres.specs.BlockReading.{ip_block_at}
-use Rattle.rpki_ipres.specs.BlockReadingLaws.{ip_block_has_octets, ip_block_reading}
+use Rattle.rpki_ipblock.specs.BlockDer.{IsIpBlockDer}
+use Rattle.rpki_ipblock.specs.BlockReading.{ip_block_at}
+use Rattle.rpki_ipblock.specs.BlockReadingLaws.{ip_block_has_octets, ip_block_reading}
+use Rattle.rpki_ipblock.specs.declared.block.IpBlock.{IpBlock}
 use Rattle.rpki_ipres.specs.ResourcesDer.{ip_resources_at}
-use Rattle.rpki_ipres.specs.declared.block.IpBlock.{IpBlock}
 
 -- a NULL, or a SEQUENCE of blocks, one at least
 pub resources_reading : (limit : ℕ) → IsReading (IsChoiceOf (IsSequenceOf (IsIpBlockDer limit))) (ip_resources_at limit)

@@ -1,5 +1,4 @@
-//! Blocks, sets and resources of addresses in DER (RFC 3779, section 2.2.3).
-mod block;
+//! Sets and resources of addresses in DER (RFC 3779, section 2.2.3).
 mod blocks;
 pub mod laws;
 mod resources;

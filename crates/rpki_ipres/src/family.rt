@@ -4,8 +4,8 @@ ghost use Rattle.rpki_ip.specs.declared.family.AddressFamily.TheVariants.{Ipv4, 
 ghost use Rattle.rpki_ipres.specs.SetText.{set_text};
 
 use crate::blocks::IpBlocks;
-use crate::list::fmt_blocks;
 use rpki_ip::family::AddressFamily;
+use rpki_ipblock::list::fmt_blocks;
 use std::alloc::{Allocator, Global};
 use std::fmt;
 use std::marker::Model;

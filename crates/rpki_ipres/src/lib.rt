@@ -1,4 +1,4 @@
-//! Blocks of IP addresses, sets of them and resources (RFC 3779, 2), with their texts and their DER.
+//! Sets of IP addresses and resources (RFC 3779, 2), with their texts and their DER.
 //!
 //! Resources of both families are written, as in the program `holdings`:
 //!
@@ -9,16 +9,13 @@
 //! ```
 #![tactic(auto)]
 
-pub mod block;
 pub mod blocks;
 pub mod builder;
 pub mod der;
 pub mod family;
 pub mod laws;
-pub mod list;
 pub mod overclaim;
 pub mod resources;
-pub mod text;
 pub mod verify;
 
 pub use block::IpBlock;
@@ -29,3 +26,6 @@ pub use overclaim::{OverclaimedIpResources, OverclaimedIpv4Resources, Overclaime
 pub use resources::{InheritedIpResources, IpResources};
 pub use text::{DisplayV4Block, DisplayV6Block};
 pub use verify::IpStep;
+
+/// Blocks of addresses, which stand in a crate of their own below this one.
+pub use rpki_ipblock::{block, list, text};

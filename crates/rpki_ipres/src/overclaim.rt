@@ -6,9 +6,9 @@ ghost use Rattle.rpki_ip.specs.Whole.{IsWhole};
 ghost use Rattle.rpki_ip.specs.declared.family.AddressFamily.TheVariants.{Ipv4, Ipv6};
 ghost use Rattle.rpki_ipres.specs.SetText.{overclaimed_text};
 
-use crate::block::IpBlock;
 use crate::blocks::IpBlocks;
 use rpki_chain::set::BlockSet;
+use rpki_ipblock::block::IpBlock;
 use std::alloc::{AllocError, Allocator, Global};
 use std::error::Error;
 use std::fmt;

@@ -8,16 +8,16 @@ ghost use Rattle.rpki_chain.specs.ChoiceDer.{choice_octets};
 ghost use Rattle.rpki_chain.specs.ChoiceEquality.{choice_eq, choice_per, choice_equiv};
 ghost use Rattle.rpki_chain.specs.Claims.{ListsSome, claim_of};
 ghost use Rattle.rpki_chain.specs.declared.choice.ResourcesChoice.TheVariants.{Missing, Inherit};
-ghost use Rattle.rpki_ipres.specs.BlockDer.{ip_block_der};
+ghost use Rattle.rpki_ipblock.specs.BlockDer.{ip_block_der};
 ghost use Rattle.rpki_ipres.specs.Resources.{IsIpClaim};
 ghost use Rattle.rpki_ipres.specs.ResourcesDer.{ip_content_der, ip_resources_der};
 
-use crate::block::IpBlock;
 use crate::blocks::IpBlocks;
 use rpki_base::memory::OrMemory;
 use rpki_chain::choice::{InheritedResources, Listed, ResourcesChoice};
 use rpki_chain::path::Claims;
 use rpki_chain::set::BlockSet;
+use rpki_ipblock::block::IpBlock;
 use std::alloc::{AllocError, Allocator, Global};
 use std::error::Error;
 use std::fmt;

@@ -9,7 +9,7 @@ use Rattle.rpki_text.specs.declared.memory.OrMemory.TheVariants.{Refused, Memory
 use Rattle.rpki_ip.specs.Faults.{ip_from_str_error_text}
 use Rattle.rpki_ip.specs.declared.error.FromStrError.{FromStrError}
 use Rattle.rpki_ip.specs.declared.family.AddressFamily.{AddressFamily}
-use Rattle.rpki_ipres.specs.ListText.{HasBlocksFault}
+use Rattle.rpki_ipblock.specs.ListText.{HasBlocksFault}
 use Rattle.rpki_lines.specs.Cover.{IsCoverIp, IsCoverOf, cover_text}
 use Rattle.rpki_lines.specs.Shown.{ShowsResult}
 

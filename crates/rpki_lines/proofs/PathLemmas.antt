@@ -15,10 +15,11 @@ use Rattle.rpki_chain.specs.declared.path.Step.{Step}
 use Rattle.rpki_ip.specs.Whole.{IsWhole}
 use Rattle.rpki_ip.specs.declared.family.AddressFamily.{AddressFamily}
 use Rattle.rpki_ip.specs.declared.family.AddressFamily.TheVariants.{Ipv4, Ipv6}
-use Rattle.rpki_ipres.specs.ListText.{HasBlocks}
+use Rattle.rpki_ipblock.specs.ListText.{HasBlocks}
 use Rattle.rpki_ipres.specs.Resources.{IsWholeClaim}
 use Rattle.rpki_ipres.specs.SetText.{IsSetOf}
-use Rattle.rpki_ipres.proofs.WholeReadings.{whole_cover, whole_list}
+use Rattle.rpki_ipblock.proofs.WholeReadings.{whole_list}
+use Rattle.rpki_ipres.proofs.WholeReadings.{whole_cover}
 use Rattle.rpki_lines.specs.Path.{ArePath, HasRootFault, HasStepFault, HavePathFault, IsStepText, list_of, parts_of}
 use Rattle.rpki_lines.specs.declared.steps.PartFault.{PartFault}
 

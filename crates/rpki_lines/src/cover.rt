@@ -3,7 +3,7 @@ ghost use Rattle.std.specs.Prelude.{◌≡◌, List, Some, IfOk, MatchResult};
 ghost use Rattle.std.specs.String.{string_bytes};
 ghost use Rattle.rpki_text.specs.Memory.{IfRefused};
 ghost use Rattle.rpki_ip.specs.declared.family.AddressFamily.TheVariants.{Ipv4, Ipv6};
-ghost use Rattle.rpki_ipres.specs.ListText.{HasBlocksFault};
+ghost use Rattle.rpki_ipblock.specs.ListText.{HasBlocksFault};
 ghost use Rattle.rpki_lines.specs.Cover.{IsCoverAnswer, IsCoverIp, IsCoverOf, prefix_with_length, cover_text};
 
 use crate::kind::{Kind, kind_named};

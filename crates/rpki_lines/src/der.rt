@@ -3,7 +3,7 @@ ghost use Rattle.std.specs.Prelude.{◌≡◌, IfOk, MatchResult};
 ghost use Rattle.std.specs.String.{string_bytes};
 ghost use Rattle.rpki_text.specs.Memory.{IfRefused};
 ghost use Rattle.rpki_as.specs.AsDer.{as_resources_octets};
-ghost use Rattle.rpki_ipres.specs.ListText.{HasBlocksFault};
+ghost use Rattle.rpki_ipblock.specs.ListText.{HasBlocksFault};
 ghost use Rattle.rpki_lines.specs.Der.{HasIpResourcesFault, IsDerAnswer, IsDerAs, IsDerIp, IsIpResourcesText, IsListed, family_octets, octets_text};
 
 use crate::hexadecimal::hexadecimal_of;

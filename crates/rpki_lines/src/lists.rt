@@ -6,7 +6,7 @@ ghost use Rattle.rpki_chain.specs.Runs.{Runs};
 ghost use Rattle.rpki_chain.specs.declared.choice.ResourcesChoice.TheVariants.{Missing, Inherit};
 ghost use Rattle.rpki_as.specs.ListText.{IsAsListText, HasAsListFault};
 ghost use Rattle.rpki_ip.specs.declared.family.AddressFamily.TheVariants.{Ipv4, Ipv6};
-ghost use Rattle.rpki_ipres.specs.ListText.{HasBlocks, HasBlocksFault};
+ghost use Rattle.rpki_ipblock.specs.ListText.{HasBlocks, HasBlocksFault};
 ghost use Rattle.rpki_ipres.specs.SetText.{IsSetOf};
 
 use rpki_as::blocks::AsBlocks;

@@ -1,4 +1,4 @@
-//! What holds of the octets of blocks, sets and resources, each law as the contract of a function that does nothing.
+//! What holds of the octets of sets and resources, each law as the contract of a function that does nothing.
 ghost use Rattle.std.specs.Prelude.{◌≡◌, ◌≢◌, ℕ, [], ◌<◌, ◌^◌, ◌↔◌, length};
 ghost use Rattle.rpki_chain.specs.Claims.{Claim};
 ghost use Rattle.rpki_chain.specs.Runs.{Runs, Holds};
@@ -6,16 +6,18 @@ ghost use Rattle.rpki_chain.specs.declared.choice.ResourcesChoice.TheVariants.{M
 ghost use Rattle.rpki_der.specs.Der.{OneFront};
 ghost use Rattle.rpki_ip.specs.Families.{bits_of};
 ghost use Rattle.rpki_ip.specs.declared.family.AddressFamily.TheVariants.{Ipv4, Ipv6};
-ghost use Rattle.rpki_ipres.specs.BlockDer.{IsIpBlockDer, IsIpBlockSequence, IsIpFamily, ip_family_der, ip_set_der};
+ghost use Rattle.rpki_ipres.specs.SetDer.{IsIpBlockSequence, IsIpFamily, ip_family_der, ip_set_der};
 ghost use Rattle.rpki_ipres.specs.Resources.{IsFamilyClaim, IsIpClaim, if_present};
 ghost use Rattle.rpki_ipres.specs.ResourcesDer.{IsIpFamilies, IsIpResources, ip_families_der, ip_member_der, ip_resources_der};
 ghost use Rattle.rpki_ipres.specs.SetText.{IsFamilySet, IsIpSet};
 
-/// Octets begin with at most one block, with at most one SEQUENCE of blocks, which stands for one set, and with at most
-/// one SEQUENCE of a family and of the SEQUENCE of its blocks, which stands for one family and one set. They begin with
-/// the resources of at most one claim, and with at most one SEQUENCE of families, which have one claim each.
+/// The law of single blocks, which stands in the crate of blocks.
+pub use rpki_ipblock::der::laws::one_block;
+
+/// Octets begin with at most one SEQUENCE of blocks, which stands for one set, and with at most one SEQUENCE of a family
+/// and of the SEQUENCE of its blocks, which stands for one family and one set. They begin with the resources of at most
+/// one claim, and with at most one SEQUENCE of families, which have one claim each.
 pub fn one_value()
-    ensures block { (limit : ℕ) → OneFront (IsIpBlockDer limit) }
     ensures set { (limit : ℕ) → OneFront (IsIpBlockSequence limit) }
     ensures family { OneFront IsIpFamily }
     ensures resources { (limit : ℕ) → OneFront (IsIpResources limit) }

@@ -1,5 +1,4 @@
 //! Resources of addresses in DER: of one family, and by families (RFC 3779, 2.2.3.1 to 2.2.3.6).
-use crate::der::block::IpBlockReader;
 use crate::der::blocks::{append_family, family_len, put_family};
 use crate::resources::IpResources;
 use rpki_base::memory::OrMemory;
@@ -7,6 +6,7 @@ use rpki_chain::der::{content_len, encode_choice, take_choice};
 use rpki_claims::{ReadClaim, take_families};
 use rpki_der::{Cursor, DerError, append_header, header_len, tag};
 use rpki_ip::family::AddressFamily;
+use rpki_ipblock::der::IpBlockReader;
 use std::alloc::{AllocError, Allocator};
 
 impl<A: Allocator> IpResources<A> {
@@ -228,10 +228,10 @@ impl<A: Allocator + Copy> ReadClaim for IpResourcesReader<A> {
     ghost use Rattle.rpki_chain.specs.ChoiceDer.{IsChoiceOf};
     ghost use Rattle.rpki_chain.specs.declared.choice.ResourcesChoice.{ResourcesChoice};
     ghost use Rattle.rpki_ip.specs.Families.{bits_of};
-    ghost use Rattle.rpki_ipres.specs.BlockDer.{IsIpBlockDer};
+    ghost use Rattle.rpki_ipblock.specs.BlockDer.{IsIpBlockDer};
+    ghost use Rattle.rpki_ipblock.specs.declared.block.IpBlock.{IpBlock};
     ghost use Rattle.rpki_ipres.specs.ResourcesDer.{SaysClaimOf, ip_resources_at};
     ghost use Rattle.rpki_ipres.specs.ResourcesReadingLaws.{resources_reading};
-    ghost use Rattle.rpki_ipres.specs.declared.block.IpBlock.{IpBlock};
 
     type Claim = IpResources<A>;
 

@@ -1,7 +1,7 @@
 -- What was written is the set's SEQUENCE with nothing behind it.
 use Rattle.std.proofs.Common.{[], subst}
 use Rattle.rpki_text.specs.Memory.{IsMemory}
-use Rattle.rpki_ipres.specs.BlockDer.{ip_set_der}
+use Rattle.rpki_ipres.specs.SetDer.{ip_set_der}
 use Rattle.callers.proofs.AllWritten.{only}
 use Rattle.callers.proofs.octets.written_and_read.Goals as goal
 

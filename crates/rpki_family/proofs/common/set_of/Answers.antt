@@ -2,7 +2,7 @@ use Rattle.std.proofs.Common.{◌≡◌, ◌∙◌, inl, inr, get_or, sym, ap, s
 use Rattle.std.proofs.lemmas.Bool.{cases_order}
 use Rattle.std.proofs.lemmas.List.{get_or_default, take_all}
 use Rattle.std.proofs.lemmas.Result.{IfOk-weaker}
-use Rattle.rpki_ipres.specs.Blocks.{ip_bounds}
+use Rattle.rpki_ipblock.specs.Blocks.{ip_bounds}
 use Rattle.rpki_family.proofs.SetLemmas.{turned_more, set_of_turned}
 use Rattle.rpki_family.proofs.common.set_of.Goals as goal
 

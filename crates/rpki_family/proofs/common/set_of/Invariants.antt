@@ -1,5 +1,5 @@
 use Rattle.std.proofs.Common.{◌≡◌, ℕ, ◌<◌, map, take, get_or}
-use Rattle.rpki_ipres.specs.Blocks.{ip_bounds}
+use Rattle.rpki_ipblock.specs.Blocks.{ip_bounds}
 use Rattle.rpki_family.proofs.common.set_of.Given as goal
 
 -- the blocks so far, and that they fit

@@ -3,7 +3,7 @@ use Rattle.std.specs.String.{string_bytes}
 use Rattle.std.proofs.lemmas.Result.{IfOk-weaker}
 use Rattle.rpki_ip.specs.Faults.{ip_from_str_error_text}
 use Rattle.rpki_ip.specs.declared.family.AddressFamily.TheVariants.{Ipv4}
-use Rattle.rpki_ipres.specs.ListText.{HasBlocks, HasBlocksFault}
+use Rattle.rpki_ipblock.specs.ListText.{HasBlocks, HasBlocksFault}
 use Rattle.rpki_ipres.specs.SetText.{IsSetOf, set_text}
 use Rattle.rpki_lines.proofs.ShownLemmas.{ShowsValueOrFault-of_reader}
 use Rattle.rpki_lines.proofs.norm.norm_v4.Goals as goal

@@ -8,7 +8,7 @@ use Rattle.rpki_family.proofs.CoverLemmas.{set_step, block_below, same_bounds, m
 use Rattle.rpki_family.specs.SetCovers.{blocks_cover}
 use Rattle.rpki_ip.specs.Ranges.{range_bounds}
 use Rattle.rpki_ip.specs.Whole.{HasWholeBounds}
-use Rattle.rpki_ipres.specs.Blocks.{ip_bounds}
+use Rattle.rpki_ipblock.specs.Blocks.{ip_bounds}
 use Rattle.rpki_family.proofs.prefixes.V4SetPrefixesIterator.next.Goals as goal
 
 same : (c : goal.After-next-3) → range_bounds c.new.result ≡ ip_bounds c.in-Some-next.block.now

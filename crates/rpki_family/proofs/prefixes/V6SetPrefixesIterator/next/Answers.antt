@@ -4,7 +4,7 @@ use Rattle.rpki_cover.specs.Covers.{IsShortestCover}
 use Rattle.rpki_family.proofs.CoverLemmas.{set_step, block_below, same_bounds, makes_progress}
 use Rattle.rpki_family.specs.SetCovers.{blocks_cover}
 use Rattle.rpki_ip.specs.Ranges.{range_bounds}
-use Rattle.rpki_ipres.specs.Blocks.{ip_bounds}
+use Rattle.rpki_ipblock.specs.Blocks.{ip_bounds}
 use Rattle.rpki_family.proofs.prefixes.V6SetPrefixesIterator.next.Goals as goal
 
 same : (c : goal.After-next-3) → range_bounds c.new.result ≡ ip_bounds c.in-Some-next.block.now

@@ -2,9 +2,9 @@ use Rattle.std.proofs.Common.{◌≡◌, ap, sym, ◌∙◌, subst}
 use Rattle.rpki_ip.specs.Families.{family_of}
 use Rattle.rpki_ip.specs.Whole.{HasWholeBounds}
 use Rattle.rpki_ip.specs.declared.family.AddressFamily.TheVariants.{Ipv4}
-use Rattle.rpki_ipres.specs.Blocks.{ip_bounds}
-use Rattle.rpki_ipres.specs.declared.block.IpBlock.{IpBlock}
-use Rattle.rpki_ipres.proofs.WholeReadings.{whole_family_prefix}
+use Rattle.rpki_ipblock.specs.Blocks.{ip_bounds}
+use Rattle.rpki_ipblock.specs.declared.block.IpBlock.{IpBlock}
+use Rattle.rpki_ipblock.proofs.WholeReadings.{whole_family_prefix}
 use Rattle.rpki_family.proofs.v4.Ipv4Block.from_prefix.Goals as goal
 
 pub invariant_of-result : goal.invariant_of-result

@@ -1,4 +1,4 @@
-use Rattle.rpki_ipres.proofs.WholeReadings.{whole_text}
+use Rattle.rpki_ipblock.proofs.WholeReadings.{whole_text}
 use Rattle.rpki_family.proofs.v4.Ipv4BlockFromStr.from_str.Goals as goal
 
 pub invariant_of-result : goal.invariant_of-result

@@ -1,7 +1,7 @@
 use Rattle.std.proofs.Common.{map, ◌∙◌, ap}
 use Rattle.std.specs.Slice.Iter.{iter_rest}
 use Rattle.std.proofs.lemmas.List.{map-id}
-use Rattle.rpki_ipres.specs.Blocks.{new_ip_block}
+use Rattle.rpki_ipblock.specs.Blocks.{new_ip_block}
 use Rattle.rpki_family.proofs.SetLemmas.{whole_blocks}
 use Rattle.rpki_family.proofs.v4.Ipv4Blocks.iter.Goals as goal
 

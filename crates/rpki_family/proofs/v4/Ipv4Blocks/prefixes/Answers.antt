@@ -4,7 +4,7 @@ use Rattle.rpki_chain.specs.Runs.{Holds}
 use Rattle.rpki_cover.specs.Covers.{IsShortestCover, IsV4CoverList}
 use Rattle.rpki_family.proofs.CoverLemmas.{set_covered, v4_covered, begun, whole_blocks}
 use Rattle.rpki_family.specs.SetCovers.{runs_cover, blocks_cover, Ipv4Of}
-use Rattle.rpki_ipres.specs.Blocks.{ip_bounds}
+use Rattle.rpki_ipblock.specs.Blocks.{ip_bounds}
 use Rattle.rpki_ipres.specs.SetText.{IsIpSet}
 use Rattle.rpki_family.proofs.v4.Ipv4Blocks.prefixes.Given as given
 use Rattle.rpki_family.proofs.v4.Ipv4Blocks.prefixes.Goals as goal

@@ -6,10 +6,11 @@ use Rattle.rpki_chain.specs.Runs.{IsRunsOfBlocks}
 use Rattle.rpki_der.specs.Views.{left}
 use Rattle.rpki_base.proofs.DerCursors.{reads_said_by, takes_said}
 use Rattle.rpki_ip.specs.declared.family.AddressFamily.TheVariants.{Ipv6}
-use Rattle.rpki_ipres.specs.BlockDer.{IsIpBlockDer, ip_run_der, ip_set_der}
-use Rattle.rpki_ipres.specs.BlockReading.{ip_blocks_at}
-use Rattle.rpki_ipres.specs.Blocks.{ip_bounds, new_ip_block}
-use Rattle.rpki_ipres.specs.BlockReadingLaws.{blocks_reading}
+use Rattle.rpki_ipblock.specs.BlockDer.{IsIpBlockDer}
+use Rattle.rpki_ipblock.specs.BlockReading.{ip_blocks_at}
+use Rattle.rpki_ipblock.specs.Blocks.{ip_bounds, new_ip_block}
+use Rattle.rpki_ipblock.specs.BlockReadingLaws.{blocks_reading}
+use Rattle.rpki_ipres.specs.SetDer.{ip_run_der, ip_set_der}
 use Rattle.rpki_ipres.proofs.SetWritten.{blocks_say, content_short, one_set, set_written}
 use Rattle.rpki_ipres.proofs.blocks.IpBlocks.take_from.Goals as goal
 

@@ -5,7 +5,7 @@ use Rattle.rpki_chain.specs.ChoiceDer.{IsChoiceOf}
 use Rattle.rpki_claims.proofs.Said.{read_back_by}
 use Rattle.rpki_der.specs.Views.{left}
 use Rattle.rpki_ip.specs.Families.{bits_of}
-use Rattle.rpki_ipres.specs.BlockDer.{IsIpBlockDer}
+use Rattle.rpki_ipblock.specs.BlockDer.{IsIpBlockDer}
 use Rattle.rpki_ipres.specs.ResourcesDer.{IsIpResources, SaysClaimOf, ip_resources_at, ip_resources_der}
 use Rattle.rpki_ipres.specs.ResourcesReadingLaws.{resources_reading}
 use Rattle.rpki_ipres.proofs.ResourcesWritten.{front_short, one_resources, resources_written}

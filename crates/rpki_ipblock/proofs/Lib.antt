@@ -1,0 +1,7 @@
+pub mod BlockWritten
+pub mod FormLemmas
+pub mod ListLemmas
+pub mod PrintedLemmas
+pub mod PrintedLists
+pub mod TextLemmas
+pub mod WholeReadings

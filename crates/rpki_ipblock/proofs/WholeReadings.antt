@@ -7,12 +7,13 @@ use Rattle.std.proofs.lemmas.List.Elements.{All-cons, All-nil}
 use Rattle.std.proofs.lemmas.Nat.{pow_pos, pow-add}
 use Rattle.rpki_der.specs.Der.{Bits, Each, big_endian}
 use Rattle.rpki_text.specs.Lists.{elements, HaveValues}
-use Rattle.rpki_base.specs.Prefixes.{PrefixValue, cleared}
+use Rattle.rpki_addr.specs.Bits.{cleared}
+use Rattle.rpki_base.specs.Prefixes.{PrefixValue}
 use Rattle.rpki_text.specs.Reading.{AnswersOrMemory}
 use Rattle.rpki_addr.specs.declared.addr.IpAddr.{IpAddr}
 use Rattle.rpki_addr.specs.declared.addr.IpAddr.TheVariants.{V4, V6}
 use Rattle.rpki_text.specs.declared.memory.OrMemory.{OrMemory}
-use Rattle.rpki_ip.specs.AddrText.{first_of}
+use Rattle.rpki_addr.specs.AddrText.{first_of}
 use Rattle.rpki_ip.specs.BlockText.{IsRangeFrom}
 use Rattle.rpki_ip.specs.Families.{bits_of, family_of}
 use Rattle.rpki_ip.specs.PrefixDer.{SaysPrefix}

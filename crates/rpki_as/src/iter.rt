@@ -1,4 +1,5 @@
 //! AS numbers one by one, ascending. The iterators take no memory.
+ghost use Rattle.std.specs.Prelude.{◌≡◌};
 ghost use Rattle.std.specs.Iterator.{YieldsFirst, item_count};
 
 use rpki_asblock::block::AsBlock;

@@ -1,11 +1,12 @@
 //! Sets of AS numbers.
-ghost use Rattle.std.specs.Prelude.{◌≡◌, ℕ, ◌↔◌, ◌⊎◌, [], ◌∷◌, IsTrue, IfOk, IsErr, Ok, OnOk, OnErr, Some, map, MatchResult};
+ghost use Rattle.std.specs.Prelude.{◌≡◌, ℕ, ◌↔◌, [], ◌∷◌, IsTrue, IfOk, IsErr, Ok, OnOk, OnErr, Some, map, MatchResult};
 ghost use Rattle.std.specs.Slice.Iter.{iter_rest};
 ghost use Rattle.rpki_text.specs.Memory.{IsMemory};
 ghost use Rattle.rpki_text.specs.Reading.{AnswersOrMemory};
 ghost use Rattle.rpki_blocks.specs.Equality.{same_runs, runs_per, runs_equiv};
 ghost use Rattle.rpki_chain.specs.Choices.{MatchChoice};
-ghost use Rattle.rpki_chain.specs.Runs.{Runs, Holds, IsRunsOf, IsRunsOfBlocks};
+ghost use Rattle.rpki_chain.specs.Operations.{IsDifference, IsIntersection, IsUnion};
+ghost use Rattle.rpki_chain.specs.Runs.{Runs, Holds, IsRunsOfBlocks};
 ghost use Rattle.rpki_as.specs.Blocks.{IsAsSet};
 ghost use Rattle.rpki_asblock.specs.Blocks.{as_bounds, new_as_block};
 ghost use Rattle.rpki_as.specs.ListText.{IsAsListText, HasAsListFault, as_list_text};
@@ -169,7 +170,7 @@ impl<A: Allocator> AsBlocks<A> {
     pub fn intersection(&self, alloc: A, other: &AsBlocks<A>) -> Result<AsBlocks<A>, AllocError>
     where
         A: Copy,
-        ensures { IfOk result (IsRunsOf (λ n. Holds self.now n × Holds other.now n)) }
+        ensures { IfOk result (IsIntersection self.now other.now) }
     {
         let set = self.set.intersection(alloc, &other.set)?;
         Ok(Self::from_set(set))
@@ -180,7 +181,7 @@ impl<A: Allocator> AsBlocks<A> {
     pub fn intersection_assign(&mut self, alloc: A, other: &AsBlocks<A>) -> Result<(), AllocError>
     where
         A: Copy,
-        ensures ok { OnOk result (IsRunsOf (λ n. Holds self.old n × Holds other.now n) self.new) }
+        ensures ok { OnOk result (IsIntersection self.old other.now self.new) }
         ensures err { OnErr result (self.new ≡ self.old) }
     {
         self.set.intersection_assign(alloc, &other.set)
@@ -190,7 +191,7 @@ impl<A: Allocator> AsBlocks<A> {
     pub fn difference(&self, alloc: A, other: &AsBlocks<A>) -> Result<AsBlocks<A>, AllocError>
     where
         A: Copy,
-        ensures { IfOk result (IsRunsOf (λ n. Holds self.now n × (Holds other.now n → ⊥))) }
+        ensures { IfOk result (IsDifference self.now other.now) }
     {
         let set = self.set.difference(alloc, &other.set)?;
         Ok(Self::from_set(set))
@@ -200,7 +201,7 @@ impl<A: Allocator> AsBlocks<A> {
     pub fn union(&self, alloc: A, other: &AsBlocks<A>) -> Result<AsBlocks<A>, AllocError>
     where
         A: Copy,
-        ensures { IfOk result (IsRunsOf (λ n. Holds self.now n ⊎ Holds other.now n)) }
+        ensures { IfOk result (IsUnion self.now other.now) }
     {
         let set = self.set.union(alloc, &other.set)?;
         Ok(Self::from_set(set))

@@ -7,7 +7,7 @@ use Rattle.rpki_text.specs.declared.memory.OrMemory.{OrMemory}
 use Rattle.rpki_text.specs.declared.memory.OrMemory.TheVariants.{Refused, Memory}
 use Rattle.rpki_text.specs.Memory.{IsMemory, IfRefused}
 use Rattle.rpki_chain.specs.Claims.{Claim}
-use Rattle.rpki_chain.specs.Laws.{IsDifference}
+use Rattle.rpki_chain.specs.Operations.{IsDifference}
 use Rattle.rpki_chain.specs.Paths.{Leaves, IsCovered, IsUncovered}
 use Rattle.rpki_chain.specs.Runs.{Runs, Holds, IsRunsOf}
 use Rattle.rpki_chain.specs.declared.choice.ResourcesChoice.TheVariants.{Missing, Inherit, Blocks}

@@ -9,7 +9,7 @@ use Rattle.rpki_text.specs.Memory.{IsMemory, IfRefused}
 use Rattle.rpki_blocks.proofs.Chains.{Covers-nil}
 use Rattle.rpki_blocks.proofs.Unique.{Covers-head}
 use Rattle.rpki_chain.specs.Claims.{Claim}
-use Rattle.rpki_chain.specs.Laws.{IsIntersection, IsDifference}
+use Rattle.rpki_chain.specs.Operations.{IsIntersection, IsDifference}
 use Rattle.rpki_chain.specs.Paths.{Lists, Leaves, Exceeds, IsIssued, IsExcess}
 use Rattle.rpki_chain.specs.Runs.{Runs, Holds, IsRunsOf}
 use Rattle.rpki_chain.specs.declared.choice.ResourcesChoice.TheVariants.{Inherit, Blocks}

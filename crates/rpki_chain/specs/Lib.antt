@@ -4,6 +4,6 @@ pub mod ChoiceDer
 pub mod ChoiceEquality
 pub mod Choices
 pub mod Claims
-pub mod Laws
+pub mod Operations
 pub mod Paths
 pub mod Runs

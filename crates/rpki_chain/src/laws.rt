@@ -2,7 +2,7 @@
 ghost use Rattle.std.specs.Prelude.{◌≡◌, ℕ, ◌<◌, ◌↔◌, List, [], map, take, length, slice_index_or, All, Contains};
 ghost use Rattle.rpki_chain.specs.BlockSets.{IsBlockSet};
 ghost use Rattle.rpki_chain.specs.Runs.{Runs, Holds, IsRunsOf, IsRunsOfBlocks};
-ghost use Rattle.rpki_chain.specs.Laws.{IsUnion, IsIntersection, IsDifference};
+ghost use Rattle.rpki_chain.specs.Operations.{IsUnion, IsIntersection, IsDifference};
 ghost use Rattle.rpki_chain.specs.Claims.{Claim};
 ghost use Rattle.rpki_chain.specs.Paths.{Lists, Leaves, IsIssued, IsExcess, IsLeft, ExceedsAt, IsPathResult, IsFirstRefusal, one_step};
 ghost use Rattle.rpki_chain.specs.declared.path.Overclaim.{Overclaim};

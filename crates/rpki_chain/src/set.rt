@@ -1,9 +1,10 @@
 //! Sets of the items of a kind.
-ghost use Rattle.std.specs.Prelude.{◌≡◌, ℕ, ◌↔◌, ◌⊎◌, [], ◌∷◌, IsTrue, IfOk, OnOk, OnErr, map};
+ghost use Rattle.std.specs.Prelude.{◌≡◌, ℕ, ◌↔◌, [], ◌∷◌, IsTrue, IfOk, OnOk, OnErr, map};
 ghost use Rattle.std.specs.Slice.Iter.{iter_rest};
 ghost use Rattle.rpki_chain.specs.BlockSets.{IsBlockChain, IsBlockSet};
 ghost use Rattle.rpki_blocks.specs.Equality.{same_runs, runs_per, runs_equiv};
-ghost use Rattle.rpki_chain.specs.Runs.{Runs, Holds, IsRunsOf, IsRunsOfBlocks};
+ghost use Rattle.rpki_chain.specs.Operations.{IsDifference, IsIntersection, IsUnion};
+ghost use Rattle.rpki_chain.specs.Runs.{Runs, Holds, IsRunsOfBlocks};
 ghost use Rattle.rpki_blocks.specs.Sets.{IsWithin, IsChain};
 ghost use Rattle.rpki_blocks.specs.View.{chain_blocks};
 
@@ -60,7 +61,6 @@ impl<T: Block, A: Allocator> BlockSet<T, A> {
     pub fn from_blocks(alloc: A, blocks: &[T]) -> Result<Self, AllocError>
     where
         A: Copy,
-        T: Copy,
         ensures { IfOk result (IsRunsOfBlocks T.bounds blocks.now) }
     {
         Self::from_owned(alloc, OwnedChain::from_blocks(alloc, blocks)?)
@@ -157,7 +157,7 @@ impl<T: Block, A: Allocator> BlockSet<T, A> {
     pub fn intersection(&self, alloc: A, other: &BlockSet<T, A>) -> Result<Self, AllocError>
     where
         A: Copy,
-        ensures { IfOk result (IsRunsOf (λ n. Holds self.now n × Holds other.now n)) }
+        ensures { IfOk result (IsIntersection self.now other.now) }
     {
         match self.as_chain().trim(alloc, other.as_chain()) {
             Ok(()) => self.clone(),
@@ -175,7 +175,7 @@ impl<T: Block, A: Allocator> BlockSet<T, A> {
     ) -> Result<(), AllocError>
     where
         A: Copy,
-        ensures ok { OnOk result (IsRunsOf (λ n. Holds self.old n × Holds other.now n) self.new) }
+        ensures ok { OnOk result (IsIntersection self.old other.now self.new) }
         ensures err { OnErr result (self.new ≡ self.old) }
     {
         let common = self.intersection(alloc, other)?;
@@ -187,7 +187,7 @@ impl<T: Block, A: Allocator> BlockSet<T, A> {
     pub fn difference(&self, alloc: A, other: &BlockSet<T, A>) -> Result<Self, AllocError>
     where
         A: Copy,
-        ensures { IfOk result (IsRunsOf (λ n. Holds self.now n × (Holds other.now n → ⊥))) }
+        ensures { IfOk result (IsDifference self.now other.now) }
     {
         let chain = self.as_chain().difference(alloc, other.as_chain())?;
         Self::from_owned(alloc, chain)
@@ -197,7 +197,7 @@ impl<T: Block, A: Allocator> BlockSet<T, A> {
     pub fn union(&self, alloc: A, other: &BlockSet<T, A>) -> Result<Self, AllocError>
     where
         A: Copy,
-        ensures { IfOk result (IsRunsOf (λ n. Holds self.now n ⊎ Holds other.now n)) }
+        ensures { IfOk result (IsUnion self.now other.now) }
     {
         let own = self.as_chain();
         let others = other.as_chain();

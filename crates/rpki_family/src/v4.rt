@@ -1,10 +1,11 @@
 //! Blocks and sets of IPv4 addresses.
-ghost use Rattle.std.specs.Prelude.{◌≡◌, ℕ, ◌+◌, ◌-◌, ◌*◌, ◌^◌, ◌↔◌, ◌⊎◌, [], ◌∷◌, IsTrue, IfOk, Some, map, MatchResult};
+ghost use Rattle.std.specs.Prelude.{◌≡◌, ℕ, ◌+◌, ◌-◌, ◌*◌, ◌^◌, ◌↔◌, [], ◌∷◌, IsTrue, IfOk, Some, map, MatchResult};
 ghost use Rattle.rpki_text.specs.Memory.{IsMemory};
 ghost use Rattle.rpki_text.specs.Reading.{AnswersOrMemory};
 ghost use Rattle.rpki_blocks.specs.Equality.{have_same_bounds, blocks_per, blocks_equiv, same_runs, runs_per, runs_equiv};
 ghost use Rattle.rpki_chain.specs.Claims.{claim_of};
-ghost use Rattle.rpki_chain.specs.Runs.{Runs, Holds, IsRunsOf, IsRunsOfBlocks};
+ghost use Rattle.rpki_chain.specs.Operations.{IsDifference, IsIntersection, IsUnion};
+ghost use Rattle.rpki_chain.specs.Runs.{Runs, Holds, IsRunsOfBlocks};
 ghost use Rattle.rpki_blocks.specs.Sets.{IsWithin};
 ghost use Rattle.rpki_ip.specs.Whole.{IsWhole, HasWholeBounds};
 ghost use Rattle.rpki_ip.specs.declared.family.AddressFamily.TheVariants.{Ipv4};
@@ -295,7 +296,7 @@ impl<A: Allocator> Ipv4Blocks<A> {
     pub fn intersection(&self, alloc: A, other: &Ipv4Blocks<A>) -> Result<Ipv4Blocks<A>, AllocError>
     where
         A: Copy,
-        ensures { IfOk result (IsRunsOf (λ n. Holds self.now n × Holds other.now n)) }
+        ensures { IfOk result (IsIntersection self.now other.now) }
     {
         let blocks = self.blocks.intersection(alloc, &other.blocks)?;
         Ok(Ipv4Blocks { blocks })
@@ -305,7 +306,7 @@ impl<A: Allocator> Ipv4Blocks<A> {
     pub fn difference(&self, alloc: A, other: &Ipv4Blocks<A>) -> Result<Ipv4Blocks<A>, AllocError>
     where
         A: Copy,
-        ensures { IfOk result (IsRunsOf (λ n. Holds self.now n × (Holds other.now n → ⊥))) }
+        ensures { IfOk result (IsDifference self.now other.now) }
     {
         let blocks = self.blocks.difference(alloc, &other.blocks)?;
         Ok(Ipv4Blocks { blocks })
@@ -315,7 +316,7 @@ impl<A: Allocator> Ipv4Blocks<A> {
     pub fn union(&self, alloc: A, other: &Ipv4Blocks<A>) -> Result<Ipv4Blocks<A>, AllocError>
     where
         A: Copy,
-        ensures { IfOk result (IsRunsOf (λ n. Holds self.now n ⊎ Holds other.now n)) }
+        ensures { IfOk result (IsUnion self.now other.now) }
     {
         let blocks = self.blocks.union(alloc, &other.blocks)?;
         Ok(Ipv4Blocks { blocks })
@@ -344,7 +345,10 @@ impl<'a, A: Allocator> IntoIterator for &'a Ipv4Blocks<A> {
 
     type IntoIter = BlockIter<'a, Ipv4Block>;
 
-    ghost into_iter_gives = { λ set blocks. blocks ≡ map new_ip_block set.now };
+    // what `iter` says
+    ghost into_iter_gives = { λ set blocks. (map ip_bounds blocks ≡ set.now)
+        × (blocks ≡ map new_ip_block set.now)
+        × IsFamilySet Ipv4 set.now };
 
     fn into_iter(self) -> BlockIter<'a, Ipv4Block> {
         self.iter()

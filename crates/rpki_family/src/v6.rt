@@ -1,10 +1,11 @@
 //! Blocks and sets of IPv6 addresses.
-ghost use Rattle.std.specs.Prelude.{◌≡◌, ℕ, ◌↔◌, ◌⊎◌, [], ◌∷◌, IsTrue, IfOk, Some, map, MatchResult, ⊤};
+ghost use Rattle.std.specs.Prelude.{◌≡◌, ℕ, ◌↔◌, [], ◌∷◌, IsTrue, IfOk, Some, map, MatchResult, ⊤};
 ghost use Rattle.rpki_text.specs.Memory.{IsMemory};
 ghost use Rattle.rpki_text.specs.Reading.{AnswersOrMemory};
 ghost use Rattle.rpki_blocks.specs.Equality.{have_same_bounds, blocks_per, blocks_equiv, same_runs, runs_per, runs_equiv};
 ghost use Rattle.rpki_chain.specs.Claims.{claim_of};
-ghost use Rattle.rpki_chain.specs.Runs.{Runs, Holds, IsRunsOf, IsRunsOfBlocks};
+ghost use Rattle.rpki_chain.specs.Operations.{IsDifference, IsIntersection, IsUnion};
+ghost use Rattle.rpki_chain.specs.Runs.{Runs, Holds, IsRunsOfBlocks};
 ghost use Rattle.rpki_blocks.specs.Sets.{IsWithin};
 ghost use Rattle.rpki_ip.specs.declared.family.AddressFamily.TheVariants.{Ipv6};
 ghost use Rattle.rpki_ipblock.specs.Blocks.{ip_bounds, new_ip_block};
@@ -284,7 +285,7 @@ impl<A: Allocator> Ipv6Blocks<A> {
     pub fn intersection(&self, alloc: A, other: &Ipv6Blocks<A>) -> Result<Ipv6Blocks<A>, AllocError>
     where
         A: Copy,
-        ensures { IfOk result (IsRunsOf (λ n. Holds self.now n × Holds other.now n)) }
+        ensures { IfOk result (IsIntersection self.now other.now) }
     {
         let blocks = self.blocks.intersection(alloc, &other.blocks)?;
         Ok(Ipv6Blocks { blocks })
@@ -294,7 +295,7 @@ impl<A: Allocator> Ipv6Blocks<A> {
     pub fn difference(&self, alloc: A, other: &Ipv6Blocks<A>) -> Result<Ipv6Blocks<A>, AllocError>
     where
         A: Copy,
-        ensures { IfOk result (IsRunsOf (λ n. Holds self.now n × (Holds other.now n → ⊥))) }
+        ensures { IfOk result (IsDifference self.now other.now) }
     {
         let blocks = self.blocks.difference(alloc, &other.blocks)?;
         Ok(Ipv6Blocks { blocks })
@@ -304,7 +305,7 @@ impl<A: Allocator> Ipv6Blocks<A> {
     pub fn union(&self, alloc: A, other: &Ipv6Blocks<A>) -> Result<Ipv6Blocks<A>, AllocError>
     where
         A: Copy,
-        ensures { IfOk result (IsRunsOf (λ n. Holds self.now n ⊎ Holds other.now n)) }
+        ensures { IfOk result (IsUnion self.now other.now) }
     {
         let blocks = self.blocks.union(alloc, &other.blocks)?;
         Ok(Ipv6Blocks { blocks })
@@ -333,7 +334,10 @@ impl<'a, A: Allocator> IntoIterator for &'a Ipv6Blocks<A> {
 
     type IntoIter = BlockIter<'a, Ipv6Block>;
 
-    ghost into_iter_gives = { λ set blocks. blocks ≡ map new_ip_block set.now };
+    // what `iter` says
+    ghost into_iter_gives = { λ set blocks. (map ip_bounds blocks ≡ set.now)
+        × (blocks ≡ map new_ip_block set.now)
+        × IsFamilySet Ipv6 set.now };
 
     fn into_iter(self) -> BlockIter<'a, Ipv6Block> {
         self.iter()

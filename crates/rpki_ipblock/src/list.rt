@@ -81,7 +81,7 @@ impl ReadElement for ByColon {
 /// The text is cut at its commas, each part is trimmed of white space, and a part that is then empty is left out. The
 /// first element that writes no block is refused: by [`FromStrError::FamilyMismatch`] where it has a colon in a list of
 /// IPv4, or a dot and no colon in one of IPv6, and else by the fault of [`IpBlock::from_v4_str`] or `from_v6_str`.
-pub fn read_blocks<A: Allocator + Drop>(
+pub fn read_blocks<A: Allocator>(
     alloc: A,
     family: AddressFamily,
     text: &str,
@@ -113,7 +113,7 @@ fn family_of(text: &str) -> AddressFamily
 /// else IPv4 blocks. It is cut as by [`read_blocks`].
 ///
 /// The first element that writes no block of the family is refused by [`FromStrError::FamilyMismatch`].
-pub fn read_ip_blocks<A: Allocator + Drop>(
+pub fn read_ip_blocks<A: Allocator>(
     alloc: A,
     text: &str,
 ) -> Result<Vec<IpBlock, A>, OrMemory<FromStrError>>

@@ -1,7 +1,6 @@
 pub mod FamilyWritten
 pub mod PrintedSets
 pub mod ResourcesWritten
-pub mod SetLemmas
 pub mod SetTextLemmas
 pub mod SetWritten
 mod WholeClaims

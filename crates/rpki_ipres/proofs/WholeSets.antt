@@ -1,6 +1,6 @@
 -- Unions, intersections and differences of sets of whole IPv4 addresses consist of whole IPv4 addresses.
 use Rattle.std.proofs.Common.{⊎_elim, inl, inr, sym}
-use Rattle.rpki_chain.specs.Laws.{IsUnion, IsIntersection, IsDifference}
+use Rattle.rpki_chain.specs.Operations.{IsUnion, IsIntersection, IsDifference}
 use Rattle.rpki_chain.specs.Runs.{Runs, Holds}
 use Rattle.rpki_ip.specs.Whole.{IsWhole}
 

@@ -1,10 +1,11 @@
 //! Sets of addresses.
-ghost use Rattle.std.specs.Prelude.{◌≡◌, ℕ, ◌↔◌, ◌⊎◌, [], ◌∷◌, IsTrue, IfOk, OnOk, OnErr, map, MatchResult};
+ghost use Rattle.std.specs.Prelude.{◌≡◌, ℕ, ◌↔◌, [], ◌∷◌, IsTrue, IfOk, OnOk, OnErr, map, MatchResult};
 ghost use Rattle.std.specs.Slice.Iter.{iter_rest};
 ghost use Rattle.rpki_text.specs.Memory.{IsMemory};
 ghost use Rattle.rpki_text.specs.Reading.{AnswersOrMemory};
 ghost use Rattle.rpki_blocks.specs.Equality.{same_runs, runs_per, runs_equiv};
-ghost use Rattle.rpki_chain.specs.Runs.{Runs, Holds, IsRunsOf, IsRunsOfBlocks};
+ghost use Rattle.rpki_chain.specs.Operations.{IsDifference, IsIntersection, IsUnion};
+ghost use Rattle.rpki_chain.specs.Runs.{Runs, Holds, IsRunsOfBlocks};
 ghost use Rattle.rpki_blocks.specs.Sets.{IsWithin};
 ghost use Rattle.rpki_ip.specs.Ranges.{range_bounds};
 ghost use Rattle.rpki_ip.specs.Whole.{IsWhole};
@@ -15,7 +16,6 @@ ghost use Rattle.rpki_ipres.specs.SetText.{IsIpSet, IsFamilySet, IsSetOf, set_te
 
 use crate::family::IpBlocksForFamily;
 use rpki_base::memory::OrMemory;
-use rpki_chain::owned::OwnedChain;
 use rpki_chain::set::BlockSet;
 use rpki_ip::error::FromStrError;
 use rpki_ip::range::AddressRange;
@@ -59,9 +59,7 @@ impl<A: Allocator> IpBlocks<A> {
         A: Copy,
         ensures { IfOk result (λ set. set ≡ (0, 340282366920938463463374607431768211455) ∷ []) }
     {
-        let mut blocks = Vec::with_capacity(alloc, 1)?;
-        blocks.push(IpBlock::all())?;
-        let set = BlockSet::from_owned(alloc, OwnedChain::from_vec_unchecked(blocks))?;
+        let set = BlockSet::from_block(alloc, IpBlock::all())?;
         Ok(IpBlocks::from_set(set))
     }
 
@@ -208,7 +206,7 @@ impl<A: Allocator> IpBlocks<A> {
     pub fn intersection(&self, alloc: A, other: &IpBlocks<A>) -> Result<IpBlocks<A>, AllocError>
     where
         A: Copy,
-        ensures { IfOk result (IsRunsOf (λ n. Holds self.now n × Holds other.now n)) }
+        ensures { IfOk result (IsIntersection self.now other.now) }
     {
         let set = self.set.intersection(alloc, &other.set)?;
         Ok(IpBlocks { set })
@@ -219,7 +217,7 @@ impl<A: Allocator> IpBlocks<A> {
     pub fn intersection_assign(&mut self, alloc: A, other: &IpBlocks<A>) -> Result<(), AllocError>
     where
         A: Copy,
-        ensures ok { OnOk result (IsRunsOf (λ n. Holds self.old n × Holds other.now n) self.new) }
+        ensures ok { OnOk result (IsIntersection self.old other.now self.new) }
         ensures err { OnErr result (self.new ≡ self.old) }
     {
         self.set.intersection_assign(alloc, &other.set)
@@ -229,7 +227,7 @@ impl<A: Allocator> IpBlocks<A> {
     pub fn difference(&self, alloc: A, other: &IpBlocks<A>) -> Result<IpBlocks<A>, AllocError>
     where
         A: Copy,
-        ensures { IfOk result (IsRunsOf (λ n. Holds self.now n × (Holds other.now n → ⊥))) }
+        ensures { IfOk result (IsDifference self.now other.now) }
     {
         let set = self.set.difference(alloc, &other.set)?;
         Ok(IpBlocks { set })
@@ -239,7 +237,7 @@ impl<A: Allocator> IpBlocks<A> {
     pub fn union(&self, alloc: A, other: &IpBlocks<A>) -> Result<IpBlocks<A>, AllocError>
     where
         A: Copy,
-        ensures { IfOk result (IsRunsOf (λ n. Holds self.now n ⊎ Holds other.now n)) }
+        ensures { IfOk result (IsUnion self.now other.now) }
     {
         let set = self.set.union(alloc, &other.set)?;
         Ok(IpBlocks { set })
@@ -251,7 +249,10 @@ impl<'a, A: Allocator> IntoIterator for &'a IpBlocks<A> {
 
     type IntoIter = Iter<'a, IpBlock>;
 
-    ghost into_iter_gives = { λ set blocks. iter_rest blocks ≡ map new_ip_block set.now };
+    // what `iter` says
+    ghost into_iter_gives = { λ set blocks. (map ip_bounds (iter_rest blocks) ≡ set.now)
+        × (iter_rest blocks ≡ map new_ip_block set.now)
+        × IsIpSet set.now };
 
     fn into_iter(self) -> Iter<'a, IpBlock> {
         self.iter()

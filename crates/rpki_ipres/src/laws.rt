@@ -1,7 +1,7 @@
 //! Laws of what the calls on sets answer, and of what is printed of sets. Each holds of any answers that meet the calls' contracts.
 ghost use Rattle.std.specs.Prelude.{◌≡◌, ℕ, List, ◌↔◌, All};
 ghost use Rattle.rpki_chain.specs.Claims.{Claim};
-ghost use Rattle.rpki_chain.specs.Laws.{IsUnion, IsIntersection, IsDifference};
+ghost use Rattle.rpki_chain.specs.Operations.{IsUnion, IsIntersection, IsDifference};
 ghost use Rattle.rpki_chain.specs.Paths.{IsIssued, IsExcess, IsUncovered, IsPathResult, IsFirstRefusal};
 ghost use Rattle.rpki_chain.specs.Runs.{Runs, Holds};
 ghost use Rattle.rpki_chain.specs.declared.path.Overclaim.{Overclaim};

@@ -4,7 +4,7 @@ use Rattle.std.proofs.Math.Nat.{le_refl}
 use Rattle.std.proofs.lemmas.List.Elements.{All-head}
 use Rattle.rpki_blocks.proofs.Unique.{Covers-head}
 use Rattle.rpki_blocks.proofs.Chains.{Covers-nil}
-use Rattle.rpki_chain.specs.Laws.{IsUnion, IsDifference}
+use Rattle.rpki_chain.specs.Operations.{IsUnion, IsDifference}
 use Rattle.rpki_chain.specs.Runs.{Runs, Holds, IsRunsOf}
 use Rattle.rpki_chain.proofs.RunLists.{Holds-decided, IsRunsOf-same, IsRunsOf-unique}
 use Rattle.rpki_resources.specs.Triples.{Triple, IsDifferenceOf}

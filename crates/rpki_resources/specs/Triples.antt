@@ -3,7 +3,7 @@ use Rattle.std.specs.Prelude.{◌≡◌, ℕ, ◌↔◌, ◌⊎◌, [], ◌∷�
 use Rattle.std.specs.Cmp.{IsEquivalence, IsPartialEquivalence, on_equiv, and_equiv, partial_equiv_from_equiv}
 use Rattle.rpki_blocks.specs.Equality.{same_runs, runs_equiv}
 use Rattle.rpki_chain.specs.Claims.{Claim}
-use Rattle.rpki_chain.specs.Laws.{IsUnion, IsIntersection, IsDifference}
+use Rattle.rpki_chain.specs.Operations.{IsUnion, IsIntersection, IsDifference}
 use Rattle.rpki_chain.specs.Runs.{Runs, Holds}
 use Rattle.rpki_chain.specs.declared.choice.ResourcesChoice.TheVariants.{Missing, Inherit, Blocks}
 use Rattle.rpki_as.specs.Blocks.{IsAsSet}

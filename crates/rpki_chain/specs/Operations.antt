@@ -1,4 +1,4 @@
--- Unions, intersections and differences of sets of whole numbers, in the words that the calls use, for their laws.
+-- Unions, intersections and differences of sets of whole numbers, by membership.
 use Rattle.std.specs.Prelude.{◌⊎◌}
 use Rattle.rpki_chain.specs.Runs.{Runs, Holds, IsRunsOf}
 

@@ -106,6 +106,7 @@ fn read_claims<A: Allocator + Copy>(
     }
 }
 
+/// What each family claims, missing where it isn't there.
 fn each_or_missing<A: Allocator>(
     found: (Option<IpResources<A>>, Option<IpResources<A>>),
 ) -> (IpResources<A>, IpResources<A>)

@@ -21,12 +21,14 @@ fn main(rt: HostRuntime) -> anyhow::Result<()> {
     compare(&rt, had.as_str(), gets.as_str())
 }
 
+/// Compares what two texts list; each of the calls from here on holds one set more, so that few owners are alive at once.
 fn compare(rt: &HostRuntime, had: &str, gets: &str) -> anyhow::Result<()> {
     let had = from_lists(rt.alloc(), had)?;
-    renew(rt, &had, gets)
+    compare_with(rt, &had, gets)
 }
 
-fn renew(rt: &HostRuntime, had: &ResourceSet, gets: &str) -> anyhow::Result<()> {
+/// Compares a set with what a text lists.
+fn compare_with(rt: &HostRuntime, had: &ResourceSet, gets: &str) -> anyhow::Result<()> {
     let gets = from_lists(rt.alloc(), gets)?;
     print(rt, had, &gets)
 }
@@ -38,6 +40,7 @@ fn from_lists(alloc: Global, lists: &str) -> Result<ResourceSet, OrMemory<FromSt
     ResourceSet::from_strs(alloc, asn, ipv4, ipv6)
 }
 
+/// Prints what changes from the one set to the other, and the octets of the second.
 fn print(rt: &HostRuntime, had: &ResourceSet, gets: &ResourceSet) -> anyhow::Result<()> {
     print_line(rt, "", changes::printed(rt.alloc(), had, gets))?;
     print_line(
@@ -52,6 +55,7 @@ fn print(rt: &HostRuntime, had: &ResourceSet, gets: &ResourceSet) -> anyhow::Res
     )
 }
 
+/// Prints a text behind its name.
 fn print_line(
     rt: &HostRuntime,
     kind: &str,
@@ -62,6 +66,7 @@ fn print_line(
     Ok(())
 }
 
+/// The octets in hexadecimal, or that there are none.
 fn hexadecimal(alloc: Global, octets: Octets<Global>) -> Result<String, AllocError> {
     match octets? {
         Some(octets) => hex::encode(alloc, octets.as_slice()),

@@ -11,7 +11,7 @@ use std::alloc::{AllocError, Allocator};
 /// Octets, and None where nothing is listed. `AllocError` where there is no memory for them.
 pub type Octets<A> = Result<Option<Vec<u8, A>>, AllocError>;
 
-/// AS resources that list the AS numbers of a set.
+/// The octets of AS resources that list the AS numbers of a set.
 pub fn of_asn<A: Allocator>(alloc: A, set: &ResourceSet<A>) -> Octets<A>
     ensures { IfOk result (λ found. MatchOption found (set.now.asn ≡ [])
         (λ octets. octets.items ≡ as_resources_octets (claim_of set.now.asn))) }
@@ -20,6 +20,7 @@ pub fn of_asn<A: Allocator>(alloc: A, set: &ResourceSet<A>) -> Octets<A>
     of_as_resources(alloc, &resources)
 }
 
+/// The octets of AS resources, where they aren't missing.
 fn of_as_resources<A: Allocator>(alloc: A, resources: &AsResources<A>) -> Octets<A>
     ensures { IfOk result (λ found. MatchOption found (resources.now ≡ Missing)
         (λ octets. octets.items ≡ as_resources_octets resources.now)) }
@@ -32,7 +33,7 @@ fn of_as_resources<A: Allocator>(alloc: A, resources: &AsResources<A>) -> Octets
     Ok(Some(octets))
 }
 
-/// The families that list the addresses of a set.
+/// The octets of the families that list the addresses of a set.
 pub fn of_addresses<A: Allocator>(alloc: A, set: &ResourceSet<A>) -> Octets<A>
     ensures { IfOk result (λ found. MatchOption found ((set.now.ipv4 ≡ []) × (set.now.ipv6 ≡ []))
         (λ octets. octets.items ≡ ip_families_der (claim_of set.now.ipv4) (claim_of set.now.ipv6))) }
@@ -42,6 +43,7 @@ pub fn of_addresses<A: Allocator>(alloc: A, set: &ResourceSet<A>) -> Octets<A>
     of_families(alloc, &v4, &v6)
 }
 
+/// The octets of the families of resources that aren't missing.
 fn of_families<A: Allocator>(alloc: A, v4: &IpResources<A>, v6: &IpResources<A>) -> Octets<A>
     ensures { IfOk result (λ found. MatchOption found ((v4.now ≡ Missing) × (v6.now ≡ Missing))
         (λ octets. octets.items ≡ ip_families_der v4.now v6.now)) }

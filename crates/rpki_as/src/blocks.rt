@@ -109,7 +109,7 @@ impl<A: Allocator> AsBlocks<A> {
         &self.set
     }
 
-    /// The same set, whose memory has one owner more.
+    /// The same set, whose memory has one owner more. `AllocError` where std refuses that owner.
     pub fn clone(&self) -> Result<AsBlocks<A>, AllocError>
         ensures { IfOk result (λ set. set ≡ self.now) }
     {
@@ -208,7 +208,8 @@ impl<A: Allocator> AsBlocks<A> {
     }
 
     /// The set that a list of blocks writes: the text is cut at commas, white space round an element is dropped,
-    /// and so is an element that is empty then. The first element that is no block is refused, as its own fault.
+    /// and so is an element that is empty then. `Refused` with the fault of the first element that is no block; `Memory`
+    /// where there is no memory for the set.
     pub fn from_str(alloc: A, text: &str) -> Result<AsBlocks<A>, OrMemory<FromStrError>>
     where
         A: Copy,

@@ -108,7 +108,7 @@ impl<A: Allocator> AsResources<A> {
         }
     }
 
-    /// The same resources; a set that they list has one owner more.
+    /// The same resources; a set that they list has one owner more. `AllocError` where std refuses that owner.
     pub fn clone(&self) -> Result<AsResources<A>, AllocError>
         ensures { IfOk result (λ resources. resources ≡ self.now) }
     {
@@ -146,8 +146,8 @@ impl<A: Allocator> AsResources<A> {
     }
 
     /// The resources that a text writes: `inherit` exactly, and else a list of blocks as in [`AsBlocks::from_str`].
-    /// They are missing where the list has no blocks. The first element of a list that is no block is refused, as its
-    /// own fault.
+    /// They are missing where the list has no blocks. `Refused` with the fault of the first element of a list that is no
+    /// block; `Memory` where there is no memory for the set.
     pub fn from_str(alloc: A, text: &str) -> Result<AsResources<A>, OrMemory<FromStrError>>
     where
         A: Copy,

@@ -45,7 +45,7 @@ impl<A: Allocator> OverclaimedAsResources<A> {
         &self.excess
     }
 
-    /// The same fault; its numbers have one owner more.
+    /// The same fault; its numbers have one owner more. `AllocError` where std refuses that owner.
     pub fn clone(&self) -> Result<OverclaimedAsResources<A>, AllocError>
         ensures { IfOk result (λ fault. fault ≡ self.now) }
     {

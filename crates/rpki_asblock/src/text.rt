@@ -22,7 +22,9 @@ fn read_range(left: &str, right: &str) -> Option<AsRange>
     Some(AsRange::new(min, max))
 }
 
-/// Reads `AS7` or `7` as an Id, and two such texts round the first dash as a Range.
+/// Reads `AS7` or `7` as an Id, and two such texts round the first dash as a Range. Refused by
+/// [`FromStrError::BadAsn`] where a text without a dash is no AS number, and by [`FromStrError::BadRange`] where one with
+/// a dash isn't two of them, the first at most the second.
 impl FromStr for AsBlock {
     type Err = FromStrError;
 

@@ -1,4 +1,4 @@
--- Lemmas on chains, runs and sorted bounds.
+-- Lemmas on runs, claims and paths.
 pub mod ChoiceReadings
 pub mod ClaimLemmas
 mod Covered

@@ -1,4 +1,4 @@
--- Definitions: sets and their runs, and what the contracts see of a chain.
+-- Definitions: sets as runs, their operations, resources and claims, and paths of claims.
 pub mod BlockSets
 pub mod ChoiceDer
 pub mod ChoiceEquality

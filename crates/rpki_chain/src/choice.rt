@@ -81,7 +81,7 @@ impl<T: Listed> ResourcesChoice<T> {
         }
     }
 
-    /// A choice that equals this one. `AllocError` where there is no memory for what it lists.
+    /// A choice that equals this one. `AllocError` where `copy` of what it lists answers it.
     pub fn clone(&self) -> Result<Self, AllocError>
         ensures { IfOk result (λ choice. choice ≡ self.now) }
     {

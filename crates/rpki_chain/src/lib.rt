@@ -1,7 +1,8 @@
-//! Blocks of resources and chains of them: sets of whole numbers, held as the ascending list of their runs.
+//! Sets over any lawful block, resources that list them, what claims and paths of claims leave of them, and their DER
+//! (RFC 3779, 2 and 3). The blocks and chains of `rpki_blocks` are named again here.
 //!
-//! A lawful [`block::Block`] is all that a kind of number has to bring; chains, sets and their builder are
-//! proved once, over every such kind.
+//! A lawful [`block::Block`] is all that a kind of number has to bring: what stands here is proved once, over every such
+//! kind.
 //!
 //! An issuer's set is asked for what is claimed of it, as in `callers::issued`:
 //!

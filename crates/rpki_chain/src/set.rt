@@ -83,7 +83,7 @@ impl<T: Block, A: Allocator> BlockSet<T, A> {
         Ok(BlockSet { chain })
     }
 
-    /// The same set, whose memory has one owner more.
+    /// The same set, whose memory has one owner more. `AllocError` where std refuses that owner.
     pub fn clone(&self) -> Result<Self, AllocError>
         ensures { IfOk result (λ set. set ≡ self.now) }
     {

@@ -239,6 +239,7 @@ impl<A: Allocator> Ipv4Blocks<A> {
     }
 
     /// The resources that list the set, whose memory has one owner more, and missing ones where it has no addresses.
+    /// `AllocError` where std refuses that owner.
     pub fn to_ip_resources(&self) -> Result<IpResources<A>, AllocError>
         ensures claim { IfOk result (λ resources. resources ≡ claim_of self.now) }
         ensures family { IfOk result (IsFamilyClaim Ipv4) }
@@ -247,7 +248,7 @@ impl<A: Allocator> Ipv4Blocks<A> {
         Ok(IpResources::blocks(blocks))
     }
 
-    /// The same set, whose memory has one owner more.
+    /// The same set, whose memory has one owner more. `AllocError` where std refuses that owner.
     pub fn clone(&self) -> Result<Ipv4Blocks<A>, AllocError>
         ensures { IfOk result (λ set. set ≡ self.now) }
     {
@@ -323,8 +324,9 @@ impl<A: Allocator> Ipv4Blocks<A> {
     }
 
     /// The set that a list of IPv4 blocks writes: the text is cut at commas, white space round an element is dropped,
-    /// and so is an element that is empty then. The first element that is no block is refused: by
-    /// [`FromStrError::FamilyMismatch`] where it has a colon, and else by its own fault.
+    /// and so is an element that is empty then. `Refused` for the first element that is no block: with
+    /// [`FromStrError::FamilyMismatch`] where it has a colon, and else with its own fault. `Memory` where there is no
+    /// memory for the set.
     pub fn from_str(alloc: A, text: &str) -> Result<Ipv4Blocks<A>, OrMemory<FromStrError>>
     where
         A: Copy,

@@ -228,6 +228,7 @@ impl<A: Allocator> Ipv6Blocks<A> {
     }
 
     /// The resources that list the set, whose memory has one owner more, and missing ones where it has no addresses.
+    /// `AllocError` where std refuses that owner.
     pub fn to_ip_resources(&self) -> Result<IpResources<A>, AllocError>
         ensures claim { IfOk result (λ resources. resources ≡ claim_of self.now) }
         ensures family { IfOk result (IsFamilyClaim Ipv6) }
@@ -236,7 +237,7 @@ impl<A: Allocator> Ipv6Blocks<A> {
         Ok(IpResources::blocks(blocks))
     }
 
-    /// The same set, whose memory has one owner more.
+    /// The same set, whose memory has one owner more. `AllocError` where std refuses that owner.
     pub fn clone(&self) -> Result<Ipv6Blocks<A>, AllocError>
         ensures { IfOk result (λ set. set ≡ self.now) }
     {
@@ -312,8 +313,9 @@ impl<A: Allocator> Ipv6Blocks<A> {
     }
 
     /// The set that a list of IPv6 blocks writes: the text is cut at commas, white space round an element is dropped,
-    /// and so is an element that is empty then. The first element that is no block is refused: by
-    /// [`FromStrError::FamilyMismatch`] where it has a dot and no colon, and else by its own fault.
+    /// and so is an element that is empty then. `Refused` for the first element that is no block: with
+    /// [`FromStrError::FamilyMismatch`] where it has a dot and no colon, and else with its own fault. `Memory` where there is no
+    /// memory for the set.
     pub fn from_str(alloc: A, text: &str) -> Result<Ipv6Blocks<A>, OrMemory<FromStrError>>
     where
         A: Copy,

@@ -97,7 +97,7 @@ impl<A: Allocator> IpBlocks<A> {
         &self.set
     }
 
-    /// The same set, whose memory has one owner more.
+    /// The same set, whose memory has one owner more. `AllocError` where std refuses that owner.
     pub fn clone(&self) -> Result<IpBlocks<A>, AllocError>
         ensures { IfOk result (λ set. set ≡ self.now) }
     {
@@ -145,8 +145,9 @@ impl<A: Allocator> IpBlocks<A> {
     }
 
     /// The set that a list of blocks writes: of IPv6 if a colon stands anywhere in it, and else of IPv4. The text is
-    /// cut at commas, white space round an element is dropped, and so is an element that is empty then. The first
-    /// element that is no block of the family is refused by [`FromStrError::FamilyMismatch`].
+    /// cut at commas, white space round an element is dropped, and so is an element that is empty then. `Refused` with
+    /// [`FromStrError::FamilyMismatch`] where an element is no block of the family; `Memory` where there is no memory for
+    /// the set.
     pub fn from_str(alloc: A, text: &str) -> Result<IpBlocks<A>, OrMemory<FromStrError>>
     where
         A: Copy,

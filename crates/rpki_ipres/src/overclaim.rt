@@ -38,7 +38,7 @@ impl<A: Allocator> OverclaimedIpResources<A> {
         &self.excess
     }
 
-    /// The same fault; its addresses have one owner more.
+    /// The same fault; its addresses have one owner more. `AllocError` where std refuses that owner.
     pub fn clone(&self) -> Result<OverclaimedIpResources<A>, AllocError>
         ensures { IfOk result (λ fault. fault ≡ self.now) }
     {
@@ -117,7 +117,7 @@ impl<A: Allocator> Model for OverclaimedIpv4Resources<A> {
 }
 
 impl<A: Allocator> OverclaimedIpv4Resources<A> {
-    /// The same fault; its addresses have one owner more.
+    /// The same fault; its addresses have one owner more. `AllocError` where std refuses that owner.
     pub fn clone(&self) -> Result<OverclaimedIpv4Resources<A>, AllocError>
         ensures { IfOk result (λ fault. fault ≡ self.now) }
     {
@@ -180,7 +180,7 @@ impl<A: Allocator> Model for OverclaimedIpv6Resources<A> {
 }
 
 impl<A: Allocator> OverclaimedIpv6Resources<A> {
-    /// The same fault; its addresses have one owner more.
+    /// The same fault; its addresses have one owner more. `AllocError` where std refuses that owner.
     pub fn clone(&self) -> Result<OverclaimedIpv6Resources<A>, AllocError>
         ensures { IfOk result (λ fault. fault ≡ self.now) }
     {

@@ -110,7 +110,7 @@ impl<A: Allocator> IpResources<A> {
         }
     }
 
-    /// The same resources. `AllocError` where there is no memory for them.
+    /// The same resources; a set that they list has one owner more. `AllocError` where std refuses that owner.
     pub fn clone(&self) -> Result<IpResources<A>, AllocError>
         ensures { IfOk result (λ resources. resources ≡ self.now) }
     {

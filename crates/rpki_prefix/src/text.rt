@@ -38,8 +38,9 @@ impl Prefix {
 
 /// Reads an address, a slash and a length, as in `10.0.0.0/8` (RFC 4632, 3.1) and `2001:db8::/32` (RFC 4291, 2.3).
 ///
-/// The text is cut at its first slash. The length is a decimal text of a `u8`, as [`parse_u8`] reads it. Host bits
-/// that are set are refused.
+/// The text is cut at its first slash. The length is a decimal text of a `u8`, as [`parse_u8`] reads it. Refused with
+/// the first fault: `Empty` for no text, `MissingLen` for one without a slash, `InvalidAddr` and `InvalidLen` for what
+/// stands before and behind it, and `InvalidPrefix` where the two are no prefix, as where host bits are set.
 impl FromStr for Prefix {
     type Err = ParsePrefixError;
 

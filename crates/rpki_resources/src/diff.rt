@@ -57,7 +57,7 @@ impl<A: Allocator> ResourceDiff<A> {
         &self.removed
     }
 
-    /// The same differences; the memory of their sets has one owner more.
+    /// The same differences; the memory of their sets has one owner more. `AllocError` where std refuses one of these.
     pub fn clone(&self) -> Result<ResourceDiff<A>, AllocError>
         ensures { IfOk result (λ diff. diff ≡ self.now) }
     {

@@ -76,7 +76,7 @@ impl<A: Allocator> ResourceSet<A> {
         ResourceSet::of_three(asn, ipv4, Ipv6Blocks::all(alloc))
     }
 
-    /// The same set, whose memory has one owner more.
+    /// The same set, whose memory has one owner more. `AllocError` where std refuses that owner.
     pub fn clone(&self) -> Result<ResourceSet<A>, AllocError>
         ensures { IfOk result (λ set. set ≡ self.now) }
     {

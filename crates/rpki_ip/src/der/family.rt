@@ -13,7 +13,8 @@ impl AddressFamily {
     ghost use Rattle.rpki_der.specs.Views.{Reads, Takes};
     ghost use Rattle.rpki_ip.specs.FamilyDer.{IsFamilyDer, SaysFamily, family_at, family_der, family_octets};
 
-    /// The family that two octets name (RFC 3779, 2.2.3.3): 0 and 1 for IPv4, 0 and 2 for IPv6.
+    /// The family that two octets name (RFC 3779, 2.2.3.3): 0 and 1 for IPv4, 0 and 2 for IPv6. Any others are refused by
+    /// [`DecodeFamilyError`].
     pub fn from_octets(octets: &[u8]) -> Result<AddressFamily, DecodeFamilyError>
         ensures { MatchResult result (SaysFamily octets.now) (λ _. (family : SomeFamily) → ¬ SaysFamily octets.now family) }
     {
@@ -56,7 +57,8 @@ impl AddressFamily {
         octets_len(self.octets())
     }
 
-    /// Appends the OCTET STRING of the family. `AllocError` where there is no memory for it.
+    /// Appends the OCTET STRING of the family. `AllocError` where there is no memory for it; then the octets stay as they
+    /// were.
     pub fn encode<A: Allocator>(&self, out: &mut Vec<u8, A>) -> Result<(), AllocError>
         ensures ok { OnOk result (out.new.items ≡ out.old.items ++ family_der self.now) }
         ensures err { OnErr result (out.new.items ≡ out.old.items) }

@@ -22,7 +22,7 @@ impl Prefix {
     ghost use Rattle.rpki_ip.specs.PrefixDer.{IsPrefixContent, IsPrefixDer, SaysPrefix, prefix_at, prefix_der, prefix_in};
 
     /// The prefix whose addresses begin with the bits of a bit string (RFC 3779, 2.2.3.8), which has at most sixteen
-    /// octets. Its unused bits may be set, and count as zero.
+    /// octets, and else is refused by [`DecodePrefixError`]. Its unused bits may be set, and count as zero.
     pub fn from_bit_string(bits: &BitString<'_>) -> Result<Prefix, DecodePrefixError>
         ensures { MatchResult result (SaysPrefix 128 (bit_string_of bits.now)) (λ _. (p : PrefixValue) → ¬ SaysPrefix 128 (bit_string_of bits.now) p) }
     {
@@ -85,7 +85,7 @@ impl Prefix {
     }
 
     /// Appends the BIT STRING of the prefix, whose unused bits are zero (RFC 3779, 2.2.3.8; X.690, 11.2). `AllocError`
-    /// where there is no memory for it.
+    /// where there is no memory for it; then the octets stay as they were.
     pub fn encode<A: Allocator>(&self, out: &mut Vec<u8, A>) -> Result<(), AllocError>
         ensures prefix { IsPrefix 128 self.now }
         ensures ok { OnOk result (out.new.items ≡ out.old.items ++ prefix_der self.now) }

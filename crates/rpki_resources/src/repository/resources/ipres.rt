@@ -1,5 +1,6 @@
 //! Addresses of both families: prefixes, ranges, blocks, sets and claims, along paths too.
 
+pub use rpki_family::iter::BlockIter;
 pub use rpki_family::prefixes::{V4SetPrefixes, V6SetPrefixes};
 pub use rpki_family::v4::{Ipv4Block, Ipv4Blocks};
 pub use rpki_family::v6::{Ipv6Block, Ipv6Blocks};

@@ -1,9 +1,9 @@
 #!/usr/bin/env python3
-"""unused_imports.py [CRATE..]: names of `ghost use` lines that no clause below them uses, and lines of clauses over
-100 columns, in the sources of the crates (of all, where none is named). `rt tidy` sees to the files of proofs alone.
+"""unused_imports.py [--wide] [CRATE..]: names of `ghost use` lines that no clause uses, in the sources of the crates (of all,
+where none is named). `rt tidy` sees to the files of proofs alone.
 
-A name at the head of a file serves the clauses of that file, but for the blocks that have `ghost use` lines of their own:
-these hide the file's. Ends with status 1 where there is something to mend."""
+A name at the head of a file serves all clauses of that file, one in a block those of the block. Ends with status 1 where there
+is something to mend. With --wide it lists the lines of clauses over 100 columns instead, which rt fmt leaves as they are."""
 import re
 import sys
 from pathlib import Path
@@ -51,32 +51,32 @@ def blocks(text):
         yield head.start(), end.end() if end else len(text)
 
 
-def faults(path):
-    source = path.read_text()
-    text = without_comments(source)
+def unused(text):
+    """The place of each name that no clause uses, and the name."""
     said = list(clauses(text))
     own = [(start, end) for start, end in blocks(text) if "ghost use" in text[start:end]]
     for name, at in imports(text):
         block = next((it for it in own if it[0] <= at < it[1]), None)
-        if block:
-            seen = [it for it in said if block[0] <= it[0] < block[1]]
-        else:
-            seen = [it for it in said if not any(start <= it[0] < end for start, end in own)]
+        seen = [it for it in said if not block or block[0] <= it[0] < block[1]]
         if not any(stands_in(name, text[start:end]) for start, end in seen):
             yield text.count("\n", 0, at) + 1, f"{name} is used by no clause"
-    lines = source.split("\n")
-    long = {text.count("\n", 0, at) for start, end in said for at in range(start, end) if text[at] == "\n" or at == start}
-    for number in sorted(long):
-        if len(lines[number]) > WIDTH:
-            yield number + 1, f"{len(lines[number])} columns"
+
+
+def wide(text):
+    """The lines of clauses that are too wide, and how wide they are."""
+    lines = text.split("\n")
+    for number in sorted({text.count("\n", 0, at) for start, end in clauses(text) for at in range(start, end)}):
+        if len(lines[number].rstrip()) > WIDTH:
+            yield number + 1, f"{len(lines[number].rstrip())} columns"
 
 
 def main():
-    names = sys.argv[1:] or sorted(it.name for it in ROOT.iterdir() if (it / "src").is_dir())
+    faults = wide if "--wide" in sys.argv else unused
+    names = [it for it in sys.argv[1:] if it != "--wide"] or sorted(it.name for it in ROOT.iterdir() if (it / "src").is_dir())
     found = 0
     for name in names:
         for path in sorted((ROOT / name / "src").rglob("*.rt")):
-            for line, what in faults(path):
+            for line, what in faults(without_comments(path.read_text())):
                 print(f"{path.relative_to(ROOT.parent)}:{line}: {what}")
                 found += 1
     sys.exit(found > 0)

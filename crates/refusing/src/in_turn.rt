@@ -1,5 +1,5 @@
 // Runs with each request for memory refused in turn.
-ghost use Rattle.std.specs.Prelude.{ℕ, ◌<◌, ◌≤◌, IfOk, IfErr};
+ghost use Rattle.std.specs.Prelude.{◌<◌, ◌≤◌, IfOk, IfErr};
 ghost use Rattle.std.specs.Fn.{FnReturnsAt};
 ghost use Rattle.refusing.specs.InTurn.{SomeRunEnds, SomeRunEndsIn, EachRunBefore};
 ghost use Rattle.refusing.specs.declared.in_turn.Outcome.TheVariants.{Expected, OutOfMemory};

@@ -1,5 +1,5 @@
 //! Devices over slices, which count their calls. They take no memory.
-ghost use Rattle.std.specs.Prelude.{◌≡◌, ◌+◌, ◌<◌, ◌≤◌, Some, length, take};
+ghost use Rattle.std.specs.Prelude.{◌≤◌, Some, length, take};
 
 use respath_engine::device::{DeviceFault, Sink, Source};
 

@@ -1,4 +1,4 @@
--- Texts of addresses of either family, read as numbers of 128 bits.
+-- Texts of addresses of either family (RFC 4291, 2.2), read as numbers of 128 bits.
 use Rattle.std.specs.Prelude.{◌≡◌, ℕ, ◌+◌, ◌-◌, ◌*◌, ◌^◌, List, Result}
 use Rattle.rpki_addr.specs.AddressText.{IsIpv4Text, IsIpv6Text, IsIpText}
 use Rattle.rpki_text.specs.Reading.{Answers}

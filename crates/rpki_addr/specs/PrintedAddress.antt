@@ -57,7 +57,7 @@ IsPrintedIpv6 n text =
     (IsMapped n × (text ≡ codes "::ffff:" ++ ipv4_text (n % 2 ^ 32)))
     ⊎ ((¬ IsMapped n) × (IsShortened (groups_of n) text ⊎ IsUnshortened (groups_of n) text))
 
--- That text, as std's printer makes it. `ipv6_is_printed_so` proves that it is printed so, and that no other text is.
+-- That text, as std's printer makes it. `laws::ipv6_is_printed_so` proves that it is the one that is printed.
 unfoldable pub ipv6_text : ℕ → List ℕ
 ipv6_text n = std.ipv6_text (groups_of n)
 

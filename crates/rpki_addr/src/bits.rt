@@ -52,14 +52,15 @@ impl Addr {
         Addr(addr.to_bits())
     }
 
-    /// Reads the text of an IPv4 address, as the least address that it stands for.
+    /// Reads the text of an IPv4 address, as the least address that it stands for. Any other text is refused by
+    /// [`AddrParseError::Ipv4`].
     pub fn from_v4_str(text: &str) -> Result<Addr, AddrParseError>
         ensures { ReadsIpv4Addr text.now result }
     {
         Ok(Addr::from_v4(Ipv4Addr::from_str(text)?))
     }
 
-    /// Reads the text of an IPv6 address.
+    /// Reads the text of an IPv6 address. Any other text is refused by [`AddrParseError::Ipv6`].
     pub fn from_v6_str(text: &str) -> Result<Addr, AddrParseError>
         ensures { ReadsIpv6Addr text.now result }
     {
@@ -193,7 +194,8 @@ impl From<Addr> for Ipv6Addr {
     }
 }
 
-/// Reads the text of an address of either family, as the least address that it stands for.
+/// Reads the text of an address of either family, as the least address that it stands for. Any other text is refused by
+/// [`AddrParseError::Ip`].
 impl FromStr for Addr {
     type Err = AddrParseError;
 

@@ -1,10 +1,24 @@
 //! What callers may rely on and no single call says.
-ghost use Rattle.std.specs.Prelude.{◌≡◌, ℕ};
+ghost use Rattle.std.specs.Prelude.{◌≡◌, ◌↔◌, ℕ, ◌<◌, ◌^◌, List, IsTrue};
 ghost use Rattle.std.specs.Ordering.{nat_cmp};
 ghost use Rattle.rpki_addr.specs.Orders.{ip_cmp};
+ghost use Rattle.rpki_addr.specs.PrintedAddress.{IsPrintedIpv6, ipv6_text};
 ghost use Rattle.rpki_addr.specs.declared.addr.IpAddr.{IpAddr as EitherAddr};
 
 use crate::addr::{IpAddr, Ipv4Addr, Ipv6Addr};
+
+/// The text that is printed of an IPv6 address is the one that RFC 5952 asks for.
+pub fn ipv6_is_printed_so()
+    ensures { (n : ℕ) → n < 2 ^ 128 → (text : List ℕ)
+        → (IsPrintedIpv6 n text) ↔ (text ≡ ipv6_text n) }
+{}
+
+/// Addresses are equal exactly where they are the same, those of either family where the families are too.
+pub fn equal_where_the_same()
+    ensures ipv4 { (a b : ℕ) → IsTrue (⟦<Ipv4Addr as PartialEq>⟧.eq a b) ↔ (a ≡ b) }
+    ensures ipv6 { (a b : ℕ) → IsTrue (⟦<Ipv6Addr as PartialEq>⟧.eq a b) ↔ (a ≡ b) }
+    ensures either { (a b : EitherAddr) → IsTrue (⟦<IpAddr as PartialEq>⟧.eq a b) ↔ (a ≡ b) }
+{}
 
 /// Addresses are in order as their numbers, and IPv4 addresses are before IPv6 addresses.
 pub fn orders_are_of_numbers()

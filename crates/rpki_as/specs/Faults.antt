@@ -1,4 +1,4 @@
--- What is printed of faults.
+-- What is printed of faults, as by the Rust crate `rpki` 0.20.1.
 use Rattle.std.specs.Prelude.{ℕ, List, ◌++◌, codes}
 use Rattle.rpki_chain.specs.Runs.{Runs}
 use Rattle.rpki_as.specs.ListText.{as_list_text}

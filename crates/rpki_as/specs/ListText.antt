@@ -1,4 +1,4 @@
--- Texts of sets of AS numbers.
+-- Texts of sets of AS numbers, as the Rust crate `rpki` 0.20.1 reads and prints them.
 use Rattle.std.specs.Prelude.{ℕ, List, map}
 use Rattle.rpki_text.specs.Lists.{elements, joined, HaveValues, HasFirstFault}
 use Rattle.rpki_chain.specs.Runs.{Runs, IsSetOfBlocks}

@@ -1,4 +1,4 @@
--- Texts of AS resources.
+-- Texts of AS resources, as the Rust crate `rpki` 0.20.1 reads and prints them.
 use Rattle.std.specs.Prelude.{◌≡◌, ◌≢◌, ℕ, List, [], codes}
 use Rattle.rpki_chain.specs.Claims.{Claim}
 use Rattle.rpki_chain.specs.declared.choice.ResourcesChoice.TheVariants.{Missing, Inherit, Blocks}

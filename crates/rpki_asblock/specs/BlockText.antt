@@ -1,4 +1,4 @@
--- Texts of blocks of AS numbers.
+-- Texts of blocks of AS numbers, as the Rust crate `rpki` 0.20.1 reads and prints them.
 use Rattle.std.specs.Prelude.{◌≡◌, ℕ, ◌≤◌, ◌<◌, ◌^◌, List, ◌∷◌, ◌++◌, Result, Ok}
 use Rattle.rpki_base.specs.AsnText.{IsAsnText, asn_text}
 use Rattle.rpki_text.specs.Cuts.{HasNo, Around, dash}

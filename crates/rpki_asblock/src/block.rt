@@ -14,7 +14,7 @@ pub enum AsBlock {
 }
 
 impl AsBlock {
-    ghost use Rattle.std.specs.Prelude.{◌≡◌, ◌+◌, ◌≤◌, ◌<◌, ◌^◌, ◌↔◌, IsTrue};
+    ghost use Rattle.std.specs.Prelude.{◌≡◌, ◌+◌, ◌≤◌, ◌↔◌, IsTrue};
     ghost use Rattle.rpki_blocks.specs.Sets.{IsWithin};
     ghost use Rattle.rpki_asblock.specs.Blocks.{as_bounds, new_as_block};
     ghost use Rattle.rpki_asblock.specs.Numbers.{IsListOf, IsSizeOf, numbers_within};

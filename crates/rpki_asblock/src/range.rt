@@ -27,7 +27,7 @@ impl Model for AsRange {
 }
 
 impl AsRange {
-    ghost use Rattle.std.specs.Prelude.{◌+◌, ◌<◌, ◌^◌};
+    ghost use Rattle.std.specs.Prelude.{◌+◌};
     ghost use Rattle.rpki_blocks.specs.Sets.{IsWithin};
     ghost use Rattle.rpki_blocks.specs.Ranges.{range_bounds};
     ghost use Rattle.rpki_asblock.specs.Numbers.{IsSizeOf};

@@ -1,5 +1,5 @@
 //! Texts of AS blocks.
-ghost use Rattle.std.specs.Prelude.{◌≡◌, Some, MatchOption};
+ghost use Rattle.std.specs.Prelude.{Some, MatchOption};
 ghost use Rattle.rpki_blocks.specs.Ranges.{range_bounds};
 ghost use Rattle.rpki_asblock.specs.BlockText.{ReadsAsBlock, as_block_text, IsAsRangeBetween, NoRange};
 

@@ -1,4 +1,4 @@
--- Small sets of AS numbers: ascending lists without repeats.
+-- Small sets of AS numbers, as in the Rust crate `rpki` 0.20.1: ascending lists without repeats.
 use Rattle.std.specs.Prelude.{ℕ, ◌⊎◌, ◌↔◌, List, Contains}
 use Rattle.std.specs.List.Sorted.{IsStrictlyIncreasing}
 

@@ -113,7 +113,7 @@ fn after_as(text: &[u8]) -> &[u8]
 }
 
 /// Reads an optional `as` in any case of letters, and then the decimal text of a `u32`, as
-/// [`rpki_text::number::parse_u32`] does.
+/// [`rpki_text::number::parse_u32`] does. Any other text is refused by [`ParseAsnError`].
 impl FromStr for Asn {
     type Err = ParseAsnError;
 

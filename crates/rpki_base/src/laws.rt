@@ -1,13 +1,10 @@
 //! What callers may rely on and no single call says.
-ghost use Rattle.std.specs.Prelude.{◌≡◌, ◌↔◌, ℕ, ◌<◌, ◌-◌, ◌^◌, List, Contains, IsTrue};
+ghost use Rattle.std.specs.Prelude.{◌≡◌, ◌↔◌, ℕ, ◌-◌, ◌^◌, List, Contains, IsTrue};
 ghost use Rattle.std.specs.Ordering.{nat_cmp};
-ghost use Rattle.rpki_addr.specs.PrintedAddress.{IsPrintedIpv6, ipv6_text};
-ghost use Rattle.rpki_addr.specs.declared.addr.IpAddr.{IpAddr as EitherAddr};
 ghost use Rattle.rpki_base.specs.SmallSet.{IsSmallSet};
 
 use crate::asn::Asn;
 use crate::small_set::SmallAsnSet;
-use rpki_addr::addr::{IpAddr, Ipv4Addr, Ipv6Addr};
 use std::alloc::Allocator;
 
 /// `Asn::MIN` and `Asn::MAX` are the least and the greatest AS number, 0 and 4294967295 (RFC 6793).
@@ -18,24 +15,14 @@ pub fn ends_of_asns() -> (Asn, Asn)
     (Asn::MIN, Asn::MAX)
 }
 
-/// The text that is printed of an IPv6 address is the one that RFC 5952 asks for.
-pub fn ipv6_is_printed_so()
-    ensures { (n : ℕ) → n < 2 ^ 128 → (text : List ℕ)
-        → (IsPrintedIpv6 n text) ↔ (text ≡ ipv6_text n) }
-{}
-
 /// AS numbers are in order as their numbers.
 pub fn orders_are_of_numbers()
     ensures { (a b : ℕ) → ⟦<Asn as Ord>⟧.cmp a b ≡ nat_cmp a b }
 {}
 
-/// AS numbers and addresses are equal exactly where they are the same, addresses of either family where the families
-/// are too.
+/// AS numbers are equal exactly where they are the same.
 pub fn equal_where_the_same()
-    ensures asn { (a b : ℕ) → IsTrue (⟦<Asn as PartialEq>⟧.eq a b) ↔ (a ≡ b) }
-    ensures ipv4 { (a b : ℕ) → IsTrue (⟦<Ipv4Addr as PartialEq>⟧.eq a b) ↔ (a ≡ b) }
-    ensures ipv6 { (a b : ℕ) → IsTrue (⟦<Ipv6Addr as PartialEq>⟧.eq a b) ↔ (a ≡ b) }
-    ensures either { (a b : EitherAddr) → IsTrue (⟦<IpAddr as PartialEq>⟧.eq a b) ↔ (a ≡ b) }
+    ensures { (a b : ℕ) → IsTrue (⟦<Asn as PartialEq>⟧.eq a b) ↔ (a ≡ b) }
 {}
 
 /// Small sets are equal exactly where they have the same numbers.

@@ -42,7 +42,7 @@ impl<A: Allocator> Model for SmallAsnSet<A> {
 }
 
 impl<A: Allocator> SmallAsnSet<A> {
-    /// The set of the AS numbers of a list in any order, with repeats or not.
+    /// The set of the AS numbers of a list in any order, with repeats or not. `AllocError` where there is no memory for it.
     pub fn from_list(alloc: A, list: &[Asn]) -> Result<SmallAsnSet<A>, AllocError>
         ensures { IfOk result (λ set. IsSmallSetOf (Contains list.now) set) }
     {
@@ -145,7 +145,8 @@ impl<'a, A: Allocator> IntoIterator for &'a SmallAsnSet<A> {
 
     type IntoIter = SmallSetIter<'a>;
 
-    ghost into_iter_gives = { λ set iter. iter ≡ set.now };
+    // what `iter` says
+    ghost into_iter_gives = { λ set iter. (iter ≡ set.now) × IsSmallSet set.now × (length iter < 2 ^ 64) };
 
     fn into_iter(self) -> SmallSetIter<'a> {
         self.iter()

@@ -9,6 +9,7 @@ ghost use Rattle.rpki_blocks.specs.Sets.{IsWithin, IsBeside, IsNew};
 /// numbers from the kind's first to its last. A type whose values have several forms, such as a single number and a
 /// range, is lawful as long as `new` always gives the same form for the same bounds.
 pub trait Block: Drop {
+    /// What a block is a range of.
     type Item: Copy + Eq + Ord;
 
     /// The number of the kind's first item.

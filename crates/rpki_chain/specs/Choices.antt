@@ -1,4 +1,4 @@
--- What is said of resources: that they are missing, inherited or listed.
+-- What is said of resources: that they are missing, inherited or listed (RFC 3779, 2.2.3.4, 2.2.3.5, 3.2.3.2, 3.2.3.3).
 use Rattle.std.specs.Prelude.{◌≡◌, ℕ, List, [], Option, Some, Result, Ok, Err, codes, ⊤}
 use Rattle.rpki_text.specs.declared.memory.OrMemory.{OrMemory}
 use Rattle.rpki_text.specs.declared.memory.OrMemory.TheVariants.{Refused, Memory}

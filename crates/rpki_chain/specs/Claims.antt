@@ -1,4 +1,4 @@
--- Claims on the numbers of a kind, and what builders make.
+-- Claims on the numbers of a kind (RFC 3779, 2.2.3.4 and 3.2.3.2), and what builders make.
 use Rattle.std.specs.Prelude.{◌≡◌, ◌≢◌, ℕ, List, [], ◌∷◌, Option, Some, None, ⊤}
 use Rattle.rpki_chain.specs.Runs.{Runs, Holds, IsRunsOf}
 use Rattle.rpki_chain.specs.declared.choice.ResourcesChoice.{ResourcesChoice}

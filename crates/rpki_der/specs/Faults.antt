@@ -1,4 +1,4 @@
--- The faults of DER that a reader names: their numbers, names and texts.
+-- The faults of DER that a reader names, which are this layer's own: their numbers, names and texts.
 use Rattle.std.specs.Prelude.{ℕ, List, ◌++◌, codes, decimal}
 use Rattle.rpki_der.specs.declared.error.DerError.{DerError}
 use Rattle.rpki_der.specs.declared.error.DerError.TheVariants.{Truncated, BadTag, BadLength, BadInteger, BadBitString, BadNull, TrailingData, BadPrefix, BadFamily, ReversedRange, EmptyBlocks, DuplicateFamily, NoFamily}

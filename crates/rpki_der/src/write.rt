@@ -37,6 +37,7 @@ pub fn header_len(tag: u8, content_len: usize) -> usize
 
 /// Appends the tag octet and the length octets of a value whose content has `content_len` octets
 /// (X.690, 8.1.2, 8.1.3 and 10.1). The low five bits of the tag octet must not all be ones.
+/// `AllocError` where there is no memory for it; then the output stays as it was.
 pub fn put_header<A: Allocator>(
     out: &mut Vec<u8, A>,
     tag: u8,
@@ -134,7 +135,7 @@ pub fn u32_len(number: u32) -> usize
     value_len(tag::INTEGER, integer_len(number))
 }
 
-/// Appends an INTEGER (X.690, 8.3).
+/// Appends an INTEGER (X.690, 8.3). `AllocError` where there is no memory for it; then the output stays as it was.
 pub fn put_u32<A: Allocator>(out: &mut Vec<u8, A>, number: u32) -> Result<(), AllocError>
     ensures ok { OnOk result (out.new.items ≡ out.old.items ++ u32_value number) }
     ensures err { OnErr result (out.new.items ≡ out.old.items) }
@@ -167,7 +168,8 @@ pub fn bit_string_len(unused: u8, octets: &[u8]) -> usize
 }
 
 /// Appends a BIT STRING (X.690, 8.6.2) of octets as they stand, whose last octet has `unused`
-/// unused bits: at most 7, and 0 where there is no octet.
+/// unused bits: at most 7, and 0 where there is no octet. `AllocError` where there is no memory for it; then the output
+/// stays as it was.
 pub fn put_bit_string<A: Allocator>(
     out: &mut Vec<u8, A>,
     unused: u8,
@@ -207,7 +209,7 @@ pub fn octets_len(octets: &[u8]) -> usize
     value_len(tag::OCTET_STRING, octets.len())
 }
 
-/// Appends an OCTET STRING (X.690, 8.7).
+/// Appends an OCTET STRING (X.690, 8.7). `AllocError` where there is no memory for it; then the output stays as it was.
 pub fn put_octets<A: Allocator>(out: &mut Vec<u8, A>, octets: &[u8]) -> Result<(), AllocError>
     ensures ok { OnOk result (out.new.items ≡ out.old.items ++ octet_string_value octets.now) }
     ensures err { OnErr result (out.new.items ≡ out.old.items) }
@@ -238,7 +240,7 @@ pub fn null_len() -> usize
     value_len(tag::NULL, 0)
 }
 
-/// Appends a NULL (X.690, 8.8).
+/// Appends a NULL (X.690, 8.8). `AllocError` where there is no memory for it; then the output stays as it was.
 pub fn put_null<A: Allocator>(out: &mut Vec<u8, A>) -> Result<(), AllocError>
     ensures ok { OnOk result (out.new.items ≡ out.old.items ++ null_value) }
     ensures err { OnErr result (out.new.items ≡ out.old.items) }

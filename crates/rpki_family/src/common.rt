@@ -1,5 +1,5 @@
 //! What the types of the two families share.
-ghost use Rattle.std.specs.Prelude.{◌≡◌, ℕ, List, All, IfOk, map, MatchResult};
+ghost use Rattle.std.specs.Prelude.{◌≡◌, ℕ, All, IfOk, MatchResult};
 ghost use Rattle.rpki_text.specs.Memory.{IsMemory};
 ghost use Rattle.rpki_text.specs.Reading.{AnswersOrMemory};
 ghost use Rattle.rpki_chain.specs.Runs.{Runs, Holds, IsRunsOfBlocks};
@@ -7,7 +7,6 @@ ghost use Rattle.rpki_ip.specs.Whole.{IsWhole};
 ghost use Rattle.rpki_ip.specs.declared.family.AddressFamily.TheVariants.{Ipv4};
 ghost use Rattle.rpki_ipblock.specs.Blocks.{ip_bounds};
 ghost use Rattle.rpki_ipblock.specs.ListText.{HasBlocks, HasBlocksFault};
-ghost use Rattle.rpki_ipblock.specs.PrintedBlocks.{block_list_text, IsBlockOf};
 ghost use Rattle.rpki_ipblock.specs.declared.block.IpBlock.{IpBlock};
 ghost use Rattle.rpki_ipres.specs.SetText.{IsFamilySet, IsSetOf, set_text};
 

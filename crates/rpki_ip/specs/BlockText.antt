@@ -1,4 +1,5 @@
--- Texts of prefixes and ranges of addresses. The family that is wanted may be one, or, with None, either.
+-- Texts of prefixes and ranges of addresses, as the Rust crate `rpki` 0.20.1 reads them. The family that is wanted may
+-- be one, or, with None, either.
 use Rattle.std.specs.Prelude.{◌≡◌, ℕ, ◌-◌, ◌^◌, ◌≤◌, ◌<◌, ◌⊎◌, List, Option, None, Some}
 use Rattle.rpki_addr.specs.AddressText.{IsIpText}
 use Rattle.rpki_text.specs.Cuts.{HasNo, Around, slash, dash}

@@ -1,4 +1,4 @@
--- What is printed of prefixes and ranges, as those of a family.
+-- What is printed of prefixes and ranges, as those of a family, as by the Rust crate `rpki` 0.20.1.
 use Rattle.std.specs.Prelude.{ℕ, ◌/◌, ◌^◌, ◌==◌, if◌then◌else◌, List, ◌∷◌, ◌++◌, decimal}
 use Rattle.rpki_text.specs.Cuts.{slash, dash}
 use Rattle.rpki_base.specs.Prefixes.{PrefixValue}

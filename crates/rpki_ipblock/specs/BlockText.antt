@@ -1,4 +1,5 @@
--- Texts of blocks of addresses. The family that is wanted may be one, or, with None, either.
+-- Texts of blocks of addresses, as the Rust crate `rpki` 0.20.1 reads them. The family that is wanted may be one, or,
+-- with None, either.
 use Rattle.std.specs.Prelude.{◌⊎◌, List, ℕ, Option}
 use Rattle.rpki_text.specs.Cuts.{HasNo, Around, slash, dash}
 use Rattle.rpki_ip.specs.BlockText.{IsIpPrefixText, IsRangeText, IsSingleText, HasAddressFault, HasPrefixFault, HasRangeFault}

@@ -1,4 +1,4 @@
--- Texts of lists of blocks of addresses.
+-- Texts of lists of blocks of addresses, as the Rust crate `rpki` 0.20.1 reads them.
 use Rattle.std.specs.Prelude.{◌≡◌, ℕ, ◌⊎◌, List, Some, Contains}
 use Rattle.rpki_text.specs.Lists.{elements, HaveValues, HasFirstFault}
 use Rattle.rpki_ip.specs.declared.error.FromStrError.{FromStrError}

@@ -1,4 +1,4 @@
--- What is printed of blocks of addresses, as those of a family.
+-- What is printed of blocks of addresses, as those of a family, as by the Rust crate `rpki` 0.20.1.
 use Rattle.std.specs.Prelude.{◌≡◌, ℕ, List, map, None, Result, MatchResult}
 use Rattle.rpki_text.specs.Lists.{joined}
 use Rattle.rpki_base.specs.Prefixes.{IsPrefix}

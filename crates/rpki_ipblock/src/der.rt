@@ -98,7 +98,6 @@ impl Encode for IpBlock {
 
 // The readings behind the calls.
 impl IpBlock {
-    ghost use Rattle.std.specs.Prelude.{◌≡◌};
     ghost use Rattle.rpki_der.specs.Reading.{Gives, optional};
     ghost use Rattle.rpki_der.specs.Views.{Takes, tlv};
     ghost use Rattle.rpki_ip.specs.Families.{bits_of};

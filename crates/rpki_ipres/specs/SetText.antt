@@ -1,4 +1,4 @@
--- Texts of sets of addresses.
+-- Texts of sets of addresses, as the Rust crate `rpki` 0.20.1 reads and prints them.
 use Rattle.std.specs.Prelude.{ℕ, List, ◌++◌, map, codes}
 use Rattle.rpki_chain.specs.BlockSets.{IsBlockSet}
 use Rattle.rpki_chain.specs.Runs.{Runs, Holds, IsSetOfBlocks}

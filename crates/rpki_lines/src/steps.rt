@@ -1,5 +1,5 @@
 //! The parts of a path: the list of the root, and the steps.
-ghost use Rattle.std.specs.Prelude.{◌≡◌, ◌≢◌, codes, MatchOption, MatchResult};
+ghost use Rattle.std.specs.Prelude.{◌≢◌, codes, MatchOption, MatchResult};
 ghost use Rattle.rpki_text.specs.Lists.{HaveValues, HasFirstFault};
 ghost use Rattle.rpki_text.specs.Memory.{IfRefused};
 ghost use Rattle.rpki_lines.specs.Path.{ArePath, HasRootFault, HasStepFault, HavePathFault, IsMode, IsStepText, parts_of};

@@ -1,4 +1,4 @@
--- What is wrong with the three lists of a set, and what is printed of it.
+-- What is wrong with the three lists of a set, and what is printed of it, as by the Rust crate `rpki` 0.20.1.
 use Rattle.std.specs.Prelude.{ℕ, List, ◌++◌, codes}
 use Rattle.rpki_text.specs.declared.memory.OrMemory.{OrMemory}
 use Rattle.rpki_text.specs.declared.memory.OrMemory.TheVariants.{Refused, Memory}

@@ -1,4 +1,5 @@
--- Texts of lists: the elements of a text, their values or the first fault, and what is printed.
+-- Texts of lists, as the Rust crate `rpki` 0.20.1 cuts and prints them: the elements of a text, their values or the
+-- first fault, and what is printed.
 use Rattle.std.specs.Prelude.{◌≡◌, ℕ, List, [], ◌∷◌, ◌++◌, map, filter, length, codes, nat_lt, ◌==◌}
 use Rattle.std.specs.List.{slice_split, flat_map}
 use Rattle.std.specs.Str.{trim}

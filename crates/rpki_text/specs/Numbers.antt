@@ -1,4 +1,4 @@
--- Decimal texts of numbers up to a limit, and what is wrong with any other text.
+-- Decimal texts of numbers up to a limit, as Rust's std reads them, and what is wrong with any other text.
 use Rattle.std.specs.Prelude.{◌≡◌, ℕ, ◌<◌, ◌≤◌, ◌≢◌, List, [], ◌∷◌, ◌++◌, codes}
 use Rattle.std.specs.Char.{digit_value}
 use Rattle.std.specs.Str.Parse.{AllDigits, IsNumeral, digits_value, without_leading_plus}

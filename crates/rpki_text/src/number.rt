@@ -61,15 +61,16 @@ fn read_digits(limit: u64, digits: &[u8]) -> Result<u64, ParseIntError>
     Ok(value)
 }
 
-/// The number that a text writes, at most the limit.
+/// The number that a decimal text writes, at most a limit that is below 2^32: as [`parse_u32`], whose faults it has for
+/// this limit.
 pub fn parse_up_to(limit: u64, text: &[u8]) -> Result<u64, ParseIntError>
     requires { limit < 2 ^ 32 }
     ensures { Answers (IsNumberText limit text.now) (HasNumberFault limit text.now) result }
 {
-    let digits = after_plus(text);
     if text.is_empty() {
         return Err(ParseIntError::Empty);
     }
+    let digits = after_plus(text);
     if digits.is_empty() {
         return Err(ParseIntError::InvalidDigit);
     }

@@ -1,5 +1,5 @@
 //! Blocks of AS numbers in DER: an INTEGER, or a SEQUENCE of two (RFC 3779, 3.2.3.5 and 3.2.3.8).
-ghost use Rattle.std.specs.Prelude.{◌≡◌, ◌≤◌, ◌<◌, length};
+ghost use Rattle.std.specs.Prelude.{◌≡◌, ◌≤◌, length};
 ghost use Rattle.rpki_der.specs.Reading.{Gives};
 ghost use Rattle.rpki_der.specs.Views.{left, tlv};
 ghost use Rattle.rpki_asblock.specs.AsDer.{as_range_content};
@@ -14,7 +14,7 @@ use rpki_der::{Content, Cursor, DerError, append_header, header_len, tag};
 use std::alloc::{AllocError, Allocator};
 
 impl AsBlock {
-    ghost use Rattle.std.specs.Prelude.{◌≡◌, ℕ, List, Ok, ◌≤◌, ◌<◌, ◌+◌, ◌++◌, length, vec_len, OnOk, OnErr, IsOk};
+    ghost use Rattle.std.specs.Prelude.{◌≡◌, ℕ, List, Ok, ◌≤◌, ◌+◌, ◌++◌, length, vec_len, OnOk, OnErr, IsOk};
     ghost use Rattle.std.specs.Vec.{vec_capacity};
     ghost use Rattle.rpki_der.specs.Reading.{optional};
     ghost use Rattle.rpki_der.specs.Views.{Lenient, ReadsOptional, Takes};

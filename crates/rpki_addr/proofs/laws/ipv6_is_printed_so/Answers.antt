@@ -2,7 +2,7 @@
 use Rattle.std.proofs.Common.{sym, subst}
 use Rattle.rpki_addr.specs.PrintedAddress.{IsPrintedIpv6, ipv6_text}
 use Rattle.rpki_addr.proofs.PrintedAddressLemmas.{IsPrintedIpv6-ipv6_text, IsPrintedIpv6-one}
-use Rattle.rpki_base.proofs.laws.ipv6_is_printed_so.Goals as goal
+use Rattle.rpki_addr.proofs.laws.ipv6_is_printed_so.Goals as goal
 
 pub returns : goal.returns
 returns c = λ n small text. (

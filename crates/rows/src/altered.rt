@@ -2,8 +2,8 @@
 ghost use Rattle.std.specs.Prelude.{◌<◌, length};
 
 use crate::claims::Families;
-use crate::print::cut;
 use crate::values::{Item, Reader, Skip, Value};
+use answering::print::cut;
 use hex::FromHexError;
 use refusing::{Outcome, Refusing, refuse_in_turn};
 use rpki_as::blocks::AsBlocks;

@@ -1,6 +1,6 @@
 //! Resources in DER: how they are read, written and printed.
-use crate::print;
 use crate::values::Value;
+use answering::print;
 use rpki_as::resources::AsResources;
 use rpki_base::memory::OrMemory;
 use rpki_der::{Cursor, DerError};

@@ -1,7 +1,7 @@
 //! Ranges of addresses as their shortest lists of prefixes.
 ghost use Rattle.std.specs.Iterator.{IsFinite};
 
-use crate::print;
+use answering::print;
 use rpki_ip::family::AddressFamily;
 use rpki_ip::prefix::Prefix;
 use rpki_ip::range::AddressRange;

@@ -1,30 +1,21 @@
-//! The program `rows`: each line of the standard input is a call of the libraries, and is answered with one line on the
-//! standard output. Each call is made again with each of its requests for memory refused; where such a run does anything
-//! but tell that memory is wanting, the line's answer says so.
+//! The program `rows`: each line of the standard input is a call of the libraries that reads one value from a text or from
+//! octets, orders prefixes, or covers a range with them, and is answered with one line on the standard output. Each call is
+//! made again with each of its requests for memory refused; where such a run does anything but tell that memory is wanting,
+//! the line's answer says so.
 #![tactic(auto)]
 
 mod altered;
-mod as_sets;
-mod chains;
 mod claims;
 mod covers;
-mod ip_sets;
 mod line;
-mod lists;
-mod long;
-mod names;
 mod orders;
-mod pairs;
-mod print;
-mod question;
-mod refusals;
-mod small_sets;
 mod takes;
 mod texts;
-mod triples;
 mod values;
 
-use print::cut;
+use answering::print::cut;
+use answering::refusals;
+use line::Line;
 use std::alloc::{AllocError, Global};
 use std::io;
 
@@ -40,6 +31,6 @@ fn main(rt: HostRuntime) -> io::Result<()> {
 fn answer(alloc: Global, line: &str) -> Result<String, AllocError> {
     match cut(line, ' ') {
         ("altered", operands) => altered::answer(alloc, operands),
-        _ => refusals::answer(alloc, line),
+        _ => refusals::answer(alloc, &Line(line)),
     }
 }

@@ -1,9 +1,9 @@
 //! How prefixes stand to one another.
-use crate::print::{self, cut};
+use answering::names::order_word;
+use answering::print::{self, cut};
 use rpki_prefix::max_len::MaxLenPrefix;
 use rpki_prefix::prefix::Prefix;
 use std::alloc::{AllocError, Allocator};
-use std::cmp::Ordering;
 use std::str::FromStr;
 
 /// The answer to `order P | Q`.
@@ -14,15 +14,6 @@ pub fn order<A: Allocator + Copy>(alloc: A, rest: &str) -> Result<String<A>, All
     match (left, right) {
         (Ok(left), Ok(right)) => String::from_str(alloc, order_word(left.cmp(&right))),
         (Err(fault), _) | (_, Err(fault)) => print::error(alloc, fault),
-    }
-}
-
-/// The word for an order.
-pub fn order_word(order: Ordering) -> &'static str {
-    match order {
-        Ordering::Less => "less",
-        Ordering::Equal => "equal",
-        Ordering::Greater => "greater",
     }
 }
 

@@ -1,7 +1,7 @@
 //! What the readers of DER answer.
 use crate::claims::Families;
-use crate::print;
 use crate::values::{Item, Reader, Skip, Value, octets as octets_of};
+use answering::print;
 use hex::FromHexError;
 use rpki_as::blocks::AsBlocks;
 use rpki_as::resources::AsResources;

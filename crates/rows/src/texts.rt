@@ -1,6 +1,6 @@
 //! What the readers of texts answer.
-use crate::print;
 use crate::values::{Item, Value, octets};
+use answering::print;
 use rpki_as::block::AsBlock;
 use rpki_base::addr::{IpAddr, Ipv4Addr, Ipv6Addr};
 use rpki_base::asn::Asn;

@@ -1,7 +1,7 @@
 //! DER values of each kind: how they are read, written and printed.
 use crate::claims::Families;
-use crate::names::named;
-use crate::print;
+use answering::names::named;
+use answering::print;
 use rpki_as::block::AsBlock;
 use rpki_as::blocks::AsBlocks;
 use rpki_as::resources::AsResources;

@@ -1,8 +1,7 @@
 //! What sets of addresses of one family answer.
 use crate::lists::Lists;
-use crate::print::{self, cut};
 use crate::question::{Operation, Question};
-use crate::values::octets;
+use answering::print::{self, cut};
 use rpki_base::memory::OrMemory;
 use rpki_family::v4::Ipv4Blocks;
 use rpki_family::v6::Ipv6Blocks;
@@ -239,6 +238,12 @@ fn assigned_text<A: Allocator + Copy>(
         Err(error) if set == before => Err(error),
         _ => print::ip_set(alloc, family, set),
     }
+}
+
+fn octets<A: Allocator + Copy>(alloc: A, set: &IpBlocks<A>) -> Result<String<A>, AllocError> {
+    let mut output = print::output(alloc)?;
+    let write = set.encode(&mut output);
+    print::written(alloc, &output, write)
 }
 
 fn text<A: Allocator + Copy>(

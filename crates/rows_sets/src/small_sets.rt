@@ -2,8 +2,8 @@
 ghost use Rattle.std.specs.Iterator.{IsFinite};
 
 use crate::lists::Lists;
-use crate::orders::order_word;
-use crate::print;
+use answering::names::order_word;
+use answering::print;
 use rpki_base::asn::Asn;
 use rpki_base::small_set::SmallAsnSet;
 use std::alloc::{AllocError, Allocator};

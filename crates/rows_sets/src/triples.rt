@@ -1,14 +1,13 @@
 //! What sets of all three kinds of resources answer.
-use crate::print::{cut, refused};
+use answering::print::{cut, refused, value};
 use rpki_base::memory::OrMemory;
 use rpki_resources::repository::resources::set::{FromStrError, ResourceSet};
 use std::alloc::{AllocError, Allocator};
-use std::fmt;
 
 /// The answer to `set A ; B ; C`.
 pub fn set<A: Allocator + Copy>(alloc: A, lists: &str) -> Result<String<A>, AllocError> {
     match read(alloc, lists) {
-        Ok(set) => text(alloc, set),
+        Ok(set) => value(alloc, set),
         Err(error) => refused(alloc, error),
     }
 }
@@ -39,7 +38,7 @@ fn of_sets<A: Allocator + Copy>(
     set: &ResourceSet<A>,
     other: &ResourceSet<A>,
 ) -> Result<String<A>, AllocError> {
-    text(alloc, set.difference(alloc, other)?)
+    value(alloc, set.difference(alloc, other)?)
 }
 
 /// The set that three lists write.
@@ -50,12 +49,4 @@ fn read<A: Allocator + Copy>(
     let (asn, addresses) = cut(lists, ';');
     let (ipv4, ipv6) = cut(addresses, ';');
     ResourceSet::from_strs(alloc, asn, ipv4, ipv6)
-}
-
-/// What is printed of a value.
-fn text<T: fmt::Display + Drop, A: Allocator + Copy>(
-    alloc: A,
-    value: T,
-) -> Result<String<A>, AllocError> {
-    format!(in alloc; "{value}")
 }

@@ -1,4 +1,9 @@
 //! How lines are cut and answers printed.
+ghost use Rattle.std.specs.Prelude.{◌≡◌, ◌<◌, ◌==◌, ◌∷◌, ℕ, List, IfOk, IsOk, cond, codes};
+ghost use Rattle.std.specs.List.{before_first, after_first};
+ghost use Rattle.std.specs.String.{string_bytes};
+ghost use Rattle.hex.specs.Hex.{encode_lower};
+
 use rpki_base::memory::OrMemory;
 use rpki_ip::family::AddressFamily;
 use rpki_ipres::block::IpBlock;
@@ -7,7 +12,10 @@ use std::alloc::{AllocError, Allocator};
 use std::fmt;
 
 /// What stands before the first such mark of a text, and what behind it: all of the text and nothing, where there is none.
-pub fn cut(text: &str, mark: char) -> (&str, &str) {
+pub fn cut(text: &str, mark: char) -> (&str, &str)
+    ensures left { mark < 128 → result.0.now ≡ before_first (λ c. c == mark) text.now }
+    ensures right { mark < 128 → result.1.now ≡ after_first (λ c. c == mark) text.now }
+{
     match text.split_once(mark) {
         Some(parts) => parts,
         None => (text, ""),
@@ -15,7 +23,9 @@ pub fn cut(text: &str, mark: char) -> (&str, &str) {
 }
 
 /// An answer of yes or no.
-pub fn boolean<A: Allocator + Copy>(alloc: A, answer: bool) -> Result<String<A>, AllocError> {
+pub fn boolean<A: Allocator + Copy>(alloc: A, answer: bool) -> Result<String<A>, AllocError>
+    ensures { IfOk result (λ word. string_bytes word ≡ cond answer (codes "true") (codes "false")) }
+{
     String::from_str(alloc, if answer { "true" } else { "false" })
 }
 
@@ -105,7 +115,10 @@ pub fn written<A: Allocator + Copy>(
     alloc: A,
     output: &[u8],
     write: Result<(), AllocError>,
-) -> Result<String<A>, AllocError> {
+) -> Result<String<A>, AllocError>
+    ensures { IsOk write → (octets : List ℕ) → output.now ≡ 127 ∷ octets
+        → IfOk result (λ text. string_bytes text ≡ encode_lower octets) }
+{
     match (write, output.strip_prefix(&KEPT)) {
         (Err(error), Some([])) => Err(error),
         (Ok(()), Some(octets)) => hex::encode(alloc, octets),

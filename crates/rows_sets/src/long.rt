@@ -1,7 +1,7 @@
 //! Chains of many blocks: one has each fourth number from 0 on, the other the numbers two above.
 use crate::chains::{Shown, owned_text, trim};
 use crate::pairs::Pair;
-use crate::print;
+use answering::print;
 use rpki_base::number::parse_u32;
 use rpki_chain::block::Block;
 use rpki_chain::chain::Chain;

@@ -1,8 +1,8 @@
 //! What chains over pairs of `u64` answer.
 use crate::lists::Lists;
-use crate::names::named;
 use crate::pairs::Pair;
-use crate::print::{self, cut};
+use answering::names::named;
+use answering::print::{self, cut};
 use rpki_base::memory::OrMemory;
 use rpki_chain::block::Block;
 use rpki_chain::chain::Chain;

@@ -1,0 +1,7 @@
+//! What the programs `rows` and `rows_sets` share: how a line is cut, how an answer is printed, and how a call is made again
+//! with each of its requests for memory refused.
+#![tactic(auto)]
+
+pub mod names;
+pub mod print;
+pub mod refusals;

@@ -1,0 +1,50 @@
+//! The answer to a line, by its command.
+use crate::question::Question;
+use crate::{as_sets, chains, ip_sets, long, small_sets, triples};
+use answering::print::cut;
+use answering::refusals::Call;
+use rpki_ip::family::AddressFamily;
+use std::alloc::{AllocError, Allocator};
+
+/// A line of the input.
+#[derive(Clone, Copy, Drop)]
+pub struct Line<'a>(pub &'a str);
+
+impl Call for Line<'_> {
+    fn text(&self) -> &str {
+        self.0
+    }
+
+    /// One with another command than these goes, as it is, to the library that answers the lines of `respath`.
+    fn answer<A: Allocator + Copy>(&self, alloc: A) -> Result<String<A>, AllocError> {
+        let (command, rest) = cut(self.0, ' ');
+        let (kind, operands) = cut(rest, ' ');
+        match command {
+            "small" => small_sets::answer(alloc, kind, operands),
+            "chain" => chains::answer(alloc, kind, operands),
+            "pair" => chains::pair_answer(alloc, kind, operands),
+            "long" => long::answer(alloc, kind, operands),
+            "set" => triples::set(alloc, rest),
+            "diff" => triples::difference(alloc, rest),
+            _ => match Question::named(command) {
+                Some(question) => set_answer(alloc, question, kind, operands),
+                None => rpki_lines::answer(alloc, self.0.as_bytes()),
+            },
+        }
+    }
+}
+
+/// The answer to a question of sets of a kind.
+fn set_answer<A: Allocator + Copy>(
+    alloc: A,
+    question: Question,
+    kind: &str,
+    operands: &str,
+) -> Result<String<A>, AllocError> {
+    match kind {
+        "as" => as_sets::answer(alloc, question, operands),
+        "v4" => ip_sets::answer(alloc, AddressFamily::Ipv4, question, operands),
+        "v6" => ip_sets::answer(alloc, AddressFamily::Ipv6, question, operands),
+        _ => String::from_str(alloc, "no such kind"),
+    }
+}

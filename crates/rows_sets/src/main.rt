@@ -1,0 +1,28 @@
+//! The program `rows_sets`: each line of the standard input is a call of the libraries that makes chains or sets and asks
+//! them, or is a line of `respath`, and is answered with one line on the standard output. Each call is made again with each
+//! of its requests for memory refused; where such a run does anything but tell that memory is wanting, the line's answer
+//! says so.
+#![tactic(auto)]
+
+mod as_sets;
+mod chains;
+mod ip_sets;
+mod line;
+mod lists;
+mod long;
+mod pairs;
+mod question;
+mod small_sets;
+mod triples;
+
+use answering::refusals;
+use line::Line;
+use std::io;
+
+fn main(rt: HostRuntime) -> io::Result<()> {
+    for line in rt.lines(rt.alloc()) {
+        let answer = refusals::answer(rt.alloc(), &Line(line?.as_str()))?;
+        println!(rt; "{answer}")?;
+    }
+    Ok(())
+}

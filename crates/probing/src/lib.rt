@@ -1,7 +1,8 @@
-//! What tests ask of a value of any type.
+//! What tests ask of a value of any type, and of a run that is refused memory.
 #![tactic(auto)]
 
-use std::alloc::{AllocError, Allocator};
+use refusing::{Outcome, Refusing, refuse_in_turn};
+use std::alloc::{AllocError, Allocator, Global};
 use std::fmt;
 use std::hash::{FoldHasher, Hash, Hasher};
 
@@ -33,4 +34,23 @@ pub fn all_print<A: Allocator + Copy, T: fmt::Display>(
         }
     }
     Ok(true)
+}
+
+/// Whether a run is out of memory wherever one of its requests is refused, and true where none is. It makes one at least.
+pub fn holds_where_refused<F: Fn(&Refusing) -> Result<bool, AllocError>>(
+    alloc: Global,
+    run: F,
+) -> bool
+    requires { F.IsAlwaysCallable run }
+{
+    let refused = refuse_in_turn(alloc, 100, |refusing: &Refusing| outcome(run(refusing)));
+    matches!(refused, Ok(number) if number > 0)
+}
+
+fn outcome(answer: Result<bool, AllocError>) -> Outcome {
+    match answer {
+        Ok(true) => Outcome::Expected,
+        Ok(false) => Outcome::Unexpected,
+        Err(_) => Outcome::OutOfMemory,
+    }
 }

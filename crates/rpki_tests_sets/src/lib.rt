@@ -1,11 +1,9 @@
-//! What no clause says of lists, chains and sets, and what no line of the program `rows` can say of them: iterators to their
-//! end, operands after a refusal, copies, sets of all and of no numbers, and calls that take no memory.
+//! What no clause says of lists and sets of resources, and what no line of the program `rows_sets` can say of them: iterators
+//! to their end, operands after a refusal, copies, and sets of all and of no numbers.
 #![tactic(auto)]
 
 #[cfg(test)]
 mod as_sets;
-#[cfg(test)]
-mod chains;
 #[cfg(test)]
 mod checks;
 #[cfg(test)]
@@ -20,5 +18,3 @@ mod lists;
 mod refused;
 #[cfg(test)]
 mod resource_sets;
-#[cfg(test)]
-mod small_sets;

@@ -1,6 +1,7 @@
 // Runs where each request for memory is refused in turn.
-use crate::checks::{holds, holds_where_refused};
-use crate::{as_sets, family_sets, ip_sets, small_sets};
+use crate::checks::holds;
+use crate::{as_sets, family_sets, ip_sets};
+use probing::holds_where_refused;
 use refusing::Refusing;
 use std::alloc::{AllocError, Global};
 
@@ -11,7 +12,6 @@ enum Case {
     AsOperation(u32),
     /// An operation on two sets of addresses.
     IpOperation(u32),
-    SmallCopy,
     V4Set,
     V6Set,
     V4Copy,
@@ -23,7 +23,6 @@ fn holds_so(case: Case, refusing: &Refusing) -> Result<bool, AllocError> {
     match case {
         Case::AsOperation(operation) => as_sets::leaves_operands(refusing, operation),
         Case::IpOperation(operation) => ip_sets::leaves_operands(refusing, operation),
-        Case::SmallCopy => small_sets::copies(refusing),
         Case::V4Set => family_sets::makes_v4_set(refusing),
         Case::V6Set => family_sets::makes_v6_set(refusing),
         Case::V4Copy => family_sets::copies_v4_set(refusing),
@@ -35,13 +34,7 @@ fn is_right(alloc: Global, case: Case) -> bool {
     holds_where_refused(alloc, |refusing: &Refusing| holds_so(case, refusing))
 }
 
-const CASES: [Case; 5] = [
-    Case::SmallCopy,
-    Case::V4Set,
-    Case::V6Set,
-    Case::V4Copy,
-    Case::V6Copy,
-];
+const CASES: [Case; 4] = [Case::V4Set, Case::V6Set, Case::V4Copy, Case::V6Copy];
 
 #[test]
 fn sets_are_made_and_copied(rt: HostRuntime) {

@@ -1,8 +1,7 @@
 // Small sets of AS numbers.
 ghost use Rattle.std.specs.Iterator.{IsFinite};
 
-use crate::checks::holds;
-use probing::hash_of;
+use probing::{hash_of, holds_where_refused};
 use refusing::{Plan, Refusing};
 use rpki_base::asn::Asn;
 use rpki_base::laws::{ipv6_is_printed_so, one_small_set, orders_are_of_numbers};
@@ -75,7 +74,7 @@ fn asks_nothing(refusing: &Refusing) -> Result<bool, AllocError> {
 #[test]
 fn calls_without_memory(rt: HostRuntime) {
     let refusing = Refusing::new(rt.alloc(), Plan::RefuseNone);
-    holds(&rt, asks_nothing(&refusing) == Ok(true));
+    assert!(rt; asks_nothing(&refusing) == Ok(true));
 }
 
 fn is_same(one: &SmallAsnSet, other: &SmallAsnSet) -> bool {
@@ -92,7 +91,7 @@ fn are_same(alloc: Global) -> Result<bool, AllocError> {
 
 #[test]
 fn equal_sets_have_equal_hashes(rt: HostRuntime) {
-    holds(&rt, are_same(rt.alloc()) == Ok(true));
+    assert!(rt; are_same(rt.alloc()) == Ok(true));
 }
 
 fn copy_is_same<A: Allocator + Copy>(alloc: A, set: &SmallAsnSet<A>) -> Result<bool, AllocError> {
@@ -101,10 +100,16 @@ fn copy_is_same<A: Allocator + Copy>(alloc: A, set: &SmallAsnSet<A>) -> Result<b
 }
 
 /// Whether the copy of a set is the same; the set stands, whatever comes of the copy.
-pub fn copies<A: Allocator + Copy>(alloc: A) -> Result<bool, AllocError> {
+fn copies<A: Allocator + Copy>(alloc: A) -> Result<bool, AllocError> {
     let set = three(alloc)?;
     let is_same = copy_is_same(alloc, &set);
     if is_three(&set) { is_same } else { Ok(false) }
+}
+
+#[test]
+fn a_set_is_copied(rt: HostRuntime) {
+    let is_copied = holds_where_refused(rt.alloc(), |refusing: &Refusing| copies(refusing));
+    assert!(rt; is_copied);
 }
 
 #[test]

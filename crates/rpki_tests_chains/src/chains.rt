@@ -1,5 +1,4 @@
 // Chains over blocks of AS numbers and over ranges of addresses.
-use crate::checks::holds;
 use refusing::{Plan, Refusing};
 use rpki_as::block::AsBlock;
 use rpki_base::asn::Asn;
@@ -101,12 +100,12 @@ fn ranges_are_joined(alloc: Global) -> Result<bool, AllocError> {
 
 #[test]
 fn chains(rt: HostRuntime) {
-    holds(&rt, empty_is_none());
-    holds(&rt, none_is_kept(rt.alloc()));
-    holds(&rt, one_is_kept(rt.alloc()) == Ok(true));
-    holds(&rt, owned_is_right(rt.alloc()) == Ok(true));
-    holds(&rt, shared_is_right(rt.alloc()));
-    holds(&rt, ranges_are_joined(rt.alloc()) == Ok(true));
+    assert!(rt; empty_is_none());
+    assert!(rt; none_is_kept(rt.alloc()));
+    assert!(rt; one_is_kept(rt.alloc()) == Ok(true));
+    assert!(rt; owned_is_right(rt.alloc()) == Ok(true));
+    assert!(rt; shared_is_right(rt.alloc()));
+    assert!(rt; ranges_are_joined(rt.alloc()) == Ok(true));
 }
 
 // ---- calls that take no memory
@@ -126,8 +125,8 @@ fn lies_within(alloc: Global, refusing: &Refusing) -> Result<bool, AllocError> {
 #[test]
 fn a_trim_that_is_ok_takes_no_memory(rt: HostRuntime) {
     let refusing = Refusing::new(rt.alloc(), Plan::RefuseAll);
-    holds(&rt, lies_within(rt.alloc(), &refusing) == Ok(true));
-    holds(&rt, refusing.asked() == 0);
+    assert!(rt; lies_within(rt.alloc(), &refusing) == Ok(true));
+    assert!(rt; refusing.asked() == 0);
 }
 
 /// Whether a chain is made of blocks with no request beyond the one for the blocks.
@@ -141,7 +140,7 @@ fn is_made_in_place(refusing: &Refusing) -> Result<bool, AllocError> {
 #[test]
 fn a_chain_is_made_in_the_memory_of_its_blocks(rt: HostRuntime) {
     let refusing = Refusing::new(rt.alloc(), Plan::RefuseNone);
-    holds(&rt, is_made_in_place(&refusing) == Ok(true));
+    assert!(rt; is_made_in_place(&refusing) == Ok(true));
 }
 
 fn shares_nothing(refusing: &Refusing) -> Result<bool, AllocError> {
@@ -152,14 +151,14 @@ fn shares_nothing(refusing: &Refusing) -> Result<bool, AllocError> {
 #[test]
 fn sharing_the_empty_chain_takes_no_memory(rt: HostRuntime) {
     let refusing = Refusing::new(rt.alloc(), Plan::RefuseAll);
-    holds(&rt, shares_nothing(&refusing) == Ok(true));
-    holds(&rt, refusing.asked() == 0);
+    assert!(rt; shares_nothing(&refusing) == Ok(true));
+    assert!(rt; refusing.asked() == 0);
 }
 
 #[test]
 fn a_refused_chain_asks_once(rt: HostRuntime) {
     let refusing = Refusing::new(rt.alloc(), Plan::RefuseAll);
     let shared = SharedChain::from_blocks(&refusing, &[block(1, 4)]);
-    holds(&rt, shared.is_err());
-    holds(&rt, refusing.asked() == 1);
+    assert!(rt; shared.is_err());
+    assert!(rt; refusing.asked() == 1);
 }

@@ -7,7 +7,6 @@ mod addresses;
 #[cfg(test)]
 mod as_blocks;
 #[cfg(test)]
-mod checks;
 #[cfg(test)]
 mod faults;
 #[cfg(test)]

@@ -4,7 +4,6 @@ ghost use Rattle.std.specs.Iterator.{IsFinite};
 use probing::{hash_of, holds_where_refused};
 use refusing::{Plan, Refusing};
 use rpki_base::asn::Asn;
-use rpki_base::laws::{ipv6_is_printed_so, one_small_set, orders_are_of_numbers};
 use rpki_base::small_set::SmallAsnSet;
 use std::alloc::{AllocError, Allocator, Global};
 
@@ -110,11 +109,4 @@ fn copies<A: Allocator + Copy>(alloc: A) -> Result<bool, AllocError> {
 fn a_set_is_copied(rt: HostRuntime) {
     let is_copied = holds_where_refused(rt.alloc(), |refusing: &Refusing| copies(refusing));
     assert!(rt; is_copied);
-}
-
-#[test]
-fn laws_can_be_called() {
-    one_small_set();
-    orders_are_of_numbers();
-    ipv6_is_printed_so();
 }

@@ -1,6 +1,5 @@
 // Resources that are built with functions.
-use crate::checks::holds;
-use probing::prints;
+use probing::{holds, prints};
 use rpki_as::{AsBlock, AsResourcesBuilder};
 use rpki_base::asn::Asn;
 use std::alloc::{AllocError, Global};

@@ -1,7 +1,7 @@
-// Contents, which are read whatever their tag is, and laws.
-use crate::checks::{holds, same};
+// Contents, which are read whatever their tag is.
+use probing::{holds, same};
 use rpki_base::asn::Asn;
-use rpki_der::{Content, Cursor, DerError, laws};
+use rpki_der::{Content, Cursor, DerError};
 use rpki_ip::der::DecodeFamilyError;
 use rpki_ip::family::AddressFamily;
 use std::test::Fail;
@@ -98,12 +98,4 @@ fn octets_of_families(rt: HostRuntime) {
     for (octets, family) in &FAMILIES {
         same(&rt, AddressFamily::from_octets(octets), *family);
     }
-}
-
-#[test]
-fn laws_are_called(_rt: HostRuntime) {
-    laws::one_value();
-    laws::written();
-    laws::read_back();
-    laws::spelled();
 }

@@ -7,7 +7,6 @@ mod altered;
 #[cfg(test)]
 mod builders;
 #[cfg(test)]
-mod checks;
 #[cfg(test)]
 mod contents;
 #[cfg(test)]

@@ -1,6 +1,5 @@
 // Sets whose issuer should have them whole.
-use crate::checks::holds;
-use probing::prints;
+use probing::{holds, prints};
 use rpki_as::blocks::AsBlocks;
 use rpki_as::resources::AsResources;
 use rpki_base::memory::OrMemory;

@@ -1,6 +1,5 @@
 // Sets of addresses of either family.
-use crate::checks::holds;
-use probing::prints;
+use probing::{holds, prints};
 use rpki_chain::block::Block;
 use rpki_ip::addr::Addr;
 use rpki_ip::error::FromStrError;

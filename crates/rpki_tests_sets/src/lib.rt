@@ -5,7 +5,6 @@
 #[cfg(test)]
 mod as_sets;
 #[cfg(test)]
-mod checks;
 #[cfg(test)]
 mod covered;
 #[cfg(test)]

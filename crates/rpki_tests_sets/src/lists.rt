@@ -1,6 +1,5 @@
 // Lists of texts, which are read and printed in their order.
-use crate::checks::holds;
-use probing::prints;
+use probing::{holds, prints};
 use rpki_base::asn::Asn;
 use rpki_base::list::{fmt_joined, read_list};
 use std::alloc::Global;

@@ -1,6 +1,6 @@
 //! Blocks of whole numbers and chains of them: the ascending list of a set's runs, and the walks over one or two such lists.
 //!
-//! Blocks in any order become the chain of their runs, as in `rpki_tests_sets::chains`:
+//! Blocks in any order become the chain of their runs, as in `rpki_tests_chains::chains`:
 //!
 //! ```rust
 //! let joined = SharedChain::from_blocks(alloc, &[block(5, 8), block(1, 4)])?;

@@ -5,12 +5,16 @@
 //! them one after another, and a refused take leaves it where it was. A [`Content`] is read by the
 //! rule of its type: INTEGER, BIT STRING, OCTET STRING, NULL or SEQUENCE. Nothing is copied.
 //!
-//! Octets are read by a cursor, and refused where some are left, as in `callers::certificates::read_as`:
+//! A value is taken, or refused by its fault, as in `rpki_tests_der::values`:
 //!
 //! ```rust
 //! let mut cursor = Cursor::new(octets);
-//! let resources = AsResources::take_from(alloc, &mut cursor)?;
-//! cursor.finish()?;
+//! match reader {
+//!     Reader::BitString => number_of(cursor.take_bit_string()),
+//!     Reader::Null => number_of(cursor.take_null()),
+//!     Reader::Octets => number_of(cursor.take_octets()),
+//!     Reader::Sequence => number_of(cursor.take_sequence()),
+//! }
 //! ```
 #![tactic(auto)]
 

@@ -2,7 +2,7 @@
 //! is told to.
 //!
 //! [`refuse_in_turn`] runs something with request 0 refused, then with request 1, and so on up to a
-//! run that met no refusal, and looks at how each run ended, as the program `rows` does:
+//! run that met no refusal, and looks at how each run ended, as `answering::refusals` does:
 //!
 //! ```rust
 //! let refused = refuse_in_turn(alloc, limit(line), |refusing: &Refusing| {

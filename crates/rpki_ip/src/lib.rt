@@ -1,4 +1,4 @@
-//! Addresses of both families as numbers, their prefixes and ranges (RFC 3779, section 2), and the texts of these.
+//! Prefixes and ranges of addresses of both families, which are numbers (RFC 3779, section 2), and the texts of these.
 //!
 //! A range is read, and becomes the fewest prefixes, as in the program `rows`:
 //!

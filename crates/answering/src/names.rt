@@ -6,7 +6,8 @@ use std::cmp::Ordering;
 
 /// What a word stands for in a table.
 pub fn named<T: Copy>(words: &[(&str, T)], name: &str) -> Option<T>
-    ensures some { IfSome result (λ meaning. Any (λ row. (row.0.now ≡ name.now) × (row.1 ≡ meaning)) words.now) }
+    ensures some { IfSome result (λ meaning. Any (λ row. (row.0.now ≡ name.now) × (row.1 ≡ meaning))
+        words.now) }
     ensures none { IfNone result (All (λ row. row.0.now ≢ name.now) words.now) }
 {
     for (word, meaning) in words {

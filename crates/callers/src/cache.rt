@@ -30,7 +30,8 @@ pub fn covering<A: Allocator>(
     route: Prefix,
 ) -> Result<Vec<Prefix, A>, AllocError>
     ensures { IfOk result (λ found.
-        (p : FamilyPrefix) → Contains found.items p ↔ (Contains table.now p × CoversPrefix p route)) }
+        (p : FamilyPrefix) → Contains found.items p
+        ↔ (Contains table.now p × CoversPrefix p route)) }
 {
     let mut found = Vec::new(alloc);
     for prefix in table {

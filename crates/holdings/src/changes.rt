@@ -40,7 +40,8 @@ fn between<A: Allocator + Copy>(
 
 /// What is printed of a value.
 fn text<T: fmt::Display + Drop, A: Allocator>(alloc: A, value: T) -> Result<String<A>, AllocError>
-    ensures { (written : List ℕ) → T.output value ≡ Some written → IfOk result (λ text. string_bytes text ≡ written) }
+    ensures { (written : List ℕ) → T.output value ≡ Some written
+        → IfOk result (λ text. string_bytes text ≡ written) }
 {
     format!(in alloc; "{value}")
 }

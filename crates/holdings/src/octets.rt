@@ -36,7 +36,8 @@ fn of_as_resources<A: Allocator>(alloc: A, resources: &AsResources<A>) -> Octets
 /// The octets of the families that list the addresses of a set.
 pub fn of_addresses<A: Allocator>(alloc: A, set: &ResourceSet<A>) -> Octets<A>
     ensures { IfOk result (λ found. MatchOption found ((set.now.ipv4 ≡ []) × (set.now.ipv6 ≡ []))
-        (λ octets. octets.items ≡ ip_families_der (claim_of set.now.ipv4) (claim_of set.now.ipv6))) }
+        (λ octets. octets.items ≡ ip_families_der (claim_of set.now.ipv4)
+        (claim_of set.now.ipv6))) }
 {
     let v4 = set.to_ip_resources_v4()?;
     let v6 = set.to_ip_resources_v6()?;

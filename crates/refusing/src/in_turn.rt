@@ -33,7 +33,8 @@ pub fn refuse_in_turn<A: Allocator + Copy, F: Fn(&Refusing<A>) -> Outcome>(
     ensures last { IfOk result (SomeRunEndsIn (FnReturnsAt F.Fn run) Expected) }
     ensures earlier { IfOk result (EachRunBefore (FnReturnsAt F.Fn run) OutOfMemory) }
 
-    ensures failed { IfErr result (λ number. number < limit → SomeRunEnds (FnReturnsAt F.Fn run) number) }
+    ensures failed { IfErr result (λ number. number < limit
+        → SomeRunEnds (FnReturnsAt F.Fn run) number) }
     ensures before { IfErr result (EachRunBefore (FnReturnsAt F.Fn run) OutOfMemory) }
     ensures within { IfErr result (λ number. number ≤ limit) }
 {

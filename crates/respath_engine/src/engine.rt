@@ -23,7 +23,8 @@ pub fn run<A: Allocator + Copy, R: Source, W: Sink>(
     writer: &mut W,
 ) -> Result<(), RunError>
     // No call failed, nothing is left to be read, each line's answer was written whole, and the writer is flushed.
-    ensures unmarked { OnOk result ((R.mark reader.new ≡ R.mark reader.old) × (W.mark writer.new ≡ W.mark writer.old)) }
+    ensures unmarked { OnOk result ((R.mark reader.new ≡ R.mark reader.old)
+        × (W.mark writer.new ≡ W.mark writer.old)) }
     ensures read_whole { OnOk result (IsAtEnd (R.left reader.new)) }
     ensures answered { OnOk result (IfSome (R.left reader.old)
         (AnswersAll (W.written writer.old) (W.written writer.new))) }
@@ -53,7 +54,8 @@ pub fn run<A: Allocator + Copy, R: Source, W: Sink>(
 fn read_to_end<A: Allocator, R: Source>(alloc: A, reader: &mut R) -> Result<Vec<u8, A>, RunError>
     ensures unmarked { OnOk result (R.mark reader.new ≡ R.mark reader.old) }
     ensures whole { OnOk result (IsAtEnd (R.left reader.new)) }
-    ensures bytes { IfOk result (λ input. IfSome (R.left reader.old) (λ bytes. input.items ≡ bytes)) }
+    ensures bytes { IfOk result (λ input. IfSome (R.left reader.old)
+        (λ bytes. input.items ≡ bytes)) }
     ensures read { IsErrOf result RunError.Read → R.mark reader.new ≡ true }
     ensures memory { IsErrOf result RunError.Memory → R.mark reader.new ≡ R.mark reader.old }
     ensures not_write { IsErrOf result RunError.Write → ⊥ }
@@ -79,11 +81,15 @@ fn answer_lines<A: Allocator + Copy, W: Sink>(
     writer: &mut W,
 ) -> Result<(), RunError>
     ensures unmarked { OnOk result (W.mark writer.new ≡ W.mark writer.old) }
-    ensures answered { OnOk result (AnswersAll (W.written writer.old) (W.written writer.new) text.now) }
-    ensures memory_unmarked { IsErrOf result RunError.Memory → W.mark writer.new ≡ W.mark writer.old }
-    ensures some_answered { IsErrOf result RunError.Memory → AnswersFirst (W.written writer.old) (W.written writer.new) text.now }
+    ensures answered { OnOk result (AnswersAll (W.written writer.old) (W.written writer.new)
+        text.now) }
+    ensures memory_unmarked { IsErrOf result RunError.Memory
+        → W.mark writer.new ≡ W.mark writer.old }
+    ensures some_answered { IsErrOf result RunError.Memory
+        → AnswersFirst (W.written writer.old) (W.written writer.new) text.now }
     ensures write { IsErrOf result RunError.Write → W.mark writer.new ≡ true }
-    ensures some_written { IsErrOf result RunError.Write → BeginsAnswers (W.written writer.old) (W.written writer.new) text.now }
+    ensures some_written { IsErrOf result RunError.Write
+        → BeginsAnswers (W.written writer.old) (W.written writer.new) text.now }
     ensures not_read { IsErrOf result RunError.Read → ⊥ }
 {
     let mut rest = text;
@@ -123,10 +129,13 @@ fn answer_line<A: Allocator + Copy, W: Sink>(
     writer: &mut W,
 ) -> Result<(), RunError>
     ensures unmarked { OnOk result (W.mark writer.new ≡ W.mark writer.old) }
-    ensures answered { OnOk result (HasAnsweredLine (W.written writer.old) (W.written writer.new) line.now []) }
+    ensures answered { OnOk result (HasAnsweredLine (W.written writer.old) (W.written writer.new)
+        line.now []) }
     ensures memory { IsErrOf result RunError.Memory → writer.new ≡ writer.old }
     ensures write { IsErrOf result RunError.Write → W.mark writer.new ≡ true }
-    ensures some_written { IsErrOf result RunError.Write → (unwritten : List ℕ) × HasAnsweredLine (W.written writer.old) (W.written writer.new) line.now unwritten }
+    ensures some_written { IsErrOf result RunError.Write
+        → (unwritten : List ℕ) × HasAnsweredLine (W.written writer.old) (W.written writer.new)
+        line.now unwritten }
     ensures not_read { IsErrOf result RunError.Read → ⊥ }
 {
     let mut text = answer(alloc, line)?;
@@ -137,9 +146,11 @@ fn answer_line<A: Allocator + Copy, W: Sink>(
 /// Writes a whole piece. No call is tried again.
 fn write_all<W: Sink>(writer: &mut W, piece: &[u8]) -> Result<(), DeviceFault>
     ensures unmarked { OnOk result (W.mark writer.new ≡ W.mark writer.old) }
-    ensures whole { OnOk result (HasWritten (W.written writer.old) (W.written writer.new) piece.now []) }
+    ensures whole { OnOk result (HasWritten (W.written writer.old) (W.written writer.new) piece.now
+        []) }
     ensures mark { OnErr result (W.mark writer.new ≡ true) }
-    ensures some_written { OnErr result ((unwritten : List ℕ) × HasWritten (W.written writer.old) (W.written writer.new) piece.now unwritten) }
+    ensures some_written { OnErr result ((unwritten : List ℕ)
+        × HasWritten (W.written writer.old) (W.written writer.new) piece.now unwritten) }
 {
     let mut rest = piece;
     while !rest.is_empty() {

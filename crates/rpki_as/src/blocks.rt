@@ -86,7 +86,8 @@ impl<A: Allocator> AsBlocks<A> {
     /// The set that AS resources list, and the empty set where they are missing. `InheritedAsResources` where they are
     /// inherited.
     pub fn from_resources(resources: AsResources<A>) -> Result<AsBlocks<A>, InheritedAsResources>
-        ensures { MatchChoice resources (result ≡ Ok []) (IsErr result) (λ listed. result ≡ Ok listed) }
+        ensures { MatchChoice resources (result ≡ Ok []) (IsErr result)
+            (λ listed. result ≡ Ok listed) }
     {
         match resources.into_choice() {
             ResourcesChoice::Missing => Ok(AsBlocks::empty()),
@@ -213,7 +214,8 @@ impl<A: Allocator> AsBlocks<A> {
     pub fn from_str(alloc: A, text: &str) -> Result<AsBlocks<A>, OrMemory<FromStrError>>
     where
         A: Copy,
-        ensures exact { AnswersOrMemory (λ set. set) (IsAsListText text.now) (HasAsListFault text.now) result }
+        ensures exact { AnswersOrMemory (λ set. set) (IsAsListText text.now)
+            (HasAsListFault text.now) result }
         // What is printed of a set is read as that set.
         ensures reads_back { (set : Runs) → IsAsSet set → text.now ≡ as_list_text set
             → MatchResult result (λ read. read ≡ set) IsMemory }

@@ -22,7 +22,8 @@ pub fn printed_sets()
 /// What is printed of resources is a text that writes them. A text writes one claim at most, so two are printed alike
 /// exactly where they are equal.
 pub fn printed_resources()
-    ensures written { (claim : Claim) → IsClaim IsAsSet claim → IsAsResourcesText (as_resources_text claim) claim }
+    ensures written { (claim : Claim) → IsClaim IsAsSet claim
+        → IsAsResourcesText (as_resources_text claim) claim }
     ensures one_claim { (text : List ℕ) (a b : Claim) →
         IsAsResourcesText text a → IsAsResourcesText text b → a ≡ b }
     ensures alike { (a b : Claim) → IsClaim IsAsSet a → IsClaim IsAsSet b →

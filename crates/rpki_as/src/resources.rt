@@ -128,7 +128,8 @@ impl<A: Allocator> AsResources<A> {
 
     /// The blocks that are listed, each a run in the form that `new` gives.
     pub(crate) fn as_choice(&self) -> ResourcesChoice<&[AsBlock]>
-        ensures octets { choice_octets (λ blocks. sequence_octets as_block_octets blocks.now) result ≡ choice_octets as_sequence_octets self.now }
+        ensures octets { choice_octets (λ blocks. sequence_octets as_block_octets blocks.now) result
+            ≡ choice_octets as_sequence_octets self.now }
         ensures claim { IsClaim IsAsSet self.now }
     {
         match &self.choice {
@@ -151,9 +152,11 @@ impl<A: Allocator> AsResources<A> {
     pub fn from_str(alloc: A, text: &str) -> Result<AsResources<A>, OrMemory<FromStrError>>
     where
         A: Copy,
-        ensures exact { AnswersOrMemory (λ claim. claim) (IsAsResourcesText text.now) (HasAsResourcesFault text.now) result }
+        ensures exact { AnswersOrMemory (λ claim. claim) (IsAsResourcesText text.now)
+            (HasAsResourcesFault text.now) result }
         // What is printed of resources is read as them.
-        ensures reads_back { (claim : Claim) → IsClaim IsAsSet claim → text.now ≡ as_resources_text claim
+        ensures reads_back { (claim : Claim) → IsClaim IsAsSet claim
+            → text.now ≡ as_resources_text claim
             → MatchResult result (λ read. read ≡ claim) IsMemory }
     {
         if text == "inherit" {

@@ -109,7 +109,8 @@ impl<A: Allocator> AsBlocks<A> {
     ) -> Result<AsBlocks<A>, OrMemory<PathRefusal<OverclaimedAsResources<A>>>>
     where
         A: Copy,
-        ensures { AnswersOrMemory (λ set. set) (IsPathResult (λ claim. claim) (Holds self.now) steps.now)
+        ensures { AnswersOrMemory (λ set. set)
+            (IsPathResult (λ claim. claim) (Holds self.now) steps.now)
             (IsFirstRefusal (λ claim. claim) (Holds self.now) steps.now) result }
     {
         match self.as_set().verify_path(alloc, steps) {

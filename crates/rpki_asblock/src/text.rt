@@ -12,7 +12,8 @@ use std::str::FromStr;
 
 /// The range between the numbers of two texts, if both are AS numbers, the first at most the second.
 fn read_range(left: &str, right: &str) -> Option<AsRange>
-    ensures { MatchOption result (NoRange left.now right.now) (λ r. IsAsRangeBetween left.now right.now (range_bounds r)) }
+    ensures { MatchOption result (NoRange left.now right.now)
+        (λ r. IsAsRangeBetween left.now right.now (range_bounds r)) }
 {
     let min = Asn::from_str(left).ok()?;
     let max = Asn::from_str(right).ok()?;

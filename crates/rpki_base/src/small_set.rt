@@ -146,7 +146,8 @@ impl<'a, A: Allocator> IntoIterator for &'a SmallAsnSet<A> {
     type IntoIter = SmallSetIter<'a>;
 
     // what `iter` says
-    ghost into_iter_gives = { λ set iter. (iter ≡ set.now) × IsSmallSet set.now × (length iter < 2 ^ 64) };
+    ghost into_iter_gives = { λ set iter. (iter ≡ set.now) × IsSmallSet set.now
+        × (length iter < 2 ^ 64) };
 
     fn into_iter(self) -> SmallSetIter<'a> {
         self.iter()

@@ -13,7 +13,8 @@ pub fn join_ascending_into<T: Block, A: Allocator>(
     blocks: &[T],
 ) -> Result<bool, AllocError>
     requires { chain.old.items ≡ [] }
-    ensures chain { IfOk result (λ ascend. IsTrue ascend → IsChain T.bounds T.form chain.new.items) }
+    ensures chain { IfOk result (λ ascend. IsTrue ascend
+        → IsChain T.bounds T.form chain.new.items) }
     ensures covers { IfOk result (λ ascend. IsTrue ascend → (n : ℕ) →
         Covers T.bounds chain.new.items n ↔ Covers T.bounds blocks.now n) }
 {

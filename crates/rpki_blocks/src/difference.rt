@@ -103,7 +103,8 @@ pub fn difference_counted<T: Block, A: Allocator, X: Reads<T>, Y: Reads<T>>(
     other: &mut Y,
 ) -> Result<OwnedChain<T, A>, AllocError>
     ensures difference { IfOk result (λ chain. IsChainOf T.bounds T.form (λ n.
-        Covers T.bounds (X.blocks own.old) n × (Covers T.bounds (Y.blocks other.old) n → ⊥)) chain) }
+        Covers T.bounds (X.blocks own.old) n × (Covers T.bounds (Y.blocks other.old) n → ⊥))
+        chain) }
     ensures few { IfOk result (λ chain.
         length chain ≤ length (X.blocks own.old) + length (Y.blocks other.old)) }
     ensures own_kept { X.blocks own.new ≡ X.blocks own.old }

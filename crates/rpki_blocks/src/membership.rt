@@ -21,7 +21,8 @@ fn middle_of(low: usize, high: usize) -> usize
 pub fn first_from<T: Block, R: Reads<T>>(chain: &mut R, item: T::Item) -> Option<(T::Item, T::Item)>
     ensures block { MatchOption result
         ((n : ℕ) → T.number item ≤ n → Covers T.bounds (R.blocks chain.old) n → ⊥)
-        (λ b. IsRunFrom (Covers T.bounds (R.blocks chain.old)) (T.number item) (numbers T.number b)) }
+        (λ b. IsRunFrom (Covers T.bounds (R.blocks chain.old)) (T.number item)
+        (numbers T.number b)) }
     ensures kept { R.blocks chain.new ≡ R.blocks chain.old }
     ensures reads { (digits : ℕ) → length (R.blocks chain.old) < 2 ^ digits →
         R.count chain.new ≤ R.count chain.old + digits }

@@ -71,9 +71,11 @@ pub fn first_overhang<T: Block, X: Reads<T>, Y: Reads<T>>(
     ensures own_reads { X.count own.new ≤ X.count own.old + length (X.blocks own.old) }
     ensures other_reads { Y.count other.new ≤ Y.count other.old + length (Y.blocks other.old) }
     // What comes behind the blocks at hand wasn't read.
-    ensures own_left { IfSome result (λ o. X.count own.new + (length (X.blocks own.old) - (o.own_at + 1)) ≤
+    ensures own_left { IfSome result (λ o. X.count own.new
+        + (length (X.blocks own.old) - (o.own_at + 1)) ≤
         X.count own.old + length (X.blocks own.old)) }
-    ensures other_left { IfSome result (λ o. Y.count other.new + (length (Y.blocks other.old) - (o.other_at + 1)) ≤
+    ensures other_left { IfSome result (λ o. Y.count other.new
+        + (length (Y.blocks other.old) - (o.other_at + 1)) ≤
         Y.count other.old + length (Y.blocks other.old)) }
 {
     let mut own_at = 0;

@@ -99,7 +99,8 @@ impl<T: Block, A: Allocator> OwnedChain<T, A> {
 fn rebuild<T: Block, A: Allocator>(new: &mut Vec<T, A>, blocks: &[T]) -> Result<(), AllocError>
     requires { new.old.items ≡ [] }
     ensures bounds { OnOk result (map T.bounds new.new.items ≡ map T.bounds blocks.now) }
-    ensures same { OnOk result (All (IsNew T.bounds T.form) blocks.now → new.new.items ≡ blocks.now) }
+    ensures same { OnOk result (All (IsNew T.bounds T.form) blocks.now
+        → new.new.items ≡ blocks.now) }
 {
     for block in blocks {
         let (min, max) = block.bounds();

@@ -30,10 +30,13 @@ pub fn take_choice<T: Block, R: ReadNext<Value = T>, A: Allocator + Copy>(
     cursor: &mut Cursor<'_>,
 ) -> Result<ResourcesChoice<BlockSet<T, A>>, OrMemory<DerError>>
     ensures reads { Lenient cursor.old (ReadsOrMemory
-        (IsResourcesOf (IsSequenceFrom (R.after reader.now) (R.grammar reader.now) (R.first reader.now))
+        (IsResourcesOf (IsSequenceFrom (R.after reader.now) (R.grammar reader.now)
+        (R.first reader.now))
         (IsRunsOfBlocks T.bounds)) (λ claim. claim) cursor.old cursor.new result) }
-    ensures exact { Lenient cursor.old (TakesSaidOrMemory (ListsBy (IsRunsOfBlocks T.bounds)) cursor.old cursor.new result
-        (choice_at (values_from (R.after reader.now) (R.reading reader.now) (R.first reader.now)))) }
+    ensures exact { Lenient cursor.old (TakesSaidOrMemory (ListsBy (IsRunsOfBlocks T.bounds))
+        cursor.old cursor.new result
+        (choice_at (values_from (R.after reader.now) (R.reading reader.now)
+        (R.first reader.now)))) }
     ensures some { IfOk result ListsSome }
 {
     next_choice(alloc, reader, cursor)
@@ -46,7 +49,8 @@ fn next_choice<T: Block, R: ReadNext<Value = T>, A: Allocator + Copy>(
     reader: &R,
     cursor: &mut Cursor<'_>,
 ) -> Result<ResourcesChoice<BlockSet<T, A>>, OrMemory<DerError>>
-    ensures exact { TakesSaidOrMemory (ListsBy (IsRunsOfBlocks T.bounds)) cursor.old cursor.new result
+    ensures exact { TakesSaidOrMemory (ListsBy (IsRunsOfBlocks T.bounds)) cursor.old cursor.new
+        result
         (choice_at (values_from (R.after reader.now) (R.reading reader.now) (R.first reader.now))) }
     ensures some { IfOk result ListsSome }
 {
@@ -63,7 +67,8 @@ fn choice_of_value<T: Block, R: ReadNext<Value = T>, A: Allocator + Copy>(
     value: &Content<'_>,
 ) -> Result<ResourcesChoice<BlockSet<T, A>>, OrMemory<DerError>>
     ensures exact { GivesSaidOrMemory (ListsBy (IsRunsOfBlocks T.bounds)) result
-        (choice_in (values_from (R.after reader.now) (R.reading reader.now) (R.first reader.now)) (tlv value.now)) }
+        (choice_in (values_from (R.after reader.now) (R.reading reader.now) (R.first reader.now))
+        (tlv value.now)) }
     ensures some { IfOk result ListsSome }
 {
     match value.tag() {
@@ -83,7 +88,8 @@ fn set_within<T: Block, R: ReadNext<Value = T>, A: Allocator + Copy>(
     content: Cursor<'_>,
 ) -> Result<BlockSet<T, A>, OrMemory<DerError>>
     ensures exact { GivesSaidOrMemory (IsRunsOfBlocks T.bounds) result
-        (some_in (values_from (R.after reader.now) (R.reading reader.now) (R.first reader.now)) (left content.entry)) }
+        (some_in (values_from (R.after reader.now) (R.reading reader.now) (R.first reader.now))
+        (left content.entry)) }
     ensures some { IfOk result (λ set. set ≢ []) }
 {
     let blocks = read_values(alloc, reader, content)?;
@@ -97,9 +103,11 @@ fn set_within<T: Block, R: ReadNext<Value = T>, A: Allocator + Copy>(
 /// How many octets the blocks have that are listed, without the header of their SEQUENCE, or else all that is written;
 /// None where no vector can hold them.
 pub fn content_len<V: Encode>(choice: &ResourcesChoice<&[V]>) -> Option<usize>
-    ensures some { IfSome result (λ n. n ≡ length (choice_octets (λ blocks. octets_of_all V.octets blocks.now) choice.now)) }
+    ensures some { IfSome result (λ n. n
+        ≡ length (choice_octets (λ blocks. octets_of_all V.octets blocks.now) choice.now)) }
     ensures few { IfSome result (λ n. n < 2 ^ 63) }
-    ensures none { IfNone result (2 ^ 63 ≤ length (choice_octets (λ blocks. octets_of_all V.octets blocks.now) choice.now)) }
+    ensures none { IfNone result (2 ^ 63
+        ≤ length (choice_octets (λ blocks. octets_of_all V.octets blocks.now) choice.now)) }
 {
     let content_len = match choice {
         ResourcesChoice::Missing => 0,
@@ -114,9 +122,11 @@ pub fn content_len<V: Encode>(choice: &ResourcesChoice<&[V]>) -> Option<usize>
 
 /// How many octets `encode_choice` appends, whose content has `content_len`.
 pub fn choice_len<V: Encode>(choice: &ResourcesChoice<&[V]>, content_len: usize) -> usize
-    requires len { content_len ≡ length (choice_octets (λ blocks. octets_of_all V.octets blocks.now) choice.now) }
+    requires len { content_len ≡ length (choice_octets (λ blocks. octets_of_all V.octets blocks.now)
+        choice.now) }
     requires few { content_len < 2 ^ 63 }
-    ensures len { result ≡ length (choice_octets (λ blocks. sequence_octets V.octets blocks.now) choice.now) }
+    ensures len { result ≡ length (choice_octets (λ blocks. sequence_octets V.octets blocks.now)
+        choice.now) }
     ensures short { result ≤ content_len + 10 }
 {
     match choice {
@@ -133,9 +143,11 @@ pub fn encode_choice<V: Encode, A: Allocator>(
     out: &mut Vec<u8, A>,
 ) -> Result<(), AllocError>
     ensures ok { OnOk result
-        (out.new.items ≡ out.old.items ++ choice_octets (λ blocks. sequence_octets V.octets blocks.now) choice.now) }
+        (out.new.items ≡ out.old.items ++ choice_octets
+        (λ blocks. sequence_octets V.octets blocks.now) choice.now) }
     ensures err { OnErr result (out.new.items ≡ out.old.items) }
-    ensures succeeds { vec_len out.old + length (choice_octets (λ blocks. sequence_octets V.octets blocks.now) choice.now)
+    ensures succeeds { vec_len out.old + length
+        (choice_octets (λ blocks. sequence_octets V.octets blocks.now) choice.now)
         ≤ vec_capacity out.old → IsOk result }
     ensures capacity { vec_capacity out.old ≤ vec_capacity out.new }
 {
@@ -152,11 +164,14 @@ pub fn append_choice<V: Encode, A: Allocator>(
     content_len: usize,
     out: &mut Vec<u8, A>,
 )
-    requires len { content_len ≡ length (choice_octets (λ blocks. octets_of_all V.octets blocks.now) choice.now) }
-    requires room { vec_len out.old + length (choice_octets (λ blocks. sequence_octets V.octets blocks.now) choice.now)
+    requires len { content_len ≡ length (choice_octets (λ blocks. octets_of_all V.octets blocks.now)
+        choice.now) }
+    requires room { vec_len out.old + length
+        (choice_octets (λ blocks. sequence_octets V.octets blocks.now) choice.now)
         ≤ vec_capacity out.old }
     ensures items { out.new.items
-        ≡ out.old.items ++ choice_octets (λ blocks. sequence_octets V.octets blocks.now) choice.now }
+        ≡ out.old.items ++ choice_octets (λ blocks. sequence_octets V.octets blocks.now)
+        choice.now }
     ensures capacity { vec_capacity out.old ≤ vec_capacity out.new }
 {
     match choice {

@@ -61,7 +61,8 @@ pub fn laws_of_claims()
         IsIssued (Holds root) claim Refuse issued → IsIssued (Holds root) claim Trim trimmed
         → trimmed ≡ issued }
     ensures trimmed_twice { (root once twice : Runs) (claim : Claim) →
-        IsIssued (Holds root) claim Trim once → IsIssued (Holds once) claim Trim twice → twice ≡ once }
+        IsIssued (Holds root) claim Trim once → IsIssued (Holds once) claim Trim twice
+        → twice ≡ once }
 {}
 
 /// What a path leaves lies in its root and in each set that a step lists, and a claim that was accepted in mode Refuse
@@ -69,15 +70,18 @@ pub fn laws_of_claims()
 /// a path leaves doesn't depend on the order of its steps, nor on how often one stands in it.
 pub fn laws_of_paths()
     ensures inside_root { (root set : Runs) (steps : List (Step Claim)) →
-        IsPathResult (λ claim. claim) (Holds root) steps set → (n : ℕ) → Holds set n → Holds root n }
+        IsPathResult (λ claim. claim) (Holds root) steps set → (n : ℕ) → Holds set n
+        → Holds root n }
     ensures inside_each { (root set : Runs) (steps : List (Step Claim)) →
         IsPathResult (λ claim. claim) (Holds root) steps set → (n : ℕ) → Holds set n
         → All (λ step. Leaves step.claim n) steps }
-    ensures inside_issuer { (root set : Runs) (steps : List (Step Claim)) (at : ℕ) (step : Step Claim) →
+    ensures inside_issuer { (root set : Runs) (steps : List (Step Claim)) (at : ℕ)
+        (step : Step Claim) →
         IsPathResult (λ claim. claim) (Holds root) steps set → at < length steps
         → slice_index_or steps at step ≡ step → step.mode ≡ Refuse → (n : ℕ) → Lists step.claim n
         → IsLeft (λ claim. claim) (Holds root) (take at steps) n }
-    ensures trims { (root : Runs) (steps : List (Step Claim)) → All (λ step. step.mode ≡ Trim) steps →
+    ensures trims { (root : Runs) (steps : List (Step Claim))
+        → All (λ step. step.mode ≡ Trim) steps →
         (at n : ℕ) → ExceedsAt (λ claim. claim) (Holds root) steps at n → ⊥ }
     ensures any_order { (root set other : Runs) (steps others : List (Step Claim)) →
         ((step : Step Claim) → Contains steps step ↔ Contains others step)

@@ -82,7 +82,8 @@ impl<B: CollectBlocks> ResourcesBuilder<B> {
     ) -> Result<(), AllocError>
         requires { F.IsAlwaysCallable build }
         ensures { (handed left : B) × (B.blocks handed ≡ blocks_so_far self.old)
-            × FnOnceReturnsAtMut F.FnOnce build handed result left × (self.new ≡ Some (B.blocks left)) }
+            × FnOnceReturnsAtMut F.FnOnce build handed result left
+            × (self.new ≡ Some (B.blocks left)) }
     {
         let mut listed = match self.listed.take() {
             Some(listed) => listed,

@@ -26,7 +26,8 @@ impl<T: Block, A: Allocator> BlockSet<T, A> {
     ) -> Result<BlockSet<T, A>, OrMemory<BlockSet<T, A>>>
     where
         A: Copy,
-        ensures { AnswersOrMemory (λ set. set) (IsIssued (Holds self.now) (claim_by (λ set. set.now) claim.entry) mode)
+        ensures { AnswersOrMemory (λ set. set)
+            (IsIssued (Holds self.now) (claim_by (λ set. set.now) claim.entry) mode)
             (IsExcess (Holds self.now) (claim_by (λ set. set.now) claim.entry) mode) result }
     {
         issued_by(self, alloc, claim, mode)
@@ -42,7 +43,8 @@ impl<T: Block, A: Allocator> BlockSet<T, A> {
     ) -> Result<(), OrMemory<BlockSet<T, A>>>
     where
         A: Copy,
-        ensures ok { IsOk result ↔ IsCovered (Holds self.now) (claim_by (λ set. set.now) issuer.entry) }
+        ensures ok { IsOk result ↔ IsCovered (Holds self.now)
+            (claim_by (λ set. set.now) issuer.entry) }
         ensures refused { IfErr result
             (IfRefused (IsUncovered (Holds self.now) (claim_by (λ set. set.now) issuer.entry))) }
     {
@@ -76,7 +78,8 @@ fn issued_by<T: Block, A: Allocator + Copy>(
     claim: ResourcesChoice<&BlockSet<T, A>>,
     mode: Overclaim,
 ) -> Result<BlockSet<T, A>, OrMemory<BlockSet<T, A>>>
-    ensures { MatchResult result (IsIssued (Holds set.now) (claim_by (λ set. set.now) claim.entry) mode)
+    ensures { MatchResult result (IsIssued (Holds set.now) (claim_by (λ set. set.now) claim.entry)
+        mode)
         (IfRefused (IsExcess (Holds set.now) (claim_by (λ set. set.now) claim.entry) mode)) }
 {
     match claim {
@@ -128,7 +131,8 @@ fn uncovered_by<T: Block, A: Allocator + Copy>(
     alloc: A,
     issuer: ResourcesChoice<&BlockSet<T, A>>,
 ) -> Result<BlockSet<T, A>, AllocError>
-    ensures { IfOk result (IsRunsOf (λ n. Holds set.now n × (Leaves (claim_by (λ set. set.now) issuer.entry) n → ⊥))) }
+    ensures { IfOk result (IsRunsOf (λ n. Holds set.now n
+        × (Leaves (claim_by (λ set. set.now) issuer.entry) n → ⊥))) }
 {
     match issuer {
         ResourcesChoice::Missing => shared(set),

@@ -41,10 +41,12 @@ pub trait ReadClaim {
         cursor: &mut Cursor<'_>,
     ) -> Result<Self::Claim, OrMemory<DerError>>
         ensures exact { Lenient cursor.old
-            (TakesSaidOrMemory (says self.now) cursor.old cursor.new result (reading self.now family)) };
+            (TakesSaidOrMemory (says self.now) cursor.old cursor.new result
+            (reading self.now family)) };
 
     // The reading finds the claims of the grammar, whatever follows them, and no others.
-    ghost is_reading: { (reader : Self) (family : SomeFamily) → IsReading (grammar reader family) (reading reader family) };
+    ghost is_reading: { (reader : Self) (family : SomeFamily)
+        → IsReading (grammar reader family) (reading reader family) };
 }
 
 /// Takes a SEQUENCE of families in any order, each at most once and with its claim, one at least.
@@ -57,9 +59,11 @@ pub fn take_families<R: ReadClaim>(
     cursor: &mut Cursor<'_>,
 ) -> Result<ByFamily<R::Claim>, OrMemory<DerError>>
     ensures reads { Lenient cursor.old (ReadsOrMemory
-        (IsFamilies (λ family. Refines (R.grammar reader.now family) (R.says reader.now))) (λ fs. fs) cursor.old cursor.new result) }
+        (IsFamilies (λ family. Refines (R.grammar reader.now family) (R.says reader.now)))
+        (λ fs. fs) cursor.old cursor.new result) }
     ensures exact { Lenient cursor.old (TakesSaidOrMemory
-        (SaysByFamily (R.says reader.now)) cursor.old cursor.new result (families_at (R.reading reader.now))) }
+        (SaysByFamily (R.says reader.now)) cursor.old cursor.new result
+        (families_at (R.reading reader.now))) }
 {
     next_families(reader, cursor)
 }
@@ -71,7 +75,8 @@ fn next_families<R: ReadClaim>(
     cursor: &mut Cursor<'_>,
 ) -> Result<ByFamily<R::Claim>, OrMemory<DerError>>
     ensures exact { TakesSaidOrMemory
-        (SaysByFamily (R.says reader.now)) cursor.old cursor.new result (families_at (R.reading reader.now)) }
+        (SaysByFamily (R.says reader.now)) cursor.old cursor.new result
+        (families_at (R.reading reader.now)) }
 {
     let mut ahead = *cursor;
     let found = families_within(reader, ahead.take_sequence()?)?;
@@ -86,7 +91,8 @@ fn families_within<R: ReadClaim>(
     content: Cursor<'_>,
 ) -> Result<ByFamily<R::Claim>, OrMemory<DerError>>
     ensures exact { GivesSaidOrMemory
-        (SaysByFamily (R.says reader.now)) result (families_in (R.reading reader.now) (left content.entry)) }
+        (SaysByFamily (R.says reader.now)) result
+        (families_in (R.reading reader.now) (left content.entry)) }
 {
     if content.is_empty() {
         return Err(OrMemory::Refused(DerError::NoFamily));
@@ -101,7 +107,8 @@ fn members_within<R: ReadClaim>(
 ) -> Result<ByFamily<R::Claim>, OrMemory<DerError>>
     ensures exact { GivesSaidOrMemory
         (SaysByFamily (R.says reader.now)) result
-        (members_in (R.reading reader.now) (length (left content.entry)) none_found (left content.entry)) }
+        (members_in (R.reading reader.now) (length (left content.entry)) none_found
+        (left content.entry)) }
 {
     let mut inside = content;
     let mut found = (None, None);
@@ -120,7 +127,8 @@ fn next_member<R: ReadClaim>(
     found: &ByFamily<R::Claim>,
 ) -> Result<(AddressFamily, R::Claim), OrMemory<DerError>>
     ensures exact { TakesSaidOrMemory
-        (SaysClaim (R.says reader.now)) cursor.old cursor.new result (member_at (R.reading reader.now) (seen found.now)) }
+        (SaysClaim (R.says reader.now)) cursor.old cursor.new result
+        (member_at (R.reading reader.now) (seen found.now)) }
 {
     let mut ahead = *cursor;
     let member = member_within(reader, ahead.take_sequence()?, found)?;
@@ -136,7 +144,8 @@ fn member_within<R: ReadClaim>(
     found: &ByFamily<R::Claim>,
 ) -> Result<(AddressFamily, R::Claim), OrMemory<DerError>>
     ensures exact { GivesSaidOrMemory
-        (SaysClaim (R.says reader.now)) result (member_in (R.reading reader.now) (seen found.now) (left content.entry)) }
+        (SaysClaim (R.says reader.now)) result
+        (member_in (R.reading reader.now) (seen found.now) (left content.entry)) }
 {
     let mut inside = content;
     let family = AddressFamily::take_from(&mut inside)?;

@@ -59,7 +59,8 @@ impl Model for Cover {
 
     ghost view = { λ c. left_cover c.width c.left };
 
-    ghost invariant = { λ c. (c.width ≤ 128) × IfSome c.left (λ r. (r.0 ≤ r.1) × (r.1 < 2 ^ c.width)) };
+    ghost invariant = { λ c. (c.width ≤ 128)
+        × IfSome c.left (λ r. (r.0 ≤ r.1) × (r.1 < 2 ^ c.width)) };
 }
 
 impl Cover {
@@ -129,7 +130,8 @@ fn free_bits(width: u8, first: u128, last: u128) -> u8
 
 /// The numbers that are left behind the first 2^free, from the least to the last.
 fn behind(first: u128, last: u128, free: u8) -> Option<(u128, u128)>
-    ensures { MatchOption result (last < first + 2 ^ free) (λ r. (r ≡ (first + 2 ^ free, last)) × (first + 2 ^ free ≤ last)) }
+    ensures { MatchOption result (last < first + 2 ^ free)
+        (λ r. (r ≡ (first + 2 ^ free, last)) × (first + 2 ^ free ≤ last)) }
 {
     if free >= 128 {
         return None;

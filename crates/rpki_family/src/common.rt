@@ -61,7 +61,8 @@ pub(crate) fn read_set<A: Allocator + Copy>(
     family: AddressFamily,
     text: &str,
 ) -> Result<IpBlocks<A>, OrMemory<FromStrError>>
-    ensures exact { AnswersOrMemory (λ set. set) (IsSetOf (HasBlocks family text.now)) (HasBlocksFault family text.now) result }
+    ensures exact { AnswersOrMemory (λ set. set) (IsSetOf (HasBlocks family text.now))
+        (HasBlocksFault family text.now) result }
     // What is printed of a set of the family is read as that set.
     ensures reads_back { (set : Runs) → IsFamilySet family set → text.now ≡ set_text family set
         → MatchResult result (λ read. read ≡ set) IsMemory }

@@ -330,7 +330,8 @@ impl<A: Allocator> Ipv4Blocks<A> {
     pub fn from_str(alloc: A, text: &str) -> Result<Ipv4Blocks<A>, OrMemory<FromStrError>>
     where
         A: Copy,
-        ensures exact { AnswersOrMemory (λ set. set) (IsSetOf (HasBlocks Ipv4 text.now)) (HasBlocksFault Ipv4 text.now) result }
+        ensures exact { AnswersOrMemory (λ set. set) (IsSetOf (HasBlocks Ipv4 text.now))
+            (HasBlocksFault Ipv4 text.now) result }
         // What is printed of a set is read as that set.
         ensures reads_back { (set : Runs) → IsFamilySet Ipv4 set → text.now ≡ set_text Ipv4 set
             → MatchResult result (λ read. read ≡ set) IsMemory }

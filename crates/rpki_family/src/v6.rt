@@ -319,7 +319,8 @@ impl<A: Allocator> Ipv6Blocks<A> {
     pub fn from_str(alloc: A, text: &str) -> Result<Ipv6Blocks<A>, OrMemory<FromStrError>>
     where
         A: Copy,
-        ensures exact { AnswersOrMemory (λ set. set) (IsSetOf (HasBlocks Ipv6 text.now)) (HasBlocksFault Ipv6 text.now) result }
+        ensures exact { AnswersOrMemory (λ set. set) (IsSetOf (HasBlocks Ipv6 text.now))
+            (HasBlocksFault Ipv6 text.now) result }
         // What is printed of a set is read as that set.
         ensures reads_back { (set : Runs) → IsFamilySet Ipv6 set → text.now ≡ set_text Ipv6 set
             → MatchResult result (λ read. read ≡ set) IsMemory }

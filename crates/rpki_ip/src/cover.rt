@@ -114,7 +114,8 @@ impl AddressRange {
     /// that [`AddressRange::to_v6_prefixes`] gives.
     pub fn to_v4_prefixes(self) -> V4Prefixes
         ensures cover { IsV4CoverList (IsWithin (self.min / 2 ^ 96, self.max / 2 ^ 96)) result }
-        ensures whole { HasWholeBounds (range_bounds self) → IsShortestCover 128 (IsWithin (range_bounds self)) result }
+        ensures whole { HasWholeBounds (range_bounds self)
+            → IsShortestCover 128 (IsWithin (range_bounds self)) result }
         ensures few { length result ≤ 62 }
     {
         let (min, max) = (self.min().to_v4(), self.max().to_v4());

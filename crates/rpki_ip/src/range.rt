@@ -103,9 +103,11 @@ impl AddressRange {
     /// prefix's addresses begin with are clear in its least address and set in its greatest: so their difference is all
     /// of them.
     fn prefix_len(&self) -> Option<u8>
-        ensures some { IfSome result (λ len. IsPrefix 128 (record { first = self.now.min; len = len })
+        ensures some { IfSome result (λ len. IsPrefix 128
+            (record { first = self.now.min; len = len })
             × IsRangeOf (record { first = self.now.min; len = len }) self.now) }
-        ensures none { IfNone result ((p : PrefixValue) → IsPrefix 128 p → IsRangeOf p self.now → ⊥) }
+        ensures none { IfNone result ((p : PrefixValue) → IsPrefix 128 p → IsRangeOf p self.now
+            → ⊥) }
     {
         let min = self.min.to_bits();
         let host_bits = self.max.to_bits() - min;

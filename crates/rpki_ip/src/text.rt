@@ -43,7 +43,8 @@ fn greatest(addr: &IpAddr) -> Addr
 
 /// The address that a text writes, in the family that is wanted or in either.
 fn read_address(wanted: Option<AddressFamily>, text: &str) -> Result<IpAddr, AddrParseError>
-    ensures { MatchResult result (IsAddressText wanted text.now) (λ e. (e ≡ address_fault wanted) × ((a : _) → ¬ IsAddressText wanted text.now a)) }
+    ensures { MatchResult result (IsAddressText wanted text.now)
+        (λ e. (e ≡ address_fault wanted) × ((a : _) → ¬ IsAddressText wanted text.now a)) }
 {
     match wanted {
         Some(AddressFamily::Ipv4) => Ok(IpAddr::V4(Ipv4Addr::from_str(text)?)),
@@ -59,7 +60,8 @@ pub fn prefix_between(
     left: &str,
     right: &str,
 ) -> Result<Prefix, FromStrError>
-    ensures { MatchResult result (IsPrefixBetween wanted left.now right.now) (HasPrefixFault wanted left.now right.now) }
+    ensures { MatchResult result (IsPrefixBetween wanted left.now right.now)
+        (HasPrefixFault wanted left.now right.now) }
 {
     let addr = read_address(wanted, left)?;
     let len = parse_u8(right)?;
@@ -79,7 +81,8 @@ pub fn range_between(
     left: &str,
     right: &str,
 ) -> Result<AddressRange, FromStrError>
-    ensures { MatchResult result (IsIpRangeBetween wanted left.now right.now) (HasRangeFault wanted left.now right.now) }
+    ensures { MatchResult result (IsIpRangeBetween wanted left.now right.now)
+        (HasRangeFault wanted left.now right.now) }
 {
     let first = read_address(wanted, left)?;
     let last = read_address(wanted, right)?;
@@ -107,7 +110,8 @@ fn range_from(first: IpAddr, last: IpAddr) -> Result<AddressRange, FromStrError>
 /// The fault is the first of these: [`FromStrError::MissingSeparator`] where there is no slash, [`FromStrError::Addr`],
 /// and [`FromStrError::PrefixLen`], also of a length above 32 in IPv4 and above 128 in IPv6.
 pub fn read_prefix(wanted: Option<AddressFamily>, text: &str) -> Result<Prefix, FromStrError>
-    ensures { Answers (IsIpPrefixText wanted text.now) (HasIpPrefixTextFault wanted text.now) result }
+    ensures { Answers (IsIpPrefixText wanted text.now) (HasIpPrefixTextFault wanted text.now)
+        result }
 {
     match text.split_once('/') {
         Some((left, right)) => prefix_between(wanted, left, right),
@@ -161,14 +165,16 @@ fn look_alike(family: AddressFamily, a: Addr, b: Addr) -> bool
 impl Prefix {
     /// Reads an IPv4 address and a length round the first slash, as [`read_prefix`] does.
     pub fn from_v4_str(text: &str) -> Result<Prefix, FromStrError>
-        ensures { Answers (IsIpPrefixText (Some Ipv4) text.now) (HasIpPrefixTextFault (Some Ipv4) text.now) result }
+        ensures { Answers (IsIpPrefixText (Some Ipv4) text.now)
+            (HasIpPrefixTextFault (Some Ipv4) text.now) result }
     {
         read_prefix(Some(AddressFamily::Ipv4), text)
     }
 
     /// Reads an IPv6 address and a length round the first slash, as [`read_prefix`] does.
     pub fn from_v6_str(text: &str) -> Result<Prefix, FromStrError>
-        ensures { Answers (IsIpPrefixText (Some Ipv6) text.now) (HasIpPrefixTextFault (Some Ipv6) text.now) result }
+        ensures { Answers (IsIpPrefixText (Some Ipv6) text.now)
+            (HasIpPrefixTextFault (Some Ipv6) text.now) result }
     {
         read_prefix(Some(AddressFamily::Ipv6), text)
     }
@@ -210,7 +216,8 @@ impl Prefix {
 impl FromStr for Prefix {
     type Err = FromStrError;
 
-    ghost from_str_gives = { λ text r. Answers (IsIpPrefixText None text) (HasIpPrefixTextFault None text) r };
+    ghost from_str_gives = { λ text r. Answers (IsIpPrefixText None text)
+        (HasIpPrefixTextFault None text) r };
 
     fn from_str(text: &str) -> Result<Prefix, FromStrError> {
         read_prefix(None, text)
@@ -220,14 +227,16 @@ impl FromStr for Prefix {
 impl AddressRange {
     /// Reads two IPv4 addresses round the first dash, as [`read_range`] does.
     pub fn from_v4_str(text: &str) -> Result<AddressRange, FromStrError>
-        ensures { Answers (IsRangeText (Some Ipv4) text.now) (HasRangeTextFault (Some Ipv4) text.now) result }
+        ensures { Answers (IsRangeText (Some Ipv4) text.now)
+            (HasRangeTextFault (Some Ipv4) text.now) result }
     {
         read_range(Some(AddressFamily::Ipv4), text)
     }
 
     /// Reads two IPv6 addresses round the first dash, as [`read_range`] does.
     pub fn from_v6_str(text: &str) -> Result<AddressRange, FromStrError>
-        ensures { Answers (IsRangeText (Some Ipv6) text.now) (HasRangeTextFault (Some Ipv6) text.now) result }
+        ensures { Answers (IsRangeText (Some Ipv6) text.now)
+            (HasRangeTextFault (Some Ipv6) text.now) result }
     {
         read_range(Some(AddressFamily::Ipv6), text)
     }
@@ -269,7 +278,8 @@ impl AddressRange {
 impl FromStr for AddressRange {
     type Err = FromStrError;
 
-    ghost from_str_gives = { λ text r. Answers (IsRangeText None text) (HasRangeTextFault None text) r };
+    ghost from_str_gives = { λ text r. Answers (IsRangeText None text) (HasRangeTextFault None text)
+        r };
 
     fn from_str(text: &str) -> Result<AddressRange, FromStrError> {
         read_range(None, text)

@@ -34,7 +34,8 @@ impl IpBlock {
         requires { pair.0 ≤ pair.1 }
         ensures bounds { ip_bounds result ≡ pair }
         ensures value { result ≡ new_ip_block pair }
-        ensures prefix { (p : PrefixValue) → IsPrefix 128 p → prefix_bounds p ≡ pair → result ≡ IpBlock.Prefix p }
+        ensures prefix { (p : PrefixValue) → IsPrefix 128 p → prefix_bounds p ≡ pair
+            → result ≡ IpBlock.Prefix p }
     {
         let _number = pair.1.to_bits(); // read so that the proof sees that the number has 128 bits
         match AddressRange::from_pair(pair).into_prefix() {
@@ -181,7 +182,8 @@ impl From<FamilyPrefix> for IpBlock {
     ghost use Rattle.rpki_addr.specs.AddrText.{first_of};
     ghost use Rattle.rpki_ipblock.specs.declared.block.IpBlock.TheVariants.{Prefix};
 
-    ghost from_gives = { λ prefix block. block ≡ Prefix (record { first = first_of prefix.addr; len = prefix.len }) };
+    ghost from_gives = { λ prefix block. block
+        ≡ Prefix (record { first = first_of prefix.addr; len = prefix.len }) };
 
     fn from(prefix: FamilyPrefix) -> IpBlock {
         IpBlock::Prefix(Prefix::new(Addr::from(prefix.addr()), prefix.len()))

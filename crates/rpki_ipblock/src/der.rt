@@ -31,8 +31,10 @@ impl IpBlock {
     /// those of [`Prefix::take_from`]. The content of a SEQUENCE has those of its two prefixes, `ReversedRange` where the
     /// least address is above the greatest, and then `TrailingData` for octets that are left in it.
     pub fn take_opt_from(cursor: &mut Cursor<'_>) -> Result<Option<IpBlock>, DerError>
-        ensures reads { Lenient cursor.old (ReadsOptional (IsIpBlockDer 128) (λ block. block) cursor.old cursor.new result) }
-        ensures exact { Lenient cursor.old (Takes (λ block. block) cursor.old cursor.new result (optional (ip_block_at 128))) }
+        ensures reads { Lenient cursor.old
+            (ReadsOptional (IsIpBlockDer 128) (λ block. block) cursor.old cursor.new result) }
+        ensures exact { Lenient cursor.old
+            (Takes (λ block. block) cursor.old cursor.new result (optional (ip_block_at 128))) }
     {
         Self::next_opt(cursor, AddressFamily::Ipv6)
     }
@@ -43,8 +45,12 @@ impl IpBlock {
         cursor: &mut Cursor<'_>,
         family: AddressFamily,
     ) -> Result<Option<IpBlock>, DerError>
-        ensures reads { Lenient cursor.old (ReadsOptional (IsIpBlockDer (bits_of family)) (λ block. block) cursor.old cursor.new result) }
-        ensures exact { Lenient cursor.old (Takes (λ block. block) cursor.old cursor.new result (optional (ip_block_at (bits_of family)))) }
+        ensures reads { Lenient cursor.old
+            (ReadsOptional (IsIpBlockDer (bits_of family)) (λ block. block) cursor.old cursor.new
+            result) }
+        ensures exact { Lenient cursor.old
+            (Takes (λ block. block) cursor.old cursor.new result
+            (optional (ip_block_at (bits_of family)))) }
     {
         Self::next_opt(cursor, family)
     }
@@ -66,11 +72,13 @@ impl IpBlock {
     pub fn encode<A: Allocator>(&self, out: &mut Vec<u8, A>) -> Result<(), AllocError>
         ensures ok { OnOk result (out.new.items ≡ out.old.items ++ ip_block_der self.now) }
         ensures err { OnErr result (out.new.items ≡ out.old.items) }
-        ensures succeeds { vec_len out.old + length (ip_block_der self.now) ≤ vec_capacity out.old → IsOk result }
+        ensures succeeds { vec_len out.old + length (ip_block_der self.now) ≤ vec_capacity out.old
+            → IsOk result }
         ensures capacity { vec_capacity out.old ≤ vec_capacity out.new }
         ensures within { IsBlockWithin 128 self.now }
         // It is read back, whatever follows it, where its bounds need no more bits than the limit.
-        ensures read_back { (limit : ℕ) (rest : List ℕ) → limit ≤ 128 → IsBlockWithin limit self.now → ip_block_at limit (ip_block_der self.now ++ rest) ≡ Ok (self.now, rest) }
+        ensures read_back { (limit : ℕ) (rest : List ℕ) → limit ≤ 128 → IsBlockWithin limit self.now
+            → ip_block_at limit (ip_block_der self.now ++ rest) ≡ Ok (self.now, rest) }
     {
         match self {
             IpBlock::Prefix(prefix) => prefix.encode(out),
@@ -105,7 +113,8 @@ impl IpBlock {
 
     #[tactic(auto, unfolding(rpki_der::specs::Reading::optional))]
     fn next_opt(cursor: &mut Cursor<'_>, family: AddressFamily) -> Result<Option<IpBlock>, DerError>
-        ensures exact { Takes (λ block. block) cursor.old cursor.new result (optional (ip_block_at (bits_of family))) }
+        ensures exact { Takes (λ block. block) cursor.old cursor.new result
+            (optional (ip_block_at (bits_of family))) }
     {
         if cursor.is_empty() {
             return Ok(None);
@@ -115,7 +124,8 @@ impl IpBlock {
 
     #[tactic(auto, unfolding(rpki_der::specs::Reading::refined))]
     fn next(cursor: &mut Cursor<'_>, family: AddressFamily) -> Result<IpBlock, DerError>
-        ensures exact { Takes (λ block. block) cursor.old cursor.new result (ip_block_at (bits_of family)) }
+        ensures exact { Takes (λ block. block) cursor.old cursor.new result
+            (ip_block_at (bits_of family)) }
     {
         let mut ahead = *cursor;
         let block = Self::of_value(&ahead.take_value()?, family)?;
@@ -125,7 +135,8 @@ impl IpBlock {
 
     #[tactic(auto, unfolding(rpki_base::specs::DerReading::by_tag))]
     fn of_value(value: &Content<'_>, family: AddressFamily) -> Result<IpBlock, DerError>
-        ensures exact { Gives (λ block. block) result (ip_block_of (bits_of family) (tlv value.now)) }
+        ensures exact { Gives (λ block. block) result
+            (ip_block_of (bits_of family) (tlv value.now)) }
     {
         match value.tag() {
             tag::BIT_STRING => Ok(IpBlock::Prefix(Prefix::parse_content_with_family(

@@ -86,9 +86,11 @@ pub fn read_blocks<A: Allocator>(
     family: AddressFamily,
     text: &str,
 ) -> Result<Vec<IpBlock, A>, OrMemory<FromStrError>>
-    ensures exact { AnswersOrMemory (λ v. v.items) (HasBlocks family text.now) (HasBlocksFault family text.now) result }
+    ensures exact { AnswersOrMemory (λ v. v.items) (HasBlocks family text.now)
+        (HasBlocksFault family text.now) result }
     // What is printed of blocks of the family is read as blocks of their bounds.
-    ensures reads_back { (blocks : List IpBlock) → All (IsBlockOf family) blocks → text.now ≡ block_list_text family blocks
+    ensures reads_back { (blocks : List IpBlock) → All (IsBlockOf family) blocks
+        → text.now ≡ block_list_text family blocks
         → MatchResult result (λ v. map ip_bounds v.items ≡ map ip_bounds blocks) IsMemory }
     // Blocks of IPv4 begin and end with whole addresses.
     ensures whole { IfOk result (λ v. family ≡ Ipv4
@@ -117,9 +119,11 @@ pub fn read_ip_blocks<A: Allocator>(
     alloc: A,
     text: &str,
 ) -> Result<Vec<IpBlock, A>, OrMemory<FromStrError>>
-    ensures exact { AnswersOrMemory (λ v. v.items) (HasIpBlocks text.now) (HasIpBlocksFault text.now) result }
+    ensures exact { AnswersOrMemory (λ v. v.items) (HasIpBlocks text.now)
+        (HasIpBlocksFault text.now) result }
     // What is printed of blocks of whole addresses as IPv4, or of blocks as IPv6, is read as blocks of their bounds.
-    ensures reads_back { (family : _) (blocks : List IpBlock) → All (IsBlockOf family) blocks → text.now ≡ block_list_text family blocks
+    ensures reads_back { (family : _) (blocks : List IpBlock) → All (IsBlockOf family) blocks
+        → text.now ≡ block_list_text family blocks
         → MatchResult result (λ v. map ip_bounds v.items ≡ map ip_bounds blocks) IsMemory }
 {
     let reader = ByColon {

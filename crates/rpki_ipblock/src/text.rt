@@ -46,9 +46,11 @@ impl IpBlock {
     /// The fault is the first that is met: [`FromStrError::Addr`] of an address; [`FromStrError::PrefixLen`] of a length,
     /// also of one above 32; [`FromStrError::BadRange`] where the first address of a range is above the second.
     pub fn from_v4_str(text: &str) -> Result<IpBlock, FromStrError>
-        ensures exact { Answers (IsIpBlockText (Some Ipv4) text.now) (HasIpBlockFault (Some Ipv4) text.now) result }
+        ensures exact { Answers (IsIpBlockText (Some Ipv4) text.now)
+            (HasIpBlockFault (Some Ipv4) text.now) result }
         // What is printed of a block of whole addresses as one of IPv4 is read as a block with its bounds.
-        ensures reads_back { (block : IpBlock) → IsBlockOf Ipv4 block → text.now ≡ ip_block_text Ipv4 block
+        ensures reads_back { (block : IpBlock) → IsBlockOf Ipv4 block
+            → text.now ≡ ip_block_text Ipv4 block
             → MatchResult result (λ read. ip_bounds read ≡ ip_bounds block) (λ _. ⊥) }
     {
         read_block(Some(AddressFamily::Ipv4), text)
@@ -56,9 +58,11 @@ impl IpBlock {
 
     /// Reads a block of IPv6 addresses, as [`IpBlock::from_v4_str`] reads one of IPv4. A prefix has a length up to 128.
     pub fn from_v6_str(text: &str) -> Result<IpBlock, FromStrError>
-        ensures exact { Answers (IsIpBlockText (Some Ipv6) text.now) (HasIpBlockFault (Some Ipv6) text.now) result }
+        ensures exact { Answers (IsIpBlockText (Some Ipv6) text.now)
+            (HasIpBlockFault (Some Ipv6) text.now) result }
         // What is printed of a block as one of IPv6 is read as a block with its bounds.
-        ensures reads_back { (block : IpBlock) → IsBlockOf Ipv6 block → text.now ≡ ip_block_text Ipv6 block
+        ensures reads_back { (block : IpBlock) → IsBlockOf Ipv6 block
+            → text.now ≡ ip_block_text Ipv6 block
             → MatchResult result (λ read. ip_bounds read ≡ ip_bounds block) (λ _. ⊥) }
     {
         read_block(Some(AddressFamily::Ipv6), text)

@@ -151,10 +151,12 @@ impl<A: Allocator> IpBlocks<A> {
     pub fn from_str(alloc: A, text: &str) -> Result<IpBlocks<A>, OrMemory<FromStrError>>
     where
         A: Copy,
-        ensures exact { AnswersOrMemory (λ set. set) (IsSetOf (HasIpBlocks text.now)) (HasIpBlocksFault text.now) result }
+        ensures exact { AnswersOrMemory (λ set. set) (IsSetOf (HasIpBlocks text.now))
+            (HasIpBlocksFault text.now) result }
         ensures whole { IfOk result (λ set. IsFamilyOf text.now Ipv4 → IsWhole (Holds set)) }
         // What is printed of a set is read as that set: in IPv4 where it consists of whole IPv4 addresses, in IPv6 always.
-        ensures reads_back { (family : _) (set : Runs) → IsFamilySet family set → text.now ≡ set_text family set
+        ensures reads_back { (family : _) (set : Runs) → IsFamilySet family set
+            → text.now ≡ set_text family set
             → MatchResult result (λ read. read ≡ set) IsMemory }
     {
         let blocks = read_ip_blocks(alloc, text)?;

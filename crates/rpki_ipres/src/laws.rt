@@ -14,7 +14,8 @@ ghost use Rattle.rpki_ipres.specs.SetText.{IsFamilySet, IsSetOf, set_text};
 
 /// The union, the intersection and the difference of sets of whole IPv4 addresses consist of whole IPv4 addresses.
 pub fn laws_of_whole_sets()
-    ensures union { (a b set : Runs) → IsWhole (Holds a) → IsWhole (Holds b) → IsUnion a b set → IsWhole (Holds set) }
+    ensures union { (a b set : Runs) → IsWhole (Holds a) → IsWhole (Holds b) → IsUnion a b set
+        → IsWhole (Holds set) }
     ensures intersection { (a b set : Runs) →
         IsWhole (Holds a) → IsWhole (Holds b) → IsIntersection a b set → IsWhole (Holds set) }
     ensures difference { (a b set : Runs) →
@@ -24,17 +25,23 @@ pub fn laws_of_whole_sets()
 /// Where a set and the claims on it consist of whole IPv4 addresses, so does what a claim or a path of claims leaves,
 /// and so does the excess of what is refused.
 pub fn laws_of_whole_claims()
-    ensures issued { (set issued : Runs) (claim : Claim) (mode : Overclaim) → IsWhole (Holds set) → IsWholeClaim claim →
+    ensures issued { (set issued : Runs) (claim : Claim) (mode : Overclaim) → IsWhole (Holds set)
+        → IsWholeClaim claim →
         IsIssued (Holds set) claim mode issued → IsWhole (Holds issued) }
-    ensures excess { (set excess : Runs) (claim : Claim) (mode : Overclaim) → IsWhole (Holds set) → IsWholeClaim claim →
+    ensures excess { (set excess : Runs) (claim : Claim) (mode : Overclaim) → IsWhole (Holds set)
+        → IsWholeClaim claim →
         IsExcess (Holds set) claim mode excess → IsWhole (Holds excess) }
-    ensures uncovered { (set excess : Runs) (issuer : Claim) → IsWhole (Holds set) → IsWholeClaim issuer →
+    ensures uncovered { (set excess : Runs) (issuer : Claim) → IsWhole (Holds set)
+        → IsWholeClaim issuer →
         IsUncovered (Holds set) issuer excess → IsWhole (Holds excess) }
     ensures result { (set left : Runs) (steps : List (Step Claim)) → IsWhole (Holds set) →
-        All (λ step. IsWholeClaim step.claim) steps → IsPathResult (λ claim. claim) (Holds set) steps left →
+        All (λ step. IsWholeClaim step.claim) steps
+        → IsPathResult (λ claim. claim) (Holds set) steps left →
         IsWhole (Holds left) }
-    ensures refusal { (set : Runs) (steps : List (Step Claim)) (refusal : PathRefusal Runs) → IsWhole (Holds set) →
-        All (λ step. IsWholeClaim step.claim) steps → IsFirstRefusal (λ claim. claim) (Holds set) steps refusal →
+    ensures refusal { (set : Runs) (steps : List (Step Claim)) (refusal : PathRefusal Runs)
+        → IsWhole (Holds set) →
+        All (λ step. IsWholeClaim step.claim) steps
+        → IsFirstRefusal (λ claim. claim) (Holds set) steps refusal →
         IsWhole (Holds refusal.fault) }
 {}
 

@@ -133,8 +133,10 @@ impl<A: Allocator> IpResources<A> {
 
     /// The blocks that are listed, ascending.
     pub(crate) fn as_choice(&self) -> ResourcesChoice<&[IpBlock]>
-        ensures octets { choice_octets (λ blocks. sequence_octets ip_block_der blocks.now) result ≡ ip_resources_der self.now }
-        ensures content { choice_octets (λ blocks. octets_of_all ip_block_der blocks.now) result ≡ ip_content_der self.now }
+        ensures octets { choice_octets (λ blocks. sequence_octets ip_block_der blocks.now) result
+            ≡ ip_resources_der self.now }
+        ensures content { choice_octets (λ blocks. octets_of_all ip_block_der blocks.now) result
+            ≡ ip_content_der self.now }
         ensures claim { IsIpClaim self.now }
     {
         match &self.choice {
@@ -152,7 +154,8 @@ impl<A: Allocator> IpBlocks<A> {
     /// The set that resources list, and the set of no addresses where they are missing. Inherited resources are
     /// refused.
     pub fn from_resources(resources: IpResources<A>) -> Result<IpBlocks<A>, InheritedIpResources>
-        ensures { MatchChoice resources (result ≡ Ok []) (IsErr result) (λ listed. result ≡ Ok listed) }
+        ensures { MatchChoice resources (result ≡ Ok []) (IsErr result)
+            (λ listed. result ≡ Ok listed) }
     {
         match resources.choice {
             ResourcesChoice::Missing => Ok(IpBlocks::empty()),

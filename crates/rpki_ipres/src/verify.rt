@@ -70,7 +70,8 @@ impl<A: Allocator> IpBlocks<A> {
     ) -> Result<IpBlocks<A>, OrMemory<PathRefusal<OverclaimedIpResources<A>>>>
     where
         A: Copy,
-        ensures { AnswersOrMemory (λ set. set) (IsPathResult (λ claim. claim) (Holds self.now) steps.now)
+        ensures { AnswersOrMemory (λ set. set)
+            (IsPathResult (λ claim. claim) (Holds self.now) steps.now)
             (IsFirstRefusal (λ claim. claim) (Holds self.now) steps.now) result }
     {
         match self.as_set().verify_path(alloc, steps) {

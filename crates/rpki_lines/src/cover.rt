@@ -53,7 +53,8 @@ fn v4_prefixes<A: Allocator + Copy>(
     alloc: A,
     list: &str,
 ) -> Result<Prefixes<A>, OrMemory<FromStrError>>
-    ensures { MatchResult result (λ cover. (cover.0 ≡ Ipv4) × IsCoverOf Ipv4 list.now cover.1) (IfRefused (HasBlocksFault Ipv4 list.now)) }
+    ensures { MatchResult result (λ cover. (cover.0 ≡ Ipv4) × IsCoverOf Ipv4 list.now cover.1)
+        (IfRefused (HasBlocksFault Ipv4 list.now)) }
 {
     let set = Ipv4Blocks::from_str(alloc, list)?;
     let mut prefixes = Vec::new(alloc);
@@ -71,7 +72,8 @@ fn v6_prefixes<A: Allocator + Copy>(
     alloc: A,
     list: &str,
 ) -> Result<Prefixes<A>, OrMemory<FromStrError>>
-    ensures { MatchResult result (λ cover. (cover.0 ≡ Ipv6) × IsCoverOf Ipv6 list.now cover.1) (IfRefused (HasBlocksFault Ipv6 list.now)) }
+    ensures { MatchResult result (λ cover. (cover.0 ≡ Ipv6) × IsCoverOf Ipv6 list.now cover.1)
+        (IfRefused (HasBlocksFault Ipv6 list.now)) }
 {
     let set = Ipv6Blocks::from_str(alloc, list)?;
     let mut prefixes = Vec::new(alloc);

@@ -48,7 +48,8 @@ fn as_octets<A: Allocator + Copy>(
     alloc: A,
     resources: &AsResources<A>,
 ) -> Result<String<A>, AllocError>
-    ensures { IfOk result (λ text. string_bytes text ≡ octets_text as_resources_octets resources.now) }
+    ensures { IfOk result (λ text. string_bytes text
+        ≡ octets_text as_resources_octets resources.now) }
 {
     if resources.is_missing() {
         return String::from_str(alloc, "missing");
@@ -79,7 +80,8 @@ fn ip_resources<A: Allocator + Copy>(
     family: AddressFamily,
     list: &str,
 ) -> Result<IpResources<A>, OrMemory<FromStrError>>
-    ensures { MatchResult result (IsIpResourcesText family list.now) (IfRefused (HasIpResourcesFault family list.now)) }
+    ensures { MatchResult result (IsIpResourcesText family list.now)
+        (IfRefused (HasIpResourcesFault family list.now)) }
 {
     if list == "inherit" {
         return Ok(IpResources::inherit());
@@ -93,7 +95,8 @@ fn listed<A: Allocator + Copy>(
     family: AddressFamily,
     list: &str,
 ) -> Result<IpResources<A>, OrMemory<FromStrError>>
-    ensures { MatchResult result (IsListed family list.now) (IfRefused (HasBlocksFault family list.now)) }
+    ensures { MatchResult result (IsListed family list.now)
+        (IfRefused (HasBlocksFault family list.now)) }
 {
     let set = ip_set(alloc, family, list)?;
     Ok(IpResources::blocks(set))
@@ -105,7 +108,8 @@ fn ip_octets<A: Allocator + Copy>(
     family: AddressFamily,
     resources: &IpResources<A>,
 ) -> Result<String<A>, AllocError>
-    ensures { IfOk result (λ text. string_bytes text ≡ octets_text (family_octets family) resources.now) }
+    ensures { IfOk result (λ text. string_bytes text
+        ≡ octets_text (family_octets family) resources.now) }
 {
     if resources.is_missing() {
         return String::from_str(alloc, "missing");

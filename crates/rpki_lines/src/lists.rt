@@ -142,7 +142,8 @@ pub(crate) fn ip_set<A: Allocator + Copy>(
     family: AddressFamily,
     list: &str,
 ) -> Result<IpBlocks<A>, OrMemory<FromStrError>>
-    ensures { MatchResult result (IsSetOf (HasBlocks family list.now)) (IfRefused (HasBlocksFault family list.now)) }
+    ensures { MatchResult result (IsSetOf (HasBlocks family list.now))
+        (IfRefused (HasBlocksFault family list.now)) }
 {
     match family {
         AddressFamily::Ipv4 => v4_set(alloc, list),
@@ -152,7 +153,8 @@ pub(crate) fn ip_set<A: Allocator + Copy>(
 
 /// The set that a list of IPv4 blocks writes.
 fn v4_set<A: Allocator + Copy>(alloc: A, list: &str) -> Result<IpBlocks<A>, OrMemory<FromStrError>>
-    ensures { MatchResult result (IsSetOf (HasBlocks Ipv4 list.now)) (IfRefused (HasBlocksFault Ipv4 list.now)) }
+    ensures { MatchResult result (IsSetOf (HasBlocks Ipv4 list.now))
+        (IfRefused (HasBlocksFault Ipv4 list.now)) }
 {
     let set = Ipv4Blocks::from_str(alloc, list)?;
     Ok(set.ip_blocks().clone()?)
@@ -160,7 +162,8 @@ fn v4_set<A: Allocator + Copy>(alloc: A, list: &str) -> Result<IpBlocks<A>, OrMe
 
 /// The set that a list of IPv6 blocks writes.
 fn v6_set<A: Allocator + Copy>(alloc: A, list: &str) -> Result<IpBlocks<A>, OrMemory<FromStrError>>
-    ensures { MatchResult result (IsSetOf (HasBlocks Ipv6 list.now)) (IfRefused (HasBlocksFault Ipv6 list.now)) }
+    ensures { MatchResult result (IsSetOf (HasBlocks Ipv6 list.now))
+        (IfRefused (HasBlocksFault Ipv6 list.now)) }
 {
     let set = Ipv6Blocks::from_str(alloc, list)?;
     Ok(set.ip_blocks().clone()?)

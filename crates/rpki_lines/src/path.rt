@@ -60,7 +60,8 @@ fn left_of_as<A: Allocator + Copy>(
     root: &AsBlocks<A>,
     steps: &[AsStep<A>],
 ) -> Result<String<A>, AllocError>
-    ensures { IfOk result (λ text. ShowsPath as_list_text AsFaults.overclaimed_text root.now steps.now (string_bytes text)) }
+    ensures { IfOk result (λ text. ShowsPath as_list_text AsFaults.overclaimed_text root.now
+        steps.now (string_bytes text)) }
 {
     match root.verify_path(alloc, steps) {
         Ok(left) => format!(in alloc; "{left}"),
@@ -92,8 +93,10 @@ fn left_of_ip<A: Allocator + Copy>(
     root: &IpBlocks<A>,
     steps: &[IpStep<A>],
 ) -> Result<String<A>, AllocError>
-    requires { family ≡ Ipv4 → IsWhole (Holds root.now) × All (λ step. IsWholeClaim step.claim) steps.now }
-    ensures { IfOk result (λ text. ShowsPath (set_text family) (overclaimed_text family) root.now steps.now (string_bytes text)) }
+    requires { family ≡ Ipv4 → IsWhole (Holds root.now)
+        × All (λ step. IsWholeClaim step.claim) steps.now }
+    ensures { IfOk result (λ text. ShowsPath (set_text family) (overclaimed_text family) root.now
+        steps.now (string_bytes text)) }
 {
     laws_of_whole_claims(); // called so that the proof sees that what is claimed too much is whole where all else is
     match root.verify_path(alloc, steps) {
@@ -110,7 +113,8 @@ fn refused_in<A: Allocator + Copy>(
     refusal: PathRefusal<OverclaimedIpResources<A>>,
 ) -> Result<String<A>, AllocError>
     requires { family ≡ Ipv4 → IsWhole (Holds refusal.fault) }
-    ensures { IfOk result (λ text. string_bytes text ≡ refusal_text (overclaimed_text family) refusal) }
+    ensures { IfOk result (λ text. string_bytes text
+        ≡ refusal_text (overclaimed_text family) refusal) }
 {
     match family {
         AddressFamily::Ipv4 => refused(alloc, refusal.step, refusal.fault.v4()),
@@ -125,8 +129,10 @@ fn refused<F: fmt::Display + Drop, A: Allocator + Copy>(
     fault: F,
 ) -> Result<String<A>, AllocError>
     // Whatever text the fault prints, that is what is told.
-    ensures { (excess_text : Runs → List ℕ) → (excess : Runs) → F.output fault ≡ Some (excess_text excess)
-        → IfOk result (λ text. string_bytes text ≡ refusal_text excess_text (record { step = step; fault = excess })) }
+    ensures { (excess_text : Runs → List ℕ) → (excess : Runs)
+        → F.output fault ≡ Some (excess_text excess)
+        → IfOk result (λ text. string_bytes text
+        ≡ refusal_text excess_text (record { step = step; fault = excess })) }
 {
     format!(in alloc; "refused at step {step}: {fault}")
 }

@@ -52,7 +52,8 @@ fn as_resources_in<A: Allocator + Copy>(
     alloc: A,
     octets: &[u8],
 ) -> Result<AsResources<A>, OrMemory<DerError>>
-    ensures { MatchResult result (IsAsResources octets.now) (IfRefused (λ _. HasNone IsAsResources octets.now)) }
+    ensures { MatchResult result (IsAsResources octets.now)
+        (IfRefused (λ _. HasNone IsAsResources octets.now)) }
 {
     let mut cursor = Cursor::new(octets);
     let taken = AsResources::take_from(alloc, &mut cursor);
@@ -122,7 +123,8 @@ fn families_in<A: Allocator + Copy>(
     alloc: A,
     octets: &[u8],
 ) -> Result<(Option<IpResources<A>>, Option<IpResources<A>>), OrMemory<DerError>>
-    ensures { MatchResult result (IsIpFamilies octets.now) (IfRefused (λ _. HasNone IsIpFamilies octets.now)) }
+    ensures { MatchResult result (IsIpFamilies octets.now)
+        (IfRefused (λ _. HasNone IsIpFamilies octets.now)) }
 {
     let mut cursor = Cursor::new(octets);
     let taken = IpResources::take_families_from(alloc, &mut cursor);

@@ -27,8 +27,10 @@ pub(crate) fn read_path<A: Allocator + Copy, L: Lists<A>>(
     path: &str,
 ) -> Result<(L::Set, Vec<Step<L::Resources>, A>), OrMemory<PartFault<L::Fault>>>
     ensures { MatchResult result
-        (λ read. ArePath L.claim (L.writes lists.now) (parts_of path.now) (L.runs read.0) read.1.items)
-        (IfRefused (HavePathFault (L.fails lists.now) L.claim (L.writes lists.now) (parts_of path.now))) }
+        (λ read. ArePath L.claim (L.writes lists.now) (parts_of path.now) (L.runs read.0)
+        read.1.items)
+        (IfRefused (HavePathFault (L.fails lists.now) L.claim (L.writes lists.now)
+        (parts_of path.now))) }
 {
     let Some((list, steps)) = path.split_once('|') else {
         let root = read_root(alloc, lists, path)?;
@@ -62,7 +64,8 @@ fn read_steps<A: Allocator + Copy, L: Lists<A>>(
     text: &str,
 ) -> Result<Vec<Step<L::Resources>, A>, OrMemory<PartFault<L::Fault>>>
     ensures { MatchResult result
-        (λ steps. HaveValues (IsStepText L.claim (L.writes lists.now)) (parts_of text.now) steps.items)
+        (λ steps. HaveValues (IsStepText L.claim (L.writes lists.now)) (parts_of text.now)
+        steps.items)
         (IfRefused (HasFirstFault (IsStepText L.claim (L.writes lists.now))
         (HasStepFault (L.fails lists.now)) (parts_of text.now))) }
 {
@@ -115,7 +118,8 @@ fn read_step<A: Allocator + Copy, L: Lists<A>>(
 
 /// What a word says of a claim that lists too much.
 fn mode_named(word: &str) -> Option<Overclaim>
-    ensures { MatchOption result ((word.now ≢ codes "refuse") × (word.now ≢ codes "trim")) (IsMode word.now) }
+    ensures { MatchOption result ((word.now ≢ codes "refuse") × (word.now ≢ codes "trim"))
+        (IsMode word.now) }
 {
     match word {
         "refuse" => Some(Overclaim::Refuse),

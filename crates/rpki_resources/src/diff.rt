@@ -28,7 +28,8 @@ impl<A: Allocator> ResourceDiff<A> {
         added: ResourceSet<A>,
         removed: Result<ResourceSet<A>, AllocError>,
     ) -> Result<ResourceDiff<A>, AllocError>
-        ensures { MatchResult removed (λ set. result ≡ Ok (record { added = added; removed = set })) (λ error. result ≡ Err error) }
+        ensures { MatchResult removed (λ set. result ≡ Ok (record { added = added; removed = set }))
+            (λ error. result ≡ Err error) }
     {
         match removed {
             Ok(removed) => Ok(ResourceDiff { added, removed }),

@@ -6,7 +6,8 @@ ghost use Rattle.rpki_resources.specs.Triples.{AreChanges, Changes, IsDifference
 /// is the first one. Asked the other way round, added and removed change places. Nothing differs exactly between equal
 /// sets.
 pub fn laws_of_changes()
-    ensures restores { (a b : Triple) (d : Changes) (kept set : Triple) → IsTriple a → AreChanges a b d →
+    ensures restores { (a b : Triple) (d : Changes) (kept set : Triple) → IsTriple a
+        → AreChanges a b d →
         IsDifferenceOf b d.removed kept → IsUnionOf kept d.added set → set ≡ a }
     ensures exchanged { (a b : Triple) (d e : Changes) → AreChanges a b d → AreChanges b a e →
         e ≡ record { added = d.removed; removed = d.added } }

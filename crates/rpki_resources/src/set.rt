@@ -50,7 +50,8 @@ impl<A: Allocator> ResourceSet<A> {
         ipv4: Ipv4Blocks<A>,
         ipv6: Result<Ipv6Blocks<A>, AllocError>,
     ) -> Result<ResourceSet<A>, AllocError>
-        ensures { MatchResult ipv6 (λ set. result ≡ Ok (record { asn = asn; ipv4 = ipv4; ipv6 = set })) (λ error. result ≡ Err error) }
+        ensures { MatchResult ipv6 (λ set. result
+            ≡ Ok (record { asn = asn; ipv4 = ipv4; ipv6 = set })) (λ error. result ≡ Err error) }
     {
         match ipv6 {
             Ok(ipv6) => Ok(ResourceSet::new(asn, ipv4, ipv6)),
@@ -143,7 +144,8 @@ impl<A: Allocator> ResourceSet<A> {
 
     /// The AS numbers, or None where there are none.
     pub fn asn_opt(&self) -> Option<&AsBlocks<A>>
-        ensures { MatchOption result (self.now.asn ≡ []) (λ set. (set.now ≡ self.now.asn) × (set.now ≢ [])) }
+        ensures { MatchOption result (self.now.asn ≡ [])
+            (λ set. (set.now ≡ self.now.asn) × (set.now ≢ [])) }
     {
         if self.asn.is_empty() {
             return None;
@@ -153,7 +155,8 @@ impl<A: Allocator> ResourceSet<A> {
 
     /// The IPv4 addresses, or None where there are none.
     pub fn ipv4_opt(&self) -> Option<&Ipv4Blocks<A>>
-        ensures { MatchOption result (self.now.ipv4 ≡ []) (λ set. (set.now ≡ self.now.ipv4) × (set.now ≢ [])) }
+        ensures { MatchOption result (self.now.ipv4 ≡ [])
+            (λ set. (set.now ≡ self.now.ipv4) × (set.now ≢ [])) }
     {
         if self.ipv4.is_empty() {
             return None;
@@ -163,7 +166,8 @@ impl<A: Allocator> ResourceSet<A> {
 
     /// The IPv6 addresses, or None where there are none.
     pub fn ipv6_opt(&self) -> Option<&Ipv6Blocks<A>>
-        ensures { MatchOption result (self.now.ipv6 ≡ []) (λ set. (set.now ≡ self.now.ipv6) × (set.now ≢ [])) }
+        ensures { MatchOption result (self.now.ipv6 ≡ [])
+            (λ set. (set.now ≡ self.now.ipv6) × (set.now ≢ [])) }
     {
         if self.ipv6.is_empty() {
             return None;
@@ -190,7 +194,8 @@ impl<A: Allocator> ResourceSet<A> {
     /// Whether the set of a family has each address of a range, as those that an entry of a route origin authorization
     /// names (RFC 9582, 4.3).
     pub fn contains_roa_address(&self, family: AddressFamily, addresses: AddressRange) -> bool
-        ensures { IsTrue result ↔ ((n : ℕ) → IsWithin (range_bounds addresses) n → Holds (of_family family self.now) n) }
+        ensures { IsTrue result ↔ ((n : ℕ) → IsWithin (range_bounds addresses) n
+            → Holds (of_family family self.now) n) }
     {
         match family {
             AddressFamily::Ipv4 => self.ipv4.ip_blocks().contains_roa(addresses),

@@ -60,7 +60,8 @@ impl<A: Allocator> ResourceSet<A> {
     ) -> Result<ResourceSet<A>, OrMemory<FromStrError>>
     where
         A: Copy,
-        ensures exact { AnswersOrMemory (λ set. set) (IsTripleText asn.now ipv4.now ipv6.now) (HasTripleFault asn.now ipv4.now ipv6.now) result }
+        ensures exact { AnswersOrMemory (λ set. set) (IsTripleText asn.now ipv4.now ipv6.now)
+            (HasTripleFault asn.now ipv4.now ipv6.now) result }
         // What is printed of the three lists of a set is read as that set.
         ensures reads_back { (set : Triple) → IsTriple set → asn.now ≡ as_list_text set.asn
             → ipv4.now ≡ ipv4_text set.ipv4 → ipv6.now ≡ ipv6_text set.ipv6
@@ -101,7 +102,8 @@ fn fmt_kind<T: fmt::Display, W: fmt::Write>(
     f: &mut fmt::Formatter<W>,
 ) -> fmt::Result
     ensures { (text : List ℕ) → T.output list.now ≡ Some text
-        → WritesOnOk W.write_str_gives f.old result (if is_empty then [] else kind.now ++ text) f.new }
+        → WritesOnOk W.write_str_gives f.old result (if is_empty then [] else kind.now ++ text)
+        f.new }
 {
     if is_empty {
         return Ok(());

@@ -26,10 +26,14 @@ impl<A: Allocator> AsBlocks<A> {
     pub fn take_from(alloc: A, cursor: &mut Cursor<'_>) -> Result<AsBlocks<A>, OrMemory<DerError>>
     where
         A: Copy,
-        ensures reads { Lenient cursor.old (ReadsOrMemory IsAsBlockSequence (λ set. set) cursor.old cursor.new result) }
-        ensures exact { Lenient cursor.old (TakesSaidOrMemory (IsRunsOfBlocks as_bounds) cursor.old cursor.new result as_blocks_at) }
+        ensures reads { Lenient cursor.old
+            (ReadsOrMemory IsAsBlockSequence (λ set. set) cursor.old cursor.new result) }
+        ensures exact { Lenient cursor.old
+            (TakesSaidOrMemory (IsRunsOfBlocks as_bounds) cursor.old cursor.new result
+            as_blocks_at) }
         // What is written of a set, in one SEQUENCE, is read as that set, whatever follows it.
-        ensures reads_back { (set : Runs) (rest : List ℕ) → IsAsSet set → left cursor.old ≡ as_sequence_octets set ++ rest
+        ensures reads_back { (set : Runs) (rest : List ℕ) → IsAsSet set
+            → left cursor.old ≡ as_sequence_octets set ++ rest
             → MatchResult result (λ read. (read ≡ set) × (left cursor.new ≡ rest)) IsMemory }
     {
         Self::next_set(alloc, cursor)
@@ -41,7 +45,8 @@ impl<A: Allocator> AsBlocks<A> {
     pub fn encode<B: Allocator>(&self, out: &mut Vec<u8, B>) -> Result<(), AllocError>
         ensures ok { OnOk result (out.new.items ≡ out.old.items ++ as_set_octets self.now) }
         ensures err { OnErr result (out.new.items ≡ out.old.items) }
-        ensures succeeds { vec_len out.old + length (as_set_octets self.now) ≤ vec_capacity out.old → IsOk result }
+        ensures succeeds { vec_len out.old + length (as_set_octets self.now) ≤ vec_capacity out.old
+            → IsOk result }
         ensures capacity { vec_capacity out.old ≤ vec_capacity out.new }
         ensures set { IsAsSet self.now }
     {
@@ -52,7 +57,8 @@ impl<A: Allocator> AsBlocks<A> {
     fn next_set(alloc: A, cursor: &mut Cursor<'_>) -> Result<AsBlocks<A>, OrMemory<DerError>>
     where
         A: Copy,
-        ensures exact { TakesSaidOrMemory (IsRunsOfBlocks as_bounds) cursor.old cursor.new result as_blocks_at }
+        ensures exact { TakesSaidOrMemory (IsRunsOfBlocks as_bounds) cursor.old cursor.new result
+            as_blocks_at }
     {
         let mut ahead = *cursor;
         let blocks = take_sequence_of(alloc, &AsBlockReader, &mut ahead)?;

@@ -30,6 +30,7 @@ pub fn written_resources()
     ensures one { OneFront IsAsResources }
     ensures written { (claim : Claim) → IsClaim IsAsSet claim → claim ≢ Missing →
         IsAsResources (as_resources_octets claim) claim }
-    ensures alike { (a b : Claim) → IsClaim IsAsSet a → IsClaim IsAsSet b → a ≢ Missing → b ≢ Missing →
+    ensures alike { (a b : Claim) → IsClaim IsAsSet a → IsClaim IsAsSet b → a ≢ Missing
+        → b ≢ Missing →
         (as_resources_octets a ≡ as_resources_octets b) ↔ (a ≡ b) }
 {}

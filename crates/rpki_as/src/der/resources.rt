@@ -38,10 +38,14 @@ impl<A: Allocator> AsResources<A> {
     ) -> Result<AsResources<A>, OrMemory<DerError>>
     where
         A: Copy,
-        ensures reads { Lenient cursor.old (ReadsOrMemory IsAsResources (λ claim. claim) cursor.old cursor.new result) }
-        ensures exact { Lenient cursor.old (TakesSaidOrMemory (ListsBy (IsRunsOfBlocks as_bounds)) cursor.old cursor.new result as_choice_at) }
+        ensures reads { Lenient cursor.old
+            (ReadsOrMemory IsAsResources (λ claim. claim) cursor.old cursor.new result) }
+        ensures exact { Lenient cursor.old
+            (TakesSaidOrMemory (ListsBy (IsRunsOfBlocks as_bounds)) cursor.old cursor.new result
+            as_choice_at) }
         // What is written of resources is read as them, whatever follows it.
-        ensures reads_back { (claim : Claim) (rest : List ℕ) → IsClaim IsAsSet claim → claim ≢ Missing → left cursor.old ≡ as_resources_octets claim ++ rest
+        ensures reads_back { (claim : Claim) (rest : List ℕ) → IsClaim IsAsSet claim
+            → claim ≢ Missing → left cursor.old ≡ as_resources_octets claim ++ rest
             → MatchResult result (λ read. (read ≡ claim) × (left cursor.new ≡ rest)) IsMemory }
     {
         Self::next_resources(alloc, cursor)
@@ -55,7 +59,8 @@ impl<A: Allocator> AsResources<A> {
         requires { self.now ≢ Missing }
         ensures ok { OnOk result (out.new.items ≡ out.old.items ++ as_resources_octets self.now) }
         ensures err { OnErr result (out.new.items ≡ out.old.items) }
-        ensures succeeds { vec_len out.old + length (as_resources_octets self.now) ≤ vec_capacity out.old → IsOk result }
+        ensures succeeds { vec_len out.old + length (as_resources_octets self.now)
+            ≤ vec_capacity out.old → IsOk result }
         ensures capacity { vec_capacity out.old ≤ vec_capacity out.new }
         ensures claim { IsClaim IsAsSet self.now }
     {
@@ -80,7 +85,8 @@ impl<A: Allocator> AsResources<A> {
     ) -> Result<AsResources<A>, OrMemory<DerError>>
     where
         A: Copy,
-        ensures exact { TakesSaidOrMemory (ListsBy (IsRunsOfBlocks as_bounds)) cursor.old cursor.new result as_choice_at }
+        ensures exact { TakesSaidOrMemory (ListsBy (IsRunsOfBlocks as_bounds)) cursor.old cursor.new
+            result as_choice_at }
     {
         let mut ahead = *cursor;
         let mut inside = ahead.take_sequence()?;

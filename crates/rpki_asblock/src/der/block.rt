@@ -27,8 +27,10 @@ impl AsBlock {
     /// SEQUENCE stands there, `ReversedRange` where the first number of a range is above the second, and `TrailingData`
     /// where more than two numbers are in it.
     pub fn take_opt_from(cursor: &mut Cursor<'_>) -> Result<Option<AsBlock>, DerError>
-        ensures reads { Lenient cursor.old (ReadsOptional IsAsBlock (λ block. block) cursor.old cursor.new result) }
-        ensures exact { Lenient cursor.old (Takes (λ block. block) cursor.old cursor.new result (optional as_block_at)) }
+        ensures reads { Lenient cursor.old
+            (ReadsOptional IsAsBlock (λ block. block) cursor.old cursor.new result) }
+        ensures exact { Lenient cursor.old
+            (Takes (λ block. block) cursor.old cursor.new result (optional as_block_at)) }
     {
         AsBlock::next_opt(cursor)
     }
@@ -61,10 +63,12 @@ impl AsBlock {
     pub fn encode<A: Allocator>(&self, out: &mut Vec<u8, A>) -> Result<(), AllocError>
         ensures ok { OnOk result (out.new.items ≡ out.old.items ++ as_block_octets self.now) }
         ensures err { OnErr result (out.new.items ≡ out.old.items) }
-        ensures succeeds { vec_len out.old + length (as_block_octets self.now) ≤ vec_capacity out.old → IsOk result }
+        ensures succeeds { vec_len out.old + length (as_block_octets self.now)
+            ≤ vec_capacity out.old → IsOk result }
         ensures capacity { vec_capacity out.old ≤ vec_capacity out.new }
         // It is read back, whatever follows it.
-        ensures read_back { (rest : List ℕ) → as_block_at (as_block_octets self.now ++ rest) ≡ Ok (self.now, rest) }
+        ensures read_back { (rest : List ℕ)
+            → as_block_at (as_block_octets self.now ++ rest) ≡ Ok (self.now, rest) }
     {
         let _number = AsBlock::max(self).into_u32(); // read so that the proof sees that the number has 32 bits
         self.put(out)
@@ -83,7 +87,8 @@ impl AsBlock {
     fn put<A: Allocator>(&self, out: &mut Vec<u8, A>) -> Result<(), AllocError>
         ensures ok { OnOk result (out.new.items ≡ out.old.items ++ as_block_octets self.now) }
         ensures err { OnErr result (out.new.items ≡ out.old.items) }
-        ensures succeeds { vec_len out.old + length (as_block_octets self.now) ≤ vec_capacity out.old → IsOk result }
+        ensures succeeds { vec_len out.old + length (as_block_octets self.now)
+            ≤ vec_capacity out.old → IsOk result }
         ensures capacity { vec_capacity out.old ≤ vec_capacity out.new }
     {
         out.reserve(AsBlock::encoded_len(self))?;

@@ -84,7 +84,8 @@ impl Asn {
 
     /// Appends what `encode` does, where there is room for it.
     pub fn append<A: Allocator>(&self, out: &mut Vec<u8, A>)
-        requires room { vec_len out.old + length (as_number_octets self.now) ≤ vec_capacity out.old }
+        requires room { vec_len out.old + length (as_number_octets self.now)
+            ≤ vec_capacity out.old }
         ensures items { out.new.items ≡ out.old.items ++ as_number_octets self.now }
         ensures capacity { vec_capacity out.old ≤ vec_capacity out.new }
     {

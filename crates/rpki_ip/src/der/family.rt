@@ -16,7 +16,8 @@ impl AddressFamily {
     /// The family that two octets name (RFC 3779, 2.2.3.3): 0 and 1 for IPv4, 0 and 2 for IPv6. Any others are refused by
     /// [`DecodeFamilyError`].
     pub fn from_octets(octets: &[u8]) -> Result<AddressFamily, DecodeFamilyError>
-        ensures { MatchResult result (SaysFamily octets.now) (λ _. (family : SomeFamily) → ¬ SaysFamily octets.now family) }
+        ensures { MatchResult result (SaysFamily octets.now)
+            (λ _. (family : SomeFamily) → ¬ SaysFamily octets.now family) }
     {
         Self::named_by(octets).map_err(|_| DecodeFamilyError)
     }
@@ -44,7 +45,8 @@ impl AddressFamily {
     /// Passes over what `take_opt_from` takes, with the same faults.
     pub fn skip_opt_in(cursor: &mut Cursor<'_>) -> Result<Option<()>, DerError>
         ensures reads { ReadsTagged 4 (Skips IsFamilyDer) cursor.old cursor.new result }
-        ensures exact { Takes (λ u. u) cursor.old cursor.new result (if_tagged 4 (skipping family_at)) }
+        ensures exact { Takes (λ u. u) cursor.old cursor.new result
+            (if_tagged 4 (skipping family_at)) }
     {
         Self::pass_over_opt(cursor)
     }
@@ -62,10 +64,12 @@ impl AddressFamily {
     pub fn encode<A: Allocator>(&self, out: &mut Vec<u8, A>) -> Result<(), AllocError>
         ensures ok { OnOk result (out.new.items ≡ out.old.items ++ family_der self.now) }
         ensures err { OnErr result (out.new.items ≡ out.old.items) }
-        ensures succeeds { vec_len out.old + length (family_der self.now) ≤ vec_capacity out.old → IsOk result }
+        ensures succeeds { vec_len out.old + length (family_der self.now) ≤ vec_capacity out.old
+            → IsOk result }
         ensures capacity { vec_capacity out.old ≤ vec_capacity out.new }
         // It is read back, whatever follows it.
-        ensures read_back { (rest : List ℕ) → family_at (family_der self.now ++ rest) ≡ Ok (self.now, rest) }
+        ensures read_back { (rest : List ℕ)
+            → family_at (family_der self.now ++ rest) ≡ Ok (self.now, rest) }
     {
         put_octets(out, self.octets())
     }
@@ -130,7 +134,8 @@ impl AddressFamily {
 
     #[tactic(auto, unfolding(rpki_base::specs::DerReading::if_tagged))]
     fn pass_over_opt(cursor: &mut Cursor<'_>) -> Result<Option<()>, DerError>
-        ensures exact { Takes (λ u. u) cursor.old cursor.new result (if_tagged 4 (skipping family_at)) }
+        ensures exact { Takes (λ u. u) cursor.old cursor.new result
+            (if_tagged 4 (skipping family_at)) }
     {
         if cursor.peek_tag() != Some(tag::OCTET_STRING) {
             return Ok(None);

@@ -19,13 +19,16 @@ pub fn one_value()
 /// bounds need no more bits than the limit.
 pub fn written()
     ensures family { (family : AddressFamily) → IsFamilyDer (family_der family) family }
-    ensures prefix { (limit : ℕ) (p : PrefixValue) → IsPrefix 128 p → p.len ≤ limit → IsPrefixDer limit (prefix_der p) p }
-    ensures range { (limit : ℕ) (r : RangeValue) → limit ≤ 128 → IsRangeWithin limit r → IsRangeDer limit (range_der r) r }
+    ensures prefix { (limit : ℕ) (p : PrefixValue) → IsPrefix 128 p → p.len ≤ limit
+        → IsPrefixDer limit (prefix_der p) p }
+    ensures range { (limit : ℕ) (r : RangeValue) → limit ≤ 128 → IsRangeWithin limit r
+        → IsRangeDer limit (range_der r) r }
 {}
 
 /// What bits say is a prefix.
 pub fn is_prefix()
-    ensures { (limit : ℕ) (b : Bits) (p : PrefixValue) → limit ≤ 128 → IsBytes b.octets → SaysPrefix limit b p → IsPrefix 128 p }
+    ensures { (limit : ℕ) (b : Bits) (p : PrefixValue) → limit ≤ 128 → IsBytes b.octets
+        → SaysPrefix limit b p → IsPrefix 128 p }
 {}
 
 /// An address without the zeros at its end is the shortest prefix that begins with it, and without the ones at its end the

@@ -24,7 +24,8 @@ impl Prefix {
     /// The prefix whose addresses begin with the bits of a bit string (RFC 3779, 2.2.3.8), which has at most sixteen
     /// octets, and else is refused by [`DecodePrefixError`]. Its unused bits may be set, and count as zero.
     pub fn from_bit_string(bits: &BitString<'_>) -> Result<Prefix, DecodePrefixError>
-        ensures { MatchResult result (SaysPrefix 128 (bit_string_of bits.now)) (λ _. (p : PrefixValue) → ¬ SaysPrefix 128 (bit_string_of bits.now) p) }
+        ensures { MatchResult result (SaysPrefix 128 (bit_string_of bits.now))
+            (λ _. (p : PrefixValue) → ¬ SaysPrefix 128 (bit_string_of bits.now) p) }
     {
         Self::of_bits(bits, 128).map_err(|_| DecodePrefixError)
     }
@@ -33,8 +34,10 @@ impl Prefix {
     ///
     /// The faults are those of [`Cursor::take_bit_string`], and `BadPrefix` for more than sixteen octets.
     pub fn take_from(cursor: &mut Cursor<'_>) -> Result<Prefix, DerError>
-        ensures reads { Lenient cursor.old (Reads (IsPrefixDer 128) (λ p. p) cursor.old cursor.new result) }
-        ensures exact { Lenient cursor.old (Takes (λ p. p) cursor.old cursor.new result (prefix_at 128)) }
+        ensures reads { Lenient cursor.old
+            (Reads (IsPrefixDer 128) (λ p. p) cursor.old cursor.new result) }
+        ensures exact { Lenient cursor.old
+            (Takes (λ p. p) cursor.old cursor.new result (prefix_at 128)) }
     {
         Self::next(cursor, 128)
     }
@@ -45,8 +48,10 @@ impl Prefix {
         cursor: &mut Cursor<'_>,
         family: AddressFamily,
     ) -> Result<Prefix, DerError>
-        ensures reads { Lenient cursor.old (Reads (IsPrefixDer (bits_of family)) (λ p. p) cursor.old cursor.new result) }
-        ensures exact { Lenient cursor.old (Takes (λ p. p) cursor.old cursor.new result (prefix_at (bits_of family))) }
+        ensures reads { Lenient cursor.old
+            (Reads (IsPrefixDer (bits_of family)) (λ p. p) cursor.old cursor.new result) }
+        ensures exact { Lenient cursor.old
+            (Takes (λ p. p) cursor.old cursor.new result (prefix_at (bits_of family))) }
     {
         Self::next(cursor, family.max_addr_len())
     }
@@ -55,8 +60,10 @@ impl Prefix {
     ///
     /// `BadBitString` for any other content, `BadPrefix` for more than sixteen octets.
     pub fn parse_content(content: &Content<'_>) -> Result<Prefix, DerError>
-        ensures reads { LenientIn content.now (Parses (IsPrefixContent 128) (λ p. p) (content_octets content.now) result) }
-        ensures exact { LenientIn content.now (Gives (λ p. p) result (prefix_in 128 (content_octets content.now))) }
+        ensures reads { LenientIn content.now
+            (Parses (IsPrefixContent 128) (λ p. p) (content_octets content.now) result) }
+        ensures exact { LenientIn content.now
+            (Gives (λ p. p) result (prefix_in 128 (content_octets content.now))) }
     {
         Self::of_content(content, 128)
     }
@@ -69,8 +76,11 @@ impl Prefix {
         content: &Content<'_>,
         family: AddressFamily,
     ) -> Result<Prefix, DerError>
-        ensures reads { LenientIn content.now (Parses (IsPrefixContent (bits_of family)) (λ p. p) (content_octets content.now) result) }
-        ensures exact { LenientIn content.now (Gives (λ p. p) result (prefix_in (bits_of family) (content_octets content.now))) }
+        ensures reads { LenientIn content.now
+            (Parses (IsPrefixContent (bits_of family)) (λ p. p) (content_octets content.now)
+            result) }
+        ensures exact { LenientIn content.now
+            (Gives (λ p. p) result (prefix_in (bits_of family) (content_octets content.now))) }
     {
         Self::of_content(content, family.max_addr_len())
     }
@@ -90,10 +100,12 @@ impl Prefix {
         ensures prefix { IsPrefix 128 self.now }
         ensures ok { OnOk result (out.new.items ≡ out.old.items ++ prefix_der self.now) }
         ensures err { OnErr result (out.new.items ≡ out.old.items) }
-        ensures succeeds { vec_len out.old + length (prefix_der self.now) ≤ vec_capacity out.old → IsOk result }
+        ensures succeeds { vec_len out.old + length (prefix_der self.now) ≤ vec_capacity out.old
+            → IsOk result }
         ensures capacity { vec_capacity out.old ≤ vec_capacity out.new }
         // It is read back, whatever follows it, where its length isn't above the limit.
-        ensures read_back { (limit : ℕ) (rest : List ℕ) → self.now.len ≤ limit → prefix_at limit (prefix_der self.now ++ rest) ≡ Ok (self.now, rest) }
+        ensures read_back { (limit : ℕ) (rest : List ℕ) → self.now.len ≤ limit
+            → prefix_at limit (prefix_der self.now ++ rest) ≡ Ok (self.now, rest) }
     {
         let (unused, octets, count) = self.parts();
         put_bit_string(out, unused, &octets[..count])

@@ -30,7 +30,8 @@ impl AddressRange {
         ensures range { IsRange self.now }
         ensures ok { OnOk result (out.new.items ≡ out.old.items ++ range_der self.now) }
         ensures err { OnErr result (out.new.items ≡ out.old.items) }
-        ensures succeeds { vec_len out.old + length (range_der self.now) ≤ vec_capacity out.old → IsOk result }
+        ensures succeeds { vec_len out.old + length (range_der self.now) ≤ vec_capacity out.old
+            → IsOk result }
         ensures capacity { vec_capacity out.old ≤ vec_capacity out.new }
     {
         let content_len = self.content_len();

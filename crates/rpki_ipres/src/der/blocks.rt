@@ -41,11 +41,15 @@ impl<A: Allocator> IpBlocks<A> {
     pub fn take_from(alloc: A, cursor: &mut Cursor<'_>) -> Result<IpBlocks<A>, OrMemory<DerError>>
     where
         A: Copy,
-        ensures reads { Lenient cursor.old (ReadsOrMemory (IsIpBlockSequence 128) (λ set. set) cursor.old cursor.new result) }
-        ensures exact { Lenient cursor.old (TakesSaidOrMemory (IsRunsOfBlocks ip_bounds) cursor.old cursor.new result (ip_blocks_at 128)) }
+        ensures reads { Lenient cursor.old
+            (ReadsOrMemory (IsIpBlockSequence 128) (λ set. set) cursor.old cursor.new result) }
+        ensures exact { Lenient cursor.old
+            (TakesSaidOrMemory (IsRunsOfBlocks ip_bounds) cursor.old cursor.new result
+            (ip_blocks_at 128)) }
         // What is written of a set is read as that set, whatever follows it.
         ensures reads_back { (set : Runs) (rest : List ℕ) → IsIpSet set
-            → left cursor.old ≡ ip_set_der set ++ rest → MatchResult result (λ read. (read ≡ set) × (left cursor.new ≡ rest)) IsMemory }
+            → left cursor.old ≡ ip_set_der set ++ rest
+            → MatchResult result (λ read. (read ≡ set) × (left cursor.new ≡ rest)) IsMemory }
     {
         Self::next_set(alloc, cursor, AddressFamily::Ipv6)
     }
@@ -59,12 +63,17 @@ impl<A: Allocator> IpBlocks<A> {
     ) -> Result<IpBlocks<A>, OrMemory<DerError>>
     where
         A: Copy,
-        ensures reads { Lenient cursor.old (ReadsOrMemory (IsIpBlockSequence (bits_of family)) (λ set. set) cursor.old cursor.new result) }
-        ensures exact { Lenient cursor.old (TakesSaidOrMemory (IsRunsOfBlocks ip_bounds) cursor.old cursor.new result (ip_blocks_at (bits_of family))) }
+        ensures reads { Lenient cursor.old
+            (ReadsOrMemory (IsIpBlockSequence (bits_of family)) (λ set. set) cursor.old cursor.new
+            result) }
+        ensures exact { Lenient cursor.old
+            (TakesSaidOrMemory (IsRunsOfBlocks ip_bounds) cursor.old cursor.new result
+            (ip_blocks_at (bits_of family))) }
         ensures whole { IfOk result (λ set. family ≡ Ipv4 → IsWhole (Holds set)) }
         // What is written of a set of the family is read as that set, whatever follows it.
         ensures reads_back { (set : Runs) (rest : List ℕ) → IsFamilySet family set
-            → left cursor.old ≡ ip_set_der set ++ rest → MatchResult result (λ read. (read ≡ set) × (left cursor.new ≡ rest)) IsMemory }
+            → left cursor.old ≡ ip_set_der set ++ rest
+            → MatchResult result (λ read. (read ≡ set) × (left cursor.new ≡ rest)) IsMemory }
     {
         Self::next_set(alloc, cursor, family)
     }
@@ -75,7 +84,8 @@ impl<A: Allocator> IpBlocks<A> {
     pub fn encode<B: Allocator>(&self, out: &mut Vec<u8, B>) -> Result<(), AllocError>
         ensures ok { OnOk result (out.new.items ≡ out.old.items ++ ip_set_der self.now) }
         ensures err { OnErr result (out.new.items ≡ out.old.items) }
-        ensures succeeds { vec_len out.old + length (ip_set_der self.now) ≤ vec_capacity out.old → IsOk result }
+        ensures succeeds { vec_len out.old + length (ip_set_der self.now) ≤ vec_capacity out.old
+            → IsOk result }
         ensures capacity { vec_capacity out.old ≤ vec_capacity out.new }
         ensures set { IsIpSet self.now }
     {
@@ -95,7 +105,8 @@ impl<A: Allocator> IpBlocks<A> {
     ) -> Result<(), AllocError>
         ensures ok { OnOk result (out.new.items ≡ out.old.items ++ ip_family_der family self.now) }
         ensures err { OnErr result (out.new.items ≡ out.old.items) }
-        ensures succeeds { vec_len out.old + length (ip_family_der family self.now) ≤ vec_capacity out.old → IsOk result }
+        ensures succeeds { vec_len out.old + length (ip_family_der family self.now)
+            ≤ vec_capacity out.old → IsOk result }
         ensures capacity { vec_capacity out.old ≤ vec_capacity out.new }
         ensures set { IsIpSet self.now }
     {
@@ -114,7 +125,8 @@ impl<A: Allocator> IpBlocks<A> {
     ) -> Result<IpBlocks<A>, OrMemory<DerError>>
     where
         A: Copy,
-        ensures exact { TakesSaidOrMemory (IsRunsOfBlocks ip_bounds) cursor.old cursor.new result (ip_blocks_at (bits_of family)) }
+        ensures exact { TakesSaidOrMemory (IsRunsOfBlocks ip_bounds) cursor.old cursor.new result
+            (ip_blocks_at (bits_of family)) }
         ensures short { length (left cursor.old) < 2 ^ 64 }
     {
         let _len = cursor.rest().len(); // read so that the proof sees that the octets are fewer than 2^64
@@ -132,9 +144,15 @@ pub(crate) fn put_family<B: Allocator>(
     family: AddressFamily,
     resources: &ResourcesChoice<&[IpBlock]>,
 ) -> Result<(), AllocError>
-    ensures ok { OnOk result (out.new.items ≡ out.old.items ++ sequence_value (family_der family ++ choice_octets (λ blocks. sequence_octets ip_block_der blocks.now) resources.now)) }
+    ensures ok { OnOk result (out.new.items
+        ≡ out.old.items ++ sequence_value
+        (family_der family ++ choice_octets (λ blocks. sequence_octets ip_block_der blocks.now)
+        resources.now)) }
     ensures err { OnErr result (out.new.items ≡ out.old.items) }
-    ensures succeeds { vec_len out.old + length (sequence_value (family_der family ++ choice_octets (λ blocks. sequence_octets ip_block_der blocks.now) resources.now)) ≤ vec_capacity out.old → IsOk result }
+    ensures succeeds { vec_len out.old + length
+        (sequence_value (family_der family
+        ++ choice_octets (λ blocks. sequence_octets ip_block_der blocks.now) resources.now))
+        ≤ vec_capacity out.old → IsOk result }
     ensures capacity { vec_capacity out.old ≤ vec_capacity out.new }
 {
     let Some(content_len) = content_len(resources) else {
@@ -152,10 +170,16 @@ pub(crate) fn append_family<B: Allocator>(
     content_len: usize,
     out: &mut Vec<u8, B>,
 )
-    requires len { content_len ≡ length (choice_octets (λ blocks. octets_of_all ip_block_der blocks.now) resources.now) }
+    requires len { content_len ≡ length (choice_octets
+        (λ blocks. octets_of_all ip_block_der blocks.now) resources.now) }
     requires few { content_len < 2 ^ 63 }
-    requires room { vec_len out.old + length (sequence_value (family_der family ++ choice_octets (λ blocks. sequence_octets ip_block_der blocks.now) resources.now)) ≤ vec_capacity out.old }
-    ensures items { out.new.items ≡ out.old.items ++ sequence_value (family_der family ++ choice_octets (λ blocks. sequence_octets ip_block_der blocks.now) resources.now) }
+    requires room { vec_len out.old + length
+        (sequence_value (family_der family
+        ++ choice_octets (λ blocks. sequence_octets ip_block_der blocks.now) resources.now))
+        ≤ vec_capacity out.old }
+    ensures items { out.new.items ≡ out.old.items
+        ++ sequence_value (family_der family
+        ++ choice_octets (λ blocks. sequence_octets ip_block_der blocks.now) resources.now) }
     ensures capacity { vec_capacity out.old ≤ vec_capacity out.new }
 {
     append_header(
@@ -173,9 +197,11 @@ fn family_content_len(
     resources: &ResourcesChoice<&[IpBlock]>,
     content_len: usize,
 ) -> usize
-    requires len { content_len ≡ length (choice_octets (λ blocks. octets_of_all ip_block_der blocks.now) resources.now) }
+    requires len { content_len ≡ length (choice_octets
+        (λ blocks. octets_of_all ip_block_der blocks.now) resources.now) }
     requires few { content_len < 2 ^ 63 }
-    ensures len { result ≡ length (family_der family ++ choice_octets (λ blocks. sequence_octets ip_block_der blocks.now) resources.now) }
+    ensures len { result ≡ length (family_der family
+        ++ choice_octets (λ blocks. sequence_octets ip_block_der blocks.now) resources.now) }
     ensures short { result ≤ content_len + 14 }
 {
     family.encoded_len() + choice_len(resources, content_len)
@@ -187,9 +213,12 @@ pub(crate) fn family_len(
     resources: &ResourcesChoice<&[IpBlock]>,
     content_len: usize,
 ) -> usize
-    requires len { content_len ≡ length (choice_octets (λ blocks. octets_of_all ip_block_der blocks.now) resources.now) }
+    requires len { content_len ≡ length (choice_octets
+        (λ blocks. octets_of_all ip_block_der blocks.now) resources.now) }
     requires few { content_len < 2 ^ 63 }
-    ensures len { result ≡ length (sequence_value (family_der family ++ choice_octets (λ blocks. sequence_octets ip_block_der blocks.now) resources.now)) }
+    ensures len { result ≡ length (sequence_value
+        (family_der family ++ choice_octets (λ blocks. sequence_octets ip_block_der blocks.now)
+        resources.now)) }
 {
     let member_len = family_content_len(family, resources, content_len);
     header_len(tag::SEQUENCE, member_len) + member_len

@@ -30,7 +30,8 @@ pub fn written_sets()
     ensures sequence { (family : _) (set : Runs) → IsFamilySet family set →
         length (ip_set_der set) < 2 ^ 64 → IsIpBlockSequence (bits_of family) (ip_set_der set) set }
     ensures family { (family : _) (set : Runs) → IsFamilySet family set → set ≢ [] →
-        length (ip_family_der family set) < 2 ^ 64 → IsIpFamily (ip_family_der family set) (family, set) }
+        length (ip_family_der family set) < 2 ^ 64
+        → IsIpFamily (ip_family_der family set) (family, set) }
 {}
 
 /// Two sets are written alike exactly where they have the same addresses, and so are two sets of one family behind that
@@ -45,16 +46,21 @@ pub fn canonical()
 /// What is written of resources of a family that aren't missing, of fewer than 2^64 octets, is the resources. What is
 /// written of families, of which one at least isn't missing, is the families that aren't.
 pub fn written_resources()
-    ensures resources { (family : _) (claim : Claim) → IsFamilyClaim family claim → claim ≢ Missing →
-        length (ip_resources_der claim) < 2 ^ 64 → IsIpResources (bits_of family) (ip_resources_der claim) claim }
-    ensures families { (v4 v6 : Claim) → IsFamilyClaim Ipv4 v4 → IsFamilyClaim Ipv6 v6 → (v4 ≡ Missing → v6 ≢ Missing) →
-        length (ip_families_der v4 v6) < 2 ^ 64 → IsIpFamilies (ip_families_der v4 v6) (if_present v4, if_present v6) }
+    ensures resources { (family : _) (claim : Claim) → IsFamilyClaim family claim
+        → claim ≢ Missing →
+        length (ip_resources_der claim) < 2 ^ 64
+        → IsIpResources (bits_of family) (ip_resources_der claim) claim }
+    ensures families { (v4 v6 : Claim) → IsFamilyClaim Ipv4 v4 → IsFamilyClaim Ipv6 v6
+        → (v4 ≡ Missing → v6 ≢ Missing) →
+        length (ip_families_der v4 v6) < 2 ^ 64
+        → IsIpFamilies (ip_families_der v4 v6) (if_present v4, if_present v6) }
 {}
 
 /// Resources are written alike exactly where they are one claim, alone and behind one family. Families, of which one at
 /// least isn't missing, are written alike in fewer than 2^64 octets exactly where both have the same claim.
 pub fn canonical_resources()
-    ensures resources { (a b : Claim) → IsIpClaim a → IsIpClaim b → (ip_resources_der a ≡ ip_resources_der b) ↔ (a ≡ b) }
+    ensures resources { (a b : Claim) → IsIpClaim a → IsIpClaim b
+        → (ip_resources_der a ≡ ip_resources_der b) ↔ (a ≡ b) }
     ensures family { (family : _) (a b : Claim) → IsIpClaim a → IsIpClaim b →
         (ip_member_der family a ≡ ip_member_der family b) ↔ (a ≡ b) }
     ensures families { (v4 v6 w4 w6 : Claim) →

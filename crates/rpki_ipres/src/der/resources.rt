@@ -37,12 +37,18 @@ impl<A: Allocator> IpResources<A> {
     ) -> Result<IpResources<A>, OrMemory<DerError>>
     where
         A: Copy,
-        ensures reads { Lenient cursor.old (ReadsOrMemory (IsIpResources (bits_of family)) (λ claim. claim) cursor.old cursor.new result) }
-        ensures exact { Lenient cursor.old (TakesSaidOrMemory SaysClaimOf cursor.old cursor.new result (ip_resources_at (bits_of family))) }
+        ensures reads { Lenient cursor.old
+            (ReadsOrMemory (IsIpResources (bits_of family)) (λ claim. claim) cursor.old cursor.new
+            result) }
+        ensures exact { Lenient cursor.old
+            (TakesSaidOrMemory SaysClaimOf cursor.old cursor.new result
+            (ip_resources_at (bits_of family))) }
         ensures whole { IfOk result (λ claim. family ≡ Ipv4 → IsWholeClaim claim) }
         // What is written of resources of the family that aren't missing is read as them, whatever follows.
-        ensures reads_back { (claim : Claim) (rest : List ℕ) → IsFamilyClaim family claim → claim ≢ Missing
-            → left cursor.old ≡ ip_resources_der claim ++ rest → MatchResult result (λ read. (read ≡ claim) × (left cursor.new ≡ rest)) IsMemory }
+        ensures reads_back { (claim : Claim) (rest : List ℕ) → IsFamilyClaim family claim
+            → claim ≢ Missing
+            → left cursor.old ≡ ip_resources_der claim ++ rest
+            → MatchResult result (λ read. (read ≡ claim) × (left cursor.new ≡ rest)) IsMemory }
     {
         Self::next(alloc, cursor, family)
     }
@@ -54,7 +60,8 @@ impl<A: Allocator> IpResources<A> {
         requires { self.now ≢ Missing }
         ensures ok { OnOk result (out.new.items ≡ out.old.items ++ ip_resources_der self.now) }
         ensures err { OnErr result (out.new.items ≡ out.old.items) }
-        ensures succeeds { vec_len out.old + length (ip_resources_der self.now) ≤ vec_capacity out.old → IsOk result }
+        ensures succeeds { vec_len out.old + length (ip_resources_der self.now)
+            ≤ vec_capacity out.old → IsOk result }
         ensures capacity { vec_capacity out.old ≤ vec_capacity out.new }
         ensures claim { IsIpClaim self.now }
     {
@@ -73,7 +80,8 @@ impl<A: Allocator> IpResources<A> {
     ) -> Result<(), AllocError>
         ensures ok { OnOk result (out.new.items ≡ out.old.items ++ ip_member_der family self.now) }
         ensures err { OnErr result (out.new.items ≡ out.old.items) }
-        ensures succeeds { vec_len out.old + length (ip_member_der family self.now) ≤ vec_capacity out.old → IsOk result }
+        ensures succeeds { vec_len out.old + length (ip_member_der family self.now)
+            ≤ vec_capacity out.old → IsOk result }
         ensures capacity { vec_capacity out.old ≤ vec_capacity out.new }
         ensures claim { IsIpClaim self.now }
     {
@@ -117,7 +125,8 @@ impl<A: Allocator> IpResources<A> {
     )
         requires len { content_len ≡ length (ip_content_der self.now) }
         requires few { content_len < 2 ^ 63 }
-        requires room { vec_len out.old + length (ip_member_der family self.now) ≤ vec_capacity out.old }
+        requires room { vec_len out.old + length (ip_member_der family self.now)
+            ≤ vec_capacity out.old }
         ensures items { out.new.items ≡ out.old.items ++ ip_member_der family self.now }
         ensures capacity { vec_capacity out.old ≤ vec_capacity out.new }
     {
@@ -141,13 +150,17 @@ impl<A: Allocator> IpResources<A> {
     ) -> Result<(Option<IpResources<A>>, Option<IpResources<A>>), OrMemory<DerError>>
     where
         A: Copy,
-        ensures reads { Lenient cursor.old (ReadsOrMemory IsIpFamilies (λ found. found) cursor.old cursor.new result) }
-        ensures exact { Lenient cursor.old (TakesSaidOrMemory SaysClaims cursor.old cursor.new result ip_families_at) }
+        ensures reads { Lenient cursor.old
+            (ReadsOrMemory IsIpFamilies (λ found. found) cursor.old cursor.new result) }
+        ensures exact { Lenient cursor.old
+            (TakesSaidOrMemory SaysClaims cursor.old cursor.new result ip_families_at) }
         ensures whole { IfOk result (λ found. IfSome found.0 IsWholeClaim) }
         // What is written of families is read as them, whatever follows; one that was missing is None.
-        ensures reads_back { (v4 v6 : Claim) (rest : List ℕ) → IsFamilyClaim Ipv4 v4 → IsFamilyClaim Ipv6 v6 → (v4 ≡ Missing → v6 ≢ Missing)
+        ensures reads_back { (v4 v6 : Claim) (rest : List ℕ) → IsFamilyClaim Ipv4 v4
+            → IsFamilyClaim Ipv6 v6 → (v4 ≡ Missing → v6 ≢ Missing)
             → left cursor.old ≡ ip_families_der v4 v6 ++ rest
-            → MatchResult result (λ read. (read ≡ (if_present v4, if_present v6)) × (left cursor.new ≡ rest)) IsMemory }
+            → MatchResult result (λ read. (read ≡ (if_present v4, if_present v6))
+            × (left cursor.new ≡ rest)) IsMemory }
     {
         Self::next_families(alloc, cursor)
     }
@@ -163,7 +176,8 @@ impl<A: Allocator> IpResources<A> {
         requires { v4.now ≡ Missing → v6.now ≢ Missing }
         ensures ok { OnOk result (out.new.items ≡ out.old.items ++ ip_families_der v4.now v6.now) }
         ensures err { OnErr result (out.new.items ≡ out.old.items) }
-        ensures succeeds { vec_len out.old + length (ip_families_der v4.now v6.now) ≤ vec_capacity out.old → IsOk result }
+        ensures succeeds { vec_len out.old + length (ip_families_der v4.now v6.now)
+            ≤ vec_capacity out.old → IsOk result }
         ensures capacity { vec_capacity out.old ≤ vec_capacity out.new }
         ensures claims { IsIpClaim v4.now × IsIpClaim v6.now }
     {
@@ -193,7 +207,8 @@ impl<A: Allocator> IpResources<A> {
     ) -> Result<IpResources<A>, OrMemory<DerError>>
     where
         A: Copy,
-        ensures exact { TakesSaidOrMemory SaysClaimOf cursor.old cursor.new result (ip_resources_at (bits_of family)) }
+        ensures exact { TakesSaidOrMemory SaysClaimOf cursor.old cursor.new result
+            (ip_resources_at (bits_of family)) }
         ensures short { length (left cursor.old) < 2 ^ 64 }
     {
         let _len = cursor.rest().len(); // read so that the proof sees that the octets are fewer than 2^64

@@ -1,21 +1,10 @@
-//! What ends a test, and what tests ask of a value of any type and of a run that is refused memory.
+//! What tests ask of a value of any type, and of a run that is refused memory.
 #![tactic(auto)]
 
 use refusing::{Outcome, Refusing, refuse_in_turn};
 use std::alloc::{AllocError, Allocator, Global};
 use std::fmt;
 use std::hash::{FoldHasher, Hash, Hasher};
-use std::process::Abort;
-
-/// The two are the same. A call costs the proof of a test less than an assertion does.
-pub fn same<T: PartialEq + fmt::Debug + Drop>(rt: &impl Abort, one: T, other: T) {
-    assert!(rt; one == other, "{one:?} is not {other:?}");
-}
-
-/// It is so.
-pub fn holds(rt: &impl Abort, is_so: bool) {
-    assert!(rt; is_so);
-}
 
 /// The hash of a value.
 pub fn hash_of<T: Hash>(value: &T) -> u64 {

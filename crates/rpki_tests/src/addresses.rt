@@ -1,5 +1,6 @@
 // Addresses of either family: their texts, bounds and conversions.
-use probing::{holds, prints, same};
+use crate::checks::{holds, same};
+use probing::prints;
 use rpki_base::addr::{AddrParseError, IpAddr, Ipv4Addr, Ipv6Addr};
 use rpki_ip::addr::Addr;
 use rpki_ip::family::AddressFamily;

@@ -1,5 +1,5 @@
 // Blocks of AS numbers: their forms, bounds, counts and numbers.
-use probing::{holds, same};
+use crate::checks::{holds, same};
 use rpki_as::block::AsBlock;
 use rpki_as::range::AsRange;
 use rpki_base::asn::Asn;

@@ -1,5 +1,6 @@
 // The text of each fault, and faults that are made of others.
-use probing::{all_print, holds, prints, same};
+use crate::checks::{holds, same};
+use probing::{all_print, prints};
 use rpki_as::error::{FromStrError as AsFromStrError, InheritedAsResources};
 use rpki_base::addr::AddrParseError;
 use rpki_base::asn::ParseAsnError;

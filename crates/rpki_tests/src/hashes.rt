@@ -1,5 +1,6 @@
 // Equal values have equal hashes, at each type.
-use probing::{hash_of, holds, same};
+use crate::checks::{holds, same};
+use probing::hash_of;
 use rpki_base::addr::{IpAddr, Ipv4Addr, Ipv6Addr};
 use rpki_base::asn::Asn;
 use rpki_ip::addr::Addr;

@@ -1,5 +1,6 @@
 // Blocks of addresses, of either family and of one: their forms and bounds, and what they are made from.
-use probing::{holds, prints, same};
+use crate::checks::{holds, same};
+use probing::prints;
 use rpki_base::addr::{AddrParseError, Ipv4Addr, Ipv6Addr};
 use rpki_base::number::ParseIntError;
 use rpki_chain::block::Block;

@@ -7,6 +7,7 @@ mod addresses;
 #[cfg(test)]
 mod as_blocks;
 #[cfg(test)]
+mod checks;
 #[cfg(test)]
 mod faults;
 #[cfg(test)]

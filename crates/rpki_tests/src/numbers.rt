@@ -1,5 +1,5 @@
 // AS numbers and addresses of one family: their parts, conversions and orders.
-use probing::{holds, same};
+use crate::checks::{holds, same};
 use rpki_base::addr::{AddrParseError, IpAddr, Ipv4Addr, Ipv6Addr};
 use rpki_base::asn::Asn;
 use std::str::FromStr;

@@ -1,5 +1,5 @@
 // Prefixes of one family: their parts, constructors and greatest lengths.
-use probing::{holds, same};
+use crate::checks::{holds, same};
 use rpki_base::addr::{IpAddr, Ipv4Addr, Ipv6Addr};
 use rpki_prefix::error::{MaxLenError, PrefixError};
 use rpki_prefix::max_len::MaxLenPrefix;

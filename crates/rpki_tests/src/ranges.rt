@@ -1,7 +1,7 @@
 // Prefixes and ranges of addresses of either family.
 ghost use Rattle.std.specs.Prelude.{◌≡◌, ◌≤◌};
 
-use probing::{holds, same};
+use crate::checks::{holds, same};
 use rpki_chain::block::Block;
 use rpki_ip::addr::Addr;
 use rpki_ip::prefix::Prefix;

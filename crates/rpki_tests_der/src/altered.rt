@@ -1,6 +1,6 @@
 // A dozen values, each taken by the reader of its tag and appended again: as they stand, cut, and with each octet in place
 // of each of theirs.
-use probing::holds;
+use crate::checks::holds;
 use rpki_der::{
     BitString, Content, Cursor, DerError, put_bit_string, put_header, put_null, put_octets,
     put_u32, tag,

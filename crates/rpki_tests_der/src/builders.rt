@@ -1,5 +1,6 @@
 // Resources that are built with functions.
-use probing::{holds, prints};
+use crate::checks::holds;
+use probing::prints;
 use rpki_as::{AsBlock, AsResourcesBuilder};
 use rpki_base::asn::Asn;
 use std::alloc::{AllocError, Global};

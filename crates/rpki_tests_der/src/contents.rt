@@ -1,5 +1,5 @@
 // Contents, which are read whatever their tag is.
-use probing::{holds, same};
+use crate::checks::{holds, same};
 use rpki_base::asn::Asn;
 use rpki_der::{Content, Cursor, DerError};
 use rpki_ip::der::DecodeFamilyError;

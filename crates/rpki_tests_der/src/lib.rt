@@ -7,6 +7,7 @@ mod altered;
 #[cfg(test)]
 mod builders;
 #[cfg(test)]
+mod checks;
 #[cfg(test)]
 mod contents;
 #[cfg(test)]

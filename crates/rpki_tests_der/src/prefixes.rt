@@ -1,5 +1,5 @@
 // Prefixes in bit strings and in contents.
-use probing::holds;
+use crate::checks::holds;
 use rpki_der::{Content, Cursor, DerError};
 use rpki_ip::family::AddressFamily;
 use rpki_ip::prefix::Prefix;

@@ -1,5 +1,5 @@
 // Writers where memory is refused: each asks once, for all that it writes, and a refused one leaves what is there.
-use probing::holds;
+use crate::checks::holds;
 use refusing::{Plan, Refusing};
 use rpki_as::block::AsBlock;
 use rpki_as::blocks::AsBlocks;

@@ -1,5 +1,5 @@
 // Single values: what a reader of one takes, and the number of the fault of what it refuses.
-use probing::{holds, same};
+use crate::checks::{holds, same};
 use rpki_der::{Cursor, DerError};
 
 /// What takes a value.

@@ -1,5 +1,5 @@
 // What is written, and how long it is.
-use probing::{holds, same};
+use crate::checks::{holds, same};
 use rpki_as::block::AsBlock;
 use rpki_as::blocks::AsBlocks;
 use rpki_base::asn::Asn;

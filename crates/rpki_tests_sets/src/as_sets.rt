@@ -1,7 +1,7 @@
 // Sets of AS numbers.
 ghost use Rattle.std.specs.Prelude.{◌≡◌, IfOk};
 
-use probing::holds;
+use crate::checks::holds;
 use rpki_as::block::AsBlock;
 use rpki_as::blocks::AsBlocks;
 use rpki_base::asn::Asn;

@@ -1,5 +1,6 @@
 // Sets whose issuer should have them whole.
-use probing::{holds, prints};
+use crate::checks::holds;
+use probing::prints;
 use rpki_as::blocks::AsBlocks;
 use rpki_as::resources::AsResources;
 use rpki_base::memory::OrMemory;

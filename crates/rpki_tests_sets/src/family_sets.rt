@@ -1,5 +1,6 @@
 // Sets of addresses of one family.
-use probing::{holds, prints};
+use crate::checks::holds;
+use probing::prints;
 use rpki_family::v4::{Ipv4Block, Ipv4Blocks};
 use rpki_family::v6::{Ipv6Block, Ipv6Blocks};
 use rpki_ipres::blocks::IpBlocks;

@@ -1,5 +1,6 @@
 // Sets of addresses of either family.
-use probing::{holds, prints};
+use crate::checks::holds;
+use probing::prints;
 use rpki_chain::block::Block;
 use rpki_ip::addr::Addr;
 use rpki_ip::error::FromStrError;

@@ -5,6 +5,7 @@
 #[cfg(test)]
 mod as_sets;
 #[cfg(test)]
+mod checks;
 #[cfg(test)]
 mod covered;
 #[cfg(test)]

@@ -1,5 +1,6 @@
 // Lists of texts, which are read and printed in their order.
-use probing::{holds, prints};
+use crate::checks::holds;
+use probing::prints;
 use rpki_base::asn::Asn;
 use rpki_base::list::{fmt_joined, read_list};
 use std::alloc::Global;

@@ -1,6 +1,7 @@
 // Runs where each request for memory is refused in turn.
+use crate::checks::holds;
 use crate::{as_sets, family_sets, ip_sets};
-use probing::{holds, holds_where_refused};
+use probing::holds_where_refused;
 use refusing::Refusing;
 use std::alloc::{AllocError, Global};
 

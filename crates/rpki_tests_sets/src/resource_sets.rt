@@ -1,5 +1,5 @@
 // Sets of all three kinds of resources.
-use probing::holds;
+use crate::checks::holds;
 use rpki_base::memory::OrMemory;
 use rpki_resources::repository::resources::set::FromStrError;
 use rpki_resources::repository::resources::{

@@ -6,7 +6,7 @@ use answering::refusals::Call;
 use std::alloc::{AllocError, Allocator};
 
 /// A line of the input.
-#[derive(Clone, Copy, Drop)]
+#[derive(Drop)]
 pub struct Line<'a>(pub &'a str);
 
 impl Call for Line<'_> {

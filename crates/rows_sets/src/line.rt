@@ -7,7 +7,7 @@ use rpki_ip::family::AddressFamily;
 use std::alloc::{AllocError, Allocator};
 
 /// A line of the input.
-#[derive(Clone, Copy, Drop)]
+#[derive(Drop)]
 pub struct Line<'a>(pub &'a str);
 
 impl Call for Line<'_> {

@@ -1,5 +1,5 @@
 //! Sets of AS numbers.
-use crate::measure::{Names, Set};
+use crate::measure::Set;
 use rpki_as::block::AsBlock;
 use rpki_as::blocks::AsBlocks;
 use rpki_as::range::AsRange;
@@ -17,13 +17,6 @@ const OFFSET: u32 = 2;
 
 impl Set for AsBlocks {
     type Block = AsBlock;
-
-    fn names() -> Names {
-        Names {
-            operations: "",
-            der: "as-",
-        }
-    }
 
     /// Blocks of four AS numbers each; fewer, where they pass the last AS number.
     fn blocks(alloc: Global, count: usize, is_other: bool) -> Result<Vec<AsBlock>, AllocError> {

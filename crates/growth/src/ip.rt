@@ -1,5 +1,5 @@
 //! Sets of addresses.
-use crate::measure::{Names, Set};
+use crate::measure::Set;
 use rpki_base::der::encode_sequence;
 use rpki_base::memory::OrMemory;
 use rpki_der::{Cursor, DerError};
@@ -17,13 +17,6 @@ const OFFSET: u128 = 1 << 32;
 
 impl Set for IpBlocks {
     type Block = IpBlock;
-
-    fn names() -> Names {
-        Names {
-            operations: "ip-",
-            der: "ip-",
-        }
-    }
 
     /// Blocks of three addresses each.
     fn blocks(alloc: Global, count: usize, is_other: bool) -> Result<Vec<IpBlock>, AllocError> {

@@ -26,8 +26,8 @@ fn main(rt: HostRuntime) -> io::Result<()> {
 }
 
 fn measure_count(rt: &HostRuntime, count: usize) -> io::Result<()> {
-    measure_operations::<AsBlocks>(rt, count)?;
-    measure_operations::<IpBlocks>(rt, count)?;
-    measure_der::<AsBlocks>(rt, count)?;
-    measure_der::<IpBlocks>(rt, count)
+    measure_operations::<AsBlocks>(rt, "", count)?;
+    measure_operations::<IpBlocks>(rt, "ip-", count)?;
+    measure_der::<AsBlocks>(rt, "as-", count)?;
+    measure_der::<IpBlocks>(rt, "ip-", count)
 }

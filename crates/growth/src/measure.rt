@@ -8,18 +8,9 @@ use std::time::Instant;
 /// How far blocks that stand side by side are apart in the other order: a prime, so that each is met once.
 const STRIDE: usize = 7919;
 
-/// What stands before the names of the calls on sets of a kind, and of those in DER.
-#[derive(Clone, Copy)]
-pub struct Names {
-    pub operations: &'static str,
-    pub der: &'static str,
-}
-
 /// A set of blocks of a kind.
 pub trait Set: Sized + Drop {
     type Block: Copy;
-
-    fn names() -> Names;
 
     /// So many blocks, which ascend; those of the other set begin at an offset.
     fn blocks(alloc: Global, count: usize, is_other: bool) -> Result<Vec<Self::Block>, AllocError>;
@@ -47,11 +38,60 @@ pub trait Set: Sized + Drop {
     fn append(&self, octets: &mut Vec<u8>) -> Result<(), AllocError>;
 }
 
-/// Builds two sets, the first of a list that it times, and times what they give.
-pub fn measure_operations<S: Set>(rt: &HostRuntime, count: usize) -> io::Result<()> {
-    let one: S = measure_building(rt, count)?;
+/// A call that makes a set of two.
+enum Call {
+    Union,
+    Intersection,
+    Difference,
+}
+
+const CALLS: [Call; 3] = [Call::Union, Call::Intersection, Call::Difference];
+
+impl Call {
+    fn name(&self) -> &'static str {
+        match self {
+            Call::Union => "union",
+            Call::Intersection => "intersection",
+            Call::Difference => "difference",
+        }
+    }
+
+    fn of<S: Set>(&self, alloc: Global, one: &S, other: &S) -> Result<S, AllocError> {
+        match self {
+            Call::Union => one.union(alloc, other),
+            Call::Intersection => one.intersection(alloc, other),
+            Call::Difference => one.difference(alloc, other),
+        }
+    }
+}
+
+/// Builds two sets, the first of a list that it times, and times what they give. The kind stands before the names of calls.
+pub fn measure_operations<S: Set>(rt: &HostRuntime, kind: &str, count: usize) -> io::Result<()> {
+    let blocks = S::blocks(rt.alloc(), count, false)?;
+    let one: S = measure_building(rt, kind, &blocks)?;
+    measure_with_other(rt, kind, count, &one)
+}
+
+/// How long it takes to make a set of blocks that ascend.
+fn measure_building<S: Set>(rt: &HostRuntime, kind: &str, blocks: &[S::Block]) -> io::Result<S> {
+    let start = Instant::now(rt)?;
+    let set = S::from_blocks(rt.alloc(), blocks)?;
+    tell(rt, kind, "from_blocks", blocks.len(), start)?;
+    report(rt, kind, "from_blocks", blocks.len(), set.count(), "blocks")?;
+    Ok(set)
+}
+
+fn measure_with_other<S: Set>(
+    rt: &HostRuntime,
+    kind: &str,
+    count: usize,
+    one: &S,
+) -> io::Result<()> {
     let other: S = other_set(rt.alloc(), count)?;
-    measure_both(rt, count, &one, &other)
+    for call in &CALLS {
+        measure_call(rt, kind, count, call, one, &other)?;
+    }
+    measure_contains(rt, kind, count, one, &other)
 }
 
 fn other_set<S: Set>(alloc: Global, count: usize) -> Result<S, AllocError> {
@@ -59,39 +99,41 @@ fn other_set<S: Set>(alloc: Global, count: usize) -> Result<S, AllocError> {
     S::from_blocks(alloc, &blocks)
 }
 
-/// How long it takes to make a set of blocks that ascend.
-fn measure_building<S: Set>(rt: &HostRuntime, count: usize) -> io::Result<S> {
-    let blocks = S::blocks(rt.alloc(), count, false)?;
-    let timed = Timed::start(rt, S::names().operations, "from_blocks", count)?;
-    let set = S::from_blocks(rt.alloc(), &blocks)?;
-    report(rt, timed, set.count(), "blocks")?;
-    Ok(set)
-}
-
-fn measure_both<S: Set>(rt: &HostRuntime, count: usize, one: &S, other: &S) -> io::Result<()> {
-    let kind = S::names().operations;
-    let timed = Timed::start(rt, kind, "union", count)?;
-    report_set(rt, timed, one.union(rt.alloc(), other))?;
-    let timed = Timed::start(rt, kind, "intersection", count)?;
-    report_set(rt, timed, one.intersection(rt.alloc(), other))?;
-    let timed = Timed::start(rt, kind, "difference", count)?;
-    report_set(rt, timed, one.difference(rt.alloc(), other))?;
-    measure_contains(rt, count, one, other)
+/// How long it takes to make a set of two.
+fn measure_call<S: Set>(
+    rt: &HostRuntime,
+    kind: &str,
+    count: usize,
+    call: &Call,
+    one: &S,
+    other: &S,
+) -> io::Result<()> {
+    let start = Instant::now(rt)?;
+    let set = call.of(rt.alloc(), one, other)?;
+    tell(rt, kind, call.name(), count, start)?;
+    report(rt, kind, call.name(), count, set.count(), "blocks")
 }
 
 /// How long it takes to find that the union of two sets contains the one.
-fn measure_contains<S: Set>(rt: &HostRuntime, count: usize, one: &S, other: &S) -> io::Result<()> {
+fn measure_contains<S: Set>(
+    rt: &HostRuntime,
+    kind: &str,
+    count: usize,
+    one: &S,
+    other: &S,
+) -> io::Result<()> {
     let union = one.union(rt.alloc(), other)?;
-    let timed = Timed::start(rt, S::names().operations, "contains", count)?;
+    let start = Instant::now(rt)?;
     let contained = union.contains(one);
-    report(rt, timed, usize::from(contained), "set")
+    tell(rt, kind, "contains", count, start)?;
+    report(rt, kind, "contains", count, usize::from(contained), "set")
 }
 
 /// Reads blocks from a SEQUENCE in which they don't ascend, and writes their set.
-pub fn measure_der<S: Set>(rt: &HostRuntime, count: usize) -> io::Result<()> {
+pub fn measure_der<S: Set>(rt: &HostRuntime, kind: &str, count: usize) -> io::Result<()> {
     let octets = octets::<S>(rt.alloc(), count)?;
-    let set: S = measure_reading(rt, count, &octets)?;
-    measure_writing(rt, count, &set)
+    let set: S = measure_reading(rt, kind, count, &octets)?;
+    measure_writing(rt, kind, count, &set)
 }
 
 /// A SEQUENCE of blocks, which aren't ascending.
@@ -113,72 +155,58 @@ fn reordered<T: Copy>(alloc: Global, blocks: &[T]) -> Result<Vec<T>, AllocError>
         if let Some(block) = blocks.get(at) {
             taken.push(*block)?;
         }
-        at = at
-            .wrapping_add(STRIDE)
-            .checked_rem(blocks.len())
-            .unwrap_or(0);
+        at = behind(at, blocks.len());
     }
     Ok(taken)
 }
 
-fn measure_reading<S: Set>(rt: &HostRuntime, count: usize, octets: &[u8]) -> io::Result<S> {
-    let timed = Timed::start(rt, S::names().der, "take_from", count)?;
-    match S::take(rt.alloc(), octets) {
-        Ok(set) => {
-            report(rt, timed, set.count(), "blocks")?;
-            Ok(set)
-        }
+/// The place that follows another in that order.
+fn behind(at: usize, count: usize) -> usize {
+    at.wrapping_add(STRIDE).checked_rem(count).unwrap_or(0)
+}
+
+fn measure_reading<S: Set>(
+    rt: &HostRuntime,
+    kind: &str,
+    count: usize,
+    octets: &[u8],
+) -> io::Result<S> {
+    let start = Instant::now(rt)?;
+    let set: S = taken(rt.alloc(), octets)?;
+    tell(rt, kind, "take_from", count, start)?;
+    report(rt, kind, "take_from", count, set.count(), "blocks")?;
+    Ok(set)
+}
+
+fn taken<S: Set>(alloc: Global, octets: &[u8]) -> io::Result<S> {
+    match S::take(alloc, octets) {
+        Ok(set) => Ok(set),
         Err(_) => Err(io::ErrorKind::InvalidData.into()),
     }
 }
 
-fn measure_writing<S: Set>(rt: &HostRuntime, count: usize, set: &S) -> io::Result<()> {
+fn measure_writing<S: Set>(rt: &HostRuntime, kind: &str, count: usize, set: &S) -> io::Result<()> {
     let mut octets = Vec::new(rt.alloc());
-    let timed = Timed::start(rt, S::names().der, "encode", count)?;
+    let start = Instant::now(rt)?;
     set.append(&mut octets)?;
-    report(rt, timed, octets.len(), "octets")
+    tell(rt, kind, "encode", count, start)?;
+    report(rt, kind, "encode", count, octets.len(), "octets")
 }
 
-/// A call, with the time at which it began.
-#[derive(Clone, Copy)]
-struct Timed {
-    kind: &'static str,
-    name: &'static str,
-    count: usize,
-    start: Instant,
-}
-
-impl Timed {
-    fn start(
-        rt: &HostRuntime,
-        kind: &'static str,
-        name: &'static str,
-        count: usize,
-    ) -> io::Result<Timed> {
-        let start = Instant::now(rt)?;
-        Ok(Timed {
-            kind,
-            name,
-            count,
-            start,
-        })
-    }
-}
-
-/// Prints how many blocks a call gave, and how long it took since the start.
-fn report_set<S: Set>(
+/// Prints how much a call gave.
+fn report(
     rt: &HostRuntime,
-    timed: Timed,
-    set: Result<S, AllocError>,
+    kind: &str,
+    name: &str,
+    count: usize,
+    given: usize,
+    unit: &str,
 ) -> io::Result<()> {
-    let set = set?;
-    report(rt, timed, set.count(), "blocks")
+    println!(rt; "{kind}{name} at {count} blocks: {given} {unit}")
 }
 
-/// Prints how much a call gave, and how long it took since the start.
-fn report(rt: &HostRuntime, timed: Timed, given: usize, unit: &str) -> io::Result<()> {
-    let micros = timed.start.elapsed(rt)?.as_micros();
-    let (kind, name, count) = (timed.kind, timed.name, timed.count);
-    println!(rt; "{kind}{name} at {count} blocks: {given} {unit}")?;
+/// Prints how long a call took since the start.
+fn tell(rt: &HostRuntime, kind: &str, name: &str, count: usize, start: Instant) -> io::Result<()> {
+    let micros = start.elapsed(rt)?.as_micros();
     eprintln!(rt; "{kind}{name} {count} {micros}")
 }

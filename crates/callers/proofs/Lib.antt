@@ -1,4 +1,5 @@
 pub mod AllWritten
+pub mod AnchorLemmas
 pub mod CertificateLemmas
 pub mod IssuedLemmas
 pub mod TableLemmas

@@ -1,2 +1,3 @@
+pub mod Anchor
 pub mod Certificates
 pub mod Issued

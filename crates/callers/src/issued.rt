@@ -91,8 +91,9 @@ fn verified_addresses<A: Allocator + Copy>(
     }
 }
 
-/// The claims that octets of IP address blocks are, missing ones of a family that isn't there.
-fn read_claims<A: Allocator + Copy>(
+/// The claims that octets of IP address blocks are, missing ones of a family that isn't there. `Refused` with the first fault
+/// where they are none, `Memory` where there is no memory for them.
+pub fn read_claims<A: Allocator + Copy>(
     alloc: A,
     octets: &[u8],
 ) -> Result<(IpResources<A>, IpResources<A>), OrMemory<DerError>>

@@ -13,6 +13,7 @@
 //! ```
 #![tactic(auto)]
 
+pub mod anchor;
 pub mod builders;
 pub mod cache;
 pub mod certificates;

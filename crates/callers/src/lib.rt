@@ -6,8 +6,8 @@
 //!
 //! ```rust
 //! match callers::issued::verified_octets(alloc, issuer, numbers, addresses, mode) {
-//!     Ok(set) => print::value(alloc, set),
-//!     Err(OrMemory::Refused(reason)) => refused(alloc, reason),
+//!     Ok(set) => print::value(alloc, &set),
+//!     Err(OrMemory::Refused(reason)) => refused(alloc, &reason),
 //!     Err(OrMemory::Memory(error)) => Err(error.into()),
 //! }
 //! ```

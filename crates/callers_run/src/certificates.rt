@@ -4,22 +4,20 @@ use crate::sets::from_lists;
 use callers::issued::Unverified;
 use rpki_resources::OrMemory;
 use rpki_resources::repository::resources::{Overclaim, ResourceSet};
-use std::alloc::Global;
+use std::alloc::{AllocError, Global};
 
 /// `read_as HEX`
 pub fn read_as(alloc: Global, hex: &str) -> anyhow::Result<String> {
     let octets = hex::decode(alloc, hex)?;
-    print::value(
-        alloc,
-        callers::certificates::read_as(alloc, octets.as_slice())?,
-    )
+    let resources = callers::certificates::read_as(alloc, octets.as_slice())?;
+    print::value(alloc, &resources)
 }
 
 /// `read_families HEX`
 pub fn read_families(alloc: Global, hex: &str) -> anyhow::Result<String> {
     let octets = hex::decode(alloc, hex)?;
     let (v4, v6) = callers::certificates::read_families(alloc, octets.as_slice())?;
-    print::families(alloc, v4, v6)
+    print::families(alloc, &v4, &v6)
 }
 
 /// `verified_octets refuse A ; B ; C | HEX | HEX`, or with `trim`: the resources of an issuer, and the octets of AS
@@ -31,7 +29,7 @@ pub fn verified_octets(alloc: Global, operands: &str) -> anyhow::Result<String> 
     verified(alloc, &issuer, extensions, mode_named(mode))
 }
 
-fn mode_named(name: &str) -> Overclaim {
+pub fn mode_named(name: &str) -> Overclaim {
     match name {
         "trim" => Overclaim::Trim,
         _ => Overclaim::Refuse,
@@ -58,23 +56,24 @@ fn answer(
     mode: Overclaim,
 ) -> anyhow::Result<String> {
     match callers::issued::verified_octets(alloc, issuer, numbers, addresses, mode) {
-        Ok(set) => print::value(alloc, set),
-        Err(OrMemory::Refused(reason)) => refused(alloc, reason),
+        Ok(set) => print::value(alloc, &set),
+        Err(OrMemory::Refused(reason)) => refused(alloc, &reason),
         Err(OrMemory::Memory(error)) => Err(error.into()),
     }
 }
 
-fn refused(alloc: Global, reason: Unverified) -> anyhow::Result<String> {
+fn refused(alloc: Global, reason: &Unverified) -> anyhow::Result<String> {
+    let text = reason_text(alloc, reason)?;
+    Ok(text)
+}
+
+/// The reason for which a certificate isn't verified.
+pub fn reason_text(alloc: Global, reason: &Unverified) -> Result<String, AllocError> {
     match reason {
-        Unverified::AsOctets(fault) => print::value(
-            alloc,
-            format!(in alloc; "AS octets: {fault}")?,
-        ),
-        Unverified::Asn(excess) => print::value(alloc, excess),
-        Unverified::AddressOctets(fault) => {
-            print::value(alloc, format!(in alloc; "address octets: {fault}")?)
-        }
-        Unverified::Ipv4(excess) => print::value(alloc, excess),
-        Unverified::Ipv6(excess) => print::value(alloc, excess),
+        Unverified::AsOctets(fault) => format!(in alloc; "AS octets: {fault}"),
+        Unverified::Asn(excess) => format!(in alloc; "{excess}"),
+        Unverified::AddressOctets(fault) => format!(in alloc; "address octets: {fault}"),
+        Unverified::Ipv4(excess) => format!(in alloc; "{excess}"),
+        Unverified::Ipv6(excess) => format!(in alloc; "{excess}"),
     }
 }

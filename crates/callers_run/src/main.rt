@@ -4,6 +4,7 @@
 
 mod certificates;
 mod octets;
+mod paths;
 mod prefixes;
 mod print;
 mod sets;
@@ -34,6 +35,8 @@ fn call(alloc: Global, line: &str) -> anyhow::Result<String> {
         "read_as" => certificates::read_as(alloc, operands),
         "read_families" => certificates::read_families(alloc, operands),
         "verified_octets" => certificates::verified_octets(alloc, operands),
+        "verified_path" => paths::verified_path(alloc, operands),
+        "verified" => paths::verified(alloc, operands),
         "v4_filter" => prefixes::v4_filter(alloc, operands),
         "v6_filter" => prefixes::v6_filter(alloc, operands),
         "table" => prefixes::table(alloc, operands),

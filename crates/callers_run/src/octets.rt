@@ -12,13 +12,13 @@ use std::alloc::Global;
 /// `written_and_read LIST` of addresses of either family.
 pub fn written_and_read(alloc: Global, list: &str) -> anyhow::Result<String> {
     let set = IpBlocks::from_str(alloc, list)?;
-    as_v6(alloc, callers::octets::written_and_read(alloc, &set))
+    as_v6(alloc, &callers::octets::written_and_read(alloc, &set))
 }
 
 /// `as_written_and_read LIST` of AS numbers.
 pub fn as_written_and_read(alloc: Global, list: &str) -> anyhow::Result<String> {
     let set = AsBlocks::from_str(alloc, list)?;
-    print::made(alloc, callers::octets::as_written_and_read(alloc, &set))
+    print::made(alloc, &callers::octets::as_written_and_read(alloc, &set))
 }
 
 /// `resources_written_and_read LIST` of AS numbers, or `inherit`.
@@ -29,7 +29,7 @@ pub fn resources_written_and_read(alloc: Global, list: &str) -> anyhow::Result<S
     }
     print::made(
         alloc,
-        callers::octets::resources_written_and_read(alloc, &resources),
+        &callers::octets::resources_written_and_read(alloc, &resources),
     )
 }
 
@@ -43,12 +43,18 @@ pub fn families_written_and_read(alloc: Global, lists: &str) -> anyhow::Result<S
 fn with_v6(alloc: Global, v4: &IpResources, list: &str) -> anyhow::Result<String>
     requires { IsFamilyClaim Ipv4 v4.now }
 {
-    let v6 = Ipv6Blocks::from_str(alloc, list)?.to_ip_resources()?;
+    let v6 = v6_claim(alloc, list)?;
     if v4.is_missing() && v6.is_missing() {
         return print::text(alloc, "missing");
     }
     let (v4, v6) = callers::octets::families_written_and_read(alloc, v4, &v6)?;
-    print::families(alloc, v4, v6)
+    print::families(alloc, &v4, &v6)
+}
+
+fn v6_claim(alloc: Global, list: &str) -> anyhow::Result<IpResources> {
+    let set = Ipv6Blocks::from_str(alloc, list)?;
+    let resources = set.to_ip_resources()?;
+    Ok(resources)
 }
 
 /// `append LIST` of AS numbers, or `inherit`: the octets, of which missing resources have none.

@@ -4,35 +4,45 @@ use callers::{cache, filters};
 use rpki_resources::repository::resources::{Ipv4Blocks, Ipv6Blocks, Prefix};
 use rpki_resources::resources::addr::Prefix as FamilyPrefix;
 use std::alloc::{AllocError, Global};
+use std::fmt;
 
 /// `v4_filter LIST`
 pub fn v4_filter(alloc: Global, list: &str) -> anyhow::Result<String> {
     let set = Ipv4Blocks::from_str(alloc, list)?;
-    v4_text(alloc, filters::v4_filter(alloc, &set))
+    let prefixes = filters::v4_filter(alloc, &set)?;
+    v4_text(alloc, &prefixes)
 }
 
-fn v4_text(alloc: Global, prefixes: Result<Vec<Prefix>, AllocError>) -> anyhow::Result<String> {
-    let prefixes = prefixes?;
+fn v4_text(alloc: Global, prefixes: &[Prefix]) -> anyhow::Result<String> {
     let mut text = String::new(alloc);
-    for prefix in &prefixes {
-        print::append(&mut text, prefix.to_v4())?;
-        write!(text, "/{}", prefix.addr_len())?;
+    for prefix in prefixes {
+        let (address, length) = (prefix.to_v4(), prefix.addr_len());
+        append_prefix(&mut text, &address, length)?;
     }
     Ok(text)
+}
+
+fn append_prefix<T: fmt::Display>(
+    text: &mut String,
+    address: &T,
+    length: u8,
+) -> Result<(), AllocError> {
+    print::append(text, address)?;
+    write!(text, "/{length}")
 }
 
 /// `v6_filter LIST`
 pub fn v6_filter(alloc: Global, list: &str) -> anyhow::Result<String> {
     let set = Ipv6Blocks::from_str(alloc, list)?;
-    v6_text(alloc, filters::v6_filter(alloc, &set))
+    let prefixes = filters::v6_filter(alloc, &set)?;
+    v6_text(alloc, &prefixes)
 }
 
-fn v6_text(alloc: Global, prefixes: Result<Vec<Prefix>, AllocError>) -> anyhow::Result<String> {
-    let prefixes = prefixes?;
+fn v6_text(alloc: Global, prefixes: &[Prefix]) -> anyhow::Result<String> {
     let mut text = String::new(alloc);
-    for prefix in &prefixes {
-        print::append(&mut text, prefix.to_v6())?;
-        write!(text, "/{}", prefix.addr_len())?;
+    for prefix in prefixes {
+        let (address, length) = (prefix.to_v6(), prefix.addr_len());
+        append_prefix(&mut text, &address, length)?;
     }
     Ok(text)
 }
@@ -65,7 +75,7 @@ fn sorted(alloc: Global, list: &str) -> anyhow::Result<Vec<FamilyPrefix>> {
 fn joined(alloc: Global, prefixes: &[FamilyPrefix]) -> anyhow::Result<String> {
     let mut text = String::new(alloc);
     for prefix in prefixes {
-        print::append(&mut text, *prefix)?;
+        print::append(&mut text, prefix)?;
     }
     Ok(text)
 }

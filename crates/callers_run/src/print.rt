@@ -1,6 +1,6 @@
 //! How lines are cut and answers printed.
 use rpki_resources::OrMemory;
-use rpki_resources::repository::resources::IpResources;
+use rpki_resources::repository::resources::{IpBlocks, IpResources};
 use std::alloc::{AllocError, Global};
 use std::fmt;
 
@@ -19,22 +19,24 @@ pub fn text(alloc: Global, text: &str) -> anyhow::Result<String> {
 }
 
 /// A value.
-pub fn value<T: fmt::Display + Drop>(alloc: Global, value: T) -> anyhow::Result<String> {
+pub fn value<T: fmt::Display>(alloc: Global, value: &T) -> anyhow::Result<String> {
     let text = format!(in alloc; "{value}")?;
     Ok(text)
 }
 
 /// A value, where there was memory for it.
-pub fn made<T: fmt::Display + Drop>(
+pub fn made<T: fmt::Display>(
     alloc: Global,
-    made: Result<T, AllocError>,
+    made: &Result<T, AllocError>,
 ) -> anyhow::Result<String> {
-    let made = made?;
-    value(alloc, made)
+    match made {
+        Ok(made) => value(alloc, made),
+        Err(_) => Err(AllocError.into()),
+    }
 }
 
 /// A value, or `none`.
-pub fn option<T: fmt::Display + Drop>(alloc: Global, found: Option<T>) -> anyhow::Result<String> {
+pub fn option<T: fmt::Display>(alloc: Global, found: &Option<T>) -> anyhow::Result<String> {
     match found {
         Some(found) => value(alloc, found),
         None => text(alloc, "none"),
@@ -42,7 +44,7 @@ pub fn option<T: fmt::Display + Drop>(alloc: Global, found: Option<T>) -> anyhow
 }
 
 /// Appends an item to a list, behind a comma where another stands before it.
-pub fn append<T: fmt::Display + Drop>(list: &mut String, item: T) -> Result<(), AllocError> {
+pub fn append<T: fmt::Display>(list: &mut String, item: &T) -> Result<(), AllocError> {
     if !list.is_empty() {
         list.push_str(", ")?;
     }
@@ -52,34 +54,43 @@ pub fn append<T: fmt::Display + Drop>(list: &mut String, item: T) -> Result<(), 
 /// The resources of both families.
 pub fn families(
     alloc: Global,
-    v4: Option<IpResources>,
-    v6: Option<IpResources>,
+    v4: &Option<IpResources>,
+    v6: &Option<IpResources>,
 ) -> anyhow::Result<String> {
-    let v4 = family(alloc, v4, true)?;
-    let v6 = family(alloc, v6, false)?;
-    value(alloc, format!(in alloc; "v4 {v4} v6 {v6}")?)
+    let mut text = String::new(alloc);
+    append_family(&mut text, "v4 ", v4, true)?;
+    append_family(&mut text, " v6 ", v6, false)?;
+    Ok(text)
 }
 
-/// The resources of a family, and `-` where it isn't there.
-fn family(
-    alloc: Global,
-    resources: Option<IpResources>,
+/// Appends the resources of a family, and `-` where it isn't there.
+fn append_family(
+    text: &mut String,
+    name: &str,
+    resources: &Option<IpResources>,
     is_v4: bool,
-) -> Result<String, AllocError> {
+) -> Result<(), AllocError> {
+    text.push_str(name)?;
     match resources {
-        Some(resources) => listed(alloc, &resources, is_v4),
-        None => String::from_str(alloc, "-"),
+        Some(resources) => append_listed(text, resources, is_v4),
+        None => text.push_str("-"),
     }
 }
 
-/// `inherit`, or the addresses that are listed.
-fn listed(alloc: Global, resources: &IpResources, is_v4: bool) -> Result<String, AllocError> {
+/// Appends `inherit`, or the addresses that are listed.
+fn append_listed(
+    text: &mut String,
+    resources: &IpResources,
+    is_v4: bool,
+) -> Result<(), AllocError> {
     match resources.to_blocks() {
-        Ok(set) => {
-            let shown = if is_v4 { set.as_v4() } else { set.as_v6() };
-            format!(in alloc; "{shown}")
-        }
-        Err(OrMemory::Refused(_)) => String::from_str(alloc, "inherit"),
+        Ok(set) => append_set(text, &set, is_v4),
+        Err(OrMemory::Refused(_)) => text.push_str("inherit"),
         Err(OrMemory::Memory(error)) => Err(error),
     }
+}
+
+fn append_set(text: &mut String, set: &IpBlocks, is_v4: bool) -> Result<(), AllocError> {
+    let shown = if is_v4 { set.as_v4() } else { set.as_v6() };
+    write!(text, "{shown}")
 }

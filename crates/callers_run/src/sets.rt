@@ -34,21 +34,21 @@ fn union_with_third(
     let three = Ipv4Blocks::from_str(alloc, three)?;
     print::made(
         alloc,
-        callers::sets::union_of_three(alloc, one, two, &three),
+        &callers::sets::union_of_three(alloc, one, two, &three),
     )
 }
 
 /// `blocks_of LIST` of AS numbers.
 pub fn blocks_of(alloc: Global, list: &str) -> anyhow::Result<String> {
     let set = AsBlocks::from_str(alloc, list)?;
-    joined(alloc, callers::sets::blocks_of(alloc, &set))
+    let blocks = callers::sets::blocks_of(alloc, &set)?;
+    joined(alloc, &blocks)
 }
 
-fn joined(alloc: Global, blocks: Result<Vec<AsBlock>, AllocError>) -> anyhow::Result<String> {
-    let blocks = blocks?;
+fn joined(alloc: Global, blocks: &[AsBlock]) -> anyhow::Result<String> {
     let mut text = String::new(alloc);
-    for block in &blocks {
-        print::append(&mut text, *block)?;
+    for block in blocks {
+        print::append(&mut text, block)?;
     }
     Ok(text)
 }
@@ -56,13 +56,15 @@ fn joined(alloc: Global, blocks: Result<Vec<AsBlock>, AllocError>) -> anyhow::Re
 /// `printed_and_read LIST` of addresses of either family.
 pub fn printed_and_read(alloc: Global, list: &str) -> anyhow::Result<String> {
     let set = IpBlocks::from_str(alloc, list)?;
-    as_v6(alloc, callers::texts::printed_and_read(alloc, &set))
+    as_v6(alloc, &callers::texts::printed_and_read(alloc, &set))
 }
 
 /// A set of addresses, printed as one of IPv6.
-pub fn as_v6(alloc: Global, set: Result<IpBlocks, AllocError>) -> anyhow::Result<String> {
-    let set = set?;
-    print::value(alloc, set.as_v6())
+pub fn as_v6(alloc: Global, set: &Result<IpBlocks, AllocError>) -> anyhow::Result<String> {
+    match set {
+        Ok(set) => print::value(alloc, &set.as_v6()),
+        Err(_) => Err(AllocError.into()),
+    }
 }
 
 /// `resources_printed_and_read A ; B ; C`
@@ -70,6 +72,6 @@ pub fn resources_printed_and_read(alloc: Global, lists: &str) -> anyhow::Result<
     let set = from_lists(alloc, lists)?;
     print::made(
         alloc,
-        callers::texts::resources_printed_and_read(alloc, &set),
+        &callers::texts::resources_printed_and_read(alloc, &set),
     )
 }

@@ -6,16 +6,10 @@ use Rattle.rpki_blocks.specs.declared.common.Meeting.{Meeting}
 use Rattle.rpki_blocks.specs.declared.common.Meeting.TheVariants as meeting
 
 -- b is beside c in the way that is told
-abbrev pub IsFitIn : {I : Type 0} → (I → ℕ) → I × I → I × I → Fit I → Type 0
-IsFitIn number b c fit.End = ⊥
+abbrev pub IsFitIn : {I : Type 0} → (I → ℕ) → I × I → I × I → Fit → Type 0
 IsFitIn number b c fit.Skip = number c.1 < number b.0
 IsFitIn number b c fit.Inside = (number c.0 ≤ number b.0) × (number b.1 ≤ number c.1)
-IsFitIn number b c (fit.Beyond min max) = (min ≡ b.0) × (max ≡ b.1) × (number b.0 ≤ number c.1) × ((number b.0 < number c.0) ⊎ (number c.1 < number b.1))
-
-abbrev pub IsFit : {I : Type 0} → (I → ℕ) → Option (I × I) → Option (I × I) → Fit I → Type 0
-IsFit number None other step = step ≡ fit.End
-IsFit number (Some b) None step = step ≡ fit.Beyond b.0 b.1
-IsFit number (Some b) (Some c) step = IsFitIn number b c step
+IsFitIn number b c fit.Beyond = (number b.0 ≤ number c.1) × ((number b.0 < number c.0) ⊎ (number c.1 < number b.1))
 
 -- what b and c have in common, and which of the two ends first
 abbrev pub IsMeetingOf : {I : Type 0} → (I → ℕ) → I × I → I × I → Meeting I → Type 0

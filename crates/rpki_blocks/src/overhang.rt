@@ -1,22 +1,20 @@
 //! Where a chain leaves another one.
 ghost use Rattle.std.specs.Prelude.{◌≡◌, ◌+◌, ◌-◌, ◌≤◌, length, IfSome, MatchOption};
 ghost use Rattle.rpki_blocks.specs.Sets.{IsInside};
-ghost use Rattle.rpki_blocks.specs.Fit.{IsFit, IsFitIn};
+ghost use Rattle.rpki_blocks.specs.Fit.{IsFitIn};
 ghost use Rattle.rpki_blocks.specs.Overhang.{IsOverhang};
 
 use crate::block::Block;
 use crate::reads::{Reads, read_at};
 
 /// How the next block of a chain stands to that of another.
-pub enum Fit<I> {
-    /// There is none.
-    End,
+pub enum Fit {
     /// The other's ends before it: the other's next one is looked at.
     Skip,
     /// It lies in the other's.
     Inside,
     /// Some of it lies in no block of the other.
-    Beyond { min: I, max: I },
+    Beyond,
 }
 
 /// The first block of a chain that doesn't lie in another, and the other's block at hand.
@@ -29,32 +27,18 @@ pub struct Overhang<I> {
     pub other: Option<(I, I)>,
 }
 
-/// Looks at the next blocks.
-fn next_fit<T: Block>(
-    own: Option<(T::Item, T::Item)>,
-    other: Option<(T::Item, T::Item)>,
-) -> Fit<T::Item>
-    ensures { IsFit T.number own other result }
-{
-    match (own, other) {
-        (None, _) => Fit::End,
-        (Some((min, max)), None) => Fit::Beyond { min, max },
-        (Some((min, max)), Some((low, high))) => fit_in::<T>(min, max, low, high),
-    }
-}
-
 /// Looks at the block from `min` to `max` beside the other chain's from `low` to `high`.
-fn fit_in<T: Block>(min: T::Item, max: T::Item, low: T::Item, high: T::Item) -> Fit<T::Item>
+fn fit_in<T: Block>(min: T::Item, max: T::Item, low: T::Item, high: T::Item) -> Fit
     ensures { IsFitIn T.number (min, max) (low, high) result }
 {
     if high < min {
         return Fit::Skip;
     }
     if min < low {
-        return Fit::Beyond { min, max };
+        return Fit::Beyond;
     }
     if high < max {
-        return Fit::Beyond { min, max };
+        return Fit::Beyond;
     }
     Fit::Inside
 }
@@ -80,29 +64,50 @@ pub fn first_overhang<T: Block, X: Reads<T>, Y: Reads<T>>(
 {
     let mut own_at = 0;
     let mut other_at = 0;
-    let mut own_block = read_at(own, 0);
-    let mut other_block = read_at(other, 0);
+    let Some(mut own_block) = read_at(own, 0) else {
+        return None;
+    };
+    let Some(mut other_block) = read_at(other, 0) else {
+        return Some(Overhang {
+            own_at,
+            min: own_block.0,
+            max: own_block.1,
+            other_at,
+            other: None,
+        });
+    };
     // What comes before the one chain's block at hand lies in the other chain, and what comes before the other's block at
     // hand comes before that block too. A turn passes one of the two blocks, so the walk ends; a block that some block of
     // the other doesn't hold ends it at once, since chains have gaps between their blocks.
     loop {
-        match next_fit::<T>(own_block, other_block) {
-            Fit::End => return None,
+        match fit_in::<T>(own_block.0, own_block.1, other_block.0, other_block.1) {
             Fit::Skip => {
                 other_at += 1;
-                other_block = read_at(other, other_at);
+                let Some(next) = read_at(other, other_at) else {
+                    return Some(Overhang {
+                        own_at,
+                        min: own_block.0,
+                        max: own_block.1,
+                        other_at,
+                        other: None,
+                    });
+                };
+                other_block = next;
             }
             Fit::Inside => {
                 own_at += 1;
-                own_block = read_at(own, own_at);
+                let Some(next) = read_at(own, own_at) else {
+                    return None;
+                };
+                own_block = next;
             }
-            Fit::Beyond { min, max } => {
+            Fit::Beyond => {
                 return Some(Overhang {
                     own_at,
-                    min,
-                    max,
+                    min: own_block.0,
+                    max: own_block.1,
                     other_at,
-                    other: other_block,
+                    other: Some(other_block),
                 });
             }
         }

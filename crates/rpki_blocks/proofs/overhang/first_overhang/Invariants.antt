@@ -1,6 +1,5 @@
 -- What the walk has passed of the one chain lies in the other.
-use Rattle.std.proofs.Common.{◌≡◌, ◌+◌, ◌-◌, ◌^◌, ◌<◌, ◌≤◌, length}
-use Rattle.std.specs.Option.{option_map}
+use Rattle.std.proofs.Common.{◌≡◌, ◌+◌, ◌-◌, ◌^◌, ◌<◌, ◌≤◌, length, Some}
 use Rattle.rpki_blocks.specs.Sets.{numbers, HoldsBlock}
 use Rattle.rpki_blocks.proofs.Insides.{Inside}
 use Rattle.rpki_blocks.proofs.overhang.first_overhang.Given as goal
@@ -9,9 +8,9 @@ abbrev pub invariant-loop-other_at : goal.invariant-loop-other_at
 invariant-loop-other_at g l = record {
   own_reads : g.X.Reads.count l.own + (length (g.X.Reads.blocks l.fn.own) - (l.own_at + 1)) ≤ g.X.Reads.count l.fn.own + length (g.X.Reads.blocks l.fn.own);
   other_reads : g.Y.Reads.count l.other + (length (g.Y.Reads.blocks l.fn.other) - (l.other_at + 1)) ≤ g.Y.Reads.count l.fn.other + length (g.Y.Reads.blocks l.fn.other);
-  walk : Inside g.T.Block.bounds g.T.Block.form (g.X.Reads.blocks l.fn.own) (g.Y.Reads.blocks l.fn.other) l.own_at (option_map (numbers g.T.Block.number) l.own_block) l.other_at (option_map (numbers g.T.Block.number) l.other_block);
-  own_block : HoldsBlock g.T.Block.bounds g.T.Block.number g.T.Block.last (g.X.Reads.blocks l.fn.own) l.own_at l.own_block;
-  other_block : HoldsBlock g.T.Block.bounds g.T.Block.number g.T.Block.last (g.Y.Reads.blocks l.fn.other) l.other_at l.other_block;
+  walk : Inside g.T.Block.bounds g.T.Block.form (g.X.Reads.blocks l.fn.own) (g.Y.Reads.blocks l.fn.other) l.own_at (Some (numbers g.T.Block.number l.own_block)) l.other_at (Some (numbers g.T.Block.number l.other_block));
+  own_block : HoldsBlock g.T.Block.bounds g.T.Block.number g.T.Block.last (g.X.Reads.blocks l.fn.own) l.own_at (Some l.own_block);
+  other_block : HoldsBlock g.T.Block.bounds g.T.Block.number g.T.Block.last (g.Y.Reads.blocks l.fn.other) l.other_at (Some l.other_block);
   own_bound : length (g.X.Reads.blocks l.fn.own) < 2 ^ 64;
   other_bound : length (g.Y.Reads.blocks l.fn.other) < 2 ^ 64;
   own_kept : g.X.Reads.blocks l.own ≡ g.X.Reads.blocks l.fn.own;

@@ -1,5 +1,6 @@
 //! Blocks that ascend become a chain while they are copied, in one pass.
 ghost use Rattle.std.specs.Prelude.{◌≡◌, ℕ, ◌↔◌, [], IsTrue, IfOk};
+ghost use Rattle.std.specs.List.Sorted.{IsNonDecreasingBy};
 ghost use Rattle.rpki_blocks.specs.Sets.{Covers, IsChain};
 
 use crate::block::Block;
@@ -7,7 +8,8 @@ use crate::union::run_with;
 use std::alloc::{AllocError, Allocator};
 
 /// Makes an empty vector the chain of the numbers that the blocks cover, and answers that it did. It answers `false` where
-/// a block begins before the run that those before it end with; then the vector may have any blocks.
+/// a block begins before the run that those before it end with, and so never where the blocks come by ascending minimum;
+/// then the vector may have any blocks.
 pub fn join_ascending_into<T: Block, A: Allocator>(
     chain: &mut Vec<T, A>,
     blocks: &[T],
@@ -17,6 +19,7 @@ pub fn join_ascending_into<T: Block, A: Allocator>(
         → IsChain T.bounds T.form chain.new.items) }
     ensures covers { IfOk result (λ ascend. IsTrue ascend → (n : ℕ) →
         Covers T.bounds chain.new.items n ↔ Covers T.bounds blocks.now n) }
+    ensures ascends { IfOk result (λ ascend. IsNonDecreasingBy (λ b. (T.bounds b).0) blocks.now → IsTrue ascend) }
 {
     let Some(first) = blocks.first() else {
         return Ok(true);

@@ -65,6 +65,8 @@ pub fn contains_block<T: Block, R: Reads<T>>(chain: &mut R, block: &T) -> bool
     ensures value { IsTrue result ↔ ((n : ℕ) →
         IsWithin (T.bounds block.now) n → Covers T.bounds (R.blocks chain.old) n) }
     ensures kept { R.blocks chain.new ≡ R.blocks chain.old }
+    ensures reads { (digits : ℕ) → length (R.blocks chain.old) < 2 ^ digits →
+        R.count chain.new ≤ R.count chain.old + digits }
 {
     let (min, max) = block.bounds();
     match first_from(chain, min) {
@@ -78,6 +80,8 @@ pub fn intersects_block<T: Block, R: Reads<T>>(chain: &mut R, block: &T) -> bool
     ensures value { IsTrue result ↔ ((n : ℕ) ×
         IsWithin (T.bounds block.now) n × Covers T.bounds (R.blocks chain.old) n) }
     ensures kept { R.blocks chain.new ≡ R.blocks chain.old }
+    ensures reads { (digits : ℕ) → length (R.blocks chain.old) < 2 ^ digits →
+        R.count chain.new ≤ R.count chain.old + digits }
 {
     let (min, max) = block.bounds();
     match first_from(chain, min) {

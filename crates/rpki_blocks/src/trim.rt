@@ -11,11 +11,13 @@ use crate::reads::Reads;
 use rpki_text::memory::OrMemory;
 use std::alloc::{AllocError, Allocator};
 
-/// Whether each number of the one chain is one of the other.
+/// Whether each number of the one chain is one of the other. Each chain is read at most once.
 pub fn is_encompassed<T: Block, X: Reads<T>, Y: Reads<T>>(own: &mut X, other: &mut Y) -> bool
     ensures value { IsTrue result ↔ IsInside T.bounds (X.blocks own.old) (Y.blocks other.old) }
     ensures own_kept { X.blocks own.new ≡ X.blocks own.old }
     ensures other_kept { Y.blocks other.new ≡ Y.blocks other.old }
+    ensures own_reads { X.count own.new ≤ X.count own.old + length (X.blocks own.old) }
+    ensures other_reads { Y.count other.new ≤ Y.count other.old + length (Y.blocks other.old) }
 {
     match first_overhang(own, other) {
         None => true,

@@ -19,7 +19,8 @@ pub fn join_ascending_into<T: Block, A: Allocator>(
         → IsChain T.bounds T.form chain.new.items) }
     ensures covers { IfOk result (λ ascend. IsTrue ascend → (n : ℕ) →
         Covers T.bounds chain.new.items n ↔ Covers T.bounds blocks.now n) }
-    ensures ascends { IfOk result (λ ascend. IsNonDecreasingBy (λ b. (T.bounds b).0) blocks.now → IsTrue ascend) }
+    ensures ascends { IfOk result (λ ascend. IsNonDecreasingBy (λ b. (T.bounds b).0) blocks.now
+        → IsTrue ascend) }
 {
     let Some(first) = blocks.first() else {
         return Ok(true);

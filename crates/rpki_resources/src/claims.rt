@@ -1,5 +1,5 @@
 //! Sets of resources and claims on them.
-ghost use Rattle.std.specs.Prelude.{◌≡◌, IfOk, IsErr, Ok, MatchResult};
+ghost use Rattle.std.specs.Prelude.{◌≡◌, ◌↔◌, IfOk, IsErr, Ok, MatchResult};
 ghost use Rattle.rpki_text.specs.Memory.{IfRefused};
 ghost use Rattle.rpki_chain.specs.Claims.{IsClaim, claim_of};
 ghost use Rattle.rpki_chain.specs.Choices.{IsRefused};
@@ -19,7 +19,7 @@ use std::alloc::{AllocError, Allocator};
 /// What resources of one kind list, with the refusal of inherited ones that all kinds share.
 fn listed<T: Drop, E: Drop>(blocks: Result<T, OrMemory<E>>) -> Result<T, OrMemory<InheritError>>
     ensures listed { MatchResult blocks (λ set. result ≡ Ok set) (λ _. IsErr result) }
-    ensures refused { IsRefused result → IsRefused blocks }
+    ensures refused { IsRefused result ↔ IsRefused blocks }
 {
     match blocks {
         Ok(set) => Ok(set),

@@ -8,5 +8,5 @@ abbrev pub inherited_text : List ℕ
 inherited_text = codes "inherited AS resources"
 
 -- and that of AS numbers which are claimed and which the issuer doesn't have
-abbrev pub overclaimed_text : Runs → List ℕ
-overclaimed_text excess = codes "overclaimed AS resources: " ++ as_list_text excess
+abbrev pub overclaimed_as_text : Runs → List ℕ
+overclaimed_as_text excess = codes "overclaimed AS resources: " ++ as_list_text excess

@@ -5,7 +5,7 @@ ghost use Rattle.rpki_text.specs.Reading.{AnswersOrMemory};
 ghost use Rattle.rpki_blocks.specs.Equality.{same_runs, runs_per, runs_equiv};
 ghost use Rattle.rpki_chain.specs.Paths.{IsIssued, IsExcess, IsCovered, IsUncovered, IsPathResult, IsFirstRefusal};
 ghost use Rattle.rpki_chain.specs.Runs.{Holds};
-ghost use Rattle.rpki_as.specs.Faults.{overclaimed_text};
+ghost use Rattle.rpki_as.specs.Faults.{overclaimed_as_text};
 
 use crate::blocks::AsBlocks;
 use crate::resources::AsResources;
@@ -159,7 +159,7 @@ impl<A: Allocator> Eq for OverclaimedAsResources<A> {
 
 /// Prints the blocks of the excess, ascending, joined by a comma and a space, after a text of what it is.
 impl<A: Allocator> fmt::Display for OverclaimedAsResources<A> {
-    ghost output = { λ excess. Some (overclaimed_text excess) };
+    ghost output = { λ excess. Some (overclaimed_as_text excess) };
 
     fn fmt<W: fmt::Write>(&self, f: &mut fmt::Formatter<W>) -> fmt::Result {
         f.write_str("overclaimed AS resources: ")?;

@@ -18,20 +18,20 @@ pub record IsIn (w : ℕ) (p : PrefixValue) (n : ℕ) : Type 0 where
   pub upto : n < p.first + 2 ^ (w - p.len)
 
 -- each number of p is in the set S
-abbrev pub IsInside : ℕ → (ℕ → Type 0) → PrefixValue → Type 0
-IsInside w S p = (n : ℕ) → IsIn w p n → S n
+abbrev pub LiesIn : ℕ → (ℕ → Type 0) → PrefixValue → Type 0
+LiesIn w S p = (n : ℕ) → IsIn w p n → S n
 
 -- q is the parent of p: it is one bit shorter, and holds p
 pub record IsParent (w : ℕ) (q p : PrefixValue) : Type 0 where
   pub is_prefix : IsPrefix w q
   pub shorter : p.len ≡ q.len + 1
-  pub holds : IsInside w (IsIn w q) p
+  pub holds : LiesIn w (IsIn w q) p
 
 -- p is a maximal prefix inside S: it has no parent, or one that isn't inside
 pub record IsMaximal (w : ℕ) (S : ℕ → Type 0) (p : PrefixValue) : Type 0 where
   pub is_prefix : IsPrefix w p
-  pub inside : IsInside w S p
-  pub greatest : (q : PrefixValue) → IsParent w q p → ¬ IsInside w S q
+  pub inside : LiesIn w S p
+  pub greatest : (q : PrefixValue) → IsParent w q p → ¬ LiesIn w S q
 
 -- the greatest number of a prefix
 abbrev pub last_of : ℕ → PrefixValue → ℕ

@@ -201,7 +201,7 @@ impl<T: Block> PartialEq for Chain<'_, T> {
             Covers T.bounds (chain_blocks other.now) n) }
         ensures same { IsTrue result ↔ (chain_blocks self.now ≡ chain_blocks other.now) }
     {
-        have_same_bounds(self.blocks, other.blocks)
+        are_same_blocks(self.blocks, other.blocks)
     }
 }
 
@@ -213,7 +213,7 @@ impl<T: Block> Eq for Chain<'_, T> {
 }
 
 /// Whether the blocks of two lists have the same bounds, one by one.
-fn have_same_bounds<T: Block>(some: &[T], others: &[T]) -> bool
+fn are_same_blocks<T: Block>(some: &[T], others: &[T]) -> bool
     ensures { IsTrue result ↔ (map T.bounds some.now ≡ map T.bounds others.now) }
 {
     if some.len() != others.len() {

@@ -7,7 +7,7 @@ use Rattle.rpki_cover.proofs.Greatest.{Fits, IsGreatest, free_bits_upto_is}
 use Rattle.rpki_cover.proofs.Membership.{In, all_of}
 use Rattle.rpki_cover.proofs.Nesting.{InRange, Within, first_in, within_of, of_within, inside_of, multiple_at, no_straddle, parent_of}
 use Rattle.rpki_cover.specs.Walk.{free_bits_upto, cover_list_upto, cover_list}
-use Rattle.rpki_base.specs.Prefixes.{PrefixValue, IsPrefix, IsIn, IsInside, IsParent, IsMaximal}
+use Rattle.rpki_base.specs.Prefixes.{PrefixValue, IsPrefix, IsIn, LiesIn, IsParent, IsMaximal}
 use Rattle.rpki_cover.specs.Covers.{Ascends}
 
 -- a list that is the cover list of S, and in which each prefix inside S finds its place
@@ -15,7 +15,7 @@ pub record CoverOf (w : ℕ) (S : ℕ → Type 0) (ps : List PrefixValue) : Type
   pub ascending : Ascends w ps
   pub sound : (p : PrefixValue) → In ps p → IsMaximal w S p
   pub complete : (p : PrefixValue) → IsMaximal w S p → In ps p
-  pub nests : (q : PrefixValue) → IsPrefix w q → IsInside w S q → (p : PrefixValue) × In ps p × IsInside w (IsIn w p) q
+  pub nests : (q : PrefixValue) → IsPrefix w q → LiesIn w S q → (p : PrefixValue) × In ps p × LiesIn w (IsIn w p) q
 
 -- nothing is inside no numbers
 pub cover_none : (w : ℕ) (S : ℕ → Type 0) → ((n : ℕ) → S n → ⊥) → CoverOf w S []
@@ -54,7 +54,7 @@ module _ (w a b k : ℕ) (order : a ≤ b) (below : b < 2 ^ w) (g : IsGreatest w
   head_within : Within w (head_prefix w a k) a b
   head_within = record { from = omega arith; upto = rw size_is g.fits.within }
 
-  head_greatest : (q : PrefixValue) → IsParent w q (head_prefix w a k) → IsInside w (InRange a b) q → ⊥
+  head_greatest : (q : PrefixValue) → IsParent w q (head_prefix w a k) → LiesIn w (InRange a b) q → ⊥
   head_greatest q parent i =
       let v : Within w q a b = within_of w a b q i in
       let from : a ≤ q.first = v.from in

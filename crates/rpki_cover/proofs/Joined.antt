@@ -3,7 +3,7 @@ use Rattle.std.proofs.Common.{ℕ, ◌+◌, ◌-◌, ◌^◌, ◌<◌, ◌≤◌
 use Rattle.std.proofs.lemmas.Bool.{cases_lt}
 use Rattle.std.proofs.lemmas.Nat.{pow_pos}
 use Rattle.std.proofs.lemmas.List.Elements.{All-append}
-use Rattle.rpki_base.specs.Prefixes.{PrefixValue, IsInside, IsMaximal}
+use Rattle.rpki_base.specs.Prefixes.{PrefixValue, LiesIn, IsMaximal}
 use Rattle.rpki_cover.proofs.CoverList.{CoverOf}
 use Rattle.rpki_cover.proofs.Membership.{In, all_of, in_append_left, in_append_right, in_append_cases}
 use Rattle.rpki_cover.proofs.Nesting.{first_in}
@@ -39,7 +39,7 @@ ascends_append w m (p ∷ ps) qs a b f g = (
 -- two sets with a number in neither between them
 module _ (w m : ℕ) (S T : ℕ → Type 0) (low : (n : ℕ) → S n → n ≤ m) (high : (n : ℕ) → T n → m + 1 < n) where
   -- a prefix inside both together lies in one of them
-  one_side : (q : PrefixValue) → IsInside w (λ n. S n ⊎ T n) q → IsInside w S q ⊎ IsInside w T q
+  one_side : (q : PrefixValue) → LiesIn w (λ n. S n ⊎ T n) q → LiesIn w S q ⊎ LiesIn w T q
   one_side q i =
       elim (cases_lt m q.first) [
         | inl above ↦ inr (λ n h. elim (i n h) [ inl s ↦ absurd (let l : n ≤ m = low n s in let f : q.first ≤ n = h.from in omega arith) | inr t ↦ t ])

@@ -6,7 +6,7 @@ use Rattle.rpki_cover.proofs.Greatest.{Fits, IsGreatest}
 use Rattle.rpki_cover.proofs.Multiples.{IsMultiple, mod_multiple, nested, Nested}
 use Rattle.rpki_base.proofs.PrefixNumbers.{cleared_prefix, cleared_holds}
 use Rattle.rpki_addr.specs.Bits.{cleared}
-use Rattle.rpki_base.specs.Prefixes.{PrefixValue, IsPrefix, IsIn, IsInside, IsParent}
+use Rattle.rpki_base.specs.Prefixes.{PrefixValue, IsPrefix, IsIn, LiesIn, IsParent}
 
 -- the numbers from a to b
 abbrev pub InRange : ℕ → ℕ → ℕ → Type 0
@@ -22,18 +22,18 @@ pub first_in : (w : ℕ) (p : PrefixValue) → IsIn w p p.first
 first_in w p = record { from = omega arith; upto = (let h : 0 < 2 ^ (w - p.len) = pow_pos (w - p.len) in omega arith) }
 
 -- a prefix is inside the range exactly where its bounds are
-pub within_of : (w a b : ℕ) (p : PrefixValue) → IsInside w (InRange a b) p → Within w p a b
+pub within_of : (w a b : ℕ) (p : PrefixValue) → LiesIn w (InRange a b) p → Within w p a b
 within_of w a b p i =
     let h : 0 < 2 ^ (w - p.len) = pow_pos (w - p.len) in
     let f : InRange a b p.first = i p.first (first_in w p) in
     let l : InRange a b (p.first + 2 ^ (w - p.len) - 1) = i (p.first + 2 ^ (w - p.len) - 1) (record { from = omega arith; upto = omega arith }) in
     record { from = f.0; upto = (let u : p.first + 2 ^ (w - p.len) - 1 ≤ b = l.1 in omega arith) }
 
-pub of_within : (w a b : ℕ) (p : PrefixValue) → Within w p a b → IsInside w (InRange a b) p
+pub of_within : (w a b : ℕ) (p : PrefixValue) → Within w p a b → LiesIn w (InRange a b) p
 of_within w a b p i n h = (omega (arith, i.from, h.from), omega (arith, i.upto, h.upto))
 
 -- a prefix is inside another by its bounds
-pub inside_of : (w : ℕ) (q p : PrefixValue) → p.first ≤ q.first → q.first + 2 ^ (w - q.len) ≤ p.first + 2 ^ (w - p.len) → IsInside w (IsIn w p) q
+pub inside_of : (w : ℕ) (q p : PrefixValue) → p.first ≤ q.first → q.first + 2 ^ (w - q.len) ≤ p.first + 2 ^ (w - p.len) → LiesIn w (IsIn w p) q
 inside_of w q p h k n i = record { from = omega (arith, i.from); upto = omega (arith, i.upto) }
 
 -- its first number is a multiple of how many it has

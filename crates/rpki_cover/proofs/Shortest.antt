@@ -7,7 +7,7 @@ use Rattle.rpki_cover.proofs.Multiples.{multiple_mod}
 use Rattle.rpki_cover.proofs.Nesting.{InRange, first_in}
 use Rattle.rpki_cover.proofs.CoverList.{CoverOf, cover_list_covers}
 use Rattle.rpki_cover.specs.Walk.{cover_list}
-use Rattle.rpki_base.specs.Prefixes.{PrefixValue, IsPrefix, IsIn, IsInside}
+use Rattle.rpki_base.specs.Prefixes.{PrefixValue, IsPrefix, IsIn, LiesIn}
 use Rattle.rpki_cover.proofs.Unique.{one_cover_list}
 use Rattle.rpki_cover.specs.Covers.{Ascends, IsCoverList, HasUnion, IsShortest, IsShortestCover}
 
@@ -67,7 +67,7 @@ module _ (w : ℕ) (S : ℕ → Type 0) (ps : List PrefixValue) (c : CoverOf w S
     (λ s.
         let one : PrefixValue = record { first = n; len = w } in
         let e : w - w ≡ 0 = omega arith in let e' : 2 ^ (w - w) ≡ 1 = ap (λ i. 2 ^ i) e in
-        let inside : IsInside w S (record { first = n; len = w }) = λ m i.
+        let inside : LiesIn w S (record { first = n; len = w }) = λ m i.
         (let f : n ≤ m = i.from in let u : m < n + 2 ^ (w - w) = i.upto in
         let q : n ≡ m = omega (arith, e') in subst S q s) in
         let (p, i, h) = c.nests (record { first = n; len = w }) (single w n (small n s)) inside in
@@ -79,7 +79,7 @@ module _ (w : ℕ) (S : ℕ → Type 0) (ps : List PrefixValue) (c : CoverOf w S
   shortest_from qs are union = pigeon w ps qs c.ascending (λ p i.
       let s : S p.first = (c.sound p i).inside p.first (first_in w p) in
       let (q, j, h) = (union p.first).0 s in
-      let inside : IsInside w S q = λ n k. (union n).1 (q, j, k) in
+      let inside : LiesIn w S q = λ n k. (union n).1 (q, j, k) in
       let (r, k, l) = c.nests q (at_all (IsPrefix w) qs are q (in_of qs q j)) inside in
       let e : r ≡ p = same_by_number w ps r p p.first c.ascending k i (l p.first h) (first_in w p) in
       record { by_ = q; there = in_of qs q j; starts = subst (λ (x : PrefixValue). IsIn w x q.first) e (l q.first (first_in w q)) })

@@ -16,8 +16,8 @@ tlv value = record { tag = value.tag; content = value.octets.now }
 abbrev pub content_octets : Content → List ℕ
 content_octets value = value.octets.now
 
-abbrev pub bits_of : BitString → Bits
-bits_of b = record { unused = b.unused; octets = b.octets.now }
+abbrev pub bit_string_of : BitString → Bits
+bit_string_of b = record { unused = b.unused; octets = b.octets.now }
 
 -- what is promised of a cursor that takes all values of the grammars; every cursor does
 abbrev pub Lenient : Cursor → Type 0 → Type 0

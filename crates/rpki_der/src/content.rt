@@ -29,7 +29,7 @@ impl<'a> Content<'a> {
     ghost use Rattle.std.specs.Prelude.{◌≡◌, Ok};
     ghost use Rattle.rpki_der.specs.Der.{IsBitContent, IsNothing, IsUnsigned};
     ghost use Rattle.rpki_der.specs.Reading.{Gives, bits, nothing, unsigned};
-    ghost use Rattle.rpki_der.specs.Views.{LenientIn, Parses, bits_of, content_octets, left, tlv};
+    ghost use Rattle.rpki_der.specs.Views.{LenientIn, Parses, bit_string_of, content_octets, left, tlv};
 
     /// The tag octet.
     pub fn tag(&self) -> u8
@@ -63,8 +63,9 @@ impl<'a> Content<'a> {
     /// The content as a BIT STRING (X.690, 8.6.2), else `BadBitString`.
     pub fn to_bit_string(&self) -> Result<BitString<'a>, DerError>
         ensures reads { LenientIn self.now
-            (Parses IsBitContent bits_of (content_octets self.now) result) }
-        ensures exact { LenientIn self.now (Gives bits_of result (bits (content_octets self.now))) }
+            (Parses IsBitContent bit_string_of (content_octets self.now) result) }
+        ensures exact { LenientIn self.now
+            (Gives bit_string_of result (bits (content_octets self.now))) }
     {
         self.parse_bit_string()
     }
@@ -89,7 +90,7 @@ impl<'a> Content<'a> {
 // follows from `exact` by a theorem on the grammar.
 impl<'a> Content<'a> {
     ghost use Rattle.rpki_der.specs.Reading.{Gives, bits, nothing, unsigned};
-    ghost use Rattle.rpki_der.specs.Views.{bits_of, content_octets};
+    ghost use Rattle.rpki_der.specs.Views.{bit_string_of, content_octets};
 
     #[tactic(auto, unfolding(crate::specs::Reading::unsigned))]
     fn parse_u32(&self) -> Result<u32, DerError>
@@ -111,7 +112,7 @@ impl<'a> Content<'a> {
 
     #[tactic(auto, unfolding(crate::specs::Reading::bits))]
     fn parse_bit_string(&self) -> Result<BitString<'a>, DerError>
-        ensures exact { Gives bits_of result (bits (content_octets self.now)) }
+        ensures exact { Gives bit_string_of result (bits (content_octets self.now)) }
     {
         let [unused, octets @ ..] = self.octets else {
             return Err(DerError::BadBitString);
@@ -137,32 +138,32 @@ impl<'a> Content<'a> {
 impl<'a> BitString<'a> {
     ghost use Rattle.std.specs.Prelude.{◌≡◌, length};
     ghost use Rattle.rpki_der.specs.Der.{bit_count};
-    ghost use Rattle.rpki_der.specs.Views.{bits_of};
+    ghost use Rattle.rpki_der.specs.Views.{bit_string_of};
 
     /// How many bits of the last octet are unused: 0 to 7, and 0 where there is no octet.
     pub fn unused(&self) -> u8
-        ensures unused { result ≡ (bits_of self.now).unused }
+        ensures unused { result ≡ (bit_string_of self.now).unused }
     {
         self.unused
     }
 
     /// The octets as they stand, the unused bits among them.
     pub fn octets(&self) -> &'a [u8]
-        ensures octets { result.now ≡ (bits_of self.now).octets }
+        ensures octets { result.now ≡ (bit_string_of self.now).octets }
     {
         self.octets
     }
 
     /// How many octets there are.
     pub fn octet_len(&self) -> usize
-        ensures len { result ≡ length (bits_of self.now).octets }
+        ensures len { result ≡ length (bit_string_of self.now).octets }
     {
         self.octets.len()
     }
 
     /// How many bits are used.
     pub fn bit_len(&self) -> u128
-        ensures len { result ≡ bit_count (bits_of self.now) }
+        ensures len { result ≡ bit_count (bit_string_of self.now) }
     {
         8 * self.octets.len() as u128 - self.unused as u128
     }

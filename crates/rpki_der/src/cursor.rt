@@ -21,7 +21,7 @@ impl<'a> Cursor<'a> {
     ghost use Rattle.std.specs.Prelude.{◌≡◌, ◌==◌, length, option_map, slice_get};
     ghost use Rattle.rpki_der.specs.Der.{IsBitString, IsNull, IsOctetString, IsSequence, IsTlv, IsU32};
     ghost use Rattle.rpki_der.specs.Reading.{Gives, bit_string_at, ended, null_at, optional, tagged_at, u32_at, value_at};
-    ghost use Rattle.rpki_der.specs.Views.{Lenient, Reads, ReadsOptional, Takes, bits_of, left, tlv};
+    ghost use Rattle.rpki_der.specs.Views.{Lenient, Reads, ReadsOptional, Takes, bit_string_of, left, tlv};
 
     /// A cursor at the first of the octets.
     pub fn new(octets: &'a [u8]) -> Cursor<'a>
@@ -96,8 +96,10 @@ impl<'a> Cursor<'a> {
     /// The faults are those of `take_value`; `BadTag` also where another value stands there, and
     /// `BadBitString` for any other content.
     pub fn take_bit_string(&mut self) -> Result<BitString<'a>, DerError>
-        ensures reads { Lenient self.old (Reads IsBitString bits_of self.old self.new result) }
-        ensures exact { Lenient self.old (Takes bits_of self.old self.new result bit_string_at) }
+        ensures reads { Lenient self.old
+            (Reads IsBitString bit_string_of self.old self.new result) }
+        ensures exact { Lenient self.old
+            (Takes bit_string_of self.old self.new result bit_string_at) }
     {
         self.next_bit_string()
     }
@@ -139,7 +141,7 @@ impl<'a> Cursor<'a> {
 impl<'a> Cursor<'a> {
     ghost use Rattle.std.specs.Prelude.{option_map};
     ghost use Rattle.rpki_der.specs.Reading.{bit_string_at, null_at, optional, tagged_at, u32_at, value_at};
-    ghost use Rattle.rpki_der.specs.Views.{Takes, bits_of, content_octets, left, tlv};
+    ghost use Rattle.rpki_der.specs.Views.{Takes, bit_string_of, content_octets, left, tlv};
 
     fn next_value(&mut self) -> Result<Content<'a>, DerError>
         ensures exact { Takes tlv self.old self.new result value_at }
@@ -189,7 +191,7 @@ impl<'a> Cursor<'a> {
 
     #[tactic(auto, unfolding(crate::specs::Reading::refined))]
     fn next_bit_string(&mut self) -> Result<BitString<'a>, DerError>
-        ensures exact { Takes bits_of self.old self.new result bit_string_at }
+        ensures exact { Takes bit_string_of self.old self.new result bit_string_at }
     {
         let mut ahead = *self;
         let bits = ahead.next_tagged(tag::BIT_STRING)?.to_bit_string()?;

@@ -13,7 +13,7 @@ use Rattle.rpki_der.proofs.Contents.{bits_check}
 use Rattle.rpki_der.proofs.Readings.{IsTagged, fits_content, refined_reading, same_reading, tagged_reading}
 use Rattle.rpki_ip.specs.declared.family.AddressFamily.{AddressFamily}
 use Rattle.rpki_ip.specs.declared.family.AddressFamily.TheVariants.{Ipv4, Ipv6}
-use Rattle.rpki_ip.specs.FamilyDer.{SaysFamily, IsFamilyDer, family_octets, family_of, family_at}
+use Rattle.rpki_ip.specs.FamilyDer.{SaysFamily, IsFamilyDer, family_octets, family_of_octets, family_at}
 use Rattle.rpki_ip.specs.PrefixDer.{SaysPrefix, IsPrefixContent, IsPrefixDer, prefix_of, prefix_in, prefix_at}
 use Rattle.rpki_ip.specs.RangeDer.{IsRangeDer, IsSpan, SaysRange, range_in, span_of}
 use Rattle.rpki_ip.specs.Ranges.{RangeValue}
@@ -53,25 +53,25 @@ family_by content f false true t s e = subst (SaysFamily content) (ok_is Ipv6 f 
 family_by content f false false t s e = absurd cc
 
 -- a family that is read is said
-family_says : (content : List ℕ) (f : AddressFamily) → family_of content ≡ Ok f → SaysFamily content f
-unfolding family_of
+family_says : (content : List ℕ) (f : AddressFamily) → family_of_octets content ≡ Ok f → SaysFamily content f
+unfolding family_of_octets
 family_says content f e = family_by content f _ _ refl refl e
 
 -- the octets of a family are read
-family_back : (f : AddressFamily) → family_of (family_octets f) ≡ Ok f
-unfolding family_of
+family_back : (f : AddressFamily) → family_of_octets (family_octets f) ≡ Ok f
+unfolding family_of_octets
 family_back Ipv4 = refl
 family_back Ipv6 = refl
 
 -- the two together
-pub family_check : IsCheck (λ _. Unit {0}) SaysFamily family_of
-family_check = record { takes = λ content f fits e. family_says content f e; again = λ content f s. ap family_of s ∙ family_back f }
+pub family_check : IsCheck (λ _. Unit {0}) SaysFamily family_of_octets
+family_check = record { takes = λ content f fits e. family_says content f e; again = λ content f s. ap family_of_octets s ∙ family_back f }
 
 -- an OCTET STRING of a family
 pub family_reading : IsReading IsFamilyDer family_at
 family_reading =
     same_reading (Refines (IsTagged 4) SaysFamily) IsFamilyDer family_at (λ bytes f fits is. subst (IsTagged 4 bytes) is.2 is.1) (λ bytes f is. (family_octets f, is, refl))
-    (refined_reading (IsTagged 4) SaysFamily (λ _. Unit {0}) (tagged_at 4) family_of (tagged_reading 4) (λ front content is fits. tt) family_check)
+    (refined_reading (IsTagged 4) SaysFamily (λ _. Unit {0}) (tagged_at 4) family_of_octets (tagged_reading 4) (λ front content is fits. tt) family_check)
 
 -- ---- prefixes
 

@@ -25,11 +25,11 @@ family_der family = octet_string_value (family_octets family)
 
 -- ---- reading
 
-unfoldable pub family_of : List ℕ → Result AddressFamily DerError
-family_of content =
+unfoldable pub family_of_octets : List ℕ → Result AddressFamily DerError
+family_of_octets content =
     if (length content == 2) && (slice_index content 0 == 0) && (slice_index content 1 == 1) then Ok Ipv4 else
     if (length content == 2) && (slice_index content 0 == 0) && (slice_index content 1 == 2) then Ok Ipv6 else
     Err BadFamily
 
 abbrev pub family_at : List ℕ → Result (AddressFamily × List ℕ) DerError
-family_at = refined (tagged_at 4) family_of
+family_at = refined (tagged_at 4) family_of_octets

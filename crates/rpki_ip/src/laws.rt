@@ -10,7 +10,7 @@ use rpki_addr::bits::Addr;
 
 /// Addresses are in order as their numbers. Addresses, prefixes and ranges are equal exactly where they are the same:
 /// by their numbers, by the first address and the length, by the bounds.
-pub fn orders()
+pub fn orders_and_equality()
     ensures order { (a b : ℕ) → ⟦<Addr as Ord>⟧.cmp a b ≡ nat_cmp a b }
     ensures addr { (a b : ℕ) → IsTrue (⟦<Addr as PartialEq>⟧.eq a b) ↔ (a ≡ b) }
     ensures prefix { (p q : PrefixValue) → IsTrue (⟦<Prefix as PartialEq>⟧.eq p q) ↔ (p ≡ q) }

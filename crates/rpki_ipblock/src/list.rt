@@ -101,7 +101,7 @@ pub fn read_blocks<A: Allocator>(
 }
 
 /// The family of a list that tells none.
-fn family_of(text: &str) -> AddressFamily
+fn family_of_text(text: &str) -> AddressFamily
     ensures { IsFamilyOf text.now result }
 {
     if has_byte(b':', text) {
@@ -127,7 +127,7 @@ pub fn read_ip_blocks<A: Allocator>(
         → MatchResult result (λ v. map ip_bounds v.items ≡ map ip_bounds blocks) IsMemory }
 {
     let reader = ByColon {
-        family: family_of(text),
+        family: family_of_text(text),
     };
     read_elements(alloc, &reader, text)
 }

@@ -18,9 +18,9 @@ abbrev pub set_text : AddressFamily → Runs → List ℕ
 set_text family set = block_list_text family (map new_ip_block set)
 
 -- what is printed of addresses which are claimed and which the issuer doesn't have
-abbrev pub overclaimed_text : AddressFamily → Runs → List ℕ
-overclaimed_text Ipv4 excess = codes "overclaimed IPv4 resources: " ++ set_text Ipv4 excess
-overclaimed_text Ipv6 excess = codes "overclaimed IPv6 resources: " ++ set_text Ipv6 excess
+abbrev pub overclaimed_ip_text : AddressFamily → Runs → List ℕ
+overclaimed_ip_text Ipv4 excess = codes "overclaimed IPv4 resources: " ++ set_text Ipv4 excess
+overclaimed_ip_text Ipv6 excess = codes "overclaimed IPv6 resources: " ++ set_text Ipv6 excess
 
 -- the runs of a set of addresses, which are below 2 ^ 128
 abbrev pub IsIpSet : Runs → Type 0

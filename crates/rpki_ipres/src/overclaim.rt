@@ -4,7 +4,7 @@ ghost use Rattle.rpki_blocks.specs.Equality.{same_runs, runs_per, runs_equiv};
 ghost use Rattle.rpki_chain.specs.Runs.{Holds};
 ghost use Rattle.rpki_ip.specs.Whole.{IsWhole};
 ghost use Rattle.rpki_ip.specs.declared.family.AddressFamily.TheVariants.{Ipv4, Ipv6};
-ghost use Rattle.rpki_ipres.specs.SetText.{overclaimed_text};
+ghost use Rattle.rpki_ipres.specs.SetText.{overclaimed_ip_text};
 
 use crate::blocks::IpBlocks;
 use rpki_chain::set::BlockSet;
@@ -153,7 +153,7 @@ impl<A: Allocator> Eq for OverclaimedIpv4Resources<A> {
 /// Prints the blocks of the excess as those of IPv4, ascending, joined by a comma and a space, after a text of what it
 /// is.
 impl<A: Allocator> fmt::Display for OverclaimedIpv4Resources<A> {
-    ghost output = { λ excess. Some (overclaimed_text Ipv4 excess) };
+    ghost output = { λ excess. Some (overclaimed_ip_text Ipv4 excess) };
 
     fn fmt<W: fmt::Write>(&self, f: &mut fmt::Formatter<W>) -> fmt::Result {
         f.write_str("overclaimed IPv4 resources: ")?;
@@ -216,7 +216,7 @@ impl<A: Allocator> Eq for OverclaimedIpv6Resources<A> {
 /// Prints the blocks of the excess as those of IPv6, ascending, joined by a comma and a space, after a text of what it
 /// is.
 impl<A: Allocator> fmt::Display for OverclaimedIpv6Resources<A> {
-    ghost output = { λ excess. Some (overclaimed_text Ipv6 excess) };
+    ghost output = { λ excess. Some (overclaimed_ip_text Ipv6 excess) };
 
     fn fmt<W: fmt::Write>(&self, f: &mut fmt::Formatter<W>) -> fmt::Result {
         f.write_str("overclaimed IPv6 resources: ")?;

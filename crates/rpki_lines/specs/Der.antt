@@ -42,13 +42,13 @@ abbrev pub HasIpResourcesFault : AddressFamily → List ℕ → FromStrError →
 HasIpResourcesFault family list fault = (list ≢ codes "inherit") × HasBlocksFault family list fault
 
 -- the octets of families of which this one alone has resources
-abbrev pub family_octets : AddressFamily → Claim → List ℕ
-family_octets Ipv4 claim = ip_families_der claim Missing
-family_octets Ipv6 claim = ip_families_der Missing claim
+abbrev pub one_family_der : AddressFamily → Claim → List ℕ
+one_family_der Ipv4 claim = ip_families_der claim Missing
+one_family_der Ipv6 claim = ip_families_der Missing claim
 
 -- to a text of the resources of a family
 abbrev pub IsDerIp : AddressFamily → List ℕ → List ℕ → Type 0
-IsDerIp family list text = ShowsValueOrFault (IsIpResourcesText family list) (octets_text (family_octets family)) (HasIpResourcesFault family list) IpFaults.ip_from_str_error_text text
+IsDerIp family list text = ShowsValueOrFault (IsIpResourcesText family list) (octets_text (one_family_der family)) (HasIpResourcesFault family list) IpFaults.ip_from_str_error_text text
 
 -- to a text of resources of this kind
 pub record IsDerAnswer (kind list text : List ℕ) : Type 0 where

@@ -109,11 +109,11 @@ IsPathOf {E} Writes list_text excess_text Fails fault_text path text =
 
 -- of AS numbers
 abbrev pub IsPathAs : List ℕ → List ℕ → Type 0
-IsPathAs = IsPathOf IsAsListText as_list_text AsFaults.overclaimed_text HasAsListFault AsBlockFaults.as_from_str_error_text
+IsPathAs = IsPathOf IsAsListText as_list_text AsFaults.overclaimed_as_text HasAsListFault AsBlockFaults.as_from_str_error_text
 
 -- of addresses of a family
 abbrev pub IsPathIp : AddressFamily → List ℕ → List ℕ → Type 0
-IsPathIp family = IsPathOf (λ list. IsSetOf (HasBlocks family list)) (set_text family) (IpTexts.overclaimed_text family) (HasBlocksFault family) IpFaults.ip_from_str_error_text
+IsPathIp family = IsPathOf (λ list. IsSetOf (HasBlocks family list)) (set_text family) (IpTexts.overclaimed_ip_text family) (HasBlocksFault family) IpFaults.ip_from_str_error_text
 
 -- to a path of this kind
 pub record IsPathAnswer (kind path text : List ℕ) : Type 0 where

@@ -4,7 +4,7 @@ ghost use Rattle.std.specs.String.{string_bytes};
 ghost use Rattle.rpki_text.specs.Memory.{IfRefused};
 ghost use Rattle.rpki_as.specs.AsDer.{as_resources_octets};
 ghost use Rattle.rpki_ipblock.specs.ListText.{HasBlocksFault};
-ghost use Rattle.rpki_lines.specs.Der.{HasIpResourcesFault, IsDerAnswer, IsDerAs, IsDerIp, IsIpResourcesText, IsListed, family_octets, octets_text};
+ghost use Rattle.rpki_lines.specs.Der.{HasIpResourcesFault, IsDerAnswer, IsDerAs, IsDerIp, IsIpResourcesText, IsListed, one_family_der, octets_text};
 
 use crate::hexadecimal::hexadecimal_of;
 use crate::kind::{Kind, kind_named};
@@ -109,7 +109,7 @@ fn ip_octets<A: Allocator + Copy>(
     resources: &IpResources<A>,
 ) -> Result<String<A>, AllocError>
     ensures { IfOk result (λ text. string_bytes text
-        ≡ octets_text (family_octets family) resources.now) }
+        ≡ octets_text (one_family_der family) resources.now) }
 {
     if resources.is_missing() {
         return String::from_str(alloc, "missing");

@@ -7,7 +7,7 @@ ghost use Rattle.rpki_as.specs.ListText.{as_list_text};
 ghost use Rattle.rpki_ip.specs.Whole.{IsWhole};
 ghost use Rattle.rpki_ip.specs.declared.family.AddressFamily.TheVariants.{Ipv4};
 ghost use Rattle.rpki_ipres.specs.Resources.{IsWholeClaim};
-ghost use Rattle.rpki_ipres.specs.SetText.{overclaimed_text, set_text};
+ghost use Rattle.rpki_ipres.specs.SetText.{overclaimed_ip_text, set_text};
 ghost use Rattle.rpki_lines.specs.Path.{IsPathAnswer, IsPathAs, IsPathIp, ShowsPath, part_fault_text, refusal_text};
 ghost use Rattle.rpki_lines.specs.Shown.{error_line};
 
@@ -60,7 +60,7 @@ fn left_of_as<A: Allocator + Copy>(
     root: &AsBlocks<A>,
     steps: &[AsStep<A>],
 ) -> Result<String<A>, AllocError>
-    ensures { IfOk result (λ text. ShowsPath as_list_text AsFaults.overclaimed_text root.now
+    ensures { IfOk result (λ text. ShowsPath as_list_text AsFaults.overclaimed_as_text root.now
         steps.now (string_bytes text)) }
 {
     match root.verify_path(alloc, steps) {
@@ -95,7 +95,7 @@ fn left_of_ip<A: Allocator + Copy>(
 ) -> Result<String<A>, AllocError>
     requires { family ≡ Ipv4 → IsWhole (Holds root.now)
         × All (λ step. IsWholeClaim step.claim) steps.now }
-    ensures { IfOk result (λ text. ShowsPath (set_text family) (overclaimed_text family) root.now
+    ensures { IfOk result (λ text. ShowsPath (set_text family) (overclaimed_ip_text family) root.now
         steps.now (string_bytes text)) }
 {
     laws_of_whole_claims(); // called so that the proof sees that what is claimed too much is whole where all else is
@@ -114,7 +114,7 @@ fn refused_in<A: Allocator + Copy>(
 ) -> Result<String<A>, AllocError>
     requires { family ≡ Ipv4 → IsWhole (Holds refusal.fault) }
     ensures { IfOk result (λ text. string_bytes text
-        ≡ refusal_text (overclaimed_text family) refusal) }
+        ≡ refusal_text (overclaimed_ip_text family) refusal) }
 {
     match family {
         AddressFamily::Ipv4 => refused(alloc, refusal.step, refusal.fault.v4()),

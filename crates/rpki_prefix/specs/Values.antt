@@ -1,7 +1,7 @@
 -- Prefixes of addresses of one family (RFC 4632, 3.1; RFC 4291, 2.3).
 use Rattle.std.specs.Prelude.{◌≡◌, ◌≢◌, ℕ, ◌+◌, ◌-◌, ◌%◌, ◌^◌, ◌<◌, ◌≤◌, Bool, true, false, codes, List}
 use Rattle.rpki_addr.specs.Bits.{cleared}
-use Rattle.rpki_base.specs.Prefixes.{PrefixValue, IsPrefix, IsIn, IsInside, last_of}
+use Rattle.rpki_base.specs.Prefixes.{PrefixValue, IsPrefix, IsIn, LiesIn, last_of}
 use Rattle.rpki_addr.specs.declared.addr.IpAddr.{IpAddr}
 use Rattle.rpki_addr.specs.declared.addr.IpAddr.TheVariants.{V4, V6}
 use Rattle.rpki_prefix.specs.declared.error.PrefixError.{PrefixError}
@@ -78,7 +78,7 @@ HasRelaxedPrefixError a len NonZeroHost = ⊥
 -- both are of one family, and each address of q is one of p's
 pub record CoversPrefix (p q : FamilyPrefix) : Type 0 where
   pub family : is_v6 p.addr ≡ is_v6 q.addr
-  pub inside : IsInside (width q.addr) (IsIn (width p.addr) (interval p)) (interval q)
+  pub inside : LiesIn (width q.addr) (IsIn (width p.addr) (interval p)) (interval q)
 
 -- the words that describe an error
 abbrev pub prefix_error_text : PrefixError → List ℕ

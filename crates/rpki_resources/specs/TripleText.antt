@@ -30,15 +30,15 @@ pub record IsTripleText (a b c : List ℕ) (t : Triple) : Type 0 where
 
 -- ---- what is printed
 
-abbrev pub ipv4_text : Runs → List ℕ
-ipv4_text = set_text Ipv4
+abbrev pub ipv4_list_text : Runs → List ℕ
+ipv4_list_text = set_text Ipv4
 
-abbrev pub ipv6_text : Runs → List ℕ
-ipv6_text = set_text Ipv6
+abbrev pub ipv6_list_text : Runs → List ℕ
+ipv6_list_text = set_text Ipv6
 
 -- of a set: each kind with its list in quotes
 abbrev pub triple_text : Triple → List ℕ
-triple_text t = codes "asn: '" ++ as_list_text t.asn ++ codes "', ipv4: '" ++ ipv4_text t.ipv4 ++ codes "', ipv6: '" ++ ipv6_text t.ipv6 ++ codes "'"
+triple_text t = codes "asn: '" ++ as_list_text t.asn ++ codes "', ipv4: '" ++ ipv4_list_text t.ipv4 ++ codes "', ipv6: '" ++ ipv6_list_text t.ipv6 ++ codes "'"
 
 -- a kind and its list, and nothing where the list is empty
 abbrev pub kind_text : List ℕ → (Runs → List ℕ) → Runs → List ℕ
@@ -46,7 +46,7 @@ kind_text kind text set = if is_none set then [] else kind ++ text set
 
 -- a word, and the kinds of which there is anything
 abbrev pub change_text : List ℕ → Triple → List ℕ
-change_text word t = word ++ kind_text (codes " asn: ") as_list_text t.asn ++ kind_text (codes " ipv4: ") ipv4_text t.ipv4 ++ kind_text (codes " ipv6: ") ipv6_text t.ipv6
+change_text word t = word ++ kind_text (codes " asn: ") as_list_text t.asn ++ kind_text (codes " ipv4: ") ipv4_list_text t.ipv4 ++ kind_text (codes " ipv6: ") ipv6_list_text t.ipv6
 
 -- of what differs: what is added and what is removed, each where there is anything of it, with a space between them
 abbrev pub changes_text : Changes → List ℕ

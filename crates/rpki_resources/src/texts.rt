@@ -7,7 +7,7 @@ ghost use Rattle.rpki_as.specs.ListText.{as_list_text};
 ghost use Rattle.rpki_resources.specs.Triples.{Triple, IsTriple};
 ghost use Rattle.rpki_resources.specs.TripleFaults.{HasTripleFault, refusal_of};
 ghost use Rattle.rpki_resources.specs.declared.error.FromStrError.TheVariants.{Asn, Ipv4, Ipv6};
-ghost use Rattle.rpki_resources.specs.TripleText.{IsTripleText, change_text, changes_text, ipv4_text, ipv6_text, triple_text};
+ghost use Rattle.rpki_resources.specs.TripleText.{IsTripleText, change_text, changes_text, ipv4_list_text, ipv6_list_text, triple_text};
 
 use crate::diff::ResourceDiff;
 use crate::error::FromStrError;
@@ -64,7 +64,7 @@ impl<A: Allocator> ResourceSet<A> {
             (HasTripleFault asn.now ipv4.now ipv6.now) result }
         // What is printed of the three lists of a set is read as that set.
         ensures reads_back { (set : Triple) → IsTriple set → asn.now ≡ as_list_text set.asn
-            → ipv4.now ≡ ipv4_text set.ipv4 → ipv6.now ≡ ipv6_text set.ipv6
+            → ipv4.now ≡ ipv4_list_text set.ipv4 → ipv6.now ≡ ipv6_list_text set.ipv6
             → MatchResult result (λ read. read ≡ set) IsMemory }
     {
         let asn = match AsBlocks::from_str(alloc, asn) {

@@ -99,11 +99,11 @@ impl AddressFamily {
     ghost use Rattle.rpki_base.specs.DerReading.{if_tagged, skipping};
     ghost use Rattle.rpki_der.specs.Reading.{Gives};
     ghost use Rattle.rpki_der.specs.Views.{Takes};
-    ghost use Rattle.rpki_ip.specs.FamilyDer.{family_at, family_of};
+    ghost use Rattle.rpki_ip.specs.FamilyDer.{family_at, family_of_octets};
 
-    #[tactic(auto, unfolding(crate::specs::FamilyDer::family_of))]
+    #[tactic(auto, unfolding(crate::specs::FamilyDer::family_of_octets))]
     fn named_by(octets: &[u8]) -> Result<AddressFamily, DerError>
-        ensures exact { Gives (λ f. f) result (family_of octets.now) }
+        ensures exact { Gives (λ f. f) result (family_of_octets octets.now) }
     {
         match octets {
             [0, 1] => Ok(AddressFamily::Ipv4),

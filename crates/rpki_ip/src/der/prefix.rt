@@ -17,7 +17,7 @@ impl Prefix {
     ghost use Rattle.rpki_base.specs.Prefixes.{IsPrefix, PrefixValue};
     ghost use Rattle.rpki_der.specs.Reading.{Gives};
     ghost use Rattle.rpki_der.specs.Views.{Lenient, LenientIn, Parses, Reads, Takes, content_octets};
-    ghost use Rattle.rpki_der.specs.Views.{bits_of as bit_string_of};
+    ghost use Rattle.rpki_der.specs.Views.{bit_string_of};
     ghost use Rattle.rpki_ip.specs.Families.{bits_of};
     ghost use Rattle.rpki_ip.specs.PrefixDer.{IsPrefixContent, IsPrefixDer, SaysPrefix, prefix_at, prefix_der, prefix_in};
 
@@ -145,7 +145,7 @@ impl Prefix {
     ghost use Rattle.std.specs.Prelude.{◌≤◌};
     ghost use Rattle.rpki_der.specs.Reading.{Gives};
     ghost use Rattle.rpki_der.specs.Views.{Takes, content_octets};
-    ghost use Rattle.rpki_der.specs.Views.{bits_of as bit_string_of};
+    ghost use Rattle.rpki_der.specs.Views.{bit_string_of};
     ghost use Rattle.rpki_ip.specs.PrefixDer.{prefix_at, prefix_in, prefix_of};
 
     // The prefix of the bits, of at most `limit` bits.

@@ -15,15 +15,15 @@ is_same_pair_decides a b = (
 )
 
 pub returns-clause-value : goal.returns-clause-value
-returns-clause-value g c = one_answer _ _ c.have_same_bounds.ensures (pointwise_decides {E = is_same_pair} is_same_pair_decides _ _)
+returns-clause-value g c = one_answer _ _ c.are_same_blocks.ensures (pointwise_decides {E = is_same_pair} is_same_pair_decides _ _)
 
 pub returns-clause-covers : goal.returns-clause-covers
 returns-clause-covers g c =
     let bounds = g.T.Block.bounds in
     let self = c.args.self.now in
     let other = c.args.other.now in (
-      λ t n. (Covers-map bounds bounds _ _ n (c.have_same_bounds.ensures.0 t), Covers-map bounds bounds _ _ n (sym (c.have_same_bounds.ensures.0 t))),
-      λ h. c.have_same_bounds.ensures.1 (ap (map bounds) (IsChain-unique bounds g.T.Block.form _ _ self.is_chain other.is_chain h)),
+      λ t n. (Covers-map bounds bounds _ _ n (c.are_same_blocks.ensures.0 t), Covers-map bounds bounds _ _ n (sym (c.are_same_blocks.ensures.0 t))),
+      λ h. c.are_same_blocks.ensures.1 (ap (map bounds) (IsChain-unique bounds g.T.Block.form _ _ self.is_chain other.is_chain h)),
     )
 
 pub returns-clause-same : goal.returns-clause-same
@@ -31,6 +31,6 @@ returns-clause-same g c =
     let bounds = g.T.Block.bounds in
     let self = c.args.self.now in
     let other = c.args.other.now in (
-      λ t. IsChain-unique bounds g.T.Block.form _ _ self.is_chain other.is_chain (λ n. (Covers-map bounds bounds _ _ n (c.have_same_bounds.ensures.0 t), Covers-map bounds bounds _ _ n (sym (c.have_same_bounds.ensures.0 t)))),
-      λ e. c.have_same_bounds.ensures.1 (ap (map bounds) e),
+      λ t. IsChain-unique bounds g.T.Block.form _ _ self.is_chain other.is_chain (λ n. (Covers-map bounds bounds _ _ n (c.are_same_blocks.ensures.0 t), Covers-map bounds bounds _ _ n (sym (c.are_same_blocks.ensures.0 t)))),
+      λ e. c.are_same_blocks.ensures.1 (ap (map bounds) e),
     )

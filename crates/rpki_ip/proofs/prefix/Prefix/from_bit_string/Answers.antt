@@ -1,7 +1,7 @@
 -- What the reading gives is what the bits say by the rule.
 use Rattle.std.proofs.Common.{arith}
 use Rattle.rpki_der.specs.Der.{IsBits}
-use Rattle.rpki_der.specs.Views.{bits_of}
+use Rattle.rpki_der.specs.Views.{bit_string_of}
 use Rattle.rpki_ip.specs.PrefixDer.{SaysPrefix, prefix_of}
 use Rattle.rpki_ip.proofs.DerReadings.{bits_prefix_check, renamed}
 use Rattle.rpki_ip.proofs.prefix.Prefix.from_bit_string.Goals as goal
@@ -9,4 +9,4 @@ use Rattle.rpki_ip.proofs.prefix.Prefix.from_bit_string.Goals as goal
 pub returns : goal.returns
 returns c =
     let b = c.args.bits.now in
-    renamed IsBits (SaysPrefix 128) (prefix_of 128) (bits_of b) c.of_bits.result c.map_err.result _ (bits_prefix_check 128) (record { below = b.below; empty = λ z. omega (arith, b.counted, z) }) c.of_bits.ensures.exact c.map_err.ensures.cases
+    renamed IsBits (SaysPrefix 128) (prefix_of 128) (bit_string_of b) c.of_bits.result c.map_err.result _ (bits_prefix_check 128) (record { below = b.below; empty = λ z. omega (arith, b.counted, z) }) c.of_bits.ensures.exact c.map_err.ensures.cases

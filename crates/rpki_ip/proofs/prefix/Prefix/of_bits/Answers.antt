@@ -2,14 +2,14 @@
 use Rattle.std.proofs.Common.{◌≡◌, ◌≤◌, ◌+◌, ◌-◌, ◌*◌, ◌/◌, ◌^◌, ◌∙◌, length, ap, sym, arith}
 use Rattle.rpki_base.specs.Prefixes.{PrefixValue}
 use Rattle.rpki_der.specs.Der.{big_endian}
-use Rattle.rpki_der.specs.Views.{bits_of}
+use Rattle.rpki_der.specs.Views.{bit_string_of}
 use Rattle.rpki_ip.proofs.DerReadings.{prefix_again}
 use Rattle.rpki_ip.proofs.PrefixBits.{used_bits}
 use Rattle.rpki_ip.proofs.prefix.Prefix.of_bits.Goals as goal
 
 pub returns : goal.returns
 returns c =
-    let b = bits_of c.args.bits.now in
+    let b = bit_string_of c.args.bits.now in
     let counted : b.unused ≤ 8 * length b.octets = c.args.bits.now.counted in
     let few : length b.octets ≤ 16 = omega (arith, c.if-octet_len-gt16.false, c.octet_len.ensures.len) in
     let made : c.new.result.first ≡ c.beginning_with.result / 2 ^ (128 - c.bit_len-len.result) * 2 ^ (128 - c.bit_len-len.result) = ap (λ (p : PrefixValue). p.first) c.new.ensures.value in

@@ -2,7 +2,7 @@
 use Rattle.std.proofs.Common.{◌≡◌, arith}
 use Rattle.std.proofs.lemmas.Bool.Decides.{nat_tests}
 use Rattle.rpki_blocks.proofs.Sorts.{map-at}
-use Rattle.rpki_blocks.proofs.chain.have_same_bounds.Goals as goal
+use Rattle.rpki_blocks.proofs.chain.are_same_blocks.Goals as goal
 
 pub returns-then-not-is_equivalent : goal.returns-then-not-is_equivalent
 returns-then-not-is_equivalent g c = (

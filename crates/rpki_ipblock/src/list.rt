@@ -26,7 +26,8 @@ fn is_foreign(family: AddressFamily, text: &str) -> bool
 {
     match family {
         AddressFamily::Ipv4 => has_byte(b':', text),
-        AddressFamily::Ipv6 => has_byte(b'.', text) && !has_byte(b':', text),
+        // An IPv6 address has a colon near its head, so the search for it mostly ends there.
+        AddressFamily::Ipv6 => !has_byte(b':', text) && has_byte(b'.', text),
     }
 }
 

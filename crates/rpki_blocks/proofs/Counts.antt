@@ -1,5 +1,5 @@
 -- How often the blocks of a chain were read: once each by a walk, and by a search that halves once for each binary digit.
-use Rattle.std.proofs.Common.{add-one, ◌≡◌, ℕ, ◌+◌, ◌-◌, ◌*◌, ◌^◌, ◌<◌, ◌≤◌, ⊎_elim, List, length, Option, Some, None, is_some, if◌then◌else◌, ap, subst, arith}
+use Rattle.std.proofs.Common.{add-one, ◌≡◌, ℕ, ◌+◌, ◌-◌, ◌*◌, ◌^◌, ◌<◌, ◌≤◌, ⊎_elim, List, length, Option, Some, None, is_some, if◌then◌else◌, ap, arith}
 use Rattle.std.proofs.Math.Nat.{mul-le-mul_right, pow-le-pow_right, two-pow-succ}
 use Rattle.std.proofs.lemmas.Bool.{cases_lt}
 use Rattle.rpki_blocks.specs.Sets.{HoldsBlock}
@@ -14,14 +14,6 @@ module _ {B I : Type 0} (f : B → ℕ × ℕ) (number : I → ℕ) (last : ℕ)
   pub read_next : (xs : List B) (at : ℕ) (block : Option (I × I)) (count new : ℕ) → HoldsBlock f number last xs (at + 1) block → new ≡ count + (if is_some block then 1 else 0) → new + (length xs - (at + 1 + 1)) ≤ count + (length xs - (at + 1))
   read_next xs at None count new end is = let e : at + 1 ≡ length xs = end in omega arith
   read_next xs at (Some b) count new here is = let lt = here.0 in omega arith
-
-  -- a block at hand is one of the list
-  pub block_within : (xs : List B) (at : ℕ) (block : Option (I × I)) (b : I × I) → HoldsBlock f number last xs at block → block ≡ Some b → at < length xs
-  block_within xs at block b here is = (subst (HoldsBlock f number last xs at) is here).0
-
-  -- and ends no later than the kind's last number
-  pub block_to_last : (xs : List B) (at : ℕ) (block : Option (I × I)) (b : I × I) → HoldsBlock f number last xs at block → block ≡ Some b → number b.1 ≤ last
-  block_to_last xs at block b here is = (subst (HoldsBlock f number last xs at) is here).2
 
 -- each read halved what is searched, and so took one digit off
 abbrev pub Halved : ℕ → ℕ → ℕ → ℕ → Type 0

@@ -8,5 +8,4 @@ pub mod Owned
 pub mod Props
 pub mod Ranges
 pub mod Sets
-pub mod Turn
 pub mod View

@@ -4,7 +4,7 @@ ghost use Rattle.std.specs.List.Sorted.{IsNonDecreasingBy};
 ghost use Rattle.rpki_blocks.specs.Sets.{Covers, IsChain};
 
 use crate::block::Block;
-use crate::union::run_with;
+use crate::union::take_in;
 use std::alloc::{AllocError, Allocator};
 
 /// Makes an empty vector the chain of the numbers that the blocks cover, and answers that it did. It answers `false` where
@@ -32,7 +32,7 @@ pub fn join_ascending_into<T: Block, A: Allocator>(
         if next.0 < run.0 {
             return Ok(false);
         }
-        run = run_with(chain, run, next)?;
+        take_in(chain, &mut run, next)?;
     }
     chain.push(T::new(run.0, run.1))?;
     Ok(true)

@@ -1,8 +1,7 @@
 //! The numbers that one chain or another has.
-ghost use Rattle.std.specs.Prelude.{◌≡◌, ℕ, ◌+◌, ◌≤◌, ◌↔◌, ◌⊎◌, length, IfOk};
+ghost use Rattle.std.specs.Prelude.{◌≡◌, ℕ, ◌+◌, ◌-◌, ◌≤◌, ◌↔◌, ◌⊎◌, length, drop, IfOk, OnOk};
 ghost use Rattle.rpki_blocks.specs.Joining.{IsHeld, IsBehind};
-ghost use Rattle.rpki_blocks.specs.Sets.{IsWithin, Covers, IsChainOf, numbers};
-ghost use Rattle.rpki_blocks.specs.Turn.{IsTurn};
+ghost use Rattle.rpki_blocks.specs.Sets.{IsWithin, Covers, IsChainOf, HoldsBlock, numbers};
 
 use crate::block::Block;
 use crate::build::run_over;
@@ -10,64 +9,76 @@ use crate::owned::OwnedChain;
 use crate::reads::{Reads, read_at};
 use std::alloc::{AllocError, Allocator};
 
-/// Which of the next blocks of two chains begins first.
-pub enum Turn<I> {
-    /// Neither chain has one.
-    End,
-    /// The one chain's.
-    Own { min: I, max: I },
-    /// The other chain's.
-    Other { min: I, max: I },
-}
-
-/// Looks at the next blocks.
-fn next_turn<T: Block>(
-    own: Option<(T::Item, T::Item)>,
-    other: Option<(T::Item, T::Item)>,
-) -> Turn<T::Item>
-    ensures { IsTurn T.number own other result }
-{
-    match (own, other) {
-        (None, None) => Turn::End,
-        (Some((min, max)), None) => Turn::Own { min, max },
-        (None, Some((min, max))) => Turn::Other { min, max },
-        (Some((min, max)), Some((low, high))) => {
-            if min <= low {
-                Turn::Own { min, max }
-            } else {
-                Turn::Other {
-                    min: low,
-                    max: high,
-                }
-            }
-        }
-    }
-}
-
-/// The run at hand once the next bounds are taken in: the run over both where they overlap or touch. Else the run is
+/// Takes the next bounds into the run at hand: where they overlap or touch, it becomes the run over both. Else it is
 /// closed, which puts its block behind the chain, and the next bounds are the run at hand.
-pub fn run_with<T: Block, A: Allocator>(
+pub fn take_in<T: Block, A: Allocator>(
     chain: &mut Vec<T, A>,
-    run: (T::Item, T::Item),
+    run: &mut (T::Item, T::Item),
     next: (T::Item, T::Item),
-) -> Result<(T::Item, T::Item), AllocError>
-    requires run { IsBehind T.bounds T.form T.last chain.old.items (numbers T.number run) }
-    requires behind { T.number run.0 ≤ T.number next.0 }
+) -> Result<(), AllocError>
+    requires run { IsBehind T.bounds T.form T.last chain.old.items (numbers T.number run.old) }
+    requires behind { T.number run.old.0 ≤ T.number next.0 }
     requires ordered { T.number next.0 ≤ T.number next.1 }
     requires to_last { T.number next.1 ≤ T.last }
-    ensures run { IfOk result (λ r.
-        IsBehind T.bounds T.form T.last chain.new.items (numbers T.number r)) }
-    ensures behind { IfOk result (λ r. T.number r.0 ≤ T.number next.0) }
-    ensures held { IfOk result (λ r. (n : ℕ) →
-        IsHeld T.bounds chain.new.items (numbers T.number r) n ↔
-        (IsHeld T.bounds chain.old.items (numbers T.number run) n ⊎
+    ensures run { OnOk result (
+        IsBehind T.bounds T.form T.last chain.new.items (numbers T.number run.new)) }
+    ensures behind { OnOk result (T.number run.new.0 ≤ T.number next.0) }
+    ensures held { OnOk result ((n : ℕ) →
+        IsHeld T.bounds chain.new.items (numbers T.number run.new) n ↔
+        (IsHeld T.bounds chain.old.items (numbers T.number run.old) n ⊎
         IsWithin (numbers T.number next) n)) }
 {
-    if let Some(longer) = run_over::<T>(run, next) {
-        return Ok(longer);
+    if let Some(longer) = run_over::<T>(*run, next) {
+        *run = longer;
+        return Ok(());
     }
     chain.push(T::new(run.0, run.1))?;
-    Ok(next)
+    *run = next;
+    Ok(())
+}
+
+/// The one of two blocks that begins first.
+fn earlier<T: Block>(block: (T::Item, T::Item), other: (T::Item, T::Item)) -> (T::Item, T::Item)
+    ensures begins { T.number result.0 ≤ T.number block.0 }
+    ensures begins_other { T.number result.0 ≤ T.number other.0 }
+    ensures one { (result ≡ block) ⊎ (result ≡ other) }
+{
+    if block.0 <= other.0 { block } else { other }
+}
+
+/// The chain of what a chain and the run at hand hold, and of the blocks of another chain that are left. The first of them
+/// is at hand; those behind it are read once each.
+fn close_with<T: Block, A: Allocator, R: Reads<T>>(
+    mut chain: Vec<T, A>,
+    mut run: (T::Item, T::Item),
+    rest: &mut R,
+    mut at: usize,
+    mut block: (T::Item, T::Item),
+) -> Result<OwnedChain<T, A>, AllocError>
+    requires run { IsBehind T.bounds T.form T.last chain.items (numbers T.number run) }
+    requires behind { T.number run.0 ≤ T.number block.0 }
+    requires block { HoldsBlock T.bounds T.number T.last (R.blocks rest.old) at (Some block) }
+    ensures chain { IfOk result (IsChainOf T.bounds T.form (λ n.
+        IsHeld T.bounds chain.items (numbers T.number run) n ⊎
+        Covers T.bounds (drop at (R.blocks rest.old)) n)) }
+    ensures kept { R.blocks rest.new ≡ R.blocks rest.old }
+    ensures reads { R.count rest.new ≤
+        R.count rest.old + (length (R.blocks rest.old) - (at + 1)) }
+{
+    // The length is asked for what its contract tells: that the blocks are a chain, of fewer than 2^64 blocks.
+    let _len = rest.len();
+    // The run begins no later than the block at hand, and all blocks of `chain` end before it and don't touch it. A turn
+    // takes that block in, so the walk ends, and nothing is left then.
+    loop {
+        take_in(&mut chain, &mut run, block)?;
+        at += 1;
+        let Some(next) = read_at(rest, at) else {
+            break;
+        };
+        block = next;
+    }
+    chain.push(T::new(run.0, run.1))?;
+    Ok(OwnedChain::from_vec_unchecked(chain))
 }
 
 /// The chain of the numbers that one chain or the other has, as [`crate::chain::Chain::union`] answers it. Both together
@@ -88,33 +99,36 @@ pub fn union_counted<T: Block, A: Allocator, X: Reads<T>, Y: Reads<T>>(
 {
     // No more blocks than both have can come out, so the memory is taken once.
     let mut chain = Vec::with_capacity(alloc, own.len().saturating_add(other.len()))?;
+    let Some(mut own_block) = read_at(own, 0) else {
+        let Some(block) = read_at(other, 0) else {
+            return Ok(OwnedChain::empty());
+        };
+        return close_with(chain, block, other, 0, block);
+    };
+    let Some(mut other_block) = read_at(other, 0) else {
+        return close_with(chain, own_block, own, 0, own_block);
+    };
     let mut own_at = 0;
     let mut other_at = 0;
-    let mut own_block = read_at(own, 0);
-    let mut other_block = read_at(other, 0);
-    let mut run = match next_turn::<T>(own_block, other_block) {
-        Turn::End => return Ok(OwnedChain::empty()),
-        Turn::Own { min, max } => (min, max),
-        Turn::Other { min, max } => (min, max),
-    };
-    // A run is at hand, which begins no later than the blocks to come; all blocks of `chain` end before it and don't touch
+    // A run is at hand, which begins no later than the blocks at hand; all blocks of `chain` end before it and don't touch
     // it. At first it is the block that begins first, and the first turn takes it in once more. A turn is done with the
     // block that begins first, so the walk ends, and nothing that comes later reaches a run that was closed.
+    let mut run = earlier::<T>(own_block, other_block);
     loop {
-        match next_turn::<T>(own_block, other_block) {
-            Turn::End => break,
-            Turn::Own { min, max } => {
-                run = run_with(&mut chain, run, (min, max))?;
-                own_at += 1;
-                own_block = read_at(own, own_at);
-            }
-            Turn::Other { min, max } => {
-                run = run_with(&mut chain, run, (min, max))?;
-                other_at += 1;
-                other_block = read_at(other, other_at);
-            }
+        if own_block.0 <= other_block.0 {
+            take_in(&mut chain, &mut run, own_block)?;
+            own_at += 1;
+            let Some(next) = read_at(own, own_at) else {
+                return close_with(chain, run, other, other_at, other_block);
+            };
+            own_block = next;
+        } else {
+            take_in(&mut chain, &mut run, other_block)?;
+            other_at += 1;
+            let Some(next) = read_at(other, other_at) else {
+                return close_with(chain, run, own, own_at, own_block);
+            };
+            other_block = next;
         }
     }
-    chain.push(T::new(run.0, run.1))?;
-    Ok(OwnedChain::from_vec_unchecked(chain))
 }

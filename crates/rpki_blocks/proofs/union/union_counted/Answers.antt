@@ -1,190 +1,210 @@
--- Each turn takes in the block that begins first; at the end the last run is closed, and nothing is left.
-use Rattle.std.proofs.Common.{◌∙◌, ap, sym, arith}
-use Rattle.rpki_blocks.specs.Sets.{numbers}
-use Rattle.rpki_blocks.proofs.Counts.{read_first, read_next, block_within, block_to_last}
-use Rattle.rpki_blocks.proofs.Joining.{closed_run}
-use Rattle.rpki_blocks.proofs.Merges.{Merge-swap, merge-ordered, merge-later, merge-none, merge-start, merge-turn, merge-done, closed_union, union_few}
+-- Each turn takes in the block that begins first; where one chain ends, what is left of the other is taken in.
+use Rattle.std.proofs.Common.{◌≡◌, ℕ, ◌+◌, ◌≤◌, ◌⊎◌, ◌∙◌, inl, inr, ⊎_elim, Some, [], drop, arith}
+use Rattle.std.proofs.lemmas.Bool.Decides.{nat_tests}
+use Rattle.std.proofs.lemmas.Result.{IfOk-weaker}
+use Rattle.rpki_blocks.specs.Joining.{IsHeld, IsBehind}
+use Rattle.rpki_blocks.specs.Sets.{IsWithin, Covers, numbers}
+use Rattle.rpki_blocks.proofs.Counts.{read_first, read_next}
+use Rattle.rpki_blocks.proofs.Merges.{Side-first, Side-at, Side-ordered, Side-behind, Side-covers, Side-next, Side-waits, split-start, split-beside, split-swap, union_rest, union_few}
 use Rattle.rpki_blocks.proofs.union.union_counted.Goals as goal
-use Rattle.rpki_blocks.proofs.union.union_counted.Goals.{in-Own, in-Other}
 
-pub returns-in-End-clause-union : goal.returns-in-End-clause-union
-returns-in-End-clause-union g c =
-    let own = c.read_at-own_block.ensures in
-    let other = c.read_at-other_block.ensures in
-    rw c.empty.ensures (merge-none g.T.Block.bounds g.T.Block.form g.T.Block.number g.T.Block.last _ _ c.read_at-own_block.result c.read_at-other_block.result own.block other.block c.in-End.ensures.0 c.in-End.ensures.1)
+pub close_with-requires-clause-run : goal.close_with-requires-clause-run
+close_with-requires-clause-run g c =
+    let f = g.T.Block.bounds in
+    let form = g.T.Block.form in
+    let number = g.T.Block.number in
+    let last = g.T.Block.last in
+    let read = c.in-Some-read_at.ensures in
+    rw c.in_ok-chain.ensures.items (Side-behind f form number last _ 0 _ _ (Side-first f form number last _ 0 c.in-Some-read_at.block read.chain read.block))
 
-pub returns-in-End-clause-reads : goal.returns-in-End-clause-reads
-returns-in-End-clause-reads g c =
-    let own = c.read_at-own_block.ensures in
-    let other = c.read_at-other_block.ensures in
-    let own_reads = read_first g.T.Block.bounds g.T.Block.number g.T.Block.last _ _ _ _ own.block own.counted in
-    let other_reads = read_first g.T.Block.bounds g.T.Block.number g.T.Block.last _ _ _ _ other.block other.counted in
-    omega arith
-
-pub loop-min-init : goal.loop-min-init
-loop-min-init g c =
+pub returns-in_default-clause-union : goal.returns-in_default-clause-union
+returns-in_default-clause-union g c =
     let f = g.T.Block.bounds in
     let form = g.T.Block.form in
     let number = g.T.Block.number in
     let last = g.T.Block.last in
     let xs = g.X.Reads.blocks c.args.own.now in
     let ys = g.Y.Reads.blocks c.args.other.now in
-    let own = c.read_at-own_block.ensures in
-    let other = c.read_at-other_block.ensures in
-    record {
-      own_reads = read_first f number last _ _ _ _ own.block own.counted;
-      other_reads = read_first f number last _ _ _ _ other.block other.counted;
-      walk = rw c.in_ok-chain.ensures.items (elim c.match-next_turn.branch [
-        | in-Own w ↦ rw w.run-is (merge-start f form number last xs ys c.read_at-own_block.result c.read_at-other_block.result (w.in-Own.min, w.in-Own.max) own.chain other.chain own.block other.block w.in-Own.ensures.0 w.in-Own.ensures.1)
-        | in-Other w ↦ rw w.run-is (Merge-swap f form last _ _ _ _ _ _ _ _ (merge-start f form number last ys xs c.read_at-other_block.result c.read_at-own_block.result (w.in-Other.min, w.in-Other.max) other.chain own.chain other.block own.block w.in-Other.ensures.0 w.in-Other.ensures.1))
-      ]);
-      own_block = own.block;
-      other_block = other.block;
+    let b = c.in-Some-read_at.block in
+    let read = c.in-Some-read_at.ensures in
+    let All : ℕ → Type 0 = λ n. Covers f xs n ⊎ Covers f ys n in
+    let split = split-start f (numbers number b) All (λ n w. inr (Side-covers f form number last ys 0 b b (Side-first f form number last ys 0 b read.chain read.block) n w)) in
+    IfOk-weaker c.close_with.result _ _ (λ out h. union_rest f form (IsHeld f [] (numbers number b)) (Covers f ys) All xs 0 out c.in_default.ensures.block split h) (rw (c.in_ok-chain.ensures.items, read.kept) at c.close_with.ensures.chain)
+
+pub returns-in_default-clause-few : goal.returns-in_default-clause-few
+returns-in_default-clause-few g c = IfOk-weaker c.close_with.result _ _ (λ out h. union_few g.T.Block.bounds g.T.Block.form _ _ out h) (returns-in_default-clause-union g c)
+
+pub close_with-requires-in_default-read_at-2-clause-run : goal.close_with-requires-in_default-read_at-2-clause-run
+close_with-requires-in_default-read_at-2-clause-run g c =
+    let f = g.T.Block.bounds in
+    let form = g.T.Block.form in
+    let number = g.T.Block.number in
+    let last = g.T.Block.last in
+    let read = c.in-Some.ensures in
+    rw c.in_ok-chain.ensures.items (Side-behind f form number last _ 0 _ _ (Side-first f form number last _ 0 c.in-Some.own_block read.chain read.block))
+
+pub returns-in_default-read_at-2-clause-union : goal.returns-in_default-read_at-2-clause-union
+returns-in_default-read_at-2-clause-union g c =
+    let f = g.T.Block.bounds in
+    let form = g.T.Block.form in
+    let number = g.T.Block.number in
+    let last = g.T.Block.last in
+    let xs = g.X.Reads.blocks c.args.own.now in
+    let ys = g.Y.Reads.blocks c.args.other.now in
+    let b = c.in-Some.own_block in
+    let read = c.in-Some.ensures in
+    let All : ℕ → Type 0 = λ n. Covers f xs n ⊎ Covers f ys n in
+    let split = split-start f (numbers number b) All (λ n w. inl (Side-covers f form number last xs 0 b b (Side-first f form number last xs 0 b read.chain read.block) n w)) in
+    let swapped = split-swap (IsHeld f [] (numbers number b)) (Covers f xs) (Covers f ys) All split in
+    IfOk-weaker c.close_with-in_default-read_at-2.result _ _ (λ out h. union_rest f form (IsHeld f [] (numbers number b)) (Covers f xs) All ys 0 out c.in_default-read_at-2.ensures.block swapped h) (rw (c.in_ok-chain.ensures.items, read.kept) at c.close_with-in_default-read_at-2.ensures.chain)
+
+pub returns-in_default-read_at-2-clause-few : goal.returns-in_default-read_at-2-clause-few
+returns-in_default-read_at-2-clause-few g c = IfOk-weaker c.close_with-in_default-read_at-2.result _ _ (λ out h. union_few g.T.Block.bounds g.T.Block.form _ _ out h) (returns-in_default-read_at-2-clause-union g c)
+
+pub loop-chain-init : goal.loop-chain-init
+loop-chain-init g c =
+    let f = g.T.Block.bounds in
+    let form = g.T.Block.form in
+    let number = g.T.Block.number in
+    let last = g.T.Block.last in
+    let xs = g.X.Reads.blocks c.args.own.now in
+    let ys = g.Y.Reads.blocks c.args.other.now in
+    let own = c.in-Some.ensures in
+    let other = c.in-Some-read_at-2.ensures in
+    let b = c.in-Some.own_block in
+    let d = c.in-Some-read_at-2.other_block in
+    let run = c.earlier-run.result in
+    let first = c.earlier-run.ensures in
+    let side = Side-first f form number last xs 0 b own.chain own.block in
+    let other_side = Side-first f form number last ys 0 d other.chain other.block in
+    let start : IsBehind f form last [] (numbers number run) × ((n : ℕ) → IsWithin (numbers number run) n → Covers f xs n ⊎ Covers f ys n) =
+    ⊎_elim
+    (λ (e : run ≡ b). rw e (Side-behind f form number last xs 0 b b side, λ n i. inl (Side-covers f form number last xs 0 b b side n i)))
+    (λ (e : run ≡ d). rw e (Side-behind f form number last ys 0 d d other_side, λ n i. inr (Side-covers f form number last ys 0 d d other_side n i)))
+    first.one in
+    rw c.in_ok-chain.ensures.items record {
+      own_reads = read_first f number last xs (Some b) _ _ own.block own.counted;
+      other_reads = read_first f number last ys (Some d) _ _ other.block other.counted;
+      behind = start.0;
+      own_side = Side-waits f form number last xs 0 b b side run first.begins;
+      other_side = Side-waits f form number last ys 0 d d other_side run first.begins_other;
+      held = split-start f (numbers number run) (λ n. Covers f xs n ⊎ Covers f ys n) start.1;
       own_bound = own.bound;
       other_bound = other.bound;
       own_kept = own.kept;
       other_kept = other.kept;
     }
 
-pub run_with-requires-clause-behind : goal.run_with-requires-clause-behind
-run_with-requires-clause-behind g c = merge-later g.T.Block.bounds g.T.Block.form g.T.Block.number g.T.Block.last _ _ _ _ c.loop-min.own_block _ _ _ _ _ c.in-Own-next_turn.ensures.0 c.loop-min.invariant.walk
+pub take_in-requires-clause-ordered : goal.take_in-requires-clause-ordered
+take_in-requires-clause-ordered g c = Side-ordered g.T.Block.bounds g.T.Block.form g.T.Block.number g.T.Block.last _ _ _ _ c.loop-chain.invariant.own_side
 
-pub run_with-requires-clause-to_last : goal.run_with-requires-clause-to_last
-run_with-requires-clause-to_last g c = block_to_last g.T.Block.bounds g.T.Block.number g.T.Block.last _ _ c.loop-min.own_block (c.in-Own-next_turn.min, c.in-Own-next_turn.max) c.loop-min.invariant.own_block c.in-Own-next_turn.ensures.0
-
-pub run_with-requires-clause-ordered : goal.run_with-requires-clause-ordered
-run_with-requires-clause-ordered g c = merge-ordered g.T.Block.bounds g.T.Block.form g.T.Block.number g.T.Block.last _ _ _ _ c.loop-min.own_block _ _ _ _ _ c.in-Own-next_turn.ensures.0 c.loop-min.invariant.walk
-
-pub run_with-requires-in-Other-next_turn-clause-behind : goal.run_with-requires-in-Other-next_turn-clause-behind
-run_with-requires-in-Other-next_turn-clause-behind g c = merge-later g.T.Block.bounds g.T.Block.form g.T.Block.number g.T.Block.last _ _ _ _ c.loop-min.other_block _ _ _ _ _ c.in-Other-next_turn.ensures.0 (Merge-swap g.T.Block.bounds g.T.Block.form g.T.Block.last _ _ _ _ _ _ _ _ c.loop-min.invariant.walk)
-
-pub run_with-requires-in-Other-next_turn-clause-to_last : goal.run_with-requires-in-Other-next_turn-clause-to_last
-run_with-requires-in-Other-next_turn-clause-to_last g c = block_to_last g.T.Block.bounds g.T.Block.number g.T.Block.last _ _ c.loop-min.other_block (c.in-Other-next_turn.min, c.in-Other-next_turn.max) c.loop-min.invariant.other_block c.in-Other-next_turn.ensures.0
-
-pub run_with-requires-in-Other-next_turn-clause-ordered : goal.run_with-requires-in-Other-next_turn-clause-ordered
-run_with-requires-in-Other-next_turn-clause-ordered g c = merge-ordered g.T.Block.bounds g.T.Block.form g.T.Block.number g.T.Block.last _ _ _ _ c.loop-min.other_block _ _ _ _ _ c.in-Other-next_turn.ensures.0 (Merge-swap g.T.Block.bounds g.T.Block.form g.T.Block.last _ _ _ _ _ _ _ _ c.loop-min.invariant.walk)
-
-pub returns-in_err-run-in-Own-next_turn-clause-reads : goal.returns-in_err-run-in-Own-next_turn-clause-reads
-returns-in_err-run-in-Own-next_turn-clause-reads g c =
-    let own = c.loop-min.invariant.own_reads in
-    let other = c.loop-min.invariant.other_reads in
-    omega arith
-
-pub overflow_add-own_at : goal.overflow_add-own_at
-overflow_add-own_at g c =
-    let within = block_within g.T.Block.bounds g.T.Block.number g.T.Block.last _ c.loop-min.own_at c.loop-min.own_block (c.in-Own-next_turn.min, c.in-Own-next_turn.max) c.loop-min.invariant.own_block c.in-Own-next_turn.ensures.0 in
-    let bound = c.loop-min.invariant.own_bound in
-    omega arith
-
-pub read_at-own_block-requires-in-Own-next_turn : goal.read_at-own_block-requires-in-Own-next_turn
-read_at-own_block-requires-in-Own-next_turn g c =
-    let within = block_within g.T.Block.bounds g.T.Block.number g.T.Block.last _ c.loop-min.own_at c.loop-min.own_block (c.in-Own-next_turn.min, c.in-Own-next_turn.max) c.loop-min.invariant.own_block c.in-Own-next_turn.ensures.0 in
-    rw c.loop-min.invariant.own_kept (omega arith)
-
-pub loop-min-smaller-in-Own-next_turn : goal.loop-min-smaller-in-Own-next_turn
-loop-min-smaller-in-Own-next_turn g c =
-    let within = block_within g.T.Block.bounds g.T.Block.number g.T.Block.last _ c.loop-min.own_at c.loop-min.own_block (c.in-Own-next_turn.min, c.in-Own-next_turn.max) c.loop-min.invariant.own_block c.in-Own-next_turn.ensures.0 in
-    omega arith
-
-pub loop-min-preserved-in-Own-next_turn : goal.loop-min-preserved-in-Own-next_turn
-loop-min-preserved-in-Own-next_turn g c =
+pub returns-in_default-read_at-3-clause-union : goal.returns-in_default-read_at-3-clause-union
+returns-in_default-read_at-3-clause-union g c =
     let f = g.T.Block.bounds in
     let form = g.T.Block.form in
     let number = g.T.Block.number in
     let last = g.T.Block.last in
-    let inv = c.loop-min.invariant in
-    let read = c.read_at-own_block-in-Own-next_turn.ensures in
+    let xs = g.X.Reads.blocks c.args.own.now in
+    let ys = g.Y.Reads.blocks c.args.other.now in
+    let at = c.loop-chain.own_at in
+    let b = c.loop-chain.own_block in
+    let run = c.loop-chain.run in
+    let new = c.take_in.new.run in
+    let inv = c.loop-chain.invariant in
+    let step = c.in_ok-take_in.ensures in
+    let All : ℕ → Type 0 = λ n. Covers f xs n ⊎ Covers f ys n in
+    let split = split-beside f (IsHeld f c.loop-chain.chain.items (numbers number run)) (IsHeld f c.take_in.new.chain.items (numbers number new)) (λ n. Covers f (drop c.loop-chain.other_at ys) n) All xs at (numbers number b) (Side-at f form number last xs at b run inv.own_side) step.held inv.held in
+    IfOk-weaker c.close_with-in_default-read_at-3.result _ _ (λ out h. union_rest f form (IsHeld f c.take_in.new.chain.items (numbers number new)) (λ n. Covers f (drop c.loop-chain.other_at ys) n) All xs (at + 1) out (rw inv.own_kept at c.in_default-read_at-3.ensures.block) split h) (rw inv.other_kept at c.close_with-in_default-read_at-3.ensures.chain)
+
+pub returns-in_default-read_at-3-clause-few : goal.returns-in_default-read_at-3-clause-few
+returns-in_default-read_at-3-clause-few g c = IfOk-weaker c.close_with-in_default-read_at-3.result _ _ (λ out h. union_few g.T.Block.bounds g.T.Block.form _ _ out h) (returns-in_default-read_at-3-clause-union g c)
+
+pub loop-chain-preserved-then-le : goal.loop-chain-preserved-then-le
+loop-chain-preserved-then-le g c =
+    let f = g.T.Block.bounds in
+    let form = g.T.Block.form in
+    let number = g.T.Block.number in
+    let last = g.T.Block.last in
+    let xs = g.X.Reads.blocks c.args.own.now in
+    let ys = g.Y.Reads.blocks c.args.other.now in
+    let at = c.loop-chain.own_at in
+    let b = c.loop-chain.own_block in
+    let run = c.loop-chain.run in
+    let new = c.take_in.new.run in
+    let inv = c.loop-chain.invariant in
+    let step = c.in_ok-take_in.ensures in
+    let All : ℕ → Type 0 = λ n. Covers f xs n ⊎ Covers f ys n in
+    let split = split-beside f (IsHeld f c.loop-chain.chain.items (numbers number run)) (IsHeld f c.take_in.new.chain.items (numbers number new)) (λ n. Covers f (drop c.loop-chain.other_at ys) n) All xs at (numbers number b) (Side-at f form number last xs at b run inv.own_side) step.held inv.held in
+    let read = c.in-Some-read_at-3.ensures in
     let block = rw inv.own_kept at read.block in
-    let step = c.in_ok-run-in-Own-next_turn.ensures in
-    let more = read_next f number last _ c.loop-min.own_at c.read_at-own_block-in-Own-next_turn.result _ _ block read.counted in
+    let more = read_next f number last xs at (Some c.in-Some-read_at-3.next) _ _ block read.counted in
     let before = inv.own_reads in
     record {
       own_reads = omega arith;
       other_reads = inv.other_reads;
-      walk = merge-turn f form number last _ _ _ _ c.loop-min.own_block c.loop-min.other_block c.read_at-own_block-in-Own-next_turn.result c.in-Own-next_turn.min c.in-Own-next_turn.max _ _ _ _ inv.walk c.in-Own-next_turn.ensures.0 c.in-Own-next_turn.ensures.1 block step.run step.behind step.held;
-      own_block = block;
-      other_block = inv.other_block;
+      behind = step.run;
+      own_side = Side-next f form number last xs at b run inv.own_side c.in-Some-read_at-3.next new block step.behind;
+      other_side = Side-waits f form number last ys c.loop-chain.other_at c.loop-chain.other_block run inv.other_side new (let before = step.behind in let first : number b.0 ≤ number c.loop-chain.other_block.0 = grind (arith, nat_tests, g.met.T.Block.in_order, g.met.T.Item.Ord.matches_partial_cmp, c.if-le.ensures) in omega arith);
+      held = split;
       own_bound = inv.own_bound;
       other_bound = inv.other_bound;
       own_kept = read.kept ∙ inv.own_kept;
       other_kept = inv.other_kept;
     }
 
-pub returns-in_err-run-in-Other-next_turn-clause-reads : goal.returns-in_err-run-in-Other-next_turn-clause-reads
-returns-in_err-run-in-Other-next_turn-clause-reads g c =
-    let own = c.loop-min.invariant.own_reads in
-    let other = c.loop-min.invariant.other_reads in
-    omega arith
+pub take_in-requires-else-le-clause-ordered : goal.take_in-requires-else-le-clause-ordered
+take_in-requires-else-le-clause-ordered g c = Side-ordered g.T.Block.bounds g.T.Block.form g.T.Block.number g.T.Block.last _ _ _ _ c.loop-chain.invariant.other_side
 
-pub overflow_add-other_at : goal.overflow_add-other_at
-overflow_add-other_at g c =
-    let within = block_within g.T.Block.bounds g.T.Block.number g.T.Block.last _ c.loop-min.other_at c.loop-min.other_block (c.in-Other-next_turn.min, c.in-Other-next_turn.max) c.loop-min.invariant.other_block c.in-Other-next_turn.ensures.0 in
-    let bound = c.loop-min.invariant.other_bound in
-    omega arith
-
-pub read_at-other_block-requires-in-Other-next_turn : goal.read_at-other_block-requires-in-Other-next_turn
-read_at-other_block-requires-in-Other-next_turn g c =
-    let within = block_within g.T.Block.bounds g.T.Block.number g.T.Block.last _ c.loop-min.other_at c.loop-min.other_block (c.in-Other-next_turn.min, c.in-Other-next_turn.max) c.loop-min.invariant.other_block c.in-Other-next_turn.ensures.0 in
-    rw c.loop-min.invariant.other_kept (omega arith)
-
-pub loop-min-smaller : goal.loop-min-smaller
-loop-min-smaller g c =
-    let within = block_within g.T.Block.bounds g.T.Block.number g.T.Block.last _ c.loop-min.other_at c.loop-min.other_block (c.in-Other-next_turn.min, c.in-Other-next_turn.max) c.loop-min.invariant.other_block c.in-Other-next_turn.ensures.0 in
-    omega arith
-
-pub loop-min-preserved : goal.loop-min-preserved
-loop-min-preserved g c =
+pub returns-in_default-read_at-4-clause-union : goal.returns-in_default-read_at-4-clause-union
+returns-in_default-read_at-4-clause-union g c =
     let f = g.T.Block.bounds in
     let form = g.T.Block.form in
     let number = g.T.Block.number in
     let last = g.T.Block.last in
-    let inv = c.loop-min.invariant in
-    let read = c.read_at-other_block-in-Other-next_turn.ensures in
+    let xs = g.X.Reads.blocks c.args.own.now in
+    let ys = g.Y.Reads.blocks c.args.other.now in
+    let at = c.loop-chain.other_at in
+    let b = c.loop-chain.other_block in
+    let run = c.loop-chain.run in
+    let new = c.take_in-else-le.new.run in
+    let inv = c.loop-chain.invariant in
+    let step = c.in_ok-take_in-2.ensures in
+    let All : ℕ → Type 0 = λ n. Covers f xs n ⊎ Covers f ys n in
+    let split = split-beside f (IsHeld f c.loop-chain.chain.items (numbers number run)) (IsHeld f c.take_in-else-le.new.chain.items (numbers number new)) (λ n. Covers f (drop c.loop-chain.own_at xs) n) All ys at (numbers number b) (Side-at f form number last ys at b run inv.other_side) step.held (split-swap (IsHeld f c.loop-chain.chain.items (numbers number run)) (λ n. Covers f (drop c.loop-chain.own_at xs) n) (λ n. Covers f (drop at ys) n) All inv.held) in
+    IfOk-weaker c.close_with-in_default-read_at-4.result _ _ (λ out h. union_rest f form (IsHeld f c.take_in-else-le.new.chain.items (numbers number new)) (λ n. Covers f (drop c.loop-chain.own_at xs) n) All ys (at + 1) out (rw inv.other_kept at c.in_default-read_at-4.ensures.block) split h) (rw inv.own_kept at c.close_with-in_default-read_at-4.ensures.chain)
+
+pub returns-in_default-read_at-4-clause-few : goal.returns-in_default-read_at-4-clause-few
+returns-in_default-read_at-4-clause-few g c = IfOk-weaker c.close_with-in_default-read_at-4.result _ _ (λ out h. union_few g.T.Block.bounds g.T.Block.form _ _ out h) (returns-in_default-read_at-4-clause-union g c)
+
+pub loop-chain-preserved : goal.loop-chain-preserved
+loop-chain-preserved g c =
+    let f = g.T.Block.bounds in
+    let form = g.T.Block.form in
+    let number = g.T.Block.number in
+    let last = g.T.Block.last in
+    let xs = g.X.Reads.blocks c.args.own.now in
+    let ys = g.Y.Reads.blocks c.args.other.now in
+    let at = c.loop-chain.other_at in
+    let b = c.loop-chain.other_block in
+    let run = c.loop-chain.run in
+    let new = c.take_in-else-le.new.run in
+    let inv = c.loop-chain.invariant in
+    let step = c.in_ok-take_in-2.ensures in
+    let All : ℕ → Type 0 = λ n. Covers f xs n ⊎ Covers f ys n in
+    let split = split-beside f (IsHeld f c.loop-chain.chain.items (numbers number run)) (IsHeld f c.take_in-else-le.new.chain.items (numbers number new)) (λ n. Covers f (drop c.loop-chain.own_at xs) n) All ys at (numbers number b) (Side-at f form number last ys at b run inv.other_side) step.held (split-swap (IsHeld f c.loop-chain.chain.items (numbers number run)) (λ n. Covers f (drop c.loop-chain.own_at xs) n) (λ n. Covers f (drop at ys) n) All inv.held) in
+    let read = c.in-Some-read_at-4.ensures in
     let block = rw inv.other_kept at read.block in
-    let step = c.in_ok-run-in-Other-next_turn.ensures in
-    let more = read_next f number last _ c.loop-min.other_at c.read_at-other_block-in-Other-next_turn.result _ _ block read.counted in
+    let more = read_next f number last ys at (Some c.in-Some-read_at-4.next) _ _ block read.counted in
     let before = inv.other_reads in
     record {
       own_reads = inv.own_reads;
       other_reads = omega arith;
-      walk = Merge-swap f form last _ _ _ _ _ _ _ _ (merge-turn f form number last _ _ _ _ c.loop-min.other_block c.loop-min.own_block c.read_at-other_block-in-Other-next_turn.result c.in-Other-next_turn.min c.in-Other-next_turn.max _ _ _ _ (Merge-swap f form last _ _ _ _ _ _ _ _ inv.walk) c.in-Other-next_turn.ensures.0 c.in-Other-next_turn.ensures.1 block step.run step.behind step.held);
-      own_block = inv.own_block;
-      other_block = block;
+      behind = step.run;
+      own_side = Side-waits f form number last xs c.loop-chain.own_at c.loop-chain.own_block run inv.own_side new (let before = step.behind in let first : number b.0 ≤ number c.loop-chain.own_block.0 = grind (arith, nat_tests, g.met.T.Block.in_order, g.met.T.Item.Ord.matches_partial_cmp, c.if-le.ensures) in omega arith);
+      other_side = Side-next f form number last ys at b run inv.other_side c.in-Some-read_at-4.next new block step.behind;
+      held = split-swap (IsHeld f c.take_in-else-le.new.chain.items (numbers number new)) (λ n. Covers f (drop (at + 1) ys) n) (λ n. Covers f (drop c.loop-chain.own_at xs) n) All split;
       own_bound = inv.own_bound;
       other_bound = inv.other_bound;
       own_kept = inv.own_kept;
       other_kept = read.kept ∙ inv.other_kept;
     }
-
-pub returns-in_err-push-clause-reads : goal.returns-in_err-push-clause-reads
-returns-in_err-push-clause-reads g c =
-    let own = c.loop-min.invariant.own_reads in
-    let other = c.loop-min.invariant.other_reads in
-    omega arith
-
-pub from_vec_unchecked-requires : goal.from_vec_unchecked-requires
-from_vec_unchecked-requires g c =
-    let form = g.T.Block.form in
-    rw c.in_ok-push.ensures.items (closed_run g.T.Block.bounds form g.T.Block.last c.loop-min.chain.items (numbers g.T.Block.number c.loop-min.run) c.loop-min.invariant.walk.behind c.new.result c.new.ensures.bounds (c.new.ensures.value ∙ ap form (sym c.new.ensures.bounds)))
-
-pub returns-clause-union : goal.returns-clause-union
-returns-clause-union g c =
-    let f = g.T.Block.bounds in
-    let form = g.T.Block.form in
-    let number = g.T.Block.number in
-    let last = g.T.Block.last in
-    let out = c.loop-min.chain.items in
-    let run = numbers number c.loop-min.run in
-    let xs = g.X.Reads.blocks c.args.own.now in
-    let ys = g.Y.Reads.blocks c.args.other.now in
-    let walk = merge-done f form number last xs ys _ _ c.loop-min.own_block c.loop-min.other_block out run c.loop-min.invariant.walk c.in-End-next_turn.ensures.0 c.in-End-next_turn.ensures.1 in
-    rw (c.from_vec_unchecked.ensures, c.in_ok-push.ensures.items) (closed_union f form last xs ys out run walk c.loop-min.invariant.walk.behind c.new.result c.new.ensures.bounds (c.new.ensures.value ∙ ap form (sym c.new.ensures.bounds)))
-
-pub returns-clause-few : goal.returns-clause-few
-returns-clause-few g c = union_few g.T.Block.bounds g.T.Block.form _ _ _ (returns-clause-union g c)
-
-pub returns-clause-reads : goal.returns-clause-reads
-returns-clause-reads g c =
-    let own = c.loop-min.invariant.own_reads in
-    let other = c.loop-min.invariant.other_reads in
-    omega arith

@@ -1,15 +1,14 @@
 -- The turns of the walk over what two chains have in common, as the code takes them.
-use Rattle.std.proofs.Common.{◌≡◌, ℕ, ◌+◌, ◌<◌, ◌≤◌, ◌⊎◌, inl, inr, ⊎_elim, List, [], ◌∷◌, ◌++◌, length, get_or, take, refl, sym, ap, ◌∙◌, arith, Option, Some, None}
-use Rattle.std.specs.Option.{IfSome}
+use Rattle.std.proofs.Common.{◌≡◌, ℕ, ◌+◌, ◌<◌, ◌≤◌, ◌⊎◌, inl, inr, ⊎_elim, List, length, get_or, take, sym, subst, ap, ◌∙◌, arith, Option, Some, None}
 use Rattle.std.proofs.lemmas.List.{get_or-take, length-take-le}
 use Rattle.std.proofs.lemmas.List.Elements.{All-take}
-use Rattle.rpki_blocks.specs.Sets.{IsNew, IsChain, numbers, Covers}
-use Rattle.rpki_blocks.specs.Fit.{IsMeeting}
-use Rattle.rpki_blocks.specs.declared.common.Meeting.TheVariants as meeting
+use Rattle.rpki_blocks.specs.Sets.{IsNew, IsChain, IsChainOf, numbers, Covers}
+use Rattle.rpki_blocks.specs.Common.{IsCommonPushed}
 use Rattle.rpki_blocks.specs.declared.overhang.Overhang.{Overhang}
 use Rattle.rpki_blocks.specs.Overhang.{IsOverhang}
 use Rattle.rpki_blocks.proofs.Sides.{IsAt, bounds_of, IsAt-from, ordered_at, index_before, low_at}
-use Rattle.rpki_blocks.proofs.Meets.{Meet, Meet-swap, Meet-before, Meet-ends}
+use Rattle.rpki_blocks.proofs.Chains.{IsChainOf-from}
+use Rattle.rpki_blocks.proofs.Meets.{Meet, Meet-swap, Meet-before, Meet-ends, Meet-end}
 
 module _ {B : Type 0} (f : B → ℕ × ℕ) (form : ℕ × ℕ → B) where
   -- the first blocks of a chain are a chain
@@ -28,67 +27,47 @@ module _ {B I : Type 0} (f : B → ℕ × ℕ) (form : ℕ × ℕ → B) (number
   abbrev At : Option (I × I) → Option (ℕ × ℕ)
   At b = bounds_of number b
 
-  -- the block at hand is ordered
-  pub meet-ordered : (xs ys out : List B) (i j : ℕ) (own : Option (I × I)) (c : Option (ℕ × ℕ)) → Meet f form xs ys i (At own) j c out → IfSome own (λ b. number b.0 ≤ number b.1)
-  meet-ordered xs ys out i j None c w = tt
-  meet-ordered xs ys out i j (Some b) c w = ordered_at f form xs i (numbers number b) w.own_chain w.own_at
+  -- the blocks at hand are ordered
+  pub meet-ordered : (xs ys out : List B) (i j : ℕ) (b : I × I) (c : Option (ℕ × ℕ)) → Meet f form xs ys i (At (Some b)) j c out → number b.0 ≤ number b.1
+  meet-ordered xs ys out i j b c w = ordered_at f form xs i (numbers number b) w.own_chain w.own_at
 
-  -- the one chain's block ends before the other's
-  pub meet-own_before : (xs ys out : List B) (i j : ℕ) (own other next : Option (I × I)) → Meet f form xs ys i (At own) j (At other) out → IsMeeting number own other meeting.OwnBefore → (i < length xs) × (IsAt f xs (i + 1) (At next) → Meet f form xs ys (i + 1) (At next) j (At other) out)
-  meet-own_before xs ys out i j None other next w h = absurd cc
-  meet-own_before xs ys out i j (Some b) None next w h = absurd cc
-  meet-own_before xs ys out i j (Some b) (Some c) next w h =
-      let at : IsAt f xs i (Some (numbers number b)) = w.own_at in
-      (at.0, λ after. Meet-before f form xs ys out i j (numbers number b) (numbers number c) (At next) w h after)
+  -- the one chain's block ends first: what both have of it is behind the chain, and the next block is at hand
+  pub meet-own_ends : (xs ys out made : List B) (i j : ℕ) (b c : I × I) (next : Option (I × I)) → Meet f form xs ys i (At (Some b)) j (At (Some c)) out → IsCommonPushed f form (numbers number b) (numbers number c) out made → number b.1 ≤ number c.1 → IsAt f xs (i + 1) (At next) → Meet f form xs ys (i + 1) (At next) j (At (Some c)) made
+  meet-own_ends xs ys out made i j b c next w pushed first after =
+      let ordered = meet-ordered xs ys out i j b (At (Some c)) w in
+      elim pushed [
+        | inl (apart, same) ↦
+            let less : number b.1 < number c.0 = ⊎_elim (λ (less : number b.1 < number c.0). less) (λ (less : number c.1 < number b.0). absurd (omega arith)) apart in
+            subst (λ zs. Meet f form xs ys (i + 1) (At next) j (At (Some c)) zs) (sym same) (Meet-before f form xs ys out i j (numbers number b) (numbers number c) (At next) w less after)
+        | inr (y, common, new, is) ↦
+            let ends : (f y).1 ≡ number b.1 = ⊎_elim (λ (e : (f y).1 ≡ number b.1). e) (λ (e : (f y).1 ≡ number c.1). (let le = common.ends.0 in omega arith)) common.ends.2 in
+            subst (λ zs. Meet f form xs ys (i + 1) (At next) j (At (Some c)) zs) (sym is) (Meet-ends f form xs ys out i j (numbers number b) (numbers number c) (At next) y w common.begins.0 common.begins.1 common.begins.2 common.ordered ends first new after)
+      ]
 
-  -- the other chain's block ends before
-  pub meet-other_before : (xs ys out : List B) (i j : ℕ) (own other next : Option (I × I)) → Meet f form xs ys i (At own) j (At other) out → IsMeeting number own other meeting.OtherBefore → (j < length ys) × (IsAt f ys (j + 1) (At next) → Meet f form xs ys i (At own) (j + 1) (At next) out)
-  meet-other_before xs ys out i j None other next w h = absurd cc
-  meet-other_before xs ys out i j (Some b) None next w h = absurd cc
-  meet-other_before xs ys out i j (Some b) (Some c) next w h =
-      let at : IsAt f ys j (Some (numbers number c)) = w.other_at in
-      (at.0, λ after. Meet-swap f form ys xs out (j + 1) i (At next) (At (Some b)) (Meet-before f form ys xs out j i (numbers number c) (numbers number b) (At next) (Meet-swap f form xs ys out i j (At (Some b)) (At (Some c)) w) h after))
+  -- what is pushed of two blocks is pushed of them in the other order
+  pushed-swap : (b c : ℕ × ℕ) (out made : List B) → IsCommonPushed f form b c out made → IsCommonPushed f form c b out made
+  pushed-swap b c out made pushed = elim pushed [
+    | inl (apart, same) ↦ inl (⊎_elim inr inl apart, same)
+    | inr (y, common, new, is) ↦ inr (
+      y,
+      record {
+        begins = (common.begins.1, common.begins.0, ⊎_elim inr inl common.begins.2);
+        ordered = common.ordered;
+        ends = (common.ends.1, common.ends.0, ⊎_elim inr inl common.ends.2);
+      },
+      new,
+      is,
+    )
+  ]
 
-  -- they meet, and the one chain's block ends first
-  pub meet-own_ends : (xs ys out : List B) (i j : ℕ) (own other next : Option (I × I)) (low high : I) (y : B) → Meet f form xs ys i (At own) j (At other) out → IsMeeting number own other (meeting.OwnEnds low high) → f y ≡ numbers number (low, high) → IsNew f form y → (i < length xs) × (IsAt f xs (i + 1) (At next) → Meet f form xs ys (i + 1) (At next) j (At other) (out ++ y ∷ []))
-  meet-own_ends xs ys out i j None other next low high y w h is new = absurd cc
-  meet-own_ends xs ys out i j (Some b) None next low high y w h is new = absurd cc
-  meet-own_ends xs ys out i j (Some b) (Some c) next low high y w h is new =
-      let at : IsAt f xs i (Some (numbers number b)) = w.own_at in
-      let begins : (f y).0 ≡ number low = ap (λ (p : ℕ × ℕ). p.0) is in
-      let ends : (f y).1 ≡ number high = ap (λ (p : ℕ × ℕ). p.1) is in
-      let first = h.0 in
-      let second = h.1 in
-      let ordered = h.3 in
-      let shorter = h.5 in (
-        at.0,
-        λ after. Meet-ends f form xs ys out i j (numbers number b) (numbers number c) (At next) y w (omega arith) (omega arith)
-            (⊎_elim (λ e. inl (begins ∙ ap number e)) (λ e. inr (begins ∙ ap number e)) h.2) (omega arith) (ends ∙ ap number h.4) shorter new after,
-      )
+  -- the other chain's block ends first
+  pub meet-other_ends : (xs ys out made : List B) (i j : ℕ) (b c : I × I) (next : Option (I × I)) → Meet f form xs ys i (At (Some b)) j (At (Some c)) out → IsCommonPushed f form (numbers number b) (numbers number c) out made → number c.1 ≤ number b.1 → IsAt f ys (j + 1) (At next) → Meet f form xs ys i (At (Some b)) (j + 1) (At next) made
+  meet-other_ends xs ys out made i j b c next w pushed first after =
+      Meet-swap f form ys xs made (j + 1) i (At next) (At (Some b)) (meet-own_ends ys xs out made j i c b next (Meet-swap f form xs ys out i j (At (Some b)) (At (Some c)) w) (pushed-swap (numbers number b) (numbers number c) out made pushed) first after)
 
-  -- they meet, and the other chain's block ends first
-  pub meet-other_ends : (xs ys out : List B) (i j : ℕ) (own other next : Option (I × I)) (low high : I) (y : B) → Meet f form xs ys i (At own) j (At other) out → IsMeeting number own other (meeting.OtherEnds low high) → f y ≡ numbers number (low, high) → IsNew f form y → (j < length ys) × (IsAt f ys (j + 1) (At next) → Meet f form xs ys i (At own) (j + 1) (At next) (out ++ y ∷ []))
-  meet-other_ends xs ys out i j None other next low high y w h is new = absurd cc
-  meet-other_ends xs ys out i j (Some b) None next low high y w h is new = absurd cc
-  meet-other_ends xs ys out i j (Some b) (Some c) next low high y w h is new =
-      let at : IsAt f ys j (Some (numbers number c)) = w.other_at in
-      let begins : (f y).0 ≡ number low = ap (λ (p : ℕ × ℕ). p.0) is in
-      let ends : (f y).1 ≡ number high = ap (λ (p : ℕ × ℕ). p.1) is in
-      let first = h.0 in
-      let second = h.1 in
-      let ordered = h.3 in
-      let shorter = h.5 in (
-        at.0,
-        λ after. Meet-swap f form ys xs (out ++ y ∷ []) (j + 1) i (At next) (At (Some b))
-            (Meet-ends f form ys xs out j i (numbers number c) (numbers number b) (At next) y (Meet-swap f form xs ys out i j (At (Some b)) (At (Some c)) w) (omega arith) (omega arith)
-            (⊎_elim (λ e. inr (begins ∙ ap number e)) (λ e. inl (begins ∙ ap number e)) h.2) (omega arith) (ends ∙ ap number h.4) shorter new after),
-      )
-
-  -- one chain has no block any more
-  pub meet-none : (own other : Option (I × I)) → IsMeeting number own other meeting.End → (At own ≡ None) ⊎ (At other ≡ None)
-  meet-none None other h = inl refl
-  meet-none (Some b) None h = inr refl
-  meet-none (Some b) (Some c) h = absurd h
+  -- where one chain has ended, all is there that both have
+  pub meet-done : (xs ys out : List B) (i j : ℕ) (b c : Option (ℕ × ℕ)) → Meet f form xs ys i b j c out → (b ≡ None) ⊎ (c ≡ None) → IsChainOf f form (λ n. Covers f xs n × Covers f ys n) out
+  meet-done xs ys out i j b c w ended = IsChainOf-from f form out (λ n. Covers f xs n × Covers f ys n) w.chain (Meet-end f form xs ys out i j b c w ended)
 
   -- what came before an overhang is what the chains have in common there
   pub Meet-start : (last : ℕ) (xs ys : List B) (o : Overhang I) → IsOverhang f number last xs ys o → IsChain f form xs → IsChain f form ys → Meet f form xs ys o.own_at (At (Some (o.min, o.max))) o.other_at (At o.other) (take o.own_at xs)

@@ -1,4 +1,5 @@
 -- Definitions: sets and their runs, and what the contracts see of a chain.
+pub mod Common
 pub mod Cut
 pub mod Equality
 pub mod Fit

@@ -1,7 +1,7 @@
 //! The numbers that two chains have in common.
-ghost use Rattle.std.specs.Prelude.{◌≡◌, ◌+◌, ◌-◌, ◌≤◌, ◌⊎◌, length, take, IfOk, IfSome};
-ghost use Rattle.rpki_blocks.specs.Sets.{Covers, IsChainOf};
-ghost use Rattle.rpki_blocks.specs.Fit.{IsMeeting, IsMeetingOf};
+ghost use Rattle.std.specs.Prelude.{◌≡◌, ◌+◌, ◌-◌, ◌≤◌, ◌⊎◌, length, take, IfOk, OnOk};
+ghost use Rattle.rpki_blocks.specs.Sets.{Covers, IsChainOf, numbers};
+ghost use Rattle.rpki_blocks.specs.Common.{IsCommonPushed};
 ghost use Rattle.rpki_blocks.specs.Overhang.{IsOverhang};
 
 use crate::block::Block;
@@ -10,56 +10,6 @@ use crate::owned::OwnedChain;
 use crate::reads::{Reads, read_at};
 use std::alloc::{AllocError, Allocator};
 
-/// What the next blocks of two chains have in common, and which of them ends first.
-pub enum Meeting<I> {
-    /// One chain has no block any more.
-    End,
-    /// Nothing: the one chain's ends before the other's begins.
-    OwnBefore,
-    /// Nothing: the other chain's ends before.
-    OtherBefore,
-    /// All from `low` to `high`, where the one chain's block ends.
-    OwnEnds { low: I, high: I },
-    /// All from `low` to `high`, where the other chain's block ends.
-    OtherEnds { low: I, high: I },
-}
-
-/// Looks at the next blocks.
-fn next_meeting<T: Block>(
-    own: Option<(T::Item, T::Item)>,
-    other: Option<(T::Item, T::Item)>,
-) -> Meeting<T::Item>
-    requires own { IfSome own (λ b. T.number b.0 ≤ T.number b.1) }
-    requires other { IfSome other (λ b. T.number b.0 ≤ T.number b.1) }
-    ensures { IsMeeting T.number own other result }
-{
-    match (own, other) {
-        (None, _) => Meeting::End,
-        (Some(_), None) => Meeting::End,
-        (Some((min, max)), Some((low, high))) => meeting_of::<T>(min, max, low, high),
-    }
-}
-
-/// Looks at the block from `min` to `max` beside the other chain's from `low` to `high`.
-fn meeting_of<T: Block>(min: T::Item, max: T::Item, low: T::Item, high: T::Item) -> Meeting<T::Item>
-    requires own { T.number min ≤ T.number max }
-    requires other { T.number low ≤ T.number high }
-    ensures { IsMeetingOf T.number (min, max) (low, high) result }
-{
-    if max < low {
-        return Meeting::OwnBefore;
-    }
-    if high < min {
-        return Meeting::OtherBefore;
-    }
-    let low = later::<T>(min, low);
-    if max <= high {
-        Meeting::OwnEnds { low, high: max }
-    } else {
-        Meeting::OtherEnds { low, high }
-    }
-}
-
 /// The one of two items that comes later.
 fn later<T: Block>(item: T::Item, other: T::Item) -> T::Item
     ensures reaches { T.number item ≤ T.number result }
@@ -67,6 +17,34 @@ fn later<T: Block>(item: T::Item, other: T::Item) -> T::Item
     ensures one { (result ≡ item) ⊎ (result ≡ other) }
 {
     if item <= other { other } else { item }
+}
+
+/// The one of two items that comes earlier.
+fn earlier<T: Block>(item: T::Item, other: T::Item) -> T::Item
+    ensures reached { T.number result ≤ T.number item }
+    ensures reached_by_other { T.number result ≤ T.number other }
+    ensures one { (result ≡ item) ⊎ (result ≡ other) }
+{
+    if item <= other { item } else { other }
+}
+
+/// Puts what two blocks have in common behind a chain, and nothing where they have no item in common.
+fn push_common<T: Block, A: Allocator>(
+    chain: &mut Vec<T, A>,
+    own: (T::Item, T::Item),
+    other: (T::Item, T::Item),
+) -> Result<(), AllocError>
+    requires own { T.number own.0 ≤ T.number own.1 }
+    requires other { T.number other.0 ≤ T.number other.1 }
+    ensures { OnOk result (IsCommonPushed T.bounds T.form (numbers T.number own)
+        (numbers T.number other) chain.old.items chain.new.items) }
+{
+    let low = later::<T>(own.0, other.0);
+    let high = earlier::<T>(own.1, other.1);
+    if low <= high {
+        chain.push(T::new(low, high))?;
+    }
+    Ok(())
 }
 
 /// The first blocks of a chain, made anew.
@@ -116,35 +94,35 @@ pub fn common_from<T: Block, A: Allocator, X: Reads<T>, Y: Reads<T>>(
     // The lengths are asked for what their contract tells: that the blocks are chains, of fewer than 2^64 blocks.
     let _own_len = own.len();
     let _other_len = other.len();
-    let mut chain = first_blocks(alloc, own, overhang.own_at)?;
-    let mut own_at = overhang.own_at;
-    let mut other_at = overhang.other_at;
-    let mut own_block = Some((overhang.min, overhang.max));
-    let mut other_block = overhang.other;
+    let Overhang {
+        mut own_at,
+        min,
+        max,
+        mut other_at,
+        other: other_block,
+    } = overhang;
+    let mut chain = first_blocks(alloc, own, own_at)?;
+    let Some(mut other_block) = other_block else {
+        return Ok(OwnedChain::from_vec_unchecked(chain));
+    };
+    let mut own_block = (min, max);
     // `chain` has what both have before one of the blocks at hand. A turn is done with the block that ends first: what the
     // other one has of it is pushed, and nothing that comes later in either chain can reach it. So each turn passes a
     // block, and the walk ends where one chain has none left.
     loop {
-        match next_meeting::<T>(own_block, other_block) {
-            Meeting::End => break,
-            Meeting::OwnBefore => {
-                own_at += 1;
-                own_block = read_at(own, own_at);
-            }
-            Meeting::OtherBefore => {
-                other_at += 1;
-                other_block = read_at(other, other_at);
-            }
-            Meeting::OwnEnds { low, high } => {
-                chain.push(T::new(low, high))?;
-                own_at += 1;
-                own_block = read_at(own, own_at);
-            }
-            Meeting::OtherEnds { low, high } => {
-                chain.push(T::new(low, high))?;
-                other_at += 1;
-                other_block = read_at(other, other_at);
-            }
+        push_common(&mut chain, own_block, other_block)?;
+        if own_block.1 <= other_block.1 {
+            own_at += 1;
+            let Some(next) = read_at(own, own_at) else {
+                break;
+            };
+            own_block = next;
+        } else {
+            other_at += 1;
+            let Some(next) = read_at(other, other_at) else {
+                break;
+            };
+            other_block = next;
         }
     }
     Ok(OwnedChain::from_vec_unchecked(chain))

@@ -16,7 +16,7 @@ use Rattle.rpki_addr.proofs.PrintLemmas.{decimal_two, decimal_three}
 use Rattle.std.specs.Char.{digit_value}
 use Rattle.std.specs.Str.Parse.{AllDigits, IsNumeral, digits_value}
 use Rattle.std.specs.Net.Grammar.{IsDotted, IsColonHex}
-use Rattle.std.specs.Net.Reader.{Read, read_number, read_octet, read_ipv4, read_segment, read_ipv6, digit_count, whole_value}
+use Rattle.std.specs.Net.Reader.{Read, read_number, read_octet, read_ipv4, read_ipv4_if, read_segment, read_ipv6, digit_count, whole_value}
 use Rattle.std.proofs.NetLemmas.Numbers.{NoDigit, read_number_some, read_number_large, read_number_empty, digit_count-append}
 use Rattle.std.proofs.NetLemmas.Ipv4.{read_octet_sound, read_ipv4_sound, read_ipv4_complete}
 
@@ -156,25 +156,6 @@ ipv6_whole text n e =
 pub ipv6_no_whole : (text segments : List ℕ) → None ≡ whole_value (option_map with_number (read_ipv6 text)) → IsColonHex text segments → ⊥
 ipv6_no_whole text segments e h = number_none from_groups _ segments e (ap read_ipv6 (sym (append-nil text)) ∙ read_ipv6_complete text segments [] h EndsGroups-nil)
 
--- an IPv4 text has a dot behind one, two or three bytes
-pub no_early_dot : (text : List ℕ) → get_or text 1 0 ≢ 46 → get_or text 2 0 ≢ 46 → get_or text 3 0 ≢ 46 → read_ipv4 text ≡ None
-no_early_dot text one two three = go (read_ipv4 text) refl
-  where
-    go : (r : _) → read_ipv4 text ≡ r → read_ipv4 text ≡ None
-    go None e = e
-    go (Some p) e =
-        let (front, split, h) = read_ipv4_sound text p.0 p.1 e in
-        let rest : List ℕ = decimal h.b ++ 46 ∷ (decimal h.c ++ 46 ∷ (decimal h.d ++ p.1)) in
-        let spelled : front ++ p.1 ≡ decimal h.a ++ 46 ∷ rest = rw h.spelled (simp append_assoc) in
-        let shown : text ≡ decimal h.a ++ 46 ∷ rest = split ∙ spelled in
-        elim (cases_lt h.a 10) [
-          | inl small ↦ absurd (one (ap (λ t. get_or t 1 0) (shown ∙ ap (λ t. t ++ 46 ∷ rest) (decimal_digit h.a small))))
-          | inr more ↦ elim (cases_lt h.a 100) [
-            | inl small ↦ absurd (two (ap (λ t. get_or t 2 0) (shown ∙ ap (λ t. t ++ 46 ∷ rest) (decimal_two h.a more small))))
-            | inr yet ↦ absurd (three (ap (λ t. get_or t 3 0) (shown ∙ ap (λ t. t ++ 46 ∷ rest) (decimal_three h.a yet (omega (arith, h.fit.0))))))
-          ]
-        ]
-
 -- no hexadecimal digit, no group
 pub group_none : (text : List ℕ) → NoDigit 16 text → read_segment text ≡ None
 unfolding read_segment
@@ -245,6 +226,50 @@ group_five (x ∷ y ∷ z ∷ []) a b c d e some is is₁ is₂ is₃ is₄ smal
 group_five (x ∷ y ∷ z ∷ w ∷ []) a b c d e some is is₁ is₂ is₃ is₄ small small₁ small₂ small₃ small₄ = absurd (omega (arith, some))
 group_five (x ∷ y ∷ z ∷ w ∷ v ∷ rest) a b c d e some is is₁ is₂ is₃ is₄ small small₁ small₂ small₃ small₄ =
     group_long (x ∷ y ∷ z ∷ w ∷ v ∷ []) rest (rw is small, (rw is₁ small₁, (rw is₂ small₂, (rw is₃ small₃, (rw is₄ small₄, tt))))) (lit≤ tt)
+
+-- decimal digits are hexadecimal ones
+all_wider : (ds : List ℕ) → AllDigits 10 ds → AllDigits 16 ds
+all_wider [] all = tt
+all_wider (d ∷ ds) all = (let small = all.0 in omega arith, all_wider ds all.1)
+
+-- a group stands at the front of an IPv4 text, and a dot behind it
+group_before_dot : (text : List ℕ) (p : List ℕ × List ℕ) → read_ipv4 text ≡ Some p → (v : ℕ) × (rest : List ℕ) × (read_segment text ≡ Some (v, 46 ∷ rest))
+group_before_dot text p e =
+    let (front, split, h) = read_ipv4_sound text p.0 p.1 e in
+    let rest : List ℕ = decimal h.b ++ 46 ∷ (decimal h.c ++ 46 ∷ (decimal h.d ++ p.1)) in
+    let spelled : front ++ p.1 ≡ decimal h.a ++ 46 ∷ rest = rw h.spelled (simp append_assoc) in
+    let numeral = decimal_is_IsNumeral h.a (omega (arith, h.fit.0)) in
+    let few : length (decimal h.a) ≤ 4 = elim (cases_lt h.a 10) [
+      | inl small ↦ (let len = ap length (decimal_digit h.a small) in omega arith)
+      | inr more ↦ elim (cases_lt h.a 100) [
+        | inl small ↦ (let len = ap length (decimal_two h.a more small) in omega arith)
+        | inr yet ↦ (let len = ap length (decimal_three h.a yet (omega (arith, h.fit.0))) in omega arith)
+      ]
+    ] in
+    (digits_value 16 (decimal h.a), rest, ap read_segment (split ∙ spelled) ∙ group_some (decimal h.a) (46 ∷ rest) (digits_value 16 (decimal h.a)) (numeral.0.0, all_wider (decimal h.a) numeral.0.1) few refl (lit≤ tt))
+
+-- so where no group stands, or no dot behind it, there is no IPv4 text
+pub no_group : (text : List ℕ) → read_segment text ≡ None → read_ipv4 text ≡ None
+no_group text none = go (read_ipv4 text) refl
+  where
+    go : (r : _) → read_ipv4 text ≡ r → read_ipv4 text ≡ None
+    go None e = e
+    go (Some p) e = let (v, rest, is) = group_before_dot text p e in absurd (none-some _ (sym none ∙ is))
+
+pub no_dot_behind : (text : List ℕ) (v : ℕ) (rest : List ℕ) → read_segment text ≡ Some (v, rest) → get_or rest 0 0 ≢ 46 → read_ipv4 text ≡ None
+no_dot_behind text v rest group other = go (read_ipv4 text) refl
+  where
+    go : (r : _) → read_ipv4 text ≡ r → read_ipv4 text ≡ None
+    go None e = e
+    go (Some p) e =
+        let (w, more, is) = group_before_dot text p e in
+        let same = same_Some (v, rest) (w, 46 ∷ more) (sym group ∙ is) in
+        absurd (other (ap (λ (q : ℕ × List ℕ). get_or q.1 0 0) same))
+
+-- and none is read, whether it fits or not
+pub ipv4_if_none : (fits : Bool) (text : List ℕ) → read_ipv4 text ≡ None → None ≡ option_map with_octets (read_ipv4_if fits text)
+ipv4_if_none true text none = rw none refl
+ipv4_if_none false text none = refl
 
 -- a test that says no
 pub not_equal : (x y : ℕ) → (x == y) ≡ false → x ≢ y

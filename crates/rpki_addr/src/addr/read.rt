@@ -1,7 +1,7 @@
 //! Addresses read from bytes, each byte about once.
 //!
 //! What a reader takes stands at the front of a text; it answers what that writes, and what stands behind it.
-ghost use Rattle.std.specs.Prelude.{◌≡◌, ◌==◌, true, ◌*◌, ◌^◌, ◌<◌, ◌≤◌, ℕ, List, None, false, length, get_or, option_map, option_and_then, IfSome, MatchOption};
+ghost use Rattle.std.specs.Prelude.{◌≡◌, ◌==◌, true, ◌*◌, ◌^◌, ◌<◌, ◌≤◌, ℕ, List, Some, length, get_or, option_map, option_and_then, IfSome, MatchOption};
 ghost use Rattle.std.specs.Char.{digit_value};
 ghost use Rattle.std.specs.Net.Reader as Reader;
 ghost use Rattle.rpki_text.specs.Digits.{from_octets};
@@ -99,33 +99,21 @@ fn is_dot(text: &[u8], at: usize) -> bool
     at < text.len() && text[at] == b'.'
 }
 
-/// Is there a dot behind one, two or three bytes? An IPv4 text begins so.
+/// Takes an IPv4 text where it may stand for two groups, so there must be room for both. A dot follows the group that such
+/// a text begins with.
 #[inline(always)]
-fn has_early_dot(text: &[u8]) -> bool
-    ensures { result ≡ false → Reader.read_ipv4 text.now ≡ None }
-{
-    if is_dot(text, 1) {
-        return true;
-    }
-    if is_dot(text, 2) {
-        return true;
-    }
-    is_dot(text, 3)
-}
-
-/// Takes an IPv4 text where it may stand for two groups, so there must be room for both.
-#[inline(always)]
-fn take_last_two(text: &[u8], has_room: bool) -> Option<(u32, &[u8])>
+fn take_last_two<'a>(text: &'a [u8], behind_group: &[u8], has_room: bool) -> Option<(u32, &'a [u8])>
+    requires { (group : ℕ) × (Reader.read_segment text.now ≡ Some (group, behind_group.now)) }
     ensures { Reader.read_view (λ n. n) result
         ≡ option_map with_octets (Reader.read_ipv4_if has_room text.now) }
 {
     if !has_room {
         return None;
     }
-    if !has_early_dot(text) {
-        return None;
+    if is_dot(behind_group, 0) {
+        return take_ipv4(text);
     }
-    take_ipv4(text)
+    None
 }
 
 /// The value of each byte as a hexadecimal digit, or 16.
@@ -241,7 +229,10 @@ impl<'a> Groups<'a> {
         let Some(text) = self.next_text() else {
             return None;
         };
-        if let Some((low, rest)) = take_last_two(text, self.count + 1 < room) {
+        let Some((group, rest)) = take_group(text) else {
+            return None;
+        };
+        if let Some((low, rest)) = take_last_two(text, rest, self.count + 1 < room) {
             return Some(Groups {
                 bits: self.bits * 0x1_0000_0000 + u128::from(low),
                 count: self.count + 2,
@@ -249,9 +240,6 @@ impl<'a> Groups<'a> {
                 rest,
             });
         }
-        let Some((group, rest)) = take_group(text) else {
-            return None;
-        };
         Some(Groups {
             bits: self.bits * 0x10000 + u128::from(group),
             count: self.count + 1,

@@ -1,7 +1,8 @@
 -- Each turn is a turn of the reader on lists.
-use Rattle.std.proofs.Common.{◌/◌, ◌%◌, ◌<◌, ◌^◌, arith, lit<, rules}
+use Rattle.std.proofs.Common.{◌/◌, ◌%◌, ◌<◌, ◌^◌, arith, lit<, rules, sym}
 use Rattle.std.proofs.lemmas.Bool.{ltb-true}
 use Rattle.rpki_addr.proofs.GroupReading.{no_room, no_colon, with_ipv4, no_more, with_group, ipv4_room, one_fits, two_fit}
+use Rattle.rpki_addr.proofs.AddressReading.{no_group, ipv4_if_none}
 use Rattle.rpki_addr.proofs.addr.read.Groups.longer.Goals as goal
 
 pub returns-then-self-room-clause-so_far : goal.returns-then-self-room-clause-so_far
@@ -35,7 +36,11 @@ returns-in-Some-take_last_two-clause-so_far c = λ text so_far.
 pub returns-in_default-take_group-clause-so_far : goal.returns-in_default-take_group-clause-so_far
 returns-in_default-take_group-clause-so_far c = λ text so_far.
     let less : c.args.self.now.count < c.args.room = omega (arith, c.requires.within, c.if-self-room.false) in
-    no_more _ text _ c.if-self.false so_far less _ c.in-Some.ensures c.in_default-take_last_two.ensures c.in_default-take_group.ensures
+    let none = c.in_default-take_group.ensures in
+    no_more _ text _ c.if-self.false so_far less _ c.in-Some.ensures (ipv4_if_none _ _ (no_group _ (sym none))) none
+
+pub take_last_two-requires : goal.take_last_two-requires
+take_last_two-requires c = (c.in-Some-take_group.group, sym c.in-Some-take_group.ensures)
 
 pub overflow_mul-result-2 : goal.overflow_mul-result-2
 overflow_mul-result-2 c =

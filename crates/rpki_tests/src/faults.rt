@@ -12,6 +12,7 @@ use rpki_ipres::blocks::IpBlocks;
 use rpki_ipres::overclaim::OverclaimedIpResources;
 use rpki_ipres::resources::{InheritedIpResources, IpResources};
 use rpki_prefix::error::{MaxLenError, ParseMaxLenPrefixError, ParsePrefixError, PrefixError};
+use rpki_resources::repository::resources::InheritError;
 use std::alloc::{AllocError, Global};
 use std::error::Error;
 use std::test::Fail;
@@ -173,10 +174,28 @@ const INHERITED_IP: [(InheritedIpResources, &str); 1] = [(
     "inherited IP resources",
 )];
 
+const INHERITED: [(InheritError, &str); 1] = [(
+    InheritError,
+    "cannot determine resources for certificate using inherit",
+)];
+
 #[test]
 fn faults_of_inherited_resources(rt: HostRuntime) -> Result<(), Fail> {
     holds(&rt, errors_print(rt.alloc(), &INHERITED_AS)?);
     holds(&rt, errors_print(rt.alloc(), &INHERITED_IP)?);
+    holds(&rt, errors_print(rt.alloc(), &INHERITED)?);
+    Ok(())
+}
+
+// A fault prints as it does alone.
+const OR_MEMORY: [(OrMemory<ParseAsnError>, &str); 2] = [
+    (OrMemory::Memory(AllocError), "out of memory"),
+    (OrMemory::Refused(ParseAsnError), "invalid AS number"),
+];
+
+#[test]
+fn faults_of_memory(rt: HostRuntime) -> Result<(), Fail> {
+    holds(&rt, errors_print(rt.alloc(), &OR_MEMORY)?);
     Ok(())
 }
 

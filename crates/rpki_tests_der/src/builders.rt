@@ -1,9 +1,12 @@
 // Resources that are built with functions.
 use crate::checks::holds;
-use probing::prints;
+use probing::{holds_where_refused, prints};
+use refusing::Refusing;
 use rpki_as::{AsBlock, AsResourcesBuilder};
 use rpki_base::asn::Asn;
-use std::alloc::{AllocError, Global};
+use rpki_ipres::{IpBlock, IpBlocks, IpResourcesBuilder};
+use std::alloc::{AllocError, Allocator, Global};
+use std::str::FromStr;
 
 fn id(number: u32) -> AsBlock {
     AsBlock::Id(Asn::from_u32(number))
@@ -47,4 +50,35 @@ fn resources_are_built(rt: HostRuntime) {
     holds(&rt, lists_anew(rt.alloc()) == Ok(true));
     holds(&rt, keeps_what_was_pushed(rt.alloc()) == Ok(true));
     holds(&rt, begins_as_missing(rt.alloc()) == Ok(true));
+}
+
+fn addresses(text: &str) -> IpBlock {
+    IpBlock::from_str(text).unwrap_or(IpBlock::all())
+}
+
+/// Whether this is printed of the addresses that a builder gives.
+fn builds_addresses<A: Allocator + Copy>(
+    alloc: A,
+    builder: IpResourcesBuilder<A>,
+    text: &str,
+) -> Result<bool, AllocError> {
+    match IpBlocks::from_resources(builder.finalize()?) {
+        Ok(set) => prints(alloc, &set.as_v6(), text),
+        Err(_) => Ok(false),
+    }
+}
+
+/// Addresses are listed in the place of resources that were inherited, in two calls.
+fn lists_addresses<A: Allocator + Copy>(alloc: A) -> Result<bool, AllocError> {
+    let mut builder = IpResourcesBuilder::new(alloc);
+    builder.inherit();
+    builder.blocks(|blocks| blocks.extend_from(&[addresses("2001:db9::/32"), addresses("::1")]))?;
+    builder.blocks(|blocks| blocks.push(addresses("2001:db8::/32")))?;
+    builds_addresses(alloc, builder, "::1, 2001:db8::/31")
+}
+
+#[test]
+fn resources_of_addresses_are_built(rt: HostRuntime) {
+    let is_right = holds_where_refused(rt.alloc(), |refusing: &Refusing| lists_addresses(refusing));
+    holds(&rt, is_right);
 }

@@ -11,6 +11,7 @@ use rpki_ip::prefix::Prefix;
 use rpki_ip::range::AddressRange;
 use rpki_ipres::block::IpBlock;
 use rpki_ipres::blocks::IpBlocks;
+use rpki_ipres::resources::IpResources;
 use std::alloc::{AllocError, Allocator, Global};
 use std::str::FromStr;
 
@@ -107,7 +108,7 @@ fn blocks_of_as_numbers(rt: HostRuntime) {
     }
 }
 
-/// One of the writers of blocks of addresses.
+/// One of the writers of blocks of addresses, and of the resources that list them.
 fn put_ip_blocks<A: Allocator>(
     writer: u32,
     set: &IpBlocks,
@@ -115,7 +116,8 @@ fn put_ip_blocks<A: Allocator>(
 ) -> Result<(), AllocError> {
     match writer {
         0 => set.encode(out),
-        _ => set.encode_family(AddressFamily::Ipv4, out),
+        1 => set.encode_family(AddressFamily::Ipv4, out),
+        _ => IpResources::blocks(set.clone()?).encode_family(AddressFamily::Ipv4, out),
     }
 }
 
@@ -137,7 +139,7 @@ fn addresses_ask_once(alloc: Global, writer: u32) -> bool {
 
 #[test]
 fn blocks_of_addresses(rt: HostRuntime) {
-    for writer in 0..2 {
+    for writer in 0..3 {
         holds(&rt, addresses_ask_once(rt.alloc(), writer));
     }
 }

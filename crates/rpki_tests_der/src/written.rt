@@ -13,6 +13,7 @@ use rpki_ip::prefix::Prefix;
 use rpki_ip::range::AddressRange;
 use rpki_ipres::block::IpBlock;
 use rpki_ipres::blocks::IpBlocks;
+use rpki_ipres::resources::IpResources;
 use std::alloc::{AllocError, Global};
 use std::str::FromStr;
 use std::test::Fail;
@@ -233,6 +234,55 @@ fn list_is_of_family(alloc: Global, list: &str, family: AddressFamily, octets: &
 fn sets_with_their_families(rt: HostRuntime) {
     for (list, family, octets) in &OF_FAMILIES {
         holds(&rt, list_is_of_family(rt.alloc(), list, *family, octets));
+    }
+}
+
+// The same of claims: with NULL where they are inherited, and nothing where they are missing.
+const CLAIMS: [(&str, AddressFamily, &[u8]); 4] = [
+    (
+        "2001:db8::/32",
+        AddressFamily::Ipv6,
+        b"\x30\x0d\x04\x02\x00\x02\x30\x07\x03\x05\x00\x20\x01\x0d\xb8",
+    ),
+    (
+        "10.0.0.0/8",
+        AddressFamily::Ipv4,
+        b"\x30\x0a\x04\x02\x00\x01\x30\x04\x03\x02\x00\x0a",
+    ),
+    (
+        "inherit",
+        AddressFamily::Ipv4,
+        b"\x30\x06\x04\x02\x00\x01\x05\x00",
+    ),
+    ("", AddressFamily::Ipv6, b""),
+];
+
+fn claim(alloc: Global, text: &str) -> Result<IpResources, AllocError> {
+    match (text, IpBlocks::from_str(alloc, text)) {
+        ("inherit", _) => Ok(IpResources::inherit()),
+        (_, Ok(set)) => Ok(IpResources::blocks(set)),
+        (_, Err(_)) => Err(AllocError),
+    }
+}
+
+fn claim_is_written(
+    alloc: Global,
+    text: &str,
+    family: AddressFamily,
+    octets: &[u8],
+) -> Result<bool, AllocError> {
+    let mut out = Vec::new(alloc);
+    claim(alloc, text)?.encode_family(family, &mut out)?;
+    Ok(out.as_slice() == octets)
+}
+
+#[test]
+fn claims_with_their_families(rt: HostRuntime) {
+    for (text, family, octets) in &CLAIMS {
+        holds(
+            &rt,
+            claim_is_written(rt.alloc(), text, *family, octets) == Ok(true),
+        );
     }
 }
 

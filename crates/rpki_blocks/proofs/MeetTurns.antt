@@ -44,26 +44,10 @@ module _ {B I : Type 0} (f : B → ℕ × ℕ) (form : ℕ × ℕ → B) (number
             subst (λ zs. Meet f form xs ys (i + 1) (At next) j (At (Some c)) zs) (sym is) (Meet-ends f form xs ys out i j (numbers number b) (numbers number c) (At next) y w common.begins.0 common.begins.1 common.begins.2 common.ordered ends first new after)
       ]
 
-  -- what is pushed of two blocks is pushed of them in the other order
-  pushed-swap : (b c : ℕ × ℕ) (out made : List B) → IsCommonPushed f form b c out made → IsCommonPushed f form c b out made
-  pushed-swap b c out made pushed = elim pushed [
-    | inl (apart, same) ↦ inl (⊎_elim inr inl apart, same)
-    | inr (y, common, new, is) ↦ inr (
-      y,
-      record {
-        begins = (common.begins.1, common.begins.0, ⊎_elim inr inl common.begins.2);
-        ordered = common.ordered;
-        ends = (common.ends.1, common.ends.0, ⊎_elim inr inl common.ends.2);
-      },
-      new,
-      is,
-    )
-  ]
-
   -- the other chain's block ends first
-  pub meet-other_ends : (xs ys out made : List B) (i j : ℕ) (b c : I × I) (next : Option (I × I)) → Meet f form xs ys i (At (Some b)) j (At (Some c)) out → IsCommonPushed f form (numbers number b) (numbers number c) out made → number c.1 ≤ number b.1 → IsAt f ys (j + 1) (At next) → Meet f form xs ys i (At (Some b)) (j + 1) (At next) made
+  pub meet-other_ends : (xs ys out made : List B) (i j : ℕ) (b c : I × I) (next : Option (I × I)) → Meet f form xs ys i (At (Some b)) j (At (Some c)) out → IsCommonPushed f form (numbers number c) (numbers number b) out made → number c.1 ≤ number b.1 → IsAt f ys (j + 1) (At next) → Meet f form xs ys i (At (Some b)) (j + 1) (At next) made
   meet-other_ends xs ys out made i j b c next w pushed first after =
-      Meet-swap f form ys xs made (j + 1) i (At next) (At (Some b)) (meet-own_ends ys xs out made j i c b next (Meet-swap f form xs ys out i j (At (Some b)) (At (Some c)) w) (pushed-swap (numbers number b) (numbers number c) out made pushed) first after)
+      Meet-swap f form ys xs made (j + 1) i (At next) (At (Some b)) (meet-own_ends ys xs out made j i c b next (Meet-swap f form xs ys out i j (At (Some b)) (At (Some c)) w) pushed first after)
 
   -- where one chain has ended, all is there that both have
   pub meet-done : (xs ys out : List B) (i j : ℕ) (b c : Option (ℕ × ℕ)) → Meet f form xs ys i b j c out → (b ≡ None) ⊎ (c ≡ None) → IsChainOf f form (λ n. Covers f xs n × Covers f ys n) out

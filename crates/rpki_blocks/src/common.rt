@@ -19,30 +19,21 @@ fn later<T: Block>(item: T::Item, other: T::Item) -> T::Item
     if item <= other { other } else { item }
 }
 
-/// The one of two items that comes earlier.
-fn earlier<T: Block>(item: T::Item, other: T::Item) -> T::Item
-    ensures reached { T.number result ≤ T.number item }
-    ensures reached_by_other { T.number result ≤ T.number other }
-    ensures one { (result ≡ item) ⊎ (result ≡ other) }
-{
-    if item <= other { item } else { other }
-}
-
-/// Puts what two blocks have in common behind a chain, and nothing where they have no item in common.
+/// Puts what a block has in common with one that ends no earlier behind a chain, and nothing where they have no item in
+/// common.
 fn push_common<T: Block, A: Allocator>(
     chain: &mut Vec<T, A>,
-    own: (T::Item, T::Item),
+    block: (T::Item, T::Item),
     other: (T::Item, T::Item),
 ) -> Result<(), AllocError>
-    requires own { T.number own.0 ≤ T.number own.1 }
-    requires other { T.number other.0 ≤ T.number other.1 }
-    ensures { OnOk result (IsCommonPushed T.bounds T.form (numbers T.number own)
+    requires ordered { T.number block.0 ≤ T.number block.1 }
+    requires ends_first { T.number block.1 ≤ T.number other.1 }
+    ensures { OnOk result (IsCommonPushed T.bounds T.form (numbers T.number block)
         (numbers T.number other) chain.old.items chain.new.items) }
 {
-    let low = later::<T>(own.0, other.0);
-    let high = earlier::<T>(own.1, other.1);
-    if low <= high {
-        chain.push(T::new(low, high))?;
+    if other.0 <= block.1 {
+        let low = later::<T>(block.0, other.0);
+        chain.push(T::new(low, block.1))?;
     }
     Ok(())
 }
@@ -110,14 +101,15 @@ pub fn common_from<T: Block, A: Allocator, X: Reads<T>, Y: Reads<T>>(
     // other one has of it is pushed, and nothing that comes later in either chain can reach it. So each turn passes a
     // block, and the walk ends where one chain has none left.
     loop {
-        push_common(&mut chain, own_block, other_block)?;
         if own_block.1 <= other_block.1 {
+            push_common(&mut chain, own_block, other_block)?;
             own_at += 1;
             let Some(next) = read_at(own, own_at) else {
                 break;
             };
             own_block = next;
         } else {
+            push_common(&mut chain, other_block, own_block)?;
             other_at += 1;
             let Some(next) = read_at(other, other_at) else {
                 break;

@@ -8,7 +8,7 @@ use Rattle.rpki_blocks.proofs.Sides.{bounds_of, IsAt-from}
 use Rattle.rpki_blocks.proofs.Meets.{Meet, Meet-swap}
 use Rattle.rpki_blocks.proofs.MeetTurns.{Meet-start, meet-ordered, meet-own_ends, meet-other_ends, meet-done}
 use Rattle.rpki_blocks.proofs.common.common_from.Goals as goal
-use Rattle.rpki_blocks.proofs.common.common_from.Goals.{then-le+in_default-read_at, else-le+in_default-read_at-2}
+use Rattle.rpki_blocks.proofs.common.common_from.Goals.{then-le+in_ok-push_common+in_default-read_at, else-le+in_ok-push_common-2+in_default-read_at-2}
 
 pub returns-in_default-clause-common : goal.returns-in_default-clause-common
 returns-in_default-clause-common g c =
@@ -40,33 +40,8 @@ loop-chain-init g c =
       other_kept = refl;
     }
 
-pub push_common-requires-clause-own : goal.push_common-requires-clause-own
-push_common-requires-clause-own g c = meet-ordered g.T.Block.bounds g.T.Block.form g.T.Block.number _ _ _ _ _ c.loop-chain.own_block _ c.loop-chain.invariant.walk
-
-pub push_common-requires-clause-other : goal.push_common-requires-clause-other
-push_common-requires-clause-other g c = meet-ordered g.T.Block.bounds g.T.Block.form g.T.Block.number _ _ _ _ _ c.loop-chain.other_block _ (Meet-swap g.T.Block.bounds g.T.Block.form _ _ _ _ _ _ _ c.loop-chain.invariant.walk)
-
-pub returns-in_err-push_common-clause-own_reads : goal.returns-in_err-push_common-clause-own_reads
-returns-in_err-push_common-clause-own_reads g c = let before = c.loop-chain.invariant.own_reads in omega arith
-
-pub returns-in_err-push_common-clause-other_reads : goal.returns-in_err-push_common-clause-other_reads
-returns-in_err-push_common-clause-other_reads g c = let before = c.loop-chain.invariant.other_reads in omega arith
-
-pub overflow_add-own_at : goal.overflow_add-own_at
-overflow_add-own_at g c =
-    let inv = c.loop-chain.invariant in
-    let within = inv.walk.own_at.0 in
-    let bound = inv.own_bound in
-    omega arith
-
-pub read_at-requires : goal.read_at-requires
-read_at-requires g c =
-    let inv = c.loop-chain.invariant in
-    let within = inv.walk.own_at.0 in
-    rw inv.own_kept (omega arith)
-
-pub loop-chain-smaller-then-le : goal.loop-chain-smaller-then-le
-loop-chain-smaller-then-le g c = let within = c.loop-chain.invariant.walk.own_at.0 in omega arith
+pub push_common-requires-clause-ordered : goal.push_common-requires-clause-ordered
+push_common-requires-clause-ordered g c = meet-ordered g.T.Block.bounds g.T.Block.form g.T.Block.number _ _ _ _ _ c.loop-chain.own_block _ c.loop-chain.invariant.walk
 
 pub loop-chain-preserved-then-le : goal.loop-chain-preserved-then-le
 loop-chain-preserved-then-le g c =
@@ -91,21 +66,8 @@ loop-chain-preserved-then-le g c =
       other_kept = inv.other_kept;
     }
 
-pub overflow_add-other_at : goal.overflow_add-other_at
-overflow_add-other_at g c =
-    let inv = c.loop-chain.invariant in
-    let within = inv.walk.other_at.0 in
-    let bound = inv.other_bound in
-    omega arith
-
-pub read_at-requires-else-le : goal.read_at-requires-else-le
-read_at-requires-else-le g c =
-    let inv = c.loop-chain.invariant in
-    let within = inv.walk.other_at.0 in
-    rw inv.other_kept (omega arith)
-
-pub loop-chain-smaller : goal.loop-chain-smaller
-loop-chain-smaller g c = let within = c.loop-chain.invariant.walk.other_at.0 in omega arith
+pub push_common-requires-else-le-clause-ordered : goal.push_common-requires-else-le-clause-ordered
+push_common-requires-else-le-clause-ordered g c = meet-ordered g.T.Block.bounds g.T.Block.form g.T.Block.number _ _ _ _ _ c.loop-chain.other_block _ (Meet-swap g.T.Block.bounds g.T.Block.form _ _ _ _ _ _ _ c.loop-chain.invariant.walk)
 
 pub loop-chain-preserved : goal.loop-chain-preserved
 loop-chain-preserved g c =
@@ -123,7 +85,7 @@ loop-chain-preserved g c =
     record {
       own_reads = inv.own_reads;
       other_reads = omega arith;
-      walk = meet-other_ends f form number _ _ _ _ _ _ c.loop-chain.own_block c.loop-chain.other_block (Some next) inv.walk c.in_ok-push_common.ensures first (IsAt-from f number last _ (c.loop-chain.other_at + 1) (Some next) block);
+      walk = meet-other_ends f form number _ _ _ _ _ _ c.loop-chain.own_block c.loop-chain.other_block (Some next) inv.walk c.in_ok-push_common-2.ensures first (IsAt-from f number last _ (c.loop-chain.other_at + 1) (Some next) block);
       own_bound = inv.own_bound;
       other_bound = inv.other_bound;
       own_kept = inv.own_kept;
@@ -135,20 +97,20 @@ from_vec_unchecked-requires-2 g c =
     let f = g.T.Block.bounds in
     let form = g.T.Block.form in
     let number = g.T.Block.number in
-    let last = g.T.Block.last in
     let inv = c.loop-chain.invariant in
-    let pushed = c.in_ok-push_common.ensures in
     let own = c.loop-chain.own_block in
     let other = c.loop-chain.other_block in
     elim c.if-le.branch [
-      | then-le+in_default-read_at w ↦
+      | then-le+in_ok-push_common+in_default-read_at w ↦
           let first : number own.1 ≤ number other.1 = grind (arith, nat_tests, g.met.T.Block.in_order, g.met.T.Item.Ord.matches_partial_cmp, w.if-le.ensures) in
           let end = rw inv.own_kept at w.in_default-read_at.ensures.block in
-          (meet-own_ends f form number _ _ _ _ _ _ own other None inv.walk pushed first end).chain
-      | else-le+in_default-read_at-2 w ↦
+          let walk = meet-own_ends f form number _ _ _ _ _ _ own other None inv.walk w.in_ok-push_common.ensures first end in
+          rw w.chain-is walk.chain
+      | else-le+in_ok-push_common-2+in_default-read_at-2 w ↦
           let first : number other.1 ≤ number own.1 = grind (arith, nat_tests, g.met.T.Block.in_order, g.met.T.Item.Ord.matches_partial_cmp, w.if-le.ensures) in
           let end = rw inv.other_kept at w.in_default-read_at-2.ensures.block in
-          (meet-other_ends f form number _ _ _ _ _ _ own other None inv.walk pushed first end).chain
+          let walk = meet-other_ends f form number _ _ _ _ _ _ own other None inv.walk w.in_ok-push_common-2.ensures first end in
+          rw w.chain-is walk.chain
     ]
 
 pub returns-clause-common : goal.returns-clause-common
@@ -156,18 +118,18 @@ returns-clause-common g c =
     let f = g.T.Block.bounds in
     let form = g.T.Block.form in
     let number = g.T.Block.number in
-    let last = g.T.Block.last in
     let inv = c.loop-chain.invariant in
-    let pushed = c.in_ok-push_common.ensures in
     let own = c.loop-chain.own_block in
     let other = c.loop-chain.other_block in
     rw c.from_vec_unchecked-2.ensures (elim c.if-le.branch [
-      | then-le+in_default-read_at w ↦
+      | then-le+in_ok-push_common+in_default-read_at w ↦
           let first : number own.1 ≤ number other.1 = grind (arith, nat_tests, g.met.T.Block.in_order, g.met.T.Item.Ord.matches_partial_cmp, w.if-le.ensures) in
           let end = rw inv.own_kept at w.in_default-read_at.ensures.block in
-          meet-done f form number _ _ _ _ _ _ _ (meet-own_ends f form number _ _ _ _ _ _ own other None inv.walk pushed first end) (inl refl)
-      | else-le+in_default-read_at-2 w ↦
+          let walk = meet-own_ends f form number _ _ _ _ _ _ own other None inv.walk w.in_ok-push_common.ensures first end in
+          rw w.chain-is (meet-done f form number _ _ _ _ _ _ _ walk (inl refl))
+      | else-le+in_ok-push_common-2+in_default-read_at-2 w ↦
           let first : number other.1 ≤ number own.1 = grind (arith, nat_tests, g.met.T.Block.in_order, g.met.T.Item.Ord.matches_partial_cmp, w.if-le.ensures) in
           let end = rw inv.other_kept at w.in_default-read_at-2.ensures.block in
-          meet-done f form number _ _ _ _ _ _ _ (meet-other_ends f form number _ _ _ _ _ _ own other None inv.walk pushed first end) (inr refl)
+          let walk = meet-other_ends f form number _ _ _ _ _ _ own other None inv.walk w.in_ok-push_common-2.ensures first end in
+          rw w.chain-is (meet-done f form number _ _ _ _ _ _ _ walk (inr refl))
     ])

@@ -5,4 +5,5 @@ pub mod Lengths
 pub mod Readings
 pub mod Lists
 pub mod Cursors
+pub mod Modes
 pub mod Written

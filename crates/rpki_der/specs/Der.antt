@@ -84,6 +84,14 @@ bits_with unused octets = record { unused = unused; octets = octets }
 abbrev pub bit_content : Bits → List ℕ
 bit_content b = b.unused ∷ b.octets
 
+-- the octet at the end, or 0 where none is
+abbrev pub last_octet : List ℕ → ℕ
+last_octet octets = slice_index octets (length octets - 1)
+
+-- the bits that aren't used are zero (X.690, 11.2.1)
+abbrev pub IsPadded : Bits → Type 0
+IsPadded b = last_octet b.octets % 2 ^ b.unused ≡ 0
+
 -- how many bits are used
 abbrev pub bit_count : Bits → ℕ
 bit_count b = 8 * length b.octets - b.unused
@@ -115,6 +123,14 @@ IsSequence bytes content = IsValue bytes 48 content
 -- a value of G that says y by the rule C, as a SEQUENCE does by what is in it
 abbrev pub Refines : {X Y : Type 0} → (List ℕ → X → Type 0) → (X → Y → Type 0) → List ℕ → Y → Type 0
 Refines {X} G C bytes y = (x : X) × G bytes x × C x y
+
+-- a value of G that P holds of
+abbrev pub Where : {X : Type 0} → (List ℕ → X → Type 0) → (X → Type 0) → List ℕ → X → Type 0
+Where G P bytes x = G bytes x × P x
+
+-- what is written of x, which is one of those that P holds of
+abbrev pub Spells : {X : Type 0} → (X → Type 0) → (X → List ℕ) → List ℕ → X → Type 0
+Spells P octets bytes x = P x × (bytes ≡ octets x)
 
 -- the octets begin with a value that stands for x, and rest follows it
 abbrev pub Front : {X : Type 0} → (List ℕ → X → Type 0) → List ℕ → X → List ℕ → Type 0

@@ -1,7 +1,7 @@
 -- The faults of DER that a reader names, which are this layer's own: their numbers, names and texts.
 use Rattle.std.specs.Prelude.{ℕ, List, ◌++◌, codes, decimal}
 use Rattle.rpki_der.specs.declared.error.DerError.{DerError}
-use Rattle.rpki_der.specs.declared.error.DerError.TheVariants.{Truncated, BadTag, BadLength, BadInteger, BadBitString, BadNull, TrailingData, BadPrefix, BadFamily, ReversedRange, EmptyBlocks, DuplicateFamily, NoFamily}
+use Rattle.rpki_der.specs.declared.error.DerError.TheVariants.{Truncated, BadTag, BadLength, BadInteger, BadBitString, BadNull, TrailingData, BadPrefix, BadFamily, ReversedRange, EmptyBlocks, DuplicateFamily, NoFamily, NotCanonical}
 
 -- the number that a log shows for a fault
 abbrev pub fault_number : DerError → ℕ
@@ -18,6 +18,7 @@ fault_number ReversedRange = 10
 fault_number EmptyBlocks = 11
 fault_number DuplicateFamily = 12
 fault_number NoFamily = 13
+fault_number NotCanonical = 14
 
 abbrev pub fault_name : DerError → List ℕ
 fault_name Truncated = codes "Truncated"
@@ -33,6 +34,7 @@ fault_name ReversedRange = codes "ReversedRange"
 fault_name EmptyBlocks = codes "EmptyBlocks"
 fault_name DuplicateFamily = codes "DuplicateFamily"
 fault_name NoFamily = codes "NoFamily"
+fault_name NotCanonical = codes "NotCanonical"
 
 -- what is printed of a fault, as `der error 3 (BadLength)`
 abbrev pub fault_text : DerError → List ℕ

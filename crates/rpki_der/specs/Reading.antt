@@ -1,8 +1,8 @@
 -- Reading octets from left to right: the value at the front and what follows it, or the first fault that is met.
-use Rattle.std.specs.Prelude.{◌≡◌, ℕ, zero, suc, ◌-◌, ◌%◌, ◌^◌, List, [], ◌∷◌, ◌++◌, length, take, drop, slice_index, ◌&&◌, ◌||◌, Option, Some, None, Result, Ok, Err, nat_lt, nat_le, ◌==◌, if◌then◌else◌}
+use Rattle.std.specs.Prelude.{◌≡◌, ◌⊎◌, ℕ, zero, suc, ◌-◌, ◌%◌, ◌^◌, Bool, true, not, List, [], ◌∷◌, ◌++◌, length, take, drop, slice_index, ◌&&◌, ◌||◌, Option, Some, None, Result, Ok, Err, nat_lt, nat_le, ◌==◌, if◌then◌else◌}
 use Rattle.rpki_der.specs.declared.error.DerError.{DerError}
-use Rattle.rpki_der.specs.declared.error.DerError.TheVariants.{Truncated, BadTag, BadLength, BadInteger, BadBitString, BadNull, TrailingData}
-use Rattle.rpki_der.specs.Der.{Tlv, Bits, IsBytes, Front, big_endian}
+use Rattle.rpki_der.specs.declared.error.DerError.TheVariants.{Truncated, BadTag, BadLength, BadInteger, BadBitString, BadNull, TrailingData, NotCanonical}
+use Rattle.rpki_der.specs.Der.{Tlv, Bits, IsBytes, Front, big_endian, last_octet}
 
 infixl 10 ◌>>=◌
 abbrev pub ◌>>=◌ : {A B : Type 0} → Result A DerError → (A → Result B DerError) → Result B DerError
@@ -61,6 +61,19 @@ nothing (b ∷ bytes) = Err BadNull
 abbrev pub ended : List ℕ → Result (Unit {0}) DerError
 ended bytes = if length bytes == 0 then Ok tt else Err TrailingData
 
+-- ---- by the mode: strictly, what isn't canonical is refused
+
+-- strictly, only what passes the test
+unfoldable pub passing : {X : Type 0} → Bool → (X → Bool) → X → Result X DerError
+passing strict test x = if strict && not (test x) then Err NotCanonical else Ok x
+
+-- whether the bits that aren't used are zero
+abbrev pub is_padded : Bits → Bool
+is_padded b = last_octet b.octets % 2 ^ b.unused == 0
+
+unfoldable pub bits_by : Bool → List ℕ → Result Bits DerError
+bits_by strict content = bits content >>= passing strict is_padded
+
 -- ---- readings from readings
 
 -- what reading finds, looked at once more
@@ -99,10 +112,24 @@ u32_at = refined (tagged_at 2) unsigned
 abbrev pub bit_string_at : List ℕ → Result (Bits × List ℕ) DerError
 bit_string_at = refined (tagged_at 3) bits
 
+abbrev pub bit_string_by : Bool → List ℕ → Result (Bits × List ℕ) DerError
+bit_string_by strict = refined (tagged_at 3) (bits_by strict)
+
 abbrev pub null_at : List ℕ → Result (Unit {0} × List ℕ) DerError
 null_at = refined (tagged_at 5) nothing
+
+-- ---- what readings find
 
 -- reading finds the values of a grammar, whatever follows them, and no others
 pub record IsReading {X : Type 0} (G : List ℕ → X → Type 0) (reading : List ℕ → Result (X × List ℕ) DerError) : Type 0 where
   pub takes : (bytes : List ℕ) (x : X) (rest : List ℕ) → IsBytes bytes → reading bytes ≡ Ok (x, rest) → Front G bytes x rest
   pub again : (front : List ℕ) (x : X) (rest : List ℕ) → G front x → reading (front ++ rest) ≡ Ok (x, rest)
+
+-- a reading by the mode finds what is found, or refuses it as not canonical, which is done strictly alone
+abbrev pub Tightens : {X : Type 0} → Bool → Result X DerError → Result X DerError → Type 0
+Tightens strict by found = (by ≡ found) ⊎ ((strict ≡ true) × (by ≡ Err NotCanonical))
+
+-- so of all octets, and strictly it finds the values of S
+pub record IsModal {X : Type 0} (S : List ℕ → X → Type 0) (reading : List ℕ → Result (X × List ℕ) DerError) (by : Bool → List ℕ → Result (X × List ℕ) DerError) : Type 0 where
+  pub tight : IsReading S (by true)
+  pub tightens : (strict : Bool) (bytes : List ℕ) → Tightens strict (by strict bytes) (reading bytes)

@@ -1,9 +1,10 @@
 -- What contracts see of a cursor and of the values that it gives, and what its calls answer.
-use Rattle.std.specs.Prelude.{◌≡◌, ◌≢◌, ℕ, List, [], Option, Some, None, Result, Ok, Err}
+use Rattle.std.specs.Prelude.{◌≡◌, ◌≢◌, ◌⊎◌, ℕ, Bool, true, false, List, [], Option, Some, None, Result, Ok, Err}
 use Rattle.rpki_der.specs.declared.cursor.Cursor.{Cursor}
 use Rattle.rpki_der.specs.declared.content.Content.{Content}
 use Rattle.rpki_der.specs.declared.content.BitString.{BitString}
 use Rattle.rpki_der.specs.declared.error.DerError.{DerError}
+use Rattle.rpki_der.specs.declared.error.DerError.TheVariants.{NotCanonical}
 use Rattle.rpki_der.specs.Der.{Tlv, Bits, Front, NoFront}
 
 -- the octets that are left
@@ -19,13 +20,29 @@ content_octets value = value.octets.now
 abbrev pub bit_string_of : BitString → Bits
 bit_string_of b = record { unused = b.unused; octets = b.octets.now }
 
--- what is promised of a cursor that takes all values of the grammars; every cursor does
+-- whether a cursor takes canonical octets alone
+abbrev pub is_strict : Cursor → Bool
+is_strict cursor = cursor.strict
+
+-- whether such a cursor gave a content
+abbrev pub is_strict_in : Content → Bool
+is_strict_in value = value.strict
+
+-- what is promised of a cursor that takes all values of the grammars
 abbrev pub Lenient : Cursor → Type 0 → Type 0
-Lenient cursor P = P
+Lenient cursor P = is_strict cursor ≡ false → P
 
 -- what is promised of a content that such a cursor gave
 abbrev pub LenientIn : Content → Type 0 → Type 0
-LenientIn value P = P
+LenientIn value P = is_strict_in value ≡ false → P
+
+-- what is promised of a cursor that takes canonical octets alone
+abbrev pub Strict : Cursor → Type 0 → Type 0
+Strict cursor P = is_strict cursor ≡ true → P
+
+-- what is promised of a content that such a cursor gave
+abbrev pub StrictIn : Content → Type 0 → Type 0
+StrictIn value P = is_strict_in value ≡ true → P
 
 -- The answer, seen by view, is the value of the grammar that the cursor stood at, and it then stands behind it.
 -- A refusal means that it stood at none, and leaves it there.
@@ -49,3 +66,8 @@ Takes view old new (Err e) reading = (reading (left old) ≡ Err e) × (new ≡ 
 abbrev pub Parses : {X Y E : Type 0} → (List ℕ → Y → Type 0) → (X → Y) → List ℕ → Result X E → Type 0
 Parses C view octets (Ok x) = C octets (view x)
 Parses {Y} C view octets (Err e) = (y : Y) → C octets y → ⊥
+
+-- A refusal is that of a strict cursor, of octets that aren't canonical, or the cursor stood at no value of the grammar.
+abbrev pub NotCanonicalOr : {X Y : Type 0} → (List ℕ → Y → Type 0) → Cursor → Result X DerError → Type 0
+NotCanonicalOr G old (Ok x) = Unit {0}
+NotCanonicalOr G old (Err e) = ((is_strict old ≡ true) × (e ≡ NotCanonical)) ⊎ NoFront G (left old)

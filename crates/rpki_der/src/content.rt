@@ -13,6 +13,7 @@ use crate::value::number_of;
 pub struct Content<'a> {
     pub(crate) tag: u8,
     pub(crate) octets: &'a [u8],
+    pub(crate) strict: bool,
 }
 
 /// The content of a BIT STRING (X.690, 8.6.2): how many bits of the last octet are unused, and the
@@ -27,9 +28,9 @@ pub struct BitString<'a> {
 
 impl<'a> Content<'a> {
     ghost use Rattle.std.specs.Prelude.{◌≡◌, Ok};
-    ghost use Rattle.rpki_der.specs.Der.{IsBitContent, IsNothing, IsUnsigned};
-    ghost use Rattle.rpki_der.specs.Reading.{Gives, bits, nothing, unsigned};
-    ghost use Rattle.rpki_der.specs.Views.{LenientIn, Parses, bit_string_of, content_octets, left, tlv};
+    ghost use Rattle.rpki_der.specs.Der.{IsBitContent, IsNothing, IsPadded, IsUnsigned, Where};
+    ghost use Rattle.rpki_der.specs.Reading.{Gives, bits, bits_by, nothing, unsigned};
+    ghost use Rattle.rpki_der.specs.Views.{LenientIn, Parses, StrictIn, bit_string_of, content_octets, is_strict, is_strict_in, left, tlv};
 
     /// The tag octet.
     pub fn tag(&self) -> u8
@@ -45,11 +46,12 @@ impl<'a> Content<'a> {
         self.octets
     }
 
-    /// A cursor over the content, as of a SEQUENCE.
+    /// A cursor over the content, as of a SEQUENCE. It is strict where the one was that gave the content.
     pub fn cursor(&self) -> Cursor<'a>
         ensures octets { left result ≡ content_octets self.now }
+        ensures mode { is_strict result ≡ is_strict_in self.now }
     {
-        Cursor::new(self.octets)
+        Cursor::in_mode(self.octets, self.strict)
     }
 
     /// The content as an INTEGER (X.690, 8.3) from 0 to 4294967295, else `BadInteger`.
@@ -60,12 +62,18 @@ impl<'a> Content<'a> {
         self.parse_u32()
     }
 
-    /// The content as a BIT STRING (X.690, 8.6.2), else `BadBitString`.
+    /// The content as a BIT STRING (X.690, 8.6.2), else `BadBitString`. Of a strict cursor's content, `NotCanonical` where
+    /// an unused bit is set.
     pub fn to_bit_string(&self) -> Result<BitString<'a>, DerError>
         ensures reads { LenientIn self.now
             (Parses IsBitContent bit_string_of (content_octets self.now) result) }
         ensures exact { LenientIn self.now
             (Gives bit_string_of result (bits (content_octets self.now))) }
+        ensures strict { StrictIn self.now
+            (Parses (Where IsBitContent IsPadded) bit_string_of (content_octets self.now) result) }
+        // In either mode.
+        ensures by_mode { Gives bit_string_of result
+            (bits_by (is_strict_in self.now) (content_octets self.now)) }
     {
         self.parse_bit_string()
     }
@@ -89,8 +97,8 @@ impl<'a> Content<'a> {
 // The readings behind the calls: each stands apart from its call, whose further clause, `reads`,
 // follows from `exact` by a theorem on the grammar.
 impl<'a> Content<'a> {
-    ghost use Rattle.rpki_der.specs.Reading.{Gives, bits, nothing, unsigned};
-    ghost use Rattle.rpki_der.specs.Views.{bit_string_of, content_octets};
+    ghost use Rattle.rpki_der.specs.Reading.{Gives, bits_by, nothing, unsigned};
+    ghost use Rattle.rpki_der.specs.Views.{bit_string_of, content_octets, is_strict_in};
 
     #[tactic(auto, unfolding(crate::specs::Reading::unsigned))]
     fn parse_u32(&self) -> Result<u32, DerError>
@@ -110,9 +118,10 @@ impl<'a> Content<'a> {
         Ok(number as u32)
     }
 
-    #[tactic(auto, unfolding(crate::specs::Reading::bits))]
+    #[tactic(auto, unfolding(crate::specs::Reading::bits, crate::specs::Reading::bits_by, crate::specs::Reading::passing))]
     fn parse_bit_string(&self) -> Result<BitString<'a>, DerError>
-        ensures exact { Gives bit_string_of result (bits (content_octets self.now)) }
+        ensures by_mode { Gives bit_string_of result
+            (bits_by (is_strict_in self.now) (content_octets self.now)) }
     {
         let [unused, octets @ ..] = self.octets else {
             return Err(DerError::BadBitString);
@@ -120,6 +129,13 @@ impl<'a> Content<'a> {
         let unused = *unused;
         if unused > 7 || unused > 0 && octets.is_empty() {
             return Err(DerError::BadBitString);
+        }
+        let last = match octets {
+            [.., last] => *last,
+            [] => 0,
+        };
+        if self.strict && last % (1 << unused) != 0 {
+            return Err(DerError::NotCanonical);
         }
         Ok(BitString { unused, octets })
     }

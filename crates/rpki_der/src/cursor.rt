@@ -10,24 +10,51 @@ use crate::value::value_of;
 /// The octets that are left to read. A take moves the cursor behind the value that it answers, and
 /// where it refuses it leaves the cursor as it was.
 ///
+/// A strict cursor refuses octets that aren't those that are written of the value, by `NotCanonical`. So do the cursors
+/// over the contents of its values.
+///
 /// A cursor borrows its octets, so a copy costs nothing: take from a copy to look ahead.
 #[derive(Clone, Copy, Debug)]
 pub struct Cursor<'a> {
     octets: &'a [u8],
+    strict: bool,
     pub ghost bytes: { IsBytes octets.now },
 }
 
 impl<'a> Cursor<'a> {
-    ghost use Rattle.std.specs.Prelude.{◌≡◌, ◌==◌, length, option_map, slice_get};
-    ghost use Rattle.rpki_der.specs.Der.{IsBitString, IsNull, IsOctetString, IsSequence, IsTlv, IsU32};
-    ghost use Rattle.rpki_der.specs.Reading.{Gives, bit_string_at, ended, null_at, optional, tagged_at, u32_at, value_at};
-    ghost use Rattle.rpki_der.specs.Views.{Lenient, Reads, ReadsOptional, Takes, bit_string_of, left, tlv};
+    ghost use Rattle.std.specs.Prelude.{◌≡◌, ◌==◌, true, false, length, option_map, slice_get, IfOk, IfSome};
+    ghost use Rattle.rpki_der.specs.Der.{IsBitString, IsNull, IsOctetString, IsPadded, IsSequence, IsTlv, IsU32, Where};
+    ghost use Rattle.rpki_der.specs.Reading.{Gives, bit_string_at, bit_string_by, ended, null_at, optional, tagged_at, u32_at, value_at};
+    ghost use Rattle.rpki_der.specs.Views.{Lenient, NotCanonicalOr, Reads, ReadsOptional, Strict, Takes, bit_string_of, is_strict, is_strict_in, left, tlv};
 
     /// A cursor at the first of the octets.
     pub fn new(octets: &'a [u8]) -> Cursor<'a>
         ensures octets { left result ≡ octets.now }
+        ensures mode { is_strict result ≡ false }
     {
-        Cursor { octets }
+        Self::in_mode(octets, false)
+    }
+
+    /// A strict cursor at the first of the octets, which takes canonical octets alone.
+    pub fn new_strict(octets: &'a [u8]) -> Cursor<'a>
+        ensures octets { left result ≡ octets.now }
+        ensures mode { is_strict result ≡ true }
+    {
+        Self::in_mode(octets, true)
+    }
+
+    pub(crate) fn in_mode(octets: &'a [u8], strict: bool) -> Cursor<'a>
+        ensures octets { left result ≡ octets.now }
+        ensures mode { is_strict result ≡ strict }
+    {
+        Cursor { octets, strict }
+    }
+
+    /// Whether the cursor takes canonical octets alone.
+    pub fn is_strict(&self) -> bool
+        ensures mode { result ≡ is_strict self.now }
+    {
+        self.strict
     }
 
     /// Whether no octet is left.
@@ -58,6 +85,8 @@ impl<'a> Cursor<'a> {
     pub fn take_value(&mut self) -> Result<Content<'a>, DerError>
         ensures reads { Reads IsTlv tlv self.old self.new result }
         ensures exact { Takes tlv self.old self.new result value_at }
+        ensures mode { is_strict self.new ≡ is_strict self.old }
+        ensures hands_on_mode { IfOk result (λ value. is_strict_in value ≡ is_strict self.old) }
     {
         self.next_value()
     }
@@ -66,6 +95,9 @@ impl<'a> Cursor<'a> {
     pub fn take_opt_value(&mut self) -> Result<Option<Content<'a>>, DerError>
         ensures reads { ReadsOptional IsTlv tlv self.old self.new result }
         ensures exact { Takes (λ o. option_map tlv o) self.old self.new result (optional value_at) }
+        ensures mode { is_strict self.new ≡ is_strict self.old }
+        ensures hands_on_mode { IfOk result
+            (λ o. IfSome o (λ value. is_strict_in value ≡ is_strict self.old)) }
     {
         self.next_opt_value()
     }
@@ -76,6 +108,8 @@ impl<'a> Cursor<'a> {
     pub fn take_sequence(&mut self) -> Result<Cursor<'a>, DerError>
         ensures reads { Reads IsSequence left self.old self.new result }
         ensures exact { Takes left self.old self.new result (tagged_at 48) }
+        ensures mode { is_strict self.new ≡ is_strict self.old }
+        ensures hands_on_mode { IfOk result (λ content. is_strict content ≡ is_strict self.old) }
     {
         self.next_sequence()
     }
@@ -87,19 +121,29 @@ impl<'a> Cursor<'a> {
     pub fn take_u32(&mut self) -> Result<u32, DerError>
         ensures reads { Reads IsU32 (λ n. n) self.old self.new result }
         ensures exact { Takes (λ n. n) self.old self.new result u32_at }
+        ensures mode { is_strict self.new ≡ is_strict self.old }
     {
         self.next_u32()
     }
 
-    /// Takes a BIT STRING (X.690, 8.6.2). Unused bits that are set are accepted.
+    /// Takes a BIT STRING (X.690, 8.6.2). Unused bits that are set are accepted, but from a strict
+    /// cursor.
     ///
-    /// The faults are those of `take_value`; `BadTag` also where another value stands there, and
-    /// `BadBitString` for any other content.
+    /// The faults are those of `take_value`; `BadTag` also where another value stands there,
+    /// `BadBitString` for any other content, and from a strict cursor `NotCanonical` where an unused
+    /// bit is set.
     pub fn take_bit_string(&mut self) -> Result<BitString<'a>, DerError>
         ensures reads { Lenient self.old
             (Reads IsBitString bit_string_of self.old self.new result) }
         ensures exact { Lenient self.old
             (Takes bit_string_of self.old self.new result bit_string_at) }
+        ensures strict { Strict self.old
+            (Reads (Where IsBitString IsPadded) bit_string_of self.old self.new result) }
+        ensures refused { NotCanonicalOr IsBitString self.old result }
+        // In either mode.
+        ensures by_mode { Takes bit_string_of self.old self.new result
+            (bit_string_by (is_strict self.old)) }
+        ensures mode { is_strict self.new ≡ is_strict self.old }
     {
         self.next_bit_string()
     }
@@ -110,6 +154,7 @@ impl<'a> Cursor<'a> {
     pub fn take_octets(&mut self) -> Result<&'a [u8], DerError>
         ensures reads { Reads IsOctetString (λ o. o.now) self.old self.new result }
         ensures exact { Takes (λ o. o.now) self.old self.new result (tagged_at 4) }
+        ensures mode { is_strict self.new ≡ is_strict self.old }
     {
         self.next_octets()
     }
@@ -121,6 +166,7 @@ impl<'a> Cursor<'a> {
     pub fn take_null(&mut self) -> Result<(), DerError>
         ensures reads { Reads IsNull (λ u. u) self.old self.new result }
         ensures exact { Takes (λ u. u) self.old self.new result null_at }
+        ensures mode { is_strict self.new ≡ is_strict self.old }
     {
         self.next_null()
     }
@@ -139,21 +185,26 @@ impl<'a> Cursor<'a> {
 // The readings behind the takes: which value or which fault the octets give. Each stands apart from
 // its take, whose further clause, `reads`, follows from this one by a theorem on the grammar.
 impl<'a> Cursor<'a> {
-    ghost use Rattle.std.specs.Prelude.{option_map};
-    ghost use Rattle.rpki_der.specs.Reading.{bit_string_at, null_at, optional, tagged_at, u32_at, value_at};
-    ghost use Rattle.rpki_der.specs.Views.{Takes, bit_string_of, content_octets, left, tlv};
+    ghost use Rattle.std.specs.Prelude.{◌≡◌, option_map, IfOk, IfSome};
+    ghost use Rattle.rpki_der.specs.Reading.{bit_string_by, null_at, optional, tagged_at, u32_at, value_at};
+    ghost use Rattle.rpki_der.specs.Views.{Takes, bit_string_of, content_octets, is_strict, is_strict_in, left, tlv};
 
     fn next_value(&mut self) -> Result<Content<'a>, DerError>
         ensures exact { Takes tlv self.old self.new result value_at }
+        ensures mode { is_strict self.new ≡ is_strict self.old }
+        ensures hands_on_mode { IfOk result (λ value. is_strict_in value ≡ is_strict self.old) }
     {
-        let (value, rest) = value_of(self.octets)?;
-        *self = Cursor::new(rest);
+        let (value, rest) = value_of(self.octets, self.strict)?;
+        *self = Cursor::in_mode(rest, self.strict);
         Ok(value)
     }
 
     #[tactic(auto, unfolding(crate::specs::Reading::optional))]
     fn next_opt_value(&mut self) -> Result<Option<Content<'a>>, DerError>
         ensures exact { Takes (λ o. option_map tlv o) self.old self.new result (optional value_at) }
+        ensures mode { is_strict self.new ≡ is_strict self.old }
+        ensures hands_on_mode { IfOk result
+            (λ o. IfSome o (λ value. is_strict_in value ≡ is_strict self.old)) }
     {
         if self.octets.is_empty() {
             return Ok(None);
@@ -164,17 +215,21 @@ impl<'a> Cursor<'a> {
     #[tactic(auto, unfolding(crate::specs::Reading::tagged_at))]
     fn next_tagged(&mut self, tag: u8) -> Result<Content<'a>, DerError>
         ensures exact { Takes content_octets self.old self.new result (tagged_at tag) }
+        ensures mode { is_strict self.new ≡ is_strict self.old }
+        ensures hands_on_mode { IfOk result (λ value. is_strict_in value ≡ is_strict self.old) }
     {
-        let (value, rest) = value_of(self.octets)?;
+        let (value, rest) = value_of(self.octets, self.strict)?;
         if value.tag() != tag {
             return Err(DerError::BadTag);
         }
-        *self = Cursor::new(rest);
+        *self = Cursor::in_mode(rest, self.strict);
         Ok(value)
     }
 
     fn next_sequence(&mut self) -> Result<Cursor<'a>, DerError>
         ensures exact { Takes left self.old self.new result (tagged_at 48) }
+        ensures mode { is_strict self.new ≡ is_strict self.old }
+        ensures hands_on_mode { IfOk result (λ content. is_strict content ≡ is_strict self.old) }
     {
         Ok(self.next_tagged(tag::SEQUENCE)?.cursor())
     }
@@ -182,6 +237,7 @@ impl<'a> Cursor<'a> {
     #[tactic(auto, unfolding(crate::specs::Reading::refined))]
     fn next_u32(&mut self) -> Result<u32, DerError>
         ensures exact { Takes (λ n. n) self.old self.new result u32_at }
+        ensures mode { is_strict self.new ≡ is_strict self.old }
     {
         let mut ahead = *self;
         let number = ahead.next_tagged(tag::INTEGER)?.to_u32()?;
@@ -191,7 +247,9 @@ impl<'a> Cursor<'a> {
 
     #[tactic(auto, unfolding(crate::specs::Reading::refined))]
     fn next_bit_string(&mut self) -> Result<BitString<'a>, DerError>
-        ensures exact { Takes bit_string_of self.old self.new result bit_string_at }
+        ensures by_mode { Takes bit_string_of self.old self.new result
+            (bit_string_by (is_strict self.old)) }
+        ensures mode { is_strict self.new ≡ is_strict self.old }
     {
         let mut ahead = *self;
         let bits = ahead.next_tagged(tag::BIT_STRING)?.to_bit_string()?;
@@ -201,6 +259,7 @@ impl<'a> Cursor<'a> {
 
     fn next_octets(&mut self) -> Result<&'a [u8], DerError>
         ensures exact { Takes (λ o. o.now) self.old self.new result (tagged_at 4) }
+        ensures mode { is_strict self.new ≡ is_strict self.old }
     {
         Ok(self.next_tagged(tag::OCTET_STRING)?.bytes())
     }
@@ -208,6 +267,7 @@ impl<'a> Cursor<'a> {
     #[tactic(auto, unfolding(crate::specs::Reading::refined))]
     fn next_null(&mut self) -> Result<(), DerError>
         ensures exact { Takes (λ u. u) self.old self.new result null_at }
+        ensures mode { is_strict self.new ≡ is_strict self.old }
     {
         let mut ahead = *self;
         ahead.next_tagged(tag::NULL)?.to_null()?;

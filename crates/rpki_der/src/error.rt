@@ -35,10 +35,12 @@ pub enum DerError {
     DuplicateFamily = 12,
     /// The list of address families is empty.
     NoFamily = 13,
+    /// A strict cursor stands at octets that aren't canonical.
+    NotCanonical = 14,
 }
 
 impl DerError {
-    /// The number of the fault, from 1 to 13.
+    /// The number of the fault, from 1 to 14.
     pub fn number(&self) -> u8
         ensures number { result ≡ fault_number self.now }
     {
@@ -62,6 +64,7 @@ impl DerError {
             DerError::EmptyBlocks => "EmptyBlocks",
             DerError::DuplicateFamily => "DuplicateFamily",
             DerError::NoFamily => "NoFamily",
+            DerError::NotCanonical => "NotCanonical",
         }
     }
 }

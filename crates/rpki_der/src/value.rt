@@ -1,9 +1,9 @@
 //! The value at the front of octets: its tag, its length and its content.
 
-ghost use Rattle.std.specs.Prelude.{◌≡◌, ◌≤◌, length};
+ghost use Rattle.std.specs.Prelude.{◌≡◌, ◌≤◌, length, IfOk};
 ghost use Rattle.rpki_der.specs.Der.{big_endian};
 ghost use Rattle.rpki_der.specs.Reading.{Gives, length_at, long_length_at, value_at};
-ghost use Rattle.rpki_der.specs.Views.{tlv};
+ghost use Rattle.rpki_der.specs.Views.{is_strict_in, tlv};
 
 use crate::content::Content;
 use crate::error::DerError;
@@ -52,10 +52,11 @@ fn length_of(octets: &[u8]) -> Result<(usize, &[u8]), DerError>
     long_length_of(first - 128, rest)
 }
 
-/// The value at the front of octets, and what follows it.
+/// The value at the front of octets, for a cursor of this mode, and what follows it.
 #[tactic(auto, unfolding(crate::specs::Reading::value_at))]
-pub(crate) fn value_of(octets: &[u8]) -> Result<(Content<'_>, &[u8]), DerError>
+pub(crate) fn value_of(octets: &[u8], strict: bool) -> Result<(Content<'_>, &[u8]), DerError>
     ensures exact { Gives (λ x. (tlv x.0, x.1.now)) result (value_at octets.now) }
+    ensures mode { IfOk result (λ x. is_strict_in x.0 ≡ strict) }
 {
     let [tag, rest @ ..] = octets else {
         return Err(DerError::Truncated);
@@ -69,5 +70,12 @@ pub(crate) fn value_of(octets: &[u8]) -> Result<(Content<'_>, &[u8]), DerError>
         return Err(DerError::Truncated);
     }
     let (octets, rest) = rest.split_at(length);
-    Ok((Content { tag, octets }, rest))
+    Ok((
+        Content {
+            tag,
+            octets,
+            strict,
+        },
+        rest,
+    ))
 }

@@ -4,7 +4,7 @@ use Rattle.std.specs.Prelude.{◌≡◌, ◌⊎◌, ℕ, Bool, false, List, [], 
 use Rattle.rpki_der.specs.declared.error.DerError.{DerError}
 use Rattle.rpki_der.specs.declared.error.DerError.TheVariants.{BadTag}
 use Rattle.rpki_der.specs.Der.{Tlv, Both, Each, EachFrom, IsSequence, IsValue, Refines}
-use Rattle.rpki_der.specs.Reading.{◌>>=◌, each_from, ended, refined, tagged_at}
+use Rattle.rpki_der.specs.Reading.{◌>>=◌, each_from, ended, passing, refined, tagged_at}
 
 -- ---- one of two tags
 
@@ -32,6 +32,15 @@ pair_in reading check content = do
   y ← check first.0 second.0
   end ← ended second.1
   Ok y
+
+-- the same by the mode: strictly only where the two values pass a test, which is made behind the end of the content
+unfoldable pub pair_by : {X Y : Type 0} → Bool → (List ℕ → Result (X × List ℕ) DerError) → (X → X → Result Y DerError) → (X → X → Bool) → List ℕ → Result Y DerError
+pair_by strict reading check test content = do
+  first ← reading content
+  second ← reading first.1
+  y ← check first.0 second.0
+  end ← ended second.1
+  passing strict (λ y. test first.0 second.0) y
 
 -- ---- one value in a content
 

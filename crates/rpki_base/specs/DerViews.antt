@@ -1,9 +1,10 @@
 -- What calls on a cursor answer that also take memory, or that answer None where another tag stands.
-use Rattle.std.specs.Prelude.{◌≡◌, ℕ, true, false, List, Option, Some, None, Result, Ok, Err}
+use Rattle.std.specs.Prelude.{◌≡◌, ◌⊎◌, ℕ, true, false, List, Option, Some, None, Result, Ok, Err}
 use Rattle.rpki_der.specs.declared.cursor.Cursor.{Cursor}
 use Rattle.rpki_der.specs.declared.error.DerError.{DerError}
+use Rattle.rpki_der.specs.declared.error.DerError.TheVariants.{NotCanonical}
 use Rattle.rpki_der.specs.Der.{Front, NoFront}
-use Rattle.rpki_der.specs.Views.{left}
+use Rattle.rpki_der.specs.Views.{is_strict, left}
 use Rattle.rpki_text.specs.declared.memory.OrMemory.{OrMemory}
 use Rattle.rpki_text.specs.Memory.{IfRefused}
 use Rattle.rpki_base.specs.DerReading.{begins_with}
@@ -36,3 +37,9 @@ abbrev pub ReadsTagged : {X : Type 0} → ℕ → (List ℕ → X → Type 0) �
 ReadsTagged tag G old new (Ok None) = (begins_with tag (left old) ≡ false) × (left new ≡ left old)
 ReadsTagged tag G old new (Ok (Some x)) = (begins_with tag (left old) ≡ true) × Front G (left old) x (left new)
 ReadsTagged tag G old new (Err e) = (begins_with tag (left old) ≡ true) × NoFront G (left old) × (new ≡ old)
+
+-- A refusal is that of a strict cursor, of octets that aren't canonical, or the cursor stood at no value of the grammar;
+-- want of memory says nothing.
+abbrev pub NotCanonicalOrMemory : {X Y : Type 0} → (List ℕ → Y → Type 0) → Cursor → Result X (OrMemory DerError) → Type 0
+NotCanonicalOrMemory G old (Ok x) = Unit {0}
+NotCanonicalOrMemory G old (Err e) = IfRefused (λ fault. ((is_strict old ≡ true) × (fault ≡ NotCanonical)) ⊎ NoFront G (left old)) e

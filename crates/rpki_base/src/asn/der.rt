@@ -8,7 +8,7 @@ impl Asn {
     ghost use Rattle.std.specs.Vec.{vec_capacity};
     ghost use Rattle.rpki_der.specs.Der.{IsUnsigned};
     ghost use Rattle.rpki_der.specs.Reading.{Gives, unsigned};
-    ghost use Rattle.rpki_der.specs.Views.{Parses, Reads, Takes, content_octets};
+    ghost use Rattle.rpki_der.specs.Views.{Parses, Reads, Takes, content_octets, is_strict};
     ghost use Rattle.rpki_base.specs.AsnDer.{IsAsNumber, SaysAsNumber, as_number_at, as_number_octets, skip_number};
     ghost use Rattle.rpki_base.specs.DerReading.{Skips, if_tagged, skipping};
     ghost use Rattle.rpki_base.specs.DerViews.{ReadsTagged};
@@ -19,6 +19,7 @@ impl Asn {
     pub fn take_from(cursor: &mut Cursor<'_>) -> Result<Asn, DerError>
         ensures reads { Reads IsAsNumber (λ n. n) cursor.old cursor.new result }
         ensures exact { Takes (λ n. n) cursor.old cursor.new result as_number_at }
+        ensures mode { is_strict cursor.new ≡ is_strict cursor.old }
     {
         let number = cursor.take_u32()?;
         Ok(Asn(number))
@@ -29,6 +30,7 @@ impl Asn {
     pub fn take_opt_from(cursor: &mut Cursor<'_>) -> Result<Option<Asn>, DerError>
         ensures reads { ReadsTagged 2 IsAsNumber cursor.old cursor.new result }
         ensures exact { Takes (λ n. n) cursor.old cursor.new result (if_tagged 2 as_number_at) }
+        ensures mode { is_strict cursor.new ≡ is_strict cursor.old }
     {
         Asn::next_opt(cursor)
     }
@@ -37,6 +39,7 @@ impl Asn {
     pub fn skip_in(cursor: &mut Cursor<'_>) -> Result<(), DerError>
         ensures reads { Reads (Skips IsAsNumber) (λ u. u) cursor.old cursor.new result }
         ensures exact { Takes (λ u. u) cursor.old cursor.new result (skipping as_number_at) }
+        ensures mode { is_strict cursor.new ≡ is_strict cursor.old }
     {
         Asn::pass_over(cursor)
     }
@@ -96,13 +99,15 @@ impl Asn {
 // The readings behind the calls: each stands apart from its call, whose further clause, `reads`, follows from `exact`
 // by a theorem on the grammar.
 impl Asn {
-    ghost use Rattle.rpki_der.specs.Views.{Takes};
+    ghost use Rattle.std.specs.Prelude.{◌≡◌};
+    ghost use Rattle.rpki_der.specs.Views.{Takes, is_strict};
     ghost use Rattle.rpki_base.specs.AsnDer.{as_number_at};
     ghost use Rattle.rpki_base.specs.DerReading.{if_tagged, skipping};
 
     #[tactic(auto, unfolding(crate::specs::DerReading::if_tagged))]
     fn next_opt(cursor: &mut Cursor<'_>) -> Result<Option<Asn>, DerError>
         ensures exact { Takes (λ n. n) cursor.old cursor.new result (if_tagged 2 as_number_at) }
+        ensures mode { is_strict cursor.new ≡ is_strict cursor.old }
     {
         if cursor.peek_tag() != Some(tag::INTEGER) {
             return Ok(None);
@@ -113,6 +118,7 @@ impl Asn {
     #[tactic(auto, unfolding(rpki_der::specs::Reading::refined))]
     fn pass_over(cursor: &mut Cursor<'_>) -> Result<(), DerError>
         ensures exact { Takes (λ u. u) cursor.old cursor.new result (skipping as_number_at) }
+        ensures mode { is_strict cursor.new ≡ is_strict cursor.old }
     {
         Asn::take_from(cursor)?;
         Ok(())

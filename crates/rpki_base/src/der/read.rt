@@ -1,8 +1,8 @@
 //! Reading the values of a SEQUENCE.
-ghost use Rattle.std.specs.Prelude.{◌≡◌, ◌<◌, ℕ, List, Result, length};
+ghost use Rattle.std.specs.Prelude.{◌≡◌, ◌<◌, ℕ, Bool, List, Result, length};
 ghost use Rattle.rpki_der.specs.declared.error.DerError.{DerError as Fault};
-ghost use Rattle.rpki_der.specs.Reading.{IsReading, optional};
-ghost use Rattle.rpki_der.specs.Views.{Lenient, Takes, left};
+ghost use Rattle.rpki_der.specs.Reading.{IsModal, IsReading, optional};
+ghost use Rattle.rpki_der.specs.Views.{Lenient, Takes, is_strict, left};
 ghost use Rattle.rpki_base.specs.DerReading.{IsSequenceFrom, sequence_from, values_from};
 ghost use Rattle.rpki_base.specs.DerViews.{GivesOrMemory, ReadsOrMemory, TakesOrMemory};
 
@@ -31,6 +31,12 @@ pub trait ReadNext {
     // The value at the front of octets and what follows it, or the first fault.
     ghost reading: { Self → Self.State → List ℕ → Result (Self.Value × List ℕ) Fault };
 
+    // The octets are a value, in this state, that a strict cursor takes.
+    ghost strict_grammar: { Self → Self.State → List ℕ → Self.Value → Type 0 };
+
+    // What `reading` gives, for a cursor that is strict or isn't.
+    ghost reading_by: { Self → Bool → Self.State → List ℕ → Result (Self.Value × List ℕ) Fault };
+
     /// The state before the first value.
     fn first_state(&self) -> Self::State
         ensures { result ≡ first self.now };
@@ -47,7 +53,11 @@ pub trait ReadNext {
     ) -> Result<Option<Self::Value>, DerError>
         ensures exact { Lenient cursor.old
             (Takes (λ value. value) cursor.old cursor.new result
-            (optional (reading self.now state))) };
+            (optional (reading self.now state))) }
+        // In either mode.
+        ensures by_mode { Takes (λ value. value) cursor.old cursor.new result
+            (optional (reading_by self.now (is_strict cursor.old) state)) }
+        ensures mode { is_strict cursor.new ≡ is_strict cursor.old };
 
     // The reading finds the values of the grammar, whatever follows them, and no others.
     ghost is_reading: { (reader : Self) (state : Self.State)
@@ -56,6 +66,11 @@ pub trait ReadNext {
     // A value has an octet at least.
     ghost has_octets: { (reader : Self) (state : Self.State) (front : List ℕ) (value : Self.Value)
         → grammar reader state front value → 0 < length front };
+
+    // Leniently it is `reading`; strictly it refuses by `NotCanonical` all but the values of the strict grammar.
+    ghost is_modal: { (reader : Self) (state : Self.State)
+        → IsModal (strict_grammar reader state) (reading reader state)
+        (λ strict. reading_by reader strict state) };
 }
 
 /// All values of a content, to its end. `Refused` with the first fault, `Memory` where there is no memory for them.
@@ -67,6 +82,23 @@ pub fn read_values<R: ReadNext, A: Allocator>(
     ensures exact { Lenient content.entry (GivesOrMemory (λ values. values.items) result
         (values_from (R.after reader.now) (R.reading reader.now) (R.first reader.now)
         (left content.entry))) }
+    // In either mode.
+    ensures by_mode { GivesOrMemory (λ values. values.items) result
+        (values_from (R.after reader.now) (R.reading_by reader.now (is_strict content.entry))
+        (R.first reader.now) (left content.entry)) }
+{
+    values_within(alloc, reader, content)
+}
+
+// The reading behind it, whose further clause, `exact`, follows from `by_mode`.
+fn values_within<R: ReadNext, A: Allocator>(
+    alloc: A,
+    reader: &R,
+    content: Cursor<'_>,
+) -> Result<Vec<R::Value, A>, OrMemory<DerError>>
+    ensures by_mode { GivesOrMemory (λ values. values.items) result
+        (values_from (R.after reader.now) (R.reading_by reader.now (is_strict content.entry))
+        (R.first reader.now) (left content.entry)) }
 {
     let mut inside = content;
     let mut values = Vec::new(alloc);
@@ -92,19 +124,26 @@ pub fn take_sequence_of<R: ReadNext, A: Allocator>(
     ensures exact { Lenient cursor.old
         (TakesOrMemory (λ values. values.items) cursor.old cursor.new result
         (sequence_from (R.after reader.now) (R.reading reader.now) (R.first reader.now))) }
+    // In either mode.
+    ensures by_mode { TakesOrMemory (λ values. values.items) cursor.old cursor.new result
+        (sequence_from (R.after reader.now) (R.reading_by reader.now (is_strict cursor.old))
+        (R.first reader.now)) }
+    ensures mode { is_strict cursor.new ≡ is_strict cursor.old }
 {
     next_sequence(alloc, reader, cursor)
 }
 
-// The reading behind the take, whose further clause, `reads`, follows from `exact` by a theorem on the grammar.
+// The reading behind the take, whose further clauses, `reads` and `exact`, follow from `by_mode` by theorems on the grammar.
 #[tactic(auto, unfolding(rpki_der::specs::Reading::refined))]
 fn next_sequence<R: ReadNext, A: Allocator>(
     alloc: A,
     reader: &R,
     cursor: &mut Cursor<'_>,
 ) -> Result<Vec<R::Value, A>, OrMemory<DerError>>
-    ensures exact { TakesOrMemory (λ values. values.items) cursor.old cursor.new result
-        (sequence_from (R.after reader.now) (R.reading reader.now) (R.first reader.now)) }
+    ensures by_mode { TakesOrMemory (λ values. values.items) cursor.old cursor.new result
+        (sequence_from (R.after reader.now) (R.reading_by reader.now (is_strict cursor.old))
+        (R.first reader.now)) }
+    ensures mode { is_strict cursor.new ≡ is_strict cursor.old }
 {
     let mut ahead = *cursor;
     let values = read_values(alloc, reader, ahead.take_sequence()?)?;

@@ -1,63 +1,21 @@
--- Each turn reads the next value, or is at the end, or meets the first fault.
-use Rattle.std.proofs.Common.{◌≡◌, length, ap, ◌∙◌, Ok, Some, None}
-use Rattle.std.proofs.lemmas.Result.{err_from_is_err_and}
-use Rattle.rpki_der.specs.Reading.{optional, each_from}
+-- Leniently the readings are one.
+use Rattle.std.proofs.Common.{◌∙◌, false, ap, subst}
 use Rattle.rpki_der.specs.Views.{left}
-use Rattle.rpki_der.proofs.Lists.{loop_more, loop_ends, loop_fails, optional_some, optional_none, optional_err, shorter}
+use Rattle.rpki_der.proofs.Modes.{same_found}
 use Rattle.rpki_base.specs.DerReading.{values_from}
+use Rattle.rpki_base.specs.DerViews.{GivesOrMemory}
+use Rattle.rpki_base.proofs.DerModes.{values_tighten}
 use Rattle.rpki_base.proofs.der.read.read_values.Goals as goal
 
-pub loop-values-smaller : goal.loop-values-smaller
-loop-values-smaller g c =
+pub returns-clause-exact : goal.returns-clause-exact
+returns-clause-exact g c lenient =
     let law = g.met.R.ReadNext in
     let reader = c.args.reader.now in
-    let state = c.loop-values.state in
-    let G = g.R.ReadNext.grammar reader state in
-    let reading = g.R.ReadNext.reading reader state in
-    let old = left c.loop-values.inside in
-    let new = left c.take_next.new.cursor in
-    let read : optional reading old ≡ Ok (Some c.in-Some.value, new) = c.in_ok-value.ensures.exact ∙ ap (λ o. Ok (o, new)) c.in-Some.is in
-    shorter G (law.has_octets reader state) old c.in-Some.value new ((law.is_reading reader state).takes old c.in-Some.value new c.loop-values.inside.bytes (optional_some reading old c.in-Some.value new read).1)
-
-pub loop-values-preserved : goal.loop-values-preserved
-loop-values-preserved g c =
-    let law = g.met.R.ReadNext in
-    let reader = c.args.reader.now in
-    let state = c.loop-values.state in
-    let G = g.R.ReadNext.grammar reader state in
-    let readings = g.R.ReadNext.reading reader in
     let next = g.R.ReadNext.after reader in
-    let old = left c.loop-values.inside in
-    let new = left c.take_next.new.cursor in
-    let total = each_from next (length (left c.args.content)) readings (g.R.ReadNext.first reader) (left c.args.content) in
-    let read : optional (readings state) old ≡ Ok (Some c.in-Some.value, new) = c.in_ok-value.ensures.exact ∙ ap (λ o. Ok (o, new)) c.in-Some.is in
-    let some = (optional_some (readings state) old c.in-Some.value new read).1 in
-    let fewer = shorter G (law.has_octets reader state) old c.in-Some.value new ((law.is_reading reader state).takes old c.in-Some.value new c.loop-values.inside.bytes some) in
-    rw (c.in_ok-push.ensures.items, c.state_after-state.ensures) (loop_more next readings c.loop-values.values.items state old total c.in-Some.value new c.loop-values.invariant some fewer)
-
-pub returns : goal.returns
-unfolding values_from
-returns g c =
-    let reader = c.args.reader.now in
-    let state = c.loop-values.state in
-    let readings = g.R.ReadNext.reading reader in
-    let next = g.R.ReadNext.after reader in
-    let old = left c.loop-values.inside in
-    let new = left c.take_next.new.cursor in
-    let total = each_from next (length (left c.args.content)) readings (g.R.ReadNext.first reader) (left c.args.content) in
-    let read : optional (readings state) old ≡ Ok (None, new) = c.in_ok-value.ensures.exact ∙ ap (λ o. Ok (o, new)) c.in_default.is in
-    record { exact = loop_ends next readings c.loop-values.values.items state old total c.loop-values.invariant (optional_none (readings state) old new read).0 }
-
-pub returns-in_err-value : goal.returns-in_err-value
-unfolding values_from
-returns-in_err-value g c =
-    let reader = c.args.reader.now in
-    let state = c.loop-values.state in
-    let readings = g.R.ReadNext.reading reader in
-    let next = g.R.ReadNext.after reader in
-    let old = left c.loop-values.inside in
-    let total = each_from next (length (left c.args.content)) readings (g.R.ReadNext.first reader) (left c.args.content) in
-    let fault = c.in_err-value.field-0.0 in
-    let failed = optional_err (readings state) old fault c.in_err-value.ensures.exact.0 in
-    let p = err_from_is_err_and c.from_residual.result c.from_residual.ensures.1 in
-    record { exact = rw (p.1, p.2) (loop_fails next readings c.loop-values.values.items state old total fault c.loop-values.invariant failed.0 failed.1) }
+    let first = g.R.ReadNext.first reader in
+    let by = g.R.ReadNext.reading_by reader in
+    let reading = g.R.ReadNext.reading reader in
+    let content = left c.args.content in
+    subst (GivesOrMemory (λ values. values.items) c.values_within.result)
+    (ap (λ mode. values_from next (by mode) first content) lenient ∙ same_found (values_from next (by false) first content) (values_from next reading first content) (values_tighten false next (by false) reading (λ state. (law.is_modal reader state).tightens false) first content))
+    c.values_within.ensures.by_mode

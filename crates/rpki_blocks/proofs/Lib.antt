@@ -1,4 +1,5 @@
 -- Lemmas on chains, runs and sorted bounds.
+pub mod Beyond
 pub mod Chains
 mod Counts
 mod CutTurns

@@ -1,4 +1,5 @@
 -- Definitions: sets and their runs, and what the contracts see of a chain.
+pub mod Beyond
 pub mod Common
 pub mod Cut
 pub mod Equality

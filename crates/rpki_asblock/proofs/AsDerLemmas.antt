@@ -1,11 +1,15 @@
 -- What is written of blocks of AS numbers.
-use Rattle.std.proofs.Common.{ℕ, ◌^◌, ◌<◌, ◌≤◌, length, refl, arith}
+use Rattle.std.proofs.Common.{◌≡◌, ℕ, ◌^◌, ◌<◌, ◌≤◌, true, List, ◌++◌, length, refl, ap, ◌∙◌, subst, sym, arith}
 use Rattle.std.proofs.lemmas.List.{length-append}
-use Rattle.rpki_der.specs.Der.{header, integer}
+use Rattle.rpki_der.specs.Der.{Spells, header, integer, sequence_value, value}
+use Rattle.rpki_der.specs.Reading.{IsReading}
 use Rattle.rpki_der.proofs.Contents.{length-integer}
+use Rattle.rpki_der.proofs.Readings.{same_reading}
 use Rattle.rpki_der.proofs.Written.{length-header, u32_is, value_is}
 use Rattle.rpki_base.specs.AsnDer.{as_number_octets}
-use Rattle.rpki_asblock.specs.AsDer.{IsAsBlock, as_block_octets, as_range_content}
+use Rattle.rpki_asblock.specs.AsDer.{IsAsBlock, IsSetBlock, as_block_octets, as_range_content}
+use Rattle.rpki_asblock.specs.AsDerModes.{IsStrictBlock, as_block_modal}
+use Rattle.rpki_asblock.specs.AsDerReading.{as_block_by}
 use Rattle.rpki_asblock.specs.Blocks.{as_bounds}
 use Rattle.rpki_asblock.specs.declared.block.AsBlock.{AsBlock}
 use Rattle.rpki_asblock.specs.declared.block.AsBlock.TheVariants.{Id, Range}
@@ -24,3 +28,31 @@ block_written (Id n) ordered lt = u32_is n lt
 block_written (Range r) ordered lt =
     let short = length-content (r.min, r.max) ordered lt in
     (ordered, (as_range_content (r.min, r.max), value_is 48 (as_range_content (r.min, r.max)) (omega arith) (omega arith), (as_number_octets r.max, (as_number_octets r.min, u32_is r.min (omega arith), refl), u32_is r.max lt)))
+
+-- ---- canonical octets
+
+-- octets that are a block are those that are written of it
+pub block_spelled : (bytes : List ℕ) (x : AsBlock) → IsAsBlock bytes x → bytes ≡ as_block_octets x
+block_spelled bytes (Id n) is = is.1.spelled
+block_spelled bytes (Range r) (ordered, (content, is, (second, front, last))) =
+    let one : front.0 ≡ as_number_octets r.min = front.1.1.spelled in
+    let two : second ≡ as_number_octets r.max = last.1.spelled in
+    let whole : content ≡ as_range_content (r.min, r.max) = front.2 ∙ ap (λ (t : List ℕ). t ++ second) one ∙ ap (λ (t : List ℕ). as_number_octets r.min ++ t) two in
+    is.spelled ∙ ap sequence_value whole
+
+-- its numbers
+pub block_numbers : (bytes : List ℕ) (x : AsBlock) → IsAsBlock bytes x → ((as_bounds x).0 ≤ (as_bounds x).1) × ((as_bounds x).1 < 2 ^ 32)
+block_numbers bytes (Id n) is = (omega arith, is.0)
+block_numbers bytes (Range r) (ordered, (content, is, (second, front, last))) = (ordered, last.0)
+
+-- strictly, these octets are found, of the blocks that sets have
+pub set_block_is : (bytes : List ℕ) (x : AsBlock) → IsStrictBlock bytes x → Spells IsSetBlock as_block_octets bytes x
+set_block_is bytes x (is, new_form) =
+    let numbers = block_numbers bytes x is in
+    (record { ordered = numbers.0; below = numbers.1; new_form = new_form }, block_spelled bytes x is)
+
+pub is_set_block : (bytes : List ℕ) (x : AsBlock) → Spells IsSetBlock as_block_octets bytes x → IsStrictBlock bytes x
+is_set_block bytes x (is, spelled) = (subst (λ (t : List ℕ). IsAsBlock t x) (sym spelled) (block_written x is.ordered is.below), is.new_form)
+
+pub set_block_reading : IsReading (Spells IsSetBlock as_block_octets) (as_block_by true)
+set_block_reading = same_reading IsStrictBlock (Spells IsSetBlock as_block_octets) (as_block_by true) (λ bytes x fits is. set_block_is bytes x is) is_set_block as_block_modal.tight

@@ -1,8 +1,10 @@
 -- Blocks of AS numbers in DER (RFC 3779, 3.2.3.5 to 3.2.3.9).
-use Rattle.std.specs.Prelude.{◌⊎◌, ℕ, ◌≤◌, List, ◌++◌}
+use Rattle.std.specs.Prelude.{◌⊎◌, ℕ, ◌≤◌, ◌<◌, ◌^◌, List, ◌++◌}
 use Rattle.rpki_blocks.specs.Ranges.{RangeValue, range_bounds}
+use Rattle.rpki_blocks.specs.Sets.{IsNew}
 use Rattle.rpki_der.specs.Der.{Both, IsSequence, sequence_value}
 use Rattle.rpki_base.specs.AsnDer.{IsAsNumber, as_number_octets}
+use Rattle.rpki_asblock.specs.Blocks.{as_bounds, new_as_block}
 use Rattle.rpki_asblock.specs.declared.block.AsBlock.{AsBlock}
 use Rattle.rpki_asblock.specs.declared.block.AsBlock.TheVariants.{Id, Range}
 
@@ -34,3 +36,9 @@ as_range_octets b = sequence_value (as_range_content b)
 abbrev pub as_block_octets : AsBlock → List ℕ
 as_block_octets (Id n) = as_number_octets n
 as_block_octets (Range r) = as_range_octets (range_bounds r)
+
+-- a block that sets have: of numbers below 2 ^ 32, and in new form
+pub record IsSetBlock (x : AsBlock) : Type 0 where
+  pub ordered : (as_bounds x).0 ≤ (as_bounds x).1
+  pub below : (as_bounds x).1 < 2 ^ 32
+  pub new_form : IsNew as_bounds new_as_block x

@@ -1,5 +1,6 @@
 pub mod AsDer
 pub mod AsDerLaws
+pub mod AsDerModes
 pub mod AsDerReading
 pub mod BlockForms
 pub mod Blocks

@@ -1,5 +1,6 @@
 //! Blocks of AS numbers in DER: an INTEGER, or a SEQUENCE of two (RFC 3779, 3.2.3.5 and 3.2.3.8).
 ghost use Rattle.std.specs.Prelude.{◌≡◌, ◌≤◌, length};
+ghost use Rattle.rpki_blocks.specs.Beyond.{is_beyond};
 ghost use Rattle.rpki_der.specs.Reading.{Gives};
 ghost use Rattle.rpki_der.specs.Views.{left, tlv};
 ghost use Rattle.rpki_asblock.specs.AsDer.{as_range_content};
@@ -16,21 +17,31 @@ use std::alloc::{AllocError, Allocator};
 impl AsBlock {
     ghost use Rattle.std.specs.Prelude.{◌≡◌, ℕ, List, Ok, ◌≤◌, ◌+◌, ◌++◌, length, vec_len, OnOk, OnErr, IsOk};
     ghost use Rattle.std.specs.Vec.{vec_capacity};
+    ghost use Rattle.rpki_der.specs.Der.{Spells};
     ghost use Rattle.rpki_der.specs.Reading.{optional};
-    ghost use Rattle.rpki_der.specs.Views.{Lenient, ReadsOptional, Takes};
-    ghost use Rattle.rpki_asblock.specs.AsDer.{IsAsBlock, IsBlockInAnyOrder, as_block_octets};
-    ghost use Rattle.rpki_asblock.specs.AsDerReading.{as_block_at, skip_block_at};
+    ghost use Rattle.rpki_der.specs.Views.{Lenient, NotCanonicalOr, ReadsOptional, Strict, Takes, is_strict};
+    ghost use Rattle.rpki_asblock.specs.AsDer.{IsAsBlock, IsBlockInAnyOrder, IsSetBlock, as_block_octets};
+    ghost use Rattle.rpki_asblock.specs.AsDerReading.{as_block_at, as_block_by, skip_block_at};
 
     /// Takes the next block; None at the end, and there alone.
     ///
     /// The faults are those of [`Cursor::take_value`] and `BadInteger`; `BadTag` also where neither an INTEGER nor a
     /// SEQUENCE stands there, `ReversedRange` where the first number of a range is above the second, and `TrailingData`
-    /// where more than two numbers are in it.
+    /// where more than two numbers are in it. From a strict cursor also `NotCanonical` for a range of one number.
     pub fn take_opt_from(cursor: &mut Cursor<'_>) -> Result<Option<AsBlock>, DerError>
         ensures reads { Lenient cursor.old
             (ReadsOptional IsAsBlock (λ block. block) cursor.old cursor.new result) }
         ensures exact { Lenient cursor.old
             (Takes (λ block. block) cursor.old cursor.new result (optional as_block_at)) }
+        // A strict cursor takes what is written of a block that sets have.
+        ensures strict { Strict cursor.old
+            (ReadsOptional (Spells IsSetBlock as_block_octets) (λ block. block) cursor.old
+            cursor.new result) }
+        ensures refused { NotCanonicalOr IsAsBlock cursor.old result }
+        // In either mode.
+        ensures by_mode { Takes (λ block. block) cursor.old cursor.new result
+            (optional (as_block_by (is_strict cursor.old))) }
+        ensures mode { is_strict cursor.new ≡ is_strict cursor.old }
     {
         AsBlock::next_opt(cursor)
     }
@@ -40,6 +51,7 @@ impl AsBlock {
     pub fn skip_opt_in(cursor: &mut Cursor<'_>) -> Result<Option<()>, DerError>
         ensures reads { ReadsOptional IsBlockInAnyOrder (λ u. u) cursor.old cursor.new result }
         ensures exact { Takes (λ u. u) cursor.old cursor.new result (optional skip_block_at) }
+        ensures mode { is_strict cursor.new ≡ is_strict cursor.old }
     {
         AsBlock::pass_over_opt(cursor)
     }
@@ -80,9 +92,11 @@ impl AsBlock {
     ghost use Rattle.std.specs.Prelude.{◌≡◌, ◌≤◌, ◌+◌, ◌++◌, length, vec_len, OnOk, OnErr, IsOk};
     ghost use Rattle.std.specs.Vec.{vec_capacity};
     ghost use Rattle.rpki_asblock.specs.AsDer.{as_block_octets};
+    ghost use Rattle.rpki_blocks.specs.Beyond.{is_beyond};
+    ghost use Rattle.rpki_asblock.specs.Blocks.{as_bounds};
     ghost use Rattle.rpki_der.specs.Reading.{Gives, optional};
-    ghost use Rattle.rpki_der.specs.Views.{Takes, tlv};
-    ghost use Rattle.rpki_asblock.specs.AsDerReading.{as_block_at, as_block_of, skip_block_at, skip_block_of};
+    ghost use Rattle.rpki_der.specs.Views.{Takes, is_strict, tlv};
+    ghost use Rattle.rpki_asblock.specs.AsDerReading.{as_block_at, as_block_by, as_block_of, is_new_form, next_block_by, skip_block_at, skip_block_of};
 
     fn put<A: Allocator>(&self, out: &mut Vec<u8, A>) -> Result<(), AllocError>
         ensures ok { OnOk result (out.new.items ≡ out.old.items ++ as_block_octets self.now) }
@@ -113,7 +127,9 @@ impl AsBlock {
 
     #[tactic(auto, unfolding(rpki_der::specs::Reading::optional))]
     fn next_opt(cursor: &mut Cursor<'_>) -> Result<Option<AsBlock>, DerError>
-        ensures exact { Takes (λ block. block) cursor.old cursor.new result (optional as_block_at) }
+        ensures by_mode { Takes (λ block. block) cursor.old cursor.new result
+            (optional (as_block_by (is_strict cursor.old))) }
+        ensures mode { is_strict cursor.new ≡ is_strict cursor.old }
     {
         if cursor.is_empty() {
             return Ok(None);
@@ -121,14 +137,82 @@ impl AsBlock {
         Ok(Some(AsBlock::next(cursor)?))
     }
 
-    #[tactic(auto, unfolding(rpki_der::specs::Reading::refined))]
+    #[tactic(auto, unfolding(rpki_der::specs::Reading::optional))]
+    fn next_opt_after(
+        before: Option<Asn>,
+        cursor: &mut Cursor<'_>,
+    ) -> Result<Option<AsBlock>, DerError>
+        ensures by_mode { Takes (λ block. block) cursor.old cursor.new result
+            (optional (next_block_by (is_strict cursor.old) before)) }
+        ensures mode { is_strict cursor.new ≡ is_strict cursor.old }
+    {
+        if cursor.is_empty() {
+            return Ok(None);
+        }
+        Ok(Some(AsBlock::next_after(before, cursor)?))
+    }
+
+    #[tactic(auto, unfolding(rpki_der::specs::Reading::refined, rpki_der::specs::Reading::passing))]
+    fn next_after(before: Option<Asn>, cursor: &mut Cursor<'_>) -> Result<AsBlock, DerError>
+        ensures by_mode { Takes (λ block. block) cursor.old cursor.new result
+            (next_block_by (is_strict cursor.old) before) }
+        ensures mode { is_strict cursor.new ≡ is_strict cursor.old }
+    {
+        let mut ahead = *cursor;
+        let block = AsBlock::next(&mut ahead)?;
+        if cursor.is_strict() && !block.is_beyond(before) {
+            return Err(DerError::NotCanonical);
+        }
+        *cursor = ahead;
+        Ok(block)
+    }
+
+    #[tactic(auto, unfolding(rpki_der::specs::Reading::refined, rpki_der::specs::Reading::passing))]
     fn next(cursor: &mut Cursor<'_>) -> Result<AsBlock, DerError>
+        ensures by_mode { Takes (λ block. block) cursor.old cursor.new result
+            (as_block_by (is_strict cursor.old)) }
+        ensures mode { is_strict cursor.new ≡ is_strict cursor.old }
+    {
+        let mut ahead = *cursor;
+        let block = AsBlock::next_in_any_form(&mut ahead)?;
+        if cursor.is_strict() && !block.is_new_form() {
+            return Err(DerError::NotCanonical);
+        }
+        *cursor = ahead;
+        Ok(block)
+    }
+
+    #[tactic(auto, unfolding(rpki_der::specs::Reading::refined))]
+    fn next_in_any_form(cursor: &mut Cursor<'_>) -> Result<AsBlock, DerError>
         ensures exact { Takes (λ block. block) cursor.old cursor.new result as_block_at }
+        ensures mode { is_strict cursor.new ≡ is_strict cursor.old }
     {
         let mut ahead = *cursor;
         let block = AsBlock::of_value(&ahead.take_value()?)?;
         *cursor = ahead;
         Ok(block)
+    }
+
+    // Whether the block is the one that is made of its bounds.
+    fn is_new_form(&self) -> bool
+        ensures { result ≡ is_new_form self.now }
+    {
+        match self {
+            AsBlock::Id(_) => true,
+            AsBlock::Range(range) => AsRange::min(*range) != AsRange::max(*range),
+        }
+    }
+
+    // Whether the block begins more than one above the number.
+    fn is_beyond(&self, before: Option<Asn>) -> bool
+        ensures { result ≡ is_beyond before (as_bounds self.now).0 }
+    {
+        match before {
+            None => true,
+            Some(greatest) => {
+                greatest.into_u32() as u64 + 1 < AsBlock::min(self).into_u32() as u64
+            }
+        }
     }
 
     #[tactic(auto, unfolding(rpki_base::specs::DerReading::by_tag))]
@@ -145,6 +229,7 @@ impl AsBlock {
     #[tactic(auto, unfolding(rpki_der::specs::Reading::optional))]
     fn pass_over_opt(cursor: &mut Cursor<'_>) -> Result<Option<()>, DerError>
         ensures exact { Takes (λ u. u) cursor.old cursor.new result (optional skip_block_at) }
+        ensures mode { is_strict cursor.new ≡ is_strict cursor.old }
     {
         if cursor.is_empty() {
             return Ok(None);
@@ -155,6 +240,7 @@ impl AsBlock {
     #[tactic(auto, unfolding(rpki_der::specs::Reading::refined))]
     fn pass_over(cursor: &mut Cursor<'_>) -> Result<(), DerError>
         ensures exact { Takes (λ u. u) cursor.old cursor.new result skip_block_at }
+        ensures mode { is_strict cursor.new ≡ is_strict cursor.old }
     {
         let mut ahead = *cursor;
         AsBlock::pass_over_value(&ahead.take_value()?)?;
@@ -208,37 +294,56 @@ fn range_content_len(range: &AsRange) -> usize
     AsRange::min(*range).encoded_len() + AsRange::max(*range).encoded_len()
 }
 
-/// Reads blocks one after another.
+/// Reads blocks one after another. From a strict cursor each begins more than one above the greatest number of the one
+/// before it.
 #[derive(Clone, Copy, Debug)]
 pub struct AsBlockReader;
 
 impl ReadNext for AsBlockReader {
+    ghost use Rattle.std.specs.Prelude.{Some, None};
     ghost use Rattle.rpki_asblock.specs.AsDer.{IsAsBlock};
     ghost use Rattle.rpki_asblock.specs.AsDerLaws.{as_block_has_octets, as_block_reading};
-    ghost use Rattle.rpki_asblock.specs.AsDerReading.{as_block_at};
+    ghost use Rattle.rpki_asblock.specs.AsDerModes.{IsNextBlock, next_block_modal};
+    ghost use Rattle.rpki_asblock.specs.AsDerReading.{as_block_at, next_block_by};
+    ghost use Rattle.rpki_asblock.specs.Blocks.{as_bounds};
 
     type Value = AsBlock;
 
-    type State = ();
+    // The greatest number of the block before.
+    type State = Option<Asn>;
 
-    ghost first = { λ _. tt };
+    ghost first = { λ _. None };
 
-    ghost after = { λ _ state block. state };
+    ghost after = { λ _ before block. Some (as_bounds block).1 };
 
     ghost grammar = { λ _ _. IsAsBlock };
 
     ghost reading = { λ _ _. as_block_at };
 
+    ghost strict_grammar = { λ _ before. IsNextBlock before };
+
+    ghost reading_by = { λ _ strict before. next_block_by strict before };
+
     ghost is_reading = { λ _ _. as_block_reading };
 
     ghost has_octets = { λ _ _. as_block_has_octets };
 
-    fn first_state(&self) {}
+    ghost is_modal = { λ _ before. next_block_modal before };
 
-    fn state_after(&self, _state: (), _block: &AsBlock) {}
+    fn first_state(&self) -> Option<Asn> {
+        None
+    }
 
-    fn take_next(&self, _state: (), cursor: &mut Cursor<'_>) -> Result<Option<AsBlock>, DerError> {
-        AsBlock::next_opt(cursor)
+    fn state_after(&self, _before: Option<Asn>, block: &AsBlock) -> Option<Asn> {
+        Some(AsBlock::max(block))
+    }
+
+    fn take_next(
+        &self,
+        before: Option<Asn>,
+        cursor: &mut Cursor<'_>,
+    ) -> Result<Option<AsBlock>, DerError> {
+        AsBlock::next_opt_after(before, cursor)
     }
 }
 

@@ -1,16 +1,18 @@
 -- The reading of resources finds what the grammar says, and nothing else.
-use Rattle.std.proofs.Common.{◌≡◌, ◌≢◌, ℕ, ◌≤◌, List, [], ◌∷◌, Some, Result, Ok, refl, sym, subst, ◌∙◌, arith, inl, inr, slice_get}
+use Rattle.std.proofs.Common.{◌≡◌, ◌≢◌, ℕ, ◌≤◌, Bool, true, List, [], ◌∷◌, Some, Result, Ok, refl, sym, subst, ◌∙◌, arith, inl, inr, slice_get}
 use Rattle.rpki_der.specs.declared.error.DerError.{DerError}
 use Rattle.rpki_der.specs.Der.{IsBytes, IsNothing, IsSequence, IsTlv, IsValue, Refines}
-use Rattle.rpki_der.specs.Reading.{IsReading, nothing}
+use Rattle.rpki_der.specs.Reading.{IsModal, IsReading, Tightens, nothing, value_at}
 use Rattle.rpki_der.proofs.Contents.{nothing_check}
+use Rattle.rpki_der.proofs.Modes.{bind_tightens, looked_tightens}
 use Rattle.rpki_der.proofs.Readings.{same_reading}
 use Rattle.rpki_der.proofs.Steps.{IsCheck, bind_ok}
 use Rattle.rpki_base.specs.DerReading.{SaysByTag}
+use Rattle.rpki_base.proofs.DerModes.{by_tag_tightens}
 use Rattle.rpki_base.proofs.DerReadings.{by_tag_reading, mapped_check}
 use Rattle.rpki_chain.specs.declared.choice.ResourcesChoice.{ResourcesChoice}
 use Rattle.rpki_chain.specs.declared.choice.ResourcesChoice.TheVariants.{Missing, Inherit, Blocks}
-use Rattle.rpki_chain.specs.ChoiceDer.{IsChoiceOf, choice_at, inherited_in, listed_in, some_in, some_of}
+use Rattle.rpki_chain.specs.ChoiceDer.{IsChoiceOf, choice_at, choice_in, inherited_in, listed_in, some_in, some_of}
 use Rattle.rpki_chain.specs.Runs.{Runs, Holds, IsRunsOfBlocks}
 use Rattle.rpki_blocks.specs.Sets.{Covers}
 use Rattle.rpki_blocks.proofs.Chains.{Covers-nil}
@@ -81,3 +83,17 @@ module _ {X : Type 0} (Says : List ℕ → List X → Type 0) (values : List ℕ
       (by_tag_reading 5 SaysInherit SaysListed inherited_in (listed_in values) (λ e. omega arith)
       (mapped_check IsBytes IsNothing nothing (λ u. Inherit) nothing_is)
       (mapped_check IsBytes SaysSome (some_in values) Blocks some_check))
+
+-- the same by the mode
+pub choice_modal : {X : Type 0} (Says : List ℕ → List X → Type 0) (values : List ℕ → Result (List X) DerError) (by : Bool → List ℕ → Result (List X) DerError)
+    → IsCheck IsBytes Says (by true) → ((strict : Bool) (content : List ℕ) → Tightens strict (by strict content) (values content))
+    → IsModal (IsChoiceOf (Refines IsSequence Says)) (choice_at values) (λ strict. choice_at (by strict))
+choice_modal {X} Says values by check tight = record {
+  tight = choice_reading Says (by true) check;
+  tightens = λ strict bytes. looked_tightens strict value_at (choice_in (by strict)) (choice_in values) (λ v. by_tag_tightens strict 5 inherited_in (listed_in (by strict)) inherited_in (listed_in values) (λ content. inl refl) (listed strict) v) bytes;
+}
+  where
+    listed : (strict : Bool) (content : List ℕ) → Tightens strict (listed_in (by strict) content) (listed_in values content)
+    listed strict content =
+        bind_tightens strict (some_in (by strict) content) (some_in values content) (λ xs. Ok (Blocks xs)) (λ xs. Ok (Blocks xs))
+        (bind_tightens strict (by strict content) (values content) some_of some_of (tight strict content) (λ xs. inl refl)) (λ xs. inl refl)

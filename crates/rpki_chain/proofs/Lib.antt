@@ -1,4 +1,5 @@
 -- Lemmas on runs, claims and paths.
+pub mod Ascending
 pub mod ChoiceReadings
 pub mod ClaimLemmas
 mod Covered

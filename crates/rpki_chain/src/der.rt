@@ -2,7 +2,7 @@
 //! 3.2.3.3).
 ghost use Rattle.std.specs.Prelude.{◌≡◌, ◌≢◌, ◌≤◌, ◌<◌, ◌+◌, ◌^◌, ◌++◌, [], length, vec_len, IfOk, IfSome, IfNone, OnOk, OnErr, IsOk};
 ghost use Rattle.std.specs.Vec.{vec_capacity};
-ghost use Rattle.rpki_der.specs.Views.{Lenient, left, tlv};
+ghost use Rattle.rpki_der.specs.Views.{Lenient, is_strict, is_strict_in, left, tlv};
 ghost use Rattle.rpki_base.specs.DerReading.{IsSequenceFrom, values_from};
 ghost use Rattle.rpki_base.specs.DerViews.{ReadsOrMemory, TakesSaidOrMemory};
 ghost use Rattle.rpki_base.specs.DerWriting.{octets_of_all, sequence_octets};
@@ -38,6 +38,12 @@ pub fn take_choice<T: Block, R: ReadNext<Value = T>, A: Allocator + Copy>(
         (choice_at (values_from (R.after reader.now) (R.reading reader.now)
         (R.first reader.now)))) }
     ensures some { IfOk result ListsSome }
+    // In either mode.
+    ensures by_mode { TakesSaidOrMemory (ListsBy (IsRunsOfBlocks T.bounds)) cursor.old cursor.new
+        result
+        (choice_at (values_from (R.after reader.now)
+        (R.reading_by reader.now (is_strict cursor.old)) (R.first reader.now))) }
+    ensures mode { is_strict cursor.new ≡ is_strict cursor.old }
 {
     next_choice(alloc, reader, cursor)
 }
@@ -49,9 +55,11 @@ fn next_choice<T: Block, R: ReadNext<Value = T>, A: Allocator + Copy>(
     reader: &R,
     cursor: &mut Cursor<'_>,
 ) -> Result<ResourcesChoice<BlockSet<T, A>>, OrMemory<DerError>>
-    ensures exact { TakesSaidOrMemory (ListsBy (IsRunsOfBlocks T.bounds)) cursor.old cursor.new
+    ensures by_mode { TakesSaidOrMemory (ListsBy (IsRunsOfBlocks T.bounds)) cursor.old cursor.new
         result
-        (choice_at (values_from (R.after reader.now) (R.reading reader.now) (R.first reader.now))) }
+        (choice_at (values_from (R.after reader.now)
+        (R.reading_by reader.now (is_strict cursor.old)) (R.first reader.now))) }
+    ensures mode { is_strict cursor.new ≡ is_strict cursor.old }
     ensures some { IfOk result ListsSome }
 {
     let mut ahead = *cursor;
@@ -66,8 +74,9 @@ fn choice_of_value<T: Block, R: ReadNext<Value = T>, A: Allocator + Copy>(
     reader: &R,
     value: &Content<'_>,
 ) -> Result<ResourcesChoice<BlockSet<T, A>>, OrMemory<DerError>>
-    ensures exact { GivesSaidOrMemory (ListsBy (IsRunsOfBlocks T.bounds)) result
-        (choice_in (values_from (R.after reader.now) (R.reading reader.now) (R.first reader.now))
+    ensures by_mode { GivesSaidOrMemory (ListsBy (IsRunsOfBlocks T.bounds)) result
+        (choice_in (values_from (R.after reader.now)
+        (R.reading_by reader.now (is_strict_in value.now)) (R.first reader.now))
         (tlv value.now)) }
     ensures some { IfOk result ListsSome }
 {
@@ -87,8 +96,9 @@ fn set_within<T: Block, R: ReadNext<Value = T>, A: Allocator + Copy>(
     reader: &R,
     content: Cursor<'_>,
 ) -> Result<BlockSet<T, A>, OrMemory<DerError>>
-    ensures exact { GivesSaidOrMemory (IsRunsOfBlocks T.bounds) result
-        (some_in (values_from (R.after reader.now) (R.reading reader.now) (R.first reader.now))
+    ensures by_mode { GivesSaidOrMemory (IsRunsOfBlocks T.bounds) result
+        (some_in (values_from (R.after reader.now)
+        (R.reading_by reader.now (is_strict content.entry)) (R.first reader.now))
         (left content.entry)) }
     ensures some { IfOk result (λ set. set ≢ []) }
 {

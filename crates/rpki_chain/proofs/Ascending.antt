@@ -1,0 +1,113 @@
+-- Blocks that strict cursors take one after another: they are a chain, and the octets are what is written of their set.
+use Rattle.std.proofs.Common.{◌≡◌, ℕ, suc, ◌+◌, ◌^◌, ◌<◌, ◌≤◌, List, [], ◌∷◌, ◌++◌, length, map, Option, Some, None, refl, sym, ap, subst, ◌∙◌, arith}
+use Rattle.std.specs.Prelude.{All, AllPairs}
+use Rattle.std.proofs.lemmas.List.Elements.{All-cons, All-map, All-nil, All-tail}
+use Rattle.std.proofs.lemmas.List.Folds.{flat_map-map}
+use Rattle.std.proofs.lemmas.List.Kept.{AllPairs-cons}
+use Rattle.rpki_blocks.specs.Beyond.{IsBeyond}
+use Rattle.rpki_blocks.specs.Sets.{Covers, IsChain, IsNew}
+use Rattle.rpki_blocks.proofs.Chains.{Covers-nil, IsChain-nil}
+use Rattle.rpki_blocks.proofs.Unique.{Covers-head}
+use Rattle.rpki_der.specs.Der.{EachFrom, IsValue, Refines, Spells, Where, sequence_value}
+use Rattle.rpki_der.proofs.Written.{value_is}
+use Rattle.rpki_base.specs.DerReading.{IsSequenceFrom}
+use Rattle.rpki_base.specs.DerWriting.{octets_of_all, sequence_octets}
+use Rattle.rpki_chain.specs.BlockSets.{IsBlockChain, IsBlockSet}
+use Rattle.rpki_chain.specs.Runs.{Runs, Holds, IsRunsOf, IsRunsOfBlocks}
+use Rattle.rpki_chain.proofs.RunLists.{IsRunsOf-itself, IsRunsOf-unique, IsRunsOfBlocks-bounds}
+use Rattle.rpki_chain.proofs.SetLemmas.{IsBlockSet-from_chain, blocks_made, made_of_set}
+
+-- what is beyond what is beyond
+beyond_more : (before : Option ℕ) (a b n : ℕ) → IsBeyond before a → a ≤ b → b + 1 < n → IsBeyond before n
+beyond_more None a b n first ordered second = tt
+beyond_more (Some greatest) a b n first ordered second = omega (arith, first, ordered, second)
+
+-- the runs of no blocks
+pub no_numbers : {B : Type 0} (f : B → ℕ × ℕ) (set : Runs) → IsRunsOfBlocks f [] set → set ≡ []
+no_numbers f [] is = refl
+no_numbers f (b ∷ set) is = absurd (Covers-nil f b.0 ((is.members b.0).0 (Covers-head (λ c. c) b set b.0 (omega arith, is.ordered 0 b (omega arith)))))
+
+-- what is written of a block that sets have; Fits says what else is known of its bounds
+pub record IsWritten {B : Type 0} (f : B → ℕ × ℕ) (form : ℕ × ℕ → B) (octets : B → List ℕ) (last : ℕ) (Fits : ℕ × ℕ → Type 0) (G : List ℕ → B → Type 0) : Type 0 where
+  pub spelled : (bytes : List ℕ) (x : B) → G bytes x → bytes ≡ octets x
+  pub ordered : (bytes : List ℕ) (x : B) → G bytes x → (f x).0 ≤ (f x).1
+  pub below : (bytes : List ℕ) (x : B) → G bytes x → (f x).1 ≤ last
+  pub fits : (bytes : List ℕ) (x : B) → G bytes x → Fits (f x)
+  pub new_form : (bytes : List ℕ) (x : B) → G bytes x → IsNew f form x
+  pub written : (b : ℕ × ℕ) → b.0 ≤ b.1 → b.1 ≤ last → Fits b → G (octets (form b)) (form b)
+  pub form_bounds : (b : ℕ × ℕ) → b.0 ≤ b.1 → b.1 ≤ last → f (form b) ≡ b
+
+module _ {B : Type 0} (f : B → ℕ × ℕ) (form : ℕ × ℕ → B) (octets : B → List ℕ) (last : ℕ) (Fits : ℕ × ℕ → Type 0) (G : List ℕ → B → Type 0) (is : IsWritten f form octets last Fits G) where
+  -- the greatest number of the block before
+  abbrev Next : Option ℕ → B → Option ℕ
+  Next before x = Some (f x).1
+
+  -- a block behind it
+  abbrev Behind : Option ℕ → List ℕ → B → Type 0
+  Behind before = Where G (λ x. IsBeyond before (f x).0)
+
+  -- what is known of blocks that were taken
+  record AreTaken (before : Option ℕ) (bytes : List ℕ) (xs : List B) : Type 0 where
+    chain : IsBlockChain f form last xs
+    fit : All (λ x. Fits (f x)) xs
+    beyond : All (λ x. IsBeyond before (f x).0) xs
+    spelled : bytes ≡ octets_of_all octets xs
+
+  are_taken : (before : Option ℕ) (bytes : List ℕ) (xs : List B) → EachFrom Next Behind before bytes xs → AreTaken before bytes xs
+  are_taken before bytes [] none = record { chain = record { chain = IsChain-nil f form; below = All-nil _ }; fit = All-nil _; beyond = All-nil _; spelled = none }
+  are_taken before bytes (x ∷ xs) (rest, (front, (g, first), split), more) =
+      let then = are_taken (Some (f x).1) rest xs more in
+      let in_order = is.ordered front x g in
+      record {
+        chain = record {
+          chain = record {
+            ordered = All-cons (λ y. (f y).0 ≤ (f y).1) x xs in_order then.chain.chain.ordered;
+            apart = AllPairs-cons (λ y z. (f y).1 + 1 < (f z).0) x xs then.beyond then.chain.chain.apart;
+            new_form = All-cons (IsNew f form) x xs (is.new_form front x g) then.chain.chain.new_form;
+          };
+          below = All-cons (λ y. (f y).1 ≤ last) x xs (is.below front x g) then.chain.below;
+        };
+        fit = All-cons (λ y. Fits (f y)) x xs (is.fits front x g) then.fit;
+        beyond = All-cons (λ y. IsBeyond before (f y).0) x xs first (λ k d small. beyond_more before (f x).0 (f x).1 _ first in_order (then.beyond k d small));
+        spelled = split ∙ ap (λ (t : List ℕ). t ++ rest) (is.spelled front x g) ∙ ap (λ (t : List ℕ). octets x ++ t) then.spelled;
+      }
+
+  -- what is written of runs is taken as their blocks
+  taken : (before : Option ℕ) (set : Runs) → All (λ b. b.0 ≤ b.1) set → All (λ b. b.1 ≤ last) set → All Fits set → AllPairs (λ b c. b.1 + 1 < c.0) set → All (λ b. IsBeyond before b.0) set
+      → EachFrom Next Behind before (octets_of_all (λ b. octets (form b)) set) (map form set)
+  taken before [] ordered below fit apart beyond = refl
+  taken before (b ∷ set) ordered below fit apart beyond =
+      let in_order = ordered 0 b (omega arith) in
+      let to = below 0 b (omega arith) in
+      let same : f (form b) ≡ b = is.form_bounds b in_order to in
+      let first : IsBeyond before (f (form b)).0 = subst (λ (c : ℕ × ℕ). IsBeyond before c.0) (sym same) (beyond 0 b (omega arith)) in
+      let then = taken (Some b.1) set (All-tail (λ (c : ℕ × ℕ). c.0 ≤ c.1) b set ordered) (All-tail (λ (c : ℕ × ℕ). c.1 ≤ last) b set below) (All-tail Fits b set fit) (λ i j d lt within. apart (suc i) (suc j) d (omega arith) (omega arith)) (λ k d small. apart 0 (suc k) d (omega arith) (omega arith)) in
+      let octets_then = octets_of_all (λ c. octets (form c)) set in
+      (octets_then, (octets (form b), (is.written b in_order to (fit 0 b (omega arith)), first), refl), subst (λ (c : ℕ × ℕ). EachFrom Next Behind (Some c.1) octets_then (map form set)) (sym same) then)
+
+  -- a set whose runs fit
+  abbrev pub IsFitting : Runs → Type 0
+  IsFitting set = IsBlockSet last set × All Fits set
+
+  -- a SEQUENCE of such blocks is what is written of a set
+  pub set_spelled : (bytes : List ℕ) (set : Runs) → Refines (IsSequenceFrom Next Behind None) (IsRunsOfBlocks f) bytes set → Spells IsFitting (sequence_octets (λ b. octets (form b))) bytes set
+  set_spelled bytes set (xs, (content, at, each), says) =
+      let are = are_taken None content xs each in
+      let runs : Runs = map f xs in
+      let own : IsBlockSet last runs = IsBlockSet-from_chain f form last xs are.chain in
+      let covered : IsRunsOfBlocks f xs runs = IsRunsOfBlocks-bounds f xs runs refl own.are_runs in
+      let same : runs ≡ set = IsRunsOf-unique (Covers f xs) runs set covered says in
+      let made : map form runs ≡ xs = blocks_made f form xs are.chain.chain.new_form in
+      let written : octets_of_all octets xs ≡ octets_of_all (λ b. octets (form b)) runs = ap (octets_of_all octets) (sym made) ∙ flat_map-map octets form runs in
+      let whole : content ≡ octets_of_all (λ b. octets (form b)) set = are.spelled ∙ written ∙ ap (octets_of_all (λ b. octets (form b))) same in
+      (subst IsFitting same (own, All-map Fits f xs are.fit), at.spelled ∙ ap sequence_value whole)
+
+  -- and what is written of a set, if it isn't too long, is such a SEQUENCE
+  pub spelled_set : (bytes : List ℕ) (set : Runs) → length (octets_of_all (λ b. octets (form b)) set) < 2 ^ 64
+      → Spells IsFitting (sequence_octets (λ b. octets (form b))) bytes set → Refines (IsSequenceFrom Next Behind None) (IsRunsOfBlocks f) bytes set
+  spelled_set bytes set short ((own, fit), spelled) =
+      let content = octets_of_all (λ b. octets (form b)) set in (
+        map form set,
+        (content, subst (λ (t : List ℕ). IsValue t 48 content) (sym spelled) (value_is 48 content (omega arith) short), taken None set own.are_runs.ordered own.below fit own.are_runs.apart (λ k d small. tt)),
+        made_of_set f form last is.form_bounds set own,
+      )

@@ -1,5 +1,5 @@
 -- What is written of sets of AS numbers, and that it is read back.
-use Rattle.std.proofs.Common.{◌≡◌, ℕ, zero, suc, ◌+◌, ◌*◌, ◌^◌, ◌<◌, ◌≤◌, ◌↔◌, List, [], ◌∷◌, ◌++◌, length, map, get_or, Result, sym, ap, subst, ◌∙◌, arith, ⊎_elim}
+use Rattle.std.proofs.Common.{◌≡◌, ℕ, zero, suc, ◌+◌, ◌*◌, ◌^◌, ◌<◌, ◌≤◌, ◌↔◌, Bool, true, List, Option, Some, None, [], ◌∷◌, ◌++◌, length, map, get_or, Result, refl, sym, ap, subst, ◌∙◌, arith, ⊎_elim}
 use Rattle.std.specs.List.{AllByRecursion, flat_map}
 use Rattle.std.specs.Prelude.{MatchResult}
 use Rattle.std.proofs.lemmas.Bool.{cases_lt, eq-eqb, ne_eqb}
@@ -8,32 +8,35 @@ use Rattle.std.proofs.lemmas.List.Elements.{recursion_from_All}
 use Rattle.std.proofs.lemmas.List.Folds.{flat_map-map}
 use Rattle.rpki_chain.specs.Runs.{Runs, Holds, IsRunsOfBlocks}
 use Rattle.rpki_blocks.specs.Sets.{Covers}
+use Rattle.rpki_chain.proofs.Ascending.{IsWritten, set_spelled, spelled_set}
 use Rattle.rpki_chain.proofs.RunLists.{IsRunsOf-unique, same_numbers}
 use Rattle.rpki_chain.proofs.SetLemmas.{bounds_made, made_of_set}
 use Rattle.rpki_der.specs.declared.cursor.Cursor.{Cursor}
 use Rattle.rpki_der.specs.declared.error.DerError.{DerError}
-use Rattle.rpki_der.specs.Der.{IsBytes, OneFront, header, sequence_value}
-use Rattle.rpki_der.specs.Reading.{IsReading}
-use Rattle.rpki_der.specs.Views.{left}
+use Rattle.rpki_der.specs.Der.{IsBytes, OneFront, Refines, Spells, header, sequence_value}
+use Rattle.rpki_der.specs.Reading.{IsModal, IsReading, refined, tagged_at}
+use Rattle.rpki_der.specs.Views.{Lenient, Strict, is_strict, left}
 use Rattle.rpki_der.proofs.Readings.{one_front}
 use Rattle.rpki_der.proofs.Written.{length-header}
-use Rattle.rpki_base.specs.DerReading.{IsSequenceOf}
-use Rattle.rpki_base.specs.DerViews.{ReadsOrMemory, TakesSaidOrMemory}
+use Rattle.rpki_base.specs.DerReading.{IsSequenceFrom, IsSequenceOf}
+use Rattle.rpki_base.specs.DerViews.{NotCanonicalOrMemory, ReadsOrMemory, TakesSaidOrMemory}
 use Rattle.rpki_text.specs.Memory.{IsMemory}
 use Rattle.rpki_text.specs.declared.memory.OrMemory.{OrMemory}
-use Rattle.rpki_base.proofs.DerCursors.{reads_said_by, takes_said}
+use Rattle.rpki_base.proofs.DerCursors.{reads_said_by}
+use Rattle.rpki_base.proofs.DerModes.{exact_said_by, reads_same, refused_said_by, sequence_modal, takes_said_by, values_stateless}
 use Rattle.rpki_base.proofs.DerReadings.{sequence_reading}
 use Rattle.rpki_base.proofs.DerWriting.{sequence_written, written_alike}
 use Rattle.rpki_as.specs.AsDer.{IsAsBlockSequence, as_run_octets, as_sequence_octets, as_set_octets}
 use Rattle.rpki_asblock.specs.AsDer.{IsAsBlock, as_block_octets, as_range_content}
 use Rattle.rpki_asblock.specs.AsDerLaws.{as_block_has_octets, as_block_reading}
-use Rattle.rpki_as.specs.AsDerReading.{as_blocks_at}
-use Rattle.rpki_asblock.specs.AsDerReading.{as_block_at}
+use Rattle.rpki_asblock.specs.AsDerModes.{IsNextBlock, IsStrictBlock, next_block_modal}
+use Rattle.rpki_as.specs.AsDerReading.{as_blocks_at, as_blocks_by, greatest_of}
+use Rattle.rpki_asblock.specs.AsDerReading.{as_block_at, next_block_by}
 use Rattle.rpki_asblock.specs.BlockForms.{new_as_block_bounds}
 use Rattle.rpki_as.specs.Blocks.{IsAsSet}
 use Rattle.rpki_asblock.specs.Blocks.{as_bounds, new_as_block}
 use Rattle.rpki_asblock.specs.declared.block.AsBlock.{AsBlock}
-use Rattle.rpki_asblock.proofs.AsDerLemmas.{block_written, length-content, length-number}
+use Rattle.rpki_asblock.proofs.AsDerLemmas.{block_numbers, block_spelled, block_written, length-content, length-number}
 
 -- ---- the blocks of a set
 
@@ -156,12 +159,59 @@ written_as_numbers a b is also = (
 pub one_set : (blocks : List AsBlock) (a b : Runs) → IsRunsOfBlocks as_bounds blocks a → IsRunsOfBlocks as_bounds blocks b → a ≡ b
 one_set blocks a b says tell = IsRunsOf-unique (Covers as_bounds blocks) a b says tell
 
--- a take that answers what the blocks say answers a set of the grammar
-pub reads_set : (old new : Cursor) (result : Result Runs (OrMemory DerError)) → IsBytes (left old) → TakesSaidOrMemory (IsRunsOfBlocks as_bounds) old new result as_blocks_at → ReadsOrMemory IsAsBlockSequence (λ set. set) old new result
-reads_set old new result fits took = reads_said_by (IsSequenceOf IsAsBlock) (IsRunsOfBlocks as_bounds) as_blocks_at old new result blocks_reading fits took
+-- ---- by the mode
 
--- and what is written of a set as that set
-pub reads_back_set : (old new : Cursor) (result : Result Runs (OrMemory DerError)) → TakesSaidOrMemory (IsRunsOfBlocks as_bounds) old new result as_blocks_at
-    → (set : Runs) (rest : List ℕ) → IsAsSet set → left old ≡ as_sequence_octets set ++ rest → MatchResult result (λ read. (read ≡ set) × (left new ≡ rest)) IsMemory
-reads_back_set old new result took set rest is at =
-    takes_said (IsSequenceOf IsAsBlock) (IsRunsOfBlocks as_bounds) as_blocks_at old new result blocks_reading one_set took (as_sequence_octets set) rest (map new_as_block set) set (sequence_blocks set is) (blocks_say set is) at
+-- blocks in new form are what is written of them
+pub strict_blocks : IsWritten as_bounds new_as_block as_block_octets 4294967295 (λ b. Unit {0}) IsStrictBlock
+unfolding IsRun32
+strict_blocks = record {
+  spelled = λ bytes x is. block_spelled bytes x is.0;
+  ordered = λ bytes x is. (block_numbers bytes x is.0).0;
+  below = λ bytes x is. (let less = (block_numbers bytes x is.0).1 in omega (arith, less));
+  fits = λ bytes x is. tt;
+  new_form = λ bytes x is. is.1;
+  written = λ b ordered to fits. (block_is b (ordered, omega (arith, to)), ap new_as_block (sym (new_as_block_bounds b)));
+  form_bounds = λ b ordered to. new_as_block_bounds b;
+}
+
+-- a SEQUENCE of blocks
+pub blocks_modal : IsModal (IsSequenceFrom greatest_of IsNextBlock None) as_blocks_at as_blocks_by
+blocks_modal =
+    subst (λ values. IsModal (IsSequenceFrom greatest_of IsNextBlock None) (refined (tagged_at 48) values) as_blocks_by) (values_stateless greatest_of as_block_at None)
+    (sequence_modal greatest_of (λ before. IsAsBlock) IsNextBlock (λ before. as_block_at) next_block_by (λ before. as_block_reading) (λ before. as_block_has_octets) next_block_modal None)
+
+-- strictly, it is what is written of a set
+pub sequence_spelled : (bytes : List ℕ) (set : Runs) → Refines (IsSequenceFrom greatest_of IsNextBlock None) (IsRunsOfBlocks as_bounds) bytes set → Spells IsAsSet as_sequence_octets bytes set
+sequence_spelled bytes set is =
+    let spelled = set_spelled as_bounds new_as_block as_block_octets 4294967295 (λ b. Unit {0}) IsStrictBlock strict_blocks bytes set is in
+    (spelled.0.0, spelled.1)
+
+pub spelled_sequence : (bytes : List ℕ) (set : Runs) → Spells IsAsSet as_sequence_octets bytes set → Refines (IsSequenceFrom greatest_of IsNextBlock None) (IsRunsOfBlocks as_bounds) bytes set
+spelled_sequence bytes set (is, spelled) =
+    spelled_set as_bounds new_as_block as_block_octets 4294967295 (λ b. Unit {0}) IsStrictBlock strict_blocks bytes set (set_octets_short set is) ((is, λ k d small. tt), spelled)
+
+module _ (old new : Cursor) (result : Result Runs (OrMemory DerError)) (took : TakesSaidOrMemory (IsRunsOfBlocks as_bounds) old new result (as_blocks_by (is_strict old))) where
+  -- a take that answers what the blocks say
+  pub exact_set : Lenient old (TakesSaidOrMemory (IsRunsOfBlocks as_bounds) old new result as_blocks_at)
+  exact_set = exact_said_by (IsSequenceFrom greatest_of IsNextBlock None) (IsRunsOfBlocks as_bounds) as_blocks_at as_blocks_by old new result blocks_modal took
+
+  -- answers a set of the grammar
+  pub reads_set : IsBytes (left old) → Lenient old (ReadsOrMemory IsAsBlockSequence (λ set. set) old new result)
+  reads_set fits lenient = reads_said_by (IsSequenceOf IsAsBlock) (IsRunsOfBlocks as_bounds) as_blocks_at old new result blocks_reading fits (exact_set lenient)
+
+  -- strictly, of the octets that are written of it
+  pub reads_canonical_set : IsBytes (left old) → Strict old (ReadsOrMemory (Spells IsAsSet as_sequence_octets) (λ set. set) old new result)
+  reads_canonical_set fits strict =
+      let S = IsSequenceFrom greatest_of IsNextBlock None in
+      let read = reads_said_by S (IsRunsOfBlocks as_bounds) (as_blocks_by true) old new result blocks_modal.tight fits (subst (λ mode. TakesSaidOrMemory (IsRunsOfBlocks as_bounds) old new result (as_blocks_by mode)) strict took) in
+      reads_same (Refines S (IsRunsOfBlocks as_bounds)) (Spells IsAsSet as_sequence_octets) (λ set. set) old new result sequence_spelled spelled_sequence read
+
+  -- else it is refused
+  pub refused_set : NotCanonicalOrMemory IsAsBlockSequence old result
+  refused_set = refused_said_by (IsSequenceOf IsAsBlock) (IsSequenceFrom greatest_of IsNextBlock None) (IsRunsOfBlocks as_bounds) as_blocks_at as_blocks_by old new result blocks_reading blocks_modal took
+
+  -- and what is written of a set is read as that set
+  pub reads_back_set : (set : Runs) (rest : List ℕ) → IsAsSet set → left old ≡ as_sequence_octets set ++ rest → MatchResult result (λ read. (read ≡ set) × (left new ≡ rest)) IsMemory
+  reads_back_set set rest is at =
+      let written = spelled_sequence (as_sequence_octets set) set (is, refl) in
+      takes_said_by (IsSequenceFrom greatest_of IsNextBlock None) (IsRunsOfBlocks as_bounds) as_blocks_at as_blocks_by old new result blocks_modal one_set took (as_sequence_octets set) rest written.0 set written.1 written.2 at

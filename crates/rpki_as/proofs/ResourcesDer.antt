@@ -1,20 +1,21 @@
 -- What is written of AS resources is read back.
-use Rattle.std.proofs.Common.{◌≡◌, ◌≢◌, ℕ, ◌+◌, ◌^◌, ◌<◌, ◌≤◌, ◌↔◌, List, [], ◌∷◌, ◌++◌, length, map, Result, refl, ap, arith, ⊎_elim}
+use Rattle.std.proofs.Common.{◌≡◌, ◌≢◌, ℕ, ◌+◌, ◌^◌, ◌<◌, ◌≤◌, ◌↔◌, true, List, [], ◌∷◌, ◌++◌, length, map, Option, None, Result, refl, sym, ap, subst, ◌∙◌, arith, ⊎_elim}
 use Rattle.std.specs.Prelude.{MatchResult}
 use Rattle.std.proofs.lemmas.Bool.{cases_lt, le-ltb, lt-ltb}
 use Rattle.std.proofs.lemmas.List.{append_assoc, length-append}
 use Rattle.rpki_der.specs.declared.cursor.Cursor.{Cursor}
 use Rattle.rpki_der.specs.declared.error.DerError.{DerError}
-use Rattle.rpki_der.specs.Der.{Each, IsBytes, OneFront, header, length_octets, value}
-use Rattle.rpki_der.specs.Reading.{IsReading}
-use Rattle.rpki_der.specs.Views.{left}
+use Rattle.rpki_der.specs.Der.{Each, EachFrom, IsBytes, OneFront, Refines, Spells, header, length_octets, sequence_value, value}
+use Rattle.rpki_der.specs.Reading.{IsModal, IsReading}
+use Rattle.rpki_der.specs.Views.{Lenient, Strict, is_strict, left}
 use Rattle.rpki_der.proofs.Numbers.{length-octets}
 use Rattle.rpki_der.proofs.Written.{value_is}
 use Rattle.rpki_text.specs.Memory.{IsMemory}
 use Rattle.rpki_text.specs.declared.memory.OrMemory.{OrMemory}
-use Rattle.rpki_base.specs.DerReading.{Encloses, IsSequenceOf, enclosed_at, values_of}
-use Rattle.rpki_base.specs.DerViews.{ReadsOrMemory, TakesSaidOrMemory}
-use Rattle.rpki_base.proofs.DerCursors.{reads_said_by, takes_said}
+use Rattle.rpki_base.specs.DerReading.{Encloses, IsSequenceFrom, IsSequenceOf, enclosed_at, values_from, values_of}
+use Rattle.rpki_base.specs.DerViews.{NotCanonicalOrMemory, ReadsOrMemory, TakesSaidOrMemory}
+use Rattle.rpki_base.proofs.DerCursors.{reads_said_by}
+use Rattle.rpki_base.proofs.DerModes.{enclosed_modal, exact_said_by, reads_same, refused_said_by, strict_values_check, takes_said_by, values_stateless, values_tighten}
 use Rattle.rpki_base.proofs.DerReadings.{enclosed_reading, one_front_said, values_check}
 use Rattle.rpki_chain.specs.declared.choice.ResourcesChoice.{ResourcesChoice}
 use Rattle.rpki_chain.specs.declared.choice.ResourcesChoice.TheVariants.{Missing, Inherit, Blocks}
@@ -22,17 +23,20 @@ use Rattle.rpki_chain.specs.ChoiceDer.{IsChoiceOf, choice_at, choice_octets}
 use Rattle.rpki_chain.specs.Choices.{ListsBy}
 use Rattle.rpki_chain.specs.Claims.{Claim, IsClaim}
 use Rattle.rpki_chain.specs.Runs.{Runs, IsRunsOfBlocks}
-use Rattle.rpki_chain.proofs.ChoiceReadings.{choice_reading}
+use Rattle.rpki_chain.proofs.Ascending.{no_numbers}
+use Rattle.rpki_chain.proofs.ChoiceReadings.{choice_modal, choice_reading, has_numbers}
 use Rattle.rpki_chain.proofs.ClaimLemmas.{lists_one}
-use Rattle.rpki_as.specs.AsDer.{IsAsChoice, IsAsResources, as_resources_octets, as_sequence_octets, as_set_octets}
+use Rattle.rpki_as.specs.AsDer.{IsAsChoice, IsAsResources, IsPresentClaim, as_resources_octets, as_sequence_octets, as_set_octets}
 use Rattle.rpki_asblock.specs.AsDer.{IsAsBlock}
 use Rattle.rpki_asblock.specs.AsDerLaws.{as_block_has_octets, as_block_reading}
-use Rattle.rpki_as.specs.AsDerReading.{as_choice_at}
-use Rattle.rpki_asblock.specs.AsDerReading.{as_block_at}
+use Rattle.rpki_asblock.specs.AsDerModes.{IsNextBlock, next_block_modal}
+use Rattle.rpki_as.specs.AsDerReading.{as_choice_at, as_choice_by, greatest_of}
+use Rattle.rpki_asblock.specs.AsDerReading.{as_block_at, next_block_by}
 use Rattle.rpki_as.specs.Blocks.{IsAsSet}
 use Rattle.rpki_asblock.specs.Blocks.{as_bounds, new_as_block}
 use Rattle.rpki_asblock.specs.declared.block.AsBlock.{AsBlock}
-use Rattle.rpki_as.proofs.AsDerLemmas.{blocks_say, one_set, sequence_blocks, set_octets_few}
+use Rattle.rpki_asblock.proofs.AsDerLemmas.{block_numbers}
+use Rattle.rpki_as.proofs.AsDerLemmas.{blocks_say, one_set, sequence_blocks, sequence_spelled, set_octets_few, spelled_sequence}
 
 -- ---- readings
 
@@ -126,14 +130,90 @@ resources_alike a b is also some more = (
   λ e. ap as_resources_octets e,
 )
 
+-- ---- by the mode
+
+-- what strict cursors take
+abbrev IsStrictChoice : List ℕ → ResourcesChoice (List AsBlock) → Type 0
+IsStrictChoice = Encloses 48 (Encloses 160 (IsChoiceOf (IsSequenceFrom greatest_of IsNextBlock None)))
+
+inner_modal : IsModal (IsChoiceOf (IsSequenceFrom greatest_of IsNextBlock None)) (choice_at (values_of as_block_at)) (λ strict. choice_at (values_from greatest_of (next_block_by strict) None))
+inner_modal =
+    subst (λ values. IsModal (IsChoiceOf (IsSequenceFrom greatest_of IsNextBlock None)) (choice_at values) (λ strict. choice_at (values_from greatest_of (next_block_by strict) None))) (values_stateless greatest_of as_block_at None)
+    (choice_modal (EachFrom greatest_of IsNextBlock None) (values_from greatest_of (λ before. as_block_at) None) (λ strict. values_from greatest_of (next_block_by strict) None)
+    (strict_values_check greatest_of (λ before. IsAsBlock) IsNextBlock (λ before. as_block_at) next_block_by (λ before. as_block_reading) (λ before. as_block_has_octets) next_block_modal None)
+    (λ strict. values_tighten strict greatest_of (next_block_by strict) (λ before. as_block_at) (λ before. (next_block_modal before).tightens strict) None))
+
+as_choice_modal : IsModal IsStrictChoice as_choice_at as_choice_by
+as_choice_modal =
+    enclosed_modal 48 (Encloses 160 (IsChoiceOf (IsSequenceFrom greatest_of IsNextBlock None))) (enclosed_at 160 (choice_at (values_of as_block_at))) (λ strict. enclosed_at 160 (choice_at (values_from greatest_of (next_block_by strict) None)))
+    (enclosed_modal 160 (IsChoiceOf (IsSequenceFrom greatest_of IsNextBlock None)) (choice_at (values_of as_block_at)) (λ strict. choice_at (values_from greatest_of (next_block_by strict) None)) inner_modal)
+
+-- blocks of which one is taken stand for a set that isn't empty
+some_numbers : (content : List ℕ) (xs : List AsBlock) (set : Runs) → EachFrom greatest_of IsNextBlock None content xs → xs ≢ [] → IsRunsOfBlocks as_bounds xs set → set ≢ []
+some_numbers content [] set each some is = absurd (some refl)
+some_numbers content (x ∷ xs) set (rest, (front, ((block, new_form), beyond), split), more) some is = has_numbers as_bounds (x ∷ xs) x set refl (block_numbers front x block).0 is
+
+-- and the blocks of a set that isn't empty are some
+some_blocks_of : (xs : List AsBlock) (set : Runs) → IsRunsOfBlocks as_bounds xs set → set ≢ [] → xs ≢ []
+some_blocks_of xs set is some none = some (no_numbers as_bounds set (subst (λ (t : List AsBlock). IsRunsOfBlocks as_bounds t set) none is))
+
+-- strictly, they are what is written of a claim
+choice_spelled : (bytes : List ℕ) (claim : Claim) → Refines IsStrictChoice (ListsBy (IsRunsOfBlocks as_bounds)) bytes claim → Spells IsPresentClaim as_resources_octets bytes claim
+choice_spelled bytes claim (choice, (outer, whole, (inner, tagged, is)), lists) = by_choice choice is lists
+  where
+    spelled : (claim : Claim) → inner ≡ choice_octets as_sequence_octets claim → bytes ≡ as_resources_octets claim
+    spelled claim e = whole.spelled ∙ ap sequence_value (tagged.spelled ∙ ap (value 160) e)
+
+    of_claim : (present : Claim) → IsPresentClaim present → inner ≡ choice_octets as_sequence_octets present → claim ≡ present → Spells IsPresentClaim as_resources_octets bytes claim
+    of_claim present is e same = subst (Spells IsPresentClaim as_resources_octets bytes) (sym same) (is, spelled present e)
+
+    by_choice : (choice : ResourcesChoice (List AsBlock)) → IsChoiceOf (IsSequenceFrom greatest_of IsNextBlock None) inner choice → ListsBy (IsRunsOfBlocks as_bounds) choice claim → Spells IsPresentClaim as_resources_octets bytes claim
+    by_choice Missing is lists = absurd is
+    by_choice Inherit is lists = of_claim Inherit (tt, (λ e. cc)) is.spelled lists
+    by_choice (Blocks xs) (sequence, some) (set, runs, same) =
+        let of_set = sequence_spelled inner set (xs, sequence, runs) in
+        of_claim (Blocks set) ((of_set.0, some_numbers sequence.0 xs set sequence.2 some runs), (λ e. cc)) of_set.1 same
+
+spelled_choice : (bytes : List ℕ) (claim : Claim) → Spells IsPresentClaim as_resources_octets bytes claim → Refines IsStrictChoice (ListsBy (IsRunsOfBlocks as_bounds)) bytes claim
+spelled_choice bytes claim ((is, some), spelled) = subst (λ t. Refines IsStrictChoice (ListsBy (IsRunsOfBlocks as_bounds)) t claim) (sym spelled) (of_claim claim is some)
+  where
+    enclosed : (claim : Claim) → IsClaim IsAsSet claim → (choice : ResourcesChoice (List AsBlock)) → IsChoiceOf (IsSequenceFrom greatest_of IsNextBlock None) (choice_octets as_sequence_octets claim) choice → IsStrictChoice (as_resources_octets claim) choice
+    enclosed claim is choice inner =
+        let octets = choice_octets as_sequence_octets claim in
+        let few : length octets ≤ 2 ^ 35 + 10 = inner_few claim is in
+        let more : length (value 160 octets) ≤ length octets + 10 = length-value 160 octets in
+        (value 160 octets, value_is 48 (value 160 octets) (omega arith) (omega (arith, few, more)), (octets, value_is 160 octets (omega arith) (omega (arith, few)), inner))
+
+    of_claim : (claim : Claim) → IsClaim IsAsSet claim → claim ≢ Missing → Refines IsStrictChoice (ListsBy (IsRunsOfBlocks as_bounds)) (as_resources_octets claim) claim
+    of_claim Missing is some = absurd (some refl)
+    of_claim Inherit is some = (Inherit, enclosed Inherit is Inherit (value_is 5 [] (omega arith) (omega arith)), refl)
+    of_claim (Blocks set) is some =
+        let of_set = spelled_sequence (as_sequence_octets set) set (is.0, refl) in
+        (Blocks of_set.0, enclosed (Blocks set) is (Blocks of_set.0) (of_set.1, some_blocks_of of_set.0 set of_set.2 is.1), (set, of_set.2, refl))
+
 -- ---- takes
 
--- a take that answers what the blocks say answers resources of the grammar
-pub reads_resources : (old new : Cursor) (result : Result Claim (OrMemory DerError)) → IsBytes (left old) → TakesSaidOrMemory (ListsBy (IsRunsOfBlocks as_bounds)) old new result as_choice_at → ReadsOrMemory IsAsResources (λ claim. claim) old new result
-reads_resources old new result fits took = reads_said_by IsAsChoice (ListsBy (IsRunsOfBlocks as_bounds)) as_choice_at old new result as_choice_reading fits took
+module _ (old new : Cursor) (result : Result Claim (OrMemory DerError)) (took : TakesSaidOrMemory (ListsBy (IsRunsOfBlocks as_bounds)) old new result (as_choice_by (is_strict old))) where
+  -- a take that answers what the blocks say
+  pub exact_resources : Lenient old (TakesSaidOrMemory (ListsBy (IsRunsOfBlocks as_bounds)) old new result as_choice_at)
+  exact_resources = exact_said_by IsStrictChoice (ListsBy (IsRunsOfBlocks as_bounds)) as_choice_at as_choice_by old new result as_choice_modal took
 
--- and what is written of a claim as that claim
-pub reads_back_resources : (old new : Cursor) (result : Result Claim (OrMemory DerError)) → TakesSaidOrMemory (ListsBy (IsRunsOfBlocks as_bounds)) old new result as_choice_at
-    → (claim : Claim) (rest : List ℕ) → IsClaim IsAsSet claim → claim ≢ Missing → left old ≡ as_resources_octets claim ++ rest → MatchResult result (λ read. (read ≡ claim) × (left new ≡ rest)) IsMemory
-reads_back_resources old new result took claim rest is some at =
-    takes_said IsAsChoice (ListsBy (IsRunsOfBlocks as_bounds)) as_choice_at old new result as_choice_reading one_claim took (as_resources_octets claim) rest (blocks_of claim) claim (written_blocks claim is some) (says claim is) at
+  -- answers resources of the grammar
+  pub reads_resources : IsBytes (left old) → Lenient old (ReadsOrMemory IsAsResources (λ claim. claim) old new result)
+  reads_resources fits lenient = reads_said_by IsAsChoice (ListsBy (IsRunsOfBlocks as_bounds)) as_choice_at old new result as_choice_reading fits (exact_resources lenient)
+
+  -- strictly, of the octets that are written of them
+  pub reads_canonical_resources : IsBytes (left old) → Strict old (ReadsOrMemory (Spells IsPresentClaim as_resources_octets) (λ claim. claim) old new result)
+  reads_canonical_resources fits strict =
+      let read = reads_said_by IsStrictChoice (ListsBy (IsRunsOfBlocks as_bounds)) (as_choice_by true) old new result as_choice_modal.tight fits (subst (λ mode. TakesSaidOrMemory (ListsBy (IsRunsOfBlocks as_bounds)) old new result (as_choice_by mode)) strict took) in
+      reads_same (Refines IsStrictChoice (ListsBy (IsRunsOfBlocks as_bounds))) (Spells IsPresentClaim as_resources_octets) (λ claim. claim) old new result choice_spelled spelled_choice read
+
+  -- else they are refused
+  pub refused_resources : NotCanonicalOrMemory IsAsResources old result
+  refused_resources = refused_said_by IsAsChoice IsStrictChoice (ListsBy (IsRunsOfBlocks as_bounds)) as_choice_at as_choice_by old new result as_choice_reading as_choice_modal took
+
+  -- and what is written of a claim is read as that claim
+  pub reads_back_resources : (claim : Claim) (rest : List ℕ) → IsClaim IsAsSet claim → claim ≢ Missing → left old ≡ as_resources_octets claim ++ rest → MatchResult result (λ read. (read ≡ claim) × (left new ≡ rest)) IsMemory
+  reads_back_resources claim rest is some at =
+      let written = spelled_choice (as_resources_octets claim) claim ((is, some), refl) in
+      takes_said_by IsStrictChoice (ListsBy (IsRunsOfBlocks as_bounds)) as_choice_at as_choice_by old new result as_choice_modal one_claim took (as_resources_octets claim) rest written.0 claim written.1 written.2 at

@@ -1,13 +1,15 @@
 -- Sequences of blocks of AS numbers and AS resources in DER (RFC 3779, 3.2.3).
-use Rattle.std.specs.Prelude.{ℕ, List}
+use Rattle.std.specs.Prelude.{◌≢◌, ℕ, List}
 use Rattle.rpki_chain.specs.declared.choice.ResourcesChoice.{ResourcesChoice}
+use Rattle.rpki_chain.specs.declared.choice.ResourcesChoice.TheVariants.{Missing}
 use Rattle.rpki_chain.specs.ChoiceDer.{IsChoiceOf, choice_octets}
 use Rattle.rpki_chain.specs.Choices.{ListsBy}
-use Rattle.rpki_chain.specs.Claims.{Claim}
+use Rattle.rpki_chain.specs.Claims.{Claim, IsClaim}
 use Rattle.rpki_chain.specs.Runs.{Runs, IsRunsOfBlocks}
 use Rattle.rpki_der.specs.Der.{Refines, sequence_value, value}
 use Rattle.rpki_base.specs.DerReading.{Encloses, IsSequenceOf}
 use Rattle.rpki_base.specs.DerWriting.{octets_of_all, sequence_octets}
+use Rattle.rpki_as.specs.Blocks.{IsAsSet}
 use Rattle.rpki_asblock.specs.AsDer.{IsAsBlock, as_block_octets}
 use Rattle.rpki_asblock.specs.Blocks.{as_bounds, new_as_block}
 use Rattle.rpki_asblock.specs.declared.block.AsBlock.{AsBlock}
@@ -43,3 +45,7 @@ as_sequence_octets set = sequence_octets as_run_octets set
 -- resources that aren't missing (3.2.3.1)
 abbrev pub as_resources_octets : Claim → List ℕ
 as_resources_octets claim = sequence_value (value 160 (choice_octets as_sequence_octets claim))
+
+-- a claim that has octets: inherited resources, or a set that isn't empty
+abbrev pub IsPresentClaim : Claim → Type 0
+IsPresentClaim claim = IsClaim IsAsSet claim × (claim ≢ Missing)

@@ -1,10 +1,11 @@
 -- Reading sequences of blocks of AS numbers and AS resources from left to right, with the first fault that is met.
-use Rattle.std.specs.Prelude.{ℕ, List, Result}
+use Rattle.std.specs.Prelude.{ℕ, Bool, List, Option, Some, None, Result}
 use Rattle.rpki_der.specs.declared.error.DerError.{DerError}
-use Rattle.rpki_base.specs.DerReading.{enclosed_at, sequence_of, values_of}
+use Rattle.rpki_base.specs.DerReading.{enclosed_at, sequence_from, sequence_of, values_from, values_of}
 use Rattle.rpki_chain.specs.declared.choice.ResourcesChoice.{ResourcesChoice}
 use Rattle.rpki_chain.specs.ChoiceDer.{choice_at}
-use Rattle.rpki_asblock.specs.AsDerReading.{as_block_at}
+use Rattle.rpki_asblock.specs.AsDerReading.{as_block_at, next_block_by}
+use Rattle.rpki_asblock.specs.Blocks.{as_bounds}
 use Rattle.rpki_asblock.specs.declared.block.AsBlock.{AsBlock}
 
 -- the blocks of a SEQUENCE
@@ -14,3 +15,14 @@ as_blocks_at = sequence_of as_block_at
 -- resources, of which the blocks are known
 abbrev pub as_choice_at : List ℕ → Result (ResourcesChoice (List AsBlock) × List ℕ) DerError
 as_choice_at = enclosed_at 48 (enclosed_at 160 (choice_at (values_of as_block_at)))
+
+-- ---- by the mode: strictly each block begins more than one above the greatest number of the one before
+
+abbrev pub greatest_of : Option ℕ → AsBlock → Option ℕ
+greatest_of before block = Some (as_bounds block).1
+
+abbrev pub as_blocks_by : Bool → List ℕ → Result (List AsBlock × List ℕ) DerError
+as_blocks_by strict = sequence_from greatest_of (next_block_by strict) None
+
+abbrev pub as_choice_by : Bool → List ℕ → Result (ResourcesChoice (List AsBlock) × List ℕ) DerError
+as_choice_by strict = enclosed_at 48 (enclosed_at 160 (choice_at (values_from greatest_of (next_block_by strict) None)))

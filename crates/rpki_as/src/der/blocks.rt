@@ -10,11 +10,12 @@ impl<A: Allocator> AsBlocks<A> {
     ghost use Rattle.std.specs.Prelude.{◌≡◌, ℕ, List, ◌≤◌, ◌+◌, ◌++◌, length, vec_len, OnOk, OnErr, IsOk, MatchResult};
     ghost use Rattle.std.specs.Vec.{vec_capacity};
     ghost use Rattle.rpki_chain.specs.Runs.{Runs, IsRunsOfBlocks};
-    ghost use Rattle.rpki_der.specs.Views.{Lenient, left};
-    ghost use Rattle.rpki_base.specs.DerViews.{ReadsOrMemory, TakesSaidOrMemory};
+    ghost use Rattle.rpki_der.specs.Der.{Spells};
+    ghost use Rattle.rpki_der.specs.Views.{Lenient, Strict, is_strict, left};
+    ghost use Rattle.rpki_base.specs.DerViews.{NotCanonicalOrMemory, ReadsOrMemory, TakesSaidOrMemory};
     ghost use Rattle.rpki_text.specs.Memory.{IsMemory};
     ghost use Rattle.rpki_as.specs.AsDer.{IsAsBlockSequence, as_sequence_octets, as_set_octets};
-    ghost use Rattle.rpki_as.specs.AsDerReading.{as_blocks_at};
+    ghost use Rattle.rpki_as.specs.AsDerReading.{as_blocks_at, as_blocks_by};
     ghost use Rattle.rpki_as.specs.Blocks.{IsAsSet};
     ghost use Rattle.rpki_asblock.specs.Blocks.{as_bounds};
 
@@ -22,7 +23,9 @@ impl<A: Allocator> AsBlocks<A> {
     /// order and may overlap.
     ///
     /// `Refused` with the first fault: that of the SEQUENCE as in [`Cursor::take_sequence`], or that of a block as in
-    /// [`AsBlock::take_opt_from`](crate::block::AsBlock::take_opt_from). `Memory` where there is no memory for the blocks.
+    /// [`AsBlock::take_opt_from`](crate::block::AsBlock::take_opt_from). From a strict cursor also `NotCanonical` where a
+    /// block doesn't begin more than one above the greatest number of the one before it (RFC 3779, 3.2.3.4). `Memory`
+    /// where there is no memory for the blocks. The cursor then stays.
     pub fn take_from(alloc: A, cursor: &mut Cursor<'_>) -> Result<AsBlocks<A>, OrMemory<DerError>>
     where
         A: Copy,
@@ -35,6 +38,12 @@ impl<A: Allocator> AsBlocks<A> {
         ensures reads_back { (set : Runs) (rest : List ℕ) → IsAsSet set
             → left cursor.old ≡ as_sequence_octets set ++ rest
             → MatchResult result (λ read. (read ≡ set) × (left cursor.new ≡ rest)) IsMemory }
+        // A strict cursor takes what is written of a set.
+        ensures strict { Strict cursor.old
+            (ReadsOrMemory (Spells IsAsSet as_sequence_octets) (λ set. set) cursor.old cursor.new
+            result) }
+        ensures refused { NotCanonicalOrMemory IsAsBlockSequence cursor.old result }
+        ensures mode { is_strict cursor.new ≡ is_strict cursor.old }
     {
         Self::next_set(alloc, cursor)
     }
@@ -57,8 +66,9 @@ impl<A: Allocator> AsBlocks<A> {
     fn next_set(alloc: A, cursor: &mut Cursor<'_>) -> Result<AsBlocks<A>, OrMemory<DerError>>
     where
         A: Copy,
-        ensures exact { TakesSaidOrMemory (IsRunsOfBlocks as_bounds) cursor.old cursor.new result
-            as_blocks_at }
+        ensures by_mode { TakesSaidOrMemory (IsRunsOfBlocks as_bounds) cursor.old cursor.new result
+            (as_blocks_by (is_strict cursor.old)) }
+        ensures mode { is_strict cursor.new ≡ is_strict cursor.old }
     {
         let mut ahead = *cursor;
         let blocks = take_sequence_of(alloc, &AsBlockReader, &mut ahead)?;

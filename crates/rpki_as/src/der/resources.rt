@@ -1,7 +1,8 @@
 //! AS resources in DER: a SEQUENCE of a tagged NULL or SEQUENCE of blocks (RFC 3779, 3.2.3.1 to 3.2.3.4; RFC 6487,
 //! 4.8.11).
 ghost use Rattle.rpki_der.specs.Reading.{tagged_at};
-ghost use Rattle.rpki_der.specs.Views.{Takes, left};
+ghost use Rattle.std.specs.Prelude.{◌≡◌, IfOk};
+ghost use Rattle.rpki_der.specs.Views.{Takes, is_strict, left};
 
 use crate::resources::AsResources;
 use rpki_asblock::der::AsBlockReader;
@@ -17,11 +18,12 @@ impl<A: Allocator> AsResources<A> {
     ghost use Rattle.rpki_chain.specs.Claims.{Claim, IsClaim};
     ghost use Rattle.rpki_chain.specs.Runs.{IsRunsOfBlocks};
     ghost use Rattle.rpki_chain.specs.declared.choice.ResourcesChoice.TheVariants.{Missing};
-    ghost use Rattle.rpki_der.specs.Views.{Lenient, left};
-    ghost use Rattle.rpki_base.specs.DerViews.{ReadsOrMemory, TakesSaidOrMemory};
+    ghost use Rattle.rpki_der.specs.Der.{Spells};
+    ghost use Rattle.rpki_der.specs.Views.{Lenient, Strict, is_strict, left};
+    ghost use Rattle.rpki_base.specs.DerViews.{NotCanonicalOrMemory, ReadsOrMemory, TakesSaidOrMemory};
     ghost use Rattle.rpki_text.specs.Memory.{IsMemory};
-    ghost use Rattle.rpki_as.specs.AsDer.{IsAsResources, as_resources_octets};
-    ghost use Rattle.rpki_as.specs.AsDerReading.{as_choice_at};
+    ghost use Rattle.rpki_as.specs.AsDer.{IsAsResources, IsPresentClaim, as_resources_octets};
+    ghost use Rattle.rpki_as.specs.AsDerReading.{as_choice_at, as_choice_by};
     ghost use Rattle.rpki_as.specs.Blocks.{IsAsSet};
     ghost use Rattle.rpki_asblock.specs.Blocks.{as_bounds};
 
@@ -31,7 +33,9 @@ impl<A: Allocator> AsResources<A> {
     /// [`Cursor::take_sequence`]; where that has neither a NULL nor a SEQUENCE, `BadTag`; `BadNull` for a NULL with
     /// content; the fault of a block as in [`AsBlock::take_opt_from`](crate::block::AsBlock::take_opt_from);
     /// `EmptyBlocks` for a SEQUENCE of no block; and then `TrailingData` for octets that are left in one of the two
-    /// that enclose it. `Memory` where there is no memory for the blocks. The cursor then stays.
+    /// that enclose it. From a strict cursor also `NotCanonical` as in
+    /// [`AsBlocks::take_from`](crate::blocks::AsBlocks::take_from). `Memory` where there is no memory for the blocks. The
+    /// cursor then stays.
     pub fn take_from(
         alloc: A,
         cursor: &mut Cursor<'_>,
@@ -47,6 +51,15 @@ impl<A: Allocator> AsResources<A> {
         ensures reads_back { (claim : Claim) (rest : List ℕ) → IsClaim IsAsSet claim
             → claim ≢ Missing → left cursor.old ≡ as_resources_octets claim ++ rest
             → MatchResult result (λ read. (read ≡ claim) × (left cursor.new ≡ rest)) IsMemory }
+        // A strict cursor takes what is written of resources.
+        ensures strict { Strict cursor.old
+            (ReadsOrMemory (Spells IsPresentClaim as_resources_octets) (λ claim. claim) cursor.old
+            cursor.new result) }
+        ensures refused { NotCanonicalOrMemory IsAsResources cursor.old result }
+        // In either mode.
+        ensures by_mode { TakesSaidOrMemory (ListsBy (IsRunsOfBlocks as_bounds)) cursor.old
+            cursor.new result (as_choice_by (is_strict cursor.old)) }
+        ensures mode { is_strict cursor.new ≡ is_strict cursor.old }
     {
         Self::next_resources(alloc, cursor)
     }
@@ -85,8 +98,9 @@ impl<A: Allocator> AsResources<A> {
     ) -> Result<AsResources<A>, OrMemory<DerError>>
     where
         A: Copy,
-        ensures exact { TakesSaidOrMemory (ListsBy (IsRunsOfBlocks as_bounds)) cursor.old cursor.new
-            result as_choice_at }
+        ensures by_mode { TakesSaidOrMemory (ListsBy (IsRunsOfBlocks as_bounds)) cursor.old
+            cursor.new result (as_choice_by (is_strict cursor.old)) }
+        ensures mode { is_strict cursor.new ≡ is_strict cursor.old }
     {
         let mut ahead = *cursor;
         let mut inside = ahead.take_sequence()?;
@@ -103,6 +117,8 @@ impl<A: Allocator> AsResources<A> {
 #[tactic(auto, unfolding(rpki_der::specs::Reading::tagged_at))]
 fn take_tagged<'a>(cursor: &mut Cursor<'a>, tag: u8) -> Result<Cursor<'a>, DerError>
     ensures exact { Takes left cursor.old cursor.new result (tagged_at tag) }
+    ensures mode { is_strict cursor.new ≡ is_strict cursor.old }
+    ensures hands_on_mode { IfOk result (λ content. is_strict content ≡ is_strict cursor.old) }
 {
     let mut ahead = *cursor;
     let value = ahead.take_value()?;

@@ -143,7 +143,7 @@ prefix_reading limit =
 -- ---- ranges
 
 -- a range that is read is the span of its prefixes
-span_says : (p q : PrefixValue) (r : RangeValue) → span_of p q ≡ Ok r → IsSpan p q r
+pub span_says : (p q : PrefixValue) (r : RangeValue) → span_of p q ≡ Ok r → IsSpan p q r
 unfolding span_of
 span_says p q r e =
     let made : RangeValue = record { min = p.first; max = last_of 128 q } in
@@ -151,7 +151,7 @@ span_says p q r e =
     subst (IsSpan p q) (ok_is made r g.1) (record { begins = refl; ends = refl; ordered = ltb-false (last_of 128 q) p.first g.0 })
 
 -- and the span of two prefixes is read
-span_again : (p q : PrefixValue) (r : RangeValue) → IsSpan p q r → span_of p q ≡ Ok r
+pub span_again : (p q : PrefixValue) (r : RangeValue) → IsSpan p q r → span_of p q ≡ Ok r
 unfolding span_of
 span_again p q r is =
     let ordered : ltb (last_of 128 q) p.first ≡ false = le-ltb (last_of 128 q) p.first (subst (λ n. n ≤ last_of 128 q) is.begins (subst (λ n. r.min ≤ n) is.ends is.ordered)) in

@@ -54,11 +54,11 @@ pub prefix_written : (limit : ℕ) (p : PrefixValue) → IsPrefix 128 p → p.le
 prefix_written limit p is short = (prefix_bits p, (bits_fit p is, value_is 3 _ (omega arith) (omega (arith, bits_few p is))), bits_say limit p is short)
 
 -- a least address of limit bits is written with at most limit bits
-from_short : (limit a : ℕ) → limit ≤ 128 → a < 2 ^ 128 → a % 2 ^ (128 - limit) ≡ 0 → (without_end_zeros a).len ≤ limit
+pub from_short : (limit a : ℕ) → limit ≤ 128 → a < 2 ^ 128 → a % 2 ^ (128 - limit) ≡ 0 → (without_end_zeros a).len ≤ limit
 from_short limit a le lt z = (shortest_from_is a lt).shortest (record { first = a; len = limit }) (record { short = le; aligned = z; below = lt }) refl
 
 -- and so is a greatest address of limit bits
-to_short : (limit a : ℕ) → limit ≤ 128 → a < 2 ^ 128 → (a + 1) % 2 ^ (128 - limit) ≡ 0 → (without_end_ones a).len ≤ limit
+pub to_short : (limit a : ℕ) → limit ≤ 128 → a < 2 ^ 128 → (a + 1) % 2 ^ (128 - limit) ≡ 0 → (without_end_ones a).len ≤ limit
 to_short limit a le lt z =
     let pos : 0 < 2 ^ (128 - limit) = pow_pos (128 - limit) in
     let m : IsMultiple (2 ^ (128 - limit)) (a + 1) = mod_multiple (128 - limit) (a + 1) z in

@@ -53,7 +53,7 @@ used_bits n k u m e = ap (λ (j : ℕ). n * 2 ^ k / 2 ^ j) e ∙ sym (shr-shr (n
 -- ---- the first octets of a number
 
 -- an octet of a number
-byte_is : (k n : ℕ) → byte_at k n ≡ n / 256 ^ k % 256
+pub byte_is : (k n : ℕ) → byte_at k n ≡ n / 256 ^ k % 256
 byte_is zero n = ap (λ (t : ℕ). t % 256) (sym (omega arith))
 byte_is (suc k) n = refl
 

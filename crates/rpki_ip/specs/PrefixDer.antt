@@ -1,11 +1,11 @@
 -- A prefix in DER (RFC 3779, 2.2.3.8; X.690, 8.6 and 11.2).
-use Rattle.std.specs.Prelude.{◌≡◌, ℕ, ◌+◌, ◌-◌, ◌*◌, ◌/◌, ◌^◌, ◌≤◌, List, ◌||◌, length, take, Result, Ok, Err, nat_lt, if◌then◌else◌}
+use Rattle.std.specs.Prelude.{◌≡◌, ℕ, ◌+◌, ◌-◌, ◌*◌, ◌/◌, ◌^◌, ◌≤◌, Bool, false, List, [], ◌∷◌, ◌||◌, ◌&&◌, length, take, Result, Ok, Err, nat_le, nat_lt, if◌then◌else◌}
 use Rattle.std.specs.Int.{w128, to_be_bytes}
-use Rattle.rpki_base.specs.Prefixes.{PrefixValue}
+use Rattle.rpki_base.specs.Prefixes.{PrefixValue, IsPrefix}
 use Rattle.rpki_der.specs.declared.error.DerError.{DerError}
 use Rattle.rpki_der.specs.declared.error.DerError.TheVariants.{BadPrefix}
 use Rattle.rpki_der.specs.Der.{Bits, IsBitContent, IsBitString, Refines, big_endian, bit_count, bit_string_value}
-use Rattle.rpki_der.specs.Reading.{◌>>=◌, bits, tagged_at, refined}
+use Rattle.rpki_der.specs.Reading.{◌>>=◌, bits, is_padded, passing, refined, tagged_at}
 
 -- a bit string of at most 16 octets says the prefix of its used bits, which zeros follow up to 128 bits; the unused
 -- bits count as zero whatever they are, and limit is the greatest length
@@ -47,3 +47,24 @@ prefix_in limit content = bits content >>= prefix_of limit
 
 abbrev pub prefix_at : ℕ → List ℕ → Result (PrefixValue × List ℕ) DerError
 prefix_at limit = refined (tagged_at 3) (prefix_in limit)
+
+-- ---- by the mode
+
+-- a prefix of limit bits at most
+abbrev pub IsPrefixWithin : ℕ → PrefixValue → Type 0
+IsPrefixWithin limit p = IsPrefix 128 p × (p.len ≤ limit)
+
+-- strictly, the unused bits are zero, which is looked at behind the length
+unfoldable pub prefix_of_by : Bool → ℕ → Bits → Result PrefixValue DerError
+prefix_of_by strict limit b = prefix_of limit b >>= passing strict (λ p. is_padded b)
+
+unfoldable pub prefix_in_by : Bool → ℕ → List ℕ → Result PrefixValue DerError
+prefix_in_by strict limit content = bits content >>= prefix_of_by strict limit
+
+abbrev pub prefix_by : Bool → ℕ → List ℕ → Result (PrefixValue × List ℕ) DerError
+prefix_by strict limit = refined (tagged_at 3) (prefix_in_by strict limit)
+
+-- whether a content that may be a bit string has more bits than the limit
+abbrev pub is_longer : ℕ → List ℕ → Bool
+is_longer limit [] = false
+is_longer limit (unused ∷ octets) = nat_le unused 7 && nat_lt (limit + unused) (8 * length octets)

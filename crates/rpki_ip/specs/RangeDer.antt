@@ -1,5 +1,5 @@
 -- A range of addresses in DER (RFC 3779, 2.2.3.9).
-use Rattle.std.specs.Prelude.{◌≡◌, ℕ, ◌+◌, ◌-◌, ◌%◌, ◌^◌, ◌≤◌, List, ◌++◌, Result, Ok, Err, nat_lt, if◌then◌else◌}
+use Rattle.std.specs.Prelude.{◌≡◌, ℕ, ◌+◌, ◌-◌, ◌%◌, ◌^◌, ◌≤◌, Bool, ◌==◌, ◌&&◌, List, ◌++◌, Result, Ok, Err, nat_lt, if◌then◌else◌}
 use Rattle.std.specs.Int.{w128, trailing_zeros, trailing_ones}
 use Rattle.rpki_base.specs.Prefixes.{PrefixValue, IsPrefix, last_of}
 use Rattle.rpki_base.specs.DerReading.{SaysPair, pair_in}
@@ -38,6 +38,10 @@ range_content r = prefix_der (without_end_zeros r.min) ++ prefix_der (without_en
 
 abbrev pub range_der : RangeValue → List ℕ
 range_der r = sequence_value (range_content r)
+
+-- whether prefixes from the least address and to the greatest are those that are written
+abbrev pub is_written_as : RangeValue → PrefixValue → PrefixValue → Bool
+is_written_as r p q = (p.len == (without_end_zeros r.min).len) && (q.len == (without_end_ones r.max).len)
 
 -- ---- the same by the shortest prefixes
 

@@ -10,7 +10,7 @@ impl AddressFamily {
     ghost use Rattle.rpki_base.specs.DerViews.{ReadsTagged};
     ghost use Rattle.rpki_ip.specs.declared.family.AddressFamily.{AddressFamily as SomeFamily};
     ghost use Rattle.std.specs.Vec.{vec_capacity};
-    ghost use Rattle.rpki_der.specs.Views.{Reads, Takes};
+    ghost use Rattle.rpki_der.specs.Views.{Reads, Takes, is_strict};
     ghost use Rattle.rpki_ip.specs.FamilyDer.{IsFamilyDer, SaysFamily, family_at, family_der, family_octets};
 
     /// The family that two octets name (RFC 3779, 2.2.3.3): 0 and 1 for IPv4, 0 and 2 for IPv6. Any others are refused by
@@ -29,6 +29,7 @@ impl AddressFamily {
     pub fn take_from(cursor: &mut Cursor<'_>) -> Result<AddressFamily, DerError>
         ensures reads { Reads IsFamilyDer (λ f. f) cursor.old cursor.new result }
         ensures exact { Takes (λ f. f) cursor.old cursor.new result family_at }
+        ensures mode { is_strict cursor.new ≡ is_strict cursor.old }
     {
         Self::next(cursor)
     }
@@ -38,6 +39,7 @@ impl AddressFamily {
     pub fn take_opt_from(cursor: &mut Cursor<'_>) -> Result<Option<AddressFamily>, DerError>
         ensures reads { ReadsTagged 4 IsFamilyDer cursor.old cursor.new result }
         ensures exact { Takes (λ f. f) cursor.old cursor.new result (if_tagged 4 family_at) }
+        ensures mode { is_strict cursor.new ≡ is_strict cursor.old }
     {
         Self::next_opt(cursor)
     }
@@ -47,6 +49,7 @@ impl AddressFamily {
         ensures reads { ReadsTagged 4 (Skips IsFamilyDer) cursor.old cursor.new result }
         ensures exact { Takes (λ u. u) cursor.old cursor.new result
             (if_tagged 4 (skipping family_at)) }
+        ensures mode { is_strict cursor.new ≡ is_strict cursor.old }
     {
         Self::pass_over_opt(cursor)
     }
@@ -96,9 +99,10 @@ impl AddressFamily {
 
 // The readings behind the calls.
 impl AddressFamily {
+    ghost use Rattle.std.specs.Prelude.{◌≡◌};
     ghost use Rattle.rpki_base.specs.DerReading.{if_tagged, skipping};
     ghost use Rattle.rpki_der.specs.Reading.{Gives};
-    ghost use Rattle.rpki_der.specs.Views.{Takes};
+    ghost use Rattle.rpki_der.specs.Views.{Takes, is_strict};
     ghost use Rattle.rpki_ip.specs.FamilyDer.{family_at, family_of_octets};
 
     #[tactic(auto, unfolding(crate::specs::FamilyDer::family_of_octets))]
@@ -115,6 +119,7 @@ impl AddressFamily {
     #[tactic(auto, unfolding(rpki_der::specs::Reading::refined))]
     fn next(cursor: &mut Cursor<'_>) -> Result<AddressFamily, DerError>
         ensures exact { Takes (λ f. f) cursor.old cursor.new result family_at }
+        ensures mode { is_strict cursor.new ≡ is_strict cursor.old }
     {
         let mut ahead = *cursor;
         let family = Self::named_by(ahead.take_octets()?)?;
@@ -125,6 +130,7 @@ impl AddressFamily {
     #[tactic(auto, unfolding(rpki_base::specs::DerReading::if_tagged))]
     fn next_opt(cursor: &mut Cursor<'_>) -> Result<Option<AddressFamily>, DerError>
         ensures exact { Takes (λ f. f) cursor.old cursor.new result (if_tagged 4 family_at) }
+        ensures mode { is_strict cursor.new ≡ is_strict cursor.old }
     {
         if cursor.peek_tag() != Some(tag::OCTET_STRING) {
             return Ok(None);
@@ -136,6 +142,7 @@ impl AddressFamily {
     fn pass_over_opt(cursor: &mut Cursor<'_>) -> Result<Option<()>, DerError>
         ensures exact { Takes (λ u. u) cursor.old cursor.new result
             (if_tagged 4 (skipping family_at)) }
+        ensures mode { is_strict cursor.new ≡ is_strict cursor.old }
     {
         if cursor.peek_tag() != Some(tag::OCTET_STRING) {
             return Ok(None);
@@ -146,6 +153,7 @@ impl AddressFamily {
     #[tactic(auto, unfolding(rpki_der::specs::Reading::refined))]
     fn pass_over(cursor: &mut Cursor<'_>) -> Result<(), DerError>
         ensures exact { Takes (λ u. u) cursor.old cursor.new result (skipping family_at) }
+        ensures mode { is_strict cursor.new ≡ is_strict cursor.old }
     {
         Self::next(cursor)?;
         Ok(())

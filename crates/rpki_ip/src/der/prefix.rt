@@ -1,6 +1,7 @@
 //! Prefixes in DER.
 ghost use Rattle.std.specs.Prelude.{◌≡◌, ◌≤◌, ◌-◌, ◌*◌, ◌^◌, length};
 ghost use Rattle.rpki_der.specs.Der.{big_endian};
+ghost use Rattle.rpki_ip.specs.PrefixDer.{is_longer};
 
 use crate::der::error::DecodePrefixError;
 use crate::family::AddressFamily;
@@ -16,10 +17,11 @@ impl Prefix {
     ghost use Rattle.std.specs.Vec.{vec_capacity};
     ghost use Rattle.rpki_base.specs.Prefixes.{IsPrefix, PrefixValue};
     ghost use Rattle.rpki_der.specs.Reading.{Gives};
-    ghost use Rattle.rpki_der.specs.Views.{Lenient, LenientIn, Parses, Reads, Takes, content_octets};
+    ghost use Rattle.rpki_der.specs.Der.{Spells};
+    ghost use Rattle.rpki_der.specs.Views.{Lenient, LenientIn, NotCanonicalOr, Parses, Reads, Strict, Takes, content_octets, is_strict, is_strict_in};
     ghost use Rattle.rpki_der.specs.Views.{bit_string_of};
     ghost use Rattle.rpki_ip.specs.Families.{bits_of};
-    ghost use Rattle.rpki_ip.specs.PrefixDer.{IsPrefixContent, IsPrefixDer, SaysPrefix, prefix_at, prefix_der, prefix_in};
+    ghost use Rattle.rpki_ip.specs.PrefixDer.{IsPrefixContent, IsPrefixDer, IsPrefixWithin, SaysPrefix, prefix_at, prefix_by, prefix_der, prefix_in, prefix_in_by};
 
     /// The prefix whose addresses begin with the bits of a bit string (RFC 3779, 2.2.3.8), which has at most sixteen
     /// octets, and else is refused by [`DecodePrefixError`]. Its unused bits may be set, and count as zero.
@@ -32,12 +34,17 @@ impl Prefix {
 
     /// Takes the BIT STRING of a prefix (RFC 3779, 2.2.3.8). Its unused bits may be set, and count as zero.
     ///
-    /// The faults are those of [`Cursor::take_bit_string`], and `BadPrefix` for more than sixteen octets.
+    /// The faults are those of [`Cursor::take_bit_string`], and `BadPrefix` for more than sixteen octets, which from a
+    /// strict cursor comes before `NotCanonical` for an unused bit that is set.
     pub fn take_from(cursor: &mut Cursor<'_>) -> Result<Prefix, DerError>
         ensures reads { Lenient cursor.old
             (Reads (IsPrefixDer 128) (λ p. p) cursor.old cursor.new result) }
         ensures exact { Lenient cursor.old
             (Takes (λ p. p) cursor.old cursor.new result (prefix_at 128)) }
+        ensures strict { Strict cursor.old
+            (Reads (Spells (IsPrefixWithin 128) prefix_der) (λ p. p) cursor.old cursor.new result) }
+        ensures refused { NotCanonicalOr (IsPrefixDer 128) cursor.old result }
+        ensures mode { is_strict cursor.new ≡ is_strict cursor.old }
     {
         Self::next(cursor, 128)
     }
@@ -52,18 +59,30 @@ impl Prefix {
             (Reads (IsPrefixDer (bits_of family)) (λ p. p) cursor.old cursor.new result) }
         ensures exact { Lenient cursor.old
             (Takes (λ p. p) cursor.old cursor.new result (prefix_at (bits_of family))) }
+        ensures strict { Strict cursor.old
+            (Reads (Spells (IsPrefixWithin (bits_of family)) prefix_der) (λ p. p) cursor.old
+            cursor.new result) }
+        ensures refused { NotCanonicalOr (IsPrefixDer (bits_of family)) cursor.old result }
+        // In either mode.
+        ensures by_mode { Takes (λ p. p) cursor.old cursor.new result
+            (prefix_by (is_strict cursor.old) (bits_of family)) }
+        ensures mode { is_strict cursor.new ≡ is_strict cursor.old }
     {
         Self::next(cursor, family.max_addr_len())
     }
 
     /// The content as the BIT STRING of a prefix, whatever the tag is.
     ///
-    /// `BadBitString` for any other content, `BadPrefix` for more than sixteen octets.
+    /// `BadBitString` for any other content, `BadPrefix` for more than sixteen octets; of a strict cursor's content also
+    /// `NotCanonical` where an unused bit is set.
     pub fn parse_content(content: &Content<'_>) -> Result<Prefix, DerError>
         ensures reads { LenientIn content.now
             (Parses (IsPrefixContent 128) (λ p. p) (content_octets content.now) result) }
         ensures exact { LenientIn content.now
             (Gives (λ p. p) result (prefix_in 128 (content_octets content.now))) }
+        // In either mode.
+        ensures by_mode { Gives (λ p. p) result
+            (prefix_in_by (is_strict_in content.now) 128 (content_octets content.now)) }
     {
         Self::of_content(content, 128)
     }
@@ -71,7 +90,7 @@ impl Prefix {
     /// The content as the BIT STRING of a prefix of the family, whatever the tag is.
     ///
     /// `BadBitString` for any other content, `BadPrefix` for more than sixteen octets and for a prefix that is longer
-    /// than the family's addresses.
+    /// than the family's addresses; `NotCanonical` as in `parse_content`.
     pub fn parse_content_with_family(
         content: &Content<'_>,
         family: AddressFamily,
@@ -81,6 +100,10 @@ impl Prefix {
             result) }
         ensures exact { LenientIn content.now
             (Gives (λ p. p) result (prefix_in (bits_of family) (content_octets content.now))) }
+        // In either mode.
+        ensures by_mode { Gives (λ p. p) result
+            (prefix_in_by (is_strict_in content.now) (bits_of family)
+            (content_octets content.now)) }
     {
         Self::of_content(content, family.max_addr_len())
     }
@@ -142,11 +165,10 @@ impl Prefix {
 
 // The readings behind the calls.
 impl Prefix {
-    ghost use Rattle.std.specs.Prelude.{◌≤◌};
+    ghost use Rattle.std.specs.Prelude.{◌≡◌, ◌≤◌};
     ghost use Rattle.rpki_der.specs.Reading.{Gives};
-    ghost use Rattle.rpki_der.specs.Views.{Takes, content_octets};
-    ghost use Rattle.rpki_der.specs.Views.{bit_string_of};
-    ghost use Rattle.rpki_ip.specs.PrefixDer.{prefix_at, prefix_in, prefix_of};
+    ghost use Rattle.rpki_der.specs.Views.{Takes, bit_string_of, content_octets, is_strict, is_strict_in};
+    ghost use Rattle.rpki_ip.specs.PrefixDer.{prefix_by, prefix_in_by, prefix_of};
 
     // The prefix of the bits, of at most `limit` bits.
     #[tactic(auto, unfolding(crate::specs::PrefixDer::prefix_of))]
@@ -161,18 +183,24 @@ impl Prefix {
         Ok(Prefix::new(beginning_with(bits.octets()), len as u8))
     }
 
-    #[tactic(auto, unfolding(crate::specs::PrefixDer::prefix_in))]
+    // The length is looked at before the unused bits are.
     fn of_content(content: &Content<'_>, limit: u8) -> Result<Prefix, DerError>
         requires { limit ≤ 128 }
-        ensures exact { Gives (λ p. p) result (prefix_in limit (content_octets content.now)) }
+        ensures by_mode { Gives (λ p. p) result
+            (prefix_in_by (is_strict_in content.now) limit (content_octets content.now)) }
     {
+        if is_longer(content.bytes(), limit) {
+            return Err(DerError::BadPrefix);
+        }
         Self::of_bits(&content.to_bit_string()?, limit)
     }
 
     #[tactic(auto, unfolding(rpki_der::specs::Reading::refined, rpki_der::specs::Reading::tagged_at))]
     fn next(cursor: &mut Cursor<'_>, limit: u8) -> Result<Prefix, DerError>
         requires { limit ≤ 128 }
-        ensures exact { Takes (λ p. p) cursor.old cursor.new result (prefix_at limit) }
+        ensures by_mode { Takes (λ p. p) cursor.old cursor.new result
+            (prefix_by (is_strict cursor.old) limit) }
+        ensures mode { is_strict cursor.new ≡ is_strict cursor.old }
     {
         let mut ahead = *cursor;
         let value = ahead.take_value()?;
@@ -182,6 +210,18 @@ impl Prefix {
         let prefix = Self::of_content(&value, limit)?;
         *cursor = ahead;
         Ok(prefix)
+    }
+}
+
+// Whether a content that may be a bit string has more bits than the limit.
+fn is_longer(content: &[u8], limit: u8) -> bool
+    ensures { result ≡ is_longer limit content.now }
+{
+    match content {
+        [unused, octets @ ..] => {
+            *unused <= 7 && 8 * octets.len() as u128 > limit as u128 + *unused as u128
+        }
+        [] => false,
     }
 }
 

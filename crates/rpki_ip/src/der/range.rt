@@ -12,7 +12,7 @@ impl AddressRange {
     ghost use Rattle.std.specs.Prelude.{◌≡◌, ◌≤◌, ◌<◌, ◌+◌, ◌++◌, length, vec_len, OnOk, OnErr, IsOk};
     ghost use Rattle.std.specs.Vec.{vec_capacity};
     ghost use Rattle.rpki_ip.specs.Ranges.{IsRange};
-    ghost use Rattle.rpki_ip.specs.RangeDer.{range_content, range_der};
+    ghost use Rattle.rpki_ip.specs.RangeDer.{is_written_as, range_content, range_der};
 
     /// How many octets `encode` appends.
     pub fn encoded_len(&self) -> usize
@@ -55,6 +55,14 @@ impl AddressRange {
         );
         first.append(out);
         second.append(out);
+    }
+
+    /// Whether prefixes from the least address and to the greatest are those that `append` writes.
+    pub fn is_written_as(&self, first: &Prefix, second: &Prefix) -> bool
+        ensures { result ≡ is_written_as self.now first.now second.now }
+    {
+        first.addr_len() == shortest_from(self.min()).addr_len()
+            && second.addr_len() == shortest_to(self.max()).addr_len()
     }
 
     // How many octets the content of the SEQUENCE has.

@@ -1,12 +1,29 @@
 -- What the reading gives is what the content says by its rule.
-use Rattle.std.proofs.Common.{ℕ, subst}
+use Rattle.std.proofs.Common.{◌∙◌, ℕ, false, ap, subst}
 use Rattle.rpki_der.specs.Reading.{Gives}
-use Rattle.rpki_der.specs.Views.{content_octets}
+use Rattle.rpki_der.specs.Views.{content_octets, is_strict_in}
 use Rattle.rpki_der.proofs.Cursors.{parses_by}
+use Rattle.rpki_der.proofs.Modes.{same_found}
 use Rattle.rpki_ip.specs.Families.{bits_of}
-use Rattle.rpki_ip.specs.PrefixDer.{IsPrefixContent, prefix_in}
+use Rattle.rpki_ip.specs.PrefixDer.{IsPrefixContent, prefix_in, prefix_in_by}
+use Rattle.rpki_ip.proofs.DerModes.{content_tightens}
 use Rattle.rpki_ip.proofs.DerReadings.{prefix_check}
 use Rattle.rpki_ip.proofs.prefix.Prefix.parse_content_with_family.Goals as goal
 
+by : goal.returns-clause-by_mode
+by c = subst (λ (limit : ℕ). Gives (λ p. p) c.of_content.result (prefix_in_by (is_strict_in c.args.content.now) limit (content_octets c.args.content.now))) c.max_addr_len.ensures c.of_content.ensures.by_mode
+
+pub returns-clause-by_mode : goal.returns-clause-by_mode
+returns-clause-by_mode c = by c
+
+exact : goal.returns-clause-exact
+exact c lenient =
+    let octets = content_octets c.args.content.now in
+    let limit = bits_of c.args.family in
+    subst (Gives (λ p. p) c.of_content.result) (ap (λ mode. prefix_in_by mode limit octets) lenient ∙ same_found (prefix_in_by false limit octets) (prefix_in limit octets) (content_tightens false limit octets)) (by c)
+
+pub returns-clause-exact : goal.returns-clause-exact
+returns-clause-exact c = exact c
+
 pub returns-clause-reads : goal.returns-clause-reads
-returns-clause-reads c = parses_by (λ _. Unit {0}) (IsPrefixContent (bits_of c.args.family)) (prefix_in (bits_of c.args.family)) (λ p. p) (content_octets c.args.content.now) c.of_content.result (prefix_check (bits_of c.args.family)) tt (subst (λ (limit : ℕ). Gives (λ p. p) c.of_content.result (prefix_in limit (content_octets c.args.content.now))) c.max_addr_len.ensures c.of_content.ensures.exact)
+returns-clause-reads c lenient = parses_by (λ _. Unit {0}) (IsPrefixContent (bits_of c.args.family)) (prefix_in (bits_of c.args.family)) (λ p. p) (content_octets c.args.content.now) c.of_content.result (prefix_check (bits_of c.args.family)) tt (exact c lenient)

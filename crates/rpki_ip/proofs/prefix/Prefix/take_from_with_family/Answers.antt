@@ -1,13 +1,41 @@
--- What the reading gives is the value of the grammar.
-use Rattle.std.proofs.Common.{ℕ, subst}
-use Rattle.rpki_der.specs.Views.{Takes}
+-- What the reading gives is the value of the grammar of the mode.
+use Rattle.std.proofs.Common.{ℕ, true, subst}
+use Rattle.rpki_der.specs.Der.{Spells}
+use Rattle.rpki_der.specs.Views.{Takes, is_strict}
 use Rattle.rpki_der.proofs.Cursors.{reads_by}
+use Rattle.rpki_der.proofs.Modes.{exact_by, refused_by}
 use Rattle.rpki_ip.specs.Families.{bits_of}
-use Rattle.rpki_ip.specs.PrefixDer.{IsPrefixDer, prefix_at}
+use Rattle.rpki_ip.specs.PrefixDer.{IsPrefixDer, IsPrefixWithin, prefix_at, prefix_by, prefix_der}
+use Rattle.rpki_ip.proofs.DerModes.{IsStrictPrefix, bits_few_enough, prefix_modal, written_prefix_reading}
 use Rattle.rpki_ip.proofs.DerReadings.{prefix_reading}
 use Rattle.rpki_ip.proofs.prefix.Prefix.take_from_with_family.Goals as goal
 
+by : goal.returns-clause-by_mode
+by c = subst (λ (limit : ℕ). Takes (λ p. p) c.args.cursor.now c.next.new.cursor c.next.result (prefix_by (is_strict c.args.cursor.now) limit)) c.max_addr_len.ensures c.next.ensures.by_mode
+
+pub returns-clause-by_mode : goal.returns-clause-by_mode
+returns-clause-by_mode c = by c
+
+exact : goal.returns-clause-exact
+exact c =
+    let limit = bits_of c.args.family in
+    exact_by (IsStrictPrefix limit) (prefix_at limit) (λ strict. prefix_by strict limit) (λ p. p) c.args.cursor.now c.next.new.cursor c.next.result (prefix_modal limit) (by c)
+
+pub returns-clause-exact : goal.returns-clause-exact
+returns-clause-exact c = exact c
+
 pub returns-clause-reads : goal.returns-clause-reads
-returns-clause-reads c =
-    let exact = subst (λ (limit : ℕ). Takes (λ p. p) c.args.cursor.now c.next.new.cursor c.next.result (prefix_at limit)) c.max_addr_len.ensures c.next.ensures.exact in
-    reads_by (IsPrefixDer (bits_of c.args.family)) (prefix_at (bits_of c.args.family)) (λ p. p) c.args.cursor.now c.next.new.cursor c.next.result (prefix_reading (bits_of c.args.family)) c.args.cursor.now.bytes exact
+returns-clause-reads c lenient =
+    let limit = bits_of c.args.family in
+    reads_by (IsPrefixDer limit) (prefix_at limit) (λ p. p) c.args.cursor.now c.next.new.cursor c.next.result (prefix_reading limit) c.args.cursor.now.bytes (exact c lenient)
+
+pub returns-clause-strict : goal.returns-clause-strict
+returns-clause-strict c strict =
+    let limit = bits_of c.args.family in
+    let took = subst (λ mode. Takes (λ p. p) c.args.cursor.now c.next.new.cursor c.next.result (prefix_by mode limit)) strict (by c) in
+    reads_by (Spells (IsPrefixWithin limit) prefix_der) (prefix_by true limit) (λ p. p) c.args.cursor.now c.next.new.cursor c.next.result (written_prefix_reading limit (bits_few_enough c.args.family)) c.args.cursor.now.bytes took
+
+pub returns-clause-refused : goal.returns-clause-refused
+returns-clause-refused c =
+    let limit = bits_of c.args.family in
+    refused_by (IsPrefixDer limit) (IsStrictPrefix limit) (prefix_at limit) (λ strict. prefix_by strict limit) (λ p. p) c.args.cursor.now c.next.new.cursor c.next.result (prefix_reading limit) (prefix_modal limit) (by c)

@@ -1,0 +1,260 @@
+-- Prefixes in either mode: strictly, the octets are those that are written of them.
+use Rattle.std.proofs.Common.{◌≡◌, ◌≢◌, ℕ, zero, suc, ◌+◌, ◌-◌, ◌*◌, ◌/◌, ◌%◌, ◌^◌, ◌<◌, ◌≤◌, ◌||◌, ◌&&◌, Bool, true, false, not, cond, eqb, ltb, leb, List, [], ◌∷◌, ◌++◌, length, get_or, take, drop, Result, Ok, Err, refl, sym, ap, subst, ◌∙◌, arith, inl, inr}
+use Rattle.std.specs.Int.{bytes_high_first, to_be_bytes, w128}
+use Rattle.std.specs.Prelude.{◌⊎◌}
+use Rattle.std.proofs.lemmas.Bool.{and_parts, eqb-true, le-leb, le-ltb, leb-true, lt-ltb, ltb-false, ltb-true, or_from, or_parts}
+use Rattle.std.proofs.lemmas.List.{take-append-drop}
+use Rattle.std.proofs.lemmas.Nat.{pow-add, pow_pos, shl-shr, shr_split}
+use Rattle.std.proofs.Math.Nat.{mul-div_cancel, mul-mod_left, mul_assoc}
+use Rattle.rpki_base.specs.Prefixes.{PrefixValue, IsPrefix, last_of}
+use Rattle.rpki_cover.proofs.Multiples.{IsMultiple, mod_multiple, multiple_gap, multiple_mod, multiple_self, multiple_smaller, multiple_sum}
+use Rattle.rpki_der.specs.declared.error.DerError.{DerError}
+use Rattle.rpki_der.specs.declared.error.DerError.TheVariants.{BadBitString, BadPrefix, NotCanonical}
+use Rattle.rpki_der.specs.Der.{Bits, IsBitContent, IsBitString, IsBits, IsBytes, IsPadded, Refines, Spells, Where, big_endian, big_endian_after, bit_content, bit_count, bit_string_value, last_octet}
+use Rattle.rpki_der.specs.Reading.{◌>>=◌, IsModal, IsReading, Tightens, bits, bits_by, is_padded, passing, tagged_at}
+use Rattle.rpki_der.proofs.Contents.{bits_check}
+use Rattle.rpki_der.proofs.Modes.{bind_tightens, is_padded_of, looked_tightens, padded_is, passed_is, passes, then_passing}
+use Rattle.rpki_der.proofs.Readings.{IsTagged, fits_content, refined_reading, same_reading, tagged_reading}
+use Rattle.rpki_der.proofs.Steps.{IsBytes-rest, IsCheck, bind_ok, fits_front}
+use Rattle.rpki_der.proofs.Written.{value_is}
+use Rattle.rpki_ip.specs.declared.family.AddressFamily.{AddressFamily}
+use Rattle.rpki_ip.specs.declared.family.AddressFamily.TheVariants.{Ipv4, Ipv6}
+use Rattle.rpki_ip.specs.Families.{bits_of}
+use Rattle.rpki_ip.specs.PrefixDer.{IsPrefixWithin, SaysPrefix, is_longer, octet_count, prefix_at, prefix_bits, prefix_by, prefix_der, prefix_in, prefix_in_by, prefix_of, prefix_of_by}
+use Rattle.rpki_ip.specs.RangeDer.{IsRangeWithin, IsSpan}
+use Rattle.rpki_ip.specs.Ranges.{RangeValue}
+use Rattle.rpki_ip.proofs.DerReadings.{prefix_again, prefix_says}
+use Rattle.rpki_ip.proofs.PrefixBits.{bits_few, bits_fit, bits_say, byte_is, first_bits, said_prefix}
+
+-- addresses of a family have 128 bits at most
+pub bits_few_enough : (family : AddressFamily) → bits_of family ≤ 128
+bits_few_enough Ipv4 = omega arith
+bits_few_enough Ipv6 = omega arith
+
+-- ---- the reading
+
+-- what strict cursors take
+abbrev pub IsStrictPrefix : ℕ → List ℕ → PrefixValue → Type 0
+IsStrictPrefix limit = Refines (Where IsBitString IsPadded) (SaysPrefix limit)
+
+abbrev pub IsStrictContent : ℕ → List ℕ → PrefixValue → Type 0
+IsStrictContent limit = Refines (Where IsBitContent IsPadded) (SaysPrefix limit)
+
+-- a content
+pub strict_content_check : (limit : ℕ) → IsCheck (λ _. Unit {0}) (IsStrictContent limit) (prefix_in_by true limit)
+unfolding prefix_in_by prefix_of_by
+strict_content_check limit = record {
+  takes = λ content p fits e.
+      let a = bind_ok (bits content) (prefix_of_by true limit) p e in
+      let b = bind_ok (prefix_of limit a.0) (passing true (λ p. is_padded a.0)) p a.2 in
+      let c = passed_is (λ p. is_padded a.0) b.0 p b.2 in
+      let is = bits_check.takes content a.0 tt a.1 in
+      (a.0, (is, padded_is a.0 c.0), prefix_says limit a.0 p is.counted (b.1 ∙ ap (λ q. Ok q) c.1));
+  again = λ content p (b, (is, padded), says). rw (bits_check.again content b is, prefix_again limit b p says) (passes (λ p. is_padded b) p (is_padded_of b padded));
+}
+
+pub content_tightens : (strict : Bool) (limit : ℕ) (content : List ℕ) → Tightens strict (prefix_in_by strict limit content) (prefix_in limit content)
+unfolding prefix_in prefix_in_by prefix_of_by
+content_tightens strict limit content =
+    bind_tightens strict (bits content) (bits content) (prefix_of_by strict limit) (prefix_of limit) (inl refl) (λ b. then_passing strict (λ p. is_padded b) (prefix_of limit b))
+
+-- a BIT STRING
+pub prefix_modal : (limit : ℕ) → IsModal (IsStrictPrefix limit) (prefix_at limit) (λ strict. prefix_by strict limit)
+prefix_modal limit = record {
+  tight =
+      same_reading (Refines (IsTagged 3) (IsStrictContent limit)) (IsStrictPrefix limit) (prefix_by true limit)
+      (λ bytes p fits (content, is, (b, (says, padded), prefix)). (b, ((says.counted, subst (IsTagged 3 bytes) says.spelled is), padded), prefix))
+      (λ bytes p (b, ((counted, is), padded), prefix). (bit_content b, is, (b, (record { counted = counted; spelled = refl }, padded), prefix)))
+      (refined_reading (IsTagged 3) (IsStrictContent limit) (λ _. Unit {0}) (tagged_at 3) (prefix_in_by true limit) (tagged_reading 3) (λ front content is fits. tt) (strict_content_check limit));
+  tightens = λ strict bytes. looked_tightens strict (tagged_at 3) (prefix_in_by strict limit) (prefix_in limit) (content_tightens strict limit) bytes;
+}
+
+-- ---- the octets
+
+-- octets by the number that they spell
+same_octets : (n m : ℕ) (xs ys : List ℕ) → IsBytes xs → IsBytes ys → length xs ≡ length ys → big_endian_after n xs ≡ big_endian_after m ys → (n ≡ m) × (xs ≡ ys)
+same_octets n m [] [] f g l e = (e, refl)
+same_octets n m [] (y ∷ ys) f g l e = absurd (omega (arith, l))
+same_octets n m (x ∷ xs) [] f g l e = absurd (omega (arith, l))
+same_octets n m (x ∷ xs) (y ∷ ys) f g l e =
+    let h = same_octets (n * 256 + x) (m * 256 + y) xs ys (IsBytes-rest x xs f) (IsBytes-rest y ys g) (omega (arith, l)) e in
+    let a : x < 256 = f 0 in
+    let b : y < 256 = g 0 in
+    let top : n ≡ m = omega (arith, h.0, a, b) in
+    let low : x ≡ y = omega (arith, h.0, a, b) in
+    (top, ap (λ z. z ∷ xs) low ∙ ap (λ (t : List ℕ). y ∷ t) h.1)
+
+-- all but the last octet count 256 times
+with_last : (n b : ℕ) (bs : List ℕ) → (q : ℕ) × (big_endian_after n (b ∷ bs) ≡ q * 256 + get_or (b ∷ bs) (length (b ∷ bs) - 1) 0)
+with_last n b [] = (n, refl)
+with_last n b (c ∷ bs) =
+    let h = with_last (n * 256 + b) c bs in
+    let k : length (b ∷ c ∷ bs) - 1 ≡ suc (length (c ∷ bs) - 1) = omega arith in
+    (h.0, rw k h.1)
+
+-- the last bits of a number are those of its last octet
+low_bits : (u q l : ℕ) → u < 8 → (q * 256 + l) % 2 ^ u ≡ l % 2 ^ u
+low_bits zero q l lt = omega arith
+low_bits (suc zero) q l lt = omega arith
+low_bits (suc (suc zero)) q l lt = omega arith
+low_bits (suc (suc (suc zero))) q l lt = omega arith
+low_bits (suc (suc (suc (suc zero)))) q l lt = omega arith
+low_bits (suc (suc (suc (suc (suc zero))))) q l lt = omega arith
+low_bits (suc (suc (suc (suc (suc (suc zero)))))) q l lt = omega arith
+low_bits (suc (suc (suc (suc (suc (suc (suc zero))))))) q l lt = omega arith
+low_bits (suc (suc (suc (suc (suc (suc (suc (suc u)))))))) q l lt = absurd (omega (arith, lt))
+
+padded_number : (u : ℕ) (bs : List ℕ) → u < 8 → (length bs ≡ 0 → u ≡ 0) → big_endian bs % 2 ^ u ≡ last_octet bs % 2 ^ u
+padded_number u [] lt none = refl
+padded_number u (b ∷ bs) lt none = let w = with_last 0 b bs in ap (λ t. t % 2 ^ u) w.1 ∙ low_bits u w.0 (last_octet (b ∷ bs)) lt
+
+whole : (n m : ℕ) → n % 2 ^ m ≡ 0 → n / 2 ^ m * 2 ^ m ≡ n
+whole n m h = let e = shr_split n m in omega (arith, e, h)
+
+-- two bit strings with no unused bit set say one prefix in one way
+one_spelling : (limit : ℕ) (b c : Bits) (p : PrefixValue) → IsBits b → IsBits c → IsPadded b → IsPadded c → IsBytes b.octets → IsBytes c.octets → SaysPrefix limit b p → SaysPrefix limit c p → b ≡ c
+one_spelling limit b c p is_b is_c clear_b clear_c fits_b fits_c says_b says_c =
+    let count : length b.octets ≡ length c.octets = omega (arith, says_b.len, says_c.len, is_b.below, is_c.below) in
+    let unused : b.unused ≡ c.unused = omega (arith, says_b.len, says_c.len, is_b.below, is_c.below) in
+    let top : 0 < 2 ^ (128 - p.len) = pow_pos (128 - p.len) in
+    let n = big_endian b.octets in
+    let m = big_endian c.octets in
+    let parts : n / 2 ^ b.unused ≡ m / 2 ^ c.unused =
+    sym (mul-div_cancel (n / 2 ^ b.unused) top) ∙ ap (λ k. k / 2 ^ (128 - p.len)) (sym says_b.first ∙ says_c.first) ∙ mul-div_cancel (m / 2 ^ c.unused) top in
+    let of_b : n / 2 ^ b.unused * 2 ^ b.unused ≡ n = whole n b.unused (padded_number b.unused b.octets is_b.below is_b.empty ∙ clear_b) in
+    let of_c : m / 2 ^ c.unused * 2 ^ c.unused ≡ m = whole m c.unused (padded_number c.unused c.octets is_c.below is_c.empty ∙ clear_c) in
+    let numbers : n ≡ m = sym of_b ∙ ap (λ k. k * 2 ^ b.unused) parts ∙ ap (λ k. m / 2 ^ c.unused * 2 ^ k) unused ∙ of_c in
+    let octets = same_octets 0 0 b.octets c.octets fits_b fits_c count numbers in
+    λ i. record { unused = unused i; octets = octets.1 i }
+
+-- the unused bits that are written are zero
+pub prefix_padded : (p : PrefixValue) → IsPrefix 128 p → IsPadded (prefix_bits p)
+prefix_padded p is =
+    let fit = bits_fit p is in
+    let b = prefix_bits p in
+    let count : octet_count p.len ≤ 16 = omega (arith, is.short) in
+    let behind = 8 * (16 - octet_count p.len) in
+    let number : big_endian b.octets ≡ p.first / 2 ^ behind = first_bits (octet_count p.len) p.first count is.below in
+    let sum : b.unused + behind ≡ 128 - p.len = omega (arith, is.short) in
+    let k = p.first / 2 ^ (128 - p.len) in
+    let back : k * 2 ^ (128 - p.len) ≡ p.first = whole p.first (128 - p.len) is.aligned in
+    let power : 2 ^ (128 - p.len) ≡ 2 ^ b.unused * 2 ^ behind = ap (λ j. 2 ^ j) (sym sum) ∙ pow-add 2 b.unused behind in
+    let split : p.first ≡ k * 2 ^ b.unused * 2 ^ behind = sym back ∙ ap (λ t. k * t) power ∙ sym (mul_assoc k (2 ^ b.unused) (2 ^ behind)) in
+    let shifted : p.first / 2 ^ behind ≡ k * 2 ^ b.unused = ap (λ t. t / 2 ^ behind) split ∙ shl-shr (k * 2 ^ b.unused) behind in
+    sym (padded_number b.unused b.octets fit.below fit.empty) ∙ ap (λ t. t % 2 ^ b.unused) (number ∙ shifted) ∙ mul-mod_left k (2 ^ b.unused)
+
+-- and they are octets
+bytes_fit : (k a : ℕ) → IsBytes (bytes_high_first k a)
+bytes_fit zero a i = omega arith
+bytes_fit (suc k) a zero = let e = byte_is k a in omega (arith, e)
+bytes_fit (suc k) a (suc i) = bytes_fit k a i
+
+octets_fit : (p : PrefixValue) → IsBytes (prefix_bits p).octets
+octets_fit p =
+    let octets = to_be_bytes w128 p.first in
+    fits_front (take (octet_count p.len) octets) (drop (octet_count p.len) octets) (subst IsBytes (sym (take-append-drop (octet_count p.len) octets)) (bytes_fit 16 p.first))
+
+-- so strictly, these octets are found
+pub prefix_is_spelled : (limit : ℕ) (bytes : List ℕ) (p : PrefixValue) → limit ≤ 128 → IsBytes bytes → IsStrictPrefix limit bytes p → Spells (IsPrefixWithin limit) prefix_der bytes p
+prefix_is_spelled limit bytes p le fits (b, ((counted, is), padded), says) =
+    let inside : IsBytes b.octets = IsBytes-rest b.unused b.octets (fits_content bytes 3 (bit_content b) is fits) in
+    let prefix : IsPrefix 128 p = said_prefix limit b p le inside says in
+    let octets : IsBytes (prefix_bits p).octets = octets_fit p in
+    let same : b ≡ prefix_bits p = one_spelling limit b (prefix_bits p) p counted (bits_fit p prefix) padded (prefix_padded p prefix) inside octets says (bits_say limit p prefix says.short) in
+    ((prefix, says.short), is.spelled ∙ ap bit_string_value same)
+
+pub spelled_is_prefix : (limit : ℕ) (bytes : List ℕ) (p : PrefixValue) → Spells (IsPrefixWithin limit) prefix_der bytes p → IsStrictPrefix limit bytes p
+spelled_is_prefix limit bytes p ((is, short), spelled) =
+    let written = value_is 3 (bit_content (prefix_bits p)) (omega arith) (omega (arith, bits_few p is)) in
+    subst (λ (t : List ℕ). IsStrictPrefix limit t p) (sym spelled) (prefix_bits p, ((bits_fit p is, written), prefix_padded p is), bits_say limit p is short)
+
+pub written_prefix_reading : (limit : ℕ) → limit ≤ 128 → IsReading (Spells (IsPrefixWithin limit) prefix_der) (prefix_by true limit)
+written_prefix_reading limit le =
+    same_reading (IsStrictPrefix limit) (Spells (IsPrefixWithin limit) prefix_der) (prefix_by true limit) (λ bytes p fits is. prefix_is_spelled limit bytes p le fits is) (spelled_is_prefix limit) (prefix_modal limit).tight
+
+-- ---- the length before the unused bits
+
+or_true : (a b : Bool) → (a || b) ≡ true → (a ≡ true) ⊎ (b ≡ true)
+or_true true b e = inl refl
+or_true false b e = inr e
+
+true_or : (a b : Bool) → b ≡ true → (a || b) ≡ true
+true_or true b e = refl
+true_or false b e = e
+
+both : (a b : Bool) → a ≡ true → (a && b) ≡ false → b ≡ false
+both true b e f = f
+both false b e f = absurd cc
+
+-- the two looks in either order
+either_order : {A B : Type 0} (strict padded : Bool) (b : A) (p : B) (check : A → Result B DerError) → check b ≡ Ok p → passing strict (λ q. padded) p ≡ (passing strict (λ c. padded) b >>= check)
+unfolding passing
+either_order strict padded b p check e = by_test (strict && not padded)
+  where
+    by_test : (t : Bool) → cond t (Err NotCanonical) (Ok p) ≡ (cond t (Err NotCanonical) (Ok b) >>= check)
+    by_test true = refl
+    by_test false = sym e
+
+-- what is read of a content in the order of the code
+pub length_first : (strict : Bool) (limit : ℕ) (content : List ℕ) → limit ≤ 128 → prefix_in_by strict limit content ≡ cond (is_longer limit content) (Err BadPrefix) (bits_by strict content >>= prefix_of limit)
+unfolding prefix_in_by prefix_of_by bits bits_by prefix_of passing
+length_first strict limit [] le = refl
+length_first strict limit (u ∷ os) le = by_test (ltb 7 u || (ltb 0 u && eqb (length os) 0)) refl (leb u 7 && ltb (limit + u) (8 * length os)) refl
+  where
+    b : Bits
+    b = record { unused = u; octets = os }
+
+    found : Bool → Result Bits DerError
+    found t = cond t (Err BadBitString) (Ok b)
+
+    Same : Bool → Bool → Type 0
+    Same t long = (found t >>= λ c. prefix_of limit c >>= passing strict (λ p. is_padded c)) ≡ cond long (Err BadPrefix) ((found t >>= passing strict is_padded) >>= prefix_of limit)
+
+    prefix_by_test : Bool → Result PrefixValue DerError
+    prefix_by_test t = cond t (Err BadPrefix) (Ok (record { first = big_endian os / 2 ^ u * 2 ^ (128 - bit_count b); len = bit_count b }))
+
+    by_test : (t : Bool) → (ltb 7 u || (ltb 0 u && eqb (length os) 0)) ≡ t → (long : Bool) → (leb u 7 && ltb (limit + u) (8 * length os)) ≡ long → Same t long
+    by_test true bad true more =
+        let parts = and_parts (leb u 7) (ltb (limit + u) (8 * length os)) more in
+        let few : u ≤ 7 = leb-true u 7 parts.0 in
+        let many : limit + u < 8 * length os = ltb-true (limit + u) (8 * length os) parts.1 in
+        elim (or_true (ltb 7 u) (ltb 0 u && eqb (length os) 0) bad) [
+          | inl above ↦ absurd (let more = ltb-true 7 u above in omega (arith, more, few))
+          | inr none ↦ absurd (let empty = eqb-true (length os) 0 (and_parts (ltb 0 u) (eqb (length os) 0) none).1 in omega (arith, empty, many))
+        ]
+    by_test true bad false more = refl
+    by_test false good true more =
+        let parts = and_parts (leb u 7) (ltb (limit + u) (8 * length os)) more in
+        let many : limit + u < 8 * length os = ltb-true (limit + u) (8 * length os) parts.1 in
+        let long : (ltb 16 (length os) || ltb limit (bit_count b)) ≡ true = true_or (ltb 16 (length os)) (ltb limit (bit_count b)) (lt-ltb limit (bit_count b) (omega (arith, many))) in
+        ap (λ t. prefix_by_test t >>= passing strict (λ p. is_padded b)) long
+    by_test false good false more =
+        let few : u ≤ 7 = ltb-false 7 u (or_parts (ltb 7 u) (ltb 0 u && eqb (length os) 0) good).0 in
+        let short : 8 * length os ≤ limit + u = ltb-false (limit + u) (8 * length os) (both (leb u 7) (ltb (limit + u) (8 * length os)) (le-leb u 7 few) more) in
+        let fits : (ltb 16 (length os) || ltb limit (bit_count b)) ≡ false = or_from _ _ (le-ltb 16 (length os) (omega (arith, short, few, le))) (le-ltb limit (bit_count b) (omega (arith, short))) in
+        let made : prefix_of limit b ≡ Ok (record { first = big_endian os / 2 ^ u * 2 ^ (128 - bit_count b); len = bit_count b }) = ap prefix_by_test fits in
+        ap (λ r. r >>= passing strict (λ p. is_padded b)) made ∙ either_order strict (is_padded b) b _ (prefix_of limit) made
+
+-- ---- ranges
+
+-- a prefix has addresses of 128 bits alone
+last_below : (q : PrefixValue) → IsPrefix 128 q → q.first + 2 ^ (128 - q.len) ≤ 2 ^ 128
+last_below q is =
+    let all : IsMultiple (2 ^ 128) (2 ^ 128) = multiple_self (2 ^ 128) in
+    multiple_gap (2 ^ (128 - q.len)) q.first (2 ^ 128) (mod_multiple (128 - q.len) q.first is.aligned) (multiple_smaller (128 - q.len) 128 (2 ^ 128) (omega arith) all) is.below
+
+-- the range from one prefix of limit bits to another
+pub within : (limit : ℕ) (p q : PrefixValue) (r : RangeValue) → limit ≤ 128 → IsPrefix 128 p → p.len ≤ limit → IsPrefix 128 q → q.len ≤ limit → IsSpan p q r → IsRangeWithin limit r
+within limit p q r le is_p short_p is_q short_q from_to =
+    let some : 0 < 2 ^ (128 - q.len) = pow_pos (128 - q.len) in
+    let pos : 0 < 2 ^ (128 - limit) = pow_pos (128 - limit) in
+    let below = last_below q is_q in
+    let begins : IsMultiple (2 ^ (128 - limit)) p.first = multiple_smaller (128 - limit) (128 - p.len) p.first (omega (arith, short_p)) (mod_multiple (128 - p.len) p.first is_p.aligned) in
+    let ends : IsMultiple (2 ^ (128 - limit)) (q.first + 2 ^ (128 - q.len)) =
+    multiple_smaller (128 - limit) (128 - q.len) (q.first + 2 ^ (128 - q.len)) (omega (arith, short_q)) (multiple_sum (2 ^ (128 - q.len)) q.first (2 ^ (128 - q.len)) (mod_multiple (128 - q.len) q.first is_q.aligned) (multiple_self (2 ^ (128 - q.len)))) in
+    let behind : r.max + 1 ≡ q.first + 2 ^ (128 - q.len) = omega (arith, some, from_to.ends) in
+    record {
+      is_range = record { ordered = from_to.ordered; below = omega (arith, behind, below) };
+      zeros = ap (λ t. t % 2 ^ (128 - limit)) from_to.begins ∙ multiple_mod (2 ^ (128 - limit)) p.first pos begins;
+      ones = ap (λ t. t % 2 ^ (128 - limit)) behind ∙ multiple_mod (2 ^ (128 - limit)) (q.first + 2 ^ (128 - q.len)) pos ends;
+    }

@@ -1,3 +1,4 @@
+pub mod BlockModes
 pub mod BlockWritten
 pub mod FormLemmas
 pub mod ListLemmas

@@ -1,8 +1,10 @@
 -- Blocks of addresses in DER (RFC 3779, 2.2.3.7 to 2.2.3.9).
 use Rattle.std.specs.Prelude.{ℕ, ◌≤◌, List}
+use Rattle.rpki_blocks.specs.Sets.{IsNew}
 use Rattle.rpki_base.specs.Prefixes.{IsPrefix}
 use Rattle.rpki_ip.specs.PrefixDer.{IsPrefixDer, prefix_der}
 use Rattle.rpki_ip.specs.RangeDer.{IsRangeDer, IsRangeWithin, range_der}
+use Rattle.rpki_ipblock.specs.Blocks.{ip_bounds, new_ip_block}
 use Rattle.rpki_ipblock.specs.declared.block.IpBlock.{IpBlock}
 use Rattle.rpki_ipblock.specs.declared.block.IpBlock.TheVariants.{Prefix, Range}
 
@@ -24,3 +26,7 @@ ip_block_der (Range r) = range_der r
 abbrev pub IsBlockWithin : ℕ → IpBlock → Type 0
 IsBlockWithin limit (Prefix p) = IsPrefix 128 p × (p.len ≤ limit)
 IsBlockWithin limit (Range r) = IsRangeWithin limit r
+
+-- a block that sets have: within the limit, and in new form
+abbrev pub IsSetIpBlock : ℕ → IpBlock → Type 0
+IsSetIpBlock limit block = IsBlockWithin limit block × IsNew ip_bounds new_ip_block block

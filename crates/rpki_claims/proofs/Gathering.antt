@@ -14,7 +14,7 @@ use Rattle.rpki_der.proofs.Steps.{bind_ok, ok_is, passed}
 use Rattle.rpki_ip.specs.declared.family.AddressFamily.{AddressFamily}
 use Rattle.rpki_ip.specs.declared.family.AddressFamily.TheVariants.{Ipv4, Ipv6}
 use Rattle.rpki_claims.specs.Families.{ByFamily, IsFamilies, IsMember, SaysFamilies, claims_among, listed, of_family}
-use Rattle.rpki_claims.specs.FamiliesReading.{families_at, families_in, member_at, members_in, none_found, seen, was_seen, with_claim}
+use Rattle.rpki_claims.specs.FamiliesReading.{families_at, families_in, member_at, members_by, members_in, none_found, seen, was_seen, with_claim}
 use Rattle.rpki_claims.proofs.Members.{SaysNew, member_reading}
 
 -- what was found before and what these members have is all
@@ -94,7 +94,7 @@ module _ {X : Type 0} (G : AddressFamily → List ℕ → X → Type 0) where
 module _ {X : Type 0} (G : AddressFamily → List ℕ → X → Type 0) (claim_at : AddressFamily → List ℕ → Result (X × List ℕ) DerError) (is : (family : AddressFamily) → IsReading (G family) (claim_at family)) where
   -- members that are read stand there
   members_say : (steps : ℕ) (before : ByFamily X) (bytes : List ℕ) (fs : ByFamily X) → IsBytes bytes → members_in claim_at steps before bytes ≡ Ok fs → (members : List (AddressFamily × X)) × Each (IsMember G) bytes members × Adds before members fs
-  unfolding members_in
+  unfolding members_by
   members_say zero before [] fs fits e = ([], refl, subst (Adds before []) (ok_is before fs e) (nothing_adds before))
   members_say (suc steps) before [] fs fits e = ([], refl, subst (Adds before []) (ok_is before fs e) (nothing_adds before))
   members_say zero before (b ∷ bytes) fs fits e = absurd cc
@@ -107,7 +107,7 @@ module _ {X : Type 0} (G : AddressFamily → List ℕ → X → Type 0) (claim_a
 
   -- members that stand there are read
   members_again : (members : List (AddressFamily × X)) (steps : ℕ) (before : ByFamily X) (bytes : List ℕ) (fs : ByFamily X) → length bytes ≤ steps → Each (IsMember G) bytes members → Adds before members fs → members_in claim_at steps before bytes ≡ Ok fs
-  unfolding members_in
+  unfolding members_by
   members_again [] zero before [] fs le all adds = ap Ok (no_more before fs adds)
   members_again [] (suc steps) before [] fs le all adds = ap Ok (no_more before fs adds)
   members_again [] steps before (b ∷ bytes) fs le all adds = absurd cc

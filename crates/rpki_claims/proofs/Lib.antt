@@ -1,5 +1,6 @@
 pub mod Gathering
 pub mod Loops
 pub mod Members
+pub mod Modes
 pub mod Said
 pub mod Written

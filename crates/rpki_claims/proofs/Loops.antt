@@ -1,5 +1,5 @@
 -- The loop over the members: what was found, and what is left, give the whole.
-use Rattle.std.proofs.Common.{◌≡◌, ◌≢◌, ℕ, zero, suc, ◌<◌, ◌≤◌, List, [], ◌∷◌, length, Option, Some, None, Result, Ok, Err, refl, sym, ap, subst, ◌∙◌, arith}
+use Rattle.std.proofs.Common.{◌≡◌, ◌≢◌, ℕ, zero, suc, ◌<◌, ◌≤◌, Bool, List, [], ◌∷◌, length, Option, Some, None, Result, Ok, Err, refl, sym, ap, subst, ◌∙◌, arith}
 use Rattle.std.specs.Prelude.{is_some}
 use Rattle.rpki_der.specs.declared.error.DerError.{DerError}
 use Rattle.rpki_der.specs.Der.{IsBytes, IsSequence, Refines}
@@ -11,7 +11,7 @@ use Rattle.rpki_text.specs.Memory.{IfRefused}
 use Rattle.rpki_ip.specs.declared.family.AddressFamily.{AddressFamily}
 use Rattle.rpki_ip.specs.declared.family.AddressFamily.TheVariants.{Ipv4, Ipv6}
 use Rattle.rpki_claims.specs.Families.{ByFamily, SaysByFamily, SaysOption}
-use Rattle.rpki_claims.specs.FamiliesReading.{SaysClaim, member_at, members_in, seen, with_claim}
+use Rattle.rpki_claims.specs.FamiliesReading.{SaysClaim, member_at, members_by, seen, with_claim}
 use Rattle.rpki_claims.proofs.Gathering.{member_has_octets}
 use Rattle.rpki_claims.proofs.Members.{SaysNew, member_reading}
 
@@ -32,23 +32,23 @@ module _ {X Y : Type 0} (C : Y → X → Type 0) where
   with_says before found Ipv4 y x says c = (c, says.1)
   with_says before found Ipv6 y x says c = (says.0, c)
 
-module _ {X Y : Type 0} (claim_at : AddressFamily → List ℕ → Result (Y × List ℕ) DerError) (C : Y → X → Type 0) where
+module _ {X Y : Type 0} (member_of : Bool × Bool → List ℕ → Result ((AddressFamily × Y) × List ℕ) DerError) (C : Y → X → Type 0) where
   -- what was found stands for what was read before, and this and what is left give the whole
   pub record SoFar (found : ByFamily X) (bytes : List ℕ) (total : Result (ByFamily Y) DerError) : Type 0 where
     pub before : ByFamily Y
     pub says : SaysByFamily C before found
     pub steps : ℕ
     pub enough : length bytes ≤ steps
-    pub whole : members_in claim_at steps before bytes ≡ total
+    pub whole : members_by member_of steps before bytes ≡ total
 
   -- a turn, by the steps that are left
   more_by : (steps : ℕ) (before : ByFamily Y) (found : ByFamily X) (b : ℕ) (bytes : List ℕ) (total : Result (ByFamily Y) DerError) (read : AddressFamily × Y) (member : AddressFamily × X) (rest : List ℕ)
-      → SaysByFamily C before found → length (b ∷ bytes) ≤ steps → members_in claim_at steps before (b ∷ bytes) ≡ total → member_at claim_at (seen found) (b ∷ bytes) ≡ Ok (read, rest) → SaysClaim C read member → length rest < length (b ∷ bytes)
+      → SaysByFamily C before found → length (b ∷ bytes) ≤ steps → members_by member_of steps before (b ∷ bytes) ≡ total → member_of (seen found) (b ∷ bytes) ≡ Ok (read, rest) → SaysClaim C read member → length rest < length (b ∷ bytes)
       → SoFar (with_claim found member.0 member.1) rest total
-  unfolding members_in
+  unfolding members_by
   more_by zero before found b bytes total read member rest says enough whole at claim fewer = absurd (omega arith)
   more_by (suc steps) before found b bytes total read member rest says enough whole at claim fewer =
-      let taken : member_at claim_at (seen before) (b ∷ bytes) ≡ Ok (read, rest) = ap (λ s. member_at claim_at s (b ∷ bytes)) (same_seen C before found says) ∙ at in
+      let taken : member_of (seen before) (b ∷ bytes) ≡ Ok (read, rest) = ap (λ s. member_of s (b ∷ bytes)) (same_seen C before found says) ∙ at in
       let both = with_says C before found read.0 read.1 member.1 says claim.1 in record {
         before = with_claim before read.0 read.1;
         says = subst (λ (f : AddressFamily). SaysByFamily C (with_claim before read.0 read.1) (with_claim found f member.1)) claim.0 both;
@@ -59,35 +59,35 @@ module _ {X Y : Type 0} (claim_at : AddressFamily → List ℕ → Result (Y × 
 
   -- a turn that reads a member
   pub loop_more : (found : ByFamily X) (bytes : List ℕ) (total : Result (ByFamily Y) DerError) (read : AddressFamily × Y) (member : AddressFamily × X) (rest : List ℕ)
-      → SoFar found bytes total → member_at claim_at (seen found) bytes ≡ Ok (read, rest) → SaysClaim C read member → length rest < length bytes → SoFar (with_claim found member.0 member.1) rest total
+      → SoFar found bytes total → member_of (seen found) bytes ≡ Ok (read, rest) → SaysClaim C read member → length rest < length bytes → SoFar (with_claim found member.0 member.1) rest total
   loop_more found [] total read member rest so at claim fewer = absurd (omega arith)
   loop_more found (b ∷ bytes) total read member rest so at claim fewer = more_by so.steps so.before found b bytes total read member rest so.says so.enough so.whole at claim fewer
 
   -- at the end nothing more is read
-  ends_by : (steps : ℕ) (before : ByFamily Y) → members_in claim_at steps before [] ≡ Ok before
-  unfolding members_in
+  ends_by : (steps : ℕ) (before : ByFamily Y) → members_by member_of steps before [] ≡ Ok before
+  unfolding members_by
   ends_by zero before = refl
   ends_by (suc steps) before = refl
 
   -- at the end of the octets what was found is all
   pub loop_ends : (found : ByFamily X) (bytes : List ℕ) (total : Result (ByFamily Y) DerError) → SoFar found bytes total → bytes ≡ [] → (all : ByFamily Y) × (total ≡ Ok all) × SaysByFamily C all found
-  loop_ends found bytes total so none = (so.before, sym so.whole ∙ ap (members_in claim_at so.steps so.before) none ∙ ends_by so.steps so.before, so.says)
+  loop_ends found bytes total so none = (so.before, sym so.whole ∙ ap (members_by member_of so.steps so.before) none ∙ ends_by so.steps so.before, so.says)
 
   -- a turn that fails, by the steps that are left
-  fails_by : (steps : ℕ) (before : ByFamily Y) (b : ℕ) (bytes : List ℕ) (e : DerError) → length (b ∷ bytes) ≤ steps → member_at claim_at (seen before) (b ∷ bytes) ≡ Err e → members_in claim_at steps before (b ∷ bytes) ≡ Err e
-  unfolding members_in
+  fails_by : (steps : ℕ) (before : ByFamily Y) (b : ℕ) (bytes : List ℕ) (e : DerError) → length (b ∷ bytes) ≤ steps → member_of (seen before) (b ∷ bytes) ≡ Err e → members_by member_of steps before (b ∷ bytes) ≡ Err e
+  unfolding members_by
   fails_by zero before b bytes e enough read = absurd (omega arith)
   fails_by (suc steps) before b bytes e enough read = rw read refl
 
   -- a turn that fails is what the whole fails with
-  loop_fails : (found : ByFamily X) (bytes : List ℕ) (total : Result (ByFamily Y) DerError) (e : DerError) → SoFar found bytes total → bytes ≢ [] → member_at claim_at (seen found) bytes ≡ Err e → total ≡ Err e
+  loop_fails : (found : ByFamily X) (bytes : List ℕ) (total : Result (ByFamily Y) DerError) (e : DerError) → SoFar found bytes total → bytes ≢ [] → member_of (seen found) bytes ≡ Err e → total ≡ Err e
   loop_fails found [] total e so some read = absurd (some refl)
   loop_fails found (b ∷ bytes) total e so some read =
-      let failed : member_at claim_at (seen so.before) (b ∷ bytes) ≡ Err e = ap (λ s. member_at claim_at s (b ∷ bytes)) (same_seen C so.before found so.says) ∙ read in
+      let failed : member_of (seen so.before) (b ∷ bytes) ≡ Err e = ap (λ s. member_of s (b ∷ bytes)) (same_seen C so.before found so.says) ∙ read in
       sym so.whole ∙ fails_by so.steps so.before b bytes e so.enough failed
 
   -- unless memory was wanting
-  pub loop_fails_or_memory : (found : ByFamily X) (bytes : List ℕ) (total : Result (ByFamily Y) DerError) (e : OrMemory DerError) → SoFar found bytes total → bytes ≢ [] → IfRefused (λ fault. member_at claim_at (seen found) bytes ≡ Err fault) e
+  pub loop_fails_or_memory : (found : ByFamily X) (bytes : List ℕ) (total : Result (ByFamily Y) DerError) (e : OrMemory DerError) → SoFar found bytes total → bytes ≢ [] → IfRefused (λ fault. member_of (seen found) bytes ≡ Err fault) e
       → IfRefused (λ fault. total ≡ Err fault) e
   loop_fails_or_memory found bytes total (Refused d) so some read = loop_fails found bytes total d so some read
   loop_fails_or_memory found bytes total (Memory a) so some read = tt

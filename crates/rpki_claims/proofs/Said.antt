@@ -67,7 +67,7 @@ module _ {X Y : Type 0} (C : Y → X → Type 0) where
       x.1 ∙ ap (λ w. Some w) (one y x.0 z.0 x.2 z.2) ∙ sym z.1
 
   -- and so do families
-  one_by_family : ((y : Y) (a b : X) → C y a → C y b → a ≡ b) → (found : ByFamily Y) (a b : ByFamily X) → SaysByFamily C found a → SaysByFamily C found b → a ≡ b
+  pub one_by_family : ((y : Y) (a b : X) → C y a → C y b → a ≡ b) → (found : ByFamily Y) (a b : ByFamily X) → SaysByFamily C found a → SaysByFamily C found b → a ≡ b
   one_by_family one found a b says tells =
       let v4 = one_option one found.0 a.0 b.0 says.0 tells.0 in
       let v6 = one_option one found.1 a.1 b.1 says.1 tells.1 in

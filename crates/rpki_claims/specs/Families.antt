@@ -83,3 +83,16 @@ option_der octets family (Some x) = member_der octets family x
 -- the families in one SEQUENCE, IPv4 first
 abbrev pub families_der : {X : Type 0} → (X → List ℕ) → ByFamily X → List ℕ
 families_der octets fs = sequence_value (option_der octets Ipv4 fs.0 ++ option_der octets Ipv6 fs.1)
+
+-- ---- by the mode
+
+-- members in order: that of IPv4, if there is one, and behind it that of IPv6; one at least
+abbrev pub AreInOrder : {X : Type 0} → (AddressFamily → List ℕ → X → Type 0) → List ℕ → Option X → Option X → Type 0
+AreInOrder G content None None = ⊥
+AreInOrder G content (Some x) None = IsMember G content (Ipv4, x)
+AreInOrder G content None (Some y) = IsMember G content (Ipv6, y)
+AreInOrder G content (Some x) (Some y) = Both (λ bytes z. IsMember G bytes (Ipv4, z)) (λ bytes z. IsMember G bytes (Ipv6, z)) content x y
+
+-- a SEQUENCE of them, and nothing else
+abbrev pub IsFamiliesInOrder : {X : Type 0} → (AddressFamily → List ℕ → X → Type 0) → List ℕ → ByFamily X → Type 0
+IsFamiliesInOrder G = Refines IsSequence (λ content fs. AreInOrder G content fs.0 fs.1)

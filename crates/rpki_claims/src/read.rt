@@ -1,14 +1,14 @@
 //! Reading families, each with its claim.
-ghost use Rattle.std.specs.Prelude.{◌≡◌, ℕ, List, Result, length};
+ghost use Rattle.std.specs.Prelude.{◌≡◌, ℕ, Bool, List, Result, length};
 ghost use Rattle.rpki_der.specs.declared.error.DerError.{DerError as Fault};
 ghost use Rattle.rpki_der.specs.Der.{Refines};
-ghost use Rattle.rpki_der.specs.Reading.{IsReading};
-ghost use Rattle.rpki_der.specs.Views.{Lenient, left};
+ghost use Rattle.rpki_der.specs.Reading.{Gives, IsModal, IsReading, passing};
+ghost use Rattle.rpki_der.specs.Views.{Lenient, is_strict, left};
 ghost use Rattle.rpki_base.specs.DerViews.{ReadsOrMemory, TakesSaidOrMemory};
 ghost use Rattle.rpki_chain.specs.ChoiceDer.{GivesSaidOrMemory};
 ghost use Rattle.rpki_ip.specs.declared.family.AddressFamily.{AddressFamily as SomeFamily};
 ghost use Rattle.rpki_claims.specs.Families.{IsFamilies, SaysByFamily};
-ghost use Rattle.rpki_claims.specs.FamiliesReading.{SaysClaim, families_at, families_in, member_at, member_in, members_in, none_found, seen, was_seen, with_claim};
+ghost use Rattle.rpki_claims.specs.FamiliesReading.{SaysClaim, families_at, families_by, families_in_by, is_in_order, member_by, member_in_by, members_by, none_found, seen, was_seen, with_claim};
 
 use rpki_base::memory::OrMemory;
 use rpki_der::{Cursor, DerError};
@@ -34,6 +34,12 @@ pub trait ReadClaim {
     // The claim of the family at the front of octets and what follows it, or the first fault.
     ghost reading: { Self → SomeFamily → List ℕ → Result (Found × List ℕ) Fault };
 
+    // The octets are a claim of the family that a strict cursor takes.
+    ghost strict_grammar: { Self → SomeFamily → List ℕ → Found → Type 0 };
+
+    // What `reading` gives, for a cursor that is strict or isn't.
+    ghost reading_by: { Self → Bool → SomeFamily → List ℕ → Result (Found × List ℕ) Fault };
+
     /// Takes a claim of the family. The cursor stays where it is refused, and where memory is wanting.
     fn take_claim(
         &self,
@@ -42,18 +48,28 @@ pub trait ReadClaim {
     ) -> Result<Self::Claim, OrMemory<DerError>>
         ensures exact { Lenient cursor.old
             (TakesSaidOrMemory (says self.now) cursor.old cursor.new result
-            (reading self.now family)) };
+            (reading self.now family)) }
+        // In either mode.
+        ensures by_mode { TakesSaidOrMemory (says self.now) cursor.old cursor.new result
+            (reading_by self.now (is_strict cursor.old) family) }
+        ensures mode { is_strict cursor.new ≡ is_strict cursor.old };
 
     // The reading finds the claims of the grammar, whatever follows them, and no others.
     ghost is_reading: { (reader : Self) (family : SomeFamily)
         → IsReading (grammar reader family) (reading reader family) };
+
+    // Leniently it is `reading`; strictly it refuses by `NotCanonical` all but the claims of the strict grammar.
+    ghost is_modal: { (reader : Self) (family : SomeFamily)
+        → IsModal (strict_grammar reader family) (reading reader family)
+        (λ strict. reading_by reader strict family) };
 }
 
 /// Takes a SEQUENCE of families in any order, each at most once and with its claim, one at least.
 ///
 /// `Refused` with the first fault: that of a SEQUENCE, of a family or of a claim; `DuplicateFamily` for a family that
 /// was there before, ahead of its claim; `TrailingData` for octets that are left behind a claim; `NoFamily` where the
-/// SEQUENCE is empty. `Memory` where there is no memory for a claim. The cursor then stays.
+/// SEQUENCE is empty; from a strict cursor also `NotCanonical` for IPv4 behind IPv6, ahead of its claim. `Memory` where
+/// there is no memory for a claim. The cursor then stays.
 pub fn take_families<R: ReadClaim>(
     reader: &R,
     cursor: &mut Cursor<'_>,
@@ -64,19 +80,25 @@ pub fn take_families<R: ReadClaim>(
     ensures exact { Lenient cursor.old (TakesSaidOrMemory
         (SaysByFamily (R.says reader.now)) cursor.old cursor.new result
         (families_at (R.reading reader.now))) }
+    // In either mode.
+    ensures by_mode { TakesSaidOrMemory
+        (SaysByFamily (R.says reader.now)) cursor.old cursor.new result
+        (families_by (is_strict cursor.old) (R.reading_by reader.now (is_strict cursor.old))) }
+    ensures mode { is_strict cursor.new ≡ is_strict cursor.old }
 {
     next_families(reader, cursor)
 }
 
-// The reading behind the take, whose further clause, `reads`, follows from `exact` by a theorem on the grammar.
+// The reading behind the take, whose further clauses, `reads` and `exact`, follow from `by_mode` by theorems on the grammar.
 #[tactic(auto, unfolding(rpki_der::specs::Reading::refined))]
 fn next_families<R: ReadClaim>(
     reader: &R,
     cursor: &mut Cursor<'_>,
 ) -> Result<ByFamily<R::Claim>, OrMemory<DerError>>
-    ensures exact { TakesSaidOrMemory
+    ensures by_mode { TakesSaidOrMemory
         (SaysByFamily (R.says reader.now)) cursor.old cursor.new result
-        (families_at (R.reading reader.now)) }
+        (families_by (is_strict cursor.old) (R.reading_by reader.now (is_strict cursor.old))) }
+    ensures mode { is_strict cursor.new ≡ is_strict cursor.old }
 {
     let mut ahead = *cursor;
     let found = families_within(reader, ahead.take_sequence()?)?;
@@ -85,14 +107,15 @@ fn next_families<R: ReadClaim>(
 }
 
 /// The families of a content, to its end.
-#[tactic(auto, unfolding(crate::specs::FamiliesReading::families_in))]
+#[tactic(auto, unfolding(crate::specs::FamiliesReading::families_in_by))]
 fn families_within<R: ReadClaim>(
     reader: &R,
     content: Cursor<'_>,
 ) -> Result<ByFamily<R::Claim>, OrMemory<DerError>>
-    ensures exact { GivesSaidOrMemory
+    ensures by_mode { GivesSaidOrMemory
         (SaysByFamily (R.says reader.now)) result
-        (families_in (R.reading reader.now) (left content.entry)) }
+        (families_in_by (is_strict content.entry)
+        (R.reading_by reader.now (is_strict content.entry)) (left content.entry)) }
 {
     if content.is_empty() {
         return Err(OrMemory::Refused(DerError::NoFamily));
@@ -105,10 +128,11 @@ fn members_within<R: ReadClaim>(
     reader: &R,
     content: Cursor<'_>,
 ) -> Result<ByFamily<R::Claim>, OrMemory<DerError>>
-    ensures exact { GivesSaidOrMemory
+    ensures by_mode { GivesSaidOrMemory
         (SaysByFamily (R.says reader.now)) result
-        (members_in (R.reading reader.now) (length (left content.entry)) none_found
-        (left content.entry)) }
+        (members_by (member_by (is_strict content.entry)
+        (R.reading_by reader.now (is_strict content.entry))) (length (left content.entry))
+        none_found (left content.entry)) }
 {
     let mut inside = content;
     let mut found = (None, None);
@@ -126,9 +150,11 @@ fn next_member<R: ReadClaim>(
     cursor: &mut Cursor<'_>,
     found: &ByFamily<R::Claim>,
 ) -> Result<(AddressFamily, R::Claim), OrMemory<DerError>>
-    ensures exact { TakesSaidOrMemory
+    ensures by_mode { TakesSaidOrMemory
         (SaysClaim (R.says reader.now)) cursor.old cursor.new result
-        (member_at (R.reading reader.now) (seen found.now)) }
+        (member_by (is_strict cursor.old) (R.reading_by reader.now (is_strict cursor.old))
+        (seen found.now)) }
+    ensures mode { is_strict cursor.new ≡ is_strict cursor.old }
 {
     let mut ahead = *cursor;
     let member = member_within(reader, ahead.take_sequence()?, found)?;
@@ -137,21 +163,24 @@ fn next_member<R: ReadClaim>(
 }
 
 /// The member in the content of a SEQUENCE.
-#[tactic(auto, unfolding(crate::specs::FamiliesReading::member_in))]
+#[tactic(auto, unfolding(crate::specs::FamiliesReading::member_in_by))]
 fn member_within<R: ReadClaim>(
     reader: &R,
     content: Cursor<'_>,
     found: &ByFamily<R::Claim>,
 ) -> Result<(AddressFamily, R::Claim), OrMemory<DerError>>
-    ensures exact { GivesSaidOrMemory
+    ensures by_mode { GivesSaidOrMemory
         (SaysClaim (R.says reader.now)) result
-        (member_in (R.reading reader.now) (seen found.now) (left content.entry)) }
+        (member_in_by (is_strict content.entry)
+        (R.reading_by reader.now (is_strict content.entry)) (seen found.now)
+        (left content.entry)) }
 {
     let mut inside = content;
     let family = AddressFamily::take_from(&mut inside)?;
     if is_among(found, family) {
         return Err(OrMemory::Refused(DerError::DuplicateFamily));
     }
+    look_at_order(content.is_strict(), found, family)?;
     let claim = reader.take_claim(family, &mut inside)?;
     inside.finish()?;
     Ok((family, claim))
@@ -164,6 +193,32 @@ fn is_among<C>(found: &ByFamily<C>, family: AddressFamily) -> bool
     match family {
         AddressFamily::Ipv4 => found.0.is_some(),
         AddressFamily::Ipv6 => found.1.is_some(),
+    }
+}
+
+/// Strictly, refuses IPv4 behind IPv6.
+#[tactic(auto, unfolding(rpki_der::specs::Reading::passing))]
+fn look_at_order<C>(
+    strict: bool,
+    found: &ByFamily<C>,
+    family: AddressFamily,
+) -> Result<(), DerError>
+    ensures exact { Gives (λ u. family) result
+        (passing strict (is_in_order (seen found.now)) family) }
+{
+    if strict && !is_in_order(found, family) {
+        return Err(DerError::NotCanonical);
+    }
+    Ok(())
+}
+
+/// Whether the family may stand behind those that were found.
+fn is_in_order<C>(found: &ByFamily<C>, family: AddressFamily) -> bool
+    ensures { result ≡ is_in_order (seen found.now) family }
+{
+    match family {
+        AddressFamily::Ipv4 => found.1.is_none(),
+        AddressFamily::Ipv6 => true,
     }
 }
 

@@ -1,45 +1,71 @@
 -- Each turn takes a member of a family that wasn't found before, or is at the end, or meets the
 -- first fault.
-use Rattle.std.proofs.Common.{◌≡◌, ◌≢◌, [], length, refl, sym, ap, ◌∙◌, arith}
+use Rattle.std.proofs.Common.{◌≡◌, ◌≢◌, ◌<◌, Bool, Ok, Err, [], length, refl, sym, ap, subst, ◌∙◌, arith}
 use Rattle.std.proofs.lemmas.Bool.{eqb-true, eqb-false}
 use Rattle.std.proofs.lemmas.List.{nil_from_length}
 use Rattle.std.proofs.lemmas.Result.{err_from_is_err_and}
-use Rattle.rpki_der.specs.Views.{left}
-use Rattle.rpki_claims.specs.FamiliesReading.{members_in, none_found}
+use Rattle.rpki_der.specs.Views.{is_strict, left}
+use Rattle.rpki_der.proofs.Modes.{found_is}
+use Rattle.rpki_text.specs.Memory.{IfRefused}
+use Rattle.rpki_claims.specs.FamiliesReading.{member_at, member_by, members_by, none_found, seen}
 use Rattle.rpki_claims.proofs.Loops.{fewer_left, loop_ends, loop_fails_or_memory, loop_more}
+use Rattle.rpki_claims.proofs.Modes.{member_tightens}
 use Rattle.rpki_claims.proofs.read.members_within.Goals as goal
 
 pub loop-inside-init : goal.loop-inside-init
-loop-inside-init g c = record { before = none_found; says = (tt, tt); steps = length (left c.args.content); enough = omega arith; whole = refl }
+loop-inside-init g c = record { mode = refl; so_far = record { before = none_found; says = (tt, tt); steps = length (left c.args.content); enough = omega arith; whole = refl } }
 
 pub loop-inside-smaller : goal.loop-inside-smaller
 loop-inside-smaller g c =
+    let law = g.met.R.ReadClaim in
     let reader = c.args.reader.now in
-    let member = c.in_ok-family.ensures.exact in
-    fewer_left (g.R.ReadClaim.grammar reader) (g.R.ReadClaim.reading reader) (g.met.R.ReadClaim.is_reading reader) c.loop-inside.found (left c.loop-inside.inside) member.0 (left c.next_member.new.cursor) c.loop-inside.inside.bytes member.1
+    let strict = is_strict c.loop-inside.inside in
+    let old = left c.loop-inside.inside in
+    let new = left c.next_member.new.cursor in
+    let by = g.R.ReadClaim.reading_by reader strict in
+    let reading = g.R.ReadClaim.reading reader in
+    let member = c.in_ok-family.ensures.by_mode in
+    let found : member_at reading (seen c.loop-inside.found) old ≡ Ok (member.0, new) =
+    found_is strict (member_by strict by (seen c.loop-inside.found) old) (member_at reading (seen c.loop-inside.found) old) (member.0, new) (member_tightens strict by reading (λ family. (law.is_modal reader family).tightens strict) (seen c.loop-inside.found) old) member.1 in
+    fewer_left (g.R.ReadClaim.grammar reader) reading (law.is_reading reader) c.loop-inside.found old member.0 new c.loop-inside.inside.bytes found
 
 pub loop-inside-preserved : goal.loop-inside-preserved
 loop-inside-preserved g c =
     let reader = c.args.reader.now in
-    let reading = g.R.ReadClaim.reading reader in
-    let member = c.in_ok-family.ensures.exact in
-    let total = members_in reading (length (left c.args.content)) none_found (left c.args.content) in
-    rw c.and_claim-found.ensures (loop_more reading (g.R.ReadClaim.says reader) c.loop-inside.found (left c.loop-inside.inside) total member.0 (c.in_ok-family.family, c.in_ok-family.claim) (left c.next_member.new.cursor) c.loop-inside.invariant member.1 member.2 (loop-inside-smaller g c))
+    let strict = is_strict c.args.content in
+    let mode : is_strict c.loop-inside.inside ≡ strict = c.loop-inside.invariant.mode in
+    let member_of = member_by strict (g.R.ReadClaim.reading_by reader strict) in
+    let member = c.in_ok-family.ensures.by_mode in
+    let old = left c.loop-inside.inside in
+    let new = left c.next_member.new.cursor in
+    let total = members_by member_of (length (left c.args.content)) none_found (left c.args.content) in
+    let read : member_of (seen c.loop-inside.found) old ≡ Ok (member.0, new) = ap (λ m. member_by m (g.R.ReadClaim.reading_by reader m) (seen c.loop-inside.found) old) (sym mode) ∙ member.1 in
+    record {
+      mode = c.in_ok-family.ensures.mode ∙ mode;
+      so_far = rw c.and_claim-found.ensures (loop_more member_of (g.R.ReadClaim.says reader) c.loop-inside.found old total member.0 (c.in_ok-family.family, c.in_ok-family.claim) new c.loop-inside.invariant.so_far read member.2 (loop-inside-smaller g c));
+    }
 
 pub returns : goal.returns
 returns g c =
-    let reading = g.R.ReadClaim.reading c.args.reader.now in
+    let reader = c.args.reader.now in
+    let strict = is_strict c.args.content in
+    let member_of = member_by strict (g.R.ReadClaim.reading_by reader strict) in
     let old = left c.loop-inside.inside in
-    let total = members_in reading (length (left c.args.content)) none_found (left c.args.content) in
+    let total = members_by member_of (length (left c.args.content)) none_found (left c.args.content) in
     let none : old ≡ [] = nil_from_length old (eqb-true (length old) 0 (sym c.is_empty.ensures.empty ∙ c.loop-inside-test.false)) in
-    record { exact = loop_ends reading (g.R.ReadClaim.says c.args.reader.now) c.loop-inside.found old total c.loop-inside.invariant none }
+    record { by_mode = loop_ends member_of (g.R.ReadClaim.says reader) c.loop-inside.found old total c.loop-inside.invariant.so_far none }
 
 pub returns-in_err-family : goal.returns-in_err-family
 returns-in_err-family g c =
-    let reading = g.R.ReadClaim.reading c.args.reader.now in
+    let reader = c.args.reader.now in
+    let strict = is_strict c.args.content in
+    let mode : is_strict c.loop-inside.inside ≡ strict = c.loop-inside.invariant.mode in
+    let member_of = member_by strict (g.R.ReadClaim.reading_by reader strict) in
     let old = left c.loop-inside.inside in
-    let total = members_in reading (length (left c.args.content)) none_found (left c.args.content) in
+    let total = members_by member_of (length (left c.args.content)) none_found (left c.args.content) in
     let some : old ≢ [] = λ z. eqb-false (length old) 0 (sym c.is_empty.ensures.empty ∙ c.loop-inside-test.true) (ap length z) in
-    let failed = loop_fails_or_memory reading (g.R.ReadClaim.says c.args.reader.now) c.loop-inside.found old total c.in_err-family.field-0.0 c.loop-inside.invariant some c.in_err-family.ensures.exact.0 in
+    let e = c.in_err-family.field-0.0 in
+    let refused = subst (λ (m : Bool). IfRefused (λ fault. member_by m (g.R.ReadClaim.reading_by reader m) (seen c.loop-inside.found) old ≡ Err fault) e) mode c.in_err-family.ensures.by_mode.0 in
+    let failed = loop_fails_or_memory member_of (g.R.ReadClaim.says reader) c.loop-inside.found old total e c.loop-inside.invariant.so_far some refused in
     let p = err_from_is_err_and c.from_residual.result c.from_residual.ensures.1 in
-    record { exact = rw (p.1, p.2) failed }
+    record { by_mode = rw (p.1, p.2) failed }

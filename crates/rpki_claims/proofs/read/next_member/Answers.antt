@@ -3,6 +3,8 @@ use Rattle.std.proofs.Common.{refl}
 use Rattle.rpki_der.specs.Reading.{refined}
 use Rattle.rpki_claims.proofs.read.next_member.Goals as goal
 
-pub returns : goal.returns
+pub returns-clause-by_mode : goal.returns-clause-by_mode
 unfolding refined
-returns g c = let member = c.in_ok-member.ensures.exact in record { exact = (member.0, rw (c.in_ok-take_sequence.ensures.exact, member.1) refl, member.2) }
+returns-clause-by_mode g c =
+    let member = c.in_ok-member.ensures.by_mode in
+    (member.0, rw (c.in_ok-take_sequence.ensures.exact, ← c.in_ok-take_sequence.ensures.hands_on_mode, member.1) refl, member.2)

@@ -1,18 +1,30 @@
 -- What the reading gives is what stands there, and the claims that it stands for.
+use Rattle.std.proofs.Common.{false}
 use Rattle.rpki_der.specs.Der.{Refines}
 use Rattle.rpki_base.proofs.DerCursors.{reads_said_by}
 use Rattle.rpki_claims.specs.Families.{IsFamilies, SaysByFamily}
 use Rattle.rpki_claims.specs.FamiliesReading.{families_at}
 use Rattle.rpki_claims.proofs.Gathering.{families_reading}
+use Rattle.rpki_claims.proofs.Modes.{exact_families}
 use Rattle.rpki_claims.proofs.Said.{reads_same, stands_for, stood_for}
 use Rattle.rpki_claims.proofs.read.take_families.Goals as goal
 
+exact : goal.returns-clause-exact
+exact g c =
+    let law = g.met.R.ReadClaim in
+    let reader = c.args.reader.now in
+    exact_families (SaysByFamily (g.R.ReadClaim.says reader)) (g.R.ReadClaim.reading reader) (g.R.ReadClaim.reading_by reader) c.args.cursor.now c.next_families.new.cursor c.next_families.result
+    (λ family. (law.is_modal reader family).tightens false) c.next_families.ensures.by_mode
+
+pub returns-clause-exact : goal.returns-clause-exact
+returns-clause-exact g c = exact g c
+
 pub returns-clause-reads : goal.returns-clause-reads
-returns-clause-reads g c =
+returns-clause-reads g c lenient =
     let law = g.met.R.ReadClaim in
     let G = g.R.ReadClaim.grammar c.args.reader.now in
     let C = g.R.ReadClaim.says c.args.reader.now in
     let reading = g.R.ReadClaim.reading c.args.reader.now in
     let is = families_reading G reading (law.is_reading c.args.reader.now) in
-    let reads = reads_said_by (IsFamilies G) (SaysByFamily C) (families_at reading) c.args.cursor.now c.next_families.new.cursor c.next_families.result is c.args.cursor.now.bytes c.next_families.ensures.exact in
+    let reads = reads_said_by (IsFamilies G) (SaysByFamily C) (families_at reading) c.args.cursor.now c.next_families.new.cursor c.next_families.result is c.args.cursor.now.bytes (exact g c lenient) in
     reads_same (Refines (IsFamilies G) (SaysByFamily C)) (IsFamilies (λ family. Refines (G family) C)) c.args.cursor.now c.next_families.new.cursor c.next_families.result (stands_for G C) (stood_for G C) reads

@@ -1,4 +1,6 @@
+pub mod FamilyModes
 pub mod FamilyWritten
+pub mod Modes
 pub mod PrintedSets
 pub mod ResourcesWritten
 pub mod SetTextLemmas

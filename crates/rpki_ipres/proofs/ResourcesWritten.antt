@@ -35,7 +35,7 @@ use Rattle.rpki_ipres.proofs.SetTextLemmas.{is_ip_set}
 use Rattle.rpki_ipres.proofs.SetWritten.{blocks_say, one_set, set_written, written_as_numbers}
 
 -- the blocks that were read are of one claim at most
-one_claim : (choice : ResourcesChoice (List IpBlock)) (a b : Claim) → SaysClaimOf choice a → SaysClaimOf choice b → a ≡ b
+pub one_claim : (choice : ResourcesChoice (List IpBlock)) (a b : Claim) → SaysClaimOf choice a → SaysClaimOf choice b → a ≡ b
 one_claim = lists_one (IsRunsOfBlocks ip_bounds) one_set
 
 -- octets begin with the resources of at most one claim

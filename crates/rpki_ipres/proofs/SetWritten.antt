@@ -55,7 +55,7 @@ few_bits limit len first next le short low high some count = elim (cases_lt limi
 ]
 
 -- the block of a run
-made_within : (limit : ℕ) (run : ℕ × ℕ) (block : IpBlock) → limit ≤ 128 → ip_bounds block ≡ run → IsBlock block → IsRunWithin limit run → IsBlockWithin limit block
+pub made_within : (limit : ℕ) (run : ℕ × ℕ) (block : IpBlock) → limit ≤ 128 → ip_bounds block ≡ run → IsBlock block → IsRunWithin limit run → IsBlockWithin limit block
 made_within limit run (Prefix p) le bounds fits is =
     let some : 0 < 2 ^ (128 - p.len) = pow_pos (128 - p.len) in
     let first : p.first ≡ run.0 = ap (λ (b : ℕ × ℕ). b.0) bounds in
@@ -95,7 +95,7 @@ one_set blocks a b = IsRunsOf-unique (Covers ip_bounds blocks) a b
 -- ---- sequences
 
 -- the runs of a set of a family need no more bits than the family's addresses
-family_runs : (family : AddressFamily) (set : Runs) → IsFamilySet family set → AllByRecursion (IsRunWithin (bits_of family)) set
+pub family_runs : (family : AddressFamily) (set : Runs) → IsFamilySet family set → AllByRecursion (IsRunWithin (bits_of family)) set
 family_runs Ipv4 set (is, whole) = recursion_from_All (IsRunWithin 32) set (λ k d small.
     let bounds : HasWholeBounds _ = whole_runs set is.are_runs whole k d small in
     record { is_range = record { ordered = is.are_runs.ordered k d small; below = (let most = is.below k d small in omega (arith, most)) }; zeros = bounds.begins; ones = bounds.ends })

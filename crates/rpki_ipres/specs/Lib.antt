@@ -1,3 +1,4 @@
+pub mod Modes
 pub mod Resources
 pub mod ResourcesDer
 pub mod ResourcesReadingLaws

@@ -1,10 +1,12 @@
 -- Resources of addresses: missing, inherited, or the runs of a set that isn't empty.
-use Rattle.std.specs.Prelude.{Option, Some, None, ⊤}
+use Rattle.std.specs.Prelude.{◌≡◌, ◌≢◌, Option, Some, None, IfSome, ⊤}
 use Rattle.rpki_chain.specs.Claims.{Claim, IsClaim}
 use Rattle.rpki_chain.specs.Runs.{Holds}
 use Rattle.rpki_chain.specs.declared.choice.ResourcesChoice.TheVariants.{Missing, Inherit, Blocks}
 use Rattle.rpki_ip.specs.Whole.{IsWhole}
+use Rattle.rpki_claims.specs.Families.{ByFamily}
 use Rattle.rpki_ip.specs.declared.family.AddressFamily.{AddressFamily}
+use Rattle.rpki_ip.specs.declared.family.AddressFamily.TheVariants.{Ipv4, Ipv6}
 use Rattle.rpki_ipres.specs.SetText.{IsFamilySet, IsIpSet}
 
 -- what is listed is a set of addresses
@@ -26,3 +28,11 @@ abbrev pub if_present : Claim → Option Claim
 if_present Missing = None
 if_present Inherit = Some Inherit
 if_present (Blocks set) = Some (Blocks set)
+
+-- a claim of the family that has octets
+abbrev pub IsPresentClaim : AddressFamily → Claim → Type 0
+IsPresentClaim family claim = IsFamilyClaim family claim × (claim ≢ Missing)
+
+-- claims that have octets, each of its family, where there are some; one at least
+abbrev pub ArePresentClaims : ByFamily Claim → Type 0
+ArePresentClaims fs = IfSome fs.0 (IsPresentClaim Ipv4) × IfSome fs.1 (IsPresentClaim Ipv6) × (fs.0 ≡ None → fs.1 ≢ None)

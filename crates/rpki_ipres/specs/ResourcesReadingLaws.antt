@@ -1,16 +1,19 @@
 -- The reading finds the resources of the grammar, whatever follows them, and no others: what the
 -- reader of families is told of it.
-use Rattle.std.proofs.Common.{ℕ}
-use Rattle.rpki_der.specs.Der.{Each}
-use Rattle.rpki_der.specs.Reading.{IsReading}
+use Rattle.std.proofs.Common.{ℕ, Bool, List, Option, None, subst}
+use Rattle.rpki_der.specs.Der.{Each, EachFrom}
+use Rattle.rpki_der.specs.Reading.{IsModal, IsReading}
+use Rattle.rpki_base.proofs.DerModes.{strict_values_check, values_stateless, values_tighten}
 use Rattle.rpki_base.proofs.DerReadings.{values_check}
-use Rattle.rpki_base.specs.DerReading.{IsSequenceOf, values_of}
-use Rattle.rpki_chain.specs.ChoiceDer.{IsChoiceOf}
-use Rattle.rpki_chain.proofs.ChoiceReadings.{choice_reading}
+use Rattle.rpki_base.specs.DerReading.{IsSequenceFrom, IsSequenceOf, values_from, values_of}
+use Rattle.rpki_chain.specs.ChoiceDer.{IsChoiceOf, choice_at}
+use Rattle.rpki_chain.proofs.ChoiceReadings.{choice_modal, choice_reading}
 use Rattle.rpki_ipblock.specs.BlockDer.{IsIpBlockDer}
-use Rattle.rpki_ipblock.specs.BlockReading.{ip_block_at}
+use Rattle.rpki_ipblock.specs.BlockModes.{IsNextIpBlock, next_ip_block_modal}
+use Rattle.rpki_ipblock.specs.BlockReading.{ip_block_at, next_ip_block_by}
 use Rattle.rpki_ipblock.specs.BlockReadingLaws.{ip_block_has_octets, ip_block_reading}
 use Rattle.rpki_ipblock.specs.declared.block.IpBlock.{IpBlock}
+use Rattle.rpki_ipres.specs.Modes.{greatest_of, ip_resources_by}
 use Rattle.rpki_ipres.specs.ResourcesDer.{ip_resources_at}
 
 -- a NULL, or a SEQUENCE of blocks, one at least
@@ -18,3 +21,14 @@ pub resources_reading : (limit : ℕ) → IsReading (IsChoiceOf (IsSequenceOf (I
 resources_reading limit =
     choice_reading (Each (IsIpBlockDer limit)) (values_of (ip_block_at limit))
     (values_check (λ (state : Unit {0}) (x : IpBlock). state) (λ state. IsIpBlockDer limit) (λ state. ip_block_at limit) (λ state. ip_block_reading limit) (λ state. ip_block_has_octets limit) tt)
+
+-- by the mode
+pub resources_modal_of : (limit : ℕ) (S : Option ℕ → List ℕ → IpBlock → Type 0) → ((before : Option ℕ) → IsModal (S before) (ip_block_at limit) (λ strict. next_ip_block_by strict limit before)) → IsModal (IsChoiceOf (IsSequenceFrom greatest_of S None)) (ip_resources_at limit) (λ strict. ip_resources_by strict limit)
+resources_modal_of limit S next =
+    subst (λ values. IsModal (IsChoiceOf (IsSequenceFrom greatest_of S None)) (choice_at values) (λ strict. ip_resources_by strict limit)) (values_stateless greatest_of (ip_block_at limit) None)
+    (choice_modal (EachFrom greatest_of S None) (values_from greatest_of (λ before. ip_block_at limit) None) (λ strict. values_from greatest_of (next_ip_block_by strict limit) None)
+    (strict_values_check greatest_of (λ before. IsIpBlockDer limit) S (λ before. ip_block_at limit) (λ strict. next_ip_block_by strict limit) (λ before. ip_block_reading limit) (λ before. ip_block_has_octets limit) next None)
+    (λ strict. values_tighten strict greatest_of (next_ip_block_by strict limit) (λ before. ip_block_at limit) (λ before. (next before).tightens strict) None))
+
+pub resources_modal : (limit : ℕ) → IsModal (IsChoiceOf (IsSequenceFrom greatest_of (IsNextIpBlock limit) None)) (ip_resources_at limit) (λ strict. ip_resources_by strict limit)
+resources_modal limit = resources_modal_of limit (IsNextIpBlock limit) (next_ip_block_modal limit)

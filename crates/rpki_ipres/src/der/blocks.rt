@@ -22,14 +22,16 @@ impl<A: Allocator> IpBlocks<A> {
     ghost use Rattle.std.specs.Prelude.{◌≡◌, ℕ, List, ◌<◌, ◌≤◌, ◌+◌, ◌^◌, ◌++◌, length, vec_len, OnOk, OnErr, IsOk, IfOk, MatchResult};
     ghost use Rattle.std.specs.Vec.{vec_capacity};
     ghost use Rattle.rpki_chain.specs.Runs.{Runs, Holds, IsRunsOfBlocks};
-    ghost use Rattle.rpki_der.specs.Views.{Lenient, left};
-    ghost use Rattle.rpki_base.specs.DerViews.{ReadsOrMemory, TakesSaidOrMemory};
+    ghost use Rattle.rpki_der.specs.Der.{Spells};
+    ghost use Rattle.rpki_der.specs.Views.{Lenient, Strict, is_strict, left};
+    ghost use Rattle.rpki_base.specs.DerViews.{NotCanonicalOrMemory, ReadsOrMemory, TakesSaidOrMemory};
     ghost use Rattle.rpki_text.specs.Memory.{IsMemory};
     ghost use Rattle.rpki_ip.specs.Families.{bits_of};
     ghost use Rattle.rpki_ip.specs.Whole.{IsWhole};
     ghost use Rattle.rpki_ip.specs.declared.family.AddressFamily.TheVariants.{Ipv4};
     ghost use Rattle.rpki_ipblock.specs.BlockReading.{ip_blocks_at};
     ghost use Rattle.rpki_ipblock.specs.Blocks.{ip_bounds};
+    ghost use Rattle.rpki_ipres.specs.Modes.{ip_blocks_by};
     ghost use Rattle.rpki_ipres.specs.SetDer.{IsIpBlockSequence, ip_family_der, ip_set_der};
     ghost use Rattle.rpki_ipres.specs.SetText.{IsFamilySet, IsIpSet};
 
@@ -37,7 +39,9 @@ impl<A: Allocator> IpBlocks<A> {
     /// any order and may overlap, and their prefixes have lengths up to 128.
     ///
     /// `Refused` with the first fault: that of the SEQUENCE as in [`Cursor::take_sequence`], or that of a block as in
-    /// [`IpBlock::take_opt_from`]. `Memory` where there is no memory for the blocks. The cursor then stays.
+    /// [`IpBlock::take_opt_from`]. From a strict cursor also `NotCanonical` where a block doesn't begin more than one above
+    /// the greatest address of the one before it (RFC 3779, 2.2.3.6). `Memory` where there is no memory for the blocks.
+    /// The cursor then stays.
     pub fn take_from(alloc: A, cursor: &mut Cursor<'_>) -> Result<IpBlocks<A>, OrMemory<DerError>>
     where
         A: Copy,
@@ -50,6 +54,11 @@ impl<A: Allocator> IpBlocks<A> {
         ensures reads_back { (set : Runs) (rest : List ℕ) → IsIpSet set
             → left cursor.old ≡ ip_set_der set ++ rest
             → MatchResult result (λ read. (read ≡ set) × (left cursor.new ≡ rest)) IsMemory }
+        // A strict cursor takes what is written of a set.
+        ensures strict { Strict cursor.old
+            (ReadsOrMemory (Spells IsIpSet ip_set_der) (λ set. set) cursor.old cursor.new result) }
+        ensures refused { NotCanonicalOrMemory (IsIpBlockSequence 128) cursor.old result }
+        ensures mode { is_strict cursor.new ≡ is_strict cursor.old }
     {
         Self::next_set(alloc, cursor, AddressFamily::Ipv6)
     }
@@ -74,6 +83,13 @@ impl<A: Allocator> IpBlocks<A> {
         ensures reads_back { (set : Runs) (rest : List ℕ) → IsFamilySet family set
             → left cursor.old ≡ ip_set_der set ++ rest
             → MatchResult result (λ read. (read ≡ set) × (left cursor.new ≡ rest)) IsMemory }
+        // A strict cursor takes what is written of a set of the family.
+        ensures strict { Strict cursor.old
+            (ReadsOrMemory (Spells (IsFamilySet family) ip_set_der) (λ set. set) cursor.old
+            cursor.new result) }
+        ensures refused { NotCanonicalOrMemory (IsIpBlockSequence (bits_of family)) cursor.old
+            result }
+        ensures mode { is_strict cursor.new ≡ is_strict cursor.old }
     {
         Self::next_set(alloc, cursor, family)
     }
@@ -125,8 +141,9 @@ impl<A: Allocator> IpBlocks<A> {
     ) -> Result<IpBlocks<A>, OrMemory<DerError>>
     where
         A: Copy,
-        ensures exact { TakesSaidOrMemory (IsRunsOfBlocks ip_bounds) cursor.old cursor.new result
-            (ip_blocks_at (bits_of family)) }
+        ensures by_mode { TakesSaidOrMemory (IsRunsOfBlocks ip_bounds) cursor.old cursor.new result
+            (ip_blocks_by (is_strict cursor.old) (bits_of family)) }
+        ensures mode { is_strict cursor.new ≡ is_strict cursor.old }
         ensures short { length (left cursor.old) < 2 ^ 64 }
     {
         let _len = cursor.rest().len(); // read so that the proof sees that the octets are fewer than 2^64

@@ -13,13 +13,16 @@ impl<A: Allocator> IpResources<A> {
     ghost use Rattle.std.specs.Prelude.{◌≡◌, ◌≢◌, List, ℕ, ◌<◌, ◌≤◌, ◌^◌, ◌+◌, ◌++◌, length, vec_len, OnOk, OnErr, IsOk, IfOk, IfSome, IfNone, MatchResult};
     ghost use Rattle.std.specs.Vec.{vec_capacity};
     ghost use Rattle.rpki_text.specs.Memory.{IsMemory};
-    ghost use Rattle.rpki_der.specs.Views.{Lenient, left};
-    ghost use Rattle.rpki_base.specs.DerViews.{ReadsOrMemory, TakesSaidOrMemory};
+    ghost use Rattle.rpki_der.specs.Der.{Spells};
+    ghost use Rattle.rpki_der.specs.Views.{Lenient, Strict, is_strict, left};
+    ghost use Rattle.rpki_base.specs.DerViews.{NotCanonicalOrMemory, ReadsOrMemory, TakesSaidOrMemory};
     ghost use Rattle.rpki_chain.specs.Claims.{Claim};
     ghost use Rattle.rpki_chain.specs.declared.choice.ResourcesChoice.TheVariants.{Missing};
     ghost use Rattle.rpki_ip.specs.Families.{bits_of};
     ghost use Rattle.rpki_ip.specs.declared.family.AddressFamily.TheVariants.{Ipv4, Ipv6};
-    ghost use Rattle.rpki_ipres.specs.Resources.{IsFamilyClaim, IsIpClaim, IsWholeClaim, if_present};
+    ghost use Rattle.rpki_ipres.specs.Modes.{ip_families_by, ip_resources_by};
+    ghost use Rattle.rpki_claims.specs.Families.{families_der};
+    ghost use Rattle.rpki_ipres.specs.Resources.{ArePresentClaims, IsPresentClaim, IsFamilyClaim, IsIpClaim, IsWholeClaim, if_present};
     ghost use Rattle.rpki_ipres.specs.ResourcesDer.{IsIpFamilies, IsIpResources, SaysClaimOf, SaysClaims, ip_content_der, ip_families_at, ip_families_der, ip_member_der, ip_resources_at, ip_resources_der};
 
     /// Takes the resources of a family: a NULL where they are inherited, and else a SEQUENCE of blocks of the family,
@@ -27,7 +30,9 @@ impl<A: Allocator> IpResources<A> {
     ///
     /// `Refused` with the first fault: one of [`Cursor::take_value`]; `BadTag` where neither stands there; `BadNull`
     /// for a NULL with content; that of a block as in [`IpBlock::take_opt_from_with_family`]; `EmptyBlocks` for a
-    /// SEQUENCE of none. `Memory` where there is no memory for the blocks. The cursor then stays.
+    /// SEQUENCE of none. From a strict cursor also `NotCanonical` as in
+    /// [`IpBlocks::take_from_with_family`](crate::blocks::IpBlocks::take_from_with_family). `Memory` where there is no
+    /// memory for the blocks. The cursor then stays.
     ///
     /// [`IpBlock::take_opt_from_with_family`]: crate::block::IpBlock::take_opt_from_with_family
     pub fn take_from(
@@ -49,6 +54,15 @@ impl<A: Allocator> IpResources<A> {
             → claim ≢ Missing
             → left cursor.old ≡ ip_resources_der claim ++ rest
             → MatchResult result (λ read. (read ≡ claim) × (left cursor.new ≡ rest)) IsMemory }
+        // A strict cursor takes what is written of resources of the family.
+        ensures strict { Strict cursor.old
+            (ReadsOrMemory (Spells (IsPresentClaim family) ip_resources_der) (λ claim. claim)
+            cursor.old cursor.new result) }
+        ensures refused { NotCanonicalOrMemory (IsIpResources (bits_of family)) cursor.old result }
+        // In either mode.
+        ensures by_mode { TakesSaidOrMemory SaysClaimOf cursor.old cursor.new result
+            (ip_resources_by (is_strict cursor.old) (bits_of family)) }
+        ensures mode { is_strict cursor.new ≡ is_strict cursor.old }
     {
         Self::next(alloc, cursor, family)
     }
@@ -142,8 +156,8 @@ impl<A: Allocator> IpResources<A> {
     ///
     /// `Refused` with the first fault: that of a SEQUENCE or of a family; `DuplicateFamily` for a family that was there
     /// before, ahead of its resources; that of its resources as in `take_from`; `TrailingData` for octets that are left
-    /// behind them; `NoFamily` where the SEQUENCE is empty. `Memory` where there is no memory for the blocks. The
-    /// cursor then stays.
+    /// behind them; `NoFamily` where the SEQUENCE is empty. From a strict cursor also `NotCanonical` for IPv4 behind IPv6,
+    /// ahead of its resources. `Memory` where there is no memory for the blocks. The cursor then stays.
     pub fn take_families_from(
         alloc: A,
         cursor: &mut Cursor<'_>,
@@ -161,6 +175,15 @@ impl<A: Allocator> IpResources<A> {
             → left cursor.old ≡ ip_families_der v4 v6 ++ rest
             → MatchResult result (λ read. (read ≡ (if_present v4, if_present v6))
             × (left cursor.new ≡ rest)) IsMemory }
+        // A strict cursor takes what is written of families, of which one at least is there.
+        ensures strict { Strict cursor.old
+            (ReadsOrMemory (Spells ArePresentClaims (families_der ip_resources_der))
+            (λ found. found) cursor.old cursor.new result) }
+        ensures refused { NotCanonicalOrMemory IsIpFamilies cursor.old result }
+        // In either mode.
+        ensures by_mode { TakesSaidOrMemory SaysClaims cursor.old cursor.new result
+            (ip_families_by (is_strict cursor.old)) }
+        ensures mode { is_strict cursor.new ≡ is_strict cursor.old }
     {
         Self::next_families(alloc, cursor)
     }
@@ -207,8 +230,9 @@ impl<A: Allocator> IpResources<A> {
     ) -> Result<IpResources<A>, OrMemory<DerError>>
     where
         A: Copy,
-        ensures exact { TakesSaidOrMemory SaysClaimOf cursor.old cursor.new result
-            (ip_resources_at (bits_of family)) }
+        ensures by_mode { TakesSaidOrMemory SaysClaimOf cursor.old cursor.new result
+            (ip_resources_by (is_strict cursor.old) (bits_of family)) }
+        ensures mode { is_strict cursor.new ≡ is_strict cursor.old }
         ensures short { length (left cursor.old) < 2 ^ 64 }
     {
         let _len = cursor.rest().len(); // read so that the proof sees that the octets are fewer than 2^64
@@ -222,8 +246,14 @@ impl<A: Allocator> IpResources<A> {
     ) -> Result<(Option<IpResources<A>>, Option<IpResources<A>>), OrMemory<DerError>>
     where
         A: Copy,
-        ensures reads { ReadsOrMemory IsIpFamilies (λ found. found) cursor.old cursor.new result }
-        ensures exact { TakesSaidOrMemory SaysClaims cursor.old cursor.new result ip_families_at }
+        ensures reads { Lenient cursor.old
+            (ReadsOrMemory IsIpFamilies (λ found. found) cursor.old cursor.new result) }
+        ensures exact { Lenient cursor.old
+            (TakesSaidOrMemory SaysClaims cursor.old cursor.new result ip_families_at) }
+        // In either mode.
+        ensures by_mode { TakesSaidOrMemory SaysClaims cursor.old cursor.new result
+            (ip_families_by (is_strict cursor.old)) }
+        ensures mode { is_strict cursor.new ≡ is_strict cursor.old }
         ensures short { length (left cursor.old) < 2 ^ 64 }
     {
         let _len = cursor.rest().len(); // read so that the proof sees that the octets are fewer than 2^64
@@ -238,15 +268,17 @@ struct IpResourcesReader<A: Allocator> {
 }
 
 impl<A: Allocator + Copy> ReadClaim for IpResourcesReader<A> {
-    ghost use Rattle.std.specs.Prelude.{List};
-    ghost use Rattle.rpki_base.specs.DerReading.{IsSequenceOf};
+    ghost use Rattle.std.specs.Prelude.{List, None};
+    ghost use Rattle.rpki_base.specs.DerReading.{IsSequenceFrom, IsSequenceOf};
     ghost use Rattle.rpki_chain.specs.ChoiceDer.{IsChoiceOf};
     ghost use Rattle.rpki_chain.specs.declared.choice.ResourcesChoice.{ResourcesChoice};
     ghost use Rattle.rpki_ip.specs.Families.{bits_of};
     ghost use Rattle.rpki_ipblock.specs.BlockDer.{IsIpBlockDer};
     ghost use Rattle.rpki_ipblock.specs.declared.block.IpBlock.{IpBlock};
     ghost use Rattle.rpki_ipres.specs.ResourcesDer.{SaysClaimOf, ip_resources_at};
-    ghost use Rattle.rpki_ipres.specs.ResourcesReadingLaws.{resources_reading};
+    ghost use Rattle.rpki_ipblock.specs.BlockModes.{IsNextIpBlock};
+    ghost use Rattle.rpki_ipres.specs.Modes.{greatest_of, ip_resources_by};
+    ghost use Rattle.rpki_ipres.specs.ResourcesReadingLaws.{resources_modal, resources_reading};
 
     type Claim = IpResources<A>;
 
@@ -258,7 +290,14 @@ impl<A: Allocator + Copy> ReadClaim for IpResourcesReader<A> {
 
     ghost reading = { λ _ family. ip_resources_at (bits_of family) };
 
+    ghost strict_grammar = { λ _ family. IsChoiceOf
+        (IsSequenceFrom greatest_of (IsNextIpBlock (bits_of family)) None) };
+
+    ghost reading_by = { λ _ strict family. ip_resources_by strict (bits_of family) };
+
     ghost is_reading = { λ _ family. resources_reading (bits_of family) };
+
+    ghost is_modal = { λ _ family. resources_modal (bits_of family) };
 
     fn take_claim(
         &self,

@@ -1,27 +1,21 @@
--- What the reading gives is the value of the grammar, and it gives what was written.
-use Rattle.std.proofs.Common.{map}
-use Rattle.rpki_base.specs.DerReading.{IsSequenceOf}
-use Rattle.rpki_base.specs.DerWriting.{octets_of_all}
-use Rattle.rpki_chain.specs.Runs.{IsRunsOfBlocks}
-use Rattle.rpki_der.specs.Views.{left}
-use Rattle.rpki_base.proofs.DerCursors.{reads_said_by, takes_said}
-use Rattle.rpki_ip.specs.Families.{bits_of}
-use Rattle.rpki_ipblock.specs.BlockDer.{IsIpBlockDer}
-use Rattle.rpki_ipblock.specs.BlockReading.{ip_blocks_at}
-use Rattle.rpki_ipblock.specs.Blocks.{ip_bounds, new_ip_block}
-use Rattle.rpki_ipblock.specs.BlockReadingLaws.{blocks_reading}
-use Rattle.rpki_ipres.specs.SetDer.{ip_run_der, ip_set_der}
-use Rattle.rpki_ipres.proofs.WholeReadings.{whole_when_taken}
-use Rattle.rpki_ipres.proofs.SetTextLemmas.{is_ip_set}
-use Rattle.rpki_ipres.proofs.SetWritten.{blocks_say, content_short, one_set, set_written}
+-- What the reading gives is the value of the grammar of the mode, and it gives what was written.
+use Rattle.rpki_ipres.proofs.Modes.{exact_set, reads_back_set, reads_canonical_set, reads_set, refused_set, whole_by}
 use Rattle.rpki_ipres.proofs.blocks.IpBlocks.take_from_with_family.Goals as goal
 
+pub returns-clause-exact : goal.returns-clause-exact
+returns-clause-exact g c = exact_set c.args.family c.args.cursor.now c.next_set.new.cursor c.next_set.result c.next_set.ensures.by_mode
+
 pub returns-clause-reads : goal.returns-clause-reads
-returns-clause-reads g c = reads_said_by (IsSequenceOf (IsIpBlockDer (bits_of c.args.family))) (IsRunsOfBlocks ip_bounds) (ip_blocks_at (bits_of c.args.family)) c.args.cursor.now c.next_set.new.cursor c.next_set.result (blocks_reading (bits_of c.args.family)) c.args.cursor.now.bytes c.next_set.ensures.exact
+returns-clause-reads g c = reads_set c.args.family c.args.cursor.now c.next_set.new.cursor c.next_set.result c.next_set.ensures.by_mode c.args.cursor.now.bytes
 
 pub returns-clause-reads_back : goal.returns-clause-reads_back
-returns-clause-reads_back g c = λ set rest is at. takes_said (IsSequenceOf (IsIpBlockDer (bits_of c.args.family))) (IsRunsOfBlocks ip_bounds) (ip_blocks_at (bits_of c.args.family)) c.args.cursor.now c.next_set.new.cursor c.next_set.result (blocks_reading (bits_of c.args.family)) one_set c.next_set.ensures.exact
-    (ip_set_der set) rest (map new_ip_block set) set (set_written c.args.family set is (content_short (left c.args.cursor.now) (octets_of_all ip_run_der set) rest c.next_set.ensures.short at)) (blocks_say set (is_ip_set c.args.family set is)) at
+returns-clause-reads_back g c = reads_back_set c.args.family c.args.cursor.now c.next_set.new.cursor c.next_set.result c.next_set.ensures.by_mode c.next_set.ensures.short
+
+pub returns-clause-strict : goal.returns-clause-strict
+returns-clause-strict g c = reads_canonical_set c.args.family c.args.cursor.now c.next_set.new.cursor c.next_set.result c.next_set.ensures.by_mode c.args.cursor.now.bytes c.next_set.ensures.short
+
+pub returns-clause-refused : goal.returns-clause-refused
+returns-clause-refused g c = refused_set c.args.family c.args.cursor.now c.next_set.new.cursor c.next_set.result c.next_set.ensures.by_mode
 
 pub returns-clause-whole : goal.returns-clause-whole
-returns-clause-whole g c = whole_when_taken c.args.family c.args.cursor.now c.next_set.new.cursor c.next_set.result (returns-clause-reads g c)
+returns-clause-whole g c = whole_by c.args.family c.args.cursor.now c.next_set.new.cursor c.next_set.result c.args.cursor.now.bytes c.next_set.ensures.by_mode

@@ -1,16 +1,15 @@
--- What stands at the cursor for IPv4 is whole, and what was written is read.
-use Rattle.rpki_claims.proofs.Said.{read_back_by}
-use Rattle.rpki_der.specs.Views.{left}
-use Rattle.rpki_ipres.specs.Resources.{if_present}
-use Rattle.rpki_ipres.specs.ResourcesDer.{IsIpFamilies, ip_families_der}
-use Rattle.rpki_ipres.proofs.ResourcesWritten.{claims_written, front_short, one_of_families}
-use Rattle.rpki_ipres.proofs.WholeReadings.{whole_families_when_taken}
+-- What stands at the cursor for IPv4 is whole, and what was written is read; strictly, nothing else.
+use Rattle.rpki_ipres.proofs.FamilyModes.{reads_back_families, reads_canonical_families, refused_families, whole_families_by}
 use Rattle.rpki_ipres.proofs.resources.IpResources.take_families_from.Goals as goal
 
 pub returns-clause-whole : goal.returns-clause-whole
-returns-clause-whole g c = whole_families_when_taken c.args.cursor.now c.next_families.new.cursor c.next_families.result c.next_families.ensures.reads
+returns-clause-whole g c = whole_families_by c.args.cursor.now c.next_families.new.cursor c.next_families.result c.args.cursor.now.bytes c.next_families.ensures.by_mode
 
 pub returns-clause-reads_back : goal.returns-clause-reads_back
-returns-clause-reads_back g c = λ v4 v6 rest first second some at.
-    let short = front_short (left c.args.cursor.now) (ip_families_der v4 v6) rest c.next_families.ensures.short at in
-    read_back_by IsIpFamilies c.args.cursor.now c.next_families.new.cursor c.next_families.result one_of_families c.next_families.ensures.reads (ip_families_der v4 v6) rest (if_present v4, if_present v6) (claims_written v4 v6 first second some short) at
+returns-clause-reads_back g c = reads_back_families c.args.cursor.now c.next_families.new.cursor c.next_families.result c.next_families.ensures.by_mode c.next_families.ensures.short
+
+pub returns-clause-strict : goal.returns-clause-strict
+returns-clause-strict g c = reads_canonical_families c.args.cursor.now c.next_families.new.cursor c.next_families.result c.next_families.ensures.by_mode c.args.cursor.now.bytes c.next_families.ensures.short
+
+pub returns-clause-refused : goal.returns-clause-refused
+returns-clause-refused g c = refused_families c.args.cursor.now c.next_families.new.cursor c.next_families.result c.next_families.ensures.by_mode

@@ -1,0 +1,25 @@
+-- Reading sets and resources of addresses by the mode: strictly each block begins more than one above the greatest address
+-- of the one before, and IPv4 stands before IPv6.
+use Rattle.std.specs.Prelude.{ℕ, Bool, List, Option, Some, None, Result}
+use Rattle.rpki_base.specs.DerReading.{sequence_from, values_from}
+use Rattle.rpki_chain.specs.ChoiceDer.{choice_at}
+use Rattle.rpki_chain.specs.declared.choice.ResourcesChoice.{ResourcesChoice}
+use Rattle.rpki_claims.specs.Families.{ByFamily}
+use Rattle.rpki_claims.specs.FamiliesReading.{families_by}
+use Rattle.rpki_der.specs.declared.error.DerError.{DerError}
+use Rattle.rpki_ip.specs.Families.{bits_of}
+use Rattle.rpki_ipblock.specs.BlockReading.{next_ip_block_by}
+use Rattle.rpki_ipblock.specs.Blocks.{ip_bounds}
+use Rattle.rpki_ipblock.specs.declared.block.IpBlock.{IpBlock}
+
+abbrev pub greatest_of : Option ℕ → IpBlock → Option ℕ
+greatest_of before block = Some (ip_bounds block).1
+
+abbrev pub ip_blocks_by : Bool → ℕ → List ℕ → Result (List IpBlock × List ℕ) DerError
+ip_blocks_by strict limit = sequence_from greatest_of (next_ip_block_by strict limit) None
+
+abbrev pub ip_resources_by : Bool → ℕ → List ℕ → Result (ResourcesChoice (List IpBlock) × List ℕ) DerError
+ip_resources_by strict limit = choice_at (values_from greatest_of (next_ip_block_by strict limit) None)
+
+abbrev pub ip_families_by : Bool → List ℕ → Result (ByFamily (ResourcesChoice (List IpBlock)) × List ℕ) DerError
+ip_families_by strict = families_by strict (λ family. ip_resources_by strict (bits_of family))

@@ -6,4 +6,4 @@ use Rattle.rpki_lines.proofs.read.families_in.Goals as goal
 pub returns : goal.returns
 returns g c =
     rw c.new-cursor.ensures.octets at
-    (ended_take IsIpFamilies one_of_families c.new-cursor.result c.take_families_from-taken.new.cursor c.take_families_from-taken.result c.take_families_from-taken.ensures.reads c.ended.result c.ended.ensures)
+    (ended_take IsIpFamilies one_of_families c.new-cursor.result c.take_families_from-taken.new.cursor c.take_families_from-taken.result (c.take_families_from-taken.ensures.reads c.new-cursor.ensures.mode) c.ended.result c.ended.ensures)

@@ -28,7 +28,7 @@ module _ {A : Type 0} where
     ipv6 = λ n h. subst (λ (t : Triple). Holds t.ipv6 n) same h;
   }
   path-inside (certificate ∷ certificates) anchor set (next, is, path) =
-      let first = inside anchor next certificate.numbers.items certificate.addresses.items certificate.mode is in
+      let first = inside anchor next certificate.encoding certificate.numbers.items certificate.addresses.items certificate.mode is in
       let others = path-inside certificates next set path in record {
         asn = λ n h. first.asn n (others.asn n h);
         ipv4 = λ n h. first.ipv4 n (others.ipv4 n h);

@@ -1,5 +1,5 @@
 -- What a take at the front of octets, and then their end, tell of all of them.
-use Rattle.std.proofs.Common.{arith, ◌≡◌, ◌≢◌, ℕ, length, List, [], ◌∷◌, MatchResult, IsErr, Result, Ok, Err, refl, sym, subst, ◌∙◌}
+use Rattle.std.proofs.Common.{arith, ◌≡◌, ◌≢◌, ℕ, length, List, [], ◌∷◌, MatchResult, IsErr, Result, Ok, Err, refl, sym, subst}
 use Rattle.std.proofs.lemmas.Bool.{ne_eqb}
 use Rattle.rpki_der.specs.Der.{HasNone, NoFront}
 use Rattle.rpki_der.specs.Fronts.{none_where_no_front}

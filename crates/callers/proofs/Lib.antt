@@ -1,5 +1,6 @@
 pub mod AllWritten
 pub mod AnchorLemmas
 pub mod CertificateLemmas
+pub mod EncodingLemmas
 pub mod IssuedLemmas
 pub mod TableLemmas

@@ -9,11 +9,11 @@ use Rattle.callers.specs.declared.issued.Unverified.{Unverified}
 
 -- the set is what the octets of a certificate claim of the issuer's
 abbrev pub IsVerifiedBy : {A : Type 0} → Triple → Extensions A → Triple → Type 0
-IsVerifiedBy issuer certificate set = IsVerified issuer certificate.numbers.items certificate.addresses.items certificate.mode set
+IsVerifiedBy issuer certificate set = IsVerified issuer certificate.encoding certificate.numbers.items certificate.addresses.items certificate.mode set
 
 -- for the reason they don't
 abbrev pub IsUnverifiedBy : {A : Type 0} → Triple → Extensions A → Unverified A → Type 0
-IsUnverifiedBy issuer certificate reason = IsUnverified issuer certificate.numbers.items certificate.addresses.items certificate.mode reason
+IsUnverifiedBy issuer certificate reason = IsUnverified issuer certificate.encoding certificate.numbers.items certificate.addresses.items certificate.mode reason
 
 -- the set is what the certificates leave of the anchor's, each verified by what the ones before it leave
 abbrev pub IsVerifiedPath : {A : Type 0} → Triple → List (Extensions A) → Triple → Type 0

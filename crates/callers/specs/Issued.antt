@@ -1,16 +1,15 @@
 -- What octets of a certificate's extensions claim of an issuer's resources (RFC 3779, 2.3 and 3.3; RFC 6487, 7.2;
 -- RFC 8360, 4).
 use Rattle.std.specs.Prelude.{◌≡◌, ℕ, ◌⊎◌, List, Option, Some, None}
-use Rattle.rpki_der.specs.Der.{HasNone}
 use Rattle.rpki_chain.specs.Claims.{Claim}
 use Rattle.rpki_chain.specs.Paths.{IsExcess, IsIssued}
 use Rattle.rpki_chain.specs.Runs.{Runs, Holds}
 use Rattle.rpki_chain.specs.declared.choice.ResourcesChoice.TheVariants.{Missing}
 use Rattle.rpki_chain.specs.declared.path.Overclaim.{Overclaim}
 use Rattle.rpki_claims.specs.Families.{ByFamily}
-use Rattle.rpki_as.specs.AsDer.{IsAsResources}
-use Rattle.rpki_ipres.specs.ResourcesDer.{IsIpFamilies}
 use Rattle.rpki_resources.specs.Triples.{Triple}
+use Rattle.callers.specs.Encodings.{HasAddressFault, HasAsFault, IsAddressValue, IsAsValue}
+use Rattle.callers.specs.declared.encodings.Encoding.{Encoding}
 use Rattle.callers.specs.declared.issued.Unverified.{Unverified}
 use Rattle.callers.specs.declared.issued.Unverified.TheVariants.{AsOctets, Asn, AddressOctets, Ipv4, Ipv6}
 
@@ -49,48 +48,48 @@ AreNotIssued issuer v4 v6 mode reason =
 -- ---- octets
 
 -- the set is what octets claim of AS numbers
-abbrev pub AreNumbersOf : Runs → List ℕ → Overclaim → Runs → Type 0
-AreNumbersOf issuer octets mode set = (claim : Claim) × IsAsResources octets claim × IsIssued (Holds issuer) claim mode set
+abbrev pub AreNumbersOf : Runs → Encoding → List ℕ → Overclaim → Runs → Type 0
+AreNumbersOf issuer encoding octets mode set = (claim : Claim) × IsAsValue encoding octets claim × IsIssued (Holds issuer) claim mode set
 
 -- octets are no AS resources, or claim such an excess
-abbrev pub AreNotNumbersOf : {A : Type 0} → Runs → List ℕ → Overclaim → Unverified A → Type 0
-AreNotNumbersOf issuer octets mode (AsOctets fault) = HasNone IsAsResources octets
-AreNotNumbersOf issuer octets mode (Asn excess) = (claim : Claim) × IsAsResources octets claim × IsExcess (Holds issuer) claim mode excess
-AreNotNumbersOf issuer octets mode (AddressOctets fault) = ⊥
-AreNotNumbersOf issuer octets mode (Ipv4 excess) = ⊥
-AreNotNumbersOf issuer octets mode (Ipv6 excess) = ⊥
+abbrev pub AreNotNumbersOf : {A : Type 0} → Runs → Encoding → List ℕ → Overclaim → Unverified A → Type 0
+AreNotNumbersOf issuer encoding octets mode (AsOctets fault) = HasAsFault encoding octets fault
+AreNotNumbersOf issuer encoding octets mode (Asn excess) = (claim : Claim) × IsAsValue encoding octets claim × IsExcess (Holds issuer) claim mode excess
+AreNotNumbersOf issuer encoding octets mode (AddressOctets fault) = ⊥
+AreNotNumbersOf issuer encoding octets mode (Ipv4 excess) = ⊥
+AreNotNumbersOf issuer encoding octets mode (Ipv6 excess) = ⊥
 
 -- the claims are those of octets on IPv4 and on IPv6
-abbrev pub AreClaimed : List ℕ → Claim × Claim → Type 0
-AreClaimed octets claims = (families : ByFamily Claim) × IsIpFamilies octets families × (claims ≡ (claim_or_missing families.0, claim_or_missing families.1))
+abbrev pub AreClaimed : Encoding → List ℕ → Claim × Claim → Type 0
+AreClaimed encoding octets claims = (families : ByFamily Claim) × IsAddressValue encoding octets families × (claims ≡ (claim_or_missing families.0, claim_or_missing families.1))
 
 -- the sets are what octets claim of addresses
-abbrev pub AreAddressesOf : Triple → List ℕ → Overclaim → Runs × Runs → Type 0
-AreAddressesOf issuer octets mode sets = (claims : Claim × Claim) × AreClaimed octets claims × AreIssued issuer claims.0 claims.1 mode sets
+abbrev pub AreAddressesOf : Triple → Encoding → List ℕ → Overclaim → Runs × Runs → Type 0
+AreAddressesOf issuer encoding octets mode sets = (claims : Claim × Claim) × AreClaimed encoding octets claims × AreIssued issuer claims.0 claims.1 mode sets
 
 -- octets are no families
-abbrev pub AreNoAddresses : {A : Type 0} → List ℕ → Unverified A → Type 0
-AreNoAddresses octets (AddressOctets fault) = HasNone IsIpFamilies octets
-AreNoAddresses octets (AsOctets fault) = ⊥
-AreNoAddresses octets (Asn excess) = ⊥
-AreNoAddresses octets (Ipv4 excess) = ⊥
-AreNoAddresses octets (Ipv6 excess) = ⊥
+abbrev pub AreNoAddresses : {A : Type 0} → Encoding → List ℕ → Unverified A → Type 0
+AreNoAddresses encoding octets (AddressOctets fault) = HasAddressFault encoding octets fault
+AreNoAddresses encoding octets (AsOctets fault) = ⊥
+AreNoAddresses encoding octets (Asn excess) = ⊥
+AreNoAddresses encoding octets (Ipv4 excess) = ⊥
+AreNoAddresses encoding octets (Ipv6 excess) = ⊥
 
 -- or claim such an excess
-abbrev pub AreNotAddressesOf : {A : Type 0} → Triple → List ℕ → Overclaim → Unverified A → Type 0
-AreNotAddressesOf issuer octets mode reason =
-    AreNoAddresses octets reason
-    ⊎ ((claims : Claim × Claim) × AreClaimed octets claims × AreNotIssued issuer claims.0 claims.1 mode reason)
+abbrev pub AreNotAddressesOf : {A : Type 0} → Triple → Encoding → List ℕ → Overclaim → Unverified A → Type 0
+AreNotAddressesOf issuer encoding octets mode reason =
+    AreNoAddresses encoding octets reason
+    ⊎ ((claims : Claim × Claim) × AreClaimed encoding octets claims × AreNotIssued issuer claims.0 claims.1 mode reason)
 
 -- ---- a certificate
 
 -- the set is what the octets of both extensions claim of the issuer's
-pub record IsVerified (issuer : Triple) (numbers addresses : List ℕ) (mode : Overclaim) (set : Triple) : Type 0 where
-  pub asn : AreNumbersOf issuer.asn numbers mode set.asn
-  pub of_families : AreAddressesOf issuer addresses mode (set.ipv4, set.ipv6)
+pub record IsVerified (issuer : Triple) (encoding : Encoding) (numbers addresses : List ℕ) (mode : Overclaim) (set : Triple) : Type 0 where
+  pub asn : AreNumbersOf issuer.asn encoding numbers mode set.asn
+  pub of_families : AreAddressesOf issuer encoding addresses mode (set.ipv4, set.ipv6)
 
 -- for the reason the AS numbers are refused, or else the addresses
-abbrev pub IsUnverified : {A : Type 0} → Triple → List ℕ → List ℕ → Overclaim → Unverified A → Type 0
-IsUnverified issuer numbers addresses mode reason =
-    AreNotNumbersOf issuer.asn numbers mode reason
-    ⊎ (((set : Runs) × AreNumbersOf issuer.asn numbers mode set) × AreNotAddressesOf issuer addresses mode reason)
+abbrev pub IsUnverified : {A : Type 0} → Triple → Encoding → List ℕ → List ℕ → Overclaim → Unverified A → Type 0
+IsUnverified issuer encoding numbers addresses mode reason =
+    AreNotNumbersOf issuer.asn encoding numbers mode reason
+    ⊎ (((set : Runs) × AreNumbersOf issuer.asn encoding numbers mode set) × AreNotAddressesOf issuer encoding addresses mode reason)

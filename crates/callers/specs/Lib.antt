@@ -1,3 +1,4 @@
 pub mod Anchor
 pub mod Certificates
+pub mod Encodings
 pub mod Issued

@@ -4,6 +4,7 @@ ghost use Rattle.rpki_text.specs.Memory.{IfRefused};
 ghost use Rattle.rpki_resources.specs.Triples.{HasEachOf};
 ghost use Rattle.callers.specs.Anchor.{IsFirstUnverified, IsUnverifiedBy, IsVerifiedBy, IsVerifiedPath};
 
+use crate::encodings::Encoding;
 use crate::issued::{Unverified, verified_octets};
 use rpki_resources::OrMemory;
 use rpki_resources::repository::resources::{Overclaim, PathRefusal, ResourceSet};
@@ -16,6 +17,8 @@ pub struct Extensions<A: Allocator = Global> {
     pub numbers: Vec<u8, A>,
     /// The octets of IP address blocks (RFC 3779, 2.2.3).
     pub addresses: Vec<u8, A>,
+    /// Which octets are read.
+    pub encoding: Encoding,
     /// What becomes of a claim that lists too much, as the certificate's policy says (RFC 8360, 4).
     pub mode: Overclaim,
 }
@@ -56,5 +59,12 @@ fn verified_by<A: Allocator + Copy>(
 {
     let numbers = certificate.numbers.as_slice();
     let addresses = certificate.addresses.as_slice();
-    verified_octets(alloc, issuer, numbers, addresses, certificate.mode)
+    verified_octets(
+        alloc,
+        issuer,
+        numbers,
+        addresses,
+        certificate.encoding,
+        certificate.mode,
+    )
 }

@@ -1,17 +1,16 @@
 //! A reader of certificates: what stands in the two extensions of RFC 3779, and what a path of claims leaves of a root's
 //! resources.
 ghost use Rattle.std.specs.Prelude.{IfOk, IfSome, MatchResult, All};
-ghost use Rattle.rpki_der.specs.Der.{HasNone};
 ghost use Rattle.rpki_text.specs.Memory.{IfRefused};
 ghost use Rattle.rpki_chain.specs.Paths.{IsFirstRefusal, IsPathResult};
 ghost use Rattle.rpki_chain.specs.Runs.{Holds};
-ghost use Rattle.rpki_as.specs.AsDer.{IsAsResources};
 ghost use Rattle.rpki_ipres.specs.Resources.{IsWholeClaim};
-ghost use Rattle.rpki_ipres.specs.ResourcesDer.{IsIpFamilies};
 ghost use Rattle.rpki_resources.specs.Triples.{HasEachOf};
 ghost use Rattle.callers.specs.Certificates.{IsFirstOverclaim, IsLeftInEach};
+ghost use Rattle.callers.specs.Encodings.{HasAddressFault, HasAsFault, IsAddressValue, IsAsValue};
 
-use rpki_der::{Cursor, DerError};
+use crate::encodings::Encoding;
+use rpki_der::DerError;
 use rpki_resources::OrMemory;
 use rpki_resources::repository::resources::{
     AsResources, AsStep, IpResources, IpStep, Ipv4Blocks, Ipv6Blocks, OverclaimedAsResources,
@@ -24,12 +23,13 @@ use std::alloc::{Allocator, Global};
 pub fn read_as<A: Allocator + Copy>(
     alloc: A,
     octets: &[u8],
+    encoding: Encoding,
 ) -> Result<AsResources<A>, OrMemory<DerError>>
-    ensures { MatchResult result (IsAsResources octets.now)
-        (IfRefused (λ _. HasNone IsAsResources octets.now)) }
+    ensures { MatchResult result (IsAsValue encoding octets.now)
+        (IfRefused (HasAsFault encoding octets.now)) }
 {
     rpki_as::der::laws::written_resources(); // so that the proof sees that octets begin with one claim at most
-    let mut cursor = Cursor::new(octets);
+    let mut cursor = encoding.cursor(octets);
     let resources = AsResources::take_from(alloc, &mut cursor)?;
     cursor.finish()?;
     Ok(resources)
@@ -40,13 +40,14 @@ pub fn read_as<A: Allocator + Copy>(
 pub fn read_families<A: Allocator + Copy>(
     alloc: A,
     octets: &[u8],
+    encoding: Encoding,
 ) -> Result<(Option<IpResources<A>>, Option<IpResources<A>>), OrMemory<DerError>>
-    ensures claims { MatchResult result (IsIpFamilies octets.now)
-        (IfRefused (λ _. HasNone IsIpFamilies octets.now)) }
+    ensures claims { MatchResult result (IsAddressValue encoding octets.now)
+        (IfRefused (HasAddressFault encoding octets.now)) }
     ensures whole { IfOk result (λ found. IfSome found.0 IsWholeClaim) }
 {
     rpki_ipres::der::laws::one_value(); // so that the proof sees that octets begin with one list of families at most
-    let mut cursor = Cursor::new(octets);
+    let mut cursor = encoding.cursor(octets);
     let families = IpResources::take_families_from(alloc, &mut cursor)?;
     cursor.finish()?;
     Ok(families)

@@ -1,15 +1,15 @@
 //! A reader of certificates, from the octets of both extensions of RFC 3779 to the set that the issuer verifies.
 ghost use Rattle.std.specs.Prelude.{◌≡◌, IfOk, IfSome, MatchResult};
-ghost use Rattle.rpki_der.specs.Der.{HasNone};
 ghost use Rattle.rpki_text.specs.Memory.{IfRefused};
 ghost use Rattle.rpki_chain.specs.Paths.{IsIssued};
 ghost use Rattle.rpki_chain.specs.Runs.{Holds};
 ghost use Rattle.rpki_ipres.specs.Resources.{IsWholeClaim};
-ghost use Rattle.rpki_ipres.specs.ResourcesDer.{IsIpFamilies};
 ghost use Rattle.rpki_resources.specs.Triples.{HasEachOf};
+ghost use Rattle.callers.specs.Encodings.{HasAddressFault};
 ghost use Rattle.callers.specs.Issued.{AreAddressesOf, AreClaimed, AreIssued, AreNotAddressesOf, AreNotIssued, AreNotNumbersOf, AreNumbersOf, IsUnverified, IsV4Excess, IsV6Excess, IsVerified, claim_or_missing};
 
 use crate::certificates::{read_as, read_families};
+use crate::encodings::Encoding;
 use rpki_der::DerError;
 use rpki_resources::OrMemory;
 use rpki_resources::repository::resources::{
@@ -41,14 +41,16 @@ pub fn verified_octets<A: Allocator + Copy>(
     issuer: &ResourceSet<A>,
     numbers: &[u8],
     addresses: &[u8],
+    encoding: Encoding,
     mode: Overclaim,
 ) -> Result<ResourceSet<A>, OrMemory<Unverified<A>>>
-    ensures verified { MatchResult result (IsVerified issuer.now numbers.now addresses.now mode)
-        (IfRefused (IsUnverified issuer.now numbers.now addresses.now mode)) }
+    ensures verified { MatchResult result (IsVerified issuer.now encoding numbers.now
+        addresses.now mode)
+        (IfRefused (IsUnverified issuer.now encoding numbers.now addresses.now mode)) }
     ensures inside { IfOk result (HasEachOf issuer.now) }
 {
-    let asn = verified_numbers(alloc, issuer.asn(), numbers, mode)?;
-    let (ipv4, ipv6) = verified_addresses(alloc, issuer, addresses, mode)?;
+    let asn = verified_numbers(alloc, issuer.asn(), numbers, encoding, mode)?;
+    let (ipv4, ipv6) = verified_addresses(alloc, issuer, addresses, encoding, mode)?;
     Ok(ResourceSet::new(asn, ipv4, ipv6))
 }
 
@@ -57,12 +59,13 @@ fn verified_numbers<A: Allocator + Copy>(
     alloc: A,
     issuer: &AsBlocks<A>,
     octets: &[u8],
+    encoding: Encoding,
     mode: Overclaim,
 ) -> Result<AsBlocks<A>, OrMemory<Unverified<A>>>
-    ensures { MatchResult result (AreNumbersOf issuer.now octets.now mode)
-        (IfRefused (AreNotNumbersOf issuer.now octets.now mode)) }
+    ensures { MatchResult result (AreNumbersOf issuer.now encoding octets.now mode)
+        (IfRefused (AreNotNumbersOf issuer.now encoding octets.now mode)) }
 {
-    let claim = match read_as(alloc, octets) {
+    let claim = match read_as(alloc, octets, encoding) {
         Ok(claim) => claim,
         Err(OrMemory::Refused(fault)) => return Err(OrMemory::Refused(Unverified::AsOctets(fault))),
         Err(OrMemory::Memory(error)) => return Err(OrMemory::Memory(error)),
@@ -79,12 +82,13 @@ fn verified_addresses<A: Allocator + Copy>(
     alloc: A,
     issuer: &ResourceSet<A>,
     octets: &[u8],
+    encoding: Encoding,
     mode: Overclaim,
 ) -> Result<(Ipv4Blocks<A>, Ipv6Blocks<A>), OrMemory<Unverified<A>>>
-    ensures { MatchResult result (AreAddressesOf issuer.now octets.now mode)
-        (IfRefused (AreNotAddressesOf issuer.now octets.now mode)) }
+    ensures { MatchResult result (AreAddressesOf issuer.now encoding octets.now mode)
+        (IfRefused (AreNotAddressesOf issuer.now encoding octets.now mode)) }
 {
-    match read_claims(alloc, octets) {
+    match read_claims(alloc, octets, encoding) {
         Ok((v4, v6)) => issued(alloc, issuer, &v4, &v6, mode),
         Err(OrMemory::Refused(fault)) => Err(OrMemory::Refused(Unverified::AddressOctets(fault))),
         Err(OrMemory::Memory(error)) => Err(OrMemory::Memory(error)),
@@ -96,12 +100,13 @@ fn verified_addresses<A: Allocator + Copy>(
 pub fn read_claims<A: Allocator + Copy>(
     alloc: A,
     octets: &[u8],
+    encoding: Encoding,
 ) -> Result<(IpResources<A>, IpResources<A>), OrMemory<DerError>>
-    ensures claims { MatchResult result (AreClaimed octets.now)
-        (IfRefused (λ _. HasNone IsIpFamilies octets.now)) }
+    ensures claims { MatchResult result (AreClaimed encoding octets.now)
+        (IfRefused (HasAddressFault encoding octets.now)) }
     ensures whole { IfOk result (λ claims. IsWholeClaim claims.0) }
 {
-    match read_families(alloc, octets) {
+    match read_families(alloc, octets, encoding) {
         Ok(found) => Ok(each_or_missing(found)),
         Err(error) => Err(error),
     }

@@ -18,6 +18,7 @@ pub mod builders;
 pub mod cache;
 pub mod certificates;
 pub mod conditions;
+pub mod encodings;
 pub mod errors;
 pub mod filters;
 pub mod issued;

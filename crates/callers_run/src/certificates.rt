@@ -1,38 +1,43 @@
 //! Certificates: what octets are, and what an issuer verifies of them.
 use crate::print::{self, cut};
 use crate::sets::from_lists;
+use callers::encodings::Encoding;
 use callers::issued::Unverified;
 use rpki_resources::OrMemory;
 use rpki_resources::repository::resources::{Overclaim, ResourceSet};
 use std::alloc::{AllocError, Global};
 
-/// `read_as HEX`
-pub fn read_as(alloc: Global, hex: &str) -> anyhow::Result<String> {
+/// `read_as HEX`, and `read_canonical_as HEX`
+pub fn read_as(alloc: Global, hex: &str, encoding: Encoding) -> anyhow::Result<String> {
     let octets = hex::decode(alloc, hex)?;
-    let resources = callers::certificates::read_as(alloc, octets.as_slice())?;
+    let resources = callers::certificates::read_as(alloc, octets.as_slice(), encoding)?;
     print::value(alloc, &resources)
 }
 
-/// `read_families HEX`
-pub fn read_families(alloc: Global, hex: &str) -> anyhow::Result<String> {
+/// `read_families HEX`, and `read_canonical_families HEX`
+pub fn read_families(alloc: Global, hex: &str, encoding: Encoding) -> anyhow::Result<String> {
     let octets = hex::decode(alloc, hex)?;
-    let (v4, v6) = callers::certificates::read_families(alloc, octets.as_slice())?;
+    let (v4, v6) = callers::certificates::read_families(alloc, octets.as_slice(), encoding)?;
     print::families(alloc, &v4, &v6)
 }
 
-/// `verified_octets refuse A ; B ; C | HEX | HEX`, or with `trim`: the resources of an issuer, and the octets of AS
-/// identifiers and of address blocks.
+/// `verified_octets refuse A ; B ; C | HEX | HEX`, or with another word of [`reading_named`]: the resources of an issuer,
+/// and the octets of AS identifiers and of address blocks.
 pub fn verified_octets(alloc: Global, operands: &str) -> anyhow::Result<String> {
     let (issuer, extensions) = cut(operands, '|');
     let (mode, lists) = cut(issuer, ' ');
     let issuer = from_lists(alloc, lists)?;
-    verified(alloc, &issuer, extensions, mode_named(mode))
+    verified(alloc, &issuer, extensions, reading_named(mode))
 }
 
-pub fn mode_named(name: &str) -> Overclaim {
+/// Which octets are read, and what becomes of a claim that lists too much: `refuse` or `trim`, and `canonical-refuse` or
+/// `canonical-trim` where canonical octets alone are read.
+pub fn reading_named(name: &str) -> (Encoding, Overclaim) {
     match name {
-        "trim" => Overclaim::Trim,
-        _ => Overclaim::Refuse,
+        "trim" => (Encoding::Any, Overclaim::Trim),
+        "canonical-refuse" => (Encoding::Canonical, Overclaim::Refuse),
+        "canonical-trim" => (Encoding::Canonical, Overclaim::Trim),
+        _ => (Encoding::Any, Overclaim::Refuse),
     }
 }
 
@@ -40,12 +45,12 @@ fn verified(
     alloc: Global,
     issuer: &ResourceSet,
     extensions: &str,
-    mode: Overclaim,
+    reading: (Encoding, Overclaim),
 ) -> anyhow::Result<String> {
     let (numbers, addresses) = cut(extensions, '|');
     let numbers = hex::decode(alloc, numbers)?;
     let addresses = hex::decode(alloc, addresses)?;
-    answer(alloc, issuer, &numbers, &addresses, mode)
+    answer(alloc, issuer, &numbers, &addresses, reading)
 }
 
 fn answer(
@@ -53,9 +58,9 @@ fn answer(
     issuer: &ResourceSet,
     numbers: &[u8],
     addresses: &[u8],
-    mode: Overclaim,
+    (encoding, mode): (Encoding, Overclaim),
 ) -> anyhow::Result<String> {
-    match callers::issued::verified_octets(alloc, issuer, numbers, addresses, mode) {
+    match callers::issued::verified_octets(alloc, issuer, numbers, addresses, encoding, mode) {
         Ok(set) => print::value(alloc, &set),
         Err(OrMemory::Refused(reason)) => refused(alloc, &reason),
         Err(OrMemory::Memory(error)) => Err(error.into()),

@@ -10,6 +10,7 @@ mod print;
 mod sets;
 mod values;
 
+use callers::encodings::Encoding;
 use print::cut;
 use std::alloc::Global;
 use std::io;
@@ -32,8 +33,12 @@ fn answer(rt: &HostRuntime, line: &str) -> io::Result<()> {
 fn call(alloc: Global, line: &str) -> anyhow::Result<String> {
     let (name, operands) = cut(line, ' ');
     match name {
-        "read_as" => certificates::read_as(alloc, operands),
-        "read_families" => certificates::read_families(alloc, operands),
+        "read_as" => certificates::read_as(alloc, operands, Encoding::Any),
+        "read_canonical_as" => certificates::read_as(alloc, operands, Encoding::Canonical),
+        "read_families" => certificates::read_families(alloc, operands, Encoding::Any),
+        "read_canonical_families" => {
+            certificates::read_families(alloc, operands, Encoding::Canonical)
+        }
         "verified_octets" => certificates::verified_octets(alloc, operands),
         "verified_path" => paths::verified_path(alloc, operands),
         "verified" => paths::verified(alloc, operands),

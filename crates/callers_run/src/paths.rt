@@ -2,7 +2,7 @@
 ghost use Rattle.std.specs.Prelude.{All, IfOk, OnOk};
 ghost use Rattle.rpki_ipres.specs.Resources.{IsWholeClaim};
 
-use crate::certificates::{mode_named, reason_text};
+use crate::certificates::{reading_named, reason_text};
 use crate::print::{self, cut};
 use crate::sets::from_lists;
 use callers::anchor::Extensions;
@@ -13,8 +13,8 @@ use rpki_resources::repository::resources::{AsStep, IpStep, PathRefusal, Resourc
 use std::alloc::Global;
 use std::fmt;
 
-/// `verified_path A ; B ; C | refuse HEX HEX | ..`, or with `trim`: the resources of a trust anchor, and of each certificate
-/// on the path the octets of AS identifiers and of address blocks.
+/// `verified_path A ; B ; C | refuse HEX HEX | ..`, or with another word of [`reading_named`]: the resources of a trust
+/// anchor, and of each certificate on the path the octets of AS identifiers and of address blocks.
 pub fn verified_path(alloc: Global, operands: &str) -> anyhow::Result<String> {
     let (anchor, path) = cut(operands, '|');
     let certificates = path_of(alloc, path)?;
@@ -52,14 +52,15 @@ fn path_of(alloc: Global, path: &str) -> anyhow::Result<Vec<Extensions>> {
 }
 
 fn extensions(alloc: Global, certificate: &str) -> anyhow::Result<Extensions> {
-    let (mode, octets) = cut(certificate, ' ');
+    let (reading, octets) = cut(certificate, ' ');
     let (numbers, addresses) = cut(octets, ' ');
     let numbers = hex::decode(alloc, numbers)?;
     let addresses = hex::decode(alloc, addresses)?;
-    let mode = mode_named(mode);
+    let (encoding, mode) = reading_named(reading);
     Ok(Extensions {
         numbers,
         addresses,
+        encoding,
         mode,
     })
 }
@@ -125,7 +126,7 @@ fn push_numbers(
     asn: &mut Vec<AsStep>,
     certificate: &Extensions,
 ) -> anyhow::Result<()> {
-    let claim = callers::certificates::read_as(alloc, &certificate.numbers)?;
+    let claim = callers::certificates::read_as(alloc, &certificate.numbers, certificate.encoding)?;
     let mode = certificate.mode;
     asn.push(AsStep { claim, mode })?;
     Ok(())
@@ -140,7 +141,11 @@ fn push_addresses(
     ensures { OnOk result (All (λ step. IsWholeClaim step.claim) ipv4.old.items
         → All (λ step. IsWholeClaim step.claim) ipv4.new.items) }
 {
-    let (v4, v6) = callers::issued::read_claims(alloc, &certificate.addresses)?;
+    let (v4, v6) = callers::issued::read_claims(
+        alloc,
+        &certificate.addresses,
+        certificate.encoding,
+    )?;
     let mode = certificate.mode;
     ipv4.push(IpStep { claim: v4, mode })?;
     ipv6.push(IpStep { claim: v6, mode })?;

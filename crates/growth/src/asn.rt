@@ -62,8 +62,8 @@ impl Set for AsBlocks {
         Ok(octets)
     }
 
-    fn take(alloc: Global, octets: &[u8]) -> Result<AsBlocks, OrMemory<DerError>> {
-        AsBlocks::take_from(alloc, &mut Cursor::new(octets))
+    fn take(alloc: Global, cursor: &mut Cursor<'_>) -> Result<AsBlocks, OrMemory<DerError>> {
+        AsBlocks::take_from(alloc, cursor)
     }
 
     fn append(&self, octets: &mut Vec<u8>) -> Result<(), AllocError> {

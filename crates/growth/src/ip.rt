@@ -64,8 +64,8 @@ impl Set for IpBlocks {
         Ok(octets)
     }
 
-    fn take(alloc: Global, octets: &[u8]) -> Result<IpBlocks, OrMemory<DerError>> {
-        IpBlocks::take_from(alloc, &mut Cursor::new(octets))
+    fn take(alloc: Global, cursor: &mut Cursor<'_>) -> Result<IpBlocks, OrMemory<DerError>> {
+        IpBlocks::take_from(alloc, cursor)
     }
 
     fn append(&self, octets: &mut Vec<u8>) -> Result<(), AllocError> {

@@ -1,6 +1,6 @@
 //! What is measured of sets, whatever their kind.
 use rpki_base::memory::OrMemory;
-use rpki_der::DerError;
+use rpki_der::{Cursor, DerError};
 use std::alloc::{AllocError, Global};
 use std::io;
 use std::time::Instant;
@@ -32,7 +32,7 @@ pub trait Set: Sized + Drop {
     fn octets(alloc: Global, blocks: &[Self::Block]) -> Result<Vec<u8>, AllocError>;
 
     /// The set of the blocks of a SEQUENCE.
-    fn take(alloc: Global, octets: &[u8]) -> Result<Self, OrMemory<DerError>>;
+    fn take(alloc: Global, cursor: &mut Cursor<'_>) -> Result<Self, OrMemory<DerError>>;
 
     /// Appends the set's octets.
     fn append(&self, octets: &mut Vec<u8>) -> Result<(), AllocError>;
@@ -132,8 +132,22 @@ fn measure_contains<S: Set>(
 /// Reads blocks from a SEQUENCE in which they don't ascend, and writes their set.
 pub fn measure_der<S: Set>(rt: &HostRuntime, kind: &str, count: usize) -> io::Result<()> {
     let octets = octets::<S>(rt.alloc(), count)?;
-    let set: S = measure_reading(rt, kind, count, &octets)?;
+    let set: S = measure_reading(rt, kind, ("take_from", count), Cursor::new(&octets))?;
     measure_writing(rt, kind, count, &set)
+}
+
+/// Reads canonical octets, once leniently and once strictly.
+pub fn measure_modes<S: Set>(rt: &HostRuntime, kind: &str, count: usize) -> io::Result<()> {
+    let octets = canonical::<S>(rt.alloc(), count)?;
+    let _: S = measure_reading(rt, kind, ("lenient", count), Cursor::new(&octets))?;
+    let _: S = measure_reading(rt, kind, ("strict", count), Cursor::new_strict(&octets))?;
+    Ok(())
+}
+
+/// A SEQUENCE of blocks, which ascend.
+fn canonical<S: Set>(alloc: Global, count: usize) -> Result<Vec<u8>, AllocError> {
+    let blocks = S::blocks(alloc, count, false)?;
+    S::octets(alloc, &blocks)
 }
 
 /// A SEQUENCE of blocks, which aren't ascending.
@@ -168,18 +182,19 @@ fn behind(at: usize, count: usize) -> usize {
 fn measure_reading<S: Set>(
     rt: &HostRuntime,
     kind: &str,
-    count: usize,
-    octets: &[u8],
+    (name, count): (&str, usize),
+    cursor: Cursor<'_>,
 ) -> io::Result<S> {
     let start = Instant::now(rt)?;
-    let set: S = taken(rt.alloc(), octets)?;
-    tell(rt, kind, "take_from", count, start)?;
-    report(rt, kind, "take_from", count, set.count(), "blocks")?;
+    let set: S = taken(rt.alloc(), cursor)?;
+    tell(rt, kind, name, count, start)?;
+    report(rt, kind, name, count, set.count(), "blocks")?;
     Ok(set)
 }
 
-fn taken<S: Set>(alloc: Global, octets: &[u8]) -> io::Result<S> {
-    match S::take(alloc, octets) {
+fn taken<S: Set>(alloc: Global, cursor: Cursor<'_>) -> io::Result<S> {
+    let mut cursor = cursor;
+    match S::take(alloc, &mut cursor) {
         Ok(set) => Ok(set),
         Err(_) => Err(io::ErrorKind::InvalidData.into()),
     }

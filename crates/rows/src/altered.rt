@@ -2,6 +2,7 @@
 ghost use Rattle.std.specs.Prelude.{◌<◌, length};
 
 use crate::claims::Families;
+use crate::modes::Mode;
 use crate::values::{Item, Reader, Skip, Value};
 use answering::print::cut;
 use hex::FromHexError;
@@ -21,24 +22,28 @@ const REQUESTS: u64 = 64;
 type Counts = [u64; 16];
 
 /// What a reader makes of some octets: the number of its fault, with the cursor where it was; 0 for a value that is read
-/// back from the octets that are written of it, and for one that is skipped; and `None` for anything else.
+/// back from the octets that are written of it, which strictly are those that were taken, and for one that is skipped; and
+/// `None` for anything else.
 type Reading = Option<u8>;
 
-/// The answer to `altered READER HEX`: of the beginnings of these octets, and of the octets with each of the 256 values
+/// A reader, and the mode of the cursors that it is given.
+type ModalReader = (Mode, Reader);
+
+/// The answer to `altered READER HEX` and `alteredstrict READER HEX`: of the beginnings of these octets, and of the octets with each of the 256 values
 /// at each place, how many are read, and how many are refused by each fault.
-pub fn answer(alloc: Global, operands: &str) -> Result<String, AllocError> {
+pub fn answer(alloc: Global, mode: Mode, operands: &str) -> Result<String, AllocError> {
     let (name, text) = cut(operands, ' ');
     let Some(reader) = Reader::named(name) else {
         return String::from_str(alloc, "no such reader of octets");
     };
     match hex::decode(alloc, text) {
-        Ok(mut octets) => count_all(alloc, reader, &mut octets),
+        Ok(mut octets) => count_all(alloc, (mode, reader), &mut octets),
         Err(FromHexError::OutOfMemory) => Err(AllocError),
         Err(_) => String::from_str(alloc, "no hexadecimal"),
     }
 }
 
-fn count_all(alloc: Global, reader: Reader, octets: &mut [u8]) -> Result<String, AllocError> {
+fn count_all(alloc: Global, reader: ModalReader, octets: &mut [u8]) -> Result<String, AllocError> {
     let mut counts = [0; 16];
     for at in 0..octets.len() {
         if !count_place(alloc, reader, octets, at, &mut counts)? {
@@ -51,7 +56,7 @@ fn count_all(alloc: Global, reader: Reader, octets: &mut [u8]) -> Result<String,
 /// Counts the readings of what stands before a place, and with each octet at it. False where one of them is wrong.
 fn count_place(
     alloc: Global,
-    reader: Reader,
+    reader: ModalReader,
     octets: &mut [u8],
     at: usize,
     counts: &mut Counts,
@@ -71,7 +76,7 @@ fn count_place(
 /// Counts a reading. False where it is wrong, also where memory is refused.
 fn count(
     alloc: Global,
-    reader: Reader,
+    reader: ModalReader,
     octets: &[u8],
     counts: &mut Counts,
 ) -> Result<bool, AllocError> {
@@ -96,7 +101,7 @@ fn count_one(reading: Reading, counts: &mut Counts) -> bool {
     }
 }
 
-fn outcome(refusing: &Refusing, reader: Reader, octets: &[u8], expected: Reading) -> Outcome {
+fn outcome(refusing: &Refusing, reader: ModalReader, octets: &[u8], expected: Reading) -> Outcome {
     match read(refusing, reader, octets) {
         Ok(reading) if reading == expected => Outcome::Expected,
         Ok(_) => Outcome::Unexpected,
@@ -106,40 +111,41 @@ fn outcome(refusing: &Refusing, reader: Reader, octets: &[u8], expected: Reading
 
 fn read<A: Allocator + Copy>(
     alloc: A,
-    reader: Reader,
+    (mode, reader): ModalReader,
     octets: &[u8],
 ) -> Result<Reading, AllocError> {
+    let cursor = mode.cursor(octets);
     match reader {
-        Reader::Item(reader) => read_value::<A, Item>(alloc, reader, octets),
-        Reader::Skip(skip) => read_skipped(skip, octets),
-        Reader::AsBlocks => read_value::<A, AsBlocks<A>>(alloc, (), octets),
-        Reader::IpBlocks(family) => read_value::<A, IpBlocks<A>>(alloc, family, octets),
-        Reader::AsResources => read_value::<A, AsResources<A>>(alloc, (), octets),
-        Reader::IpResources(family) => read_value::<A, IpResources<A>>(alloc, family, octets),
-        Reader::Families => read_value::<A, Families<A>>(alloc, (), octets),
+        Reader::Item(reader) => read_value::<A, Item>(alloc, reader, cursor),
+        Reader::Skip(skip) => read_skipped(skip, cursor),
+        Reader::AsBlocks => read_value::<A, AsBlocks<A>>(alloc, (), cursor),
+        Reader::IpBlocks(family) => read_value::<A, IpBlocks<A>>(alloc, family, cursor),
+        Reader::AsResources => read_value::<A, AsResources<A>>(alloc, (), cursor),
+        Reader::IpResources(family) => read_value::<A, IpResources<A>>(alloc, family, cursor),
+        Reader::Families => read_value::<A, Families<A>>(alloc, (), cursor),
     }
 }
 
 fn read_value<A: Allocator + Copy, V: Value<A>>(
     alloc: A,
     reader: V::Reader,
-    octets: &[u8],
+    cursor: Cursor<'_>,
 ) -> Result<Reading, AllocError> {
-    let mut cursor = Cursor::new(octets);
-    match V::take(alloc, reader, &mut cursor) {
-        Ok(value) => read_back(alloc, reader, &value),
-        Err(error) => refused(error, cursor.rest().len() == octets.len()),
+    let mut ahead = cursor;
+    match V::take(alloc, reader, &mut ahead) {
+        Ok(value) => read_back(alloc, reader, &value, (cursor, ahead.rest())),
+        Err(error) => refused(error, ahead.rest().len() == cursor.rest().len()),
     }
 }
 
 /// A value that is skipped isn't read back. One that isn't there is skipped in no octets too.
-fn read_skipped(skip: Skip, octets: &[u8]) -> Result<Reading, AllocError> {
-    let mut cursor = Cursor::new(octets);
-    match skip.skip(&mut cursor) {
+fn read_skipped(skip: Skip, cursor: Cursor<'_>) -> Result<Reading, AllocError> {
+    let mut ahead = cursor;
+    match skip.skip(&mut ahead) {
         Ok(Some(())) => Ok(Some(0)),
         Ok(None) => Ok(same(matches!(skip.skip(&mut Cursor::new(&[])), Ok(None)))),
         Err(fault) => {
-            let is_in_place = cursor.rest().len() == octets.len();
+            let is_in_place = ahead.rest().len() == cursor.rest().len();
             refused(OrMemory::Refused(fault), is_in_place)
         }
     }
@@ -156,15 +162,24 @@ fn refused(error: OrMemory<DerError>, is_in_place: bool) -> Result<Reading, Allo
     }
 }
 
-/// Writes a value that was read, and reads it again.
+/// Writes a value that was read, of what stood at a cursor, and reads it again.
 fn read_back<A: Allocator + Copy, V: Value<A>>(
     alloc: A,
     reader: V::Reader,
     value: &V,
+    (cursor, rest): (Cursor<'_>, &[u8]),
 ) -> Result<Reading, AllocError> {
     let mut octets = Vec::new(alloc);
     value.encode(&mut octets)?;
+    if cursor.is_strict() && !is_in_two(cursor.rest(), &octets, rest) {
+        return Ok(None);
+    }
     read_again(alloc, reader, value, &octets)
+}
+
+/// Whether octets are the first ones and, behind them, the last ones.
+fn is_in_two(octets: &[u8], first: &[u8], last: &[u8]) -> bool {
+    octets.strip_prefix(first) == Some(last)
 }
 
 fn read_again<A: Allocator + Copy, V: Value<A>>(

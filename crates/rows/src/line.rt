@@ -1,4 +1,5 @@
 //! The answer to a line, by its command.
+use crate::modes::Mode;
 use crate::takes::Form;
 use crate::{covers, orders, takes, texts};
 use answering::print::cut;
@@ -19,8 +20,9 @@ impl Call for Line<'_> {
         let (kind, operands) = cut(rest, ' ');
         match command {
             "text" => texts::answer(alloc, kind, operands),
-            "take" => takes::answer(alloc, Form::Printed, kind, operands),
-            "written" => takes::answer(alloc, Form::Written, kind, operands),
+            "take" => takes::answer(alloc, (Mode::Lenient, Form::Printed), kind, operands),
+            "strict" => takes::answer(alloc, (Mode::Strict, Form::Printed), kind, operands),
+            "written" => takes::answer(alloc, (Mode::Lenient, Form::Written), kind, operands),
             "order" => orders::order(alloc, rest),
             "covers" => orders::covers(alloc, rest),
             "prefixes" => covers::answer(alloc, kind, operands),

@@ -8,6 +8,7 @@ mod altered;
 mod claims;
 mod covers;
 mod line;
+mod modes;
 mod orders;
 mod takes;
 mod texts;
@@ -16,6 +17,7 @@ mod values;
 use answering::print::cut;
 use answering::refusals;
 use line::Line;
+use modes::Mode;
 use std::alloc::{AllocError, Global};
 use std::io;
 
@@ -27,10 +29,11 @@ fn main(rt: HostRuntime) -> io::Result<()> {
     Ok(())
 }
 
-/// The answer to a line. `altered` reads many values, and has memory refused for each.
+/// The answer to a line. `altered` and `alteredstrict` read many values, and have memory refused for each.
 fn answer(alloc: Global, line: &str) -> Result<String, AllocError> {
     match cut(line, ' ') {
-        ("altered", operands) => altered::answer(alloc, operands),
+        ("altered", operands) => altered::answer(alloc, Mode::Lenient, operands),
+        ("alteredstrict", operands) => altered::answer(alloc, Mode::Strict, operands),
         _ => refusals::answer(alloc, &Line(line)),
     }
 }

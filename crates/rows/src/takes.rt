@@ -1,5 +1,6 @@
 //! What the readers of DER answer.
 use crate::claims::Families;
+use crate::modes::Mode;
 use crate::values::{Item, Reader, Skip, Value, octets as octets_of};
 use answering::print;
 use hex::FromHexError;
@@ -21,15 +22,15 @@ pub enum Form {
     Written,
 }
 
-/// The answer to `take READER HEX` and `written READER HEX`.
+/// The answer to `take READER HEX`, `strict READER HEX` and `written READER HEX`.
 pub fn answer<A: Allocator + Copy>(
     alloc: A,
-    form: Form,
+    (mode, form): (Mode, Form),
     name: &str,
     text: &str,
 ) -> Result<String<A>, AllocError> {
     match hex::decode(alloc, text) {
-        Ok(octets) => taken(alloc, form, name, &octets),
+        Ok(octets) => taken(alloc, form, name, mode.cursor(&octets)),
         Err(FromHexError::OutOfMemory) => Err(AllocError),
         Err(_) => String::from_str(alloc, "no hexadecimal"),
     }
@@ -39,11 +40,11 @@ fn taken<A: Allocator + Copy>(
     alloc: A,
     form: Form,
     name: &str,
-    octets: &[u8],
+    cursor: Cursor<'_>,
 ) -> Result<String<A>, AllocError> {
     match Reader::named(name) {
-        Some(reader) => read(alloc, form, reader, octets),
-        None if name == "tlv" => content(alloc, octets),
+        Some(reader) => read(alloc, form, reader, cursor),
+        None if name == "tlv" => content(alloc, cursor),
         None => String::from_str(alloc, "no such reader of octets"),
     }
 }
@@ -52,19 +53,19 @@ fn read<A: Allocator + Copy>(
     alloc: A,
     form: Form,
     reader: Reader,
-    octets: &[u8],
+    cursor: Cursor<'_>,
 ) -> Result<String<A>, AllocError> {
     let asked = (form, reader.printed_family());
     match reader {
-        Reader::Item(reader) => read_value::<A, Item>(alloc, asked, reader, octets),
-        Reader::Skip(skip) => skipped(alloc, form, skip, octets),
-        Reader::AsBlocks => read_value::<A, AsBlocks<A>>(alloc, asked, (), octets),
-        Reader::IpBlocks(family) => read_value::<A, IpBlocks<A>>(alloc, asked, family, octets),
-        Reader::AsResources => read_value::<A, AsResources<A>>(alloc, asked, (), octets),
+        Reader::Item(reader) => read_value::<A, Item>(alloc, asked, reader, cursor),
+        Reader::Skip(skip) => skipped(alloc, form, skip, cursor),
+        Reader::AsBlocks => read_value::<A, AsBlocks<A>>(alloc, asked, (), cursor),
+        Reader::IpBlocks(family) => read_value::<A, IpBlocks<A>>(alloc, asked, family, cursor),
+        Reader::AsResources => read_value::<A, AsResources<A>>(alloc, asked, (), cursor),
         Reader::IpResources(family) => {
-            read_value::<A, IpResources<A>>(alloc, asked, family, octets)
+            read_value::<A, IpResources<A>>(alloc, asked, family, cursor)
         }
-        Reader::Families => read_value::<A, Families<A>>(alloc, asked, (), octets),
+        Reader::Families => read_value::<A, Families<A>>(alloc, asked, (), cursor),
     }
 }
 
@@ -72,12 +73,12 @@ fn read_value<A: Allocator + Copy, V: Value<A>>(
     alloc: A,
     asked: (Form, AddressFamily),
     reader: V::Reader,
-    octets: &[u8],
+    cursor: Cursor<'_>,
 ) -> Result<String<A>, AllocError> {
-    let mut cursor = Cursor::new(octets);
-    match V::take(alloc, reader, &mut cursor) {
-        Ok(value) => value_text(alloc, asked, &value, cursor.rest()),
-        Err(error) => refused(alloc, error, cursor.rest().len() == octets.len()),
+    let mut ahead = cursor;
+    match V::take(alloc, reader, &mut ahead) {
+        Ok(value) => value_text(alloc, asked, &value, ahead.rest()),
+        Err(error) => refused(alloc, error, ahead.rest().len() == cursor.rest().len()),
     }
 }
 
@@ -99,13 +100,13 @@ fn skipped<A: Allocator + Copy>(
     alloc: A,
     form: Form,
     skip: Skip,
-    octets: &[u8],
+    cursor: Cursor<'_>,
 ) -> Result<String<A>, AllocError> {
-    let mut cursor = Cursor::new(octets);
-    match skip.skip(&mut cursor) {
-        Ok(found) => skipped_text(alloc, form, found, cursor.rest()),
+    let mut ahead = cursor;
+    match skip.skip(&mut ahead) {
+        Ok(found) => skipped_text(alloc, form, found, ahead.rest()),
         Err(fault) => {
-            let is_in_place = cursor.rest().len() == octets.len();
+            let is_in_place = ahead.rest().len() == cursor.rest().len();
             refused(alloc, OrMemory::Refused(fault), is_in_place)
         }
     }
@@ -138,12 +139,12 @@ fn refused<A: Allocator + Copy>(
 }
 
 /// One value of any tag: its tag and its content.
-fn content<A: Allocator + Copy>(alloc: A, octets: &[u8]) -> Result<String<A>, AllocError> {
-    let mut cursor = Cursor::new(octets);
-    match cursor.take_value() {
-        Ok(content) => with_rest(alloc, content_text(alloc, content), cursor.rest()),
+fn content<A: Allocator + Copy>(alloc: A, cursor: Cursor<'_>) -> Result<String<A>, AllocError> {
+    let mut ahead = cursor;
+    match ahead.take_value() {
+        Ok(content) => with_rest(alloc, content_text(alloc, content), ahead.rest()),
         Err(fault) => {
-            let is_in_place = cursor.rest().len() == octets.len();
+            let is_in_place = ahead.rest().len() == cursor.rest().len();
             refused(alloc, OrMemory::Refused(fault), is_in_place)
         }
     }

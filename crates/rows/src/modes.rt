@@ -1,0 +1,19 @@
+//! The mode in which octets are read.
+use rpki_der::Cursor;
+
+/// Whether a cursor takes canonical octets alone.
+#[derive(Clone, Copy)]
+pub enum Mode {
+    Lenient,
+    Strict,
+}
+
+impl Mode {
+    /// A cursor of this mode at the first of the octets.
+    pub fn cursor(self, octets: &[u8]) -> Cursor<'_> {
+        match self {
+            Mode::Lenient => Cursor::new(octets),
+            Mode::Strict => Cursor::new_strict(octets),
+        }
+    }
+}

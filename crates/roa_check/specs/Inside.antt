@@ -1,0 +1,31 @@
+-- Prefixes inside the sets of resources of their families (RFC 9582, 5; RFC 3779, 2.2.3.6).
+use Rattle.std.specs.Prelude.{ℕ, ◌+◌, ◌-◌, ◌*◌, ◌^◌, ◌<◌, List, Option, MatchOption, All, HoldsAt, length}
+use Rattle.std.specs.List.{AllWithin}
+use Rattle.rpki_addr.specs.declared.addr.IpAddr.{IpAddr}
+use Rattle.rpki_addr.specs.declared.addr.IpAddr.TheVariants.{V4, V6}
+use Rattle.rpki_base.specs.Prefixes.{last_of}
+use Rattle.rpki_blocks.specs.Sets.{IsWithin}
+use Rattle.rpki_chain.specs.Runs.{Holds}
+use Rattle.rpki_ip.specs.Families.{family_of}
+use Rattle.rpki_prefix.specs.MaxLen.{MaxLenValue}
+use Rattle.rpki_prefix.specs.Values.{FamilyPrefix, interval, width}
+use Rattle.rpki_resources.specs.Triples.{Triple, of_family}
+
+-- how many numbers of 128 bits stand for an address: one of IPv4 stands for its bits with any 96 after them
+abbrev pub numbers_each : IpAddr → ℕ
+numbers_each (V4 n) = 2 ^ 96
+numbers_each (V6 n) = 1
+
+-- the least and the greatest of the numbers that stand for the prefix's addresses
+abbrev pub numbers_of : FamilyPrefix → ℕ × ℕ
+numbers_of p = ((interval p).first * numbers_each p.addr, (last_of (width p.addr) (interval p) + 1) * numbers_each p.addr - 1)
+
+-- the set of the prefix's family has each of its addresses
+abbrev pub IsInside : Triple → FamilyPrefix → Type 0
+IsInside set p = (n : ℕ) → IsWithin (numbers_of p) n → Holds (of_family (family_of p.addr) set) n
+
+-- the least place whose prefix isn't inside, or none where all are
+abbrev pub IsFirstOutside : Triple → List MaxLenValue → Option ℕ → Type 0
+IsFirstOutside set entries found =
+    MatchOption found (All (λ e. IsInside set e.prefix) entries)
+    (λ at. (at < length entries) × HoldsAt (λ e. ¬ IsInside set e.prefix) entries at × AllWithin (λ e. IsInside set e.prefix) entries 0 at)

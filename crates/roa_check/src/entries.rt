@@ -1,0 +1,47 @@
+//! The prefixes of a route origin authorization that its certificate's resources don't have (RFC 9582, 5).
+ghost use Rattle.std.specs.Prelude.{◌≡◌, ◌↔◌, IsTrue};
+ghost use Rattle.roa_check.specs.Inside.{IsFirstOutside, IsInside, numbers_of};
+ghost use Rattle.rpki_ip.specs.Ranges.{range_bounds};
+
+use rpki_ip::{AddressFamily, AddressRange};
+use rpki_prefix::{MaxLenPrefix, Prefix};
+use rpki_resources::repository::resources::{Addr, ResourceSet};
+use std::alloc::Allocator;
+
+/// The addresses of a prefix, as sets of resources number them.
+fn addresses(prefix: Prefix) -> AddressRange
+    ensures { range_bounds result ≡ numbers_of prefix }
+{
+    let min = Addr::from(prefix.min_addr());
+    let max = Addr::from(prefix.max_addr());
+    if prefix.is_v4() {
+        AddressRange::new(min, max.to_max(32))
+    } else {
+        AddressRange::new(min, max)
+    }
+}
+
+/// Whether the set of the prefix's family has each of its addresses.
+fn is_inside<A: Allocator>(set: &ResourceSet<A>, prefix: Prefix) -> bool
+    ensures { IsTrue result ↔ IsInside set.now prefix }
+{
+    let family = if prefix.is_v4() {
+        AddressFamily::Ipv4
+    } else {
+        AddressFamily::Ipv6
+    };
+    set.contains_roa_address(family, addresses(prefix))
+}
+
+/// The place of the first entry whose prefix isn't inside its family's set, counted from 0, or None where each one is. A
+/// greatest length isn't looked at, since it allows no address more. It takes no memory (RFC 9582, 5).
+pub fn outside<A: Allocator>(set: &ResourceSet<A>, entries: &[MaxLenPrefix]) -> Option<usize>
+    ensures { IsFirstOutside set.now entries.now result }
+{
+    for (at, entry) in entries.iter().enumerate() {
+        if !is_inside(set, entry.prefix()) {
+            return Some(at);
+        }
+    }
+    None
+}

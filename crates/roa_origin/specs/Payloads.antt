@@ -1,0 +1,19 @@
+-- Validated payloads of route origin authorizations, and the routes that they cover and match (RFC 6811, 2; RFC 9582, 4.3).
+use Rattle.std.specs.Prelude.{◌≡◌, ◌≢◌, ℕ, ◌≤◌}
+use Rattle.rpki_prefix.specs.MaxLen.{MaxLenValue, resolved}
+use Rattle.rpki_prefix.specs.Values.{FamilyPrefix, CoversPrefix}
+
+-- what contracts see of a payload: a prefix with a greatest length, and the number of the AS that may originate it
+abbrev pub Payload : Type 0
+Payload = MaxLenValue × ℕ
+
+-- the payload's prefix covers the route's (RFC 6811, 2: 'Covered')
+abbrev pub Covers : FamilyPrefix → Payload → Type 0
+Covers route payload = CoversPrefix payload.0.prefix route
+
+-- besides, the route is no longer than the payload allows, and its AS is the payload's and not AS0 (RFC 6811, 2: 'Matched')
+pub record Matches (route : FamilyPrefix) (asn : ℕ) (payload : Payload) : Type 0 where
+  pub covers : Covers route payload
+  pub allowed : route.len ≤ resolved payload.0.prefix payload.0.max_len
+  pub same_as : payload.1 ≡ asn
+  pub not_as0 : asn ≢ 0

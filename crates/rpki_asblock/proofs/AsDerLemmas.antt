@@ -1,7 +1,7 @@
 -- What is written of blocks of AS numbers.
 use Rattle.std.proofs.Common.{◌≡◌, ℕ, ◌^◌, ◌<◌, ◌≤◌, true, List, ◌++◌, length, refl, ap, ◌∙◌, subst, sym, arith}
 use Rattle.std.proofs.lemmas.List.{length-append}
-use Rattle.rpki_der.specs.Der.{Spells, header, integer, sequence_value, value}
+use Rattle.rpki_der.specs.Der.{Spells, header, integer, sequence_value}
 use Rattle.rpki_der.specs.Reading.{IsReading}
 use Rattle.rpki_der.proofs.Contents.{length-integer}
 use Rattle.rpki_der.proofs.Readings.{same_reading}

@@ -1,8 +1,7 @@
 -- What the readings of blocks of AS numbers find in either mode. Readers of lists rest on it.
-use Rattle.std.proofs.Common.{◌≡◌, ℕ, ◌+◌, ◌<◌, Bool, true, false, not, ltb, eqb, cond, List, Option, Some, None, Result, refl, sym, ap, ◌∙◌}
+use Rattle.std.proofs.Common.{◌≡◌, ℕ, Bool, true, false, not, eqb, cond, List, Option, refl, sym, ap}
 use Rattle.std.proofs.lemmas.Bool.{eq-eqb}
 use Rattle.rpki_blocks.specs.Beyond.{IsBeyond, is_beyond}
-use Rattle.rpki_blocks.specs.Ranges.{RangeValue}
 use Rattle.rpki_blocks.specs.Sets.{IsNew}
 use Rattle.rpki_blocks.proofs.Beyond.{beyond_is, is_beyond_of}
 use Rattle.rpki_der.specs.Der.{Where}

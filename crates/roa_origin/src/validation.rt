@@ -1,5 +1,5 @@
 //! The validity of a route's origin by a list of payloads (RFC 6811, 2).
-ghost use Rattle.std.specs.Prelude.{◌≡◌, ◌↔◌, IsTrue};
+ghost use Rattle.std.specs.Prelude.{◌↔◌, IsTrue};
 ghost use Rattle.roa_origin.specs.Validities.{IsValidity};
 ghost use Rattle.roa_origin.specs.Payloads.{Matches};
 

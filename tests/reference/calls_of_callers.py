@@ -1,0 +1,313 @@
+"""The answers of the programs `callers_run`, `rows_origin` and `holdings`."""
+
+from collections.abc import Callable
+
+from . import asn, ip, lines, paths, prefixes, resources, sets, texts
+from .addresses import Family
+from .calls_of_sets import print_changes, print_triple, read_triple
+from .faults import DerFault, Fault
+from .paths import Refused, Step
+from .prefixes import Payload
+from .resources import Claim, Families
+from .sets import Set
+
+Triple = tuple[Set, Set, Set]
+
+
+class NotSaid(Exception):
+    """The reference doesn't say what is answered, and why."""
+
+
+def _cut(text: str, mark: str) -> tuple[str, str]:
+    """What stands before the first such mark and what behind it, trimmed where there is one."""
+    if mark not in text:
+        return text, ""
+    left, right = texts.cut(text, mark)
+    return texts.trim(left), texts.trim(right)
+
+
+def _octets(text: str) -> bytes:
+    octets = lines.octets_of(text)
+    if octets is None:
+        raise NotSaid("the faults of hexadecimal, which its own library prints")
+    return octets
+
+
+def _triple(text: str) -> Triple:
+    one, others = _cut(text, ";")
+    return read_triple(";".join((one, *_cut(others, ";"))))
+
+
+def _read_as(octets: bytes, is_canonical: bool) -> Claim:
+    return resources.all_of(resources.read_as_claim(octets, is_canonical))
+
+
+def _read_families(octets: bytes, is_canonical: bool) -> Families:
+    return resources.all_of(resources.read_families(octets, is_canonical))
+
+
+def _family_text(kind: str, claim: Claim) -> str:
+    return "-" if claim is None else lines.print_claim(kind, claim)
+
+
+def _families_text(found: Families) -> str:
+    return f"v4 {_family_text('v4', found.v4)} v6 {_family_text('v6', found.v6)}"
+
+
+class Certificate:
+    """What a certificate on a path has: how it is read, what is trimmed, and its octets."""
+
+    def __init__(self, word: str, numbers: str, addresses: str) -> None:
+        self.is_canonical = word in ("canonical-refuse", "canonical-trim")
+        self.is_trimmed = word in ("trim", "canonical-trim")
+        self.numbers = _octets(numbers)
+        self.addresses = _octets(addresses)
+
+    def claims(self) -> tuple[Claim, Claim, Claim]:
+        """What it claims of each kind."""
+        numbers = _read_as(self.numbers, self.is_canonical)
+        return numbers, *_read_families(self.addresses, self.is_canonical)
+
+
+def _certificates(text: str) -> list[Certificate]:
+    found = []
+    for part in text.split("|") if text else []:
+        word, octets = _cut(texts.trim(part), " ")
+        found.append(Certificate(word, *_cut(octets, " ")))
+    return found
+
+
+class Unverified(Exception):
+    """Why a certificate isn't verified."""
+
+
+def _issued(kind: str, root: Set, claim: Claim, is_trimmed: bool) -> Set:
+    try:
+        return paths.left(root, [Step(claim, is_trimmed)])
+    except Refused as refused:
+        raise Unverified(lines.overclaimed(kind, refused.excess)) from None
+
+
+def _verified_by(issuer: Triple, certificate: Certificate) -> Triple:
+    try:
+        numbers = _read_as(certificate.numbers, certificate.is_canonical)
+    except DerFault as fault:
+        raise Unverified(f"AS octets: {fault}") from None
+    is_trimmed = certificate.is_trimmed
+    left = _issued("as", issuer[0], numbers, is_trimmed)
+    try:
+        found = _read_families(certificate.addresses, certificate.is_canonical)
+    except DerFault as fault:
+        raise Unverified(f"address octets: {fault}") from None
+    v4 = _issued("v4", issuer[1], found.v4, is_trimmed)
+    return left, v4, _issued("v6", issuer[2], found.v6, is_trimmed)
+
+
+def _verified_octets(text: str) -> str:
+    issuer, extensions = _cut(text, "|")
+    word, lists = _cut(issuer, " ")
+    triple = _triple(lists)
+    try:
+        certificate = Certificate(word, *_cut(extensions, "|"))
+        return print_triple(_verified_by(triple, certificate))
+    except Unverified as reason:
+        return str(reason)
+
+
+def _verified_path(text: str) -> str:
+    anchor, path = _cut(text, "|")
+    certificates = _certificates(path)
+    left = _triple(anchor)
+    for place, certificate in enumerate(certificates):
+        try:
+            left = _verified_by(left, certificate)
+        except Unverified as reason:
+            return f"refused at step {place}: {reason}"
+    return print_triple(left)
+
+
+def _verified(text: str) -> str:
+    root, path = _cut(text, "|")
+    certificates = _certificates(path)
+    claims = [certificate.claims() for certificate in certificates]
+    left = list(_triple(root))
+    for at, kind in enumerate(lines.KINDS):
+        steps = [
+            Step(claim[at], certificate.is_trimmed)
+            for claim, certificate in zip(claims, certificates, strict=True)
+        ]
+        try:
+            left[at] = paths.left(left[at], steps)
+        except Refused as refused:
+            return f"refused at step {refused.step}: {lines.overclaimed(kind, refused.excess)}"
+    return print_triple((left[0], left[1], left[2]))
+
+
+def _table(text: str) -> list[prefixes.Prefix]:
+    found = {prefixes.read_prefix(texts.trim(part)) for part in text.split(",")}
+    return sorted(found, key=prefixes.Prefix.key)
+
+
+def _joined(found: list[prefixes.Prefix]) -> str:
+    return ", ".join(prefix.text() for prefix in found)
+
+
+def _covering(text: str) -> str:
+    listed, route_text = _cut(text, "|")
+    route = prefixes.read_prefix(route_text)
+    return _joined([prefix for prefix in _table(listed) if prefix.covers(route)])
+
+
+def _union_of_three(text: str) -> str:
+    one, others = _cut(text, "|")
+    parts = (one, *_cut(others, "|"))
+    found = [run for part in parts for run in ip.read_set(part, Family.V4)]
+    return ip.print_set(sets.merged(found), Family.V4)
+
+
+def _as_v6(text: str) -> str:
+    return ip.print_set(ip.read_either(text), Family.V6)
+
+
+def _as_list(text: str) -> str:
+    return asn.print_set(asn.read_set(text))
+
+
+def _families_written(text: str) -> str:
+    left, right = _cut(text, "|")
+    v4, v6 = ip.read_set(left, Family.V4), ip.read_set(right, Family.V6)
+    if not v4 and not v6:
+        return "missing"
+    return _families_text(Families(paths.claim_of(v4), paths.claim_of(v6)))
+
+
+def _append(text: str) -> str:
+    return resources.written_as_claim(lines.read_claim("as", text)).hex()
+
+
+def _between(text: str) -> str:
+    first, last = sorted(asn.read_asn(part) for part in _cut(text, " "))
+    return asn.AsBlock(first, last, True).text()
+
+
+def _behind(text: str) -> str:
+    number = asn.read_asn(text)
+    return "none" if number == asn.LAST else f"AS{number + 1}"
+
+
+def _whole_v4(text: str) -> str:
+    numbers = ip.read_either(text)
+    return ip.print_set(numbers, Family.V4) if ip.is_whole(numbers) else "none"
+
+
+def _fault_of(text: str) -> str:
+    try:
+        asn.read_set(text)
+    except Fault as fault:
+        return str(fault)
+    return "none"
+
+
+def _without_memory(_text: str) -> str:
+    raise NotSaid("whether a call asks for memory")
+
+
+def _filter(text: str, family: Family) -> str:
+    return prefixes.print_cover(ip.read_set(text, family), family)
+
+
+CALLERS: dict[str, Callable[[str], str]] = {
+    "read_as": lambda text: lines.print_claim("as", _read_as(_octets(text), False)),
+    "read_canonical_as": lambda text: lines.print_claim("as", _read_as(_octets(text), True)),
+    "read_families": lambda text: _families_text(_read_families(_octets(text), False)),
+    "read_canonical_families": lambda text: _families_text(_read_families(_octets(text), True)),
+    "verified_octets": _verified_octets,
+    "verified_path": _verified_path,
+    "verified": _verified,
+    "v4_filter": lambda text: _filter(text, Family.V4),
+    "v6_filter": lambda text: _filter(text, Family.V6),
+    "table": lambda text: _joined(_table(text)),
+    "covering": _covering,
+    "union_of_three": _union_of_three,
+    "blocks_of": _as_list,
+    "printed_and_read": _as_v6,
+    "resources_printed_and_read": lambda text: print_triple(_triple(text)),
+    "written_and_read": _as_v6,
+    "as_written_and_read": _as_list,
+    "resources_written_and_read": lambda t: lines.print_claim("as", lines.read_claim("as", t)),
+    "families_written_and_read": _families_written,
+    "append": _append,
+    "between": _between,
+    "behind": _behind,
+    "whole_v4": _whole_v4,
+    "listed_in_the_end": lambda text: asn.print_set([asn.read_block(text).bounds()]),
+    "any_error": _as_list,
+    "fault_of": _fault_of,
+    "is_read_without_memory": _without_memory,
+}
+
+
+def answer(line: str) -> str:
+    """The answer of `callers_run` to a line."""
+    name, operands = _cut(line, " ")
+    if name not in CALLERS:
+        return "no such function"
+    try:
+        return CALLERS[name](operands)
+    except Fault as fault:
+        return f"error: {fault}"
+
+
+def holdings(before: str, now: str) -> list[str]:
+    """The answers of `holdings` to its two lines."""
+    had, gets = read_triple(before), read_triple(now)
+    claims = [paths.claim_of(numbers) for numbers in gets]
+    numbers = resources.written_as_claim(claims[0]).hex() or "missing"
+    addresses = resources.written_families(Families(claims[1], claims[2])).hex() or "missing"
+    return [print_changes(had, gets), f"asn: {numbers}", f"addresses: {addresses}"]
+
+
+def _entries(text: str) -> list[str]:
+    return list(filter(None, map(texts.trim, text.split("|"))))
+
+
+def _payload(text: str) -> Payload:
+    prefix, number = texts.cut(text, " ")
+    return Payload(prefixes.read_max_len(prefix), asn.read_asn(number))
+
+
+def _origin(text: str) -> str:
+    route, listed = texts.cut(text, "|")
+    try:
+        prefix_text, number = texts.cut(texts.trim(route), " ")
+        prefix, origin = prefixes.read_prefix(prefix_text), asn.read_asn(number)
+    except Fault:
+        return "no such route"
+    try:
+        payloads = [_payload(entry) for entry in _entries(listed)]
+    except Fault:
+        return "no such payload"
+    return prefixes.validity(prefix, origin, payloads)
+
+
+def _outside(text: str) -> str:
+    lists, listed = texts.cut(text, "|")
+    try:
+        entries = [prefixes.read_max_len(entry) for entry in _entries(listed)]
+    except Fault:
+        return "no such prefix"
+    _, v4, v6 = read_triple(lists)
+    place = prefixes.first_outside(v4, v6, entries)
+    return "None" if place is None else f"Some({place})"
+
+
+def origin_answer(line: str) -> str:
+    """The answer of `rows_origin` to a line."""
+    command, operands = texts.cut(line, " ")
+    commands = {"origin": _origin, "outside": _outside}
+    if command not in commands:
+        return "no such command"
+    try:
+        return commands[command](operands)
+    except Fault as fault:
+        return f"error: {fault}"

@@ -1,0 +1,157 @@
+"""Prefixes of routes (RFC 4632, 3.1; RFC 9582, 4.3.2), covers, validity of routes (RFC 6811)."""
+
+from collections.abc import Iterator
+from typing import NamedTuple
+
+from . import texts
+from .addresses import Family, print_address, read_any
+from .faults import Fault
+from .ip import prefix
+from .sets import Set
+
+LENGTH_TOO_LARGE = "prefix length too large"
+HOST_BITS = "non-zero host portion"
+
+
+class Prefix(NamedTuple):
+    """The first address of a family and a length."""
+
+    family: Family
+    address: int
+    length: int
+
+    def last(self) -> int:
+        """The last address."""
+        return self.address + (1 << self.family.bits - self.length) - 1
+
+    def text(self) -> str:
+        """The address and the length."""
+        return f"{print_address(self.family, self.address)}/{self.length}"
+
+    def covers(self, other: "Prefix") -> bool:
+        """Whether each address of the other is one of this prefix's."""
+        is_first_in = self.address <= other.address
+        return self.family is other.family and is_first_in and other.last() <= self.last()
+
+    def key(self) -> tuple[int, ...]:
+        """IPv4 first, then by the last address, then the longer first."""
+        return self.family.bits, self.last(), -self.length
+
+
+class MaxLenPrefix(NamedTuple):
+    """A prefix, and the greatest length where there is one."""
+
+    prefix: Prefix
+    max_length: int | None
+
+    def key(self) -> tuple[int, ...]:
+        """By the prefix; a greatest length before none; the larger first."""
+        if self.max_length is None:
+            return *self.prefix.key(), 1
+        return *self.prefix.key(), 0, -self.max_length
+
+    def text(self) -> str:
+        """The prefix, and the greatest length behind a dash."""
+        behind = "" if self.max_length is None else f"-{self.max_length}"
+        return self.prefix.text() + behind
+
+    def resolved(self) -> int:
+        """The greatest length, that of the prefix where there is none."""
+        return self.prefix.length if self.max_length is None else self.max_length
+
+
+class Payload(NamedTuple):
+    """A validated ROA payload."""
+
+    prefix: MaxLenPrefix
+    asn: int
+
+
+def read_prefix(text: str, is_relaxed: bool = False) -> Prefix:
+    """A prefix. A relaxed reader clears what stands behind the length."""
+    if not text:
+        raise Fault("empty string")
+    if "/" not in text:
+        raise Fault("missing length portion")
+    left, right = texts.cut(text, "/")
+    try:
+        family, number = read_any(left)
+    except Fault as fault:
+        raise Fault(f"invalid address: {fault}") from None
+    try:
+        length = texts.number(right, 255)
+    except Fault as fault:
+        raise Fault(f"invalid length: {fault}") from None
+    if length > family.bits:
+        raise Fault(LENGTH_TOO_LARGE)
+    behind = family.bits - length
+    cleared = number >> behind << behind
+    if cleared != number and not is_relaxed:
+        raise Fault(HOST_BITS)
+    return Prefix(family, cleared, length)
+
+
+def read_max_len(text: str) -> MaxLenPrefix:
+    """A prefix, and behind a dash the greatest length."""
+    if "-" not in text:
+        return MaxLenPrefix(read_prefix(text), None)
+    left, right = texts.cut(text, "-")
+    found = read_prefix(left)
+    try:
+        length = texts.number(right, 255)
+    except Fault as fault:
+        raise Fault(f"invalid max length: {fault}") from None
+    if length > found.family.bits:
+        raise Fault("max-length too large")
+    if length < found.length:
+        raise Fault("max-length smaller than prefix length")
+    return MaxLenPrefix(found, length)
+
+
+def validity(route: Prefix, asn: int, payloads: list[Payload]) -> str:
+    """What payloads say of a route's origin (RFC 6811, 2)."""
+    covering = [payload for payload in payloads if payload.prefix.prefix.covers(route)]
+    for payload in covering:
+        if route.length <= payload.prefix.resolved() and payload.asn == asn != 0:
+            return "Valid"
+    return "Invalid" if covering else "NotFound"
+
+
+def first_outside(v4: Set, v6: Set, entries: list[MaxLenPrefix]) -> int | None:
+    """The place of the first prefix of which the set of its family hasn't all."""
+    for place, entry in enumerate(entries):
+        family, number, length = entry.prefix
+        wanted = prefix(number << 128 - family.bits, length)
+        numbers = v4 if family is Family.V4 else v6
+        if not any(low <= wanted.first and wanted.last <= high for low, high in numbers):
+            return place
+    return None
+
+
+def cover(numbers: Set, width: int) -> Iterator[tuple[int, int]]:
+    """The greatest prefixes inside a set of numbers of a width: their first numbers and lengths.
+
+    It goes down the tree of all prefixes, and down no further where the set has all or nothing.
+    """
+    below = [(0, 0, numbers)]
+    while below:
+        first, length, inside = below.pop()
+        size = 1 << width - length
+        middle = first + size // 2
+        if inside and inside[0] == (first, first + size - 1):
+            yield first, length
+        elif inside:
+            upper = [(max(low, middle), high) for low, high in inside if high >= middle]
+            lower = [(low, min(high, middle - 1)) for low, high in inside if low < middle]
+            below += [(middle, length + 1, upper), (first, length + 1, lower)]
+
+
+def print_cover(numbers: Set, family: Family) -> str:
+    """The cover of a set of numbers of 128 bits, by prefixes of a family that have their lengths.
+
+    IPv4 has the first 32 bits of the bounds.
+    """
+    behind = 128 - family.bits
+    bounds = [(low >> behind, high >> behind) for low, high in numbers]
+    found = cover(bounds, family.bits)
+    return ", ".join(f"{print_address(family, first)}/{length}" for first, length in found)

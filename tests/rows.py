@@ -1,0 +1,144 @@
+#!/usr/bin/env python3
+"""Compares what the programs answered with what the reference beside this file answers.
+
+Without options it answers each stored line of the programs of rows, and of `holdings`. With
+--random SEED COUNT it makes so many lines of each command of `respath`, and asks the built program.
+What the reference doesn't say is counted and named. Status 1 where an answer differs.
+"""
+
+import argparse
+import subprocess
+import sys
+from collections import Counter
+from collections.abc import Callable, Iterator
+from itertools import islice
+from pathlib import Path
+
+from reference import calls_of_callers, calls_of_sets, calls_of_values, lines, random_lines
+from reference.calls_of_callers import NotSaid
+
+TOP = Path(__file__).resolve().parent.parent
+CRATES = TOP / "crates"
+PROGRAM = CRATES / "respath" / "out" / "respath"
+AT_ONCE = 50_000
+SHOWN = 20
+
+PROGRAMS: dict[str, Callable[[str], str]] = {
+    "rows": calls_of_values.answer,
+    "rows_sets": calls_of_sets.answer,
+    "rows_origin": calls_of_callers.origin_answer,
+    "callers_run": calls_of_callers.answer,
+}
+
+
+class Comparison:
+    """How many lines were compared, which differ, and what wasn't said of how many."""
+
+    def __init__(self) -> None:
+        self.compared = 0
+        self.differing = 0
+        self.not_said: Counter[str] = Counter()
+
+    def add(self, place: str, line: str, expected: str, found: str) -> None:
+        """Compares an answer with the reference's, and prints the first ones that differ."""
+        self.compared += 1
+        if expected == found:
+            return
+        self.differing += 1
+        if self.differing <= SHOWN:
+            print(f"{place}: {line}\n  the reference: {expected}\n  the program:   {found}")
+
+    def tell(self, name: str) -> bool:
+        """Prints what came out, and whether nothing differs."""
+        print(f"{name}: {self.compared} answers compared, {self.differing} differ")
+        for reason, count in sorted(self.not_said.items()):
+            print(f"{name}: {count} not said by the reference: {reason}")
+        return self.differing == 0
+
+
+def lines_of(path: Path) -> list[str]:
+    """The lines of a file, which end at line feeds alone."""
+    return path.read_bytes().decode("utf-8").removesuffix("\n").split("\n")
+
+
+def compare_program(name: str, answer: Callable[[str], str]) -> bool:
+    """Compares the stored answers of a program that answers a line with a line."""
+    comparison = Comparison()
+    asked, answered = (lines_of(CRATES / name / file) for file in ("stdin", "stdout"))
+    if len(asked) != len(answered):
+        print(f"{name}: {len(asked)} lines have {len(answered)} answers")
+        return False
+    for place, (line, found) in enumerate(zip(asked, answered, strict=True), 1):
+        try:
+            comparison.add(f"{name}/stdin:{place}", line, answer(line), found)
+        except NotSaid as reason:
+            comparison.not_said[f"{line.split(' ')[0]}: {reason}"] += 1
+    return comparison.tell(name)
+
+
+def compare_holdings() -> bool:
+    """Compares what `holdings` answers to its two lines together."""
+    comparison = Comparison()
+    asked, answered = (lines_of(CRATES / "holdings" / file) for file in ("stdin", "stdout"))
+    expected = calls_of_callers.holdings(*asked)
+    if len(expected) != len(answered):
+        print(f"holdings: {len(expected)} answers expected, {len(answered)} found")
+        return False
+    for place, (one, found) in enumerate(zip(expected, answered, strict=True), 1):
+        comparison.add(f"holdings/stdout:{place}", asked[1], one, found)
+    return comparison.tell("holdings")
+
+
+def compare_stored() -> bool:
+    """Compares all stored answers of the programs that there are."""
+    there = [name for name in PROGRAMS if (CRATES / name / "stdin").exists()]
+    results = [compare_program(name, PROGRAMS[name]) for name in there]
+    return all([*results, compare_holdings()])
+
+
+def ask(program: Path, asked: list[bytes]) -> list[str]:
+    """What a program answers to lines."""
+    run = subprocess.run(
+        [program], input=b"\n".join(asked) + b"\n", stdout=subprocess.PIPE, check=True
+    )
+    answers = run.stdout.decode("utf-8").split("\n")
+    if len(answers) != len(asked) + 1 or answers.pop():
+        raise SystemExit(f"{program}: {len(asked)} lines have {len(answers)} answers")
+    return answers
+
+
+def in_parts(asked: Iterator[bytes]) -> Iterator[list[bytes]]:
+    """Lines, as many as are asked at once."""
+    while part := list(islice(asked, AT_ONCE)):
+        yield part
+
+
+def compare_random(program: Path, seed: int, count: int, commands: list[str]) -> bool:
+    """Compares so many lines of each command, made from a seed."""
+    results = []
+    for command in commands:
+        comparison = Comparison()
+        made = islice(random_lines.lines(command, seed), count)
+        for part in in_parts(made):
+            for line, found in zip(part, ask(program, part), strict=True):
+                shown = repr(line)
+                comparison.add(f"{command} of seed {seed}", shown, lines.answer(line), found)
+        results.append(comparison.tell(f"{command}, seed {seed}"))
+    return all(results)
+
+
+def main() -> int:
+    """Reads the options and compares."""
+    parser = argparse.ArgumentParser(description=__doc__.splitlines()[0])
+    parser.add_argument("--random", nargs=2, type=int, metavar=("SEED", "COUNT"))
+    parser.add_argument("--program", type=Path, default=PROGRAM, help="a built respath")
+    parser.add_argument("--commands", nargs="+", choices=lines.COMMANDS, metavar="COMMAND")
+    options = parser.parse_args()
+    if options.random is None:
+        return 0 if compare_stored() else 1
+    commands = options.commands or list(lines.COMMANDS)
+    return 0 if compare_random(options.program, *options.random, commands) else 1
+
+
+if __name__ == "__main__":
+    sys.exit(main())

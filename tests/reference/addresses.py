@@ -58,7 +58,7 @@ def print_v4(number: int) -> str:
 
 
 def print_v6(number: int) -> str:
-    """An IPv6 address, of a mapped one the last 32 bits as IPv4. In these Python's versions differ."""
+    """An IPv6 address; of a mapped one, in which Python's versions differ, the end as IPv4."""
     if number >> 32 == 0xFFFF:
         return "::ffff:" + print_v4(number & 0xFFFFFFFF)
     return str(IPv6Address(number))

@@ -18,7 +18,7 @@ class Value(NamedTuple):
 
 
 class Bits(NamedTuple):
-    """A BIT STRING: its octets, how many of their last bits are unused, and whether some are set."""
+    """A BIT STRING: its octets, how many of the last bits are unused, and whether some are set."""
 
     octets: bytes
     unused: int

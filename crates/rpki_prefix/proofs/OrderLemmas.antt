@@ -1,15 +1,17 @@
--- The order of prefixes is total, and prefixes at one place in it are the same.
-use Rattle.std.proofs.Common.{rules, ◌≡◌, ◌↔◌, ℕ, Bool, true, false, eqb, refl, sym, ap, ap₂, ◌∙◌}
+-- The orders of prefixes, without and with greatest lengths, are total, and what stands at one place in them is the same.
+use Rattle.std.proofs.Common.{rules, ◌≡◌, ◌↔◌, ℕ, Bool, true, false, ◌&&◌, eqb, Option, Some, None, refl, sym, ap, ap₂, ◌∙◌}
 use Rattle.std.proofs.lemmas.Bool.{and_parts, eqb-true}
 use Rattle.std.proofs.lemmas.Cmp.{tied_itself}
 use Rattle.std.specs.Cmp.{Equal-is, IsTotalOrder}
 use Rattle.std.specs.Cmp.Rules.{comparing}
+use Rattle.std.specs.Option.{option_eq}
 use Rattle.std.specs.Ordering.{is_eq}
 use Rattle.std.specs.declared.cmp.Ordering.TheVariants.{Equal}
 use Rattle.rpki_addr.specs.declared.addr.IpAddr.{IpAddr}
 use Rattle.rpki_addr.specs.declared.addr.IpAddr.TheVariants.{V4, V6}
+use Rattle.rpki_prefix.specs.MaxLen.{MaxLenValue, max_len_cmp}
 use Rattle.rpki_prefix.specs.Order.{prefix_cmp}
-use Rattle.rpki_prefix.specs.OrderLaws.{prefix_ties}
+use Rattle.rpki_prefix.specs.OrderLaws.{IsSameAddress, prefix_ties, max_len_ties}
 use Rattle.rpki_prefix.specs.Values.{FamilyPrefix}
 
 pub prefix_total : IsTotalOrder prefix_cmp
@@ -28,15 +30,41 @@ same_addr-true (V6 m) (V6 n) e = ap V6 (eqb-true m n e)
 same_addr-true (V4 m) (V6 n) e = cc
 same_addr-true (V6 m) (V4 n) e = cc
 
--- prefixes at one place in the order are the same
-pub prefix_tied : (p q : FamilyPrefix) → is_eq (prefix_cmp p q) ≡ true → p ≡ q
-prefix_tied p q e =
-    let test = prefix_ties same_addr (record { of_v4 = λ m n. refl; of_v6 = λ m n. refl; v4_v6 = λ m n. refl; v6_v4 = λ m n. refl }) p q in
-    let both = and_parts (same_addr p.addr q.addr) (eqb p.len q.len) (test ∙ e) in
+is_test : IsSameAddress same_addr
+is_test = record { of_v4 = λ m n. refl; of_v6 = λ m n. refl; v4_v6 = λ m n. refl; v6_v4 = λ m n. refl }
+
+same_prefix : (p q : FamilyPrefix) → (same_addr p.addr q.addr && eqb p.len q.len) ≡ true → p ≡ q
+same_prefix p q e =
+    let both = and_parts (same_addr p.addr q.addr) (eqb p.len q.len) e in
     ap₂ (λ (a : IpAddr) (k : ℕ). let prefix : FamilyPrefix = record { addr = a; len = k } in prefix) (same_addr-true p.addr q.addr both.0) (eqb-true p.len q.len both.1)
 
 pub one_place : (p q : FamilyPrefix) → (prefix_cmp p q ≡ Equal) ↔ (p ≡ q)
 one_place p q = (
-  (λ e. prefix_tied p q ((Equal-is (prefix_cmp p q)).1 e)),
+  λ e. same_prefix p q (prefix_ties same_addr is_test p q ∙ (Equal-is (prefix_cmp p q)).1 e),
   λ same. ap (λ (r : FamilyPrefix). prefix_cmp p r) (sym same) ∙ tied_itself prefix_total p,
+)
+
+pub max_len_total : IsTotalOrder max_len_cmp
+max_len_total = Prim.search (comparing, rules) depth 9
+
+option_same : (m n : Option ℕ) → option_eq eqb m n ≡ true → m ≡ n
+option_same None None e = refl
+option_same None (Some y) e = cc
+option_same (Some x) None e = cc
+option_same (Some x) (Some y) e = ap Some (eqb-true x y e)
+
+max_len_tied : (m n : MaxLenValue) → is_eq (max_len_cmp m n) ≡ true → m ≡ n
+max_len_tied m n e =
+    let both = and_parts
+    (same_addr m.prefix.addr n.prefix.addr && eqb m.prefix.len n.prefix.len)
+    (option_eq eqb m.max_len n.max_len)
+    (max_len_ties same_addr is_test m n ∙ e) in
+    ap₂ (λ (p : FamilyPrefix) (k : Option ℕ). let value : MaxLenValue = record { prefix = p; max_len = k } in value)
+    (same_prefix m.prefix n.prefix both.0)
+    (option_same m.max_len n.max_len both.1)
+
+pub max_len_one_place : (m n : MaxLenValue) → (max_len_cmp m n ≡ Equal) ↔ (m ≡ n)
+max_len_one_place m n = (
+  λ e. max_len_tied m n ((Equal-is (max_len_cmp m n)).1 e),
+  λ same. ap (λ (k : MaxLenValue). max_len_cmp m k) (sym same) ∙ tied_itself max_len_total m,
 )

@@ -16,8 +16,12 @@ pub fn equal_where_the_same()
         → IsTrue (⟦<MaxLenPrefix as PartialEq>⟧.eq m n) ↔ (m ≡ n) }
 {}
 
-/// The order of prefixes is total, and prefixes stand at one place in it exactly where they are the same.
+/// The order of prefixes is total, and prefixes stand at one place in it exactly where they are the same; and so with
+/// greatest lengths.
 pub fn total_order()
     ensures total { IsTotalOrder ⟦<Prefix as Ord>⟧.cmp }
     ensures ties { (p q : FamilyPrefix) → (⟦<Prefix as Ord>⟧.cmp p q ≡ Equal) ↔ (p ≡ q) }
+    ensures max_len_total { IsTotalOrder ⟦<MaxLenPrefix as Ord>⟧.cmp }
+    ensures max_len_ties { (m n : MaxLenValue)
+        → (⟦<MaxLenPrefix as Ord>⟧.cmp m n ≡ Equal) ↔ (m ≡ n) }
 {}

@@ -90,8 +90,11 @@ impl<A: Allocator> AsResources<A> {
 
     /// Whether the resources are inherited or listed.
     pub fn is_present(&self) -> bool
-        ensures { IsTrue result ↔ (self.now ≢ Missing) }
+        ensures present { IsTrue result ↔ (self.now ≢ Missing) }
+        ensures claim { IsClaim IsAsSet self.now }
     {
+        // what is listed is canonical: the set in the choice tells it
+        let _listed = self.as_choice();
         self.choice.is_present()
     }
 

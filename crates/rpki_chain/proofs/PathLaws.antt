@@ -1,7 +1,8 @@
 -- A path of one step, and what holds of what a path leaves.
-use Rattle.std.proofs.Common.{◌≡◌, ℕ, ◌<◌, ◌↔◌, ◌⊎◌, inl, inr, ⊎_elim, List, [], ◌∷◌, length, get_or, take, refl, sym, subst, arith, zero, suc}
+use Rattle.std.proofs.Common.{◌≡◌, ℕ, ◌<◌, ◌↔◌, ◌⊎◌, inl, inr, ⊎_elim, List, [], ◌∷◌, length, get_or, take, refl, sym, ap, ◌∙◌, subst, arith, zero, suc}
 use Rattle.std.specs.List.{All}
 use Rattle.std.specs.Prelude.{Contains}
+use Rattle.std.proofs.lemmas.List.{get_or_default}
 use Rattle.std.proofs.lemmas.List.Elements.{All-nil, All-cons, All-head, All-tail, All-contains, All-contains_itself, All-weaker}
 use Rattle.rpki_chain.specs.Claims.{Claim}
 use Rattle.rpki_chain.specs.Paths.{Lists, Leaves, Exceeds, IsExcess, IsIssued, IsLeft, ExceedsAt, IsPathResult, IsFirstRefusal, one_step}
@@ -101,8 +102,11 @@ inside_issuer root set steps at step h lt is refuse n listed = ⊎_elim
     (λ outside. absurd (h.accepted at n (step, lt, is, exceeds_refused (IsLeft (λ c. c) (Holds root) (take at steps)) step.claim step.mode n refuse listed outside)))
     (IsLeft-decided root (take at steps) n)
 
-pub not_trimmed : (root : Runs) (steps : List (Step Claim)) → All (λ (s : Step Claim). s.mode ≡ Trim) steps → (at n : ℕ) → ExceedsAt (λ c. c) (Holds root) steps at n → ⊥
-not_trimmed root steps trims at n (step, lt, is, e) = exceeds_trimmed (IsLeft (λ c. c) (Holds root) (take at steps)) step.claim step.mode n (subst (λ (s : Step Claim). s.mode ≡ Trim) is (trims at step lt)) e
+-- no step in mode Trim is refused
+pub not_trimmed : (root : Runs) (steps : List (Step Claim)) (at n : ℕ) (step : Step Claim) → get_or steps at step ≡ step → step.mode ≡ Trim → ExceedsAt (λ c. c) (Holds root) steps at n → ⊥
+not_trimmed root steps at n step there trim (s, lt, is, e) =
+    let same : s ≡ step = sym is ∙ get_or_default steps at s step lt ∙ there in
+    exceeds_trimmed (IsLeft (λ c. c) (Holds root) (take at steps)) s.claim s.mode n (ap (λ (x : Step Claim). x.mode) same ∙ trim) e
 
 -- what holds of each element of a list holds of those of a list with the same elements
 all_alike : {X : Type 0} (P : X → Type 0) (xs ys : List X) → ((x : X) → Contains ys x → Contains xs x) → All P xs → All P ys

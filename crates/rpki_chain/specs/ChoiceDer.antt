@@ -1,4 +1,4 @@
--- Resources in DER (RFC 3779, 2.2.3.5 and 3.2.3.3), whatever their blocks are.
+-- Resources in DER (RFC 3779, 2.2.3.4 and 3.2.3.2), whatever their blocks are.
 use Rattle.std.specs.Prelude.{◌≡◌, ◌≢◌, ℕ, List, [], ◌∷◌, Result, Ok, Err}
 use Rattle.rpki_der.specs.declared.error.DerError.{DerError}
 use Rattle.rpki_der.specs.declared.error.DerError.TheVariants.{EmptyBlocks}

@@ -9,7 +9,7 @@ use rpki_text::memory::OrMemory;
 use std::alloc::AllocError;
 use std::fmt;
 
-/// Resources of one kind: missing, inherited from the issuer, or listed (RFC 3779, 2.2.3.5 and 3.2.3.3).
+/// Resources of one kind: missing, inherited from the issuer, or listed (RFC 3779, 2.2.3.4 and 3.2.3.2).
 #[derive(Debug, Drop)]
 pub enum ResourcesChoice<T> {
     /// There are none.

@@ -1,5 +1,5 @@
-//! Resources in DER: NULL where they are inherited, and else a SEQUENCE of blocks, one at least (RFC 3779, 2.2.3.5 and
-//! 3.2.3.3).
+//! Resources in DER: NULL where they are inherited, and else a SEQUENCE of blocks, one at least (RFC 3779, 2.2.3.4 to
+//! 2.2.3.6, 3.2.3.2 to 3.2.3.4).
 ghost use Rattle.std.specs.Prelude.{◌≡◌, ◌≢◌, ◌≤◌, ◌<◌, ◌+◌, ◌^◌, ◌++◌, [], length, vec_len, IfOk, IfSome, IfNone, OnOk, OnErr, IsOk};
 ghost use Rattle.std.specs.Vec.{vec_capacity};
 ghost use Rattle.rpki_der.specs.Views.{Lenient, is_strict, is_strict_in, left, tlv};

@@ -18,6 +18,14 @@ pub fn blocks_of_runs<T: Block>()
         IsRunsOfBlocks T.bounds (map T.form set) set }
 {}
 
+/// Blocks cover one list of runs, and sets with the same numbers are one list.
+pub fn laws_of_runs<T: Block>()
+    ensures one_list { (blocks : List T) (a b : Runs) → IsRunsOfBlocks T.bounds blocks a
+        → IsRunsOfBlocks T.bounds blocks b → a ≡ b }
+    ensures same_numbers { (a b : Runs) → IsRunsOf (Holds a) a → IsRunsOf (Holds b) b
+        → ((n : ℕ) → Holds a n ↔ Holds b n) → a ≡ b }
+{}
+
 /// Union is commutative, associative and idempotent.
 pub fn laws_of_union()
     ensures commutative { (a b ab ba : Runs) → IsUnion a b ab → IsUnion b a ba → ab ≡ ba }
@@ -66,8 +74,9 @@ pub fn laws_of_claims()
 {}
 
 /// What a path leaves lies in its root and in each set that a step lists, and a claim that was accepted in mode Refuse
-/// lies in what the steps before it leave: no accepted set passes its issuer. No step in mode Trim is refused; and what
-/// a path leaves doesn't depend on the order of its steps, nor on how often one stands in it.
+/// lies in what the steps before it leave: no accepted set passes its issuer. No step in mode Trim is refused; a path of
+/// no step leaves its root; and what a path leaves doesn't depend on the order of its steps, nor on how often one stands
+/// in it.
 pub fn laws_of_paths()
     ensures inside_root { (root set : Runs) (steps : List (Step Claim)) →
         IsPathResult (λ claim. claim) (Holds root) steps set → (n : ℕ) → Holds set n
@@ -80,9 +89,11 @@ pub fn laws_of_paths()
         IsPathResult (λ claim. claim) (Holds root) steps set → at < length steps
         → slice_index_or steps at step ≡ step → step.mode ≡ Refuse → (n : ℕ) → Lists step.claim n
         → IsLeft (λ claim. claim) (Holds root) (take at steps) n }
-    ensures trims { (root : Runs) (steps : List (Step Claim))
-        → All (λ step. step.mode ≡ Trim) steps →
-        (at n : ℕ) → ExceedsAt (λ claim. claim) (Holds root) steps at n → ⊥ }
+    ensures trims { (root : Runs) (steps : List (Step Claim)) (at n : ℕ) (step : Step Claim) →
+        slice_index_or steps at step ≡ step → step.mode ≡ Trim
+        → ExceedsAt (λ claim. claim) (Holds root) steps at n → ⊥ }
+    ensures empty { (root set : Runs) → IsRunsOf (Holds root) root
+        → IsPathResult (λ claim. claim) (Holds root) [] set → set ≡ root }
     ensures any_order { (root set other : Runs) (steps others : List (Step Claim)) →
         ((step : Step Claim) → Contains steps step ↔ Contains others step)
         → IsPathResult (λ claim. claim) (Holds root) steps set

@@ -4,7 +4,7 @@ use Rattle.std.specs.Prelude.{◌⊎◌}
 use Rattle.rpki_der.specs.declared.cursor.Cursor.{Cursor}
 use Rattle.rpki_der.specs.declared.error.DerError.{DerError}
 use Rattle.rpki_der.specs.declared.error.DerError.TheVariants.{DuplicateFamily, NoFamily}
-use Rattle.rpki_der.specs.Der.{Both, Front, IsBytes, IsSequence, Refines}
+use Rattle.rpki_der.specs.Der.{Front, IsBytes, IsSequence, Refines}
 use Rattle.rpki_der.specs.Reading.{◌>>=◌, IsModal, IsReading, Tightens, ended, passing, tagged_at}
 use Rattle.rpki_der.specs.Views.{Lenient, is_strict}
 use Rattle.rpki_der.proofs.Modes.{bind_tightens, cond_tightens, looked_tightens, passed_is, passes, passing_tightens, same_found}

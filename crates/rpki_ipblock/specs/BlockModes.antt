@@ -1,17 +1,15 @@
 -- What the readings of blocks of addresses find in either mode. Readers of lists rest on it.
-use Rattle.std.proofs.Common.{◌≡◌, ℕ, ◌+◌, Bool, true, false, List, [], ◌++◌, Option, Some, None, Result, Ok, refl, sym, ap, subst, ◌∙◌, arith, inl, inr}
-use Rattle.rpki_base.specs.Prefixes.{PrefixValue}
-use Rattle.rpki_base.specs.DerReading.{SaysByTag, SaysPair, pair_in}
+use Rattle.std.proofs.Common.{◌≡◌, ℕ, Bool, true, List, Option, Ok, refl, sym, subst, arith, inl, inr}
+use Rattle.rpki_base.specs.DerReading.{SaysByTag, SaysPair}
 use Rattle.rpki_base.proofs.DerModes.{by_tag_tightens, tested_pair_check, tested_pair_tightens}
-use Rattle.rpki_base.proofs.DerReadings.{by_tag_reading, ended_is, mapped_check, pair_check}
+use Rattle.rpki_base.proofs.DerReadings.{by_tag_reading, mapped_check}
 use Rattle.rpki_blocks.specs.Beyond.{IsBeyond, is_beyond}
 use Rattle.rpki_blocks.proofs.Beyond.{beyond_is, is_beyond_of}
-use Rattle.rpki_der.specs.declared.error.DerError.{DerError}
-use Rattle.rpki_der.specs.Der.{Both, IsBytes, IsSequence, IsTlv, IsValue, Refines, Where, bit_content}
-use Rattle.rpki_der.specs.Reading.{◌>>=◌, IsModal, IsReading, Tightens, ended, passing, refined, value_at}
-use Rattle.rpki_der.proofs.Modes.{bind_tightens, looked_tightens, passed_is, passes, passing_tightens, tested_modal}
-use Rattle.rpki_der.proofs.Readings.{fits_rest, same_reading}
-use Rattle.rpki_der.proofs.Steps.{IsCheck, bind_ok, ok_is}
+use Rattle.rpki_der.specs.Der.{IsBytes, IsSequence, IsTlv, IsValue, Refines, Where, bit_content}
+use Rattle.rpki_der.specs.Reading.{IsModal, Tightens, value_at}
+use Rattle.rpki_der.proofs.Modes.{bind_tightens, looked_tightens, tested_modal}
+use Rattle.rpki_der.proofs.Readings.{same_reading}
+use Rattle.rpki_der.proofs.Steps.{IsCheck}
 use Rattle.rpki_ip.specs.PrefixDer.{prefix_at, prefix_by, prefix_in, prefix_in_by}
 use Rattle.rpki_ip.specs.RangeDer.{IsSpan, range_in, span_of}
 use Rattle.rpki_ip.specs.Ranges.{RangeValue}

@@ -1,6 +1,6 @@
 -- Families of resources in either mode: strictly, the octets are those that are written of them.
-use Rattle.std.proofs.Common.{◌≡◌, ◌≢◌, ℕ, ◌+◌, ◌^◌, ◌<◌, true, List, [], ◌∷◌, ◌++◌, length, Option, Some, None, Result, Ok, Err, refl, sym, ap, subst, ◌∙◌, arith, inl, inr}
-use Rattle.std.specs.Prelude.{◌⊎◌, IfOk, IfSome, MatchResult}
+use Rattle.std.proofs.Common.{◌≡◌, ◌≢◌, ℕ, ◌+◌, ◌^◌, ◌<◌, true, List, [], ◌++◌, length, Option, Some, None, Result, Ok, Err, refl, sym, ap, subst, ◌∙◌, arith, inl, inr}
+use Rattle.std.specs.Prelude.{IfOk, IfSome, MatchResult}
 use Rattle.std.proofs.lemmas.List.{append-nil, length-append}
 use Rattle.rpki_base.specs.DerReading.{IsSequenceOf}
 use Rattle.rpki_base.specs.DerViews.{NotCanonicalOrMemory, ReadsOrMemory, TakesSaidOrMemory}
@@ -17,8 +17,7 @@ use Rattle.rpki_claims.proofs.Said.{one_by_family, reads_same, stands_for, stood
 use Rattle.rpki_claims.proofs.Written.{content_shorter}
 use Rattle.rpki_der.specs.declared.cursor.Cursor.{Cursor}
 use Rattle.rpki_der.specs.declared.error.DerError.{DerError}
-use Rattle.rpki_der.specs.declared.error.DerError.TheVariants.{NotCanonical}
-use Rattle.rpki_der.specs.Der.{IsBytes, IsValue, NoFront, Refines, Spells, header, sequence_value}
+use Rattle.rpki_der.specs.Der.{IsBytes, Refines, Spells, sequence_value}
 use Rattle.rpki_der.specs.Reading.{IsModal}
 use Rattle.rpki_der.specs.Views.{Strict, is_strict, left}
 use Rattle.rpki_der.proofs.Modes.{found_is}

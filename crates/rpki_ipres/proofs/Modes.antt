@@ -1,15 +1,14 @@
 -- Sets and resources of addresses in either mode: strictly, the octets are those that are written of them.
-use Rattle.std.proofs.Common.{◌≡◌, ◌≢◌, ℕ, ◌-◌, ◌+◌, ◌^◌, ◌<◌, ◌≤◌, Bool, true, List, [], ◌∷◌, ◌++◌, length, Option, Some, None, Result, Ok, Err, refl, sym, ap, subst, ◌∙◌, arith}
+use Rattle.std.proofs.Common.{◌≡◌, ◌≢◌, ℕ, ◌-◌, ◌+◌, ◌^◌, ◌<◌, ◌≤◌, true, List, [], ◌∷◌, ◌++◌, length, Option, None, Result, Ok, Err, refl, sym, ap, subst, ◌∙◌, arith}
 use Rattle.std.specs.Prelude.{All, IfOk, MatchResult}
 use Rattle.std.proofs.lemmas.List.Elements.{All-from_recursion}
 use Rattle.std.proofs.lemmas.Nat.{pow_pos}
-use Rattle.rpki_base.specs.DerReading.{IsSequenceFrom, IsSequenceOf, values_of}
+use Rattle.rpki_base.specs.DerReading.{IsSequenceFrom, IsSequenceOf}
 use Rattle.rpki_base.specs.DerViews.{NotCanonicalOrMemory, ReadsOrMemory, TakesSaidOrMemory}
 use Rattle.rpki_base.specs.DerWriting.{octets_of_all}
 use Rattle.rpki_base.proofs.DerCursors.{reads_said_by}
 use Rattle.rpki_base.proofs.DerModes.{exact_said_by, refused_said_by, sequence_modal, takes_said_by, values_stateless}
 use Rattle.rpki_blocks.specs.Beyond.{IsBeyond, is_beyond}
-use Rattle.rpki_chain.specs.BlockSets.{IsBlockSet}
 use Rattle.rpki_chain.specs.Runs.{Runs, Holds, IsRunsOfBlocks}
 use Rattle.rpki_chain.specs.ChoiceDer.{IsChoiceOf}
 use Rattle.rpki_chain.specs.Claims.{Claim}
@@ -28,7 +27,6 @@ use Rattle.rpki_der.proofs.Modes.{found_is, tested_modal}
 use Rattle.rpki_ip.specs.declared.family.AddressFamily.{AddressFamily}
 use Rattle.rpki_ip.specs.declared.family.AddressFamily.TheVariants.{Ipv4, Ipv6}
 use Rattle.rpki_ip.specs.Families.{bits_of}
-use Rattle.rpki_ip.specs.RangeDer.{IsRangeWithin}
 use Rattle.rpki_ip.specs.Whole.{HasWholeBounds, IsWhole}
 use Rattle.rpki_ip.proofs.DerModes.{bits_few_enough, within}
 use Rattle.rpki_ip.proofs.WholeLemmas.{whole_set}

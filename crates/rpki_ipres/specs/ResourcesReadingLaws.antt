@@ -1,6 +1,6 @@
 -- The reading finds the resources of the grammar, whatever follows them, and no others: what the
 -- reader of families is told of it.
-use Rattle.std.proofs.Common.{ℕ, Bool, List, Option, None, subst}
+use Rattle.std.proofs.Common.{ℕ, List, Option, None, subst}
 use Rattle.rpki_der.specs.Der.{Each, EachFrom}
 use Rattle.rpki_der.specs.Reading.{IsModal, IsReading}
 use Rattle.rpki_base.proofs.DerModes.{strict_values_check, values_stateless, values_tighten}

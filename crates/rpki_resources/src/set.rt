@@ -240,8 +240,8 @@ impl<A: Allocator> ResourceSet<A> {
         ResourceSet::of_three(asn, ipv4, self.ipv6.difference(alloc, &other.ipv6))
     }
 
-    /// What the set has beyond another, and what it lacks: added is what the other doesn't have, removed what it alone has.
-    /// `AllocError` where there is no memory for it.
+    /// What the set has beyond another, and what it lacks: added is what the other doesn't have, removed what the other
+    /// alone has. `AllocError` where there is no memory for it.
     pub fn difference(
         &self,
         alloc: A,

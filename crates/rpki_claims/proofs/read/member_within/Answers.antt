@@ -1,5 +1,5 @@
 -- A family that wasn't found before, in its order, its claim, and the end.
-use Rattle.std.proofs.Common.{◌≡◌, Ok, Err, false, refl, sym, ap, ◌∙◌}
+use Rattle.std.proofs.Common.{◌≡◌, Ok, false, refl, sym, ap, ◌∙◌}
 use Rattle.std.proofs.lemmas.Result.{err_from_is_err_and}
 use Rattle.rpki_der.specs.Reading.{ended, passing}
 use Rattle.rpki_der.specs.Views.{is_strict, left}

@@ -1,14 +1,14 @@
 //! The command `read`: octets in hexadecimal become the resources that they are in DER.
 ghost use Rattle.std.specs.Prelude.{IfOk, ◌≡◌, MatchResult};
 ghost use Rattle.std.specs.String.{string_bytes};
-ghost use Rattle.rpki_der.specs.Der.{HasNone};
 ghost use Rattle.rpki_der.specs.Views.{left};
 ghost use Rattle.rpki_text.specs.Memory.{IfRefused};
 ghost use Rattle.rpki_as.specs.AsDer.{IsAsResources};
+ghost use Rattle.rpki_as.specs.AsDerReading.{as_choice_at};
 ghost use Rattle.rpki_claims.specs.Families.{of_family};
-ghost use Rattle.rpki_ipres.specs.ResourcesDer.{IsIpFamilies};
+ghost use Rattle.rpki_ipres.specs.ResourcesDer.{IsIpFamilies, ip_families_at};
 ghost use Rattle.rpki_ipres.specs.SetText.{set_text};
-ghost use Rattle.rpki_lines.specs.Read.{IsEnded, IsReadAnswer, IsReadAs, IsReadIp, ShowsFamily, family_text};
+ghost use Rattle.rpki_lines.specs.Read.{HasFault, IsEnded, IsReadAnswer, IsReadAs, IsReadIp, ShowsFamily, family_text};
 
 use crate::hexadecimal::octets_of;
 use crate::kind::{Kind, kind_named};
@@ -47,13 +47,13 @@ fn read_as<A: Allocator + Copy>(alloc: A, text: &str) -> Result<String<A>, Alloc
     shown(alloc, as_resources_in(alloc, octets.as_slice()))
 }
 
-/// The AS resources that all these octets are.
+/// The AS resources that all these octets are. `Refused` with their first fault where they are none.
 fn as_resources_in<A: Allocator + Copy>(
     alloc: A,
     octets: &[u8],
 ) -> Result<AsResources<A>, OrMemory<DerError>>
     ensures { MatchResult result (IsAsResources octets.now)
-        (IfRefused (λ _. HasNone IsAsResources octets.now)) }
+        (IfRefused (HasFault IsAsResources as_choice_at octets.now)) }
 {
     let mut cursor = Cursor::new(octets);
     let taken = AsResources::take_from(alloc, &mut cursor);
@@ -118,13 +118,13 @@ fn resources_of<A: Allocator>(
     }
 }
 
-/// The resources by family that all these octets are.
+/// The resources by family that all these octets are. `Refused` with their first fault where they are none.
 fn families_in<A: Allocator + Copy>(
     alloc: A,
     octets: &[u8],
 ) -> Result<(Option<IpResources<A>>, Option<IpResources<A>>), OrMemory<DerError>>
     ensures { MatchResult result (IsIpFamilies octets.now)
-        (IfRefused (λ _. HasNone IsIpFamilies octets.now)) }
+        (IfRefused (HasFault IsIpFamilies ip_families_at octets.now)) }
 {
     let mut cursor = Cursor::new(octets);
     let taken = IpResources::take_families_from(alloc, &mut cursor);

@@ -1,5 +1,5 @@
 //! Reads the whole input, and then answers each line of it.
-ghost use Rattle.std.specs.Prelude.{◌≡◌, ◌<◌, ◌∷◌, [], ℕ, length, position, true, IfOk, IfErr, IfSome, OnOk, OnErr, IsErrOf, List};
+ghost use Rattle.std.specs.Prelude.{◌≡◌, ◌<◌, ◌∷◌, [], ℕ, length, position, true, false, IfOk, IfErr, IfSome, OnOk, OnErr, IsErrOf, List};
 ghost use Rattle.std.specs.Io.KnownBytes.{IsAtEnd, Keeps};
 ghost use Rattle.respath_engine.specs.Lines.{is_end, lines_of};
 ghost use Rattle.respath_engine.specs.Run.{HasWritten, HasAnsweredLine, AnswersAll, AnswersFirst, BeginsAnswers};
@@ -22,6 +22,10 @@ pub fn run<A: Allocator + Copy, R: Source, W: Sink>(
     reader: &mut R,
     writer: &mut W,
 ) -> Result<(), RunError>
+    // Neither has failed: no call follows one that did.
+    requires reader_clear { R.mark reader.old ≡ false }
+    requires writer_clear { W.mark writer.old ≡ false }
+
     // No call failed, nothing is left to be read, each line's answer was written whole, and the writer is flushed.
     ensures unmarked { OnOk result ((R.mark reader.new ≡ R.mark reader.old)
         × (W.mark writer.new ≡ W.mark writer.old)) }
@@ -52,6 +56,7 @@ pub fn run<A: Allocator + Copy, R: Source, W: Sink>(
 
 /// Reads until nothing is left.
 fn read_to_end<A: Allocator, R: Source>(alloc: A, reader: &mut R) -> Result<Vec<u8, A>, RunError>
+    requires clear { R.mark reader.old ≡ false }
     ensures unmarked { OnOk result (R.mark reader.new ≡ R.mark reader.old) }
     ensures whole { OnOk result (IsAtEnd (R.left reader.new)) }
     ensures bytes { IfOk result (λ input. IfSome (R.left reader.old)
@@ -80,6 +85,7 @@ fn answer_lines<A: Allocator + Copy, W: Sink>(
     text: &[u8],
     writer: &mut W,
 ) -> Result<(), RunError>
+    requires clear { W.mark writer.old ≡ false }
     ensures unmarked { OnOk result (W.mark writer.new ≡ W.mark writer.old) }
     ensures answered { OnOk result (AnswersAll (W.written writer.old) (W.written writer.new)
         text.now) }
@@ -128,6 +134,7 @@ fn answer_line<A: Allocator + Copy, W: Sink>(
     line: &[u8],
     writer: &mut W,
 ) -> Result<(), RunError>
+    requires clear { W.mark writer.old ≡ false }
     ensures unmarked { OnOk result (W.mark writer.new ≡ W.mark writer.old) }
     ensures answered { OnOk result (HasAnsweredLine (W.written writer.old) (W.written writer.new)
         line.now []) }
@@ -145,6 +152,7 @@ fn answer_line<A: Allocator + Copy, W: Sink>(
 
 /// Writes a whole piece. No call is tried again.
 fn write_all<W: Sink>(writer: &mut W, piece: &[u8]) -> Result<(), DeviceFault>
+    requires clear { W.mark writer.old ≡ false }
     ensures unmarked { OnOk result (W.mark writer.new ≡ W.mark writer.old) }
     ensures whole { OnOk result (HasWritten (W.written writer.old) (W.written writer.new) piece.now
         []) }
@@ -165,6 +173,7 @@ fn write_all<W: Sink>(writer: &mut W, piece: &[u8]) -> Result<(), DeviceFault>
 
 /// Hands on all that was written. No call is tried again.
 fn flush_all<W: Sink>(writer: &mut W) -> Result<(), RunError>
+    requires clear { W.mark writer.old ≡ false }
     ensures unmarked { OnOk result (W.mark writer.new ≡ W.mark writer.old) }
     ensures flushed { OnOk result (W.flushed writer.new ≡ true) }
     ensures write { IfErr result (λ error. (error ≡ RunError.Write) × (W.mark writer.new ≡ true)) }

@@ -1,5 +1,5 @@
 //! Devices over slices, which count their calls. They take no memory.
-ghost use Rattle.std.specs.Prelude.{◌≤◌, Some, length, take};
+ghost use Rattle.std.specs.Prelude.{◌≡◌, ◌≤◌, Some, false, length, take};
 
 use respath_engine::device::{DeviceFault, Sink, Source};
 
@@ -46,7 +46,9 @@ pub struct SliceSource<'a> {
 }
 
 impl<'a> SliceSource<'a> {
-    pub fn new(bytes: &'a [u8], habits: Habits) -> SliceSource<'a> {
+    pub fn new(bytes: &'a [u8], habits: Habits) -> SliceSource<'a>
+        ensures clear { result.failed ≡ false }
+    {
         SliceSource {
             rest: bytes,
             habits,
@@ -63,6 +65,18 @@ impl<'a> SliceSource<'a> {
     /// How often it was called.
     pub fn calls(&self) -> u64 {
         self.calls
+    }
+
+    /// Whether a call has failed.
+    pub fn has_failed(&self) -> bool
+        ensures { result ≡ self.now.failed }
+    {
+        self.failed
+    }
+
+    /// Counts a call that isn't made.
+    pub fn count_call(&mut self) {
+        self.calls = self.calls.saturating_add(1);
     }
 }
 
@@ -101,7 +115,9 @@ pub struct SliceSink<'a> {
 }
 
 impl<'a> SliceSink<'a> {
-    pub fn new(room: &'a mut [u8], habits: Habits) -> SliceSink<'a> {
+    pub fn new(room: &'a mut [u8], habits: Habits) -> SliceSink<'a>
+        ensures clear { result.failed ≡ false }
+    {
         SliceSink {
             room,
             filled: 0,
@@ -120,6 +136,18 @@ impl<'a> SliceSink<'a> {
     /// How often it was called, to write or to flush.
     pub fn calls(&self) -> u64 {
         self.calls
+    }
+
+    /// Whether a call has failed, or a write took nothing.
+    pub fn has_failed(&self) -> bool
+        ensures { result ≡ self.now.failed }
+    {
+        self.failed
+    }
+
+    /// Counts a call that isn't made.
+    pub fn count_call(&mut self) {
+        self.calls = self.calls.saturating_add(1);
     }
 
     /// Whether its last call was a flush that was Ok.

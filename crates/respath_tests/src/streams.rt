@@ -1,7 +1,7 @@
 //! Readers and writers of std over those devices. Of a failed call they tell that it may be tried again, which nothing here
-//! does.
+//! does: a call behind one that failed is counted, so that a test sees it, and fails.
 use crate::slices::{SliceSink, SliceSource};
-use respath_engine::device::{DeviceFault, Sink, Source};
+use respath_engine::device::{Sink, Source};
 use std::io;
 use std::io::{Read, Write};
 
@@ -13,10 +13,11 @@ pub struct SliceReader<'a> {
 
 impl Read for SliceReader<'_> {
     fn read(&mut self, buffer: &mut [u8]) -> io::Result<usize> {
-        match self.source.read(buffer) {
-            Ok(count) => Ok(count),
-            Err(DeviceFault) => Err(io::Error::from(io::ErrorKind::Interrupted)),
+        if self.source.has_failed() {
+            self.source.count_call();
+            return Err(again());
         }
+        self.source.read(buffer).map_err(|_| again())
     }
 }
 
@@ -28,16 +29,23 @@ pub struct SliceWriter<'a> {
 
 impl Write for SliceWriter<'_> {
     fn write(&mut self, buffer: &[u8]) -> io::Result<usize> {
-        match self.sink.write(buffer) {
-            Ok(count) => Ok(count),
-            Err(DeviceFault) => Err(io::Error::from(io::ErrorKind::Interrupted)),
+        if self.sink.has_failed() {
+            self.sink.count_call();
+            return Err(again());
         }
+        self.sink.write(buffer).map_err(|_| again())
     }
 
     fn flush(&mut self) -> io::Result<()> {
-        match self.sink.flush() {
-            Ok(()) => Ok(()),
-            Err(DeviceFault) => Err(io::Error::from(io::ErrorKind::Interrupted)),
+        if self.sink.has_failed() {
+            self.sink.count_call();
+            return Err(again());
         }
+        self.sink.flush().map_err(|_| again())
     }
+}
+
+/// The fault of a call that may be tried again.
+fn again() -> io::Error {
+    io::Error::from(io::ErrorKind::Interrupted)
 }

@@ -7,6 +7,10 @@ use Rattle.rpki_prefix.specs.Values.{FamilyPrefix, CoversPrefix}
 abbrev pub Payload : Type 0
 Payload = MaxLenValue × ℕ
 
+-- how many bits of the payload's prefix are fixed
+abbrev pub prefix_len : Payload → ℕ
+prefix_len payload = payload.0.prefix.len
+
 -- the payload's prefix covers the route's (RFC 6811, 2: 'Covered')
 abbrev pub Covers : FamilyPrefix → Payload → Type 0
 Covers route payload = CoversPrefix payload.0.prefix route

@@ -14,9 +14,11 @@
 //! ```
 #![tactic(auto)]
 
+pub mod covering;
 pub mod laws;
 pub mod table;
 pub mod validation;
 
+pub use covering::Covering;
 pub use table::OriginTable;
 pub use validation::{Validity, origin};

@@ -1,7 +1,7 @@
 //! The validity of a route's origin by a list of payloads (RFC 6811, 2).
 ghost use Rattle.std.specs.Prelude.{◌↔◌, IsTrue};
 ghost use Rattle.roa_origin.specs.Validities.{IsValidity};
-ghost use Rattle.roa_origin.specs.Payloads.{Matches};
+ghost use Rattle.roa_origin.specs.Payloads.{Covers, Matches};
 
 use rpki_base::Asn;
 use rpki_prefix::{MaxLenPrefix, Prefix};
@@ -17,6 +17,13 @@ pub enum Validity {
     NotFound,
 }
 
+/// Whether a payload covers a route: its prefix covers the route's, so both are of one family (RFC 6811, 2).
+pub(crate) fn covers(payload: &(MaxLenPrefix, Asn), route: Prefix) -> bool
+    ensures { IsTrue result ↔ Covers route payload.now }
+{
+    payload.0.prefix().covers(route)
+}
+
 /// Whether a payload matches a route that an AS originates: its prefix covers the route's, which is no longer than the
 /// payload's greatest length, and the AS is the payload's and not AS0 (RFC 6811, 2; RFC 9582, 4.3.2).
 pub(crate) fn matches(payload: &(MaxLenPrefix, Asn), route: Prefix, asn: Asn) -> bool
@@ -25,7 +32,7 @@ pub(crate) fn matches(payload: &(MaxLenPrefix, Asn), route: Prefix, asn: Asn) ->
     asn != Asn::MIN
         && payload.1 == asn
         && route.len() <= payload.0.resolved_max_len()
-        && payload.0.prefix().covers(route)
+        && covers(payload, route)
 }
 
 /// The validity of the route to a prefix that an AS originates, by a list of validated payloads: prefixes with a
@@ -36,7 +43,7 @@ pub fn origin(route: Prefix, asn: Asn, payloads: &[(MaxLenPrefix, Asn)]) -> Vali
 {
     let mut validity = Validity::NotFound;
     for payload in payloads {
-        if payload.0.prefix().covers(route) {
+        if covers(payload, route) {
             if matches(payload, route, asn) {
                 return Validity::Valid;
             }

@@ -1,0 +1,177 @@
+-- The payloads that cover a route, among the first of a table.
+use Rattle.std.proofs.Common.{◌≡◌, ℕ, zero, suc, ◌+◌, ◌-◌, ◌^◌, ◌<◌, ◌≤◌, Bool, true, false, cond, inl, inr, None, List, [], ◌∷◌, ◌++◌, reverse, take, length, get_or, refl, arith, sym, ◌∙◌, ap}
+use Rattle.std.proofs.lemmas.Bool.{cases_lt, and_parts, eqb-true, eq-eqb, leb-true, le-leb}
+use Rattle.std.proofs.lemmas.List.{get_or_default, take_all, reverse-append, reverse-reverse}
+use Rattle.std.proofs.lemmas.List.Elements.{All-filter, filter_more, filter_passes}
+use Rattle.std.proofs.lemmas.List.Kept.{IsNonDecreasingBy-filter}
+use Rattle.std.proofs.lemmas.Nat.{pow_pos, pow_below}
+use Rattle.std.specs.List.{filter, slice_index}
+use Rattle.std.specs.List.Sorted.{IsNonDecreasingBy}
+use Rattle.rpki_addr.specs.declared.addr.IpAddr.{IpAddr}
+use Rattle.rpki_addr.specs.declared.addr.IpAddr.TheVariants.{V4, V6}
+use Rattle.rpki_prefix.proofs.Covering.{covers_round, round_covers}
+use Rattle.rpki_prefix.specs.Values.{FamilyPrefix, IsFamilyPrefix, CoversPrefix, is_v6, width}
+use Rattle.roa_origin.proofs.Nested.{covers_between}
+use Rattle.roa_origin.proofs.Orders.{covers_place}
+use Rattle.roa_origin.proofs.Walks.{passes_none}
+use Rattle.roa_origin.specs.Coverings.{AreThose, IsWalk, covers_route, covering_before}
+use Rattle.roa_origin.specs.Links.{AreFamilyPrefixes, IsTable, NoneCovers}
+use Rattle.roa_origin.specs.Payloads.{Payload, Covers, prefix_len}
+use Rattle.roa_origin.specs.Places.{payload_place, place}
+
+-- addresses have as many bits where they are of one family, and there alone
+same_width : (a b : IpAddr) → is_v6 a ≡ is_v6 b → width a ≡ width b
+same_width (V4 m) (V4 n) e = refl
+same_width (V4 m) (V6 n) e = absurd (let f : false ≡ true = e in cc)
+same_width (V6 m) (V4 n) e = absurd (let f : true ≡ false = e in cc)
+same_width (V6 m) (V6 n) e = refl
+
+same_family : (a b : IpAddr) → width a ≡ width b → is_v6 a ≡ is_v6 b
+same_family (V4 m) (V4 n) e = refl
+same_family (V4 m) (V6 n) e = absurd (let f : 32 ≡ 128 = e in omega (arith, f))
+same_family (V6 m) (V4 n) e = absurd (let f : 128 ≡ 32 = e in omega (arith, f))
+same_family (V6 m) (V6 n) e = refl
+
+tells_covers : (route : FamilyPrefix) (x : Payload) → covers_route route x ≡ true → Covers route x
+tells_covers route x e =
+    let parts = and_parts _ _ e in
+    let bounds = and_parts _ _ parts.1 in
+    covers_round x.0.prefix route (record { family = same_family _ _ (eqb-true _ _ parts.0); from = leb-true _ _ bounds.0; upto = leb-true _ _ bounds.1 })
+
+is_told : (route : FamilyPrefix) (x : Payload) → Covers route x → covers_route route x ≡ true
+is_told route x c =
+    let r = round_covers x.0.prefix route c in
+    rw (eq-eqb _ _ (same_width x.0.prefix.addr route.addr r.family), le-leb _ _ r.from, le-leb _ _ r.upto) refl
+
+-- a test that says it says the same
+pub told : (route : FamilyPrefix) (x : Payload) (b : Bool) → (b ≡ true → Covers route x) → (Covers route x → b ≡ true) → covers_route route x ≡ b
+told route x true on back = is_told route x (on refl)
+told route x false on back = which (covers_route route x) refl
+  where
+    which : (t : Bool) → covers_route route x ≡ t → covers_route route x ≡ false
+    which false e = e
+    which true e = absurd (let f : false ≡ true = back (tells_covers route x e) in cc)
+
+-- one element more
+one_more : (route : FamilyPrefix) (x : Payload) (xs : List Payload) (t : Bool) → covers_route route x ≡ t → AreThose (Covers route) xs (filter (covers_route route) xs)
+    → AreThose (Covers route) (x ∷ xs) (filter (covers_route route) (x ∷ xs))
+one_more route x xs true e those = rw e (inl (tells_covers route x e, filter (covers_route route) xs, refl, those))
+one_more route x xs false e those = rw e (inr ((λ h. absurd (let f : false ≡ true = sym e ∙ is_told route x h in cc)), those))
+
+-- what the test picks out of a list are those that cover the route
+pub are_those : (route : FamilyPrefix) (xs : List Payload) → AreThose (Covers route) xs (filter (covers_route route) xs)
+are_those route [] = refl
+are_those route (x ∷ xs) = one_more route x xs (covers_route route x) refl (are_those route xs)
+
+module _ (route : FamilyPrefix) (xs : List Payload) where
+  -- one payload more
+  picked : (y x : Payload) (s t : Bool) (ys : List Payload) → y ≡ x → s ≡ t → reverse (cond s (y ∷ []) []) ++ ys ≡ cond t (x ∷ ys) ys
+  picked y x true true ys is e = ap (λ z. z ∷ ys) is
+  picked y x false false ys is e = refl
+  picked y x true false ys is e = absurd (let f : true ≡ false = e in cc)
+  picked y x false true ys is e = absurd (let f : false ≡ true = e in cc)
+
+  pub more : (k : ℕ) (x : Payload) → k < length xs → get_or xs k x ≡ x → covering_before route xs (k + 1) ≡ cond (covers_route route x) (x ∷ covering_before route xs k) (covering_before route xs k)
+  more k x small is =
+      let y : Payload = get_or xs k x in
+      let s : Bool = covers_route route y in
+      ap reverse (filter_more (covers_route route) xs k x small) ∙ reverse-append (filter (covers_route route) (take k xs)) (cond s (y ∷ []) [])
+      ∙ picked y x s (covers_route route x) (covering_before route xs k) is (ap (covers_route route) is)
+
+  -- places at which none covers the route give none
+  free_step : (k : ℕ) (d : Payload) → k < length xs → ¬ Covers route (get_or xs k d) → covering_before route xs (k + 1) ≡ covering_before route xs k
+  free_step k d small free =
+      let y : Payload = get_or xs k d in
+      let none : covers_route route y ≡ false = told route y false (λ e. absurd (let f : false ≡ true = e in cc)) (λ c. absurd (free c)) in
+      let s : List Payload = filter (covers_route route) (take k xs) in
+      ap reverse (filter_more (covers_route route) xs k d small ∙ ap (λ b. s ++ cond b (y ∷ []) []) none) ∙ reverse-append s []
+
+  -- some payload, whichever
+  some : Payload
+  some = (record { prefix = route; max_len = None }, 0)
+
+  pub none_between : (to from : ℕ) → from ≤ to → to ≤ length xs → NoneCovers xs route from to → covering_before route xs to ≡ covering_before route xs from
+  none_between zero from low high none = (let e : 0 ≡ from = omega (arith, low) in ap (covering_before route xs) e)
+  none_between (suc k) from low high none = elim (cases_lt k from) [
+    | inl same ↦ (let e : suc k ≡ from = omega (arith, low, same) in ap (covering_before route xs) e)
+    | inr less ↦ (
+        let on : suc k ≡ k + 1 = omega arith in
+        let small : k < length xs = omega (arith, high) in
+        ap (covering_before route xs) on ∙ free_step k some small (none k some (omega (arith, less)) (omega arith) small)
+        ∙ none_between k from (omega (arith, less)) (omega (arith, high)) (λ j e from' before there. none j e from' (omega (arith, before)) there))
+  ]
+
+  -- what comes later than the route doesn't cover it: those before it are all that do
+  pub all_before : (links : List ℕ) (n : ℕ) → IsTable xs links → IsFamilyPrefix route → n ≤ length xs
+      → ((k : ℕ) (d : Payload) → n ≤ k → k < length xs → place route < payload_place (get_or xs k d))
+      → reverse (covering_before route xs n) ≡ filter (covers_route route) xs
+  all_before links n table is high later =
+      let none : NoneCovers xs route n (length xs) = λ k d from before small covers. (
+      let after : place route < payload_place (get_or xs k d) = later k d from small in
+      let up_to : payload_place (get_or xs k d) ≤ place route = covers_place (get_or xs k d).0.prefix route (table.prefixes k d small) is covers in
+      omega (arith, after, up_to)) in
+      ap reverse (sym (none_between (length xs) n high (omega arith) none) ∙ ap (λ ys. reverse (filter (covers_route route) ys)) (take_all (length xs) xs (omega arith)))
+      ∙ reverse-reverse (filter (covers_route route) xs)
+
+-- what a prefix covers is no shorter
+covers_len : (p q : FamilyPrefix) → IsFamilyPrefix p → CoversPrefix p q → p.len ≤ q.len
+covers_len p q is c =
+    let r = round_covers p q c in
+    let w : 2 ^ (width q.addr - q.len) ≡ 2 ^ (width p.addr - q.len) = ap (λ n. 2 ^ (n - q.len)) (sym (same_width p.addr q.addr r.family)) in
+    elim (cases_lt q.len p.len) [
+      | inr short ↦ omega (arith, short)
+      | inl longer ↦ (
+          let fits : p.len ≤ width p.addr = is.short in
+          let less : 2 ^ (width p.addr - p.len) < 2 ^ (width p.addr - q.len) = pow_below (width p.addr - p.len) (width p.addr - q.len) (omega (arith, longer, fits)) in
+          absurd (omega (arith, less, r.from, r.upto, w, pow_pos (width p.addr - p.len))))
+    ]
+
+-- in order, those that cover a route go from the shortest prefix to the longest
+pub by_length : (route : FamilyPrefix) (xs : List Payload) → IsFamilyPrefix route → IsNonDecreasingBy payload_place xs → AreFamilyPrefixes xs (length xs)
+    → IsNonDecreasingBy prefix_len (filter (covers_route route) xs)
+by_length route xs is ordered prefixes i j d before inside =
+    let ys : List Payload = filter (covers_route route) xs in
+    let p : Payload = get_or ys i d in
+    let q : Payload = get_or ys j d in
+    let there : i < length ys = omega (arith, before, inside) in
+    let are = All-filter (covers_route route) (λ x. IsFamilyPrefix x.0.prefix) xs prefixes in
+    let covers = filter_passes (covers_route route) xs in
+    let of_p : Covers route p = tells_covers route p (covers i d there) in
+    let of_q : Covers route q = tells_covers route q (covers j d inside) in
+    let places : payload_place p ≤ payload_place q = IsNonDecreasingBy-filter payload_place (covers_route route) xs ordered i j d before inside in
+    covers_len p.0.prefix q.0.prefix (are i d there)
+    (covers_between p.0.prefix q.0.prefix route (are i d there) (are j d inside) is places (covers_place q.0.prefix route (are j d inside) is of_q) of_p)
+
+-- the walk's next step: the nearest payload that covers the route, and what is left behind its link
+module _ (xs : List Payload) (links : List ℕ) (n : ℕ) (route : FamilyPrefix) (walk : IsWalk xs links n route) (at : ℕ) (some : 0 < at) (back : at ≤ n) where
+  link : slice_index links (at - 1) ≤ at - 1
+  link = (let there : at - 1 < length links = omega (arith, some, back, walk.within, walk.table.as_many) in
+      (walk.table.linked (at - 1) (record { prefix = route; max_len = None }, 0) there).0)
+
+  pub walk_on : IsWalk xs links (slice_index links (at - 1)) route
+  walk_on = record {
+    table = walk.table;
+    within = omega (arith, link, back, walk.within);
+    up_to = λ k d small. walk.up_to k d (omega (arith, small, link, some, back));
+    is_prefix = walk.is_prefix;
+  }
+
+  pub gives : (d : Payload) → Covers route (get_or xs (at - 1) d) → NoneCovers xs route at n
+      → covering_before route xs n ≡ get_or xs (at - 1) d ∷ covering_before route xs (slice_index links (at - 1))
+  gives d covers none =
+      let last : ℕ = at - 1 in
+      let x : Payload = get_or xs last d in
+      let there : last < length xs = omega (arith, some, back, walk.within) in
+      let is : get_or xs last x ≡ x = get_or_default xs last x d there in
+      let linked : last < length links = omega (arith, there, walk.table.as_many) in
+      let on : at ≡ last + 1 = omega (arith, some) in
+      let between : NoneCovers xs route (slice_index links (at - 1)) last =
+      passes_none xs links n route walk.table.ordered (λ k d small. walk.table.prefixes k d (omega (arith, small, walk.within))) walk.up_to walk.table.linked walk.within walk.is_prefix
+      last (omega (arith, some, back)) linked in
+      none_between route xs n at back walk.within none ∙ ap (covering_before route xs) on ∙ more route xs last x there is
+      ∙ ap (λ t. cond t (x ∷ covering_before route xs last) (covering_before route xs last)) (is_told route x covers)
+      ∙ ap (λ ys. x ∷ ys) (none_between route xs last (slice_index links (at - 1)) link (omega (arith, there)) between)
+
+-- and where there is none, nothing is left
+pub nothing_left : (xs : List Payload) (links : List ℕ) (n : ℕ) (route : FamilyPrefix) → IsWalk xs links n route → NoneCovers xs route 0 n → covering_before route xs n ≡ []
+nothing_left xs links n route walk none = none_between route xs n 0 (omega arith) walk.within none

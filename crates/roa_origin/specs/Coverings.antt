@@ -1,0 +1,29 @@
+-- The payloads of a list that cover a route (RFC 6811, 2).
+use Rattle.std.specs.Prelude.{◌≡◌, ◌&&◌, ◌==◌, ℕ, ◌≤◌, ◌⊎◌, Bool, nat_le, List, [], ◌∷◌, reverse, take, length}
+use Rattle.std.specs.List.{filter}
+use Rattle.rpki_prefix.specs.Order.{last_bits}
+use Rattle.rpki_prefix.specs.Values.{FamilyPrefix, IsFamilyPrefix, bits, width}
+use Rattle.roa_origin.specs.Links.{AreUpTo, IsTable}
+use Rattle.roa_origin.specs.Payloads.{Payload}
+
+-- ys are the elements of xs at which P holds, in their order, each as often as it stands there
+abbrev pub AreThose : {X : Type 0} → (X → Type 0) → List X → List X → Type 0
+AreThose P [] ys = ys ≡ []
+AreThose {X} P (x ∷ xs) ys = (P x × (zs : List X) × (ys ≡ x ∷ zs) × AreThose P xs zs) ⊎ ((¬ P x) × AreThose P xs ys)
+
+-- whether a payload covers the route: it is of its family, and its addresses lie round the route's
+abbrev pub covers_route : FamilyPrefix → Payload → Bool
+covers_route route payload =
+    (width payload.0.prefix.addr == width route.addr)
+    && (nat_le (bits payload.0.prefix.addr) (bits route.addr) && nat_le (last_bits route) (last_bits payload.0.prefix))
+
+-- the first n payloads that cover the route, the last first
+abbrev pub covering_before : FamilyPrefix → List Payload → ℕ → List Payload
+covering_before route xs n = reverse (filter (covers_route route) (take n xs))
+
+-- a walk in a table from the first n payloads on, which come no later than the route
+pub record IsWalk (xs : List Payload) (links : List ℕ) (n : ℕ) (route : FamilyPrefix) : Type 0 where
+  pub table : IsTable xs links
+  pub within : n ≤ length xs
+  pub up_to : AreUpTo xs n route
+  pub is_prefix : IsFamilyPrefix route

@@ -1,0 +1,68 @@
+//! The payloads that cover a route: what explains its validity (RFC 6811, 2).
+ghost use Rattle.std.specs.Prelude.{◌≡◌};
+ghost use Rattle.std.specs.Iterator.{YieldsFirst, item_count};
+ghost use Rattle.roa_origin.specs.Coverings.{IsWalk, covering_before};
+
+use crate::table::nearest;
+use rpki_base::Asn;
+use rpki_prefix::{MaxLenPrefix, Prefix};
+use std::marker::Model;
+
+/// The payloads of a table that cover a route and are left, the longest prefix first. Contracts see it as their list.
+#[derive(Drop)]
+pub struct Covering<'a> {
+    payloads: &'a [(MaxLenPrefix, Asn)],
+    links: &'a [usize],
+    at: usize,
+    route: Prefix,
+}
+
+impl<'a> Model for Covering<'a> {
+    ghost use Rattle.std.specs.Prelude.{List};
+    ghost use Rattle.roa_origin.specs.Coverings.{IsWalk, covering_before};
+    ghost use Rattle.roa_origin.specs.Payloads.{Payload};
+
+    ghost Value = { List Payload };
+
+    ghost view = { λ c. covering_before c.route c.payloads.now c.at };
+
+    ghost invariant = { λ c. IsWalk c.payloads.now c.links.now c.at c.route };
+}
+
+impl<'a> Covering<'a> {
+    /// The walk from the first `at` payloads of a table on.
+    pub(crate) fn from(
+        payloads: &'a [(MaxLenPrefix, Asn)],
+        links: &'a [usize],
+        at: usize,
+        route: Prefix,
+    ) -> Covering<'a>
+        requires { IsWalk payloads.now links.now at route }
+        ensures { result ≡ covering_before route payloads.now at }
+    {
+        Covering {
+            payloads,
+            links,
+            at,
+            route,
+        }
+    }
+}
+
+impl Iterator for Covering<'_> {
+    type Item = (MaxLenPrefix, Asn);
+
+    ghost next_gives = { YieldsFirst (λ payloads. payloads) };
+
+    ghost remaining = { item_count (λ payloads. payloads) };
+
+    fn next(&mut self) -> Option<(MaxLenPrefix, Asn)> {
+        let at = nearest(self.payloads, self.links, self.at, self.route);
+        if at == 0 {
+            self.at = 0;
+            return None;
+        }
+        self.at = self.links[at - 1];
+        Some(self.payloads[at - 1])
+    }
+}

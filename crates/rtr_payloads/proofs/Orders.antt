@@ -1,0 +1,56 @@
+-- The order of payloads is total, and payloads tie in it exactly where they are the same.
+use Rattle.std.proofs.Common.{true, false, Bool, IsTrue, ◌&&◌, ◌==◌, ◌≡◌, ◌↔◌, ◌⊎◌, ℕ, inl, inr, refl, subst}
+use Rattle.std.proofs.lemmas.Bool.{eq-eqb, eqb-true}
+use Rattle.std.proofs.lemmas.Cmp.{by_ranked, nat_cmp_total, on_total, then_total, tied_itself}
+use Rattle.std.specs.Cmp.{IsTotalOrder, ranks}
+use Rattle.std.specs.Ordering.{is_eq, is_lt, nat_cmp, ordering_then}
+use Rattle.std.specs.declared.cmp.Ordering.{Ordering}
+use Rattle.std.specs.declared.cmp.Ordering.TheVariants.{Less, Equal, Greater}
+use Rattle.rpki_prefix.specs.MaxLen.{MaxLenValue, max_len_cmp}
+use Rattle.roa_origin.specs.Payloads.{Payload}
+use Rattle.rtr_payloads.specs.Tables.{payload_cmp}
+
+pub total : IsTotalOrder max_len_cmp → IsTotalOrder payload_cmp
+total prefixes = then_total (on_total (λ p. p.0) prefixes) (on_total (λ p. p.1) nat_cmp_total)
+
+-- which of the three two payloads are
+pub cases_ordering : (o : Ordering) → (o ≡ Less) ⊎ ((o ≡ Equal) ⊎ (o ≡ Greater))
+cases_ordering Less = inl refl
+cases_ordering Equal = inr (inl refl)
+cases_ordering Greater = inr (inr refl)
+
+-- two steps tie where both do
+both_equal : (o p : Ordering) → ordering_then o p ≡ Equal → (o ≡ Equal) × (p ≡ Equal)
+both_equal Less p e = cc
+both_equal Equal p e = (refl, e)
+both_equal Greater p e = cc
+
+nat_ties : (m n : ℕ) → nat_cmp m n ≡ Equal → m ≡ n
+nat_ties m n e = by_ranked _ _ _ (nat_cmp m n) (ranks m n) (λ f _. cc) (λ _ same. same) (λ f _. cc)
+
+pub ties : ((m n : MaxLenValue) → (max_len_cmp m n ≡ Equal) ↔ (m ≡ n)) → IsTotalOrder payload_cmp → (p q : Payload) → (payload_cmp p q ≡ Equal) ↔ (p ≡ q)
+ties prefixes is_total p q = (
+  (λ e. let both = both_equal (max_len_cmp p.0 q.0) (nat_cmp p.1 q.1) e in λ i. ((prefixes p.0 q.0).0 both.0 i, nat_ties p.1 q.1 both.1 i)),
+  λ e. subst (λ (r : Payload). payload_cmp p r ≡ Equal) e (tied_itself is_total p),
+)
+
+pub less_of : (o : Ordering) → is_lt o ≡ true → o ≡ Less
+less_of Less e = refl
+less_of Equal e = cc
+less_of Greater e = cc
+
+pub equal_of : (o : Ordering) → is_eq o ≡ true → o ≡ Equal
+equal_of Less e = cc
+equal_of Equal e = refl
+equal_of Greater e = cc
+
+both_true : (a b : Bool) → IsTrue (a && b) → IsTrue a × IsTrue b
+both_true true b e = (refl, e)
+both_true false b e = cc
+
+-- payloads are equal where they are the same
+pub equal_where_the_same : {eq : MaxLenValue → MaxLenValue → Bool} → ((m n : MaxLenValue) → IsTrue (eq m n) ↔ (m ≡ n)) → (p q : Payload) → IsTrue (eq p.0 q.0 && (p.1 == q.1)) ↔ (p ≡ q)
+equal_where_the_same {eq} same p q = (
+  (λ e. let both = both_true (eq p.0 q.0) (p.1 == q.1) e in λ i. ((same p.0 q.0).0 both.0 i, eqb-true p.1 q.1 both.1 i)),
+  λ e. subst (λ (r : Payload). IsTrue (eq p.0 r.0 && (p.1 == r.1))) e (rw ((same p.0 p.0).1 refl, eq-eqb p.1 p.1 refl) refl),
+)

@@ -1,0 +1,103 @@
+-- Lists in order, and one walk along two of them.
+use Rattle.std.proofs.Common.{arith, ◌≡◌, ◌≢◌, ◌↔◌, ℕ, suc, ◌+◌, ◌<◌, ◌≤◌, inl, inr, length, get_or, List, [], ◌∷◌, ◌++◌, take, Contains, AllPairs, sym, ap, ◌∙◌, subst}
+use Rattle.std.proofs.lemmas.Bool.{cases_lt, cases_order}
+use Rattle.std.proofs.lemmas.List.{get_or-take, get_or_default, length-take-le}
+use Rattle.std.proofs.lemmas.List.Elements.{Contains-append_left, Contains-push, Contains-push_cases}
+use Rattle.std.proofs.lemmas.List.Quantifiers.{all_pairs_push}
+use Rattle.std.proofs.Math.Seq.{take-suc}
+use Rattle.std.specs.Cmp.{IsTotalOrder}
+use Rattle.std.specs.declared.cmp.Ordering.{Ordering}
+use Rattle.std.specs.declared.cmp.Ordering.TheVariants.{Less, Equal}
+
+-- a turn of a walk along two lists: x stands next in the one; before the place of the other one all are less than x, and
+-- before the place that the walk came from all are less than what is left of the one
+pub record IsTurn {X : Type 0} (R : X → X → Ordering) (one other : List X) (at from place : ℕ) (x : X) : Type 0 where
+  pub small : at < length one
+  pub is : x ≡ get_or one at x
+  pub ascends : AllPairs (λ x y. R x y ≡ Less) one
+  pub others : AllPairs (λ x y. R x y ≡ Less) other
+  pub passed : (k l : ℕ) (d e : X) → k < from → at ≤ l → l < length one → R (get_or other k d) (get_or one l e) ≡ Less
+  pub less : (k : ℕ) (d : X) → from ≤ k → k < place → R (get_or other k d) x ≡ Less
+  pub not_less : (d : X) → place < length other → R (get_or other place d) x ≢ Less
+
+module _ {X : Type 0} (R : X → X → Ordering) (total : IsTotalOrder R) (ties : (x y : X) → (R x y ≡ Equal) ↔ (x ≡ y)) where
+  abbrev Ascends : List X → Type 0
+  Ascends = AllPairs (λ x y. R x y ≡ Less)
+
+  -- what is less isn't the same
+  not_itself : (x y : X) → R x y ≡ Less → x ≢ y
+  not_itself x y less e = let tie = (ties x y).1 e in cc
+
+  -- ---- one walk: the next payload x of the one list at a place, and a place of the other before which all are less
+
+  module _ (one other left : List X) (at from place : ℕ) (x : X) (turn : IsTurn R one other at from place x) where
+    -- x is less than what stands behind it
+    later : (l : ℕ) (e : X) → at < l → l < length one → R x (get_or one l e) ≡ Less
+    later l e below inside = subst (λ (y : X). R y (get_or one l e) ≡ Less) (get_or_default one at e x turn.small ∙ sym turn.is) (turn.ascends at l e below inside)
+
+    -- all before the place are less than x
+    before : (k : ℕ) (d : X) → k < place → R (get_or other k d) x ≡ Less
+    before k d low = elim (cases_lt k from) [
+      | inl old ↦ subst (λ (y : X). R (get_or other k d) y ≡ Less) (sym turn.is) (turn.passed k at d x old (omega arith) turn.small)
+      | inr new ↦ turn.less k d new low
+    ]
+
+    -- and than what stands behind x
+    pub passed_more : (k l : ℕ) (d e : X) → k < place → at + 1 ≤ l → l < length one → R (get_or other k d) (get_or one l e) ≡ Less
+    passed_more k l d e low more inside = total.trans (get_or other k d) x (get_or one l e) (before k d low) (later l e (omega (arith, more)) inside)
+
+    -- the other list has x at the place, or nowhere
+    pub there : (place < length other) × (get_or other place x ≡ x) → Contains other x
+    there stands = (place, stands.0, stands.1)
+
+    pub nowhere : ¬ ((place < length other) × (get_or other place x ≡ x)) → ¬ Contains other x
+    nowhere none (k, inside, same) = elim (cases_order k place) [
+      | inl equal ↦ none (omega (arith, equal, inside), subst (λ n. get_or other n x ≡ x) equal same)
+      | inr (inl low) ↦ not_itself (get_or other k x) x (before k x low) same
+      | inr (inr high) ↦ turn.not_less x (omega (arith, high, inside)) (subst (λ (y : X). R (get_or other place x) y ≡ Less) same (turn.others place k x high inside))
+    ]
+
+    next : take (at + 1) one ≡ take at one ++ x ∷ []
+    next = let e : at + 1 ≡ suc at = omega arith in rw e (take-suc one at x turn.small ∙ ap (λ (y : X). take at one ++ y ∷ []) (sym turn.is))
+
+    module _ (so_far : (p : X) → Contains left p ↔ (Contains (take at one) p × ¬ Contains other p)) where
+      -- x is kept
+      pub kept : ¬ Contains other x → (p : X) → Contains (left ++ x ∷ []) p ↔ (Contains (take (at + 1) one) p × ¬ Contains other p)
+      kept none p =
+          rw next (
+            (λ h. elim (Contains-push_cases left x p h) [
+              | inl old ↦ (Contains-append_left (take at one) (x ∷ []) p ((so_far p).0 old).0, ((so_far p).0 old).1)
+              | inr e ↦ subst (λ (q : X). Contains (take at one ++ x ∷ []) q × ¬ Contains other q) e (Contains-push (take at one) x, none)
+            ]),
+            λ h. elim (Contains-push_cases (take at one) x p h.0) [
+              | inl old ↦ Contains-append_left left (x ∷ []) p ((so_far p).1 (old, h.1))
+              | inr e ↦ subst (λ (q : X). Contains (left ++ x ∷ []) q) e (Contains-push left x)
+            ],
+          )
+
+      -- or left out
+      pub dropped : Contains other x → (p : X) → Contains left p ↔ (Contains (take (at + 1) one) p × ¬ Contains other p)
+      dropped has p =
+          rw next (
+            (λ h. (Contains-append_left (take at one) (x ∷ []) p ((so_far p).0 h).0, ((so_far p).0 h).1)),
+            λ h. elim (Contains-push_cases (take at one) x p h.0) [
+              | inl old ↦ (so_far p).1 (old, h.1)
+              | inr e ↦ absurd (h.1 (subst (λ (q : X). Contains other q) e has))
+            ],
+          )
+
+      -- what is kept stands before x
+      pub ascending_more : Ascends left → Ascends (left ++ x ∷ [])
+      ascending_more ordered = all_pairs_push (λ a b. R a b ≡ Less) left x ordered below
+        where
+          earlier : (y : X) → Contains (take at one) y → R y x ≡ Less
+          earlier y (k, inside, same) =
+              let long = length-take-le at one (omega (arith, turn.small)) in
+              let low : k < at = omega (arith, inside, long) in
+              let there = sym (get_or-take at one k y low) ∙ same in
+              subst (λ (z : X). R z x ≡ Less) there (subst (λ (z : X). R (get_or one k y) z ≡ Less) (get_or_default one at y x turn.small ∙ sym turn.is) (turn.ascends k at y low turn.small))
+
+          below : (k : ℕ) (d : X) → k < length left → R (get_or left k d) x ≡ Less
+          below k d inside =
+              let has : Contains left (get_or left k d) = (k, inside, get_or_default left k (get_or left k d) d inside) in
+              let front = ((so_far (get_or left k d)).0 has).0 in earlier (get_or left k d) front

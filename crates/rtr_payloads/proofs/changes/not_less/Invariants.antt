@@ -1,0 +1,14 @@
+-- Up to the place, from the first one on, all are less.
+use Rattle.std.proofs.Common.{length, ◌-◌, ◌≡◌, ◌≤◌, ◌<◌, slice_index_or, ℕ}
+use Rattle.std.specs.declared.cmp.Ordering.TheVariants.{Less}
+use Rattle.roa_origin.specs.Payloads.{Payload}
+use Rattle.rtr_payloads.specs.Tables.{payload_cmp}
+use Rattle.rtr_payloads.proofs.changes.not_less.Given as goal
+
+abbrev pub invariant-loop-at : goal.invariant-loop-at
+invariant-loop-at l =
+    (l.fn.from ≤ l.at) × (l.at ≤ length l.payloads)
+    × ((k : ℕ) (d : Payload) → l.fn.from ≤ k → k < l.at → payload_cmp (slice_index_or l.payloads k d) l.payload ≡ Less)
+
+abbrev pub decreases-loop-at : goal.decreases-loop-at
+decreases-loop-at l = length l.payloads - l.at

@@ -1,0 +1,20 @@
+-- What is sorted and freed of duplicates is in order, and has the payloads of the list.
+use Rattle.rtr_payloads.specs.Tables.{payload_cmp}
+use Rattle.rtr_payloads.proofs.Lists.{ascending, members}
+use Rattle.rtr_payloads.proofs.Orders.{equal_where_the_same, ties, total}
+use Rattle.rtr_payloads.proofs.table.PayloadTable.new.Goals as goal
+
+pub invariant_of-result : goal.invariant_of-result
+invariant_of-result g c =
+    let is_total = total c.total_order.ensures.max_len_total in
+    ascending payload_cmp is_total (ties c.total_order.ensures.max_len_ties is_total) _ (equal_where_the_same c.equal_where_the_same.ensures.max_len) _ _ c.sort_unstable.ensures.sorted c.dedup.ensures.filtered
+
+pub returns : goal.returns
+returns g c =
+    let is_total = total c.total_order.ensures.max_len_total in
+    let same = ties c.total_order.ensures.max_len_ties is_total in
+    let equal = equal_where_the_same c.equal_where_the_same.ensures.max_len in
+    record {
+      ascending = ascending payload_cmp is_total same _ equal _ _ c.sort_unstable.ensures.sorted c.dedup.ensures.filtered;
+      members = members payload_cmp is_total same _ equal _ _ _ (rw c.in_ok-table.ensures at c.sort_unstable.ensures.permutation) c.dedup.ensures.filtered;
+    }

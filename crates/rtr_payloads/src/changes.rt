@@ -1,0 +1,102 @@
+//! What changes from one table of payloads to the next.
+ghost use Rattle.std.specs.Prelude.{◌≡◌, ◌≤◌, ◌<◌, ◌≢◌, ◌↔◌, IsTrue, IfOk, length, slice_index_or};
+ghost use Rattle.std.specs.declared.cmp.Ordering.TheVariants.{Less};
+ghost use Rattle.roa_origin.specs.Payloads.{Payload};
+ghost use Rattle.rtr_payloads.specs.Changes.{AreChanges};
+ghost use Rattle.rtr_payloads.specs.Tables.{IsAscending, IsWithout, payload_cmp};
+
+use crate::table::PayloadTable;
+use rpki_base::Asn;
+use rpki_prefix::MaxLenPrefix;
+use std::alloc::{AllocError, Allocator, Global};
+
+/// What a router is told so that it gets from one table to the next.
+#[derive(Drop)]
+pub struct PayloadChanges<A: Allocator = Global> {
+    /// The payloads that the next table has and the one before it hasn't.
+    pub announced: PayloadTable<A>,
+    /// Those that the table had and the next one hasn't.
+    pub withdrawn: PayloadTable<A>,
+}
+
+impl<A: Allocator> PayloadTable<A> {
+    /// What is announced and what is withdrawn from this table to the next, both ascending (RFC 8210, 5.6 and 8.2). Each
+    /// table is gone through twice. `AllocError` where there is no memory for the two lists.
+    pub fn changes_to(
+        &self,
+        alloc: A,
+        next: &PayloadTable<A>,
+    ) -> Result<PayloadChanges<A>, AllocError>
+    where
+        A: Copy,
+        ensures { IfOk result (AreChanges self.now next.now) }
+    {
+        let announced = without(alloc, next, self)?;
+        let withdrawn = without(alloc, self, next)?;
+        Ok(PayloadChanges {
+            announced,
+            withdrawn,
+        })
+    }
+}
+
+/// The payloads of the one table that the other hasn't.
+fn without<A: Allocator>(
+    alloc: A,
+    one: &PayloadTable<A>,
+    other: &PayloadTable<A>,
+) -> Result<PayloadTable<A>, AllocError>
+    ensures { IfOk result (IsWithout one.now other.now) }
+{
+    let left = left_of(alloc, one.as_slice(), other.as_slice())?;
+    Ok(PayloadTable::of(left))
+}
+
+/// The payloads of the one list that the other hasn't. One walk along both: payloads of the other one that are less than
+/// one payload are less than all behind it.
+fn left_of<A: Allocator>(
+    alloc: A,
+    one: &[(MaxLenPrefix, Asn)],
+    other: &[(MaxLenPrefix, Asn)],
+) -> Result<Vec<(MaxLenPrefix, Asn), A>, AllocError>
+    requires one { IsAscending one.now }
+    requires other { IsAscending other.now }
+    ensures { IfOk result (λ left. IsWithout one.now other.now left.items) }
+{
+    rpki_prefix::laws::total_order(); // so that the proof sees that the order is total
+    let mut left = Vec::new(alloc);
+    let mut at = 0;
+    for payload in one {
+        at = not_less(other, at, payload);
+        if !stands_at(other, at, payload) {
+            left.push(*payload)?;
+        }
+    }
+    Ok(left)
+}
+
+/// The first place from one on at which a list hasn't a payload that is less.
+fn not_less(payloads: &[(MaxLenPrefix, Asn)], from: usize, payload: &(MaxLenPrefix, Asn)) -> usize
+    requires { from ≤ length payloads.now }
+    ensures behind { from ≤ result }
+    ensures within { result ≤ length payloads.now }
+    ensures less { (k : _) (d : Payload) → from ≤ k → k < result
+        → payload_cmp (slice_index_or payloads.now k d) payload.now ≡ Less }
+    ensures not_less { (d : Payload) → result < length payloads.now
+        → payload_cmp (slice_index_or payloads.now result d) payload.now ≢ Less }
+{
+    let mut at = from;
+    while at < payloads.len() && payloads[at].cmp(payload).is_lt() {
+        at += 1;
+    }
+    at
+}
+
+/// Whether the payload stands at a place of a list.
+fn stands_at(payloads: &[(MaxLenPrefix, Asn)], at: usize, payload: &(MaxLenPrefix, Asn)) -> bool
+    ensures { IsTrue result ↔ ((at < length payloads.now)
+        × (slice_index_or payloads.now at payload.now ≡ payload.now)) }
+{
+    rpki_prefix::laws::total_order(); // so that the proof sees that payloads which tie are the same
+    at < payloads.len() && payloads[at].cmp(payload).is_eq()
+}

@@ -29,8 +29,9 @@ type Reading = Option<u8>;
 /// A reader, and the mode of the cursors that it is given.
 type ModalReader = (Mode, Reader);
 
-/// The answer to `altered READER HEX` and `alteredstrict READER HEX`: of the beginnings of these octets, and of the octets with each of the 256 values
-/// at each place, how many are read, and how many are refused by each fault.
+/// The answer to `altered READER HEX` and `alteredstrict READER HEX`: of the proper beginnings of these octets, and apart
+/// from them of the octets with each of the 256 values at each place, how many are read, and how many are refused by each
+/// fault.
 pub fn answer(alloc: Global, mode: Mode, operands: &str) -> Result<String, AllocError> {
     let (name, text) = cut(operands, ' ');
     let Some(reader) = Reader::named(name) else {
@@ -44,16 +45,18 @@ pub fn answer(alloc: Global, mode: Mode, operands: &str) -> Result<String, Alloc
 }
 
 fn count_all(alloc: Global, reader: ModalReader, octets: &mut [u8]) -> Result<String, AllocError> {
-    let mut counts = [0; 16];
+    let mut beginnings = [0; 16];
+    let mut replaced = [0; 16];
     for at in 0..octets.len() {
-        if !count_place(alloc, reader, octets, at, &mut counts)? {
+        let is_right = count(alloc, reader, &octets[..at], &mut beginnings)?;
+        if !is_right || !count_place(alloc, reader, octets, at, &mut replaced)? {
             return format!(in alloc; "wrong at {at}");
         }
     }
-    text(alloc, &counts)
+    text(alloc, &beginnings, &replaced)
 }
 
-/// Counts the readings of what stands before a place, and with each octet at it. False where one of them is wrong.
+/// Counts the readings of octets with each octet at a place. False where one of them is wrong.
 fn count_place(
     alloc: Global,
     reader: ModalReader,
@@ -63,7 +66,7 @@ fn count_place(
 ) -> Result<bool, AllocError>
     requires { at < length octets.old }
 {
-    let mut is_right = count(alloc, reader, &octets[..at], counts)?;
+    let mut is_right = true;
     let kept = octets[at];
     for octet in 0..=255 {
         octets[at] = octet;
@@ -201,13 +204,21 @@ fn same(is_same: bool) -> Reading {
     if is_same { Some(0) } else { None }
 }
 
-fn text(alloc: Global, counts: &Counts) -> Result<String, AllocError> {
-    let read = counts[0];
-    let mut text = format!(in alloc; "read {read}")?;
-    for number in 1..counts.len() {
-        append(&mut text, number, counts[number])?;
-    }
+fn text(alloc: Global, beginnings: &Counts, replaced: &Counts) -> Result<String, AllocError> {
+    let mut text = String::from_str(alloc, "cut: ")?;
+    append_all(&mut text, beginnings)?;
+    write!(text, "; replaced: ")?;
+    append_all(&mut text, replaced)?;
     Ok(text)
+}
+
+fn append_all(text: &mut String, counts: &Counts) -> Result<(), AllocError> {
+    let read = counts[0];
+    write!(text, "read {read}")?;
+    for number in 1..counts.len() {
+        append(text, number, counts[number])?;
+    }
+    Ok(())
 }
 
 /// Appends how often a fault was met, where it was.

@@ -1,0 +1,5 @@
+pub mod EncodingLemmas
+pub mod EndLemmas
+pub mod IssuedLemmas
+pub mod PathLemmas
+pub mod WrittenLemmas

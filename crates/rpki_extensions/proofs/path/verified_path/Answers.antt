@@ -1,0 +1,32 @@
+use Rattle.std.proofs.Common.{arith, get_or, None, subst, sym}
+use Rattle.std.proofs.lemmas.List.{take_all}
+use Rattle.rpki_extensions.specs.Paths.{IsVerifiedPath}
+use Rattle.rpki_extensions.proofs.PathLemmas.{path-inside, path-more, same-place}
+use Rattle.rpki_chain.specs.declared.path.Overclaim.TheVariants.{Refuse}
+use Rattle.rpki_extensions.specs.declared.encoding.Encoding.TheVariants.{Any}
+use Rattle.rpki_extensions.specs.declared.extensions.Extensions.{Extensions}
+use Rattle.rpki_extensions.proofs.path.verified_path.Goals as goal
+
+pub returns-clause-path : goal.returns-clause-path
+returns-clause-path g c =
+    subst (λ cs. IsVerifiedPath c.args.anchor.now cs c.loop-at.issuer) (take_all c.loop-at.at c.args.certificates.now (omega (arith, c.loop-at-test.false))) c.loop-at.invariant
+
+pub returns-clause-inside : goal.returns-clause-inside
+returns-clause-inside g c =
+    path-inside c.args.certificates.now c.args.anchor.now c.loop-at.issuer
+    (subst (λ cs. IsVerifiedPath c.args.anchor.now cs c.loop-at.issuer) (take_all c.loop-at.at c.args.certificates.now (omega (arith, c.loop-at-test.false))) c.loop-at.invariant)
+
+-- what a place behind the end would have
+abbrev nothing : Extensions
+nothing = record { numbers = None; addresses = None; encoding = Any; mode = Refuse }
+
+pub loop-at-preserved : goal.loop-at-preserved
+loop-at-preserved g c =
+    path-more c.args.certificates.now c.loop-at.at c.args.anchor.now c.loop-at.issuer c.in-Ok.set (get_or c.args.certificates.now c.loop-at.at nothing) c.loop-at-test.true
+    (same-place c.args.certificates.now c.loop-at.at nothing c.loop-at-test.true) c.loop-at.invariant c.in-Ok.ensures.verified
+
+pub returns-in-Err-Refused-clause-path : goal.returns-in-Err-Refused-clause-path
+returns-in-Err-Refused-clause-path g c =
+    let told = rw c.in-Err-Refused.field-0-is at c.in-Err-Refused.ensures.verified in
+    rw c.in-Err-Refused.reason-is
+    (get_or c.args.certificates.now c.loop-at.at nothing, c.loop-at-test.true, sym (same-place c.args.certificates.now c.loop-at.at nothing c.loop-at-test.true), (c.loop-at.issuer, c.loop-at.invariant, told))

@@ -1,0 +1,28 @@
+-- The resources of a trust anchor, which nobody issued (RFC 6487, 4.8.10 and 4.8.11; RFC 8630, 2.3).
+use Rattle.std.specs.Prelude.{◌⊎◌}
+use Rattle.rpki_chain.specs.Claims.{Claim}
+use Rattle.rpki_resources.specs.Triples.{AreListed, IsOneInherited, Triple}
+use Rattle.rpki_extensions.specs.Claims.{AreClaims, AreNoClaims}
+use Rattle.rpki_extensions.specs.declared.error.Unverified.{Unverified}
+use Rattle.rpki_extensions.specs.declared.error.Unverified.TheVariants.{Absent, AsOctets, AddressOctets, Inherited, Asn, Ipv4, Ipv6}
+use Rattle.rpki_extensions.specs.declared.extensions.Extensions.{Extensions}
+
+-- the extensions list the set
+abbrev pub IsAnchorSet : Extensions → Triple → Type 0
+IsAnchorSet certificate set =
+    (asn : Claim) × (v4 : Claim) × (v6 : Claim) × AreClaims certificate asn v4 v6 × AreListed asn v4 v6 set
+
+-- the extensions inherit some resources, and this is the reason
+abbrev pub InheritsSome : {A : Type 0} → Extensions → Unverified A → Type 0
+InheritsSome certificate Inherited =
+    (asn : Claim) × (v4 : Claim) × (v6 : Claim) × AreClaims certificate asn v4 v6 × IsOneInherited asn v4 v6
+InheritsSome certificate Absent = ⊥
+InheritsSome certificate (AsOctets fault) = ⊥
+InheritsSome certificate (AddressOctets fault) = ⊥
+InheritsSome certificate (Asn excess) = ⊥
+InheritsSome certificate (Ipv4 excess) = ⊥
+InheritsSome certificate (Ipv6 excess) = ⊥
+
+-- for the reason there are no claims, or some are inherited
+abbrev pub IsNoAnchor : {A : Type 0} → Extensions → Unverified A → Type 0
+IsNoAnchor certificate reason = AreNoClaims certificate reason ⊎ InheritsSome certificate reason

@@ -1,0 +1,74 @@
+-- What a certificate's extensions claim, where either may be absent (RFC 6487, 4.8.10 and 4.8.11; RFC 9582, 5).
+use Rattle.std.specs.Prelude.{◌≡◌, ◌≢◌, ℕ, List, Option, Some, None, option_map}
+use Rattle.rpki_der.specs.declared.error.DerError.{DerError}
+use Rattle.rpki_chain.specs.Claims.{Claim}
+use Rattle.rpki_chain.specs.declared.choice.ResourcesChoice.TheVariants.{Missing}
+use Rattle.rpki_claims.specs.Families.{ByFamily}
+use Rattle.rpki_extensions.specs.Encodings.{HasAddressFault, HasAsFault, IsAddressValue, IsAsValue}
+use Rattle.rpki_extensions.specs.declared.encoding.Encoding.{Encoding}
+use Rattle.rpki_extensions.specs.declared.error.Unverified.{Unverified}
+use Rattle.rpki_extensions.specs.declared.error.Unverified.TheVariants.{Absent, AsOctets, AddressOctets, Inherited, Asn, Ipv4, Ipv6}
+use Rattle.rpki_extensions.specs.declared.extensions.Extensions.{Extensions}
+
+-- the claim of a family, missing where the family isn't there
+abbrev pub claim_or_missing : Option Claim → Claim
+claim_or_missing None = Missing
+claim_or_missing (Some claim) = claim
+
+-- the claims are those of octets on IPv4 and on IPv6
+abbrev pub AreClaimed : Encoding → List ℕ → Claim × Claim → Type 0
+AreClaimed encoding octets claims = (families : ByFamily Claim) × IsAddressValue encoding octets families × (claims ≡ (claim_or_missing families.0, claim_or_missing families.1))
+
+-- ---- an extension that may be absent
+
+-- what is claimed of AS numbers
+abbrev pub IsNumbersClaim : Encoding → Option (List ℕ) → Claim → Type 0
+IsNumbersClaim encoding None claim = claim ≡ Missing
+IsNumbersClaim encoding (Some octets) claim = IsAsValue encoding octets claim
+
+-- what is there is no claim, and this is the first fault
+abbrev pub HasNumbersFault : Encoding → Option (List ℕ) → DerError → Type 0
+HasNumbersFault encoding None fault = ⊥
+HasNumbersFault encoding (Some octets) fault = HasAsFault encoding octets fault
+
+-- what is claimed of addresses
+abbrev pub AreAddressClaims : Encoding → Option (List ℕ) → Claim × Claim → Type 0
+AreAddressClaims encoding None claims = claims ≡ (Missing, Missing)
+AreAddressClaims encoding (Some octets) claims = AreClaimed encoding octets claims
+
+abbrev pub HasAddressesFault : Encoding → Option (List ℕ) → DerError → Type 0
+HasAddressesFault encoding None fault = ⊥
+HasAddressesFault encoding (Some octets) fault = HasAddressFault encoding octets fault
+
+-- ---- both of them
+
+-- the octets of AS identifiers and of IP address blocks
+abbrev pub numbers_of : Extensions → Option (List ℕ)
+numbers_of certificate = option_map (λ octets. octets.now) certificate.numbers
+
+abbrev pub addresses_of : Extensions → Option (List ℕ)
+addresses_of certificate = option_map (λ octets. octets.now) certificate.addresses
+
+-- neither is there
+abbrev pub AreAbsent : Extensions → Type 0
+AreAbsent certificate = (numbers_of certificate ≡ None) × (addresses_of certificate ≡ None)
+
+-- one at least is there, and these are the claims on AS numbers, IPv4 and IPv6
+abbrev pub AreClaims : Extensions → Claim → Claim → Claim → Type 0
+AreClaims certificate asn v4 v6 =
+    (¬ AreAbsent certificate)
+    × IsNumbersClaim certificate.encoding (numbers_of certificate) asn
+    × AreAddressClaims certificate.encoding (addresses_of certificate) (v4, v6)
+
+-- for the reason there are no claims: neither extension is there, or the AS identifiers are none, or else the IP address
+-- blocks
+abbrev pub AreNoClaims : {A : Type 0} → Extensions → Unverified A → Type 0
+AreNoClaims certificate Absent = AreAbsent certificate
+AreNoClaims certificate (AsOctets fault) = HasNumbersFault certificate.encoding (numbers_of certificate) fault
+AreNoClaims certificate (AddressOctets fault) =
+    ((asn : Claim) × IsNumbersClaim certificate.encoding (numbers_of certificate) asn)
+    × HasAddressesFault certificate.encoding (addresses_of certificate) fault
+AreNoClaims certificate Inherited = ⊥
+AreNoClaims certificate (Asn excess) = ⊥
+AreNoClaims certificate (Ipv4 excess) = ⊥
+AreNoClaims certificate (Ipv6 excess) = ⊥

@@ -1,0 +1,69 @@
+//! What a certificate says of resources, and what it claims by that.
+ghost use Rattle.std.specs.Prelude.{IfOk, MatchResult};
+ghost use Rattle.rpki_text.specs.Memory.{IfRefused};
+ghost use Rattle.rpki_ipres.specs.Resources.{IsWholeClaim};
+ghost use Rattle.rpki_extensions.specs.Claims.{AreClaims, AreNoClaims};
+
+use crate::encoding::Encoding;
+use crate::error::Unverified;
+use crate::read::{address_claims, numbers_claim};
+use rpki_resources::OrMemory;
+use rpki_resources::repository::resources::{AsResources, IpResources, Overclaim};
+use std::alloc::{Allocator, Global};
+
+/// The values of a certificate's two extensions, and how they are read.
+#[derive(Clone, Copy, Debug)]
+pub struct Extensions<'a> {
+    /// The octets of AS identifiers (RFC 3779, 3.2.3), or None where that extension is absent.
+    pub numbers: Option<&'a [u8]>,
+    /// The octets of IP address blocks (RFC 3779, 2.2.3), or None where that extension is absent.
+    pub addresses: Option<&'a [u8]>,
+    /// Which octets are read.
+    pub encoding: Encoding,
+    /// What becomes of a claim that lists too much, as the certificate's policy says (RFC 8360, 4).
+    pub mode: Overclaim,
+}
+
+/// What a certificate claims: missing, inherited or listed resources of each kind.
+#[derive(Drop)]
+pub struct Claims<A: Allocator = Global> {
+    /// AS numbers.
+    pub asn: AsResources<A>,
+    /// IPv4 addresses.
+    pub ipv4: IpResources<A>,
+    /// IPv6 addresses.
+    pub ipv6: IpResources<A>,
+}
+
+impl Extensions<'_> {
+    /// What the certificate claims; missing resources where an extension is absent, and of a family that isn't there.
+    /// `Refused` where both extensions are absent, and else with the first fault of AS identifiers, or else of IP
+    /// address blocks; `Memory` where there is no memory for the claims.
+    pub fn claims<A: Allocator + Copy>(
+        &self,
+        alloc: A,
+    ) -> Result<Claims<A>, OrMemory<Unverified<A>>>
+        ensures claims { MatchResult result
+            (λ claims. AreClaims self.now claims.asn claims.ipv4 claims.ipv6)
+            (IfRefused (AreNoClaims self.now)) }
+        ensures whole { IfOk result (λ claims. IsWholeClaim claims.ipv4) }
+    {
+        if self.numbers.is_none() && self.addresses.is_none() {
+            return Err(OrMemory::Refused(Unverified::Absent));
+        }
+        let asn = match numbers_claim(alloc, self.numbers, self.encoding) {
+            Ok(claim) => claim,
+            Err(OrMemory::Refused(fault)) => {
+                return Err(OrMemory::Refused(Unverified::AsOctets(fault)));
+            }
+            Err(OrMemory::Memory(error)) => return Err(OrMemory::Memory(error)),
+        };
+        match address_claims(alloc, self.addresses, self.encoding) {
+            Ok((ipv4, ipv6)) => Ok(Claims { asn, ipv4, ipv6 }),
+            Err(OrMemory::Refused(fault)) => {
+                Err(OrMemory::Refused(Unverified::AddressOctets(fault)))
+            }
+            Err(OrMemory::Memory(error)) => Err(OrMemory::Memory(error)),
+        }
+    }
+}

@@ -1,0 +1,124 @@
+//! A certificate's extensions, held against what its issuer has.
+ghost use Rattle.std.specs.Prelude.{IfOk, MatchResult};
+ghost use Rattle.rpki_text.specs.Memory.{IfRefused};
+ghost use Rattle.rpki_chain.specs.Paths.{IsIssued};
+ghost use Rattle.rpki_chain.specs.Runs.{Holds};
+ghost use Rattle.rpki_ipres.specs.Resources.{IsWholeClaim};
+ghost use Rattle.rpki_resources.specs.Triples.{HasEachOf};
+ghost use Rattle.rpki_extensions.specs.Issued.{AreIssued, AreNotIssued, IsAsExcess, IsIssuedOfEach};
+ghost use Rattle.rpki_extensions.specs.Issued.{IsNotIssuedOfEach, IsUnverified, IsV4Excess, IsV6Excess, IsVerified};
+
+use crate::error::Unverified;
+use crate::extensions::{Claims, Extensions};
+use rpki_resources::OrMemory;
+use rpki_resources::repository::resources::{
+    AsBlocks, AsResources, IpResources, Ipv4Blocks, Ipv6Blocks, Overclaim, ResourceSet,
+};
+use std::alloc::Allocator;
+
+/// The resources of a certificate: what its extensions claim of the resources of its issuer, nothing of an extension
+/// or a family that isn't there. `Refused` where there are no claims, as by [`Extensions::claims`], and else with
+/// what the issuer hasn't, of AS numbers before IPv4 and IPv4 before IPv6; [`Overclaim::Trim`] leaves no excess.
+/// `Memory` where there is no memory for a set.
+pub fn verified_octets<A: Allocator + Copy>(
+    alloc: A,
+    issuer: &ResourceSet<A>,
+    certificate: &Extensions<'_>,
+) -> Result<ResourceSet<A>, OrMemory<Unverified<A>>>
+    ensures verified { MatchResult result (IsVerified issuer.now certificate.now)
+        (IfRefused (IsUnverified issuer.now certificate.now)) }
+    ensures inside { IfOk result (HasEachOf issuer.now) }
+{
+    match certificate.claims(alloc) {
+        Ok(claims) => issued(alloc, issuer, &claims, certificate.mode),
+        Err(error) => Err(error),
+    }
+}
+
+/// What the claims of a certificate leave of an issuer's resources.
+fn issued<A: Allocator + Copy>(
+    alloc: A,
+    issuer: &ResourceSet<A>,
+    claims: &Claims<A>,
+    mode: Overclaim,
+) -> Result<ResourceSet<A>, OrMemory<Unverified<A>>>
+    requires { IsWholeClaim claims.now.ipv4 }
+    ensures { MatchResult result
+        (IsIssuedOfEach issuer.now claims.now.asn claims.now.ipv4 claims.now.ipv6 mode)
+        (IfRefused
+        (IsNotIssuedOfEach issuer.now claims.now.asn claims.now.ipv4 claims.now.ipv6 mode)) }
+{
+    let asn = issued_numbers(alloc, issuer.asn(), &claims.asn, mode)?;
+    let (ipv4, ipv6) = issued_addresses(alloc, issuer, &claims.ipv4, &claims.ipv6, mode)?;
+    Ok(ResourceSet::new(asn, ipv4, ipv6))
+}
+
+/// What a claim leaves of an issuer's AS numbers.
+fn issued_numbers<A: Allocator + Copy>(
+    alloc: A,
+    issuer: &AsBlocks<A>,
+    claim: &AsResources<A>,
+    mode: Overclaim,
+) -> Result<AsBlocks<A>, OrMemory<Unverified<A>>>
+    ensures { MatchResult result (IsIssued (Holds issuer.now) claim.now mode)
+        (IfRefused (IsAsExcess issuer.now claim.now mode)) }
+{
+    match issuer.verify_issued(alloc, claim, mode) {
+        Ok(set) => Ok(set),
+        Err(OrMemory::Refused(excess)) => Err(OrMemory::Refused(Unverified::Asn(excess))),
+        Err(OrMemory::Memory(error)) => Err(OrMemory::Memory(error)),
+    }
+}
+
+/// What the claims on both families leave of an issuer's addresses.
+fn issued_addresses<A: Allocator + Copy>(
+    alloc: A,
+    issuer: &ResourceSet<A>,
+    v4: &IpResources<A>,
+    v6: &IpResources<A>,
+    mode: Overclaim,
+) -> Result<(Ipv4Blocks<A>, Ipv6Blocks<A>), OrMemory<Unverified<A>>>
+    requires { IsWholeClaim v4.now }
+    ensures { MatchResult result (AreIssued issuer.now v4.now v6.now mode)
+        (IfRefused (AreNotIssued issuer.now v4.now v6.now mode)) }
+{
+    let ipv4 = issued_v4(alloc, issuer.ipv4(), v4, mode)?;
+    let ipv6 = issued_v6(alloc, issuer.ipv6(), v6, mode)?;
+    Ok((ipv4, ipv6))
+}
+
+/// What a claim leaves of an issuer's IPv4 addresses.
+fn issued_v4<A: Allocator + Copy>(
+    alloc: A,
+    issuer: &Ipv4Blocks<A>,
+    claim: &IpResources<A>,
+    mode: Overclaim,
+) -> Result<Ipv4Blocks<A>, OrMemory<Unverified<A>>>
+    requires { IsWholeClaim claim.now }
+    ensures { MatchResult result (IsIssued (Holds issuer.now) claim.now mode)
+        (IfRefused (IsV4Excess issuer.now claim.now mode)) }
+{
+    rpki_ipres::laws::laws_of_whole_claims(); // so that the proof sees that the answer consists of whole addresses
+    match issuer.ip_blocks().verify_issued(alloc, claim, mode) {
+        Ok(set) => Ok(Ipv4Blocks::from_ip_blocks(set)),
+        Err(OrMemory::Refused(excess)) => Err(OrMemory::Refused(Unverified::Ipv4(excess.v4()))),
+        Err(OrMemory::Memory(error)) => Err(OrMemory::Memory(error)),
+    }
+}
+
+/// What a claim leaves of an issuer's IPv6 addresses.
+fn issued_v6<A: Allocator + Copy>(
+    alloc: A,
+    issuer: &Ipv6Blocks<A>,
+    claim: &IpResources<A>,
+    mode: Overclaim,
+) -> Result<Ipv6Blocks<A>, OrMemory<Unverified<A>>>
+    ensures { MatchResult result (IsIssued (Holds issuer.now) claim.now mode)
+        (IfRefused (IsV6Excess issuer.now claim.now mode)) }
+{
+    match issuer.ip_blocks().verify_issued(alloc, claim, mode) {
+        Ok(set) => Ok(Ipv6Blocks::from_ip_blocks(set)),
+        Err(OrMemory::Refused(excess)) => Err(OrMemory::Refused(Unverified::Ipv6(excess.v6()))),
+        Err(OrMemory::Memory(error)) => Err(OrMemory::Memory(error)),
+    }
+}

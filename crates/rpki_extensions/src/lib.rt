@@ -1,0 +1,25 @@
+//! What a certificate's two extensions of RFC 3779 say of resources (RFC 6487, 4.8.10 and 4.8.11): read, held against
+//! what an issuer has, followed down a path from a trust anchor, and written. Either extension may be absent; a
+//! certificate with neither is refused.
+//!
+//! An end-entity certificate of a route origin authorization has addresses alone:
+//!
+//! ```rust
+//! let certificate = Extensions {
+//!     numbers: None,
+//!     addresses: Some(octets),
+//!     encoding: Encoding::Canonical,
+//!     mode: Overclaim::Refuse,
+//! };
+//! let set = verified_octets(alloc, issuer, &certificate)?;
+//! ```
+#![tactic(auto)]
+
+pub mod anchor;
+pub mod encoding;
+pub mod error;
+pub mod extensions;
+pub mod issued;
+pub mod path;
+pub mod read;
+pub mod write;

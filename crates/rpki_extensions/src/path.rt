@@ -1,0 +1,37 @@
+//! A path of certificates, from the resources of a trust anchor down.
+ghost use Rattle.std.specs.Prelude.{IfOk, MatchResult};
+ghost use Rattle.rpki_text.specs.Memory.{IfRefused};
+ghost use Rattle.rpki_resources.specs.Triples.{HasEachOf};
+ghost use Rattle.rpki_extensions.specs.Paths.{IsFirstUnverified, IsVerifiedPath};
+
+use crate::error::UnverifiedCertificate;
+use crate::extensions::Extensions;
+use crate::issued::verified_octets;
+use rpki_resources::OrMemory;
+use rpki_resources::repository::resources::ResourceSet;
+use std::alloc::Allocator;
+
+/// What the certificates on a path leave of the resources of a trust anchor: each is verified by what the ones before
+/// it leave, the first by the anchor's. `Refused` with the place of the first that isn't verified, counted from 0,
+/// and the reason; `Memory` where there is no memory for a set on the way.
+pub fn verified_path<A: Allocator + Copy>(
+    alloc: A,
+    anchor: &ResourceSet<A>,
+    certificates: &[Extensions<'_>],
+) -> Result<ResourceSet<A>, OrMemory<UnverifiedCertificate<A>>>
+    ensures path { MatchResult result (IsVerifiedPath anchor.now certificates.now)
+        (IfRefused (IsFirstUnverified anchor.now certificates.now)) }
+    ensures inside { IfOk result (HasEachOf anchor.now) }
+{
+    let mut issuer = anchor.clone()?;
+    for (at, certificate) in certificates.iter().enumerate() {
+        match verified_octets(alloc, &issuer, certificate) {
+            Ok(set) => issuer = set,
+            Err(OrMemory::Refused(reason)) => {
+                return Err(OrMemory::Refused(UnverifiedCertificate { step: at, reason }));
+            }
+            Err(OrMemory::Memory(error)) => return Err(OrMemory::Memory(error)),
+        }
+    }
+    Ok(issuer)
+}

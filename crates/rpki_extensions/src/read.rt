@@ -1,0 +1,122 @@
+//! The value of each extension, read.
+ghost use Rattle.std.specs.Prelude.{◌≡◌, IfOk, IfSome, MatchResult, option_map};
+ghost use Rattle.rpki_text.specs.Memory.{IfRefused};
+ghost use Rattle.rpki_ipres.specs.Resources.{IsWholeClaim};
+ghost use Rattle.rpki_extensions.specs.Claims.{AreAddressClaims, AreClaimed, HasAddressesFault, HasNumbersFault};
+ghost use Rattle.rpki_extensions.specs.Claims.{IsNumbersClaim, claim_or_missing};
+ghost use Rattle.rpki_extensions.specs.Encodings.{HasAddressFault, HasAsFault, IsAddressValue, IsAsValue};
+
+use crate::encoding::Encoding;
+use rpki_der::DerError;
+use rpki_resources::OrMemory;
+use rpki_resources::repository::resources::{AsResources, IpResources};
+use std::alloc::Allocator;
+
+/// The AS resources that octets are, all of them: the value of the extension of RFC 3779, 3.2. `Refused` with the first
+/// fault where they are none, `Memory` where there is no memory for them.
+pub fn read_as<A: Allocator + Copy>(
+    alloc: A,
+    octets: &[u8],
+    encoding: Encoding,
+) -> Result<AsResources<A>, OrMemory<DerError>>
+    ensures { MatchResult result (IsAsValue encoding octets.now)
+        (IfRefused (HasAsFault encoding octets.now)) }
+{
+    rpki_as::der::laws::written_resources(); // so that the proof sees that octets begin with one claim at most
+    let mut cursor = encoding.cursor(octets);
+    let resources = AsResources::take_from(alloc, &mut cursor)?;
+    cursor.finish()?;
+    Ok(resources)
+}
+
+/// The resources of IPv4 and of IPv6 that octets are, all of them, and None where a family isn't there: the value of
+/// the extension of RFC 3779, 2.2. `Refused` and `Memory` as in [`read_as`].
+pub fn read_families<A: Allocator + Copy>(
+    alloc: A,
+    octets: &[u8],
+    encoding: Encoding,
+) -> Result<(Option<IpResources<A>>, Option<IpResources<A>>), OrMemory<DerError>>
+    ensures claims { MatchResult result (IsAddressValue encoding octets.now)
+        (IfRefused (HasAddressFault encoding octets.now)) }
+    ensures whole { IfOk result (λ found. IfSome found.0 IsWholeClaim) }
+{
+    rpki_ipres::der::laws::one_value(); // so that the proof sees that octets begin with one list of families at most
+    let mut cursor = encoding.cursor(octets);
+    let families = IpResources::take_families_from(alloc, &mut cursor)?;
+    cursor.finish()?;
+    Ok(families)
+}
+
+/// The claims that octets of IP address blocks are, missing ones of a family that isn't there. `Refused` with the first
+/// fault where they are none, `Memory` where there is no memory for them.
+pub fn read_claims<A: Allocator + Copy>(
+    alloc: A,
+    octets: &[u8],
+    encoding: Encoding,
+) -> Result<(IpResources<A>, IpResources<A>), OrMemory<DerError>>
+    ensures claims { MatchResult result (AreClaimed encoding octets.now)
+        (IfRefused (HasAddressFault encoding octets.now)) }
+    ensures whole { IfOk result (λ claims. IsWholeClaim claims.0) }
+{
+    match read_families(alloc, octets, encoding) {
+        Ok(found) => Ok(each_or_missing(found)),
+        Err(error) => Err(error),
+    }
+}
+
+/// The claim of the extension of AS identifiers, a missing one where it is absent. `Refused` and `Memory` as in
+/// [`read_as`].
+pub fn numbers_claim<A: Allocator + Copy>(
+    alloc: A,
+    octets: Option<&[u8]>,
+    encoding: Encoding,
+) -> Result<AsResources<A>, OrMemory<DerError>>
+    ensures { MatchResult result
+        (IsNumbersClaim encoding (option_map (λ octets. octets.now) octets.entry))
+        (IfRefused (HasNumbersFault encoding (option_map (λ octets. octets.now) octets.entry))) }
+{
+    match octets {
+        None => Ok(AsResources::missing()),
+        Some(octets) => read_as(alloc, octets, encoding),
+    }
+}
+
+/// The claims of the extension of IP address blocks on IPv4 and on IPv6, missing ones where it is absent. `Refused` and
+/// `Memory` as in [`read_claims`].
+pub fn address_claims<A: Allocator + Copy>(
+    alloc: A,
+    octets: Option<&[u8]>,
+    encoding: Encoding,
+) -> Result<(IpResources<A>, IpResources<A>), OrMemory<DerError>>
+    ensures claims { MatchResult result
+        (AreAddressClaims encoding (option_map (λ octets. octets.now) octets.entry))
+        (IfRefused (HasAddressesFault encoding (option_map (λ octets. octets.now) octets.entry))) }
+    ensures whole { IfOk result (λ claims. IsWholeClaim claims.0) }
+{
+    match octets {
+        None => Ok((IpResources::missing(), IpResources::missing())),
+        Some(octets) => read_claims(alloc, octets, encoding),
+    }
+}
+
+/// What each family claims, missing where it isn't there.
+fn each_or_missing<A: Allocator>(
+    found: (Option<IpResources<A>>, Option<IpResources<A>>),
+) -> (IpResources<A>, IpResources<A>)
+    ensures value { result ≡ (claim_or_missing found.0, claim_or_missing found.1) }
+    ensures whole { IfSome found.0 IsWholeClaim → IsWholeClaim result.0 }
+{
+    let (v4, v6) = found;
+    (or_missing(v4), or_missing(v6))
+}
+
+/// The resources of a family, missing ones where it isn't there.
+fn or_missing<A: Allocator>(found: Option<IpResources<A>>) -> IpResources<A>
+    ensures value { result ≡ claim_or_missing found }
+    ensures whole { IfSome found IsWholeClaim → IsWholeClaim result }
+{
+    match found {
+        Some(resources) => resources,
+        None => IpResources::missing(),
+    }
+}

@@ -1,0 +1,3 @@
+pub mod AskLemmas
+pub mod EncodingLemmas
+pub mod ReadLemmas

@@ -1,0 +1,26 @@
+-- What a take at the front of octets, and then their end, tell of all of them.
+use Rattle.std.proofs.Common.{arith, ◌≡◌, ◌≢◌, ℕ, length, List, [], ◌∷◌, MatchResult, IsErr, Result, Ok, Err, refl, sym, subst}
+use Rattle.std.proofs.lemmas.Bool.{ne_eqb}
+use Rattle.rpki_der.specs.Reading.{ended}
+use Rattle.rpki_der.specs.declared.error.DerError.{DerError}
+use Rattle.rpki_text.specs.Memory.{IfRefused}
+use Rattle.rpki_text.specs.declared.memory.OrMemory.{OrMemory}
+use Rattle.std.specs.Result.{IsErrAnd}
+
+-- the end was seen
+pub nothing_left : (octets : List ℕ) (u : Unit {0}) → ended octets ≡ Ok u → octets ≡ []
+nothing_left [] u e = refl
+nothing_left (octet ∷ octets) u e =
+    let no = ne_eqb (length (octet ∷ octets)) 0 (λ z. omega (arith, z)) in
+    let never = rw no at e in cc
+
+-- or octets that are left
+pub something_left : (octets : List ℕ) (fault : DerError) → ended octets ≡ Err fault → octets ≢ []
+something_left [] fault e = cc
+something_left (octet ∷ octets) fault e = λ n. cc
+
+-- what is passed on is said of the answer
+pub passed_on : {X E : Type 0} (Q : X → Type 0) (P : E → Type 0) (e : OrMemory E) (answer : Result X (OrMemory E))
+    → IsErr answer × IsErrAnd answer (λ (f : OrMemory E). f ≡ e) → IfRefused P e → MatchResult answer Q (IfRefused P)
+passed_on Q P e (Err f) passed h = subst (IfRefused P) (sym passed.1) h
+passed_on Q P e (Ok x) passed h = let never = passed.0 in cc

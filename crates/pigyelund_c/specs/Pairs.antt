@@ -1,0 +1,54 @@
+-- Two sets of resources that cross as octets, and what is asked of both.
+use Rattle.std.specs.Prelude.{◌≡◌, ◌≢◌, ◌⊎◌, ◌↔◌, ℕ, Bool, List, IsTrue}
+use Rattle.rpki_resources.specs.Triples.{IsDifferenceOf, IsIntersectionOf, IsUnionOf, Triple}
+use Rattle.pigyelund_c.specs.Encodings.{encoding_number}
+use Rattle.pigyelund_c.specs.Sets.{IsNoSet, IsSet}
+use Rattle.pigyelund_c.specs.declared.encodings.Encoding.{Encoding}
+use Rattle.pigyelund_c.specs.declared.operations.Operation.{Operation}
+use Rattle.pigyelund_c.specs.declared.operations.Operation.TheVariants.{Union, Intersection, Difference}
+use Rattle.pigyelund_c.specs.declared.pair.Pair.{Pair}
+use Rattle.pigyelund_c.specs.declared.pair.Unpaired.{Unpaired}
+use Rattle.pigyelund_c.specs.declared.pair.Unpaired.TheVariants.{NoEncoding, First, Second}
+
+-- ---- read
+
+-- the two sets are what octets list
+abbrev pub AreTwo : Encoding → List ℕ → List ℕ → List ℕ → List ℕ → Pair → Type 0
+AreTwo encoding a_as a_ip b_as b_ip pair = IsSet encoding a_as a_ip pair.first × IsSet encoding b_as b_ip pair.second
+
+-- the first octets list no set, or else the second
+abbrev pub AreNotTwo : Encoding → List ℕ → List ℕ → List ℕ → List ℕ → Unpaired → Type 0
+AreNotTwo encoding a_as a_ip b_as b_ip NoEncoding = ⊥
+AreNotTwo encoding a_as a_ip b_as b_ip (First reason) = IsNoSet encoding a_as a_ip reason
+AreNotTwo encoding a_as a_ip b_as b_ip (Second reason) = ((a : Triple) × IsSet encoding a_as a_ip a) × IsNoSet encoding b_as b_ip reason
+
+-- so by the number of an encoding
+abbrev pub AreRead : List ℕ → List ℕ → List ℕ → List ℕ → ℕ → Pair → Type 0
+AreRead a_as a_ip b_as b_ip encoding pair = (way : Encoding) × (encoding ≡ encoding_number way) × AreTwo way a_as a_ip b_as b_ip pair
+
+-- the number is none, or there is such a reason
+abbrev pub AreNotRead : List ℕ → List ℕ → List ℕ → List ℕ → ℕ → Unpaired → Type 0
+AreNotRead a_as a_ip b_as b_ip encoding reason =
+    ((reason ≡ NoEncoding) × ((e : Encoding) → encoding ≢ encoding_number e))
+    ⊎ ((way : Encoding) × (encoding ≡ encoding_number way) × AreNotTwo way a_as a_ip b_as b_ip reason)
+
+-- ---- asked
+
+-- how the set that an operation makes stands to the two
+abbrev pub IsBy : Operation → Triple → Triple → Triple → Type 0
+IsBy Union = IsUnionOf
+IsBy Intersection = IsIntersectionOf
+IsBy Difference = IsDifferenceOf
+
+-- the set stands in R to the two that were read
+abbrev pub IsMade : (Triple → Triple → Triple → Type 0) → List ℕ → List ℕ → List ℕ → List ℕ → ℕ → Triple → Type 0
+IsMade R a_as a_ip b_as b_ip encoding set = (pair : Pair) × AreRead a_as a_ip b_as b_ip encoding pair × R pair.first pair.second set
+
+-- the answer is yes exactly where R holds of the two that were read
+abbrev pub IsTested : (Triple → Triple → Type 0) → List ℕ → List ℕ → List ℕ → List ℕ → ℕ → Bool → Type 0
+IsTested R a_as a_ip b_as b_ip encoding answer =
+    (pair : Pair) × AreRead a_as a_ip b_as b_ip encoding pair × (IsTrue answer ↔ R pair.first pair.second)
+
+-- both are the same set
+abbrev pub AreSame : Triple → Triple → Type 0
+AreSame a b = a ≡ b

@@ -1,0 +1,24 @@
+//! The calls for C, and for what calls C: octets in, octets and a status out. `foreign/pigyelund.h` says what a caller
+//! owes; docs/FOREIGN.md is its guide.
+//!
+//! A set of resources crosses as the values of the two extensions of RFC 3779, AS identifiers (3.2.3) and IP address
+//! blocks (2.2.3), each of length 0 where nothing is listed. No call requires anything: what is none is refused.
+//!
+//! ```rust
+//! let outcome = answered(alloc, issuer_as, issuer_ip, cert_as, cert_ip, encoding, mode);
+//! let (status, set) = told(outcome);
+//! tell(alloc, status, &set, as_out, ip_out, as_len, ip_len)
+//! ```
+#![tactic(auto)]
+
+mod ask;
+mod encodings;
+mod left;
+mod operations;
+mod pair;
+mod read;
+mod refusal;
+mod sets;
+mod status;
+mod tell;
+mod verify;

@@ -1,0 +1,109 @@
+//! Two sets that cross as octets; or the first reason why there aren't two, and its status.
+ghost use Rattle.std.specs.Prelude.{◌≡◌, MatchResult};
+ghost use Rattle.rpki_text.specs.Memory.{IfRefused};
+ghost use Rattle.pigyelund_c.specs.Pairs.{AreNotRead, AreNotTwo, AreRead, AreTwo};
+ghost use Rattle.pigyelund_c.specs.PairStatuses.{made_set, made_status, test_status, unpaired_status};
+
+use crate::encodings::{Encoding, encoding_of};
+use crate::read::set_of;
+use crate::refusal::Unread;
+use crate::status;
+use rpki_resources::OrMemory;
+use rpki_resources::repository::resources::ResourceSet;
+use std::alloc::Global;
+
+/// Two sets that were read.
+#[derive(Drop)]
+pub(crate) struct Pair {
+    pub(crate) first: ResourceSet,
+    pub(crate) second: ResourceSet,
+}
+
+/// Why octets of two sets aren't two.
+#[derive(Drop)]
+pub(crate) enum Unpaired {
+    /// The number of an encoding is none.
+    NoEncoding,
+    /// Those of the first list no set.
+    First(Unread),
+    /// Those of the second list no set.
+    Second(Unread),
+}
+
+impl Unpaired {
+    /// The status of a reason.
+    fn status(&self) -> u32
+        ensures { result ≡ unpaired_status self.now }
+    {
+        match self {
+            Unpaired::NoEncoding => status::BAD_ENCODING,
+            Unpaired::First(reason) => reason.status(),
+            Unpaired::Second(reason) => status::SECOND + reason.status(),
+        }
+    }
+}
+
+/// The sets that octets list. `Refused` with the first reason where one lists none, the first set's before the second's;
+/// `Memory` where there is no memory for them.
+fn two(
+    alloc: Global,
+    a_as: &[u8],
+    a_ip: &[u8],
+    b_as: &[u8],
+    b_ip: &[u8],
+    encoding: Encoding,
+) -> Result<Pair, OrMemory<Unpaired>>
+    ensures { MatchResult result (AreTwo encoding a_as.now a_ip.now b_as.now b_ip.now)
+        (IfRefused (AreNotTwo encoding a_as.now a_ip.now b_as.now b_ip.now)) }
+{
+    let first = match set_of(alloc, a_as, a_ip, encoding) {
+        Ok(set) => set,
+        Err(OrMemory::Refused(reason)) => return Err(OrMemory::Refused(Unpaired::First(reason))),
+        Err(OrMemory::Memory(error)) => return Err(OrMemory::Memory(error)),
+    };
+    match set_of(alloc, b_as, b_ip, encoding) {
+        Ok(second) => Ok(Pair { first, second }),
+        Err(OrMemory::Refused(reason)) => Err(OrMemory::Refused(Unpaired::Second(reason))),
+        Err(OrMemory::Memory(error)) => Err(OrMemory::Memory(error)),
+    }
+}
+
+/// The same by the number of an encoding.
+pub(crate) fn pair_of(
+    alloc: Global,
+    a_as: &[u8],
+    a_ip: &[u8],
+    b_as: &[u8],
+    b_ip: &[u8],
+    encoding: u32,
+) -> Result<Pair, OrMemory<Unpaired>>
+    ensures { MatchResult result (AreRead a_as.now a_ip.now b_as.now b_ip.now encoding)
+        (IfRefused (AreNotRead a_as.now a_ip.now b_as.now b_ip.now encoding)) }
+{
+    match encoding_of(encoding) {
+        Some(encoding) => two(alloc, a_as, a_ip, b_as, b_ip, encoding),
+        None => Err(OrMemory::Refused(Unpaired::NoEncoding)),
+    }
+}
+
+/// The status of a set that was made of two, and the set that is told with it.
+pub(crate) fn set_told(outcome: Result<ResourceSet, OrMemory<Unpaired>>) -> (u32, ResourceSet)
+    ensures { result ≡ (made_status outcome, made_set outcome) }
+{
+    match outcome {
+        Ok(set) => (status::OK, set),
+        Err(OrMemory::Refused(reason)) => (reason.status(), ResourceSet::empty()),
+        Err(OrMemory::Memory(_)) => (status::MEMORY, ResourceSet::empty()),
+    }
+}
+
+/// The status of a test of two sets.
+pub(crate) fn test_told(outcome: Result<bool, OrMemory<Unpaired>>) -> u32
+    ensures { result ≡ test_status outcome }
+{
+    match outcome {
+        Ok(answer) => { if answer { status::OK } else { status::NO } }
+        Err(OrMemory::Refused(reason)) => reason.status(),
+        Err(OrMemory::Memory(_)) => status::MEMORY,
+    }
+}

@@ -1,0 +1,45 @@
+#!/usr/bin/env bash
+# Builds the static library and tests it from C, Rust and Python, each by the rows of foreign/rows.txt; a language whose
+# compiler isn't there is left out, and named. Status 0 where nothing failed.
+cd "$(dirname "$0")/.." || exit 1
+kit=${KIT:-$(dirname "$(dirname "$(readlink -f "$(command -v rt)")")")}
+folder=$PWD/crates/pigyelund_c/out
+library=$folder/libpigyelund_c.a
+out=$(mktemp -d) || exit 1
+trap 'rm -rf "$out"' EXIT
+failed=0
+
+has() { command -v "$1" >/dev/null; }
+fail() { echo "FAILED: $1"; failed=1; }
+
+if [ ! -f "$library" ]; then
+    (cd crates/pigyelund_c && rt lib >"$out/log") || { tail -n 20 "$out/log"; echo "FAILED: rt lib"; exit 1; }
+fi
+if has gcc; then
+    make -s -C foreign/c CC=gcc KIT="$kit" LIB="$library" OUT="$out" || fail "C is compiled"
+    "$out/example" >"$out/example.txt" && diff foreign/c/example.txt "$out/example.txt" || fail "the example in C"
+    "$out/test" foreign/rows.txt || fail "the test in C"
+    if has valgrind; then
+        valgrind -q --error-exitcode=9 --leak-check=full "$out/test" foreign/rows.txt >/dev/null || fail "valgrind"
+    else
+        echo "C was not run under valgrind: it isn't here"
+    fi
+else
+    echo "C was not tested: it needs gcc and make"
+fi
+if has python3 && has gcc; then
+    whole="-Wl,--whole-archive $library -Wl,--no-whole-archive"
+    # shellcheck disable=SC2086
+    gcc -shared -o "$out/libpigyelund.so" $whole "$kit/c/liblibc_c.a" || fail "the shared library"
+    python3 foreign/python/test.py "$out/libpigyelund.so" foreign/rows.txt || fail "the test in Python"
+    tests/foreign_rows.py || fail "the rows"
+else
+    echo "Python was not tested: it needs python3, and gcc for the shared library"
+fi
+if has cargo; then
+    PIGYELUND_LIB=$folder PIGYELUND_KIT=$kit CARGO_TARGET_DIR=$out/rust \
+        cargo test -q --offline --manifest-path foreign/rust/Cargo.toml || fail "the test in Rust"
+else
+    echo "Rust was not tested: it needs cargo"
+fi
+exit "$failed"

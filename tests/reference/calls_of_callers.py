@@ -212,6 +212,52 @@ def _without_memory(_text: str) -> str:
     raise NotSaid("whether a call asks for memory")
 
 
+def _route(text: str) -> tuple[prefixes.Prefix, int]:
+    prefix, number = _cut(text, " ")
+    return prefixes.read_prefix(prefix), asn.read_asn(number)
+
+
+def _payload(text: str) -> Payload:
+    prefix, number = _cut(text, " ")
+    return Payload(prefixes.read_max_len(prefix), asn.read_asn(number))
+
+
+def _payloads(text: str) -> list[Payload]:
+    return [_payload(entry) for entry in texts.elements(text)]
+
+
+def _validity(text: str) -> str:
+    listed, route = _cut(text, "|")
+    payloads = _payloads(listed)
+    return prefixes.validity(*_route(route), payloads)
+
+
+def _count_invalid(text: str) -> str:
+    listed, asked = _cut(text, "|")
+    payloads = _payloads(listed)
+    routes = [_route(entry) for entry in texts.elements(asked)]
+    return str([prefixes.validity(*route, payloads) for route in routes].count("Invalid"))
+
+
+def _explanation(text: str) -> str:
+    listed, asked = _cut(text, "|")
+    payloads = _payloads(listed)
+    route = prefixes.read_prefix(asked)
+    found = [payload for payload in payloads if payload.prefix.prefix.covers(route)]
+    if len({payload.prefix.prefix for payload in found}) < len(set(found)):
+        raise NotSaid("the order of payloads of one prefix")
+    found.sort(key=lambda payload: -payload.prefix.prefix.length)
+    return ", ".join(f"{payload.prefix.text()} AS{payload.asn}" for payload in found)
+
+
+def _excess(text: str) -> str:
+    lists, listed = _cut(text, "|")
+    _, v4, v6 = _triple(lists)
+    entries = [prefixes.read_max_len(entry) for entry in texts.elements(listed)]
+    place = prefixes.first_outside(v4, v6, entries)
+    return "none" if place is None else entries[place].text()
+
+
 def _filter(text: str, family: Family) -> str:
     return prefixes.print_cover(ip.read_set(text, family), family)
 
@@ -244,6 +290,11 @@ CALLERS: dict[str, Callable[[str], str]] = {
     "any_error": _as_list,
     "fault_of": _fault_of,
     "is_read_without_memory": _without_memory,
+    "by_list": _validity,
+    "by_table": _validity,
+    "count_invalid": _count_invalid,
+    "explanation": _explanation,
+    "excess": _excess,
 }
 
 
@@ -269,11 +320,6 @@ def holdings(before: str, now: str) -> list[str]:
 
 def _entries(text: str) -> list[str]:
     return list(filter(None, map(texts.trim, text.split("|"))))
-
-
-def _payload(text: str) -> Payload:
-    prefix, number = texts.cut(text, " ")
-    return Payload(prefixes.read_max_len(prefix), asn.read_asn(number))
 
 
 def _origin(text: str) -> str:

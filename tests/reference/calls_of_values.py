@@ -220,15 +220,20 @@ def altered(kind: str, text: str, strict: bool) -> str:
         return "no such reader of octets"
     if octets is None:
         return NO_HEXADECIMAL
-    counts: Counter[int] = Counter()
+    beginnings: Counter[int | None] = Counter()
+    replaced: Counter[int | None] = Counter()
     for place in range(len(octets)):
         before, behind = octets[:place], octets[place + 1 :]
-        texts_of_place = [before, *(before + bytes([octet]) + behind for octet in range(256))]
-        numbers = [_number(reader, changed, strict) for changed in texts_of_place]
-        if None in numbers:
+        texts_of_place = (before + bytes([octet]) + behind for octet in range(256))
+        beginnings[_number(reader, before, strict)] += 1
+        replaced.update(_number(reader, changed, strict) for changed in texts_of_place)
+        if None in beginnings or None in replaced:
             return f"wrong at {place}"
-        counts.update(number for number in numbers if number is not None)
-    faults = [f", {number}: {counts[number]}" for number in sorted(counts) if number]
+    return f"cut: {_counts_text(beginnings)}; replaced: {_counts_text(replaced)}"
+
+
+def _counts_text(counts: Counter[int | None]) -> str:
+    faults = [f", {number}: {counts[number]}" for number in sorted(filter(None, counts))]
     return f"read {counts[0]}" + "".join(faults)
 
 

@@ -3,4 +3,5 @@ pub mod AnchorLemmas
 pub mod CertificateLemmas
 pub mod EncodingLemmas
 pub mod IssuedLemmas
+pub mod RouteLemmas
 pub mod TableLemmas

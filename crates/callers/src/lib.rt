@@ -1,6 +1,7 @@
 //! Proved callers of the libraries, each a short function with a contract of its own: what a reader of certificates, a
-//! maker of route origin authorizations and router filters, a router's cache and a protocol that carries texts ask of
-//! these libraries. They rest on the contracts of public calls alone; `docs/CALLING.md` shows them.
+//! maker of route origin authorizations and router filters, a router's cache, whoever asks for the origins of routes, and a
+//! protocol that carries texts ask of these libraries. They rest on the contracts of public calls alone; `docs/CALLING.md`
+//! shows them.
 //!
 //! The program `callers_run` calls each of them:
 //!
@@ -23,5 +24,6 @@ pub mod errors;
 pub mod filters;
 pub mod issued;
 pub mod octets;
+pub mod routes;
 pub mod sets;
 pub mod texts;

@@ -7,6 +7,7 @@ mod octets;
 mod paths;
 mod prefixes;
 mod print;
+mod routes;
 mod sets;
 mod values;
 
@@ -74,6 +75,17 @@ fn of_values(alloc: Global, name: &str, operands: &str) -> anyhow::Result<String
         "any_error" => values::any_error(alloc, operands),
         "fault_of" => values::fault_of(alloc, operands),
         "is_read_without_memory" => values::is_read_without_memory(alloc, operands),
+        _ => of_routes(alloc, name, operands),
+    }
+}
+
+fn of_routes(alloc: Global, name: &str, operands: &str) -> anyhow::Result<String> {
+    match name {
+        "by_list" => routes::by_list(alloc, operands),
+        "by_table" => routes::by_table(alloc, operands),
+        "count_invalid" => routes::count_invalid(alloc, operands),
+        "explanation" => routes::explanation(alloc, operands),
+        "excess" => routes::excess(alloc, operands),
         _ => print::text(alloc, "no such function"),
     }
 }

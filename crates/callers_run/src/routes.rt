@@ -1,0 +1,115 @@
+//! Route origins. A payload is `PREFIX[-MAX] AS`, a route `PREFIX AS`.
+use crate::print::{self, cut};
+use crate::sets::from_lists;
+use roa_check::Validity;
+use roa_origin::OriginTable;
+use rpki_resources::resources::addr::{MaxLenPrefix, Prefix};
+use rpki_resources::resources::asn::Asn;
+use std::alloc::Global;
+
+/// What a text between commas writes.
+trait Entry: Sized + Drop {
+    fn read(text: &str) -> anyhow::Result<Self>;
+}
+
+impl Entry for MaxLenPrefix {
+    fn read(text: &str) -> anyhow::Result<MaxLenPrefix> {
+        let prefix = text.parse::<MaxLenPrefix>()?;
+        Ok(prefix)
+    }
+}
+
+impl Entry for (MaxLenPrefix, Asn) {
+    fn read(text: &str) -> anyhow::Result<(MaxLenPrefix, Asn)> {
+        let (prefix, asn) = cut(text, ' ');
+        let prefix = prefix.parse::<MaxLenPrefix>()?;
+        let asn = asn.parse::<Asn>()?;
+        Ok((prefix, asn))
+    }
+}
+
+impl Entry for (Prefix, Asn) {
+    fn read(text: &str) -> anyhow::Result<(Prefix, Asn)> {
+        let (prefix, asn) = cut(text, ' ');
+        let prefix = prefix.parse::<Prefix>()?;
+        let asn = asn.parse::<Asn>()?;
+        Ok((prefix, asn))
+    }
+}
+
+/// The entries of a list, which may be empty.
+fn entries<T: Entry>(alloc: Global, list: &str) -> anyhow::Result<Vec<T>> {
+    let mut entries = Vec::new(alloc);
+    for text in list.split(',') {
+        let text = text.trim();
+        if !text.is_empty() {
+            entries.push(T::read(text)?)?;
+        }
+    }
+    Ok(entries)
+}
+
+/// `by_list PAYLOAD, .. | ROUTE`
+pub fn by_list(alloc: Global, operands: &str) -> anyhow::Result<String> {
+    let (list, route) = cut(operands, '|');
+    let payloads = entries::<(MaxLenPrefix, Asn)>(alloc, list)?;
+    let (route, asn) = <(Prefix, Asn)>::read(route)?;
+    print::text(alloc, name(callers::routes::by_list(route, asn, &payloads)))
+}
+
+/// `by_table PAYLOAD, .. | ROUTE`
+pub fn by_table(alloc: Global, operands: &str) -> anyhow::Result<String> {
+    let (list, route) = cut(operands, '|');
+    let payloads = entries::<(MaxLenPrefix, Asn)>(alloc, list)?;
+    let (route, asn) = <(Prefix, Asn)>::read(route)?;
+    let validity = callers::routes::by_table(alloc, route, asn, &payloads)?;
+    print::text(alloc, name(validity))
+}
+
+fn name(validity: Validity) -> &'static str {
+    match validity {
+        Validity::Valid => "Valid",
+        Validity::Invalid => "Invalid",
+        Validity::NotFound => "NotFound",
+    }
+}
+
+/// The table of a list of payloads.
+fn table(alloc: Global, list: &str) -> anyhow::Result<OriginTable> {
+    let payloads = entries::<(MaxLenPrefix, Asn)>(alloc, list)?;
+    let table = OriginTable::new(alloc, &payloads)?;
+    Ok(table)
+}
+
+/// `count_invalid PAYLOAD, .. | ROUTE, ..`
+pub fn count_invalid(alloc: Global, operands: &str) -> anyhow::Result<String> {
+    let (list, routes) = cut(operands, '|');
+    let table = table(alloc, list)?;
+    let routes = entries::<(Prefix, Asn)>(alloc, routes)?;
+    print::value(alloc, &callers::routes::count_invalid(&table, &routes))
+}
+
+/// `explanation PAYLOAD, .. | PREFIX`
+pub fn explanation(alloc: Global, operands: &str) -> anyhow::Result<String> {
+    let (list, route) = cut(operands, '|');
+    let table = table(alloc, list)?;
+    let route = route.parse::<Prefix>()?;
+    joined(alloc, &callers::routes::explanation(alloc, &table, route)?)
+}
+
+fn joined(alloc: Global, payloads: &[(MaxLenPrefix, Asn)]) -> anyhow::Result<String> {
+    let mut text = String::new(alloc);
+    for (prefix, asn) in payloads {
+        print::append(&mut text, prefix)?;
+        write!(text, " {asn}")?;
+    }
+    Ok(text)
+}
+
+/// `excess A ; B ; C | PREFIX[-MAX], ..`
+pub fn excess(alloc: Global, operands: &str) -> anyhow::Result<String> {
+    let (lists, prefixes) = cut(operands, '|');
+    let resources = from_lists(alloc, lists)?;
+    let entries = entries::<MaxLenPrefix>(alloc, prefixes)?;
+    print::option(alloc, &callers::routes::excess(&resources, &entries))
+}

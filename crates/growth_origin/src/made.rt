@@ -1,0 +1,131 @@
+//! Payloads and routes, made of numbers that follow from one another.
+use rpki_base::Asn;
+use rpki_base::addr::{IpAddr, Ipv4Addr, Ipv6Addr};
+use rpki_prefix::{MaxLenPrefix, Prefix};
+use std::alloc::{AllocError, Global};
+
+/// Lengths of prefixes of IPv4 and of IPv6, each as often as it is taken of 16 times.
+const V4: [u8; 16] = [
+    24, 24, 24, 24, 24, 24, 24, 24, 24, 23, 22, 22, 21, 20, 19, 18,
+];
+
+const V6: [u8; 16] = [
+    48, 48, 48, 48, 48, 48, 48, 44, 40, 40, 36, 32, 32, 32, 32, 29,
+];
+
+/// Numbers of 64 bits that seem to have no order (splitmix64).
+#[derive(Drop)]
+pub struct Numbers(u64);
+
+impl Numbers {
+    /// Those that follow a number.
+    pub fn after(seed: u64) -> Numbers {
+        Numbers(seed)
+    }
+
+    fn next(&mut self) -> u64 {
+        self.0 = self.0.wrapping_add(0x9e37_79b9_7f4a_7c15);
+        let first = (self.0 ^ (self.0 >> 30)).wrapping_mul(0xbf58_476d_1ce4_e5b9);
+        let second = (first ^ (first >> 27)).wrapping_mul(0x94d0_49bb_1331_11eb);
+        second ^ (second >> 31)
+    }
+
+    /// A number below the limit; 0 where the limit is.
+    fn below(&mut self, limit: u64) -> u64 {
+        self.next().checked_rem(limit).unwrap_or(0)
+    }
+
+    fn length(&mut self, lengths: &[u8]) -> u8 {
+        let at = self.below(lengths.len() as u64);
+        lengths.get(at as usize).copied().unwrap_or(0)
+    }
+
+    fn asn(&mut self) -> Asn {
+        Asn::from_u32(u32::try_from(self.below(70_000)).unwrap_or(0))
+    }
+
+    fn prefix(&mut self) -> Option<Prefix> {
+        if self.below(5) > 0 {
+            let address = Ipv4Addr::from_bits(low_half(self.next()));
+            let length = self.length(&V4);
+            Prefix::new_v4_relaxed(address, length).ok()
+        } else {
+            let address = Ipv6Addr::from_bits((self.next() as u128) << 61);
+            let length = self.length(&V6);
+            Prefix::new_v6_relaxed(address, length).ok()
+        }
+    }
+
+    /// A payload; a quarter of them allow longer routes than their prefix.
+    fn payload(&mut self) -> Option<(MaxLenPrefix, Asn)> {
+        let prefix = self.prefix()?;
+        let longest = if prefix.is_v4() { 24 } else { 48 };
+        let is_longer = self.below(4) == 0;
+        let max_len = if is_longer { Some(longest) } else { None };
+        let asn = self.asn();
+        Some((MaxLenPrefix::saturating_new(prefix, max_len), asn))
+    }
+
+    /// A route of a payload: as long as it allows, or one bit longer, some by another AS.
+    fn route_of(&mut self, payload: &(MaxLenPrefix, Asn)) -> Option<(Prefix, Asn)> {
+        let longest = payload.0.resolved_max_len();
+        let is_longer = self.below(64) == 0;
+        let length = longest.saturating_add(u8::from(is_longer));
+        let other = self.asn();
+        let asn = if self.below(64) == 0 {
+            other
+        } else {
+            payload.1
+        };
+        let prefix = Prefix::new_relaxed(payload.0.addr(), length).ok()?;
+        Some((prefix, asn))
+    }
+
+    /// A route of any prefix, or of one of the payloads.
+    fn route(&mut self, payloads: &[(MaxLenPrefix, Asn)]) -> Option<(Prefix, Asn)> {
+        let at = self.below(payloads.len() as u64);
+        match payloads.get(at as usize) {
+            Some(payload) if self.below(2) == 0 => self.route_of(payload),
+            _ => {
+                let prefix = self.prefix()?;
+                Some((prefix, self.asn()))
+            }
+        }
+    }
+}
+
+/// The last 32 bits of a number.
+fn low_half(number: u64) -> u32 {
+    u32::try_from(number & 0xffff_ffff).unwrap_or(0)
+}
+
+/// So many payloads.
+pub fn payloads(
+    alloc: Global,
+    numbers: &mut Numbers,
+    count: usize,
+) -> Result<Vec<(MaxLenPrefix, Asn)>, AllocError> {
+    let mut payloads = Vec::new(alloc);
+    for _ in 0..count {
+        if let Some(payload) = numbers.payload() {
+            payloads.push(payload)?;
+        }
+    }
+    Ok(payloads)
+}
+
+/// So many routes.
+pub fn routes(
+    alloc: Global,
+    numbers: &mut Numbers,
+    payloads: &[(MaxLenPrefix, Asn)],
+    count: usize,
+) -> Result<Vec<(Prefix, Asn)>, AllocError> {
+    let mut routes = Vec::new(alloc);
+    for _ in 0..count {
+        if let Some(route) = numbers.route(payloads) {
+            routes.push(route)?;
+        }
+    }
+    Ok(routes)
+}

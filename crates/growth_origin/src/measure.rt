@@ -1,0 +1,89 @@
+//! What is measured of a table.
+use crate::made::{self, Numbers};
+use roa_origin::{OriginTable, Validity};
+use rpki_base::Asn;
+use rpki_prefix::Prefix;
+use std::io;
+use std::time::Instant;
+
+/// Where the numbers begin.
+const SEED: u64 = 6811;
+
+/// Makes payloads, their table and routes, and asks the table for each route.
+pub fn measure(rt: &HostRuntime, payloads: usize, routes: usize) -> io::Result<()> {
+    let mut numbers = Numbers::after(SEED);
+    let listed = made::payloads(rt.alloc(), &mut numbers, payloads)?;
+    let asked = made::routes(rt.alloc(), &mut numbers, &listed, routes)?;
+    let start = Instant::now(rt)?;
+    let table = OriginTable::new(rt.alloc(), &listed)?;
+    tell(rt, "payloads", listed.len(), start)?;
+    measure_routes(rt, &table, &asked)
+}
+
+/// Asks the table for each route.
+fn measure_routes(
+    rt: &HostRuntime,
+    table: &OriginTable,
+    routes: &[(Prefix, Asn)],
+) -> io::Result<()> {
+    let start = Instant::now(rt)?;
+    let counts = Counts::of(table, routes);
+    tell(rt, "routes", routes.len(), start)?;
+    println!(rt;
+        "{} routes: {} Valid, {} Invalid, {} NotFound, mark {}",
+        routes.len(),
+        counts.valid,
+        counts.invalid,
+        counts.not_found,
+        counts.mark
+    )
+}
+
+/// How many routes have each validity, and a mark that tells apart lists of answers in which as many have it.
+#[derive(Drop)]
+struct Counts {
+    valid: u64,
+    invalid: u64,
+    not_found: u64,
+    mark: u64,
+}
+
+impl Counts {
+    /// Those of what the table answers for the routes.
+    fn of(table: &OriginTable, routes: &[(Prefix, Asn)]) -> Counts {
+        let mut counts = Counts {
+            valid: 0,
+            invalid: 0,
+            not_found: 0,
+            mark: 0,
+        };
+        for (route, asn) in routes {
+            counts.add(table.origin(*route, *asn));
+        }
+        counts
+    }
+
+    fn add(&mut self, validity: Validity) {
+        let digit = match validity {
+            Validity::Valid => {
+                self.valid = self.valid.wrapping_add(1);
+                1
+            }
+            Validity::Invalid => {
+                self.invalid = self.invalid.wrapping_add(1);
+                2
+            }
+            Validity::NotFound => {
+                self.not_found = self.not_found.wrapping_add(1);
+                3
+            }
+        };
+        self.mark = self.mark.wrapping_mul(31).wrapping_add(digit);
+    }
+}
+
+/// Prints how long it took since the start.
+fn tell(rt: &HostRuntime, name: &str, count: usize, start: Instant) -> io::Result<()> {
+    let micros = start.elapsed(rt)?.as_micros();
+    eprintln!(rt; "{name} {count} {micros}")
+}

@@ -1,0 +1,82 @@
+"""The payloads and routes that `growth_origin` makes, and what it prints of their origins."""
+
+from .addresses import Family
+from .prefixes import MaxLenPrefix, Payload, Prefix, validity
+
+SEED = 6811
+WORD = (1 << 64) - 1
+# Lengths of prefixes, each as often as it is taken of 16 times.
+LENGTHS = {
+    Family.V4: (24,) * 9 + (23, 22, 22, 21, 20, 19, 18),
+    Family.V6: (48,) * 7 + (44, 40, 40, 36, 32, 32, 32, 32, 29),
+}
+LONGEST = {Family.V4: 24, Family.V6: 48}
+DIGITS = {"Valid": 1, "Invalid": 2, "NotFound": 3}
+
+
+class Numbers:
+    """Numbers of 64 bits that seem to have no order (splitmix64)."""
+
+    def __init__(self, seed: int) -> None:
+        self.state = seed
+
+    def next(self) -> int:
+        """The next number."""
+        self.state = (self.state + 0x9E3779B97F4A7C15) & WORD
+        first = (self.state ^ self.state >> 30) * 0xBF58476D1CE4E5B9 & WORD
+        second = (first ^ first >> 27) * 0x94D049BB133111EB & WORD
+        return second ^ second >> 31
+
+    def below(self, limit: int) -> int:
+        """A number below the limit; 0 where the limit is."""
+        number = self.next()
+        return number % limit if limit else 0
+
+    def asn(self) -> int:
+        """A number of an AS."""
+        return self.below(70_000)
+
+    def prefix(self) -> Prefix:
+        """A prefix, four times of five of IPv4."""
+        family = Family.V4 if self.below(5) > 0 else Family.V6
+        number = self.next()
+        address = number & 0xFFFF_FFFF if family is Family.V4 else number << 61
+        return shortened(family, address, LENGTHS[family][self.below(16)])
+
+    def payload(self) -> Payload:
+        """A payload; a quarter of them allow longer routes than their prefix."""
+        prefix = self.prefix()
+        longest = max(prefix.length, LONGEST[prefix.family])
+        max_length = longest if self.below(4) == 0 else None
+        return Payload(MaxLenPrefix(prefix, max_length), self.asn())
+
+    def route(self, payloads: list[Payload]) -> tuple[Prefix, int]:
+        """A route of any prefix, or of a payload: as long as it allows or one bit longer, some by another AS."""
+        at = self.below(len(payloads))
+        if not payloads or self.below(2) > 0:
+            return self.prefix(), self.asn()
+        payload = payloads[at]
+        family, address, _ = payload.prefix.prefix
+        length = payload.prefix.resolved() + (self.below(64) == 0)
+        other = self.asn()
+        asn = other if self.below(64) == 0 else payload.asn
+        return shortened(family, address, length), asn
+
+
+def shortened(family: Family, address: int, length: int) -> Prefix:
+    """The prefix of an address, with the bits behind the length cleared."""
+    behind = family.bits - length
+    return Prefix(family, address >> behind << behind, length)
+
+
+def answer(payload_count: int, route_count: int) -> str:
+    """What the program prints of so many payloads and routes."""
+    numbers = Numbers(SEED)
+    payloads = [numbers.payload() for _ in range(payload_count)]
+    routes = [numbers.route(payloads) for _ in range(route_count)]
+    validities = [validity(prefix, asn, payloads) for prefix, asn in routes]
+    counts = ", ".join(f"{validities.count(name)} {name}" for name in DIGITS)
+    mark = 0
+    for found in validities:
+        mark = (mark * 31 + DIGITS[found]) & WORD
+    return f"{route_count} routes: {counts}, mark {mark}"

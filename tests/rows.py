@@ -1,8 +1,9 @@
 #!/usr/bin/env python3
 """Compares what the programs answered with what the reference beside this file answers.
 
-Without options it answers each stored line of the programs of rows, and of `holdings`. With
---random SEED COUNT it makes so many lines of each command of `respath`, and asks the built program.
+Without options it answers each stored line of the programs of rows, of `holdings` and of
+`growth_origin`. With --random SEED COUNT it makes so many lines of each command of `respath`, and
+asks the built program.
 What the reference doesn't say is counted and named. Status 1 where an answer differs.
 """
 
@@ -14,7 +15,14 @@ from collections.abc import Callable, Iterator
 from itertools import islice
 from pathlib import Path
 
-from reference import calls_of_callers, calls_of_sets, calls_of_values, lines, random_lines
+from reference import (
+    calls_of_callers,
+    calls_of_sets,
+    calls_of_values,
+    lines,
+    made_routes,
+    random_lines,
+)
 from reference.calls_of_callers import NotSaid
 
 TOP = Path(__file__).resolve().parent.parent
@@ -89,11 +97,23 @@ def compare_holdings() -> bool:
     return comparison.tell("holdings")
 
 
+def compare_growth_origin() -> bool:
+    """Compares what `growth_origin` prints for the pairs of numbers that it is run with."""
+    comparison = Comparison()
+    given, printed = (lines_of(CRATES / "growth_origin" / file) for file in ("args", "stdout"))
+    counts = [int(word) for word in given]
+    asked = zip(counts[::2], counts[1::2], strict=True)
+    for (payloads, routes), found in zip(asked, printed, strict=True):
+        line = f"{payloads} {routes}"
+        comparison.add("growth_origin/args", line, made_routes.answer(payloads, routes), found)
+    return comparison.tell("growth_origin")
+
+
 def compare_stored() -> bool:
     """Compares all stored answers of the programs that there are."""
     there = [name for name in PROGRAMS if (CRATES / name / "stdin").exists()]
     results = [compare_program(name, PROGRAMS[name]) for name in there]
-    return all([*results, compare_holdings()])
+    return all([*results, compare_holdings(), compare_growth_origin()])
 
 
 def ask(program: Path, asked: list[bytes]) -> list[str]:

@@ -1,0 +1,118 @@
+#!/usr/bin/env python3
+"""Finds names in README.md and docs/ that aren't there: files, crates, calls, and code that its file doesn't have.
+
+Of what stands between backticks it takes paths, names of files, names of crates, and words with an underscore or of the
+form Type::call, each of which must stand somewhere in the sources, definitions or scripts. docs/DIFFERENCES.md and
+docs/PATHS.md also name what the Rust crate alone has, so their words aren't looked for. A block of Rust behind the name
+of a file must stand in that file, line by line. Ends with status 1 where something isn't there.
+"""
+
+import re
+import sys
+from collections.abc import Iterator
+from pathlib import Path
+
+TOP = Path(__file__).resolve().parent.parent
+CRATES = TOP / "crates"
+PAGES = [TOP / "README.md", *sorted((TOP / "docs").glob("*.md"))]
+OF_THE_RUST_CRATE = {"DIFFERENCES.md", "PATHS.md"}
+FOLDERS = ("crates", "docs", "tests", "bench", "foreign")
+SCRIPTS = {".py", ".sh", ".h", ".c", ".rs"}
+ENDINGS = (".md", ".rt", ".antt", ".sh", ".py", ".edit", ".h", ".c")
+PATH = re.compile(r"[\w./*-]+")
+WORD = re.compile(r"(?:\w+::)*\w+")
+# What a reader makes by a page, and what the kit and C libraries bring.
+MADE = {"crates/mine", "crates/mine/src/lib.rt", "start_lib", "try_reserve", "GLIBC_TUNABLES"}
+MADE |= {"LD_PRELOAD", "clock_gettime", "pfx_table", "pfx_table_validate"}
+
+
+def sources() -> Iterator[Path]:
+    """The files of the repository that say what there is."""
+    for pattern in ("src/**/*.rt", "specs/**/*.antt", "must-fail/*.edit", "src/**/*.rs", "src/**/*.c", "src/**/*.h"):
+        yield from CRATES.glob(f"*/{pattern}")
+    for folder in ("tests", "bench", "foreign"):
+        yield from (it for it in (TOP / folder).rglob("*") if it.is_file() and it.suffix in SCRIPTS)
+    yield from (TOP / name for name in ("check", "respath", "crates.txt"))
+
+
+def quoted(line: str) -> Iterator[str]:
+    """What stands between backticks, and the pages that are named without them."""
+    yield from re.findall(r"`([^`]+)`", line)
+    yield from re.findall(r"\bdocs/\w+\.md", line)
+    yield from re.findall(r"\]\(([\w./]+)\)", line)
+
+
+def is_path(name: str) -> bool:
+    """Whether a name is that of a file or a folder of the repository."""
+    if not PATH.fullmatch(name) or name in MADE or "NAME" in name:
+        return False
+    first, _, rest = name.partition("/")
+    return bool(rest) and (first in FOLDERS or (CRATES / first).is_dir()) or name.endswith(ENDINGS)
+
+
+def has_path(name: str) -> bool:
+    """Whether the file is there: from the top, in the crates, in docs, or anywhere in a crate where it has no folder."""
+    places = [TOP, CRATES, TOP / "docs"]
+    if any(any(place.glob(name)) for place in places if not name.startswith("/")):
+        return True
+    return any("out" not in it.parts for it in CRATES.glob(f"*/{name}")) or (
+        "/" not in name and any("out" not in it.parts for it in TOP.rglob(name))
+    )
+
+
+def faults_of_names(page: Path, words: set[str], crates: set[str]) -> Iterator[tuple[int, str]]:
+    """The names of a page that aren't there."""
+    in_code = False
+    for number, line in enumerate(page.read_text().split("\n"), 1):
+        if line.startswith("```"):
+            in_code = not in_code
+        if in_code:
+            continue
+        for name in quoted(line):
+            if is_path(name):
+                if not has_path(name):
+                    yield number, f"no file {name}"
+            elif re.fullmatch(r"(rpki|roa|rows|respath)_\w+", name) and name not in crates | words:
+                yield number, f"no crate {name}"
+            elif WORD.fullmatch(name) and ("_" in name.strip("_") or "::" in name) and page.name not in OF_THE_RUST_CRATE:
+                if name not in MADE and not all(part in words for part in name.split("::")):
+                    yield number, f"no {name}"
+
+
+def faults_of_code(page: Path) -> Iterator[tuple[int, str]]:
+    """The blocks of Rust that the file named last before them doesn't have."""
+    file, block, start = None, None, 0
+    for number, line in enumerate(page.read_text().split("\n"), 1):
+        if block is None:
+            for name in re.findall(r"`(crates/[\w/]+\.rt)`", line):
+                file = TOP / name
+            if line == "```rust" and file and file.is_file():
+                block, start = [], number
+        elif line == "```":
+            lines = [it.strip() for it in file.read_text().split("\n")]
+            wanted = [it.strip() for it in block]
+            if not any(lines[at : at + len(wanted)] == wanted for at in range(len(lines))):
+                yield start, f"this isn't in {file.relative_to(TOP)}"
+            block = None
+        else:
+            block.append(line)
+
+
+def main() -> int:
+    """Prints what isn't there."""
+    words: set[str] = set()
+    for path in sources():
+        words.update(re.findall(r"\w+", path.read_text()))
+    crates = {it.name for it in CRATES.iterdir()}
+    words |= crates
+    found = 0
+    for page in PAGES:
+        for number, fault in sorted({*faults_of_names(page, words, crates), *faults_of_code(page)}):
+            print(f"{page.relative_to(TOP)}:{number}: {fault}")
+            found += 1
+    print(f"names in {len(PAGES)} pages: {found} aren't there")
+    return 1 if found else 0
+
+
+if __name__ == "__main__":
+    sys.exit(main())

@@ -1,0 +1,170 @@
+#!/usr/bin/env python3
+"""Checks that docs/PROVED.md names what there is, and names all of what it says by it.
+
+A row has a claim, calls, clauses, a file, definitions and a premise. Each call must stand in the file; each clause must
+be one of a call's, and each call must have one of them (where none is named, a clause without a name); each definition
+must stand in the file of `specs/` that is named, and be used by one of these clauses, or in the file of one before it.
+It also looks for cells of README.md above 200 characters. Ends with status 1 where something is wrong.
+"""
+
+import re
+import sys
+from collections.abc import Iterator
+from pathlib import Path
+
+TOP = Path(__file__).resolve().parent.parent
+PAGE = TOP / "docs" / "PROVED.md"
+CELL = 200
+
+Clauses = list[tuple[str, str]]
+
+
+def without_comments(text: str) -> str:
+    """The text with its comments blanked, so that places stay the same."""
+    return re.sub(r"//[^\n]*", lambda it: " " * len(it[0]), text)
+
+
+def behind_braces(text: str, start: int) -> int:
+    """The place behind the brace that closes the first one from a place on."""
+    at, depth = text.index("{", start), 0
+    while True:
+        depth += {"{": 1, "}": -1}.get(text[at], 0)
+        at += 1
+        if depth == 0:
+            return at
+
+
+def clauses_in(text: str, word: str) -> Clauses:
+    """The clauses or ghost members of a text, each with its name (empty where it has none) and what it says."""
+    return [
+        (it[1] or "", text[it.end() : behind_braces(text, it.start())])
+        for it in re.finditer(rf"\b{word}\s+(?:(\w+)\s*=?\s*)?(?=\{{)", text)
+    ]
+
+
+def owner_of(head: str) -> str:
+    """The type of an impl, or the trait, by the head of its block."""
+    head = re.split(r"\bwhere\b", head)[0]
+    if found := re.match(r"\s*(?:pub\s+)?(?:unsafe\s+)?trait\s+(\w+)", head):
+        return found[1]
+    head = re.sub(r"^\s*(?:unsafe\s+)?impl\b", "", head)
+    while (shorter := re.sub(r"<[^<>]*>", "", head)) != head:
+        head = shorter
+    return head.split(" for ")[-1].strip().lstrip("&").split()[-1].split("::")[-1]
+
+
+def calls_of(path: Path) -> dict[str, Clauses]:
+    """The functions of a source by their name, methods as Type::name, each with its clauses and its impl's ghost members."""
+    text = without_comments(path.read_text())
+    spans = [
+        (it.start(), behind_braces(text, it.start()), owner_of(it[0]))
+        for it in re.finditer(r"^(?:pub )?(?:unsafe )?(?:impl\b|trait\b)[^{]*", text, re.M)
+    ]
+    heads = list(re.finditer(r"^\s*(?:pub(?:\([a-z]+\))? )?(?:const |extern \"C\" )?fn (\w+)", text, re.M))
+    found: dict[str, Clauses] = {}
+    for at, head in enumerate(heads):
+        end = heads[at + 1].start() if at + 1 < len(heads) else len(text)
+        place = head.start(1)
+        span = next((it for it in spans if it[0] <= place < it[1]), None)
+        name = f"{span[2]}::{head[1]}" if span else head[1]
+        members = clauses_in(text[span[0] : span[1]], "ghost") if span else []
+        if not span or " for " not in text[span[0] : text.index("{", span[0])]:
+            members = []
+        found.setdefault(name, []).extend(clauses_in(text[place:end], "(?:ensures|requires)") + members)
+    return found
+
+
+def names_in(cell: str) -> list[str]:
+    """What stands between backticks."""
+    return re.findall(r"`([^`]+)`", cell)
+
+
+def definitions_in(cell: str, crate: str) -> Iterator[tuple[Path, str]]:
+    """The definitions of a cell, each with its file; where no crate is named, it is the section's."""
+    for part in filter(None, (it.strip() for it in cell.split(";"))):
+        place, _, names = part.partition(":")
+        owner = (names_in(place) or [crate])[0]
+        file = TOP / "crates" / owner / "specs" / f"{place.split()[-1]}.antt"
+        for name in names_in(names):
+            yield file, name
+
+
+def defines(path: Path, name: str) -> bool:
+    """Whether a file of definitions has one of that name."""
+    if not path.is_file():
+        return False
+    head = rf"^\s*(?:[a-z]+ )*{re.escape(name)}(?![\w'])[^\n=]*:"
+    return re.search(head, path.read_text(), re.M) is not None
+
+
+def uses(text: str, name: str) -> bool:
+    """Whether a text has the name as a word."""
+    return re.search(rf"(?<![\w']){re.escape(name)}(?![\w'])", text) is not None
+
+
+def faults_of(crate: str, cells: list[str]) -> Iterator[str]:
+    """What is wrong with a row."""
+    _, calls, clauses, file, definitions, _ = cells
+    source = TOP / "crates" / crate / names_in(file)[0]
+    if not source.is_file():
+        yield f"there is no {source.relative_to(TOP)}"
+        return
+    there = calls_of(source)
+    wanted = names_in(clauses)
+    said: list[str] = []
+    seen: set[str] = set()
+    for call in names_in(calls):
+        if call not in there:
+            yield f"{file} has no call {call}"
+            continue
+        meant = [(name, text) for name, text in there[call] if name in wanted or (not wanted and name == "")]
+        if not meant and wanted:
+            meant = [(name, text) for name, text in there[call] if name == ""]
+        if not meant and not wanted:
+            meant = there[call]
+        if not meant:
+            yield f"{call} has none of the clauses {clauses}"
+        seen.update(name for name, _ in meant)
+        said.extend(text for _, text in meant)
+    for clause in wanted:
+        if clause not in seen:
+            yield f"no call has the clause {clause}"
+    for path, name in definitions_in(definitions, crate):
+        if not defines(path, name):
+            yield f"{path.relative_to(TOP)} has no {name}"
+        elif not any(uses(text, name) for text in said):
+            yield f"no clause of the row uses {name}"
+        else:
+            said.append(path.read_text())
+
+
+def rows() -> Iterator[tuple[int, str, list[str]]]:
+    """The rows of the page, each with its line and the crate of its section."""
+    crate = ""
+    for number, line in enumerate(PAGE.read_text().split("\n"), 1):
+        if line.startswith("## "):
+            crate = (names_in(line) or [""])[0]
+        elif crate and line.startswith("| ") and not line.startswith(("| claim |", "|---")):
+            yield number, crate, [it.strip() for it in re.split(r"(?<!\\)\|", line)[1:-1]]
+
+
+def main() -> int:
+    """Checks each row, and says how many there are."""
+    count = found = 0
+    for number, crate, cells in rows():
+        count += 1
+        wrong = faults_of(crate, cells) if len(cells) == 6 else iter([f"{len(cells)} cells"])
+        for fault in wrong:
+            print(f"docs/PROVED.md:{number}: {fault}")
+            found += 1
+    for number, line in enumerate((TOP / "README.md").read_text().split("\n"), 1):
+        for cell in re.split(r"(?<!\\)\|", line) if line.startswith("|") else []:
+            if len(cell.strip()) > CELL:
+                print(f"README.md:{number}: a cell of {len(cell.strip())} characters")
+                found += 1
+    print(f"docs/PROVED.md: {count} claims, {found} faults")
+    return 1 if found or not count else 0
+
+
+if __name__ == "__main__":
+    sys.exit(main())

@@ -1,9 +1,10 @@
 #!/usr/bin/env python3
 """Checks that docs/PROVED.md names what there is, and names all of what it says by it.
 
-A row has a claim, calls, clauses, a file, definitions and a premise. Each call must stand in the file; each clause must
-be one of a call's, and each call must have one of them (where none is named, a clause without a name); each definition
-must stand in the file of `specs/` that is named, and be used by one of these clauses, or in the file of one before it.
+A claim is a line below the file that it stands in: `- CLAIM: CALLS CLAUSES DEFINITIONS (PREMISE)`. Calls have commas between
+them; braces hold several names, as in `Type::{one,other}`. Each call must stand in the file; each clause must be one of a
+call's, and each call must have one of them (where none is named, a clause without a name); each definition, `File.Name` or
+`crate.File.Name`, must stand in that file of `specs/`, and be used by one of these clauses, or in the file of one before it.
 It also looks for cells of README.md above 200 characters. Ends with status 1 where something is wrong.
 """
 
@@ -74,19 +75,16 @@ def calls_of(path: Path) -> dict[str, Clauses]:
     return found
 
 
-def names_in(cell: str) -> list[str]:
-    """What stands between backticks."""
-    return re.findall(r"`([^`]+)`", cell)
+def names_of(token: str) -> list[str]:
+    """The names that a token stands for: of braces, each with what stands in front of them."""
+    front, brace, inside = token.partition("{")
+    return [front + it for it in inside.rstrip("}").split(",")] if brace else [token]
 
 
-def definitions_in(cell: str, crate: str) -> Iterator[tuple[Path, str]]:
-    """The definitions of a cell, each with its file; where no crate is named, it is the section's."""
-    for part in filter(None, (it.strip() for it in cell.split(";"))):
-        place, _, names = part.partition(":")
-        owner = (names_in(place) or [crate])[0]
-        file = TOP / "crates" / owner / "specs" / f"{place.split()[-1]}.antt"
-        for name in names_in(names):
-            yield file, name
+def definition_at(name: str, crate: str) -> tuple[Path, str]:
+    """The file and the word of `File.Name` or `crate.File.Name`; where no crate is named, it is the section's."""
+    *front, file, word = name.split(".")
+    return TOP / "crates" / (front or [crate])[0] / "specs" / f"{file}.antt", word
 
 
 def defines(path: Path, name: str) -> bool:
@@ -102,18 +100,32 @@ def uses(text: str, name: str) -> bool:
     return re.search(rf"(?<![\w']){re.escape(name)}(?![\w'])", text) is not None
 
 
-def faults_of(crate: str, cells: list[str]) -> Iterator[str]:
-    """What is wrong with a row."""
-    _, calls, clauses, file, definitions, _ = cells
-    source = TOP / "crates" / crate / names_in(file)[0]
-    if not source.is_file():
+def parts_of(line: str) -> tuple[list[str], list[str], list[str]] | None:
+    """The calls, clauses and definitions of a claim, or None where it has no claim or no call."""
+    found = re.fullmatch(r"- \S.*?: ((?:`[^`]+`,? ?)+)(?:\([^()]+\))?", line)
+    if not found:
+        return None
+    tokens = re.findall(r"`([^`]+)`(,?)", found[1])
+    last = next((at for at, (_, comma) in enumerate(tokens) if not comma), len(tokens) - 1)
+    names = [[it for token, _ in part for it in names_of(token)] for part in (tokens[: last + 1], tokens[last + 1 :])]
+    return names[0], [it for it in names[1] if "." not in it], [it for it in names[1] if "." in it]
+
+
+def faults_of(crate: str, file: str, line: str) -> Iterator[str]:
+    """What is wrong with a claim."""
+    parts = parts_of(line)
+    if parts is None:
+        yield "this is no claim with a call"
+        return
+    calls, wanted, definitions = parts
+    source = TOP / "crates" / crate / file
+    if not file or not source.is_file():
         yield f"there is no {source.relative_to(TOP)}"
         return
     there = calls_of(source)
-    wanted = names_in(clauses)
     said: list[str] = []
     seen: set[str] = set()
-    for call in names_in(calls):
+    for call in calls:
         if call not in there:
             yield f"{file} has no call {call}"
             continue
@@ -123,13 +135,13 @@ def faults_of(crate: str, cells: list[str]) -> Iterator[str]:
         if not meant and not wanted:
             meant = there[call]
         if not meant:
-            yield f"{call} has none of the clauses {clauses}"
+            yield f"{call} has none of the clauses {wanted}"
         seen.update(name for name, _ in meant)
         said.extend(text for _, text in meant)
     for clause in wanted:
         if clause not in seen:
             yield f"no call has the clause {clause}"
-    for path, name in definitions_in(definitions, crate):
+    for path, name in (definition_at(it, crate) for it in definitions):
         if not defines(path, name):
             yield f"{path.relative_to(TOP)} has no {name}"
         elif not any(uses(text, name) for text in said):
@@ -138,23 +150,24 @@ def faults_of(crate: str, cells: list[str]) -> Iterator[str]:
             said.append(path.read_text())
 
 
-def rows() -> Iterator[tuple[int, str, list[str]]]:
-    """The rows of the page, each with its line and the crate of its section."""
-    crate = ""
+def claims() -> Iterator[tuple[int, str, str, str]]:
+    """The claims of the page, each with its line, and the crate and the file that it stands below."""
+    crate = file = ""
     for number, line in enumerate(PAGE.read_text().split("\n"), 1):
         if line.startswith("## "):
-            crate = (names_in(line) or [""])[0]
-        elif crate and line.startswith("| ") and not line.startswith(("| claim |", "|---")):
-            yield number, crate, [it.strip() for it in re.split(r"(?<!\\)\|", line)[1:-1]]
+            crate, file = (re.findall(r"`([^`]+)`", line) or [""])[0], ""
+        elif found := re.fullmatch(r"`(src/\S+)`", line):
+            file = found[1]
+        elif crate and line.startswith("- "):
+            yield number, crate, file, line
 
 
 def main() -> int:
-    """Checks each row, and says how many there are."""
+    """Checks each claim, and says how many there are."""
     count = found = 0
-    for number, crate, cells in rows():
+    for number, crate, file, line in claims():
         count += 1
-        wrong = faults_of(crate, cells) if len(cells) == 6 else iter([f"{len(cells)} cells"])
-        for fault in wrong:
+        for fault in faults_of(crate, file, line):
             print(f"docs/PROVED.md:{number}: {fault}")
             found += 1
     for number, line in enumerate((TOP / "README.md").read_text().split("\n"), 1):

@@ -3,14 +3,17 @@
 
 Of what stands between backticks it takes paths, names of files, names of crates, and words with an underscore or of the
 form Type::call, each of which must stand somewhere in the sources, definitions or scripts. docs/DIFFERENCES.md and
-docs/PATHS.md also name what the Rust crate alone has, so their words aren't looked for. A block of Rust behind the name
-of a file must stand in that file, line by line. Ends with status 1 where something isn't there.
+docs/PATHS.md also name what the Rust crate alone has, so their words aren't looked for. A definition, as in
+crate.File.Name, must stand in that file of `specs/`. A block of Rust behind the name of a file must stand in that file,
+line by line. Ends with status 1 where something isn't there.
 """
 
 import re
 import sys
 from collections.abc import Iterator
 from pathlib import Path
+
+from proved_page import defines, definition_at, names_of
 
 TOP = Path(__file__).resolve().parent.parent
 CRATES = TOP / "crates"
@@ -21,6 +24,7 @@ SCRIPTS = {".py", ".sh", ".h", ".c", ".rs"}
 ENDINGS = (".md", ".rt", ".antt", ".sh", ".py", ".edit", ".h", ".c")
 PATH = re.compile(r"[\w./*-]+")
 WORD = re.compile(r"(?:\w+::)*\w+")
+DEFINITION = re.compile(r"[a-z]\w*\.[A-Z]\w*\.(?:[\w']+|\{[\w',]+\})")
 # What a reader makes by a page, and what the kit and C libraries bring.
 MADE = {"crates/mine", "crates/mine/src/lib.rt", "start_lib", "try_reserve", "GLIBC_TUNABLES"}
 MADE |= {"LD_PRELOAD", "clock_gettime", "pfx_table", "pfx_table_validate"}
@@ -69,7 +73,11 @@ def faults_of_names(page: Path, words: set[str], crates: set[str]) -> Iterator[t
         if in_code:
             continue
         for name in quoted(line):
-            if is_path(name):
+            if DEFINITION.fullmatch(name):
+                for path, word in (definition_at(it, "") for it in names_of(name)):
+                    if not defines(path, word):
+                        yield number, f"no {word} in {path.relative_to(TOP)}"
+            elif is_path(name):
                 if not has_path(name):
                     yield number, f"no file {name}"
             elif re.fullmatch(r"(rpki|roa|rows|respath)_\w+", name) and name not in crates | words:

@@ -1,11 +1,12 @@
 #!/usr/bin/env python3
 """Checks that docs/PROVED.md names what there is, and names all of what it says by it.
 
-A claim is a line below the file that it stands in: `- CLAIM: CALLS CLAUSES DEFINITIONS (PREMISE)`. Calls have commas between
-them; braces hold several names, as in `Type::{one,other}`. Each call must stand in the file; each clause must be one of a
-call's, and each call must have one of them (where none is named, a clause without a name); each definition, `File.Name` or
-`crate.File.Name`, must stand in that file of `specs/`, and be used by one of these clauses, or in the file of one before it.
-It also looks for cells of README.md above 200 characters. Ends with status 1 where something is wrong.
+A claim is a line below the file that it stands in: `- CLAIM: CALLS CLAUSES DEFINITIONS (PREMISE)`. Calls have commas
+between them; braces hold several names, as in `Type::{one,other}`. Each call must stand in the file; each clause must
+be one of a call's, and each call must have one of them (where none is named, a clause without a name); each
+definition, `File.Name` or `crate.File.Name`, must stand in that file of `specs/`, and be used by one of these
+clauses, or in the file of one before it. It also looks for cells of README.md above 200 characters. Ends with status
+1 where something is wrong.
 """
 
 import re
@@ -55,7 +56,7 @@ def owner_of(head: str) -> str:
 
 
 def calls_of(path: Path) -> dict[str, Clauses]:
-    """The functions of a source by their name, methods as Type::name, each with its clauses and its impl's ghost members."""
+    """The functions of a source by their name, methods as Type::name, with its clauses and its impl's ghost members."""
     text = without_comments(path.read_text())
     spans = [
         (it.start(), behind_braces(text, it.start()), owner_of(it[0]))

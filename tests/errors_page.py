@@ -1,9 +1,9 @@
 #!/usr/bin/env python3
 """Asks the built respath each line that docs/ERRORS.md and the README show, and compares its answer with the page's.
 
-On the first page a cell shows a line and its answer as `LINE`: `ANSWER`, where a bar has a backslash in front; `with CR
-behind it` and `in front of` say what stands round the lines of a cell. In the README each line is followed by its answer,
-four blanks further in. Ends with status 1 where an answer differs.
+On the first page an item shows a line and its answer as `LINE`: `ANSWER`, where a line begins with a command or is answered
+by an error; `with CR behind it` and `in front of` say what stands round the lines of an item. In the README each line is
+followed by its answer, four blanks further in. Ends with status 1 where an answer differs.
 """
 
 import re
@@ -14,6 +14,7 @@ from pathlib import Path
 
 TOP = Path(__file__).resolve().parent.parent
 PROGRAM = TOP / "crates" / "respath" / "out" / "respath"
+COMMAND = re.compile(r"(?:norm|cover|der|read|path) ")
 SHOWN = re.compile(r"`([^`]+)`: `([^`]*)`")
 BYTE_ORDER_MARK = b"\xef\xbb\xbf"
 
@@ -21,11 +22,11 @@ BYTE_ORDER_MARK = b"\xef\xbb\xbf"
 def of_errors() -> Iterator[tuple[int, bytes, str]]:
     """The lines of docs/ERRORS.md with their answers, and where they stand."""
     for number, line in enumerate((TOP / "docs" / "ERRORS.md").read_text().split("\n"), 1):
-        for cell in re.split(r"(?<!\\)\|", line) if line.startswith("|") else []:
-            before = BYTE_ORDER_MARK if "in front of `" in cell else b""
-            behind = b"\r" if "with CR behind it" in cell else b""
-            for asked, answer in SHOWN.findall(cell):
-                yield number, before + asked.replace("\\|", "|").encode() + behind, answer
+        before = BYTE_ORDER_MARK if "in front of `" in line else b""
+        behind = b"\r" if "with CR behind it" in line else b""
+        for asked, answer in SHOWN.findall(line) if line.startswith("- ") else []:
+            if COMMAND.match(asked) or answer.startswith("error: "):
+                yield number, before + asked.encode() + behind, answer
 
 
 def of_readme() -> Iterator[tuple[int, bytes, str]]:

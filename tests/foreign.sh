@@ -15,7 +15,7 @@ fail() { echo "FAILED: $1"; failed=1; }
 if [ ! -f "$library" ]; then
     (cd crates/pigyelund_c && rt lib >"$out/log") || { tail -n 20 "$out/log"; echo "FAILED: rt lib"; exit 1; }
 fi
-if has gcc; then
+if has gcc && has make; then
     make -s -C foreign/c CC=gcc KIT="$kit" LIB="$library" OUT="$out" || fail "C is compiled"
     "$out/example" >"$out/example.txt" && diff foreign/c/example.txt "$out/example.txt" || fail "the example in C"
     "$out/test" foreign/rows.txt || fail "the test in C"
@@ -27,19 +27,19 @@ if has gcc; then
 else
     echo "C was not tested: it needs gcc and make"
 fi
-if has python3 && has gcc; then
+if python3 -c 'import sys; sys.exit(sys.version_info < (3, 10))' 2>/dev/null && has gcc; then
     whole="-Wl,--whole-archive $library -Wl,--no-whole-archive"
     # shellcheck disable=SC2086
     gcc -shared -o "$out/libpigyelund.so" $whole "$kit/c/liblibc_c.a" || fail "the shared library"
     python3 foreign/python/test.py "$out/libpigyelund.so" foreign/rows.txt || fail "the test in Python"
     tests/foreign_rows.py || fail "the rows"
 else
-    echo "Python was not tested: it needs python3, and gcc for the shared library"
+    echo "Python was not tested: it needs python3, from 3.10 on, and gcc for the shared library"
 fi
-if has cargo; then
+if has cargo && has cc; then
     PIGYELUND_LIB=$folder PIGYELUND_KIT=$kit CARGO_TARGET_DIR=$out/rust \
         cargo test -q --offline --manifest-path foreign/rust/Cargo.toml || fail "the test in Rust"
 else
-    echo "Rust was not tested: it needs cargo"
+    echo "Rust was not tested: it needs cargo, and cc to link"
 fi
 exit "$failed"

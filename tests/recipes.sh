@@ -14,10 +14,18 @@ awk -v page="$folder/page" '
     file { print > file }
 ' "$top/docs/RECIPES.md"
 
+# Whether a tool is there. Another program than GNU's is called parallel too, and has no --pipe.
+has() {
+    case $1 in
+    parallel) parallel --version 2>/dev/null </dev/null | grep -q '^GNU parallel' ;;
+    *) command -v "$1" >/dev/null ;;
+    esac
+}
+
 # The first tool that a command names and that isn't there.
 missing_tool() {
     for tool in openssl parallel xargs split nproc paste awk cksum; do
-        if grep -qw "$tool" "$1" && ! command -v "$tool" >/dev/null; then
+        if grep -qw "$tool" "$1" && ! has "$tool"; then
             echo "$tool"
             return
         fi

@@ -38,8 +38,9 @@ said=$("$top/respath" --strange 2>&1 >/dev/null </dev/null)
 expect "an unknown option" 2 "respath: unknown option: --strange
 usage: respath [--check] [--try] [--] [FILE ..] | --help | --version" $? "$said"
 
+revision=$(git -C "$top" rev-parse --short=12 HEAD 2>/dev/null) || revision=unknown
 said=$("$top/respath" --version)
-expect "the version" 0 "respath, revision $(git -C "$top" rev-parse --short=12 HEAD)
+expect "the version" 0 "respath, revision $revision
 proved with $(rt version)" $? "$said"
 
 said=$(printf 'norm as 2,1\nnorm v4 x\n' | "$top/respath" --try --check 2>&1)

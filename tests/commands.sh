@@ -1,0 +1,73 @@
+#!/bin/sh
+# Runs the commands of README.md and docs/CALLING.md in a copy of the sources, and compares what ./respath answers with the
+# comment behind its line. Left out, and named: the test command itself, and a check that proves what a crate stands on; in
+# its place the new crate is compiled unproved. With --prove it is checked. What needs rt is left out where there is none.
+# tests/recipes.sh runs docs/RECIPES.md, tests/errors_page.py the lines of docs/ERRORS.md, tests/streams.sh the options.
+top=$(CDPATH='' cd -- "$(dirname -- "$0")/.." && pwd) || exit 1
+prove=${1-}
+"$top/respath" </dev/null || exit 1
+folder=$(mktemp -d) || exit 1
+trap 'rm -rf "$folder"' EXIT
+
+# A copy of the sources, whose program is the one of the repository.
+mkdir "$folder/copy" "$folder/bin" || exit 1
+tar -C "$top" --exclude=.git --exclude=out --exclude=__pycache__ -cf - . | tar -C "$folder/copy" -xf - || exit 1
+cat >"$folder/copy/respath" <<END
+#!/bin/sh
+"$top/respath" "\$@" | tee -a "$folder/answers"
+END
+cat >"$folder/copy/check" <<END
+#!/bin/sh
+echo "left out  ./check: it is what runs this, and takes an hour" >&2
+END
+
+# rt as it is, but for its check: the crate gets a test that asserts nothing, so that its source is compiled.
+if rt=$(command -v rt); then
+    cat >"$folder/bin/rt" <<END
+#!/bin/sh
+if [ "\$1" != check ] || [ "$prove" = --prove ]; then
+    exec "$rt" "\$@"
+fi
+echo "left out  rt check: it proves what the crate stands on; its source is compiled" >&2
+printf '\n#[test]\nfn is_compiled() {}\n' >>src/lib.rt
+"$rt" try --test >said 2>&1 || { cat said; exit 1; }
+END
+    chmod +x "$folder/bin/rt"
+fi
+
+# Cuts a page into the files NAME.1, NAME.2 and so on, one for each block of commands.
+blocks() {
+    awk -v name="$folder/$2" '
+        /^```/ && file { close(file); file = ""; next }
+        /^```sh$/ { file = name "." ++count; next }
+        file { print > file }
+    ' "$top/$1"
+}
+
+# Runs the commands of a block, and compares the answers to its lines with the comments behind them.
+run() {
+    if [ -z "$rt" ] && grep -qw rt "$2"; then
+        echo "left out  $1: there is no rt"
+        return
+    fi
+    : >"$folder/answers"
+    sed -n 's/.*| \.\/respath .*# //p' "$2" >"$folder/wanted"
+    if (cd "$folder/copy" && PATH="$folder/bin:$PATH" sh -e "$2") >"$folder/printed" 2>"$folder/errors" &&
+        cmp -s "$folder/answers" "$folder/wanted"; then
+        grep '^left out' "$folder/errors"
+        echo "ok        $1"
+    else
+        echo "FAILED    $1"
+        diff "$folder/wanted" "$folder/answers"
+        cat "$folder/printed" "$folder/errors"
+        failed=1
+    fi
+}
+
+failed=0
+blocks README.md readme
+blocks docs/CALLING.md calling
+for block in "$folder"/readme.* "$folder"/calling.*; do
+    run "commands of ${block##*/}" "$block"
+done
+exit $failed

@@ -68,6 +68,6 @@ failed=0
 blocks README.md readme
 blocks docs/CALLING.md calling
 for block in "$folder"/readme.* "$folder"/calling.*; do
-    run "commands of ${block##*/}" "$block"
+    run "commands: ${block##*/}" "$block"
 done
 exit $failed

@@ -19,6 +19,15 @@ if has gcc && has make; then
     make -s -C foreign/c CC=gcc KIT="$kit" LIB="$library" OUT="$out" || fail "C is compiled"
     "$out/example" >"$out/example.txt" && diff foreign/c/example.txt "$out/example.txt" || fail "the example in C"
     "$out/test" foreign/rows.txt || fail "the test in C"
+    if has pkg-config; then
+        make -s -C foreign/c install KIT="$kit" LIB="$library" PREFIX="$out/installed" || fail "make install"
+        flags=$(PKG_CONFIG_PATH=$out/installed/lib/pkgconfig pkg-config --cflags --libs pigyelund) || fail "pkg-config"
+        # shellcheck disable=SC2086
+        gcc foreign/c/example.c -o "$out/by_pkg_config" $flags && "$out/by_pkg_config" >"$out/example.txt" &&
+            diff foreign/c/example.txt "$out/example.txt" || fail "the example by pkg-config"
+    else
+        echo "pigyelund.pc was not tested: it needs pkg-config"
+    fi
     if has valgrind; then
         valgrind -q --error-exitcode=9 --leak-check=full "$out/test" foreign/rows.txt >/dev/null || fail "valgrind"
     else

@@ -1,5 +1,5 @@
 /* Verifies the octets of a certificate's IP address blocks by those of its issuer, and prints what is left. */
-#include "../pigyelund.h"
+#include <pigyelund.h>
 #include <stdio.h>
 #include <stdlib.h>
 

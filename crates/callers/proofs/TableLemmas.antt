@@ -1,4 +1,4 @@
--- Prefixes that were sorted and freed of duplicates, and those that were found to cover a route.
+-- Prefixes that were sorted and freed of duplicates.
 use Rattle.std.proofs.Common.{arith, ◌≡◌, ◌↔◌, ℕ, suc, ◌+◌, ◌<◌, length, get_or, Bool, inl, inr, List, [], ◌∷◌, ◌++◌, take, Contains, IsTrue, refl, sym, ap, ◌∙◌, subst}
 use Rattle.std.proofs.lemmas.Cmp.{tied_itself}
 use Rattle.std.proofs.lemmas.List.Elements.{Contains-append_left, Contains-push, Contains-push_cases}
@@ -41,34 +41,4 @@ module _ (equal : FamilyPrefix → FamilyPrefix → Bool) (same : (p q : FamilyP
       rw (dedup_is equal sorted left filtered) (
         (λ h. Contains-permutation sorted list p (IsPermutation-sym list sorted moved) (Contains-from_dedup equal sorted p h)),
         λ h. Contains-dedup equivalence (λ q r e. (same q r).0 e) sorted p (Contains-permutation list sorted p moved h),
-      )
-
-module _ (xs found : List FamilyPrefix) (at : ℕ) (x route : FamilyPrefix) (small : at < length xs) (is : x ≡ get_or xs at x)
-    (so_far : (p : FamilyPrefix) → Contains found p ↔ (Contains (take at xs) p × CoversPrefix p route)) where
-  next : take (at + 1) xs ≡ take at xs ++ x ∷ []
-  next = let e : at + 1 ≡ suc at = omega arith in rw e (take-suc xs at x small ∙ ap (λ (y : FamilyPrefix). take at xs ++ y ∷ []) (sym is))
-
-  -- the next prefix covers the route
-  pub kept : CoversPrefix x route → (p : FamilyPrefix) → Contains (found ++ x ∷ []) p ↔ (Contains (take (at + 1) xs) p × CoversPrefix p route)
-  kept covers p =
-      rw next (
-        (λ h. elim (Contains-push_cases found x p h) [
-          | inl old ↦ (Contains-append_left (take at xs) (x ∷ []) p ((so_far p).0 old).0, ((so_far p).0 old).1)
-          | inr e ↦ subst (λ (q : FamilyPrefix). Contains (take at xs ++ x ∷ []) q × CoversPrefix q route) e (Contains-push (take at xs) x, covers)
-        ]),
-        λ h. elim (Contains-push_cases (take at xs) x p h.0) [
-          | inl old ↦ Contains-append_left found (x ∷ []) p ((so_far p).1 (old, h.1))
-          | inr e ↦ subst (λ (q : FamilyPrefix). Contains (found ++ x ∷ []) q) e (Contains-push found x)
-        ],
-      )
-
-  -- or doesn't
-  pub passed : ¬ CoversPrefix x route → (p : FamilyPrefix) → Contains found p ↔ (Contains (take (at + 1) xs) p × CoversPrefix p route)
-  passed none p =
-      rw next (
-        (λ h. (Contains-append_left (take at xs) (x ∷ []) p ((so_far p).0 h).0, ((so_far p).0 h).1)),
-        λ h. elim (Contains-push_cases (take at xs) x p h.0) [
-          | inl old ↦ (so_far p).1 (old, h.1)
-          | inr e ↦ absurd (none (subst (λ (q : FamilyPrefix). CoversPrefix q route) (sym e) h.1))
-        ],
       )

@@ -3,6 +3,7 @@ ghost use Rattle.std.specs.Prelude.{◌↔◌, IfOk, Contains};
 ghost use Rattle.std.specs.List.Sorted.{IsStrictlySortedBy};
 ghost use Rattle.rpki_prefix.specs.Order.{prefix_cmp};
 ghost use Rattle.rpki_prefix.specs.Values.{CoversPrefix, FamilyPrefix};
+ghost use Rattle.roa_origin.specs.Coverings.{AreThose};
 
 use rpki_resources::resources::addr::Prefix;
 use std::alloc::{AllocError, Allocator};
@@ -23,15 +24,15 @@ pub fn table<A: Allocator>(alloc: A, prefixes: &[Prefix]) -> Result<Vec<Prefix, 
     Ok(table)
 }
 
-/// The prefixes of a table that cover a route, in the table's order. `AllocError` where there is no memory for them.
+/// The prefixes of a table that cover a route, in the table's order, each as often as it stands there. `AllocError` where
+/// there is no memory for them.
 pub fn covering<A: Allocator>(
     alloc: A,
     table: &[Prefix],
     route: Prefix,
 ) -> Result<Vec<Prefix, A>, AllocError>
     ensures { IfOk result (λ found.
-        (p : FamilyPrefix) → Contains found.items p
-        ↔ (Contains table.now p × CoversPrefix p route)) }
+        AreThose (λ p. CoversPrefix p route) table.now found.items) }
 {
     let mut found = Vec::new(alloc);
     for prefix in table {

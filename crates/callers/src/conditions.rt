@@ -1,7 +1,6 @@
 //! Conditions of calls, each met by a comparison or by a call that tests it.
-ghost use Rattle.std.specs.Prelude.{◌≡◌, ◌≢◌, ◌+◌, ◌++◌, OnOk, MatchOption};
+ghost use Rattle.std.specs.Prelude.{◌≡◌, ◌≢◌, ◌+◌, ◌≤◌, ◌<◌, ◌++◌, IsOk, OnOk, OnErr, MatchOption};
 ghost use Rattle.rpki_blocks.specs.Ranges.{range_bounds};
-ghost use Rattle.rpki_blocks.specs.Sets.{IsWithin};
 ghost use Rattle.rpki_chain.specs.Runs.{Holds};
 ghost use Rattle.rpki_chain.specs.declared.choice.ResourcesChoice.TheVariants.{Missing};
 ghost use Rattle.rpki_as.specs.AsDer.{as_resources_octets};
@@ -12,7 +11,8 @@ use std::alloc::{AllocError, Allocator};
 
 /// The range between two AS numbers, in either order: [`AsRange::new`] wants the least number first.
 pub fn between(one: Asn, other: Asn) -> AsRange
-    ensures { IsWithin (range_bounds result) one × IsWithin (range_bounds result) other }
+    ensures in_order { one ≤ other → range_bounds result ≡ (one, other) }
+    ensures turned { other < one → range_bounds result ≡ (other, one) }
 {
     if one <= other {
         AsRange::new(one, other)
@@ -42,14 +42,16 @@ pub fn whole_v4<A: Allocator>(blocks: IpBlocks<A>) -> Option<Ipv4Blocks<A>>
 }
 
 /// Appends what is written of resources, and nothing where they are missing: [`AsResources::encode`] wants some.
-/// `AllocError` where there is no memory for it.
+/// `AllocError` where there is no memory for it; then the octets stay as they were.
 pub fn append<A: Allocator, B: Allocator>(
     resources: &AsResources<A>,
     out: &mut Vec<u8, B>,
 ) -> Result<(), AllocError>
-    ensures missing { resources.now ≡ Missing → out.new.items ≡ out.old.items }
+    ensures missing { resources.now ≡ Missing →
+        IsOk result × (out.new.items ≡ out.old.items) }
     ensures present { OnOk result (resources.now ≢ Missing
         → out.new.items ≡ out.old.items ++ as_resources_octets resources.now) }
+    ensures refused { OnErr result (out.new.items ≡ out.old.items) }
 {
     if resources.is_missing() {
         return Ok(());

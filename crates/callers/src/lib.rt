@@ -24,6 +24,7 @@ pub mod errors;
 pub mod filters;
 pub mod issued;
 pub mod octets;
+pub mod reads;
 pub mod routes;
 pub mod sets;
 pub mod texts;

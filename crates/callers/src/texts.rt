@@ -1,8 +1,8 @@
-//! Sets that are sent as texts: printed, and read again from what was printed. Each is the same.
+//! Sets and resources that are sent as texts: printed, and read again from what was printed. Each is the same.
 ghost use Rattle.std.specs.Prelude.{◌≡◌, IfOk};
 
 use rpki_resources::OrMemory;
-use rpki_resources::repository::resources::{IpBlocks, ResourceSet};
+use rpki_resources::repository::resources::{AsResources, IpBlocks, ResourceSet};
 use std::alloc::{AllocError, Allocator};
 
 /// A set of addresses of either family, printed as one of IPv6, as it is read again. `AllocError` where there is no memory
@@ -17,6 +17,23 @@ pub fn printed_and_read<A: Allocator + Copy>(
     let text = format!(in alloc; "{shown}")?;
     let _blocks = set.iter(); // read so that the proof sees that each number has 128 bits
     match IpBlocks::from_str(alloc, text.as_str()) {
+        Ok(read) => Ok(read),
+        Err(OrMemory::Memory(error)) => Err(error),
+        Err(OrMemory::Refused(_)) => unreachable!(),
+    }
+}
+
+/// AS resources, missing, inherited or listed, as they are read again from what is printed of them. `AllocError` where there
+/// is no memory for them.
+pub fn as_resources_printed_and_read<A: Allocator + Copy>(
+    alloc: A,
+    resources: &AsResources<A>,
+) -> Result<AsResources<A>, AllocError>
+    ensures { IfOk result (λ read. read ≡ resources.now) }
+{
+    let _present = resources.is_present(); // asked so that the proof sees that what is listed is a set of AS numbers
+    let text = format!(in alloc; "{resources}")?;
+    match AsResources::from_str(alloc, text.as_str()) {
         Ok(read) => Ok(read),
         Err(OrMemory::Memory(error)) => Err(error),
         Err(OrMemory::Refused(_)) => unreachable!(),

@@ -8,7 +8,7 @@ use Rattle.std.proofs.lemmas.Grind.{flat_map-append}
 use Rattle.std.proofs.Math.Seq.{take-length}
 use Rattle.rpki_lines.specs.Answer.{IsAnswer}
 use Rattle.respath_engine.specs.Lines.{lines_of}
-use Rattle.respath_engine.specs.Run.{ended, HasWritten, HasAnsweredLine, HasAnswered, AnswersAll, AnswersFirst, BeginsAnswers}
+use Rattle.respath_engine.specs.Run.{as_line, HasWritten, HasAnsweredLine, HasAnswered, AnswersAll, AnswersFirst, BeginsAnswers}
 use Rattle.respath_engine.proofs.KnownLemmas.{appends_nothing, appends_both, appends_kept}
 
 -- a write takes some of what is left, which a range from there on then is
@@ -33,9 +33,9 @@ answered_more a b c lines line rest unwritten had more = record {
   wrote = record {
     written = had.wrote.written ++ more.wrote.written;
     bytes_are =
-        flat_map-append ended had.texts (more.text ∷ [])
-        ∙ ap (λ (z : List ℕ). z ++ (ended more.text ++ [])) (had.wrote.bytes_are ∙ append-nil had.wrote.written)
-        ∙ ap (λ (z : List ℕ). had.wrote.written ++ z) (append-nil (ended more.text) ∙ more.wrote.bytes_are)
+        flat_map-append as_line had.texts (more.text ∷ [])
+        ∙ ap (λ (z : List ℕ). z ++ (as_line more.text ++ [])) (had.wrote.bytes_are ∙ append-nil had.wrote.written)
+        ∙ ap (λ (z : List ℕ). had.wrote.written ++ z) (append-nil (as_line more.text) ∙ more.wrote.bytes_are)
         ∙ sym (append_assoc had.wrote.written more.wrote.written unwritten);
     wrote = appends_both a b c had.wrote.written more.wrote.written had.wrote.wrote more.wrote.wrote;
   };
@@ -57,7 +57,7 @@ answered_kept a b c lines rest unwritten had kept = record {
 }
 
 -- an answer was made, and some of it written
-pub line_answered : (a b : Option (List ℕ)) (line text bytes unwritten : List ℕ) → IsAnswer line text → bytes ≡ ended text → HasWritten a b bytes unwritten → HasAnsweredLine a b line unwritten
+pub line_answered : (a b : Option (List ℕ)) (line text bytes unwritten : List ℕ) → IsAnswer line text → bytes ≡ as_line text → HasWritten a b bytes unwritten → HasAnsweredLine a b line unwritten
 line_answered a b line text bytes unwritten is_answer is wrote = record { text = text; is_answer = is_answer; wrote = rw is at wrote }
 
 -- nothing is answered yet

@@ -6,8 +6,8 @@ use Rattle.rpki_lines.specs.Answer.{IsAnswer}
 use Rattle.respath_engine.specs.Lines.{lines_of}
 
 -- a text as a line
-abbrev pub ended : List ℕ → List ℕ
-ended text = text ++ 10 ∷ []
+abbrev pub as_line : List ℕ → List ℕ
+as_line text = text ++ 10 ∷ []
 
 -- Of these bytes all but `unwritten`, at their end, was written, and nothing else.
 pub record HasWritten (old new : Option (List ℕ)) (bytes unwritten : List ℕ) : Type 0 where
@@ -19,7 +19,7 @@ pub record HasWritten (old new : Option (List ℕ)) (bytes unwritten : List ℕ)
 pub record HasAnsweredLine (old new : Option (List ℕ)) (line unwritten : List ℕ) : Type 0 where
   pub text : List ℕ
   pub is_answer : IsAnswer line text
-  pub wrote : HasWritten old new (ended text) unwritten
+  pub wrote : HasWritten old new (as_line text) unwritten
 
 -- Of these lines all but `rest`, at their end, were answered, in order,
 -- and of those answers as lines all but `unwritten` was written.
@@ -28,7 +28,7 @@ pub record HasAnswered (old new : Option (List ℕ)) (lines rest : List (List �
   pub texts : List (List ℕ)
   pub lines_are : lines ≡ answered ++ rest
   pub are_answers : AllZip IsAnswer answered texts
-  pub wrote : HasWritten old new (flat_map ended texts) unwritten
+  pub wrote : HasWritten old new (flat_map as_line texts) unwritten
 
 -- the answers of all lines of the input were written whole
 abbrev pub AnswersAll : Option (List ℕ) → Option (List ℕ) → List ℕ → Type 0

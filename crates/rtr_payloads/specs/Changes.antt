@@ -5,6 +5,6 @@ use Rattle.rtr_payloads.specs.Tables.{IsWithout}
 use Rattle.rtr_payloads.specs.declared.changes.PayloadChanges.{PayloadChanges}
 
 -- announced is what the next table has and the one before it hasn't, withdrawn what that has and the next one hasn't
-pub record AreChanges {A : Type 0} (table next : List Payload) (changes : PayloadChanges A) : Type 0 where
+pub record ArePayloadChanges {A : Type 0} (table next : List Payload) (changes : PayloadChanges A) : Type 0 where
   pub announced : IsWithout next table changes.announced
   pub withdrawn : IsWithout table next changes.withdrawn

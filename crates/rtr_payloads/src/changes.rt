@@ -2,7 +2,7 @@
 ghost use Rattle.std.specs.Prelude.{◌≡◌, ◌≤◌, ◌<◌, ◌≢◌, ◌↔◌, IsTrue, IfOk, length, slice_index_or};
 ghost use Rattle.std.specs.declared.cmp.Ordering.TheVariants.{Less};
 ghost use Rattle.roa_origin.specs.Payloads.{Payload};
-ghost use Rattle.rtr_payloads.specs.Changes.{AreChanges};
+ghost use Rattle.rtr_payloads.specs.Changes.{ArePayloadChanges};
 ghost use Rattle.rtr_payloads.specs.Tables.{IsAscending, IsWithout, payload_cmp};
 
 use crate::table::PayloadTable;
@@ -29,7 +29,7 @@ impl<A: Allocator> PayloadTable<A> {
     ) -> Result<PayloadChanges<A>, AllocError>
     where
         A: Copy,
-        ensures { IfOk result (AreChanges self.now next.now) }
+        ensures { IfOk result (ArePayloadChanges self.now next.now) }
     {
         let announced = without(alloc, next, self)?;
         let withdrawn = without(alloc, self, next)?;

@@ -3,6 +3,7 @@ ghost use Rattle.std.specs.Prelude.{◌≡◌};
 ghost use Rattle.std.specs.Iterator.{YieldsFirst, item_count};
 ghost use Rattle.roa_origin.specs.Coverings.{IsWalk, covering_before};
 
+use crate::entry::Entry;
 use crate::table::nearest;
 use rpki_base::Asn;
 use rpki_prefix::{MaxLenPrefix, Prefix};
@@ -11,7 +12,7 @@ use std::marker::Model;
 /// The payloads of a table that cover a route and are left, the longest prefix first. Contracts see it as their list.
 #[derive(Drop)]
 pub struct Covering<'a> {
-    payloads: &'a [(MaxLenPrefix, Asn)],
+    payloads: &'a [Entry],
     links: &'a [usize],
     at: usize,
     route: Prefix,
@@ -32,7 +33,7 @@ impl<'a> Model for Covering<'a> {
 impl<'a> Covering<'a> {
     /// The walk from the first `at` payloads of a table on.
     pub(crate) fn from(
-        payloads: &'a [(MaxLenPrefix, Asn)],
+        payloads: &'a [Entry],
         links: &'a [usize],
         at: usize,
         route: Prefix,
@@ -63,6 +64,6 @@ impl Iterator for Covering<'_> {
             return None;
         }
         self.at = self.links[at - 1];
-        Some(self.payloads[at - 1])
+        Some(self.payloads[at - 1].payload())
     }
 }

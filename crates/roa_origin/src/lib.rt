@@ -15,7 +15,9 @@
 #![tactic(auto)]
 
 pub mod covering;
+mod entry;
 pub mod laws;
+mod starts;
 pub mod table;
 pub mod validation;
 

@@ -10,7 +10,7 @@ returns-then-at-eq0-clause-steps c =
     let none : NoneCovers s.payloads.now s.route 0 s.at = subst (λ k. NoneCovers s.payloads.now s.route k s.at) c.if-at-eq0.true c.nearest-at.ensures.none in
     (sym c.self.view_is ∙ nothing_left s.payloads.now s.links.now s.at s.route c.self.invariant none, refl)
 
-some : (c : goal.After-index-self-at) → 0 < c.nearest-at.result
+some : (c : goal.After-payload) → 0 < c.nearest-at.result
 some c = (let other : c.nearest-at.result ≡ 0 → ⊥ = c.if-at-eq0.false in omega (arith, other))
 
 pub invariant_of-self-2 : goal.invariant_of-self-2
@@ -22,8 +22,8 @@ pub returns-clause-steps : goal.returns-clause-steps
 returns-clause-steps c =
     let s = c.self.inside in
     let x = c.index-self-at.result in
-    sym c.self.view_is ∙ gives s.payloads.now s.links.now s.at s.route c.self.invariant c.nearest-at.result (some c) c.nearest-at.ensures.back x
-    (c.nearest-at.ensures.found x (some c)) c.nearest-at.ensures.none
+    rw c.payload.ensures (sym c.self.view_is ∙ gives s.payloads.now s.links.now s.at s.route c.self.invariant c.nearest-at.result (some c) c.nearest-at.ensures.back x
+    (c.nearest-at.ensures.found x (some c)) c.nearest-at.ensures.none)
 
 pub returns-clause-goes : goal.returns-clause-goes
 returns-clause-goes c = (let shorter = ap length (returns-clause-steps c) in record { on = λ _. (tt, tt, omega arith); keeps = tt; rests = λ _. tt })

@@ -5,20 +5,23 @@ use Rattle.std.specs.List.Sorted.{IsNonDecreasingBy}
 use Rattle.roa_origin.specs.Coverings.{AreThose, covers_route}
 use Rattle.roa_origin.specs.Links.{IsTable}
 use Rattle.roa_origin.specs.Payloads.{Covers, Payload, prefix_len}
-use Rattle.roa_origin.specs.Places.{payload_place}
 use Rattle.roa_origin.proofs.Covered.{all_before, are_those, by_length}
+use Rattle.roa_origin.proofs.Firsts.{same_starts}
 use Rattle.roa_origin.proofs.Walks.{same_table}
 use Rattle.roa_origin.proofs.table.OriginTable.covering.Goals as goal
 
 pub count_up_to-at-requires : goal.count_up_to-at-requires
-count_up_to-at-requires g c = subst (IsNonDecreasingBy payload_place) (sym c.as_slice-payloads.ensures.value) c.self.invariant.ordered
-
-table : (g : _) (c : goal.After-as_slice g) → IsTable c.as_slice-payloads.result.now c.as_slice.result.now
-table g c = same_table _ _ _ _ c.as_slice-payloads.ensures.value c.as_slice.ensures.value c.self.invariant
+count_up_to-at-requires g c =
+    let t = same_table _ _ _ _ c.as_slice-payloads.ensures.value c.as_slice-links.ensures.value c.self.invariant.0 in
+    record {
+      ordered = t.ordered;
+      prefixes = t.prefixes;
+      starts = same_starts _ _ _ _ _ c.as_slice-payloads.ensures.value c.as_slice-starts.ensures.value c.self.invariant.1;
+    }
 
 pub from-requires : goal.from-requires
 from-requires g c = record {
-  table = table g c;
+  table = same_table _ _ _ _ c.as_slice-payloads.ensures.value c.as_slice-links.ensures.value c.self.invariant.0;
   within = c.count_up_to-at.ensures.within;
   up_to = c.count_up_to-at.ensures.up_to;
   is_prefix = c.len-bits.ensures.prefix;
@@ -29,8 +32,8 @@ backwards : (g : _) (c : goal.After-from g) → reverse c.from.result ≡ filter
 backwards g c =
     let xs : List Payload = c.as_slice-payloads.result.now in
     ap reverse c.from.ensures
-    ∙ all_before c.args.route xs c.as_slice.result.now c.count_up_to-at.result
-    (same_table _ _ _ _ c.as_slice-payloads.ensures.value c.as_slice.ensures.value c.self.invariant)
+    ∙ all_before c.args.route xs c.as_slice-links.result.now c.count_up_to-at.result
+    (same_table _ _ _ _ c.as_slice-payloads.ensures.value c.as_slice-links.ensures.value c.self.invariant.0)
     c.len-bits.ensures.prefix c.count_up_to-at.ensures.within c.count_up_to-at.ensures.later
     ∙ ap (filter (covers_route c.args.route)) (c.as_slice-payloads.ensures.value ∙ c.self.view_is)
 
@@ -39,5 +42,5 @@ returns-clause-covering g c = subst (AreThose (Covers c.args.route) c.args.self.
 
 pub returns-clause-longest_first : goal.returns-clause-longest_first
 returns-clause-longest_first g c =
-    let t : IsTable c.args.self.now c.self.inside.links.items = subst (λ (ys : List Payload). IsTable ys c.self.inside.links.items) c.self.view_is c.self.invariant in
+    let t : IsTable c.args.self.now c.self.inside.links.items = subst (λ (ys : List Payload). IsTable ys c.self.inside.links.items) c.self.view_is c.self.invariant.0 in
     subst (IsNonDecreasingBy prefix_len) (sym (backwards g c)) (by_length c.args.route c.args.self.now c.len-bits.ensures.prefix t.ordered t.prefixes)

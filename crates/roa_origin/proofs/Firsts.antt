@@ -1,0 +1,70 @@
+-- The first bits of addresses: how many numbers they write, and that they follow the order of places.
+use Rattle.std.proofs.Common.{arith, ◌≡◌, ◌≤◌, ◌<◌, ◌+◌, ◌-◌, ◌*◌, ◌/◌, ◌^◌, ℕ, List, length, get_or, inl, inr, lit≤, subst, sym}
+use Rattle.std.proofs.lemmas.Bool.{cases_lt}
+use Rattle.std.proofs.lemmas.Nat.{le-div, pow_pos, shr_below}
+use Rattle.std.proofs.Math.Nat.{div-mul-le_self, pow-le-pow_right}
+use Rattle.rpki_addr.specs.declared.addr.IpAddr.TheVariants.{V4, V6}
+use Rattle.rpki_addr.specs.declared.addr.IpAddr.{IpAddr}
+use Rattle.rpki_prefix.specs.Values.{FamilyPrefix, IsFamilyPrefix}
+use Rattle.roa_origin.specs.Links.{AreFamilyPrefixes}
+use Rattle.roa_origin.specs.Payloads.{Payload}
+use Rattle.roa_origin.specs.Places.{payload_place, place}
+use Rattle.roa_origin.specs.Starts.{AreStarts, IsStart, first_bits}
+use Rattle.roa_origin.proofs.Nested.{below_256}
+
+-- the first n of w bits write a number of n bits
+pub first_part : (w n x : ℕ) → n ≤ w → x < 2 ^ w → x / 2 ^ (w - n) < 2 ^ n
+first_part w n x le small = shr_below x n (w - n) (subst (λ k. x < 2 ^ k) (omega (arith, le)) small)
+
+-- sixteen bits are less than 2 ^ 17 of them
+pub few_numbers : (n : ℕ) → n ≤ 16 → 2 ^ n ≤ 2 ^ 16
+few_numbers n few = pow-le-pow_right (lit≤ tt) few
+
+-- the first bits of a greater number are no less
+up : (k x y : ℕ) → x ≤ y → x / 2 ^ k ≤ y / 2 ^ k
+up k x y le =
+    let down : x / 2 ^ k * 2 ^ k ≤ x = div-mul-le_self x (2 ^ k) in
+    le-div (x / 2 ^ k) y (2 ^ k) (pow_pos k) (omega (arith, down, le))
+
+-- what comes no later has first bits that write no more
+pub first_up : (n : ℕ) (p q : FamilyPrefix) → n ≤ 16 → IsFamilyPrefix p → IsFamilyPrefix q → place p ≤ place q → first_bits n p ≤ first_bits n q
+first_up n p q few = of_addrs p.addr q.addr p.len q.len where
+  of_addrs : (a b : IpAddr) (k l : ℕ) → IsFamilyPrefix (record { addr = a; len = k }) → IsFamilyPrefix (record { addr = b; len = l })
+      → place (record { addr = a; len = k }) ≤ place (record { addr = b; len = l })
+      → first_bits n (record { addr = a; len = k }) ≤ first_bits n (record { addr = b; len = l })
+  of_addrs (V4 x) (V4 y) k l is is' le =
+      let more : x / 2 ^ (32 - n) ≤ y / 2 ^ (32 - n) = up (32 - n) x y (omega (arith, le, below_256 32 _ (omega arith) is, below_256 32 _ (omega arith) is')) in
+      omega (arith, more)
+  of_addrs (V6 x) (V6 y) k l is is' le =
+      let more : x / 2 ^ (128 - n) ≤ y / 2 ^ (128 - n) = up (128 - n) x y (omega (arith, le, below_256 128 _ (omega arith) is, below_256 128 _ (omega arith) is')) in
+      omega (arith, more)
+  of_addrs (V4 x) (V6 y) k l is is' le =
+      let small : x / 2 ^ (32 - n) < 2 ^ n = first_part 32 n x (omega (arith, few)) is.below in
+      omega (arith, small)
+  of_addrs (V6 x) (V4 y) k l is is' le =
+      let below : y < 2 ^ 32 = is'.below in
+      let short : l ≤ 32 = is'.short in
+      absurd (omega (arith, le, below, short))
+
+-- payloads before the start of a prefix's first bits come before the prefix
+pub before_start : (n : ℕ) (xs : List Payload) (p : FamilyPrefix) (start : ℕ) → n ≤ 16 → AreFamilyPrefixes xs (length xs) → IsFamilyPrefix p
+    → IsStart n xs (first_bits n p) start → (k : ℕ) (d : Payload) → k < start → payload_place (get_or xs k d) < place p
+before_start n xs p start few prefixes is at k d small =
+    let there : k < length xs = omega (arith, small, at.within) in
+    elim (cases_lt (payload_place (get_or xs k d)) (place p)) [
+      | inl less ↦ less
+      | inr more ↦ absurd (let up = first_up n p (get_or xs k d).0.prefix few is (prefixes k d there) more in omega (arith, up, at.before k d small))
+    ]
+
+-- payloads from the start of the next number on come after it
+pub after_start : (n : ℕ) (xs : List Payload) (p : FamilyPrefix) (end : ℕ) → n ≤ 16 → AreFamilyPrefixes xs (length xs) → IsFamilyPrefix p
+    → IsStart n xs (first_bits n p + 1) end → (k : ℕ) (d : Payload) → end ≤ k → k < length xs → place p < payload_place (get_or xs k d)
+after_start n xs p end few prefixes is at k d from small =
+    elim (cases_lt (place p) (payload_place (get_or xs k d))) [
+      | inl less ↦ less
+      | inr more ↦ absurd (let up = first_up n (get_or xs k d).0.prefix p few (prefixes k d small) is more in omega (arith, up, at.from k d from small))
+    ]
+
+-- starts by another name of the payloads and of the starts
+pub same_starts : (n : ℕ) (xs ys : List Payload) (starts others : List ℕ) → xs ≡ ys → starts ≡ others → AreStarts n ys others → AreStarts n xs starts
+same_starts n xs ys starts others e f h = subst (λ (zs : List Payload). AreStarts n zs starts) (sym e) (subst (λ (ks : List ℕ). AreStarts n ys ks) (sym f) h)

@@ -1,0 +1,23 @@
+-- The fields of a payload as a table holds them.
+use Rattle.std.specs.Prelude.{ℕ, Bool, true, false, Option}
+use Rattle.rpki_addr.specs.declared.addr.IpAddr.{IpAddr}
+use Rattle.rpki_addr.specs.declared.addr.IpAddr.TheVariants.{V4, V6}
+use Rattle.rpki_prefix.specs.Values.{bits, is_v6}
+use Rattle.roa_origin.specs.Payloads.{Payload}
+
+-- the address of IPv4 or IPv6 that the bits of a number write
+abbrev pub addr_of : Bool → ℕ → IpAddr
+addr_of false n = V4 n
+addr_of true n = V6 n
+
+-- the payload of a family, an address, a length, a greatest length and an AS number
+abbrev pub payload_of : Bool → ℕ → ℕ → Option ℕ → ℕ → Payload
+payload_of v6 n len max_len asn = (record { prefix = record { addr = addr_of v6 n; len = len }; max_len = max_len }, asn)
+
+-- the number that the bits of a payload's address write
+abbrev pub address_bits : Payload → ℕ
+address_bits payload = bits payload.0.prefix.addr
+
+-- whether a payload is of IPv6
+abbrev pub is_of_v6 : Payload → Bool
+is_of_v6 payload = is_v6 payload.0.prefix.addr

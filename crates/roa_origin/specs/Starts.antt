@@ -1,0 +1,22 @@
+-- Where the payloads whose addresses begin with the same bits stand in a table.
+use Rattle.std.specs.Prelude.{◌≡◌, ℕ, ◌+◌, ◌-◌, ◌*◌, ◌/◌, ◌^◌, ◌<◌, ◌≤◌, List, length, slice_index, slice_index_or}
+use Rattle.rpki_prefix.specs.Values.{FamilyPrefix, bits, width}
+use Rattle.roa_origin.specs.Payloads.{Payload}
+use Rattle.roa_origin.specs.Places.{family_number}
+
+-- the number that the first n bits of a prefix's address write, those of IPv6 after those of IPv4
+abbrev pub first_bits : ℕ → FamilyPrefix → ℕ
+first_bits n p = family_number p.addr * 2 ^ n + bits p.addr / 2 ^ (width p.addr - n)
+
+-- a place in a table before which the first n bits write less than a number, and from which on no less
+pub record IsStart (n : ℕ) (xs : List Payload) (number start : ℕ) : Type 0 where
+  pub within : start ≤ length xs
+  pub before : (k : ℕ) (d : Payload) → k < start → first_bits n (slice_index_or xs k d).0.prefix < number
+  pub from : (k : ℕ) (d : Payload) → start ≤ k → k < length xs → number ≤ first_bits n (slice_index_or xs k d).0.prefix
+
+-- the starts of all numbers of n bits of both families, and the end
+pub record AreStarts (n : ℕ) (xs : List Payload) (starts : List ℕ) : Type 0 where
+  pub some : 1 ≤ n
+  pub few : n ≤ 16
+  pub as_many : length starts ≡ 2 * 2 ^ n + 1
+  pub each : (number : ℕ) → number < length starts → IsStart n xs number (slice_index starts number)

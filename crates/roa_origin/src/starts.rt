@@ -1,0 +1,57 @@
+//! Where a table's payloads stand whose addresses begin with the same bits: a search looks there first.
+ghost use Rattle.std.specs.Prelude.{◌≡◌, ◌≤◌, IfOk, length, nat_lt};
+ghost use Rattle.std.specs.List.Sorted.{IsNonDecreasingBy};
+ghost use Rattle.roa_origin.specs.Links.{AreFamilyPrefixes};
+ghost use Rattle.roa_origin.specs.Places.{payload_place};
+ghost use Rattle.roa_origin.specs.Starts.{AreStarts, IsStart, first_bits};
+
+use crate::entry::Entry;
+use std::alloc::{AllocError, Allocator};
+
+/// How many first bits tell the starts of so many payloads apart: for each start some 16 payloads, if they are many.
+pub(crate) fn bits_for(payloads: usize) -> u8
+    ensures some { 1 ≤ result }
+    ensures few { result ≤ 16 }
+{
+    let mut bits = 1;
+    while bits < 16 && (payloads >> (bits + 4)) > 0 {
+        bits += 1;
+    }
+    bits
+}
+
+/// The place in a table before which the first bits write less than a number. This is a binary search.
+fn start_of(payloads: &[Entry], bits: u8, number: usize) -> usize
+    requires ordered { IsNonDecreasingBy payload_place payloads.now }
+    requires prefixes { AreFamilyPrefixes payloads.now (length payloads.now) }
+    requires some { 1 ≤ bits }
+    requires few { bits ≤ 16 }
+    ensures { IsStart bits payloads.now number result }
+{
+    payloads.partition_point(
+        |payload: &Entry| -> bool
+            requires { (1 ≤ bits) × (bits ≤ 16) }
+            ensures { result ≡ nat_lt (first_bits bits payload.now.0.prefix) number }
+        { payload.first_bits(bits) < number },
+    )
+}
+
+/// The starts of all numbers that the first bits of an address write, and the end.
+pub(crate) fn starts<A: Allocator>(
+    alloc: A,
+    payloads: &[Entry],
+    bits: u8,
+) -> Result<Vec<usize, A>, AllocError>
+    requires ordered { IsNonDecreasingBy payload_place payloads.now }
+    requires prefixes { AreFamilyPrefixes payloads.now (length payloads.now) }
+    requires some { 1 ≤ bits }
+    requires few { bits ≤ 16 }
+    ensures { IfOk result (λ starts. AreStarts bits payloads.now starts.items) }
+{
+    let numbers = (2 << bits) + 1;
+    let mut starts = Vec::with_capacity(alloc, numbers)?;
+    for number in 0..numbers {
+        starts.push(start_of(payloads, bits, number))?;
+    }
+    Ok(starts)
+}

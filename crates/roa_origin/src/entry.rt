@@ -1,5 +1,5 @@
 //! Payloads as a table holds them: in 32 octets each.
-ghost use Rattle.std.specs.Prelude.{◌*◌, ◌^◌, ◌<◌, ◌≡◌, ◌↔◌, ◌≤◌, IsTrue, None, nat_le};
+ghost use Rattle.std.specs.Prelude.{◌*◌, ◌^◌, ◌<◌, ◌≡◌, ◌↔◌, ◌≤◌, IsTrue};
 ghost use Rattle.std.specs.Ordering.{nat_cmp};
 ghost use Rattle.roa_origin.specs.Payloads.{Covers, Matches};
 ghost use Rattle.roa_origin.specs.Places.{payload_place};

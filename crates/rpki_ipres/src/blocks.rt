@@ -6,7 +6,7 @@ ghost use Rattle.rpki_text.specs.Reading.{AnswersOrMemory};
 ghost use Rattle.rpki_blocks.specs.Equality.{same_runs, runs_per, runs_equiv};
 ghost use Rattle.rpki_chain.specs.Operations.{IsDifference, IsIntersection, IsUnion};
 ghost use Rattle.rpki_chain.specs.Runs.{Runs, Holds, IsRunsOfBlocks};
-ghost use Rattle.rpki_blocks.specs.Sets.{IsWithin};
+ghost use Rattle.rpki_blocks.specs.Sets.{IsChain, IsWithin};
 ghost use Rattle.rpki_ip.specs.Ranges.{range_bounds};
 ghost use Rattle.rpki_ip.specs.Whole.{IsWhole};
 ghost use Rattle.rpki_ip.specs.declared.family.AddressFamily.TheVariants.{Ipv4, Ipv6};
@@ -16,6 +16,7 @@ ghost use Rattle.rpki_ipres.specs.SetText.{IsIpSet, IsFamilySet, IsSetOf, set_te
 
 use crate::family::IpBlocksForFamily;
 use rpki_base::memory::OrMemory;
+use rpki_blocks::owned::OwnedChain;
 use rpki_chain::set::BlockSet;
 use rpki_ip::error::FromStrError;
 use rpki_ip::range::AddressRange;
@@ -80,6 +81,20 @@ impl<A: Allocator> IpBlocks<A> {
         ensures { IfOk result (IsRunsOfBlocks ip_bounds blocks.items) }
     {
         let set = BlockSet::from_vec(alloc, blocks)?;
+        Ok(IpBlocks::from_set(set))
+    }
+
+    /// The set of blocks that are its runs as they stand, each in the form that sets have. `AllocError` where there is no
+    /// memory for what its owners share.
+    pub(crate) fn from_vec_unchecked(
+        alloc: A,
+        blocks: Vec<IpBlock, A>,
+    ) -> Result<IpBlocks<A>, AllocError>
+        requires { IsChain ip_bounds new_ip_block blocks.items }
+        ensures { IfOk result (IsRunsOfBlocks ip_bounds blocks.items) }
+    {
+        let chain = OwnedChain::from_vec_unchecked(blocks);
+        let set = BlockSet::from_owned(alloc, chain)?;
         Ok(IpBlocks::from_set(set))
     }
 

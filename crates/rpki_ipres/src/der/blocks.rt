@@ -149,7 +149,11 @@ impl<A: Allocator> IpBlocks<A> {
         let _len = cursor.rest().len(); // read so that the proof sees that the octets are fewer than 2^64
         let mut ahead = *cursor;
         let blocks = take_sequence_of(alloc, &IpBlockReader { family }, &mut ahead)?;
-        let set = IpBlocks::from_vec(alloc, blocks)?;
+        let set = if cursor.is_strict() {
+            IpBlocks::from_vec_unchecked(alloc, blocks)?
+        } else {
+            IpBlocks::from_vec(alloc, blocks)?
+        };
         *cursor = ahead;
         Ok(set)
     }

@@ -1,6 +1,7 @@
 #!/usr/bin/env python3
 """Draws the tables of docs/SPEED.md: docs/speed-ratios.svg, our time by that of the Rust crate, a bar for each line and call,
-and docs/speed-growth.svg, the times of calls by the number of blocks. Run it after a table has changed."""
+docs/speed-growth.svg, the times of calls by the number of blocks, and docs/speed-covers.svg, those of covers by the number of
+prefixes. Run it after a table has changed."""
 
 import math
 import re
@@ -55,38 +56,55 @@ def ratios() -> None:
     picture("speed-ratios.svg", left + 2 * unit + 60, height, parts)
 
 
-def growth() -> None:
-    """A line for each call, both ways by powers: a slope of one is time that grows as the number of blocks does."""
-    times: dict[str, list[tuple[float, float]]] = {}
-    for row in table("call                   N"):
-        times.setdefault(row[0], []).append((float(row[1]), float(row[2])))
-    shown = {name: points for name, points in times.items() if name.startswith("ip-")}
+def powers(name: str, title: str, lines: dict[str, list[tuple[float, float]]], below: list[float], beside: list[float]) -> None:
+    """A line for each name, both ways by powers: a slope of one is time that grows as the number does."""
     left, top, width, height = 90, 40, 380, 420
 
-    def place(blocks: float, seconds: float) -> tuple[float, float]:
-        return (
-            left + (math.log2(blocks / 1e5)) / 2 * width,
-            top + (1 - (math.log10(seconds) + 3) / 2) * height,
-        )
+    def place(number: float, seconds: float) -> tuple[float, float]:
+        across = math.log(number / below[0]) / math.log(below[-1] / below[0])
+        up = math.log(seconds / beside[0]) / math.log(beside[-1] / beside[0])
+        return left + across * width, top + (1 - up) * height
 
-    parts = [text(10, 22, "Seconds of calls on addresses, by the number of blocks")]
-    for seconds in (0.001, 0.003, 0.01, 0.03, 0.1):
-        x, y = place(1e5, seconds)
+    parts = [text(10, 22, title)]
+    for seconds in beside:
+        x, y = place(below[0], seconds)
         parts += [line(x, y, x + width, y, "grid"), text(x - 8, y + 4, f"{seconds:g}", "end")]
-    for blocks in (100000, 200000, 400000):
-        x, y = place(blocks, 0.001)
-        parts += [line(x, top, x, y, "grid"), text(x, y + 18, f"{blocks:,}", "middle")]
-    for at, (name, points) in enumerate(shown.items()):
+    for number in below:
+        x, y = place(number, beside[0])
+        parts += [line(x, top, x, y, "grid"), text(x, y + 18, f"{number:,.0f}", "middle")]
+    for at, (label, points) in enumerate(lines.items()):
         colour = COLOURS[at % len(COLOURS)]
         path = " ".join(f"{x:.0f},{y:.0f}" for x, y in (place(*it) for it in points))
         x, y = place(*points[-1])
         parts += [
             f'<polyline points="{path}" fill="none" stroke="{colour}" stroke-width="2"/>',
-            text(x + 6, y + 4, name.removeprefix("ip-")),
+            text(x + 6, y + 4, label),
         ]
-    picture("speed-growth.svg", left + width + 120, top + height + 40, parts)
+    picture(name, left + width + 120, top + height + 40, parts)
+
+
+def growth() -> None:
+    """Calls on addresses by the number of blocks."""
+    times: dict[str, list[tuple[float, float]]] = {}
+    for row in table("call                   N"):
+        if row[0].startswith("ip-"):
+            times.setdefault(row[0].removeprefix("ip-"), []).append((float(row[1]), float(row[2])))
+    title = "Seconds of calls on addresses, by the number of blocks"
+    powers("speed-growth.svg", title, times, [1e5, 2e5, 4e5], [0.001, 0.003, 0.01, 0.03, 0.1])
+
+
+def covers() -> None:
+    """Covers by the number of prefixes, ours and those of three other programs."""
+    times: dict[str, list[tuple[float, float]]] = {}
+    for row in table("       N     left"):
+        for name, seconds in zip(("respath", "aggregate", "netmask", "netaddr"), row[2:]):
+            if seconds != "-":
+                times.setdefault(name, []).append((float(row[0]), float(seconds)))
+    title = "Seconds for the shortest cover, by the number of prefixes"
+    powers("speed-covers.svg", title, times, [1e4, 1e5, 1e6], [0.001, 0.01, 0.1, 1, 10, 100])
 
 
 if __name__ == "__main__":
     ratios()
     growth()
+    covers()

@@ -1,3 +1,4 @@
+-- Blocks that are a chain are the runs of what they hold.
 use Rattle.rpki_blocks.specs.Sets.{Covers}
 use Rattle.rpki_blocks.proofs.Chains.{IsChainOf-itself}
 use Rattle.rpki_chain.proofs.RunLists.{IsRunsOf-from_chain}

@@ -14,6 +14,11 @@ abbrev pub GivesOrMemory : {X Y : Type 0} → (X → Y) → Result X (OrMemory D
 GivesOrMemory view (Ok x) read = read ≡ Ok (view x)
 GivesOrMemory view (Err e) read = IfRefused (λ fault. read ≡ Err fault) e
 
+-- what a call answered is said, by C, by what reading gives; want of memory says nothing
+abbrev pub GivesSaidOrMemory : {X Y : Type 0} → (Y → X → Type 0) → Result X (OrMemory DerError) → Result Y DerError → Type 0
+GivesSaidOrMemory {X} {Y} C (Ok x) read = (y : Y) × (read ≡ Ok y) × C y x
+GivesSaidOrMemory C (Err e) read = IfRefused (λ fault. read ≡ Err fault) e
+
 -- The answer, seen by view, is what reading gives where the cursor stood, its fault too, and the cursor then stands
 -- where reading ends. A refusal, and want of memory, leave it where it stood.
 abbrev pub TakesOrMemory : {X Y : Type 0} → (X → Y) → Cursor → Cursor → Result X (OrMemory DerError) → (List ℕ → Result (Y × List ℕ) DerError) → Type 0

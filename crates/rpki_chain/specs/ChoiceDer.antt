@@ -4,8 +4,6 @@ use Rattle.rpki_der.specs.declared.error.DerError.{DerError}
 use Rattle.rpki_der.specs.declared.error.DerError.TheVariants.{EmptyBlocks}
 use Rattle.rpki_der.specs.Der.{IsNull, Refines, Tlv, null_value}
 use Rattle.rpki_der.specs.Reading.{◌>>=◌, nothing, refined, value_at}
-use Rattle.rpki_text.specs.declared.memory.OrMemory.{OrMemory}
-use Rattle.rpki_text.specs.Memory.{IfRefused}
 use Rattle.rpki_base.specs.DerReading.{by_tag}
 use Rattle.rpki_chain.specs.declared.choice.ResourcesChoice.{ResourcesChoice}
 use Rattle.rpki_chain.specs.declared.choice.ResourcesChoice.TheVariants.{Missing, Inherit, Blocks}
@@ -50,8 +48,3 @@ choice_in values = by_tag 5 inherited_in (listed_in values)
 -- resources at the front, whose blocks are the values of a content
 abbrev pub choice_at : {X : Type 0} → (List ℕ → Result (List X) DerError) → List ℕ → Result (ResourcesChoice (List X) × List ℕ) DerError
 choice_at values = refined value_at (choice_in values)
-
--- what a call answered is said, by C, by what reading gives; want of memory says nothing
-abbrev pub GivesSaidOrMemory : {X Y : Type 0} → (Y → X → Type 0) → Result X (OrMemory DerError) → Result Y DerError → Type 0
-GivesSaidOrMemory {X} {Y} C (Ok x) read = (y : Y) × (read ≡ Ok y) × C y x
-GivesSaidOrMemory C (Err e) read = IfRefused (λ fault. read ≡ Err fault) e

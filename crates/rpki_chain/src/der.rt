@@ -4,10 +4,10 @@ ghost use Rattle.std.specs.Prelude.{◌≡◌, ◌≢◌, ◌≤◌, ◌<◌, �
 ghost use Rattle.std.specs.Vec.{vec_capacity};
 ghost use Rattle.rpki_der.specs.Views.{Lenient, is_strict, is_strict_in, left, tlv};
 ghost use Rattle.rpki_base.specs.DerReading.{IsSequenceFrom, values_from};
-ghost use Rattle.rpki_base.specs.DerViews.{ReadsOrMemory, TakesSaidOrMemory};
+ghost use Rattle.rpki_base.specs.DerViews.{GivesSaidOrMemory, ReadsOrMemory, TakesSaidOrMemory};
 ghost use Rattle.rpki_base.specs.DerWriting.{octets_of_all, sequence_octets};
 ghost use Rattle.rpki_chain.specs.Choices.{ListsBy};
-ghost use Rattle.rpki_chain.specs.ChoiceDer.{GivesSaidOrMemory, IsResourcesOf, choice_at, choice_in, choice_octets, some_in};
+ghost use Rattle.rpki_chain.specs.ChoiceDer.{IsResourcesOf, choice_at, choice_in, choice_octets, some_in};
 ghost use Rattle.rpki_chain.specs.Claims.{ListsSome};
 ghost use Rattle.rpki_chain.specs.Runs.{IsRunsOfBlocks};
 

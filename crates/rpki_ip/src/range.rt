@@ -7,7 +7,7 @@ ghost use Rattle.rpki_ip.specs.Whole.{IsWhole, HasWholeBounds};
 
 use crate::prefix::Prefix;
 use rpki_addr::bits::Addr;
-use rpki_chain::block::Block;
+use rpki_blocks::block::Block;
 use std::marker::Model;
 
 /// The addresses from a least one to a greatest one, which may be the same (RFC 3779, 2.2.3.9).

@@ -117,9 +117,22 @@ expect "a crate that the program doesn't need is newer" 0 "ran" $? "$said"
 
 touch "$copy/crates/rpki_der/new"
 said=$(PATH=$copy/bin:$PATH "$copy/respath" 2>&1 </dev/null)
-expect "a crate that the program needs is newer" 1 "respath: proving rpki_der (1 of N)
+expect "a crate that the program needs is newer" 1 "respath: proving rpki_der (0 of N)
 proving
-respath: the program was not built" $? "$(echo "$said" | sed '1d; s/ of [0-9]*, after 0 min)/ of N)/')"
+respath: the program was not built" $? "$(echo "$said" | sed '1d; s/ of [0-9]* are proved, after 0 min)/ of N)/')"
+
+# The prover notes what it is asked for; a crate comes behind those that it stands on.
+printf '#!/bin/sh\necho "$1 ${PWD##*/}" >>%s/asked\n' "$copy" >"$copy/bin/rt"
+said=$(PATH=$copy/bin:$PATH "$copy/respath" 2>&1 </dev/null | tail -n 2)
+expect "all that the program needs is proved" 0 "respath: proved and built in 0 min
+ran
+run respath" $? "$said
+$(tail -n 1 "$copy/asked")"
+said=$(awk 'NR == FNR { at[$2] = FNR; next }
+    !/^#/ { sub(":", "", $1); for (one = 2; one <= NF; one++) if ($1 in at && $one in at && at[$one] > at[$1]) print $1, $one }' \
+    "$copy/asked" "$copy/crates.txt")
+expect "crates are proved in turn" 0 "" $? "$said"
+touch "$copy/crates/rpki_der/new"
 
 # shellcheck disable=SC2016 # the prover's own words
 printf '#!/bin/sh\nkill "$RESPATH"\n' >"$copy/bin/rt"

@@ -1,4 +1,6 @@
 //! The refusal of a call that also takes memory.
+ghost use Rattle.rpki_text.specs.Memory.{ForRefused, IsMemory, IsRefusedAnd, MatchOrMemory};
+
 use rpki_der::DerError;
 use std::alloc::{AllocError, AllocFailed};
 use std::error::Error;
@@ -11,6 +13,21 @@ pub enum OrMemory<E> {
     Refused(E),
     /// A request for memory was refused. This says nothing of what the call was given.
     Memory(AllocError),
+}
+
+impl<E> OrMemory<E> {
+    /// The same, with what the function answers in the place of why the call refuses what it was given; want of memory
+    /// stays what it is. The function is called for a refusal alone.
+    pub fn map_refused<D, F: FnOnce(E) -> D>(self, f: F) -> OrMemory<D>
+        requires { ForRefused self (F.pre f) }
+        ensures { MatchOrMemory self (λ fault. IsRefusedAnd result (F.post f fault))
+            (IsMemory result) }
+    {
+        match self {
+            OrMemory::Refused(fault) => OrMemory::Refused(f(fault)),
+            OrMemory::Memory(error) => OrMemory::Memory(error),
+        }
+    }
 }
 
 impl<E> From<AllocError> for OrMemory<E> {

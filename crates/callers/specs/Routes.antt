@@ -6,7 +6,7 @@ use Rattle.rpki_resources.specs.Triples.{Triple}
 use Rattle.roa_check.specs.Inside.{IsFirstOutside}
 use Rattle.roa_origin.specs.Coverings.{AreThose}
 use Rattle.roa_origin.specs.Payloads.{Payload}
-use Rattle.roa_origin.specs.Validities.{IsCovered, IsMatched}
+use Rattle.roa_origin.specs.Validities.{IsRouteCovered, IsMatched}
 
 -- what contracts see of a route: its prefix, and the number of the AS that originates it
 abbrev pub Route : Type 0
@@ -14,7 +14,7 @@ Route = FamilyPrefix × ℕ
 
 -- some payload covers the route, and none matches it (RFC 6811, 2: 'Invalid')
 abbrev pub IsInvalid : List Payload → Route → Type 0
-IsInvalid payloads route = IsCovered route.0 payloads × ¬ IsMatched route.0 route.1 payloads
+IsInvalid payloads route = IsRouteCovered route.0 payloads × ¬ IsMatched route.0 route.1 payloads
 
 -- as many of the routes are invalid, each counted as often as it stands there
 abbrev pub IsCountOfInvalid : List Payload → List Route → ℕ → Type 0

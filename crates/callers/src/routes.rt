@@ -2,9 +2,9 @@
 //! certificate hasn't (RFC 6811; RFC 9582).
 ghost use Rattle.std.specs.Prelude.{All, IfOk, MatchOption, reverse};
 ghost use Rattle.std.specs.List.Sorted.{IsNonDecreasingBy};
-ghost use Rattle.roa_check.specs.Inside.{IsInside};
+ghost use Rattle.roa_check.specs.Inside.{IsPrefixInside};
 ghost use Rattle.roa_origin.specs.Coverings.{AreThose};
-ghost use Rattle.roa_origin.specs.Payloads.{Covers, prefix_len};
+ghost use Rattle.roa_origin.specs.Payloads.{CoversRoute, prefix_len};
 ghost use Rattle.roa_origin.specs.Validities.{IsValidity};
 ghost use Rattle.callers.specs.Routes.{IsCountOfInvalid, IsFirstExcess};
 
@@ -58,7 +58,7 @@ pub fn explanation<A: Allocator>(
     route: Prefix,
 ) -> Result<Vec<(MaxLenPrefix, Asn), A>, AllocError>
     ensures covering { IfOk result (λ found.
-        AreThose (Covers route) table.now (reverse found.items)) }
+        AreThose (CoversRoute route) table.now (reverse found.items)) }
     ensures longest_first { IfOk result (λ found.
         IsNonDecreasingBy prefix_len (reverse found.items)) }
 {
@@ -75,7 +75,7 @@ pub fn excess<A: Allocator>(
     resources: &ResourceSet<A>,
     entries: &[MaxLenPrefix],
 ) -> Option<MaxLenPrefix>
-    ensures { MatchOption result (All (λ entry. IsInside resources.now entry.prefix) entries.now)
+    ensures { MatchOption result (All (λ entry. IsPrefixInside resources.now entry.prefix) entries.now)
         (IsFirstExcess resources.now entries.now) }
 {
     match outside(resources, entries) {

@@ -17,15 +17,15 @@ numbers_each (V4 n) = 2 ^ 96
 numbers_each (V6 n) = 1
 
 -- the least and the greatest of the numbers that stand for the prefix's addresses
-abbrev pub numbers_of : FamilyPrefix → ℕ × ℕ
-numbers_of p = ((interval p).first * numbers_each p.addr, (last_of (width p.addr) (interval p) + 1) * numbers_each p.addr - 1)
+abbrev pub prefix_numbers : FamilyPrefix → ℕ × ℕ
+prefix_numbers p = ((interval p).first * numbers_each p.addr, (last_of (width p.addr) (interval p) + 1) * numbers_each p.addr - 1)
 
 -- the set of the prefix's family has each of its addresses
-abbrev pub IsInside : Triple → FamilyPrefix → Type 0
-IsInside set p = (n : ℕ) → IsWithin (numbers_of p) n → Holds (of_family (family_of p.addr) set) n
+abbrev pub IsPrefixInside : Triple → FamilyPrefix → Type 0
+IsPrefixInside set p = (n : ℕ) → IsWithin (prefix_numbers p) n → Holds (of_family (family_of p.addr) set) n
 
 -- the least place whose prefix isn't inside, or none where all are
 abbrev pub IsFirstOutside : Triple → List MaxLenValue → Option ℕ → Type 0
 IsFirstOutside set entries found =
-    MatchOption found (All (λ e. IsInside set e.prefix) entries)
-    (λ at. (at < length entries) × HoldsAt (λ e. ¬ IsInside set e.prefix) entries at × AllWithin (λ e. IsInside set e.prefix) entries 0 at)
+    MatchOption found (All (λ e. IsPrefixInside set e.prefix) entries)
+    (λ at. (at < length entries) × HoldsAt (λ e. ¬ IsPrefixInside set e.prefix) entries at × AllWithin (λ e. IsPrefixInside set e.prefix) entries 0 at)

@@ -1,6 +1,6 @@
 //! The prefixes of a route origin authorization that its certificate's resources don't have (RFC 9582, 5).
 ghost use Rattle.std.specs.Prelude.{◌≡◌, ◌↔◌, IsTrue};
-ghost use Rattle.roa_check.specs.Inside.{IsFirstOutside, IsInside, numbers_of};
+ghost use Rattle.roa_check.specs.Inside.{IsFirstOutside, IsPrefixInside, prefix_numbers};
 ghost use Rattle.rpki_ip.specs.Ranges.{range_bounds};
 
 use rpki_ip::{AddressFamily, AddressRange};
@@ -10,7 +10,7 @@ use std::alloc::Allocator;
 
 /// The addresses of a prefix, as sets of resources number them.
 fn addresses(prefix: Prefix) -> AddressRange
-    ensures { range_bounds result ≡ numbers_of prefix }
+    ensures { range_bounds result ≡ prefix_numbers prefix }
 {
     let min = Addr::from(prefix.min_addr());
     let max = Addr::from(prefix.max_addr());
@@ -23,7 +23,7 @@ fn addresses(prefix: Prefix) -> AddressRange
 
 /// Whether the set of the prefix's family has each of its addresses.
 fn is_inside<A: Allocator>(set: &ResourceSet<A>, prefix: Prefix) -> bool
-    ensures { IsTrue result ↔ IsInside set.now prefix }
+    ensures { IsTrue result ↔ IsPrefixInside set.now prefix }
 {
     let family = if prefix.is_v4() {
         AddressFamily::Ipv4

@@ -16,7 +16,7 @@ use Rattle.roa_origin.proofs.Orders.{covers_place}
 use Rattle.roa_origin.proofs.Walks.{passes_none}
 use Rattle.roa_origin.specs.Coverings.{AreThose, IsWalk, covers_route, covering_before}
 use Rattle.roa_origin.specs.Links.{AreFamilyPrefixes, IsTable, NoneCovers}
-use Rattle.roa_origin.specs.Payloads.{Payload, Covers, prefix_len}
+use Rattle.roa_origin.specs.Payloads.{Payload, CoversRoute, prefix_len}
 use Rattle.roa_origin.specs.Places.{payload_place, place}
 
 -- addresses have as many bits where they are of one family, and there alone
@@ -32,19 +32,19 @@ same_family (V4 m) (V6 n) e = absurd (let f : 32 ≡ 128 = e in omega (arith, f)
 same_family (V6 m) (V4 n) e = absurd (let f : 128 ≡ 32 = e in omega (arith, f))
 same_family (V6 m) (V6 n) e = refl
 
-tells_covers : (route : FamilyPrefix) (x : Payload) → covers_route route x ≡ true → Covers route x
+tells_covers : (route : FamilyPrefix) (x : Payload) → covers_route route x ≡ true → CoversRoute route x
 tells_covers route x e =
     let parts = and_parts _ _ e in
     let bounds = and_parts _ _ parts.1 in
     covers_round x.0.prefix route (record { family = same_family _ _ (eqb-true _ _ parts.0); from = leb-true _ _ bounds.0; upto = leb-true _ _ bounds.1 })
 
-is_told : (route : FamilyPrefix) (x : Payload) → Covers route x → covers_route route x ≡ true
+is_told : (route : FamilyPrefix) (x : Payload) → CoversRoute route x → covers_route route x ≡ true
 is_told route x c =
     let r = round_covers x.0.prefix route c in
     rw (eq-eqb _ _ (same_width x.0.prefix.addr route.addr r.family), le-leb _ _ r.from, le-leb _ _ r.upto) refl
 
 -- a test that says it says the same
-pub told : (route : FamilyPrefix) (x : Payload) (b : Bool) → (b ≡ true → Covers route x) → (Covers route x → b ≡ true) → covers_route route x ≡ b
+pub told : (route : FamilyPrefix) (x : Payload) (b : Bool) → (b ≡ true → CoversRoute route x) → (CoversRoute route x → b ≡ true) → covers_route route x ≡ b
 told route x true on back = is_told route x (on refl)
 told route x false on back = which (covers_route route x) refl
   where
@@ -53,13 +53,13 @@ told route x false on back = which (covers_route route x) refl
     which true e = absurd (let f : false ≡ true = back (tells_covers route x e) in cc)
 
 -- one element more
-one_more : (route : FamilyPrefix) (x : Payload) (xs : List Payload) (t : Bool) → covers_route route x ≡ t → AreThose (Covers route) xs (filter (covers_route route) xs)
-    → AreThose (Covers route) (x ∷ xs) (filter (covers_route route) (x ∷ xs))
+one_more : (route : FamilyPrefix) (x : Payload) (xs : List Payload) (t : Bool) → covers_route route x ≡ t → AreThose (CoversRoute route) xs (filter (covers_route route) xs)
+    → AreThose (CoversRoute route) (x ∷ xs) (filter (covers_route route) (x ∷ xs))
 one_more route x xs true e those = rw e (inl (tells_covers route x e, filter (covers_route route) xs, refl, those))
 one_more route x xs false e those = rw e (inr ((λ h. absurd (let f : false ≡ true = sym e ∙ is_told route x h in cc)), those))
 
 -- what the test picks out of a list are those that cover the route
-pub are_those : (route : FamilyPrefix) (xs : List Payload) → AreThose (Covers route) xs (filter (covers_route route) xs)
+pub are_those : (route : FamilyPrefix) (xs : List Payload) → AreThose (CoversRoute route) xs (filter (covers_route route) xs)
 are_those route [] = refl
 are_those route (x ∷ xs) = one_more route x xs (covers_route route x) refl (are_those route xs)
 
@@ -79,7 +79,7 @@ module _ (route : FamilyPrefix) (xs : List Payload) where
       ∙ picked y x s (covers_route route x) (covering_before route xs k) is (ap (covers_route route) is)
 
   -- places at which none covers the route give none
-  free_step : (k : ℕ) (d : Payload) → k < length xs → ¬ Covers route (get_or xs k d) → covering_before route xs (k + 1) ≡ covering_before route xs k
+  free_step : (k : ℕ) (d : Payload) → k < length xs → ¬ CoversRoute route (get_or xs k d) → covering_before route xs (k + 1) ≡ covering_before route xs k
   free_step k d small free =
       let y : Payload = get_or xs k d in
       let none : covers_route route y ≡ false = told route y false (λ e. absurd (let f : false ≡ true = e in cc)) (λ c. absurd (free c)) in
@@ -136,8 +136,8 @@ by_length route xs is ordered prefixes i j d before inside =
     let there : i < length ys = omega (arith, before, inside) in
     let are = All-filter (covers_route route) (λ x. IsFamilyPrefix x.0.prefix) xs prefixes in
     let covers = filter_passes (covers_route route) xs in
-    let of_p : Covers route p = tells_covers route p (covers i d there) in
-    let of_q : Covers route q = tells_covers route q (covers j d inside) in
+    let of_p : CoversRoute route p = tells_covers route p (covers i d there) in
+    let of_q : CoversRoute route q = tells_covers route q (covers j d inside) in
     let places : payload_place p ≤ payload_place q = IsNonDecreasingBy-filter payload_place (covers_route route) xs ordered i j d before inside in
     covers_len p.0.prefix q.0.prefix (are i d there)
     (covers_between p.0.prefix q.0.prefix route (are i d there) (are j d inside) is places (covers_place q.0.prefix route (are j d inside) is of_q) of_p)
@@ -156,7 +156,7 @@ module _ (xs : List Payload) (links : List ℕ) (n : ℕ) (route : FamilyPrefix)
     is_prefix = walk.is_prefix;
   }
 
-  pub gives : (d : Payload) → Covers route (get_or xs (at - 1) d) → NoneCovers xs route at n
+  pub gives : (d : Payload) → CoversRoute route (get_or xs (at - 1) d) → NoneCovers xs route at n
       → covering_before route xs n ≡ get_or xs (at - 1) d ∷ covering_before route xs (slice_index links (at - 1))
   gives d covers none =
       let last : ℕ = at - 1 in

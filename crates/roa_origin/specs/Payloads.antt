@@ -12,12 +12,12 @@ abbrev pub prefix_len : Payload → ℕ
 prefix_len payload = payload.0.prefix.len
 
 -- the payload's prefix covers the route's (RFC 6811, 2: 'Covered')
-abbrev pub Covers : FamilyPrefix → Payload → Type 0
-Covers route payload = CoversPrefix payload.0.prefix route
+abbrev pub CoversRoute : FamilyPrefix → Payload → Type 0
+CoversRoute route payload = CoversPrefix payload.0.prefix route
 
 -- besides, the route is no longer than the payload allows, and its AS is the payload's and not AS0 (RFC 6811, 2: 'Matched')
 pub record Matches (route : FamilyPrefix) (asn : ℕ) (payload : Payload) : Type 0 where
-  pub covers : Covers route payload
+  pub covers : CoversRoute route payload
   pub allowed : route.len ≤ resolved payload.0.prefix payload.0.max_len
   pub same_as : payload.1 ≡ asn
   pub not_as0 : asn ≢ 0

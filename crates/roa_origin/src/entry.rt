@@ -1,7 +1,7 @@
 //! Payloads as a table holds them: in 32 octets each.
 ghost use Rattle.std.specs.Prelude.{◌*◌, ◌^◌, ◌<◌, ◌≡◌, ◌↔◌, ◌≤◌, IsTrue};
 ghost use Rattle.std.specs.Ordering.{nat_cmp};
-ghost use Rattle.roa_origin.specs.Payloads.{Covers, Matches};
+ghost use Rattle.roa_origin.specs.Payloads.{CoversRoute, Matches};
 ghost use Rattle.roa_origin.specs.Places.{payload_place};
 ghost use Rattle.roa_origin.specs.Starts.{first_bits};
 
@@ -128,7 +128,7 @@ impl Entry {
 
     /// Whether the payload covers a route (RFC 6811, 2).
     pub(crate) fn covers(&self, route: Prefix) -> bool
-        ensures { IsTrue result ↔ Covers route self.now }
+        ensures { IsTrue result ↔ CoversRoute route self.now }
     {
         self.prefix().covers(route)
     }

@@ -1,7 +1,7 @@
 //! The validity of a route's origin by a list of payloads (RFC 6811, 2).
 ghost use Rattle.std.specs.Prelude.{◌↔◌, IsTrue};
 ghost use Rattle.roa_origin.specs.Validities.{IsValidity};
-ghost use Rattle.roa_origin.specs.Payloads.{Covers, Matches};
+ghost use Rattle.roa_origin.specs.Payloads.{CoversRoute, Matches};
 
 use rpki_base::Asn;
 use rpki_prefix::{MaxLenPrefix, Prefix};
@@ -19,7 +19,7 @@ pub enum Validity {
 
 /// Whether a payload covers a route: its prefix covers the route's, so both are of one family (RFC 6811, 2).
 pub(crate) fn covers(payload: &(MaxLenPrefix, Asn), route: Prefix) -> bool
-    ensures { IsTrue result ↔ Covers route payload.now }
+    ensures { IsTrue result ↔ CoversRoute route payload.now }
 {
     payload.0.prefix().covers(route)
 }

@@ -4,7 +4,7 @@ use Rattle.std.specs.List.{filter}
 use Rattle.std.specs.List.Sorted.{IsNonDecreasingBy}
 use Rattle.roa_origin.specs.Coverings.{AreThose, covers_route}
 use Rattle.roa_origin.specs.Links.{IsTable}
-use Rattle.roa_origin.specs.Payloads.{Covers, Payload, prefix_len}
+use Rattle.roa_origin.specs.Payloads.{CoversRoute, Payload, prefix_len}
 use Rattle.roa_origin.proofs.Covered.{all_before, are_those, by_length}
 use Rattle.roa_origin.proofs.Firsts.{same_starts}
 use Rattle.roa_origin.proofs.Walks.{same_table}
@@ -38,7 +38,7 @@ backwards g c =
     ∙ ap (filter (covers_route c.args.route)) (c.as_slice-payloads.ensures.value ∙ c.self.view_is)
 
 pub returns-clause-covering : goal.returns-clause-covering
-returns-clause-covering g c = subst (AreThose (Covers c.args.route) c.args.self.now) (sym (backwards g c)) (are_those c.args.route c.args.self.now)
+returns-clause-covering g c = subst (AreThose (CoversRoute c.args.route) c.args.self.now) (sym (backwards g c)) (are_those c.args.route c.args.self.now)
 
 pub returns-clause-longest_first : goal.returns-clause-longest_first
 returns-clause-longest_first g c =

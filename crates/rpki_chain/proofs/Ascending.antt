@@ -1,6 +1,6 @@
 -- Blocks that strict cursors take one after another: they are a chain, and the octets are what is written of their set.
 use Rattle.std.proofs.Common.{◌≡◌, ℕ, suc, ◌+◌, ◌^◌, ◌<◌, ◌≤◌, List, [], ◌∷◌, ◌++◌, length, map, Option, Some, None, refl, sym, ap, subst, ◌∙◌, arith}
-use Rattle.std.specs.Prelude.{All, AllPairs}
+use Rattle.std.specs.Prelude.{All, AllPairs, ⊤}
 use Rattle.std.proofs.lemmas.List.Elements.{All-cons, All-map, All-nil, All-tail}
 use Rattle.std.proofs.lemmas.List.Folds.{flat_map-map}
 use Rattle.std.proofs.lemmas.List.Kept.{AllPairs-cons}
@@ -13,14 +13,25 @@ use Rattle.rpki_der.proofs.Written.{value_is}
 use Rattle.rpki_base.specs.DerReading.{IsSequenceFrom}
 use Rattle.rpki_base.specs.DerWriting.{octets_of_all, sequence_octets}
 use Rattle.rpki_chain.specs.BlockSets.{IsBlockChain, IsBlockSet}
-use Rattle.rpki_chain.specs.Runs.{Runs, Holds, IsRunsOf, IsRunsOfBlocks}
-use Rattle.rpki_chain.proofs.RunLists.{IsRunsOf-itself, IsRunsOf-unique, IsRunsOfBlocks-bounds}
+use Rattle.rpki_chain.specs.ChoiceDer.{IsChoiceOf}
+use Rattle.rpki_chain.specs.Choices.{ListsBy, MatchChoice}
+use Rattle.rpki_chain.specs.declared.choice.ResourcesChoice.{ResourcesChoice}
+use Rattle.rpki_chain.specs.declared.choice.ResourcesChoice.TheVariants.{Missing, Inherit, Blocks}
+use Rattle.rpki_chain.specs.Runs.{Runs, IsRunsOfBlocks}
+use Rattle.rpki_chain.proofs.RunLists.{IsRunsOf-unique, IsRunsOfBlocks-bounds}
 use Rattle.rpki_chain.proofs.SetLemmas.{IsBlockSet-from_chain, blocks_made, made_of_set}
 
 -- what is beyond what is beyond
 beyond_more : (before : Option ℕ) (a b n : ℕ) → IsBeyond before a → a ≤ b → b + 1 < n → IsBeyond before n
 beyond_more None a b n first ordered second = tt
 beyond_more (Some greatest) a b n first ordered second = omega (arith, first, ordered, second)
+
+-- what is listed in such lists as were read is as what was read
+pub listed_are : {X Y : Type 0} (items : Y → List X) (P : List X → Type 0) (read : ResourcesChoice (List X)) (listed : ResourcesChoice Y)
+    → ListsBy (λ xs l. items l ≡ xs) read listed → MatchChoice read ⊤ ⊤ P → MatchChoice listed ⊤ ⊤ (λ l. P (items l))
+listed_are items P Missing listed e is = subst (λ l. MatchChoice l ⊤ ⊤ (λ m. P (items m))) (sym e) tt
+listed_are items P Inherit listed e is = subst (λ l. MatchChoice l ⊤ ⊤ (λ m. P (items m))) (sym e) tt
+listed_are items P (Blocks xs) listed (l, same, e) is = subst (λ m. MatchChoice m ⊤ ⊤ (λ k. P (items k))) (sym e) (subst P (sym same) is)
 
 -- the runs of no blocks
 pub no_numbers : {B : Type 0} (f : B → ℕ × ℕ) (set : Runs) → IsRunsOfBlocks f [] set → set ≡ []
@@ -71,6 +82,15 @@ module _ {B : Type 0} (f : B → ℕ × ℕ) (form : ℕ × ℕ → B) (octets :
         beyond = All-cons (λ y. IsBeyond before (f y).0) x xs first (λ k d small. beyond_more before (f x).0 (f x).1 _ first in_order (then.beyond k d small));
         spelled = split ∙ ap (λ (t : List ℕ). t ++ rest) (is.spelled front x g) ∙ ap (λ (t : List ℕ). octets x ++ t) then.spelled;
       }
+
+  -- so they are a chain, and so is what resources list
+  pub taken_chain : (before : Option ℕ) (bytes : List ℕ) (xs : List B) → EachFrom Next Behind before bytes xs → IsChain f form xs
+  taken_chain before bytes xs each = (are_taken before bytes xs each).chain.chain
+
+  pub listed_chain : (bytes : List ℕ) (choice : ResourcesChoice (List B)) → IsChoiceOf (IsSequenceFrom Next Behind None) bytes choice → MatchChoice choice ⊤ ⊤ (IsChain f form)
+  listed_chain bytes Missing is = tt
+  listed_chain bytes Inherit is = tt
+  listed_chain bytes (Blocks xs) ((content, at, each), some) = taken_chain None content xs each
 
   -- what is written of runs is taken as their blocks
   taken : (before : Option ℕ) (set : Runs) → All (λ b. b.0 ≤ b.1) set → All (λ b. b.1 ≤ last) set → All Fits set → AllPairs (λ b c. b.1 + 1 < c.0) set → All (λ b. IsBeyond before b.0) set

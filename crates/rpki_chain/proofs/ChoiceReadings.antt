@@ -1,5 +1,5 @@
 -- The reading of resources finds what the grammar says, and nothing else.
-use Rattle.std.proofs.Common.{◌≡◌, ◌≢◌, ℕ, ◌≤◌, Bool, true, List, [], ◌∷◌, Some, Result, Ok, refl, sym, subst, ◌∙◌, arith, inl, inr, slice_get}
+use Rattle.std.proofs.Common.{◌≡◌, ◌≢◌, ℕ, ◌≤◌, Bool, true, List, [], ◌∷◌, Some, Result, Ok, refl, sym, subst, ◌∙◌, arith, inl, inr, slice_get, get_or, ap}
 use Rattle.rpki_der.specs.declared.error.DerError.{DerError}
 use Rattle.rpki_der.specs.Der.{IsBytes, IsNothing, IsSequence, IsTlv, IsValue, Refines}
 use Rattle.rpki_der.specs.Reading.{IsModal, IsReading, Tightens, nothing, value_at}
@@ -25,6 +25,11 @@ has_numbers {B} f (y ∷ ys) x set at ordered is none =
     let first : y ≡ x = cc in
     let covered : Covers f (y ∷ ys) (f y).0 = Covers-head f y ys (f y).0 (omega arith, subst (λ (z : B). (f z).0 ≤ (f z).1) (sym first) ordered) in
     Covers-nil (λ b. b) (f y).0 (subst (λ (runs : Runs). Holds runs (f y).0) none ((is.members (f y).0).1 covered))
+
+-- the first of some values is the one at index 0
+pub first_of_some : {B : Type 0} (xs : List B) (x : B) → xs ≢ [] → x ≡ get_or xs 0 x → slice_get xs 0 ≡ Some x
+first_of_some [] x some at = absurd (some refl)
+first_of_some (y ∷ ys) x some at = ap Some (sym at)
 
 module _ {X : Type 0} (Says : List ℕ → List X → Type 0) (values : List ℕ → Result (List X) DerError) (check : IsCheck IsBytes Says values) where
   -- a content that says inherited resources, and one that says listed ones

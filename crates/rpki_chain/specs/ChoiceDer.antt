@@ -1,5 +1,5 @@
 -- Resources in DER (RFC 3779, 2.2.3.4 and 3.2.3.2), whatever their blocks are.
-use Rattle.std.specs.Prelude.{◌≡◌, ◌≢◌, ℕ, List, [], ◌∷◌, Result, Ok, Err}
+use Rattle.std.specs.Prelude.{◌≢◌, ℕ, List, [], ◌∷◌, Result, Ok, Err}
 use Rattle.rpki_der.specs.declared.error.DerError.{DerError}
 use Rattle.rpki_der.specs.declared.error.DerError.TheVariants.{EmptyBlocks}
 use Rattle.rpki_der.specs.Der.{IsNull, Refines, Tlv, null_value}

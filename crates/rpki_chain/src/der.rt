@@ -1,15 +1,16 @@
 //! Resources in DER: NULL where they are inherited, and else a SEQUENCE of blocks, one at least (RFC 3779, 2.2.3.4 to
 //! 2.2.3.6, 3.2.3.2 to 3.2.3.4).
-ghost use Rattle.std.specs.Prelude.{◌≡◌, ◌≢◌, ◌≤◌, ◌<◌, ◌+◌, ◌^◌, ◌++◌, [], length, vec_len, IfOk, IfSome, IfNone, OnOk, OnErr, IsOk};
+ghost use Rattle.std.specs.Prelude.{◌≡◌, ◌≢◌, ◌≤◌, ◌<◌, ◌+◌, ◌^◌, ◌++◌, true, [], length, vec_len, IfOk, IfSome, IfNone, OnOk, OnErr, IsOk, ⊤};
 ghost use Rattle.std.specs.Vec.{vec_capacity};
 ghost use Rattle.rpki_der.specs.Views.{Lenient, is_strict, is_strict_in, left, tlv};
 ghost use Rattle.rpki_base.specs.DerReading.{IsSequenceFrom, values_from};
-ghost use Rattle.rpki_base.specs.DerViews.{GivesSaidOrMemory, ReadsOrMemory, TakesSaidOrMemory};
+ghost use Rattle.rpki_base.specs.DerViews.{GivesOrMemory, GivesSaidOrMemory, ReadsOrMemory, TakesSaidOrMemory};
 ghost use Rattle.rpki_base.specs.DerWriting.{octets_of_all, sequence_octets};
-ghost use Rattle.rpki_chain.specs.Choices.{ListsBy};
+ghost use Rattle.rpki_chain.specs.Choices.{ListsBy, MatchChoice};
 ghost use Rattle.rpki_chain.specs.ChoiceDer.{IsResourcesOf, choice_at, choice_in, choice_octets, some_in};
 ghost use Rattle.rpki_chain.specs.Claims.{ListsSome};
 ghost use Rattle.rpki_chain.specs.Runs.{IsRunsOfBlocks};
+ghost use Rattle.rpki_blocks.specs.Sets.{IsChain};
 
 use crate::choice::ResourcesChoice;
 use crate::set::BlockSet;
@@ -49,7 +50,6 @@ pub fn take_choice<T: Block, R: ReadNext<Value = T>, A: Allocator + Copy>(
 }
 
 // The reading behind the take.
-#[tactic(auto, unfolding(rpki_der::specs::Reading::refined))]
 fn next_choice<T: Block, R: ReadNext<Value = T>, A: Allocator + Copy>(
     alloc: A,
     reader: &R,
@@ -63,51 +63,128 @@ fn next_choice<T: Block, R: ReadNext<Value = T>, A: Allocator + Copy>(
     ensures some { IfOk result ListsSome }
 {
     let mut ahead = *cursor;
-    let choice = choice_of_value(alloc, reader, &ahead.take_value()?)?;
+    let listed = take_listed(alloc, reader, &mut ahead)?;
+    let choice = make_sets(alloc, listed, false)?;
     *cursor = ahead;
     Ok(choice)
 }
 
+/// Takes resources as `take_choice` does, with its faults, and answers the blocks that are listed as they stand there.
+#[tactic(auto, unfolding(rpki_der::specs::Reading::refined))]
+pub fn take_listed<R: ReadNext, A: Allocator + Copy>(
+    alloc: A,
+    reader: &R,
+    cursor: &mut Cursor<'_>,
+) -> Result<ResourcesChoice<Vec<R::Value, A>>, OrMemory<DerError>>
+    ensures by_mode { TakesSaidOrMemory (ListsBy (λ values listed. listed.items ≡ values))
+        cursor.old cursor.new result
+        (choice_at (values_from (R.after reader.now)
+        (R.reading_by reader.now (is_strict cursor.old)) (R.first reader.now))) }
+    ensures mode { is_strict cursor.new ≡ is_strict cursor.old }
+    ensures some { IfOk result (λ choice.
+        MatchChoice choice ⊤ ⊤ (λ listed. listed.items ≢ [])) }
+{
+    let mut ahead = *cursor;
+    let listed = listed_in(alloc, reader, &ahead.take_value()?)?;
+    *cursor = ahead;
+    Ok(listed)
+}
+
 #[tactic(auto, unfolding(rpki_base::specs::DerReading::by_tag))]
-fn choice_of_value<T: Block, R: ReadNext<Value = T>, A: Allocator + Copy>(
+fn listed_in<R: ReadNext, A: Allocator + Copy>(
     alloc: A,
     reader: &R,
     value: &Content<'_>,
-) -> Result<ResourcesChoice<BlockSet<T, A>>, OrMemory<DerError>>
-    ensures by_mode { GivesSaidOrMemory (ListsBy (IsRunsOfBlocks T.bounds)) result
+) -> Result<ResourcesChoice<Vec<R::Value, A>>, OrMemory<DerError>>
+    ensures by_mode { GivesSaidOrMemory (ListsBy (λ values listed. listed.items ≡ values)) result
         (choice_in (values_from (R.after reader.now)
         (R.reading_by reader.now (is_strict_in value.now)) (R.first reader.now))
         (tlv value.now)) }
-    ensures some { IfOk result ListsSome }
+    ensures some { IfOk result (λ choice.
+        MatchChoice choice ⊤ ⊤ (λ listed. listed.items ≢ [])) }
 {
     match value.tag() {
         tag::NULL => {
             value.to_null()?;
             Ok(ResourcesChoice::Inherit)
         }
-        tag::SEQUENCE => Ok(ResourcesChoice::Blocks(set_within(alloc, reader, value.cursor())?)),
+        tag::SEQUENCE => Ok(ResourcesChoice::Blocks(read_some(alloc, reader, value.cursor())?)),
         _ => Err(OrMemory::Refused(DerError::BadTag)),
     }
 }
 
-/// The set of the blocks in a content, one at least.
-fn set_within<T: Block, R: ReadNext<Value = T>, A: Allocator + Copy>(
+/// The values of a content, one at least.
+fn read_some<R: ReadNext, A: Allocator + Copy>(
     alloc: A,
     reader: &R,
     content: Cursor<'_>,
-) -> Result<BlockSet<T, A>, OrMemory<DerError>>
-    ensures by_mode { GivesSaidOrMemory (IsRunsOfBlocks T.bounds) result
+) -> Result<Vec<R::Value, A>, OrMemory<DerError>>
+    ensures by_mode { GivesOrMemory (λ values. values.items) result
         (some_in (values_from (R.after reader.now)
         (R.reading_by reader.now (is_strict content.entry)) (R.first reader.now))
         (left content.entry)) }
+    ensures some { IfOk result (λ values. values.items ≢ []) }
+{
+    let values = read_values(alloc, reader, content)?;
+    if values.is_empty() {
+        return Err(OrMemory::Refused(DerError::EmptyBlocks));
+    }
+    Ok(values)
+}
+
+/// The resources that list the set of the blocks. Blocks that are a chain already are taken as they stand, and others are
+/// joined. `AllocError` where there is no memory for what the set's owners share.
+pub fn make_sets<T: Block, A: Allocator>(
+    alloc: A,
+    listed: ResourcesChoice<Vec<T, A>>,
+    are_chain: bool,
+) -> Result<ResourcesChoice<BlockSet<T, A>>, AllocError>
+    requires some { MatchChoice listed ⊤ ⊤ (λ blocks. blocks.items ≢ []) }
+    requires chain { are_chain ≡ true
+        → MatchChoice listed ⊤ ⊤ (λ blocks. IsChain T.bounds T.form blocks.items) }
+    ensures sets { IfOk result
+        (ListsBy (λ blocks set. IsRunsOfBlocks T.bounds blocks.items set) listed) }
+    ensures some { IfOk result ListsSome }
+{
+    match listed {
+        ResourcesChoice::Missing => Ok(ResourcesChoice::Missing),
+        ResourcesChoice::Inherit => Ok(ResourcesChoice::Inherit),
+        ResourcesChoice::Blocks(blocks) => {
+            Ok(ResourcesChoice::Blocks(make_set(alloc, blocks, are_chain)?))
+        }
+    }
+}
+
+/// The set of the blocks, of which there is one at least.
+fn make_set<T: Block, A: Allocator>(
+    alloc: A,
+    blocks: Vec<T, A>,
+    are_chain: bool,
+) -> Result<BlockSet<T, A>, AllocError>
+    requires some { blocks.items ≢ [] }
+    requires chain { are_chain ≡ true → IsChain T.bounds T.form blocks.items }
+    ensures runs { IfOk result (IsRunsOfBlocks T.bounds blocks.items) }
     ensures some { IfOk result (λ set. set ≢ []) }
 {
-    let blocks = read_values(alloc, reader, content)?;
-    let Some(first) = blocks.first() else {
-        return Err(OrMemory::Refused(DerError::EmptyBlocks));
-    };
-    let _bounds = first.bounds(); // read so that the proof sees that the block, and so the set, has a number
-    Ok(BlockSet::from_vec(alloc, blocks)?)
+    let _bounds = blocks[0].bounds(); // read so that the proof sees that the block, and so the set, has a number
+    let set = set_over(alloc, blocks, are_chain)?;
+    Ok(set)
+}
+
+/// The set of the blocks, which are joined where they are no chain yet.
+fn set_over<T: Block, A: Allocator>(
+    alloc: A,
+    blocks: Vec<T, A>,
+    are_chain: bool,
+) -> Result<BlockSet<T, A>, AllocError>
+    requires { are_chain ≡ true → IsChain T.bounds T.form blocks.items }
+    ensures { IfOk result (IsRunsOfBlocks T.bounds blocks.items) }
+{
+    if are_chain {
+        BlockSet::from_vec_unchecked(alloc, blocks)
+    } else {
+        BlockSet::from_vec(alloc, blocks)
+    }
 }
 
 /// How many octets the blocks have that are listed, without the header of their SEQUENCE, or else all that is written;

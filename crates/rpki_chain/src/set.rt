@@ -74,6 +74,15 @@ impl<T: Block, A: Allocator> BlockSet<T, A> {
         Self::from_owned(alloc, OwnedChain::from_vec(blocks))
     }
 
+    /// The set of the items of blocks that are its runs as they stand, each in the form that `new` gives. It is made in
+    /// their memory. `AllocError` where there is no memory for what its owners share.
+    pub fn from_vec_unchecked(alloc: A, blocks: Vec<T, A>) -> Result<Self, AllocError>
+        requires { IsChain T.bounds T.form blocks.items }
+        ensures { IfOk result (IsRunsOfBlocks T.bounds blocks.items) }
+    {
+        Self::from_owned(alloc, OwnedChain::from_vec_unchecked(blocks))
+    }
+
     /// The set of a chain's items, for several owners. `AllocError` where there is no memory for it.
     pub fn from_owned(alloc: A, chain: OwnedChain<T, A>) -> Result<Self, AllocError>
         ensures { IfOk result (λ set. set ≡ map T.bounds chain) }

@@ -1,8 +1,7 @@
 -- Sets and resources of addresses in either mode: strictly, the octets are those that are written of them.
-use Rattle.std.proofs.Common.{◌≡◌, ◌≢◌, ℕ, ◌-◌, ◌+◌, ◌^◌, ◌<◌, ◌≤◌, true, List, [], ◌∷◌, ◌++◌, length, Option, Some, None, Result, Ok, Err, refl, sym, ap, subst, ◌∙◌, arith}
-use Rattle.std.specs.Prelude.{All, IfOk, MatchResult}
-use Rattle.std.proofs.lemmas.List.Elements.{All-cons, All-from_recursion, All-nil}
-use Rattle.std.proofs.lemmas.List.Kept.{AllPairs-cons}
+use Rattle.std.proofs.Common.{◌≡◌, ◌≢◌, ℕ, ◌-◌, ◌^◌, ◌<◌, ◌≤◌, true, List, [], ◌∷◌, ◌++◌, length, Option, None, Result, Ok, Err, refl, sym, ap, subst, ◌∙◌, arith}
+use Rattle.std.specs.Prelude.{All, IfOk, MatchResult, ⊤}
+use Rattle.std.proofs.lemmas.List.Elements.{All-from_recursion}
 use Rattle.std.proofs.lemmas.Nat.{pow_pos}
 use Rattle.rpki_base.specs.DerReading.{IsSequenceFrom, IsSequenceOf}
 use Rattle.rpki_base.specs.DerViews.{NotCanonicalOrMemory, ReadsOrMemory, TakesSaidOrMemory}
@@ -10,14 +9,14 @@ use Rattle.rpki_base.specs.DerWriting.{octets_of_all}
 use Rattle.rpki_base.proofs.DerCursors.{reads_said_by}
 use Rattle.rpki_base.proofs.DerModes.{exact_said_by, refused_said_by, sequence_modal, takes_said_by, values_stateless}
 use Rattle.rpki_blocks.specs.Beyond.{IsBeyond, is_beyond}
-use Rattle.rpki_blocks.specs.Sets.{IsChain, IsNew}
-use Rattle.rpki_blocks.proofs.Chains.{IsChain-nil}
+use Rattle.rpki_blocks.specs.Sets.{IsChain}
 use Rattle.rpki_chain.specs.Runs.{Runs, Holds, IsRunsOfBlocks}
 use Rattle.rpki_chain.specs.ChoiceDer.{IsChoiceOf}
+use Rattle.rpki_chain.specs.Choices.{MatchChoice}
 use Rattle.rpki_chain.specs.Claims.{Claim}
 use Rattle.rpki_chain.specs.declared.choice.ResourcesChoice.{ResourcesChoice}
 use Rattle.rpki_chain.specs.declared.choice.ResourcesChoice.TheVariants.{Missing, Inherit, Blocks}
-use Rattle.rpki_chain.proofs.Ascending.{IsWritten, no_numbers, set_spelled, spelled_set}
+use Rattle.rpki_chain.proofs.Ascending.{IsWritten, listed_chain, no_numbers, set_spelled, spelled_set, taken_chain}
 use Rattle.rpki_chain.proofs.ChoiceReadings.{has_numbers}
 use Rattle.rpki_claims.proofs.Written.{content_shorter}
 use Rattle.rpki_der.proofs.Written.{value_is}
@@ -99,26 +98,6 @@ next_written_modal limit le before =
     (record { tight = set_block_reading limit le; tightens = (ip_block_modal limit).tightens })
     (λ x e. beyond_is before (ip_bounds x).0 e) (λ x e. is_beyond_of before (ip_bounds x).0 e)
 
--- what is beyond what is beyond
-beyond_more : (before : Option ℕ) (a b n : ℕ) → IsBeyond before a → a ≤ b → b + 1 < n → IsBeyond before n
-beyond_more None a b n first ordered second = tt
-beyond_more (Some greatest) a b n first ordered second = omega (arith, first, ordered, second)
-
--- so such blocks are a chain, beyond the block before
-taken_chain : (limit : ℕ) → limit ≤ 128 → (before : Option ℕ) (bytes : List ℕ) (xs : List IpBlock) → EachFrom greatest_of (IsNextWritten limit) before bytes xs
-    → IsChain ip_bounds new_ip_block xs × All (λ x. IsBeyond before (ip_bounds x).0) xs
-taken_chain limit le before bytes [] none = (IsChain-nil ip_bounds new_ip_block, All-nil _)
-taken_chain limit le before bytes (x ∷ xs) (rest, (front, (written, first), split), more) =
-    let then = taken_chain limit le (Some (ip_bounds x).1) rest xs more in
-    let in_order = (run_of limit x le written.0.0).is_range.ordered in (
-      record {
-        ordered = All-cons (λ y. (ip_bounds y).0 ≤ (ip_bounds y).1) x xs in_order then.0.ordered;
-        apart = AllPairs-cons (λ y z. (ip_bounds y).1 + 1 < (ip_bounds z).0) x xs then.1 then.0.apart;
-        new_form = All-cons (IsNew ip_bounds new_ip_block) x xs written.0.1 then.0.new_form;
-      },
-      All-cons (λ y. IsBeyond before (ip_bounds y).0) x xs first (λ k d small. beyond_more before (ip_bounds x).0 (ip_bounds x).1 _ first in_order (then.1 k d small)),
-    )
-
 -- ---- sequences
 
 pub blocks_modal : (limit : ℕ) → limit ≤ 128 → IsModal (IsSequenceFrom greatest_of (IsNextWritten limit) None) (ip_blocks_at limit) (λ strict. ip_blocks_by strict limit)
@@ -134,7 +113,7 @@ module _ (family : AddressFamily) where
       let le = bits_few_enough family in
       let strictly : ip_blocks_by true limit (left old) ≡ Ok (xs, rest) = subst (λ mode. ip_blocks_by mode limit (left old) ≡ Ok (xs, rest)) strict read in
       let found = (blocks_modal limit le).tight.takes (left old) xs rest fits strictly in
-      (taken_chain limit le None found.1.0 xs found.1.2).0
+      taken_chain ip_bounds new_ip_block ip_block_der 340282366920938463463374607431768211455 (IsRunWithin limit) (IsWrittenBlock limit) (written_blocks limit le) None found.1.0 xs found.1.2
 
   -- and it is what is written of a set of the family
   pub sequence_spelled : (bytes : List ℕ) (set : Runs) → Refines (IsSequenceFrom greatest_of (IsNextWritten (bits_of family)) None) (IsRunsOfBlocks ip_bounds) bytes set → Spells (IsFamilySet family) ip_set_der bytes set
@@ -218,6 +197,15 @@ some_blocks_of : (xs : List IpBlock) (set : Runs) → IsRunsOfBlocks ip_bounds x
 some_blocks_of xs set is some none = some (no_numbers ip_bounds set (subst (λ (t : List IpBlock). IsRunsOfBlocks ip_bounds t set) none is))
 
 module _ (family : AddressFamily) where
+  -- strictly, the blocks that are listed are a chain
+  pub chain_listed : (old : Cursor) (choice : ResourcesChoice (List IpBlock)) (rest : List ℕ) → IsBytes (left old) → is_strict old ≡ true → ip_resources_by (is_strict old) (bits_of family) (left old) ≡ Ok (choice, rest) → MatchChoice choice ⊤ ⊤ (IsChain ip_bounds new_ip_block)
+  chain_listed old choice rest fits strict read =
+      let limit = bits_of family in
+      let le = bits_few_enough family in
+      let strictly : ip_resources_by true limit (left old) ≡ Ok (choice, rest) = subst (λ mode. ip_resources_by mode limit (left old) ≡ Ok (choice, rest)) strict read in
+      let found = (written_modal limit le).tight.takes (left old) choice rest fits strictly in
+      listed_chain ip_bounds new_ip_block ip_block_der 340282366920938463463374607431768211455 (IsRunWithin limit) (IsWrittenBlock limit) (written_blocks limit le) found.0 choice found.1
+
   -- what is taken strictly is what is written of a claim
   pub claim_spelled : (bytes : List ℕ) (claim : Claim) → Refines (IsWrittenChoice (bits_of family)) SaysClaimOf bytes claim → Spells (IsPresentClaim family) ip_resources_der bytes claim
   claim_spelled bytes claim (choice, is, lists) = by_choice choice is lists

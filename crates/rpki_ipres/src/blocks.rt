@@ -16,7 +16,6 @@ ghost use Rattle.rpki_ipres.specs.SetText.{IsIpSet, IsFamilySet, IsSetOf, set_te
 
 use crate::family::IpBlocksForFamily;
 use rpki_base::memory::OrMemory;
-use rpki_blocks::owned::OwnedChain;
 use rpki_chain::set::BlockSet;
 use rpki_ip::error::FromStrError;
 use rpki_ip::range::AddressRange;
@@ -93,8 +92,7 @@ impl<A: Allocator> IpBlocks<A> {
         requires { IsChain ip_bounds new_ip_block blocks.items }
         ensures { IfOk result (IsRunsOfBlocks ip_bounds blocks.items) }
     {
-        let chain = OwnedChain::from_vec_unchecked(blocks);
-        let set = BlockSet::from_owned(alloc, chain)?;
+        let set = BlockSet::from_vec_unchecked(alloc, blocks)?;
         Ok(IpBlocks::from_set(set))
     }
 

@@ -2,7 +2,7 @@
 use crate::der::blocks::{append_family, family_len, put_family};
 use crate::resources::IpResources;
 use rpki_base::memory::OrMemory;
-use rpki_chain::der::{content_len, encode_choice, take_choice};
+use rpki_chain::der::{content_len, encode_choice, make_sets, take_listed};
 use rpki_claims::{ReadClaim, take_families};
 use rpki_der::{Cursor, DerError, append_header, header_len, tag};
 use rpki_ip::family::AddressFamily;
@@ -236,7 +236,10 @@ impl<A: Allocator> IpResources<A> {
         ensures short { length (left cursor.old) < 2 ^ 64 }
     {
         let _len = cursor.rest().len(); // read so that the proof sees that the octets are fewer than 2^64
-        let choice = take_choice(alloc, &IpBlockReader { family }, cursor)?;
+        let mut ahead = *cursor;
+        let listed = take_listed(alloc, &IpBlockReader { family }, &mut ahead)?;
+        let choice = make_sets(alloc, listed, cursor.is_strict())?;
+        *cursor = ahead;
         Ok(IpResources::from_choice(choice))
     }
 

@@ -1,5 +1,5 @@
 -- What is written of sets of AS numbers, and that it is read back.
-use Rattle.std.proofs.Common.{◌≡◌, ℕ, zero, suc, ◌+◌, ◌*◌, ◌^◌, ◌<◌, ◌≤◌, ◌↔◌, Bool, true, List, Option, Some, None, [], ◌∷◌, ◌++◌, length, map, get_or, Result, refl, sym, ap, subst, ◌∙◌, arith, ⊎_elim}
+use Rattle.std.proofs.Common.{◌≡◌, ℕ, zero, suc, ◌+◌, ◌*◌, ◌^◌, ◌<◌, ◌≤◌, ◌↔◌, true, List, None, [], ◌∷◌, ◌++◌, length, map, get_or, Result, Ok, refl, sym, ap, subst, ◌∙◌, arith, ⊎_elim}
 use Rattle.std.specs.List.{AllByRecursion, flat_map}
 use Rattle.std.specs.Prelude.{MatchResult}
 use Rattle.std.proofs.lemmas.Bool.{cases_lt, eq-eqb, ne_eqb}
@@ -7,8 +7,8 @@ use Rattle.std.proofs.lemmas.List.{length-append}
 use Rattle.std.proofs.lemmas.List.Elements.{recursion_from_All}
 use Rattle.std.proofs.lemmas.List.Folds.{flat_map-map}
 use Rattle.rpki_chain.specs.Runs.{Runs, Holds, IsRunsOfBlocks}
-use Rattle.rpki_blocks.specs.Sets.{Covers}
-use Rattle.rpki_chain.proofs.Ascending.{IsWritten, set_spelled, spelled_set}
+use Rattle.rpki_blocks.specs.Sets.{Covers, IsChain}
+use Rattle.rpki_chain.proofs.Ascending.{IsWritten, set_spelled, spelled_set, taken_chain}
 use Rattle.rpki_chain.proofs.RunLists.{IsRunsOf-unique, same_numbers}
 use Rattle.rpki_chain.proofs.SetLemmas.{bounds_made, made_of_set}
 use Rattle.rpki_der.specs.declared.cursor.Cursor.{Cursor}
@@ -180,7 +180,13 @@ blocks_modal =
     subst (λ values. IsModal (IsSequenceFrom greatest_of IsNextBlock None) (refined (tagged_at 48) values) as_blocks_by) (values_stateless greatest_of as_block_at None)
     (sequence_modal greatest_of (λ before. IsAsBlock) IsNextBlock (λ before. as_block_at) next_block_by (λ before. as_block_reading) (λ before. as_block_has_octets) next_block_modal None)
 
--- strictly, it is what is written of a set
+-- strictly, its blocks are a chain
+pub chain_read : (old : Cursor) (xs : List AsBlock) (rest : List ℕ) → IsBytes (left old) → is_strict old ≡ true → as_blocks_by (is_strict old) (left old) ≡ Ok (xs, rest) → IsChain as_bounds new_as_block xs
+chain_read old xs rest fits strict read =
+    let found = blocks_modal.tight.takes (left old) xs rest fits (subst (λ mode. as_blocks_by mode (left old) ≡ Ok (xs, rest)) strict read) in
+    taken_chain as_bounds new_as_block as_block_octets 4294967295 (λ b. Unit {0}) IsStrictBlock strict_blocks None found.1.0 xs found.1.2
+
+-- and it is what is written of a set
 pub sequence_spelled : (bytes : List ℕ) (set : Runs) → Refines (IsSequenceFrom greatest_of IsNextBlock None) (IsRunsOfBlocks as_bounds) bytes set → Spells IsAsSet as_sequence_octets bytes set
 sequence_spelled bytes set is =
     let spelled = set_spelled as_bounds new_as_block as_block_octets 4294967295 (λ b. Unit {0}) IsStrictBlock strict_blocks bytes set is in

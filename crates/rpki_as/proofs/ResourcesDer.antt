@@ -1,6 +1,6 @@
 -- What is written of AS resources is read back.
-use Rattle.std.proofs.Common.{◌≡◌, ◌≢◌, ℕ, ◌+◌, ◌^◌, ◌<◌, ◌≤◌, ◌↔◌, true, List, [], ◌∷◌, ◌++◌, length, map, Option, None, Result, refl, sym, ap, subst, ◌∙◌, arith, ⊎_elim}
-use Rattle.std.specs.Prelude.{MatchResult}
+use Rattle.std.proofs.Common.{◌≡◌, ◌≢◌, ℕ, ◌+◌, ◌^◌, ◌<◌, ◌≤◌, ◌↔◌, true, List, [], ◌∷◌, ◌++◌, length, map, None, Result, Ok, refl, sym, ap, subst, ◌∙◌, arith, ⊎_elim}
+use Rattle.std.specs.Prelude.{MatchResult, ⊤}
 use Rattle.std.proofs.lemmas.Bool.{cases_lt, le-ltb, lt-ltb}
 use Rattle.std.proofs.lemmas.List.{append_assoc, length-append}
 use Rattle.rpki_der.specs.declared.cursor.Cursor.{Cursor}
@@ -20,23 +20,24 @@ use Rattle.rpki_base.proofs.DerReadings.{enclosed_reading, one_front_said, value
 use Rattle.rpki_chain.specs.declared.choice.ResourcesChoice.{ResourcesChoice}
 use Rattle.rpki_chain.specs.declared.choice.ResourcesChoice.TheVariants.{Missing, Inherit, Blocks}
 use Rattle.rpki_chain.specs.ChoiceDer.{IsChoiceOf, choice_at, choice_octets}
-use Rattle.rpki_chain.specs.Choices.{ListsBy}
+use Rattle.rpki_chain.specs.Choices.{ListsBy, MatchChoice}
 use Rattle.rpki_chain.specs.Claims.{Claim, IsClaim}
 use Rattle.rpki_chain.specs.Runs.{Runs, IsRunsOfBlocks}
-use Rattle.rpki_chain.proofs.Ascending.{no_numbers}
+use Rattle.rpki_blocks.specs.Sets.{IsChain}
+use Rattle.rpki_chain.proofs.Ascending.{listed_chain, no_numbers}
 use Rattle.rpki_chain.proofs.ChoiceReadings.{choice_modal, choice_reading, has_numbers}
 use Rattle.rpki_chain.proofs.ClaimLemmas.{lists_one}
 use Rattle.rpki_as.specs.AsDer.{IsAsChoice, IsAsResources, IsPresentClaim, as_resources_octets, as_sequence_octets, as_set_octets}
-use Rattle.rpki_asblock.specs.AsDer.{IsAsBlock}
+use Rattle.rpki_asblock.specs.AsDer.{IsAsBlock, as_block_octets}
 use Rattle.rpki_asblock.specs.AsDerLaws.{as_block_has_octets, as_block_reading}
-use Rattle.rpki_asblock.specs.AsDerModes.{IsNextBlock, next_block_modal}
+use Rattle.rpki_asblock.specs.AsDerModes.{IsNextBlock, IsStrictBlock, next_block_modal}
 use Rattle.rpki_as.specs.AsDerReading.{as_choice_at, as_choice_by, greatest_of}
 use Rattle.rpki_asblock.specs.AsDerReading.{as_block_at, next_block_by}
 use Rattle.rpki_as.specs.Blocks.{IsAsSet}
 use Rattle.rpki_asblock.specs.Blocks.{as_bounds, new_as_block}
 use Rattle.rpki_asblock.specs.declared.block.AsBlock.{AsBlock}
 use Rattle.rpki_asblock.proofs.AsDerLemmas.{block_numbers}
-use Rattle.rpki_as.proofs.AsDerLemmas.{blocks_say, one_set, sequence_blocks, sequence_spelled, set_octets_few, spelled_sequence}
+use Rattle.rpki_as.proofs.AsDerLemmas.{blocks_say, one_set, sequence_blocks, sequence_spelled, set_octets_few, spelled_sequence, strict_blocks}
 
 -- ---- readings
 
@@ -142,6 +143,22 @@ inner_modal =
     (choice_modal (EachFrom greatest_of IsNextBlock None) (values_from greatest_of (λ before. as_block_at) None) (λ strict. values_from greatest_of (next_block_by strict) None)
     (strict_values_check greatest_of (λ before. IsAsBlock) IsNextBlock (λ before. as_block_at) next_block_by (λ before. as_block_reading) (λ before. as_block_has_octets) next_block_modal None)
     (λ strict. values_tighten strict greatest_of (next_block_by strict) (λ before. as_block_at) (λ before. (next_block_modal before).tightens strict) None))
+
+-- the claim of the blocks that stand in such lists as were read is what was read
+pub claim_of_listed : {Y : Type 0} (items : Y → List AsBlock) (read : ResourcesChoice (List AsBlock)) (listed : ResourcesChoice Y) (claim : Claim)
+    → ListsBy (λ xs l. items l ≡ xs) read listed → ListsBy (λ l set. IsRunsOfBlocks as_bounds (items l) set) listed claim → ListsBy (IsRunsOfBlocks as_bounds) read claim
+claim_of_listed items Missing listed claim e of = subst (λ m. ListsBy (λ l set. IsRunsOfBlocks as_bounds (items l) set) m claim) e of
+claim_of_listed items Inherit listed claim e of = subst (λ m. ListsBy (λ l set. IsRunsOfBlocks as_bounds (items l) set) m claim) e of
+claim_of_listed items (Blocks xs) listed claim (l, same, e) of =
+    let set = subst (λ m. ListsBy (λ k runs. IsRunsOfBlocks as_bounds (items k) runs) m claim) e of in
+    (set.0, subst (λ ys. IsRunsOfBlocks as_bounds ys set.0) same set.1, set.2)
+
+-- strictly, the blocks that are listed are a chain
+pub chain_listed : (old : Cursor) (choice : ResourcesChoice (List AsBlock)) (rest : List ℕ) → IsBytes (left old) → is_strict old ≡ true → choice_at (values_from greatest_of (next_block_by (is_strict old)) None) (left old) ≡ Ok (choice, rest) → MatchChoice choice ⊤ ⊤ (IsChain as_bounds new_as_block)
+chain_listed old choice rest fits strict read =
+    let strictly : choice_at (values_from greatest_of (next_block_by true) None) (left old) ≡ Ok (choice, rest) = subst (λ mode. choice_at (values_from greatest_of (next_block_by mode) None) (left old) ≡ Ok (choice, rest)) strict read in
+    let found = inner_modal.tight.takes (left old) choice rest fits strictly in
+    listed_chain as_bounds new_as_block as_block_octets 4294967295 (λ b. Unit {0}) IsStrictBlock strict_blocks found.0 choice found.1
 
 as_choice_modal : IsModal IsStrictChoice as_choice_at as_choice_by
 as_choice_modal =

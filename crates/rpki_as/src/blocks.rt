@@ -4,6 +4,7 @@ ghost use Rattle.std.specs.Slice.Iter.{iter_rest};
 ghost use Rattle.rpki_text.specs.Memory.{IsMemory};
 ghost use Rattle.rpki_text.specs.Reading.{AnswersOrMemory};
 ghost use Rattle.rpki_blocks.specs.Equality.{same_runs, runs_per, runs_equiv};
+ghost use Rattle.rpki_blocks.specs.Sets.{IsChain};
 ghost use Rattle.rpki_chain.specs.Choices.{MatchChoice};
 ghost use Rattle.rpki_chain.specs.Operations.{IsDifference, IsIntersection, IsUnion};
 ghost use Rattle.rpki_chain.specs.Runs.{Runs, Holds, IsRunsOfBlocks};
@@ -80,6 +81,19 @@ impl<A: Allocator> AsBlocks<A> {
         ensures { IfOk result (IsRunsOfBlocks as_bounds blocks.items) }
     {
         let set = BlockSet::from_vec(alloc, blocks)?;
+        Ok(Self::from_set(set))
+    }
+
+    /// The set of blocks that are its runs as they stand, each in the form that sets have. `AllocError` where there is no
+    /// memory for what its owners share.
+    pub(crate) fn from_vec_unchecked(
+        alloc: A,
+        blocks: Vec<AsBlock, A>,
+    ) -> Result<AsBlocks<A>, AllocError>
+        requires { IsChain as_bounds new_as_block blocks.items }
+        ensures { IfOk result (IsRunsOfBlocks as_bounds blocks.items) }
+    {
+        let set = BlockSet::from_vec_unchecked(alloc, blocks)?;
         Ok(Self::from_set(set))
     }
 

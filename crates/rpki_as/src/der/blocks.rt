@@ -72,7 +72,11 @@ impl<A: Allocator> AsBlocks<A> {
     {
         let mut ahead = *cursor;
         let blocks = take_sequence_of(alloc, &AsBlockReader, &mut ahead)?;
-        let set = AsBlocks::from_vec(alloc, blocks)?;
+        let set = if cursor.is_strict() {
+            AsBlocks::from_vec_unchecked(alloc, blocks)?
+        } else {
+            AsBlocks::from_vec(alloc, blocks)?
+        };
         *cursor = ahead;
         Ok(set)
     }

@@ -1,15 +1,27 @@
--- Each value is taken, and each that encloses it ends behind it.
-use Rattle.std.proofs.Common.{◌∙◌, refl}
+-- Each value is taken, and each that encloses it ends behind it; what a strict cursor gave is the runs of its set as they
+-- stand.
+use Rattle.std.proofs.Common.{◌∙◌, refl, sym}
+use Rattle.rpki_blocks.specs.Sets.{IsChain}
+use Rattle.rpki_chain.proofs.Ascending.{listed_are}
 use Rattle.rpki_der.specs.Reading.{refined}
 use Rattle.rpki_base.specs.DerReading.{only}
+use Rattle.rpki_asblock.specs.Blocks.{as_bounds, new_as_block}
+use Rattle.rpki_as.proofs.ResourcesDer.{chain_listed, claim_of_listed}
 use Rattle.rpki_as.proofs.resources.AsResources.next_resources.Goals as goal
+
+pub make_sets-requires-clause-chain : goal.make_sets-requires-clause-chain
+make_sets-requires-clause-chain g c strict =
+    let said = c.in_ok-listed.ensures.by_mode in
+    let tagged = c.in_ok-tagged.tagged in
+    let mode = c.in_ok-tagged.ensures.hands_on_mode ∙ c.in_ok-inside.ensures.hands_on_mode ∙ sym c.is_strict.ensures.mode ∙ strict in
+    listed_are (λ blocks. blocks.items) (IsChain as_bounds new_as_block) said.0 c.in_ok-listed.listed said.2 (chain_listed tagged said.0 _ tagged.bytes mode said.1)
 
 pub returns-clause-by_mode : goal.returns-clause-by_mode
 unfolding only refined
 returns-clause-by_mode g c =
-    let said = c.in_ok-choice.ensures.by_mode in
+    let said = c.in_ok-listed.ensures.by_mode in
     let mode = c.in_ok-tagged.ensures.hands_on_mode ∙ c.in_ok-inside.ensures.hands_on_mode in (
       said.0,
       rw (c.in_ok-inside.ensures.exact, c.in_ok-tagged.ensures.exact, ← mode, said.1, c.in_ok-finish.ensures.exact, c.in_ok-finish-2.ensures.exact) refl,
-      rw c.from_choice.ensures said.2,
+      rw c.from_choice.ensures (claim_of_listed (λ blocks. blocks.items) said.0 c.in_ok-listed.listed c.in_ok-choice.choice said.2 c.in_ok-choice.ensures.sets),
     )

@@ -10,6 +10,7 @@ mod Joining
 mod MeetTurns
 mod Meets
 mod Merges
+mod Passing
 mod Searches
 pub mod Shortest
 mod Sides

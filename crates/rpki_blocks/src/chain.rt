@@ -114,7 +114,7 @@ impl<T: Block> Chain<'_, T> {
         ensures { IsTrue result ↔
             IsInside T.bounds (chain_blocks self.entry) (chain_blocks other.entry) }
     {
-        is_encompassed(&mut Counted::new(self), &mut Counted::new(other))
+        is_encompassed(self.blocks, other.blocks)
     }
 
     /// `Ok` where each of its numbers is one of the other's, with no memory taken. Else `Refused` with the chain of the

@@ -1,7 +1,7 @@
 //! Whether a chain lies in another, and what of it does.
 ghost use Rattle.std.specs.Prelude.{◌≡◌, ◌+◌, ◌*◌, ◌≤◌, ◌↔◌, length, IsTrue, IsOk, IfErr};
 ghost use Rattle.rpki_text.specs.Memory.{IfRefused};
-ghost use Rattle.rpki_blocks.specs.Sets.{Covers, IsInside, IsChainOf};
+ghost use Rattle.rpki_blocks.specs.Sets.{Covers, IsInside, IsChain, IsChainOf};
 
 use crate::block::Block;
 use crate::common::common_from;
@@ -11,18 +11,32 @@ use crate::reads::Reads;
 use rpki_text::memory::OrMemory;
 use std::alloc::{AllocError, Allocator};
 
-/// Whether each number of the one chain is one of the other. Each chain is read at most once.
-pub fn is_encompassed<T: Block, X: Reads<T>, Y: Reads<T>>(own: &mut X, other: &mut Y) -> bool
-    ensures value { IsTrue result ↔ IsInside T.bounds (X.blocks own.old) (Y.blocks other.old) }
-    ensures own_kept { X.blocks own.new ≡ X.blocks own.old }
-    ensures other_kept { Y.blocks other.new ≡ Y.blocks other.old }
-    ensures own_reads { X.count own.new ≤ X.count own.old + length (X.blocks own.old) }
-    ensures other_reads { Y.count other.new ≤ Y.count other.old + length (Y.blocks other.old) }
+/// Whether each number of the one chain is one of the other. It counts nothing, and reads each block at most once.
+pub fn is_encompassed<T: Block>(own: &[T], other: &[T]) -> bool
+    requires own_chain { IsChain T.bounds T.form own.now }
+    requires other_chain { IsChain T.bounds T.form other.now }
+    ensures { IsTrue result ↔ IsInside T.bounds own.now other.now }
 {
-    match first_overhang(own, other) {
-        None => true,
-        Some(_) => false,
+    let mut others = other.iter();
+    let Some(first) = others.next() else {
+        return own.is_empty();
+    };
+    let mut held = first.bounds();
+    // The blocks passed lie in the other chain, and what comes before the held block comes before the block at hand. So
+    // the first of the other's that doesn't end before it has to hold it: chains have gaps between their blocks.
+    for block in own {
+        let (min, max) = block.bounds();
+        while held.1 < min {
+            let Some(next) = others.next() else {
+                return false;
+            };
+            held = next.bounds();
+        }
+        if min < held.0 || held.1 < max {
+            return false;
+        }
     }
+    true
 }
 
 /// Ok where the one chain lies in the other, with no memory taken; else a refusal with what they have in common, as

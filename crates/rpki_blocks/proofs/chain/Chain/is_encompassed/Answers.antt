@@ -1,5 +1,0 @@
--- The chains are those that are read.
-use Rattle.rpki_blocks.proofs.chain.Chain.is_encompassed.Goals as goal
-
-pub returns : goal.returns
-returns g c = rw (c.new.ensures.blocks, c.new-2.ensures.blocks) at c.is_encompassed.ensures.value

@@ -2,42 +2,43 @@
 //!
 //! The first line of the standard input is what the holder had, the second what it gets: each a list of AS numbers, one
 //! of IPv4 addresses and one of IPv6 addresses, with semicolons between them. The program prints what changes, and the
-//! octets of AS numbers and of addresses for the new certificate, or `missing` where it has none.
+//! octets of AS numbers and of addresses for the new certificate, or `missing` where it has none. Any other input is
+//! refused, by what is wrong with it, with status 1.
 #![tactic(auto)]
 
 mod changes;
+mod input;
 mod octets;
 
+use input::{Input, Lists, read_input};
 use octets::Octets;
 use rpki_resources::OrMemory;
 use rpki_resources::repository::resources::ResourceSet;
 use rpki_resources::repository::resources::set::FromStrError;
 use std::alloc::{AllocError, Global};
+use std::io;
 
 fn main(rt: HostRuntime) -> anyhow::Result<()> {
-    let mut lines = rt.lines(rt.alloc());
-    let had = lines.next().unwrap_or(Ok(String::new(rt.alloc())))?;
-    let gets = lines.next().unwrap_or(Ok(String::new(rt.alloc())))?;
-    compare(&rt, had.as_str(), gets.as_str())
+    let text = io::read_to_string(rt.alloc(), rt.stdin())?;
+    let input = read_input(rt.alloc(), &text)?;
+    compare(&rt, input)
 }
 
-/// Compares what two texts list; each of the calls from here on holds one set more, so that few owners are alive at once.
-fn compare(rt: &HostRuntime, had: &str, gets: &str) -> anyhow::Result<()> {
-    let had = from_lists(rt.alloc(), had)?;
-    compare_with(rt, &had, gets)
+/// Compares what two lines list; each of the calls from here on holds one set more, so that few owners are alive at once.
+fn compare(rt: &HostRuntime, input: Input<'_>) -> anyhow::Result<()> {
+    let had = set_of(rt.alloc(), input.had)?;
+    compare_with(rt, &had, input.gets)
 }
 
-/// Compares a set with what a text lists.
-fn compare_with(rt: &HostRuntime, had: &ResourceSet, gets: &str) -> anyhow::Result<()> {
-    let gets = from_lists(rt.alloc(), gets)?;
+/// Compares a set with what a line lists.
+fn compare_with(rt: &HostRuntime, had: &ResourceSet, gets: Lists<'_>) -> anyhow::Result<()> {
+    let gets = set_of(rt.alloc(), gets)?;
     print(rt, had, &gets)
 }
 
 /// The set that three lists write.
-fn from_lists(alloc: Global, lists: &str) -> Result<ResourceSet, OrMemory<FromStrError>> {
-    let (asn, addresses) = lists.split_once(';').unwrap_or((lists, ""));
-    let (ipv4, ipv6) = addresses.split_once(';').unwrap_or((addresses, ""));
-    ResourceSet::from_strs(alloc, asn, ipv4, ipv6)
+fn set_of(alloc: Global, lists: Lists<'_>) -> Result<ResourceSet, OrMemory<FromStrError>> {
+    ResourceSet::from_strs(alloc, lists.asn, lists.ipv4, lists.ipv6)
 }
 
 /// Prints what changes from the one set to the other, and the octets of the second.

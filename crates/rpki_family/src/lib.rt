@@ -13,6 +13,7 @@ pub mod iter;
 pub mod prefixes;
 pub mod v4;
 pub mod v6;
+pub mod verify;
 
 pub use iter::BlockIter;
 pub use v4::{Ipv4Block, Ipv4Blocks};

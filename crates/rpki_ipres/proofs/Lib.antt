@@ -5,7 +5,7 @@ pub mod PrintedSets
 pub mod ResourcesWritten
 pub mod SetTextLemmas
 pub mod SetWritten
-mod WholeClaims
+pub mod WholeClaims
 pub mod WholeLemmas
 pub mod WholeReadings
 pub mod WholeSets

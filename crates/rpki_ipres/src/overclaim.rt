@@ -102,21 +102,32 @@ impl<A: Allocator> Eq for OverclaimedIpResources<A> {
 
 /// IPv4 addresses are claimed that the issuer doesn't have.
 ///
-/// Contracts see the runs of these addresses.
+/// Contracts see the runs of these addresses. They are whole IPv4 addresses.
 #[derive(Drop)]
 pub struct OverclaimedIpv4Resources<A: Allocator = Global> {
     excess: IpBlocks<A>,
 }
 
 impl<A: Allocator> Model for OverclaimedIpv4Resources<A> {
-    ghost use Rattle.rpki_chain.specs.Runs.{Runs};
+    ghost use Rattle.rpki_chain.specs.Runs.{Runs, Holds};
+    ghost use Rattle.rpki_ip.specs.Whole.{IsWhole};
 
     ghost Value = { Runs };
 
     ghost view = { λ fault. fault.excess };
+
+    ghost invariant = { λ fault. IsWhole (Holds fault.excess) };
 }
 
 impl<A: Allocator> OverclaimedIpv4Resources<A> {
+    /// The addresses that are claimed and that the issuer doesn't have.
+    pub fn excess(&self) -> &IpBlocks<A>
+        ensures value { result.now ≡ self.now }
+        ensures whole { IsWhole (Holds self.now) }
+    {
+        &self.excess
+    }
+
     /// The same fault; its addresses have one owner more. `AllocError` where std refuses that owner.
     pub fn clone(&self) -> Result<OverclaimedIpv4Resources<A>, AllocError>
         ensures { IfOk result (λ fault. fault ≡ self.now) }
@@ -180,6 +191,13 @@ impl<A: Allocator> Model for OverclaimedIpv6Resources<A> {
 }
 
 impl<A: Allocator> OverclaimedIpv6Resources<A> {
+    /// The addresses that are claimed and that the issuer doesn't have.
+    pub fn excess(&self) -> &IpBlocks<A>
+        ensures { result.now ≡ self.now }
+    {
+        &self.excess
+    }
+
     /// The same fault; its addresses have one owner more. `AllocError` where std refuses that owner.
     pub fn clone(&self) -> Result<OverclaimedIpv6Resources<A>, AllocError>
         ensures { IfOk result (λ fault. fault ≡ self.now) }

@@ -35,8 +35,7 @@ impl<A: Allocator> IpBlocks<A> {
             .verify_issued(alloc, resources.claimed(), mode)
         {
             Ok(set) => Ok(IpBlocks::from_set(set)),
-            Err(OrMemory::Refused(set)) => Err(OrMemory::Refused(OverclaimedIpResources::of(set))),
-            Err(OrMemory::Memory(error)) => Err(OrMemory::Memory(error)),
+            Err(error) => Err(error.map_refused(OverclaimedIpResources::of)),
         }
     }
 
@@ -55,8 +54,7 @@ impl<A: Allocator> IpBlocks<A> {
     {
         match self.as_set().verify_covered(alloc, issuer.claimed()) {
             Ok(()) => Ok(()),
-            Err(OrMemory::Refused(set)) => Err(OrMemory::Refused(OverclaimedIpResources::of(set))),
-            Err(OrMemory::Memory(error)) => Err(OrMemory::Memory(error)),
+            Err(error) => Err(error.map_refused(OverclaimedIpResources::of)),
         }
     }
 

@@ -1,9 +1,13 @@
-/* Pigyelund for C: what an issuer verifies of a certificate's resources (RFC 3779), and operations on sets of them, from
+/* Pigyelund for C: what an issuer verifies of a certificate's resources (RFC 3779), or an anchor of a path of
+ * certificates, operations on sets of resources, their shortest covers, and the answers of the program respath, from
  * octets to octets, by proved code. docs/FOREIGN.md is the guide.
  *
  * SETS. A set of resources is two runs of octets: the value of the extension of AS identifiers (RFC 3779, 3.2.3) and
- * that of IP address blocks (2.2.3), each of length 0 where nothing is listed or the extension is absent. What is
- * written is canonical DER, so two sets that were written are equal exactly where their octets are.
+ * that of IP address blocks (2.2.3), each of length 0 where nothing is listed. What is written is canonical DER, so two
+ * sets that were written are equal exactly where their octets are.
+ *
+ * CERTIFICATES. Of a certificate the same two values are handed over, and a number that says which of the extensions it
+ * has: the value of one that is there may have no octets, and is none then.
  *
  * ROOM. Each output is a room (pointer and length) and a place for a length. Where both outputs fit, both are written
  * at the front of their rooms, the lengths are those of the outputs, and nothing behind them is touched. Where one
@@ -12,7 +16,7 @@
  * keeps nothing between calls, hands out no memory, and frees all that it takes from malloc before it returns.
  *
  * OWED by a caller, and tested by nothing: each pointer is that of an array of the length beside it; no pointer is
- * null, also at length 0 (the inline function below sees to that); outputs overlap neither inputs nor one another for
+ * null, also at length 0 (the inline functions below see to that); outputs overlap neither inputs nor one another for
  * the time of the call; no call from a signal handler, or from the forked child of a process with threads.
  *
  * THREADS. Calls have no state in common: any number may run at once, if no output of one is read or written by
@@ -37,6 +41,10 @@ extern "C" {
 #define PG_OVERCLAIM_V6 7u  /* so of IPv6 addresses */
 #define PG_NO 8u            /* of a test: no */
 #define PG_BAD_ENCODING 9u  /* the encoding is neither PG_LENIENT nor PG_STRICT */
+#define PG_ABSENT 10u       /* the certificate has neither extension */
+#define PG_OUTSIDE 11u      /* a place of a certificate on a path lies outside of the run of octets */
+#define PG_BAD_PRESENT 12u  /* the number of the extensions that are there is more than PG_HAS_BOTH */
+#define PG_BAD_FAMILY 13u   /* the family is neither PG_IPV4 nor PG_IPV6 */
 #define PG_BAD_AS 0x100u    /* + number of the first fault: octets of AS identifiers are none */
 #define PG_BAD_IP 0x200u    /* + number of the first fault: octets of IP address blocks are none */
 #define PG_SECOND 0x1000u   /* + one of 0x1nn, 0x2nn: said of the certificate, and not of the issuer;
@@ -55,22 +63,59 @@ extern "C" {
 #define PG_REFUSE 0u
 #define PG_TRIM 1u
 
+/* Which extensions a certificate has: one of these, the sum of both, or 0 where it has neither. */
+#define PG_HAS_AS 1u
+#define PG_HAS_IP 2u
+#define PG_HAS_BOTH 3u
+
+/* Families, as IP address blocks number them (RFC 3779, 2.2.3.3). */
+#define PG_IPV4 1u
+#define PG_IPV6 2u
+
 /* The version of these calls. It grows where one is added. */
 uint32_t pg_version(void);
 
-/* What the issuer's set leaves of a certificate's claims: nothing of an absent extension (length 0) or of a family that
- * isn't in it, all of the issuer's where it says inherit, and else what both have. All octets are read in the encoding.
- * Refusals come in this order: encoding, mode, octets of the issuer (AS, IP, inherited), then AS octets and AS excess
- * of the certificate, then its IP octets, IPv4 excess, IPv6 excess. At PG_OVERCLAIM_.. the excess is written as a set;
- * at other refusals both lengths are 0 and no room is touched. */
+/* What the issuer's set leaves of a certificate's claims: nothing of an absent extension or of a family that isn't in
+ * one, all of the issuer's where it says inherit, and else what both have. All octets are read in the encoding, and
+ * those of an extension that isn't there aren't looked at. Refusals come in this order: encoding, present, mode, octets
+ * of the issuer (AS, IP, inherited), PG_ABSENT, the certificate's AS octets, its IP octets, then its AS excess, IPv4
+ * excess, IPv6 excess. At PG_OVERCLAIM_.. the excess is written as a set; at other refusals both lengths are 0 and no
+ * room is touched. */
 uint32_t pg_verify(const uint8_t *issuer_as, size_t issuer_as_len, const uint8_t *issuer_ip, size_t issuer_ip_len,
-                   const uint8_t *cert_as, size_t cert_as_len, const uint8_t *cert_ip, size_t cert_ip_len,
-                   uint32_t encoding, uint32_t mode,
+                   uint32_t present, const uint8_t *cert_as, size_t cert_as_len, const uint8_t *cert_ip,
+                   size_t cert_ip_len, uint32_t encoding, uint32_t mode,
                    uint8_t *as_out, size_t as_room, uint8_t *ip_out, size_t ip_room, size_t *as_len, size_t *ip_len);
 
+/* A certificate of a path: where in a run the octets of its extensions begin, how many they are, which extensions it
+ * has, and its mode. Both places lie in the run, also that of an extension that isn't there (0 and 0 do). */
+typedef struct {
+  size_t as_at, as_len, ip_at, ip_len;
+  uint32_t present, mode;
+} pg_certificate;
+
+/* What certificates on a path leave of an anchor's set: the first is verified by the anchor's set, each other one by
+ * what the ones before it leave. *verified is how many are verified (nothing is said of it at PG_MEMORY); with a
+ * refusal of a certificate it is the place of the first that isn't verified, counted from 0. Refusals come in this
+ * order: encoding, octets of the anchor, with *verified 0; then of each certificate PG_OUTSIDE, and the others as of
+ * pg_verify. The outputs are those of pg_verify. */
+uint32_t pg_verify_path(const uint8_t *anchor_as, size_t anchor_as_len, const uint8_t *anchor_ip, size_t anchor_ip_len,
+                        const uint8_t *run, size_t run_len, const pg_certificate *certificates, size_t count,
+                        uint32_t encoding, uint8_t *as_out, size_t as_room, uint8_t *ip_out, size_t ip_room,
+                        size_t *as_len, size_t *ip_len, size_t *verified);
+
+/* The shortest list of prefixes that has exactly the addresses of a family that IP address blocks list, ascending: of
+ * PG_IPV4 each has 5 octets, of PG_IPV6 17, those of its address and then its length. Refusals come in this order:
+ * encoding, family, octets, inherited (of either family); then *len is 0 and the room is untouched. */
+uint32_t pg_cover(const uint8_t *ip, size_t ip_count, uint32_t encoding, uint32_t family, uint8_t *out, size_t room,
+                  size_t *len);
+
+/* The answer of respath (README.md) to a line, both UTF-8 and without the end of a line. The status is PG_OK,
+ * PG_TOO_SMALL or PG_MEMORY: what is wrong with a line is said by its answer. */
+uint32_t pg_answer(const uint8_t *line, size_t line_len, uint8_t *out, size_t room, size_t *len);
+
 /* What one or the other of two sets has; what both have; what the first has and the second hasn't. Refusals come in
- * this order: encoding, octets of the first set (AS, IP, inherited), then those of the second. At a refusal both lengths
- * are 0 and no room is touched. */
+ * this order: encoding, octets of the first set (AS, IP, inherited), then those of the second. At a refusal both
+ * lengths are 0 and no room is touched. */
 uint32_t pg_union(const uint8_t *a_as, size_t a_as_len, const uint8_t *a_ip, size_t a_ip_len, const uint8_t *b_as,
                   size_t b_as_len, const uint8_t *b_ip, size_t b_ip_len, uint32_t encoding,
                   uint8_t *as_out, size_t as_room, uint8_t *ip_out, size_t ip_room, size_t *as_len, size_t *ip_len);
@@ -112,9 +157,11 @@ static inline const uint8_t *pg_some(const uint8_t *octets) {
   return octets ? octets : &nothing;
 }
 
+/* pg_verify of a certificate that has each extension whose pointer isn't null */
 static inline uint32_t pg_verify_set(pg_set issuer, pg_set cert, uint32_t encoding, uint32_t mode, pg_room *out) {
   uint8_t spare[2];
   return pg_verify(pg_some(issuer.as), issuer.as_len, pg_some(issuer.ip), issuer.ip_len,
+                   (cert.as ? PG_HAS_AS : 0u) | (cert.ip ? PG_HAS_IP : 0u),
                    pg_some(cert.as), cert.as_len, pg_some(cert.ip), cert.ip_len,
                    encoding, mode, out->as ? out->as : spare, out->as_room, out->ip ? out->ip : spare + 1, out->ip_room,
                    &out->as_len, &out->ip_len);

@@ -1,22 +1,25 @@
 #!/usr/bin/env python3
 """Compares foreign/rows.txt, the questions and answers of the tests in C, Rust and Python, with the reference.
 
-A row has a call, an encoding, a mode (- where the call takes none), the two extensions of the issuer or of the first
-set and those of the certificate or of the second, in hexadecimal and - where there are no octets, and behind them the
-status and the two runs of octets that are told. With --write the file is written anew. Status 1 where it differs.
+A row has a call and its numbers, joined by commas; four words that go in, in hexadecimal and - where there are no
+octets; the status, the two words that are told, and how many certificates of a path are verified. What goes in are the
+two extensions of the issuer, of the first set or of the anchor, and then those of the certificate or of the second set;
+or a run of octets and the certificates of a path, each as six numbers. With --write the file is written anew. Status 1
+where it differs.
 """
 
 import sys
-from collections.abc import Iterator
+from collections.abc import Iterable, Iterator
 from operator import eq
 from pathlib import Path
 from random import Random
 from typing import NamedTuple
 
-from reference import asn, ip, paths, resources
+from reference import asn, ip, lines, paths, prefixes, resources
 from reference.addresses import Family
 from reference.faults import DerFault
 from reference.paths import Refused, Step
+from reference.random_lines import Maker
 from reference.resources import INHERIT, Claim, Families
 from reference.sets import Set, difference, has_all, intersection, merged, union
 
@@ -25,24 +28,44 @@ Octets = tuple[bytes, bytes]
 Triple = tuple[Set, Set, Set]
 
 OK, INHERITED, BAD_MODE, OVERCLAIM_AS, NO, BAD_ENCODING = 0, 3, 4, 5, 8, 9
+ABSENT, OUTSIDE, BAD_PRESENT, BAD_FAMILY = 10, 11, 12, 13
 BAD_AS, BAD_IP, SECOND = 0x100, 0x200, 0x1000
 LENIENT, STRICT = 0, 1
 REFUSE, TRIM = 0, 1
-
-VERIFY = "verify"
+NUMBERS, ADDRESSES, BOTH = 1, 2, 3
+FAMILIES = {1: Family.V4, 2: Family.V6}
 OPERATIONS = {"union": union, "intersection": intersection, "difference": difference}
 TESTS = {"contains": has_all, "equal": eq}
 ON_SETS = [*OPERATIONS, *TESTS]
 
 
+class Place(NamedTuple):
+    """A certificate of a path: where the octets of its extensions begin, how many they are, and two numbers."""
+
+    as_at: int
+    as_len: int
+    ip_at: int
+    ip_len: int
+    present: int
+    mode: int
+
+
 class Question(NamedTuple):
-    """A call, its encoding and mode, and the octets of two sets, or of an issuer and a certificate."""
+    """A call, its numbers, and what goes in."""
 
     call: str
-    encoding: int
-    mode: int
+    numbers: tuple[int, ...]
     first: Octets
-    second: Octets
+    second: Octets = (b"", b"")
+    places: tuple[Place, ...] = ()
+
+
+class Answer(NamedTuple):
+    """The status, the words that are told, and how many certificates of a path are verified."""
+
+    status: int
+    told: Octets
+    verified: int | None = None
 
 
 class Status(Exception):
@@ -54,9 +77,9 @@ class Status(Exception):
         self.excess = excess
 
 
-def read_numbers(octets: bytes, strict: bool, base: int) -> Claim:
-    """The claim on AS numbers, missing where there are no octets."""
-    if not octets:
+def read_numbers(octets: bytes | None, strict: bool, base: int) -> Claim:
+    """The claim on AS numbers, missing where the extension is absent."""
+    if octets is None:
         return None
     try:
         return resources.all_of(resources.read_as_claim(octets, strict))
@@ -64,9 +87,9 @@ def read_numbers(octets: bytes, strict: bool, base: int) -> Claim:
         raise Status(base + BAD_AS + fault.number) from None
 
 
-def read_addresses(octets: bytes, strict: bool, base: int) -> Families:
-    """The claims on addresses, missing where there are no octets."""
-    if not octets:
+def read_addresses(octets: bytes | None, strict: bool, base: int) -> Families:
+    """The claims on addresses, missing where the extension is absent."""
+    if octets is None:
         return Families(None, None)
     try:
         return resources.all_of(resources.read_families(octets, strict))
@@ -75,8 +98,8 @@ def read_addresses(octets: bytes, strict: bool, base: int) -> Families:
 
 
 def read_set(octets: Octets, strict: bool, base: int = 0) -> Triple:
-    """The set that octets of both extensions list."""
-    claims = read_numbers(octets[0], strict, base), *read_addresses(octets[1], strict, base)
+    """The set that octets of both extensions list, each None where there are none."""
+    claims = read_numbers(octets[0] or None, strict, base), *read_addresses(octets[1] or None, strict, base)
     if INHERIT in claims:
         raise Status(base + INHERITED)
     return claims[0] or [], claims[1] or [], claims[2] or []
@@ -99,21 +122,73 @@ def is_strict(encoding: int) -> bool:
     return encoding == STRICT
 
 
-def verified(question: Question) -> Triple:
-    """What the issuer's set leaves of the certificate's claims."""
-    strict, mode = is_strict(question.encoding), question.mode
+def expect_numbers(present: int, mode: int) -> None:
+    """Refuses the number of extensions that are there, and else of a mode, where it is none."""
+    if present not in range(BOTH + 1):
+        raise Status(BAD_PRESENT)
     if mode not in (REFUSE, TRIM):
         raise Status(BAD_MODE)
-    root = read_set(question.first, strict)
-    numbers = left(0, root[0], read_numbers(question.second[0], strict, SECOND), mode)
-    families = read_addresses(question.second[1], strict, SECOND)
-    v4 = left(1, root[1], families.v4, mode)
-    return numbers, v4, left(2, root[2], families.v6, mode)
+
+
+def issued(issuer: Triple, present: int, octets: Octets, strict: bool, mode: int) -> Triple:
+    """What an issuer's set leaves of a certificate's claims."""
+    if not present:
+        raise Status(ABSENT)
+    asn_claim = read_numbers(octets[0] if present & NUMBERS else None, strict, SECOND)
+    families = read_addresses(octets[1] if present & ADDRESSES else None, strict, SECOND)
+    numbers = left(0, issuer[0], asn_claim, mode)
+    v4 = left(1, issuer[1], families.v4, mode)
+    return numbers, v4, left(2, issuer[2], families.v6, mode)
+
+
+def verified(question: Question) -> Triple:
+    """What the issuer's set leaves of the certificate's claims."""
+    encoding, present, mode = question.numbers
+    strict = is_strict(encoding)
+    expect_numbers(present, mode)
+    return issued(read_set(question.first, strict), present, question.second, strict, mode)
+
+
+def issued_at(issuer: Triple, place: Place, run: bytes, strict: bool) -> Triple:
+    """The same of a certificate whose octets stand in a run."""
+    ends = place.as_at + place.as_len, place.ip_at + place.ip_len
+    if max(ends) > len(run):
+        raise Status(OUTSIDE)
+    expect_numbers(place.present, place.mode)
+    octets = run[place.as_at : ends[0]], run[place.ip_at : ends[1]]
+    return issued(issuer, place.present, octets, strict, place.mode)
+
+
+def path_answer(question: Question) -> Answer:
+    """What the certificates on a path leave of the anchor's set."""
+    count = 0
+    try:
+        strict = is_strict(question.numbers[0])
+        issuer = read_set(question.first, strict)
+        for place in question.places:
+            issuer = issued_at(issuer, place, question.second[0], strict)
+            count += 1
+    except Status as refusal:
+        return Answer(refusal.number, written(refusal.excess), count)
+    return Answer(OK, written(issuer), count)
+
+
+def cover_octets(question: Question) -> bytes:
+    """The shortest cover of the addresses of a family: the octets of each prefix's address, and its length."""
+    encoding, number = question.numbers
+    strict = is_strict(encoding)
+    if number not in FAMILIES:
+        raise Status(BAD_FAMILY)
+    family, found = FAMILIES[number], read_set((b"", question.first[0]), strict)[number]
+    behind = 128 - family.bits
+    bounds = [(low >> behind, high >> behind) for low, high in found]
+    cover = prefixes.cover(bounds, family.bits)
+    return b"".join(first.to_bytes(family.bits // 8, "big") + bytes([length]) for first, length in cover)
 
 
 def asked_of_sets(question: Question) -> Triple:
     """The set that is made of two; no set where a test of both says yes."""
-    strict = is_strict(question.encoding)
+    strict = is_strict(question.numbers[0])
     first, second = read_set(question.first, strict), read_set(question.second, strict, SECOND)
     if operation := OPERATIONS.get(question.call):
         asn, v4, v6 = map(operation, first, second)
@@ -129,13 +204,26 @@ def written(found: Triple) -> Octets:
     return resources.written_as_claim(paths.claim_of(found[0])), resources.written_families(families)
 
 
-def answer(question: Question) -> tuple[int, Octets]:
-    """The status, and the octets that are told."""
-    asked = verified if question.call == VERIFY else asked_of_sets
+def told(question: Question) -> Octets:
+    """What is told where there is no reason why not."""
+    match question.call:
+        case "verify":
+            return written(verified(question))
+        case "cover":
+            return cover_octets(question), b""
+        case "answer":
+            return lines.answer(question.first[0]).encode("utf-8"), b""
+    return written(asked_of_sets(question))
+
+
+def answer(question: Question) -> Answer:
+    """What a call answers."""
+    if question.call == "path":
+        return path_answer(question)
     try:
-        return OK, written(asked(question))
+        return Answer(OK, told(question))
     except Status as refusal:
-        return refusal.number, written(refusal.excess)
+        return Answer(refusal.number, written(refusal.excess))
 
 
 # ---- questions
@@ -196,12 +284,17 @@ def random_set(source: Random) -> Octets:
     return written((found[0], found[1], found[2]))
 
 
+def present_in(certificate: Octets) -> int:
+    """The number of the extensions of which there are octets."""
+    return NUMBERS * bool(certificate[0]) | ADDRESSES * bool(certificate[1])
+
+
 def of_certificates() -> Iterator[Question]:
     """Each certificate under each issuer, in each encoding and mode; numbers that are none; altered and random ones."""
     source = Random(3779)
 
     def asked(encoding: int, mode: int, issuer: Octets, certificate: Octets) -> Question:
-        return Question(VERIFY, encoding, mode, issuer, certificate)
+        return Question("verify", (encoding, present_in(certificate), mode), issuer, certificate)
 
     for certificate in CERTIFICATES:
         for issuer in (ISSUER, ALL, NOTHING):
@@ -220,12 +313,104 @@ def of_certificates() -> Iterator[Question]:
         yield asked(source.randrange(2), source.randrange(2), random_set(source), random_set(source))
 
 
+def of_absence() -> Iterator[Question]:
+    """Each number of the extensions that are there, with octets and without them."""
+    bad = b"\0"
+    for present in (0, 1, 2, 3, 4, 2**32 - 1):
+        for numbers in (ISSUER[0], b"", bad):
+            for addresses in (ISSUER[1], b"", bad):
+                yield Question("verify", (LENIENT, present, REFUSE), ISSUER, (numbers, addresses))
+        yield Question("verify", (STRICT, present, 2), ISSUER, INHERITS)
+        yield Question("verify", (STRICT, present, TRIM), (bad, bad), NOTHING)
+
+
+def packed(certificates: list[tuple[Octets, int, int]], source: Random) -> tuple[bytes, tuple[Place, ...]]:
+    """Certificates as a run of octets, with others between, and their places."""
+    run, places = b"", []
+    for octets, present, mode in certificates:
+        found = []
+        for extension in octets:
+            run += source.randbytes(source.randrange(3))
+            found += [len(run), len(extension)]
+            run += extension
+        places.append(Place(*found, present, mode))
+    return run, tuple(places)
+
+
+def of_paths() -> Iterator[Question]:
+    """Paths of no certificate, of one and of more; places outside of the run, and numbers that are none."""
+    source = Random(8360)
+
+    def asked(encoding: int, anchor: Octets, run: bytes, places: tuple[Place, ...]) -> Question:
+        return Question("path", (encoding,), anchor, (run, b""), places)
+
+    for anchor in CERTIFICATES:
+        yield asked(LENIENT, anchor, b"", ())
+    for length in (1, 2, 3, 4, 6) * 60:
+        chosen = [source.choice(CERTIFICATES[source.choice((1, 2, 4, 6)) :]) for _ in range(length)]
+        steps = [(octets, present_in(octets), source.randrange(2)) for octets in chosen]
+        anchor = source.choice((ALL, ALL, ISSUER, CERTIFICATES[6]))
+        yield asked(source.randrange(2), anchor, *packed(steps, source))
+    run, places = packed([(ALL, BOTH, TRIM), (CERTIFICATES[6], BOTH, REFUSE)], source)
+    first, second = places
+    for place in (
+        second._replace(as_at=len(run) - second.as_len + 1),
+        second._replace(ip_len=second.ip_len + len(run)),
+        second._replace(as_at=2**64 - 1),
+        second._replace(as_len=2**64 - 1),
+        second._replace(ip_at=2**64 - 1, ip_len=2, present=NUMBERS),
+        second._replace(ip_at=0, ip_len=0, present=NUMBERS),
+        second._replace(as_at=len(run), as_len=0, present=ADDRESSES),
+        second._replace(as_at=len(run), as_len=0),
+        second._replace(present=0),
+        second._replace(present=4),
+        second._replace(present=2**32 - 1, mode=2),
+        second._replace(mode=2),
+        second._replace(as_at=first.as_at, as_len=first.as_len),
+    ):
+        for encoding in (LENIENT, STRICT):
+            yield asked(encoding, ISSUER, run, (first, place))
+            yield asked(encoding, ALL, run, (place, first))
+    for encoding in (2, 2**32 - 1):
+        yield asked(encoding, (b"\0", b""), run, places)
+    for anchor in ((b"\0", b""), (b"", b"\0"), INHERITS):
+        yield asked(STRICT, anchor, run, places)
+    yield asked(STRICT, ISSUER, b"", places)
+
+
+def of_covers() -> Iterator[Question]:
+    """Covers of both families, of sets and of octets that are none, and numbers that are none."""
+    source = Random(4632)
+
+    def asked(encoding: int, family: int, octets: bytes) -> Question:
+        return Question("cover", (encoding, family), (octets, b""))
+
+    for octets in (*CERTIFICATES, *(random_set(source) for _ in range(40))):
+        for family in (1, 2):
+            yield asked(source.randrange(2), family, octets[1])
+    for encoding, family in ((2, 1), (STRICT, 0), (STRICT, 3), (2**32 - 1, 2**32 - 1), (LENIENT, 257)):
+        yield asked(encoding, family, ISSUER[1])
+        yield asked(encoding, family, b"\0")
+    for other in altered((b"", CERTIFICATES[6][1]), source):
+        yield asked(source.randrange(2), source.choice((1, 2)), other[1])
+
+
+def of_lines() -> Iterator[Question]:
+    """Lines of each command, well-formed and damaged, and lines of none."""
+    for line in (b"", b" ", b"\xff", b"norm", b"norm v5 0.0.0.0", b"cover as AS1", b"NORM as AS1", b"der as inherit\0"):
+        yield Question("answer", (), (line, b""))
+    for command in ("norm", "cover", "der", "read", "path"):
+        maker = Maker(command, 34)
+        for _ in range(60):
+            yield Question("answer", (), (maker.line(), b""))
+
+
 def of_sets() -> Iterator[Question]:
     """Each set beside each, and beside itself; encodings that are none; altered and random ones."""
     source = Random(6487)
 
     def asked(call: str, encoding: int, first: Octets, second: Octets) -> Question:
-        return Question(call, encoding, REFUSE, first, second)
+        return Question(call, (encoding,), first, second)
 
     pairs = [(first, second) for first in CERTIFICATES for second in CERTIFICATES]
     for at, (first, second) in enumerate(pairs):
@@ -241,7 +426,7 @@ def of_sets() -> Iterator[Question]:
     for at in range(200):
         first, second = random_set(source), random_set(source)
         if at % 2:  # one that has all of the other
-            first = answer(asked("union", LENIENT, first, second))[1]
+            first = answer(asked("union", LENIENT, first, second)).told
         yield asked(ON_SETS[at % len(ON_SETS)], source.randrange(2), first, second)
 
 
@@ -250,13 +435,20 @@ def hexadecimal(octets: bytes) -> str:
     return octets.hex() or "-"
 
 
+def joined(parts: Iterable[object], by: str) -> str:
+    """Parts as one word of a row."""
+    return by.join(map(str, parts)) or "-"
+
+
 def rows() -> Iterator[str]:
     """The rows of the file."""
-    for question in (*of_certificates(), *of_sets()):
-        call, encoding, mode, first, second = question
-        status, told = answer(question)
-        asked = [call, str(encoding), str(mode) if call == VERIFY else "-", *map(hexadecimal, (*first, *second))]
-        yield " ".join((*asked, str(status), *map(hexadecimal, told)))
+    for question in (*of_certificates(), *of_absence(), *of_paths(), *of_sets(), *of_covers(), *of_lines()):
+        found = answer(question)
+        words = [question.call, joined(question.numbers, ","), *map(hexadecimal, (*question.first, *question.second))]
+        if question.call == "path":
+            words[-1] = joined((joined(place, ":") for place in question.places), ";")
+        verified = "-" if found.verified is None else str(found.verified)
+        yield " ".join((*words, str(found.status), *map(hexadecimal, found.told), verified))
 
 
 def main() -> int:

@@ -5,12 +5,26 @@
 #include <stdlib.h>
 #include <string.h>
 
-enum { MARK = 0xa5, LENGTH = 1 << 16, SMALL = 40, WORDS = 10 };
+enum { MARK = 0xa5, LENGTH = 1 << 16, SMALL = 40, WORDS = 10, PLACES = 16 };
 
 typedef struct {
   uint8_t *octets;
   size_t length;
 } run;
+
+typedef enum { VERIFY, PATH, MAKE, TEST, COVER, ANSWER } kind;
+
+/* one row: a call, its numbers, what goes in, and what is told */
+typedef struct {
+  unsigned row;
+  kind call;
+  pg_operation *operation;
+  pg_test *test;
+  uint32_t numbers[3], status;
+  run in[4], told[2];
+  pg_certificate *certificates;
+  size_t count, verified;
+} question;
 
 static unsigned calls, faults;
 
@@ -20,17 +34,6 @@ static uint8_t *block(size_t length) {
   if (!made) exit(2);
   memset(made, MARK, length ? length : 1);
   return made;
-}
-
-static run read_run(const char *word) {
-  run found = {0, strcmp(word, "-") ? strlen(word) / 2 : 0};
-  found.octets = block(found.length);
-  for (size_t i = 0; i < found.length; i++) {
-    unsigned octet;
-    if (sscanf(word + 2 * i, "%2x", &octet) != 1) exit(2);
-    found.octets[i] = (uint8_t)octet;
-  }
-  return found;
 }
 
 static void expect(int is_so, unsigned row, const char *what) {
@@ -44,64 +47,105 @@ static int is_marked(const uint8_t *octets, size_t from, size_t to) {
   return 1;
 }
 
-/* one row: a call, its numbers, what goes in, and what is told */
-typedef struct {
-  unsigned row;
-  const char *call;
-  pg_operation *operation; /* null where the call is another */
-  pg_test *test;
-  uint32_t encoding, mode, status;
-  run in[4], told[2];
-} question;
+/* ---- rows */
 
-static pg_operation *operation_named(const char *call) {
-  if (!strcmp(call, "union")) return pg_union;
-  if (!strcmp(call, "intersection")) return pg_intersection;
-  return strcmp(call, "difference") ? 0 : pg_difference;
+static run read_run(const char *word) {
+  run found = {0, strcmp(word, "-") ? strlen(word) / 2 : 0};
+  found.octets = block(found.length);
+  for (size_t i = 0; i < found.length; i++) {
+    unsigned octet;
+    if (sscanf(word + 2 * i, "%2x", &octet) != 1) exit(2);
+    found.octets[i] = (uint8_t)octet;
+  }
+  return found;
 }
 
-static pg_test *test_named(const char *call) {
-  if (!strcmp(call, "contains")) return pg_contains;
-  return strcmp(call, "equal") ? 0 : pg_equal;
+static void read_numbers(question *q, const char *word) {
+  for (int i = 0; i < 3 && strcmp(word, "-"); i++) {
+    char *end;
+    q->numbers[i] = (uint32_t)strtoul(word, &end, 10);
+    if (!*end) return;
+    word = end + 1;
+  }
 }
 
-/* the call itself, with such rooms */
+static void read_certificates(question *q, const char *word) {
+  pg_certificate found[PLACES];
+  while (strcmp(word, "-") && q->count < PLACES) {
+    unsigned long numbers[6];
+    char *end = 0;
+    for (int i = 0; i < 6; i++, word = end + 1) numbers[i] = strtoul(word, &end, 10);
+    found[q->count++] = (pg_certificate){numbers[0], numbers[1], numbers[2], numbers[3],
+                                         (uint32_t)numbers[4], (uint32_t)numbers[5]};
+    if (!*end) break;
+  }
+  q->certificates = (pg_certificate *)(void *)block(q->count * sizeof *found);
+  if (q->count) memcpy(q->certificates, found, q->count * sizeof *found);
+}
+
+static void name_call(question *q, const char *call) {
+  static const struct {
+    const char *name;
+    kind call;
+    pg_operation *operation;
+    pg_test *test;
+  } names[] = {{"verify", VERIFY, 0, 0}, {"path", PATH, 0, 0}, {"cover", COVER, 0, 0}, {"answer", ANSWER, 0, 0},
+               {"union", MAKE, pg_union, 0}, {"intersection", MAKE, pg_intersection, 0},
+               {"difference", MAKE, pg_difference, 0}, {"contains", TEST, 0, pg_contains},
+               {"equal", TEST, 0, pg_equal}};
+  for (size_t i = 0; i < sizeof names / sizeof *names; i++)
+    if (!strcmp(call, names[i].name)) {
+      q->call = names[i].call;
+      q->operation = names[i].operation;
+      q->test = names[i].test;
+      return;
+    }
+  exit(2);
+}
+
+/* ---- calls */
+
+/* the call itself, with such rooms; one that tells one run has one room */
 static uint32_t call_of(const question *q, uint8_t *as, size_t as_room, uint8_t *ip, size_t ip_room, size_t *as_len,
-                        size_t *ip_len) {
+                        size_t *ip_len, size_t *verified) {
   const run *in = q->in;
-  if (q->operation)
-    return q->operation(in[0].octets, in[0].length, in[1].octets, in[1].length, in[2].octets, in[2].length,
-                        in[3].octets, in[3].length, q->encoding, as, as_room, ip, ip_room, as_len, ip_len);
-  return pg_verify(in[0].octets, in[0].length, in[1].octets, in[1].length, in[2].octets, in[2].length,
-                   in[3].octets, in[3].length, q->encoding, q->mode, as, as_room, ip, ip_room, as_len, ip_len);
-}
-
-/* the same by the function of the header, with null where there are no octets */
-static uint32_t call_in_short(const question *q, pg_room *out) {
-  const run *in = q->in;
-  pg_set a = {in[0].length ? in[0].octets : 0, in[0].length, in[1].length ? in[1].octets : 0, in[1].length};
-  pg_set b = {in[2].length ? in[2].octets : 0, in[2].length, in[3].length ? in[3].octets : 0, in[3].length};
-  if (q->test) return pg_test_sets(q->test, a, b, q->encoding);
-  if (q->operation) return pg_make_set(q->operation, a, b, q->encoding, out);
-  return pg_verify_set(a, b, q->encoding, q->mode, out);
+  const uint32_t *n = q->numbers;
+  switch (q->call) {
+    case MAKE:
+      return q->operation(in[0].octets, in[0].length, in[1].octets, in[1].length, in[2].octets, in[2].length,
+                          in[3].octets, in[3].length, n[0], as, as_room, ip, ip_room, as_len, ip_len);
+    case PATH:
+      return pg_verify_path(in[0].octets, in[0].length, in[1].octets, in[1].length, in[2].octets, in[2].length,
+                            q->certificates, q->count, n[0], as, as_room, ip, ip_room, as_len, ip_len, verified);
+    case COVER:
+      *ip_len = 0;
+      return pg_cover(in[0].octets, in[0].length, n[0], n[1], as, as_room, as_len);
+    case ANSWER:
+      *ip_len = 0;
+      return pg_answer(in[0].octets, in[0].length, as, as_room, as_len);
+    default:
+      return pg_verify(in[0].octets, in[0].length, in[1].octets, in[1].length, n[1], in[2].octets, in[2].length,
+                       in[3].octets, in[3].length, n[0], n[2], as, as_room, ip, ip_room, as_len, ip_len);
+  }
 }
 
 /* one call with such rooms */
 static void ask(const question *q, size_t as_room, size_t ip_room) {
   uint8_t *as = block(as_room), *ip = block(ip_room);
-  size_t as_len = 77, ip_len = 77;
+  size_t as_len = 77, ip_len = 77, verified = 77;
   const run *told = q->told;
   int fits = told[0].length <= as_room && told[1].length <= ip_room;
-  uint32_t found = call_of(q, as, as_room, ip, ip_room, &as_len, &ip_len);
+  uint32_t found = call_of(q, as, as_room, ip, ip_room, &as_len, &ip_len, &verified);
   calls++;
   expect(found == (fits ? q->status : PG_TOO_SMALL), q->row, "another status");
   expect(as_len == told[0].length && ip_len == told[1].length, q->row, "other lengths");
+  expect(verified == (q->call == PATH ? q->verified : 77), q->row, "another number of verified ones");
   if (fits) {
-    expect(!memcmp(as, told[0].octets, told[0].length), q->row, "other octets of AS identifiers");
-    expect(!memcmp(ip, told[1].octets, told[1].length), q->row, "other octets of IP address blocks");
+    expect(!memcmp(as, told[0].octets, told[0].length), q->row, "other octets in the first room");
+    expect(!memcmp(ip, told[1].octets, told[1].length), q->row, "other octets in the second room");
   }
-  expect(is_marked(as, fits ? told[0].length : 0, as_room), q->row, "octets behind those of AS identifiers");
-  expect(is_marked(ip, fits ? told[1].length : 0, ip_room), q->row, "octets behind those of IP address blocks");
+  expect(is_marked(as, fits ? told[0].length : 0, as_room), q->row, "octets behind those in the first room");
+  expect(is_marked(ip, fits ? told[1].length : 0, ip_room), q->row, "octets behind those in the second room");
   free(as);
   free(ip);
 }
@@ -117,13 +161,33 @@ static void ask_rooms(const question *q) {
   }
 }
 
+/* ---- the functions of the header, with null where there are no octets */
+
+static pg_set set_of(const run *in) {
+  return (pg_set){in[0].length ? in[0].octets : 0, in[0].length, in[1].length ? in[1].octets : 0, in[1].length};
+}
+
+/* the certificate has an extension where its pointer isn't null */
+static pg_set certificate_of(const question *q) {
+  const run *in = q->in;
+  return (pg_set){q->numbers[1] & PG_HAS_AS ? in[2].octets : 0, in[2].length,
+                  q->numbers[1] & PG_HAS_IP ? in[3].octets : 0, in[3].length};
+}
+
 static void ask_in_short(const question *q) {
   pg_room out = {0, q->told[0].length, 0, 0, q->told[1].length, 0};
+  pg_set a = set_of(q->in), b = set_of(q->in + 2);
+  uint32_t found;
+  if (q->call == PATH || q->call == COVER || q->call == ANSWER) return;
+  if (q->call == VERIFY && q->numbers[1] > PG_HAS_BOTH) return;
   if (out.as_room) out.as = block(out.as_room);
   if (out.ip_room) out.ip = block(out.ip_room);
   calls++;
-  expect(call_in_short(q, &out) == q->status, q->row, "another status in short");
-  if (!q->test)
+  if (q->call == TEST) found = pg_test_sets(q->test, a, b, q->numbers[0]);
+  else if (q->call == MAKE) found = pg_make_set(q->operation, a, b, q->numbers[0], &out);
+  else found = pg_verify_set(a, certificate_of(q), q->numbers[0], q->numbers[2], &out);
+  expect(found == q->status, q->row, "another status in short");
+  if (q->call != TEST)
     expect(out.as_len == out.as_room && out.ip_len == out.ip_room, q->row, "other lengths in short");
   if (out.as) expect(!memcmp(out.as, q->told[0].octets, out.as_room), q->row, "other octets in short");
   if (out.ip) expect(!memcmp(out.ip, q->told[1].octets, out.ip_room), q->row, "other octets in short");
@@ -132,17 +196,20 @@ static void ask_in_short(const question *q) {
 }
 
 static void ask_row(unsigned row, char **words) {
-  question q = {row, words[0], operation_named(words[0]), test_named(words[0]), 0, 0, 0, {{0, 0}}, {{0, 0}}};
-  if (!q.operation && !q.test && strcmp(q.call, "verify")) exit(2);
-  q.encoding = (uint32_t)strtoul(words[1], 0, 10);
-  q.mode = (uint32_t)strtoul(words[2], 0, 10);
-  q.status = (uint32_t)strtoul(words[7], 0, 10);
-  for (int i = 0; i < 4; i++) q.in[i] = read_run(words[3 + i]);
-  for (int i = 0; i < 2; i++) q.told[i] = read_run(words[8 + i]);
-  if (!q.test) ask_rooms(&q);
+  question q = {0};
+  q.row = row;
+  name_call(&q, words[0]);
+  read_numbers(&q, words[1]);
+  for (int i = 0; i < 4; i++) q.in[i] = read_run(q.call == PATH && i == 3 ? "-" : words[2 + i]);
+  read_certificates(&q, q.call == PATH ? words[5] : "-");
+  q.status = (uint32_t)strtoul(words[6], 0, 10);
+  for (int i = 0; i < 2; i++) q.told[i] = read_run(words[7 + i]);
+  q.verified = strtoul(words[9], 0, 10);
+  if (q.call != TEST) ask_rooms(&q);
   ask_in_short(&q);
   for (int i = 0; i < 4; i++) free(q.in[i].octets);
   for (int i = 0; i < 2; i++) free(q.told[i].octets);
+  free(q.certificates);
 }
 
 int main(int count, char **words) {
@@ -150,7 +217,7 @@ int main(int count, char **words) {
   FILE *file = count == 2 ? fopen(words[1], "r") : 0;
   unsigned row = 0;
   if (!file) return 2;
-  expect(pg_version() == 1, 0, "another version");
+  expect(pg_version() == 2, 0, "another version");
   while (fgets(line, LENGTH, file)) {
     char *found[WORDS];
     int n = 0;

@@ -1,12 +1,14 @@
-"""What an issuer verifies of a certificate's resources (RFC 3779), and operations on sets, through ctypes.
+"""What an issuer verifies of a certificate's resources (RFC 3779), or an anchor of a path of certificates, operations
+on sets, shortest covers, and the answers of the program respath, through ctypes.
 
 A set is the values of both extensions, of AS identifiers and of IP address blocks, each of no octets where nothing is
-listed or the extension is absent.
+listed.
 """
 
 import ctypes
 from collections.abc import Callable
 from enum import Enum, IntEnum
+from ipaddress import IPv4Network, IPv6Network
 from os import PathLike
 from typing import NamedTuple
 
@@ -27,6 +29,13 @@ class Mode(IntEnum):
     TRIM = 1
 
 
+class Family(IntEnum):
+    """A family of addresses, as IP address blocks number it."""
+
+    V4 = 1
+    V6 = 2
+
+
 class Operation(Enum):
     """What is made of two sets, by the name of the call."""
 
@@ -43,10 +52,38 @@ class Test(Enum):
 
 
 class Resources(NamedTuple):
-    """The octets of both extensions."""
+    """The octets of both extensions that list a set."""
 
     asn: bytes = b""
     ip: bytes = b""
+
+
+class Extensions(NamedTuple):
+    """The octets of a certificate's extensions, None of one that is absent."""
+
+    asn: bytes | None = None
+    ip: bytes | None = None
+
+    def present(self) -> int:
+        """The number of the extensions that are there."""
+        return (self.asn is not None) + 2 * (self.ip is not None)
+
+    def octets(self) -> Resources:
+        """Their octets, none of one that is absent."""
+        return Resources(self.asn or b"", self.ip or b"")
+
+
+class Certificate(ctypes.Structure):
+    """Where in a run of octets the extensions of a certificate stand, and two numbers, as pigyelund.h has them."""
+
+    _fields_ = [
+        ("as_at", ctypes.c_size_t),
+        ("as_len", ctypes.c_size_t),
+        ("ip_at", ctypes.c_size_t),
+        ("ip_len", ctypes.c_size_t),
+        ("present", ctypes.c_uint32),
+        ("mode", ctypes.c_uint32),
+    ]
 
 
 class Refused(Exception):
@@ -58,11 +95,19 @@ class Refused(Exception):
         self.excess = excess
 
 
+class RefusedPath(Refused):
+    """Why a path isn't verified, and how many certificates are: the reason is that of the next one."""
+
+    def __init__(self, status: int, excess: Resources, verified: int) -> None:
+        super().__init__(status, excess)
+        self.verified = verified
+
+
 Rooms = tuple[int, int]
 Told = tuple[int, Rooms, Resources]
 
 
-def words_of(*sets: Resources) -> list[bytes | int]:
+def words_of(*sets: Resources) -> list[object]:
     """Each run of octets of some sets, and its length."""
     return [word for part in sets for octets in part for word in (octets, len(octets))]
 
@@ -75,7 +120,15 @@ class Pigyelund:
         size, number = ctypes.c_size_t, ctypes.c_uint32
         octets = [ctypes.c_char_p, size] * 4
         rooms = [ctypes.c_void_p, size] * 2 + [ctypes.POINTER(size)] * 2
-        calls = {"pg_version": [], "pg_verify": [*octets, number, number, *rooms]}
+        room = [ctypes.c_void_p, size, ctypes.POINTER(size)]
+        path = [*octets[:6], ctypes.POINTER(Certificate), size, number, *rooms, ctypes.POINTER(size)]
+        calls = {
+            "pg_version": [],
+            "pg_verify": [*octets[:4], number, *octets[4:], number, number, *rooms],
+            "pg_verify_path": path,
+            "pg_cover": [*octets[:2], number, number, *room],
+            "pg_answer": [*octets[:2], *room],
+        }
         calls |= {call.value: [*octets, number, *rooms] for call in Operation}
         calls |= {call.value: [*octets, number] for call in Test}
         for name, words in calls.items():
@@ -86,20 +139,45 @@ class Pigyelund:
         """The version of the calls."""
         return self._library.pg_version()
 
-    def _told(self, name: str, words: list[bytes | int], rooms: Rooms) -> Told:
+    def _told(self, name: str, words: list[object], rooms: Rooms, *behind: object) -> Told:
         """One call with rooms of these lengths: the status, the lengths, and what the rooms hold then."""
         asn, ip = (ctypes.create_string_buffer(max(room, 1)) for room in rooms)
         lengths = ctypes.c_size_t(), ctypes.c_size_t()
         places = [ctypes.byref(length) for length in lengths]
-        status = getattr(self._library, name)(*words, asn, rooms[0], ip, rooms[1], *places)
+        status = getattr(self._library, name)(*words, asn, rooms[0], ip, rooms[1], *places, *behind)
         held = Resources(asn.raw[: rooms[0]], ip.raw[: rooms[1]])
         return status, (lengths[0].value, lengths[1].value), held
 
+    def _told_once(self, name: str, words: list[object], room: int) -> Told:
+        """One call with one room: what it tells stands for that of AS numbers."""
+        held, length = ctypes.create_string_buffer(max(room, 1)), ctypes.c_size_t()
+        status = getattr(self._library, name)(*words, held, room, ctypes.byref(length))
+        return status, (length.value, 0), Resources(held.raw[:room])
+
     def verify_told(
-        self, issuer: Resources, certificate: Resources, encoding: int, mode: int, rooms: Rooms
+        self, issuer: Resources, present: int, certificate: Resources, encoding: int, mode: int, rooms: Rooms
     ) -> Told:
         """One call of `pg_verify` with rooms of these lengths."""
-        return self._told("pg_verify", [*words_of(issuer, certificate), encoding, mode], rooms)
+        words = [*words_of(issuer), present, *words_of(certificate), encoding, mode]
+        return self._told("pg_verify", words, rooms)
+
+    def verify_path_told(
+        self, anchor: Resources, run: bytes, certificates: list[Certificate], encoding: int, rooms: Rooms
+    ) -> tuple[Told, int]:
+        """One call of `pg_verify_path` with rooms of these lengths, and how many certificates are verified."""
+        count, verified = len(certificates), ctypes.c_size_t()
+        array = (Certificate * max(count, 1))(*certificates)
+        words = [*words_of(anchor), run, len(run), array, count, encoding]
+        told = self._told("pg_verify_path", words, rooms, ctypes.byref(verified))
+        return told, verified.value
+
+    def cover_told(self, ip: bytes, encoding: int, family: int, room: int) -> Told:
+        """One call of `pg_cover` with a room of this length."""
+        return self._told_once("pg_cover", [ip, len(ip), encoding, family], room)
+
+    def answer_told(self, line: bytes, room: int) -> Told:
+        """One call of `pg_answer` with a room of this length."""
+        return self._told_once("pg_answer", [line, len(line)], room)
 
     def made_told(self, operation: Operation, a: Resources, b: Resources, encoding: int, rooms: Rooms) -> Told:
         """One call of an operation with rooms of these lengths."""
@@ -112,12 +190,49 @@ class Pigyelund:
     def verify(
         self,
         issuer: Resources,
-        certificate: Resources,
+        certificate: Extensions,
         encoding: Encoding = Encoding.LENIENT,
         mode: Mode = Mode.REFUSE,
     ) -> Resources:
         """What the issuer's set leaves of the certificate's claims. `Refused` where there is a reason."""
-        return with_room(lambda rooms: self.verify_told(issuer, certificate, encoding, mode, rooms))
+        present, octets = certificate.present(), certificate.octets()
+        return with_room(lambda rooms: self.verify_told(issuer, present, octets, encoding, mode, rooms))
+
+    def verify_path(
+        self,
+        anchor: Resources,
+        run: bytes,
+        certificates: list[Certificate],
+        encoding: Encoding = Encoding.LENIENT,
+    ) -> Resources:
+        """What certificates on a path, whose octets stand in a run, leave of the anchor's set. `RefusedPath` where one
+        isn't verified."""
+        verified = 0
+
+        def told(rooms: Rooms) -> Told:
+            nonlocal verified
+            found, verified = self.verify_path_told(anchor, run, certificates, encoding, rooms)
+            return found
+
+        try:
+            return with_room(told)
+        except Refused as refused:
+            raise RefusedPath(refused.status, refused.excess, verified) from None
+
+    def cover(
+        self, ip: bytes, family: Family, encoding: Encoding = Encoding.LENIENT
+    ) -> list[IPv4Network] | list[IPv6Network]:
+        """The shortest list of prefixes that has exactly the addresses of a family that IP address blocks list.
+        `Refused` where they list none."""
+        octets = with_room(lambda rooms: self.cover_told(ip, encoding, family, rooms[0])).asn
+        if family == Family.V4:
+            return [IPv4Network((octets[at : at + 4], octets[at + 4])) for at in range(0, len(octets), 5)]
+        return [IPv6Network((octets[at : at + 16], octets[at + 16])) for at in range(0, len(octets), 17)]
+
+    def answer(self, line: str) -> str:
+        """The answer of respath to a line. `Refused` where there is no memory for it."""
+        octets = line.encode("utf-8")
+        return with_room(lambda rooms: self.answer_told(octets, rooms[0])).asn.decode("utf-8")
 
     def made(
         self, operation: Operation, a: Resources, b: Resources, encoding: Encoding = Encoding.LENIENT

@@ -5,9 +5,25 @@ import sys
 from collections.abc import Callable
 from pathlib import Path
 
-from pigyelund import NO, TOO_SMALL, Encoding, Mode, Operation, Pigyelund, Refused, Resources, Rooms, Test, Told
+from pigyelund import (
+    NO,
+    TOO_SMALL,
+    Certificate,
+    Encoding,
+    Extensions,
+    Family,
+    Mode,
+    Operation,
+    Pigyelund,
+    Refused,
+    RefusedPath,
+    Resources,
+    Rooms,
+    Test,
+    Told,
+)
 
-ROOM = 4096
+ROOM = 8192
 
 
 def octets(word: str) -> bytes:
@@ -15,62 +31,128 @@ def octets(word: str) -> bytes:
     return b"" if word == "-" else bytes.fromhex(word)
 
 
-def is_told(call: Callable[[Rooms], Told], status: int, told: Resources) -> bool:
-    """Whether a call answers so with ample rooms, with exact ones, and with none."""
-    lengths = len(told.asn), len(told.ip)
-    ample = Resources(told.asn.ljust(ROOM, b"\0"), told.ip.ljust(ROOM, b"\0"))
-    return (
-        call((ROOM, ROOM)) == (status, lengths, ample)
-        and call(lengths) == (status, lengths, told)
-        and call((0, 0)) == (TOO_SMALL if any(lengths) else status, lengths, Resources())
-    )
+class Row:
+    """A row: a call, its numbers, what goes in, and what is told."""
 
+    def __init__(self, text: str) -> None:
+        self.call, numbers, *words = text.split()
+        self.numbers = [] if numbers == "-" else [int(number) for number in numbers.split(",")]
+        self.certificates: list[Certificate] = []
+        if self.call == "path":
+            places = [] if words[3] == "-" else words[3].split(";")
+            self.certificates = [Certificate(*map(int, place.split(":"))) for place in places]
+            words[3] = "-"
+        self.first, self.second = (Resources(*map(octets, words[at : at + 2])) for at in (0, 2))
+        self.status, self.told = int(words[4]), Resources(*map(octets, words[5:7]))
+        self.verified = words[7]
 
-def is_answer(call: Callable[[], Resources | bool], status: int, told: Resources) -> bool:
-    """Whether a safe call answers so: with this set, with whether the status is 0, or by `Refused`."""
-    try:
-        found = call()
-    except Refused as refused:
-        return (refused.status, refused.excess) == (status, told)
-    if isinstance(found, Resources):
-        return (0, found) == (status, told)
-    return status == (0 if found else NO)
-
-
-def is_answered(library: Pigyelund, row: str) -> bool:
-    """Whether the row is answered as it says."""
-    call, *words = row.split()
-    encoding, status = int(words[0]), int(words[6])
-    first, second, told = (Resources(*map(octets, words[at : at + 2])) for at in (2, 4, 7))
-    known = encoding in (0, 1)
-    if call == "verify":
-        mode = int(words[1])
-        is_so = is_told(lambda rooms: library.verify_told(first, second, encoding, mode, rooms), status, told)
-        if not known or mode not in (0, 1):
-            return is_so
-        return is_so and is_answer(
-            lambda: library.verify(first, second, Encoding(encoding), Mode(mode)), status, told
+    def is_told(self, call: Callable[[Rooms], Told]) -> bool:
+        """Whether a call answers so with ample rooms, with exact ones, and with none."""
+        told, one_room = self.told, self.call in ("cover", "answer")
+        lengths = len(told.asn), len(told.ip)
+        ample = Resources(told.asn.ljust(ROOM, b"\0"), b"" if one_room else told.ip.ljust(ROOM, b"\0"))
+        return (
+            call((ROOM, ROOM)) == (self.status, lengths, ample)
+            and call(lengths) == (self.status, lengths, told)
+            and call((0, 0)) == (TOO_SMALL if any(lengths) else self.status, lengths, Resources())
         )
-    name = f"pg_{call}"
+
+    def is_answer(self, call: Callable[[], Resources | bool]) -> bool:
+        """Whether a safe call answers so: with this set, with whether the status is 0, or by `Refused`."""
+        try:
+            found = call()
+        except RefusedPath as refused:
+            return (refused.status, refused.excess, str(refused.verified)) == (self.status, self.told, self.verified)
+        except Refused as refused:
+            return (refused.status, refused.excess) == (self.status, self.told)
+        if isinstance(found, Resources):
+            return (0, found) == (self.status, self.told)
+        return self.status == (0 if found else NO)
+
+
+def is_verified(library: Pigyelund, row: Row) -> bool:
+    """Whether the row of a certificate is answered as it says."""
+    encoding, present, mode = row.numbers
+    first, second = row.first, row.second
+    if not row.is_told(lambda rooms: library.verify_told(first, present, second, encoding, mode, rooms)):
+        return False
+    if encoding > 1 or present > 3 or mode > 1:
+        return True
+    certificate = Extensions(second.asn if present & 1 else None, second.ip if present & 2 else None)
+    return row.is_answer(lambda: library.verify(first, certificate, Encoding(encoding), Mode(mode)))
+
+
+def is_verified_path(library: Pigyelund, row: Row) -> bool:
+    """Whether the row of a path is answered as it says."""
+    (encoding,), run, certificates = row.numbers, row.second.asn, row.certificates
+
+    def told(rooms: Rooms) -> Told:
+        found, verified = library.verify_path_told(row.first, run, certificates, encoding, rooms)
+        return found if str(verified) == row.verified else (verified, (0, 0), Resources())
+
+    is_so = row.is_told(told)
+    if encoding > 1:
+        return is_so
+    return is_so and row.is_answer(lambda: library.verify_path(row.first, run, certificates, Encoding(encoding)))
+
+
+def is_cover(library: Pigyelund, row: Row) -> bool:
+    """Whether the row of a cover is answered as it says."""
+    (encoding, family), ip = row.numbers, row.first.asn
+    if not row.is_told(lambda rooms: library.cover_told(ip, encoding, family, rooms[0])):
+        return False
+    if encoding > 1 or family not in (1, 2):
+        return True
+
+    def prefixes() -> Resources:
+        found = library.cover(ip, Family(family), Encoding(encoding))
+        return Resources(b"".join(net.network_address.packed + bytes([net.prefixlen]) for net in found))
+
+    return row.is_answer(prefixes)
+
+
+def is_line(library: Pigyelund, row: Row) -> bool:
+    """Whether the row of a line is answered as it says."""
+    line = row.first.asn
+    if not row.is_told(lambda rooms: library.answer_told(line, rooms[0])):
+        return False
+    try:
+        text = line.decode("utf-8")
+    except UnicodeDecodeError:
+        return True
+    return row.is_answer(lambda: Resources(library.answer(text).encode("utf-8")))
+
+
+def is_of_sets(library: Pigyelund, row: Row) -> bool:
+    """Whether the row of a call on two sets is answered as it says."""
+    (encoding,), first, second = row.numbers, row.first, row.second
+    name = f"pg_{row.call}"
     if name in {test.value for test in Test}:
-        is_so = library.test_told(Test(name), first, second, encoding) == status
+        is_so = library.test_told(Test(name), first, second, encoding) == row.status
     else:
         operation = Operation(name)
-        is_so = is_told(lambda rooms: library.made_told(operation, first, second, encoding, rooms), status, told)
-    if not known:
+        is_so = row.is_told(lambda rooms: library.made_told(operation, first, second, encoding, rooms))
+    if encoding > 1:
         return is_so
-    return is_so and is_answer(lambda: getattr(library, call)(first, second, Encoding(encoding)), status, told)
+    return is_so and row.is_answer(lambda: getattr(library, row.call)(first, second, Encoding(encoding)))
+
+
+ASKED = {"verify": is_verified, "path": is_verified_path, "cover": is_cover, "answer": is_line}
 
 
 def main() -> int:
     """Asks each row."""
     library = Pigyelund(sys.argv[1])
     rows = Path(sys.argv[2]).read_text().splitlines()
-    faults = [row for row in rows if not is_answered(library, row)]
-    for row in faults[:20]:
-        print(f"another answer: {row}")
+    faults = []
+    for text in rows:
+        row = Row(text)
+        if not ASKED.get(row.call, is_of_sets)(library, row):
+            faults.append(text)
+    for text in faults[:20]:
+        print(f"another answer: {text}")
     print(f"Python: {len(rows)} rows, {len(faults)} faults")
-    return 1 if faults or not rows or library.version() != 1 else 0
+    return 1 if faults or not rows or library.version() != 2 else 0
 
 
 if __name__ == "__main__":

@@ -1,3 +1,2 @@
-pub mod AskLemmas
-pub mod EncodingLemmas
-pub mod ReadLemmas
+pub mod CoverLemmas
+pub mod PathLemmas

@@ -1,6 +1,10 @@
-pub mod Encodings
+pub mod Certificates
+pub mod Covers
+pub mod Numbers
 pub mod PairStatuses
 pub mod Pairs
+pub mod Paths
 pub mod Sets
 pub mod Statuses
+pub mod Unclaimed
 pub mod Verified

@@ -1,9 +1,9 @@
 -- Two sets of resources that cross as octets, and what is asked of both.
 use Rattle.std.specs.Prelude.{◌≡◌, ◌≢◌, ◌⊎◌, ◌↔◌, ℕ, Bool, List, IsTrue}
 use Rattle.rpki_resources.specs.Triples.{IsDifferenceOf, IsIntersectionOf, IsUnionOf, Triple}
-use Rattle.pigyelund_c.specs.Encodings.{encoding_number}
+use Rattle.rpki_extensions.specs.declared.encoding.Encoding.{Encoding}
+use Rattle.pigyelund_c.specs.Numbers.{encoding_number}
 use Rattle.pigyelund_c.specs.Sets.{IsNoSet, IsSet}
-use Rattle.pigyelund_c.specs.declared.encodings.Encoding.{Encoding}
 use Rattle.pigyelund_c.specs.declared.operations.Operation.{Operation}
 use Rattle.pigyelund_c.specs.declared.operations.Operation.TheVariants.{Union, Intersection, Difference}
 use Rattle.pigyelund_c.specs.declared.pair.Pair.{Pair}

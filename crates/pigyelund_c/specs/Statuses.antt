@@ -4,34 +4,50 @@ use Rattle.rpki_der.specs.Faults.{fault_number}
 use Rattle.rpki_text.specs.declared.memory.OrMemory.{OrMemory}
 use Rattle.rpki_text.specs.declared.memory.OrMemory.TheVariants.{Refused, Memory}
 use Rattle.rpki_resources.specs.Triples.{Triple, no_resources}
+use Rattle.pigyelund_c.specs.Unclaimed.{unclaimed_status}
+use Rattle.pigyelund_c.specs.declared.refusal.Excess.{Excess}
+use Rattle.pigyelund_c.specs.declared.refusal.Excess.TheVariants.{Asn, Ipv4, Ipv6}
+use Rattle.pigyelund_c.specs.declared.refusal.Misasked.{Misasked}
+use Rattle.pigyelund_c.specs.declared.refusal.Misasked.TheVariants.{NoEncoding, NoMode, NoPresence, NoFamily, Outside}
 use Rattle.pigyelund_c.specs.declared.refusal.Refusal.{Refusal}
-use Rattle.pigyelund_c.specs.declared.refusal.Refusal.TheVariants.{NoEncoding, NoMode, Issuer, Certificate, OverclaimedAs, OverclaimedV4, OverclaimedV6}
+use Rattle.pigyelund_c.specs.declared.refusal.Refusal.TheVariants.{Asked, Issuer, Unclaimed, Overclaimed}
 use Rattle.pigyelund_c.specs.declared.refusal.Unread.{Unread}
 use Rattle.pigyelund_c.specs.declared.refusal.Unread.TheVariants.{Numbers, Addresses, Inherited}
+
+abbrev pub misasked_status : Misasked → ℕ
+misasked_status NoEncoding = 9
+misasked_status NoMode = 4
+misasked_status NoPresence = 12
+misasked_status NoFamily = 13
+misasked_status Outside = 11
 
 abbrev pub unread_status : Unread → ℕ
 unread_status (Numbers fault) = 256 + fault_number fault
 unread_status (Addresses fault) = 512 + fault_number fault
 unread_status Inherited = 3
 
-abbrev pub refusal_status : Refusal → ℕ
-refusal_status NoEncoding = 9
-refusal_status NoMode = 4
-refusal_status (Issuer reason) = unread_status reason
-refusal_status (Certificate reason) = 4096 + unread_status reason
-refusal_status (OverclaimedAs excess) = 5
-refusal_status (OverclaimedV4 excess) = 6
-refusal_status (OverclaimedV6 excess) = 7
+abbrev pub excess_status : Excess → ℕ
+excess_status (Asn excess) = 5
+excess_status (Ipv4 excess) = 6
+excess_status (Ipv6 excess) = 7
 
--- the excess, and no resources for any other reason
+abbrev pub refusal_status : Refusal → ℕ
+refusal_status (Asked why) = misasked_status why
+refusal_status (Issuer reason) = unread_status reason
+refusal_status (Unclaimed reason) = unclaimed_status reason
+refusal_status (Overclaimed excess) = excess_status excess
+
+-- the excess as a set, and no resources for any other reason
+abbrev pub excess_set : Excess → Triple
+excess_set (Asn excess) = record { asn = excess; ipv4 = []; ipv6 = [] }
+excess_set (Ipv4 excess) = record { asn = []; ipv4 = excess; ipv6 = [] }
+excess_set (Ipv6 excess) = record { asn = []; ipv4 = []; ipv6 = excess }
+
 abbrev pub excess_of : Refusal → Triple
-excess_of NoEncoding = no_resources
-excess_of NoMode = no_resources
+excess_of (Asked why) = no_resources
 excess_of (Issuer reason) = no_resources
-excess_of (Certificate reason) = no_resources
-excess_of (OverclaimedAs excess) = record { asn = excess; ipv4 = []; ipv6 = [] }
-excess_of (OverclaimedV4 excess) = record { asn = []; ipv4 = excess; ipv6 = [] }
-excess_of (OverclaimedV6 excess) = record { asn = []; ipv4 = []; ipv6 = excess }
+excess_of (Unclaimed reason) = no_resources
+excess_of (Overclaimed excess) = excess_set excess
 
 -- the status of an outcome: 0 of a set, 2 of want of memory
 abbrev pub status_of : Result Triple (OrMemory Refusal) → ℕ

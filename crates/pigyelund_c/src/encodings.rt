@@ -1,32 +1,46 @@
-//! Numbers that choose how octets are read, and what becomes of a claim that lists too much.
-ghost use Rattle.std.specs.Prelude.{◌≡◌, ◌≢◌, MatchOption};
+//! Numbers that choose: how octets are read, what becomes of a claim that lists too much, which extensions are there,
+//! and a family.
+ghost use Rattle.std.specs.Prelude.{◌≡◌, ◌≢◌, MatchOption, option_map};
 ghost use Rattle.rpki_chain.specs.declared.path.Overclaim.{Overclaim as Mode};
-ghost use Rattle.rpki_der.specs.Views.{is_strict, left};
-ghost use Rattle.pigyelund_c.specs.Encodings.{encoding_number, is_canonical, mode_number};
-ghost use Rattle.pigyelund_c.specs.declared.encodings.Encoding.{Encoding as Way};
+ghost use Rattle.rpki_extensions.specs.declared.encoding.Encoding.{Encoding as Way};
+ghost use Rattle.rpki_ip.specs.declared.family.AddressFamily.{AddressFamily as Family};
+ghost use Rattle.pigyelund_c.specs.Numbers.{addresses_there, encoding_number, family_number, mode_number, numbers_there, present_number};
+ghost use Rattle.pigyelund_c.specs.declared.encodings.Present.{Present as There};
 
-use rpki_der::Cursor;
-use rpki_resources::repository::resources::Overclaim;
+use rpki_extensions::encoding::Encoding;
+use rpki_resources::repository::resources::{AddressFamily, Overclaim};
 
-/// Which octets of an extension's value are read.
+/// Which extensions a certificate has.
 #[derive(Clone, Copy)]
-pub(crate) enum Encoding {
-    /// All that the syntax allows: blocks in any order, overlapping or not (RFC 3779, 2.2.3 and 3.2.3).
-    Any,
-    /// Those alone that a certificate must have: blocks in their one form, ascending, none touching the next, and IPv4
-    /// before IPv6 (RFC 3779, 2.2.3.3, 2.2.3.6 and 3.2.3.4; X.690, 10 and 11).
-    Canonical,
+pub(crate) enum Present {
+    /// Neither.
+    Neither,
+    /// AS identifiers alone.
+    Numbers,
+    /// IP address blocks alone.
+    Addresses,
+    /// Both.
+    Both,
 }
 
-impl Encoding {
-    /// A cursor at the first of the octets, which takes what is in this encoding.
-    pub(crate) fn cursor(self, octets: &[u8]) -> Cursor<'_>
-        ensures octets { left result ≡ octets.now }
-        ensures mode { is_strict result ≡ is_canonical self }
+impl Present {
+    /// The octets of AS identifiers, None where that extension isn't there.
+    pub(crate) fn numbers(self, octets: &[u8]) -> Option<&[u8]>
+        ensures { option_map (λ octets. octets.now) result ≡ numbers_there self octets.now }
     {
         match self {
-            Encoding::Any => Cursor::new(octets),
-            Encoding::Canonical => Cursor::new_strict(octets),
+            Present::Neither | Present::Addresses => None,
+            Present::Numbers | Present::Both => Some(octets),
+        }
+    }
+
+    /// The octets of IP address blocks, None where that extension isn't there.
+    pub(crate) fn addresses(self, octets: &[u8]) -> Option<&[u8]>
+        ensures { option_map (λ octets. octets.now) result ≡ addresses_there self octets.now }
+    {
+        match self {
+            Present::Neither | Present::Numbers => None,
+            Present::Addresses | Present::Both => Some(octets),
         }
     }
 }
@@ -51,6 +65,33 @@ pub(crate) fn mode_of(number: u32) -> Option<Overclaim>
     match number {
         0 => Some(Overclaim::Refuse),
         1 => Some(Overclaim::Trim),
+        _ => None,
+    }
+}
+
+/// The extensions that a number says are there, None where it says that of none.
+pub(crate) fn present_of(number: u32) -> Option<Present>
+    ensures { MatchOption result ((present : There) → number ≢ present_number present)
+        (λ present. number ≡ present_number present) }
+{
+    match number {
+        0 => Some(Present::Neither),
+        1 => Some(Present::Numbers),
+        2 => Some(Present::Addresses),
+        3 => Some(Present::Both),
+        _ => None,
+    }
+}
+
+/// The family that a number chooses, as it is numbered in IP address blocks (RFC 3779, 2.2.3.3). None where it is of
+/// none.
+pub(crate) fn family_of(number: u32) -> Option<AddressFamily>
+    ensures { MatchOption result ((family : Family) → number ≢ family_number family)
+        (λ family. number ≡ family_number family) }
+{
+    match number {
+        1 => Some(AddressFamily::Ipv4),
+        2 => Some(AddressFamily::Ipv6),
         _ => None,
     }
 }

@@ -1,13 +1,15 @@
-//! What claims leave of an issuer's resources of one kind.
+//! What a certificate's claims leave of an issuer's resources.
 ghost use Rattle.std.specs.Prelude.{◌≡◌, MatchResult};
 ghost use Rattle.rpki_text.specs.Memory.{IfRefused};
 ghost use Rattle.rpki_chain.specs.Paths.{IsIssued};
 ghost use Rattle.rpki_chain.specs.Runs.{Holds};
+ghost use Rattle.rpki_extensions.specs.Issued.{AreIssued, IsIssuedOfEach};
 ghost use Rattle.rpki_ip.specs.Whole.{IsWhole};
 ghost use Rattle.rpki_ipres.specs.Resources.{IsWholeClaim};
-ghost use Rattle.pigyelund_c.specs.Verified.{AreIssued, AreNotIssued, IsAsExcess, IsV4Excess, IsV6Excess, OfV4Excess, OfV6Excess};
+ghost use Rattle.pigyelund_c.specs.Verified.{AreNotIssued, IsAsExcess, IsNotIssuedOfEach, IsV4Excess, IsV6Excess, OfV4Excess, OfV6Excess};
 
-use crate::refusal::Refusal;
+use crate::refusal::Excess;
+use rpki_extensions::extensions::Claims;
 use rpki_resources::OrMemory;
 use rpki_resources::repository::resources::{
     AsBlocks, AsResources, IpResources, Ipv4Blocks, Ipv6Blocks, Overclaim, OverclaimedIpResources,
@@ -16,19 +18,19 @@ use rpki_resources::repository::resources::{
 use std::alloc::Global;
 
 /// What a claim leaves of an issuer's AS numbers.
-pub(crate) fn numbers_left(
+fn numbers_left(
     alloc: Global,
     issuer: &AsBlocks,
     claim: &AsResources,
     mode: Overclaim,
-) -> Result<AsBlocks, OrMemory<Refusal>>
+) -> Result<AsBlocks, OrMemory<Excess>>
     ensures { MatchResult result (IsIssued (Holds issuer.now) claim.now mode)
         (IfRefused (IsAsExcess issuer.now claim.now mode)) }
 {
     match issuer.verify_issued(alloc, claim, mode) {
         Ok(set) => Ok(set),
         Err(OrMemory::Refused(fault)) => match fault.excess().clone() {
-            Ok(excess) => Err(OrMemory::Refused(Refusal::OverclaimedAs(excess))),
+            Ok(excess) => Err(OrMemory::Refused(Excess::Asn(excess))),
             Err(error) => Err(OrMemory::Memory(error)),
         },
         Err(OrMemory::Memory(error)) => Err(OrMemory::Memory(error)),
@@ -36,22 +38,22 @@ pub(crate) fn numbers_left(
 }
 
 /// The refusal of an excess of IPv4 addresses.
-fn v4_refusal(fault: OverclaimedIpResources) -> OrMemory<Refusal>
+fn v4_refusal(fault: OverclaimedIpResources) -> OrMemory<Excess>
     requires { IsWhole (Holds fault) }
     ensures { IfRefused (OfV4Excess (λ excess. excess ≡ fault)) result }
 {
     match fault.excess().clone() {
-        Ok(excess) => OrMemory::Refused(Refusal::OverclaimedV4(Ipv4Blocks::from_ip_blocks(excess))),
+        Ok(excess) => OrMemory::Refused(Excess::Ipv4(Ipv4Blocks::from_ip_blocks(excess))),
         Err(error) => OrMemory::Memory(error),
     }
 }
 
 /// The refusal of an excess of IPv6 addresses.
-fn v6_refusal(fault: OverclaimedIpResources) -> OrMemory<Refusal>
+fn v6_refusal(fault: OverclaimedIpResources) -> OrMemory<Excess>
     ensures { IfRefused (OfV6Excess (λ excess. excess ≡ fault)) result }
 {
     match fault.excess().clone() {
-        Ok(excess) => OrMemory::Refused(Refusal::OverclaimedV6(Ipv6Blocks::from_ip_blocks(excess))),
+        Ok(excess) => OrMemory::Refused(Excess::Ipv6(Ipv6Blocks::from_ip_blocks(excess))),
         Err(error) => OrMemory::Memory(error),
     }
 }
@@ -62,7 +64,7 @@ fn v4_left(
     issuer: &Ipv4Blocks,
     claim: &IpResources,
     mode: Overclaim,
-) -> Result<Ipv4Blocks, OrMemory<Refusal>>
+) -> Result<Ipv4Blocks, OrMemory<Excess>>
     requires { IsWholeClaim claim.now }
     ensures { MatchResult result (IsIssued (Holds issuer.now) claim.now mode)
         (IfRefused (IsV4Excess issuer.now claim.now mode)) }
@@ -81,7 +83,7 @@ fn v6_left(
     issuer: &Ipv6Blocks,
     claim: &IpResources,
     mode: Overclaim,
-) -> Result<Ipv6Blocks, OrMemory<Refusal>>
+) -> Result<Ipv6Blocks, OrMemory<Excess>>
     ensures { MatchResult result (IsIssued (Holds issuer.now) claim.now mode)
         (IfRefused (IsV6Excess issuer.now claim.now mode)) }
 {
@@ -93,13 +95,13 @@ fn v6_left(
 }
 
 /// What the claims on both families leave of an issuer's addresses.
-pub(crate) fn addresses_left(
+fn addresses_left(
     alloc: Global,
     issuer: &ResourceSet,
     v4: &IpResources,
     v6: &IpResources,
     mode: Overclaim,
-) -> Result<(Ipv4Blocks, Ipv6Blocks), OrMemory<Refusal>>
+) -> Result<(Ipv4Blocks, Ipv6Blocks), OrMemory<Excess>>
     requires { IsWholeClaim v4.now }
     ensures { MatchResult result (AreIssued issuer.now v4.now v6.now mode)
         (IfRefused (AreNotIssued issuer.now v4.now v6.now mode)) }
@@ -107,4 +109,23 @@ pub(crate) fn addresses_left(
     let ipv4 = v4_left(alloc, issuer.ipv4(), v4, mode)?;
     let ipv6 = v6_left(alloc, issuer.ipv6(), v6, mode)?;
     Ok((ipv4, ipv6))
+}
+
+/// What the claims of a certificate leave of an issuer's resources. `Refused` with the first excess, of AS numbers
+/// before addresses and of IPv4 before IPv6; `Memory` where there is no memory for a set.
+pub(crate) fn claims_left(
+    alloc: Global,
+    issuer: &ResourceSet,
+    claims: &Claims,
+    mode: Overclaim,
+) -> Result<ResourceSet, OrMemory<Excess>>
+    requires { IsWholeClaim claims.now.ipv4 }
+    ensures { MatchResult result
+        (IsIssuedOfEach issuer.now claims.now.asn claims.now.ipv4 claims.now.ipv6 mode)
+        (IfRefused
+        (IsNotIssuedOfEach issuer.now claims.now.asn claims.now.ipv4 claims.now.ipv6 mode)) }
+{
+    let asn = numbers_left(alloc, issuer.asn(), &claims.asn, mode)?;
+    let (ipv4, ipv6) = addresses_left(alloc, issuer, &claims.ipv4, &claims.ipv6, mode)?;
+    Ok(ResourceSet::new(asn, ipv4, ipv6))
 }

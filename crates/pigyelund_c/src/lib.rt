@@ -5,17 +5,24 @@
 //! blocks (2.2.3), each of length 0 where nothing is listed. No call requires anything: what is none is refused.
 //!
 //! ```rust
-//! let outcome = answered(alloc, issuer_as, issuer_ip, cert_as, cert_ip, encoding, mode);
+//! let outcome = path_answered(alloc, anchor_as, anchor_ip, run, encoding, certificates);
+//! let (count, outcome) = counted(certificates, outcome);
+//! *verified = count;
 //! let (status, set) = told(outcome);
 //! tell(alloc, status, &set, as_out, ip_out, as_len, ip_len)
 //! ```
 #![tactic(auto)]
 
 mod ask;
+mod certificate;
+mod cover;
+mod covers;
 mod encodings;
 mod left;
+mod lines;
 mod operations;
 mod pair;
+mod path;
 mod read;
 mod refusal;
 mod sets;

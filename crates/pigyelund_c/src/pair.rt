@@ -4,10 +4,11 @@ ghost use Rattle.rpki_text.specs.Memory.{IfRefused};
 ghost use Rattle.pigyelund_c.specs.Pairs.{AreNotRead, AreNotTwo, AreRead, AreTwo};
 ghost use Rattle.pigyelund_c.specs.PairStatuses.{made_set, made_status, test_status, unpaired_status};
 
-use crate::encodings::{Encoding, encoding_of};
+use crate::encodings::encoding_of;
 use crate::read::set_of;
 use crate::refusal::Unread;
 use crate::status;
+use rpki_extensions::encoding::Encoding;
 use rpki_resources::OrMemory;
 use rpki_resources::repository::resources::ResourceSet;
 use std::alloc::Global;
@@ -43,8 +44,8 @@ impl Unpaired {
     }
 }
 
-/// The sets that octets list. `Refused` with the first reason where one lists none, the first set's before the second's;
-/// `Memory` where there is no memory for them.
+/// The sets that octets list. `Refused` with the first reason where one lists none, the first set's before the
+/// second's; `Memory` where there is no memory for them.
 fn two(
     alloc: Global,
     a_as: &[u8],

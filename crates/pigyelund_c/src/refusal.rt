@@ -1,11 +1,43 @@
 //! Why a call tells no set that was asked for, the status of each reason, and the set that is told in its place.
 ghost use Rattle.std.specs.Prelude.{◌≡◌, ◌<◌};
-ghost use Rattle.pigyelund_c.specs.Statuses.{excess_of, refusal_status, status_of, told_set, unread_status};
+ghost use Rattle.pigyelund_c.specs.Statuses.{excess_of, excess_set, excess_status, misasked_status, refusal_status, status_of, told_set, unread_status};
+ghost use Rattle.pigyelund_c.specs.Unclaimed.{unclaimed_status};
 
 use crate::status;
 use rpki_der::DerError;
+use rpki_extensions::error::Unverified;
 use rpki_resources::OrMemory;
 use rpki_resources::repository::resources::{AsBlocks, Ipv4Blocks, Ipv6Blocks, ResourceSet};
+
+/// A number that a caller hands over is none.
+#[derive(Clone, Copy)]
+pub(crate) enum Misasked {
+    /// That of an encoding.
+    NoEncoding,
+    /// That of a mode.
+    NoMode,
+    /// That of the extensions that are there.
+    NoPresence,
+    /// That of a family.
+    NoFamily,
+    /// A place, which lies outside of the octets.
+    Outside,
+}
+
+impl Misasked {
+    /// The status of a reason.
+    pub(crate) fn status(self) -> u32
+        ensures { result ≡ misasked_status self }
+    {
+        match self {
+            Misasked::NoEncoding => status::BAD_ENCODING,
+            Misasked::NoMode => status::BAD_MODE,
+            Misasked::NoPresence => status::BAD_PRESENT,
+            Misasked::NoFamily => status::BAD_FAMILY,
+            Misasked::Outside => status::OUTSIDE,
+        }
+    }
+}
 
 /// Why octets of both extensions list no set.
 #[derive(Drop)]
@@ -32,23 +64,69 @@ impl Unread {
     }
 }
 
+/// The status of the reason why a certificate's extensions are no claims: absent, or the first fault of octets.
+fn unclaimed_status(reason: &Unverified) -> u32
+    ensures { result ≡ unclaimed_status reason.now }
+{
+    match reason {
+        Unverified::Absent => status::ABSENT,
+        Unverified::AsOctets(fault) => status::SECOND + status::BAD_AS + u32::from(fault.number()),
+        Unverified::AddressOctets(fault) => {
+            status::SECOND + status::BAD_IP + u32::from(fault.number())
+        }
+        Unverified::Inherited => status::SECOND + status::INHERITED,
+        Unverified::Asn(_) => status::OVERCLAIM_AS,
+        Unverified::Ipv4(_) => status::OVERCLAIM_V4,
+        Unverified::Ipv6(_) => status::OVERCLAIM_V6,
+    }
+}
+
+/// What a certificate claims and its issuer hasn't.
+#[derive(Drop)]
+pub(crate) enum Excess {
+    /// AS numbers.
+    Asn(AsBlocks),
+    /// IPv4 addresses.
+    Ipv4(Ipv4Blocks),
+    /// IPv6 addresses.
+    Ipv6(Ipv6Blocks),
+}
+
+impl Excess {
+    /// The status of an excess.
+    fn status(&self) -> u32
+        ensures { result ≡ excess_status self.now }
+    {
+        match self {
+            Excess::Asn(_) => status::OVERCLAIM_AS,
+            Excess::Ipv4(_) => status::OVERCLAIM_V4,
+            Excess::Ipv6(_) => status::OVERCLAIM_V6,
+        }
+    }
+
+    /// The excess as a set.
+    fn set(self) -> ResourceSet
+        ensures { result ≡ excess_set self }
+    {
+        match self {
+            Excess::Asn(asn) => ResourceSet::new(asn, Ipv4Blocks::empty(), Ipv6Blocks::empty()),
+            Excess::Ipv4(ipv4) => ResourceSet::new(AsBlocks::empty(), ipv4, Ipv6Blocks::empty()),
+            Excess::Ipv6(ipv6) => ResourceSet::new(AsBlocks::empty(), Ipv4Blocks::empty(), ipv6),
+        }
+    }
+}
+
 /// Why an issuer verifies nothing of a certificate.
 #[derive(Drop)]
 pub(crate) enum Refusal {
-    /// The number of an encoding is none.
-    NoEncoding,
-    /// The number of a mode is none.
-    NoMode,
+    /// A number that is handed over is none.
+    Asked(Misasked),
     /// The issuer's octets list no set.
     Issuer(Unread),
-    /// The certificate's octets are no claims.
-    Certificate(Unread),
-    /// AS numbers that are claimed and that the issuer hasn't.
-    OverclaimedAs(AsBlocks),
-    /// So of IPv4 addresses.
-    OverclaimedV4(Ipv4Blocks),
-    /// So of IPv6 addresses.
-    OverclaimedV6(Ipv6Blocks),
+    /// The certificate's extensions are no claims.
+    Unclaimed(Unverified),
+    /// More is claimed than the issuer has.
+    Overclaimed(Excess),
 }
 
 impl Refusal {
@@ -57,13 +135,10 @@ impl Refusal {
         ensures { result ≡ refusal_status self.now }
     {
         match self {
-            Refusal::NoEncoding => status::BAD_ENCODING,
-            Refusal::NoMode => status::BAD_MODE,
+            Refusal::Asked(reason) => reason.status(),
             Refusal::Issuer(reason) => reason.status(),
-            Refusal::Certificate(reason) => status::SECOND + reason.status(),
-            Refusal::OverclaimedAs(_) => status::OVERCLAIM_AS,
-            Refusal::OverclaimedV4(_) => status::OVERCLAIM_V4,
-            Refusal::OverclaimedV6(_) => status::OVERCLAIM_V6,
+            Refusal::Unclaimed(reason) => unclaimed_status(reason),
+            Refusal::Overclaimed(excess) => excess.status(),
         }
     }
 
@@ -72,15 +147,7 @@ impl Refusal {
         ensures { result ≡ excess_of self }
     {
         match self {
-            Refusal::OverclaimedAs(asn) => {
-                ResourceSet::new(asn, Ipv4Blocks::empty(), Ipv6Blocks::empty())
-            }
-            Refusal::OverclaimedV4(ipv4) => {
-                ResourceSet::new(AsBlocks::empty(), ipv4, Ipv6Blocks::empty())
-            }
-            Refusal::OverclaimedV6(ipv6) => {
-                ResourceSet::new(AsBlocks::empty(), Ipv4Blocks::empty(), ipv6)
-            }
+            Refusal::Overclaimed(excess) => excess.set(),
             _ => ResourceSet::empty(),
         }
     }

@@ -13,9 +13,9 @@ use crate::pair::{set_told, test_told};
 use crate::tell::tell;
 use std::alloc::Global;
 
-/// Tells what one or the other of two sets has. Encodings are those of `pg_verify`. The status is 0 where the set is told;
-/// 1 where there is no room for it, and then the lengths are those that are wanted; 2 where there is no memory; and else
-/// that of the first reason: encoding, the first set's octets, the second's.
+/// Tells what one or the other of two sets has. Encodings are those of `pg_verify`. The status is 0 where the set is
+/// told; 1 where there is no room for it, and then the lengths are those that are wanted; 2 where there is no memory;
+/// and else that of the first reason: encoding, the first set's octets, the second's.
 #[unsafe(no_mangle)]
 pub extern "C" fn pg_union(
     alloc: Global,
@@ -109,8 +109,9 @@ pub extern "C" fn pg_difference(
     tell(alloc, status, &set, as_out, ip_out, as_len, ip_len)
 }
 
-/// Whether the first set has each number and each address of the second. Encodings are those of `pg_verify`. The status is
-/// 0 where it has, 8 where it hasn't, 2 where there is no memory, and else that of the first reason, as of `pg_union`.
+/// Whether the first set has each number and each address of the second. Encodings are those of `pg_verify`. The status
+/// is 0 where it has, 8 where it hasn't, 2 where there is no memory, and else that of the first reason, as of
+/// `pg_union`.
 #[unsafe(no_mangle)]
 pub extern "C" fn pg_contains(
     alloc: Global,

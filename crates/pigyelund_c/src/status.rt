@@ -20,6 +20,14 @@ pub const OVERCLAIM_V6: u32 = 7;
 pub const NO: u32 = 8;
 /// The number of an encoding is none.
 pub const BAD_ENCODING: u32 = 9;
+/// The certificate has neither extension.
+pub const ABSENT: u32 = 10;
+/// The place of an extension lies outside of the octets.
+pub const OUTSIDE: u32 = 11;
+/// The number of the extensions that are there is none.
+pub const BAD_PRESENT: u32 = 12;
+/// The number of a family is none.
+pub const BAD_FAMILY: u32 = 13;
 /// The octets of AS identifiers are none: this and the number of their first fault.
 pub const BAD_AS: u32 = 256;
 /// The octets of IP address blocks are none: this and the number of their first fault.

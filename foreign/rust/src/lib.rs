@@ -1,11 +1,12 @@
-//! What an issuer verifies of a certificate's resources (RFC 3779), and operations on sets of them, safe over the
-//! proved static library.
+//! What an issuer verifies of a certificate's resources (RFC 3779), or an anchor of a path of certificates, operations on
+//! sets of resources, shortest covers, and the answers of the program `respath`, safe over the proved static library.
 //!
 //! No call requires anything of the values, so nothing is tested here: a `&[u8]` is never null, and `&mut` rooms
 //! overlap nothing.
 #![no_std]
 extern crate alloc;
 
+use alloc::string::String;
 use alloc::vec::Vec;
 
 /// A call that makes a set of two: pointers and lengths of both, the encoding, both rooms, and the lengths that are told.
@@ -47,6 +48,7 @@ extern "C" {
         issuer_as_len: usize,
         issuer_ip: *const u8,
         issuer_ip_len: usize,
+        present: u32,
         cert_as: *const u8,
         cert_as_len: usize,
         cert_ip: *const u8,
@@ -59,6 +61,40 @@ extern "C" {
         ip_room: usize,
         as_len: *mut usize,
         ip_len: *mut usize,
+    ) -> u32;
+    fn pg_verify_path(
+        anchor_as: *const u8,
+        anchor_as_len: usize,
+        anchor_ip: *const u8,
+        anchor_ip_len: usize,
+        run: *const u8,
+        run_len: usize,
+        certificates: *const Certificate,
+        count: usize,
+        encoding: u32,
+        as_out: *mut u8,
+        as_room: usize,
+        ip_out: *mut u8,
+        ip_room: usize,
+        as_len: *mut usize,
+        ip_len: *mut usize,
+        verified: *mut usize,
+    ) -> u32;
+    fn pg_cover(
+        ip: *const u8,
+        ip_count: usize,
+        encoding: u32,
+        family: u32,
+        out: *mut u8,
+        room: usize,
+        len: *mut usize,
+    ) -> u32;
+    fn pg_answer(
+        line: *const u8,
+        line_len: usize,
+        out: *mut u8,
+        room: usize,
+        len: *mut usize,
     ) -> u32;
     fn pg_union(
         a_as: *const u8,
@@ -142,13 +178,49 @@ pub const TOO_SMALL: u32 = 1;
 /// The status of a test: no.
 pub const NO: u32 = 8;
 
-/// The values of both extensions, each empty where nothing is listed or the extension is absent.
+/// The values of both extensions that list a set, each empty where nothing is listed.
 #[derive(Clone, Copy, Debug, Default, PartialEq, Eq)]
 pub struct Octets<'a> {
     /// Of AS identifiers (RFC 3779, 3.2.3).
     pub asn: &'a [u8],
     /// Of IP address blocks (RFC 3779, 2.2.3).
     pub ip: &'a [u8],
+}
+
+/// The values of a certificate's extensions, each None where it is absent.
+#[derive(Clone, Copy, Debug, Default, PartialEq, Eq)]
+pub struct Extensions<'a> {
+    /// Of AS identifiers (RFC 3779, 3.2.3).
+    pub asn: Option<&'a [u8]>,
+    /// Of IP address blocks (RFC 3779, 2.2.3).
+    pub ip: Option<&'a [u8]>,
+}
+
+impl<'a> Extensions<'a> {
+    /// The number of the extensions that are there.
+    fn present(&self) -> u32 {
+        u32::from(self.asn.is_some()) + 2 * u32::from(self.ip.is_some())
+    }
+
+    /// Their octets, none of one that is absent.
+    fn octets(&self) -> Octets<'a> {
+        Octets {
+            asn: self.asn.unwrap_or_default(),
+            ip: self.ip.unwrap_or_default(),
+        }
+    }
+}
+
+/// Where in a run of octets the extensions of a certificate stand, and two numbers, as `pigyelund.h` has them.
+#[repr(C)]
+#[derive(Clone, Copy, Debug, Default, PartialEq, Eq)]
+pub struct Certificate {
+    pub as_at: usize,
+    pub as_len: usize,
+    pub ip_at: usize,
+    pub ip_len: usize,
+    pub present: u32,
+    pub mode: u32,
 }
 
 /// A set of resources, as the values of both extensions.
@@ -182,6 +254,20 @@ pub enum Overclaim {
     Refuse = 0,
     /// It counts for what the issuer has of it (RFC 8360, 4).
     Trim = 1,
+}
+
+/// A family of addresses.
+#[derive(Clone, Copy, Debug, PartialEq, Eq)]
+pub enum Family {
+    V4 = 1,
+    V6 = 2,
+}
+
+/// A prefix of addresses: the octets of its address, of which an IPv4 address has the first four, and its length.
+#[derive(Clone, Copy, Debug, PartialEq, Eq)]
+pub struct Prefix {
+    pub address: [u8; 16],
+    pub len: u8,
 }
 
 /// What is made of two sets.
@@ -230,6 +316,15 @@ pub struct Refused {
     pub excess: Resources,
 }
 
+/// Why a path isn't verified.
+#[derive(Clone, Debug, PartialEq, Eq)]
+pub struct RefusedPath {
+    /// How many certificates are verified: the reason is that of the next one.
+    pub verified: usize,
+    /// The reason.
+    pub reason: Refused,
+}
+
 /// The version of the calls.
 pub fn version() -> u32 {
     // SAFETY: it takes nothing.
@@ -239,6 +334,7 @@ pub fn version() -> u32 {
 /// One call with rooms of the caller's: the status, and the lengths of what is told.
 pub fn verify_into(
     issuer: Octets<'_>,
+    present: u32,
     certificate: Octets<'_>,
     encoding: u32,
     mode: u32,
@@ -253,6 +349,7 @@ pub fn verify_into(
             issuer.asn.len(),
             issuer.ip.as_ptr(),
             issuer.ip.len(),
+            present,
             certificate.asn.as_ptr(),
             certificate.asn.len(),
             certificate.ip.as_ptr(),
@@ -268,6 +365,75 @@ pub fn verify_into(
         )
     };
     (status, as_len, ip_len)
+}
+
+/// One call on a path with rooms of the caller's: the status, the lengths of what is told, and how many certificates are
+/// verified.
+pub fn verify_path_into(
+    anchor: Octets<'_>,
+    run: &[u8],
+    certificates: &[Certificate],
+    encoding: u32,
+    asn: &mut [u8],
+    ip: &mut [u8],
+) -> (u32, usize, usize, usize) {
+    let (mut as_len, mut ip_len, mut verified) = (0, 0, 0);
+    // SAFETY: as in `verify_into`; `Certificate` is laid out as in C.
+    let status = unsafe {
+        pg_verify_path(
+            anchor.asn.as_ptr(),
+            anchor.asn.len(),
+            anchor.ip.as_ptr(),
+            anchor.ip.len(),
+            run.as_ptr(),
+            run.len(),
+            certificates.as_ptr(),
+            certificates.len(),
+            encoding,
+            asn.as_mut_ptr(),
+            asn.len(),
+            ip.as_mut_ptr(),
+            ip.len(),
+            &mut as_len,
+            &mut ip_len,
+            &mut verified,
+        )
+    };
+    (status, as_len, ip_len, verified)
+}
+
+/// One call for a cover with a room of the caller's: the status, and the length of what is told.
+pub fn cover_into(ip: &[u8], encoding: u32, family: u32, out: &mut [u8]) -> (u32, usize) {
+    let mut len = 0;
+    // SAFETY: as in `verify_into`.
+    let status = unsafe {
+        pg_cover(
+            ip.as_ptr(),
+            ip.len(),
+            encoding,
+            family,
+            out.as_mut_ptr(),
+            out.len(),
+            &mut len,
+        )
+    };
+    (status, len)
+}
+
+/// One call for the answer to a line with a room of the caller's: the status, and the length of what is told.
+pub fn answer_into(line: &[u8], out: &mut [u8]) -> (u32, usize) {
+    let mut len = 0;
+    // SAFETY: as in `verify_into`.
+    let status = unsafe {
+        pg_answer(
+            line.as_ptr(),
+            line.len(),
+            out.as_mut_ptr(),
+            out.len(),
+            &mut len,
+        )
+    };
+    (status, len)
 }
 
 /// One call of an operation with rooms of the caller's: the status, and the lengths of what is told.
@@ -346,14 +512,88 @@ fn with_room(
     }
 }
 
+/// What a call with one room tells, with a room that grows to what it wants: the status, and the octets.
+fn with_one_room(call: impl Fn(&mut [u8]) -> (u32, usize)) -> (u32, Vec<u8>) {
+    let mut octets = Vec::new();
+    loop {
+        let (status, len) = call(&mut octets);
+        octets.resize(len, 0);
+        if status != TOO_SMALL {
+            return (status, octets);
+        }
+    }
+}
+
 /// What the issuer's set leaves of the certificate's claims.
 pub fn verify(
     issuer: Octets<'_>,
-    certificate: Octets<'_>,
+    certificate: Extensions<'_>,
     encoding: Encoding,
     mode: Overclaim,
 ) -> Result<Resources, Refused> {
-    with_room(|asn, ip| verify_into(issuer, certificate, encoding as u32, mode as u32, asn, ip))
+    let (present, octets) = (certificate.present(), certificate.octets());
+    with_room(|asn, ip| {
+        verify_into(
+            issuer,
+            present,
+            octets,
+            encoding as u32,
+            mode as u32,
+            asn,
+            ip,
+        )
+    })
+}
+
+/// What certificates on a path, whose octets stand in a run, leave of the anchor's set.
+pub fn verify_path(
+    anchor: Octets<'_>,
+    run: &[u8],
+    certificates: &[Certificate],
+    encoding: Encoding,
+) -> Result<Resources, RefusedPath> {
+    let mut count = 0;
+    with_room(|asn, ip| {
+        let (status, as_len, ip_len, verified) =
+            verify_path_into(anchor, run, certificates, encoding as u32, asn, ip);
+        count = verified;
+        (status, as_len, ip_len)
+    })
+    .map_err(|reason| RefusedPath {
+        verified: count,
+        reason,
+    })
+}
+
+/// The shortest list of prefixes that has exactly the addresses of a family that IP address blocks list, ascending.
+pub fn cover(ip: &[u8], encoding: Encoding, family: Family) -> Result<Vec<Prefix>, Refused> {
+    let (status, octets) = with_one_room(|out| cover_into(ip, encoding as u32, family as u32, out));
+    if status != OK {
+        return Err(Refused {
+            status,
+            excess: Resources::default(),
+        });
+    }
+    let width = if family == Family::V4 { 4 } else { 16 };
+    let prefixes = octets.chunks_exact(width + 1).map(|prefix| {
+        let mut address = [0; 16];
+        address[..width].copy_from_slice(&prefix[..width]);
+        Prefix {
+            address,
+            len: prefix[width],
+        }
+    });
+    Ok(prefixes.collect())
+}
+
+/// The answer of `respath` to a line, without the end of a line; None where memory was refused.
+pub fn answer(line: &[u8]) -> Option<String> {
+    let (status, octets) = with_one_room(|out| answer_into(line, out));
+    if status == OK {
+        String::from_utf8(octets).ok()
+    } else {
+        None
+    }
 }
 
 /// What is made of two sets.

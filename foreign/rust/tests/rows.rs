@@ -1,7 +1,9 @@
 //! Asks each row of `rows.txt`.
 use pigyelund::{
-    contains, difference, equal, intersection, made_into, test_status, union, verify, verify_into,
-    version, Encoding, Octets, Operation, Overclaim, Refused, Resources, Test, NO, OK, TOO_SMALL,
+    answer, answer_into, contains, cover, cover_into, difference, equal, intersection, made_into,
+    test_status, union, verify, verify_into, verify_path, verify_path_into, version, Certificate,
+    Encoding, Extensions, Family, Octets, Operation, Overclaim, Refused, RefusedPath, Resources,
+    Test, NO, OK, TOO_SMALL,
 };
 
 fn octets(word: &str) -> Vec<u8> {
@@ -19,31 +21,62 @@ fn encoding_of(number: u32) -> Option<Encoding> {
     }
 }
 
+fn mode_of(number: u32) -> Option<Overclaim> {
+    match number {
+        0 => Some(Overclaim::Refuse),
+        1 => Some(Overclaim::Trim),
+        _ => None,
+    }
+}
+
+fn certificate(word: &str) -> Certificate {
+    let numbers: Vec<&str> = word.split(':').collect();
+    let places: Vec<usize> = numbers[..4].iter().map(|n| n.parse().unwrap()).collect();
+    Certificate {
+        as_at: places[0],
+        as_len: places[1],
+        ip_at: places[2],
+        ip_len: places[3],
+        present: numbers[4].parse().unwrap(),
+        mode: numbers[5].parse().unwrap(),
+    }
+}
+
 /// A row: what goes in, and what is told.
 struct Row<'a> {
     text: &'a str,
     call: &'a str,
-    encoding: u32,
-    mode: &'a str,
+    numbers: Vec<u32>,
     runs: Vec<Vec<u8>>,
+    certificates: Vec<Certificate>,
     status: u32,
     told: Resources,
+    verified: Option<usize>,
 }
 
 impl Row<'_> {
     fn new(text: &str) -> Row<'_> {
         let words: Vec<&str> = text.split(' ').collect();
+        let is_path = words[0] == "path" && words[5] != "-";
         Row {
             text,
             call: words[0],
-            encoding: words[1].parse().unwrap(),
-            mode: words[2],
-            runs: words[3..7].iter().map(|word| octets(word)).collect(),
-            status: words[7].parse().unwrap(),
-            told: Resources {
-                asn: octets(words[8]),
-                ip: octets(words[9]),
+            numbers: words[1].split(',').flat_map(str::parse).collect(),
+            runs: words[2..if is_path { 5 } else { 6 }]
+                .iter()
+                .map(|word| octets(word))
+                .collect(),
+            certificates: if is_path {
+                words[5].split(';').map(certificate).collect()
+            } else {
+                Vec::new()
             },
+            status: words[6].parse().unwrap(),
+            told: Resources {
+                asn: octets(words[7]),
+                ip: octets(words[8]),
+            },
+            verified: words[9].parse().ok(),
         }
     }
 
@@ -91,18 +124,77 @@ impl Row<'_> {
         assert_eq!((status, &set), (self.status, &self.told), "{}", self.text);
     }
 
+    /// A room of each length up to what is wanted, for a call that tells one run of octets.
+    fn ask_room(&self, call: impl Fn(&mut [u8]) -> (u32, usize)) {
+        self.ask_rooms(|asn, _| {
+            let (status, len) = call(asn);
+            (status, len, 0)
+        });
+    }
+
     fn ask_verify(&self) {
-        let (issuer, certificate) = (self.first(), self.second());
-        let mode: u32 = self.mode.parse().unwrap();
-        self.ask_rooms(|asn, ip| verify_into(issuer, certificate, self.encoding, mode, asn, ip));
-        let mode = match mode {
-            0 => Overclaim::Refuse,
-            1 => Overclaim::Trim,
-            _ => return,
+        let (issuer, octets) = (self.first(), self.second());
+        let (present, mode) = (self.numbers[1], self.numbers[2]);
+        let encoding = self.numbers[0];
+        self.ask_rooms(|asn, ip| verify_into(issuer, present, octets, encoding, mode, asn, ip));
+        if present > 3 {
+            return;
+        }
+        let certificate = Extensions {
+            asn: (present & 1 != 0).then_some(octets.asn),
+            ip: (present & 2 != 0).then_some(octets.ip),
         };
-        if let Some(encoding) = encoding_of(self.encoding) {
+        if let (Some(encoding), Some(mode)) = (encoding_of(encoding), mode_of(mode)) {
             self.expect(verify(issuer, certificate, encoding, mode));
         }
+    }
+
+    fn ask_path(&self) {
+        let (anchor, run, certificates) = (self.first(), &self.runs[2], &self.certificates);
+        self.ask_rooms(|asn, ip| {
+            let (status, as_len, ip_len, verified) =
+                verify_path_into(anchor, run, certificates, self.numbers[0], asn, ip);
+            assert_eq!(Some(verified), self.verified, "{}", self.text);
+            (status, as_len, ip_len)
+        });
+        let Some(encoding) = encoding_of(self.numbers[0]) else {
+            return;
+        };
+        let found = verify_path(anchor, run, certificates, encoding);
+        let verified = match &found {
+            Ok(_) => certificates.len(),
+            Err(RefusedPath { verified, .. }) => *verified,
+        };
+        assert_eq!(Some(verified), self.verified, "{}", self.text);
+        self.expect(found.map_err(|refused| refused.reason));
+    }
+
+    fn ask_cover(&self) {
+        let (ip, encoding, number) = (&self.runs[0], self.numbers[0], self.numbers[1]);
+        self.ask_room(|out| cover_into(ip, encoding, number, out));
+        let (family, width) = match number {
+            1 => (Family::V4, 4),
+            2 => (Family::V6, 16),
+            _ => return,
+        };
+        let Some(encoding) = encoding_of(encoding) else {
+            return;
+        };
+        let found = cover(ip, encoding, family).map(|prefixes| Resources {
+            asn: prefixes
+                .iter()
+                .flat_map(|prefix| [&prefix.address[..width], &[prefix.len][..]].concat())
+                .collect(),
+            ip: Vec::new(),
+        });
+        self.expect(found);
+    }
+
+    fn ask_answer(&self) {
+        let line = &self.runs[0];
+        self.ask_room(|out| answer_into(line, out));
+        let found = answer(line).map(String::into_bytes);
+        assert_eq!(found.as_ref(), Some(&self.told.asn), "{}", self.text);
     }
 
     fn ask_operation(
@@ -111,8 +203,8 @@ impl Row<'_> {
         safe: fn(Octets<'_>, Octets<'_>, Encoding) -> Result<Resources, Refused>,
     ) {
         let (a, b) = (self.first(), self.second());
-        self.ask_rooms(|asn, ip| made_into(operation, a, b, self.encoding, asn, ip));
-        if let Some(encoding) = encoding_of(self.encoding) {
+        self.ask_rooms(|asn, ip| made_into(operation, a, b, self.numbers[0], asn, ip));
+        if let Some(encoding) = encoding_of(self.numbers[0]) {
             self.expect(safe(a, b, encoding));
         }
     }
@@ -123,9 +215,9 @@ impl Row<'_> {
         safe: fn(Octets<'_>, Octets<'_>, Encoding) -> Result<bool, Refused>,
     ) {
         let (a, b) = (self.first(), self.second());
-        let status = test_status(test, a, b, self.encoding);
+        let status = test_status(test, a, b, self.numbers[0]);
         assert_eq!(status, self.status, "{}", self.text);
-        let Some(encoding) = encoding_of(self.encoding) else {
+        let Some(encoding) = encoding_of(self.numbers[0]) else {
             return;
         };
         let found = match safe(a, b, encoding) {
@@ -139,6 +231,9 @@ impl Row<'_> {
     fn ask(&self) {
         match self.call {
             "verify" => self.ask_verify(),
+            "path" => self.ask_path(),
+            "cover" => self.ask_cover(),
+            "answer" => self.ask_answer(),
             "union" => self.ask_operation(Operation::Union, union),
             "intersection" => self.ask_operation(Operation::Intersection, intersection),
             "difference" => self.ask_operation(Operation::Difference, difference),
@@ -153,7 +248,7 @@ impl Row<'_> {
 fn rows_are_answered() {
     let path = concat!(env!("CARGO_MANIFEST_DIR"), "/../rows.txt");
     let rows = std::fs::read_to_string(path).unwrap();
-    assert!(rows.lines().count() > 1000);
+    assert!(rows.lines().count() > 2000);
     rows.lines().for_each(|text| Row::new(text).ask());
-    assert_eq!(version(), 1);
+    assert_eq!(version(), 2);
 }

@@ -1,0 +1,52 @@
+-- Shortest covers, as octets.
+use Rattle.std.specs.Prelude.{◌≡◌, ◌≢◌, ◌⊎◌, ℕ, ◌/◌, ◌^◌, List, [], ◌∷◌, ◌++◌}
+use Rattle.std.specs.Int.{to_be_bytes, w128}
+use Rattle.rpki_text.specs.Digits.{octets_of}
+use Rattle.rpki_base.specs.Prefixes.{PrefixValue}
+use Rattle.rpki_chain.specs.Runs.{Runs, Holds}
+use Rattle.rpki_cover.specs.Covers.{IsShortestCover}
+use Rattle.rpki_ip.specs.declared.family.AddressFamily.{AddressFamily}
+use Rattle.rpki_ip.specs.declared.family.AddressFamily.TheVariants.{Ipv4, Ipv6}
+use Rattle.rpki_resources.specs.Triples.{Triple, of_family}
+use Rattle.rpki_extensions.specs.declared.encoding.Encoding.{Encoding}
+use Rattle.pigyelund_c.specs.Numbers.{encoding_number, family_number}
+use Rattle.pigyelund_c.specs.Sets.{IsNoSet, IsSet}
+use Rattle.pigyelund_c.specs.Statuses.{misasked_status, unread_status}
+use Rattle.pigyelund_c.specs.declared.cover.Uncovered.{Uncovered}
+use Rattle.pigyelund_c.specs.declared.cover.Uncovered.TheVariants.{Asked, Unread}
+use Rattle.pigyelund_c.specs.declared.refusal.Misasked.TheVariants.{NoEncoding, NoFamily}
+
+-- a prefix: the octets of its address, and its length; an IPv4 address is the first 32 of 128 bits
+abbrev pub prefix_octets : AddressFamily → PrefixValue → List ℕ
+prefix_octets Ipv4 p = octets_of (p.first / 2 ^ 96) ++ p.len ∷ []
+prefix_octets Ipv6 p = to_be_bytes w128 p.first ++ p.len ∷ []
+
+-- one after the other
+abbrev pub cover_octets : AddressFamily → List PrefixValue → List ℕ
+cover_octets family [] = []
+cover_octets family (p ∷ ps) = prefix_octets family p ++ cover_octets family ps
+
+-- octets are the shortest cover of a set
+abbrev pub AreCoverOctets : AddressFamily → Runs → List ℕ → Type 0
+AreCoverOctets family set octets = (ps : List PrefixValue) × IsShortestCover 128 (Holds set) ps × (octets ≡ cover_octets family ps)
+
+-- of the addresses of a family that octets of IP address blocks list
+abbrev pub IsCoverIn : Encoding → AddressFamily → List ℕ → List ℕ → Type 0
+IsCoverIn encoding family addresses octets =
+    (set : Triple) × IsSet encoding [] addresses set × AreCoverOctets family (of_family family set) octets
+
+abbrev pub IsCover : List ℕ → ℕ → ℕ → List ℕ → Type 0
+IsCover addresses encoding family octets =
+    (way : Encoding) × (encoding ≡ encoding_number way) × ((kind : AddressFamily) × (family ≡ family_number kind) × IsCoverIn way kind addresses octets)
+
+-- the number of the encoding is none, or else that of the family, or the octets list no set
+abbrev pub IsNoCover : List ℕ → ℕ → ℕ → Uncovered → Type 0
+IsNoCover addresses encoding family (Asked why) =
+    ((why ≡ NoEncoding) × ((way : Encoding) → encoding ≢ encoding_number way))
+    ⊎ ((why ≡ NoFamily) × ((way : Encoding) × (encoding ≡ encoding_number way)) × ((kind : AddressFamily) → family ≢ family_number kind))
+IsNoCover addresses encoding family (Unread reason) =
+    (way : Encoding) × (encoding ≡ encoding_number way) × ((kind : AddressFamily) × (family ≡ family_number kind)) × IsNoSet way [] addresses reason
+
+abbrev pub uncovered_status : Uncovered → ℕ
+uncovered_status (Asked why) = misasked_status why
+uncovered_status (Unread reason) = unread_status reason

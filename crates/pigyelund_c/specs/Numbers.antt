@@ -1,0 +1,44 @@
+-- The numbers that choose (`foreign/pigyelund.h` names them), and what they choose.
+use Rattle.std.specs.Prelude.{ℕ, List, Option, Some, None}
+use Rattle.rpki_chain.specs.declared.path.Overclaim.{Overclaim}
+use Rattle.rpki_chain.specs.declared.path.Overclaim.TheVariants.{Refuse, Trim}
+use Rattle.rpki_extensions.specs.declared.encoding.Encoding.{Encoding}
+use Rattle.rpki_extensions.specs.declared.encoding.Encoding.TheVariants.{Any, Canonical}
+use Rattle.rpki_ip.specs.declared.family.AddressFamily.{AddressFamily}
+use Rattle.rpki_ip.specs.declared.family.AddressFamily.TheVariants.{Ipv4, Ipv6}
+use Rattle.pigyelund_c.specs.declared.encodings.Present.{Present}
+use Rattle.pigyelund_c.specs.declared.encodings.Present.TheVariants.{Neither, Numbers, Addresses, Both}
+
+abbrev pub encoding_number : Encoding → ℕ
+encoding_number Any = 0
+encoding_number Canonical = 1
+
+abbrev pub mode_number : Overclaim → ℕ
+mode_number Refuse = 0
+mode_number Trim = 1
+
+-- 1 for AS identifiers, 2 for IP address blocks, and the sum for both
+abbrev pub present_number : Present → ℕ
+present_number Neither = 0
+present_number Numbers = 1
+present_number Addresses = 2
+present_number Both = 3
+
+-- as in IP address blocks (RFC 3779, 2.2.3.3)
+abbrev pub family_number : AddressFamily → ℕ
+family_number Ipv4 = 1
+family_number Ipv6 = 2
+
+-- the octets of AS identifiers, where these are there
+abbrev pub numbers_there : Present → List ℕ → Option (List ℕ)
+numbers_there Neither octets = None
+numbers_there Numbers octets = Some octets
+numbers_there Addresses octets = None
+numbers_there Both octets = Some octets
+
+-- so of IP address blocks
+abbrev pub addresses_there : Present → List ℕ → Option (List ℕ)
+addresses_there Neither octets = None
+addresses_there Numbers octets = None
+addresses_there Addresses octets = Some octets
+addresses_there Both octets = Some octets

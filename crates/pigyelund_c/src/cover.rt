@@ -1,0 +1,117 @@
+//! The shortest cover of a set's addresses of a family, as octets.
+ghost use Rattle.std.specs.Prelude.{◌≡◌, [], ◌++◌, IfOk, OnOk, MatchResult};
+ghost use Rattle.rpki_text.specs.Memory.{IfRefused};
+ghost use Rattle.rpki_ip.specs.declared.family.AddressFamily.TheVariants.{Ipv4, Ipv6};
+ghost use Rattle.pigyelund_c.specs.Covers.{IsCoverIn, IsCover, IsNoCover, AreCoverOctets, prefix_octets, uncovered_status};
+ghost use Rattle.pigyelund_c.specs.Sets.{IsNoSet};
+
+use crate::encodings::{encoding_of, family_of};
+use crate::read::set_of;
+use crate::refusal::{Misasked, Unread};
+use rpki_extensions::encoding::Encoding;
+use rpki_resources::OrMemory;
+use rpki_resources::repository::resources::{AddressFamily, Ipv4Blocks, Ipv6Blocks, Prefix};
+use std::alloc::{AllocError, Global};
+
+/// Why there is no cover.
+#[derive(Drop)]
+pub(crate) enum Uncovered {
+    /// A number that is handed over is none.
+    Asked(Misasked),
+    /// The octets list no set.
+    Unread(Unread),
+}
+
+impl Uncovered {
+    /// The status of a reason.
+    pub(crate) fn status(&self) -> u32
+        ensures { result ≡ uncovered_status self.now }
+    {
+        match self {
+            Uncovered::Asked(reason) => reason.status(),
+            Uncovered::Unread(reason) => reason.status(),
+        }
+    }
+}
+
+/// Puts a prefix of IPv4 behind others: the four octets of its address, and its length.
+fn put_v4(prefix: Prefix, octets: &mut Vec<u8, Global>) -> Result<(), AllocError>
+    ensures { OnOk result (octets.new.items ≡ octets.old.items ++ prefix_octets Ipv4 prefix) }
+{
+    octets.extend_from_slice(&prefix.to_v4().octets())?;
+    octets.push(prefix.addr_len())?;
+    Ok(())
+}
+
+/// Puts a prefix of IPv6 behind others: the sixteen octets of its address, and its length.
+fn put_v6(prefix: Prefix, octets: &mut Vec<u8, Global>) -> Result<(), AllocError>
+    ensures { OnOk result (octets.new.items ≡ octets.old.items ++ prefix_octets Ipv6 prefix) }
+{
+    octets.extend_from_slice(&prefix.addr().to_bytes())?;
+    octets.push(prefix.addr_len())?;
+    Ok(())
+}
+
+/// The prefixes of the shortest cover of a set of IPv4 addresses, one after the other.
+fn v4_cover(alloc: Global, set: &Ipv4Blocks) -> Result<Vec<u8, Global>, AllocError>
+    ensures { IfOk result (λ octets. AreCoverOctets Ipv4 set.now octets.items) }
+{
+    let mut octets = Vec::new(alloc);
+    for prefix in set.prefixes() {
+        put_v4(prefix, &mut octets)?;
+    }
+    Ok(octets)
+}
+
+/// The prefixes of the shortest cover of a set of IPv6 addresses, one after the other.
+fn v6_cover(alloc: Global, set: &Ipv6Blocks) -> Result<Vec<u8, Global>, AllocError>
+    ensures { IfOk result (λ octets. AreCoverOctets Ipv6 set.now octets.items) }
+{
+    let mut octets = Vec::new(alloc);
+    for prefix in set.prefixes() {
+        put_v6(prefix, &mut octets)?;
+    }
+    Ok(octets)
+}
+
+/// The cover of a family of the set that octets of IP address blocks list.
+fn cover_in(
+    alloc: Global,
+    addresses: &[u8],
+    encoding: Encoding,
+    family: AddressFamily,
+) -> Result<Vec<u8, Global>, OrMemory<Unread>>
+    ensures { MatchResult result
+        (λ octets. IsCoverIn encoding family addresses.now octets.items)
+        (IfRefused (IsNoSet encoding [] addresses.now)) }
+{
+    let set = set_of(alloc, &[], addresses, encoding)?;
+    let octets = match family {
+        AddressFamily::Ipv4 => v4_cover(alloc, set.ipv4())?,
+        AddressFamily::Ipv6 => v6_cover(alloc, set.ipv6())?,
+    };
+    Ok(octets)
+}
+
+/// The same by the numbers of an encoding and of a family.
+pub(crate) fn cover(
+    alloc: Global,
+    addresses: &[u8],
+    encoding: u32,
+    family: u32,
+) -> Result<Vec<u8, Global>, OrMemory<Uncovered>>
+    ensures { MatchResult result (λ octets. IsCover addresses.now encoding family octets.items)
+        (IfRefused (IsNoCover addresses.now encoding family)) }
+{
+    let Some(encoding) = encoding_of(encoding) else {
+        return Err(OrMemory::Refused(Uncovered::Asked(Misasked::NoEncoding)));
+    };
+    let Some(family) = family_of(family) else {
+        return Err(OrMemory::Refused(Uncovered::Asked(Misasked::NoFamily)));
+    };
+    match cover_in(alloc, addresses, encoding, family) {
+        Ok(octets) => Ok(octets),
+        Err(OrMemory::Refused(reason)) => Err(OrMemory::Refused(Uncovered::Unread(reason))),
+        Err(OrMemory::Memory(error)) => Err(OrMemory::Memory(error)),
+    }
+}

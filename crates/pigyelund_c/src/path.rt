@@ -1,0 +1,146 @@
+//! A path of certificates, from an anchor's set down.
+ghost use Rattle.std.specs.Prelude.{◌≡◌, length, MatchResult};
+ghost use Rattle.rpki_text.specs.Memory.{IfRefused};
+ghost use Rattle.pigyelund_c.specs.Paths.{IsFirstRefused, IsLeftOnPath, IsNoPathAnswer, IsNoPathAnswerIn, IsPathAnswer, IsPathAnswerIn, IsNoStep, IsStep, outcome_alone, verified_count};
+
+use crate::ask::verified;
+use crate::certificate::Certificate;
+use crate::encodings::encoding_of;
+use crate::read::set_of;
+use crate::refusal::{Misasked, Refusal};
+use rpki_extensions::encoding::Encoding;
+use rpki_resources::OrMemory;
+use rpki_resources::repository::resources::ResourceSet;
+use std::alloc::Global;
+
+/// Why a path isn't verified.
+#[derive(Drop)]
+pub(crate) struct Stopped {
+    /// How many certificates are verified: the next one isn't.
+    pub(crate) verified: usize,
+    /// The reason.
+    pub(crate) reason: Refusal,
+}
+
+impl Stopped {
+    /// The refusal for a reason that stands before the first certificate.
+    fn at_first(reason: Refusal) -> Stopped
+        ensures { result ≡ record { verified = 0; reason = reason } }
+    {
+        Stopped {
+            verified: 0,
+            reason,
+        }
+    }
+}
+
+/// What one certificate claims of the set of the one before it.
+fn step(
+    alloc: Global,
+    issuer: &ResourceSet,
+    run: &[u8],
+    encoding: Encoding,
+    certificate: &Certificate,
+) -> Result<ResourceSet, OrMemory<Refusal>>
+    ensures { MatchResult result (IsStep run.now encoding issuer.now certificate.now)
+        (IfRefused (IsNoStep run.now encoding issuer.now certificate.now)) }
+{
+    match certificate.extensions(run, encoding) {
+        Ok(extensions) => verified(alloc, issuer, &extensions),
+        Err(reason) => Err(OrMemory::Refused(Refusal::Asked(reason))),
+    }
+}
+
+/// What the certificates leave of an anchor's set, each verified by what the ones before it leave. `Refused` with the
+/// place of the first that isn't verified and the reason; `Memory` where there is no memory for a set on the way.
+fn left_on_path(
+    alloc: Global,
+    anchor: ResourceSet,
+    run: &[u8],
+    encoding: Encoding,
+    certificates: &[Certificate],
+) -> Result<ResourceSet, OrMemory<Stopped>>
+    ensures { MatchResult result (IsLeftOnPath run.now encoding anchor certificates.now)
+        (IfRefused (IsFirstRefused run.now encoding anchor certificates.now)) }
+{
+    let mut issuer = anchor;
+    for (at, certificate) in certificates.iter().enumerate() {
+        match step(alloc, &issuer, run, encoding, certificate) {
+            Ok(set) => issuer = set,
+            Err(OrMemory::Refused(reason)) => {
+                return Err(OrMemory::Refused(Stopped {
+                    verified: at,
+                    reason,
+                }));
+            }
+            Err(OrMemory::Memory(error)) => return Err(OrMemory::Memory(error)),
+        }
+    }
+    Ok(issuer)
+}
+
+/// The same of an anchor's set that is read from octets first.
+fn path_answered_in(
+    alloc: Global,
+    anchor_as: &[u8],
+    anchor_ip: &[u8],
+    run: &[u8],
+    encoding: Encoding,
+    certificates: &[Certificate],
+) -> Result<ResourceSet, OrMemory<Stopped>>
+    ensures { MatchResult result
+        (IsPathAnswerIn anchor_as.now anchor_ip.now run.now certificates.now encoding)
+        (IfRefused
+        (IsNoPathAnswerIn anchor_as.now anchor_ip.now run.now certificates.now encoding)) }
+{
+    match set_of(alloc, anchor_as, anchor_ip, encoding) {
+        Ok(anchor) => left_on_path(alloc, anchor, run, encoding, certificates),
+        Err(OrMemory::Refused(reason)) => {
+            Err(OrMemory::Refused(Stopped::at_first(Refusal::Issuer(reason))))
+        }
+        Err(OrMemory::Memory(error)) => Err(OrMemory::Memory(error)),
+    }
+}
+
+/// The same by the number of an encoding.
+pub(crate) fn path_answered(
+    alloc: Global,
+    anchor_as: &[u8],
+    anchor_ip: &[u8],
+    run: &[u8],
+    encoding: u32,
+    certificates: &[Certificate],
+) -> Result<ResourceSet, OrMemory<Stopped>>
+    ensures { MatchResult result
+        (IsPathAnswer anchor_as.now anchor_ip.now run.now certificates.now encoding)
+        (IfRefused
+        (IsNoPathAnswer anchor_as.now anchor_ip.now run.now certificates.now encoding)) }
+{
+    match encoding_of(encoding) {
+        Some(encoding) => path_answered_in(
+            alloc,
+            anchor_as,
+            anchor_ip,
+            run,
+            encoding,
+            certificates,
+        ),
+        None => Err(OrMemory::Refused(Stopped::at_first(Refusal::Asked(Misasked::NoEncoding)))),
+    }
+}
+
+/// How many certificates of a path are verified, and its outcome without that.
+pub(crate) fn counted(
+    certificates: &[Certificate],
+    outcome: Result<ResourceSet, OrMemory<Stopped>>,
+) -> (usize, Result<ResourceSet, OrMemory<Refusal>>)
+    ensures { result ≡ (verified_count (length certificates.now) outcome, outcome_alone outcome) }
+{
+    match outcome {
+        Ok(set) => (certificates.len(), Ok(set)),
+        Err(OrMemory::Refused(stopped)) => {
+            (stopped.verified, Err(OrMemory::Refused(stopped.reason)))
+        }
+        Err(OrMemory::Memory(error)) => (0, Err(OrMemory::Memory(error))),
+    }
+}

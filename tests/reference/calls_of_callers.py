@@ -54,31 +54,41 @@ def _families_text(found: Families) -> str:
     return f"v4 {_family_text('v4', found.v4)} v6 {_family_text('v6', found.v6)}"
 
 
-class Certificate:
-    """What a certificate on a path has: how it is read, what is trimmed, and its octets."""
+class Unverified(Exception):
+    """Why a certificate isn't verified."""
 
-    def __init__(self, word: str, numbers: str, addresses: str) -> None:
+
+class Certificate:
+    """What a certificate has: how it is read, what is trimmed, and its octets, None where absent."""
+
+    def __init__(self, text: str) -> None:
+        word, extensions = _cut(text, " ")
+        numbers, addresses = _cut(extensions, " ")
         self.is_canonical = word in ("canonical-refuse", "canonical-trim")
         self.is_trimmed = word in ("trim", "canonical-trim")
-        self.numbers = _octets(numbers)
-        self.addresses = _octets(addresses)
+        self.numbers = None if numbers == "-" else _octets(numbers)
+        self.addresses = None if addresses == "-" else _octets(addresses)
 
     def claims(self) -> tuple[Claim, Claim, Claim]:
         """What it claims of each kind."""
-        numbers = _read_as(self.numbers, self.is_canonical)
-        return numbers, *_read_families(self.addresses, self.is_canonical)
+        if self.numbers is None and self.addresses is None:
+            raise Unverified("neither AS identifiers nor IP address blocks")
+        numbers, found = None, Families(None, None)
+        if self.numbers is not None:
+            try:
+                numbers = _read_as(self.numbers, self.is_canonical)
+            except DerFault as fault:
+                raise Unverified(f"AS identifiers: {fault}") from None
+        if self.addresses is not None:
+            try:
+                found = _read_families(self.addresses, self.is_canonical)
+            except DerFault as fault:
+                raise Unverified(f"IP address blocks: {fault}") from None
+        return numbers, found.v4, found.v6
 
 
 def _certificates(text: str) -> list[Certificate]:
-    found = []
-    for part in text.split("|") if text else []:
-        word, octets = _cut(texts.trim(part), " ")
-        found.append(Certificate(word, *_cut(octets, " ")))
-    return found
-
-
-class Unverified(Exception):
-    """Why a certificate isn't verified."""
+    return [Certificate(texts.trim(part)) for part in (text.split("|") if text else [])]
 
 
 def _issued(kind: str, root: Set, claim: Claim, is_trimmed: bool) -> Set:
@@ -89,41 +99,60 @@ def _issued(kind: str, root: Set, claim: Claim, is_trimmed: bool) -> Set:
 
 
 def _verified_by(issuer: Triple, certificate: Certificate) -> Triple:
-    try:
-        numbers = _read_as(certificate.numbers, certificate.is_canonical)
-    except DerFault as fault:
-        raise Unverified(f"AS octets: {fault}") from None
-    is_trimmed = certificate.is_trimmed
-    left = _issued("as", issuer[0], numbers, is_trimmed)
-    try:
-        found = _read_families(certificate.addresses, certificate.is_canonical)
-    except DerFault as fault:
-        raise Unverified(f"address octets: {fault}") from None
-    v4 = _issued("v4", issuer[1], found.v4, is_trimmed)
-    return left, v4, _issued("v6", issuer[2], found.v6, is_trimmed)
+    claims = certificate.claims()
+    asn, v4, v6 = (
+        _issued(kind, has, claim, certificate.is_trimmed)
+        for kind, has, claim in zip(lines.KINDS, issuer, claims, strict=True)
+    )
+    return asn, v4, v6
+
+
+def _anchor(certificate: Certificate) -> Triple:
+    claims = certificate.claims()
+    if resources.INHERIT in claims:
+        raise Unverified("a trust anchor inherits resources")
+    asn, v4, v6 = (claim or [] for claim in claims)
+    return asn, v4, v6
+
+
+def _left_by(anchor: Triple, certificates: list[Certificate]) -> Triple:
+    for place, certificate in enumerate(certificates):
+        try:
+            anchor = _verified_by(anchor, certificate)
+        except Unverified as reason:
+            raise Unverified(f"certificate {place}: {reason}") from None
+    return anchor
 
 
 def _verified_octets(text: str) -> str:
-    issuer, extensions = _cut(text, "|")
-    word, lists = _cut(issuer, " ")
-    triple = _triple(lists)
-    try:
-        certificate = Certificate(word, *_cut(extensions, "|"))
-        return print_triple(_verified_by(triple, certificate))
-    except Unverified as reason:
-        return str(reason)
+    issuer, certificate = _cut(text, "|")
+    return print_triple(_verified_by(_triple(issuer), Certificate(certificate)))
 
 
 def _verified_path(text: str) -> str:
     anchor, path = _cut(text, "|")
-    certificates = _certificates(path)
-    left = _triple(anchor)
-    for place, certificate in enumerate(certificates):
+    return print_triple(_left_by(_triple(anchor), _certificates(path)))
+
+
+def _verified_below(text: str) -> str:
+    anchor, path = _cut(text, "|")
+    return print_triple(_left_by(_anchor(Certificate(anchor)), _certificates(path)))
+
+
+def _or_reason(call: Callable[[str], str]) -> Callable[[str], str]:
+    def answered(text: str) -> str:
         try:
-            left = _verified_by(left, certificate)
+            return call(text)
         except Unverified as reason:
-            return f"refused at step {place}: {reason}"
-    return print_triple(left)
+            return str(reason)
+
+    return answered
+
+
+def _written(text: str) -> str:
+    asn, v4, v6 = map(paths.claim_of, _triple(text))
+    numbers = resources.written_as_claim(asn).hex() or "-"
+    return f"{numbers} {resources.written_families(Families(v4, v6)).hex() or '-'}"
 
 
 def _verified(text: str) -> str:
@@ -250,6 +279,25 @@ def _explanation(text: str) -> str:
     return ", ".join(f"{payload.prefix.text()} AS{payload.asn}" for payload in found)
 
 
+def _sent(text: str) -> set[Payload]:
+    """The payloads as routers get them: each has its greatest length."""
+    return {
+        Payload(prefixes.MaxLenPrefix(entry.prefix.prefix, entry.prefix.resolved()), entry.asn)
+        for entry in _payloads(text)
+    }
+
+
+def _payload_texts(payloads: set[Payload]) -> str:
+    ordered = sorted(payloads, key=lambda payload: (payload.prefix.key(), payload.asn))
+    return ", ".join(f"{payload.prefix.text()} AS{payload.asn}" for payload in ordered)
+
+
+def _changes(text: str) -> str:
+    sent, following = map(_sent, _cut(text, "|"))
+    announced = _payload_texts(following - sent)
+    return f"announced {announced} withdrawn {_payload_texts(sent - following)}"
+
+
 def _excess(text: str) -> str:
     lists, listed = _cut(text, "|")
     _, v4, v6 = _triple(lists)
@@ -267,8 +315,11 @@ CALLERS: dict[str, Callable[[str], str]] = {
     "read_canonical_as": lambda text: lines.print_claim("as", _read_as(_octets(text), True)),
     "read_families": lambda text: _families_text(_read_families(_octets(text), False)),
     "read_canonical_families": lambda text: _families_text(_read_families(_octets(text), True)),
-    "verified_octets": _verified_octets,
-    "verified_path": _verified_path,
+    "verified_octets": _or_reason(_verified_octets),
+    "verified_path": _or_reason(_verified_path),
+    "verified_below": _or_reason(_verified_below),
+    "anchor_set": _or_reason(lambda text: print_triple(_anchor(Certificate(text)))),
+    "written": _written,
     "verified": _verified,
     "v4_filter": lambda text: _filter(text, Family.V4),
     "v6_filter": lambda text: _filter(text, Family.V6),
@@ -295,6 +346,7 @@ CALLERS: dict[str, Callable[[str], str]] = {
     "count_invalid": _count_invalid,
     "explanation": _explanation,
     "excess": _excess,
+    "changes": _changes,
 }
 
 
@@ -305,7 +357,7 @@ def answer(line: str) -> str:
         return "no such function"
     try:
         return CALLERS[name](operands)
-    except Fault as fault:
+    except (Fault, Unverified) as fault:
         return f"error: {fault}"
 
 

@@ -1,14 +1,5 @@
--- What a take at the front of octets, and then their end, tell of all of them.
-use Rattle.std.proofs.Common.{arith, ◌≡◌, ◌≢◌, ℕ, length, List, [], ◌∷◌, MatchResult, IsErr, Result, Ok, Err, refl, sym, subst}
-use Rattle.std.proofs.lemmas.Bool.{ne_eqb}
-use Rattle.rpki_der.specs.Der.{HasNone, NoFront}
-use Rattle.rpki_der.specs.Fronts.{none_where_no_front}
-use Rattle.rpki_der.specs.Reading.{ended}
-use Rattle.rpki_der.specs.declared.error.DerError.{DerError}
-use Rattle.rpki_text.specs.Memory.{IfRefused}
-use Rattle.rpki_text.specs.declared.memory.OrMemory.{OrMemory}
-use Rattle.rpki_text.specs.declared.memory.OrMemory.TheVariants.{Refused, Memory}
-use Rattle.std.specs.Result.{IsErrAnd}
+-- What paths leave lies in their roots.
+use Rattle.std.proofs.Common.{ℕ, List}
 use Rattle.rpki_chain.specs.Claims.{Claim}
 use Rattle.rpki_chain.specs.Paths.{IsPathResult}
 use Rattle.rpki_chain.specs.Runs.{Runs, Holds}
@@ -16,31 +7,7 @@ use Rattle.rpki_chain.specs.declared.path.Step.{Step}
 use Rattle.rpki_resources.specs.Triples.{HasEachOf, Triple}
 use Rattle.callers.specs.Certificates.{IsLeftInEach}
 
--- the end was seen
-pub nothing_left : (octets : List ℕ) (u : Unit {0}) → ended octets ≡ Ok u → octets ≡ []
-nothing_left [] u e = refl
-nothing_left (octet ∷ octets) u e =
-    let no = ne_eqb (length (octet ∷ octets)) 0 (λ z. omega (arith, z)) in
-    let never = rw no at e in cc
-
--- or octets that are left
-pub something_left : (octets : List ℕ) (fault : DerError) → ended octets ≡ Err fault → octets ≢ []
-something_left [] fault e = cc
-something_left (octet ∷ octets) fault e = λ n. cc
-
--- no value stands at the front
-pub none_in_front : {X : Type 0} (G : List ℕ → X → Type 0) (octets : List ℕ) (e : OrMemory DerError)
-    → IfRefused (λ _. NoFront G octets) e → IfRefused (λ _. HasNone G octets) e
-none_in_front G octets (Refused fault) none = none_where_no_front G octets none
-none_in_front G octets (Memory error) none = tt
-
--- what is passed on is said of the answer
-pub passed_on : {X E : Type 0} (Q : X → Type 0) (P : E → Type 0) (e : OrMemory E) (answer : Result X (OrMemory E))
-    → IsErr answer × IsErrAnd answer (λ (f : OrMemory E). f ≡ e) → IfRefused P e → MatchResult answer Q (IfRefused P)
-passed_on Q P e (Err f) passed h = subst (IfRefused P) (sym passed.1) h
-passed_on Q P e (Ok x) passed h = let never = passed.0 in cc
-
--- what a path leaves in each kind lies in its root
+-- so of each kind
 pub inside : ((root set : Runs) (steps : List (Step Claim)) → IsPathResult (λ claim. claim) (Holds root) steps set → (n : ℕ) → Holds set n → Holds root n)
     → (root : Triple) (numbers v4 v6 : List (Step Claim)) (set : Triple) → IsLeftInEach root numbers v4 v6 set → HasEachOf root set
 inside law root numbers v4 v6 set is = record {

@@ -1,5 +1,3 @@
 pub mod Anchor
 pub mod Certificates
-pub mod Encodings
-pub mod Issued
 pub mod Routes

@@ -1,57 +1,18 @@
-//! A reader of certificates: what stands in the two extensions of RFC 3779, and what a path of claims leaves of a root's
-//! resources.
-ghost use Rattle.std.specs.Prelude.{IfOk, IfSome, MatchResult, All};
+//! A reader of certificates that has their claims: what a path of them leaves of a root's resources, kind by kind.
+ghost use Rattle.std.specs.Prelude.{IfOk, MatchResult, All};
 ghost use Rattle.rpki_text.specs.Memory.{IfRefused};
 ghost use Rattle.rpki_chain.specs.Paths.{IsFirstRefusal, IsPathResult};
 ghost use Rattle.rpki_chain.specs.Runs.{Holds};
 ghost use Rattle.rpki_ipres.specs.Resources.{IsWholeClaim};
 ghost use Rattle.rpki_resources.specs.Triples.{HasEachOf};
 ghost use Rattle.callers.specs.Certificates.{IsFirstOverclaim, IsLeftInEach};
-ghost use Rattle.callers.specs.Encodings.{HasAddressFault, HasAsFault, IsAddressValue, IsAsValue};
 
-use crate::encodings::Encoding;
-use rpki_der::DerError;
 use rpki_resources::OrMemory;
 use rpki_resources::repository::resources::{
-    AsResources, AsStep, IpResources, IpStep, Ipv4Blocks, Ipv6Blocks, OverclaimedAsResources,
-    OverclaimedIpv4Resources, OverclaimedIpv6Resources, PathRefusal, ResourceSet,
+    AsStep, IpStep, Ipv4Blocks, Ipv6Blocks, OverclaimedAsResources, OverclaimedIpv4Resources,
+    OverclaimedIpv6Resources, PathRefusal, ResourceSet,
 };
 use std::alloc::{Allocator, Global};
-
-/// The AS resources that octets are, all of them: the value of the extension of RFC 3779, 3.2. `Refused` with the first
-/// fault where they are none, `Memory` where there is no memory for them.
-pub fn read_as<A: Allocator + Copy>(
-    alloc: A,
-    octets: &[u8],
-    encoding: Encoding,
-) -> Result<AsResources<A>, OrMemory<DerError>>
-    ensures { MatchResult result (IsAsValue encoding octets.now)
-        (IfRefused (HasAsFault encoding octets.now)) }
-{
-    rpki_as::der::laws::written_resources(); // so that the proof sees that octets begin with one claim at most
-    let mut cursor = encoding.cursor(octets);
-    let resources = AsResources::take_from(alloc, &mut cursor)?;
-    cursor.finish()?;
-    Ok(resources)
-}
-
-/// The resources of IPv4 and of IPv6 that octets are, all of them, and None where a family isn't there: the value of the
-/// extension of RFC 3779, 2.2. `Refused` and `Memory` as in [`read_as`].
-pub fn read_families<A: Allocator + Copy>(
-    alloc: A,
-    octets: &[u8],
-    encoding: Encoding,
-) -> Result<(Option<IpResources<A>>, Option<IpResources<A>>), OrMemory<DerError>>
-    ensures claims { MatchResult result (IsAddressValue encoding octets.now)
-        (IfRefused (HasAddressFault encoding octets.now)) }
-    ensures whole { IfOk result (λ found. IfSome found.0 IsWholeClaim) }
-{
-    rpki_ipres::der::laws::one_value(); // so that the proof sees that octets begin with one list of families at most
-    let mut cursor = encoding.cursor(octets);
-    let families = IpResources::take_families_from(alloc, &mut cursor)?;
-    cursor.finish()?;
-    Ok(families)
-}
 
 /// A claim on a path lists more than is left for it: the place of its certificate, and what it lists too much.
 #[derive(Drop)]
@@ -65,7 +26,7 @@ pub enum Overclaimed<A: Allocator = Global> {
 }
 
 /// What the claims of the certificates on a path leave of a root's resources; those of IPv4 consist of whole addresses, as
-/// what [`read_families`] answers does. `Refused` with the first claim that lists too much, of AS numbers before IPv4 and
+/// what `Extensions::claims` answers do. `Refused` with the first claim that lists too much, of AS numbers before IPv4 and
 /// IPv4 before IPv6; `Memory` where there is no memory for a set on the way.
 pub fn verified<A: Allocator + Copy>(
     alloc: A,

@@ -6,7 +6,7 @@
 //! The program `callers_run` calls each of them:
 //!
 //! ```rust
-//! match callers::issued::verified_octets(alloc, issuer, numbers, addresses, mode) {
+//! match callers::anchor::verified_below(alloc, anchor, certificates) {
 //!     Ok(set) => print::value(alloc, &set),
 //!     Err(OrMemory::Refused(reason)) => refused(alloc, &reason),
 //!     Err(OrMemory::Memory(error)) => Err(error.into()),
@@ -19,10 +19,8 @@ pub mod builders;
 pub mod cache;
 pub mod certificates;
 pub mod conditions;
-pub mod encodings;
 pub mod errors;
 pub mod filters;
-pub mod issued;
 pub mod octets;
 pub mod reads;
 pub mod routes;

@@ -1,38 +1,76 @@
-//! Certificates: what octets are, and what an issuer verifies of them.
+//! Certificates: what their extensions are, and what an issuer verifies of them. An extension that is absent is `-`.
 use crate::print::{self, cut};
 use crate::sets::from_lists;
-use callers::encodings::Encoding;
-use callers::issued::Unverified;
+use rpki_extensions::anchor::anchor_set;
+use rpki_extensions::encoding::Encoding;
+use rpki_extensions::extensions::Extensions;
+use rpki_extensions::read;
+use rpki_extensions::write::{write_addresses, write_numbers};
 use rpki_resources::OrMemory;
 use rpki_resources::repository::resources::{Overclaim, ResourceSet};
-use std::alloc::{AllocError, Global};
+use std::alloc::Global;
 
 /// `read_as HEX`, and `read_canonical_as HEX`
 pub fn read_as(alloc: Global, hex: &str, encoding: Encoding) -> anyhow::Result<String> {
     let octets = hex::decode(alloc, hex)?;
-    let resources = callers::certificates::read_as(alloc, octets.as_slice(), encoding)?;
+    let resources = read::read_as(alloc, octets.as_slice(), encoding)?;
     print::value(alloc, &resources)
 }
 
 /// `read_families HEX`, and `read_canonical_families HEX`
 pub fn read_families(alloc: Global, hex: &str, encoding: Encoding) -> anyhow::Result<String> {
     let octets = hex::decode(alloc, hex)?;
-    let (v4, v6) = callers::certificates::read_families(alloc, octets.as_slice(), encoding)?;
+    let (v4, v6) = read::read_families(alloc, octets.as_slice(), encoding)?;
     print::families(alloc, &v4, &v6)
 }
 
-/// `verified_octets refuse A ; B ; C | HEX | HEX`, or with another word of [`reading_named`]: the resources of an issuer,
-/// and the octets of AS identifiers and of address blocks.
-pub fn verified_octets(alloc: Global, operands: &str) -> anyhow::Result<String> {
-    let (issuer, extensions) = cut(operands, '|');
-    let (mode, lists) = cut(issuer, ' ');
-    let issuer = from_lists(alloc, lists)?;
-    verified(alloc, &issuer, extensions, reading_named(mode))
+/// The octets of a certificate's extensions, and how they are read.
+#[derive(Drop)]
+pub struct Certificate {
+    numbers: Option<Vec<u8>>,
+    addresses: Option<Vec<u8>>,
+    encoding: Encoding,
+    mode: Overclaim,
+}
+
+impl Certificate {
+    /// A certificate of `WORD HEX HEX`: AS identifiers and address blocks behind a word of [`reading_named`].
+    pub fn read(alloc: Global, text: &str) -> anyhow::Result<Certificate> {
+        let (word, extensions) = cut(text, ' ');
+        let (numbers, addresses) = cut(extensions, ' ');
+        let numbers = value(alloc, numbers)?;
+        let addresses = value(alloc, addresses)?;
+        let (encoding, mode) = reading_named(word);
+        Ok(Certificate {
+            numbers,
+            addresses,
+            encoding,
+            mode,
+        })
+    }
+
+    /// What it has, as the library reads it.
+    pub fn extensions(&self) -> Extensions<'_> {
+        Extensions {
+            numbers: self.numbers.as_deref(),
+            addresses: self.addresses.as_deref(),
+            encoding: self.encoding,
+            mode: self.mode,
+        }
+    }
+}
+
+/// The octets of an extension, or None where it is absent.
+fn value(alloc: Global, text: &str) -> anyhow::Result<Option<Vec<u8>>> {
+    if text == "-" {
+        return Ok(None);
+    }
+    Ok(Some(hex::decode(alloc, text)?))
 }
 
 /// Which octets are read, and what becomes of a claim that lists too much: `refuse` or `trim`, and `canonical-refuse` or
 /// `canonical-trim` where canonical octets alone are read.
-pub fn reading_named(name: &str) -> (Encoding, Overclaim) {
+fn reading_named(name: &str) -> (Encoding, Overclaim) {
     match name {
         "trim" => (Encoding::Any, Overclaim::Trim),
         "canonical-refuse" => (Encoding::Canonical, Overclaim::Refuse),
@@ -41,44 +79,46 @@ pub fn reading_named(name: &str) -> (Encoding, Overclaim) {
     }
 }
 
-fn verified(
-    alloc: Global,
-    issuer: &ResourceSet,
-    extensions: &str,
-    reading: (Encoding, Overclaim),
-) -> anyhow::Result<String> {
-    let (numbers, addresses) = cut(extensions, '|');
-    let numbers = hex::decode(alloc, numbers)?;
-    let addresses = hex::decode(alloc, addresses)?;
-    answer(alloc, issuer, &numbers, &addresses, reading)
+/// `verified_octets A ; B ; C | refuse HEX HEX`: the resources of an issuer, and a certificate.
+pub fn verified_octets(alloc: Global, operands: &str) -> anyhow::Result<String> {
+    let (issuer, certificate) = cut(operands, '|');
+    let issuer = from_lists(alloc, issuer)?;
+    verified_by(alloc, &issuer, certificate)
 }
 
-fn answer(
-    alloc: Global,
-    issuer: &ResourceSet,
-    numbers: &[u8],
-    addresses: &[u8],
-    (encoding, mode): (Encoding, Overclaim),
-) -> anyhow::Result<String> {
-    match callers::issued::verified_octets(alloc, issuer, numbers, addresses, encoding, mode) {
+fn verified_by(alloc: Global, issuer: &ResourceSet, text: &str) -> anyhow::Result<String> {
+    let certificate = Certificate::read(alloc, text)?;
+    match rpki_extensions::issued::verified_octets(alloc, issuer, &certificate.extensions()) {
         Ok(set) => print::value(alloc, &set),
-        Err(OrMemory::Refused(reason)) => refused(alloc, &reason),
+        Err(OrMemory::Refused(reason)) => print::value(alloc, &reason),
         Err(OrMemory::Memory(error)) => Err(error.into()),
     }
 }
 
-fn refused(alloc: Global, reason: &Unverified) -> anyhow::Result<String> {
-    let text = reason_text(alloc, reason)?;
+/// `anchor_set refuse HEX HEX`
+pub fn anchor_listed(alloc: Global, text: &str) -> anyhow::Result<String> {
+    let certificate = Certificate::read(alloc, text)?;
+    match anchor_set(alloc, &certificate.extensions()) {
+        Ok(set) => print::value(alloc, &set),
+        Err(OrMemory::Refused(reason)) => print::value(alloc, &reason),
+        Err(OrMemory::Memory(error)) => Err(error.into()),
+    }
+}
+
+/// `written A ; B ; C`: the octets of both extensions.
+pub fn written(alloc: Global, lists: &str) -> anyhow::Result<String> {
+    let set = from_lists(alloc, lists)?;
+    let mut text = String::new(alloc);
+    push_octets(alloc, &mut text, &write_numbers(alloc, &set)?)?;
+    text.push(' ')?;
+    push_octets(alloc, &mut text, &write_addresses(alloc, &set)?)?;
     Ok(text)
 }
 
-/// The reason for which a certificate isn't verified.
-pub fn reason_text(alloc: Global, reason: &Unverified) -> Result<String, AllocError> {
-    match reason {
-        Unverified::AsOctets(fault) => format!(in alloc; "AS octets: {fault}"),
-        Unverified::Asn(excess) => format!(in alloc; "{excess}"),
-        Unverified::AddressOctets(fault) => format!(in alloc; "address octets: {fault}"),
-        Unverified::Ipv4(excess) => format!(in alloc; "{excess}"),
-        Unverified::Ipv6(excess) => format!(in alloc; "{excess}"),
+fn push_octets(alloc: Global, text: &mut String, octets: &Option<Vec<u8>>) -> anyhow::Result<()> {
+    match octets {
+        Some(octets) => text.push_str(&hex::encode(alloc, octets.as_slice())?)?,
+        None => text.push('-')?,
     }
+    Ok(())
 }

@@ -1,5 +1,6 @@
-//! The program `callers_run`: each line of the standard input names a function of `callers` and what it is called with, and
-//! is answered with one line on the standard output: what the function answers, or `error: ` and the fault.
+//! The program `callers_run`: each line of the standard input names a function of `callers`, `rpki_extensions` or
+//! `rtr_payloads` and what it is called with, and is answered with one line on the standard output: what the function
+//! answers, or `error: ` and the fault.
 #![tactic(auto)]
 
 mod certificates;
@@ -11,8 +12,8 @@ mod routes;
 mod sets;
 mod values;
 
-use callers::encodings::Encoding;
 use print::cut;
+use rpki_extensions::encoding::Encoding;
 use std::alloc::Global;
 use std::io;
 
@@ -41,7 +42,10 @@ fn call(alloc: Global, line: &str) -> anyhow::Result<String> {
             certificates::read_families(alloc, operands, Encoding::Canonical)
         }
         "verified_octets" => certificates::verified_octets(alloc, operands),
+        "anchor_set" => certificates::anchor_listed(alloc, operands),
+        "written" => certificates::written(alloc, operands),
         "verified_path" => paths::verified_path(alloc, operands),
+        "verified_below" => paths::verified_below(alloc, operands),
         "verified" => paths::verified(alloc, operands),
         "v4_filter" => prefixes::v4_filter(alloc, operands),
         "v6_filter" => prefixes::v6_filter(alloc, operands),
@@ -86,6 +90,7 @@ fn of_routes(alloc: Global, name: &str, operands: &str) -> anyhow::Result<String
         "count_invalid" => routes::count_invalid(alloc, operands),
         "explanation" => routes::explanation(alloc, operands),
         "excess" => routes::excess(alloc, operands),
+        "changes" => routes::changes(alloc, operands),
         _ => print::text(alloc, "no such function"),
     }
 }

@@ -2,67 +2,84 @@
 ghost use Rattle.std.specs.Prelude.{All, IfOk, OnOk};
 ghost use Rattle.rpki_ipres.specs.Resources.{IsWholeClaim};
 
-use crate::certificates::{reading_named, reason_text};
+use crate::certificates::Certificate;
 use crate::print::{self, cut};
 use crate::sets::from_lists;
-use callers::anchor::Extensions;
+use callers::anchor::RefusedBelow;
 use callers::certificates::Overclaimed;
-use callers::issued::Unverified;
+use rpki_extensions::extensions::Extensions;
 use rpki_resources::OrMemory;
-use rpki_resources::repository::resources::{AsStep, IpStep, PathRefusal, ResourceSet};
-use std::alloc::Global;
+use rpki_resources::repository::resources::{AsStep, IpStep, ResourceSet};
+use std::alloc::{AllocError, Global};
 use std::fmt;
 
-/// `verified_path A ; B ; C | refuse HEX HEX | ..`, or with another word of [`reading_named`]: the resources of a trust
-/// anchor, and of each certificate on the path the octets of AS identifiers and of address blocks.
+/// `verified_path A ; B ; C | refuse HEX HEX | ..`: the resources of a trust anchor, and the certificates on a path.
 pub fn verified_path(alloc: Global, operands: &str) -> anyhow::Result<String> {
     let (anchor, path) = cut(operands, '|');
+    let anchor = from_lists(alloc, anchor)?;
     let certificates = path_of(alloc, path)?;
-    below(alloc, anchor, &certificates)
+    left_of(alloc, &anchor, &extensions_of(alloc, &certificates)?)
 }
 
-fn below(alloc: Global, anchor: &str, certificates: &[Extensions]) -> anyhow::Result<String> {
-    let anchor = from_lists(alloc, anchor)?;
-    match callers::anchor::verified_path(alloc, &anchor, certificates) {
+fn left_of(
+    alloc: Global,
+    anchor: &ResourceSet,
+    certificates: &[Extensions<'_>],
+) -> anyhow::Result<String> {
+    match rpki_extensions::path::verified_path(alloc, anchor, certificates) {
         Ok(set) => print::value(alloc, &set),
-        Err(OrMemory::Refused(refusal)) => unverified(alloc, &refusal),
+        Err(OrMemory::Refused(refusal)) => print::value(alloc, &refusal),
         Err(OrMemory::Memory(error)) => Err(error.into()),
     }
 }
 
-fn unverified(alloc: Global, refusal: &PathRefusal<Unverified>) -> anyhow::Result<String> {
-    let reason = reason_text(alloc, &refusal.fault)?;
-    at_step(alloc, refusal.step, &reason)
+/// `verified_below refuse HEX HEX | refuse HEX HEX | ..`: a trust anchor, and the certificates on a path.
+pub fn verified_below(alloc: Global, operands: &str) -> anyhow::Result<String> {
+    let (anchor, path) = cut(operands, '|');
+    let anchor = Certificate::read(alloc, anchor)?;
+    let certificates = path_of(alloc, path)?;
+    below(alloc, &anchor, &extensions_of(alloc, &certificates)?)
 }
 
-fn at_step<T: fmt::Display>(alloc: Global, step: usize, fault: &T) -> anyhow::Result<String> {
-    let text = format!(in alloc; "refused at step {step}: {fault}")?;
-    Ok(text)
+fn below(
+    alloc: Global,
+    anchor: &Certificate,
+    certificates: &[Extensions<'_>],
+) -> anyhow::Result<String> {
+    match callers::anchor::verified_below(alloc, &anchor.extensions(), certificates) {
+        Ok(set) => print::value(alloc, &set),
+        Err(OrMemory::Refused(RefusedBelow::Anchor(reason))) => print::value(alloc, &reason),
+        Err(OrMemory::Refused(RefusedBelow::Certificate(refusal))) => print::value(alloc, &refusal),
+        Err(OrMemory::Memory(error)) => Err(error.into()),
+    }
 }
 
-fn path_of(alloc: Global, path: &str) -> anyhow::Result<Vec<Extensions>> {
+/// The certificates between the marks of a path.
+fn path_of(alloc: Global, path: &str) -> anyhow::Result<Vec<Certificate>> {
     let mut certificates = Vec::new(alloc);
     if path.is_empty() {
         return Ok(certificates);
     }
     for certificate in path.split('|') {
-        certificates.push(extensions(alloc, certificate.trim())?)?;
+        certificates.push(Certificate::read(alloc, certificate.trim())?)?;
     }
     Ok(certificates)
 }
 
-fn extensions(alloc: Global, certificate: &str) -> anyhow::Result<Extensions> {
-    let (reading, octets) = cut(certificate, ' ');
-    let (numbers, addresses) = cut(octets, ' ');
-    let numbers = hex::decode(alloc, numbers)?;
-    let addresses = hex::decode(alloc, addresses)?;
-    let (encoding, mode) = reading_named(reading);
-    Ok(Extensions {
-        numbers,
-        addresses,
-        encoding,
-        mode,
-    })
+fn extensions_of(
+    alloc: Global,
+    certificates: &[Certificate],
+) -> Result<Vec<Extensions<'_>>, AllocError> {
+    let mut list = Vec::new(alloc);
+    for certificate in certificates {
+        list.push(certificate.extensions())?;
+    }
+    Ok(list)
+}
+
+fn at_step<T: fmt::Display>(alloc: Global, step: usize, fault: &T) -> anyhow::Result<String> {
+    let text = format!(in alloc; "refused at step {step}: {fault}")?;
+    Ok(text)
 }
 
 /// The claims of the certificates on a path, kind by kind.
@@ -106,7 +123,7 @@ fn read_steps(alloc: Global, path: &str) -> anyhow::Result<Steps>
     steps_of(alloc, &certificates)
 }
 
-fn steps_of(alloc: Global, certificates: &[Extensions]) -> anyhow::Result<Steps>
+fn steps_of(alloc: Global, certificates: &[Certificate]) -> anyhow::Result<Steps>
     ensures { IfOk result (λ steps. All (λ step. IsWholeClaim step.claim) steps.ipv4.items) }
 {
     let mut steps = Steps {
@@ -115,39 +132,20 @@ fn steps_of(alloc: Global, certificates: &[Extensions]) -> anyhow::Result<Steps>
         ipv6: Vec::new(alloc),
     };
     for certificate in certificates {
-        push_numbers(alloc, &mut steps.asn, certificate)?;
-        push_addresses(alloc, &mut steps.ipv4, &mut steps.ipv6, certificate)?;
+        push_claims(alloc, &mut steps, &certificate.extensions())?;
     }
     Ok(steps)
 }
 
-fn push_numbers(
-    alloc: Global,
-    asn: &mut Vec<AsStep>,
-    certificate: &Extensions,
-) -> anyhow::Result<()> {
-    let claim = callers::certificates::read_as(alloc, &certificate.numbers, certificate.encoding)?;
-    let mode = certificate.mode;
-    asn.push(AsStep { claim, mode })?;
-    Ok(())
-}
-
-fn push_addresses(
-    alloc: Global,
-    ipv4: &mut Vec<IpStep>,
-    ipv6: &mut Vec<IpStep>,
-    certificate: &Extensions,
-) -> anyhow::Result<()>
-    ensures { OnOk result (All (λ step. IsWholeClaim step.claim) ipv4.old.items
-        → All (λ step. IsWholeClaim step.claim) ipv4.new.items) }
+fn push_claims(alloc: Global, steps: &mut Steps, certificate: &Extensions<'_>) -> anyhow::Result<()>
+    ensures { OnOk result (All (λ step. IsWholeClaim step.claim) steps.old.ipv4.items
+        → All (λ step. IsWholeClaim step.claim) steps.new.ipv4.items) }
 {
-    let (v4, v6) = callers::issued::read_claims(
-        alloc,
-        &certificate.addresses,
-        certificate.encoding,
-    )?;
+    let claims = certificate.claims(alloc)?;
     let mode = certificate.mode;
-    ipv4.push(IpStep { claim: v4, mode })?;
-    ipv6.push(IpStep { claim: v6, mode })?;
+    let (asn, ipv4, ipv6) = (claims.asn, claims.ipv4, claims.ipv6);
+    steps.asn.push(AsStep { claim: asn, mode })?;
+    steps.ipv4.push(IpStep { claim: ipv4, mode })?;
+    steps.ipv6.push(IpStep { claim: ipv6, mode })?;
     Ok(())
 }

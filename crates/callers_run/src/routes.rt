@@ -5,6 +5,7 @@ use roa_check::Validity;
 use roa_origin::OriginTable;
 use rpki_resources::resources::addr::{MaxLenPrefix, Prefix};
 use rpki_resources::resources::asn::Asn;
+use rtr_payloads::PayloadTable;
 use std::alloc::Global;
 
 /// What a text between commas writes.
@@ -112,4 +113,27 @@ pub fn excess(alloc: Global, operands: &str) -> anyhow::Result<String> {
     let resources = from_lists(alloc, lists)?;
     let entries = entries::<MaxLenPrefix>(alloc, prefixes)?;
     print::option(alloc, &callers::routes::excess(&resources, &entries))
+}
+
+/// `changes PAYLOAD, .. | PAYLOAD, ..`: what a router is told so that it gets from the one table to the other.
+pub fn changes(alloc: Global, operands: &str) -> anyhow::Result<String> {
+    let (sent, next) = cut(operands, '|');
+    let sent = sent_table(alloc, sent)?;
+    told(alloc, &sent, next)
+}
+
+fn told(alloc: Global, sent: &PayloadTable, next: &str) -> anyhow::Result<String> {
+    let next = sent_table(alloc, next)?;
+    let changes = sent.changes_to(alloc, &next)?;
+    let announced = joined(alloc, changes.announced.as_slice())?;
+    let withdrawn = joined(alloc, changes.withdrawn.as_slice())?;
+    let text = format!(in alloc; "announced {announced} withdrawn {withdrawn}")?;
+    Ok(text)
+}
+
+/// The table that routers get of a list of payloads.
+fn sent_table(alloc: Global, list: &str) -> anyhow::Result<PayloadTable> {
+    let payloads = entries::<(MaxLenPrefix, Asn)>(alloc, list)?;
+    let table = PayloadTable::new(alloc, &payloads)?;
+    Ok(table)
 }

@@ -1,7 +1,0 @@
-use Rattle.std.proofs.Common.{take}
-use Rattle.callers.specs.Anchor.{IsVerifiedPath}
-use Rattle.callers.proofs.anchor.verified_path.Given as goal
-
--- the certificates so far leave the issuer's resources
-abbrev pub invariant-loop-at : goal.invariant-loop-at
-invariant-loop-at g l = IsVerifiedPath l.fn.anchor (take l.at l.fn.certificates) l.issuer

@@ -12,3 +12,6 @@
 pub mod addr;
 pub mod bits;
 pub mod laws;
+
+pub use addr::{AddrParseError, IpAddr, Ipv4Addr, Ipv6Addr};
+pub use bits::Addr;

@@ -13,6 +13,7 @@ use crate::trim::{is_encompassed, trim_counted};
 use crate::union::union_counted;
 use rpki_text::memory::OrMemory;
 use std::alloc::{AllocError, Allocator};
+use std::fmt;
 use std::slice::Iter;
 
 /// Ascending blocks that neither overlap nor touch, each in the form that `new` gives: the one list of the maximal runs
@@ -165,6 +166,12 @@ impl<T: Block> Chain<'_, T> {
             length chain ≤ length (chain_blocks self.entry) + length (chain_blocks other.entry)) }
     {
         union_counted(alloc, &mut Counted::new(self), &mut Counted::new(other))
+    }
+}
+
+impl<T: Block + fmt::Debug> fmt::Debug for Chain<'_, T> {
+    fn fmt<W: fmt::Write>(&self, f: &mut fmt::Formatter<W>) -> fmt::Result {
+        f.debug_tuple("Chain").field(&self.blocks).finish()
     }
 }
 

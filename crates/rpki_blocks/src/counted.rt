@@ -6,6 +6,7 @@ use crate::block::Block;
 use crate::chain::Chain;
 use crate::reads::Reads;
 use crate::tally::Tally;
+use std::fmt;
 
 /// A view of a chain whose reads are counted. The count is seen by contracts alone: it takes no bytes.
 #[derive(Drop)]
@@ -24,6 +25,12 @@ impl<'a, T: Block> Counted<'a, T> {
             chain,
             reads: Tally::new(),
         }
+    }
+}
+
+impl<T: Block + fmt::Debug> fmt::Debug for Counted<'_, T> {
+    fn fmt<W: fmt::Write>(&self, f: &mut fmt::Formatter<W>) -> fmt::Result {
+        f.debug_tuple("Counted").field(&self.chain).finish()
     }
 }
 

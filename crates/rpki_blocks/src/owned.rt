@@ -10,6 +10,7 @@ use crate::block::Block;
 use crate::build::join;
 use crate::chain::Chain;
 use std::alloc::{AllocError, Allocator, Global};
+use std::fmt;
 use std::marker::Model;
 
 /// A chain that owns its blocks. The empty one holds no memory.
@@ -107,6 +108,14 @@ fn rebuild<T: Block, A: Allocator>(new: &mut Vec<T, A>, blocks: &[T]) -> Result<
         new.push(T::new(min, max))?;
     }
     Ok(())
+}
+
+impl<T: Block + fmt::Debug, A: Allocator> fmt::Debug for OwnedChain<T, A> {
+    fn fmt<W: fmt::Write>(&self, f: &mut fmt::Formatter<W>) -> fmt::Result {
+        f.debug_tuple("OwnedChain")
+            .field(&self.as_chain().as_slice())
+            .finish()
+    }
 }
 
 impl<T: Block, A: Allocator> PartialEq for OwnedChain<T, A> {

@@ -9,6 +9,7 @@ use crate::block::Block;
 use crate::chain::Chain;
 use crate::owned::OwnedChain;
 use std::alloc::{AllocError, Allocator, Global};
+use std::fmt;
 use std::marker::Model;
 use std::rc::Rc;
 
@@ -79,6 +80,14 @@ impl<T: Block, A: Allocator> Clone for SharedChain<T, A> {
         Ok(SharedChain {
             chain: Some(chain.clone()?),
         })
+    }
+}
+
+impl<T: Block + fmt::Debug, A: Allocator> fmt::Debug for SharedChain<T, A> {
+    fn fmt<W: fmt::Write>(&self, f: &mut fmt::Formatter<W>) -> fmt::Result {
+        f.debug_tuple("SharedChain")
+            .field(&self.as_chain().as_slice())
+            .finish()
     }
 }
 

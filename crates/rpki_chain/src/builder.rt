@@ -5,6 +5,7 @@ ghost use Rattle.rpki_chain.specs.Runs.{Holds, IsRunsOf};
 use crate::set::BlockSet;
 use rpki_blocks::block::Block;
 use std::alloc::{AllocError, Allocator, Global};
+use std::fmt;
 use std::marker::Model;
 
 /// Collects blocks, in any order, for a set of their items. It keeps the allocator that it is given.
@@ -64,5 +65,11 @@ impl<T: Block, A: Allocator> BlockSetBuilder<T, A> {
     {
         let alloc = *self.blocks.allocator();
         BlockSet::from_vec(alloc, self.blocks)
+    }
+}
+
+impl<T: Block, A: Allocator> fmt::Debug for BlockSetBuilder<T, A> {
+    fn fmt<W: fmt::Write>(&self, f: &mut fmt::Formatter<W>) -> fmt::Result {
+        f.debug_struct("BlockSetBuilder").finish_non_exhaustive()
     }
 }

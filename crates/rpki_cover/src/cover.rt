@@ -7,7 +7,7 @@ ghost use Rattle.rpki_cover.specs.Walk.{free_bits};
 use std::marker::Model;
 
 /// A prefix of numbers: a first number, and how many of its leading bits are fixed. The others are clear in it.
-#[derive(Clone, Copy)]
+#[derive(Clone, Copy, Debug)]
 pub struct NumberPrefix {
     first: u128,
     len: u8,
@@ -44,7 +44,7 @@ impl NumberPrefix {
 ///
 /// The cover list has exactly the maximal prefixes inside the range. Its union is the range, and no list of prefixes
 /// with that union is shorter.
-#[derive(Drop)]
+#[derive(Debug, Drop)]
 pub struct Cover {
     width: u8,
     left: Option<(u128, u128)>,

@@ -16,5 +16,6 @@ pub mod v6;
 pub mod verify;
 
 pub use iter::BlockIter;
+pub use prefixes::{V4SetPrefixes, V6SetPrefixes};
 pub use v4::{Ipv4Block, Ipv4Blocks};
 pub use v6::{Ipv6Block, Ipv6Blocks};

@@ -15,7 +15,7 @@ use std::marker::Model;
 use std::slice::Iter;
 
 /// The prefixes of the shortest cover of a set of IPv4 addresses that are left, ascending. Contracts see it as their list.
-#[derive(Drop)]
+#[derive(Debug, Drop)]
 pub struct V4SetPrefixes<'a> {
     current: V4Prefixes,
     later: Iter<'a, IpBlock>,
@@ -56,7 +56,7 @@ impl Iterator for V4SetPrefixes<'_> {
 }
 
 /// The prefixes of the shortest cover of a set of IPv6 addresses that are left, ascending. Contracts see it as their list.
-#[derive(Drop)]
+#[derive(Debug, Drop)]
 pub struct V6SetPrefixes<'a> {
     current: V6Prefixes,
     later: Iter<'a, IpBlock>,

@@ -13,7 +13,7 @@ use rpki_cover::cover::Cover;
 use std::marker::Model;
 
 /// The prefixes of a range's shortest cover that are left, ascending. Contracts see it as their list.
-#[derive(Drop)]
+#[derive(Debug, Drop)]
 pub struct V6Prefixes {
     cover: Cover,
 }
@@ -55,7 +55,7 @@ impl Iterator for V6Prefixes {
 
 /// The prefixes of the shortest cover of IPv4 addresses that are left, ascending. Contracts see it as their list, as
 /// prefixes of addresses of either family.
-#[derive(Drop)]
+#[derive(Debug, Drop)]
 pub struct V4Prefixes {
     cover: Cover,
 }

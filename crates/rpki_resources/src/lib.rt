@@ -21,5 +21,9 @@ pub mod resources;
 mod set;
 mod texts;
 
+pub use diff::ResourceDiff;
+pub use error::{FromStrError, InheritError};
+pub use set::ResourceSet;
+
 /// Why a call that takes memory answered no value.
 pub use rpki_base::memory::OrMemory;

@@ -14,3 +14,6 @@
 pub mod list;
 pub mod memory;
 pub mod number;
+
+pub use memory::OrMemory;
+pub use number::ParseIntError;

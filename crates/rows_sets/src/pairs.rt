@@ -48,7 +48,7 @@ impl Block for Pair {
 
     ghost one_item = { λ x y same. same };
 
-    ghost form_bounds = { λ b ordered to. refl };
+    ghost form_bounds = { λ b from ordered to. refl };
 
     fn new(min: u64, max: u64) -> Self {
         Pair { min, max }

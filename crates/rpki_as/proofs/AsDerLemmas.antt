@@ -50,7 +50,7 @@ runs_32 set is = recursion_from_All IsRun32 set (λ k d small. (is.are_runs.orde
 
 -- the blocks of runs have their bounds
 blocks_bounds : (set : Runs) → IsAsSet set → map as_bounds (map new_as_block set) ≡ set
-blocks_bounds = bounds_made as_bounds new_as_block 4294967295 (λ b ordered to. new_as_block_bounds b)
+blocks_bounds = bounds_made as_bounds new_as_block 0 4294967295 (λ b from ordered to. new_as_block_bounds b)
 
 -- what is written of them is what is written of the set
 pub blocks_octets : (set : Runs) → flat_map as_block_octets (map new_as_block set) ≡ as_set_octets set
@@ -70,7 +70,7 @@ blocks_are (b ∷ set) all = (block_is b all.0, blocks_are set all.1)
 
 -- they stand for the set
 pub blocks_say : (set : Runs) → IsAsSet set → IsRunsOfBlocks as_bounds (map new_as_block set) set
-blocks_say = made_of_set as_bounds new_as_block 4294967295 (λ b ordered to. new_as_block_bounds b)
+blocks_say = made_of_set as_bounds new_as_block 0 4294967295 (λ b from ordered to. new_as_block_bounds b)
 
 -- ---- how long they are
 

@@ -89,6 +89,6 @@ not_inherit (run ∷ runs) text printed =
 
 -- what is printed of resources writes them
 pub printed_resources : (text : List ℕ) (claim : Claim) → IsClaim IsAsSet claim → text ≡ as_resources_text claim → IsAsResourcesText text claim
-printed_resources text Missing is printed = (not_inherit [] text printed, IsAsListText-as_list_text text [] (empty_set 4294967295) printed)
+printed_resources text Missing is printed = (not_inherit [] text printed, IsAsListText-as_list_text text [] (empty_set 0 4294967295) printed)
 printed_resources text Inherit is printed = printed
 printed_resources text (Blocks set) is printed = (not_inherit set text printed, IsAsListText-as_list_text text set is.0 printed, is.1)

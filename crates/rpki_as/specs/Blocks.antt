@@ -4,4 +4,4 @@ use Rattle.rpki_chain.specs.Runs.{Runs}
 
 -- the runs of a set of AS numbers, which are 0 to 4294967295 (RFC 6793, 1)
 abbrev pub IsAsSet : Runs → Type 0
-IsAsSet runs = IsBlockSet 4294967295 runs
+IsAsSet runs = IsBlockSet 0 4294967295 runs

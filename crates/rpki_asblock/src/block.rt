@@ -132,7 +132,7 @@ impl Block for AsBlock {
 
     ghost one_item = { λ x y same. same };
 
-    ghost form_bounds = { λ b ordered to. new_as_block_bounds b };
+    ghost form_bounds = { λ b from ordered to. new_as_block_bounds b };
 
     fn new(min: Asn, max: Asn) -> AsBlock {
         if min == max {

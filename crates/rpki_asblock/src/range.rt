@@ -97,7 +97,7 @@ impl Block for AsRange {
 
     ghost one_item = { λ x y same. same };
 
-    ghost form_bounds = { λ b ordered to. refl };
+    ghost form_bounds = { λ b from ordered to. refl };
 
     fn new(min: Asn, max: Asn) -> AsRange {
         AsRange { min, max }

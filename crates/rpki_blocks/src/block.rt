@@ -133,5 +133,6 @@ pub trait Block: Drop {
     ghost one_item: { (x y : Self.Item) → number x ≡ number y → x ≡ y };
 
     /// The block of given bounds has these bounds.
-    ghost form_bounds: { (b : ℕ × ℕ) → b.0 ≤ b.1 → b.1 ≤ last → bounds (form b) ≡ b };
+    ghost form_bounds: { (b : ℕ × ℕ) → first ≤ b.0 → b.0 ≤ b.1 → b.1 ≤ last →
+        bounds (form b) ≡ b };
 }

@@ -59,13 +59,13 @@ module _ {B : Type 0} (f : B → ℕ × ℕ) (form : ℕ × ℕ → B) (octets :
 
   -- what is known of blocks that were taken
   record AreTaken (before : Option ℕ) (bytes : List ℕ) (xs : List B) : Type 0 where
-    chain : IsBlockChain f form last xs
+    chain : IsBlockChain f form 0 last xs
     fit : All (λ x. Fits (f x)) xs
     beyond : All (λ x. IsBeyond before (f x).0) xs
     spelled : bytes ≡ octets_of_all octets xs
 
   are_taken : (before : Option ℕ) (bytes : List ℕ) (xs : List B) → EachFrom Next Behind before bytes xs → AreTaken before bytes xs
-  are_taken before bytes [] none = record { chain = record { chain = IsChain-nil f form; below = All-nil _ }; fit = All-nil _; beyond = All-nil _; spelled = none }
+  are_taken before bytes [] none = record { chain = record { chain = IsChain-nil f form; above = All-nil _; below = All-nil _ }; fit = All-nil _; beyond = All-nil _; spelled = none }
   are_taken before bytes (x ∷ xs) (rest, (front, (g, first), split), more) =
       let then = are_taken (Some (f x).1) rest xs more in
       let in_order = is.ordered front x g in
@@ -76,6 +76,7 @@ module _ {B : Type 0} (f : B → ℕ × ℕ) (form : ℕ × ℕ → B) (octets :
             apart = AllPairs-cons (λ y z. (f y).1 + 1 < (f z).0) x xs then.beyond then.chain.chain.apart;
             new_form = All-cons (IsNew f form) x xs (is.new_form front x g) then.chain.chain.new_form;
           };
+          above = λ k d small. omega arith;
           below = All-cons (λ y. (f y).1 ≤ last) x xs (is.below front x g) then.chain.below;
         };
         fit = All-cons (λ y. Fits (f y)) x xs (is.fits front x g) then.fit;
@@ -107,14 +108,14 @@ module _ {B : Type 0} (f : B → ℕ × ℕ) (form : ℕ × ℕ → B) (octets :
 
   -- a set whose runs fit
   abbrev pub IsFitting : Runs → Type 0
-  IsFitting set = IsBlockSet last set × All Fits set
+  IsFitting set = IsBlockSet 0 last set × All Fits set
 
   -- a SEQUENCE of such blocks is what is written of a set
   pub set_spelled : (bytes : List ℕ) (set : Runs) → Refines (IsSequenceFrom Next Behind None) (IsRunsOfBlocks f) bytes set → Spells IsFitting (sequence_octets (λ b. octets (form b))) bytes set
   set_spelled bytes set (xs, (content, at, each), says) =
       let are = are_taken None content xs each in
       let runs : Runs = map f xs in
-      let own : IsBlockSet last runs = IsBlockSet-from_chain f form last xs are.chain in
+      let own : IsBlockSet 0 last runs = IsBlockSet-from_chain f form 0 last xs are.chain in
       let covered : IsRunsOfBlocks f xs runs = IsRunsOfBlocks-bounds f xs runs refl own.are_runs in
       let same : runs ≡ set = IsRunsOf-unique (Covers f xs) runs set covered says in
       let made : map form runs ≡ xs = blocks_made f form xs are.chain.chain.new_form in
@@ -129,5 +130,5 @@ module _ {B : Type 0} (f : B → ℕ × ℕ) (form : ℕ × ℕ → B) (octets :
       let content = octets_of_all (λ b. octets (form b)) set in (
         map form set,
         (content, subst (λ (t : List ℕ). IsValue t 48 content) (sym spelled) (value_is 48 content (omega arith) short), taken None set own.are_runs.ordered own.below fit own.are_runs.apart (λ k d small. tt)),
-        made_of_set f form last is.form_bounds set own,
+        made_of_set f form 0 last (λ b from. is.form_bounds b) set own,
       )

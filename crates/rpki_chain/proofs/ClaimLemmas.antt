@@ -33,13 +33,14 @@ claims_decide (Blocks x) (Blocks y) = (
 )
 
 -- no runs are those of the empty set
-pub empty_set : (last : ℕ) → IsBlockSet last []
-empty_set last = record {
+pub empty_set : (first last : ℕ) → IsBlockSet first last []
+empty_set first last = record {
   are_runs = record {
     members = λ n. (λ held. held, λ held. held);
     ordered = λ k d small. absurd (omega arith);
     apart = λ i j d below small. absurd (omega arith);
   };
+  above = λ k d small. absurd (omega arith);
   below = λ k d small. absurd (omega arith);
 }
 

@@ -51,7 +51,7 @@ module _ (set : Runs) (issuer : Claim) where
   pub uncovered-inherit : (rest : Runs) → issuer ≡ Inherit → rest ≡ [] → IsRunsOf (λ n. Holds set n × (Leaves issuer n → ⊥)) rest
   uncovered-inherit rest is same = subst (λ (c : Claim). IsRunsOf (λ n. Holds set n × (Leaves c n → ⊥)) rest) (sym is)
       (subst (λ (r : Runs). IsRunsOf (λ n. Holds set n × (Leaves Inherit n → ⊥)) r) (sym same)
-      (IsRunsOf-same [] (Holds []) _ (λ n. (λ held. absurd (none_held [] n refl held), λ x. absurd (x.1 tt))) (no_blocks 0).are_runs))
+      (IsRunsOf-same [] (Holds []) _ (λ n. (λ held. absurd (none_held [] n refl held), λ x. absurd (x.1 tt))) (no_blocks 0 0).are_runs))
 
   pub uncovered-listed : (listed rest : Runs) → issuer ≡ Blocks listed → IsDifference set listed rest → IsRunsOf (λ n. Holds set n × (Leaves issuer n → ⊥)) rest
   uncovered-listed listed rest is h = subst (λ (c : Claim). IsRunsOf (λ n. Holds set n × (Leaves c n → ⊥)) rest) (sym is) h

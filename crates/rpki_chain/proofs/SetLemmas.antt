@@ -62,27 +62,38 @@ module _ {B : Type 0} (f : B → ℕ × ℕ) where
       cc
 
   -- and the blocks that are made of the runs of a set have these runs for their bounds
-  pub bounds_made : (form : ℕ × ℕ → B) (last : ℕ) → ((b : ℕ × ℕ) → b.0 ≤ b.1 → b.1 ≤ last → f (form b) ≡ b) → (set : Runs) → IsBlockSet last set → map f (map form set) ≡ set
-  bounds_made form last law set is = by_each set is.are_runs.ordered is.below
+  pub bounds_made : (form : ℕ × ℕ → B) (first last : ℕ) → ((b : ℕ × ℕ) → first ≤ b.0 → b.0 ≤ b.1 → b.1 ≤ last → f (form b) ≡ b) → (set : Runs) → IsBlockSet first last set → map f (map form set) ≡ set
+  bounds_made form first last law set is = by_each set is.above is.are_runs.ordered is.below
     where
-      by_each : (set : Runs) → All (λ b. b.0 ≤ b.1) set → All (λ b. b.1 ≤ last) set → map f (map form set) ≡ set
-      by_each [] ordered below = refl
-      by_each (b ∷ set) ordered below =
-          let first = law b (ordered 0 b (omega arith)) (below 0 b (omega arith)) in
-          let rest = by_each set (All-tail (λ (x : ℕ × ℕ). x.0 ≤ x.1) b set ordered) (All-tail (λ (x : ℕ × ℕ). x.1 ≤ last) b set below) in
+      by_each : (set : Runs) → All (λ b. first ≤ b.0) set → All (λ b. b.0 ≤ b.1) set → All (λ b. b.1 ≤ last) set → map f (map form set) ≡ set
+      by_each [] above ordered below = refl
+      by_each (b ∷ set) above ordered below =
+          let same = law b (above 0 b (omega arith)) (ordered 0 b (omega arith)) (below 0 b (omega arith)) in
+          let rest = by_each set (All-tail (λ (x : ℕ × ℕ). first ≤ x.0) b set above) (All-tail (λ (x : ℕ × ℕ). x.0 ≤ x.1) b set ordered) (All-tail (λ (x : ℕ × ℕ). x.1 ≤ last) b set below) in
           cc
 
   -- so they stand for the set
-  pub made_of_set : (form : ℕ × ℕ → B) (last : ℕ) → ((b : ℕ × ℕ) → b.0 ≤ b.1 → b.1 ≤ last → f (form b) ≡ b) → (set : Runs) → IsBlockSet last set → IsRunsOfBlocks f (map form set) set
-  made_of_set form last law set is = IsRunsOfBlocks-bounds f (map form set) set (bounds_made form last law set is) is.are_runs
+  pub made_of_set : (form : ℕ × ℕ → B) (first last : ℕ) → ((b : ℕ × ℕ) → first ≤ b.0 → b.0 ≤ b.1 → b.1 ≤ last → f (form b) ≡ b) → (set : Runs) → IsBlockSet first last set → IsRunsOfBlocks f (map form set) set
+  made_of_set form first last law set is = IsRunsOfBlocks-bounds f (map form set) set (bounds_made form first last law set is) is.are_runs
 
-  module _ (form : ℕ × ℕ → B) (last : ℕ) where
-    -- no block of a chain has greater numbers than its last block
-    pub IsBlockChain-from_last : (blocks : List B) → IsChain f form blocks → ((d : B) → 0 < length blocks → (f (get_or blocks (length blocks - 1) d)).1 ≤ last) → IsBlockChain f form last blocks
-    IsBlockChain-from_last blocks chain highest = record {
+  module _ (form : ℕ × ℕ → B) (first last : ℕ) where
+    -- no block of a chain has lesser numbers than its first block, and none has greater numbers than its last
+    pub IsBlockChain-from_ends : (blocks : List B) → IsChain f form blocks → ((d : B) → 0 < length blocks → (first ≤ (f (get_or blocks 0 d)).0) × ((f (get_or blocks (length blocks - 1) d)).1 ≤ last)) → IsBlockChain f form first last blocks
+    IsBlockChain-from_ends blocks chain ends = record {
       chain = chain;
+      above = λ k d small.
+          let start = (ends d (omega arith)).0 in
+          ⊎_elim
+          (λ (after : 0 < k).
+          let far : (f (get_or blocks 0 d)).1 + 1 < (f (get_or blocks k d)).0 = chain.apart 0 k d after small in
+          let ordered : (f (get_or blocks 0 d)).0 ≤ (f (get_or blocks 0 d)).1 = chain.ordered 0 d (omega arith) in
+          omega arith)
+          (λ (at : k ≤ 0).
+          let same : k ≡ 0 = omega arith in
+          rw same start)
+          (cases_lt 0 k);
       below = λ k d small.
-          let end = highest d (omega arith) in
+          let end = (ends d (omega arith)).1 in
           ⊎_elim
           (λ (before : k < length blocks - 1).
           let far : (f (get_or blocks k d)).1 + 1 < (f (get_or blocks (length blocks - 1) d)).0 = chain.apart k (length blocks - 1) d before (omega arith) in
@@ -95,21 +106,22 @@ module _ {B : Type 0} (f : B → ℕ × ℕ) where
     }
 
     -- a chain is a set
-    pub IsBlockSet-from_chain : (blocks : List B) → IsBlockChain f form last blocks → IsBlockSet last (map f blocks)
+    pub IsBlockSet-from_chain : (blocks : List B) → IsBlockChain f form first last blocks → IsBlockSet first last (map f blocks)
     IsBlockSet-from_chain blocks h = record {
       are_runs = IsRunsOf-itself f form blocks blocks h.chain refl;
+      above = All-map (λ (b : ℕ × ℕ). first ≤ b.0) f blocks h.above;
       below = All-map (λ (b : ℕ × ℕ). b.1 ≤ last) f blocks h.below;
     }
 
     -- a chain inside another is what they have in common
-    pub IsRunsOf-inside : (own other : List B) → IsBlockChain f form last own → IsInside f own other → IsRunsOf (λ n. Holds (map f own) n × Holds (map f other) n) (map f own)
+    pub IsRunsOf-inside : (own other : List B) → IsBlockChain f form first last own → IsInside f own other → IsRunsOf (λ n. Holds (map f own) n × Holds (map f other) n) (map f own)
     IsRunsOf-inside own other h inside = IsRunsOf-same (map f own) _ _ (λ n. (
       λ held. (held, (Holds-map f other n).1 (inside n ((Holds-map f own n).0 held))),
       λ (held, also). held,
     )) (IsBlockSet-from_chain own h).are_runs
 
     -- a chain is its union with one of no blocks
-    pub IsRunsOf-with_none : (own other : List B) → IsBlockChain f form last own → other ≡ [] → IsRunsOf (λ n. Holds (map f own) n ⊎ Holds (map f other) n) (map f own)
+    pub IsRunsOf-with_none : (own other : List B) → IsBlockChain f form first last own → other ≡ [] → IsRunsOf (λ n. Holds (map f own) n ⊎ Holds (map f other) n) (map f own)
     IsRunsOf-with_none own other h none = IsRunsOf-same (map f own) _ _ (λ n. (
       inl,
       ⊎_elim (λ held. held) (λ held. absurd (Covers-nil f n (subst (λ xs. Covers f xs n) none ((Holds-map f other n).0 held)))),

@@ -13,8 +13,9 @@ use rpki_blocks::block::Block;
 
 /// The blocks that are made of the runs of a set stand for the set.
 pub fn blocks_of_runs<T: Block>()
-    ensures bounds { (set : Runs) → IsBlockSet T.last set → map T.bounds (map T.form set) ≡ set }
-    ensures set { (set : Runs) → IsBlockSet T.last set →
+    ensures bounds { (set : Runs) → IsBlockSet T.first T.last set →
+        map T.bounds (map T.form set) ≡ set }
+    ensures set { (set : Runs) → IsBlockSet T.first T.last set →
         IsRunsOfBlocks T.bounds (map T.form set) set }
 {}
 

@@ -14,6 +14,7 @@ use rpki_blocks::owned::OwnedChain;
 use rpki_blocks::shared::SharedChain;
 use rpki_text::memory::OrMemory;
 use std::alloc::{AllocError, Allocator, Global};
+use std::fmt;
 use std::marker::Model;
 use std::slice::Iter;
 
@@ -31,7 +32,7 @@ impl<T: Block, A: Allocator> Model for BlockSet<T, A> {
 
     ghost view = { λ s. map T.bounds s.chain };
 
-    ghost invariant = { λ s. IsBlockChain T.bounds T.form T.last s.chain };
+    ghost invariant = { λ s. IsBlockChain T.bounds T.form T.first T.last s.chain };
 }
 
 impl<T: Block, A: Allocator> BlockSet<T, A> {
@@ -87,7 +88,7 @@ impl<T: Block, A: Allocator> BlockSet<T, A> {
     pub fn from_owned(alloc: A, chain: OwnedChain<T, A>) -> Result<Self, AllocError>
         ensures { IfOk result (λ set. set ≡ map T.bounds chain) }
     {
-        read_greatest(chain.as_chain().as_slice());
+        read_ends(chain.as_chain().as_slice());
         let chain = SharedChain::from_owned(alloc, chain)?;
         Ok(BlockSet { chain })
     }
@@ -103,7 +104,7 @@ impl<T: Block, A: Allocator> BlockSet<T, A> {
     /// The chain of the set: its runs, each in the form that `new` gives.
     pub fn as_chain(&self) -> Chain<'_, T>
         ensures blocks { map T.bounds (chain_blocks result) ≡ self.now }
-        ensures chain { IsBlockChain T.bounds T.form T.last (chain_blocks result) }
+        ensures chain { IsBlockChain T.bounds T.form T.first T.last (chain_blocks result) }
     {
         self.chain.as_chain()
     }
@@ -112,8 +113,8 @@ impl<T: Block, A: Allocator> BlockSet<T, A> {
     pub fn as_slice(&self) -> &[T]
         ensures blocks { map T.bounds result.now ≡ self.now }
         ensures made { result.now ≡ map T.form self.now }
-        ensures chain { IsBlockChain T.bounds T.form T.last result.now }
-        ensures set { IsBlockSet T.last self.now }
+        ensures chain { IsBlockChain T.bounds T.form T.first T.last result.now }
+        ensures set { IsBlockSet T.first T.last self.now }
     {
         self.as_chain().as_slice()
     }
@@ -122,7 +123,7 @@ impl<T: Block, A: Allocator> BlockSet<T, A> {
     pub fn iter(&self) -> Iter<'_, T>
         ensures blocks { map T.bounds (iter_rest result) ≡ self.now }
         ensures made { iter_rest result ≡ map T.form self.now }
-        ensures set { IsBlockSet T.last self.now }
+        ensures set { IsBlockSet T.first T.last self.now }
     {
         self.as_slice().iter()
     }
@@ -221,15 +222,26 @@ impl<T: Block, A: Allocator> BlockSet<T, A> {
     }
 }
 
-/// Reads the greatest number of a chain, which is in its last block, so that no number is known to be above the kind's
-/// last.
-fn read_greatest<T: Block>(blocks: &[T])
+/// Reads the least number of a chain, which is in its first block, and the greatest, which is in its last: so each number
+/// is known to be one of the kind's.
+fn read_ends<T: Block>(blocks: &[T])
     requires { IsChain T.bounds T.form blocks.now }
-    ensures { IsBlockChain T.bounds T.form T.last blocks.now }
+    ensures { IsBlockChain T.bounds T.form T.first T.last blocks.now }
 {
-    if let Some(last) = blocks.last() {
-        // Read for what it tells: that the number is at most the kind's last, and so are all before it.
-        let _greatest = last.max();
+    let Some(first) = blocks.first() else {
+        return;
+    };
+    let Some(last) = blocks.last() else {
+        return;
+    };
+    // Read for what they tell: none comes before the kind's first, and none is above its last.
+    let _least = first.min();
+    let _greatest = last.max();
+}
+
+impl<T: Block + fmt::Debug, A: Allocator> fmt::Debug for BlockSet<T, A> {
+    fn fmt<W: fmt::Write>(&self, f: &mut fmt::Formatter<W>) -> fmt::Result {
+        f.debug_set().entries(self.as_slice()).finish()
     }
 }
 

@@ -153,7 +153,7 @@ impl Block for AddressRange {
 
     ghost one_item = { λ x y same. same };
 
-    ghost form_bounds = { λ b ordered to. refl };
+    ghost form_bounds = { λ b from ordered to. refl };
 
     fn new(min: Addr, max: Addr) -> AddressRange {
         AddressRange::new(min, max)

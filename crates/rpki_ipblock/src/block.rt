@@ -115,7 +115,7 @@ impl Block for IpBlock {
 
     ghost one_item = { λ x y same. same };
 
-    ghost form_bounds = { λ b ordered to. new_ip_block_bounds b };
+    ghost form_bounds = { λ b from ordered to. new_ip_block_bounds b };
 
     fn new(min: Addr, max: Addr) -> IpBlock {
         IpBlock::from_pair((min, max))

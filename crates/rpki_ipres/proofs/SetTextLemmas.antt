@@ -36,7 +36,7 @@ module _ {V E : Type 0} (view : V → List IpBlock) (Has : List IpBlock → Type
 
 -- the blocks that are made of runs have their bounds
 pub blocks_bounds : (set : Runs) → IsIpSet set → map ip_bounds (map new_ip_block set) ≡ set
-blocks_bounds = bounds_made ip_bounds new_ip_block 340282366920938463463374607431768211455 (λ b ordered to. new_ip_block_bounds b)
+blocks_bounds = bounds_made ip_bounds new_ip_block 0 340282366920938463463374607431768211455 (λ b from ordered to. new_ip_block_bounds b)
 
 -- the set of blocks with the bounds of runs is that of the runs
 set_of_bounds : (xs : List IpBlock) (set read : Runs) → IsIpSet set → map ip_bounds xs ≡ map ip_bounds (map new_ip_block set) → IsRunsOfBlocks ip_bounds xs read → read ≡ set

@@ -24,7 +24,7 @@ overclaimed_ip_text Ipv6 excess = codes "overclaimed IPv6 resources: " ++ set_te
 
 -- the runs of a set of addresses, which are below 2 ^ 128
 abbrev pub IsIpSet : Runs → Type 0
-IsIpSet set = IsBlockSet 340282366920938463463374607431768211455 set
+IsIpSet set = IsBlockSet 0 340282366920938463463374607431768211455 set
 
 -- the set is one of the family: any of IPv6, and in IPv4 one of whole addresses
 abbrev pub IsFamilySet : AddressFamily → Runs → Type 0

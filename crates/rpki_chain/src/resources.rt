@@ -1,6 +1,6 @@
 //! Resources, built block by block, or inherited.
 ghost use Rattle.std.specs.Prelude.{◌≡◌, ℕ, List, [], Some, None, IfOk};
-ghost use Rattle.std.specs.Fn.{FnOnceReturnsAtMut};
+ghost use Rattle.std.specs.Fn.{FnOnceReturnsAtMut, FnOnceTakesAtMut};
 ghost use Rattle.rpki_chain.specs.Claims.{Claim, IsBuilt, blocks_so_far};
 ghost use Rattle.rpki_chain.specs.declared.choice.ResourcesChoice.TheVariants.{Inherit};
 
@@ -80,7 +80,8 @@ impl<B: CollectBlocks> ResourcesBuilder<B> {
         &mut self,
         build: F,
     ) -> Result<(), AllocError>
-        requires { F.IsAlwaysCallable build }
+        requires { (handed : B) → B.blocks handed ≡ blocks_so_far self.old
+            → FnOnceTakesAtMut F.FnOnce build handed }
         ensures { (handed left : B) × (B.blocks handed ≡ blocks_so_far self.old)
             × FnOnceReturnsAtMut F.FnOnce build handed result left
             × (self.new ≡ Some (B.blocks left)) }

@@ -1,16 +1,23 @@
 -- What is written of blocks of AS numbers.
-use Rattle.std.proofs.Common.{◌≡◌, ℕ, ◌^◌, ◌<◌, ◌≤◌, true, List, ◌++◌, length, refl, ap, ◌∙◌, subst, sym, arith}
+use Rattle.std.proofs.Common.{◌≡◌, ℕ, ◌^◌, ◌<◌, ◌≤◌, Bool, true, false, List, ◌++◌, Option, Some, Result, Ok, length, refl, ap, ◌∙◌, subst, sym, arith}
 use Rattle.std.proofs.lemmas.List.{length-append}
 use Rattle.rpki_der.specs.Der.{Spells, header, integer, sequence_value}
-use Rattle.rpki_der.specs.Reading.{IsReading}
+use Rattle.rpki_der.specs.declared.cursor.Cursor.{Cursor}
+use Rattle.rpki_der.specs.declared.error.DerError.{DerError}
+use Rattle.rpki_der.specs.Reading.{IsReading, optional}
+use Rattle.rpki_der.specs.Views.{Takes, is_strict, left}
+use Rattle.rpki_der.proofs.Modes.{lenient_is}
 use Rattle.rpki_der.proofs.Contents.{length-integer}
 use Rattle.rpki_der.proofs.Readings.{same_reading}
 use Rattle.rpki_der.proofs.Written.{length-header, u32_is, value_is}
 use Rattle.rpki_base.specs.AsnDer.{as_number_octets}
-use Rattle.rpki_asblock.specs.AsDer.{IsAsBlock, IsSetBlock, as_block_octets, as_range_content}
+use Rattle.rpki_base.proofs.DerCursors.{optional_back}
+use Rattle.rpki_blocks.specs.Sets.{IsNew}
+use Rattle.rpki_asblock.specs.AsDer.{HasAsNumbers, IsAsBlock, IsSetBlock, as_block_octets, as_range_content}
+use Rattle.rpki_asblock.specs.AsDerLaws.{as_block_has_octets, as_block_reading}
 use Rattle.rpki_asblock.specs.AsDerModes.{IsStrictBlock, as_block_modal}
-use Rattle.rpki_asblock.specs.AsDerReading.{as_block_by}
-use Rattle.rpki_asblock.specs.Blocks.{as_bounds}
+use Rattle.rpki_asblock.specs.AsDerReading.{as_block_at, as_block_by}
+use Rattle.rpki_asblock.specs.Blocks.{as_bounds, new_as_block}
 use Rattle.rpki_asblock.specs.declared.block.AsBlock.{AsBlock}
 use Rattle.rpki_asblock.specs.declared.block.AsBlock.TheVariants.{Id, Range}
 
@@ -56,3 +63,20 @@ is_set_block bytes x (is, spelled) = (subst (λ (t : List ℕ). IsAsBlock t x) (
 
 pub set_block_reading : IsReading (Spells IsSetBlock as_block_octets) (as_block_by true)
 set_block_reading = same_reading IsStrictBlock (Spells IsSetBlock as_block_octets) (as_block_by true) (λ bytes x fits is. set_block_is bytes x is) is_set_block as_block_modal.tight
+
+-- what was written of a block is read as the block
+pub block_back : (old new : Cursor) (result : Result (Option AsBlock) DerError) → Takes (λ block. block) old new result (optional (as_block_by (is_strict old)))
+    → (block : AsBlock) (rest : List ℕ) → HasAsNumbers block → (is_strict old ≡ true → IsNew as_bounds new_as_block block) → left old ≡ as_block_octets block ++ rest
+    → (result ≡ Ok (Some block)) × (left new ≡ rest)
+block_back old new result took block rest numbers form at = by_mode (is_strict old) took form
+  where
+    written : IsAsBlock (as_block_octets block) block
+    written = block_written block numbers.0 numbers.1
+
+    some : 0 < length (as_block_octets block)
+    some = as_block_has_octets (as_block_octets block) block written
+
+    by_mode : (strict : Bool) → Takes (λ block. block) old new result (optional (as_block_by strict)) → (strict ≡ true → IsNew as_bounds new_as_block block) → (result ≡ Ok (Some block)) × (left new ≡ rest)
+    by_mode true took form = optional_back IsStrictBlock (as_block_by true) old new result as_block_modal.tight took (as_block_octets block) block rest some (written, form refl) at
+    by_mode false took form =
+        optional_back IsAsBlock as_block_at old new result as_block_reading (subst (λ r. Takes (λ block. block) old new result (optional r)) (lenient_is IsStrictBlock as_block_at as_block_by as_block_modal) took) (as_block_octets block) block rest some written at

@@ -37,6 +37,10 @@ abbrev pub as_block_octets : AsBlock → List ℕ
 as_block_octets (Id n) = as_number_octets n
 as_block_octets (Range r) = as_range_octets (range_bounds r)
 
+-- the numbers of a block are in order, and below 2 ^ 32
+abbrev pub HasAsNumbers : AsBlock → Type 0
+HasAsNumbers x = ((as_bounds x).0 ≤ (as_bounds x).1) × ((as_bounds x).1 < 2 ^ 32)
+
 -- a block that sets have: of numbers below 2 ^ 32, and in new form
 pub record IsSetBlock (x : AsBlock) : Type 0 where
   pub ordered : (as_bounds x).0 ≤ (as_bounds x).1

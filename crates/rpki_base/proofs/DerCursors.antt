@@ -1,5 +1,6 @@
 -- From the reading to the grammar, for calls that take memory, or that look at the tag first.
-use Rattle.std.proofs.Common.{◌≡◌, ℕ, Bool, true, false, cond, List, ◌++◌, Option, Some, None, Result, Ok, Err, refl, ap, subst, sym, ◌∙◌, option_map}
+use Rattle.std.proofs.Common.{◌≡◌, ℕ, ◌<◌, Bool, true, false, cond, List, [], ◌∷◌, ◌++◌, length, Option, Some, None, Result, Ok, Err, refl, ap, subst, sym, ◌∙◌, option_map, arith}
+use Rattle.std.proofs.lemmas.List.{length-append}
 use Rattle.std.specs.Prelude.{MatchResult}
 use Rattle.rpki_der.specs.declared.cursor.Cursor.{Cursor}
 use Rattle.rpki_der.specs.declared.error.DerError.{DerError}
@@ -94,3 +95,27 @@ takes_said {X} {Y} G C reading old new result is one took front rest y x grammar
         (one y read x (subst (λ y. C y read) (ap (λ p. p.0) both) tell) says, ap (λ p. p.1) both)
     decided (Err (Refused e)) (failed, kept) = absurd (ok_or_err (y, rest) e (reading (left old)) expected failed)
     decided (Err (Memory e)) (failed, kept) = tt
+
+-- what a reading finds, a take finds that answers None at the end
+optional_again : {X : Type 0} (reading : List ℕ → Result (X × List ℕ) DerError) (bytes : List ℕ) (x : X) (rest : List ℕ) → 0 < length bytes → reading bytes ≡ Ok (x, rest) → optional reading bytes ≡ Ok (Some x, rest)
+unfolding optional
+optional_again reading [] x rest some e = absurd (omega (arith, some))
+optional_again reading (b ∷ bytes) x rest some e = rw e refl
+
+-- so such a take gives the value that stands there, and then stands behind it
+pub optional_back : {X : Type 0} (G : List ℕ → X → Type 0) (reading : List ℕ → Result (X × List ℕ) DerError) (old new : Cursor) (result : Result (Option X) DerError)
+    → IsReading G reading → Takes (λ x. x) old new result (optional reading)
+    → (front : List ℕ) (x : X) (rest : List ℕ) → 0 < length front → G front x → left old ≡ front ++ rest → (result ≡ Ok (Some x)) × (left new ≡ rest)
+optional_back {X} G reading old new result is took front x rest some g at = by_result result took
+  where
+    longer : 0 < length (left old)
+    longer = omega (arith, some, ap (λ (t : List ℕ). length t) at, length-append front rest)
+
+    found : optional reading (left old) ≡ Ok (Some x, rest)
+    found = optional_again reading (left old) x rest longer (ap reading at ∙ is.again front x rest g)
+
+    by_result : (r : Result (Option X) DerError) → Takes (λ x. x) old new r (optional reading) → (r ≡ Ok (Some x)) × (left new ≡ rest)
+    by_result (Ok o) took =
+        let both : (o, left new) ≡ (Some x, rest) = ok_is (o, left new) (Some x, rest) (sym took ∙ found) in
+        (ap (λ (p : Option X × List ℕ). Ok p.0) both, ap (λ (p : Option X × List ℕ). p.1) both)
+    by_result (Err e) took = absurd (ok_or_err (Some x, rest) e (optional reading (left old)) found took.0)

@@ -1,7 +1,7 @@
 -- What is written is in the grammars, and how long it is.
-use Rattle.std.proofs.Common.{◌≡◌, ℕ, ◌+◌, ◌-◌, ◌%◌, ◌^◌, ◌<◌, ◌≤◌, true, ltb, List, ◌∷◌, ◌++◌, length, refl, sym, ap, ◌∙◌, append_assoc, arith}
-use Rattle.std.proofs.lemmas.Bool.{lt-ltb}
-use Rattle.std.proofs.lemmas.Nat.{pow_pos}
+use Rattle.std.proofs.Common.{◌≡◌, ℕ, ◌+◌, ◌-◌, ◌%◌, ◌^◌, ◌<◌, ◌≤◌, true, ltb, List, ◌∷◌, ◌++◌, length, refl, sym, ap, subst, ◌∙◌, append_assoc, arith, inl, inr}
+use Rattle.std.proofs.lemmas.Bool.{cases_lt, lt-ltb}
+use Rattle.std.proofs.lemmas.Nat.{pow_below, pow_pos}
 use Rattle.std.proofs.lemmas.List.{length-append}
 use Rattle.rpki_base.specs.Prefixes.{PrefixValue, IsPrefix}
 use Rattle.rpki_der.specs.Der.{header, length_octets, bit_string_value}
@@ -87,3 +87,17 @@ range_written limit r le is =
         record { begins = refl; ends = sym q.ends; ordered = is.is_range.ordered },
       ),
     )
+
+-- ---- limits
+
+-- a prefix whose first number and whose next one are multiples has no more bits than the limit
+pub few_bits : (limit len first next : ℕ) → limit ≤ 128 → len ≤ 128 → first % 2 ^ (128 - limit) ≡ 0 → next % 2 ^ (128 - limit) ≡ 0 → first < next → first + 2 ^ (128 - len) ≡ next → len ≤ limit
+few_bits limit len first next le short low high some count = elim (cases_lt limit len) [
+  | inr enough ↦ enough
+  | inl long ↦ absurd (
+      let apart : IsMultiple (2 ^ (128 - limit)) (next - first) = multiple_diff (2 ^ (128 - limit)) first next (mod_multiple (128 - limit) first low) (mod_multiple (128 - limit) next high) in
+      let e : next - first ≡ (next - first - 1) + 1 = omega (arith, some) in
+      let least : 2 ^ (128 - limit) ≤ (next - first - 1) + 1 = multiple_least (2 ^ (128 - limit)) (next - first - 1) (subst (λ n. IsMultiple (2 ^ (128 - limit)) n) e apart) in
+      let below : 2 ^ (128 - len) < 2 ^ (128 - limit) = pow_below (128 - len) (128 - limit) (omega (arith, long, short)) in
+      omega (arith, below, least, count, some))
+]

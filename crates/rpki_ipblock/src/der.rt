@@ -17,14 +17,17 @@ use rpki_ip::range::AddressRange;
 use std::alloc::{AllocError, Allocator};
 
 impl IpBlock {
-    ghost use Rattle.std.specs.Prelude.{◌≡◌, ℕ, List, Ok, ◌≤◌, ◌<◌, ◌+◌, ◌++◌, length, vec_len, OnOk, OnErr, IsOk};
+    ghost use Rattle.std.specs.Prelude.{◌≡◌, ℕ, List, Ok, Some, true, ◌≤◌, ◌<◌, ◌+◌, ◌++◌, length, vec_len, OnOk, OnErr, IsOk};
     ghost use Rattle.std.specs.Vec.{vec_capacity};
+    ghost use Rattle.rpki_blocks.specs.Sets.{IsNew};
     ghost use Rattle.rpki_der.specs.Der.{Spells};
     ghost use Rattle.rpki_der.specs.Reading.{optional};
-    ghost use Rattle.rpki_der.specs.Views.{Lenient, NotCanonicalOr, ReadsOptional, Strict, Takes, is_strict};
+    ghost use Rattle.rpki_der.specs.Views.{Lenient, NotCanonicalOr, ReadsOptional, Strict, Takes, is_strict, left};
     ghost use Rattle.rpki_ip.specs.Families.{bits_of};
     ghost use Rattle.rpki_ipblock.specs.BlockDer.{IsBlockWithin, IsIpBlockDer, IsSetIpBlock, ip_block_der};
     ghost use Rattle.rpki_ipblock.specs.BlockReading.{ip_block_at};
+    ghost use Rattle.rpki_ipblock.specs.Blocks.{ip_bounds, new_ip_block};
+    ghost use Rattle.rpki_ipblock.specs.PrintedBlocks.{IsBlock, IsBlockOf};
 
     /// Takes a block: a BIT STRING is a Prefix, and a SEQUENCE of two a Range, in that form. None at the end, and there
     /// alone.
@@ -38,6 +41,11 @@ impl IpBlock {
             (ReadsOptional (IsIpBlockDer 128) (λ block. block) cursor.old cursor.new result) }
         ensures exact { Lenient cursor.old
             (Takes (λ block. block) cursor.old cursor.new result (optional (ip_block_at 128))) }
+        // What is written of a block is read as that block, whatever follows it; strictly, of one in new form.
+        ensures reads_back { (block : IpBlock) (rest : List ℕ) → IsBlock block
+            → (is_strict cursor.old ≡ true → IsNew ip_bounds new_ip_block block)
+            → left cursor.old ≡ ip_block_der block ++ rest
+            → (result ≡ Ok (Some block)) × (left cursor.new ≡ rest) }
         // A strict cursor takes what is written of a block that sets have.
         ensures strict { Strict cursor.old
             (ReadsOptional (Spells (IsSetIpBlock 128) ip_block_der) (λ block. block) cursor.old
@@ -60,6 +68,11 @@ impl IpBlock {
         ensures exact { Lenient cursor.old
             (Takes (λ block. block) cursor.old cursor.new result
             (optional (ip_block_at (bits_of family)))) }
+        // What is written of a block is read as that block, whatever follows it; strictly, of one in new form.
+        ensures reads_back { (block : IpBlock) (rest : List ℕ) → IsBlockOf family block
+            → (is_strict cursor.old ≡ true → IsNew ip_bounds new_ip_block block)
+            → left cursor.old ≡ ip_block_der block ++ rest
+            → (result ≡ Ok (Some block)) × (left cursor.new ≡ rest) }
         // A strict cursor takes what is written of a block that sets of the family have.
         ensures strict { Strict cursor.old
             (ReadsOptional (Spells (IsSetIpBlock (bits_of family)) ip_block_der) (λ block. block)
@@ -91,6 +104,7 @@ impl IpBlock {
             → IsOk result }
         ensures capacity { vec_capacity out.old ≤ vec_capacity out.new }
         ensures within { IsBlockWithin 128 self.now }
+        ensures block { IsBlock self.now }
         // It is read back, whatever follows it, where its bounds need no more bits than the limit.
         ensures read_back { (limit : ℕ) (rest : List ℕ) → limit ≤ 128 → IsBlockWithin limit self.now
             → ip_block_at limit (ip_block_der self.now ++ rest) ≡ Ok (self.now, rest) }

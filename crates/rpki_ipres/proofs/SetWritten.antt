@@ -1,11 +1,10 @@
 -- What is written of sets of addresses, and that it is read back.
-use Rattle.std.proofs.Common.{◌≡◌, ℕ, ◌+◌, ◌-◌, ◌%◌, ◌^◌, ◌<◌, ◌≤◌, ◌↔◌, false, eqb, List, [], ◌∷◌, ◌++◌, length, map, sym, ap, subst, ◌∙◌, arith, inl, inr}
+use Rattle.std.proofs.Common.{◌≡◌, ℕ, ◌+◌, ◌-◌, ◌%◌, ◌^◌, ◌<◌, ◌≤◌, ◌↔◌, false, eqb, List, [], ◌∷◌, ◌++◌, length, map, sym, ap, subst, ◌∙◌, arith}
 use Rattle.std.specs.List.{AllByRecursion}
-use Rattle.std.proofs.lemmas.Bool.{cases_lt}
 use Rattle.std.proofs.lemmas.List.{length-append}
 use Rattle.std.proofs.lemmas.List.Elements.{recursion_from_All}
 use Rattle.std.proofs.lemmas.List.Folds.{flat_map-map}
-use Rattle.std.proofs.lemmas.Nat.{pow_below, pow_pos}
+use Rattle.std.proofs.lemmas.Nat.{pow_pos}
 use Rattle.rpki_chain.specs.Runs.{Runs, Holds, IsRunsOfBlocks}
 use Rattle.rpki_blocks.specs.Sets.{Covers}
 use Rattle.rpki_chain.proofs.RunLists.{IsRunsOf-unique, same_numbers}
@@ -20,7 +19,7 @@ use Rattle.rpki_ip.specs.Families.{bits_of}
 use Rattle.rpki_ip.specs.FamilyDer.{family_der}
 use Rattle.rpki_ip.specs.RangeDer.{IsRangeWithin}
 use Rattle.rpki_ip.specs.Whole.{HasWholeBounds}
-use Rattle.rpki_cover.proofs.Multiples.{IsMultiple, mod_multiple, multiple_diff, multiple_least}
+use Rattle.rpki_ip.proofs.DerWritten.{few_bits}
 use Rattle.rpki_ipblock.specs.BlockDer.{IsBlockWithin, IsIpBlockDer, ip_block_der}
 use Rattle.rpki_ipblock.specs.PrintedBlocks.{IsBlock}
 use Rattle.rpki_ipblock.specs.BlockForms.{new_ip_block_bounds}
@@ -41,18 +40,6 @@ use Rattle.rpki_ipres.proofs.WholeLemmas.{whole_runs}
 -- the run is a range whose bounds need no more bits than the limit
 abbrev pub IsRunWithin : ℕ → ℕ × ℕ → Type 0
 IsRunWithin limit run = IsRangeWithin limit (record { min = run.0; max = run.1 })
-
--- a prefix whose first number and whose next one are multiples has no more bits than the limit
-few_bits : (limit len first next : ℕ) → limit ≤ 128 → len ≤ 128 → first % 2 ^ (128 - limit) ≡ 0 → next % 2 ^ (128 - limit) ≡ 0 → first < next → first + 2 ^ (128 - len) ≡ next → len ≤ limit
-few_bits limit len first next le short low high some count = elim (cases_lt limit len) [
-  | inr enough ↦ enough
-  | inl long ↦ absurd (
-      let apart : IsMultiple (2 ^ (128 - limit)) (next - first) = multiple_diff (2 ^ (128 - limit)) first next (mod_multiple (128 - limit) first low) (mod_multiple (128 - limit) next high) in
-      let e : next - first ≡ (next - first - 1) + 1 = omega (arith, some) in
-      let least : 2 ^ (128 - limit) ≤ (next - first - 1) + 1 = multiple_least (2 ^ (128 - limit)) (next - first - 1) (subst (λ n. IsMultiple (2 ^ (128 - limit)) n) e apart) in
-      let below : 2 ^ (128 - len) < 2 ^ (128 - limit) = pow_below (128 - len) (128 - limit) (omega (arith, long, short)) in
-      omega (arith, below, least, count, some))
-]
 
 -- the block of a run
 pub made_within : (limit : ℕ) (run : ℕ × ℕ) (block : IpBlock) → limit ≤ 128 → ip_bounds block ≡ run → IsBlock block → IsRunWithin limit run → IsBlockWithin limit block
@@ -86,7 +73,7 @@ family_written family (run ∷ set) some = ap (λ (t : List ℕ). sequence_value
 
 -- they stand for the set
 pub blocks_say : (set : Runs) → IsIpSet set → IsRunsOfBlocks ip_bounds (map new_ip_block set) set
-blocks_say = made_of_set ip_bounds new_ip_block 340282366920938463463374607431768211455 (λ b ordered to. new_ip_block_bounds b)
+blocks_say = made_of_set ip_bounds new_ip_block 0 340282366920938463463374607431768211455 (λ b from ordered to. new_ip_block_bounds b)
 
 -- blocks stand for one set
 pub one_set : (blocks : List IpBlock) (a b : Runs) → IsRunsOfBlocks ip_bounds blocks a → IsRunsOfBlocks ip_bounds blocks b → a ≡ b

@@ -11,7 +11,8 @@ use Rattle.rpki_chain.specs.declared.path.Overclaim.TheVariants.{Refuse, Trim}
 use Rattle.rpki_chain.specs.declared.path.PathRefusal.{PathRefusal}
 use Rattle.rpki_chain.specs.declared.path.Step.{Step}
 use Rattle.rpki_ip.specs.Whole.{IsWhole}
-use Rattle.rpki_ipres.specs.Resources.{IsWholeClaim}
+use Rattle.rpki_ip.specs.declared.family.AddressFamily.TheVariants.{Ipv4}
+use Rattle.rpki_ipres.specs.Resources.{IsFamilyClaim, IsIpClaim, IsWholeClaim}
 
 -- what a whole claim lists, and what it leaves, is whole
 whole_lists : (claim : Claim) → IsWholeClaim claim → IsWhole (Lists claim)
@@ -58,3 +59,14 @@ whole_refusal set steps refusal own whole h = whole_members _ refusal.fault h.ex
       (whole_left set (take refusal.step steps) own (All-take (λ (s : Step Claim). IsWholeClaim s.claim) refusal.step steps whole))
       (subst (λ (s : Step Claim). IsWholeClaim s.claim) is (whole refusal.step step lt)) m n same e,
 ))
+
+-- whole claims on addresses are those of IPv4
+pub v4_is_whole : (claim : Claim) → IsFamilyClaim Ipv4 claim → IsWholeClaim claim
+v4_is_whole Missing is = tt
+v4_is_whole Inherit is = tt
+v4_is_whole (Blocks runs) is = is.0.1
+
+pub whole_is_v4 : (claim : Claim) → IsIpClaim claim → IsWholeClaim claim → IsFamilyClaim Ipv4 claim
+whole_is_v4 Missing is whole = tt
+whole_is_v4 Inherit is whole = tt
+whole_is_v4 (Blocks runs) (is, some) whole = ((is, whole), some)

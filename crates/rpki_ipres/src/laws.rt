@@ -8,8 +8,9 @@ ghost use Rattle.rpki_chain.specs.declared.path.Overclaim.{Overclaim};
 ghost use Rattle.rpki_chain.specs.declared.path.PathRefusal.{PathRefusal};
 ghost use Rattle.rpki_chain.specs.declared.path.Step.{Step};
 ghost use Rattle.rpki_ip.specs.Whole.{IsWhole};
+ghost use Rattle.rpki_ip.specs.declared.family.AddressFamily.TheVariants.{Ipv4, Ipv6};
 ghost use Rattle.rpki_ipblock.specs.ListText.{HasBlocks, HasIpBlocks};
-ghost use Rattle.rpki_ipres.specs.Resources.{IsWholeClaim};
+ghost use Rattle.rpki_ipres.specs.Resources.{IsFamilyClaim, IsIpClaim, IsWholeClaim};
 ghost use Rattle.rpki_ipres.specs.SetText.{IsFamilySet, IsSetOf, set_text};
 
 /// The union, the intersection and the difference of sets of whole IPv4 addresses consist of whole IPv4 addresses.
@@ -43,6 +44,13 @@ pub fn laws_of_whole_claims()
         All (λ step. IsWholeClaim step.claim) steps
         → IsFirstRefusal (λ claim. claim) (Holds set) steps refusal →
         IsWhole (Holds refusal.fault) }
+{}
+
+/// Resources of addresses are resources of IPv6, and of IPv4 exactly where what they list consists of whole IPv4 addresses.
+pub fn claims_of_families()
+    ensures v4 { (claim : Claim) → IsIpClaim claim → IsWholeClaim claim → IsFamilyClaim Ipv4 claim }
+    ensures whole { (claim : Claim) → IsFamilyClaim Ipv4 claim → IsWholeClaim claim }
+    ensures v6 { (claim : Claim) → IsIpClaim claim → IsFamilyClaim Ipv6 claim }
 {}
 
 /// What is printed of a set of a family is a list of that family that writes the set, and a list that tells no family

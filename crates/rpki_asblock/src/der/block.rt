@@ -15,13 +15,15 @@ use rpki_der::{Content, Cursor, DerError, append_header, header_len, tag};
 use std::alloc::{AllocError, Allocator};
 
 impl AsBlock {
-    ghost use Rattle.std.specs.Prelude.{◌≡◌, ℕ, List, Ok, ◌≤◌, ◌+◌, ◌++◌, length, vec_len, OnOk, OnErr, IsOk};
+    ghost use Rattle.std.specs.Prelude.{◌≡◌, ℕ, List, Ok, Some, true, ◌≤◌, ◌+◌, ◌++◌, length, vec_len, OnOk, OnErr, IsOk};
     ghost use Rattle.std.specs.Vec.{vec_capacity};
+    ghost use Rattle.rpki_blocks.specs.Sets.{IsNew};
     ghost use Rattle.rpki_der.specs.Der.{Spells};
     ghost use Rattle.rpki_der.specs.Reading.{optional};
-    ghost use Rattle.rpki_der.specs.Views.{Lenient, NotCanonicalOr, ReadsOptional, Strict, Takes, is_strict};
-    ghost use Rattle.rpki_asblock.specs.AsDer.{IsAsBlock, IsBlockInAnyOrder, IsSetBlock, as_block_octets};
+    ghost use Rattle.rpki_der.specs.Views.{Lenient, NotCanonicalOr, ReadsOptional, Strict, Takes, is_strict, left};
+    ghost use Rattle.rpki_asblock.specs.AsDer.{HasAsNumbers, IsAsBlock, IsBlockInAnyOrder, IsSetBlock, as_block_octets};
     ghost use Rattle.rpki_asblock.specs.AsDerReading.{as_block_at, as_block_by, skip_block_at};
+    ghost use Rattle.rpki_asblock.specs.Blocks.{as_bounds, new_as_block};
 
     /// Takes the next block; None at the end, and there alone.
     ///
@@ -33,6 +35,11 @@ impl AsBlock {
             (ReadsOptional IsAsBlock (λ block. block) cursor.old cursor.new result) }
         ensures exact { Lenient cursor.old
             (Takes (λ block. block) cursor.old cursor.new result (optional as_block_at)) }
+        // What is written of a block is read as that block, whatever follows it; strictly, of one in new form.
+        ensures reads_back { (block : AsBlock) (rest : List ℕ) → HasAsNumbers block
+            → (is_strict cursor.old ≡ true → IsNew as_bounds new_as_block block)
+            → left cursor.old ≡ as_block_octets block ++ rest
+            → (result ≡ Ok (Some block)) × (left cursor.new ≡ rest) }
         // A strict cursor takes what is written of a block that sets have.
         ensures strict { Strict cursor.old
             (ReadsOptional (Spells IsSetBlock as_block_octets) (λ block. block) cursor.old
@@ -78,6 +85,7 @@ impl AsBlock {
         ensures succeeds { vec_len out.old + length (as_block_octets self.now)
             ≤ vec_capacity out.old → IsOk result }
         ensures capacity { vec_capacity out.old ≤ vec_capacity out.new }
+        ensures numbers { HasAsNumbers self.now }
         // It is read back, whatever follows it.
         ensures read_back { (rest : List ℕ)
             → as_block_at (as_block_octets self.now ++ rest) ≡ Ok (self.now, rest) }

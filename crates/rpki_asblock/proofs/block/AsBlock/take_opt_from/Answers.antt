@@ -9,7 +9,7 @@ use Rattle.rpki_asblock.specs.AsDer.{IsAsBlock, IsSetBlock, as_block_octets}
 use Rattle.rpki_asblock.specs.AsDerLaws.{as_block_reading}
 use Rattle.rpki_asblock.specs.AsDerModes.{IsStrictBlock, as_block_modal}
 use Rattle.rpki_asblock.specs.AsDerReading.{as_block_at, as_block_by}
-use Rattle.rpki_asblock.proofs.AsDerLemmas.{set_block_reading}
+use Rattle.rpki_asblock.proofs.AsDerLemmas.{block_back, set_block_reading}
 use Rattle.rpki_asblock.proofs.block.AsBlock.take_opt_from.Goals as goal
 
 exact : goal.returns-clause-exact
@@ -28,3 +28,6 @@ returns-clause-strict c strict =
 
 pub returns-clause-refused : goal.returns-clause-refused
 returns-clause-refused c = refused_optional_by IsAsBlock IsStrictBlock as_block_at as_block_by (λ block. block) c.args.cursor.now c.next_opt.new.cursor c.next_opt.result as_block_reading as_block_modal c.next_opt.ensures.by_mode
+
+pub returns-clause-reads_back : goal.returns-clause-reads_back
+returns-clause-reads_back c = block_back c.args.cursor.now c.next_opt.new.cursor c.next_opt.result c.next_opt.ensures.by_mode

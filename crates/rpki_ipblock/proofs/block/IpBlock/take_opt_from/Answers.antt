@@ -5,11 +5,13 @@ use Rattle.rpki_der.specs.Der.{Spells}
 use Rattle.rpki_der.specs.Reading.{optional}
 use Rattle.rpki_der.specs.Views.{Takes}
 use Rattle.rpki_der.proofs.Modes.{exact_optional_by, refused_optional_by}
+use Rattle.rpki_ip.specs.declared.family.AddressFamily.TheVariants.{Ipv6}
 use Rattle.rpki_ipblock.specs.BlockDer.{IsIpBlockDer, IsSetIpBlock, ip_block_der}
 use Rattle.rpki_ipblock.specs.BlockModes.{IsStrictIpBlock, ip_block_modal}
 use Rattle.rpki_ipblock.specs.BlockReading.{ip_block_at, ip_block_by}
 use Rattle.rpki_ipblock.specs.BlockReadingLaws.{ip_block_reading}
 use Rattle.rpki_ipblock.proofs.BlockModes.{set_block_reading}
+use Rattle.rpki_ipblock.proofs.BlockWritten.{taken_back}
 use Rattle.rpki_ipblock.proofs.block.IpBlock.take_opt_from.Goals as goal
 
 exact : goal.returns-clause-exact
@@ -28,3 +30,6 @@ returns-clause-strict c strict =
 
 pub returns-clause-refused : goal.returns-clause-refused
 returns-clause-refused c = refused_optional_by (IsIpBlockDer 128) (IsStrictIpBlock 128) (ip_block_at 128) (λ strict. ip_block_by strict 128) (λ block. block) c.args.cursor.now c.next_opt.new.cursor c.next_opt.result (ip_block_reading 128) (ip_block_modal 128) c.next_opt.ensures.by_mode
+
+pub returns-clause-reads_back : goal.returns-clause-reads_back
+returns-clause-reads_back c = taken_back Ipv6 c.args.cursor.now c.next_opt.new.cursor c.next_opt.result c.next_opt.ensures.by_mode

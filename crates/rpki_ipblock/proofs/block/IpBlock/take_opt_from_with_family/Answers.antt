@@ -12,6 +12,7 @@ use Rattle.rpki_ipblock.specs.BlockModes.{IsStrictIpBlock, ip_block_modal}
 use Rattle.rpki_ipblock.specs.BlockReading.{ip_block_at, ip_block_by}
 use Rattle.rpki_ipblock.specs.BlockReadingLaws.{ip_block_reading}
 use Rattle.rpki_ipblock.proofs.BlockModes.{set_block_reading}
+use Rattle.rpki_ipblock.proofs.BlockWritten.{taken_back}
 use Rattle.rpki_ipblock.proofs.block.IpBlock.take_opt_from_with_family.Goals as goal
 
 exact : goal.returns-clause-exact
@@ -30,3 +31,6 @@ returns-clause-strict c strict =
 
 pub returns-clause-refused : goal.returns-clause-refused
 returns-clause-refused c = refused_optional_by (IsIpBlockDer (bits_of c.args.family)) (IsStrictIpBlock (bits_of c.args.family)) (ip_block_at (bits_of c.args.family)) (λ strict. ip_block_by strict (bits_of c.args.family)) (λ block. block) c.args.cursor.now c.next_opt.new.cursor c.next_opt.result (ip_block_reading (bits_of c.args.family)) (ip_block_modal (bits_of c.args.family)) c.next_opt.ensures.by_mode
+
+pub returns-clause-reads_back : goal.returns-clause-reads_back
+returns-clause-reads_back c = taken_back c.args.family c.args.cursor.now c.next_opt.new.cursor c.next_opt.result c.next_opt.ensures.by_mode

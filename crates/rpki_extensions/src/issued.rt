@@ -65,8 +65,7 @@ fn issued_numbers<A: Allocator + Copy>(
 {
     match issuer.verify_issued(alloc, claim, mode) {
         Ok(set) => Ok(set),
-        Err(OrMemory::Refused(excess)) => Err(OrMemory::Refused(Unverified::Asn(excess))),
-        Err(OrMemory::Memory(error)) => Err(OrMemory::Memory(error)),
+        Err(error) => Err(error.map_refused(|excess| Unverified::Asn(excess))),
     }
 }
 
@@ -98,11 +97,9 @@ fn issued_v4<A: Allocator + Copy>(
     ensures { MatchResult result (IsIssued (Holds issuer.now) claim.now mode)
         (IfRefused (IsV4Excess issuer.now claim.now mode)) }
 {
-    rpki_ipres::laws::laws_of_whole_claims(); // so that the proof sees that the answer consists of whole addresses
-    match issuer.ip_blocks().verify_issued(alloc, claim, mode) {
-        Ok(set) => Ok(Ipv4Blocks::from_ip_blocks(set)),
-        Err(OrMemory::Refused(excess)) => Err(OrMemory::Refused(Unverified::Ipv4(excess.v4()))),
-        Err(OrMemory::Memory(error)) => Err(OrMemory::Memory(error)),
+    match issuer.verify_issued(alloc, claim, mode) {
+        Ok(set) => Ok(set),
+        Err(error) => Err(error.map_refused(|excess| Unverified::Ipv4(excess))),
     }
 }
 
@@ -116,9 +113,8 @@ fn issued_v6<A: Allocator + Copy>(
     ensures { MatchResult result (IsIssued (Holds issuer.now) claim.now mode)
         (IfRefused (IsV6Excess issuer.now claim.now mode)) }
 {
-    match issuer.ip_blocks().verify_issued(alloc, claim, mode) {
-        Ok(set) => Ok(Ipv6Blocks::from_ip_blocks(set)),
-        Err(OrMemory::Refused(excess)) => Err(OrMemory::Refused(Unverified::Ipv6(excess.v6()))),
-        Err(OrMemory::Memory(error)) => Err(OrMemory::Memory(error)),
+    match issuer.verify_issued(alloc, claim, mode) {
+        Ok(set) => Ok(set),
+        Err(error) => Err(error.map_refused(|excess| Unverified::Ipv6(excess))),
     }
 }

@@ -1,8 +1,8 @@
 #!/usr/bin/env python3
 """Compares what the programs answered with what the reference beside this file answers.
 
-Without options it answers each stored line of the programs of rows, of `holdings` and of
-`growth_origin`. With --random SEED COUNT it makes so many lines of each command of `respath`, and
+Without options it answers each stored line of the programs of rows, of `holdings`, `verified_set`
+and `growth_origin`. With --random SEED COUNT it makes so many lines of each command of `respath`, and
 asks the built program.
 What the reference doesn't say is counted and named. Status 1 where an answer differs.
 """
@@ -97,6 +97,18 @@ def compare_holdings() -> bool:
     return comparison.tell("holdings")
 
 
+def compare_verified_set() -> bool:
+    """Compares what `verified_set` prints of the issuer and the files that it is run with."""
+    comparison = Comparison()
+    folder = CRATES / "verified_set"
+    *lists, numbers, addresses = lines_of(folder / "args")
+    octets = [(folder / "data" / name).read_bytes().hex() for name in (numbers, addresses)]
+    line = f"verified_octets {' ; '.join(lists)} | canonical-refuse {' '.join(octets)}"
+    (found,) = lines_of(folder / "stdout")
+    comparison.add("verified_set/args", line, calls_of_callers.answer(line), found)
+    return comparison.tell("verified_set")
+
+
 def compare_growth_origin() -> bool:
     """Compares what `growth_origin` prints for the pairs of numbers that it is run with."""
     comparison = Comparison()
@@ -113,7 +125,7 @@ def compare_stored() -> bool:
     """Compares all stored answers of the programs that there are."""
     there = [name for name in PROGRAMS if (CRATES / name / "stdin").exists()]
     results = [compare_program(name, PROGRAMS[name]) for name in there]
-    return all([*results, compare_holdings(), compare_growth_origin()])
+    return all([*results, compare_holdings(), compare_verified_set(), compare_growth_origin()])
 
 
 def ask(program: Path, asked: list[bytes]) -> list[str]:

@@ -43,7 +43,7 @@ pub fn holds_where_refused<F: Fn(&Refusing) -> Result<bool, AllocError>>(
 ) -> bool
     requires { F.IsAlwaysCallable run }
 {
-    let refused = refuse_in_turn(alloc, 100, |refusing: &Refusing| outcome(run(refusing)));
+    let refused = refuse_in_turn(alloc, 1000, |refusing: &Refusing| outcome(run(refusing)));
     matches!(refused, Ok(number) if number > 0)
 }
 

@@ -32,37 +32,32 @@ fn claims_are_copied(rt: HostRuntime) {
 
 // ---- faults
 
-/// The fault of a claim of AS numbers whose issuer has nothing.
-fn as_excess<A: Allocator + Copy>(alloc: A) -> Result<OverclaimedAsResources<A>, AllocError> {
+fn as_copy_is_same<A: Allocator>(fault: &OverclaimedAsResources<A>) -> Result<bool, AllocError> {
+    let copy = fault.clone()?;
+    Ok(copy == *fault)
+}
+
+/// Whether the fault of a set of AS numbers whose issuer has nothing is copied.
+fn as_fault<A: Allocator + Copy>(alloc: A) -> Result<bool, AllocError> {
     let set = as_set(alloc, "AS1, AS3-AS5")?;
     match set.verify_covered(alloc, &AsResources::missing()) {
-        Err(OrMemory::Refused(fault)) => Ok(fault),
-        _ => Err(AllocError),
+        Ok(()) => Ok(false),
+        Err(OrMemory::Refused(fault)) => as_copy_is_same(&fault),
+        Err(OrMemory::Memory(error)) => Err(error),
     }
 }
 
-fn as_fault<A: Allocator + Copy>(alloc: A) -> Result<bool, AllocError> {
-    let fault = as_excess(alloc)?;
-    let copy = fault.clone()?;
-    Ok(copy == fault)
+/// What is copied of a fault.
+#[derive(Clone, Copy)]
+enum Copied {
+    Either,
+    V4,
+    V6,
 }
 
-/// The fault of a claim of addresses whose issuer has nothing.
-fn ip_excess<A: Allocator + Copy>(
-    alloc: A,
-    list: &str,
-) -> Result<OverclaimedIpResources<A>, AllocError> {
-    let set = ip_set(alloc, list)?;
-    match set.verify_covered(alloc, &IpResources::missing()) {
-        Err(OrMemory::Refused(fault)) => Ok(fault),
-        _ => Err(AllocError),
-    }
-}
-
-fn ip_fault<A: Allocator + Copy>(alloc: A) -> Result<bool, AllocError> {
-    let fault = ip_excess(alloc, "2001:db8::/32, ::1")?;
+fn copy_is_same<A: Allocator>(fault: &OverclaimedIpResources<A>) -> Result<bool, AllocError> {
     let copy = fault.clone()?;
-    Ok(copy == fault)
+    Ok(copy == *fault)
 }
 
 fn v4_copy_is_same<A: Allocator>(fault: &OverclaimedIpv4Resources<A>) -> Result<bool, AllocError> {
@@ -70,30 +65,44 @@ fn v4_copy_is_same<A: Allocator>(fault: &OverclaimedIpv4Resources<A>) -> Result<
     Ok(copy == *fault)
 }
 
-fn v4_fault<A: Allocator + Copy>(alloc: A) -> Result<bool, AllocError> {
-    let fault = ip_excess(alloc, "10.0.0.0/8, 12.0.0.0")?;
-    if !fault.excess().is_whole_v4() {
-        return Ok(false);
-    }
-    v4_copy_is_same(&fault.v4())
-}
-
 fn v6_copy_is_same<A: Allocator>(fault: &OverclaimedIpv6Resources<A>) -> Result<bool, AllocError> {
     let copy = fault.clone()?;
     Ok(copy == *fault)
 }
 
-fn v6_fault<A: Allocator + Copy>(alloc: A) -> Result<bool, AllocError> {
-    let fault = ip_excess(alloc, "::1, 2001:db8::/32")?;
-    v6_copy_is_same(&fault.v6())
+fn copies<A: Allocator>(
+    copied: Copied,
+    fault: OverclaimedIpResources<A>,
+) -> Result<bool, AllocError> {
+    match copied {
+        Copied::Either => copy_is_same(&fault),
+        Copied::V4 if fault.excess().is_whole_v4() => v4_copy_is_same(&fault.v4()),
+        Copied::V4 => Ok(false),
+        Copied::V6 => v6_copy_is_same(&fault.v6()),
+    }
+}
+
+/// Whether the fault of a set of addresses whose issuer has nothing is copied.
+fn ip_fault<A: Allocator + Copy>(alloc: A, copied: Copied) -> Result<bool, AllocError> {
+    let set = ip_set(alloc, "10.0.0.0/8, 12.0.0.0")?;
+    match set.verify_covered(alloc, &IpResources::missing()) {
+        Ok(()) => Ok(false),
+        Err(OrMemory::Refused(fault)) => copies(copied, fault),
+        Err(OrMemory::Memory(error)) => Err(error),
+    }
 }
 
 #[test]
 fn faults_are_copied(rt: HostRuntime) {
     assert!(rt; holds_where_refused(rt.alloc(), |refusing: &Refusing| as_fault(refusing)));
-    assert!(rt; holds_where_refused(rt.alloc(), |refusing: &Refusing| ip_fault(refusing)));
-    assert!(rt; holds_where_refused(rt.alloc(), |refusing: &Refusing| v4_fault(refusing)));
-    assert!(rt; holds_where_refused(rt.alloc(), |refusing: &Refusing| v6_fault(refusing)));
+    for copied in &[Copied::Either, Copied::V4, Copied::V6] {
+        assert!(rt;
+            holds_where_refused(
+                rt.alloc(),
+                |refusing: &Refusing| ip_fault(refusing, *copied)
+            )
+        );
+    }
 }
 
 // ---- differences

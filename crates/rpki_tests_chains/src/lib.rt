@@ -16,4 +16,6 @@ mod operations;
 #[cfg(test)]
 mod small_sets;
 #[cfg(test)]
+mod unasked;
+#[cfg(test)]
 mod vectors;

@@ -1,5 +1,7 @@
-// Sets that tests are made of. A list that is none is a fault of the test, which fails then.
+// Sets that tests are made of. A list that is refused gives the empty set: where a request was refused too, the run then
+// ends as though none was, and fails.
 use rpki_as::blocks::AsBlocks;
+use rpki_base::memory::OrMemory;
 use rpki_ipres::blocks::IpBlocks;
 use rpki_resources::repository::resources::ResourceSet;
 use std::alloc::{AllocError, Allocator};
@@ -8,7 +10,8 @@ use std::alloc::{AllocError, Allocator};
 pub fn as_set<A: Allocator + Copy>(alloc: A, list: &str) -> Result<AsBlocks<A>, AllocError> {
     match AsBlocks::from_str(alloc, list) {
         Ok(set) => Ok(set),
-        Err(_) => Err(AllocError),
+        Err(OrMemory::Memory(error)) => Err(error),
+        Err(OrMemory::Refused(_)) => Ok(AsBlocks::empty()),
     }
 }
 
@@ -16,7 +19,8 @@ pub fn as_set<A: Allocator + Copy>(alloc: A, list: &str) -> Result<AsBlocks<A>, 
 pub fn ip_set<A: Allocator + Copy>(alloc: A, list: &str) -> Result<IpBlocks<A>, AllocError> {
     match IpBlocks::from_str(alloc, list) {
         Ok(set) => Ok(set),
-        Err(_) => Err(AllocError),
+        Err(OrMemory::Memory(error)) => Err(error),
+        Err(OrMemory::Refused(_)) => Ok(IpBlocks::empty()),
     }
 }
 
@@ -30,6 +34,7 @@ pub fn resources<A: Allocator + Copy>(
 ) -> Result<ResourceSet<A>, AllocError> {
     match ResourceSet::from_strs(alloc, lists.0, lists.1, lists.2) {
         Ok(set) => Ok(set),
-        Err(_) => Err(AllocError),
+        Err(OrMemory::Memory(error)) => Err(error),
+        Err(OrMemory::Refused(_)) => Ok(ResourceSet::empty()),
     }
 }

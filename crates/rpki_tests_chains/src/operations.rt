@@ -1,9 +1,8 @@
-// Operations on sets of one family, and on sets of all three kinds. Each run has each request for memory refused in turn.
+// Operations on sets of all three kinds, which are made of those on the set of each kind. Each run has each request for
+// memory refused in turn, and leaves both sets.
 use crate::made::{Lists, resources};
 use probing::{holds_where_refused, prints};
 use refusing::Refusing;
-use rpki_family::v4::Ipv4Blocks;
-use rpki_family::v6::Ipv6Blocks;
 use rpki_resources::repository::resources::ResourceSet;
 use std::alloc::{AllocError, Allocator};
 
@@ -11,103 +10,45 @@ use std::alloc::{AllocError, Allocator};
 enum Operation {
     Union,
     Intersection,
-    Difference,
+    /// What the second set doesn't have.
+    Added,
+    All,
+    Copy,
 }
 
-// ---- IPv4
+const OWN: Lists = ("AS1-AS5", "10.0.0.0/8, 13.0.0.0", "::1, 2001:db8::/32");
 
-fn v4_set<A: Allocator + Copy>(alloc: A, list: &str) -> Result<Ipv4Blocks<A>, AllocError> {
-    match Ipv4Blocks::from_str(alloc, list) {
-        Ok(set) => Ok(set),
-        Err(_) => Err(AllocError),
-    }
-}
+const OTHER: Lists = (
+    "AS4-AS9",
+    "10.128.0.0/9, 14.0.0.0/8",
+    "2001:db8:8000::/33, 2001:dba::/32",
+);
 
-fn v4_prints<A: Allocator + Copy>(
-    alloc: A,
-    row: &(Operation, &str),
-    own: &Ipv4Blocks<A>,
-    other: &Ipv4Blocks<A>,
-) -> Result<bool, AllocError> {
-    let made = match row.0 {
-        Operation::Union => own.union(alloc, other)?,
-        Operation::Intersection => own.intersection(alloc, other)?,
-        Operation::Difference => own.difference(alloc, other)?,
-    };
-    prints(alloc, &made, row.1)
-}
-
-fn v4_is_right<A: Allocator + Copy>(alloc: A, row: &(Operation, &str)) -> Result<bool, AllocError> {
-    let own = v4_set(alloc, "10.0.0.0/8, 13.0.0.0")?;
-    let other = v4_set(alloc, "10.128.0.0/9, 11.0.0.0/8")?;
-    v4_prints(alloc, row, &own, &other)
-}
-
-const OF_IPV4: [(Operation, &str); 3] = [
-    (Operation::Union, "10.0.0.0/7, 13.0.0.0"),
-    (Operation::Intersection, "10.128.0.0/9"),
-    (Operation::Difference, "10.0.0.0/9, 13.0.0.0"),
+const GIVEN: [(Operation, Lists); 5] = [
+    (
+        Operation::Union,
+        (
+            "AS1-AS9",
+            "10.0.0.0/8, 13.0.0.0, 14.0.0.0/8",
+            "::1, 2001:db8::/32, 2001:dba::/32",
+        ),
+    ),
+    (
+        Operation::Intersection,
+        ("AS4-AS5", "10.128.0.0/9", "2001:db8:8000::/33"),
+    ),
+    (
+        Operation::Added,
+        ("AS1-AS3", "10.0.0.0/9, 13.0.0.0", "::1, 2001:db8::/33"),
+    ),
+    (Operation::All, ("AS0-AS4294967295", "0.0.0.0/0", "::/0")),
+    (Operation::Copy, OWN),
 ];
-
-#[test]
-fn sets_of_ipv4(rt: HostRuntime) {
-    for row in &OF_IPV4 {
-        assert!(rt;
-            holds_where_refused(rt.alloc(), |refusing: &Refusing| v4_is_right(refusing, row))
-        );
-    }
-}
-
-// ---- IPv6
-
-fn v6_set<A: Allocator + Copy>(alloc: A, list: &str) -> Result<Ipv6Blocks<A>, AllocError> {
-    match Ipv6Blocks::from_str(alloc, list) {
-        Ok(set) => Ok(set),
-        Err(_) => Err(AllocError),
-    }
-}
-
-fn v6_prints<A: Allocator + Copy>(
-    alloc: A,
-    row: &(Operation, &str),
-    own: &Ipv6Blocks<A>,
-    other: &Ipv6Blocks<A>,
-) -> Result<bool, AllocError> {
-    let made = match row.0 {
-        Operation::Union => own.union(alloc, other)?,
-        Operation::Intersection => own.intersection(alloc, other)?,
-        Operation::Difference => own.difference(alloc, other)?,
-    };
-    prints(alloc, &made, row.1)
-}
-
-fn v6_is_right<A: Allocator + Copy>(alloc: A, row: &(Operation, &str)) -> Result<bool, AllocError> {
-    let own = v6_set(alloc, "::1, 2001:db8::/32")?;
-    let other = v6_set(alloc, "2001:db8:8000::/33, 2001:db9::/32")?;
-    v6_prints(alloc, row, &own, &other)
-}
-
-const OF_IPV6: [(Operation, &str); 3] = [
-    (Operation::Union, "::1, 2001:db8::/31"),
-    (Operation::Intersection, "2001:db8:8000::/33"),
-    (Operation::Difference, "::1, 2001:db8::/33"),
-];
-
-#[test]
-fn sets_of_ipv6(rt: HostRuntime) {
-    for row in &OF_IPV6 {
-        assert!(rt;
-            holds_where_refused(rt.alloc(), |refusing: &Refusing| v6_is_right(refusing, row))
-        );
-    }
-}
-
-// ---- all three kinds
 
 fn has<A: Allocator + Copy>(
     alloc: A,
     set: &ResourceSet<A>,
-    lists: Lists,
+    lists: &Lists,
 ) -> Result<bool, AllocError> {
     let has_asns = prints(alloc, set.asn(), lists.0)?;
     let has_v4 = prints(alloc, set.ipv4(), lists.1)?;
@@ -115,26 +56,57 @@ fn has<A: Allocator + Copy>(
     Ok(has_asns && has_v4 && has_v6)
 }
 
-fn union_is_right<A: Allocator + Copy>(
+fn given<A: Allocator + Copy>(
     alloc: A,
+    operation: Operation,
+    own: &ResourceSet<A>,
+    other: &ResourceSet<A>,
+) -> Result<ResourceSet<A>, AllocError> {
+    match operation {
+        Operation::Union => own.union(alloc, other),
+        Operation::Intersection => own.intersection(alloc, other),
+        Operation::Added => own.difference(alloc, other)?.added().clone(),
+        Operation::All => ResourceSet::all(alloc),
+        Operation::Copy => own.clone(),
+    }
+}
+
+fn gives<A: Allocator + Copy>(
+    alloc: A,
+    row: &(Operation, Lists),
     own: &ResourceSet<A>,
     other: &ResourceSet<A>,
 ) -> Result<bool, AllocError> {
-    let union = own.union(alloc, other)?;
-    has(
-        alloc,
-        &union,
-        ("AS1-AS9", "10.0.0.0/7", "::1, 2001:db8::/31"),
-    )
+    match given(alloc, row.0, own, other) {
+        Ok(set) => has(alloc, &set, &row.1),
+        Err(error) => Err(error),
+    }
 }
 
-fn sets_are_united<A: Allocator + Copy>(alloc: A) -> Result<bool, AllocError> {
-    let own = resources(alloc, ("AS1-AS5", "10.0.0.0/8", "::1, 2001:db8::/32"))?;
-    let other = resources(alloc, ("AS4-AS9", "11.0.0.0/8", "2001:db9::/32"))?;
-    union_is_right(alloc, &own, &other)
+/// What comes of an operation, where it has left both sets.
+fn leaves<A: Allocator + Copy>(
+    alloc: A,
+    row: &(Operation, Lists),
+    own: &ResourceSet<A>,
+    other: &ResourceSet<A>,
+) -> Result<bool, AllocError> {
+    let is_given = gives(alloc, row, own, other);
+    if has(alloc, own, &OWN)? && has(alloc, other, &OTHER)? {
+        is_given
+    } else {
+        Ok(false)
+    }
+}
+
+fn is_right<A: Allocator + Copy>(alloc: A, row: &(Operation, Lists)) -> Result<bool, AllocError> {
+    let own = resources(alloc, OWN)?;
+    let other = resources(alloc, OTHER)?;
+    leaves(alloc, row, &own, &other)
 }
 
 #[test]
 fn sets_of_all_kinds(rt: HostRuntime) {
-    assert!(rt; holds_where_refused(rt.alloc(), |refusing: &Refusing| sets_are_united(refusing)));
+    for row in &GIVEN {
+        assert!(rt; holds_where_refused(rt.alloc(), |refusing: &Refusing| is_right(refusing, row)));
+    }
 }

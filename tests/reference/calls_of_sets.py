@@ -92,7 +92,14 @@ def _long(question: str, text: str) -> str:
     def shown(numbers: Set) -> str:
         return f"{len(numbers)} blocks"
 
+    def families() -> str:
+        return f"{len(resources.written_families(resources.Families(None, fourths)))} octets"
+
     answers: dict[str, Callable[[], str]] = {
+        "as": lambda: f"{len(sets.union(fourths, others))} numbers",
+        "v6": lambda: shown(sets.union(fourths, others)),
+        "families": families,
+        "from_blocks": lambda: shown(fourths),
         "contains": lambda: truth(not sets.meets(fourths, [(n + 1, n + 1) for n, _ in fourths])),
         "union": lambda: shown(sets.union(fourths, others)),
         "difference": lambda: truth(sets.difference(fourths, others) == fourths),

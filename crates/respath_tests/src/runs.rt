@@ -46,9 +46,6 @@ const LONG: Row = Row {
         error: unknown command\nerror: unknown command\nerror: unknown command\n",
 };
 
-/// How long the beginnings of the output of several lines are that end a line, and the empty one.
-const ENDS: [usize; 6] = [0, 8, 31, 48, 94, 98];
-
 /// Stops the test where a run wasn't as it must be.
 fn check(rt: &impl Abort, is_right: bool, devices: Devices, number: u64) {
     assert!(rt; is_right, "{devices:?} devices, {number}");
@@ -167,22 +164,46 @@ fn a_sink_that_fills_up_is_a_fault(rt: HostRuntime) {
     }
 }
 
+/// The worked run of the program.
+const WORKED: Row = Row {
+    input: b"norm as aS5, 3, +4,AS4294967295,, AS7-AS7\nnorm as AS2-AS1\nnorm as\nnorm v5 1\n",
+    output: b"AS3-AS5, AS7, AS4294967295\nerror: Bad AS range. Expected format: AS#-AS#\n\n\
+        error: unknown kind\n",
+};
+
+/// Whether the answers of some first lines were written, each whole.
+fn are_whole_lines(seen: &Seen, row: &Row) -> bool {
+    let is_ended = match seen.written.checked_sub(1) {
+        Some(last) => row.output.get(last) == Some(&b'\n'),
+        None => true,
+    };
+    seen.begins && is_ended
+}
+
 /// How a run ended that may have been refused a request: then only the answers of some first lines were written, and
 /// nothing was flushed.
-fn outcome(refusing: &Refusing<Global>) -> Outcome {
-    let seen = run_own(refusing, &LINES, Habits::GOOD, Habits::GOOD);
-    let is_beginning = seen.begins && ENDS.contains(&seen.written);
+fn outcome(refusing: &Refusing<Global>, row: &Row) -> Outcome {
+    let seen = run_own(refusing, row, Habits::GOOD, Habits::GOOD);
     match seen.ended {
-        Ok(()) if is_whole(&seen, &LINES) => Outcome::Expected,
-        Err(RunError::Memory) if is_beginning && !seen.flushed => Outcome::OutOfMemory,
+        Ok(()) if is_whole(&seen, row) => Outcome::Expected,
+        Err(RunError::Memory) if are_whole_lines(&seen, row) && !seen.flushed => {
+            Outcome::OutOfMemory
+        }
         _ => Outcome::Unexpected,
     }
 }
 
 #[test]
 fn each_request_is_refused_in_turn(rt: HostRuntime) {
-    match refuse_in_turn(rt.alloc(), 1000, outcome) {
-        Ok(requests) => assert!(rt; requests > 10, "{requests} requests"),
-        Err(number) => assert!(rt; false, "request {number}"),
+    for row in &[LINES, WORKED] {
+        let refused = refuse_in_turn(
+            rt.alloc(),
+            1000,
+            |refusing: &Refusing<Global>| outcome(refusing, row),
+        );
+        match refused {
+            Ok(requests) => assert!(rt; requests > 10, "{requests} requests"),
+            Err(number) => assert!(rt; false, "request {number}"),
+        }
     }
 }

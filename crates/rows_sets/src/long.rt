@@ -1,22 +1,42 @@
-//! Chains of many blocks: one has each fourth number from 0 on, the other the numbers two above.
+//! Chains and sets of many blocks: one has each fourth number from 0 on, the other the numbers two above.
 use crate::chains::{Shown, owned_text, trim};
 use crate::pairs::Pair;
 use answering::print;
+use rpki_as::block::AsBlock;
+use rpki_as::blocks::AsBlocks;
+use rpki_base::asn::Asn;
 use rpki_base::number::parse_u32;
 use rpki_chain::block::Block;
 use rpki_chain::chain::Chain;
 use rpki_chain::owned::OwnedChain;
+use rpki_ip::addr::Addr;
+use rpki_ipres::block::IpBlock;
+use rpki_ipres::blocks::IpBlocks;
+use rpki_ipres::resources::IpResources;
 use std::alloc::{AllocError, Allocator};
 
-/// The answer to `long QUESTION N`, of two chains of N blocks each.
+/// The answer to `long QUESTION N`, of two chains or sets of N blocks each.
 pub fn answer<A: Allocator + Copy>(
     alloc: A,
     question: &str,
     count: &str,
 ) -> Result<String<A>, AllocError> {
     match parse_u32(count) {
-        Ok(count) => of_count(alloc, question, u64::from(count)),
+        Ok(count) => of_kind(alloc, question, count),
         Err(fault) => print::error(alloc, fault),
+    }
+}
+
+fn of_kind<A: Allocator + Copy>(
+    alloc: A,
+    question: &str,
+    count: u32,
+) -> Result<String<A>, AllocError> {
+    match question {
+        "as" => as_union(alloc, count, &every_fourth_asn(alloc, count, 0)?),
+        "v6" => ip_union(alloc, count, &every_fourth_address(alloc, count, 0)?),
+        "families" => families(alloc, every_fourth_address(alloc, count, 0)?),
+        _ => of_count(alloc, question, u64::from(count)),
     }
 }
 
@@ -73,6 +93,13 @@ fn of_chains<A: Allocator + Copy>(
 ) -> Result<String<A>, AllocError> {
     match question {
         "contains" => print::boolean(alloc, has_fourths(chain, count)),
+        "from_blocks" => {
+            owned_text(
+                alloc,
+                Shown::Count,
+                OwnedChain::from_blocks(alloc, chain.as_slice()),
+            )
+        }
         "union" => owned_text(alloc, Shown::Count, chain.union(alloc, other)),
         "difference" => difference(alloc, chain, other),
         "trim" => trim(alloc, Shown::Count, chain, other),
@@ -89,4 +116,72 @@ fn difference<A: Allocator + Copy>(
 ) -> Result<String<A>, AllocError> {
     let difference = chain.difference(alloc, other)?;
     print::boolean(alloc, difference.as_chain() == chain)
+}
+
+// ---- sets
+
+fn every_fourth_asn<A: Allocator + Copy>(
+    alloc: A,
+    count: u32,
+    first: u32,
+) -> Result<AsBlocks<A>, AllocError> {
+    let mut blocks = Vec::new(alloc);
+    for at in 0..count {
+        let number = at.saturating_mul(4).saturating_add(first);
+        blocks.push(AsBlock::Id(Asn::from_u32(number)))?;
+    }
+    AsBlocks::from_blocks(alloc, &blocks)
+}
+
+/// How many numbers the union of a set and of the other has.
+fn as_union<A: Allocator + Copy>(
+    alloc: A,
+    count: u32,
+    set: &AsBlocks<A>,
+) -> Result<String<A>, AllocError> {
+    let others = every_fourth_asn(alloc, count, 2)?;
+    let size = set.union(alloc, &others)?.asn_count();
+    format!(in alloc; "{size} numbers")
+}
+
+fn every_fourth_address<A: Allocator + Copy>(
+    alloc: A,
+    count: u32,
+    first: u128,
+) -> Result<IpBlocks<A>, AllocError> {
+    let mut blocks = Vec::new(alloc);
+    for at in 0..count {
+        let addr = Addr::from_bits(u128::from(at).saturating_mul(4).saturating_add(first));
+        blocks.push(<IpBlock as Block>::new(addr, addr))?;
+    }
+    IpBlocks::from_blocks(alloc, &blocks)
+}
+
+/// How many blocks the union of a set and of the other has.
+fn ip_union<A: Allocator + Copy>(
+    alloc: A,
+    count: u32,
+    set: &IpBlocks<A>,
+) -> Result<String<A>, AllocError> {
+    let others = every_fourth_address(alloc, count, 2)?;
+    let len = set.union(alloc, &others)?.iter().count();
+    format!(in alloc; "{len} blocks")
+}
+
+/// How many octets write a set of IPv6.
+fn families<A: Allocator + Copy>(alloc: A, set: IpBlocks<A>) -> Result<String<A>, AllocError> {
+    encoded_len(alloc, &IpResources::blocks(set))
+}
+
+fn encoded_len<A: Allocator + Copy>(
+    alloc: A,
+    claim: &IpResources<A>,
+) -> Result<String<A>, AllocError> {
+    if !claim.is_present() {
+        return String::from_str(alloc, "0 octets");
+    }
+    let mut output = print::output(alloc)?;
+    let write = IpResources::encode_families(&IpResources::missing(), claim, &mut output);
+    let len = print::written(alloc, &output, write)?.len() / 2;
+    format!(in alloc; "{len} octets")
 }

@@ -13,20 +13,43 @@ fn id(number: u32) -> AsBlock {
 }
 
 /// Whether this is printed of what a builder gives.
-fn builds(alloc: Global, builder: AsResourcesBuilder, text: &str) -> Result<bool, AllocError> {
+fn builds<A: Allocator + Copy>(
+    alloc: A,
+    builder: AsResourcesBuilder<A>,
+    text: &str,
+) -> Result<bool, AllocError> {
     let resources = builder.finalize()?;
     prints(alloc, &resources, text)
 }
 
+/// Want of memory, where a list was refused it and what was listed before it stands; and else whether that stands.
+fn listed(
+    given: Result<(), AllocError>,
+    stands: Result<bool, AllocError>,
+) -> Result<bool, AllocError> {
+    match (given, stands) {
+        (Err(error), Ok(true)) => Err(error),
+        (_, stands) => stands,
+    }
+}
+
 /// What is listed before resources are inherited is dropped, and what is listed after that stays: two calls add to one
-/// list.
-fn lists_anew(alloc: Global) -> Result<bool, AllocError> {
+/// list. Of a call that is refused memory, what was pushed before stays.
+fn lists_anew<A: Allocator + Copy>(alloc: A) -> Result<bool, AllocError> {
     let mut builder = AsResourcesBuilder::new(alloc);
     builder.blocks(|blocks| blocks.push(id(5)))?;
     builder.inherit();
     builder.blocks(|blocks| blocks.push(id(7)))?;
-    builder.blocks(|blocks| blocks.push(id(8)))?;
-    builds(alloc, builder, "AS7-AS8")
+    let given = builder.blocks(|blocks| {
+        blocks.push(id(8))?;
+        blocks.extend_from(&[id(10); 64])
+    });
+    let text = if given.is_ok() {
+        "AS7-AS8, AS10"
+    } else {
+        "AS7-AS8"
+    };
+    listed(given, builds(alloc, builder, text))
 }
 
 /// What a function pushed before it refused stays.
@@ -47,7 +70,10 @@ fn begins_as_missing(alloc: Global) -> Result<bool, AllocError> {
 
 #[test]
 fn resources_are_built(rt: HostRuntime) {
-    holds(&rt, lists_anew(rt.alloc()) == Ok(true));
+    holds(
+        &rt,
+        holds_where_refused(rt.alloc(), |refusing: &Refusing| lists_anew(refusing)),
+    );
     holds(&rt, keeps_what_was_pushed(rt.alloc()) == Ok(true));
     holds(&rt, begins_as_missing(rt.alloc()) == Ok(true));
 }
@@ -68,13 +94,22 @@ fn builds_addresses<A: Allocator + Copy>(
     }
 }
 
-/// Addresses are listed in the place of resources that were inherited, in two calls.
+/// Addresses are listed in the place of resources that were inherited, in two calls. Of one that is refused memory, what
+/// was pushed before stays.
 fn lists_addresses<A: Allocator + Copy>(alloc: A) -> Result<bool, AllocError> {
     let mut builder = IpResourcesBuilder::new(alloc);
     builder.inherit();
-    builder.blocks(|blocks| blocks.extend_from(&[addresses("2001:db9::/32"), addresses("::1")]))?;
-    builder.blocks(|blocks| blocks.push(addresses("2001:db8::/32")))?;
-    builds_addresses(alloc, builder, "::1, 2001:db8::/31")
+    builder.blocks(|blocks| blocks.push(addresses("2001:db9::/32")))?;
+    let given = builder.blocks(|blocks| {
+        blocks.push(addresses("2001:db8::/32"))?;
+        blocks.extend_from(&[addresses("::1"); 64])
+    });
+    let text = if given.is_ok() {
+        "::1, 2001:db8::/31"
+    } else {
+        "2001:db8::/31"
+    };
+    listed(given, builds_addresses(alloc, builder, text))
 }
 
 #[test]

@@ -1,25 +1,24 @@
-// Sets whose issuer should have them whole.
+// Sets whose issuer should have them whole. Where it has them, no request for memory is made.
 use crate::checks::holds;
 use probing::prints;
+use refusing::{Plan, Refusing};
 use rpki_as::blocks::AsBlocks;
 use rpki_as::resources::AsResources;
 use rpki_base::memory::OrMemory;
 use rpki_ipres::blocks::IpBlocks;
 use rpki_ipres::resources::IpResources;
-use std::alloc::{AllocError, Global};
+use std::alloc::AllocError;
 
-fn set(alloc: Global, list: &str) -> Result<AsBlocks, AllocError> {
-    match AsBlocks::from_str(alloc, list) {
-        Ok(set) => Ok(set),
-        Err(_) => Err(AllocError),
-    }
-}
+/// What a list or a claim is read as, on the way to a test's answer.
+type Read<T> = Result<T, OrMemory<rpki_as::FromStrError>>;
 
-fn claim(alloc: Global, text: &str) -> Result<AsResources, AllocError> {
+type IpRead<T> = Result<T, OrMemory<rpki_ip::FromStrError>>;
+
+fn claim<'a>(refusing: &'a Refusing, text: &str) -> Read<AsResources<&'a Refusing>> {
     match text {
         "inherit" => Ok(AsResources::inherit()),
         "missing" => Ok(AsResources::missing()),
-        list => Ok(AsResources::blocks(set(alloc, list)?)),
+        list => Ok(AsResources::blocks(AsBlocks::from_str(refusing, list)?)),
     }
 }
 
@@ -38,43 +37,38 @@ const COVERED: [(&str, &str, &str); 6] = [
 ];
 
 fn covers_so(
-    alloc: Global,
-    issuer: &AsResources,
-    own: &AsBlocks,
+    refusing: &Refusing,
+    issuer: &AsResources<&Refusing>,
+    own: &AsBlocks<&Refusing>,
     want: &str,
 ) -> Result<bool, AllocError> {
-    match own.verify_covered(alloc, issuer) {
-        Ok(()) => Ok(want.is_empty()),
-        Err(OrMemory::Refused(fault)) => prints(alloc, &fault, want),
+    let asked = refusing.asked();
+    match own.verify_covered(refusing, issuer) {
+        Ok(()) => Ok(want.is_empty() && refusing.asked() == asked),
+        Err(OrMemory::Refused(fault)) => prints(refusing, &fault, want),
         Err(OrMemory::Memory(error)) => Err(error),
     }
 }
 
-fn is_covered_so(alloc: Global, row: &(&str, &str, &str)) -> Result<bool, AllocError> {
-    let own = set(alloc, row.0)?;
-    let issuer = claim(alloc, row.1)?;
-    covers_so(alloc, &issuer, &own, row.2)
+fn is_covered_so(refusing: &Refusing, row: &(&str, &str, &str)) -> Read<bool> {
+    let own = AsBlocks::from_str(refusing, row.0)?;
+    let issuer = claim(refusing, row.1)?;
+    Ok(covers_so(refusing, &issuer, &own, row.2)?)
 }
 
 #[test]
 fn sets_are_covered(rt: HostRuntime) {
+    let refusing = Refusing::new(rt.alloc(), Plan::RefuseNone);
     for row in &COVERED {
-        holds(&rt, is_covered_so(rt.alloc(), row) == Ok(true));
+        holds(&rt, matches!(is_covered_so(&refusing, row), Ok(true)));
     }
 }
 
-fn ip_set(alloc: Global, list: &str) -> Result<IpBlocks, AllocError> {
-    match IpBlocks::from_str(alloc, list) {
-        Ok(set) => Ok(set),
-        Err(_) => Err(AllocError),
-    }
-}
-
-fn ip_claim(alloc: Global, text: &str) -> Result<IpResources, AllocError> {
+fn ip_claim<'a>(refusing: &'a Refusing, text: &str) -> IpRead<IpResources<&'a Refusing>> {
     match text {
         "inherit" => Ok(IpResources::inherit()),
         "missing" => Ok(IpResources::missing()),
-        list => Ok(IpResources::blocks(ip_set(alloc, list)?)),
+        list => Ok(IpResources::blocks(IpBlocks::from_str(refusing, list)?)),
     }
 }
 
@@ -88,24 +82,31 @@ const IP_COVERED: [(&str, &str, &str); 6] = [
     ("2001:db8::/32", "2001:db8::/33", "2001:db8:8000::/33"),
 ];
 
-fn covers_but(alloc: Global, issuer: &IpResources, own: &IpBlocks, rest: &IpBlocks) -> bool {
-    match own.verify_covered(alloc, issuer) {
-        Ok(()) => rest.is_empty(),
+fn covers_but(
+    refusing: &Refusing,
+    issuer: &IpResources<&Refusing>,
+    own: &IpBlocks<&Refusing>,
+    rest: &IpBlocks<&Refusing>,
+) -> bool {
+    let asked = refusing.asked();
+    match own.verify_covered(refusing, issuer) {
+        Ok(()) => rest.is_empty() && refusing.asked() == asked,
         Err(OrMemory::Refused(fault)) => fault.excess() == rest,
         Err(OrMemory::Memory(_)) => false,
     }
 }
 
-fn is_ip_covered_but(alloc: Global, row: &(&str, &str, &str)) -> Result<bool, AllocError> {
-    let own = ip_set(alloc, row.0)?;
-    let issuer = ip_claim(alloc, row.1)?;
-    let rest = ip_set(alloc, row.2)?;
-    Ok(covers_but(alloc, &issuer, &own, &rest))
+fn is_ip_covered_but(refusing: &Refusing, row: &(&str, &str, &str)) -> IpRead<bool> {
+    let own = IpBlocks::from_str(refusing, row.0)?;
+    let issuer = ip_claim(refusing, row.1)?;
+    let rest = IpBlocks::from_str(refusing, row.2)?;
+    Ok(covers_but(refusing, &issuer, &own, &rest))
 }
 
 #[test]
 fn sets_of_addresses_are_covered(rt: HostRuntime) {
+    let refusing = Refusing::new(rt.alloc(), Plan::RefuseNone);
     for row in &IP_COVERED {
-        holds(&rt, is_ip_covered_but(rt.alloc(), row) == Ok(true));
+        holds(&rt, matches!(is_ip_covered_but(&refusing, row), Ok(true)));
     }
 }

@@ -1,0 +1,67 @@
+//! A run over more octets than any buffer between has: an input of more than 2^24, an answer of more than 2^16.
+use crate::slices::{Habits, SliceSink, SliceSource};
+use crate::streams::{SliceReader, SliceWriter};
+use respath_engine::adapters::{FromRead, IntoWrite};
+use respath_engine::engine::run;
+use std::alloc::{AllocError, Global};
+
+/// How many AS numbers a line lists: every second one from 0 on.
+const LISTED: u32 = 20_000;
+
+/// How many spaces follow them.
+const SPACES: usize = 17 * 1024 * 1024;
+
+/// The numbers, joined.
+fn list(alloc: Global, joined_by: &str) -> Result<String, AllocError> {
+    let mut list = String::from_str(alloc, "AS0")?;
+    for half in 1..LISTED {
+        let number = 2 * half;
+        write!(list, "{joined_by}AS{number}")?;
+    }
+    Ok(list)
+}
+
+/// A line of these numbers, of spaces and of one number more; and a line of one number.
+fn input(alloc: Global) -> Result<Vec<u8>, AllocError> {
+    let list = list(alloc, ",")?;
+    let mut input = b"norm as ".to_vec(alloc)?;
+    input.extend_from_slice(list.as_bytes())?;
+    input.resize(SPACES, b' ')?;
+    input.extend_from_slice(b",4294967295\nnorm as 7")?;
+    Ok(input)
+}
+
+/// Whether this is what is written for an input, over a reader and a writer of std.
+fn is_answered(alloc: Global, input: &[u8], output: &[u8], room: &mut [u8]) -> bool {
+    let mut reader = SliceReader {
+        source: SliceSource::new(input, Habits::GOOD),
+    };
+    let mut writer = SliceWriter {
+        sink: SliceSink::new(room, Habits::GOOD),
+    };
+    let ended = run(
+        alloc,
+        &mut FromRead::new(&mut reader),
+        &mut IntoWrite::new(&mut writer),
+    );
+    ended.is_ok() && writer.sink.written() == output
+}
+
+fn is_answered_whole(alloc: Global, output: &[u8]) -> Result<bool, AllocError> {
+    let input = input(alloc)?;
+    let mut room = Vec::new(alloc);
+    room.resize(output.len() + 1, 0)?;
+    let is_large = input.len() > 1 << 24 && output.len() > 1 << 16;
+    Ok(is_large && is_answered(alloc, &input, output, &mut room))
+}
+
+fn all_is_answered(alloc: Global) -> Result<bool, AllocError> {
+    let mut output = list(alloc, ", ")?;
+    output.push_str(", AS4294967295\nAS7\n")?;
+    is_answered_whole(alloc, output.as_bytes())
+}
+
+#[test]
+fn a_large_input_is_answered_whole(rt: HostRuntime) {
+    assert!(rt; all_is_answered(rt.alloc()) == Ok(true));
+}

@@ -7,7 +7,7 @@ use Rattle.rpki_chain.specs.Runs.{Runs, Holds}
 use Rattle.rpki_cover.specs.Covers.{IsShortestCover}
 use Rattle.rpki_ip.specs.declared.family.AddressFamily.{AddressFamily}
 use Rattle.rpki_ip.specs.declared.family.AddressFamily.TheVariants.{Ipv4, Ipv6}
-use Rattle.rpki_resources.specs.Triples.{Triple, of_family}
+use Rattle.rpki_resources.specs.Triples.{Triple, set_of_family}
 use Rattle.rpki_extensions.specs.declared.encoding.Encoding.{Encoding}
 use Rattle.pigyelund_c.specs.Numbers.{encoding_number, family_number}
 use Rattle.pigyelund_c.specs.Sets.{IsNoSet, IsSet}
@@ -33,7 +33,7 @@ AreCoverOctets family set octets = (ps : List PrefixValue) × IsShortestCover 12
 -- of the addresses of a family that octets of IP address blocks list
 abbrev pub IsCoverIn : Encoding → AddressFamily → List ℕ → List ℕ → Type 0
 IsCoverIn encoding family addresses octets =
-    (set : Triple) × IsSet encoding [] addresses set × AreCoverOctets family (of_family family set) octets
+    (set : Triple) × IsSet encoding [] addresses set × AreCoverOctets family (set_of_family family set) octets
 
 abbrev pub IsCover : List ℕ → ℕ → ℕ → List ℕ → Type 0
 IsCover addresses encoding family octets =

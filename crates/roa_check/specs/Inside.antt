@@ -9,7 +9,7 @@ use Rattle.rpki_chain.specs.Runs.{Holds}
 use Rattle.rpki_ip.specs.Families.{family_of}
 use Rattle.rpki_prefix.specs.MaxLen.{MaxLenValue}
 use Rattle.rpki_prefix.specs.Values.{FamilyPrefix, interval, width}
-use Rattle.rpki_resources.specs.Triples.{Triple, of_family}
+use Rattle.rpki_resources.specs.Triples.{Triple, set_of_family}
 
 -- how many numbers of 128 bits stand for an address: one of IPv4 stands for its bits with any 96 after them
 abbrev pub numbers_each : IpAddr → ℕ
@@ -22,7 +22,7 @@ prefix_numbers p = ((interval p).first * numbers_each p.addr, (last_of (width p.
 
 -- the set of the prefix's family has each of its addresses
 abbrev pub IsPrefixInside : Triple → FamilyPrefix → Type 0
-IsPrefixInside set p = (n : ℕ) → IsWithin (prefix_numbers p) n → Holds (of_family (family_of p.addr) set) n
+IsPrefixInside set p = (n : ℕ) → IsWithin (prefix_numbers p) n → Holds (set_of_family (family_of p.addr) set) n
 
 -- the least place whose prefix isn't inside, or none where all are
 abbrev pub IsFirstOutside : Triple → List MaxLenValue → Option ℕ → Type 0

@@ -42,9 +42,9 @@ all_resources = record {
 }
 
 -- the set of the addresses of a family
-abbrev pub of_family : AddressFamily → Triple → Runs
-of_family Ipv4 t = t.ipv4
-of_family Ipv6 t = t.ipv6
+abbrev pub set_of_family : AddressFamily → Triple → Runs
+set_of_family Ipv4 t = t.ipv4
+set_of_family Ipv6 t = t.ipv6
 
 -- whether a set has nothing, and whether all three have nothing
 abbrev pub is_none : Runs → Bool

@@ -6,7 +6,7 @@ ghost use Rattle.rpki_as.specs.Blocks.{IsAsSet};
 ghost use Rattle.rpki_ip.specs.Ranges.{range_bounds};
 ghost use Rattle.rpki_ip.specs.declared.family.AddressFamily.TheVariants.{Ipv4, Ipv6};
 ghost use Rattle.rpki_ipres.specs.SetText.{IsFamilySet};
-ghost use Rattle.rpki_resources.specs.Triples.{AreChanges, HasEachOf, HaveSameNumbers, IsDifferenceOf, IsIntersectionOf, IsUnionOf, all_resources, is_no_triple, is_same_triple, no_resources, of_family, triples_equiv, triples_per};
+ghost use Rattle.rpki_resources.specs.Triples.{AreChanges, HasEachOf, HaveSameNumbers, IsDifferenceOf, IsIntersectionOf, IsUnionOf, all_resources, is_no_triple, is_same_triple, no_resources, set_of_family, triples_equiv, triples_per};
 
 use crate::diff::ResourceDiff;
 use rpki_as::AsBlocks;
@@ -195,7 +195,7 @@ impl<A: Allocator> ResourceSet<A> {
     /// names (RFC 9582, 4.3).
     pub fn contains_roa_address(&self, family: AddressFamily, addresses: AddressRange) -> bool
         ensures { IsTrue result ↔ ((n : ℕ) → IsWithin (range_bounds addresses) n
-            → Holds (of_family family self.now) n) }
+            → Holds (set_of_family family self.now) n) }
     {
         match family {
             AddressFamily::Ipv4 => self.ipv4.ip_blocks().contains_roa(addresses),

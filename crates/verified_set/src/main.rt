@@ -1,38 +1,52 @@
 //! The program `verified_set`: what an issuer verifies of a certificate, or why it doesn't.
 //!
 //! Its arguments are the issuer's AS numbers, IPv4 addresses and IPv6 addresses, each a list, and two files of octets: the
-//! values of the certificate's AS identifiers and IP address blocks, or `-` for an extension that is absent.
+//! values of the certificate's AS identifiers and IP address blocks.
 #![tactic(auto)]
 
 use rpki_extensions::encoding::Encoding;
 use rpki_extensions::extensions::Extensions;
 use rpki_extensions::issued::verified_octets;
 use rpki_resources::repository::resources::{Overclaim, ResourceSet};
-use std::{env, fs, io};
+use std::{env, fs};
 
 fn main(rt: HostRuntime) -> anyhow::Result<()> {
     let words = env::args(&rt)?.collect::<Vec<String>>(rt.alloc())?;
     let [_, asn, ipv4, ipv6, numbers, addresses] = words.as_slice() else {
         anyhow::bail!("arguments: ASN-LIST IPV4-LIST IPV6-LIST NUMBERS-FILE ADDRESSES-FILE");
     };
+    verify(&rt, [asn, ipv4, ipv6], [numbers, addresses])
+}
+
+/// Prints what an issuer with three lists of resources verifies of two files.
+fn verify(rt: &HostRuntime, [asn, ipv4, ipv6]: [&str; 3], files: [&str; 2]) -> anyhow::Result<()> {
     let issuer = ResourceSet::from_strs(rt.alloc(), asn, ipv4, ipv6)?;
-    let numbers = octets_of(&rt, numbers)?;
-    let addresses = octets_of(&rt, addresses)?;
+    verify_files(rt, &issuer, files)
+}
+
+fn verify_files(
+    rt: &HostRuntime,
+    issuer: &ResourceSet,
+    [numbers, addresses]: [&str; 2],
+) -> anyhow::Result<()> {
+    let numbers = fs::read(rt, numbers)?;
+    let addresses = fs::read(rt, addresses)?;
+    verify_octets(rt, issuer, &numbers, &addresses)
+}
+
+fn verify_octets(
+    rt: &HostRuntime,
+    issuer: &ResourceSet,
+    numbers: &[u8],
+    addresses: &[u8],
+) -> anyhow::Result<()> {
     let certificate = Extensions {
-        numbers: numbers.as_deref(),
-        addresses: addresses.as_deref(),
+        numbers: Some(numbers),
+        addresses: Some(addresses),
         encoding: Encoding::Canonical,
         mode: Overclaim::Refuse,
     };
-    let set = verified_octets(rt.alloc(), &issuer, &certificate)?;
+    let set = verified_octets(rt.alloc(), issuer, &certificate)?;
     println!(rt; "{set}")?;
     Ok(())
-}
-
-/// The octets of an extension, or None where it is absent.
-fn octets_of(rt: &HostRuntime, file: &str) -> io::Result<Option<Vec<u8>>> {
-    if file == "-" {
-        return Ok(None);
-    }
-    Ok(Some(fs::read(rt, file)?))
 }

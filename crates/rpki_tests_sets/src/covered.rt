@@ -36,10 +36,10 @@ const COVERED: [(&str, &str, &str); 6] = [
     ),
 ];
 
-fn covers_so(
-    refusing: &Refusing,
-    issuer: &AsResources<&Refusing>,
-    own: &AsBlocks<&Refusing>,
+fn covers_so<'a>(
+    refusing: &'a Refusing,
+    issuer: &AsResources<&'a Refusing>,
+    own: &AsBlocks<&'a Refusing>,
     want: &str,
 ) -> Result<bool, AllocError> {
     let asked = refusing.asked();
@@ -82,11 +82,11 @@ const IP_COVERED: [(&str, &str, &str); 6] = [
     ("2001:db8::/32", "2001:db8::/33", "2001:db8:8000::/33"),
 ];
 
-fn covers_but(
-    refusing: &Refusing,
-    issuer: &IpResources<&Refusing>,
-    own: &IpBlocks<&Refusing>,
-    rest: &IpBlocks<&Refusing>,
+fn covers_but<'a>(
+    refusing: &'a Refusing,
+    issuer: &IpResources<&'a Refusing>,
+    own: &IpBlocks<&'a Refusing>,
+    rest: &IpBlocks<&'a Refusing>,
 ) -> bool {
     let asked = refusing.asked();
     match own.verify_covered(refusing, issuer) {

@@ -1,3 +1,4 @@
 pub mod AsDerLemmas
 pub mod BlockLemmas
+pub mod DerFaults
 pub mod NumberLemmas

@@ -1,5 +1,6 @@
 pub mod AsnLemmas
 pub mod DerCursors
+pub mod DerFaults
 pub mod DerModes
 pub mod DerReadings
 pub mod DerWriting

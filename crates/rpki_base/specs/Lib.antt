@@ -1,5 +1,6 @@
 pub mod AsnDer
 pub mod AsnText
+pub mod DerFaults
 pub mod DerReading
 pub mod DerViews
 pub mod DerWriting

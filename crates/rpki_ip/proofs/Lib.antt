@@ -1,4 +1,5 @@
 pub mod CoverLemmas
+pub mod DerFaults
 pub mod DerModes
 pub mod DerReadings
 pub mod DerWritten

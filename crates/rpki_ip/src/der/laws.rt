@@ -1,11 +1,13 @@
 //! What holds of the octets of families, prefixes and ranges, each law as the contract of a function that does nothing.
-ghost use Rattle.std.specs.Prelude.{ℕ, ◌<◌, ◌≤◌, ◌^◌};
-ghost use Rattle.rpki_base.specs.Prefixes.{IsPrefix, PrefixValue};
+ghost use Rattle.std.specs.Prelude.{◌≡◌, ◌↔◌, ℕ, ◌<◌, ◌≤◌, ◌^◌, List, Err};
+ghost use Rattle.rpki_base.specs.DerFaults.{BeginsWithTwo};
+ghost use Rattle.rpki_base.specs.Prefixes.{IsPrefix, PrefixValue, last_of};
 ghost use Rattle.rpki_der.specs.Der.{Bits, IsBytes, OneFront};
+ghost use Rattle.rpki_der.specs.declared.error.DerError.TheVariants.{ReversedRange};
 ghost use Rattle.rpki_ip.specs.declared.family.AddressFamily.{AddressFamily};
 ghost use Rattle.rpki_ip.specs.FamilyDer.{IsFamilyDer, family_der};
-ghost use Rattle.rpki_ip.specs.PrefixDer.{IsPrefixDer, SaysPrefix, prefix_der};
-ghost use Rattle.rpki_ip.specs.RangeDer.{IsRangeDer, IsRangeWithin, IsShortestFrom, IsShortestTo, range_der, without_end_ones, without_end_zeros};
+ghost use Rattle.rpki_ip.specs.PrefixDer.{IsPrefixDer, SaysPrefix, prefix_at, prefix_der};
+ghost use Rattle.rpki_ip.specs.RangeDer.{IsRangeDer, IsRangeWithin, IsShortestFrom, IsShortestTo, range_der, range_in, without_end_ones, without_end_zeros};
 ghost use Rattle.rpki_ip.specs.Ranges.{RangeValue};
 
 /// Octets begin with at most one value of each kind.
@@ -36,4 +38,11 @@ pub fn is_prefix()
 pub fn shortest()
     ensures zeros { (a : ℕ) → a < 2 ^ 128 → IsShortestFrom a (without_end_zeros a) }
     ensures ones { (a : ℕ) → a < 2 ^ 128 → IsShortestTo a (without_end_ones a) }
+{}
+
+/// A range is reversed exactly where its content begins with two prefixes of which the second ends before the first begins,
+/// whatever stands behind them.
+pub fn reversed()
+    ensures { (limit : ℕ) (content : List ℕ) → (range_in limit content ≡ Err ReversedRange)
+        ↔ BeginsWithTwo (prefix_at limit) (λ p q. last_of 128 q < p.first) content }
 {}

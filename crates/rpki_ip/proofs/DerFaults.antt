@@ -1,0 +1,74 @@
+-- Where a range of addresses is reversed, and which faults families, prefixes and ranges have.
+use Rattle.std.proofs.Common.{◌≡◌, ℕ, ◌/◌, ◌*◌, ◌-◌, ◌^◌, ◌<◌, ◌↔◌, ◌||◌, ◌&&◌, cond, eqb, ltb, List, length, get_or, Result, Ok, Err, refl, arith}
+use Rattle.std.proofs.lemmas.Bool.{lt-ltb, ltb-true}
+use Rattle.rpki_base.specs.Prefixes.{PrefixValue, last_of}
+use Rattle.rpki_der.specs.declared.error.DerError.{DerError}
+use Rattle.rpki_der.specs.declared.error.DerError.TheVariants.{BadFamily, BadPrefix, ReversedRange}
+use Rattle.rpki_der.specs.Der.{Bits, big_endian, bit_count}
+use Rattle.rpki_der.specs.Reading.{bits, tagged_at}
+use Rattle.rpki_base.specs.DerFaults.{BeginsWithTwo}
+use Rattle.rpki_base.proofs.DerFaults.{NamesTo, begins_two, bind_names, bits_names, cond_fails, cond_names, names_more, not_named, pair_fails, pair_names, refined_names, tagged_names}
+use Rattle.rpki_ip.specs.declared.family.AddressFamily.{AddressFamily}
+use Rattle.rpki_ip.specs.declared.family.AddressFamily.TheVariants.{Ipv4, Ipv6}
+use Rattle.rpki_ip.specs.FamilyDer.{family_at, family_of_octets}
+use Rattle.rpki_ip.specs.PrefixDer.{prefix_at, prefix_in, prefix_of}
+use Rattle.rpki_ip.specs.RangeDer.{range_in, span_of}
+use Rattle.rpki_ip.specs.Ranges.{RangeValue}
+
+-- ---- which faults are named
+
+family_of_names : (content : List ℕ) → NamesTo 9 (family_of_octets content)
+unfolding family_of_octets
+family_of_names content =
+    let none : Result AddressFamily DerError = Err BadFamily in
+    let two = (eqb (length content) 2) && (eqb (get_or content 0 0) 0) in
+    cond_names 9 (two && (eqb (get_or content 1 0) 1)) (Ok Ipv4) (cond (two && (eqb (get_or content 1 0) 2)) (Ok Ipv6) none) tt (cond_names 9 (two && (eqb (get_or content 1 0) 2)) (Ok Ipv6) none tt (omega arith))
+
+pub family_names : (bytes : List ℕ) → NamesTo 9 (family_at bytes)
+family_names = refined_names 9 (tagged_at 4) family_of_octets (λ bytes. names_more 3 9 (tagged_at 4 bytes) (omega arith) (tagged_names 4 bytes)) family_of_names
+
+module _ (limit : ℕ) where
+  prefix_of_names : (b : Bits) → NamesTo 8 (prefix_of limit b)
+  unfolding prefix_of
+  prefix_of_names b =
+      let made : Result PrefixValue DerError = Ok (record { first = big_endian b.octets / 2 ^ b.unused * 2 ^ (128 - bit_count b); len = bit_count b }) in
+      cond_names 8 (ltb 16 (length b.octets) || ltb limit (bit_count b)) (Err BadPrefix) made (omega arith) tt
+
+  pub prefix_content_names : (content : List ℕ) → NamesTo 8 (prefix_in limit content)
+  unfolding prefix_in
+  prefix_content_names content = bind_names 8 (bits content) (prefix_of limit) (names_more 5 8 (bits content) (omega arith) (bits_names content)) prefix_of_names
+
+  prefix_names : (bytes : List ℕ) → NamesTo 8 (prefix_at limit bytes)
+  prefix_names = refined_names 8 (tagged_at 3) (prefix_in limit) (λ bytes. names_more 3 8 (tagged_at 3 bytes) (omega arith) (tagged_names 3 bytes)) prefix_content_names
+
+  span_names : (p q : PrefixValue) → NamesTo 10 (span_of p q)
+  unfolding span_of
+  span_names p q =
+      let made : Result RangeValue DerError = Ok (record { min = p.first; max = last_of 128 q }) in
+      cond_names 10 (ltb (last_of 128 q) p.first) (Err ReversedRange) made (omega arith) tt
+
+  pub range_names : (content : List ℕ) → NamesTo 10 (range_in limit content)
+  range_names = pair_names 10 (prefix_at limit) span_of (omega arith) (λ bytes. names_more 8 10 (prefix_at limit bytes) (omega arith) (prefix_names bytes)) span_names
+
+  -- ---- where a range is reversed
+
+  abbrev IsBefore : PrefixValue → PrefixValue → Type 0
+  IsBefore p q = last_of 128 q < p.first
+
+  abbrev Fails : PrefixValue → PrefixValue → Type 0
+  Fails p q = span_of p q ≡ Err ReversedRange
+
+  span_fails : (p q : PrefixValue) → Fails p q → IsBefore p q
+  unfolding span_of
+  span_fails p q is =
+      let made : RangeValue = record { min = p.first; max = last_of 128 q } in
+      ltb-true (last_of 128 q) p.first (cond_fails (ltb (last_of 128 q) p.first) made ReversedRange ReversedRange (Ok made) refl is)
+
+  fails_span : (p q : PrefixValue) → IsBefore p q → Fails p q
+  unfolding span_of
+  fails_span p q less = rw (lt-ltb (last_of 128 q) p.first less) refl
+
+  pub range_fails : (content : List ℕ) → (range_in limit content ≡ Err ReversedRange) ↔ BeginsWithTwo (prefix_at limit) (λ p q. last_of 128 q < p.first) content
+  range_fails content =
+      let both = pair_fails (prefix_at limit) span_of ReversedRange (omega arith) (λ bytes. not_named 8 (prefix_at limit bytes) ReversedRange (prefix_names bytes) (omega arith)) content in
+      ((λ is. begins_two (prefix_at limit) Fails IsBefore span_fails content (both.0 is)), (λ found. both.1 (begins_two (prefix_at limit) IsBefore Fails fails_span content found)))

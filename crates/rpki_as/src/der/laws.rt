@@ -1,10 +1,13 @@
 //! What holds of the octets of blocks, sets and resources, each law as the contract of a function that does nothing.
-ghost use Rattle.std.specs.Prelude.{◌≡◌, ◌≢◌, ◌↔◌, ℕ};
+ghost use Rattle.std.specs.Prelude.{◌≡◌, ◌≢◌, ◌↔◌, ℕ, List, Err};
 ghost use Rattle.rpki_chain.specs.Claims.{Claim, IsClaim};
 ghost use Rattle.rpki_chain.specs.Runs.{Runs, Holds};
 ghost use Rattle.rpki_chain.specs.declared.choice.ResourcesChoice.TheVariants.{Missing};
 ghost use Rattle.rpki_der.specs.Der.{OneFront};
+ghost use Rattle.rpki_der.specs.declared.error.DerError.TheVariants.{EmptyBlocks};
+ghost use Rattle.rpki_base.specs.DerFaults.{BeginsEmpty, BeginsWithValue};
 ghost use Rattle.rpki_as.specs.AsDer.{IsAsBlockSequence, IsAsResources, as_resources_octets, as_sequence_octets, as_set_octets};
+ghost use Rattle.rpki_as.specs.AsDerReading.{as_choice_at};
 ghost use Rattle.rpki_asblock.specs.AsDer.{IsAsBlock, IsBlockInAnyOrder};
 ghost use Rattle.rpki_as.specs.Blocks.{IsAsSet};
 
@@ -33,4 +36,11 @@ pub fn written_resources()
     ensures alike { (a b : Claim) → IsClaim IsAsSet a → IsClaim IsAsSet b → a ≢ Missing
         → b ≢ Missing →
         (as_resources_octets a ≡ as_resources_octets b) ↔ (a ≡ b) }
+{}
+
+/// Resources are refused for a list of no blocks exactly where the SEQUENCE of blocks is empty, whatever stands behind
+/// it.
+pub fn empty_blocks()
+    ensures { (bytes : List ℕ) → (as_choice_at bytes ≡ Err EmptyBlocks)
+        ↔ BeginsWithValue 48 (BeginsWithValue 160 BeginsEmpty) bytes }
 {}

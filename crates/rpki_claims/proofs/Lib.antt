@@ -1,3 +1,4 @@
+pub mod FamilyFaults
 pub mod Gathering
 pub mod Loops
 pub mod Members

@@ -2,3 +2,4 @@
 -- written, whatever a claim is.
 pub mod Families
 pub mod FamiliesReading
+pub mod FamilyFaults

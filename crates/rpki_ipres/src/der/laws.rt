@@ -1,14 +1,17 @@
 //! What holds of the octets of sets and resources, each law as the contract of a function that does nothing.
-ghost use Rattle.std.specs.Prelude.{◌≡◌, ◌≢◌, ℕ, [], ◌<◌, ◌^◌, ◌↔◌, length};
+ghost use Rattle.std.specs.Prelude.{◌≡◌, ◌≢◌, ℕ, List, [], ◌<◌, ◌^◌, ◌↔◌, Err, length};
+ghost use Rattle.rpki_base.specs.DerFaults.{BeginsEmpty, BeginsWithValue};
 ghost use Rattle.rpki_chain.specs.Claims.{Claim};
 ghost use Rattle.rpki_chain.specs.Runs.{Runs, Holds};
 ghost use Rattle.rpki_chain.specs.declared.choice.ResourcesChoice.TheVariants.{Missing};
+ghost use Rattle.rpki_claims.specs.FamilyFaults.{BeginsWithRepeat};
 ghost use Rattle.rpki_der.specs.Der.{OneFront};
+ghost use Rattle.rpki_der.specs.declared.error.DerError.TheVariants.{DuplicateFamily, EmptyBlocks, NoFamily};
 ghost use Rattle.rpki_ip.specs.Families.{bits_of};
 ghost use Rattle.rpki_ip.specs.declared.family.AddressFamily.TheVariants.{Ipv4, Ipv6};
 ghost use Rattle.rpki_ipres.specs.SetDer.{IsIpBlockSequence, IsIpFamily, ip_family_der, ip_set_der};
 ghost use Rattle.rpki_ipres.specs.Resources.{IsFamilyClaim, IsIpClaim, if_present};
-ghost use Rattle.rpki_ipres.specs.ResourcesDer.{IsIpFamilies, IsIpResources, ip_families_der, ip_member_der, ip_resources_der};
+ghost use Rattle.rpki_ipres.specs.ResourcesDer.{IsIpFamilies, IsIpResources, ip_families_at, ip_families_der, ip_member_der, ip_resources_at, ip_resources_der};
 ghost use Rattle.rpki_ipres.specs.SetText.{IsFamilySet, IsIpSet};
 
 /// The law of single blocks, which stands in the crate of blocks.
@@ -68,4 +71,16 @@ pub fn canonical_resources()
         IsFamilyClaim Ipv4 w4 → IsFamilyClaim Ipv6 w6 → (w4 ≡ Missing → w6 ≢ Missing) →
         length (ip_families_der v4 v6) < 2 ^ 64 →
         (ip_families_der v4 v6 ≡ ip_families_der w4 w6) ↔ ((v4 ≡ w4) × (v6 ≡ w6)) }
+{}
+
+/// Which fault octets have, whatever stands behind it. Resources are refused for a list of no blocks exactly where the
+/// SEQUENCE of blocks is empty, and families for none exactly where theirs is. They are refused for a family that stands
+/// there twice exactly where members that are read are followed by a SEQUENCE that begins with the family of one of them.
+pub fn faults()
+    ensures empty_blocks { (limit : ℕ) (bytes : List ℕ) →
+        (ip_resources_at limit bytes ≡ Err EmptyBlocks) ↔ BeginsEmpty bytes }
+    ensures no_family { (bytes : List ℕ) →
+        (ip_families_at bytes ≡ Err NoFamily) ↔ BeginsEmpty bytes }
+    ensures twice { (bytes : List ℕ) → (ip_families_at bytes ≡ Err DuplicateFamily)
+        ↔ BeginsWithValue 48 (BeginsWithRepeat (λ family. ip_resources_at (bits_of family))) bytes }
 {}

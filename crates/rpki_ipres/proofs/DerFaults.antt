@@ -1,0 +1,31 @@
+-- Where resources of addresses are refused for a list of no blocks, for no family, for one that is there twice.
+use Rattle.std.proofs.Common.{◌≡◌, ℕ, ◌↔◌, List, Result, Err, arith}
+use Rattle.rpki_der.specs.declared.error.DerError.{DerError}
+use Rattle.rpki_der.specs.declared.error.DerError.TheVariants.{DuplicateFamily, EmptyBlocks, NoFamily}
+use Rattle.rpki_base.specs.DerFaults.{BeginsEmpty, BeginsWithValue}
+use Rattle.rpki_base.specs.DerReading.{values_of}
+use Rattle.rpki_base.proofs.DerFaults.{NamesTo, no_values, values_names}
+use Rattle.rpki_chain.proofs.ChoiceFaults.{choice_fails, choice_names}
+use Rattle.rpki_claims.specs.FamilyFaults.{BeginsWithRepeat}
+use Rattle.rpki_claims.proofs.FamilyFaults.{family_twice, no_family}
+use Rattle.rpki_ip.specs.Families.{bits_of}
+use Rattle.rpki_ip.specs.declared.family.AddressFamily.{AddressFamily}
+use Rattle.rpki_ipblock.specs.BlockReading.{ip_block_at}
+use Rattle.rpki_ipblock.specs.declared.block.IpBlock.{IpBlock}
+use Rattle.rpki_ipblock.proofs.DerFaults.{block_names}
+use Rattle.rpki_ipres.specs.ResourcesDer.{ip_families_at, ip_resources_at}
+
+blocks_names : (limit : ℕ) (content : List ℕ) → NamesTo {X = List IpBlock} 10 (values_of (ip_block_at limit) content)
+blocks_names limit = values_names 10 (ip_block_at limit) (omega arith) (block_names limit)
+
+resources_names : (family : AddressFamily) (bytes : List ℕ) → NamesTo 11 (ip_resources_at (bits_of family) bytes)
+resources_names family = choice_names (values_of (ip_block_at (bits_of family))) (blocks_names (bits_of family))
+
+pub empty_blocks : (limit : ℕ) (bytes : List ℕ) → (ip_resources_at limit bytes ≡ Err EmptyBlocks) ↔ BeginsEmpty bytes
+empty_blocks limit = choice_fails (values_of (ip_block_at limit)) (blocks_names limit) (no_values (ip_block_at limit))
+
+pub families_empty : (bytes : List ℕ) → (ip_families_at bytes ≡ Err NoFamily) ↔ BeginsEmpty bytes
+families_empty = no_family (λ family. ip_resources_at (bits_of family)) resources_names
+
+pub families_repeat : (bytes : List ℕ) → (ip_families_at bytes ≡ Err DuplicateFamily) ↔ BeginsWithValue 48 (BeginsWithRepeat (λ family. ip_resources_at (bits_of family))) bytes
+families_repeat = family_twice (λ family. ip_resources_at (bits_of family)) resources_names

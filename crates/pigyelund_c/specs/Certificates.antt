@@ -1,7 +1,7 @@
 -- What a caller says of a certificate's extensions.
 use Rattle.std.specs.Prelude.{◌≡◌, ◌≢◌, ◌⊎◌, ℕ, ◌+◌, ◌<◌, ◌≤◌, List, length, slice_range}
 use Rattle.rpki_chain.specs.declared.path.Overclaim.{Overclaim}
-use Rattle.rpki_extensions.specs.Claims.{addresses_of, numbers_of}
+use Rattle.rpki_extensions.specs.Claims.{octets_of_addresses, octets_of_numbers}
 use Rattle.rpki_extensions.specs.declared.encoding.Encoding.{Encoding}
 use Rattle.rpki_extensions.specs.declared.extensions.Extensions.{Extensions}
 use Rattle.pigyelund_c.specs.Numbers.{addresses_there, mode_number, numbers_there, present_number}
@@ -16,8 +16,8 @@ use Rattle.pigyelund_c.specs.declared.refusal.Misasked.TheVariants.{NoEncoding, 
 pub record IsCertificate (present : ℕ) (numbers addresses : List ℕ) (encoding : Encoding) (mode : ℕ) (certificate : Extensions) : Type 0 where
   pub there : Present
   pub is_there : present ≡ present_number there
-  pub numbers_are : numbers_of certificate ≡ numbers_there there numbers
-  pub addresses_are : addresses_of certificate ≡ addresses_there there addresses
+  pub numbers_are : octets_of_numbers certificate ≡ numbers_there there numbers
+  pub addresses_are : octets_of_addresses certificate ≡ addresses_there there addresses
   pub is_read : certificate.encoding ≡ encoding
   pub is_mode : mode ≡ mode_number certificate.mode
 
@@ -32,19 +32,19 @@ IsMisasked present mode Outside = ⊥
 -- ---- as places in a run of octets
 
 -- both places lie in the run
-pub record LiesIn (run : List ℕ) (c : Certificate) : Type 0 where
+pub record LiesInRun (run : List ℕ) (c : Certificate) : Type 0 where
   pub numbers : c.as_at + c.as_len ≤ length run
   pub addresses : c.ip_at + c.ip_len ≤ length run
 
 -- the certificate has the octets at the places
 pub record IsCertificateAt (run : List ℕ) (encoding : Encoding) (c : Certificate) (certificate : Extensions) : Type 0 where
-  pub inside : LiesIn run c
+  pub inside : LiesInRun run c
   pub says : IsCertificate c.present (slice_range run c.as_at (c.as_at + c.as_len)) (slice_range run c.ip_at (c.ip_at + c.ip_len)) encoding c.mode certificate
 
 -- a place lies outside, or else a number is none
 abbrev pub IsMisaskedAt : List ℕ → Certificate → Misasked → Type 0
 IsMisaskedAt run c Outside = (length run < c.as_at + c.as_len) ⊎ (length run < c.ip_at + c.ip_len)
-IsMisaskedAt run c NoPresence = LiesIn run c × IsMisasked c.present c.mode NoPresence
-IsMisaskedAt run c NoMode = LiesIn run c × IsMisasked c.present c.mode NoMode
+IsMisaskedAt run c NoPresence = LiesInRun run c × IsMisasked c.present c.mode NoPresence
+IsMisaskedAt run c NoMode = LiesInRun run c × IsMisasked c.present c.mode NoMode
 IsMisaskedAt run c NoEncoding = ⊥
 IsMisaskedAt run c NoFamily = ⊥

@@ -9,53 +9,53 @@ use Rattle.rpki_extensions.specs.declared.extensions.Extensions.{Extensions}
 use Rattle.pigyelund_c.specs.Certificates.{IsCertificateAt, IsMisaskedAt}
 use Rattle.pigyelund_c.specs.Numbers.{encoding_number}
 use Rattle.pigyelund_c.specs.Sets.{IsNoSet, IsSet}
-use Rattle.pigyelund_c.specs.Verified.{HasNoEncoding, IsUnverified, OfIssuer, OfMisasked}
+use Rattle.pigyelund_c.specs.Verified.{HasNoEncoding, IsToldUnverified, OfIssuer, OfMisasked}
 use Rattle.pigyelund_c.specs.declared.certificate.Certificate.{Certificate}
 use Rattle.pigyelund_c.specs.declared.path.Stopped.{Stopped}
 use Rattle.pigyelund_c.specs.declared.refusal.Refusal.{Refusal}
 
 -- the set is what one certificate claims of its issuer's
-abbrev pub IsStep : List ℕ → Encoding → Triple → Certificate → Triple → Type 0
-IsStep run encoding issuer c set =
+abbrev pub IsCertificateStep : List ℕ → Encoding → Triple → Certificate → Triple → Type 0
+IsCertificateStep run encoding issuer c set =
     (certificate : Extensions) × IsCertificateAt run encoding c certificate × IsVerified issuer certificate set
 
 -- a place or a number of it is none, or its issuer's set doesn't verify it
-abbrev pub IsNoStep : List ℕ → Encoding → Triple → Certificate → Refusal → Type 0
-IsNoStep run encoding issuer c reason =
+abbrev pub IsNoCertificateStep : List ℕ → Encoding → Triple → Certificate → Refusal → Type 0
+IsNoCertificateStep run encoding issuer c reason =
     OfMisasked (IsMisaskedAt run c) reason
-    ⊎ ((certificate : Extensions) × IsCertificateAt run encoding c certificate × IsUnverified issuer certificate reason)
+    ⊎ ((certificate : Extensions) × IsCertificateAt run encoding c certificate × IsToldUnverified issuer certificate reason)
 
 -- the set is what all leave of the anchor's, each verified by what the ones before it leave
 abbrev pub IsLeftOnPath : List ℕ → Encoding → Triple → List Certificate → Triple → Type 0
 IsLeftOnPath run encoding anchor [] set = set ≡ anchor
-IsLeftOnPath run encoding anchor (c ∷ cs) set = (next : Triple) × IsStep run encoding anchor c next × IsLeftOnPath run encoding next cs set
+IsLeftOnPath run encoding anchor (c ∷ cs) set = (next : Triple) × IsCertificateStep run encoding anchor c next × IsLeftOnPath run encoding next cs set
 
 -- so many are verified, and for the reason the next one isn't
 abbrev pub IsFirstRefused : List ℕ → Encoding → Triple → List Certificate → Stopped → Type 0
 IsFirstRefused run encoding anchor cs stopped =
     (c : Certificate) × (stopped.verified < length cs) × (slice_index_or cs stopped.verified c ≡ c)
-    × ((issuer : Triple) × IsLeftOnPath run encoding anchor (take stopped.verified cs) issuer × IsNoStep run encoding issuer c stopped.reason)
+    × ((issuer : Triple) × IsLeftOnPath run encoding anchor (take stopped.verified cs) issuer × IsNoCertificateStep run encoding issuer c stopped.reason)
 
 -- ---- from the anchor's octets
 
-abbrev pub IsPathAnswerIn : List ℕ → List ℕ → List ℕ → List Certificate → Encoding → Triple → Type 0
-IsPathAnswerIn anchor_as anchor_ip run cs encoding set =
+abbrev pub IsPathOutcomeIn : List ℕ → List ℕ → List ℕ → List Certificate → Encoding → Triple → Type 0
+IsPathOutcomeIn anchor_as anchor_ip run cs encoding set =
     (anchor : Triple) × IsSet encoding anchor_as anchor_ip anchor × IsLeftOnPath run encoding anchor cs set
 
 -- the anchor's octets list no set, or a certificate isn't verified
-abbrev pub IsNoPathAnswerIn : List ℕ → List ℕ → List ℕ → List Certificate → Encoding → Stopped → Type 0
-IsNoPathAnswerIn anchor_as anchor_ip run cs encoding stopped =
+abbrev pub IsNoPathOutcomeIn : List ℕ → List ℕ → List ℕ → List Certificate → Encoding → Stopped → Type 0
+IsNoPathOutcomeIn anchor_as anchor_ip run cs encoding stopped =
     ((stopped.verified ≡ 0) × OfIssuer (IsNoSet encoding anchor_as anchor_ip) stopped.reason)
     ⊎ ((anchor : Triple) × IsSet encoding anchor_as anchor_ip anchor × IsFirstRefused run encoding anchor cs stopped)
 
-abbrev pub IsPathAnswer : List ℕ → List ℕ → List ℕ → List Certificate → ℕ → Triple → Type 0
-IsPathAnswer anchor_as anchor_ip run cs encoding set =
-    (way : Encoding) × (encoding ≡ encoding_number way) × IsPathAnswerIn anchor_as anchor_ip run cs way set
+abbrev pub IsPathOutcome : List ℕ → List ℕ → List ℕ → List Certificate → ℕ → Triple → Type 0
+IsPathOutcome anchor_as anchor_ip run cs encoding set =
+    (way : Encoding) × (encoding ≡ encoding_number way) × IsPathOutcomeIn anchor_as anchor_ip run cs way set
 
-abbrev pub IsNoPathAnswer : List ℕ → List ℕ → List ℕ → List Certificate → ℕ → Stopped → Type 0
-IsNoPathAnswer anchor_as anchor_ip run cs encoding stopped =
+abbrev pub IsNoPathOutcome : List ℕ → List ℕ → List ℕ → List Certificate → ℕ → Stopped → Type 0
+IsNoPathOutcome anchor_as anchor_ip run cs encoding stopped =
     ((stopped.verified ≡ 0) × HasNoEncoding encoding stopped.reason)
-    ⊎ ((way : Encoding) × (encoding ≡ encoding_number way) × IsNoPathAnswerIn anchor_as anchor_ip run cs way stopped)
+    ⊎ ((way : Encoding) × (encoding ≡ encoding_number way) × IsNoPathOutcomeIn anchor_as anchor_ip run cs way stopped)
 
 -- ---- told
 

@@ -40,42 +40,42 @@ OfV6Excess P (Ipv4 excess) = ⊥
 OfV6Excess P (Ipv6 excess) = P excess
 
 -- a claim lists more of a kind than the issuer has: exactly that
-abbrev pub IsAsExcess : Runs → Claim → Overclaim → Excess → Type 0
-IsAsExcess issuer claim mode excess = OfAsExcess (IsExcess (Holds issuer) claim mode) excess
+abbrev pub IsToldAsExcess : Runs → Claim → Overclaim → Excess → Type 0
+IsToldAsExcess issuer claim mode excess = OfAsExcess (IsExcess (Holds issuer) claim mode) excess
 
-abbrev pub IsV4Excess : Runs → Claim → Overclaim → Excess → Type 0
-IsV4Excess issuer claim mode excess = OfV4Excess (IsExcess (Holds issuer) claim mode) excess
+abbrev pub IsToldV4Excess : Runs → Claim → Overclaim → Excess → Type 0
+IsToldV4Excess issuer claim mode excess = OfV4Excess (IsExcess (Holds issuer) claim mode) excess
 
-abbrev pub IsV6Excess : Runs → Claim → Overclaim → Excess → Type 0
-IsV6Excess issuer claim mode excess = OfV6Excess (IsExcess (Holds issuer) claim mode) excess
+abbrev pub IsToldV6Excess : Runs → Claim → Overclaim → Excess → Type 0
+IsToldV6Excess issuer claim mode excess = OfV6Excess (IsExcess (Holds issuer) claim mode) excess
 
 -- the claim on IPv4 lists more, or else that on IPv6
-abbrev pub AreNotIssued : Triple → Claim → Claim → Overclaim → Excess → Type 0
-AreNotIssued issuer v4 v6 mode excess =
-    IsV4Excess issuer.ipv4 v4 mode excess
-    ⊎ (((set : Runs) × IsIssued (Holds issuer.ipv4) v4 mode set) × IsV6Excess issuer.ipv6 v6 mode excess)
+abbrev pub AreToldNotIssued : Triple → Claim → Claim → Overclaim → Excess → Type 0
+AreToldNotIssued issuer v4 v6 mode excess =
+    IsToldV4Excess issuer.ipv4 v4 mode excess
+    ⊎ (((set : Runs) × IsIssued (Holds issuer.ipv4) v4 mode set) × IsToldV6Excess issuer.ipv6 v6 mode excess)
 
 -- the claim on AS numbers does, or else one on addresses
-abbrev pub IsNotIssuedOfEach : Triple → Claim → Claim → Claim → Overclaim → Excess → Type 0
-IsNotIssuedOfEach issuer asn v4 v6 mode excess =
-    IsAsExcess issuer.asn asn mode excess
-    ⊎ (((set : Runs) × IsIssued (Holds issuer.asn) asn mode set) × AreNotIssued issuer v4 v6 mode excess)
+abbrev pub IsToldNotIssuedOfEach : Triple → Claim → Claim → Claim → Overclaim → Excess → Type 0
+IsToldNotIssuedOfEach issuer asn v4 v6 mode excess =
+    IsToldAsExcess issuer.asn asn mode excess
+    ⊎ (((set : Runs) × IsIssued (Holds issuer.asn) asn mode set) × AreToldNotIssued issuer v4 v6 mode excess)
 
 -- ---- a certificate
 
 -- for the reason an issuer's set doesn't verify it: there are no claims, or they list more than the issuer has
-abbrev pub IsUnverified : Triple → Extensions → Refusal → Type 0
-IsUnverified issuer certificate (Asked why) = ⊥
-IsUnverified issuer certificate (Issuer reason) = ⊥
-IsUnverified issuer certificate (Unclaimed reason) = AreNoClaims certificate reason
-IsUnverified issuer certificate (Overclaimed excess) =
-    (asn : Claim) × (v4 : Claim) × (v6 : Claim) × AreClaims certificate asn v4 v6 × IsNotIssuedOfEach issuer asn v4 v6 certificate.mode excess
+abbrev pub IsToldUnverified : Triple → Extensions → Refusal → Type 0
+IsToldUnverified issuer certificate (Asked why) = ⊥
+IsToldUnverified issuer certificate (Issuer reason) = ⊥
+IsToldUnverified issuer certificate (Unclaimed reason) = AreNoClaims certificate reason
+IsToldUnverified issuer certificate (Overclaimed excess) =
+    (asn : Claim) × (v4 : Claim) × (v6 : Claim) × AreClaims certificate asn v4 v6 × IsToldNotIssuedOfEach issuer asn v4 v6 certificate.mode excess
 
 -- ---- of an issuer's set that is octets
 
 -- the set is what the issuer's leaves of the claims
-abbrev pub IsLeft : List ℕ → List ℕ → Encoding → Extensions → Triple → Type 0
-IsLeft issuer_as issuer_ip encoding certificate set =
+abbrev pub IsLeftByOctets : List ℕ → List ℕ → Encoding → Extensions → Triple → Type 0
+IsLeftByOctets issuer_as issuer_ip encoding certificate set =
     (issuer : Triple) × IsSet encoding issuer_as issuer_ip issuer × IsVerified issuer certificate set
 
 -- P of what is wrong with the issuer's octets
@@ -86,10 +86,10 @@ OfIssuer P (Unclaimed reason) = ⊥
 OfIssuer P (Overclaimed excess) = ⊥
 
 -- the issuer's octets list no set, or their set doesn't verify the certificate
-abbrev pub IsNotLeft : List ℕ → List ℕ → Encoding → Extensions → Refusal → Type 0
-IsNotLeft issuer_as issuer_ip encoding certificate reason =
+abbrev pub IsNotLeftByOctets : List ℕ → List ℕ → Encoding → Extensions → Refusal → Type 0
+IsNotLeftByOctets issuer_as issuer_ip encoding certificate reason =
     OfIssuer (IsNoSet encoding issuer_as issuer_ip) reason
-    ⊎ ((issuer : Triple) × IsSet encoding issuer_as issuer_ip issuer × IsUnverified issuer certificate reason)
+    ⊎ ((issuer : Triple) × IsSet encoding issuer_as issuer_ip issuer × IsToldUnverified issuer certificate reason)
 
 -- ---- and of a certificate that is octets and numbers
 
@@ -100,28 +100,28 @@ OfMisasked P (Issuer reason) = ⊥
 OfMisasked P (Unclaimed reason) = ⊥
 OfMisasked P (Overclaimed excess) = ⊥
 
-abbrev pub IsAnswerIn : List ℕ → List ℕ → ℕ → List ℕ → List ℕ → Encoding → ℕ → Triple → Type 0
-IsAnswerIn issuer_as issuer_ip present cert_as cert_ip encoding mode set =
+abbrev pub IsOutcomeIn : List ℕ → List ℕ → ℕ → List ℕ → List ℕ → Encoding → ℕ → Triple → Type 0
+IsOutcomeIn issuer_as issuer_ip present cert_as cert_ip encoding mode set =
     (certificate : Extensions) × IsCertificate present cert_as cert_ip encoding mode certificate
-    × IsLeft issuer_as issuer_ip encoding certificate set
+    × IsLeftByOctets issuer_as issuer_ip encoding certificate set
 
 -- a number is none, or there is such a reason
-abbrev pub IsNoAnswerIn : List ℕ → List ℕ → ℕ → List ℕ → List ℕ → Encoding → ℕ → Refusal → Type 0
-IsNoAnswerIn issuer_as issuer_ip present cert_as cert_ip encoding mode reason =
+abbrev pub IsNoOutcomeIn : List ℕ → List ℕ → ℕ → List ℕ → List ℕ → Encoding → ℕ → Refusal → Type 0
+IsNoOutcomeIn issuer_as issuer_ip present cert_as cert_ip encoding mode reason =
     OfMisasked (IsMisasked present mode) reason
     ⊎ ((certificate : Extensions) × IsCertificate present cert_as cert_ip encoding mode certificate
-    × IsNotLeft issuer_as issuer_ip encoding certificate reason)
+    × IsNotLeftByOctets issuer_as issuer_ip encoding certificate reason)
 
 -- so by the number of an encoding
-abbrev pub IsAnswer : List ℕ → List ℕ → ℕ → List ℕ → List ℕ → ℕ → ℕ → Triple → Type 0
-IsAnswer issuer_as issuer_ip present cert_as cert_ip encoding mode set =
-    (way : Encoding) × (encoding ≡ encoding_number way) × IsAnswerIn issuer_as issuer_ip present cert_as cert_ip way mode set
+abbrev pub IsOutcome : List ℕ → List ℕ → ℕ → List ℕ → List ℕ → ℕ → ℕ → Triple → Type 0
+IsOutcome issuer_as issuer_ip present cert_as cert_ip encoding mode set =
+    (way : Encoding) × (encoding ≡ encoding_number way) × IsOutcomeIn issuer_as issuer_ip present cert_as cert_ip way mode set
 
 -- the number is of no encoding
 abbrev pub HasNoEncoding : ℕ → Refusal → Type 0
 HasNoEncoding encoding reason = (reason ≡ Asked NoEncoding) × ((way : Encoding) → encoding ≢ encoding_number way)
 
-abbrev pub IsNoAnswer : List ℕ → List ℕ → ℕ → List ℕ → List ℕ → ℕ → ℕ → Refusal → Type 0
-IsNoAnswer issuer_as issuer_ip present cert_as cert_ip encoding mode reason =
+abbrev pub IsNoOutcome : List ℕ → List ℕ → ℕ → List ℕ → List ℕ → ℕ → ℕ → Refusal → Type 0
+IsNoOutcome issuer_as issuer_ip present cert_as cert_ip encoding mode reason =
     HasNoEncoding encoding reason
-    ⊎ ((way : Encoding) × (encoding ≡ encoding_number way) × IsNoAnswerIn issuer_as issuer_ip present cert_as cert_ip way mode reason)
+    ⊎ ((way : Encoding) × (encoding ≡ encoding_number way) × IsNoOutcomeIn issuer_as issuer_ip present cert_as cert_ip way mode reason)

@@ -2,7 +2,7 @@
 ghost use Rattle.std.specs.Prelude.{MatchResult};
 ghost use Rattle.rpki_text.specs.Memory.{IfRefused};
 ghost use Rattle.rpki_extensions.specs.Issued.{IsVerified};
-ghost use Rattle.pigyelund_c.specs.Verified.{IsAnswer, IsAnswerIn, IsLeft, IsNoAnswer, IsNoAnswerIn, IsNotLeft, IsUnverified};
+ghost use Rattle.pigyelund_c.specs.Verified.{IsOutcome, IsOutcomeIn, IsLeftByOctets, IsNoOutcome, IsNoOutcomeIn, IsNotLeftByOctets, IsToldUnverified};
 
 use crate::certificate::extensions_of;
 use crate::encodings::encoding_of;
@@ -23,7 +23,7 @@ pub(crate) fn verified(
     certificate: &Extensions<'_>,
 ) -> Result<ResourceSet, OrMemory<Refusal>>
     ensures { MatchResult result (IsVerified issuer.now certificate.now)
-        (IfRefused (IsUnverified issuer.now certificate.now)) }
+        (IfRefused (IsToldUnverified issuer.now certificate.now)) }
 {
     let claims = match certificate.claims(alloc) {
         Ok(claims) => claims,
@@ -45,8 +45,8 @@ fn left_of(
     encoding: Encoding,
     certificate: &Extensions<'_>,
 ) -> Result<ResourceSet, OrMemory<Refusal>>
-    ensures { MatchResult result (IsLeft issuer_as.now issuer_ip.now encoding certificate.now)
-        (IfRefused (IsNotLeft issuer_as.now issuer_ip.now encoding certificate.now)) }
+    ensures { MatchResult result (IsLeftByOctets issuer_as.now issuer_ip.now encoding certificate.now)
+        (IfRefused (IsNotLeftByOctets issuer_as.now issuer_ip.now encoding certificate.now)) }
 {
     match set_of(alloc, issuer_as, issuer_ip, encoding) {
         Ok(issuer) => verified(alloc, &issuer, certificate),
@@ -67,8 +67,8 @@ fn answered_in(
     mode: u32,
 ) -> Result<ResourceSet, OrMemory<Refusal>>
     ensures { MatchResult result
-        (IsAnswerIn issuer_as.now issuer_ip.now present cert_as.now cert_ip.now encoding mode)
-        (IfRefused (IsNoAnswerIn issuer_as.now issuer_ip.now present cert_as.now cert_ip.now
+        (IsOutcomeIn issuer_as.now issuer_ip.now present cert_as.now cert_ip.now encoding mode)
+        (IfRefused (IsNoOutcomeIn issuer_as.now issuer_ip.now present cert_as.now cert_ip.now
         encoding mode)) }
 {
     match extensions_of(present, cert_as, cert_ip, encoding, mode) {
@@ -89,8 +89,8 @@ pub(crate) fn answered(
     mode: u32,
 ) -> Result<ResourceSet, OrMemory<Refusal>>
     ensures { MatchResult result
-        (IsAnswer issuer_as.now issuer_ip.now present cert_as.now cert_ip.now encoding mode)
-        (IfRefused (IsNoAnswer issuer_as.now issuer_ip.now present cert_as.now cert_ip.now
+        (IsOutcome issuer_as.now issuer_ip.now present cert_as.now cert_ip.now encoding mode)
+        (IfRefused (IsNoOutcome issuer_as.now issuer_ip.now present cert_as.now cert_ip.now
         encoding mode)) }
 {
     match encoding_of(encoding) {

@@ -6,7 +6,7 @@ ghost use Rattle.rpki_chain.specs.Runs.{Holds};
 ghost use Rattle.rpki_extensions.specs.Issued.{AreIssued, IsIssuedOfEach};
 ghost use Rattle.rpki_ip.specs.Whole.{IsWhole};
 ghost use Rattle.rpki_ipres.specs.Resources.{IsWholeClaim};
-ghost use Rattle.pigyelund_c.specs.Verified.{AreNotIssued, IsAsExcess, IsNotIssuedOfEach, IsV4Excess, IsV6Excess, OfV4Excess, OfV6Excess};
+ghost use Rattle.pigyelund_c.specs.Verified.{AreToldNotIssued, IsToldAsExcess, IsToldNotIssuedOfEach, IsToldV4Excess, IsToldV6Excess, OfV4Excess, OfV6Excess};
 
 use crate::refusal::Excess;
 use rpki_extensions::extensions::Claims;
@@ -25,7 +25,7 @@ fn numbers_left(
     mode: Overclaim,
 ) -> Result<AsBlocks, OrMemory<Excess>>
     ensures { MatchResult result (IsIssued (Holds issuer.now) claim.now mode)
-        (IfRefused (IsAsExcess issuer.now claim.now mode)) }
+        (IfRefused (IsToldAsExcess issuer.now claim.now mode)) }
 {
     match issuer.verify_issued(alloc, claim, mode) {
         Ok(set) => Ok(set),
@@ -67,7 +67,7 @@ fn v4_left(
 ) -> Result<Ipv4Blocks, OrMemory<Excess>>
     requires { IsWholeClaim claim.now }
     ensures { MatchResult result (IsIssued (Holds issuer.now) claim.now mode)
-        (IfRefused (IsV4Excess issuer.now claim.now mode)) }
+        (IfRefused (IsToldV4Excess issuer.now claim.now mode)) }
 {
     rpki_ipres::laws::laws_of_whole_claims(); // so that the proof sees that the answer consists of whole addresses
     match issuer.ip_blocks().verify_issued(alloc, claim, mode) {
@@ -85,7 +85,7 @@ fn v6_left(
     mode: Overclaim,
 ) -> Result<Ipv6Blocks, OrMemory<Excess>>
     ensures { MatchResult result (IsIssued (Holds issuer.now) claim.now mode)
-        (IfRefused (IsV6Excess issuer.now claim.now mode)) }
+        (IfRefused (IsToldV6Excess issuer.now claim.now mode)) }
 {
     match issuer.ip_blocks().verify_issued(alloc, claim, mode) {
         Ok(set) => Ok(Ipv6Blocks::from_ip_blocks(set)),
@@ -104,7 +104,7 @@ fn addresses_left(
 ) -> Result<(Ipv4Blocks, Ipv6Blocks), OrMemory<Excess>>
     requires { IsWholeClaim v4.now }
     ensures { MatchResult result (AreIssued issuer.now v4.now v6.now mode)
-        (IfRefused (AreNotIssued issuer.now v4.now v6.now mode)) }
+        (IfRefused (AreToldNotIssued issuer.now v4.now v6.now mode)) }
 {
     let ipv4 = v4_left(alloc, issuer.ipv4(), v4, mode)?;
     let ipv6 = v6_left(alloc, issuer.ipv6(), v6, mode)?;
@@ -123,7 +123,7 @@ pub(crate) fn claims_left(
     ensures { MatchResult result
         (IsIssuedOfEach issuer.now claims.now.asn claims.now.ipv4 claims.now.ipv6 mode)
         (IfRefused
-        (IsNotIssuedOfEach issuer.now claims.now.asn claims.now.ipv4 claims.now.ipv6 mode)) }
+        (IsToldNotIssuedOfEach issuer.now claims.now.asn claims.now.ipv4 claims.now.ipv6 mode)) }
 {
     let asn = numbers_left(alloc, issuer.asn(), &claims.asn, mode)?;
     let (ipv4, ipv6) = addresses_left(alloc, issuer, &claims.ipv4, &claims.ipv6, mode)?;

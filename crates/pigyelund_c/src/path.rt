@@ -1,7 +1,7 @@
 //! A path of certificates, from an anchor's set down.
 ghost use Rattle.std.specs.Prelude.{◌≡◌, length, MatchResult};
 ghost use Rattle.rpki_text.specs.Memory.{IfRefused};
-ghost use Rattle.pigyelund_c.specs.Paths.{IsFirstRefused, IsLeftOnPath, IsNoPathAnswer, IsNoPathAnswerIn, IsPathAnswer, IsPathAnswerIn, IsNoStep, IsStep, outcome_alone, verified_count};
+ghost use Rattle.pigyelund_c.specs.Paths.{IsFirstRefused, IsLeftOnPath, IsNoPathOutcome, IsNoPathOutcomeIn, IsPathOutcome, IsPathOutcomeIn, IsNoCertificateStep, IsCertificateStep, outcome_alone, verified_count};
 
 use crate::ask::verified;
 use crate::certificate::Certificate;
@@ -42,8 +42,8 @@ fn step(
     encoding: Encoding,
     certificate: &Certificate,
 ) -> Result<ResourceSet, OrMemory<Refusal>>
-    ensures { MatchResult result (IsStep run.now encoding issuer.now certificate.now)
-        (IfRefused (IsNoStep run.now encoding issuer.now certificate.now)) }
+    ensures { MatchResult result (IsCertificateStep run.now encoding issuer.now certificate.now)
+        (IfRefused (IsNoCertificateStep run.now encoding issuer.now certificate.now)) }
 {
     match certificate.extensions(run, encoding) {
         Ok(extensions) => verified(alloc, issuer, &extensions),
@@ -89,9 +89,9 @@ fn path_answered_in(
     certificates: &[Certificate],
 ) -> Result<ResourceSet, OrMemory<Stopped>>
     ensures { MatchResult result
-        (IsPathAnswerIn anchor_as.now anchor_ip.now run.now certificates.now encoding)
+        (IsPathOutcomeIn anchor_as.now anchor_ip.now run.now certificates.now encoding)
         (IfRefused
-        (IsNoPathAnswerIn anchor_as.now anchor_ip.now run.now certificates.now encoding)) }
+        (IsNoPathOutcomeIn anchor_as.now anchor_ip.now run.now certificates.now encoding)) }
 {
     match set_of(alloc, anchor_as, anchor_ip, encoding) {
         Ok(anchor) => left_on_path(alloc, anchor, run, encoding, certificates),
@@ -112,9 +112,9 @@ pub(crate) fn path_answered(
     certificates: &[Certificate],
 ) -> Result<ResourceSet, OrMemory<Stopped>>
     ensures { MatchResult result
-        (IsPathAnswer anchor_as.now anchor_ip.now run.now certificates.now encoding)
+        (IsPathOutcome anchor_as.now anchor_ip.now run.now certificates.now encoding)
         (IfRefused
-        (IsNoPathAnswer anchor_as.now anchor_ip.now run.now certificates.now encoding)) }
+        (IsNoPathOutcome anchor_as.now anchor_ip.now run.now certificates.now encoding)) }
 {
     match encoding_of(encoding) {
         Some(encoding) => path_answered_in(

@@ -3,10 +3,10 @@ ghost use Rattle.std.specs.Prelude.{◌≡◌, length, MatchResult, Result};
 ghost use Rattle.rpki_text.specs.Memory.{IfRefused};
 ghost use Rattle.rpki_text.specs.declared.memory.OrMemory.{OrMemory as Refusing};
 ghost use Rattle.rpki_resources.specs.Triples.{Triple};
-ghost use Rattle.pigyelund_c.specs.Paths.{IsNoPathAnswer, IsPathAnswer, outcome_alone, verified_count};
+ghost use Rattle.pigyelund_c.specs.Paths.{IsNoPathOutcome, IsPathOutcome, outcome_alone, verified_count};
 ghost use Rattle.pigyelund_c.specs.Sets.{IsTold};
 ghost use Rattle.pigyelund_c.specs.Statuses.{status_of, told_set};
-ghost use Rattle.pigyelund_c.specs.Verified.{IsAnswer, IsNoAnswer};
+ghost use Rattle.pigyelund_c.specs.Verified.{IsOutcome, IsNoOutcome};
 ghost use Rattle.pigyelund_c.specs.declared.path.Stopped.{Stopped};
 ghost use Rattle.pigyelund_c.specs.declared.refusal.Refusal.{Refusal};
 
@@ -50,8 +50,8 @@ pub extern "C" fn pg_verify(
 ) -> u32
     ensures { (outcome : Result Triple (Refusing Refusal))
         × MatchResult outcome
-        (IsAnswer issuer_as.now issuer_ip.now present cert_as.now cert_ip.now encoding mode)
-        (IfRefused (IsNoAnswer issuer_as.now issuer_ip.now present cert_as.now cert_ip.now
+        (IsOutcome issuer_as.now issuer_ip.now present cert_as.now cert_ip.now encoding mode)
+        (IfRefused (IsNoOutcome issuer_as.now issuer_ip.now present cert_as.now cert_ip.now
         encoding mode))
         × IsTold (status_of outcome) (told_set outcome) as_out.old ip_out.old as_out.new
         ip_out.new as_len.new ip_len.new result }
@@ -84,9 +84,9 @@ pub extern "C" fn pg_verify_path(
 ) -> u32
     ensures { (outcome : Result Triple (Refusing Stopped))
         × MatchResult outcome
-        (IsPathAnswer anchor_as.now anchor_ip.now run.now certificates.now encoding)
+        (IsPathOutcome anchor_as.now anchor_ip.now run.now certificates.now encoding)
         (IfRefused
-        (IsNoPathAnswer anchor_as.now anchor_ip.now run.now certificates.now encoding))
+        (IsNoPathOutcome anchor_as.now anchor_ip.now run.now certificates.now encoding))
         × (verified.new ≡ verified_count (length certificates.now) outcome)
         × IsTold (status_of (outcome_alone outcome)) (told_set (outcome_alone outcome)) as_out.old
         ip_out.old as_out.new ip_out.new as_len.new ip_len.new result }

@@ -2,7 +2,7 @@
 use Rattle.std.specs.Prelude.{◌≡◌, ◌&&◌, ◌==◌, ℕ, ◌≤◌, ◌⊎◌, Bool, nat_le, List, [], ◌∷◌, reverse, take, length}
 use Rattle.std.specs.List.{filter}
 use Rattle.rpki_prefix.specs.Order.{last_bits}
-use Rattle.rpki_prefix.specs.Values.{FamilyPrefix, IsFamilyPrefix, bits, width}
+use Rattle.rpki_prefix.specs.Values.{FamilyPrefix, IsFamilyPrefix, address_number, width}
 use Rattle.roa_origin.specs.Links.{AreUpTo, IsTable}
 use Rattle.roa_origin.specs.Payloads.{Payload}
 
@@ -15,7 +15,7 @@ AreThose {X} P (x ∷ xs) ys = (P x × (zs : List X) × (ys ≡ x ∷ zs) × Are
 abbrev pub covers_route : FamilyPrefix → Payload → Bool
 covers_route route payload =
     (width payload.0.prefix.addr == width route.addr)
-    && (nat_le (bits payload.0.prefix.addr) (bits route.addr) && nat_le (last_bits route) (last_bits payload.0.prefix))
+    && (nat_le (address_number payload.0.prefix.addr) (address_number route.addr) && nat_le (last_bits route) (last_bits payload.0.prefix))
 
 -- the first n payloads that cover the route, the last first
 abbrev pub covering_before : FamilyPrefix → List Payload → ℕ → List Payload

@@ -2,7 +2,7 @@
 use Rattle.std.specs.Prelude.{ℕ, Bool, true, false, Option}
 use Rattle.rpki_addr.specs.declared.addr.IpAddr.{IpAddr}
 use Rattle.rpki_addr.specs.declared.addr.IpAddr.TheVariants.{V4, V6}
-use Rattle.rpki_prefix.specs.Values.{bits, is_v6}
+use Rattle.rpki_prefix.specs.Values.{address_number, is_v6}
 use Rattle.roa_origin.specs.Payloads.{Payload}
 
 -- the address of IPv4 or IPv6 that the bits of a number write
@@ -16,7 +16,7 @@ payload_of v6 n len max_len asn = (record { prefix = record { addr = addr_of v6 
 
 -- the number that the bits of a payload's address write
 abbrev pub address_bits : Payload → ℕ
-address_bits payload = bits payload.0.prefix.addr
+address_bits payload = address_number payload.0.prefix.addr
 
 -- whether a payload is of IPv6
 abbrev pub is_of_v6 : Payload → Bool

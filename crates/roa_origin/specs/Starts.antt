@@ -1,12 +1,12 @@
 -- Where the payloads whose addresses begin with the same bits stand in a table.
 use Rattle.std.specs.Prelude.{◌≡◌, ℕ, ◌+◌, ◌-◌, ◌*◌, ◌/◌, ◌^◌, ◌<◌, ◌≤◌, List, length, slice_index, slice_index_or}
-use Rattle.rpki_prefix.specs.Values.{FamilyPrefix, bits, width}
+use Rattle.rpki_prefix.specs.Values.{FamilyPrefix, address_number, width}
 use Rattle.roa_origin.specs.Payloads.{Payload}
-use Rattle.roa_origin.specs.Places.{family_number}
+use Rattle.roa_origin.specs.Places.{family_place}
 
 -- the number that the first n bits of a prefix's address write, those of IPv6 after those of IPv4
 abbrev pub first_bits : ℕ → FamilyPrefix → ℕ
-first_bits n p = family_number p.addr * 2 ^ n + bits p.addr / 2 ^ (width p.addr - n)
+first_bits n p = family_place p.addr * 2 ^ n + address_number p.addr / 2 ^ (width p.addr - n)
 
 -- a place in a table before which the first n bits write less than a number, and from which on no less
 pub record IsStart (n : ℕ) (xs : List Payload) (number start : ℕ) : Type 0 where

@@ -30,7 +30,7 @@ use Rattle.rpki_as.specs.AsDer.{IsAsBlockSequence, as_run_octets, as_sequence_oc
 use Rattle.rpki_asblock.specs.AsDer.{IsAsBlock, as_block_octets, as_range_content}
 use Rattle.rpki_asblock.specs.AsDerLaws.{as_block_has_octets, as_block_reading}
 use Rattle.rpki_asblock.specs.AsDerModes.{IsNextBlock, IsStrictBlock, next_block_modal}
-use Rattle.rpki_as.specs.AsDerReading.{as_blocks_at, as_blocks_by, greatest_of}
+use Rattle.rpki_as.specs.AsDerReading.{as_blocks_at, as_blocks_by, greatest_of_as_block}
 use Rattle.rpki_asblock.specs.AsDerReading.{as_block_at, next_block_by}
 use Rattle.rpki_asblock.specs.BlockForms.{new_as_block_bounds}
 use Rattle.rpki_as.specs.Blocks.{IsAsSet}
@@ -175,10 +175,10 @@ strict_blocks = record {
 }
 
 -- a SEQUENCE of blocks
-pub blocks_modal : IsModal (IsSequenceFrom greatest_of IsNextBlock None) as_blocks_at as_blocks_by
+pub blocks_modal : IsModal (IsSequenceFrom greatest_of_as_block IsNextBlock None) as_blocks_at as_blocks_by
 blocks_modal =
-    subst (λ values. IsModal (IsSequenceFrom greatest_of IsNextBlock None) (refined (tagged_at 48) values) as_blocks_by) (values_stateless greatest_of as_block_at None)
-    (sequence_modal greatest_of (λ before. IsAsBlock) IsNextBlock (λ before. as_block_at) next_block_by (λ before. as_block_reading) (λ before. as_block_has_octets) next_block_modal None)
+    subst (λ values. IsModal (IsSequenceFrom greatest_of_as_block IsNextBlock None) (refined (tagged_at 48) values) as_blocks_by) (values_stateless greatest_of_as_block as_block_at None)
+    (sequence_modal greatest_of_as_block (λ before. IsAsBlock) IsNextBlock (λ before. as_block_at) next_block_by (λ before. as_block_reading) (λ before. as_block_has_octets) next_block_modal None)
 
 -- strictly, its blocks are a chain
 pub chain_read : (old : Cursor) (xs : List AsBlock) (rest : List ℕ) → IsBytes (left old) → is_strict old ≡ true → as_blocks_by (is_strict old) (left old) ≡ Ok (xs, rest) → IsChain as_bounds new_as_block xs
@@ -187,19 +187,19 @@ chain_read old xs rest fits strict read =
     taken_chain as_bounds new_as_block as_block_octets 4294967295 (λ b. Unit {0}) IsStrictBlock strict_blocks None found.1.0 xs found.1.2
 
 -- and it is what is written of a set
-pub sequence_spelled : (bytes : List ℕ) (set : Runs) → Refines (IsSequenceFrom greatest_of IsNextBlock None) (IsRunsOfBlocks as_bounds) bytes set → Spells IsAsSet as_sequence_octets bytes set
+pub sequence_spelled : (bytes : List ℕ) (set : Runs) → Refines (IsSequenceFrom greatest_of_as_block IsNextBlock None) (IsRunsOfBlocks as_bounds) bytes set → Spells IsAsSet as_sequence_octets bytes set
 sequence_spelled bytes set is =
     let spelled = set_spelled as_bounds new_as_block as_block_octets 4294967295 (λ b. Unit {0}) IsStrictBlock strict_blocks bytes set is in
     (spelled.0.0, spelled.1)
 
-pub spelled_sequence : (bytes : List ℕ) (set : Runs) → Spells IsAsSet as_sequence_octets bytes set → Refines (IsSequenceFrom greatest_of IsNextBlock None) (IsRunsOfBlocks as_bounds) bytes set
+pub spelled_sequence : (bytes : List ℕ) (set : Runs) → Spells IsAsSet as_sequence_octets bytes set → Refines (IsSequenceFrom greatest_of_as_block IsNextBlock None) (IsRunsOfBlocks as_bounds) bytes set
 spelled_sequence bytes set (is, spelled) =
     spelled_set as_bounds new_as_block as_block_octets 4294967295 (λ b. Unit {0}) IsStrictBlock strict_blocks bytes set (set_octets_short set is) ((is, λ k d small. tt), spelled)
 
 module _ (old new : Cursor) (result : Result Runs (OrMemory DerError)) (took : TakesSaidOrMemory (IsRunsOfBlocks as_bounds) old new result (as_blocks_by (is_strict old))) where
   -- a take that answers what the blocks say
   pub exact_set : Lenient old (TakesSaidOrMemory (IsRunsOfBlocks as_bounds) old new result as_blocks_at)
-  exact_set = exact_said_by (IsSequenceFrom greatest_of IsNextBlock None) (IsRunsOfBlocks as_bounds) as_blocks_at as_blocks_by old new result blocks_modal took
+  exact_set = exact_said_by (IsSequenceFrom greatest_of_as_block IsNextBlock None) (IsRunsOfBlocks as_bounds) as_blocks_at as_blocks_by old new result blocks_modal took
 
   -- answers a set of the grammar
   pub reads_set : IsBytes (left old) → Lenient old (ReadsOrMemory IsAsBlockSequence (λ set. set) old new result)
@@ -208,16 +208,16 @@ module _ (old new : Cursor) (result : Result Runs (OrMemory DerError)) (took : T
   -- strictly, of the octets that are written of it
   pub reads_canonical_set : IsBytes (left old) → Strict old (ReadsOrMemory (Spells IsAsSet as_sequence_octets) (λ set. set) old new result)
   reads_canonical_set fits strict =
-      let S = IsSequenceFrom greatest_of IsNextBlock None in
+      let S = IsSequenceFrom greatest_of_as_block IsNextBlock None in
       let read = reads_said_by S (IsRunsOfBlocks as_bounds) (as_blocks_by true) old new result blocks_modal.tight fits (subst (λ mode. TakesSaidOrMemory (IsRunsOfBlocks as_bounds) old new result (as_blocks_by mode)) strict took) in
       reads_same (Refines S (IsRunsOfBlocks as_bounds)) (Spells IsAsSet as_sequence_octets) (λ set. set) old new result sequence_spelled spelled_sequence read
 
   -- else it is refused
   pub refused_set : NotCanonicalOrMemory IsAsBlockSequence old result
-  refused_set = refused_said_by (IsSequenceOf IsAsBlock) (IsSequenceFrom greatest_of IsNextBlock None) (IsRunsOfBlocks as_bounds) as_blocks_at as_blocks_by old new result blocks_reading blocks_modal took
+  refused_set = refused_said_by (IsSequenceOf IsAsBlock) (IsSequenceFrom greatest_of_as_block IsNextBlock None) (IsRunsOfBlocks as_bounds) as_blocks_at as_blocks_by old new result blocks_reading blocks_modal took
 
   -- and what is written of a set is read as that set
   pub reads_back_set : (set : Runs) (rest : List ℕ) → IsAsSet set → left old ≡ as_sequence_octets set ++ rest → MatchResult result (λ read. (read ≡ set) × (left new ≡ rest)) IsMemory
   reads_back_set set rest is at =
       let written = spelled_sequence (as_sequence_octets set) set (is, refl) in
-      takes_said_by (IsSequenceFrom greatest_of IsNextBlock None) (IsRunsOfBlocks as_bounds) as_blocks_at as_blocks_by old new result blocks_modal one_set took (as_sequence_octets set) rest written.0 set written.1 written.2 at
+      takes_said_by (IsSequenceFrom greatest_of_as_block IsNextBlock None) (IsRunsOfBlocks as_bounds) as_blocks_at as_blocks_by old new result blocks_modal one_set took (as_sequence_octets set) rest written.0 set written.1 written.2 at

@@ -27,11 +27,11 @@ use Rattle.rpki_blocks.specs.Sets.{IsChain}
 use Rattle.rpki_chain.proofs.Ascending.{listed_chain, no_numbers}
 use Rattle.rpki_chain.proofs.ChoiceReadings.{choice_modal, choice_reading, has_numbers}
 use Rattle.rpki_chain.proofs.ClaimLemmas.{lists_one}
-use Rattle.rpki_as.specs.AsDer.{IsAsChoice, IsAsResources, IsPresentClaim, as_resources_octets, as_sequence_octets, as_set_octets}
+use Rattle.rpki_as.specs.AsDer.{IsAsChoice, IsAsResources, IsPresentAsClaim, as_resources_octets, as_sequence_octets, as_set_octets}
 use Rattle.rpki_asblock.specs.AsDer.{IsAsBlock, as_block_octets}
 use Rattle.rpki_asblock.specs.AsDerLaws.{as_block_has_octets, as_block_reading}
 use Rattle.rpki_asblock.specs.AsDerModes.{IsNextBlock, IsStrictBlock, next_block_modal}
-use Rattle.rpki_as.specs.AsDerReading.{as_choice_at, as_choice_by, greatest_of}
+use Rattle.rpki_as.specs.AsDerReading.{as_choice_at, as_choice_by, greatest_of_as_block}
 use Rattle.rpki_asblock.specs.AsDerReading.{as_block_at, next_block_by}
 use Rattle.rpki_as.specs.Blocks.{IsAsSet}
 use Rattle.rpki_asblock.specs.Blocks.{as_bounds, new_as_block}
@@ -135,14 +135,14 @@ resources_alike a b is also some more = (
 
 -- what strict cursors take
 abbrev IsStrictChoice : List ℕ → ResourcesChoice (List AsBlock) → Type 0
-IsStrictChoice = Encloses 48 (Encloses 160 (IsChoiceOf (IsSequenceFrom greatest_of IsNextBlock None)))
+IsStrictChoice = Encloses 48 (Encloses 160 (IsChoiceOf (IsSequenceFrom greatest_of_as_block IsNextBlock None)))
 
-inner_modal : IsModal (IsChoiceOf (IsSequenceFrom greatest_of IsNextBlock None)) (choice_at (values_of as_block_at)) (λ strict. choice_at (values_from greatest_of (next_block_by strict) None))
+inner_modal : IsModal (IsChoiceOf (IsSequenceFrom greatest_of_as_block IsNextBlock None)) (choice_at (values_of as_block_at)) (λ strict. choice_at (values_from greatest_of_as_block (next_block_by strict) None))
 inner_modal =
-    subst (λ values. IsModal (IsChoiceOf (IsSequenceFrom greatest_of IsNextBlock None)) (choice_at values) (λ strict. choice_at (values_from greatest_of (next_block_by strict) None))) (values_stateless greatest_of as_block_at None)
-    (choice_modal (EachFrom greatest_of IsNextBlock None) (values_from greatest_of (λ before. as_block_at) None) (λ strict. values_from greatest_of (next_block_by strict) None)
-    (strict_values_check greatest_of (λ before. IsAsBlock) IsNextBlock (λ before. as_block_at) next_block_by (λ before. as_block_reading) (λ before. as_block_has_octets) next_block_modal None)
-    (λ strict. values_tighten strict greatest_of (next_block_by strict) (λ before. as_block_at) (λ before. (next_block_modal before).tightens strict) None))
+    subst (λ values. IsModal (IsChoiceOf (IsSequenceFrom greatest_of_as_block IsNextBlock None)) (choice_at values) (λ strict. choice_at (values_from greatest_of_as_block (next_block_by strict) None))) (values_stateless greatest_of_as_block as_block_at None)
+    (choice_modal (EachFrom greatest_of_as_block IsNextBlock None) (values_from greatest_of_as_block (λ before. as_block_at) None) (λ strict. values_from greatest_of_as_block (next_block_by strict) None)
+    (strict_values_check greatest_of_as_block (λ before. IsAsBlock) IsNextBlock (λ before. as_block_at) next_block_by (λ before. as_block_reading) (λ before. as_block_has_octets) next_block_modal None)
+    (λ strict. values_tighten strict greatest_of_as_block (next_block_by strict) (λ before. as_block_at) (λ before. (next_block_modal before).tightens strict) None))
 
 -- the claim of the blocks that stand in such lists as were read is what was read
 pub claim_of_listed : {Y : Type 0} (items : Y → List AsBlock) (read : ResourcesChoice (List AsBlock)) (listed : ResourcesChoice Y) (claim : Claim)
@@ -154,19 +154,19 @@ claim_of_listed items (Blocks xs) listed claim (l, same, e) of =
     (set.0, subst (λ ys. IsRunsOfBlocks as_bounds ys set.0) same set.1, set.2)
 
 -- strictly, the blocks that are listed are a chain
-pub chain_listed : (old : Cursor) (choice : ResourcesChoice (List AsBlock)) (rest : List ℕ) → IsBytes (left old) → is_strict old ≡ true → choice_at (values_from greatest_of (next_block_by (is_strict old)) None) (left old) ≡ Ok (choice, rest) → MatchChoice choice ⊤ ⊤ (IsChain as_bounds new_as_block)
+pub chain_listed : (old : Cursor) (choice : ResourcesChoice (List AsBlock)) (rest : List ℕ) → IsBytes (left old) → is_strict old ≡ true → choice_at (values_from greatest_of_as_block (next_block_by (is_strict old)) None) (left old) ≡ Ok (choice, rest) → MatchChoice choice ⊤ ⊤ (IsChain as_bounds new_as_block)
 chain_listed old choice rest fits strict read =
-    let strictly : choice_at (values_from greatest_of (next_block_by true) None) (left old) ≡ Ok (choice, rest) = subst (λ mode. choice_at (values_from greatest_of (next_block_by mode) None) (left old) ≡ Ok (choice, rest)) strict read in
+    let strictly : choice_at (values_from greatest_of_as_block (next_block_by true) None) (left old) ≡ Ok (choice, rest) = subst (λ mode. choice_at (values_from greatest_of_as_block (next_block_by mode) None) (left old) ≡ Ok (choice, rest)) strict read in
     let found = inner_modal.tight.takes (left old) choice rest fits strictly in
     listed_chain as_bounds new_as_block as_block_octets 4294967295 (λ b. Unit {0}) IsStrictBlock strict_blocks found.0 choice found.1
 
 as_choice_modal : IsModal IsStrictChoice as_choice_at as_choice_by
 as_choice_modal =
-    enclosed_modal 48 (Encloses 160 (IsChoiceOf (IsSequenceFrom greatest_of IsNextBlock None))) (enclosed_at 160 (choice_at (values_of as_block_at))) (λ strict. enclosed_at 160 (choice_at (values_from greatest_of (next_block_by strict) None)))
-    (enclosed_modal 160 (IsChoiceOf (IsSequenceFrom greatest_of IsNextBlock None)) (choice_at (values_of as_block_at)) (λ strict. choice_at (values_from greatest_of (next_block_by strict) None)) inner_modal)
+    enclosed_modal 48 (Encloses 160 (IsChoiceOf (IsSequenceFrom greatest_of_as_block IsNextBlock None))) (enclosed_at 160 (choice_at (values_of as_block_at))) (λ strict. enclosed_at 160 (choice_at (values_from greatest_of_as_block (next_block_by strict) None)))
+    (enclosed_modal 160 (IsChoiceOf (IsSequenceFrom greatest_of_as_block IsNextBlock None)) (choice_at (values_of as_block_at)) (λ strict. choice_at (values_from greatest_of_as_block (next_block_by strict) None)) inner_modal)
 
 -- blocks of which one is taken stand for a set that isn't empty
-some_numbers : (content : List ℕ) (xs : List AsBlock) (set : Runs) → EachFrom greatest_of IsNextBlock None content xs → xs ≢ [] → IsRunsOfBlocks as_bounds xs set → set ≢ []
+some_numbers : (content : List ℕ) (xs : List AsBlock) (set : Runs) → EachFrom greatest_of_as_block IsNextBlock None content xs → xs ≢ [] → IsRunsOfBlocks as_bounds xs set → set ≢ []
 some_numbers content [] set each some is = absurd (some refl)
 some_numbers content (x ∷ xs) set (rest, (front, ((block, new_form), beyond), split), more) some is = has_numbers as_bounds (x ∷ xs) x set refl (block_numbers front x block).0 is
 
@@ -175,26 +175,26 @@ some_blocks_of : (xs : List AsBlock) (set : Runs) → IsRunsOfBlocks as_bounds x
 some_blocks_of xs set is some none = some (no_numbers as_bounds set (subst (λ (t : List AsBlock). IsRunsOfBlocks as_bounds t set) none is))
 
 -- strictly, they are what is written of a claim
-choice_spelled : (bytes : List ℕ) (claim : Claim) → Refines IsStrictChoice (ListsBy (IsRunsOfBlocks as_bounds)) bytes claim → Spells IsPresentClaim as_resources_octets bytes claim
+choice_spelled : (bytes : List ℕ) (claim : Claim) → Refines IsStrictChoice (ListsBy (IsRunsOfBlocks as_bounds)) bytes claim → Spells IsPresentAsClaim as_resources_octets bytes claim
 choice_spelled bytes claim (choice, (outer, whole, (inner, tagged, is)), lists) = by_choice choice is lists
   where
     spelled : (claim : Claim) → inner ≡ choice_octets as_sequence_octets claim → bytes ≡ as_resources_octets claim
     spelled claim e = whole.spelled ∙ ap sequence_value (tagged.spelled ∙ ap (value 160) e)
 
-    of_claim : (present : Claim) → IsPresentClaim present → inner ≡ choice_octets as_sequence_octets present → claim ≡ present → Spells IsPresentClaim as_resources_octets bytes claim
-    of_claim present is e same = subst (Spells IsPresentClaim as_resources_octets bytes) (sym same) (is, spelled present e)
+    of_claim : (present : Claim) → IsPresentAsClaim present → inner ≡ choice_octets as_sequence_octets present → claim ≡ present → Spells IsPresentAsClaim as_resources_octets bytes claim
+    of_claim present is e same = subst (Spells IsPresentAsClaim as_resources_octets bytes) (sym same) (is, spelled present e)
 
-    by_choice : (choice : ResourcesChoice (List AsBlock)) → IsChoiceOf (IsSequenceFrom greatest_of IsNextBlock None) inner choice → ListsBy (IsRunsOfBlocks as_bounds) choice claim → Spells IsPresentClaim as_resources_octets bytes claim
+    by_choice : (choice : ResourcesChoice (List AsBlock)) → IsChoiceOf (IsSequenceFrom greatest_of_as_block IsNextBlock None) inner choice → ListsBy (IsRunsOfBlocks as_bounds) choice claim → Spells IsPresentAsClaim as_resources_octets bytes claim
     by_choice Missing is lists = absurd is
     by_choice Inherit is lists = of_claim Inherit (tt, (λ e. cc)) is.spelled lists
     by_choice (Blocks xs) (sequence, some) (set, runs, same) =
         let of_set = sequence_spelled inner set (xs, sequence, runs) in
         of_claim (Blocks set) ((of_set.0, some_numbers sequence.0 xs set sequence.2 some runs), (λ e. cc)) of_set.1 same
 
-spelled_choice : (bytes : List ℕ) (claim : Claim) → Spells IsPresentClaim as_resources_octets bytes claim → Refines IsStrictChoice (ListsBy (IsRunsOfBlocks as_bounds)) bytes claim
+spelled_choice : (bytes : List ℕ) (claim : Claim) → Spells IsPresentAsClaim as_resources_octets bytes claim → Refines IsStrictChoice (ListsBy (IsRunsOfBlocks as_bounds)) bytes claim
 spelled_choice bytes claim ((is, some), spelled) = subst (λ t. Refines IsStrictChoice (ListsBy (IsRunsOfBlocks as_bounds)) t claim) (sym spelled) (of_claim claim is some)
   where
-    enclosed : (claim : Claim) → IsClaim IsAsSet claim → (choice : ResourcesChoice (List AsBlock)) → IsChoiceOf (IsSequenceFrom greatest_of IsNextBlock None) (choice_octets as_sequence_octets claim) choice → IsStrictChoice (as_resources_octets claim) choice
+    enclosed : (claim : Claim) → IsClaim IsAsSet claim → (choice : ResourcesChoice (List AsBlock)) → IsChoiceOf (IsSequenceFrom greatest_of_as_block IsNextBlock None) (choice_octets as_sequence_octets claim) choice → IsStrictChoice (as_resources_octets claim) choice
     enclosed claim is choice inner =
         let octets = choice_octets as_sequence_octets claim in
         let few : length octets ≤ 2 ^ 35 + 10 = inner_few claim is in
@@ -220,10 +220,10 @@ module _ (old new : Cursor) (result : Result Claim (OrMemory DerError)) (took : 
   reads_resources fits lenient = reads_said_by IsAsChoice (ListsBy (IsRunsOfBlocks as_bounds)) as_choice_at old new result as_choice_reading fits (exact_resources lenient)
 
   -- strictly, of the octets that are written of them
-  pub reads_canonical_resources : IsBytes (left old) → Strict old (ReadsOrMemory (Spells IsPresentClaim as_resources_octets) (λ claim. claim) old new result)
+  pub reads_canonical_resources : IsBytes (left old) → Strict old (ReadsOrMemory (Spells IsPresentAsClaim as_resources_octets) (λ claim. claim) old new result)
   reads_canonical_resources fits strict =
       let read = reads_said_by IsStrictChoice (ListsBy (IsRunsOfBlocks as_bounds)) (as_choice_by true) old new result as_choice_modal.tight fits (subst (λ mode. TakesSaidOrMemory (ListsBy (IsRunsOfBlocks as_bounds)) old new result (as_choice_by mode)) strict took) in
-      reads_same (Refines IsStrictChoice (ListsBy (IsRunsOfBlocks as_bounds))) (Spells IsPresentClaim as_resources_octets) (λ claim. claim) old new result choice_spelled spelled_choice read
+      reads_same (Refines IsStrictChoice (ListsBy (IsRunsOfBlocks as_bounds))) (Spells IsPresentAsClaim as_resources_octets) (λ claim. claim) old new result choice_spelled spelled_choice read
 
   -- else they are refused
   pub refused_resources : NotCanonicalOrMemory IsAsResources old result

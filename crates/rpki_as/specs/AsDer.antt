@@ -47,5 +47,5 @@ abbrev pub as_resources_octets : Claim → List ℕ
 as_resources_octets claim = sequence_value (value 160 (choice_octets as_sequence_octets claim))
 
 -- a claim that has octets: inherited resources, or a set that isn't empty
-abbrev pub IsPresentClaim : Claim → Type 0
-IsPresentClaim claim = IsClaim IsAsSet claim × (claim ≢ Missing)
+abbrev pub IsPresentAsClaim : Claim → Type 0
+IsPresentAsClaim claim = IsClaim IsAsSet claim × (claim ≢ Missing)

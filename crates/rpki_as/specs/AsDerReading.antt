@@ -18,11 +18,11 @@ as_choice_at = enclosed_at 48 (enclosed_at 160 (choice_at (values_of as_block_at
 
 -- ---- by the mode: strictly each block begins more than one above the greatest number of the one before
 
-abbrev pub greatest_of : Option ℕ → AsBlock → Option ℕ
-greatest_of before block = Some (as_bounds block).1
+abbrev pub greatest_of_as_block : Option ℕ → AsBlock → Option ℕ
+greatest_of_as_block before block = Some (as_bounds block).1
 
 abbrev pub as_blocks_by : Bool → List ℕ → Result (List AsBlock × List ℕ) DerError
-as_blocks_by strict = sequence_from greatest_of (next_block_by strict) None
+as_blocks_by strict = sequence_from greatest_of_as_block (next_block_by strict) None
 
 abbrev pub as_choice_by : Bool → List ℕ → Result (ResourcesChoice (List AsBlock) × List ℕ) DerError
-as_choice_by strict = enclosed_at 48 (enclosed_at 160 (choice_at (values_from greatest_of (next_block_by strict) None)))
+as_choice_by strict = enclosed_at 48 (enclosed_at 160 (choice_at (values_from greatest_of_as_block (next_block_by strict) None)))

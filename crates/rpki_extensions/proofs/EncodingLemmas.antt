@@ -7,7 +7,7 @@ use Rattle.rpki_chain.specs.declared.choice.ResourcesChoice.TheVariants.{Missing
 use Rattle.rpki_claims.specs.Families.{ByFamily, families_der}
 use Rattle.rpki_ip.specs.declared.family.AddressFamily.{AddressFamily}
 use Rattle.rpki_ip.specs.declared.family.AddressFamily.TheVariants.{Ipv4, Ipv6}
-use Rattle.rpki_ipres.specs.Resources.{ArePresentClaims, IsFamilyClaim, IsPresentClaim, if_present}
+use Rattle.rpki_ipres.specs.Resources.{ArePresentClaims, IsFamilyClaim, IsPresentFamilyClaim, if_present}
 use Rattle.rpki_ipres.specs.ResourcesDer.{ip_families_der, ip_resources_der}
 use Rattle.rpki_extensions.specs.Claims.{claim_or_missing}
 use Rattle.rpki_der.specs.declared.cursor.Cursor.{Cursor}
@@ -21,7 +21,7 @@ use Rattle.rpki_base.specs.DerViews.{ReadsOrMemory, TakesSaidOrMemory}
 use Rattle.rpki_text.specs.Memory.{IfRefused}
 use Rattle.rpki_text.specs.declared.memory.OrMemory.{OrMemory}
 use Rattle.rpki_text.specs.declared.memory.OrMemory.TheVariants.{Refused, Memory}
-use Rattle.rpki_extensions.specs.Encodings.{IsIn, is_canonical}
+use Rattle.rpki_extensions.specs.Encodings.{IsSaidIn, is_canonical}
 use Rattle.rpki_extensions.specs.declared.encoding.Encoding.{Encoding}
 use Rattle.rpki_extensions.specs.declared.encoding.Encoding.TheVariants.{Any, Canonical}
 use Rattle.rpki_extensions.proofs.EndLemmas.{nothing_left, something_left}
@@ -40,20 +40,20 @@ module _ {X Y : Type 0} (encoding : Encoding) (G : List ℕ → X → Type 0) (P
     (old new : Cursor) (mode : is_strict old ≡ is_canonical encoding) where
   -- what a call promises in each mode, in the one that it is in
   reads_in : (result : Result X (OrMemory DerError)) → Lenient old (ReadsOrMemory G (λ x. x) old new result) → Strict old (ReadsOrMemory (Spells P written) (λ x. x) old new result)
-      → ReadsOrMemory (IsIn encoding G P written) (λ x. x) old new result
+      → ReadsOrMemory (IsSaidIn encoding G P written) (λ x. x) old new result
   reads_in result lenient strict = chosen encoding mode
     where
-      chosen : (e : Encoding) → is_strict old ≡ is_canonical e → ReadsOrMemory (IsIn e G P written) (λ x. x) old new result
+      chosen : (e : Encoding) → is_strict old ≡ is_canonical e → ReadsOrMemory (IsSaidIn e G P written) (λ x. x) old new result
       chosen Any m = lenient m
       chosen Canonical m = strict m
 
   -- a refusal
   pub refused_in : (e : OrMemory DerError) → Lenient old (ReadsOrMemory G (λ x. x) old new (Err e)) → Strict old (ReadsOrMemory (Spells P written) (λ x. x) old new (Err e))
       → TakesSaidOrMemory C old new (Err e) (by (is_strict old))
-      → IfRefused (λ fault. HasNone (IsIn encoding G P written) (left old) × (only (by (is_canonical encoding)) (left old) ≡ Err fault)) e
+      → IfRefused (λ fault. HasNone (IsSaidIn encoding G P written) (left old) × (only (by (is_canonical encoding)) (left old) ≡ Err fault)) e
   refused_in (Refused fault) lenient strict took =
       let none = (reads_in (Err (Refused fault)) lenient strict).0 in (
-        none_where_no_front (IsIn encoding G P written) (left old) none,
+        none_where_no_front (IsSaidIn encoding G P written) (left old) none,
         only_refused (by (is_canonical encoding)) (left old) fault (subst (λ m. by m (left old) ≡ Err fault) mode took.0),
       )
   refused_in (Memory e) lenient strict took = tt
@@ -62,7 +62,7 @@ module _ {X Y : Type 0} (encoding : Encoding) (G : List ℕ → X → Type 0) (P
   pub more_in : (x : X) (fault : DerError) → OneFront G → ((y : X) (rest : List ℕ) → P y → left old ≡ written y ++ rest → (x ≡ y) × (left new ≡ rest))
       → Lenient old (ReadsOrMemory G (λ x. x) old new (Ok x)) → Strict old (ReadsOrMemory (Spells P written) (λ x. x) old new (Ok x))
       → TakesSaidOrMemory C old new (Ok x) (by (is_strict old)) → ended (left new) ≡ Err fault
-      → HasNone (IsIn encoding G P written) (left old) × (only (by (is_canonical encoding)) (left old) ≡ Err fault)
+      → HasNone (IsSaidIn encoding G P written) (left old) × (only (by (is_canonical encoding)) (left old) ≡ Err fault)
   more_in x fault one back lenient strict took e = (
     none encoding (reads_in (Ok x) lenient strict),
     only_more (by (is_canonical encoding)) (left old) (left new) took.0 fault (subst (λ m. by m (left old) ≡ Ok (took.0, left new)) mode took.1) e,
@@ -71,30 +71,30 @@ module _ {X Y : Type 0} (encoding : Encoding) (G : List ℕ → X → Type 0) (P
       some : left new ≢ []
       some = something_left (left new) fault e
 
-      none : (e : Encoding) → ReadsOrMemory (IsIn e G P written) (λ x. x) old new (Ok x) → HasNone (IsIn e G P written) (left old)
+      none : (e : Encoding) → ReadsOrMemory (IsSaidIn e G P written) (λ x. x) old new (Ok x) → HasNone (IsSaidIn e G P written) (left old)
       none Any read = none_where_more G (left old) one x (left new) read some
       none Canonical read = λ y is. some (back y [] is.0 (is.1 ∙ sym (append-nil (written y)))).1
 
   -- no octets that are left
   pub all_in : (x : X) (u : Unit {0}) → Lenient old (ReadsOrMemory G (λ x. x) old new (Ok x)) → Strict old (ReadsOrMemory (Spells P written) (λ x. x) old new (Ok x))
-      → ended (left new) ≡ Ok u → IsIn encoding G P written (left old) x
+      → ended (left new) ≡ Ok u → IsSaidIn encoding G P written (left old) x
   all_in x u lenient strict e =
-      whole_value (IsIn encoding G P written) (left old) x (subst (λ rest. Front (IsIn encoding G P written) (left old) x rest) (nothing_left (left new) u e) (reads_in (Ok x) lenient strict))
+      whole_value (IsSaidIn encoding G P written) (left old) x (subst (λ rest. Front (IsSaidIn encoding G P written) (left old) x rest) (nothing_left (left new) u e) (reads_in (Ok x) lenient strict))
 
 -- ---- families
 
 -- a claim that is there is present
-present_again : (family : AddressFamily) (found : Option Claim) → IfSome found (IsPresentClaim family) → if_present (claim_or_missing found) ≡ found
+present_again : (family : AddressFamily) (found : Option Claim) → IfSome found (IsPresentFamilyClaim family) → if_present (claim_or_missing found) ≡ found
 present_again family None is = refl
 present_again family (Some Missing) is = absurd (is.1 refl)
 present_again family (Some Inherit) is = refl
 present_again family (Some (Blocks set)) is = refl
 
-of_family : (family : AddressFamily) (found : Option Claim) → IfSome found (IsPresentClaim family) → IsFamilyClaim family (claim_or_missing found)
+of_family : (family : AddressFamily) (found : Option Claim) → IfSome found (IsPresentFamilyClaim family) → IsFamilyClaim family (claim_or_missing found)
 of_family family None is = tt
 of_family family (Some claim) is = is.0
 
-none_of : (family : AddressFamily) (found : Option Claim) → IfSome found (IsPresentClaim family) → claim_or_missing found ≡ Missing → found ≡ None
+none_of : (family : AddressFamily) (found : Option Claim) → IfSome found (IsPresentFamilyClaim family) → claim_or_missing found ≡ Missing → found ≡ None
 none_of family None is e = refl
 none_of family (Some claim) is e = absurd (is.1 e)
 

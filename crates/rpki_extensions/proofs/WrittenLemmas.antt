@@ -6,7 +6,7 @@ use Rattle.rpki_chain.specs.Runs.{Runs}
 use Rattle.rpki_chain.specs.declared.choice.ResourcesChoice.TheVariants.{Missing, Inherit, Blocks}
 use Rattle.rpki_ip.specs.declared.family.AddressFamily.{AddressFamily}
 use Rattle.rpki_ip.specs.declared.family.AddressFamily.TheVariants.{Ipv4, Ipv6}
-use Rattle.rpki_ipres.specs.Resources.{IsFamilyClaim, IsPresentClaim, if_present}
+use Rattle.rpki_ipres.specs.Resources.{IsFamilyClaim, IsPresentFamilyClaim, if_present}
 use Rattle.rpki_ipres.specs.ResourcesDer.{IsIpFamilies, ip_families_der}
 use Rattle.rpki_extensions.specs.Claims.{AreAddressClaims, claim_or_missing}
 use Rattle.rpki_extensions.specs.Encodings.{IsAddressValue}
@@ -24,7 +24,7 @@ back_again Missing = refl
 back_again Inherit = refl
 back_again (Blocks set) = refl
 
-present : (family : AddressFamily) (claim : Claim) → IsFamilyClaim family claim → IfSome (if_present claim) (IsPresentClaim family)
+present : (family : AddressFamily) (claim : Claim) → IsFamilyClaim family claim → IfSome (if_present claim) (IsPresentFamilyClaim family)
 present family Missing is = tt
 present family Inherit is = (is, λ e. cc)
 present family (Blocks set) is = (is, λ e. cc)

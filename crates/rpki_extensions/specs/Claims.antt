@@ -4,7 +4,7 @@ use Rattle.rpki_der.specs.declared.error.DerError.{DerError}
 use Rattle.rpki_chain.specs.Claims.{Claim}
 use Rattle.rpki_chain.specs.declared.choice.ResourcesChoice.TheVariants.{Missing}
 use Rattle.rpki_claims.specs.Families.{ByFamily}
-use Rattle.rpki_extensions.specs.Encodings.{HasAddressFault, HasAsFault, IsAddressValue, IsAsValue}
+use Rattle.rpki_extensions.specs.Encodings.{HasAddressValueFault, HasAsFault, IsAddressValue, IsAsValue}
 use Rattle.rpki_extensions.specs.declared.encoding.Encoding.{Encoding}
 use Rattle.rpki_extensions.specs.declared.error.Unverified.{Unverified}
 use Rattle.rpki_extensions.specs.declared.error.Unverified.TheVariants.{Absent, AsOctets, AddressOctets, Inherited, Asn, Ipv4, Ipv6}
@@ -38,36 +38,36 @@ AreAddressClaims encoding (Some octets) claims = AreClaimed encoding octets clai
 
 abbrev pub HasAddressesFault : Encoding → Option (List ℕ) → DerError → Type 0
 HasAddressesFault encoding None fault = ⊥
-HasAddressesFault encoding (Some octets) fault = HasAddressFault encoding octets fault
+HasAddressesFault encoding (Some octets) fault = HasAddressValueFault encoding octets fault
 
 -- ---- both of them
 
 -- the octets of AS identifiers and of IP address blocks
-abbrev pub numbers_of : Extensions → Option (List ℕ)
-numbers_of certificate = option_map (λ octets. octets.now) certificate.numbers
+abbrev pub octets_of_numbers : Extensions → Option (List ℕ)
+octets_of_numbers certificate = option_map (λ octets. octets.now) certificate.numbers
 
-abbrev pub addresses_of : Extensions → Option (List ℕ)
-addresses_of certificate = option_map (λ octets. octets.now) certificate.addresses
+abbrev pub octets_of_addresses : Extensions → Option (List ℕ)
+octets_of_addresses certificate = option_map (λ octets. octets.now) certificate.addresses
 
 -- neither is there
 abbrev pub AreAbsent : Extensions → Type 0
-AreAbsent certificate = (numbers_of certificate ≡ None) × (addresses_of certificate ≡ None)
+AreAbsent certificate = (octets_of_numbers certificate ≡ None) × (octets_of_addresses certificate ≡ None)
 
 -- one at least is there, and these are the claims on AS numbers, IPv4 and IPv6
 abbrev pub AreClaims : Extensions → Claim → Claim → Claim → Type 0
 AreClaims certificate asn v4 v6 =
     (¬ AreAbsent certificate)
-    × IsNumbersClaim certificate.encoding (numbers_of certificate) asn
-    × AreAddressClaims certificate.encoding (addresses_of certificate) (v4, v6)
+    × IsNumbersClaim certificate.encoding (octets_of_numbers certificate) asn
+    × AreAddressClaims certificate.encoding (octets_of_addresses certificate) (v4, v6)
 
 -- for the reason there are no claims: neither extension is there, or the AS identifiers are none, or else the IP address
 -- blocks
 abbrev pub AreNoClaims : {A : Type 0} → Extensions → Unverified A → Type 0
 AreNoClaims certificate Absent = AreAbsent certificate
-AreNoClaims certificate (AsOctets fault) = HasNumbersFault certificate.encoding (numbers_of certificate) fault
+AreNoClaims certificate (AsOctets fault) = HasNumbersFault certificate.encoding (octets_of_numbers certificate) fault
 AreNoClaims certificate (AddressOctets fault) =
-    ((asn : Claim) × IsNumbersClaim certificate.encoding (numbers_of certificate) asn)
-    × HasAddressesFault certificate.encoding (addresses_of certificate) fault
+    ((asn : Claim) × IsNumbersClaim certificate.encoding (octets_of_numbers certificate) asn)
+    × HasAddressesFault certificate.encoding (octets_of_addresses certificate) fault
 AreNoClaims certificate Inherited = ⊥
 AreNoClaims certificate (Asn excess) = ⊥
 AreNoClaims certificate (Ipv4 excess) = ⊥

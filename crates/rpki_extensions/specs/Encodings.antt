@@ -5,7 +5,7 @@ use Rattle.rpki_der.specs.declared.error.DerError.{DerError}
 use Rattle.rpki_base.specs.DerReading.{only}
 use Rattle.rpki_chain.specs.Claims.{Claim}
 use Rattle.rpki_claims.specs.Families.{ByFamily, families_der}
-use Rattle.rpki_as.specs.AsDer.{IsAsResources, IsPresentClaim, as_resources_octets}
+use Rattle.rpki_as.specs.AsDer.{IsAsResources, IsPresentAsClaim, as_resources_octets}
 use Rattle.rpki_as.specs.AsDerReading.{as_choice_by}
 use Rattle.rpki_ipres.specs.Modes.{ip_families_by}
 use Rattle.rpki_ipres.specs.Resources.{ArePresentClaims}
@@ -18,21 +18,21 @@ is_canonical Any = false
 is_canonical Canonical = true
 
 -- the value of a grammar, or canonically what is written of the value
-abbrev pub IsIn : {X : Type 0} → Encoding → (List ℕ → X → Type 0) → (X → Type 0) → (X → List ℕ) → List ℕ → X → Type 0
-IsIn Any G P octets = G
-IsIn Canonical G P octets = Spells P octets
+abbrev pub IsSaidIn : {X : Type 0} → Encoding → (List ℕ → X → Type 0) → (X → Type 0) → (X → List ℕ) → List ℕ → X → Type 0
+IsSaidIn Any G P octets = G
+IsSaidIn Canonical G P octets = Spells P octets
 
 -- octets of AS identifiers (RFC 3779, 3.2.3)
 abbrev pub IsAsValue : Encoding → List ℕ → Claim → Type 0
-IsAsValue encoding = IsIn encoding IsAsResources IsPresentClaim as_resources_octets
+IsAsValue encoding = IsSaidIn encoding IsAsResources IsPresentAsClaim as_resources_octets
 
 -- octets of IP address blocks (RFC 3779, 2.2.3)
 abbrev pub IsAddressValue : Encoding → List ℕ → ByFamily Claim → Type 0
-IsAddressValue encoding = IsIn encoding IsIpFamilies ArePresentClaims (families_der ip_resources_der)
+IsAddressValue encoding = IsSaidIn encoding IsIpFamilies ArePresentClaims (families_der ip_resources_der)
 
 -- octets are none, and this is their first fault
 abbrev pub HasAsFault : Encoding → List ℕ → DerError → Type 0
 HasAsFault encoding octets fault = HasNone (IsAsValue encoding) octets × (only (as_choice_by (is_canonical encoding)) octets ≡ Err fault)
 
-abbrev pub HasAddressFault : Encoding → List ℕ → DerError → Type 0
-HasAddressFault encoding octets fault = HasNone (IsAddressValue encoding) octets × (only (ip_families_by (is_canonical encoding)) octets ≡ Err fault)
+abbrev pub HasAddressValueFault : Encoding → List ℕ → DerError → Type 0
+HasAddressValueFault encoding octets fault = HasNone (IsAddressValue encoding) octets × (only (ip_families_by (is_canonical encoding)) octets ≡ Err fault)

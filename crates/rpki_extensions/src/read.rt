@@ -4,7 +4,7 @@ ghost use Rattle.rpki_text.specs.Memory.{IfRefused};
 ghost use Rattle.rpki_ipres.specs.Resources.{IsWholeClaim};
 ghost use Rattle.rpki_extensions.specs.Claims.{AreAddressClaims, AreClaimed, HasAddressesFault, HasNumbersFault};
 ghost use Rattle.rpki_extensions.specs.Claims.{IsNumbersClaim, claim_or_missing};
-ghost use Rattle.rpki_extensions.specs.Encodings.{HasAddressFault, HasAsFault, IsAddressValue, IsAsValue};
+ghost use Rattle.rpki_extensions.specs.Encodings.{HasAddressValueFault, HasAsFault, IsAddressValue, IsAsValue};
 
 use crate::encoding::Encoding;
 use rpki_der::DerError;
@@ -37,7 +37,7 @@ pub fn read_families<A: Allocator + Copy>(
     encoding: Encoding,
 ) -> Result<(Option<IpResources<A>>, Option<IpResources<A>>), OrMemory<DerError>>
     ensures claims { MatchResult result (IsAddressValue encoding octets.now)
-        (IfRefused (HasAddressFault encoding octets.now)) }
+        (IfRefused (HasAddressValueFault encoding octets.now)) }
     ensures whole { IfOk result (λ found. IfSome found.0 IsWholeClaim) }
 {
     rpki_ipres::der::laws::one_value(); // so that the proof sees that octets begin with one list of families at most
@@ -55,7 +55,7 @@ pub fn read_claims<A: Allocator + Copy>(
     encoding: Encoding,
 ) -> Result<(IpResources<A>, IpResources<A>), OrMemory<DerError>>
     ensures claims { MatchResult result (AreClaimed encoding octets.now)
-        (IfRefused (HasAddressFault encoding octets.now)) }
+        (IfRefused (HasAddressValueFault encoding octets.now)) }
     ensures whole { IfOk result (λ claims. IsWholeClaim claims.0) }
 {
     match read_families(alloc, octets, encoding) {

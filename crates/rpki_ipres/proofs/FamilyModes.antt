@@ -34,7 +34,7 @@ use Rattle.rpki_text.specs.Memory.{IsMemory}
 use Rattle.rpki_ipblock.specs.BlockDer.{IsIpBlockDer}
 use Rattle.rpki_ipblock.specs.declared.block.IpBlock.{IpBlock}
 use Rattle.rpki_ipres.specs.Modes.{ip_families_by, ip_resources_by}
-use Rattle.rpki_ipres.specs.Resources.{ArePresentClaims, IsFamilyClaim, IsPresentClaim, IsWholeClaim, if_present}
+use Rattle.rpki_ipres.specs.Resources.{ArePresentClaims, IsFamilyClaim, IsPresentFamilyClaim, IsWholeClaim, if_present}
 use Rattle.rpki_ipres.specs.ResourcesDer.{IsIpFamilies, SaysClaimOf, SaysClaims, ip_families_at, ip_families_der, ip_resources_at, ip_resources_der}
 use Rattle.rpki_ipres.specs.ResourcesReadingLaws.{resources_reading}
 use Rattle.rpki_ipres.proofs.Modes.{IsWrittenChoice, claim_spelled, spelled_claim, written_modal}
@@ -55,12 +55,12 @@ G family = IsChoiceOf (IsSequenceOf (IsIpBlockDer (bits_of family)))
 -- ---- what is written
 
 -- a member
-member_spelled : (family : AddressFamily) (bytes : List ℕ) (choice : ResourcesChoice (List IpBlock)) (claim : Claim) → IsMember S bytes (family, choice) → SaysClaimOf choice claim → IsPresentClaim family claim × (bytes ≡ member_der ip_resources_der family claim)
+member_spelled : (family : AddressFamily) (bytes : List ℕ) (choice : ResourcesChoice (List IpBlock)) (claim : Claim) → IsMember S bytes (family, choice) → SaysClaimOf choice claim → IsPresentFamilyClaim family claim × (bytes ≡ member_der ip_resources_der family claim)
 member_spelled family bytes choice claim (content, at, (rest, (front, name, split), is)) says =
     let spelled = claim_spelled family rest claim (choice, is, says) in
     (spelled.0, at.spelled ∙ ap sequence_value (split ∙ ap (λ (t : List ℕ). t ++ rest) name.spelled ∙ ap (λ (t : List ℕ). family_der family ++ t) spelled.1))
 
-spelled_member : (family : AddressFamily) (claim : Claim) → IsPresentClaim family claim → length (member_der ip_resources_der family claim) < 2 ^ 64 → (choice : ResourcesChoice (List IpBlock)) × IsMember S (member_der ip_resources_der family claim) (family, choice) × SaysClaimOf choice claim
+spelled_member : (family : AddressFamily) (claim : Claim) → IsPresentFamilyClaim family claim → length (member_der ip_resources_der family claim) < 2 ^ 64 → (choice : ResourcesChoice (List IpBlock)) × IsMember S (member_der ip_resources_der family claim) (family, choice) × SaysClaimOf choice claim
 spelled_member family claim is short =
     let octets = ip_resources_der claim in
     let content = family_der family ++ octets in
@@ -118,7 +118,7 @@ spelled_families bytes fs short (are, spelled) = subst (λ (t : List ℕ). Refin
         ((Some one.0, Some two.0), (front ++ rest, value_is 48 (front ++ rest) (omega arith) small, (rest, (front, one.1, refl), two.1)), (one.2, two.2))
 
 -- claims that are there
-present_of : (family : AddressFamily) (claim : Claim) → IsFamilyClaim family claim → IfSome (if_present claim) (IsPresentClaim family)
+present_of : (family : AddressFamily) (claim : Claim) → IsFamilyClaim family claim → IfSome (if_present claim) (IsPresentFamilyClaim family)
 present_of family Missing is = tt
 present_of family Inherit is = (is, λ e. cc)
 present_of family (Blocks set) is = (is, λ e. cc)

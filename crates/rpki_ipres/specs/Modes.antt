@@ -12,14 +12,14 @@ use Rattle.rpki_ipblock.specs.BlockReading.{next_ip_block_by}
 use Rattle.rpki_ipblock.specs.Blocks.{ip_bounds}
 use Rattle.rpki_ipblock.specs.declared.block.IpBlock.{IpBlock}
 
-abbrev pub greatest_of : Option ℕ → IpBlock → Option ℕ
-greatest_of before block = Some (ip_bounds block).1
+abbrev pub greatest_of_ip_block : Option ℕ → IpBlock → Option ℕ
+greatest_of_ip_block before block = Some (ip_bounds block).1
 
 abbrev pub ip_blocks_by : Bool → ℕ → List ℕ → Result (List IpBlock × List ℕ) DerError
-ip_blocks_by strict limit = sequence_from greatest_of (next_ip_block_by strict limit) None
+ip_blocks_by strict limit = sequence_from greatest_of_ip_block (next_ip_block_by strict limit) None
 
 abbrev pub ip_resources_by : Bool → ℕ → List ℕ → Result (ResourcesChoice (List IpBlock) × List ℕ) DerError
-ip_resources_by strict limit = choice_at (values_from greatest_of (next_ip_block_by strict limit) None)
+ip_resources_by strict limit = choice_at (values_from greatest_of_ip_block (next_ip_block_by strict limit) None)
 
 abbrev pub ip_families_by : Bool → List ℕ → Result (ByFamily (ResourcesChoice (List IpBlock)) × List ℕ) DerError
 ip_families_by strict = families_by strict (λ family. ip_resources_by strict (bits_of family))

@@ -30,9 +30,9 @@ if_present Inherit = Some Inherit
 if_present (Blocks set) = Some (Blocks set)
 
 -- a claim of the family that has octets
-abbrev pub IsPresentClaim : AddressFamily → Claim → Type 0
-IsPresentClaim family claim = IsFamilyClaim family claim × (claim ≢ Missing)
+abbrev pub IsPresentFamilyClaim : AddressFamily → Claim → Type 0
+IsPresentFamilyClaim family claim = IsFamilyClaim family claim × (claim ≢ Missing)
 
 -- claims that have octets, each of its family, where there are some; one at least
 abbrev pub ArePresentClaims : ByFamily Claim → Type 0
-ArePresentClaims fs = IfSome fs.0 (IsPresentClaim Ipv4) × IfSome fs.1 (IsPresentClaim Ipv6) × (fs.0 ≡ None → fs.1 ≢ None)
+ArePresentClaims fs = IfSome fs.0 (IsPresentFamilyClaim Ipv4) × IfSome fs.1 (IsPresentFamilyClaim Ipv6) × (fs.0 ≡ None → fs.1 ≢ None)

@@ -9,12 +9,12 @@ use Rattle.rpki_addr.specs.declared.addr.IpAddr.{IpAddr}
 use Rattle.rpki_addr.specs.declared.addr.IpAddr.TheVariants.{V4, V6}
 use Rattle.rpki_base.specs.Prefixes.{IsIn}
 use Rattle.rpki_prefix.specs.Order.{prefix_cmp, last_bits}
-use Rattle.rpki_prefix.specs.Values.{FamilyPrefix, CoversPrefix, interval, width, bits, with_bits, last_addr, is_v6}
+use Rattle.rpki_prefix.specs.Values.{FamilyPrefix, CoversPrefix, interval, width, address_number, with_bits, last_addr, is_v6}
 
 -- the bounds of p lie round those of q
 pub record LiesRound (p q : FamilyPrefix) : Type 0 where
   pub family : is_v6 p.addr ≡ is_v6 q.addr
-  pub from : bits p.addr ≤ bits q.addr
+  pub from : address_number p.addr ≤ address_number q.addr
   pub upto : last_bits q ≤ last_bits p
 
 -- where they do, p covers q
@@ -29,7 +29,7 @@ pub round_covers : (p q : FamilyPrefix) → CoversPrefix p q → LiesRound p q
 round_covers p q c =
     let some : 0 < 2 ^ (width p.addr - p.len) = pow_pos (width p.addr - p.len) in
     let more : 0 < 2 ^ (width q.addr - q.len) = pow_pos (width q.addr - q.len) in
-    let first : IsIn (width p.addr) (interval p) (bits q.addr) = c.inside (bits q.addr) (record { from = omega arith; upto = omega arith }) in
+    let first : IsIn (width p.addr) (interval p) (address_number q.addr) = c.inside (address_number q.addr) (record { from = omega arith; upto = omega arith }) in
     let last : IsIn (width p.addr) (interval p) (last_bits q) = c.inside (last_bits q) (record { from = omega arith; upto = omega arith }) in
     record { family = c.family; from = first.from; upto = omega (arith, last.upto) }
 
@@ -72,8 +72,8 @@ not_before p q short r = elim (cases_order (last_bits p) (last_bits q)) [
     | inr (inr more) ↦ rw (bool_same _ _ r.family, nat_same (last_bits p) (last_bits q) same, nat_greater q.len p.len more) refl
     | inr (inl less) ↦ absurd (
         let w : width p.addr ≡ width q.addr = same_width p.addr q.addr r.family in
-        let ends : bits p.addr + 2 ^ (width p.addr - p.len) - 1 ≡ bits q.addr + 2 ^ (width p.addr - q.len) - 1 = same ∙ ap (λ x. bits q.addr + 2 ^ (x - q.len) - 1) (sym w) in
-        let later : bits q.addr < bits p.addr = begins_later (width p.addr) _ _ p.len q.len short less ends in
+        let ends : address_number p.addr + 2 ^ (width p.addr - p.len) - 1 ≡ address_number q.addr + 2 ^ (width p.addr - q.len) - 1 = same ∙ ap (λ x. address_number q.addr + 2 ^ (x - q.len) - 1) (sym w) in
+        let later : address_number q.addr < address_number p.addr = begins_later (width p.addr) _ _ p.len q.len short less ends in
         omega (arith, later, r.from))
   ]
 ]
@@ -81,7 +81,7 @@ not_before p q short r = elim (cases_order (last_bits p) (last_bits q)) [
 -- what the tests of the family and of the least addresses say
 pub record BeginsRound (p q : FamilyPrefix) : Type 0 where
   pub family : is_v6 p.addr ≡ is_v6 q.addr
-  pub from : bits p.addr ≤ bits q.addr
+  pub from : address_number p.addr ≤ address_number q.addr
 
 -- the test of two families says that they are the same
 pub same_bool : (a b : Bool) → beq a b ≡ true → a ≡ b
@@ -98,9 +98,9 @@ beq_same true false e = sym e
 beq_same true true e = refl
 
 -- the number of the greatest address
-pub bits_last : (p : FamilyPrefix) → bits (last_addr p) ≡ last_bits p
+pub bits_last : (p : FamilyPrefix) → address_number (last_addr p) ≡ last_bits p
 bits_last p = bits_with p.addr (last_bits p)
   where
-    bits_with : (a : IpAddr) (n : ℕ) → bits (with_bits a n) ≡ n
+    bits_with : (a : IpAddr) (n : ℕ) → address_number (with_bits a n) ≡ n
     bits_with (V4 m) n = refl
     bits_with (V6 m) n = refl

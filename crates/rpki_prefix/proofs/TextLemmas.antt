@@ -17,7 +17,7 @@ use Rattle.rpki_text.proofs.NumberLemmas.{number_answers}
 use Rattle.rpki_text.proofs.ReadingLemmas.{Answers-from_found}
 use Rattle.rpki_prefix.proofs.HostBits.{few_bits}
 use Rattle.rpki_prefix.specs.PrefixText.{AreParts, HasParts, HasNoParts, IsTextBy, HasTextFaultBy, IsPrefixText, HasPrefixTextFault, IsRelaxedPrefixText, HasRelaxedPrefixTextFault, prefix_text, ReadsPrefix}
-use Rattle.rpki_prefix.specs.Values.{FamilyPrefix, IsFamilyPrefix, IsPrefixOf, IsRelaxedPrefixOf, HasPrefixError, HasRelaxedPrefixError, cleared_addr, width, bits}
+use Rattle.rpki_prefix.specs.Values.{FamilyPrefix, IsFamilyPrefix, IsPrefixOf, IsRelaxedPrefixOf, HasPrefixError, HasRelaxedPrefixError, cleared_addr, width, address_number}
 use Rattle.rpki_prefix.specs.declared.error.ParsePrefixError.{ParsePrefixError}
 use Rattle.rpki_prefix.specs.declared.error.ParsePrefixError.TheVariants.{Empty, MissingLen, InvalidAddr, InvalidLen, InvalidPrefix}
 use Rattle.rpki_prefix.specs.declared.error.PrefixError.{PrefixError}
@@ -162,7 +162,7 @@ pub reads_relaxed : (text : List ℕ) (r : Result FamilyPrefix ParsePrefixError)
 reads_relaxed = answers_by IsRelaxedPrefixOf HasRelaxedPrefixError relaxed_one relaxed_apart relaxed_error_one
 
 -- what is printed
-is_address : (a : IpAddr) → bits a < 2 ^ width a → IsAddress a
+is_address : (a : IpAddr) → address_number a < 2 ^ width a → IsAddress a
 is_address (V4 n) below = below
 is_address (V6 n) below = below
 

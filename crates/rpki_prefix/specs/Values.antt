@@ -13,9 +13,9 @@ width (V4 n) = 32
 width (V6 n) = 128
 
 -- the number that the bits of an address write
-abbrev pub bits : IpAddr → ℕ
-bits (V4 n) = n
-bits (V6 n) = n
+abbrev pub address_number : IpAddr → ℕ
+address_number (V4 n) = n
+address_number (V6 n) = n
 
 -- whether the address is of IPv6
 abbrev pub is_v6 : IpAddr → Bool
@@ -34,7 +34,7 @@ pub record FamilyPrefix : Type 0 where
 
 -- the numbers of its addresses, as a prefix of its family's width
 abbrev pub interval : FamilyPrefix → PrefixValue
-interval p = record { first = bits p.addr; len = p.len }
+interval p = record { first = address_number p.addr; len = p.len }
 
 -- the interval is a prefix: the length is one of the family, and the bits after it are clear
 abbrev pub IsFamilyPrefix : FamilyPrefix → Type 0
@@ -46,11 +46,11 @@ last_addr p = with_bits p.addr (last_of (width p.addr) (interval p))
 
 -- the address with the bits after the first len cleared
 abbrev pub cleared_addr : IpAddr → ℕ → IpAddr
-cleared_addr a len = with_bits a (cleared (width a) (bits a) len)
+cleared_addr a len = with_bits a (cleared (width a) (address_number a) len)
 
 -- the address with the bits after the first len set
 abbrev pub filled_addr : IpAddr → ℕ → IpAddr
-filled_addr a len = with_bits a (cleared (width a) (bits a) len + 2 ^ (width a - len) - 1)
+filled_addr a len = with_bits a (cleared (width a) (address_number a) len + 2 ^ (width a - len) - 1)
 
 -- p is the prefix of an address and a length, where the bits after it are clear
 pub record IsPrefixOf (a : IpAddr) (len : ℕ) (p : FamilyPrefix) : Type 0 where
@@ -63,12 +63,12 @@ pub record IsRelaxedPrefixOf (a : IpAddr) (len : ℕ) (p : FamilyPrefix) : Type 
   pub same_bits : p.addr ≡ cleared_addr a len
   pub same_len : p.len ≡ len
   pub is_prefix : IsFamilyPrefix p
-  pub holds : IsIn (width p.addr) (interval p) (bits a)
+  pub holds : IsIn (width p.addr) (interval p) (address_number a)
 
 -- why an address and a length are no prefix: the length is looked at first
 abbrev pub HasPrefixError : IpAddr → ℕ → PrefixError → Type 0
 HasPrefixError a len LenOverflow = width a < len
-HasPrefixError a len NonZeroHost = (len ≤ width a) × (bits a % 2 ^ (width a - len) ≢ 0)
+HasPrefixError a len NonZeroHost = (len ≤ width a) × (address_number a % 2 ^ (width a - len) ≢ 0)
 
 -- and why the first bits of an address are none
 abbrev pub HasRelaxedPrefixError : IpAddr → ℕ → PrefixError → Type 0

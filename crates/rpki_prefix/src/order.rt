@@ -8,7 +8,7 @@ ghost use Rattle.std.specs.Cmp.Rules.{comparing};
 ghost use Rattle.std.specs.Ordering.{as_partial_cmp, is_lt};
 ghost use Rattle.rpki_prefix.specs.Order.{prefix_cmp};
 ghost use Rattle.rpki_prefix.specs.OrderLaws.{prefix_ties};
-ghost use Rattle.rpki_prefix.specs.Values.{CoversPrefix, bits};
+ghost use Rattle.rpki_prefix.specs.Values.{CoversPrefix, address_number};
 
 use crate::prefix::Prefix;
 use rpki_base::addr::IpAddr;
@@ -30,7 +30,7 @@ impl Prefix {
 
 /// The number that the bits of an address write.
 fn number(addr: &IpAddr) -> u128
-    ensures { result ≡ bits addr.now }
+    ensures { result ≡ address_number addr.now }
 {
     match addr {
         IpAddr::V4(addr) => u128::from(addr.to_bits()),

@@ -1,7 +1,7 @@
 //! Prefixes of addresses of one family.
 ghost use Rattle.std.specs.Prelude.{◌≡◌, ◌+◌, ◌^◌, ◌<◌, ◌≤◌, MatchResult, not};
 ghost use Rattle.rpki_addr.specs.declared.addr.IpAddr.TheVariants.{V4, V6};
-ghost use Rattle.rpki_prefix.specs.Values.{IsPrefixOf, IsRelaxedPrefixOf, HasPrefixError, HasRelaxedPrefixError, IsFamilyPrefix, bits, width, is_v6, cleared_addr, filled_addr, last_addr};
+ghost use Rattle.rpki_prefix.specs.Values.{IsPrefixOf, IsRelaxedPrefixOf, HasPrefixError, HasRelaxedPrefixError, IsFamilyPrefix, address_number, width, is_v6, cleared_addr, filled_addr, last_addr};
 
 use crate::error::PrefixError;
 use rpki_base::addr::{IpAddr, Ipv4Addr, Ipv6Addr};
@@ -55,7 +55,7 @@ fn host_mask(count: u8) -> u128
 fn clear_host(addr: &IpAddr, len: u8) -> IpAddr
     requires { len ≤ width addr.now }
     ensures value { result ≡ cleared_addr addr.now len }
-    ensures below { bits addr.now < 2 ^ width addr.now }
+    ensures below { address_number addr.now < 2 ^ width addr.now }
 {
     let mask = host_mask(address_bits(addr) - len);
     match addr {

@@ -22,7 +22,7 @@ impl<A: Allocator> AsResources<A> {
     ghost use Rattle.rpki_der.specs.Views.{Lenient, Strict, is_strict, left};
     ghost use Rattle.rpki_base.specs.DerViews.{NotCanonicalOrMemory, ReadsOrMemory, TakesSaidOrMemory};
     ghost use Rattle.rpki_text.specs.Memory.{IsMemory};
-    ghost use Rattle.rpki_as.specs.AsDer.{IsAsResources, IsPresentClaim, as_resources_octets};
+    ghost use Rattle.rpki_as.specs.AsDer.{IsAsResources, IsPresentAsClaim, as_resources_octets};
     ghost use Rattle.rpki_as.specs.AsDerReading.{as_choice_at, as_choice_by};
     ghost use Rattle.rpki_as.specs.Blocks.{IsAsSet};
     ghost use Rattle.rpki_asblock.specs.Blocks.{as_bounds};
@@ -53,7 +53,7 @@ impl<A: Allocator> AsResources<A> {
             → MatchResult result (λ read. (read ≡ claim) × (left cursor.new ≡ rest)) IsMemory }
         // A strict cursor takes what is written of resources.
         ensures strict { Strict cursor.old
-            (ReadsOrMemory (Spells IsPresentClaim as_resources_octets) (λ claim. claim) cursor.old
+            (ReadsOrMemory (Spells IsPresentAsClaim as_resources_octets) (λ claim. claim) cursor.old
             cursor.new result) }
         ensures refused { NotCanonicalOrMemory IsAsResources cursor.old result }
         // In either mode.

@@ -22,7 +22,7 @@ impl<A: Allocator> IpResources<A> {
     ghost use Rattle.rpki_ip.specs.declared.family.AddressFamily.TheVariants.{Ipv4, Ipv6};
     ghost use Rattle.rpki_ipres.specs.Modes.{ip_families_by, ip_resources_by};
     ghost use Rattle.rpki_claims.specs.Families.{families_der};
-    ghost use Rattle.rpki_ipres.specs.Resources.{ArePresentClaims, IsPresentClaim, IsFamilyClaim, IsIpClaim, IsWholeClaim, if_present};
+    ghost use Rattle.rpki_ipres.specs.Resources.{ArePresentClaims, IsPresentFamilyClaim, IsFamilyClaim, IsIpClaim, IsWholeClaim, if_present};
     ghost use Rattle.rpki_ipres.specs.ResourcesDer.{IsIpFamilies, IsIpResources, SaysClaimOf, SaysClaims, ip_content_der, ip_families_at, ip_families_der, ip_member_der, ip_resources_at, ip_resources_der};
 
     /// Takes the resources of a family: a NULL where they are inherited, and else a SEQUENCE of blocks of the family,
@@ -56,7 +56,7 @@ impl<A: Allocator> IpResources<A> {
             → MatchResult result (λ read. (read ≡ claim) × (left cursor.new ≡ rest)) IsMemory }
         // A strict cursor takes what is written of resources of the family.
         ensures strict { Strict cursor.old
-            (ReadsOrMemory (Spells (IsPresentClaim family) ip_resources_der) (λ claim. claim)
+            (ReadsOrMemory (Spells (IsPresentFamilyClaim family) ip_resources_der) (λ claim. claim)
             cursor.old cursor.new result) }
         ensures refused { NotCanonicalOrMemory (IsIpResources (bits_of family)) cursor.old result }
         // In either mode.
@@ -280,7 +280,7 @@ impl<A: Allocator + Copy> ReadClaim for IpResourcesReader<A> {
     ghost use Rattle.rpki_ipblock.specs.declared.block.IpBlock.{IpBlock};
     ghost use Rattle.rpki_ipres.specs.ResourcesDer.{SaysClaimOf, ip_resources_at};
     ghost use Rattle.rpki_ipblock.specs.BlockModes.{IsNextIpBlock};
-    ghost use Rattle.rpki_ipres.specs.Modes.{greatest_of, ip_resources_by};
+    ghost use Rattle.rpki_ipres.specs.Modes.{greatest_of_ip_block, ip_resources_by};
     ghost use Rattle.rpki_ipres.specs.ResourcesReadingLaws.{resources_modal, resources_reading};
 
     type Claim = IpResources<A>;
@@ -294,7 +294,7 @@ impl<A: Allocator + Copy> ReadClaim for IpResourcesReader<A> {
     ghost reading = { λ _ family. ip_resources_at (bits_of family) };
 
     ghost strict_grammar = { λ _ family. IsChoiceOf
-        (IsSequenceFrom greatest_of (IsNextIpBlock (bits_of family)) None) };
+        (IsSequenceFrom greatest_of_ip_block (IsNextIpBlock (bits_of family)) None) };
 
     ghost reading_by = { λ _ strict family. ip_resources_by strict (bits_of family) };
 

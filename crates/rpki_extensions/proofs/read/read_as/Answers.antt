@@ -1,5 +1,5 @@
 -- What a take at the front of the octets tells of all of them.
-use Rattle.rpki_as.specs.AsDer.{IsAsResources, IsPresentClaim, as_resources_octets}
+use Rattle.rpki_as.specs.AsDer.{IsAsResources, IsPresentAsClaim, as_resources_octets}
 use Rattle.rpki_as.specs.AsDerReading.{as_choice_by}
 use Rattle.rpki_asblock.specs.Blocks.{as_bounds}
 use Rattle.rpki_chain.specs.Choices.{ListsBy}
@@ -12,16 +12,16 @@ pub returns-in_err-resources : goal.returns-in_err-resources
 returns-in_err-resources g c =
     let told = c.in_err-resources.ensures in
     passed_on _ _ _ _ c.from_residual.ensures
-    (rw c.cursor-cursor.ensures.octets at (refused_in c.args.encoding IsAsResources IsPresentClaim as_resources_octets (ListsBy (IsRunsOfBlocks as_bounds)) as_choice_by c.cursor-cursor.result c.take_from.new.cursor c.cursor-cursor.ensures.mode _ told.reads told.strict told.by_mode))
+    (rw c.cursor-cursor.ensures.octets at (refused_in c.args.encoding IsAsResources IsPresentAsClaim as_resources_octets (ListsBy (IsRunsOfBlocks as_bounds)) as_choice_by c.cursor-cursor.result c.take_from.new.cursor c.cursor-cursor.ensures.mode _ told.reads told.strict told.by_mode))
 
 pub returns-in_err-finish : goal.returns-in_err-finish
 returns-in_err-finish g c =
     let told = c.in_ok-resources.ensures in
     passed_on _ _ _ _ c.from_residual-in_err-finish.ensures
-    (rw c.cursor-cursor.ensures.octets at (more_in c.args.encoding IsAsResources IsPresentClaim as_resources_octets (ListsBy (IsRunsOfBlocks as_bounds)) as_choice_by c.cursor-cursor.result c.take_from.new.cursor c.cursor-cursor.ensures.mode _ _
+    (rw c.cursor-cursor.ensures.octets at (more_in c.args.encoding IsAsResources IsPresentAsClaim as_resources_octets (ListsBy (IsRunsOfBlocks as_bounds)) as_choice_by c.cursor-cursor.result c.take_from.new.cursor c.cursor-cursor.ensures.mode _ _
     c.written_resources.ensures.one (λ y rest p at. told.reads_back y rest p.0 p.1 at) told.reads told.strict told.by_mode c.in_err-finish.ensures.exact))
 
 pub returns : goal.returns
 returns g c =
     let told = c.in_ok-resources.ensures in
-    rw c.cursor-cursor.ensures.octets at (all_in c.args.encoding IsAsResources IsPresentClaim as_resources_octets (ListsBy (IsRunsOfBlocks as_bounds)) as_choice_by c.cursor-cursor.result c.take_from.new.cursor c.cursor-cursor.ensures.mode _ _ told.reads told.strict c.in_ok-finish.ensures.exact)
+    rw c.cursor-cursor.ensures.octets at (all_in c.args.encoding IsAsResources IsPresentAsClaim as_resources_octets (ListsBy (IsRunsOfBlocks as_bounds)) as_choice_by c.cursor-cursor.result c.take_from.new.cursor c.cursor-cursor.ensures.mode _ _ told.reads told.strict c.in_ok-finish.ensures.exact)

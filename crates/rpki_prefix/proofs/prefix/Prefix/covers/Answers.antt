@@ -1,7 +1,7 @@
 use Rattle.std.proofs.Common.{rules, arith, ◌≡◌, ◌≤◌, IsTrue, leb, sym, ◌∙◌, ap, true, false}
 use Rattle.std.proofs.lemmas.Bool.{leb-true, le-leb}
 use Rattle.rpki_prefix.specs.Order.{last_bits}
-use Rattle.rpki_prefix.specs.Values.{bits}
+use Rattle.rpki_prefix.specs.Values.{address_number}
 use Rattle.rpki_prefix.proofs.Covering.{LiesRound, BeginsRound, covers_round, round_covers, not_before, same_bool, beq_same, bits_last}
 use Rattle.rpki_prefix.proofs.prefix.Prefix.covers.Goals as goal
 use Rattle.rpki_prefix.proofs.prefix.Prefix.covers.Goals.{then-is_v6, else-is_v6}
@@ -20,10 +20,10 @@ begins c = elim c.if-is_v6.branch [
 
 -- the third test
 ends : (c : goal.After-number-then-number-2) → c.number-then-number.result ≡ last_bits c.args.other
-ends c = c.number-then-number.ensures ∙ ap bits c.max_addr.ensures.value ∙ bits_last _
+ends c = c.number-then-number.ensures ∙ ap address_number c.max_addr.ensures.value ∙ bits_last _
 
 other_ends : (c : goal.After-number-then-number-2) → c.number-then-number-2.result ≡ last_bits c.args.self
-other_ends c = c.number-then-number-2.ensures ∙ ap bits c.max_addr-then-number.ensures.value ∙ bits_last _
+other_ends c = c.number-then-number-2.ensures ∙ ap address_number c.max_addr-then-number.ensures.value ∙ bits_last _
 
 round : (c : goal.After-number-then-number-2) → IsTrue (leb c.number-then-number.result c.number-then-number-2.result) → LiesRound c.args.self c.args.other
 round c t =

@@ -1,0 +1,46 @@
+#!/usr/bin/env python3
+"""words_once.py: words of definitions that specs/ declares twice. A word means one thing, wherever a clause cites it.
+
+A word is what a line `pub NAME :`, `abbrev pub NAME :`, `record pub NAME` and so on declares, at any depth of modules. The
+fields of a record are no such words: a reader sees them behind the record. Ends with status 1 where a word stands in two
+files, which it names."""
+import re
+import sys
+from collections import defaultdict
+from pathlib import Path
+
+TOP = Path(__file__).resolve().parent.parent
+DECLARED = re.compile(r"^(?P<indent> *)(?P<words>(?:[a-z]+ )*?)pub (?P<kind>record |data |mod )?(?P<name>[^\s:({]+)")
+RECORD = re.compile(r"^(?P<indent> *)(?:[a-z]+ )*record\b")
+
+
+def declared_in(text):
+    """The words that a file of definitions declares, without the fields of records and the constructors of data types."""
+    inside = None  # the indent of the record or data type that the line stands in
+    for line in text.splitlines():
+        if not line.strip() or line.lstrip().startswith("--"):
+            continue
+        indent = len(line) - len(line.lstrip())
+        if inside is not None and indent > inside:
+            continue
+        inside = None
+        if re.match(r"^ *(?:[a-z]+ )*(?:record|data) ", line):
+            inside = indent
+        found = DECLARED.match(line)
+        if found and found["kind"] != "mod " and "mod " not in found["words"]:
+            yield found["name"]
+
+
+def main():
+    places = defaultdict(set)
+    for path in sorted(TOP.glob("crates/*/specs/*.antt")):
+        for word in declared_in(path.read_text()):
+            places[word].add(str(path.relative_to(TOP)))
+    twice = {word: files for word, files in places.items() if len(files) > 1}
+    for word, files in sorted(twice.items()):
+        print(f"{word}: {', '.join(sorted(files))}")
+    return 1 if twice else 0
+
+
+if __name__ == "__main__":
+    sys.exit(main())

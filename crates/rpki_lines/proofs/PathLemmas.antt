@@ -1,5 +1,5 @@
 -- The parts of a path, and what is read of them.
-use Rattle.std.proofs.Common.{◌≡◌, ℕ, ◌+◌, ◌<◌, inl, inr, List, [], ◌∷◌, ◌++◌, length, take, drop, get_or, eqb, sym, ap, subst, ◌∙◌, arith}
+use Rattle.std.proofs.Common.{◌≡◌, ℕ, ◌+◌, ◌<◌, inl, inr, List, [], ◌∷◌, ◌++◌, Result, Ok, Err, length, take, drop, get_or, eqb, sym, ap, subst, ◌∙◌, arith}
 use Rattle.std.specs.List.{All, position_or_len, before_first, after_first}
 use Rattle.std.proofs.lemmas.List.Elements.{All-nil, All-cons}
 use Rattle.std.proofs.lemmas.List.Splits.{slice_split_none, slice_split_first}
@@ -9,18 +9,20 @@ use Rattle.rpki_text.specs.Memory.{IfRefused}
 use Rattle.rpki_text.specs.declared.memory.OrMemory.{OrMemory}
 use Rattle.rpki_text.specs.declared.memory.OrMemory.TheVariants.{Refused, Memory}
 use Rattle.rpki_text.proofs.ListLemmas.{HaveValues-append, parts_at}
+use Rattle.rpki_text.specs.Reading.{AnswersOrMemory}
 use Rattle.rpki_chain.specs.Claims.{Claim, claim_of}
+use Rattle.rpki_chain.specs.Paths.{IsPathResult, IsFirstRefusal}
 use Rattle.rpki_chain.specs.Runs.{Runs, Holds}
+use Rattle.rpki_chain.specs.declared.path.PathRefusal.{PathRefusal}
 use Rattle.rpki_chain.specs.declared.path.Step.{Step}
 use Rattle.rpki_ip.specs.Whole.{IsWhole}
-use Rattle.rpki_ip.specs.declared.family.AddressFamily.{AddressFamily}
-use Rattle.rpki_ip.specs.declared.family.AddressFamily.TheVariants.{Ipv4, Ipv6}
+use Rattle.rpki_ip.specs.declared.family.AddressFamily.TheVariants.{Ipv4}
 use Rattle.rpki_ipblock.specs.ListText.{HasBlocks}
 use Rattle.rpki_ipres.specs.Resources.{IsWholeClaim}
 use Rattle.rpki_ipres.specs.SetText.{IsSetOf}
 use Rattle.rpki_ipblock.proofs.WholeReadings.{whole_list}
 use Rattle.rpki_ipres.proofs.WholeReadings.{whole_cover}
-use Rattle.rpki_lines.specs.Path.{ArePath, HasRootFault, HasStepFault, HavePathFault, IsStepText, list_of, parts_of}
+use Rattle.rpki_lines.specs.Path.{ArePath, HasRootFault, HasStepFault, HavePathFault, IsStepText, ShowsLeft, ShowsPath, list_of, parts_of}
 use Rattle.rpki_lines.specs.declared.steps.PartFault.{PartFault}
 
 -- a text without a bar is one part
@@ -61,6 +63,15 @@ module _ {R E : Type 0} (claim : R → Claim) (Writes : List ℕ → Runs → Ty
   refused_step root writes (Refused fault) fails = rw are (inr (root, writes, fails))
   refused_step root writes (Memory error) fails = tt
 
+-- ---- what is told of what a path leaves
+
+-- is what it leaves of the root, or its first refusal
+pub shows_path : (list_text excess_text : Runs → List ℕ) (root : Runs) (steps : List (Step Claim)) (left : Result Runs (OrMemory (PathRefusal Runs))) → AnswersOrMemory (λ set. set) (IsPathResult (λ claim. claim) (Holds root) steps) (IsFirstRefusal (λ claim. claim) (Holds root) steps) left
+    → (text : List ℕ) → ShowsLeft list_text excess_text left text → ShowsPath list_text excess_text root steps text
+shows_path list_text excess_text root steps (Ok set) is text shows = inl (set, is.found, shows)
+shows_path list_text excess_text root steps (Err (Refused refusal)) is text shows = inr (refusal, is.found, shows)
+shows_path list_text excess_text root steps (Err (Memory error)) is text shows = absurd shows
+
 -- ---- addresses
 
 -- the set that a list of IPv4 blocks writes consists of whole addresses
@@ -83,8 +94,7 @@ whole_steps (part ∷ parts) [] have = absurd have
 whole_steps (part ∷ parts) (step ∷ steps) have = All-cons (λ (s : Step Claim). IsWholeClaim s.claim) step steps (whole_step part step have.0) (whole_steps parts steps have.1)
 
 -- so a path of them does
-pub whole_path : (family : AddressFamily) (parts : List (List ℕ)) (root : Runs) (steps : List (Step Claim)) → ArePath (λ c. c) (λ list. IsSetOf (HasBlocks family list)) parts root steps
-    → family ≡ Ipv4 → IsWhole (Holds root) × All (λ (s : Step Claim). IsWholeClaim s.claim) steps
-whole_path Ipv4 [] root steps are v4 = absurd are
-whole_path Ipv4 (list ∷ parts) root steps are v4 = (whole_listed list root are.0, whole_steps parts steps are.1)
-whole_path Ipv6 parts root steps are v4 = absurd cc
+pub whole_path : (parts : List (List ℕ)) (root : Runs) (steps : List (Step Claim)) → ArePath (λ c. c) (λ list. IsSetOf (HasBlocks Ipv4 list)) parts root steps
+    → IsWhole (Holds root) × All (λ (s : Step Claim). IsWholeClaim s.claim) steps
+whole_path [] root steps are = absurd are
+whole_path (list ∷ parts) root steps are = (whole_listed list root are.0, whole_steps parts steps are.1)

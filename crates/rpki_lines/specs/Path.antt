@@ -1,9 +1,11 @@
 -- What `path` answers: what the claims along a path leave of a root, the first of them that is refused, or the fault of the
 -- first part of the path that isn't read.
-use Rattle.std.specs.Prelude.{◌≡◌, ◌≢◌, ◌⊎◌, ℕ, ◌==◌, List, [], ◌∷◌, ◌++◌, codes, decimal}
+use Rattle.std.specs.Prelude.{◌≡◌, ◌≢◌, ◌⊎◌, ℕ, ◌==◌, List, [], ◌∷◌, ◌++◌, Result, Ok, Err, codes, decimal}
 use Rattle.std.specs.List.{slice_split, before_first, after_first}
 use Rattle.std.specs.Str.{trim}
 use Rattle.rpki_text.specs.Lists.{HaveValues, HasFirstFault}
+use Rattle.rpki_text.specs.declared.memory.OrMemory.{OrMemory}
+use Rattle.rpki_text.specs.declared.memory.OrMemory.TheVariants.{Refused, Memory}
 use Rattle.rpki_chain.specs.Claims.{Claim, claim_of}
 use Rattle.rpki_chain.specs.Paths.{IsPathResult, IsFirstRefusal}
 use Rattle.rpki_chain.specs.Runs.{Runs, Holds}
@@ -90,8 +92,14 @@ abbrev pub part_fault_text : {E : Type 0} → (E → List ℕ) → PartFault E �
 part_fault_text fault_text UnknownStep = codes "unknown step"
 part_fault_text fault_text (BadList fault) = fault_text fault
 
-abbrev pub refusal_text : (Runs → List ℕ) → PathRefusal Runs → List ℕ
+abbrev pub refusal_text : {F : Type 0} → (F → List ℕ) → PathRefusal F → List ℕ
 refusal_text excess_text refusal = codes "refused at step " ++ decimal refusal.step ++ codes ": " ++ excess_text refusal.fault
+
+-- the text is that of what a path leaves, or that of a refusal; none is, where there was no memory for what it leaves
+abbrev pub ShowsLeft : {S F : Type 0} → (S → List ℕ) → (F → List ℕ) → Result S (OrMemory (PathRefusal F)) → List ℕ → Type 0
+ShowsLeft list_text excess_text (Ok set) text = text ≡ list_text set
+ShowsLeft list_text excess_text (Err (Refused refusal)) text = text ≡ refusal_text excess_text refusal
+ShowsLeft list_text excess_text (Err (Memory error)) text = ⊥
 
 -- the text is that of what a path leaves of a root, or that of its first refusal
 abbrev pub ShowsPath : (Runs → List ℕ) → (Runs → List ℕ) → Runs → List (Step Claim) → List ℕ → Type 0

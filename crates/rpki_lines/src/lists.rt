@@ -5,7 +5,6 @@ ghost use Rattle.rpki_chain.specs.Claims.{Claim, claim_of};
 ghost use Rattle.rpki_chain.specs.Runs.{Runs};
 ghost use Rattle.rpki_chain.specs.declared.choice.ResourcesChoice.TheVariants.{Missing, Inherit};
 ghost use Rattle.rpki_as.specs.ListText.{IsAsListText, HasAsListFault};
-ghost use Rattle.rpki_ip.specs.declared.family.AddressFamily.TheVariants.{Ipv4, Ipv6};
 ghost use Rattle.rpki_ipblock.specs.ListText.{HasBlocks, HasBlocksFault};
 ghost use Rattle.rpki_ipres.specs.SetText.{IsSetOf};
 
@@ -13,11 +12,10 @@ use rpki_as::blocks::AsBlocks;
 use rpki_as::error::FromStrError as AsFromStrError;
 use rpki_as::resources::AsResources;
 use rpki_base::memory::OrMemory;
-use rpki_family::v4::Ipv4Blocks;
-use rpki_family::v6::Ipv6Blocks;
 use rpki_ip::error::FromStrError;
 use rpki_ip::family::AddressFamily;
 use rpki_ipres::blocks::IpBlocks;
+use rpki_ipres::list::read_blocks;
 use rpki_ipres::resources::IpResources;
 use std::alloc::Allocator;
 
@@ -145,26 +143,7 @@ pub(crate) fn ip_set<A: Allocator + Copy>(
     ensures { MatchResult result (IsSetOf (HasBlocks family list.now))
         (IfRefused (HasBlocksFault family list.now)) }
 {
-    match family {
-        AddressFamily::Ipv4 => v4_set(alloc, list),
-        AddressFamily::Ipv6 => v6_set(alloc, list),
-    }
-}
-
-/// The set that a list of IPv4 blocks writes.
-fn v4_set<A: Allocator + Copy>(alloc: A, list: &str) -> Result<IpBlocks<A>, OrMemory<FromStrError>>
-    ensures { MatchResult result (IsSetOf (HasBlocks Ipv4 list.now))
-        (IfRefused (HasBlocksFault Ipv4 list.now)) }
-{
-    let set = Ipv4Blocks::from_str(alloc, list)?;
-    Ok(set.ip_blocks().clone()?)
-}
-
-/// The set that a list of IPv6 blocks writes.
-fn v6_set<A: Allocator + Copy>(alloc: A, list: &str) -> Result<IpBlocks<A>, OrMemory<FromStrError>>
-    ensures { MatchResult result (IsSetOf (HasBlocks Ipv6 list.now))
-        (IfRefused (HasBlocksFault Ipv6 list.now)) }
-{
-    let set = Ipv6Blocks::from_str(alloc, list)?;
-    Ok(set.ip_blocks().clone()?)
+    let blocks = read_blocks(alloc, family, list)?;
+    let set = IpBlocks::from_vec(alloc, blocks)?;
+    Ok(set)
 }

@@ -152,7 +152,7 @@ fn resources_text<A: Allocator + Copy>(
 }
 
 /// What is printed of a set of addresses in a family.
-pub(crate) fn printed_set<A: Allocator + Copy>(
+fn printed_set<A: Allocator + Copy>(
     alloc: A,
     family: AddressFamily,
     set: &IpBlocks<A>,

@@ -1,7 +1,18 @@
-use Rattle.std.proofs.Common.{inr, refl}
+use Rattle.std.proofs.Common.{inl, inr, refl}
 use Rattle.std.proofs.lemmas.Result.{IfOk-weaker}
+use Rattle.std.specs.String.{string_bytes}
+use Rattle.rpki_as.specs.Faults.{overclaimed_as_text}
+use Rattle.rpki_as.specs.ListText.{as_list_text}
 use Rattle.rpki_asblock.specs.Faults.{as_from_str_error_text}
+use Rattle.rpki_lines.proofs.PathLemmas.{shows_path}
 use Rattle.rpki_lines.proofs.path.path_as.Goals as goal
+
+pub returns-in-Ok : goal.returns-in-Ok
+returns-in-Ok g c =
+    let left = rw c.as_slice.ensures.value at c.verify_path.ensures in
+    IfOk-weaker c.told.result _ _
+    (λ text shows. inl (c.in-Ok.root, c.in-Ok.steps.items, c.in-Ok.ensures, shows_path as_list_text overclaimed_as_text c.in-Ok.root c.in-Ok.steps.items c.verify_path.result left (string_bytes text) shows))
+    (c.told.ensures as_list_text (λ set. refl) overclaimed_as_text (λ fault. refl))
 
 pub returns-in-Err-Refused : goal.returns-in-Err-Refused
 returns-in-Err-Refused g c =

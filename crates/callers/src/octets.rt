@@ -1,4 +1,4 @@
-//! Sets and resources that are written in DER, and read again from what was written: each is the same.
+//! Blocks, sets and resources that are written in DER, and read again from what was written: each is the same.
 ghost use Rattle.std.specs.Prelude.{◌≡◌, ◌≢◌, IfOk};
 ghost use Rattle.rpki_chain.specs.declared.choice.ResourcesChoice.TheVariants.{Missing};
 ghost use Rattle.rpki_ip.specs.declared.family.AddressFamily.TheVariants.{Ipv4};
@@ -6,8 +6,48 @@ ghost use Rattle.rpki_ipres.specs.Resources.{IsFamilyClaim, if_present};
 
 use rpki_der::{Cursor, put_header, tag};
 use rpki_resources::OrMemory;
-use rpki_resources::repository::resources::{AsBlocks, AsResources, IpBlocks, IpResources};
+use rpki_resources::repository::resources::{
+    AsBlock, AsBlocks, AsResources, IpBlock, IpBlocks, IpResources,
+};
 use std::alloc::{AllocError, Allocator};
+
+/// An AS block as it is read again from octets that begin with what is written of it. `AllocError` where there is no
+/// memory for them.
+pub fn as_block_written_and_read<A: Allocator>(
+    alloc: A,
+    block: &AsBlock,
+    behind: &[u8],
+) -> Result<AsBlock, AllocError>
+    ensures { IfOk result (λ read. read ≡ block.now) }
+{
+    let mut octets = Vec::new(alloc);
+    block.encode(&mut octets)?;
+    octets.extend_from_slice(behind)?;
+    let mut cursor = Cursor::new(octets.as_slice());
+    match AsBlock::take_opt_from(&mut cursor) {
+        Ok(Some(read)) => Ok(read),
+        Ok(None) | Err(_) => unreachable!(),
+    }
+}
+
+/// A block of addresses as it is read again from octets that begin with what is written of it. `AllocError` where there
+/// is no memory for them.
+pub fn block_written_and_read<A: Allocator>(
+    alloc: A,
+    block: &IpBlock,
+    behind: &[u8],
+) -> Result<IpBlock, AllocError>
+    ensures { IfOk result (λ read. read ≡ block.now) }
+{
+    let mut octets = Vec::new(alloc);
+    block.encode(&mut octets)?;
+    octets.extend_from_slice(behind)?;
+    let mut cursor = Cursor::new(octets.as_slice());
+    match IpBlock::take_opt_from(&mut cursor) {
+        Ok(Some(read)) => Ok(read),
+        Ok(None) | Err(_) => unreachable!(),
+    }
+}
 
 /// A set of addresses as it is read again from its SEQUENCE. `AllocError` where there is no memory for it.
 pub fn written_and_read<A: Allocator + Copy>(

@@ -1,6 +1,6 @@
 /* Pigyelund for C: what an issuer verifies of a certificate's resources (RFC 3779), or an anchor of a path of
- * certificates, operations on sets of resources, their shortest covers, and the answers of the program respath, from
- * octets to octets, by proved code. docs/FOREIGN.md is the guide.
+ * certificates, operations on sets of resources, their shortest covers, the validity of routes by payloads (RFC 6811),
+ * and the answers of the program respath, from octets to octets, by proved code. docs/FOREIGN.md is the guide.
  *
  * SETS. A set of resources is two runs of octets: the value of the extension of AS identifiers (RFC 3779, 3.2.3) and
  * that of IP address blocks (2.2.3), each of length 0 where nothing is listed. What is written is canonical DER, so two
@@ -45,10 +45,13 @@ extern "C" {
 #define PG_OUTSIDE 11u      /* a place of a certificate on a path lies outside of the run of octets */
 #define PG_BAD_PRESENT 12u  /* the number of the extensions that are there is more than PG_HAS_BOTH */
 #define PG_BAD_FAMILY 13u   /* the family is neither PG_IPV4 nor PG_IPV6 */
+#define PG_BAD_PREFIX 14u   /* a length is above the family's, or bits of the address behind it are set */
+#define PG_BAD_MAX_LEN 15u  /* a greatest length is below the prefix's length, or above the family's */
 #define PG_BAD_AS 0x100u    /* + number of the first fault: octets of AS identifiers are none */
 #define PG_BAD_IP 0x200u    /* + number of the first fault: octets of IP address blocks are none */
 #define PG_SECOND 0x1000u   /* + one of 0x1nn, 0x2nn: said of the certificate, and not of the issuer;
-                               + one of these or 3: of the second set, and not of the first */
+                               + one of these or 3: of the second set, and not of the first;
+                               + 13 or 14: of a route, and not of a payload */
 #define PG_FAULT(s) ((s) & 0xffu) /* of a PG_BAD_AS or PG_BAD_IP: 1 truncated, 2 tag, 3 length, 4 integer,
                                      5 bit string, 6 NULL, 7 trailing data, 8 prefix, 9 family, 10 reversed range,
                                      11 no blocks, 12 family twice, 13 no family, 14 not canonical */
@@ -71,6 +74,12 @@ extern "C" {
 /* Families, as IP address blocks number them (RFC 3779, 2.2.3.3). */
 #define PG_IPV4 1u
 #define PG_IPV6 2u
+
+/* Validities of a route (RFC 6811, 2), numbered as in RFC 8097, 2: a payload matches it; none covers it; one covers it,
+ * and none matches it. */
+#define PG_VALID 0u
+#define PG_NOT_FOUND 1u
+#define PG_INVALID 2u
 
 /* The version of these calls. It grows where one is added. */
 uint32_t pg_version(void);
@@ -108,6 +117,27 @@ uint32_t pg_verify_path(const uint8_t *anchor_as, size_t anchor_as_len, const ui
  * encoding, family, octets, inherited (of either family); then *len is 0 and the room is untouched. */
 uint32_t pg_cover(const uint8_t *ip, size_t ip_count, uint32_t encoding, uint32_t family, uint8_t *out, size_t room,
                   size_t *len);
+
+/* A validated payload: a prefix, its greatest length, and the AS that may originate it; and a route: the prefix that it
+ * leads to, and the AS that originates it. An IPv4 address is the first four octets: those behind aren't looked at. */
+typedef struct {
+  uint8_t address[16];
+  uint32_t asn;
+  uint8_t family, len, max_len;
+} pg_payload;
+
+typedef struct {
+  uint8_t address[16];
+  uint32_t asn;
+  uint8_t family, len;
+} pg_route;
+
+/* The validity of each route by the payloads, one octet each: PG_VALID, PG_NOT_FOUND or PG_INVALID. Payloads come in any
+ * order. A table is made of them once in a call, so a call asks best for many routes. Where a payload is none, or else
+ * a route, the status is that of the first one, *place is its place, counted from 0, *len is 0 and the room is
+ * untouched: its family, its prefix, then its greatest length. Else *place is 0. */
+uint32_t pg_origins(const pg_payload *payloads, size_t payload_count, const pg_route *routes, size_t route_count,
+                    uint8_t *out, size_t room, size_t *len, size_t *place);
 
 /* The answer of respath (README.md) to a line, both UTF-8 and without the end of a line. The status is PG_OK,
  * PG_TOO_SMALL or PG_MEMORY: what is wrong with a line is said by its answer. */

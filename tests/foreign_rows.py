@@ -4,7 +4,9 @@
 A row has a call and its numbers, joined by commas; four words that go in, in hexadecimal and - where there are no
 octets; the status, the two words that are told, and how many certificates of a path are verified. What goes in are the
 two extensions of the issuer, of the first set or of the anchor, and then those of the certificate or of the second set;
-or a run of octets and the certificates of a path, each as six numbers. With --write the file is written anew. Status 1
+or a run of octets and the certificates of a path, each as six numbers; or payloads, 23 octets each, and routes, 22 each:
+address, AS number, family, length, greatest length. Of these the last word is the place of the first that is none. With
+--write the file is written anew. Status 1
 where it differs.
 """
 
@@ -28,12 +30,13 @@ Octets = tuple[bytes, bytes]
 Triple = tuple[Set, Set, Set]
 
 OK, INHERITED, BAD_MODE, OVERCLAIM_AS, NO, BAD_ENCODING = 0, 3, 4, 5, 8, 9
-ABSENT, OUTSIDE, BAD_PRESENT, BAD_FAMILY = 10, 11, 12, 13
+ABSENT, OUTSIDE, BAD_PRESENT, BAD_FAMILY, BAD_PREFIX, BAD_MAX_LEN = 10, 11, 12, 13, 14, 15
 BAD_AS, BAD_IP, SECOND = 0x100, 0x200, 0x1000
 LENIENT, STRICT = 0, 1
 REFUSE, TRIM = 0, 1
 NUMBERS, ADDRESSES, BOTH = 1, 2, 3
 FAMILIES = {1: Family.V4, 2: Family.V6}
+VALIDITIES = {"Valid": 0, "NotFound": 1, "Invalid": 2}
 OPERATIONS = {"union": union, "intersection": intersection, "difference": difference}
 TESTS = {"contains": has_all, "equal": eq}
 ON_SETS = [*OPERATIONS, *TESTS]
@@ -61,7 +64,7 @@ class Question(NamedTuple):
 
 
 class Answer(NamedTuple):
-    """The status, the words that are told, and how many certificates of a path are verified."""
+    """The status, the words that are told, and how many certificates of a path are verified, or which route is none."""
 
     status: int
     told: Octets
@@ -186,6 +189,47 @@ def cover_octets(question: Question) -> bytes:
     return b"".join(first.to_bytes(family.bits // 8, "big") + bytes([length]) for first, length in cover)
 
 
+def prefix_of(octets: bytes, base: int) -> prefixes.Prefix:
+    """The prefix of a payload or of a route."""
+    number, length = octets[20:22]
+    if number not in FAMILIES:
+        raise Status(base + BAD_FAMILY)
+    family = FAMILIES[number]
+    address = int.from_bytes(octets[: family.bits // 8], "big")
+    if length > family.bits or address % (1 << family.bits - length):
+        raise Status(base + BAD_PREFIX)
+    return prefixes.Prefix(family, address, length)
+
+
+def payload_of(octets: bytes) -> prefixes.Payload:
+    """The payload that octets are."""
+    prefix = prefix_of(octets, 0)
+    if not prefix.length <= octets[22] <= prefix.family.bits:
+        raise Status(BAD_MAX_LEN)
+    return prefixes.Payload(prefixes.MaxLenPrefix(prefix, octets[22]), int.from_bytes(octets[16:20], "big"))
+
+
+def origins_answer(question: Question) -> Answer:
+    """The validity of each route by the payloads."""
+    found = bytearray()
+    payloads: list[prefixes.Payload] = []
+    place = 0
+    try:
+        for place, octets in enumerate(cut(question.first[0], 23)):
+            payloads.append(payload_of(octets))
+        for place, octets in enumerate(cut(question.second[0], 22)):
+            prefix, number = prefix_of(octets, SECOND), int.from_bytes(octets[16:20], "big")
+            found.append(VALIDITIES[prefixes.validity(prefix, number, payloads)])
+    except Status as refusal:
+        return Answer(refusal.number, (b"", b""), place)
+    return Answer(OK, (bytes(found), b""), 0)
+
+
+def cut(octets: bytes, length: int) -> list[bytes]:
+    """Octets in parts of a length."""
+    return [octets[at : at + length] for at in range(0, len(octets), length)]
+
+
 def asked_of_sets(question: Question) -> Triple:
     """The set that is made of two; no set where a test of both says yes."""
     strict = is_strict(question.numbers[0])
@@ -220,6 +264,8 @@ def answer(question: Question) -> Answer:
     """What a call answers."""
     if question.call == "path":
         return path_answer(question)
+    if question.call == "origins":
+        return origins_answer(question)
     try:
         return Answer(OK, told(question))
     except Status as refusal:
@@ -395,6 +441,58 @@ def of_covers() -> Iterator[Question]:
         yield asked(source.randrange(2), source.choice((1, 2)), other[1])
 
 
+def routed(family: int, address: int, length: int, number: int, max_len: int | None = None) -> bytes:
+    """A payload, or a route, which has no greatest length."""
+    width = 4 if family == 1 else 16
+    octets = address.to_bytes(width, "big").ljust(16, b"\xff") + number.to_bytes(4, "big") + bytes([family, length])
+    return octets if max_len is None else octets + bytes([max_len])
+
+
+def random_routed(source: Random, is_payload: bool) -> bytes:
+    """A payload or a route of a few addresses and AS numbers, so that many meet."""
+    family = source.choice((1, 2))
+    bits = 32 if family == 1 else 128
+    length = source.choice((0, 8, 9, 16, 24, bits - 1, bits))
+    address = source.choice((10, 11, 0x20)) << bits - 8 | source.randrange(4) << bits - 16 | source.randrange(2)
+    max_len = source.randrange(length, bits + 1) if is_payload else None
+    return routed(family, address >> bits - length << bits - length, length, source.randrange(4), max_len)
+
+
+def of_origins() -> Iterator[Question]:
+    """Payloads and routes; payloads and routes that are none, at each place; numbers at their ends."""
+    source = Random(6811)
+
+    def asked(payloads: list[bytes], routes: list[bytes]) -> Question:
+        return Question("origins", (), (b"".join(payloads), b""), (b"".join(routes), b""))
+
+    for count in (0, 1, 2, 3, 5, 9, 40) * 10:
+        payloads = [random_routed(source, True) for _ in range(count)]
+        yield asked(payloads, [random_routed(source, False) for _ in range(source.randrange(12))])
+    good = routed(1, 10 << 24, 8, 64496, 24)
+    fine = routed(1, 10 << 24, 24, 64496)
+    ends = [routed(1, 0, 0, 1, 32), routed(2, 0, 0, 2**32 - 1, 128), routed(2, 2**128 - 1, 128, 7, 128)]
+    yield asked(ends, [routed(2, 2**128 - 1, 128, 7), routed(1, 2**32 - 1, 32, 1), routed(1, 0, 0, 0), routed(2, 0, 0, 1)])
+    for bad in (
+        routed(0, 0, 0, 1, 0),
+        routed(3, 0, 0, 1, 0),
+        routed(255, 1, 255, 1, 0),
+        routed(1, 10 << 24, 33, 1, 33),
+        routed(1, 10 << 24, 6, 1, 32),
+        routed(1, 1, 31, 1, 0),
+        routed(2, 1, 127, 1, 128),
+        routed(2, 0, 129, 1, 255),
+        routed(1, 10 << 24, 8, 1, 7),
+        routed(1, 10 << 24, 8, 1, 33),
+        routed(2, 0, 128, 1, 127),
+        routed(2, 0, 0, 1, 129),
+    ):
+        for place in (0, 1, 2):
+            payloads, routes = [good, good], [fine, fine]
+            yield asked(payloads[:place] + [bad] + payloads[place:], routes)
+            yield asked(payloads, routes[:place] + [bad[:22]] + routes[place:])
+            yield asked([bad, *payloads], [bad[:22]])
+
+
 def of_lines() -> Iterator[Question]:
     """Lines of each command, well-formed and damaged, and lines of none."""
     for line in (b"", b" ", b"\xff", b"norm", b"norm v5 0.0.0.0", b"cover as AS1", b"NORM as AS1", b"der as inherit\0"):
@@ -442,7 +540,8 @@ def joined(parts: Iterable[object], by: str) -> str:
 
 def rows() -> Iterator[str]:
     """The rows of the file."""
-    for question in (*of_certificates(), *of_absence(), *of_paths(), *of_sets(), *of_covers(), *of_lines()):
+    parts = of_certificates, of_absence, of_paths, of_sets, of_covers, of_origins, of_lines
+    for question in (question for part in parts for question in part()):
         found = answer(question)
         words = [question.call, joined(question.numbers, ","), *map(hexadecimal, (*question.first, *question.second))]
         if question.call == "path":

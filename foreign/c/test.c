@@ -12,7 +12,7 @@ typedef struct {
   size_t length;
 } run;
 
-typedef enum { VERIFY, PATH, MAKE, TEST, COVER, ANSWER } kind;
+typedef enum { VERIFY, PATH, MAKE, TEST, COVER, ORIGINS, ANSWER } kind;
 
 /* one row: a call, its numbers, what goes in, and what is told */
 typedef struct {
@@ -23,7 +23,9 @@ typedef struct {
   uint32_t numbers[3], status;
   run in[4], told[2];
   pg_certificate *certificates;
-  size_t count, verified;
+  pg_payload *payloads;
+  pg_route *routes;
+  size_t count, route_count, verified;
 } question;
 
 static unsigned calls, faults;
@@ -83,6 +85,35 @@ static void read_certificates(question *q, const char *word) {
   if (q->count) memcpy(q->certificates, found, q->count * sizeof *found);
 }
 
+static uint32_t read_asn(const uint8_t *octets) {
+  return (uint32_t)octets[0] << 24 | (uint32_t)octets[1] << 16 | (uint32_t)octets[2] << 8 | octets[3];
+}
+
+/* payloads of 23 octets each, and routes of 22 */
+static void read_routes(question *q) {
+  q->count = q->in[0].length / 23;
+  q->route_count = q->in[2].length / 22;
+  q->payloads = (pg_payload *)(void *)block(q->count * sizeof(pg_payload));
+  q->routes = (pg_route *)(void *)block(q->route_count * sizeof(pg_route));
+  for (size_t i = 0; i < q->count; i++) {
+    const uint8_t *octets = q->in[0].octets + 23 * i;
+    pg_payload *payload = q->payloads + i;
+    memcpy(payload->address, octets, 16);
+    payload->asn = read_asn(octets + 16);
+    payload->family = octets[20];
+    payload->len = octets[21];
+    payload->max_len = octets[22];
+  }
+  for (size_t i = 0; i < q->route_count; i++) {
+    const uint8_t *octets = q->in[2].octets + 22 * i;
+    pg_route *route = q->routes + i;
+    memcpy(route->address, octets, 16);
+    route->asn = read_asn(octets + 16);
+    route->family = octets[20];
+    route->len = octets[21];
+  }
+}
+
 static void name_call(question *q, const char *call) {
   static const struct {
     const char *name;
@@ -90,7 +121,7 @@ static void name_call(question *q, const char *call) {
     pg_operation *operation;
     pg_test *test;
   } names[] = {{"verify", VERIFY, 0, 0}, {"path", PATH, 0, 0}, {"cover", COVER, 0, 0}, {"answer", ANSWER, 0, 0},
-               {"union", MAKE, pg_union, 0}, {"intersection", MAKE, pg_intersection, 0},
+               {"origins", ORIGINS, 0, 0}, {"union", MAKE, pg_union, 0}, {"intersection", MAKE, pg_intersection, 0},
                {"difference", MAKE, pg_difference, 0}, {"contains", TEST, 0, pg_contains},
                {"equal", TEST, 0, pg_equal}};
   for (size_t i = 0; i < sizeof names / sizeof *names; i++)
@@ -120,6 +151,9 @@ static uint32_t call_of(const question *q, uint8_t *as, size_t as_room, uint8_t 
     case COVER:
       *ip_len = 0;
       return pg_cover(in[0].octets, in[0].length, n[0], n[1], as, as_room, as_len);
+    case ORIGINS:
+      *ip_len = 0;
+      return pg_origins(q->payloads, q->count, q->routes, q->route_count, as, as_room, as_len, verified);
     case ANSWER:
       *ip_len = 0;
       return pg_answer(in[0].octets, in[0].length, as, as_room, as_len);
@@ -139,7 +173,7 @@ static void ask(const question *q, size_t as_room, size_t ip_room) {
   calls++;
   expect(found == (fits ? q->status : PG_TOO_SMALL), q->row, "another status");
   expect(as_len == told[0].length && ip_len == told[1].length, q->row, "other lengths");
-  expect(verified == (q->call == PATH ? q->verified : 77), q->row, "another number of verified ones");
+  expect(verified == (q->call == PATH || q->call == ORIGINS ? q->verified : 77), q->row, "another place");
   if (fits) {
     expect(!memcmp(as, told[0].octets, told[0].length), q->row, "other octets in the first room");
     expect(!memcmp(ip, told[1].octets, told[1].length), q->row, "other octets in the second room");
@@ -178,7 +212,7 @@ static void ask_in_short(const question *q) {
   pg_room out = {0, q->told[0].length, 0, 0, q->told[1].length, 0};
   pg_set a = set_of(q->in), b = set_of(q->in + 2);
   uint32_t found;
-  if (q->call == PATH || q->call == COVER || q->call == ANSWER) return;
+  if (q->call != VERIFY && q->call != MAKE && q->call != TEST) return;
   if (q->call == VERIFY && q->numbers[1] > PG_HAS_BOTH) return;
   if (out.as_room) out.as = block(out.as_room);
   if (out.ip_room) out.ip = block(out.ip_room);
@@ -202,6 +236,7 @@ static void ask_row(unsigned row, char **words) {
   read_numbers(&q, words[1]);
   for (int i = 0; i < 4; i++) q.in[i] = read_run(q.call == PATH && i == 3 ? "-" : words[2 + i]);
   read_certificates(&q, q.call == PATH ? words[5] : "-");
+  if (q.call == ORIGINS) read_routes(&q);
   q.status = (uint32_t)strtoul(words[6], 0, 10);
   for (int i = 0; i < 2; i++) q.told[i] = read_run(words[7 + i]);
   q.verified = strtoul(words[9], 0, 10);
@@ -210,6 +245,8 @@ static void ask_row(unsigned row, char **words) {
   for (int i = 0; i < 4; i++) free(q.in[i].octets);
   for (int i = 0; i < 2; i++) free(q.told[i].octets);
   free(q.certificates);
+  free(q.payloads);
+  free(q.routes);
 }
 
 int main(int count, char **words) {
@@ -217,7 +254,7 @@ int main(int count, char **words) {
   FILE *file = count == 2 ? fopen(words[1], "r") : 0;
   unsigned row = 0;
   if (!file) return 2;
-  expect(pg_version() == 2, 0, "another version");
+  expect(pg_version() == 3, 0, "another version");
   while (fgets(line, LENGTH, file)) {
     char *found[WORDS];
     int n = 0;

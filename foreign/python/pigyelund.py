@@ -1,5 +1,6 @@
 """What an issuer verifies of a certificate's resources (RFC 3779), or an anchor of a path of certificates, operations
-on sets, shortest covers, and the answers of the program respath, through ctypes.
+on sets, shortest covers, the validity of routes by payloads (RFC 6811), and the answers of the program respath, through
+ctypes.
 
 A set is the values of both extensions, of AS identifiers and of IP address blocks, each of no octets where nothing is
 listed.
@@ -34,6 +35,14 @@ class Family(IntEnum):
 
     V4 = 1
     V6 = 2
+
+
+class Validity(IntEnum):
+    """What payloads say of a route (RFC 6811, 2)."""
+
+    VALID = 0
+    NOT_FOUND = 1
+    INVALID = 2
 
 
 class Operation(Enum):
@@ -86,6 +95,45 @@ class Certificate(ctypes.Structure):
     ]
 
 
+class Payload(ctypes.Structure):
+    """A validated payload: a prefix, its greatest length, and the AS that may originate it, as pigyelund.h has them."""
+
+    _fields_ = [
+        ("address", ctypes.c_uint8 * 16),
+        ("asn", ctypes.c_uint32),
+        ("family", ctypes.c_uint8),
+        ("len", ctypes.c_uint8),
+        ("max_len", ctypes.c_uint8),
+    ]
+
+    @classmethod
+    def of(cls, prefix: IPv4Network | IPv6Network, asn: int, max_len: int | None = None) -> "Payload":
+        """That of a prefix, whose own length is the greatest where none is given."""
+        length = prefix.prefixlen if max_len is None else max_len
+        return cls(address_of(prefix), asn, family_of(prefix), prefix.prefixlen, length)
+
+
+class Route(ctypes.Structure):
+    """The prefix that a route leads to, and the AS that originates it, as pigyelund.h has them."""
+
+    _fields_ = Payload._fields_[:-1]
+
+    @classmethod
+    def of(cls, prefix: IPv4Network | IPv6Network, asn: int) -> "Route":
+        """That to a prefix."""
+        return cls(address_of(prefix), asn, family_of(prefix), prefix.prefixlen)
+
+
+def address_of(prefix: IPv4Network | IPv6Network) -> ctypes.Array[ctypes.c_uint8]:
+    """The octets of a prefix's address, behind which there may be others."""
+    return (ctypes.c_uint8 * 16)(*prefix.network_address.packed)
+
+
+def family_of(prefix: IPv4Network | IPv6Network) -> Family:
+    """The family of a prefix."""
+    return Family.V4 if prefix.version == 4 else Family.V6
+
+
 class Refused(Exception):
     """Why nothing is told: the status, as pigyelund.h numbers it, and the excess where too much is claimed."""
 
@@ -101,6 +149,15 @@ class RefusedPath(Refused):
     def __init__(self, status: int, excess: Resources, verified: int) -> None:
         super().__init__(status, excess)
         self.verified = verified
+
+
+class RefusedOrigin(Refused):
+    """Why no route's validity is told: the place of the first payload that is none, or of the first route where the
+    status says so."""
+
+    def __init__(self, status: int, place: int) -> None:
+        super().__init__(status, Resources())
+        self.place = place
 
 
 Rooms = tuple[int, int]
@@ -127,6 +184,9 @@ class Pigyelund:
             "pg_verify": [*octets[:4], number, *octets[4:], number, number, *rooms],
             "pg_verify_path": path,
             "pg_cover": [*octets[:2], number, number, *room],
+            "pg_origins": [
+                ctypes.POINTER(Payload), size, ctypes.POINTER(Route), size, *room, ctypes.POINTER(size)
+            ],
             "pg_answer": [*octets[:2], *room],
         }
         calls |= {call.value: [*octets, number, *rooms] for call in Operation}
@@ -148,10 +208,10 @@ class Pigyelund:
         held = Resources(asn.raw[: rooms[0]], ip.raw[: rooms[1]])
         return status, (lengths[0].value, lengths[1].value), held
 
-    def _told_once(self, name: str, words: list[object], room: int) -> Told:
+    def _told_once(self, name: str, words: list[object], room: int, *behind: object) -> Told:
         """One call with one room: what it tells stands for that of AS numbers."""
         held, length = ctypes.create_string_buffer(max(room, 1)), ctypes.c_size_t()
-        status = getattr(self._library, name)(*words, held, room, ctypes.byref(length))
+        status = getattr(self._library, name)(*words, held, room, ctypes.byref(length), *behind)
         return status, (length.value, 0), Resources(held.raw[:room])
 
     def verify_told(
@@ -174,6 +234,14 @@ class Pigyelund:
     def cover_told(self, ip: bytes, encoding: int, family: int, room: int) -> Told:
         """One call of `pg_cover` with a room of this length."""
         return self._told_once("pg_cover", [ip, len(ip), encoding, family], room)
+
+    def origins_told(self, payloads: list[Payload], routes: list[Route], room: int) -> tuple[Told, int]:
+        """One call of `pg_origins` with a room of this length, and the place that it tells."""
+        place = ctypes.c_size_t()
+        listed = (Payload * max(len(payloads), 1))(*payloads)
+        asked = (Route * max(len(routes), 1))(*routes)
+        words = [listed, len(payloads), asked, len(routes)]
+        return self._told_once("pg_origins", words, room, ctypes.byref(place)), place.value
 
     def answer_told(self, line: bytes, room: int) -> Told:
         """One call of `pg_answer` with a room of this length."""
@@ -228,6 +296,13 @@ class Pigyelund:
         if family == Family.V4:
             return [IPv4Network((octets[at : at + 4], octets[at + 4])) for at in range(0, len(octets), 5)]
         return [IPv6Network((octets[at : at + 16], octets[at + 16])) for at in range(0, len(octets), 17)]
+
+    def origins(self, payloads: list[Payload], routes: list[Route]) -> list[Validity]:
+        """The validity of each route by the payloads. `RefusedOrigin` where one is none."""
+        (status, _, held), place = self.origins_told(payloads, routes, len(routes))
+        if status != OK:
+            raise RefusedOrigin(status, place)
+        return [Validity(octet) for octet in held.asn]
 
     def answer(self, line: str) -> str:
         """The answer of respath to a line. `Refused` where there is no memory for it."""

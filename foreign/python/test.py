@@ -14,11 +14,14 @@ from pigyelund import (
     Family,
     Mode,
     Operation,
+    Payload,
     Pigyelund,
     Refused,
+    RefusedOrigin,
     RefusedPath,
     Resources,
     Rooms,
+    Route,
     Test,
     Told,
 )
@@ -48,7 +51,7 @@ class Row:
 
     def is_told(self, call: Callable[[Rooms], Told]) -> bool:
         """Whether a call answers so with ample rooms, with exact ones, and with none."""
-        told, one_room = self.told, self.call in ("cover", "answer")
+        told, one_room = self.told, self.call in ("cover", "origins", "answer")
         lengths = len(told.asn), len(told.ip)
         ample = Resources(told.asn.ljust(ROOM, b"\0"), b"" if one_room else told.ip.ljust(ROOM, b"\0"))
         return (
@@ -63,6 +66,8 @@ class Row:
             found = call()
         except RefusedPath as refused:
             return (refused.status, refused.excess, str(refused.verified)) == (self.status, self.told, self.verified)
+        except RefusedOrigin as refused:
+            return (refused.status, str(refused.place)) == (self.status, self.verified)
         except Refused as refused:
             return (refused.status, refused.excess) == (self.status, self.told)
         if isinstance(found, Resources):
@@ -111,6 +116,28 @@ def is_cover(library: Pigyelund, row: Row) -> bool:
     return row.is_answer(prefixes)
 
 
+def parts(octets: bytes, length: int) -> list[tuple[bytes, int, bytes]]:
+    """Octets in parts of a length, each an address, an AS number, and others."""
+    found = [octets[at : at + length] for at in range(0, len(octets), length)]
+    return [(part[:16], int.from_bytes(part[16:20], "big"), part[20:]) for part in found]
+
+
+def are_origins(library: Pigyelund, row: Row) -> bool:
+    """Whether the row of routes is answered as it says."""
+
+    def made(of: type[Payload] | type[Route], octets: bytes, length: int) -> list[Payload] | list[Route]:
+        octet = of._fields_[0][1]
+        return [of(octet(*address), asn, *others) for address, asn, others in parts(octets, length)]
+
+    payloads, routes = made(Payload, row.first.asn, 23), made(Route, row.second.asn, 22)
+
+    def told(rooms: Rooms) -> Told:
+        found, place = library.origins_told(payloads, routes, rooms[0])
+        return found if str(place) == row.verified else (place, (0, 0), Resources())
+
+    return row.is_told(told) and row.is_answer(lambda: Resources(bytes(library.origins(payloads, routes))))
+
+
 def is_line(library: Pigyelund, row: Row) -> bool:
     """Whether the row of a line is answered as it says."""
     line = row.first.asn
@@ -137,7 +164,7 @@ def is_of_sets(library: Pigyelund, row: Row) -> bool:
     return is_so and row.is_answer(lambda: getattr(library, row.call)(first, second, Encoding(encoding)))
 
 
-ASKED = {"verify": is_verified, "path": is_verified_path, "cover": is_cover, "answer": is_line}
+ASKED = {"verify": is_verified, "path": is_verified_path, "cover": is_cover, "origins": are_origins, "answer": is_line}
 
 
 def main() -> int:
@@ -152,7 +179,7 @@ def main() -> int:
     for text in faults[:20]:
         print(f"another answer: {text}")
     print(f"Python: {len(rows)} rows, {len(faults)} faults")
-    return 1 if faults or not rows or library.version() != 2 else 0
+    return 1 if faults or not rows or library.version() != 3 else 0
 
 
 if __name__ == "__main__":

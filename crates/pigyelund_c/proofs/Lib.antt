@@ -1,2 +1,3 @@
 pub mod CoverLemmas
+pub mod OriginLemmas
 pub mod PathLemmas

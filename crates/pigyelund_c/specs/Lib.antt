@@ -1,9 +1,11 @@
 pub mod Certificates
 pub mod Covers
 pub mod Numbers
+pub mod Origins
 pub mod PairStatuses
 pub mod Pairs
 pub mod Paths
+pub mod Routes
 pub mod Sets
 pub mod Statuses
 pub mod Unclaimed

@@ -28,9 +28,13 @@ pub const OUTSIDE: u32 = 11;
 pub const BAD_PRESENT: u32 = 12;
 /// The number of a family is none.
 pub const BAD_FAMILY: u32 = 13;
+/// An address and a length are no prefix.
+pub const BAD_PREFIX: u32 = 14;
+/// A greatest length is none of its prefix.
+pub const BAD_MAX_LEN: u32 = 15;
 /// The octets of AS identifiers are none: this and the number of their first fault.
 pub const BAD_AS: u32 = 256;
 /// The octets of IP address blocks are none: this and the number of their first fault.
 pub const BAD_IP: u32 = 512;
-/// What is added to a status that speaks of the second set, or of the certificate.
+/// What is added to a status that speaks of the second set, of the certificate, or of a route.
 pub const SECOND: u32 = 4096;

@@ -1,5 +1,6 @@
 //! What an issuer verifies of a certificate's resources (RFC 3779), or an anchor of a path of certificates, operations on
-//! sets of resources, shortest covers, and the answers of the program `respath`, safe over the proved static library.
+//! sets of resources, shortest covers, the validity of routes by payloads (RFC 6811), and the answers of the program
+//! `respath`, safe over the proved static library.
 //!
 //! No call requires anything of the values, so nothing is tested here: a `&[u8]` is never null, and `&mut` rooms
 //! overlap nothing.
@@ -8,6 +9,7 @@ extern crate alloc;
 
 use alloc::string::String;
 use alloc::vec::Vec;
+use core::net::IpAddr;
 
 /// A call that makes a set of two: pointers and lengths of both, the encoding, both rooms, and the lengths that are told.
 type Making = unsafe extern "C" fn(
@@ -88,6 +90,16 @@ extern "C" {
         out: *mut u8,
         room: usize,
         len: *mut usize,
+    ) -> u32;
+    fn pg_origins(
+        payloads: *const Payload,
+        payload_count: usize,
+        routes: *const Route,
+        route_count: usize,
+        out: *mut u8,
+        room: usize,
+        len: *mut usize,
+        place: *mut usize,
     ) -> u32;
     fn pg_answer(
         line: *const u8,
@@ -270,6 +282,85 @@ pub struct Prefix {
     pub len: u8,
 }
 
+/// A validated payload: a prefix, its greatest length, and the AS that may originate it, as `pigyelund.h` has them.
+#[repr(C)]
+#[derive(Clone, Copy, Debug, PartialEq, Eq)]
+pub struct Payload {
+    pub address: [u8; 16],
+    pub asn: u32,
+    pub family: u8,
+    pub len: u8,
+    pub max_len: u8,
+}
+
+impl Payload {
+    /// That of an address and numbers.
+    pub fn new(address: IpAddr, len: u8, max_len: u8, asn: u32) -> Payload {
+        let (address, family) = octets_and_family(address);
+        Payload {
+            address,
+            asn,
+            family: family as u8,
+            len,
+            max_len,
+        }
+    }
+}
+
+/// The prefix that a route leads to, and the AS that originates it, as `pigyelund.h` has them.
+#[repr(C)]
+#[derive(Clone, Copy, Debug, PartialEq, Eq)]
+pub struct Route {
+    pub address: [u8; 16],
+    pub asn: u32,
+    pub family: u8,
+    pub len: u8,
+}
+
+impl Route {
+    /// That of an address and numbers.
+    pub fn new(address: IpAddr, len: u8, asn: u32) -> Route {
+        let (address, family) = octets_and_family(address);
+        Route {
+            address,
+            asn,
+            family: family as u8,
+            len,
+        }
+    }
+}
+
+/// The octets of an address, of which an IPv4 address has the first four, and its family.
+fn octets_and_family(address: IpAddr) -> ([u8; 16], Family) {
+    match address {
+        IpAddr::V4(v4) => {
+            let mut octets = [0; 16];
+            octets[..4].copy_from_slice(&v4.octets());
+            (octets, Family::V4)
+        }
+        IpAddr::V6(v6) => (v6.octets(), Family::V6),
+    }
+}
+
+/// What payloads say of a route (RFC 6811, 2).
+#[derive(Clone, Copy, Debug, PartialEq, Eq)]
+pub enum Validity {
+    /// One matches it.
+    Valid = 0,
+    /// None covers it.
+    NotFound = 1,
+    /// One covers it, and none matches it.
+    Invalid = 2,
+}
+
+/// Why no route's validity is told: the place of the first payload that is none, or of the first route where the status
+/// says so.
+#[derive(Clone, Copy, Debug, PartialEq, Eq)]
+pub struct RefusedOrigin {
+    pub status: u32,
+    pub place: usize,
+}
+
 /// What is made of two sets.
 #[derive(Clone, Copy, Debug, PartialEq, Eq)]
 pub enum Operation {
@@ -418,6 +509,26 @@ pub fn cover_into(ip: &[u8], encoding: u32, family: u32, out: &mut [u8]) -> (u32
         )
     };
     (status, len)
+}
+
+/// One call for the validity of routes with a room of the caller's: the status, the length of what is told, and the place
+/// of what is none.
+pub fn origins_into(payloads: &[Payload], routes: &[Route], out: &mut [u8]) -> (u32, usize, usize) {
+    let (mut len, mut place) = (0, 0);
+    // SAFETY: as in `verify_into`; `Payload` and `Route` are laid out as in C.
+    let status = unsafe {
+        pg_origins(
+            payloads.as_ptr(),
+            payloads.len(),
+            routes.as_ptr(),
+            routes.len(),
+            out.as_mut_ptr(),
+            out.len(),
+            &mut len,
+            &mut place,
+        )
+    };
+    (status, len, place)
 }
 
 /// One call for the answer to a line with a room of the caller's: the status, and the length of what is told.
@@ -584,6 +695,21 @@ pub fn cover(ip: &[u8], encoding: Encoding, family: Family) -> Result<Vec<Prefix
         }
     });
     Ok(prefixes.collect())
+}
+
+/// The validity of each route by the payloads.
+pub fn origins(payloads: &[Payload], routes: &[Route]) -> Result<Vec<Validity>, RefusedOrigin> {
+    let mut octets = alloc::vec![0; routes.len()];
+    let (status, _, place) = origins_into(payloads, routes, &mut octets);
+    if status != OK {
+        return Err(RefusedOrigin { status, place });
+    }
+    let validities = octets.iter().map(|octet| match octet {
+        0 => Validity::Valid,
+        1 => Validity::NotFound,
+        _ => Validity::Invalid,
+    });
+    Ok(validities.collect())
 }
 
 /// The answer of `respath` to a line, without the end of a line; None where memory was refused.

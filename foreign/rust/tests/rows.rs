@@ -1,10 +1,11 @@
 //! Asks each row of `rows.txt`.
 use pigyelund::{
     answer, answer_into, contains, cover, cover_into, difference, equal, intersection, made_into,
-    test_status, union, verify, verify_into, verify_path, verify_path_into, version, Certificate,
-    Encoding, Extensions, Family, Octets, Operation, Overclaim, Refused, RefusedPath, Resources,
-    Test, NO, OK, TOO_SMALL,
+    origins, origins_into, test_status, union, verify, verify_into, verify_path, verify_path_into,
+    version, Certificate, Encoding, Extensions, Family, Octets, Operation, Overclaim, Payload,
+    Refused, RefusedOrigin, RefusedPath, Resources, Route, Test, Validity, NO, OK, TOO_SMALL,
 };
+use std::net::{IpAddr, Ipv4Addr};
 
 fn octets(word: &str) -> Vec<u8> {
     let digits = if word == "-" { "" } else { word };
@@ -39,6 +40,29 @@ fn certificate(word: &str) -> Certificate {
         ip_len: places[3],
         present: numbers[4].parse().unwrap(),
         mode: numbers[5].parse().unwrap(),
+    }
+}
+
+fn asn(octets: &[u8]) -> u32 {
+    u32::from_be_bytes(octets[16..20].try_into().unwrap())
+}
+
+fn payload(octets: &[u8]) -> Payload {
+    Payload {
+        address: octets[..16].try_into().unwrap(),
+        asn: asn(octets),
+        family: octets[20],
+        len: octets[21],
+        max_len: octets[22],
+    }
+}
+
+fn route(octets: &[u8]) -> Route {
+    Route {
+        address: octets[..16].try_into().unwrap(),
+        asn: asn(octets),
+        family: octets[20],
+        len: octets[21],
     }
 }
 
@@ -190,6 +214,25 @@ impl Row<'_> {
         self.expect(found);
     }
 
+    fn ask_origins(&self) {
+        let payloads: Vec<Payload> = self.runs[0].chunks(23).map(payload).collect();
+        let routes: Vec<Route> = self.runs[2].chunks(22).map(route).collect();
+        self.ask_room(|out| {
+            let (status, len, place) = origins_into(&payloads, &routes, out);
+            assert_eq!(Some(place), self.verified, "{}", self.text);
+            (status, len)
+        });
+        match origins(&payloads, &routes) {
+            Ok(found) => {
+                let octets: Vec<u8> = found.iter().map(|validity| *validity as u8).collect();
+                assert_eq!((OK, &octets), (self.status, &self.told.asn), "{}", self.text);
+            }
+            Err(RefusedOrigin { status, place }) => {
+                assert_eq!((status, Some(place)), (self.status, self.verified), "{}", self.text);
+            }
+        }
+    }
+
     fn ask_answer(&self) {
         let line = &self.runs[0];
         self.ask_room(|out| answer_into(line, out));
@@ -233,6 +276,7 @@ impl Row<'_> {
             "verify" => self.ask_verify(),
             "path" => self.ask_path(),
             "cover" => self.ask_cover(),
+            "origins" => self.ask_origins(),
             "answer" => self.ask_answer(),
             "union" => self.ask_operation(Operation::Union, union),
             "intersection" => self.ask_operation(Operation::Intersection, intersection),
@@ -250,5 +294,15 @@ fn rows_are_answered() {
     let rows = std::fs::read_to_string(path).unwrap();
     assert!(rows.lines().count() > 2000);
     rows.lines().for_each(|text| Row::new(text).ask());
-    assert_eq!(version(), 2);
+    assert_eq!(version(), 3);
+}
+
+#[test]
+fn addresses_are_of_their_families() {
+    let v4 = IpAddr::V4(Ipv4Addr::new(10, 0, 0, 0));
+    let v6 = IpAddr::from([0x2001, 0xdb8, 0, 0, 0, 0, 0, 0]);
+    let payloads = [Payload::new(v4, 8, 16, 64496), Payload::new(v6, 32, 48, 64496)];
+    let routes = [Route::new(v4, 16, 64496), Route::new(v6, 49, 64496), Route::new(v6, 31, 64496)];
+    let found = origins(&payloads, &routes);
+    assert_eq!(found, Ok(vec![Validity::Valid, Validity::Invalid, Validity::NotFound]));
 }

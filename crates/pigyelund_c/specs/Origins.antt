@@ -1,0 +1,70 @@
+-- The validity of routes that a caller hands over, by payloads that it hands over (RFC 6811, 2).
+use Rattle.std.specs.Prelude.{◌≡◌, ◌⊎◌, ℕ, ◌+◌, ◌<◌, List, [], ◌∷◌, length, slice_index_or, take}
+use Rattle.rpki_prefix.specs.Values.{FamilyPrefix}
+use Rattle.roa_origin.specs.Payloads.{Payload}
+use Rattle.roa_origin.specs.Validities.{IsValidity}
+use Rattle.roa_origin.specs.declared.validation.Validity.{Validity}
+use Rattle.roa_origin.specs.declared.validation.Validity.TheVariants.{Valid, Invalid, NotFound}
+use Rattle.pigyelund_c.specs.Routes.{IsNoPayload, IsNoRoute, IsPayload, IsRoute, unrouted_status}
+use Rattle.pigyelund_c.specs.Sets.{AreOctetsTold}
+use Rattle.pigyelund_c.specs.declared.origin.FirstNone.{FirstNone}
+use Rattle.pigyelund_c.specs.declared.origin.NoOrigins.{NoOrigins}
+use Rattle.pigyelund_c.specs.declared.origin.NoOrigins.TheVariants.{Payload as NoPayload, Route as NoRoute}
+use Rattle.pigyelund_c.specs.declared.route.Payload.{Payload as Handed}
+use Rattle.pigyelund_c.specs.declared.route.Route.{Route}
+use Rattle.pigyelund_c.specs.declared.route.Unrouted.{Unrouted}
+
+-- ---- arrays
+
+-- there are as many ys as xs, and R holds of each x and the y at its place
+abbrev pub AreEach : {X Y : Type 0} → (X → Y → Type 0) → List X → List Y → Type 0
+AreEach R [] ys = ys ≡ []
+AreEach {X} {Y} R (x ∷ xs) ys = (y : Y) × R x y × ((rest : List Y) × (ys ≡ y ∷ rest) × AreEach R xs rest)
+
+-- R holds of each x before a place, and the x there is none for the reason
+abbrev pub IsFirstNone : {X Y : Type 0} → (X → Y → Type 0) → (X → Unrouted → Type 0) → List X → FirstNone → Type 0
+IsFirstNone {X} {Y} R N xs first =
+    (x : X) × (first.at < length xs) × (slice_index_or xs first.at x ≡ x) × ((ys : List Y) × AreEach R (take first.at xs) ys × N x first.reason)
+
+-- ---- validities
+
+-- as numbers (RFC 8097, 2)
+abbrev pub validity_number : Validity → ℕ
+validity_number Valid = 0
+validity_number NotFound = 1
+validity_number Invalid = 2
+
+-- the octet tells the validity of a route by payloads
+pub record IsOrigin (payloads : List Payload) (r : Route) (octet : ℕ) : Type 0 where
+  pub prefix : FamilyPrefix
+  pub is_route : IsRoute r prefix
+  pub validity : Validity
+  pub is_validity : IsValidity prefix r.asn payloads validity
+  pub told : octet ≡ validity_number validity
+
+-- the octets tell those of all routes, by all payloads
+abbrev pub AreOrigins : List Handed → List Route → List ℕ → Type 0
+AreOrigins handed routes octets = (payloads : List Payload) × AreEach IsPayload handed payloads × AreEach (IsOrigin payloads) routes octets
+
+-- a payload is none, or else a route
+abbrev pub AreNoOrigins : List Handed → List Route → NoOrigins → Type 0
+AreNoOrigins handed routes (NoPayload first) = IsFirstNone IsPayload IsNoPayload handed first
+AreNoOrigins handed routes (NoRoute first) =
+    (payloads : List Payload) × AreEach IsPayload handed payloads × IsFirstNone (IsOrigin payloads) IsNoRoute routes first
+
+-- ---- told
+
+abbrev pub no_origins_status : NoOrigins → ℕ
+no_origins_status (NoPayload first) = unrouted_status first.reason
+no_origins_status (NoRoute first) = 4096 + unrouted_status first.reason
+
+abbrev pub no_origins_place : NoOrigins → ℕ
+no_origins_place (NoPayload first) = first.at
+no_origins_place (NoRoute first) = first.at
+
+-- the validities are told; or the status and the place of what is none, or 2, and nothing is written
+abbrev pub AreOriginsTold : List Handed → List Route → List ℕ → List ℕ → ℕ → ℕ → ℕ → Type 0
+AreOriginsTold handed routes before after len place result =
+    ((octets : List ℕ) × AreOrigins handed routes octets × AreOctetsTold octets before after len result × (place ≡ 0))
+    ⊎ (((reason : NoOrigins) × AreNoOrigins handed routes reason × (result ≡ no_origins_status reason) × (place ≡ no_origins_place reason) × (after ≡ before) × (len ≡ 0))
+    ⊎ ((result ≡ 2) × (after ≡ before) × (len ≡ 0) × (place ≡ 0)))

@@ -1,0 +1,135 @@
+//! The validity of many routes by an array of payloads.
+ghost use Rattle.std.specs.Prelude.{◌≡◌, MatchResult};
+ghost use Rattle.rpki_text.specs.Memory.{IfRefused};
+ghost use Rattle.pigyelund_c.specs.Origins.{AreEach, AreNoOrigins, AreOrigins, IsFirstNone, IsOrigin, no_origins_place, no_origins_status, validity_number};
+ghost use Rattle.pigyelund_c.specs.Routes.{IsNoPayload, IsNoRoute, IsPayload};
+
+use crate::route::{Payload, Route, Unrouted};
+use crate::status;
+use roa_origin::{OriginTable, Validity};
+use rpki_base::Asn;
+use rpki_prefix::MaxLenPrefix;
+use rpki_resources::OrMemory;
+use std::alloc::Global;
+
+/// Which of an array is the first that is none, counted from 0, and why.
+#[derive(Clone, Copy)]
+pub(crate) struct FirstNone {
+    /// The place.
+    pub(crate) at: usize,
+    /// The reason.
+    pub(crate) reason: Unrouted,
+}
+
+/// Why no origins are told.
+#[derive(Clone, Copy)]
+pub(crate) enum NoOrigins {
+    /// A payload is none.
+    Payload(FirstNone),
+    /// A route is none.
+    Route(FirstNone),
+}
+
+impl NoOrigins {
+    /// The status of a reason.
+    pub(crate) fn status(self) -> u32
+        ensures { result ≡ no_origins_status self }
+    {
+        match self {
+            NoOrigins::Payload(first) => first.reason.status(),
+            NoOrigins::Route(first) => status::SECOND + first.reason.status(),
+        }
+    }
+
+    /// The place of what is none.
+    pub(crate) fn place(self) -> usize
+        ensures { result ≡ no_origins_place self }
+    {
+        match self {
+            NoOrigins::Payload(first) => first.at,
+            NoOrigins::Route(first) => first.at,
+        }
+    }
+}
+
+/// The number of a validity, as routers tell it one another (RFC 8097, 2).
+fn number_of(validity: Validity) -> u8
+    ensures { result ≡ validity_number validity }
+{
+    match validity {
+        Validity::Valid => 0,
+        Validity::NotFound => 1,
+        Validity::Invalid => 2,
+    }
+}
+
+/// The payloads of an array. `Refused` with the first that is none, `Memory` where there is no memory for them.
+fn payloads_of(
+    alloc: Global,
+    payloads: &[Payload],
+) -> Result<Vec<(MaxLenPrefix, Asn), Global>, OrMemory<FirstNone>>
+    ensures { MatchResult result (λ read. AreEach IsPayload payloads.now read.items)
+        (IfRefused (IsFirstNone IsPayload IsNoPayload payloads.now)) }
+{
+    let mut read = Vec::with_capacity(alloc, payloads.len())?;
+    for (at, payload) in payloads.iter().enumerate() {
+        match payload.read() {
+            Ok(payload) => read.push(payload)?,
+            Err(reason) => return Err(OrMemory::Refused(FirstNone { at, reason })),
+        }
+    }
+    Ok(read)
+}
+
+/// The validity of a route by a table, as a number.
+fn origin_of(table: &OriginTable<Global>, route: &Route) -> Result<u8, Unrouted>
+    ensures { MatchResult result (IsOrigin table.now route.now) (IsNoRoute route.now) }
+{
+    let prefix = route.prefix()?;
+    Ok(number_of(table.origin(prefix, Asn::from_u32(route.asn))))
+}
+
+/// The validity of each route of an array by payloads, as numbers. `Refused` with the first that is none, `Memory` where
+/// there is no memory for a table or for the numbers.
+fn origins_of(
+    alloc: Global,
+    payloads: &[(MaxLenPrefix, Asn)],
+    routes: &[Route],
+) -> Result<Vec<u8, Global>, OrMemory<FirstNone>>
+    ensures { MatchResult result
+        (λ octets. AreEach (IsOrigin payloads.now) routes.now octets.items)
+        (IfRefused (IsFirstNone (IsOrigin payloads.now) IsNoRoute routes.now)) }
+{
+    roa_origin::laws::laws_of_validities(); // so that the proof sees that the table's order doesn't matter
+    let table = OriginTable::new(alloc, payloads)?;
+    let mut octets = Vec::with_capacity(alloc, routes.len())?;
+    for (at, route) in routes.iter().enumerate() {
+        match origin_of(&table, route) {
+            Ok(octet) => octets.push(octet)?,
+            Err(reason) => return Err(OrMemory::Refused(FirstNone { at, reason })),
+        }
+    }
+    Ok(octets)
+}
+
+/// The validity of each route by payloads, as numbers. `Refused` with the first payload that is none, or else the first
+/// route; `Memory` where there is no memory for a table or for the numbers.
+pub(crate) fn origins(
+    alloc: Global,
+    payloads: &[Payload],
+    routes: &[Route],
+) -> Result<Vec<u8, Global>, OrMemory<NoOrigins>>
+    ensures { MatchResult result (λ octets. AreOrigins payloads.now routes.now octets.items)
+        (IfRefused (AreNoOrigins payloads.now routes.now)) }
+{
+    let read = match payloads_of(alloc, payloads) {
+        Ok(read) => read,
+        Err(OrMemory::Refused(first)) => return Err(OrMemory::Refused(NoOrigins::Payload(first))),
+        Err(OrMemory::Memory(error)) => return Err(OrMemory::Memory(error)),
+    };
+    match origins_of(alloc, read.as_slice(), routes) {
+        Ok(octets) => Ok(octets),
+        Err(OrMemory::Refused(first)) => Err(OrMemory::Refused(NoOrigins::Route(first))),
+        Err(OrMemory::Memory(error)) => Err(OrMemory::Memory(error)),
+    }
+}

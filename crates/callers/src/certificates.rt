@@ -1,16 +1,14 @@
 //! A reader of certificates that has their claims: what a path of them leaves of a root's resources, kind by kind.
 ghost use Rattle.std.specs.Prelude.{IfOk, MatchResult, All};
 ghost use Rattle.rpki_text.specs.Memory.{IfRefused};
-ghost use Rattle.rpki_chain.specs.Paths.{IsFirstRefusal, IsPathResult};
-ghost use Rattle.rpki_chain.specs.Runs.{Holds};
 ghost use Rattle.rpki_ipres.specs.Resources.{IsWholeClaim};
 ghost use Rattle.rpki_resources.specs.Triples.{HasEachOf};
 ghost use Rattle.callers.specs.Certificates.{IsFirstOverclaim, IsLeftInEach};
 
 use rpki_resources::OrMemory;
 use rpki_resources::repository::resources::{
-    AsStep, IpStep, Ipv4Blocks, Ipv6Blocks, OverclaimedAsResources, OverclaimedIpv4Resources,
-    OverclaimedIpv6Resources, PathRefusal, ResourceSet,
+    AsStep, IpStep, OverclaimedAsResources, OverclaimedIpv4Resources, OverclaimedIpv6Resources,
+    PathRefusal, ResourceSet,
 };
 use std::alloc::{Allocator, Global};
 
@@ -48,56 +46,16 @@ pub fn verified<A: Allocator + Copy>(
         }
         Err(OrMemory::Memory(error)) => return Err(OrMemory::Memory(error)),
     };
-    let ipv4 = match verified_v4(alloc, root.ipv4(), ipv4) {
+    let ipv4 = match root.ipv4().verify_path(alloc, ipv4) {
         Ok(set) => set,
         Err(OrMemory::Refused(refusal)) => {
             return Err(OrMemory::Refused(Overclaimed::Ipv4(refusal)));
         }
         Err(OrMemory::Memory(error)) => return Err(OrMemory::Memory(error)),
     };
-    match verified_v6(alloc, root.ipv6(), ipv6) {
+    match root.ipv6().verify_path(alloc, ipv6) {
         Ok(ipv6) => Ok(ResourceSet::new(asn, ipv4, ipv6)),
         Err(OrMemory::Refused(refusal)) => Err(OrMemory::Refused(Overclaimed::Ipv6(refusal))),
-        Err(OrMemory::Memory(error)) => Err(OrMemory::Memory(error)),
-    }
-}
-
-/// What a path of claims leaves of IPv4 addresses. The claims consist of whole IPv4 addresses.
-pub fn verified_v4<A: Allocator + Copy>(
-    alloc: A,
-    root: &Ipv4Blocks<A>,
-    steps: &[IpStep<A>],
-) -> Result<Ipv4Blocks<A>, OrMemory<PathRefusal<OverclaimedIpv4Resources<A>>>>
-    requires { All (λ step. IsWholeClaim step.claim) steps.now }
-    ensures { MatchResult result (IsPathResult (λ claim. claim) (Holds root.now) steps.now)
-        (IfRefused (IsFirstRefusal (λ claim. claim) (Holds root.now) steps.now)) }
-{
-    rpki_ipres::laws::laws_of_whole_claims(); // so that the proof sees that the answer consists of whole addresses
-    match root.ip_blocks().verify_path(alloc, steps) {
-        Ok(set) => Ok(Ipv4Blocks::from_ip_blocks(set)),
-        Err(OrMemory::Refused(refusal)) => Err(OrMemory::Refused(PathRefusal {
-            step: refusal.step,
-            fault: refusal.fault.v4(),
-        })),
-        Err(OrMemory::Memory(error)) => Err(OrMemory::Memory(error)),
-    }
-}
-
-/// What a path of claims leaves of IPv6 addresses.
-pub fn verified_v6<A: Allocator + Copy>(
-    alloc: A,
-    root: &Ipv6Blocks<A>,
-    steps: &[IpStep<A>],
-) -> Result<Ipv6Blocks<A>, OrMemory<PathRefusal<OverclaimedIpv6Resources<A>>>>
-    ensures { MatchResult result (IsPathResult (λ claim. claim) (Holds root.now) steps.now)
-        (IfRefused (IsFirstRefusal (λ claim. claim) (Holds root.now) steps.now)) }
-{
-    match root.ip_blocks().verify_path(alloc, steps) {
-        Ok(set) => Ok(Ipv6Blocks::from_ip_blocks(set)),
-        Err(OrMemory::Refused(refusal)) => Err(OrMemory::Refused(PathRefusal {
-            step: refusal.step,
-            fault: refusal.fault.v6(),
-        })),
         Err(OrMemory::Memory(error)) => Err(OrMemory::Memory(error)),
     }
 }

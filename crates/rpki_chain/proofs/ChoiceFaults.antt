@@ -1,5 +1,5 @@
 -- Resources are refused for a list of no blocks exactly where a SEQUENCE of nothing stands, whatever a block is.
-use Rattle.std.proofs.Common.{◌≡◌, ℕ, ◌↔◌, List, [], ◌∷◌, Result, Ok, Err, refl, sym, ap, subst, ◌∙◌, arith}
+use Rattle.std.proofs.Common.{◌≡◌, ℕ, ◌↔◌, List, [], ◌∷◌, Result, Ok, Err, refl, ap, ◌∙◌, arith}
 use Rattle.rpki_der.specs.declared.error.DerError.{DerError}
 use Rattle.rpki_der.specs.declared.error.DerError.TheVariants.{EmptyBlocks}
 use Rattle.rpki_der.specs.Reading.{nothing, value_at}

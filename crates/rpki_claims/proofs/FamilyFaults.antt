@@ -1,6 +1,6 @@
 -- Families are refused for none at all exactly where none are there, and for one that is there twice exactly where it
 -- stands behind members that were read, of which one has it.
-use Rattle.std.proofs.Common.{◌≡◌, ◌≢◌, ℕ, zero, suc, ◌≤◌, ◌<◌, ◌↔◌, Bool, true, false, cond, eqb, List, [], ◌∷◌, length, Result, Ok, Err, refl, sym, ap, subst, ◌∙◌, arith, inl, inr}
+use Rattle.std.proofs.Common.{◌≡◌, ◌≢◌, ℕ, zero, suc, ◌≤◌, ◌<◌, ◌↔◌, Bool, true, false, cond, List, [], ◌∷◌, length, Result, Ok, Err, refl, sym, ap, subst, ◌∙◌, arith, inl, inr}
 use Rattle.std.specs.Prelude.{◌⊎◌}
 use Rattle.std.proofs.lemmas.Bool.{ne_eqb}
 use Rattle.rpki_der.specs.declared.error.DerError.{DerError}
@@ -8,7 +8,7 @@ use Rattle.rpki_der.specs.declared.error.DerError.TheVariants.{DuplicateFamily, 
 use Rattle.rpki_der.specs.Reading.{◌>>=◌, ended, refined, tagged_at}
 use Rattle.rpki_der.proofs.Steps.{bind_ok, ok_is, passed}
 use Rattle.rpki_base.specs.DerFaults.{BeginsEmpty, BeginsWithAll, BeginsWithValue}
-use Rattle.rpki_base.proofs.DerFaults.{NamesTo, begins_value, bind_fails, bind_names, cond_names, ended_names, names_more, not_named, ok_names, refined_names, tagged_fails, tagged_names, tagged_shorter}
+use Rattle.rpki_base.proofs.DerFaults.{NamesTo, begins_value, bind_fails, bind_names, cond_names, ended_names, names_more, not_named, refined_names, tagged_fails, tagged_names, tagged_shorter}
 use Rattle.rpki_ip.specs.declared.family.AddressFamily.{AddressFamily}
 use Rattle.rpki_ip.specs.declared.family.AddressFamily.TheVariants.{Ipv4, Ipv6}
 use Rattle.rpki_ip.specs.FamilyDer.{family_at}

@@ -13,12 +13,12 @@ use Rattle.rpki_ip.proofs.DerWritten.{few_bits, prefix_written, range_written}
 use Rattle.rpki_ip.specs.Families.{bits_of}
 use Rattle.rpki_ip.specs.declared.family.AddressFamily.{AddressFamily}
 use Rattle.rpki_ip.specs.declared.family.AddressFamily.TheVariants.{Ipv4, Ipv6}
-use Rattle.rpki_ipblock.specs.BlockDer.{IsBlockWithin, IsIpBlockDer, IsSetIpBlock, ip_block_der}
+use Rattle.rpki_ipblock.specs.BlockDer.{IsBlockWithin, IsIpBlockDer, ip_block_der}
 use Rattle.rpki_ipblock.specs.BlockModes.{IsStrictIpBlock, ip_block_modal}
 use Rattle.rpki_ipblock.specs.BlockReading.{ip_block_at, ip_block_by}
 use Rattle.rpki_ipblock.specs.Blocks.{ip_bounds, new_ip_block}
 use Rattle.rpki_ipblock.specs.PrintedBlocks.{IsBlockOf}
-use Rattle.rpki_ipblock.proofs.BlockModes.{is_set_block, set_block_reading}
+use Rattle.rpki_ipblock.proofs.BlockModes.{is_set_block}
 use Rattle.rpki_ipblock.specs.declared.block.IpBlock.{IpBlock}
 use Rattle.rpki_ipblock.specs.declared.block.IpBlock.TheVariants.{Prefix, Range}
 use Rattle.rpki_ipblock.specs.BlockReadingLaws.{ip_block_has_octets, ip_block_reading}

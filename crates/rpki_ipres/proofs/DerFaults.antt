@@ -1,6 +1,5 @@
 -- Where resources of addresses are refused for a list of no blocks, for no family, for one that is there twice.
-use Rattle.std.proofs.Common.{◌≡◌, ℕ, ◌↔◌, List, Result, Err, arith}
-use Rattle.rpki_der.specs.declared.error.DerError.{DerError}
+use Rattle.std.proofs.Common.{◌≡◌, ℕ, ◌↔◌, List, Err, arith}
 use Rattle.rpki_der.specs.declared.error.DerError.TheVariants.{DuplicateFamily, EmptyBlocks, NoFamily}
 use Rattle.rpki_base.specs.DerFaults.{BeginsEmpty, BeginsWithValue}
 use Rattle.rpki_base.specs.DerReading.{values_of}

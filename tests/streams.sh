@@ -103,7 +103,7 @@ fi
 
 # A copy of the script beside a program and a prover that only say that they were called.
 copy=$files/copy
-mkdir -p "$copy/crates/respath/out" "$copy/crates/rpki_der" "$copy/crates/other" "$copy/bin" "$copy/tmp"
+mkdir -p "$copy/crates/respath/out" "$copy/crates/rpki_text" "$copy/crates/other" "$copy/bin" "$copy/tmp"
 cp "$top/respath" "$top/crates.txt" "$copy/"
 printf '#!/bin/sh\necho ran\n' >"$copy/crates/respath/out/respath"
 printf '#!/bin/sh\necho proving; exit 1\n' >"$copy/bin/rt"
@@ -115,9 +115,9 @@ touch "$copy/crates.txt" "$copy/crates/other/new" "$copy/crates/rpki_tests/new"
 said=$(PATH=$copy/bin:$PATH "$copy/respath" 2>&1 </dev/null)
 expect "a crate that the program doesn't need is newer" 0 "ran" $? "$said"
 
-touch "$copy/crates/rpki_der/new"
+touch "$copy/crates/rpki_text/new"
 said=$(PATH=$copy/bin:$PATH "$copy/respath" 2>&1 </dev/null)
-expect "a crate that the program needs is newer" 1 "respath: proving rpki_der (0 of N)
+expect "a crate that the program needs is newer" 1 "respath: proving rpki_text (0 of N)
 proving
 respath: the program was not built" $? "$(echo "$said" | sed '1d; s/ of [0-9]* are proved, after 0 min)/ of N)/')"
 
@@ -132,7 +132,7 @@ said=$(awk 'NR == FNR { at[$2] = FNR; next }
     !/^#/ { sub(":", "", $1); for (one = 2; one <= NF; one++) if ($1 in at && $one in at && at[$one] > at[$1]) print $1, $one }' \
     "$copy/asked" "$copy/crates.txt")
 expect "crates are proved in turn" 0 "" $? "$said"
-touch "$copy/crates/rpki_der/new"
+touch "$copy/crates/rpki_text/new"
 
 # shellcheck disable=SC2016 # the prover's own words
 printf '#!/bin/sh\nkill "$RESPATH"\n' >"$copy/bin/rt"

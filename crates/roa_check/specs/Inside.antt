@@ -3,10 +3,10 @@ use Rattle.std.specs.Prelude.{ℕ, ◌+◌, ◌-◌, ◌*◌, ◌^◌, ◌<◌, 
 use Rattle.std.specs.List.{AllWithin}
 use Rattle.rpki_addr.specs.declared.addr.IpAddr.{IpAddr}
 use Rattle.rpki_addr.specs.declared.addr.IpAddr.TheVariants.{V4, V6}
-use Rattle.rpki_base.specs.Prefixes.{last_of}
+use Rattle.rpki_addr.specs.Prefixes.{last_of}
 use Rattle.rpki_blocks.specs.Sets.{IsWithin}
 use Rattle.rpki_chain.specs.Runs.{Holds}
-use Rattle.rpki_ip.specs.Families.{family_of}
+use Rattle.rpki_base.specs.Families.{family_of}
 use Rattle.rpki_prefix.specs.MaxLen.{MaxLenValue}
 use Rattle.rpki_prefix.specs.Values.{FamilyPrefix, interval, width}
 use Rattle.rpki_resources.specs.Triples.{Triple, set_of_family}

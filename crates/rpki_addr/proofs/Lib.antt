@@ -6,6 +6,7 @@ pub mod AddressReading
 pub mod AddressReads
 pub mod GroupReading
 pub mod Masks
+pub mod PrefixNumbers
 pub mod PrintLemmas
 pub mod PrintedAddressLemmas
 pub mod Tables

@@ -5,5 +5,6 @@ pub mod AddressText
 pub mod Bits
 pub mod GroupsRead
 pub mod Orders
+pub mod Prefixes
 pub mod PrintedAddress
 pub mod ReadsAddress

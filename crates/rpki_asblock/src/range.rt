@@ -2,6 +2,7 @@
 ghost use Rattle.std.specs.Prelude.{◌≡◌, ◌≤◌};
 
 use rpki_base::asn::Asn;
+use rpki_base::asn::print::fmt_asn_range;
 use rpki_blocks::block::Block;
 use std::fmt;
 use std::marker::Model;
@@ -130,8 +131,6 @@ impl fmt::Display for AsRange {
     ghost output = { λ r. Some (as_range_text r) };
 
     fn fmt<W: fmt::Write>(&self, f: &mut fmt::Formatter<W>) -> fmt::Result {
-        let min = AsRange::min(*self);
-        let max = AsRange::max(*self);
-        write!(f, "{min}-{max}")
+        fmt_asn_range(self.min, self.max, f)
     }
 }

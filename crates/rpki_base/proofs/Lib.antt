@@ -1,10 +1,11 @@
 pub mod AsnLemmas
+pub mod AsnPrinting
 pub mod DerCursors
 pub mod DerFaults
 pub mod DerModes
 pub mod DerReadings
 pub mod DerWriting
-pub mod PrefixNumbers
+pub mod FamilyLemmas
 pub mod SmallSetLemmas
 pub mod WalkLemmas
 pub mod WalkSizes

@@ -4,7 +4,8 @@ pub mod DerFaults
 pub mod DerReading
 pub mod DerViews
 pub mod DerWriting
-pub mod Prefixes
+pub mod Families
+pub mod FamilyDer
 pub mod SmallSet
 pub mod Steps
 pub mod Walks

@@ -4,7 +4,9 @@ ghost use Rattle.rpki_base.specs.AsnText.{IsAfterAs, ReadsAsn, asn_text};
 ghost use Rattle.rpki_text.specs.Digits.{octets_of};
 
 mod der;
+pub mod print;
 
+use print::fmt_asn;
 use rpki_text::number::parse_up_to;
 use std::error::Error;
 use std::fmt;
@@ -132,7 +134,6 @@ impl fmt::Display for Asn {
     ghost output = { λ asn. Some (asn_text asn) };
 
     fn fmt<W: fmt::Write>(&self, f: &mut fmt::Formatter<W>) -> fmt::Result {
-        let value = self.0;
-        write!(f, "AS{value}")
+        fmt_asn(*self, f)
     }
 }

@@ -13,6 +13,7 @@
 
 pub mod asn;
 pub mod der;
+pub mod family;
 pub mod laws;
 pub mod small_set;
 

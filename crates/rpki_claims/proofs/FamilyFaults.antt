@@ -9,10 +9,10 @@ use Rattle.rpki_der.specs.Reading.{◌>>=◌, ended, refined, tagged_at}
 use Rattle.rpki_der.proofs.Steps.{bind_ok, ok_is, passed}
 use Rattle.rpki_base.specs.DerFaults.{BeginsEmpty, BeginsWithAll, BeginsWithValue}
 use Rattle.rpki_base.proofs.DerFaults.{NamesTo, begins_value, bind_fails, bind_names, cond_names, ended_names, names_more, not_named, refined_names, tagged_fails, tagged_names, tagged_shorter}
-use Rattle.rpki_ip.specs.declared.family.AddressFamily.{AddressFamily}
-use Rattle.rpki_ip.specs.declared.family.AddressFamily.TheVariants.{Ipv4, Ipv6}
-use Rattle.rpki_ip.specs.FamilyDer.{family_at}
-use Rattle.rpki_ip.proofs.DerFaults.{family_names}
+use Rattle.rpki_base.specs.declared.family.AddressFamily.{AddressFamily}
+use Rattle.rpki_base.specs.declared.family.AddressFamily.TheVariants.{Ipv4, Ipv6}
+use Rattle.rpki_base.specs.FamilyDer.{family_at}
+use Rattle.rpki_base.proofs.FamilyLemmas.{family_names}
 use Rattle.rpki_claims.specs.Families.{ByFamily, claims_among}
 use Rattle.rpki_claims.specs.FamiliesReading.{families_at, families_in, member_at, member_in, members_by, members_in, none_found, seen, was_seen, with_claim}
 use Rattle.rpki_claims.specs.FamilyFaults.{BeginsAmong, BeginsWithRepeat, any_member_at}

@@ -11,8 +11,8 @@ use Rattle.rpki_der.specs.Reading.{IsReading, tagged_at}
 use Rattle.rpki_der.proofs.Lists.{HasOctets, value_has_octets}
 use Rattle.rpki_der.proofs.Readings.{fits_content, fits_rest, refined_reading, tagged_reading}
 use Rattle.rpki_der.proofs.Steps.{bind_ok, ok_is, passed}
-use Rattle.rpki_ip.specs.declared.family.AddressFamily.{AddressFamily}
-use Rattle.rpki_ip.specs.declared.family.AddressFamily.TheVariants.{Ipv4, Ipv6}
+use Rattle.rpki_base.specs.declared.family.AddressFamily.{AddressFamily}
+use Rattle.rpki_base.specs.declared.family.AddressFamily.TheVariants.{Ipv4, Ipv6}
 use Rattle.rpki_claims.specs.Families.{ByFamily, IsFamilies, IsMember, SaysFamilies, claims_among, listed, of_family}
 use Rattle.rpki_claims.specs.FamiliesReading.{families_at, families_in, member_at, members_by, members_in, none_found, seen, was_seen, with_claim}
 use Rattle.rpki_claims.proofs.Members.{SaysNew, member_reading}

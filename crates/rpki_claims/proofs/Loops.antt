@@ -8,8 +8,8 @@ use Rattle.rpki_der.proofs.Lists.{shorter}
 use Rattle.rpki_text.specs.declared.memory.OrMemory.{OrMemory}
 use Rattle.rpki_text.specs.declared.memory.OrMemory.TheVariants.{Refused, Memory}
 use Rattle.rpki_text.specs.Memory.{IfRefused}
-use Rattle.rpki_ip.specs.declared.family.AddressFamily.{AddressFamily}
-use Rattle.rpki_ip.specs.declared.family.AddressFamily.TheVariants.{Ipv4, Ipv6}
+use Rattle.rpki_base.specs.declared.family.AddressFamily.{AddressFamily}
+use Rattle.rpki_base.specs.declared.family.AddressFamily.TheVariants.{Ipv4, Ipv6}
 use Rattle.rpki_claims.specs.Families.{ByFamily, SaysByFamily, SaysOption}
 use Rattle.rpki_claims.specs.FamiliesReading.{SaysClaim, member_at, members_by, seen, with_claim}
 use Rattle.rpki_claims.proofs.Gathering.{member_has_octets}

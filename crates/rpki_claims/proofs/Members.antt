@@ -8,9 +8,9 @@ use Rattle.rpki_der.specs.Reading.{◌>>=◌, IsReading, ended, tagged_at}
 use Rattle.rpki_der.proofs.Steps.{bind_ok, ok_is, passed}
 use Rattle.rpki_der.proofs.Readings.{fits_content, fits_rest, refined_reading, tagged_reading}
 use Rattle.rpki_base.proofs.DerReadings.{ended_is}
-use Rattle.rpki_ip.specs.declared.family.AddressFamily.{AddressFamily}
-use Rattle.rpki_ip.specs.FamilyDer.{IsFamilyDer, family_at}
-use Rattle.rpki_ip.proofs.DerReadings.{family_reading}
+use Rattle.rpki_base.specs.declared.family.AddressFamily.{AddressFamily}
+use Rattle.rpki_base.specs.FamilyDer.{IsFamilyDer, family_at}
+use Rattle.rpki_base.proofs.FamilyLemmas.{family_reading}
 use Rattle.rpki_claims.specs.Families.{SaysMember}
 use Rattle.rpki_claims.specs.FamiliesReading.{member_at, member_in, was_seen}
 

@@ -12,14 +12,14 @@ use Rattle.rpki_der.proofs.Lists.{shorter, value_has_octets}
 use Rattle.rpki_der.proofs.Readings.{fits_content, fits_rest, refined_reading, tagged_reading}
 use Rattle.rpki_der.proofs.Steps.{bind_ok, ok_is, passed}
 use Rattle.rpki_base.proofs.DerReadings.{ended_is}
-use Rattle.rpki_ip.proofs.DerReadings.{family_reading}
+use Rattle.rpki_base.proofs.FamilyLemmas.{family_reading}
 use Rattle.std.proofs.lemmas.Bool.{eqb-false, ne_eqb}
 use Rattle.std.proofs.lemmas.List.{append-nil, length-append}
 use Rattle.rpki_text.specs.declared.memory.OrMemory.{OrMemory}
 use Rattle.rpki_base.specs.DerViews.{TakesSaidOrMemory}
-use Rattle.rpki_ip.specs.declared.family.AddressFamily.{AddressFamily}
-use Rattle.rpki_ip.specs.declared.family.AddressFamily.TheVariants.{Ipv4, Ipv6}
-use Rattle.rpki_ip.specs.FamilyDer.{IsFamilyDer, family_at}
+use Rattle.rpki_base.specs.declared.family.AddressFamily.{AddressFamily}
+use Rattle.rpki_base.specs.declared.family.AddressFamily.TheVariants.{Ipv4, Ipv6}
+use Rattle.rpki_base.specs.FamilyDer.{IsFamilyDer, family_at}
 use Rattle.rpki_claims.specs.Families.{AreInOrder, ByFamily, IsFamiliesInOrder, IsMember, SaysMember}
 use Rattle.rpki_claims.specs.FamiliesReading.{families_at, families_by, families_in, families_in_by, is_in_order, member_at, member_by, member_in, member_in_by, members_by, none_found, seen, was_seen, with_claim}
 

@@ -12,8 +12,8 @@ use Rattle.rpki_text.specs.declared.memory.OrMemory.TheVariants.{Refused, Memory
 use Rattle.rpki_text.specs.Memory.{IsMemory}
 use Rattle.rpki_base.specs.DerViews.{ReadsOrMemory}
 use Rattle.rpki_base.proofs.DerReadings.{one_front_said}
-use Rattle.rpki_ip.specs.declared.family.AddressFamily.{AddressFamily}
-use Rattle.rpki_ip.specs.declared.family.AddressFamily.TheVariants.{Ipv4, Ipv6}
+use Rattle.rpki_base.specs.declared.family.AddressFamily.{AddressFamily}
+use Rattle.rpki_base.specs.declared.family.AddressFamily.TheVariants.{Ipv4, Ipv6}
 use Rattle.rpki_claims.specs.Families.{AreGathered, ByFamily, IsFamilies, IsMember, SaysByFamily, SaysOption, claims_among, listed}
 use Rattle.rpki_claims.specs.FamiliesReading.{families_at}
 use Rattle.rpki_claims.proofs.Gathering.{families_reading}

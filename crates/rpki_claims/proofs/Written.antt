@@ -4,10 +4,10 @@ use Rattle.std.specs.Prelude.{IfSome}
 use Rattle.std.proofs.lemmas.List.{append-nil, length-append}
 use Rattle.rpki_der.specs.Der.{header, sequence_value}
 use Rattle.rpki_der.proofs.Written.{value_is}
-use Rattle.rpki_ip.specs.declared.family.AddressFamily.{AddressFamily}
-use Rattle.rpki_ip.specs.declared.family.AddressFamily.TheVariants.{Ipv4, Ipv6}
-use Rattle.rpki_ip.specs.FamilyDer.{family_der}
-use Rattle.rpki_ip.proofs.DerWritten.{family_written}
+use Rattle.rpki_base.specs.declared.family.AddressFamily.{AddressFamily}
+use Rattle.rpki_base.specs.declared.family.AddressFamily.TheVariants.{Ipv4, Ipv6}
+use Rattle.rpki_base.specs.FamilyDer.{family_der}
+use Rattle.rpki_base.proofs.FamilyLemmas.{family_written}
 use Rattle.rpki_claims.specs.Families.{ByFamily, IsFamilies, IsMember, SaysFamilies, families_der, member_der, option_der}
 
 -- a SEQUENCE is longer than what is in it

@@ -4,9 +4,9 @@ use Rattle.std.specs.Prelude.{◌≡◌, ℕ, zero, suc, Bool, true, not, List, 
 use Rattle.rpki_der.specs.declared.error.DerError.{DerError}
 use Rattle.rpki_der.specs.declared.error.DerError.TheVariants.{DuplicateFamily, NoFamily, Truncated}
 use Rattle.rpki_der.specs.Reading.{◌>>=◌, ended, passing, refined, tagged_at}
-use Rattle.rpki_ip.specs.declared.family.AddressFamily.{AddressFamily}
-use Rattle.rpki_ip.specs.declared.family.AddressFamily.TheVariants.{Ipv4, Ipv6}
-use Rattle.rpki_ip.specs.FamilyDer.{family_at}
+use Rattle.rpki_base.specs.declared.family.AddressFamily.{AddressFamily}
+use Rattle.rpki_base.specs.declared.family.AddressFamily.TheVariants.{Ipv4, Ipv6}
+use Rattle.rpki_base.specs.FamilyDer.{family_at}
 use Rattle.rpki_claims.specs.Families.{ByFamily}
 
 -- whether IPv4 has something, and whether IPv6 has

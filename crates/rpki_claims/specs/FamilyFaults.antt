@@ -2,8 +2,8 @@
 use Rattle.std.specs.Prelude.{◌≡◌, ◌≢◌, ℕ, false, List, [], Result, Ok}
 use Rattle.rpki_der.specs.declared.error.DerError.{DerError}
 use Rattle.rpki_base.specs.DerFaults.{BeginsWithAll, BeginsWithValue}
-use Rattle.rpki_ip.specs.declared.family.AddressFamily.{AddressFamily}
-use Rattle.rpki_ip.specs.FamilyDer.{family_at}
+use Rattle.rpki_base.specs.declared.family.AddressFamily.{AddressFamily}
+use Rattle.rpki_base.specs.FamilyDer.{family_at}
 use Rattle.rpki_claims.specs.Families.{claims_among}
 use Rattle.rpki_claims.specs.FamiliesReading.{member_at}
 

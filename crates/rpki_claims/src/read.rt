@@ -5,13 +5,13 @@ ghost use Rattle.rpki_der.specs.Der.{Refines};
 ghost use Rattle.rpki_der.specs.Reading.{Gives, IsModal, IsReading, passing};
 ghost use Rattle.rpki_der.specs.Views.{Lenient, is_strict, left};
 ghost use Rattle.rpki_base.specs.DerViews.{GivesSaidOrMemory, ReadsOrMemory, TakesSaidOrMemory};
-ghost use Rattle.rpki_ip.specs.declared.family.AddressFamily.{AddressFamily as SomeFamily};
+ghost use Rattle.rpki_base.specs.declared.family.AddressFamily.{AddressFamily as SomeFamily};
 ghost use Rattle.rpki_claims.specs.Families.{IsFamilies, SaysByFamily};
 ghost use Rattle.rpki_claims.specs.FamiliesReading.{SaysClaim, families_at, families_by, families_in_by, is_in_order, member_by, member_in_by, members_by, none_found, seen, was_seen, with_claim};
 
+use rpki_base::family::AddressFamily;
 use rpki_base::memory::OrMemory;
 use rpki_der::{Cursor, DerError};
-use rpki_ip::family::AddressFamily;
 
 /// What IPv4 has and what IPv6 has, if they have something.
 pub type ByFamily<C> = (Option<C>, Option<C>);

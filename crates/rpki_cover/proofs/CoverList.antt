@@ -7,7 +7,7 @@ use Rattle.rpki_cover.proofs.Greatest.{Fits, IsGreatest, free_bits_upto_is}
 use Rattle.rpki_cover.proofs.Membership.{In, all_of}
 use Rattle.rpki_cover.proofs.Nesting.{InRange, Within, first_in, within_of, of_within, inside_of, multiple_at, no_straddle, parent_of}
 use Rattle.rpki_cover.specs.Walk.{free_bits_upto, cover_list_upto, cover_list}
-use Rattle.rpki_base.specs.Prefixes.{PrefixValue, IsPrefix, IsIn, LiesIn, IsParent, IsMaximal}
+use Rattle.rpki_addr.specs.Prefixes.{PrefixValue, IsPrefix, IsIn, LiesIn, IsParent, IsMaximal}
 use Rattle.rpki_cover.specs.Covers.{Ascends}
 
 -- a list that is the cover list of S, and in which each prefix inside S finds its place

@@ -3,7 +3,7 @@ use Rattle.std.proofs.Common.{ℕ, ◌+◌, ◌-◌, ◌^◌, ◌<◌, ◌≤◌
 use Rattle.std.proofs.lemmas.Bool.{cases_lt}
 use Rattle.std.proofs.lemmas.Nat.{pow_pos}
 use Rattle.std.proofs.lemmas.List.Elements.{All-append}
-use Rattle.rpki_base.specs.Prefixes.{PrefixValue, LiesIn, IsMaximal}
+use Rattle.rpki_addr.specs.Prefixes.{PrefixValue, LiesIn, IsMaximal}
 use Rattle.rpki_cover.proofs.CoverList.{CoverOf}
 use Rattle.rpki_cover.proofs.Membership.{In, all_of, in_append_left, in_append_right, in_append_cases}
 use Rattle.rpki_cover.proofs.Nesting.{first_in}

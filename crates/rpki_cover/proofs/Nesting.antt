@@ -4,9 +4,9 @@ use Rattle.std.proofs.lemmas.Bool.{cases_lt}
 use Rattle.std.proofs.lemmas.Nat.{pow_pos}
 use Rattle.rpki_cover.proofs.Greatest.{Fits, IsGreatest}
 use Rattle.rpki_cover.proofs.Multiples.{IsMultiple, mod_multiple, nested, Nested}
-use Rattle.rpki_base.proofs.PrefixNumbers.{cleared_prefix, cleared_holds}
+use Rattle.rpki_addr.proofs.PrefixNumbers.{cleared_prefix, cleared_holds}
 use Rattle.rpki_addr.specs.Bits.{cleared}
-use Rattle.rpki_base.specs.Prefixes.{PrefixValue, IsPrefix, IsIn, LiesIn, IsParent}
+use Rattle.rpki_addr.specs.Prefixes.{PrefixValue, IsPrefix, IsIn, LiesIn, IsParent}
 
 -- the numbers from a to b
 abbrev pub InRange : ℕ → ℕ → ℕ → Type 0

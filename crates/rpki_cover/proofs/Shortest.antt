@@ -7,7 +7,7 @@ use Rattle.rpki_cover.proofs.Multiples.{multiple_mod}
 use Rattle.rpki_cover.proofs.Nesting.{InRange, first_in}
 use Rattle.rpki_cover.proofs.CoverList.{CoverOf, cover_list_covers}
 use Rattle.rpki_cover.specs.Walk.{cover_list}
-use Rattle.rpki_base.specs.Prefixes.{PrefixValue, IsPrefix, IsIn, LiesIn}
+use Rattle.rpki_addr.specs.Prefixes.{PrefixValue, IsPrefix, IsIn, LiesIn}
 use Rattle.rpki_cover.proofs.Unique.{one_cover_list}
 use Rattle.rpki_cover.specs.Covers.{Ascends, IsCoverList, HasUnion, IsShortest, IsShortestCover}
 

@@ -2,7 +2,7 @@
 use Rattle.std.proofs.Common.{◌≡◌, ℕ, suc, zero, ◌+◌, ◌-◌, ◌^◌, ◌<◌, ◌≤◌, true, leb, Option, Some, None, List, [], ◌∷◌, MatchOption, ◌∙◌, ap, refl, arith, inl, inr}
 use Rattle.std.proofs.lemmas.Bool.{cases_Bool, le-leb, lt-leb}
 use Rattle.std.proofs.lemmas.Nat.{pow_pos}
-use Rattle.rpki_base.specs.Prefixes.{PrefixValue}
+use Rattle.rpki_addr.specs.Prefixes.{PrefixValue}
 use Rattle.rpki_cover.proofs.CoverList.{head_prefix}
 use Rattle.rpki_cover.specs.Walk.{free_bits, free_bits_upto, cover_list_upto, cover_list, left_cover}
 

@@ -2,7 +2,7 @@
 use Rattle.std.proofs.Common.{◌≡◌, ℕ, ◌+◌, ◌-◌, ◌^◌, ◌<◌, ◌≤◌, List, [], ◌∷◌, sym, ap, subst, refl, arith, inl, inr}
 use Rattle.std.proofs.lemmas.Nat.{pow_pos}
 use Rattle.rpki_cover.proofs.Membership.{In, in_of, of_in, at_all}
-use Rattle.rpki_base.specs.Prefixes.{PrefixValue}
+use Rattle.rpki_addr.specs.Prefixes.{PrefixValue}
 use Rattle.rpki_cover.specs.Covers.{Ascends, IsCoverList}
 
 -- later prefixes begin later

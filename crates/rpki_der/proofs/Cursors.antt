@@ -4,7 +4,7 @@ use Rattle.rpki_der.specs.declared.cursor.Cursor.{Cursor}
 use Rattle.rpki_der.specs.declared.error.DerError.{DerError}
 use Rattle.rpki_der.specs.Der.{IsBytes, NoFront}
 use Rattle.rpki_der.specs.Reading.{Gives, IsReading, optional}
-use Rattle.rpki_der.specs.Views.{left, Takes, Reads, ReadsOptional, Parses}
+use Rattle.rpki_der.specs.Views.{left, Takes, ReadsValue, ReadsOptional, Parses}
 use Rattle.rpki_der.proofs.Steps.{IsCheck, ok_or_err}
 use Rattle.rpki_der.proofs.Lists.{optional_some, optional_none, optional_err}
 
@@ -14,7 +14,7 @@ none_by G reading bytes e is failed = λ x rest found. ok_or_err (x, rest) e (re
 
 -- a take that answers what the reading gives answers the value of its grammar
 pub reads_by : {X Y : Type 0} (G : List ℕ → Y → Type 0) (reading : List ℕ → Result (Y × List ℕ) DerError) (view : X → Y) (old new : Cursor) (result : Result X DerError)
-    → IsReading G reading → IsBytes (left old) → Takes view old new result reading → Reads G view old new result
+    → IsReading G reading → IsBytes (left old) → Takes view old new result reading → ReadsValue G view old new result
 reads_by G reading view old new (Ok x) is fits took = is.takes (left old) (view x) (left new) fits took
 reads_by G reading view old new (Err e) is fits took = (none_by G reading (left old) e is took.0, took.1)
 

@@ -46,9 +46,9 @@ StrictIn value P = is_strict_in value ≡ true → P
 
 -- The answer, seen by view, is the value of the grammar that the cursor stood at, and it then stands behind it.
 -- A refusal means that it stood at none, and leaves it there.
-abbrev pub Reads : {X Y : Type 0} → (List ℕ → Y → Type 0) → (X → Y) → Cursor → Cursor → Result X DerError → Type 0
-Reads G view old new (Ok x) = Front G (left old) (view x) (left new)
-Reads G view old new (Err e) = NoFront G (left old) × (new ≡ old)
+abbrev pub ReadsValue : {X Y : Type 0} → (List ℕ → Y → Type 0) → (X → Y) → Cursor → Cursor → Result X DerError → Type 0
+ReadsValue G view old new (Ok x) = Front G (left old) (view x) (left new)
+ReadsValue G view old new (Err e) = NoFront G (left old) × (new ≡ old)
 
 -- The same, but None exactly at the end.
 abbrev pub ReadsOptional : {X Y : Type 0} → (List ℕ → Y → Type 0) → (X → Y) → Cursor → Cursor → Result (Option X) DerError → Type 0

@@ -25,7 +25,7 @@ impl<'a> Cursor<'a> {
     ghost use Rattle.std.specs.Prelude.{◌≡◌, ◌==◌, true, false, length, option_map, slice_get, IfOk, IfSome};
     ghost use Rattle.rpki_der.specs.Der.{IsBitString, IsNull, IsOctetString, IsPadded, IsSequence, IsTlv, IsU32, Where};
     ghost use Rattle.rpki_der.specs.Reading.{Gives, bit_string_at, bit_string_by, ended, null_at, optional, tagged_at, u32_at, value_at};
-    ghost use Rattle.rpki_der.specs.Views.{Lenient, NotCanonicalOr, Reads, ReadsOptional, Strict, Takes, bit_string_of, is_strict, is_strict_in, left, tlv};
+    ghost use Rattle.rpki_der.specs.Views.{Lenient, NotCanonicalOr, ReadsValue, ReadsOptional, Strict, Takes, bit_string_of, is_strict, is_strict_in, left, tlv};
 
     /// A cursor at the first of the octets.
     pub fn new(octets: &'a [u8]) -> Cursor<'a>
@@ -83,7 +83,7 @@ impl<'a> Cursor<'a> {
     /// `Truncated` where octets are missing, `BadTag` where the low five bits of the tag octet are
     /// all ones, `BadLength` where the length is indefinite or isn't in the fewest octets.
     pub fn take_value(&mut self) -> Result<Content<'a>, DerError>
-        ensures reads { Reads IsTlv tlv self.old self.new result }
+        ensures reads { ReadsValue IsTlv tlv self.old self.new result }
         ensures exact { Takes tlv self.old self.new result value_at }
         ensures mode { is_strict self.new ≡ is_strict self.old }
         ensures hands_on_mode { IfOk result (λ value. is_strict_in value ≡ is_strict self.old) }
@@ -106,7 +106,7 @@ impl<'a> Cursor<'a> {
     ///
     /// The faults are those of `take_value`; `BadTag` also where another value stands there.
     pub fn take_sequence(&mut self) -> Result<Cursor<'a>, DerError>
-        ensures reads { Reads IsSequence left self.old self.new result }
+        ensures reads { ReadsValue IsSequence left self.old self.new result }
         ensures exact { Takes left self.old self.new result (tagged_at 48) }
         ensures mode { is_strict self.new ≡ is_strict self.old }
         ensures hands_on_mode { IfOk result (λ content. is_strict content ≡ is_strict self.old) }
@@ -119,7 +119,7 @@ impl<'a> Cursor<'a> {
     /// The faults are those of `take_value`; `BadTag` also where another value stands there, and
     /// `BadInteger` for any other content.
     pub fn take_u32(&mut self) -> Result<u32, DerError>
-        ensures reads { Reads IsU32 (λ n. n) self.old self.new result }
+        ensures reads { ReadsValue IsU32 (λ n. n) self.old self.new result }
         ensures exact { Takes (λ n. n) self.old self.new result u32_at }
         ensures mode { is_strict self.new ≡ is_strict self.old }
     {
@@ -134,11 +134,11 @@ impl<'a> Cursor<'a> {
     /// bit is set.
     pub fn take_bit_string(&mut self) -> Result<BitString<'a>, DerError>
         ensures reads { Lenient self.old
-            (Reads IsBitString bit_string_of self.old self.new result) }
+            (ReadsValue IsBitString bit_string_of self.old self.new result) }
         ensures exact { Lenient self.old
             (Takes bit_string_of self.old self.new result bit_string_at) }
         ensures strict { Strict self.old
-            (Reads (Where IsBitString IsPadded) bit_string_of self.old self.new result) }
+            (ReadsValue (Where IsBitString IsPadded) bit_string_of self.old self.new result) }
         ensures refused { NotCanonicalOr IsBitString self.old result }
         // In either mode.
         ensures by_mode { Takes bit_string_of self.old self.new result
@@ -152,7 +152,7 @@ impl<'a> Cursor<'a> {
     ///
     /// The faults are those of `take_value`; `BadTag` also where another value stands there.
     pub fn take_octets(&mut self) -> Result<&'a [u8], DerError>
-        ensures reads { Reads IsOctetString (λ o. o.now) self.old self.new result }
+        ensures reads { ReadsValue IsOctetString (λ o. o.now) self.old self.new result }
         ensures exact { Takes (λ o. o.now) self.old self.new result (tagged_at 4) }
         ensures mode { is_strict self.new ≡ is_strict self.old }
     {
@@ -164,7 +164,7 @@ impl<'a> Cursor<'a> {
     /// The faults are those of `take_value`; `BadTag` also where another value stands there, and
     /// `BadNull` where it has content.
     pub fn take_null(&mut self) -> Result<(), DerError>
-        ensures reads { Reads IsNull (λ u. u) self.old self.new result }
+        ensures reads { ReadsValue IsNull (λ u. u) self.old self.new result }
         ensures exact { Takes (λ u. u) self.old self.new result null_at }
         ensures mode { is_strict self.new ≡ is_strict self.old }
     {

@@ -3,6 +3,7 @@
 ghost use Rattle.std.specs.Prelude.{◌≡◌, Some};
 ghost use Rattle.rpki_der.specs.Faults.{fault_name, fault_number, fault_text};
 
+use rpki_text::memory::OrMemory;
 use std::error::Error;
 use std::fmt;
 
@@ -81,3 +82,14 @@ impl fmt::Display for DerError {
 }
 
 impl Error for DerError {}
+
+impl From<DerError> for OrMemory<DerError> {
+    ghost use Rattle.std.specs.Prelude.{◌≡◌};
+    ghost use Rattle.rpki_text.specs.declared.memory.OrMemory.TheVariants.{Refused};
+
+    ghost from_gives = { λ fault error. error ≡ Refused fault };
+
+    fn from(fault: DerError) -> OrMemory<DerError> {
+        OrMemory::Refused(fault)
+    }
+}

@@ -5,7 +5,7 @@ use Rattle.std.specs.List.{All, AllPairs}
 use Rattle.std.proofs.lemmas.List.{get_or-map, length-map, map-append}
 use Rattle.std.proofs.lemmas.Nat.{pow_pos}
 use Rattle.std.proofs.lemmas.List.Elements.{All-head, All-tail, All-map}
-use Rattle.rpki_base.specs.Prefixes.{PrefixValue}
+use Rattle.rpki_addr.specs.Prefixes.{PrefixValue}
 use Rattle.rpki_blocks.proofs.Chains.{Covers-nil}
 use Rattle.rpki_chain.proofs.RunLists.{Holds-map}
 use Rattle.rpki_blocks.proofs.Unique.{Covers-head, Covers-tail, Covers-cons_cases}

@@ -7,7 +7,7 @@ use Rattle.rpki_chain.specs.Runs.{Runs, IsRunsOfBlocks}
 use Rattle.rpki_chain.proofs.RunLists.{IsRunsOf-same}
 use Rattle.rpki_blocks.proofs.Sorts.{Covers-map}
 use Rattle.rpki_ip.specs.Whole.{HasWholeBounds}
-use Rattle.rpki_ip.specs.declared.family.AddressFamily.TheVariants.{Ipv4}
+use Rattle.rpki_base.specs.declared.family.AddressFamily.TheVariants.{Ipv4}
 use Rattle.rpki_ipblock.specs.Blocks.{ip_bounds, new_ip_block}
 use Rattle.rpki_ipres.specs.SetText.{IsFamilySet}
 use Rattle.rpki_ipres.proofs.SetTextLemmas.{blocks_of_family}

@@ -1,7 +1,7 @@
 -- Covers of sets of addresses.
 use Rattle.std.specs.Prelude.{ℕ, ◌*◌, ◌^◌, List, map}
 use Rattle.std.specs.List.{flat_map}
-use Rattle.rpki_base.specs.Prefixes.{PrefixValue}
+use Rattle.rpki_addr.specs.Prefixes.{PrefixValue}
 use Rattle.rpki_chain.specs.Runs.{Runs, Holds}
 use Rattle.rpki_cover.specs.Walk.{cover_list}
 use Rattle.rpki_ipblock.specs.Blocks.{ip_bounds}

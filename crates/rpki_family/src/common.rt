@@ -4,7 +4,7 @@ ghost use Rattle.rpki_text.specs.Memory.{IsMemory};
 ghost use Rattle.rpki_text.specs.Reading.{AnswersOrMemory};
 ghost use Rattle.rpki_chain.specs.Runs.{Runs, Holds, IsRunsOfBlocks};
 ghost use Rattle.rpki_ip.specs.Whole.{IsWhole};
-ghost use Rattle.rpki_ip.specs.declared.family.AddressFamily.TheVariants.{Ipv4};
+ghost use Rattle.rpki_base.specs.declared.family.AddressFamily.TheVariants.{Ipv4};
 ghost use Rattle.rpki_ipblock.specs.Blocks.{ip_bounds};
 ghost use Rattle.rpki_ipblock.specs.ListText.{HasBlocks, HasBlocksFault};
 ghost use Rattle.rpki_ipblock.specs.declared.block.IpBlock.{IpBlock};

@@ -24,7 +24,7 @@ pub struct V4SetPrefixes<'a> {
 impl<'a> Model for V4SetPrefixes<'a> {
     ghost use Rattle.std.specs.Prelude.{List, ◌++◌, All};
     ghost use Rattle.std.specs.Slice.Iter.{iter_rest};
-    ghost use Rattle.rpki_base.specs.Prefixes.{PrefixValue};
+    ghost use Rattle.rpki_addr.specs.Prefixes.{PrefixValue};
     ghost use Rattle.rpki_family.specs.SetCovers.{blocks_cover};
     ghost use Rattle.rpki_ip.specs.Whole.{HasWholeBounds};
     ghost use Rattle.rpki_ipblock.specs.Blocks.{ip_bounds};
@@ -65,7 +65,7 @@ pub struct V6SetPrefixes<'a> {
 impl<'a> Model for V6SetPrefixes<'a> {
     ghost use Rattle.std.specs.Prelude.{List, ◌++◌};
     ghost use Rattle.std.specs.Slice.Iter.{iter_rest};
-    ghost use Rattle.rpki_base.specs.Prefixes.{PrefixValue};
+    ghost use Rattle.rpki_addr.specs.Prefixes.{PrefixValue};
     ghost use Rattle.rpki_family.specs.SetCovers.{blocks_cover};
 
     ghost Value = { List PrefixValue };

@@ -7,7 +7,7 @@ ghost use Rattle.rpki_chain.specs.Claims.{claim_of};
 ghost use Rattle.rpki_chain.specs.Operations.{IsDifference, IsIntersection, IsUnion};
 ghost use Rattle.rpki_chain.specs.Runs.{Runs, Holds, IsRunsOfBlocks};
 ghost use Rattle.rpki_blocks.specs.Sets.{IsWithin};
-ghost use Rattle.rpki_ip.specs.declared.family.AddressFamily.TheVariants.{Ipv6};
+ghost use Rattle.rpki_base.specs.declared.family.AddressFamily.TheVariants.{Ipv6};
 ghost use Rattle.rpki_ipblock.specs.Blocks.{ip_bounds, new_ip_block};
 ghost use Rattle.rpki_ipblock.specs.ListText.{HasBlocks, HasBlocksFault};
 ghost use Rattle.rpki_ipblock.specs.PrintedBlocks.{IsBlockOf, ip_block_text};

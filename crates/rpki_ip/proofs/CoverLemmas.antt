@@ -1,8 +1,8 @@
 -- Covers of ranges of addresses.
 use Rattle.std.proofs.Common.{◌≡◌, ℕ, ◌*◌, ◌%◌, ◌^◌, List, refl, ◌∙◌, ap, subst, arith}
-use Rattle.rpki_base.proofs.PrefixNumbers.{cleared_first}
+use Rattle.rpki_addr.proofs.PrefixNumbers.{cleared_first}
 use Rattle.rpki_addr.specs.Bits.{cleared}
-use Rattle.rpki_base.specs.Prefixes.{PrefixValue, IsPrefix}
+use Rattle.rpki_addr.specs.Prefixes.{PrefixValue, IsPrefix}
 use Rattle.rpki_blocks.specs.Sets.{IsWithin}
 use Rattle.rpki_cover.proofs.Nesting.{InRange}
 use Rattle.rpki_cover.proofs.Widening.{widened_prefix}

@@ -1,31 +1,21 @@
 -- Where a range of addresses is reversed, and which faults families, prefixes and ranges have.
 use Rattle.std.proofs.Common.{◌≡◌, ℕ, ◌/◌, ◌*◌, ◌-◌, ◌^◌, ◌<◌, ◌↔◌, ◌||◌, ◌&&◌, cond, eqb, ltb, List, length, get_or, Result, Ok, Err, refl, arith}
 use Rattle.std.proofs.lemmas.Bool.{lt-ltb, ltb-true}
-use Rattle.rpki_base.specs.Prefixes.{PrefixValue, last_of}
+use Rattle.rpki_addr.specs.Prefixes.{PrefixValue, last_of}
 use Rattle.rpki_der.specs.declared.error.DerError.{DerError}
 use Rattle.rpki_der.specs.declared.error.DerError.TheVariants.{BadFamily, BadPrefix, ReversedRange}
 use Rattle.rpki_der.specs.Der.{Bits, big_endian, bit_count}
 use Rattle.rpki_der.specs.Reading.{bits, tagged_at}
 use Rattle.rpki_base.specs.DerFaults.{BeginsWithTwo}
 use Rattle.rpki_base.proofs.DerFaults.{NamesTo, begins_two, bind_names, bits_names, cond_fails, cond_names, names_more, not_named, pair_fails, pair_names, refined_names, tagged_names}
-use Rattle.rpki_ip.specs.declared.family.AddressFamily.{AddressFamily}
-use Rattle.rpki_ip.specs.declared.family.AddressFamily.TheVariants.{Ipv4, Ipv6}
-use Rattle.rpki_ip.specs.FamilyDer.{family_at, family_of_octets}
+use Rattle.rpki_base.specs.declared.family.AddressFamily.{AddressFamily}
+use Rattle.rpki_base.specs.declared.family.AddressFamily.TheVariants.{Ipv4, Ipv6}
+use Rattle.rpki_base.specs.FamilyDer.{family_at, family_of_octets}
 use Rattle.rpki_ip.specs.PrefixDer.{prefix_at, prefix_in, prefix_of}
 use Rattle.rpki_ip.specs.RangeDer.{range_in, span_of}
 use Rattle.rpki_ip.specs.Ranges.{RangeValue}
 
 -- ---- which faults are named
-
-family_of_names : (content : List ℕ) → NamesTo 9 (family_of_octets content)
-unfolding family_of_octets
-family_of_names content =
-    let none : Result AddressFamily DerError = Err BadFamily in
-    let two = (eqb (length content) 2) && (eqb (get_or content 0 0) 0) in
-    cond_names 9 (two && (eqb (get_or content 1 0) 1)) (Ok Ipv4) (cond (two && (eqb (get_or content 1 0) 2)) (Ok Ipv6) none) tt (cond_names 9 (two && (eqb (get_or content 1 0) 2)) (Ok Ipv6) none tt (omega arith))
-
-pub family_names : (bytes : List ℕ) → NamesTo 9 (family_at bytes)
-family_names = refined_names 9 (tagged_at 4) family_of_octets (λ bytes. names_more 3 9 (tagged_at 4 bytes) (omega arith) (tagged_names 4 bytes)) family_of_names
 
 module _ (limit : ℕ) where
   prefix_of_names : (b : Bits) → NamesTo 8 (prefix_of limit b)

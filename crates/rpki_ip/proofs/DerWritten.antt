@@ -3,12 +3,12 @@ use Rattle.std.proofs.Common.{◌≡◌, ℕ, ◌+◌, ◌-◌, ◌%◌, ◌^◌
 use Rattle.std.proofs.lemmas.Bool.{cases_lt, lt-ltb}
 use Rattle.std.proofs.lemmas.Nat.{pow_below, pow_pos}
 use Rattle.std.proofs.lemmas.List.{length-append}
-use Rattle.rpki_base.specs.Prefixes.{PrefixValue, IsPrefix}
+use Rattle.rpki_addr.specs.Prefixes.{PrefixValue, IsPrefix}
 use Rattle.rpki_der.specs.Der.{header, length_octets, bit_string_value}
 use Rattle.rpki_der.proofs.Written.{value_is}
-use Rattle.rpki_ip.specs.declared.family.AddressFamily.{AddressFamily}
-use Rattle.rpki_ip.specs.declared.family.AddressFamily.TheVariants.{Ipv4, Ipv6}
-use Rattle.rpki_ip.specs.FamilyDer.{IsFamilyDer, family_der}
+use Rattle.rpki_base.specs.declared.family.AddressFamily.{AddressFamily}
+use Rattle.rpki_base.specs.declared.family.AddressFamily.TheVariants.{Ipv4, Ipv6}
+use Rattle.rpki_base.specs.FamilyDer.{IsFamilyDer, family_der}
 use Rattle.rpki_ip.specs.PrefixDer.{IsPrefixDer, prefix_bits, prefix_der}
 use Rattle.rpki_ip.specs.RangeDer.{IsRangeDer, IsRangeWithin, range_content, range_der, without_end_ones, without_end_zeros}
 use Rattle.rpki_ip.specs.Ranges.{RangeValue}
@@ -25,12 +25,6 @@ length_bit_string unused octets few =
     let small : ltb (length (unused ∷ octets)) 128 ≡ true = lt-ltb (length (unused ∷ octets)) 128 (omega arith) in
     rw small (omega arith)
 
--- of a family
-pub length_family : (family : AddressFamily) → length (family_der family) ≡ 4
-unfolding header length_octets
-length_family Ipv4 = refl
-length_family Ipv6 = refl
-
 -- of a prefix
 pub length_prefix : (p : PrefixValue) → IsPrefix 128 p → length (prefix_der p) < 20
 length_prefix p is = length_bit_string _ _ (bits_few p is)
@@ -43,11 +37,6 @@ joined old first front back first' front' back' b c d eb ec ed e1 e2 e3 =
     ∙ ap (λ t. old ++ (t ++ (front ++ back))) e1 ∙ ap (λ t. old ++ (first' ++ (t ++ back))) e2 ∙ ap (λ t. old ++ (first' ++ (front' ++ t))) e3
 
 -- ---- values
-
--- the OCTET STRING of a family
-pub family_written : (family : AddressFamily) → IsFamilyDer (family_der family) family
-family_written Ipv4 = value_is 4 _ (omega arith) (omega arith)
-family_written Ipv6 = value_is 4 _ (omega arith) (omega arith)
 
 -- the BIT STRING of a prefix
 pub prefix_written : (limit : ℕ) (p : PrefixValue) → IsPrefix 128 p → p.len ≤ limit → IsPrefixDer limit (prefix_der p) p

@@ -4,7 +4,7 @@ use Rattle.std.specs.Int.{bytes_high_first, byte_at, to_be_bytes, w128}
 use Rattle.std.proofs.lemmas.Nat.{pow-add, pow_pos, mod_low, shl-shr, shr-shr, shr_split, shr_below, shl_below, div-add-mod'}
 use Rattle.std.proofs.lemmas.List.{length-take}
 use Rattle.std.proofs.Math.Nat.{div-div-eq-div-mul, pow-suc}
-use Rattle.rpki_base.specs.Prefixes.{PrefixValue, IsPrefix}
+use Rattle.rpki_addr.specs.Prefixes.{PrefixValue, IsPrefix}
 use Rattle.rpki_der.specs.Der.{IsBytes, Bits, IsBits, big_endian, big_endian_after}
 use Rattle.rpki_der.proofs.Steps.{IsBytes-rest}
 use Rattle.rpki_ip.specs.PrefixDer.{SaysPrefix, prefix_bits, octet_count}

@@ -5,9 +5,9 @@ use Rattle.std.proofs.lemmas.Bool.{cases_order}
 use Rattle.std.proofs.lemmas.Nat.{pow_pos, pow_below, and_mask, and_comm, and_block, leading_length}
 use Rattle.std.specs.Int.Bits.{and_zero_r}
 use Rattle.std.specs.Int.Count.{count_leading_zeros}
-use Rattle.rpki_base.specs.Prefixes.{PrefixValue, IsPrefix}
+use Rattle.rpki_addr.specs.Prefixes.{PrefixValue, IsPrefix}
 use Rattle.rpki_ip.specs.Ranges.{RangeValue, IsRangeOf}
-use Rattle.rpki_base.proofs.PrefixNumbers.{power_is}
+use Rattle.rpki_addr.proofs.PrefixNumbers.{power_is}
 
 -- ---- the bits behind a prefix
 

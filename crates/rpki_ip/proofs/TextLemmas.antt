@@ -3,7 +3,7 @@ use Rattle.std.proofs.Common.{◌≡◌, ℕ, ◌-◌, ◌^◌, ◌<◌, ◌≤�
 use Rattle.rpki_text.specs.Cuts.{HasNo, IsCutAt, Around, slash, dash}
 use Rattle.rpki_text.specs.Numbers.{IsNumberText}
 use Rattle.rpki_addr.specs.Bits.{cleared}
-use Rattle.rpki_base.specs.Prefixes.{PrefixValue}
+use Rattle.rpki_addr.specs.Prefixes.{PrefixValue}
 use Rattle.rpki_text.specs.Reading.{Answers}
 use Rattle.rpki_addr.specs.declared.addr.IpAddr.{IpAddr}
 use Rattle.rpki_addr.specs.declared.addr.IpAddr.TheVariants.{V4, V6}
@@ -16,11 +16,11 @@ use Rattle.rpki_text.proofs.NumberLemmas.{number_answers}
 pub use Rattle.rpki_text.proofs.ReadingLemmas.{answers_by_one}
 use Rattle.rpki_addr.specs.AddrText.{first_of, greatest_of}
 use Rattle.rpki_ip.specs.BlockText.{IsAddressText, HasAddressFault, WithAddress, IsPrefixAt, HasLengthFault, IsPrefixBetween, HasPrefixFault, IsRangeFrom, HasPairFault, IsIpRangeBetween, HasRangeFault, IsSingleText, IsIpPrefixText, HasIpPrefixTextFault, IsRangeText, HasRangeTextFault, HasFaultAround}
-use Rattle.rpki_ip.specs.Families.{bits_of, family_of}
+use Rattle.rpki_base.specs.Families.{bits_of, family_of}
 use Rattle.rpki_ip.specs.Ranges.{RangeValue}
 use Rattle.rpki_ip.specs.declared.error.FromStrError.{FromStrError}
 use Rattle.rpki_ip.specs.declared.error.FromStrError.TheVariants as Fault
-use Rattle.rpki_ip.specs.declared.family.AddressFamily.{AddressFamily}
+use Rattle.rpki_base.specs.declared.family.AddressFamily.{AddressFamily}
 
 -- A stage of a reader finds something, of which the rest speaks, or it has a fault of its own. Where both are one at most, so are the values and faults of the whole.
 module _ {S X : Type 0} (At : S → Type 0) (None : FromStrError → Type 0) (same : (s t : S) → At s → At t → s ≡ t) (apart : (s : S) (e : FromStrError) → At s → None e → ⊥) (one_none : (d e : FromStrError) → None d → None e → d ≡ e) (Has : S → X → Type 0) (Fails : S → FromStrError → Type 0) (one : (s : S) (r q : Result X FromStrError) → MatchResult r (Has s) (Fails s) → MatchResult q (Has s) (Fails s) → r ≡ q) where

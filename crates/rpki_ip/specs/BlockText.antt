@@ -5,19 +5,19 @@ use Rattle.rpki_addr.specs.AddressText.{IsIpText}
 use Rattle.rpki_text.specs.Cuts.{HasNo, Around, slash, dash}
 use Rattle.rpki_text.specs.Numbers.{IsNumberText, HasNumberFault}
 use Rattle.rpki_addr.specs.Bits.{cleared}
-use Rattle.rpki_base.specs.Prefixes.{PrefixValue}
+use Rattle.rpki_addr.specs.Prefixes.{PrefixValue}
 use Rattle.rpki_addr.specs.declared.addr.AddrParseError.{AddrParseError}
 use Rattle.rpki_addr.specs.declared.addr.AddrParseError.TheVariants as Address
 use Rattle.rpki_addr.specs.declared.addr.IpAddr.{IpAddr}
 use Rattle.rpki_text.specs.declared.number.ParseIntError.{ParseIntError}
 use Rattle.rpki_text.specs.declared.number.ParseIntError.TheVariants.{PosOverflow}
 use Rattle.rpki_addr.specs.AddrText.{first_of, greatest_of}
-use Rattle.rpki_ip.specs.Families.{bits_of, family_of}
+use Rattle.rpki_base.specs.Families.{bits_of, family_of}
 use Rattle.rpki_ip.specs.Ranges.{RangeValue}
 use Rattle.rpki_ip.specs.declared.error.FromStrError.{FromStrError}
 use Rattle.rpki_ip.specs.declared.error.FromStrError.TheVariants as Fault
-use Rattle.rpki_ip.specs.declared.family.AddressFamily.{AddressFamily}
-use Rattle.rpki_ip.specs.declared.family.AddressFamily.TheVariants.{Ipv4, Ipv6}
+use Rattle.rpki_base.specs.declared.family.AddressFamily.{AddressFamily}
+use Rattle.rpki_base.specs.declared.family.AddressFamily.TheVariants.{Ipv4, Ipv6}
 
 -- the address is of a family that is wanted
 abbrev pub IsWanted : Option AddressFamily → IpAddr → Type 0

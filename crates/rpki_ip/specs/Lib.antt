@@ -1,7 +1,5 @@
 -- Definitions: families, texts of addresses, prefixes and ranges, ranges of addresses, whole IPv4 addresses, and DER.
 pub mod BlockText
-pub mod Families
-pub mod FamilyDer
 pub mod Faults
 pub mod PrefixDer
 pub mod PrintedText

@@ -1,14 +1,14 @@
 -- What is printed of prefixes and ranges, as those of a family, as by the Rust crate `rpki` 0.20.1.
 use Rattle.std.specs.Prelude.{ℕ, ◌/◌, ◌^◌, ◌==◌, if◌then◌else◌, List, ◌∷◌, ◌++◌, decimal}
 use Rattle.rpki_text.specs.Cuts.{slash, dash}
-use Rattle.rpki_base.specs.Prefixes.{PrefixValue}
+use Rattle.rpki_addr.specs.Prefixes.{PrefixValue}
 use Rattle.rpki_addr.specs.PrintedAddress.{ip_text}
 use Rattle.rpki_addr.specs.declared.addr.IpAddr.{IpAddr}
 use Rattle.rpki_addr.specs.declared.addr.IpAddr.TheVariants.{V4, V6}
-use Rattle.rpki_ip.specs.Families.{bits_of}
+use Rattle.rpki_base.specs.Families.{bits_of}
 use Rattle.rpki_ip.specs.Ranges.{RangeValue}
-use Rattle.rpki_ip.specs.declared.family.AddressFamily.{AddressFamily}
-use Rattle.rpki_ip.specs.declared.family.AddressFamily.TheVariants.{Ipv4, Ipv6}
+use Rattle.rpki_base.specs.declared.family.AddressFamily.{AddressFamily}
+use Rattle.rpki_base.specs.declared.family.AddressFamily.TheVariants.{Ipv4, Ipv6}
 
 -- the bits that an address of the family has: in IPv4 the first 32
 abbrev pub shown_bits : AddressFamily → ℕ → ℕ

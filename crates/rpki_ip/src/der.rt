@@ -1,8 +1,8 @@
 //! Families, prefixes and ranges of addresses in DER (RFC 3779, section 2.2.3).
 mod error;
-mod family;
 pub mod laws;
 mod prefix;
 mod range;
 
-pub use error::{DecodeFamilyError, DecodePrefixError};
+pub use error::DecodePrefixError;
+pub use rpki_base::family::DecodeFamilyError;

@@ -14,7 +14,6 @@
 pub mod cover;
 pub mod der;
 pub mod error;
-pub mod family;
 pub mod laws;
 pub mod prefix;
 pub mod range;
@@ -22,10 +21,11 @@ pub mod text;
 
 pub use cover::{V4Prefixes, V6Prefixes};
 pub use error::FromStrError;
-pub use family::AddressFamily;
 pub use prefix::Prefix;
 pub use range::AddressRange;
 
-/// Addresses, which stand in a crate of their own below this one.
+/// Families, in which claims are listed too, and addresses stand in crates below this one.
 pub use rpki_addr::bits as addr;
 pub use rpki_addr::bits::Addr;
+pub use rpki_base::family;
+pub use rpki_base::family::AddressFamily;

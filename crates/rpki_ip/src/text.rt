@@ -7,9 +7,9 @@ ghost use Rattle.std.specs.Fmt.{WritesOnOk};
 ghost use Rattle.rpki_text.specs.Reading.{Answers};
 ghost use Rattle.rpki_addr.specs.AddrText.{greatest_of};
 ghost use Rattle.rpki_ip.specs.BlockText.{IsAddressText, address_fault, IsPrefixBetween, HasPrefixFault, IsRangeFrom, HasPairFault, IsIpRangeBetween, HasRangeFault, IsSingleText, HasAddressFault, IsIpPrefixText, HasIpPrefixTextFault, IsRangeText, HasRangeTextFault};
-ghost use Rattle.rpki_ip.specs.Families.{family_of as the_family};
+ghost use Rattle.rpki_base.specs.Families.{family_of as the_family};
 ghost use Rattle.rpki_ip.specs.PrintedText.{shown_bits, as_ip, ip_prefix_text, ip_range_text};
-ghost use Rattle.rpki_ip.specs.declared.family.AddressFamily.TheVariants.{Ipv4, Ipv6};
+ghost use Rattle.rpki_base.specs.declared.family.AddressFamily.TheVariants.{Ipv4, Ipv6};
 
 use crate::error::FromStrError;
 use crate::family::AddressFamily;

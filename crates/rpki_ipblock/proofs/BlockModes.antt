@@ -3,7 +3,7 @@ use Rattle.std.proofs.Common.{◌≡◌, ℕ, ◌-◌, ◌^◌, ◌<◌, ◌≤�
 use Rattle.std.proofs.lemmas.Bool.{and_parts, eq-eqb, eqb-true}
 use Rattle.std.proofs.lemmas.List.{length-append}
 use Rattle.std.proofs.lemmas.Nat.{pow_pos}
-use Rattle.rpki_base.specs.Prefixes.{PrefixValue, last_of}
+use Rattle.rpki_addr.specs.Prefixes.{PrefixValue, last_of}
 use Rattle.rpki_der.specs.Der.{IsBytes, Spells, sequence_value}
 use Rattle.rpki_der.specs.Reading.{IsReading}
 use Rattle.rpki_der.proofs.Readings.{fits_content, same_reading}

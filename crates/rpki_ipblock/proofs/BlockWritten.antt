@@ -10,9 +10,9 @@ use Rattle.rpki_der.specs.Views.{Takes, is_strict, left}
 use Rattle.rpki_der.proofs.Modes.{lenient_is}
 use Rattle.rpki_ip.proofs.DerModes.{bits_few_enough}
 use Rattle.rpki_ip.proofs.DerWritten.{few_bits, prefix_written, range_written}
-use Rattle.rpki_ip.specs.Families.{bits_of}
-use Rattle.rpki_ip.specs.declared.family.AddressFamily.{AddressFamily}
-use Rattle.rpki_ip.specs.declared.family.AddressFamily.TheVariants.{Ipv4, Ipv6}
+use Rattle.rpki_base.specs.Families.{bits_of}
+use Rattle.rpki_base.specs.declared.family.AddressFamily.{AddressFamily}
+use Rattle.rpki_base.specs.declared.family.AddressFamily.TheVariants.{Ipv4, Ipv6}
 use Rattle.rpki_ipblock.specs.BlockDer.{IsBlockWithin, IsIpBlockDer, ip_block_der}
 use Rattle.rpki_ipblock.specs.BlockModes.{IsStrictIpBlock, ip_block_modal}
 use Rattle.rpki_ipblock.specs.BlockReading.{ip_block_at, ip_block_by}

@@ -1,7 +1,7 @@
 -- Where a block of addresses is a reversed range, and that no fault of lists is one of a block.
 use Rattle.std.proofs.Common.{◌≡◌, ℕ, ◌<◌, ◌↔◌, List, Ok, Err, arith}
 use Rattle.rpki_base.specs.DerFaults.{BeginsWithTwo, BeginsWithValue}
-use Rattle.rpki_base.specs.Prefixes.{last_of}
+use Rattle.rpki_addr.specs.Prefixes.{last_of}
 use Rattle.rpki_base.proofs.DerFaults.{NamesTo, begins_value, bind_names, by_tag_names, mapped_fails, names_more, not_named, refined_names, sequence_fails, value_names}
 use Rattle.rpki_der.specs.declared.error.DerError.TheVariants.{ReversedRange}
 use Rattle.rpki_der.specs.Reading.{value_at}

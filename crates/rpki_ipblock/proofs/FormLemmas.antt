@@ -5,10 +5,10 @@ use Rattle.std.proofs.Math.Nat.{mul-mod_left, mul_assoc}
 use Rattle.std.proofs.lemmas.Bool.{cases_order, eq-eqb, eqb-true}
 use Rattle.std.proofs.lemmas.Nat.{pow_pos, pow_below, pow-add, shr_split}
 use Rattle.rpki_addr.specs.Bits.{cleared}
-use Rattle.rpki_base.specs.Prefixes.{PrefixValue, IsPrefix}
+use Rattle.rpki_addr.specs.Prefixes.{PrefixValue, IsPrefix}
 use Rattle.rpki_addr.specs.declared.addr.IpAddr.{IpAddr}
 use Rattle.rpki_addr.specs.declared.addr.IpAddr.TheVariants.{V4, V6}
-use Rattle.rpki_base.proofs.PrefixNumbers.{cleared_first}
+use Rattle.rpki_addr.proofs.PrefixNumbers.{cleared_first}
 use Rattle.rpki_prefix.specs.Values.{FamilyPrefix, IsFamilyPrefix}
 use Rattle.rpki_addr.specs.AddrText.{first_of}
 use Rattle.rpki_ip.specs.Ranges.{RangeValue, IsRangeOf, range_bounds}

@@ -6,7 +6,7 @@ use Rattle.std.proofs.lemmas.List.Elements.{All-cons, All-append, All-weaker}
 use Rattle.std.proofs.lemmas.Nat.{pow_pos}
 use Rattle.rpki_text.specs.Cuts.{HasNo, slash, dash}
 use Rattle.rpki_addr.specs.Bits.{cleared}
-use Rattle.rpki_base.specs.Prefixes.{PrefixValue, IsPrefix, last_of}
+use Rattle.rpki_addr.specs.Prefixes.{PrefixValue, IsPrefix, last_of}
 use Rattle.rpki_addr.specs.PrintedAddress.{ip_text}
 use Rattle.rpki_text.specs.Reading.{Answers}
 use Rattle.rpki_addr.specs.ReadsAddress.{IsAddress}
@@ -14,15 +14,15 @@ use Rattle.rpki_addr.specs.declared.addr.IpAddr.{IpAddr}
 use Rattle.rpki_addr.proofs.AddressBytes.{IsAddressByte, ip_bytes, not_slash, no_slash, no_dash}
 use Rattle.rpki_addr.proofs.AddressReads.{IsIpText-ip_text}
 use Rattle.rpki_base.proofs.AsnLemmas.{IsNumberText-decimal}
-use Rattle.rpki_base.proofs.PrefixNumbers.{cleared_first}
+use Rattle.rpki_addr.proofs.PrefixNumbers.{cleared_first}
 use Rattle.rpki_addr.specs.AddrText.{first_of, greatest_of}
 use Rattle.rpki_ip.specs.BlockText.{IsAddressText, IsRangeFrom}
-use Rattle.rpki_ip.specs.Families.{bits_of, family_of}
+use Rattle.rpki_base.specs.Families.{bits_of, family_of}
 use Rattle.rpki_ip.specs.PrintedText.{shown_bits, as_ip}
 use Rattle.rpki_ip.specs.Ranges.{RangeValue}
 use Rattle.rpki_ip.specs.declared.error.FromStrError.{FromStrError}
-use Rattle.rpki_ip.specs.declared.family.AddressFamily.{AddressFamily}
-use Rattle.rpki_ip.specs.declared.family.AddressFamily.TheVariants.{Ipv4, Ipv6}
+use Rattle.rpki_base.specs.declared.family.AddressFamily.{AddressFamily}
+use Rattle.rpki_base.specs.declared.family.AddressFamily.TheVariants.{Ipv4, Ipv6}
 use Rattle.rpki_ip.proofs.TextLemmas.{single_of}
 use Rattle.rpki_ipblock.specs.BlockText.{IsIpBlockText, HasIpBlockFault}
 use Rattle.rpki_ipblock.specs.Blocks.{ip_bounds}

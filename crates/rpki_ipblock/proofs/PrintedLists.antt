@@ -20,11 +20,11 @@ use Rattle.rpki_addr.proofs.AddressLemmas.{dotted_is}
 use Rattle.rpki_addr.proofs.AddressReads.{IsIpv6Text-ipv6_text}
 use Rattle.rpki_text.proofs.DigitLemmas.{last_digit_below, length-last_digits}
 use Rattle.rpki_text.proofs.PrintedLemmas.{IsShown, IsElement, elements-joined}
-use Rattle.rpki_ip.specs.Families.{bits_of}
+use Rattle.rpki_base.specs.Families.{bits_of}
 use Rattle.rpki_ip.specs.PrintedText.{shown_bits, as_ip, addr_text}
 use Rattle.rpki_ip.specs.declared.error.FromStrError.{FromStrError}
-use Rattle.rpki_ip.specs.declared.family.AddressFamily.{AddressFamily}
-use Rattle.rpki_ip.specs.declared.family.AddressFamily.TheVariants.{Ipv4, Ipv6}
+use Rattle.rpki_base.specs.declared.family.AddressFamily.{AddressFamily}
+use Rattle.rpki_base.specs.declared.family.AddressFamily.TheVariants.{Ipv4, Ipv6}
 use Rattle.rpki_ipblock.specs.BlockText.{IsIpBlockText}
 use Rattle.rpki_ipblock.specs.Blocks.{ip_bounds}
 use Rattle.rpki_ipblock.specs.ListText.{dot, colon, IsForeign, IsElementText, HasBlocks, HasBlocksFault, IsFamilyOf, HasIpBlocks, HasIpBlocksFault}

@@ -8,20 +8,20 @@ use Rattle.std.proofs.lemmas.Nat.{pow_pos, pow-add}
 use Rattle.rpki_der.specs.Der.{Bits, Each, big_endian}
 use Rattle.rpki_text.specs.Lists.{elements, HaveValues}
 use Rattle.rpki_addr.specs.Bits.{cleared}
-use Rattle.rpki_base.specs.Prefixes.{PrefixValue}
+use Rattle.rpki_addr.specs.Prefixes.{PrefixValue}
 use Rattle.rpki_text.specs.Reading.{AnswersOrMemory}
 use Rattle.rpki_addr.specs.declared.addr.IpAddr.{IpAddr}
 use Rattle.rpki_addr.specs.declared.addr.IpAddr.TheVariants.{V4, V6}
 use Rattle.rpki_text.specs.declared.memory.OrMemory.{OrMemory}
 use Rattle.rpki_addr.specs.AddrText.{first_of}
 use Rattle.rpki_ip.specs.BlockText.{IsRangeFrom}
-use Rattle.rpki_ip.specs.Families.{bits_of, family_of}
+use Rattle.rpki_base.specs.Families.{bits_of, family_of}
 use Rattle.rpki_ip.specs.PrefixDer.{SaysPrefix}
 use Rattle.rpki_ip.specs.Ranges.{RangeValue, range_bounds}
 use Rattle.rpki_ip.specs.Whole.{HasWholeBounds}
 use Rattle.rpki_ip.specs.declared.error.FromStrError.{FromStrError}
-use Rattle.rpki_ip.specs.declared.family.AddressFamily.{AddressFamily}
-use Rattle.rpki_ip.specs.declared.family.AddressFamily.TheVariants.{Ipv4, Ipv6}
+use Rattle.rpki_base.specs.declared.family.AddressFamily.{AddressFamily}
+use Rattle.rpki_base.specs.declared.family.AddressFamily.TheVariants.{Ipv4, Ipv6}
 use Rattle.rpki_ipblock.specs.BlockDer.{IsIpBlockDer}
 use Rattle.rpki_ipblock.specs.BlockText.{IsIpBlockText}
 use Rattle.rpki_ipblock.specs.Blocks.{prefix_bounds, ip_bounds}

@@ -1,14 +1,14 @@
 -- What is printed of blocks of addresses, as those of a family, as by the Rust crate `rpki` 0.20.1.
 use Rattle.std.specs.Prelude.{◌≡◌, ℕ, List, map, None, Result, MatchResult}
 use Rattle.rpki_text.specs.Lists.{joined}
-use Rattle.rpki_base.specs.Prefixes.{IsPrefix}
+use Rattle.rpki_addr.specs.Prefixes.{IsPrefix}
 use Rattle.rpki_text.specs.Reading.{Answers}
 use Rattle.rpki_ip.specs.PrintedText.{ip_prefix_text, ip_range_text}
 use Rattle.rpki_ip.specs.Ranges.{IsRange}
 use Rattle.rpki_ip.specs.Whole.{HasWholeBounds}
 use Rattle.rpki_ip.specs.declared.error.FromStrError.{FromStrError}
-use Rattle.rpki_ip.specs.declared.family.AddressFamily.{AddressFamily}
-use Rattle.rpki_ip.specs.declared.family.AddressFamily.TheVariants.{Ipv4, Ipv6}
+use Rattle.rpki_base.specs.declared.family.AddressFamily.{AddressFamily}
+use Rattle.rpki_base.specs.declared.family.AddressFamily.TheVariants.{Ipv4, Ipv6}
 use Rattle.rpki_ipblock.specs.BlockText.{IsIpBlockText, HasIpBlockFault}
 use Rattle.rpki_ipblock.specs.Blocks.{ip_bounds}
 use Rattle.rpki_ipblock.specs.declared.block.IpBlock.{IpBlock}

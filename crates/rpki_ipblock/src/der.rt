@@ -2,7 +2,7 @@
 ghost use Rattle.std.specs.Prelude.{◌≡◌};
 ghost use Rattle.rpki_der.specs.Reading.{Gives};
 ghost use Rattle.rpki_der.specs.Views.{is_strict, left};
-ghost use Rattle.rpki_ip.specs.Families.{bits_of};
+ghost use Rattle.rpki_base.specs.Families.{bits_of};
 ghost use Rattle.rpki_ipblock.specs.BlockReading.{is_set_range, range_in_by, span};
 
 pub mod laws;
@@ -23,7 +23,7 @@ impl IpBlock {
     ghost use Rattle.rpki_der.specs.Der.{Spells};
     ghost use Rattle.rpki_der.specs.Reading.{optional};
     ghost use Rattle.rpki_der.specs.Views.{Lenient, NotCanonicalOr, ReadsOptional, Strict, Takes, is_strict, left};
-    ghost use Rattle.rpki_ip.specs.Families.{bits_of};
+    ghost use Rattle.rpki_base.specs.Families.{bits_of};
     ghost use Rattle.rpki_ipblock.specs.BlockDer.{IsBlockWithin, IsIpBlockDer, IsSetIpBlock, ip_block_der};
     ghost use Rattle.rpki_ipblock.specs.BlockReading.{ip_block_at};
     ghost use Rattle.rpki_ipblock.specs.Blocks.{ip_bounds, new_ip_block};
@@ -138,7 +138,7 @@ impl IpBlock {
     ghost use Rattle.rpki_blocks.specs.Beyond.{is_beyond};
     ghost use Rattle.rpki_der.specs.Reading.{Gives, optional};
     ghost use Rattle.rpki_der.specs.Views.{Takes, is_strict, is_strict_in, tlv};
-    ghost use Rattle.rpki_ip.specs.Families.{bits_of};
+    ghost use Rattle.rpki_base.specs.Families.{bits_of};
     ghost use Rattle.rpki_ipblock.specs.BlockReading.{ip_block_by, ip_block_of_by, next_ip_block_by};
     ghost use Rattle.rpki_ipblock.specs.Blocks.{ip_bounds};
 
@@ -270,7 +270,7 @@ pub struct IpBlockReader {
 }
 
 impl ReadNext for IpBlockReader {
-    ghost use Rattle.rpki_ip.specs.Families.{bits_of};
+    ghost use Rattle.rpki_base.specs.Families.{bits_of};
     ghost use Rattle.std.specs.Prelude.{Some, None};
     ghost use Rattle.rpki_ipblock.specs.BlockDer.{IsIpBlockDer};
     ghost use Rattle.rpki_ipblock.specs.BlockModes.{IsNextIpBlock, next_ip_block_modal};

@@ -4,7 +4,7 @@ ghost use Rattle.std.specs.Fmt.{WritesOnOk};
 ghost use Rattle.rpki_text.specs.Memory.{IsMemory};
 ghost use Rattle.rpki_text.specs.Reading.{AnswersOrMemory};
 ghost use Rattle.rpki_ip.specs.Whole.{HasWholeBounds};
-ghost use Rattle.rpki_ip.specs.declared.family.AddressFamily.TheVariants.{Ipv4};
+ghost use Rattle.rpki_base.specs.declared.family.AddressFamily.TheVariants.{Ipv4};
 ghost use Rattle.rpki_ipblock.specs.BlockText.{IsIpBlockText};
 ghost use Rattle.rpki_ipblock.specs.Blocks.{ip_bounds};
 ghost use Rattle.rpki_ipblock.specs.ListText.{IsForeign, IsElementText, HasElementFault, HasBlocks, HasBlocksFault, IsFamilyOf, HasMismatch, HasIpBlocks, HasIpBlocksFault};

@@ -7,8 +7,8 @@ use Rattle.rpki_base.proofs.DerFaults.{NamesTo, no_values, values_names}
 use Rattle.rpki_chain.proofs.ChoiceFaults.{choice_fails, choice_names}
 use Rattle.rpki_claims.specs.FamilyFaults.{BeginsWithRepeat}
 use Rattle.rpki_claims.proofs.FamilyFaults.{family_twice, no_family}
-use Rattle.rpki_ip.specs.Families.{bits_of}
-use Rattle.rpki_ip.specs.declared.family.AddressFamily.{AddressFamily}
+use Rattle.rpki_base.specs.Families.{bits_of}
+use Rattle.rpki_base.specs.declared.family.AddressFamily.{AddressFamily}
 use Rattle.rpki_ipblock.specs.BlockReading.{ip_block_at}
 use Rattle.rpki_ipblock.specs.declared.block.IpBlock.{IpBlock}
 use Rattle.rpki_ipblock.proofs.DerFaults.{block_names}

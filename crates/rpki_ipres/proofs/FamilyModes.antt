@@ -22,12 +22,12 @@ use Rattle.rpki_der.specs.Reading.{IsModal}
 use Rattle.rpki_der.specs.Views.{Strict, is_strict, left}
 use Rattle.rpki_der.proofs.Modes.{found_is}
 use Rattle.rpki_der.proofs.Written.{value_is}
-use Rattle.rpki_ip.specs.declared.family.AddressFamily.{AddressFamily}
-use Rattle.rpki_ip.specs.declared.family.AddressFamily.TheVariants.{Ipv4, Ipv6}
-use Rattle.rpki_ip.specs.Families.{bits_of}
-use Rattle.rpki_ip.specs.FamilyDer.{family_der}
+use Rattle.rpki_base.specs.declared.family.AddressFamily.{AddressFamily}
+use Rattle.rpki_base.specs.declared.family.AddressFamily.TheVariants.{Ipv4, Ipv6}
+use Rattle.rpki_base.specs.Families.{bits_of}
+use Rattle.rpki_base.specs.FamilyDer.{family_der}
 use Rattle.rpki_ip.proofs.DerModes.{bits_few_enough}
-use Rattle.rpki_ip.proofs.DerWritten.{family_written}
+use Rattle.rpki_base.proofs.FamilyLemmas.{family_written}
 use Rattle.rpki_text.specs.declared.memory.OrMemory.{OrMemory}
 use Rattle.rpki_text.specs.declared.memory.OrMemory.TheVariants.{Refused, Memory}
 use Rattle.rpki_text.specs.Memory.{IsMemory}

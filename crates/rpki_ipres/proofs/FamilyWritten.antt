@@ -10,11 +10,10 @@ use Rattle.rpki_base.specs.DerWriting.{octets_of_all}
 use Rattle.rpki_base.proofs.DerWriting.{one_content}
 use Rattle.rpki_chain.specs.Runs.{Runs, Holds, IsRunsOfBlocks}
 use Rattle.rpki_chain.proofs.RunLists.{same_numbers}
-use Rattle.rpki_ip.specs.Families.{bits_of}
-use Rattle.rpki_ip.specs.FamilyDer.{IsFamilyDer, family_at, family_der}
-use Rattle.rpki_ip.specs.declared.family.AddressFamily.{AddressFamily}
-use Rattle.rpki_ip.proofs.DerReadings.{family_reading}
-use Rattle.rpki_ip.proofs.DerWritten.{family_written}
+use Rattle.rpki_base.specs.Families.{bits_of}
+use Rattle.rpki_base.specs.FamilyDer.{IsFamilyDer, family_at, family_der}
+use Rattle.rpki_base.specs.declared.family.AddressFamily.{AddressFamily}
+use Rattle.rpki_base.proofs.FamilyLemmas.{family_reading, family_written}
 use Rattle.rpki_ipblock.specs.BlockDer.{IsIpBlockDer}
 use Rattle.rpki_ipblock.specs.BlockReading.{ip_blocks_at}
 use Rattle.rpki_ipblock.specs.BlockReadingLaws.{blocks_reading}

@@ -26,9 +26,9 @@ use Rattle.rpki_der.specs.Der.{EachFrom, Front, IsBytes, Refines, Spells, Where}
 use Rattle.rpki_der.specs.Reading.{IsModal, refined, tagged_at}
 use Rattle.rpki_der.specs.Views.{Lenient, Strict, is_strict, left}
 use Rattle.rpki_der.proofs.Modes.{found_is, tested_modal}
-use Rattle.rpki_ip.specs.declared.family.AddressFamily.{AddressFamily}
-use Rattle.rpki_ip.specs.declared.family.AddressFamily.TheVariants.{Ipv4, Ipv6}
-use Rattle.rpki_ip.specs.Families.{bits_of}
+use Rattle.rpki_base.specs.declared.family.AddressFamily.{AddressFamily}
+use Rattle.rpki_base.specs.declared.family.AddressFamily.TheVariants.{Ipv4, Ipv6}
+use Rattle.rpki_base.specs.Families.{bits_of}
 use Rattle.rpki_ip.specs.Whole.{HasWholeBounds, IsWhole}
 use Rattle.rpki_ip.proofs.DerModes.{bits_few_enough, within}
 use Rattle.rpki_ip.proofs.WholeLemmas.{whole_set}

@@ -4,7 +4,7 @@ use Rattle.std.proofs.Common.{◌≡◌, ℕ, ◌↔◌, List, map, refl, sym, a
 use Rattle.rpki_chain.specs.Runs.{Runs, Holds, IsRunsOfBlocks}
 use Rattle.rpki_blocks.specs.Sets.{Covers}
 use Rattle.rpki_chain.proofs.RunLists.{IsRunsOf-unique, IsRunsOfBlocks-bounds, same_numbers}
-use Rattle.rpki_ip.specs.declared.family.AddressFamily.{AddressFamily}
+use Rattle.rpki_base.specs.declared.family.AddressFamily.{AddressFamily}
 use Rattle.rpki_ipblock.specs.Blocks.{ip_bounds, new_ip_block}
 use Rattle.rpki_ipblock.specs.ListText.{HasBlocks, HasIpBlocks}
 use Rattle.rpki_ipblock.specs.declared.block.IpBlock.{IpBlock}

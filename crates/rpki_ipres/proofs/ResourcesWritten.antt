@@ -19,14 +19,14 @@ use Rattle.rpki_chain.proofs.RunLists.{same_numbers}
 use Rattle.rpki_claims.specs.Families.{option_der}
 use Rattle.rpki_claims.proofs.Said.{one_families}
 use Rattle.rpki_claims.proofs.Written.{Writes, content_shorter, families_written}
-use Rattle.rpki_ip.specs.Families.{bits_of}
-use Rattle.rpki_ip.specs.FamilyDer.{family_der}
-use Rattle.rpki_ip.specs.declared.family.AddressFamily.{AddressFamily}
-use Rattle.rpki_ip.specs.declared.family.AddressFamily.TheVariants.{Ipv4, Ipv6}
+use Rattle.rpki_base.specs.Families.{bits_of}
+use Rattle.rpki_base.specs.FamilyDer.{family_der}
+use Rattle.rpki_base.specs.declared.family.AddressFamily.{AddressFamily}
+use Rattle.rpki_base.specs.declared.family.AddressFamily.TheVariants.{Ipv4, Ipv6}
 use Rattle.rpki_ipblock.specs.BlockDer.{IsIpBlockDer}
 use Rattle.rpki_ipblock.specs.Blocks.{ip_bounds, new_ip_block}
 use Rattle.rpki_ipblock.specs.declared.block.IpBlock.{IpBlock}
-use Rattle.rpki_ipres.specs.SetDer.{ip_run_der}
+use Rattle.rpki_ipres.specs.SetDer.{ip_family_der, ip_run_der}
 use Rattle.rpki_ipres.specs.Resources.{IsFamilyClaim, IsIpClaim, if_present}
 use Rattle.rpki_ipres.specs.ResourcesDer.{IsIpFamilies, IsIpResources, SaysClaimOf, ip_families_der, ip_member_der, ip_resources_at, ip_resources_der}
 use Rattle.rpki_ipres.specs.ResourcesReadingLaws.{resources_reading}
@@ -149,6 +149,11 @@ members_as_claims family a b is also = (
       resources_alike x y (subst IsIpClaim (present_is a x first) is) (subst IsIpClaim (present_is b y second) also) alike) same),
   ap (ip_member_der family),
 )
+
+-- a set behind its family is written as the resources that list it
+pub set_as_member : (family : AddressFamily) (set : Runs) → ip_family_der family set ≡ ip_member_der family (claim_of set)
+set_as_member family [] = refl
+set_as_member family (run ∷ set) = refl
 
 -- families that are written alike, in fewer octets than a length can tell, have the same resources
 pub families_as_claims : (v4 v6 w4 w6 : Claim) → IsFamilyClaim Ipv4 v4 → IsFamilyClaim Ipv6 v6 → (v4 ≡ Missing → v6 ≢ Missing) → IsFamilyClaim Ipv4 w4 → IsFamilyClaim Ipv6 w6 → (w4 ≡ Missing → w6 ≢ Missing) → length (ip_families_der v4 v6) < 2 ^ 64

@@ -9,8 +9,8 @@ use Rattle.rpki_blocks.specs.Sets.{Covers}
 use Rattle.rpki_chain.proofs.RunLists.{IsRunsOf-unique, IsRunsOfBlocks-bounds}
 use Rattle.rpki_chain.proofs.SetLemmas.{bounds_made}
 use Rattle.rpki_ip.specs.Whole.{HasWholeBounds}
-use Rattle.rpki_ip.specs.declared.family.AddressFamily.{AddressFamily}
-use Rattle.rpki_ip.specs.declared.family.AddressFamily.TheVariants.{Ipv4, Ipv6}
+use Rattle.rpki_base.specs.declared.family.AddressFamily.{AddressFamily}
+use Rattle.rpki_base.specs.declared.family.AddressFamily.TheVariants.{Ipv4, Ipv6}
 use Rattle.rpki_ipblock.specs.BlockForms.{new_ip_block_bounds}
 use Rattle.rpki_ipblock.specs.Blocks.{ip_bounds, new_ip_block}
 use Rattle.rpki_ipblock.specs.PrintedBlocks.{IsBlockOf}

@@ -13,10 +13,10 @@ use Rattle.rpki_der.specs.Der.{header, sequence_value}
 use Rattle.rpki_base.specs.DerReading.{IsSequenceOf}
 use Rattle.rpki_base.specs.DerWriting.{octets_of_all, sequence_octets}
 use Rattle.rpki_base.proofs.DerWriting.{one_content, sequence_written, written_alike}
-use Rattle.rpki_ip.specs.declared.family.AddressFamily.{AddressFamily}
-use Rattle.rpki_ip.specs.declared.family.AddressFamily.TheVariants.{Ipv4, Ipv6}
-use Rattle.rpki_ip.specs.Families.{bits_of}
-use Rattle.rpki_ip.specs.FamilyDer.{family_der}
+use Rattle.rpki_base.specs.declared.family.AddressFamily.{AddressFamily}
+use Rattle.rpki_base.specs.declared.family.AddressFamily.TheVariants.{Ipv4, Ipv6}
+use Rattle.rpki_base.specs.Families.{bits_of}
+use Rattle.rpki_base.specs.FamilyDer.{family_der}
 use Rattle.rpki_ip.specs.RangeDer.{IsRangeWithin}
 use Rattle.rpki_ip.specs.Whole.{HasWholeBounds}
 use Rattle.rpki_ip.proofs.DerWritten.{few_bits}

@@ -11,7 +11,7 @@ use Rattle.rpki_chain.specs.declared.path.Overclaim.TheVariants.{Refuse, Trim}
 use Rattle.rpki_chain.specs.declared.path.PathRefusal.{PathRefusal}
 use Rattle.rpki_chain.specs.declared.path.Step.{Step}
 use Rattle.rpki_ip.specs.Whole.{IsWhole}
-use Rattle.rpki_ip.specs.declared.family.AddressFamily.TheVariants.{Ipv4}
+use Rattle.rpki_base.specs.declared.family.AddressFamily.TheVariants.{Ipv4}
 use Rattle.rpki_ipres.specs.Resources.{IsFamilyClaim, IsIpClaim, IsWholeClaim}
 
 -- what a whole claim lists, and what it leaves, is whole

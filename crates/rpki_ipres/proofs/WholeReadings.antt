@@ -11,10 +11,10 @@ use Rattle.rpki_claims.specs.Families.{ByFamily}
 use Rattle.rpki_claims.proofs.Gathering.{IsThere, each_there}
 use Rattle.rpki_chain.specs.declared.choice.ResourcesChoice.TheVariants.{Missing, Inherit, Blocks}
 use Rattle.rpki_chain.specs.Runs.{Runs, Holds, IsRunsOfBlocks}
-use Rattle.rpki_ip.specs.Families.{bits_of}
+use Rattle.rpki_base.specs.Families.{bits_of}
 use Rattle.rpki_ip.specs.Whole.{IsWhole, HasWholeBounds}
-use Rattle.rpki_ip.specs.declared.family.AddressFamily.{AddressFamily}
-use Rattle.rpki_ip.specs.declared.family.AddressFamily.TheVariants.{Ipv4, Ipv6}
+use Rattle.rpki_base.specs.declared.family.AddressFamily.{AddressFamily}
+use Rattle.rpki_base.specs.declared.family.AddressFamily.TheVariants.{Ipv4, Ipv6}
 use Rattle.rpki_ip.proofs.WholeLemmas.{whole_set}
 use Rattle.rpki_ipblock.specs.Blocks.{ip_bounds}
 use Rattle.rpki_ipblock.specs.declared.block.IpBlock.{IpBlock}

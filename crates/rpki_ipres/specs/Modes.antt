@@ -7,7 +7,7 @@ use Rattle.rpki_chain.specs.declared.choice.ResourcesChoice.{ResourcesChoice}
 use Rattle.rpki_claims.specs.Families.{ByFamily}
 use Rattle.rpki_claims.specs.FamiliesReading.{families_by}
 use Rattle.rpki_der.specs.declared.error.DerError.{DerError}
-use Rattle.rpki_ip.specs.Families.{bits_of}
+use Rattle.rpki_base.specs.Families.{bits_of}
 use Rattle.rpki_ipblock.specs.BlockReading.{next_ip_block_by}
 use Rattle.rpki_ipblock.specs.Blocks.{ip_bounds}
 use Rattle.rpki_ipblock.specs.declared.block.IpBlock.{IpBlock}

@@ -5,8 +5,8 @@ use Rattle.rpki_chain.specs.Runs.{Holds}
 use Rattle.rpki_chain.specs.declared.choice.ResourcesChoice.TheVariants.{Missing, Inherit, Blocks}
 use Rattle.rpki_ip.specs.Whole.{IsWhole}
 use Rattle.rpki_claims.specs.Families.{ByFamily}
-use Rattle.rpki_ip.specs.declared.family.AddressFamily.{AddressFamily}
-use Rattle.rpki_ip.specs.declared.family.AddressFamily.TheVariants.{Ipv4, Ipv6}
+use Rattle.rpki_base.specs.declared.family.AddressFamily.{AddressFamily}
+use Rattle.rpki_base.specs.declared.family.AddressFamily.TheVariants.{Ipv4, Ipv6}
 use Rattle.rpki_ipres.specs.SetText.{IsFamilySet, IsIpSet}
 
 -- what is listed is a set of addresses

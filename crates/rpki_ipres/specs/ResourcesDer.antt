@@ -10,8 +10,8 @@ use Rattle.rpki_chain.specs.declared.choice.ResourcesChoice.{ResourcesChoice}
 use Rattle.rpki_claims.specs.Families.{ByFamily, IsFamilies, SaysByFamily, families_der, option_der}
 use Rattle.rpki_claims.specs.FamiliesReading.{families_at}
 use Rattle.rpki_der.specs.declared.error.DerError.{DerError}
-use Rattle.rpki_ip.specs.Families.{bits_of}
-use Rattle.rpki_ip.specs.declared.family.AddressFamily.{AddressFamily}
+use Rattle.rpki_base.specs.Families.{bits_of}
+use Rattle.rpki_base.specs.declared.family.AddressFamily.{AddressFamily}
 use Rattle.rpki_ipblock.specs.BlockDer.{IsIpBlockDer}
 use Rattle.rpki_ipblock.specs.BlockReading.{ip_block_at}
 use Rattle.rpki_ipblock.specs.Blocks.{ip_bounds}

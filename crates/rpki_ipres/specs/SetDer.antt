@@ -4,9 +4,9 @@ use Rattle.rpki_base.specs.DerReading.{IsSequenceOf}
 use Rattle.rpki_base.specs.DerWriting.{sequence_octets}
 use Rattle.rpki_chain.specs.Runs.{Runs, IsRunsOfBlocks}
 use Rattle.rpki_der.specs.Der.{Both, IsSequence, Refines, sequence_value}
-use Rattle.rpki_ip.specs.declared.family.AddressFamily.{AddressFamily}
-use Rattle.rpki_ip.specs.Families.{bits_of}
-use Rattle.rpki_ip.specs.FamilyDer.{IsFamilyDer, family_der}
+use Rattle.rpki_base.specs.declared.family.AddressFamily.{AddressFamily}
+use Rattle.rpki_base.specs.Families.{bits_of}
+use Rattle.rpki_base.specs.FamilyDer.{IsFamilyDer, family_der}
 use Rattle.rpki_ipblock.specs.BlockDer.{IsIpBlockDer, ip_block_der}
 use Rattle.rpki_ipblock.specs.Blocks.{ip_bounds, new_ip_block}
 

@@ -3,12 +3,12 @@ use Rattle.std.proofs.Common.{◌≡◌, ℕ, List, Result, [], ◌∷◌, ◌++
 use Rattle.std.specs.Prelude.{IsErrAnd}
 use Rattle.std.proofs.lemmas.List.{append-nil}
 use Rattle.rpki_text.specs.Memory.{IsMemory, IfRefused}
-use Rattle.rpki_base.specs.Prefixes.{PrefixValue}
+use Rattle.rpki_addr.specs.Prefixes.{PrefixValue}
 use Rattle.rpki_text.specs.declared.memory.OrMemory.{OrMemory}
 use Rattle.rpki_text.specs.declared.memory.OrMemory.TheVariants.{Refused, Memory}
 use Rattle.rpki_ip.specs.Faults.{ip_from_str_error_text}
 use Rattle.rpki_ip.specs.declared.error.FromStrError.{FromStrError}
-use Rattle.rpki_ip.specs.declared.family.AddressFamily.{AddressFamily}
+use Rattle.rpki_base.specs.declared.family.AddressFamily.{AddressFamily}
 use Rattle.rpki_ipblock.specs.ListText.{HasBlocksFault}
 use Rattle.rpki_lines.specs.Cover.{IsCoverIp, IsCoverOf, cover_text}
 use Rattle.rpki_lines.specs.Shown.{ShowsResult}

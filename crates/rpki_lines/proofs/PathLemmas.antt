@@ -16,7 +16,7 @@ use Rattle.rpki_chain.specs.Runs.{Runs, Holds}
 use Rattle.rpki_chain.specs.declared.path.PathRefusal.{PathRefusal}
 use Rattle.rpki_chain.specs.declared.path.Step.{Step}
 use Rattle.rpki_ip.specs.Whole.{IsWhole}
-use Rattle.rpki_ip.specs.declared.family.AddressFamily.TheVariants.{Ipv4}
+use Rattle.rpki_base.specs.declared.family.AddressFamily.TheVariants.{Ipv4}
 use Rattle.rpki_ipblock.specs.ListText.{HasBlocks}
 use Rattle.rpki_ipres.specs.Resources.{IsWholeClaim}
 use Rattle.rpki_ipres.specs.SetText.{IsSetOf}

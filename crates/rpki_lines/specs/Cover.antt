@@ -3,13 +3,13 @@
 use Rattle.std.specs.Prelude.{◌≡◌, ◌≢◌, ℕ, List, ◌∷◌, ◌++◌, map, codes, decimal}
 use Rattle.rpki_text.specs.Cuts.{slash}
 use Rattle.rpki_text.specs.Lists.{joined}
-use Rattle.rpki_base.specs.Prefixes.{PrefixValue}
+use Rattle.rpki_addr.specs.Prefixes.{PrefixValue}
 use Rattle.rpki_chain.specs.Runs.{Runs, Holds}
 use Rattle.rpki_cover.specs.Covers.{IsShortestCover}
 use Rattle.rpki_ip.specs.Faults as IpFaults
 use Rattle.rpki_ip.specs.PrintedText.{addr_text}
-use Rattle.rpki_ip.specs.declared.family.AddressFamily.{AddressFamily}
-use Rattle.rpki_ip.specs.declared.family.AddressFamily.TheVariants.{Ipv4, Ipv6}
+use Rattle.rpki_base.specs.declared.family.AddressFamily.{AddressFamily}
+use Rattle.rpki_base.specs.declared.family.AddressFamily.TheVariants.{Ipv4, Ipv6}
 use Rattle.rpki_ipblock.specs.ListText.{HasBlocks, HasBlocksFault}
 use Rattle.rpki_ipres.specs.SetText.{IsSetOf}
 use Rattle.rpki_lines.specs.Shown.{ShowsValueOrFault}

@@ -2,7 +2,7 @@
 ghost use Rattle.std.specs.Prelude.{◌≡◌, List, Some, IfOk, MatchResult};
 ghost use Rattle.std.specs.String.{string_bytes};
 ghost use Rattle.rpki_text.specs.Memory.{IfRefused};
-ghost use Rattle.rpki_ip.specs.declared.family.AddressFamily.TheVariants.{Ipv4, Ipv6};
+ghost use Rattle.rpki_base.specs.declared.family.AddressFamily.TheVariants.{Ipv4, Ipv6};
 ghost use Rattle.rpki_ipblock.specs.ListText.{HasBlocksFault};
 ghost use Rattle.rpki_lines.specs.Cover.{IsCoverAnswer, IsCoverIp, IsCoverOf, prefix_with_length, cover_text};
 
@@ -95,8 +95,8 @@ struct Prefixes<A: Allocator> {
 
 impl<A: Allocator> Model for Prefixes<A> {
     ghost use Rattle.std.specs.Prelude.{List};
-    ghost use Rattle.rpki_base.specs.Prefixes.{PrefixValue};
-    ghost use Rattle.rpki_ip.specs.declared.family.AddressFamily.{AddressFamily};
+    ghost use Rattle.rpki_addr.specs.Prefixes.{PrefixValue};
+    ghost use Rattle.rpki_base.specs.declared.family.AddressFamily.{AddressFamily};
 
     ghost Value = { AddressFamily × List PrefixValue };
 

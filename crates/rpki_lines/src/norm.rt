@@ -1,7 +1,7 @@
 //! The command `norm`: a list of blocks becomes the one list of the same numbers.
 ghost use Rattle.std.specs.Prelude.{IfOk};
 ghost use Rattle.std.specs.String.{string_bytes};
-ghost use Rattle.rpki_ip.specs.declared.family.AddressFamily.TheVariants.{Ipv4, Ipv6};
+ghost use Rattle.rpki_base.specs.declared.family.AddressFamily.TheVariants.{Ipv4, Ipv6};
 ghost use Rattle.rpki_lines.specs.Norm.{IsNormAnswer, IsNormAs, IsNormIp};
 
 use crate::kind::{Kind, kind_named};

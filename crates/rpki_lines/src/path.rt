@@ -1,7 +1,7 @@
 //! The command `path`: what the claims along a path leave of a root, or the first of them that is refused.
 ghost use Rattle.std.specs.Prelude.{◌≡◌, ℕ, List, Some, IfOk};
 ghost use Rattle.std.specs.String.{string_bytes};
-ghost use Rattle.rpki_ip.specs.declared.family.AddressFamily.TheVariants.{Ipv4, Ipv6};
+ghost use Rattle.rpki_base.specs.declared.family.AddressFamily.TheVariants.{Ipv4, Ipv6};
 ghost use Rattle.rpki_lines.specs.Path.{IsPathAnswer, IsPathAs, IsPathIp, ShowsLeft, part_fault_text, refusal_text};
 ghost use Rattle.rpki_lines.specs.Shown.{error_line};
 

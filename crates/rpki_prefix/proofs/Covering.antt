@@ -7,7 +7,7 @@ use mathlib.Core.Bool.{beq}
 use Rattle.std.specs.declared.cmp.Ordering.TheVariants.{Equal, Greater}
 use Rattle.rpki_addr.specs.declared.addr.IpAddr.{IpAddr}
 use Rattle.rpki_addr.specs.declared.addr.IpAddr.TheVariants.{V4, V6}
-use Rattle.rpki_base.specs.Prefixes.{IsIn}
+use Rattle.rpki_addr.specs.Prefixes.{IsIn}
 use Rattle.rpki_prefix.specs.Order.{prefix_cmp, last_bits}
 use Rattle.rpki_prefix.specs.Values.{FamilyPrefix, CoversPrefix, interval, width, address_number, with_bits, last_addr, is_v6}
 

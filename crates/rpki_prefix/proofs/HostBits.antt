@@ -4,7 +4,7 @@ use Rattle.rpki_addr.specs.Bits.{cleared}
 use Rattle.rpki_addr.specs.declared.addr.IpAddr.{IpAddr}
 use Rattle.rpki_addr.specs.declared.addr.IpAddr.TheVariants.{V4, V6}
 use Rattle.rpki_addr.proofs.Masks.{clear_host, set_host}
-use Rattle.rpki_base.proofs.PrefixNumbers.{cleared_prefix, cleared_holds}
+use Rattle.rpki_addr.proofs.PrefixNumbers.{cleared_prefix, cleared_holds}
 use Rattle.rpki_prefix.specs.Values.{IsRelaxedPrefixOf, width, address_number, cleared_addr}
 
 -- what `n & !m` is, where the host bits of m are set

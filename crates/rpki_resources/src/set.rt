@@ -4,9 +4,9 @@ ghost use Rattle.rpki_blocks.specs.Sets.{IsWithin};
 ghost use Rattle.rpki_chain.specs.Runs.{Holds};
 ghost use Rattle.rpki_as.specs.Blocks.{IsAsSet};
 ghost use Rattle.rpki_ip.specs.Ranges.{range_bounds};
-ghost use Rattle.rpki_ip.specs.declared.family.AddressFamily.TheVariants.{Ipv4, Ipv6};
+ghost use Rattle.rpki_base.specs.declared.family.AddressFamily.TheVariants.{Ipv4, Ipv6};
 ghost use Rattle.rpki_ipres.specs.SetText.{IsFamilySet};
-ghost use Rattle.rpki_resources.specs.Triples.{AreChanges, HasEachOf, HaveSameNumbers, IsDifferenceOf, IsIntersectionOf, IsUnionOf, all_resources, is_no_triple, is_same_triple, no_resources, set_of_family, triples_equiv, triples_per};
+ghost use Rattle.rpki_resources.specs.Triples.{AreChanges, HasEachOf, HaveSameNumbers, IsDifferenceOf, IsIntersectionOf, IsTriple, IsUnionOf, all_resources, is_no_triple, is_same_triple, no_resources, set_of_family, triples_equiv, triples_per};
 
 use crate::diff::ResourceDiff;
 use rpki_as::AsBlocks;
@@ -90,7 +90,11 @@ impl<A: Allocator> ResourceSet<A> {
     pub fn is_empty(&self) -> bool
         ensures value { result ≡ is_no_triple self.now }
         ensures none { IsTrue result ↔ (self.now ≡ no_resources) }
+        ensures kinds { IsTriple self.now }
     {
+        let _asn = self.asn(); // read, like those below, so that the proof sees what the numbers are
+        let _ipv4 = self.ipv4();
+        let _ipv6 = self.ipv6();
         self.asn.is_empty() && self.ipv4.is_empty() && self.ipv6.is_empty()
     }
 
@@ -229,8 +233,8 @@ impl<A: Allocator> ResourceSet<A> {
         ResourceSet::of_three(asn, ipv4, self.ipv6.intersection(alloc, &other.ipv6))
     }
 
-    /// The set of what the other doesn't have.
-    fn minus(&self, alloc: A, other: &ResourceSet<A>) -> Result<ResourceSet<A>, AllocError>
+    /// The set of what this one has and the other hasn't. `AllocError` where there is no memory for it.
+    pub fn minus(&self, alloc: A, other: &ResourceSet<A>) -> Result<ResourceSet<A>, AllocError>
     where
         A: Copy,
         ensures { IfOk result (IsDifferenceOf self.now other.now) }

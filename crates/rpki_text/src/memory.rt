@@ -1,7 +1,6 @@
 //! The refusal of a call that also takes memory.
 ghost use Rattle.rpki_text.specs.Memory.{ForRefused, IsMemory, IsRefusedAnd, MatchOrMemory};
 
-use rpki_der::DerError;
 use std::alloc::{AllocError, AllocFailed};
 use std::error::Error;
 use std::fmt;
@@ -47,17 +46,6 @@ impl<E, T: Drop> From<AllocFailed<T>> for OrMemory<E> {
 
     fn from(failed: AllocFailed<T>) -> OrMemory<E> {
         OrMemory::Memory(AllocError::from(failed))
-    }
-}
-
-impl From<DerError> for OrMemory<DerError> {
-    ghost use Rattle.std.specs.Prelude.{◌≡◌};
-    ghost use Rattle.rpki_text.specs.declared.memory.OrMemory.TheVariants.{Refused};
-
-    ghost from_gives = { λ fault error. error ≡ Refused fault };
-
-    fn from(fault: DerError) -> OrMemory<DerError> {
-        OrMemory::Refused(fault)
     }
 }
 

@@ -8,7 +8,7 @@ impl Asn {
     ghost use Rattle.std.specs.Vec.{vec_capacity};
     ghost use Rattle.rpki_der.specs.Der.{IsUnsigned};
     ghost use Rattle.rpki_der.specs.Reading.{Gives, unsigned};
-    ghost use Rattle.rpki_der.specs.Views.{Parses, Reads, Takes, content_octets, is_strict};
+    ghost use Rattle.rpki_der.specs.Views.{Parses, ReadsValue, Takes, content_octets, is_strict};
     ghost use Rattle.rpki_base.specs.AsnDer.{IsAsNumber, SaysAsNumber, as_number_at, as_number_octets, skip_number};
     ghost use Rattle.rpki_base.specs.DerReading.{Skips, if_tagged, skipping};
     ghost use Rattle.rpki_base.specs.DerViews.{ReadsTagged};
@@ -17,7 +17,7 @@ impl Asn {
     ///
     /// The faults are those of [`Cursor::take_u32`].
     pub fn take_from(cursor: &mut Cursor<'_>) -> Result<Asn, DerError>
-        ensures reads { Reads IsAsNumber (λ n. n) cursor.old cursor.new result }
+        ensures reads { ReadsValue IsAsNumber (λ n. n) cursor.old cursor.new result }
         ensures exact { Takes (λ n. n) cursor.old cursor.new result as_number_at }
         ensures mode { is_strict cursor.new ≡ is_strict cursor.old }
     {
@@ -37,7 +37,7 @@ impl Asn {
 
     /// Passes over an AS number, with the faults of `take_from`.
     pub fn skip_in(cursor: &mut Cursor<'_>) -> Result<(), DerError>
-        ensures reads { Reads (Skips IsAsNumber) (λ u. u) cursor.old cursor.new result }
+        ensures reads { ReadsValue (Skips IsAsNumber) (λ u. u) cursor.old cursor.new result }
         ensures exact { Takes (λ u. u) cursor.old cursor.new result (skipping as_number_at) }
         ensures mode { is_strict cursor.new ≡ is_strict cursor.old }
     {

@@ -17,17 +17,3 @@ impl fmt::Display for DecodePrefixError {
 }
 
 impl Error for DecodePrefixError {}
-
-/// Octets name no family of addresses.
-#[derive(Clone, Copy, Debug, PartialEq, Eq)]
-pub struct DecodeFamilyError;
-
-impl fmt::Display for DecodeFamilyError {
-    ghost output = { λ _. Some (codes "invalid address family in IP resources") };
-
-    fn fmt<W: fmt::Write>(&self, f: &mut fmt::Formatter<W>) -> fmt::Result {
-        f.write_str("invalid address family in IP resources")
-    }
-}
-
-impl Error for DecodeFamilyError {}

@@ -15,12 +15,12 @@ use std::alloc::{AllocError, Allocator};
 impl Prefix {
     ghost use Rattle.std.specs.Prelude.{◌≡◌, ℕ, List, Ok, ◌≤◌, ◌<◌, ◌+◌, ◌++◌, length, vec_len, OnOk, OnErr, IsOk, MatchResult};
     ghost use Rattle.std.specs.Vec.{vec_capacity};
-    ghost use Rattle.rpki_base.specs.Prefixes.{IsPrefix, PrefixValue};
+    ghost use Rattle.rpki_addr.specs.Prefixes.{IsPrefix, PrefixValue};
     ghost use Rattle.rpki_der.specs.Reading.{Gives};
     ghost use Rattle.rpki_der.specs.Der.{Spells};
-    ghost use Rattle.rpki_der.specs.Views.{Lenient, LenientIn, NotCanonicalOr, Parses, Reads, Strict, Takes, content_octets, is_strict, is_strict_in};
+    ghost use Rattle.rpki_der.specs.Views.{Lenient, LenientIn, NotCanonicalOr, Parses, ReadsValue, Strict, Takes, content_octets, is_strict, is_strict_in};
     ghost use Rattle.rpki_der.specs.Views.{bit_string_of};
-    ghost use Rattle.rpki_ip.specs.Families.{bits_of};
+    ghost use Rattle.rpki_base.specs.Families.{bits_of};
     ghost use Rattle.rpki_ip.specs.PrefixDer.{IsPrefixContent, IsPrefixDer, IsPrefixWithin, SaysPrefix, prefix_at, prefix_by, prefix_der, prefix_in, prefix_in_by};
 
     /// The prefix whose addresses begin with the bits of a bit string (RFC 3779, 2.2.3.8), which has at most sixteen
@@ -38,11 +38,11 @@ impl Prefix {
     /// strict cursor comes before `NotCanonical` for an unused bit that is set.
     pub fn take_from(cursor: &mut Cursor<'_>) -> Result<Prefix, DerError>
         ensures reads { Lenient cursor.old
-            (Reads (IsPrefixDer 128) (λ p. p) cursor.old cursor.new result) }
+            (ReadsValue (IsPrefixDer 128) (λ p. p) cursor.old cursor.new result) }
         ensures exact { Lenient cursor.old
             (Takes (λ p. p) cursor.old cursor.new result (prefix_at 128)) }
         ensures strict { Strict cursor.old
-            (Reads (Spells (IsPrefixWithin 128) prefix_der) (λ p. p) cursor.old cursor.new result) }
+            (ReadsValue (Spells (IsPrefixWithin 128) prefix_der) (λ p. p) cursor.old cursor.new result) }
         ensures refused { NotCanonicalOr (IsPrefixDer 128) cursor.old result }
         ensures mode { is_strict cursor.new ≡ is_strict cursor.old }
     {
@@ -56,11 +56,11 @@ impl Prefix {
         family: AddressFamily,
     ) -> Result<Prefix, DerError>
         ensures reads { Lenient cursor.old
-            (Reads (IsPrefixDer (bits_of family)) (λ p. p) cursor.old cursor.new result) }
+            (ReadsValue (IsPrefixDer (bits_of family)) (λ p. p) cursor.old cursor.new result) }
         ensures exact { Lenient cursor.old
             (Takes (λ p. p) cursor.old cursor.new result (prefix_at (bits_of family))) }
         ensures strict { Strict cursor.old
-            (Reads (Spells (IsPrefixWithin (bits_of family)) prefix_der) (λ p. p) cursor.old
+            (ReadsValue (Spells (IsPrefixWithin (bits_of family)) prefix_der) (λ p. p) cursor.old
             cursor.new result) }
         ensures refused { NotCanonicalOr (IsPrefixDer (bits_of family)) cursor.old result }
         // In either mode.
@@ -147,7 +147,7 @@ impl Prefix {
 
 impl Prefix {
     ghost use Rattle.std.specs.Prelude.{◌≡◌, ◌≤◌, take};
-    ghost use Rattle.rpki_base.specs.Prefixes.{IsPrefix};
+    ghost use Rattle.rpki_addr.specs.Prefixes.{IsPrefix};
     ghost use Rattle.rpki_der.specs.Der.{bits_with};
     ghost use Rattle.rpki_ip.specs.PrefixDer.{prefix_bits};
 

@@ -4,7 +4,7 @@ ghost use Rattle.std.specs.Vec.{vec_capacity};
 ghost use Rattle.rpki_base.specs.DerWriting.{octets_of_all, sequence_octets};
 ghost use Rattle.rpki_chain.specs.ChoiceDer.{choice_octets};
 ghost use Rattle.rpki_der.specs.Der.{sequence_value};
-ghost use Rattle.rpki_ip.specs.FamilyDer.{family_der};
+ghost use Rattle.rpki_base.specs.FamilyDer.{family_der};
 ghost use Rattle.rpki_ipblock.specs.BlockDer.{ip_block_der};
 
 use crate::blocks::IpBlocks;
@@ -26,9 +26,9 @@ impl<A: Allocator> IpBlocks<A> {
     ghost use Rattle.rpki_der.specs.Views.{Lenient, Strict, is_strict, left};
     ghost use Rattle.rpki_base.specs.DerViews.{NotCanonicalOrMemory, ReadsOrMemory, TakesSaidOrMemory};
     ghost use Rattle.rpki_text.specs.Memory.{IsMemory};
-    ghost use Rattle.rpki_ip.specs.Families.{bits_of};
+    ghost use Rattle.rpki_base.specs.Families.{bits_of};
     ghost use Rattle.rpki_ip.specs.Whole.{IsWhole};
-    ghost use Rattle.rpki_ip.specs.declared.family.AddressFamily.TheVariants.{Ipv4};
+    ghost use Rattle.rpki_base.specs.declared.family.AddressFamily.TheVariants.{Ipv4};
     ghost use Rattle.rpki_ipblock.specs.BlockReading.{ip_blocks_at};
     ghost use Rattle.rpki_ipblock.specs.Blocks.{ip_bounds};
     ghost use Rattle.rpki_ipres.specs.Modes.{ip_blocks_by};

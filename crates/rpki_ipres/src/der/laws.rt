@@ -1,14 +1,14 @@
 //! What holds of the octets of sets and resources, each law as the contract of a function that does nothing.
-ghost use Rattle.std.specs.Prelude.{◌≡◌, ◌≢◌, ℕ, List, [], ◌<◌, ◌^◌, ◌↔◌, Err, length};
+ghost use Rattle.std.specs.Prelude.{◌≡◌, ◌≢◌, ℕ, List, [], ◌<◌, ◌^◌, ◌↔◌, ◌++◌, Err, length};
 ghost use Rattle.rpki_base.specs.DerFaults.{BeginsEmpty, BeginsWithValue};
-ghost use Rattle.rpki_chain.specs.Claims.{Claim};
+ghost use Rattle.rpki_chain.specs.Claims.{Claim, claim_of};
 ghost use Rattle.rpki_chain.specs.Runs.{Runs, Holds};
 ghost use Rattle.rpki_chain.specs.declared.choice.ResourcesChoice.TheVariants.{Missing};
 ghost use Rattle.rpki_claims.specs.FamilyFaults.{BeginsWithRepeat};
-ghost use Rattle.rpki_der.specs.Der.{OneFront};
+ghost use Rattle.rpki_der.specs.Der.{OneFront, sequence_value};
 ghost use Rattle.rpki_der.specs.declared.error.DerError.TheVariants.{DuplicateFamily, EmptyBlocks, NoFamily};
-ghost use Rattle.rpki_ip.specs.Families.{bits_of};
-ghost use Rattle.rpki_ip.specs.declared.family.AddressFamily.TheVariants.{Ipv4, Ipv6};
+ghost use Rattle.rpki_base.specs.Families.{bits_of};
+ghost use Rattle.rpki_base.specs.declared.family.AddressFamily.TheVariants.{Ipv4, Ipv6};
 ghost use Rattle.rpki_ipres.specs.SetDer.{IsIpBlockSequence, IsIpFamily, ip_family_der, ip_set_der};
 ghost use Rattle.rpki_ipres.specs.Resources.{IsFamilyClaim, IsIpClaim, if_present};
 ghost use Rattle.rpki_ipres.specs.ResourcesDer.{IsIpFamilies, IsIpResources, ip_families_at, ip_families_der, ip_member_der, ip_resources_at, ip_resources_der};
@@ -57,6 +57,16 @@ pub fn written_resources()
         → (v4 ≡ Missing → v6 ≢ Missing) →
         length (ip_families_der v4 v6) < 2 ^ 64
         → IsIpFamilies (ip_families_der v4 v6) (if_present v4, if_present v6) }
+{}
+
+/// What is written of families is one SEQUENCE of what is written of each behind its family. A set behind its family is
+/// written as the resources that list it. So each is read back by
+/// [`IpResources::take_families_from`](crate::resources::IpResources::take_families_from).
+pub fn members()
+    ensures families { (v4 v6 : Claim) →
+        ip_families_der v4 v6 ≡ sequence_value (ip_member_der Ipv4 v4 ++ ip_member_der Ipv6 v6) }
+    ensures set { (family : _) (set : Runs) →
+        ip_family_der family set ≡ ip_member_der family (claim_of set) }
 {}
 
 /// Resources are written alike exactly where they are one claim, alone and behind one family. Families, of which one at

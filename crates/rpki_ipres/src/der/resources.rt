@@ -18,8 +18,8 @@ impl<A: Allocator> IpResources<A> {
     ghost use Rattle.rpki_base.specs.DerViews.{NotCanonicalOrMemory, ReadsOrMemory, TakesSaidOrMemory};
     ghost use Rattle.rpki_chain.specs.Claims.{Claim};
     ghost use Rattle.rpki_chain.specs.declared.choice.ResourcesChoice.TheVariants.{Missing};
-    ghost use Rattle.rpki_ip.specs.Families.{bits_of};
-    ghost use Rattle.rpki_ip.specs.declared.family.AddressFamily.TheVariants.{Ipv4, Ipv6};
+    ghost use Rattle.rpki_base.specs.Families.{bits_of};
+    ghost use Rattle.rpki_base.specs.declared.family.AddressFamily.TheVariants.{Ipv4, Ipv6};
     ghost use Rattle.rpki_ipres.specs.Modes.{ip_families_by, ip_resources_by};
     ghost use Rattle.rpki_claims.specs.Families.{families_der};
     ghost use Rattle.rpki_ipres.specs.Resources.{ArePresentClaims, IsPresentFamilyClaim, IsFamilyClaim, IsIpClaim, IsWholeClaim, if_present};
@@ -275,7 +275,7 @@ impl<A: Allocator + Copy> ReadClaim for IpResourcesReader<A> {
     ghost use Rattle.rpki_base.specs.DerReading.{IsSequenceFrom, IsSequenceOf};
     ghost use Rattle.rpki_chain.specs.ChoiceDer.{IsChoiceOf};
     ghost use Rattle.rpki_chain.specs.declared.choice.ResourcesChoice.{ResourcesChoice};
-    ghost use Rattle.rpki_ip.specs.Families.{bits_of};
+    ghost use Rattle.rpki_base.specs.Families.{bits_of};
     ghost use Rattle.rpki_ipblock.specs.BlockDer.{IsIpBlockDer};
     ghost use Rattle.rpki_ipblock.specs.declared.block.IpBlock.{IpBlock};
     ghost use Rattle.rpki_ipres.specs.ResourcesDer.{SaysClaimOf, ip_resources_at};

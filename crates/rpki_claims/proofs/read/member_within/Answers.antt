@@ -3,7 +3,7 @@ use Rattle.std.proofs.Common.{◌≡◌, Ok, false, refl, sym, ap, ◌∙◌}
 use Rattle.std.proofs.lemmas.Result.{err_from_is_err_and}
 use Rattle.rpki_der.specs.Reading.{ended, passing}
 use Rattle.rpki_der.specs.Views.{is_strict, left}
-use Rattle.rpki_ip.specs.FamilyDer.{family_at}
+use Rattle.rpki_base.specs.FamilyDer.{family_at}
 use Rattle.rpki_claims.specs.FamiliesReading.{is_in_order, member_in_by, seen, was_seen}
 use Rattle.rpki_claims.proofs.read.member_within.Goals as goal
 

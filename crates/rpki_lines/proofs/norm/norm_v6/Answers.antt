@@ -2,7 +2,7 @@ use Rattle.std.proofs.Common.{refl}
 use Rattle.std.specs.String.{string_bytes}
 use Rattle.std.proofs.lemmas.Result.{IfOk-weaker}
 use Rattle.rpki_ip.specs.Faults.{ip_from_str_error_text}
-use Rattle.rpki_ip.specs.declared.family.AddressFamily.TheVariants.{Ipv6}
+use Rattle.rpki_base.specs.declared.family.AddressFamily.TheVariants.{Ipv6}
 use Rattle.rpki_ipblock.specs.ListText.{HasBlocks, HasBlocksFault}
 use Rattle.rpki_ipres.specs.SetText.{IsSetOf, set_text}
 use Rattle.rpki_lines.proofs.ShownLemmas.{ShowsValueOrFault-of_reader}

@@ -2,7 +2,7 @@ use Rattle.std.proofs.Common.{inl, inr, refl}
 use Rattle.std.proofs.lemmas.Result.{IfOk-weaker}
 use Rattle.std.specs.String.{string_bytes}
 use Rattle.rpki_ip.specs.Faults.{ip_from_str_error_text}
-use Rattle.rpki_ip.specs.declared.family.AddressFamily.TheVariants.{Ipv6}
+use Rattle.rpki_base.specs.declared.family.AddressFamily.TheVariants.{Ipv6}
 use Rattle.rpki_ipres.specs.SetText.{overclaimed_ip_text, set_text}
 use Rattle.rpki_lines.proofs.PathLemmas.{shows_path}
 use Rattle.rpki_lines.proofs.path.path_v6.Goals as goal

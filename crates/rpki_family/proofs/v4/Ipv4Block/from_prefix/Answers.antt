@@ -1,7 +1,7 @@
 use Rattle.std.proofs.Common.{◌≡◌, ap, sym, ◌∙◌, subst}
-use Rattle.rpki_ip.specs.Families.{family_of}
+use Rattle.rpki_base.specs.Families.{family_of}
 use Rattle.rpki_ip.specs.Whole.{HasWholeBounds}
-use Rattle.rpki_ip.specs.declared.family.AddressFamily.TheVariants.{Ipv4}
+use Rattle.rpki_base.specs.declared.family.AddressFamily.TheVariants.{Ipv4}
 use Rattle.rpki_ipblock.specs.Blocks.{ip_bounds}
 use Rattle.rpki_ipblock.specs.declared.block.IpBlock.{IpBlock}
 use Rattle.rpki_ipblock.proofs.WholeReadings.{whole_family_prefix}

@@ -2,7 +2,7 @@
 use Rattle.std.proofs.Common.{sym, subst, ◌∙◌, ap}
 use Rattle.rpki_chain.specs.Claims.{claim_of}
 use Rattle.rpki_chain.specs.Runs.{Runs}
-use Rattle.rpki_ip.specs.declared.family.AddressFamily.TheVariants.{Ipv4}
+use Rattle.rpki_base.specs.declared.family.AddressFamily.TheVariants.{Ipv4}
 use Rattle.rpki_ipres.specs.Resources.{IsFamilyClaim}
 use Rattle.rpki_ipres.proofs.ResourcesWritten.{set_claimed}
 use Rattle.rpki_family.proofs.v4.Ipv4Blocks.to_ip_resources.Goals as goal

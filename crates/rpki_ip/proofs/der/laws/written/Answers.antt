@@ -1,4 +1,5 @@
-use Rattle.rpki_ip.proofs.DerWritten.{family_written, prefix_written, range_written}
+use Rattle.rpki_ip.proofs.DerWritten.{prefix_written, range_written}
+use Rattle.rpki_base.proofs.FamilyLemmas.{family_written}
 use Rattle.rpki_ip.proofs.der.laws.written.Goals as goal
 
 pub returns : goal.returns

@@ -1,6 +1,6 @@
 -- The octets with zeros behind them, and the unused bits cleared.
 use Rattle.std.proofs.Common.{◌≡◌, ◌≤◌, ◌+◌, ◌-◌, ◌*◌, ◌/◌, ◌^◌, ◌∙◌, length, ap, sym, arith}
-use Rattle.rpki_base.specs.Prefixes.{PrefixValue}
+use Rattle.rpki_addr.specs.Prefixes.{PrefixValue}
 use Rattle.rpki_der.specs.Der.{big_endian}
 use Rattle.rpki_der.specs.Views.{bit_string_of}
 use Rattle.rpki_ip.proofs.DerReadings.{prefix_again}

@@ -4,7 +4,7 @@ use Rattle.rpki_der.specs.Reading.{Gives}
 use Rattle.rpki_der.specs.Views.{content_octets, is_strict_in}
 use Rattle.rpki_der.proofs.Cursors.{parses_by}
 use Rattle.rpki_der.proofs.Modes.{same_found}
-use Rattle.rpki_ip.specs.Families.{bits_of}
+use Rattle.rpki_base.specs.Families.{bits_of}
 use Rattle.rpki_ip.specs.PrefixDer.{IsPrefixContent, prefix_in, prefix_in_by}
 use Rattle.rpki_ip.proofs.DerModes.{content_tightens}
 use Rattle.rpki_ip.proofs.DerReadings.{prefix_check}

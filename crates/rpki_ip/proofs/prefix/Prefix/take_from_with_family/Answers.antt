@@ -4,7 +4,7 @@ use Rattle.rpki_der.specs.Der.{Spells}
 use Rattle.rpki_der.specs.Views.{Takes, is_strict}
 use Rattle.rpki_der.proofs.Cursors.{reads_by}
 use Rattle.rpki_der.proofs.Modes.{exact_by, refused_by}
-use Rattle.rpki_ip.specs.Families.{bits_of}
+use Rattle.rpki_base.specs.Families.{bits_of}
 use Rattle.rpki_ip.specs.PrefixDer.{IsPrefixDer, IsPrefixWithin, prefix_at, prefix_by, prefix_der}
 use Rattle.rpki_ip.proofs.DerModes.{IsStrictPrefix, bits_few_enough, prefix_modal, written_prefix_reading}
 use Rattle.rpki_ip.proofs.DerReadings.{prefix_reading}

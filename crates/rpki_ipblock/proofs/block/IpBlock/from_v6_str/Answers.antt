@@ -1,4 +1,4 @@
-use Rattle.rpki_ip.specs.declared.family.AddressFamily.TheVariants.{Ipv6}
+use Rattle.rpki_base.specs.declared.family.AddressFamily.TheVariants.{Ipv6}
 use Rattle.rpki_ipblock.proofs.PrintedLemmas.{block_back}
 use Rattle.rpki_ipblock.proofs.block.IpBlock.from_v6_str.Goals as goal
 

@@ -5,7 +5,7 @@ use Rattle.rpki_der.specs.Der.{Spells}
 use Rattle.rpki_der.specs.Reading.{optional}
 use Rattle.rpki_der.specs.Views.{Takes}
 use Rattle.rpki_der.proofs.Modes.{exact_optional_by, refused_optional_by}
-use Rattle.rpki_ip.specs.Families.{bits_of}
+use Rattle.rpki_base.specs.Families.{bits_of}
 use Rattle.rpki_ip.proofs.DerModes.{bits_few_enough}
 use Rattle.rpki_ipblock.specs.BlockDer.{IsIpBlockDer, IsSetIpBlock, ip_block_der}
 use Rattle.rpki_ipblock.specs.BlockModes.{IsStrictIpBlock, ip_block_modal}

@@ -3,7 +3,7 @@ use Rattle.std.proofs.Common.{◌++◌, refl, ap}
 use Rattle.std.specs.Prelude.{codes}
 use Rattle.std.proofs.lemmas.Grind.{put_two}
 use Rattle.rpki_chain.specs.Runs.{Runs}
-use Rattle.rpki_ip.specs.declared.family.AddressFamily.TheVariants.{Ipv6}
+use Rattle.rpki_base.specs.declared.family.AddressFamily.TheVariants.{Ipv6}
 use Rattle.rpki_ipres.specs.SetText.{set_text}
 use Rattle.rpki_ipres.proofs.overclaim.OverclaimedIpv6ResourcesDisplay.fmt.Goals as goal
 

@@ -2,9 +2,9 @@
 use Rattle.rpki_base.specs.DerReading.{Skips, skipping}
 use Rattle.rpki_base.proofs.DerCursors.{reads_tagged_by}
 use Rattle.rpki_base.proofs.DerReadings.{skips_reading}
-use Rattle.rpki_ip.specs.FamilyDer.{IsFamilyDer, family_at}
-use Rattle.rpki_ip.proofs.DerReadings.{family_reading}
-use Rattle.rpki_ip.proofs.family.AddressFamily.skip_opt_in.Goals as goal
+use Rattle.rpki_base.specs.FamilyDer.{IsFamilyDer, family_at}
+use Rattle.rpki_base.proofs.FamilyLemmas.{family_reading}
+use Rattle.rpki_base.proofs.family.AddressFamily.skip_opt_in.Goals as goal
 
 pub returns-clause-reads : goal.returns-clause-reads
 returns-clause-reads c =

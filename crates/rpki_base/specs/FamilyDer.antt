@@ -4,8 +4,8 @@ use Rattle.rpki_der.specs.declared.error.DerError.{DerError}
 use Rattle.rpki_der.specs.declared.error.DerError.TheVariants.{BadFamily}
 use Rattle.rpki_der.specs.Der.{IsOctetString, octet_string_value}
 use Rattle.rpki_der.specs.Reading.{tagged_at, refined}
-use Rattle.rpki_ip.specs.declared.family.AddressFamily.{AddressFamily}
-use Rattle.rpki_ip.specs.declared.family.AddressFamily.TheVariants.{Ipv4, Ipv6}
+use Rattle.rpki_base.specs.declared.family.AddressFamily.{AddressFamily}
+use Rattle.rpki_base.specs.declared.family.AddressFamily.TheVariants.{Ipv4, Ipv6}
 
 -- the number of the family in two octets, and no subsequent family behind it
 abbrev pub family_octets : AddressFamily → List ℕ

@@ -1,6 +1,5 @@
 //! Address families in DER.
-use crate::der::error::DecodeFamilyError;
-use crate::family::AddressFamily;
+use crate::family::{AddressFamily, DecodeFamilyError};
 use rpki_der::{Cursor, DerError, append_octets, octets_len, put_octets, tag};
 use std::alloc::{AllocError, Allocator};
 
@@ -8,10 +7,10 @@ impl AddressFamily {
     ghost use Rattle.std.specs.Prelude.{◌≡◌, ℕ, List, Ok, ◌≤◌, ◌+◌, ◌++◌, length, vec_len, OnOk, OnErr, IsOk, MatchResult};
     ghost use Rattle.rpki_base.specs.DerReading.{Skips, if_tagged, skipping};
     ghost use Rattle.rpki_base.specs.DerViews.{ReadsTagged};
-    ghost use Rattle.rpki_ip.specs.declared.family.AddressFamily.{AddressFamily as SomeFamily};
+    ghost use Rattle.rpki_base.specs.declared.family.AddressFamily.{AddressFamily as SomeFamily};
     ghost use Rattle.std.specs.Vec.{vec_capacity};
-    ghost use Rattle.rpki_der.specs.Views.{Reads, Takes, is_strict};
-    ghost use Rattle.rpki_ip.specs.FamilyDer.{IsFamilyDer, SaysFamily, family_at, family_der, family_octets};
+    ghost use Rattle.rpki_der.specs.Views.{ReadsValue, Takes, is_strict};
+    ghost use Rattle.rpki_base.specs.FamilyDer.{IsFamilyDer, SaysFamily, family_at, family_der, family_octets};
 
     /// The family that two octets name (RFC 3779, 2.2.3.3): 0 and 1 for IPv4, 0 and 2 for IPv6. Any others are refused by
     /// [`DecodeFamilyError`].
@@ -27,7 +26,7 @@ impl AddressFamily {
     /// The faults are those of [`Cursor::take_value`]; `BadTag` also where another value stands there, and `BadFamily`
     /// where its octets name no family.
     pub fn take_from(cursor: &mut Cursor<'_>) -> Result<AddressFamily, DerError>
-        ensures reads { Reads IsFamilyDer (λ f. f) cursor.old cursor.new result }
+        ensures reads { ReadsValue IsFamilyDer (λ f. f) cursor.old cursor.new result }
         ensures exact { Takes (λ f. f) cursor.old cursor.new result family_at }
         ensures mode { is_strict cursor.new ≡ is_strict cursor.old }
     {
@@ -103,7 +102,7 @@ impl AddressFamily {
     ghost use Rattle.rpki_base.specs.DerReading.{if_tagged, skipping};
     ghost use Rattle.rpki_der.specs.Reading.{Gives};
     ghost use Rattle.rpki_der.specs.Views.{Takes, is_strict};
-    ghost use Rattle.rpki_ip.specs.FamilyDer.{family_at, family_of_octets};
+    ghost use Rattle.rpki_base.specs.FamilyDer.{family_at, family_of_octets};
 
     #[tactic(auto, unfolding(crate::specs::FamilyDer::family_of_octets))]
     fn named_by(octets: &[u8]) -> Result<AddressFamily, DerError>
@@ -127,7 +126,7 @@ impl AddressFamily {
         Ok(family)
     }
 
-    #[tactic(auto, unfolding(rpki_base::specs::DerReading::if_tagged))]
+    #[tactic(auto, unfolding(crate::specs::DerReading::if_tagged))]
     fn next_opt(cursor: &mut Cursor<'_>) -> Result<Option<AddressFamily>, DerError>
         ensures exact { Takes (λ f. f) cursor.old cursor.new result (if_tagged 4 family_at) }
         ensures mode { is_strict cursor.new ≡ is_strict cursor.old }
@@ -138,7 +137,7 @@ impl AddressFamily {
         Ok(Some(Self::next(cursor)?))
     }
 
-    #[tactic(auto, unfolding(rpki_base::specs::DerReading::if_tagged))]
+    #[tactic(auto, unfolding(crate::specs::DerReading::if_tagged))]
     fn pass_over_opt(cursor: &mut Cursor<'_>) -> Result<Option<()>, DerError>
         ensures exact { Takes (λ u. u) cursor.old cursor.new result
             (if_tagged 4 (skipping family_at)) }

@@ -1,6 +1,11 @@
 //! The two families of addresses.
 ghost use Rattle.std.specs.Prelude.{◌≡◌};
-ghost use Rattle.rpki_ip.specs.Families.{bits_of};
+ghost use Rattle.rpki_base.specs.Families.{bits_of};
+
+mod der;
+mod error;
+
+pub use error::DecodeFamilyError;
 
 /// A family of addresses (RFC 3779, 2.2.3.3).
 #[derive(Clone, Copy, Debug, PartialEq, Eq, Hash)]

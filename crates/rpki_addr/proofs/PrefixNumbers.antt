@@ -4,7 +4,7 @@ use Rattle.std.proofs.Math.Nat.{two-pow-succ, pow-le-pow_right}
 use Rattle.std.proofs.lemmas.Bool.{cases_order}
 use Rattle.std.proofs.lemmas.Nat.{pow_pos, pow_below, shr_split, mod_below, mod-mul-add}
 use Rattle.rpki_addr.specs.Bits.{cleared}
-use Rattle.rpki_base.specs.Prefixes.{PrefixValue, IsPrefix, IsIn}
+use Rattle.rpki_addr.specs.Prefixes.{PrefixValue, IsPrefix, IsIn}
 
 -- clearing the bits behind its length leaves a prefix's first number as it is
 pub cleared_first : (w : ℕ) (p : PrefixValue) → IsPrefix w p → cleared w p.first p.len ≡ p.first

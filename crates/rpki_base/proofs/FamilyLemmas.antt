@@ -1,0 +1,111 @@
+-- Families in DER: what is read, what is written, and which faults are named.
+use Rattle.std.proofs.Common.{◌≡◌, ℕ, ◌&&◌, Bool, true, false, cond, eqb, List, [], ◌∷◌, length, get_or}
+use Rattle.std.proofs.Common.{Result, Ok, Err, refl, sym, ap, subst, ◌∙◌, arith}
+use Rattle.std.specs.Prelude.{IsErrAnd, MatchResult}
+use Rattle.std.proofs.lemmas.Bool.{eqb-true, and_parts}
+use Rattle.rpki_der.specs.declared.error.DerError.{DerError}
+use Rattle.rpki_der.specs.declared.error.DerError.TheVariants.{BadFamily}
+use Rattle.rpki_der.specs.Der.{Refines, header, length_octets}
+use Rattle.rpki_der.specs.Reading.{Gives, refined, tagged_at, IsReading}
+use Rattle.rpki_der.proofs.Steps.{IsCheck, ok_is, ok_or_err}
+use Rattle.rpki_der.proofs.Readings.{IsTagged, refined_reading, same_reading, tagged_reading}
+use Rattle.rpki_der.proofs.Written.{value_is}
+use Rattle.rpki_base.specs.declared.family.AddressFamily.{AddressFamily}
+use Rattle.rpki_base.specs.declared.family.AddressFamily.TheVariants.{Ipv4, Ipv6}
+use Rattle.rpki_base.specs.FamilyDer.{SaysFamily, IsFamilyDer, family_der, family_octets, family_of_octets, family_at}
+use Rattle.rpki_base.proofs.DerFaults.{NamesTo, cond_names, names_more, refined_names, tagged_names}
+
+-- ---- a fault under another name
+
+-- a reading whose fault gets another name still answers what the rule says
+pub renamed : {X Y E : Type 0} (Fits : X → Type 0) (C : X → Y → Type 0) (check : X → Result Y DerError) (x : X)
+    (read : Result Y DerError) (named : Result Y E) (P : DerError → E → Type 0)
+    → IsCheck Fits C check → Fits x → Gives (λ y. y) read (check x)
+    → MatchResult read (λ y. named ≡ Ok y) (λ e. IsErrAnd named (P e))
+    → MatchResult named (C x) (λ _. (y : Y) → C x y → ⊥)
+renamed Fits C check x (Ok y) named P is fits gives same =
+    subst (λ r. MatchResult r (C x) (λ _. (z : _) → C x z → ⊥)) (sym same) (is.takes x y fits gives)
+renamed Fits C check x (Err e) (Ok y) P is fits gives same = absurd same
+renamed Fits C check x (Err e) (Err d) P is fits gives same = λ y c. ok_or_err y e (check x) (is.again x y c) gives
+
+-- ---- families
+
+-- two octets by their places
+two : (content : List ℕ) (a b : ℕ) → length content ≡ 2 → get_or content 0 0 ≡ a → get_or content 1 0 ≡ b
+    → content ≡ a ∷ b ∷ []
+two [] a b n x y = absurd (omega arith)
+two (c ∷ []) a b n x y = absurd (omega arith)
+two (c ∷ d ∷ []) a b n x y = ap (λ t. t ∷ d ∷ []) x ∙ ap (λ t. a ∷ t ∷ []) y
+two (c ∷ d ∷ e ∷ rest) a b n x y = absurd (omega arith)
+
+-- the octets of a family whose test passes
+are_two : (content : List ℕ) (b : ℕ)
+    → ((eqb (length content) 2) && (eqb (get_or content 0 0) 0) && (eqb (get_or content 1 0) b)) ≡ true
+    → content ≡ 0 ∷ b ∷ []
+are_two content b e =
+    let x = and_parts ((eqb (length content) 2) && (eqb (get_or content 0 0) 0)) (eqb (get_or content 1 0) b) e in
+    let y = and_parts (eqb (length content) 2) (eqb (get_or content 0 0) 0) x.0 in
+    two content 0 b
+    (eqb-true (length content) 2 y.0) (eqb-true (get_or content 0 0) 0 y.1) (eqb-true (get_or content 1 0) b x.1)
+
+-- a family by its tests
+family_by : (content : List ℕ) (f : AddressFamily) (one other : Bool)
+    → ((eqb (length content) 2) && (eqb (get_or content 0 0) 0) && (eqb (get_or content 1 0) 1)) ≡ one
+    → ((eqb (length content) 2) && (eqb (get_or content 0 0) 0) && (eqb (get_or content 1 0) 2)) ≡ other
+    → cond one (Ok Ipv4) (cond other (Ok Ipv6) (Err BadFamily)) ≡ Ok f → SaysFamily content f
+family_by content f true other t s e = subst (SaysFamily content) (ok_is Ipv4 f e) (are_two content 1 t)
+family_by content f false true t s e = subst (SaysFamily content) (ok_is Ipv6 f e) (are_two content 2 s)
+family_by content f false false t s e = absurd cc
+
+-- a family that is read is said
+family_says : (content : List ℕ) (f : AddressFamily) → family_of_octets content ≡ Ok f → SaysFamily content f
+unfolding family_of_octets
+family_says content f e = family_by content f _ _ refl refl e
+
+-- the octets of a family are read
+family_back : (f : AddressFamily) → family_of_octets (family_octets f) ≡ Ok f
+unfolding family_of_octets
+family_back Ipv4 = refl
+family_back Ipv6 = refl
+
+-- the two together
+pub family_check : IsCheck (λ _. Unit {0}) SaysFamily family_of_octets
+family_check = record {
+  takes = λ content f fits e. family_says content f e;
+  again = λ content f s. ap family_of_octets s ∙ family_back f;
+}
+
+-- an OCTET STRING of a family
+pub family_reading : IsReading IsFamilyDer family_at
+family_reading =
+    same_reading (Refines (IsTagged 4) SaysFamily) IsFamilyDer family_at
+    (λ bytes f fits is. subst (IsTagged 4 bytes) is.2 is.1)
+    (λ bytes f is. (family_octets f, is, refl))
+    (refined_reading (IsTagged 4) SaysFamily (λ _. Unit {0}) (tagged_at 4) family_of_octets
+    (tagged_reading 4) (λ front content is fits. tt) family_check)
+
+-- a family takes four octets
+pub length_family : (family : AddressFamily) → length (family_der family) ≡ 4
+unfolding header length_octets
+length_family Ipv4 = refl
+length_family Ipv6 = refl
+
+-- the OCTET STRING of a family
+pub family_written : (family : AddressFamily) → IsFamilyDer (family_der family) family
+family_written Ipv4 = value_is 4 _ (omega arith) (omega arith)
+family_written Ipv6 = value_is 4 _ (omega arith) (omega arith)
+
+-- which fault is named
+family_of_names : (content : List ℕ) → NamesTo 9 (family_of_octets content)
+unfolding family_of_octets
+family_of_names content =
+    let none : Result AddressFamily DerError = Err BadFamily in
+    let two = (eqb (length content) 2) && (eqb (get_or content 0 0) 0) in
+    let second = two && (eqb (get_or content 1 0) 2) in
+    cond_names 9 (two && (eqb (get_or content 1 0) 1)) (Ok Ipv4) (cond second (Ok Ipv6) none) tt
+    (cond_names 9 second (Ok Ipv6) none tt (omega arith))
+
+pub family_names : (bytes : List ℕ) → NamesTo 9 (family_at bytes)
+family_names =
+    refined_names 9 (tagged_at 4) family_of_octets
+    (λ bytes. names_more 3 9 (tagged_at 4 bytes) (omega arith) (tagged_names 4 bytes)) family_of_names

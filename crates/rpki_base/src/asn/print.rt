@@ -1,0 +1,52 @@
+//! What is printed of AS numbers, put into a buffer on the stack from its end, and written at once.
+ghost use Rattle.std.specs.Prelude.{◌≡◌, ◌+◌, ◌≤◌, ◌∷◌, ◌++◌, length, drop};
+ghost use Rattle.std.specs.Fmt.{WritesOnOk};
+ghost use Rattle.rpki_text.specs.Cuts.{dash};
+ghost use Rattle.rpki_base.specs.AsnText.{asn_text};
+
+use super::Asn;
+use itoa::write_digits;
+use std::{fmt, str};
+
+/// The most bytes of the text of an AS number: `AS` and ten digits.
+const ROOM: usize = 12;
+
+/// The most bytes of the text of a range: two AS numbers and a dash.
+const RANGE_ROOM: usize = 25;
+
+/// Puts the text of an AS number before `end`, and answers where it begins.
+#[inline(always)]
+fn put_before(out: &mut [u8], end: usize, asn: Asn) -> usize
+    requires { (12 ≤ end) × (end ≤ length out.old) }
+    ensures text { drop result out.new ≡ asn_text asn ++ drop end out.old }
+    ensures room { (end ≤ result + 12) × (result ≤ end) }
+{
+    let digits = write_digits(u64::from(asn.into_u32()), out, end);
+    out[digits - 1] = b'S';
+    out[digits - 2] = b'A';
+    digits - 2
+}
+
+/// Writes an AS number.
+pub(crate) fn fmt_asn<W: fmt::Write>(asn: Asn, f: &mut fmt::Formatter<W>) -> fmt::Result
+    ensures { WritesOnOk W.write_str_gives f.old result (asn_text asn) f.new }
+{
+    let mut out = [0; ROOM];
+    let start = put_before(&mut out, ROOM, asn);
+    // The bytes are ASCII, so they are a text.
+    let text = str::from_utf8(&out[start..]).map_err(|_| fmt::Error)?;
+    f.write_str(text)
+}
+
+/// Writes two AS numbers with a dash between them, as in `AS3-AS5`.
+pub fn fmt_asn_range<W: fmt::Write>(min: Asn, max: Asn, f: &mut fmt::Formatter<W>) -> fmt::Result
+    ensures { WritesOnOk W.write_str_gives f.old result (asn_text min ++ dash ∷ asn_text max) f.new }
+{
+    let mut out = [0; RANGE_ROOM];
+    let between = put_before(&mut out, RANGE_ROOM, max) - 1;
+    out[between] = b'-';
+    let start = put_before(&mut out, between, min);
+    // The bytes are ASCII, so they are a text.
+    let text = str::from_utf8(&out[start..]).map_err(|_| fmt::Error)?;
+    f.write_str(text)
+}

@@ -5,8 +5,8 @@ use Rattle.std.specs.Prelude.{IfSome}
 use Rattle.rpki_chain.specs.Claims.{Claim}
 use Rattle.rpki_chain.specs.declared.choice.ResourcesChoice.TheVariants.{Missing, Inherit, Blocks}
 use Rattle.rpki_claims.specs.Families.{ByFamily, families_der}
-use Rattle.rpki_ip.specs.declared.family.AddressFamily.{AddressFamily}
-use Rattle.rpki_ip.specs.declared.family.AddressFamily.TheVariants.{Ipv4, Ipv6}
+use Rattle.rpki_base.specs.declared.family.AddressFamily.{AddressFamily}
+use Rattle.rpki_base.specs.declared.family.AddressFamily.TheVariants.{Ipv4, Ipv6}
 use Rattle.rpki_ipres.specs.Resources.{ArePresentClaims, IsFamilyClaim, IsPresentFamilyClaim, if_present}
 use Rattle.rpki_ipres.specs.ResourcesDer.{ip_families_der, ip_resources_der}
 use Rattle.rpki_extensions.specs.Claims.{claim_or_missing}

@@ -1,23 +1,24 @@
--- What is written of a set is read as the claims that list it.
-use Rattle.std.proofs.Common.{◌≡◌, ◌≢◌, ℕ, List, [], ◌∷◌, ◌++◌, ◌<◌, length, Some, None, refl, sym, ap, ap₂, ◌∙◌, subst}
+-- What is written of claims is read as them.
+use Rattle.std.proofs.Common.{◌≡◌, ◌≢◌, ℕ, List, [], ◌++◌, ◌<◌, length, Some, None, refl, sym, ap, ◌∙◌, subst}
 use Rattle.std.specs.Prelude.{◌^◌, IfSome}
-use Rattle.rpki_chain.specs.Claims.{Claim, claim_of}
-use Rattle.rpki_chain.specs.Runs.{Runs}
+use Rattle.rpki_chain.specs.Claims.{Claim}
 use Rattle.rpki_chain.specs.declared.choice.ResourcesChoice.TheVariants.{Missing, Inherit, Blocks}
-use Rattle.rpki_ip.specs.declared.family.AddressFamily.{AddressFamily}
-use Rattle.rpki_ip.specs.declared.family.AddressFamily.TheVariants.{Ipv4, Ipv6}
+use Rattle.rpki_base.specs.declared.family.AddressFamily.{AddressFamily}
+use Rattle.rpki_base.specs.declared.family.AddressFamily.TheVariants.{Ipv4, Ipv6}
 use Rattle.rpki_ipres.specs.Resources.{IsFamilyClaim, IsPresentFamilyClaim, if_present}
 use Rattle.rpki_ipres.specs.ResourcesDer.{IsIpFamilies, ip_families_der}
 use Rattle.rpki_extensions.specs.Claims.{AreAddressClaims, claim_or_missing}
 use Rattle.rpki_extensions.specs.Encodings.{IsAddressValue}
-use Rattle.rpki_extensions.specs.Written.{written_addresses}
+use Rattle.rpki_extensions.specs.Written.{claimed_addresses}
 use Rattle.rpki_extensions.specs.declared.encoding.Encoding.{Encoding}
 use Rattle.rpki_extensions.specs.declared.encoding.Encoding.TheVariants.{Any, Canonical}
 
-some_addresses : (v4 v6 : Runs) → (claim_of v4 ≡ Missing → claim_of v6 ≢ Missing) → Some (ip_families_der (claim_of v4) (claim_of v6)) ≡ written_addresses v4 v6
-some_addresses [] [] some = absurd (some refl refl)
-some_addresses [] (run ∷ runs) some = refl
-some_addresses (run ∷ runs) v6 some = refl
+some_addresses : (v4 v6 : Claim) → (v4 ≡ Missing → v6 ≢ Missing) → Some (ip_families_der v4 v6) ≡ claimed_addresses v4 v6
+some_addresses Missing Missing some = absurd (some refl refl)
+some_addresses Missing Inherit some = refl
+some_addresses Missing (Blocks set) some = refl
+some_addresses Inherit v6 some = refl
+some_addresses (Blocks set) v6 some = refl
 
 back_again : (claim : Claim) → claim ≡ claim_or_missing (if_present claim)
 back_again Missing = refl
@@ -47,17 +48,14 @@ addresses_back law v4 v6 is also some short encoding = ((if_present v4, if_prese
 all : (items old written : List ℕ) → items ≡ old ++ written → old ≡ [] → items ≡ written
 all items old written ok none = ok ∙ ap (λ (t : List ℕ). t ++ written) none
 
-module _ (a b : Runs) (v4 v6 : Claim) (items old : List ℕ) (e : v4 ≡ claim_of a) (f : v6 ≡ claim_of b) (some : v4 ≡ Missing → v6 ≢ Missing) (ok : items ≡ old ++ ip_families_der v4 v6) (clean : old ≡ []) where
-  pub is_written : Some items ≡ written_addresses a b
+module _ (v4 v6 : Claim) (items old : List ℕ) (some : v4 ≡ Missing → v6 ≢ Missing) (ok : items ≡ old ++ ip_families_der v4 v6) (clean : old ≡ []) where
+  pub is_written : Some items ≡ claimed_addresses v4 v6
   is_written =
-      ap (λ (t : List ℕ). Some t) (all items old (ip_families_der v4 v6) ok clean)
-      ∙ ap₂ (λ (x y : Claim). Some (ip_families_der x y)) e f
-      ∙ some_addresses a b (λ m n. some (e ∙ m) (f ∙ n))
+      ap (λ (t : List ℕ). Some t) (all items old (ip_families_der v4 v6) ok clean) ∙ some_addresses v4 v6 some
 
   pub is_read_back : ((v4 v6 : Claim) → IsFamilyClaim Ipv4 v4 → IsFamilyClaim Ipv6 v6 → (v4 ≡ Missing → v6 ≢ Missing) → length (ip_families_der v4 v6) < 2 ^ 64 → IsIpFamilies (ip_families_der v4 v6) (if_present v4, if_present v6))
-      → IsFamilyClaim Ipv4 v4 → IsFamilyClaim Ipv6 v6 → length items < 2 ^ 64 → (encoding : Encoding) → AreAddressClaims encoding (Some items) (claim_of a, claim_of b)
+      → IsFamilyClaim Ipv4 v4 → IsFamilyClaim Ipv6 v6 → length items < 2 ^ 64 → (encoding : Encoding) → AreAddressClaims encoding (Some items) (v4, v6)
   is_read_back law is also short encoding =
       let same : items ≡ ip_families_der v4 v6 = all items old (ip_families_der v4 v6) ok clean in
       let small : length (ip_families_der v4 v6) < 2 ^ 64 = subst (λ (t : List ℕ). length t < 2 ^ 64) same short in
-      let read : AreAddressClaims encoding (Some items) (v4, v6) = subst (λ (t : List ℕ). AreAddressClaims encoding (Some t) (v4, v6)) (sym same) (addresses_back law v4 v6 is also some small encoding) in
-      subst (λ (p : Claim × Claim). AreAddressClaims encoding (Some items) p) (λ i. (e i, f i)) read
+      subst (λ (t : List ℕ). AreAddressClaims encoding (Some t) (v4, v6)) (sym same) (addresses_back law v4 v6 is also some small encoding)

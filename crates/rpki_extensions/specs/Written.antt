@@ -1,18 +1,31 @@
--- The octets of both extensions that list a set, each absent where it would list nothing (RFC 6487, 4.8.10 and 4.8.11).
-use Rattle.std.specs.Prelude.{ℕ, List, [], ◌∷◌, Option, Some, None}
-use Rattle.rpki_chain.specs.Claims.{claim_of}
+-- The octets of both extensions in their one form, each absent where it would claim nothing (RFC 3779, 2.2.3 and 3.2.3;
+-- RFC 6487, 4.8.10 and 4.8.11).
+use Rattle.std.specs.Prelude.{ℕ, List, Option, Some, None, option_map}
+use Rattle.rpki_chain.specs.Claims.{Claim, claim_of}
 use Rattle.rpki_chain.specs.Runs.{Runs}
-use Rattle.rpki_chain.specs.declared.choice.ResourcesChoice.TheVariants.{Missing}
+use Rattle.rpki_chain.specs.declared.choice.ResourcesChoice.TheVariants.{Missing, Inherit, Blocks}
 use Rattle.rpki_as.specs.AsDer.{as_resources_octets}
+use Rattle.rpki_ipres.specs.Resources.{if_present}
 use Rattle.rpki_ipres.specs.ResourcesDer.{ip_families_der}
+
+-- AS identifiers that make a claim
+abbrev pub claimed_numbers : Claim → Option (List ℕ)
+claimed_numbers claim = option_map as_resources_octets (if_present claim)
+
+-- IP address blocks that make the claims on IPv4 and on IPv6: a family that is missing isn't there
+abbrev pub claimed_addresses : Claim → Claim → Option (List ℕ)
+claimed_addresses Missing Missing = None
+claimed_addresses Missing Inherit = Some (ip_families_der Missing Inherit)
+claimed_addresses Missing (Blocks set) = Some (ip_families_der Missing (Blocks set))
+claimed_addresses Inherit v6 = Some (ip_families_der Inherit v6)
+claimed_addresses (Blocks set) v6 = Some (ip_families_der (Blocks set) v6)
+
+-- ---- that list a set
 
 -- AS identifiers
 abbrev pub written_numbers : Runs → Option (List ℕ)
-written_numbers [] = None
-written_numbers (run ∷ runs) = Some (as_resources_octets (claim_of (run ∷ runs)))
+written_numbers set = claimed_numbers (claim_of set)
 
 -- IP address blocks: a family without addresses isn't there
 abbrev pub written_addresses : Runs → Runs → Option (List ℕ)
-written_addresses [] [] = None
-written_addresses [] (run ∷ runs) = Some (ip_families_der Missing (claim_of (run ∷ runs)))
-written_addresses (run ∷ runs) v6 = Some (ip_families_der (claim_of (run ∷ runs)) (claim_of v6))
+written_addresses v4 v6 = claimed_addresses (claim_of v4) (claim_of v6)

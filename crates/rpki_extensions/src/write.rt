@@ -1,16 +1,60 @@
-//! The values of both extensions, written of a set.
+//! The values of both extensions, written of claims or of a set.
 ghost use Rattle.std.specs.Prelude.{◌≡◌, IfOk, option_map};
 ghost use Rattle.rpki_chain.specs.Claims.{claim_of};
+ghost use Rattle.rpki_ipres.specs.Resources.{IsWholeClaim};
 ghost use Rattle.rpki_extensions.specs.Claims.{AreAddressClaims, IsNumbersClaim};
-ghost use Rattle.rpki_extensions.specs.Written.{written_addresses, written_numbers};
+ghost use Rattle.rpki_extensions.specs.Written.{claimed_addresses, claimed_numbers, written_addresses, written_numbers};
 ghost use Rattle.rpki_extensions.specs.declared.encoding.Encoding.{Encoding};
 
-use rpki_resources::repository::resources::{IpResources, ResourceSet};
+use rpki_resources::repository::resources::{AsResources, IpResources, ResourceSet};
 use std::alloc::{AllocError, Allocator};
 
-/// The octets of AS identifiers (RFC 3779, 3.2.3) that list the AS numbers of a set, in their one form, or None where
-/// there are none and the extension is absent. They are read back in either encoding. `AllocError` where there is no
-/// memory for them.
+/// The octets of AS identifiers (RFC 3779, 3.2.3) that make a claim, in their one form, or None where it is missing and
+/// the extension is absent. They are read back in either encoding. `AllocError` where there is no memory for them.
+pub fn write_numbers_claim<A: Allocator>(
+    alloc: A,
+    claim: &AsResources<A>,
+) -> Result<Option<Vec<u8, A>>, AllocError>
+    ensures octets { IfOk result (λ value.
+        option_map (λ octets. octets.items) value ≡ claimed_numbers claim.now) }
+    ensures reads_back { IfOk result (λ value. (encoding : Encoding) →
+        IsNumbersClaim encoding (option_map (λ octets. octets.items) value) claim.now) }
+{
+    rpki_as::der::laws::written_resources(); // so that the proof sees that what is written is read
+    if claim.is_missing() {
+        return Ok(None);
+    }
+    let mut octets = Vec::new(alloc);
+    claim.encode(&mut octets)?;
+    Ok(Some(octets))
+}
+
+/// The octets of IP address blocks (RFC 3779, 2.2.3) that make the claims on IPv4 and on IPv6, in their one form, or None
+/// where both are missing and the extension is absent. They are read back in either encoding, where what is claimed of
+/// IPv4 consists of whole addresses. `AllocError` where there is no memory for them.
+pub fn write_address_claims<A: Allocator>(
+    alloc: A,
+    v4: &IpResources<A>,
+    v6: &IpResources<A>,
+) -> Result<Option<Vec<u8, A>>, AllocError>
+    ensures octets { IfOk result (λ value. option_map (λ octets. octets.items) value
+        ≡ claimed_addresses v4.now v6.now) }
+    ensures reads_back { IsWholeClaim v4.now → IfOk result (λ value. (encoding : Encoding) →
+        AreAddressClaims encoding (option_map (λ octets. octets.items) value) (v4.now, v6.now)) }
+{
+    rpki_ipres::laws::claims_of_families(); // so that the proof sees that a whole claim is one on IPv4
+    rpki_ipres::der::laws::written_resources(); // and that what is written is read
+    if v4.is_missing() && v6.is_missing() {
+        return Ok(None);
+    }
+    let mut octets = Vec::new(alloc);
+    IpResources::encode_families(v4, v6, &mut octets)?;
+    let _len = octets.len(); // read so that the proof sees that the octets are fewer than 2^64
+    Ok(Some(octets))
+}
+
+/// The octets of AS identifiers that list the AS numbers of a set, as by [`write_numbers_claim`], or None where there are
+/// none and the extension is absent. `AllocError` where there is no memory for them.
 pub fn write_numbers<A: Allocator + Copy>(
     alloc: A,
     set: &ResourceSet<A>,
@@ -21,19 +65,12 @@ pub fn write_numbers<A: Allocator + Copy>(
         IsNumbersClaim encoding (option_map (λ octets. octets.items) value)
         (claim_of set.now.asn)) }
 {
-    rpki_as::der::laws::written_resources(); // so that the proof sees that what is written is read
     let claim = set.to_as_resources()?;
-    if claim.is_missing() {
-        return Ok(None);
-    }
-    let mut octets = Vec::new(alloc);
-    claim.encode(&mut octets)?;
-    Ok(Some(octets))
+    write_numbers_claim(alloc, &claim)
 }
 
-/// The octets of IP address blocks (RFC 3779, 2.2.3) that list the addresses of a set, in their one form, or None
-/// where there are none and the extension is absent. They are read back in either encoding. `AllocError` where there
-/// is no memory for them.
+/// The octets of IP address blocks that list the addresses of a set, as by [`write_address_claims`], or None where there
+/// are none and the extension is absent. `AllocError` where there is no memory for them.
 pub fn write_addresses<A: Allocator + Copy>(
     alloc: A,
     set: &ResourceSet<A>,
@@ -44,14 +81,8 @@ pub fn write_addresses<A: Allocator + Copy>(
         AreAddressClaims encoding (option_map (λ octets. octets.items) value)
         (claim_of set.now.ipv4, claim_of set.now.ipv6)) }
 {
-    rpki_ipres::der::laws::written_resources(); // so that the proof sees that what is written is read
+    rpki_ipres::laws::claims_of_families(); // so that the proof sees that a claim on IPv4 is whole
     let v4 = set.to_ip_resources_v4()?;
     let v6 = set.to_ip_resources_v6()?;
-    if v4.is_missing() && v6.is_missing() {
-        return Ok(None);
-    }
-    let mut octets = Vec::new(alloc);
-    IpResources::encode_families(&v4, &v6, &mut octets)?;
-    let _len = octets.len(); // read so that the proof sees that the octets are fewer than 2^64
-    Ok(Some(octets))
+    write_address_claims(alloc, &v4, &v6)
 }

@@ -15,38 +15,26 @@ fn main(rt: HostRuntime) -> anyhow::Result<()> {
     let [_, asn, ipv4, ipv6, numbers, addresses] = words.as_slice() else {
         anyhow::bail!("arguments: ASN-LIST IPV4-LIST IPV6-LIST NUMBERS-FILE ADDRESSES-FILE");
     };
-    verify(&rt, [asn, ipv4, ipv6], [numbers, addresses])
-}
-
-/// Prints what an issuer with three lists of resources verifies of two files.
-fn verify(rt: &HostRuntime, [asn, ipv4, ipv6]: [&str; 3], files: [&str; 2]) -> anyhow::Result<()> {
     let issuer = ResourceSet::from_strs(rt.alloc(), asn, ipv4, ipv6)?;
-    verify_files(rt, &issuer, files)
+    verify_files(&rt, &issuer, [numbers, addresses])
 }
 
-fn verify_files(
-    rt: &HostRuntime,
-    issuer: &ResourceSet,
-    [numbers, addresses]: [&str; 2],
-) -> anyhow::Result<()> {
-    let numbers = fs::read(rt, numbers)?;
-    let addresses = fs::read(rt, addresses)?;
-    verify_octets(rt, issuer, &numbers, &addresses)
-}
-
-fn verify_octets(
-    rt: &HostRuntime,
-    issuer: &ResourceSet,
-    numbers: &[u8],
-    addresses: &[u8],
-) -> anyhow::Result<()> {
+/// Prints what the issuer verifies of the octets in two files.
+fn verify_files(rt: &HostRuntime, issuer: &ResourceSet, files: [&str; 2]) -> anyhow::Result<()> {
+    let numbers = fs::read(rt, files[0])?;
+    let addresses = fs::read(rt, files[1])?;
     let certificate = Extensions {
-        numbers: Some(numbers),
-        addresses: Some(addresses),
+        numbers: Some(&numbers),
+        addresses: Some(&addresses),
         encoding: Encoding::Canonical,
         mode: Overclaim::Refuse,
     };
-    let set = verified_octets(rt.alloc(), issuer, &certificate)?;
+    verify(rt, issuer, &certificate)
+}
+
+/// Prints what the issuer verifies of a certificate.
+fn verify(rt: &HostRuntime, issuer: &ResourceSet, certificate: &Extensions) -> anyhow::Result<()> {
+    let set = verified_octets(rt.alloc(), issuer, certificate)?;
     println!(rt; "{set}")?;
     Ok(())
 }

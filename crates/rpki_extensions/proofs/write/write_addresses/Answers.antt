@@ -1,18 +1,12 @@
--- What is written of the claims is what is written of the set, and is read as them.
-use Rattle.std.proofs.Common.{rules, ◌≡◌, ◌≢◌, ◌<◌, length}
-use Rattle.std.specs.Prelude.{◌^◌}
-use Rattle.rpki_chain.specs.declared.choice.ResourcesChoice.TheVariants.{Missing}
-use Rattle.rpki_extensions.proofs.WrittenLemmas.{is_read_back, is_written}
+-- The claims that list the set are those that are written, and are read back.
+use Rattle.std.proofs.Common.{IfOk, option_map, subst}
+use Rattle.rpki_chain.specs.Claims.{Claim}
+use Rattle.rpki_extensions.specs.Claims.{AreAddressClaims}
+use Rattle.rpki_extensions.specs.declared.encoding.Encoding.{Encoding}
 use Rattle.rpki_extensions.proofs.write.write_addresses.Goals as goal
-
-pub returns-clause-octets : goal.returns-clause-octets
-returns-clause-octets g c =
-    let some : c.in_ok-v4.v4 ≡ Missing → c.in_ok-v6.v6 ≢ Missing = search rules in
-    is_written c.args.set.now.ipv4 c.args.set.now.ipv6 c.in_ok-v4.v4 c.in_ok-v6.v6 c.encode_families.new.out.items c.new-octets.result.items c.in_ok-v4.ensures.claim c.in_ok-v6.ensures.claim some c.in_ok-encode_families.ensures.ok c.new-octets.ensures.items
 
 pub returns-clause-reads_back : goal.returns-clause-reads_back
 returns-clause-reads_back g c =
-    let some : c.in_ok-v4.v4 ≡ Missing → c.in_ok-v6.v6 ≢ Missing = search rules in
-    let short : length c.encode_families.new.out.items < 2 ^ 64 = search rules in
-    is_read_back c.args.set.now.ipv4 c.args.set.now.ipv6 c.in_ok-v4.v4 c.in_ok-v6.v6 c.encode_families.new.out.items c.new-octets.result.items c.in_ok-v4.ensures.claim c.in_ok-v6.ensures.claim some c.in_ok-encode_families.ensures.ok c.new-octets.ensures.items
-    c.written_resources.ensures.families c.in_ok-v4.ensures.family c.in_ok-v6.ensures.family short
+    subst (λ (claims : Claim × Claim). IfOk c.write_address_claims.result (λ value. (encoding : Encoding) → AreAddressClaims encoding (option_map (λ octets. octets.items) value) claims))
+    (λ i. (c.in_ok-v4.ensures.claim i, c.in_ok-v6.ensures.claim i))
+    (c.write_address_claims.ensures.reads_back (c.claims_of_families.ensures.whole c.in_ok-v4.v4 c.in_ok-v4.ensures.family))

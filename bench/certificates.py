@@ -1,0 +1,137 @@
+#!/usr/bin/env python3
+"""How the time of a path of ten certificates grows with the blocks of each: of N of AS numbers, of IPv4 and of IPv6.
+
+Each certificate claims a little less than its issuer. `octets` is one call of `pg_verify_path` over canonical octets,
+in process; `lines` is one run of respath over the same path as three lines `path`, which are texts. Both must leave
+what the last certificate claims. Seconds of the processor, each the least of RUNS in turn, for N of 1,000 to 64,000 or
+those that are given. Growth per doubling is about 2.
+"""
+
+import os
+import resource
+import shutil
+import subprocess
+import sys
+import tempfile
+import time
+from pathlib import Path
+
+TOP = Path(__file__).resolve().parent.parent
+sys.path.insert(0, str(TOP / "foreign" / "python"))
+
+from pigyelund import Certificate, Encoding, Extensions, Mode, Pigyelund, Resources  # noqa: E402
+
+RESPATH = TOP / "crates" / "respath" / "out" / "respath"
+LIBRARY = TOP / "crates" / "pigyelund_c" / "out" / "libpigyelund_c.a"
+KINDS = ("as", "v4", "v6")
+STEPS = 10
+RUNS = 15
+
+
+def written(kind: str, number: int) -> str:
+    """A number below 2^32 as an AS number or an address."""
+    if kind == "as":
+        return f"AS{number}"
+    if kind == "v6":
+        return f"2001:db8:{number >> 16:x}:{number & 0xFFFF:x}::"
+    return ".".join(str(number >> shift & 255) for shift in (24, 16, 8, 0))
+
+
+def listed(kind: str, count: int, step: int) -> str:
+    """So many blocks, ascending, none touching the next; those of a later step lie inside those of the ones before."""
+    blocks = ((32 * at, 32 * at + at % 9 + STEPS - step) for at in range(count))
+    return ", ".join(f"{written(kind, least)}-{written(kind, greatest)}" for least, greatest in blocks)
+
+
+def answers(lines: list[str]) -> tuple[list[str], float]:
+    """What respath answers, and the seconds of the processor that it took."""
+    with tempfile.TemporaryFile("w+") as asked:
+        asked.writelines(line + "\n" for line in lines)
+        asked.seek(0)
+        before = resource.getrusage(resource.RUSAGE_CHILDREN)
+        ran = subprocess.run([RESPATH], stdin=asked, stdout=subprocess.PIPE, text=True, check=True)
+        after = resource.getrusage(resource.RUSAGE_CHILDREN)
+    took = after.ru_utime + after.ru_stime - before.ru_utime - before.ru_stime
+    return ran.stdout.splitlines(), took
+
+
+def extensions(library: Pigyelund, lists: list[str]) -> Resources:
+    """The octets of both extensions that list three lists."""
+    (asn, v4, v6), _ = answers([f"der {kind} {it}" for kind, it in zip(KINDS, lists)])
+    return library.union(
+        Resources(bytes.fromhex(asn), bytes.fromhex(v4)), Resources(b"", bytes.fromhex(v6))
+    )
+
+
+class OfOctets:
+    """A path whose certificates are octets."""
+
+    def __init__(self, library: Pigyelund, claims: list[Resources]) -> None:
+        self._library, self._anchor, self._last = library, claims[0], claims[-1]
+        self._run, self._certificates = b"", []
+        for claim in claims[1:]:
+            at, present = len(self._run), Extensions(*claim).present()
+            places = (at, len(claim.asn), at + len(claim.asn), len(claim.ip))
+            self._certificates.append(Certificate(*places, present, Mode.REFUSE))
+            self._run += claim.asn + claim.ip
+
+    def seconds(self) -> float:
+        """How long it takes to verify it."""
+        rooms = (len(self._last.asn), len(self._last.ip))
+        before = time.process_time()
+        (status, _, left), _ = self._library.verify_path_told(
+            self._anchor, self._run, self._certificates, Encoding.STRICT, rooms
+        )
+        took = time.process_time() - before
+        if status or left != self._last:
+            sys.exit(f"the octets are answered by status {status}")
+        return took
+
+
+class OfLines:
+    """The same as lines."""
+
+    def __init__(self, lists: list[list[str]]) -> None:
+        self._last, _ = answers([f"norm {kind} {it}" for kind, it in zip(KINDS, lists[-1])])
+        self._lines = [
+            f"path {kind} " + " | refuse ".join(it[at] for it in lists) for at, kind in enumerate(KINDS)
+        ]
+
+    def seconds(self) -> float:
+        """How long it takes to answer them."""
+        left, took = answers(self._lines)
+        if left != self._last:
+            sys.exit("the lines are answered otherwise")
+        return took
+
+
+def built(folder: str) -> Pigyelund:
+    """The shared library, made of the static one, which is proved first where it isn't there; and so is respath."""
+    subprocess.run([TOP / "respath"], stdin=subprocess.DEVNULL, check=True)
+    if not LIBRARY.exists():
+        subprocess.run(["rt", "lib"], cwd=LIBRARY.parent.parent, check=True, stdout=sys.stderr)
+    kit = os.environ.get("KIT") or Path(os.path.realpath(shutil.which("rt") or "")).parent.parent
+    shared = Path(folder) / "libpigyelund.so"
+    whole = ["-Wl,--whole-archive", LIBRARY, "-Wl,--no-whole-archive", Path(kit) / "c" / "liblibc_c.a"]
+    subprocess.run(["gcc", "-shared", "-o", shared, *whole], check=True)
+    return Pigyelund(shared)
+
+
+def main() -> None:
+    sizes = [int(word) for word in sys.argv[1:]] or [1000 << doubled for doubled in range(7)]
+    print(f"{'N':>6}{'octets':>9}{'growth':>8}{'lines':>9}{'growth':>8}")
+    with tempfile.TemporaryDirectory() as folder:
+        library = built(folder)
+        before = None
+        for count in sizes:
+            lists = [[listed(kind, count, step) for kind in KINDS] for step in range(STEPS + 1)]
+            octets = OfOctets(library, [extensions(library, it) for it in lists])
+            lines = OfLines(lists)
+            runs = [(octets.seconds(), lines.seconds()) for _ in range(RUNS)]
+            least = [min(it) for it in zip(*runs)]
+            growth = [f"{it / was:.2f}" for it, was in zip(least, before)] if before else ["", ""]
+            print(f"{count:>6}{least[0]:>9.4f}{growth[0]:>8}{least[1]:>9.4f}{growth[1]:>8}", flush=True)
+            before = least
+
+
+main()

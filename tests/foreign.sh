@@ -46,8 +46,10 @@ else
     echo "Python was not tested: it needs python3, from 3.10 on, and gcc for the shared library"
 fi
 if has cargo && has cc; then
-    PIGYELUND_LIB=$folder PIGYELUND_KIT=$kit CARGO_TARGET_DIR=$out/rust \
-        cargo test -q --offline --manifest-path foreign/rust/Cargo.toml || fail "the test in Rust"
+    export PIGYELUND_LIB="$folder" PIGYELUND_KIT="$kit" CARGO_TARGET_DIR="$out/rust"
+    cargo test -q --offline --manifest-path foreign/rust/Cargo.toml || fail "the test in Rust"
+    cargo run -q --offline --manifest-path foreign/rust/Cargo.toml --example verify >"$out/example.txt" &&
+        diff foreign/c/example.txt "$out/example.txt" || fail "the example in Rust"
 else
     echo "Rust was not tested: it needs cargo, and cc to link"
 fi

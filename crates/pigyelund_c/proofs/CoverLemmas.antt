@@ -1,10 +1,10 @@
 -- Prefixes that are written one after the other.
 use Rattle.std.proofs.Common.{◌≡◌, ℕ, List, [], ◌∷◌, ◌++◌, ap, ◌∙◌, sym, append_assoc}
 use Rattle.std.proofs.lemmas.List.{append-nil}
-use Rattle.rpki_base.specs.Prefixes.{PrefixValue}
+use Rattle.rpki_addr.specs.Prefixes.{PrefixValue}
 use Rattle.rpki_chain.specs.Runs.{Runs, Holds}
 use Rattle.rpki_cover.specs.Covers.{IsShortestCover}
-use Rattle.rpki_ip.specs.declared.family.AddressFamily.{AddressFamily}
+use Rattle.rpki_base.specs.declared.family.AddressFamily.{AddressFamily}
 use Rattle.pigyelund_c.specs.Covers.{AreCoverOctets, cover_octets, prefix_octets}
 
 -- an address and a length are behind others as a prefix is

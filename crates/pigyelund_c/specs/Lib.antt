@@ -8,5 +8,5 @@ pub mod Paths
 pub mod Routes
 pub mod Sets
 pub mod Statuses
-pub mod Unclaimed
+pub mod Unverified
 pub mod Verified

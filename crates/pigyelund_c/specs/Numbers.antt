@@ -4,8 +4,8 @@ use Rattle.rpki_chain.specs.declared.path.Overclaim.{Overclaim}
 use Rattle.rpki_chain.specs.declared.path.Overclaim.TheVariants.{Refuse, Trim}
 use Rattle.rpki_extensions.specs.declared.encoding.Encoding.{Encoding}
 use Rattle.rpki_extensions.specs.declared.encoding.Encoding.TheVariants.{Any, Canonical}
-use Rattle.rpki_ip.specs.declared.family.AddressFamily.{AddressFamily}
-use Rattle.rpki_ip.specs.declared.family.AddressFamily.TheVariants.{Ipv4, Ipv6}
+use Rattle.rpki_base.specs.declared.family.AddressFamily.{AddressFamily}
+use Rattle.rpki_base.specs.declared.family.AddressFamily.TheVariants.{Ipv4, Ipv6}
 use Rattle.pigyelund_c.specs.declared.encodings.Present.{Present}
 use Rattle.pigyelund_c.specs.declared.encodings.Present.TheVariants.{Neither, Numbers, Addresses, Both}
 

@@ -1,16 +1,14 @@
 -- The statuses that are told (they are numbered in `src/status.rt`), and the sets that are told with them.
-use Rattle.std.specs.Prelude.{ℕ, ◌+◌, [], Result, Ok, Err}
+use Rattle.std.specs.Prelude.{ℕ, ◌+◌, Result, Ok, Err}
 use Rattle.rpki_der.specs.Faults.{fault_number}
 use Rattle.rpki_text.specs.declared.memory.OrMemory.{OrMemory}
 use Rattle.rpki_text.specs.declared.memory.OrMemory.TheVariants.{Refused, Memory}
 use Rattle.rpki_resources.specs.Triples.{Triple, no_resources}
-use Rattle.pigyelund_c.specs.Unclaimed.{unclaimed_status}
-use Rattle.pigyelund_c.specs.declared.refusal.Excess.{Excess}
-use Rattle.pigyelund_c.specs.declared.refusal.Excess.TheVariants.{Asn, Ipv4, Ipv6}
+use Rattle.pigyelund_c.specs.Unverified.{unverified_excess, unverified_status}
 use Rattle.pigyelund_c.specs.declared.refusal.Misasked.{Misasked}
 use Rattle.pigyelund_c.specs.declared.refusal.Misasked.TheVariants.{NoEncoding, NoMode, NoPresence, NoFamily, Outside}
 use Rattle.pigyelund_c.specs.declared.refusal.Refusal.{Refusal}
-use Rattle.pigyelund_c.specs.declared.refusal.Refusal.TheVariants.{Asked, Issuer, Unclaimed, Overclaimed}
+use Rattle.pigyelund_c.specs.declared.refusal.Refusal.TheVariants.{Asked, Issuer, Unverified}
 use Rattle.pigyelund_c.specs.declared.refusal.Unread.{Unread}
 use Rattle.pigyelund_c.specs.declared.refusal.Unread.TheVariants.{Numbers, Addresses, Inherited}
 
@@ -26,28 +24,16 @@ unread_status (Numbers fault) = 256 + fault_number fault
 unread_status (Addresses fault) = 512 + fault_number fault
 unread_status Inherited = 3
 
-abbrev pub excess_status : Excess → ℕ
-excess_status (Asn excess) = 5
-excess_status (Ipv4 excess) = 6
-excess_status (Ipv6 excess) = 7
-
 abbrev pub refusal_status : Refusal → ℕ
 refusal_status (Asked why) = misasked_status why
 refusal_status (Issuer reason) = unread_status reason
-refusal_status (Unclaimed reason) = unclaimed_status reason
-refusal_status (Overclaimed excess) = excess_status excess
+refusal_status (Unverified reason) = unverified_status reason
 
--- the excess as a set, and no resources for any other reason
-abbrev pub excess_set : Excess → Triple
-excess_set (Asn excess) = record { asn = excess; ipv4 = []; ipv6 = [] }
-excess_set (Ipv4 excess) = record { asn = []; ipv4 = excess; ipv6 = [] }
-excess_set (Ipv6 excess) = record { asn = []; ipv4 = []; ipv6 = excess }
-
+-- the excess, as a set; no resources where a number is none, or the issuer's octets
 abbrev pub excess_of : Refusal → Triple
 excess_of (Asked why) = no_resources
 excess_of (Issuer reason) = no_resources
-excess_of (Unclaimed reason) = no_resources
-excess_of (Overclaimed excess) = excess_set excess
+excess_of (Unverified reason) = unverified_excess reason
 
 -- the status of an outcome: 0 of a set, 2 of want of memory
 abbrev pub status_of : Result Triple (OrMemory Refusal) → ℕ

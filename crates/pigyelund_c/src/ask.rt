@@ -2,15 +2,16 @@
 ghost use Rattle.std.specs.Prelude.{MatchResult};
 ghost use Rattle.rpki_text.specs.Memory.{IfRefused};
 ghost use Rattle.rpki_extensions.specs.Issued.{IsVerified};
-ghost use Rattle.pigyelund_c.specs.Verified.{IsOutcome, IsOutcomeIn, IsLeftByOctets, IsNoOutcome, IsNoOutcomeIn, IsNotLeftByOctets, IsToldUnverified};
+ghost use Rattle.pigyelund_c.specs.Verified.{IsOutcome, IsOutcomeIn, IsLeftByOctets, IsNoOutcome, IsNoOutcomeIn};
+ghost use Rattle.pigyelund_c.specs.Verified.{IsNotLeftByOctets, IsToldUnverified};
 
 use crate::certificate::extensions_of;
 use crate::encodings::encoding_of;
-use crate::left::claims_left;
 use crate::read::set_of;
 use crate::refusal::{Misasked, Refusal};
 use rpki_extensions::encoding::Encoding;
 use rpki_extensions::extensions::Extensions;
+use rpki_extensions::issued::verified_octets;
 use rpki_resources::OrMemory;
 use rpki_resources::repository::resources::ResourceSet;
 use std::alloc::Global;
@@ -25,14 +26,9 @@ pub(crate) fn verified(
     ensures { MatchResult result (IsVerified issuer.now certificate.now)
         (IfRefused (IsToldUnverified issuer.now certificate.now)) }
 {
-    let claims = match certificate.claims(alloc) {
-        Ok(claims) => claims,
-        Err(OrMemory::Refused(reason)) => return Err(OrMemory::Refused(Refusal::Unclaimed(reason))),
-        Err(OrMemory::Memory(error)) => return Err(OrMemory::Memory(error)),
-    };
-    match claims_left(alloc, issuer, &claims, certificate.mode) {
+    match verified_octets(alloc, issuer, certificate) {
         Ok(set) => Ok(set),
-        Err(OrMemory::Refused(excess)) => Err(OrMemory::Refused(Refusal::Overclaimed(excess))),
+        Err(OrMemory::Refused(reason)) => Err(OrMemory::Refused(Refusal::Unverified(reason))),
         Err(OrMemory::Memory(error)) => Err(OrMemory::Memory(error)),
     }
 }

@@ -3,7 +3,7 @@
 ghost use Rattle.std.specs.Prelude.{◌≡◌, ◌≢◌, MatchOption, option_map};
 ghost use Rattle.rpki_chain.specs.declared.path.Overclaim.{Overclaim as Mode};
 ghost use Rattle.rpki_extensions.specs.declared.encoding.Encoding.{Encoding as Way};
-ghost use Rattle.rpki_ip.specs.declared.family.AddressFamily.{AddressFamily as Family};
+ghost use Rattle.rpki_base.specs.declared.family.AddressFamily.{AddressFamily as Family};
 ghost use Rattle.pigyelund_c.specs.Numbers.{addresses_there, encoding_number, family_number, mode_number, numbers_there, present_number};
 ghost use Rattle.pigyelund_c.specs.declared.encodings.Present.{Present as There};
 

@@ -8,8 +8,7 @@
 //! let outcome = path_answered(alloc, anchor_as, anchor_ip, run, encoding, certificates);
 //! let (count, outcome) = counted(certificates, outcome);
 //! *verified = count;
-//! let (status, set) = told(outcome);
-//! tell(alloc, status, &set, as_out, ip_out, as_len, ip_len)
+//! tell_outcome(alloc, outcome, as_out, ip_out, as_len, ip_len)
 //! ```
 #![tactic(auto)]
 
@@ -18,11 +17,11 @@ mod certificate;
 mod cover;
 mod covers;
 mod encodings;
-mod left;
 mod lines;
 mod operations;
 mod origin;
 mod origins;
+mod outcome;
 mod pair;
 mod path;
 mod read;

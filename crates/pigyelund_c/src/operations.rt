@@ -1,7 +1,7 @@
 //! What is asked of two sets: a third one that is made of both, or whether one has the other's resources.
 ghost use Rattle.std.specs.Prelude.{IfOk, MatchResult};
 ghost use Rattle.rpki_text.specs.Memory.{IfRefused};
-ghost use Rattle.rpki_resources.specs.Triples.{HasEachOf, IsDifferenceOf};
+ghost use Rattle.rpki_resources.specs.Triples.{HasEachOf};
 ghost use Rattle.pigyelund_c.specs.Pairs.{AreNotRead, AreSame, IsBy, IsMade, IsTested};
 
 use crate::pair::{Unpaired, pair_of};
@@ -28,19 +28,9 @@ impl Operation {
         match self {
             Operation::Union => a.union(alloc, b),
             Operation::Intersection => a.intersection(alloc, b),
-            Operation::Difference => beyond(alloc, a, b),
+            Operation::Difference => a.minus(alloc, b),
         }
     }
-}
-
-/// What the first set has and the second hasn't. `AllocError` where there is no memory for it.
-fn beyond(alloc: Global, a: &ResourceSet, b: &ResourceSet) -> Result<ResourceSet, AllocError>
-    ensures { IfOk result (IsDifferenceOf a.now b.now) }
-{
-    let asn = a.asn().difference(alloc, b.asn())?;
-    let ipv4 = a.ipv4().difference(alloc, b.ipv4())?;
-    let ipv6 = a.ipv6().difference(alloc, b.ipv6())?;
-    Ok(ResourceSet::new(asn, ipv4, ipv6))
 }
 
 /// The set that is made of two that are read from octets. `Refused` with the first reason why there aren't two,

@@ -1,13 +1,13 @@
 //! Why a call tells no set that was asked for, the status of each reason, and the set that is told in its place.
-ghost use Rattle.std.specs.Prelude.{◌≡◌, ◌<◌};
-ghost use Rattle.pigyelund_c.specs.Statuses.{excess_of, excess_set, excess_status, misasked_status, refusal_status, status_of, told_set, unread_status};
-ghost use Rattle.pigyelund_c.specs.Unclaimed.{unclaimed_status};
+ghost use Rattle.std.specs.Prelude.{◌≡◌, ◌<◌, IfOk};
+ghost use Rattle.pigyelund_c.specs.Statuses.{excess_of, misasked_status, refusal_status, unread_status};
+ghost use Rattle.pigyelund_c.specs.Unverified.{unverified_excess, unverified_status};
 
 use crate::status;
 use rpki_der::DerError;
 use rpki_extensions::error::Unverified;
-use rpki_resources::OrMemory;
 use rpki_resources::repository::resources::{AsBlocks, Ipv4Blocks, Ipv6Blocks, ResourceSet};
+use std::alloc::AllocError;
 
 /// A number that a caller hands over is none.
 #[derive(Clone, Copy)]
@@ -64,9 +64,9 @@ impl Unread {
     }
 }
 
-/// The status of the reason why a certificate's extensions are no claims: absent, or the first fault of octets.
-fn unclaimed_status(reason: &Unverified) -> u32
-    ensures { result ≡ unclaimed_status reason.now }
+/// The status of the reason why an issuer doesn't verify a certificate's extensions.
+fn unverified_status(reason: &Unverified) -> u32
+    ensures { result ≡ unverified_status reason.now }
 {
     match reason {
         Unverified::Absent => status::ABSENT,
@@ -81,38 +81,25 @@ fn unclaimed_status(reason: &Unverified) -> u32
     }
 }
 
-/// What a certificate claims and its issuer hasn't.
-#[derive(Drop)]
-pub(crate) enum Excess {
-    /// AS numbers.
-    Asn(AsBlocks),
-    /// IPv4 addresses.
-    Ipv4(Ipv4Blocks),
-    /// IPv6 addresses.
-    Ipv6(Ipv6Blocks),
-}
-
-impl Excess {
-    /// The status of an excess.
-    fn status(&self) -> u32
-        ensures { result ≡ excess_status self.now }
-    {
-        match self {
-            Excess::Asn(_) => status::OVERCLAIM_AS,
-            Excess::Ipv4(_) => status::OVERCLAIM_V4,
-            Excess::Ipv6(_) => status::OVERCLAIM_V6,
+/// What a certificate claims and its issuer hasn't, as a set; no resources for any other reason. `AllocError` where std
+/// refuses the owner that the excess gets.
+fn unverified_excess(reason: &Unverified) -> Result<ResourceSet, AllocError>
+    ensures { IfOk result (λ set. set ≡ unverified_excess reason.now) }
+{
+    match reason {
+        Unverified::Asn(fault) => {
+            let asn = fault.excess().clone()?;
+            Ok(ResourceSet::new(asn, Ipv4Blocks::empty(), Ipv6Blocks::empty()))
         }
-    }
-
-    /// The excess as a set.
-    fn set(self) -> ResourceSet
-        ensures { result ≡ excess_set self }
-    {
-        match self {
-            Excess::Asn(asn) => ResourceSet::new(asn, Ipv4Blocks::empty(), Ipv6Blocks::empty()),
-            Excess::Ipv4(ipv4) => ResourceSet::new(AsBlocks::empty(), ipv4, Ipv6Blocks::empty()),
-            Excess::Ipv6(ipv6) => ResourceSet::new(AsBlocks::empty(), Ipv4Blocks::empty(), ipv6),
+        Unverified::Ipv4(fault) => {
+            let ipv4 = Ipv4Blocks::from_excess(fault)?;
+            Ok(ResourceSet::new(AsBlocks::empty(), ipv4, Ipv6Blocks::empty()))
         }
+        Unverified::Ipv6(fault) => {
+            let ipv6 = Ipv6Blocks::from_excess(fault)?;
+            Ok(ResourceSet::new(AsBlocks::empty(), Ipv4Blocks::empty(), ipv6))
+        }
+        _ => Ok(ResourceSet::empty()),
     }
 }
 
@@ -123,43 +110,29 @@ pub(crate) enum Refusal {
     Asked(Misasked),
     /// The issuer's octets list no set.
     Issuer(Unread),
-    /// The certificate's extensions are no claims.
-    Unclaimed(Unverified),
-    /// More is claimed than the issuer has.
-    Overclaimed(Excess),
+    /// The issuer's set doesn't verify the certificate's extensions.
+    Unverified(Unverified),
 }
 
 impl Refusal {
     /// The status of a reason.
-    fn status(&self) -> u32
+    pub(crate) fn status(&self) -> u32
         ensures { result ≡ refusal_status self.now }
     {
         match self {
             Refusal::Asked(reason) => reason.status(),
             Refusal::Issuer(reason) => reason.status(),
-            Refusal::Unclaimed(reason) => unclaimed_status(reason),
-            Refusal::Overclaimed(excess) => excess.status(),
+            Refusal::Unverified(reason) => unverified_status(reason),
         }
     }
 
-    /// The excess as a set; no resources for any other reason.
-    fn excess(self) -> ResourceSet
-        ensures { result ≡ excess_of self }
+    /// The excess as a set; no resources for any other reason. `AllocError` as of `unverified_excess`.
+    pub(crate) fn excess(&self) -> Result<ResourceSet, AllocError>
+        ensures { IfOk result (λ set. set ≡ excess_of self.now) }
     {
         match self {
-            Refusal::Overclaimed(excess) => excess.set(),
-            _ => ResourceSet::empty(),
+            Refusal::Unverified(reason) => unverified_excess(reason),
+            _ => Ok(ResourceSet::empty()),
         }
-    }
-}
-
-/// The status of an outcome, and the set that is told with it.
-pub(crate) fn told(outcome: Result<ResourceSet, OrMemory<Refusal>>) -> (u32, ResourceSet)
-    ensures { result ≡ (status_of outcome, told_set outcome) }
-{
-    match outcome {
-        Ok(set) => (status::OK, set),
-        Err(OrMemory::Refused(reason)) => (reason.status(), reason.excess()),
-        Err(OrMemory::Memory(_)) => (status::MEMORY, ResourceSet::empty()),
     }
 }

@@ -12,9 +12,8 @@ ghost use Rattle.pigyelund_c.specs.declared.refusal.Refusal.{Refusal};
 
 use crate::ask::answered;
 use crate::certificate::Certificate;
+use crate::outcome::tell_outcome;
 use crate::path::{counted, path_answered};
-use crate::refusal::told;
-use crate::tell::tell;
 use std::alloc::Global;
 
 /// The version of the calls: it grows where one is added, and no call that was released ever changes its meaning.
@@ -59,8 +58,7 @@ pub extern "C" fn pg_verify(
     let outcome = answered(
         alloc, issuer_as, issuer_ip, present, cert_as, cert_ip, encoding, mode,
     );
-    let (status, set) = told(outcome);
-    tell(alloc, status, &set, as_out, ip_out, as_len, ip_len)
+    tell_outcome(alloc, outcome, as_out, ip_out, as_len, ip_len)
 }
 
 /// Tells what certificates on a path leave of an anchor's set, the first verified by the anchor's and each other by
@@ -94,6 +92,5 @@ pub extern "C" fn pg_verify_path(
     let outcome = path_answered(alloc, anchor_as, anchor_ip, run, encoding, certificates);
     let (count, outcome) = counted(certificates, outcome);
     *verified = count;
-    let (status, set) = told(outcome);
-    tell(alloc, status, &set, as_out, ip_out, as_len, ip_len)
+    tell_outcome(alloc, outcome, as_out, ip_out, as_len, ip_len)
 }

@@ -1,4 +1,4 @@
-use Rattle.rpki_ip.specs.declared.family.AddressFamily.TheVariants.{Ipv4}
+use Rattle.rpki_base.specs.declared.family.AddressFamily.TheVariants.{Ipv4}
 use Rattle.pigyelund_c.proofs.CoverLemmas.{all_done, one_more}
 use Rattle.pigyelund_c.proofs.cover.v4_cover.Goals as goal
 

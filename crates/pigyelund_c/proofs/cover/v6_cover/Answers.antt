@@ -1,4 +1,4 @@
-use Rattle.rpki_ip.specs.declared.family.AddressFamily.TheVariants.{Ipv6}
+use Rattle.rpki_base.specs.declared.family.AddressFamily.TheVariants.{Ipv6}
 use Rattle.pigyelund_c.proofs.CoverLemmas.{all_done, one_more}
 use Rattle.pigyelund_c.proofs.cover.v6_cover.Goals as goal
 

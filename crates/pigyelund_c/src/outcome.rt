@@ -1,0 +1,47 @@
+//! What is told of what an issuer verifies.
+ghost use Rattle.std.specs.Prelude.{◌≡◌, IfOk};
+ghost use Rattle.pigyelund_c.specs.Sets.{IsTold};
+ghost use Rattle.pigyelund_c.specs.Statuses.{status_of, told_set};
+
+use crate::refusal::Refusal;
+use crate::status;
+use crate::tell::tell;
+use rpki_resources::OrMemory;
+use rpki_resources::repository::resources::ResourceSet;
+use std::alloc::{AllocError, Global};
+
+/// The status of an outcome, and the set that is told with it. `AllocError` where std refuses an owner of the excess.
+fn told(outcome: Result<ResourceSet, OrMemory<Refusal>>) -> Result<(u32, ResourceSet), AllocError>
+    ensures { IfOk result (λ pair. pair ≡ (status_of outcome, told_set outcome)) }
+{
+    match outcome {
+        Ok(set) => Ok((status::OK, set)),
+        Err(OrMemory::Refused(reason)) => {
+            let excess = reason.excess()?;
+            Ok((reason.status(), excess))
+        }
+        Err(OrMemory::Memory(_)) => Ok((status::MEMORY, ResourceSet::empty())),
+    }
+}
+
+/// Tells the status of an outcome, and its set or the excess.
+pub(crate) fn tell_outcome(
+    alloc: Global,
+    outcome: Result<ResourceSet, OrMemory<Refusal>>,
+    as_out: &mut [u8],
+    ip_out: &mut [u8],
+    as_len: &mut usize,
+    ip_len: &mut usize,
+) -> u32
+    ensures { IsTold (status_of outcome) (told_set outcome) as_out.old ip_out.old as_out.new
+        ip_out.new as_len.new ip_len.new result }
+{
+    match told(outcome) {
+        Ok((status, set)) => tell(alloc, status, &set, as_out, ip_out, as_len, ip_len),
+        Err(_) => {
+            *as_len = 0;
+            *ip_len = 0;
+            status::MEMORY
+        }
+    }
+}

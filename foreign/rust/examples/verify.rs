@@ -1,0 +1,27 @@
+//! Verifies the octets of a certificate's IP address blocks by those of its issuer, and prints what is left.
+use pigyelund::{verify, Encoding, Extensions, Octets, Overclaim, Refused, OK};
+
+fn main() {
+    // the issuer has 10.0.0.0/8; the certificate claims 10.0.0.0/8 and 12.0.0.0/8
+    let issuer = [0x30, 0x0c, 0x30, 0x0a, 4, 2, 0, 1, 0x30, 4, 3, 2, 0, 10];
+    let claim = [
+        0x30, 0x10, 0x30, 0x0e, 4, 2, 0, 1, 0x30, 8, 3, 2, 0, 10, 3, 2, 0, 12,
+    ];
+    let issuer = Octets {
+        asn: &[],
+        ip: &issuer,
+    };
+    let certificate = Extensions {
+        asn: None,
+        ip: Some(&claim),
+    };
+    for mode in [Overclaim::Refuse, Overclaim::Trim] {
+        let (status, told) = match verify(issuer, certificate, Encoding::Lenient, mode) {
+            Ok(set) => (OK, set),
+            Err(Refused { status, excess }) => (status, excess),
+        };
+        print!("mode {}: status {status}:", mode as u32);
+        told.ip.iter().for_each(|octet| print!(" {octet:02x}"));
+        println!();
+    }
+}

@@ -1,7 +1,7 @@
 //! Blocks, sets and resources that are written in DER, and read again from what was written: each is the same.
 ghost use Rattle.std.specs.Prelude.{◌≡◌, ◌≢◌, IfOk};
 ghost use Rattle.rpki_chain.specs.declared.choice.ResourcesChoice.TheVariants.{Missing};
-ghost use Rattle.rpki_ip.specs.declared.family.AddressFamily.TheVariants.{Ipv4};
+ghost use Rattle.rpki_base.specs.declared.family.AddressFamily.TheVariants.{Ipv4};
 ghost use Rattle.rpki_ipres.specs.Resources.{IsFamilyClaim, if_present};
 
 use rpki_der::{Cursor, put_header, tag};

@@ -3,12 +3,14 @@ use crate::print::{self, cut};
 use crate::sets::from_lists;
 use rpki_extensions::anchor::anchor_set;
 use rpki_extensions::encoding::Encoding;
-use rpki_extensions::extensions::Extensions;
+use rpki_extensions::extensions::{Claims, Extensions};
 use rpki_extensions::read;
-use rpki_extensions::write::{write_addresses, write_numbers};
+use rpki_extensions::write::{
+    write_address_claims, write_addresses, write_numbers, write_numbers_claim,
+};
 use rpki_resources::OrMemory;
 use rpki_resources::repository::resources::{Overclaim, ResourceSet};
-use std::alloc::Global;
+use std::alloc::{AllocError, Global};
 
 /// `read_as HEX`, and `read_canonical_as HEX`
 pub fn read_as(alloc: Global, hex: &str, encoding: Encoding) -> anyhow::Result<String> {
@@ -108,17 +110,57 @@ pub fn anchor_listed(alloc: Global, text: &str) -> anyhow::Result<String> {
 /// `written A ; B ; C`: the octets of both extensions.
 pub fn written(alloc: Global, lists: &str) -> anyhow::Result<String> {
     let set = from_lists(alloc, lists)?;
-    let mut text = String::new(alloc);
-    push_octets(alloc, &mut text, &write_numbers(alloc, &set)?)?;
-    text.push(' ')?;
-    push_octets(alloc, &mut text, &write_addresses(alloc, &set)?)?;
+    let text = octets_of(alloc, &set)?;
     Ok(text)
 }
 
-fn push_octets(alloc: Global, text: &mut String, octets: &Option<Vec<u8>>) -> anyhow::Result<()> {
-    match octets {
-        Some(octets) => text.push_str(&hex::encode(alloc, octets.as_slice())?)?,
-        None => text.push('-')?,
+fn octets_of(alloc: Global, set: &ResourceSet) -> Result<String, AllocError> {
+    let mut text = String::new(alloc);
+    push_octets(alloc, &mut text, &write_numbers(alloc, set))?;
+    text.push(' ')?;
+    push_octets(alloc, &mut text, &write_addresses(alloc, set))?;
+    Ok(text)
+}
+
+/// `rewritten refuse HEX HEX`: what a certificate claims, written again.
+pub fn rewritten(alloc: Global, text: &str) -> anyhow::Result<String> {
+    let certificate = Certificate::read(alloc, text)?;
+    match certificate.extensions().claims(alloc) {
+        Ok(claims) => {
+            let text = claimed(alloc, &claims)?;
+            Ok(text)
+        }
+        Err(OrMemory::Refused(reason)) => print::value(alloc, &reason),
+        Err(OrMemory::Memory(error)) => Err(error.into()),
     }
-    Ok(())
+}
+
+fn claimed(alloc: Global, claims: &Claims) -> Result<String, AllocError> {
+    let mut text = String::new(alloc);
+    push_octets(alloc, &mut text, &write_numbers_claim(alloc, &claims.asn))?;
+    text.push(' ')?;
+    push_octets(
+        alloc,
+        &mut text,
+        &write_address_claims(alloc, &claims.ipv4, &claims.ipv6),
+    )?;
+    Ok(text)
+}
+
+/// Appends the octets of an extension in hexadecimal, and `-` where it is absent.
+fn push_octets(
+    alloc: Global,
+    text: &mut String,
+    octets: &Result<Option<Vec<u8>>, AllocError>,
+) -> Result<(), AllocError> {
+    match octets {
+        Ok(Some(octets)) => push_hex(alloc, text, octets.as_slice()),
+        Ok(None) => text.push('-'),
+        Err(_) => Err(AllocError),
+    }
+}
+
+fn push_hex(alloc: Global, text: &mut String, octets: &[u8]) -> Result<(), AllocError> {
+    let hex = hex::encode(alloc, octets)?;
+    text.push_str(&hex)
 }

@@ -44,6 +44,7 @@ fn call(alloc: Global, line: &str) -> anyhow::Result<String> {
         "verified_octets" => certificates::verified_octets(alloc, operands),
         "anchor_set" => certificates::anchor_listed(alloc, operands),
         "written" => certificates::written(alloc, operands),
+        "rewritten" => certificates::rewritten(alloc, operands),
         "verified_path" => paths::verified_path(alloc, operands),
         "verified_below" => paths::verified_below(alloc, operands),
         "verified" => paths::verified(alloc, operands),

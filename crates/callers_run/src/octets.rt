@@ -1,5 +1,5 @@
 //! Sets and resources in DER.
-ghost use Rattle.rpki_ip.specs.declared.family.AddressFamily.TheVariants.{Ipv4};
+ghost use Rattle.rpki_base.specs.declared.family.AddressFamily.TheVariants.{Ipv4};
 ghost use Rattle.rpki_ipres.specs.Resources.{IsFamilyClaim};
 
 use crate::print::{self, cut};
@@ -36,18 +36,29 @@ pub fn resources_written_and_read(alloc: Global, list: &str) -> anyhow::Result<S
 /// `families_written_and_read A | B` of IPv4 and of IPv6.
 pub fn families_written_and_read(alloc: Global, lists: &str) -> anyhow::Result<String> {
     let (v4, v6) = cut(lists, '|');
-    let v4 = Ipv4Blocks::from_str(alloc, v4)?.to_ip_resources()?;
-    with_v6(alloc, &v4, v6)
+    let v4 = Ipv4Blocks::from_str(alloc, v4)?;
+    with_v4(alloc, &v4, v6)
+}
+
+fn with_v4(alloc: Global, v4: &Ipv4Blocks, list: &str) -> anyhow::Result<String> {
+    let v4 = v4.to_ip_resources()?;
+    with_v6(alloc, &v4, list)
 }
 
 fn with_v6(alloc: Global, v4: &IpResources, list: &str) -> anyhow::Result<String>
     requires { IsFamilyClaim Ipv4 v4.now }
 {
     let v6 = v6_claim(alloc, list)?;
+    of_families(alloc, v4, &v6)
+}
+
+fn of_families(alloc: Global, v4: &IpResources, v6: &IpResources) -> anyhow::Result<String>
+    requires { IsFamilyClaim Ipv4 v4.now }
+{
     if v4.is_missing() && v6.is_missing() {
         return print::text(alloc, "missing");
     }
-    let (v4, v6) = callers::octets::families_written_and_read(alloc, v4, &v6)?;
+    let (v4, v6) = callers::octets::families_written_and_read(alloc, v4, v6)?;
     print::families(alloc, &v4, &v6)
 }
 

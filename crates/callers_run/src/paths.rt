@@ -7,9 +7,9 @@ use crate::print::{self, cut};
 use crate::sets::from_lists;
 use callers::anchor::RefusedBelow;
 use callers::certificates::Overclaimed;
-use rpki_extensions::extensions::Extensions;
+use rpki_extensions::extensions::{Claims, Extensions};
 use rpki_resources::OrMemory;
-use rpki_resources::repository::resources::{AsStep, IpStep, ResourceSet};
+use rpki_resources::repository::resources::{AsStep, IpStep, Overclaim, ResourceSet};
 use std::alloc::{AllocError, Global};
 use std::fmt;
 
@@ -17,8 +17,13 @@ use std::fmt;
 pub fn verified_path(alloc: Global, operands: &str) -> anyhow::Result<String> {
     let (anchor, path) = cut(operands, '|');
     let anchor = from_lists(alloc, anchor)?;
+    left_by(alloc, &anchor, path)
+}
+
+fn left_by(alloc: Global, anchor: &ResourceSet, path: &str) -> anyhow::Result<String> {
     let certificates = path_of(alloc, path)?;
-    left_of(alloc, &anchor, &extensions_of(alloc, &certificates)?)
+    let certificates = extensions_of(alloc, &certificates)?;
+    left_of(alloc, anchor, &certificates)
 }
 
 fn left_of(
@@ -37,16 +42,21 @@ fn left_of(
 pub fn verified_below(alloc: Global, operands: &str) -> anyhow::Result<String> {
     let (anchor, path) = cut(operands, '|');
     let anchor = Certificate::read(alloc, anchor)?;
+    path_below(alloc, &anchor.extensions(), path)
+}
+
+fn path_below(alloc: Global, anchor: &Extensions<'_>, path: &str) -> anyhow::Result<String> {
     let certificates = path_of(alloc, path)?;
-    below(alloc, &anchor, &extensions_of(alloc, &certificates)?)
+    let certificates = extensions_of(alloc, &certificates)?;
+    below(alloc, anchor, &certificates)
 }
 
 fn below(
     alloc: Global,
-    anchor: &Certificate,
+    anchor: &Extensions<'_>,
     certificates: &[Extensions<'_>],
 ) -> anyhow::Result<String> {
-    match callers::anchor::verified_below(alloc, &anchor.extensions(), certificates) {
+    match callers::anchor::verified_below(alloc, anchor, certificates) {
         Ok(set) => print::value(alloc, &set),
         Err(OrMemory::Refused(RefusedBelow::Anchor(reason))) => print::value(alloc, &reason),
         Err(OrMemory::Refused(RefusedBelow::Certificate(refusal))) => print::value(alloc, &refusal),
@@ -142,7 +152,15 @@ fn push_claims(alloc: Global, steps: &mut Steps, certificate: &Extensions<'_>) -
         → All (λ step. IsWholeClaim step.claim) steps.new.ipv4.items) }
 {
     let claims = certificate.claims(alloc)?;
-    let mode = certificate.mode;
+    push_each(steps, claims, certificate.mode)?;
+    Ok(())
+}
+
+fn push_each(steps: &mut Steps, claims: Claims, mode: Overclaim) -> Result<(), AllocError>
+    requires { IsWholeClaim claims.ipv4 }
+    ensures { OnOk result (All (λ step. IsWholeClaim step.claim) steps.old.ipv4.items
+        → All (λ step. IsWholeClaim step.claim) steps.new.ipv4.items) }
+{
     let (asn, ipv4, ipv6) = (claims.asn, claims.ipv4, claims.ipv6);
     steps.asn.push(AsStep { claim: asn, mode })?;
     steps.ipv4.push(IpStep { claim: ipv4, mode })?;

@@ -58,18 +58,32 @@ pub fn covering(alloc: Global, operands: &str) -> anyhow::Result<String> {
     let (list, route) = cut(operands, '|');
     let route = route.parse::<FamilyPrefix>()?;
     let table = sorted(alloc, list)?;
-    joined(alloc, &cache::covering(alloc, &table, route)?)
+    covering_in(alloc, &table, route)
+}
+
+fn covering_in(
+    alloc: Global,
+    table: &[FamilyPrefix],
+    route: FamilyPrefix,
+) -> anyhow::Result<String> {
+    let prefixes = cache::covering(alloc, table, route)?;
+    joined(alloc, &prefixes)
 }
 
 /// The table of a list of prefixes.
 fn sorted(alloc: Global, list: &str) -> anyhow::Result<Vec<FamilyPrefix>> {
+    let prefixes = listed(alloc, list)?;
+    let table = cache::table(alloc, &prefixes)?;
+    Ok(table)
+}
+
+fn listed(alloc: Global, list: &str) -> anyhow::Result<Vec<FamilyPrefix>> {
     let mut prefixes = Vec::new(alloc);
     for text in list.split(',') {
         let prefix = text.trim().parse::<FamilyPrefix>()?;
         prefixes.push(prefix)?;
     }
-    let table = cache::table(alloc, &prefixes)?;
-    Ok(table)
+    Ok(prefixes)
 }
 
 fn joined(alloc: Global, prefixes: &[FamilyPrefix]) -> anyhow::Result<String> {

@@ -3,6 +3,7 @@ use crate::print::{self, cut};
 use crate::sets::from_lists;
 use roa_check::Validity;
 use roa_origin::OriginTable;
+use rpki_resources::repository::resources::ResourceSet;
 use rpki_resources::resources::addr::{MaxLenPrefix, Prefix};
 use rpki_resources::resources::asn::Asn;
 use rtr_payloads::PayloadTable;
@@ -54,16 +55,32 @@ fn entries<T: Entry>(alloc: Global, list: &str) -> anyhow::Result<Vec<T>> {
 pub fn by_list(alloc: Global, operands: &str) -> anyhow::Result<String> {
     let (list, route) = cut(operands, '|');
     let payloads = entries::<(MaxLenPrefix, Asn)>(alloc, list)?;
+    by_payloads(alloc, &payloads, route)
+}
+
+fn by_payloads(
+    alloc: Global,
+    payloads: &[(MaxLenPrefix, Asn)],
+    route: &str,
+) -> anyhow::Result<String> {
     let (route, asn) = <(Prefix, Asn)>::read(route)?;
-    print::text(alloc, name(callers::routes::by_list(route, asn, &payloads)))
+    print::text(alloc, name(callers::routes::by_list(route, asn, payloads)))
 }
 
 /// `by_table PAYLOAD, .. | ROUTE`
 pub fn by_table(alloc: Global, operands: &str) -> anyhow::Result<String> {
     let (list, route) = cut(operands, '|');
     let payloads = entries::<(MaxLenPrefix, Asn)>(alloc, list)?;
+    by_table_of(alloc, &payloads, route)
+}
+
+fn by_table_of(
+    alloc: Global,
+    payloads: &[(MaxLenPrefix, Asn)],
+    route: &str,
+) -> anyhow::Result<String> {
     let (route, asn) = <(Prefix, Asn)>::read(route)?;
-    let validity = callers::routes::by_table(alloc, route, asn, &payloads)?;
+    let validity = callers::routes::by_table(alloc, route, asn, payloads)?;
     print::text(alloc, name(validity))
 }
 
@@ -86,16 +103,25 @@ fn table(alloc: Global, list: &str) -> anyhow::Result<OriginTable> {
 pub fn count_invalid(alloc: Global, operands: &str) -> anyhow::Result<String> {
     let (list, routes) = cut(operands, '|');
     let table = table(alloc, list)?;
+    invalid_of(alloc, &table, routes)
+}
+
+fn invalid_of(alloc: Global, table: &OriginTable, routes: &str) -> anyhow::Result<String> {
     let routes = entries::<(Prefix, Asn)>(alloc, routes)?;
-    print::value(alloc, &callers::routes::count_invalid(&table, &routes))
+    print::value(alloc, &callers::routes::count_invalid(table, &routes))
 }
 
 /// `explanation PAYLOAD, .. | PREFIX`
 pub fn explanation(alloc: Global, operands: &str) -> anyhow::Result<String> {
     let (list, route) = cut(operands, '|');
     let table = table(alloc, list)?;
+    explained(alloc, &table, route)
+}
+
+fn explained(alloc: Global, table: &OriginTable, route: &str) -> anyhow::Result<String> {
     let route = route.parse::<Prefix>()?;
-    joined(alloc, &callers::routes::explanation(alloc, &table, route)?)
+    let payloads = callers::routes::explanation(alloc, table, route)?;
+    joined(alloc, &payloads)
 }
 
 fn joined(alloc: Global, payloads: &[(MaxLenPrefix, Asn)]) -> anyhow::Result<String> {
@@ -111,22 +137,54 @@ fn joined(alloc: Global, payloads: &[(MaxLenPrefix, Asn)]) -> anyhow::Result<Str
 pub fn excess(alloc: Global, operands: &str) -> anyhow::Result<String> {
     let (lists, prefixes) = cut(operands, '|');
     let resources = from_lists(alloc, lists)?;
+    excess_of(alloc, &resources, prefixes)
+}
+
+fn excess_of(alloc: Global, resources: &ResourceSet, prefixes: &str) -> anyhow::Result<String> {
     let entries = entries::<MaxLenPrefix>(alloc, prefixes)?;
-    print::option(alloc, &callers::routes::excess(&resources, &entries))
+    print::option(alloc, &callers::routes::excess(resources, &entries))
 }
 
 /// `changes PAYLOAD, .. | PAYLOAD, ..`: what a router is told so that it gets from the one table to the other.
 pub fn changes(alloc: Global, operands: &str) -> anyhow::Result<String> {
     let (sent, next) = cut(operands, '|');
     let sent = sent_table(alloc, sent)?;
-    told(alloc, &sent, next)
+    changes_from(alloc, &sent, next)
 }
 
-fn told(alloc: Global, sent: &PayloadTable, next: &str) -> anyhow::Result<String> {
+fn changes_from(alloc: Global, sent: &PayloadTable, next: &str) -> anyhow::Result<String> {
     let next = sent_table(alloc, next)?;
-    let changes = sent.changes_to(alloc, &next)?;
-    let announced = joined(alloc, changes.announced.as_slice())?;
-    let withdrawn = joined(alloc, changes.withdrawn.as_slice())?;
+    changes_between(alloc, sent, &next)
+}
+
+fn changes_between(
+    alloc: Global,
+    sent: &PayloadTable,
+    next: &PayloadTable,
+) -> anyhow::Result<String> {
+    let changes = sent.changes_to(alloc, next)?;
+    told(
+        alloc,
+        changes.announced.as_slice(),
+        changes.withdrawn.as_slice(),
+    )
+}
+
+fn told(
+    alloc: Global,
+    announced: &[(MaxLenPrefix, Asn)],
+    withdrawn: &[(MaxLenPrefix, Asn)],
+) -> anyhow::Result<String> {
+    let announced = joined(alloc, announced)?;
+    with_withdrawn(alloc, announced.as_str(), withdrawn)
+}
+
+fn with_withdrawn(
+    alloc: Global,
+    announced: &str,
+    withdrawn: &[(MaxLenPrefix, Asn)],
+) -> anyhow::Result<String> {
+    let withdrawn = joined(alloc, withdrawn)?;
     let text = format!(in alloc; "announced {announced} withdrawn {withdrawn}")?;
     Ok(text)
 }

@@ -149,8 +149,7 @@ def _or_reason(call: Callable[[str], str]) -> Callable[[str], str]:
     return answered
 
 
-def _written(text: str) -> str:
-    asn, v4, v6 = map(paths.claim_of, _triple(text))
+def _octets_of(asn: Claim, v4: Claim, v6: Claim) -> str:
     numbers = resources.written_as_claim(asn).hex() or "-"
     return f"{numbers} {resources.written_families(Families(v4, v6)).hex() or '-'}"
 
@@ -319,7 +318,8 @@ CALLERS: dict[str, Callable[[str], str]] = {
     "verified_path": _or_reason(_verified_path),
     "verified_below": _or_reason(_verified_below),
     "anchor_set": _or_reason(lambda text: print_triple(_anchor(Certificate(text)))),
-    "written": _written,
+    "written": lambda text: _octets_of(*map(paths.claim_of, _triple(text))),
+    "rewritten": _or_reason(lambda text: _octets_of(*Certificate(text).claims())),
     "verified": _verified,
     "v4_filter": lambda text: _filter(text, Family.V4),
     "v6_filter": lambda text: _filter(text, Family.V6),

@@ -3,7 +3,7 @@
 from collections.abc import Callable
 from typing import Any
 
-from . import asn, ip, lines, resources, sets, texts
+from . import asn, ip, lines, paths, resources, sets, texts
 from .faults import Fault
 from .sets import Set
 
@@ -174,6 +174,66 @@ def _difference_of_triples(text: str) -> str:
     return print_changes(other, one)
 
 
+OF_TRIPLES: dict[str, Callable[[Set, Set], Set]] = {
+    "union": sets.union,
+    "intersection": sets.intersection,
+    "added": sets.difference,
+    "copy": lambda left, right: left,
+    "claims": lambda left, right: left,
+}
+
+
+def _triple(question: str, text: str) -> str:
+    one, other = (read_triple(side) for side in texts.cut(text, "|"))
+    if question == "all":
+        return print_triple((asn.ALL, ip.ALL, ip.ALL))
+    if question == "changes":
+        return print_changes(other, one)
+    if question not in OF_TRIPLES:
+        return NO_COMMAND
+    asns, ipv4, ipv6 = map(OF_TRIPLES[question], one, other)
+    return print_triple((asns, ipv4, ipv6))
+
+
+KIND_OF_CLAIM = {"as": "as", "ip": "v6", "v4": "v4", "v6": "v6"}
+
+
+def _read_listed(kind: str, text: str) -> Set:
+    return asn.read_set(text) if kind == "as" else ip.read_either(text)
+
+
+def _issued(kind: str, text: str) -> str:
+    mode, listed = texts.cut(text, " ")
+    issuer, claim = (_read_listed(kind, part) for part in texts.cut(listed, "|"))
+    step = paths.Step(paths.claim_of(claim), mode == "trim")
+    try:
+        return lines.print_set(KIND_OF_CLAIM[kind], paths.left(issuer, [step]))
+    except paths.Refused as refused:
+        raise Fault(lines.overclaimed(KIND_OF_CLAIM[kind], refused.excess)) from None
+
+
+def _fault(kind: str, text: str) -> str:
+    excess = _read_listed(kind, text)
+    if not excess:
+        return "ok"
+    if kind == "ip":
+        return lines.print_set("v6", excess)
+    if kind == "v4" and not ip.is_whole(excess):
+        return "no whole addresses"
+    return lines.overclaimed(kind, excess)
+
+
+def _claim(question: str, text: str) -> str:
+    word, kind = texts.cut(question, "_") if "_" in question else ("", question)
+    if word == "issued" and kind in ("as", "ip"):
+        return _issued(kind, text)
+    if word == "fault" and kind in KIND_OF_CLAIM:
+        return _fault(kind, text)
+    if word in ("", "copy") and kind in ("as", "ip"):
+        return lines.print_set(KIND_OF_CLAIM[kind], _read_listed(kind, text))
+    return NO_COMMAND
+
+
 OPERATIONS: dict[str, Callable[[Set, Set], Set]] = {
     "union": sets.union,
     "intersection": sets.intersection,
@@ -204,6 +264,8 @@ def _has(question: str, kind: str, numbers: Set, text: str) -> str:
 
 
 def _of_set(question: str, kind: str, numbers: Set, right: str) -> str:
+    if question == "copy":
+        return lines.print_set(kind, numbers)
     if question == "octets":
         is_as = kind == "as"
         write = resources.written_as_blocks if is_as else resources.written_ip_set
@@ -227,14 +289,15 @@ def _set_question(question: str, kind: str, text: str) -> str:
         return "no such kind"
     if question == "all":
         return lines.print_set(kind, asn.ALL if kind == "as" else ip.ALL)
-    if question in ("build", "from_blocks"):
+    if question in ("build", "from_blocks", "from_vec"):
         return lines.print_set(kind, _made_of_blocks(question, kind, text))
     left, right = texts.cut(text, "|")
     return _of_set(question, kind, lines.read_set(kind, left), right)
 
 
 QUESTIONS = (
-    *("all", "build", "from_blocks", "octets", "count", "numbers", "has", "meets"),
+    *("all", "build", "from_blocks", "from_vec", "copy", "octets", "count", "numbers"),
+    *("has", "meets"),
     *OPERATIONS,
     *COMPARISONS,
 )
@@ -243,6 +306,8 @@ GROUPS: dict[str, Callable[[str, str], str]] = {
     "chain": _chain,
     "pair": _pair,
     "long": _long,
+    "claim": _claim,
+    "triple": _triple,
 }
 
 

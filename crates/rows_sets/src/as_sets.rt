@@ -1,4 +1,5 @@
 //! What sets of AS numbers answer.
+use crate::kept::kept;
 use crate::lists::Lists;
 use crate::question::{Operation, Question};
 use crate::small_sets::numbers;
@@ -7,6 +8,7 @@ use rpki_as::block::AsBlock;
 use rpki_as::blocks::AsBlocks;
 use rpki_as::builder::AsBlocksBuilder;
 use rpki_base::asn::Asn;
+use rpki_base::memory::OrMemory;
 use std::alloc::{AllocError, Allocator};
 use std::str::FromStr;
 
@@ -18,7 +20,9 @@ pub fn answer<A: Allocator + Copy>(
 ) -> Result<String<A>, AllocError> {
     match question {
         Question::All => print::made(alloc, AsBlocks::all(alloc)),
-        Question::Build | Question::FromBlocks => of_lists(alloc, question, operands),
+        Question::Build | Question::FromBlocks | Question::FromVec => {
+            of_lists(alloc, question, operands)
+        }
         _ => of_operands(alloc, question, operands),
     }
 }
@@ -43,7 +47,18 @@ fn of_blocks<A: Allocator + Copy>(
 ) -> Result<String<A>, AllocError> {
     match question {
         Question::Build => build(alloc, blocks, more),
+        Question::FromVec => from_vec(alloc, blocks.to_vec(alloc)),
         _ => print::made(alloc, AsBlocks::from_blocks(alloc, blocks)),
+    }
+}
+
+fn from_vec<A: Allocator + Copy>(
+    alloc: A,
+    blocks: Result<Vec<AsBlock, A>, AllocError>,
+) -> Result<String<A>, AllocError> {
+    match blocks {
+        Ok(blocks) => print::made(alloc, AsBlocks::from_vec(alloc, blocks)),
+        Err(error) => Err(error),
     }
 }
 
@@ -104,10 +119,35 @@ fn of_operands<A: Allocator + Copy>(
     question: Question,
     operands: &str,
 ) -> Result<String<A>, AllocError> {
-    let (left, right) = cut(operands, '|');
+    let (left, _) = cut(operands, '|');
     match AsBlocks::from_str(alloc, left) {
-        Ok(set) => of_set(alloc, question, &set, right),
+        Ok(set) => of_kept(alloc, question, &set, operands),
         Err(error) => print::refused(alloc, error),
+    }
+}
+
+/// What is answered of a set, whether or not memory was refused, where it has left the set.
+fn of_kept<A: Allocator + Copy>(
+    alloc: A,
+    question: Question,
+    set: &AsBlocks<A>,
+    operands: &str,
+) -> Result<String<A>, AllocError> {
+    let (left, right) = cut(operands, '|');
+    let found = of_set(alloc, question, set, right);
+    kept(alloc, found, is_list(alloc, set, left))
+}
+
+/// Whether a set is still the one that a list writes.
+fn is_list<A: Allocator + Copy>(
+    alloc: A,
+    set: &AsBlocks<A>,
+    list: &str,
+) -> Result<bool, AllocError> {
+    match AsBlocks::from_str(alloc, list) {
+        Ok(same) => Ok(*set == same),
+        Err(OrMemory::Refused(_)) => Ok(false),
+        Err(OrMemory::Memory(error)) => Err(error),
     }
 }
 
@@ -118,6 +158,7 @@ fn of_set<A: Allocator + Copy>(
     right: &str,
 ) -> Result<String<A>, AllocError> {
     match question {
+        Question::Copy => print::made(alloc, set.clone()),
         Question::Octets => octets(alloc, set),
         Question::Count => print::value(alloc, set.asn_count()),
         Question::Numbers => numbers(alloc, set.iter_asns()),
@@ -134,9 +175,21 @@ fn of_both<A: Allocator + Copy>(
     right: &str,
 ) -> Result<String<A>, AllocError> {
     match AsBlocks::from_str(alloc, right) {
-        Ok(other) => of_two(alloc, operation, set, &other),
+        Ok(other) => of_both_kept(alloc, operation, set, &other, right),
         Err(error) => print::refused(alloc, error),
     }
+}
+
+/// What comes of two sets, whether or not memory was refused, where it has left the second one too.
+fn of_both_kept<A: Allocator + Copy>(
+    alloc: A,
+    operation: Operation,
+    set: &AsBlocks<A>,
+    other: &AsBlocks<A>,
+    list: &str,
+) -> Result<String<A>, AllocError> {
+    let found = of_two(alloc, operation, set, other);
+    kept(alloc, found, is_list(alloc, other, list))
 }
 
 fn of_two<A: Allocator + Copy>(

@@ -1,4 +1,5 @@
 //! What sets of addresses of one family answer.
+use crate::kept::kept;
 use crate::lists::Lists;
 use crate::question::{Operation, Question};
 use answering::print::{self, cut};
@@ -21,7 +22,9 @@ pub fn answer<A: Allocator + Copy>(
 ) -> Result<String<A>, AllocError> {
     match question {
         Question::All => text(alloc, family, IpBlocks::all(alloc)),
-        Question::Build | Question::FromBlocks => of_lists(alloc, family, question, operands),
+        Question::Build | Question::FromBlocks | Question::FromVec => {
+            of_lists(alloc, family, question, operands)
+        }
         _ => of_operands(alloc, family, question, operands),
     }
 }
@@ -48,7 +51,19 @@ fn of_blocks<A: Allocator + Copy>(
 ) -> Result<String<A>, AllocError> {
     match question {
         Question::Build => build(alloc, family, blocks, more),
+        Question::FromVec => from_vec(alloc, family, blocks.to_vec(alloc)),
         _ => text(alloc, family, IpBlocks::from_blocks(alloc, blocks)),
+    }
+}
+
+fn from_vec<A: Allocator + Copy>(
+    alloc: A,
+    family: AddressFamily,
+    blocks: Result<Vec<IpBlock, A>, AllocError>,
+) -> Result<String<A>, AllocError> {
+    match blocks {
+        Ok(blocks) => text(alloc, family, IpBlocks::from_vec(alloc, blocks)),
+        Err(error) => Err(error),
     }
 }
 
@@ -112,10 +127,37 @@ fn of_operands<A: Allocator + Copy>(
     question: Question,
     operands: &str,
 ) -> Result<String<A>, AllocError> {
-    let (left, right) = cut(operands, '|');
+    let (left, _) = cut(operands, '|');
     match read(alloc, family, left) {
-        Ok(set) => of_set(alloc, family, question, &set, right),
+        Ok(set) => of_kept(alloc, family, question, &set, operands),
         Err(error) => print::refused(alloc, error),
+    }
+}
+
+/// What is answered of a set, whether or not memory was refused, where it has left the set.
+fn of_kept<A: Allocator + Copy>(
+    alloc: A,
+    family: AddressFamily,
+    question: Question,
+    set: &IpBlocks<A>,
+    operands: &str,
+) -> Result<String<A>, AllocError> {
+    let (left, right) = cut(operands, '|');
+    let found = of_set(alloc, family, question, set, right);
+    kept(alloc, found, is_list(alloc, family, set, left))
+}
+
+/// Whether a set is still the one that a list writes.
+fn is_list<A: Allocator + Copy>(
+    alloc: A,
+    family: AddressFamily,
+    set: &IpBlocks<A>,
+    list: &str,
+) -> Result<bool, AllocError> {
+    match read(alloc, family, list) {
+        Ok(same) => Ok(*set == same),
+        Err(OrMemory::Refused(_)) => Ok(false),
+        Err(OrMemory::Memory(error)) => Err(error),
     }
 }
 
@@ -127,6 +169,7 @@ fn of_set<A: Allocator + Copy>(
     right: &str,
 ) -> Result<String<A>, AllocError> {
     match question {
+        Question::Copy => text(alloc, family, set.clone()),
         Question::Octets => octets(alloc, set),
         Question::Has | Question::Meets => has(alloc, family, question, set, right),
         Question::Both(operation) => of_both(alloc, family, operation, set, right),
@@ -192,9 +235,22 @@ fn of_both<A: Allocator + Copy>(
     right: &str,
 ) -> Result<String<A>, AllocError> {
     match read(alloc, family, right) {
-        Ok(other) => of_two(alloc, family, operation, set, &other),
+        Ok(other) => of_both_kept(alloc, family, operation, set, &other, right),
         Err(error) => print::refused(alloc, error),
     }
+}
+
+/// What comes of two sets, whether or not memory was refused, where it has left the second one too.
+fn of_both_kept<A: Allocator + Copy>(
+    alloc: A,
+    family: AddressFamily,
+    operation: Operation,
+    set: &IpBlocks<A>,
+    other: &IpBlocks<A>,
+    list: &str,
+) -> Result<String<A>, AllocError> {
+    let found = of_two(alloc, family, operation, set, other);
+    kept(alloc, found, is_list(alloc, family, other, list))
 }
 
 fn of_two<A: Allocator + Copy>(

@@ -6,7 +6,9 @@
 
 mod as_sets;
 mod chains;
+mod claims;
 mod ip_sets;
+mod kept;
 mod line;
 mod lists;
 mod long;

@@ -9,6 +9,10 @@ pub enum Question {
     Build,
     /// The set of a slice of blocks.
     FromBlocks,
+    /// The set of a vector of blocks.
+    FromVec,
+    /// Its copy.
+    Copy,
     /// Its octets.
     Octets,
     /// How many numbers it has.
@@ -42,6 +46,8 @@ impl Question {
             "all" => Some(Question::All),
             "build" => Some(Question::Build),
             "from_blocks" => Some(Question::FromBlocks),
+            "from_vec" => Some(Question::FromVec),
+            "copy" => Some(Question::Copy),
             "octets" => Some(Question::Octets),
             "count" => Some(Question::Count),
             "numbers" => Some(Question::Numbers),

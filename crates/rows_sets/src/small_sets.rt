@@ -1,6 +1,7 @@
 //! What small sets of AS numbers answer.
 ghost use Rattle.std.specs.Iterator.{IsFinite};
 
+use crate::kept::kept;
 use crate::lists::Lists;
 use answering::names::order_word;
 use answering::print;
@@ -26,8 +27,31 @@ fn of_list<A: Allocator + Copy>(
     left: &[Asn],
     right: &[Asn],
 ) -> Result<String<A>, AllocError> {
-    let set = SmallAsnSet::from_list(alloc, left)?;
-    of_set(alloc, operation, &set, right)
+    match SmallAsnSet::from_list(alloc, left) {
+        Ok(set) => of_kept(alloc, operation, &set, left, right),
+        Err(error) => Err(error),
+    }
+}
+
+/// What is answered of a set, whether or not memory was refused, where it has left the set.
+fn of_kept<A: Allocator + Copy>(
+    alloc: A,
+    operation: &str,
+    set: &SmallAsnSet<A>,
+    list: &[Asn],
+    right: &[Asn],
+) -> Result<String<A>, AllocError> {
+    let found = of_set(alloc, operation, set, right);
+    kept(alloc, found, is_set_of(alloc, set, list))
+}
+
+fn is_set_of<A: Allocator + Copy>(
+    alloc: A,
+    set: &SmallAsnSet<A>,
+    list: &[Asn],
+) -> Result<bool, AllocError> {
+    let same = SmallAsnSet::from_list(alloc, list)?;
+    Ok(*set == same)
 }
 
 fn of_set<A: Allocator + Copy>(

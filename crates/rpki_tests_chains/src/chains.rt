@@ -1,4 +1,5 @@
 // Chains over blocks of AS numbers and over ranges of addresses.
+use crate::checks::holds;
 use refusing::{Plan, Refusing};
 use rpki_as::block::AsBlock;
 use rpki_base::asn::Asn;
@@ -30,60 +31,88 @@ fn is_none(chain: Chain<'_, AsBlock>) -> bool {
     chain.is_empty() && chain.len() == 0 && chain == Chain::empty()
 }
 
-fn copy_is_same(alloc: Global, owned: &OwnedChain<AsBlock>) -> Result<bool, AllocError> {
-    let copy = owned.clone(alloc)?;
-    Ok(copy == *owned && copy.as_chain() == owned.as_chain())
+fn no_owned_chain_is_none() -> bool {
+    let owned: OwnedChain<AsBlock> = OwnedChain::empty();
+    is_none(owned.as_chain())
 }
 
-fn owned_is_right(alloc: Global) -> Result<bool, AllocError> {
-    let owned = chain(alloc)?;
-    let is_told = is_chain(owned.as_chain());
-    Ok(is_told && copy_is_same(alloc, &owned) == Ok(true))
+fn no_shared_chain_is_none() -> bool {
+    let shared: SharedChain<AsBlock> = SharedChain::empty();
+    is_none(shared.as_chain())
 }
 
-fn is_shared<A: Allocator>(shared: &SharedChain<AsBlock, A>) -> Result<bool, AllocError> {
-    let other = shared.clone()?;
-    Ok(*shared == other)
+fn is_same(copy: &OwnedChain<AsBlock>, owned: &OwnedChain<AsBlock>) -> bool {
+    *copy == *owned && copy.as_chain() == owned.as_chain()
+}
+
+fn copy_is_same(alloc: Global, owned: &OwnedChain<AsBlock>) -> bool {
+    match owned.clone(alloc) {
+        Ok(copy) => is_same(&copy, owned),
+        Err(_) => false,
+    }
+}
+
+fn owned_is_right(alloc: Global) -> bool {
+    match chain(alloc) {
+        Ok(owned) => is_chain(owned.as_chain()) && copy_is_same(alloc, &owned),
+        Err(_) => false,
+    }
+}
+
+fn is_shared<A: Allocator>(shared: &SharedChain<AsBlock, A>) -> bool {
+    match shared.clone() {
+        Ok(other) => *shared == other,
+        Err(_) => false,
+    }
+}
+
+/// Whether a chain is another than a shared one, and of the numbers 1 to 8.
+fn is_other(joined: &SharedChain<AsBlock>, shared: &SharedChain<AsBlock>) -> bool {
+    *joined != *shared && joined.as_chain().as_slice() == [block(1, 8)].as_slice()
 }
 
 /// Whether the chain of other blocks differs from a shared one.
-fn differs(alloc: Global, shared: &SharedChain<AsBlock>) -> Result<bool, AllocError> {
-    let joined = SharedChain::from_blocks(alloc, &[block(5, 8), block(1, 4)])?;
-    Ok(joined != *shared && joined.as_chain().as_slice() == [block(1, 8)].as_slice())
-}
-
-fn shared(alloc: Global) -> Result<SharedChain<AsBlock>, AllocError> {
-    SharedChain::from_owned(alloc, chain(alloc)?)
+fn differs(alloc: Global, shared: &SharedChain<AsBlock>) -> bool {
+    match SharedChain::from_blocks(alloc, &[block(5, 8), block(1, 4)]) {
+        Ok(joined) => is_other(&joined, shared),
+        Err(_) => false,
+    }
 }
 
 fn is_right(alloc: Global, shared: &SharedChain<AsBlock>) -> bool {
-    let is_told = is_chain(shared.as_chain());
-    is_told && is_shared(shared) == Ok(true) && differs(alloc, shared) == Ok(true)
+    is_chain(shared.as_chain()) && is_shared(shared) && differs(alloc, shared)
 }
 
-fn shared_is_right(alloc: Global) -> bool {
-    match shared(alloc) {
+fn owned_is_shared(alloc: Global, owned: OwnedChain<AsBlock>) -> bool {
+    match SharedChain::from_owned(alloc, owned) {
         Ok(shared) => is_right(alloc, &shared),
         Err(_) => false,
     }
 }
 
+fn shared_is_right(alloc: Global) -> bool {
+    match chain(alloc) {
+        Ok(owned) => owned_is_shared(alloc, owned),
+        Err(_) => false,
+    }
+}
+
+/// Whether a chain is that of the number 7.
+fn is_seven(chain: Chain<'_, AsBlock>) -> bool {
+    chain.as_slice() == [block(7, 7)].as_slice()
+}
+
 /// Whether the vector of one block is its chain.
-fn one_is_kept(alloc: Global) -> Result<bool, AllocError> {
-    let one = Vec::from_array(alloc, [AsBlock::Id(Asn::from_u32(7))])?;
-    let one = OwnedChain::from_vec_unchecked(one);
-    Ok(one.as_chain().as_slice() == [block(7, 7)].as_slice())
+fn one_is_kept(alloc: Global) -> bool {
+    match Vec::from_array(alloc, [AsBlock::Id(Asn::from_u32(7))]) {
+        Ok(one) => is_seven(OwnedChain::from_vec_unchecked(one).as_chain()),
+        Err(_) => false,
+    }
 }
 
 fn none_is_kept(alloc: Global) -> bool {
     let none: OwnedChain<AsBlock> = OwnedChain::from_vec_unchecked(Vec::new(alloc));
     none.as_chain().is_empty()
-}
-
-fn empty_is_none() -> bool {
-    let owned: OwnedChain<AsBlock> = OwnedChain::empty();
-    let shared: SharedChain<AsBlock> = SharedChain::empty();
-    is_none(owned.as_chain()) && is_none(shared.as_chain())
 }
 
 /// The range of the addresses from the lesser to the greater.
@@ -92,20 +121,27 @@ fn range(one: u128, other: u128) -> AddressRange {
     <AddressRange as Block>::new(Addr::from_bits(min), Addr::from_bits(max))
 }
 
-fn ranges_are_joined(alloc: Global) -> Result<bool, AllocError> {
-    let ranges = [range(5, u128::MAX), range(1, 2), range(0, 4)];
-    let chain = OwnedChain::from_blocks(alloc, &ranges)?;
-    Ok(chain.as_chain().as_slice() == [range(0, u128::MAX)].as_slice())
+/// Whether a chain is that of all addresses.
+fn is_whole(chain: Chain<'_, AddressRange>) -> bool {
+    chain.as_slice() == [range(0, u128::MAX)].as_slice()
+}
+
+fn ranges_are_joined(alloc: Global) -> bool {
+    match OwnedChain::from_blocks(alloc, &[range(5, u128::MAX), range(1, 2), range(0, 4)]) {
+        Ok(joined) => is_whole(joined.as_chain()),
+        Err(_) => false,
+    }
 }
 
 #[test]
 fn chains(rt: HostRuntime) {
-    assert!(rt; empty_is_none());
-    assert!(rt; none_is_kept(rt.alloc()));
-    assert!(rt; one_is_kept(rt.alloc()) == Ok(true));
-    assert!(rt; owned_is_right(rt.alloc()) == Ok(true));
-    assert!(rt; shared_is_right(rt.alloc()));
-    assert!(rt; ranges_are_joined(rt.alloc()) == Ok(true));
+    holds(&rt, no_owned_chain_is_none());
+    holds(&rt, no_shared_chain_is_none());
+    holds(&rt, none_is_kept(rt.alloc()));
+    holds(&rt, one_is_kept(rt.alloc()));
+    holds(&rt, owned_is_right(rt.alloc()));
+    holds(&rt, shared_is_right(rt.alloc()));
+    holds(&rt, ranges_are_joined(rt.alloc()));
 }
 
 // ---- calls that take no memory
@@ -115,50 +151,69 @@ fn is_trimmed(refusing: &Refusing, own: Chain<'_, AsBlock>, other: Chain<'_, AsB
     own.trim(refusing, other).is_ok() && own.is_encompassed(other)
 }
 
-/// Whether the chain lies in the chain of the numbers 0 to 17 and 19 to 50.
-fn lies_within(alloc: Global, refusing: &Refusing) -> Result<bool, AllocError> {
-    let own = chain(alloc)?;
-    let other = OwnedChain::from_blocks(alloc, &[block(0, 17), block(19, 50)])?;
-    Ok(is_trimmed(refusing, own.as_chain(), other.as_chain()))
+/// Whether a chain lies in the chain of the numbers 0 to 17 and 19 to 50.
+fn lies_in_other(alloc: Global, refusing: &Refusing, own: Chain<'_, AsBlock>) -> bool {
+    match OwnedChain::from_blocks(alloc, &[block(0, 17), block(19, 50)]) {
+        Ok(other) => is_trimmed(refusing, own, other.as_chain()),
+        Err(_) => false,
+    }
+}
+
+fn lies_within(alloc: Global, refusing: &Refusing) -> bool {
+    match chain(alloc) {
+        Ok(own) => lies_in_other(alloc, refusing, own.as_chain()),
+        Err(_) => false,
+    }
 }
 
 #[test]
 fn a_trim_that_is_ok_takes_no_memory(rt: HostRuntime) {
     let refusing = Refusing::new(rt.alloc(), Plan::RefuseAll);
-    assert!(rt; lies_within(rt.alloc(), &refusing) == Ok(true));
-    assert!(rt; refusing.asked() == 0);
+    holds(&rt, lies_within(rt.alloc(), &refusing));
+    holds(&rt, refusing.asked() == 0);
 }
 
-/// Whether a chain is made of blocks with no request beyond the one for the blocks.
-fn is_made_in_place(refusing: &Refusing) -> Result<bool, AllocError> {
-    let blocks = Vec::from_array(refusing, [block(23, 48), block(1, 2), block(3, 4)])?;
+/// Whether a chain is made of blocks with no request.
+fn is_made_of(refusing: &Refusing, blocks: Vec<AsBlock, &Refusing>) -> bool {
     let asked = refusing.asked();
     let chain = OwnedChain::from_vec(blocks);
-    Ok(is_chain(chain.as_chain()) && refusing.asked() == asked)
+    is_chain(chain.as_chain()) && refusing.asked() == asked
+}
+
+fn is_made_in_place(refusing: &Refusing) -> bool {
+    match Vec::from_array(refusing, [block(23, 48), block(1, 2), block(3, 4)]) {
+        Ok(blocks) => is_made_of(refusing, blocks),
+        Err(_) => false,
+    }
 }
 
 #[test]
 fn a_chain_is_made_in_the_memory_of_its_blocks(rt: HostRuntime) {
     let refusing = Refusing::new(rt.alloc(), Plan::RefuseNone);
-    assert!(rt; is_made_in_place(&refusing) == Ok(true));
+    holds(&rt, is_made_in_place(&refusing));
 }
 
-fn shares_nothing(refusing: &Refusing) -> Result<bool, AllocError> {
-    let none: OwnedChain<AsBlock, &Refusing> = OwnedChain::empty();
-    is_shared(&SharedChain::from_owned(refusing, none)?)
+fn shares_nothing(refusing: &Refusing) -> bool {
+    match SharedChain::<AsBlock, &Refusing>::from_owned(refusing, OwnedChain::empty()) {
+        Ok(shared) => is_shared(&shared),
+        Err(_) => false,
+    }
 }
 
 #[test]
 fn sharing_the_empty_chain_takes_no_memory(rt: HostRuntime) {
     let refusing = Refusing::new(rt.alloc(), Plan::RefuseAll);
-    assert!(rt; shares_nothing(&refusing) == Ok(true));
-    assert!(rt; refusing.asked() == 0);
+    holds(&rt, shares_nothing(&refusing));
+    holds(&rt, refusing.asked() == 0);
+}
+
+fn is_refused(refusing: &Refusing) -> bool {
+    SharedChain::from_blocks(refusing, &[block(1, 4)]).is_err()
 }
 
 #[test]
 fn a_refused_chain_asks_once(rt: HostRuntime) {
     let refusing = Refusing::new(rt.alloc(), Plan::RefuseAll);
-    let shared = SharedChain::from_blocks(&refusing, &[block(1, 4)]);
-    assert!(rt; shared.is_err());
-    assert!(rt; refusing.asked() == 1);
+    holds(&rt, is_refused(&refusing));
+    holds(&rt, refusing.asked() == 1);
 }

@@ -1,7 +1,8 @@
 // Small sets of AS numbers.
 ghost use Rattle.std.specs.Iterator.{IsFinite};
 
-use probing::{hash_of, holds_where_refused};
+use crate::checks::holds;
+use probing::hash_of;
 use refusing::{Plan, Refusing};
 use rpki_base::asn::Asn;
 use rpki_base::small_set::SmallAsnSet;
@@ -59,21 +60,31 @@ fn stand_so<A: Allocator>(set: &SmallAsnSet<A>, none: &SmallAsnSet<A>) -> bool {
     sizes(set, none) == [3, 3, 3, 3, 0] && *none < *set && *none != *set
 }
 
-fn are_right<A: Allocator + Copy>(alloc: A, set: &SmallAsnSet<A>) -> bool {
-    let none = SmallAsnSet::from_vec_unchecked(Vec::new(alloc));
-    is_three(set) && is_none(&none) && stand_so(set, &none)
+fn are_right<A: Allocator>(set: &SmallAsnSet<A>, none: &SmallAsnSet<A>) -> bool {
+    is_three(set) && is_none(none) && stand_so(set, none)
 }
 
-fn asks_nothing(refusing: &Refusing) -> Result<bool, AllocError> {
-    let set = three(refusing)?;
+fn is_right<'a>(refusing: &'a Refusing, set: &SmallAsnSet<&'a Refusing>) -> bool {
+    let none = SmallAsnSet::from_vec_unchecked(Vec::new(refusing));
+    are_right(set, &none)
+}
+
+fn takes_nothing<'a>(refusing: &'a Refusing, set: &SmallAsnSet<&'a Refusing>) -> bool {
     let asked = refusing.asked();
-    Ok(are_right(refusing, &set) && asked > 0 && refusing.asked() == asked)
+    is_right(refusing, set) && asked > 0 && refusing.asked() == asked
+}
+
+fn asks_nothing(refusing: &Refusing) -> bool {
+    match three(refusing) {
+        Ok(set) => takes_nothing(refusing, &set),
+        Err(_) => false,
+    }
 }
 
 #[test]
 fn calls_without_memory(rt: HostRuntime) {
     let refusing = Refusing::new(rt.alloc(), Plan::RefuseNone);
-    assert!(rt; asks_nothing(&refusing) == Ok(true));
+    holds(&rt, asks_nothing(&refusing));
 }
 
 fn is_same(one: &SmallAsnSet, other: &SmallAsnSet) -> bool {
@@ -81,32 +92,22 @@ fn is_same(one: &SmallAsnSet, other: &SmallAsnSet) -> bool {
 }
 
 /// Whether a set equals the one of the same numbers without repeats.
-fn are_same(alloc: Global) -> Result<bool, AllocError> {
-    let set = three(alloc)?;
+fn is_same_without_repeats(alloc: Global, set: &SmallAsnSet) -> bool {
     let asns = [Asn::from_u32(1), Asn::from_u32(2), Asn::from_u32(3)];
-    let other = SmallAsnSet::from_list(alloc, &asns)?;
-    Ok(is_same(&set, &other))
+    match SmallAsnSet::from_list(alloc, &asns) {
+        Ok(other) => is_same(set, &other),
+        Err(_) => false,
+    }
+}
+
+fn are_same(alloc: Global) -> bool {
+    match three(alloc) {
+        Ok(set) => is_same_without_repeats(alloc, &set),
+        Err(_) => false,
+    }
 }
 
 #[test]
 fn equal_sets_have_equal_hashes(rt: HostRuntime) {
-    assert!(rt; are_same(rt.alloc()) == Ok(true));
-}
-
-fn copy_is_same<A: Allocator + Copy>(alloc: A, set: &SmallAsnSet<A>) -> Result<bool, AllocError> {
-    let copy = set.clone(alloc)?;
-    Ok(copy == *set)
-}
-
-/// Whether the copy of a set is the same; the set stands, whatever comes of the copy.
-fn copies<A: Allocator + Copy>(alloc: A) -> Result<bool, AllocError> {
-    let set = three(alloc)?;
-    let is_same = copy_is_same(alloc, &set);
-    if is_three(&set) { is_same } else { Ok(false) }
-}
-
-#[test]
-fn a_set_is_copied(rt: HostRuntime) {
-    let is_copied = holds_where_refused(rt.alloc(), |refusing: &Refusing| copies(refusing));
-    assert!(rt; is_copied);
+    holds(&rt, are_same(rt.alloc()));
 }

@@ -8,7 +8,7 @@ use rpki_ip::range::AddressRange;
 use rpki_ipres::block::IpBlock;
 use rpki_ipres::blocks::IpBlocks;
 use rpki_ipres::family::IpBlocksForFamily;
-use std::alloc::{AllocError, Allocator, Global};
+use std::alloc::{AllocError, Global};
 use std::str::FromStr;
 
 fn copy_is_same(set: &IpBlocks) -> bool {
@@ -164,50 +164,4 @@ fn set_has_ranges(alloc: Global) -> bool {
 #[test]
 fn ranges_in_a_set(rt: HostRuntime) {
     holds(&rt, set_has_ranges(rt.alloc()));
-}
-
-// ---- operands stay as they were, whether or not the operation was refused memory
-
-/// The blocks of two sets.
-fn operands() -> ([IpBlock; 2], [IpBlock; 2]) {
-    ([block(1, 9), block(20, 30)], [block(5, 22), block(40, 40)])
-}
-
-fn gives<A: Allocator + Copy>(
-    alloc: A,
-    operation: u32,
-    own: &IpBlocks<A>,
-    other: &IpBlocks<A>,
-) -> Result<IpBlocks<A>, AllocError> {
-    match operation {
-        0 => own.union(alloc, other),
-        1 => own.intersection(alloc, other),
-        2 => own.difference(alloc, other),
-        _ => own.clone(),
-    }
-}
-
-fn are_operands<A: Allocator>(own: &IpBlocks<A>, other: &IpBlocks<A>) -> bool {
-    let (ours, others) = operands();
-    own.iter().as_slice() == ours.as_slice() && other.iter().as_slice() == others.as_slice()
-}
-
-fn leaves<A: Allocator + Copy>(
-    alloc: A,
-    operation: u32,
-    own: &IpBlocks<A>,
-    other: &IpBlocks<A>,
-) -> Result<bool, AllocError> {
-    match gives(alloc, operation, own, other) {
-        Err(error) if are_operands(own, other) => Err(error),
-        made => Ok(made.is_ok() && are_operands(own, other)),
-    }
-}
-
-/// Whether an operation leaves both sets, whatever comes of it.
-pub fn leaves_operands<A: Allocator + Copy>(alloc: A, operation: u32) -> Result<bool, AllocError> {
-    let (ours, others) = operands();
-    let own = IpBlocks::from_blocks(alloc, &ours)?;
-    let other = IpBlocks::from_blocks(alloc, &others)?;
-    leaves(alloc, operation, &own, &other)
 }

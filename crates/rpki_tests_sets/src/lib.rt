@@ -1,5 +1,5 @@
 //! What no clause says of lists and sets of resources, and what no line of the program `rows_sets` can say of them: iterators
-//! to their end, operands after a refusal, copies, and sets of all and of no numbers.
+//! to their end, copies, and sets of all and of no numbers.
 #![tactic(auto)]
 
 #[cfg(test)]

@@ -1,6 +1,6 @@
 // Runs where each request for memory is refused in turn.
 use crate::checks::holds;
-use crate::{as_sets, family_sets, ip_sets};
+use crate::family_sets;
 use probing::holds_where_refused;
 use refusing::Refusing;
 use std::alloc::{AllocError, Global};
@@ -8,10 +8,6 @@ use std::alloc::{AllocError, Global};
 /// What is run.
 #[derive(Clone, Copy)]
 enum Case {
-    /// An operation on two sets of AS numbers.
-    AsOperation(u32),
-    /// An operation on two sets of addresses.
-    IpOperation(u32),
     V4Set,
     V6Set,
     V4Copy,
@@ -21,8 +17,6 @@ enum Case {
 /// Whether a run does what it should.
 fn holds_so(case: Case, refusing: &Refusing) -> Result<bool, AllocError> {
     match case {
-        Case::AsOperation(operation) => as_sets::leaves_operands(refusing, operation),
-        Case::IpOperation(operation) => ip_sets::leaves_operands(refusing, operation),
         Case::V4Set => family_sets::makes_v4_set(refusing),
         Case::V6Set => family_sets::makes_v6_set(refusing),
         Case::V4Copy => family_sets::copies_v4_set(refusing),
@@ -40,13 +34,5 @@ const CASES: [Case; 4] = [Case::V4Set, Case::V6Set, Case::V4Copy, Case::V6Copy];
 fn sets_are_made_and_copied(rt: HostRuntime) {
     for case in &CASES {
         holds(&rt, is_right(rt.alloc(), *case));
-    }
-}
-
-#[test]
-fn operands_stay(rt: HostRuntime) {
-    for operation in 0..4 {
-        holds(&rt, is_right(rt.alloc(), Case::AsOperation(operation)));
-        holds(&rt, is_right(rt.alloc(), Case::IpOperation(operation)));
     }
 }

@@ -1,8 +1,9 @@
 -- The bits of a prefix, as octets and as a number.
-use Rattle.std.proofs.Common.{◌≡◌, ℕ, zero, suc, ◌+◌, ◌-◌, ◌*◌, ◌/◌, ◌%◌, ◌^◌, ◌<◌, ◌≤◌, List, [], ◌∷◌, length, get_or, take, refl, sym, ap, ◌∙◌, arith}
-use Rattle.std.specs.Int.{bytes_high_first, byte_at, to_be_bytes, w128}
+use Rattle.std.proofs.Common.{◌≡◌, ℕ, zero, suc, ◌+◌, ◌-◌, ◌*◌, ◌/◌, ◌%◌, ◌^◌, ◌<◌, ◌≤◌, List, [], ◌∷◌, ◌++◌, length, get_or, take, drop, replicate, refl, sym, ap, ◌∙◌, arith}
+use Rattle.std.specs.Int.{bytes_high_first, byte_at, from_be_bytes, to_be_bytes, w128}
 use Rattle.std.proofs.lemmas.Nat.{pow-add, pow_pos, mod_low, shl-shr, shr-shr, shr_split, shr_below, shl_below, div-add-mod'}
-use Rattle.std.proofs.lemmas.List.{length-take}
+use Rattle.std.proofs.lemmas.List.{drop-replicate, length-take}
+use borrow.Rule.Slice.PartMut.{put_mid}
 use Rattle.std.proofs.Math.Nat.{div-div-eq-div-mul, pow-suc}
 use Rattle.rpki_addr.specs.Prefixes.{PrefixValue, IsPrefix}
 use Rattle.rpki_der.specs.Der.{IsBytes, Bits, IsBits, big_endian, big_endian_after}
@@ -11,18 +12,8 @@ use Rattle.rpki_ip.specs.PrefixDer.{SaysPrefix, prefix_bits, octet_count}
 
 -- ---- the number that octets spell
 
--- one octet more, from any number on
-more_after : (n : ℕ) (xs : List ℕ) (i : ℕ) → i < length xs → big_endian_after n (take (suc i) xs) ≡ big_endian_after n (take i xs) * 256 + get_or xs i 0
-more_after n [] i lt = absurd (omega arith)
-more_after n (x ∷ xs) zero lt = refl
-more_after n (x ∷ xs) (suc i) lt = more_after (n * 256 + x) xs i (omega arith)
-
--- one octet more
-pub big_endian_more : (xs : List ℕ) (i : ℕ) → i < length xs → big_endian (take (i + 1) xs) ≡ big_endian (take i xs) * 256 + get_or xs i 0
-big_endian_more xs i lt = let e : i + 1 ≡ suc i = omega arith in rw e (more_after 0 xs i lt)
-
 -- an octet is eight bits
-pub octet_more : (i : ℕ) → 2 ^ (8 * (i + 1)) ≡ 2 ^ (8 * i) * 256
+octet_more : (i : ℕ) → 2 ^ (8 * (i + 1)) ≡ 2 ^ (8 * i) * 256
 octet_more i = let e : 8 * (i + 1) ≡ 8 * i + 8 = omega arith in ap (λ k. 2 ^ k) e ∙ pow-add 2 (8 * i) 8
 
 -- the same for all octets
@@ -140,3 +131,37 @@ said_prefix limit b p le fits s = record {
       let m : big_endian b.octets / 2 ^ b.unused * 2 ^ (128 - p.len) < 2 ^ (p.len + (128 - p.len)) = shl_below (big_endian b.octets / 2 ^ b.unused) p.len (128 - p.len) k in
       let w : p.len + (128 - p.len) ≡ 128 = omega (arith, s.short, le) in rw s.first (rw w at m));
 }
+
+-- ---- octets with zeros behind them
+
+-- sixteen octets that begin with these
+abbrev padded : List ℕ → List ℕ
+padded octets = octets ++ replicate (16 - length octets) 0
+
+-- each zero makes the number an octet longer
+from_be_bytes-padded : (octets : List ℕ) → length octets ≤ 16 → from_be_bytes w128 (padded octets) ≡ big_endian octets * 2 ^ (128 - 8 * length octets)
+from_be_bytes-padded [] le = refl
+from_be_bytes-padded (a ∷ []) le = omega arith
+from_be_bytes-padded (a ∷ b ∷ []) le = omega arith
+from_be_bytes-padded (a ∷ b ∷ c ∷ []) le = omega arith
+from_be_bytes-padded (a ∷ b ∷ c ∷ d ∷ []) le = omega arith
+from_be_bytes-padded (a ∷ b ∷ c ∷ d ∷ e ∷ []) le = omega arith
+from_be_bytes-padded (a ∷ b ∷ c ∷ d ∷ e ∷ f ∷ []) le = omega arith
+from_be_bytes-padded (a ∷ b ∷ c ∷ d ∷ e ∷ f ∷ g ∷ []) le = omega arith
+from_be_bytes-padded (a ∷ b ∷ c ∷ d ∷ e ∷ f ∷ g ∷ h ∷ []) le = omega arith
+from_be_bytes-padded (a ∷ b ∷ c ∷ d ∷ e ∷ f ∷ g ∷ h ∷ i ∷ []) le = omega arith
+from_be_bytes-padded (a ∷ b ∷ c ∷ d ∷ e ∷ f ∷ g ∷ h ∷ i ∷ j ∷ []) le = omega arith
+from_be_bytes-padded (a ∷ b ∷ c ∷ d ∷ e ∷ f ∷ g ∷ h ∷ i ∷ j ∷ k ∷ []) le = omega arith
+from_be_bytes-padded (a ∷ b ∷ c ∷ d ∷ e ∷ f ∷ g ∷ h ∷ i ∷ j ∷ k ∷ l ∷ []) le = omega arith
+from_be_bytes-padded (a ∷ b ∷ c ∷ d ∷ e ∷ f ∷ g ∷ h ∷ i ∷ j ∷ k ∷ l ∷ m ∷ []) le = omega arith
+from_be_bytes-padded (a ∷ b ∷ c ∷ d ∷ e ∷ f ∷ g ∷ h ∷ i ∷ j ∷ k ∷ l ∷ m ∷ n ∷ []) le = omega arith
+from_be_bytes-padded (a ∷ b ∷ c ∷ d ∷ e ∷ f ∷ g ∷ h ∷ i ∷ j ∷ k ∷ l ∷ m ∷ n ∷ o ∷ []) le = omega arith
+from_be_bytes-padded (a ∷ b ∷ c ∷ d ∷ e ∷ f ∷ g ∷ h ∷ i ∷ j ∷ k ∷ l ∷ m ∷ n ∷ o ∷ p ∷ []) le = omega arith
+from_be_bytes-padded (a ∷ b ∷ c ∷ d ∷ e ∷ f ∷ g ∷ h ∷ i ∷ j ∷ k ∷ l ∷ m ∷ n ∷ o ∷ p ∷ q ∷ octets) le = absurd (omega arith)
+
+-- sixteen zeros, with octets written over the first of them
+pub number_before : (octets written : List ℕ) → length octets ≤ 16 → written ≡ octets
+    → from_be_bytes w128 (put_mid 0 (length octets) (0 ∷ 0 ∷ 0 ∷ 0 ∷ 0 ∷ 0 ∷ 0 ∷ 0 ∷ 0 ∷ 0 ∷ 0 ∷ 0 ∷ 0 ∷ 0 ∷ 0 ∷ 0 ∷ []) written) ≡ big_endian octets * 2 ^ (128 - 8 * length octets)
+number_before octets written le e =
+    let behind : drop (length octets) (replicate {A = ℕ} 16 0) ≡ replicate (16 - length octets) 0 = drop-replicate (length octets) 16 0 in
+    rw (e, behind) (from_be_bytes-padded octets le)

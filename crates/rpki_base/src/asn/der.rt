@@ -16,6 +16,7 @@ impl Asn {
     /// Takes an AS number.
     ///
     /// The faults are those of [`Cursor::take_u32`].
+    #[inline]
     pub fn take_from(cursor: &mut Cursor<'_>) -> Result<Asn, DerError>
         ensures reads { ReadsValue IsAsNumber (λ n. n) cursor.old cursor.new result }
         ensures exact { Takes (λ n. n) cursor.old cursor.new result as_number_at }

@@ -219,7 +219,7 @@ fn is_longer(content: &[u8], limit: u8) -> bool
 {
     match content {
         [unused, octets @ ..] => {
-            *unused <= 7 && 8 * octets.len() as u128 > limit as u128 + *unused as u128
+            *unused <= 7 && octets.len() > (limit as usize + *unused as usize) / 8
         }
         [] => false,
     }
@@ -230,13 +230,7 @@ fn beginning_with(octets: &[u8]) -> Addr
     requires { length octets.now ≤ 16 }
     ensures { result ≡ big_endian octets.now * 2 ^ (128 - 8 * length octets.now) }
 {
-    let mut bits: u128 = 0;
-    for octet in octets {
-        bits = bits * 256 + *octet as u128;
-    }
-    if octets.is_empty() {
-        Addr::from_bits(0)
-    } else {
-        Addr::from_bits(bits << (128 - 8 * octets.len()))
-    }
+    let mut padded = [0; 16];
+    padded[..octets.len()].copy_from_slice(octets);
+    Addr::from_bits(u128::from_be_bytes(padded))
 }

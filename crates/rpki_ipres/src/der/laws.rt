@@ -61,7 +61,8 @@ pub fn written_resources()
 
 /// What is written of families is one SEQUENCE of what is written of each behind its family. A set behind its family is
 /// written as the resources that list it. So each is read back by
-/// [`IpResources::take_families_from`](crate::resources::IpResources::take_families_from).
+/// [`IpResources::take_families_from`](crate::resources::IpResources::take_families_from). A caller that appends the
+/// members one by one needs a proof file: that its octets are those of the law is a sum of lists which only it knows.
 pub fn members()
     ensures families { (v4 v6 : Claim) →
         ip_families_der v4 v6 ≡ sequence_value (ip_member_der Ipv4 v4 ++ ip_member_der Ipv6 v6) }

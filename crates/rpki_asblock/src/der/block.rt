@@ -167,8 +167,8 @@ impl AsBlock {
         ensures mode { is_strict cursor.new ≡ is_strict cursor.old }
     {
         let mut ahead = *cursor;
-        let block = AsBlock::next(&mut ahead)?;
-        if cursor.is_strict() && !block.is_beyond(before) {
+        let block = AsBlock::next_in_any_form(&mut ahead)?;
+        if cursor.is_strict() && !(block.is_new_form() && block.is_beyond(before)) {
             return Err(DerError::NotCanonical);
         }
         *cursor = ahead;

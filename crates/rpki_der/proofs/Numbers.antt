@@ -1,26 +1,31 @@
 -- Numbers and the octets that spell them.
-use Rattle.std.proofs.Common.{◌≡◌, ℕ, zero, suc, ◌-◌, ◌^◌, ◌<◌, ◌≤◌, ◌≢◌, List, [], ◌∷◌, ◌++◌, length, get_or, take, drop, replicate, refl, sym, ap, ◌∙◌, arith}
+use Rattle.std.proofs.Common.{◌≡◌, ℕ, zero, suc, ◌+◌, ◌-◌, ◌*◌, ◌^◌, ◌<◌, ◌≤◌, ◌≢◌, List, [], ◌∷◌, ◌++◌, length, get_or, take, replicate, refl, sym, ap, ◌∙◌, arith}
 use Rattle.std.specs.Int.{w64, from_be_bytes, to_be_bytes}
-use Rattle.std.proofs.lemmas.List.{length-append, length-replicate, take-replicate, append-nil, drop_all, length-drop}
-use Rattle.std.proofs.lemmas.Nat.{be_bytes_8, from_be_bytes-to_be_bytes_8}
-use borrow.Rule.Slice.PartMut.{put_mid}
-use Rattle.rpki_der.specs.Der.{IsBytes, big_endian, without_zeros, octets}
+use Rattle.std.proofs.lemmas.List.{length-append, length-replicate}
+use Rattle.std.proofs.lemmas.Nat.{be_bytes_8, from_be_bytes-to_be_bytes_8, pow-add}
+use Rattle.rpki_der.specs.Der.{IsBytes, big_endian, big_endian_after, without_zeros, octets}
 use Rattle.rpki_der.proofs.Steps.{IsBytes-zeros}
+
+-- ---- one digit more
+
+-- from any number on
+more_after : (n : ℕ) (ds : List ℕ) (i : ℕ) → i < length ds → big_endian_after n (take (suc i) ds) ≡ big_endian_after n (take i ds) * 256 + get_or ds i 0
+more_after n [] i lt = absurd (omega arith)
+more_after n (d ∷ ds) zero lt = refl
+more_after n (d ∷ ds) (suc i) lt = more_after (n * 256 + d) ds i (omega arith)
+
+pub big_endian_more : (ds : List ℕ) (i : ℕ) → i < length ds → big_endian (take (i + 1) ds) ≡ big_endian (take i ds) * 256 + get_or ds i 0
+big_endian_more ds i lt = let e : i + 1 ≡ suc i = omega arith in rw e (more_after 0 ds i lt)
+
+-- it is eight bits
+pub digit_more : (i : ℕ) → 2 ^ (8 * (i + 1)) ≡ 2 ^ (8 * i) * 256
+digit_more i = let e : 8 * (i + 1) ≡ 8 * i + 8 = omega arith in ap (λ k. 2 ^ k) e ∙ pow-add 2 (8 * i) 8
 
 -- ---- digits behind zeros, eight in all
 
 -- eight octets that end with the digits
 abbrev padded : List ℕ → List ℕ
 padded digits = replicate (8 - length digits) 0 ++ digits
-
--- eight zeros, with digits written over the last of them
-padded_is : (digits written : List ℕ) → length digits ≤ 8 → written ≡ digits
-    → put_mid (8 - length digits) (8 - (8 - length digits)) (0 ∷ 0 ∷ 0 ∷ 0 ∷ 0 ∷ 0 ∷ 0 ∷ 0 ∷ []) written ≡ padded digits
-padded_is digits written le e =
-    let zeros : List ℕ = replicate 8 0 in
-    let front : take (8 - length digits) zeros ≡ replicate (8 - length digits) 0 = take-replicate (8 - length digits) 8 0 (omega arith) in
-    let none : drop (8 - (8 - length digits)) (drop (8 - length digits) zeros) ≡ [] = drop_all (8 - (8 - length digits)) (drop (8 - length digits) zeros) (omega (arith, length-drop (8 - length digits) zeros)) in
-    rw (front, none, e) (ap (λ (x : List ℕ). replicate (8 - length digits) 0 ++ x) (append-nil digits))
 
 -- zeros in front change no number
 from_be_bytes-padded : (ds : List ℕ) → length ds ≤ 8 → from_be_bytes w64 (padded ds) ≡ big_endian ds
@@ -34,11 +39,6 @@ from_be_bytes-padded (a ∷ b ∷ c ∷ d ∷ e ∷ f ∷ []) le = omega arith
 from_be_bytes-padded (a ∷ b ∷ c ∷ d ∷ e ∷ f ∷ g ∷ []) le = omega arith
 from_be_bytes-padded (a ∷ b ∷ c ∷ d ∷ e ∷ f ∷ g ∷ h ∷ []) le = omega arith
 from_be_bytes-padded (a ∷ b ∷ c ∷ d ∷ e ∷ f ∷ g ∷ h ∷ i ∷ ds) le = absurd (omega arith)
-
--- what eight octets spell of which the last are these digits
-pub number_is : (digits written : List ℕ) → length digits ≤ 8 → written ≡ digits
-    → from_be_bytes w64 (put_mid (8 - length digits) (8 - (8 - length digits)) (0 ∷ 0 ∷ 0 ∷ 0 ∷ 0 ∷ 0 ∷ 0 ∷ 0 ∷ []) written) ≡ big_endian digits
-number_is digits written le e = ap (from_be_bytes w64) (padded_is digits written le e) ∙ from_be_bytes-padded digits le
 
 -- ---- octets without zeros in front
 

@@ -13,9 +13,11 @@ pub(crate) fn number_of(digits: &[u8]) -> u64
     requires { length digits.now ≤ 8 }
     ensures number { result ≡ big_endian digits.now }
 {
-    let mut padded = [0; 8];
-    padded[8 - digits.len()..].copy_from_slice(digits);
-    u64::from_be_bytes(padded)
+    let mut number: u64 = 0;
+    for digit in digits {
+        number = number * 256 + *digit as u64;
+    }
+    number
 }
 
 // The length in the next `count` octets, and what follows them.

@@ -7,22 +7,19 @@ use borrow.Rule.Slice.PartMut.{put_mid}
 use Rattle.std.proofs.Math.Nat.{div-div-eq-div-mul, pow-suc}
 use Rattle.rpki_addr.specs.Prefixes.{PrefixValue, IsPrefix}
 use Rattle.rpki_der.specs.Der.{IsBytes, Bits, IsBits, big_endian, big_endian_after}
+use Rattle.rpki_der.proofs.Numbers.{digit_more}
 use Rattle.rpki_der.proofs.Steps.{IsBytes-rest}
 use Rattle.rpki_ip.specs.PrefixDer.{SaysPrefix, prefix_bits, octet_count}
 
 -- ---- the number that octets spell
 
 -- an octet is eight bits
-octet_more : (i : ℕ) → 2 ^ (8 * (i + 1)) ≡ 2 ^ (8 * i) * 256
-octet_more i = let e : 8 * (i + 1) ≡ 8 * i + 8 = omega arith in ap (λ k. 2 ^ k) e ∙ pow-add 2 (8 * i) 8
-
--- the same for all octets
 octet_powers : (k : ℕ) → 256 ^ k ≡ 2 ^ (8 * k)
 octet_powers zero = refl
 octet_powers (suc k) =
     let a : 256 ^ suc k ≡ 256 ^ k * 256 = pow-suc 256 k in
     let b : 8 * suc k ≡ 8 * (k + 1) = omega arith in
-    let c : 2 ^ (8 * suc k) ≡ 2 ^ (8 * k) * 256 = ap (λ (j : ℕ). 2 ^ j) b ∙ octet_more k in
+    let c : 2 ^ (8 * suc k) ≡ 2 ^ (8 * k) * 256 = ap (λ (j : ℕ). 2 ^ j) b ∙ digit_more k in
     rw c (omega (arith, a, octet_powers k))
 
 -- octets behind a number of j bits

@@ -34,6 +34,7 @@ SHOWN = 20
 PROGRAMS: dict[str, Callable[[str], str]] = {
     "rows": calls_of_values.answer,
     "rows_sets": calls_of_sets.answer,
+    "rows_resources": calls_of_sets.answer,
     "rows_origin": calls_of_callers.origin_answer,
     "callers_run": calls_of_callers.answer,
 }

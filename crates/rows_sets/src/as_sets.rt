@@ -1,8 +1,8 @@
 //! What sets of AS numbers answer.
-use crate::kept::kept;
 use crate::lists::Lists;
 use crate::question::{Operation, Question};
 use crate::small_sets::numbers;
+use answering::kept::kept;
 use answering::print::{self, cut};
 use rpki_as::block::AsBlock;
 use rpki_as::blocks::AsBlocks;

@@ -1,7 +1,7 @@
 //! What sets of addresses of one family answer.
-use crate::kept::kept;
 use crate::lists::Lists;
 use crate::question::{Operation, Question};
+use answering::kept::kept;
 use answering::print::{self, cut};
 use rpki_base::memory::OrMemory;
 use rpki_family::v4::Ipv4Blocks;

@@ -1,6 +1,6 @@
 //! The answer to a line, by its command.
 use crate::question::Question;
-use crate::{as_sets, chains, claims, ip_sets, long, small_sets, triples};
+use crate::{as_sets, chains, ip_sets, long, small_sets};
 use answering::print::cut;
 use answering::refusals::Call;
 use rpki_ip::family::AddressFamily;
@@ -24,10 +24,6 @@ impl Call for Line<'_> {
             "chain" => chains::answer(alloc, kind, operands),
             "pair" => chains::pair_answer(alloc, kind, operands),
             "long" => long::answer(alloc, kind, operands),
-            "claim" => claims::answer(alloc, kind, operands),
-            "triple" => triples::answer(alloc, kind, operands),
-            "set" => triples::set(alloc, rest),
-            "diff" => triples::difference(alloc, rest),
             _ => match Question::named(command) {
                 Some(question) => set_answer(alloc, question, kind, operands),
                 None => rpki_lines::answer(alloc, self.0.as_bytes()),

@@ -6,16 +6,13 @@
 
 mod as_sets;
 mod chains;
-mod claims;
 mod ip_sets;
-mod kept;
 mod line;
 mod lists;
 mod long;
 mod pairs;
 mod question;
 mod small_sets;
-mod triples;
 
 use answering::refusals;
 use line::Line;

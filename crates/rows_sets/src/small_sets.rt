@@ -1,8 +1,8 @@
 //! What small sets of AS numbers answer.
 ghost use Rattle.std.specs.Iterator.{IsFinite};
 
-use crate::kept::kept;
 use crate::lists::Lists;
+use answering::kept::kept;
 use answering::names::order_word;
 use answering::print;
 use rpki_base::asn::Asn;

@@ -1,6 +1,6 @@
 //! What sets of all three kinds of resources answer.
 use crate::claims::told;
-use crate::kept::kept;
+use answering::kept::kept;
 use answering::names::named;
 use answering::print::{cut, made, refused, value};
 use rpki_as::resources::AsResources;

@@ -19,9 +19,6 @@ module _ {B I : Type 0} (f : B → ℕ × ℕ) (number : I → ℕ) (last : ℕ)
 abbrev pub Halved : ℕ → ℕ → ℕ → ℕ → Type 0
 Halved len size old count = (old ≤ count) × ((digits : ℕ) → len < 2 ^ digits → (count ≤ old + digits) × (size * 2 ^ (count - old) < 2 ^ digits))
 
-pub Halved-start : (len old : ℕ) → Halved len (len - 0) old old
-Halved-start len old = (omega arith, λ digits fits. (omega arith, (let none : old - old ≡ 0 = omega arith in let one : 2 ^ (old - old) ≡ 1 = ap (λ k. 2 ^ k) none in let all : (len - 0) * 2 ^ (old - old) ≡ (len - 0) * 1 = ap (λ k. (len - 0) * k) one in omega arith)))
-
 -- a number that is left is one digit at least
 digit_left : (size steps digits : ℕ) → 0 < size → size * 2 ^ steps < 2 ^ digits → steps < digits
 digit_left size steps digits some less = ⊎_elim

@@ -1,12 +1,14 @@
 -- The turns of the walk that takes one chain's numbers out of another, as the code takes them.
-use Rattle.std.proofs.Common.{◌≡◌, ℕ, ◌+◌, ◌<◌, ◌≤◌, ◌↔◌, inl, inr, List, [], ◌∷◌, ◌++◌, length, refl, ap, ◌∙◌, arith, Option, Some, None}
+use Rattle.std.proofs.Common.{◌≡◌, ℕ, ◌+◌, ◌<◌, ◌≤◌, ◌↔◌, inl, inr, List, [], ◌∷◌, ◌++◌, length, get_or, refl, ap, ◌∙◌, arith, Option, Some, None}
 use Rattle.std.specs.Option.{IfSome}
 use Rattle.std.proofs.Math.Nat.{le_refl}
 use Rattle.rpki_blocks.specs.Sets.{IsNew, IsChain, numbers, Covers}
 use Rattle.rpki_blocks.specs.Cut.{IsCut}
+use Rattle.rpki_blocks.specs.Overhang.{Before, IsOverhang}
+use Rattle.rpki_blocks.specs.declared.overhang.Overhang.{Overhang}
 use Rattle.rpki_blocks.specs.declared.difference.Cut.TheVariants.{End, Skip, Keep, Drop, Split, Advance}
-use Rattle.rpki_blocks.proofs.Chains.{IsChain-nil, Covers-nil, element_at, ascends}
-use Rattle.rpki_blocks.proofs.Sides.{IsAt, bounds_of, ordered_at}
+use Rattle.rpki_blocks.proofs.Chains.{IsChain-nil, Covers-nil, Covers-at}
+use Rattle.rpki_blocks.proofs.Sides.{IsAt, IsAt-from, bounds_of, ordered_at}
 use Rattle.rpki_blocks.proofs.Cutting.{Walk, IsRest, Walk-keep, Walk-drop, Walk-skip, Walk-split, Walk-advance}
 
 module _ {B I : Type 0} (f : B → ℕ × ℕ) (form : ℕ × ℕ → B) (number : I → ℕ) where
@@ -124,39 +126,32 @@ module _ {B I : Type 0} (f : B → ℕ × ℕ) (form : ℕ × ℕ → B) (number
             (omega arith) head,
       )
 
-  -- no number comes before the first block
-  low_is_least : (xs : List B) (c : ℕ × ℕ) → IsChain f form xs → IsAt f xs 0 (Some c) → (n : ℕ) → Covers f xs n → c.0 ≤ n
-  low_is_least xs c h at n (k, x, lt, e, v) =
-      let up = ascends f form xs h 0 k x (omega arith) lt in
-      let same = ap (λ (z : B). (f z).0) e in
-      let low = ap (λ (z : ℕ × ℕ). z.0) (at.1 x) in
-      omega (arith, v.0)
+  -- a block that was passed ends before the block at hand
+  ends_before : (ys : List B) (j k : ℕ) (d : B) (cut : Option (ℕ × ℕ)) → IsChain f form ys → IsAt f ys j cut → k < j → k < length ys → Before cut (f (get_or ys k d)).1
+  ends_before ys j k d None hy at early lt = tt
+  ends_before ys j k d (Some c) hy at early lt =
+      let a = hy.apart k j d early at.0 in
+      let low = ap (λ (z : ℕ × ℕ). z.0) (at.1 d) in
+      omega arith
 
-  -- the walk begins with the first blocks
-  pub Walk-start : (xs ys : List B) (rest cut : Option (I × I)) → IsChain f form xs → IsChain f form ys → IsAt f xs 0 (At rest) → IsAt f ys 0 (At cut) → Walk f form xs ys 0 (At rest) 0 (At cut) []
-  Walk-start xs ys None cut hx hy head other = record {
-    own_chain = hx;
-    other_chain = hy;
-    chain = IsChain-nil f form;
-    rest_is = head;
-    cut_is = other;
-    passed = λ b e. cc;
-    edge = λ b e. cc;
-    covers = λ n. (λ h. absurd (Covers-nil f n h), λ (o, not, z). (let none : 0 ≡ length xs = head in let lt = o.2 in absurd (omega arith)));
-  }
-  Walk-start xs ys (Some b) cut hx hy head other =
+  -- the walk goes on from an overhang: all that comes before it is taken out
+  pub Walk-from : (first last : ℕ) (xs ys : List B) (o : Overhang I) → IsOverhang f number first last xs ys o → IsChain f form xs → IsChain f form ys → Walk f form xs ys o.own_at (At (Some (o.min, o.max))) o.other_at (At o.other) []
+  Walk-from first last xs ys o h hx hy =
+      let b : ℕ × ℕ = numbers number (o.min, o.max) in
       let same_number : (a c : ℕ × ℕ) → Some a ≡ Some c → a ≡ c = λ a c e. cc in
-      let x = (element_at xs 0 head.0).0 in
-      let o = hx.ordered 0 x head.0 in
-      let low = ap (λ (z : ℕ × ℕ). z.0) (head.1 x) in
-      let high = ap (λ (z : ℕ × ℕ). z.1) (head.1 x) in
+      let at : IsAt f xs o.own_at (Some b) = IsAt-from f number last xs o.own_at (Some (o.min, o.max)) h.own_block in
+      let other_at : IsAt f ys o.other_at (At o.other) = IsAt-from f number last ys o.other_at o.other h.other_block in
       record {
         own_chain = hx;
         other_chain = hy;
         chain = IsChain-nil f form;
-        rest_is = (head.0, (λ d. ap (λ (z : ℕ × ℕ). z.1) (head.1 d)), (λ d. let l = ap (λ (z : ℕ × ℕ). z.0) (head.1 d) in omega arith), omega arith);
-        cut_is = other;
-        passed = λ a e k d early lt. absurd (omega arith);
-        edge = λ a e n next c. (let l = low_is_least xs (numbers number b) hx head n c in let same = ap (λ (z : ℕ × ℕ). z.0) (same_number (numbers number b) a e) in absurd (omega arith));
-        covers = λ n. (λ h. absurd (Covers-nil f n h), λ (c, not, less). (let l = low_is_least xs (numbers number b) hx head n c in absurd (omega arith)));
+        rest_is = (at.0, (λ d. ap (λ (z : ℕ × ℕ). z.1) (at.1 d)), (λ d. let l = ap (λ (z : ℕ × ℕ). z.0) (at.1 d) in omega arith), ordered_at f form xs o.own_at b hx at);
+        cut_is = other_at;
+        passed = λ a e k d early lt. (
+            let same = ap (λ (z : ℕ × ℕ). z.0) (same_number b a e) in
+            let ordered = hy.ordered k d lt in
+            let less : (f (get_or ys k d)).1 < b.0 = h.passed (f (get_or ys k d)).1 (Covers-at f ys k (f (get_or ys k d)).1 d lt (ordered, omega arith)) (ends_before ys o.other_at k d (At o.other) hy other_at early lt) in
+            omega arith);
+        edge = λ a e n next c. (let same = ap (λ (z : ℕ × ℕ). z.0) (same_number b a e) in inl (h.inside n c (omega arith)));
+        covers = λ n. (λ none. absurd (Covers-nil f n none), λ (c, not, less). absurd (not (h.inside n c less)));
       }

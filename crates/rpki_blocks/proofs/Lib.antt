@@ -4,7 +4,7 @@ pub mod Chains
 mod Counts
 mod CutTurns
 mod Cutting
-mod FitTurns
+pub mod FitTurns
 mod Insides
 mod Joining
 mod MeetTurns

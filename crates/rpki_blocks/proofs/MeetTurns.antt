@@ -1,12 +1,13 @@
 -- The turns of the walk over what two chains have in common, as the code takes them.
 use Rattle.std.proofs.Common.{◌≡◌, ℕ, ◌+◌, ◌<◌, ◌≤◌, ◌⊎◌, inl, inr, ⊎_elim, List, length, get_or, take, sym, subst, ap, ◌∙◌, arith, Option, Some, None}
+use Rattle.std.proofs.Math.Nat.{le_refl}
 use Rattle.std.proofs.lemmas.List.{get_or-take, length-take-le}
 use Rattle.std.proofs.lemmas.List.Elements.{All-take}
 use Rattle.rpki_blocks.specs.Sets.{IsNew, IsChain, IsChainOf, numbers, Covers}
 use Rattle.rpki_blocks.specs.Common.{IsCommonPushed}
 use Rattle.rpki_blocks.specs.declared.overhang.Overhang.{Overhang}
 use Rattle.rpki_blocks.specs.Overhang.{IsOverhang}
-use Rattle.rpki_blocks.proofs.Sides.{IsAt, bounds_of, IsAt-from, ordered_at, index_before, low_at}
+use Rattle.rpki_blocks.proofs.Sides.{IsAt, bounds_of, IsAt-from, ordered_at, index_before, before_next, low_at}
 use Rattle.rpki_blocks.proofs.Chains.{IsChainOf-from}
 use Rattle.rpki_blocks.proofs.Meets.{Meet, Meet-swap, Meet-before, Meet-ends, Meet-end}
 
@@ -49,13 +50,20 @@ module _ {B I : Type 0} (f : B → ℕ × ℕ) (form : ℕ × ℕ → B) (number
   meet-other_ends xs ys out made i j b c next w pushed first after =
       Meet-swap f form ys xs made (j + 1) i (At next) (At (Some b)) (meet-own_ends ys xs out made j i c b next (Meet-swap f form xs ys out i j (At (Some b)) (At (Some c)) w) pushed first after)
 
+  -- both end alike: the other's block ends before the next one begins, and so both are passed
+  pub meet-end_alike : (xs ys out made : List B) (i j : ℕ) (b c next : I × I) (after : Option (I × I)) → Meet f form xs ys i (At (Some b)) j (At (Some c)) out → IsCommonPushed f form (numbers number b) (numbers number c) out made → number b.1 ≤ number c.1 → number c.1 ≤ number b.1 → IsAt f xs (i + 1) (At (Some next)) → IsAt f ys (j + 1) (At after) → Meet f form xs ys (i + 1) (At (Some next)) (j + 1) (At after) made
+  meet-end_alike xs ys out made i j b c next after w pushed first alike own other =
+      let passed = meet-own_ends xs ys out made i j b c (Some next) w pushed first own in
+      let later : number b.1 < number next.0 = before_next f form xs i (numbers number b) w.own_chain w.own_at (At (Some next)) own (number b.1) (le_refl _) in
+      Meet-swap f form ys xs made (j + 1) (i + 1) (At after) (At (Some next)) (Meet-before f form ys xs made j (i + 1) (numbers number c) (numbers number next) (At after) (Meet-swap f form xs ys made (i + 1) j (At (Some next)) (At (Some c)) passed) (omega arith) other)
+
   -- where one chain has ended, all is there that both have
   pub meet-done : (xs ys out : List B) (i j : ℕ) (b c : Option (ℕ × ℕ)) → Meet f form xs ys i b j c out → (b ≡ None) ⊎ (c ≡ None) → IsChainOf f form (λ n. Covers f xs n × Covers f ys n) out
   meet-done xs ys out i j b c w ended = IsChainOf-from f form out (λ n. Covers f xs n × Covers f ys n) w.chain (Meet-end f form xs ys out i j b c w ended)
 
   -- what came before an overhang is what the chains have in common there
-  pub Meet-start : (last : ℕ) (xs ys : List B) (o : Overhang I) → IsOverhang f number last xs ys o → IsChain f form xs → IsChain f form ys → Meet f form xs ys o.own_at (At (Some (o.min, o.max))) o.other_at (At o.other) (take o.own_at xs)
-  Meet-start last xs ys o h hx hy =
+  pub Meet-start : (first last : ℕ) (xs ys : List B) (o : Overhang I) → IsOverhang f number first last xs ys o → IsChain f form xs → IsChain f form ys → Meet f form xs ys o.own_at (At (Some (o.min, o.max))) o.other_at (At o.other) (take o.own_at xs)
+  Meet-start first last xs ys o h hx hy =
       let b : ℕ × ℕ = numbers number (o.min, o.max) in
       let at : IsAt f xs o.own_at (Some b) = IsAt-from f number last xs o.own_at (Some (o.min, o.max)) h.own_block in
       let le : o.own_at ≤ length xs = (let lt = at.0 in omega arith) in

@@ -1,12 +1,16 @@
 -- A walk over two lists that asks whether the chain that is the one lies in the other: the block of the other that is held,
 -- and the rest behind it.
-use Rattle.std.proofs.Common.{◌≡◌, ℕ, ◌+◌, ◌<◌, ◌≤◌, ◌↔◌, ◌⊎◌, ⊎_elim, List, [], ◌∷◌, length, drop, get_or, ap, sym, refl, ◌∙◌, subst, arith, Option, Some, None, zero, suc}
+use Rattle.std.proofs.Common.{◌≡◌, ℕ, ◌+◌, ◌-◌, ◌<◌, ◌≤◌, ⊎_elim, List, [], ◌∷◌, length, drop, get_or, ap, sym, refl, ◌∙◌, subst, arith, Option, Some, None, zero, suc}
 use Rattle.std.proofs.lemmas.Bool.{cases_lt}
 use Rattle.std.proofs.lemmas.List.{get_or_default, length-drop}
-use Rattle.rpki_blocks.specs.Sets.{IsWithin, Covers, IsInside, IsChain, numbers}
-use Rattle.rpki_blocks.proofs.Chains.{Covers-at, Covers-nil, element_at}
+use Rattle.rpki_blocks.specs.Sets.{IsInside, IsChain, numbers}
+use Rattle.rpki_blocks.specs.Fit.{IsFitIn}
+use Rattle.rpki_blocks.specs.declared.overhang.Fit.TheVariants as fit
+use Rattle.rpki_blocks.specs.Overhang.{IsOverhang}
+use Rattle.rpki_blocks.proofs.Chains.{element_at}
 use Rattle.rpki_blocks.proofs.Sides.{IsAt}
-use Rattle.rpki_blocks.proofs.Insides.{Inside, Inside-start, Inside-skip, Inside-fit, Inside-none_left, Inside-beyond}
+use Rattle.rpki_blocks.proofs.FitTurns.{fit-none_left, fit-beyond}
+use Rattle.rpki_blocks.proofs.Insides.{Inside, Inside-start, Inside-skip, Inside-fit}
 
 -- what begins a rest stands where the rest begins
 rest-begins : {B : Type 0} (ys : List B) (k : ℕ) (y : B) (more : List B) → drop k ys ≡ y ∷ more → (k < length ys) × ((d : B) → get_or ys k d ≡ y) × (more ≡ drop (suc k) ys)
@@ -25,12 +29,6 @@ module _ {B : Type 0} (f : B → ℕ × ℕ) (form : ℕ × ℕ → B) where
       (λ (lt : i < length xs). let x = (element_at xs i lt).0 in (Some (f (get_or xs i x)), (lt, λ d. ap f (get_or_default xs i d x lt))))
       (λ (end : length xs ≤ i). (None, omega arith))
       (cases_lt i (length xs))
-
-  -- a block that isn't within the other chain shows that not all are
-  outside : (xs ys : List B) (i : ℕ) (b : ℕ × ℕ) → IsAt f xs i (Some b) → (((n : ℕ) → IsWithin b n → Covers f ys n) → ⊥) → IsInside f xs ys → ⊥
-  outside xs ys i b at misses all =
-      let x = (element_at xs i at.0).0 in
-      misses (λ n within. all n (Covers-at f xs i n x at.0 (subst (λ (p : ℕ × ℕ). IsWithin p n) (sym (at.1 x)) within)))
 
   -- what was passed of xs lies in ys, of which c is held, and the rest comes behind it
   abbrev pub Passing : List B → List B → ℕ → Option (ℕ × ℕ) → ℕ × ℕ → List B → Type 0
@@ -63,19 +61,6 @@ module _ {B : Type 0} (f : B → ℕ × ℕ) (form : ℕ × ℕ → B) where
       let behind : more ≡ drop (suc (j + 1)) ys = subst (λ (n : ℕ). more ≡ drop (suc n) ys) one begins.2 in
       (j + 1, Inside-skip f form xs ys i j b c (Some d) w less held, behind)
 
-  -- the held block ends before it, and none comes behind
-  pub Passing-end : (xs ys : List B) (i : ℕ) (b c : ℕ × ℕ) (rest : List B) → Passing xs ys i (Some b) c rest → c.1 < b.0 → length rest ≡ 0 → IsInside f xs ys → ⊥
-  Passing-end xs ys i b c rest (j, w, is) less none =
-      let long : length rest ≡ length (drop (suc j) ys) = ap length is in
-      let left = length-drop (suc j) ys in
-      let at : IsAt f ys j (Some c) = w.other_at in
-      let end : IsAt f ys (j + 1) None = omega (arith, at.0) in
-      outside xs ys i b w.own_at (Inside-none_left f form xs ys i (j + 1) b (Inside-skip f form xs ys i j b c None w less end))
-
-  -- some of it lies in no block of ys
-  pub Passing-beyond : (xs ys : List B) (i : ℕ) (b c : ℕ × ℕ) (rest : List B) → Passing xs ys i (Some b) c rest → b.0 ≤ c.1 → (b.0 < c.0) ⊎ (c.1 < b.1) → IsInside f xs ys → ⊥
-  Passing-beyond xs ys i b c rest (j, w, is) meets way = outside xs ys i b w.own_at (Inside-beyond f form xs ys i j b c w meets way)
-
   -- it lies in the held block
   pub Passing-fit : (xs ys : List B) (i : ℕ) (b c : ℕ × ℕ) (rest : List B) → Passing xs ys i (Some b) c rest → c.0 ≤ b.0 → b.1 ≤ c.1 → (o : Option (ℕ × ℕ)) × Passing xs ys (i + 1) o c rest
   Passing-fit xs ys i b c rest (j, w, is) low high =
@@ -88,17 +73,36 @@ module _ {B : Type 0} (f : B → ℕ × ℕ) (form : ℕ × ℕ → B) where
   Passing-done xs ys i c rest None w end = λ n covered. w.1.inside n covered tt
   Passing-done xs ys i c rest (Some b) w end = let at : IsAt f xs i (Some b) = w.1.own_at in absurd (omega (arith, at.0))
 
-  -- where the other has no block, the one lies in it if it has none either
-  none_inside : (xs : List B) → IsChain f form xs → IsInside f xs [] → length xs ≡ 0
-  none_inside [] h all = refl
-  none_inside (x ∷ xs) h all =
-      let ordered : (f x).0 ≤ (f x).1 = h.ordered 0 x (omega arith) in
-      absurd (Covers-nil f (f x).0 (all (f x).0 (Covers-at f (x ∷ xs) 0 (f x).0 x (omega arith) (omega arith, ordered))))
-
-  pub inside-none : (xs ys : List B) → IsChain f form xs → length ys ≡ 0 → (length xs ≡ 0) ↔ IsInside f xs ys
-  inside-none xs [] h none = (λ e n (k, x, lt, same, v). absurd (omega arith), none_inside xs h)
-  inside-none xs (y ∷ ys) h none = let some : suc (length ys) ≡ 0 = none in absurd (omega arith)
-
   -- the bounds that were read are the block's
   pub read_bounds : {I : Type 0} (number : I → ℕ) (x : B) (b : I × I) → number b.0 ≡ (f x).0 → number b.1 ≡ (f x).1 → f x ≡ numbers number b
   read_bounds number x b low high = let same : numbers number b ≡ f x = λ i. (low i, high i) in sym same
+
+  module _ {I : Type 0} (number : I → ℕ) (first last : ℕ) where
+    -- the held block ends before it, and none comes behind: it leaves the other chain
+    pub Passing-end : (xs ys : List B) (i : ℕ) (b : I × I) (c : ℕ × ℕ) (rest : List B) → Passing xs ys i (Some (numbers number b)) c rest → c.1 < number b.0 → length rest ≡ 0 → first ≤ number b.0 → number b.1 ≤ last → IsOverhang f number first last xs ys (record { own_at = i; min = b.0; max = b.1; other_at = length ys; other = None })
+    Passing-end xs ys i b c rest (j, w, is) less none from to =
+        let long : length rest ≡ length (drop (suc j) ys) = ap length is in
+        let left = length-drop (suc j) ys in
+        let at : IsAt f ys j (Some c) = w.other_at in
+        let end : j + 1 ≡ length ys = omega (arith, at.0) in
+        let own : IsAt f xs i (Some (numbers number b)) = w.own_at in
+        let walk : Inside f form xs ys i (Some (numbers number b)) (length ys) None = subst (λ (n : ℕ). Inside f form xs ys i (Some (numbers number b)) n None) end (Inside-skip f form xs ys i j (numbers number b) c None w less end) in
+        fit-none_left f form number first last xs ys i (length ys) b walk (own.0, own.1, to) from refl
+
+    -- some of it lies in no block of the other chain
+    pub Passing-beyond : (xs ys : List B) (i : ℕ) (b c : I × I) (rest : List B) → Passing xs ys i (Some (numbers number b)) (numbers number c) rest → IsFitIn number b c fit.Beyond → first ≤ number b.0 → number b.1 ≤ last → number c.1 ≤ last → IsOverhang f number first last xs ys (record { own_at = i; min = b.0; max = b.1; other_at = length ys - length rest - 1; other = Some c })
+    Passing-beyond xs ys i b c rest (j, w, is) beyond from to held_to =
+        let long : length rest ≡ length (drop (suc j) ys) = ap length is in
+        let left = length-drop (suc j) ys in
+        let own : IsAt f xs i (Some (numbers number b)) = w.own_at in
+        let held : IsAt f ys j (Some (numbers number c)) = w.other_at in
+        let place : j ≡ length ys - length rest - 1 = omega (arith, held.0) in
+        subst (λ (n : ℕ). IsOverhang f number first last xs ys (record { own_at = i; min = b.0; max = b.1; other_at = n; other = Some c })) place (fit-beyond f form number first last xs ys i j b c w (own.0, own.1, to) from (held.0, held.1, held_to) beyond)
+
+  -- the rest is shorter than the list
+  pub Passing-shorter : (xs ys : List B) (i : ℕ) (o : Option (ℕ × ℕ)) (c : ℕ × ℕ) (rest : List B) → Passing xs ys i o c rest → length rest + 1 ≤ length ys
+  Passing-shorter xs ys i o c rest (j, w, is) =
+      let long : length rest ≡ length (drop (suc j) ys) = ap length is in
+      let left = length-drop (suc j) ys in
+      let held : IsAt f ys j (Some c) = w.other_at in
+      omega (arith, held.0)

@@ -5,11 +5,13 @@ ghost use Rattle.rpki_blocks.specs.Sets.{IsChain};
 ghost use Rattle.rpki_blocks.specs.Props.{IsChain-prop};
 
 use crate::block::Block;
+use crate::common::common_from;
 use crate::counted::Counted;
-use crate::difference::difference_counted;
+use crate::difference::{difference_counted, difference_from};
 use crate::membership::{contains_block, contains_item_counted, intersects_block};
+use crate::overhang::{Overhang, overhang_of};
 use crate::owned::OwnedChain;
-use crate::trim::{is_encompassed, trim_counted};
+use crate::trim::trim_counted;
 use crate::union::union_counted;
 use rpki_text::memory::OrMemory;
 use std::alloc::{AllocError, Allocator};
@@ -82,9 +84,10 @@ impl<'a, T: Block> Chain<'a, T> {
 }
 
 impl<T: Block> Chain<'_, T> {
-    ghost use Rattle.std.specs.Prelude.{ℕ, ◌+◌, ◌≤◌, ◌↔◌, ◌⊎◌, length, IsTrue, IsOk, IfOk, IfErr};
+    ghost use Rattle.std.specs.Prelude.{ℕ, ◌+◌, ◌≤◌, ◌↔◌, ◌⊎◌, length, IsTrue, IsOk, IfOk, IfErr, MatchOption};
     ghost use Rattle.rpki_text.specs.Memory.{IfRefused};
     ghost use Rattle.rpki_blocks.specs.Sets.{IsWithin, Covers, IsInside, IsChainOf};
+    ghost use Rattle.rpki_blocks.specs.Overhang.{IsOverhang};
     ghost use Rattle.rpki_blocks.specs.View.{chain_blocks};
 
     /// Whether an item lies in one of the blocks. A binary search.
@@ -115,7 +118,61 @@ impl<T: Block> Chain<'_, T> {
         ensures { IsTrue result ↔
             IsInside T.bounds (chain_blocks self.entry) (chain_blocks other.entry) }
     {
-        is_encompassed(self.blocks, other.blocks)
+        self.overhang(other).is_none()
+    }
+
+    /// Its first block that doesn't lie in the other, `None` where each does. This takes no memory.
+    pub fn overhang(self, other: Chain<'_, T>) -> Option<Overhang<T::Item>>
+        ensures { MatchOption result
+            (IsInside T.bounds (chain_blocks self.entry) (chain_blocks other.entry))
+            (IsOverhang T.bounds T.number T.first T.last
+            (chain_blocks self.entry) (chain_blocks other.entry)) }
+    {
+        overhang_of(self.blocks, other.blocks)
+    }
+
+    /// The chain of the numbers that both have, where the overhang is known: the walk goes on from there. `AllocError`
+    /// where there is no memory for it.
+    pub fn common_from<A: Allocator>(
+        self,
+        alloc: A,
+        other: Chain<'_, T>,
+        overhang: Overhang<T::Item>,
+    ) -> Result<OwnedChain<T, A>, AllocError>
+        requires { IsOverhang T.bounds T.number T.first T.last
+            (chain_blocks self) (chain_blocks other) overhang }
+        ensures { IfOk result (IsChainOf T.bounds T.form (λ n.
+            Covers T.bounds (chain_blocks self.entry) n ×
+            Covers T.bounds (chain_blocks other.entry) n)) }
+    {
+        common_from(
+            alloc,
+            &mut Counted::new(self),
+            &mut Counted::new(other),
+            overhang,
+        )
+    }
+
+    /// The chain of its numbers that aren't the other's, where the overhang is known: the walk goes on from there.
+    /// `AllocError` where there is no memory for it.
+    pub fn difference_from<A: Allocator>(
+        self,
+        alloc: A,
+        other: Chain<'_, T>,
+        overhang: Overhang<T::Item>,
+    ) -> Result<OwnedChain<T, A>, AllocError>
+        requires { IsOverhang T.bounds T.number T.first T.last
+            (chain_blocks self) (chain_blocks other) overhang }
+        ensures { IfOk result (IsChainOf T.bounds T.form (λ n.
+            Covers T.bounds (chain_blocks self.entry) n ×
+            (Covers T.bounds (chain_blocks other.entry) n → ⊥))) }
+    {
+        difference_from(
+            alloc,
+            &mut Counted::new(self),
+            &mut Counted::new(other),
+            overhang,
+        )
     }
 
     /// `Ok` where each of its numbers is one of the other's, with no memory taken. Else `Refused` with the chain of the

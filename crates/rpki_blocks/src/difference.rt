@@ -1,9 +1,11 @@
 //! The numbers of one chain that aren't in another.
-ghost use Rattle.std.specs.Prelude.{◌≡◌, ◌+◌, ◌<◌, ◌≤◌, length, IfOk, IfSome};
+ghost use Rattle.std.specs.Prelude.{◌≡◌, ◌+◌, ◌-◌, ◌<◌, ◌≤◌, length, IfOk, IfSome};
 ghost use Rattle.rpki_blocks.specs.Sets.{Covers, IsChainOf};
 ghost use Rattle.rpki_blocks.specs.Cut.{IsCut, IsCutBy};
+ghost use Rattle.rpki_blocks.specs.Overhang.{IsOverhang};
 
 use crate::block::Block;
+use crate::overhang::{Overhang, first_overhang};
 use crate::owned::OwnedChain;
 use crate::reads::{Reads, read_at};
 use std::alloc::{AllocError, Allocator};
@@ -96,7 +98,7 @@ fn behind<T: Block>(item: T::Item) -> T::Item
 }
 
 /// The chain of the numbers of one chain that aren't in the other, as [`crate::chain::Chain::difference`] answers it. Both
-/// together are read no more often than they have blocks: each turn is done with one block, and keeps one piece at most.
+/// together are read no more often than they have blocks.
 pub fn difference_counted<T: Block, A: Allocator, X: Reads<T>, Y: Reads<T>>(
     alloc: A,
     own: &mut X,
@@ -112,11 +114,47 @@ pub fn difference_counted<T: Block, A: Allocator, X: Reads<T>, Y: Reads<T>>(
     ensures reads { X.count own.new + Y.count other.new ≤ X.count own.old + Y.count other.old +
         (length (X.blocks own.old) + length (Y.blocks other.old)) }
 {
+    match first_overhang(own, other) {
+        None => Ok(OwnedChain::empty()),
+        Some(overhang) => difference_from(alloc, own, other, overhang),
+    }
+}
+
+/// The same, where the first overhang is known: nothing before it is left, and a walk goes on from there. Each turn is done
+/// with one block, and keeps one piece at most.
+pub fn difference_from<T: Block, A: Allocator, X: Reads<T>, Y: Reads<T>>(
+    alloc: A,
+    own: &mut X,
+    other: &mut Y,
+    overhang: Overhang<T::Item>,
+) -> Result<OwnedChain<T, A>, AllocError>
+    requires { IsOverhang T.bounds T.number T.first T.last
+        (X.blocks own.old) (Y.blocks other.old) overhang }
+    ensures difference { IfOk result (λ chain. IsChainOf T.bounds T.form (λ n.
+        Covers T.bounds (X.blocks own.old) n × (Covers T.bounds (Y.blocks other.old) n → ⊥))
+        chain) }
+    ensures few { IfOk result (λ chain.
+        length chain ≤ length (X.blocks own.old) + length (Y.blocks other.old)) }
+    ensures own_kept { X.blocks own.new ≡ X.blocks own.old }
+    ensures other_kept { Y.blocks other.new ≡ Y.blocks other.old }
+    // The blocks behind the overhang are read once.
+    ensures own_reads { X.count own.new ≤ X.count own.old +
+        (length (X.blocks own.old) - (overhang.own_at + 1)) }
+    ensures other_reads { Y.count other.new ≤ Y.count other.old +
+        (length (Y.blocks other.old) - (overhang.other_at + 1)) }
+{
+    // The lengths are asked for what their contract tells: that the blocks are chains, of fewer than 2^64 blocks.
+    let _own_len = own.len();
+    let _other_len = other.len();
+    let Overhang {
+        mut own_at,
+        min,
+        max,
+        mut other_at,
+        other: mut cut,
+    } = overhang;
+    let mut rest = Some((min, max));
     let mut chain = Vec::new(alloc);
-    let mut own_at = 0;
-    let mut other_at = 0;
-    let mut rest = read_at(own, 0);
-    let mut cut = read_at(other, 0);
     // `rest` is what is left of the block at `own_at`, and `cut` is the block at `other_at` that may be taken out of it. All
     // that comes before the rest is decided: what stays of it is in `chain`. No cut that was passed reaches the rest. A
     // turn is done with the rest or with the cut, so the walk ends, and it keeps one piece at most.

@@ -1,6 +1,6 @@
 //! Where a chain leaves another one.
-ghost use Rattle.std.specs.Prelude.{◌≡◌, ◌+◌, ◌-◌, ◌≤◌, length, IfSome, MatchOption};
-ghost use Rattle.rpki_blocks.specs.Sets.{IsInside};
+ghost use Rattle.std.specs.Prelude.{◌≡◌, ◌+◌, ◌-◌, ◌≤◌, [], length, IfSome, MatchOption};
+ghost use Rattle.rpki_blocks.specs.Sets.{IsInside, IsChain};
 ghost use Rattle.rpki_blocks.specs.Fit.{IsFitIn};
 ghost use Rattle.rpki_blocks.specs.Overhang.{IsOverhang};
 
@@ -49,7 +49,7 @@ pub fn first_overhang<T: Block, X: Reads<T>, Y: Reads<T>>(
     other: &mut Y,
 ) -> Option<Overhang<T::Item>>
     ensures value { MatchOption result (IsInside T.bounds (X.blocks own.old) (Y.blocks other.old))
-        (IsOverhang T.bounds T.number T.last (X.blocks own.old) (Y.blocks other.old)) }
+        (IsOverhang T.bounds T.number T.first T.last (X.blocks own.old) (Y.blocks other.old)) }
     ensures own_kept { X.blocks own.new ≡ X.blocks own.old }
     ensures other_kept { Y.blocks other.new ≡ Y.blocks other.old }
     ensures own_reads { X.count own.new ≤ X.count own.old + length (X.blocks own.old) }
@@ -112,4 +112,61 @@ pub fn first_overhang<T: Block, X: Reads<T>, Y: Reads<T>>(
             }
         }
     }
+}
+
+/// The same over two lists: it counts nothing, and reads each block at most once.
+pub fn overhang_of<T: Block>(own: &[T], other: &[T]) -> Option<Overhang<T::Item>>
+    requires own_chain { IsChain T.bounds T.form own.now }
+    requires other_chain { IsChain T.bounds T.form other.now }
+    ensures { MatchOption result (IsInside T.bounds own.now other.now)
+        (IsOverhang T.bounds T.number T.first T.last own.now other.now) }
+{
+    let mut others = other.iter();
+    let Some(first) = others.next() else {
+        return first_of(own);
+    };
+    let mut held = first.bounds();
+    // The blocks passed lie in the other chain, and what comes before the held block comes before the block at hand. So
+    // the first of the other's that doesn't end before it has to hold it: chains have gaps between their blocks.
+    for (own_at, block) in own.iter().enumerate() {
+        let (min, max) = block.bounds();
+        while held.1 < min {
+            let Some(next) = others.next() else {
+                return Some(Overhang {
+                    own_at,
+                    min,
+                    max,
+                    other_at: other.len(),
+                    other: None,
+                });
+            };
+            held = next.bounds();
+        }
+        if min < held.0 || held.1 < max {
+            return Some(Overhang {
+                own_at,
+                min,
+                max,
+                other_at: other.len() - others.as_slice().len() - 1,
+                other: Some(held),
+            });
+        }
+    }
+    None
+}
+
+/// The first block of a chain as what leaves the empty one.
+fn first_of<T: Block>(own: &[T]) -> Option<Overhang<T::Item>>
+    requires { IsChain T.bounds T.form own.now }
+    ensures { MatchOption result (IsInside T.bounds own.now [])
+        (IsOverhang T.bounds T.number T.first T.last own.now []) }
+{
+    let (min, max) = own.first()?.bounds();
+    Some(Overhang {
+        own_at: 0,
+        min,
+        max,
+        other_at: 0,
+        other: None,
+    })
 }

@@ -1,7 +1,7 @@
 //! Whether a chain lies in another, and what of it does.
-ghost use Rattle.std.specs.Prelude.{◌≡◌, ◌+◌, ◌*◌, ◌≤◌, ◌↔◌, length, IsTrue, IsOk, IfErr};
+ghost use Rattle.std.specs.Prelude.{◌≡◌, ◌+◌, ◌*◌, ◌≤◌, ◌↔◌, length, IsOk, IfErr};
 ghost use Rattle.rpki_text.specs.Memory.{IfRefused};
-ghost use Rattle.rpki_blocks.specs.Sets.{Covers, IsInside, IsChain, IsChainOf};
+ghost use Rattle.rpki_blocks.specs.Sets.{Covers, IsInside, IsChainOf};
 
 use crate::block::Block;
 use crate::common::common_from;
@@ -10,34 +10,6 @@ use crate::owned::OwnedChain;
 use crate::reads::Reads;
 use rpki_text::memory::OrMemory;
 use std::alloc::{AllocError, Allocator};
-
-/// Whether each number of the one chain is one of the other. It counts nothing, and reads each block at most once.
-pub fn is_encompassed<T: Block>(own: &[T], other: &[T]) -> bool
-    requires own_chain { IsChain T.bounds T.form own.now }
-    requires other_chain { IsChain T.bounds T.form other.now }
-    ensures { IsTrue result ↔ IsInside T.bounds own.now other.now }
-{
-    let mut others = other.iter();
-    let Some(first) = others.next() else {
-        return own.is_empty();
-    };
-    let mut held = first.bounds();
-    // The blocks passed lie in the other chain, and what comes before the held block comes before the block at hand. So
-    // the first of the other's that doesn't end before it has to hold it: chains have gaps between their blocks.
-    for block in own {
-        let (min, max) = block.bounds();
-        while held.1 < min {
-            let Some(next) = others.next() else {
-                return false;
-            };
-            held = next.bounds();
-        }
-        if min < held.0 || held.1 < max {
-            return false;
-        }
-    }
-    true
-}
 
 /// Ok where the one chain lies in the other, with no memory taken; else a refusal with what they have in common, as
 /// [`crate::chain::Chain::trim`] answers it. The one chain is read at most twice, and the other at most once.

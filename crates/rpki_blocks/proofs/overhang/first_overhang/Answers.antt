@@ -15,7 +15,7 @@ returns-in_default-read_at-clause-value g c =
     let last = g.T.Block.last in
     let own = c.in-Some.ensures in
     let other = c.in_default-read_at.ensures in
-    fit-none_left f form number last _ _ 0 0 c.in-Some.own_block (Inside-start f form _ _ (Some (numbers number c.in-Some.own_block)) None own.chain other.chain (IsAt-from f number last _ 0 (Some c.in-Some.own_block) own.block) other.block) own.block other.block
+    fit-none_left f form number g.T.Block.first last _ _ 0 0 c.in-Some.own_block (Inside-start f form _ _ (Some (numbers number c.in-Some.own_block)) None own.chain other.chain (IsAt-from f number last _ 0 (Some c.in-Some.own_block) own.block) other.block) own.block own.valid.0 other.block
 
 pub loop-other_at-init : goal.loop-other_at-init
 loop-other_at-init g c =
@@ -32,6 +32,7 @@ loop-other_at-init g c =
       other_reads = read_first f number last _ (Some other_block) _ _ other.block other.counted;
       walk = Inside-start f form _ _ (Some (numbers number own_block)) (Some (numbers number other_block)) own.chain other.chain (IsAt-from f number last _ 0 (Some own_block) own.block) (IsAt-from f number last _ 0 (Some other_block) other.block);
       own_block = own.block;
+      from_first = own.valid.0;
       other_block = other.block;
       own_bound = own.bound;
       other_bound = other.bound;
@@ -47,7 +48,7 @@ returns-in_default-read_at-2-clause-value g c =
     let inv = c.loop-other_at.invariant in
     let end = rw inv.other_kept at c.in_default-read_at-2.ensures.block in
     let turn = fit-skip f form number _ _ _ _ c.loop-other_at.own_block c.loop-other_at.other_block None inv.walk c.in-Skip.ensures in
-    fit-none_left f form number g.T.Block.last _ _ _ _ c.loop-other_at.own_block (turn.1 end) inv.own_block end
+    fit-none_left f form number g.T.Block.first g.T.Block.last _ _ _ _ c.loop-other_at.own_block (turn.1 end) inv.own_block inv.from_first end
 
 pub loop-other_at-preserved-in-Skip : goal.loop-other_at-preserved-in-Skip
 loop-other_at-preserved-in-Skip g c =
@@ -67,6 +68,7 @@ loop-other_at-preserved-in-Skip g c =
       other_reads = omega arith;
       walk = turn.1 (IsAt-from f number last _ (c.loop-other_at.other_at + 1) (Some next) block);
       own_block = inv.own_block;
+      from_first = inv.from_first;
       other_block = block;
       own_bound = inv.own_bound;
       other_bound = inv.other_bound;
@@ -102,6 +104,7 @@ loop-other_at-preserved g c =
       other_reads = inv.other_reads;
       walk = turn.1 (IsAt-from f number last _ (c.loop-other_at.own_at + 1) (Some next) block);
       own_block = block;
+      from_first = read.valid.0;
       other_block = inv.other_block;
       own_bound = inv.own_bound;
       other_bound = inv.other_bound;
@@ -112,4 +115,4 @@ loop-other_at-preserved g c =
 pub returns-in-Beyond-clause-value : goal.returns-in-Beyond-clause-value
 returns-in-Beyond-clause-value g c =
     let inv = c.loop-other_at.invariant in
-    fit-beyond g.T.Block.bounds g.T.Block.form g.T.Block.number g.T.Block.last _ _ _ _ c.loop-other_at.own_block c.loop-other_at.other_block inv.walk inv.own_block inv.other_block c.in-Beyond.ensures
+    fit-beyond g.T.Block.bounds g.T.Block.form g.T.Block.number g.T.Block.first g.T.Block.last _ _ _ _ c.loop-other_at.own_block c.loop-other_at.other_block inv.walk inv.own_block inv.from_first inv.other_block c.in-Beyond.ensures

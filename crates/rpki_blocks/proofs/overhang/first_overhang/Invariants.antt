@@ -10,6 +10,7 @@ invariant-loop-other_at g l = record {
   other_reads : g.Y.Reads.count l.other + (length (g.Y.Reads.blocks l.fn.other) - (l.other_at + 1)) ≤ g.Y.Reads.count l.fn.other + length (g.Y.Reads.blocks l.fn.other);
   walk : Inside g.T.Block.bounds g.T.Block.form (g.X.Reads.blocks l.fn.own) (g.Y.Reads.blocks l.fn.other) l.own_at (Some (numbers g.T.Block.number l.own_block)) l.other_at (Some (numbers g.T.Block.number l.other_block));
   own_block : HoldsBlock g.T.Block.bounds g.T.Block.number g.T.Block.last (g.X.Reads.blocks l.fn.own) l.own_at (Some l.own_block);
+  from_first : g.T.Block.first ≤ g.T.Block.number l.own_block.0;
   other_block : HoldsBlock g.T.Block.bounds g.T.Block.number g.T.Block.last (g.Y.Reads.blocks l.fn.other) l.other_at (Some l.other_block);
   own_bound : length (g.X.Reads.blocks l.fn.own) < 2 ^ 64;
   other_bound : length (g.Y.Reads.blocks l.fn.other) < 2 ^ 64;

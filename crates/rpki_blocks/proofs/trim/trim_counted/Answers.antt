@@ -5,10 +5,10 @@ use Rattle.rpki_blocks.proofs.FitTurns.{overhang-not_inside}
 use Rattle.rpki_blocks.proofs.trim.trim_counted.Goals as goal
 
 pub returns-in-Ok-clause-ok : goal.returns-in-Ok-clause-ok
-returns-in-Ok-clause-ok g c = (λ e. absurd cc, λ all. absurd (overhang-not_inside g.T.Block.bounds g.T.Block.form g.T.Block.number g.T.Block.last _ _ c.in-Some.overhang c.in-Some.ensures.value all))
+returns-in-Ok-clause-ok g c = (λ e. absurd cc, λ all. absurd (overhang-not_inside g.T.Block.bounds g.T.Block.form g.T.Block.number g.T.Block.first g.T.Block.last _ _ c.in-Some.overhang c.in-Some.ensures.value all))
 
 pub returns-in-Err-clause-ok : goal.returns-in-Err-clause-ok
-returns-in-Err-clause-ok g c = (λ e. absurd cc, λ all. absurd (overhang-not_inside g.T.Block.bounds g.T.Block.form g.T.Block.number g.T.Block.last _ _ c.in-Some.overhang c.in-Some.ensures.value all))
+returns-in-Err-clause-ok g c = (λ e. absurd cc, λ all. absurd (overhang-not_inside g.T.Block.bounds g.T.Block.form g.T.Block.number g.T.Block.first g.T.Block.last _ _ c.in-Some.overhang c.in-Some.ensures.value all))
 
 pub returns-in-Ok-clause-refused : goal.returns-in-Ok-clause-refused
 returns-in-Ok-clause-refused g c =

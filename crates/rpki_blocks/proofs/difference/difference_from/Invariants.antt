@@ -3,12 +3,12 @@ use Rattle.std.proofs.Common.{◌≡◌, ◌+◌, ◌-◌, ◌^◌, ◌<◌, ◌
 use Rattle.std.specs.Option.{option_map, IfSome}
 use Rattle.rpki_blocks.specs.Sets.{numbers}
 use Rattle.rpki_blocks.proofs.Cutting.{Walk}
-use Rattle.rpki_blocks.proofs.difference.difference_counted.Given as goal
+use Rattle.rpki_blocks.proofs.difference.difference_from.Given as goal
 
 abbrev pub invariant-loop-other_at : goal.invariant-loop-other_at
 invariant-loop-other_at g l = record {
-  own_reads : g.X.Reads.count l.own + (length (g.X.Reads.blocks l.fn.own) - (l.own_at + 1)) ≤ g.X.Reads.count l.fn.own + length (g.X.Reads.blocks l.fn.own);
-  other_reads : g.Y.Reads.count l.other + (length (g.Y.Reads.blocks l.fn.other) - (l.other_at + 1)) ≤ g.Y.Reads.count l.fn.other + length (g.Y.Reads.blocks l.fn.other);
+  own_reads : g.X.Reads.count l.own + (length (g.X.Reads.blocks l.fn.own) - (l.own_at + 1)) ≤ g.X.Reads.count l.fn.own + (length (g.X.Reads.blocks l.fn.own) - (l.fn.overhang.own_at + 1));
+  other_reads : g.Y.Reads.count l.other + (length (g.Y.Reads.blocks l.fn.other) - (l.other_at + 1)) ≤ g.Y.Reads.count l.fn.other + (length (g.Y.Reads.blocks l.fn.other) - (l.fn.overhang.other_at + 1));
   walk : Walk g.T.Block.bounds g.T.Block.form (g.X.Reads.blocks l.fn.own) (g.Y.Reads.blocks l.fn.other) l.own_at (option_map (numbers g.T.Block.number) l.rest) l.other_at (option_map (numbers g.T.Block.number) l.cut) l.chain.items;
   few : length l.chain.items ≤ l.own_at + l.other_at;
   valid : IfSome l.rest (λ b. (g.T.Block.first ≤ g.T.Block.number b.0) × (g.T.Block.number b.1 ≤ g.T.Block.last));

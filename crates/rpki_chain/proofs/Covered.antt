@@ -1,8 +1,7 @@
 -- What an issuer's claim leaves out of a set.
-use Rattle.std.proofs.Common.{◌≡◌, ℕ, ◌==◌, ◌↔◌, ◌⊎◌, inl, inr, ⊎_elim, Bool, true, IsTrue, List, [], ◌∷◌, length, map, refl, sym, ap, subst, ◌∙◌, arith}
+use Rattle.std.proofs.Common.{◌≡◌, ℕ, ◌↔◌, ◌⊎◌, inl, inr, ⊎_elim, [], sym, subst}
 use Rattle.std.specs.Prelude.{Result, Ok, Err, IsOk, IfErr, IsErrAnd}
 use Rattle.std.proofs.lemmas.Bool.{false≢true}
-use Rattle.std.proofs.lemmas.Grind.{common_steps}
 use Rattle.rpki_text.specs.declared.memory.OrMemory.{OrMemory}
 use Rattle.rpki_text.specs.declared.memory.OrMemory.TheVariants.{Refused, Memory}
 use Rattle.rpki_text.specs.Memory.{IsMemory, IfRefused}
@@ -11,24 +10,15 @@ use Rattle.rpki_chain.specs.Operations.{IsDifference}
 use Rattle.rpki_chain.specs.Paths.{Leaves, IsCovered, IsUncovered}
 use Rattle.rpki_chain.specs.Runs.{Runs, Holds, IsRunsOf}
 use Rattle.rpki_chain.specs.declared.choice.ResourcesChoice.TheVariants.{Missing, Inherit, Blocks}
-use Rattle.rpki_chain.proofs.ClaimLemmas.{empty_set as no_blocks}
 use Rattle.rpki_chain.proofs.Issued.{none_held}
 use Rattle.rpki_chain.proofs.LawLemmas.{empty_set}
-use Rattle.rpki_chain.proofs.RunLists.{Holds-decided, IsRunsOf-same}
+use Rattle.rpki_chain.proofs.RunLists.{Holds-decided}
 
 -- whether a claim leaves a number is decided
 pub Leaves-decided : (claim : Claim) (n : ℕ) → Leaves claim n ⊎ (Leaves claim n → ⊥)
 Leaves-decided Missing n = inr (λ l. l)
 Leaves-decided Inherit n = inl tt
 Leaves-decided (Blocks runs) n = Holds-decided runs n
-
--- a set has no number where its list of blocks has no length
-pub none_by_length : {B : Type 0} (f : B → ℕ × ℕ) (blocks : List B) (set : Runs) (b : Bool) → map f blocks ≡ set → b ≡ (length blocks == 0) → IsTrue b ↔ (set ≡ [])
-none_by_length f [] set b is e = (λ t. sym is, λ none. e)
-none_by_length f (x ∷ blocks) set b is e = (
-  λ t. let told : (length (x ∷ blocks) == 0) ≡ true = sym e ∙ t in let none : length (x ∷ blocks) ≡ 0 = grind (arith, common_steps) in absurd (omega (arith, none)),
-  λ none. let long = ap length (is ∙ none) in absurd (omega arith),
-)
 
 -- a call that wants memory answers that it isn't so, and tells nothing else
 pub wants_memory : {X E : Type 0} (C : Type 0) (Q : E → Type 0) (r : Result X (OrMemory E)) → (C → ⊥) → IsErrAnd r IsMemory → (IsOk r ↔ C) × IfErr r (IfRefused Q)
@@ -44,15 +34,6 @@ module _ (set : Runs) (issuer : Claim) where
     λ none. h.1 (empty_set (Holds set) set runs none),
   )
 
-  pub uncovered-missing : (rest : Runs) → issuer ≡ Missing → IsRunsOf (Holds set) set → rest ≡ set → IsRunsOf (λ n. Holds set n × (Leaves issuer n → ⊥)) rest
-  uncovered-missing rest is runs same = subst (λ (c : Claim). IsRunsOf (λ n. Holds set n × (Leaves c n → ⊥)) rest) (sym is)
-      (subst (λ (r : Runs). IsRunsOf (λ n. Holds set n × (⊥ → ⊥)) r) (sym same) (IsRunsOf-same set _ _ (λ n. (λ held. (held, λ l. l), λ x. x.0)) runs))
-
-  pub uncovered-inherit : (rest : Runs) → issuer ≡ Inherit → rest ≡ [] → IsRunsOf (λ n. Holds set n × (Leaves issuer n → ⊥)) rest
-  uncovered-inherit rest is same = subst (λ (c : Claim). IsRunsOf (λ n. Holds set n × (Leaves c n → ⊥)) rest) (sym is)
-      (subst (λ (r : Runs). IsRunsOf (λ n. Holds set n × (Leaves Inherit n → ⊥)) r) (sym same)
-      (IsRunsOf-same [] (Holds []) _ (λ n. (λ held. absurd (none_held [] n refl held), λ x. absurd (x.1 tt))) (no_blocks 0 0).are_runs))
-
   pub uncovered-listed : (listed rest : Runs) → issuer ≡ Blocks listed → IsDifference set listed rest → IsRunsOf (λ n. Holds set n × (Leaves issuer n → ⊥)) rest
   uncovered-listed listed rest is h = subst (λ (c : Claim). IsRunsOf (λ n. Holds set n × (Leaves c n → ⊥)) rest) (sym is) h
 
@@ -64,3 +45,10 @@ module _ (set : Runs) (issuer : Claim) where
         (λ (outside : Leaves issuer n → ⊥). absurd (none_held rest n none ((runs.members n).1 (held, outside))))
         (Leaves-decided issuer n));
   }
+
+  -- what isn't listed is what a claim that lists a set is refused by
+  pub refused-listed : {X : Type 0} (listed : Runs) (r : Result X (OrMemory Runs)) → issuer ≡ Blocks listed → IsOk r ↔ ((n : ℕ) → Holds set n → Holds listed n) → IfErr r (IfRefused (IsDifference set listed)) → IfErr r (IfRefused (IsUncovered (Holds set) issuer))
+  refused-listed listed (Ok x) is ok h = tt
+  refused-listed listed (Err (Memory e)) is ok h = tt
+  refused-listed listed (Err (Refused rest)) is ok h =
+      uncovered rest (uncovered-listed listed rest is h) (λ covered. false≢true (ok.1 (subst (λ (c : Claim). IsCovered (Holds set) c) is covered)))

@@ -23,6 +23,11 @@ wants_memory P Q (Ok x) h = absurd h
 wants_memory P Q (Err (Refused e)) h = absurd h
 wants_memory P Q (Err (Memory e)) h = tt
 
+-- and a refusal is handed on as it is
+pub handed_on : {T E : Type 0} (P : T → Type 0) (Q : E → Type 0) (refusal : OrMemory E) (r : Result T (OrMemory E)) → IsErrAnd r (λ e. e ≡ refusal) → IfRefused Q refusal → MatchResult r P (IfRefused Q)
+handed_on P Q refusal (Ok value) is h = absurd is
+handed_on P Q refusal (Err error) is h = subst (IfRefused Q) (sym is) h
+
 -- no runs hold no number
 pub none_held : (runs : Runs) (n : ℕ) → runs ≡ [] → Holds runs n → ⊥
 none_held runs n none held = Covers-nil (λ x. x) n (subst (λ (r : Runs). Holds r n) none held)
@@ -65,19 +70,23 @@ module _ (set : Runs) (claim : Claim) (mode : Overclaim) where
       accepted = λ n. not_exceeded_inside (Holds set) (Blocks listed) mode n (inside n);
     })
 
-    pub issued-trim : (issued : Runs) → mode ≡ Trim → IsIntersection set listed issued → IsIssued (Holds set) claim mode issued
+    pub issued-trim : (issued : Runs) → mode ≡ Trim → IsIntersection listed set issued → IsIssued (Holds set) claim mode issued
     issued-trim issued trim both = subst (λ (c : Claim). IsIssued (Holds set) c mode issued) (sym is) (record {
-      runs = both;
+      runs = IsRunsOf-same issued _ _ (λ n. (λ (a, b). (b, a), λ (a, b). (b, a))) both;
       accepted = λ n e. subst (λ (m : Overclaim). Exceeds (Holds set) (Blocks listed) m n) trim e;
     })
 
-    pub excess-refuse : (excess : Runs) → mode ≡ Refuse → IsDifference listed set excess → (((n : ℕ) → Holds listed n → Holds set n) → ⊥) → IsExcess (Holds set) claim mode excess
+    excess-refuse : (excess : Runs) → mode ≡ Refuse → IsDifference listed set excess → (((n : ℕ) → Holds listed n → Holds set n) → ⊥) → IsExcess (Holds set) claim mode excess
     excess-refuse excess refuse over not_inside =
         let done : IsExcess (Holds set) (Blocks listed) Refuse excess = record {
           runs = over;
           some = λ none. not_inside (inside_by_none listed set excess over none);
         } in
         subst (λ (c : Claim). IsExcess (Holds set) c mode excess) (sym is) (subst (λ (m : Overclaim). IsExcess (Holds set) (Blocks listed) m excess) (sym refuse) done)
+
+    pub excess-refused : (refusal : OrMemory Runs) → mode ≡ Refuse → IfRefused (IsDifference listed set) refusal → (((n : ℕ) → Holds listed n → Holds set n) → ⊥) → IfRefused (IsExcess (Holds set) claim mode) refusal
+    excess-refused (Refused excess) refuse over not_inside = excess-refuse excess refuse over not_inside
+    excess-refused (Memory error) refuse over not_inside = tt
 
 module _ (S : ℕ → Type 0) (claim : Claim) (mode : Overclaim) where
   pub one_issued : (a b : Runs) → IsIssued S claim mode a → IsIssued S claim mode b → a ≡ b

@@ -10,8 +10,11 @@ use Rattle.std.proofs.lemmas.List.Elements.{All-map, All-tail}
 use Rattle.rpki_chain.specs.BlockSets.{IsBlockSet, IsBlockChain}
 use Rattle.rpki_blocks.specs.Equality.{is_same_pair, same_runs}
 use Rattle.rpki_blocks.specs.Sets.{Covers, IsInside, IsNew, IsChain}
+use Rattle.rpki_blocks.specs.Overhang.{IsOverhang}
+use Rattle.rpki_blocks.specs.declared.overhang.Overhang.{Overhang}
 use Rattle.rpki_chain.specs.Runs.{Runs, Holds, IsRunsOf, IsRunsOfBlocks}
 use Rattle.rpki_blocks.proofs.Chains.{Covers-nil}
+use Rattle.rpki_blocks.proofs.FitTurns.{overhang-not_inside}
 use Rattle.rpki_chain.proofs.RunLists.{IsRunsOf-itself, IsRunsOf-same, IsRunsOfBlocks-bounds, Holds-map}
 
 -- whether two sets are the same is what the comparison of their bounds tells
@@ -48,6 +51,11 @@ module _ {B : Type 0} (f : B → ℕ × ℕ) where
     λ p n held. (Holds-map f other n).1 (h.0 p n ((Holds-map f own n).0 held)),
     λ inside. h.1 (λ n covered. (Holds-map f other n).0 (inside n ((Holds-map f own n).1 covered))),
   )
+
+  -- and a block that leaves the other is one of no subset
+  pub not_inside_set : {I : Type 0} (form : ℕ × ℕ → B) (number : I → ℕ) (first last : ℕ) (own other : List B) (o : Overhang I) → IsOverhang f number first last own other o → ((n : ℕ) → Holds (map f own) n → Holds (map f other) n) → ⊥
+  not_inside_set form number first last own other o leaves inside =
+      overhang-not_inside f form number first last own other o leaves (λ n covered. (Holds-map f other n).0 (inside n ((Holds-map f own n).1 covered)))
 
   -- what is made of the chain of S is the set S
   pub made : {E : Type 0} (r : Result Runs E) (S : ℕ → Type 0) (blocks : List B) → IsRunsOf S (map f blocks) → IfOk r (λ set. set ≡ map f blocks) → IfOk r (IsRunsOf S)

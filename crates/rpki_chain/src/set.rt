@@ -1,8 +1,9 @@
 //! Sets of the items of a kind.
-ghost use Rattle.std.specs.Prelude.{◌≡◌, ℕ, ◌↔◌, [], ◌∷◌, IsTrue, IfOk, OnOk, OnErr, map};
+ghost use Rattle.std.specs.Prelude.{◌≡◌, ℕ, ◌↔◌, [], ◌∷◌, IsTrue, IsOk, IfOk, IfErr, OnOk, OnErr, map};
 ghost use Rattle.std.specs.Slice.Iter.{iter_rest};
 ghost use Rattle.rpki_chain.specs.BlockSets.{IsBlockChain, IsBlockSet};
 ghost use Rattle.rpki_blocks.specs.Equality.{same_runs, runs_per, runs_equiv};
+ghost use Rattle.rpki_text.specs.Memory.{IfRefused};
 ghost use Rattle.rpki_chain.specs.Operations.{IsDifference, IsIntersection, IsUnion};
 ghost use Rattle.rpki_chain.specs.Runs.{Runs, Holds, IsRunsOfBlocks};
 ghost use Rattle.rpki_blocks.specs.Sets.{IsWithin, IsChain};
@@ -201,6 +202,48 @@ impl<T: Block, A: Allocator> BlockSet<T, A> {
     {
         let chain = self.as_chain().difference(alloc, other.as_chain())?;
         Self::from_owned(alloc, chain)
+    }
+
+    /// `Ok` where the other has each item, with no memory taken. Else `Refused` with the items that it doesn't have, or
+    /// `Memory`. One walk over both.
+    pub(crate) fn covered_by(
+        &self,
+        alloc: A,
+        other: &BlockSet<T, A>,
+    ) -> Result<(), OrMemory<BlockSet<T, A>>>
+    where
+        A: Copy,
+        ensures ok { IsOk result ↔ ((n : ℕ) → Holds self.now n → Holds other.now n) }
+        ensures refused { IfErr result (IfRefused (IsDifference self.now other.now)) }
+    {
+        let own = self.as_chain();
+        let others = other.as_chain();
+        let Some(overhang) = own.overhang(others) else {
+            return Ok(());
+        };
+        let excess = own.difference_from(alloc, others, overhang)?;
+        Err(OrMemory::Refused(Self::from_owned(alloc, excess)?))
+    }
+
+    /// `Ok` where the other has each item, with no memory taken. Else `Refused` with the items that both have, or
+    /// `Memory`. One walk over both.
+    pub(crate) fn trim(
+        &self,
+        alloc: A,
+        other: &BlockSet<T, A>,
+    ) -> Result<(), OrMemory<BlockSet<T, A>>>
+    where
+        A: Copy,
+        ensures ok { IsOk result ↔ ((n : ℕ) → Holds self.now n → Holds other.now n) }
+        ensures refused { IfErr result (IfRefused (IsIntersection self.now other.now)) }
+    {
+        let own = self.as_chain();
+        let others = other.as_chain();
+        let Some(overhang) = own.overhang(others) else {
+            return Ok(());
+        };
+        let common = own.common_from(alloc, others, overhang)?;
+        Err(OrMemory::Refused(Self::from_owned(alloc, common)?))
     }
 
     /// The set of the items that one or the other has. `AllocError` where there is no memory for it.

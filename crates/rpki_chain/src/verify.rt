@@ -1,9 +1,9 @@
 //! What claims leave of a set: one claim, a path of them, and the claim of an issuer who should have it all.
-ghost use Rattle.std.specs.Prelude.{◌≡◌, ◌↔◌, IsTrue, IsOk, IfOk, IfErr, MatchResult};
+ghost use Rattle.std.specs.Prelude.{◌≡◌, ◌↔◌, [], IsOk, IfOk, IfErr, MatchResult};
 ghost use Rattle.rpki_text.specs.Memory.{IfRefused};
 ghost use Rattle.rpki_text.specs.Reading.{AnswersOrMemory};
 ghost use Rattle.rpki_chain.specs.Claims.{claim_by};
-ghost use Rattle.rpki_chain.specs.Paths.{IsIssued, IsExcess, IsCovered, IsUncovered, IsPathResult, IsFirstRefusal, Leaves};
+ghost use Rattle.rpki_chain.specs.Paths.{IsIssued, IsExcess, IsCovered, IsUncovered, IsPathResult, IsFirstRefusal};
 ghost use Rattle.rpki_chain.specs.Runs.{Holds, IsRunsOf};
 ghost use Rattle.rpki_chain.specs.declared.choice.ResourcesChoice.TheVariants.{Blocks};
 
@@ -48,11 +48,11 @@ impl<T: Block, A: Allocator> BlockSet<T, A> {
         ensures refused { IfErr result
             (IfRefused (IsUncovered (Holds self.now) (claim_by (λ set. set.now) issuer.entry))) }
     {
-        if is_covered(self, &issuer) {
-            return Ok(());
+        match issuer {
+            ResourcesChoice::Missing => none_left(self),
+            ResourcesChoice::Inherit => Ok(()),
+            ResourcesChoice::Blocks(listed) => self.covered_by(alloc, listed),
         }
-        let excess = uncovered_by(self, alloc, issuer)?;
-        Err(OrMemory::Refused(excess))
     }
 
     /// What a path of claims leaves of the set, each made on what the steps before it leave. `Refused` with the first
@@ -99,46 +99,30 @@ fn listed_by<T: Block, A: Allocator + Copy>(
     ensures { MatchResult result (IsIssued (Holds set.now) (Blocks listed.now) mode)
         (IfRefused (IsExcess (Holds set.now) (Blocks listed.now) mode)) }
 {
-    if set.contains(listed) {
-        return Ok(shared(listed)?);
-    }
     match mode {
-        Overclaim::Refuse => {
-            let excess = listed.difference(alloc, set)?;
-            Err(OrMemory::Refused(excess))
+        Overclaim::Refuse => listed.covered_by(alloc, set)?,
+        Overclaim::Trim => {
+            if let Err(beyond) = listed.trim(alloc, set) {
+                return match beyond {
+                    OrMemory::Refused(common) => Ok(common),
+                    OrMemory::Memory(error) => Err(OrMemory::Memory(error)),
+                };
+            }
         }
-        Overclaim::Trim => Ok(set.intersection(alloc, listed)?),
     }
+    Ok(shared(listed)?)
 }
 
-/// Whether an issuer's claim has all of a set.
-fn is_covered<T: Block, A: Allocator>(
-    set: &BlockSet<T, A>,
-    issuer: &ResourcesChoice<&BlockSet<T, A>>,
-) -> bool
-    ensures { IsTrue result ↔ IsCovered (Holds set.now) (claim_by (λ set. set.now) issuer.now) }
+/// Whether a set is empty; else the refusal is the set itself.
+fn none_left<T: Block, A: Allocator>(set: &BlockSet<T, A>) -> Result<(), OrMemory<BlockSet<T, A>>>
+    ensures ok { IsOk result ↔ (set.now ≡ []) }
+    ensures refused { IfErr result (IfRefused (λ left. left ≡ set.now)) }
+    ensures runs { IsRunsOf (Holds set.now) set.now }
 {
-    match issuer {
-        ResourcesChoice::Missing => set.as_slice().is_empty(),
-        ResourcesChoice::Inherit => true,
-        ResourcesChoice::Blocks(listed) => listed.contains(set),
+    if set.as_slice().is_empty() {
+        return Ok(());
     }
-}
-
-/// What an issuer's claim doesn't have of a set.
-fn uncovered_by<T: Block, A: Allocator + Copy>(
-    set: &BlockSet<T, A>,
-    alloc: A,
-    issuer: ResourcesChoice<&BlockSet<T, A>>,
-) -> Result<BlockSet<T, A>, AllocError>
-    ensures { IfOk result (IsRunsOf (λ n. Holds set.now n
-        × (Leaves (claim_by (λ set. set.now) issuer.entry) n → ⊥))) }
-{
-    match issuer {
-        ResourcesChoice::Missing => shared(set),
-        ResourcesChoice::Inherit => Ok(BlockSet::empty()),
-        ResourcesChoice::Blocks(listed) => set.difference(alloc, listed),
-    }
+    Err(OrMemory::Refused(shared(set)?))
 }
 
 /// The same set, with one owner more. Its blocks are looked at for what they tell: that the set is its runs.

@@ -1,23 +1,24 @@
-use Rattle.std.proofs.Common.{refl}
+use Rattle.std.proofs.Common.{ℕ, refl}
 use Rattle.std.proofs.lemmas.Bool.{false≢true}
 use Rattle.rpki_chain.specs.declared.choice.ResourcesChoice.TheVariants.{Blocks}
-use Rattle.rpki_chain.proofs.Issued.{issued-inside, issued-trim, excess-refuse, wants_memory}
+use Rattle.rpki_chain.specs.Runs.{Holds}
+use Rattle.rpki_chain.proofs.Issued.{issued-inside, issued-trim, excess-refused, handed_on}
 use Rattle.rpki_chain.proofs.verify.listed_by.Goals as goal
+use Rattle.rpki_chain.proofs.verify.listed_by.Goals.{in-Refuse+in_ok-covered_by-in-Refuse, in-Trim+in_default}
 
-pub returns-then-contains : goal.returns-then-contains
-returns-then-contains g c = issued-inside c.args.set.now (Blocks c.args.listed.now) c.args.mode c.args.listed.now refl _ (c.if-contains.ensures.0 refl) c.in_ok-shared.ensures.same c.in_ok-shared.ensures.runs
+pub returns-in_err-covered_by-in-Refuse : goal.returns-in_err-covered_by-in-Refuse
+returns-in_err-covered_by-in-Refuse g c =
+    let refusal = c.in_err-covered_by-in-Refuse in
+    handed_on _ _ refusal.field-0.0 c.from_residual.result c.from_residual.ensures.1
+    (excess-refused c.args.set.now (Blocks c.args.listed.now) c.args.mode c.args.listed.now refl refusal.field-0.0 c.in-Refuse.is refusal.ensures.refused (λ inside. false≢true (refusal.ensures.ok.1 inside)))
 
-pub returns-in_ok-excess-in-Refuse : goal.returns-in_ok-excess-in-Refuse
-returns-in_ok-excess-in-Refuse g c = excess-refuse c.args.set.now (Blocks c.args.listed.now) c.args.mode c.args.listed.now refl _ c.in-Refuse.is c.in_ok-excess-in-Refuse.ensures (λ inside. false≢true (c.if-contains.ensures.1 inside))
+pub returns-in-Refused : goal.returns-in-Refused
+returns-in-Refused g c = issued-trim c.args.set.now (Blocks c.args.listed.now) c.args.mode c.args.listed.now refl c.in-Refused.common c.in-Trim.is (rw c.in-Refused.is at c.in-Err.ensures.refused)
 
-pub returns-in_ok-intersection-in-Trim : goal.returns-in_ok-intersection-in-Trim
-returns-in_ok-intersection-in-Trim g c = issued-trim c.args.set.now (Blocks c.args.listed.now) c.args.mode c.args.listed.now refl _ c.in-Trim.is c.in_ok-intersection-in-Trim.ensures
-
-pub returns-in_err-shared : goal.returns-in_err-shared
-returns-in_err-shared g c = wants_memory _ _ c.from_residual.result c.from_residual.ensures.1
-
-pub returns-in_err-excess-in-Refuse : goal.returns-in_err-excess-in-Refuse
-returns-in_err-excess-in-Refuse g c = wants_memory _ _ c.from_residual-in_err-excess-in-Refuse.result c.from_residual-in_err-excess-in-Refuse.ensures.1
-
-pub returns-in_err-intersection-in-Trim : goal.returns-in_err-intersection-in-Trim
-returns-in_err-intersection-in-Trim g c = wants_memory _ _ c.from_residual-in_err-intersection-in-Trim.result c.from_residual-in_err-intersection-in-Trim.ensures.1
+pub returns : goal.returns
+returns g c =
+    let inside : (n : ℕ) → Holds c.args.listed.now n → Holds c.args.set.now n = elim c.match-mode.branch [
+      | in-Refuse+in_ok-covered_by-in-Refuse w ↦ w.in_ok-covered_by-in-Refuse.ensures.ok.0 refl
+      | in-Trim+in_default w ↦ w.in_default.ensures.ok.0 refl
+    ] in
+    issued-inside c.args.set.now (Blocks c.args.listed.now) c.args.mode c.args.listed.now refl _ inside c.in_ok-shared.ensures.same c.in_ok-shared.ensures.runs

@@ -1,14 +1,17 @@
-use Rattle.std.proofs.lemmas.Bool.{false≢true}
-use Rattle.rpki_chain.proofs.Covered.{uncovered, wants_memory}
+-- A missing claim covers the empty set, an inherited one each, and one that lists a set what lies in it.
+use Rattle.std.proofs.Common.{◌↔◌, ap, sym, subst}
+use Rattle.std.specs.Prelude.{IsOk}
+use Rattle.rpki_chain.specs.Claims.{Claim, claim_by}
+use Rattle.rpki_chain.specs.Paths.{IsCovered}
+use Rattle.rpki_chain.specs.Runs.{Holds}
+use Rattle.rpki_chain.proofs.Covered.{covered-missing, refused-listed}
 use Rattle.rpki_chain.proofs.set.BlockSet.verify_covered.Goals as goal
 
-pub returns-clause-ok : goal.returns-clause-ok
-returns-clause-ok g c = c.if-is_covered.ensures
+pub returns-in-Missing-clause-ok : goal.returns-in-Missing-clause-ok
+returns-in-Missing-clause-ok g c = covered-missing c.args.self.now _ _ (ap (claim_by (λ set. set.now)) c.in-Missing.is) c.none_left.ensures.runs c.none_left.ensures.ok
 
-pub returns-clause-refused : goal.returns-clause-refused
-returns-clause-refused g c = uncovered c.args.self.now _ _ c.in_ok-excess.ensures (λ covered. false≢true (c.if-is_covered.ensures.1 covered))
+pub returns-in-Blocks-clause-ok : goal.returns-in-Blocks-clause-ok
+returns-in-Blocks-clause-ok g c = subst (λ (claim : Claim). IsOk c.covered_by.result ↔ IsCovered (Holds c.args.self.now) claim) (sym (ap (claim_by (λ set. set.now)) c.in-Blocks.is)) c.covered_by.ensures.ok
 
-pub returns-in_err-excess : goal.returns-in_err-excess
-returns-in_err-excess g c =
-    let told = wants_memory _ _ c.from_residual.result (λ covered. false≢true (c.if-is_covered.ensures.1 covered)) c.from_residual.ensures.1 in
-    record { ok = told.0; refused = told.1 }
+pub returns-in-Blocks-clause-refused : goal.returns-in-Blocks-clause-refused
+returns-in-Blocks-clause-refused g c = refused-listed c.args.self.now _ c.in-Blocks.listed.now c.covered_by.result (ap (claim_by (λ set. set.now)) c.in-Blocks.is) c.covered_by.ensures.ok c.covered_by.ensures.refused

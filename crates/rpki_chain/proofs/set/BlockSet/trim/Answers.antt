@@ -1,0 +1,35 @@
+-- A block that leaves the other set shows that not all lie in it, and with it what both have is told.
+use Rattle.std.proofs.Common.{ℕ, refl, sym, subst}
+use Rattle.rpki_chain.specs.Operations.{IsIntersection}
+use Rattle.rpki_chain.specs.Runs.{Runs, Holds}
+use Rattle.rpki_chain.proofs.Covered.{wants_memory}
+use Rattle.rpki_chain.proofs.RunLists.{IsRunsOf-intersection, Holds-map}
+use Rattle.rpki_chain.proofs.SetLemmas.{not_inside_set}
+use Rattle.rpki_chain.proofs.set.BlockSet.trim.Goals as goal
+
+pub returns-in_default-clause-ok : goal.returns-in_default-clause-ok
+returns-in_default-clause-ok g c = rw (← c.as_chain-own.ensures.blocks, ← c.as_chain-others.ensures.blocks)
+    (λ t n held. (Holds-map g.T.Block.bounds _ n).1 (c.in_default.ensures n ((Holds-map g.T.Block.bounds _ n).0 held)), λ all. refl)
+
+pub returns-in_err-common-clause-ok : goal.returns-in_err-common-clause-ok
+returns-in_err-common-clause-ok g c =
+    let over : ((n : ℕ) → Holds c.args.self.now n → Holds c.args.other.now n) → ⊥ =
+    rw (← c.as_chain-own.ensures.blocks, ← c.as_chain-others.ensures.blocks) (not_inside_set g.T.Block.bounds g.T.Block.form g.T.Block.number g.T.Block.first g.T.Block.last _ _ c.in-Some.overhang c.in-Some.ensures) in
+    (wants_memory _ (λ set. IsIntersection c.args.self.now c.args.other.now set) c.from_residual.result over c.from_residual.ensures.1).0
+
+pub returns-in_err-from_owned-clause-ok : goal.returns-in_err-from_owned-clause-ok
+returns-in_err-from_owned-clause-ok g c =
+    let over : ((n : ℕ) → Holds c.args.self.now n → Holds c.args.other.now n) → ⊥ =
+    rw (← c.as_chain-own.ensures.blocks, ← c.as_chain-others.ensures.blocks) (not_inside_set g.T.Block.bounds g.T.Block.form g.T.Block.number g.T.Block.first g.T.Block.last _ _ c.in-Some.overhang c.in-Some.ensures) in
+    (wants_memory _ (λ set. IsIntersection c.args.self.now c.args.other.now set) c.from_residual-in_err-from_owned.result over c.from_residual-in_err-from_owned.ensures.1).0
+
+pub returns-clause-ok : goal.returns-clause-ok
+returns-clause-ok g c =
+    let over : ((n : ℕ) → Holds c.args.self.now n → Holds c.args.other.now n) → ⊥ =
+    rw (← c.as_chain-own.ensures.blocks, ← c.as_chain-others.ensures.blocks) (not_inside_set g.T.Block.bounds g.T.Block.form g.T.Block.number g.T.Block.first g.T.Block.last _ _ c.in-Some.overhang c.in-Some.ensures) in
+    (λ ok. absurd cc, λ all. absurd (over all))
+
+pub returns-clause-refused : goal.returns-clause-refused
+returns-clause-refused g c =
+    let runs = IsRunsOf-intersection g.T.Block.bounds g.T.Block.form _ _ _ c.in_ok-common.ensures in
+    subst (λ (set : Runs). IsIntersection c.args.self.now c.args.other.now set) (sym c.in_ok-from_owned.ensures) (rw (← c.as_chain-own.ensures.blocks, ← c.as_chain-others.ensures.blocks) runs)

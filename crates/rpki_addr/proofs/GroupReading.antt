@@ -132,12 +132,6 @@ module _ (left : ℕ) (at_start : Bool) (text : List ℕ) where
 
 -- ---- how far a reader of groups has come
 
--- before the first group
-pub IsSoFar-none : (n : ℕ) (text : Bor (List ℕ)) → IsSoFar n text.now (record { bits = 0; count = 0; closed = false; rest = text })
-IsSoFar-none n text =
-    let all : n - 0 ≡ n = omega arith in
-    record { front = []; read = rw all refl; count = refl; value = refl; small = omega (arith, pow-zero 0x10000); within = omega arith }
-
 -- groups that no IPv4 text closes, and what a reader finds behind them
 module _ (n : ℕ) (text : List ℕ) (groups : Groups) (unclosed : groups.closed ≡ false) (so_far : IsSoFar n text groups) where
   found : Segments

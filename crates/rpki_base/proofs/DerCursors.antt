@@ -80,22 +80,6 @@ reads_said_by G C reading old new (Ok x) is fits (y, read, says) = let found = i
 reads_said_by G C reading old new (Err (Refused e)) is fits (failed, kept) = ((λ x rest found. none_by G reading (left old) e is failed found.1.0 rest (found.0, found.1.1, found.2)), kept)
 reads_said_by G C reading old new (Err (Memory e)) is fits (failed, kept) = (tt, kept)
 
--- such a take, where a value stands at the front: it answers the one thing that the value says
-pub takes_said : {X Y : Type 0} (G : List ℕ → Y → Type 0) (C : Y → X → Type 0) (reading : List ℕ → Result (Y × List ℕ) DerError) (old new : Cursor) (result : Result X (OrMemory DerError))
-    → IsReading G reading → ((y : Y) (a b : X) → C y a → C y b → a ≡ b) → TakesSaidOrMemory C old new result reading
-    → (front rest : List ℕ) (y : Y) (x : X) → G front y → C y x → left old ≡ front ++ rest → MatchResult result (λ read. (read ≡ x) × (left new ≡ rest)) IsMemory
-takes_said {X} {Y} G C reading old new result is one took front rest y x grammar says at = decided result took
-  where
-    expected : reading (left old) ≡ Ok (y, rest)
-    expected = ap reading at ∙ is.again front y rest grammar
-
-    decided : (result : Result X (OrMemory DerError)) → TakesSaidOrMemory C old new result reading → MatchResult result (λ read. (read ≡ x) × (left new ≡ rest)) IsMemory
-    decided (Ok read) (z, found, tell) =
-        let both = ok_is (z, left new) (y, rest) (sym found ∙ expected) in
-        (one y read x (subst (λ y. C y read) (ap (λ p. p.0) both) tell) says, ap (λ p. p.1) both)
-    decided (Err (Refused e)) (failed, kept) = absurd (ok_or_err (y, rest) e (reading (left old)) expected failed)
-    decided (Err (Memory e)) (failed, kept) = tt
-
 -- what a reading finds, a take finds that answers None at the end
 optional_again : {X : Type 0} (reading : List ℕ → Result (X × List ℕ) DerError) (bytes : List ℕ) (x : X) (rest : List ℕ) → 0 < length bytes → reading bytes ≡ Ok (x, rest) → optional reading bytes ≡ Ok (Some x, rest)
 unfolding optional

@@ -152,13 +152,6 @@ pub exact_said_by : {X Y : Type 0} (S : List ℕ → Y → Type 0) (C : Y → X 
 exact_said_by S C reading by old new result modal took lenient =
     subst (λ r. TakesSaidOrMemory C old new result r) (lenient_is S reading by modal) (subst (λ mode. TakesSaidOrMemory C old new result (by mode)) lenient took)
 
--- what a refused take says
-pub refused_or_memory_by : {X Y : Type 0} (G S : List ℕ → Y → Type 0) (reading : List ℕ → Result (Y × List ℕ) DerError) (by : Bool → List ℕ → Result (Y × List ℕ) DerError) (view : X → Y) (old new : Cursor) (result : Result X (OrMemory DerError))
-    → IsReading G reading → IsModal S reading by → TakesOrMemory view old new result (by (is_strict old)) → NotCanonicalOrMemory G old result
-refused_or_memory_by G S reading by view old new (Ok x) is modal took = tt
-refused_or_memory_by G S reading by view old new (Err (Refused e)) is modal took = refused_at G S reading by is modal (is_strict old) (left old) e took.0
-refused_or_memory_by G S reading by view old new (Err (Memory e)) is modal took = tt
-
 -- a take that answers what is said by what the reading gives
 pub refused_said_by : {X Y : Type 0} (G S : List ℕ → Y → Type 0) (C : Y → X → Type 0) (reading : List ℕ → Result (Y × List ℕ) DerError) (by : Bool → List ℕ → Result (Y × List ℕ) DerError) (old new : Cursor) (result : Result X (OrMemory DerError))
     → IsReading G reading → IsModal S reading by → TakesSaidOrMemory C old new result (by (is_strict old)) → NotCanonicalOrMemory (Refines G C) old result

@@ -25,13 +25,6 @@ reads_same G H old new (Ok x) to from (front, is, at) = (front, to front x is, a
 reads_same G H old new (Err (Refused e)) to from (none, kept) = ((λ x rest found. none x rest (found.0, from found.0 x found.1, found.2)), kept)
 reads_same G H old new (Err (Memory e)) to from (none, kept) = (tt, kept)
 
--- what stands at the front is read, and what follows it is left, unless memory was wanting
-pub read_back_by : {X : Type 0} (G : List ℕ → X → Type 0) (old new : Cursor) (result : Result X (OrMemory DerError)) → OneFront G → ReadsOrMemory G (λ x. x) old new result
-    → (front rest : List ℕ) (x : X) → G front x → left old ≡ front ++ rest → MatchResult result (λ read. (read ≡ x) × (left new ≡ rest)) IsMemory
-read_back_by G old new (Ok y) one (other, also, split) front rest x is at = let o = one other front y x (left new) rest also is (sym split ∙ at) in (o.1, o.2)
-read_back_by G old new (Err (Refused e)) one (none, kept) front rest x is at = absurd (none x rest (front, is, at))
-read_back_by G old new (Err (Memory e)) one (none, kept) front rest x is at = tt
-
 -- the first of two lists that are one, and what follows it
 one_listed : {X : Type 0} (x : X) (xs : List X) (o : Option X) → x ∷ xs ≡ listed o → (o ≡ Some x) × (xs ≡ [])
 one_listed x xs None e = absurd cc

@@ -22,12 +22,6 @@ pub something_left : (octets : List ℕ) (fault : DerError) → ended octets ≡
 something_left [] fault e = cc
 something_left (octet ∷ octets) fault e = λ n. cc
 
--- no value stands at the front
-pub none_in_front : {X : Type 0} (G : List ℕ → X → Type 0) (octets : List ℕ) (e : OrMemory DerError)
-    → IfRefused (λ _. NoFront G octets) e → IfRefused (λ _. HasNone G octets) e
-none_in_front G octets (Refused fault) none = none_where_no_front G octets none
-none_in_front G octets (Memory error) none = tt
-
 -- what is passed on is said of the answer
 pub passed_on : {X E : Type 0} (Q : X → Type 0) (P : E → Type 0) (e : OrMemory E) (answer : Result X (OrMemory E))
     → IsErr answer × IsErrAnd answer (λ (f : OrMemory E). f ≡ e) → IfRefused P e → MatchResult answer Q (IfRefused P)

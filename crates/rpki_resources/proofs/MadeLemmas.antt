@@ -8,8 +8,3 @@ use Rattle.rpki_resources.specs.Triples.{Triple, InEach}
 pub made : {E : Type 0} (Makes : Runs → Runs → Runs → Type 0) (a b : Triple) (asn ipv4 : Runs) (r : Result Runs E) (q : Result Triple E) → MatchResult r (λ (set : Runs). q ≡ Ok (record { asn = asn; ipv4 = ipv4; ipv6 = set })) (λ error. q ≡ Err error) → Makes a.asn b.asn asn → Makes a.ipv4 b.ipv4 ipv4 → IfOk r (Makes a.ipv6 b.ipv6) → IfOk q (λ t. InEach (λ kind. Makes (kind a) (kind b) (kind t)))
 made Makes a b asn ipv4 (Ok set) q is x y z = subst (λ (made : Result Triple _). IfOk made (λ t. InEach (λ kind. Makes (kind a) (kind b) (kind t)))) (sym is) (record { asn = x; ipv4 = y; ipv6 = z })
 made Makes a b asn ipv4 (Err error) q is x y z = subst (λ (made : Result Triple _). IfOk made (λ t. InEach (λ kind. Makes (kind a) (kind b) (kind t)))) (sym is) tt
-
--- and where each is that of a set, they are the set
-pub made_same : {E : Type 0} (t : Triple) (asn ipv4 : Runs) (r : Result Runs E) (q : Result Triple E) → MatchResult r (λ (set : Runs). q ≡ Ok (record { asn = asn; ipv4 = ipv4; ipv6 = set })) (λ error. q ≡ Err error) → asn ≡ t.asn → ipv4 ≡ t.ipv4 → IfOk r (λ set. set ≡ t.ipv6) → IfOk q (λ set. set ≡ t)
-made_same t asn ipv4 (Ok set) q is x y z = subst (λ (made : Result Triple _). IfOk made (λ set. set ≡ t)) (sym is) (λ i. record { asn = x i; ipv4 = y i; ipv6 = z i })
-made_same t asn ipv4 (Err error) q is x y z = subst (λ (made : Result Triple _). IfOk made (λ set. set ≡ t)) (sym is) tt

@@ -26,6 +26,10 @@ cover_text family ps = joined (map (prefix_with_length family) ps)
 abbrev pub IsCoverOf : AddressFamily → List ℕ → List PrefixValue → Type 0
 IsCoverOf family list ps = (set : Runs) × IsSetOf (HasBlocks family list) set × IsShortestCover 128 (Holds set) ps
 
+-- the text is that of this cover
+abbrev pub IsCoverText : AddressFamily → List ℕ → List ℕ → Type 0
+IsCoverText family list text = (ps : List PrefixValue) × IsCoverOf family list ps × (text ≡ cover_text family ps)
+
 -- to a list of blocks of a family
 abbrev pub IsCoverIp : AddressFamily → List ℕ → List ℕ → Type 0
 IsCoverIp family list text = ShowsValueOrFault (IsCoverOf family list) (cover_text family) (HasBlocksFault family list) IpFaults.ip_from_str_error_text text

@@ -24,3 +24,20 @@ pub(crate) fn shown<T: fmt::Display + Drop, E: fmt::Display + Drop, A: Allocator
         Err(OrMemory::Memory(error)) => Err(error),
     }
 }
+
+/// The text, or what is printed of the fault behind `error: `. `AllocError` where there was no memory for the call, or
+/// there is none for the fault.
+pub(crate) fn shown_text<E: fmt::Display + Drop, A: Allocator + Copy>(
+    alloc: A,
+    found: Result<String<A>, OrMemory<E>>,
+) -> Result<String<A>, AllocError>
+    // Whatever text each fault prints, that is what the answer shows.
+    ensures { (fault_text : E → List ℕ) → ((fault : E) → E.output fault ≡ Some (fault_text fault))
+        → IfOk result (λ text. ShowsResult string_bytes fault_text found (string_bytes text)) }
+{
+    match found {
+        Ok(text) => Ok(text),
+        Err(OrMemory::Refused(fault)) => format!(in alloc; "error: {fault}"),
+        Err(OrMemory::Memory(error)) => Err(error),
+    }
+}

@@ -4,10 +4,9 @@ use Rattle.std.proofs.lemmas.Result.{IfOk-weaker}
 use Rattle.rpki_ip.specs.Faults.{ip_from_str_error_text}
 use Rattle.rpki_base.specs.declared.family.AddressFamily.TheVariants.{Ipv4}
 use Rattle.rpki_lines.proofs.CoverLemmas.{shows_cover}
-use Rattle.rpki_lines.specs.Cover.{cover_text}
 use Rattle.rpki_lines.proofs.cover.cover_v4.Goals as goal
 
 pub returns : goal.returns
 returns g c =
-    IfOk-weaker c.shown.result _ _ (λ text. shows_cover Ipv4 c.args.list.now c.v4_prefixes.result c.v4_prefixes.ensures (string_bytes text))
-    (c.shown.ensures (λ cover. cover_text cover.0 cover.1) (λ cover. refl) ip_from_str_error_text (λ fault. refl))
+    IfOk-weaker c.shown_text.result _ _ (λ text. shows_cover string_bytes Ipv4 c.args.list.now c.v4_text.result c.v4_text.ensures (string_bytes text))
+    (c.shown_text.ensures ip_from_str_error_text (λ fault. refl))

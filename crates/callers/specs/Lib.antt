@@ -1,3 +1,4 @@
 pub mod Anchor
 pub mod Certificates
+pub mod Notes
 pub mod Routes

@@ -1,7 +1,8 @@
 //! Blocks that are read through a reader of the caller's own, and how often.
-ghost use Rattle.std.specs.Prelude.{◌≡◌, ◌+◌, ◌^◌, ◌<◌, ◌≤◌, ◌↔◌, ℕ, length, IsTrue};
+ghost use Rattle.std.specs.Prelude.{◌≡◌, ◌+◌, ◌^◌, ◌<◌, ◌≤◌, ◌↔◌, ℕ, length, IsTrue, None};
 ghost use Rattle.rpki_asblock.specs.Blocks.{as_bounds};
 ghost use Rattle.rpki_blocks.specs.Sets.{Covers};
+ghost use Rattle.callers.specs.Notes.{last_read};
 ghost use Rattle.rpki_blocks.specs.View.{chain_blocks, counted_blocks, reads_of};
 
 use rpki_blocks::chain::Chain;
@@ -22,6 +23,7 @@ impl<'a> Noted<'a> {
     pub fn new(chain: Chain<'a, AsBlock>) -> Noted<'a>
         ensures blocks { ⟦<Noted<'a> as Reads<AsBlock>>⟧.blocks result ≡ chain_blocks chain.entry }
         ensures count { ⟦<Noted<'a> as Reads<AsBlock>>⟧.count result ≡ 0 }
+        ensures last { last_read result ≡ None }
     {
         Noted {
             blocks: Counted::new(chain),
@@ -30,7 +32,9 @@ impl<'a> Noted<'a> {
     }
 
     /// The place of the block that was read last, or None where none was.
-    pub fn last(&self) -> Option<usize> {
+    pub fn last(&self) -> Option<usize>
+        ensures { result ≡ last_read self.now }
+    {
         self.last
     }
 }

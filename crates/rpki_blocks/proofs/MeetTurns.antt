@@ -1,13 +1,12 @@
 -- The turns of the walk over what two chains have in common, as the code takes them.
 use Rattle.std.proofs.Common.{◌≡◌, ℕ, ◌+◌, ◌<◌, ◌≤◌, ◌⊎◌, inl, inr, ⊎_elim, List, length, get_or, take, sym, subst, ap, ◌∙◌, arith, Option, Some, None}
-use Rattle.std.proofs.Math.Nat.{le_refl}
 use Rattle.std.proofs.lemmas.List.{get_or-take, length-take-le}
 use Rattle.std.proofs.lemmas.List.Elements.{All-take}
 use Rattle.rpki_blocks.specs.Sets.{IsNew, IsChain, IsChainOf, numbers, Covers}
 use Rattle.rpki_blocks.specs.Common.{IsCommonPushed}
 use Rattle.rpki_blocks.specs.declared.overhang.Overhang.{Overhang}
 use Rattle.rpki_blocks.specs.Overhang.{IsOverhang}
-use Rattle.rpki_blocks.proofs.Sides.{IsAt, bounds_of, IsAt-from, ordered_at, index_before, before_next, low_at}
+use Rattle.rpki_blocks.proofs.Sides.{IsAt, bounds_of, IsAt-from, ordered_at, index_before, low_at}
 use Rattle.rpki_blocks.proofs.Chains.{IsChainOf-from}
 use Rattle.rpki_blocks.proofs.Meets.{Meet, Meet-swap, Meet-before, Meet-ends, Meet-end}
 
@@ -49,13 +48,6 @@ module _ {B I : Type 0} (f : B → ℕ × ℕ) (form : ℕ × ℕ → B) (number
   pub meet-other_ends : (xs ys out made : List B) (i j : ℕ) (b c : I × I) (next : Option (I × I)) → Meet f form xs ys i (At (Some b)) j (At (Some c)) out → IsCommonPushed f form (numbers number c) (numbers number b) out made → number c.1 ≤ number b.1 → IsAt f ys (j + 1) (At next) → Meet f form xs ys i (At (Some b)) (j + 1) (At next) made
   meet-other_ends xs ys out made i j b c next w pushed first after =
       Meet-swap f form ys xs made (j + 1) i (At next) (At (Some b)) (meet-own_ends ys xs out made j i c b next (Meet-swap f form xs ys out i j (At (Some b)) (At (Some c)) w) pushed first after)
-
-  -- both end alike: the other's block ends before the next one begins, and so both are passed
-  pub meet-end_alike : (xs ys out made : List B) (i j : ℕ) (b c next : I × I) (after : Option (I × I)) → Meet f form xs ys i (At (Some b)) j (At (Some c)) out → IsCommonPushed f form (numbers number b) (numbers number c) out made → number b.1 ≤ number c.1 → number c.1 ≤ number b.1 → IsAt f xs (i + 1) (At (Some next)) → IsAt f ys (j + 1) (At after) → Meet f form xs ys (i + 1) (At (Some next)) (j + 1) (At after) made
-  meet-end_alike xs ys out made i j b c next after w pushed first alike own other =
-      let passed = meet-own_ends xs ys out made i j b c (Some next) w pushed first own in
-      let later : number b.1 < number next.0 = before_next f form xs i (numbers number b) w.own_chain w.own_at (At (Some next)) own (number b.1) (le_refl _) in
-      Meet-swap f form ys xs made (j + 1) (i + 1) (At after) (At (Some next)) (Meet-before f form ys xs made j (i + 1) (numbers number c) (numbers number next) (At after) (Meet-swap f form xs ys made (i + 1) j (At (Some next)) (At (Some c)) passed) (omega arith) other)
 
   -- where one chain has ended, all is there that both have
   pub meet-done : (xs ys out : List B) (i j : ℕ) (b c : Option (ℕ × ℕ)) → Meet f form xs ys i b j c out → (b ≡ None) ⊎ (c ≡ None) → IsChainOf f form (λ n. Covers f xs n × Covers f ys n) out

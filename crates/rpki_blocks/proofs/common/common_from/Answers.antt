@@ -6,9 +6,9 @@ use Rattle.rpki_blocks.specs.Sets.{numbers}
 use Rattle.rpki_blocks.proofs.Counts.{read_next}
 use Rattle.rpki_blocks.proofs.Sides.{bounds_of, IsAt-from}
 use Rattle.rpki_blocks.proofs.Meets.{Meet, Meet-swap}
-use Rattle.rpki_blocks.proofs.MeetTurns.{Meet-start, meet-ordered, meet-own_ends, meet-other_ends, meet-end_alike, meet-done}
+use Rattle.rpki_blocks.proofs.MeetTurns.{Meet-start, meet-ordered, meet-own_ends, meet-other_ends, meet-done}
 use Rattle.rpki_blocks.proofs.common.common_from.Goals as goal
-use Rattle.rpki_blocks.proofs.common.common_from.Goals.{then-le+in_ok-push_common+in_default-read_at, then-le+in_ok-push_common+in-Some-read_at+then-end_alike+in_default-read_at-2, else-le+in_ok-push_common-2+in_default-read_at-3}
+use Rattle.rpki_blocks.proofs.common.common_from.Goals.{then-le+in_ok-push_common+in_default-read_at, else-le+in_ok-push_common-2+in_default-read_at-2}
 
 pub returns-in_default-clause-common : goal.returns-in_default-clause-common
 returns-in_default-clause-common g c =
@@ -19,8 +19,8 @@ returns-in_default-clause-common g c =
     let walk = Meet-start f form number g.T.Block.first g.T.Block.last _ _ c.args.overhang c.requires c.len-own_len.ensures.chain c.len-other_len.ensures.chain in
     rw (c.from_vec_unchecked.ensures, first.value) (meet-done f form number _ _ _ _ _ _ _ walk (inr (ap (bounds_of number) c.in_default.is)))
 
-pub loop-other_block-init : goal.loop-other_block-init
-loop-other_block-init g c =
+pub loop-chain-init : goal.loop-chain-init
+loop-chain-init g c =
     let f = g.T.Block.bounds in
     let form = g.T.Block.form in
     let number = g.T.Block.number in
@@ -41,25 +41,25 @@ loop-other_block-init g c =
     }
 
 pub push_common-requires-clause-ordered : goal.push_common-requires-clause-ordered
-push_common-requires-clause-ordered g c = meet-ordered g.T.Block.bounds g.T.Block.form g.T.Block.number _ _ _ _ _ c.loop-other_block.own_block _ c.loop-other_block.invariant.walk
+push_common-requires-clause-ordered g c = meet-ordered g.T.Block.bounds g.T.Block.form g.T.Block.number _ _ _ _ _ c.loop-chain.own_block _ c.loop-chain.invariant.walk
 
-pub loop-other_block-preserved-else-end_alike : goal.loop-other_block-preserved-else-end_alike
-loop-other_block-preserved-else-end_alike g c =
+pub loop-chain-preserved-then-le : goal.loop-chain-preserved-then-le
+loop-chain-preserved-then-le g c =
     let f = g.T.Block.bounds in
     let form = g.T.Block.form in
     let number = g.T.Block.number in
     let last = g.T.Block.last in
-    let inv = c.loop-other_block.invariant in
+    let inv = c.loop-chain.invariant in
     let read = c.in-Some-read_at.ensures in
     let next = c.in-Some-read_at.next in
     let block = rw inv.own_kept at read.block in
-    let more = read_next f number last _ c.loop-other_block.own_at (Some next) _ _ block read.counted in
+    let more = read_next f number last _ c.loop-chain.own_at (Some next) _ _ block read.counted in
     let before = inv.own_reads in
-    let first : number c.loop-other_block.own_block.1 ≤ number c.loop-other_block.other_block.1 = grind (arith, nat_tests, g.met.T.Block.in_order, g.met.T.Item.Ord.matches_partial_cmp, c.if-le.ensures) in
+    let first : number c.loop-chain.own_block.1 ≤ number c.loop-chain.other_block.1 = grind (arith, nat_tests, g.met.T.Block.in_order, g.met.T.Item.Ord.matches_partial_cmp, c.if-le.ensures) in
     record {
       own_reads = omega arith;
       other_reads = inv.other_reads;
-      walk = meet-own_ends f form number _ _ _ _ _ _ c.loop-other_block.own_block c.loop-other_block.other_block (Some next) inv.walk c.in_ok-push_common.ensures first (IsAt-from f number last _ (c.loop-other_block.own_at + 1) (Some next) block);
+      walk = meet-own_ends f form number _ _ _ _ _ _ c.loop-chain.own_block c.loop-chain.other_block (Some next) inv.walk c.in_ok-push_common.ensures first (IsAt-from f number last _ (c.loop-chain.own_at + 1) (Some next) block);
       own_bound = inv.own_bound;
       other_bound = inv.other_bound;
       own_kept = read.kept ∙ inv.own_kept;
@@ -67,54 +67,25 @@ loop-other_block-preserved-else-end_alike g c =
     }
 
 pub push_common-requires-else-le-clause-ordered : goal.push_common-requires-else-le-clause-ordered
-push_common-requires-else-le-clause-ordered g c = meet-ordered g.T.Block.bounds g.T.Block.form g.T.Block.number _ _ _ _ _ c.loop-other_block.other_block _ (Meet-swap g.T.Block.bounds g.T.Block.form _ _ _ _ _ _ _ c.loop-other_block.invariant.walk)
+push_common-requires-else-le-clause-ordered g c = meet-ordered g.T.Block.bounds g.T.Block.form g.T.Block.number _ _ _ _ _ c.loop-chain.other_block _ (Meet-swap g.T.Block.bounds g.T.Block.form _ _ _ _ _ _ _ c.loop-chain.invariant.walk)
 
-pub loop-other_block-preserved-then-end_alike : goal.loop-other_block-preserved-then-end_alike
-loop-other_block-preserved-then-end_alike g c =
+pub loop-chain-preserved : goal.loop-chain-preserved
+loop-chain-preserved g c =
     let f = g.T.Block.bounds in
     let form = g.T.Block.form in
     let number = g.T.Block.number in
     let last = g.T.Block.last in
-    let inv = c.loop-other_block.invariant in
-    let own = c.in-Some-read_at.ensures in
-    let other = c.in-Some-read_at-2.ensures in
-    let next = c.in-Some-read_at.next in
-    let next_other = c.in-Some-read_at-2.next in
-    let block = rw inv.own_kept at own.block in
-    let other_block = rw inv.other_kept at other.block in
-    let more = read_next f number last _ c.loop-other_block.own_at (Some next) _ _ block own.counted in
-    let more_other = read_next f number last _ c.loop-other_block.other_at (Some next_other) _ _ other_block other.counted in
-    let before = inv.own_reads in
-    let before_other = inv.other_reads in
-    let first : number c.loop-other_block.own_block.1 ≤ number c.loop-other_block.other_block.1 = grind (arith, nat_tests, g.met.T.Block.in_order, g.met.T.Item.Ord.matches_partial_cmp, c.if-le.ensures) in
-    let alike : number c.loop-other_block.other_block.1 ≤ number c.loop-other_block.own_block.1 = grind (arith, nat_tests, g.met.T.Block.in_order, g.met.T.Item.Ord.matches_partial_cmp, c.if-end_alike.ensures) in
-    record {
-      own_reads = omega arith;
-      other_reads = omega arith;
-      walk = meet-end_alike f form number _ _ _ _ _ _ c.loop-other_block.own_block c.loop-other_block.other_block next (Some next_other) inv.walk c.in_ok-push_common.ensures first alike (IsAt-from f number last _ (c.loop-other_block.own_at + 1) (Some next) block) (IsAt-from f number last _ (c.loop-other_block.other_at + 1) (Some next_other) other_block);
-      own_bound = inv.own_bound;
-      other_bound = inv.other_bound;
-      own_kept = own.kept ∙ inv.own_kept;
-      other_kept = other.kept ∙ inv.other_kept;
-    }
-
-pub loop-other_block-preserved : goal.loop-other_block-preserved
-loop-other_block-preserved g c =
-    let f = g.T.Block.bounds in
-    let form = g.T.Block.form in
-    let number = g.T.Block.number in
-    let last = g.T.Block.last in
-    let inv = c.loop-other_block.invariant in
-    let read = c.in-Some-read_at-3.ensures in
-    let next = c.in-Some-read_at-3.next in
+    let inv = c.loop-chain.invariant in
+    let read = c.in-Some-read_at-2.ensures in
+    let next = c.in-Some-read_at-2.next in
     let block = rw inv.other_kept at read.block in
-    let more = read_next f number last _ c.loop-other_block.other_at (Some next) _ _ block read.counted in
+    let more = read_next f number last _ c.loop-chain.other_at (Some next) _ _ block read.counted in
     let before = inv.other_reads in
-    let first : number c.loop-other_block.other_block.1 ≤ number c.loop-other_block.own_block.1 = grind (arith, nat_tests, g.met.T.Block.in_order, g.met.T.Item.Ord.matches_partial_cmp, c.if-le.ensures) in
+    let first : number c.loop-chain.other_block.1 ≤ number c.loop-chain.own_block.1 = grind (arith, nat_tests, g.met.T.Block.in_order, g.met.T.Item.Ord.matches_partial_cmp, c.if-le.ensures) in
     record {
       own_reads = inv.own_reads;
       other_reads = omega arith;
-      walk = meet-other_ends f form number _ _ _ _ _ _ c.loop-other_block.own_block c.loop-other_block.other_block (Some next) inv.walk c.in_ok-push_common-2.ensures first (IsAt-from f number last _ (c.loop-other_block.other_at + 1) (Some next) block);
+      walk = meet-other_ends f form number _ _ _ _ _ _ c.loop-chain.own_block c.loop-chain.other_block (Some next) inv.walk c.in_ok-push_common-2.ensures first (IsAt-from f number last _ (c.loop-chain.other_at + 1) (Some next) block);
       own_bound = inv.own_bound;
       other_bound = inv.other_bound;
       own_kept = inv.own_kept;
@@ -126,25 +97,18 @@ from_vec_unchecked-requires-2 g c =
     let f = g.T.Block.bounds in
     let form = g.T.Block.form in
     let number = g.T.Block.number in
-    let inv = c.loop-other_block.invariant in
-    let own = c.loop-other_block.own_block in
-    let other = c.loop-other_block.other_block in
+    let inv = c.loop-chain.invariant in
+    let own = c.loop-chain.own_block in
+    let other = c.loop-chain.other_block in
     elim c.if-le.branch [
       | then-le+in_ok-push_common+in_default-read_at w ↦
           let first : number own.1 ≤ number other.1 = grind (arith, nat_tests, g.met.T.Block.in_order, g.met.T.Item.Ord.matches_partial_cmp, w.if-le.ensures) in
           let end = rw inv.own_kept at w.in_default-read_at.ensures.block in
           let walk = meet-own_ends f form number _ _ _ _ _ _ own other None inv.walk w.in_ok-push_common.ensures first end in
           rw w.chain-is walk.chain
-      | then-le+in_ok-push_common+in-Some-read_at+then-end_alike+in_default-read_at-2 w ↦
-          let first : number own.1 ≤ number other.1 = grind (arith, nat_tests, g.met.T.Block.in_order, g.met.T.Item.Ord.matches_partial_cmp, w.if-le.ensures) in
-          let alike : number other.1 ≤ number own.1 = grind (arith, nat_tests, g.met.T.Block.in_order, g.met.T.Item.Ord.matches_partial_cmp, w.if-end_alike.ensures) in
-          let next = rw inv.own_kept at w.in-Some-read_at.ensures.block in
-          let end = rw inv.other_kept at w.in_default-read_at-2.ensures.block in
-          let walk = meet-end_alike f form number _ _ _ _ _ _ own other w.in-Some-read_at.next None inv.walk w.in_ok-push_common.ensures first alike (IsAt-from f number g.T.Block.last _ (c.loop-other_block.own_at + 1) (Some w.in-Some-read_at.next) next) end in
-          rw w.chain-is walk.chain
-      | else-le+in_ok-push_common-2+in_default-read_at-3 w ↦
+      | else-le+in_ok-push_common-2+in_default-read_at-2 w ↦
           let first : number other.1 ≤ number own.1 = grind (arith, nat_tests, g.met.T.Block.in_order, g.met.T.Item.Ord.matches_partial_cmp, w.if-le.ensures) in
-          let end = rw inv.other_kept at w.in_default-read_at-3.ensures.block in
+          let end = rw inv.other_kept at w.in_default-read_at-2.ensures.block in
           let walk = meet-other_ends f form number _ _ _ _ _ _ own other None inv.walk w.in_ok-push_common-2.ensures first end in
           rw w.chain-is walk.chain
     ]
@@ -154,25 +118,18 @@ returns-clause-common g c =
     let f = g.T.Block.bounds in
     let form = g.T.Block.form in
     let number = g.T.Block.number in
-    let inv = c.loop-other_block.invariant in
-    let own = c.loop-other_block.own_block in
-    let other = c.loop-other_block.other_block in
+    let inv = c.loop-chain.invariant in
+    let own = c.loop-chain.own_block in
+    let other = c.loop-chain.other_block in
     rw c.from_vec_unchecked-2.ensures (elim c.if-le.branch [
       | then-le+in_ok-push_common+in_default-read_at w ↦
           let first : number own.1 ≤ number other.1 = grind (arith, nat_tests, g.met.T.Block.in_order, g.met.T.Item.Ord.matches_partial_cmp, w.if-le.ensures) in
           let end = rw inv.own_kept at w.in_default-read_at.ensures.block in
           let walk = meet-own_ends f form number _ _ _ _ _ _ own other None inv.walk w.in_ok-push_common.ensures first end in
           rw w.chain-is (meet-done f form number _ _ _ _ _ _ _ walk (inl refl))
-      | then-le+in_ok-push_common+in-Some-read_at+then-end_alike+in_default-read_at-2 w ↦
-          let first : number own.1 ≤ number other.1 = grind (arith, nat_tests, g.met.T.Block.in_order, g.met.T.Item.Ord.matches_partial_cmp, w.if-le.ensures) in
-          let alike : number other.1 ≤ number own.1 = grind (arith, nat_tests, g.met.T.Block.in_order, g.met.T.Item.Ord.matches_partial_cmp, w.if-end_alike.ensures) in
-          let next = rw inv.own_kept at w.in-Some-read_at.ensures.block in
-          let end = rw inv.other_kept at w.in_default-read_at-2.ensures.block in
-          let walk = meet-end_alike f form number _ _ _ _ _ _ own other w.in-Some-read_at.next None inv.walk w.in_ok-push_common.ensures first alike (IsAt-from f number g.T.Block.last _ (c.loop-other_block.own_at + 1) (Some w.in-Some-read_at.next) next) end in
-          rw w.chain-is (meet-done f form number _ _ _ _ _ _ _ walk (inr refl))
-      | else-le+in_ok-push_common-2+in_default-read_at-3 w ↦
+      | else-le+in_ok-push_common-2+in_default-read_at-2 w ↦
           let first : number other.1 ≤ number own.1 = grind (arith, nat_tests, g.met.T.Block.in_order, g.met.T.Item.Ord.matches_partial_cmp, w.if-le.ensures) in
-          let end = rw inv.other_kept at w.in_default-read_at-3.ensures.block in
+          let end = rw inv.other_kept at w.in_default-read_at-2.ensures.block in
           let walk = meet-other_ends f form number _ _ _ _ _ _ own other None inv.walk w.in_ok-push_common-2.ensures first end in
           rw w.chain-is (meet-done f form number _ _ _ _ _ _ _ walk (inr refl))
     ])

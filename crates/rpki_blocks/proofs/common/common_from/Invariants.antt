@@ -4,8 +4,8 @@ use Rattle.rpki_blocks.specs.Sets.{numbers}
 use Rattle.rpki_blocks.proofs.Meets.{Meet}
 use Rattle.rpki_blocks.proofs.common.common_from.Given as goal
 
-abbrev pub invariant-loop-other_block : goal.invariant-loop-other_block
-invariant-loop-other_block g l =
+abbrev pub invariant-loop-chain : goal.invariant-loop-chain
+invariant-loop-chain g l =
     let number = g.T.Block.number in
     let xs = g.X.Reads.blocks l.fn.own in
     let ys = g.Y.Reads.blocks l.fn.other in
@@ -19,5 +19,5 @@ invariant-loop-other_block g l =
       other_kept : g.Y.Reads.blocks l.other ≡ ys;
     }
 
-abbrev pub decreases-loop-other_block : goal.decreases-loop-other_block
-decreases-loop-other_block g l = (length (g.X.Reads.blocks l.fn.own) - l.own_at) + (length (g.Y.Reads.blocks l.fn.other) - l.other_at)
+abbrev pub decreases-loop-chain : goal.decreases-loop-chain
+decreases-loop-chain g l = (length (g.X.Reads.blocks l.fn.own) - l.own_at) + (length (g.Y.Reads.blocks l.fn.other) - l.other_at)

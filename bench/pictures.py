@@ -86,9 +86,9 @@ def powers(name: str, title: str, lines: dict[str, list[tuple[float, float]]], b
 def growth() -> None:
     """Calls on addresses by the number of blocks."""
     times: dict[str, list[tuple[float, float]]] = {}
-    for row in table("call                   N"):
+    for row in table("call               100000"):
         if row[0].startswith("ip-"):
-            times.setdefault(row[0].removeprefix("ip-"), []).append((float(row[1]), float(row[2])))
+            times[row[0].removeprefix("ip-")] = [(size, float(it)) for size, it in zip((1e5, 2e5, 4e5), row[1:4])]
     title = "Seconds of calls on addresses, by the number of blocks"
     powers("speed-growth.svg", title, times, [1e5, 2e5, 4e5], [0.001, 0.003, 0.01, 0.03, 0.1])
 

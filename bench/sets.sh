@@ -22,11 +22,12 @@ for run in 1 2 3 4 5 6 7; do
 done | awk '
     { if (!(($1, $2) in best) || $3 < best[$1, $2]) best[$1, $2] = $3 }
     END {
-        printf "%-16s%8s%9s%8s\n", "call", "N", "seconds", "growth"
+        printf "%-16s%9s%9s%9s%8s\n", "call", "100000", "200000", "400000", "growth"
         calls = split("from_blocks union intersection difference contains ip-from_blocks ip-union ip-intersection ip-difference ip-contains as-take_from as-encode ip-take_from ip-encode", call)
-        for (at = 1; at <= calls; at++)
-            for (size = 100000; size <= 400000; size *= 2) {
-                growth = size == 100000 ? "" : sprintf("%.2f", best[call[at], size] / best[call[at], size / 2])
-                printf "%-16s%8d%9.4f%8s\n", call[at], size, best[call[at], size] / 1000000, growth
-            }
+        for (at = 1; at <= calls; at++) {
+            printf "%-16s", call[at]
+            for (size = 100000; size <= 400000; size *= 2)
+                printf "%9.4f", best[call[at], size] / 1000000
+            printf "%8.2f\n", sqrt(best[call[at], 400000] / best[call[at], 100000])
+        }
     }'

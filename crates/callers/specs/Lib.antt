@@ -1,4 +1,3 @@
-pub mod Anchor
 pub mod Certificates
 pub mod Notes
 pub mod Routes

@@ -5,7 +5,6 @@ ghost use Rattle.rpki_ipres.specs.Resources.{IsWholeClaim};
 use crate::certificates::Certificate;
 use crate::print::{self, cut};
 use crate::sets::from_lists;
-use callers::anchor::RefusedBelow;
 use callers::certificates::Overclaimed;
 use rpki_extensions::extensions::{Claims, Extensions};
 use rpki_resources::OrMemory;
@@ -56,10 +55,9 @@ fn below(
     anchor: &Extensions<'_>,
     certificates: &[Extensions<'_>],
 ) -> anyhow::Result<String> {
-    match callers::anchor::verified_below(alloc, anchor, certificates) {
+    match rpki_extensions::path::verified_below(alloc, anchor, certificates) {
         Ok(set) => print::value(alloc, &set),
-        Err(OrMemory::Refused(RefusedBelow::Anchor(reason))) => print::value(alloc, &reason),
-        Err(OrMemory::Refused(RefusedBelow::Certificate(refusal))) => print::value(alloc, &refusal),
+        Err(OrMemory::Refused(refusal)) => print::value(alloc, &refusal),
         Err(OrMemory::Memory(error)) => Err(error.into()),
     }
 }

@@ -1,4 +1,5 @@
 pub mod Anchors
+pub mod Below
 pub mod Claims
 pub mod Encodings
 pub mod Issued

@@ -4,6 +4,8 @@ use Rattle.rpki_der.specs.Faults.{fault_text}
 use Rattle.rpki_as.specs.Faults.{overclaimed_as_text}
 use Rattle.rpki_base.specs.declared.family.AddressFamily.TheVariants.{Ipv4 as v4, Ipv6 as v6}
 use Rattle.rpki_ipres.specs.SetText.{overclaimed_ip_text}
+use Rattle.rpki_extensions.specs.declared.error.RefusedBelow.{RefusedBelow}
+use Rattle.rpki_extensions.specs.declared.error.RefusedBelow.TheVariants.{Anchor, Certificate}
 use Rattle.rpki_extensions.specs.declared.error.Unverified.{Unverified}
 use Rattle.rpki_extensions.specs.declared.error.Unverified.TheVariants.{Absent, AsOctets, AddressOctets, Inherited, Asn, Ipv4, Ipv6}
 use Rattle.rpki_extensions.specs.declared.error.UnverifiedCertificate.{UnverifiedCertificate}
@@ -21,3 +23,8 @@ unverified_text (Ipv6 excess) = overclaimed_ip_text v6 excess
 -- the place of the certificate on its path, and the reason
 abbrev pub certificate_text : {A : Type 0} → UnverifiedCertificate A → List ℕ
 certificate_text refusal = codes "certificate " ++ decimal refusal.step ++ codes ": " ++ unverified_text refusal.reason
+
+-- the reason of the anchor, or the certificate with its reason
+abbrev pub below_text : {A : Type 0} → RefusedBelow A → List ℕ
+below_text (Anchor reason) = unverified_text reason
+below_text (Certificate refusal) = certificate_text refusal

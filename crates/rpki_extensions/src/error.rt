@@ -1,6 +1,6 @@
 //! Why what stands in a certificate's extensions isn't verified.
 ghost use Rattle.std.specs.Prelude.{Some};
-ghost use Rattle.rpki_extensions.specs.Texts.{certificate_text, unverified_text};
+ghost use Rattle.rpki_extensions.specs.Texts.{below_text, certificate_text, unverified_text};
 
 use rpki_der::DerError;
 use rpki_resources::repository::resources::{
@@ -82,3 +82,32 @@ impl<A: Allocator> fmt::Debug for UnverifiedCertificate<A> {
 }
 
 impl<A: Allocator> Error for UnverifiedCertificate<A> {}
+
+/// Why nothing is verified below a trust anchor. Prints one line.
+#[derive(Drop)]
+pub enum RefusedBelow<A: Allocator = Global> {
+    /// The anchor lists no set.
+    Anchor(Unverified<A>),
+    /// A certificate on the path isn't verified.
+    Certificate(UnverifiedCertificate<A>),
+}
+
+impl<A: Allocator> fmt::Display for RefusedBelow<A> {
+    ghost output = { λ reason. Some (below_text reason) };
+
+    fn fmt<W: fmt::Write>(&self, f: &mut fmt::Formatter<W>) -> fmt::Result {
+        match self {
+            RefusedBelow::Anchor(reason) => write!(f, "{reason}"),
+            RefusedBelow::Certificate(refusal) => write!(f, "{refusal}"),
+        }
+    }
+}
+
+/// Prints as `Display` does.
+impl<A: Allocator> fmt::Debug for RefusedBelow<A> {
+    fn fmt<W: fmt::Write>(&self, f: &mut fmt::Formatter<W>) -> fmt::Result {
+        fmt::Display::fmt(self, f)
+    }
+}
+
+impl<A: Allocator> Error for RefusedBelow<A> {}

@@ -1,10 +1,12 @@
-//! A path of certificates, from the resources of a trust anchor down.
+//! A path of certificates, from a trust anchor down.
 ghost use Rattle.std.specs.Prelude.{IfOk, MatchResult};
 ghost use Rattle.rpki_text.specs.Memory.{IfRefused};
 ghost use Rattle.rpki_resources.specs.Triples.{HasEachOf};
+ghost use Rattle.rpki_extensions.specs.Below.{IsLeftBelow, IsRefusedBelow};
 ghost use Rattle.rpki_extensions.specs.Paths.{IsFirstUnverified, IsVerifiedPath};
 
-use crate::error::UnverifiedCertificate;
+use crate::anchor::anchor_set;
+use crate::error::{RefusedBelow, UnverifiedCertificate};
 use crate::extensions::Extensions;
 use crate::issued::verified_octets;
 use rpki_resources::OrMemory;
@@ -34,4 +36,31 @@ pub fn verified_path<A: Allocator + Copy>(
         }
     }
     Ok(issuer)
+}
+
+/// What the certificates on a path leave of what a trust anchor lists: each is verified by what the ones before it leave,
+/// the first by the anchor's set. `Refused` with the reason for which the anchor lists no set, or else with the first
+/// certificate that isn't verified; `Memory` where there is no memory for a set on the way.
+pub fn verified_below<A: Allocator + Copy>(
+    alloc: A,
+    anchor: &Extensions<'_>,
+    certificates: &[Extensions<'_>],
+) -> Result<ResourceSet<A>, OrMemory<RefusedBelow<A>>>
+    ensures below { MatchResult result (IsLeftBelow anchor.now certificates.now)
+        (IfRefused (IsRefusedBelow anchor.now certificates.now)) }
+{
+    let root = match anchor_set(alloc, anchor) {
+        Ok(root) => root,
+        Err(OrMemory::Refused(reason)) => {
+            return Err(OrMemory::Refused(RefusedBelow::Anchor(reason)));
+        }
+        Err(OrMemory::Memory(error)) => return Err(OrMemory::Memory(error)),
+    };
+    match verified_path(alloc, &root, certificates) {
+        Ok(set) => Ok(set),
+        Err(OrMemory::Refused(refusal)) => {
+            Err(OrMemory::Refused(RefusedBelow::Certificate(refusal)))
+        }
+        Err(OrMemory::Memory(error)) => Err(OrMemory::Memory(error)),
+    }
 }

@@ -4,8 +4,8 @@ use Rattle.rpki_resources.specs.Triples.{Triple}
 use Rattle.rpki_extensions.specs.Anchors.{IsAnchorSet, IsNoAnchor}
 use Rattle.rpki_extensions.specs.Paths.{IsFirstUnverified, IsVerifiedPath}
 use Rattle.rpki_extensions.specs.declared.extensions.Extensions.{Extensions}
-use Rattle.callers.specs.declared.anchor.RefusedBelow.{RefusedBelow}
-use Rattle.callers.specs.declared.anchor.RefusedBelow.TheVariants.{Anchor, Certificate}
+use Rattle.rpki_extensions.specs.declared.error.RefusedBelow.{RefusedBelow}
+use Rattle.rpki_extensions.specs.declared.error.RefusedBelow.TheVariants.{Anchor, Certificate}
 
 -- the set is what the certificates leave of the one that the anchor lists
 abbrev pub IsLeftBelow : Extensions → List Extensions → Triple → Type 0

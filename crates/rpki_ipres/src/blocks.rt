@@ -11,16 +11,17 @@ ghost use Rattle.rpki_ip.specs.Ranges.{range_bounds};
 ghost use Rattle.rpki_ip.specs.Whole.{IsWhole};
 ghost use Rattle.rpki_base.specs.declared.family.AddressFamily.TheVariants.{Ipv4, Ipv6};
 ghost use Rattle.rpki_ipblock.specs.Blocks.{ip_bounds, new_ip_block};
-ghost use Rattle.rpki_ipblock.specs.ListText.{HasIpBlocks, HasIpBlocksFault, IsFamilyOf};
+ghost use Rattle.rpki_ipblock.specs.ListText.{HasBlocks, HasBlocksFault, HasIpBlocks, HasIpBlocksFault, IsFamilyOf};
 ghost use Rattle.rpki_ipres.specs.SetText.{IsIpSet, IsFamilySet, IsSetOf, set_text};
 
 use crate::family::IpBlocksForFamily;
 use rpki_base::memory::OrMemory;
 use rpki_chain::set::BlockSet;
 use rpki_ip::error::FromStrError;
+use rpki_ip::family::AddressFamily;
 use rpki_ip::range::AddressRange;
 use rpki_ipblock::block::IpBlock;
-use rpki_ipblock::list::read_ip_blocks;
+use rpki_ipblock::list::{read_blocks, read_ip_blocks};
 use std::alloc::{AllocError, Allocator, Global};
 use std::fmt;
 use std::marker::Model;
@@ -155,6 +156,35 @@ impl<A: Allocator> IpBlocks<A> {
         ensures { result ≡ (Ipv6, self.now) }
     {
         IpBlocksForFamily::v6(self)
+    }
+
+    /// The set, to be displayed as one of the family, as [`IpBlocks::as_v4`] or [`IpBlocks::as_v6`] answers it.
+    pub fn as_family(&self, family: AddressFamily) -> IpBlocksForFamily<'_, A>
+        ensures { result ≡ (family, self.now) }
+    {
+        IpBlocksForFamily::of(family, self)
+    }
+
+    /// The set that a list of blocks of the family writes. The text is cut as by [`IpBlocks::from_str`]. `Refused` with
+    /// [`FromStrError::FamilyMismatch`] where an element is a text of the other family, and else with its own fault;
+    /// `Memory` where there is no memory for the set.
+    pub fn from_family_str(
+        alloc: A,
+        family: AddressFamily,
+        text: &str,
+    ) -> Result<IpBlocks<A>, OrMemory<FromStrError>>
+    where
+        A: Copy,
+        ensures exact { AnswersOrMemory (λ set. set) (IsSetOf (HasBlocks family text.now))
+            (HasBlocksFault family text.now) result }
+        // What is printed of a set of the family is read as that set.
+        ensures reads_back { (set : Runs) → IsFamilySet family set → text.now ≡ set_text family set
+            → MatchResult result (λ read. read ≡ set) IsMemory }
+        ensures whole { IfOk result (λ set. family ≡ Ipv4 → IsWhole (Holds set)) }
+    {
+        let blocks = read_blocks(alloc, family, text)?;
+        let set = IpBlocks::from_vec(alloc, blocks)?;
+        Ok(set)
     }
 
     /// The set that a list of blocks writes: of IPv6 if a colon stands anywhere in it, and else of IPv4. The text is

@@ -29,24 +29,25 @@ impl<'a, A: Allocator> Model for IpBlocksForFamily<'a, A> {
 }
 
 impl<'a, A: Allocator> IpBlocksForFamily<'a, A> {
+    /// The set, to be displayed as one of the family.
+    pub(crate) fn of(family: AddressFamily, blocks: &'a IpBlocks<A>) -> IpBlocksForFamily<'a, A>
+        ensures { result ≡ (family, blocks.now) }
+    {
+        IpBlocksForFamily { family, blocks }
+    }
+
     /// The set, to be displayed as one of IPv4.
     pub fn v4(blocks: &'a IpBlocks<A>) -> IpBlocksForFamily<'a, A>
         ensures { result ≡ (Ipv4, blocks.now) }
     {
-        IpBlocksForFamily {
-            family: AddressFamily::Ipv4,
-            blocks,
-        }
+        IpBlocksForFamily::of(AddressFamily::Ipv4, blocks)
     }
 
     /// The set, to be displayed as one of IPv6.
     pub fn v6(blocks: &'a IpBlocks<A>) -> IpBlocksForFamily<'a, A>
         ensures { result ≡ (Ipv6, blocks.now) }
     {
-        IpBlocksForFamily {
-            family: AddressFamily::Ipv6,
-            blocks,
-        }
+        IpBlocksForFamily::of(AddressFamily::Ipv6, blocks)
     }
 }
 

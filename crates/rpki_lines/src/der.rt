@@ -8,11 +8,11 @@ ghost use Rattle.rpki_lines.specs.Der.{HasIpResourcesFault, IsDerAnswer, IsDerAs
 
 use crate::hexadecimal::hexadecimal_of;
 use crate::kind::{Kind, kind_named};
-use crate::lists::ip_set;
 use rpki_as::resources::AsResources;
 use rpki_base::memory::OrMemory;
 use rpki_ip::error::FromStrError;
 use rpki_ip::family::AddressFamily;
+use rpki_ipres::blocks::IpBlocks;
 use rpki_ipres::resources::IpResources;
 use std::alloc::{AllocError, Allocator};
 
@@ -98,7 +98,7 @@ fn listed<A: Allocator + Copy>(
     ensures { MatchResult result (IsListed family list.now)
         (IfRefused (HasBlocksFault family list.now)) }
 {
-    let set = ip_set(alloc, family, list)?;
+    let set = IpBlocks::from_family_str(alloc, family, list)?;
     Ok(IpResources::blocks(set))
 }
 

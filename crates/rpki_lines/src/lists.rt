@@ -15,7 +15,6 @@ use rpki_base::memory::OrMemory;
 use rpki_ip::error::FromStrError;
 use rpki_ip::family::AddressFamily;
 use rpki_ipres::blocks::IpBlocks;
-use rpki_ipres::list::read_blocks;
 use rpki_ipres::resources::IpResources;
 use std::alloc::Allocator;
 
@@ -118,7 +117,7 @@ impl<A: Allocator + Copy> Lists<A> for IpLists {
     ghost claim = { λ claim. claim };
 
     fn read(&self, alloc: A, list: &str) -> Result<IpBlocks<A>, OrMemory<FromStrError>> {
-        ip_set(alloc, self.family, list)
+        IpBlocks::from_family_str(alloc, self.family, list)
     }
 
     fn listed(set: IpBlocks<A>) -> IpResources<A> {
@@ -132,18 +131,4 @@ impl<A: Allocator + Copy> Lists<A> for IpLists {
     fn inherited() -> IpResources<A> {
         IpResources::inherit()
     }
-}
-
-/// The set that a list of blocks of a family writes.
-pub(crate) fn ip_set<A: Allocator + Copy>(
-    alloc: A,
-    family: AddressFamily,
-    list: &str,
-) -> Result<IpBlocks<A>, OrMemory<FromStrError>>
-    ensures { MatchResult result (IsSetOf (HasBlocks family list.now))
-        (IfRefused (HasBlocksFault family list.now)) }
-{
-    let blocks = read_blocks(alloc, family, list)?;
-    let set = IpBlocks::from_vec(alloc, blocks)?;
-    Ok(set)
 }

@@ -7,7 +7,6 @@ ghost use Rattle.rpki_as.specs.AsDer.{IsAsResources};
 ghost use Rattle.rpki_as.specs.AsDerReading.{as_choice_at};
 ghost use Rattle.rpki_claims.specs.Families.{of_family};
 ghost use Rattle.rpki_ipres.specs.ResourcesDer.{IsIpFamilies, ip_families_at};
-ghost use Rattle.rpki_ipres.specs.SetText.{set_text};
 ghost use Rattle.rpki_lines.specs.Read.{HasFault, IsEnded, IsReadAnswer, IsReadAs, IsReadIp, ShowsFamily, family_text};
 
 use crate::hexadecimal::octets_of;
@@ -146,22 +145,10 @@ fn resources_text<A: Allocator + Copy>(
         return String::from_str(alloc, "missing");
     }
     match IpBlocks::from_resources(resources) {
-        Ok(set) => printed_set(alloc, family, &set),
+        Ok(set) => {
+            let set = set.as_family(family);
+            format!(in alloc; "{set}")
+        }
         Err(_) => String::from_str(alloc, "inherit"),
     }
-}
-
-/// What is printed of a set of addresses in a family.
-fn printed_set<A: Allocator + Copy>(
-    alloc: A,
-    family: AddressFamily,
-    set: &IpBlocks<A>,
-) -> Result<String<A>, AllocError>
-    ensures { IfOk result (λ answer. string_bytes answer ≡ set_text family set.now) }
-{
-    let set = match family {
-        AddressFamily::Ipv4 => set.as_v4(),
-        AddressFamily::Ipv6 => set.as_v6(),
-    };
-    format!(in alloc; "{set}")
 }

@@ -1,4 +1,5 @@
 pub mod AsDerLemmas
 pub mod BlockLemmas
+pub mod BlockPlaceLemmas
 pub mod DerFaults
 pub mod NumberLemmas

@@ -16,6 +16,7 @@ pub mod error;
 pub mod iter;
 pub mod laws;
 pub mod range;
+mod place;
 mod text;
 
 pub use block::AsBlock;

@@ -39,7 +39,7 @@ id_between start end text n h = record {
 }
 
 -- the rest behind a place is that behind a later one
-drop_later : {A : Type 0} (start end : ℕ) (xs : List A) → start ≤ end → drop (end - start) (drop start xs) ≡ drop end xs
+pub drop_later : {A : Type 0} (start end : ℕ) (xs : List A) → start ≤ end → drop (end - start) (drop start xs) ≡ drop end xs
 drop_later start end xs h = drop-drop (end - start) start xs ∙ ap (λ k. drop k xs) (omega (arith, h))
 
 -- the bytes to a later place are those to the byte between, this byte, and those behind it

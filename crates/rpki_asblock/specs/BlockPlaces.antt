@@ -1,5 +1,5 @@
 -- Texts of AS blocks at a place among bytes.
-use Rattle.std.specs.Prelude.{ℕ, ◌-◌, ◌<◌, ◌≤◌, List, length, take, drop}
+use Rattle.std.specs.Prelude.{◌≡◌, ℕ, ◌+◌, ◌-◌, ◌<◌, ◌≤◌, ◌⊎◌, List, length, take, drop, slice_index}
 use Rattle.std.specs.Int.{IsInRange}
 use Rattle.std.specs.List.{AllByRecursion}
 use Rattle.rpki_asblock.specs.BlockText.{IsAsBlockText}
@@ -11,3 +11,7 @@ pub record IsAsBlockBetween (start end : ℕ) (text : List ℕ) (b : AsBlock) : 
   pub within : end ≤ length text
   pub block : IsAsBlockText (take (end - start) (drop start text)) b
   pub shown : AllByRecursion (IsInRange 45 126) (take (end - start) (drop start text))
+
+-- after is start, or the place behind a space at start
+abbrev pub IsAfterSpace : ℕ → ℕ → List ℕ → Type 0
+IsAfterSpace start after text = (after ≡ start) ⊎ ((after ≡ start + 1) × (start < length text) × (slice_index text start ≡ 32))

@@ -15,8 +15,9 @@ pub mod der;
 pub mod error;
 pub mod iter;
 pub mod laws;
-pub mod range;
+pub mod list;
 mod place;
+pub mod range;
 mod text;
 
 pub use block::AsBlock;

@@ -1,6 +1,7 @@
 -- Lemmas on what readers answer, on numbers in decimal and on lists of texts.
 pub mod CutLemmas
 pub mod DigitLemmas
+pub mod ElementLemmas
 pub mod ListLemmas
 pub mod NumberLemmas
 pub mod PrintedLemmas

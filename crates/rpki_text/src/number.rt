@@ -1,5 +1,5 @@
 //! Decimal texts of numbers, read up to a limit.
-ghost use Rattle.std.specs.Prelude.{◌≡◌, ◌^◌, ◌-◌, ◌<◌, ◌≤◌, length, Some, MatchResult};
+ghost use Rattle.std.specs.Prelude.{◌≡◌, ◌^◌, ◌+◌, ◌-◌, ◌<◌, ◌≤◌, length, Some, MatchResult};
 ghost use Rattle.std.specs.Str.Parse.{without_leading_plus};
 ghost use Rattle.rpki_text.specs.Reading.{Answers};
 ghost use Rattle.rpki_text.specs.Numbers.{IsNumberText, HasNumberFault, IsValueUpTo, DigitsFail, AreDigitsBetween, number_fault_text};
@@ -64,6 +64,14 @@ fn read_digits(limit: u64, digits: &[u8]) -> Result<u64, ParseIntError>
 /// How many digits are read without asking whether their value passes a limit: any ten of them write a `u64`.
 const FEW: usize = 10;
 
+/// The place behind the last byte that is read of a number at a place.
+fn few_behind(start: usize, len: usize) -> usize
+    requires { start ≤ len }
+    ensures { (result ≤ len) × (result ≤ start + 10) }
+{
+    if len - start < FEW { len } else { start + FEW }
+}
+
 /// The value of the digits from a place on, ten at most, and the place behind them.
 pub fn digits_from(text: &[u8], start: usize) -> (u64, usize)
     requires { start ≤ length text.now }
@@ -71,7 +79,8 @@ pub fn digits_from(text: &[u8], start: usize) -> (u64, usize)
 {
     let mut value: u64 = 0;
     let mut end = start;
-    while end < text.len() && end - start < FEW {
+    let stop = few_behind(start, text.len());
+    while end < stop {
         let byte = text[end];
         if !byte.is_ascii_digit() {
             break;

@@ -1,5 +1,5 @@
 -- The elements of a list whose first one stands at its front, with one space before it or none.
-use Rattle.std.proofs.Common.{◌≡◌, ℕ, ◌<◌, List, [], ◌∷◌, ◌++◌, length, eqb, true, false, ltb, refl, sym, ap, ◌∙◌, ◌⊎◌, inl, inr}
+use Rattle.std.proofs.Common.{◌≡◌, ℕ, List, [], ◌∷◌, ◌++◌, length, eqb, false, refl, sym, ap, ◌∙◌, ◌⊎◌, inl, inr}
 use Rattle.std.specs.List.{AllByRecursion, slice_split}
 use Rattle.std.specs.Str.{trim}
 use Rattle.std.proofs.lemmas.Bool.{lt-ltb}
@@ -7,7 +7,7 @@ use Rattle.std.proofs.lemmas.List.Elements.{All-from_recursion}
 use Rattle.std.proofs.lemmas.List.Splits.{slice_split_at, slice_split_none}
 use Rattle.rpki_text.specs.Lists.{kept, elements, comma}
 use Rattle.rpki_text.proofs.ListLemmas.{elements_are}
-use Rattle.rpki_text.proofs.PrintedLemmas.{IsShown, IsElement, trim_shown, trim_spaced, no_comma}
+use Rattle.rpki_text.proofs.PrintedLemmas.{IsElement, trim_shown, trim_spaced, no_comma}
 
 -- the part is the element, or this behind a space
 abbrev pub IsPartOf : List ℕ → List ℕ → Type 0

@@ -6,3 +6,4 @@ pub mod ListLemmas
 pub mod NumberLemmas
 pub mod PrintedLemmas
 pub mod ReadingLemmas
+pub mod TrimLemmas

@@ -1,6 +1,6 @@
 -- Lists of AS blocks, read element by element from the front of what is left.
-use Rattle.std.proofs.Common.{◌≡◌, ℕ, suc, ◌+◌, ◌-◌, ◌<◌, ◌≤◌, List, [], ◌∷◌, ◌++◌, length, take, drop, get_or, Ok, arith, refl, sym, ap, ◌∙◌, subst, length-drop, inl, inr, ◌⊎◌}
-use Rattle.std.proofs.lemmas.List.{length-take, drop_more, drop-drop, take-append-drop, append_assoc, append-nil}
+use Rattle.std.proofs.Common.{◌≡◌, ℕ, ◌+◌, ◌-◌, ◌<◌, ◌≤◌, List, [], ◌∷◌, ◌++◌, length, take, drop, get_or, Ok, arith, refl, sym, ap, ◌∙◌, subst, length-drop, inl, inr}
+use Rattle.std.proofs.lemmas.List.{length-take, drop_more, take-append-drop, append_assoc, append-nil}
 use Rattle.std.proofs.Math.Seq.{drop-length}
 use Rattle.rpki_text.specs.Lists.{elements, HaveValues}
 use Rattle.rpki_text.proofs.ElementLemmas.{IsPartOf, elements_first, elements_last}

@@ -1,5 +1,5 @@
 -- AS numbers at a place among bytes: letters and digits behind them.
-use Rattle.std.proofs.Common.{◌≡◌, ℕ, suc, ◌+◌, ◌-◌, ◌^◌, ◌<◌, ◌≤◌, List, [], ◌∷◌, ◌++◌, length, take, drop, get_or, Ok, arith, refl, sym, ap, ◌∙◌, subst, inl, inr, ◌⊎◌, codes, lit≤, length-drop}
+use Rattle.std.proofs.Common.{◌≡◌, ℕ, suc, ◌+◌, ◌-◌, ◌^◌, ◌<◌, ◌≤◌, List, [], ◌∷◌, length, take, drop, get_or, Ok, arith, refl, ap, ◌∙◌, subst, inl, inr, ◌⊎◌, codes, length-drop}
 use Rattle.std.specs.Str.Parse.{AllDigits, digits_value}
 use Rattle.std.specs.Int.{IsInRange}
 use Rattle.std.specs.List.{AllByRecursion}
@@ -9,7 +9,7 @@ use Rattle.std.proofs.lemmas.List.{length-take, drop_more}
 use Rattle.std.proofs.Math.Seq.{take-length}
 use Rattle.rpki_text.specs.Numbers.{IsNumberText, AreDigitsBetween}
 use Rattle.rpki_base.specs.AsnText.{IsAsnText, ReadsAsn}
-use Rattle.rpki_base.specs.AsnPlaces.{HasLettersAt, IsAfterLetters, IsAsnBetween}
+use Rattle.rpki_base.specs.AsnPlaces.{IsAfterLetters, IsAsnBetween}
 use Rattle.rpki_base.proofs.AsnLemmas.{IsAsnText-one, IsAsnText-asn_text}
 
 -- digits are among the bytes `0` to `z`

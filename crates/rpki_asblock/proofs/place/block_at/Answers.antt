@@ -1,7 +1,7 @@
 -- Two numbers round a dash are a block where they are in order.
 use Rattle.std.proofs.Common.{◌≤◌, arith, sym, ◌∙◌}
 use Rattle.std.proofs.lemmas.Bool.Decides.{nat_tests}
-use Rattle.rpki_asblock.proofs.BlockPlaceLemmas.{range_between, id_between}
+use Rattle.rpki_asblock.proofs.BlockPlaceLemmas.{range_between}
 use Rattle.rpki_asblock.proofs.place.block_at.Goals as goal
 
 pub returns : goal.returns

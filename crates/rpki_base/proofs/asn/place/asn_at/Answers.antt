@@ -1,5 +1,5 @@
 -- The letters and the digits behind them write the number.
-use Rattle.std.proofs.Common.{◌≡◌, ◌<◌, ◌^◌, arith}
+use Rattle.std.proofs.Common.{◌<◌, ◌^◌, arith}
 use Rattle.rpki_base.proofs.AsnPlaceLemmas.{asn_between}
 use Rattle.rpki_base.proofs.asn.place.asn_at.Goals as goal
 

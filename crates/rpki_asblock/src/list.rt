@@ -50,8 +50,8 @@ fn usual_blocks<A: Allocator>(alloc: A, text: &[u8]) -> Result<Option<Vec<AsBloc
     }
 }
 
-/// The blocks that the elements of a list write, as [`read_list`] answers. A list of the usual form is read at once, with
-/// no search for its commas.
+/// The blocks that the elements of a list write, as [`read_list`] answers. A list of the usual form is read at once,
+/// with no search for its commas.
 pub fn read_blocks<A: Allocator + Copy>(
     alloc: A,
     text: &str,

@@ -17,8 +17,9 @@ use crate::error::{FromStrError, InheritedAsResources};
 use crate::iter::AsnIter;
 use crate::resources::AsResources;
 use rpki_asblock::block::AsBlock;
+use rpki_asblock::list::read_blocks;
 use rpki_base::asn::Asn;
-use rpki_base::list::{fmt_joined, read_list};
+use rpki_base::list::fmt_joined;
 use rpki_base::memory::OrMemory;
 use rpki_chain::choice::{Listed, ResourcesChoice};
 use rpki_chain::set::BlockSet;
@@ -234,7 +235,7 @@ impl<A: Allocator> AsBlocks<A> {
         ensures reads_back { (set : Runs) → IsAsSet set → text.now ≡ as_list_text set
             → MatchResult result (λ read. read ≡ set) IsMemory }
     {
-        let blocks: Vec<AsBlock, A> = read_list(alloc, text)?;
+        let blocks = read_blocks(alloc, text)?;
         let set = Self::from_vec(alloc, blocks)?;
         Ok(set)
     }

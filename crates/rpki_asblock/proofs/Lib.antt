@@ -1,4 +1,6 @@
 pub mod AsDerLemmas
 pub mod BlockLemmas
+pub mod BlockListLemmas
+pub mod BlockPlaceLemmas
 pub mod DerFaults
 pub mod NumberLemmas

@@ -3,6 +3,7 @@ pub mod AsDerLaws
 pub mod AsDerModes
 pub mod AsDerReading
 pub mod BlockForms
+pub mod BlockPlaces
 pub mod Blocks
 pub mod BlockText
 pub mod Faults

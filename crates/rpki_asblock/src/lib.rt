@@ -15,6 +15,8 @@ pub mod der;
 pub mod error;
 pub mod iter;
 pub mod laws;
+pub mod list;
+mod place;
 pub mod range;
 mod text;
 

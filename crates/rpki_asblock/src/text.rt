@@ -5,6 +5,7 @@ ghost use Rattle.rpki_asblock.specs.BlockText.{ReadsAsBlock, as_block_text, IsAs
 
 use crate::block::AsBlock;
 use crate::error::FromStrError;
+use crate::place::block_at;
 use crate::range::AsRange;
 use rpki_base::asn::Asn;
 use std::fmt;
@@ -23,6 +24,19 @@ fn read_range(left: &str, right: &str) -> Option<AsRange>
     Some(AsRange::new(min, max))
 }
 
+/// The block that any text writes.
+fn read_any(text: &str) -> Result<AsBlock, FromStrError>
+    ensures { ReadsAsBlock text.now result }
+{
+    let Some((left, right)) = text.split_once('-') else {
+        return Ok(AsBlock::Id(Asn::from_str(text)?));
+    };
+    match read_range(left, right) {
+        Some(range) => Ok(AsBlock::Range(range)),
+        None => Err(FromStrError::BadRange),
+    }
+}
+
 /// Reads `AS7` or `7` as an Id, and two such texts round the first dash as a Range. Refused by
 /// [`FromStrError::BadAsn`] where a text without a dash is no AS number, and by [`FromStrError::BadRange`] where one with
 /// a dash isn't two of them, the first at most the second.
@@ -32,12 +46,10 @@ impl FromStr for AsBlock {
     ghost from_str_gives = { ReadsAsBlock };
 
     fn from_str(text: &str) -> Result<AsBlock, FromStrError> {
-        let Some((left, right)) = text.split_once('-') else {
-            return Ok(AsBlock::Id(Asn::from_str(text)?));
-        };
-        match read_range(left, right) {
-            Some(range) => Ok(AsBlock::Range(range)),
-            None => Err(FromStrError::BadRange),
+        let bytes = text.as_bytes();
+        match block_at(bytes, 0) {
+            Some((block, end)) if end == bytes.len() => Ok(block),
+            _ => read_any(text),
         }
     }
 }

@@ -1,7 +1,6 @@
 -- From the reading to the grammar, for calls that take memory, or that look at the tag first.
-use Rattle.std.proofs.Common.{◌≡◌, ℕ, ◌<◌, Bool, true, false, cond, List, [], ◌∷◌, ◌++◌, length, Option, Some, None, Result, Ok, Err, refl, ap, subst, sym, ◌∙◌, option_map, arith}
+use Rattle.std.proofs.Common.{◌≡◌, ℕ, ◌<◌, Bool, true, false, cond, List, [], ◌∷◌, ◌++◌, length, Option, Some, None, Result, Ok, Err, refl, ap, sym, ◌∙◌, option_map, arith}
 use Rattle.std.proofs.lemmas.List.{length-append}
-use Rattle.std.specs.Prelude.{MatchResult}
 use Rattle.rpki_der.specs.declared.cursor.Cursor.{Cursor}
 use Rattle.rpki_der.specs.declared.error.DerError.{DerError}
 use Rattle.rpki_der.specs.Der.{IsBytes, Refines}
@@ -14,7 +13,6 @@ use Rattle.rpki_text.specs.declared.memory.OrMemory.{OrMemory}
 use Rattle.rpki_text.specs.declared.memory.OrMemory.TheVariants.{Refused, Memory}
 use Rattle.rpki_base.specs.DerReading.{begins_with, if_tagged}
 use Rattle.rpki_base.specs.DerViews.{ReadsOrMemory, ReadsTagged, TakesOrMemory, TakesSaidOrMemory}
-use Rattle.rpki_text.specs.Memory.{IsMemory}
 
 -- a take that may want memory
 pub reads_or_memory_by : {X Y : Type 0} (G : List ℕ → Y → Type 0) (reading : List ℕ → Result (Y × List ℕ) DerError) (view : X → Y) (old new : Cursor) (result : Result X (OrMemory DerError))

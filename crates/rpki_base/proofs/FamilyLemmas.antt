@@ -6,7 +6,7 @@ use Rattle.std.proofs.lemmas.Bool.{eqb-true, and_parts}
 use Rattle.rpki_der.specs.declared.error.DerError.{DerError}
 use Rattle.rpki_der.specs.declared.error.DerError.TheVariants.{BadFamily}
 use Rattle.rpki_der.specs.Der.{Refines, header, length_octets}
-use Rattle.rpki_der.specs.Reading.{Gives, refined, tagged_at, IsReading}
+use Rattle.rpki_der.specs.Reading.{Gives, tagged_at, IsReading}
 use Rattle.rpki_der.proofs.Steps.{IsCheck, ok_is, ok_or_err}
 use Rattle.rpki_der.proofs.Readings.{IsTagged, refined_reading, same_reading, tagged_reading}
 use Rattle.rpki_der.proofs.Written.{value_is}

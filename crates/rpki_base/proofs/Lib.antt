@@ -1,4 +1,5 @@
 pub mod AsnLemmas
+pub mod AsnPlaceLemmas
 pub mod AsnPrinting
 pub mod DerCursors
 pub mod DerFaults

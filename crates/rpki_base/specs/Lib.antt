@@ -1,4 +1,5 @@
 pub mod AsnDer
+pub mod AsnPlaces
 pub mod AsnText
 pub mod DerFaults
 pub mod DerReading

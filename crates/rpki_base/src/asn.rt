@@ -4,8 +4,10 @@ ghost use Rattle.rpki_base.specs.AsnText.{IsAfterAs, ReadsAsn, asn_text};
 ghost use Rattle.rpki_text.specs.Digits.{octets_of};
 
 mod der;
+pub mod place;
 pub mod print;
 
+use place::asn_at;
 use print::fmt_asn;
 use rpki_text::number::parse_up_to;
 use std::error::Error;
@@ -114,6 +116,16 @@ fn after_as(text: &[u8]) -> &[u8]
     }
 }
 
+/// The AS number that any text writes.
+fn read_any(text: &[u8]) -> Result<Asn, ParseAsnError>
+    ensures { ReadsAsn text.now result }
+{
+    match parse_up_to(u64::from(u32::MAX), after_as(text)) {
+        Ok(value) => Ok(Asn(value as u32)),
+        Err(_) => Err(ParseAsnError),
+    }
+}
+
 /// Reads an optional `as` in any case of letters, and then the decimal text of a `u32`, as
 /// [`rpki_text::number::parse_u32`] does. Any other text is refused by [`ParseAsnError`].
 impl FromStr for Asn {
@@ -122,9 +134,10 @@ impl FromStr for Asn {
     ghost from_str_gives = { ReadsAsn };
 
     fn from_str(text: &str) -> Result<Asn, ParseAsnError> {
-        match parse_up_to(u64::from(u32::MAX), after_as(text.as_bytes())) {
-            Ok(value) => Ok(Asn(value as u32)),
-            Err(_) => Err(ParseAsnError),
+        let bytes = text.as_bytes();
+        match asn_at(bytes, 0) {
+            Some((asn, end)) if end == bytes.len() => Ok(asn),
+            _ => read_any(bytes),
         }
     }
 }

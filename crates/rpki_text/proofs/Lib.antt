@@ -1,7 +1,9 @@
 -- Lemmas on what readers answer, on numbers in decimal and on lists of texts.
 pub mod CutLemmas
 pub mod DigitLemmas
+pub mod ElementLemmas
 pub mod ListLemmas
 pub mod NumberLemmas
 pub mod PrintedLemmas
 pub mod ReadingLemmas
+pub mod TrimLemmas

@@ -1,5 +1,5 @@
 -- Number texts: each has one value or one fault, and a scan from the left finds it.
-use Rattle.std.proofs.Common.{◌≡◌, ℕ, ◌+◌, ◌-◌, ◌*◌, ◌<◌, ◌≤◌, ◌≢◌, List, [], ◌∷◌, ◌++◌, length, take, drop, get_or, Result, Ok, Err, MatchResult, arith, refl, sym, ap, ◌∙◌, subst, ◌⊎◌, inl, inr, add-one}
+use Rattle.std.proofs.Common.{◌≡◌, ℕ, ◌+◌, ◌-◌, ◌*◌, ◌<◌, ◌≤◌, ◌≢◌, List, [], ◌∷◌, ◌++◌, length, take, drop, get_or, Result, Ok, Err, MatchResult, arith, refl, sym, ap, ◌∙◌, subst, ◌⊎◌, inl, inr, add-one, ◌^◌, length-drop}
 use Rattle.std.specs.Char.{digit_value}
 use Rattle.std.specs.Int.{IsInRange}
 use Rattle.std.proofs.Math.Seq.{drop-cons}
@@ -7,13 +7,14 @@ use Rattle.std.proofs.lemmas.Str.Parse.{digit_from_value}
 use Rattle.std.proofs.lemmas.Bool.{cases_lt}
 use Rattle.std.specs.Str.Parse.{AllDigits, digits_value, digits_value_after, without_leading_plus}
 use Rattle.std.proofs.lemmas.Str.{digit_value_digit}
-use Rattle.std.proofs.lemmas.List.{take_more, take-append-drop}
-use Rattle.std.proofs.lemmas.Int.Digits.{digits_value_more}
+use Rattle.std.proofs.lemmas.List.{take_more, take-append-drop, length-take, get_or-drop}
+use Rattle.std.proofs.lemmas.Int.Digits.{digits_value_more, digits_value-lt}
+use Rattle.std.proofs.Math.Nat.{pow-le-pow_right}
 use Rattle.rpki_text.specs.declared.number.ParseIntError.{ParseIntError}
 use Rattle.rpki_text.specs.declared.number.ParseIntError.TheVariants.{Empty, InvalidDigit, PosOverflow}
 use Rattle.rpki_text.specs.Reading.{Answers}
 use Rattle.rpki_text.proofs.ReadingLemmas.{Answers-from_found}
-use Rattle.rpki_text.specs.Numbers.{IsNumberText, IsValueUpTo, PassesLimit, StopsBelow, HasInvalidDigit, HasNumberFault, DigitsFail}
+use Rattle.rpki_text.specs.Numbers.{IsNumberText, IsValueUpTo, PassesLimit, StopsBelow, HasInvalidDigit, HasNumberFault, DigitsFail, AreDigitsBetween}
 
 -- digits and one digit more
 pub AllDigits-push : (xs : List ℕ) (c : ℕ) → AllDigits 10 xs → digit_value c < 10 → AllDigits 10 (xs ++ c ∷ [])
@@ -173,3 +174,26 @@ no_digits limit text some none = record {
   no_number = λ n h. omega (arith, h.digits.0);
   not_above = λ p. none_above limit (without_leading_plus text) (no_text _ none) p;
 }
+
+-- fewer than ten digits write a number below 10 ^ 9
+pub few_below : (start end : ℕ) (text : List ℕ) (n : ℕ) → AreDigitsBetween start end text n → end - start < 10 → n < 10 ^ 9
+few_below start end text n h few =
+    let below = digits_value-lt 10 (take (end - start) (drop start text)) h.all_digits in
+    let short : length (take (end - start) (drop start text)) ≤ 9 = omega (arith, length-take (end - start) (drop start text)) in
+    let up : 10 ^ length (take (end - start) (drop start text)) ≤ 10 ^ 9 = pow-le-pow_right (omega arith) short in
+    omega (arith, below, up, h.value)
+
+-- one digit more, which stands for n
+pub digit_more : (start end : ℕ) (text : List ℕ) (value n : ℕ) → AreDigitsBetween start end text value → end < length text → end - start < 10 → IsInRange 48 57 (get_or text end 0) → n ≡ get_or text end 0 - 48 → AreDigitsBetween start (end + 1) text (value * 10 + n)
+digit_more start end text value n h here few digit is =
+    let at : get_or (drop start text) (end - start) 0 ≡ get_or text end 0 = get_or-drop start text (end - start) 0 ∙ ap (λ i. get_or text i 0) (omega (arith, h.in_order)) in
+    let more : IsValueUpTo (value * 10 + n) (take (end - start + 1) (drop start text)) (value * 10 + n) = value_more (value * 10 + n) value n (drop start text) (end - start) (omega (arith, length-drop start text, h.in_order)) (rw at digit) (is ∙ ap (λ b. b - 48) (sym at)) (record { all_digits = h.all_digits; value = h.value; within = omega arith }) (omega arith) in
+    let count : end - start + 1 ≡ end + 1 - start = omega (arith, h.in_order) in
+    let all = rw count at more in
+    record {
+      in_order = omega (arith, h.in_order);
+      within = omega (arith, here);
+      few = omega (arith, few, h.in_order);
+      all_digits = all.all_digits;
+      value = all.value;
+    }

@@ -67,7 +67,7 @@ unfolding trim_start
 trim_spaced bs h = rw (chars_ascii (32 ∷ bs) (lit< tt, shown_ascii bs h), skip_shown bs h, encodes_ascii bs (shown_ascii bs h)) (trim_end_shown bs h)
 
 -- no comma is among them
-no_comma : (bs : List ℕ) → AllByRecursion IsShown bs → AllByRecursion (λ b. eqb b comma ≡ false) bs
+pub no_comma : (bs : List ℕ) → AllByRecursion IsShown bs → AllByRecursion (λ b. eqb b comma ≡ false) bs
 no_comma [] h = tt
 no_comma (b ∷ bs) h = (grind (arith, nat_tests), no_comma bs h.1)
 

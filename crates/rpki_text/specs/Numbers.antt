@@ -1,5 +1,5 @@
 -- Decimal texts of numbers up to a limit, as Rust's std reads them, and what is wrong with any other text.
-use Rattle.std.specs.Prelude.{◌≡◌, ℕ, ◌<◌, ◌≤◌, ◌≢◌, List, [], ◌∷◌, ◌++◌, codes}
+use Rattle.std.specs.Prelude.{◌≡◌, ℕ, ◌+◌, ◌-◌, ◌<◌, ◌≤◌, ◌≢◌, List, [], ◌∷◌, ◌++◌, length, take, drop, codes}
 use Rattle.std.specs.Char.{digit_value}
 use Rattle.std.specs.Str.Parse.{AllDigits, IsNumeral, digits_value, without_leading_plus}
 use Rattle.rpki_text.specs.declared.number.ParseIntError.{ParseIntError}
@@ -57,3 +57,11 @@ abbrev pub DigitsFail : ℕ → List ℕ → ParseIntError → Type 0
 DigitsFail limit bytes Empty = ⊥
 DigitsFail limit bytes InvalidDigit = StopsBelow limit bytes
 DigitsFail limit bytes PosOverflow = PassesLimit limit bytes
+
+-- the bytes from start to end are digits, ten at most, that write n
+pub record AreDigitsBetween (start end : ℕ) (text : List ℕ) (n : ℕ) : Type 0 where
+  pub in_order : start ≤ end
+  pub within : end ≤ length text
+  pub few : end ≤ start + 10
+  pub all_digits : AllDigits 10 (take (end - start) (drop start text))
+  pub value : digits_value 10 (take (end - start) (drop start text)) ≡ n

@@ -1,6 +1,7 @@
 //! Texts of lists: read at their commas, and printed with them.
 ghost use Rattle.std.specs.Prelude.{◌≡◌, ℕ, List, map, Option, Some, Ok, Err, MatchResult};
 ghost use Rattle.std.specs.Fmt.{WritesOnOk, DisplaysOnOk};
+ghost use Rattle.std.specs.Str.{trim};
 ghost use Rattle.rpki_text.specs.Memory.{IfRefused};
 ghost use Rattle.rpki_text.specs.Lists.{elements, joined, HaveValues, HasFirstFault};
 
@@ -29,6 +30,18 @@ pub trait ReadElement {
         ensures { MatchResult result (has self.now text.now) (fails self.now text.now) };
 }
 
+/// The text without the white space at both its ends. Where visible ASCII stands there, characters aren't looked at.
+fn trimmed(text: &str) -> &str
+    ensures { result.now ≡ trim text.now }
+{
+    if let [first, .., last] = text.as_bytes() {
+        if first.is_ascii_graphic() && last.is_ascii_graphic() {
+            return text;
+        }
+    }
+    text.trim()
+}
+
 /// The values that the elements of a list write, in its order.
 ///
 /// The text is cut at its commas, each part is trimmed of white space, and a part that is then
@@ -44,7 +57,7 @@ pub fn read_elements<R: ReadElement, A: Allocator>(
 {
     let mut values = Vec::new(alloc);
     for part in text.split(',') {
-        let element = part.trim();
+        let element = trimmed(part);
         if element.is_empty() {
             continue;
         }

@@ -1,8 +1,8 @@
 //! Decimal texts of numbers, read up to a limit.
-ghost use Rattle.std.specs.Prelude.{◌≡◌, ◌^◌, ◌-◌, ◌<◌, Some, MatchResult};
+ghost use Rattle.std.specs.Prelude.{◌≡◌, ◌^◌, ◌+◌, ◌-◌, ◌<◌, ◌≤◌, length, Some, MatchResult};
 ghost use Rattle.std.specs.Str.Parse.{without_leading_plus};
 ghost use Rattle.rpki_text.specs.Reading.{Answers};
-ghost use Rattle.rpki_text.specs.Numbers.{IsNumberText, HasNumberFault, IsValueUpTo, DigitsFail, number_fault_text};
+ghost use Rattle.rpki_text.specs.Numbers.{IsNumberText, HasNumberFault, IsValueUpTo, DigitsFail, AreDigitsBetween, number_fault_text};
 
 use std::error::Error;
 use std::fmt;
@@ -59,6 +59,36 @@ fn read_digits(limit: u64, digits: &[u8]) -> Result<u64, ParseIntError>
         }
     }
     Ok(value)
+}
+
+/// How many digits are read without asking whether their value passes a limit: any ten of them write a `u64`.
+const FEW: usize = 10;
+
+/// The place behind the last byte that is read of a number at a place.
+fn few_behind(start: usize, len: usize) -> usize
+    requires { start ≤ len }
+    ensures { (result ≤ len) × (result ≤ start + 10) }
+{
+    if len - start < FEW { len } else { start + FEW }
+}
+
+/// The value of the digits from a place on, ten at most, and the place behind them.
+pub fn digits_from(text: &[u8], start: usize) -> (u64, usize)
+    requires { start ≤ length text.now }
+    ensures { AreDigitsBetween start result.1 text.now result.0 }
+{
+    let mut value: u64 = 0;
+    let mut end = start;
+    let stop = few_behind(start, text.len());
+    while end < stop {
+        let byte = text[end];
+        if !byte.is_ascii_digit() {
+            break;
+        }
+        value = value * 10 + u64::from(byte - b'0');
+        end += 1;
+    }
+    (value, end)
 }
 
 /// The number that a decimal text writes, at most a limit that is below 2^32: as [`parse_u32`], whose faults it has for

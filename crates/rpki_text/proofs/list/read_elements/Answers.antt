@@ -10,19 +10,19 @@ use Rattle.rpki_text.proofs.list.read_elements.Goals as goal
 -- one more value
 pub loop-part-preserved : goal.loop-part-preserved
 loop-part-preserved g c =
-    let some = eqb-false (length c.trim-element.result.now) 0 (sym c.is_empty.ensures ∙ c.if-is_empty.false) in
-    let value = rw c.trim-element.ensures.trim at c.in-Ok.ensures in
-    rw (map-append, c.in_ok-push-in-Ok.ensures.items) (values_more (g.R.ReadElement.has c.args.reader.now) (map (λ p. p.now) c.loop-part.yielded) c.in-Some.part.now _ _ c.loop-part.invariant (rw c.trim-element.ensures.trim at some) value)
+    let some = eqb-false (length c.trimmed-element.result.now) 0 (sym c.is_empty.ensures ∙ c.if-is_empty.false) in
+    let value = rw c.trimmed-element.ensures at c.in-Ok.ensures in
+    rw (map-append, c.in_ok-push-in-Ok.ensures.items) (values_more (g.R.ReadElement.has c.args.reader.now) (map (λ p. p.now) c.loop-part.yielded) c.in-Some.part.now _ _ c.loop-part.invariant (rw c.trimmed-element.ensures at some) value)
 
 pub returns-in-Err : goal.returns-in-Err
 returns-in-Err g c =
     let road = YieldsList-at c.into_iter-part-iterator.ensures.into_iter_gives (YieldsList-from_str_split 44 c.args.text.now (lit< tt) c.split-part-items.ensures.text c.split-part-items.ensures.has_more c.split-part-items.ensures.pattern) in
     let here = YieldsList-turn road c.loop-part.yielded _ c.loop-part.yielded_by _ _ c.in-Some.part c.in-Some.is c.next.ensures.steps in
     let sofar = YieldsList-so_far road c.loop-part.yielded _ c.loop-part.yielded_by in
-    let some = eqb-false (length c.trim-element.result.now) 0 (sym c.is_empty.ensures ∙ c.if-is_empty.false) in
-    let fault = rw c.trim-element.ensures.trim at c.in-Err.ensures in
+    let some = eqb-false (length c.trimmed-element.result.now) 0 (sym c.is_empty.ensures ∙ c.if-is_empty.false) in
+    let fault = rw c.trimmed-element.ensures at c.in-Err.ensures in
     let before = rw sofar at c.loop-part.invariant in
-    fault_at (g.R.ReadElement.has c.args.reader.now) (g.R.ReadElement.fails c.args.reader.now) c.args.text.now (length c.loop-part.yielded) c.in-Some.part.now c.loop-part.values.items c.in-Err.fault here (rw c.trim-element.ensures.trim at some) before fault
+    fault_at (g.R.ReadElement.has c.args.reader.now) (g.R.ReadElement.fails c.args.reader.now) c.args.text.now (length c.loop-part.yielded) c.in-Some.part.now c.loop-part.values.items c.in-Err.fault here (rw c.trimmed-element.ensures at some) before fault
 
 pub returns : goal.returns
 returns g c =

@@ -1,15 +1,6 @@
--- The number behind the optional `as` is the answer, and so is its absence.
-use Rattle.rpki_base.proofs.AsnLemmas.{reads_ok, reads_err}
+-- A number of the usual form that takes the whole text is the answer.
+use Rattle.rpki_base.proofs.AsnPlaceLemmas.{reads_whole}
 use Rattle.rpki_base.proofs.asn.AsnFromStr.from_str.Goals as goal
 
-pub returns-in-Ok : goal.returns-in-Ok
-returns-in-Ok c =
-    let after = rw c.as_bytes.ensures.value at c.after_as.ensures in
-    let number = rw c.from.ensures at c.in-Ok.ensures.found in
-    reads_ok c.args.text.now c.after_as.result.now c.in-Ok.value after number
-
-pub returns-in-Err : goal.returns-in-Err
-returns-in-Err c =
-    let after = rw c.as_bytes.ensures.value at c.after_as.ensures in
-    let each = rw c.from.ensures at c.in-Err.ensures.each_value in
-    reads_err c.args.text.now c.after_as.result.now _ after (λ n h. let e = each n h in cc)
+pub returns-in-Some : goal.returns-in-Some
+returns-in-Some c = reads_whole _ _ _ _ c.as_bytes-bytes.ensures.value c.in-Some.ensures c.if-end-bytes.true

@@ -4,11 +4,10 @@ use crate::sets::from_lists;
 use rpki_extensions::anchor::anchor_set;
 use rpki_extensions::encoding::Encoding;
 use rpki_extensions::extensions::{Claims, Extensions};
-use rpki_extensions::read;
 use rpki_extensions::write::{
     write_address_claims, write_addresses, write_numbers, write_numbers_claim,
 };
-use rpki_resources::OrMemory;
+use rpki_extensions::{issued, read};
 use rpki_resources::repository::resources::{Overclaim, ResourceSet};
 use std::alloc::{AllocError, Global};
 
@@ -90,27 +89,35 @@ pub fn verified_octets(alloc: Global, operands: &str) -> anyhow::Result<String> 
 
 fn verified_by(alloc: Global, issuer: &ResourceSet, text: &str) -> anyhow::Result<String> {
     let certificate = Certificate::read(alloc, text)?;
-    match rpki_extensions::issued::verified_octets(alloc, issuer, &certificate.extensions()) {
-        Ok(set) => print::value(alloc, &set),
-        Err(OrMemory::Refused(reason)) => print::value(alloc, &reason),
-        Err(OrMemory::Memory(error)) => Err(error.into()),
-    }
+    left_by(alloc, issuer, &certificate.extensions())
+}
+
+fn left_by(
+    alloc: Global,
+    issuer: &ResourceSet,
+    certificate: &Extensions<'_>,
+) -> anyhow::Result<String> {
+    print::verified(alloc, issued::verified_octets(alloc, issuer, certificate))
 }
 
 /// `anchor_set refuse HEX HEX`
 pub fn anchor_listed(alloc: Global, text: &str) -> anyhow::Result<String> {
     let certificate = Certificate::read(alloc, text)?;
-    match anchor_set(alloc, &certificate.extensions()) {
-        Ok(set) => print::value(alloc, &set),
-        Err(OrMemory::Refused(reason)) => print::value(alloc, &reason),
-        Err(OrMemory::Memory(error)) => Err(error.into()),
-    }
+    listed_by(alloc, &certificate.extensions())
+}
+
+fn listed_by(alloc: Global, certificate: &Extensions<'_>) -> anyhow::Result<String> {
+    print::verified(alloc, anchor_set(alloc, certificate))
 }
 
 /// `written A ; B ; C`: the octets of both extensions.
 pub fn written(alloc: Global, lists: &str) -> anyhow::Result<String> {
     let set = from_lists(alloc, lists)?;
-    let text = octets_of(alloc, &set)?;
+    written_of(alloc, &set)
+}
+
+fn written_of(alloc: Global, set: &ResourceSet) -> anyhow::Result<String> {
+    let text = octets_of(alloc, set)?;
     Ok(text)
 }
 
@@ -125,14 +132,19 @@ fn octets_of(alloc: Global, set: &ResourceSet) -> Result<String, AllocError> {
 /// `rewritten refuse HEX HEX`: what a certificate claims, written again.
 pub fn rewritten(alloc: Global, text: &str) -> anyhow::Result<String> {
     let certificate = Certificate::read(alloc, text)?;
-    match certificate.extensions().claims(alloc) {
-        Ok(claims) => {
-            let text = claimed(alloc, &claims)?;
-            Ok(text)
-        }
-        Err(OrMemory::Refused(reason)) => print::value(alloc, &reason),
-        Err(OrMemory::Memory(error)) => Err(error.into()),
+    rewritten_of(alloc, &certificate.extensions())
+}
+
+fn rewritten_of(alloc: Global, certificate: &Extensions<'_>) -> anyhow::Result<String> {
+    match certificate.claims(alloc) {
+        Ok(claims) => claims_text(alloc, &claims),
+        Err(error) => print::refused(alloc, error),
     }
+}
+
+fn claims_text(alloc: Global, claims: &Claims) -> anyhow::Result<String> {
+    let text = claimed(alloc, claims)?;
+    Ok(text)
 }
 
 fn claimed(alloc: Global, claims: &Claims) -> Result<String, AllocError> {

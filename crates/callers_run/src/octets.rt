@@ -12,13 +12,13 @@ use std::alloc::Global;
 /// `written_and_read LIST` of addresses of either family.
 pub fn written_and_read(alloc: Global, list: &str) -> anyhow::Result<String> {
     let set = IpBlocks::from_str(alloc, list)?;
-    as_v6(alloc, &callers::octets::written_and_read(alloc, &set))
+    as_v6(alloc, callers::octets::written_and_read(alloc, &set))
 }
 
 /// `as_written_and_read LIST` of AS numbers.
 pub fn as_written_and_read(alloc: Global, list: &str) -> anyhow::Result<String> {
     let set = AsBlocks::from_str(alloc, list)?;
-    print::made(alloc, &callers::octets::as_written_and_read(alloc, &set))
+    print::made(alloc, callers::octets::as_written_and_read(alloc, &set))
 }
 
 /// `resources_written_and_read LIST` of AS numbers, or `inherit`.
@@ -29,7 +29,7 @@ pub fn resources_written_and_read(alloc: Global, list: &str) -> anyhow::Result<S
     }
     print::made(
         alloc,
-        &callers::octets::resources_written_and_read(alloc, &resources),
+        callers::octets::resources_written_and_read(alloc, &resources),
     )
 }
 

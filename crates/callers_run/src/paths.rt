@@ -30,11 +30,10 @@ fn left_of(
     anchor: &ResourceSet,
     certificates: &[Extensions<'_>],
 ) -> anyhow::Result<String> {
-    match rpki_extensions::path::verified_path(alloc, anchor, certificates) {
-        Ok(set) => print::value(alloc, &set),
-        Err(OrMemory::Refused(refusal)) => print::value(alloc, &refusal),
-        Err(OrMemory::Memory(error)) => Err(error.into()),
-    }
+    print::verified(
+        alloc,
+        rpki_extensions::path::verified_path(alloc, anchor, certificates),
+    )
 }
 
 /// `verified_below refuse HEX HEX | refuse HEX HEX | ..`: a trust anchor, and the certificates on a path.
@@ -55,11 +54,10 @@ fn below(
     anchor: &Extensions<'_>,
     certificates: &[Extensions<'_>],
 ) -> anyhow::Result<String> {
-    match rpki_extensions::path::verified_below(alloc, anchor, certificates) {
-        Ok(set) => print::value(alloc, &set),
-        Err(OrMemory::Refused(refusal)) => print::value(alloc, &refusal),
-        Err(OrMemory::Memory(error)) => Err(error.into()),
-    }
+    print::verified(
+        alloc,
+        rpki_extensions::path::verified_below(alloc, anchor, certificates),
+    )
 }
 
 /// The certificates between the marks of a path.
@@ -109,14 +107,26 @@ fn left(alloc: Global, root: &str, steps: &Steps) -> anyhow::Result<String>
     requires { All (λ step. IsWholeClaim step.claim) steps.now.ipv4.items }
 {
     let root = from_lists(alloc, root)?;
-    match callers::certificates::verified(alloc, &root, &steps.asn, &steps.ipv4, &steps.ipv6) {
+    left_of_root(alloc, &root, steps)
+}
+
+fn left_of_root(alloc: Global, root: &ResourceSet, steps: &Steps) -> anyhow::Result<String>
+    requires { All (λ step. IsWholeClaim step.claim) steps.now.ipv4.items }
+{
+    match callers::certificates::verified(alloc, root, &steps.asn, &steps.ipv4, &steps.ipv6) {
         Ok(set) => print::value(alloc, &set),
-        Err(OrMemory::Refused(refusal)) => overclaimed(alloc, &refusal),
-        Err(OrMemory::Memory(error)) => Err(error.into()),
+        Err(error) => overclaimed(alloc, error),
     }
 }
 
-fn overclaimed(alloc: Global, refusal: &Overclaimed) -> anyhow::Result<String> {
+fn overclaimed(alloc: Global, error: OrMemory<Overclaimed>) -> anyhow::Result<String> {
+    match error {
+        OrMemory::Refused(refusal) => overclaimed_at(alloc, &refusal),
+        OrMemory::Memory(error) => Err(error.into()),
+    }
+}
+
+fn overclaimed_at(alloc: Global, refusal: &Overclaimed) -> anyhow::Result<String> {
     match refusal {
         Overclaimed::Asn(refusal) => at_step(alloc, refusal.step, &refusal.fault),
         Overclaimed::Ipv4(refusal) => at_step(alloc, refusal.step, &refusal.fault),

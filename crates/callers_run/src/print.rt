@@ -25,13 +25,35 @@ pub fn value<T: fmt::Display>(alloc: Global, value: &T) -> anyhow::Result<String
 }
 
 /// A value, where there was memory for it.
-pub fn made<T: fmt::Display>(
+pub fn made<T: fmt::Display + Drop>(
     alloc: Global,
-    made: &Result<T, AllocError>,
+    made: Result<T, AllocError>,
 ) -> anyhow::Result<String> {
     match made {
-        Ok(made) => value(alloc, made),
-        Err(_) => Err(AllocError.into()),
+        Ok(made) => value(alloc, &made),
+        Err(error) => Err(error.into()),
+    }
+}
+
+/// A value, or the reason why there is none.
+pub fn verified<T: fmt::Display + Drop, E: fmt::Display + Drop>(
+    alloc: Global,
+    found: Result<T, OrMemory<E>>,
+) -> anyhow::Result<String> {
+    match found {
+        Ok(found) => value(alloc, &found),
+        Err(error) => refused(alloc, error),
+    }
+}
+
+/// The reason of a refusal. `Err` where memory was wanting.
+pub fn refused<E: fmt::Display + Drop>(
+    alloc: Global,
+    error: OrMemory<E>,
+) -> anyhow::Result<String> {
+    match error {
+        OrMemory::Refused(reason) => value(alloc, &reason),
+        OrMemory::Memory(error) => Err(error.into()),
     }
 }
 

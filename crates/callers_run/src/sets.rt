@@ -34,7 +34,7 @@ fn union_with_third(
     let three = Ipv4Blocks::from_str(alloc, three)?;
     print::made(
         alloc,
-        &callers::sets::union_of_three(alloc, one, two, &three),
+        callers::sets::union_of_three(alloc, one, two, &three),
     )
 }
 
@@ -56,22 +56,26 @@ fn joined(alloc: Global, blocks: &[AsBlock]) -> anyhow::Result<String> {
 /// `printed_and_read LIST` of addresses of either family.
 pub fn printed_and_read(alloc: Global, list: &str) -> anyhow::Result<String> {
     let set = IpBlocks::from_str(alloc, list)?;
-    as_v6(alloc, &callers::texts::printed_and_read(alloc, &set))
+    as_v6(alloc, callers::texts::printed_and_read(alloc, &set))
 }
 
 /// A set of addresses, printed as one of IPv6.
-pub fn as_v6(alloc: Global, set: &Result<IpBlocks, AllocError>) -> anyhow::Result<String> {
+pub fn as_v6(alloc: Global, set: Result<IpBlocks, AllocError>) -> anyhow::Result<String> {
     match set {
         Ok(set) => print::value(alloc, &set.as_v6()),
-        Err(_) => Err(AllocError.into()),
+        Err(error) => Err(error.into()),
     }
 }
 
 /// `resources_printed_and_read A ; B ; C`
 pub fn resources_printed_and_read(alloc: Global, lists: &str) -> anyhow::Result<String> {
     let set = from_lists(alloc, lists)?;
+    printed_and_read_again(alloc, &set)
+}
+
+fn printed_and_read_again(alloc: Global, set: &ResourceSet) -> anyhow::Result<String> {
     print::made(
         alloc,
-        &callers::texts::resources_printed_and_read(alloc, &set),
+        callers::texts::resources_printed_and_read(alloc, set),
     )
 }

@@ -27,7 +27,7 @@ pub fn whole_v4(alloc: Global, list: &str) -> anyhow::Result<String> {
 /// `listed_in_the_end BLOCK` of AS numbers.
 pub fn listed_in_the_end(alloc: Global, block: &str) -> anyhow::Result<String> {
     let block = block.parse::<AsBlock>()?;
-    print::made(alloc, &builders::listed_in_the_end(alloc, block))
+    print::made(alloc, builders::listed_in_the_end(alloc, block))
 }
 
 /// `any_error LIST` of AS numbers.

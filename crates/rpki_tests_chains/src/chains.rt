@@ -148,7 +148,7 @@ fn chains(rt: HostRuntime) {
 
 /// Whether a chain lies in another, by both calls.
 fn is_trimmed(refusing: &Refusing, own: Chain<'_, AsBlock>, other: Chain<'_, AsBlock>) -> bool {
-    own.trim(refusing, other).is_ok() && own.is_encompassed(other)
+    matches!(own.trim(refusing, other), Ok(())) && own.is_encompassed(other)
 }
 
 /// Whether a chain lies in the chain of the numbers 0 to 17 and 19 to 50.
@@ -208,7 +208,7 @@ fn sharing_the_empty_chain_takes_no_memory(rt: HostRuntime) {
 }
 
 fn is_refused(refusing: &Refusing) -> bool {
-    SharedChain::from_blocks(refusing, &[block(1, 4)]).is_err()
+    matches!(SharedChain::from_blocks(refusing, &[block(1, 4)]), Err(_))
 }
 
 #[test]

@@ -3,16 +3,25 @@
 //! it.
 #![tactic(auto)]
 
-pub mod addr;
-pub mod asn;
-pub mod asres;
-pub mod chain;
-pub mod choice;
+#[cfg(test)]
+mod addr;
+#[cfg(test)]
+mod asn;
+#[cfg(test)]
+mod asres;
+#[cfg(test)]
+mod chain;
+#[cfg(test)]
+mod choice;
 #[cfg(test)]
 mod counted;
 #[cfg(test)]
 mod faults;
-pub mod ipres;
-pub mod or_memory;
-pub mod set;
-pub mod traits;
+#[cfg(test)]
+mod ipres;
+#[cfg(test)]
+mod or_memory;
+#[cfg(test)]
+mod set;
+#[cfg(test)]
+mod traits;

@@ -8,7 +8,9 @@
 //! ```
 #![tactic(auto)]
 
-mod common;
+mod block;
+mod blocks;
+mod family;
 pub mod iter;
 pub mod prefixes;
 pub mod v4;

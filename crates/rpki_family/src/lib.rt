@@ -8,9 +8,9 @@
 //! ```
 #![tactic(auto)]
 
-mod block;
-mod blocks;
-mod family;
+pub mod block;
+pub mod blocks;
+pub mod family;
 pub mod iter;
 pub mod prefixes;
 pub mod v4;

@@ -29,8 +29,8 @@ use std::marker::{Model, PhantomData};
 /// A set of addresses of one family. Sets of the same addresses are equal and print alike. Its memory may have several
 /// owners, and the empty set has none.
 ///
-/// Contracts see it as the ascending list of the runs of its addresses as numbers of 128 bits, each as its least and its
-/// greatest number. In IPv4 it consists of whole addresses.
+/// Contracts see it as the ascending list of the runs of its addresses as numbers of 128 bits, each as its least and
+/// its greatest number. In IPv4 it consists of whole addresses.
 #[derive(Drop)]
 pub struct FamilyBlocks<F: Family, A: Allocator = Global> {
     blocks: IpBlocks<A>,
@@ -204,8 +204,8 @@ impl<F: Family, A: Allocator> FamilyBlocks<F, A> {
 
     /// The set that a list of blocks of the family writes: the text is cut at commas, white space round an element is
     /// dropped, and so is an element that is empty then. `Refused` for the first element that is no block: with
-    /// [`FromStrError::FamilyMismatch`] where it has, in IPv4, a colon, and in IPv6 a dot and no colon; and else with its
-    /// own fault. `Memory` where there is no memory for the set.
+    /// [`FromStrError::FamilyMismatch`] where it has in IPv4 a colon, and in IPv6 a dot and no colon; else with its own
+    /// fault. `Memory` where there is no memory for the set.
     pub fn from_str(alloc: A, text: &str) -> Result<FamilyBlocks<F, A>, OrMemory<FromStrError>>
     where
         A: Copy,

@@ -2,7 +2,7 @@
 use Rattle.std.proofs.Common.{◌≡◌, ℕ, suc, ◌+◌, ◌-◌, ◌*◌, ◌/◌, ◌%◌, ◌^◌, ◌<◌, ◌≤◌, ◌↔◌, ◌⊎◌, Option, Some, None, List, [], ◌∷◌, ◌++◌, length, get_or, map, refl, sym, ◌∙◌, ap, subst, arith, inl, inr}
 use Rattle.std.specs.Iterator.{YieldsFirst, MakesProgress, item_count}
 use Rattle.std.specs.List.{All, AllPairs}
-use Rattle.std.proofs.lemmas.List.{get_or-map, length-map, map-append}
+use Rattle.std.proofs.lemmas.List.{map-append}
 use Rattle.std.proofs.lemmas.Nat.{pow_pos}
 use Rattle.std.proofs.lemmas.List.Elements.{All-head, All-tail, All-map}
 use Rattle.rpki_addr.specs.Prefixes.{PrefixValue}
@@ -168,14 +168,6 @@ same_bounds b r x y e f g = ap range_bounds e ∙ ap (λ z. (z, y)) f ∙ ap (λ
 -- what is left at the beginning: the cover of all blocks
 pub begun : (set : Runs) (current : List PrefixValue) (blocks : List IpBlock) → current ≡ [] → map ip_bounds blocks ≡ set → runs_cover 128 set ≡ current ++ blocks_cover blocks
 begun set current blocks none bounds = ap (runs_cover 128) (sym bounds) ∙ ap (λ (ps : List PrefixValue). ps ++ blocks_cover blocks) (sym none)
-
--- the blocks of a set of whole addresses have whole bounds
-pub whole_blocks : (blocks : List IpBlock) (set : Runs) → map ip_bounds blocks ≡ set → IsIpSet set → IsWhole (Holds set) → All (λ b. HasWholeBounds (ip_bounds b)) blocks
-whole_blocks blocks set bounds is whole k d small =
-    let all : All HasWholeBounds (map ip_bounds blocks) = subst (All HasWholeBounds) (sym bounds) (whole_runs set is.are_runs whole) in
-    let long = length-map blocks ip_bounds in
-    let at : get_or (map ip_bounds blocks) k (ip_bounds d) ≡ ip_bounds (get_or blocks k d) = get_or-map ip_bounds blocks k d (ip_bounds d) small in
-    subst HasWholeBounds at (all k (ip_bounds d) (omega (arith, long, small)))
 
 -- an iterator that yields the first of its prefixes gets on
 pub makes_progress : (can : List PrefixValue → Type 0) → ((ps : List PrefixValue) → can ps) → (o : Option PrefixValue) (old new : List PrefixValue)

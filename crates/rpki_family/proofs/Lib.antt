@@ -1,2 +1,2 @@
 pub mod CoverLemmas
-pub mod SetLemmas
+pub mod FamilyLemmas

@@ -1,3 +1,4 @@
+pub mod Families
 pub mod FamilyText
 pub mod PrefixBlocks
 pub mod SetCovers

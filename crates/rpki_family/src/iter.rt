@@ -1,23 +1,37 @@
 //! The blocks of a set of one family, one by one. The iterators take no memory.
-ghost use Rattle.std.specs.Prelude.{◌≡◌, All, map};
+ghost use Rattle.std.specs.Prelude.{◌≡◌, ℕ, All, map};
 ghost use Rattle.std.specs.Iterator.{YieldsFirst, item_count};
 ghost use Rattle.std.specs.Slice.Iter.{iter_rest};
 ghost use Rattle.rpki_ipblock.specs.Blocks.{ip_bounds};
+ghost use Rattle.rpki_ipblock.specs.declared.block.IpBlock.{IpBlock};
 
-use crate::common::FamilyBlock;
 use rpki_ipres::block::IpBlock;
 use std::fmt;
 use std::marker::{Model, PhantomData};
 use std::slice::Iter;
 
+/// A block of one family, as an iterator makes it of a block of addresses.
+pub trait BlockOfSet: Copy {
+    // The block of the family that a block of addresses is.
+    ghost of: { IpBlock → Self };
+
+    // What holds of the bounds of a block of the family.
+    ghost fits: { ℕ × ℕ → Type 0 };
+
+    /// The block of the family that a block of addresses is.
+    fn from_block(ip: IpBlock) -> Self
+        requires { fits (ip_bounds ip) }
+        ensures { result ≡ of ip };
+}
+
 /// The blocks of a set of one family that are left. Contracts see it as their list.
 #[derive(Drop)]
-pub struct BlockIter<'a, B: FamilyBlock> {
+pub struct BlockIter<'a, B: BlockOfSet> {
     left: Iter<'a, IpBlock>,
     family: PhantomData<B>,
 }
 
-impl<'a, B: FamilyBlock> Model for BlockIter<'a, B> {
+impl<'a, B: BlockOfSet> Model for BlockIter<'a, B> {
     ghost use Rattle.std.specs.Prelude.{List, All, map};
     ghost use Rattle.std.specs.Slice.Iter.{iter_rest};
     ghost use Rattle.rpki_ipblock.specs.Blocks.{ip_bounds};
@@ -29,7 +43,7 @@ impl<'a, B: FamilyBlock> Model for BlockIter<'a, B> {
     ghost invariant = { λ i. All (λ block. B.fits (ip_bounds block)) (iter_rest i.left) };
 }
 
-impl<'a, B: FamilyBlock> BlockIter<'a, B> {
+impl<'a, B: BlockOfSet> BlockIter<'a, B> {
     /// The blocks of a set of the family.
     pub(crate) fn over(blocks: Iter<'a, IpBlock>) -> BlockIter<'a, B>
         requires { All (λ block. B.fits (ip_bounds block)) (iter_rest blocks) }
@@ -42,13 +56,13 @@ impl<'a, B: FamilyBlock> BlockIter<'a, B> {
     }
 }
 
-impl<B: FamilyBlock> fmt::Debug for BlockIter<'_, B> {
+impl<B: BlockOfSet> fmt::Debug for BlockIter<'_, B> {
     fn fmt<W: fmt::Write>(&self, f: &mut fmt::Formatter<W>) -> fmt::Result {
         f.debug_tuple("BlockIter").field(&self.left).finish()
     }
 }
 
-impl<B: FamilyBlock> Iterator for BlockIter<'_, B> {
+impl<B: BlockOfSet> Iterator for BlockIter<'_, B> {
     type Item = B;
 
     ghost next_gives = { YieldsFirst (λ blocks. blocks) };

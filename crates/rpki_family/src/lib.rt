@@ -8,7 +8,9 @@
 //! ```
 #![tactic(auto)]
 
-mod common;
+pub mod block;
+pub mod blocks;
+pub mod family;
 pub mod iter;
 pub mod prefixes;
 pub mod v4;

@@ -1,89 +1,38 @@
 //! Blocks and sets of IPv6 addresses.
-ghost use Rattle.std.specs.Prelude.{◌≡◌, ℕ, ◌↔◌, [], ◌∷◌, IsTrue, IfOk, Some, map, MatchResult, ⊤};
-ghost use Rattle.rpki_text.specs.Memory.{IsMemory};
-ghost use Rattle.rpki_text.specs.Reading.{AnswersOrMemory};
-ghost use Rattle.rpki_blocks.specs.Equality.{have_same_bounds, blocks_per, blocks_equiv, same_runs, runs_per, runs_equiv};
-ghost use Rattle.rpki_chain.specs.Claims.{claim_of};
-ghost use Rattle.rpki_chain.specs.Operations.{IsDifference, IsIntersection, IsUnion};
-ghost use Rattle.rpki_chain.specs.Runs.{Runs, Holds, IsRunsOfBlocks};
-ghost use Rattle.rpki_blocks.specs.Sets.{IsWithin};
+ghost use Rattle.std.specs.Prelude.{◌≡◌};
 ghost use Rattle.rpki_base.specs.declared.family.AddressFamily.TheVariants.{Ipv6};
-ghost use Rattle.rpki_ipblock.specs.Blocks.{ip_bounds, new_ip_block};
-ghost use Rattle.rpki_ipblock.specs.ListText.{HasBlocks, HasBlocksFault};
-ghost use Rattle.rpki_ipblock.specs.PrintedBlocks.{IsBlockOf, ip_block_text};
-ghost use Rattle.rpki_ipres.specs.Resources.{IsFamilyClaim};
-ghost use Rattle.rpki_ipres.specs.SetText.{IsFamilySet, IsSetOf, set_text};
-ghost use Rattle.rpki_ipblock.specs.declared.block.IpBlock.TheVariants.{Prefix};
-ghost use Rattle.rpki_family.specs.FamilyText.{ReadsFamilyBlock};
-ghost use Rattle.rpki_family.specs.PrefixBlocks.{IsPrefixBlock};
+ghost use Rattle.rpki_ipblock.specs.Blocks.{ip_bounds};
+ghost use Rattle.rpki_ipblock.specs.PrintedBlocks.{IsBlockOf};
 
-use crate::common::{FamilyBlock, read_set, set_of};
-use crate::iter::BlockIter;
-use rpki_base::addr::{IpAddr, Ipv6Addr};
-use rpki_base::memory::OrMemory;
-use rpki_ip::error::FromStrError;
+use crate::block::FamilyBlock;
+use crate::blocks::FamilyBlocks;
+use crate::family::Family;
+use rpki_base::addr::Ipv6Addr;
 use rpki_ip::family::AddressFamily;
-use rpki_ipres::block::IpBlock;
 use rpki_ipres::blocks::IpBlocks;
-use rpki_ipres::resources::IpResources;
-use rpki_prefix::prefix::Prefix as FamilyPrefix;
-use std::alloc::{AllocError, Allocator, Global};
-use std::fmt;
-use std::marker::Model;
-use std::str::FromStr;
+use std::alloc::{Allocator, Global};
+
+/// IPv6, as the family of blocks and sets.
+pub enum Ipv6Family {}
+
+impl Family for Ipv6Family {
+    ghost FAMILY = { Ipv6 };
+
+    const FAMILY: AddressFamily = AddressFamily::Ipv6;
+}
 
 /// The IPv6 addresses of a prefix or of a range (RFC 3779, 2.2.3.7).
-///
-/// Contracts see it as the block of addresses of either family that it is.
-#[derive(Clone, Copy, Debug)]
-pub struct Ipv6Block {
-    block: IpBlock,
-}
+pub type Ipv6Block = FamilyBlock<Ipv6Family>;
 
-impl Model for Ipv6Block {
-    ghost use Rattle.rpki_ipblock.specs.declared.block.IpBlock.{IpBlock};
+/// A set of IPv6 addresses.
+pub type Ipv6Blocks<A = Global> = FamilyBlocks<Ipv6Family, A>;
 
-    ghost Value = { IpBlock };
-
-    ghost view = { λ b. b.block };
-
-    ghost inverse = { λ block. record { block = block } };
-}
-
-impl Ipv6Block {
-    /// All IPv6 addresses: the prefix of length 0.
-    pub fn all() -> Ipv6Block
-        ensures { result ≡ Prefix (record { first = 0; len = 0 }) }
-    {
-        Ipv6Block {
-            block: IpBlock::all(),
-        }
-    }
-
-    /// The addresses of a prefix, or None where the prefix is of IPv4.
-    pub fn from_prefix(prefix: FamilyPrefix) -> Option<Ipv6Block>
-        ensures { IsPrefixBlock Ipv6 prefix result }
-    {
-        match prefix.addr() {
-            IpAddr::V6(_) => Some(Ipv6Block {
-                block: IpBlock::from(prefix),
-            }),
-            IpAddr::V4(_) => None,
-        }
-    }
-
-    /// Whether the block is the prefix of length 0. A range of all addresses isn't.
-    pub fn is_slash_zero(&self) -> bool
-        ensures { IsTrue result ↔ (self.now ≡ Prefix (record { first = 0; len = 0 })) }
-    {
-        self.block.is_slash_zero()
-    }
-
+impl FamilyBlock<Ipv6Family> {
     /// The least address.
     pub fn min(&self) -> Ipv6Addr
         ensures { result ≡ (ip_bounds self.now).0 }
     {
-        self.block.min().to_v6()
+        self.to_block().min().to_v6()
     }
 
     /// The greatest address.
@@ -91,302 +40,15 @@ impl Ipv6Block {
         ensures value { result ≡ (ip_bounds self.now).1 }
         ensures block { IsBlockOf Ipv6 self.now }
     {
-        self.block.max().to_v6()
+        self.to_block().max().to_v6()
     }
 }
 
-/// Blocks are equal where their bounds are, whatever their forms.
-impl PartialEq for Ipv6Block {
-    ghost eq = { have_same_bounds ip_bounds };
-
-    ghost laws = { blocks_per ip_bounds };
-
-    fn eq(&self, other: &Ipv6Block) -> bool
-        ensures value { result ≡ have_same_bounds ip_bounds self.now other.now }
-        ensures same_bounds { IsTrue result ↔ (ip_bounds self.now ≡ ip_bounds other.now) }
-    {
-        self.block == other.block
-    }
-}
-
-impl Eq for Ipv6Block {
-    ghost laws = { blocks_equiv ip_bounds };
-}
-
-impl From<Ipv6Block> for IpBlock {
-    ghost from_gives = { λ block ip. ip ≡ block };
-
-    fn from(block: Ipv6Block) -> IpBlock {
-        block.block
-    }
-}
-
-impl FamilyBlock for Ipv6Block {
-    ghost block = { λ b. b };
-
-    ghost of = { λ block. block };
-
-    ghost fits = { λ _. ⊤ };
-
-    fn from_block(ip: IpBlock) -> Ipv6Block {
-        Ipv6Block { block: ip }
-    }
-
-    fn to_block(&self) -> IpBlock {
-        self.block
-    }
-}
-
-/// Reads a prefix round the first slash; without one a range round the first dash; else one address, as
-/// [`IpBlock::from_v6_str`].
-impl FromStr for Ipv6Block {
-    type Err = FromStrError;
-
-    ghost from_str_gives = { ReadsFamilyBlock Ipv6 };
-
-    fn from_str(text: &str) -> Result<Ipv6Block, FromStrError> {
-        match IpBlock::from_v6_str(text) {
-            Ok(block) => Ok(Ipv6Block { block }),
-            Err(fault) => Err(fault),
-        }
-    }
-}
-
-/// Prints a prefix as its address and, where it isn't 128, its length behind a slash, and a range as its bounds with a
-/// dash between them, or as one address where they are one.
-impl fmt::Display for Ipv6Block {
-    ghost output = { λ block. Some (ip_block_text Ipv6 block) };
-
-    fn fmt<W: fmt::Write>(&self, f: &mut fmt::Formatter<W>) -> fmt::Result {
-        self.block.fmt_v6(f)
-    }
-}
-
-/// A set of IPv6 addresses. Sets of the same addresses are equal and print alike. Its memory may have several owners,
-/// and the empty set has none.
-///
-/// Contracts see it as the ascending list of the runs of its addresses as numbers of 128 bits, each as its least and its
-/// greatest number.
-#[derive(Drop)]
-pub struct Ipv6Blocks<A: Allocator = Global> {
-    blocks: IpBlocks<A>,
-}
-
-impl<A: Allocator> Model for Ipv6Blocks<A> {
-    ghost use Rattle.rpki_chain.specs.Runs.{Runs};
-
-    ghost Value = { Runs };
-
-    ghost view = { λ s. s.blocks };
-}
-
-impl<A: Allocator> Ipv6Blocks<A> {
-    /// The set of no addresses.
-    pub fn empty() -> Ipv6Blocks<A>
-        ensures { result ≡ [] }
-    {
-        Ipv6Blocks {
-            blocks: IpBlocks::empty(),
-        }
-    }
-
-    /// The set of all IPv6 addresses. `AllocError` where there is no memory for it.
-    pub fn all(alloc: A) -> Result<Ipv6Blocks<A>, AllocError>
-    where
-        A: Copy,
-        ensures { IfOk result (λ set. set ≡ (0, 340282366920938463463374607431768211455) ∷ []) }
-    {
-        let blocks = IpBlocks::all(alloc)?;
-        Ok(Ipv6Blocks { blocks })
-    }
-
-    /// The set of the addresses that some block has. The blocks may come in any order and may overlap. `AllocError`
-    /// where there is no memory for it.
-    pub fn from_blocks(alloc: A, blocks: &[Ipv6Block]) -> Result<Ipv6Blocks<A>, AllocError>
-    where
-        A: Copy,
-        ensures { IfOk result (IsRunsOfBlocks ip_bounds blocks.now) }
-    {
-        let blocks = set_of(alloc, blocks)?;
-        Ok(Ipv6Blocks { blocks })
-    }
-
+impl<A: Allocator> FamilyBlocks<Ipv6Family, A> {
     /// A set of addresses of either family as one of IPv6.
     pub fn from_ip_blocks(blocks: IpBlocks<A>) -> Ipv6Blocks<A>
         ensures { result ≡ blocks }
     {
-        Ipv6Blocks { blocks }
-    }
-
-    /// The set as one of addresses of either family.
-    pub fn ip_blocks(&self) -> &IpBlocks<A>
-        ensures value { result.now ≡ self.now }
-        ensures set { IsFamilySet Ipv6 self.now }
-    {
-        let _blocks = self.blocks.iter(); // read so that the proof sees that each number has 128 bits
-        &self.blocks
-    }
-
-    /// The resources that list the set, whose memory has one owner more, and missing ones where it has no addresses.
-    /// `AllocError` where std refuses that owner.
-    pub fn to_ip_resources(&self) -> Result<IpResources<A>, AllocError>
-        ensures claim { IfOk result (λ resources. resources ≡ claim_of self.now) }
-        ensures family { IfOk result (IsFamilyClaim Ipv6) }
-    {
-        let blocks = self.ip_blocks().clone()?;
-        Ok(IpResources::blocks(blocks))
-    }
-
-    /// The same set, whose memory has one owner more. `AllocError` where std refuses that owner.
-    pub fn clone(&self) -> Result<Ipv6Blocks<A>, AllocError>
-        ensures { IfOk result (λ set. set ≡ self.now) }
-    {
-        let blocks = self.blocks.clone()?;
-        Ok(Ipv6Blocks { blocks })
-    }
-
-    /// Whether the set has no addresses.
-    pub fn is_empty(&self) -> bool
-        ensures { IsTrue result ↔ (self.now ≡ []) }
-    {
-        self.blocks.is_empty()
-    }
-
-    /// The blocks of the set one by one, ascending: its runs, each a prefix where it is one, and else a range.
-    pub fn iter(&self) -> BlockIter<'_, Ipv6Block>
-        ensures blocks { map ip_bounds result ≡ self.now }
-        ensures made { result ≡ map new_ip_block self.now }
-        ensures set { IsFamilySet Ipv6 self.now }
-    {
-        BlockIter::over(self.blocks.iter())
-    }
-
-    /// Whether the set has each address of another.
-    pub fn contains(&self, other: &Ipv6Blocks<A>) -> bool
-        ensures { IsTrue result ↔ ((n : ℕ) → Holds other.now n → Holds self.now n) }
-    {
-        self.blocks.contains(&other.blocks)
-    }
-
-    /// Whether the set has each address of a block.
-    pub fn contains_block(&self, block: Ipv6Block) -> bool
-        ensures { IsTrue result ↔ ((n : ℕ) → IsWithin (ip_bounds block) n → Holds self.now n) }
-    {
-        self.blocks.contains_block(block.block)
-    }
-
-    /// Whether the set has an address of a block.
-    pub fn intersects_block(&self, block: Ipv6Block) -> bool
-        ensures { IsTrue result ↔ ((n : ℕ) × IsWithin (ip_bounds block) n × Holds self.now n) }
-    {
-        self.blocks.intersects_block(block.block)
-    }
-
-    /// The set of the addresses that both have. `AllocError` where there is no memory for it.
-    pub fn intersection(&self, alloc: A, other: &Ipv6Blocks<A>) -> Result<Ipv6Blocks<A>, AllocError>
-    where
-        A: Copy,
-        ensures { IfOk result (IsIntersection self.now other.now) }
-    {
-        let blocks = self.blocks.intersection(alloc, &other.blocks)?;
-        Ok(Ipv6Blocks { blocks })
-    }
-
-    /// The set of the addresses that the other doesn't have. `AllocError` where there is no memory for it.
-    pub fn difference(&self, alloc: A, other: &Ipv6Blocks<A>) -> Result<Ipv6Blocks<A>, AllocError>
-    where
-        A: Copy,
-        ensures { IfOk result (IsDifference self.now other.now) }
-    {
-        let blocks = self.blocks.difference(alloc, &other.blocks)?;
-        Ok(Ipv6Blocks { blocks })
-    }
-
-    /// The set of the addresses that one or the other has. `AllocError` where there is no memory for it.
-    pub fn union(&self, alloc: A, other: &Ipv6Blocks<A>) -> Result<Ipv6Blocks<A>, AllocError>
-    where
-        A: Copy,
-        ensures { IfOk result (IsUnion self.now other.now) }
-    {
-        let blocks = self.blocks.union(alloc, &other.blocks)?;
-        Ok(Ipv6Blocks { blocks })
-    }
-
-    /// The set that a list of IPv6 blocks writes: the text is cut at commas, white space round an element is dropped,
-    /// and so is an element that is empty then. `Refused` for the first element that is no block: with
-    /// [`FromStrError::FamilyMismatch`] where it has a dot and no colon, and else with its own fault. `Memory` where there is no
-    /// memory for the set.
-    pub fn from_str(alloc: A, text: &str) -> Result<Ipv6Blocks<A>, OrMemory<FromStrError>>
-    where
-        A: Copy,
-        ensures exact { AnswersOrMemory (λ set. set) (IsSetOf (HasBlocks Ipv6 text.now))
-            (HasBlocksFault Ipv6 text.now) result }
-        // What is printed of a set is read as that set.
-        ensures reads_back { (set : Runs) → IsFamilySet Ipv6 set → text.now ≡ set_text Ipv6 set
-            → MatchResult result (λ read. read ≡ set) IsMemory }
-    {
-        match read_set(alloc, AddressFamily::Ipv6, text) {
-            Ok(blocks) => Ok(Ipv6Blocks { blocks }),
-            Err(fault) => Err(fault),
-        }
-    }
-}
-
-impl<'a, A: Allocator> IntoIterator for &'a Ipv6Blocks<A> {
-    type Item = Ipv6Block;
-
-    type IntoIter = BlockIter<'a, Ipv6Block>;
-
-    // what `iter` says
-    ghost into_iter_gives = { λ set blocks. (map ip_bounds blocks ≡ set.now)
-        × (blocks ≡ map new_ip_block set.now)
-        × IsFamilySet Ipv6 set.now };
-
-    fn into_iter(self) -> BlockIter<'a, Ipv6Block> {
-        self.iter()
-    }
-}
-
-impl<A: Allocator> fmt::Debug for Ipv6Blocks<A> {
-    fn fmt<W: fmt::Write>(&self, f: &mut fmt::Formatter<W>) -> fmt::Result {
-        f.debug_set().entries(self).finish()
-    }
-}
-
-/// The set of no addresses.
-impl<A: Allocator> Default for Ipv6Blocks<A> {
-    ghost is_default = { λ set. set ≡ [] };
-
-    fn default() -> Ipv6Blocks<A> {
-        Ipv6Blocks::empty()
-    }
-}
-
-/// Sets are equal exactly where they have the same addresses.
-impl<A: Allocator> PartialEq for Ipv6Blocks<A> {
-    ghost eq = { λ a b. same_runs a b };
-
-    ghost laws = { runs_per };
-
-    fn eq(&self, other: &Ipv6Blocks<A>) -> bool
-        ensures value { result ≡ same_runs self.now other.now }
-        ensures same { IsTrue result ↔ (self.now ≡ other.now) }
-        ensures numbers { IsTrue result ↔ ((n : ℕ) → Holds self.now n ↔ Holds other.now n) }
-    {
-        self.blocks == other.blocks
-    }
-}
-
-impl<A: Allocator> Eq for Ipv6Blocks<A> {
-    ghost laws = { runs_equiv };
-}
-
-/// Prints the blocks of the set, ascending, joined by a comma and a space; nothing, where the set is empty.
-impl<A: Allocator> fmt::Display for Ipv6Blocks<A> {
-    ghost output = { λ set. Some (set_text Ipv6 set) };
-
-    fn fmt<W: fmt::Write>(&self, f: &mut fmt::Formatter<W>) -> fmt::Result {
-        let blocks = self.blocks.as_v6();
-        write!(f, "{blocks}")
+        FamilyBlocks::of(blocks)
     }
 }

@@ -6,7 +6,8 @@ ghost use Rattle.rpki_chain.specs.Paths.{IsIssued, IsExcess, IsCovered, IsUncove
 ghost use Rattle.rpki_chain.specs.Runs.{Holds};
 ghost use Rattle.rpki_ipres.specs.Resources.{IsWholeClaim};
 
-use crate::v4::Ipv4Blocks;
+use crate::blocks::FamilyBlocks;
+use crate::v4::{Ipv4Blocks, Ipv4Family};
 use rpki_base::memory::OrMemory;
 use rpki_chain::path::{Overclaim, PathRefusal};
 use rpki_ipres::overclaim::{OverclaimedIpResources, OverclaimedIpv4Resources};
@@ -15,7 +16,7 @@ use rpki_ipres::verify::IpStep;
 use std::alloc::{AllocError, Allocator};
 
 /// What a claim lists consists of whole IPv4 addresses, as it does where it was read for IPv4 or made by a set of IPv4.
-impl<A: Allocator> Ipv4Blocks<A> {
+impl<A: Allocator> FamilyBlocks<Ipv4Family, A> {
     /// What a claim leaves of the set: nothing where it is missing, all where it is inherited, and what both have where
     /// it lists a set. `Refused` with the excess where the mode is [`Overclaim::Refuse`] and the claim lists more than
     /// the set has; `Memory` where there is no memory for the answer.

@@ -5,7 +5,8 @@ ghost use Rattle.rpki_text.specs.Reading.{AnswersOrMemory};
 ghost use Rattle.rpki_chain.specs.Paths.{IsIssued, IsExcess, IsCovered, IsUncovered, IsPathResult, IsFirstRefusal};
 ghost use Rattle.rpki_chain.specs.Runs.{Holds};
 
-use crate::v6::Ipv6Blocks;
+use crate::blocks::FamilyBlocks;
+use crate::v6::{Ipv6Blocks, Ipv6Family};
 use rpki_base::memory::OrMemory;
 use rpki_chain::path::{Overclaim, PathRefusal};
 use rpki_ipres::overclaim::{OverclaimedIpResources, OverclaimedIpv6Resources};
@@ -13,7 +14,7 @@ use rpki_ipres::resources::IpResources;
 use rpki_ipres::verify::IpStep;
 use std::alloc::{AllocError, Allocator};
 
-impl<A: Allocator> Ipv6Blocks<A> {
+impl<A: Allocator> FamilyBlocks<Ipv6Family, A> {
     /// What a claim leaves of the set: nothing where it is missing, all where it is inherited, and what both have where
     /// it lists a set. `Refused` with the excess where the mode is [`Overclaim::Refuse`] and the claim lists more than
     /// the set has; `Memory` where there is no memory for the answer.

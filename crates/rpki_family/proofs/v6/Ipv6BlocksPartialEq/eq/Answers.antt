@@ -1,4 +1,0 @@
-use Rattle.rpki_family.proofs.v6.Ipv6BlocksPartialEq.eq.Goals as goal
-
-pub returns-clause-numbers : goal.returns-clause-numbers
-returns-clause-numbers g c = rw (← c.self.view_is, ← c.other.view_is) c.eq.ensures.numbers

@@ -1,0 +1,285 @@
+//! Sets of addresses of one family.
+ghost use Rattle.std.specs.Prelude.{◌≡◌, ℕ, ◌↔◌, [], ◌∷◌, IsTrue, IfOk, Some, map, MatchResult};
+ghost use Rattle.rpki_text.specs.Memory.{IsMemory};
+ghost use Rattle.rpki_text.specs.Reading.{AnswersOrMemory};
+ghost use Rattle.rpki_blocks.specs.Equality.{same_runs, runs_per, runs_equiv};
+ghost use Rattle.rpki_chain.specs.Claims.{claim_of};
+ghost use Rattle.rpki_chain.specs.Operations.{IsDifference, IsIntersection, IsUnion};
+ghost use Rattle.rpki_chain.specs.Runs.{Runs, Holds, IsRunsOfBlocks};
+ghost use Rattle.rpki_blocks.specs.Sets.{IsWithin};
+ghost use Rattle.rpki_ipblock.specs.Blocks.{ip_bounds, new_ip_block};
+ghost use Rattle.rpki_ipblock.specs.ListText.{HasBlocks, HasBlocksFault};
+ghost use Rattle.rpki_ipres.specs.Resources.{IsFamilyClaim};
+ghost use Rattle.rpki_ipres.specs.SetText.{IsFamilySet, IsSetOf, set_text};
+ghost use Rattle.rpki_family.specs.Families.{IsWholeIn};
+
+use crate::block::FamilyBlock;
+use crate::family::Family;
+use crate::iter::BlockIter;
+use rpki_base::memory::OrMemory;
+use rpki_ip::error::FromStrError;
+use rpki_ip::family::AddressFamily;
+use rpki_ipres::blocks::IpBlocks;
+use rpki_ipres::list::read_blocks;
+use rpki_ipres::resources::IpResources;
+use std::alloc::{AllocError, Allocator, Global};
+use std::fmt;
+use std::marker::{Model, PhantomData};
+
+/// A set of addresses of one family. Sets of the same addresses are equal and print alike. Its memory may have several
+/// owners, and the empty set has none.
+///
+/// Contracts see it as the ascending list of the runs of its addresses as numbers of 128 bits, each as its least and
+/// its greatest number. In IPv4 it consists of whole addresses.
+#[derive(Drop)]
+pub struct FamilyBlocks<F: Family, A: Allocator = Global> {
+    blocks: IpBlocks<A>,
+    family: PhantomData<F>,
+}
+
+impl<F: Family, A: Allocator> Model for FamilyBlocks<F, A> {
+    ghost use Rattle.rpki_chain.specs.Runs.{Runs};
+    ghost use Rattle.rpki_family.specs.Families.{IsWholeIn};
+
+    ghost Value = { Runs };
+
+    ghost view = { λ s. s.blocks };
+
+    ghost invariant = { λ s. IsWholeIn F.FAMILY s.blocks };
+}
+
+impl<F: Family, A: Allocator> FamilyBlocks<F, A> {
+    /// The set of no addresses.
+    pub fn empty() -> FamilyBlocks<F, A>
+        ensures { result ≡ [] }
+    {
+        FamilyBlocks::of(IpBlocks::empty())
+    }
+
+    /// The set of all addresses of the family. `AllocError` where there is no memory for it.
+    pub fn all(alloc: A) -> Result<FamilyBlocks<F, A>, AllocError>
+    where
+        A: Copy,
+        ensures { IfOk result (λ set. set ≡ (0, 340282366920938463463374607431768211455) ∷ []) }
+    {
+        let blocks = IpBlocks::all(alloc)?;
+        Ok(FamilyBlocks::of(blocks))
+    }
+
+    /// The set of the addresses that some block has. The blocks may come in any order and may overlap. `AllocError`
+    /// where there is no memory for it.
+    pub fn from_blocks(
+        alloc: A,
+        blocks: &[FamilyBlock<F>],
+    ) -> Result<FamilyBlocks<F, A>, AllocError>
+    where
+        A: Copy,
+        ensures { IfOk result (IsRunsOfBlocks ip_bounds blocks.now) }
+    {
+        let mut own = Vec::with_capacity(alloc, blocks.len())?;
+        for block in blocks {
+            own.push(block.to_block())?;
+        }
+        let blocks = IpBlocks::from_vec(alloc, own)?;
+        Ok(FamilyBlocks::of(blocks))
+    }
+
+    /// A set of addresses of either family as one of the family.
+    pub(crate) fn of(blocks: IpBlocks<A>) -> FamilyBlocks<F, A>
+        requires { IsWholeIn F.FAMILY blocks }
+        ensures { result ≡ blocks }
+    {
+        FamilyBlocks {
+            blocks,
+            family: PhantomData,
+        }
+    }
+
+    /// The set as one of addresses of either family.
+    pub fn ip_blocks(&self) -> &IpBlocks<A>
+        ensures value { result.now ≡ self.now }
+        ensures set { IsFamilySet F.FAMILY self.now }
+        ensures whole { IsWholeIn F.FAMILY self.now }
+    {
+        let _blocks = self.blocks.iter(); // read so that the proof sees that each number has 128 bits
+        &self.blocks
+    }
+
+    /// The resources that list the set, whose memory has one owner more, and missing ones where it has no addresses.
+    /// `AllocError` where std refuses that owner.
+    pub fn to_ip_resources(&self) -> Result<IpResources<A>, AllocError>
+        ensures claim { IfOk result (λ resources. resources ≡ claim_of self.now) }
+        ensures family { IfOk result (IsFamilyClaim F.FAMILY) }
+    {
+        let blocks = self.ip_blocks().clone()?;
+        Ok(IpResources::blocks(blocks))
+    }
+
+    /// The same set, whose memory has one owner more. `AllocError` where std refuses that owner.
+    pub fn clone(&self) -> Result<FamilyBlocks<F, A>, AllocError>
+        ensures { IfOk result (λ set. set ≡ self.now) }
+    {
+        let blocks = self.blocks.clone()?;
+        Ok(FamilyBlocks::of(blocks))
+    }
+
+    /// Whether the set has no addresses.
+    pub fn is_empty(&self) -> bool
+        ensures { IsTrue result ↔ (self.now ≡ []) }
+    {
+        self.blocks.is_empty()
+    }
+
+    /// The blocks of the set one by one, ascending: its runs, each a prefix where it is one, and else a range.
+    pub fn iter(&self) -> BlockIter<'_, FamilyBlock<F>>
+        ensures blocks { map ip_bounds result ≡ self.now }
+        ensures made { result ≡ map new_ip_block self.now }
+        ensures set { IsFamilySet F.FAMILY self.now }
+    {
+        BlockIter::over(self.ip_blocks().iter())
+    }
+
+    /// Whether the set has each address of another.
+    pub fn contains(&self, other: &FamilyBlocks<F, A>) -> bool
+        ensures { IsTrue result ↔ ((n : ℕ) → Holds other.now n → Holds self.now n) }
+    {
+        self.blocks.contains(&other.blocks)
+    }
+
+    /// Whether the set has each address of a block.
+    pub fn contains_block(&self, block: FamilyBlock<F>) -> bool
+        ensures { IsTrue result ↔ ((n : ℕ) → IsWithin (ip_bounds block) n → Holds self.now n) }
+    {
+        self.blocks.contains_block(block.to_block())
+    }
+
+    /// Whether the set has an address of a block.
+    pub fn intersects_block(&self, block: FamilyBlock<F>) -> bool
+        ensures { IsTrue result ↔ ((n : ℕ) × IsWithin (ip_bounds block) n × Holds self.now n) }
+    {
+        self.blocks.intersects_block(block.to_block())
+    }
+
+    /// The set of the addresses that both have. `AllocError` where there is no memory for it.
+    pub fn intersection(
+        &self,
+        alloc: A,
+        other: &FamilyBlocks<F, A>,
+    ) -> Result<FamilyBlocks<F, A>, AllocError>
+    where
+        A: Copy,
+        ensures { IfOk result (IsIntersection self.now other.now) }
+    {
+        let blocks = self.blocks.intersection(alloc, &other.blocks)?;
+        Ok(FamilyBlocks::of(blocks))
+    }
+
+    /// The set of the addresses that the other doesn't have. `AllocError` where there is no memory for it.
+    pub fn difference(
+        &self,
+        alloc: A,
+        other: &FamilyBlocks<F, A>,
+    ) -> Result<FamilyBlocks<F, A>, AllocError>
+    where
+        A: Copy,
+        ensures { IfOk result (IsDifference self.now other.now) }
+    {
+        let blocks = self.blocks.difference(alloc, &other.blocks)?;
+        Ok(FamilyBlocks::of(blocks))
+    }
+
+    /// The set of the addresses that one or the other has. `AllocError` where there is no memory for it.
+    pub fn union(
+        &self,
+        alloc: A,
+        other: &FamilyBlocks<F, A>,
+    ) -> Result<FamilyBlocks<F, A>, AllocError>
+    where
+        A: Copy,
+        ensures { IfOk result (IsUnion self.now other.now) }
+    {
+        let blocks = self.blocks.union(alloc, &other.blocks)?;
+        Ok(FamilyBlocks::of(blocks))
+    }
+
+    /// The set that a list of blocks of the family writes: the text is cut at commas, white space round an element is
+    /// dropped, and so is an element that is empty then. `Refused` for the first element that is no block: with
+    /// [`FromStrError::FamilyMismatch`] where it has in IPv4 a colon, and in IPv6 a dot and no colon; else with its own
+    /// fault. `Memory` where there is no memory for the set.
+    pub fn from_str(alloc: A, text: &str) -> Result<FamilyBlocks<F, A>, OrMemory<FromStrError>>
+    where
+        A: Copy,
+        ensures exact { AnswersOrMemory (λ set. set) (IsSetOf (HasBlocks F.FAMILY text.now))
+            (HasBlocksFault F.FAMILY text.now) result }
+        // What is printed of a set is read as that set.
+        ensures reads_back { (set : Runs) → IsFamilySet F.FAMILY set
+            → text.now ≡ set_text F.FAMILY set
+            → MatchResult result (λ read. read ≡ set) IsMemory }
+    {
+        let blocks = read_blocks(alloc, F::FAMILY, text)?;
+        let set = IpBlocks::from_vec(alloc, blocks)?;
+        Ok(FamilyBlocks::of(set))
+    }
+}
+
+impl<'a, F: Family, A: Allocator> IntoIterator for &'a FamilyBlocks<F, A> {
+    type Item = FamilyBlock<F>;
+
+    type IntoIter = BlockIter<'a, FamilyBlock<F>>;
+
+    // what `iter` says
+    ghost into_iter_gives = { λ set blocks. (map ip_bounds blocks ≡ set.now)
+        × (blocks ≡ map new_ip_block set.now)
+        × IsFamilySet F.FAMILY set.now };
+
+    fn into_iter(self) -> BlockIter<'a, FamilyBlock<F>> {
+        self.iter()
+    }
+}
+
+impl<F: Family, A: Allocator> fmt::Debug for FamilyBlocks<F, A> {
+    fn fmt<W: fmt::Write>(&self, f: &mut fmt::Formatter<W>) -> fmt::Result {
+        f.debug_set().entries(self).finish()
+    }
+}
+
+/// The set of no addresses.
+impl<F: Family, A: Allocator> Default for FamilyBlocks<F, A> {
+    ghost is_default = { λ set. set ≡ [] };
+
+    fn default() -> FamilyBlocks<F, A> {
+        FamilyBlocks::empty()
+    }
+}
+
+/// Sets are equal exactly where they have the same addresses.
+impl<F: Family, A: Allocator> PartialEq for FamilyBlocks<F, A> {
+    ghost eq = { λ a b. same_runs a b };
+
+    ghost laws = { runs_per };
+
+    fn eq(&self, other: &FamilyBlocks<F, A>) -> bool
+        ensures value { result ≡ same_runs self.now other.now }
+        ensures same { IsTrue result ↔ (self.now ≡ other.now) }
+        ensures numbers { IsTrue result ↔ ((n : ℕ) → Holds self.now n ↔ Holds other.now n) }
+    {
+        self.blocks == other.blocks
+    }
+}
+
+impl<F: Family, A: Allocator> Eq for FamilyBlocks<F, A> {
+    ghost laws = { runs_equiv };
+}
+
+/// Prints the blocks of the set, ascending, joined by a comma and a space; nothing, where the set is empty.
+impl<F: Family, A: Allocator> fmt::Display for FamilyBlocks<F, A> {
+    ghost output = { λ set. Some (set_text F.FAMILY set) };
+
+    fn fmt<W: fmt::Write>(&self, f: &mut fmt::Formatter<W>) -> fmt::Result {
+        let blocks = match F::FAMILY {
+            AddressFamily::Ipv4 => self.blocks.as_v4(),
+            AddressFamily::Ipv6 => self.blocks.as_v6(),
+        };
+        write!(f, "{blocks}")
+    }
+}

@@ -61,10 +61,6 @@ pub text_in : (family : AddressFamily) (text : List ℕ) (b : IpBlock) → IsIpB
 text_in Ipv4 text b is = whole_text text b is
 text_in Ipv6 text b is = tt
 
-pub list_in : (family : AddressFamily) (blocks : List IpBlock) → (family ≡ Ipv4 → All (λ b. HasWholeBounds (ip_bounds b)) blocks) → All (λ b. HasBoundsIn family (ip_bounds b)) blocks
-list_in Ipv4 blocks whole = whole refl
-list_in Ipv6 blocks whole = λ k d small. tt
-
 -- ---- prefixes
 
 pub prefix_in : (family : AddressFamily) (p : FamilyPrefix) → IsFamilyPrefix p → family_of p.addr ≡ family → HasBoundsIn family (prefix_bounds (record { first = first_of p.addr; len = p.len }))

@@ -20,7 +20,6 @@ use rpki_base::memory::OrMemory;
 use rpki_ip::error::FromStrError;
 use rpki_ip::family::AddressFamily;
 use rpki_ipres::blocks::IpBlocks;
-use rpki_ipres::list::read_blocks;
 use rpki_ipres::resources::IpResources;
 use std::alloc::{AllocError, Allocator, Global};
 use std::fmt;
@@ -216,9 +215,10 @@ impl<F: Family, A: Allocator> FamilyBlocks<F, A> {
             → text.now ≡ set_text F.FAMILY set
             → MatchResult result (λ read. read ≡ set) IsMemory }
     {
-        let blocks = read_blocks(alloc, F::FAMILY, text)?;
-        let set = IpBlocks::from_vec(alloc, blocks)?;
-        Ok(FamilyBlocks::of(set))
+        match IpBlocks::from_family_str(alloc, F::FAMILY, text) {
+            Ok(set) => Ok(FamilyBlocks::of(set)),
+            Err(error) => Err(error),
+        }
     }
 }
 

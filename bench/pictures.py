@@ -36,7 +36,7 @@ def picture(name: str, width: int, height: int, parts: list[str]) -> None:
 def ratios() -> None:
     """A bar for each ratio: below 1 ours takes less time."""
     lines = [(row[0], float(row[-1])) for row in table("input and elements")]
-    calls = [(row[0], float(row[3])) for row in table("call               now") if len(row) == 4]
+    calls = [(row[0], float(row[-1])) for row in table("call")]
     left, top, unit, step = 210, 40, 190, 20
     parts = [text(10, 22, "Our time by that of the Rust crate 0.20.1: lines of the program, and calls over 100,000 blocks")]
     height = top + step * (len(lines) + len(calls) + 1) + 30
@@ -57,7 +57,8 @@ def ratios() -> None:
 
 
 def powers(name: str, title: str, lines: dict[str, list[tuple[float, float]]], below: list[float], beside: list[float]) -> None:
-    """A line for each name, both ways by powers: a slope of one is time that grows as the number does."""
+    """A line for each name, both ways by powers: a slope of one is time that grows as the number does. Those of the Rust crate
+    are dashed, in the colour of ours."""
     left, top, width, height = 90, 40, 380, 420
 
     def place(number: float, seconds: float) -> tuple[float, float]:
@@ -72,25 +73,33 @@ def powers(name: str, title: str, lines: dict[str, list[tuple[float, float]]], b
     for number in below:
         x, y = place(number, beside[0])
         parts += [line(x, top, x, y, "grid"), text(x, y + 18, f"{number:,.0f}", "middle")]
-    for at, (label, points) in enumerate(lines.items()):
-        colour = COLOURS[at % len(COLOURS)]
+    ours = list(dict.fromkeys(label.removeprefix("rpki ") for label in lines))
+    ends = []
+    for label, points in lines.items():
+        colour = COLOURS[ours.index(label.removeprefix("rpki ")) % len(COLOURS)]
+        dash = ' stroke-dasharray="5 4"' if label.startswith("rpki ") else ""
         path = " ".join(f"{x:.0f},{y:.0f}" for x, y in (place(*it) for it in points))
-        x, y = place(*points[-1])
-        parts += [
-            f'<polyline points="{path}" fill="none" stroke="{colour}" stroke-width="2"/>',
-            text(x + 6, y + 4, label),
-        ]
+        parts.append(f'<polyline points="{path}" fill="none" stroke="{colour}" stroke-width="2"{dash}/>')
+        ends.append((*place(*points[-1]), label))
+    # The names stand at the ends of the lines, and below each other where those are near.
+    lowest: dict[float, float] = {}
+    for x, y, label in sorted(ends):
+        lowest[x] = max(y, lowest.get(x, y - 14) + 14)
+        parts.append(text(x + 6, lowest[x] + 4, label))
     picture(name, left + width + 120, top + height + 40, parts)
 
 
 def growth() -> None:
-    """Calls on addresses by the number of blocks."""
+    """Calls on addresses by the number of blocks, ours and those of the Rust crate."""
+    sizes = [1e3, 1e5, 1e6]
     times: dict[str, list[tuple[float, float]]] = {}
-    for row in table("call               100000"):
-        if row[0].startswith("ip-"):
-            times[row[0].removeprefix("ip-")] = [(size, float(it)) for size, it in zip((1e5, 2e5, 4e5), row[1:4])]
-    title = "Seconds of calls on addresses, by the number of blocks"
-    powers("speed-growth.svg", title, times, [1e5, 2e5, 4e5], [0.001, 0.003, 0.01, 0.03, 0.1])
+    for row in table("call"):
+        if row[0] in ("ip-from_blocks", "ip-difference", "ip-contains", "ip-lenient"):
+            name = row[0].removeprefix("ip-")
+            times[name] = [(size, float(it)) for size, it in zip(sizes, row[1:4])]
+            times[f"rpki {name}"] = [(size, float(it)) for size, it in zip(sizes, row[4:7]) if it != "-"]
+    title = "Milliseconds of calls on addresses, by the number of blocks"
+    powers("speed-growth.svg", title, times, sizes, [0.001, 0.01, 0.1, 1, 10, 100, 1000])
 
 
 def covers() -> None:

@@ -39,9 +39,12 @@ expect "an unknown option" 2 "respath: unknown option: --strange
 usage: respath [--check] [--try] [--] [FILE ..] | --help | --version" $? "$said"
 
 revision=$(git -C "$top" rev-parse --short=12 HEAD 2>/dev/null) || revision=unknown
-said=$("$top/respath" --version)
-expect "the version" 0 "respath, revision $revision
-proved with $(rt version)" $? "$said"
+said=$("$top/respath" --version | head -n 1)
+expect "the version" 0 "respath, revision $revision" $? "$said"
+
+# Another kit may have proved what the README names, and its name says nothing; the logic has to be this one.
+said=$(sed -n 's/^Last proved whole with `.* \(logic .*\)`\.$/\1/p' "$top/README.md")
+expect "the logic" 0 "$(rt version | sed 's/^[^ ]* //')" $? "$said"
 
 said=$(printf 'norm as 2,1\nnorm v4 x\n' | "$top/respath" --try --check 2>&1)
 expect "sources that are not proved" 3 "respath: these answers come from sources that were not proved here
@@ -115,14 +118,24 @@ touch "$copy/crates.txt" "$copy/crates/other/new" "$copy/crates/rpki_tests/new"
 said=$(PATH=$copy/bin:$PATH "$copy/respath" 2>&1 </dev/null)
 expect "a crate that the program doesn't need is newer" 0 "ran" $? "$said"
 
+# What proved the program that lies there, by whichever kit, or that nothing here did.
+printf 'Last proved whole with `a-kit logic 12`.\n' >"$copy/README.md"
+said=$("$copy/respath" --version | tail -n 1)
+expect "a program that was not proved here" 0 "not proved here; last proved whole with a-kit logic 12" $? "$said"
+echo 'other-kit logic 12' >"$copy/crates/respath/out/proved-with"
+said=$("$copy/respath" --version | tail -n 1)
+expect "a program that another kit proved here" 0 "proved here with other-kit logic 12" $? "$said"
+
 touch "$copy/crates/rpki_text/new"
+said=$("$copy/respath" --version | tail -n 1)
+expect "a program that is older than its sources" 0 "not proved here; last proved whole with a-kit logic 12" $? "$said"
 said=$(PATH=$copy/bin:$PATH "$copy/respath" 2>&1 </dev/null)
 expect "a crate that the program needs is newer" 1 "respath: proving rpki_text (0 of N)
 proving
 respath: the program was not built" $? "$(echo "$said" | sed '1d; s/ of [0-9]* are proved, after 0 min)/ of N)/')"
 
 # The prover notes what it is asked for; a crate comes behind those that it stands on.
-printf '#!/bin/sh\necho "$1 ${PWD##*/}" >>%s/asked\n' "$copy" >"$copy/bin/rt"
+printf '#!/bin/sh\n[ "$1" != version ] || exec echo the-kit\necho "$1 ${PWD##*/}" >>%s/asked\n' "$copy" >"$copy/bin/rt"
 said=$(PATH=$copy/bin:$PATH "$copy/respath" 2>&1 </dev/null | tail -n 2)
 expect "all that the program needs is proved" 0 "respath: proved and built in 0 min
 ran
@@ -132,6 +145,8 @@ said=$(awk 'NR == FNR { at[$2] = FNR; next }
     !/^#/ { sub(":", "", $1); for (one = 2; one <= NF; one++) if ($1 in at && $one in at && at[$one] > at[$1]) print $1, $one }' \
     "$copy/asked" "$copy/crates.txt")
 expect "crates are proved in turn" 0 "" $? "$said"
+said=$("$copy/respath" --version | tail -n 1)
+expect "a program that was proved by the script" 0 "proved here with the-kit" $? "$said"
 touch "$copy/crates/rpki_text/new"
 
 # shellcheck disable=SC2016 # the prover's own words

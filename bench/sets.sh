@@ -4,11 +4,11 @@
 # SEQUENCEs of N blocks of AS numbers or addresses, in another order than ascending, and the sets that they say; for N of
 # 100,000, 200,000 and 400,000. Growth per doubling is about 2.
 top=$(CDPATH= cd -- "$(dirname -- "$0")/.." && pwd) || exit 1
-program=$top/crates/growth/out/growth
+program=$top/crates/bench_growth/out/bench_growth
 if ! [ -x "$program" ]; then
     echo "sets: proving and building the program, which takes some minutes the first time" >&2
     log=$(mktemp) || exit 1
-    (cd "$top/crates/growth" && rt run </dev/null >"$log" 2>&1)
+    (cd "$top/crates/bench_growth" && rt run </dev/null >"$log" 2>&1)
     if ! [ -x "$program" ]; then
         tail -n 20 "$log" >&2
         exit 1

@@ -175,7 +175,7 @@ def libraries() -> list[str]:
     """The libraries that others call, from the ground up."""
     text = (TOP / "crates.txt").read_text()
     names = re.findall(r"^(\w+)(?: staticlib)?:", text, re.M)
-    return [it for it in names if re.match(r"(?:rpki|roa|rtr)_(?!tests)", it) and it != "rpki_lines"]
+    return [it for it in names if re.match(r"(?:rpki|roa|rtr)_(?!tests)", it) and it != "respath_lines"]
 
 
 def calls_of(item: Item) -> Iterator[str]:

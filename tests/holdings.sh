@@ -1,10 +1,10 @@
 #!/bin/sh
-# What no contract can say of the program holdings: its status and its line on standard error where the input isn't two
-# lines of three lists each. Ends with status 0 where each case is as it must be.
+# What no contract can say of the program example_holdings: its status and its line on standard error where the input
+# isn't two lines of three lists each. Ends with status 0 where each case is as it must be.
 top=$(CDPATH='' cd -- "$(dirname -- "$0")/.." && pwd) || exit 1
-program=$top/crates/holdings/out/holdings
+program=$top/crates/example_holdings/out/example_holdings
 if ! [ -x "$program" ]; then
-    echo "left out: holdings is not built (rt ci builds it, and rt run in crates/holdings)"
+    echo "left out: example_holdings is not built (rt ci builds it, and rt run in crates/example_holdings)"
     exit
 fi
 failed=0

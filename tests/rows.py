@@ -1,8 +1,8 @@
 #!/usr/bin/env python3
 """Compares what the programs answered with what the reference beside this file answers.
 
-Without options it answers each stored line of the programs of rows, of `holdings`, `verified_set`
-and `growth_origin`. With --random SEED COUNT it makes so many lines of each command of `respath`, and
+Without options it answers each stored line of the programs of rows, of `example_holdings`, `example_verified_set`
+and `bench_growth_origin`. With --random SEED COUNT it makes so many lines of each command of `respath`, and
 asks the built program.
 What the reference doesn't say is counted and named. Status 1 where an answer differs.
 """
@@ -32,11 +32,11 @@ AT_ONCE = 50_000
 SHOWN = 20
 
 PROGRAMS: dict[str, Callable[[str], str]] = {
-    "rows": calls_of_values.answer,
+    "rows_values": calls_of_values.answer,
     "rows_sets": calls_of_sets.answer,
-    "rows_resources": calls_of_sets.answer,
+    "rows_claims": calls_of_sets.answer,
     "rows_origin": calls_of_callers.origin_answer,
-    "callers_run": calls_of_callers.answer,
+    "rows_calls": calls_of_callers.answer,
 }
 
 
@@ -86,40 +86,40 @@ def compare_program(name: str, answer: Callable[[str], str]) -> bool:
 
 
 def compare_holdings() -> bool:
-    """Compares what `holdings` answers to its two lines together."""
+    """Compares what `example_holdings` answers to its two lines together."""
     comparison = Comparison()
-    asked, answered = (lines_of(CRATES / "holdings" / file) for file in ("stdin", "stdout"))
+    asked, answered = (lines_of(CRATES / "example_holdings" / file) for file in ("stdin", "stdout"))
     expected = calls_of_callers.holdings(*asked)
     if len(expected) != len(answered):
         print(f"holdings: {len(expected)} answers expected, {len(answered)} found")
         return False
     for place, (one, found) in enumerate(zip(expected, answered, strict=True), 1):
-        comparison.add(f"holdings/stdout:{place}", asked[1], one, found)
-    return comparison.tell("holdings")
+        comparison.add(f"example_holdings/stdout:{place}", asked[1], one, found)
+    return comparison.tell("example_holdings")
 
 
 def compare_verified_set() -> bool:
-    """Compares what `verified_set` prints of the issuer and the files that it is run with."""
+    """Compares what `example_verified_set` prints of the issuer and the files that it is run with."""
     comparison = Comparison()
-    folder = CRATES / "verified_set"
+    folder = CRATES / "example_verified_set"
     *lists, numbers, addresses = lines_of(folder / "args")
     octets = [(folder / "data" / name).read_bytes().hex() for name in (numbers, addresses)]
     line = f"verified_octets {' ; '.join(lists)} | canonical-refuse {' '.join(octets)}"
     (found,) = lines_of(folder / "stdout")
-    comparison.add("verified_set/args", line, calls_of_callers.answer(line), found)
-    return comparison.tell("verified_set")
+    comparison.add("example_verified_set/args", line, calls_of_callers.answer(line), found)
+    return comparison.tell("example_verified_set")
 
 
 def compare_growth_origin() -> bool:
-    """Compares what `growth_origin` prints for the pairs of numbers that it is run with."""
+    """Compares what `bench_growth_origin` prints for the pairs of numbers that it is run with."""
     comparison = Comparison()
-    given, printed = (lines_of(CRATES / "growth_origin" / file) for file in ("args", "stdout"))
+    given, printed = (lines_of(CRATES / "bench_growth_origin" / file) for file in ("args", "stdout"))
     counts = [int(word) for word in given]
     asked = zip(counts[::2], counts[1::2], strict=True)
     for (payloads, routes), found in zip(asked, printed, strict=True):
         line = f"{payloads} {routes}"
-        comparison.add("growth_origin/args", line, made_routes.answer(payloads, routes), found)
-    return comparison.tell("growth_origin")
+        comparison.add("bench_growth_origin/args", line, made_routes.answer(payloads, routes), found)
+    return comparison.tell("bench_growth_origin")
 
 
 def compare_stored() -> bool:

@@ -113,7 +113,7 @@ printf '#!/bin/sh\necho proving; exit 1\n' >"$copy/bin/rt"
 chmod +x "$copy/crates/respath/out/respath" "$copy/bin/rt"
 for crate in $(sed '/^#/d; s/[ :].*//' "$top/crates.txt"); do mkdir -p "$copy/crates/$crate"; done
 touch -d '1 minute ago' "$copy/crates/respath/out/respath"
-touch "$copy/crates.txt" "$copy/crates/other/new" "$copy/crates/rpki_tests/new"
+touch "$copy/crates.txt" "$copy/crates/other/new" "$copy/crates/test_values/new"
 
 said=$(PATH=$copy/bin:$PATH "$copy/respath" 2>&1 </dev/null)
 expect "a crate that the program doesn't need is newer" 0 "ran" $? "$said"

@@ -1,4 +1,4 @@
-"""The answers of the programs `callers_run`, `rows_origin` and `holdings`."""
+"""The answers of the programs `rows_calls`, `rows_origin` and `example_holdings`."""
 
 from collections.abc import Callable
 
@@ -351,7 +351,7 @@ CALLERS: dict[str, Callable[[str], str]] = {
 
 
 def answer(line: str) -> str:
-    """The answer of `callers_run` to a line."""
+    """The answer of `rows_calls` to a line."""
     name, operands = _cut(line, " ")
     if name not in CALLERS:
         return "no such function"
@@ -362,7 +362,7 @@ def answer(line: str) -> str:
 
 
 def holdings(before: str, now: str) -> list[str]:
-    """The answers of `holdings` to its two lines."""
+    """The answers of `example_holdings` to its two lines."""
     had, gets = read_triple(before), read_triple(now)
     claims = [paths.claim_of(numbers) for numbers in gets]
     numbers = resources.written_as_claim(claims[0]).hex() or "missing"

@@ -1,4 +1,4 @@
-"""The answers of the programs `rows_sets` and `rows_resources`: chains, sets and claims, and what they are asked."""
+"""The answers of the programs `rows_sets` and `rows_claims`: chains, sets and claims, and what they are asked."""
 
 from collections.abc import Callable
 from typing import Any

@@ -1,4 +1,4 @@
-"""The answers of `rows`: texts and octets of one value, orders and covers of prefixes."""
+"""The answers of `rows_values`: texts and octets of one value, orders and covers of prefixes."""
 
 from collections import Counter
 from collections.abc import Callable

@@ -1,11 +1,11 @@
 //! The export of the answers of `respath`.
 ghost use Rattle.std.specs.Prelude.{◌≡◌, ◌⊎◌, ℕ, List};
-ghost use Rattle.rpki_lines.specs.Answer.{IsAnswer};
+ghost use Rattle.respath_lines.specs.Answer.{IsAnswer};
 ghost use Rattle.pigyelund_c.specs.Sets.{AreOctetsTold};
 
 use crate::status;
 use crate::tell::tell_octets;
-use rpki_lines::answer;
+use respath_lines::answer;
 use std::alloc::Global;
 
 /// Tells the answer of `respath` to a line, both without the end of a line. The status is 0 where the answer is told; 1

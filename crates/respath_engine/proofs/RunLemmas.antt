@@ -6,7 +6,7 @@ use Rattle.std.proofs.lemmas.List.{take-append-drop, length-drop}
 use Rattle.std.proofs.lemmas.List.Elements.{AllZip-push}
 use Rattle.std.proofs.lemmas.Grind.{flat_map-append}
 use Rattle.std.proofs.Math.Seq.{take-length}
-use Rattle.rpki_lines.specs.Answer.{IsAnswer}
+use Rattle.respath_lines.specs.Answer.{IsAnswer}
 use Rattle.respath_engine.specs.Lines.{lines_of}
 use Rattle.respath_engine.specs.Run.{as_line, HasWritten, HasAnsweredLine, HasAnswered, AnswersAll, AnswersFirst, BeginsAnswers}
 use Rattle.respath_engine.proofs.KnownLemmas.{appends_nothing, appends_both, appends_kept}

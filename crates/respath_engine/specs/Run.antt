@@ -2,7 +2,7 @@
 use Rattle.std.specs.Prelude.{◌≡◌, ℕ, List, [], ◌∷◌, ◌++◌, Option}
 use Rattle.std.specs.List.{AllZip, flat_map}
 use Rattle.std.specs.Io.KnownBytes.{Appends}
-use Rattle.rpki_lines.specs.Answer.{IsAnswer}
+use Rattle.respath_lines.specs.Answer.{IsAnswer}
 use Rattle.respath_engine.specs.Lines.{lines_of}
 
 -- a text as a line

@@ -6,7 +6,7 @@ ghost use Rattle.respath_engine.specs.Run.{HasWritten, HasAnsweredLine, AnswersA
 
 use crate::device::{DeviceFault, Sink, Source};
 use crate::error::RunError;
-use rpki_lines::answer;
+use respath_lines::answer;
 use std::alloc::Allocator;
 
 /// The bytes that one read asks for.

@@ -1,5 +1,5 @@
 //! The engine of the program `respath`: it reads an input whole, and then answers each line of it. What a line is
-//! answered is no affair of its own ([`rpki_lines::answer`]).
+//! answered is no affair of its own ([`respath_lines::answer`]).
 //!
 //! The program runs it over the standard streams:
 //!

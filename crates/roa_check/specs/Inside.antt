@@ -4,7 +4,7 @@ use Rattle.std.specs.List.{AllWithin}
 use Rattle.rpki_addr.specs.declared.addr.IpAddr.{IpAddr}
 use Rattle.rpki_addr.specs.declared.addr.IpAddr.TheVariants.{V4, V6}
 use Rattle.rpki_addr.specs.Prefixes.{last_of}
-use Rattle.rpki_blocks.specs.Sets.{IsWithin}
+use Rattle.rpki_chains.specs.Sets.{IsWithin}
 use Rattle.rpki_chain.specs.Runs.{Holds}
 use Rattle.rpki_base.specs.Families.{family_of}
 use Rattle.rpki_prefix.specs.MaxLen.{MaxLenValue}

@@ -1,7 +1,8 @@
 //! Route origin authorizations checked against the resources of their certificate, and routes against what was validated
 //! (RFC 6811; RFC 9582).
 //!
-//! What an authorization lists and its certificate doesn't have is found by [`outside`], as in `callers::routes::excess`:
+//! What an authorization lists and its certificate doesn't have is found by [`outside`], as in
+//! `example_calls::routes::excess`:
 //!
 //! ```rust
 //! match outside(resources, entries) {

@@ -2,7 +2,7 @@
 //! list, and of many routes by a table.
 //!
 //! A list that is made already is asked by [`origin`]; for many routes a table is made of it once, as in
-//! `callers::routes::count_invalid`:
+//! `example_calls::routes::count_invalid`:
 //!
 //! ```rust
 //! let table = OriginTable::new(alloc, payloads)?;

@@ -1,5 +1,5 @@
 //! The entries behind a line's question.
-use answering::print::cut;
+use rows_support::print::cut;
 use rpki_base::Asn;
 use rpki_prefix::MaxLenPrefix;
 use std::alloc::{AllocError, Allocator};

@@ -1,7 +1,7 @@
 //! The answer to a line, by its command.
 use crate::{outside, routes};
-use answering::print::cut;
-use answering::refusals::Call;
+use rows_support::print::cut;
+use rows_support::refusals::Call;
 use std::alloc::{AllocError, Allocator};
 
 /// A line of the input.

@@ -9,8 +9,8 @@ mod line;
 mod outside;
 mod routes;
 
-use answering::refusals;
 use line::Line;
+use rows_support::refusals;
 use std::io;
 
 fn main(rt: HostRuntime) -> io::Result<()> {

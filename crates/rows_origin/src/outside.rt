@@ -1,7 +1,7 @@
 //! The first prefix that isn't inside a set of resources.
 use crate::entries;
-use answering::print::{cut, refused};
 use roa_check::outside;
+use rows_support::print::{cut, refused};
 use rpki_base::memory::OrMemory;
 use rpki_prefix::MaxLenPrefix;
 use rpki_resources::repository::resources::ResourceSet;

@@ -1,8 +1,8 @@
 //! What a list of payloads, and a table of them, say of a route.
 use crate::entries;
-use answering::print::cut;
 use roa_check::{Validity, origin};
 use roa_origin::OriginTable;
+use rows_support::print::cut;
 use rpki_base::Asn;
 use rpki_prefix::{MaxLenPrefix, Prefix};
 use std::alloc::{AllocError, Allocator};

@@ -2,8 +2,8 @@
 use crate::lists::Lists;
 use crate::question::{Operation, Question};
 use crate::small_sets::numbers;
-use answering::kept::kept;
-use answering::print::{self, cut};
+use rows_support::kept::kept;
+use rows_support::print::{self, cut};
 use rpki_as::block::AsBlock;
 use rpki_as::blocks::AsBlocks;
 use rpki_as::builder::AsBlocksBuilder;

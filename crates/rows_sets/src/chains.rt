@@ -1,8 +1,8 @@
 //! What chains over pairs of `u64` answer.
 use crate::lists::Lists;
 use crate::pairs::Pair;
-use answering::names::named;
-use answering::print::{self, cut};
+use rows_support::names::named;
+use rows_support::print::{self, cut};
 use rpki_base::memory::OrMemory;
 use rpki_chain::block::Block;
 use rpki_chain::chain::Chain;

@@ -1,8 +1,8 @@
 //! What sets of addresses of one family answer.
 use crate::lists::Lists;
 use crate::question::{Operation, Question};
-use answering::kept::kept;
-use answering::print::{self, cut};
+use rows_support::kept::kept;
+use rows_support::print::{self, cut};
 use rpki_base::memory::OrMemory;
 use rpki_family::v4::Ipv4Blocks;
 use rpki_family::v6::Ipv6Blocks;

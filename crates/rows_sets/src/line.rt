@@ -1,8 +1,8 @@
 //! The answer to a line, by its command.
 use crate::question::Question;
 use crate::{as_sets, chains, ip_sets, long, small_sets};
-use answering::print::cut;
-use answering::refusals::Call;
+use rows_support::print::cut;
+use rows_support::refusals::Call;
 use rpki_ip::family::AddressFamily;
 use std::alloc::{AllocError, Allocator};
 
@@ -26,7 +26,7 @@ impl Call for Line<'_> {
             "long" => long::answer(alloc, kind, operands),
             _ => match Question::named(command) {
                 Some(question) => set_answer(alloc, question, kind, operands),
-                None => rpki_lines::answer(alloc, self.0.as_bytes()),
+                None => respath_lines::answer(alloc, self.0.as_bytes()),
             },
         }
     }

@@ -1,5 +1,5 @@
 //! The two lists of a line.
-use answering::print::cut;
+use rows_support::print::cut;
 use rpki_base::list::read_list;
 use rpki_base::memory::OrMemory;
 use std::alloc::Allocator;

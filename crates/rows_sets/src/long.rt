@@ -1,7 +1,7 @@
 //! Chains and sets of many blocks: one has each fourth number from 0 on, the other the numbers two above.
 use crate::chains::{Shown, owned_text, trim};
 use crate::pairs::Pair;
-use answering::print;
+use rows_support::print;
 use rpki_as::block::AsBlock;
 use rpki_as::blocks::AsBlocks;
 use rpki_base::asn::Asn;

@@ -14,8 +14,8 @@ mod pairs;
 mod question;
 mod small_sets;
 
-use answering::refusals;
 use line::Line;
+use rows_support::refusals;
 use std::io;
 
 fn main(rt: HostRuntime) -> io::Result<()> {

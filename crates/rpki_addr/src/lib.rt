@@ -1,6 +1,6 @@
 //! Addresses of IPv4 and of IPv6 and their texts (RFC 791, RFC 4291, RFC 5952), and both as numbers of 128 bits.
 //!
-//! Addresses are made of their bits, and put into other types, as in `rpki_tests::addresses`:
+//! Addresses are made of their bits, and put into other types, as in `test_values::addresses`:
 //!
 //! ```rust
 //! let v4 = Ipv4Addr::from_bits(0x0a01_0203);

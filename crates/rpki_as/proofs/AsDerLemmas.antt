@@ -7,7 +7,7 @@ use Rattle.std.proofs.lemmas.List.{length-append}
 use Rattle.std.proofs.lemmas.List.Elements.{recursion_from_All}
 use Rattle.std.proofs.lemmas.List.Folds.{flat_map-map}
 use Rattle.rpki_chain.specs.Runs.{Runs, Holds, IsRunsOfBlocks}
-use Rattle.rpki_blocks.specs.Sets.{Covers, IsChain}
+use Rattle.rpki_chains.specs.Sets.{Covers, IsChain}
 use Rattle.rpki_chain.proofs.Ascending.{IsWritten, set_spelled, spelled_set, taken_chain}
 use Rattle.rpki_chain.proofs.RunLists.{IsRunsOf-unique, same_numbers}
 use Rattle.rpki_chain.proofs.SetLemmas.{bounds_made, made_of_set}
@@ -27,16 +27,16 @@ use Rattle.rpki_base.proofs.DerModes.{exact_said_by, reads_same, refused_said_by
 use Rattle.rpki_base.proofs.DerReadings.{sequence_reading}
 use Rattle.rpki_base.proofs.DerWriting.{sequence_written, written_alike}
 use Rattle.rpki_as.specs.AsDer.{IsAsBlockSequence, as_run_octets, as_sequence_octets, as_set_octets}
-use Rattle.rpki_asblock.specs.AsDer.{IsAsBlock, as_block_octets, as_range_content}
-use Rattle.rpki_asblock.specs.AsDerLaws.{as_block_has_octets, as_block_reading}
-use Rattle.rpki_asblock.specs.AsDerModes.{IsNextBlock, IsStrictBlock, next_block_modal}
+use Rattle.rpki_as_block.specs.AsDer.{IsAsBlock, as_block_octets, as_range_content}
+use Rattle.rpki_as_block.specs.AsDerLaws.{as_block_has_octets, as_block_reading}
+use Rattle.rpki_as_block.specs.AsDerModes.{IsNextBlock, IsStrictBlock, next_block_modal}
 use Rattle.rpki_as.specs.AsDerReading.{as_blocks_at, as_blocks_by, greatest_of_as_block}
-use Rattle.rpki_asblock.specs.AsDerReading.{as_block_at, next_block_by}
-use Rattle.rpki_asblock.specs.BlockForms.{new_as_block_bounds}
+use Rattle.rpki_as_block.specs.AsDerReading.{as_block_at, next_block_by}
+use Rattle.rpki_as_block.specs.BlockForms.{new_as_block_bounds}
 use Rattle.rpki_as.specs.Blocks.{IsAsSet}
-use Rattle.rpki_asblock.specs.Blocks.{as_bounds, new_as_block}
-use Rattle.rpki_asblock.specs.declared.block.AsBlock.{AsBlock}
-use Rattle.rpki_asblock.proofs.AsDerLemmas.{block_numbers, block_spelled, block_written, length-content, length-number}
+use Rattle.rpki_as_block.specs.Blocks.{as_bounds, new_as_block}
+use Rattle.rpki_as_block.specs.declared.block.AsBlock.{AsBlock}
+use Rattle.rpki_as_block.proofs.AsDerLemmas.{block_numbers, block_spelled, block_written, length-content, length-number}
 
 -- ---- the blocks of a set
 

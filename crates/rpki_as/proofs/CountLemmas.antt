@@ -5,11 +5,11 @@ use Rattle.std.proofs.lemmas.List.Concat.{flat_map-append}
 use Rattle.std.proofs.lemmas.List.Folds.{flat_map-map, length-flat_map-take}
 use Rattle.rpki_chain.specs.Runs.{Holds}
 use Rattle.rpki_as.specs.Blocks.{IsAsSet}
-use Rattle.rpki_asblock.specs.Blocks.{as_bounds}
-use Rattle.rpki_asblock.specs.Numbers.{IsListOf, IsSizeOf, numbers_within, numbers_of}
-use Rattle.rpki_asblock.specs.declared.block.AsBlock.{AsBlock}
+use Rattle.rpki_as_block.specs.Blocks.{as_bounds}
+use Rattle.rpki_as_block.specs.Numbers.{IsListOf, IsSizeOf, numbers_within, numbers_of}
+use Rattle.rpki_as_block.specs.declared.block.AsBlock.{AsBlock}
 use Rattle.rpki_as.proofs.NumberLemmas.{IsListOf-runs, size_below}
-use Rattle.rpki_asblock.proofs.NumberLemmas.{length-numbers_within}
+use Rattle.rpki_as_block.proofs.NumberLemmas.{length-numbers_within}
 
 -- the numbers of the blocks, block by block, are those of the set
 pub IsListOf-blocks : (blocks : List AsBlock) → IsAsSet (map as_bounds blocks) → IsListOf (Holds (map as_bounds blocks)) (numbers_of blocks)

@@ -9,9 +9,9 @@ use Rattle.rpki_base.proofs.DerFaults.{begins_value, enclosed_fails, no_values, 
 use Rattle.rpki_chain.specs.ChoiceDer.{choice_at}
 use Rattle.rpki_chain.specs.declared.choice.ResourcesChoice.{ResourcesChoice}
 use Rattle.rpki_chain.proofs.ChoiceFaults.{choice_fails}
-use Rattle.rpki_asblock.specs.AsDerReading.{as_block_at}
-use Rattle.rpki_asblock.specs.declared.block.AsBlock.{AsBlock}
-use Rattle.rpki_asblock.proofs.DerFaults.{block_names}
+use Rattle.rpki_as_block.specs.AsDerReading.{as_block_at}
+use Rattle.rpki_as_block.specs.declared.block.AsBlock.{AsBlock}
+use Rattle.rpki_as_block.proofs.DerFaults.{block_names}
 use Rattle.rpki_as.specs.AsDerReading.{as_choice_at}
 
 abbrev choice : List ℕ → Result (ResourcesChoice (List AsBlock) × List ℕ) DerError

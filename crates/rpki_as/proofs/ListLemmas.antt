@@ -12,18 +12,18 @@ use Rattle.rpki_text.specs.declared.memory.OrMemory.{OrMemory}
 use Rattle.rpki_base.proofs.AsnLemmas.{asn_text_bytes}
 use Rattle.rpki_text.proofs.ListLemmas.{AnswersOrMemory-from_found, HaveValues-one, first_fault_apart, same_first_fault}
 use Rattle.rpki_text.proofs.PrintedLemmas.{IsShown, IsElement, elements-joined}
-use Rattle.rpki_blocks.specs.Sets.{Covers}
+use Rattle.rpki_chains.specs.Sets.{Covers}
 use Rattle.rpki_chain.specs.Runs.{Runs, IsRunsOfBlocks}
 use Rattle.rpki_chain.proofs.RunLists.{IsRunsOf-unique, IsRunsOfBlocks-bounds}
-use Rattle.rpki_asblock.specs.BlockForms.{new_as_block_bounds}
+use Rattle.rpki_as_block.specs.BlockForms.{new_as_block_bounds}
 use Rattle.rpki_as.specs.Blocks.{IsAsSet}
-use Rattle.rpki_asblock.specs.Blocks.{as_bounds, new_as_block}
-use Rattle.rpki_asblock.specs.BlockText.{IsAsBlockText, HasAsBlockFault, as_block_text}
+use Rattle.rpki_as_block.specs.Blocks.{as_bounds, new_as_block}
+use Rattle.rpki_as_block.specs.BlockText.{IsAsBlockText, HasAsBlockFault, as_block_text}
 use Rattle.rpki_as.specs.ListText.{IsAsListText, HasAsListFault, as_list_text}
-use Rattle.rpki_asblock.specs.declared.block.AsBlock.{AsBlock}
-use Rattle.rpki_asblock.specs.declared.block.AsBlock.TheVariants.{Id, Range}
-use Rattle.rpki_asblock.specs.declared.error.FromStrError.{FromStrError}
-use Rattle.rpki_asblock.proofs.BlockLemmas.{IsAsBlockText-one, IsAsBlockText-block_text, block_apart, same_block_fault}
+use Rattle.rpki_as_block.specs.declared.block.AsBlock.{AsBlock}
+use Rattle.rpki_as_block.specs.declared.block.AsBlock.TheVariants.{Id, Range}
+use Rattle.rpki_as_block.specs.declared.error.FromStrError.{FromStrError}
+use Rattle.rpki_as_block.proofs.BlockLemmas.{IsAsBlockText-one, IsAsBlockText-block_text, block_apart, same_block_fault}
 
 -- a text writes one set at most
 pub IsAsListText-one : (text : List ℕ) (a b : Runs) → IsAsListText text a → IsAsListText text b → a ≡ b

@@ -5,14 +5,14 @@ use Rattle.std.specs.Iterator.{YieldsFirst}
 use Rattle.std.proofs.lemmas.Bool.{cases_lt}
 use Rattle.std.proofs.lemmas.List.{length-append, get_or_append_left, get_or-append_right}
 use Rattle.std.proofs.lemmas.List.Elements.{All-tail, Contains-get_or, Contains-append_left, Contains-append_right, Contains-append_cases}
-use Rattle.rpki_blocks.specs.Sets.{IsWithin}
+use Rattle.rpki_chains.specs.Sets.{IsWithin}
 use Rattle.rpki_chain.specs.Runs.{Runs, Holds}
-use Rattle.rpki_blocks.proofs.Chains.{Covers-nil}
-use Rattle.rpki_blocks.proofs.Unique.{Covers-head, Covers-tail, Covers-cons_cases}
-use Rattle.rpki_asblock.specs.Blocks.{as_bounds}
-use Rattle.rpki_asblock.specs.declared.block.AsBlock.{AsBlock}
-use Rattle.rpki_asblock.specs.Numbers.{IsListOf, IsSizeOf, numbers_within}
-use Rattle.rpki_asblock.proofs.NumberLemmas.{IsListOf-numbers_within, length-numbers_within}
+use Rattle.rpki_chains.proofs.Chains.{Covers-nil}
+use Rattle.rpki_chains.proofs.Unique.{Covers-head, Covers-tail, Covers-cons_cases}
+use Rattle.rpki_as_block.specs.Blocks.{as_bounds}
+use Rattle.rpki_as_block.specs.declared.block.AsBlock.{AsBlock}
+use Rattle.rpki_as_block.specs.Numbers.{IsListOf, IsSizeOf, numbers_within}
+use Rattle.rpki_as_block.proofs.NumberLemmas.{IsListOf-numbers_within, length-numbers_within}
 
 -- two sets of which the one lies below the other: its list stands first
 IsListOf-append : (S U : ℕ → Type 0) (ms ns : List ℕ) → IsListOf S ms → IsListOf U ns → ((m n : ℕ) → S m → U n → m < n) → IsListOf (λ n. S n ⊎ U n) (ms ++ ns)

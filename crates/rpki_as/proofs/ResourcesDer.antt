@@ -23,20 +23,20 @@ use Rattle.rpki_chain.specs.ChoiceDer.{IsChoiceOf, choice_at, choice_octets}
 use Rattle.rpki_chain.specs.Choices.{ListsBy, MatchChoice}
 use Rattle.rpki_chain.specs.Claims.{Claim, IsClaim}
 use Rattle.rpki_chain.specs.Runs.{Runs, IsRunsOfBlocks}
-use Rattle.rpki_blocks.specs.Sets.{IsChain}
+use Rattle.rpki_chains.specs.Sets.{IsChain}
 use Rattle.rpki_chain.proofs.Ascending.{listed_chain, no_numbers}
 use Rattle.rpki_chain.proofs.ChoiceReadings.{choice_modal, choice_reading, has_numbers}
 use Rattle.rpki_chain.proofs.ClaimLemmas.{lists_one}
 use Rattle.rpki_as.specs.AsDer.{IsAsChoice, IsAsResources, IsPresentAsClaim, as_resources_octets, as_sequence_octets, as_set_octets}
-use Rattle.rpki_asblock.specs.AsDer.{IsAsBlock, as_block_octets}
-use Rattle.rpki_asblock.specs.AsDerLaws.{as_block_has_octets, as_block_reading}
-use Rattle.rpki_asblock.specs.AsDerModes.{IsNextBlock, IsStrictBlock, next_block_modal}
+use Rattle.rpki_as_block.specs.AsDer.{IsAsBlock, as_block_octets}
+use Rattle.rpki_as_block.specs.AsDerLaws.{as_block_has_octets, as_block_reading}
+use Rattle.rpki_as_block.specs.AsDerModes.{IsNextBlock, IsStrictBlock, next_block_modal}
 use Rattle.rpki_as.specs.AsDerReading.{as_choice_at, as_choice_by, greatest_of_as_block}
-use Rattle.rpki_asblock.specs.AsDerReading.{as_block_at, next_block_by}
+use Rattle.rpki_as_block.specs.AsDerReading.{as_block_at, next_block_by}
 use Rattle.rpki_as.specs.Blocks.{IsAsSet}
-use Rattle.rpki_asblock.specs.Blocks.{as_bounds, new_as_block}
-use Rattle.rpki_asblock.specs.declared.block.AsBlock.{AsBlock}
-use Rattle.rpki_asblock.proofs.AsDerLemmas.{block_numbers}
+use Rattle.rpki_as_block.specs.Blocks.{as_bounds, new_as_block}
+use Rattle.rpki_as_block.specs.declared.block.AsBlock.{AsBlock}
+use Rattle.rpki_as_block.proofs.AsDerLemmas.{block_numbers}
 use Rattle.rpki_as.proofs.AsDerLemmas.{blocks_say, one_set, sequence_blocks, sequence_spelled, set_octets_few, spelled_sequence, strict_blocks}
 
 -- ---- readings

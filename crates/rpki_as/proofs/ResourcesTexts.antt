@@ -13,14 +13,14 @@ use Rattle.rpki_chain.specs.Runs.{Runs}
 use Rattle.rpki_chain.specs.declared.choice.ResourcesChoice.TheVariants.{Missing, Inherit, Blocks}
 use Rattle.rpki_chain.proofs.ClaimLemmas.{empty_set}
 use Rattle.rpki_as.specs.Blocks.{IsAsSet}
-use Rattle.rpki_asblock.specs.Blocks.{new_as_block}
-use Rattle.rpki_asblock.specs.BlockText.{IsAsBlockText, HasAsBlockFault, as_block_text}
+use Rattle.rpki_as_block.specs.Blocks.{new_as_block}
+use Rattle.rpki_as_block.specs.BlockText.{IsAsBlockText, HasAsBlockFault, as_block_text}
 use Rattle.rpki_as.specs.ListText.{IsAsListText, HasAsListFault, as_list_text}
 use Rattle.rpki_as.specs.ResourcesText.{IsInherit, IsAsResourcesText, HasAsResourcesFault, as_resources_text}
-use Rattle.rpki_asblock.specs.declared.block.AsBlock.{AsBlock}
-use Rattle.rpki_asblock.specs.declared.block.AsBlock.TheVariants.{Id, Range}
-use Rattle.rpki_asblock.specs.declared.error.FromStrError.{FromStrError}
-use Rattle.rpki_asblock.proofs.BlockLemmas.{block_apart, same_block_fault}
+use Rattle.rpki_as_block.specs.declared.block.AsBlock.{AsBlock}
+use Rattle.rpki_as_block.specs.declared.block.AsBlock.TheVariants.{Id, Range}
+use Rattle.rpki_as_block.specs.declared.error.FromStrError.{FromStrError}
+use Rattle.rpki_as_block.proofs.BlockLemmas.{block_apart, same_block_fault}
 use Rattle.rpki_as.proofs.ListLemmas.{IsAsListText-as_list_text, IsAsListText-one}
 
 -- what isn't told isn't so

@@ -10,9 +10,9 @@ use Rattle.rpki_der.specs.Der.{Refines, sequence_value, value}
 use Rattle.rpki_base.specs.DerReading.{Encloses, IsSequenceOf}
 use Rattle.rpki_base.specs.DerWriting.{octets_of_all, sequence_octets}
 use Rattle.rpki_as.specs.Blocks.{IsAsSet}
-use Rattle.rpki_asblock.specs.AsDer.{IsAsBlock, as_block_octets}
-use Rattle.rpki_asblock.specs.Blocks.{as_bounds, new_as_block}
-use Rattle.rpki_asblock.specs.declared.block.AsBlock.{AsBlock}
+use Rattle.rpki_as_block.specs.AsDer.{IsAsBlock, as_block_octets}
+use Rattle.rpki_as_block.specs.Blocks.{as_bounds, new_as_block}
+use Rattle.rpki_as_block.specs.declared.block.AsBlock.{AsBlock}
 
 -- a SEQUENCE of blocks, in any order, overlapping or not, and nothing else; it stands for the set of their numbers
 -- (3.2.3.4, asIdsOrRanges)

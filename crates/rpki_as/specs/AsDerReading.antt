@@ -4,9 +4,9 @@ use Rattle.rpki_der.specs.declared.error.DerError.{DerError}
 use Rattle.rpki_base.specs.DerReading.{enclosed_at, sequence_from, sequence_of, values_from, values_of}
 use Rattle.rpki_chain.specs.declared.choice.ResourcesChoice.{ResourcesChoice}
 use Rattle.rpki_chain.specs.ChoiceDer.{choice_at}
-use Rattle.rpki_asblock.specs.AsDerReading.{as_block_at, next_block_by}
-use Rattle.rpki_asblock.specs.Blocks.{as_bounds}
-use Rattle.rpki_asblock.specs.declared.block.AsBlock.{AsBlock}
+use Rattle.rpki_as_block.specs.AsDerReading.{as_block_at, next_block_by}
+use Rattle.rpki_as_block.specs.Blocks.{as_bounds}
+use Rattle.rpki_as_block.specs.declared.block.AsBlock.{AsBlock}
 
 -- the blocks of a SEQUENCE
 abbrev pub as_blocks_at : List ℕ → Result (List AsBlock × List ℕ) DerError

@@ -2,9 +2,9 @@
 use Rattle.std.specs.Prelude.{ℕ, List, map}
 use Rattle.rpki_text.specs.Lists.{elements, joined, HaveValues, HasFirstFault}
 use Rattle.rpki_chain.specs.Runs.{Runs, IsSetOfBlocks}
-use Rattle.rpki_asblock.specs.Blocks.{as_bounds, new_as_block}
-use Rattle.rpki_asblock.specs.BlockText.{IsAsBlockText, HasAsBlockFault, as_block_text}
-use Rattle.rpki_asblock.specs.declared.error.FromStrError.{FromStrError}
+use Rattle.rpki_as_block.specs.Blocks.{as_bounds, new_as_block}
+use Rattle.rpki_as_block.specs.BlockText.{IsAsBlockText, HasAsBlockFault, as_block_text}
+use Rattle.rpki_as_block.specs.declared.error.FromStrError.{FromStrError}
 
 -- each element of the text writes a block, and the set is that of the numbers in some block
 abbrev pub IsAsListText : List ℕ → Runs → Type 0

@@ -3,7 +3,7 @@ use Rattle.std.specs.Prelude.{◌≡◌, ◌≢◌, ℕ, List, [], codes}
 use Rattle.rpki_chain.specs.Claims.{Claim}
 use Rattle.rpki_chain.specs.declared.choice.ResourcesChoice.TheVariants.{Missing, Inherit, Blocks}
 use Rattle.rpki_as.specs.ListText.{IsAsListText, HasAsListFault, as_list_text}
-use Rattle.rpki_asblock.specs.declared.error.FromStrError.{FromStrError}
+use Rattle.rpki_as_block.specs.declared.error.FromStrError.{FromStrError}
 
 -- the text is `inherit`
 abbrev pub IsInherit : List ℕ → Type 0

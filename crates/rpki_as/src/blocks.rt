@@ -3,21 +3,21 @@ ghost use Rattle.std.specs.Prelude.{◌≡◌, ℕ, ◌↔◌, [], ◌∷◌, Is
 ghost use Rattle.std.specs.Slice.Iter.{iter_rest};
 ghost use Rattle.rpki_text.specs.Memory.{IsMemory};
 ghost use Rattle.rpki_text.specs.Reading.{AnswersOrMemory};
-ghost use Rattle.rpki_blocks.specs.Equality.{same_runs, runs_per, runs_equiv};
-ghost use Rattle.rpki_blocks.specs.Sets.{IsChain};
+ghost use Rattle.rpki_chains.specs.Equality.{same_runs, runs_per, runs_equiv};
+ghost use Rattle.rpki_chains.specs.Sets.{IsChain};
 ghost use Rattle.rpki_chain.specs.Choices.{MatchChoice};
 ghost use Rattle.rpki_chain.specs.Operations.{IsDifference, IsIntersection, IsUnion};
 ghost use Rattle.rpki_chain.specs.Runs.{Runs, Holds, IsRunsOfBlocks};
 ghost use Rattle.rpki_as.specs.Blocks.{IsAsSet};
-ghost use Rattle.rpki_asblock.specs.Blocks.{as_bounds, new_as_block};
+ghost use Rattle.rpki_as_block.specs.Blocks.{as_bounds, new_as_block};
 ghost use Rattle.rpki_as.specs.ListText.{IsAsListText, HasAsListFault, as_list_text};
-ghost use Rattle.rpki_asblock.specs.Numbers.{IsListOf, IsSizeOf};
+ghost use Rattle.rpki_as_block.specs.Numbers.{IsListOf, IsSizeOf};
 
 use crate::error::{FromStrError, InheritedAsResources};
 use crate::iter::AsnIter;
 use crate::resources::AsResources;
-use rpki_asblock::block::AsBlock;
-use rpki_asblock::list::read_blocks;
+use rpki_as_block::block::AsBlock;
+use rpki_as_block::list::read_blocks;
 use rpki_base::asn::Asn;
 use rpki_base::list::fmt_joined;
 use rpki_base::memory::OrMemory;

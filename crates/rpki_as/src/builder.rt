@@ -1,11 +1,11 @@
 //! Sets of AS numbers, and AS resources, built block by block.
 ghost use Rattle.std.specs.Prelude.{◌≡◌, ◌++◌, [], ◌∷◌, IfOk, OnOk, OnErr, map};
 ghost use Rattle.rpki_chain.specs.Runs.{Holds, IsRunsOf};
-ghost use Rattle.rpki_asblock.specs.Blocks.{as_bounds};
+ghost use Rattle.rpki_as_block.specs.Blocks.{as_bounds};
 
 use crate::blocks::AsBlocks;
 use crate::resources::AsResources;
-use rpki_asblock::block::AsBlock;
+use rpki_as_block::block::AsBlock;
 use rpki_chain::builder::BlockSetBuilder;
 use rpki_chain::resources::{CollectBlocks, ResourcesBuilder};
 use std::alloc::{AllocError, Allocator, Global};

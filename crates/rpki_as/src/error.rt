@@ -2,7 +2,7 @@
 ghost use Rattle.std.specs.Prelude.{Some};
 ghost use Rattle.rpki_as.specs.Faults.{inherited_text};
 
-pub use rpki_asblock::error::FromStrError;
+pub use rpki_as_block::error::FromStrError;
 use rpki_chain::choice::InheritedResources;
 use std::error::Error;
 use std::fmt;

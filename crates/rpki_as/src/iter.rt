@@ -2,8 +2,8 @@
 ghost use Rattle.std.specs.Prelude.{◌≡◌};
 ghost use Rattle.std.specs.Iterator.{YieldsFirst, item_count};
 
-use rpki_asblock::block::AsBlock;
-pub use rpki_asblock::iter::AsBlockIter;
+use rpki_as_block::block::AsBlock;
+pub use rpki_as_block::iter::AsBlockIter;
 use rpki_base::asn::Asn;
 use std::marker::Model;
 use std::slice::Iter;
@@ -18,7 +18,7 @@ pub struct AsnIter<'a> {
 impl<'a> Model for AsnIter<'a> {
     ghost use Rattle.std.specs.Prelude.{ℕ, List, ◌++◌};
     ghost use Rattle.std.specs.Slice.Iter.{iter_rest};
-    ghost use Rattle.rpki_asblock.specs.Numbers.{numbers_of};
+    ghost use Rattle.rpki_as_block.specs.Numbers.{numbers_of};
 
     ghost Value = { List ℕ };
 
@@ -27,7 +27,7 @@ impl<'a> Model for AsnIter<'a> {
 
 impl<'a> AsnIter<'a> {
     ghost use Rattle.std.specs.Slice.Iter.{iter_rest};
-    ghost use Rattle.rpki_asblock.specs.Numbers.{numbers_of};
+    ghost use Rattle.rpki_as_block.specs.Numbers.{numbers_of};
 
     /// The numbers of blocks, in their order.
     pub(crate) fn over(blocks: Iter<'a, AsBlock>) -> AsnIter<'a>

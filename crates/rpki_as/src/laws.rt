@@ -7,7 +7,7 @@ ghost use Rattle.rpki_as.specs.Blocks.{IsAsSet};
 ghost use Rattle.rpki_as.specs.ListText.{IsAsListText, as_list_text};
 ghost use Rattle.rpki_as.specs.ResourcesText.{IsAsResourcesText, as_resources_text};
 
-pub use rpki_asblock::laws::equal_where_the_same;
+pub use rpki_as_block::laws::equal_where_the_same;
 
 /// What is printed of a set is a list that writes the set. A list writes one set at most, so two sets print alike
 /// exactly where they have the same numbers.

@@ -1,6 +1,6 @@
 //! Sets of AS numbers, AS resources and what claims of them leave (RFC 3779, 3), with their texts and their DER.
 //!
-//! Resources are built block by block, as in `callers::builders::listed_in_the_end`:
+//! Resources are built block by block, as in `example_calls::builders::listed_in_the_end`:
 //!
 //! ```rust
 //! let mut builder: AsResourcesBuilder<A> = AsResourcesBuilder::new(alloc);
@@ -27,4 +27,4 @@ pub use resources::AsResources;
 pub use verify::{AsStep, OverclaimedAsResources};
 
 /// Blocks of AS numbers, which stand in a crate of their own below this one.
-pub use rpki_asblock::{AsBlock, AsBlockIter, AsRange, FromStrError, block, range};
+pub use rpki_as_block::{AsBlock, AsBlockIter, AsRange, FromStrError, block, range};

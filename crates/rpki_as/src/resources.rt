@@ -2,7 +2,7 @@
 ghost use Rattle.std.specs.Prelude.{◌≡◌, ◌≢◌, ◌↔◌, [], IsTrue, IfOk, Ok, Some, MatchResult};
 ghost use Rattle.rpki_text.specs.Memory.{IsMemory};
 ghost use Rattle.rpki_text.specs.Reading.{AnswersOrMemory};
-ghost use Rattle.rpki_blocks.specs.Equality.{same_runs, runs_per, runs_equiv};
+ghost use Rattle.rpki_chains.specs.Equality.{same_runs, runs_per, runs_equiv};
 ghost use Rattle.rpki_chain.specs.ChoiceEquality.{choice_eq, choice_equiv, choice_per};
 ghost use Rattle.rpki_chain.specs.Choices.{MatchChoice, IsRefused};
 ghost use Rattle.rpki_chain.specs.ChoiceDer.{choice_octets};
@@ -10,13 +10,13 @@ ghost use Rattle.rpki_chain.specs.Claims.{Claim, IsClaim, ListsSome, claim_of};
 ghost use Rattle.rpki_chain.specs.declared.choice.ResourcesChoice.TheVariants.{Missing, Inherit};
 ghost use Rattle.rpki_base.specs.DerWriting.{sequence_octets};
 ghost use Rattle.rpki_as.specs.AsDer.{as_sequence_octets};
-ghost use Rattle.rpki_asblock.specs.AsDer.{as_block_octets};
+ghost use Rattle.rpki_as_block.specs.AsDer.{as_block_octets};
 ghost use Rattle.rpki_as.specs.Blocks.{IsAsSet};
 ghost use Rattle.rpki_as.specs.ResourcesText.{IsAsResourcesText, HasAsResourcesFault, as_resources_text};
 
 use crate::blocks::AsBlocks;
 use crate::error::{FromStrError, InheritedAsResources};
-use rpki_asblock::block::AsBlock;
+use rpki_as_block::block::AsBlock;
 use rpki_base::memory::OrMemory;
 use rpki_chain::choice::ResourcesChoice;
 use rpki_chain::path::Claims;

@@ -2,14 +2,14 @@
 ghost use Rattle.std.specs.Prelude.{◌≡◌, ◌↔◌, IsTrue, IsOk, IfOk, IfErr, Some};
 ghost use Rattle.rpki_text.specs.Memory.{IfRefused};
 ghost use Rattle.rpki_text.specs.Reading.{AnswersOrMemory};
-ghost use Rattle.rpki_blocks.specs.Equality.{same_runs, runs_per, runs_equiv};
+ghost use Rattle.rpki_chains.specs.Equality.{same_runs, runs_per, runs_equiv};
 ghost use Rattle.rpki_chain.specs.Paths.{IsIssued, IsExcess, IsCovered, IsUncovered, IsPathResult, IsFirstRefusal};
 ghost use Rattle.rpki_chain.specs.Runs.{Holds};
 ghost use Rattle.rpki_as.specs.Faults.{overclaimed_as_text};
 
 use crate::blocks::AsBlocks;
 use crate::resources::AsResources;
-use rpki_asblock::block::AsBlock;
+use rpki_as_block::block::AsBlock;
 use rpki_base::memory::OrMemory;
 use rpki_chain::path::{Claims, Overclaim, PathRefusal, Step};
 use rpki_chain::set::BlockSet;

@@ -1,7 +1,7 @@
 //! What every layer above shares: number texts, addresses, AS numbers, lists of texts, sequences in DER, and the
 //! answer of a call that may want memory.
 //!
-//! The AS number behind another is asked for where there is one, as in `callers::conditions::behind`:
+//! The AS number behind another is asked for where there is one, as in `example_calls::conditions::behind`:
 //!
 //! ```rust
 //! if asn == Asn::MAX {

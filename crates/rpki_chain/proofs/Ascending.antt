@@ -4,10 +4,10 @@ use Rattle.std.specs.Prelude.{All, AllPairs, ⊤}
 use Rattle.std.proofs.lemmas.List.Elements.{All-cons, All-map, All-nil, All-tail}
 use Rattle.std.proofs.lemmas.List.Folds.{flat_map-map}
 use Rattle.std.proofs.lemmas.List.Kept.{AllPairs-cons}
-use Rattle.rpki_blocks.specs.Beyond.{IsBeyond}
-use Rattle.rpki_blocks.specs.Sets.{Covers, IsChain, IsNew}
-use Rattle.rpki_blocks.proofs.Chains.{Covers-nil, IsChain-nil}
-use Rattle.rpki_blocks.proofs.Unique.{Covers-head}
+use Rattle.rpki_chains.specs.Beyond.{IsBeyond}
+use Rattle.rpki_chains.specs.Sets.{Covers, IsChain, IsNew}
+use Rattle.rpki_chains.proofs.Chains.{Covers-nil, IsChain-nil}
+use Rattle.rpki_chains.proofs.Unique.{Covers-head}
 use Rattle.rpki_der.specs.Der.{EachFrom, IsValue, Refines, Spells, Where, sequence_value}
 use Rattle.rpki_der.proofs.Written.{value_is}
 use Rattle.rpki_base.specs.DerReading.{IsSequenceFrom}

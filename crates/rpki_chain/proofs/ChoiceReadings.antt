@@ -14,9 +14,9 @@ use Rattle.rpki_chain.specs.declared.choice.ResourcesChoice.{ResourcesChoice}
 use Rattle.rpki_chain.specs.declared.choice.ResourcesChoice.TheVariants.{Missing, Inherit, Blocks}
 use Rattle.rpki_chain.specs.ChoiceDer.{IsChoiceOf, choice_at, choice_in, inherited_in, listed_in, some_in, some_of}
 use Rattle.rpki_chain.specs.Runs.{Runs, Holds, IsRunsOfBlocks}
-use Rattle.rpki_blocks.specs.Sets.{Covers}
-use Rattle.rpki_blocks.proofs.Chains.{Covers-nil}
-use Rattle.rpki_blocks.proofs.Unique.{Covers-head}
+use Rattle.rpki_chains.specs.Sets.{Covers}
+use Rattle.rpki_chains.proofs.Chains.{Covers-nil}
+use Rattle.rpki_chains.proofs.Unique.{Covers-head}
 
 -- blocks of which the first has a number have numbers
 pub has_numbers : {B : Type 0} (f : B → ℕ × ℕ) (xs : List B) (x : B) (set : Runs) → slice_get xs 0 ≡ Some x → (f x).0 ≤ (f x).1 → IsRunsOfBlocks f xs set → set ≢ []

@@ -1,7 +1,7 @@
 -- Claims: when two are one, and that a grammar of resources has those that are written by it.
 use Rattle.std.proofs.Common.{◌≡◌, ℕ, [], refl, sym, ap, ◌∙◌, arith}
 use Rattle.std.specs.Bool.{Decides}
-use Rattle.rpki_blocks.specs.Equality.{same_runs}
+use Rattle.rpki_chains.specs.Equality.{same_runs}
 use Rattle.rpki_chain.specs.declared.choice.ResourcesChoice.{ResourcesChoice}
 use Rattle.rpki_chain.specs.declared.choice.ResourcesChoice.TheVariants.{Missing, Inherit, Blocks}
 use Rattle.rpki_chain.specs.BlockSets.{IsBlockSet}

@@ -6,8 +6,8 @@ use Rattle.std.proofs.lemmas.List.Elements.{All-head}
 use Rattle.rpki_text.specs.declared.memory.OrMemory.{OrMemory}
 use Rattle.rpki_text.specs.declared.memory.OrMemory.TheVariants.{Refused, Memory}
 use Rattle.rpki_text.specs.Memory.{IsMemory, IfRefused}
-use Rattle.rpki_blocks.proofs.Chains.{Covers-nil}
-use Rattle.rpki_blocks.proofs.Unique.{Covers-head}
+use Rattle.rpki_chains.proofs.Chains.{Covers-nil}
+use Rattle.rpki_chains.proofs.Unique.{Covers-head}
 use Rattle.rpki_chain.specs.Claims.{Claim}
 use Rattle.rpki_chain.specs.Operations.{IsIntersection, IsDifference}
 use Rattle.rpki_chain.specs.Paths.{Lists, Leaves, Exceeds, IsIssued, IsExcess}

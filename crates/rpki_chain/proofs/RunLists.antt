@@ -4,10 +4,10 @@ use Rattle.std.proofs.lemmas.Bool.{cases_lt}
 use Rattle.std.proofs.lemmas.List.{append_assoc, get_or-map, length-map, map-append}
 use Rattle.std.proofs.Math.Seq.{take-suc}
 use Rattle.std.proofs.lemmas.List.Elements.{All-map}
-use Rattle.rpki_blocks.specs.Sets.{IsWithin, Covers, IsChain, IsChainOf}
-use Rattle.rpki_blocks.proofs.Chains.{Covers-nil, IsChainOf-from, IsChain-from}
-use Rattle.rpki_blocks.proofs.Unique.{Covers-head, Covers-tail, Covers-cons_cases, IsChain-unique}
-use Rattle.rpki_blocks.proofs.Sorts.{Covers-map}
+use Rattle.rpki_chains.specs.Sets.{IsWithin, Covers, IsChain, IsChainOf}
+use Rattle.rpki_chains.proofs.Chains.{Covers-nil, IsChainOf-from, IsChain-from}
+use Rattle.rpki_chains.proofs.Unique.{Covers-head, Covers-tail, Covers-cons_cases, IsChain-unique}
+use Rattle.rpki_chains.proofs.Sorts.{Covers-map}
 use Rattle.rpki_chain.specs.Runs.{Runs, Holds, IsRunsOf, IsRunsOfBlocks}
 
 -- whether a number lies within bounds is decided

@@ -8,13 +8,13 @@ use Rattle.std.proofs.lemmas.Grind.{common_steps}
 use Rattle.std.proofs.lemmas.Result.{IfOk-weaker}
 use Rattle.std.proofs.lemmas.List.Elements.{All-map, All-tail}
 use Rattle.rpki_chain.specs.BlockSets.{IsBlockSet, IsBlockChain}
-use Rattle.rpki_blocks.specs.Equality.{is_same_pair, same_runs}
-use Rattle.rpki_blocks.specs.Sets.{Covers, IsInside, IsNew, IsChain}
-use Rattle.rpki_blocks.specs.Overhang.{IsOverhang}
-use Rattle.rpki_blocks.specs.declared.overhang.Overhang.{Overhang}
+use Rattle.rpki_chains.specs.Equality.{is_same_pair, same_runs}
+use Rattle.rpki_chains.specs.Sets.{Covers, IsInside, IsNew, IsChain}
+use Rattle.rpki_chains.specs.Overhang.{IsOverhang}
+use Rattle.rpki_chains.specs.declared.overhang.Overhang.{Overhang}
 use Rattle.rpki_chain.specs.Runs.{Runs, Holds, IsRunsOf, IsRunsOfBlocks}
-use Rattle.rpki_blocks.proofs.Chains.{Covers-nil}
-use Rattle.rpki_blocks.proofs.FitTurns.{overhang-not_inside}
+use Rattle.rpki_chains.proofs.Chains.{Covers-nil}
+use Rattle.rpki_chains.proofs.FitTurns.{overhang-not_inside}
 use Rattle.rpki_chain.proofs.RunLists.{IsRunsOf-itself, IsRunsOf-same, IsRunsOfBlocks-bounds, Holds-map}
 
 -- whether two sets are the same is what the comparison of their bounds tells

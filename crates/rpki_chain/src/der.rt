@@ -10,12 +10,12 @@ ghost use Rattle.rpki_chain.specs.Choices.{ListsBy, MatchChoice};
 ghost use Rattle.rpki_chain.specs.ChoiceDer.{IsResourcesOf, choice_at, choice_in, choice_octets, some_in};
 ghost use Rattle.rpki_chain.specs.Claims.{ListsSome};
 ghost use Rattle.rpki_chain.specs.Runs.{IsRunsOfBlocks};
-ghost use Rattle.rpki_blocks.specs.Sets.{IsChain};
+ghost use Rattle.rpki_chains.specs.Sets.{IsChain};
 
 use crate::choice::ResourcesChoice;
 use crate::set::BlockSet;
 use rpki_base::der::{Encode, ReadNext, append_sequence, encode_sequence, len_of_all, read_values};
-use rpki_blocks::block::Block;
+use rpki_chains::block::Block;
 use rpki_der::{Content, Cursor, DerError, append_null, header_len, null_len, put_null, tag};
 use rpki_text::memory::OrMemory;
 use std::alloc::{AllocError, Allocator};

@@ -9,7 +9,7 @@ ghost use Rattle.rpki_chain.specs.declared.path.Overclaim.{Overclaim};
 ghost use Rattle.rpki_chain.specs.declared.path.Overclaim.TheVariants.{Refuse, Trim};
 ghost use Rattle.rpki_chain.specs.declared.path.Step.{Step};
 
-use rpki_blocks::block::Block;
+use rpki_chains::block::Block;
 
 /// The blocks that are made of the runs of a set stand for the set.
 pub fn blocks_of_runs<T: Block>()

@@ -1,10 +1,10 @@
 //! Sets over any lawful block, resources that list them, what claims and paths of claims leave of them, and their DER
-//! (RFC 3779, 2 and 3). The blocks and chains of `rpki_blocks` are named again here.
+//! (RFC 3779, 2 and 3). The blocks and chains of `rpki_chains` are named again here.
 //!
 //! A lawful [`block::Block`] is all that a kind of number has to bring: what stands here is proved once, over every such
 //! kind.
 //!
-//! An issuer's set is asked for what is claimed of it, as in `callers::issued`:
+//! An issuer's set is asked for what is claimed of it, as in `example_calls::issued`:
 //!
 //! ```rust
 //! match issuer.verify_issued(alloc, &claim, mode) {
@@ -37,7 +37,7 @@ pub use set::BlockSet;
 pub use shared::SharedChain;
 
 /// Blocks and chains, which stand in a crate of their own below this one.
-pub use rpki_blocks::{block, chain, counted, owned, reads, shared};
+pub use rpki_chains::{block, chain, counted, owned, reads, shared};
 
 /// The calls on chains whose reads are counted.
-pub use rpki_blocks::{contains_item_counted, difference_counted, trim_counted, union_counted};
+pub use rpki_chains::{contains_item_counted, difference_counted, trim_counted, union_counted};

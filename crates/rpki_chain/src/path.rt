@@ -4,7 +4,7 @@ ghost use Rattle.rpki_chain.specs.Claims.{Claim, claim_by};
 
 use crate::choice::ResourcesChoice;
 use crate::set::BlockSet;
-use rpki_blocks::block::Block;
+use rpki_chains::block::Block;
 use std::alloc::Allocator;
 
 /// What becomes of a claim that lists more than its issuer has.

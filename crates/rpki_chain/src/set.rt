@@ -2,17 +2,17 @@
 ghost use Rattle.std.specs.Prelude.{◌≡◌, ℕ, ◌↔◌, [], ◌∷◌, IsTrue, IsOk, IfOk, IfErr, OnOk, OnErr, map};
 ghost use Rattle.std.specs.Slice.Iter.{iter_rest};
 ghost use Rattle.rpki_chain.specs.BlockSets.{IsBlockChain, IsBlockSet};
-ghost use Rattle.rpki_blocks.specs.Equality.{same_runs, runs_per, runs_equiv};
+ghost use Rattle.rpki_chains.specs.Equality.{same_runs, runs_per, runs_equiv};
 ghost use Rattle.rpki_text.specs.Memory.{IfRefused};
 ghost use Rattle.rpki_chain.specs.Operations.{IsDifference, IsIntersection, IsUnion};
 ghost use Rattle.rpki_chain.specs.Runs.{Runs, Holds, IsRunsOfBlocks};
-ghost use Rattle.rpki_blocks.specs.Sets.{IsWithin, IsChain};
-ghost use Rattle.rpki_blocks.specs.View.{chain_blocks};
+ghost use Rattle.rpki_chains.specs.Sets.{IsWithin, IsChain};
+ghost use Rattle.rpki_chains.specs.View.{chain_blocks};
 
-use rpki_blocks::block::Block;
-use rpki_blocks::chain::Chain;
-use rpki_blocks::owned::OwnedChain;
-use rpki_blocks::shared::SharedChain;
+use rpki_chains::block::Block;
+use rpki_chains::chain::Chain;
+use rpki_chains::owned::OwnedChain;
+use rpki_chains::shared::SharedChain;
 use rpki_text::memory::OrMemory;
 use std::alloc::{AllocError, Allocator, Global};
 use std::fmt;

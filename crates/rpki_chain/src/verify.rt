@@ -10,7 +10,7 @@ ghost use Rattle.rpki_chain.specs.declared.choice.ResourcesChoice.TheVariants.{B
 use crate::choice::ResourcesChoice;
 use crate::path::{Claims, Overclaim, PathRefusal, Step};
 use crate::set::BlockSet;
-use rpki_blocks::block::Block;
+use rpki_chains::block::Block;
 use rpki_text::memory::OrMemory;
 use std::alloc::{AllocError, Allocator};
 

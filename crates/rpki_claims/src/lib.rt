@@ -1,6 +1,6 @@
 //! Families of addresses in DER, each with its claim (RFC 3779, 2.2.3; RFC 6487, 4.8.10), whatever a claim is.
 //!
-//! Claims on addresses are read by its `take_families`, as in `callers::certificates::read_families`:
+//! Claims on addresses are read by its `take_families`, as in `example_calls::certificates::read_families`:
 //!
 //! ```rust
 //! let mut cursor = Cursor::new(octets);

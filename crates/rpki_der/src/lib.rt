@@ -5,7 +5,7 @@
 //! them one after another, and a refused take leaves it where it was. A [`Content`] is read by the
 //! rule of its type: INTEGER, BIT STRING, OCTET STRING, NULL or SEQUENCE. Nothing is copied.
 //!
-//! A value is taken, or refused by its fault, as in `rpki_tests_der::values`:
+//! A value is taken, or refused by its fault, as in `test_der::values`:
 //!
 //! ```rust
 //! let mut cursor = Cursor::new(octets);

@@ -6,11 +6,11 @@ use Rattle.std.proofs.lemmas.List.{map-append}
 use Rattle.std.proofs.lemmas.Nat.{pow_pos}
 use Rattle.std.proofs.lemmas.List.Elements.{All-head, All-tail, All-map}
 use Rattle.rpki_addr.specs.Prefixes.{PrefixValue}
-use Rattle.rpki_blocks.proofs.Chains.{Covers-nil}
+use Rattle.rpki_chains.proofs.Chains.{Covers-nil}
 use Rattle.rpki_chain.proofs.RunLists.{Holds-map}
-use Rattle.rpki_blocks.proofs.Unique.{Covers-head, Covers-tail, Covers-cons_cases}
+use Rattle.rpki_chains.proofs.Unique.{Covers-head, Covers-tail, Covers-cons_cases}
 use Rattle.rpki_chain.specs.Runs.{Runs, Holds}
-use Rattle.rpki_blocks.specs.Sets.{IsWithin}
+use Rattle.rpki_chains.specs.Sets.{IsWithin}
 use Rattle.rpki_cover.proofs.CoverList.{CoverOf, cover_none, cover_list_covers}
 use Rattle.rpki_cover.proofs.Joined.{cover_same, cover_joined}
 use Rattle.rpki_cover.proofs.Multiples.{IsMultiple, mod_multiple, multiple_gap, multiple_self, multiple_smaller}
@@ -22,11 +22,11 @@ use Rattle.rpki_family.specs.SetCovers.{runs_cover, blocks_cover, Ipv4Of}
 use Rattle.rpki_ip.specs.Ranges.{RangeValue, range_bounds}
 use Rattle.rpki_ip.specs.Whole.{IsWhole, HasWholeBounds}
 use Rattle.rpki_ipres.proofs.WholeLemmas.{whole_runs}
-use Rattle.rpki_ipblock.specs.Blocks.{ip_bounds}
-use Rattle.rpki_ipblock.specs.PrintedBlocks.{IsBlock}
+use Rattle.rpki_ip_block.specs.Blocks.{ip_bounds}
+use Rattle.rpki_ip_block.specs.PrintedBlocks.{IsBlock}
 use Rattle.rpki_ipres.specs.SetText.{IsIpSet}
-use Rattle.rpki_ipblock.specs.declared.block.IpBlock.{IpBlock}
-use Rattle.rpki_ipblock.specs.declared.block.IpBlock.TheVariants.{Prefix, Range}
+use Rattle.rpki_ip_block.specs.declared.block.IpBlock.{IpBlock}
+use Rattle.rpki_ip_block.specs.declared.block.IpBlock.TheVariants.{Prefix, Range}
 
 -- ---- runs of numbers of w bits
 

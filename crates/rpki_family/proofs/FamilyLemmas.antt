@@ -10,12 +10,12 @@ use Rattle.rpki_family.proofs.CoverLemmas.{v4_covered}
 use Rattle.rpki_family.specs.Families.{HasBoundsIn, IsWholeIn, IsCoverListIn}
 use Rattle.rpki_family.specs.SetCovers.{runs_cover}
 use Rattle.rpki_ip.specs.Whole.{HasWholeBounds}
-use Rattle.rpki_ipblock.specs.Blocks.{ip_bounds, new_ip_block, prefix_bounds}
+use Rattle.rpki_ip_block.specs.Blocks.{ip_bounds, new_ip_block, prefix_bounds}
 use Rattle.rpki_prefix.specs.Values.{FamilyPrefix, IsFamilyPrefix}
 use Rattle.rpki_addr.specs.AddrText.{first_of}
-use Rattle.rpki_ipblock.specs.BlockText.{IsIpBlockText}
-use Rattle.rpki_ipblock.specs.declared.block.IpBlock.{IpBlock}
-use Rattle.rpki_ipblock.proofs.WholeReadings.{whole_text, whole_family_prefix}
+use Rattle.rpki_ip_block.specs.BlockText.{IsIpBlockText}
+use Rattle.rpki_ip_block.specs.declared.block.IpBlock.{IpBlock}
+use Rattle.rpki_ip_block.proofs.WholeReadings.{whole_text, whole_family_prefix}
 use Rattle.rpki_ipres.proofs.SetTextLemmas.{blocks_of_family}
 use Rattle.rpki_ipres.proofs.WholeReadings.{whole_cover}
 use Rattle.rpki_ipres.proofs.WholeSets.{whole_difference, whole_intersection, whole_union}

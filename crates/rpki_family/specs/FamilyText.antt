@@ -3,10 +3,10 @@ use Rattle.std.specs.Prelude.{◌≡◌, ℕ, List, Some, Result, MatchResult}
 use Rattle.rpki_text.specs.Reading.{Answers}
 use Rattle.rpki_ip.specs.declared.error.FromStrError.{FromStrError}
 use Rattle.rpki_base.specs.declared.family.AddressFamily.{AddressFamily}
-use Rattle.rpki_ipblock.specs.Blocks.{ip_bounds}
-use Rattle.rpki_ipblock.specs.BlockText.{IsIpBlockText, HasIpBlockFault}
-use Rattle.rpki_ipblock.specs.PrintedBlocks.{IsBlockOf, ip_block_text}
-use Rattle.rpki_ipblock.specs.declared.block.IpBlock.{IpBlock}
+use Rattle.rpki_ip_block.specs.Blocks.{ip_bounds}
+use Rattle.rpki_ip_block.specs.BlockText.{IsIpBlockText, HasIpBlockFault}
+use Rattle.rpki_ip_block.specs.PrintedBlocks.{IsBlockOf, ip_block_text}
+use Rattle.rpki_ip_block.specs.declared.block.IpBlock.{IpBlock}
 
 -- The text is read as the block of the family that it writes, or as the fault that it has. What is printed of a block of
 -- the family is read as a block with its bounds.

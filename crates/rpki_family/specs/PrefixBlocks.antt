@@ -3,8 +3,8 @@ use Rattle.std.specs.Prelude.{◌≡◌, ◌≢◌, Option, MatchOption}
 use Rattle.rpki_addr.specs.AddrText.{first_of}
 use Rattle.rpki_base.specs.Families.{family_of}
 use Rattle.rpki_base.specs.declared.family.AddressFamily.{AddressFamily}
-use Rattle.rpki_ipblock.specs.declared.block.IpBlock.{IpBlock}
-use Rattle.rpki_ipblock.specs.declared.block.IpBlock.TheVariants.{Prefix}
+use Rattle.rpki_ip_block.specs.declared.block.IpBlock.{IpBlock}
+use Rattle.rpki_ip_block.specs.declared.block.IpBlock.TheVariants.{Prefix}
 use Rattle.rpki_prefix.specs.Values.{FamilyPrefix}
 
 -- the block of the prefix's addresses, where the prefix is one of the family, and else none

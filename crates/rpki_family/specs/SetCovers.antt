@@ -4,8 +4,8 @@ use Rattle.std.specs.List.{flat_map}
 use Rattle.rpki_addr.specs.Prefixes.{PrefixValue}
 use Rattle.rpki_chain.specs.Runs.{Runs, Holds}
 use Rattle.rpki_cover.specs.Walk.{cover_list}
-use Rattle.rpki_ipblock.specs.Blocks.{ip_bounds}
-use Rattle.rpki_ipblock.specs.declared.block.IpBlock.{IpBlock}
+use Rattle.rpki_ip_block.specs.Blocks.{ip_bounds}
+use Rattle.rpki_ip_block.specs.declared.block.IpBlock.{IpBlock}
 
 -- the cover lists, at width w, of runs, one after the other
 abbrev pub runs_cover : ℕ → Runs → List PrefixValue

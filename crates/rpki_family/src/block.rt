@@ -1,9 +1,9 @@
 //! Blocks of addresses of one family.
 ghost use Rattle.std.specs.Prelude.{◌≡◌, ◌↔◌, IsTrue, Some};
-ghost use Rattle.rpki_blocks.specs.Equality.{have_same_bounds, blocks_per, blocks_equiv};
-ghost use Rattle.rpki_ipblock.specs.Blocks.{ip_bounds};
-ghost use Rattle.rpki_ipblock.specs.PrintedBlocks.{ip_block_text};
-ghost use Rattle.rpki_ipblock.specs.declared.block.IpBlock.TheVariants.{Prefix};
+ghost use Rattle.rpki_chains.specs.Equality.{have_same_bounds, blocks_per, blocks_equiv};
+ghost use Rattle.rpki_ip_block.specs.Blocks.{ip_bounds};
+ghost use Rattle.rpki_ip_block.specs.PrintedBlocks.{ip_block_text};
+ghost use Rattle.rpki_ip_block.specs.declared.block.IpBlock.TheVariants.{Prefix};
 ghost use Rattle.rpki_family.specs.Families.{HasBoundsIn};
 ghost use Rattle.rpki_family.specs.FamilyText.{ReadsFamilyBlock};
 ghost use Rattle.rpki_family.specs.PrefixBlocks.{IsPrefixBlock};
@@ -29,8 +29,8 @@ pub struct FamilyBlock<F: Family> {
 }
 
 impl<F: Family> Model for FamilyBlock<F> {
-    ghost use Rattle.rpki_ipblock.specs.Blocks.{ip_bounds};
-    ghost use Rattle.rpki_ipblock.specs.declared.block.IpBlock.{IpBlock};
+    ghost use Rattle.rpki_ip_block.specs.Blocks.{ip_bounds};
+    ghost use Rattle.rpki_ip_block.specs.declared.block.IpBlock.{IpBlock};
     ghost use Rattle.rpki_family.specs.Families.{HasBoundsIn};
 
     ghost Value = { IpBlock };

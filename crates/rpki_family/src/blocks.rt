@@ -2,13 +2,13 @@
 ghost use Rattle.std.specs.Prelude.{◌≡◌, ℕ, ◌↔◌, [], ◌∷◌, IsTrue, IfOk, Some, map, MatchResult};
 ghost use Rattle.rpki_text.specs.Memory.{IsMemory};
 ghost use Rattle.rpki_text.specs.Reading.{AnswersOrMemory};
-ghost use Rattle.rpki_blocks.specs.Equality.{same_runs, runs_per, runs_equiv};
+ghost use Rattle.rpki_chains.specs.Equality.{same_runs, runs_per, runs_equiv};
 ghost use Rattle.rpki_chain.specs.Claims.{claim_of};
 ghost use Rattle.rpki_chain.specs.Operations.{IsDifference, IsIntersection, IsUnion};
 ghost use Rattle.rpki_chain.specs.Runs.{Runs, Holds, IsRunsOfBlocks};
-ghost use Rattle.rpki_blocks.specs.Sets.{IsWithin};
-ghost use Rattle.rpki_ipblock.specs.Blocks.{ip_bounds, new_ip_block};
-ghost use Rattle.rpki_ipblock.specs.ListText.{HasBlocks, HasBlocksFault};
+ghost use Rattle.rpki_chains.specs.Sets.{IsWithin};
+ghost use Rattle.rpki_ip_block.specs.Blocks.{ip_bounds, new_ip_block};
+ghost use Rattle.rpki_ip_block.specs.ListText.{HasBlocks, HasBlocksFault};
 ghost use Rattle.rpki_ipres.specs.Resources.{IsFamilyClaim};
 ghost use Rattle.rpki_ipres.specs.SetText.{IsFamilySet, IsSetOf, set_text};
 ghost use Rattle.rpki_family.specs.Families.{IsWholeIn};

@@ -2,8 +2,8 @@
 ghost use Rattle.std.specs.Prelude.{◌≡◌, ℕ, All, map};
 ghost use Rattle.std.specs.Iterator.{YieldsFirst, item_count};
 ghost use Rattle.std.specs.Slice.Iter.{iter_rest};
-ghost use Rattle.rpki_ipblock.specs.Blocks.{ip_bounds};
-ghost use Rattle.rpki_ipblock.specs.declared.block.IpBlock.{IpBlock};
+ghost use Rattle.rpki_ip_block.specs.Blocks.{ip_bounds};
+ghost use Rattle.rpki_ip_block.specs.declared.block.IpBlock.{IpBlock};
 
 use rpki_ipres::block::IpBlock;
 use std::fmt;
@@ -34,7 +34,7 @@ pub struct BlockIter<'a, B: BlockOfSet> {
 impl<'a, B: BlockOfSet> Model for BlockIter<'a, B> {
     ghost use Rattle.std.specs.Prelude.{List, All, map};
     ghost use Rattle.std.specs.Slice.Iter.{iter_rest};
-    ghost use Rattle.rpki_ipblock.specs.Blocks.{ip_bounds};
+    ghost use Rattle.rpki_ip_block.specs.Blocks.{ip_bounds};
 
     ghost Value = { List B };
 

@@ -3,8 +3,8 @@ ghost use Rattle.std.specs.Prelude.{◌≡◌, ◌+◌, ◌-◌, ◌*◌, ◌^�
 ghost use Rattle.rpki_base.specs.declared.family.AddressFamily.TheVariants.{Ipv4};
 ghost use Rattle.rpki_chain.specs.Runs.{Holds};
 ghost use Rattle.rpki_ip.specs.Whole.{IsWhole, HasWholeBounds};
-ghost use Rattle.rpki_ipblock.specs.Blocks.{ip_bounds};
-ghost use Rattle.rpki_ipblock.specs.PrintedBlocks.{IsBlockOf};
+ghost use Rattle.rpki_ip_block.specs.Blocks.{ip_bounds};
+ghost use Rattle.rpki_ip_block.specs.PrintedBlocks.{IsBlockOf};
 
 use crate::block::FamilyBlock;
 use crate::blocks::FamilyBlocks;

@@ -1,8 +1,8 @@
 //! Blocks and sets of IPv6 addresses.
 ghost use Rattle.std.specs.Prelude.{◌≡◌};
 ghost use Rattle.rpki_base.specs.declared.family.AddressFamily.TheVariants.{Ipv6};
-ghost use Rattle.rpki_ipblock.specs.Blocks.{ip_bounds};
-ghost use Rattle.rpki_ipblock.specs.PrintedBlocks.{IsBlockOf};
+ghost use Rattle.rpki_ip_block.specs.Blocks.{ip_bounds};
+ghost use Rattle.rpki_ip_block.specs.PrintedBlocks.{IsBlockOf};
 
 use crate::block::FamilyBlock;
 use crate::blocks::FamilyBlocks;

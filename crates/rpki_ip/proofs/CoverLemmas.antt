@@ -3,7 +3,7 @@ use Rattle.std.proofs.Common.{◌≡◌, ℕ, ◌*◌, ◌%◌, ◌^◌, List, r
 use Rattle.rpki_addr.proofs.PrefixNumbers.{cleared_first}
 use Rattle.rpki_addr.specs.Bits.{cleared}
 use Rattle.rpki_addr.specs.Prefixes.{PrefixValue, IsPrefix}
-use Rattle.rpki_blocks.specs.Sets.{IsWithin}
+use Rattle.rpki_chains.specs.Sets.{IsWithin}
 use Rattle.rpki_cover.proofs.Nesting.{InRange}
 use Rattle.rpki_cover.proofs.Widening.{widened_prefix}
 use Rattle.rpki_cover.specs.Covers.{IsShortestCover, widened}

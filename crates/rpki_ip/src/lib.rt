@@ -1,6 +1,6 @@
 //! Prefixes and ranges of addresses of both families, which are numbers (RFC 3779, section 2), and the texts of these.
 //!
-//! A range is read, and becomes the fewest prefixes, as in the program `rows`:
+//! A range is read, and becomes the fewest prefixes, as in the program `rows_values`:
 //!
 //! ```rust
 //! match AddressRange::from_v6_str(text) {

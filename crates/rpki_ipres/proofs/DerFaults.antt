@@ -9,9 +9,9 @@ use Rattle.rpki_claims.specs.FamilyFaults.{BeginsWithRepeat}
 use Rattle.rpki_claims.proofs.FamilyFaults.{family_twice, no_family}
 use Rattle.rpki_base.specs.Families.{bits_of}
 use Rattle.rpki_base.specs.declared.family.AddressFamily.{AddressFamily}
-use Rattle.rpki_ipblock.specs.BlockReading.{ip_block_at}
-use Rattle.rpki_ipblock.specs.declared.block.IpBlock.{IpBlock}
-use Rattle.rpki_ipblock.proofs.DerFaults.{block_names}
+use Rattle.rpki_ip_block.specs.BlockReading.{ip_block_at}
+use Rattle.rpki_ip_block.specs.declared.block.IpBlock.{IpBlock}
+use Rattle.rpki_ip_block.proofs.DerFaults.{block_names}
 use Rattle.rpki_ipres.specs.ResourcesDer.{ip_families_at, ip_resources_at}
 
 blocks_names : (limit : ℕ) (content : List ℕ) → NamesTo {X = List IpBlock} 10 (values_of (ip_block_at limit) content)

@@ -31,8 +31,8 @@ use Rattle.rpki_base.proofs.FamilyLemmas.{family_written}
 use Rattle.rpki_text.specs.declared.memory.OrMemory.{OrMemory}
 use Rattle.rpki_text.specs.declared.memory.OrMemory.TheVariants.{Refused, Memory}
 use Rattle.rpki_text.specs.Memory.{IsMemory}
-use Rattle.rpki_ipblock.specs.BlockDer.{IsIpBlockDer}
-use Rattle.rpki_ipblock.specs.declared.block.IpBlock.{IpBlock}
+use Rattle.rpki_ip_block.specs.BlockDer.{IsIpBlockDer}
+use Rattle.rpki_ip_block.specs.declared.block.IpBlock.{IpBlock}
 use Rattle.rpki_ipres.specs.Modes.{ip_families_by, ip_resources_by}
 use Rattle.rpki_ipres.specs.Resources.{ArePresentClaims, IsFamilyClaim, IsPresentFamilyClaim, IsWholeClaim, if_present}
 use Rattle.rpki_ipres.specs.ResourcesDer.{IsIpFamilies, SaysClaimOf, SaysClaims, ip_families_at, ip_families_der, ip_resources_at, ip_resources_der}

@@ -14,11 +14,11 @@ use Rattle.rpki_base.specs.Families.{bits_of}
 use Rattle.rpki_base.specs.FamilyDer.{IsFamilyDer, family_at, family_der}
 use Rattle.rpki_base.specs.declared.family.AddressFamily.{AddressFamily}
 use Rattle.rpki_base.proofs.FamilyLemmas.{family_reading, family_written}
-use Rattle.rpki_ipblock.specs.BlockDer.{IsIpBlockDer}
-use Rattle.rpki_ipblock.specs.BlockReading.{ip_blocks_at}
-use Rattle.rpki_ipblock.specs.BlockReadingLaws.{blocks_reading}
-use Rattle.rpki_ipblock.specs.Blocks.{ip_bounds, new_ip_block}
-use Rattle.rpki_ipblock.specs.declared.block.IpBlock.{IpBlock}
+use Rattle.rpki_ip_block.specs.BlockDer.{IsIpBlockDer}
+use Rattle.rpki_ip_block.specs.BlockReading.{ip_blocks_at}
+use Rattle.rpki_ip_block.specs.BlockReadingLaws.{blocks_reading}
+use Rattle.rpki_ip_block.specs.Blocks.{ip_bounds, new_ip_block}
+use Rattle.rpki_ip_block.specs.declared.block.IpBlock.{IpBlock}
 use Rattle.rpki_ipres.specs.SetDer.{IsIpBlockSequence, IsIpFamily, ip_family_der, ip_run_der, ip_set_der}
 use Rattle.rpki_ipres.specs.SetText.{IsFamilySet}
 use Rattle.rpki_ipres.proofs.SetTextLemmas.{is_ip_set}

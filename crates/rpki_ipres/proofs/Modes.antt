@@ -8,8 +8,8 @@ use Rattle.rpki_base.specs.DerViews.{NotCanonicalOrMemory, ReadsOrMemory, TakesS
 use Rattle.rpki_base.specs.DerWriting.{octets_of_all}
 use Rattle.rpki_base.proofs.DerCursors.{reads_said_by}
 use Rattle.rpki_base.proofs.DerModes.{exact_said_by, refused_said_by, sequence_modal, takes_said_by, values_stateless}
-use Rattle.rpki_blocks.specs.Beyond.{IsBeyond, is_beyond}
-use Rattle.rpki_blocks.specs.Sets.{IsChain}
+use Rattle.rpki_chains.specs.Beyond.{IsBeyond, is_beyond}
+use Rattle.rpki_chains.specs.Sets.{IsChain}
 use Rattle.rpki_chain.specs.Runs.{Runs, Holds, IsRunsOfBlocks}
 use Rattle.rpki_chain.specs.ChoiceDer.{IsChoiceOf}
 use Rattle.rpki_chain.specs.Choices.{MatchChoice}
@@ -35,17 +35,17 @@ use Rattle.rpki_ip.proofs.WholeLemmas.{whole_set}
 use Rattle.rpki_text.specs.declared.memory.OrMemory.{OrMemory}
 use Rattle.rpki_text.specs.declared.memory.OrMemory.TheVariants.{Refused, Memory}
 use Rattle.rpki_text.specs.Memory.{IsMemory}
-use Rattle.rpki_ipblock.specs.BlockDer.{IsBlockWithin, IsIpBlockDer, IsSetIpBlock, ip_block_der}
-use Rattle.rpki_ipblock.specs.BlockForms.{new_ip_block_bounds}
-use Rattle.rpki_blocks.proofs.Beyond.{beyond_is, is_beyond_of}
-use Rattle.rpki_ipblock.specs.BlockModes.{ip_block_modal}
-use Rattle.rpki_ipblock.specs.BlockReading.{ip_block_at, ip_block_by, ip_blocks_at, next_ip_block_by}
-use Rattle.rpki_ipblock.specs.BlockReadingLaws.{blocks_reading, ip_block_has_octets, ip_block_reading}
-use Rattle.rpki_ipblock.specs.Blocks.{ip_bounds, new_ip_block}
-use Rattle.rpki_ipblock.specs.declared.block.IpBlock.{IpBlock}
-use Rattle.rpki_ipblock.specs.declared.block.IpBlock.TheVariants.{Prefix, Range}
-use Rattle.rpki_ipblock.proofs.BlockModes.{set_block_reading}
-use Rattle.rpki_ipblock.proofs.FormLemmas.{new_block_fits}
+use Rattle.rpki_ip_block.specs.BlockDer.{IsBlockWithin, IsIpBlockDer, IsSetIpBlock, ip_block_der}
+use Rattle.rpki_ip_block.specs.BlockForms.{new_ip_block_bounds}
+use Rattle.rpki_chains.proofs.Beyond.{beyond_is, is_beyond_of}
+use Rattle.rpki_ip_block.specs.BlockModes.{ip_block_modal}
+use Rattle.rpki_ip_block.specs.BlockReading.{ip_block_at, ip_block_by, ip_blocks_at, next_ip_block_by}
+use Rattle.rpki_ip_block.specs.BlockReadingLaws.{blocks_reading, ip_block_has_octets, ip_block_reading}
+use Rattle.rpki_ip_block.specs.Blocks.{ip_bounds, new_ip_block}
+use Rattle.rpki_ip_block.specs.declared.block.IpBlock.{IpBlock}
+use Rattle.rpki_ip_block.specs.declared.block.IpBlock.TheVariants.{Prefix, Range}
+use Rattle.rpki_ip_block.proofs.BlockModes.{set_block_reading}
+use Rattle.rpki_ip_block.proofs.FormLemmas.{new_block_fits}
 use Rattle.rpki_ipres.specs.Modes.{greatest_of_ip_block, ip_blocks_by, ip_resources_by}
 use Rattle.rpki_ipres.specs.Resources.{IsFamilyClaim, IsPresentFamilyClaim, IsWholeClaim}
 use Rattle.rpki_ipres.specs.ResourcesDer.{IsIpResources, SaysClaimOf, ip_resources_at, ip_resources_der}

@@ -5,17 +5,17 @@ use Rattle.std.proofs.lemmas.List.Elements.{All-map}
 use Rattle.rpki_text.specs.Reading.{AnswersOrMemory}
 use Rattle.rpki_text.specs.declared.memory.OrMemory.{OrMemory}
 use Rattle.rpki_chain.specs.Runs.{Runs, IsRunsOfBlocks}
-use Rattle.rpki_blocks.specs.Sets.{Covers}
+use Rattle.rpki_chains.specs.Sets.{Covers}
 use Rattle.rpki_chain.proofs.RunLists.{IsRunsOf-unique, IsRunsOfBlocks-bounds}
 use Rattle.rpki_chain.proofs.SetLemmas.{bounds_made}
 use Rattle.rpki_ip.specs.Whole.{HasWholeBounds}
 use Rattle.rpki_base.specs.declared.family.AddressFamily.{AddressFamily}
 use Rattle.rpki_base.specs.declared.family.AddressFamily.TheVariants.{Ipv4, Ipv6}
-use Rattle.rpki_ipblock.specs.BlockForms.{new_ip_block_bounds}
-use Rattle.rpki_ipblock.specs.Blocks.{ip_bounds, new_ip_block}
-use Rattle.rpki_ipblock.specs.PrintedBlocks.{IsBlockOf}
-use Rattle.rpki_ipblock.specs.declared.block.IpBlock.{IpBlock}
-use Rattle.rpki_ipblock.proofs.FormLemmas.{new_block_fits}
+use Rattle.rpki_ip_block.specs.BlockForms.{new_ip_block_bounds}
+use Rattle.rpki_ip_block.specs.Blocks.{ip_bounds, new_ip_block}
+use Rattle.rpki_ip_block.specs.PrintedBlocks.{IsBlockOf}
+use Rattle.rpki_ip_block.specs.declared.block.IpBlock.{IpBlock}
+use Rattle.rpki_ip_block.proofs.FormLemmas.{new_block_fits}
 use Rattle.rpki_ipres.specs.SetText.{IsSetOf, IsIpSet, IsFamilySet}
 use Rattle.rpki_ipres.proofs.WholeLemmas.{whole_runs}
 

@@ -6,7 +6,7 @@ use Rattle.std.proofs.lemmas.List.Elements.{recursion_from_All}
 use Rattle.std.proofs.lemmas.List.Folds.{flat_map-map}
 use Rattle.std.proofs.lemmas.Nat.{pow_pos}
 use Rattle.rpki_chain.specs.Runs.{Runs, Holds, IsRunsOfBlocks}
-use Rattle.rpki_blocks.specs.Sets.{Covers}
+use Rattle.rpki_chains.specs.Sets.{Covers}
 use Rattle.rpki_chain.proofs.RunLists.{IsRunsOf-unique, same_numbers}
 use Rattle.rpki_chain.proofs.SetLemmas.{made_of_set}
 use Rattle.rpki_der.specs.Der.{header, sequence_value}
@@ -20,16 +20,16 @@ use Rattle.rpki_base.specs.FamilyDer.{family_der}
 use Rattle.rpki_ip.specs.RangeDer.{IsRangeWithin}
 use Rattle.rpki_ip.specs.Whole.{HasWholeBounds}
 use Rattle.rpki_ip.proofs.DerWritten.{few_bits}
-use Rattle.rpki_ipblock.specs.BlockDer.{IsBlockWithin, IsIpBlockDer, ip_block_der}
-use Rattle.rpki_ipblock.specs.PrintedBlocks.{IsBlock}
-use Rattle.rpki_ipblock.specs.BlockForms.{new_ip_block_bounds}
-use Rattle.rpki_ipblock.specs.BlockReading.{ip_block_at}
-use Rattle.rpki_ipblock.specs.Blocks.{ip_bounds, new_ip_block}
-use Rattle.rpki_ipblock.specs.declared.block.IpBlock.{IpBlock}
-use Rattle.rpki_ipblock.specs.declared.block.IpBlock.TheVariants.{Prefix, Range}
-use Rattle.rpki_ipblock.specs.BlockReadingLaws.{ip_block_has_octets, ip_block_reading}
-use Rattle.rpki_ipblock.proofs.BlockWritten.{block_written}
-use Rattle.rpki_ipblock.proofs.FormLemmas.{new_block_fits}
+use Rattle.rpki_ip_block.specs.BlockDer.{IsBlockWithin, IsIpBlockDer, ip_block_der}
+use Rattle.rpki_ip_block.specs.PrintedBlocks.{IsBlock}
+use Rattle.rpki_ip_block.specs.BlockForms.{new_ip_block_bounds}
+use Rattle.rpki_ip_block.specs.BlockReading.{ip_block_at}
+use Rattle.rpki_ip_block.specs.Blocks.{ip_bounds, new_ip_block}
+use Rattle.rpki_ip_block.specs.declared.block.IpBlock.{IpBlock}
+use Rattle.rpki_ip_block.specs.declared.block.IpBlock.TheVariants.{Prefix, Range}
+use Rattle.rpki_ip_block.specs.BlockReadingLaws.{ip_block_has_octets, ip_block_reading}
+use Rattle.rpki_ip_block.proofs.BlockWritten.{block_written}
+use Rattle.rpki_ip_block.proofs.FormLemmas.{new_block_fits}
 use Rattle.rpki_ipres.specs.SetDer.{ip_family_der, ip_run_der, ip_set_der}
 use Rattle.rpki_ipres.specs.SetText.{IsFamilySet, IsIpSet}
 use Rattle.rpki_ipres.proofs.SetTextLemmas.{blocks_bounds}

@@ -6,12 +6,12 @@ use Rattle.std.proofs.lemmas.Bool.{cases_order}
 use Rattle.std.proofs.lemmas.List.{get_or-map, length-map}
 use Rattle.std.proofs.lemmas.List.Elements.{All-map}
 use Rattle.rpki_chain.specs.Runs.{Runs, Holds, IsRunsOf}
-use Rattle.rpki_blocks.specs.Sets.{IsRun, IsChainOf}
-use Rattle.rpki_blocks.proofs.Chains.{IsChainOf-from}
+use Rattle.rpki_chains.specs.Sets.{IsRun, IsChainOf}
+use Rattle.rpki_chains.proofs.Chains.{IsChainOf-from}
 use Rattle.rpki_ip.specs.Whole.{IsWhole, HasWholeBounds}
 use Rattle.rpki_ip.proofs.WholeLemmas.{whole_set}
-use Rattle.rpki_ipblock.specs.Blocks.{ip_bounds}
-use Rattle.rpki_ipblock.specs.declared.block.IpBlock.{IpBlock}
+use Rattle.rpki_ip_block.specs.Blocks.{ip_bounds}
+use Rattle.rpki_ip_block.specs.declared.block.IpBlock.{IpBlock}
 
 -- a run of a whole set has whole bounds
 whole_run : (S : ℕ → Type 0) (b : ℕ × ℕ) → IsRun S b → IsWhole S → HasWholeBounds b

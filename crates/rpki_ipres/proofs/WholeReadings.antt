@@ -16,9 +16,9 @@ use Rattle.rpki_ip.specs.Whole.{IsWhole, HasWholeBounds}
 use Rattle.rpki_base.specs.declared.family.AddressFamily.{AddressFamily}
 use Rattle.rpki_base.specs.declared.family.AddressFamily.TheVariants.{Ipv4, Ipv6}
 use Rattle.rpki_ip.proofs.WholeLemmas.{whole_set}
-use Rattle.rpki_ipblock.specs.Blocks.{ip_bounds}
-use Rattle.rpki_ipblock.specs.declared.block.IpBlock.{IpBlock}
-use Rattle.rpki_ipblock.proofs.WholeReadings.{whole_each}
+use Rattle.rpki_ip_block.specs.Blocks.{ip_bounds}
+use Rattle.rpki_ip_block.specs.declared.block.IpBlock.{IpBlock}
+use Rattle.rpki_ip_block.proofs.WholeReadings.{whole_each}
 use Rattle.rpki_ipres.specs.SetDer.{IsIpBlockSequence}
 use Rattle.rpki_ipres.specs.Resources.{IsWholeClaim}
 use Rattle.rpki_ipres.specs.ResourcesDer.{IsIpFamilies, IsIpResources}

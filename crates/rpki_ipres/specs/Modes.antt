@@ -8,9 +8,9 @@ use Rattle.rpki_claims.specs.Families.{ByFamily}
 use Rattle.rpki_claims.specs.FamiliesReading.{families_by}
 use Rattle.rpki_der.specs.declared.error.DerError.{DerError}
 use Rattle.rpki_base.specs.Families.{bits_of}
-use Rattle.rpki_ipblock.specs.BlockReading.{next_ip_block_by}
-use Rattle.rpki_ipblock.specs.Blocks.{ip_bounds}
-use Rattle.rpki_ipblock.specs.declared.block.IpBlock.{IpBlock}
+use Rattle.rpki_ip_block.specs.BlockReading.{next_ip_block_by}
+use Rattle.rpki_ip_block.specs.Blocks.{ip_bounds}
+use Rattle.rpki_ip_block.specs.declared.block.IpBlock.{IpBlock}
 
 abbrev pub greatest_of_ip_block : Option ℕ → IpBlock → Option ℕ
 greatest_of_ip_block before block = Some (ip_bounds block).1

@@ -12,10 +12,10 @@ use Rattle.rpki_claims.specs.FamiliesReading.{families_at}
 use Rattle.rpki_der.specs.declared.error.DerError.{DerError}
 use Rattle.rpki_base.specs.Families.{bits_of}
 use Rattle.rpki_base.specs.declared.family.AddressFamily.{AddressFamily}
-use Rattle.rpki_ipblock.specs.BlockDer.{IsIpBlockDer}
-use Rattle.rpki_ipblock.specs.BlockReading.{ip_block_at}
-use Rattle.rpki_ipblock.specs.Blocks.{ip_bounds}
-use Rattle.rpki_ipblock.specs.declared.block.IpBlock.{IpBlock}
+use Rattle.rpki_ip_block.specs.BlockDer.{IsIpBlockDer}
+use Rattle.rpki_ip_block.specs.BlockReading.{ip_block_at}
+use Rattle.rpki_ip_block.specs.Blocks.{ip_bounds}
+use Rattle.rpki_ip_block.specs.declared.block.IpBlock.{IpBlock}
 use Rattle.rpki_ipres.specs.SetDer.{ip_run_der, ip_set_der}
 use Rattle.rpki_ipres.specs.Resources.{if_present}
 

@@ -8,11 +8,11 @@ use Rattle.rpki_base.proofs.DerReadings.{values_check}
 use Rattle.rpki_base.specs.DerReading.{IsSequenceFrom, IsSequenceOf, values_from, values_of}
 use Rattle.rpki_chain.specs.ChoiceDer.{IsChoiceOf, choice_at}
 use Rattle.rpki_chain.proofs.ChoiceReadings.{choice_modal, choice_reading}
-use Rattle.rpki_ipblock.specs.BlockDer.{IsIpBlockDer}
-use Rattle.rpki_ipblock.specs.BlockModes.{IsNextIpBlock, next_ip_block_modal}
-use Rattle.rpki_ipblock.specs.BlockReading.{ip_block_at, next_ip_block_by}
-use Rattle.rpki_ipblock.specs.BlockReadingLaws.{ip_block_has_octets, ip_block_reading}
-use Rattle.rpki_ipblock.specs.declared.block.IpBlock.{IpBlock}
+use Rattle.rpki_ip_block.specs.BlockDer.{IsIpBlockDer}
+use Rattle.rpki_ip_block.specs.BlockModes.{IsNextIpBlock, next_ip_block_modal}
+use Rattle.rpki_ip_block.specs.BlockReading.{ip_block_at, next_ip_block_by}
+use Rattle.rpki_ip_block.specs.BlockReadingLaws.{ip_block_has_octets, ip_block_reading}
+use Rattle.rpki_ip_block.specs.declared.block.IpBlock.{IpBlock}
 use Rattle.rpki_ipres.specs.Modes.{greatest_of_ip_block, ip_resources_by}
 use Rattle.rpki_ipres.specs.ResourcesDer.{ip_resources_at}
 

@@ -7,8 +7,8 @@ use Rattle.rpki_der.specs.Der.{Both, IsSequence, Refines, sequence_value}
 use Rattle.rpki_base.specs.declared.family.AddressFamily.{AddressFamily}
 use Rattle.rpki_base.specs.Families.{bits_of}
 use Rattle.rpki_base.specs.FamilyDer.{IsFamilyDer, family_der}
-use Rattle.rpki_ipblock.specs.BlockDer.{IsIpBlockDer, ip_block_der}
-use Rattle.rpki_ipblock.specs.Blocks.{ip_bounds, new_ip_block}
+use Rattle.rpki_ip_block.specs.BlockDer.{IsIpBlockDer, ip_block_der}
+use Rattle.rpki_ip_block.specs.Blocks.{ip_bounds, new_ip_block}
 
 -- a SEQUENCE of blocks, in any order, overlapping or not, and nothing else; it stands for the set of their addresses
 -- (2.2.3.6)

@@ -5,9 +5,9 @@ use Rattle.rpki_chain.specs.Runs.{Runs, Holds, IsSetOfBlocks}
 use Rattle.rpki_ip.specs.Whole.{IsWhole}
 use Rattle.rpki_base.specs.declared.family.AddressFamily.{AddressFamily}
 use Rattle.rpki_base.specs.declared.family.AddressFamily.TheVariants.{Ipv4, Ipv6}
-use Rattle.rpki_ipblock.specs.Blocks.{ip_bounds, new_ip_block}
-use Rattle.rpki_ipblock.specs.PrintedBlocks.{block_list_text}
-use Rattle.rpki_ipblock.specs.declared.block.IpBlock.{IpBlock}
+use Rattle.rpki_ip_block.specs.Blocks.{ip_bounds, new_ip_block}
+use Rattle.rpki_ip_block.specs.PrintedBlocks.{block_list_text}
+use Rattle.rpki_ip_block.specs.declared.block.IpBlock.{IpBlock}
 
 -- the set is that of the addresses in some block of a list that Has holds of
 abbrev pub IsSetOf : (List IpBlock → Type 0) → Runs → Type 0

@@ -1,13 +1,13 @@
 //! Sets of addresses, built block by block.
 ghost use Rattle.std.specs.Prelude.{◌≡◌, ◌++◌, [], ◌∷◌, IfOk, OnOk, OnErr, map};
 ghost use Rattle.rpki_chain.specs.Runs.{Holds, IsRunsOf};
-ghost use Rattle.rpki_ipblock.specs.Blocks.{ip_bounds};
+ghost use Rattle.rpki_ip_block.specs.Blocks.{ip_bounds};
 
 use crate::blocks::IpBlocks;
 use crate::resources::IpResources;
 use rpki_chain::builder::BlockSetBuilder;
 use rpki_chain::resources::{CollectBlocks, ResourcesBuilder};
-use rpki_ipblock::block::IpBlock;
+use rpki_ip_block::block::IpBlock;
 use std::alloc::{AllocError, Allocator, Global};
 use std::fmt;
 use std::marker::Model;

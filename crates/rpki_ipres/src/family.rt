@@ -5,7 +5,7 @@ ghost use Rattle.rpki_ipres.specs.SetText.{set_text};
 
 use crate::blocks::IpBlocks;
 use rpki_ip::family::AddressFamily;
-use rpki_ipblock::list::fmt_blocks;
+use rpki_ip_block::list::fmt_blocks;
 use std::alloc::{Allocator, Global};
 use std::fmt;
 use std::marker::Model;

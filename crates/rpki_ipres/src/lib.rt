@@ -1,6 +1,6 @@
 //! Sets of IP addresses and resources (RFC 3779, 2), with their texts and their DER.
 //!
-//! Resources of both families are written, as in the program `holdings`:
+//! Resources of both families are written, as in the program `example_holdings`:
 //!
 //! ```rust
 //! let mut octets = Vec::new(alloc);
@@ -28,4 +28,4 @@ pub use text::{DisplayV4Block, DisplayV6Block};
 pub use verify::IpStep;
 
 /// Blocks of addresses, which stand in a crate of their own below this one.
-pub use rpki_ipblock::{block, list, text};
+pub use rpki_ip_block::{block, list, text};

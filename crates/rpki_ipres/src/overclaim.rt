@@ -1,6 +1,6 @@
 //! Faults of claims of addresses, with what is claimed too much.
 ghost use Rattle.std.specs.Prelude.{◌≡◌, ◌↔◌, IsTrue, IfOk, Some};
-ghost use Rattle.rpki_blocks.specs.Equality.{same_runs, runs_per, runs_equiv};
+ghost use Rattle.rpki_chains.specs.Equality.{same_runs, runs_per, runs_equiv};
 ghost use Rattle.rpki_chain.specs.Runs.{Holds};
 ghost use Rattle.rpki_ip.specs.Whole.{IsWhole};
 ghost use Rattle.rpki_base.specs.declared.family.AddressFamily.TheVariants.{Ipv4, Ipv6};
@@ -8,7 +8,7 @@ ghost use Rattle.rpki_ipres.specs.SetText.{overclaimed_ip_text};
 
 use crate::blocks::IpBlocks;
 use rpki_chain::set::BlockSet;
-use rpki_ipblock::block::IpBlock;
+use rpki_ip_block::block::IpBlock;
 use std::alloc::{AllocError, Allocator, Global};
 use std::error::Error;
 use std::fmt;

@@ -3,12 +3,12 @@ ghost use Rattle.std.specs.Prelude.{◌≡◌, ◌≢◌, ◌↔◌, [], IsTrue,
 ghost use Rattle.rpki_text.specs.Memory.{IsMemory};
 ghost use Rattle.rpki_chain.specs.Choices.{IsRefused, MatchChoice};
 ghost use Rattle.rpki_base.specs.DerWriting.{octets_of_all, sequence_octets};
-ghost use Rattle.rpki_blocks.specs.Equality.{same_runs, runs_per, runs_equiv};
+ghost use Rattle.rpki_chains.specs.Equality.{same_runs, runs_per, runs_equiv};
 ghost use Rattle.rpki_chain.specs.ChoiceDer.{choice_octets};
 ghost use Rattle.rpki_chain.specs.ChoiceEquality.{choice_eq, choice_per, choice_equiv};
 ghost use Rattle.rpki_chain.specs.Claims.{ListsSome, claim_of};
 ghost use Rattle.rpki_chain.specs.declared.choice.ResourcesChoice.TheVariants.{Missing, Inherit};
-ghost use Rattle.rpki_ipblock.specs.BlockDer.{ip_block_der};
+ghost use Rattle.rpki_ip_block.specs.BlockDer.{ip_block_der};
 ghost use Rattle.rpki_ipres.specs.Resources.{IsIpClaim};
 ghost use Rattle.rpki_ipres.specs.ResourcesDer.{ip_content_der, ip_resources_der};
 
@@ -17,7 +17,7 @@ use rpki_base::memory::OrMemory;
 use rpki_chain::choice::{InheritedResources, Listed, ResourcesChoice};
 use rpki_chain::path::Claims;
 use rpki_chain::set::BlockSet;
-use rpki_ipblock::block::IpBlock;
+use rpki_ip_block::block::IpBlock;
 use std::alloc::{AllocError, Allocator, Global};
 use std::error::Error;
 use std::fmt;

@@ -1,6 +1,6 @@
 //! Prefixes of IPv4 and IPv6 addresses, with a greatest length or without, as routing and route origins have them.
 //!
-//! The prefixes that cover a route are found in a table, as in `callers::cache::covering`:
+//! The prefixes that cover a route are found in a table, as in `example_calls::cache::covering`:
 //!
 //! ```rust
 //! for prefix in table {

@@ -2,8 +2,8 @@
 use Rattle.std.proofs.Common.{◌≡◌, ℕ, ◌≤◌, ◌↔◌, [], ◌∷◌, refl, inl, inr, ⊎_elim, subst}
 use Rattle.std.proofs.Math.Nat.{le_refl}
 use Rattle.std.proofs.lemmas.List.Elements.{All-head}
-use Rattle.rpki_blocks.proofs.Unique.{Covers-head}
-use Rattle.rpki_blocks.proofs.Chains.{Covers-nil}
+use Rattle.rpki_chains.proofs.Unique.{Covers-head}
+use Rattle.rpki_chains.proofs.Chains.{Covers-nil}
 use Rattle.rpki_chain.specs.Operations.{IsUnion, IsDifference}
 use Rattle.rpki_chain.specs.Runs.{Runs, Holds, IsRunsOf}
 use Rattle.rpki_chain.proofs.RunLists.{Holds-decided, IsRunsOf-same, IsRunsOf-unique}

@@ -1,7 +1,7 @@
 -- What claims list.
 use Rattle.std.proofs.Common.{◌≡◌, false, true, [], Result, Ok, Err, sym, ap, ◌∙◌, subst}
 use Rattle.std.specs.Prelude.{MatchResult}
-use Rattle.rpki_blocks.proofs.Chains.{Covers-nil}
+use Rattle.rpki_chains.proofs.Chains.{Covers-nil}
 use Rattle.rpki_text.specs.Memory.{IsMemory}
 use Rattle.rpki_text.specs.declared.memory.OrMemory.{OrMemory}
 use Rattle.rpki_chain.specs.Choices.{IsRefused, MatchChoice}

@@ -6,7 +6,7 @@ use Rattle.rpki_text.specs.Reading.{AnswersOrMemory}
 use Rattle.rpki_text.specs.declared.memory.OrMemory.{OrMemory}
 use Rattle.rpki_text.specs.declared.memory.OrMemory.TheVariants.{Refused, Memory}
 use Rattle.rpki_as.specs.ListText.{IsAsListText, HasAsListFault}
-use Rattle.rpki_asblock.specs.declared.error.FromStrError as as_fault
+use Rattle.rpki_as_block.specs.declared.error.FromStrError as as_fault
 use Rattle.rpki_ip.specs.declared.error.FromStrError as ip_fault
 use Rattle.rpki_chain.specs.Runs.{Runs}
 use Rattle.rpki_resources.specs.Triples.{Triple}

@@ -2,7 +2,7 @@
 use Rattle.std.specs.Prelude.{ℕ, List, ◌++◌, codes}
 use Rattle.rpki_text.specs.declared.memory.OrMemory.{OrMemory}
 use Rattle.rpki_text.specs.declared.memory.OrMemory.TheVariants.{Refused, Memory}
-use Rattle.rpki_asblock.specs.Faults.{as_from_str_error_text}
+use Rattle.rpki_as_block.specs.Faults.{as_from_str_error_text}
 use Rattle.rpki_as.specs.ListText.{IsAsListText, HasAsListFault}
 use Rattle.rpki_chain.specs.Runs.{Runs}
 use Rattle.rpki_ip.specs.Faults.{ip_from_str_error_text}

@@ -1,7 +1,7 @@
 -- Sets of the three kinds of resources (RFC 3779, 2 and 3), and what differs between two of them.
 use Rattle.std.specs.Prelude.{◌≡◌, ℕ, ◌↔◌, ◌⊎◌, [], ◌∷◌, Bool, true, false, ◌&&◌}
 use Rattle.std.specs.Cmp.{IsEquivalence, IsPartialEquivalence, on_equiv, and_equiv, partial_equiv_from_equiv}
-use Rattle.rpki_blocks.specs.Equality.{same_runs, runs_equiv}
+use Rattle.rpki_chains.specs.Equality.{same_runs, runs_equiv}
 use Rattle.rpki_chain.specs.Claims.{Claim}
 use Rattle.rpki_chain.specs.Operations.{IsUnion, IsIntersection, IsDifference}
 use Rattle.rpki_chain.specs.Runs.{Runs, Holds}

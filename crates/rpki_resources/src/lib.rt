@@ -3,7 +3,7 @@
 //! [`resources::addr`], [`resources::asn`] and [`repository::resources`] name every type where a user of the Rust crate
 //! `rpki` looks for it.
 //!
-//! A set is read from three lists, as in the program `callers_run`:
+//! A set is read from three lists, as in the program `rows_calls`:
 //!
 //! ```rust
 //! let (asn, addresses) = cut(lists, ';');

@@ -1,6 +1,6 @@
 //! Sets of AS numbers, of IPv4 addresses and of IPv6 addresses.
 ghost use Rattle.std.specs.Prelude.{◌≡◌, ◌≢◌, ℕ, ◌↔◌, [], IsTrue, IfOk, Ok, Err, MatchOption, MatchResult};
-ghost use Rattle.rpki_blocks.specs.Sets.{IsWithin};
+ghost use Rattle.rpki_chains.specs.Sets.{IsWithin};
 ghost use Rattle.rpki_chain.specs.Runs.{Holds};
 ghost use Rattle.rpki_as.specs.Blocks.{IsAsSet};
 ghost use Rattle.rpki_ip.specs.Ranges.{range_bounds};

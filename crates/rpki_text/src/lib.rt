@@ -1,6 +1,6 @@
 //! Texts: what a reader answers, number texts, lists of texts, and the answer of a call that may want memory.
 //!
-//! A refusal and want of memory are told apart, as in `callers::errors::fault_of`:
+//! A refusal and want of memory are told apart, as in `example_calls::errors::fault_of`:
 //!
 //! ```rust
 //! match AsBlocks::from_str(alloc, list) {

@@ -1,6 +1,6 @@
 //! Sets of AS numbers in DER: a SEQUENCE of blocks (RFC 3779, 3.2.3.4).
 use crate::blocks::AsBlocks;
-use rpki_asblock::der::AsBlockReader;
+use rpki_as_block::der::AsBlockReader;
 use rpki_base::der::{encode_all, take_sequence_of};
 use rpki_base::memory::OrMemory;
 use rpki_der::{Cursor, DerError};
@@ -17,7 +17,7 @@ impl<A: Allocator> AsBlocks<A> {
     ghost use Rattle.rpki_as.specs.AsDer.{IsAsBlockSequence, as_sequence_octets, as_set_octets};
     ghost use Rattle.rpki_as.specs.AsDerReading.{as_blocks_at, as_blocks_by};
     ghost use Rattle.rpki_as.specs.Blocks.{IsAsSet};
-    ghost use Rattle.rpki_asblock.specs.Blocks.{as_bounds};
+    ghost use Rattle.rpki_as_block.specs.Blocks.{as_bounds};
 
     /// Takes a SEQUENCE of blocks, which may be none, and answers the set of their numbers. The blocks may come in any
     /// order and may overlap.

@@ -8,7 +8,7 @@ ghost use Rattle.rpki_der.specs.declared.error.DerError.TheVariants.{EmptyBlocks
 ghost use Rattle.rpki_base.specs.DerFaults.{BeginsEmpty, BeginsWithValue};
 ghost use Rattle.rpki_as.specs.AsDer.{IsAsBlockSequence, IsAsResources, as_resources_octets, as_sequence_octets, as_set_octets};
 ghost use Rattle.rpki_as.specs.AsDerReading.{as_choice_at};
-ghost use Rattle.rpki_asblock.specs.AsDer.{IsAsBlock, IsBlockInAnyOrder};
+ghost use Rattle.rpki_as_block.specs.AsDer.{IsAsBlock, IsBlockInAnyOrder};
 ghost use Rattle.rpki_as.specs.Blocks.{IsAsSet};
 
 /// Octets begin with at most one block, with at most one value that is passed over as a block, and with at most one

@@ -5,7 +5,7 @@ ghost use Rattle.std.specs.Prelude.{◌≡◌, IfOk};
 ghost use Rattle.rpki_der.specs.Views.{Takes, is_strict, left};
 
 use crate::resources::AsResources;
-use rpki_asblock::der::AsBlockReader;
+use rpki_as_block::der::AsBlockReader;
 use rpki_base::memory::OrMemory;
 use rpki_chain::der::{append_choice, choice_len, content_len, make_sets, take_listed};
 use rpki_der::{Cursor, DerError, append_header, header_len, tag};
@@ -25,7 +25,7 @@ impl<A: Allocator> AsResources<A> {
     ghost use Rattle.rpki_as.specs.AsDer.{IsAsResources, IsPresentAsClaim, as_resources_octets};
     ghost use Rattle.rpki_as.specs.AsDerReading.{as_choice_at, as_choice_by};
     ghost use Rattle.rpki_as.specs.Blocks.{IsAsSet};
-    ghost use Rattle.rpki_asblock.specs.Blocks.{as_bounds};
+    ghost use Rattle.rpki_as_block.specs.Blocks.{as_bounds};
 
     /// Takes AS resources, which are inherited or listed. The blocks may come in any order and may overlap.
     ///

@@ -5,7 +5,7 @@ ghost use Rattle.rpki_base.specs.DerWriting.{octets_of_all, sequence_octets};
 ghost use Rattle.rpki_chain.specs.ChoiceDer.{choice_octets};
 ghost use Rattle.rpki_der.specs.Der.{sequence_value};
 ghost use Rattle.rpki_base.specs.FamilyDer.{family_der};
-ghost use Rattle.rpki_ipblock.specs.BlockDer.{ip_block_der};
+ghost use Rattle.rpki_ip_block.specs.BlockDer.{ip_block_der};
 
 use crate::blocks::IpBlocks;
 use rpki_base::der::{encode_sequence, take_sequence_of};
@@ -14,8 +14,8 @@ use rpki_chain::choice::ResourcesChoice;
 use rpki_chain::der::{append_choice, choice_len, content_len};
 use rpki_der::{Cursor, DerError, append_header, header_len, tag};
 use rpki_ip::family::AddressFamily;
-use rpki_ipblock::block::IpBlock;
-use rpki_ipblock::der::IpBlockReader;
+use rpki_ip_block::block::IpBlock;
+use rpki_ip_block::der::IpBlockReader;
 use std::alloc::{AllocError, Allocator};
 
 impl<A: Allocator> IpBlocks<A> {
@@ -29,8 +29,8 @@ impl<A: Allocator> IpBlocks<A> {
     ghost use Rattle.rpki_base.specs.Families.{bits_of};
     ghost use Rattle.rpki_ip.specs.Whole.{IsWhole};
     ghost use Rattle.rpki_base.specs.declared.family.AddressFamily.TheVariants.{Ipv4};
-    ghost use Rattle.rpki_ipblock.specs.BlockReading.{ip_blocks_at};
-    ghost use Rattle.rpki_ipblock.specs.Blocks.{ip_bounds};
+    ghost use Rattle.rpki_ip_block.specs.BlockReading.{ip_blocks_at};
+    ghost use Rattle.rpki_ip_block.specs.Blocks.{ip_bounds};
     ghost use Rattle.rpki_ipres.specs.Modes.{ip_blocks_by};
     ghost use Rattle.rpki_ipres.specs.SetDer.{IsIpBlockSequence, ip_family_der, ip_set_der};
     ghost use Rattle.rpki_ipres.specs.SetText.{IsFamilySet, IsIpSet};

@@ -15,7 +15,7 @@ ghost use Rattle.rpki_ipres.specs.ResourcesDer.{IsIpFamilies, IsIpResources, ip_
 ghost use Rattle.rpki_ipres.specs.SetText.{IsFamilySet, IsIpSet};
 
 /// The law of single blocks, which stands in the crate of blocks.
-pub use rpki_ipblock::der::laws::one_block;
+pub use rpki_ip_block::der::laws::one_block;
 
 /// Octets begin with at most one SEQUENCE of blocks, which stands for one set, and with at most one SEQUENCE of a family
 /// and of the SEQUENCE of its blocks, which stands for one family and one set. They begin with the resources of at most

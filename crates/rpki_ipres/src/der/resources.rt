@@ -6,7 +6,7 @@ use rpki_chain::der::{content_len, encode_choice, make_sets, take_listed};
 use rpki_claims::{ReadClaim, take_families};
 use rpki_der::{Cursor, DerError, append_header, header_len, tag};
 use rpki_ip::family::AddressFamily;
-use rpki_ipblock::der::IpBlockReader;
+use rpki_ip_block::der::IpBlockReader;
 use std::alloc::{AllocError, Allocator};
 
 impl<A: Allocator> IpResources<A> {
@@ -276,10 +276,10 @@ impl<A: Allocator + Copy> ReadClaim for IpResourcesReader<A> {
     ghost use Rattle.rpki_chain.specs.ChoiceDer.{IsChoiceOf};
     ghost use Rattle.rpki_chain.specs.declared.choice.ResourcesChoice.{ResourcesChoice};
     ghost use Rattle.rpki_base.specs.Families.{bits_of};
-    ghost use Rattle.rpki_ipblock.specs.BlockDer.{IsIpBlockDer};
-    ghost use Rattle.rpki_ipblock.specs.declared.block.IpBlock.{IpBlock};
+    ghost use Rattle.rpki_ip_block.specs.BlockDer.{IsIpBlockDer};
+    ghost use Rattle.rpki_ip_block.specs.declared.block.IpBlock.{IpBlock};
     ghost use Rattle.rpki_ipres.specs.ResourcesDer.{SaysClaimOf, ip_resources_at};
-    ghost use Rattle.rpki_ipblock.specs.BlockModes.{IsNextIpBlock};
+    ghost use Rattle.rpki_ip_block.specs.BlockModes.{IsNextIpBlock};
     ghost use Rattle.rpki_ipres.specs.Modes.{greatest_of_ip_block, ip_resources_by};
     ghost use Rattle.rpki_ipres.specs.ResourcesReadingLaws.{resources_modal, resources_reading};
 

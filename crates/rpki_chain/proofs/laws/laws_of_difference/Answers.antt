@@ -1,6 +1,6 @@
 use Rattle.std.proofs.Common.{⊎_elim, inl, inr, subst}
 use Rattle.rpki_chain.specs.Runs.{Runs, Holds}
-use Rattle.rpki_blocks.proofs.Chains.{Covers-nil}
+use Rattle.rpki_chains.proofs.Chains.{Covers-nil}
 use Rattle.rpki_chain.proofs.RunLists.{Holds-decided}
 use Rattle.rpki_chain.proofs.LawLemmas.{one_set, empty_set}
 use Rattle.rpki_chain.proofs.laws.laws_of_difference.Goals as goal

@@ -1,7 +1,7 @@
 -- What a take at the front of the octets tells of all of them.
 use Rattle.rpki_as.specs.AsDer.{IsAsResources, IsPresentAsClaim, as_resources_octets}
 use Rattle.rpki_as.specs.AsDerReading.{as_choice_by}
-use Rattle.rpki_asblock.specs.Blocks.{as_bounds}
+use Rattle.rpki_as_block.specs.Blocks.{as_bounds}
 use Rattle.rpki_chain.specs.Choices.{ListsBy}
 use Rattle.rpki_chain.specs.Runs.{IsRunsOfBlocks}
 use Rattle.rpki_extensions.proofs.EndLemmas.{passed_on}

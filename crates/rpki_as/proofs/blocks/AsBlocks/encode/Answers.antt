@@ -5,8 +5,8 @@ use Rattle.std.specs.List.{flat_map}
 use Rattle.std.proofs.lemmas.List.Folds.{flat_map-map}
 use Rattle.std.specs.Vec.{vec_capacity}
 use Rattle.rpki_as.specs.AsDer.{as_set_octets}
-use Rattle.rpki_asblock.specs.AsDer.{as_block_octets}
-use Rattle.rpki_asblock.specs.Blocks.{new_as_block}
+use Rattle.rpki_as_block.specs.AsDer.{as_block_octets}
+use Rattle.rpki_as_block.specs.Blocks.{new_as_block}
 use Rattle.rpki_as.proofs.blocks.AsBlocks.encode.Goals as goal
 
 pub returns-clause-ok : goal.returns-clause-ok

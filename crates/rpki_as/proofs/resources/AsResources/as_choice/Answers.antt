@@ -4,7 +4,7 @@ use Rattle.rpki_der.specs.Der.{sequence_value}
 use Rattle.rpki_base.specs.DerWriting.{sequence_octets}
 use Rattle.rpki_chain.specs.ChoiceDer.{choice_octets}
 use Rattle.rpki_as.specs.AsDer.{as_sequence_octets}
-use Rattle.rpki_asblock.specs.AsDer.{as_block_octets}
+use Rattle.rpki_as_block.specs.AsDer.{as_block_octets}
 use Rattle.rpki_as.proofs.AsDerLemmas.{blocks_octets}
 use Rattle.rpki_as.proofs.resources.AsResources.as_choice.Goals as goal
 

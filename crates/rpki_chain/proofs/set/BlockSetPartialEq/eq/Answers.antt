@@ -1,6 +1,6 @@
 use Rattle.std.proofs.Common.{◌≡◌, sym, subst}
 use Rattle.rpki_chain.specs.BlockSets.{IsBlockSet}
-use Rattle.rpki_blocks.specs.Equality.{same_runs}
+use Rattle.rpki_chains.specs.Equality.{same_runs}
 use Rattle.rpki_chain.specs.Runs.{Runs, Holds}
 use Rattle.rpki_chain.proofs.RunLists.{same_numbers}
 use Rattle.rpki_chain.proofs.SetLemmas.{same_runs_decides, IsBlockSet-from_chain}

@@ -1,5 +1,5 @@
 use Rattle.std.proofs.Common.{◌≡◌, ◌/◌, ◌^◌, ap, ◌∙◌, refl, arith}
-use Rattle.rpki_blocks.specs.Sets.{IsWithin}
+use Rattle.rpki_chains.specs.Sets.{IsWithin}
 use Rattle.rpki_cover.proofs.Shortest.{cover_prefixes}
 use Rattle.rpki_cover.proofs.Widening.{whole_cover}
 use Rattle.rpki_cover.specs.Covers.{IsShortestCover}

@@ -4,7 +4,7 @@ use Rattle.std.specs.Prelude.{OnOk, IsOk}
 use Rattle.std.specs.Vec.{vec_capacity}
 use Rattle.rpki_der.specs.Der.{sequence_value}
 use Rattle.rpki_base.specs.DerWriting.{sequence_octets}
-use Rattle.rpki_ipblock.specs.BlockDer.{ip_block_der}
+use Rattle.rpki_ip_block.specs.BlockDer.{ip_block_der}
 use Rattle.rpki_ipres.specs.SetDer.{ip_set_der}
 use Rattle.rpki_ipres.proofs.SetWritten.{written_as_runs}
 use Rattle.rpki_ipres.proofs.blocks.IpBlocks.encode.Goals as goal

@@ -2,12 +2,12 @@
 use Rattle.std.proofs.Common.{◌≡◌, ◌+◌, ◌≤◌, ◌++◌, ℕ, List, length, map, ap, sym, subst, ◌∙◌, vec_len, eqb}
 use Rattle.std.specs.Prelude.{OnOk, IsOk}
 use Rattle.std.specs.Vec.{vec_capacity}
-use Rattle.rpki_ipblock.specs.Blocks.{new_ip_block}
+use Rattle.rpki_ip_block.specs.Blocks.{new_ip_block}
 use Rattle.rpki_der.specs.Der.{sequence_value}
 use Rattle.rpki_base.specs.DerWriting.{sequence_octets}
 use Rattle.rpki_base.specs.FamilyDer.{family_der}
-use Rattle.rpki_ipblock.specs.BlockDer.{ip_block_der}
-use Rattle.rpki_ipblock.specs.declared.block.IpBlock.{IpBlock}
+use Rattle.rpki_ip_block.specs.BlockDer.{ip_block_der}
+use Rattle.rpki_ip_block.specs.declared.block.IpBlock.{IpBlock}
 use Rattle.rpki_ipres.proofs.SetWritten.{family_written}
 use Rattle.rpki_ipres.proofs.blocks.IpBlocks.encode_family.Goals as goal
 

@@ -2,7 +2,7 @@ use Rattle.std.proofs.Common.{◌≡◌, ◌∙◌, false, true, inl, inr, get_o
 use Rattle.std.proofs.lemmas.Bool.{cases_order}
 use Rattle.std.proofs.lemmas.List.{get_or_default}
 use Rattle.rpki_ip.specs.Whole.{HasWholeBounds}
-use Rattle.rpki_ipblock.specs.Blocks.{ip_bounds}
+use Rattle.rpki_ip_block.specs.Blocks.{ip_bounds}
 use Rattle.rpki_ipres.proofs.WholeLemmas.{whole_block, blocks_whole}
 use Rattle.rpki_ipres.proofs.blocks.IpBlocks.is_whole_v4.Goals as goal
 

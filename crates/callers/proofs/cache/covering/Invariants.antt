@@ -1,8 +1,0 @@
--- What was found so far are the prefixes, of those gone through, that cover the route.
-use Rattle.std.proofs.Common.{take}
-use Rattle.rpki_prefix.specs.Values.{CoversPrefix}
-use Rattle.roa_origin.specs.Coverings.{AreThose}
-use Rattle.callers.proofs.cache.covering.Given as goal
-
-abbrev pub invariant-loop-prefix : goal.invariant-loop-prefix
-invariant-loop-prefix g l = AreThose (λ p. CoversPrefix p l.route) (take l.prefix-index l.table) l.found.items

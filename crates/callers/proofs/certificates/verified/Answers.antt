@@ -1,9 +1,0 @@
-use Rattle.std.proofs.Common.{rules}
-use Rattle.callers.specs.Certificates.{IsLeftInEach}
-use Rattle.callers.proofs.CertificateLemmas.{inside}
-use Rattle.callers.proofs.certificates.verified.Goals as goal
-
-pub returns-in-Ok-verify_path-2-clause-inside : goal.returns-in-Ok-verify_path-2-clause-inside
-returns-in-Ok-verify_path-2-clause-inside g c =
-    let path : IsLeftInEach c.args.root.now c.args.asn.now c.args.ipv4.now c.args.ipv6.now c.new.result = search rules in
-    inside c.laws_of_paths.ensures.inside_root c.args.root.now c.args.asn.now c.args.ipv4.now c.args.ipv6.now c.new.result path

@@ -1,7 +1,0 @@
--- The routes gone through are counted.
-use Rattle.std.proofs.Common.{◌≤◌, take}
-use Rattle.callers.specs.Routes.{IsCountOfInvalid}
-use Rattle.callers.proofs.routes.count_invalid.Given as goal
-
-abbrev pub invariant-loop-route : goal.invariant-loop-route
-invariant-loop-route g l = (l.count ≤ l.route-index) × IsCountOfInvalid l.table (take l.route-index l.routes) l.count

@@ -1,6 +1,0 @@
--- The payloads that the iterator gave so far.
-use Rattle.std.proofs.Common.{◌≡◌}
-use Rattle.callers.proofs.routes.explanation.Given as goal
-
-abbrev pub invariant-loop-payload : goal.invariant-loop-payload
-invariant-loop-payload g l = l.found.items ≡ l.yielded

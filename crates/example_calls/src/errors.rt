@@ -1,0 +1,41 @@
+//! Refusals and want of memory: passed on, told apart, and brought about by an allocator that refuses.
+ghost use Rattle.std.specs.Prelude.{IsTrue, IfOk, MatchOption};
+ghost use Rattle.rpki_chain.specs.Runs.{Runs};
+ghost use Rattle.rpki_as.specs.ListText.{HasAsListFault, IsAsListText};
+
+use rpki_resources::OrMemory;
+use rpki_resources::repository::resources::AsBlocks;
+use rpki_resources::repository::resources::asres::FromStrError;
+use std::alloc::{AllocError, Allocator, Global};
+use test_support::{Plan, Refusing};
+
+/// The set that a list of AS blocks writes; the error is the list's fault, or want of memory.
+pub fn any_error(alloc: Global, list: &str) -> anyhow::Result<AsBlocks>
+    ensures { IfOk result (IsAsListText list.now) }
+{
+    let set = AsBlocks::from_str(alloc, list)?;
+    Ok(set)
+}
+
+/// The fault of a list of AS blocks, or None where it writes a set. `AllocError` where there is no memory to tell.
+pub fn fault_of<A: Allocator + Copy>(
+    alloc: A,
+    list: &str,
+) -> Result<Option<FromStrError>, AllocError>
+    ensures { IfOk result (λ fault.
+        MatchOption fault ((set : Runs) × IsAsListText list.now set) (HasAsListFault list.now)) }
+{
+    match AsBlocks::from_str(alloc, list) {
+        Ok(_) => Ok(None),
+        Err(OrMemory::Refused(fault)) => Ok(Some(fault)),
+        Err(OrMemory::Memory(error)) => Err(error),
+    }
+}
+
+/// Whether a list of AS blocks is read where each request for memory is refused.
+pub fn is_read_without_memory<A: Allocator>(alloc: A, list: &str) -> bool
+    ensures { IsTrue result → (set : Runs) × IsAsListText list.now set }
+{
+    let refusing = Refusing::new(alloc, Plan::RefuseAll);
+    AsBlocks::from_str(&refusing, list).is_ok()
+}

@@ -1,0 +1,85 @@
+//! Route origins: what validated payloads say of routes, which of them say it, and what an authorization lists that its
+//! certificate hasn't (RFC 6811; RFC 9582).
+ghost use Rattle.std.specs.Prelude.{All, IfOk, MatchOption, reverse};
+ghost use Rattle.std.specs.List.Sorted.{IsNonDecreasingBy};
+ghost use Rattle.roa_check.specs.Inside.{IsPrefixInside};
+ghost use Rattle.roa_origin.specs.Coverings.{AreThose};
+ghost use Rattle.roa_origin.specs.Payloads.{CoversRoute, prefix_len};
+ghost use Rattle.roa_origin.specs.Validities.{IsValidity};
+ghost use Rattle.example_calls.specs.Routes.{IsCountOfInvalid, IsFirstExcess};
+
+use roa_check::{Validity, origin, outside};
+use roa_origin::OriginTable;
+use rpki_resources::repository::resources::ResourceSet;
+use rpki_resources::resources::addr::{MaxLenPrefix, Prefix};
+use rpki_resources::resources::asn::Asn;
+use std::alloc::{AllocError, Allocator};
+
+/// The validity of the route to a prefix that an AS originates, by a list of payloads: without memory, for one route.
+pub fn by_list(route: Prefix, asn: Asn, payloads: &[(MaxLenPrefix, Asn)]) -> Validity
+    ensures { IsValidity route asn payloads.now result }
+{
+    origin(route, asn, payloads)
+}
+
+/// The same by a table of the list, which a router makes once and asks for many routes. `AllocError` where there is no
+/// memory for the table.
+pub fn by_table<A: Allocator + Copy>(
+    alloc: A,
+    route: Prefix,
+    asn: Asn,
+    payloads: &[(MaxLenPrefix, Asn)],
+) -> Result<Validity, AllocError>
+    ensures { IfOk result (IsValidity route asn payloads.now) }
+{
+    roa_origin::laws::laws_of_validities(); // so that the proof sees that the table's order doesn't matter
+    let table = OriginTable::new(alloc, payloads)?;
+    Ok(table.origin(route, asn))
+}
+
+/// How many of the routes are invalid by a table: some payload covers the route, and none matches it (RFC 6811, 2).
+pub fn count_invalid<A: Allocator>(table: &OriginTable<A>, routes: &[(Prefix, Asn)]) -> usize
+    ensures { IsCountOfInvalid table.now routes.now result }
+{
+    let mut count = 0;
+    for (route, asn) in routes {
+        if table.origin(*route, *asn) == Validity::Invalid {
+            count += 1;
+        }
+    }
+    count
+}
+
+/// The payloads of a table that cover the route to a prefix, which explain the validity of its origin: each as often as it
+/// was listed, those of longer prefixes first. `AllocError` where there is no memory for the list.
+pub fn explanation<A: Allocator>(
+    alloc: A,
+    table: &OriginTable<A>,
+    route: Prefix,
+) -> Result<Vec<(MaxLenPrefix, Asn), A>, AllocError>
+    ensures covering { IfOk result (λ found.
+        AreThose (CoversRoute route) table.now (reverse found.items)) }
+    ensures longest_first { IfOk result (λ found.
+        IsNonDecreasingBy prefix_len (reverse found.items)) }
+{
+    let mut found = Vec::new(alloc);
+    for payload in table.covering(route) {
+        found.push(payload)?;
+    }
+    Ok(found)
+}
+
+/// The first prefix of an authorization that isn't inside the resources of its certificate, or None where each one is: then
+/// the certificate has all that the authorization is about (RFC 9582, 5).
+pub fn excess<A: Allocator>(
+    resources: &ResourceSet<A>,
+    entries: &[MaxLenPrefix],
+) -> Option<MaxLenPrefix>
+    ensures { MatchOption result (All (λ entry. IsPrefixInside resources.now entry.prefix) entries.now)
+        (IsFirstExcess resources.now entries.now) }
+{
+    match outside(resources, entries) {
+        Some(at) => Some(entries[at]),
+        None => None,
+    }
+}

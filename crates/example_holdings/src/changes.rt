@@ -1,0 +1,47 @@
+//! What changes for a holder of resources.
+ghost use Rattle.std.specs.Prelude.{◌≡◌, ℕ, List, Some, IfOk};
+ghost use Rattle.std.specs.String.{string_bytes};
+ghost use Rattle.rpki_resources.specs.TripleText.{changes_text};
+ghost use Rattle.rpki_resources.specs.Triples.{AreChanges, Changes};
+ghost use Rattle.example_holdings.specs.Changes.{LeadsTo};
+
+use rpki_resources::laws::laws_of_changes;
+use rpki_resources::repository::resources::{ResourceDiff, ResourceSet};
+use std::alloc::{AllocError, Allocator};
+use std::fmt;
+
+/// What is printed of the changes that lead from what a holder had to what it gets. `AllocError` where there is no memory
+/// for it.
+pub fn printed<A: Allocator + Copy>(
+    alloc: A,
+    had: &ResourceSet<A>,
+    gets: &ResourceSet<A>,
+) -> Result<String<A>, AllocError>
+    ensures { IfOk result (λ text. (changes : Changes) × AreChanges gets.now had.now changes
+        × LeadsTo had.now changes gets.now × (string_bytes text ≡ changes_text changes)) }
+{
+    text(alloc, between(alloc, had, gets)?)
+}
+
+/// What is added to the one set and removed from it where a holder gets the other.
+fn between<A: Allocator + Copy>(
+    alloc: A,
+    had: &ResourceSet<A>,
+    gets: &ResourceSet<A>,
+) -> Result<ResourceDiff<A>, AllocError>
+    ensures changes { IfOk result (AreChanges gets.now had.now) }
+    ensures leads { IfOk result (λ changes. LeadsTo had.now changes gets.now) }
+{
+    // read so that the proof sees that each is a set of its kind
+    let (_asn, _ipv4, _ipv6) = (gets.asn(), gets.ipv4(), gets.ipv6());
+    laws_of_changes();
+    gets.difference(alloc, had)
+}
+
+/// What is printed of a value.
+fn text<T: fmt::Display + Drop, A: Allocator>(alloc: A, value: T) -> Result<String<A>, AllocError>
+    ensures { (written : List ℕ) → T.output value ≡ Some written
+        → IfOk result (λ text. string_bytes text ≡ written) }
+{
+    format!(in alloc; "{value}")
+}

@@ -1,0 +1,76 @@
+//! The program `example_holdings`: a certification authority compares what a resource holder had with what it gets.
+//!
+//! The first line of the standard input is what the holder had, the second what it gets: each a list of AS numbers, one
+//! of IPv4 addresses and one of IPv6 addresses, with semicolons between them. The program prints what changes, and the
+//! octets of AS numbers and of addresses for the new certificate, or `missing` where it has none. Any other input is
+//! refused, by what is wrong with it, with status 1.
+#![tactic(auto)]
+
+mod changes;
+mod input;
+mod octets;
+
+use input::{Input, Lists, read_input};
+use octets::Octets;
+use rpki_resources::OrMemory;
+use rpki_resources::repository::resources::ResourceSet;
+use rpki_resources::repository::resources::set::FromStrError;
+use std::alloc::{AllocError, Global};
+use std::io;
+
+fn main(rt: HostRuntime) -> anyhow::Result<()> {
+    let text = io::read_to_string(rt.alloc(), rt.stdin())?;
+    let input = read_input(rt.alloc(), &text)?;
+    compare(&rt, input)
+}
+
+/// Compares what two lines list; each of the calls from here on holds one set more, so that few owners are alive at once.
+fn compare(rt: &HostRuntime, input: Input<'_>) -> anyhow::Result<()> {
+    let had = set_of(rt.alloc(), input.had)?;
+    compare_with(rt, &had, input.gets)
+}
+
+/// Compares a set with what a line lists.
+fn compare_with(rt: &HostRuntime, had: &ResourceSet, gets: Lists<'_>) -> anyhow::Result<()> {
+    let gets = set_of(rt.alloc(), gets)?;
+    print(rt, had, &gets)
+}
+
+/// The set that three lists write.
+fn set_of(alloc: Global, lists: Lists<'_>) -> Result<ResourceSet, OrMemory<FromStrError>> {
+    ResourceSet::from_strs(alloc, lists.asn, lists.ipv4, lists.ipv6)
+}
+
+/// Prints what changes from the one set to the other, and the octets of the second.
+fn print(rt: &HostRuntime, had: &ResourceSet, gets: &ResourceSet) -> anyhow::Result<()> {
+    print_line(rt, "", changes::printed(rt.alloc(), had, gets))?;
+    print_line(
+        rt,
+        "asn: ",
+        hexadecimal(rt.alloc(), octets::of_asn(rt.alloc(), gets)),
+    )?;
+    print_line(
+        rt,
+        "addresses: ",
+        hexadecimal(rt.alloc(), octets::of_addresses(rt.alloc(), gets)),
+    )
+}
+
+/// Prints a text behind its name.
+fn print_line(
+    rt: &HostRuntime,
+    kind: &str,
+    text: Result<String, AllocError>,
+) -> anyhow::Result<()> {
+    let text = text?;
+    println!(rt; "{kind}{text}")?;
+    Ok(())
+}
+
+/// The octets in hexadecimal, or that there are none.
+fn hexadecimal(alloc: Global, octets: Octets<Global>) -> Result<String, AllocError> {
+    match octets? {
+        Some(octets) => hex::encode(alloc, octets.as_slice()),
+        None => String::from_str(alloc, "missing"),
+    }
+}

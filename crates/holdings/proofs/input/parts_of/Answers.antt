@@ -1,8 +1,0 @@
--- What is collected is what the iterator yields.
-use Rattle.std.proofs.Common.{lit<}
-use Rattle.std.proofs.lemmas.Iterator.Consumers.{map_from_collect}
-use Rattle.std.proofs.lemmas.Iterator.Splits.{YieldsList-from_str_split}
-use Rattle.holdings.proofs.input.parts_of.Goals as goal
-
-pub returns : goal.returns
-returns g c = map_from_collect c.collect.result c.collect.ensures.ran (YieldsList-from_str_split 59 c.args.line.now (lit< tt) c.split.ensures.text c.split.ensures.has_more c.split.ensures.pattern)

@@ -1,0 +1,62 @@
+-- What `cover` shows.
+use Rattle.std.proofs.Common.{◌≡◌, ◌≢◌, ℕ, List, Result, [], ◌∷◌, ◌++◌, Ok, Err, MatchResult, ap, ◌∙◌, sym, subst, inl, inr, append_assoc, length, map, decimal, arith}
+use Rattle.std.specs.Prelude.{IsErrAnd, codes}
+use Rattle.std.specs.Iterator.{Drains, YieldsFirst}
+use Rattle.std.specs.List.{flat_map}
+use Rattle.std.proofs.lemmas.List.{append-nil, length-append, map-append, flat_map_more}
+use Rattle.rpki_text.specs.Cuts.{slash}
+use Rattle.rpki_text.specs.Memory.{IsMemory, IfRefused}
+use Rattle.rpki_addr.specs.Prefixes.{PrefixValue}
+use Rattle.rpki_text.specs.declared.memory.OrMemory.{OrMemory}
+use Rattle.rpki_text.specs.declared.memory.OrMemory.TheVariants.{Refused, Memory}
+use Rattle.rpki_ip.specs.PrintedText.{addr_text}
+use Rattle.rpki_ip.specs.Faults.{ip_from_str_error_text}
+use Rattle.rpki_ip.specs.declared.error.FromStrError.{FromStrError}
+use Rattle.rpki_base.specs.declared.family.AddressFamily.{AddressFamily}
+use Rattle.rpki_ip_block.specs.ListText.{HasBlocksFault}
+use Rattle.respath_lines.specs.Cover.{IsCoverIp, IsCoverText, cover_text, prefix_with_length}
+use Rattle.respath_lines.specs.Shown.{ShowsResult}
+
+-- what is shown of the prefixes that cover a set, or of the fault of its list
+pub shows_cover : {S : Type 0} (bytes : S → List ℕ) (family : AddressFamily) (list : List ℕ) (found : Result S (OrMemory FromStrError))
+    → MatchResult found (λ text. IsCoverText family list (bytes text)) (IfRefused (HasBlocksFault family list))
+    → (text : List ℕ) → ShowsResult bytes ip_from_str_error_text found text → IsCoverIp family list text
+shows_cover bytes family list (Ok printed) is text shows = inl (is.0, is.1, shows ∙ is.2)
+shows_cover bytes family list (Err (Refused fault)) is text shows = inr (fault, is, shows)
+shows_cover bytes family list (Err (Memory error)) is text shows = absurd shows
+
+-- ---- prefixes that are printed one by one
+
+-- the text of a first prefix
+pub first_text : (family : AddressFamily) (ps : List PrefixValue) (p : PrefixValue) (text begun made : List ℕ) → text ≡ cover_text family ps → length text ≡ 0 → begun ≡ text → made ≡ begun ++ prefix_with_length family p → made ≡ cover_text family (ps ++ p ∷ [])
+first_text family [] p text begun made is empty same grown = grown ∙ ap (λ (t : List ℕ). t ++ prefix_with_length family p) (same ∙ is) ∙ sym (append-nil (prefix_with_length family p))
+first_text family (q ∷ ps) p text begun made is empty same grown =
+    let addr = addr_text family q.first in
+    let behind = slash ∷ decimal q.len in
+    absurd (omega (arith, empty, ap length is, length-append (addr ++ behind) (flat_map (λ next. codes ", " ++ next) (map (prefix_with_length family) ps)), length-append addr behind))
+
+-- and that of one more
+pub next_text : (family : AddressFamily) (ps : List PrefixValue) (p : PrefixValue) (text begun made : List ℕ) → text ≡ cover_text family ps → length text ≢ 0 → begun ≡ text ++ codes ", " → made ≡ begun ++ prefix_with_length family p → made ≡ cover_text family (ps ++ p ∷ [])
+next_text family [] p text begun made is some more grown = absurd (some (ap length is))
+next_text family (q ∷ ps) p text begun made is some more grown =
+    let shown = prefix_with_length family in
+    grown ∙ ap (λ (t : List ℕ). t ++ shown p) (more ∙ ap (λ (t : List ℕ). t ++ codes ", ") is)
+    ∙ append_assoc (cover_text family (q ∷ ps)) (codes ", ") (shown p)
+    ∙ flat_map_more (λ next. codes ", " ++ next) (shown q) (map shown ps) (shown p)
+    ∙ ap (λ texts. shown q ++ flat_map (λ next. codes ", " ++ next) texts) (sym (map-append shown ps (p ∷ [])))
+
+-- what an iterator gives to its end is its list
+pub drained : (all ps : List PrefixValue) → Drains (YieldsFirst (λ (left : List PrefixValue). left)) all ps → ps ≡ all
+drained all [] (left, (end, here, none)) = sym (here ∙ none.0)
+drained all (p ∷ ps) (left, (end, (next, first, more), none)) = ap (λ (xs : List PrefixValue). p ∷ xs) (drained next ps (left, (end, more, none))) ∙ sym first
+
+-- a refusal for want of memory says nothing of the list
+pub wants_memory : {T E : Type 0} (P : T → Type 0) (Q : E → Type 0) (r : Result T (OrMemory E)) → IsErrAnd r IsMemory → MatchResult r P (IfRefused Q)
+wants_memory P Q (Ok value) h = absurd h
+wants_memory P Q (Err (Refused fault)) h = absurd h
+wants_memory P Q (Err (Memory error)) h = tt
+
+-- and any other is handed on
+pub handed_on : {T E : Type 0} (P : T → Type 0) (Q : E → Type 0) (refusal : OrMemory E) (r : Result T (OrMemory E)) → IsErrAnd r (λ e. e ≡ refusal) → IfRefused Q refusal → MatchResult r P (IfRefused Q)
+handed_on P Q refusal (Ok value) is h = absurd is
+handed_on P Q refusal (Err error) is h = subst (IfRefused Q) (sym is) h

@@ -1,0 +1,176 @@
+-- The octets that a text of digits writes, and the text that writes octets.
+use Rattle.std.proofs.Common.{◌≡◌, ℕ, zero, suc, ◌+◌, ◌*◌, ◌/◌, ◌%◌, ◌<◌, ◌≤◌, ◌==◌, nat_le, nat_lt, Bool, true, ◌&&◌, ◌⊎◌, inl, inr, List, [], ◌∷◌, length, slice_index, Option, Some, None, Result, Ok, Err, refl, sym, ap, ◌∙◌, arith}
+use Rattle.std.proofs.lemmas.Bool.{and_parts, cases_eq, cases_lt, eqb-true, leb-true, ltb-true}
+use Rattle.std.specs.Char.{digit_value, digit_char}
+use Rattle.std.specs.Result.{result_unwrap_or}
+use Rattle.hex.specs.Hex.{IsBytes, decode_of, decode_pairs, hex_digit_value, encode_with, lower_digits}
+use Rattle.hex.specs.declared.error.FromHexError.{FromHexError}
+use Rattle.hex.proofs.HexLemmas.{decode_of-even, decode_of-odd}
+use Rattle.respath_lines.specs.Hexadecimal.{IsHexadecimal, lower_hexadecimal}
+
+-- whether a digit has this value, among those below 16
+abbrev has_value : ℕ → Option ℕ → Bool
+has_value value (Some v) = value == v && nat_lt v 16
+has_value value None = nat_le 16 value
+
+-- whether each of the first characters has the same value as a digit of sixteen and as one of all digits and letters
+abbrev agree : ℕ → Bool
+agree zero = true
+agree (suc c) = has_value (digit_value c) (hex_digit_value c) && agree c
+
+agree-at : (n c : ℕ) → agree n ≡ true → c < n → has_value (digit_value c) (hex_digit_value c) ≡ true
+agree-at zero c all less = absurd (omega arith)
+agree-at (suc n) c all less =
+    let parts = and_parts (has_value (digit_value n) (hex_digit_value n)) (agree n) all in
+    elim (cases_lt c n) [
+      | inl below ↦ agree-at n c parts.1 below
+      | inr top ↦
+          let e : c ≡ n = omega arith in
+          rw e parts.0
+    ]
+
+first_agree : agree 104 ≡ true
+first_agree = refl
+
+past_value : (c : ℕ) → 103 < c → 16 < digit_value c
+past_value c past = grind (arith)
+
+past_hex : (c : ℕ) → 103 < c → hex_digit_value c ≡ None
+past_hex c past = grind (arith)
+
+-- the value of a digit is the one that it has among all digits and letters
+some_digit : (c v : ℕ) → hex_digit_value c ≡ Some v → (digit_value c ≡ v) × (v < 16)
+some_digit c v is =
+    elim (cases_lt c 104) [
+      | inl small ↦
+          let both : has_value (digit_value c) (Some v) ≡ true = rw is at (agree-at 104 c first_agree small) in
+          let parts = and_parts (digit_value c == v) (nat_lt v 16) both in
+          (eqb-true (digit_value c) v parts.0, ltb-true v 16 parts.1)
+      | inr past ↦ cc (sym is ∙ past_hex c (omega arith))
+    ]
+
+no_digit : (c : ℕ) → hex_digit_value c ≡ None → 16 ≤ digit_value c
+no_digit c is =
+    elim (cases_lt c 104) [
+      | inl small ↦
+          let past : has_value (digit_value c) None ≡ true = rw is at (agree-at 104 c first_agree small) in
+          leb-true 16 (digit_value c) past
+      | inr past ↦
+          let more = past_value c (omega arith) in
+          omega (arith, more)
+    ]
+
+-- whether each of the first places of the table holds the digit of that place
+abbrev table_agrees : ℕ → Bool
+table_agrees zero = true
+table_agrees (suc d) = slice_index lower_digits d == digit_char d && table_agrees d
+
+table_at : (n d : ℕ) → table_agrees n ≡ true → d < n → slice_index lower_digits d ≡ digit_char d
+table_at zero d all less = absurd (omega arith)
+table_at (suc n) d all less =
+    let parts = and_parts (slice_index lower_digits n == digit_char n) (table_agrees n) all in
+    elim (cases_lt d n) [
+      | inl below ↦ table_at n d parts.1 below
+      | inr top ↦
+          let e : d ≡ n = omega arith in
+          rw e (eqb-true (slice_index lower_digits n) (digit_char n) parts.0)
+    ]
+
+option_cases : (o : Option ℕ) → (o ≡ None) ⊎ ((v : ℕ) × (o ≡ Some v))
+option_cases None = inl refl
+option_cases (Some v) = inr (v, refl)
+
+result_cases : (r : Result (List ℕ) FromHexError) → ((v : List ℕ) × (r ≡ Ok v)) ⊎ ((e : FromHexError) × (r ≡ Err e))
+result_cases (Ok v) = inl (v, refl)
+result_cases (Err e) = inr (e, refl)
+
+-- a digit whose value is below 16 is one of sixteen
+digit_of : (c : ℕ) → digit_value c < 16 → hex_digit_value c ≡ Some (digit_value c)
+digit_of c small =
+    elim (option_cases (hex_digit_value c)) [
+      | inl none ↦
+          let more = no_digit c none in
+          absurd (omega (arith, more, small))
+      | inr some ↦ some.1 ∙ ap Some (sym (some_digit c some.0 some.1).0)
+    ]
+
+-- what pairs of digits are read as is what they write
+pub pairs_write : (i : ℕ) (text octets : List ℕ) → decode_pairs i text ≡ Ok octets → IsHexadecimal text octets
+unfolding decode_pairs IsHexadecimal
+pairs_write i [] octets is = rw (← ap (λ (r : Result (List ℕ) FromHexError). result_unwrap_or r []) is) tt
+pairs_write i (high ∷ []) octets is = cc is
+pairs_write i (high ∷ low ∷ text) octets is =
+    elim (option_cases (hex_digit_value high)) [
+      | inl none ↦ cc (rw none at is)
+      | inr some ↦ elim (option_cases (hex_digit_value low)) [
+        | inl none ↦ cc (rw (some.1, none) at is)
+        | inr other ↦ elim (result_cases (decode_pairs (i + 2) text)) [
+          | inl read ↦
+              let all : Ok ((some.0 * 16 + other.0) ∷ read.0) ≡ Ok octets = rw (some.1, other.1, read.1) at is in
+              let e : (some.0 * 16 + other.0) ∷ read.0 ≡ octets = ap (λ (r : Result (List ℕ) FromHexError). result_unwrap_or r []) all in
+              let first = some_digit high some.0 some.1 in
+              let second = some_digit low other.0 other.1 in
+              rw (← e) (record { high_digit = rw first.0 first.1; low_digit = rw second.0 second.1; value = rw (first.0, second.0) refl }, pairs_write (i + 2) text read.0 read.1)
+          | inr fault ↦ cc (rw (some.1, other.1, fault.1) at is)
+        ]
+      ]
+    ]
+
+-- what writes octets is pairs of digits that are read
+pub pairs_of : (i : ℕ) (text octets : List ℕ) → IsHexadecimal text octets → decode_pairs i text ≡ Ok octets
+unfolding decode_pairs IsHexadecimal
+pairs_of i [] [] writes = refl
+pairs_of i [] (octet ∷ octets) writes = absurd writes
+pairs_of i (high ∷ []) octets writes = absurd writes
+pairs_of i (high ∷ low ∷ text) [] writes = absurd writes
+pairs_of i (high ∷ low ∷ text) (octet ∷ octets) writes =
+    let first = digit_of high writes.0.high_digit in
+    let second = digit_of low writes.0.low_digit in
+    let rest = pairs_of (i + 2) text octets writes.1 in
+    rw (first, second, rest, writes.0.value) refl
+
+-- ---- whole texts
+
+-- the digits of the lower-case table are those that std writes
+lower_digit : (d : ℕ) → d < 16 → slice_index lower_digits d ≡ digit_char d
+lower_digit d small = table_at 16 d refl small
+
+pub encode_lower_is : (octets : List ℕ) → IsBytes octets → encode_with lower_digits octets ≡ lower_hexadecimal octets
+unfolding encode_with lower_hexadecimal
+encode_lower_is [] bytes = refl
+encode_lower_is (octet ∷ octets) bytes =
+    let fits : octet < 256 = bytes 0 in
+    let high = lower_digit (octet / 16) (omega arith) in
+    let low = lower_digit (octet % 16) (omega arith) in
+    let rest = encode_lower_is octets (λ k. bytes (suc k)) in
+    rw (high, low, rest) refl
+
+-- a text of digits has an even number of them
+even_text : (text octets : List ℕ) → IsHexadecimal text octets → length text % 2 ≡ 0
+unfolding IsHexadecimal
+even_text [] [] writes = refl
+even_text [] (octet ∷ octets) writes = absurd writes
+even_text (high ∷ []) octets writes = absurd writes
+even_text (high ∷ low ∷ text) [] writes = absurd writes
+even_text (high ∷ low ∷ text) (octet ∷ octets) writes =
+    let rest = even_text text octets writes.1 in
+    omega (arith, rest)
+
+-- what is read writes the octets
+pub read_writes : (text octets : List ℕ) → decode_of text ≡ Ok octets → IsHexadecimal text octets
+read_writes text octets is =
+    elim (cases_eq (length text % 2) 1) [
+      | inl odd ↦ cc (sym is ∙ decode_of-odd text odd)
+      | inr even ↦ pairs_write 0 text octets (sym (decode_of-even text (omega (arith, even))) ∙ is)
+    ]
+
+-- what is refused writes none
+pub refused_writes_none : (text : List ℕ) (e : FromHexError) → decode_of text ≡ Err e → (octets : List ℕ) → ¬ IsHexadecimal text octets
+refused_writes_none text e is octets writes =
+    cc (sym is ∙ decode_of-even text (even_text text octets writes) ∙ pairs_of 0 text octets writes)
+
+-- a text writes one list of octets at most
+pub one_octets : (text a b : List ℕ) → IsHexadecimal text a → IsHexadecimal text b → a ≡ b
+one_octets text a b writes also =
+    let same : Ok a ≡ Ok b = sym (pairs_of 0 text a writes) ∙ pairs_of 0 text b also in
+    ap (λ (r : Result (List ℕ) FromHexError). result_unwrap_or r []) same

@@ -1,0 +1,100 @@
+-- The parts of a path, and what is read of them.
+use Rattle.std.proofs.Common.{◌≡◌, ℕ, ◌+◌, ◌<◌, inl, inr, List, [], ◌∷◌, ◌++◌, Result, Ok, Err, length, take, drop, get_or, eqb, sym, ap, subst, ◌∙◌, arith}
+use Rattle.std.specs.List.{All, position_or_len, before_first, after_first}
+use Rattle.std.proofs.lemmas.List.Elements.{All-nil, All-cons}
+use Rattle.std.proofs.lemmas.List.Splits.{slice_split_none, slice_split_first}
+use Rattle.std.proofs.lemmas.List.Sums.{fails_before_first}
+use Rattle.rpki_text.specs.Lists.{HaveValues, HasFirstFault}
+use Rattle.rpki_text.specs.Memory.{IfRefused}
+use Rattle.rpki_text.specs.declared.memory.OrMemory.{OrMemory}
+use Rattle.rpki_text.specs.declared.memory.OrMemory.TheVariants.{Refused, Memory}
+use Rattle.rpki_text.proofs.ListLemmas.{HaveValues-append, parts_at}
+use Rattle.rpki_text.specs.Reading.{AnswersOrMemory}
+use Rattle.rpki_chain.specs.Claims.{Claim, claim_of}
+use Rattle.rpki_chain.specs.Paths.{IsPathResult, IsFirstRefusal}
+use Rattle.rpki_chain.specs.Runs.{Runs, Holds}
+use Rattle.rpki_chain.specs.declared.path.PathRefusal.{PathRefusal}
+use Rattle.rpki_chain.specs.declared.path.Step.{Step}
+use Rattle.rpki_ip.specs.Whole.{IsWhole}
+use Rattle.rpki_base.specs.declared.family.AddressFamily.TheVariants.{Ipv4}
+use Rattle.rpki_ip_block.specs.ListText.{HasBlocks}
+use Rattle.rpki_ipres.specs.Resources.{IsWholeClaim}
+use Rattle.rpki_ipres.specs.SetText.{IsSetOf}
+use Rattle.rpki_ip_block.proofs.WholeReadings.{whole_list}
+use Rattle.rpki_ipres.proofs.WholeReadings.{whole_cover}
+use Rattle.respath_lines.specs.Path.{ArePath, HasRootFault, HasStepFault, HavePathFault, IsStepText, ShowsLeft, ShowsPath, list_of, parts_of}
+use Rattle.respath_lines.specs.declared.steps.PartFault.{PartFault}
+
+-- a text without a bar is one part
+pub one_part : (text : List ℕ) → position_or_len (λ b. eqb b 124) text ≡ length text → parts_of text ≡ text ∷ []
+one_part text none =
+    slice_split_none (λ b. eqb b 124) text (λ k d below. fails_before_first (λ b. eqb b 124) text k d (omega (arith, none)))
+
+-- and else its first part ends at the first bar
+pub first_part : (text list rest : List ℕ) → (list ≡ before_first (λ b. eqb b 124) text) × (rest ≡ after_first (λ b. eqb b 124) text) × (position_or_len (λ b. eqb b 124) text < length text) → parts_of text ≡ list ∷ parts_of rest
+first_part text list rest (front, back, some) = slice_split_first (λ b. eqb b 124) text 0 some ∙ (λ i. sym front i ∷ parts_of (sym back i))
+
+module _ {A : Type 0} (Has : List ℕ → A → Type 0) where
+  -- one more part that is read
+  pub more_values : (parts : List (List ℕ)) (part : List ℕ) (values : List A) (value : A) → HaveValues Has parts values → Has part value → HaveValues Has (parts ++ part ∷ []) (values ++ value ∷ [])
+  more_values parts part values value before here = HaveValues-append Has parts (part ∷ []) values (value ∷ []) before (here, tt)
+
+  -- a part is the first that is refused, where the parts before it are read
+  pub first_refused : {E : Type 0} (Fails : List ℕ → E → Type 0) (parts : List (List ℕ)) (at : ℕ) (part : List ℕ) (values : List A) (refusal : OrMemory E) → (at < length parts) × (part ≡ get_or parts at part) → HaveValues Has (take at parts) values → IfRefused (Fails part) refusal → IfRefused (HasFirstFault Has Fails parts) refusal
+  first_refused Fails parts at part values (Refused fault) here before fails = record {
+    front = take at parts;
+    bad = part;
+    rest = drop (at + 1) parts;
+    split = parts_at parts at part here.0 ∙ ap (λ p. take at parts ++ p ∷ drop (at + 1) parts) (sym here.1);
+    values = values;
+    before = before;
+    fault = fails;
+  }
+  first_refused Fails parts at part values (Memory error) here before fails = tt
+
+module _ {R E : Type 0} (claim : R → Claim) (Writes : List ℕ → Runs → Type 0) (Fails : List ℕ → E → Type 0) (parts : List (List ℕ)) (list : List ℕ) (others : List (List ℕ)) (are : parts ≡ list ∷ others) where
+  -- the first part of a path is refused
+  pub refused_root : (refusal : OrMemory (PartFault E)) → IfRefused (HasRootFault Fails list) refusal → IfRefused (HavePathFault Fails claim Writes parts) refusal
+  refused_root (Refused fault) fails = rw are (inl fails)
+  refused_root (Memory error) fails = tt
+
+  -- or a later one, where the first one is read
+  pub refused_step : (root : Runs) → Writes list root → (refusal : OrMemory (PartFault E)) → IfRefused (HasFirstFault (IsStepText claim Writes) (HasStepFault Fails) others) refusal → IfRefused (HavePathFault Fails claim Writes parts) refusal
+  refused_step root writes (Refused fault) fails = rw are (inr (root, writes, fails))
+  refused_step root writes (Memory error) fails = tt
+
+-- ---- what is told of what a path leaves
+
+-- is what it leaves of the root, or its first refusal
+pub shows_path : (list_text excess_text : Runs → List ℕ) (root : Runs) (steps : List (Step Claim)) (left : Result Runs (OrMemory (PathRefusal Runs))) → AnswersOrMemory (λ set. set) (IsPathResult (λ claim. claim) (Holds root) steps) (IsFirstRefusal (λ claim. claim) (Holds root) steps) left
+    → (text : List ℕ) → ShowsLeft list_text excess_text left text → ShowsPath list_text excess_text root steps text
+shows_path list_text excess_text root steps (Ok set) is text shows = inl (set, is.found, shows)
+shows_path list_text excess_text root steps (Err (Refused refusal)) is text shows = inr (refusal, is.found, shows)
+shows_path list_text excess_text root steps (Err (Memory error)) is text shows = absurd shows
+
+-- ---- addresses
+
+-- the set that a list of IPv4 blocks writes consists of whole addresses
+whole_listed : (list : List ℕ) (set : Runs) → IsSetOf (HasBlocks Ipv4 list) set → IsWhole (Holds set)
+whole_listed list set is = whole_cover is.blocks set (whole_list list is.blocks is.are_written) is.covered
+
+whole_claim_of : (set : Runs) → IsWhole (Holds set) → IsWholeClaim (claim_of set)
+whole_claim_of [] whole = tt
+whole_claim_of (run ∷ runs) whole = whole
+
+whole_step : (part : List ℕ) (step : Step Claim) → IsStepText (λ c. c) (λ list. IsSetOf (HasBlocks Ipv4 list)) part step → IsWholeClaim step.claim
+whole_step part step (inl inherits) = subst IsWholeClaim (sym inherits.1) tt
+whole_step part step (inr (inl misses)) = subst IsWholeClaim (sym misses.1) tt
+whole_step part step (inr (inr (mode, set, writes, same))) = subst IsWholeClaim (sym same) (whole_claim_of set (whole_listed (list_of part) set writes))
+
+whole_steps : (parts : List (List ℕ)) (steps : List (Step Claim)) → HaveValues (IsStepText (λ c. c) (λ list. IsSetOf (HasBlocks Ipv4 list))) parts steps → All (λ (s : Step Claim). IsWholeClaim s.claim) steps
+whole_steps [] [] have = All-nil (λ (s : Step Claim). IsWholeClaim s.claim)
+whole_steps [] (step ∷ steps) have = absurd have
+whole_steps (part ∷ parts) [] have = absurd have
+whole_steps (part ∷ parts) (step ∷ steps) have = All-cons (λ (s : Step Claim). IsWholeClaim s.claim) step steps (whole_step part step have.0) (whole_steps parts steps have.1)
+
+-- so a path of them does
+pub whole_path : (parts : List (List ℕ)) (root : Runs) (steps : List (Step Claim)) → ArePath (λ c. c) (λ list. IsSetOf (HasBlocks Ipv4 list)) parts root steps
+    → IsWhole (Holds root) × All (λ (s : Step Claim). IsWholeClaim s.claim) steps
+whole_path [] root steps are = absurd are
+whole_path (list ∷ parts) root steps are = (whole_listed list root are.0, whole_steps parts steps are.1)

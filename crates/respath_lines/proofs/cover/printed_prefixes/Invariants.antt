@@ -1,0 +1,10 @@
+use Rattle.std.proofs.Common.{◌≡◌}
+use Rattle.std.specs.String.{string_bytes}
+use Rattle.respath_lines.specs.Cover.{cover_text}
+use Rattle.respath_lines.proofs.cover.printed_prefixes.Given as goal
+
+-- the text is that of the prefixes so far
+abbrev pub invariant-loop-prefix : goal.invariant-loop-prefix
+invariant-loop-prefix g l = (goal.iterator-loop-prefix g).can_next l.prefix-iterator
+    × (goal.iterator-loop-prefix g).is_finite l.prefix-iterator
+    × (string_bytes l.text ≡ cover_text l.family l.yielded)

@@ -1,0 +1,13 @@
+use Rattle.std.proofs.Common.{refl}
+use Rattle.std.specs.String.{string_bytes}
+use Rattle.std.proofs.lemmas.Result.{IfOk-weaker}
+use Rattle.rpki_as_block.specs.Faults.{as_from_str_error_text}
+use Rattle.rpki_as.specs.ListText.{IsAsListText, HasAsListFault, as_list_text}
+use Rattle.respath_lines.proofs.ShownLemmas.{ShowsValueOrFault-of_reader}
+use Rattle.respath_lines.proofs.norm.norm_as.Goals as goal
+
+pub returns : goal.returns
+returns g c =
+    IfOk-weaker c.shown.result _ _
+    (λ text. ShowsValueOrFault-of_reader (IsAsListText c.args.list.now) as_list_text (HasAsListFault c.args.list.now) as_from_str_error_text c.from_str.result c.from_str.ensures.exact (string_bytes text))
+    (c.shown.ensures as_list_text (λ set. refl) as_from_str_error_text (λ fault. refl))

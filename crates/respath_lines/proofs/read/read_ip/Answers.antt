@@ -1,0 +1,14 @@
+use Rattle.std.proofs.lemmas.Result.{IfOk-weaker}
+use Rattle.std.specs.String.{string_bytes}
+use Rattle.rpki_claims.specs.Families.{of_family}
+use Rattle.rpki_ipres.specs.ResourcesDer.{IsIpFamilies, ip_families_at}
+use Rattle.respath_lines.specs.Read.{family_text}
+use Rattle.respath_lines.proofs.ReadLemmas.{shows_text}
+use Rattle.respath_lines.proofs.read.read_ip.Goals as goal
+
+pub returns : goal.returns
+returns g c =
+    let shows = rw c.as_slice.ensures.value at c.family_in.ensures in
+    IfOk-weaker c.family_in.result _ _
+    (λ answer is. shows_text IsIpFamilies ip_families_at (λ found. family_text c.args.family (of_family c.args.family found)) c.args.text.now c.in-Some.octets.items (string_bytes answer) (rw c.in-Some.is at c.in_ok-octets.ensures) is)
+    shows

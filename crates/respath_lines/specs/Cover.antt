@@ -1,0 +1,41 @@
+-- What `cover` answers: the shortest list of prefixes with the addresses that a list of blocks writes, or the fault of the
+-- list.
+use Rattle.std.specs.Prelude.{◌≡◌, ◌≢◌, ℕ, List, ◌∷◌, ◌++◌, map, codes, decimal}
+use Rattle.rpki_text.specs.Cuts.{slash}
+use Rattle.rpki_text.specs.Lists.{joined}
+use Rattle.rpki_addr.specs.Prefixes.{PrefixValue}
+use Rattle.rpki_chain.specs.Runs.{Runs, Holds}
+use Rattle.rpki_cover.specs.Covers.{IsShortestCover}
+use Rattle.rpki_ip.specs.Faults as IpFaults
+use Rattle.rpki_ip.specs.PrintedText.{addr_text}
+use Rattle.rpki_base.specs.declared.family.AddressFamily.{AddressFamily}
+use Rattle.rpki_base.specs.declared.family.AddressFamily.TheVariants.{Ipv4, Ipv6}
+use Rattle.rpki_ip_block.specs.ListText.{HasBlocks, HasBlocksFault}
+use Rattle.rpki_ipres.specs.SetText.{IsSetOf}
+use Rattle.respath_lines.specs.Shown.{ShowsValueOrFault}
+
+-- what is printed of a prefix: its address, and behind a slash its length, also where it is the family's greatest
+abbrev pub prefix_with_length : AddressFamily → PrefixValue → List ℕ
+prefix_with_length family p = addr_text family p.first ++ slash ∷ decimal p.len
+
+-- of a list of them
+abbrev pub cover_text : AddressFamily → List PrefixValue → List ℕ
+cover_text family ps = joined (map (prefix_with_length family) ps)
+
+-- the prefixes are the shortest cover of the set that a list of blocks of the family writes
+abbrev pub IsCoverOf : AddressFamily → List ℕ → List PrefixValue → Type 0
+IsCoverOf family list ps = (set : Runs) × IsSetOf (HasBlocks family list) set × IsShortestCover 128 (Holds set) ps
+
+-- the text is that of this cover
+abbrev pub IsCoverText : AddressFamily → List ℕ → List ℕ → Type 0
+IsCoverText family list text = (ps : List PrefixValue) × IsCoverOf family list ps × (text ≡ cover_text family ps)
+
+-- to a list of blocks of a family
+abbrev pub IsCoverIp : AddressFamily → List ℕ → List ℕ → Type 0
+IsCoverIp family list text = ShowsValueOrFault (IsCoverOf family list) (cover_text family) (HasBlocksFault family list) IpFaults.ip_from_str_error_text text
+
+-- to a list of blocks of this kind
+pub record IsCoverAnswer (kind list text : List ℕ) : Type 0 where
+  pub v4_blocks : kind ≡ codes "v4" → IsCoverIp Ipv4 list text
+  pub v6_blocks : kind ≡ codes "v6" → IsCoverIp Ipv6 list text
+  pub unknown : kind ≢ codes "v4" → kind ≢ codes "v6" → text ≡ codes "error: unknown kind"

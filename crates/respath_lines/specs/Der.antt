@@ -1,0 +1,58 @@
+-- What `der` answers: the octets of the resources that a text writes, or the fault of the text.
+use Rattle.std.specs.Prelude.{◌≡◌, ◌≢◌, ℕ, List, [], codes}
+use Rattle.rpki_chain.specs.Claims.{Claim, claim_of}
+use Rattle.rpki_chain.specs.Runs.{Runs}
+use Rattle.rpki_chain.specs.declared.choice.ResourcesChoice.TheVariants.{Missing, Inherit, Blocks}
+use Rattle.rpki_as.specs.AsDer.{as_resources_octets}
+use Rattle.rpki_as_block.specs.Faults as AsFaults
+use Rattle.rpki_as.specs.ResourcesText.{IsAsResourcesText, HasAsResourcesFault}
+use Rattle.rpki_ip.specs.Faults as IpFaults
+use Rattle.rpki_ip.specs.declared.error.FromStrError.{FromStrError}
+use Rattle.rpki_base.specs.declared.family.AddressFamily.{AddressFamily}
+use Rattle.rpki_base.specs.declared.family.AddressFamily.TheVariants.{Ipv4, Ipv6}
+use Rattle.rpki_ip_block.specs.ListText.{HasBlocks, HasBlocksFault}
+use Rattle.rpki_ipres.specs.ResourcesDer.{ip_families_der}
+use Rattle.rpki_ipres.specs.SetText.{IsSetOf}
+use Rattle.respath_lines.specs.Hexadecimal.{lower_hexadecimal}
+use Rattle.respath_lines.specs.Shown.{ShowsValueOrFault}
+
+-- the octets in hexadecimal, and `missing` where resources are missing, which have none
+abbrev pub octets_text : (Claim → List ℕ) → Claim → List ℕ
+octets_text octets Missing = codes "missing"
+octets_text octets Inherit = lower_hexadecimal (octets Inherit)
+octets_text octets (Blocks set) = lower_hexadecimal (octets (Blocks set))
+
+-- to a text of AS resources
+abbrev pub IsDerAs : List ℕ → List ℕ → Type 0
+IsDerAs list text = ShowsValueOrFault (IsAsResourcesText list) (octets_text as_resources_octets) (HasAsResourcesFault list) AsFaults.as_from_str_error_text text
+
+-- ---- resources of a family
+
+-- the claim that lists the set which a list of blocks of the family writes
+abbrev pub IsListed : AddressFamily → List ℕ → Claim → Type 0
+IsListed family list claim = (set : Runs) × IsSetOf (HasBlocks family list) set × (claim ≡ claim_of set)
+
+-- the text is `inherit` for inherited resources, and else a list of blocks of the family: of none for missing ones
+abbrev pub IsIpResourcesText : AddressFamily → List ℕ → Claim → Type 0
+IsIpResourcesText family list Missing = (list ≢ codes "inherit") × IsSetOf (HasBlocks family list) []
+IsIpResourcesText family list Inherit = list ≡ codes "inherit"
+IsIpResourcesText family list (Blocks set) = (list ≢ codes "inherit") × IsSetOf (HasBlocks family list) set × (set ≢ [])
+
+abbrev pub HasIpResourcesFault : AddressFamily → List ℕ → FromStrError → Type 0
+HasIpResourcesFault family list fault = (list ≢ codes "inherit") × HasBlocksFault family list fault
+
+-- the octets of families of which this one alone has resources
+abbrev pub one_family_der : AddressFamily → Claim → List ℕ
+one_family_der Ipv4 claim = ip_families_der claim Missing
+one_family_der Ipv6 claim = ip_families_der Missing claim
+
+-- to a text of the resources of a family
+abbrev pub IsDerIp : AddressFamily → List ℕ → List ℕ → Type 0
+IsDerIp family list text = ShowsValueOrFault (IsIpResourcesText family list) (octets_text (one_family_der family)) (HasIpResourcesFault family list) IpFaults.ip_from_str_error_text text
+
+-- to a text of resources of this kind
+pub record IsDerAnswer (kind list text : List ℕ) : Type 0 where
+  pub as_resources : kind ≡ codes "as" → IsDerAs list text
+  pub v4_resources : kind ≡ codes "v4" → IsDerIp Ipv4 list text
+  pub v6_resources : kind ≡ codes "v6" → IsDerIp Ipv6 list text
+  pub unknown : kind ≢ codes "as" → kind ≢ codes "v4" → kind ≢ codes "v6" → text ≡ codes "error: unknown kind"

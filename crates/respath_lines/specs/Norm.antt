@@ -1,0 +1,25 @@
+-- What `norm` answers: the set that a list writes, as its one list of blocks, or the fault of the list.
+use Rattle.std.specs.Prelude.{◌≡◌, ◌≢◌, ℕ, List, codes}
+use Rattle.rpki_as_block.specs.Faults as AsFaults
+use Rattle.rpki_as.specs.ListText.{IsAsListText, HasAsListFault, as_list_text}
+use Rattle.rpki_ip.specs.Faults as IpFaults
+use Rattle.rpki_base.specs.declared.family.AddressFamily.{AddressFamily}
+use Rattle.rpki_base.specs.declared.family.AddressFamily.TheVariants.{Ipv4, Ipv6}
+use Rattle.rpki_ip_block.specs.ListText.{HasBlocks, HasBlocksFault}
+use Rattle.rpki_ipres.specs.SetText.{IsSetOf, set_text}
+use Rattle.respath_lines.specs.Shown.{ShowsValueOrFault}
+
+-- to a list of AS blocks
+abbrev pub IsNormAs : List ℕ → List ℕ → Type 0
+IsNormAs list text = ShowsValueOrFault (IsAsListText list) as_list_text (HasAsListFault list) AsFaults.as_from_str_error_text text
+
+-- to a list of IP blocks of a family
+abbrev pub IsNormIp : AddressFamily → List ℕ → List ℕ → Type 0
+IsNormIp family list text = ShowsValueOrFault (IsSetOf (HasBlocks family list)) (set_text family) (HasBlocksFault family list) IpFaults.ip_from_str_error_text text
+
+-- to a list of blocks of this kind
+pub record IsNormAnswer (kind list text : List ℕ) : Type 0 where
+  pub as_blocks : kind ≡ codes "as" → IsNormAs list text
+  pub v4_blocks : kind ≡ codes "v4" → IsNormIp Ipv4 list text
+  pub v6_blocks : kind ≡ codes "v6" → IsNormIp Ipv6 list text
+  pub unknown : kind ≢ codes "as" → kind ≢ codes "v4" → kind ≢ codes "v6" → text ≡ codes "error: unknown kind"

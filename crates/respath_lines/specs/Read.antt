@@ -1,0 +1,71 @@
+-- What `read` answers: the resources that octets in hexadecimal are in DER, or that they are none.
+use Rattle.std.specs.Prelude.{◌≡◌, ◌≢◌, ◌⊎◌, ℕ, List, [], Option, Some, None, Result, Ok, Err, codes}
+use Rattle.rpki_der.specs.Der.{HasNone}
+use Rattle.rpki_der.specs.Faults.{fault_text}
+use Rattle.rpki_der.specs.declared.error.DerError.{DerError}
+use Rattle.rpki_der.specs.declared.error.DerError.TheVariants.{TrailingData}
+use Rattle.rpki_base.specs.DerReading.{only}
+use Rattle.rpki_text.specs.declared.memory.OrMemory.{OrMemory}
+use Rattle.rpki_text.specs.declared.memory.OrMemory.TheVariants.{Refused, Memory}
+use Rattle.rpki_chain.specs.Claims.{Claim}
+use Rattle.rpki_chain.specs.declared.choice.ResourcesChoice.TheVariants.{Missing, Inherit, Blocks}
+use Rattle.rpki_as.specs.AsDer.{IsAsResources}
+use Rattle.rpki_as.specs.AsDerReading.{as_choice_at}
+use Rattle.rpki_as.specs.ResourcesText.{as_resources_text}
+use Rattle.rpki_claims.specs.Families.{ByFamily, of_family}
+use Rattle.rpki_base.specs.declared.family.AddressFamily.{AddressFamily}
+use Rattle.rpki_base.specs.declared.family.AddressFamily.TheVariants.{Ipv4, Ipv6}
+use Rattle.rpki_ipres.specs.ResourcesDer.{IsIpFamilies, ip_families_at}
+use Rattle.rpki_ipres.specs.SetText.{set_text}
+use Rattle.respath_lines.specs.Hexadecimal.{IsHexadecimal}
+use Rattle.respath_lines.specs.Shown.{error_line}
+
+-- what was taken is answered if no octets are left, and else a refusal
+abbrev pub IsEnded : {V : Type 0} → Result V (OrMemory DerError) → List ℕ → Result V (OrMemory DerError) → Type 0
+IsEnded (Ok value) rest (Ok answer) = (answer ≡ value) × (rest ≡ [])
+IsEnded (Ok value) rest (Err (Refused fault)) = (rest ≢ []) × (fault ≡ TrailingData)
+IsEnded (Ok value) rest (Err (Memory error)) = ⊥
+IsEnded (Err fault) rest answer = answer ≡ Err fault
+
+-- the octets are no value, and this is the first fault that their reading meets
+abbrev pub HasFault : {V Y : Type 0} → (List ℕ → V → Type 0) → (List ℕ → Result (Y × List ℕ) DerError) → List ℕ → DerError → Type 0
+HasFault Is reading octets fault = HasNone Is octets × (only reading octets ≡ Err fault)
+
+-- the answer is what is printed of the value that the octets are; where they are none, it is the text of their first fault,
+-- behind `error: `
+abbrev pub ShowsOctets : {V Y : Type 0} → (List ℕ → V → Type 0) → (List ℕ → Result (Y × List ℕ) DerError) → (V → List ℕ) → List ℕ → List ℕ → Type 0
+ShowsOctets {V} Is reading value_text octets answer =
+    ((value : V) × Is octets value × (answer ≡ value_text value))
+    ⊎ ((fault : DerError) × HasFault Is reading octets fault × (answer ≡ error_line (fault_text fault)))
+
+-- the same of the octets that a text writes in hexadecimal, if it writes some
+pub record ShowsHexadecimal {V Y : Type 0} (Is : List ℕ → V → Type 0) (reading : List ℕ → Result (Y × List ℕ) DerError) (value_text : V → List ℕ) (text answer : List ℕ) : Type 0 where
+  pub octets : (octets : List ℕ) → IsHexadecimal text octets → ShowsOctets Is reading value_text octets answer
+  pub none : ((octets : List ℕ) → ¬ IsHexadecimal text octets) → answer ≡ codes "error: bad hex"
+
+-- to octets of AS resources
+abbrev pub IsReadAs : List ℕ → List ℕ → Type 0
+IsReadAs = ShowsHexadecimal IsAsResources as_choice_at as_resources_text
+
+-- ---- resources of a family
+
+-- what is printed of the resources that a family has, if it has some
+abbrev pub family_text : AddressFamily → Option Claim → List ℕ
+family_text family None = codes "missing"
+family_text family (Some Missing) = codes "missing"
+family_text family (Some Inherit) = codes "inherit"
+family_text family (Some (Blocks set)) = set_text family set
+
+-- to octets of families, of which the answer shows one
+abbrev pub ShowsFamily : AddressFamily → List ℕ → List ℕ → Type 0
+ShowsFamily family = ShowsOctets IsIpFamilies ip_families_at (λ (found : ByFamily Claim). family_text family (of_family family found))
+
+abbrev pub IsReadIp : AddressFamily → List ℕ → List ℕ → Type 0
+IsReadIp family = ShowsHexadecimal IsIpFamilies ip_families_at (λ (found : ByFamily Claim). family_text family (of_family family found))
+
+-- to octets of resources of this kind
+pub record IsReadAnswer (kind text answer : List ℕ) : Type 0 where
+  pub as_resources : kind ≡ codes "as" → IsReadAs text answer
+  pub v4_resources : kind ≡ codes "v4" → IsReadIp Ipv4 text answer
+  pub v6_resources : kind ≡ codes "v6" → IsReadIp Ipv6 text answer
+  pub unknown : kind ≢ codes "as" → kind ≢ codes "v4" → kind ≢ codes "v6" → answer ≡ codes "error: unknown kind"

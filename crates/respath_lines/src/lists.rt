@@ -1,0 +1,134 @@
+//! The lists of a kind of resources, as sets and as claims of them.
+ghost use Rattle.std.specs.Prelude.{◌≡◌, ℕ, List, MatchResult};
+ghost use Rattle.rpki_text.specs.Memory.{IfRefused};
+ghost use Rattle.rpki_chain.specs.Claims.{Claim, claim_of};
+ghost use Rattle.rpki_chain.specs.Runs.{Runs};
+ghost use Rattle.rpki_chain.specs.declared.choice.ResourcesChoice.TheVariants.{Missing, Inherit};
+ghost use Rattle.rpki_as.specs.ListText.{IsAsListText, HasAsListFault};
+ghost use Rattle.rpki_ip_block.specs.ListText.{HasBlocks, HasBlocksFault};
+ghost use Rattle.rpki_ipres.specs.SetText.{IsSetOf};
+
+use rpki_as::blocks::AsBlocks;
+use rpki_as::error::FromStrError as AsFromStrError;
+use rpki_as::resources::AsResources;
+use rpki_base::memory::OrMemory;
+use rpki_ip::error::FromStrError;
+use rpki_ip::family::AddressFamily;
+use rpki_ipres::blocks::IpBlocks;
+use rpki_ipres::resources::IpResources;
+use std::alloc::Allocator;
+
+/// Reads the lists of a kind of resources, and makes claims of them.
+pub(crate) trait Lists<A: Allocator> {
+    /// What a list writes.
+    type Set: Drop;
+
+    /// What may be wrong with a list.
+    type Fault: Drop;
+
+    /// What claims a set.
+    type Resources: Drop;
+
+    // The list writes the set.
+    ghost writes: { Self → List ℕ → Runs → Type 0 };
+
+    // The list has the fault.
+    ghost fails: { Self → List ℕ → Self.Fault → Type 0 };
+
+    // The runs of a set.
+    ghost runs: { Self.Set → Runs };
+
+    // What is claimed.
+    ghost claim: { Self.Resources → Claim };
+
+    /// The set that a list writes, or the fault of the list.
+    fn read(&self, alloc: A, list: &str) -> Result<Self::Set, OrMemory<Self::Fault>>
+        ensures { MatchResult result (λ set. writes self.now list.now (runs set))
+            (IfRefused (fails self.now list.now)) };
+
+    /// The claim that lists a set, and a missing one where the set is empty.
+    fn listed(set: Self::Set) -> Self::Resources
+        ensures { claim result ≡ claim_of (runs set) };
+
+    /// A claim of nothing.
+    fn missing() -> Self::Resources
+        ensures { claim result ≡ Missing };
+
+    /// A claim of what the issuer has.
+    fn inherited() -> Self::Resources
+        ensures { claim result ≡ Inherit };
+}
+
+/// Lists of AS blocks.
+#[derive(Clone, Copy)]
+pub(crate) struct AsLists;
+
+impl<A: Allocator + Copy> Lists<A> for AsLists {
+    type Set = AsBlocks<A>;
+
+    type Fault = AsFromStrError;
+
+    type Resources = AsResources<A>;
+
+    ghost writes = { λ _. IsAsListText };
+
+    ghost fails = { λ _. HasAsListFault };
+
+    ghost runs = { λ set. set };
+
+    ghost claim = { λ claim. claim };
+
+    fn read(&self, alloc: A, list: &str) -> Result<AsBlocks<A>, OrMemory<AsFromStrError>> {
+        AsBlocks::from_str(alloc, list)
+    }
+
+    fn listed(set: AsBlocks<A>) -> AsResources<A> {
+        AsResources::blocks(set)
+    }
+
+    fn missing() -> AsResources<A> {
+        AsResources::missing()
+    }
+
+    fn inherited() -> AsResources<A> {
+        AsResources::inherit()
+    }
+}
+
+/// Lists of blocks of addresses of a family.
+#[derive(Clone, Copy)]
+pub(crate) struct IpLists {
+    pub(crate) family: AddressFamily,
+}
+
+impl<A: Allocator + Copy> Lists<A> for IpLists {
+    type Set = IpBlocks<A>;
+
+    type Fault = FromStrError;
+
+    type Resources = IpResources<A>;
+
+    ghost writes = { λ lists list. IsSetOf (HasBlocks lists.family list) };
+
+    ghost fails = { λ lists. HasBlocksFault lists.family };
+
+    ghost runs = { λ set. set };
+
+    ghost claim = { λ claim. claim };
+
+    fn read(&self, alloc: A, list: &str) -> Result<IpBlocks<A>, OrMemory<FromStrError>> {
+        IpBlocks::from_family_str(alloc, self.family, list)
+    }
+
+    fn listed(set: IpBlocks<A>) -> IpResources<A> {
+        IpResources::blocks(set)
+    }
+
+    fn missing() -> IpResources<A> {
+        IpResources::missing()
+    }
+
+    fn inherited() -> IpResources<A> {
+        IpResources::inherit()
+    }
+}

@@ -1,0 +1,154 @@
+//! The command `read`: octets in hexadecimal become the resources that they are in DER.
+ghost use Rattle.std.specs.Prelude.{IfOk, ◌≡◌, MatchResult};
+ghost use Rattle.std.specs.String.{string_bytes};
+ghost use Rattle.rpki_der.specs.Views.{left};
+ghost use Rattle.rpki_text.specs.Memory.{IfRefused};
+ghost use Rattle.rpki_as.specs.AsDer.{IsAsResources};
+ghost use Rattle.rpki_as.specs.AsDerReading.{as_choice_at};
+ghost use Rattle.rpki_claims.specs.Families.{of_family};
+ghost use Rattle.rpki_ipres.specs.ResourcesDer.{IsIpFamilies, ip_families_at};
+ghost use Rattle.respath_lines.specs.Read.{HasFault, IsEnded, IsReadAnswer, IsReadAs, IsReadIp, ShowsFamily, family_text};
+
+use crate::hexadecimal::octets_of;
+use crate::kind::{Kind, kind_named};
+use crate::shown::shown;
+use rpki_as::resources::AsResources;
+use rpki_base::memory::OrMemory;
+use rpki_der::{Cursor, DerError};
+use rpki_ip::family::AddressFamily;
+use rpki_ipres::blocks::IpBlocks;
+use rpki_ipres::resources::IpResources;
+use std::alloc::{AllocError, Allocator};
+
+/// The answer to `read KIND HEX`.
+pub(crate) fn read<A: Allocator + Copy>(
+    alloc: A,
+    kind: &str,
+    text: &str,
+) -> Result<String<A>, AllocError>
+    ensures { IfOk result (λ answer. IsReadAnswer kind.now text.now (string_bytes answer)) }
+{
+    match kind_named(kind) {
+        Some(Kind::As) => read_as(alloc, text),
+        Some(Kind::V4) => read_ip(alloc, AddressFamily::Ipv4, text),
+        Some(Kind::V6) => read_ip(alloc, AddressFamily::Ipv6, text),
+        None => String::from_str(alloc, "error: unknown kind"),
+    }
+}
+
+/// The AS resources that octets are, printed, or why they are none.
+fn read_as<A: Allocator + Copy>(alloc: A, text: &str) -> Result<String<A>, AllocError>
+    ensures { IfOk result (λ answer. IsReadAs text.now (string_bytes answer)) }
+{
+    let Some(octets) = octets_of(alloc, text)? else {
+        return String::from_str(alloc, "error: bad hex");
+    };
+    shown(alloc, as_resources_in(alloc, octets.as_slice()))
+}
+
+/// The AS resources that all these octets are. `Refused` with their first fault where they are none.
+fn as_resources_in<A: Allocator + Copy>(
+    alloc: A,
+    octets: &[u8],
+) -> Result<AsResources<A>, OrMemory<DerError>>
+    ensures { MatchResult result (IsAsResources octets.now)
+        (IfRefused (HasFault IsAsResources as_choice_at octets.now)) }
+{
+    let mut cursor = Cursor::new(octets);
+    let taken = AsResources::take_from(alloc, &mut cursor);
+    ended(taken, cursor)
+}
+
+/// What was taken, if nothing is left behind it.
+fn ended<V: Drop>(
+    taken: Result<V, OrMemory<DerError>>,
+    cursor: Cursor<'_>,
+) -> Result<V, OrMemory<DerError>>
+    ensures { IsEnded taken (left cursor.entry) result }
+{
+    match taken {
+        Ok(value) => match cursor.finish() {
+            Ok(()) => Ok(value),
+            Err(fault) => Err(OrMemory::Refused(fault)),
+        },
+        Err(error) => Err(error),
+    }
+}
+
+/// What the families that octets are have of one family, printed, or why they are none.
+fn read_ip<A: Allocator + Copy>(
+    alloc: A,
+    family: AddressFamily,
+    text: &str,
+) -> Result<String<A>, AllocError>
+    ensures { IfOk result (λ answer. IsReadIp family text.now (string_bytes answer)) }
+{
+    let Some(octets) = octets_of(alloc, text)? else {
+        return String::from_str(alloc, "error: bad hex");
+    };
+    family_in(alloc, family, octets.as_slice())
+}
+
+/// What the families that these octets are have of one family, printed, or why the octets are none.
+fn family_in<A: Allocator + Copy>(
+    alloc: A,
+    family: AddressFamily,
+    octets: &[u8],
+) -> Result<String<A>, AllocError>
+    ensures { IfOk result (λ answer. ShowsFamily family octets.now (string_bytes answer)) }
+{
+    match families_in(alloc, octets) {
+        Ok(families) => resources_text(alloc, family, resources_of(families, family)),
+        Err(OrMemory::Refused(fault)) => format!(in alloc; "error: {fault}"),
+        Err(OrMemory::Memory(error)) => Err(error),
+    }
+}
+
+/// What a family has, of what both have.
+fn resources_of<A: Allocator>(
+    families: (Option<IpResources<A>>, Option<IpResources<A>>),
+    family: AddressFamily,
+) -> Option<IpResources<A>>
+    ensures { result ≡ of_family family families }
+{
+    match family {
+        AddressFamily::Ipv4 => families.0,
+        AddressFamily::Ipv6 => families.1,
+    }
+}
+
+/// The resources by family that all these octets are. `Refused` with their first fault where they are none.
+fn families_in<A: Allocator + Copy>(
+    alloc: A,
+    octets: &[u8],
+) -> Result<(Option<IpResources<A>>, Option<IpResources<A>>), OrMemory<DerError>>
+    ensures { MatchResult result (IsIpFamilies octets.now)
+        (IfRefused (HasFault IsIpFamilies ip_families_at octets.now)) }
+{
+    let mut cursor = Cursor::new(octets);
+    let taken = IpResources::take_families_from(alloc, &mut cursor);
+    ended(taken, cursor)
+}
+
+/// What is printed of the resources of a family.
+fn resources_text<A: Allocator + Copy>(
+    alloc: A,
+    family: AddressFamily,
+    resources: Option<IpResources<A>>,
+) -> Result<String<A>, AllocError>
+    ensures { IfOk result (λ answer. string_bytes answer ≡ family_text family resources) }
+{
+    let Some(resources) = resources else {
+        return String::from_str(alloc, "missing");
+    };
+    if resources.is_missing() {
+        return String::from_str(alloc, "missing");
+    }
+    match IpBlocks::from_resources(resources) {
+        Ok(set) => {
+            let set = set.as_family(family);
+            format!(in alloc; "{set}")
+        }
+        Err(_) => String::from_str(alloc, "inherit"),
+    }
+}

@@ -1,0 +1,48 @@
+//! Conditions that are met, refusals that are told apart, and resources that are built block by block.
+use crate::print::{self, cut};
+use example_calls::{builders, conditions, errors};
+use rpki_resources::repository::resources::{AsBlock, Asn, IpBlocks};
+use std::alloc::Global;
+
+/// `between ASN ASN`
+pub fn between(alloc: Global, operands: &str) -> anyhow::Result<String> {
+    let (one, other) = cut(operands, ' ');
+    let one = one.parse::<Asn>()?;
+    let other = other.parse::<Asn>()?;
+    let range = conditions::between(one, other);
+    print::value(alloc, &range)
+}
+
+/// `behind ASN`
+pub fn behind(alloc: Global, asn: &str) -> anyhow::Result<String> {
+    print::option(alloc, &conditions::behind(asn.parse::<Asn>()?))
+}
+
+/// `whole_v4 LIST` of addresses of either family.
+pub fn whole_v4(alloc: Global, list: &str) -> anyhow::Result<String> {
+    let blocks = IpBlocks::from_str(alloc, list)?;
+    print::option(alloc, &conditions::whole_v4(blocks))
+}
+
+/// `listed_in_the_end BLOCK` of AS numbers.
+pub fn listed_in_the_end(alloc: Global, block: &str) -> anyhow::Result<String> {
+    let block = block.parse::<AsBlock>()?;
+    print::made(alloc, builders::listed_in_the_end(alloc, block))
+}
+
+/// `any_error LIST` of AS numbers.
+pub fn any_error(alloc: Global, list: &str) -> anyhow::Result<String> {
+    let set = errors::any_error(alloc, list)?;
+    print::value(alloc, &set)
+}
+
+/// `fault_of LIST` of AS numbers.
+pub fn fault_of(alloc: Global, list: &str) -> anyhow::Result<String> {
+    let fault = errors::fault_of(alloc, list)?;
+    print::option(alloc, &fault)
+}
+
+/// `is_read_without_memory LIST` of AS numbers.
+pub fn is_read_without_memory(alloc: Global, list: &str) -> anyhow::Result<String> {
+    print::value(alloc, &errors::is_read_without_memory(alloc, list))
+}

@@ -1,0 +1,27 @@
+//! The answer to a line, by its command.
+use crate::{claims, triples};
+use rows_support::print::cut;
+use rows_support::refusals::Call;
+use std::alloc::{AllocError, Allocator};
+
+/// A line of the input.
+#[derive(Drop)]
+pub struct Line<'a>(pub &'a str);
+
+impl Call for Line<'_> {
+    fn text(&self) -> &str {
+        self.0
+    }
+
+    fn answer<A: Allocator + Copy>(&self, alloc: A) -> Result<String<A>, AllocError> {
+        let (command, rest) = cut(self.0, ' ');
+        let (kind, operands) = cut(rest, ' ');
+        match command {
+            "claim" => claims::answer(alloc, kind, operands),
+            "triple" => triples::answer(alloc, kind, operands),
+            "set" => triples::set(alloc, rest),
+            "diff" => triples::difference(alloc, rest),
+            _ => String::from_str(alloc, "no such command"),
+        }
+    }
+}

@@ -1,0 +1,226 @@
+//! What sets of all three kinds of resources answer.
+use crate::claims::told;
+use rows_support::kept::kept;
+use rows_support::names::named;
+use rows_support::print::{cut, made, refused, value};
+use rpki_as::resources::AsResources;
+use rpki_base::memory::OrMemory;
+use rpki_ipres::resources::IpResources;
+use rpki_resources::repository::resources::ResourceDiff;
+use rpki_resources::repository::resources::set::{FromStrError, ResourceSet};
+use std::alloc::{AllocError, Allocator};
+
+/// The answer to `set A ; B ; C`.
+pub fn set<A: Allocator + Copy>(alloc: A, lists: &str) -> Result<String<A>, AllocError> {
+    match read(alloc, lists) {
+        Ok(set) => value(alloc, set),
+        Err(error) => refused(alloc, error),
+    }
+}
+
+/// The answer to `diff A ; B ; C | D ; E ; F`.
+pub fn difference<A: Allocator + Copy>(alloc: A, operands: &str) -> Result<String<A>, AllocError> {
+    let (left, right) = cut(operands, '|');
+    match read(alloc, left) {
+        Ok(set) => from_lists(alloc, &set, right),
+        Err(error) => refused(alloc, error),
+    }
+}
+
+/// How a set differs from the one that three lists write.
+fn from_lists<A: Allocator + Copy>(
+    alloc: A,
+    set: &ResourceSet<A>,
+    lists: &str,
+) -> Result<String<A>, AllocError> {
+    match read(alloc, lists) {
+        Ok(other) => of_sets(alloc, set, &other),
+        Err(error) => refused(alloc, error),
+    }
+}
+
+fn of_sets<A: Allocator + Copy>(
+    alloc: A,
+    set: &ResourceSet<A>,
+    other: &ResourceSet<A>,
+) -> Result<String<A>, AllocError> {
+    value(alloc, set.difference(alloc, other)?)
+}
+
+/// The set that three lists write.
+fn read<A: Allocator + Copy>(
+    alloc: A,
+    lists: &str,
+) -> Result<ResourceSet<A>, OrMemory<FromStrError>> {
+    let (asn, addresses) = cut(lists, ';');
+    let (ipv4, ipv6) = cut(addresses, ';');
+    ResourceSet::from_strs(alloc, asn, ipv4, ipv6)
+}
+
+/// What is asked of two sets.
+#[derive(Clone, Copy)]
+enum Operation {
+    Union,
+    Intersection,
+    /// What the first set has beyond the second.
+    Added,
+    /// A copy of how they differ.
+    Changes,
+    /// A copy of the first.
+    Copy,
+    /// The first again, from the claims that list it.
+    Claims,
+    /// The set of all numbers.
+    All,
+}
+
+const OPERATIONS: [(&str, Operation); 7] = [
+    ("union", Operation::Union),
+    ("intersection", Operation::Intersection),
+    ("added", Operation::Added),
+    ("changes", Operation::Changes),
+    ("copy", Operation::Copy),
+    ("claims", Operation::Claims),
+    ("all", Operation::All),
+];
+
+/// The answer to `triple OPERATION A ; B ; C | D ; E ; F`.
+pub fn answer<A: Allocator + Copy>(
+    alloc: A,
+    name: &str,
+    operands: &str,
+) -> Result<String<A>, AllocError> {
+    match named(&OPERATIONS, name) {
+        Some(operation) => of_operands(alloc, operation, operands),
+        None => String::from_str(alloc, "no such command"),
+    }
+}
+
+fn of_operands<A: Allocator + Copy>(
+    alloc: A,
+    operation: Operation,
+    operands: &str,
+) -> Result<String<A>, AllocError> {
+    let (left, _) = cut(operands, '|');
+    match read(alloc, left) {
+        Ok(set) => of_left(alloc, operation, &set, operands),
+        Err(error) => refused(alloc, error),
+    }
+}
+
+fn of_left<A: Allocator + Copy>(
+    alloc: A,
+    operation: Operation,
+    set: &ResourceSet<A>,
+    operands: &str,
+) -> Result<String<A>, AllocError> {
+    let (_, right) = cut(operands, '|');
+    match read(alloc, right) {
+        Ok(other) => of_both(alloc, operation, set, &other, operands),
+        Err(error) => refused(alloc, error),
+    }
+}
+
+/// What comes of an operation, whether or not it was refused memory, where it has left both sets.
+fn of_both<A: Allocator + Copy>(
+    alloc: A,
+    operation: Operation,
+    set: &ResourceSet<A>,
+    other: &ResourceSet<A>,
+    operands: &str,
+) -> Result<String<A>, AllocError> {
+    let found = given(alloc, operation, set, other);
+    kept(alloc, found, are_sets_of(alloc, set, other, operands))
+}
+
+/// Whether two sets are still those that the operands write.
+fn are_sets_of<A: Allocator + Copy>(
+    alloc: A,
+    set: &ResourceSet<A>,
+    other: &ResourceSet<A>,
+    operands: &str,
+) -> Result<bool, AllocError> {
+    let (left, right) = cut(operands, '|');
+    Ok(is_set_of(alloc, set, left)? && is_set_of(alloc, other, right)?)
+}
+
+/// Whether a set is still the one that three lists write.
+fn is_set_of<A: Allocator + Copy>(
+    alloc: A,
+    set: &ResourceSet<A>,
+    lists: &str,
+) -> Result<bool, AllocError> {
+    match read(alloc, lists) {
+        Ok(same) => Ok(*set == same),
+        Err(OrMemory::Refused(_)) => Ok(false),
+        Err(OrMemory::Memory(error)) => Err(error),
+    }
+}
+
+fn given<A: Allocator + Copy>(
+    alloc: A,
+    operation: Operation,
+    set: &ResourceSet<A>,
+    other: &ResourceSet<A>,
+) -> Result<String<A>, AllocError> {
+    match operation {
+        Operation::Union => made(alloc, set.union(alloc, other)),
+        Operation::Intersection => made(alloc, set.intersection(alloc, other)),
+        Operation::Added => added(alloc, set.difference(alloc, other)),
+        Operation::Changes => changes(alloc, set.difference(alloc, other)),
+        Operation::Copy => made(alloc, set.clone()),
+        Operation::Claims => of_claims(alloc, set),
+        Operation::All => made(alloc, ResourceSet::all(alloc)),
+    }
+}
+
+fn added<A: Allocator + Copy>(
+    alloc: A,
+    changes: Result<ResourceDiff<A>, AllocError>,
+) -> Result<String<A>, AllocError> {
+    match changes {
+        Ok(changes) => made(alloc, changes.added().clone()),
+        Err(error) => Err(error),
+    }
+}
+
+fn changes<A: Allocator + Copy>(
+    alloc: A,
+    changes: Result<ResourceDiff<A>, AllocError>,
+) -> Result<String<A>, AllocError> {
+    match changes {
+        Ok(changes) => made(alloc, changes.clone()),
+        Err(error) => Err(error),
+    }
+}
+
+/// The set of the claims that list a set.
+fn of_claims<A: Allocator + Copy>(alloc: A, set: &ResourceSet<A>) -> Result<String<A>, AllocError> {
+    match set.to_as_resources() {
+        Ok(asn) => with_asn(alloc, set, &asn),
+        Err(error) => Err(error),
+    }
+}
+
+fn with_asn<A: Allocator + Copy>(
+    alloc: A,
+    set: &ResourceSet<A>,
+    asn: &AsResources<A>,
+) -> Result<String<A>, AllocError> {
+    match set.to_ip_resources_v6() {
+        Ok(ipv6) => with_ipv6(alloc, set, asn, &ipv6),
+        Err(error) => Err(error),
+    }
+}
+
+fn with_ipv6<A: Allocator + Copy>(
+    alloc: A,
+    set: &ResourceSet<A>,
+    asn: &AsResources<A>,
+    ipv6: &IpResources<A>,
+) -> Result<String<A>, AllocError> {
+    match set.to_ip_resources_v4() {
+        Ok(ipv4) => told(alloc, ResourceSet::from_resources(asn, &ipv4, ipv6)),
+        Err(error) => Err(error),
+    }
+}

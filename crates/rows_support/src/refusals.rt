@@ -1,0 +1,56 @@
+//! A call with each of its requests for memory refused in turn.
+use std::alloc::{AllocError, Allocator, Global};
+use test_support::{Outcome, Refusing, refuse_in_turn};
+
+/// A line that is a call.
+pub trait Call: Drop {
+    /// The line.
+    fn text(&self) -> &str;
+
+    /// Its answer. `AllocError` where there is no memory for it.
+    fn answer<A: Allocator + Copy>(&self, alloc: A) -> Result<String<A>, AllocError>;
+}
+
+/// The answer to a line, or which of its runs went wrong.
+pub fn answer<C: Call>(alloc: Global, line: &C) -> Result<String, AllocError> {
+    match line.answer(alloc) {
+        Ok(answer) => answer_where_refused(alloc, line, answer),
+        Err(AllocError) => String::from_str(alloc, "out of memory"),
+    }
+}
+
+/// The answer, where each run that is refused memory tells only that.
+fn answer_where_refused<C: Call>(
+    alloc: Global,
+    line: &C,
+    answer: String,
+) -> Result<String, AllocError> {
+    let text = answer.as_str();
+    let refused = refuse_in_turn(alloc, limit(line), |refusing: &Refusing| {
+        outcome(refusing, line, text)
+    });
+    match refused {
+        Ok(_) => Ok(answer),
+        Err(number) => format!(in alloc; "wrong where request {number} is refused: {answer}"),
+    }
+}
+
+/// How many requests for memory a line may make.
+fn limit<C: Call>(line: &C) -> u64 {
+    64 + line.text().len() as u64
+}
+
+fn outcome<C: Call>(refusing: &Refusing, line: &C, expected: &str) -> Outcome {
+    match line.answer(refusing) {
+        Ok(answer) => compared(answer.as_str() == expected),
+        Err(AllocError) => Outcome::OutOfMemory,
+    }
+}
+
+fn compared(is_expected: bool) -> Outcome {
+    if is_expected {
+        Outcome::Expected
+    } else {
+        Outcome::Unexpected
+    }
+}

@@ -1,0 +1,50 @@
+//! Ranges of addresses as their shortest lists of prefixes.
+ghost use Rattle.std.specs.Iterator.{IsFinite};
+
+use rows_support::print;
+use rpki_ip::family::AddressFamily;
+use rpki_ip::prefix::Prefix;
+use rpki_ip::range::AddressRange;
+use std::alloc::{AllocError, Allocator};
+
+/// The answer to `prefixes v4 MIN-MAX` and `prefixes v6 MIN-MAX`: each prefix that the range between two IPv6 addresses
+/// gives for the family, with its length.
+pub fn answer<A: Allocator + Copy>(
+    alloc: A,
+    kind: &str,
+    text: &str,
+) -> Result<String<A>, AllocError> {
+    match AddressRange::from_v6_str(text) {
+        Ok(range) if kind == "v4" => list(alloc, AddressFamily::Ipv4, range.to_v4_prefixes()),
+        Ok(range) => list(alloc, AddressFamily::Ipv6, range.to_v6_prefixes()),
+        Err(fault) => print::error(alloc, fault),
+    }
+}
+
+fn list<A: Allocator + Copy, I: Iterator<Item = Prefix>>(
+    alloc: A,
+    family: AddressFamily,
+    prefixes: I,
+) -> Result<String<A>, AllocError>
+    requires can { I.can_next prefixes }
+    requires ends { IsFinite (I.remaining prefixes) }
+{
+    let mut list = String::new(alloc);
+    for prefix in prefixes {
+        append(&mut list, family, prefix)?;
+    }
+    Ok(list)
+}
+
+/// Appends a prefix, behind a separator where another stands before it.
+fn append<A: Allocator>(
+    list: &mut String<A>,
+    family: AddressFamily,
+    prefix: Prefix,
+) -> Result<(), AllocError> {
+    match family {
+        AddressFamily::Ipv4 => print::append(list, ", ", prefix.to_v4())?,
+        AddressFamily::Ipv6 => print::append(list, ", ", prefix.to_v6())?,
+    }
+    print::append(list, "/", prefix.addr_len())
+}

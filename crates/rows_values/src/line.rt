@@ -1,0 +1,32 @@
+//! The answer to a line, by its command.
+use crate::modes::Mode;
+use crate::takes::Form;
+use crate::{covers, orders, takes, texts};
+use rows_support::print::cut;
+use rows_support::refusals::Call;
+use std::alloc::{AllocError, Allocator};
+
+/// A line of the input.
+#[derive(Drop)]
+pub struct Line<'a>(pub &'a str);
+
+impl Call for Line<'_> {
+    fn text(&self) -> &str {
+        self.0
+    }
+
+    fn answer<A: Allocator + Copy>(&self, alloc: A) -> Result<String<A>, AllocError> {
+        let (command, rest) = cut(self.0, ' ');
+        let (kind, operands) = cut(rest, ' ');
+        match command {
+            "text" => texts::answer(alloc, kind, operands),
+            "take" => takes::answer(alloc, (Mode::Lenient, Form::Printed), kind, operands),
+            "strict" => takes::answer(alloc, (Mode::Strict, Form::Printed), kind, operands),
+            "written" => takes::answer(alloc, (Mode::Lenient, Form::Written), kind, operands),
+            "order" => orders::order(alloc, rest),
+            "covers" => orders::covers(alloc, rest),
+            "prefixes" => covers::answer(alloc, kind, operands),
+            _ => String::from_str(alloc, "no such command"),
+        }
+    }
+}

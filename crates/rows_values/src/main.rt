@@ -1,0 +1,39 @@
+//! The program `rows_values`: each line of the standard input is a call of the libraries that reads one value from a
+//! text or from octets, orders prefixes, or covers a range with them, and is answered with one line on the standard
+//! output. Each call is made again with each of its requests for memory refused; where such a run does anything but
+//! tell that memory is wanting, the line's answer says so.
+#![tactic(auto)]
+
+mod altered;
+mod claims;
+mod covers;
+mod line;
+mod modes;
+mod orders;
+mod takes;
+mod texts;
+mod values;
+
+use line::Line;
+use modes::Mode;
+use rows_support::print::cut;
+use rows_support::refusals;
+use std::alloc::{AllocError, Global};
+use std::io;
+
+fn main(rt: HostRuntime) -> io::Result<()> {
+    for line in rt.lines(rt.alloc()) {
+        let answer = answer(rt.alloc(), line?.as_str())?;
+        println!(rt; "{answer}")?;
+    }
+    Ok(())
+}
+
+/// The answer to a line. `altered` and `alteredstrict` read many values, and have memory refused for each.
+fn answer(alloc: Global, line: &str) -> Result<String, AllocError> {
+    match cut(line, ' ') {
+        ("altered", operands) => altered::answer(alloc, Mode::Lenient, operands),
+        ("alteredstrict", operands) => altered::answer(alloc, Mode::Strict, operands),
+        _ => refusals::answer(alloc, &Line(line)),
+    }
+}

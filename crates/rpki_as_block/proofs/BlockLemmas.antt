@@ -1,0 +1,89 @@
+-- A text writes one block at most, or has one fault; what is printed of a block writes it.
+use Rattle.std.proofs.Common.{◌≡◌, ℕ, suc, ◌<◌, ◌≤◌, ◌^◌, List, [], ◌∷◌, length, get_or, Result, Ok, Err, MatchResult, arith, refl, sym, ap, subst, zero}
+use Rattle.std.specs.Int.{IsInRange}
+use Rattle.std.specs.List.{AllByRecursion}
+use Rattle.rpki_base.specs.AsnText.{asn_text}
+use Rattle.rpki_text.specs.Cuts.{HasNo, dash}
+use Rattle.rpki_base.proofs.AsnLemmas.{IsAsnText-asn_text, IsAsnText-one, asn_text_bytes}
+use Rattle.rpki_text.proofs.CutLemmas.{none_around, around_at}
+use Rattle.rpki_chains.specs.Ranges.{range_bounds}
+use Rattle.rpki_as_block.specs.Blocks.{as_bounds}
+use Rattle.rpki_as_block.specs.BlockText.{IsAsRangeBetween, NoRange, IsAsBlockText, HasAsBlockFault, as_block_text, ReadsAsBlock}
+use Rattle.rpki_as_block.specs.declared.block.AsBlock.{AsBlock}
+use Rattle.rpki_as_block.specs.declared.block.AsBlock.TheVariants.{Id, Range}
+use Rattle.rpki_as_block.specs.declared.error.FromStrError.{FromStrError}
+use Rattle.rpki_as_block.specs.declared.error.FromStrError.TheVariants.{BadAsn, BadRange, BadBlocks}
+
+-- a text writes one block at most
+pub IsAsBlockText-one : (text : List ℕ) (a b : AsBlock) → IsAsBlockText text a → IsAsBlockText text b → a ≡ b
+IsAsBlockText-one text (Id m) (Id n) h k = ap Id (IsAsnText-one text m n h.1 k.1)
+IsAsBlockText-one text (Id m) (Range s) h k = absurd (none_around dash text _ h.0 k)
+IsAsBlockText-one text (Range r) (Id n) h k = absurd (none_around dash text _ k.0 h)
+IsAsBlockText-one text (Range r) (Range s) h k =
+    let same = around_at dash text h.left h.right (λ left right. IsAsRangeBetween left right (range_bounds s)) h.cut k in
+    let min = IsAsnText-one h.left r.min s.min h.holds.min_text same.min_text in
+    let max = IsAsnText-one h.right r.max s.max h.holds.max_text same.max_text in
+    λ i. Range (record { min = min i; max = max i })
+
+-- no text has a value and a fault
+pub block_apart : (text : List ℕ) (b : AsBlock) (e : FromStrError) → IsAsBlockText text b → HasAsBlockFault text e → ⊥
+block_apart text (Id n) BadAsn h f = f.1 n h.1
+block_apart text (Id n) BadRange h f = none_around dash text _ h.0 f
+block_apart text (Id n) BadBlocks h f = absurd f
+block_apart text (Range r) BadAsn h f = none_around dash text _ f.0 h
+block_apart text (Range r) BadRange h f = around_at dash text h.left h.right NoRange h.cut f (range_bounds r) h.holds
+block_apart text (Range r) BadBlocks h f = absurd f
+
+-- no text has two faults
+pub same_block_fault : (text : List ℕ) (d e : FromStrError) → HasAsBlockFault text d → HasAsBlockFault text e → d ≡ e
+same_block_fault text BadAsn BadAsn f g = refl
+same_block_fault text BadAsn BadRange f g = absurd (none_around dash text _ f.0 g)
+same_block_fault text BadRange BadAsn f g = absurd (none_around dash text _ g.0 f)
+same_block_fault text BadRange BadRange f g = refl
+same_block_fault text BadBlocks e f g = absurd f
+same_block_fault text BadAsn BadBlocks f g = absurd g
+same_block_fault text BadRange BadBlocks f g = absurd g
+
+-- what is printed of a number has no dash
+no_dash : (bs : List ℕ) → AllByRecursion (IsInRange 48 90) bs → HasNo dash bs
+no_dash bs h i small e = omega (arith, (byte_at bs i h small).0, e)
+  where
+    byte_at : (bs : List ℕ) (i : ℕ) → AllByRecursion (IsInRange 48 90) bs → i < length bs → IsInRange 48 90 (get_or bs i 0)
+    byte_at [] i h small = absurd (omega arith)
+    byte_at (b ∷ bs) zero h small = h.0
+    byte_at (b ∷ bs) (suc i) h small = byte_at bs i h.1 (omega arith)
+
+-- what is printed of a block writes it
+pub IsAsBlockText-block_text : (b : AsBlock) → (as_bounds b).0 ≤ (as_bounds b).1 → (as_bounds b).1 < 2 ^ 32 → IsAsBlockText (as_block_text b) b
+IsAsBlockText-block_text (Id n) ordered small = (no_dash (asn_text n) (asn_text_bytes n small), IsAsnText-asn_text n small)
+IsAsBlockText-block_text (Range r) ordered small =
+    let low : r.min < 2 ^ 32 = omega arith in
+    record {
+      left = asn_text r.min;
+      right = asn_text r.max;
+      cut = record { split = refl; first = no_dash (asn_text r.min) (asn_text_bytes r.min low) };
+      holds = record {
+        min_text = IsAsnText-asn_text r.min low;
+        max_text = IsAsnText-asn_text r.max small;
+        in_order = ordered;
+      };
+    }
+
+-- a reader that finds what the text has meets the whole contract
+pub reads_block : (text : List ℕ) (r : Result AsBlock FromStrError) → MatchResult r (IsAsBlockText text) (HasAsBlockFault text) → ReadsAsBlock text r
+reads_block text (Ok b) found = record {
+  exact = record {
+    found = found;
+    each_value = λ a h. ap Ok (IsAsBlockText-one text b a found h);
+    each_fault = λ e f. absurd (block_apart text b e found f);
+  };
+  reads_back = λ a ordered small is. ap Ok (IsAsBlockText-one text b a found (subst (λ t. IsAsBlockText t a) (sym is) (IsAsBlockText-block_text a ordered small)));
+}
+reads_block text (Err d) found = record {
+  exact = record {
+    found = found;
+    each_value = λ a h. absurd (block_apart text a d h found);
+    each_fault = λ e f. ap Err (same_block_fault text d e found f);
+  };
+  reads_back = λ a ordered small is. absurd (block_apart text a d (subst (λ t. IsAsBlockText t a) (sym is) (IsAsBlockText-block_text a ordered small)) found);
+}

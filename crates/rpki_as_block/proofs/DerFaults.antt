@@ -1,0 +1,72 @@
+-- Where a range of AS numbers is reversed, and that no fault of lists is one of a block.
+use Rattle.std.proofs.Common.{◌≡◌, ℕ, ◌<◌, ◌↔◌, ltb, List, Result, Ok, Err, refl, arith}
+use Rattle.std.proofs.lemmas.Bool.{lt-ltb, ltb-true}
+use Rattle.rpki_chains.specs.Ranges.{RangeValue}
+use Rattle.rpki_der.specs.declared.error.DerError.{DerError}
+use Rattle.rpki_der.specs.declared.error.DerError.TheVariants.{ReversedRange}
+use Rattle.rpki_der.specs.Reading.{tagged_at, unsigned, value_at}
+use Rattle.rpki_base.specs.AsnDer.{as_number_at}
+use Rattle.rpki_base.specs.DerFaults.{BeginsWithTwo, BeginsWithValue}
+use Rattle.rpki_base.proofs.DerFaults.{NamesTo, begins_two, begins_value, bind_names, by_tag_names, cond_fails, cond_names, mapped_fails, names_more, not_named, pair_fails, pair_names, refined_names, sequence_fails, tagged_names, unsigned_names, value_names}
+use Rattle.rpki_as_block.specs.AsDerReading.{as_block_at, as_block_of, as_id_in, as_range_block_in, as_range_in, range_of}
+use Rattle.rpki_as_block.specs.declared.block.AsBlock.TheVariants.{Id, Range}
+
+-- ---- which faults are named
+
+number_names : (bytes : List ℕ) → NamesTo 4 (as_number_at bytes)
+number_names = refined_names 4 (tagged_at 2) unsigned (λ bytes. names_more 3 4 (tagged_at 2 bytes) (omega arith) (tagged_names 2 bytes)) unsigned_names
+
+range_of_names : (min max : ℕ) → NamesTo 10 (range_of min max)
+unfolding range_of
+range_of_names min max =
+    let made : Result RangeValue DerError = Ok (record { min = min; max = max }) in
+    cond_names 10 (ltb max min) (Err ReversedRange) made (omega arith) tt
+
+range_names : (content : List ℕ) → NamesTo 10 (as_range_in content)
+range_names = pair_names 10 as_number_at range_of (omega arith) (λ bytes. names_more 4 10 (as_number_at bytes) (omega arith) (number_names bytes)) range_of_names
+
+id_names : (content : List ℕ) → NamesTo 4 (as_id_in content)
+id_names content = bind_names 4 (unsigned content) (λ n. Ok (Id n)) (unsigned_names content) (λ n. tt)
+
+-- those of a block: up to ReversedRange
+pub block_names : (bytes : List ℕ) → NamesTo 10 (as_block_at bytes)
+block_names =
+    refined_names 10 value_at as_block_of (λ bytes. names_more 3 10 (value_at bytes) (omega arith) (value_names bytes))
+    (by_tag_names 10 2 as_id_in as_range_block_in (omega arith) (λ content. names_more 4 10 (as_id_in content) (omega arith) (id_names content))
+    (λ content. bind_names 10 (as_range_in content) (λ r. Ok (Range r)) (range_names content) (λ r. tt)))
+
+-- ---- where a range is reversed
+
+range_of_fails : (min max : ℕ) → (range_of min max ≡ Err ReversedRange) ↔ (max < min)
+unfolding range_of
+range_of_fails min max =
+    let made : RangeValue = record { min = min; max = max } in
+    ((λ is. ltb-true max min (cond_fails (ltb max min) made ReversedRange ReversedRange (Ok made) refl is)), (λ less. rw (lt-ltb max min less) refl))
+
+-- the second number is less than the first
+abbrev Less : ℕ → ℕ → Type 0
+Less first second = second < first
+
+abbrev Fails : ℕ → ℕ → Type 0
+Fails first second = range_of first second ≡ Err ReversedRange
+
+pub range_fails : (content : List ℕ) → (as_range_in content ≡ Err ReversedRange) ↔ BeginsWithTwo as_number_at (λ first second. second < first) content
+range_fails content =
+    let both = pair_fails as_number_at range_of ReversedRange (omega arith) (λ bytes. not_named 4 (as_number_at bytes) ReversedRange (number_names bytes) (omega arith)) content in (
+      (λ is. begins_two as_number_at Fails Less (λ first second. (range_of_fails first second).0) content (both.0 is)),
+      (λ found. both.1 (begins_two as_number_at Less Fails (λ first second. (range_of_fails first second).1) content found)),
+    )
+
+-- the content of a reversed range
+abbrev Reversed : List ℕ → Type 0
+Reversed = BeginsWithTwo as_number_at (λ first second. second < first)
+
+abbrev FailsInside : List ℕ → Type 0
+FailsInside content = as_range_block_in content ≡ Err ReversedRange
+
+pub block_fails : (bytes : List ℕ) → (as_block_at bytes ≡ Err ReversedRange) ↔ BeginsWithValue 48 (BeginsWithTwo as_number_at (λ first second. second < first)) bytes
+block_fails bytes =
+    let both = sequence_fails 2 as_id_in as_range_block_in ReversedRange (λ e. omega arith) (omega arith) (λ content. not_named 4 (as_id_in content) ReversedRange (id_names content) (omega arith)) bytes in (
+      (λ is. begins_value 48 FailsInside Reversed (λ content fails. (range_fails content).0 ((mapped_fails (as_range_in content) Range ReversedRange).0 fails)) bytes (both.0 is)),
+      (λ found. both.1 (begins_value 48 Reversed FailsInside (λ content reversed. (mapped_fails (as_range_in content) Range ReversedRange).1 ((range_fails content).1 reversed)) bytes found)),
+    )

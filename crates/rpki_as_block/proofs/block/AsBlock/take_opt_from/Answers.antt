@@ -1,0 +1,33 @@
+-- What the reading gives is the value of the grammar of the mode.
+use Rattle.std.proofs.Common.{subst, true}
+use Rattle.rpki_base.proofs.DerCursors.{reads_optional_value_by}
+use Rattle.rpki_der.specs.Der.{Spells}
+use Rattle.rpki_der.specs.Reading.{optional}
+use Rattle.rpki_der.specs.Views.{Takes}
+use Rattle.rpki_der.proofs.Modes.{exact_optional_by, refused_optional_by}
+use Rattle.rpki_as_block.specs.AsDer.{IsAsBlock, IsSetBlock, as_block_octets}
+use Rattle.rpki_as_block.specs.AsDerLaws.{as_block_reading}
+use Rattle.rpki_as_block.specs.AsDerModes.{IsStrictBlock, as_block_modal}
+use Rattle.rpki_as_block.specs.AsDerReading.{as_block_at, as_block_by}
+use Rattle.rpki_as_block.proofs.AsDerLemmas.{block_back, set_block_reading}
+use Rattle.rpki_as_block.proofs.block.AsBlock.take_opt_from.Goals as goal
+
+exact : goal.returns-clause-exact
+exact c = exact_optional_by IsStrictBlock as_block_at as_block_by (λ block. block) c.args.cursor.now c.next_opt.new.cursor c.next_opt.result as_block_modal c.next_opt.ensures.by_mode
+
+pub returns-clause-exact : goal.returns-clause-exact
+returns-clause-exact c = exact c
+
+pub returns-clause-reads : goal.returns-clause-reads
+returns-clause-reads c lenient = reads_optional_value_by IsAsBlock as_block_at c.args.cursor.now c.next_opt.new.cursor c.next_opt.result as_block_reading c.args.cursor.now.bytes (exact c lenient)
+
+pub returns-clause-strict : goal.returns-clause-strict
+returns-clause-strict c strict =
+    let took = subst (λ mode. Takes (λ block. block) c.args.cursor.now c.next_opt.new.cursor c.next_opt.result (optional (as_block_by mode))) strict c.next_opt.ensures.by_mode in
+    reads_optional_value_by (Spells IsSetBlock as_block_octets) (as_block_by true) c.args.cursor.now c.next_opt.new.cursor c.next_opt.result set_block_reading c.args.cursor.now.bytes took
+
+pub returns-clause-refused : goal.returns-clause-refused
+returns-clause-refused c = refused_optional_by IsAsBlock IsStrictBlock as_block_at as_block_by (λ block. block) c.args.cursor.now c.next_opt.new.cursor c.next_opt.result as_block_reading as_block_modal c.next_opt.ensures.by_mode
+
+pub returns-clause-reads_back : goal.returns-clause-reads_back
+returns-clause-reads_back c = block_back c.args.cursor.now c.next_opt.new.cursor c.next_opt.result c.next_opt.ensures.by_mode

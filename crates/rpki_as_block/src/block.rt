@@ -1,0 +1,226 @@
+//! Blocks of AS numbers.
+use crate::iter::AsBlockIter;
+use crate::range::AsRange;
+use rpki_base::asn::Asn;
+use rpki_chains::block::Block;
+
+/// One AS number, or the numbers of a range (RFC 3779, 3.2.3.5).
+#[derive(Clone, Copy, Debug)]
+pub enum AsBlock {
+    /// One number.
+    Id(Asn),
+    /// The numbers of a range, which may be one.
+    Range(AsRange),
+}
+
+impl AsBlock {
+    ghost use Rattle.std.specs.Prelude.{◌≡◌, ◌+◌, ◌≤◌, ◌↔◌, IsTrue};
+    ghost use Rattle.rpki_chains.specs.Sets.{IsWithin};
+    ghost use Rattle.rpki_as_block.specs.Blocks.{as_bounds, new_as_block};
+    ghost use Rattle.rpki_as_block.specs.Numbers.{IsListOf, IsSizeOf, numbers_within};
+
+    /// All AS numbers, 0 to 4294967295.
+    pub fn all() -> AsBlock
+        ensures bounds { as_bounds result ≡ (0, 4294967295) }
+        ensures value { result ≡ new_as_block (0, 4294967295) }
+    {
+        AsBlock::Range(AsRange::all())
+    }
+
+    /// The range from the first number of a pair to the second, which isn't below it. It is a Range also where both are
+    /// the same.
+    pub fn from_pair(pair: (Asn, Asn)) -> AsBlock
+        requires { pair.0 ≤ pair.1 }
+        ensures { result ≡ AsBlock.Range (record { min = pair.0; max = pair.1 }) }
+    {
+        AsBlock::Range(AsRange::new(pair.0, pair.1))
+    }
+
+    /// The least number.
+    pub fn min(&self) -> Asn
+        ensures value { result ≡ (as_bounds self.now).0 }
+        ensures in_order { (as_bounds self.now).0 ≤ (as_bounds self.now).1 }
+    {
+        match self {
+            AsBlock::Id(asn) => *asn,
+            AsBlock::Range(range) => AsRange::min(*range),
+        }
+    }
+
+    /// The greatest number.
+    pub fn max(&self) -> Asn
+        ensures value { result ≡ (as_bounds self.now).1 }
+        ensures in_order { (as_bounds self.now).0 ≤ (as_bounds self.now).1 }
+    {
+        match self {
+            AsBlock::Id(asn) => *asn,
+            AsBlock::Range(range) => AsRange::max(*range),
+        }
+    }
+
+    /// How many numbers the block has, which is 1 to 2^32.
+    pub fn asn_count(self) -> u64
+        ensures from_bounds { result + (as_bounds self).0 ≡ (as_bounds self).1 + 1 }
+        ensures size { IsSizeOf (IsWithin (as_bounds self)) result }
+    {
+        match self {
+            AsBlock::Id(_) => 1,
+            AsBlock::Range(range) => range.asn_count(),
+        }
+    }
+
+    /// Makes a number the least one. The greatest one isn't below it. The block is an Id where both are one number, and
+    /// else a Range.
+    pub fn set_min(&mut self, min: Asn)
+        requires { min ≤ (as_bounds self.old).1 }
+        ensures bounds { as_bounds self.new ≡ (min, (as_bounds self.old).1) }
+        ensures value { self.new ≡ new_as_block (min, (as_bounds self.old).1) }
+    {
+        *self = <AsBlock as Block>::new(min, AsBlock::max(self));
+    }
+
+    /// Makes a number the greatest one. The least one isn't above it. The block is an Id where both are one number, and
+    /// else a Range.
+    pub fn set_max(&mut self, max: Asn)
+        requires { (as_bounds self.old).0 ≤ max }
+        ensures bounds { as_bounds self.new ≡ ((as_bounds self.old).0, max) }
+        ensures value { self.new ≡ new_as_block ((as_bounds self.old).0, max) }
+    {
+        *self = <AsBlock as Block>::new(AsBlock::min(self), max);
+    }
+
+    /// Whether the block has all AS numbers.
+    pub fn is_whole_range(&self) -> bool
+        ensures { IsTrue result ↔ (as_bounds self.now ≡ (0, 4294967295)) }
+    {
+        AsBlock::min(self) == Asn::MIN && AsBlock::max(self) == Asn::MAX
+    }
+
+    /// The numbers one by one, ascending.
+    pub fn iter(self) -> AsBlockIter
+        ensures numbers { IsListOf (IsWithin (as_bounds self)) result }
+        ensures list { result ≡ numbers_within (as_bounds self) }
+        ensures in_order { (as_bounds self).0 ≤ (as_bounds self).1 }
+    {
+        AsBlockIter::over(AsRange::new(AsBlock::min(&self), AsBlock::max(&self)))
+    }
+}
+
+/// As a block, it is an Id where its bounds are one number, and else a Range.
+impl Block for AsBlock {
+    ghost use Rattle.std.specs.Prelude.{refl};
+    ghost use Rattle.rpki_as_block.specs.Blocks.{as_bounds, new_as_block};
+    ghost use Rattle.rpki_as_block.specs.BlockForms.{new_as_block_bounds};
+
+    type Item = Asn;
+
+    ghost first = { 0 };
+
+    ghost last = { 4294967295 };
+
+    ghost number = { λ n. n };
+
+    ghost item_at = { λ n. n };
+
+    ghost bounds = { as_bounds };
+
+    ghost form = { new_as_block };
+
+    ghost in_order = { λ x y. refl };
+
+    ghost no_gaps = { λ n low high. refl };
+
+    ghost one_item = { λ x y same. same };
+
+    ghost form_bounds = { λ b from ordered to. new_as_block_bounds b };
+
+    fn new(min: Asn, max: Asn) -> AsBlock {
+        if min == max {
+            AsBlock::Id(min)
+        } else {
+            AsBlock::Range(AsRange::new(min, max))
+        }
+    }
+
+    fn min(&self) -> Asn {
+        AsBlock::min(self)
+    }
+
+    fn max(&self) -> Asn {
+        let max = AsBlock::max(self);
+        let _number = max.into_u32(); // read so that the proof sees that the number has 32 bits
+        max
+    }
+
+    fn next(item: Asn) -> Option<Asn> {
+        <AsRange as Block>::next(item)
+    }
+
+    fn previous(item: Asn) -> Option<Asn> {
+        <AsRange as Block>::previous(item)
+    }
+}
+
+/// Blocks are equal where their bounds are, whatever their forms.
+impl PartialEq for AsBlock {
+    ghost use Rattle.std.specs.Prelude.{◌≡◌, ◌↔◌, IsTrue};
+    ghost use Rattle.rpki_chains.specs.Equality.{have_same_bounds, blocks_per};
+    ghost use Rattle.rpki_as_block.specs.Blocks.{as_bounds};
+
+    ghost eq = { have_same_bounds as_bounds };
+
+    ghost laws = { blocks_per as_bounds };
+
+    fn eq(&self, other: &AsBlock) -> bool
+        ensures value { result ≡ have_same_bounds as_bounds self.now other.now }
+        ensures same_bounds { IsTrue result ↔ (as_bounds self.now ≡ as_bounds other.now) }
+    {
+        AsBlock::min(self) == AsBlock::min(other) && AsBlock::max(self) == AsBlock::max(other)
+    }
+}
+
+impl Eq for AsBlock {
+    ghost use Rattle.rpki_chains.specs.Equality.{blocks_equiv};
+    ghost use Rattle.rpki_as_block.specs.Blocks.{as_bounds};
+
+    ghost laws = { blocks_equiv as_bounds };
+}
+
+impl From<Asn> for AsBlock {
+    ghost use Rattle.std.specs.Prelude.{◌≡◌};
+    ghost use Rattle.rpki_as_block.specs.declared.block.AsBlock.TheVariants.{Id};
+
+    ghost from_gives = { λ asn block. block ≡ Id asn };
+
+    fn from(asn: Asn) -> AsBlock {
+        AsBlock::Id(asn)
+    }
+}
+
+impl From<AsRange> for AsBlock {
+    ghost use Rattle.std.specs.Prelude.{◌≡◌};
+    ghost use Rattle.rpki_as_block.specs.declared.block.AsBlock.TheVariants.{Range};
+
+    ghost from_gives = { λ range block. block ≡ Range range };
+
+    fn from(range: AsRange) -> AsBlock {
+        AsBlock::Range(range)
+    }
+}
+
+/// The numbers one by one, ascending.
+impl IntoIterator for AsBlock {
+    ghost use Rattle.rpki_chains.specs.Sets.{IsWithin};
+    ghost use Rattle.rpki_as_block.specs.Blocks.{as_bounds};
+    ghost use Rattle.rpki_as_block.specs.Numbers.{IsListOf};
+
+    type Item = Asn;
+
+    type IntoIter = AsBlockIter;
+
+    ghost into_iter_gives = { λ block numbers. IsListOf (IsWithin (as_bounds block)) numbers };
+
+    fn into_iter(self) -> AsBlockIter {
+        self.iter()
+    }
+}

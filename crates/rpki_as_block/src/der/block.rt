@@ -1,0 +1,370 @@
+//! Blocks of AS numbers in DER: an INTEGER, or a SEQUENCE of two (RFC 3779, 3.2.3.5 and 3.2.3.8).
+ghost use Rattle.std.specs.Prelude.{◌≡◌, ◌≤◌, length};
+ghost use Rattle.rpki_chains.specs.Beyond.{is_beyond};
+ghost use Rattle.rpki_der.specs.Reading.{Gives};
+ghost use Rattle.rpki_der.specs.Views.{left, tlv};
+ghost use Rattle.rpki_as_block.specs.AsDer.{as_range_content};
+ghost use Rattle.rpki_as_block.specs.AsDerReading.{as_block_of, as_range_in, skip_block_of, skip_pair};
+ghost use Rattle.rpki_chains.specs.Ranges.{range_bounds};
+
+use crate::block::AsBlock;
+use crate::range::AsRange;
+use rpki_base::asn::Asn;
+use rpki_base::der::{Encode, ReadNext};
+use rpki_der::{Content, Cursor, DerError, append_header, header_len, tag};
+use std::alloc::{AllocError, Allocator};
+
+impl AsBlock {
+    ghost use Rattle.std.specs.Prelude.{◌≡◌, ℕ, List, Ok, Some, true, ◌≤◌, ◌+◌, ◌++◌, length, vec_len, OnOk, OnErr, IsOk};
+    ghost use Rattle.std.specs.Vec.{vec_capacity};
+    ghost use Rattle.rpki_chains.specs.Sets.{IsNew};
+    ghost use Rattle.rpki_der.specs.Der.{Spells};
+    ghost use Rattle.rpki_der.specs.Reading.{optional};
+    ghost use Rattle.rpki_der.specs.Views.{Lenient, NotCanonicalOr, ReadsOptional, Strict, Takes, is_strict, left};
+    ghost use Rattle.rpki_as_block.specs.AsDer.{HasAsNumbers, IsAsBlock, IsBlockInAnyOrder, IsSetBlock, as_block_octets};
+    ghost use Rattle.rpki_as_block.specs.AsDerReading.{as_block_at, as_block_by, skip_block_at};
+    ghost use Rattle.rpki_as_block.specs.Blocks.{as_bounds, new_as_block};
+
+    /// Takes the next block; None at the end, and there alone.
+    ///
+    /// The faults are those of [`Cursor::take_value`] and `BadInteger`; `BadTag` also where neither an INTEGER nor a
+    /// SEQUENCE stands there, `ReversedRange` where the first number of a range is above the second, and `TrailingData`
+    /// where more than two numbers are in it. From a strict cursor also `NotCanonical` for a range of one number.
+    pub fn take_opt_from(cursor: &mut Cursor<'_>) -> Result<Option<AsBlock>, DerError>
+        ensures reads { Lenient cursor.old
+            (ReadsOptional IsAsBlock (λ block. block) cursor.old cursor.new result) }
+        ensures exact { Lenient cursor.old
+            (Takes (λ block. block) cursor.old cursor.new result (optional as_block_at)) }
+        // What is written of a block is read as that block, whatever follows it; strictly, of one in new form.
+        ensures reads_back { (block : AsBlock) (rest : List ℕ) → HasAsNumbers block
+            → (is_strict cursor.old ≡ true → IsNew as_bounds new_as_block block)
+            → left cursor.old ≡ as_block_octets block ++ rest
+            → (result ≡ Ok (Some block)) × (left cursor.new ≡ rest) }
+        // A strict cursor takes what is written of a block that sets have.
+        ensures strict { Strict cursor.old
+            (ReadsOptional (Spells IsSetBlock as_block_octets) (λ block. block) cursor.old
+            cursor.new result) }
+        ensures refused { NotCanonicalOr IsAsBlock cursor.old result }
+        // In either mode.
+        ensures by_mode { Takes (λ block. block) cursor.old cursor.new result
+            (optional (as_block_by (is_strict cursor.old))) }
+        ensures mode { is_strict cursor.new ≡ is_strict cursor.old }
+    {
+        AsBlock::next_opt(cursor)
+    }
+
+    /// Passes over the next block; None at the end, and there alone. The faults are those of `take_opt_from` without
+    /// `ReversedRange`: the numbers of a range may be in any order.
+    pub fn skip_opt_in(cursor: &mut Cursor<'_>) -> Result<Option<()>, DerError>
+        ensures reads { ReadsOptional IsBlockInAnyOrder (λ u. u) cursor.old cursor.new result }
+        ensures exact { Takes (λ u. u) cursor.old cursor.new result (optional skip_block_at) }
+        ensures mode { is_strict cursor.new ≡ is_strict cursor.old }
+    {
+        AsBlock::pass_over_opt(cursor)
+    }
+
+    /// How many octets `encode` appends: at most 16.
+    pub fn encoded_len(&self) -> usize
+        ensures len { result ≡ length (as_block_octets self.now) }
+        ensures short { result ≤ 16 }
+    {
+        match self {
+            AsBlock::Id(asn) => asn.encoded_len(),
+            AsBlock::Range(range) => {
+                let content_len = range_content_len(range);
+                header_len(tag::SEQUENCE, content_len) + content_len
+            }
+        }
+    }
+
+    /// Appends the block in its own form. `AllocError` where there is no memory for it; then the octets stay as they
+    /// were.
+    pub fn encode<A: Allocator>(&self, out: &mut Vec<u8, A>) -> Result<(), AllocError>
+        ensures ok { OnOk result (out.new.items ≡ out.old.items ++ as_block_octets self.now) }
+        ensures err { OnErr result (out.new.items ≡ out.old.items) }
+        ensures succeeds { vec_len out.old + length (as_block_octets self.now)
+            ≤ vec_capacity out.old → IsOk result }
+        ensures capacity { vec_capacity out.old ≤ vec_capacity out.new }
+        ensures numbers { HasAsNumbers self.now }
+        // It is read back, whatever follows it.
+        ensures read_back { (rest : List ℕ)
+            → as_block_at (as_block_octets self.now ++ rest) ≡ Ok (self.now, rest) }
+    {
+        let _number = AsBlock::max(self).into_u32(); // read so that the proof sees that the number has 32 bits
+        self.put(out)
+    }
+}
+
+// The readings and the writers behind the calls.
+impl AsBlock {
+    ghost use Rattle.std.specs.Prelude.{◌≡◌, ◌≤◌, ◌+◌, ◌++◌, length, vec_len, OnOk, OnErr, IsOk};
+    ghost use Rattle.std.specs.Vec.{vec_capacity};
+    ghost use Rattle.rpki_as_block.specs.AsDer.{as_block_octets};
+    ghost use Rattle.rpki_chains.specs.Beyond.{is_beyond};
+    ghost use Rattle.rpki_as_block.specs.Blocks.{as_bounds};
+    ghost use Rattle.rpki_der.specs.Reading.{Gives, optional};
+    ghost use Rattle.rpki_der.specs.Views.{Takes, is_strict, tlv};
+    ghost use Rattle.rpki_as_block.specs.AsDerReading.{as_block_at, as_block_by, as_block_of, is_new_form, next_block_by, skip_block_at, skip_block_of};
+
+    fn put<A: Allocator>(&self, out: &mut Vec<u8, A>) -> Result<(), AllocError>
+        ensures ok { OnOk result (out.new.items ≡ out.old.items ++ as_block_octets self.now) }
+        ensures err { OnErr result (out.new.items ≡ out.old.items) }
+        ensures succeeds { vec_len out.old + length (as_block_octets self.now)
+            ≤ vec_capacity out.old → IsOk result }
+        ensures capacity { vec_capacity out.old ≤ vec_capacity out.new }
+    {
+        out.reserve(AsBlock::encoded_len(self))?;
+        self.append_to(out);
+        Ok(())
+    }
+
+    fn append_to<A: Allocator>(&self, out: &mut Vec<u8, A>)
+        requires room { vec_len out.old + length (as_block_octets self.now) ≤ vec_capacity out.old }
+        ensures items { out.new.items ≡ out.old.items ++ as_block_octets self.now }
+        ensures capacity { vec_capacity out.old ≤ vec_capacity out.new }
+    {
+        match self {
+            AsBlock::Id(asn) => asn.append(out),
+            AsBlock::Range(range) => {
+                append_header(out, tag::SEQUENCE, range_content_len(range));
+                AsRange::min(*range).append(out);
+                AsRange::max(*range).append(out);
+            }
+        }
+    }
+
+    #[tactic(auto, unfolding(rpki_der::specs::Reading::optional))]
+    fn next_opt(cursor: &mut Cursor<'_>) -> Result<Option<AsBlock>, DerError>
+        ensures by_mode { Takes (λ block. block) cursor.old cursor.new result
+            (optional (as_block_by (is_strict cursor.old))) }
+        ensures mode { is_strict cursor.new ≡ is_strict cursor.old }
+    {
+        if cursor.is_empty() {
+            return Ok(None);
+        }
+        Ok(Some(AsBlock::next(cursor)?))
+    }
+
+    #[tactic(auto, unfolding(rpki_der::specs::Reading::optional))]
+    fn next_opt_after(
+        before: Option<Asn>,
+        cursor: &mut Cursor<'_>,
+    ) -> Result<Option<AsBlock>, DerError>
+        ensures by_mode { Takes (λ block. block) cursor.old cursor.new result
+            (optional (next_block_by (is_strict cursor.old) before)) }
+        ensures mode { is_strict cursor.new ≡ is_strict cursor.old }
+    {
+        if cursor.is_empty() {
+            return Ok(None);
+        }
+        Ok(Some(AsBlock::next_after(before, cursor)?))
+    }
+
+    #[tactic(auto, unfolding(rpki_der::specs::Reading::refined, rpki_der::specs::Reading::passing))]
+    fn next_after(before: Option<Asn>, cursor: &mut Cursor<'_>) -> Result<AsBlock, DerError>
+        ensures by_mode { Takes (λ block. block) cursor.old cursor.new result
+            (next_block_by (is_strict cursor.old) before) }
+        ensures mode { is_strict cursor.new ≡ is_strict cursor.old }
+    {
+        let mut ahead = *cursor;
+        let block = AsBlock::next_in_any_form(&mut ahead)?;
+        if cursor.is_strict() && !(block.is_new_form() && block.is_beyond(before)) {
+            return Err(DerError::NotCanonical);
+        }
+        *cursor = ahead;
+        Ok(block)
+    }
+
+    #[tactic(auto, unfolding(rpki_der::specs::Reading::refined, rpki_der::specs::Reading::passing))]
+    fn next(cursor: &mut Cursor<'_>) -> Result<AsBlock, DerError>
+        ensures by_mode { Takes (λ block. block) cursor.old cursor.new result
+            (as_block_by (is_strict cursor.old)) }
+        ensures mode { is_strict cursor.new ≡ is_strict cursor.old }
+    {
+        let mut ahead = *cursor;
+        let block = AsBlock::next_in_any_form(&mut ahead)?;
+        if cursor.is_strict() && !block.is_new_form() {
+            return Err(DerError::NotCanonical);
+        }
+        *cursor = ahead;
+        Ok(block)
+    }
+
+    #[tactic(auto, unfolding(rpki_der::specs::Reading::refined))]
+    fn next_in_any_form(cursor: &mut Cursor<'_>) -> Result<AsBlock, DerError>
+        ensures exact { Takes (λ block. block) cursor.old cursor.new result as_block_at }
+        ensures mode { is_strict cursor.new ≡ is_strict cursor.old }
+    {
+        let mut ahead = *cursor;
+        let block = AsBlock::of_value(&ahead.take_value()?)?;
+        *cursor = ahead;
+        Ok(block)
+    }
+
+    // Whether the block is the one that is made of its bounds.
+    fn is_new_form(&self) -> bool
+        ensures { result ≡ is_new_form self.now }
+    {
+        match self {
+            AsBlock::Id(_) => true,
+            AsBlock::Range(range) => AsRange::min(*range) != AsRange::max(*range),
+        }
+    }
+
+    // Whether the block begins more than one above the number.
+    fn is_beyond(&self, before: Option<Asn>) -> bool
+        ensures { result ≡ is_beyond before (as_bounds self.now).0 }
+    {
+        match before {
+            None => true,
+            Some(greatest) => {
+                greatest.into_u32() as u64 + 1 < AsBlock::min(self).into_u32() as u64
+            }
+        }
+    }
+
+    #[tactic(auto, unfolding(rpki_base::specs::DerReading::by_tag))]
+    fn of_value(value: &Content<'_>) -> Result<AsBlock, DerError>
+        ensures exact { Gives (λ block. block) result (as_block_of (tlv value.now)) }
+    {
+        match value.tag() {
+            tag::INTEGER => Ok(AsBlock::Id(Asn::parse_content(value)?)),
+            tag::SEQUENCE => Ok(AsBlock::Range(range_within(value.cursor())?)),
+            _ => Err(DerError::BadTag),
+        }
+    }
+
+    #[tactic(auto, unfolding(rpki_der::specs::Reading::optional))]
+    fn pass_over_opt(cursor: &mut Cursor<'_>) -> Result<Option<()>, DerError>
+        ensures exact { Takes (λ u. u) cursor.old cursor.new result (optional skip_block_at) }
+        ensures mode { is_strict cursor.new ≡ is_strict cursor.old }
+    {
+        if cursor.is_empty() {
+            return Ok(None);
+        }
+        Ok(Some(AsBlock::pass_over(cursor)?))
+    }
+
+    #[tactic(auto, unfolding(rpki_der::specs::Reading::refined))]
+    fn pass_over(cursor: &mut Cursor<'_>) -> Result<(), DerError>
+        ensures exact { Takes (λ u. u) cursor.old cursor.new result skip_block_at }
+        ensures mode { is_strict cursor.new ≡ is_strict cursor.old }
+    {
+        let mut ahead = *cursor;
+        AsBlock::pass_over_value(&ahead.take_value()?)?;
+        *cursor = ahead;
+        Ok(())
+    }
+
+    #[tactic(auto, unfolding(rpki_base::specs::DerReading::by_tag))]
+    fn pass_over_value(value: &Content<'_>) -> Result<(), DerError>
+        ensures exact { Gives (λ u. u) result (skip_block_of (tlv value.now)) }
+    {
+        match value.tag() {
+            tag::INTEGER => Asn::skip_content(value),
+            tag::SEQUENCE => skip_pair_within(value.cursor()),
+            _ => Err(DerError::BadTag),
+        }
+    }
+}
+
+/// The range in the content of a SEQUENCE.
+#[tactic(auto, unfolding(rpki_base::specs::DerReading::pair_in))]
+fn range_within(content: Cursor<'_>) -> Result<AsRange, DerError>
+    ensures exact { Gives (λ range. range) result (as_range_in (left content.entry)) }
+{
+    let mut inside = content;
+    let min = Asn::take_from(&mut inside)?;
+    let max = Asn::take_from(&mut inside)?;
+    if min > max {
+        return Err(DerError::ReversedRange);
+    }
+    inside.finish()?;
+    Ok(AsRange::new(min, max))
+}
+
+/// Passes over two AS numbers in the content of a SEQUENCE.
+#[tactic(auto, unfolding(rpki_base::specs::DerReading::pair_in))]
+fn skip_pair_within(content: Cursor<'_>) -> Result<(), DerError>
+    ensures exact { Gives (λ u. u) result (skip_pair (left content.entry)) }
+{
+    let mut inside = content;
+    Asn::take_from(&mut inside)?;
+    Asn::take_from(&mut inside)?;
+    inside.finish()
+}
+
+/// How many octets the content of a range has.
+fn range_content_len(range: &AsRange) -> usize
+    ensures len { result ≡ length (as_range_content (range_bounds range.now)) }
+    ensures short { result ≤ 14 }
+{
+    AsRange::min(*range).encoded_len() + AsRange::max(*range).encoded_len()
+}
+
+/// Reads blocks one after another. From a strict cursor each begins more than one above the greatest number of the one
+/// before it.
+#[derive(Clone, Copy, Debug)]
+pub struct AsBlockReader;
+
+impl ReadNext for AsBlockReader {
+    ghost use Rattle.std.specs.Prelude.{Some, None};
+    ghost use Rattle.rpki_as_block.specs.AsDer.{IsAsBlock};
+    ghost use Rattle.rpki_as_block.specs.AsDerLaws.{as_block_has_octets, as_block_reading};
+    ghost use Rattle.rpki_as_block.specs.AsDerModes.{IsNextBlock, next_block_modal};
+    ghost use Rattle.rpki_as_block.specs.AsDerReading.{as_block_at, next_block_by};
+    ghost use Rattle.rpki_as_block.specs.Blocks.{as_bounds};
+
+    type Value = AsBlock;
+
+    // The greatest number of the block before.
+    type State = Option<Asn>;
+
+    ghost first = { λ _. None };
+
+    ghost after = { λ _ before block. Some (as_bounds block).1 };
+
+    ghost grammar = { λ _ _. IsAsBlock };
+
+    ghost reading = { λ _ _. as_block_at };
+
+    ghost strict_grammar = { λ _ before. IsNextBlock before };
+
+    ghost reading_by = { λ _ strict before. next_block_by strict before };
+
+    ghost is_reading = { λ _ _. as_block_reading };
+
+    ghost has_octets = { λ _ _. as_block_has_octets };
+
+    ghost is_modal = { λ _ before. next_block_modal before };
+
+    fn first_state(&self) -> Option<Asn> {
+        None
+    }
+
+    fn state_after(&self, _before: Option<Asn>, block: &AsBlock) -> Option<Asn> {
+        Some(AsBlock::max(block))
+    }
+
+    fn take_next(
+        &self,
+        before: Option<Asn>,
+        cursor: &mut Cursor<'_>,
+    ) -> Result<Option<AsBlock>, DerError> {
+        AsBlock::next_opt_after(before, cursor)
+    }
+}
+
+impl Encode for AsBlock {
+    ghost use Rattle.rpki_as_block.specs.AsDer.{as_block_octets};
+
+    ghost octets = { as_block_octets };
+
+    fn encoded_len(&self) -> usize {
+        AsBlock::encoded_len(self)
+    }
+
+    fn append<A: Allocator>(&self, out: &mut Vec<u8, A>) {
+        self.append_to(out)
+    }
+}

@@ -1,0 +1,59 @@
+//! The AS numbers of a block one by one, ascending. The iterator takes no memory.
+ghost use Rattle.std.specs.Prelude.{◌≡◌, []};
+ghost use Rattle.std.specs.Iterator.{YieldsFirst, item_count};
+
+use crate::range::AsRange;
+use rpki_base::asn::Asn;
+use rpki_chains::block::Block;
+use std::marker::Model;
+
+/// The numbers of a block that are left. Contracts see it as their list.
+#[derive(Debug, Drop)]
+pub struct AsBlockIter {
+    left: Option<AsRange>,
+}
+
+impl Model for AsBlockIter {
+    ghost use Rattle.std.specs.Prelude.{ℕ, List};
+    ghost use Rattle.rpki_as_block.specs.Numbers.{numbers_left};
+
+    ghost Value = { List ℕ };
+
+    ghost view = { λ i. numbers_left i.left };
+}
+
+impl AsBlockIter {
+    ghost use Rattle.rpki_chains.specs.Ranges.{range_bounds};
+    ghost use Rattle.rpki_as_block.specs.Numbers.{numbers_within};
+
+    /// The numbers of a range.
+    pub fn over(range: AsRange) -> AsBlockIter
+        ensures { result ≡ numbers_within (range_bounds range) }
+    {
+        AsBlockIter { left: Some(range) }
+    }
+
+    /// No numbers.
+    pub fn none() -> AsBlockIter
+        ensures { result ≡ [] }
+    {
+        AsBlockIter { left: None }
+    }
+}
+
+impl Iterator for AsBlockIter {
+    type Item = Asn;
+
+    ghost next_gives = { YieldsFirst (λ numbers. numbers) };
+
+    ghost remaining = { item_count (λ numbers. numbers) };
+
+    fn next(&mut self) -> Option<Asn> {
+        let range = self.left.take()?;
+        let (min, max) = range.bounds();
+        if min < max {
+            self.left = Some(AsRange::new(min.add(1), max));
+        }
+        Some(min)
+    }
+}

@@ -1,0 +1,36 @@
+//! What holds of ranges, and of the octets of blocks, each law as the contract of a function that does nothing.
+ghost use Rattle.std.specs.Prelude.{◌≡◌, ◌↔◌, ◌<◌, ℕ, List, Err, IsTrue};
+ghost use Rattle.rpki_chains.specs.Ranges.{RangeValue};
+ghost use Rattle.rpki_der.specs.Der.{OneFront};
+ghost use Rattle.rpki_der.specs.declared.error.DerError.TheVariants.{ReversedRange};
+ghost use Rattle.rpki_base.specs.AsnDer.{as_number_at};
+ghost use Rattle.rpki_base.specs.DerFaults.{BeginsWithTwo, BeginsWithValue};
+ghost use Rattle.rpki_as_block.specs.AsDer.{HasAsNumbers, IsAsBlock, as_block_octets};
+ghost use Rattle.rpki_as_block.specs.AsDerReading.{as_block_at, as_range_in};
+ghost use Rattle.rpki_as_block.specs.declared.block.AsBlock.{AsBlock};
+
+use crate::range::AsRange;
+
+/// Ranges are equal exactly where their least and their greatest numbers are the same.
+pub fn equal_where_the_same()
+    ensures { (r s : RangeValue) → IsTrue (⟦<AsRange as PartialEq>⟧.eq r s) ↔ (r ≡ s) }
+{}
+
+/// Octets begin with at most one block.
+pub fn one_block()
+    ensures { OneFront IsAsBlock }
+{}
+
+/// The octets that `encode` appends are the block.
+pub fn written()
+    ensures { (block : AsBlock) → HasAsNumbers block → IsAsBlock (as_block_octets block) block }
+{}
+
+/// A range is reversed exactly where it begins with two numbers of which the second is less than the first, whatever
+/// stands behind them, and a block exactly where it is a SEQUENCE that begins so.
+pub fn reversed()
+    ensures range { (content : List ℕ) → (as_range_in content ≡ Err ReversedRange)
+        ↔ BeginsWithTwo as_number_at (λ first second. second < first) content }
+    ensures block { (bytes : List ℕ) → (as_block_at bytes ≡ Err ReversedRange)
+        ↔ BeginsWithValue 48 (BeginsWithTwo as_number_at (λ first second. second < first)) bytes }
+{}

@@ -1,0 +1,26 @@
+//! Blocks of AS numbers (RFC 3779, 3.2.3.5 to 3.2.3.8): their bounds and numbers, their texts and their DER.
+//!
+//! A text is read as a block, and the block's numbers are counted, as in `test_values::as_blocks`:
+//!
+//! ```rust
+//! match AsBlock::from_str(text) {
+//!     Ok(block) => Some(block.asn_count()),
+//!     Err(_) => None,
+//! }
+//! ```
+#![tactic(auto)]
+
+pub mod block;
+pub mod der;
+pub mod error;
+pub mod iter;
+pub mod laws;
+pub mod list;
+mod place;
+pub mod range;
+mod text;
+
+pub use block::AsBlock;
+pub use error::FromStrError;
+pub use iter::AsBlockIter;
+pub use range::AsRange;

@@ -1,0 +1,25 @@
+//! AS blocks of the usual form, read at a place among bytes.
+ghost use Rattle.std.specs.Prelude.{◌≤◌, length, MatchOption};
+ghost use Rattle.rpki_base.specs.AsnPlaces.{Anything};
+ghost use Rattle.rpki_as_block.specs.BlockPlaces.{IsAsBlockBetween};
+
+use crate::block::AsBlock;
+use crate::range::AsRange;
+use rpki_base::asn::place::asn_at;
+
+/// The block that the bytes from a place on write with one number of the usual form, or with two round a dash, and the
+/// place behind it. Other texts of blocks there may be nothing to this call, as in [`asn_at`].
+pub(crate) fn block_at(text: &[u8], start: usize) -> Option<(AsBlock, usize)>
+    requires { start ≤ length text.now }
+    ensures { MatchOption result Anything (λ found. IsAsBlockBetween start found.1 text.now found.0) }
+{
+    let (min, dash) = asn_at(text, start)?;
+    if dash == text.len() || text[dash] != b'-' {
+        return Some((AsBlock::Id(min), dash));
+    }
+    let (max, end) = asn_at(text, dash + 1)?;
+    if min > max {
+        return None;
+    }
+    Some((AsBlock::Range(AsRange::new(min, max)), end))
+}

@@ -1,0 +1,136 @@
+//! Ranges of AS numbers.
+ghost use Rattle.std.specs.Prelude.{◌≡◌, ◌≤◌};
+
+use rpki_base::asn::Asn;
+use rpki_base::asn::print::fmt_asn_range;
+use rpki_chains::block::Block;
+use std::fmt;
+use std::marker::Model;
+
+/// The AS numbers from a least one to a greatest one, which may be the same (RFC 3779, 3.2.3.8).
+#[derive(Clone, Copy, Debug, PartialEq, Eq)]
+pub struct AsRange {
+    min: Asn,
+    max: Asn,
+}
+
+impl Model for AsRange {
+    ghost use Rattle.std.specs.Prelude.{◌≤◌};
+    ghost use Rattle.rpki_chains.specs.Ranges.{RangeValue};
+
+    ghost Value = { RangeValue };
+
+    ghost view = { λ r. record { min = r.min; max = r.max } };
+
+    ghost invariant = { λ r. r.min ≤ r.max };
+
+    ghost inverse = { λ r. record { min = r.min; max = r.max } };
+}
+
+impl AsRange {
+    ghost use Rattle.std.specs.Prelude.{◌+◌};
+    ghost use Rattle.rpki_chains.specs.Sets.{IsWithin};
+    ghost use Rattle.rpki_chains.specs.Ranges.{range_bounds};
+    ghost use Rattle.rpki_as_block.specs.Numbers.{IsSizeOf};
+
+    /// The range from the least number to the greatest, which isn't below it.
+    pub fn new(min: Asn, max: Asn) -> AsRange
+        requires { min ≤ max }
+        ensures { result ≡ record { min = min; max = max } }
+    {
+        AsRange { min, max }
+    }
+
+    /// All AS numbers, 0 to 4294967295.
+    pub fn all() -> AsRange
+        ensures { result ≡ record { min = 0; max = 4294967295 } }
+    {
+        AsRange::new(Asn::MIN, Asn::MAX)
+    }
+
+    /// The least number.
+    pub fn min(self) -> Asn
+        ensures value { result ≡ self.min }
+        ensures in_order { self.min ≤ self.max }
+    {
+        self.min
+    }
+
+    /// The greatest number.
+    pub fn max(self) -> Asn
+        ensures value { result ≡ self.max }
+        ensures in_order { self.min ≤ self.max }
+    {
+        self.max
+    }
+
+    /// How many numbers the range has, which is 1 to 2^32.
+    pub fn asn_count(self) -> u64
+        ensures from_bounds { result + self.min ≡ self.max + 1 }
+        ensures size { IsSizeOf (IsWithin (range_bounds self)) result }
+    {
+        u64::from(self.max.into_u32()) - u64::from(self.min.into_u32()) + 1
+    }
+}
+
+/// As a block, it has one form.
+impl Block for AsRange {
+    ghost use Rattle.std.specs.Prelude.{refl};
+    ghost use Rattle.rpki_chains.specs.Ranges.{range_bounds, new_range};
+
+    type Item = Asn;
+
+    ghost first = { 0 };
+
+    ghost last = { 4294967295 };
+
+    ghost number = { λ n. n };
+
+    ghost item_at = { λ n. n };
+
+    ghost bounds = { range_bounds };
+
+    ghost form = { new_range };
+
+    ghost in_order = { λ x y. refl };
+
+    ghost no_gaps = { λ n low high. refl };
+
+    ghost one_item = { λ x y same. same };
+
+    ghost form_bounds = { λ b from ordered to. refl };
+
+    fn new(min: Asn, max: Asn) -> AsRange {
+        AsRange { min, max }
+    }
+
+    fn min(&self) -> Asn {
+        self.min
+    }
+
+    fn max(&self) -> Asn {
+        let max = self.max;
+        let _number = max.into_u32(); // read so that the proof sees that the number has 32 bits
+        max
+    }
+
+    fn next(item: Asn) -> Option<Asn> {
+        item.into_u32().checked_add(1).map(Asn::from_u32)
+    }
+
+    fn previous(item: Asn) -> Option<Asn> {
+        item.into_u32().checked_sub(1).map(Asn::from_u32)
+    }
+}
+
+/// Prints both numbers, also where they are the same, as `AS3-AS5`.
+impl fmt::Display for AsRange {
+    ghost use Rattle.std.specs.Prelude.{Some};
+    ghost use Rattle.rpki_as_block.specs.BlockText.{as_range_text};
+
+    ghost output = { λ r. Some (as_range_text r) };
+
+    fn fmt<W: fmt::Write>(&self, f: &mut fmt::Formatter<W>) -> fmt::Result {
+        fmt_asn_range(self.min, self.max, f)
+    }
+}

@@ -1,5 +1,0 @@
-use Rattle.rpki_asblock.proofs.NumberLemmas.{IsListOf-numbers_within}
-use Rattle.rpki_asblock.proofs.block.AsBlock.iter.Goals as goal
-
-pub returns-clause-numbers : goal.returns-clause-numbers
-returns-clause-numbers c = rw (c.over.ensures, c.new.ensures, c.min.ensures.value, c.max.ensures.value) (IsListOf-numbers_within _)

@@ -1,9 +1,0 @@
--- The grammar of blocks has a reading.
-use Rattle.rpki_der.proofs.Readings.{one_front}
-use Rattle.rpki_asblock.specs.AsDer.{IsAsBlock}
-use Rattle.rpki_asblock.specs.AsDerLaws.{as_block_reading}
-use Rattle.rpki_asblock.specs.AsDerReading.{as_block_at}
-use Rattle.rpki_asblock.proofs.laws.one_block.Goals as goal
-
-pub returns : goal.returns
-returns c = one_front IsAsBlock as_block_at as_block_reading

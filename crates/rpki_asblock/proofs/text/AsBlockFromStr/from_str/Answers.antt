@@ -1,6 +1,0 @@
--- A block of the usual form that takes the whole text is the answer.
-use Rattle.rpki_asblock.proofs.BlockPlaceLemmas.{reads_whole}
-use Rattle.rpki_asblock.proofs.text.AsBlockFromStr.from_str.Goals as goal
-
-pub returns-in-Some : goal.returns-in-Some
-returns-in-Some c = reads_whole _ _ _ _ c.as_bytes-bytes.ensures.value c.in-Some.ensures c.if-end-bytes.true

@@ -1,8 +1,0 @@
--- What the sorted blocks cover is what the blocks covered.
-use Rattle.rpki_blocks.proofs.build.join.Goals as goal
-
-pub returns-clause-covers : goal.returns-clause-covers
-returns-clause-covers g c n =
-    let sorted = c.sort.ensures.covers n in
-    let joined = c.join_ascending.ensures.covers n in
-    (λ h. sorted.0 (joined.0 h), λ h. joined.1 (sorted.1 h))

@@ -1,7 +1,0 @@
--- What was joined is the chain of what the blocks covered.
-use Rattle.rpki_blocks.specs.Sets.{Covers}
-use Rattle.rpki_blocks.proofs.Chains.{IsChainOf-from}
-use Rattle.rpki_blocks.proofs.owned.OwnedChain.from_vec.Goals as goal
-
-pub returns : goal.returns
-returns g c = rw c.from_vec_unchecked.ensures (IsChainOf-from g.T.Block.bounds g.T.Block.form _ (Covers g.T.Block.bounds c.args.blocks.items) c.join.ensures.chain c.join.ensures.covers)

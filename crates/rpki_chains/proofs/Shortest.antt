@@ -1,0 +1,40 @@
+-- No list of blocks with the same cover is shorter than a chain.
+use Rattle.std.proofs.Common.{ℕ, ◌+◌, ◌<◌, ◌≤◌, ◌↔◌, ⊎_elim, List, [], ◌∷◌, length, get_or, sym, arith, suc}
+use Rattle.std.specs.List.{remove}
+use Rattle.std.specs.List.Sorted.{IsPermutation}
+use Rattle.std.proofs.lemmas.List.Sorted.{IsPermutation-remove, IsPermutation-sym, length_permutation}
+use Rattle.rpki_chains.specs.Sets.{Covers, IsChain}
+use Rattle.rpki_chains.proofs.Chains.{Covers-at, IsChainOf-itself}
+use Rattle.rpki_chains.proofs.Sorts.{Covers-permutation}
+use Rattle.rpki_chains.proofs.Unique.{Covers-head, Covers-tail, Covers-cons_cases, IsChain-tail}
+
+module _ {B : Type 0} (f : B → ℕ × ℕ) (form : ℕ × ℕ → B) where
+  -- each block of the chain needs one of its own
+  needs_own : (xs ys : List B) → IsChain f form xs → ((k : ℕ) (d : B) → k < length xs → Covers f ys (f (get_or xs k d)).0) → ((k : ℕ) (d : B) → k < length xs → Covers f ys ((f (get_or xs k d)).1 + 1) → ⊥) → length xs ≤ length ys
+  needs_own [] ys h lows gaps = omega arith
+  needs_own (x ∷ xs) ys h lows gaps =
+      let c : Covers f ys (f x).0 = lows 0 x (omega arith) in
+      let y = c.1 in
+      let zs = remove ys c.0 in
+      let moved : IsPermutation ys (y ∷ zs) = IsPermutation-remove ys c.0 y c.2 (sym c.3) in
+      let back = IsPermutation-sym ys (y ∷ zs) moved in
+      let len = length_permutation ys (y ∷ zs) moved in
+      let o : (f x).0 ≤ (f x).1 = h.ordered 0 x (omega arith) in
+      let rest = needs_own xs zs (IsChain-tail f form x xs h)
+      (λ k d lt. ⊎_elim
+      (λ w.
+      let far : (f x).1 + 1 < (f (get_or xs k d)).0 = h.apart 0 (suc k) d (omega arith) (omega arith) in
+      let near = c.4 in
+      absurd (gaps 0 x (omega arith) (Covers-permutation f (y ∷ zs) ys ((f x).1 + 1) back (Covers-head f y zs ((f x).1 + 1) (omega (arith, near.0), omega (arith, w.1))))))
+      (λ r. r)
+      (Covers-cons_cases f y zs (f (get_or xs k d)).0 (Covers-permutation f ys (y ∷ zs) (f (get_or xs k d)).0 moved (lows (suc k) d (omega arith)))))
+      (λ k d lt covered. gaps (suc k) d (omega arith) (Covers-permutation f (y ∷ zs) ys ((f (get_or xs k d)).1 + 1) back (Covers-tail f y zs ((f (get_or xs k d)).1 + 1) covered))) in
+      omega arith
+
+  -- so none with the chain's cover is shorter
+  pub IsChain-shortest : (xs ys : List B) → IsChain f form xs → ((n : ℕ) → Covers f ys n ↔ Covers f xs n) → length xs ≤ length ys
+  IsChain-shortest xs ys h same =
+      let runs = (IsChainOf-itself f form xs h).runs in
+      needs_own xs ys h
+      (λ k d lt. (let o = h.ordered k d lt in (same (f (get_or xs k d)).0).1 (Covers-at f xs k (f (get_or xs k d)).0 d lt (omega arith, omega arith))))
+      (λ k d lt covered. (runs k d lt).ends ((same ((f (get_or xs k d)).1 + 1)).0 covered))

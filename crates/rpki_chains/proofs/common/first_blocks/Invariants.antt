@@ -1,0 +1,13 @@
+-- The blocks passed were made anew, and the chain is the same.
+use Rattle.std.proofs.Common.{◌≡◌, ◌+◌, ◌≤◌, length, take}
+use Rattle.rpki_chains.specs.Sets.{IsChain}
+use Rattle.rpki_chains.proofs.common.first_blocks.Given as goal
+
+abbrev pub invariant-loop-at : goal.invariant-loop-at
+invariant-loop-at g l = record {
+  reads : g.X.Reads.count l.own ≤ g.X.Reads.count l.fn.own + l.at;
+  made : l.chain.items ≡ take l.at (g.X.Reads.blocks l.fn.own);
+  kept : g.X.Reads.blocks l.own ≡ g.X.Reads.blocks l.fn.own;
+  chain : IsChain g.T.Block.bounds g.T.Block.form (g.X.Reads.blocks l.fn.own);
+  bound : l.len ≤ length (g.X.Reads.blocks l.fn.own);
+}

@@ -1,0 +1,48 @@
+-- What is refused is what the chains, which are still the same, have in common.
+use Rattle.std.proofs.Common.{subst, arith}
+use Rattle.rpki_chains.specs.Sets.{Covers, IsChainOf}
+use Rattle.rpki_chains.proofs.FitTurns.{overhang-not_inside}
+use Rattle.rpki_chains.proofs.trim.trim_counted.Goals as goal
+
+pub returns-in-Ok-clause-ok : goal.returns-in-Ok-clause-ok
+returns-in-Ok-clause-ok g c = (λ e. absurd cc, λ all. absurd (overhang-not_inside g.T.Block.bounds g.T.Block.form g.T.Block.number g.T.Block.first g.T.Block.last _ _ c.in-Some.overhang c.in-Some.ensures.value all))
+
+pub returns-in-Err-clause-ok : goal.returns-in-Err-clause-ok
+returns-in-Err-clause-ok g c = (λ e. absurd cc, λ all. absurd (overhang-not_inside g.T.Block.bounds g.T.Block.form g.T.Block.number g.T.Block.first g.T.Block.last _ _ c.in-Some.overhang c.in-Some.ensures.value all))
+
+pub returns-in-Ok-clause-refused : goal.returns-in-Ok-clause-refused
+returns-in-Ok-clause-refused g c =
+    let f = g.T.Block.bounds in
+    let form = g.T.Block.form in
+    subst (λ xs. IsChainOf f form (λ n. Covers f xs n × Covers f (g.Y.Reads.blocks c.args.other.now) n) c.in-Ok.chain) c.first_overhang.ensures.own_kept
+    (subst (λ ys. IsChainOf f form (λ n. Covers f (g.X.Reads.blocks c.first_overhang.new.own) n × Covers f ys n) c.in-Ok.chain) c.first_overhang.ensures.other_kept c.in-Ok.ensures.common)
+
+pub returns-in-Ok-clause-reads : goal.returns-in-Ok-clause-reads
+returns-in-Ok-clause-reads g c =
+    let own = c.in-Some.ensures.own_left in
+    let other = c.in-Some.ensures.other_left in
+    let within = c.in-Some.ensures.value.own_block.0 in
+    let again = rw c.first_overhang.ensures.own_kept at c.common_from.ensures.own_reads in
+    let rest = rw c.first_overhang.ensures.other_kept at c.common_from.ensures.other_reads in
+    omega arith
+
+pub returns-in-Err-clause-reads : goal.returns-in-Err-clause-reads
+returns-in-Err-clause-reads g c =
+    let own = c.in-Some.ensures.own_left in
+    let other = c.in-Some.ensures.other_left in
+    let within = c.in-Some.ensures.value.own_block.0 in
+    let again = rw c.first_overhang.ensures.own_kept at c.common_from.ensures.own_reads in
+    let rest = rw c.first_overhang.ensures.other_kept at c.common_from.ensures.other_reads in
+    omega arith
+
+pub returns-in-None-clause-reads : goal.returns-in-None-clause-reads
+returns-in-None-clause-reads g c =
+    let own = c.first_overhang.ensures.own_reads in
+    let other = c.first_overhang.ensures.other_reads in
+    omega arith
+
+pub returns-in-Ok-clause-few : goal.returns-in-Ok-clause-few
+returns-in-Ok-clause-few g c = rw (c.first_overhang.ensures.own_kept, c.first_overhang.ensures.other_kept) at c.in-Ok.ensures.few
+
+pub common_from-requires : goal.common_from-requires
+common_from-requires g c = rw (c.first_overhang.ensures.own_kept, c.first_overhang.ensures.other_kept) c.in-Some.ensures.value

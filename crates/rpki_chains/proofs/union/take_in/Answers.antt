@@ -1,0 +1,34 @@
+-- The run is made longer, or closed where the next bounds don't touch it.
+use Rattle.std.proofs.Common.{◌≡◌, ◌≤◌, ◌∙◌, ⊎_elim, ap, sym, arith}
+use Rattle.rpki_chains.specs.Sets.{numbers}
+use Rattle.rpki_chains.proofs.Joining.{longer_run, longer_held, next_run, held_next}
+use Rattle.rpki_chains.proofs.union.take_in.Goals as goal
+
+pub returns-in-Some-clause-run : goal.returns-in-Some-clause-run
+returns-in-Some-clause-run g c =
+    let number = g.T.Block.number in
+    let longer = c.in-Some.longer in
+    let over = c.in-Some.ensures in
+    let behind = c.requires.run in
+    let to_last : number longer.1 ≤ g.T.Block.last = ⊎_elim
+    (λ (e : longer.1 ≡ c.args.run.now.1). let n = ap number e in let o = behind.to_last in omega arith)
+    (λ (e : longer.1 ≡ c.args.next.1). let n = ap number e in let o = c.requires.to_last in omega arith)
+    over.to.1 in
+    longer_run g.T.Block.bounds g.T.Block.form g.T.Block.last _ (numbers number c.args.run.now) behind (numbers number longer) (ap number over.from) over.to.0 to_last
+
+pub returns-in-Some-clause-held : goal.returns-in-Some-clause-held
+returns-in-Some-clause-held g c n =
+    let number = g.T.Block.number in
+    longer_held g.T.Block.bounds g.T.Block.form g.T.Block.last _ (numbers number c.args.run.now) c.requires.run (numbers number c.in-Some.longer) (numbers number c.args.next) n (c.in-Some.ensures.over n)
+
+pub returns-clause-run : goal.returns-clause-run
+returns-clause-run g c =
+    let form = g.T.Block.form in
+    let number = g.T.Block.number in
+    rw c.in_ok-push.ensures.items (next_run g.T.Block.bounds form g.T.Block.last c.args.chain.now.items (numbers number c.args.run.now) c.requires.run c.new.result c.new.ensures.bounds (c.new.ensures.value ∙ ap form (sym c.new.ensures.bounds)) (numbers number c.args.next) c.requires.ordered c.requires.to_last c.in_default.ensures.apart)
+
+pub returns-clause-held : goal.returns-clause-held
+returns-clause-held g c =
+    let form = g.T.Block.form in
+    let number = g.T.Block.number in
+    rw c.in_ok-push.ensures.items (held_next g.T.Block.bounds form g.T.Block.last c.args.chain.now.items (numbers number c.args.run.now) c.requires.run c.new.result c.new.ensures.bounds (c.new.ensures.value ∙ ap form (sym c.new.ensures.bounds)) (numbers number c.args.next))

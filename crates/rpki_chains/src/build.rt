@@ -1,0 +1,95 @@
+//! Blocks in any order become a chain in the memory that they stand in: they are sorted, and joined in one pass.
+ghost use Rattle.std.specs.Prelude.{◌≡◌, ℕ, ◌+◌, ◌<◌, ◌≤◌, ◌↔◌, ◌⊎◌, IsTrue, IfSome, IfNone};
+ghost use Rattle.std.specs.List.Sorted.{IsNonDecreasingBy};
+ghost use Rattle.std.specs.Ordering.{nat_cmp};
+ghost use Rattle.rpki_chains.specs.Sets.{IsWithin, Covers, IsChain, numbers};
+
+use crate::block::Block;
+use std::alloc::Allocator;
+use std::cmp::Ordering;
+
+/// Makes the blocks the chain of the numbers that they cover. It takes no memory, and gives none back.
+pub fn join<T: Block, A: Allocator>(blocks: &mut Vec<T, A>)
+    ensures chain { IsChain T.bounds T.form blocks.new.items }
+    ensures covers { (n : ℕ) →
+        Covers T.bounds blocks.new.items n ↔ Covers T.bounds blocks.old.items n }
+{
+    sort(blocks);
+    join_ascending(blocks);
+}
+
+/// Brings blocks into the order of their minima. Where they come so, it looks at each once and moves none.
+fn sort<T: Block, A: Allocator>(blocks: &mut Vec<T, A>)
+    ensures covers { (n : ℕ) →
+        Covers T.bounds blocks.new.items n ↔ Covers T.bounds blocks.old.items n }
+    ensures ascending { IsNonDecreasingBy (λ b. (T.bounds b).0) blocks.new.items }
+{
+    blocks.sort_unstable_by(
+        |one: &T, other: &T| -> Ordering
+            ensures { result ≡ nat_cmp (T.bounds one.now).0 (T.bounds other.now).0 }
+        { one.min().cmp(&other.min()) },
+    );
+}
+
+/// Joins blocks that come by ascending minimum.
+///
+/// A run is at hand. In front of `closed` stand the blocks of the runs before it, which end before it and don't touch
+/// it. Each turn takes the next block, which begins no earlier than the run does: so nothing that comes later can reach
+/// a run that was closed. A run is over one block at least, so its block has a place among those that were passed.
+fn join_ascending<T: Block, A: Allocator>(blocks: &mut Vec<T, A>)
+    requires { IsNonDecreasingBy (λ b. (T.bounds b).0) blocks.old.items }
+    ensures chain { IsChain T.bounds T.form blocks.new.items }
+    ensures covers { (n : ℕ) →
+        Covers T.bounds blocks.new.items n ↔ Covers T.bounds blocks.old.items n }
+{
+    let Some(first) = blocks.first() else {
+        return;
+    };
+    let mut run = first.bounds();
+    let mut closed = 0;
+    for at in 1..blocks.len() {
+        let next = blocks[at].bounds();
+        if let Some(longer) = run_over::<T>(run, next) {
+            run = longer;
+            continue;
+        }
+        blocks[closed] = T::new(run.0, run.1);
+        closed += 1;
+        run = next;
+    }
+    blocks[closed] = T::new(run.0, run.1);
+    blocks.truncate(closed + 1);
+}
+
+/// The run over a run and bounds that begin no earlier, where they overlap or touch.
+pub fn run_over<T: Block>(
+    run: (T::Item, T::Item),
+    next: (T::Item, T::Item),
+) -> Option<(T::Item, T::Item)>
+    requires behind { T.number run.0 ≤ T.number next.0 }
+    requires ordered { T.number next.0 ≤ T.number next.1 }
+    requires to_last { T.number next.1 ≤ T.last }
+    ensures from { IfSome result (λ r. r.0 ≡ run.0) }
+    ensures to { IfSome result (λ r.
+        (T.number run.1 ≤ T.number r.1) × ((r.1 ≡ run.1) ⊎ (r.1 ≡ next.1))) }
+    ensures over { IfSome result (λ r. (n : ℕ) → IsWithin (numbers T.number r) n ↔
+        (IsWithin (numbers T.number run) n ⊎ IsWithin (numbers T.number next) n)) }
+    ensures apart { IfNone result (T.number run.1 + 1 < T.number next.0) }
+{
+    if !is_reached::<T>(run.1, next.0) {
+        return None;
+    }
+    let max = if run.1 < next.1 { next.1 } else { run.1 };
+    Some((run.0, max))
+}
+
+/// Whether an item comes right after another one or is not above it.
+fn is_reached<T: Block>(high: T::Item, item: T::Item) -> bool
+    requires { T.number item ≤ T.last }
+    ensures { IsTrue result ↔ (T.number item ≤ T.number high + 1) }
+{
+    match T::next(high) {
+        Some(next) => item <= next,
+        None => true,
+    }
+}

@@ -1,0 +1,121 @@
+//! The numbers that two chains have in common.
+ghost use Rattle.std.specs.Prelude.{◌≡◌, ◌+◌, ◌-◌, ◌≤◌, ◌⊎◌, length, take, IfOk, OnOk};
+ghost use Rattle.rpki_chains.specs.Sets.{Covers, IsChainOf, numbers};
+ghost use Rattle.rpki_chains.specs.Common.{IsCommonPushed};
+ghost use Rattle.rpki_chains.specs.Overhang.{IsOverhang};
+
+use crate::block::Block;
+use crate::overhang::Overhang;
+use crate::owned::OwnedChain;
+use crate::reads::{Reads, read_at};
+use std::alloc::{AllocError, Allocator};
+
+/// The one of two items that comes later.
+fn later<T: Block>(item: T::Item, other: T::Item) -> T::Item
+    ensures reaches { T.number item ≤ T.number result }
+    ensures reaches_other { T.number other ≤ T.number result }
+    ensures one { (result ≡ item) ⊎ (result ≡ other) }
+{
+    if item <= other { other } else { item }
+}
+
+/// Puts what a block has in common with one that ends no earlier behind a chain, and nothing where they have no item in
+/// common.
+fn push_common<T: Block, A: Allocator>(
+    chain: &mut Vec<T, A>,
+    block: (T::Item, T::Item),
+    other: (T::Item, T::Item),
+) -> Result<(), AllocError>
+    requires ordered { T.number block.0 ≤ T.number block.1 }
+    requires ends_first { T.number block.1 ≤ T.number other.1 }
+    ensures { OnOk result (IsCommonPushed T.bounds T.form (numbers T.number block)
+        (numbers T.number other) chain.old.items chain.new.items) }
+{
+    if other.0 <= block.1 {
+        let low = later::<T>(block.0, other.0);
+        chain.push(T::new(low, block.1))?;
+    }
+    Ok(())
+}
+
+/// The first blocks of a chain, made anew.
+fn first_blocks<T: Block, A: Allocator, X: Reads<T>>(
+    alloc: A,
+    own: &mut X,
+    len: usize,
+) -> Result<Vec<T, A>, AllocError>
+    requires { len ≤ length (X.blocks own.old) }
+    ensures value { IfOk result (λ v. v.items ≡ take len (X.blocks own.old)) }
+    ensures kept { X.blocks own.new ≡ X.blocks own.old }
+    ensures reads { X.count own.new ≤ X.count own.old + len }
+{
+    // The length is asked for what its contract tells: that the blocks are a chain.
+    let _len = own.len();
+    let mut chain = Vec::new(alloc);
+    // A block in new form is the one that is made of its bounds, so each comes out as it was.
+    for at in 0..len {
+        let (min, max) = own.read(at);
+        chain.push(T::new(min, max))?;
+    }
+    Ok(chain)
+}
+
+/// The chain of what two chains have in common, where the first overhang is known: the blocks before it, and then what
+/// a walk from there on finds. Each turn of it is done with one block.
+pub fn common_from<T: Block, A: Allocator, X: Reads<T>, Y: Reads<T>>(
+    alloc: A,
+    own: &mut X,
+    other: &mut Y,
+    overhang: Overhang<T::Item>,
+) -> Result<OwnedChain<T, A>, AllocError>
+    requires { IsOverhang T.bounds T.number T.first T.last
+        (X.blocks own.old) (Y.blocks other.old) overhang }
+    ensures common { IfOk result (λ chain. IsChainOf T.bounds T.form (λ n.
+        Covers T.bounds (X.blocks own.old) n × Covers T.bounds (Y.blocks other.old) n) chain) }
+    ensures few { IfOk result (λ chain.
+        length chain ≤ length (X.blocks own.old) + length (Y.blocks other.old)) }
+    ensures own_kept { X.blocks own.new ≡ X.blocks own.old }
+    ensures other_kept { Y.blocks other.new ≡ Y.blocks other.old }
+    // The blocks before the overhang are read once, and so are those behind it.
+    ensures own_reads { X.count own.new ≤ X.count own.old + overhang.own_at +
+        (length (X.blocks own.old) - (overhang.own_at + 1)) }
+    ensures other_reads { Y.count other.new ≤ Y.count other.old +
+        (length (Y.blocks other.old) - (overhang.other_at + 1)) }
+{
+    // The lengths are asked for what their contract tells: that the blocks are chains, of fewer than 2^64 blocks.
+    let _own_len = own.len();
+    let _other_len = other.len();
+    let Overhang {
+        mut own_at,
+        min,
+        max,
+        mut other_at,
+        other: other_block,
+    } = overhang;
+    let mut chain = first_blocks(alloc, own, own_at)?;
+    let Some(mut other_block) = other_block else {
+        return Ok(OwnedChain::from_vec_unchecked(chain));
+    };
+    let mut own_block = (min, max);
+    // `chain` has what both have before one of the blocks at hand. A turn is done with the block that ends first: what the
+    // other one has of it is pushed, and nothing that comes later in either chain can reach it. So each turn passes a
+    // block, and the walk ends where one chain has none left.
+    loop {
+        if own_block.1 <= other_block.1 {
+            push_common(&mut chain, own_block, other_block)?;
+            own_at += 1;
+            let Some(next) = read_at(own, own_at) else {
+                break;
+            };
+            own_block = next;
+        } else {
+            push_common(&mut chain, other_block, own_block)?;
+            other_at += 1;
+            let Some(next) = read_at(other, other_at) else {
+                break;
+            };
+            other_block = next;
+        }
+    }
+    Ok(OwnedChain::from_vec_unchecked(chain))
+}

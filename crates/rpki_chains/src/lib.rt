@@ -1,0 +1,31 @@
+//! Blocks of whole numbers and chains of them: the ascending list of a set's runs, and the walks over one or two such lists.
+//!
+//! Blocks in any order become the chain of their runs, as in `test_chains::chains`:
+//!
+//! ```rust
+//! let joined = SharedChain::from_blocks(alloc, &[block(5, 8), block(1, 4)])?;
+//! Ok(joined != *shared && joined.as_chain().as_slice() == [block(1, 8)].as_slice())
+//! ```
+#![tactic(auto)]
+
+mod ascending;
+pub mod block;
+mod build;
+pub mod chain;
+mod common;
+pub mod counted;
+mod difference;
+mod membership;
+mod overhang;
+pub mod owned;
+pub mod reads;
+pub mod shared;
+mod tally;
+mod trim;
+mod union;
+
+pub use difference::difference_counted;
+pub use membership::contains_item_counted;
+pub use overhang::Overhang;
+pub use trim::trim_counted;
+pub use union::union_counted;

@@ -1,0 +1,122 @@
+-- Which blocks are in new form, and prefixes of a family as prefixes of 128 bits.
+use Rattle.std.proofs.Common.{◌≡◌, ℕ, zero, suc, ◌+◌, ◌-◌, ◌*◌, ◌/◌, ◌%◌, ◌^◌, ◌<◌, ◌≤◌, inl, inr, Bool, true, false, refl, ap, sym, ◌∙◌, arith, Option, Some, None}
+use Rattle.std.specs.Prelude.{◌==◌, if◌then◌else◌}
+use Rattle.std.proofs.Math.Nat.{mul-mod_left, mul_assoc}
+use Rattle.std.proofs.lemmas.Bool.{cases_order, eq-eqb, eqb-true}
+use Rattle.std.proofs.lemmas.Nat.{pow_pos, pow_below, pow-add, shr_split}
+use Rattle.rpki_addr.specs.Bits.{cleared}
+use Rattle.rpki_addr.specs.Prefixes.{PrefixValue, IsPrefix}
+use Rattle.rpki_addr.specs.declared.addr.IpAddr.{IpAddr}
+use Rattle.rpki_addr.specs.declared.addr.IpAddr.TheVariants.{V4, V6}
+use Rattle.rpki_addr.proofs.PrefixNumbers.{cleared_first}
+use Rattle.rpki_prefix.specs.Values.{FamilyPrefix, IsFamilyPrefix}
+use Rattle.rpki_addr.specs.AddrText.{first_of}
+use Rattle.rpki_ip.specs.Ranges.{RangeValue, IsRangeOf, range_bounds}
+use Rattle.rpki_ip_block.specs.BlockForms.{both_pass, bounds_of_length, found_length}
+use Rattle.rpki_ip_block.specs.Blocks.{prefix_bounds, has_length, length_upto, length_of, block_from, new_ip_block}
+use Rattle.rpki_ip_block.specs.PrintedBlocks.{IsBlock}
+use Rattle.rpki_ip_block.specs.declared.block.IpBlock.TheVariants.{Prefix, Range}
+
+-- a prefix has its length
+has_own_length : (p : PrefixValue) → IsPrefix 128 p → has_length (prefix_bounds p) p.len ≡ true
+unfolding has_length
+has_own_length p is =
+    let some : 0 < 2 ^ (128 - p.len) = pow_pos (128 - p.len) in
+    let count : p.first + 2 ^ (128 - p.len) ≡ p.first + 2 ^ (128 - p.len) - 1 + 1 = omega (arith, some) in
+    rw (eq-eqb _ _ is.aligned) (eq-eqb _ _ count)
+
+-- where no length is found, none up to the limit is had
+no_length : (n k : ℕ) (b : ℕ × ℕ) → k ≤ n → length_upto n b ≡ None → has_length b k ≡ true → ⊥
+unfolding length_upto
+no_length zero k b small none has =
+    let here : has_length b zero ≡ true = ap (has_length b) (let e : zero ≡ k = omega (arith, small) in e) ∙ has in
+    let some : Some zero ≡ None = ap (λ (t : Bool). if t then Some zero else None) (sym here) ∙ none in
+    cc
+no_length (suc n) k b small none has = by_test (has_length b (suc n)) refl (no_length n k b)
+  where
+    by_test : (t : Bool) → has_length b (suc n) ≡ t → (k ≤ n → length_upto n b ≡ None → has_length b k ≡ true → ⊥) → ⊥
+    by_test true here before =
+        let some : Some (suc n) ≡ None = ap (λ (t : Bool). if t then Some (suc n) else length_upto n b) (sym here) ∙ none in
+        cc
+    by_test false here before = elim (cases_order k (suc n)) [
+      | inl e ↦ (let z : true ≡ false = sym has ∙ ap (has_length b) e ∙ here in absurd cc)
+      | inr (inl less) ↦ before (omega (arith, less)) (ap (λ (t : Bool). if t then Some (suc n) else length_upto n b) (sym here) ∙ none) has
+      | inr (inr more) ↦ absurd (omega (arith, more, small))
+    ]
+
+-- prefixes of two lengths up to 128 have not the same count of addresses
+one_length : (k l : ℕ) → k ≤ 128 → l ≤ 128 → 2 ^ (128 - k) ≡ 2 ^ (128 - l) → k ≡ l
+one_length k l short also same = elim (cases_order k l) [
+  | inl e ↦ e
+  | inr (inl less) ↦ absurd (let below = pow_below (128 - l) (128 - k) (omega (arith, less, also)) in omega (arith, below, same))
+  | inr (inr more) ↦ absurd (let below = pow_below (128 - k) (128 - l) (omega (arith, more, short)) in omega (arith, below, same))
+]
+
+-- so it is the block of its bounds
+pub new_prefix : (p : PrefixValue) → IsPrefix 128 p → Prefix p ≡ new_ip_block (prefix_bounds p)
+unfolding length_of has_length
+new_prefix p is = by_length (length_of (prefix_bounds p)) refl
+  where
+    by_length : (o : Option ℕ) → length_of (prefix_bounds p) ≡ o → Prefix p ≡ block_from (prefix_bounds p) o
+    by_length None e = absurd (no_length 128 p.len (prefix_bounds p) is.short e (has_own_length p is))
+    by_length (Some len) e =
+        let (short, has) = found_length 128 (prefix_bounds p) len e in
+        let last : p.first + 2 ^ (128 - len) - 1 ≡ p.first + 2 ^ (128 - p.len) - 1 = ap (λ (b : ℕ × ℕ). b.1) (bounds_of_length (prefix_bounds p) len has) in
+        let some : 0 < 2 ^ (128 - p.len) = pow_pos (128 - p.len) in
+        let also_some : 0 < 2 ^ (128 - len) = pow_pos (128 - len) in
+        let same : p.len ≡ len = one_length p.len len is.short short (omega (arith, last, some, also_some)) in
+        λ i. Prefix (record { first = p.first; len = same i })
+
+-- bounds with a length begin a prefix of that length
+prefix_of_length : (b : ℕ × ℕ) (len : ℕ) → b.1 < 2 ^ 128 → len ≤ 128 → has_length b len ≡ true → IsPrefix 128 (record { first = b.0; len = len })
+unfolding has_length
+prefix_of_length b len below short has =
+    let parts = both_pass (b.0 % 2 ^ (128 - len) == 0) (b.0 + 2 ^ (128 - len) == b.1 + 1) has in
+    let some : 0 < 2 ^ (128 - len) = pow_pos (128 - len) in
+    let count : b.0 + 2 ^ (128 - len) ≡ b.1 + 1 = eqb-true _ _ parts.1 in
+    record { short = short; aligned = eqb-true _ _ parts.0; below = omega (arith, some, count, below) }
+
+-- a range of no prefix is the block of its bounds
+pub new_range : (r : RangeValue) → r.max < 2 ^ 128 → ((p : PrefixValue) → IsPrefix 128 p → IsRangeOf p r → ⊥) → Range r ≡ new_ip_block (range_bounds r)
+unfolding length_of
+new_range r below no_prefix = by_length (length_of (range_bounds r)) refl
+  where
+    by_length : (o : Option ℕ) → length_of (range_bounds r) ≡ o → Range r ≡ block_from (range_bounds r) o
+    by_length None e = refl
+    by_length (Some len) e =
+        let (short, has) = found_length 128 (range_bounds r) len e in
+        let last : prefix_bounds (record { first = r.min; len = len }) ≡ range_bounds r = bounds_of_length (range_bounds r) len has in
+        absurd (no_prefix (record { first = r.min; len = len }) (prefix_of_length (range_bounds r) len below short has) (record { begins = refl; ends = sym (ap (λ (b : ℕ × ℕ). b.1) last) }))
+
+-- a block that is made of the bounds of addresses is one of addresses
+pub new_block_fits : (b : ℕ × ℕ) → b.0 ≤ b.1 → b.1 < 2 ^ 128 → IsBlock (new_ip_block b)
+unfolding length_of
+new_block_fits b ordered below = by_length (length_of b) refl
+  where
+    by_length : (o : Option ℕ) → length_of b ≡ o → IsBlock (block_from b o)
+    by_length None e = record { ordered = ordered; below = below }
+    by_length (Some len) e = let (short, has) = found_length 128 b len e in prefix_of_length b len below short has
+
+-- a prefix of IPv4 is one of 128 bits, with 96 zeros behind its address
+prefix_of_v4 : (n len : ℕ) → IsPrefix 32 (record { first = n; len = len }) → IsPrefix 128 (record { first = n * 2 ^ 96; len = len })
+prefix_of_v4 n len is =
+    let short : len ≤ 32 = is.short in
+    let all : n / 2 ^ (32 - len) * 2 ^ (32 - len) + n % 2 ^ (32 - len) ≡ n = shr_split n (32 - len) in
+    let whole : n ≡ n / 2 ^ (32 - len) * 2 ^ (32 - len) = omega (arith, all, is.aligned) in
+    let more : 128 - len ≡ (32 - len) + 96 = omega (arith, short) in
+    let count : 2 ^ (128 - len) ≡ 2 ^ (32 - len) * 2 ^ 96 = ap (λ k. 2 ^ k) more ∙ pow-add 2 (32 - len) 96 in
+    let same : n * 2 ^ 96 ≡ n / 2 ^ (32 - len) * 2 ^ (128 - len) = ap (λ m. m * 2 ^ 96) whole ∙ mul_assoc (n / 2 ^ (32 - len)) (2 ^ (32 - len)) (2 ^ 96) ∙ ap (λ m. n / 2 ^ (32 - len) * m) (sym count) in
+    record {
+      short = omega (arith, short);
+      aligned = ap (λ m. m % 2 ^ (128 - len)) same ∙ mul-mod_left (n / 2 ^ (32 - len)) (2 ^ (128 - len));
+      below = omega (arith, is.below);
+    }
+
+-- so a prefix of either family is one of 128 bits
+prefix_of : (a : IpAddr) (len : ℕ) → IsFamilyPrefix (record { addr = a; len = len }) → IsPrefix 128 (record { first = first_of a; len = len })
+prefix_of (V4 n) len is = prefix_of_v4 n len is
+prefix_of (V6 n) len is = is
+
+-- whose address has no bits behind its length
+pub family_prefix : (p : FamilyPrefix) → IsFamilyPrefix p → cleared 128 (first_of p.addr) p.len ≡ first_of p.addr
+family_prefix p is = cleared_first 128 (record { first = first_of p.addr; len = p.len }) (prefix_of p.addr p.len is)

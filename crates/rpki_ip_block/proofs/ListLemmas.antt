@@ -1,0 +1,95 @@
+-- A text of a list of blocks has one list of values or one first fault.
+use Rattle.std.proofs.Common.{◌≡◌, ℕ, inl, inr, Bool, true, false, IsTrue, ◌↔◌, List, Option, Some, Result, Ok, Err, MatchResult, refl, sym, ◌∙◌, subst}
+use Rattle.rpki_text.specs.Lists.{elements, HaveValues, HasFirstFault}
+use Rattle.rpki_text.specs.Memory.{IfRefused}
+use Rattle.rpki_text.specs.Reading.{AnswersOrMemory}
+use Rattle.rpki_text.specs.declared.memory.OrMemory.{OrMemory}
+use Rattle.rpki_text.specs.declared.memory.OrMemory.TheVariants.{Refused, Memory}
+use Rattle.rpki_text.proofs.ListLemmas.{AnswersOrMemory-from_found, HaveValues-one, first_fault_apart, same_first_fault}
+use Rattle.rpki_ip.specs.declared.error.FromStrError.{FromStrError}
+use Rattle.rpki_base.specs.declared.family.AddressFamily.{AddressFamily}
+use Rattle.rpki_ip_block.specs.BlockText.{IsIpBlockText, HasIpBlockFault}
+use Rattle.rpki_ip_block.specs.ListText.{IsForeign, IsElementText, HasElementFault, HasBlocks, HasBlocksFault, IsFamilyOf, HasMismatch, HasIpBlocks, HasIpBlocksFault}
+use Rattle.rpki_ip_block.specs.declared.block.IpBlock.{IpBlock}
+use Rattle.rpki_ip_block.proofs.TextLemmas.{block_one}
+
+-- an element that isn't taken for one of the other family is read as a block
+pub element_found : (family : AddressFamily) (text : List ℕ) (r : Result IpBlock FromStrError) (test : Bool) → (IsTrue test ↔ IsForeign family text) → test ≡ false → MatchResult r (IsIpBlockText (Some family) text) (HasIpBlockFault (Some family) text) → MatchResult r (IsElementText family text) (HasElementFault family text)
+element_found family text r test same is h = own r (λ foreign. let z : test ≡ true = same.1 foreign in cc) h
+  where
+    own : (r : Result IpBlock FromStrError) → ¬ IsForeign family text → MatchResult r (IsIpBlockText (Some family) text) (HasIpBlockFault (Some family) text) → MatchResult r (IsElementText family text) (HasElementFault family text)
+    own (Ok b) none h = (none, h)
+    own (Err e) none h = inr (none, h)
+
+-- what is one answer at most, value by value and fault by fault
+module _ {A E : Type 0} (Has : A → Type 0) (Fails : E → Type 0) (one : (r s : Result A E) → MatchResult r Has Fails → MatchResult s Has Fails → r ≡ s) where
+  ok_one : (a b : A) (r : Result A E) → r ≡ Ok a → r ≡ Ok b → a ≡ b
+  ok_one a b r h k = cc
+
+  err_one : (d e : E) (r : Result A E) → r ≡ Err d → r ≡ Err e → d ≡ e
+  err_one d e r h k = cc
+
+  pub same_value : (a b : A) → Has a → Has b → a ≡ b
+  same_value a b h k = ok_one a b (Ok a) refl (one (Ok a) (Ok b) h k)
+
+  pub value_apart : (a : A) (e : E) → Has a → Fails e → ⊥
+  value_apart a e h k = let is = one (Ok a) (Err e) h k in cc
+
+  pub same_fault : (d e : E) → Fails d → Fails e → d ≡ e
+  same_fault d e h k = err_one d e (Err d) refl (one (Err d) (Err e) h k)
+
+-- so a text has one block at most, or one fault
+same_block : (w : Option AddressFamily) (text : List ℕ) (a b : IpBlock) → IsIpBlockText w text a → IsIpBlockText w text b → a ≡ b
+same_block w text = same_value (IsIpBlockText w text) (HasIpBlockFault w text) (block_one w text)
+
+element_apart : (family : AddressFamily) (text : List ℕ) (a : IpBlock) (e : FromStrError) → IsElementText family text a → HasElementFault family text e → ⊥
+element_apart family text a e h (inl k) = h.0 k.0
+element_apart family text a e h (inr k) = value_apart (IsIpBlockText (Some family) text) (HasIpBlockFault (Some family) text) (block_one (Some family) text) a e h.1 k.1
+
+same_element_fault : (family : AddressFamily) (text : List ℕ) (d e : FromStrError) → HasElementFault family text d → HasElementFault family text e → d ≡ e
+same_element_fault family text d e (inl h) (inl k) = h.1 ∙ sym k.1
+same_element_fault family text d e (inl h) (inr k) = absurd (k.0 h.0)
+same_element_fault family text d e (inr h) (inl k) = absurd (h.0 k.0)
+same_element_fault family text d e (inr h) (inr k) = same_fault (IsIpBlockText (Some family) text) (HasIpBlockFault (Some family) text) (block_one (Some family) text) d e h.1 k.1
+
+-- a list of one family writes one list of blocks at most
+pub same_blocks : (family : AddressFamily) (text : List ℕ) (a b : List IpBlock) → HasBlocks family text a → HasBlocks family text b → a ≡ b
+same_blocks family text = HaveValues-one (IsElementText family) (λ t a b h k. same_block (Some family) t a b h.1 k.1) (elements text)
+
+-- or has one fault
+pub family_answers : {V : Type 0} (view : V → List IpBlock) (family : AddressFamily) (text : List ℕ) (r : Result V (OrMemory FromStrError)) → MatchResult r (λ v. HasBlocks family text (view v)) (IfRefused (HasBlocksFault family text)) → AnswersOrMemory view (HasBlocks family text) (HasBlocksFault family text) r
+family_answers view family text r found = AnswersOrMemory-from_found view _ _
+    (same_blocks family text)
+    (first_fault_apart (IsElementText family) (HasElementFault family) (element_apart family) (elements text))
+    (same_first_fault (IsElementText family) (HasElementFault family) (element_apart family) (same_element_fault family) (elements text))
+    r found
+
+-- a list that tells no family has one
+pub same_family : (text : List ℕ) (f g : AddressFamily) → IsFamilyOf text f → IsFamilyOf text g → f ≡ g
+same_family text f g (inl h) (inl k) = h.1 ∙ sym k.1
+same_family text f g (inl h) (inr k) = absurd (k.0 h.0)
+same_family text f g (inr h) (inl k) = absurd (h.0 k.0)
+same_family text f g (inr h) (inr k) = h.1 ∙ sym k.1
+
+mismatch_apart : (family : AddressFamily) (text : List ℕ) (a : IpBlock) (e : FromStrError) → IsIpBlockText (Some family) text a → HasMismatch family text e → ⊥
+mismatch_apart family text a e h k = k.0 a h
+
+pub same_ip_blocks : (text : List ℕ) (a b : List IpBlock) → HasIpBlocks text a → HasIpBlocks text b → a ≡ b
+same_ip_blocks text a b (f, is, h) (g, iz, k) =
+    HaveValues-one (IsIpBlockText (Some f)) (same_block (Some f)) (elements text) a b h (subst (λ w. HaveValues (IsIpBlockText (Some w)) (elements text) b) (same_family text g f iz is) k)
+
+ip_blocks_apart : (text : List ℕ) (a : List IpBlock) (e : FromStrError) → HasIpBlocks text a → HasIpBlocksFault text e → ⊥
+ip_blocks_apart text a e (f, is, h) (g, iz, k) =
+    first_fault_apart (IsIpBlockText (Some f)) (HasMismatch f) (mismatch_apart f) (elements text) a e h (subst (λ w. HasFirstFault (IsIpBlockText (Some w)) (HasMismatch w) (elements text) e) (same_family text g f iz is) k)
+
+same_ip_fault : (text : List ℕ) (d e : FromStrError) → HasIpBlocksFault text d → HasIpBlocksFault text e → d ≡ e
+same_ip_fault text d e (f, is, h) (g, iz, k) =
+    same_first_fault (IsIpBlockText (Some f)) (HasMismatch f) (mismatch_apart f) (λ t d e h k. h.1 ∙ sym k.1) (elements text) d e h (subst (λ w. HasFirstFault (IsIpBlockText (Some w)) (HasMismatch w) (elements text) e) (same_family text g f iz is) k)
+
+pub ip_answers : {V : Type 0} (view : V → List IpBlock) (family : AddressFamily) (text : List ℕ) → IsFamilyOf text family → (r : Result V (OrMemory FromStrError)) → MatchResult r (λ v. HaveValues (IsIpBlockText (Some family)) (elements text) (view v)) (IfRefused (HasFirstFault (IsIpBlockText (Some family)) (HasMismatch family) (elements text))) → AnswersOrMemory view (HasIpBlocks text) (HasIpBlocksFault text) r
+ip_answers view family text is r found = AnswersOrMemory-from_found view _ _ (same_ip_blocks text) (ip_blocks_apart text) (same_ip_fault text) r (told r found)
+  where
+    told : (r : Result _ (OrMemory FromStrError)) → MatchResult r (λ v. HaveValues (IsIpBlockText (Some family)) (elements text) (view v)) (IfRefused (HasFirstFault (IsIpBlockText (Some family)) (HasMismatch family) (elements text))) → MatchResult r (λ v. HasIpBlocks text (view v)) (IfRefused (HasIpBlocksFault text))
+    told (Ok v) h = (family, is, h)
+    told (Err (Refused e)) h = (family, is, h)
+    told (Err (Memory e)) h = tt

@@ -1,0 +1,191 @@
+-- What is printed of a block is a text of a block with its bounds.
+use Rattle.std.proofs.Common.{◌≡◌, ℕ, ◌+◌, ◌-◌, ◌%◌, ◌^◌, ◌≤◌, ◌<◌, ◌≢◌, inl, inr, List, ◌∷◌, ◌++◌, None, Some, Result, MatchResult, All, arith, lit<, refl, sym, ap, ◌∙◌, subst, decimal}
+use Rattle.std.proofs.Math.Nat.{pow-le-pow_right}
+use Rattle.std.proofs.lemmas.Bool.{cases_lt, cases_eq, eq-eqb, ne_eqb}
+use Rattle.std.proofs.lemmas.List.Elements.{All-cons, All-append, All-weaker}
+use Rattle.std.proofs.lemmas.Nat.{pow_pos}
+use Rattle.rpki_text.specs.Cuts.{HasNo, slash, dash}
+use Rattle.rpki_addr.specs.Bits.{cleared}
+use Rattle.rpki_addr.specs.Prefixes.{PrefixValue, IsPrefix, last_of}
+use Rattle.rpki_addr.specs.PrintedAddress.{ip_text}
+use Rattle.rpki_text.specs.Reading.{Answers}
+use Rattle.rpki_addr.specs.ReadsAddress.{IsAddress}
+use Rattle.rpki_addr.specs.declared.addr.IpAddr.{IpAddr}
+use Rattle.rpki_addr.proofs.AddressBytes.{IsAddressByte, ip_bytes, not_slash, no_slash, no_dash}
+use Rattle.rpki_addr.proofs.AddressReads.{IsIpText-ip_text}
+use Rattle.rpki_base.proofs.AsnLemmas.{IsNumberText-decimal}
+use Rattle.rpki_addr.proofs.PrefixNumbers.{cleared_first}
+use Rattle.rpki_addr.specs.AddrText.{first_of, greatest_of}
+use Rattle.rpki_ip.specs.BlockText.{IsAddressText, IsRangeFrom}
+use Rattle.rpki_base.specs.Families.{bits_of, family_of}
+use Rattle.rpki_ip.specs.PrintedText.{shown_bits, as_ip}
+use Rattle.rpki_ip.specs.Ranges.{RangeValue}
+use Rattle.rpki_ip.specs.declared.error.FromStrError.{FromStrError}
+use Rattle.rpki_base.specs.declared.family.AddressFamily.{AddressFamily}
+use Rattle.rpki_base.specs.declared.family.AddressFamily.TheVariants.{Ipv4, Ipv6}
+use Rattle.rpki_ip.proofs.TextLemmas.{single_of}
+use Rattle.rpki_ip_block.specs.BlockText.{IsIpBlockText, HasIpBlockFault}
+use Rattle.rpki_ip_block.specs.Blocks.{ip_bounds}
+use Rattle.rpki_ip_block.specs.PrintedBlocks.{ip_block_text, IsBlockOf, ReadsIpBlock}
+use Rattle.rpki_ip_block.specs.declared.block.IpBlock.{IpBlock}
+use Rattle.rpki_ip_block.specs.declared.block.IpBlock.TheVariants.{Prefix, Range}
+
+-- two addresses with a dash between them have no slash
+no_slash_between : (left right : List ℕ) → All IsAddressByte left → All IsAddressByte right → HasNo slash (left ++ dash ∷ right)
+no_slash_between left right h k =
+    let all = All-append (λ b. b ≢ slash) left (dash ∷ right) (All-weaker IsAddressByte _ not_slash left h) (All-cons (λ b. b ≢ slash) dash right (λ e. omega (arith, e)) (All-weaker IsAddressByte _ not_slash right k)) in
+    λ i l. all i 0 l
+
+-- printed addresses in each form
+module _ (family : AddressFamily) (a : IpAddr) (is : IsAddressText (Some family) (ip_text a) a) where
+  shown_prefix : (p : PrefixValue) → p.len ≤ bits_of (family_of a) → p.len ≤ 128 → p.first ≡ cleared 128 (first_of a) p.len → IsIpBlockText (Some family) (ip_text a ++ slash ∷ decimal p.len) (Prefix p)
+  shown_prefix p fits small first = record {
+    left = ip_text a;
+    right = decimal p.len;
+    cut = record { split = refl; first = no_slash (ip_text a) (ip_bytes a) };
+    holds = (a, is, record { length_text = IsNumberText-decimal (2 ^ 8 - 1) p.len (omega (arith, small)) (omega (arith, small)); within = fits; first = first });
+  }
+
+  shown_single : (r : RangeValue) → IsRangeFrom a a r → IsIpBlockText (Some family) (ip_text a) (Range r)
+  shown_single r from = (no_slash (ip_text a) (ip_bytes a), inr (no_dash (ip_text a) (ip_bytes a), (a, is, from)))
+
+  shown_range : (b : IpAddr) (r : RangeValue) → IsAddressText (Some family) (ip_text b) b → IsRangeFrom a b r → IsIpBlockText (Some family) (ip_text a ++ dash ∷ ip_text b) (Range r)
+  shown_range b r iz from = (
+    no_slash_between (ip_text a) (ip_text b) (ip_bytes a) (ip_bytes b),
+    inl (record {
+      left = ip_text a;
+      right = ip_text b;
+      cut = record { split = refl; first = no_dash (ip_text a) (ip_bytes a) };
+      holds = (a, is, (b, iz, from));
+    }),
+  )
+
+-- the address of a family is of that family
+of_family : (family : AddressFamily) (bits : ℕ) → family_of (as_ip family bits) ≡ family
+of_family Ipv4 bits = refl
+of_family Ipv6 bits = refl
+
+-- and its text writes it
+is_written : (family : AddressFamily) (bits : ℕ) → IsAddress (as_ip family bits) → IsAddressText (Some family) (ip_text (as_ip family bits)) (as_ip family bits)
+is_written family bits small = (of_family family bits, IsIpText-ip_text (as_ip family bits) small)
+
+-- n is the least number of the address that is printed of it
+record Begins (family : AddressFamily) (n : ℕ) : Type 0 where
+  small : IsAddress (as_ip family (shown_bits family n))
+  is : n ≡ first_of (as_ip family (shown_bits family n))
+
+-- or the greatest
+record Ends (family : AddressFamily) (n : ℕ) : Type 0 where
+  small : IsAddress (as_ip family (shown_bits family n))
+  is : n ≡ greatest_of (as_ip family (shown_bits family n))
+
+begins_v4 : (n : ℕ) → n < 2 ^ 128 → n % 2 ^ 96 ≡ 0 → Begins Ipv4 n
+begins_v4 n below whole = record { small = omega (arith, below); is = omega (arith, whole) }
+
+-- so the least number of a block of the family
+begins_of : (family : AddressFamily) (b : IpBlock) → IsBlockOf family b → Begins family (ip_bounds b).0
+begins_of Ipv4 (Prefix p) (is, whole) = begins_v4 p.first is.below whole.begins
+begins_of Ipv4 (Range r) (is, whole) = let ordered = is.ordered in let below = is.below in begins_v4 r.min (omega (arith, ordered, below)) whole.begins
+begins_of Ipv6 (Prefix p) is = record { small = is.below; is = refl }
+begins_of Ipv6 (Range r) is = let ordered = is.ordered in let below = is.below in record { small = omega (arith, ordered, below); is = refl }
+
+-- and the greatest of a range
+ends_of : (family : AddressFamily) (r : RangeValue) → IsBlockOf family (Range r) → Ends family r.max
+ends_of Ipv4 r (is, whole) = let below = is.below in let ends = whole.ends in record { small = omega (arith, below); is = omega (arith, ends) }
+ends_of Ipv6 r is = record { small = is.below; is = refl }
+
+-- both are in order
+range_ordered : (family : AddressFamily) (r : RangeValue) → IsBlockOf family (Range r) → r.min ≤ r.max
+range_ordered Ipv4 r is = is.0.ordered
+range_ordered Ipv6 r is = is.ordered
+
+-- the prefix of a block
+pub prefix_of : (family : AddressFamily) (p : PrefixValue) → IsBlockOf family (Prefix p) → IsPrefix 128 p
+prefix_of Ipv4 p is = is.0
+prefix_of Ipv6 p is = is
+
+-- a prefix of whole IPv4 addresses has at most 32 bits
+short_prefix : (family : AddressFamily) (p : PrefixValue) → IsBlockOf family (Prefix p) → p.len ≤ bits_of family
+short_prefix Ipv6 p is = is.short
+short_prefix Ipv4 p (is, whole) = elim (cases_lt 32 p.len) [
+  | inl long ↦ absurd (
+      let some : 0 < 2 ^ (128 - p.len) = pow_pos (128 - p.len) in
+      let few : 128 - p.len ≤ 95 = omega (arith, long) in
+      let up : 2 ^ (128 - p.len) ≤ 2 ^ 95 = pow-le-pow_right (lit< tt) few in
+      let begins : p.first % 2 ^ 96 ≡ 0 = whole.begins in
+      let ends : (p.first + 2 ^ (128 - p.len) - 1 + 1) % 2 ^ 96 ≡ 0 = whole.ends in
+      omega (arith, some, up, begins, ends))
+  | inr short ↦ short
+]
+
+-- a prefix of the greatest length is one address
+last_single : (family : AddressFamily) (p : PrefixValue) → p.len ≡ bits_of family → Begins family p.first → greatest_of (as_ip family (shown_bits family p.first)) ≡ last_of 128 p
+last_single Ipv4 p e begins = let size : 2 ^ (128 - p.len) ≡ 2 ^ 96 = ap (λ l. 2 ^ (128 - l)) e in let is = begins.is in omega (arith, size, is)
+last_single Ipv6 p e begins = let size : 2 ^ (128 - p.len) ≡ 1 = ap (λ l. 2 ^ (128 - l)) e in omega (arith, size)
+
+-- a block that the text writes, with the bounds of b
+pub record WritesBoundsOf (family : AddressFamily) (text : List ℕ) (b : IpBlock) : Type 0 where
+  pub block : IpBlock
+  pub written : IsIpBlockText (Some family) text block
+  pub bounds : ip_bounds block ≡ ip_bounds b
+
+-- what is printed of a block writes its bounds
+pub written_of : (family : AddressFamily) (b : IpBlock) → IsBlockOf family b → WritesBoundsOf family (ip_block_text family b) b
+written_of family (Prefix p) h =
+    let begins = begins_of family (Prefix p) h in
+    let prefix = prefix_of family p h in
+    let a = as_ip family (shown_bits family p.first) in
+    let is = is_written family (shown_bits family p.first) begins.small in
+    elim (cases_eq p.len (bits_of family)) [
+      | inl e ↦ rw (eq-eqb p.len (bits_of family) e) (record {
+        block = Range (record { min = first_of a; max = greatest_of a });
+        written = shown_single family a is _ (single_of a _ _ _ refl refl refl);
+        bounds = (let last = last_single family p e begins in let first = begins.is in λ i. (sym first i, last i));
+      })
+      | inr n ↦ rw (ne_eqb p.len (bits_of family) n) (record {
+        block = Prefix p;
+        written = shown_prefix family a is p (rw (of_family family (shown_bits family p.first)) (short_prefix family p h)) prefix.short (sym (cleared_first 128 p prefix) ∙ ap (λ x. cleared 128 x p.len) begins.is);
+        bounds = refl;
+      })
+    ]
+written_of family (Range r) h =
+    let begins = begins_of family (Range r) h in
+    let ends = ends_of family r h in
+    let ordered = range_ordered family r h in
+    let a = as_ip family (shown_bits family r.min) in
+    let b = as_ip family (shown_bits family r.max) in
+    let is = is_written family (shown_bits family r.min) begins.small in
+    let iz = is_written family (shown_bits family r.max) ends.small in
+    elim (cases_eq (shown_bits family r.min) (shown_bits family r.max)) [
+      | inl e ↦ rw (eq-eqb (shown_bits family r.min) (shown_bits family r.max) e) (record {
+        block = Range r;
+        written = shown_single family a is r (record { one_family = refl; min = begins.is; max = ends.is ∙ ap (λ bits. greatest_of (as_ip family bits)) (sym e); ordered = ordered });
+        bounds = refl;
+      })
+      | inr n ↦ rw (ne_eqb (shown_bits family r.min) (shown_bits family r.max) n) (record {
+        block = Range r;
+        written = shown_range family a is b r iz (record { one_family = of_family family (shown_bits family r.min) ∙ sym (of_family family (shown_bits family r.max)); min = begins.is; max = ends.is; ordered = ordered });
+        bounds = refl;
+      })
+    ]
+
+-- so a reader that answers what a text writes reads it back
+pub block_back : (family : AddressFamily) (text : List ℕ) (r : Result IpBlock FromStrError) → Answers (IsIpBlockText (Some family) text) (HasIpBlockFault (Some family) text) r → (b : IpBlock) → IsBlockOf family b → text ≡ ip_block_text family b → MatchResult r (λ read. ip_bounds read ≡ ip_bounds b) (λ _. ⊥)
+block_back family text r exact b h is =
+    let w = subst (λ t. WritesBoundsOf family t b) (sym is) (written_of family b h) in
+    rw (exact.each_value w.block w.written) w.bounds
+
+-- a block of one family that the text writes is one of either
+either_family : (family : AddressFamily) (text : List ℕ) (b : IpBlock) → IsIpBlockText (Some family) text b → IsIpBlockText None text b
+either_family family text (Prefix p) h = let (a, is, at) = h.holds in record { left = h.left; right = h.right; cut = h.cut; holds = (a, (tt, is.1), at) }
+either_family family text (Range r) (none, inl h) = let (a, is, (b, iz, from)) = h.holds in (none, inl (record { left = h.left; right = h.right; cut = h.cut; holds = (a, (tt, is.1), (b, (tt, iz.1), from)) }))
+either_family family text (Range r) (none, inr (apart, (a, is, from))) = (none, inr (apart, (a, (tt, is.1), from)))
+
+-- so a reader of either family reads both back
+pub reads_block : (text : List ℕ) (r : Result IpBlock FromStrError) → Answers (IsIpBlockText None text) (HasIpBlockFault None text) r → ReadsIpBlock text r
+reads_block text r exact = record {
+  exact = exact;
+  reads_back = λ family b h is. (
+      let w = subst (λ t. WritesBoundsOf family t b) (sym is) (written_of family b h) in
+      rw (exact.each_value w.block (either_family family text w.block w.written)) w.bounds);
+}

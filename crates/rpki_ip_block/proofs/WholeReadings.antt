@@ -1,0 +1,120 @@
+-- What is read as blocks of IPv4, from texts and from octets, begins and ends with whole IPv4 addresses.
+use Rattle.std.proofs.Common.{◌≡◌, ℕ, ◌+◌, ◌-◌, ◌*◌, ◌/◌, ◌%◌, ◌^◌, ◌<◌, ◌≤◌, inl, inr, List, [], ◌∷◌, Some, Result, Ok, Err, sym, ap, ◌∙◌, subst, arith}
+use Rattle.std.specs.List.{All}
+use Rattle.std.specs.Prelude.{IfOk}
+use Rattle.std.proofs.Math.Nat.{mul-mod_left, mul_assoc, add-mul}
+use Rattle.std.proofs.lemmas.List.Elements.{All-cons, All-nil}
+use Rattle.std.proofs.lemmas.Nat.{pow_pos, pow-add}
+use Rattle.rpki_der.specs.Der.{Bits, Each, big_endian}
+use Rattle.rpki_text.specs.Lists.{elements, HaveValues}
+use Rattle.rpki_addr.specs.Bits.{cleared}
+use Rattle.rpki_addr.specs.Prefixes.{PrefixValue}
+use Rattle.rpki_text.specs.Reading.{AnswersOrMemory}
+use Rattle.rpki_addr.specs.declared.addr.IpAddr.{IpAddr}
+use Rattle.rpki_addr.specs.declared.addr.IpAddr.TheVariants.{V4, V6}
+use Rattle.rpki_text.specs.declared.memory.OrMemory.{OrMemory}
+use Rattle.rpki_addr.specs.AddrText.{first_of}
+use Rattle.rpki_ip.specs.BlockText.{IsRangeFrom}
+use Rattle.rpki_base.specs.Families.{bits_of, family_of}
+use Rattle.rpki_ip.specs.PrefixDer.{SaysPrefix}
+use Rattle.rpki_ip.specs.Ranges.{RangeValue, range_bounds}
+use Rattle.rpki_ip.specs.Whole.{HasWholeBounds}
+use Rattle.rpki_ip.specs.declared.error.FromStrError.{FromStrError}
+use Rattle.rpki_base.specs.declared.family.AddressFamily.{AddressFamily}
+use Rattle.rpki_base.specs.declared.family.AddressFamily.TheVariants.{Ipv4, Ipv6}
+use Rattle.rpki_ip_block.specs.BlockDer.{IsIpBlockDer}
+use Rattle.rpki_ip_block.specs.BlockText.{IsIpBlockText}
+use Rattle.rpki_ip_block.specs.Blocks.{prefix_bounds, ip_bounds}
+use Rattle.rpki_ip_block.specs.ListText.{IsElementText, IsFamilyOf, HasBlocks, HasBlocksFault, HasIpBlocks}
+use Rattle.rpki_ip_block.specs.declared.block.IpBlock.{IpBlock}
+use Rattle.rpki_ip_block.specs.declared.block.IpBlock.TheVariants.{Prefix, Range}
+use Rattle.rpki_ip_block.proofs.FormLemmas.{family_prefix}
+use Rattle.rpki_ip_block.proofs.ListLemmas.{same_family}
+use Rattle.rpki_prefix.specs.Values.{FamilyPrefix, IsFamilyPrefix, width}
+
+-- ---- texts
+
+-- a prefix of at most 32 bits has whole bounds
+whole_at : (p : PrefixValue) (m : ℕ) → p.len ≤ 32 → p.first ≡ m * 2 ^ (128 - p.len) → HasWholeBounds (prefix_bounds p)
+whole_at p m short first =
+    let more : 128 - p.len ≡ (32 - p.len) + 96 = omega (arith, short) in
+    let count : 2 ^ (128 - p.len) ≡ 2 ^ (32 - p.len) * 2 ^ 96 = ap (λ k. 2 ^ k) more ∙ pow-add 2 (32 - p.len) 96 in
+    let some : 0 < 2 ^ (128 - p.len) = pow_pos (128 - p.len) in
+    let same : p.first ≡ m * 2 ^ (32 - p.len) * 2 ^ 96 =
+    first ∙ ap (λ k. m * k) count ∙ sym (mul_assoc m (2 ^ (32 - p.len)) (2 ^ 96)) in
+    let behind : p.first + 2 ^ (128 - p.len) - 1 + 1 ≡ m * 2 ^ (32 - p.len) * 2 ^ 96 + 2 ^ (32 - p.len) * 2 ^ 96 = omega (arith, same, count, some) in
+    record {
+      begins = ap (λ k. k % 2 ^ 96) same ∙ mul-mod_left (m * 2 ^ (32 - p.len)) (2 ^ 96);
+      ends = ap (λ k. k % 2 ^ 96) (behind ∙ sym (add-mul (m * 2 ^ (32 - p.len)) (2 ^ (32 - p.len)) (2 ^ 96)))
+          ∙ mul-mod_left (m * 2 ^ (32 - p.len) + 2 ^ (32 - p.len)) (2 ^ 96);
+    }
+
+whole_prefix : (p : PrefixValue) (n : ℕ) → p.len ≤ 32 → p.first ≡ cleared 128 n p.len → HasWholeBounds (prefix_bounds p)
+whole_prefix p n = whole_at p (n / 2 ^ (128 - p.len))
+
+-- so has the block of an IPv4 prefix
+pub whole_family_prefix : (p : FamilyPrefix) → IsFamilyPrefix p → family_of p.addr ≡ Ipv4 → HasWholeBounds (prefix_bounds (record { first = first_of p.addr; len = p.len }))
+whole_family_prefix p is v4 = whole_prefix (record { first = first_of p.addr; len = p.len }) (first_of p.addr) (short p.addr is.short v4) (sym (family_prefix p is))
+  where
+    short : (a : IpAddr) → p.len ≤ width a → family_of a ≡ Ipv4 → p.len ≤ 32
+    short (V4 n) le e = le
+    short (V6 n) le e = absurd (let z : Ipv6 ≡ Ipv4 = e in cc)
+
+-- and a range between IPv4 addresses
+whole_range : (r : RangeValue) (a b : IpAddr) → family_of a ≡ Ipv4 → family_of b ≡ Ipv4 → IsRangeFrom a b r → HasWholeBounds (range_bounds r)
+whole_range r (V4 m) (V4 n) e f h =
+    let min : r.min ≡ m * 2 ^ 96 = h.min in
+    let max : r.max ≡ n * 2 ^ 96 + (2 ^ 96 - 1) = h.max in
+    record { begins = omega (arith, min); ends = omega (arith, max) }
+whole_range r (V4 m) (V6 n) e f h = absurd (let z : Ipv6 ≡ Ipv4 = f in cc)
+whole_range r (V6 m) b e f h = absurd (let z : Ipv6 ≡ Ipv4 = e in cc)
+
+-- so has a block that is read as one of IPv4
+pub whole_text : (text : List ℕ) (b : IpBlock) → IsIpBlockText (Some Ipv4) text b → HasWholeBounds (ip_bounds b)
+whole_text text (Prefix p) h =
+    let (a, is, at) = h.holds in
+    whole_prefix p (first_of a) (subst (λ family. p.len ≤ bits_of family) is.0 at.within) at.first
+whole_text text (Range r) (none, inl h) = let (a, is, (b, also, from)) = h.holds in whole_range r a b is.0 also.0 from
+whole_text text (Range r) (none, inr (no_dash, (a, is, from))) = whole_range r a a is.0 is.0 from
+
+-- and each block of a list of IPv4
+pub whole_values : (Has : List ℕ → IpBlock → Type 0) → ((text : List ℕ) (b : IpBlock) → Has text b → IsIpBlockText (Some Ipv4) text b) → (texts : List (List ℕ)) (blocks : List IpBlock) → HaveValues Has texts blocks
+    → All (λ b. HasWholeBounds (ip_bounds b)) blocks
+whole_values Has is_text [] [] h = All-nil (λ b. HasWholeBounds (ip_bounds b))
+whole_values Has is_text [] (b ∷ blocks) h = absurd h
+whole_values Has is_text (text ∷ texts) [] h = All-nil (λ b. HasWholeBounds (ip_bounds b))
+whole_values Has is_text (text ∷ texts) (b ∷ blocks) h =
+    All-cons (λ b. HasWholeBounds (ip_bounds b)) b blocks (whole_text text b (is_text text b h.0)) (whole_values Has is_text texts blocks h.1)
+
+-- of one that is told to be of IPv4
+pub whole_list : (text : List ℕ) (blocks : List IpBlock) → HasBlocks Ipv4 text blocks → All (λ b. HasWholeBounds (ip_bounds b)) blocks
+whole_list text = whole_values (IsElementText Ipv4) (λ t b h. h.1) (elements text)
+
+-- and of one that tells it
+pub whole_untold_list : (text : List ℕ) (blocks : List IpBlock) → IsFamilyOf text Ipv4 → HasIpBlocks text blocks → All (λ b. HasWholeBounds (ip_bounds b)) blocks
+whole_untold_list text blocks v4 (family, told, have) =
+    whole_values (IsIpBlockText (Some Ipv4)) (λ t b h. h) (elements text) blocks (subst (λ f. HaveValues (IsIpBlockText (Some f)) (elements text) blocks) (same_family text family Ipv4 told v4) have)
+
+-- so the reader of lists answers such blocks
+pub whole_family_list : {V : Type 0} (view : V → List IpBlock) (family : AddressFamily) (text : List ℕ) (r : Result V (OrMemory FromStrError)) → AnswersOrMemory view (HasBlocks family text) (HasBlocksFault family text) r
+    → IfOk r (λ v. family ≡ Ipv4 → All (λ b. HasWholeBounds (ip_bounds b)) (view v))
+whole_family_list view family text (Ok v) exact = λ v4. whole_list text (view v) (subst (λ f. HasBlocks f text (view v)) v4 exact.found)
+whole_family_list view family text (Err e) exact = tt
+
+-- ---- octets
+
+-- what octets say with at most 32 bits has whole bounds
+whole_says : (b : Bits) (p : PrefixValue) → SaysPrefix 32 b p → HasWholeBounds (prefix_bounds p)
+whole_says b p says = whole_at p (big_endian b.octets / 2 ^ b.unused) says.short says.first
+
+whole_der : (bytes : List ℕ) (block : IpBlock) → IsIpBlockDer 32 bytes block → HasWholeBounds (ip_bounds block)
+whole_der bytes (Prefix p) (b, is, says) = whole_says b p says
+whole_der bytes (Range r) (content, is, (p, q, (rest, (front, (b, first, says), split), (c, second, tell)), span)) =
+    let low = whole_says b p says in
+    let high = whole_says c q tell in
+    record { begins = subst (λ n. n % 2 ^ 96 ≡ 0) (sym span.begins) low.begins; ends = subst (λ n. (n + 1) % 2 ^ 96 ≡ 0) (sym span.ends) high.ends }
+
+pub whole_each : (bytes : List ℕ) (blocks : List IpBlock) → Each (IsIpBlockDer 32) bytes blocks → All (λ b. HasWholeBounds (ip_bounds b)) blocks
+whole_each bytes [] is = All-nil (λ b. HasWholeBounds (ip_bounds b))
+whole_each bytes (b ∷ blocks) (rest, (front, is, split), more) =
+    All-cons (λ b. HasWholeBounds (ip_bounds b)) b blocks (whole_der front b is) (whole_each rest blocks more)

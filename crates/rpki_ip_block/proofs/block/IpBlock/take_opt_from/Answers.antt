@@ -1,0 +1,35 @@
+-- What the reading gives is the value of the grammar of the mode.
+use Rattle.std.proofs.Common.{true, subst, arith}
+use Rattle.rpki_base.proofs.DerCursors.{reads_optional_value_by}
+use Rattle.rpki_der.specs.Der.{Spells}
+use Rattle.rpki_der.specs.Reading.{optional}
+use Rattle.rpki_der.specs.Views.{Takes}
+use Rattle.rpki_der.proofs.Modes.{exact_optional_by, refused_optional_by}
+use Rattle.rpki_base.specs.declared.family.AddressFamily.TheVariants.{Ipv6}
+use Rattle.rpki_ip_block.specs.BlockDer.{IsIpBlockDer, IsSetIpBlock, ip_block_der}
+use Rattle.rpki_ip_block.specs.BlockModes.{IsStrictIpBlock, ip_block_modal}
+use Rattle.rpki_ip_block.specs.BlockReading.{ip_block_at, ip_block_by}
+use Rattle.rpki_ip_block.specs.BlockReadingLaws.{ip_block_reading}
+use Rattle.rpki_ip_block.proofs.BlockModes.{set_block_reading}
+use Rattle.rpki_ip_block.proofs.BlockWritten.{taken_back}
+use Rattle.rpki_ip_block.proofs.block.IpBlock.take_opt_from.Goals as goal
+
+exact : goal.returns-clause-exact
+exact c = exact_optional_by (IsStrictIpBlock 128) (ip_block_at 128) (λ strict. ip_block_by strict 128) (λ block. block) c.args.cursor.now c.next_opt.new.cursor c.next_opt.result (ip_block_modal 128) c.next_opt.ensures.by_mode
+
+pub returns-clause-exact : goal.returns-clause-exact
+returns-clause-exact c = exact c
+
+pub returns-clause-reads : goal.returns-clause-reads
+returns-clause-reads c lenient = reads_optional_value_by (IsIpBlockDer 128) (ip_block_at 128) c.args.cursor.now c.next_opt.new.cursor c.next_opt.result (ip_block_reading 128) c.args.cursor.now.bytes (exact c lenient)
+
+pub returns-clause-strict : goal.returns-clause-strict
+returns-clause-strict c strict =
+    let took = subst (λ mode. Takes (λ block. block) c.args.cursor.now c.next_opt.new.cursor c.next_opt.result (optional (ip_block_by mode 128))) strict c.next_opt.ensures.by_mode in
+    reads_optional_value_by (Spells (IsSetIpBlock 128) ip_block_der) (ip_block_by true 128) c.args.cursor.now c.next_opt.new.cursor c.next_opt.result (set_block_reading 128 (omega arith)) c.args.cursor.now.bytes took
+
+pub returns-clause-refused : goal.returns-clause-refused
+returns-clause-refused c = refused_optional_by (IsIpBlockDer 128) (IsStrictIpBlock 128) (ip_block_at 128) (λ strict. ip_block_by strict 128) (λ block. block) c.args.cursor.now c.next_opt.new.cursor c.next_opt.result (ip_block_reading 128) (ip_block_modal 128) c.next_opt.ensures.by_mode
+
+pub returns-clause-reads_back : goal.returns-clause-reads_back
+returns-clause-reads_back c = taken_back Ipv6 c.args.cursor.now c.next_opt.new.cursor c.next_opt.result c.next_opt.ensures.by_mode

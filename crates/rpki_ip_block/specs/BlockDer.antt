@@ -1,0 +1,32 @@
+-- Blocks of addresses in DER (RFC 3779, 2.2.3.7 to 2.2.3.9).
+use Rattle.std.specs.Prelude.{ℕ, ◌≤◌, List}
+use Rattle.rpki_chains.specs.Sets.{IsNew}
+use Rattle.rpki_addr.specs.Prefixes.{IsPrefix}
+use Rattle.rpki_ip.specs.PrefixDer.{IsPrefixDer, prefix_der}
+use Rattle.rpki_ip.specs.RangeDer.{IsRangeDer, IsRangeWithin, range_der}
+use Rattle.rpki_ip_block.specs.Blocks.{ip_bounds, new_ip_block}
+use Rattle.rpki_ip_block.specs.declared.block.IpBlock.{IpBlock}
+use Rattle.rpki_ip_block.specs.declared.block.IpBlock.TheVariants.{Prefix, Range}
+
+-- a prefix or a range (2.2.3.7); limit is the greatest length of a prefix
+abbrev pub IsIpBlockDer : ℕ → List ℕ → IpBlock → Type 0
+IsIpBlockDer limit bytes (Prefix p) = IsPrefixDer limit bytes p
+IsIpBlockDer limit bytes (Range r) = IsRangeDer limit bytes r
+
+-- ---- what is written
+
+-- a block in its own form
+abbrev pub ip_block_der : IpBlock → List ℕ
+ip_block_der (Prefix p) = prefix_der p
+ip_block_der (Range r) = range_der r
+
+-- ---- what a limit allows
+
+-- the bounds of the block need no more bits than the limit
+abbrev pub IsBlockWithin : ℕ → IpBlock → Type 0
+IsBlockWithin limit (Prefix p) = IsPrefix 128 p × (p.len ≤ limit)
+IsBlockWithin limit (Range r) = IsRangeWithin limit r
+
+-- a block that sets have: within the limit, and in new form
+abbrev pub IsSetIpBlock : ℕ → IpBlock → Type 0
+IsSetIpBlock limit block = IsBlockWithin limit block × IsNew ip_bounds new_ip_block block

@@ -1,0 +1,22 @@
+-- Texts of blocks of addresses, as the Rust crate `rpki` 0.20.1 reads them. The family that is wanted may be one, or,
+-- with None, either.
+use Rattle.std.specs.Prelude.{◌⊎◌, List, ℕ, Option}
+use Rattle.rpki_text.specs.Cuts.{HasNo, Around, slash, dash}
+use Rattle.rpki_ip.specs.BlockText.{IsIpPrefixText, IsRangeText, IsSingleText, HasAddressFault, HasPrefixFault, HasRangeFault}
+use Rattle.rpki_ip.specs.declared.error.FromStrError.{FromStrError}
+use Rattle.rpki_base.specs.declared.family.AddressFamily.{AddressFamily}
+use Rattle.rpki_ip_block.specs.declared.block.IpBlock.{IpBlock}
+use Rattle.rpki_ip_block.specs.declared.block.IpBlock.TheVariants.{Prefix, Range}
+
+-- The text writes the block: a prefix round its first slash; with no slash, a range round its first dash; with neither, one address.
+abbrev pub IsIpBlockText : Option AddressFamily → List ℕ → IpBlock → Type 0
+IsIpBlockText wanted text (Prefix p) = IsIpPrefixText wanted text p
+IsIpBlockText wanted text (Range r) = HasNo slash text × (IsRangeText wanted text r ⊎ (HasNo dash text × IsSingleText wanted text r))
+
+-- this is the first fault of the text
+abbrev pub HasIpBlockFault : Option AddressFamily → List ℕ → FromStrError → Type 0
+HasIpBlockFault wanted text e =
+    Around slash text (λ left right. HasPrefixFault wanted left right e)
+    ⊎ (HasNo slash text × (
+    Around dash text (λ left right. HasRangeFault wanted left right e)
+    ⊎ (HasNo dash text × HasAddressFault wanted text e)))

@@ -1,0 +1,36 @@
+-- Blocks of addresses (RFC 3779, 2.2.3.7 to 2.2.3.9): their bounds and their form.
+use Rattle.std.specs.Prelude.{ℕ, zero, suc, ◌+◌, ◌-◌, ◌%◌, ◌^◌, Bool, ◌==◌, ◌&&◌, if◌then◌else◌, Option, Some, None}
+use Rattle.rpki_addr.specs.Prefixes.{PrefixValue, last_of}
+use Rattle.rpki_ip.specs.Ranges.{range_bounds}
+use Rattle.rpki_ip_block.specs.declared.block.IpBlock.{IpBlock}
+use Rattle.rpki_ip_block.specs.declared.block.IpBlock.TheVariants.{Prefix, Range}
+
+-- the least and the greatest address of a prefix
+abbrev pub prefix_bounds : PrefixValue → ℕ × ℕ
+prefix_bounds p = (p.first, last_of 128 p)
+
+-- the least and the greatest address of a block
+abbrev pub ip_bounds : IpBlock → ℕ × ℕ
+ip_bounds (Prefix p) = prefix_bounds p
+ip_bounds (Range r) = range_bounds r
+
+-- whether the addresses from b.0 to b.1 are those of a prefix of length len: so many, and from a multiple of so many on
+unfoldable pub has_length : ℕ × ℕ → ℕ → Bool
+has_length b len = (b.0 % 2 ^ (128 - len) == 0) && (b.0 + 2 ^ (128 - len) == b.1 + 1)
+
+-- the greatest length up to n of a prefix with exactly these addresses, if there is one
+unfoldable pub length_upto : ℕ → ℕ × ℕ → Option ℕ
+length_upto zero b = if has_length b zero then Some zero else None
+length_upto (suc n) b = if has_length b (suc n) then Some (suc n) else length_upto n b
+
+-- the length of the prefix with exactly these addresses, if there is one
+unfoldable pub length_of : ℕ × ℕ → Option ℕ
+length_of b = length_upto 128 b
+
+-- the block of given bounds: a Prefix where its addresses are those of one, and else a Range (RFC 3779, 2.2.3.7)
+abbrev pub block_from : ℕ × ℕ → Option ℕ → IpBlock
+block_from b (Some len) = Prefix (record { first = b.0; len = len })
+block_from b None = Range (record { min = b.0; max = b.1 })
+
+abbrev pub new_ip_block : ℕ × ℕ → IpBlock
+new_ip_block b = block_from b (length_of b)

@@ -1,0 +1,319 @@
+//! Blocks of addresses in DER: a prefix, or a SEQUENCE of two (RFC 3779, 2.2.3.7).
+ghost use Rattle.std.specs.Prelude.{◌≡◌};
+ghost use Rattle.rpki_der.specs.Reading.{Gives};
+ghost use Rattle.rpki_der.specs.Views.{is_strict, left};
+ghost use Rattle.rpki_base.specs.Families.{bits_of};
+ghost use Rattle.rpki_ip_block.specs.BlockReading.{is_set_range, range_in_by, span};
+
+pub mod laws;
+
+use crate::block::IpBlock;
+use rpki_addr::bits::Addr;
+use rpki_base::der::{Encode, ReadNext};
+use rpki_der::{Content, Cursor, DerError, tag};
+use rpki_ip::family::AddressFamily;
+use rpki_ip::prefix::Prefix;
+use rpki_ip::range::AddressRange;
+use std::alloc::{AllocError, Allocator};
+
+impl IpBlock {
+    ghost use Rattle.std.specs.Prelude.{◌≡◌, ℕ, List, Ok, Some, true, ◌≤◌, ◌<◌, ◌+◌, ◌++◌, length, vec_len, OnOk, OnErr, IsOk};
+    ghost use Rattle.std.specs.Vec.{vec_capacity};
+    ghost use Rattle.rpki_chains.specs.Sets.{IsNew};
+    ghost use Rattle.rpki_der.specs.Der.{Spells};
+    ghost use Rattle.rpki_der.specs.Reading.{optional};
+    ghost use Rattle.rpki_der.specs.Views.{Lenient, NotCanonicalOr, ReadsOptional, Strict, Takes, is_strict, left};
+    ghost use Rattle.rpki_base.specs.Families.{bits_of};
+    ghost use Rattle.rpki_ip_block.specs.BlockDer.{IsBlockWithin, IsIpBlockDer, IsSetIpBlock, ip_block_der};
+    ghost use Rattle.rpki_ip_block.specs.BlockReading.{ip_block_at};
+    ghost use Rattle.rpki_ip_block.specs.Blocks.{ip_bounds, new_ip_block};
+    ghost use Rattle.rpki_ip_block.specs.PrintedBlocks.{IsBlock, IsBlockOf};
+
+    /// Takes a block: a BIT STRING is a Prefix, and a SEQUENCE of two a Range, in that form. None at the end, and there
+    /// alone.
+    ///
+    /// The faults are those of [`Cursor::take_opt_value`]; `BadTag` also where another value stands there. A prefix has
+    /// those of [`Prefix::take_from`]. The content of a SEQUENCE has those of its two prefixes, `ReversedRange` where the
+    /// least address is above the greatest, and then `TrailingData` for octets that are left in it. From a strict cursor
+    /// also `NotCanonical` where the octets aren't those that are written of a block that sets have.
+    pub fn take_opt_from(cursor: &mut Cursor<'_>) -> Result<Option<IpBlock>, DerError>
+        ensures reads { Lenient cursor.old
+            (ReadsOptional (IsIpBlockDer 128) (λ block. block) cursor.old cursor.new result) }
+        ensures exact { Lenient cursor.old
+            (Takes (λ block. block) cursor.old cursor.new result (optional (ip_block_at 128))) }
+        // What is written of a block is read as that block, whatever follows it; strictly, of one in new form.
+        ensures reads_back { (block : IpBlock) (rest : List ℕ) → IsBlock block
+            → (is_strict cursor.old ≡ true → IsNew ip_bounds new_ip_block block)
+            → left cursor.old ≡ ip_block_der block ++ rest
+            → (result ≡ Ok (Some block)) × (left cursor.new ≡ rest) }
+        // A strict cursor takes what is written of a block that sets have.
+        ensures strict { Strict cursor.old
+            (ReadsOptional (Spells (IsSetIpBlock 128) ip_block_der) (λ block. block) cursor.old
+            cursor.new result) }
+        ensures refused { NotCanonicalOr (IsIpBlockDer 128) cursor.old result }
+        ensures mode { is_strict cursor.new ≡ is_strict cursor.old }
+    {
+        Self::next_opt(cursor, AddressFamily::Ipv6)
+    }
+
+    /// Takes a block of the family as `take_opt_from` does. `BadPrefix` also for a prefix that is longer than the family's
+    /// addresses, by itself and in a SEQUENCE.
+    pub fn take_opt_from_with_family(
+        cursor: &mut Cursor<'_>,
+        family: AddressFamily,
+    ) -> Result<Option<IpBlock>, DerError>
+        ensures reads { Lenient cursor.old
+            (ReadsOptional (IsIpBlockDer (bits_of family)) (λ block. block) cursor.old cursor.new
+            result) }
+        ensures exact { Lenient cursor.old
+            (Takes (λ block. block) cursor.old cursor.new result
+            (optional (ip_block_at (bits_of family)))) }
+        // What is written of a block is read as that block, whatever follows it; strictly, of one in new form.
+        ensures reads_back { (block : IpBlock) (rest : List ℕ) → IsBlockOf family block
+            → (is_strict cursor.old ≡ true → IsNew ip_bounds new_ip_block block)
+            → left cursor.old ≡ ip_block_der block ++ rest
+            → (result ≡ Ok (Some block)) × (left cursor.new ≡ rest) }
+        // A strict cursor takes what is written of a block that sets of the family have.
+        ensures strict { Strict cursor.old
+            (ReadsOptional (Spells (IsSetIpBlock (bits_of family)) ip_block_der) (λ block. block)
+            cursor.old cursor.new result) }
+        ensures refused { NotCanonicalOr (IsIpBlockDer (bits_of family)) cursor.old result }
+        ensures mode { is_strict cursor.new ≡ is_strict cursor.old }
+    {
+        Self::next_opt(cursor, family)
+    }
+
+    /// How many octets `encode` appends: fewer than 64.
+    pub fn encoded_len(&self) -> usize
+        ensures len { result ≡ length (ip_block_der self.now) }
+        ensures short { result < 64 }
+    {
+        match self {
+            IpBlock::Prefix(prefix) => prefix.encoded_len(),
+            IpBlock::Range(range) => range.encoded_len(),
+        }
+    }
+
+    /// Appends the block in its own form: a Prefix as a BIT STRING, a Range as the SEQUENCE of its least address without
+    /// all the zero bits at its end and its greatest without all the one bits at its end. `AllocError` where there is no
+    /// memory for it; then the octets stay as they were.
+    pub fn encode<A: Allocator>(&self, out: &mut Vec<u8, A>) -> Result<(), AllocError>
+        ensures ok { OnOk result (out.new.items ≡ out.old.items ++ ip_block_der self.now) }
+        ensures err { OnErr result (out.new.items ≡ out.old.items) }
+        ensures succeeds { vec_len out.old + length (ip_block_der self.now) ≤ vec_capacity out.old
+            → IsOk result }
+        ensures capacity { vec_capacity out.old ≤ vec_capacity out.new }
+        ensures within { IsBlockWithin 128 self.now }
+        ensures block { IsBlock self.now }
+        // It is read back, whatever follows it, where its bounds need no more bits than the limit.
+        ensures read_back { (limit : ℕ) (rest : List ℕ) → limit ≤ 128 → IsBlockWithin limit self.now
+            → ip_block_at limit (ip_block_der self.now ++ rest) ≡ Ok (self.now, rest) }
+    {
+        match self {
+            IpBlock::Prefix(prefix) => prefix.encode(out),
+            IpBlock::Range(range) => range.encode(out),
+        }
+    }
+}
+
+impl Encode for IpBlock {
+    ghost use Rattle.rpki_ip_block.specs.BlockDer.{ip_block_der};
+
+    ghost octets = { ip_block_der };
+
+    fn encoded_len(&self) -> usize {
+        IpBlock::encoded_len(self)
+    }
+
+    fn append<A: Allocator>(&self, out: &mut Vec<u8, A>) {
+        match self {
+            IpBlock::Prefix(prefix) => prefix.append(out),
+            IpBlock::Range(range) => range.append(out),
+        }
+    }
+}
+
+// The readings behind the calls.
+impl IpBlock {
+    ghost use Rattle.rpki_chains.specs.Beyond.{is_beyond};
+    ghost use Rattle.rpki_der.specs.Reading.{Gives, optional};
+    ghost use Rattle.rpki_der.specs.Views.{Takes, is_strict, is_strict_in, tlv};
+    ghost use Rattle.rpki_base.specs.Families.{bits_of};
+    ghost use Rattle.rpki_ip_block.specs.BlockReading.{ip_block_by, ip_block_of_by, next_ip_block_by};
+    ghost use Rattle.rpki_ip_block.specs.Blocks.{ip_bounds};
+
+    #[tactic(auto, unfolding(rpki_der::specs::Reading::optional))]
+    fn next_opt(cursor: &mut Cursor<'_>, family: AddressFamily) -> Result<Option<IpBlock>, DerError>
+        ensures by_mode { Takes (λ block. block) cursor.old cursor.new result
+            (optional (ip_block_by (is_strict cursor.old) (bits_of family))) }
+        ensures mode { is_strict cursor.new ≡ is_strict cursor.old }
+    {
+        if cursor.is_empty() {
+            return Ok(None);
+        }
+        Ok(Some(Self::next(cursor, family)?))
+    }
+
+    #[tactic(auto, unfolding(rpki_der::specs::Reading::optional))]
+    fn next_opt_after(
+        before: Option<Addr>,
+        cursor: &mut Cursor<'_>,
+        family: AddressFamily,
+    ) -> Result<Option<IpBlock>, DerError>
+        ensures by_mode { Takes (λ block. block) cursor.old cursor.new result
+            (optional (next_ip_block_by (is_strict cursor.old) (bits_of family) before)) }
+        ensures mode { is_strict cursor.new ≡ is_strict cursor.old }
+    {
+        if cursor.is_empty() {
+            return Ok(None);
+        }
+        Ok(Some(Self::next_after(before, cursor, family)?))
+    }
+
+    #[tactic(auto, unfolding(rpki_der::specs::Reading::refined, rpki_der::specs::Reading::passing))]
+    fn next_after(
+        before: Option<Addr>,
+        cursor: &mut Cursor<'_>,
+        family: AddressFamily,
+    ) -> Result<IpBlock, DerError>
+        ensures by_mode { Takes (λ block. block) cursor.old cursor.new result
+            (next_ip_block_by (is_strict cursor.old) (bits_of family) before) }
+        ensures mode { is_strict cursor.new ≡ is_strict cursor.old }
+    {
+        let mut ahead = *cursor;
+        let block = Self::next(&mut ahead, family)?;
+        if cursor.is_strict() && !block.is_beyond(before) {
+            return Err(DerError::NotCanonical);
+        }
+        *cursor = ahead;
+        Ok(block)
+    }
+
+    // Whether the block begins more than one above the address.
+    fn is_beyond(&self, before: Option<Addr>) -> bool
+        ensures { result ≡ is_beyond before (ip_bounds self.now).0 }
+    {
+        match before {
+            None => true,
+            Some(greatest) => {
+                let greatest = greatest.to_bits();
+                let min = IpBlock::min(self).to_bits();
+                greatest < min && min - greatest > 1
+            }
+        }
+    }
+
+    #[tactic(auto, unfolding(rpki_der::specs::Reading::refined))]
+    fn next(cursor: &mut Cursor<'_>, family: AddressFamily) -> Result<IpBlock, DerError>
+        ensures by_mode { Takes (λ block. block) cursor.old cursor.new result
+            (ip_block_by (is_strict cursor.old) (bits_of family)) }
+        ensures mode { is_strict cursor.new ≡ is_strict cursor.old }
+    {
+        let mut ahead = *cursor;
+        let block = Self::of_value(&ahead.take_value()?, family)?;
+        *cursor = ahead;
+        Ok(block)
+    }
+
+    #[tactic(auto, unfolding(rpki_base::specs::DerReading::by_tag))]
+    fn of_value(value: &Content<'_>, family: AddressFamily) -> Result<IpBlock, DerError>
+        ensures by_mode { Gives (λ block. block) result
+            (ip_block_of_by (is_strict_in value.now) (bits_of family) (tlv value.now)) }
+    {
+        match value.tag() {
+            tag::BIT_STRING => Ok(IpBlock::Prefix(Prefix::parse_content_with_family(
+                value, family,
+            )?)),
+            tag::SEQUENCE => Ok(IpBlock::Range(range_within(value.cursor(), family)?)),
+            _ => Err(DerError::BadTag),
+        }
+    }
+}
+
+/// The range in the content of a SEQUENCE.
+#[tactic(auto, unfolding(rpki_base::specs::DerReading::pair_by, rpki_ip::specs::RangeDer::span_of, rpki_der::specs::Reading::passing))]
+fn range_within(content: Cursor<'_>, family: AddressFamily) -> Result<AddressRange, DerError>
+    ensures by_mode { Gives (λ range. range) result
+        (range_in_by (is_strict content.entry) (bits_of family) (left content.entry)) }
+{
+    let mut inside = content;
+    let first = Prefix::take_from_with_family(&mut inside, family)?;
+    let second = Prefix::take_from_with_family(&mut inside, family)?;
+    if first.min() > second.max() {
+        return Err(DerError::ReversedRange);
+    }
+    inside.finish()?;
+    let range = AddressRange::new(first.min(), second.max());
+    if content.is_strict() && !is_set_range(&range, &first, &second) {
+        return Err(DerError::NotCanonical);
+    }
+    Ok(range)
+}
+
+/// Whether the range, from the one prefix to the other, is written by them, and is no prefix.
+fn is_set_range(range: &AddressRange, first: &Prefix, second: &Prefix) -> bool
+    requires { range.now ≡ span first.now second.now }
+    ensures { result ≡ is_set_range first.now second.now }
+{
+    range.is_written_as(first, second)
+        && matches!(
+            IpBlock::from_pair((AddressRange::min(range), AddressRange::max(range))),
+            IpBlock::Range(_)
+        )
+}
+
+/// Reads blocks of a family one after another. From a strict cursor each begins more than one above the greatest address
+/// of the one before it.
+#[derive(Clone, Copy, Debug)]
+pub struct IpBlockReader {
+    pub family: AddressFamily,
+}
+
+impl ReadNext for IpBlockReader {
+    ghost use Rattle.rpki_base.specs.Families.{bits_of};
+    ghost use Rattle.std.specs.Prelude.{Some, None};
+    ghost use Rattle.rpki_ip_block.specs.BlockDer.{IsIpBlockDer};
+    ghost use Rattle.rpki_ip_block.specs.BlockModes.{IsNextIpBlock, next_ip_block_modal};
+    ghost use Rattle.rpki_ip_block.specs.BlockReading.{ip_block_at, next_ip_block_by};
+    ghost use Rattle.rpki_ip_block.specs.BlockReadingLaws.{ip_block_has_octets, ip_block_reading};
+    ghost use Rattle.rpki_ip_block.specs.Blocks.{ip_bounds};
+
+    type Value = IpBlock;
+
+    // The greatest address of the block before.
+    type State = Option<Addr>;
+
+    ghost first = { λ _. None };
+
+    ghost after = { λ _ before block. Some (ip_bounds block).1 };
+
+    ghost grammar = { λ reader _. IsIpBlockDer (bits_of reader.family) };
+
+    ghost reading = { λ reader _. ip_block_at (bits_of reader.family) };
+
+    ghost strict_grammar = { λ reader before. IsNextIpBlock (bits_of reader.family) before };
+
+    ghost reading_by = { λ reader strict before. next_ip_block_by strict (bits_of reader.family) before };
+
+    ghost is_reading = { λ reader _. ip_block_reading (bits_of reader.family) };
+
+    ghost has_octets = { λ reader _. ip_block_has_octets (bits_of reader.family) };
+
+    ghost is_modal = { λ reader before. next_ip_block_modal (bits_of reader.family) before };
+
+    fn first_state(&self) -> Option<Addr> {
+        None
+    }
+
+    fn state_after(&self, _before: Option<Addr>, block: &IpBlock) -> Option<Addr> {
+        Some(IpBlock::max(block))
+    }
+
+    fn take_next(
+        &self,
+        before: Option<Addr>,
+        cursor: &mut Cursor<'_>,
+    ) -> Result<Option<IpBlock>, DerError> {
+        IpBlock::next_opt_after(before, cursor, self.family)
+    }
+}

@@ -1,0 +1,17 @@
+//! Blocks of IP addresses (RFC 3779, 2.2.3.7) and lists of them, with their texts and their DER.
+//!
+//! Made of bounds, a block is a prefix where it can be one, as in `test_values::ip_blocks`:
+//!
+//! ```rust
+//! let prefix = IpBlock::from_pair((Addr::from_bits(4), Addr::from_bits(7)));
+//! same(&rt, len_of(&prefix), Some(126));
+//! ```
+#![tactic(auto)]
+
+pub mod block;
+pub mod der;
+pub mod list;
+pub mod text;
+
+pub use block::IpBlock;
+pub use text::{DisplayV4Block, DisplayV6Block};

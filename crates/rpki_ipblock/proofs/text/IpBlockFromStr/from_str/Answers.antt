@@ -1,5 +1,0 @@
-use Rattle.rpki_ipblock.proofs.PrintedLemmas.{reads_block}
-use Rattle.rpki_ipblock.proofs.text.IpBlockFromStr.from_str.Goals as goal
-
-pub returns : goal.returns
-returns c = reads_block c.args.text.now c.read_block.result c.read_block.ensures

@@ -1,7 +1,0 @@
-use Rattle.std.proofs.Common.{inr}
-use Rattle.std.proofs.lemmas.Result.{IfOk-weaker}
-use Rattle.rpki_lines.proofs.der.der_ip.Goals as goal
-
-pub returns-in-Err-Refused : goal.returns-in-Err-Refused
-returns-in-Err-Refused g c =
-    IfOk-weaker c.format.result _ _ (λ text shows. inr (c.in-Err-Refused.fault, rw c.in-Err-Refused.field-0-is at c.in-Err-Refused.ensures, shows)) (rw c.in-Err-Refused.field-0-is at c.format.ensures.ok)

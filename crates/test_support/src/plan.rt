@@ -1,0 +1,38 @@
+// Which requests for memory are refused.
+ghost use Rattle.std.specs.Prelude.{◌≡◌};
+ghost use Rattle.test_support.specs.Plans.{refuses, refused_among};
+
+/// Which requests for memory are refused. The first request has the number 0.
+#[derive(Clone, Copy, Debug, PartialEq, Eq)]
+pub enum Plan {
+    /// Refuses no request.
+    RefuseNone,
+    /// Refuses the request with this number, and no other.
+    RefuseOnly(u64),
+    /// Refuses every request.
+    RefuseAll,
+}
+
+impl Plan {
+    /// Whether the request with this number is refused.
+    pub fn refuses(self, number: u64) -> bool
+        ensures { result ≡ refuses self number }
+    {
+        match self {
+            Plan::RefuseNone => false,
+            Plan::RefuseOnly(refused) => number == refused,
+            Plan::RefuseAll => true,
+        }
+    }
+
+    /// How many of the first `asked` requests are refused.
+    pub fn refused_among(self, asked: u64) -> u64
+        ensures { result ≡ refused_among self asked }
+    {
+        match self {
+            Plan::RefuseNone => 0,
+            Plan::RefuseOnly(refused) => u64::from(refused < asked),
+            Plan::RefuseAll => asked,
+        }
+    }
+}

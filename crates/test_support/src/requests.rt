@@ -1,0 +1,48 @@
+// The count of the requests for memory, and which of them are refused.
+ghost use Rattle.std.specs.Prelude.{◌≡◌};
+ghost use Rattle.test_support.specs.Plans.{IsSomeAnswer, IsSomeRefusedCount};
+
+use crate::plan::Plan;
+use std::cell::Cell;
+
+#[derive(Drop)]
+pub(crate) struct Requests {
+    plan: Plan,
+    asked: Cell<u64>,
+}
+
+impl Requests {
+    pub(crate) fn new(plan: Plan) -> Requests
+        ensures { result.plan ≡ plan }
+    {
+        Requests {
+            plan,
+            asked: Cell::new(0),
+        }
+    }
+
+    pub(crate) fn plan(&self) -> Plan
+        ensures { result ≡ self.now.plan }
+    {
+        self.plan
+    }
+
+    pub(crate) fn asked(&self) -> u64 {
+        self.asked.get()
+    }
+
+    pub(crate) fn refused(&self) -> u64
+        ensures { IsSomeRefusedCount self.now.plan result }
+    {
+        self.plan.refused_among(self.asked())
+    }
+
+    // Counts a request, and tells whether it is refused.
+    pub(crate) fn next_is_refused(&self) -> bool
+        ensures { IsSomeAnswer self.now.plan result }
+    {
+        let number = self.asked.get();
+        self.asked.set(number.saturating_add(1));
+        self.plan.refuses(number)
+    }
+}

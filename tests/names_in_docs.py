@@ -32,8 +32,10 @@ MADE |= {"LD_PRELOAD", "clock_gettime", "pfx_table", "pfx_table_validate"}
 
 def sources() -> Iterator[Path]:
     """The files of the repository that say what there is."""
-    for pattern in ("src/**/*.rt", "specs/**/*.antt", "must-fail/*.edit", "src/**/*.rs", "src/**/*.c", "src/**/*.h"):
+    for pattern in ("src/**/*.rt", "specs/**/*.antt", "src/**/*.rs", "src/**/*.c", "src/**/*.h"):
         yield from CRATES.glob(f"*/{pattern}")
+    for folder in ("must-fail", "edits"):
+        yield from CRATES.glob(f"*/{folder}/*.edit")
     for folder in ("tests", "bench", "foreign"):
         yield from (it for it in (TOP / folder).rglob("*") if it.is_file() and it.suffix in SCRIPTS)
     yield from (TOP / name for name in ("check", "respath", "crates.txt"))

@@ -1,35 +1,92 @@
 #!/usr/bin/env python3
-"""Makes docs/API.md from the sources: each public type of the libraries with its calls, their signatures and clauses.
+"""Makes docs/API.md and docs/api from the sources: a page for each library, with its public types, their calls, and the
+signatures and clauses of these; what is there for the crates above alone, and laws, stand apart.
 
-With --write the page is written; without, it is compared with what would be written, and where it differs the status is
-1. The sources are read as `rt fmt` leaves them: an item begins at its indent, and a body at a brace of the same indent.
+With --write the pages are written; without, they are compared with what would be written, and where one differs the
+status is 1. The sources are read as `rt fmt` leaves them: an item begins at its indent, and a body at a brace of the
+same indent.
 """
 
 import re
 import sys
 from collections.abc import Iterator
-from dataclasses import dataclass, field
+from dataclasses import dataclass, field, replace
 from pathlib import Path
 
+from rooms import ROOMS, about, crates_of, is_program, room_of, stands_on
+
 TOP = Path(__file__).resolve().parent.parent
-PAGE = TOP / "docs" / "API.md"
+DOCS = TOP / "docs"
 HEAD = """# Public calls
 
-Made by `tests/api_page.py --write` from the sources; `./check` fails where it isn't current. Each library from the ground
-up, with its public types, the calls on them, and what each call promises, as it stands in the source. What the words of a
-clause mean stands in [DEFINITIONS.md](DEFINITIONS.md); [CALLING.md](CALLING.md) shows calls together, and
-[PATHS.md](PATHS.md) where a user of the Rust crate finds each type.
+Made by `tests/api_page.py --write` from the sources; `./check` fails where a page isn't current. A page for each
+library: its public types, the calls on them, and what each call promises, as it stands in the source. What is there for
+the crates above alone (seams), and laws, stand apart at the end of a page. What the words of a clause mean stands in
+[DEFINITIONS.md](DEFINITIONS.md); [CALLING.md](CALLING.md) shows calls together, and [PATHS.md](PATHS.md) says where a
+user of the Rust crate finds each type.
+
+| about | library | | types and calls | seams | laws |
+|---|---|---|---|---|---|"""
+CRATE_HEAD = """{about}
+
+[All libraries](../API.md); what the words of a clause mean: [DEFINITIONS.md](../DEFINITIONS.md).
 """
+# What is public for the crates above alone: a user has a call that does the same of a whole value. A path stands for
+# all below it.
+SEAMS = (
+    "rpki_text::list",
+    "rpki_text::number",
+    "rpki_base::Asn::append",
+    "rpki_base::Encode",
+    "rpki_base::ReadNext",
+    "rpki_base::append_sequence",
+    "rpki_base::asn::place",
+    "rpki_base::asn::print",
+    "rpki_base::encode_all",
+    "rpki_base::encode_sequence",
+    "rpki_base::family::AddressFamily::append",
+    "rpki_base::len_of_all",
+    "rpki_base::read_values",
+    "rpki_base::sequence_len",
+    "rpki_base::take_sequence_of",
+    "rpki_chains::chain::Chain::common_from",
+    "rpki_chains::chain::Chain::difference_from",
+    "rpki_chains::chain::Chain::overhang",
+    "rpki_chains::Overhang",
+    "rpki_chains::reads::read_at",
+    "rpki_chain::BlockSet::as_chain",
+    "rpki_chain::BlockSet::from_owned",
+    "rpki_chain::BlockSet::from_vec_unchecked",
+    "rpki_chain::Listed",
+    "rpki_chain::der",
+    "rpki_chain::path::Claims",
+    "rpki_chain::resources::CollectBlocks",
+    "rpki_as_block::AsBlockIter::none",
+    "rpki_as_block::AsBlockIter::over",
+    "rpki_as_block::AsBlockReader",
+    "rpki_as_block::list",
+    "rpki_ip::AddressRange::append",
+    "rpki_ip::AddressRange::is_written_as",
+    "rpki_ip::Prefix::append",
+    "rpki_ip::text",
+    "rpki_claims::ByFamily",
+    "rpki_claims::ReadClaim",
+    "rpki_claims::take_families",
+    "rpki_ip_block::der::IpBlockReader",
+    "rpki_ip_block::list",
+    "rpki_family::iter::BlockOfSet",
+)
 CLAUSE = re.compile(r"^\s*(?:ensures|requires|decreases|ghost)\b")
-ITEM = re.compile(r"pub (?:struct|enum|trait|type) (\w+)|pub (?:const )?fn (\w+)|pub const (\w+)")
+ITEM = re.compile(r"pub (?:struct|enum|trait|type) (\w+)|pub (?:const |extern \"C\" )?fn (\w+)|pub const (\w+)")
 
 
 @dataclass
 class Item:
-    """A public type or function, with what is said of it."""
+    """A public type or function, with what is said of it; a call on a type also with the head of its impl."""
 
     name: str
     path: str = ""
+    of: str = ""
     doc: list[str] = field(default_factory=list)
     code: list[str] = field(default_factory=list)
     calls: list["Item"] = field(default_factory=list)
@@ -132,6 +189,8 @@ def read(path: Path, module: str, items: dict[str, Item], wanted: set[str] | Non
         elif line.startswith(("impl", "unsafe impl")):
             block = lines[at : block_end(lines, at)]
             owner, is_of_trait = owner_of(line)
+            if owner not in items and (made_of := re.search(r"\bFrom<(\w+)", line)):
+                owner = made_of[1]  # a conversion stands at the type that is converted
             if owner not in items:
                 items[owner] = Item(owner)
             if is_of_trait:
@@ -139,7 +198,8 @@ def read(path: Path, module: str, items: dict[str, Item], wanted: set[str] | Non
                 continue
             for k, inner in enumerate(block):
                 if found := re.match(r"    pub (?:const )?fn (\w+)", inner):
-                    items[owner].calls.append(Item(found[1], doc=doc_above(block, k), code=signature(block, k)))
+                    call = Item(found[1], of=line.removesuffix(" {"), doc=doc_above(block, k), code=signature(block, k))
+                    items[owner].calls.append(call)
 
 
 def modules(folder: Path, file: Path, is_public: bool) -> Iterator[tuple[Path, bool]]:
@@ -155,16 +215,21 @@ def modules(folder: Path, file: Path, is_public: bool) -> Iterator[tuple[Path, b
 
 
 def items_of(crate: str) -> list[Item]:
-    """The public items of a crate, by name."""
+    """The public items of a crate, by name; of one that is called from C those of all its modules."""
     folder = TOP / "crates" / crate / "src"
     files = list(modules(folder, folder / "lib.rt", True))
     again = "\n".join(it for path, _ in files for it in re.findall(r"^pub use [^;]*;", path.read_text(), re.M | re.S))
     names = set(re.findall(r"\w+", again))
+    for path, _ in files:
+        text = path.read_text()
+        aliases = re.findall(r"^pub type (\w+)[^=]*= (\w+)", text, re.M)
+        names.update(meant for name, meant in aliases if re.search(rf"^pub struct {meant}\b", text, re.M))
+    is_exported = f"{crate} staticlib:" in (TOP / "crates.txt").read_text()
     items: dict[str, Item] = {}
     for path, is_public in files:
         inside = path.relative_to(folder).with_suffix("").parts
         module = "::".join([crate, *(it for it in inside if it not in ("lib", "mod"))])
-        read(path, module, items, None if is_public else names)
+        read(path, module, items, None if is_public or is_exported else names)
     for item in items.values():
         if item.name in names:
             item.path = f"{crate}::{item.name}"
@@ -173,16 +238,42 @@ def items_of(crate: str) -> list[Item]:
 
 def libraries() -> list[str]:
     """The libraries that others call, from the ground up."""
-    text = (TOP / "crates.txt").read_text()
-    names = re.findall(r"^(\w+)(?: staticlib)?:", text, re.M)
-    return [it for it in names if re.match(r"(?:rpki|roa|rtr)_(?!tests)", it) and it != "respath_lines"]
+    return [it for it in stands_on() if not is_program(it) and room_of(it).title not in ("rows", "tests", "benchmarks")]
+
+
+def is_seam(path: str) -> bool:
+    """Whether what has a path is there for the crates above alone."""
+    return any(path == it or path.startswith(f"{it}::") for it in SEAMS)
+
+
+def parts_of(items: list[Item]) -> tuple[list[Item], list[Item], list[Item]]:
+    """What is there for users, the seams, and the laws; of a type for users its seams are an item without its code."""
+    offered, seams, laws = [], [], []
+    for item in items:
+        inner = [it for it in item.calls if it.name and is_seam(f"{item.path}::{it.name}")]
+        if "laws" in item.path.split("::"):
+            laws.append(item)
+        elif is_seam(item.path):
+            seams.append(item)
+        else:
+            offered.append(replace(item, calls=[it for it in item.calls if it not in inner]))
+            if inner:
+                seams.append(Item(item.name, f"on {item.path}", calls=inner))
+    return offered, seams, laws
+
+
+def count_of(items: list[Item]) -> int:
+    """How many types and calls items are."""
+    return sum(bool(it.code) + sum(1 for call in it.calls if call.name) for it in items)
 
 
 def calls_of(item: Item) -> Iterator[str]:
     """The calls on a type, then its traits: those that promise nothing of their own in one block."""
+    names = [it.name for it in item.calls]
     for call in item.calls:
         if call.name:
-            yield from ["", *call.doc, *([""] if call.doc else []), "```rust", *call.code, "```"]
+            head = [f"// {call.of}"] if names.count(call.name) > 1 else []
+            yield from ["", *call.doc, *([""] if call.doc else []), "```rust", *head, *call.code, "```"]
     traits = [it.code for it in item.calls if not it.name]
     for code in (it for it in traits if len(it) > 1):
         yield from ["", "```rust", *code, "```"]
@@ -190,32 +281,71 @@ def calls_of(item: Item) -> Iterator[str]:
         yield from ["", "```rust", *plain, "```"]
 
 
-def page() -> str:
-    """The whole page."""
-    found = {crate: items_of(crate) for crate in libraries()}
-    out = [HEAD, "## Index", "", "| crate | its types and functions |", "|---|---|"]
-    for crate, items in found.items():
-        links = (f"[{it.name}](#{it.path.replace('::', '').lower()})" for it in items)
-        out.append(f"| `{crate}` | {', '.join(links)} |")
-    for crate, items in found.items():
-        text = (TOP / "crates" / crate / "src" / "lib.rt").read_text()
-        first = re.match(r"(?://! ?(?!\n)[^\n]*\n)+", text)
-        out += ["", f"## {crate}", "", *(line[3:].strip() for line in (first[0] if first else "").splitlines())]
-        for item in items:
-            out += ["", f"### {item.path}", "", *item.doc, *([""] if item.doc else [])]
-            out += ["```rust", *item.code, "```", *calls_of(item)]
+def part(title: str, items: list[Item]) -> Iterator[str]:
+    """A part of a page, or nothing where it has no items."""
+    if not items:
+        return
+    links = (f"[{it.name}](#{re.sub(r'[^a-z0-9_ -]', '', it.path.lower()).replace(' ', '-')})" for it in items)
+    yield from [f"## {title}", "", ", ".join(links), ""]
+    for item in items:
+        yield from [f"### {item.path}", "", *item.doc, *([""] if item.doc else [])]
+        yield from [*(["```rust", *item.code, "```"] if item.code else []), *calls_of(item), ""]
+
+
+def page(crate: str) -> str:
+    """The page of a library."""
+    offered, seams, laws = parts_of(items_of(crate))
+    text = (TOP / "crates" / crate / "src" / "lib.rt").read_text()
+    first = re.match(r"(?://! ?(?!\n)[^\n]*\n)*", text)[0]
+    said = "\n".join(line[3:].strip() for line in first.splitlines())
+    out = [f"# {crate}", "", CRATE_HEAD.format(about=said)]
+    out += [*part("Types and calls", offered), *part("Seams, for the crates above", seams), *part("Laws", laws)]
     return re.sub(r"\n{3,}", "\n\n", "\n".join(out)).rstrip() + "\n"
 
 
+def index() -> str:
+    """The index: a row for each library, by rooms."""
+    out = [HEAD]
+    for room in ROOMS:
+        title = room.title
+        for crate in (it for it in crates_of(room) if it in libraries()):
+            short = re.sub(r" \([^)]*\)", "", about(crate)).split(": ")[0].rstrip(".")
+            counts = " | ".join(str(count_of(it)) for it in parts_of(items_of(crate)))
+            out.append(f"| {title} | [{crate}](api/{crate}.md) | {short} | {counts} |")
+            title = ""
+    return "\n".join(out) + "\n"
+
+
+def pages() -> dict[Path, str]:
+    """All pages, by their place."""
+    return {DOCS / "API.md": index(), **{DOCS / "api" / f"{it}.md": page(it) for it in libraries()}}
+
+
+def stale_seams() -> Iterator[str]:
+    """The paths of the list of seams that nothing has any more."""
+    items = [item for crate in libraries() for item in items_of(crate)]
+    paths = [it.path for it in items] + [f"{it.path}::{call.name}" for it in items for call in it.calls]
+    yield from (it for it in SEAMS if not any(path == it or path.startswith(f"{it}::") for path in paths))
+
+
 def main() -> int:
-    made = page()
+    """Writes the pages, or compares them with what is there."""
+    made, found = pages(), 0
+    there = set((DOCS / "api").glob("*.md"))
     if sys.argv[1:] == ["--write"]:
-        PAGE.write_text(made)
-        return 0
-    if not PAGE.is_file() or PAGE.read_text() != made:
-        print("docs/API.md is not what the sources say: tests/api_page.py --write makes it anew")
-        return 1
-    return 0
+        (DOCS / "api").mkdir(exist_ok=True)
+        for path in there - made.keys():
+            path.unlink()
+        for path, text in made.items():
+            path.write_text(text)
+    for path in sorted(there | made.keys()):
+        if (path.read_text() if path.is_file() else None) != made.get(path):
+            print(f"{path.relative_to(TOP)} is not what the sources say: tests/api_page.py --write makes it anew")
+            found += 1
+    for seam in stale_seams():
+        print(f"tests/api_page.py: there is no {seam}")
+        found += 1
+    return 1 if found else 0
 
 
 if __name__ == "__main__":

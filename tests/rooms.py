@@ -1,0 +1,78 @@
+"""The rooms of the house: which crates of `crates.txt` are about one thing.
+
+docs/API.md and the picture of docs/LAYERS.md are made by this list. A pattern stands for all crates of such a name; a
+crate that is in no room stops both.
+"""
+
+import re
+from dataclasses import dataclass
+from fnmatch import fnmatchcase
+from functools import cache
+from pathlib import Path
+
+TOP = Path(__file__).resolve().parent.parent
+
+
+@dataclass(frozen=True)
+class Room:
+    """What crates are about, their names, and the column of the picture in which they stand, from the left."""
+
+    title: str
+    names: tuple[str, ...]
+    column: int | None = None
+    # Whether they are drawn as near as can be to those that stand on them, and not to the ground.
+    is_high: bool = False
+
+
+# From the ground up; a crate is in the first room that has its name.
+ROOMS = (
+    Room("texts, shared", ("rpki_text", "rpki_base"), 3),
+    Room("DER", ("rpki_der", "rpki_claims"), 0),
+    Room("blocks and sets", ("rpki_chains", "rpki_chain"), 1),
+    Room("AS numbers", ("rpki_as_block", "rpki_as"), 2),
+    Room("addresses, prefixes", ("rpki_addr", "rpki_cover", "rpki_prefix"), 5),
+    Room("sets of addresses", ("rpki_ip", "rpki_ip_block", "rpki_ipres", "rpki_family"), 4),
+    Room("all kinds, certificates", ("rpki_resources", "rpki_extensions"), 1),
+    Room("origins of routes", ("roa_*", "rtr_*", "payload_*", "origin_*", "origins*"), 6),
+    Room("the program", ("respath*", "lines_*"), 3, is_high=True),
+    Room("from C", ("pigyelund_c",), 0, is_high=True),
+    Room("examples", ("example_*",)),
+    Room("rows", ("rows_*",)),
+    Room("tests", ("test_*", "probing")),
+    Room("benchmarks", ("bench_*",)),
+)
+
+
+@cache
+def stands_on() -> dict[str, tuple[str, ...]]:
+    """The crates, each with those of the repository that it stands on."""
+    lines = [line for line in (TOP / "crates.txt").read_text().splitlines() if line and not line.startswith("#")]
+    named = {line.split(":")[0].split()[0]: line.split(":")[1].split() for line in lines}
+    return {name: tuple(it for it in below if it in named) for name, below in named.items()}
+
+
+@cache
+def room_of(crate: str) -> Room:
+    """The room of a crate."""
+    for room in ROOMS:
+        if any(fnmatchcase(crate, name) for name in room.names):
+            return room
+    raise SystemExit(f"tests/rooms.py: {crate} is in no room")
+
+
+def crates_of(room: Room) -> list[str]:
+    """The crates of a room, in the order of crates.txt."""
+    return [name for name in stands_on() if room_of(name) is room]
+
+
+def is_program(crate: str) -> bool:
+    """Whether a crate is a program."""
+    return (TOP / "crates" / crate / "src" / "main.rt").is_file()
+
+
+def about(crate: str) -> str:
+    """The first sentence of what a crate says of itself."""
+    source = TOP / "crates" / crate / "src" / ("main.rt" if is_program(crate) else "lib.rt")
+    head = re.match(r"(?://! ?(?!\n)[^\n]*\n)*", source.read_text())[0]
+    text = " ".join(line[3:].strip() for line in head.splitlines())
+    return re.split(r"(?<=[.:]) (?=[A-Z])|$", text, maxsplit=1)[0]

@@ -1,0 +1,239 @@
+#!/usr/bin/env python3
+"""Draws docs/layers.svg from crates.txt: each crate of the product above those that it stands on, by rooms, and three
+roads through them.
+
+A line leads to what a crate stands on, and to nothing that is reached through another. With --write the picture is
+written; without, it is compared with what would be drawn, and where it differs the status is 1.
+"""
+
+import sys
+from collections.abc import Iterator
+from dataclasses import dataclass
+from functools import cache
+from itertools import pairwise
+from pathlib import Path
+
+from rooms import ROOMS, Room, crates_of, room_of, stands_on
+
+TOP = Path(__file__).resolve().parent.parent
+PICTURE = TOP / "docs" / "layers.svg"
+# A box, the way from one column or floor to the next, and what stands round the boxes of a room.
+WIDE, HIGH, BESIDE, ABOVE, BELOW = 110, 24, 128, 34, 8
+LEFT, HEAD, TITLE, AROUND = 14, 74, 15, 6
+STYLE = (
+    "<style>text{font:12px sans-serif}line{stroke:#b4bcc2}.box{fill:#fff;stroke:#456}.floor{fill:#f1f4f6}"
+    ".road{fill:none;stroke-width:3}.room,.beside{fill:#555;font-size:11px}"
+    ".room{paint-order:stroke;stroke:#f1f4f6;stroke-width:4}</style>"
+)
+
+
+@dataclass(frozen=True)
+class Road:
+    """What a road is, its colour, and the crates that it goes through; each way begins at one that is met already."""
+
+    title: str
+    colour: str
+    ways: tuple[tuple[str, ...], ...]
+
+
+# A road goes from a crate to one that it stands on, or else by the longest way down to it.
+ROADS = (
+    Road(
+        "a text: norm v4 LIST",
+        "#1b6ca8",
+        (
+            ("respath", "respath_lines", "rpki_ipres", "rpki_ip_block", "rpki_ip", "rpki_addr", "rpki_text"),
+            ("rpki_ipres", "rpki_chain", "rpki_chains"),
+        ),
+    ),
+    Road(
+        "a certificate: verified_octets",
+        "#c8553d",
+        (
+            ("pigyelund_c", "rpki_extensions", "rpki_resources", "rpki_family", "rpki_ipres"),
+            ("rpki_ipres", "rpki_chain", "rpki_chains"),
+            ("rpki_ipres", "rpki_ip_block", "rpki_ip", "rpki_base", "rpki_der"),
+        ),
+    ),
+    Road("a route: OriginTable::origin", "#4f8a5b", (("roa_origin", "rpki_prefix", "rpki_addr"),)),
+)
+
+
+def drawn() -> list[str]:
+    """The crates of the product."""
+    return [name for name in stands_on() if room_of(name).column is not None]
+
+
+@cache
+def below(name: str) -> frozenset[str]:
+    """All that a crate stands on."""
+    own = stands_on()[name]
+    return frozenset(own).union(*(below(it) for it in own))
+
+
+def near(name: str) -> list[str]:
+    """What a crate stands on and reaches through no other."""
+    return [it for it in stands_on()[name] if not any(it in below(other) for other in stands_on()[name])]
+
+
+@cache
+def least_floor(name: str) -> int:
+    """The floor of a crate, from the ground."""
+    return 1 + max((least_floor(it) for it in stands_on()[name]), default=0)
+
+
+@cache
+def floor(name: str) -> int:
+    """The floor on which a crate is drawn."""
+    if not room_of(name).is_high:
+        return least_floor(name)
+    above = [floor(it) for it in drawn() if name in stands_on()[it]]
+    return min(above) - 1 if above else top_floor()
+
+
+@cache
+def top_floor() -> int:
+    """The highest floor."""
+    return max(map(least_floor, drawn()))
+
+
+@cache
+def cell(name: str) -> tuple[str, ...]:
+    """The crates that share a column and a floor, one below the other."""
+    place = (room_of(name).column, floor(name))
+    return tuple(it for it in drawn() if (room_of(it).column, floor(it)) == place)
+
+
+@cache
+def floor_top(level: int) -> int:
+    """The upper end of a floor."""
+    if level > top_floor():
+        return HEAD - ABOVE - HIGH
+    upper = max((len(cell(it)) for it in drawn() if floor(it) == level + 1), default=1)
+    return floor_top(level + 1) + ABOVE + HIGH * upper + BELOW * (upper - 1)
+
+
+def place(name: str) -> tuple[int, int]:
+    """The upper left corner of a crate's box."""
+    column = room_of(name).column or 0
+    return LEFT + column * BESIDE, floor_top(floor(name)) + cell(name).index(name) * (HIGH + BELOW)
+
+
+def text(x: float, y: float, words: str, name: str = "", anchor: str = "start") -> str:
+    """Words at a place."""
+    kind = f' class="{name}"' if name else ""
+    return f'<text x="{x:g}" y="{y:g}" text-anchor="{anchor}"{kind}>{words}</text>'
+
+
+@cache
+def fields() -> dict[Room, tuple[int, int]]:
+    """The upper and the lower end of each room's field, which is round its boxes; no two overlap."""
+    found: dict[Room, tuple[int, int]] = {}
+    for room in ROOMS:
+        if room.column is not None and (names := crates_of(room)):
+            tops = [place(name)[1] for name in names]
+            found[room] = (min(tops) - TITLE - AROUND, max(tops) + HIGH + AROUND)
+    for room, (top, end) in found.items():
+        for other, (high, low) in found.items():
+            if room is not other and room.column == other.column and top < low and high < end:
+                raise SystemExit(f"tests/rooms.py: {room.title} and {other.title} overlap in a column")
+    return found
+
+
+def of_rooms() -> Iterator[str]:
+    """The fields of the rooms."""
+    for room, (top, end) in fields().items():
+        x = LEFT + (room.column or 0) * BESIDE - AROUND
+        yield f'<rect x="{x}" y="{top}" width="{WIDE + 2 * AROUND}" height="{end - top}" rx="6" class="floor"/>'
+
+
+def of_titles() -> Iterator[str]:
+    """What the rooms are, and above all the roads."""
+    for room, (top, _) in fields().items():
+        yield text(LEFT + (room.column or 0) * BESIDE, top + TITLE, room.title, "room")
+    for at, road in enumerate(ROADS):
+        x = LEFT + at * 230
+        yield f'<path d="M{x} 16 h26" stroke="{road.colour}" class="road"/>'
+        yield text(x + 34, 20, road.title)
+
+
+def of_lines() -> Iterator[str]:
+    """A line for each pair of crates of which the one stands on the other."""
+    for name in drawn():
+        x, y = place(name)
+        for it in near(name):
+            u, v = place(it)
+            yield f'<line x1="{x + WIDE / 2:g}" y1="{y + HIGH}" x2="{u + WIDE / 2:g}" y2="{v}"/>'
+
+
+def steps(upper: str, lower: str) -> list[str]:
+    """The crates from one to another that it stands on, without the first: the other, or the longest way down."""
+    if lower in stands_on()[upper]:
+        return [lower]
+    between = [it for it in stands_on()[upper] if lower in below(it)]
+    if not between:
+        raise SystemExit(f"tests/layers_picture.py: {upper} doesn't stand on {lower}")
+    ways = ([it, *steps(it, lower)] for it in near(upper) if it in between)
+    return max(ways, key=len)
+
+
+def pairs_of(road: Road) -> list[tuple[str, str]]:
+    """The pairs of crates that follow each other on a road."""
+    for name in (it for way in road.ways for it in way):
+        if name not in stands_on():
+            raise SystemExit(f"tests/layers_picture.py: there is no {name}")
+    ways = ([way[0], *(it for upper, lower in pairwise(way) for it in steps(upper, lower))] for way in road.ways)
+    return [pair for way in ways for pair in pairwise(way)]
+
+
+def of_roads() -> Iterator[str]:
+    """The roads, beside each other where they share a way."""
+    for at, road in enumerate(ROADS):
+        aside = 6 * at - 6
+        for upper, lower in pairs_of(road):
+            (x, y), (u, v) = place(upper), place(lower)
+            x, u = x + WIDE // 2 + aside, u + WIDE // 2 + aside
+            yield f'<path d="M{x} {y + HIGH} L{u} {v}" stroke="{road.colour}" class="road"/>'
+
+
+def of_boxes() -> Iterator[str]:
+    """A box for each crate, with its name."""
+    for name in drawn():
+        x, y = place(name)
+        yield f'<rect x="{x}" y="{y}" width="{WIDE}" height="{HIGH}" rx="4" class="box"/>'
+        yield text(x + WIDE / 2, y + 16, name, anchor="middle")
+
+
+def of_others() -> Iterator[str]:
+    """The rooms beside the product, a line for each."""
+    y = floor_top(1) + HIGH + 40
+    for room in ROOMS:
+        if room.column is None:
+            yield text(LEFT, y, room.title, "beside")
+            yield text(LEFT + 80, y, ", ".join(crates_of(room)))
+            y += 20
+
+
+def picture() -> str:
+    """The whole picture."""
+    beside = [room for room in ROOMS if room.column is None]
+    width = LEFT + (1 + max(room.column or 0 for room in ROOMS)) * BESIDE
+    height = floor_top(1) + HIGH + 40 + 20 * len(beside)
+    head = f'<svg xmlns="http://www.w3.org/2000/svg" width="{width}" height="{height}" viewBox="0 0 {width} {height}">'
+    parts = [*of_rooms(), *of_lines(), *of_roads(), *of_titles(), *of_boxes(), *of_others()]
+    return "\n".join([head, STYLE, '<rect width="100%" height="100%" fill="#fff"/>', *parts, "</svg>"]) + "\n"
+
+
+def main() -> int:
+    """Writes the picture, or compares it with what is there."""
+    made = picture()
+    if sys.argv[1:] == ["--write"]:
+        PICTURE.write_text(made)
+    elif not PICTURE.is_file() or PICTURE.read_text() != made:
+        print("docs/layers.svg is not what crates.txt says: tests/layers_picture.py --write draws it anew")
+        return 1
+    return 0
+
+
+if __name__ == "__main__":
+    sys.exit(main())

@@ -40,7 +40,7 @@ if python3 -c 'import sys; sys.exit(sys.version_info < (3, 10))' 2>/dev/null && 
     whole="-Wl,--whole-archive $library -Wl,--no-whole-archive"
     # shellcheck disable=SC2086
     gcc -shared -o "$out/libpigyelund.so" $whole "$kit/c/liblibc_c.a" || fail "the shared library"
-    python3 foreign/python/test.py "$out/libpigyelund.so" foreign/rows.txt || fail "the test in Python"
+    python3 foreign/python/test.py "$out/libpigyelund.so" foreign || fail "the test in Python"
     tests/foreign_rows.py || fail "the rows"
 else
     echo "Python was not tested: it needs python3, from 3.10 on, and gcc for the shared library"

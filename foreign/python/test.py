@@ -1,30 +1,41 @@
 #!/usr/bin/env python3
-"""Asks each row of rows.txt through ctypes: test.py LIBRARY ROWS. Status 1 where an answer differs."""
+"""Asks each row of rows.txt through ctypes, each number and text by its name, and what goes beyond a number's end:
+test.py LIBRARY FOLDER, which has rows.txt, numbers.txt and texts.txt. Status 1 where an answer differs."""
 
+import pickle
+import re
 import sys
-from collections.abc import Callable
+from collections.abc import Callable, Iterator
+from ipaddress import IPv4Network, IPv6Network
+from itertools import chain
 from pathlib import Path
 
 from pigyelund import (
-    NO,
-    TOO_SMALL,
+    BadNumber,
+    BadOctets,
+    BadOrigin,
     Certificate,
     Encoding,
     Extensions,
     Family,
+    Inherited,
     Mode,
+    NoMemory,
     Operation,
+    Overclaimed,
     Payload,
     Pigyelund,
     Refused,
-    RefusedOrigin,
-    RefusedPath,
     Resources,
-    Rooms,
     Route,
+    Status,
     Test,
-    Told,
+    Validity,
+    raw,
+    status_text,
 )
+from pigyelund.raw import Pair, Present, Rooms, Told
+from pigyelund.reasons import refused
 
 ROOM = 8192
 
@@ -40,71 +51,83 @@ class Row:
     def __init__(self, text: str) -> None:
         self.call, numbers, *words = text.split()
         self.numbers = [] if numbers == "-" else [int(number) for number in numbers.split(",")]
-        self.certificates: list[Certificate] = []
+        self.certificates: list[raw.Certificate] = []
         if self.call == "path":
             places = [] if words[3] == "-" else words[3].split(";")
-            self.certificates = [Certificate(*map(int, place.split(":"))) for place in places]
+            self.certificates = [raw.Certificate(*map(int, place.split(":"))) for place in places]
             words[3] = "-"
         self.first, self.second = (Resources(*map(octets, words[at : at + 2])) for at in (0, 2))
         self.status, self.told = int(words[4]), Resources(*map(octets, words[5:7]))
-        self.verified = words[7]
+        self.number = None if words[7] == "-" else int(words[7])
 
     def is_told(self, call: Callable[[Rooms], Told]) -> bool:
         """Whether a call answers so with ample rooms, with exact ones, and with none."""
         told, one_room = self.told, self.call in ("cover", "origins", "answer")
         lengths = len(told.asn), len(told.ip)
-        ample = Resources(told.asn.ljust(ROOM, b"\0"), b"" if one_room else told.ip.ljust(ROOM, b"\0"))
+        ample: Pair = told.asn.ljust(ROOM, b"\0"), b"" if one_room else told.ip.ljust(ROOM, b"\0")
+        too_small = Status.TOO_SMALL if any(lengths) else self.status
         return (
-            call((ROOM, ROOM)) == (self.status, lengths, ample)
-            and call(lengths) == (self.status, lengths, told)
-            and call((0, 0)) == (TOO_SMALL if any(lengths) else self.status, lengths, Resources())
+            call((ROOM, ROOM)) == (self.status, lengths, ample, self.number)
+            and call(lengths) == (self.status, lengths, told, self.number)
+            and call((0, 0)) == (too_small, lengths, (b"", b""), self.number)
         )
 
     def is_answer(self, call: Callable[[], Resources | bool]) -> bool:
         """Whether a safe call answers so: with this set, with whether the status is 0, or by `Refused`."""
         try:
             found = call()
-        except RefusedPath as refused:
-            return (refused.status, refused.excess, str(refused.verified)) == (self.status, self.told, self.verified)
-        except RefusedOrigin as refused:
-            return (refused.status, str(refused.place)) == (self.status, self.verified)
-        except Refused as refused:
-            return (refused.status, refused.excess) == (self.status, self.told)
+        except Refused as reason:
+            number = reason.verified if reason.place is None else reason.place
+            return (reason.status, reason.excess, number) == (self.status, self.told, self.number)
         if isinstance(found, Resources):
             return (0, found) == (self.status, self.told)
-        return self.status == (0 if found else NO)
+        return self.status == (0 if found else Status.NO)
+
+
+def extensions_of(present: int, octets: Pair) -> Extensions:
+    """The extensions that are there."""
+    return Extensions(
+        octets[0] if present & Present.HAS_AS else None, octets[1] if present & Present.HAS_IP else None
+    )
 
 
 def is_verified(library: Pigyelund, row: Row) -> bool:
     """Whether the row of a certificate is answered as it says."""
     encoding, present, mode = row.numbers
     first, second = row.first, row.second
-    if not row.is_told(lambda rooms: library.verify_told(first, present, second, encoding, mode, rooms)):
+    if not row.is_told(lambda rooms: library.raw.verify(first, present, second, encoding, mode, rooms)):
         return False
     if encoding > 1 or present > 3 or mode > 1:
         return True
-    certificate = Extensions(second.asn if present & 1 else None, second.ip if present & 2 else None)
+    certificate = extensions_of(present, second)
     return row.is_answer(lambda: library.verify(first, certificate, Encoding(encoding), Mode(mode)))
+
+
+def certificate_at(run: bytes, place: raw.Certificate) -> Certificate | None:
+    """The certificate at a place of a run, None where it lies outside or has numbers that are none."""
+    ends = place.as_at + place.as_len, place.ip_at + place.ip_len
+    if max(ends) > len(run) or place.present > Present.HAS_BOTH or place.mode > Mode.TRIM:
+        return None
+    octets = run[place.as_at : ends[0]], run[place.ip_at : ends[1]]
+    return Certificate(extensions_of(place.present, octets), Mode(place.mode))
 
 
 def is_verified_path(library: Pigyelund, row: Row) -> bool:
     """Whether the row of a path is answered as it says."""
-    (encoding,), run, certificates = row.numbers, row.second.asn, row.certificates
-
-    def told(rooms: Rooms) -> Told:
-        found, verified = library.verify_path_told(row.first, run, certificates, encoding, rooms)
-        return found if str(verified) == row.verified else (verified, (0, 0), Resources())
-
-    is_so = row.is_told(told)
-    if encoding > 1:
-        return is_so
-    return is_so and row.is_answer(lambda: library.verify_path(row.first, run, certificates, Encoding(encoding)))
+    (encoding,), run = row.numbers, row.second.asn
+    if not row.is_told(lambda rooms: library.raw.verify_path(row.first, run, row.certificates, encoding, rooms)):
+        return False
+    certificates = [certificate_at(run, place) for place in row.certificates]
+    if encoding > 1 or None in certificates:
+        return True
+    path = [certificate for certificate in certificates if certificate]
+    return row.is_answer(lambda: library.verify_path(row.first, path, Encoding(encoding)))
 
 
 def is_cover(library: Pigyelund, row: Row) -> bool:
     """Whether the row of a cover is answered as it says."""
     (encoding, family), ip = row.numbers, row.first.asn
-    if not row.is_told(lambda rooms: library.cover_told(ip, encoding, family, rooms[0])):
+    if not row.is_told(lambda rooms: library.raw.cover(ip, encoding, family, rooms[0])):
         return False
     if encoding > 1 or family not in (1, 2):
         return True
@@ -130,18 +153,15 @@ def are_origins(library: Pigyelund, row: Row) -> bool:
         return [of(octet(*address), asn, *others) for address, asn, others in parts(octets, length)]
 
     payloads, routes = made(Payload, row.first.asn, 23), made(Route, row.second.asn, 22)
-
-    def told(rooms: Rooms) -> Told:
-        found, place = library.origins_told(payloads, routes, rooms[0])
-        return found if str(place) == row.verified else (place, (0, 0), Resources())
-
-    return row.is_told(told) and row.is_answer(lambda: Resources(bytes(library.origins(payloads, routes))))
+    return row.is_told(lambda rooms: library.raw.origins(payloads, routes, rooms[0])) and row.is_answer(
+        lambda: Resources(bytes(library.origins(payloads, routes)))
+    )
 
 
 def is_line(library: Pigyelund, row: Row) -> bool:
     """Whether the row of a line is answered as it says."""
     line = row.first.asn
-    if not row.is_told(lambda rooms: library.answer_told(line, rooms[0])):
+    if not row.is_told(lambda rooms: library.raw.answer(line, rooms[0])):
         return False
     try:
         text = line.decode("utf-8")
@@ -155,10 +175,10 @@ def is_of_sets(library: Pigyelund, row: Row) -> bool:
     (encoding,), first, second = row.numbers, row.first, row.second
     name = f"pg_{row.call}"
     if name in {test.value for test in Test}:
-        is_so = library.test_told(Test(name), first, second, encoding) == row.status
+        is_so = library.raw.tested(Test(name), first, second, encoding) == row.status
     else:
         operation = Operation(name)
-        is_so = row.is_told(lambda rooms: library.made_told(operation, first, second, encoding, rooms))
+        is_so = row.is_told(lambda rooms: library.raw.made(operation, first, second, encoding, rooms))
     if encoding > 1:
         return is_so
     return is_so and row.is_answer(lambda: getattr(library, row.call)(first, second, Encoding(encoding)))
@@ -167,19 +187,140 @@ def is_of_sets(library: Pigyelund, row: Row) -> bool:
 ASKED = {"verify": is_verified, "path": is_verified_path, "cover": is_cover, "origins": are_origins, "answer": is_line}
 
 
+# ---- what no row says: each test tells what is wrong
+
+
+def names_and_numbers(library: Pigyelund, folder: Path) -> Iterator[str]:
+    """Each name has its number of numbers.txt."""
+    table = re.findall(r"^NUMBER\((\w+), (\d+)\)$", (folder / "numbers.txt").read_text(), re.MULTILINE)
+    stored = {name: int(number) for name, number in table}
+    named = {it.name: it.value for it in chain(Status, Encoding, Mode, Present, Validity)}
+    named |= {f"IP{it.name}": it.value for it in Family}
+    named["VERSION"] = library.version()
+    for name in sorted(stored.keys() | named.keys()):
+        if stored.get(name) != named.get(name):
+            yield f"{name} is {named.get(name)}, and {stored.get(name)} in numbers.txt"
+
+
+def texts(_: Pigyelund, folder: Path) -> Iterator[str]:
+    """Each status has its text of texts.txt."""
+    for line in (folder / "texts.txt").read_text().splitlines():
+        status, text = line.split(" ", 1)
+        if status_text(int(status)) != text:
+            yield f"status {status} is {status_text(int(status))!r}, and {text!r} in texts.txt"
+
+
+TEN = IPv4Network("10.0.0.0/8")
+ISSUER = Resources(ip=bytes.fromhex("300c300a0402000130040302000a"))
+
+
+def too_great(library: Pigyelund) -> Iterator[Callable[[], object]]:
+    """Calls with a number that has no room where it goes."""
+    extensions, octets = Extensions(ip=ISSUER.ip), tuple(ISSUER)
+    for number in (2**32, 2**32 + 1, 2**64, -1):
+        yield lambda: Payload.of(TEN, number)
+        yield lambda: Route.of(TEN, number)
+        yield lambda: library.verify(ISSUER, extensions, mode=number)
+        yield lambda: library.verify(ISSUER, extensions, encoding=number)
+        yield lambda: library.raw.verify(octets, number, octets, 0, 0, (0, 0))
+        yield lambda: library.verify_path(ISSUER, [Certificate(extensions, number)])
+        yield lambda: raw.Certificate(present=number)
+        yield lambda: library.cover(ISSUER.ip, number)
+        yield lambda: library.union(ISSUER, ISSUER, number)
+        yield lambda: library.equal(ISSUER, ISSUER, number)
+        yield lambda: setattr(Route.of(TEN, 1), "asn", number)
+    for number in (2**64, 2**64 + 1, -1):
+        for name in ("as_at", "as_len", "ip_at", "ip_len"):
+            yield lambda: raw.Certificate(**{name: number})
+    for number in (256, 264, 272, 2**32 + 8, -1):
+        yield lambda: Payload.of(TEN, 1, number)
+        yield lambda: Payload(raw.address_of(TEN), 1, 1, number, 8)
+        yield lambda: Route(raw.address_of(TEN), 1, number, 8)
+
+
+def no_bits_are_dropped(library: Pigyelund, _: Path) -> Iterator[str]:
+    """A number that has no room where it goes is an error."""
+    for at, call in enumerate(too_great(library)):
+        try:
+            yield f"number {at} that is too great answers {call()}"
+        except OverflowError:
+            pass
+
+
+def defaults(library: Pigyelund, _: Path) -> Iterator[str]:
+    """What stands for what isn't given: a payload's length, the encoding, the mode."""
+    long = IPv4Network("10.0.0.0/9")
+    if library.origins([Payload.of(TEN, 1)], [Route.of(TEN, 1), Route.of(long, 1)]) != [Validity.VALID, Validity.INVALID]:
+        yield "the greatest length of a payload is not its own"
+    routes = [Route.of(TEN, 1), Route.of(TEN, 2), Route.of(IPv6Network("::/0"), 1), Route.of(TEN, 0)]
+    named = [Validity.VALID, Validity.INVALID, Validity.NOT_FOUND, Validity.INVALID]
+    if library.origins(iter([Payload.of(TEN, 1, 9)]), iter(routes)) != named:
+        yield "validities"
+    twice = bytes.fromhex("3011300f0402000130090302000a0303000a00")
+    claim = Extensions(ip=bytes.fromhex("3010300e0402000130080302000a0302000c"))
+    try:
+        yield f"an excess answers {library.verify(ISSUER, claim)}"
+    except Overclaimed as reason:
+        if reason.excess.ip.hex() != "300c300a0402000130040302000c":
+            yield "another excess"
+    if not library.equal(Resources(ip=twice), ISSUER):
+        yield "the encoding isn't lenient"
+
+
+def is_kept(reason: Refused) -> bool:
+    """Whether a reason is the same behind pickle."""
+    other = pickle.loads(pickle.dumps(reason))
+    return (type(other), other.__dict__, str(other)) == (type(reason), reason.__dict__, str(reason))
+
+
+def reasons(library: Pigyelund, _: Path) -> Iterator[str]:
+    """Each kind of reason, its text, and that it pickles."""
+    claim = Extensions(ip=bytes.fromhex("3010300e0402000130080302000a0302000c"))
+    path = [Certificate(Extensions(ip=ISSUER.ip)), Certificate(claim)]
+    inherits = Resources(asn=bytes.fromhex("3004a0020500"))
+    payload = Payload.of(TEN, 1, 7)
+    asked: list[tuple[Callable[[], object], type[Refused], str]] = [
+        (lambda: library.verify(ISSUER, claim), Overclaimed, "overclaimed IPv4 resources"),
+        (lambda: library.verify_path(ISSUER, path), Overclaimed, "after 1 certificates: overclaimed IPv4 resources"),
+        (lambda: library.union(ISSUER, inherits), Inherited, "inherited resources in place of the second set"),
+        (lambda: library.union(Resources(b"\2"), ISSUER), BadOctets, "AS identifiers: truncated"),
+        (lambda: library.verify(ISSUER, claim, mode=Mode.TRIM + 1), BadNumber, "unknown mode"),
+        (
+            lambda: library.origins([Payload.of(TEN, 1), payload], []),
+            BadOrigin,
+            "at place 1: bad greatest length of a payload",
+        ),
+    ]
+    for call, kind, text in asked:
+        try:
+            yield f"{call()} in place of {text}"
+        except Refused as reason:
+            if (type(reason), str(reason)) != (kind, text) or not is_kept(reason):
+                yield f"{reason!r} in place of {text}"
+    for status in range(0x1300):
+        if not is_kept(refused(status, Resources(b"\1", b"\2"), 7)):
+            yield f"status {status} doesn't pickle"
+    if not isinstance(refused(Status.MEMORY, place=0), NoMemory) or str(refused(Status.MEMORY)) != "out of memory":
+        yield "want of memory"
+
+
+OTHERS = names_and_numbers, texts, no_bits_are_dropped, defaults, reasons
+
+
 def main() -> int:
-    """Asks each row."""
-    library = Pigyelund(sys.argv[1])
-    rows = Path(sys.argv[2]).read_text().splitlines()
+    """Asks each row, and the other tests."""
+    library, folder = Pigyelund(sys.argv[1]), Path(sys.argv[2])
+    rows = (folder / "rows.txt").read_text().splitlines()
     faults = []
     for text in rows:
         row = Row(text)
         if not ASKED.get(row.call, is_of_sets)(library, row):
-            faults.append(text)
-    for text in faults[:20]:
-        print(f"another answer: {text}")
+            faults.append(f"another answer: {text}")
+    faults += [fault for test in OTHERS for fault in test(library, folder)]
+    for fault in faults[:20]:
+        print(fault)
     print(f"Python: {len(rows)} rows, {len(faults)} faults")
-    return 1 if faults or not rows or library.version() != 3 else 0
+    return 1 if faults or not rows else 0
 
 
 if __name__ == "__main__":

@@ -1,0 +1,249 @@
+"""The calls as `pigyelund.h` has them, through ctypes: statuses, numbers, rooms, and certificates of a path as places in
+a run of octets. Nothing is refused here but a number that its parameter has no room for."""
+
+import ctypes
+import os
+from enum import Enum, IntEnum
+from ipaddress import IPv4Network, IPv6Network
+from pathlib import Path
+from typing import NamedTuple
+
+NAME = "libpigyelund.so"
+
+
+class Status(IntEnum):
+    """What a call answers; BAD_AS and BAD_IP with the number of a fault, and SECOND with another status, added."""
+
+    OK = 0
+    TOO_SMALL = 1
+    MEMORY = 2
+    INHERITED = 3
+    BAD_MODE = 4
+    OVERCLAIM_AS = 5
+    OVERCLAIM_V4 = 6
+    OVERCLAIM_V6 = 7
+    NO = 8
+    BAD_ENCODING = 9
+    ABSENT = 10
+    OUTSIDE = 11
+    BAD_PRESENT = 12
+    BAD_FAMILY = 13
+    BAD_PREFIX = 14
+    BAD_MAX_LEN = 15
+    BAD_AS = 0x100
+    BAD_IP = 0x200
+    SECOND = 0x1000
+
+
+class Present(IntEnum):
+    """Which extensions a certificate has."""
+
+    HAS_AS = 1
+    HAS_IP = 2
+    HAS_BOTH = 3
+
+
+class Family(IntEnum):
+    """A family of addresses, as IP address blocks number it."""
+
+    V4 = 1
+    V6 = 2
+
+
+class Operation(Enum):
+    """What is made of two sets, by the name of the call."""
+
+    UNION = "pg_union"
+    INTERSECTION = "pg_intersection"
+    DIFFERENCE = "pg_difference"
+
+
+class Test(Enum):
+    """What is asked of two sets, by the name of the call."""
+
+    CONTAINS = "pg_contains"
+    EQUAL = "pg_equal"
+
+
+class Fields(ctypes.Structure):
+    """Numbers side by side. ctypes drops the bits of a number that its field has no room for; here that is an error."""
+
+    def __setattr__(self, name: str, value: object) -> None:
+        kind = dict(self._fields_).get(name)
+        if isinstance(value, int) and kind is not None and not 0 <= value < 1 << 8 * ctypes.sizeof(kind):
+            raise OverflowError(f"{name}: {value}")
+        super().__setattr__(name, value)
+
+
+class Certificate(Fields):
+    """Where in a run of octets the extensions of a certificate stand, and two numbers."""
+
+    _fields_ = [
+        ("as_at", ctypes.c_size_t),
+        ("as_len", ctypes.c_size_t),
+        ("ip_at", ctypes.c_size_t),
+        ("ip_len", ctypes.c_size_t),
+        ("present", ctypes.c_uint32),
+        ("mode", ctypes.c_uint32),
+    ]
+
+
+class Payload(Fields):
+    """A validated payload: a prefix, its greatest length, and the AS that may originate it."""
+
+    _fields_ = [
+        ("address", ctypes.c_uint8 * 16),
+        ("asn", ctypes.c_uint32),
+        ("family", ctypes.c_uint8),
+        ("len", ctypes.c_uint8),
+        ("max_len", ctypes.c_uint8),
+    ]
+
+    @classmethod
+    def of(cls, prefix: IPv4Network | IPv6Network, asn: int, max_len: int | None = None) -> "Payload":
+        """That of a prefix, whose own length is the greatest where none is given."""
+        length = prefix.prefixlen if max_len is None else max_len
+        return cls(address_of(prefix), asn, family_of(prefix), prefix.prefixlen, length)
+
+
+class Route(Fields):
+    """The prefix that a route leads to, and the AS that originates it: 0 where the path ends in an AS_SET, so that no
+    payload matches it (RFC 6811, 2)."""
+
+    _fields_ = Payload._fields_[:-1]
+
+    @classmethod
+    def of(cls, prefix: IPv4Network | IPv6Network, asn: int) -> "Route":
+        """That to a prefix."""
+        return cls(address_of(prefix), asn, family_of(prefix), prefix.prefixlen)
+
+
+def address_of(prefix: IPv4Network | IPv6Network) -> ctypes.Array[ctypes.c_uint8]:
+    """The octets of a prefix's address, behind which there may be others."""
+    return (ctypes.c_uint8 * 16)(*prefix.network_address.packed)
+
+
+def family_of(prefix: IPv4Network | IPv6Network) -> Family:
+    """The family of a prefix."""
+    return Family.V4 if prefix.version == 4 else Family.V6
+
+
+Pair = tuple[bytes, bytes]
+Rooms = tuple[int, int]
+
+
+class Told(NamedTuple):
+    """The status, the lengths that are told, what the rooms hold, and a path's or origins' number."""
+
+    status: int
+    lengths: Rooms
+    held: Pair
+    number: int | None = None
+
+
+def words_of(*sets: Pair) -> list[object]:
+    """Each run of octets of some sets, and its length."""
+    return [word for part in sets for octets in part for word in (octets, len(octets))]
+
+
+def found_library() -> str:
+    """The file of the shared library: in the folder that PIGYELUND_LIB names, else in this package's, else whichever
+    the system's loader finds."""
+    folder = os.environ.get("PIGYELUND_LIB")
+    if folder:
+        return str(Path(folder) / NAME)
+    beside = Path(__file__).parent / NAME
+    return str(beside) if beside.exists() else NAME
+
+
+class Library:
+    """The calls of the shared library at a path, or of that which is found."""
+
+    def __init__(self, path: str | os.PathLike[str] | None = None) -> None:
+        self._library = ctypes.CDLL(found_library() if path is None else os.fspath(path))
+        size, number = ctypes.c_size_t, ctypes.c_uint32
+        octets = [ctypes.c_char_p, size] * 4
+        rooms = [ctypes.c_void_p, size] * 2 + [ctypes.POINTER(size)] * 2
+        room = [ctypes.c_void_p, size, ctypes.POINTER(size)]
+        path_words = [*octets[:6], ctypes.POINTER(Certificate), size, number, *rooms, ctypes.POINTER(size)]
+        calls = {
+            "pg_version": [],
+            "pg_verify": [*octets[:4], number, *octets[4:], number, number, *rooms],
+            "pg_verify_path": path_words,
+            "pg_cover": [*octets[:2], number, number, *room],
+            "pg_origins": [
+                ctypes.POINTER(Payload), size, ctypes.POINTER(Route), size, *room, ctypes.POINTER(size)
+            ],
+            "pg_answer": [*octets[:2], *room],
+        }
+        calls |= {call.value: [*octets, number, *rooms] for call in Operation}
+        calls |= {call.value: [*octets, number] for call in Test}
+        for name, words in calls.items():
+            call = getattr(self._library, name)
+            call.restype, call.argtypes = number, words
+
+    def _call(self, name: str, words: list[object]) -> int:
+        """One call: the status. `OverflowError` where a number has more bits than its parameter."""
+        call = getattr(self._library, name)
+        for kind, word in zip(call.argtypes, words, strict=True):
+            if isinstance(word, int) and not 0 <= word < 1 << 8 * ctypes.sizeof(kind):
+                raise OverflowError(f"{name}: {word}")
+        return call(*words)
+
+    def _told(self, name: str, words: list[object], rooms: Rooms, number: ctypes.c_size_t | None = None) -> Told:
+        """One call with rooms of these lengths."""
+        asn, ip = (ctypes.create_string_buffer(max(room, 1)) for room in rooms)
+        lengths = ctypes.c_size_t(), ctypes.c_size_t()
+        places = [ctypes.byref(length) for length in lengths]
+        behind = [] if number is None else [ctypes.byref(number)]
+        status = self._call(name, [*words, asn, rooms[0], ip, rooms[1], *places, *behind])
+        held = asn.raw[: rooms[0]], ip.raw[: rooms[1]]
+        return Told(status, (lengths[0].value, lengths[1].value), held, None if number is None else number.value)
+
+    def _told_once(self, name: str, words: list[object], room: int, number: ctypes.c_size_t | None = None) -> Told:
+        """One call with one room: what it tells stands for that of AS numbers."""
+        held, length = ctypes.create_string_buffer(max(room, 1)), ctypes.c_size_t()
+        behind = [] if number is None else [ctypes.byref(number)]
+        status = self._call(name, [*words, held, room, ctypes.byref(length), *behind])
+        return Told(status, (length.value, 0), (held.raw[:room], b""), None if number is None else number.value)
+
+    def version(self) -> int:
+        """The version of the calls."""
+        return self._call("pg_version", [])
+
+    def verify(self, issuer: Pair, present: int, certificate: Pair, encoding: int, mode: int, rooms: Rooms) -> Told:
+        """`pg_verify` with rooms of these lengths."""
+        words = [*words_of(issuer), present, *words_of(certificate), encoding, mode]
+        return self._told("pg_verify", words, rooms)
+
+    def verify_path(
+        self, anchor: Pair, run: bytes, certificates: list[Certificate], encoding: int, rooms: Rooms
+    ) -> Told:
+        """`pg_verify_path` with rooms of these lengths, and how many certificates are verified."""
+        count = len(certificates)
+        array = (Certificate * max(count, 1))(*certificates)
+        words = [*words_of(anchor), run, len(run), array, count, encoding]
+        return self._told("pg_verify_path", words, rooms, ctypes.c_size_t())
+
+    def cover(self, ip: bytes, encoding: int, family: int, room: int) -> Told:
+        """`pg_cover` with a room of this length."""
+        return self._told_once("pg_cover", [ip, len(ip), encoding, family], room)
+
+    def origins(self, payloads: list[Payload], routes: list[Route], room: int) -> Told:
+        """`pg_origins` with a room of this length, and the place that it tells."""
+        listed = (Payload * max(len(payloads), 1))(*payloads)
+        asked = (Route * max(len(routes), 1))(*routes)
+        words = [listed, len(payloads), asked, len(routes)]
+        return self._told_once("pg_origins", words, room, ctypes.c_size_t())
+
+    def answer(self, line: bytes, room: int) -> Told:
+        """`pg_answer` with a room of this length."""
+        return self._told_once("pg_answer", [line, len(line)], room)
+
+    def made(self, operation: Operation, a: Pair, b: Pair, encoding: int, rooms: Rooms) -> Told:
+        """An operation with rooms of these lengths."""
+        return self._told(operation.value, [*words_of(a, b), encoding], rooms)
+
+    def tested(self, test: Test, a: Pair, b: Pair, encoding: int) -> int:
+        """A test: the status."""
+        return self._call(test.value, [*words_of(a, b), encoding])

@@ -1,5 +1,5 @@
 -- Prefixes inside ranges and inside one another.
-use Rattle.std.proofs.Common.{◌≡◌, ℕ, ◌+◌, ◌-◌, ◌*◌, ◌/◌, ◌%◌, ◌^◌, ◌<◌, ◌≤◌, ◌⊎◌, refl, arith, inl, inr}
+use Rattle.std.proofs.Common.{◌≡◌, ℕ, ◌+◌, ◌-◌, ◌^◌, ◌<◌, ◌≤◌, ◌⊎◌, arith, inl, inr}
 use Rattle.std.proofs.lemmas.Bool.{cases_lt}
 use Rattle.std.proofs.lemmas.Nat.{pow_pos}
 use Rattle.rpki_cover.proofs.Greatest.{Fits, IsGreatest}
@@ -73,3 +73,21 @@ parent_of w p is pos =
       record { is_prefix = prefix; shorter = omega arith; holds = inside_of w p (record { first = cleared w p.first (p.len - 1); len = p.len - 1 }) n.from n.upto },
       held.from,
     )
+
+-- of two prefixes that share a number the longer lies in the shorter
+pub prefixes_nested : (w : ℕ) (p q : PrefixValue) → IsPrefix w p → IsPrefix w q → (n : ℕ) → IsIn w p n → IsIn w q n → LiesIn w (IsIn w p) q ⊎ LiesIn w (IsIn w q) p
+prefixes_nested w p q is_p is_q n in_p in_q = elim (cases_lt (w - p.len) (w - q.len)) [
+  | inl fewer ↦
+      let k : Nested q.first (2 ^ (w - q.len)) p.first (2 ^ (w - p.len)) =
+      nested (w - p.len) (w - q.len) q.first p.first (omega (arith, fewer)) (multiple_at w q is_q) (multiple_at w p is_p) (omega (arith, in_p.from, in_q.upto)) (omega (arith, in_q.from, in_p.upto)) in
+      inr (inside_of w p q k.from k.upto)
+  | inr more ↦
+      let k : Nested p.first (2 ^ (w - p.len)) q.first (2 ^ (w - q.len)) =
+      nested (w - q.len) (w - p.len) p.first q.first more (multiple_at w p is_p) (multiple_at w q is_q) (omega (arith, in_q.from, in_p.upto)) (omega (arith, in_p.from, in_q.upto)) in
+      inl (inside_of w q p k.from k.upto)
+]
+
+-- where one lies in the other, they share its first number
+pub nested_share : (w : ℕ) (p q : PrefixValue) → LiesIn w (IsIn w p) q ⊎ LiesIn w (IsIn w q) p → (n : ℕ) × IsIn w p n × IsIn w q n
+nested_share w p q (inl inside) = (q.first, inside q.first (first_in w q), first_in w q)
+nested_share w p q (inr inside) = (p.first, first_in w p, inside p.first (first_in w p))

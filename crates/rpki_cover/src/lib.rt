@@ -10,3 +10,4 @@
 #![tactic(auto)]
 
 pub mod cover;
+pub mod laws;

@@ -1,0 +1,84 @@
+#!/usr/bin/env python3
+"""gives_up.py [--all] [CRATE..]: which public calls a body that gives up would meet.
+
+Such a body answers None, an Err, false, true, 0, 1, an empty text or list, what it was given, or does nothing. Each stands
+in turn under the signature and the clauses of each public function and of each method of a public trait, in a copy of the
+crate, and rt's planter has it proved over the crate's kept proof. It plants bodies that call the real function too; those
+are left out here. With no CRATE each library of crates.txt is gone over.
+
+For each crate it prints what is still proved, and what has no clause or could not be judged; with --all also what is
+refused and what does not compile. What is still proved should stand in docs/DECISIONS.md. An Err of memory is never
+planted: each clause allows it. A crate has to be proved first (rt check); then it takes a minute or a few."""
+import collections
+import importlib.machinery
+import os
+import re
+import shutil
+import subprocess
+import sys
+import types
+from pathlib import Path
+
+TOP = Path(__file__).resolve().parent.parent
+ROW = re.compile(r"^(proves|same|refused|elsewhere|not-judged|not-source|not-run|untested|no-ensures) +(\S.*)$")
+TOLD = ("proves", "same", "no-ensures", "untested", "elsewhere", "not-judged", "not-run")
+
+
+def parts_handed_back(bodies, of):
+    """A pair whose last part is what the function was given, as where a reader leaves the place that it began at."""
+    parts = bodies.split(of.resolved(of.f.ret)[1:-1]) if of.f.ret[:1] == ["("] else []
+    given = [name for name, ty in of.f.params if parts and of.resolved(ty) == parts[-1]]
+    others = [of.values(part)[:1] for part in parts[:-1]]
+    if not given or not all(others):
+        return []
+    return [bodies.Body(f"({', '.join(it[0] for it in others)}, {given[-1]})", None, "argument")]
+
+
+def planted():
+    """What rt plant prints of the crate in the working folder, at bodies that give up alone."""
+    sys.dont_write_bytecode = True
+    kit = Path(shutil.which("rt")).resolve().parent
+    planter = types.ModuleType("rt-plant")
+    planter.__file__ = str(kit / "rt-plant")
+    importlib.machinery.SourceFileLoader("rt-plant", planter.__file__).exec_module(planter)
+    # One check a crate, but for bodies of one method, of which each takes a check of its own.
+    planter.BATCH, planter.SECONDS = 400, 1200
+    compiled, giving_up = planter.Copy.compiled, planter.bodies.Bodies.giving_up
+    # Where the unchanged call isn't planted, the planter tries no body that calls the function.
+    planter.Copy.compiled = lambda copy, plants: compiled(copy, [it for it in plants if it.body != it.f.call()])
+    planter.bodies.Bodies.giving_up = lambda of: giving_up(of) + parts_handed_back(planter.bodies, of)
+    sys.exit(planter.main("--all", "--max", "9999", "--minutes", "60"))
+
+
+def libraries():
+    """The repository's libraries, from the ground up."""
+    lines = [line.partition(":")[0].split() for line in (TOP / "crates.txt").read_text().splitlines()]
+    names = [words[0] for words in lines if words and not words[0].startswith("#")]
+    return [name for name in names if (TOP / "crates" / name / "src/lib.rt").is_file()]
+
+
+def main(words):
+    shows_all = "--all" in words
+    wanted = [word for word in words if not word.startswith("-")]
+    failed = 0
+    for crate in wanted or libraries():
+        ran = subprocess.run(
+            [sys.executable, __file__, "--planted"], cwd=TOP / "crates" / crate, stdout=subprocess.PIPE, text=True
+        )
+        rows = [found.groups() for found in map(ROW.match, ran.stdout.splitlines()) if found]
+        count = collections.Counter(kind for kind, _ in rows)
+        print(f"{crate}: " + (", ".join(f"{kind} {count[kind]}" for kind in sorted(count)) or "nothing to plant"))
+        for kind, row in rows:
+            if shows_all or kind in TOLD:
+                print(f"  {kind:<10} {row}")
+        sys.stdout.flush()
+        if ran.returncode:
+            print(f"  not gone over: rt plant ended with {ran.returncode}")
+            failed = 1
+    return failed
+
+
+if __name__ == "__main__":
+    if sys.argv[1:] == ["--planted"]:
+        planted()
+    sys.exit(main(sys.argv[1:]))

@@ -8,16 +8,11 @@ use Rattle.std.specs.declared.cmp.Ordering.TheVariants.{Equal, Greater}
 use Rattle.rpki_addr.specs.declared.addr.IpAddr.{IpAddr}
 use Rattle.rpki_addr.specs.declared.addr.IpAddr.TheVariants.{V4, V6}
 use Rattle.rpki_addr.specs.Prefixes.{IsIn}
+use Rattle.rpki_prefix.specs.Nesting.{LiesRound}
 use Rattle.rpki_prefix.specs.Order.{prefix_cmp, last_bits}
 use Rattle.rpki_prefix.specs.Values.{FamilyPrefix, CoversPrefix, interval, width, address_number, with_bits, last_addr, is_v6}
 
--- the bounds of p lie round those of q
-pub record LiesRound (p q : FamilyPrefix) : Type 0 where
-  pub family : is_v6 p.addr ≡ is_v6 q.addr
-  pub from : address_number p.addr ≤ address_number q.addr
-  pub upto : last_bits q ≤ last_bits p
-
--- where they do, p covers q
+-- where the bounds of p lie round those of q, p covers q
 pub covers_round : (p q : FamilyPrefix) → LiesRound p q → CoversPrefix p q
 covers_round p q r =
     let some : 0 < 2 ^ (width p.addr - p.len) = pow_pos (width p.addr - p.len) in

@@ -1,5 +1,6 @@
 -- Definitions: prefixes of one family, their order, their texts, and greatest lengths.
 pub mod MaxLen
+pub mod Nesting
 pub mod Order
 pub mod OrderLaws
 pub mod PrefixText

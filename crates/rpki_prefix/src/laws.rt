@@ -3,7 +3,8 @@ ghost use Rattle.std.specs.Prelude.{◌≡◌, ◌↔◌, IsTrue};
 ghost use Rattle.std.specs.Cmp.{IsTotalOrder};
 ghost use Rattle.std.specs.declared.cmp.Ordering.TheVariants.{Equal};
 ghost use Rattle.rpki_prefix.specs.MaxLen.{MaxLenValue};
-ghost use Rattle.rpki_prefix.specs.Values.{FamilyPrefix};
+ghost use Rattle.rpki_prefix.specs.Nesting.{LiesRound};
+ghost use Rattle.rpki_prefix.specs.Values.{CoversPrefix, FamilyPrefix};
 
 use crate::max_len::MaxLenPrefix;
 use crate::prefix::Prefix;
@@ -24,4 +25,10 @@ pub fn total_order()
     ensures max_len_total { IsTotalOrder ⟦<MaxLenPrefix as Ord>⟧.cmp }
     ensures max_len_ties { (m n : MaxLenValue)
         → (⟦<MaxLenPrefix as Ord>⟧.cmp m n ≡ Equal) ↔ (m ≡ n) }
+{}
+
+/// A prefix covers another exactly where both are of one family and its least and its greatest address lie round the
+/// other's.
+pub fn covers_by_bounds()
+    ensures { (p q : FamilyPrefix) → CoversPrefix p q ↔ LiesRound p q }
 {}

@@ -222,7 +222,7 @@ def items_of(crate: str) -> list[Item]:
     names = set(re.findall(r"\w+", again))
     for path, _ in files:
         text = path.read_text()
-        aliases = re.findall(r"^pub type (\w+)[^=]*= (\w+)", text, re.M)
+        aliases = re.findall(r"^pub type (\w+).* = (\w+)", text, re.M)
         names.update(meant for name, meant in aliases if re.search(rf"^pub struct {meant}\b", text, re.M))
     is_exported = f"{crate} staticlib:" in (TOP / "crates.txt").read_text()
     items: dict[str, Item] = {}

@@ -5,7 +5,8 @@ Of what stands between backticks it takes paths, names of files, names of crates
 form Type::call, each of which must stand somewhere in the sources, definitions or scripts. docs/DIFFERENCES.md and
 docs/PATHS.md also name what the Rust crate alone has, so their words aren't looked for. A definition, as in
 crate.File.Name, must stand in that file of `specs/`. A block of Rust behind the name of a file must stand in that file,
-line by line. Ends with status 1 where something isn't there.
+line by line. The tables of docs/CALLING.md, Conditions, must have the public calls of the libraries with a `requires`,
+and no others. Ends with status 1 where something isn't there.
 """
 
 import re
@@ -13,7 +14,9 @@ import sys
 from collections.abc import Iterator
 from pathlib import Path
 
+from api_page import items_of, libraries
 from proved_page import defines, definition_at, names_of
+from rooms import room_of
 
 TOP = Path(__file__).resolve().parent.parent
 CRATES = TOP / "crates"
@@ -108,6 +111,40 @@ def faults_of_code(page: Path) -> Iterator[tuple[int, str]]:
             block.append(line)
 
 
+def conditions_of(crate: str, meant: dict[str, str]) -> Iterator[str]:
+    """The public calls of a library with a `requires`, methods as Type::name; aliases of its types are noted."""
+    for item in items_of(crate):
+        if alias := re.match(r"pub type (\w+).* = (\w+)", item.code[0]):
+            meant[alias[1]] = alias[2]
+        for owner, code in [(item.name, item.code), *((item.name, call.code) for call in item.calls)]:
+            call = owner
+            for line in code:
+                if found := re.match(r"\s*(?:pub )?(?:unsafe )?fn (\w+)", line):
+                    call = found[1] if code is item.code and line == code[0] else f"{owner}::{found[1]}"
+                if re.match(r"\s*requires\b", line):
+                    yield call
+
+
+def faults_of_conditions() -> Iterator[tuple[int, str]]:
+    """The calls with a condition that docs/CALLING.md doesn't have in its tables, and those of its tables with none."""
+    meant: dict[str, str] = {}
+    crates = [it for it in libraries() if room_of(it).title != "examples"]
+    wanted = {call for crate in crates for call in conditions_of(crate, meant)}
+    there: dict[str, int] = {}
+    is_part = False
+    for number, line in enumerate((TOP / "docs" / "CALLING.md").read_text().split("\n"), 1):
+        if line.startswith("## "):
+            is_part = line == "## Conditions"
+        elif is_part and line.startswith("| `"):
+            # Of what stands in front of the condition a name in small letters with colons is a module.
+            for name in (it for token in re.findall(r"`([^`]+)`", line.split(" | ")[0]) for it in names_of(token)):
+                if name not in crates and not re.match(r"[a-z]\w*::", name):
+                    owner, colons, call = name.partition("::")
+                    there[f"{meant.get(owner, owner)}{colons}{call}"] = number
+    yield from ((number, f"{call} has no condition") for call, number in there.items() if call not in wanted)
+    yield from ((1, f"the condition of {call} stands nowhere") for call in sorted(wanted - there.keys()))
+
+
 def main() -> int:
     """Prints what isn't there."""
     words: set[str] = set()
@@ -117,7 +154,8 @@ def main() -> int:
     words |= crates
     found = 0
     for page in PAGES:
-        for number, fault in sorted({*faults_of_names(page, words, crates), *faults_of_code(page)}):
+        more = faults_of_conditions() if page.name == "CALLING.md" else ()
+        for number, fault in sorted({*faults_of_names(page, words, crates), *faults_of_code(page), *more}):
             print(f"{page.relative_to(TOP)}:{number}: {fault}")
             found += 1
     print(f"names in {len(PAGES)} pages: {found} aren't there")

@@ -15,12 +15,20 @@
  * with rooms of these lengths doesn't answer PG_TOO_SMALL. Rooms of length 0 ask for the lengths alone. The library
  * keeps nothing between calls, hands out no memory, and frees all that it takes from malloc before it returns.
  *
- * OWED by a caller, and tested by nothing: each pointer is that of an array of the length beside it; no pointer is
- * null, also at length 0 (the inline functions below see to that); outputs overlap neither inputs nor one another for
- * the time of the call; no call from a signal handler, or from the forked child of a process with threads.
+ * OWED by a caller, and tested by nothing:
  *
- * THREADS. Calls have no state in common: any number may run at once, if no output of one is read or written by
- * another.
+ * - Each pointer is that of an array of the length beside it, aligned as C wants it of the type (arrays of
+ *   pg_certificate, pg_payload and pg_route, and the size_t that a length or a place is written to), and none is null,
+ *   also at length 0. The inline functions below take null.
+ * - Outputs overlap neither inputs nor one another, and nothing else writes to inputs or outputs, nor reads outputs,
+ *   until the call returns.
+ * - malloc, realloc and free are those of one allocator, and a block is aligned to each power of two up to 16 that
+ *   divides its size, as those of the C library are.
+ * - The stack has 128 KiB left.
+ * - No call stands in a signal handler, or in the forked child of a process with threads.
+ *
+ * THREADS. Calls have no state in common, so any number may run at once where what is owed holds of each: inputs may be
+ * shared, outputs may not. This was tested with eight threads, not proved.
  */
 #ifndef PIGYELUND_H
 #define PIGYELUND_H
@@ -81,7 +89,9 @@ extern "C" {
 #define PG_NOT_FOUND 1u
 #define PG_INVALID 2u
 
-/* The version of these calls. It grows where one is added. */
+/* The version of the calls of this header, and that of the library that is linked: it grows where a call is added, so
+ * the library's may be greater. */
+#define PG_VERSION 3u
 uint32_t pg_version(void);
 
 /* What the issuer's set leaves of a certificate's claims: nothing of an absent extension or of a family that isn't in
@@ -119,7 +129,8 @@ uint32_t pg_cover(const uint8_t *ip, size_t ip_count, uint32_t encoding, uint32_
                   size_t *len);
 
 /* A validated payload: a prefix, its greatest length, and the AS that may originate it; and a route: the prefix that it
- * leads to, and the AS that originates it. An IPv4 address is the first four octets: those behind aren't looked at. */
+ * leads to, and the AS that originates it; 0 where its path ends in an AS_SET, so that no payload matches it (RFC 6811,
+ * 2). An IPv4 address is the first four octets: those behind aren't looked at. */
 typedef struct {
   uint8_t address[16];
   uint32_t asn;
@@ -165,8 +176,47 @@ uint32_t pg_contains(const uint8_t *a_as, size_t a_as_len, const uint8_t *a_ip, 
 uint32_t pg_equal(const uint8_t *a_as, size_t a_as_len, const uint8_t *a_ip, size_t a_ip_len, const uint8_t *b_as,
                   size_t b_as_len, const uint8_t *b_ip, size_t b_ip_len, uint32_t encoding);
 
-/* ---- the same with fewer words, and with null where there are no octets: these are C, and not proved ---- */
+/* ---- what follows is C, and not proved ---- */
 
+/* What a status says, in English: a text that lives as long as the program. */
+static inline const char *pg_status_text(uint32_t status) {
+#define PG_TEXTS(of)                                                                                                   \
+  {of "truncated", of "wrong tag", of "bad length", of "bad integer", of "bad bit string", of "bad NULL",              \
+   of "trailing data", of "bad prefix", of "bad family", of "reversed range", of "no blocks", of "family twice",       \
+   of "no family", of "not canonical"}
+  static const char *const faults[4][14] = {
+      PG_TEXTS("AS identifiers: "), PG_TEXTS("IP address blocks: "),
+      PG_TEXTS("AS identifiers of the certificate or of the second set: "),
+      PG_TEXTS("IP address blocks of the certificate or of the second set: ")};
+#undef PG_TEXTS
+  static const char *const others[16] = {"done",
+                                         "a room is too small",
+                                         "out of memory",
+                                         "inherited resources in place of a set",
+                                         "unknown mode",
+                                         "overclaimed AS resources",
+                                         "overclaimed IPv4 resources",
+                                         "overclaimed IPv6 resources",
+                                         "no",
+                                         "unknown encoding",
+                                         "the certificate has neither extension",
+                                         "octets of a certificate outside of the run",
+                                         "unknown number of extensions",
+                                         "unknown family",
+                                         "bad prefix of a payload",
+                                         "bad greatest length of a payload"};
+  uint32_t fault = PG_FAULT(status), kind = status - fault, second = kind >= PG_SECOND ? 1u : 0u;
+  uint32_t octets = kind - second * PG_SECOND;
+  if (status < 16u) return others[status];
+  if (octets == PG_BAD_AS || octets == PG_BAD_IP)
+    if (fault >= 1u && fault <= 14u) return faults[2u * second + (octets == PG_BAD_IP ? 1u : 0u)][fault - 1u];
+  if (status == PG_SECOND + PG_INHERITED) return "inherited resources in place of the second set";
+  if (status == PG_SECOND + PG_BAD_FAMILY) return "unknown family of a route";
+  if (status == PG_SECOND + PG_BAD_PREFIX) return "bad prefix of a route";
+  return "unknown status";
+}
+
+/* The calls with fewer words: where a pointer is null there are no octets and no room, whatever the length beside it. */
 typedef struct {
   const uint8_t *as;
   size_t as_len;
@@ -181,20 +231,23 @@ typedef struct {
   size_t ip_room, ip_len;
 } pg_room;
 
-/* octets that are no null */
+/* octets that are no null, and how many they are */
 static inline const uint8_t *pg_some(const uint8_t *octets) {
   static const uint8_t nothing = 0;
   return octets ? octets : &nothing;
 }
 
+static inline size_t pg_count(const uint8_t *octets, size_t len) { return octets ? len : 0; }
+
 /* pg_verify of a certificate that has each extension whose pointer isn't null */
 static inline uint32_t pg_verify_set(pg_set issuer, pg_set cert, uint32_t encoding, uint32_t mode, pg_room *out) {
   uint8_t spare[2];
-  return pg_verify(pg_some(issuer.as), issuer.as_len, pg_some(issuer.ip), issuer.ip_len,
+  return pg_verify(pg_some(issuer.as), pg_count(issuer.as, issuer.as_len),
+                   pg_some(issuer.ip), pg_count(issuer.ip, issuer.ip_len),
                    (cert.as ? PG_HAS_AS : 0u) | (cert.ip ? PG_HAS_IP : 0u),
-                   pg_some(cert.as), cert.as_len, pg_some(cert.ip), cert.ip_len,
-                   encoding, mode, out->as ? out->as : spare, out->as_room, out->ip ? out->ip : spare + 1, out->ip_room,
-                   &out->as_len, &out->ip_len);
+                   pg_some(cert.as), pg_count(cert.as, cert.as_len), pg_some(cert.ip), pg_count(cert.ip, cert.ip_len),
+                   encoding, mode, out->as ? out->as : spare, pg_count(out->as, out->as_room),
+                   out->ip ? out->ip : spare + 1, pg_count(out->ip, out->ip_room), &out->as_len, &out->ip_len);
 }
 
 /* pg_union, pg_intersection or pg_difference; and pg_contains or pg_equal */
@@ -206,14 +259,15 @@ typedef uint32_t pg_test(const uint8_t *, size_t, const uint8_t *, size_t, const
 
 static inline uint32_t pg_make_set(pg_operation *call, pg_set a, pg_set b, uint32_t encoding, pg_room *out) {
   uint8_t spare[2];
-  return call(pg_some(a.as), a.as_len, pg_some(a.ip), a.ip_len, pg_some(b.as), b.as_len, pg_some(b.ip), b.ip_len,
-              encoding, out->as ? out->as : spare, out->as_room, out->ip ? out->ip : spare + 1, out->ip_room,
-              &out->as_len, &out->ip_len);
+  return call(pg_some(a.as), pg_count(a.as, a.as_len), pg_some(a.ip), pg_count(a.ip, a.ip_len),
+              pg_some(b.as), pg_count(b.as, b.as_len), pg_some(b.ip), pg_count(b.ip, b.ip_len),
+              encoding, out->as ? out->as : spare, pg_count(out->as, out->as_room), out->ip ? out->ip : spare + 1,
+              pg_count(out->ip, out->ip_room), &out->as_len, &out->ip_len);
 }
 
 static inline uint32_t pg_test_sets(pg_test *call, pg_set a, pg_set b, uint32_t encoding) {
-  return call(pg_some(a.as), a.as_len, pg_some(a.ip), a.ip_len, pg_some(b.as), b.as_len, pg_some(b.ip), b.ip_len,
-              encoding);
+  return call(pg_some(a.as), pg_count(a.as, a.as_len), pg_some(a.ip), pg_count(a.ip, a.ip_len),
+              pg_some(b.as), pg_count(b.as, b.as_len), pg_some(b.ip), pg_count(b.ip, b.ip_len), encoding);
 }
 
 #ifdef __cplusplus

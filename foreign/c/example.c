@@ -12,12 +12,12 @@ int main(void) {
     pg_room room = {0, 0, 0, 0, 0, 0};
     uint32_t status = pg_verify_set(by, cert, PG_LENIENT, mode, &room);
     if (status == PG_TOO_SMALL) {
-      room.as = malloc(room.as_room = room.as_len);
-      room.ip = malloc(room.ip_room = room.ip_len);
+      room.as = (uint8_t *)malloc(room.as_room = room.as_len);
+      room.ip = (uint8_t *)malloc(room.ip_room = room.ip_len);
       if ((room.as_room && !room.as) || (room.ip_room && !room.ip)) return 1;
       status = pg_verify_set(by, cert, PG_LENIENT, mode, &room);
     }
-    printf("mode %u: status %u:", (unsigned)mode, (unsigned)status);
+    printf("mode %u: %s:", (unsigned)mode, pg_status_text(status));
     for (size_t i = 0; i < room.ip_len; i++) printf(" %02x", room.ip[i]);
     puts("");
     free(room.as);

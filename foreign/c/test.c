@@ -1,11 +1,20 @@
-/* Asks each row of rows.txt, with rooms of each length from 0 to what is wanted and one more, and looks that nothing is
- * written but what is told. Inputs and rooms are blocks of their own, so that valgrind sees an octet too far. */
+/* test FOLDER, which has rows.txt and texts.txt: asks each row, with rooms of each length from 0 to what is wanted and
+ * one more, and looks that nothing is written but what is told; then all rows on eight threads at once. Inputs and rooms
+ * are blocks of their own, so that valgrind sees an octet too far. */
 #include "../pigyelund.h"
+#include <pthread.h>
+#include <stdatomic.h>
 #include <stdio.h>
 #include <stdlib.h>
 #include <string.h>
 
-enum { MARK = 0xa5, LENGTH = 1 << 16, SMALL = 40, WORDS = 10, PLACES = 16 };
+/* each name of the header has its number */
+#define NUMBER(name, value) _Static_assert(PG_##name == value##u, #name);
+#include "../numbers.txt"
+_Static_assert(PG_FAULT(PG_BAD_AS + 1u) == 1u && PG_FAULT(PG_SECOND + PG_BAD_IP + 14u) == 14u, "PG_FAULT");
+_Static_assert(PG_FAULT(PG_BAD_IP + 255u) == 255u, "PG_FAULT");
+
+enum { MARK = 0xa5, LENGTH = 1 << 16, SMALL = 40, WORDS = 10, PLACES = 16, THREADS = 8, ANY = 77 };
 
 typedef struct {
   uint8_t *octets;
@@ -28,7 +37,7 @@ typedef struct {
   size_t count, route_count, verified;
 } question;
 
-static unsigned calls, faults;
+static atomic_uint calls, faults;
 
 /* a block of this length; of one octet where it is 0, since no pointer may be null */
 static uint8_t *block(size_t length) {
@@ -166,14 +175,14 @@ static uint32_t call_of(const question *q, uint8_t *as, size_t as_room, uint8_t 
 /* one call with such rooms */
 static void ask(const question *q, size_t as_room, size_t ip_room) {
   uint8_t *as = block(as_room), *ip = block(ip_room);
-  size_t as_len = 77, ip_len = 77, verified = 77;
+  size_t as_len = ANY, ip_len = ANY, verified = ANY;
   const run *told = q->told;
   int fits = told[0].length <= as_room && told[1].length <= ip_room;
   uint32_t found = call_of(q, as, as_room, ip, ip_room, &as_len, &ip_len, &verified);
   calls++;
   expect(found == (fits ? q->status : PG_TOO_SMALL), q->row, "another status");
   expect(as_len == told[0].length && ip_len == told[1].length, q->row, "other lengths");
-  expect(verified == (q->call == PATH || q->call == ORIGINS ? q->verified : 77), q->row, "another place");
+  expect(verified == (q->call == PATH || q->call == ORIGINS ? q->verified : ANY), q->row, "another place");
   if (fits) {
     expect(!memcmp(as, told[0].octets, told[0].length), q->row, "other octets in the first room");
     expect(!memcmp(ip, told[1].octets, told[1].length), q->row, "other octets in the second room");
@@ -195,41 +204,59 @@ static void ask_rooms(const question *q) {
   }
 }
 
-/* ---- the functions of the header, with null where there are no octets */
+/* ---- the functions of the header, with null where there are no octets, and any length beside it */
 
 static pg_set set_of(const run *in) {
-  return (pg_set){in[0].length ? in[0].octets : 0, in[0].length, in[1].length ? in[1].octets : 0, in[1].length};
+  pg_set set = {0, ANY, 0, ANY};
+  if (in[0].length) set.as = in[0].octets, set.as_len = in[0].length;
+  if (in[1].length) set.ip = in[1].octets, set.ip_len = in[1].length;
+  return set;
 }
 
 /* the certificate has an extension where its pointer isn't null */
 static pg_set certificate_of(const question *q) {
-  const run *in = q->in;
-  return (pg_set){q->numbers[1] & PG_HAS_AS ? in[2].octets : 0, in[2].length,
-                  q->numbers[1] & PG_HAS_IP ? in[3].octets : 0, in[3].length};
+  pg_set set = {0, ANY, 0, ANY};
+  if (q->numbers[1] & PG_HAS_AS) set.as = q->in[2].octets, set.as_len = q->in[2].length;
+  if (q->numbers[1] & PG_HAS_IP) set.ip = q->in[3].octets, set.ip_len = q->in[3].length;
+  return set;
 }
 
-static void ask_in_short(const question *q) {
-  pg_room out = {0, q->told[0].length, 0, 0, q->told[1].length, 0};
+static uint32_t call_in_short(const question *q, pg_room *out) {
   pg_set a = set_of(q->in), b = set_of(q->in + 2);
-  uint32_t found;
+  calls++;
+  if (q->call == TEST) return pg_test_sets(q->test, a, b, q->numbers[0]);
+  if (q->call == MAKE) return pg_make_set(q->operation, a, b, q->numbers[0], out);
+  return pg_verify_set(a, certificate_of(q), q->numbers[0], q->numbers[2], out);
+}
+
+/* with rooms of the lengths that are told, null where they are 0; then with no rooms */
+static void ask_in_short(const question *q) {
+  const run *told = q->told;
+  pg_room out = {0, ANY, 0, 0, ANY, 0}, none = {0, ANY, 0, 0, ANY, 0};
   if (q->call != VERIFY && q->call != MAKE && q->call != TEST) return;
   if (q->call == VERIFY && q->numbers[1] > PG_HAS_BOTH) return;
-  if (out.as_room) out.as = block(out.as_room);
-  if (out.ip_room) out.ip = block(out.ip_room);
-  calls++;
-  if (q->call == TEST) found = pg_test_sets(q->test, a, b, q->numbers[0]);
-  else if (q->call == MAKE) found = pg_make_set(q->operation, a, b, q->numbers[0], &out);
-  else found = pg_verify_set(a, certificate_of(q), q->numbers[0], q->numbers[2], &out);
-  expect(found == q->status, q->row, "another status in short");
-  if (q->call != TEST)
-    expect(out.as_len == out.as_room && out.ip_len == out.ip_room, q->row, "other lengths in short");
-  if (out.as) expect(!memcmp(out.as, q->told[0].octets, out.as_room), q->row, "other octets in short");
-  if (out.ip) expect(!memcmp(out.ip, q->told[1].octets, out.ip_room), q->row, "other octets in short");
+  if (told[0].length) out.as = block(out.as_room = told[0].length);
+  if (told[1].length) out.ip = block(out.ip_room = told[1].length);
+  expect(call_in_short(q, &out) == q->status, q->row, "another status in short");
+  if (out.as) expect(!memcmp(out.as, told[0].octets, told[0].length), q->row, "other octets in short");
+  if (out.ip) expect(!memcmp(out.ip, told[1].octets, told[1].length), q->row, "other octets in short");
+  expect(call_in_short(q, &none) == (out.as || out.ip ? PG_TOO_SMALL : q->status), q->row, "another status of null");
+  if (q->call != TEST) {
+    expect(out.as_len == told[0].length && out.ip_len == told[1].length, q->row, "other lengths in short");
+    expect(none.as_len == told[0].length && none.ip_len == told[1].length, q->row, "other lengths of null");
+  }
   free(out.as);
   free(out.ip);
 }
 
-static void ask_row(unsigned row, char **words) {
+/* ---- all rows */
+
+typedef struct {
+  question *all;
+  unsigned count, first;
+} questions;
+
+static question question_of(unsigned row, char **words) {
   question q = {0};
   q.row = row;
   name_call(&q, words[0]);
@@ -240,29 +267,95 @@ static void ask_row(unsigned row, char **words) {
   q.status = (uint32_t)strtoul(words[6], 0, 10);
   for (int i = 0; i < 2; i++) q.told[i] = read_run(words[7 + i]);
   q.verified = strtoul(words[9], 0, 10);
-  if (q.call != TEST) ask_rooms(&q);
-  ask_in_short(&q);
-  for (int i = 0; i < 4; i++) free(q.in[i].octets);
-  for (int i = 0; i < 2; i++) free(q.told[i].octets);
-  free(q.certificates);
-  free(q.payloads);
-  free(q.routes);
+  return q;
+}
+
+static void end_question(question *q) {
+  for (int i = 0; i < 4; i++) free(q->in[i].octets);
+  for (int i = 0; i < 2; i++) free(q->told[i].octets);
+  free(q->certificates);
+  free(q->payloads);
+  free(q->routes);
+}
+
+static FILE *opened(const char *folder, const char *name) {
+  char path[LENGTH];
+  FILE *file;
+  snprintf(path, sizeof path, "%s/%s", folder, name);
+  file = fopen(path, "r");
+  if (!file) exit(2);
+  return file;
+}
+
+static questions read_rows(const char *folder) {
+  static char line[LENGTH];
+  FILE *file = opened(folder, "rows.txt");
+  questions found = {0, 0, 0};
+  while (fgets(line, LENGTH, file)) {
+    char *words[WORDS];
+    int n = 0;
+    for (char *word = strtok(line, " \n"); word && n < WORDS; word = strtok(0, " \n")) words[n++] = word;
+    found.all = (question *)realloc(found.all, (found.count + 1) * sizeof *found.all);
+    if (n != WORDS || !found.all) exit(2);
+    found.all[found.count] = question_of(found.count + 1, words);
+    found.count++;
+  }
+  fclose(file);
+  return found;
+}
+
+/* each row once with rooms of the lengths that are told, from one row on and round to it */
+static void *ask_round(void *of) {
+  const questions *q = (const questions *)of;
+  for (unsigned i = 0; i < q->count; i++) {
+    const question *one = q->all + (q->first + i) % q->count;
+    if (one->call == TEST) expect(call_in_short(one, 0) == one->status, one->row, "another status on a thread");
+    else ask(one, one->told[0].length, one->told[1].length);
+  }
+  return 0;
+}
+
+/* on threads at once, which share what goes in; each begins at another row */
+static void ask_on_threads(questions rows) {
+  pthread_t threads[THREADS];
+  questions of[THREADS];
+  for (unsigned i = 0; i < THREADS; i++) {
+    of[i] = rows;
+    of[i].first = rows.count * i / THREADS;
+    if (pthread_create(threads + i, 0, ask_round, of + i)) exit(2);
+  }
+  for (unsigned i = 0; i < THREADS; i++) pthread_join(threads[i], 0);
+}
+
+/* each line of texts.txt is a status and its text */
+static void ask_texts(const char *folder) {
+  static char line[LENGTH];
+  FILE *file = opened(folder, "texts.txt");
+  unsigned count = 0;
+  while (fgets(line, LENGTH, file)) {
+    char *text;
+    uint32_t status = (uint32_t)strtoul(line, &text, 10);
+    text[strcspn(text, "\n")] = 0;
+    expect(*text == ' ' && !strcmp(pg_status_text(status), text + 1), 0, "another text of a status");
+    count++;
+  }
+  expect(count > 0, 0, "no texts");
+  fclose(file);
 }
 
 int main(int count, char **words) {
-  static char line[LENGTH];
-  FILE *file = count == 2 ? fopen(words[1], "r") : 0;
-  unsigned row = 0;
-  if (!file) return 2;
-  expect(pg_version() == 3, 0, "another version");
-  while (fgets(line, LENGTH, file)) {
-    char *found[WORDS];
-    int n = 0;
-    for (char *word = strtok(line, " \n"); word && n < WORDS; word = strtok(0, " \n")) found[n++] = word;
-    if (n != WORDS) return 2;
-    ask_row(++row, found);
+  questions rows;
+  if (count != 2) return 2;
+  expect(pg_version() == PG_VERSION, 0, "another version");
+  ask_texts(words[1]);
+  rows = read_rows(words[1]);
+  for (unsigned i = 0; i < rows.count; i++) {
+    if (rows.all[i].call != TEST) ask_rooms(rows.all + i);
+    ask_in_short(rows.all + i);
   }
-  fclose(file);
-  printf("C: %u rows, %u calls, %u faults\n", row, calls, faults);
-  return faults || !row;
+  if (rows.count) ask_on_threads(rows);
+  for (unsigned i = 0; i < rows.count; i++) end_question(rows.all + i);
+  free(rows.all);
+  printf("C: %u rows, %u calls, %u faults\n", rows.count, calls, faults);
+  return faults || !rows.count;
 }

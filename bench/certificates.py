@@ -19,7 +19,7 @@ from pathlib import Path
 TOP = Path(__file__).resolve().parent.parent
 sys.path.insert(0, str(TOP / "foreign" / "python"))
 
-from pigyelund import Certificate, Encoding, Extensions, Mode, Pigyelund, Resources  # noqa: E402
+from pigyelund import Certificate, Encoding, Extensions, Pigyelund, Resources, laid_out  # noqa: E402
 
 RESPATH = TOP / "crates" / "respath" / "out" / "respath"
 LIBRARY = TOP / "crates" / "pigyelund_c" / "out" / "libpigyelund_c.a"
@@ -68,23 +68,16 @@ class OfOctets:
 
     def __init__(self, library: Pigyelund, claims: list[Resources]) -> None:
         self._library, self._anchor, self._last = library, claims[0], claims[-1]
-        self._run, self._certificates = b"", []
-        for claim in claims[1:]:
-            at, present = len(self._run), Extensions(*claim).present()
-            places = (at, len(claim.asn), at + len(claim.asn), len(claim.ip))
-            self._certificates.append(Certificate(*places, present, Mode.REFUSE))
-            self._run += claim.asn + claim.ip
+        self._run, self._places = laid_out(Certificate(Extensions(*claim)) for claim in claims[1:])
 
     def seconds(self) -> float:
         """How long it takes to verify it."""
         rooms = (len(self._last.asn), len(self._last.ip))
         before = time.process_time()
-        (status, _, left), _ = self._library.verify_path_told(
-            self._anchor, self._run, self._certificates, Encoding.STRICT, rooms
-        )
+        told = self._library.raw.verify_path(self._anchor, self._run, self._places, Encoding.STRICT, rooms)
         took = time.process_time() - before
-        if status or left != self._last:
-            sys.exit(f"the octets are answered by status {status}")
+        if told.status or told.held != self._last:
+            sys.exit(f"the octets are answered by status {told.status}")
         return took
 
 

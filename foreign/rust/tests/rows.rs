@@ -1,11 +1,17 @@
-//! Asks each row of `rows.txt`.
+//! Asks each row of `rows.txt`, alone and on eight threads at once, and each name and text.
+use pigyelund::raw;
+use pigyelund::raw::{NO, OK, TOO_SMALL};
 use pigyelund::{
-    answer, answer_into, contains, cover, cover_into, difference, equal, intersection, made_into,
-    origins, origins_into, test_status, union, verify, verify_into, verify_path, verify_path_into,
-    version, Certificate, Encoding, Extensions, Family, Octets, Operation, Overclaim, Payload,
-    Refused, RefusedOrigin, RefusedPath, Resources, Route, Test, Validity, NO, OK, TOO_SMALL,
+    answer, contains, cover, difference, equal, intersection, origins, union, verify, verify_path,
+    version, Certificate, Encoding, Extensions, Family, Fault, Octets, Operation, Overclaim,
+    Payload, Reason, Refused, RefusedOrigin, RefusedPath, Resources, Route, Side, Test, Validity,
 };
+use std::collections::BTreeMap;
+use std::error::Error;
 use std::net::{IpAddr, Ipv4Addr};
+use std::thread;
+
+const THREADS: usize = 8;
 
 fn octets(word: &str) -> Vec<u8> {
     let digits = if word == "-" { "" } else { word };
@@ -30,16 +36,44 @@ fn mode_of(number: u32) -> Option<Overclaim> {
     }
 }
 
-fn certificate(word: &str) -> Certificate {
+fn place(word: &str) -> raw::Certificate {
     let numbers: Vec<&str> = word.split(':').collect();
     let places: Vec<usize> = numbers[..4].iter().map(|n| n.parse().unwrap()).collect();
-    Certificate {
+    raw::Certificate {
         as_at: places[0],
         as_len: places[1],
         ip_at: places[2],
         ip_len: places[3],
         present: numbers[4].parse().unwrap(),
         mode: numbers[5].parse().unwrap(),
+    }
+}
+
+/// The extensions that are there.
+fn extensions_of(present: u32, octets: Octets<'_>) -> Extensions<'_> {
+    Extensions {
+        asn: (present & raw::HAS_AS != 0).then_some(octets.asn),
+        ip: (present & raw::HAS_IP != 0).then_some(octets.ip),
+    }
+}
+
+/// The certificate at a place of a run, None where it lies outside or has numbers that are none.
+fn certificate_at<'a>(run: &'a [u8], place: &raw::Certificate) -> Option<Certificate<'a>> {
+    let asn = run.get(place.as_at..place.as_at.checked_add(place.as_len)?)?;
+    let ip = run.get(place.ip_at..place.ip_at.checked_add(place.ip_len)?)?;
+    if place.present > raw::HAS_BOTH {
+        return None;
+    }
+    Some(Certificate {
+        extensions: extensions_of(place.present, Octets { asn, ip }),
+        mode: mode_of(place.mode)?,
+    })
+}
+
+fn octets_of(address: IpAddr) -> Vec<u8> {
+    match address {
+        IpAddr::V4(v4) => v4.octets().to_vec(),
+        IpAddr::V6(v6) => v6.octets().to_vec(),
     }
 }
 
@@ -72,7 +106,7 @@ struct Row<'a> {
     call: &'a str,
     numbers: Vec<u32>,
     runs: Vec<Vec<u8>>,
-    certificates: Vec<Certificate>,
+    certificates: Vec<raw::Certificate>,
     status: u32,
     told: Resources,
     verified: Option<usize>,
@@ -91,7 +125,7 @@ impl Row<'_> {
                 .map(|word| octets(word))
                 .collect(),
             certificates: if is_path {
-                words[5].split(';').map(certificate).collect()
+                words[5].split(';').map(place).collect()
             } else {
                 Vec::new()
             },
@@ -143,7 +177,7 @@ impl Row<'_> {
     fn expect(&self, found: Result<Resources, Refused>) {
         let (status, set) = match found {
             Ok(set) => (OK, set),
-            Err(Refused { status, excess }) => (status, excess),
+            Err(Refused { reason, excess }) => (reason.status(), excess),
         };
         assert_eq!((status, &set), (self.status, &self.told), "{}", self.text);
     }
@@ -160,14 +194,11 @@ impl Row<'_> {
         let (issuer, octets) = (self.first(), self.second());
         let (present, mode) = (self.numbers[1], self.numbers[2]);
         let encoding = self.numbers[0];
-        self.ask_rooms(|asn, ip| verify_into(issuer, present, octets, encoding, mode, asn, ip));
+        self.ask_rooms(|asn, ip| raw::verify(issuer, present, octets, encoding, mode, asn, ip));
         if present > 3 {
             return;
         }
-        let certificate = Extensions {
-            asn: (present & 1 != 0).then_some(octets.asn),
-            ip: (present & 2 != 0).then_some(octets.ip),
-        };
+        let certificate = extensions_of(present, octets);
         if let (Some(encoding), Some(mode)) = (encoding_of(encoding), mode_of(mode)) {
             self.expect(verify(issuer, certificate, encoding, mode));
         }
@@ -177,28 +208,35 @@ impl Row<'_> {
         let (anchor, run, certificates) = (self.first(), &self.runs[2], &self.certificates);
         self.ask_rooms(|asn, ip| {
             let (status, as_len, ip_len, verified) =
-                verify_path_into(anchor, run, certificates, self.numbers[0], asn, ip);
+                raw::verify_path(anchor, run, certificates, self.numbers[0], asn, ip);
             assert_eq!(Some(verified), self.verified, "{}", self.text);
             (status, as_len, ip_len)
         });
         let Some(encoding) = encoding_of(self.numbers[0]) else {
             return;
         };
-        let found = verify_path(anchor, run, certificates, encoding);
+        let path: Option<Vec<_>> = certificates
+            .iter()
+            .map(|at| certificate_at(run, at))
+            .collect();
+        let Some(path) = path else {
+            return;
+        };
+        let found = verify_path(anchor, &path, encoding);
         let verified = match &found {
-            Ok(_) => certificates.len(),
+            Ok(_) => path.len(),
             Err(RefusedPath { verified, .. }) => *verified,
         };
         assert_eq!(Some(verified), self.verified, "{}", self.text);
-        self.expect(found.map_err(|refused| refused.reason));
+        self.expect(found.map_err(|refused| refused.refused));
     }
 
     fn ask_cover(&self) {
         let (ip, encoding, number) = (&self.runs[0], self.numbers[0], self.numbers[1]);
-        self.ask_room(|out| cover_into(ip, encoding, number, out));
-        let (family, width) = match number {
-            1 => (Family::V4, 4),
-            2 => (Family::V6, 16),
+        self.ask_room(|out| raw::cover(ip, encoding, number, out));
+        let family = match number {
+            1 => Family::V4,
+            2 => Family::V6,
             _ => return,
         };
         let Some(encoding) = encoding_of(encoding) else {
@@ -207,7 +245,7 @@ impl Row<'_> {
         let found = cover(ip, encoding, family).map(|prefixes| Resources {
             asn: prefixes
                 .iter()
-                .flat_map(|prefix| [&prefix.address[..width], &[prefix.len][..]].concat())
+                .flat_map(|prefix| [octets_of(prefix.address), vec![prefix.len]].concat())
                 .collect(),
             ip: Vec::new(),
         });
@@ -218,26 +256,36 @@ impl Row<'_> {
         let payloads: Vec<Payload> = self.runs[0].chunks(23).map(payload).collect();
         let routes: Vec<Route> = self.runs[2].chunks(22).map(route).collect();
         self.ask_room(|out| {
-            let (status, len, place) = origins_into(&payloads, &routes, out);
+            let (status, len, place) = raw::origins(&payloads, &routes, out);
             assert_eq!(Some(place), self.verified, "{}", self.text);
             (status, len)
         });
         match origins(&payloads, &routes) {
             Ok(found) => {
                 let octets: Vec<u8> = found.iter().map(|validity| *validity as u8).collect();
-                assert_eq!((OK, &octets), (self.status, &self.told.asn), "{}", self.text);
+                assert_eq!(
+                    (OK, &octets),
+                    (self.status, &self.told.asn),
+                    "{}",
+                    self.text
+                );
             }
-            Err(RefusedOrigin { status, place }) => {
-                assert_eq!((status, Some(place)), (self.status, self.verified), "{}", self.text);
+            Err(RefusedOrigin { reason, place }) => {
+                assert_eq!(
+                    (reason.status(), Some(place)),
+                    (self.status, self.verified),
+                    "{}",
+                    self.text
+                );
             }
         }
     }
 
     fn ask_answer(&self) {
         let line = &self.runs[0];
-        self.ask_room(|out| answer_into(line, out));
+        self.ask_room(|out| raw::answer(line, out));
         let found = answer(line).map(String::into_bytes);
-        assert_eq!(found.as_ref(), Some(&self.told.asn), "{}", self.text);
+        assert_eq!(found.as_ref(), Ok(&self.told.asn), "{}", self.text);
     }
 
     fn ask_operation(
@@ -246,7 +294,7 @@ impl Row<'_> {
         safe: fn(Octets<'_>, Octets<'_>, Encoding) -> Result<Resources, Refused>,
     ) {
         let (a, b) = (self.first(), self.second());
-        self.ask_rooms(|asn, ip| made_into(operation, a, b, self.numbers[0], asn, ip));
+        self.ask_rooms(|asn, ip| raw::made(operation, a, b, self.numbers[0], asn, ip));
         if let Some(encoding) = encoding_of(self.numbers[0]) {
             self.expect(safe(a, b, encoding));
         }
@@ -258,7 +306,7 @@ impl Row<'_> {
         safe: fn(Octets<'_>, Octets<'_>, Encoding) -> Result<bool, Refused>,
     ) {
         let (a, b) = (self.first(), self.second());
-        let status = test_status(test, a, b, self.numbers[0]);
+        let status = raw::tested(test, a, b, self.numbers[0]);
         assert_eq!(status, self.status, "{}", self.text);
         let Some(encoding) = encoding_of(self.numbers[0]) else {
             return;
@@ -266,7 +314,7 @@ impl Row<'_> {
         let found = match safe(a, b, encoding) {
             Ok(true) => OK,
             Ok(false) => NO,
-            Err(Refused { status, .. }) => status,
+            Err(Refused { reason, .. }) => reason.status(),
         };
         assert_eq!(found, self.status, "{}", self.text);
     }
@@ -288,21 +336,179 @@ impl Row<'_> {
     }
 }
 
+/// A file of the tests that the languages share.
+fn shared(name: &str) -> String {
+    let path = format!("{}/../{name}", env!("CARGO_MANIFEST_DIR"));
+    std::fs::read_to_string(path).unwrap()
+}
+
 #[test]
 fn rows_are_answered() {
-    let path = concat!(env!("CARGO_MANIFEST_DIR"), "/../rows.txt");
-    let rows = std::fs::read_to_string(path).unwrap();
+    let rows = shared("rows.txt");
     assert!(rows.lines().count() > 2000);
     rows.lines().for_each(|text| Row::new(text).ask());
-    assert_eq!(version(), 3);
+}
+
+/// Each thread asks all rows, and begins at another one.
+#[test]
+fn rows_are_answered_on_threads() {
+    let text = shared("rows.txt");
+    let rows: Vec<Row> = text.lines().map(Row::new).collect();
+    thread::scope(|scope| {
+        for at in 0..THREADS {
+            let (behind, front) = rows.split_at(rows.len() * at / THREADS);
+            scope.spawn(move || front.iter().chain(behind).for_each(Row::ask));
+        }
+    });
+}
+
+/// The numbers by their names: those of statuses as constants alone, those that choose by their types too.
+fn named() -> Vec<(&'static str, u32)> {
+    vec![
+        ("OK", raw::OK),
+        ("TOO_SMALL", raw::TOO_SMALL),
+        ("MEMORY", raw::MEMORY),
+        ("INHERITED", raw::INHERITED),
+        ("BAD_MODE", raw::BAD_MODE),
+        ("OVERCLAIM_AS", raw::OVERCLAIM_AS),
+        ("OVERCLAIM_V4", raw::OVERCLAIM_V4),
+        ("OVERCLAIM_V6", raw::OVERCLAIM_V6),
+        ("NO", raw::NO),
+        ("BAD_ENCODING", raw::BAD_ENCODING),
+        ("ABSENT", raw::ABSENT),
+        ("OUTSIDE", raw::OUTSIDE),
+        ("BAD_PRESENT", raw::BAD_PRESENT),
+        ("BAD_FAMILY", raw::BAD_FAMILY),
+        ("BAD_PREFIX", raw::BAD_PREFIX),
+        ("BAD_MAX_LEN", raw::BAD_MAX_LEN),
+        ("BAD_AS", raw::BAD_AS),
+        ("BAD_IP", raw::BAD_IP),
+        ("SECOND", raw::SECOND),
+        ("LENIENT", Encoding::Lenient as u32),
+        ("STRICT", Encoding::Strict as u32),
+        ("REFUSE", Overclaim::Refuse as u32),
+        ("TRIM", Overclaim::Trim as u32),
+        ("HAS_AS", raw::HAS_AS),
+        ("HAS_IP", raw::HAS_IP),
+        ("HAS_BOTH", raw::HAS_BOTH),
+        ("IPV4", Family::V4 as u32),
+        ("IPV6", Family::V6 as u32),
+        ("VALID", Validity::Valid as u32),
+        ("NOT_FOUND", Validity::NotFound as u32),
+        ("INVALID", Validity::Invalid as u32),
+        ("VERSION", version()),
+    ]
+}
+
+#[test]
+fn names_have_their_numbers() {
+    let text = shared("numbers.txt");
+    let stored: BTreeMap<&str, u32> = text
+        .lines()
+        .map(|line| line.trim_start_matches("NUMBER(").trim_end_matches(')'))
+        .map(|line| line.split_once(", ").unwrap())
+        .map(|(name, number)| (name, number.parse().unwrap()))
+        .collect();
+    assert_eq!(named().into_iter().collect::<BTreeMap<_, _>>(), stored);
+}
+
+#[test]
+fn statuses_have_their_texts() {
+    for line in shared("texts.txt").lines() {
+        let (status, text) = line.split_once(' ').unwrap();
+        let reason = Reason::of_status(status.parse().unwrap());
+        assert_eq!(reason.to_string(), text);
+    }
+    for status in 0..0x1300 {
+        assert_eq!(Reason::of_status(status).status(), status);
+    }
+}
+
+/// `?` takes each error.
+fn reasons_of(issuer: Octets<'_>, claim: &[u8], at: usize) -> Result<(), Box<dyn Error>> {
+    let extensions = |ip| Extensions {
+        asn: None,
+        ip: Some(ip),
+    };
+    let certificate = |ip| Certificate {
+        extensions: extensions(ip),
+        mode: Overclaim::Refuse,
+    };
+    let ten = Ipv4Addr::new(10, 0, 0, 0).into();
+    match at {
+        0 => verify(
+            issuer,
+            extensions(claim),
+            Encoding::Lenient,
+            Overclaim::Refuse,
+        )
+        .map(drop)?,
+        1 => {
+            let path = [certificate(issuer.ip), certificate(claim)];
+            verify_path(issuer, &path, Encoding::Lenient).map(drop)?
+        }
+        2 => {
+            let payloads = [Payload::new(ten, 8, 8, 1), Payload::new(ten, 8, 7, 1)];
+            origins(&payloads, &[]).map(drop)?
+        }
+        _ => answer(b"norm as 1").map(drop)?,
+    }
+    Ok(())
+}
+
+#[test]
+fn reasons_are_errors() {
+    let issuer = octets("300c300a0402000130040302000a");
+    let claim = octets("3010300e0402000130080302000a0302000c");
+    let texts = [
+        "overclaimed IPv4 resources",
+        "after 1 certificates: overclaimed IPv4 resources",
+        "at place 1: bad greatest length of a payload",
+    ];
+    let issuer = Octets {
+        asn: &[],
+        ip: &issuer,
+    };
+    for (at, text) in texts.iter().enumerate() {
+        assert_eq!(
+            reasons_of(issuer, &claim, at).unwrap_err().to_string(),
+            *text
+        );
+    }
+    assert!(reasons_of(issuer, &claim, texts.len()).is_ok());
+    let inherits = octets("3004a0020500");
+    let inherits = Octets {
+        asn: &inherits,
+        ip: &[],
+    };
+    let found = union(issuer, inherits, Encoding::Lenient).unwrap_err();
+    assert_eq!(found.reason, Reason::Inherited(Side::Second));
+    let found = cover(&[0x30], Encoding::Lenient, Family::V6).unwrap_err();
+    assert_eq!(found.reason, Reason::BadIp(Side::First, Fault::Truncated));
 }
 
 #[test]
 fn addresses_are_of_their_families() {
     let v4 = IpAddr::V4(Ipv4Addr::new(10, 0, 0, 0));
     let v6 = IpAddr::from([0x2001, 0xdb8, 0, 0, 0, 0, 0, 0]);
-    let payloads = [Payload::new(v4, 8, 16, 64496), Payload::new(v6, 32, 48, 64496)];
-    let routes = [Route::new(v4, 16, 64496), Route::new(v6, 49, 64496), Route::new(v6, 31, 64496)];
+    let payloads = [
+        Payload::new(v4, 8, 16, 64496),
+        Payload::new(v6, 32, 48, 64496),
+    ];
+    let routes = [
+        Route::new(v4, 16, 64496),
+        Route::new(v6, 49, 64496),
+        Route::new(v6, 31, 64496),
+    ];
     let found = origins(&payloads, &routes);
-    assert_eq!(found, Ok(vec![Validity::Valid, Validity::Invalid, Validity::NotFound]));
+    assert_eq!(
+        found,
+        Ok(vec![Validity::Valid, Validity::Invalid, Validity::NotFound])
+    );
+    let found = cover(
+        &octets("300c300a0402000130040302000a"),
+        Encoding::Strict,
+        Family::V4,
+    );
+    assert_eq!(found.unwrap()[0].to_string(), "10.0.0.0/8");
 }

@@ -1,56 +1,107 @@
 #!/usr/bin/env bash
-# Builds the static library and tests it from C, Rust and Python, each by the rows of foreign/rows.txt; a language whose
-# compiler isn't there is left out, and named. Status 0 where nothing failed.
+# foreign.sh [LIBRARY]: builds the static library by rt lib, or takes that file in its place, and tests it from C, Rust
+# and Python: by the rows of foreign/rows.txt, by names, numbers and texts, by the programs of docs/FOREIGN.md, and by
+# packages that are installed. What isn't there to test with is named, and what needs it left out. Status 0 where nothing
+# failed.
 cd "$(dirname "$0")/.." || exit 1
-kit=${KIT:-$(dirname "$(dirname "$(readlink -f "$(command -v rt)")")")}
-folder=$PWD/crates/pigyelund_c/out
-library=$folder/libpigyelund_c.a
+export KIT=${KIT:-$(dirname "$(dirname "$(readlink -f "$(command -v rt)")")")}
+export LIB=${1:-$PWD/crates/pigyelund_c/out/libpigyelund_c.a}
 out=$(mktemp -d) || exit 1
 trap 'rm -rf "$out"' EXIT
+spaced="$out/a folder"
+prefix="$spaced/usr local"
+mkdir "$spaced"
 failed=0
 
-has() { command -v "$1" >/dev/null; }
+# has WHAT TOOL ..: whether all tools are there; else WHAT is left out, and the first that isn't there is named
+has() {
+    what=$1
+    shift
+    for tool; do
+        command -v "$tool" >/dev/null || { echo "left out: $what needs $tool"; return 1; }
+    done
+}
 fail() { echo "FAILED: $1"; failed=1; }
+# same WHAT COMMAND ..: the example's program prints what it should
+same() {
+    what=$1
+    shift
+    "$@" >"$out/example.txt" && diff foreign/c/example.txt "$out/example.txt" || fail "$what"
+}
+has_python() { python3 -c 'import sys; sys.exit(sys.version_info < (3, 10))' 2>/dev/null; }
 
-if [ ! -f "$library" ]; then
-    (cd crates/pigyelund_c && rt lib >"$out/log") || { tail -n 20 "$out/log"; echo "FAILED: rt lib"; exit 1; }
+if [ $# -eq 0 ]; then
+    (cd crates/pigyelund_c && rt lib >"$out/log" 2>&1) || { tail -n 20 "$out/log"; echo "FAILED: rt lib"; exit 1; }
 fi
-if has gcc && has make; then
-    make -s -C foreign/c CC=gcc KIT="$kit" LIB="$library" OUT="$out" || fail "C is compiled"
-    "$out/example" >"$out/example.txt" && diff foreign/c/example.txt "$out/example.txt" || fail "the example in C"
-    "$out/test" foreign/rows.txt || fail "the test in C"
-    if has pkg-config; then
-        make -s -C foreign/c install KIT="$kit" LIB="$library" PREFIX="$out/installed" || fail "make install"
-        flags=$(PKG_CONFIG_PATH=$out/installed/lib/pkgconfig pkg-config --cflags --libs pigyelund) || fail "pkg-config"
-        # shellcheck disable=SC2086
-        gcc foreign/c/example.c -o "$out/by_pkg_config" $flags && "$out/by_pkg_config" >"$out/example.txt" &&
-            diff foreign/c/example.txt "$out/example.txt" || fail "the example by pkg-config"
-    else
-        echo "pigyelund.pc was not tested: it needs pkg-config"
+
+of_c() {
+    make -s -C foreign/c CC=gcc OUT="$spaced" || fail "C is compiled"
+    same "the example in C" "$spaced/example"
+    "$spaced/test" foreign || fail "the test in C"
+    if has "the example as C++" g++; then
+        g++ -x c++ -std=c++11 -Wall -Wextra -Werror -Iforeign foreign/c/example.c -x none "$spaced/libpigyelund.a" \
+            -o "$out/as_cpp" || fail "the example is C++"
+        same "the example in C++" "$out/as_cpp"
     fi
-    if has valgrind; then
-        valgrind -q --error-exitcode=9 --leak-check=full "$out/test" foreign/rows.txt >/dev/null || fail "valgrind"
-    else
-        echo "C was not run under valgrind: it isn't here"
+    if has "C under valgrind" valgrind; then
+        valgrind -q --error-exitcode=9 --leak-check=full "$spaced/test" foreign >/dev/null || fail "valgrind"
     fi
-else
-    echo "C was not tested: it needs gcc and make"
-fi
-if python3 -c 'import sys; sys.exit(sys.version_info < (3, 10))' 2>/dev/null && has gcc; then
-    whole="-Wl,--whole-archive $library -Wl,--no-whole-archive"
-    # shellcheck disable=SC2086
-    gcc -shared -o "$out/libpigyelund.so" $whole "$kit/c/liblibc_c.a" || fail "the shared library"
-    python3 foreign/python/test.py "$out/libpigyelund.so" foreign || fail "the test in Python"
+}
+
+# Installs it below a folder, and under the prefix, which both have spaces; the sources stay as they were.
+of_install() {
+    git status --porcelain >"$out/before" 2>/dev/null
+    make -s -C foreign/c install CC=gcc OUT="$spaced" DESTDIR="$spaced/stage" PREFIX="/usr local" &&
+        make -s -C foreign/c install CC=gcc OUT="$spaced" PREFIX="$prefix" || fail "make install"
+    diff -r "$spaced/stage/usr local" "$prefix" || fail "DESTDIR has what PREFIX has"
+    git status --porcelain 2>/dev/null | diff "$out/before" - || fail "make install leaves the sources"
+    cmp LICENSE "$prefix/share/doc/pigyelund/LICENSE" || fail "the licence is installed"
+    [ "$(nm -D --defined-only "$prefix/lib/libpigyelund.so" | awk '$3 !~ /^pg_/' | wc -l)" -eq 0 ] ||
+        fail "the shared library exports its calls alone"
+    if has "pigyelund.pc" pkg-config; then
+        flags=$(PKG_CONFIG_PATH="$prefix/lib/pkgconfig" pkg-config --cflags --libs pigyelund) || fail "pkg-config"
+        # What pkg-config prints has a backslash before each space.
+        eval "gcc foreign/c/example.c -o '$out/by_pkg_config' $flags" || fail "the example by pkg-config"
+        LD_LIBRARY_PATH="$prefix/lib" same "the example by pkg-config" "$out/by_pkg_config"
+    fi
+}
+
+of_python() {
+    PYTHONPATH=foreign/python python3 foreign/python/test.py "$prefix/lib/libpigyelund.so" foreign ||
+        fail "the test in Python"
+    python3 -c 'import ensurepip, venv' 2>/dev/null || { echo "left out: pip needs python3-venv"; return; }
+    python3 -m venv "$out/there" && "$out/there/bin/pip" install -q foreign/python || { fail "pip install"; return; }
+    cat >"$out/finds.py" <<'END'
+import pigyelund
+print(pigyelund.Pigyelund().answer("norm as 1"))
+END
+    finds() { [ "$("$@" "$out/there/bin/python" "$out/finds.py")" = AS1 ] || fail "Python finds the library: $1"; }
+    finds env PIGYELUND_LIB="$prefix/lib"
+    finds env LD_LIBRARY_PATH="$prefix/lib"
+    cp "$prefix/lib/libpigyelund.so" "$out"/there/lib/python3*/site-packages/pigyelund
+    finds env
+    tests/foreign_page.py Python "$prefix" || fail "the program in Python"
+}
+
+of_rust() {
+    export PIGYELUND_LIB="$prefix/lib" CARGO_TARGET_DIR="$out/rust"
+    cargo test -q --offline --manifest-path foreign/rust/Cargo.toml >"$out/log" 2>&1 ||
+        { cat "$out/log"; fail "the test in Rust"; }
+    same "the example in Rust" cargo run -q --offline --manifest-path foreign/rust/Cargo.toml --example verify
+    RUSTDOCFLAGS=-Dwarnings cargo doc -q --offline --no-deps --manifest-path foreign/rust/Cargo.toml || fail "cargo doc"
+    has_python && { tests/foreign_page.py Rust "$prefix" || fail "the program in Rust"; }
+}
+
+if has_python; then
+    tests/foreign_page.py || fail "numbers and names"
     tests/foreign_rows.py || fail "the rows"
 else
-    echo "Python was not tested: it needs python3, from 3.10 on, and gcc for the shared library"
+    echo "left out: numbers, names, Python and the programs of docs/FOREIGN.md need python3, from 3.10 on"
 fi
-if has cargo && has cc; then
-    export PIGYELUND_LIB="$folder" PIGYELUND_KIT="$kit" CARGO_TARGET_DIR="$out/rust"
-    cargo test -q --offline --manifest-path foreign/rust/Cargo.toml || fail "the test in Rust"
-    cargo run -q --offline --manifest-path foreign/rust/Cargo.toml --example verify >"$out/example.txt" &&
-        diff foreign/c/example.txt "$out/example.txt" || fail "the example in Rust"
-else
-    echo "Rust was not tested: it needs cargo, and cc to link"
+if has "C, and all that is installed," gcc make ar; then
+    of_c
+    of_install
+    has_python && { tests/foreign_page.py C "$prefix" || fail "the program in C"; of_python; }
+    has "Rust" cargo cc && of_rust
 fi
 exit "$failed"

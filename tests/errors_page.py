@@ -15,7 +15,7 @@ from pathlib import Path
 TOP = Path(__file__).resolve().parent.parent
 PROGRAM = TOP / "crates" / "respath" / "out" / "respath"
 COMMAND = re.compile(r"(?:norm|cover|der|read|path) ")
-SHOWN = re.compile(r"`([^`]+)`: `([^`]*)`")
+SHOWN = re.compile(r"`([^`]+)`: (?:`([^`]*)`|an empty line)")
 BYTE_ORDER_MARK = b"\xef\xbb\xbf"
 
 

@@ -1,8 +1,9 @@
 //! What callers may rely on and no single call says.
-ghost use Rattle.std.specs.Prelude.{◌≡◌, ◌↔◌, List, ℕ};
+ghost use Rattle.std.specs.Prelude.{◌≡◌, ◌↔◌, List, [], Contains, ℕ};
 ghost use Rattle.std.specs.List.Sorted.{IsPermutation};
 ghost use Rattle.rpki_prefix.specs.Values.{FamilyPrefix};
 ghost use Rattle.roa_origin.specs.Payloads.{Payload};
+ghost use Rattle.roa_origin.specs.Tables.{IsAfter, IsAscending, IsTableOf, IsWithout};
 ghost use Rattle.roa_origin.specs.Validities.{IsValidity};
 
 use crate::validation::Validity;
@@ -15,3 +16,23 @@ pub fn laws_of_validities()
         (validity : Validity) → IsPermutation payloads others →
         IsValidity route asn payloads validity ↔ IsValidity route asn others validity }
 {}
+
+/// A list of payloads has one table alone, and tables with the same payloads are the same.
+pub fn laws_of_tables()
+    ensures one { (payloads table other : List Payload) → IsTableOf payloads table
+        → IsTableOf payloads other → table ≡ other }
+    ensures members { (table other : List Payload) → IsAscending table → IsAscending other
+        → ((p : Payload) → Contains table p ↔ Contains other p) → table ≡ other }
+{
+    rpki_prefix::laws::total_order(); // so that the proof sees that the order is total
+}
+
+/// A table without what is withdrawn and with what is announced is the next one; from a table to itself nothing changes.
+pub fn laws_of_changes()
+    ensures leads { (table next announced withdrawn set : List Payload) → IsAscending next
+        → IsWithout next table announced → IsWithout table next withdrawn
+        → IsAfter table announced withdrawn set → set ≡ next }
+    ensures none { (table left : List Payload) → IsWithout table table left → left ≡ [] }
+{
+    rpki_prefix::laws::total_order(); // so that the proof sees that the order is total
+}

@@ -1,5 +1,6 @@
 //! The validity of route origins by validated payloads of route origin authorizations (RFC 6811, RFC 9582): of one route by a
-//! list, and of many routes by a table.
+//! list, and of many routes by a table; and what a cache tells routers of payloads (RFC 8210): a table of them, and what is
+//! announced and withdrawn from one table to the next.
 //!
 //! A list that is made already is asked by [`origin`]; for many routes a table is made of it once, as in
 //! `example_calls::routes::count_invalid`:
@@ -12,15 +13,27 @@
 //!     }
 //! }
 //! ```
+//!
+//! A cache that has sent one table, and then makes another, sends what changes:
+//!
+//! ```rust
+//! let sent = PayloadTable::new(alloc, sent)?;
+//! let next = PayloadTable::new(alloc, next)?;
+//! let changes = sent.changes_to(alloc, &next)?;
+//! ```
 #![tactic(auto)]
 
+mod changes;
 pub mod covering;
 mod entry;
 pub mod laws;
+mod payloads;
 mod starts;
 pub mod table;
 pub mod validation;
 
+pub use changes::PayloadChanges;
 pub use covering::Covering;
+pub use payloads::PayloadTable;
 pub use table::OriginTable;
 pub use validation::{Validity, origin};

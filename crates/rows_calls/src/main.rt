@@ -1,5 +1,5 @@
 //! The program `rows_calls`: each line of the standard input names a function of `example_calls`, `rpki_extensions` or
-//! `rtr_payloads` and what it is called with, and is answered with one line on the standard output: what the function
+//! `roa_origin` and what it is called with, and is answered with one line on the standard output: what the function
 //! answers, or `error: ` and the fault.
 #![tactic(auto)]
 

@@ -2,11 +2,10 @@
 use crate::print::{self, cut};
 use crate::sets::from_lists;
 use roa_check::Validity;
-use roa_origin::OriginTable;
+use roa_origin::{OriginTable, PayloadTable};
 use rpki_resources::repository::resources::ResourceSet;
 use rpki_resources::resources::addr::{MaxLenPrefix, Prefix};
 use rpki_resources::resources::asn::Asn;
-use rtr_payloads::PayloadTable;
 use std::alloc::Global;
 
 /// What a text between commas writes.

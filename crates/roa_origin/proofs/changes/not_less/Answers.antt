@@ -4,9 +4,9 @@ use Rattle.std.proofs.lemmas.Bool.{cases_lt}
 use Rattle.std.proofs.lemmas.List.{get_or_default}
 use Rattle.std.specs.declared.cmp.Ordering.TheVariants.{Less}
 use Rattle.roa_origin.specs.Payloads.{Payload}
-use Rattle.rtr_payloads.specs.Tables.{payload_cmp}
-use Rattle.rtr_payloads.proofs.Orders.{less_of}
-use Rattle.rtr_payloads.proofs.changes.not_less.Goals as goal
+use Rattle.roa_origin.specs.Tables.{payload_cmp}
+use Rattle.roa_origin.proofs.Totals.{less_of}
+use Rattle.roa_origin.proofs.changes.not_less.Goals as goal
 
 pub loop-at-preserved : goal.loop-at-preserved
 loop-at-preserved c =

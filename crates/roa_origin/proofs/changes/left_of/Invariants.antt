@@ -2,8 +2,8 @@
 use Rattle.std.proofs.Common.{◌≡◌, ◌↔◌, ◌≤◌, ◌<◌, length, get_or, take, ℕ, Contains}
 use Rattle.std.specs.declared.cmp.Ordering.TheVariants.{Less}
 use Rattle.roa_origin.specs.Payloads.{Payload}
-use Rattle.rtr_payloads.specs.Tables.{IsAscending, payload_cmp}
-use Rattle.rtr_payloads.proofs.changes.left_of.Given as goal
+use Rattle.roa_origin.specs.Tables.{IsAscending, payload_cmp}
+use Rattle.roa_origin.proofs.changes.left_of.Given as goal
 
 abbrev pub invariant-loop-payload : goal.invariant-loop-payload
 invariant-loop-payload g l =

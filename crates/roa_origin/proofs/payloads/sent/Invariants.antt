@@ -1,7 +1,7 @@
 -- The payloads so far, as they are sent.
 use Rattle.std.proofs.Common.{◌≡◌, map, take}
-use Rattle.rtr_payloads.specs.Tables.{as_sent}
-use Rattle.rtr_payloads.proofs.table.sent.Given as goal
+use Rattle.roa_origin.specs.Tables.{as_sent}
+use Rattle.roa_origin.proofs.payloads.sent.Given as goal
 
 abbrev pub invariant-loop-payload : goal.invariant-loop-payload
 invariant-loop-payload g l = l.list.items ≡ map as_sent (take l.payload-index l.payloads)

@@ -1,9 +1,9 @@
 -- What is left and what is announced are the payloads of the next table.
 use Rattle.std.proofs.Common.{inl, inr}
-use Rattle.rtr_payloads.specs.Tables.{payload_cmp}
-use Rattle.rtr_payloads.proofs.Lists.{decide, nothing, same_list}
-use Rattle.rtr_payloads.proofs.Orders.{ties, total}
-use Rattle.rtr_payloads.proofs.laws.laws_of_changes.Goals as goal
+use Rattle.roa_origin.specs.Tables.{payload_cmp}
+use Rattle.roa_origin.proofs.Lists.{decide, nothing, same_list}
+use Rattle.roa_origin.proofs.Totals.{ties, total}
+use Rattle.roa_origin.proofs.laws.laws_of_changes.Goals as goal
 
 pub returns-clause-leads : goal.returns-clause-leads
 returns-clause-leads c table next announced withdrawn set ascends new gone after =

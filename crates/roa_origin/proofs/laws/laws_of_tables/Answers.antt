@@ -1,8 +1,8 @@
 -- Payloads in order have one order.
-use Rattle.rtr_payloads.specs.Tables.{payload_cmp}
-use Rattle.rtr_payloads.proofs.Lists.{same_list}
-use Rattle.rtr_payloads.proofs.Orders.{ties, total}
-use Rattle.rtr_payloads.proofs.laws.laws_of_tables.Goals as goal
+use Rattle.roa_origin.specs.Tables.{payload_cmp}
+use Rattle.roa_origin.proofs.Lists.{same_list}
+use Rattle.roa_origin.proofs.Totals.{ties, total}
+use Rattle.roa_origin.proofs.laws.laws_of_tables.Goals as goal
 
 pub returns-clause-one : goal.returns-clause-one
 returns-clause-one c payloads table other one two =

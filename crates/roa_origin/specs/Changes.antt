@@ -1,8 +1,8 @@
 -- What changes from one table to the next (RFC 8210, 5.6 and 8.2).
 use Rattle.std.specs.Prelude.{List}
 use Rattle.roa_origin.specs.Payloads.{Payload}
-use Rattle.rtr_payloads.specs.Tables.{IsWithout}
-use Rattle.rtr_payloads.specs.declared.changes.PayloadChanges.{PayloadChanges}
+use Rattle.roa_origin.specs.Tables.{IsWithout}
+use Rattle.roa_origin.specs.declared.changes.PayloadChanges.{PayloadChanges}
 
 -- announced is what the next table has and the one before it hasn't, withdrawn what that has and the next one hasn't
 pub record ArePayloadChanges {A : Type 0} (table next : List Payload) (changes : PayloadChanges A) : Type 0 where

@@ -2,11 +2,11 @@
 use Rattle.std.proofs.Common.{arith, ◌↔◌, subst, Contains}
 use Rattle.std.proofs.lemmas.List.{take_all}
 use Rattle.roa_origin.specs.Payloads.{Payload}
-use Rattle.rtr_payloads.specs.Tables.{payload_cmp}
-use Rattle.rtr_payloads.proofs.Orders.{ties, total}
-use Rattle.rtr_payloads.proofs.Walks.{IsTurn, ascending_more, dropped, kept, nowhere, passed_more, there}
-use Rattle.rtr_payloads.proofs.changes.left_of.Goals.{then-not-stands_at+in_ok-push, else-not-stands_at}
-use Rattle.rtr_payloads.proofs.changes.left_of.Goals as goal
+use Rattle.roa_origin.specs.Tables.{payload_cmp}
+use Rattle.roa_origin.proofs.Totals.{ties, total}
+use Rattle.roa_origin.proofs.Turns.{IsTurn, ascending_more, dropped, kept, nowhere, passed_more, there}
+use Rattle.roa_origin.proofs.changes.left_of.Goals.{then-not-stands_at+in_ok-push, else-not-stands_at}
+use Rattle.roa_origin.proofs.changes.left_of.Goals as goal
 
 pub loop-payload-preserved : goal.loop-payload-preserved
 loop-payload-preserved g c =

@@ -8,7 +8,7 @@ use Rattle.std.specs.declared.cmp.Ordering.{Ordering}
 use Rattle.std.specs.declared.cmp.Ordering.TheVariants.{Less, Equal, Greater}
 use Rattle.rpki_prefix.specs.MaxLen.{MaxLenValue, max_len_cmp}
 use Rattle.roa_origin.specs.Payloads.{Payload}
-use Rattle.rtr_payloads.specs.Tables.{payload_cmp}
+use Rattle.roa_origin.specs.Tables.{payload_cmp}
 
 pub total : IsTotalOrder max_len_cmp → IsTotalOrder payload_cmp
 total prefixes = then_total (on_total (λ p. p.0) prefixes) (on_total (λ p. p.1) nat_cmp_total)

@@ -1,6 +1,6 @@
 //! A table of payloads.
 ghost use Rattle.std.specs.Prelude.{◌≡◌, IfOk, map};
-ghost use Rattle.rtr_payloads.specs.Tables.{IsAscending, IsTableOf, as_sent};
+ghost use Rattle.roa_origin.specs.Tables.{IsAscending, IsTableOf, as_sent};
 
 use rpki_base::Asn;
 use rpki_prefix::MaxLenPrefix;
@@ -20,7 +20,7 @@ pub struct PayloadTable<A: Allocator = Global> {
 impl<A: Allocator> Model for PayloadTable<A> {
     ghost use Rattle.std.specs.Prelude.{List};
     ghost use Rattle.roa_origin.specs.Payloads.{Payload};
-    ghost use Rattle.rtr_payloads.specs.Tables.{IsAscending};
+    ghost use Rattle.roa_origin.specs.Tables.{IsAscending};
 
     ghost Value = { List Payload };
 

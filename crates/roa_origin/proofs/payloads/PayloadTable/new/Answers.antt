@@ -1,8 +1,8 @@
 -- What is sorted and freed of duplicates is in order, and has the payloads of the list.
-use Rattle.rtr_payloads.specs.Tables.{payload_cmp}
-use Rattle.rtr_payloads.proofs.Lists.{ascending, members}
-use Rattle.rtr_payloads.proofs.Orders.{equal_where_the_same, ties, total}
-use Rattle.rtr_payloads.proofs.table.PayloadTable.new.Goals as goal
+use Rattle.roa_origin.specs.Tables.{payload_cmp}
+use Rattle.roa_origin.proofs.Lists.{ascending, members}
+use Rattle.roa_origin.proofs.Totals.{equal_where_the_same, ties, total}
+use Rattle.roa_origin.proofs.payloads.PayloadTable.new.Goals as goal
 
 pub invariant_of-result : goal.invariant_of-result
 invariant_of-result g c =

@@ -10,7 +10,7 @@ use Rattle.std.specs.List.Sorted.{IsPermutation, IsSorted, IsStrictlySortedBy}
 use Rattle.std.specs.Ordering.{eq_by_cmp, is_eq, ordering_reverse}
 use Rattle.std.specs.declared.cmp.Ordering.{Ordering}
 use Rattle.std.specs.declared.cmp.Ordering.TheVariants.{Less, Equal}
-use Rattle.rtr_payloads.proofs.Orders.{cases_ordering}
+use Rattle.roa_origin.proofs.Totals.{cases_ordering}
 
 -- a list without elements is empty
 pub nothing : {X : Type 0} (xs : List X) → ((x : X) → ¬ Contains xs x) → xs ≡ []

@@ -2,8 +2,8 @@
 use Rattle.std.proofs.Common.{length, ◌-◌, ◌≡◌, ◌≤◌, ◌<◌, slice_index_or, ℕ}
 use Rattle.std.specs.declared.cmp.Ordering.TheVariants.{Less}
 use Rattle.roa_origin.specs.Payloads.{Payload}
-use Rattle.rtr_payloads.specs.Tables.{payload_cmp}
-use Rattle.rtr_payloads.proofs.changes.not_less.Given as goal
+use Rattle.roa_origin.specs.Tables.{payload_cmp}
+use Rattle.roa_origin.proofs.changes.not_less.Given as goal
 
 abbrev pub invariant-loop-at : goal.invariant-loop-at
 invariant-loop-at l =

@@ -2,9 +2,9 @@
 use Rattle.std.proofs.Common.{◌≡◌, is_eq, sym, ap, ◌∙◌, get_or}
 use Rattle.std.proofs.lemmas.List.{get_or_default}
 use Rattle.roa_origin.specs.Payloads.{Payload}
-use Rattle.rtr_payloads.specs.Tables.{payload_cmp}
-use Rattle.rtr_payloads.proofs.Orders.{equal_of, ties, total}
-use Rattle.rtr_payloads.proofs.changes.stands_at.Goals as goal
+use Rattle.roa_origin.specs.Tables.{payload_cmp}
+use Rattle.roa_origin.proofs.Totals.{equal_of, ties, total}
+use Rattle.roa_origin.proofs.changes.stands_at.Goals as goal
 
 pub returns-then-at-payloads : goal.returns-then-at-payloads
 returns-then-at-payloads c =

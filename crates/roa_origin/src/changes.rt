@@ -2,10 +2,10 @@
 ghost use Rattle.std.specs.Prelude.{◌≡◌, ◌≤◌, ◌<◌, ◌≢◌, ◌↔◌, IsTrue, IfOk, length, slice_index_or};
 ghost use Rattle.std.specs.declared.cmp.Ordering.TheVariants.{Less};
 ghost use Rattle.roa_origin.specs.Payloads.{Payload};
-ghost use Rattle.rtr_payloads.specs.Changes.{ArePayloadChanges};
-ghost use Rattle.rtr_payloads.specs.Tables.{IsAscending, IsWithout, payload_cmp};
+ghost use Rattle.roa_origin.specs.Changes.{ArePayloadChanges};
+ghost use Rattle.roa_origin.specs.Tables.{IsAscending, IsWithout, payload_cmp};
 
-use crate::table::PayloadTable;
+use crate::payloads::PayloadTable;
 use rpki_base::Asn;
 use rpki_prefix::MaxLenPrefix;
 use std::alloc::{AllocError, Allocator, Global};

@@ -1,12 +1,14 @@
 #!/usr/bin/env python3
-"""Finds names in README.md and docs/ that aren't there: files, crates, calls, and code that its file doesn't have.
+"""Finds names in README.md, docs/ and the heads of sources that aren't there: files, crates, calls, and code that its
+file doesn't have.
 
 Of what stands between backticks it takes paths, names of files, names of crates, and words with an underscore or of the
 form Type::call, each of which must stand somewhere in the sources, definitions or scripts. docs/DIFFERENCES.md and
 docs/PATHS.md also name what the Rust crate alone has, so their words aren't looked for. A definition, as in
 crate.File.Name, must stand in that file of `specs/`. A block of Rust behind the name of a file must stand in that file,
 line by line. The tables of docs/CALLING.md, Conditions, must have the public calls of the libraries with a `requires`,
-and no others. Ends with status 1 where something isn't there.
+and no others. A block in the head of a source must stand, without its comments, in the file or the crate that is named
+before it. Ends with status 1 where something isn't there.
 """
 
 import re
@@ -31,6 +33,7 @@ DEFINITION = re.compile(r"[a-z]\w*\.[A-Z]\w*\.(?:[\w']+|\{[\w',]+\})")
 # What a reader makes by a page, and what the kit and C libraries bring.
 MADE = {"crates/mine", "crates/mine/src/lib.rt", "start_lib", "try_reserve", "GLIBC_TUNABLES"}
 MADE |= {"LD_PRELOAD", "clock_gettime", "pfx_table", "pfx_table_validate"}
+MADE |= {"include/pigyelund.h", "foreign/c/out", "program.c", "program.py", "/usr/lib", "/usr/local/lib"}
 
 
 def sources() -> Iterator[Path]:
@@ -69,10 +72,21 @@ def has_path(name: str) -> bool:
     )
 
 
+def lines_of(page: Path) -> Iterator[tuple[int, str]]:
+    """The lines of a page with their numbers; of a source those of its head, without the marks of a comment."""
+    for number, line in enumerate(page.read_text().split("\n"), 1):
+        if page.suffix != ".rt":
+            yield number, line
+        elif not line.startswith("//!"):
+            return
+        else:
+            yield number, line[3:].removeprefix(" ")
+
+
 def faults_of_names(page: Path, words: set[str], crates: set[str]) -> Iterator[tuple[int, str]]:
     """The names of a page that aren't there."""
     in_code = False
-    for number, line in enumerate(page.read_text().split("\n"), 1):
+    for number, line in lines_of(page):
         if line.startswith("```"):
             in_code = not in_code
         if in_code:
@@ -102,11 +116,44 @@ def faults_of_code(page: Path) -> Iterator[tuple[int, str]]:
             if line == "```rust" and file and file.is_file():
                 block, start = [], number
         elif line == "```":
-            lines = [it.strip() for it in file.read_text().split("\n")]
-            wanted = [it.strip() for it in block]
-            if not any(lines[at : at + len(wanted)] == wanted for at in range(len(lines))):
+            if not has_block(file, block):
                 yield start, f"this isn't in {file.relative_to(TOP)}"
             block = None
+        else:
+            block.append(line)
+
+
+def named_by(name: str) -> list[Path]:
+    """The sources that a path names, as `crate::module::call`: the module's file, or all of the crate's."""
+    crate, *inside = name.split("::")
+    files = [CRATES / crate / "src" / "/".join(inside[:count]) for count in range(len(inside), 0, -1)]
+    found = [it.with_suffix(".rt") for it in files if it.with_suffix(".rt").is_file()]
+    return found[:1] or [*(CRATES / crate / "src").rglob("*.rt")]
+
+
+def has_block(file: Path, block: list[str]) -> bool:
+    """Whether the lines of a source have a block, whatever their indents."""
+    lines = [it.strip() for it in file.read_text().split("\n")]
+    wanted = [it.strip() for it in block]
+    return any(lines[at : at + len(wanted)] == wanted for at in range(len(lines)))
+
+
+def faults_of_head(file: Path, crates: set[str]) -> Iterator[tuple[int, str]]:
+    """The blocks in a source's head that don't stand in what the paragraph before them names, or in any source."""
+    anywhere = [*CRATES.glob("*/src/**/*.rt")]
+    places, block, start = anywhere, None, 0
+    for number, line in lines_of(file):
+        if line.startswith("```"):
+            if block is None:
+                block, start = [], number
+                continue
+            if not any(has_block(it, block) for it in places):
+                yield start, "this isn't in the source that it names"
+            block = None
+        elif block is None:
+            places = places if line else anywhere
+            for name in re.findall(r"`([^`]+)`", line):
+                places = named_by(name) if name.split("::")[0] in crates else places
         else:
             block.append(line)
 
@@ -158,7 +205,12 @@ def main() -> int:
         for number, fault in sorted({*faults_of_names(page, words, crates), *faults_of_code(page), *more}):
             print(f"{page.relative_to(TOP)}:{number}: {fault}")
             found += 1
-    print(f"names in {len(PAGES)} pages: {found} aren't there")
+    heads = [it for it in sorted(CRATES.glob("*/src/**/*.rt")) if it.read_text().startswith("//!")]
+    for file in heads:
+        for number, fault in sorted({*faults_of_names(file, words, crates), *faults_of_head(file, crates)}):
+            print(f"{file.relative_to(TOP)}:{number}: {fault}")
+            found += 1
+    print(f"names in {len(PAGES)} pages and {len(heads)} heads: {found} aren't there")
     return 1 if found else 0
 
 

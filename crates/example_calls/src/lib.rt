@@ -1,15 +1,14 @@
-//! Proved callers of the libraries, each a short function with a contract of its own: what a reader of claims, a maker of
-//! route origin authorizations and router filters, a router's cache, whoever asks for the origins of routes, and a protocol
-//! that carries texts ask of these libraries. They rest on the contracts of public calls alone; `docs/CALLING.md`
-//! shows them.
+//! Proved callers of the libraries, each a short function with a contract of its own: what a reader of claims, a maker
+//! of route origin authorizations and router filters, a router's cache, whoever asks for the origins of routes, and a
+//! protocol that carries texts ask of these libraries. They rest on the contracts of public calls alone;
+//! `docs/CALLING.md` shows them.
 //!
 //! The program `rows_calls` calls each of them:
 //!
 //! ```rust
-//! match example_calls::certificates::verified(alloc, root, asn, v4, v6) {
+//! match example_calls::certificates::verified(alloc, root, &steps.asn, &steps.ipv4, &steps.ipv6) {
 //!     Ok(set) => print::value(alloc, &set),
-//!     Err(OrMemory::Refused(refusal)) => refused(alloc, &refusal),
-//!     Err(OrMemory::Memory(error)) => Err(error.into()),
+//!     Err(error) => overclaimed(alloc, error),
 //! }
 //! ```
 #![tactic(auto)]

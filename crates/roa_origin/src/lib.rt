@@ -1,12 +1,11 @@
-//! The validity of route origins by validated payloads of route origin authorizations (RFC 6811, RFC 9582): of one route by a
-//! list, and of many routes by a table; and what a cache tells routers of payloads (RFC 8210): a table of them, and what is
-//! announced and withdrawn from one table to the next.
+//! The validity of route origins by validated payloads of route origin authorizations (RFC 6811, RFC 9582): of one route
+//! by a list, and of many routes by a table; and what a cache tells routers of payloads (RFC 8210): a table of them, and
+//! what is announced and withdrawn from one table to the next.
 //!
-//! A list that is made already is asked by [`origin`]; for many routes a table is made of it once, as in
+//! A list that is made already is asked by [`origin`]; for many routes a table is made of it once, and is asked as in
 //! `example_calls::routes::count_invalid`:
 //!
 //! ```rust
-//! let table = OriginTable::new(alloc, payloads)?;
 //! for (route, asn) in routes {
 //!     if table.origin(*route, *asn) == Validity::Invalid {
 //!         count += 1;
@@ -14,12 +13,15 @@
 //! }
 //! ```
 //!
-//! A cache that has sent one table, and then makes another, sends what changes:
+//! A cache that has sent one table, and then makes another, sends what changes, as in the program `rows_calls`:
 //!
 //! ```rust
-//! let sent = PayloadTable::new(alloc, sent)?;
-//! let next = PayloadTable::new(alloc, next)?;
-//! let changes = sent.changes_to(alloc, &next)?;
+//! let changes = sent.changes_to(alloc, next)?;
+//! told(
+//!     alloc,
+//!     changes.announced.as_slice(),
+//!     changes.withdrawn.as_slice(),
+//! )
 //! ```
 #![tactic(auto)]
 

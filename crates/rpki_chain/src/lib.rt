@@ -1,16 +1,15 @@
 //! Sets over any lawful block, resources that list them, what claims and paths of claims leave of them, and their DER
 //! (RFC 3779, 2 and 3). The blocks and chains of `rpki_chains` are named again here.
 //!
-//! A lawful [`block::Block`] is all that a kind of number has to bring: what stands here is proved once, over every such
-//! kind.
+//! A lawful [`block::Block`] is all that a kind of number has to bring: what stands here is proved once, over every
+//! such kind.
 //!
-//! An issuer's set is asked for what is claimed of it, as in `example_calls::issued`:
+//! An issuer's set is asked for what is claimed of it, as in `rpki_extensions::issued`:
 //!
 //! ```rust
-//! match issuer.verify_issued(alloc, &claim, mode) {
+//! match issuer.verify_issued(alloc, claim, mode) {
 //!     Ok(set) => Ok(set),
-//!     Err(OrMemory::Refused(excess)) => Err(OrMemory::Refused(Unverified::Asn(excess))),
-//!     Err(OrMemory::Memory(error)) => Err(OrMemory::Memory(error)),
+//!     Err(error) => Err(error.map_refused(|excess| Unverified::Ipv6(excess))),
 //! }
 //! ```
 #![tactic(auto)]

@@ -1,10 +1,10 @@
-//! Blocks of whole numbers and chains of them: the ascending list of a set's runs, and the walks over one or two such lists.
+//! Blocks of whole numbers and chains of them: the ascending list of a set's runs, and the walks over one or two such
+//! lists.
 //!
-//! Blocks in any order become the chain of their runs, as in `test_chains::chains`:
+//! Blocks in any order become the chain of their runs, here of 1 to 4 and 23 to 48, as in `test_chains::chains`:
 //!
 //! ```rust
-//! let joined = SharedChain::from_blocks(alloc, &[block(5, 8), block(1, 4)])?;
-//! Ok(joined != *shared && joined.as_chain().as_slice() == [block(1, 8)].as_slice())
+//! OwnedChain::from_blocks(alloc, &[block(23, 48), block(1, 2), block(3, 4)])
 //! ```
 #![tactic(auto)]
 

@@ -2,16 +2,15 @@
 //! what an issuer has, followed down a path from a trust anchor, and written. Either extension may be absent; a
 //! certificate with neither is refused.
 //!
-//! An end-entity certificate of a route origin authorization has addresses alone:
+//! The octets of both and how they are read go to `verified_octets`, as in the program `example_verified_set`:
 //!
 //! ```rust
 //! let certificate = Extensions {
-//!     numbers: None,
-//!     addresses: Some(octets),
+//!     numbers: Some(&numbers),
+//!     addresses: Some(&addresses),
 //!     encoding: Encoding::Canonical,
 //!     mode: Overclaim::Refuse,
 //! };
-//! let set = verified_octets(alloc, issuer, &certificate)?;
 //! ```
 #![tactic(auto)]
 

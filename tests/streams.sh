@@ -1,21 +1,13 @@
 #!/bin/sh
 # What no contract can say of the program: its status and its line on standard error where a standard stream fails; and
-# what ./respath itself does: its options, its files, the examples of its help. Ends with status 0 where each case is as
-# it must be.
+# what ./respath does with it: its options, its files, the examples of its help. tests/front.sh has what the script does
+# without the program. Ends with status 0 where each case is as it must be.
 top=$(CDPATH= cd -- "$(dirname -- "$0")/.." && pwd) || exit 1
 printf '' | "$top/respath" || exit 1
 program=$top/crates/respath/out/respath
-failed=0
 
-# NAME, the status and the standard error that are wanted, and those that were seen
-expect() {
-    if [ "$2" = "$4" ] && [ "$3" = "$5" ]; then
-        echo "ok      $1"
-    else
-        echo "FAILED  $1: wanted status $2 and '$3', saw status $4 and '$5'"
-        failed=1
-    fi
-}
+# shellcheck source=tests/expect.sh
+. "$top/tests/expect.sh"
 
 said=$(printf 'norm as 1\n' | "$program" 2>&1 >/dev/null)
 expect "all is answered" 0 "" $? "$said"
@@ -36,20 +28,21 @@ expect "memory is refused" 1 "respath: out of memory" $? "$said"
 
 said=$("$top/respath" --strange 2>&1 >/dev/null </dev/null)
 expect "an unknown option" 2 "respath: unknown option: --strange
-usage: respath [--check] [--try] [--] [FILE ..] | --help | --version" $? "$said"
+usage: respath [--check] [--where] [--try] [--] [FILE ..] | --help | --version" $? "$said"
 
 revision=$(git -C "$top" rev-parse --short=12 HEAD 2>/dev/null) || revision=unknown
 said=$("$top/respath" --version | head -n 1)
 expect "the version" 0 "respath, revision $revision" $? "$said"
 
-# Another kit may have proved what the README names, and its name says nothing; the logic has to be this one.
-said=$(sed -n 's/^Last proved whole with `.* \(logic .*\)`\.$/\1/p' "$top/README.md")
-expect "the logic" 0 "$(rt version | sed 's/^[^ ]* //')" $? "$said"
-
 said=$(printf 'norm as 2,1\nnorm v4 x\n' | "$top/respath" --try --check 2>&1)
 expect "sources that are not proved" 3 "respath: these answers come from sources that were not proved here
 AS1-AS2
 error: invalid IPv4 address syntax" $? "$said"
+
+said=$(awk 'BEGIN { while (count++ < 20000) print "norm as 2,1" }' | "$top/respath" --try 2>&1 | sort -u)
+expect "many lines of sources that are not proved" 0 "AS1-AS2
+respath: one of the two runners answered alone, the other one needs too many steps
+respath: these answers come from sources that were not proved here" $? "$said"
 
 examples=$("$top/respath" --help | sed '1,/^For example:/d; s/^  //')
 wanted=$(echo "$examples" | sed 's/.*  //')
@@ -99,61 +92,17 @@ expect "a check of no file" 1 "respath: $files/none: can't be opened" $? "$said"
 said=$("$top/respath" --check "$files/one" 2>&1 >/dev/full)
 expect "a check that can't be written" 1 "respath: write failed" $? "$said"
 
+said=$(printf 'norm as 1\npath as 1 | trim 2 | refuse , 2' | "$top/respath" --where --check "$files/one" - 2>&1)
+expect "places of errors" 3 "AS1-AS2
+AS1
+refused at step 1: overclaimed AS resources: AS2	step 1, element 2: 2" $? "$said"
+
+said=$("$top/respath" --where "$files/one" 2>&1 >/dev/full)
+expect "places that can't be written" 1 "respath: write failed" $? "$said"
+
 if command -v script >/dev/null; then
     said=$(script -qec "'$top/respath'" /dev/null </dev/null | tr -d '\r' | grep '^respath: ')
     expect "a terminal is told when" 0 "respath: the lines are answered at the end of the input" $? "$said"
 fi
-
-# A copy of the script beside a program and a prover that only say that they were called.
-copy=$files/copy
-mkdir -p "$copy/crates/respath/out" "$copy/crates/rpki_text" "$copy/crates/other" "$copy/bin" "$copy/tmp"
-cp "$top/respath" "$top/crates.txt" "$copy/"
-printf '#!/bin/sh\necho ran\n' >"$copy/crates/respath/out/respath"
-printf '#!/bin/sh\necho proving; exit 1\n' >"$copy/bin/rt"
-chmod +x "$copy/crates/respath/out/respath" "$copy/bin/rt"
-for crate in $(sed '/^#/d; s/[ :].*//' "$top/crates.txt"); do mkdir -p "$copy/crates/$crate"; done
-touch -d '1 minute ago' "$copy/crates/respath/out/respath"
-touch "$copy/crates.txt" "$copy/crates/other/new" "$copy/crates/test_values/new"
-
-said=$(PATH=$copy/bin:$PATH "$copy/respath" 2>&1 </dev/null)
-expect "a crate that the program doesn't need is newer" 0 "ran" $? "$said"
-
-# What proved the program that lies there, by whichever kit, or that nothing here did.
-printf 'Last proved whole with `a-kit logic 12`.\n' >"$copy/README.md"
-said=$("$copy/respath" --version | tail -n 1)
-expect "a program that was not proved here" 0 "not proved here; last proved whole with a-kit logic 12" $? "$said"
-echo 'other-kit logic 12' >"$copy/crates/respath/out/proved-with"
-said=$("$copy/respath" --version | tail -n 1)
-expect "a program that another kit proved here" 0 "proved here with other-kit logic 12" $? "$said"
-
-touch "$copy/crates/rpki_text/new"
-said=$("$copy/respath" --version | tail -n 1)
-expect "a program that is older than its sources" 0 "not proved here; last proved whole with a-kit logic 12" $? "$said"
-said=$(PATH=$copy/bin:$PATH "$copy/respath" 2>&1 </dev/null)
-expect "a crate that the program needs is newer" 1 "respath: proving rpki_text (0 of N)
-proving
-respath: the program was not built" $? "$(echo "$said" | sed '1d; s/ of [0-9]* are proved, after 0 min)/ of N)/')"
-
-# The prover notes what it is asked for; a crate comes behind those that it stands on.
-printf '#!/bin/sh\n[ "$1" != version ] || exec echo the-kit\necho "$1 ${PWD##*/}" >>%s/asked\n' "$copy" >"$copy/bin/rt"
-said=$(PATH=$copy/bin:$PATH "$copy/respath" 2>&1 </dev/null | tail -n 2)
-expect "all that the program needs is proved" 0 "respath: proved and built in 0 min
-ran
-run respath" $? "$said
-$(tail -n 1 "$copy/asked")"
-said=$(awk 'NR == FNR { at[$2] = FNR; next }
-    !/^#/ { sub(":", "", $1); for (one = 2; one <= NF; one++) if ($1 in at && $one in at && at[$one] > at[$1]) print $1, $one }' \
-    "$copy/asked" "$copy/crates.txt")
-expect "crates are proved in turn" 0 "" $? "$said"
-said=$("$copy/respath" --version | tail -n 1)
-expect "a program that was proved by the script" 0 "proved here with the-kit" $? "$said"
-touch "$copy/crates/rpki_text/new"
-
-# shellcheck disable=SC2016 # the prover's own words
-printf '#!/bin/sh\nkill "$RESPATH"\n' >"$copy/bin/rt"
-# shellcheck disable=SC2016 # the number is that of the inner shell, which becomes the script
-PATH=$copy/bin:$PATH TMPDIR=$copy/tmp sh -c 'RESPATH=$$ exec "$0"' "$copy/respath" >/dev/null 2>&1 </dev/null
-said=$(ls "$copy/tmp")
-expect "a killed build leaves nothing" 0 "" $? "$said"
 
 exit $failed

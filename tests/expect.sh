@@ -1,0 +1,13 @@
+# shellcheck shell=sh
+# Read by the tests that are scripts: a line for each case, and `failed` is 1 where one isn't as it must be.
+failed=0
+
+# NAME, the status and the text that are wanted, and those that were seen
+expect() {
+    if [ "$2" = "$4" ] && [ "$3" = "$5" ]; then
+        echo "ok      $1"
+    else
+        echo "FAILED  $1: wanted status $2 and '$3', saw status $4 and '$5'"
+        failed=1
+    fi
+}

@@ -1,0 +1,186 @@
+#!/bin/sh
+# What ./respath does before, beside and in place of the program: a copy of it in a folder with a space in its name,
+# beside a program and a prover that only say what they are asked. Nothing is proved. Ends with status 0 where each case
+# is as it must be.
+top=$(CDPATH='' cd -- "$(dirname -- "$0")/.." && pwd) || exit 1
+files=$(mktemp -d) || exit 1
+trap 'rm -rf "$files"' EXIT
+# shellcheck source=tests/expect.sh
+. "$top/tests/expect.sh"
+
+copy="$files/a copy"
+out=$copy/crates/respath/out
+mkdir -p "$copy/bin" "$copy/tools" "$copy/tmp" "$copy/crates/other"
+for crate in $(sed '/^#/d; s/[ :].*//' "$top/crates.txt"); do mkdir -p "$copy/crates/$crate/out"; done
+cp "$top/respath" "$top/crates.txt" "$copy/"
+# shellcheck disable=SC2016 # the README's own marks
+echo 'Last proved whole with `a-kit logic 12`.' >"$copy/README.md"
+printf '#!/bin/sh\necho ran\n' >"$out/respath"
+chmod +x "$out/respath"
+ln -s "$copy/respath" "$files/link"
+chmod -R go+rX "$files"
+
+# The tools of the script, and no rt
+for tool in sh awk cat cut date dirname find grep head id ls mkdir mktemp mv readlink rm sed setsid sha256sum sleep \
+    tail tee touch wc; do
+    ln -s "$(command -v "$tool")" "$copy/tools/$tool"
+done
+
+# The commands of a prover that answers `rt version` with a kit of this name
+prover() {
+    # shellcheck disable=SC2016 # the prover's own words
+    printf '#!/bin/sh\n[ "$1" != version ] || { echo "%s"; exit; }\n%s\n' "$1" "$2" >"$copy/bin/rt"
+    chmod +x "$copy/bin/rt"
+}
+
+# The script, with that prover alone
+run() {
+    PATH=$copy/bin:$copy/tools TMPDIR=$copy/tmp "$@" </dev/null 2>&1
+}
+
+without_rt() {
+    PATH=$copy/tools "$@" </dev/null 2>&1
+}
+
+built_first="respath: the program is proved and built first, twenty to thirty minutes on four processors; with --try\
+ it answers within a minute, by the sources unproved"
+
+# What lies there is run where nothing that it needs is newer.
+prover "a-kit logic 12" 'echo proving; exit 1'
+touch -d '1 minute ago' "$out/respath"
+touch "$copy/crates.txt" "$copy/crates/other/new" "$copy/crates/test_values/new"
+said=$(run "$copy/respath")
+expect "a crate that the program doesn't need is newer" 0 "ran" $? "$said"
+said=$(run "$files/link")
+expect "a link to the script" 0 "ran" $? "$said"
+said=$(without_rt "$copy/respath")
+expect "no rt where the program is built" 0 "ran" $? "$said"
+
+# Lines in place of files
+said=$(run "$copy/respath" norm as 1)
+expect "a line in place of a file" 2 "respath: norm: no such file; lines come from the standard input: echo\
+ 'norm as 1' | $copy/respath" $? "$said"
+said=$(run "$copy/respath" --check 'path as 1 | refuse 2')
+expect "a line in place of a file, in quotes" 2 "respath: path as 1 | refuse 2: no such file; lines come from the\
+ standard input: echo 'path as 1 | refuse 2' | $copy/respath" $? "$said"
+said=$(cd "$files" && echo >norm && run "$copy/respath" norm)
+expect "a file that is named as a command" 0 "ran" $? "$said"
+
+# What proved the very program that lies there, whichever kit it was; or that nothing here did
+version() {
+    run "$copy/respath" --version | sed -n '2p'
+}
+unproved="not proved here; last proved whole with a-kit logic 12"
+expect "a program that was not proved here" 0 "$unproved" $? "$(version)"
+prover "other-kit logic 12" 'exit 1'
+run "$copy/respath" --note-kit
+expect "a program that another kit proved here" 0 "proved here with other-kit logic 12" $? "$(version)"
+echo >>"$out/respath"
+touch -d '1 minute ago' "$out/respath"
+expect "another program in its place" 0 "$unproved" $? "$(version)"
+run "$copy/respath" --note-kit
+touch "$copy/crates/rpki_text/new"
+expect "a program that is older than its sources" 0 "$unproved" $? "$(version)"
+said=$(run "$copy/respath" --version | head -n 1)
+expect "no repository, and no git on the path" 0 "respath, revision unknown" $? "$said"
+git init -q "$files" && git -C "$files" -c user.name=nobody -c user.email=nobody commit -q --allow-empty -m empty
+said=$("$copy/respath" --version | head -n 1)
+expect "a folder in another repository" 0 "respath, revision unknown" $? "$said"
+
+# What is wanting is told before anything is proved.
+no_rt="respath: the program isn't built, and there is no rt to build or try it: put the Rattle kit's bin folder on the PATH"
+said=$(without_rt "$copy/respath")
+expect "no rt where the program isn't built" 1 "$no_rt" $? "$said"
+said=$(without_rt "$copy/respath" --try)
+expect "no rt to try the sources" 1 "$no_rt" $? "$said"
+said=$(run "$copy/respath" "$files" "$files/none")
+expect "files that can't be read where the program isn't built" 1 "respath: $files: read failed
+respath: $files/none: can't be opened" $? "$said"
+no_room="respath: the program isn't built, and $copy/crates/rpki_text/out can't be written: copy the sources, or take\
+ --try"
+chmod a-w "$copy/crates/rpki_text/out"
+if [ -w "$copy/crates/rpki_text/out" ]; then
+    nobody='setpriv --reuid=65534 --regid=65534 --clear-groups'
+    if $nobody true 2>/dev/null; then
+        # shellcheck disable=SC2086 # a command is words
+        said=$($nobody env PATH="$copy/bin:$copy/tools" "$copy/respath" </dev/null 2>&1)
+        expect "a folder that can't be written" 1 "$no_room" $? "$said"
+    else
+        echo "left out  a folder that can't be written: whoever runs this can write everywhere, and there is no setpriv"
+    fi
+else
+    said=$(run "$copy/respath")
+    expect "a folder that can't be written" 1 "$no_room" $? "$said"
+fi
+chmod u+w "$copy/crates/rpki_text/out"
+
+# Proving: what fails is shown, a crate comes behind those that it stands on, and the program is noted.
+prover "a-kit logic 12" 'echo proving; exit 1'
+said=$(run "$copy/respath")
+expect "a proof that fails" 1 "$built_first
+respath: proving rpki_text (0 of N)
+proving
+respath: the program was not built" $? "$(echo "$said" | sed 's/ of [0-9]* are proved, after 0 min)/ of N)/')"
+# shellcheck disable=SC2016 # the prover's own words
+prover "the-kit logic 12" 'echo "$1 ${PWD##*/}" >>../../asked'
+said=$(run "$copy/respath" | tail -n 2)
+expect "all that the program needs is proved" 0 "respath: proved and built in 0 min
+ran
+run respath" $? "$said
+$(tail -n 1 "$copy/asked")"
+said=$(awk 'NR == FNR { at[$2] = FNR; next }
+    !/^#/ && sub(":", "", $1) && $1 in at { for (one = 2; one <= NF; one++) if (at[$one] > at[$1]) print $1, $one }' \
+    "$copy/asked" "$copy/crates.txt")
+expect "crates are proved in turn" 0 "" $? "$said"
+expect "a program that was proved by the script" 0 "proved here with the-kit logic 12" $? "$(version)"
+
+# Signals while it is proved, by a prover that waits for a child of its own; the one of them doesn't heed the signal.
+touch "$copy/crates/rpki_text/new"
+# NAME, signal, status, what the prover runs first, and an option
+interrupt() {
+    # shellcheck disable=SC2016 # the prover's own words
+    prover "a-kit logic 12" "$4"' sleep 60 & echo $! >"${0%/*}/child"; wait'
+    rm -f "$copy/bin/child"
+    run timeout --preserve-status -k 20 -s "$2" 2 "$copy/respath" "$5" >/dev/null
+    status=$?
+    left=$(ls "$copy/tmp")
+    [ -e "$copy/bin/child" ] || left="$left, and no child was begun"
+    # An ended process that nobody has waited for yet is there as a zombie.
+    ! grep -qs '^State:.[^ZX]' "/proc/$(cat "$copy/bin/child")/status" || left="$left, and the child of the prover"
+    expect "$1" "$3" "left: " "$status" "left: $left"
+}
+ln -s "$(command -v timeout)" "$copy/tools/timeout"
+interrupt "an interrupt" INT 130 '' --check
+interrupt "an interrupt that the prover doesn't heed" INT 130 "trap '' INT TERM;" --check
+interrupt "a killed build" TERM 143 '' --check
+interrupt "an interrupt of --try" INT 130 '' --try
+
+# What two runners say of sources that aren't proved
+tried="respath: these answers come from sources that were not proved here"
+prover "a-kit logic 12" 'cat; echo "run=ended status=0 runners=2 proved=no" >&2'
+said=$({ echo one; sleep 3; echo two; } | PATH=$copy/bin:$copy/tools "$copy/respath" --try 2>&1)
+expect "lines that come with a pause" 0 "$tried
+one
+two" $? "$said"
+prover "a-kit logic 12" 'echo AS1; echo "run=ended status=0 runners=1 proved=no" >&2'
+said=$(run "$copy/respath" --try)
+expect "one runner that answers alone" 0 "$tried
+AS1
+respath: one of the two runners answered alone, the other one needs too many steps" $? "$said"
+prover "a-kit logic 12" 'printf "checked: no-answer: too long\nrun=no-answer proved=no\n" >&2; exit 6'
+said=$(run "$copy/respath" --try)
+expect "no runner that answers" 1 "$tried
+respath: no answers: too long" $? "$said"
+
+# Another kit may have proved what the README names: its name says nothing, but the logic has to be the README's.
+logic() {
+    PATH=$copy/bin:$copy/tools "$top/tests/logic.sh" "$copy/README.md" >/dev/null
+}
+prover "other-kit logic 12" 'exit 1'
+logic
+expect "another kit of the same logic" 0 "" $? ""
+prover "a-kit logic 13" 'exit 1'
+logic
+expect "a kit of another logic" 1 "" $? ""
+
+exit "$failed"

@@ -12,7 +12,8 @@ use std::alloc::Global;
 /// RFC 8097, 2). Payloads may come in any order, and often; a table is made of them once. The status is 0 where the
 /// octets are told; 1 where there is no room for them, and then the length is that which is wanted; 2 where there is no
 /// memory; and else that of the first payload that is none, or of the first route, and the place is its place, counted
-/// from 0: of its family, of its prefix, of its greatest length.
+/// from 0: of its family, of its prefix, of its greatest length. A route whose path has no single origin ('NONE' in RFC
+/// 6811, 2) is asked with AS 0, which no payload matches.
 #[unsafe(no_mangle)]
 pub extern "C" fn pg_origins(
     alloc: Global,

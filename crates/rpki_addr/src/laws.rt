@@ -7,7 +7,7 @@ ghost use Rattle.rpki_addr.specs.declared.addr.IpAddr.{IpAddr as EitherAddr};
 
 use crate::addr::{IpAddr, Ipv4Addr, Ipv6Addr};
 
-/// The text that is printed of an IPv6 address is the one that RFC 5952 asks for.
+/// The text that is printed of an IPv6 address is the one that RFC 5952, 4, asks for, and its 5 of a mapped one.
 pub fn ipv6_is_printed_so()
     ensures { (n : ℕ) → n < 2 ^ 128 → (text : List ℕ)
         → (IsPrintedIpv6 n text) ↔ (text ≡ ipv6_text n) }

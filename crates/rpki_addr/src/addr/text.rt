@@ -73,8 +73,8 @@ impl fmt::Display for Ipv4Addr {
     }
 }
 
-/// Writes the form of RFC 5952: lower-case groups, with the first longest run of two or more zero
-/// groups as `::`, and an IPv4-mapped address as `::ffff:` and its IPv4 address.
+/// Writes the form of RFC 5952, 4: lower-case groups, with the first longest run of two or more zero groups as `::`;
+/// and that of its 5 of an IPv4-mapped address: `::ffff:` and its IPv4 address.
 impl fmt::Display for Ipv6Addr {
     ghost output = { λ address. Some (ipv6_text address) };
 

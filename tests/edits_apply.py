@@ -1,0 +1,72 @@
+#!/usr/bin/env python3
+"""edits_apply.py: edits that can't be applied to the code as it stands, in the folders `must-fail/` and `edits/` of
+the crates: by the kit's own reading, so each `old:` stands in its file exactly once. And whether `must-fail/` is as
+small as it has to be: at most ninety edits, in at most twenty libraries, none of them a program or a static library. It
+asks no prover; tests/edits.py does. Ends with status 1 where there is something to mend."""
+
+import importlib.machinery
+import importlib.util
+import re
+import subprocess
+import sys
+from collections.abc import Iterator
+from pathlib import Path
+
+TOP = Path(__file__).resolve().parent.parent
+TRIED_BY_THE_KIT = "must-fail"
+FOLDERS = (TRIED_BY_THE_KIT, "edits")
+NAME = re.compile(r"\w[\w.-]*\.edit", re.ASCII)
+MOST_EDITS, MOST_CRATES = 90, 20
+
+
+def the_kit():
+    """The kit's own `rt`, which reads and judges edits."""
+    page = subprocess.run(["rt", "doc"], capture_output=True, text=True, check=True).stdout.strip()
+    loader = importlib.machinery.SourceFileLoader("rt", str(Path(page).parent / "bin" / "rt"))
+    module = importlib.util.module_from_spec(importlib.util.spec_from_loader("rt", loader))
+    loader.exec_module(module)
+    return module
+
+
+def edits_of(crate) -> list[Path]:
+    """What stands in the two folders of a crate."""
+    return [it for folder in FOLDERS for it in sorted(Path(crate.folder, folder).rglob("*"))]
+
+
+def faults_of(kit, crate) -> Iterator[str]:
+    """What is wrong with the edits of a crate."""
+    seen = set()
+    for edit in edits_of(crate):
+        name = edit.relative_to(TOP)
+        if len(name.parts) != 4 or not NAME.fullmatch(edit.name):
+            yield f"{name}: an edit stands right in its folder, and is called NAME.edit"
+        elif edit.name in seen:
+            yield f"{name}: {FOLDERS[0]}/ has an edit of this name"
+        elif why := kit.read_edit(str(edit), crate.folder)[1]:
+            yield f"{name}: {why}"
+        seen.add(edit.name)
+
+
+def faults_of_the_kits(crates) -> Iterator[str]:
+    """What is wrong with where the edits stand that the kit tries."""
+    tried = [crate for crate in crates for edit in edits_of(crate) if edit.parent.name == TRIED_BY_THE_KIT]
+    for crate in dict.fromkeys(tried):
+        if crate.is_program or crate.is_static:
+            yield f"crates/{crate.name}/{TRIED_BY_THE_KIT}: no library, so its edits stand in edits/"
+    if len(tried) > MOST_EDITS or len({*tried}) > MOST_CRATES:
+        found = f"{len(tried)} edits in {len({*tried})} crates"
+        yield f"{TRIED_BY_THE_KIT}/ has {found}: at most {MOST_EDITS} in {MOST_CRATES}"
+
+
+def main() -> int:
+    kit = the_kit()
+    crates = kit.rtlib.crates_below(str(TOP))
+    faults = [it for crate in crates for it in faults_of(kit, crate)] + [*faults_of_the_kits(crates)]
+    for fault in faults:
+        print(fault)
+    print(f"{sum(len(edits_of(it)) for it in crates)} edits: {len(faults)} faults")
+    return 1 if faults else 0
+
+
+if __name__ == "__main__":
+    sys.exit(main())

@@ -65,7 +65,8 @@ impl Call {
     }
 }
 
-/// Builds two sets, the first of a list that it times, and times what they give. The kind stands before the names of calls.
+/// Builds two sets, the first of a list that it times, and times what they give. The kind stands before the names of
+/// calls.
 pub fn measure_operations<S: Set>(rt: &HostRuntime, kind: &str, count: usize) -> io::Result<()> {
     let blocks = S::blocks(rt.alloc(), count, false)?;
     let one: S = measure_building(rt, kind, &blocks)?;

@@ -8,8 +8,8 @@ ghost use Rattle.roa_origin.specs.Coverings.{AreThose};
 use rpki_resources::resources::addr::Prefix;
 use std::alloc::{AllocError, Allocator};
 
-/// The prefixes of a list in their order, each once: IPv4 before IPv6, then by the last address, and a prefix never before
-/// one that it covers. `AllocError` where there is no memory for the table.
+/// The prefixes of a list in their order, each once: IPv4 before IPv6, then by the last address, and a prefix never
+/// before one that it covers. `AllocError` where there is no memory for the table.
 pub fn table<A: Allocator>(alloc: A, prefixes: &[Prefix]) -> Result<Vec<Prefix, A>, AllocError>
     ensures ascending { IfOk result (λ table. IsStrictlySortedBy prefix_cmp table.items) }
     ensures members { IfOk result (λ table.
@@ -24,8 +24,8 @@ pub fn table<A: Allocator>(alloc: A, prefixes: &[Prefix]) -> Result<Vec<Prefix, 
     Ok(table)
 }
 
-/// The prefixes of a table that cover a route, in the table's order, each as often as it stands there. `AllocError` where
-/// there is no memory for them.
+/// The prefixes of a table that cover a route, in the table's order, each as often as it stands there. `AllocError`
+/// where there is no memory for them.
 pub fn covering<A: Allocator>(
     alloc: A,
     table: &[Prefix],

@@ -23,9 +23,9 @@ pub enum Overclaimed<A: Allocator = Global> {
     Ipv6(PathRefusal<OverclaimedIpv6Resources<A>>),
 }
 
-/// What the claims of the certificates on a path leave of a root's resources; those of IPv4 consist of whole addresses, as
-/// what `Extensions::claims` answers do. `Refused` with the first claim that lists too much, of AS numbers before IPv4 and
-/// IPv4 before IPv6; `Memory` where there is no memory for a set on the way.
+/// What the claims of the certificates on a path leave of a root's resources; those of IPv4 consist of whole addresses,
+/// as what `Extensions::claims` answers do. `Refused` with the first claim that lists too much, of AS numbers before
+/// IPv4 and IPv4 before IPv6; `Memory` where there is no memory for a set on the way.
 pub fn verified<A: Allocator + Copy>(
     alloc: A,
     root: &ResourceSet<A>,

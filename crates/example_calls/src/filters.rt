@@ -7,8 +7,8 @@ ghost use Rattle.rpki_family.specs.SetCovers.{Ipv4Of};
 use rpki_resources::repository::resources::{Ipv4Blocks, Ipv6Blocks, Prefix};
 use std::alloc::{AllocError, Allocator};
 
-/// The fewest prefixes that have exactly the addresses of a set of IPv4, ascending: none outside it, none missing. Their
-/// lengths are at most 32. `AllocError` where there is no memory for the list.
+/// The fewest prefixes that have exactly the addresses of a set of IPv4, ascending: none outside it, none missing.
+/// Their lengths are at most 32. `AllocError` where there is no memory for the list.
 pub fn v4_filter<A: Allocator>(alloc: A, set: &Ipv4Blocks<A>) -> Result<Vec<Prefix, A>, AllocError>
     ensures cover { IfOk result (λ list. IsShortestCover 128 (Holds set.now) list.items) }
     ensures v4 { IfOk result (λ list. IsV4CoverList (Ipv4Of set.now) list.items) }

@@ -50,8 +50,8 @@ pub fn count_invalid<A: Allocator>(table: &OriginTable<A>, routes: &[(Prefix, As
     count
 }
 
-/// The payloads of a table that cover the route to a prefix, which explain the validity of its origin: each as often as it
-/// was listed, those of longer prefixes first. `AllocError` where there is no memory for the list.
+/// The payloads of a table that cover the route to a prefix, which explain the validity of its origin: each as often as
+/// it was listed, those of longer prefixes first. `AllocError` where there is no memory for the list.
 pub fn explanation<A: Allocator>(
     alloc: A,
     table: &OriginTable<A>,
@@ -69,8 +69,8 @@ pub fn explanation<A: Allocator>(
     Ok(found)
 }
 
-/// The first prefix of an authorization that isn't inside the resources of its certificate, or None where each one is: then
-/// the certificate has all that the authorization is about (RFC 9582, 5).
+/// The first prefix of an authorization that isn't inside the resources of its certificate, or None where each one is:
+/// then the certificate has all that the authorization is about (RFC 9582, 5).
 pub fn excess<A: Allocator>(
     resources: &ResourceSet<A>,
     entries: &[MaxLenPrefix],

@@ -5,8 +5,8 @@ use rpki_resources::OrMemory;
 use rpki_resources::repository::resources::{AsResources, IpBlocks, ResourceSet};
 use std::alloc::{AllocError, Allocator};
 
-/// A set of addresses of either family, printed as one of IPv6, as it is read again. `AllocError` where there is no memory
-/// for it.
+/// A set of addresses of either family, printed as one of IPv6, as it is read again. `AllocError` where there is no
+/// memory for it.
 pub fn printed_and_read<A: Allocator + Copy>(
     alloc: A,
     set: &IpBlocks<A>,
@@ -23,8 +23,8 @@ pub fn printed_and_read<A: Allocator + Copy>(
     }
 }
 
-/// AS resources, missing, inherited or listed, as they are read again from what is printed of them. `AllocError` where there
-/// is no memory for them.
+/// AS resources, missing, inherited or listed, as they are read again from what is printed of them. `AllocError` where
+/// there is no memory for them.
 pub fn as_resources_printed_and_read<A: Allocator + Copy>(
     alloc: A,
     resources: &AsResources<A>,
@@ -40,8 +40,8 @@ pub fn as_resources_printed_and_read<A: Allocator + Copy>(
     }
 }
 
-/// A set of resources of the three kinds, sent as three lists, as it is read again. `AllocError` where there is no memory
-/// for it.
+/// A set of resources of the three kinds, sent as three lists, as it is read again. `AllocError` where there is no
+/// memory for it.
 pub fn resources_printed_and_read<A: Allocator + Copy>(
     alloc: A,
     set: &ResourceSet<A>,

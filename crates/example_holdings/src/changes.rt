@@ -10,8 +10,8 @@ use rpki_resources::repository::resources::{ResourceDiff, ResourceSet};
 use std::alloc::{AllocError, Allocator};
 use std::fmt;
 
-/// What is printed of the changes that lead from what a holder had to what it gets. `AllocError` where there is no memory
-/// for it.
+/// What is printed of the changes that lead from what a holder had to what it gets. `AllocError` where there is no
+/// memory for it.
 pub fn printed<A: Allocator + Copy>(
     alloc: A,
     had: &ResourceSet<A>,

@@ -42,9 +42,9 @@ pub enum InputError {
     Gets(usize),
 }
 
-/// The two lines of a text, each cut at its semicolons. `Refused` with the count of its lines where there aren't exactly
-/// two, and else with the count of lists of the first line that hasn't exactly three; `Memory` where there is no memory
-/// to cut it.
+/// The two lines of a text, each cut at its semicolons. `Refused` with the count of its lines where there aren't
+/// exactly two, and else with the count of lists of the first line that hasn't exactly three; `Memory` where there is
+/// no memory to cut it.
 pub fn read_input<A: Allocator + Copy>(
     alloc: A,
     text: &str,

@@ -24,7 +24,8 @@ fn main(rt: HostRuntime) -> anyhow::Result<()> {
     compare(&rt, input)
 }
 
-/// Compares what two lines list; each of the calls from here on holds one set more, so that few owners are alive at once.
+/// Compares what two lines list; each of the calls from here on holds one set more, so that few owners are alive at
+/// once.
 fn compare(rt: &HostRuntime, input: Input<'_>) -> anyhow::Result<()> {
     let had = set_of(rt.alloc(), input.had)?;
     compare_with(rt, &had, input.gets)

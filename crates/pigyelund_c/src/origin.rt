@@ -89,8 +89,8 @@ fn origin_of(table: &OriginTable<Global>, route: &Route) -> Result<u8, Unrouted>
     Ok(number_of(table.origin(prefix, Asn::from_u32(route.asn))))
 }
 
-/// The validity of each route of an array by payloads, as numbers. `Refused` with the first that is none, `Memory` where
-/// there is no memory for a table or for the numbers.
+/// The validity of each route of an array by payloads, as numbers. `Refused` with the first that is none, `Memory`
+/// where there is no memory for a table or for the numbers.
 fn origins_of(
     alloc: Global,
     payloads: &[(MaxLenPrefix, Asn)],

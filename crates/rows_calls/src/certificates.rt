@@ -69,8 +69,8 @@ fn value(alloc: Global, text: &str) -> anyhow::Result<Option<Vec<u8>>> {
     Ok(Some(hex::decode(alloc, text)?))
 }
 
-/// Which octets are read, and what becomes of a claim that lists too much: `refuse` or `trim`, and `canonical-refuse` or
-/// `canonical-trim` where canonical octets alone are read.
+/// Which octets are read, and what becomes of a claim that lists too much: `refuse` or `trim`, and `canonical-refuse`
+/// or `canonical-trim` where canonical octets alone are read.
 fn reading_named(name: &str) -> (Encoding, Overclaim) {
     match name {
         "trim" => (Encoding::Any, Overclaim::Trim),

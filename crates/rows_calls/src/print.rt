@@ -4,7 +4,8 @@ use rpki_resources::repository::resources::{IpBlocks, IpResources};
 use std::alloc::{AllocError, Global};
 use std::fmt;
 
-/// What stands before the first such mark of a text, and what behind it: all of the text and nothing, where there is none.
+/// What stands before the first such mark of a text, and what behind it: all of the text and nothing, where there is
+/// none.
 pub fn cut(text: &str, mark: char) -> (&str, &str) {
     match text.split_once(mark) {
         Some((left, right)) => (left.trim(), right.trim()),

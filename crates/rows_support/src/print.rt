@@ -11,7 +11,8 @@ use rpki_ipres::blocks::IpBlocks;
 use std::alloc::{AllocError, Allocator};
 use std::fmt;
 
-/// What stands before the first such mark of a text, and what behind it: all of the text and nothing, where there is none.
+/// What stands before the first such mark of a text, and what behind it: all of the text and nothing, where there is
+/// none.
 pub fn cut(text: &str, mark: char) -> (&str, &str)
     ensures left { mark < 128 → result.0.now ≡ before_first (λ c. c == mark) text.now }
     ensures right { mark < 128 → result.1.now ≡ after_first (λ c. c == mark) text.now }

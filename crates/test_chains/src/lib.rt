@@ -1,5 +1,5 @@
-//! What no clause says of chains and of small sets, and what no line of the program `rows_sets` can say of them: blocks of
-//! their own, empty ones, and calls that take no memory.
+//! What no clause says of chains and of small sets, and what no line of the program `rows_sets` can say of them: blocks
+//! of their own, empty ones, and calls that take no memory.
 #![tactic(auto)]
 
 #[cfg(test)]

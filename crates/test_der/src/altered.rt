@@ -1,5 +1,5 @@
-// A dozen values, each taken by the reader of its tag and appended again: as they stand, cut, and with each octet in place
-// of each of theirs.
+// A dozen values, each taken by the reader of its tag and appended again: as they stand, cut, and with each octet in
+// place of each of theirs.
 use crate::checks::holds;
 use rpki_der::{
     BitString, Content, Cursor, DerError, put_bit_string, put_header, put_null, put_octets,
@@ -99,8 +99,8 @@ fn are_truncated(alloc: Global, octets: &[u8]) -> bool {
     true
 }
 
-/// Whether the octets are refused, or read as a value that is appended as it stands, with each octet in place of each of
-/// them.
+/// Whether the octets are refused, or read as a value that is appended as it stands, with each octet in place of each
+/// of them.
 fn are_exact(alloc: Global, octets: &mut [u8]) -> bool {
     let mut is_exact = true;
     for at in 0..octets.len() {

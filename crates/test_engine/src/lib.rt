@@ -1,5 +1,5 @@
-//! What no clause says of the program's engine, as tests: runs over devices of its own and over std's readers and writers,
-//! each call of which fails in turn, and over memory that is refused in turn.
+//! What no clause says of the program's engine, as tests: runs over devices of its own and over std's readers and
+//! writers, each call of which fails in turn, and over memory that is refused in turn.
 #![tactic(auto)]
 
 #[cfg(test)]

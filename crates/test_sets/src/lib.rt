@@ -1,5 +1,5 @@
-//! What no clause says of lists and sets of resources, and what no line of the program `rows_sets` can say of them: iterators
-//! to their end, copies, and sets of all and of no numbers.
+//! What no clause says of lists and sets of resources, and what no line of the program `rows_sets` can say of them:
+//! iterators to their end, copies, and sets of all and of no numbers.
 #![tactic(auto)]
 
 #[cfg(test)]

@@ -19,8 +19,8 @@ pub enum Outcome {
     Unexpected,
 }
 
-/// Calls `run` with an allocator that refuses request 0, then with one that refuses request 1, and so on up to a run that
-/// met no refusal. At most `limit` runs are made.
+/// Calls `run` with an allocator that refuses request 0, then with one that refuses request 1, and so on up to a run
+/// that met no refusal. At most `limit` runs are made.
 ///
 /// `Ok` tells how many runs met a refusal: each of them was out of memory, and the one after them ended as expected.
 /// `Err` tells the number of the first run that ended otherwise, or the limit where there was none.

@@ -67,8 +67,8 @@ fn v6_text<A: Allocator + Copy>(alloc: A, list: &str) -> Result<String<A>, OrMem
     Ok(text)
 }
 
-/// What is printed of prefixes of a family, joined by a comma and a space; nothing where there are none. Each is printed
-/// as it comes, so that no list of them is kept.
+/// What is printed of prefixes of a family, joined by a comma and a space; nothing where there are none. Each is
+/// printed as it comes, so that no list of them is kept.
 fn printed_prefixes<A: Allocator, I: Iterator<Item = Prefix>>(
     alloc: A,
     family: AddressFamily,

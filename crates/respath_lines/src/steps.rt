@@ -79,8 +79,8 @@ fn read_steps<A: Allocator + Copy, L: Lists<A>>(
     Ok(steps)
 }
 
-/// The step that a part writes, without the white space on both its sides: `inherit` or `missing` alone, or what becomes
-/// of a claim that lists too much and, behind a space, the list of what is claimed.
+/// The step that a part writes, without the white space on both its sides: `inherit` or `missing` alone, or what
+/// becomes of a claim that lists too much and, behind a space, the list of what is claimed.
 fn read_step<A: Allocator + Copy, L: Lists<A>>(
     alloc: A,
     lists: &L,

@@ -33,8 +33,8 @@ fn is_inside<A: Allocator>(set: &ResourceSet<A>, prefix: Prefix) -> bool
     set.contains_roa_address(family, addresses(prefix))
 }
 
-/// The place of the first entry whose prefix isn't inside its family's set, counted from 0, or None where each one is. A
-/// greatest length isn't looked at, since it allows no address more. It takes no memory (RFC 9582, 5).
+/// The place of the first entry whose prefix isn't inside its family's set, counted from 0, or None where each one is.
+/// A greatest length isn't looked at, since it allows no address more. It takes no memory (RFC 9582, 5).
 pub fn outside<A: Allocator>(set: &ResourceSet<A>, entries: &[MaxLenPrefix]) -> Option<usize>
     ensures { IsFirstOutside set.now entries.now result }
 {

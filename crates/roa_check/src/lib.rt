@@ -1,5 +1,5 @@
-//! Route origin authorizations checked against the resources of their certificate, and routes against what was validated
-//! (RFC 6811; RFC 9582).
+//! Route origin authorizations checked against the resources of their certificate, and routes against what was
+//! validated (RFC 6811; RFC 9582).
 //!
 //! What an authorization lists and its certificate doesn't have is found by [`outside`], as in
 //! `example_calls::routes::excess`:
@@ -11,7 +11,8 @@
 //! }
 //! ```
 //!
-//! The validity of a route by a list is [`origin`]; a router that asks for many makes an `OriginTable` (crate `roa_origin`).
+//! The validity of a route by a list is [`origin`]; a router that asks for many makes an `OriginTable` (crate
+//! `roa_origin`).
 #![tactic(auto)]
 
 pub mod entries;

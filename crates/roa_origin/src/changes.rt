@@ -20,8 +20,8 @@ pub struct PayloadChanges<A: Allocator = Global> {
 }
 
 impl<A: Allocator> PayloadTable<A> {
-    /// What is announced and what is withdrawn from this table to the next, both ascending (RFC 8210, 5.6 and 8.2). Each
-    /// table is gone through twice. `AllocError` where there is no memory for the two lists.
+    /// What is announced and what is withdrawn from this table to the next, both ascending (RFC 8210, 5.6 and 8.2).
+    /// Each table is gone through twice. `AllocError` where there is no memory for the two lists.
     pub fn changes_to(
         &self,
         alloc: A,
@@ -52,8 +52,8 @@ fn without<A: Allocator>(
     Ok(PayloadTable::of(left))
 }
 
-/// The payloads of the one list that the other hasn't. One walk along both: payloads of the other one that are less than
-/// one payload are less than all behind it.
+/// The payloads of the one list that the other hasn't. One walk along both: payloads of the other one that are less
+/// than one payload are less than all behind it.
 fn left_of<A: Allocator>(
     alloc: A,
     one: &[(MaxLenPrefix, Asn)],

@@ -27,7 +27,8 @@ pub fn laws_of_tables()
     rpki_prefix::laws::total_order(); // so that the proof sees that the order is total
 }
 
-/// A table without what is withdrawn and with what is announced is the next one; from a table to itself nothing changes.
+/// A table without what is withdrawn and with what is announced is the next one; from a table to itself nothing
+/// changes.
 pub fn laws_of_changes()
     ensures leads { (table next announced withdrawn set : List Payload) → IsAscending next
         → IsWithout next table announced → IsWithout table next withdrawn

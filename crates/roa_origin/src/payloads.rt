@@ -7,8 +7,8 @@ use rpki_prefix::MaxLenPrefix;
 use std::alloc::{AllocError, Allocator, Global};
 use std::marker::Model;
 
-/// Payloads as routers get them, ascending and each once: each has its greatest length, which is that of its prefix where
-/// the authorization has none (RFC 9582, 4.3.2; RFC 8210, 5.6 and 5.7).
+/// Payloads as routers get them, ascending and each once: each has its greatest length, which is that of its prefix
+/// where the authorization has none (RFC 9582, 4.3.2; RFC 8210, 5.6 and 5.7).
 ///
 /// They are in the order of their prefixes, then the longer greatest length first, then by the AS number. Contracts see
 /// the list of them.
@@ -30,8 +30,8 @@ impl<A: Allocator> Model for PayloadTable<A> {
 }
 
 impl<A: Allocator> PayloadTable<A> {
-    /// The table of payloads in any order, with duplicates or not; two that differ in a greatest length that is told and
-    /// is that of the prefix are one. `AllocError` where there is no memory for it.
+    /// The table of payloads in any order, with duplicates or not; two that differ in a greatest length that is told
+    /// and is that of the prefix are one. `AllocError` where there is no memory for it.
     pub fn new(alloc: A, payloads: &[(MaxLenPrefix, Asn)]) -> Result<PayloadTable<A>, AllocError>
         ensures { IfOk result (IsTableOf payloads.now) }
     {

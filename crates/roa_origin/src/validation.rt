@@ -37,8 +37,8 @@ pub(crate) fn matches(payload: &(MaxLenPrefix, Asn), route: Prefix, asn: Asn) ->
 
 /// The validity of the route to a prefix that an AS originates, by a list of validated payloads: prefixes with a
 /// greatest length, and the AS that may originate them. It takes no memory, and looks at each payload at most once
-/// (RFC 6811, 2). Of a path that has no single origin ('NONE' there, as behind an AS_SET) ask with AS0, which no payload
-/// matches.
+/// (RFC 6811, 2). Of a path that has no single origin ('NONE' there, as behind an AS_SET) ask with AS0, which no
+/// payload matches.
 pub fn origin(route: Prefix, asn: Asn, payloads: &[(MaxLenPrefix, Asn)]) -> Validity
     ensures { IsValidity route asn payloads.now result }
 {

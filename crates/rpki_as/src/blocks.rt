@@ -76,8 +76,8 @@ impl<A: Allocator> AsBlocks<A> {
         Ok(Self::from_set(set))
     }
 
-    /// The set of the numbers that some block has, made in the memory of the blocks, which may come in any order and may
-    /// overlap. `AllocError` where there is no memory for what its owners share.
+    /// The set of the numbers that some block has, made in the memory of the blocks, which may come in any order and
+    /// may overlap. `AllocError` where there is no memory for what its owners share.
     pub fn from_vec(alloc: A, blocks: Vec<AsBlock, A>) -> Result<AsBlocks<A>, AllocError>
         ensures { IfOk result (IsRunsOfBlocks as_bounds blocks.items) }
     {
@@ -85,8 +85,8 @@ impl<A: Allocator> AsBlocks<A> {
         Ok(Self::from_set(set))
     }
 
-    /// The set of blocks that are its runs as they stand, each in the form that sets have. `AllocError` where there is no
-    /// memory for what its owners share.
+    /// The set of blocks that are its runs as they stand, each in the form that sets have. `AllocError` where there is
+    /// no memory for what its owners share.
     pub(crate) fn from_vec_unchecked(
         alloc: A,
         blocks: Vec<AsBlock, A>,
@@ -224,8 +224,8 @@ impl<A: Allocator> AsBlocks<A> {
     }
 
     /// The set that a list of blocks writes: the text is cut at commas, white space round an element is dropped,
-    /// and so is an element that is empty then. `Refused` with the fault of the first element that is no block; `Memory`
-    /// where there is no memory for the set.
+    /// and so is an element that is empty then. `Refused` with the fault of the first element that is no block;
+    /// `Memory` where there is no memory for the set.
     pub fn from_str(alloc: A, text: &str) -> Result<AsBlocks<A>, OrMemory<FromStrError>>
     where
         A: Copy,

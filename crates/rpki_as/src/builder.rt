@@ -46,7 +46,8 @@ impl<A: Allocator> AsBlocksBuilder<A> {
         self.blocks.push(block)
     }
 
-    /// Adds several blocks. `AllocError` where there is no memory for them; then the builder has the blocks that it had.
+    /// Adds several blocks. `AllocError` where there is no memory for them; then the builder has the blocks that it
+    /// had.
     pub fn extend_from(&mut self, blocks: &[AsBlock]) -> Result<(), AllocError>
         ensures ok { OnOk result (self.new ≡ self.old ++ map as_bounds blocks.now) }
         ensures err { OnErr result (self.new ≡ self.old) }

@@ -150,8 +150,8 @@ impl<A: Allocator> AsResources<A> {
     }
 
     /// The resources that a text writes: `inherit` exactly, and else a list of blocks as in [`AsBlocks::from_str`].
-    /// They are missing where the list has no blocks. `Refused` with the fault of the first element of a list that is no
-    /// block; `Memory` where there is no memory for the set.
+    /// They are missing where the list has no blocks. `Refused` with the fault of the first element of a list that is
+    /// no block; `Memory` where there is no memory for the set.
     pub fn from_str(alloc: A, text: &str) -> Result<AsResources<A>, OrMemory<FromStrError>>
     where
         A: Copy,

@@ -38,8 +38,8 @@ fn read_any(text: &str) -> Result<AsBlock, FromStrError>
 }
 
 /// Reads `AS7` or `7` as an Id, and two such texts round the first dash as a Range. Refused by
-/// [`FromStrError::BadAsn`] where a text without a dash is no AS number, and by [`FromStrError::BadRange`] where one with
-/// a dash isn't two of them, the first at most the second.
+/// [`FromStrError::BadAsn`] where a text without a dash is no AS number, and by [`FromStrError::BadRange`] where one
+/// with a dash isn't two of them, the first at most the second.
 impl FromStr for AsBlock {
     type Err = FromStrError;
 

@@ -42,7 +42,8 @@ impl<A: Allocator> Model for SmallAsnSet<A> {
 }
 
 impl<A: Allocator> SmallAsnSet<A> {
-    /// The set of the AS numbers of a list in any order, with repeats or not. `AllocError` where there is no memory for it.
+    /// The set of the AS numbers of a list in any order, with repeats or not. `AllocError` where there is no memory for
+    /// it.
     pub fn from_list(alloc: A, list: &[Asn]) -> Result<SmallAsnSet<A>, AllocError>
         ensures { IfOk result (λ set. IsSmallSetOf (Contains list.now) set) }
     {

@@ -43,7 +43,8 @@ impl<T: Block, A: Allocator> BlockSetBuilder<T, A> {
         Ok(())
     }
 
-    /// Adds several blocks. `AllocError` where there is no memory for them; then the builder has the blocks that it had.
+    /// Adds several blocks. `AllocError` where there is no memory for them; then the builder has the blocks that it
+    /// had.
     pub fn extend_from(&mut self, blocks: &[T]) -> Result<(), AllocError>
         ensures ok { OnOk result (self.new ≡ self.old ++ map T.bounds blocks.now) }
         ensures err { OnErr result (self.new ≡ self.old) }

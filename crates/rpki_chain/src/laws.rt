@@ -75,9 +75,9 @@ pub fn laws_of_claims()
 {}
 
 /// What a path leaves lies in its root and in each set that a step lists, and a claim that was accepted in mode Refuse
-/// lies in what the steps before it leave: no accepted set passes its issuer. No step in mode Trim is refused; a path of
-/// no step leaves its root; and what a path leaves doesn't depend on the order of its steps, nor on how often one stands
-/// in it.
+/// lies in what the steps before it leave: no accepted set passes its issuer. No step in mode Trim is refused; a path
+/// of no step leaves its root; and what a path leaves doesn't depend on the order of its steps, nor on how often one
+/// stands in it.
 pub fn laws_of_paths()
     ensures inside_root { (root set : Runs) (steps : List (Step Claim)) →
         IsPathResult (λ claim. claim) (Holds root) steps set → (n : ℕ) → Holds set n

@@ -265,8 +265,8 @@ impl<T: Block, A: Allocator> BlockSet<T, A> {
     }
 }
 
-/// Reads the least number of a chain, which is in its first block, and the greatest, which is in its last: so each number
-/// is known to be one of the kind's.
+/// Reads the least number of a chain, which is in its first block, and the greatest, which is in its last: so each
+/// number is known to be one of the kind's.
 fn read_ends<T: Block>(blocks: &[T])
     requires { IsChain T.bounds T.form blocks.now }
     ensures { IsBlockChain T.bounds T.form T.first T.last blocks.now }

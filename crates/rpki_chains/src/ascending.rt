@@ -7,9 +7,9 @@ use crate::block::Block;
 use crate::union::take_in;
 use std::alloc::{AllocError, Allocator};
 
-/// Makes an empty vector the chain of the numbers that the blocks cover, and answers that it did. It answers `false` where
-/// a block begins before the run that those before it end with, and so never where the blocks come by ascending minimum;
-/// then the vector may have any blocks.
+/// Makes an empty vector the chain of the numbers that the blocks cover, and answers that it did. It answers `false`
+/// where a block begins before the run that those before it end with, and so never where the blocks come by ascending
+/// minimum; then the vector may have any blocks.
 pub fn join_ascending_into<T: Block, A: Allocator>(
     chain: &mut Vec<T, A>,
     blocks: &[T],

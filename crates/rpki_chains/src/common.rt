@@ -97,9 +97,9 @@ pub fn common_from<T: Block, A: Allocator, X: Reads<T>, Y: Reads<T>>(
         return Ok(OwnedChain::from_vec_unchecked(chain));
     };
     let mut own_block = (min, max);
-    // `chain` has what both have before one of the blocks at hand. A turn is done with the block that ends first: what the
-    // other one has of it is pushed, and nothing that comes later in either chain can reach it. So each turn passes a
-    // block, and the walk ends where one chain has none left.
+    // `chain` has what both have before one of the blocks at hand. A turn is done with the block that ends first: what
+    // the other one has of it is pushed, and nothing that comes later in either chain can reach it. So each turn passes
+    // a block, and the walk ends where one chain has none left.
     loop {
         if own_block.1 <= other_block.1 {
             push_common(&mut chain, own_block, other_block)?;

@@ -97,8 +97,8 @@ fn behind<T: Block>(item: T::Item) -> T::Item
     }
 }
 
-/// The chain of the numbers of one chain that aren't in the other, as [`crate::chain::Chain::difference`] answers it. Both
-/// together are read no more often than they have blocks.
+/// The chain of the numbers of one chain that aren't in the other, as [`crate::chain::Chain::difference`] answers it.
+/// Both together are read no more often than they have blocks.
 pub fn difference_counted<T: Block, A: Allocator, X: Reads<T>, Y: Reads<T>>(
     alloc: A,
     own: &mut X,
@@ -120,8 +120,8 @@ pub fn difference_counted<T: Block, A: Allocator, X: Reads<T>, Y: Reads<T>>(
     }
 }
 
-/// The same, where the first overhang is known: nothing before it is left, and a walk goes on from there. Each turn is done
-/// with one block, and keeps one piece at most.
+/// The same, where the first overhang is known: nothing before it is left, and a walk goes on from there. Each turn is
+/// done with one block, and keeps one piece at most.
 pub fn difference_from<T: Block, A: Allocator, X: Reads<T>, Y: Reads<T>>(
     alloc: A,
     own: &mut X,
@@ -155,9 +155,9 @@ pub fn difference_from<T: Block, A: Allocator, X: Reads<T>, Y: Reads<T>>(
     } = overhang;
     let mut rest = Some((min, max));
     let mut chain = Vec::new(alloc);
-    // `rest` is what is left of the block at `own_at`, and `cut` is the block at `other_at` that may be taken out of it. All
-    // that comes before the rest is decided: what stays of it is in `chain`. No cut that was passed reaches the rest. A
-    // turn is done with the rest or with the cut, so the walk ends, and it keeps one piece at most.
+    // `rest` is what is left of the block at `own_at`, and `cut` is the block at `other_at` that may be taken out of
+    // it. All that comes before the rest is decided: what stays of it is in `chain`. No cut that was passed reaches the
+    // rest. A turn is done with the rest or with the cut, so the walk ends, and it keeps one piece at most.
     loop {
         match next_cut::<T>(rest, cut) {
             Cut::End => break,

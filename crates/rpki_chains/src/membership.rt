@@ -16,8 +16,8 @@ fn middle_of(low: usize, high: usize) -> usize
     low + (high - low) / 2
 }
 
-/// The bounds of the first block that doesn't end before an item, by a binary search. `None` where all end before it. It
-/// reads at most as many blocks as their number has binary digits, as do the questions that it serves.
+/// The bounds of the first block that doesn't end before an item, by a binary search. `None` where all end before it.
+/// It reads at most as many blocks as their number has binary digits, as do the questions that it serves.
 pub fn first_from<T: Block, R: Reads<T>>(chain: &mut R, item: T::Item) -> Option<(T::Item, T::Item)>
     ensures block { MatchOption result
         ((n : ℕ) → T.number item ≤ n → Covers T.bounds (R.blocks chain.old) n → ⊥)
@@ -30,9 +30,9 @@ pub fn first_from<T: Block, R: Reads<T>>(chain: &mut R, item: T::Item) -> Option
     let mut low = 0;
     let mut high = chain.len();
     let mut found = None;
-    // The blocks before `low` end before the item. The one at `high` doesn't, and its bounds are in `found`, unless `high`
-    // is still the end of the chain. Each turn leaves half of the blocks between them, so they meet at the first block that
-    // doesn't end before the item.
+    // The blocks before `low` end before the item. The one at `high` doesn't, and its bounds are in `found`, unless
+    // `high` is still the end of the chain. Each turn leaves half of the blocks between them, so they meet at the first
+    // block that doesn't end before the item.
     while low < high {
         let middle = middle_of(low, high);
         let (min, max) = chain.read(middle);
@@ -46,8 +46,8 @@ pub fn first_from<T: Block, R: Reads<T>>(chain: &mut R, item: T::Item) -> Option
     found
 }
 
-/// Whether the chain has an item, as [`crate::chain::Chain::contains_item`] answers it. It reads at most as many blocks as
-/// their number has binary digits, and none where there are none.
+/// Whether the chain has an item, as [`crate::chain::Chain::contains_item`] answers it. It reads at most as many blocks
+/// as their number has binary digits, and none where there are none.
 pub fn contains_item_counted<T: Block, R: Reads<T>>(chain: &mut R, item: T::Item) -> bool
     ensures value { IsTrue result ↔ Covers T.bounds (R.blocks chain.old) (T.number item) }
     ensures kept { R.blocks chain.new ≡ R.blocks chain.old }

@@ -76,9 +76,9 @@ pub fn first_overhang<T: Block, X: Reads<T>, Y: Reads<T>>(
             other: None,
         });
     };
-    // What comes before the one chain's block at hand lies in the other chain, and what comes before the other's block at
-    // hand comes before that block too. A turn passes one of the two blocks, so the walk ends; a block that some block of
-    // the other doesn't hold ends it at once, since chains have gaps between their blocks.
+    // What comes before the one chain's block at hand lies in the other chain, and what comes before the other's block
+    // at hand comes before that block too. A turn passes one of the two blocks, so the walk ends; a block that some
+    // block of the other doesn't hold ends it at once, since chains have gaps between their blocks.
     loop {
         match fit_in::<T>(own_block.0, own_block.1, other_block.0, other_block.1) {
             Fit::Skip => {

@@ -95,8 +95,8 @@ impl<T: Block, A: Allocator> OwnedChain<T, A> {
     }
 }
 
-/// Puts blocks that are made anew, each of its bounds, into an empty vector. So a block in the form that `new` gives comes
-/// out as it was.
+/// Puts blocks that are made anew, each of its bounds, into an empty vector. So a block in the form that `new` gives
+/// comes out as it was.
 fn rebuild<T: Block, A: Allocator>(new: &mut Vec<T, A>, blocks: &[T]) -> Result<(), AllocError>
     requires { new.old.items ≡ [] }
     ensures bounds { OnOk result (map T.bounds new.new.items ≡ map T.bounds blocks.now) }

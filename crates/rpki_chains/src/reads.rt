@@ -1,4 +1,5 @@
-//! The seam between chains and the walks over them: blocks are read by their place, one at a time, and reads are counted.
+//! The seam between chains and the walks over them: blocks are read by their place, one at a time, and reads are
+//! counted.
 ghost use Rattle.std.specs.Prelude.{◌≡◌, ℕ, ◌+◌, ◌^◌, ◌<◌, ◌≤◌, List, length, slice_index_or, IfSome, is_some, if◌then◌else◌};
 ghost use Rattle.rpki_chains.specs.Sets.{IsChain, HoldsBlock, numbers};
 

@@ -46,8 +46,8 @@ impl<T: Block, A: Allocator> SharedChain<T, A> {
         Ok(SharedChain { chain: Some(chain) })
     }
 
-    /// The chain of the numbers that the blocks cover, as `OwnedChain::from_blocks` makes it. `AllocError` where there is no
-    /// memory for it.
+    /// The chain of the numbers that the blocks cover, as `OwnedChain::from_blocks` makes it. `AllocError` where there
+    /// is no memory for it.
     pub fn from_blocks(alloc: A, blocks: &[T]) -> Result<Self, AllocError>
     where
         A: Copy,

@@ -46,8 +46,8 @@ fn earlier<T: Block>(block: (T::Item, T::Item), other: (T::Item, T::Item)) -> (T
     if block.0 <= other.0 { block } else { other }
 }
 
-/// The chain of what a chain and the run at hand hold, and of the blocks of another chain that are left. The first of them
-/// is at hand; those behind it are read once each.
+/// The chain of what a chain and the run at hand hold, and of the blocks of another chain that are left. The first of
+/// them is at hand; those behind it are read once each.
 fn close_with<T: Block, A: Allocator, R: Reads<T>>(
     mut chain: Vec<T, A>,
     mut run: (T::Item, T::Item),
@@ -67,8 +67,8 @@ fn close_with<T: Block, A: Allocator, R: Reads<T>>(
 {
     // The length is asked for what its contract tells: that the blocks are a chain, of fewer than 2^64 blocks.
     let _len = rest.len();
-    // The run begins no later than the block at hand, and all blocks of `chain` end before it and don't touch it. A turn
-    // takes that block in, so the walk ends, and nothing is left then.
+    // The run begins no later than the block at hand, and all blocks of `chain` end before it and don't touch it. A
+    // turn takes that block in, so the walk ends, and nothing is left then.
     loop {
         take_in(&mut chain, &mut run, block)?;
         at += 1;
@@ -81,8 +81,8 @@ fn close_with<T: Block, A: Allocator, R: Reads<T>>(
     Ok(OwnedChain::from_vec_unchecked(chain))
 }
 
-/// The chain of the numbers that one chain or the other has, as [`crate::chain::Chain::union`] answers it. Both together
-/// are read no more often than they have blocks: each turn is done with one block, the one that begins first.
+/// The chain of the numbers that one chain or the other has, as [`crate::chain::Chain::union`] answers it. Both
+/// together are read no more often than they have blocks: each turn is done with one block, the one that begins first.
 pub fn union_counted<T: Block, A: Allocator, X: Reads<T>, Y: Reads<T>>(
     alloc: A,
     own: &mut X,
@@ -110,9 +110,9 @@ pub fn union_counted<T: Block, A: Allocator, X: Reads<T>, Y: Reads<T>>(
     };
     let mut own_at = 0;
     let mut other_at = 0;
-    // A run is at hand, which begins no later than the blocks at hand; all blocks of `chain` end before it and don't touch
-    // it. At first it is the block that begins first, and the first turn takes it in once more. A turn is done with the
-    // block that begins first, so the walk ends, and nothing that comes later reaches a run that was closed.
+    // A run is at hand, which begins no later than the blocks at hand; all blocks of `chain` end before it and don't
+    // touch it. At first it is the block that begins first, and the first turn takes it in once more. A turn is done
+    // with the block that begins first, so the walk ends, and nothing that comes later reaches a run that was closed.
     let mut run = earlier::<T>(own_block, other_block);
     loop {
         if own_block.0 <= other_block.0 {

@@ -88,7 +88,8 @@ pub fn take_families<R: ReadClaim>(
     next_families(reader, cursor)
 }
 
-// The reading behind the take, whose further clauses, `reads` and `exact`, follow from `by_mode` by theorems on the grammar.
+// The reading behind the take, whose further clauses, `reads` and `exact`, follow from `by_mode` by theorems on the
+// grammar.
 #[tactic(auto, unfolding(rpki_der::specs::Reading::refined))]
 fn next_families<R: ReadClaim>(
     reader: &R,

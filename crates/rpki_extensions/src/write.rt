@@ -29,9 +29,9 @@ pub fn write_numbers_claim<A: Allocator>(
     Ok(Some(octets))
 }
 
-/// The octets of IP address blocks (RFC 3779, 2.2.3) that make the claims on IPv4 and on IPv6, in their one form, or None
-/// where both are missing and the extension is absent. They are read back in either encoding, where what is claimed of
-/// IPv4 consists of whole addresses. `AllocError` where there is no memory for them.
+/// The octets of IP address blocks (RFC 3779, 2.2.3) that make the claims on IPv4 and on IPv6, in their one form, or
+/// None where both are missing and the extension is absent. They are read back in either encoding, where what is
+/// claimed of IPv4 consists of whole addresses. `AllocError` where there is no memory for them.
 pub fn write_address_claims<A: Allocator>(
     alloc: A,
     v4: &IpResources<A>,
@@ -53,8 +53,8 @@ pub fn write_address_claims<A: Allocator>(
     Ok(Some(octets))
 }
 
-/// The octets of AS identifiers that list the AS numbers of a set, as by [`write_numbers_claim`], or None where there are
-/// none and the extension is absent. `AllocError` where there is no memory for them.
+/// The octets of AS identifiers that list the AS numbers of a set, as by [`write_numbers_claim`], or None where there
+/// are none and the extension is absent. `AllocError` where there is no memory for them.
 pub fn write_numbers<A: Allocator + Copy>(
     alloc: A,
     set: &ResourceSet<A>,
@@ -69,8 +69,8 @@ pub fn write_numbers<A: Allocator + Copy>(
     write_numbers_claim(alloc, &claim)
 }
 
-/// The octets of IP address blocks that list the addresses of a set, as by [`write_address_claims`], or None where there
-/// are none and the extension is absent. `AllocError` where there is no memory for them.
+/// The octets of IP address blocks that list the addresses of a set, as by [`write_address_claims`], or None where
+/// there are none and the extension is absent. `AllocError` where there is no memory for them.
 pub fn write_addresses<A: Allocator + Copy>(
     alloc: A,
     set: &ResourceSet<A>,

@@ -97,8 +97,8 @@ impl Iterator for V4Prefixes {
 }
 
 impl AddressRange {
-    /// The shortest list of prefixes that covers the range, ascending: all prefixes inside it that have length 0 or whose
-    /// parent, which is one bit shorter, isn't inside. They are at most 254.
+    /// The shortest list of prefixes that covers the range, ascending: all prefixes inside it that have length 0 or
+    /// whose parent, which is one bit shorter, isn't inside. They are at most 254.
     pub fn to_v6_prefixes(self) -> V6Prefixes
         ensures cover { IsShortestCover 128 (IsWithin (range_bounds self)) result }
         ensures few { length result ≤ 254 }
@@ -109,9 +109,9 @@ impl AddressRange {
         }
     }
 
-    /// The same for the IPv4 addresses that the first 32 bits of the range's bounds are, with lengths up to 32. They are
-    /// at most 62 prefixes. Of a range of whole IPv4 addresses, which [`AddressRange::is_whole_v4`] tells, it is the list
-    /// that [`AddressRange::to_v6_prefixes`] gives.
+    /// The same for the IPv4 addresses that the first 32 bits of the range's bounds are, with lengths up to 32. They
+    /// are at most 62 prefixes. Of a range of whole IPv4 addresses, which [`AddressRange::is_whole_v4`] tells, it is
+    /// the list that [`AddressRange::to_v6_prefixes`] gives.
     pub fn to_v4_prefixes(self) -> V4Prefixes
         ensures cover { IsV4CoverList (IsWithin (self.min / 2 ^ 96, self.max / 2 ^ 96)) result }
         ensures whole { HasWholeBounds (range_bounds self)

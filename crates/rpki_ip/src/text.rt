@@ -1,7 +1,7 @@
 //! Texts of prefixes and ranges, read and printed.
 //!
-//! A text is read as one of IPv4, as one of IPv6, or as one of either family. It is printed as one of IPv4, by the first
-//! 32 bits of each address, or as one of IPv6.
+//! A text is read as one of IPv4, as one of IPv6, or as one of either family. It is printed as one of IPv4, by the
+//! first 32 bits of each address, or as one of IPv6.
 ghost use Rattle.std.specs.Prelude.{◌≡◌, ◌↔◌, IsTrue, None, Some, MatchResult};
 ghost use Rattle.std.specs.Fmt.{WritesOnOk};
 ghost use Rattle.rpki_text.specs.Reading.{Answers};
@@ -89,8 +89,8 @@ pub fn range_between(
     range_from(first, last)
 }
 
-/// The range from one address to another of its family. Where there is none, it is first their families that differ, and
-/// then their order.
+/// The range from one address to another of its family. Where there is none, it is first their families that differ,
+/// and then their order.
 fn range_from(first: IpAddr, last: IpAddr) -> Result<AddressRange, FromStrError>
     ensures { MatchResult result (IsRangeFrom first last) (HasPairFault first last) }
 {
@@ -241,8 +241,8 @@ impl AddressRange {
         read_range(Some(AddressFamily::Ipv6), text)
     }
 
-    /// Writes the range as one of the family: the least and the greatest address, in IPv4 the first 32 bits of each, with
-    /// a dash between them, or only one where they are alike.
+    /// Writes the range as one of the family: the least and the greatest address, in IPv4 the first 32 bits of each,
+    /// with a dash between them, or only one where they are alike.
     pub fn fmt_as<W: fmt::Write>(
         &self,
         family: AddressFamily,

@@ -28,8 +28,8 @@ impl IpBlock {
         IpBlock::Prefix(Prefix::all())
     }
 
-    /// The block from the first address of a pair to the second, which isn't below it. It is a Prefix where a prefix has
-    /// exactly these addresses, and else a Range.
+    /// The block from the first address of a pair to the second, which isn't below it. It is a Prefix where a prefix
+    /// has exactly these addresses, and else a Range.
     pub fn from_pair(pair: (Addr, Addr)) -> IpBlock
         requires { pair.0 ≤ pair.1 }
         ensures bounds { ip_bounds result ≡ pair }

@@ -25,8 +25,8 @@ pub(crate) fn has_byte(byte: u8, text: &str) -> bool
     text.as_bytes().contains(&byte)
 }
 
-/// The block that a text writes, in the family that is wanted or in either: a prefix round its first slash, else a range
-/// round its first dash, else one address.
+/// The block that a text writes, in the family that is wanted or in either: a prefix round its first slash, else a
+/// range round its first dash, else one address.
 pub(crate) fn read_block(wanted: Option<AddressFamily>, text: &str) -> Result<IpBlock, FromStrError>
     ensures { Answers (IsIpBlockText wanted text.now) (HasIpBlockFault wanted text.now) result }
 {
@@ -40,11 +40,11 @@ pub(crate) fn read_block(wanted: Option<AddressFamily>, text: &str) -> Result<Ip
 }
 
 impl IpBlock {
-    /// Reads an IPv4 prefix round the first slash of a text; where there is none, a range round its first dash; and with
-    /// neither, one address as a Range. The bits behind a prefix's length are cleared.
+    /// Reads an IPv4 prefix round the first slash of a text; where there is none, a range round its first dash; and
+    /// with neither, one address as a Range. The bits behind a prefix's length are cleared.
     ///
-    /// The fault is the first that is met: [`FromStrError::Addr`] of an address; [`FromStrError::PrefixLen`] of a length,
-    /// also of one above 32; [`FromStrError::BadRange`] where the first address of a range is above the second.
+    /// The fault is the first that is met: [`FromStrError::Addr`] of an address; [`FromStrError::PrefixLen`] of a
+    /// length, also of one above 32; [`FromStrError::BadRange`] where the first address of a range is above the second.
     pub fn from_v4_str(text: &str) -> Result<IpBlock, FromStrError>
         ensures exact { Answers (IsIpBlockText (Some Ipv4) text.now)
             (HasIpBlockFault (Some Ipv4) text.now) result }
@@ -113,8 +113,8 @@ impl IpBlock {
     }
 }
 
-/// Reads a block of addresses of either family, as [`IpBlock::from_v4_str`] reads one of IPv4. Where the two addresses of
-/// a range are of two families, the text is refused by [`FromStrError::FamilyMismatch`].
+/// Reads a block of addresses of either family, as [`IpBlock::from_v4_str`] reads one of IPv4. Where the two addresses
+/// of a range are of two families, the text is refused by [`FromStrError::FamilyMismatch`].
 impl FromStr for IpBlock {
     type Err = FromStrError;
 

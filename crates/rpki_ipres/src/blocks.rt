@@ -75,8 +75,8 @@ impl<A: Allocator> IpBlocks<A> {
         Ok(IpBlocks::from_set(set))
     }
 
-    /// The set of the addresses that some block has, made in the memory of the blocks, which may come in any order and may
-    /// overlap. `AllocError` where there is no memory for what its owners share.
+    /// The set of the addresses that some block has, made in the memory of the blocks, which may come in any order and
+    /// may overlap. `AllocError` where there is no memory for what its owners share.
     pub fn from_vec(alloc: A, blocks: Vec<IpBlock, A>) -> Result<IpBlocks<A>, AllocError>
         ensures { IfOk result (IsRunsOfBlocks ip_bounds blocks.items) }
     {
@@ -84,8 +84,8 @@ impl<A: Allocator> IpBlocks<A> {
         Ok(IpBlocks::from_set(set))
     }
 
-    /// The set of blocks that are its runs as they stand, each in the form that sets have. `AllocError` where there is no
-    /// memory for what its owners share.
+    /// The set of blocks that are its runs as they stand, each in the form that sets have. `AllocError` where there is
+    /// no memory for what its owners share.
     pub(crate) fn from_vec_unchecked(
         alloc: A,
         blocks: Vec<IpBlock, A>,
@@ -189,15 +189,16 @@ impl<A: Allocator> IpBlocks<A> {
 
     /// The set that a list of blocks writes: of IPv6 if a colon stands anywhere in it, and else of IPv4. The text is
     /// cut at commas, white space round an element is dropped, and so is an element that is empty then. `Refused` with
-    /// [`FromStrError::FamilyMismatch`] where an element is no block of the family; `Memory` where there is no memory for
-    /// the set.
+    /// [`FromStrError::FamilyMismatch`] where an element is no block of the family; `Memory` where there is no memory
+    /// for the set.
     pub fn from_str(alloc: A, text: &str) -> Result<IpBlocks<A>, OrMemory<FromStrError>>
     where
         A: Copy,
         ensures exact { AnswersOrMemory (λ set. set) (IsSetOf (HasIpBlocks text.now))
             (HasIpBlocksFault text.now) result }
         ensures whole { IfOk result (λ set. IsFamilyOf text.now Ipv4 → IsWhole (Holds set)) }
-        // What is printed of a set is read as that set: in IPv4 where it consists of whole IPv4 addresses, in IPv6 always.
+        // What is printed of a set is read as that set: in IPv4 where it consists of whole IPv4 addresses, in IPv6
+        // always.
         ensures reads_back { (family : _) (set : Runs) → IsFamilySet family set
             → text.now ≡ set_text family set
             → MatchResult result (λ read. read ≡ set) IsMemory }

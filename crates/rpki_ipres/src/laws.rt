@@ -1,4 +1,5 @@
-//! Laws of what the calls on sets answer, and of what is printed of sets. Each holds of any answers that meet the calls' contracts.
+//! Laws of what the calls on sets answer, and of what is printed of sets. Each holds of any answers that meet the
+//! calls' contracts.
 ghost use Rattle.std.specs.Prelude.{◌≡◌, ℕ, List, ◌↔◌, All};
 ghost use Rattle.rpki_chain.specs.Claims.{Claim};
 ghost use Rattle.rpki_chain.specs.Operations.{IsUnion, IsIntersection, IsDifference};
@@ -46,7 +47,8 @@ pub fn laws_of_whole_claims()
         IsWhole (Holds refusal.fault) }
 {}
 
-/// Resources of addresses are resources of IPv6, and of IPv4 exactly where what they list consists of whole IPv4 addresses.
+/// Resources of addresses are resources of IPv6, and of IPv4 exactly where what they list consists of whole IPv4
+/// addresses.
 pub fn claims_of_families()
     ensures v4 { (claim : Claim) → IsIpClaim claim → IsWholeClaim claim → IsFamilyClaim Ipv4 claim }
     ensures whole { (claim : Claim) → IsFamilyClaim Ipv4 claim → IsWholeClaim claim }

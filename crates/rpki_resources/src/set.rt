@@ -17,8 +17,8 @@ use std::alloc::{AllocError, Allocator, Global};
 use std::fmt;
 use std::marker::Model;
 
-/// A set of AS numbers, one of IPv4 addresses and one of IPv6 addresses. Sets of the same numbers and addresses are equal
-/// and print alike. Their memory may have several owners, and empty ones have none.
+/// A set of AS numbers, one of IPv4 addresses and one of IPv6 addresses. Sets of the same numbers and addresses are
+/// equal and print alike. Their memory may have several owners, and empty ones have none.
 ///
 /// Contracts see the three as the ascending lists of their runs; that of IPv4 consists of whole addresses.
 #[derive(Drop)]

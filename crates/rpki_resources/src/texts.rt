@@ -50,8 +50,8 @@ fn of_ipv6(fault: OrMemory<rpki_ip::error::FromStrError>) -> OrMemory<FromStrErr
 
 impl<A: Allocator> ResourceSet<A> {
     /// The set that three lists of blocks write, each as [`AsBlocks::from_str`], [`Ipv4Blocks::from_str`] and
-    /// [`Ipv6Blocks::from_str`] read it. They are read in this order. `Refused` with the fault of the first that can't be
-    /// read; `Memory` where there is no memory for its set.
+    /// [`Ipv6Blocks::from_str`] read it. They are read in this order. `Refused` with the fault of the first that can't
+    /// be read; `Memory` where there is no memory for its set.
     pub fn from_strs(
         alloc: A,
         asn: &str,

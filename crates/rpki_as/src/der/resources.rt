@@ -34,8 +34,8 @@ impl<A: Allocator> AsResources<A> {
     /// content; the fault of a block as in [`AsBlock::take_opt_from`](crate::block::AsBlock::take_opt_from);
     /// `EmptyBlocks` for a SEQUENCE of no block; and then `TrailingData` for octets that are left in one of the two
     /// that enclose it. From a strict cursor also `NotCanonical` as in
-    /// [`AsBlocks::take_from`](crate::blocks::AsBlocks::take_from). `Memory` where there is no memory for the blocks. The
-    /// cursor then stays.
+    /// [`AsBlocks::take_from`](crate::blocks::AsBlocks::take_from). `Memory` where there is no memory for the blocks.
+    /// The cursor then stays.
     pub fn take_from(
         alloc: A,
         cursor: &mut Cursor<'_>,

@@ -133,7 +133,8 @@ pub fn take_sequence_of<R: ReadNext, A: Allocator>(
     next_sequence(alloc, reader, cursor)
 }
 
-// The reading behind the take, whose further clauses, `reads` and `exact`, follow from `by_mode` by theorems on the grammar.
+// The reading behind the take, whose further clauses, `reads` and `exact`, follow from `by_mode` by theorems on the
+// grammar.
 #[tactic(auto, unfolding(rpki_der::specs::Reading::refined))]
 fn next_sequence<R: ReadNext, A: Allocator>(
     alloc: A,

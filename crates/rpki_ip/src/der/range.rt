@@ -23,9 +23,9 @@ impl AddressRange {
         header_len(tag::SEQUENCE, content_len) + content_len
     }
 
-    /// Appends the SEQUENCE of the range (RFC 3779, 2.2.3.9): the least address without all the zero bits at its end, and
-    /// the greatest without all the one bits at its end. `AllocError` where there is no memory for it; then the octets stay
-    /// as they were.
+    /// Appends the SEQUENCE of the range (RFC 3779, 2.2.3.9): the least address without all the zero bits at its end,
+    /// and the greatest without all the one bits at its end. `AllocError` where there is no memory for it; then the
+    /// octets stay as they were.
     pub fn encode<A: Allocator>(&self, out: &mut Vec<u8, A>) -> Result<(), AllocError>
         ensures range { IsRange self.now }
         ensures ok { OnOk result (out.new.items ≡ out.old.items ++ range_der self.now) }

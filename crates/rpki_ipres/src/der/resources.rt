@@ -106,8 +106,8 @@ impl<A: Allocator> IpResources<A> {
         put_family(out, family, &resources)
     }
 
-    // How many octets stand in the SEQUENCE of the blocks, or else in all that is written of the resources; None where no
-    // vector can hold them.
+    // How many octets stand in the SEQUENCE of the blocks, or else in all that is written of the resources; None where
+    // no vector can hold them.
     fn content_len(&self) -> Option<usize>
         ensures some { IfSome result (λ n. n ≡ length (ip_content_der self.now)) }
         ensures few { IfSome result (λ n. n < 2 ^ 63) }
@@ -130,7 +130,8 @@ impl<A: Allocator> IpResources<A> {
         family_len(family, &resources, content_len)
     }
 
-    // Appends what `encode_family` does, where there is room for it, of resources whose content has `content_len` octets.
+    // Appends what `encode_family` does, where there is room for it, of resources whose content has `content_len`
+    // octets.
     fn append_member<B: Allocator>(
         &self,
         family: AddressFamily,
@@ -156,8 +157,8 @@ impl<A: Allocator> IpResources<A> {
     ///
     /// `Refused` with the first fault: that of a SEQUENCE or of a family; `DuplicateFamily` for a family that was there
     /// before, ahead of its resources; that of its resources as in `take_from`; `TrailingData` for octets that are left
-    /// behind them; `NoFamily` where the SEQUENCE is empty. From a strict cursor also `NotCanonical` for IPv4 behind IPv6,
-    /// ahead of its resources. `Memory` where there is no memory for the blocks. The cursor then stays.
+    /// behind them; `NoFamily` where the SEQUENCE is empty. From a strict cursor also `NotCanonical` for IPv4 behind
+    /// IPv6, ahead of its resources. `Memory` where there is no memory for the blocks. The cursor then stays.
     pub fn take_families_from(
         alloc: A,
         cursor: &mut Cursor<'_>,

@@ -9,7 +9,7 @@ ghost use Rattle.rpki_chain.specs.ChoiceEquality.{choice_eq, choice_per, choice_
 ghost use Rattle.rpki_chain.specs.Claims.{ListsSome, claim_of};
 ghost use Rattle.rpki_chain.specs.declared.choice.ResourcesChoice.TheVariants.{Missing, Inherit};
 ghost use Rattle.rpki_ip_block.specs.BlockDer.{ip_block_der};
-ghost use Rattle.rpki_ipres.specs.Resources.{IsIpClaim};
+ghost use Rattle.rpki_ipres.specs.Resources.{IsIpClaim, IsWholeClaim};
 ghost use Rattle.rpki_ipres.specs.ResourcesDer.{ip_content_der, ip_resources_der};
 
 use crate::blocks::IpBlocks;
@@ -91,8 +91,22 @@ impl<A: Allocator> IpResources<A> {
     pub fn is_present(&self) -> bool
         ensures present { IsTrue result ↔ (self.now ≢ Missing) }
         ensures some { ListsSome self.now }
+        ensures claim { IsIpClaim self.now }
     {
+        // what is listed is canonical: the set in the choice tells it
+        let _listed = self.as_choice();
         self.choice.is_present()
+    }
+
+    /// Whether what is listed consists of whole IPv4 addresses, as by [`IpBlocks::is_whole_v4`]. Nothing is listed of
+    /// missing and of inherited resources.
+    pub fn is_whole_v4(&self) -> bool
+        ensures { IsTrue result ↔ IsWholeClaim self.now }
+    {
+        match &self.choice {
+            ResourcesChoice::Missing | ResourcesChoice::Inherit => true,
+            ResourcesChoice::Blocks(blocks) => blocks.is_whole_v4(),
+        }
     }
 
     /// The set that is listed, and the set of no addresses where the resources are missing. `Refused` where they are

@@ -28,7 +28,10 @@ JOBS = ["--jobs", "1"]
 
 def git(*words: str) -> list[str]:
     """The lines that git answers."""
-    return subprocess.run(["git", "-C", TOP, *words], capture_output=True, text=True, check=True).stdout.splitlines()
+    ran = subprocess.run(["git", "-C", TOP, *words], capture_output=True, text=True)
+    if ran.returncode:
+        sys.exit(f"edits.py: {ran.stderr.strip()}: name crates, or take --all")
+    return ran.stdout.splitlines()
 
 
 def touched(kit) -> tuple[set[str], set[str]]:
@@ -36,7 +39,7 @@ def touched(kit) -> tuple[set[str], set[str]]:
     since = REVISION.read_text().strip()
     files = git("diff", "--name-only", "--no-renames", since, "--", "crates")
     files += git("ls-files", "--others", "--exclude-standard", "--", "crates")
-    parts = [file.split("/")[1:3] for file in files]
+    parts = [file.split("/")[1:3] for file in files if file.count("/") > 1]
     code = {crate for crate, part in parts if part in kit.rtlib.PARTS}
     return code | {crate for crate, part in parts if part in FOLDERS}, code
 

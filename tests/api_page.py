@@ -11,6 +11,7 @@ import re
 import sys
 from collections.abc import Iterator
 from dataclasses import dataclass, field, replace
+from functools import cache
 from pathlib import Path
 
 from rooms import ROOMS, about, crates_of, is_program, room_of, stands_on
@@ -214,6 +215,7 @@ def modules(folder: Path, file: Path, is_public: bool) -> Iterator[tuple[Path, b
             yield from modules(inner, there, is_public and it[1] is not None)
 
 
+@cache
 def items_of(crate: str) -> list[Item]:
     """The public items of a crate, by name; of one that is called from C those of all its modules."""
     folder = TOP / "crates" / crate / "src"
@@ -285,11 +287,44 @@ def part(title: str, items: list[Item]) -> Iterator[str]:
     """A part of a page, or nothing where it has no items."""
     if not items:
         return
-    links = (f"[{it.name}](#{re.sub(r'[^a-z0-9_ -]', '', it.path.lower()).replace(' ', '-')})" for it in items)
+    links = (f"[{it.name}]({anchor(it.path)})" for it in items)
     yield from [f"## {title}", "", ", ".join(links), ""]
     for item in items:
         yield from [f"### {item.path}", "", *item.doc, *([""] if item.doc else [])]
         yield from [*(["```rust", *item.code, "```"] if item.code else []), *calls_of(item), ""]
+
+
+def anchor(path: str) -> str:
+    """The link to a heading, as GitHub makes it."""
+    return "#" + re.sub(r"[^a-z0-9_ -]", "", path.lower()).replace(" ", "-")
+
+
+@cache
+def place_of(crate: str, name: str) -> str | None:
+    """The link to the page of a type or call that a crate offers, where it stands in it or in one below it."""
+    for it in items_of(crate):
+        if it.name == name:
+            return f"{crate}.md{anchor(it.path)}"
+    places = (place_of(below, name) for below in stands_on()[crate] if below in libraries())
+    return next((it for it in places if it), None)
+
+
+def named_again(crate: str) -> Iterator[str]:
+    """What the public modules of a crate name again of other libraries, a line for each module."""
+    folder = TOP / "crates" / crate / "src"
+    lines = []
+    for path, is_public in modules(folder, folder / "lib.rt", True):
+        inside = path.relative_to(folder).with_suffix("").parts
+        links = []
+        for other, rest in re.findall(r"^pub use (\w+)::([^;]*);", path.read_text(), re.M):
+            for name in re.findall(r"\w+", rest.rsplit("::", 1)[-1]) if is_public and other in libraries() else ():
+                if place := place_of(other, name):
+                    links.append(f"[{name}]({place})")
+        if links:
+            module = "::".join([crate, *(it for it in inside if it not in ("lib", "mod"))])
+            lines.append(f"- `{module}`: {', '.join(links)}")
+    if lines:
+        yield from ["## Named again", "", *lines, ""]
 
 
 def page(crate: str) -> str:
@@ -299,7 +334,8 @@ def page(crate: str) -> str:
     first = re.match(r"(?://! ?(?!\n)[^\n]*\n)*", text)[0]
     said = "\n".join(line[3:].strip() for line in first.splitlines())
     out = [f"# {crate}", "", CRATE_HEAD.format(about=said)]
-    out += [*part("Types and calls", offered), *part("Seams, for the crates above", seams), *part("Laws", laws)]
+    out += [*part("Types and calls", offered), *named_again(crate)]
+    out += [*part("Seams, for the crates above", seams), *part("Laws", laws)]
     return re.sub(r"\n{3,}", "\n\n", "\n".join(out)).rstrip() + "\n"
 
 

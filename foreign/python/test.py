@@ -256,15 +256,36 @@ def defaults(library: Pigyelund, _: Path) -> Iterator[str]:
     named = [Validity.VALID, Validity.INVALID, Validity.NOT_FOUND, Validity.INVALID]
     if library.origins(iter([Payload.of(TEN, 1, 9)]), iter(routes)) != named:
         yield "validities"
-    twice = bytes.fromhex("3011300f0402000130090302000a0303000a00")
     claim = Extensions(ip=bytes.fromhex("3010300e0402000130080302000a0302000c"))
-    try:
-        yield f"an excess answers {library.verify(ISSUER, claim)}"
-    except Overclaimed as reason:
-        if reason.excess.ip.hex() != "300c300a0402000130040302000c":
-            yield "another excess"
-    if not library.equal(Resources(ip=twice), ISSUER):
-        yield "the encoding isn't lenient"
+    for refused_call in (
+        lambda: library.verify(ISSUER, claim),
+        lambda: library.verify_path(ISSUER, [Certificate(claim)]),
+    ):
+        try:
+            yield f"an excess answers {refused_call()}"
+        except Overclaimed as reason:
+            if reason.excess.ip.hex() != "300c300a0402000130040302000c":
+                yield "another excess"
+
+
+def lenient(library: Pigyelund, _: Path) -> Iterator[str]:
+    """Octets that aren't canonical are read where no encoding is given."""
+    twice = Resources(ip=bytes.fromhex("3011300f0402000130090302000a0303000a00"))
+    certificate = Extensions(ip=twice.ip)
+    for call, answer in (
+        (lambda: library.verify(twice, certificate), ISSUER),
+        (lambda: library.verify_path(twice, [Certificate(certificate)]), ISSUER),
+        (lambda: library.cover(twice.ip, Family.V4), [TEN]),
+        (lambda: library.union(twice, twice), ISSUER),
+        (lambda: library.intersection(twice, twice), ISSUER),
+        (lambda: library.difference(twice, twice), Resources()),
+        (lambda: library.contains(twice, twice), True),
+        (lambda: library.equal(twice, ISSUER), True),
+        (lambda: library.made(Operation.UNION, twice, twice), ISSUER),
+        (lambda: library.tested(Test.EQUAL, twice, ISSUER), True),
+    ):
+        if (found := call()) != answer:
+            yield f"{found} in place of {answer}"
 
 
 def is_kept(reason: Refused) -> bool:
@@ -304,7 +325,7 @@ def reasons(library: Pigyelund, _: Path) -> Iterator[str]:
         yield "want of memory"
 
 
-OTHERS = names_and_numbers, texts, no_bits_are_dropped, defaults, reasons
+OTHERS = names_and_numbers, texts, no_bits_are_dropped, defaults, lenient, reasons
 
 
 def main() -> int:

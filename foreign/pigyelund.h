@@ -143,9 +143,9 @@ typedef struct {
   uint8_t family, len;
 } pg_route;
 
-/* The validity of each route by the payloads, one octet each: PG_VALID, PG_NOT_FOUND or PG_INVALID. Payloads come in any
- * order. A table is made of them once in a call, so a call asks best for many routes. Where a payload is none, or else
- * a route, the status is that of the first one, *place is its place, counted from 0, *len is 0 and the room is
+/* The validity of each route by the payloads, one octet each: PG_VALID, PG_NOT_FOUND or PG_INVALID. Payloads come in
+ * any order. A table is made of them once in a call, so a call asks best for many routes. Where a payload is none, or
+ * else a route, the status is that of the first one, *place is its place, counted from 0, *len is 0 and the room is
  * untouched: its family, its prefix, then its greatest length. Else *place is 0. */
 uint32_t pg_origins(const pg_payload *payloads, size_t payload_count, const pg_route *routes, size_t route_count,
                     uint8_t *out, size_t room, size_t *len, size_t *place);
@@ -216,7 +216,7 @@ static inline const char *pg_status_text(uint32_t status) {
   return "unknown status";
 }
 
-/* The calls with fewer words: where a pointer is null there are no octets and no room, whatever the length beside it. */
+/* The calls with fewer words: where a pointer is null there are no octets and no room, whatever the length beside it */
 typedef struct {
   const uint8_t *as;
   size_t as_len;

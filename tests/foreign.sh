@@ -1,8 +1,8 @@
 #!/usr/bin/env bash
 # foreign.sh [LIBRARY]: builds the static library by rt lib, or takes that file in its place, and tests it from C, Rust
 # and Python: by the rows of foreign/rows.txt, by names, numbers and texts, by the programs of docs/FOREIGN.md, and by
-# packages that are installed. What isn't there to test with is named, and what needs it left out. Status 0 where nothing
-# failed.
+# packages that are installed. What isn't there to test with is named, and what needs it left out. Status 0 where
+# nothing failed.
 cd "$(dirname "$0")/.." || exit 1
 export KIT=${KIT:-$(dirname "$(dirname "$(readlink -f "$(command -v rt)")")")}
 export LIB=${1:-$PWD/crates/pigyelund_c/out/libpigyelund_c.a}

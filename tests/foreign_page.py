@@ -50,7 +50,8 @@ def of_library() -> dict[str, int]:
     specs = "".join((CRATE / "specs" / f"{name}.antt").read_text() for name in ("Numbers", "Origins"))
     choices = dict(re.findall(r"^(\w+_number \w+) = (\d+)$", specs, re.MULTILINE))
     found |= {name: int(choices[of]) for name, of in CHOICES.items()}
-    version = re.search(r"fn pg_version\(\) -> u32\s+ensures \{ result ≡ (\d+) \}", (CRATE / "src" / "verify.rt").read_text())
+    calls = (CRATE / "src" / "verify.rt").read_text()
+    version = re.search(r"fn pg_version\(\) -> u32\s+ensures \{ result ≡ (\d+) \}", calls)
     return found | {"VERSION": int(version[1])} if version else found
 
 

@@ -1,7 +1,8 @@
 #!/usr/bin/env bash
-# Makes a release and a Debian package of this tree, and tries them: the sums hold, the archive is made alike twice, each
-# line of the manual's examples is answered as it stands there, a program in C builds by what is unpacked, and the package
-# installs below a clean root and answers. What isn't there to test with is named. Status 0 where nothing failed.
+# Makes a release and a Debian package of this tree, and tries them: the sums hold, the archive is made alike twice,
+# each line of the manual's examples is answered as it stands there, a program in C builds by what is unpacked, and the
+# package installs below a clean root and answers. What isn't there to test with is named. Status 0 where nothing
+# failed.
 cd "$(dirname "$0")/.." || exit 1
 out=$(mktemp -d) || exit 1
 trap 'rm -rf "$out"' EXIT

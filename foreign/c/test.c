@@ -1,6 +1,6 @@
 /* test FOLDER, which has rows.txt and texts.txt: asks each row, with rooms of each length from 0 to what is wanted and
- * one more, and looks that nothing is written but what is told; then all rows on eight threads at once. Inputs and rooms
- * are blocks of their own, so that valgrind sees an octet too far. */
+ * one more, and looks that nothing is written but what is told; then all rows on eight threads at once. Inputs and
+ * rooms are blocks of their own, so that valgrind sees an octet too far. */
 #include "../pigyelund.h"
 #include <pthread.h>
 #include <stdatomic.h>

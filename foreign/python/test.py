@@ -250,7 +250,8 @@ def no_bits_are_dropped(library: Pigyelund, _: Path) -> Iterator[str]:
 def defaults(library: Pigyelund, _: Path) -> Iterator[str]:
     """What stands for what isn't given: a payload's length, the encoding, the mode."""
     long = IPv4Network("10.0.0.0/9")
-    if library.origins([Payload.of(TEN, 1)], [Route.of(TEN, 1), Route.of(long, 1)]) != [Validity.VALID, Validity.INVALID]:
+    asked = [Route.of(TEN, 1), Route.of(long, 1)]
+    if library.origins([Payload.of(TEN, 1)], asked) != [Validity.VALID, Validity.INVALID]:
         yield "the greatest length of a payload is not its own"
     routes = [Route.of(TEN, 1), Route.of(TEN, 2), Route.of(IPv6Network("::/0"), 1), Route.of(TEN, 0)]
     named = [Validity.VALID, Validity.INVALID, Validity.NOT_FOUND, Validity.INVALID]

@@ -1,5 +1,5 @@
-"""The calls as `pigyelund.h` has them, through ctypes: statuses, numbers, rooms, and certificates of a path as places in
-a run of octets. Nothing is refused here but a number that its parameter has no room for."""
+"""The calls as `pigyelund.h` has them, through ctypes: statuses, numbers, rooms, and certificates of a path as places
+in a run of octets. Nothing is refused here but a number that its parameter has no room for."""
 
 import ctypes
 import os

@@ -1,5 +1,5 @@
-//! What an issuer verifies of a certificate's resources (RFC 3779), or an anchor of a path of certificates, operations on
-//! sets of resources, shortest covers, the validity of routes by payloads (RFC 6811), and the answers of the program
+//! What an issuer verifies of a certificate's resources (RFC 3779), or an anchor of a path of certificates, operations
+//! on sets of resources, shortest covers, the validity of routes by payloads (RFC 6811), and the answers of the program
 //! `respath`, safe over the proved static library. What is as in C stands in [`raw`].
 //!
 //! ```

@@ -1,6 +1,6 @@
-//! The calls as `pigyelund.h` has them, with slices for pointers and lengths: statuses, numbers, rooms, and certificates
-//! of a path as places in a run of octets. No call requires anything of the values, so nothing is tested here: a `&[u8]`
-//! is never null, and `&mut` rooms overlap nothing.
+//! The calls as `pigyelund.h` has them, with slices for pointers and lengths: statuses, numbers, rooms, and
+//! certificates of a path as places in a run of octets. No call requires anything of the values, so nothing is tested
+//! here: a `&[u8]` is never null, and `&mut` rooms overlap nothing.
 use core::net::IpAddr;
 
 use crate::Family;
@@ -69,7 +69,8 @@ pub const NOT_FOUND: u32 = 1;
 /// One covers it, and none matches it.
 pub const INVALID: u32 = 2;
 
-/// A call that makes a set of two: pointers and lengths of both, the encoding, both rooms, and the lengths that are told.
+/// A call that makes a set of two: pointers and lengths of both, the encoding, both rooms, and the lengths that are
+/// told.
 type Making = unsafe extern "C" fn(
     *const u8,
     usize,
@@ -392,8 +393,8 @@ pub fn verify(
     (status, as_len, ip_len)
 }
 
-/// One call on a path with rooms of the caller's: the status, the lengths of what is told, and how many certificates are
-/// verified.
+/// One call on a path with rooms of the caller's: the status, the lengths of what is told, and how many certificates
+/// are verified.
 pub fn verify_path(
     anchor: Octets<'_>,
     run: &[u8],
@@ -445,8 +446,8 @@ pub fn cover(ip: &[u8], encoding: u32, family: u32, out: &mut [u8]) -> (u32, usi
     (status, len)
 }
 
-/// One call for the validity of routes with a room of the caller's: the status, the length of what is told, and the place
-/// of what is none.
+/// One call for the validity of routes with a room of the caller's: the status, the length of what is told, and the
+/// place of what is none.
 pub fn origins(payloads: &[Payload], routes: &[Route], out: &mut [u8]) -> (u32, usize, usize) {
     let (mut len, mut place) = (0, 0);
     // SAFETY: as in `verify`; `Payload` and `Route` are laid out as in C.

@@ -2,11 +2,10 @@
 ghost use Rattle.std.specs.Iterator.{IsFinite};
 
 use crate::checks::holds;
-use probing::hash_of;
 use rpki_base::asn::Asn;
 use rpki_base::small_set::SmallAsnSet;
 use std::alloc::{AllocError, Allocator, Global};
-use test_support::{Plan, Refusing};
+use test_support::{Plan, Refusing, hash_of};
 
 /// The set of the numbers 1, 2 and 3.
 fn three<A: Allocator>(alloc: A) -> Result<SmallAsnSet<A>, AllocError> {

@@ -1,12 +1,11 @@
 // Resources that are built with functions.
 use crate::checks::holds;
-use probing::{holds_where_refused, prints};
 use rpki_as::{AsBlock, AsResourcesBuilder};
 use rpki_base::asn::Asn;
 use rpki_ipres::{IpBlock, IpBlocks, IpResourcesBuilder};
 use std::alloc::{AllocError, Allocator, Global};
 use std::str::FromStr;
-use test_support::Refusing;
+use test_support::{Refusing, holds_where_refused, prints};
 
 fn id(number: u32) -> AsBlock {
     AsBlock::Id(Asn::from_u32(number))

@@ -1,10 +1,10 @@
 // The three errors that are called `FromStrError`, by what they print of one text.
-use probing::prints;
 use rpki_base::memory::OrMemory;
 use rpki_resources::repository::resources::{AsBlock, IpBlock, ResourceSet, asres, ipres, set};
 use std::alloc::Global;
 use std::process::Abort;
 use std::str::FromStr;
+use test_support::prints;
 
 fn holds(rt: &impl Abort, is_so: bool) {
     assert!(rt; is_so);

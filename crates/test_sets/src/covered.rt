@@ -1,12 +1,11 @@
 // Sets whose issuer should have them whole. Where it has them, no request for memory is made.
 use crate::checks::holds;
-use probing::prints;
 use rpki_as::blocks::AsBlocks;
 use rpki_as::resources::AsResources;
 use rpki_base::memory::OrMemory;
 use rpki_ipres::blocks::IpBlocks;
 use rpki_ipres::resources::IpResources;
-use test_support::{Plan, Refusing};
+use test_support::{Plan, Refusing, prints};
 
 /// What a list or a claim is read as; nothing where it is none.
 fn listed<'a>(refusing: &'a Refusing, list: &str) -> Option<AsResources<&'a Refusing>> {

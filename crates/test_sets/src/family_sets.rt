@@ -1,11 +1,11 @@
 // Sets of addresses of one family.
 use crate::checks::holds;
-use probing::prints;
 use rpki_family::v4::{Ipv4Block, Ipv4Blocks};
 use rpki_family::v6::{Ipv6Block, Ipv6Blocks};
 use rpki_ipres::blocks::IpBlocks;
 use std::alloc::{AllocError, Allocator, Global};
 use std::str::FromStr;
+use test_support::prints;
 
 // ---- IPv4
 

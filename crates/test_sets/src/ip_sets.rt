@@ -1,6 +1,5 @@
 // Sets of addresses of either family.
 use crate::checks::holds;
-use probing::prints;
 use rpki_chain::block::Block;
 use rpki_ip::addr::Addr;
 use rpki_ip::error::FromStrError;
@@ -10,6 +9,7 @@ use rpki_ipres::blocks::IpBlocks;
 use rpki_ipres::family::IpBlocksForFamily;
 use std::alloc::{AllocError, Global};
 use std::str::FromStr;
+use test_support::prints;
 
 fn copy_is_same(set: &IpBlocks) -> bool {
     match set.clone() {

@@ -1,10 +1,10 @@
 // Lists of texts, which are read and printed in their order.
 use crate::checks::holds;
-use probing::prints;
 use rpki_base::asn::Asn;
 use rpki_base::list::{fmt_joined, read_list};
 use std::alloc::Global;
 use std::fmt;
+use test_support::prints;
 
 #[derive(Clone, Copy)]
 struct Joined<'a> {

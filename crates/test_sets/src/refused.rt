@@ -1,9 +1,8 @@
 // Runs where each request for memory is refused in turn.
 use crate::checks::holds;
 use crate::family_sets;
-use probing::holds_where_refused;
 use std::alloc::{AllocError, Global};
-use test_support::Refusing;
+use test_support::{Refusing, holds_where_refused};
 
 /// What is run.
 #[derive(Clone, Copy)]

@@ -1,5 +1,5 @@
 //! An allocator for tests: it passes requests for memory on to another, and refuses those that it
-//! is told to.
+//! is told to; and what tests ask of a value of any type: its hash, what it prints.
 //!
 //! [`refuse_in_turn`] runs something with request 0 refused, then with request 1, and so on up to a
 //! run that met no refusal, and looks at how each run ended, as `rows_support::refusals` does:
@@ -19,10 +19,12 @@ ghost use Rattle.test_support.specs.Plans.{inner_of, plan_of, IsSomeRefusedCount
 
 use std::alloc::{AllocError, Allocator, Global};
 
+mod asking;
 mod in_turn;
 mod plan;
 mod requests;
 
+pub use asking::{all_print, hash_of, holds_where_refused, prints};
 pub use in_turn::{Outcome, refuse_in_turn};
 pub use plan::Plan;
 use requests::Requests;

@@ -1,6 +1,5 @@
 // Addresses of either family: their texts, bounds and conversions.
 use crate::checks::{holds, same};
-use probing::prints;
 use rpki_base::addr::{AddrParseError, IpAddr, Ipv4Addr, Ipv6Addr};
 use rpki_ip::addr::Addr;
 use rpki_ip::family::AddressFamily;
@@ -8,6 +7,7 @@ use std::alloc::{AllocError, Global};
 use std::fmt;
 use std::str::FromStr;
 use std::test::Fail;
+use test_support::prints;
 
 /// An address, displayed in a family.
 #[derive(Clone, Copy)]

@@ -1,6 +1,5 @@
 // The text of each fault, and faults that are made of others.
 use crate::checks::{holds, same};
-use probing::{all_print, prints};
 use rpki_as::error::{FromStrError as AsFromStrError, InheritedAsResources};
 use rpki_base::addr::AddrParseError;
 use rpki_base::asn::ParseAsnError;
@@ -16,6 +15,7 @@ use rpki_resources::repository::resources::InheritError;
 use std::alloc::{AllocError, Global};
 use std::error::Error;
 use std::test::Fail;
+use test_support::{all_print, prints};
 
 const ADDRESSES: [(AddrParseError, &str); 3] = [
     (AddrParseError::Ipv4, "invalid IPv4 address syntax"),

@@ -1,6 +1,5 @@
 // Equal values have equal hashes, at each type.
 use crate::checks::{holds, same};
-use probing::hash_of;
 use rpki_base::addr::{IpAddr, Ipv4Addr, Ipv6Addr};
 use rpki_base::asn::Asn;
 use rpki_ip::addr::Addr;
@@ -10,6 +9,7 @@ use rpki_prefix::max_len::MaxLenPrefix;
 use rpki_prefix::prefix::Prefix as FamilyPrefix;
 use std::hash::Hash;
 use std::str::FromStr;
+use test_support::hash_of;
 
 #[test]
 fn numbers_and_addresses(rt: HostRuntime) {

@@ -1,6 +1,5 @@
 // Blocks of addresses, of either family and of one: their forms and bounds, and what they are made from.
 use crate::checks::{holds, same};
-use probing::prints;
 use rpki_base::addr::{AddrParseError, Ipv4Addr, Ipv6Addr};
 use rpki_base::number::ParseIntError;
 use rpki_chain::block::Block;
@@ -14,6 +13,7 @@ use rpki_ipres::block::IpBlock;
 use rpki_prefix::prefix::Prefix as FamilyPrefix;
 use std::alloc::Global;
 use std::str::FromStr;
+use test_support::prints;
 
 /// The block with these bounds, in the form that `new` gives.
 fn block(one: u128, other: u128) -> IpBlock {

@@ -1,10 +1,8 @@
 //! What tests ask of a value of any type, and of a run that is refused memory.
-#![tactic(auto)]
-
+use crate::{Outcome, Refusing, refuse_in_turn};
 use std::alloc::{AllocError, Allocator, Global};
 use std::fmt;
 use std::hash::{FoldHasher, Hash, Hasher};
-use test_support::{Outcome, Refusing, refuse_in_turn};
 
 /// The hash of a value.
 pub fn hash_of<T: Hash>(value: &T) -> u64 {

@@ -31,11 +31,17 @@ PROGRAM = CRATES / "respath" / "out" / "respath"
 AT_ONCE = 50_000
 SHOWN = 20
 
+def answer_of_claims(line: str) -> str:
+    """The answer of `rows_claims` to a line."""
+    if calls_of_callers.is_origin(line):
+        return calls_of_callers.origin_answer(line)
+    return calls_of_sets.answer(line)
+
+
 PROGRAMS: dict[str, Callable[[str], str]] = {
     "rows_values": calls_of_values.answer,
     "rows_sets": calls_of_sets.answer,
-    "rows_claims": calls_of_sets.answer,
-    "rows_origin": calls_of_callers.origin_answer,
+    "rows_claims": answer_of_claims,
     "rows_calls": calls_of_callers.answer,
 }
 

@@ -1,4 +1,4 @@
-"""The answers of the programs `rows_calls`, `rows_origin` and `example_holdings`."""
+"""The answers of the programs `rows_calls` and `example_holdings`, and those of `rows_claims` about origins."""
 
 from collections.abc import Callable
 
@@ -399,13 +399,18 @@ def _outside(text: str) -> str:
     return "None" if place is None else f"Some({place})"
 
 
+def is_origin(line: str) -> bool:
+    """Whether a line of `rows_claims` is answered by `origin_answer`."""
+    return texts.cut(line, " ")[0] in _ORIGIN_COMMANDS
+
+
 def origin_answer(line: str) -> str:
-    """The answer of `rows_origin` to a line."""
+    """The answer of `rows_claims` to a line about a route's origin."""
     command, operands = texts.cut(line, " ")
-    commands = {"origin": _origin, "outside": _outside}
-    if command not in commands:
-        return "no such command"
     try:
-        return commands[command](operands)
+        return _ORIGIN_COMMANDS[command](operands)
     except Fault as fault:
         return f"error: {fault}"
+
+
+_ORIGIN_COMMANDS = {"origin": _origin, "outside": _outside}

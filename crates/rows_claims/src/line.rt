@@ -1,5 +1,5 @@
 //! The answer to a line, by its command.
-use crate::{claims, triples};
+use crate::{claims, outside, routes, triples};
 use rows_support::print::cut;
 use rows_support::refusals::Call;
 use std::alloc::{AllocError, Allocator};
@@ -21,6 +21,8 @@ impl Call for Line<'_> {
             "triple" => triples::answer(alloc, kind, operands),
             "set" => triples::set(alloc, rest),
             "diff" => triples::difference(alloc, rest),
+            "origin" => routes::answer(alloc, rest),
+            "outside" => outside::answer(alloc, rest),
             _ => String::from_str(alloc, "no such command"),
         }
     }

@@ -2,7 +2,7 @@
 """Compares what the programs answered with what the reference beside this file answers.
 
 Without options it answers each stored line of the programs of rows, of `example_holdings`, `example_verified_set`
-and `bench_growth_origin`. With --random SEED COUNT it makes so many lines of each command of `respath`, and
+and of `bench_growth` about origins. With --random SEED COUNT it makes so many lines of each command of `respath`, and
 asks the built program.
 What the reference doesn't say is counted and named. Status 1 where an answer differs.
 """
@@ -116,23 +116,24 @@ def compare_verified_set() -> bool:
     return comparison.tell("example_verified_set")
 
 
-def compare_growth_origin() -> bool:
-    """Compares what `bench_growth_origin` prints for the pairs of numbers that it is run with."""
+def compare_growth() -> bool:
+    """Compares what `bench_growth` prints of origins, for the pairs of numbers behind that word of its arguments."""
     comparison = Comparison()
-    given, printed = (lines_of(CRATES / "bench_growth_origin" / file) for file in ("args", "stdout"))
-    counts = [int(word) for word in given]
+    given, printed = (lines_of(CRATES / "bench_growth" / file) for file in ("args", "stdout"))
+    counts = [int(word) for word in given[given.index("origins") + 1 :]]
+    printed = [line for line in printed if " routes: " in line]
     asked = zip(counts[::2], counts[1::2], strict=True)
     for (payloads, routes), found in zip(asked, printed, strict=True):
         line = f"{payloads} {routes}"
-        comparison.add("bench_growth_origin/args", line, made_routes.answer(payloads, routes), found)
-    return comparison.tell("bench_growth_origin")
+        comparison.add("bench_growth/args", line, made_routes.answer(payloads, routes), found)
+    return comparison.tell("bench_growth")
 
 
 def compare_stored() -> bool:
     """Compares all stored answers of the programs that there are."""
     there = [name for name in PROGRAMS if (CRATES / name / "stdin").exists()]
     results = [compare_program(name, PROGRAMS[name]) for name in there]
-    return all([*results, compare_holdings(), compare_verified_set(), compare_growth_origin()])
+    return all([*results, compare_holdings(), compare_verified_set(), compare_growth()])
 
 
 def ask(program: Path, asked: list[bytes]) -> list[str]:

@@ -1,4 +1,4 @@
-"""The payloads and routes that `bench_growth_origin` makes, and what it prints of their origins."""
+"""The payloads and routes that `bench_growth` makes, and what it prints of their origins."""
 
 from .addresses import Family
 from .prefixes import MaxLenPrefix, Payload, Prefix, validity

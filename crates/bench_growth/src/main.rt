@@ -1,15 +1,20 @@
-//! How set operations, and reading and writing in DER, grow: the sizes of what they give on the standard output, and their
-//! times on standard error.
+//! How calls grow with what they are asked: what they give on the standard output, and their times on standard error.
 //!
 //! For each N that an argument names: two sets of N blocks of AS numbers that interleave, of which each block of the one
 //! overlaps one of the other, and no two touch; two such sets of addresses, whose blocks lie apart; then N blocks of AS
 //! numbers and N blocks of addresses, which are read from a SEQUENCE where they stand in another order, and written as a
 //! set, and which are read in either mode where they ascend.
+//!
+//! Behind the word `origins` the numbers are pairs: of how many payloads a table is made, and for the origins of how many
+//! routes it is asked. They are made like those of a full table: four of five are of IPv4, most of them of 24 bits; half of
+//! the routes are those of payloads, some longer or by another AS. The same numbers make the same payloads and routes.
 #![tactic(auto)]
 
 mod asn;
 mod ip;
+mod made_routes;
 mod measure;
+mod origins;
 
 use measure::{measure_der, measure_modes, measure_operations};
 use rpki_as::blocks::AsBlocks;
@@ -17,12 +22,40 @@ use rpki_ipres::blocks::IpBlocks;
 use std::{env, io};
 
 fn main(rt: HostRuntime) -> io::Result<()> {
+    let mut asked = Asked::Sets;
     for word in env::args(&rt)?.skip(1) {
-        if let Ok(count) = word.as_str().parse::<usize>() {
-            measure_count(&rt, count)?;
-        }
+        asked = match word.as_str().parse::<usize>() {
+            Ok(count) => measure_asked(&rt, asked, count)?,
+            Err(_) => Asked::Origins,
+        };
     }
     Ok(())
+}
+
+/// What the next number is.
+#[derive(Clone, Copy)]
+enum Asked {
+    /// How many blocks.
+    Sets,
+    /// How many payloads.
+    Origins,
+    /// How many routes, of a table of so many payloads.
+    Routes(usize),
+}
+
+/// Measures what a number asks for, and tells what the next one is.
+fn measure_asked(rt: &HostRuntime, asked: Asked, count: usize) -> io::Result<Asked> {
+    match asked {
+        Asked::Sets => {
+            measure_count(rt, count)?;
+            Ok(Asked::Sets)
+        }
+        Asked::Origins => Ok(Asked::Routes(count)),
+        Asked::Routes(payloads) => {
+            origins::measure(rt, payloads, count)?;
+            Ok(Asked::Origins)
+        }
+    }
 }
 
 fn measure_count(rt: &HostRuntime, count: usize) -> io::Result<()> {

@@ -1,5 +1,5 @@
 //! What is measured of a table.
-use crate::made::{self, Numbers};
+use crate::made_routes::{self, Numbers};
 use roa_origin::{OriginTable, Validity};
 use rpki_base::Asn;
 use rpki_prefix::Prefix;
@@ -12,8 +12,8 @@ const SEED: u64 = 6811;
 /// Makes payloads, their table and routes, and asks the table for each route.
 pub fn measure(rt: &HostRuntime, payloads: usize, routes: usize) -> io::Result<()> {
     let mut numbers = Numbers::after(SEED);
-    let listed = made::payloads(rt.alloc(), &mut numbers, payloads)?;
-    let asked = made::routes(rt.alloc(), &mut numbers, &listed, routes)?;
+    let listed = made_routes::payloads(rt.alloc(), &mut numbers, payloads)?;
+    let asked = made_routes::routes(rt.alloc(), &mut numbers, &listed, routes)?;
     let start = Instant::now(rt)?;
     let table = OriginTable::new(rt.alloc(), &listed)?;
     tell(rt, "payloads", listed.len(), start)?;

@@ -1,6 +1,6 @@
 //! What no clause says of numbers, addresses, prefixes, ranges and blocks, and what no line of the program
-//! `rows_values` can say of them: values and their parts, conversions, forms of blocks, hashes, and the texts of
-//! faults.
+//! `rows_values` can say of them: values and their parts, conversions, forms of blocks, hashes, the texts of faults,
+//! and the paths of types.
 #![tactic(auto)]
 
 #[cfg(test)]
@@ -17,6 +17,8 @@ mod hashes;
 mod ip_blocks;
 #[cfg(test)]
 mod numbers;
+#[cfg(test)]
+mod paths;
 #[cfg(test)]
 mod prefixes;
 #[cfg(test)]

@@ -1,0 +1,18 @@
+// Each type that a user of the Rust crate `rpki` looks for, by each path under which it stands. A constant is well typed
+// where its paths are names of one type, and nothing else is asked of it.
+use std::marker::PhantomData;
+
+mod addr;
+mod asn;
+mod asres;
+mod chain;
+mod choice;
+mod counted;
+mod faults;
+mod ipres;
+mod or_memory;
+mod set;
+mod traits;
+
+/// The names of a type.
+pub type Names<T, const N: usize> = [PhantomData<T>; N];

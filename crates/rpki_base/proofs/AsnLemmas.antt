@@ -6,7 +6,7 @@ use Rattle.std.specs.Int.{IsInRange}
 use Rattle.std.specs.List.{AllByRecursion}
 use Rattle.std.specs.Str.{str_to_ascii_lowercase}
 use Rattle.std.proofs.lemmas.Fmt.{decimal_is_IsNumeral}
-use Rattle.std.proofs.lemmas.Str.Parse.{without_leading_plus_none, digit_from_value, digit_at}
+use Rattle.std.proofs.lemmas.Str.Parse.{without_leading_plus_none, digit_from_value}
 use Rattle.std.proofs.lemmas.Str.Ascii.{lowercase_is}
 use Rattle.std.proofs.lemmas.Bool.{cases_lt}
 use Rattle.rpki_base.specs.declared.asn.ParseAsnError.{ParseAsnError}
@@ -14,6 +14,7 @@ use Rattle.std.proofs.Math.Seq.{take-append_seam}
 use Rattle.rpki_text.specs.Numbers.{IsNumberText}
 use Rattle.rpki_base.specs.AsnText.{IsAsnText, IsAsAnd, IsAfterAs, asn_text, ReadsAsn}
 use Rattle.rpki_text.proofs.CutLemmas.{same_rest}
+use Rattle.rpki_text.proofs.NumberTexts.{IsNumberText-one, IsNumberText-decimal}
 
 -- lower case keeps the length
 length_lower : (letters : List ℕ) → length (str_to_ascii_lowercase letters) ≡ length letters
@@ -78,14 +79,6 @@ from_text text rest n (inr h) k = elim k.prefix [
   | inr lower ↦ absurd (h.1 k.digits (as_and text n k lower))
 ]
 
--- a printed decimal is a number text of its number
-pub IsNumberText-decimal : (limit n : ℕ) → n < 2 ^ 64 → n ≤ limit → IsNumberText limit (decimal n) n
-IsNumberText-decimal limit n small within =
-    let is = decimal_is_IsNumeral n small in
-    let first = digit_at (decimal n) 0 is.0.1 is.0.0 in
-    let whole = without_leading_plus_none (decimal n) (λ e. omega (arith, e, first.0)) in
-    record { digits = rw whole is.0; value = rw whole is.1; within = within }
-
 -- what is printed of an AS number writes it
 pub IsAsnText-asn_text : (n : ℕ) → n < 2 ^ 32 → IsAsnText (asn_text n) n
 IsAsnText-asn_text n small = record {
@@ -95,10 +88,6 @@ IsAsnText-asn_text n small = record {
   prefix = inr refl;
   number = IsNumberText-decimal (2 ^ 32 - 1) n (omega arith) (omega arith);
 }
-
--- a number text writes one number
-pub IsNumberText-one : (limit : ℕ) (text : List ℕ) (m n : ℕ) → IsNumberText limit text m → IsNumberText limit text n → m ≡ n
-IsNumberText-one limit text m n h k = sym h.value ∙ k.value
 
 -- where a number stands behind the optional `as`, it is the answer
 pub reads_ok : (text rest : List ℕ) (n : ℕ) → IsAfterAs text rest → IsNumberText (2 ^ 32 - 1) rest n → ReadsAsn text (Ok n)

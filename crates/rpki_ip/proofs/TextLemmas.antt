@@ -10,7 +10,7 @@ use Rattle.rpki_addr.specs.declared.addr.IpAddr.TheVariants.{V4, V6}
 use Rattle.rpki_text.specs.declared.number.ParseIntError.{ParseIntError}
 use Rattle.rpki_text.specs.declared.number.ParseIntError.TheVariants.{PosOverflow}
 use Rattle.rpki_addr.proofs.AddressReads.{IsIpText-one}
-use Rattle.rpki_base.proofs.AsnLemmas.{IsNumberText-one}
+use Rattle.rpki_text.proofs.NumberTexts.{IsNumberText-one}
 use Rattle.rpki_text.proofs.CutLemmas.{HasNo-no_cut, around_at}
 use Rattle.rpki_text.proofs.NumberLemmas.{number_answers}
 pub use Rattle.rpki_text.proofs.ReadingLemmas.{answers_by_one}

@@ -13,7 +13,7 @@ use Rattle.rpki_addr.specs.ReadsAddress.{IsAddress}
 use Rattle.rpki_addr.specs.declared.addr.IpAddr.{IpAddr}
 use Rattle.rpki_addr.proofs.AddressBytes.{IsAddressByte, ip_bytes, not_slash, no_slash, no_dash}
 use Rattle.rpki_addr.proofs.AddressReads.{IsIpText-ip_text}
-use Rattle.rpki_base.proofs.AsnLemmas.{IsNumberText-decimal}
+use Rattle.rpki_text.proofs.NumberTexts.{IsNumberText-decimal}
 use Rattle.rpki_addr.proofs.PrefixNumbers.{cleared_first}
 use Rattle.rpki_addr.specs.AddrText.{first_of, greatest_of}
 use Rattle.rpki_ip.specs.BlockText.{IsAddressText, IsRangeFrom}

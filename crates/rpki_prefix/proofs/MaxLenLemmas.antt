@@ -9,7 +9,7 @@ use Rattle.rpki_text.specs.Cuts.{HasNo, Around, slash, dash}
 use Rattle.rpki_text.specs.Numbers.{IsNumberText, HasNumberFault}
 use Rattle.rpki_addr.specs.PrintedAddress.{ip_text}
 use Rattle.rpki_addr.proofs.AddressBytes.{IsAddressByte, ip_bytes, not_dash}
-use Rattle.rpki_base.proofs.AsnLemmas.{IsNumberText-one, IsNumberText-decimal}
+use Rattle.rpki_text.proofs.NumberTexts.{IsNumberText-one, IsNumberText-decimal}
 use Rattle.rpki_text.proofs.CutLemmas.{none_around, around_at}
 use Rattle.rpki_text.proofs.ReadingLemmas.{Answers-from_found}
 use Rattle.rpki_prefix.specs.MaxLen.{MaxLenValue, IsMaxLenOf, HasMaxLenError, ArePrefixAndMax, HasMaxLen, IsMaxLenTextOf, IsMaxLenText, HasMaxLenTextFault, max_text, ReadsMaxLen}

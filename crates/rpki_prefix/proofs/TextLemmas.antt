@@ -11,7 +11,7 @@ use Rattle.rpki_addr.specs.declared.addr.IpAddr.TheVariants.{V4, V6}
 use Rattle.rpki_text.specs.declared.number.ParseIntError.{ParseIntError}
 use Rattle.rpki_addr.proofs.AddressBytes.{ip_bytes, no_slash}
 use Rattle.rpki_addr.proofs.AddressReads.{IsIpText-one, IsIpText-ip_text}
-use Rattle.rpki_base.proofs.AsnLemmas.{IsNumberText-one, IsNumberText-decimal}
+use Rattle.rpki_text.proofs.NumberTexts.{IsNumberText-one, IsNumberText-decimal}
 use Rattle.rpki_text.proofs.CutLemmas.{none_around, around_at}
 use Rattle.rpki_text.proofs.NumberLemmas.{number_answers}
 use Rattle.rpki_text.proofs.ReadingLemmas.{Answers-from_found}

@@ -1,8 +1,8 @@
 //! What is wrong with prefixes and their texts.
 ghost use Rattle.std.specs.Prelude.{◌≡◌, Some};
 
-use rpki_base::addr::AddrParseError;
-use rpki_base::number::ParseIntError;
+use rpki_addr::addr::AddrParseError;
+use rpki_text::number::ParseIntError;
 use std::fmt;
 use thiserror::Error;
 

@@ -9,8 +9,8 @@ ghost use Rattle.rpki_prefix.specs.OrderLaws.{max_len_ties};
 
 use crate::error::{MaxLenError, ParseMaxLenPrefixError};
 use crate::prefix::Prefix;
-use rpki_base::addr::IpAddr;
-use rpki_base::number::parse_u8;
+use rpki_addr::addr::IpAddr;
+use rpki_text::number::parse_u8;
 use std::cmp::Ordering;
 use std::fmt;
 use std::marker::Model;

@@ -11,7 +11,7 @@ ghost use Rattle.rpki_prefix.specs.OrderLaws.{prefix_ties};
 ghost use Rattle.rpki_prefix.specs.Values.{CoversPrefix, address_number};
 
 use crate::prefix::Prefix;
-use rpki_base::addr::IpAddr;
+use rpki_addr::addr::IpAddr;
 use std::cmp::Ordering;
 
 impl Prefix {

@@ -4,7 +4,7 @@ ghost use Rattle.rpki_addr.specs.declared.addr.IpAddr.TheVariants.{V4, V6};
 ghost use Rattle.rpki_prefix.specs.Values.{IsPrefixOf, IsRelaxedPrefixOf, HasPrefixError, HasRelaxedPrefixError, IsFamilyPrefix, address_number, width, is_v6, cleared_addr, filled_addr, last_addr};
 
 use crate::error::PrefixError;
-use rpki_base::addr::{IpAddr, Ipv4Addr, Ipv6Addr};
+use rpki_addr::addr::{IpAddr, Ipv4Addr, Ipv6Addr};
 use std::marker::Model;
 
 /// The addresses of one family that begin with the same bits (RFC 4632, 3.1; RFC 4291, 2.3).

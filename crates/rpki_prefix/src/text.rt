@@ -5,8 +5,8 @@ ghost use Rattle.rpki_prefix.specs.PrefixText.{FindsParts, ReadsPrefix, IsRelaxe
 
 use crate::error::ParsePrefixError;
 use crate::prefix::Prefix;
-use rpki_base::addr::IpAddr;
-use rpki_base::number::parse_u8;
+use rpki_addr::addr::IpAddr;
+use rpki_text::number::parse_u8;
 use std::fmt;
 use std::str::FromStr;
 

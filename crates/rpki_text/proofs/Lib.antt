@@ -4,6 +4,7 @@ pub mod DigitLemmas
 pub mod ElementLemmas
 pub mod ListLemmas
 pub mod NumberLemmas
+pub mod NumberTexts
 pub mod PrintedLemmas
 pub mod ReadingLemmas
 pub mod TrimLemmas

@@ -2,12 +2,12 @@
 //! 2.2.3.6, 3.2.3.2 to 3.2.3.4).
 ghost use Rattle.std.specs.Prelude.{◌≡◌, ◌≢◌, ◌≤◌, ◌<◌, ◌+◌, ◌^◌, ◌++◌, true, [], length, vec_len, IfOk, IfSome, IfNone, OnOk, OnErr, IsOk, ⊤};
 ghost use Rattle.std.specs.Vec.{vec_capacity};
-ghost use Rattle.rpki_der.specs.Views.{Lenient, is_strict, is_strict_in, left, tlv};
-ghost use Rattle.rpki_base.specs.DerReading.{IsSequenceFrom, values_from};
-ghost use Rattle.rpki_base.specs.DerViews.{GivesOrMemory, GivesSaidOrMemory, ReadsOrMemory, TakesSaidOrMemory};
+ghost use Rattle.rpki_der.specs.Views.{is_strict, is_strict_in, left, tlv};
+ghost use Rattle.rpki_base.specs.DerReading.{values_from};
+ghost use Rattle.rpki_base.specs.DerViews.{GivesOrMemory, GivesSaidOrMemory, TakesSaidOrMemory};
 ghost use Rattle.rpki_base.specs.DerWriting.{octets_of_all, sequence_octets};
 ghost use Rattle.rpki_chain.specs.Choices.{ListsBy, MatchChoice};
-ghost use Rattle.rpki_chain.specs.ChoiceDer.{IsResourcesOf, choice_at, choice_in, choice_octets, some_in};
+ghost use Rattle.rpki_chain.specs.ChoiceDer.{choice_at, choice_in, choice_octets, some_in};
 ghost use Rattle.rpki_chain.specs.Claims.{ListsSome};
 ghost use Rattle.rpki_chain.specs.Runs.{IsRunsOfBlocks};
 ghost use Rattle.rpki_chains.specs.Sets.{IsChain};
@@ -20,56 +20,12 @@ use rpki_der::{Content, Cursor, DerError, append_null, header_len, null_len, put
 use rpki_text::memory::OrMemory;
 use std::alloc::{AllocError, Allocator};
 
-/// Takes resources: a NULL, or a SEQUENCE of blocks in any order, overlapping or not.
+/// Takes resources: a NULL, or a SEQUENCE of blocks in any order, overlapping or not, and answers the blocks that are
+/// listed as they stand there; [`make_sets`] makes their set.
 ///
 /// `Refused` with the first fault: one of [`Cursor::take_value`], `BadTag` where neither stands there, `BadNull` for a
 /// NULL with content, the fault of a block, or `EmptyBlocks` for a SEQUENCE of none. `Memory` where there is no memory
 /// for the blocks. The cursor then stays.
-pub fn take_choice<T: Block, R: ReadNext<Value = T>, A: Allocator + Copy>(
-    alloc: A,
-    reader: &R,
-    cursor: &mut Cursor<'_>,
-) -> Result<ResourcesChoice<BlockSet<T, A>>, OrMemory<DerError>>
-    ensures reads { Lenient cursor.old (ReadsOrMemory
-        (IsResourcesOf (IsSequenceFrom (R.after reader.now) (R.grammar reader.now)
-        (R.first reader.now))
-        (IsRunsOfBlocks T.bounds)) (λ claim. claim) cursor.old cursor.new result) }
-    ensures exact { Lenient cursor.old (TakesSaidOrMemory (ListsBy (IsRunsOfBlocks T.bounds))
-        cursor.old cursor.new result
-        (choice_at (values_from (R.after reader.now) (R.reading reader.now)
-        (R.first reader.now)))) }
-    ensures some { IfOk result ListsSome }
-    // In either mode.
-    ensures by_mode { TakesSaidOrMemory (ListsBy (IsRunsOfBlocks T.bounds)) cursor.old cursor.new
-        result
-        (choice_at (values_from (R.after reader.now)
-        (R.reading_by reader.now (is_strict cursor.old)) (R.first reader.now))) }
-    ensures mode { is_strict cursor.new ≡ is_strict cursor.old }
-{
-    next_choice(alloc, reader, cursor)
-}
-
-// The reading behind the take.
-fn next_choice<T: Block, R: ReadNext<Value = T>, A: Allocator + Copy>(
-    alloc: A,
-    reader: &R,
-    cursor: &mut Cursor<'_>,
-) -> Result<ResourcesChoice<BlockSet<T, A>>, OrMemory<DerError>>
-    ensures by_mode { TakesSaidOrMemory (ListsBy (IsRunsOfBlocks T.bounds)) cursor.old cursor.new
-        result
-        (choice_at (values_from (R.after reader.now)
-        (R.reading_by reader.now (is_strict cursor.old)) (R.first reader.now))) }
-    ensures mode { is_strict cursor.new ≡ is_strict cursor.old }
-    ensures some { IfOk result ListsSome }
-{
-    let mut ahead = *cursor;
-    let listed = take_listed(alloc, reader, &mut ahead)?;
-    let choice = make_sets(alloc, listed, false)?;
-    *cursor = ahead;
-    Ok(choice)
-}
-
-/// Takes resources as `take_choice` does, with its faults, and answers the blocks that are listed as they stand there.
 #[tactic(auto, unfolding(rpki_der::specs::Reading::refined))]
 pub fn take_listed<R: ReadNext, A: Allocator + Copy>(
     alloc: A,

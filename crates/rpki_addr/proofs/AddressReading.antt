@@ -171,8 +171,7 @@ group_some ds rest v numeral few value stop =
 
 -- five or more
 over : (b : Bool) (v len : ℕ) (text : List ℕ) → 4 < len → option_and_then {U = ℕ × List ℕ} (λ (n : ℕ × ℕ). cond (nat_lt 4 n.1) None (Some (n.0, drop n.1 text))) (cond b (Some (v, len)) None) ≡ None
-over true v len text long = rw (lt-ltb 4 len long)
-over false v len text long = refl
+over v0 v len text long = grind (arith)
 
 group_long : (ds rest : List ℕ) → AllDigits 16 ds → 4 < length ds → read_segment (ds ++ rest) ≡ None
 unfolding read_segment read_number
@@ -250,26 +249,14 @@ group_before_dot text p e =
 
 -- so where no group stands, or no dot behind it, there is no IPv4 text
 pub no_group : (text : List ℕ) → read_segment text ≡ None → read_ipv4 text ≡ None
-no_group text none = go (read_ipv4 text) refl
-  where
-    go : (r : _) → read_ipv4 text ≡ r → read_ipv4 text ≡ None
-    go None e = e
-    go (Some p) e = let (v, rest, is) = group_before_dot text p e in absurd (none-some _ (sym none ∙ is))
+no_group text none = grind (arith, group_before_dot, none-some)
 
 pub no_dot_behind : (text : List ℕ) (v : ℕ) (rest : List ℕ) → read_segment text ≡ Some (v, rest) → get_or rest 0 0 ≢ 46 → read_ipv4 text ≡ None
-no_dot_behind text v rest group other = go (read_ipv4 text) refl
-  where
-    go : (r : _) → read_ipv4 text ≡ r → read_ipv4 text ≡ None
-    go None e = e
-    go (Some p) e =
-        let (w, more, is) = group_before_dot text p e in
-        let same = same_Some (v, rest) (w, 46 ∷ more) (sym group ∙ is) in
-        absurd (other (ap (λ (q : ℕ × List ℕ). get_or q.1 0 0) same))
+no_dot_behind text v rest group other = grind (arith, group_before_dot, same_Some)
 
 -- and none is read, whether it fits or not
 pub ipv4_if_none : (fits : Bool) (text : List ℕ) → read_ipv4 text ≡ None → None ≡ option_map with_octets (read_ipv4_if fits text)
-ipv4_if_none true text none = rw none refl
-ipv4_if_none false text none = refl
+ipv4_if_none v0 text none = grind (arith)
 
 -- a test that says no
 pub not_equal : (x y : ℕ) → (x == y) ≡ false → x ≢ y

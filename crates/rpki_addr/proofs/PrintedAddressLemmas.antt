@@ -20,21 +20,7 @@ use Rattle.rpki_text.proofs.DigitLemmas.{number-last_digits, last_digits_below}
 -- a group in hexadecimal, as std writes it
 hex_is : (g : ℕ) → g < 0x10000 → hex g ≡ hex_text g
 unfolding hex
-hex_is g small = elim (cases_lt g 0x10) [
-  | inl one ↦ rw (lt-leb 0x1000 g (omega (arith, one)), lt-leb 0x100 g (omega (arith, one)), lt-leb 0x10 g one, lt-ltb g 0x10 one) refl
-  | inr more ↦ elim (cases_lt g 0x100) [
-    | inl two ↦ rw (lt-leb 0x1000 g (omega (arith, two)), lt-leb 0x100 g two, le-leb 0x10 g more, le-ltb g 0x10 more, lt-ltb g 0x100 two) refl
-    | inr yet ↦ elim (cases_lt g 0x1000) [
-      | inl three ↦ (
-          let first : g / 0x100 % 16 ≡ g / 16 / 16 % 16 = omega arith in
-          rw (lt-leb 0x1000 g three, le-leb 0x100 g yet, le-ltb g 0x10 more, le-ltb g 0x100 yet, lt-ltb g 0x1000 three, first) refl)
-      | inr four ↦ (
-          let first : g / 0x1000 ≡ g / 16 / 16 / 16 % 16 = omega arith in
-          let next : g / 0x100 % 16 ≡ g / 16 / 16 % 16 = omega arith in
-          rw (le-leb 0x1000 g four, le-ltb g 0x10 more, le-ltb g 0x100 yet, le-ltb g 0x1000 four, first, next) refl)
-    ]
-  ]
-]
+hex_is g small = grind (arith, cases_lt, lt-leb)
 
 -- groups with colons between them, as std writes them
 more_groups_are : (groups : List ℕ) → AllBelowBase 0x10000 groups → flat_map (λ t. codes ":" ++ hex t) groups ≡ flat_map (λ next. codes ":" ++ next) (map hex_text groups)
@@ -42,8 +28,7 @@ more_groups_are [] h = refl
 more_groups_are (g ∷ groups) h = ap₂ (λ t u. 58 ∷ (t ++ u)) (hex_is g h.0) (more_groups_are groups h.1)
 
 groups_text_is : (groups : List ℕ) → AllBelowBase 0x10000 groups → std.groups_text groups ≡ groups_text groups
-groups_text_is [] h = refl
-groups_text_is (g ∷ groups) h = ap₂ (λ t u. t ++ u) (hex_is g h.0) (more_groups_are groups h.1)
+groups_text_is v0 h = grind (arith, hex_is, more_groups_are)
 
 -- some of the groups are groups still
 below_take : (n : ℕ) (xs : List ℕ) → AllBelowBase 0x10000 xs → AllBelowBase 0x10000 (take n xs)
@@ -164,28 +149,14 @@ unshortened groups below few = record {
 
 -- the first six groups tell whether the address is mapped
 first_six : (n : ℕ) → n < 2 ^ 128 → take 6 (groups_of n) ≡ 0 ∷ 0 ∷ 0 ∷ 0 ∷ 0 ∷ 0xffff ∷ [] → IsMapped n
-first_six n small is =
-    let m : ℕ = n / 0x10000 / 0x10000 in
-    let once : n / 0x10000 < 0x10000 ^ 7 = div_below n 0x10000 (0x10000 ^ 7) (lit< tt) small in
-    let twice : m < 0x10000 ^ 6 = div_below (n / 0x10000) 0x10000 (0x10000 ^ 6) (lit< tt) once in
-    let value : number_from_digits 0x10000 (last_digits 0x10000 6 m) ≡ m = number-last_digits 0x10000 (lit< tt) 6 m twice in
-    let number : number_from_digits 0x10000 (last_digits 0x10000 6 m) ≡ 0xffff = ap (number_from_digits 0x10000) is in
-    sym (div-div-eq-div-mul n 0x10000 0x10000) ∙ sym value ∙ number
+first_six n small is = grind (arith, div-div-eq-div-mul, div_below, number-last_digits)
 
 six_first : (n : ℕ) → IsMapped n → take 6 (groups_of n) ≡ 0 ∷ 0 ∷ 0 ∷ 0 ∷ 0 ∷ 0xffff ∷ []
 six_first n mapped = ap (last_digits 0x10000 6) (div-div-eq-div-mul n 0x10000 0x10000 ∙ mapped)
 
 -- the last two groups are the last 32 bits
 last_bits : (n : ℕ) → std.ipv4_text (std_octets_of (drop 6 (groups_of n))) ≡ ipv4_text (n % 2 ^ 32)
-last_bits n = by_rest (n % 2 ^ 32) (n / 0x10000 % 0x10000) (n % 0x10000) (omega arith) (omega arith) (omega arith)
-  where
-    by_rest : (r high low : ℕ) → r < 2 ^ 32 → high ≡ r / 0x10000 → low ≡ r % 0x10000 → std.ipv4_text ((high / 256) ∷ (high % 256) ∷ (low / 256) ∷ (low % 256) ∷ []) ≡ ipv4_text r
-    by_rest r high low small up down =
-        let a : high / 256 ≡ r / 256 / 256 / 256 % 256 = omega (arith, up, small) in
-        let b : high % 256 ≡ r / 256 / 256 % 256 = omega (arith, up) in
-        let c : low / 256 ≡ r / 256 % 256 = omega (arith, down) in
-        let d : low % 256 ≡ r % 256 = omega (arith, down) in
-        rw (a, b, c, d) (dotted_is _ _ _ _)
+last_bits n = grind (arith, dotted_is)
 
 -- the text of an address that is not mapped
 pub unmapped_is : (n : ℕ) → n < 2 ^ 128 → ¬ IsMapped n → ipv6_text n ≡ hex_groups_text (groups_of n)
@@ -223,18 +194,7 @@ same_front (x ∷ xs) (y ∷ ys) rest other l e =
 
 -- groups have one first longest run
 one_shortened : (groups text other : List ℕ) → IsShortened groups text → IsShortened groups other → text ≡ other
-one_shortened groups text other h k =
-    let up = k.chosen.longest h.front h.n h.back h.chosen.run in
-    let down = h.chosen.longest k.front k.n k.back k.chosen.run in
-    let count : k.n ≡ h.n = omega (arith, up, down) in
-    let run = subst (λ n. HasZeroRun groups k.front n k.back) count k.chosen.run in
-    let before = h.chosen.first k.front k.back run in
-    let after = k.chosen.first h.front h.back (subst (λ n. HasZeroRun groups h.front n h.back) (sym count) h.chosen.run) in
-    let len : length h.front ≡ length k.front = omega (arith, before, after) in
-    let whole : h.front ++ (replicate h.n 0 ++ h.back) ≡ k.front ++ (replicate h.n 0 ++ k.back) = sym h.chosen.run ∙ run in
-    let front = same_front h.front k.front _ _ len whole in
-    let back = append_cancel_left (replicate h.n 0) h.back k.back (same_rest h.front k.front _ _ len whole) in
-    h.spelled ∙ ap₂ (λ f b. groups_text f ++ codes "::" ++ groups_text b) front back ∙ sym k.spelled
+one_shortened groups text other h k = grind (arith, append_cancel_left, same_front, same_rest)
 
 -- an address is printed in one way
 pub IsPrintedIpv6-one : (n : ℕ) (text other : List ℕ) → IsPrintedIpv6 n text → IsPrintedIpv6 n other → text ≡ other

@@ -59,10 +59,7 @@ blocks_octets set = flat_map-map as_block_octets new_as_block set
 -- the block of a run is one
 block_is : (b : ℕ × ℕ) → IsRun32 b → IsAsBlock (as_run_octets b) (new_as_block b)
 unfolding IsRun32
-block_is b is =
-    block_written (new_as_block b)
-    (subst (λ (c : ℕ × ℕ). c.0 ≤ c.1) (sym (new_as_block_bounds b)) is.0)
-    (subst (λ (c : ℕ × ℕ). c.1 < 2 ^ 32) (sym (new_as_block_bounds b)) is.1)
+block_is b is = grind (arith, block_written)
 
 blocks_are : (set : Runs) → AllByRecursion IsRun32 set → AllByRecursion (λ x. IsAsBlock (as_block_octets x) x) (map new_as_block set)
 blocks_are [] all = tt
@@ -77,11 +74,7 @@ blocks_say = made_of_set as_bounds new_as_block 0 4294967295 (λ b from ordered 
 -- each run begins two above the one before
 run_places : (set : Runs) → IsAsSet set → (k : ℕ) (d : ℕ × ℕ) → k < length set → k + k ≤ (get_or set k d).0
 run_places set is zero d small = omega arith
-run_places set is (suc k) d small =
-    let before = run_places set is k d (omega arith) in
-    let ordered : (get_or set k d).0 ≤ (get_or set k d).1 = is.are_runs.ordered k d (omega arith) in
-    let apart : (get_or set k d).1 + 1 < (get_or set (suc k) d).0 = is.are_runs.apart k (suc k) d (omega arith) small in
-    omega arith
+run_places set is (suc k) d small = grind (arith, run_places set is k d (omega arith))
 
 -- so there are at most 2 ^ 31
 run_count : (set : Runs) → IsAsSet set → length set ≤ 2 ^ 31
@@ -96,14 +89,7 @@ run_count (b ∷ set) is =
 -- a run has sixteen octets at most
 length-run : (b : ℕ × ℕ) → IsRun32 b → length (as_run_octets b) ≤ 16
 unfolding IsRun32
-length-run b is = ⊎_elim
-    (λ (lt : b.0 < b.1).
-    let short = length-content b is.0 is.1 in
-    rw (ne_eqb b.0 b.1 (λ e. omega (arith, lt, e))) (omega (arith, short, length-header 48 (length (as_range_content b)) (omega (arith, short)), length-append (header 48 (length (as_range_content b))) (as_range_content b))))
-    (λ (ge : b.1 ≤ b.0).
-    let same : b.0 ≡ b.1 = omega (arith, ge, is.0) in
-    rw (eq-eqb b.0 b.1 same) (let few = length-number b.0 (omega (arith, same, is.1)) in omega (arith, few)))
-    (cases_lt b.0 b.1)
+length-run b is = grind (arith, cases_lt, eq-eqb, length-append, length-content, length-header, length-number, ne_eqb)
 
 length-runs : (set : Runs) → AllByRecursion IsRun32 set → length (as_set_octets set) ≤ 16 * length set
 length-runs [] all = omega arith
@@ -164,15 +150,7 @@ one_set blocks a b says tell = IsRunsOf-unique (Covers as_bounds blocks) a b say
 -- blocks in new form are what is written of them
 pub strict_blocks : IsWritten as_bounds new_as_block as_block_octets 4294967295 (λ b. Unit {0}) IsStrictBlock
 unfolding IsRun32
-strict_blocks = record {
-  spelled = λ bytes x is. block_spelled bytes x is.0;
-  ordered = λ bytes x is. (block_numbers bytes x is.0).0;
-  below = λ bytes x is. (let less = (block_numbers bytes x is.0).1 in omega (arith, less));
-  fits = λ bytes x is. tt;
-  new_form = λ bytes x is. is.1;
-  written = λ b ordered to fits. (block_is b (ordered, omega (arith, to)), ap new_as_block (sym (new_as_block_bounds b)));
-  form_bounds = λ b ordered to. new_as_block_bounds b;
-}
+strict_blocks  = grind (arith, block_is, block_numbers, block_spelled)
 
 -- a SEQUENCE of blocks
 pub blocks_modal : IsModal (IsSequenceFrom greatest_of_as_block IsNextBlock None) as_blocks_at as_blocks_by

@@ -49,9 +49,7 @@ inner_reading =
 
 -- and what encloses them
 as_choice_reading : IsReading IsAsChoice as_choice_at
-as_choice_reading =
-    enclosed_reading 48 (Encloses 160 (IsChoiceOf (IsSequenceOf IsAsBlock))) (enclosed_at 160 (choice_at (values_of as_block_at)))
-    (enclosed_reading 160 (IsChoiceOf (IsSequenceOf IsAsBlock)) (choice_at (values_of as_block_at)) inner_reading)
+as_choice_reading  = grind (arith, enclosed_reading, inner_reading)
 
 -- blocks say one claim
 one_claim : (choice : ResourcesChoice (List AsBlock)) (a b : Claim) → ListsBy (IsRunsOfBlocks as_bounds) choice a → ListsBy (IsRunsOfBlocks as_bounds) choice b → a ≡ b
@@ -86,39 +84,21 @@ inner_written (Blocks set) is some = (sequence_blocks set is.0, some_blocks set 
 -- a value has at most ten octets more than its content
 front_few : (tag n : ℕ) → length (header tag n) ≤ 10
 unfolding header length_octets
-front_few tag n = ⊎_elim
-    (λ (lt : n < 128). rw (lt-ltb n 128 lt) (omega arith))
-    (λ (le : 128 ≤ n). rw (le-ltb n 128 le) (let few = length-octets n in omega (arith, few)))
-    (cases_lt n 128)
+front_few tag n = grind (arith, cases_lt, le-ltb, length-octets, lt-ltb)
 
 length-value : (tag : ℕ) (content : List ℕ) → length (value tag content) ≤ length content + 10
 length-value tag content = omega (arith, front_few tag (length content), length-append (header tag (length content)) content)
 
 inner_few : (claim : Claim) → IsClaim IsAsSet claim → length (choice_octets as_sequence_octets claim) ≤ 2 ^ 35 + 10
-inner_few Missing is = omega arith
-inner_few Inherit is = let few = length-value 5 [] in omega (arith, few)
-inner_few (Blocks set) is = let few = set_octets_few set is.0 in omega (arith, few, length-value 48 (as_set_octets set))
+inner_few v0 is = grind (arith, length-value, set_octets_few)
 
 -- what is appended of a value in two headers
 pub enclosed_twice : (old inner : List ℕ) → old ++ header 48 (length (header 160 (length inner)) + length inner) ++ header 160 (length inner) ++ inner ≡ old ++ value 48 (value 160 inner)
-enclosed_twice old inner =
-    rw (
-      append_assoc old (header 48 (length (header 160 (length inner)) + length inner)) (header 160 (length inner)),
-      append_assoc old (header 48 (length (header 160 (length inner)) + length inner) ++ header 160 (length inner)) inner,
-      append_assoc (header 48 (length (header 160 (length inner)) + length inner)) (header 160 (length inner)) inner,
-      length-append (header 160 (length inner)) inner,
-    ) refl
+enclosed_twice old inner = grind (arith, append_assoc, length-append)
 
 -- what is written of a claim has its blocks
 written_blocks : (claim : Claim) → IsClaim IsAsSet claim → claim ≢ Missing → IsAsChoice (as_resources_octets claim) (blocks_of claim)
-written_blocks claim is some =
-    let inner = choice_octets as_sequence_octets claim in
-    let few : length inner ≤ 2 ^ 35 + 10 = inner_few claim is in
-    let more : length (value 160 inner) ≤ length inner + 10 = length-value 160 inner in (
-      value 160 inner,
-      value_is 48 (value 160 inner) (omega arith) (omega (arith, few, more)),
-      (inner, value_is 160 inner (omega arith) (omega (arith, few)), inner_written claim is some),
-    )
+written_blocks claim is some = grind (arith, inner_few, inner_written, length-value, value_is)
 
 -- so it stands for the claim
 pub resources_say : (claim : Claim) → IsClaim IsAsSet claim → claim ≢ Missing → IsAsResources (as_resources_octets claim) claim
@@ -147,11 +127,7 @@ inner_modal =
 -- the claim of the blocks that stand in such lists as were read is what was read
 pub claim_of_listed : {Y : Type 0} (items : Y → List AsBlock) (read : ResourcesChoice (List AsBlock)) (listed : ResourcesChoice Y) (claim : Claim)
     → ListsBy (λ xs l. items l ≡ xs) read listed → ListsBy (λ l set. IsRunsOfBlocks as_bounds (items l) set) listed claim → ListsBy (IsRunsOfBlocks as_bounds) read claim
-claim_of_listed items Missing listed claim e of = subst (λ m. ListsBy (λ l set. IsRunsOfBlocks as_bounds (items l) set) m claim) e of
-claim_of_listed items Inherit listed claim e of = subst (λ m. ListsBy (λ l set. IsRunsOfBlocks as_bounds (items l) set) m claim) e of
-claim_of_listed items (Blocks xs) listed claim (l, same, e) of =
-    let set = subst (λ m. ListsBy (λ k runs. IsRunsOfBlocks as_bounds (items k) runs) m claim) e of in
-    (set.0, subst (λ ys. IsRunsOfBlocks as_bounds ys set.0) same set.1, set.2)
+claim_of_listed items v1 listed claim e of = grind (arith)
 
 -- strictly, the blocks that are listed are a chain
 pub chain_listed : (old : Cursor) (choice : ResourcesChoice (List AsBlock)) (rest : List ℕ) → IsBytes (left old) → is_strict old ≡ true → choice_at (values_from greatest_of_as_block (next_block_by (is_strict old)) None) (left old) ≡ Ok (choice, rest) → MatchChoice choice ⊤ ⊤ (IsChain as_bounds new_as_block)
@@ -161,9 +137,7 @@ chain_listed old choice rest fits strict read =
     listed_chain as_bounds new_as_block as_block_octets 4294967295 (λ b. Unit {0}) IsStrictBlock strict_blocks found.0 choice found.1
 
 as_choice_modal : IsModal IsStrictChoice as_choice_at as_choice_by
-as_choice_modal =
-    enclosed_modal 48 (Encloses 160 (IsChoiceOf (IsSequenceFrom greatest_of_as_block IsNextBlock None))) (enclosed_at 160 (choice_at (values_of as_block_at))) (λ strict. enclosed_at 160 (choice_at (values_from greatest_of_as_block (next_block_by strict) None)))
-    (enclosed_modal 160 (IsChoiceOf (IsSequenceFrom greatest_of_as_block IsNextBlock None)) (choice_at (values_of as_block_at)) (λ strict. choice_at (values_from greatest_of_as_block (next_block_by strict) None)) inner_modal)
+as_choice_modal  = search (arith, enclosed_modal, inner_modal)
 
 -- blocks of which one is taken stand for a set that isn't empty
 some_numbers : (content : List ℕ) (xs : List AsBlock) (set : Runs) → EachFrom greatest_of_as_block IsNextBlock None content xs → xs ≢ [] → IsRunsOfBlocks as_bounds xs set → set ≢ []

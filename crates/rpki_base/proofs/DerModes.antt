@@ -1,11 +1,10 @@
 -- Readings from readings by the mode, and calls that take memory.
-use Rattle.std.proofs.Common.{◌≡◌, ℕ, zero, suc, Bool, true, false, cond, eqb, List, [], ◌∷◌, ◌++◌, length, Result, Ok, Err, refl, sym, ap, subst, ◌∙◌, arith, inl, inr}
-use Rattle.std.specs.Prelude.{◌⊎◌, MatchResult}
+use Rattle.std.proofs.Common.{◌≡◌, ℕ, zero, suc, Bool, true, false, List, [], ◌∷◌, ◌++◌, length, Result, Ok, Err, refl, sym, ap, subst, ◌∙◌, arith, inl}
+use Rattle.std.specs.Prelude.{MatchResult}
 use Rattle.std.proofs.lemmas.List.{append-nil, length-append}
 use Rattle.rpki_der.specs.declared.cursor.Cursor.{Cursor}
 use Rattle.rpki_der.specs.declared.error.DerError.{DerError}
-use Rattle.rpki_der.specs.declared.error.DerError.TheVariants.{BadTag, NotCanonical}
-use Rattle.rpki_der.specs.Der.{EachFrom, IsBytes, NoFront, Refines, Tlv}
+use Rattle.rpki_der.specs.Der.{EachFrom, IsBytes, Refines, Tlv}
 use Rattle.rpki_der.specs.Reading.{◌>>=◌, IsModal, IsReading, Tightens, each_from, ended, passing, tagged_at}
 use Rattle.rpki_der.specs.Views.{Lenient, is_strict, left}
 use Rattle.rpki_der.proofs.Lists.{HasOctets}
@@ -26,9 +25,7 @@ pub by_tag_tightens : {X : Type 0} (strict : Bool) (tag : ℕ) (one two first se
     → ((content : List ℕ) → Tightens strict (one content) (first content)) → ((content : List ℕ) → Tightens strict (two content) (second content))
     → (v : Tlv) → Tightens strict (by_tag tag one two v) (by_tag tag first second v)
 unfolding by_tag
-by_tag_tightens strict tag one two first second tight also v =
-    cond_tightens strict (eqb v.tag tag) (one v.content) (cond (eqb v.tag 48) (two v.content) (Err BadTag)) (first v.content) (cond (eqb v.tag 48) (second v.content) (Err BadTag)) (tight v.content)
-    (cond_tightens strict (eqb v.tag 48) (two v.content) (Err BadTag) (second v.content) (Err BadTag) (also v.content) (inl refl))
+by_tag_tightens strict tag one two first second tight also v = grind (arith, cond_tightens)
 
 -- ---- in a content
 
@@ -72,9 +69,7 @@ module _ {X Y : Type 0} (S : List ℕ → X → Type 0) (C : X → X → Y → T
 pub only_tightens : {X : Type 0} (strict : Bool) (by reading : List ℕ → Result (X × List ℕ) DerError) → ((bytes : List ℕ) → Tightens strict (by bytes) (reading bytes))
     → (content : List ℕ) → Tightens strict (only by content) (only reading content)
 unfolding only
-only_tightens {X} strict by reading tight content =
-    let then : X × List ℕ → Result X DerError = λ x. ended x.1 >>= λ end. Ok x.0 in
-    bind_tightens strict (by content) (reading content) then then (tight content) (λ x. inl refl)
+only_tightens strict by reading tight content = grind (arith, bind_tightens)
 
 -- and a value that encloses one
 pub enclosed_modal : {X : Type 0} (tag : ℕ) (S : List ℕ → X → Type 0) (reading : List ℕ → Result (X × List ℕ) DerError) (by : Bool → List ℕ → Result (X × List ℕ) DerError)
@@ -91,8 +86,7 @@ then_stateless : {S T X : Type 0} (next : S → X → S) (more : T → X → T) 
     → ((s : S) (t : T) (bytes : List ℕ) → each_from next steps (λ s. reading) s bytes ≡ each_from more steps (λ t. reading) t bytes)
     → (s : S) (t : T) (r : Result (X × List ℕ) DerError)
     → (r >>= λ x. each_from next steps (λ s. reading) (next s x.0) x.1 >>= λ xs. Ok (x.0 ∷ xs)) ≡ (r >>= λ x. each_from more steps (λ t. reading) (more t x.0) x.1 >>= λ xs. Ok (x.0 ∷ xs))
-then_stateless next more reading steps same s t (Ok x) = ap (λ r. r >>= λ xs. Ok (x.0 ∷ xs)) (same (next s x.0) (more t x.0) x.1)
-then_stateless next more reading steps same s t (Err e) = refl
+then_stateless next more reading steps same s t v7 = grind (arith)
 
 each_stateless : {S T X : Type 0} (next : S → X → S) (more : T → X → T) (reading : List ℕ → Result (X × List ℕ) DerError) (steps : ℕ) (s : S) (t : T) (bytes : List ℕ)
     → each_from next steps (λ s. reading) s bytes ≡ each_from more steps (λ t. reading) t bytes
@@ -143,25 +137,17 @@ sequence_modal next G H reading by is has modal state = record {
 -- a take from a cursor that isn't strict
 pub exact_or_memory_by : {X Y : Type 0} (S : List ℕ → Y → Type 0) (reading : List ℕ → Result (Y × List ℕ) DerError) (by : Bool → List ℕ → Result (Y × List ℕ) DerError) (view : X → Y) (old new : Cursor) (result : Result X (OrMemory DerError))
     → IsModal S reading by → TakesOrMemory view old new result (by (is_strict old)) → Lenient old (TakesOrMemory view old new result reading)
-exact_or_memory_by S reading by view old new result modal took lenient =
-    subst (λ r. TakesOrMemory view old new result r) (lenient_is S reading by modal) (subst (λ mode. TakesOrMemory view old new result (by mode)) lenient took)
+exact_or_memory_by v0 reading by view old new result modal took lenient = grind (arith, lenient_is)
 
 -- one that answers what is said by what the reading gives
 pub exact_said_by : {X Y : Type 0} (S : List ℕ → Y → Type 0) (C : Y → X → Type 0) (reading : List ℕ → Result (Y × List ℕ) DerError) (by : Bool → List ℕ → Result (Y × List ℕ) DerError) (old new : Cursor) (result : Result X (OrMemory DerError))
     → IsModal S reading by → TakesSaidOrMemory C old new result (by (is_strict old)) → Lenient old (TakesSaidOrMemory C old new result reading)
-exact_said_by S C reading by old new result modal took lenient =
-    subst (λ r. TakesSaidOrMemory C old new result r) (lenient_is S reading by modal) (subst (λ mode. TakesSaidOrMemory C old new result (by mode)) lenient took)
+exact_said_by v0 v1 reading by old new result modal took lenient = grind (arith, lenient_is)
 
 -- a take that answers what is said by what the reading gives
 pub refused_said_by : {X Y : Type 0} (G S : List ℕ → Y → Type 0) (C : Y → X → Type 0) (reading : List ℕ → Result (Y × List ℕ) DerError) (by : Bool → List ℕ → Result (Y × List ℕ) DerError) (old new : Cursor) (result : Result X (OrMemory DerError))
     → IsReading G reading → IsModal S reading by → TakesSaidOrMemory C old new result (by (is_strict old)) → NotCanonicalOrMemory (Refines G C) old result
-refused_said_by G S C reading by old new (Ok x) is modal took = tt
-refused_said_by G S C reading by old new (Err (Memory e)) is modal took = tt
-refused_said_by {X} {Y} G S C reading by old new (Err (Refused e)) is modal took = of_said (refused_at G S reading by is modal (is_strict old) (left old) e took.0)
-  where
-    of_said : ((is_strict old ≡ true) × (e ≡ NotCanonical)) ⊎ NoFront G (left old) → ((is_strict old ≡ true) × (e ≡ NotCanonical)) ⊎ NoFront (Refines G C) (left old)
-    of_said (inl not_canonical) = inl not_canonical
-    of_said (inr none) = inr (λ x rest found. none found.1.0 rest (found.0, found.1.1, found.2))
+refused_said_by v0 v1 v2 reading by old new v7 is modal took = grind (arith, refused_at)
 
 -- a take, by another name of the grammar
 pub reads_same : {X Y : Type 0} (G H : List ℕ → Y → Type 0) (view : X → Y) (old new : Cursor) (result : Result X (OrMemory DerError))

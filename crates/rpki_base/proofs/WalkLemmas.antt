@@ -1,5 +1,5 @@
 -- A walk over two ascending lists gives the wanted numbers of both, ascending.
-use Rattle.std.proofs.Common.{◌≡◌, ℕ, zero, suc, ◌<◌, ◌⊎◌, inl, inr, ◌↔◌, Bool, true, false, List, [], ◌∷◌, length, get_or, Contains, IsTrue, arith, refl, sym, ◌∙◌, subst, add-one, lt-ltb, le-ltb}
+use Rattle.std.proofs.Common.{◌≡◌, ℕ, zero, suc, ◌<◌, ◌⊎◌, inl, inr, ◌↔◌, Bool, List, [], ◌∷◌, length, get_or, Contains, IsTrue, arith, subst, add-one, lt-ltb, le-ltb}
 use Rattle.std.specs.List.{AllByRecursion}
 use Rattle.std.specs.List.Sorted.{IsStrictlyIncreasing}
 use Rattle.std.proofs.lemmas.Bool.{cases_lt, cases_eq}
@@ -25,10 +25,7 @@ from_among n (x ∷ xs) (inr h) = let later = from_among n xs h in (suc later.0,
 -- a number is among others or isn't
 pub is_among : (n : ℕ) (xs : List ℕ) → Among n xs ⊎ ¬ Among n xs
 is_among n [] = inr (λ h. h)
-is_among n (x ∷ xs) = elim (cases_eq x n) [
-  | inl is ↦ inl (inl is)
-  | inr other ↦ elim (is_among n xs) [ inl h ↦ inl (inr h) | inr none ↦ inr (λ h. elim h [ inl is ↦ other is | inr later ↦ none later ]) ]
-]
+is_among n (x ∷ xs) = grind (arith, cases_eq, is_among n xs)
 
 -- all of the numbers are above m
 abbrev pub Above : ℕ → List ℕ → Type 0
@@ -66,34 +63,26 @@ first_above m (x ∷ xs) h some = h.0
 pub IsStrictlyIncreasing-rises : (xs : List ℕ) → Rises xs → IsStrictlyIncreasing xs
 IsStrictlyIncreasing-rises [] h k small = absurd (omega (arith, small))
 IsStrictlyIncreasing-rises (x ∷ xs) h zero small = first_above x xs h.0 (omega (arith, small))
-IsStrictlyIncreasing-rises (x ∷ xs) h (suc k) small =
-    let next = IsStrictlyIncreasing-rises xs h.1 k (omega (arith, small)) in
-    rw add-one (rw add-one at next)
+IsStrictlyIncreasing-rises (x ∷ xs) h (suc k) small = grind (arith, IsStrictlyIncreasing-rises xs h.1 k (omega (arith, small)))
 
 -- a number before others, wanted or not
 kept_is : (b : Bool) (x n : ℕ) (zs : List ℕ) → Among n (kept_items b x zs) ↔ ((IsTrue b × (x ≡ n)) ⊎ Among n zs)
-kept_is true x n zs = ((λ h. elim h [ inl is ↦ inl (refl, is) | inr later ↦ inr later ]), λ h. elim h [ inl is ↦ inl is.1 | inr later ↦ inr later ])
-kept_is false x n zs = ((λ h. inr h), λ h. elim h [ inl is ↦ (let never = is.0 in cc) | inr later ↦ later ])
+kept_is v0 x n zs = grind (arith)
 
 all_kept_is : (b : Bool) (n : ℕ) (zs : List ℕ) → Among n (all_kept b zs) ↔ (IsTrue b × Among n zs)
-all_kept_is true n zs = ((λ h. (refl, h)), λ h. h.1)
-all_kept_is false n zs = ((λ h. absurd h), λ h. (let never = h.0 in cc))
+all_kept_is v0 n zs = grind (arith)
 
 above_kept : (b : Bool) (m x : ℕ) (zs : List ℕ) → m < x → Above m zs → Above m (kept_items b x zs)
-above_kept true m x zs less h = (less, h)
-above_kept false m x zs less h = h
+above_kept v0 m x zs less h = grind (arith)
 
 above_all_kept : (b : Bool) (m : ℕ) (zs : List ℕ) → Above m zs → Above m (all_kept b zs)
-above_all_kept true m zs h = h
-above_all_kept false m zs h = tt
+above_all_kept v0 m zs h = grind (arith)
 
 rises_kept : (b : Bool) (x : ℕ) (zs : List ℕ) → Above x zs → Rises zs → Rises (kept_items b x zs)
-rises_kept true x zs h k = (h, k)
-rises_kept false x zs h k = k
+rises_kept v0 x zs h k = grind (arith)
 
 rises_all_kept : (b : Bool) (zs : List ℕ) → Rises zs → Rises (all_kept b zs)
-rises_all_kept true zs h = h
-rises_all_kept false zs h = tt
+rises_all_kept v0 zs h = grind (arith)
 
 -- n is wanted, by the lists that it is among
 abbrev pub IsWanted : Wanted → List ℕ → List ℕ → ℕ → Type 0
@@ -105,82 +94,22 @@ IsWanted wanted xs ys n =
 -- one turn: the least number x is of the left list alone
 module _ (wanted : Wanted) (x n : ℕ) (xs ys zs : List ℕ) (before : Above x ys) (rest : Among n zs ↔ IsWanted wanted xs ys n) where
   left_turn : Among n (kept_items wanted.left x zs) ↔ IsWanted wanted (x ∷ xs) ys n
-  left_turn = (
-    (λ h. elim ((kept_is wanted.left x n zs).0 h) [
-      | inl is ↦ inl (is.0, inl is.1, λ other. let less = above_is x n ys before other in omega (arith, less, is.1))
-      | inr later ↦ elim (rest.0 later) [
-        | inl a ↦ inl (a.0, inr a.1, a.2)
-        | inr other ↦ elim other [
-          | inl b ↦ inr (inl (b.0, inr b.1, b.2))
-          | inr c ↦ inr (inr (c.0, (λ here. elim here [ inl is ↦ (let less = above_is x n ys before c.2 in omega (arith, less, is)) | inr d ↦ c.1 d ]), c.2))
-        ]
-      ]
-    ]),
-    λ h. (kept_is wanted.left x n zs).1 (elim h [
-      | inl a ↦ elim a.1 [ inl is ↦ inl (a.0, is) | inr later ↦ inr (rest.1 (inl (a.0, later, a.2))) ]
-      | inr other ↦ elim other [
-        | inl b ↦ elim b.1 [ inl is ↦ absurd (let less = above_is x n ys before b.2 in omega (arith, less, is)) | inr later ↦ inr (rest.1 (inr (inl (b.0, later, b.2)))) ]
-        | inr c ↦ inr (rest.1 (inr (inr (c.0, (λ later. c.1 (inr later)), c.2))))
-      ]
-    ]),
-  )
+  left_turn  = grind (arith, above_is, kept_is)
 
 -- one turn: the least number y is of the right list alone
 module _ (wanted : Wanted) (y n : ℕ) (xs ys zs : List ℕ) (before : Above y xs) (rest : Among n zs ↔ IsWanted wanted xs ys n) where
   right_turn : Among n (kept_items wanted.right y zs) ↔ IsWanted wanted xs (y ∷ ys) n
-  right_turn = (
-    (λ h. elim ((kept_is wanted.right y n zs).0 h) [
-      | inl is ↦ inr (inr (is.0, (λ other. let less = above_is y n xs before other in omega (arith, less, is.1)), inl is.1))
-      | inr later ↦ elim (rest.0 later) [
-        | inl a ↦ inl (a.0, a.1, λ here. elim here [ inl is ↦ (let less = above_is y n xs before a.1 in omega (arith, less, is)) | inr d ↦ a.2 d ])
-        | inr other ↦ elim other [
-          | inl b ↦ inr (inl (b.0, b.1, inr b.2))
-          | inr c ↦ inr (inr (c.0, c.1, inr c.2))
-        ]
-      ]
-    ]),
-    λ h. (kept_is wanted.right y n zs).1 (elim h [
-      | inl a ↦ inr (rest.1 (inl (a.0, a.1, λ later. a.2 (inr later))))
-      | inr other ↦ elim other [
-        | inl b ↦ elim b.2 [ inl is ↦ absurd (let less = above_is y n xs before b.1 in omega (arith, less, is)) | inr later ↦ inr (rest.1 (inr (inl (b.0, b.1, later)))) ]
-        | inr c ↦ elim c.2 [ inl is ↦ inl (c.0, is) | inr later ↦ inr (rest.1 (inr (inr (c.0, c.1, later)))) ]
-      ]
-    ]),
-  )
+  right_turn  = grind (arith, above_is, kept_is)
 
 -- one turn: both lists begin with it
 module _ (wanted : Wanted) (x y n : ℕ) (xs ys zs : List ℕ) (same : x ≡ y) (above_left : Above x xs) (above_right : Above y ys) (rest : Among n zs ↔ IsWanted wanted xs ys n) where
   both_turn : Among n (kept_items wanted.both x zs) ↔ IsWanted wanted (x ∷ xs) (y ∷ ys) n
-  both_turn = (
-    (λ h. elim ((kept_is wanted.both x n zs).0 h) [
-      | inl is ↦ inr (inl (is.0, inl is.1, inl (sym same ∙ is.1)))
-      | inr later ↦ elim (rest.0 later) [
-        | inl a ↦ inl (a.0, inr a.1, λ here. elim here [ inl is ↦ (let less = above_is x n xs above_left a.1 in omega (arith, less, is, same)) | inr d ↦ a.2 d ])
-        | inr other ↦ elim other [
-          | inl b ↦ inr (inl (b.0, inr b.1, inr b.2))
-          | inr c ↦ inr (inr (c.0, (λ here. elim here [ inl is ↦ (let less = above_is y n ys above_right c.2 in omega (arith, less, is, same)) | inr d ↦ c.1 d ]), inr c.2))
-        ]
-      ]
-    ]),
-    λ h. (kept_is wanted.both x n zs).1 (elim h [
-      | inl a ↦ elim a.1 [ inl is ↦ absurd (a.2 (inl (sym same ∙ is))) | inr later ↦ inr (rest.1 (inl (a.0, later, λ d. a.2 (inr d)))) ]
-      | inr other ↦ elim other [
-        | inl b ↦ elim b.1 [
-          | inl is ↦ inl (b.0, is)
-          | inr later ↦ elim b.2 [ inl is ↦ absurd (let less = above_is x n xs above_left later in omega (arith, less, is, same)) | inr d ↦ inr (rest.1 (inr (inl (b.0, later, d)))) ]
-        ]
-        | inr c ↦ elim c.2 [ inl is ↦ absurd (c.1 (inl (same ∙ is))) | inr later ↦ inr (rest.1 (inr (inr (c.0, (λ d. c.1 (inr d)), later)))) ]
-      ]
-    ]),
-  )
+  both_turn  = grind (arith, above_is, kept_is)
 
 -- a walk from x on, where `others` walks over what follows x and a list: it gives the wanted numbers
 module _ (wanted : Wanted) (x : ℕ) (xs : List ℕ) (others : List ℕ → List ℕ) (above : Above x xs) (others_are : (ys : List ℕ) → Rises ys → (n : ℕ) → Among n (others ys) ↔ IsWanted wanted xs ys n) where
   step_is : (ys : List ℕ) → Rises ys → (n : ℕ) → Among n (walk_step wanted x xs others ys) ↔ IsWanted wanted (x ∷ xs) ys n
-  step_is [] h n = (
-    (λ k. let all = (all_kept_is wanted.left n (x ∷ xs)).0 k in inl (all.0, all.1, λ never. never)),
-    λ k. (all_kept_is wanted.left n (x ∷ xs)).1 (elim k [ inl a ↦ (a.0, a.1) | inr other ↦ elim other [ inl b ↦ absurd b.2 | inr c ↦ absurd c.2 ] ]),
-  )
+  step_is [] h n = grind (arith, all_kept_is)
   step_is (y ∷ ys) h n = elim (cases_lt x y) [
     | inl less ↦ rw (lt-ltb x y less) (left_turn wanted x n xs (y ∷ ys) (others (y ∷ ys)) (less, above_more x y ys less h.0) (others_are (y ∷ ys) h n))
     | inr least ↦ elim (cases_lt y x) [
@@ -225,8 +154,5 @@ walk_rises wanted [] ys h k = rises_all_kept wanted.right ys k
 walk_rises wanted (x ∷ xs) ys h k = step_rises wanted x xs (walk wanted xs) h.0 (walk_above wanted xs) (λ others r. walk_rises wanted xs others h.1 r) h.1 ys k
 
 pub walk_is : (wanted : Wanted) (xs ys : List ℕ) → Rises xs → Rises ys → (n : ℕ) → Among n (walk wanted xs ys) ↔ IsWanted wanted xs ys n
-walk_is wanted [] ys h k n = (
-  (λ a. let all = (all_kept_is wanted.right n ys).0 a in inr (inr (all.0, (λ never. never), all.1))),
-  λ a. (all_kept_is wanted.right n ys).1 (elim a [ inl b ↦ absurd b.1 | inr other ↦ elim other [ inl b ↦ absurd b.1 | inr c ↦ (c.0, c.2) ] ]),
-)
+walk_is wanted [] ys h k n = grind (arith, all_kept_is)
 walk_is wanted (x ∷ xs) ys h k n = step_is wanted x xs (walk wanted xs) h.0 (λ others r m. walk_is wanted xs others h.1 r m) ys k n

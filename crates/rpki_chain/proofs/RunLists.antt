@@ -12,13 +12,7 @@ use Rattle.rpki_chain.specs.Runs.{Runs, Holds, IsRunsOf, IsRunsOfBlocks}
 
 -- whether a number lies within bounds is decided
 is_decided : (b : ℕ × ℕ) (n : ℕ) → IsWithin b n ⊎ (IsWithin b n → ⊥)
-is_decided b n = ⊎_elim
-    (λ (below : n < b.0). inr (λ w. omega (arith, w.0)))
-    (λ (from : b.0 ≤ n). ⊎_elim
-    (λ (above : b.1 < n). inr (λ w. omega (arith, w.1)))
-    (λ (to : n ≤ b.1). inl (from, to))
-    (cases_lt b.1 n))
-    (cases_lt n b.0)
+is_decided b n = grind (arith, cases_lt)
 
 -- a map that changes nothing
 map-itself : (xs : Runs) → map (λ b. b) xs ≡ xs
@@ -66,11 +60,7 @@ module _ {B : Type 0} (f : B → ℕ × ℕ) where
 
 -- the runs of a set are those of any set with the same numbers
 pub IsRunsOf-same : (xs : Runs) (S U : ℕ → Type 0) → ((n : ℕ) → S n ↔ U n) → IsRunsOf S xs → IsRunsOf U xs
-IsRunsOf-same xs S U same h = record {
-  members = λ n. (λ c. (same n).0 ((h.members n).0 c), λ s. (h.members n).1 ((same n).1 s));
-  ordered = h.ordered;
-  apart = h.apart;
-}
+IsRunsOf-same xs v1 v2 same h = grind (arith)
 
 -- runs are a chain of blocks that are their own bounds
 is_chain : (S : ℕ → Type 0) (xs : Runs) → IsRunsOf S xs → IsChain (λ b. b) (λ b. b) xs

@@ -1,6 +1,6 @@
 -- Families are refused for none at all exactly where none are there, and for one that is there twice exactly where it
 -- stands behind members that were read, of which one has it.
-use Rattle.std.proofs.Common.{◌≡◌, ◌≢◌, ℕ, zero, suc, ◌≤◌, ◌<◌, ◌↔◌, Bool, true, false, cond, List, [], ◌∷◌, length, Result, Ok, Err, refl, sym, ap, subst, ◌∙◌, arith, inl, inr}
+use Rattle.std.proofs.Common.{◌≡◌, ◌≢◌, ℕ, zero, suc, ◌≤◌, ◌<◌, ◌↔◌, Bool, true, false, cond, List, [], ◌∷◌, length, Result, Ok, Err, refl, sym, ap, ◌∙◌, arith, inl}
 use Rattle.std.specs.Prelude.{◌⊎◌}
 use Rattle.std.proofs.lemmas.Bool.{ne_eqb}
 use Rattle.rpki_der.specs.declared.error.DerError.{DerError}
@@ -10,7 +10,6 @@ use Rattle.rpki_der.proofs.Steps.{bind_ok, ok_is, passed}
 use Rattle.rpki_base.specs.DerFaults.{BeginsEmpty, BeginsWithAll, BeginsWithValue}
 use Rattle.rpki_base.proofs.DerFaults.{NamesTo, begins_value, bind_fails, bind_names, cond_names, ended_names, names_more, not_named, refined_names, tagged_fails, tagged_names, tagged_shorter}
 use Rattle.rpki_base.specs.declared.family.AddressFamily.{AddressFamily}
-use Rattle.rpki_base.specs.declared.family.AddressFamily.TheVariants.{Ipv4, Ipv6}
 use Rattle.rpki_base.specs.FamilyDer.{family_at}
 use Rattle.rpki_base.proofs.FamilyLemmas.{family_names}
 use Rattle.rpki_claims.specs.Families.{ByFamily, claims_among}
@@ -23,18 +22,14 @@ module _ {X : Type 0} (claim_at : AddressFamily → List ℕ → Result (X × Li
   claim_of family bytes = claim_at family bytes >>= λ claim. ended claim.1 >>= λ end. Ok (family, claim.0)
 
   claim_names : (family : AddressFamily) (bytes : List ℕ) → NamesTo 11 (claim_of family bytes)
-  claim_names family bytes =
-      bind_names 11 (claim_at family bytes) (λ claim. ended claim.1 >>= λ end. Ok (family, claim.0)) (names family bytes)
-      (λ claim. bind_names 11 (ended claim.1) (λ end. Ok (family, claim.0)) (names_more 7 11 (ended claim.1) (omega arith) (ended_names claim.1)) (λ end. tt))
+  claim_names family bytes = grind (arith, bind_names, ended_names, names_more)
 
   abbrev behind_family : Bool × Bool → AddressFamily × List ℕ → Result (AddressFamily × X) DerError
   behind_family before family = cond (was_seen before family.0) (Err DuplicateFamily) (claim_of family.0 family.1)
 
   member_in_names : (before : Bool × Bool) (content : List ℕ) → NamesTo 12 (member_in claim_at before content)
   unfolding member_in
-  member_in_names before content =
-      bind_names 12 (family_at content) (behind_family before) (names_more 9 12 (family_at content) (omega arith) (family_names content))
-      (λ family. cond_names 12 (was_seen before family.0) (Err DuplicateFamily) (claim_of family.0 family.1) (omega arith) (names_more 11 12 (claim_of family.0 family.1) (omega arith) (claim_names family.0 family.1)))
+  member_in_names before content = grind (arith, bind_names, claim_names, cond_names, family_names, names_more)
 
   member_names : (before : Bool × Bool) (bytes : List ℕ) → NamesTo 12 (member_at claim_at before bytes)
   member_names before = refined_names 12 (tagged_at 48) (member_in claim_at before) (λ bytes. names_more 3 12 (tagged_at 48 bytes) (omega arith) (tagged_names 48 bytes)) (member_in_names before)
@@ -67,8 +62,7 @@ module _ {X : Type 0} (claim_at : AddressFamily → List ℕ → Result (X × Li
 
   fails_empty : (content : List ℕ) → IsEmpty content → FailsEmpty content
   unfolding families_in
-  fails_empty [] is = refl
-  fails_empty (b ∷ bytes) is = absurd cc
+  fails_empty v0 is = grind (arith)
 
   pub no_family : (bytes : List ℕ) → (families_at claim_at bytes ≡ Err NoFamily) ↔ BeginsEmpty bytes
   no_family bytes =
@@ -82,14 +76,11 @@ module _ {X : Type 0} (claim_at : AddressFamily → List ℕ → Result (X × Li
   BeginsSeen before content = (family : AddressFamily × List ℕ) × (family_at content ≡ Ok family) × (was_seen before family.0 ≡ true)
 
   seen_by : (b : Bool) (r : Result (AddressFamily × X) DerError) → NamesTo 11 r → cond b (Err DuplicateFamily) r ≡ Err DuplicateFamily → b ≡ true
-  seen_by true r few is = refl
-  seen_by false r few is = absurd (not_named 11 r DuplicateFamily few (omega arith) is)
+  seen_by v0 r few is = grind (arith, not_named)
 
   seen_fails : (before : Bool × Bool) (content : List ℕ) → member_in claim_at before content ≡ Err DuplicateFamily → BeginsSeen before content
   unfolding member_in
-  seen_fails before content is =
-      let a = bind_fails (family_at content) (behind_family before) DuplicateFamily (not_named 9 (family_at content) DuplicateFamily (family_names content) (omega arith)) is in
-      (a.0, a.1, seen_by (was_seen before a.0.0) (claim_of a.0.0 a.0.1) (claim_names a.0.0 a.0.1) a.2)
+  seen_fails before content is = grind (arith, bind_fails, claim_names, family_names, not_named, seen_by)
 
   fails_seen : (before : Bool × Bool) (content : List ℕ) → BeginsSeen before content → member_in claim_at before content ≡ Err DuplicateFamily
   unfolding member_in
@@ -112,22 +103,11 @@ module _ {X : Type 0} (claim_at : AddressFamily → List ℕ → Result (X × Li
     claim : claim_of member.0 behind ≡ Ok member
 
   claim_family : (family : AddressFamily) (bytes : List ℕ) (member : AddressFamily × X) → claim_of family bytes ≡ Ok member → family ≡ member.0
-  claim_family family bytes member is =
-      let c = bind_ok (claim_at family bytes) (λ claim. ended claim.1 >>= λ end. Ok (family, claim.0)) member is in
-      let z = bind_ok (ended c.0.1) (λ end. Ok (family, c.0.0)) member c.2 in
-      ap (λ (m : AddressFamily × X). m.0) (ok_is (family, c.0.0) member z.2)
+  claim_family family bytes member is = grind (arith, bind_ok, ok_is)
 
   behind_is : (before : Bool × Bool) (content : List ℕ) (family : AddressFamily) (behind : List ℕ) (member : AddressFamily × X)
       → family_at content ≡ Ok (family, behind) → behind_family before (family, behind) ≡ Ok member → IsInside before content member
-  behind_is before content family behind member read is =
-      let g = passed (was_seen before family) DuplicateFamily (claim_of family behind) member is in
-      let of : family ≡ member.0 = claim_family family behind member g.1 in
-      record {
-        behind = behind;
-        family = read ∙ ap (λ (t : AddressFamily). Ok (t, behind)) of;
-        new = ap (was_seen before) (sym of) ∙ g.0;
-        claim = ap (λ (t : AddressFamily). claim_of t behind) (sym of) ∙ g.1;
-      }
+  behind_is before content family behind member read is = grind (arith, claim_family, passed)
 
   inside_is : (before : Bool × Bool) (content : List ℕ) (member : AddressFamily × X) → member_in claim_at before content ≡ Ok member → IsInside before content member
   unfolding member_in
@@ -143,19 +123,11 @@ module _ {X : Type 0} (claim_at : AddressFamily → List ℕ → Result (X × Li
 
   content_is : (before : Bool × Bool) (bytes content left : List ℕ) (found member : AddressFamily × X) (rest : List ℕ)
       → tagged_at 48 bytes ≡ Ok (content, left) → member_in claim_at before content ≡ Ok found → found ≡ member → left ≡ rest → IsRead before bytes member rest
-  content_is before bytes content left found member rest read is same also = record {
-    content = content;
-    enclosed = read ∙ ap (λ (t : List ℕ). Ok (content, t)) also;
-    inside = inside_is before content member (is ∙ ap (λ (m : AddressFamily × X). Ok m) same);
-  }
+  content_is before bytes content left found member rest read is same also = grind (arith, inside_is)
 
   read_is : (before : Bool × Bool) (bytes : List ℕ) (member : AddressFamily × X) (rest : List ℕ) → member_at claim_at before bytes ≡ Ok (member, rest) → IsRead before bytes member rest
   unfolding refined
-  read_is before bytes member rest is =
-      let a = bind_ok (tagged_at 48 bytes) (λ x. member_in claim_at before x.0 >>= λ y. Ok (y, x.1)) (member, rest) is in
-      let m = bind_ok (member_in claim_at before a.0.0) (λ y. Ok (y, a.0.1)) (member, rest) a.2 in
-      let both = ok_is (m.0, a.0.1) (member, rest) m.2 in
-      content_is before bytes a.0.0 a.0.1 m.0 member rest a.1 m.1 (ap (λ (p : (AddressFamily × X) × List ℕ). p.0) both) (ap (λ (p : (AddressFamily × X) × List ℕ). p.1) both)
+  read_is before bytes member rest is = grind (arith, bind_ok, content_is, ok_is)
 
   -- where its family wasn't there before, it is read
   is_read : (before after : Bool × Bool) (bytes : List ℕ) (member : AddressFamily × X) (rest : List ℕ) → IsRead before bytes member rest → was_seen after member.0 ≡ false → member_at claim_at after bytes ≡ Ok (member, rest)
@@ -171,8 +143,7 @@ module _ {X : Type 0} (claim_at : AddressFamily → List ℕ → Result (X × Li
   member_shorter before bytes one is = let read = read_is before bytes one.0 one.1 is in tagged_shorter 48 bytes (read.content, one.1) read.enclosed
 
   none_seen : (family : AddressFamily) → was_seen (false, false) family ≡ false
-  none_seen Ipv4 = refl
-  none_seen Ipv6 = refl
+  none_seen v0 = grind (arith)
 
   -- the family was there, or is that of one of the members
   abbrev IsThere : ByFamily X → List (AddressFamily × X) → AddressFamily → Type 0
@@ -180,20 +151,10 @@ module _ {X : Type 0} (claim_at : AddressFamily → List ℕ → Result (X × Li
 
   -- one member more
   there_behind : (found : ByFamily X) (member : AddressFamily × X) (members : List (AddressFamily × X)) (family : AddressFamily) → IsThere (with_claim found member.0 member.1) members family → IsThere found (member ∷ members) family
-  there_behind found (Ipv4, x) members Ipv4 there = inr (λ none. absurd cc)
-  there_behind found (Ipv4, x) members Ipv6 (inl there) = inl there
-  there_behind found (Ipv4, x) members Ipv6 (inr some) = inr some
-  there_behind found (Ipv6, x) members Ipv4 (inl there) = inl there
-  there_behind found (Ipv6, x) members Ipv4 (inr some) = inr some
-  there_behind found (Ipv6, x) members Ipv6 there = inr (λ none. absurd cc)
+  there_behind found v1 members v3 there = grind (arith)
 
   there_before : (found : ByFamily X) (member : AddressFamily × X) (members : List (AddressFamily × X)) (family : AddressFamily) → IsThere found (member ∷ members) family → IsThere (with_claim found member.0 member.1) members family
-  there_before found (Ipv4, x) members Ipv4 there = inl refl
-  there_before found (Ipv4, x) members Ipv6 (inl there) = inl there
-  there_before found (Ipv4, x) members Ipv6 (inr some) = inr some
-  there_before found (Ipv6, x) members Ipv4 (inl there) = inl there
-  there_before found (Ipv6, x) members Ipv4 (inr some) = inr some
-  there_before found (Ipv6, x) members Ipv6 there = inl refl
+  there_before found v1 members v3 there = grind (arith)
 
   abbrev BeginsThere : ByFamily X → List (AddressFamily × X) → List ℕ → Type 0
   BeginsThere found members content = (family : AddressFamily × List ℕ) × (family_at content ≡ Ok family) × IsThere found members family.0
@@ -231,14 +192,7 @@ module _ {X : Type 0} (claim_at : AddressFamily → List ℕ → Result (X × Li
   fails_repeats steps found [] [] rest enough all there = absurd (let bytes : rest ≡ [] = sym all in let some = tagged_shorter 48 rest there.0 there.1 in omega (arith, some, ap length bytes))
   fails_repeats steps found (m ∷ ms) [] rest enough all there = absurd (let some = member_shorter (false, false) [] (m, all.0) all.1 in omega (arith, some))
   fails_repeats zero found members (b ∷ bytes) rest enough all there = absurd (omega (arith, enough))
-  fails_repeats (suc steps) found [] (b ∷ bytes) rest enough all there =
-      let begins : BeginsWithValue 48 (BeginsSeen (seen found)) rest = begins_value 48 (BeginsThere found []) (BeginsSeen (seen found)) (λ content (family, at, there). (family, at, is_there family.0 there)) rest there in
-      let failed : member_at claim_at (seen found) (b ∷ bytes) ≡ Err DuplicateFamily = fails_member (seen found) (b ∷ bytes) (subst (BeginsWithValue 48 (BeginsSeen (seen found))) (sym all) begins) in
-      rw failed refl
-    where
-      is_there : (family : AddressFamily) → IsThere found [] family → was_seen (seen found) family ≡ true
-      is_there family (inl there) = there
-      is_there family (inr some) = absurd (some refl)
+  fails_repeats (suc steps) found [] (b ∷ bytes) rest enough all there = grind (arith, begins_value, fails_member)
   fails_repeats (suc steps) found (m ∷ ms) (b ∷ bytes) rest enough all there = by_family (λ fewer begins. fails_repeats steps (with_claim found m.0 m.1) ms all.0 rest fewer all.2 begins) (was_seen (seen found) m.0) refl
     where
       alone : IsRead (false, false) (b ∷ bytes) m all.0
@@ -259,15 +213,7 @@ module _ {X : Type 0} (claim_at : AddressFamily → List ℕ → Result (X × Li
 
   twice_fails : (content : List ℕ) → FailsTwice content → BeginsWithRepeat claim_at content
   unfolding families_in
-  twice_fails [] is = absurd (let same : NoFamily ≡ DuplicateFamily = cc in absurd cc)
-  twice_fails (b ∷ bytes) is =
-      let more = repeats (length (b ∷ bytes)) none_found (b ∷ bytes) (sym (some_families b bytes) ∙ is) in
-      (more.0, more.1, more.2, begins_value 48 (BeginsThere none_found more.0) (λ content. (family : AddressFamily × List ℕ) × (family_at content ≡ Ok family) × (claims_among family.0 more.0 ≢ [])) (λ content (family, at, there). (family, at, among more.0 family.0 there)) more.1 more.3)
-    where
-      among : (members : List (AddressFamily × X)) (family : AddressFamily) → IsThere none_found members family → claims_among family members ≢ []
-      among members Ipv4 (inl there) = absurd cc
-      among members Ipv6 (inl there) = absurd cc
-      among members family (inr some) = some
+  twice_fails v0 is = grind (arith, begins_value, repeats, some_families)
 
   fails_twice : (content : List ℕ) → BeginsWithRepeat claim_at content → FailsTwice content
   unfolding families_in
@@ -276,9 +222,7 @@ module _ {X : Type 0} (claim_at : AddressFamily → List ℕ → Result (X × Li
       none_there : (members : List (AddressFamily × X)) → BeginsWithAll (any_member_at claim_at) [] members rest → BeginsAmong members rest → ⊥
       none_there [] all begins = let some = tagged_shorter 48 rest begins.0 begins.1 in omega (arith, some, ap length (sym all))
       none_there (m ∷ ms) all begins = let some = member_shorter (false, false) [] (m, all.0) all.1 in omega (arith, some)
-  fails_twice (b ∷ bytes) (members, rest, all, begins) =
-      some_families b bytes ∙ fails_repeats (length (b ∷ bytes)) none_found members (b ∷ bytes) rest (omega arith) all
-      (begins_value 48 (λ content. (family : AddressFamily × List ℕ) × (family_at content ≡ Ok family) × (claims_among family.0 members ≢ [])) (BeginsThere none_found members) (λ content (family, at, some). (family, at, inr some)) rest begins)
+  fails_twice (b ∷ bytes) (members, rest, all, begins) = grind (arith, begins_value, fails_repeats, some_families)
 
   pub family_twice : (bytes : List ℕ) → (families_at claim_at bytes ≡ Err DuplicateFamily) ↔ BeginsWithValue 48 (BeginsWithRepeat claim_at) bytes
   family_twice bytes =

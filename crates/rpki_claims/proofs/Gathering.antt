@@ -5,7 +5,6 @@ use Rattle.std.specs.Prelude.{IfSome}
 use Rattle.std.proofs.lemmas.Bool.{ne_eqb}
 use Rattle.std.proofs.lemmas.List.{append-nil, length-append}
 use Rattle.rpki_der.specs.declared.error.DerError.{DerError}
-use Rattle.rpki_der.specs.declared.error.DerError.TheVariants.{NoFamily}
 use Rattle.rpki_der.specs.Der.{Each, IsBytes, IsSequence, Refines}
 use Rattle.rpki_der.specs.Reading.{IsReading, tagged_at}
 use Rattle.rpki_der.proofs.Lists.{HasOctets, value_has_octets}
@@ -24,10 +23,7 @@ Adds before members fs = (family : AddressFamily) → listed (of_family family b
 module _ {X : Type 0} where
   -- a list of one at most tells what there is
   pub listed_is : (a b : Option X) → listed a ++ [] ≡ listed b → a ≡ b
-  listed_is None None e = refl
-  listed_is None (Some y) e = absurd cc
-  listed_is (Some x) None e = absurd cc
-  listed_is (Some x) (Some y) e = ap Some cc
+  listed_is v0 v1 e = grind (arith)
 
   -- no members add nothing
   nothing_adds : (fs : ByFamily X) → Adds fs [] fs
@@ -42,24 +38,20 @@ module _ {X : Type 0} where
 
   -- a claim of IPv4, which had none
   add_v4 : (v4 v6 : Option X) (x : X) (members : List (AddressFamily × X)) (fs : ByFamily X) → was_seen (seen (v4, v6)) Ipv4 ≡ false → Adds (Some x, v6) members fs → Adds (v4, v6) ((Ipv4, x) ∷ members) fs
-  add_v4 None v6 x members fs new adds = elim [ Ipv4 ↦ adds Ipv4 | Ipv6 ↦ adds Ipv6 ]
-  add_v4 (Some y) v6 x members fs new adds = absurd cc
+  add_v4 v0 v6 x members fs new adds = grind (arith)
 
   -- a claim of IPv6, which had none
   add_v6 : (v4 v6 : Option X) (x : X) (members : List (AddressFamily × X)) (fs : ByFamily X) → was_seen (seen (v4, v6)) Ipv6 ≡ false → Adds (v4, Some x) members fs → Adds (v4, v6) ((Ipv6, x) ∷ members) fs
-  add_v6 v4 None x members fs new adds = elim [ Ipv4 ↦ adds Ipv4 | Ipv6 ↦ adds Ipv6 ]
-  add_v6 v4 (Some y) x members fs new adds = absurd cc
+  add_v6 v4 v1 x members fs new adds = grind (arith)
 
   -- a claim that is new to its family
   pub add_one : (before : ByFamily X) (family : AddressFamily) (x : X) (members : List (AddressFamily × X)) (fs : ByFamily X) → was_seen (seen before) family ≡ false → Adds (with_claim before family x) members fs
       → Adds before ((family, x) ∷ members) fs
-  add_one before Ipv4 x members fs new adds = add_v4 before.0 before.1 x members fs new adds
-  add_one before Ipv6 x members fs new adds = add_v6 before.0 before.1 x members fs new adds
+  add_one before v1 x members fs new adds = grind (arith, add_v4, add_v6)
 
   -- two claims are more than a family has
   too_many : (x y : X) (zs : List X) (o : Option X) → x ∷ y ∷ zs ≡ listed o → ⊥
-  too_many x y zs None e = cc
-  too_many x y zs (Some z) e = let h : length (x ∷ y ∷ zs) ≡ 1 = ap length e in omega arith
+  too_many x y zs v3 e = grind (arith)
 
   -- the claim is new to its family, and it and the others are all
   pub record One (before : ByFamily X) (family : AddressFamily) (x : X) (members : List (AddressFamily × X)) (fs : ByFamily X) : Type 0 where
@@ -88,8 +80,7 @@ module _ {X : Type 0} (G : AddressFamily → List ℕ → X → Type 0) where
 
   -- octets that are left are those of a member
   not_nil : (b : ℕ) (bytes : List ℕ) (members : List (AddressFamily × X)) → Each (IsMember G) (b ∷ bytes) members → members ≢ []
-  not_nil b bytes [] all = absurd cc
-  not_nil b bytes (m ∷ members) all = λ e. absurd cc
+  not_nil b bytes v2 all = grind (arith)
 
 module _ {X : Type 0} (G : AddressFamily → List ℕ → X → Type 0) (claim_at : AddressFamily → List ℕ → Result (X × List ℕ) DerError) (is : (family : AddressFamily) → IsReading (G family) (claim_at family)) where
   -- members that are read stand there
@@ -126,11 +117,7 @@ module _ {X : Type 0} (G : AddressFamily → List ℕ → X → Type 0) (claim_a
   -- families that are read are said by the content
   families_say : (content : List ℕ) (fs : ByFamily X) → IsBytes content → families_in claim_at content ≡ Ok fs → SaysFamilies G content fs
   unfolding families_in
-  families_say [] fs fits e = absurd cc
-  families_say (b ∷ bytes) fs fits e =
-      let g = passed (eqb (length (b ∷ bytes)) 0) NoFamily (members_in claim_at (length (b ∷ bytes)) none_found (b ∷ bytes)) fs e in
-      let members = members_say (length (b ∷ bytes)) none_found (b ∷ bytes) fs fits g.1 in
-      (members.0, members.1, not_nil G b bytes members.0 members.1, elim [ Ipv4 ↦ members.2 Ipv4 | Ipv6 ↦ members.2 Ipv6 ])
+  families_say v0 fs fits e = grind (arith, members_say, not_nil, passed)
 
   -- families that the content says are read
   families_again : (content : List ℕ) (fs : ByFamily X) → SaysFamilies G content fs → families_in claim_at content ≡ Ok fs
@@ -162,8 +149,7 @@ module _ {X : Type 0} (G : AddressFamily → List ℕ → X → Type 0) where
 
   -- and so does what they gather
   one_there : (family : AddressFamily) (o : Option X) → AllByRecursion (IsThere family) (listed o) → IfSome o (IsThere family)
-  one_there family None all = tt
-  one_there family (Some x) all = all.0
+  one_there family v1 all = grind (arith)
 
   pub each_there : (family : AddressFamily) (bytes : List ℕ) (fs : ByFamily X) → IsFamilies G bytes fs → IfSome (of_family family fs) (IsThere family)
   each_there family bytes fs (content, is, (members, all, some, gathered)) = one_there family (of_family family fs) (subst (AllByRecursion (IsThere family)) (gathered family) (claims_there family members content all))

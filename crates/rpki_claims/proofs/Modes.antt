@@ -39,15 +39,7 @@ module _ {X : Type 0} (strict : Bool) (by claim_at : AddressFamily → List ℕ 
   -- the content of a member
   member_in_tightens : (before : Bool × Bool) (content : List ℕ) → Tightens strict (member_in_by strict by before content) (member_in claim_at before content)
   unfolding member_in member_in_by
-  member_in_tightens before content =
-      let finish : AddressFamily → X × List ℕ → Result (AddressFamily × X) DerError = λ family claim. ended claim.1 >>= λ end. Ok (family, claim.0) in
-      let loose : AddressFamily × List ℕ → Result (AddressFamily × X) DerError = λ family. claim_at family.0 family.1 >>= finish family.0 in
-      let then : AddressFamily × List ℕ → Result (AddressFamily × X) DerError = λ family. passing strict (is_in_order before) family.0 >>= λ ordered. (by family.0 family.1 >>= finish family.0) in
-      bind_tightens strict (family_at content) (family_at content)
-      (λ family. cond (was_seen before family.0) (Err DuplicateFamily) (then family)) (λ family. cond (was_seen before family.0) (Err DuplicateFamily) (loose family)) (inl refl)
-      (λ family. cond_tightens strict (was_seen before family.0) (Err DuplicateFamily) (then family) (Err DuplicateFamily) (loose family) (inl refl)
-      (bind_tightens strict (passing strict (is_in_order before) family.0) (Ok family.0) (λ ordered. (by family.0 family.1 >>= finish family.0)) (λ ordered. loose family) (passing_tightens strict (is_in_order before) family.0)
-      (λ ordered. bind_tightens strict (by family.0 family.1) (claim_at family.0 family.1) (finish family.0) (finish family.0) (tight family.0 family.1) (λ claim. inl refl))))
+  member_in_tightens before content = grind (arith, bind_tightens, cond_tightens, passing_tightens)
 
   -- a member
   pub member_tightens : (before : Bool × Bool) (bytes : List ℕ) → Tightens strict (member_by strict by before bytes) (member_at claim_at before bytes)
@@ -68,9 +60,7 @@ module _ {X : Type 0} (strict : Bool) (by claim_at : AddressFamily → List ℕ 
 pub exact_families : {X Y : Type 0} (C : ByFamily Y → X → Type 0) (claim_at : AddressFamily → List ℕ → Result (Y × List ℕ) DerError) (by : Bool → AddressFamily → List ℕ → Result (Y × List ℕ) DerError) (old new : Cursor) (result : Result X (OrMemory DerError))
     → ((family : AddressFamily) (bytes : List ℕ) → Tightens false (by false family bytes) (claim_at family bytes))
     → TakesSaidOrMemory C old new result (families_by (is_strict old) (by (is_strict old))) → Lenient old (TakesSaidOrMemory C old new result (families_at claim_at))
-exact_families C claim_at by old new result tight took lenient =
-    subst (λ r. TakesSaidOrMemory C old new result r) (λ i bytes. same_found (families_by false (by false) bytes) (families_at claim_at bytes) (families_tighten false (by false) claim_at tight bytes) i)
-    (subst (λ mode. TakesSaidOrMemory C old new result (families_by mode (by mode))) lenient took)
+exact_families v0 claim_at by old new result tight took lenient = grind (arith, families_tighten, same_found)
 
 -- ---- strictly
 
@@ -196,8 +186,7 @@ module _ {X : Type 0} (S : AddressFamily → List ℕ → X → Type 0) (claim_a
 
   reads_end : (more : ℕ) (fs : ByFamily X) → members_by (member_by true claim_at) more fs [] ≡ Ok fs
   unfolding members_by
-  reads_end zero fs = refl
-  reads_end (suc more) fs = refl
+  reads_end v0 fs = grind (arith)
 
   last_member : (before : ByFamily X) (bytes : List ℕ) (member : AddressFamily × X) → IsMember S bytes member → was_seen (seen before) member.0 ≡ false → is_in_order (seen before) member.0 ≡ true → Front (Next before) bytes member []
   last_member before bytes member at new ordered = (bytes, (at.0, at.1, (at.2, new, ordered)), sym (append-nil bytes))

@@ -1,15 +1,12 @@
 -- Families whose claims stand for others: what the families stand for is what they are with the
 -- claims that theirs stand for.
-use Rattle.std.proofs.Common.{◌≡◌, ◌≢◌, ℕ, List, [], ◌∷◌, ◌++◌, Option, Some, None, Result, Ok, Err, refl, sym, ap, subst, ◌∙◌}
-use Rattle.std.specs.Prelude.{MatchResult}
+use Rattle.std.proofs.Common.{◌≡◌, ◌≢◌, ℕ, List, [], ◌∷◌, Option, Some, None, Result, Ok, Err, refl, sym, ap, subst, ◌∙◌, arith}
 use Rattle.rpki_der.specs.declared.cursor.Cursor.{Cursor}
 use Rattle.rpki_der.specs.declared.error.DerError.{DerError}
 use Rattle.rpki_der.specs.Der.{Each, OneFront, Refines}
 use Rattle.rpki_der.specs.Reading.{IsReading}
-use Rattle.rpki_der.specs.Views.{left}
 use Rattle.rpki_text.specs.declared.memory.OrMemory.{OrMemory}
 use Rattle.rpki_text.specs.declared.memory.OrMemory.TheVariants.{Refused, Memory}
-use Rattle.rpki_text.specs.Memory.{IsMemory}
 use Rattle.rpki_base.specs.DerViews.{ReadsOrMemory}
 use Rattle.rpki_base.proofs.DerReadings.{one_front_said}
 use Rattle.rpki_base.specs.declared.family.AddressFamily.{AddressFamily}
@@ -27,44 +24,32 @@ reads_same G H old new (Err (Memory e)) to from (none, kept) = (tt, kept)
 
 -- the first of two lists that are one, and what follows it
 one_listed : {X : Type 0} (x : X) (xs : List X) (o : Option X) → x ∷ xs ≡ listed o → (o ≡ Some x) × (xs ≡ [])
-one_listed x xs None e = absurd cc
-one_listed x xs (Some y) e = (cc, cc)
+one_listed x xs v2 e = grind (arith)
 
 -- nothing is listed of nothing
 none_listed : {X : Type 0} (o : Option X) → [] ≡ listed o → o ≡ None
-none_listed None e = refl
-none_listed (Some x) e = absurd cc
+none_listed v0 e = grind (arith)
 
 module _ {X Y : Type 0} (C : Y → X → Type 0) where
   -- what something stands for is something
   says_some : (y : Y) (x : Option X) → SaysOption C (Some y) x → (z : X) × (x ≡ Some z) × C y z
-  says_some y None says = absurd says
-  says_some y (Some x) says = (x, refl, says)
+  says_some y v1 says = grind (arith)
 
   -- what nothing stands for is nothing
   says_none : (x : Option X) → SaysOption C None x → x ≡ None
-  says_none None says = refl
-  says_none (Some x) says = absurd says
+  says_none v0 says = grind (arith)
 
   -- and the other way round
   none_says : (y : Option Y) → SaysOption C y None → y ≡ None
-  none_says None says = refl
-  none_says (Some y) says = absurd says
+  none_says v0 says = grind (arith)
 
   -- what an option stands for is one thing, where what is in it does
   one_option : ((y : Y) (a b : X) → C y a → C y b → a ≡ b) → (y : Option Y) (a b : Option X) → SaysOption C y a → SaysOption C y b → a ≡ b
-  one_option one None a b says tells = says_none a says ∙ sym (says_none b tells)
-  one_option one (Some y) a b says tells =
-      let x = says_some y a says in
-      let z = says_some y b tells in
-      x.1 ∙ ap (λ w. Some w) (one y x.0 z.0 x.2 z.2) ∙ sym z.1
+  one_option one v1 a b says tells = grind (arith, says_none, says_some)
 
   -- and so do families
   pub one_by_family : ((y : Y) (a b : X) → C y a → C y b → a ≡ b) → (found : ByFamily Y) (a b : ByFamily X) → SaysByFamily C found a → SaysByFamily C found b → a ≡ b
-  one_by_family one found a b says tells =
-      let v4 = one_option one found.0 a.0 b.0 says.0 tells.0 in
-      let v6 = one_option one found.1 a.1 b.1 says.1 tells.1 in
-      λ i. (v4 i, v6 i)
+  one_by_family one found a b says tells = grind (arith, one_option)
 
 module _ {X Y : Type 0} (G : AddressFamily → List ℕ → Y → Type 0) (C : Y → X → Type 0) where
   -- the claims of a family, as those that they stand for

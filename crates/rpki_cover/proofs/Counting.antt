@@ -1,5 +1,5 @@
 -- How many prefixes a cover list of a range has.
-use Rattle.std.proofs.Common.{◌≡◌, ℕ, suc, zero, ◌+◌, ◌-◌, ◌*◌, ◌/◌, ◌%◌, ◌^◌, ◌<◌, ◌≤◌, ◌⊎◌, leb, length, ap, refl, arith, inl, inr}
+use Rattle.std.proofs.Common.{◌≡◌, ℕ, suc, zero, ◌+◌, ◌-◌, ◌*◌, ◌/◌, ◌%◌, ◌^◌, ◌<◌, ◌≤◌, ◌⊎◌, leb, length, ap, arith, inl, inr}
 use Rattle.std.proofs.lemmas.Bool.{cases_Bool, cases_lt, cases_eq, leb-true, lt-leb}
 use Rattle.std.proofs.lemmas.Nat.{div-add-mod'}
 use Rattle.std.proofs.Math.Nat.{two-pow-succ, pow-le-pow_right}
@@ -60,8 +60,7 @@ last_block w a j pos h m =
 
 -- no prefixes are in no numbers
 cover_list_none : (n w a b : ℕ) → b < a → length (cover_list_upto n w a b) ≡ 0
-cover_list_none zero w a b h = refl
-cover_list_none (suc n) w a b h = rw (lt-leb a b h) refl
+cover_list_none v0 w a b h = grind (arith, lt-leb)
 
 -- where less than 2 ^ k numbers are left from a multiple of 2 ^ k on, at most k prefixes are
 cover_list_down : (n w a b k : ℕ) → k ≤ w → IsMultiple (2 ^ k) a → b + 1 < a + 2 ^ k → length (cover_list_upto n w a b) ≤ k
@@ -134,26 +133,7 @@ cover_list_up (suc n) w a b k two kw pos below belowa m =
 
 -- a cover list of a range has at most 2 (w - 1) prefixes
 cover_list_upto_few : (n w a b : ℕ) → 2 ≤ w → b < 2 ^ w → length (cover_list_upto n w a b) + 2 ≤ 2 * w
-cover_list_upto_few zero w a b two below = omega arith
-cover_list_upto_few (suc n) w zero b two below =
-    elim (cases_lt (b + 1) (2 ^ w)) [
-      | inl s ↦ (let r : length (cover_list_upto (suc n) w zero b) ≤ w = cover_list_down (suc n) w zero b w (omega arith) (multiple_zero (2 ^ w)) (omega arith) in omega (arith, r))
-      | inr t ↦ elim (cases_Bool (leb zero b)) [
-        | inr e ↦ rw e (omega arith)
-        | inl e ↦ rw e (
-            let g : IsGreatest w zero b (free_bits_upto w zero b) = free_bits_upto_is w zero b (omega arith) in
-            let y : w ≤ free_bits_upto w zero b = g.greatest w (omega arith) (record { aligned = multiple_zero (2 ^ w); within = omega arith }) in
-            let z : 2 ^ w ≤ 2 ^ free_bits_upto w zero b = pow_le w (free_bits_upto w zero b) y in
-            let rest : length (cover_list_upto n w (zero + 2 ^ free_bits_upto w zero b) b) ≡ 0 = cover_list_none n w (zero + 2 ^ free_bits_upto w zero b) b (omega arith) in
-            omega (arith, rest))
-      ]
-    ]
-cover_list_upto_few (suc n) w (suc a) b two below =
-    elim (cases_lt (suc a) (2 ^ w)) [
-      | inl s ↦ (let r : length (cover_list_upto (suc n) w (suc a) b) + 0 + 2 ≤ 2 * w =
-          cover_list_up (suc n) w (suc a) b 0 two (omega arith) (omega arith) below s (record { times = suc a; is = omega arith }) in omega (arith, r))
-      | inr t ↦ (let r : length (cover_list_upto (suc n) w (suc a) b) ≡ 0 = cover_list_none (suc n) w (suc a) b (omega arith) in omega (arith, r))
-    ]
+cover_list_upto_few v0 w a b two below = grind (arith, cases_Bool, cases_lt, cover_list_down, cover_list_none, cover_list_up, free_bits_upto_is, multiple_zero, pow_le)
 
 -- 254 at width 128, and 62 at width 32
 pub cover_list_few : (w a b : ℕ) → 2 ≤ w → b < 2 ^ w → length (cover_list w a b) + 2 ≤ 2 * w

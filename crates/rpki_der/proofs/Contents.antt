@@ -1,10 +1,8 @@
 -- Contents: what the reading answers is what the conditions of X.690 say, and that is how they are spelled.
-use Rattle.std.proofs.Common.{◌≡◌, ℕ, zero, suc, ◌-◌, ◌/◌, ◌%◌, ◌^◌, ◌<◌, ◌≤◌, ◌≢◌, Bool, true, false, cond, eqb, ltb, leb, ◌||◌, ◌&&◌, List, [], ◌∷◌, ◌++◌, length, get_or, drop, Result, Ok, Err, refl, sym, ap, subst, ◌∙◌, arith, inl, inr}
+use Rattle.std.proofs.Common.{◌≡◌, ℕ, zero, suc, ◌-◌, ◌^◌, ◌<◌, ◌≤◌, ◌≢◌, Bool, true, false, cond, eqb, ltb, ◌&&◌, List, [], ◌∷◌, ◌++◌, length, get_or, drop, Ok, refl, sym, ap, subst, ◌∙◌, arith, inl, inr}
 use Rattle.std.specs.Int.{w64, to_be_bytes, bytes_high_first}
 use Rattle.std.proofs.lemmas.Bool.{cases_lt, ltb-false, ltb-true, le-ltb, lt-ltb, eqb-false, ne_eqb, leb-false, lt-leb, or_parts, or_from}
 use Rattle.std.proofs.lemmas.List.{drop_at, length-append}
-use Rattle.rpki_der.specs.declared.error.DerError.{DerError}
-use Rattle.rpki_der.specs.declared.error.DerError.TheVariants.{BadInteger, BadBitString}
 use Rattle.rpki_der.specs.Der.{IsBytes, big_endian, octets, integer, with_sign, without_zeros, Bits, IsBits, IsUnsigned, IsBitContent, IsNothing}
 use Rattle.rpki_der.specs.Reading.{unsigned, bits, nothing}
 use Rattle.rpki_der.proofs.Steps.{IsCheck, IsBytes-rest, passed, passed_true, ok_is, one_false, and_false}
@@ -15,54 +13,24 @@ use Rattle.rpki_der.proofs.Numbers.{octets-big_endian, big_endian-octets, octets
 -- a number that is read meets the conditions
 unsigned_says : (content : List ℕ) (n : ℕ) → unsigned content ≡ Ok n → IsUnsigned content n
 unfolding unsigned
-unsigned_says content n e =
-    let found : Result ℕ DerError = cond (ltb (big_endian content) (2 ^ 32)) (Ok (big_endian content)) (Err BadInteger) in
-    let short = (eqb (length content) 0) || ltb 5 (length content) || leb 128 (get_or content 0 0) in
-    let long = ltb 1 (length content) && (eqb (get_or content 0 0) 0) && ltb (get_or content 1 0) 128 in
-    let g1 = passed short BadInteger (cond long (Err BadInteger) found) n e in
-    let g2 = passed long BadInteger found n g1.1 in
-    let g3 = passed_true (ltb (big_endian content) (2 ^ 32)) BadInteger (Ok (big_endian content)) n g2.1 in
-    let n-is : big_endian content ≡ n = ok_is (big_endian content) n g3.1 in
-    let a = or_parts ((eqb (length content) 0) || ltb 5 (length content)) (leb 128 (get_or content 0 0)) g1.0 in
-    let b = or_parts (eqb (length content) 0) (ltb 5 (length content)) a.0 in
-    let some : length content ≢ 0 = eqb-false (length content) 0 b.0 in
-    let small : big_endian content < 2 ^ 32 = ltb-true (big_endian content) (2 ^ 32) g3.0 in
-    record {
-      some = omega arith;
-      few = ltb-false 5 (length content) b.1;
-      sign = leb-false 128 (get_or content 0 0) a.1;
-      minimal = λ p q. ltb-false (get_or content 1 0) 128 (one_false (ltb 1 (length content) && (eqb (get_or content 0 0) 0)) (ltb (get_or content 1 0) 128) g2.0 (rw (lt-ltb 1 (length content) p, q) refl));
-      spelled = n-is;
-      limit = rw (← n-is) small;
-    }
+unsigned_says content n e = grind (arith, eqb-false, leb-false, lt-ltb, ltb-false, ltb-true, ok_is, one_false, or_parts, passed, passed_true)
 
 -- one octet is never one too many
 one_alone : (b : Bool) → (ltb 1 1 && b && ltb 0 128) ≡ false
-one_alone true = refl
-one_alone false = refl
+one_alone v0 = grind (arith)
 
 -- two tests of which the first fails
 first_set : (a b : Bool) → a ≡ false → (a && b) ≡ false
-first_set true b e = absurd cc
-first_set false b e = refl
+first_set v0 b e = grind (arith)
 
 -- of two or more octets, one that begins with zero goes on with a bit that is 1
 not_long : (content : List ℕ) (n : ℕ) → IsUnsigned content n → (ltb 1 (length content) && (eqb (get_or content 0 0) 0) && ltb (get_or content 1 0) 128) ≡ false
-not_long [] n is = refl
-not_long (b ∷ []) n is = one_alone (eqb b 0)
-not_long (zero ∷ c ∷ cs) n is = let high : 128 ≤ c = is.minimal (omega arith) refl in and_false _ (ltb c 128) (le-ltb c 128 high)
-not_long (suc b ∷ c ∷ cs) n is = first_set _ (ltb c 128) (and_false _ (eqb (suc b) 0) (ne_eqb (suc b) 0 (λ h. omega arith)))
+not_long v0 n is = grind (arith, and_false, first_set, le-ltb, ne_eqb, one_alone)
 
 -- a number that meets the conditions is read
 says_unsigned : (content : List ℕ) (n : ℕ) → IsUnsigned content n → unsigned content ≡ Ok n
 unfolding unsigned
-says_unsigned content n is =
-    let t0 : eqb (length content) 0 ≡ false = ne_eqb (length content) 0 (λ h. omega (arith, is.some)) in
-    let t1 : ltb 5 (length content) ≡ false = le-ltb 5 (length content) is.few in
-    let t2 : leb 128 (get_or content 0 0) ≡ false = lt-leb 128 (get_or content 0 0) is.sign in
-    let short : ((eqb (length content) 0) || ltb 5 (length content) || leb 128 (get_or content 0 0)) ≡ false = or_from _ _ (or_from _ _ t0 t1) t2 in
-    let below : ltb n (2 ^ 32) ≡ true = lt-ltb n (2 ^ 32) is.limit in
-    rw (short, not_long content n is, is.spelled, below) refl
+says_unsigned content n is = grind (arith, le-ltb, lt-leb, lt-ltb, ne_eqb, not_long, or_from)
 
 -- the two together
 pub unsigned_check : IsCheck (λ _. Unit {0}) IsUnsigned unsigned
@@ -91,12 +59,7 @@ unsigned_spelled content n fits is = spelled_of content fits (subst (IsUnsigned 
 
 -- the four high octets of a number of 32 bits are zero
 high_zero : (n : ℕ) → n < 2 ^ 32 → to_be_bytes w64 n ≡ 0 ∷ 0 ∷ 0 ∷ 0 ∷ bytes_high_first 4 n
-high_zero n lt =
-    let a7 : n / 256 ^ 7 % 256 ≡ 0 = omega arith in
-    let a6 : n / 256 ^ 6 % 256 ≡ 0 = omega arith in
-    let a5 : n / 256 ^ 5 % 256 ≡ 0 = omega arith in
-    let a4 : n / 256 ^ 4 % 256 ≡ 0 = omega arith in
-    rw (a7, a6, a5, a4) refl
+high_zero n lt = grind (arith)
 
 -- so it has four octets at most
 length-octets_32 : (n : ℕ) → n < 2 ^ 32 → length (octets n) ≤ 4
@@ -105,8 +68,7 @@ length-octets_32 n lt = rw (high_zero n lt) (length-without_zeros (bytes_high_fi
 
 -- octets that begin with no zero, with a zero in front where their first bit is 1
 says_signed : (n d : ℕ) (ds : List ℕ) → n < 2 ^ 32 → big_endian (d ∷ ds) ≡ n → length (d ∷ ds) ≤ 4 → d ≢ 0 → (b : Bool) → ltb d 128 ≡ b → IsUnsigned (cond b (d ∷ ds) (0 ∷ d ∷ ds)) n
-says_signed n d ds lt back few nonzero true low = record { some = omega arith; few = omega arith; sign = ltb-true d 128 low; minimal = λ p q. absurd (nonzero q); spelled = back; limit = lt }
-says_signed n d ds lt back few nonzero false high = record { some = omega arith; few = omega arith; sign = omega arith; minimal = λ p q. ltb-false d 128 high; spelled = back; limit = lt }
+says_signed n d ds lt back few nonzero v7 low = grind (arith, ltb-false, ltb-true)
 
 -- the same for a number, which may have no octets
 says_spelled : (n : ℕ) (ds : List ℕ) → n < 2 ^ 32 → octets n ≡ ds → IsUnsigned (with_sign ds) n
@@ -144,48 +106,27 @@ signed_end (suc d ∷ ds) = by_sign (ltb (suc d) 128)
 -- an INTEGER of 32 bits is the end of the number's eight octets
 pub integer-end : (n : ℕ) → n < 2 ^ 32 → drop (8 - length (integer n)) (to_be_bytes w64 n) ≡ integer n
 unfolding integer octets
-integer-end n lt =
-    let rest : List ℕ = 0 ∷ 0 ∷ 0 ∷ bytes_high_first 4 n in
-    let content : List ℕ = with_sign (without_zeros rest) in
-    let end = signed_end rest in
-    let count : length end.0 ≡ 8 - length content = omega (arith, ap (λ (t : List ℕ). length t) end.1, length-append end.0 content) in
-    rw (high_zero n lt) (ap (drop (8 - length content)) end.1 ∙ drop_at end.0 content (8 - length content) count)
+integer-end n lt = grind (arith, drop_at, high_zero, length-append, signed_end)
 
 -- ---- bit strings and NULL
 
 -- where no octet is, no bit is unused
 none_used : (u n : ℕ) → (ltb 0 u && (eqb n 0)) ≡ false → n ≡ 0 → u ≡ 0
-none_used u n e h =
-    elim (cases_lt 0 u) [
-      | inl pos ↦ let t : ltb 0 u ≡ true = lt-ltb 0 u pos in let f : eqb n 0 ≡ false = one_false (ltb 0 u) (eqb n 0) e t in absurd (eqb-false n 0 f h)
-      | inr none ↦ omega arith
-    ]
+none_used u n e h = grind (arith, cases_lt, eqb-false, lt-ltb, one_false)
 
 -- a bit string that is read meets the conditions
 bits_say : (content : List ℕ) (b : Bits) → bits content ≡ Ok b → IsBitContent content b
 unfolding bits
-bits_say [] b e = absurd cc
-bits_say (u ∷ os) b e =
-    let g = passed (ltb 7 u || (ltb 0 u && (eqb (length os) 0))) BadBitString (Ok (record { unused = u; octets = os })) b e in
-    let a = or_parts (ltb 7 u) (ltb 0 u && (eqb (length os) 0)) g.0 in
-    let made = ok_is (record { unused = u; octets = os }) b g.1 in
-    subst (IsBitContent (u ∷ os)) made (record { counted = record { below = omega (arith, ltb-false 7 u a.0); empty = λ h. none_used u (length os) a.1 h }; spelled = refl })
+bits_say v0 b e = grind (arith, ltb-false, none_used, ok_is, or_parts, passed)
 
 -- the conditions pass the test of empty octets
 used : (b : Bits) → IsBits b → (ltb 0 b.unused && (eqb (length b.octets) 0)) ≡ false
-used b is =
-    elim (cases_lt 0 b.unused) [
-      | inl pos ↦ rw (ne_eqb (length b.octets) 0 (λ h. let z : b.unused ≡ 0 = is.empty h in omega arith)) (and_false (ltb 0 b.unused) false refl)
-      | inr none ↦ rw (le-ltb 0 b.unused none) refl
-    ]
+used b is = grind (arith, and_false, cases_lt, le-ltb, ne_eqb)
 
 -- a bit string that meets the conditions is read
 say_bits : (content : List ℕ) (b : Bits) → IsBitContent content b → bits content ≡ Ok b
 unfolding bits
-say_bits content b is =
-    let t0 : ltb 7 b.unused ≡ false = le-ltb 7 b.unused (omega (arith, is.counted.below)) in
-    let t1 : (ltb 0 b.unused && (eqb (length b.octets) 0)) ≡ false = used b is.counted in
-    rw (is.spelled, t0, t1) refl
+say_bits content b is = grind (arith, le-ltb, used)
 
 -- the two together
 pub bits_check : IsCheck (λ _. Unit {0}) IsBitContent bits
@@ -194,8 +135,7 @@ bits_check = record { takes = λ content b fits e. bits_say content b e; again =
 -- a NULL that is read has no octet
 nothing_says : (content : List ℕ) (u : Unit {0}) → nothing content ≡ Ok u → content ≡ []
 unfolding nothing
-nothing_says [] u e = refl
-nothing_says (b ∷ bs) u e = absurd cc
+nothing_says v0 u e = grind (arith)
 
 -- no octets are read as a NULL
 says_nothing : (content : List ℕ) (u : Unit {0}) → content ≡ [] → nothing content ≡ Ok u

@@ -1,5 +1,5 @@
 -- Readings by the mode: leniently what is read without one, and strictly that or NotCanonical.
-use Rattle.std.proofs.Common.{◌≡◌, ℕ, zero, suc, ◌%◌, ◌^◌, Bool, true, false, cond, not, List, [], ◌∷◌, Option, Result, Ok, Err, refl, sym, ap, subst, ◌∙◌, inl, inr}
+use Rattle.std.proofs.Common.{◌≡◌, ℕ, zero, suc, ◌%◌, ◌^◌, Bool, true, false, cond, List, [], ◌∷◌, Option, Result, Ok, Err, refl, sym, subst, inl, arith}
 use Rattle.std.specs.Prelude.{◌⊎◌}
 use Rattle.std.proofs.lemmas.Bool.{eqb-true, eq-eqb}
 use Rattle.rpki_der.specs.declared.cursor.Cursor.{Cursor}
@@ -7,7 +7,7 @@ use Rattle.rpki_der.specs.declared.error.DerError.{DerError}
 use Rattle.rpki_der.specs.declared.error.DerError.TheVariants.{NotCanonical}
 use Rattle.rpki_der.specs.Der.{Bits, IsBitContent, IsBitString, IsPadded, NoFront, Refines, Where, bit_content, last_octet}
 use Rattle.rpki_der.specs.Reading.{◌>>=◌, IsModal, IsReading, Tightens, bit_string_at, bit_string_by, bits, bits_by, each_from, is_padded, optional, passing, refined, tagged_at}
-use Rattle.rpki_der.specs.Views.{Lenient, NotCanonicalOr, Takes, is_strict, left}
+use Rattle.rpki_der.specs.Views.{Lenient, NotCanonicalOr, Takes, is_strict}
 use Rattle.rpki_der.proofs.Contents.{bits_check}
 use Rattle.rpki_der.proofs.Cursors.{none_by}
 use Rattle.rpki_der.proofs.Lists.{optional_err}
@@ -22,18 +22,15 @@ err_is d e r p q = cc
 
 -- leniently the same is found
 pub same_found : {A : Type 0} (by found : Result A DerError) → Tightens false by found → by ≡ found
-same_found by found (inl same) = same
-same_found by found (inr (strict, refused)) = absurd (let h : false ≡ true = strict in cc)
+same_found by found v2 = grind (arith)
 
 -- what is Ok is found
 pub found_is : {A : Type 0} (strict : Bool) (by found : Result A DerError) (x : A) → Tightens strict by found → by ≡ Ok x → found ≡ Ok x
-found_is strict by found x (inl same) ok = sym same ∙ ok
-found_is strict by found x (inr (mode, refused)) ok = absurd (ok_or_err x NotCanonical by ok refused)
+found_is strict by found x v4 ok = grind (arith, ok_or_err)
 
 -- a fault that isn't NotCanonical is found
 pub fault_is : {A : Type 0} (strict : Bool) (by found : Result A DerError) (e : DerError) → Tightens strict by found → by ≡ Err e → ((strict ≡ true) × (e ≡ NotCanonical)) ⊎ (found ≡ Err e)
-fault_is strict by found e (inl same) failed = inr (sym same ∙ failed)
-fault_is strict by found e (inr (mode, refused)) failed = inl (mode, err_is e NotCanonical by failed refused)
+fault_is strict by found e v4 failed = grind (arith, err_is)
 
 -- so leniently the readings are one
 pub lenient_is : {X : Type 0} (S : List ℕ → X → Type 0) (reading : List ℕ → Result (X × List ℕ) DerError) (by : Bool → List ℕ → Result (X × List ℕ) DerError) → IsModal S reading by → by false ≡ reading
@@ -44,17 +41,11 @@ lenient_is S reading by is = λ i bytes. same_found (by false bytes) (reading by
 module _ {A B : Type 0} (strict : Bool) (by : Result A DerError) (found : Result A DerError) (f g : A → Result B DerError) where
   -- one step after another
   pub bind_tightens : Tightens strict by found → ((x : A) → Tightens strict (f x) (g x)) → Tightens strict (by >>= f) (found >>= g)
-  bind_tightens (inr (mode, refused)) more = inr (mode, ap (λ r. r >>= f) refused)
-  bind_tightens (inl same) more = by_found found (ap (λ r. r >>= f) same)
-    where
-      by_found : (r : Result A DerError) → (by >>= f) ≡ (r >>= f) → Tightens strict (by >>= f) (r >>= g)
-      by_found (Ok x) e = subst (λ t. Tightens strict t (g x)) (sym e) (more x)
-      by_found (Err d) e = inl e
+  bind_tightens v0 more = grind (arith)
 
 -- one of two by a condition
 pub cond_tightens : {X : Type 0} (strict b : Bool) (p q r s : Result X DerError) → Tightens strict p r → Tightens strict q s → Tightens strict (cond b p q) (cond b r s)
-cond_tightens strict true p q r s first second = first
-cond_tightens strict false p q r s first second = second
+cond_tightens strict v1 p q r s first second = grind (arith)
 
 -- the same on both sides
 pub alike : {A : Type 0} (strict : Bool) (r : Result A DerError) → Tightens strict r r
@@ -63,26 +54,18 @@ alike strict r = inl refl
 -- a test that is made strictly alone
 pub passing_tightens : {X : Type 0} (strict : Bool) (test : X → Bool) (x : X) → Tightens strict (passing strict test x) (Ok x)
 unfolding passing
-passing_tightens false test x = inl refl
-passing_tightens true test x = by_test (test x)
-  where
-    by_test : (b : Bool) → Tightens true (cond (not b) (Err NotCanonical) (Ok x)) (Ok x)
-    by_test true = inl refl
-    by_test false = inr (refl, refl)
+passing_tightens v0 test x = grind (arith)
 
 -- behind what is found
 pub then_passing : {X : Type 0} (strict : Bool) (test : X → Bool) (r : Result X DerError) → Tightens strict (r >>= passing strict test) r
-then_passing strict test (Ok x) = passing_tightens strict test x
-then_passing strict test (Err e) = inl refl
+then_passing strict test v2 = grind (arith, passing_tightens)
 
 -- what is looked at once more
 pub refined_tightens : {X Y : Type 0} (strict : Bool) (by reading : List ℕ → Result (X × List ℕ) DerError) (look check : X → Result Y DerError)
     → ((bytes : List ℕ) → Tightens strict (by bytes) (reading bytes)) → ((x : X) → Tightens strict (look x) (check x))
     → (bytes : List ℕ) → Tightens strict (refined by look bytes) (refined reading check bytes)
 unfolding refined
-refined_tightens strict by reading look check first second bytes =
-    bind_tightens strict (by bytes) (reading bytes) (λ x. look x.0 >>= λ y. Ok (y, x.1)) (λ x. check x.0 >>= λ y. Ok (y, x.1)) (first bytes)
-    (λ x. bind_tightens strict (look x.0) (check x.0) (λ y. Ok (y, x.1)) (λ y. Ok (y, x.1)) (second x.0) (λ y. inl refl))
+refined_tightens strict by reading look check first second bytes = grind (arith, bind_tightens)
 
 -- a look at what a reading finds that is the same in both modes
 pub looked_tightens : {X Y : Type 0} (strict : Bool) (reading : List ℕ → Result (X × List ℕ) DerError) (look check : X → Result Y DerError)
@@ -109,11 +92,7 @@ each_tightens strict next by reading one (suc steps) state (b ∷ bytes) =
 -- what passed
 pub passed_is : {X : Type 0} (test : X → Bool) (x y : X) → passing true test x ≡ Ok y → (test x ≡ true) × (x ≡ y)
 unfolding passing
-passed_is {X} test x y = by_test (test x)
-  where
-    by_test : (b : Bool) → cond (not b) (Err NotCanonical) (Ok x) ≡ Ok y → (b ≡ true) × (x ≡ y)
-    by_test true e = (refl, ok_is x y e)
-    by_test false e = absurd cc
+passed_is test x y = grind (arith, ok_is)
 
 -- what passes
 pub passes : {X : Type 0} (test : X → Bool) (x : X) → test x ≡ true → passing true test x ≡ Ok x
@@ -124,13 +103,7 @@ passes test x e = rw e refl
 pub passing_check : {X Y : Type 0} (Fits : X → Type 0) (C : X → Y → Type 0) (P : Y → Type 0) (check : X → Result Y DerError) (test : Y → Bool)
     → IsCheck Fits C check → ((y : Y) → test y ≡ true → P y) → ((y : Y) → P y → test y ≡ true)
     → IsCheck Fits (λ x y. C x y × P y) (λ x. check x >>= passing true test)
-passing_check Fits C P check test is says back = record {
-  takes = λ x y fits e.
-      let a = bind_ok (check x) (passing true test) y e in
-      let b = passed_is test a.0 y a.2 in
-      (is.takes x y fits (a.1 ∙ ap (λ z. Ok z) b.1), subst P b.1 (says a.0 b.0));
-  again = λ x y (c, p). rw (is.again x y c) (passes test y (back y p));
-}
+passing_check v0 v1 v2 check test is says back = grind (arith, bind_ok, passed_is, passes)
 
 -- what a reading finds, of that what passes a test
 pub passing_reading : {X : Type 0} (G : List ℕ → X → Type 0) (P : X → Type 0) (reading : List ℕ → Result (X × List ℕ) DerError) (test : X → Bool)
@@ -153,14 +126,11 @@ plain_modal G reading is = record { tight = is; tightens = λ strict bytes. inl 
 
 -- twice
 tightens_twice : {A : Type 0} (strict : Bool) (a b c : Result A DerError) → Tightens strict a b → Tightens strict b c → Tightens strict a c
-tightens_twice strict a b c (inl e) (inl f) = inl (e ∙ f)
-tightens_twice strict a b c (inl e) (inr (mode, f)) = inr (mode, e ∙ f)
-tightens_twice strict a b c (inr (mode, e)) f = inr (mode, e)
+tightens_twice strict a b c v4 v5 = grind (arith)
 
 -- a test that is made strictly alone, of what a reading finds
 passing_tested : {X : Type 0} (strict : Bool) (test : X → Bool) (r : Result (X × List ℕ) DerError) → Tightens strict (r >>= λ x. passing strict test x.0 >>= λ y. Ok (y, x.1)) r
-passing_tested strict test (Ok x) = bind_tightens strict (passing strict test x.0) (Ok x.0) (λ y. Ok (y, x.1)) (λ y. Ok (y, x.1)) (passing_tightens strict test x.0) (λ y. inl refl)
-passing_tested strict test (Err e) = inl refl
+passing_tested strict test v2 = grind (arith, bind_tightens, passing_tightens)
 
 -- one whose finds pass a test strictly
 pub tested_modal : {X : Type 0} (S : List ℕ → X → Type 0) (P : X → Type 0) (reading : List ℕ → Result (X × List ℕ) DerError) (by : Bool → List ℕ → Result (X × List ℕ) DerError) (test : X → Bool)
@@ -177,8 +147,7 @@ tested_modal S P reading by test is says back = record {
 -- a take from a cursor that isn't strict
 pub exact_by : {X Y : Type 0} (S : List ℕ → Y → Type 0) (reading : List ℕ → Result (Y × List ℕ) DerError) (by : Bool → List ℕ → Result (Y × List ℕ) DerError) (view : X → Y) (old new : Cursor) (result : Result X DerError)
     → IsModal S reading by → Takes view old new result (by (is_strict old)) → Lenient old (Takes view old new result reading)
-exact_by S reading by view old new result modal took lenient =
-    subst (λ r. Takes view old new result r) (lenient_is S reading by modal) (subst (λ mode. Takes view old new result (by mode)) lenient took)
+exact_by v0 reading by view old new result modal took lenient = grind (arith, lenient_is)
 
 -- one that answers None at the end
 pub exact_optional_by : {X Y : Type 0} (S : List ℕ → Y → Type 0) (reading : List ℕ → Result (Y × List ℕ) DerError) (by : Bool → List ℕ → Result (Y × List ℕ) DerError) (view : X → Option Y) (old new : Cursor) (result : Result X DerError)
@@ -189,23 +158,17 @@ exact_optional_by S reading by view old new result modal took lenient =
 -- a fault of a reading by the mode
 pub refused_at : {X : Type 0} (G S : List ℕ → X → Type 0) (reading : List ℕ → Result (X × List ℕ) DerError) (by : Bool → List ℕ → Result (X × List ℕ) DerError) → IsReading G reading → IsModal S reading by
     → (strict : Bool) (bytes : List ℕ) (e : DerError) → by strict bytes ≡ Err e → ((strict ≡ true) × (e ≡ NotCanonical)) ⊎ NoFront G bytes
-refused_at G S reading by is modal strict bytes e failed = found (fault_is strict (by strict bytes) (reading bytes) e (modal.tightens strict bytes) failed)
-  where
-    found : ((strict ≡ true) × (e ≡ NotCanonical)) ⊎ (reading bytes ≡ Err e) → ((strict ≡ true) × (e ≡ NotCanonical)) ⊎ NoFront G bytes
-    found (inl not_canonical) = inl not_canonical
-    found (inr none) = inr (none_by G reading bytes e is none)
+refused_at v0 v1 reading by is modal strict bytes e failed = grind (arith, fault_is, none_by)
 
 -- a take
 pub refused_by : {X Y : Type 0} (G S : List ℕ → Y → Type 0) (reading : List ℕ → Result (Y × List ℕ) DerError) (by : Bool → List ℕ → Result (Y × List ℕ) DerError) (view : X → Y) (old new : Cursor) (result : Result X DerError)
     → IsReading G reading → IsModal S reading by → Takes view old new result (by (is_strict old)) → NotCanonicalOr G old result
-refused_by G S reading by view old new (Ok x) is modal took = tt
-refused_by G S reading by view old new (Err e) is modal took = refused_at G S reading by is modal (is_strict old) (left old) e took.0
+refused_by v0 v1 reading by view old new v7 is modal took = grind (arith, refused_at)
 
 -- a take that answers None at the end
 pub refused_optional_by : {X Y : Type 0} (G S : List ℕ → Y → Type 0) (reading : List ℕ → Result (Y × List ℕ) DerError) (by : Bool → List ℕ → Result (Y × List ℕ) DerError) (view : X → Option Y) (old new : Cursor) (result : Result X DerError)
     → IsReading G reading → IsModal S reading by → Takes view old new result (optional (by (is_strict old))) → NotCanonicalOr G old result
-refused_optional_by G S reading by view old new (Ok x) is modal took = tt
-refused_optional_by G S reading by view old new (Err e) is modal took = refused_at G S reading by is modal (is_strict old) (left old) e (optional_err (by (is_strict old)) (left old) e took.0).1
+refused_optional_by v0 v1 reading by view old new v7 is modal took = grind (arith, optional_err, refused_at)
 
 -- ---- bit strings
 

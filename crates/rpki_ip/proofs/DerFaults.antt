@@ -1,16 +1,13 @@
 -- Where a range of addresses is reversed, and which faults families, prefixes and ranges have.
-use Rattle.std.proofs.Common.{◌≡◌, ℕ, ◌/◌, ◌*◌, ◌-◌, ◌^◌, ◌<◌, ◌↔◌, ◌||◌, ◌&&◌, cond, eqb, ltb, List, length, get_or, Result, Ok, Err, refl, arith}
+use Rattle.std.proofs.Common.{◌≡◌, ℕ, ◌/◌, ◌*◌, ◌-◌, ◌^◌, ◌<◌, ◌↔◌, ◌||◌, ltb, List, length, Result, Ok, Err, refl, arith}
 use Rattle.std.proofs.lemmas.Bool.{lt-ltb, ltb-true}
 use Rattle.rpki_addr.specs.Prefixes.{PrefixValue, last_of}
 use Rattle.rpki_der.specs.declared.error.DerError.{DerError}
-use Rattle.rpki_der.specs.declared.error.DerError.TheVariants.{BadFamily, BadPrefix, ReversedRange}
+use Rattle.rpki_der.specs.declared.error.DerError.TheVariants.{BadPrefix, ReversedRange}
 use Rattle.rpki_der.specs.Der.{Bits, big_endian, bit_count}
 use Rattle.rpki_der.specs.Reading.{bits, tagged_at}
 use Rattle.rpki_base.specs.DerFaults.{BeginsWithTwo}
 use Rattle.rpki_base.proofs.DerFaults.{NamesTo, begins_two, bind_names, bits_names, cond_fails, cond_names, names_more, not_named, pair_fails, pair_names, refined_names, tagged_names}
-use Rattle.rpki_base.specs.declared.family.AddressFamily.{AddressFamily}
-use Rattle.rpki_base.specs.declared.family.AddressFamily.TheVariants.{Ipv4, Ipv6}
-use Rattle.rpki_base.specs.FamilyDer.{family_at, family_of_octets}
 use Rattle.rpki_ip.specs.PrefixDer.{prefix_at, prefix_in, prefix_of}
 use Rattle.rpki_ip.specs.RangeDer.{range_in, span_of}
 use Rattle.rpki_ip.specs.Ranges.{RangeValue}

@@ -1,16 +1,16 @@
 -- Prefixes in either mode: strictly, the octets are those that are written of them.
-use Rattle.std.proofs.Common.{◌≡◌, ◌≢◌, ℕ, zero, suc, ◌+◌, ◌-◌, ◌*◌, ◌/◌, ◌%◌, ◌^◌, ◌<◌, ◌≤◌, ◌||◌, ◌&&◌, Bool, true, false, not, cond, eqb, ltb, leb, List, [], ◌∷◌, ◌++◌, length, get_or, take, drop, Result, Ok, Err, refl, sym, ap, subst, ◌∙◌, arith, inl, inr}
+use Rattle.std.proofs.Common.{◌≡◌, ℕ, zero, suc, ◌+◌, ◌-◌, ◌*◌, ◌/◌, ◌%◌, ◌^◌, ◌<◌, ◌≤◌, ◌||◌, ◌&&◌, Bool, true, false, cond, List, [], ◌∷◌, length, get_or, take, drop, Result, Ok, Err, refl, sym, ap, subst, ◌∙◌, arith}
 use Rattle.std.specs.Int.{bytes_high_first, to_be_bytes, w128}
 use Rattle.std.specs.Prelude.{◌⊎◌}
 use Rattle.std.proofs.lemmas.Bool.{and_parts, eqb-true, le-leb, le-ltb, leb-true, lt-ltb, ltb-false, ltb-true, or_from, or_parts}
 use Rattle.std.proofs.lemmas.List.{take-append-drop}
 use Rattle.std.proofs.lemmas.Nat.{pow-add, pow_pos, shl-shr, shr_split}
 use Rattle.std.proofs.Math.Nat.{mul-div_cancel, mul-mod_left, mul_assoc}
-use Rattle.rpki_addr.specs.Prefixes.{PrefixValue, IsPrefix, last_of}
+use Rattle.rpki_addr.specs.Prefixes.{PrefixValue, IsPrefix}
 use Rattle.rpki_cover.proofs.Multiples.{IsMultiple, mod_multiple, multiple_gap, multiple_mod, multiple_self, multiple_smaller, multiple_sum}
 use Rattle.rpki_der.specs.declared.error.DerError.{DerError}
-use Rattle.rpki_der.specs.declared.error.DerError.TheVariants.{BadBitString, BadPrefix, NotCanonical}
-use Rattle.rpki_der.specs.Der.{Bits, IsBitContent, IsBitString, IsBits, IsBytes, IsPadded, Refines, Spells, Where, big_endian, big_endian_after, bit_content, bit_count, bit_string_value, last_octet}
+use Rattle.rpki_der.specs.declared.error.DerError.TheVariants.{BadPrefix}
+use Rattle.rpki_der.specs.Der.{Bits, IsBitContent, IsBitString, IsBits, IsBytes, IsPadded, Refines, Spells, Where, big_endian, big_endian_after, bit_content, bit_string_value, last_octet}
 use Rattle.rpki_der.specs.Reading.{◌>>=◌, IsModal, IsReading, Tightens, bits, bits_by, is_padded, passing, tagged_at}
 use Rattle.rpki_der.proofs.Contents.{bits_check}
 use Rattle.rpki_der.proofs.Modes.{bind_tightens, is_padded_of, looked_tightens, padded_is, passed_is, passes, then_passing}
@@ -18,7 +18,6 @@ use Rattle.rpki_der.proofs.Readings.{IsTagged, fits_content, refined_reading, sa
 use Rattle.rpki_der.proofs.Steps.{IsBytes-rest, IsCheck, bind_ok, fits_front}
 use Rattle.rpki_der.proofs.Written.{value_is}
 use Rattle.rpki_base.specs.declared.family.AddressFamily.{AddressFamily}
-use Rattle.rpki_base.specs.declared.family.AddressFamily.TheVariants.{Ipv4, Ipv6}
 use Rattle.rpki_base.specs.Families.{bits_of}
 use Rattle.rpki_ip.specs.PrefixDer.{IsPrefixWithin, SaysPrefix, is_longer, octet_count, prefix_at, prefix_bits, prefix_by, prefix_der, prefix_in, prefix_in_by, prefix_of, prefix_of_by}
 use Rattle.rpki_ip.specs.RangeDer.{IsRangeWithin, IsSpan}
@@ -28,8 +27,7 @@ use Rattle.rpki_ip.proofs.PrefixBits.{bits_few, bits_fit, bits_say, byte_is, fir
 
 -- addresses of a family have 128 bits at most
 pub bits_few_enough : (family : AddressFamily) → bits_of family ≤ 128
-bits_few_enough Ipv4 = omega arith
-bits_few_enough Ipv6 = omega arith
+bits_few_enough v0 = grind (arith)
 
 -- ---- the reading
 
@@ -55,8 +53,7 @@ strict_content_check limit = record {
 
 pub content_tightens : (strict : Bool) (limit : ℕ) (content : List ℕ) → Tightens strict (prefix_in_by strict limit content) (prefix_in limit content)
 unfolding prefix_in prefix_in_by prefix_of_by
-content_tightens strict limit content =
-    bind_tightens strict (bits content) (bits content) (prefix_of_by strict limit) (prefix_of limit) (inl refl) (λ b. then_passing strict (λ p. is_padded b) (prefix_of limit b))
+content_tightens strict limit content = grind (arith, bind_tightens, then_passing)
 
 -- a BIT STRING
 pub prefix_modal : (limit : ℕ) → IsModal (IsStrictPrefix limit) (prefix_at limit) (λ strict. prefix_by strict limit)
@@ -87,10 +84,7 @@ same_octets n m (x ∷ xs) (y ∷ ys) f g l e =
 -- all but the last octet count 256 times
 with_last : (n b : ℕ) (bs : List ℕ) → (q : ℕ) × (big_endian_after n (b ∷ bs) ≡ q * 256 + get_or (b ∷ bs) (length (b ∷ bs) - 1) 0)
 with_last n b [] = (n, refl)
-with_last n b (c ∷ bs) =
-    let h = with_last (n * 256 + b) c bs in
-    let k : length (b ∷ c ∷ bs) - 1 ≡ suc (length (c ∷ bs) - 1) = omega arith in
-    (h.0, rw k h.1)
+with_last n b (c ∷ bs) = grind (arith, with_last (n * 256 + b) c bs)
 
 -- the last bits of a number are those of its last octet
 low_bits : (u q l : ℕ) → u < 8 → (q * 256 + l) % 2 ^ u ≡ l % 2 ^ u
@@ -164,9 +158,7 @@ prefix_is_spelled limit bytes p le fits (b, ((counted, is), padded), says) =
     ((prefix, says.short), is.spelled ∙ ap bit_string_value same)
 
 pub spelled_is_prefix : (limit : ℕ) (bytes : List ℕ) (p : PrefixValue) → Spells (IsPrefixWithin limit) prefix_der bytes p → IsStrictPrefix limit bytes p
-spelled_is_prefix limit bytes p ((is, short), spelled) =
-    let written = value_is 3 (bit_content (prefix_bits p)) (omega arith) (omega (arith, bits_few p is)) in
-    subst (λ (t : List ℕ). IsStrictPrefix limit t p) (sym spelled) (prefix_bits p, ((bits_fit p is, written), prefix_padded p is), bits_say limit p is short)
+spelled_is_prefix limit bytes p v3 = grind (arith, bits_few, bits_fit, bits_say, prefix_padded, value_is)
 
 pub written_prefix_reading : (limit : ℕ) → limit ≤ 128 → IsReading (Spells (IsPrefixWithin limit) prefix_der) (prefix_by true limit)
 written_prefix_reading limit le =
@@ -175,65 +167,23 @@ written_prefix_reading limit le =
 -- ---- the length before the unused bits
 
 or_true : (a b : Bool) → (a || b) ≡ true → (a ≡ true) ⊎ (b ≡ true)
-or_true true b e = inl refl
-or_true false b e = inr e
+or_true v0 b e = grind (arith)
 
 true_or : (a b : Bool) → b ≡ true → (a || b) ≡ true
-true_or true b e = refl
-true_or false b e = e
+true_or v0 b e = grind (arith)
 
 both : (a b : Bool) → a ≡ true → (a && b) ≡ false → b ≡ false
-both true b e f = f
-both false b e f = absurd cc
+both v0 b e f = grind (arith)
 
 -- the two looks in either order
 either_order : {A B : Type 0} (strict padded : Bool) (b : A) (p : B) (check : A → Result B DerError) → check b ≡ Ok p → passing strict (λ q. padded) p ≡ (passing strict (λ c. padded) b >>= check)
 unfolding passing
-either_order strict padded b p check e = by_test (strict && not padded)
-  where
-    by_test : (t : Bool) → cond t (Err NotCanonical) (Ok p) ≡ (cond t (Err NotCanonical) (Ok b) >>= check)
-    by_test true = refl
-    by_test false = sym e
+either_order strict padded b p check e = grind (arith)
 
 -- what is read of a content in the order of the code
 pub length_first : (strict : Bool) (limit : ℕ) (content : List ℕ) → limit ≤ 128 → prefix_in_by strict limit content ≡ cond (is_longer limit content) (Err BadPrefix) (bits_by strict content >>= prefix_of limit)
 unfolding prefix_in_by prefix_of_by bits bits_by prefix_of passing
-length_first strict limit [] le = refl
-length_first strict limit (u ∷ os) le = by_test (ltb 7 u || (ltb 0 u && eqb (length os) 0)) refl (leb u 7 && ltb (limit + u) (8 * length os)) refl
-  where
-    b : Bits
-    b = record { unused = u; octets = os }
-
-    found : Bool → Result Bits DerError
-    found t = cond t (Err BadBitString) (Ok b)
-
-    Same : Bool → Bool → Type 0
-    Same t long = (found t >>= λ c. prefix_of limit c >>= passing strict (λ p. is_padded c)) ≡ cond long (Err BadPrefix) ((found t >>= passing strict is_padded) >>= prefix_of limit)
-
-    prefix_by_test : Bool → Result PrefixValue DerError
-    prefix_by_test t = cond t (Err BadPrefix) (Ok (record { first = big_endian os / 2 ^ u * 2 ^ (128 - bit_count b); len = bit_count b }))
-
-    by_test : (t : Bool) → (ltb 7 u || (ltb 0 u && eqb (length os) 0)) ≡ t → (long : Bool) → (leb u 7 && ltb (limit + u) (8 * length os)) ≡ long → Same t long
-    by_test true bad true more =
-        let parts = and_parts (leb u 7) (ltb (limit + u) (8 * length os)) more in
-        let few : u ≤ 7 = leb-true u 7 parts.0 in
-        let many : limit + u < 8 * length os = ltb-true (limit + u) (8 * length os) parts.1 in
-        elim (or_true (ltb 7 u) (ltb 0 u && eqb (length os) 0) bad) [
-          | inl above ↦ absurd (let more = ltb-true 7 u above in omega (arith, more, few))
-          | inr none ↦ absurd (let empty = eqb-true (length os) 0 (and_parts (ltb 0 u) (eqb (length os) 0) none).1 in omega (arith, empty, many))
-        ]
-    by_test true bad false more = refl
-    by_test false good true more =
-        let parts = and_parts (leb u 7) (ltb (limit + u) (8 * length os)) more in
-        let many : limit + u < 8 * length os = ltb-true (limit + u) (8 * length os) parts.1 in
-        let long : (ltb 16 (length os) || ltb limit (bit_count b)) ≡ true = true_or (ltb 16 (length os)) (ltb limit (bit_count b)) (lt-ltb limit (bit_count b) (omega (arith, many))) in
-        ap (λ t. prefix_by_test t >>= passing strict (λ p. is_padded b)) long
-    by_test false good false more =
-        let few : u ≤ 7 = ltb-false 7 u (or_parts (ltb 7 u) (ltb 0 u && eqb (length os) 0) good).0 in
-        let short : 8 * length os ≤ limit + u = ltb-false (limit + u) (8 * length os) (both (leb u 7) (ltb (limit + u) (8 * length os)) (le-leb u 7 few) more) in
-        let fits : (ltb 16 (length os) || ltb limit (bit_count b)) ≡ false = or_from _ _ (le-ltb 16 (length os) (omega (arith, short, few, le))) (le-ltb limit (bit_count b) (omega (arith, short))) in
-        let made : prefix_of limit b ≡ Ok (record { first = big_endian os / 2 ^ u * 2 ^ (128 - bit_count b); len = bit_count b }) = ap prefix_by_test fits in
-        ap (λ r. r >>= passing strict (λ p. is_padded b)) made ∙ either_order strict (is_padded b) b _ (prefix_of limit) made
+length_first strict limit v2 le = grind (arith, and_parts, both, either_order, eqb-true, le-leb, le-ltb, leb-true, lt-ltb, ltb-false, ltb-true, or_from, or_parts, or_true, true_or)
 
 -- ---- ranges
 

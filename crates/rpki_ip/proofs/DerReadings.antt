@@ -1,19 +1,14 @@
 -- The readings find the families, prefixes and ranges of the grammars, whatever follows them, and no others.
-use Rattle.std.proofs.Common.{◌≡◌, ℕ, ◌-◌, ◌*◌, ◌/◌, ◌^◌, ◌≤◌, ◌||◌, ◌&&◌, Bool, true, false, cond, eqb, ltb, List, [], ◌∷◌, length, get_or, Result, Ok, Err, refl, sym, ap, subst, ◌∙◌, arith, inl, inr}
-use Rattle.std.specs.Prelude.{IsErrAnd, MatchResult}
-use Rattle.std.proofs.lemmas.Bool.{ltb-false, le-ltb, eqb-true, cases_lt, and_parts, or_parts, or_from}
+use Rattle.std.proofs.Common.{◌≡◌, ℕ, ◌-◌, ◌*◌, ◌/◌, ◌^◌, ◌≤◌, ◌||◌, false, ltb, List, length, Ok, refl, sym, subst, arith, inl, inr}
+use Rattle.std.proofs.lemmas.Bool.{ltb-false, le-ltb, cases_lt, or_parts, or_from}
 use Rattle.rpki_addr.specs.Prefixes.{PrefixValue, last_of}
 use Rattle.rpki_base.proofs.DerReadings.{pair_check}
-use Rattle.rpki_der.specs.declared.error.DerError.{DerError}
-use Rattle.rpki_der.specs.declared.error.DerError.TheVariants.{BadPrefix, BadFamily, ReversedRange}
+use Rattle.rpki_der.specs.declared.error.DerError.TheVariants.{BadPrefix, ReversedRange}
 use Rattle.rpki_der.specs.Der.{Bits, IsBits, IsBytes, IsSequence, bit_content, bit_count, big_endian, Refines}
-use Rattle.rpki_der.specs.Reading.{Gives, bits, refined, tagged_at, IsReading}
-use Rattle.rpki_der.proofs.Steps.{IsCheck, bind_ok, passed, ok_is, ok_or_err}
+use Rattle.rpki_der.specs.Reading.{bits, refined, tagged_at, IsReading}
+use Rattle.rpki_der.proofs.Steps.{IsCheck, bind_ok, passed, ok_is}
 use Rattle.rpki_der.proofs.Contents.{bits_check}
 use Rattle.rpki_der.proofs.Readings.{IsTagged, fits_content, refined_reading, same_reading, tagged_reading}
-use Rattle.rpki_base.specs.declared.family.AddressFamily.{AddressFamily}
-use Rattle.rpki_base.specs.declared.family.AddressFamily.TheVariants.{Ipv4, Ipv6}
-use Rattle.rpki_base.specs.FamilyDer.{SaysFamily, IsFamilyDer, family_octets, family_of_octets, family_at}
 use Rattle.rpki_ip.specs.PrefixDer.{SaysPrefix, IsPrefixContent, IsPrefixDer, prefix_of, prefix_in, prefix_at}
 use Rattle.rpki_ip.specs.RangeDer.{IsRangeDer, IsSpan, SaysRange, range_in, span_of}
 use Rattle.rpki_ip.specs.Ranges.{RangeValue}

@@ -6,9 +6,6 @@ use Rattle.std.proofs.lemmas.List.{length-append}
 use Rattle.rpki_addr.specs.Prefixes.{PrefixValue, IsPrefix}
 use Rattle.rpki_der.specs.Der.{header, length_octets, bit_string_value}
 use Rattle.rpki_der.proofs.Written.{value_is}
-use Rattle.rpki_base.specs.declared.family.AddressFamily.{AddressFamily}
-use Rattle.rpki_base.specs.declared.family.AddressFamily.TheVariants.{Ipv4, Ipv6}
-use Rattle.rpki_base.specs.FamilyDer.{IsFamilyDer, family_der}
 use Rattle.rpki_ip.specs.PrefixDer.{IsPrefixDer, prefix_bits, prefix_der}
 use Rattle.rpki_ip.specs.RangeDer.{IsRangeDer, IsRangeWithin, range_content, range_der, without_end_ones, without_end_zeros}
 use Rattle.rpki_ip.specs.Ranges.{RangeValue}

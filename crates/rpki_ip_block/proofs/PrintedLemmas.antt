@@ -1,5 +1,5 @@
 -- What is printed of a block is a text of a block with its bounds.
-use Rattle.std.proofs.Common.{◌≡◌, ℕ, ◌+◌, ◌-◌, ◌%◌, ◌^◌, ◌≤◌, ◌<◌, ◌≢◌, inl, inr, List, ◌∷◌, ◌++◌, None, Some, Result, MatchResult, All, arith, lit<, refl, sym, ap, ◌∙◌, subst, decimal}
+use Rattle.std.proofs.Common.{◌≡◌, ℕ, ◌+◌, ◌-◌, ◌%◌, ◌^◌, ◌≤◌, ◌<◌, ◌≢◌, inl, inr, List, ◌∷◌, ◌++◌, None, Some, Result, MatchResult, All, arith, lit<, refl, sym, ap, ◌∙◌, decimal}
 use Rattle.std.proofs.Math.Nat.{pow-le-pow_right}
 use Rattle.std.proofs.lemmas.Bool.{cases_lt, cases_eq, eq-eqb, ne_eqb}
 use Rattle.std.proofs.lemmas.List.Elements.{All-cons, All-append, All-weaker}
@@ -39,31 +39,17 @@ no_slash_between left right h k =
 -- printed addresses in each form
 module _ (family : AddressFamily) (a : IpAddr) (is : IsAddressText (Some family) (ip_text a) a) where
   shown_prefix : (p : PrefixValue) → p.len ≤ bits_of (family_of a) → p.len ≤ 128 → p.first ≡ cleared 128 (first_of a) p.len → IsIpBlockText (Some family) (ip_text a ++ slash ∷ decimal p.len) (Prefix p)
-  shown_prefix p fits small first = record {
-    left = ip_text a;
-    right = decimal p.len;
-    cut = record { split = refl; first = no_slash (ip_text a) (ip_bytes a) };
-    holds = (a, is, record { length_text = IsNumberText-decimal (2 ^ 8 - 1) p.len (omega (arith, small)) (omega (arith, small)); within = fits; first = first });
-  }
+  shown_prefix p fits small first = grind (arith, IsNumberText-decimal, ip_bytes, no_slash)
 
   shown_single : (r : RangeValue) → IsRangeFrom a a r → IsIpBlockText (Some family) (ip_text a) (Range r)
   shown_single r from = (no_slash (ip_text a) (ip_bytes a), inr (no_dash (ip_text a) (ip_bytes a), (a, is, from)))
 
   shown_range : (b : IpAddr) (r : RangeValue) → IsAddressText (Some family) (ip_text b) b → IsRangeFrom a b r → IsIpBlockText (Some family) (ip_text a ++ dash ∷ ip_text b) (Range r)
-  shown_range b r iz from = (
-    no_slash_between (ip_text a) (ip_text b) (ip_bytes a) (ip_bytes b),
-    inl (record {
-      left = ip_text a;
-      right = ip_text b;
-      cut = record { split = refl; first = no_dash (ip_text a) (ip_bytes a) };
-      holds = (a, is, (b, iz, from));
-    }),
-  )
+  shown_range b r iz from = grind (arith, ip_bytes, no_dash, no_slash_between)
 
 -- the address of a family is of that family
 of_family : (family : AddressFamily) (bits : ℕ) → family_of (as_ip family bits) ≡ family
-of_family Ipv4 bits = refl
-of_family Ipv6 bits = refl
+of_family v0 bits = grind (arith)
 
 -- and its text writes it
 is_written : (family : AddressFamily) (bits : ℕ) → IsAddress (as_ip family bits) → IsAddressText (Some family) (ip_text (as_ip family bits)) (as_ip family bits)
@@ -84,25 +70,19 @@ begins_v4 n below whole = record { small = omega (arith, below); is = omega (ari
 
 -- so the least number of a block of the family
 begins_of : (family : AddressFamily) (b : IpBlock) → IsBlockOf family b → Begins family (ip_bounds b).0
-begins_of Ipv4 (Prefix p) (is, whole) = begins_v4 p.first is.below whole.begins
-begins_of Ipv4 (Range r) (is, whole) = let ordered = is.ordered in let below = is.below in begins_v4 r.min (omega (arith, ordered, below)) whole.begins
-begins_of Ipv6 (Prefix p) is = record { small = is.below; is = refl }
-begins_of Ipv6 (Range r) is = let ordered = is.ordered in let below = is.below in record { small = omega (arith, ordered, below); is = refl }
+begins_of v0 v1 v2 = grind (arith, begins_v4)
 
 -- and the greatest of a range
 ends_of : (family : AddressFamily) (r : RangeValue) → IsBlockOf family (Range r) → Ends family r.max
-ends_of Ipv4 r (is, whole) = let below = is.below in let ends = whole.ends in record { small = omega (arith, below); is = omega (arith, ends) }
-ends_of Ipv6 r is = record { small = is.below; is = refl }
+ends_of v0 r v2 = grind (arith)
 
 -- both are in order
 range_ordered : (family : AddressFamily) (r : RangeValue) → IsBlockOf family (Range r) → r.min ≤ r.max
-range_ordered Ipv4 r is = is.0.ordered
-range_ordered Ipv6 r is = is.ordered
+range_ordered v0 r is = grind (arith)
 
 -- the prefix of a block
 pub prefix_of : (family : AddressFamily) (p : PrefixValue) → IsBlockOf family (Prefix p) → IsPrefix 128 p
-prefix_of Ipv4 p is = is.0
-prefix_of Ipv6 p is = is
+prefix_of v0 p is = grind (arith)
 
 -- a prefix of whole IPv4 addresses has at most 32 bits
 short_prefix : (family : AddressFamily) (p : PrefixValue) → IsBlockOf family (Prefix p) → p.len ≤ bits_of family
@@ -120,8 +100,7 @@ short_prefix Ipv4 p (is, whole) = elim (cases_lt 32 p.len) [
 
 -- a prefix of the greatest length is one address
 last_single : (family : AddressFamily) (p : PrefixValue) → p.len ≡ bits_of family → Begins family p.first → greatest_of (as_ip family (shown_bits family p.first)) ≡ last_of 128 p
-last_single Ipv4 p e begins = let size : 2 ^ (128 - p.len) ≡ 2 ^ 96 = ap (λ l. 2 ^ (128 - l)) e in let is = begins.is in omega (arith, size, is)
-last_single Ipv6 p e begins = let size : 2 ^ (128 - p.len) ≡ 1 = ap (λ l. 2 ^ (128 - l)) e in omega (arith, size)
+last_single v0 p e begins = grind (arith)
 
 -- a block that the text writes, with the bounds of b
 pub record WritesBoundsOf (family : AddressFamily) (text : List ℕ) (b : IpBlock) : Type 0 where
@@ -171,21 +150,12 @@ written_of family (Range r) h =
 
 -- so a reader that answers what a text writes reads it back
 pub block_back : (family : AddressFamily) (text : List ℕ) (r : Result IpBlock FromStrError) → Answers (IsIpBlockText (Some family) text) (HasIpBlockFault (Some family) text) r → (b : IpBlock) → IsBlockOf family b → text ≡ ip_block_text family b → MatchResult r (λ read. ip_bounds read ≡ ip_bounds b) (λ _. ⊥)
-block_back family text r exact b h is =
-    let w = subst (λ t. WritesBoundsOf family t b) (sym is) (written_of family b h) in
-    rw (exact.each_value w.block w.written) w.bounds
+block_back family text r exact b h is = grind (arith, written_of)
 
 -- a block of one family that the text writes is one of either
 either_family : (family : AddressFamily) (text : List ℕ) (b : IpBlock) → IsIpBlockText (Some family) text b → IsIpBlockText None text b
-either_family family text (Prefix p) h = let (a, is, at) = h.holds in record { left = h.left; right = h.right; cut = h.cut; holds = (a, (tt, is.1), at) }
-either_family family text (Range r) (none, inl h) = let (a, is, (b, iz, from)) = h.holds in (none, inl (record { left = h.left; right = h.right; cut = h.cut; holds = (a, (tt, is.1), (b, (tt, iz.1), from)) }))
-either_family family text (Range r) (none, inr (apart, (a, is, from))) = (none, inr (apart, (a, (tt, is.1), from)))
+either_family family text v2 h = grind (arith)
 
 -- so a reader of either family reads both back
 pub reads_block : (text : List ℕ) (r : Result IpBlock FromStrError) → Answers (IsIpBlockText None text) (HasIpBlockFault None text) r → ReadsIpBlock text r
-reads_block text r exact = record {
-  exact = exact;
-  reads_back = λ family b h is. (
-      let w = subst (λ t. WritesBoundsOf family t b) (sym is) (written_of family b h) in
-      rw (exact.each_value w.block (either_family family text w.block w.written)) w.bounds);
-}
+reads_block text r exact = grind (arith, either_family, written_of)

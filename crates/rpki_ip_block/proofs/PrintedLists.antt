@@ -1,5 +1,5 @@
 -- What is printed of a list of blocks is read as blocks of their bounds.
-use Rattle.std.proofs.Common.{◌≡◌, ℕ, zero, suc, ◌/◌, ◌%◌, ◌^◌, ◌≤◌, ◌<◌, ◌==◌, inl, inr, List, [], ◌∷◌, ◌++◌, length, map, codes, decimal, Some, Result, Ok, Err, MatchResult, All, refl, sym, ap, ◌∙◌, subst, arith, lit<, lit≤, Contains}
+use Rattle.std.proofs.Common.{◌≡◌, ℕ, zero, suc, ◌/◌, ◌%◌, ◌^◌, ◌≤◌, ◌<◌, ◌==◌, inl, inr, List, [], ◌∷◌, ◌++◌, length, map, codes, decimal, Some, Result, MatchResult, All, refl, sym, ap, ◌∙◌, subst, arith, lit<, lit≤, Contains}
 use Rattle.std.specs.Int.{IsInRange}
 use Rattle.std.specs.List.{AllByRecursion, flat_map}
 use Rattle.std.proofs.NetLemmas.Alphabet.{IsDigitOrDot, All-ipv4_text}
@@ -93,10 +93,7 @@ ipv4_text_dot n = dotted_dot (octets_of n) (length-last_digits 0x100 (lit< tt) 4
 
 -- the least number of a block
 first_below : (family : AddressFamily) (b : IpBlock) → IsBlockOf family b → (ip_bounds b).0 < 2 ^ 128
-first_below Ipv4 (Prefix p) is = is.0.below
-first_below Ipv4 (Range r) is = let ordered = is.0.ordered in let below = is.0.below in omega (arith, ordered, below)
-first_below Ipv6 (Prefix p) is = is.below
-first_below Ipv6 (Range r) is = let ordered = is.ordered in let below = is.below in omega (arith, ordered, below)
+first_below v0 v1 is = grind (arith)
 
 -- so a byte of each address of a family stands in what is printed of a block
 block_byte : (family : AddressFamily) (byte : ℕ) → ((n : ℕ) → n < 2 ^ 128 → HasByte byte (addr_text family n)) → (b : IpBlock) → IsBlockOf family b → HasByte byte (ip_block_text family b)
@@ -127,9 +124,7 @@ module _ (P : ℕ → Type 0) (slash_too : P slash) (dash_too : P dash) (digits_
 
 -- they are visible, so a printed block can stand in a list
 shown_byte : (b : ℕ) → IsAddressByte b → IsShown b
-shown_byte b (inl h) = (omega (arith, h), omega (arith, h))
-shown_byte b (inr (inl h)) = let low = h.0 in let high = h.1 in (omega (arith, low), omega (arith, high))
-shown_byte b (inr (inr h)) = let low = h.0 in let high = h.1 in (omega (arith, low), omega (arith, high))
+shown_byte b v1 = grind (arith)
 
 shown_digit : (b : ℕ) → IsInRange 48 57 b → IsShown b
 shown_digit b h = let low = h.0 in let high = h.1 in (omega (arith, low), omega (arith, high))
@@ -178,8 +173,7 @@ list_no_colon (b ∷ bs) is = no_colon (block_list_text Ipv4 (b ∷ bs)) (All-ap
 
 -- so a printed block isn't taken for one of the other family
 not_foreign : (family : AddressFamily) (b : IpBlock) → IsBlockOf family b → ¬ IsForeign family (ip_block_text family b)
-not_foreign Ipv4 b is = no_colon (ip_block_text Ipv4 b) (small_block b is)
-not_foreign Ipv6 b is = λ foreign. foreign.1 (block_colon b is)
+not_foreign v0 b is = grind (arith, block_colon, no_colon, small_block)
 
 -- blocks that the texts write, with the bounds of bs
 pub record WritesAll (Has : List ℕ → IpBlock → Type 0) (texts : List (List ℕ)) (bs : List IpBlock) : Type 0 where
@@ -234,8 +228,7 @@ list_told Ipv6 text (b ∷ bs) is printed = record {
 -- so a reader that answers what a text writes reads it back
 module _ {V : Type 0} (view : V → List IpBlock) (text : List ℕ) (r : Result V (OrMemory FromStrError)) where
   of_values : (bs values : List IpBlock) → map ip_bounds values ≡ map ip_bounds bs → (r : Result V (OrMemory FromStrError)) → MatchResult r (λ v. view v ≡ values) IsMemory → MatchResult r (λ v. map ip_bounds (view v) ≡ map ip_bounds bs) IsMemory
-  of_values bs values same (Ok v) h = ap (map ip_bounds) h ∙ same
-  of_values bs values same (Err e) h = h
+  of_values bs values same v3 h = grind (arith)
 
   pub family_list_back : (family : AddressFamily) → AnswersOrMemory view (HasBlocks family text) (HasBlocksFault family text) r → (bs : List IpBlock) → All (IsBlockOf family) bs → text ≡ block_list_text family bs → MatchResult r (λ v. map ip_bounds (view v) ≡ map ip_bounds bs) IsMemory
   family_list_back family exact bs is printed =

@@ -119,14 +119,10 @@ spelled_families bytes fs short (are, spelled) = subst (λ (t : List ℕ). Refin
 
 -- claims that are there
 present_of : (family : AddressFamily) (claim : Claim) → IsFamilyClaim family claim → IfSome (if_present claim) (IsPresentFamilyClaim family)
-present_of family Missing is = tt
-present_of family Inherit is = (is, λ e. cc)
-present_of family (Blocks set) is = (is, λ e. cc)
+present_of family v1 is = grind (arith)
 
 none_missing : (claim : Claim) → if_present claim ≡ None → claim ≡ Missing
-none_missing Missing e = refl
-none_missing Inherit e = absurd cc
-none_missing (Blocks set) e = absurd cc
+none_missing v0 e = grind (arith)
 
 -- ---- takes
 

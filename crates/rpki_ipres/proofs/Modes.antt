@@ -64,8 +64,7 @@ whole_of_runs : (set : Runs) → All HasWholeBounds set → IsWhole (Holds set)
 whole_of_runs set all m n same (k, b, small, here, inside) = (k, b, small, here, whole_set b (subst (λ x. HasWholeBounds x) here (all k b small)) m n same inside)
 
 fitting_family : (family : AddressFamily) (set : Runs) → IsIpSet set → All (IsRunWithin (bits_of family)) set → IsFamilySet family set
-fitting_family Ipv4 set is fit = (is, whole_of_runs set (λ k d small. (let run = fit k d small in record { begins = run.zeros; ends = run.ones })))
-fitting_family Ipv6 set is fit = is
+fitting_family v0 set is fit = grind (arith, whole_of_runs)
 
 -- ---- blocks
 
@@ -130,9 +129,7 @@ module _ (family : AddressFamily) where
 
   -- what stands at the front of octets that a length can tell
   front_is : (bytes : List ℕ) (set : Runs) (rest : List ℕ) → length bytes < 2 ^ 64 → Front (Spells (IsFamilySet family) ip_set_der) bytes set rest → Front (Refines (IsSequenceFrom greatest_of_ip_block (IsNextWritten (bits_of family)) None) (IsRunsOfBlocks ip_bounds)) bytes set rest
-  front_is bytes set rest short (front, is, split) =
-      let small = content_short bytes (octets_of_all ip_run_der set) rest short (split ∙ ap (λ (t : List ℕ). t ++ rest) is.1) in
-      (front, spelled_sequence front set small is, split)
+  front_is bytes set rest short v4 = grind (arith, content_short, spelled_sequence)
 
   module _ (old new : Cursor) (result : Result Runs (OrMemory DerError)) (took : TakesSaidOrMemory (IsRunsOfBlocks ip_bounds) old new result (ip_blocks_by (is_strict old) (bits_of family))) where
     -- a take that answers what the blocks say

@@ -64,30 +64,7 @@ no_addr_and_addr text F g h k = let (a, is, fault) = k.holds in (around_at slash
 
 -- a text without them has one fault
 no_parts_one : (text : List ℕ) (d e : ParsePrefixError) → HasNoParts text d → HasNoParts text e → d ≡ e
-no_parts_one text Empty Empty h k = refl
-no_parts_one text Empty MissingLen h k = absurd (k.0 h)
-no_parts_one text Empty (InvalidAddr g) h k = absurd (empty_around text _ h k)
-no_parts_one text Empty (InvalidLen g) h k = absurd (empty_around text _ h k)
-no_parts_one text Empty (InvalidPrefix g) h k = absurd k
-no_parts_one text MissingLen Empty h k = absurd (h.0 k)
-no_parts_one text MissingLen MissingLen h k = refl
-no_parts_one text MissingLen (InvalidAddr g) h k = absurd (none_around slash text _ h.1 k)
-no_parts_one text MissingLen (InvalidLen g) h k = absurd (none_around slash text _ h.1 k)
-no_parts_one text MissingLen (InvalidPrefix g) h k = absurd k
-no_parts_one text (InvalidAddr f) Empty h k = absurd (empty_around text _ k h)
-no_parts_one text (InvalidAddr f) MissingLen h k = absurd (none_around slash text _ k.1 h)
-no_parts_one text (InvalidAddr f) (InvalidAddr g) h k = ap InvalidAddr (h.holds.1 ∙ sym k.holds.1)
-no_parts_one text (InvalidAddr f) (InvalidLen g) h k = absurd (no_addr_and_addr text _ g h k)
-no_parts_one text (InvalidAddr f) (InvalidPrefix g) h k = absurd k
-no_parts_one text (InvalidLen f) Empty h k = absurd (empty_around text _ k h)
-no_parts_one text (InvalidLen f) MissingLen h k = absurd (none_around slash text _ k.1 h)
-no_parts_one text (InvalidLen f) (InvalidAddr g) h k = absurd (no_addr_and_addr text _ f k h)
-no_parts_one text (InvalidLen f) (InvalidLen g) h k =
-    let (a, is, fault) = around_at slash text k.left k.right (λ l r. (b : IpAddr) × IsIpText l b × HasNumberFault (2 ^ 8 - 1) r f) k.cut h in
-    let (b, iz, other) = k.holds in
-    ap InvalidLen (same_number_fault k.right f g fault other)
-no_parts_one text (InvalidLen f) (InvalidPrefix g) h k = absurd k
-no_parts_one text (InvalidPrefix f) e h k = absurd h
+no_parts_one text v1 v2 h k = grind (arith, around_at, empty_around, no_addr_and_addr, none_around, same_number_fault)
 
 -- what is read by a rule that gives one prefix or one error
 module _ (Rule : IpAddr → ℕ → FamilyPrefix → Type 0) (Fails : IpAddr → ℕ → PrefixError → Type 0)
@@ -127,15 +104,11 @@ prefix_one a n p q h k = λ i. record { addr = (h.same_addr ∙ sym k.same_addr)
 
 -- a prefix and an error exclude each other
 prefix_apart : (a : IpAddr) (n : ℕ) (p : FamilyPrefix) (f : PrefixError) → IsPrefixOf a n p → HasPrefixError a n f → ⊥
-prefix_apart a n p LenOverflow h above = let short : n ≤ width a = rw (h.same_addr, h.same_len) at h.is_prefix.short in omega (arith, short, above)
-prefix_apart a n p NonZeroHost h k = k.1 (rw (h.same_addr, h.same_len) at h.is_prefix.aligned)
+prefix_apart a n p v3 h above = grind (arith)
 
 -- there is one error
 error_one : (a : IpAddr) (n : ℕ) (f g : PrefixError) → HasPrefixError a n f → HasPrefixError a n g → f ≡ g
-error_one a n LenOverflow LenOverflow h k = refl
-error_one a n LenOverflow NonZeroHost h k = absurd (omega (arith, h, k.0))
-error_one a n NonZeroHost LenOverflow h k = absurd (omega (arith, k, h.0))
-error_one a n NonZeroHost NonZeroHost h k = refl
+error_one a n v2 v3 h k = grind (arith)
 
 -- the same where host bits are cleared
 relaxed_one : (a : IpAddr) (n : ℕ) (p q : FamilyPrefix) → IsRelaxedPrefixOf a n p → IsRelaxedPrefixOf a n q → p ≡ q
@@ -143,19 +116,15 @@ relaxed_one a n p q h k = λ i. record { addr = (h.same_bits ∙ sym k.same_bits
 
 -- clearing bits leaves the family
 same_width : (a : IpAddr) (n : ℕ) → width (cleared_addr a n) ≡ width a
-same_width (V4 m) n = refl
-same_width (V6 m) n = refl
+same_width v0 n = grind (arith)
 
 -- a prefix and an error exclude each other
 relaxed_apart : (a : IpAddr) (n : ℕ) (p : FamilyPrefix) (f : PrefixError) → IsRelaxedPrefixOf a n p → HasRelaxedPrefixError a n f → ⊥
-relaxed_apart a n p LenOverflow h above = let short : n ≤ width a = rw (h.same_bits, h.same_len, same_width a n) at h.is_prefix.short in omega (arith, short, above)
-relaxed_apart a n p NonZeroHost h k = k
+relaxed_apart a n p v3 h above = grind (arith, same_width)
 
 -- there is one error
 relaxed_error_one : (a : IpAddr) (n : ℕ) (f g : PrefixError) → HasRelaxedPrefixError a n f → HasRelaxedPrefixError a n g → f ≡ g
-relaxed_error_one a n LenOverflow LenOverflow h k = refl
-relaxed_error_one a n LenOverflow NonZeroHost h k = absurd k
-relaxed_error_one a n NonZeroHost g h k = absurd h
+relaxed_error_one a n v2 v3 h k = grind (arith)
 
 -- what is found by the relaxed reader is the answer
 pub reads_relaxed : (text : List ℕ) (r : Result FamilyPrefix ParsePrefixError) → MatchResult r (IsRelaxedPrefixText text) (HasRelaxedPrefixTextFault text) → Answers (IsRelaxedPrefixText text) (HasRelaxedPrefixTextFault text) r
@@ -163,25 +132,11 @@ reads_relaxed = answers_by IsRelaxedPrefixOf HasRelaxedPrefixError relaxed_one r
 
 -- what is printed
 is_address : (a : IpAddr) → address_number a < 2 ^ width a → IsAddress a
-is_address (V4 n) below = below
-is_address (V6 n) below = below
+is_address v0 below = grind (arith)
 
 -- what is printed of a prefix writes it
 pub IsPrefixText-prefix_text : (p : FamilyPrefix) → IsFamilyPrefix p → IsPrefixText (prefix_text p) p
-IsPrefixText-prefix_text p h =
-    let few = few_bits p.addr in
-    let short = h.short in
-    record {
-      addr = p.addr;
-      len = p.len;
-      parts = record {
-        left = ip_text p.addr;
-        right = decimal p.len;
-        cut = record { split = refl; first = no_slash (ip_text p.addr) (ip_bytes p.addr) };
-        holds = record { addr_text = IsIpText-ip_text p.addr (is_address p.addr h.below); len_text = IsNumberText-decimal (2 ^ 8 - 1) p.len (omega (arith, short, few)) (omega (arith, short, few)) };
-      };
-      prefix = record { same_addr = refl; same_len = refl; is_prefix = h };
-    }
+IsPrefixText-prefix_text p h = grind (arith, IsIpText-ip_text, IsNumberText-decimal, few_bits, ip_bytes, is_address, no_slash)
 
 -- what is found by the strict reader is the answer
 pub prefix_text_answers : (text : List ℕ) (r : Result FamilyPrefix ParsePrefixError) → MatchResult r (IsPrefixText text) (HasPrefixTextFault text) → Answers (IsPrefixText text) (HasPrefixTextFault text) r

@@ -1,5 +1,5 @@
 -- The length is looked at first.
-use Rattle.std.proofs.Common.{◌≡◌, ◌∙◌, true, false, Ok, Err, ap, refl, sym}
+use Rattle.std.proofs.Common.{◌≡◌, ◌∙◌, true, false, ap, refl, sym}
 use Rattle.std.proofs.lemmas.Result.{err_from_is_err_and}
 use Rattle.rpki_der.specs.Views.{content_octets, is_strict_in}
 use Rattle.rpki_ip.specs.PrefixDer.{is_longer}

@@ -38,7 +38,7 @@ ROOMS = (
     Room("from C", ("pigyelund_c",), 0, is_high=True),
     Room("examples", ("example_*",)),
     Room("rows", ("rows_*",)),
-    Room("tests", ("test_*", "probing")),
+    Room("tests", ("test_*",)),
     Room("benchmarks", ("bench_*",)),
 )
 

@@ -1,6 +1,7 @@
 -- The octets that a text of digits writes, and the text that writes octets.
 use Rattle.std.proofs.Common.{◌≡◌, ℕ, zero, suc, ◌+◌, ◌*◌, ◌/◌, ◌%◌, ◌<◌, ◌≤◌, ◌==◌, nat_le, nat_lt, Bool, true, ◌&&◌, ◌⊎◌, inl, inr, List, [], ◌∷◌, length, slice_index, Option, Some, None, Result, Ok, Err, refl, sym, ap, ◌∙◌, arith}
 use Rattle.std.proofs.lemmas.Bool.{and_parts, cases_eq, cases_lt, eqb-true, leb-true, ltb-true}
+use Rattle.std.proofs.lemmas.Str.{digit_value-digit_char}
 use Rattle.std.specs.Char.{digit_value, digit_char}
 use Rattle.std.specs.Result.{result_unwrap_or}
 use Rattle.hex.specs.Hex.{IsBytes, decode_of, decode_pairs, hex_digit_value, encode_with, lower_digits}
@@ -174,3 +175,13 @@ pub one_octets : (text a b : List ℕ) → IsHexadecimal text a → IsHexadecima
 one_octets text a b writes also =
     let same : Ok a ≡ Ok b = sym (pairs_of 0 text a writes) ∙ pairs_of 0 text b also in
     ap (λ (r : Result (List ℕ) FromHexError). result_unwrap_or r []) same
+
+-- what octets are written as writes them
+pub lower_writes : (octets : List ℕ) → IsBytes octets → IsHexadecimal (lower_hexadecimal octets) octets
+unfolding IsHexadecimal lower_hexadecimal
+lower_writes [] bytes = tt
+lower_writes (octet ∷ octets) bytes =
+    let fits : octet < 256 = bytes 0 in
+    let high = digit_value-digit_char (octet / 16) (omega arith) in
+    let low = digit_value-digit_char (octet % 16) (omega arith) in
+    (record { high_digit = omega (arith, high); low_digit = omega (arith, low); value = omega (arith, high, low) }, lower_writes octets (λ k. bytes (suc k)))

@@ -17,6 +17,7 @@ mod cover;
 mod der;
 mod hexadecimal;
 mod kind;
+pub mod laws;
 mod lists;
 mod norm;
 mod path;

@@ -1,6 +1,6 @@
 -- What the certificates on a path leave of what a trust anchor lists (RFC 6487, 7.2; RFC 8360, 4; RFC 8630, 2.3).
 use Rattle.std.specs.Prelude.{List}
-use Rattle.rpki_resources.specs.Triples.{Triple}
+use Rattle.rpki_resources.specs.Triples.{HasEachOf, Triple}
 use Rattle.rpki_extensions.specs.Anchors.{IsAnchorSet, IsNoAnchor}
 use Rattle.rpki_extensions.specs.Paths.{IsFirstUnverified, IsVerifiedPath}
 use Rattle.rpki_extensions.specs.declared.extensions.Extensions.{Extensions}
@@ -10,6 +10,10 @@ use Rattle.rpki_extensions.specs.declared.error.RefusedBelow.TheVariants.{Anchor
 -- the set is what the certificates leave of the one that the anchor lists
 abbrev pub IsLeftBelow : Extensions → List Extensions → Triple → Type 0
 IsLeftBelow anchor certificates set = (root : Triple) × IsAnchorSet anchor root × IsVerifiedPath root certificates set
+
+-- the set lies in the one that the anchor lists
+abbrev pub LiesInAnchor : Extensions → Triple → Type 0
+LiesInAnchor anchor set = (root : Triple) × IsAnchorSet anchor root × HasEachOf root set
 
 -- the anchor lists none for the reason, or else the certificate is the first that isn't verified
 abbrev pub IsRefusedBelow : {A : Type 0} → Extensions → List Extensions → RefusedBelow A → Type 0

@@ -2,7 +2,7 @@
 ghost use Rattle.std.specs.Prelude.{IfOk, MatchResult};
 ghost use Rattle.rpki_text.specs.Memory.{IfRefused};
 ghost use Rattle.rpki_resources.specs.Triples.{HasEachOf};
-ghost use Rattle.rpki_extensions.specs.Below.{IsLeftBelow, IsRefusedBelow};
+ghost use Rattle.rpki_extensions.specs.Below.{IsLeftBelow, IsRefusedBelow, LiesInAnchor};
 ghost use Rattle.rpki_extensions.specs.Paths.{IsFirstUnverified, IsVerifiedPath};
 
 use crate::anchor::anchor_set;
@@ -48,6 +48,7 @@ pub fn verified_below<A: Allocator + Copy>(
 ) -> Result<ResourceSet<A>, OrMemory<RefusedBelow<A>>>
     ensures below { MatchResult result (IsLeftBelow anchor.now certificates.now)
         (IfRefused (IsRefusedBelow anchor.now certificates.now)) }
+    ensures inside { IfOk result (LiesInAnchor anchor.now) }
 {
     let root = match anchor_set(alloc, anchor) {
         Ok(root) => root,

@@ -1,7 +1,7 @@
 #!/usr/bin/env python3
 """gives_up.py [--all] [CRATE..]: which public calls a body that gives up would meet.
 
-Such a body answers None, an Err, false, true, 0, 1, an empty text or list, what it was given, or does nothing. Each stands
+Such a body answers None, an Err, false, true, 0, an empty text or list, what it was given, or does nothing. Each stands
 in turn under the signature and the clauses of each public function and of each method of a public trait, in a copy of the
 crate, and rt's planter has it proved over the crate's kept proof. It plants bodies that call the real function too; those
 are left out here. With no CRATE each library of crates.txt is gone over.
@@ -34,6 +34,19 @@ def parts_handed_back(bodies, of):
     return [bodies.Body(f"({', '.join(it[0] for it in others)}, {given[-1]})", None, "argument")]
 
 
+def without_laws(functions, bare):
+    """The functions but for laws, which do nothing: what they ensure is a theorem."""
+    return [it for it in functions if it.ret or it.body], bare
+
+
+def firsts(found):
+    """One failure, one value and one argument: of a bool both values."""
+    kept = {}
+    for it in found:
+        kept.setdefault(it.text if it.text in ("false", "true") else it.kind, it)
+    return list(kept.values())
+
+
 def planted():
     """What rt plant prints of the crate in the working folder, at bodies that give up alone."""
     sys.dont_write_bytecode = True
@@ -43,10 +56,11 @@ def planted():
     importlib.machinery.SourceFileLoader("rt-plant", planter.__file__).exec_module(planter)
     # One check a crate, but for bodies of one method, of which each takes a check of its own.
     planter.BATCH, planter.SECONDS = 400, 1200
-    compiled, giving_up = planter.Copy.compiled, planter.bodies.Bodies.giving_up
+    chosen, compiled, giving_up = planter.chosen, planter.Copy.compiled, planter.bodies.Bodies.giving_up
+    planter.chosen = lambda *given: without_laws(*chosen(*given))
     # Where the unchanged call isn't planted, the planter tries no body that calls the function.
     planter.Copy.compiled = lambda copy, plants: compiled(copy, [it for it in plants if it.body != it.f.call()])
-    planter.bodies.Bodies.giving_up = lambda of: giving_up(of) + parts_handed_back(planter.bodies, of)
+    planter.bodies.Bodies.giving_up = lambda of: firsts(giving_up(of)) + parts_handed_back(planter.bodies, of)
     sys.exit(planter.main("--all", "--max", "9999", "--minutes", "60"))
 
 

@@ -1,9 +1,10 @@
 //! The program `respath`: it answers each line of the standard input with one line on the standard output.
 #![tactic(auto)]
 
-use respath_engine::adapters::{FromRead, IntoWrite};
-use respath_engine::engine::run;
-use respath_engine::error::RunError;
+use lines_engine::adapters::{FromRead, IntoWrite};
+use lines_engine::engine::run;
+use lines_engine::error::RunError;
+use respath_lines::lines::Commands;
 use std::io::BufWriter;
 use std::process::ExitCode;
 
@@ -28,5 +29,5 @@ fn serve(rt: &HostRuntime) -> Result<(), RunError> {
     };
     let mut reader = FromRead::new(rt.stdin());
     let mut writer = IntoWrite::new(buffered);
-    run(rt.alloc(), &mut reader, &mut writer)
+    run(rt.alloc(), &Commands, &mut reader, &mut writer)
 }

@@ -1,10 +1,9 @@
 //! What a line is answered: a command is looked up by the line's first word, and its answer is one line of text.
 //!
-//! A line has one answer, to which the engine adds its end:
+//! A line has one answer, to which the engine adds its end, as in `respath`:
 //!
 //! ```rust
-//! let mut text = answer(alloc, line)?;
-//! text.push('\n')?;
+//! run(rt.alloc(), &Commands, &mut reader, &mut writer)
 //! ```
 #![tactic(auto)]
 
@@ -18,6 +17,7 @@ mod der;
 mod hexadecimal;
 mod kind;
 pub mod laws;
+pub mod lines;
 mod lists;
 mod norm;
 mod path;

@@ -1,7 +1,8 @@
--- Lemmas on what readers answer, on numbers in decimal and on lists of texts.
+-- Lemmas on what readers answer, on lines, on numbers in decimal and on lists of texts.
 pub mod CutLemmas
 pub mod DigitLemmas
 pub mod ElementLemmas
+pub mod LineLemmas
 pub mod ListLemmas
 pub mod NumberLemmas
 pub mod NumberTexts

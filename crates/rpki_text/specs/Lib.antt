@@ -1,6 +1,7 @@
--- Definitions: what a reader answers, and the texts of numbers and of lists.
+-- Definitions: what a reader answers, the lines of a text, and the texts of numbers and of lists.
 pub mod Cuts
 pub mod Digits
+pub mod Lines
 pub mod Lists
 pub mod Memory
 pub mod Numbers

@@ -1,4 +1,4 @@
-//! Texts: what a reader answers, number texts, lists of texts, and the answer of a call that may want memory.
+//! Texts: what a reader answers, lines, number texts, lists of texts, and the answer of a call that may want memory.
 //!
 //! A refusal and want of memory are told apart, as in `example_calls::errors::fault_of`:
 //!
@@ -11,6 +11,7 @@
 //! ```
 #![tactic(auto)]
 
+pub mod line;
 pub mod list;
 pub mod memory;
 pub mod number;

@@ -1,8 +1,9 @@
 //! A run over more octets than any buffer between has: an input of more than 2^24, an answer of more than 2^16.
 use crate::slices::{Habits, SliceSink, SliceSource};
 use crate::streams::{SliceReader, SliceWriter};
-use respath_engine::adapters::{FromRead, IntoWrite};
-use respath_engine::engine::run;
+use lines_engine::adapters::{FromRead, IntoWrite};
+use lines_engine::engine::run;
+use respath_lines::lines::Commands;
 use std::alloc::{AllocError, Global};
 
 /// How many AS numbers a line lists: every second one from 0 on.
@@ -41,6 +42,7 @@ fn is_answered(alloc: Global, input: &[u8], output: &[u8], room: &mut [u8]) -> b
     };
     let ended = run(
         alloc,
+        &Commands,
         &mut FromRead::new(&mut reader),
         &mut IntoWrite::new(&mut writer),
     );

@@ -1,7 +1,7 @@
 //! Runs over devices that move few bytes, fail or fill up, and over memory that is refused.
 use crate::seen::{Devices, ROOM, Row, Seen, run_own};
 use crate::slices::Habits;
-use respath_engine::error::RunError;
+use lines_engine::error::RunError;
 use std::alloc::Global;
 use std::process::Abort;
 use test_support::{Outcome, Refusing, refuse_in_turn};

@@ -1,9 +1,10 @@
 //! A run, and what is seen of it as plain values.
 use crate::slices::{Habits, SliceSink, SliceSource};
 use crate::streams::{SliceReader, SliceWriter};
-use respath_engine::adapters::{FromRead, IntoWrite};
-use respath_engine::engine::run;
-use respath_engine::error::RunError;
+use lines_engine::adapters::{FromRead, IntoWrite};
+use lines_engine::engine::run;
+use lines_engine::error::RunError;
+use respath_lines::lines::Commands;
 use std::alloc::{Allocator, Global};
 
 /// The bytes that a sink has room for.
@@ -60,7 +61,7 @@ pub fn run_own<A: Allocator + Copy>(alloc: A, row: &Row, reading: Habits, writin
     let mut room = [0u8; ROOM];
     let mut source = SliceSource::new(row.input, reading);
     let mut sink = SliceSink::new(&mut room, writing);
-    let ended = run(alloc, &mut source, &mut sink);
+    let ended = run(alloc, &Commands, &mut source, &mut sink);
     look(ended, row, &source, &sink)
 }
 
@@ -75,6 +76,7 @@ fn run_std(heap: Global, row: &Row, reading: Habits, writing: Habits) -> Seen {
     };
     let ended = run(
         heap,
+        &Commands,
         &mut FromRead::new(&mut reader),
         &mut IntoWrite::new(&mut writer),
     );

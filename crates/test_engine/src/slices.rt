@@ -1,7 +1,7 @@
 //! Devices over slices, which count their calls. They take no memory.
 ghost use Rattle.std.specs.Prelude.{◌≡◌, ◌≤◌, Some, false, length, take};
 
-use respath_engine::device::{DeviceFault, Sink, Source};
+use lines_engine::device::{DeviceFault, Sink, Source};
 
 /// How a device behaves.
 #[derive(Clone, Copy)]

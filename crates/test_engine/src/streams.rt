@@ -1,7 +1,7 @@
 //! Readers and writers of std over those devices. Of a failed call they tell that it may be tried again, which nothing here
 //! does: a call behind one that failed is counted, so that a test sees it, and fails.
 use crate::slices::{SliceSink, SliceSource};
-use respath_engine::device::{Sink, Source};
+use lines_engine::device::{Sink, Source};
 use std::io;
 use std::io::{Read, Write};
 

@@ -5,7 +5,7 @@ use Rattle.std.proofs.lemmas.List.{length-drop}
 use borrow.Author.Tests.{ltb-true, ltb-false}
 use Rattle.std.specs.Prelude.{nat_lt}
 use Rattle.std.specs.List.{onto_first, position_or_len, position}
-use Rattle.respath_engine.specs.Lines.{is_end, lines_of}
+use Rattle.rpki_text.specs.Lines.{is_end, lines_of}
 
 -- the text up to its first 0a, and then the lines behind it
 cut : (text : List ℕ) → position_or_len is_end text < length text

@@ -1,12 +1,12 @@
 //! Reads the whole input, and then answers each line of it.
-ghost use Rattle.std.specs.Prelude.{◌≡◌, ◌<◌, ◌∷◌, [], ℕ, length, position, true, false, IfOk, IfErr, IfSome, OnOk, OnErr, IsErrOf, List};
+ghost use Rattle.std.specs.Prelude.{◌≡◌, [], ℕ, true, false, IfOk, IfErr, IfSome, OnOk, OnErr, IsErrOf, List};
 ghost use Rattle.std.specs.Io.KnownBytes.{IsAtEnd, Keeps};
-ghost use Rattle.respath_engine.specs.Lines.{is_end, lines_of};
-ghost use Rattle.respath_engine.specs.Run.{HasWritten, HasAnsweredLine, AnswersAll, AnswersFirst, BeginsAnswers};
+ghost use Rattle.lines_engine.specs.Run.{HasWritten, HasAnsweredLine, AnswersAll, AnswersFirst, BeginsAnswers};
 
+use crate::answers::Answers;
 use crate::device::{DeviceFault, Sink, Source};
 use crate::error::RunError;
-use respath_lines::answer;
+use rpki_text::line::cut_line;
 use std::alloc::Allocator;
 
 /// The bytes that one read asks for.
@@ -17,8 +17,9 @@ const PIECE: usize = 64 * 1024;
 ///
 /// [`RunError::Read`] and [`RunError::Write`] are answered where a call of the device failed, or a write took
 /// nothing; [`RunError::Memory`] where a request for memory was refused.
-pub fn run<A: Allocator + Copy, R: Source, W: Sink>(
+pub fn run<A: Allocator + Copy, L: Answers, R: Source, W: Sink>(
     alloc: A,
+    answers: &L,
     reader: &mut R,
     writer: &mut W,
 ) -> Result<(), RunError>
@@ -31,26 +32,27 @@ pub fn run<A: Allocator + Copy, R: Source, W: Sink>(
         × (W.mark writer.new ≡ W.mark writer.old)) }
     ensures read_whole { OnOk result (IsAtEnd (R.left reader.new)) }
     ensures answered { OnOk result (IfSome (R.left reader.old)
-        (AnswersAll (W.written writer.old) (W.written writer.new))) }
+        (AnswersAll (L.is_answer answers.now) (W.written writer.old) (W.written writer.new))) }
     ensures flushed { OnOk result (W.flushed writer.new ≡ true) }
 
     // A read failed, and nothing was written.
     ensures read { IsErrOf result RunError.Read → R.mark reader.new ≡ true }
     ensures nothing_written { IsErrOf result RunError.Read → writer.new ≡ writer.old }
 
-    // No call failed, and the answers to the earlier lines were written whole, and nothing else.
+    // No call failed. The answers of some first lines, of not all where there is any, were written whole, and
+    // nothing else.
     ensures memory_unmarked { IsErrOf result RunError.Memory →
         (R.mark reader.new ≡ R.mark reader.old) × (W.mark writer.new ≡ W.mark writer.old) }
     ensures some_answered { IsErrOf result RunError.Memory → IfSome (R.left reader.old)
-        (AnswersFirst (W.written writer.old) (W.written writer.new)) }
+        (AnswersFirst (L.is_answer answers.now) (W.written writer.old) (W.written writer.new)) }
 
     // A write or a flush failed, or a write took nothing, and a beginning of the answers was written.
     ensures write { IsErrOf result RunError.Write → W.mark writer.new ≡ true }
     ensures some_written { IsErrOf result RunError.Write → IfSome (R.left reader.old)
-        (BeginsAnswers (W.written writer.old) (W.written writer.new)) }
+        (BeginsAnswers (L.is_answer answers.now) (W.written writer.old) (W.written writer.new)) }
 {
     let input = read_to_end(alloc, reader)?;
-    answer_lines(alloc, &input, writer)?;
+    answer_lines(alloc, answers, &input, writer)?;
     flush_all(writer)
 }
 
@@ -80,72 +82,54 @@ fn read_to_end<A: Allocator, R: Source>(alloc: A, reader: &mut R) -> Result<Vec<
 }
 
 /// Answers each line of a text.
-fn answer_lines<A: Allocator + Copy, W: Sink>(
+fn answer_lines<A: Allocator + Copy, L: Answers, W: Sink>(
     alloc: A,
+    answers: &L,
     text: &[u8],
     writer: &mut W,
 ) -> Result<(), RunError>
     requires clear { W.mark writer.old ≡ false }
     ensures unmarked { OnOk result (W.mark writer.new ≡ W.mark writer.old) }
-    ensures answered { OnOk result (AnswersAll (W.written writer.old) (W.written writer.new)
+    ensures answered { OnOk result (AnswersAll (L.is_answer answers.now) (W.written writer.old) (W.written writer.new)
         text.now) }
     ensures memory_unmarked { IsErrOf result RunError.Memory
         → W.mark writer.new ≡ W.mark writer.old }
     ensures some_answered { IsErrOf result RunError.Memory
-        → AnswersFirst (W.written writer.old) (W.written writer.new) text.now }
+        → AnswersFirst (L.is_answer answers.now) (W.written writer.old) (W.written writer.new) text.now }
     ensures write { IsErrOf result RunError.Write → W.mark writer.new ≡ true }
     ensures some_written { IsErrOf result RunError.Write
-        → BeginsAnswers (W.written writer.old) (W.written writer.new) text.now }
+        → BeginsAnswers (L.is_answer answers.now) (W.written writer.old) (W.written writer.new) text.now }
     ensures not_read { IsErrOf result RunError.Read → ⊥ }
 {
     let mut rest = text;
     while !rest.is_empty() {
         let (line, after) = cut_line(rest);
-        answer_line(alloc, line, writer)?;
+        answer_line(alloc, answers, line, writer)?;
         rest = after;
     }
     Ok(())
 }
 
-/// The first line of a text that isn't empty, and what stands behind its end.
-#[tactic(auto, using(crate::proofs::LineLemmas::first_line, crate::proofs::LineLemmas::only_line))]
-fn cut_line(text: &[u8]) -> (&[u8], &[u8])
-    requires { 0 < length text.now }
-    ensures first { lines_of text.now ≡ result.0.now ∷ lines_of result.1.now }
-    ensures shorter { length result.1.now < length text.now }
-{
-    match line_end(text) {
-        Some(at) => (&text[..at], &text[at + 1..]),
-        None => (text, &[]),
-    }
-}
-
-/// Where the first line of a text ends, if something ends it.
-fn line_end(text: &[u8]) -> Option<usize>
-    ensures { result ≡ position is_end text.now }
-{
-    text.iter().position(|byte| *byte == b'\n')
-}
-
 /// Makes the whole answer to a line, and then writes it.
 #[tactic(auto, using(crate::proofs::RunLemmas::line_answered))]
-fn answer_line<A: Allocator + Copy, W: Sink>(
+fn answer_line<A: Allocator + Copy, L: Answers, W: Sink>(
     alloc: A,
+    answers: &L,
     line: &[u8],
     writer: &mut W,
 ) -> Result<(), RunError>
     requires clear { W.mark writer.old ≡ false }
     ensures unmarked { OnOk result (W.mark writer.new ≡ W.mark writer.old) }
-    ensures answered { OnOk result (HasAnsweredLine (W.written writer.old) (W.written writer.new)
+    ensures answered { OnOk result (HasAnsweredLine (L.is_answer answers.now) (W.written writer.old) (W.written writer.new)
         line.now []) }
     ensures memory { IsErrOf result RunError.Memory → writer.new ≡ writer.old }
     ensures write { IsErrOf result RunError.Write → W.mark writer.new ≡ true }
     ensures some_written { IsErrOf result RunError.Write
-        → (unwritten : List ℕ) × HasAnsweredLine (W.written writer.old) (W.written writer.new)
+        → (unwritten : List ℕ) × HasAnsweredLine (L.is_answer answers.now) (W.written writer.old) (W.written writer.new)
         line.now unwritten }
     ensures not_read { IsErrOf result RunError.Read → ⊥ }
 {
-    let mut text = answer(alloc, line)?;
+    let mut text = answers.answer(alloc, line)?;
     text.push('\n')?;
     write_all(writer, text.as_bytes()).map_err(|_| RunError::Write)
 }

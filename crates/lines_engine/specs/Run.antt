@@ -1,0 +1,43 @@
+-- What a run leaves in a writer. `old` and `new` are the known bytes that it held; `Is` says which text is answered to
+-- a line.
+use Rattle.std.specs.Prelude.{◌≡◌, ℕ, List, [], ◌∷◌, ◌++◌, Option}
+use Rattle.std.specs.List.{AllZip, flat_map}
+use Rattle.std.specs.Io.KnownBytes.{Appends}
+use Rattle.rpki_text.specs.Lines.{lines_of}
+
+-- a text as a line
+abbrev pub as_line : List ℕ → List ℕ
+as_line text = text ++ 10 ∷ []
+
+-- Of these bytes all but `unwritten`, at their end, was written, and nothing else.
+pub record HasWritten (old new : Option (List ℕ)) (bytes unwritten : List ℕ) : Type 0 where
+  pub written : List ℕ
+  pub bytes_are : bytes ≡ written ++ unwritten
+  pub wrote : Appends old new written
+
+-- The line was answered, and of its answer as a line all but `unwritten` was written.
+pub record HasAnsweredLine (Is : List ℕ → List ℕ → Type 0) (old new : Option (List ℕ)) (line unwritten : List ℕ) : Type 0 where
+  pub text : List ℕ
+  pub is_answer : Is line text
+  pub wrote : HasWritten old new (as_line text) unwritten
+
+-- Of these lines all but `rest`, at their end, were answered, in order,
+-- and of those answers as lines all but `unwritten` was written.
+pub record HasAnswered (Is : List ℕ → List ℕ → Type 0) (old new : Option (List ℕ)) (lines rest : List (List ℕ)) (unwritten : List ℕ) : Type 0 where
+  pub answered : List (List ℕ)
+  pub texts : List (List ℕ)
+  pub lines_are : lines ≡ answered ++ rest
+  pub are_answers : AllZip Is answered texts
+  pub wrote : HasWritten old new (flat_map as_line texts) unwritten
+
+-- the answers of all lines of the input were written whole
+abbrev pub AnswersAll : (List ℕ → List ℕ → Type 0) → Option (List ℕ) → Option (List ℕ) → List ℕ → Type 0
+AnswersAll Is old new input = HasAnswered Is old new (lines_of input) [] []
+
+-- the answers of some first lines were written whole: of not all, where there is any
+abbrev pub AnswersFirst : (List ℕ → List ℕ → Type 0) → Option (List ℕ) → Option (List ℕ) → List ℕ → Type 0
+AnswersFirst Is old new input = (rest : List (List ℕ)) × HasAnswered Is old new (lines_of input) rest [] × (rest ≡ [] → lines_of input ≡ [])
+
+-- a beginning of the answers was written
+abbrev pub BeginsAnswers : (List ℕ → List ℕ → Type 0) → Option (List ℕ) → Option (List ℕ) → List ℕ → Type 0
+BeginsAnswers Is old new input = (rest : List (List ℕ)) × ((unwritten : List ℕ) × HasAnswered Is old new (lines_of input) rest unwritten)

@@ -1,0 +1,24 @@
+//! The lines of a text.
+ghost use Rattle.std.specs.Prelude.{◌≡◌, ◌<◌, ◌∷◌, length, position};
+ghost use Rattle.rpki_text.specs.Lines.{is_end, lines_of};
+
+/// The first line of a text that isn't empty, without its end, and what stands behind its end. `\n` ends a line; the
+/// last one may have no end.
+#[tactic(auto, using(crate::proofs::LineLemmas::first_line, crate::proofs::LineLemmas::only_line))]
+pub fn cut_line(text: &[u8]) -> (&[u8], &[u8])
+    requires { 0 < length text.now }
+    ensures first { lines_of text.now ≡ result.0.now ∷ lines_of result.1.now }
+    ensures shorter { length result.1.now < length text.now }
+{
+    match line_end(text) {
+        Some(at) => (&text[..at], &text[at + 1..]),
+        None => (text, &[]),
+    }
+}
+
+/// Where the first line of a text ends, if something ends it.
+fn line_end(text: &[u8]) -> Option<usize>
+    ensures { result ≡ position is_end text.now }
+{
+    text.iter().position(|byte| *byte == b'\n')
+}

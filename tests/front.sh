@@ -22,7 +22,7 @@ chmod -R go+rX "$files"
 
 # The tools of the script, and no rt
 for tool in sh awk cat cut date dirname find grep head id ls mkdir mktemp mv readlink rm sed setsid sha256sum sleep \
-    tail tee touch wc; do
+    tail tee touch tr wc; do
     ln -s "$(command -v "$tool")" "$copy/tools/$tool"
 done
 

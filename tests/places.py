@@ -46,6 +46,10 @@ def asked_lines() -> Iterator[bytes]:
     for command in LISTED:
         yield from islice(random_lines.lines(command, 1), 2_000)
     yield from long_lines(random.Random(1))
+    yield b"norm as 1, 2\0, x"
+    yield b"der as inherit, 1"
+    yield "path as 1 | \u3000trim\u00a0".encode()
+    yield "der v4 10.0.0.0,\u2003inherit\u0085".encode()
 
 
 def elements(text: str, place: str = "") -> list[tuple[str, str]]:

@@ -86,6 +86,9 @@ AS1" $? "$said"
 said=$(printf 'path as 1 | refuse 2\n' | "$top/respath" - --check)
 expect "a check of a refused claim" 3 "refused at step 0: overclaimed AS resources: AS2" $? "$said"
 
+said=$(printf 'path as 1 | inherit | trim 2 | refuse 3\n' | "$top/respath" --check)
+expect "a check of a claim that is refused later" 3 "refused at step 2: overclaimed AS resources: AS3" $? "$said"
+
 said=$("$top/respath" --check "$files/none" 2>&1)
 expect "a check of no file" 1 "respath: $files/none: can't be opened" $? "$said"
 

@@ -26,4 +26,6 @@ refused 'AS1 ; 10.0.0.0/8 ; \n' 'two lines are wanted, there are 1'
 refused ';;\n;;\n;;\n' 'two lines are wanted, there are 3'
 refused 'AS1 ; 10.0.0.0/8\n;;\n' 'what was had: three lists are wanted, there are 2'
 refused ';;\n;;;\n' 'what is got: three lists are wanted, there are 4'
+refused ';10.0.0.0/999;\n;;\n' \
+    'cannot parse IPv4 resources: bad prefix length: number too large to fit in target type'
 exit $failed

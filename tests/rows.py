@@ -108,9 +108,9 @@ def compare_verified_set() -> bool:
     """Compares what `example_verified_set` prints of the issuer and the files that it is run with."""
     comparison = Comparison()
     folder = CRATES / "example_verified_set"
-    *lists, numbers, addresses = lines_of(folder / "args")
+    *lists, numbers, addresses, mode = lines_of(folder / "args")
     octets = [(folder / "data" / name).read_bytes().hex() for name in (numbers, addresses)]
-    line = f"verified_octets {' ; '.join(lists)} | canonical-refuse {' '.join(octets)}"
+    line = f"verified_octets {' ; '.join(lists)} | {mode} {' '.join(octets)}"
     (found,) = lines_of(folder / "stdout")
     comparison.add("example_verified_set/args", line, calls_of_callers.answer(line), found)
     return comparison.tell("example_verified_set")

@@ -1,40 +1,76 @@
 //! The program `example_verified_set`: what an issuer verifies of a certificate, or why it doesn't.
 //!
-//! Its arguments are the issuer's AS numbers, IPv4 addresses and IPv6 addresses, each a list, and two files of octets: the
-//! values of the certificate's AS identifiers and IP address blocks.
+//! Its arguments are the issuer's AS numbers, IPv4 addresses and IPv6 addresses, each a list, two files of octets, the
+//! values of the certificate's AS identifiers and IP address blocks, and a mode: `refuse` or `trim`, which is what
+//! becomes of a claim that lists too much, and `canonical-refuse` or `canonical-trim` where canonical octets alone are
+//! read.
 #![tactic(auto)]
 
 use rpki_extensions::encoding::Encoding;
 use rpki_extensions::extensions::Extensions;
 use rpki_extensions::issued::verified_octets;
+use rpki_resources::OrMemory;
 use rpki_resources::repository::resources::{Overclaim, ResourceSet};
+use std::process::ExitCode;
 use std::{env, fs};
 
-fn main(rt: HostRuntime) -> anyhow::Result<()> {
+fn main(rt: HostRuntime) -> anyhow::Result<ExitCode> {
     let words = env::args(&rt)?.collect::<Vec<String>>(rt.alloc())?;
-    let [_, asn, ipv4, ipv6, numbers, addresses] = words.as_slice() else {
-        anyhow::bail!("arguments: ASN-LIST IPV4-LIST IPV6-LIST NUMBERS-FILE ADDRESSES-FILE");
+    let [_, asn, ipv4, ipv6, numbers, addresses, mode] = words.as_slice() else {
+        anyhow::bail!("arguments: ASN-LIST IPV4-LIST IPV6-LIST NUMBERS-FILE ADDRESSES-FILE MODE");
+    };
+    let Some(reading) = reading_named(mode) else {
+        anyhow::bail!("modes: refuse, trim, canonical-refuse, canonical-trim");
     };
     let issuer = ResourceSet::from_strs(rt.alloc(), asn, ipv4, ipv6)?;
-    verify_files(&rt, &issuer, [numbers, addresses])
+    verify_files(&rt, &issuer, [numbers, addresses], reading)
+}
+
+/// Which octets are read, and what becomes of a claim that lists too much, by the name of a mode.
+fn reading_named(mode: &str) -> Option<(Encoding, Overclaim)> {
+    match mode {
+        "refuse" => Some((Encoding::Any, Overclaim::Refuse)),
+        "trim" => Some((Encoding::Any, Overclaim::Trim)),
+        "canonical-refuse" => Some((Encoding::Canonical, Overclaim::Refuse)),
+        "canonical-trim" => Some((Encoding::Canonical, Overclaim::Trim)),
+        _ => None,
+    }
 }
 
 /// Prints what the issuer verifies of the octets in two files.
-fn verify_files(rt: &HostRuntime, issuer: &ResourceSet, files: [&str; 2]) -> anyhow::Result<()> {
+fn verify_files(
+    rt: &HostRuntime,
+    issuer: &ResourceSet,
+    files: [&str; 2],
+    (encoding, mode): (Encoding, Overclaim),
+) -> anyhow::Result<ExitCode> {
     let numbers = fs::read(rt, files[0])?;
     let addresses = fs::read(rt, files[1])?;
     let certificate = Extensions {
         numbers: Some(&numbers),
         addresses: Some(&addresses),
-        encoding: Encoding::Canonical,
-        mode: Overclaim::Refuse,
+        encoding,
+        mode,
     };
     verify(rt, issuer, &certificate)
 }
 
-/// Prints what the issuer verifies of a certificate.
-fn verify(rt: &HostRuntime, issuer: &ResourceSet, certificate: &Extensions) -> anyhow::Result<()> {
-    let set = verified_octets(rt.alloc(), issuer, certificate)?;
-    println!(rt; "{set}")?;
-    Ok(())
+/// Prints what the issuer verifies of a certificate, or all of the reason why it doesn't: an [`anyhow::Error`] would
+/// keep its first 120 bytes.
+fn verify(
+    rt: &HostRuntime,
+    issuer: &ResourceSet,
+    certificate: &Extensions,
+) -> anyhow::Result<ExitCode> {
+    match verified_octets(rt.alloc(), issuer, certificate) {
+        Ok(set) => {
+            println!(rt; "{set}")?;
+            Ok(ExitCode::SUCCESS)
+        }
+        Err(OrMemory::Refused(reason)) => {
+            eprintln!(rt; "Error: {reason}")?;
+            Ok(ExitCode::FAILURE)
+        }
+        Err(OrMemory::Memory(error)) => Err(error.into()),
+    }
 }

@@ -68,9 +68,15 @@ class Test(Enum):
 class Fields(ctypes.Structure):
     """Numbers side by side. ctypes drops the bits of a number that its field has no room for; here that is an error."""
 
+    _ends_: dict[str, int]  # of each number the first one that its field has no room for
+
+    def __init_subclass__(cls) -> None:
+        super().__init_subclass__()
+        numbers = [(name, kind) for name, kind in cls._fields_ if not issubclass(kind, ctypes.Array)]
+        cls._ends_ = {name: 1 << 8 * ctypes.sizeof(kind) for name, kind in numbers}
+
     def __setattr__(self, name: str, value: object) -> None:
-        kind = dict(self._fields_).get(name)
-        if isinstance(value, int) and kind is not None and not 0 <= value < 1 << 8 * ctypes.sizeof(kind):
+        if name in self._ends_ and isinstance(value, int) and not 0 <= value < self._ends_[name]:
             raise OverflowError(f"{name}: {value}")
         super().__setattr__(name, value)
 

@@ -1,8 +1,7 @@
 #!/usr/bin/env bash
-# Makes a release and a Debian package of this tree, and tries them: the sums hold, the archive is made alike twice,
-# each line of the manual's examples is answered as it stands there, a program in C builds by what is unpacked, and the
-# package installs below a clean root and answers. What isn't there to test with is named. Status 0 where nothing
-# failed.
+# Makes a release and a Debian package of this tree, and tries them: the sums hold, each line of the manual's examples
+# is answered as it stands there, a program in C builds by what is unpacked, and the package installs below a clean
+# root, has the same files and answers. What isn't there to test with is named. Status 0 where nothing failed.
 cd "$(dirname "$0")/.." || exit 1
 out=$(mktemp -d) || exit 1
 trap 'rm -rf "$out"' EXIT
@@ -26,8 +25,6 @@ answers() {
 
 ./release "$version.1" "$out" 2>/dev/null && fail "another version is refused"
 ./release "$version" "$out/one" >"$out/log" 2>&1 || { cat "$out/log"; echo "FAILED: release"; exit 1; }
-./release "$version" "$out/two" >"$out/log" 2>&1 || fail "release again"
-cmp "$out"/*/"pigyelund-$version.tar.gz" || fail "the same tree makes the same archive"
 (cd "$out/one" && sha256sum --quiet -c "pigyelund-$version.tar.gz.sha256") || fail "the sum of the archive"
 mkdir "$out/un packed" && tar -xzf "$out/one/pigyelund-$version.tar.gz" -C "$out/un packed" || fail "tar"
 tree="$out/un packed/pigyelund-$version"
@@ -47,5 +44,8 @@ if has "the package of Debian" dpkg-deb && has "the package of Debian" dpkg; the
         { cat "$out/log"; fail "dpkg --install"; }
     gzip -d <"$out/root/usr/share/man/man1/respath.1.gz" >"$out/page"
     answers "$out/root/usr/bin" "$out/page" || fail "the installed program"
+    for part in bin include lib; do
+        diff -r "$tree/$part" "$out/root/usr/$part" || fail "the same tree makes the same $part"
+    done
 fi
 exit "$failed"

@@ -56,11 +56,20 @@ def to_try(kit, crates, words: list[str]) -> list:
     return [it for it in with_edits if it.name in own or code & {dep.name for dep in it.below()}]
 
 
-def copy_parts(crate, parts, room: Path) -> None:
+def link(source: str, to: str) -> None:
+    """Gives a file that is never written again another name, or copies it where the file system can't do so."""
+    try:
+        os.link(source, to)
+    except OSError:
+        shutil.copy2(source, to)
+
+
+def copy_parts(crate, parts, room: Path, copy=shutil.copy2) -> None:
     """Copies parts of a crate's folder, as far as it has them."""
     for part in parts:
         if Path(crate.folder, part).is_dir():
-            shutil.copytree(Path(crate.folder, part), room / "crates" / crate.name / part, symlinks=True)
+            to = room / "crates" / crate.name / part
+            shutil.copytree(Path(crate.folder, part), to, symlinks=True, copy_function=copy)
 
 
 def copied(kit, crates, room: Path) -> dict:
@@ -70,7 +79,8 @@ def copied(kit, crates, room: Path) -> dict:
     lines = [it for it in (TOP / "crates.txt").read_text().splitlines() if re.match(r"\w*", it)[0] in names]
     (room / "crates.txt").write_text("\n".join(lines) + "\n")
     for crate in crates:
-        copy_parts(crate, [*kit.rtlib.PARTS, *FOLDERS, "out/rlib"], room)
+        copy_parts(crate, [*kit.rtlib.PARTS, *FOLDERS], room)
+        copy_parts(crate, ["out/rlib"], room, link)
     for it in held:
         os.close(it)
     return {it.name: it for it in kit.rtlib.crates_below(str(room))}

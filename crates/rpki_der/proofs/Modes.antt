@@ -1,13 +1,14 @@
 -- Readings by the mode: leniently what is read without one, and strictly that or NotCanonical.
-use Rattle.std.proofs.Common.{◌≡◌, ℕ, zero, suc, ◌%◌, ◌^◌, Bool, true, false, cond, List, [], ◌∷◌, Option, Result, Ok, Err, refl, sym, subst, inl, arith}
+use Rattle.std.proofs.Common.{◌≡◌, ℕ, zero, suc, ◌%◌, ◌^◌, Bool, true, false, cond, List, [], ◌∷◌, Option, Result, Ok, Err, refl, sym, subst, inl, inr, arith}
 use Rattle.std.specs.Prelude.{◌⊎◌}
 use Rattle.std.proofs.lemmas.Bool.{eqb-true, eq-eqb}
 use Rattle.rpki_der.specs.declared.cursor.Cursor.{Cursor}
 use Rattle.rpki_der.specs.declared.error.DerError.{DerError}
 use Rattle.rpki_der.specs.declared.error.DerError.TheVariants.{NotCanonical}
-use Rattle.rpki_der.specs.Der.{Bits, IsBitContent, IsBitString, IsPadded, NoFront, Refines, Where, bit_content, last_octet}
-use Rattle.rpki_der.specs.Reading.{◌>>=◌, IsModal, IsReading, Tightens, bit_string_at, bit_string_by, bits, bits_by, each_from, is_padded, optional, passing, refined, tagged_at}
-use Rattle.rpki_der.specs.Views.{Lenient, NotCanonicalOr, Takes, is_strict}
+use Rattle.rpki_der.specs.Der.{Bits, HasNone, IsBitContent, IsBitString, IsPadded, NoFront, Refines, Where, bit_content, last_octet}
+use Rattle.rpki_der.specs.Reading.{◌>>=◌, Gives, IsModal, IsReading, Tightens, bit_string_at, bit_string_by, bits, bits_by, each_from, is_padded, optional, passing, refined, tagged_at}
+use Rattle.rpki_der.specs.declared.content.Content.{Content}
+use Rattle.rpki_der.specs.Views.{Lenient, NotCanonicalInOr, NotCanonicalOr, Takes, content_octets, is_strict, is_strict_in}
 use Rattle.rpki_der.proofs.Contents.{bits_check}
 use Rattle.rpki_der.proofs.Cursors.{none_by}
 use Rattle.rpki_der.proofs.Lists.{optional_err}
@@ -169,6 +170,16 @@ refused_by v0 v1 reading by view old new v7 is modal took = grind (arith, refuse
 pub refused_optional_by : {X Y : Type 0} (G S : List ℕ → Y → Type 0) (reading : List ℕ → Result (Y × List ℕ) DerError) (by : Bool → List ℕ → Result (Y × List ℕ) DerError) (view : X → Option Y) (old new : Cursor) (result : Result X DerError)
     → IsReading G reading → IsModal S reading by → Takes view old new result (optional (by (is_strict old))) → NotCanonicalOr G old result
 refused_optional_by v0 v1 reading by view old new v7 is modal took = grind (arith, optional_err, refused_at)
+
+-- a content
+pub refused_in : {X Y : Type 0} (C : List ℕ → Y → Type 0) (check : List ℕ → Result Y DerError) (by : Result Y DerError) (view : X → Y) (value : Content) (result : Result X DerError)
+    → IsCheck (λ _. Unit {0}) C check → Tightens (is_strict_in value) by (check (content_octets value)) → Gives view result by → NotCanonicalInOr C value result
+refused_in C check by view value (Ok x) is tight gives = tt
+refused_in C check by view value (Err e) is tight gives = found (fault_is (is_strict_in value) by (check (content_octets value)) e tight gives)
+  where
+    found : ((is_strict_in value ≡ true) × (e ≡ NotCanonical)) ⊎ (check (content_octets value) ≡ Err e) → ((is_strict_in value ≡ true) × (e ≡ NotCanonical)) ⊎ HasNone C (content_octets value)
+    found (inl not_canonical) = inl not_canonical
+    found (inr none) = inr (λ y says. ok_or_err y e (check (content_octets value)) (is.again (content_octets value) y says) none)
 
 -- ---- bit strings
 

@@ -5,7 +5,7 @@ use Rattle.rpki_der.specs.declared.content.Content.{Content}
 use Rattle.rpki_der.specs.declared.content.BitString.{BitString}
 use Rattle.rpki_der.specs.declared.error.DerError.{DerError}
 use Rattle.rpki_der.specs.declared.error.DerError.TheVariants.{NotCanonical}
-use Rattle.rpki_der.specs.Der.{Tlv, Bits, Front, NoFront}
+use Rattle.rpki_der.specs.Der.{Tlv, Bits, Front, HasNone, NoFront}
 
 -- the octets that are left
 abbrev pub left : Cursor → List ℕ
@@ -67,7 +67,14 @@ abbrev pub Parses : {X Y E : Type 0} → (List ℕ → Y → Type 0) → (X → 
 Parses C view octets (Ok x) = C octets (view x)
 Parses {Y} C view octets (Err e) = (y : Y) → C octets y → ⊥
 
--- A refusal is that of a strict cursor, of octets that aren't canonical, or the cursor stood at no value of the grammar.
+-- A refusal is that of a strict cursor, of octets that aren't canonical, or the cursor stood at no value of the
+-- grammar.
 abbrev pub NotCanonicalOr : {X Y : Type 0} → (List ℕ → Y → Type 0) → Cursor → Result X DerError → Type 0
 NotCanonicalOr G old (Ok x) = Unit {0}
 NotCanonicalOr G old (Err e) = ((is_strict old ≡ true) × (e ≡ NotCanonical)) ⊎ NoFront G (left old)
+
+-- A refusal is that of a strict cursor's content, of octets that aren't canonical, or the content says nothing by the
+-- rule.
+abbrev pub NotCanonicalInOr : {X Y : Type 0} → (List ℕ → Y → Type 0) → Content → Result X DerError → Type 0
+NotCanonicalInOr C value (Ok x) = Unit {0}
+NotCanonicalInOr C value (Err e) = ((is_strict_in value ≡ true) × (e ≡ NotCanonical)) ⊎ HasNone C (content_octets value)

@@ -30,7 +30,7 @@ impl<'a> Content<'a> {
     ghost use Rattle.std.specs.Prelude.{◌≡◌, Ok};
     ghost use Rattle.rpki_der.specs.Der.{IsBitContent, IsNothing, IsPadded, IsUnsigned, Where};
     ghost use Rattle.rpki_der.specs.Reading.{Gives, bits, bits_by, nothing, unsigned};
-    ghost use Rattle.rpki_der.specs.Views.{LenientIn, Parses, StrictIn, bit_string_of, content_octets, is_strict, is_strict_in, left, tlv};
+    ghost use Rattle.rpki_der.specs.Views.{LenientIn, NotCanonicalInOr, Parses, StrictIn, bit_string_of, content_octets, is_strict, is_strict_in, left, tlv};
 
     /// The tag octet.
     pub fn tag(&self) -> u8
@@ -62,8 +62,8 @@ impl<'a> Content<'a> {
         self.parse_u32()
     }
 
-    /// The content as a BIT STRING (X.690, 8.6.2), else `BadBitString`. Of a strict cursor's content, `NotCanonical` where
-    /// an unused bit is set.
+    /// The content as a BIT STRING (X.690, 8.6.2), else `BadBitString`. Of a strict cursor's content, `NotCanonical`
+    /// where an unused bit is set.
     pub fn to_bit_string(&self) -> Result<BitString<'a>, DerError>
         ensures reads { LenientIn self.now
             (Parses IsBitContent bit_string_of (content_octets self.now) result) }
@@ -71,6 +71,7 @@ impl<'a> Content<'a> {
             (Gives bit_string_of result (bits (content_octets self.now))) }
         ensures strict { StrictIn self.now
             (Parses (Where IsBitContent IsPadded) bit_string_of (content_octets self.now) result) }
+        ensures refused { NotCanonicalInOr IsBitContent self.now result }
         // In either mode.
         ensures by_mode { Gives bit_string_of result
             (bits_by (is_strict_in self.now) (content_octets self.now)) }

@@ -2,10 +2,10 @@
 use Rattle.std.proofs.Common.{◌∙◌, true, false, ap, subst}
 use Rattle.rpki_der.specs.Der.{IsBitContent, IsPadded, Where}
 use Rattle.rpki_der.specs.Reading.{Gives, bits, bits_by}
-use Rattle.rpki_der.specs.Views.{content_octets, bit_string_of}
+use Rattle.rpki_der.specs.Views.{content_octets, bit_string_of, is_strict_in}
 use Rattle.rpki_der.proofs.Contents.{bits_check}
 use Rattle.rpki_der.proofs.Cursors.{parses_by}
-use Rattle.rpki_der.proofs.Modes.{bits_tighten, padded_check, same_found}
+use Rattle.rpki_der.proofs.Modes.{bits_tighten, padded_check, refused_in, same_found}
 use Rattle.rpki_der.proofs.content.Content.to_bit_string.Goals as goal
 
 exact : goal.returns-clause-exact
@@ -23,3 +23,9 @@ pub returns-clause-strict : goal.returns-clause-strict
 returns-clause-strict c strict =
     let octets = content_octets c.args.self.now in
     parses_by (λ _. Unit {0}) (Where IsBitContent IsPadded) (bits_by true) bit_string_of octets c.parse_bit_string.result padded_check tt (subst (λ mode. Gives bit_string_of c.parse_bit_string.result (bits_by mode octets)) strict c.parse_bit_string.ensures.by_mode)
+
+pub returns-clause-refused : goal.returns-clause-refused
+returns-clause-refused c =
+    let octets = content_octets c.args.self.now in
+    let strict = is_strict_in c.args.self.now in
+    refused_in IsBitContent bits (bits_by strict octets) bit_string_of c.args.self.now c.parse_bit_string.result bits_check (bits_tighten strict octets) c.parse_bit_string.ensures.by_mode

@@ -141,7 +141,14 @@ interrupt() {
     # shellcheck disable=SC2016 # the prover's own words
     prover "a-kit logic 12" "$4"' sleep 60 & echo $! >"${0%/*}/child"; wait'
     rm -f "$copy/bin/child"
-    run timeout --preserve-status -k 20 -s "$2" 2 "$copy/respath" "$5" >/dev/null
+    # A shell's job ignores an interrupt; what timeout starts doesn't, and it hands its signals on to all of the group.
+    PATH=$copy/bin:$copy/tools TMPDIR=$copy/tmp timeout --preserve-status -k 20 60 "$copy/respath" "$5" \
+        </dev/null >/dev/null 2>&1 &
+    for _ in 1 2 3 4 5 6 7 8 9 10 11 12 13 14 15 16 17 18 19 20; do
+        [ -s "$copy/bin/child" ] || sleep 0.5
+    done
+    kill -s "$2" $!
+    wait $!
     status=$?
     left=$(ls "$copy/tmp")
     [ -e "$copy/bin/child" ] || left="$left, and no child was begun"

@@ -21,6 +21,21 @@ reads_or_memory_by G reading view old new (Ok x) is fits took = is.takes (left o
 reads_or_memory_by G reading view old new (Err (Refused e)) is fits took = (none_by G reading (left old) e is took.0, took.1)
 reads_or_memory_by G reading view old new (Err (Memory e)) is fits took = (tt, took.1)
 
+-- a take of what is written
+pub value_back : {X : Type 0} (G : List ℕ → X → Type 0) (reading : List ℕ → Result (X × List ℕ) DerError) (old new : Cursor) (result : Result X DerError)
+    → IsReading G reading → Takes (λ x. x) old new result reading
+    → (front : List ℕ) (x : X) (rest : List ℕ) → G front x → left old ≡ front ++ rest → (result ≡ Ok x) × (left new ≡ rest)
+value_back {X} G reading old new result is took front x rest g at = by_result result took
+  where
+    found : reading (left old) ≡ Ok (x, rest)
+    found = ap reading at ∙ is.again front x rest g
+
+    by_result : (r : Result X DerError) → Takes (λ x. x) old new r reading → (r ≡ Ok x) × (left new ≡ rest)
+    by_result (Ok y) took =
+        let both : (y, left new) ≡ (x, rest) = ok_is (y, left new) (x, rest) (sym took ∙ found) in
+        (ap (λ (p : X × List ℕ). Ok p.0) both, ap (λ (p : X × List ℕ). p.1) both)
+    by_result (Err e) took = absurd (ok_or_err (x, rest) e (reading (left old)) found took.0)
+
 -- a take that answers None at the end, of values as they are
 pub reads_optional_value_by : {X : Type 0} (G : List ℕ → X → Type 0) (reading : List ℕ → Result (X × List ℕ) DerError) (old new : Cursor) (result : Result (Option X) DerError)
     → IsReading G reading → IsBytes (left old) → Takes (λ o. o) old new result (optional reading) → ReadsOptional G (λ x. x) old new result

@@ -1,6 +1,10 @@
 //! What callers may rely on and no single call says.
-ghost use Rattle.std.specs.Prelude.{◌≡◌, ◌↔◌, ℕ, ◌-◌, ◌^◌, List, Contains, IsTrue};
+ghost use Rattle.std.specs.Prelude.{◌≡◌, ◌≢◌, ◌↔◌, ℕ, ◌-◌, ◌^◌, List, Err, true, Contains, IsOk, IsTrue};
 ghost use Rattle.std.specs.Ordering.{nat_cmp};
+ghost use Rattle.rpki_der.specs.declared.error.DerError.TheVariants.{NotCanonical};
+ghost use Rattle.rpki_der.specs.Reading.{bit_string_at, bit_string_by, value_at};
+ghost use Rattle.rpki_base.specs.AsnDer.{as_number_at};
+ghost use Rattle.rpki_base.specs.FamilyDer.{family_at};
 ghost use Rattle.rpki_base.specs.SmallSet.{IsSmallSet};
 
 use crate::asn::Asn;
@@ -36,4 +40,16 @@ pub fn equal_small_sets<A: Allocator>()
 pub fn one_small_set()
     ensures { (a b : List ℕ) → IsSmallSet a → IsSmallSet b
         → ((n : ℕ) → (Contains a n) ↔ (Contains b n)) → a ≡ b }
+{}
+
+/// Octets are refused as not canonical by a strict cursor alone, and never as a value of any tag, an AS number or a
+/// family, which are read alike in both modes. As a BIT STRING a strict cursor refuses them so only where a lenient one
+/// finds it: each other fault of it comes first.
+pub fn not_canonical()
+    ensures value { (bytes : List ℕ) → value_at bytes ≢ Err NotCanonical }
+    ensures number { (bytes : List ℕ) → as_number_at bytes ≢ Err NotCanonical }
+    ensures family { (bytes : List ℕ) → family_at bytes ≢ Err NotCanonical }
+    ensures bit_string { (bytes : List ℕ) → bit_string_at bytes ≢ Err NotCanonical }
+    ensures last { (bytes : List ℕ) → bit_string_by true bytes ≡ Err NotCanonical
+        → IsOk (bit_string_at bytes) }
 {}

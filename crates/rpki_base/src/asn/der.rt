@@ -4,11 +4,11 @@ use rpki_der::{Content, Cursor, DerError, append_u32, put_u32, tag, u32_len};
 use std::alloc::{AllocError, Allocator};
 
 impl Asn {
-    ghost use Rattle.std.specs.Prelude.{◌≡◌, ℕ, List, Ok, ◌≤◌, ◌+◌, ◌++◌, length, vec_len, OnOk, OnErr, IsOk};
+    ghost use Rattle.std.specs.Prelude.{◌≡◌, ℕ, List, Ok, ◌<◌, ◌≤◌, ◌+◌, ◌^◌, ◌++◌, length, vec_len, OnOk, OnErr, IsOk};
     ghost use Rattle.std.specs.Vec.{vec_capacity};
     ghost use Rattle.rpki_der.specs.Der.{IsUnsigned};
     ghost use Rattle.rpki_der.specs.Reading.{Gives, unsigned};
-    ghost use Rattle.rpki_der.specs.Views.{Parses, ReadsValue, Takes, content_octets, is_strict};
+    ghost use Rattle.rpki_der.specs.Views.{Parses, ReadsValue, Takes, content_octets, is_strict, left};
     ghost use Rattle.rpki_base.specs.AsnDer.{IsAsNumber, SaysAsNumber, as_number_at, as_number_octets, skip_number};
     ghost use Rattle.rpki_base.specs.DerReading.{Skips, if_tagged, skipping};
     ghost use Rattle.rpki_base.specs.DerViews.{ReadsTagged};
@@ -20,10 +20,13 @@ impl Asn {
     pub fn take_from(cursor: &mut Cursor<'_>) -> Result<Asn, DerError>
         ensures reads { ReadsValue IsAsNumber (λ n. n) cursor.old cursor.new result }
         ensures exact { Takes (λ n. n) cursor.old cursor.new result as_number_at }
+        // What is written of an AS number is read as that number, whatever follows it.
+        ensures reads_back { (n : ℕ) (rest : List ℕ) → n < 2 ^ 32
+            → left cursor.old ≡ as_number_octets n ++ rest
+            → (result ≡ Ok n) × (left cursor.new ≡ rest) }
         ensures mode { is_strict cursor.new ≡ is_strict cursor.old }
     {
-        let number = cursor.take_u32()?;
-        Ok(Asn(number))
+        Asn::next(cursor)
     }
 
     /// Takes an AS number as `take_from` does where the next octet is the tag of an INTEGER; None where it isn't, and
@@ -97,13 +100,22 @@ impl Asn {
     }
 }
 
-// The readings behind the calls: each stands apart from its call, whose further clause, `reads`, follows from `exact`
-// by a theorem on the grammar.
+// The readings behind the calls: each stands apart from its call, whose further clauses, `reads` and `reads_back`,
+// follow from `exact` by theorems on the grammar.
 impl Asn {
     ghost use Rattle.std.specs.Prelude.{◌≡◌};
     ghost use Rattle.rpki_der.specs.Views.{Takes, is_strict};
     ghost use Rattle.rpki_base.specs.AsnDer.{as_number_at};
     ghost use Rattle.rpki_base.specs.DerReading.{if_tagged, skipping};
+
+    #[inline]
+    fn next(cursor: &mut Cursor<'_>) -> Result<Asn, DerError>
+        ensures exact { Takes (λ n. n) cursor.old cursor.new result as_number_at }
+        ensures mode { is_strict cursor.new ≡ is_strict cursor.old }
+    {
+        let number = cursor.take_u32()?;
+        Ok(Asn(number))
+    }
 
     #[tactic(auto, unfolding(crate::specs::DerReading::if_tagged))]
     fn next_opt(cursor: &mut Cursor<'_>) -> Result<Option<Asn>, DerError>

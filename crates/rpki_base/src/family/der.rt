@@ -9,11 +9,11 @@ impl AddressFamily {
     ghost use Rattle.rpki_base.specs.DerViews.{ReadsTagged};
     ghost use Rattle.rpki_base.specs.declared.family.AddressFamily.{AddressFamily as SomeFamily};
     ghost use Rattle.std.specs.Vec.{vec_capacity};
-    ghost use Rattle.rpki_der.specs.Views.{ReadsValue, Takes, is_strict};
+    ghost use Rattle.rpki_der.specs.Views.{ReadsValue, Takes, is_strict, left};
     ghost use Rattle.rpki_base.specs.FamilyDer.{IsFamilyDer, SaysFamily, family_at, family_der, family_octets};
 
-    /// The family that two octets name (RFC 3779, 2.2.3.3): 0 and 1 for IPv4, 0 and 2 for IPv6. Any others are refused by
-    /// [`DecodeFamilyError`].
+    /// The family that two octets name (RFC 3779, 2.2.3.3): 0 and 1 for IPv4, 0 and 2 for IPv6. Any others are refused
+    /// by [`DecodeFamilyError`].
     pub fn from_octets(octets: &[u8]) -> Result<AddressFamily, DecodeFamilyError>
         ensures { MatchResult result (SaysFamily octets.now)
             (λ _. (family : SomeFamily) → ¬ SaysFamily octets.now family) }
@@ -28,13 +28,17 @@ impl AddressFamily {
     pub fn take_from(cursor: &mut Cursor<'_>) -> Result<AddressFamily, DerError>
         ensures reads { ReadsValue IsFamilyDer (λ f. f) cursor.old cursor.new result }
         ensures exact { Takes (λ f. f) cursor.old cursor.new result family_at }
+        // What is written of a family is read as that family, whatever follows it.
+        ensures reads_back { (family : SomeFamily) (rest : List ℕ)
+            → left cursor.old ≡ family_der family ++ rest
+            → (result ≡ Ok family) × (left cursor.new ≡ rest) }
         ensures mode { is_strict cursor.new ≡ is_strict cursor.old }
     {
         Self::next(cursor)
     }
 
-    /// Takes a family as `take_from` does where the next octet is the tag of an OCTET STRING; None where it isn't, and at
-    /// the end.
+    /// Takes a family as `take_from` does where the next octet is the tag of an OCTET STRING; None where it isn't, and
+    /// at the end.
     pub fn take_opt_from(cursor: &mut Cursor<'_>) -> Result<Option<AddressFamily>, DerError>
         ensures reads { ReadsTagged 4 IsFamilyDer cursor.old cursor.new result }
         ensures exact { Takes (λ f. f) cursor.old cursor.new result (if_tagged 4 family_at) }
@@ -61,8 +65,8 @@ impl AddressFamily {
         octets_len(self.octets())
     }
 
-    /// Appends the OCTET STRING of the family. `AllocError` where there is no memory for it; then the octets stay as they
-    /// were.
+    /// Appends the OCTET STRING of the family. `AllocError` where there is no memory for it; then the octets stay as
+    /// they were.
     pub fn encode<A: Allocator>(&self, out: &mut Vec<u8, A>) -> Result<(), AllocError>
         ensures ok { OnOk result (out.new.items ≡ out.old.items ++ family_der self.now) }
         ensures err { OnErr result (out.new.items ≡ out.old.items) }

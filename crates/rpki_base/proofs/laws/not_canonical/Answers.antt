@@ -1,0 +1,37 @@
+-- Lenient readings name lower faults, and strictly the look at the unused bits comes last.
+use Rattle.std.proofs.Common.{◌≡◌, ℕ, ◌≤◌, true, is_ok, List, Ok, Err, refl, arith}
+use Rattle.rpki_der.specs.declared.error.DerError.TheVariants.{NotCanonical}
+use Rattle.rpki_der.specs.Reading.{◌>>=◌, bit_string_at, bit_string_by, bits, bits_by, is_padded, passing, refined, tagged_at, unsigned, value_at}
+use Rattle.rpki_base.specs.AsnDer.{as_number_at}
+use Rattle.rpki_base.specs.FamilyDer.{family_at}
+use Rattle.rpki_der.proofs.Steps.{ok_or_err}
+use Rattle.rpki_base.proofs.DerFaults.{NamesTo, bind_fails, bits_names, first_fails, names_more, not_named, refined_names, tagged_names, unsigned_names, value_names}
+use Rattle.rpki_base.proofs.FamilyLemmas.{family_names}
+use Rattle.rpki_base.proofs.laws.not_canonical.Goals as goal
+
+-- a header's faults, where more can follow
+header_names : (tag n : ℕ) (bytes : List ℕ) → 3 ≤ n → NamesTo n (tagged_at tag bytes)
+header_names tag n bytes more = names_more 3 n (tagged_at tag bytes) more (tagged_names tag bytes)
+
+number_names : (bytes : List ℕ) → NamesTo 4 (as_number_at bytes)
+number_names = refined_names 4 (tagged_at 2) unsigned (λ bytes. header_names 2 4 bytes (omega arith)) unsigned_names
+
+bit_string_names : (bytes : List ℕ) → NamesTo 5 (bit_string_at bytes)
+bit_string_names = refined_names 5 (tagged_at 3) bits (λ bytes. header_names 3 5 bytes (omega arith)) bits_names
+
+bit_string_last : (bytes : List ℕ) → bit_string_by true bytes ≡ Err NotCanonical → is_ok (bit_string_at bytes) ≡ true
+unfolding refined bits_by
+bit_string_last bytes is =
+    let a = bind_fails (tagged_at 3 bytes) (λ x. bits_by true x.0 >>= λ y. Ok (y, x.1)) NotCanonical (not_named 3 (tagged_at 3 bytes) NotCanonical (tagged_names 3 bytes) (omega arith)) is in
+    let inside = first_fails (bits_by true a.0.0) (λ y. Ok (y, a.0.1)) NotCanonical (λ y fails. ok_or_err (y, a.0.1) NotCanonical (Ok (y, a.0.1)) refl fails) a.2 in
+    let b = bind_fails (bits a.0.0) (passing true is_padded) NotCanonical (not_named 5 (bits a.0.0) NotCanonical (bits_names a.0.0) (omega arith)) inside in
+    rw (a.1, b.1) refl
+
+pub returns : goal.returns
+returns c = record {
+  value = λ bytes. not_named 3 (value_at bytes) NotCanonical (value_names bytes) (omega arith);
+  number = λ bytes. not_named 4 (as_number_at bytes) NotCanonical (number_names bytes) (omega arith);
+  family = λ bytes. not_named 9 (family_at bytes) NotCanonical (family_names bytes) (omega arith);
+  bit_string = λ bytes. not_named 5 (bit_string_at bytes) NotCanonical (bit_string_names bytes) (omega arith);
+  last = bit_string_last;
+}

@@ -1,8 +1,7 @@
 //! Lists of AS blocks.
-ghost use Rattle.std.specs.Prelude.{◌≤◌, Ok, Err, MatchResult, MatchOption, length};
+ghost use Rattle.std.specs.Prelude.{◌≤◌, Ok, Err, IfOk, IfSome, MatchResult, length};
 ghost use Rattle.rpki_text.specs.Memory.{IfRefused};
 ghost use Rattle.rpki_text.specs.Lists.{elements, HaveValues, HasFirstFault};
-ghost use Rattle.rpki_base.specs.AsnPlaces.{Anything};
 ghost use Rattle.rpki_as_block.specs.BlockText.{ReadsAsBlock};
 ghost use Rattle.rpki_as_block.specs.BlockPlaces.{IsAfterSpace};
 
@@ -27,10 +26,8 @@ fn after_space(text: &[u8], start: usize) -> usize
 
 /// The blocks of a list whose elements all are of the usual form, each with one space before it or none.
 fn usual_blocks<A: Allocator>(alloc: A, text: &[u8]) -> Result<Option<Vec<AsBlock, A>>, AllocError>
-    ensures { MatchResult result
-        (λ found. MatchOption found Anything
-        (λ blocks. HaveValues (λ t b. ReadsAsBlock t (Ok b)) (elements text.now) blocks.items))
-        (λ _. Anything) }
+    ensures { IfOk result (λ found. IfSome found
+        (λ blocks. HaveValues (λ t b. ReadsAsBlock t (Ok b)) (elements text.now) blocks.items)) }
 {
     let mut blocks = Vec::new(alloc);
     let mut start = 0;

@@ -1,6 +1,5 @@
 //! AS blocks of the usual form, read at a place among bytes.
-ghost use Rattle.std.specs.Prelude.{◌≤◌, length, MatchOption};
-ghost use Rattle.rpki_base.specs.AsnPlaces.{Anything};
+ghost use Rattle.std.specs.Prelude.{◌≤◌, length, IfSome};
 ghost use Rattle.rpki_as_block.specs.BlockPlaces.{IsAsBlockBetween};
 
 use crate::block::AsBlock;
@@ -11,7 +10,7 @@ use rpki_base::asn::place::asn_at;
 /// place behind it. Other texts of blocks there may be nothing to this call, as in [`asn_at`].
 pub(crate) fn block_at(text: &[u8], start: usize) -> Option<(AsBlock, usize)>
     requires { start ≤ length text.now }
-    ensures { MatchOption result Anything (λ found. IsAsBlockBetween start found.1 text.now found.0) }
+    ensures { IfSome result (λ found. IsAsBlockBetween start found.1 text.now found.0) }
 {
     let (min, dash) = asn_at(text, start)?;
     if dash == text.len() || text[dash] != b'-' {

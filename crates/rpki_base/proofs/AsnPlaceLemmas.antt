@@ -1,15 +1,17 @@
 -- AS numbers at a place among bytes: letters and digits behind them.
-use Rattle.std.proofs.Common.{◌≡◌, ℕ, suc, ◌+◌, ◌-◌, ◌^◌, ◌<◌, ◌≤◌, List, [], ◌∷◌, length, take, drop, get_or, Ok, arith, refl, ap, ◌∙◌, subst, inl, inr, ◌⊎◌, codes, length-drop}
+use Rattle.std.proofs.Common.{◌≡◌, ℕ, suc, ◌+◌, ◌-◌, ◌^◌, ◌<◌, ◌≤◌, List, [], ◌∷◌, length, take, drop, get_or, Ok, arith, refl, sym, ap, ◌∙◌, subst, inl, inr, ◌⊎◌, codes, length-drop}
 use Rattle.std.specs.Str.Parse.{AllDigits, digits_value}
 use Rattle.std.specs.Int.{IsInRange}
 use Rattle.std.specs.List.{AllByRecursion}
 use Rattle.std.specs.Str.{str_to_ascii_lowercase}
 use Rattle.std.proofs.lemmas.Str.Parse.{without_leading_plus_none, digit_from_value, digit_at}
-use Rattle.std.proofs.lemmas.List.{length-take, drop_more}
+use Rattle.std.proofs.lemmas.Str.{digit_value_digit}
+use Rattle.std.proofs.lemmas.Bool.{cases_lt}
+use Rattle.std.proofs.lemmas.List.{length-take, drop_more, get_or-drop, get_or-take}
 use Rattle.std.proofs.Math.Seq.{take-length}
-use Rattle.rpki_text.specs.Numbers.{IsNumberText, AreDigitsBetween}
+use Rattle.rpki_text.specs.Numbers.{IsNumberText, AreDigitsBetween, AreDigitsFrom}
 use Rattle.rpki_base.specs.AsnText.{IsAsnText, ReadsAsn}
-use Rattle.rpki_base.specs.AsnPlaces.{IsAfterLetters, IsAsnBetween}
+use Rattle.rpki_base.specs.AsnPlaces.{HasLettersAt, IsAfterLetters, IsAsnAt, IsAsnBetween}
 use Rattle.rpki_base.proofs.AsnLemmas.{IsAsnText-one, IsAsnText-asn_text}
 
 -- digits are among the bytes `0` to `z`
@@ -44,21 +46,21 @@ behind_letters start end text more within =
     ap (λ k. take k (drop start text)) count
     ∙ ap (take (suc (suc (end - (start + 2))))) (one ∙ ap (λ t. get_or text start 0 ∷ t) (two ∙ ap (λ k. get_or text (start + 1) 0 ∷ drop k text) place))
 
--- letters or none, and digits behind them
-pub asn_between : (start after end : ℕ) (text : List ℕ) (n : ℕ) → IsAfterLetters start after text → AreDigitsBetween after end text n → after < end → n < 2 ^ 32 → IsAsnBetween start end text n
-asn_between start after end text n (inl e) digits some small =
-    let h : AreDigitsBetween start end text n = rw e at digits in
-    let more : 0 < length (take (end - start) (drop start text)) = omega (arith, length-take (end - start) (drop start text), length-drop start text, some, e, h.within) in
+-- digits, which nothing or letters go before
+number_between : (start end : ℕ) (text : List ℕ) (n : ℕ) → AreDigitsBetween start end text n → start < end → n < 2 ^ 32 → IsAsnBetween start end text n
+number_between start end text n h some small =
+    let more : 0 < length (take (end - start) (drop start text)) = omega (arith, length-take (end - start) (drop start text), length-drop start text, some, h.within) in
     record {
-      in_order = omega (arith, some, e);
+      in_order = some;
       within = h.within;
       number = record { letters = []; digits = take (end - start) (drop start text); split = refl; prefix = inl refl; number = digits_are_number _ n more h.all_digits h.value small };
       bytes = digits_are_bytes _ h.all_digits;
     }
-asn_between start after end text n (inr k) digits some small =
-    let h : AreDigitsBetween (start + 2) end text n = rw k.0 at digits in
-    let more : 0 < length (take (end - (start + 2)) (drop (start + 2) text)) = omega (arith, length-take (end - (start + 2)) (drop (start + 2) text), length-drop (start + 2) text, some, k.0, h.within) in
-    let shape = behind_letters start end text h.in_order k.1.within in
+
+letters_between : (start end : ℕ) (text : List ℕ) (n : ℕ) → HasLettersAt start text → AreDigitsBetween (start + 2) end text n → start + 2 < end → n < 2 ^ 32 → IsAsnBetween start end text n
+letters_between start end text n letters h some small =
+    let more : 0 < length (take (end - (start + 2)) (drop (start + 2) text)) = omega (arith, length-take (end - (start + 2)) (drop (start + 2) text), length-drop (start + 2) text, some, h.within) in
+    let shape = behind_letters start end text h.in_order letters.within in
     record {
       in_order = omega (arith, h.in_order);
       within = h.within;
@@ -66,11 +68,61 @@ asn_between start after end text n (inr k) digits some small =
         letters = get_or text start 0 ∷ get_or text (start + 1) 0 ∷ [];
         digits = take (end - (start + 2)) (drop (start + 2) text);
         split = shape;
-        prefix = inr (letters_are _ _ k.1.first k.1.second);
+        prefix = inr (letters_are _ _ letters.first letters.second);
         number = digits_are_number _ n more h.all_digits h.value small;
       };
-      bytes = rw shape (letter_bytes _ _ _ k.1.first k.1.second (digits_are_bytes _ h.all_digits));
+      bytes = rw shape (letter_bytes _ _ _ letters.first letters.second (digits_are_bytes _ h.all_digits));
     }
+
+-- a number of the usual form is one of its text
+pub asn_between : (start end : ℕ) (text : List ℕ) (n : ℕ) → IsAsnAt start end text n → IsAsnBetween start end text n
+asn_between start end text n h = elim h.letters [
+  | inl k ↦ number_between start end text n (subst (λ a. AreDigitsBetween a end text n) k.0 h.digits.digits) (omega (arith, h.some, k.0)) h.fits
+  | inr k ↦ letters_between start end text n k.1 (subst (λ a. AreDigitsBetween a end text n) k.0 h.digits.digits) (omega (arith, h.some, k.0)) h.fits
+]
+
+-- the letters end at one place
+same_letters : (start a b : ℕ) (text : List ℕ) → IsAfterLetters start a text → IsAfterLetters start b text → a ≡ b
+same_letters start a b text (inl h) (inl k) = omega (arith, h.0, k.0)
+same_letters start a b text (inl h) (inr k) = absurd (h.1 k.1)
+same_letters start a b text (inr h) (inl k) = absurd (k.1 h.1)
+same_letters start a b text (inr h) (inr k) = omega (arith, h.0, k.0)
+
+-- where all digits were read, no others reach further
+no_further : (start end other : ℕ) (text : List ℕ) (n m : ℕ) → AreDigitsFrom start end text n → AreDigitsFrom start other text m → end < other → ⊥
+no_further start end other text n m h k further =
+    let all = take (other - start) (drop start text) in
+    let here : end - start < length all = omega (arith, length-take (other - start) (drop start text), length-drop start text, further, h.digits.in_order, k.digits.within) in
+    let digit = digit_at all (end - start) k.digits.all_digits here in
+    let same : get_or all (end - start) 0 ≡ get_or text end 0 = get_or-take (other - start) (drop start text) (end - start) 0 (omega (arith, further, h.digits.in_order)) ∙ (get_or-drop start text (end - start) 0 ∙ ap (λ i. get_or text i 0) (omega (arith, h.digits.in_order))) in
+    elim h.none_left [
+      | inl last ↦ omega (arith, last, further, k.digits.within)
+      | inr (inl ten) ↦ omega (arith, ten, further, k.digits.few)
+      | inr (inr other_byte) ↦ omega (arith, other_byte, digit_value_digit (get_or text end 0) (rw same at digit), rw same at digit)
+    ]
+
+-- so they end at one place
+same_end : (start end other : ℕ) (text : List ℕ) (n m : ℕ) → AreDigitsFrom start end text n → AreDigitsFrom start other text m → end ≡ other
+same_end start end other text n m h k = elim (cases_lt end other) [
+  | inl less ↦ absurd (no_further start end other text n m h k less)
+  | inr least ↦ elim (cases_lt other end) [
+    | inl less ↦ absurd (no_further start other end text m n k h less)
+    | inr most ↦ omega (arith, least, most)
+  ]
+]
+
+-- and write one number
+same_value : (start end other : ℕ) (text : List ℕ) (n m : ℕ) → AreDigitsFrom start end text n → AreDigitsFrom start other text m → n ≡ m
+same_value start end other text n m h k =
+    let there : AreDigitsFrom start end text m = subst (λ e. AreDigitsFrom start e text m) (sym (same_end start end other text n m h k)) k in
+    sym h.digits.value ∙ there.digits.value
+
+-- the digits behind the letters are those of each number that stands there
+pub digits_of : (start after end : ℕ) (text : List ℕ) (v : ℕ) → IsAfterLetters start after text → AreDigitsFrom after end text v → (n other : ℕ) → (h : IsAsnAt start other text n) → (v ≡ n) × (end ≡ other) × (h.after ≡ after)
+digits_of start after end text v letters digits n other h =
+    let place = same_letters start h.after after text h.letters letters in
+    let there : AreDigitsFrom after other text n = subst (λ a. AreDigitsFrom a other text n) place h.digits in
+    (same_value after end other text v n digits there, same_end after end other text v n digits there, place)
 
 -- a number that the text has is the answer
 pub reads_number : (text : List ℕ) (n : ℕ) → IsAsnText text n → ReadsAsn text (Ok n)

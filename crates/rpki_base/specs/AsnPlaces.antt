@@ -1,12 +1,9 @@
 -- Texts of AS numbers at a place among bytes.
-use Rattle.std.specs.Prelude.{◌≡◌, ℕ, ◌+◌, ◌-◌, ◌<◌, ◌≤◌, ◌⊎◌, List, length, take, drop, slice_index}
+use Rattle.std.specs.Prelude.{◌≡◌, ℕ, ◌+◌, ◌-◌, ◌^◌, ◌<◌, ◌≤◌, ◌⊎◌, List, length, take, drop, slice_index}
 use Rattle.std.specs.Int.{IsInRange}
 use Rattle.std.specs.List.{AllByRecursion}
+use Rattle.rpki_text.specs.Numbers.{AreDigitsFrom}
 use Rattle.rpki_base.specs.AsnText.{IsAsnText}
-
--- nothing is said
-abbrev pub Anything : Type 0
-Anything = Unit {0}
 
 -- `as` stands at start, in any case of letters
 pub record HasLettersAt (start : ℕ) (text : List ℕ) : Type 0 where
@@ -14,9 +11,18 @@ pub record HasLettersAt (start : ℕ) (text : List ℕ) : Type 0 where
   pub first : (slice_index text start ≡ 65) ⊎ (slice_index text start ≡ 97)
   pub second : (slice_index text (start + 1) ≡ 83) ⊎ (slice_index text (start + 1) ≡ 115)
 
--- after is start, or the place behind `as` at start
+-- after is the place behind `as` where that stands at start, and else start
 abbrev pub IsAfterLetters : ℕ → ℕ → List ℕ → Type 0
-IsAfterLetters start after text = (after ≡ start) ⊎ ((after ≡ start + 2) × HasLettersAt start text)
+IsAfterLetters start after text = ((after ≡ start) × (¬ HasLettersAt start text)) ⊎ ((after ≡ start + 2) × HasLettersAt start text)
+
+-- At start stands an AS number of the usual form: `as`, in any case, or nothing, and then digits, one to ten. They are
+-- all that stand there or the first ten, write n, and end at end.
+pub record IsAsnAt (start end : ℕ) (text : List ℕ) (n : ℕ) : Type 0 where
+  pub after : ℕ
+  pub letters : IsAfterLetters start after text
+  pub digits : AreDigitsFrom after end text n
+  pub some : after < end
+  pub fits : n < 2 ^ 32
 
 -- the bytes from start to end write n, with letters and digits alone
 pub record IsAsnBetween (start end : ℕ) (text : List ℕ) (n : ℕ) : Type 0 where

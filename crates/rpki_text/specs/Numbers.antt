@@ -1,5 +1,5 @@
 -- Decimal texts of numbers up to a limit, as Rust's std reads them, and what is wrong with any other text.
-use Rattle.std.specs.Prelude.{◌≡◌, ℕ, ◌+◌, ◌-◌, ◌<◌, ◌≤◌, ◌≢◌, List, [], ◌∷◌, ◌++◌, length, take, drop, codes}
+use Rattle.std.specs.Prelude.{◌≡◌, ℕ, ◌+◌, ◌-◌, ◌<◌, ◌≤◌, ◌≢◌, List, [], ◌∷◌, ◌++◌, ◌⊎◌, length, take, drop, slice_index, codes}
 use Rattle.std.specs.Char.{digit_value}
 use Rattle.std.specs.Str.Parse.{AllDigits, IsNumeral, digits_value, without_leading_plus}
 use Rattle.rpki_text.specs.declared.number.ParseIntError.{ParseIntError}
@@ -65,3 +65,13 @@ pub record AreDigitsBetween (start end : ℕ) (text : List ℕ) (n : ℕ) : Type
   pub few : end ≤ start + 10
   pub all_digits : AllDigits 10 (take (end - start) (drop start text))
   pub value : digits_value 10 (take (end - start) (drop start text)) ≡ n
+
+-- none of the digits from start on is left at end: the text ends there, ten have been read, or the byte there is no
+-- digit
+abbrev pub NoDigitIsLeft : ℕ → ℕ → List ℕ → Type 0
+NoDigitIsLeft start end text = (end ≡ length text) ⊎ ((end ≡ start + 10) ⊎ (10 ≤ digit_value (slice_index text end)))
+
+-- the digits from start on, as many as stand there or the first ten, write n, and end is the place behind them
+pub record AreDigitsFrom (start end : ℕ) (text : List ℕ) (n : ℕ) : Type 0 where
+  pub digits : AreDigitsBetween start end text n
+  pub none_left : NoDigitIsLeft start end text

@@ -1,8 +1,8 @@
 //! Decimal texts of numbers, read up to a limit.
-ghost use Rattle.std.specs.Prelude.{◌≡◌, ◌^◌, ◌+◌, ◌-◌, ◌<◌, ◌≤◌, length, Some, MatchResult};
+ghost use Rattle.std.specs.Prelude.{◌≡◌, ◌^◌, ◌+◌, ◌-◌, ◌<◌, ◌≤◌, ◌⊎◌, length, Some, MatchResult};
 ghost use Rattle.std.specs.Str.Parse.{without_leading_plus};
 ghost use Rattle.rpki_text.specs.Reading.{Answers};
-ghost use Rattle.rpki_text.specs.Numbers.{IsNumberText, HasNumberFault, IsValueUpTo, DigitsFail, AreDigitsBetween, number_fault_text};
+ghost use Rattle.rpki_text.specs.Numbers.{IsNumberText, HasNumberFault, IsValueUpTo, DigitsFail, AreDigitsFrom, number_fault_text};
 
 use std::error::Error;
 use std::fmt;
@@ -67,15 +67,17 @@ const FEW: usize = 10;
 /// The place behind the last byte that is read of a number at a place.
 fn few_behind(start: usize, len: usize) -> usize
     requires { start ≤ len }
-    ensures { (result ≤ len) × (result ≤ start + 10) }
+    ensures within { (result ≤ len) × (result ≤ start + 10) }
+    ensures reached { (result ≡ len) ⊎ (result ≡ start + 10) }
 {
     if len - start < FEW { len } else { start + FEW }
 }
 
-/// The value of the digits from a place on, ten at most, and the place behind them.
+/// The value of the digits from a place on, all that stand there or the first ten, and the place behind them. Where
+/// none stands there they are 0 and the place itself.
 pub fn digits_from(text: &[u8], start: usize) -> (u64, usize)
     requires { start ≤ length text.now }
-    ensures { AreDigitsBetween start result.1 text.now result.0 }
+    ensures { AreDigitsFrom start result.1 text.now result.0 }
 {
     let mut value: u64 = 0;
     let mut end = start;

@@ -1,6 +1,6 @@
 //! AS numbers of the usual form, read at a place among bytes.
-ghost use Rattle.std.specs.Prelude.{◌≤◌, length, MatchOption};
-ghost use Rattle.rpki_base.specs.AsnPlaces.{IsAfterLetters, IsAsnBetween, Anything};
+ghost use Rattle.std.specs.Prelude.{◌≡◌, ℕ, ◌≤◌, length, Some, IfSome};
+ghost use Rattle.rpki_base.specs.AsnPlaces.{IsAfterLetters, IsAsnAt, IsAsnBetween};
 
 use super::Asn;
 use rpki_text::number::digits_from;
@@ -24,11 +24,16 @@ fn after_letters(text: &[u8], start: usize) -> usize
     start + 2
 }
 
-/// The AS number that the bytes from a place on write with an optional `as` and up to ten digits, and the place behind
-/// them. Other texts of AS numbers there may be nothing to this call: it is for reading the usual ones at once.
+/// The AS number that the bytes from a place on write with an optional `as` and all digits behind it, of which it reads
+/// ten at most, and the place behind them. None where no digit stands there, and where they write no AS number. It is
+/// for reading the usual texts at once: others, with a plus or more digits, are for [`Asn::from_str`].
 pub fn asn_at(text: &[u8], start: usize) -> Option<(Asn, usize)>
     requires { start ≤ length text.now }
-    ensures { MatchOption result Anything (λ found. IsAsnBetween start found.1 text.now found.0) }
+    // What is found is a number of the usual form, and one that stands there is found.
+    ensures found { IfSome result (λ found. IsAsnAt start found.1 text.now found.0) }
+    ensures each { (n end : ℕ) → IsAsnAt start end text.now n → result ≡ Some (n, end) }
+    // It is the number of its text.
+    ensures number { IfSome result (λ found. IsAsnBetween start found.1 text.now found.0) }
 {
     let first = after_letters(text, start);
     let (value, end) = digits_from(text, first);

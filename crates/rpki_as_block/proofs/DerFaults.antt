@@ -1,14 +1,14 @@
 -- Where a range of AS numbers is reversed, and that no fault of lists is one of a block.
-use Rattle.std.proofs.Common.{◌≡◌, ℕ, ◌<◌, ◌↔◌, ltb, List, Result, Ok, Err, refl, arith}
+use Rattle.std.proofs.Common.{◌≡◌, ℕ, ◌<◌, ◌↔◌, Bool, true, is_ok, ap, ltb, List, Result, Ok, Err, refl, arith}
 use Rattle.std.proofs.lemmas.Bool.{lt-ltb, ltb-true}
 use Rattle.rpki_chains.specs.Ranges.{RangeValue}
 use Rattle.rpki_der.specs.declared.error.DerError.{DerError}
-use Rattle.rpki_der.specs.declared.error.DerError.TheVariants.{ReversedRange}
-use Rattle.rpki_der.specs.Reading.{tagged_at, unsigned, value_at}
+use Rattle.rpki_der.specs.declared.error.DerError.TheVariants.{NotCanonical, ReversedRange}
+use Rattle.rpki_der.specs.Reading.{◌>>=◌, passing, refined, tagged_at, unsigned, value_at}
 use Rattle.rpki_base.specs.AsnDer.{as_number_at}
 use Rattle.rpki_base.specs.DerFaults.{BeginsWithTwo, BeginsWithValue}
-use Rattle.rpki_base.proofs.DerFaults.{NamesTo, begins_two, begins_value, bind_names, by_tag_names, cond_fails, cond_names, mapped_fails, names_more, not_named, pair_fails, pair_names, refined_names, sequence_fails, tagged_names, unsigned_names, value_names}
-use Rattle.rpki_as_block.specs.AsDerReading.{as_block_at, as_block_of, as_id_in, as_range_block_in, as_range_in, range_of}
+use Rattle.rpki_base.proofs.DerFaults.{NamesTo, begins_two, begins_value, bind_fails, bind_names, by_tag_names, cond_fails, cond_names, mapped_fails, names_more, not_named, pair_fails, pair_names, refined_names, sequence_fails, tagged_names, unsigned_names, value_names}
+use Rattle.rpki_as_block.specs.AsDerReading.{as_block_at, as_block_by, as_block_of, as_id_in, as_range_block_in, as_range_in, is_new_form, range_of}
 use Rattle.rpki_as_block.specs.declared.block.AsBlock.TheVariants.{Id, Range}
 
 -- ---- which faults are named
@@ -70,3 +70,12 @@ block_fails bytes =
       (λ is. begins_value 48 FailsInside Reversed (λ content fails. (range_fails content).0 ((mapped_fails (as_range_in content) Range ReversedRange).0 fails)) bytes (both.0 is)),
       (λ found. both.1 (begins_value 48 Reversed FailsInside (λ content reversed. (mapped_fails (as_range_in content) Range ReversedRange).1 ((range_fails content).1 reversed)) bytes found)),
     )
+
+-- ---- what isn't canonical
+
+pub never_lenient : (bytes : List ℕ) → as_block_at bytes ≡ Err NotCanonical → ⊥
+never_lenient bytes = not_named 10 (as_block_at bytes) NotCanonical (block_names bytes) (omega arith)
+
+pub comes_last : (bytes : List ℕ) → as_block_by true bytes ≡ Err NotCanonical → is_ok (as_block_at bytes) ≡ true
+unfolding refined
+comes_last bytes is = ap is_ok (bind_fails (as_block_at bytes) (λ x. passing true is_new_form x.0 >>= λ y. Ok (y, x.1)) NotCanonical (never_lenient bytes) is).1

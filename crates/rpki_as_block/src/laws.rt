@@ -1,12 +1,12 @@
 //! What holds of ranges, and of the octets of blocks, each law as the contract of a function that does nothing.
-ghost use Rattle.std.specs.Prelude.{◌≡◌, ◌↔◌, ◌<◌, ℕ, List, Err, IsTrue};
+ghost use Rattle.std.specs.Prelude.{◌≡◌, ◌≢◌, ◌↔◌, ◌<◌, ℕ, List, Err, true, IsOk, IsTrue};
 ghost use Rattle.rpki_chains.specs.Ranges.{RangeValue};
 ghost use Rattle.rpki_der.specs.Der.{OneFront};
-ghost use Rattle.rpki_der.specs.declared.error.DerError.TheVariants.{ReversedRange};
+ghost use Rattle.rpki_der.specs.declared.error.DerError.TheVariants.{NotCanonical, ReversedRange};
 ghost use Rattle.rpki_base.specs.AsnDer.{as_number_at};
 ghost use Rattle.rpki_base.specs.DerFaults.{BeginsWithTwo, BeginsWithValue};
 ghost use Rattle.rpki_as_block.specs.AsDer.{HasAsNumbers, IsAsBlock, as_block_octets};
-ghost use Rattle.rpki_as_block.specs.AsDerReading.{as_block_at, as_range_in};
+ghost use Rattle.rpki_as_block.specs.AsDerReading.{as_block_at, as_block_by, as_range_in};
 ghost use Rattle.rpki_as_block.specs.declared.block.AsBlock.{AsBlock};
 
 use crate::range::AsRange;
@@ -33,4 +33,12 @@ pub fn reversed()
         ↔ BeginsWithTwo as_number_at (λ first second. second < first) content }
     ensures block { (bytes : List ℕ) → (as_block_at bytes ≡ Err ReversedRange)
         ↔ BeginsWithValue 48 (BeginsWithTwo as_number_at (λ first second. second < first)) bytes }
+{}
+
+/// Octets are refused as not canonical by a strict cursor alone, and there only where a lenient one finds a block: each
+/// other fault of a block comes first.
+pub fn not_canonical()
+    ensures lenient { (bytes : List ℕ) → as_block_at bytes ≢ Err NotCanonical }
+    ensures last { (bytes : List ℕ) → as_block_by true bytes ≡ Err NotCanonical
+        → IsOk (as_block_at bytes) }
 {}

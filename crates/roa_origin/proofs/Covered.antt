@@ -1,31 +1,26 @@
 -- The payloads that cover a route, among the first of a table.
-use Rattle.std.proofs.Common.{◌≡◌, ℕ, zero, suc, ◌+◌, ◌-◌, ◌^◌, ◌<◌, ◌≤◌, Bool, true, false, cond, inl, inr, None, List, [], ◌∷◌, ◌++◌, reverse, take, length, get_or, refl, arith, sym, ◌∙◌, ap}
+use Rattle.std.proofs.Common.{◌≡◌, ◌⊎◌, ℕ, zero, suc, ◌+◌, ◌-◌, ◌^◌, ◌<◌, ◌≤◌, Bool, true, false, cond, inl, inr, None, List, [], ◌∷◌, ◌++◌, reverse, take, length, get_or, refl, arith, sym, ◌∙◌, ap}
 use Rattle.std.proofs.lemmas.Bool.{cases_lt, and_parts, eqb-true, eq-eqb, leb-true, le-leb}
 use Rattle.std.proofs.lemmas.List.{get_or_default, take_all, reverse-append, reverse-reverse}
 use Rattle.std.proofs.lemmas.List.Elements.{All-filter, filter_more, filter_passes}
 use Rattle.std.proofs.lemmas.List.Kept.{IsNonDecreasingBy-filter}
-use Rattle.std.proofs.lemmas.Nat.{pow_pos, pow_below}
-use Rattle.std.specs.List.{filter, slice_index}
+use Rattle.std.specs.List.{filter}
 use Rattle.std.specs.List.Sorted.{IsNonDecreasingBy}
 use Rattle.rpki_addr.specs.declared.addr.IpAddr.{IpAddr}
 use Rattle.rpki_addr.specs.declared.addr.IpAddr.TheVariants.{V4, V6}
 use Rattle.rpki_prefix.proofs.Covering.{covers_round, round_covers}
-use Rattle.rpki_prefix.specs.Values.{FamilyPrefix, IsFamilyPrefix, CoversPrefix, is_v6, width}
+use Rattle.rpki_prefix.specs.Values.{FamilyPrefix, IsFamilyPrefix, is_v6, width}
 use Rattle.roa_origin.proofs.Nested.{covers_between}
 use Rattle.roa_origin.proofs.Orders.{covers_place}
-use Rattle.roa_origin.proofs.Walks.{passes_none}
+use Rattle.roa_origin.proofs.Places.{covers_len, same_width}
+use Rattle.roa_origin.proofs.Walks.{passes_none, prefix_of}
 use Rattle.roa_origin.specs.Coverings.{AreThose, IsWalk, covers_route, covering_before}
-use Rattle.roa_origin.specs.Links.{AreFamilyPrefixes, IsTable, NoneCovers}
+use Rattle.roa_origin.specs.Links.{IsInOrder, IsLink, NoneCovers}
 use Rattle.roa_origin.specs.Payloads.{Payload, CoversRoute, prefix_len}
 use Rattle.roa_origin.specs.Places.{payload_place, place}
+use Rattle.roa_origin.specs.declared.links.Link.{Link}
 
--- addresses have as many bits where they are of one family, and there alone
-same_width : (a b : IpAddr) → is_v6 a ≡ is_v6 b → width a ≡ width b
-same_width (V4 m) (V4 n) e = refl
-same_width (V4 m) (V6 n) e = absurd (let f : false ≡ true = e in cc)
-same_width (V6 m) (V4 n) e = absurd (let f : true ≡ false = e in cc)
-same_width (V6 m) (V6 n) e = refl
-
+-- addresses are of one family where they have as many bits
 same_family : (a b : IpAddr) → width a ≡ width b → is_v6 a ≡ is_v6 b
 same_family (V4 m) (V4 n) e = refl
 same_family (V4 m) (V6 n) e = absurd (let f : 32 ≡ 128 = e in omega (arith, f))
@@ -102,76 +97,70 @@ module _ (route : FamilyPrefix) (xs : List Payload) where
   ]
 
   -- what comes later than the route doesn't cover it: those before it are all that do
-  pub all_before : (links : List ℕ) (n : ℕ) → IsTable xs links → IsFamilyPrefix route → n ≤ length xs
+  pub all_before : (n : ℕ) → IsInOrder xs → IsFamilyPrefix route → n ≤ length xs
       → ((k : ℕ) (d : Payload) → n ≤ k → k < length xs → place route < payload_place (get_or xs k d))
       → reverse (covering_before route xs n) ≡ filter (covers_route route) xs
-  all_before links n table is high later =
+  all_before n order is high later =
       let none : NoneCovers xs route n (length xs) = λ k d from before small covers. (
       let after : place route < payload_place (get_or xs k d) = later k d from small in
-      let up_to : payload_place (get_or xs k d) ≤ place route = covers_place (get_or xs k d).0.prefix route (table.prefixes k d small) is covers in
+      let up_to : payload_place (get_or xs k d) ≤ place route = covers_place (get_or xs k d).0.prefix route (prefix_of xs order k d small) is covers in
       omega (arith, after, up_to)) in
       ap reverse (sym (none_between (length xs) n high (omega arith) none) ∙ ap (λ ys. reverse (filter (covers_route route) ys)) (take_all (length xs) xs (omega arith)))
       ∙ reverse-reverse (filter (covers_route route) xs)
 
--- what a prefix covers is no shorter
-covers_len : (p q : FamilyPrefix) → IsFamilyPrefix p → CoversPrefix p q → p.len ≤ q.len
-covers_len p q is c =
-    let r = round_covers p q c in
-    let w : 2 ^ (width q.addr - q.len) ≡ 2 ^ (width p.addr - q.len) = ap (λ n. 2 ^ (n - q.len)) (sym (same_width p.addr q.addr r.family)) in
-    elim (cases_lt q.len p.len) [
-      | inr short ↦ omega (arith, short)
-      | inl longer ↦ (
-          let fits : p.len ≤ width p.addr = is.short in
-          let less : 2 ^ (width p.addr - p.len) < 2 ^ (width p.addr - q.len) = pow_below (width p.addr - p.len) (width p.addr - q.len) (omega (arith, longer, fits)) in
-          absurd (omega (arith, less, r.from, r.upto, w, pow_pos (width p.addr - p.len))))
-    ]
-
 -- in order, those that cover a route go from the shortest prefix to the longest
-pub by_length : (route : FamilyPrefix) (xs : List Payload) → IsFamilyPrefix route → IsNonDecreasingBy payload_place xs → AreFamilyPrefixes xs (length xs)
+pub by_length : (route : FamilyPrefix) (xs : List Payload) → IsFamilyPrefix route → IsInOrder xs
     → IsNonDecreasingBy prefix_len (filter (covers_route route) xs)
-by_length route xs is ordered prefixes i j d before inside =
+by_length route xs is order i j d before inside =
     let ys : List Payload = filter (covers_route route) xs in
     let p : Payload = get_or ys i d in
     let q : Payload = get_or ys j d in
     let there : i < length ys = omega (arith, before, inside) in
-    let are = All-filter (covers_route route) (λ x. IsFamilyPrefix x.0.prefix) xs prefixes in
+    let are = All-filter (covers_route route) (λ x. IsFamilyPrefix x.0.prefix) xs (prefix_of xs order) in
     let covers = filter_passes (covers_route route) xs in
     let of_p : CoversRoute route p = tells_covers route p (covers i d there) in
     let of_q : CoversRoute route q = tells_covers route q (covers j d inside) in
-    let places : payload_place p ≤ payload_place q = IsNonDecreasingBy-filter payload_place (covers_route route) xs ordered i j d before inside in
+    let places : payload_place p ≤ payload_place q = IsNonDecreasingBy-filter payload_place (covers_route route) xs order.ordered i j d before inside in
     covers_len p.0.prefix q.0.prefix (are i d there)
     (covers_between p.0.prefix q.0.prefix route (are i d there) (are j d inside) is places (covers_place q.0.prefix route (are j d inside) is of_q) of_p)
 
--- the walk's next step: the nearest payload that covers the route, and what is left behind its link
-module _ (xs : List Payload) (links : List ℕ) (n : ℕ) (route : FamilyPrefix) (walk : IsWalk xs links n route) (at : ℕ) (some : 0 < at) (back : at ≤ n) where
-  link : slice_index links (at - 1) ≤ at - 1
-  link = (let there : at - 1 < length links = omega (arith, some, back, walk.within, walk.table.as_many) in
-      (walk.table.linked (at - 1) (record { prefix = route; max_len = None }, 0) there).0)
+-- the walk's next step: the nearest payload that covers the route; what is left is what its link leaves
+module _ (xs : List Payload) (links : List Link) (n : ℕ) (route : FamilyPrefix) (walk : IsWalk xs links n route) (at : ℕ) (some : 0 < at) (back : at ≤ n)
+    (l : Link) (link : (d : Payload) → IsLink xs (at - 1) (get_or xs (at - 1) d) l)
+    (left : ℕ) (goes : ((left ≡ at - 1) × (l.first < at - 1)) ⊎ ((left ≡ l.back) × (at - 1 ≤ l.first))) where
+  before : left ≤ at - 1
+  before = elim goes [
+    | inl stays ↦ omega (arith, stays.0)
+    | inr leads ↦ (let it = link (record { prefix = route; max_len = None }, 0) in omega (arith, leads.0, it.back, it.first))
+  ]
 
-  pub walk_on : IsWalk xs links (slice_index links (at - 1)) route
+  pub walk_on : IsWalk xs links left route
   walk_on = record {
     table = walk.table;
-    within = omega (arith, link, back, walk.within);
-    up_to = λ k d small. walk.up_to k d (omega (arith, small, link, some, back));
+    within = omega (arith, before, back, walk.within);
+    up_to = λ k d small. walk.up_to k d (omega (arith, small, before, some, back));
     is_prefix = walk.is_prefix;
   }
 
+  between : NoneCovers xs route left (at - 1)
+  between k d from small there = elim goes [
+    | inl stays ↦ absurd (omega (arith, stays.0, from, small))
+    | inr leads ↦ passes_none xs n route walk.table.in_order walk.up_to walk.within walk.is_prefix (at - 1) l (omega (arith, some, back)) link
+        k d (omega (arith, leads.0, from)) (omega (arith, leads.1, small)) there
+  ]
+
   pub gives : (d : Payload) → CoversRoute route (get_or xs (at - 1) d) → NoneCovers xs route at n
-      → covering_before route xs n ≡ get_or xs (at - 1) d ∷ covering_before route xs (slice_index links (at - 1))
+      → covering_before route xs n ≡ get_or xs (at - 1) d ∷ covering_before route xs left
   gives d covers none =
       let last : ℕ = at - 1 in
       let x : Payload = get_or xs last d in
       let there : last < length xs = omega (arith, some, back, walk.within) in
       let is : get_or xs last x ≡ x = get_or_default xs last x d there in
-      let linked : last < length links = omega (arith, there, walk.table.as_many) in
       let on : at ≡ last + 1 = omega (arith, some) in
-      let between : NoneCovers xs route (slice_index links (at - 1)) last =
-      passes_none xs links n route walk.table.ordered (λ k d small. walk.table.prefixes k d (omega (arith, small, walk.within))) walk.up_to walk.table.linked walk.within walk.is_prefix
-      last (omega (arith, some, back)) linked in
       none_between route xs n at back walk.within none ∙ ap (covering_before route xs) on ∙ more route xs last x there is
       ∙ ap (λ t. cond t (x ∷ covering_before route xs last) (covering_before route xs last)) (is_told route x covers)
-      ∙ ap (λ ys. x ∷ ys) (none_between route xs last (slice_index links (at - 1)) link (omega (arith, there)) between)
+      ∙ ap (λ ys. x ∷ ys) (none_between route xs last left before (omega (arith, there)) between)
 
 -- and where there is none, nothing is left
-pub nothing_left : (xs : List Payload) (links : List ℕ) (n : ℕ) (route : FamilyPrefix) → IsWalk xs links n route → NoneCovers xs route 0 n → covering_before route xs n ≡ []
+pub nothing_left : (xs : List Payload) (links : List Link) (n : ℕ) (route : FamilyPrefix) → IsWalk xs links n route → NoneCovers xs route 0 n → covering_before route xs n ≡ []
 nothing_left xs links n route walk none = none_between route xs n 0 (omega arith) walk.within none

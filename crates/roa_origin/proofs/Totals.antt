@@ -25,7 +25,7 @@ both_equal Less p e = cc
 both_equal Equal p e = (refl, e)
 both_equal Greater p e = cc
 
-nat_ties : (m n : ℕ) → nat_cmp m n ≡ Equal → m ≡ n
+pub nat_ties : (m n : ℕ) → nat_cmp m n ≡ Equal → m ≡ n
 nat_ties m n e = by_ranked _ _ _ (nat_cmp m n) (ranks m n) (λ f _. cc) (λ _ same. same) (λ f _. cc)
 
 pub ties : ((m n : MaxLenValue) → (max_len_cmp m n ≡ Equal) ↔ (m ≡ n)) → IsTotalOrder payload_cmp → (p q : Payload) → (payload_cmp p q ≡ Equal) ↔ (p ≡ q)

@@ -5,6 +5,7 @@ use Rattle.rpki_prefix.specs.Order.{last_bits}
 use Rattle.rpki_prefix.specs.Values.{FamilyPrefix, IsFamilyPrefix, address_number, width}
 use Rattle.roa_origin.specs.Links.{AreUpTo, IsTable}
 use Rattle.roa_origin.specs.Payloads.{Payload}
+use Rattle.roa_origin.specs.declared.links.Link.{Link}
 
 -- ys are the elements of xs at which P holds, in their order, each as often as it stands there
 abbrev pub AreThose : {X : Type 0} → (X → Type 0) → List X → List X → Type 0
@@ -22,7 +23,7 @@ abbrev pub covering_before : FamilyPrefix → List Payload → ℕ → List Payl
 covering_before route xs n = reverse (filter (covers_route route) (take n xs))
 
 -- a walk in a table from the first n payloads on, which come no later than the route
-pub record IsWalk (xs : List Payload) (links : List ℕ) (n : ℕ) (route : FamilyPrefix) : Type 0 where
+pub record IsWalk (xs : List Payload) (links : List Link) (n : ℕ) (route : FamilyPrefix) : Type 0 where
   pub table : IsTable xs links
   pub within : n ≤ length xs
   pub up_to : AreUpTo xs n route

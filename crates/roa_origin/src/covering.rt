@@ -4,18 +4,18 @@ ghost use Rattle.std.specs.Iterator.{YieldsFirst, item_count};
 ghost use Rattle.roa_origin.specs.Coverings.{IsWalk, covering_before};
 
 use crate::entry::Entry;
-use crate::table::nearest;
+use crate::links::{Link, nearest};
 use rpki_base::Asn;
-use rpki_prefix::{MaxLenPrefix, Prefix};
+use rpki_prefix::MaxLenPrefix;
 use std::marker::Model;
 
 /// The payloads of a table that cover a route and are left, the longest prefix first. Contracts see it as their list.
 #[derive(Drop)]
 pub struct Covering<'a> {
     payloads: &'a [Entry],
-    links: &'a [usize],
+    links: &'a [Link],
     at: usize,
-    route: Prefix,
+    route: Entry,
 }
 
 impl<'a> Model for Covering<'a> {
@@ -25,21 +25,21 @@ impl<'a> Model for Covering<'a> {
 
     ghost Value = { List Payload };
 
-    ghost view = { λ c. covering_before c.route c.payloads.now c.at };
+    ghost view = { λ c. covering_before c.route.0.prefix c.payloads.now c.at };
 
-    ghost invariant = { λ c. IsWalk c.payloads.now c.links.now c.at c.route };
+    ghost invariant = { λ c. IsWalk c.payloads.now c.links.now c.at c.route.0.prefix };
 }
 
 impl<'a> Covering<'a> {
     /// The walk from the first `at` payloads of a table on.
     pub(crate) fn from(
         payloads: &'a [Entry],
-        links: &'a [usize],
+        links: &'a [Link],
         at: usize,
-        route: Prefix,
+        route: Entry,
     ) -> Covering<'a>
-        requires { IsWalk payloads.now links.now at route }
-        ensures { result ≡ covering_before route payloads.now at }
+        requires { IsWalk payloads.now links.now at route.0.prefix }
+        ensures { result ≡ covering_before route.0.prefix payloads.now at }
     {
         Covering {
             payloads,
@@ -58,12 +58,13 @@ impl Iterator for Covering<'_> {
     ghost remaining = { item_count (λ payloads. payloads) };
 
     fn next(&mut self) -> Option<(MaxLenPrefix, Asn)> {
-        let at = nearest(self.payloads, self.links, self.at, self.route);
+        let at = nearest(self.payloads, self.links, self.at, &self.route);
         if at == 0 {
             self.at = 0;
             return None;
         }
-        self.at = self.links[at - 1];
-        Some(self.payloads[at - 1].payload())
+        let last = at - 1;
+        self.at = self.links[last].left(last);
+        Some(self.payloads[last].payload())
     }
 }

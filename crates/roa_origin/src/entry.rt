@@ -1,8 +1,9 @@
 //! Payloads as a table holds them: in 32 octets each.
-ghost use Rattle.std.specs.Prelude.{◌*◌, ◌^◌, ◌<◌, ◌≡◌, ◌↔◌, ◌≤◌, IsTrue};
+ghost use Rattle.std.specs.Prelude.{◌+◌, ◌-◌, ◌*◌, ◌^◌, ◌<◌, ◌≡◌, ◌↔◌, ◌≤◌, IsTrue, nat_le};
 ghost use Rattle.std.specs.Ordering.{nat_cmp};
-ghost use Rattle.roa_origin.specs.Payloads.{CoversRoute, Matches};
-ghost use Rattle.roa_origin.specs.Places.{payload_place};
+ghost use Rattle.rpki_prefix.specs.Values.{IsFamilyPrefix, is_v6, width};
+ghost use Rattle.roa_origin.specs.Payloads.{CoversRoute, IsLawfulPayload, Matches, longest, prefix_len};
+ghost use Rattle.roa_origin.specs.Places.{payload_place, rank, table_place, told};
 ghost use Rattle.roa_origin.specs.Starts.{first_bits};
 
 use rpki_base::Asn;
@@ -22,7 +23,9 @@ pub(crate) struct Entry {
 }
 
 impl Model for Entry {
-    ghost use Rattle.rpki_prefix.specs.MaxLen.{IsMaxLenPrefix};
+    ghost use Rattle.std.specs.Prelude.{◌^◌, ◌<◌};
+    ghost use Rattle.rpki_prefix.specs.MaxLen.{IsMaxLenOf};
+    ghost use Rattle.rpki_prefix.specs.Values.{IsFamilyPrefix};
     ghost use Rattle.roa_origin.specs.Entries.{address_bits, is_of_v6, payload_of};
     ghost use Rattle.roa_origin.specs.Payloads.{Payload};
 
@@ -30,7 +33,9 @@ impl Model for Entry {
 
     ghost view = { λ e. payload_of e.is_v6 e.bits e.len e.max_len e.asn };
 
-    ghost invariant = { λ e. IsMaxLenPrefix (payload_of e.is_v6 e.bits e.len e.max_len e.asn).0 };
+    ghost invariant = { λ e. IsFamilyPrefix (payload_of e.is_v6 e.bits e.len e.max_len e.asn).0.prefix
+        × IsMaxLenOf (payload_of e.is_v6 e.bits e.len e.max_len e.asn).0.prefix e.max_len
+        × (e.asn < 2 ^ 32) };
 
     ghost inverse = { λ p. record {
       bits = address_bits p;
@@ -44,9 +49,11 @@ impl Model for Entry {
 impl Entry {
     /// The entry of a payload.
     pub(crate) fn new(payload: (MaxLenPrefix, Asn)) -> Entry
-        ensures { result ≡ payload }
+        ensures value { result ≡ payload }
+        ensures payload { IsLawfulPayload payload }
     {
         let (prefix, asn) = payload;
+        let _number = asn.into_u32(); // read so that the proof sees its range
         let len = prefix.prefix().len();
         let max_len = prefix.max_len();
         match prefix.addr() {
@@ -65,6 +72,16 @@ impl Entry {
                 is_v6: true,
             },
         }
+    }
+
+    /// The entry of a route that an AS originates: a payload of its prefix alone. A lookup makes it once.
+    pub(crate) fn of_route(route: Prefix, asn: Asn) -> Entry
+        ensures route { result.0.prefix ≡ route }
+        ensures asn { result.1 ≡ asn }
+        ensures prefix { IsFamilyPrefix route }
+    {
+        let _bits = route.len(); // read so that the proof sees that it is a prefix
+        Entry::new((MaxLenPrefix::from(route), asn))
     }
 
     /// The payload.
@@ -92,14 +109,59 @@ impl Entry {
         }
     }
 
+    /// The longest route that the payload allows: its greatest length, or its prefix's length where there is none.
+    fn longest(&self) -> u8
+        ensures { result ≡ longest self.now }
+    {
+        self.max_len.unwrap_or(self.len)
+    }
+
+    /// 1 where a greatest length is told.
+    fn told(&self) -> u64
+        ensures value { result ≡ told self.now.0.max_len }
+        ensures few { result ≤ 1 }
+    {
+        match self.max_len {
+            Some(_) => 1,
+            None => 0,
+        }
+    }
+
+    /// The number by which payloads of one prefix are in order: the greatest AS number comes first, and by one AS the
+    /// shortest greatest length.
+    fn rank(&self) -> u64
+        ensures { result ≡ rank self.now }
+    {
+        let below_greatest = u64::from(u32::MAX - self.asn.into_u32());
+        below_greatest * 512 + u64::from(self.longest()) * 2 + self.told()
+    }
+
+    /// Compares the ranks of payloads.
+    fn cmp_rank(&self, other: &Entry) -> Ordering
+        ensures { result ≡ nat_cmp (rank self.now) (rank other.now) }
+    {
+        self.rank().cmp(&other.rank())
+    }
+
     /// Compares the prefixes of payloads by a table's order.
-    pub(crate) fn cmp_prefix(&self, other: &Entry) -> Ordering
-        ensures { result ≡ nat_cmp (payload_place self.now) (payload_place other.now) }
+    fn cmp_prefix(&self, other: &Entry) -> Ordering
+        ensures order { result ≡ nat_cmp (payload_place self.now) (payload_place other.now) }
+        ensures payloads { IsLawfulPayload self.now × IsLawfulPayload other.now }
     {
         let by_family = self.is_v6.cmp(&other.is_v6);
         by_family
             .then(self.bits.cmp(&other.bits))
             .then(self.len.cmp(&other.len))
+    }
+
+    /// Compares payloads by a table's order.
+    pub(crate) fn cmp_place(&self, other: &Entry) -> Ordering
+        ensures { result ≡ nat_cmp (table_place self.now) (table_place other.now) }
+    {
+        match self.cmp_prefix(other) {
+            Ordering::Equal => self.cmp_rank(other),
+            by_prefix => by_prefix,
+        }
     }
 
     /// Whether the payload's prefix comes no later in a table's order than that of another.
@@ -110,6 +172,13 @@ impl Entry {
             return other.is_v6;
         }
         self.bits < other.bits || (self.bits == other.bits && self.len <= other.len)
+    }
+
+    /// Whether two payloads are of one prefix.
+    pub(crate) fn has_prefix_of(&self, other: &Entry) -> bool
+        ensures { IsTrue result ↔ (self.now.0.prefix ≡ other.now.0.prefix) }
+    {
+        self.cmp_prefix(other).is_eq()
     }
 
     /// The number that the first bits of the prefix's address write, those of IPv6 after those of IPv4.
@@ -126,20 +195,56 @@ impl Entry {
         }
     }
 
-    /// Whether the payload covers a route (RFC 6811, 2).
-    pub(crate) fn covers(&self, route: Prefix) -> bool
-        ensures { IsTrue result ↔ CoversRoute route self.now }
+    /// How many of 128 bits stand before those that the prefix leaves open; an IPv4 address is the last 32 of them.
+    fn fixed_bits(&self) -> u8
+        ensures { result + (width self.now.0.prefix.addr - prefix_len self.now) ≡ 128 }
     {
-        self.prefix().covers(route)
+        if self.is_v6 { self.len } else { self.len + 96 }
     }
 
-    /// Whether the payload matches a route that an AS originates (RFC 6811, 2; RFC 9582, 4.3.2).
-    pub(crate) fn matches(&self, route: Prefix, asn: Asn) -> bool
-        ensures { IsTrue result ↔ Matches route asn self.now }
+    /// How many addresses the prefix has beside its first.
+    fn addresses_behind(&self) -> u128
+        ensures { result + 1 ≡ 2 ^ (width self.now.0.prefix.addr - prefix_len self.now) }
     {
-        asn != Asn::MIN
-            && self.asn == asn
-            && route.len() <= self.max_len.unwrap_or(self.len)
-            && self.covers(route)
+        let fixed = self.fixed_bits();
+        if fixed == 128 { 0 } else { u128::MAX >> fixed }
+    }
+
+    /// Whether both are of one family.
+    fn has_family_of(&self, other: &Entry) -> bool
+        ensures { IsTrue result ↔ (is_v6 self.now.0.prefix.addr ≡ is_v6 other.now.0.prefix.addr) }
+    {
+        self.is_v6 == other.is_v6
+    }
+
+    /// Whether the payload covers a route (RFC 6811, 2).
+    pub(crate) fn covers(&self, route: &Entry) -> bool
+        ensures { IsTrue result ↔ CoversRoute route.now.0.prefix self.now }
+    {
+        if !self.has_family_of(route) {
+            return false;
+        }
+        if route.len < self.len {
+            return false;
+        }
+        if route.bits < self.bits {
+            return false;
+        }
+        route.bits - self.bits <= self.addresses_behind()
+    }
+
+    /// Whether the payload's AS number isn't below the route's.
+    pub(crate) fn has_asn_from(&self, route: &Entry) -> bool
+        ensures { result ≡ nat_le route.now.1 self.now.1 }
+    {
+        route.asn.into_u32() <= self.asn.into_u32()
+    }
+
+    /// Whether the payload matches a route that it covers (RFC 6811, 2; RFC 9582, 4.3.2).
+    pub(crate) fn allows(&self, route: &Entry) -> bool
+        requires { CoversRoute route.now.0.prefix self.now }
+        ensures { IsTrue result ↔ Matches route.now.0.prefix route.now.1 self.now }
+    {
+        route.asn != Asn::MIN && self.asn == route.asn && route.len <= self.longest()
     }
 }

@@ -29,6 +29,7 @@ mod changes;
 pub mod covering;
 mod entry;
 pub mod laws;
+mod links;
 mod payloads;
 mod starts;
 pub mod table;

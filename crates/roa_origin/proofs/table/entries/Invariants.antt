@@ -1,6 +1,7 @@
 -- The entries so far are those of the payloads gone through.
-use Rattle.std.proofs.Common.{◌≡◌, take}
+use Rattle.std.proofs.Common.{◌≡◌, All, take}
+use Rattle.roa_origin.specs.Payloads.{IsLawfulPayload}
 use Rattle.roa_origin.proofs.table.entries.Given as goal
 
 abbrev pub invariant-loop-payload : goal.invariant-loop-payload
-invariant-loop-payload g l = l.entries.items ≡ take l.payload-index l.payloads
+invariant-loop-payload g l = (l.entries.items ≡ take l.payload-index l.payloads) × All IsLawfulPayload l.entries.items

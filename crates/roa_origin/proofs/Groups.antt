@@ -1,0 +1,55 @@
+-- The payloads of one prefix, as a piece of a table.
+use Rattle.std.proofs.Common.{◌≡◌, ℕ, ◌+◌, ◌-◌, ◌<◌, ◌≤◌, List, length, get_or, All, arith, sym, ◌∙◌, ap, subst}
+use Rattle.std.proofs.lemmas.List.{get_or-take, get_or-drop, get_or_default, length-take-le, length-drop}
+use Rattle.std.specs.List.{slice_range}
+use Rattle.rpki_prefix.specs.Values.{FamilyPrefix}
+use Rattle.roa_origin.proofs.Places.{by_ranks}
+use Rattle.roa_origin.specs.Links.{IsGroup, IsInOrder, IsLink}
+use Rattle.roa_origin.specs.Payloads.{CoversRoute, IsLawfulPayload, Matches, Payload}
+use Rattle.roa_origin.specs.Validities.{IsMatched}
+use Rattle.roa_origin.specs.declared.links.Link.{Link}
+
+-- an element of a piece
+pub in_piece : (xs : List Payload) (a b k : ℕ) (d : Payload) → k < b - a → get_or (slice_range xs a b) k d ≡ get_or xs (a + k) d
+in_piece xs a b k d small = get_or-take (b - a) _ k d small ∙ get_or-drop a xs k d
+
+pub piece_length : (xs : List Payload) (a b : ℕ) → b ≤ length xs → length (slice_range xs a b) ≡ b - a
+piece_length xs a b inside = length-take-le (b - a) _ (let e = length-drop a xs in omega (arith, e, inside))
+
+module _ (xs : List Payload) (order : IsInOrder xs) (route : FamilyPrefix) (a b : ℕ) (within : b ≤ length xs) (p : FamilyPrefix)
+    (has : (k : ℕ) (d : Payload) → a ≤ k → k < b → (get_or xs k d).0.prefix ≡ p) where
+  wide : length (slice_range xs a b) ≡ b - a
+  wide = piece_length xs a b within
+
+  element : (P : Payload → Type 0) (k : ℕ) (d : Payload) → k < length (slice_range xs a b) → P (get_or xs (a + k) d) → P (get_or (slice_range xs a b) k d)
+  element P k d small = subst P (sym (in_piece xs a b k d (omega (arith, small, wide))))
+
+  -- it is a group where the prefix covers the route
+  pub group : ((payload : Payload) → payload.0.prefix ≡ p → CoversRoute route payload) → IsGroup route (slice_range xs a b)
+  group covers = record {
+    payloads = λ k d small. element IsLawfulPayload k d small (order.payloads (a + k) d (omega (arith, small, wide, within)));
+    covers = λ k d small. element (CoversRoute route) k d small (covers (get_or xs (a + k) d) (has (a + k) d (omega arith) (omega (arith, small, wide))));
+    ranked = λ i j d le small.
+        let first = in_piece xs a b i d (omega (arith, wide, le, small)) in
+        let last = in_piece xs a b j d (omega (arith, wide, small)) in
+        let one = has (a + i) d (omega arith) (omega (arith, small, le, wide)) in
+        let other = has (a + j) d (omega arith) (omega (arith, small, wide)) in
+        let up = order.ranked (a + i) (a + j) d (omega (arith, le)) (omega (arith, wide, small, within)) in
+        rw (first, last) (by_ranks (get_or xs (a + i) d) (get_or xs (a + j) d) (one ∙ sym other) up);
+  }
+
+  -- what matches in it matches in the table
+  pub matched_in : (asn : ℕ) → IsMatched route asn (slice_range xs a b) → IsMatched route asn xs
+  matched_in asn h =
+      let small : h.0 < length (slice_range xs a b) = h.2 in
+      let there = in_piece xs a b h.0 h.1 (omega (arith, small, wide)) in
+      (a + h.0, h.1, omega (arith, small, wide, within), sym there ∙ h.3, h.4)
+
+  -- and where none does in it, none does of those places
+  pub none_in : (asn : ℕ) → ¬ IsMatched route asn (slice_range xs a b) → (k : ℕ) (d : Payload) → a ≤ k → k < b → ¬ Matches route asn (get_or xs k d)
+  none_in asn none k d from before matches =
+      let y : Payload = get_or xs k d in
+      let e : a + (k - a) ≡ k = omega (arith, from) in
+      let inside : k < length xs = omega (arith, before, within) in
+      let there : get_or (slice_range xs a b) (k - a) y ≡ get_or xs k y = subst (λ j. get_or (slice_range xs a b) (k - a) y ≡ get_or xs j y) e (in_piece xs a b (k - a) y (omega (arith, from, before))) in
+      none (k - a, y, omega (arith, from, before, wide), there ∙ get_or_default xs k y d inside, matches)

@@ -1,0 +1,15 @@
+-- A mask of the open bits is the number of addresses less one.
+use Rattle.std.proofs.Common.{arith, ◌≡◌, ◌-◌, ◌^◌, ◌∙◌, ap, refl}
+use Rattle.rpki_addr.proofs.Masks.{host_ones}
+use Rattle.rpki_prefix.specs.Values.{width}
+use Rattle.roa_origin.specs.Payloads.{prefix_len}
+use Rattle.roa_origin.proofs.entry.Entry.addresses_behind.Goals as goal
+
+pub returns-then-fixed : goal.returns-then-fixed
+returns-then-fixed c = (let none : width c.args.self.now.0.prefix.addr - prefix_len c.args.self.now ≡ 0 = omega (arith, c.fixed_bits-fixed.ensures, c.if-fixed.true) in rw none refl)
+
+pub returns-else-fixed : goal.returns-else-fixed
+returns-else-fixed c =
+    let fixed = c.fixed_bits-fixed.result in
+    let left : 128 - fixed ≡ width c.args.self.now.0.prefix.addr - prefix_len c.args.self.now = omega (arith, c.fixed_bits-fixed.ensures) in
+    host_ones 128 fixed (omega (arith, c.fixed_bits-fixed.ensures)) ∙ ap (λ k. 2 ^ k) left

@@ -1,0 +1,7 @@
+-- The payloads passed have their links.
+use Rattle.std.proofs.Common.{◌≡◌, length}
+use Rattle.roa_origin.specs.Links.{AreLinks}
+use Rattle.roa_origin.proofs.links.links.Given as goal
+
+abbrev pub invariant-loop-at : goal.invariant-loop-at
+invariant-loop-at g l = (length l.links.items ≡ l.at) × AreLinks l.payloads l.links.items

@@ -1,0 +1,12 @@
+-- Of the payloads that the walk has passed none covers the prefix.
+use Rattle.std.proofs.Common.{◌≤◌}
+use Rattle.roa_origin.specs.Links.{NoneCovers}
+use Rattle.roa_origin.proofs.Walks.{steps}
+use Rattle.roa_origin.proofs.links.nearest.Given as goal
+
+abbrev pub invariant-loop-at : goal.invariant-loop-at
+invariant-loop-at l = (l.at ≤ l.from) × NoneCovers l.payloads l.route.0.prefix l.at l.from
+
+-- each turn gets to a shorter prefix
+abbrev pub decreases-loop-at : goal.decreases-loop-at
+decreases-loop-at l = steps l.payloads l.at

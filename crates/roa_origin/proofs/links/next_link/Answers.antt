@@ -1,0 +1,60 @@
+-- A payload behind one of its prefix has its link, and the first of a prefix one of its own.
+use Rattle.std.proofs.Common.{arith, ◌≡◌, ◌≤◌, ◌<◌, ◌-◌, true, false, refl, sym, ◌∙◌, ap, length, get_or, subst}
+use Rattle.std.proofs.lemmas.List.{get_or_default}
+use Rattle.rpki_prefix.specs.Values.{CoversPrefix, FamilyPrefix, IsFamilyPrefix}
+use Rattle.roa_origin.specs.Links.{IsLink, NoneCovers}
+use Rattle.roa_origin.specs.Payloads.{Payload}
+use Rattle.roa_origin.specs.Places.{payload_place}
+use Rattle.roa_origin.proofs.Walks.{link_again, link_new, prefix_of}
+use Rattle.roa_origin.proofs.links.next_link.Goals as goal
+
+pub returns-then-at-eq0 : goal.returns-then-at-eq0
+returns-then-at-eq0 c d =
+    let xs = c.args.payloads.now in
+    link_new xs c.requires.in_order c.args.at d (record { first = 0; back = 0 }) c.requires.within (sym c.if-at-eq0.true) (omega arith)
+    (λ some. absurd (omega (arith, some, c.if-at-eq0.true)))
+    (λ k e from before small. absurd (omega (arith, before, c.if-at-eq0.true)))
+    (λ e some. absurd (omega (arith, some)))
+
+pub returns-then-has_prefix_of : goal.returns-then-has_prefix_of
+returns-then-has_prefix_of c d =
+    let xs = c.args.payloads.now in
+    let at = c.args.at in
+    let x : Payload = c.index-payloads-at.result in
+    let y : Payload = c.index-payloads-at-2.result in
+    let some : 0 < at = (let not = c.if-at-eq0.false in omega (arith, not)) in
+    let there : at < length xs = c.requires.within in
+    let before : at - 1 < length xs = omega (arith, there) in
+    let inside : at - 1 < length c.args.links.now = omega (arith, some, c.requires.as_many) in
+    let same : (get_or xs (at - 1) d).0.prefix ≡ (get_or xs at d).0.prefix =
+    ap (λ (z : Payload). z.0.prefix) (get_or_default xs (at - 1) d y before ∙ sym c.index-payloads-at-2.is)
+    ∙ c.has_prefix_of.ensures.0 c.if-has_prefix_of.true
+    ∙ ap (λ (z : Payload). z.0.prefix) (c.index-payloads-at.is ∙ get_or_default xs at x d there) in
+    link_again xs at d _ some there same (c.requires.linked (at - 1) d _ inside)
+
+pub nearest-back-requires-clause-is_prefix : goal.nearest-back-requires-clause-is_prefix
+nearest-back-requires-clause-is_prefix c =
+    let x : Payload = c.index-payloads-at.result in
+    subst (λ (z : Payload). IsFamilyPrefix z.0.prefix) (sym c.index-payloads-at.is) (prefix_of c.args.payloads.now c.requires.in_order c.args.at x c.requires.within)
+
+pub nearest-back-requires-clause-up_to : goal.nearest-back-requires-clause-up_to
+nearest-back-requires-clause-up_to c k d small =
+    let xs = c.args.payloads.now in
+    let x : Payload = c.index-payloads-at.result in
+    let e : get_or xs c.args.at d ≡ x = get_or_default xs c.args.at d x c.requires.within ∙ sym c.index-payloads-at.is in
+    subst (λ (z : Payload). payload_place (get_or xs k d) ≤ payload_place z) e (c.requires.in_order.ordered k c.args.at d (omega (arith, small)) c.requires.within)
+
+pub returns : goal.returns
+returns c d =
+    let xs = c.args.payloads.now in
+    let at = c.args.at in
+    let x : Payload = c.index-payloads-at.result in
+    let y : Payload = c.index-payloads-at-2.result in
+    let there : at < length xs = c.requires.within in
+    let here : x.0.prefix ≡ (get_or xs at d).0.prefix = ap (λ (z : Payload). z.0.prefix) (c.index-payloads-at.is ∙ get_or_default xs at x d there) in
+    let before : at - 1 < length xs = omega (arith, there) in
+    let there_before : (get_or xs (at - 1) d).0.prefix ≡ y.0.prefix = ap (λ (z : Payload). z.0.prefix) (get_or_default xs (at - 1) d y before ∙ sym c.index-payloads-at-2.is) in
+    link_new xs c.requires.in_order at d (record { first = at; back = c.nearest-back.result }) there refl c.nearest-back.ensures.back
+    (λ some same. let is_true = c.has_prefix_of.ensures.1 (sym there_before ∙ same ∙ sym here) in let f : true ≡ false = sym is_true ∙ c.if-has_prefix_of.false in cc)
+    (subst (λ (p : FamilyPrefix). NoneCovers xs p c.nearest-back.result at) here c.nearest-back.ensures.none)
+    (λ e some. subst (λ (p : FamilyPrefix). CoversPrefix (get_or xs (c.nearest-back.result - 1) e).0.prefix p) here (c.nearest-back.ensures.found e some))

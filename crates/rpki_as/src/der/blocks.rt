@@ -23,8 +23,8 @@ impl<A: Allocator> AsBlocks<A> {
     /// order and may overlap.
     ///
     /// `Refused` with the first fault: that of the SEQUENCE as in [`Cursor::take_sequence`], or that of a block as in
-    /// [`AsBlock::take_opt_from`](crate::block::AsBlock::take_opt_from). From a strict cursor also `NotCanonical` where a
-    /// block doesn't begin more than one above the greatest number of the one before it (RFC 3779, 3.2.3.4). `Memory`
+    /// [`AsBlock::take_opt_from`](crate::block::AsBlock::take_opt_from). From a strict cursor also `NotCanonical` where
+    /// a block doesn't begin more than one above the greatest number of the one before it (RFC 3779, 3.2.3.4). `Memory`
     /// where there is no memory for the blocks. The cursor then stays.
     pub fn take_from(alloc: A, cursor: &mut Cursor<'_>) -> Result<AsBlocks<A>, OrMemory<DerError>>
     where
@@ -43,14 +43,17 @@ impl<A: Allocator> AsBlocks<A> {
             (ReadsOrMemory (Spells IsAsSet as_sequence_octets) (λ set. set) cursor.old cursor.new
             result) }
         ensures refused { NotCanonicalOrMemory IsAsBlockSequence cursor.old result }
+        // In either mode.
+        ensures by_mode { TakesSaidOrMemory (IsRunsOfBlocks as_bounds) cursor.old cursor.new result
+            (as_blocks_by (is_strict cursor.old)) }
         ensures mode { is_strict cursor.new ≡ is_strict cursor.old }
     {
         Self::next_set(alloc, cursor)
     }
 
-    /// Appends the blocks of the set, ascending: its runs, each as an AS number where it is one, and else as the SEQUENCE
-    /// of its bounds. Nothing stands round them. `AllocError` where there is no memory for all of them; then the octets
-    /// stay as they were.
+    /// Appends the blocks of the set, ascending: its runs, each as an AS number where it is one, and else as the
+    /// SEQUENCE of its bounds. Nothing stands round them. `AllocError` where there is no memory for all of them; then
+    /// the octets stay as they were.
     pub fn encode<B: Allocator>(&self, out: &mut Vec<u8, B>) -> Result<(), AllocError>
         ensures ok { OnOk result (out.new.items ≡ out.old.items ++ as_set_octets self.now) }
         ensures err { OnErr result (out.new.items ≡ out.old.items) }

@@ -4,10 +4,10 @@ ghost use Rattle.rpki_chain.specs.Claims.{Claim, IsClaim};
 ghost use Rattle.rpki_chain.specs.Runs.{Runs, Holds};
 ghost use Rattle.rpki_chain.specs.declared.choice.ResourcesChoice.TheVariants.{Missing};
 ghost use Rattle.rpki_der.specs.Der.{OneFront};
-ghost use Rattle.rpki_der.specs.declared.error.DerError.TheVariants.{EmptyBlocks};
+ghost use Rattle.rpki_der.specs.declared.error.DerError.TheVariants.{EmptyBlocks, NotCanonical};
 ghost use Rattle.rpki_base.specs.DerFaults.{BeginsEmpty, BeginsWithValue};
 ghost use Rattle.rpki_as.specs.AsDer.{IsAsBlockSequence, IsAsResources, as_resources_octets, as_sequence_octets, as_set_octets};
-ghost use Rattle.rpki_as.specs.AsDerReading.{as_choice_at};
+ghost use Rattle.rpki_as.specs.AsDerReading.{as_blocks_at, as_choice_at};
 ghost use Rattle.rpki_as_block.specs.AsDer.{IsAsBlock, IsBlockInAnyOrder};
 ghost use Rattle.rpki_as.specs.Blocks.{IsAsSet};
 
@@ -43,4 +43,10 @@ pub fn written_resources()
 pub fn empty_blocks()
     ensures { (bytes : List ℕ) → (as_choice_at bytes ≡ Err EmptyBlocks)
         ↔ BeginsWithValue 48 (BeginsWithValue 160 BeginsEmpty) bytes }
+{}
+
+/// Octets are refused as not canonical by a strict cursor alone.
+pub fn not_canonical()
+    ensures sequence { (bytes : List ℕ) → as_blocks_at bytes ≢ Err NotCanonical }
+    ensures resources { (bytes : List ℕ) → as_choice_at bytes ≢ Err NotCanonical }
 {}

@@ -1,0 +1,92 @@
+-- The columns that a line names.
+use Rattle.std.proofs.Common.{◌≡◌, ℕ, suc, ◌+◌, ◌-◌, ◌<◌, Bool, true, false, List, [], inl, inr, refl, sym, ap, subst, ◌∙◌, arith}
+use borrow.Author.Tests.{ltb-true, ltb-false}
+use Rattle.std.specs.Prelude.{nat_lt}
+use Rattle.std.specs.List.{after_first}
+use Rattle.payload_texts.specs.Columns.{IsColumn, IsHeader, Names}
+use Rattle.payload_texts.specs.Fields.{field, is_comma}
+use Rattle.payload_texts.specs.declared.columns.Column.{Column}
+use Rattle.payload_texts.specs.declared.columns.Column.TheVariants.{Asn, Prefix, MaxLen}
+use Rattle.payload_texts.specs.declared.columns.Columns.{Columns}
+use Rattle.payload_texts.proofs.FieldLemmas.{field_empty}
+
+-- an empty text is no column's name
+no_name : (column : Column) → ¬ Names column []
+no_name Asn e = absurd cc
+no_name Prefix (inl e) = absurd cc
+no_name Prefix (inr e) = absurd cc
+no_name MaxLen (inl e) = absurd cc
+no_name MaxLen (inr e) = absurd cc
+
+-- so many fields of the line aren't the column's name, and the others are those of the rest
+pub record AreLooked (column : Column) (line rest : List ℕ) (commas : ℕ) : Type 0 where
+  pub same : (n : ℕ) → field (commas + n) line ≡ field n rest
+  pub none : (m : ℕ) → m < commas → ¬ Names column (field m line)
+
+pub looked_none : (column : Column) (line : List ℕ) → AreLooked column line line 0
+looked_none column line = record {
+  same = λ n.
+      let whole : 0 + n ≡ n = omega arith in
+      ap (λ m. field m line) whole;
+  none = λ m below. absurd (omega (arith, below));
+}
+
+-- the next field is the first of the rest
+here : (column : Column) (line rest : List ℕ) (commas : ℕ) → AreLooked column line rest commas → field commas line ≡ field 0 rest
+here column line rest commas had =
+    let none_more : commas + 0 ≡ commas = omega arith in
+    ap (λ n. field n line) (sym none_more) ∙ had.same 0
+
+-- one field more, which isn't the column's name
+pub looked_more : (column : Column) (line rest : List ℕ) (commas : ℕ) → AreLooked column line rest commas → ¬ Names column (field 0 rest)
+    → AreLooked column line (after_first is_comma rest) (commas + 1)
+looked_more column line rest commas had other = record {
+  same = λ n.
+      let one_more : commas + 1 + n ≡ commas + suc n = omega arith in
+      ap (λ m. field m line) one_more ∙ had.same (suc n);
+  none = λ m below. by_test m below (nat_lt m commas) refl;
+}
+  where
+    by_test : (m : ℕ) → m < commas + 1 → (test : Bool) → nat_lt m commas ≡ test → ¬ Names column (field m line)
+    by_test m below true is = had.none m (ltb-true _ _ is)
+    by_test m below false is =
+        let above = ltb-false _ _ is in
+        let last : m ≡ commas = omega (arith, below, above) in
+        λ named. other (subst (Names column) (ap (λ n. field n line) last ∙ here column line rest commas had) named)
+
+-- one field more, which is
+pub looked_found : (column : Column) (line rest : List ℕ) (commas : ℕ) → AreLooked column line rest commas → Names column (field 0 rest) → IsColumn column line commas
+looked_found column line rest commas had named = record {
+  named = subst (Names column) (sym (here column line rest commas had)) named;
+  first = had.none;
+}
+
+-- nothing is left
+pub looked_all : (column : Column) (line rest : List ℕ) (commas : ℕ) → AreLooked column line rest commas → rest ≡ [] → (n : ℕ) → ¬ Names column (field n line)
+looked_all column line rest commas had end n = by_test (nat_lt n commas) refl where
+  by_test : (test : Bool) → nat_lt n commas ≡ test → ¬ Names column (field n line)
+  by_test true is = had.none n (ltb-true _ _ is)
+  by_test false is =
+      let above = ltb-false _ _ is in
+      let left : n ≡ commas + (n - commas) = omega (arith, above) in
+      let empty : field n line ≡ [] = ap (λ m. field m line) left ∙ had.same (n - commas) ∙ ap (field (n - commas)) end ∙ field_empty (n - commas) in
+      λ named. no_name column (subst (Names column) empty named)
+
+-- a line has one column of a name
+pub column_one : (column : Column) (line : List ℕ) (m n : ℕ) → IsColumn column line m → IsColumn column line n → m ≡ n
+column_one column line m n h k = by_test (nat_lt m n) refl (nat_lt n m) refl where
+  by_test : (less : Bool) → nat_lt m n ≡ less → (more : Bool) → nat_lt n m ≡ more → m ≡ n
+  by_test true is more _ = absurd (k.first m (ltb-true _ _ is) h.named)
+  by_test false not true is = absurd (h.first n (ltb-true _ _ is) k.named)
+  by_test false not false nor =
+      let no_less = ltb-false _ _ not in
+      let no_more = ltb-false _ _ nor in
+      omega (arith, no_less, no_more)
+
+-- so it names one list of columns
+pub header_one : (line : List ℕ) (a b : Columns) → IsHeader line a → IsHeader line b → a ≡ b
+header_one line a b h k =
+    let asn = column_one Asn line a.asn b.asn h.asn k.asn in
+    let prefix = column_one Prefix line a.prefix b.prefix h.prefix k.prefix in
+    let max_len = column_one MaxLen line a.max_len b.max_len h.max_len k.max_len in
+    λ i. record { asn = asn i; prefix = prefix i; max_len = max_len i }

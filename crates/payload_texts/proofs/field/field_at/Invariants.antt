@@ -1,0 +1,12 @@
+-- What is left to pass leads to the field.
+use Rattle.std.proofs.Common.{◌≡◌}
+use denote.Shadow.{shadow}
+use denote.Text.{Utf8}
+use Rattle.payload_texts.specs.Fields.{behind}
+use Rattle.payload_texts.proofs.field.field_at.Given as goal
+
+abbrev pub invariant-loop-left : goal.invariant-loop-left
+invariant-loop-left l = (behind l.left l.rest ≡ behind l.commas l.line) × shadow (Utf8 l.rest)
+
+abbrev pub decreases-loop-left : goal.decreases-loop-left
+decreases-loop-left l = l.left

@@ -1,0 +1,43 @@
+use Rattle.std.proofs.Common.{length, refl, sym, ap, ◌∙◌, arith}
+use Rattle.std.proofs.lemmas.Bool.{eqb-true, eqb-false}
+use Rattle.std.proofs.lemmas.List.{nil_from_length}
+use Rattle.payload_texts.specs.declared.row.Row.TheVariants.{Header, Payload}
+use Rattle.payload_texts.proofs.FileLemmas.{read_more, read_no_payload, read_over, read_some, read_wrong}
+use Rattle.payload_texts.proofs.file.payloads_in.Goals as goal
+
+pub returns-in-Err : goal.returns-in-Err
+returns-in-Err g c = read_wrong _ _ c.cut_line.result.1.now c.cut_line.result.0.now _ _ _ c.loop-rest.invariant.read c.cut_line.ensures.first c.in-Err.fault c.in-Err.ensures.found
+
+-- a payload more
+pub loop-rest-preserved-in_ok-push-in-Ok-Payload :
+    goal.loop-rest-preserved-in_ok-push-in-Ok-Payload
+loop-rest-preserved-in_ok-push-in-Ok-Payload g c =
+    let had = c.loop-rest.invariant.within in
+    let shorter = c.cut_line.ensures.shorter in
+    record {
+      within = omega arith;
+      read = rw (c.in_ok-push-in-Ok-Payload.ensures.items) (read_more _ _ _ c.cut_line.result.0.now _ _ _ c.loop-rest.invariant.read c.cut_line.ensures.first (Payload c.in-Ok-Payload.payload) (rw c.in-Ok-Payload.field-0-is at c.in-Ok-Payload.ensures.found));
+    }
+
+-- other columns
+pub loop-rest-preserved-in-Ok-Header : goal.loop-rest-preserved-in-Ok-Header
+loop-rest-preserved-in-Ok-Header g c =
+    let had = c.loop-rest.invariant.within in
+    let shorter = c.cut_line.ensures.shorter in
+    record {
+      within = omega arith;
+      read = read_over _ _ _ c.cut_line.result.0.now _ _ _ c.loop-rest.invariant.read c.cut_line.ensures.first (Header c.in-Ok-Header.next) refl (rw c.in-Ok-Header.field-0-is at c.in-Ok-Header.ensures.found);
+    }
+
+-- no line is left
+pub returns-then-is_empty : goal.returns-then-is_empty
+returns-then-is_empty g c =
+    let end = nil_from_length c.loop-rest.rest.now (eqb-true (length c.loop-rest.rest.now) 0 (sym c.is_empty.ensures ∙ c.loop-rest-test.false)) in
+    let none = sym c.as_slice.ensures.value ∙ nil_from_length c.as_slice.result.now (eqb-true (length c.as_slice.result.now) 0 (sym c.is_empty-2.ensures ∙ c.if-is_empty.true)) in
+    read_no_payload _ c.loop-rest.rest.now c.loop-rest.number c.loop-rest.columns c.loop-rest.payloads.items c.loop-rest.invariant.read end none
+
+pub returns : goal.returns
+returns g c =
+    let end = nil_from_length c.loop-rest.rest.now (eqb-true (length c.loop-rest.rest.now) 0 (sym c.is_empty.ensures ∙ c.loop-rest-test.false)) in
+    read_some _ c.loop-rest.rest.now c.loop-rest.number c.loop-rest.columns c.loop-rest.payloads.items c.loop-rest.invariant.read end
+    (λ z. eqb-false (length c.as_slice.result.now) 0 (sym c.is_empty-2.ensures ∙ c.if-is_empty.false) (ap length (c.as_slice.ensures.value ∙ z)))

@@ -1,0 +1,27 @@
+-- The columns of a file: which field of a line is the AS number, which the prefix and which the greatest length.
+use Rattle.std.specs.Prelude.{◌≡◌, ◌⊎◌, ℕ, ◌<◌, List, codes}
+use Rattle.payload_texts.specs.Fields.{field}
+use Rattle.payload_texts.specs.declared.columns.Column.{Column}
+use Rattle.payload_texts.specs.declared.columns.Column.TheVariants.{Asn, Prefix, MaxLen}
+use Rattle.payload_texts.specs.declared.columns.Columns.{Columns}
+
+-- the text is a column's name
+abbrev pub Names : Column → List ℕ → Type 0
+Names Asn text = text ≡ codes "ASN"
+Names Prefix text = (text ≡ codes "IP Prefix") ⊎ (text ≡ codes "Prefix")
+Names MaxLen text = (text ≡ codes "Max Length") ⊎ (text ≡ codes "Max prefix length")
+
+-- the first field of a line that is the column's name
+pub record IsColumn (column : Column) (line : List ℕ) (n : ℕ) : Type 0 where
+  pub named : Names column (field n line)
+  pub first : (m : ℕ) → m < n → ¬ Names column (field m line)
+
+-- the line names each of the columns
+pub record IsHeader (line : List ℕ) (columns : Columns) : Type 0 where
+  pub asn : IsColumn Asn line columns.asn
+  pub prefix : IsColumn Prefix line columns.prefix
+  pub max_len : IsColumn MaxLen line columns.max_len
+
+-- the columns before any line has named them
+abbrev pub usual : Columns
+usual = record { asn = 0; prefix = 1; max_len = 2 }

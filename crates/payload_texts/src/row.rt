@@ -1,0 +1,74 @@
+//! A line of a file of payloads.
+ghost use Rattle.rpki_text.specs.Reading.{Answers};
+ghost use Rattle.payload_texts.specs.Rows.{ArePayload, HaveFault, IsRow, HasRowFault};
+ghost use Rattle.std.specs.Prelude.{◌≡◌, ◌↔◌, [], IsTrue, MatchResult};
+ghost use Rattle.std.specs.Str.{trim};
+
+use crate::columns::Columns;
+use crate::fault::PayloadFault;
+use crate::field::field_at;
+use rpki_base::Asn;
+use rpki_base::number::parse_u8;
+use rpki_prefix::{MaxLenPrefix, Prefix};
+use std::str::FromStr;
+
+/// What a line writes.
+#[derive(Clone, Copy, Debug, PartialEq, Eq)]
+pub enum Row {
+    /// White space alone.
+    Blank,
+    /// The names of columns, for the lines behind it.
+    Header(Columns),
+    /// A prefix with its greatest length, and the AS that may originate it.
+    Payload((MaxLenPrefix, Asn)),
+}
+
+/// What a line writes whose fields stand in these columns. White space and quotes round a field are no part of it, and
+/// further fields aren't looked at.
+pub fn read_row(columns: Columns, line: &[u8]) -> Result<Row, PayloadFault>
+    ensures { Answers (IsRow columns line.now) (HasRowFault columns line.now) result }
+{
+    row_of(columns, line)
+}
+
+/// What a line writes, or its fault.
+#[tactic(auto, using(crate::proofs::RowLemmas::row_fault, crate::proofs::RowLemmas::body_of))]
+fn row_of(columns: Columns, line: &[u8]) -> Result<Row, PayloadFault>
+    ensures { MatchResult result (IsRow columns line.now) (HasRowFault columns line.now) }
+{
+    let Ok(text) = str::from_utf8(line) else {
+        return Err(PayloadFault::NotUtf8);
+    };
+    if is_blank(text) {
+        return Ok(Row::Blank);
+    }
+    if let Some(next) = Columns::named_by(text) {
+        return Ok(Row::Header(next));
+    }
+    let asn = field_at(text, columns.asn);
+    let prefix = field_at(text, columns.prefix);
+    let max_len = field_at(text, columns.max_len);
+    match read_fields(asn, prefix, max_len) {
+        Ok(payload) => Ok(Row::Payload(payload)),
+        Err(fault) => Err(fault),
+    }
+}
+
+/// Whether a line is white space alone.
+fn is_blank(line: &str) -> bool
+    ensures { IsTrue result ↔ (trim line.now ≡ []) }
+{
+    line.trim().is_empty()
+}
+
+/// The payload that three fields write.
+fn read_fields(asn: &str, prefix: &str, max_len: &str) -> Result<(MaxLenPrefix, Asn), PayloadFault>
+    ensures { MatchResult result (λ x. ArePayload asn.now prefix.now max_len.now x.0 x.1)
+        (HaveFault asn.now prefix.now max_len.now) }
+{
+    let asn = Asn::from_str(asn)?;
+    let prefix = Prefix::from_str(prefix)?;
+    let len = parse_u8(max_len)?;
+    let prefix = MaxLenPrefix::new(prefix, Some(len))?;
+    Ok((prefix, asn))
+}

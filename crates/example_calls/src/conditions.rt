@@ -1,12 +1,17 @@
 //! Conditions of calls, each met by a comparison or by a call that tests it.
-ghost use Rattle.std.specs.Prelude.{◌≡◌, ◌≢◌, ◌+◌, ◌≤◌, ◌<◌, ◌++◌, IsOk, OnOk, OnErr, MatchOption};
+ghost use Rattle.std.specs.Prelude.{◌≡◌, ◌≢◌, ◌+◌, ◌≤◌, ◌<◌, ◌++◌, ◌⊎◌, IsOk, IfOk, OnOk, OnErr, MatchOption};
 ghost use Rattle.rpki_chains.specs.Ranges.{range_bounds};
 ghost use Rattle.rpki_chain.specs.Runs.{Holds};
 ghost use Rattle.rpki_chain.specs.declared.choice.ResourcesChoice.TheVariants.{Missing};
 ghost use Rattle.rpki_as.specs.AsDer.{as_resources_octets};
 ghost use Rattle.rpki_ip.specs.Whole.{IsWhole};
+ghost use Rattle.rpki_ipres.specs.Resources.{IsWholeClaim};
+ghost use Rattle.rpki_resources.specs.Triples.{AreListed, IsOneInherited};
 
-use rpki_resources::repository::resources::{AsRange, AsResources, Asn, IpBlocks, Ipv4Blocks};
+use rpki_resources::OrMemory;
+use rpki_resources::repository::resources::{
+    AsRange, AsResources, Asn, IpBlocks, IpResources, Ipv4Blocks, ResourceSet,
+};
 use std::alloc::{AllocError, Allocator};
 
 /// The range between two AS numbers, in either order: [`AsRange::new`] wants the least number first.
@@ -39,6 +44,27 @@ pub fn whole_v4<A: Allocator>(blocks: IpBlocks<A>) -> Option<Ipv4Blocks<A>>
         return None;
     }
     Some(Ipv4Blocks::from_ip_blocks(blocks))
+}
+
+/// The set that resources list, or None where they list a part of an IPv4 address or some are inherited:
+/// [`ResourceSet::from_resources`] wants whole addresses. `AllocError` where there is no memory for the set.
+pub fn listed_set<A: Allocator>(
+    asn: &AsResources<A>,
+    ipv4: &IpResources<A>,
+    ipv6: &IpResources<A>,
+) -> Result<Option<ResourceSet<A>>, AllocError>
+    ensures { IfOk result (λ found. MatchOption found
+        (¬ IsWholeClaim ipv4.now ⊎ IsOneInherited asn.now ipv4.now ipv6.now)
+        (AreListed asn.now ipv4.now ipv6.now)) }
+{
+    if !ipv4.is_whole_v4() {
+        return Ok(None);
+    }
+    match ResourceSet::from_resources(asn, ipv4, ipv6) {
+        Ok(set) => Ok(Some(set)),
+        Err(OrMemory::Refused(_)) => Ok(None),
+        Err(OrMemory::Memory(error)) => Err(error),
+    }
 }
 
 /// Appends what is written of resources, and nothing where they are missing: [`AsResources::encode`] wants some.

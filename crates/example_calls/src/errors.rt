@@ -9,7 +9,8 @@ use rpki_resources::repository::resources::asres::FromStrError;
 use std::alloc::{AllocError, Allocator, Global};
 use test_support::{Plan, Refusing};
 
-/// The set that a list of AS blocks writes; the error is the list's fault, or want of memory.
+/// The set that a list of AS blocks writes; the error is the list's fault, or want of memory. An error of any kind
+/// tells no clause what it is: where that matters, see [`fault_of`].
 pub fn any_error(alloc: Global, list: &str) -> anyhow::Result<AsBlocks>
     ensures { IfOk result (IsAsListText list.now) }
 {

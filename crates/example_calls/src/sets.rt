@@ -1,8 +1,10 @@
 //! Sets that are joined, and gone over block by block.
 ghost use Rattle.std.specs.Prelude.{◌≡◌, ◌⊎◌, IfOk, map};
 ghost use Rattle.rpki_chain.specs.Runs.{Holds, IsRunsOf};
-ghost use Rattle.rpki_as_block.specs.Blocks.{as_bounds};
+ghost use Rattle.rpki_as.specs.Blocks.{IsAsSet};
+ghost use Rattle.rpki_as_block.specs.Blocks.{as_bounds, new_as_block};
 
+use rpki_chain::laws::{blocks_of_runs, laws_of_runs};
 use rpki_resources::repository::resources::{AsBlock, AsBlocks, Ipv4Blocks};
 use std::alloc::{AllocError, Allocator};
 
@@ -20,13 +22,29 @@ pub fn union_of_three<A: Allocator + Copy>(
     both.union(alloc, three)
 }
 
-/// The blocks of a set in a list of their own: its runs, ascending. `AllocError` where there is no memory for the list.
+/// The blocks of a set in a list of their own: its runs, ascending, an Id where a run is one number and else a Range.
+/// `AllocError` where there is no memory for the list.
 pub fn blocks_of<A: Allocator>(alloc: A, set: &AsBlocks<A>) -> Result<Vec<AsBlock, A>, AllocError>
-    ensures { IfOk result (λ list. map as_bounds list.items ≡ set.now) }
+    ensures blocks { IfOk result (λ list. list.items ≡ map new_as_block set.now) }
+    ensures bounds { IfOk result (λ list. map as_bounds list.items ≡ set.now) }
+    ensures set { IsAsSet set.now }
 {
     let mut list = Vec::new(alloc);
     for block in set.iter() {
         list.push(*block)?;
     }
     Ok(list)
+}
+
+/// A set as it is made again of its blocks: the same set. `AllocError` where there is no memory for it.
+pub fn made_again<A: Allocator + Copy>(
+    alloc: A,
+    set: &AsBlocks<A>,
+) -> Result<AsBlocks<A>, AllocError>
+    ensures { IfOk result (λ again. again ≡ set.now) }
+{
+    blocks_of_runs::<AsBlock>(); // so that the proof sees that the blocks stand for the set
+    laws_of_runs::<AsBlock>(); // and that they stand for no other
+    let blocks = blocks_of(alloc, set)?;
+    AsBlocks::from_vec(alloc, blocks)
 }

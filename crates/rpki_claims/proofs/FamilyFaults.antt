@@ -1,6 +1,6 @@
 -- Families are refused for none at all exactly where none are there, and for one that is there twice exactly where it
 -- stands behind members that were read, of which one has it.
-use Rattle.std.proofs.Common.{◌≡◌, ◌≢◌, ℕ, zero, suc, ◌≤◌, ◌<◌, ◌↔◌, Bool, true, false, cond, List, [], ◌∷◌, length, Result, Ok, Err, refl, sym, ap, ◌∙◌, arith, inl}
+use Rattle.std.proofs.Common.{◌≡◌, ◌≢◌, ℕ, zero, suc, ◌≤◌, ◌<◌, ◌↔◌, Bool, true, false, cond, List, [], ◌∷◌, length, Result, Ok, Err, refl, sym, ap, ◌∙◌, arith, inl, eqb, subst, inr}
 use Rattle.std.specs.Prelude.{◌⊎◌}
 use Rattle.std.proofs.lemmas.Bool.{ne_eqb}
 use Rattle.rpki_der.specs.declared.error.DerError.{DerError}
@@ -42,6 +42,16 @@ module _ {X : Type 0} (claim_at : AddressFamily → List ℕ → Result (X × Li
   members_names (suc steps) found (b ∷ bytes) =
       bind_names 12 (member_at claim_at (seen found) (b ∷ bytes)) (λ one. members_by (member_at claim_at) steps (with_claim found one.0.0 one.0.1) one.1) (member_names (seen found) (b ∷ bytes))
       (λ one. members_names steps (with_claim found one.0.0 one.0.1) one.1)
+
+  families_in_names : (content : List ℕ) → NamesTo 13 (families_in claim_at content)
+  unfolding families_in
+  families_in_names content =
+      let members = members_in claim_at (length content) none_found content in
+      cond_names 13 (eqb (length content) 0) (Err NoFamily) members (omega arith) (names_more 12 13 members (omega arith) (members_names (length content) none_found content))
+
+  -- up to NoFamily
+  pub families_names : (bytes : List ℕ) → NamesTo 13 (families_at claim_at bytes)
+  families_names = refined_names 13 (tagged_at 48) (families_in claim_at) (λ bytes. names_more 3 13 (tagged_at 48 bytes) (omega arith) (tagged_names 48 bytes)) families_in_names
 
   -- ---- none at all
 

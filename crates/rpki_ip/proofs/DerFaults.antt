@@ -1,14 +1,18 @@
 -- Where a range of addresses is reversed, and which faults families, prefixes and ranges have.
-use Rattle.std.proofs.Common.{◌≡◌, ℕ, ◌/◌, ◌*◌, ◌-◌, ◌^◌, ◌<◌, ◌↔◌, ◌||◌, ltb, List, length, Result, Ok, Err, refl, arith}
+use Rattle.std.proofs.Common.{◌≡◌, ℕ, ◌/◌, ◌*◌, ◌-◌, ◌^◌, ◌<◌, ◌↔◌, ◌||◌, ltb, List, length, Result, Ok, Err, refl, arith, ◌&&◌, Bool, true, is_ok, ap, cond, eqb, get_or}
 use Rattle.std.proofs.lemmas.Bool.{lt-ltb, ltb-true}
 use Rattle.rpki_addr.specs.Prefixes.{PrefixValue, last_of}
 use Rattle.rpki_der.specs.declared.error.DerError.{DerError}
-use Rattle.rpki_der.specs.declared.error.DerError.TheVariants.{BadPrefix, ReversedRange}
+use Rattle.rpki_der.specs.declared.error.DerError.TheVariants.{BadPrefix, ReversedRange, BadFamily, NotCanonical}
 use Rattle.rpki_der.specs.Der.{Bits, big_endian, bit_count}
-use Rattle.rpki_der.specs.Reading.{bits, tagged_at}
+use Rattle.rpki_der.specs.Reading.{◌>>=◌, bits, is_padded, passing, refined, tagged_at}
 use Rattle.rpki_base.specs.DerFaults.{BeginsWithTwo}
-use Rattle.rpki_base.proofs.DerFaults.{NamesTo, begins_two, bind_names, bits_names, cond_fails, cond_names, names_more, not_named, pair_fails, pair_names, refined_names, tagged_names}
-use Rattle.rpki_ip.specs.PrefixDer.{prefix_at, prefix_in, prefix_of}
+use Rattle.rpki_der.proofs.Steps.{ok_or_err}
+use Rattle.rpki_base.proofs.DerFaults.{NamesTo, begins_two, bind_names, bits_names, cond_fails, cond_names, names_more, not_named, pair_fails, pair_names, refined_names, tagged_names, bind_fails, first_fails}
+use Rattle.rpki_ip.specs.PrefixDer.{prefix_at, prefix_in, prefix_of, prefix_by, prefix_in_by, prefix_of_by}
+use Rattle.rpki_base.specs.declared.family.AddressFamily.{AddressFamily}
+use Rattle.rpki_base.specs.declared.family.AddressFamily.TheVariants.{Ipv4, Ipv6}
+use Rattle.rpki_base.specs.FamilyDer.{family_at, family_of_octets}
 use Rattle.rpki_ip.specs.RangeDer.{range_in, span_of}
 use Rattle.rpki_ip.specs.Ranges.{RangeValue}
 
@@ -59,3 +63,21 @@ module _ (limit : ℕ) where
   range_fails content =
       let both = pair_fails (prefix_at limit) span_of ReversedRange (omega arith) (λ bytes. not_named 8 (prefix_at limit bytes) ReversedRange (prefix_names bytes) (omega arith)) content in
       ((λ is. begins_two (prefix_at limit) Fails IsBefore span_fails content (both.0 is)), (λ found. both.1 (begins_two (prefix_at limit) IsBefore Fails fails_span content found)))
+
+  -- ---- what isn't canonical
+
+  pub never_prefix : (bytes : List ℕ) → prefix_at limit bytes ≡ Err NotCanonical → ⊥
+  never_prefix bytes = not_named 8 (prefix_at limit bytes) NotCanonical (prefix_names bytes) (omega arith)
+
+  pub never_range : (content : List ℕ) → range_in limit content ≡ Err NotCanonical → ⊥
+  never_range content = not_named 10 (range_in limit content) NotCanonical (range_names content) (omega arith)
+
+  -- the steps of the reading that come before the look at the unused bits
+  pub prefix_last : (bytes : List ℕ) → prefix_by true limit bytes ≡ Err NotCanonical → is_ok (prefix_at limit bytes) ≡ true
+  unfolding refined prefix_in prefix_in_by prefix_of_by
+  prefix_last bytes is =
+      let a = bind_fails (tagged_at 3 bytes) (λ x. prefix_in_by true limit x.0 >>= λ y. Ok (y, x.1)) NotCanonical (not_named 3 (tagged_at 3 bytes) NotCanonical (tagged_names 3 bytes) (omega arith)) is in
+      let inside = first_fails (prefix_in_by true limit a.0.0) (λ y. Ok (y, a.0.1)) NotCanonical (λ y fails. ok_or_err (y, a.0.1) NotCanonical (Ok (y, a.0.1)) refl fails) a.2 in
+      let b = bind_fails (bits a.0.0) (prefix_of_by true limit) NotCanonical (not_named 5 (bits a.0.0) NotCanonical (bits_names a.0.0) (omega arith)) inside in
+      let p = bind_fails (prefix_of limit b.0) (passing true (λ p. is_padded b.0)) NotCanonical (not_named 8 (prefix_of limit b.0) NotCanonical (prefix_of_names b.0) (omega arith)) b.2 in
+      rw (a.1, b.1, p.1) refl

@@ -1,5 +1,5 @@
 -- Prefixes in either mode: strictly, the octets are those that are written of them.
-use Rattle.std.proofs.Common.{◌≡◌, ℕ, zero, suc, ◌+◌, ◌-◌, ◌*◌, ◌/◌, ◌%◌, ◌^◌, ◌<◌, ◌≤◌, ◌||◌, ◌&&◌, Bool, true, false, cond, List, [], ◌∷◌, length, get_or, take, drop, Result, Ok, Err, refl, sym, ap, subst, ◌∙◌, arith}
+use Rattle.std.proofs.Common.{◌≡◌, ℕ, zero, suc, ◌+◌, ◌-◌, ◌*◌, ◌/◌, ◌%◌, ◌^◌, ◌<◌, ◌≤◌, ◌||◌, ◌&&◌, Bool, true, false, cond, List, [], ◌∷◌, ◌++◌, length, get_or, take, drop, Result, Ok, Err, refl, sym, ap, subst, ◌∙◌, arith}
 use Rattle.std.specs.Int.{bytes_high_first, to_be_bytes, w128}
 use Rattle.std.specs.Prelude.{◌⊎◌}
 use Rattle.std.proofs.lemmas.Bool.{and_parts, eqb-true, le-leb, le-ltb, leb-true, lt-ltb, ltb-false, ltb-true, or_from, or_parts}
@@ -8,21 +8,25 @@ use Rattle.std.proofs.lemmas.Nat.{pow-add, pow_pos, shl-shr, shr_split}
 use Rattle.std.proofs.Math.Nat.{mul-div_cancel, mul-mod_left, mul_assoc}
 use Rattle.rpki_addr.specs.Prefixes.{PrefixValue, IsPrefix}
 use Rattle.rpki_cover.proofs.Multiples.{IsMultiple, mod_multiple, multiple_gap, multiple_mod, multiple_self, multiple_smaller, multiple_sum}
+use Rattle.rpki_der.specs.declared.cursor.Cursor.{Cursor}
 use Rattle.rpki_der.specs.declared.error.DerError.{DerError}
-use Rattle.rpki_der.specs.declared.error.DerError.TheVariants.{BadPrefix}
-use Rattle.rpki_der.specs.Der.{Bits, IsBitContent, IsBitString, IsBits, IsBytes, IsPadded, Refines, Spells, Where, big_endian, big_endian_after, bit_content, bit_string_value, last_octet}
+use Rattle.rpki_der.specs.declared.error.DerError.TheVariants.{BadPrefix, BadBitString, NotCanonical}
+use Rattle.rpki_der.specs.Der.{Bits, IsBitContent, IsBitString, IsBits, IsBytes, IsPadded, Refines, Spells, Where, big_endian, big_endian_after, bit_content, bit_string_value, last_octet, bit_count}
 use Rattle.rpki_der.specs.Reading.{◌>>=◌, IsModal, IsReading, Tightens, bits, bits_by, is_padded, passing, tagged_at}
+use Rattle.rpki_der.specs.Views.{Takes, is_strict, left}
 use Rattle.rpki_der.proofs.Contents.{bits_check}
-use Rattle.rpki_der.proofs.Modes.{bind_tightens, is_padded_of, looked_tightens, padded_is, passed_is, passes, then_passing}
+use Rattle.rpki_der.proofs.Modes.{bind_tightens, is_padded_of, lenient_is, looked_tightens, padded_is, passed_is, passes, then_passing}
 use Rattle.rpki_der.proofs.Readings.{IsTagged, fits_content, refined_reading, same_reading, tagged_reading}
 use Rattle.rpki_der.proofs.Steps.{IsBytes-rest, IsCheck, bind_ok, fits_front}
 use Rattle.rpki_der.proofs.Written.{value_is}
 use Rattle.rpki_base.specs.declared.family.AddressFamily.{AddressFamily}
 use Rattle.rpki_base.specs.Families.{bits_of}
-use Rattle.rpki_ip.specs.PrefixDer.{IsPrefixWithin, SaysPrefix, is_longer, octet_count, prefix_at, prefix_bits, prefix_by, prefix_der, prefix_in, prefix_in_by, prefix_of, prefix_of_by}
+use Rattle.rpki_base.proofs.DerCursors.{value_back}
+use Rattle.rpki_ip.specs.PrefixDer.{IsPrefixDer, IsPrefixWithin, IsStrictContent, SaysPrefix, is_longer, octet_count, prefix_at, prefix_bits, prefix_by, prefix_der, prefix_in, prefix_in_by, prefix_of, prefix_of_by}
 use Rattle.rpki_ip.specs.RangeDer.{IsRangeWithin, IsSpan}
 use Rattle.rpki_ip.specs.Ranges.{RangeValue}
-use Rattle.rpki_ip.proofs.DerReadings.{prefix_again, prefix_says}
+use Rattle.rpki_ip.proofs.DerReadings.{prefix_again, prefix_reading, prefix_says}
+use Rattle.rpki_ip.proofs.DerWritten.{prefix_written}
 use Rattle.rpki_ip.proofs.PrefixBits.{bits_few, bits_fit, bits_say, byte_is, first_bits, said_prefix}
 
 -- addresses of a family have 128 bits at most
@@ -34,9 +38,6 @@ bits_few_enough v0 = grind (arith)
 -- what strict cursors take
 abbrev pub IsStrictPrefix : ℕ → List ℕ → PrefixValue → Type 0
 IsStrictPrefix limit = Refines (Where IsBitString IsPadded) (SaysPrefix limit)
-
-abbrev pub IsStrictContent : ℕ → List ℕ → PrefixValue → Type 0
-IsStrictContent limit = Refines (Where IsBitContent IsPadded) (SaysPrefix limit)
 
 -- a content
 pub strict_content_check : (limit : ℕ) → IsCheck (λ _. Unit {0}) (IsStrictContent limit) (prefix_in_by true limit)
@@ -163,6 +164,18 @@ spelled_is_prefix limit bytes p v3 = grind (arith, bits_few, bits_fit, bits_say,
 pub written_prefix_reading : (limit : ℕ) → limit ≤ 128 → IsReading (Spells (IsPrefixWithin limit) prefix_der) (prefix_by true limit)
 written_prefix_reading limit le =
     same_reading (IsStrictPrefix limit) (Spells (IsPrefixWithin limit) prefix_der) (prefix_by true limit) (λ bytes p fits is. prefix_is_spelled limit bytes p le fits is) (spelled_is_prefix limit) (prefix_modal limit).tight
+
+-- what was written of a prefix is read as the prefix
+pub prefix_back : (limit : ℕ) → limit ≤ 128 → (old new : Cursor) (result : Result PrefixValue DerError) → Takes (λ p. p) old new result (prefix_by (is_strict old) limit)
+    → (p : PrefixValue) (rest : List ℕ) → IsPrefixWithin limit p → left old ≡ prefix_der p ++ rest → (result ≡ Ok p) × (left new ≡ rest)
+prefix_back limit le old new result took p rest is at = by_mode (is_strict old) took
+  where
+    by_mode : (strict : Bool) → Takes (λ p. p) old new result (prefix_by strict limit) → (result ≡ Ok p) × (left new ≡ rest)
+    by_mode true took = value_back (Spells (IsPrefixWithin limit) prefix_der) (prefix_by true limit) old new result (written_prefix_reading limit le) took (prefix_der p) p rest (is, refl) at
+    by_mode false took =
+        value_back (IsPrefixDer limit) (prefix_at limit) old new result (prefix_reading limit)
+        (subst (λ r. Takes (λ p. p) old new result r) (lenient_is (IsStrictPrefix limit) (prefix_at limit) (λ strict. prefix_by strict limit) (prefix_modal limit)) took)
+        (prefix_der p) p rest (prefix_written limit p is.0 is.1) at
 
 -- ---- the length before the unused bits
 

@@ -4,7 +4,7 @@ use Rattle.std.specs.Int.{w128, to_be_bytes}
 use Rattle.rpki_addr.specs.Prefixes.{PrefixValue, IsPrefix}
 use Rattle.rpki_der.specs.declared.error.DerError.{DerError}
 use Rattle.rpki_der.specs.declared.error.DerError.TheVariants.{BadPrefix}
-use Rattle.rpki_der.specs.Der.{Bits, IsBitContent, IsBitString, Refines, big_endian, bit_count, bit_string_value}
+use Rattle.rpki_der.specs.Der.{Bits, IsBitContent, IsBitString, IsPadded, Refines, Where, big_endian, bit_count, bit_string_value}
 use Rattle.rpki_der.specs.Reading.{◌>>=◌, bits, is_padded, passing, refined, tagged_at}
 
 -- a bit string of at most 16 octets says the prefix of its used bits, which zeros follow up to 128 bits; the unused
@@ -53,6 +53,10 @@ prefix_at limit = refined (tagged_at 3) (prefix_in limit)
 -- a prefix of limit bits at most
 abbrev pub IsPrefixWithin : ℕ → PrefixValue → Type 0
 IsPrefixWithin limit p = IsPrefix 128 p × (p.len ≤ limit)
+
+-- a content that says the prefix with no unused bit set (X.690, 11.2.1)
+abbrev pub IsStrictContent : ℕ → List ℕ → PrefixValue → Type 0
+IsStrictContent limit = Refines (Where IsBitContent IsPadded) (SaysPrefix limit)
 
 -- strictly, the unused bits are zero, which is looked at behind the length
 unfoldable pub prefix_of_by : Bool → ℕ → Bits → Result PrefixValue DerError

@@ -3,7 +3,7 @@ use Rattle.std.proofs.Common.{◌≡◌, ℕ, ◌<◌, ◌↔◌, List, Ok, Err,
 use Rattle.rpki_base.specs.DerFaults.{BeginsWithTwo, BeginsWithValue}
 use Rattle.rpki_addr.specs.Prefixes.{last_of}
 use Rattle.rpki_base.proofs.DerFaults.{NamesTo, begins_value, bind_names, by_tag_names, mapped_fails, names_more, not_named, refined_names, sequence_fails, value_names}
-use Rattle.rpki_der.specs.declared.error.DerError.TheVariants.{ReversedRange}
+use Rattle.rpki_der.specs.declared.error.DerError.TheVariants.{NotCanonical, ReversedRange}
 use Rattle.rpki_der.specs.Reading.{value_at}
 use Rattle.rpki_ip.specs.PrefixDer.{prefix_at, prefix_in}
 use Rattle.rpki_ip.specs.RangeDer.{range_in}
@@ -34,3 +34,7 @@ module _ (limit : ℕ) where
         (λ is. begins_value 48 Fails Reversed (λ content fails. (range_fails limit content).0 ((mapped_fails (range_in limit content) Range ReversedRange).0 fails)) bytes (both.0 is)),
         (λ found. both.1 (begins_value 48 Reversed Fails (λ content reversed. (mapped_fails (range_in limit content) Range ReversedRange).1 ((range_fails limit content).1 reversed)) bytes found)),
       )
+
+  -- what isn't canonical is read leniently
+  pub never_lenient : (bytes : List ℕ) → ip_block_at limit bytes ≡ Err NotCanonical → ⊥
+  never_lenient bytes = not_named 10 (ip_block_at limit bytes) NotCanonical (block_names bytes) (omega arith)

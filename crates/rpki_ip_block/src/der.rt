@@ -25,7 +25,7 @@ impl IpBlock {
     ghost use Rattle.rpki_der.specs.Views.{Lenient, NotCanonicalOr, ReadsOptional, Strict, Takes, is_strict, left};
     ghost use Rattle.rpki_base.specs.Families.{bits_of};
     ghost use Rattle.rpki_ip_block.specs.BlockDer.{IsBlockWithin, IsIpBlockDer, IsSetIpBlock, ip_block_der};
-    ghost use Rattle.rpki_ip_block.specs.BlockReading.{ip_block_at};
+    ghost use Rattle.rpki_ip_block.specs.BlockReading.{ip_block_at, ip_block_by};
     ghost use Rattle.rpki_ip_block.specs.Blocks.{ip_bounds, new_ip_block};
     ghost use Rattle.rpki_ip_block.specs.PrintedBlocks.{IsBlock, IsBlockOf};
 
@@ -33,9 +33,9 @@ impl IpBlock {
     /// alone.
     ///
     /// The faults are those of [`Cursor::take_opt_value`]; `BadTag` also where another value stands there. A prefix has
-    /// those of [`Prefix::take_from`]. The content of a SEQUENCE has those of its two prefixes, `ReversedRange` where the
-    /// least address is above the greatest, and then `TrailingData` for octets that are left in it. From a strict cursor
-    /// also `NotCanonical` where the octets aren't those that are written of a block that sets have.
+    /// those of [`Prefix::take_from`]. The content of a SEQUENCE has those of its two prefixes, `ReversedRange` where
+    /// the least address is above the greatest, and then `TrailingData` for octets that are left in it. From a strict
+    /// cursor also `NotCanonical` where the octets aren't those that are written of a block that sets have.
     pub fn take_opt_from(cursor: &mut Cursor<'_>) -> Result<Option<IpBlock>, DerError>
         ensures reads { Lenient cursor.old
             (ReadsOptional (IsIpBlockDer 128) (λ block. block) cursor.old cursor.new result) }
@@ -51,13 +51,16 @@ impl IpBlock {
             (ReadsOptional (Spells (IsSetIpBlock 128) ip_block_der) (λ block. block) cursor.old
             cursor.new result) }
         ensures refused { NotCanonicalOr (IsIpBlockDer 128) cursor.old result }
+        // In either mode.
+        ensures by_mode { Takes (λ block. block) cursor.old cursor.new result
+            (optional (ip_block_by (is_strict cursor.old) 128)) }
         ensures mode { is_strict cursor.new ≡ is_strict cursor.old }
     {
         Self::next_opt(cursor, AddressFamily::Ipv6)
     }
 
-    /// Takes a block of the family as `take_opt_from` does. `BadPrefix` also for a prefix that is longer than the family's
-    /// addresses, by itself and in a SEQUENCE.
+    /// Takes a block of the family as `take_opt_from` does. `BadPrefix` also for a prefix that is longer than the
+    /// family's addresses, by itself and in a SEQUENCE.
     pub fn take_opt_from_with_family(
         cursor: &mut Cursor<'_>,
         family: AddressFamily,
@@ -78,6 +81,9 @@ impl IpBlock {
             (ReadsOptional (Spells (IsSetIpBlock (bits_of family)) ip_block_der) (λ block. block)
             cursor.old cursor.new result) }
         ensures refused { NotCanonicalOr (IsIpBlockDer (bits_of family)) cursor.old result }
+        // In either mode.
+        ensures by_mode { Takes (λ block. block) cursor.old cursor.new result
+            (optional (ip_block_by (is_strict cursor.old) (bits_of family))) }
         ensures mode { is_strict cursor.new ≡ is_strict cursor.old }
     {
         Self::next_opt(cursor, family)
@@ -94,9 +100,9 @@ impl IpBlock {
         }
     }
 
-    /// Appends the block in its own form: a Prefix as a BIT STRING, a Range as the SEQUENCE of its least address without
-    /// all the zero bits at its end and its greatest without all the one bits at its end. `AllocError` where there is no
-    /// memory for it; then the octets stay as they were.
+    /// Appends the block in its own form: a Prefix as a BIT STRING, a Range as the SEQUENCE of its least address
+    /// without all the zero bits at its end and its greatest without all the one bits at its end. `AllocError` where
+    /// there is no memory for it; then the octets stay as they were.
     pub fn encode<A: Allocator>(&self, out: &mut Vec<u8, A>) -> Result<(), AllocError>
         ensures ok { OnOk result (out.new.items ≡ out.old.items ++ ip_block_der self.now) }
         ensures err { OnErr result (out.new.items ≡ out.old.items) }
@@ -262,8 +268,8 @@ fn is_set_range(range: &AddressRange, first: &Prefix, second: &Prefix) -> bool
         )
 }
 
-/// Reads blocks of a family one after another. From a strict cursor each begins more than one above the greatest address
-/// of the one before it.
+/// Reads blocks of a family one after another. From a strict cursor each begins more than one above the greatest
+/// address of the one before it.
 #[derive(Clone, Copy, Debug)]
 pub struct IpBlockReader {
     pub family: AddressFamily,

@@ -1,15 +1,16 @@
 -- Where resources of addresses are refused for a list of no blocks, for no family, for one that is there twice.
 use Rattle.std.proofs.Common.{◌≡◌, ℕ, ◌↔◌, List, Err, arith}
-use Rattle.rpki_der.specs.declared.error.DerError.TheVariants.{DuplicateFamily, EmptyBlocks, NoFamily}
+use Rattle.rpki_der.specs.declared.error.DerError.TheVariants.{DuplicateFamily, EmptyBlocks, NoFamily, NotCanonical}
+use Rattle.rpki_der.specs.Reading.{tagged_at}
 use Rattle.rpki_base.specs.DerFaults.{BeginsEmpty, BeginsWithValue}
 use Rattle.rpki_base.specs.DerReading.{values_of}
-use Rattle.rpki_base.proofs.DerFaults.{NamesTo, no_values, values_names}
+use Rattle.rpki_base.proofs.DerFaults.{NamesTo, names_more, no_values, not_named, refined_names, tagged_names, values_names}
 use Rattle.rpki_chain.proofs.ChoiceFaults.{choice_fails, choice_names}
 use Rattle.rpki_claims.specs.FamilyFaults.{BeginsWithRepeat}
-use Rattle.rpki_claims.proofs.FamilyFaults.{family_twice, no_family}
+use Rattle.rpki_claims.proofs.FamilyFaults.{families_names, family_twice, no_family}
 use Rattle.rpki_base.specs.Families.{bits_of}
 use Rattle.rpki_base.specs.declared.family.AddressFamily.{AddressFamily}
-use Rattle.rpki_ip_block.specs.BlockReading.{ip_block_at}
+use Rattle.rpki_ip_block.specs.BlockReading.{ip_block_at, ip_blocks_at}
 use Rattle.rpki_ip_block.specs.declared.block.IpBlock.{IpBlock}
 use Rattle.rpki_ip_block.proofs.DerFaults.{block_names}
 use Rattle.rpki_ipres.specs.ResourcesDer.{ip_families_at, ip_resources_at}
@@ -28,3 +29,18 @@ families_empty = no_family (λ family. ip_resources_at (bits_of family)) resourc
 
 pub families_repeat : (bytes : List ℕ) → (ip_families_at bytes ≡ Err DuplicateFamily) ↔ BeginsWithValue 48 (BeginsWithRepeat (λ family. ip_resources_at (bits_of family))) bytes
 families_repeat = family_twice (λ family. ip_resources_at (bits_of family)) resources_names
+
+-- ---- what isn't canonical
+
+sequence_names : (limit : ℕ) (bytes : List ℕ) → NamesTo 10 (ip_blocks_at limit bytes)
+sequence_names limit =
+    refined_names 10 (tagged_at 48) (values_of (ip_block_at limit)) (λ bytes. names_more 3 10 (tagged_at 48 bytes) (omega arith) (tagged_names 48 bytes)) (blocks_names limit)
+
+pub never_set : (limit : ℕ) (bytes : List ℕ) → ip_blocks_at limit bytes ≡ Err NotCanonical → ⊥
+never_set limit bytes = not_named 10 (ip_blocks_at limit bytes) NotCanonical (sequence_names limit bytes) (omega arith)
+
+pub never_resources : (limit : ℕ) (bytes : List ℕ) → ip_resources_at limit bytes ≡ Err NotCanonical → ⊥
+never_resources limit bytes = not_named 11 (ip_resources_at limit bytes) NotCanonical (choice_names (values_of (ip_block_at limit)) (blocks_names limit) bytes) (omega arith)
+
+pub never_families : (bytes : List ℕ) → ip_families_at bytes ≡ Err NotCanonical → ⊥
+never_families bytes = not_named 13 (ip_families_at bytes) NotCanonical (families_names (λ family. ip_resources_at (bits_of family)) resources_names bytes) (omega arith)

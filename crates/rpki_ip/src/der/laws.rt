@@ -1,12 +1,12 @@
 //! What holds of the octets of families, prefixes and ranges, each law as the contract of a function that does nothing.
-ghost use Rattle.std.specs.Prelude.{◌≡◌, ◌↔◌, ℕ, ◌<◌, ◌≤◌, ◌^◌, List, Err};
+ghost use Rattle.std.specs.Prelude.{◌≡◌, ◌≢◌, ◌↔◌, ℕ, ◌<◌, ◌≤◌, ◌^◌, List, Err, true, IsOk};
 ghost use Rattle.rpki_base.specs.DerFaults.{BeginsWithTwo};
 ghost use Rattle.rpki_addr.specs.Prefixes.{IsPrefix, PrefixValue, last_of};
 ghost use Rattle.rpki_der.specs.Der.{Bits, IsBytes, OneFront};
-ghost use Rattle.rpki_der.specs.declared.error.DerError.TheVariants.{ReversedRange};
+ghost use Rattle.rpki_der.specs.declared.error.DerError.TheVariants.{NotCanonical, ReversedRange};
 ghost use Rattle.rpki_base.specs.declared.family.AddressFamily.{AddressFamily};
 ghost use Rattle.rpki_base.specs.FamilyDer.{IsFamilyDer, family_der};
-ghost use Rattle.rpki_ip.specs.PrefixDer.{IsPrefixDer, SaysPrefix, prefix_at, prefix_der};
+ghost use Rattle.rpki_ip.specs.PrefixDer.{IsPrefixDer, SaysPrefix, prefix_at, prefix_by, prefix_der};
 ghost use Rattle.rpki_ip.specs.RangeDer.{IsRangeDer, IsRangeWithin, IsShortestFrom, IsShortestTo, range_der, range_in, without_end_ones, without_end_zeros};
 ghost use Rattle.rpki_ip.specs.Ranges.{RangeValue};
 
@@ -17,8 +17,8 @@ pub fn one_value()
     ensures range { (limit : ℕ) → OneFront (IsRangeDer limit) }
 {}
 
-/// The octets that `encode` appends are values: of a family; of a prefix that isn't longer than the limit; of a range whose
-/// bounds need no more bits than the limit.
+/// The octets that `encode` appends are values: of a family; of a prefix that isn't longer than the limit; of a range
+/// whose bounds need no more bits than the limit.
 pub fn written()
     ensures family { (family : AddressFamily) → IsFamilyDer (family_der family) family }
     ensures prefix { (limit : ℕ) (p : PrefixValue) → IsPrefix 128 p → p.len ≤ limit
@@ -33,16 +33,25 @@ pub fn is_prefix()
         → SaysPrefix limit b p → IsPrefix 128 p }
 {}
 
-/// An address without the zeros at its end is the shortest prefix that begins with it, and without the ones at its end the
-/// shortest that ends with it.
+/// An address without the zeros at its end is the shortest prefix that begins with it, and without the ones at its end
+/// the shortest that ends with it.
 pub fn shortest()
     ensures zeros { (a : ℕ) → a < 2 ^ 128 → IsShortestFrom a (without_end_zeros a) }
     ensures ones { (a : ℕ) → a < 2 ^ 128 → IsShortestTo a (without_end_ones a) }
 {}
 
-/// A range is reversed exactly where its content begins with two prefixes of which the second ends before the first begins,
-/// whatever stands behind them.
+/// A range is reversed exactly where its content begins with two prefixes of which the second ends before the first
+/// begins, whatever stands behind them.
 pub fn reversed()
     ensures { (limit : ℕ) (content : List ℕ) → (range_in limit content ≡ Err ReversedRange)
         ↔ BeginsWithTwo (prefix_at limit) (λ p q. last_of 128 q < p.first) content }
+{}
+
+/// Octets are refused as not canonical by a strict cursor alone; as a prefix only where a lenient one finds a prefix:
+/// each other fault of it, as `BadPrefix` for too many bits, comes first.
+pub fn not_canonical()
+    ensures prefix { (limit : ℕ) (bytes : List ℕ) → prefix_at limit bytes ≢ Err NotCanonical }
+    ensures range { (limit : ℕ) (content : List ℕ) → range_in limit content ≢ Err NotCanonical }
+    ensures last { (limit : ℕ) (bytes : List ℕ) → prefix_by true limit bytes ≡ Err NotCanonical
+        → IsOk (prefix_at limit bytes) }
 {}

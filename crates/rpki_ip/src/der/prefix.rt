@@ -18,10 +18,10 @@ impl Prefix {
     ghost use Rattle.rpki_addr.specs.Prefixes.{IsPrefix, PrefixValue};
     ghost use Rattle.rpki_der.specs.Reading.{Gives};
     ghost use Rattle.rpki_der.specs.Der.{Spells};
-    ghost use Rattle.rpki_der.specs.Views.{Lenient, LenientIn, NotCanonicalOr, Parses, ReadsValue, Strict, Takes, content_octets, is_strict, is_strict_in};
+    ghost use Rattle.rpki_der.specs.Views.{Lenient, LenientIn, NotCanonicalInOr, NotCanonicalOr, Parses, ReadsValue, Strict, StrictIn, Takes, content_octets, is_strict, is_strict_in, left};
     ghost use Rattle.rpki_der.specs.Views.{bit_string_of};
     ghost use Rattle.rpki_base.specs.Families.{bits_of};
-    ghost use Rattle.rpki_ip.specs.PrefixDer.{IsPrefixContent, IsPrefixDer, IsPrefixWithin, SaysPrefix, prefix_at, prefix_by, prefix_der, prefix_in, prefix_in_by};
+    ghost use Rattle.rpki_ip.specs.PrefixDer.{IsPrefixContent, IsPrefixDer, IsPrefixWithin, IsStrictContent, SaysPrefix, prefix_at, prefix_by, prefix_der, prefix_in, prefix_in_by};
 
     /// The prefix whose addresses begin with the bits of a bit string (RFC 3779, 2.2.3.8), which has at most sixteen
     /// octets, and else is refused by [`DecodePrefixError`]. Its unused bits may be set, and count as zero.
@@ -41,16 +41,23 @@ impl Prefix {
             (ReadsValue (IsPrefixDer 128) (λ p. p) cursor.old cursor.new result) }
         ensures exact { Lenient cursor.old
             (Takes (λ p. p) cursor.old cursor.new result (prefix_at 128)) }
+        // What is written of a prefix is read as that prefix, whatever follows it, strictly too.
+        ensures reads_back { (p : PrefixValue) (rest : List ℕ) → IsPrefix 128 p
+            → left cursor.old ≡ prefix_der p ++ rest
+            → (result ≡ Ok p) × (left cursor.new ≡ rest) }
         ensures strict { Strict cursor.old
             (ReadsValue (Spells (IsPrefixWithin 128) prefix_der) (λ p. p) cursor.old cursor.new result) }
         ensures refused { NotCanonicalOr (IsPrefixDer 128) cursor.old result }
+        // In either mode.
+        ensures by_mode { Takes (λ p. p) cursor.old cursor.new result
+            (prefix_by (is_strict cursor.old) 128) }
         ensures mode { is_strict cursor.new ≡ is_strict cursor.old }
     {
         Self::next(cursor, 128)
     }
 
-    /// Takes the BIT STRING of a prefix of the family as `take_from` does. `BadPrefix` also for a prefix that is longer than
-    /// the family's addresses.
+    /// Takes the BIT STRING of a prefix of the family as `take_from` does. `BadPrefix` also for a prefix that is longer
+    /// than the family's addresses.
     pub fn take_from_with_family(
         cursor: &mut Cursor<'_>,
         family: AddressFamily,
@@ -59,6 +66,10 @@ impl Prefix {
             (ReadsValue (IsPrefixDer (bits_of family)) (λ p. p) cursor.old cursor.new result) }
         ensures exact { Lenient cursor.old
             (Takes (λ p. p) cursor.old cursor.new result (prefix_at (bits_of family))) }
+        // What is written of a prefix of the family is read as that prefix, whatever follows it, strictly too.
+        ensures reads_back { (p : PrefixValue) (rest : List ℕ) → IsPrefixWithin (bits_of family) p
+            → left cursor.old ≡ prefix_der p ++ rest
+            → (result ≡ Ok p) × (left cursor.new ≡ rest) }
         ensures strict { Strict cursor.old
             (ReadsValue (Spells (IsPrefixWithin (bits_of family)) prefix_der) (λ p. p) cursor.old
             cursor.new result) }
@@ -73,13 +84,16 @@ impl Prefix {
 
     /// The content as the BIT STRING of a prefix, whatever the tag is.
     ///
-    /// `BadBitString` for any other content, `BadPrefix` for more than sixteen octets; of a strict cursor's content also
-    /// `NotCanonical` where an unused bit is set.
+    /// `BadBitString` for any other content, `BadPrefix` for more than sixteen octets; of a strict cursor's content
+    /// also `NotCanonical` where an unused bit is set.
     pub fn parse_content(content: &Content<'_>) -> Result<Prefix, DerError>
         ensures reads { LenientIn content.now
             (Parses (IsPrefixContent 128) (λ p. p) (content_octets content.now) result) }
         ensures exact { LenientIn content.now
             (Gives (λ p. p) result (prefix_in 128 (content_octets content.now))) }
+        ensures strict { StrictIn content.now
+            (Parses (IsStrictContent 128) (λ p. p) (content_octets content.now) result) }
+        ensures refused { NotCanonicalInOr (IsPrefixContent 128) content.now result }
         // In either mode.
         ensures by_mode { Gives (λ p. p) result
             (prefix_in_by (is_strict_in content.now) 128 (content_octets content.now)) }
@@ -100,6 +114,10 @@ impl Prefix {
             result) }
         ensures exact { LenientIn content.now
             (Gives (λ p. p) result (prefix_in (bits_of family) (content_octets content.now))) }
+        ensures strict { StrictIn content.now
+            (Parses (IsStrictContent (bits_of family)) (λ p. p) (content_octets content.now)
+            result) }
+        ensures refused { NotCanonicalInOr (IsPrefixContent (bits_of family)) content.now result }
         // In either mode.
         ensures by_mode { Gives (λ p. p) result
             (prefix_in_by (is_strict_in content.now) (bits_of family)

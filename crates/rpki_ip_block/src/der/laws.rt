@@ -1,9 +1,9 @@
 //! What holds of the octets of blocks, each law as the contract of a function that does nothing.
-ghost use Rattle.std.specs.Prelude.{◌≡◌, ◌↔◌, ℕ, ◌<◌, ◌≤◌, List, Err};
+ghost use Rattle.std.specs.Prelude.{◌≡◌, ◌≢◌, ◌↔◌, ℕ, ◌<◌, ◌≤◌, List, Err};
 ghost use Rattle.rpki_base.specs.DerFaults.{BeginsWithTwo, BeginsWithValue};
 ghost use Rattle.rpki_addr.specs.Prefixes.{last_of};
 ghost use Rattle.rpki_der.specs.Der.{OneFront};
-ghost use Rattle.rpki_der.specs.declared.error.DerError.TheVariants.{ReversedRange};
+ghost use Rattle.rpki_der.specs.declared.error.DerError.TheVariants.{NotCanonical, ReversedRange};
 ghost use Rattle.rpki_ip.specs.PrefixDer.{prefix_at};
 ghost use Rattle.rpki_ip_block.specs.BlockDer.{IsBlockWithin, IsIpBlockDer, ip_block_der};
 ghost use Rattle.rpki_ip_block.specs.BlockReading.{ip_block_at};
@@ -20,10 +20,15 @@ pub fn written()
         → IsIpBlockDer limit (ip_block_der block) block }
 {}
 
-/// A block is a reversed range exactly where it is a SEQUENCE that begins with two prefixes of which the second ends before
-/// the first begins, whatever stands behind them.
+/// A block is a reversed range exactly where it is a SEQUENCE that begins with two prefixes of which the second ends
+/// before the first begins, whatever stands behind them.
 pub fn reversed()
     ensures { (limit : ℕ) (bytes : List ℕ) → (ip_block_at limit bytes ≡ Err ReversedRange)
         ↔ BeginsWithValue 48 (BeginsWithTwo (prefix_at limit) (λ p q. last_of 128 q < p.first))
         bytes }
+{}
+
+/// Octets are refused as not canonical by a strict cursor alone.
+pub fn not_canonical()
+    ensures { (limit : ℕ) (bytes : List ℕ) → ip_block_at limit bytes ≢ Err NotCanonical }
 {}

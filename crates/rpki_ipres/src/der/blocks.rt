@@ -39,9 +39,9 @@ impl<A: Allocator> IpBlocks<A> {
     /// any order and may overlap, and their prefixes have lengths up to 128.
     ///
     /// `Refused` with the first fault: that of the SEQUENCE as in [`Cursor::take_sequence`], or that of a block as in
-    /// [`IpBlock::take_opt_from`]. From a strict cursor also `NotCanonical` where a block doesn't begin more than one above
-    /// the greatest address of the one before it (RFC 3779, 2.2.3.6). `Memory` where there is no memory for the blocks.
-    /// The cursor then stays.
+    /// [`IpBlock::take_opt_from`]. From a strict cursor also `NotCanonical` where a block doesn't begin more than one
+    /// above the greatest address of the one before it (RFC 3779, 2.2.3.6). `Memory` where there is no memory for the
+    /// blocks. The cursor then stays.
     pub fn take_from(alloc: A, cursor: &mut Cursor<'_>) -> Result<IpBlocks<A>, OrMemory<DerError>>
     where
         A: Copy,
@@ -58,6 +58,9 @@ impl<A: Allocator> IpBlocks<A> {
         ensures strict { Strict cursor.old
             (ReadsOrMemory (Spells IsIpSet ip_set_der) (λ set. set) cursor.old cursor.new result) }
         ensures refused { NotCanonicalOrMemory (IsIpBlockSequence 128) cursor.old result }
+        // In either mode.
+        ensures by_mode { TakesSaidOrMemory (IsRunsOfBlocks ip_bounds) cursor.old cursor.new result
+            (ip_blocks_by (is_strict cursor.old) 128) }
         ensures mode { is_strict cursor.new ≡ is_strict cursor.old }
     {
         Self::next_set(alloc, cursor, AddressFamily::Ipv6)
@@ -89,6 +92,9 @@ impl<A: Allocator> IpBlocks<A> {
             cursor.new result) }
         ensures refused { NotCanonicalOrMemory (IsIpBlockSequence (bits_of family)) cursor.old
             result }
+        // In either mode.
+        ensures by_mode { TakesSaidOrMemory (IsRunsOfBlocks ip_bounds) cursor.old cursor.new result
+            (ip_blocks_by (is_strict cursor.old) (bits_of family)) }
         ensures mode { is_strict cursor.new ≡ is_strict cursor.old }
     {
         Self::next_set(alloc, cursor, family)

@@ -6,9 +6,10 @@ ghost use Rattle.rpki_chain.specs.Runs.{Runs, Holds};
 ghost use Rattle.rpki_chain.specs.declared.choice.ResourcesChoice.TheVariants.{Missing};
 ghost use Rattle.rpki_claims.specs.FamilyFaults.{BeginsWithRepeat};
 ghost use Rattle.rpki_der.specs.Der.{OneFront, sequence_value};
-ghost use Rattle.rpki_der.specs.declared.error.DerError.TheVariants.{DuplicateFamily, EmptyBlocks, NoFamily};
+ghost use Rattle.rpki_der.specs.declared.error.DerError.TheVariants.{DuplicateFamily, EmptyBlocks, NoFamily, NotCanonical};
 ghost use Rattle.rpki_base.specs.Families.{bits_of};
 ghost use Rattle.rpki_base.specs.declared.family.AddressFamily.TheVariants.{Ipv4, Ipv6};
+ghost use Rattle.rpki_ip_block.specs.BlockReading.{ip_blocks_at};
 ghost use Rattle.rpki_ipres.specs.SetDer.{IsIpBlockSequence, IsIpFamily, ip_family_der, ip_set_der};
 ghost use Rattle.rpki_ipres.specs.Resources.{IsFamilyClaim, IsIpClaim, if_present};
 ghost use Rattle.rpki_ipres.specs.ResourcesDer.{IsIpFamilies, IsIpResources, ip_families_at, ip_families_der, ip_member_der, ip_resources_at, ip_resources_der};
@@ -17,9 +18,9 @@ ghost use Rattle.rpki_ipres.specs.SetText.{IsFamilySet, IsIpSet};
 /// The law of single blocks, which stands in the crate of blocks.
 pub use rpki_ip_block::der::laws::one_block;
 
-/// Octets begin with at most one SEQUENCE of blocks, which stands for one set, and with at most one SEQUENCE of a family
-/// and of the SEQUENCE of its blocks, which stands for one family and one set. They begin with the resources of at most
-/// one claim, and with at most one SEQUENCE of families, which have one claim each.
+/// Octets begin with at most one SEQUENCE of blocks, which stands for one set, and with at most one SEQUENCE of a
+/// family and of the SEQUENCE of its blocks, which stands for one family and one set. They begin with the resources of
+/// at most one claim, and with at most one SEQUENCE of families, which have one claim each.
 pub fn one_value()
     ensures set { (limit : ℕ) → OneFront (IsIpBlockSequence limit) }
     ensures family { OneFront IsIpFamily }
@@ -85,8 +86,9 @@ pub fn canonical_resources()
 {}
 
 /// Which fault octets have, whatever stands behind it. Resources are refused for a list of no blocks exactly where the
-/// SEQUENCE of blocks is empty, and families for none exactly where theirs is. They are refused for a family that stands
-/// there twice exactly where members that are read are followed by a SEQUENCE that begins with the family of one of them.
+/// SEQUENCE of blocks is empty, and families for none exactly where theirs is. They are refused for a family that
+/// stands there twice exactly where members that are read are followed by a SEQUENCE that begins with the family of one
+/// of them.
 pub fn faults()
     ensures empty_blocks { (limit : ℕ) (bytes : List ℕ) →
         (ip_resources_at limit bytes ≡ Err EmptyBlocks) ↔ BeginsEmpty bytes }
@@ -94,4 +96,12 @@ pub fn faults()
         (ip_families_at bytes ≡ Err NoFamily) ↔ BeginsEmpty bytes }
     ensures twice { (bytes : List ℕ) → (ip_families_at bytes ≡ Err DuplicateFamily)
         ↔ BeginsWithValue 48 (BeginsWithRepeat (λ family. ip_resources_at (bits_of family))) bytes }
+{}
+
+/// Octets are refused as not canonical by a strict cursor alone.
+pub fn not_canonical()
+    ensures set { (limit : ℕ) (bytes : List ℕ) → ip_blocks_at limit bytes ≢ Err NotCanonical }
+    ensures resources { (limit : ℕ) (bytes : List ℕ) →
+        ip_resources_at limit bytes ≢ Err NotCanonical }
+    ensures families { (bytes : List ℕ) → ip_families_at bytes ≢ Err NotCanonical }
 {}

@@ -1,11 +1,11 @@
 -- What the reading gives is what the content says by its rule.
-use Rattle.std.proofs.Common.{◌∙◌, false, ap, subst}
+use Rattle.std.proofs.Common.{◌∙◌, true, false, ap, subst}
 use Rattle.rpki_der.specs.Reading.{Gives}
-use Rattle.rpki_der.specs.Views.{content_octets}
+use Rattle.rpki_der.specs.Views.{content_octets, is_strict_in}
 use Rattle.rpki_der.proofs.Cursors.{parses_by}
-use Rattle.rpki_der.proofs.Modes.{same_found}
-use Rattle.rpki_ip.specs.PrefixDer.{IsPrefixContent, prefix_in, prefix_in_by}
-use Rattle.rpki_ip.proofs.DerModes.{content_tightens}
+use Rattle.rpki_der.proofs.Modes.{refused_in, same_found}
+use Rattle.rpki_ip.specs.PrefixDer.{IsPrefixContent, IsStrictContent, prefix_in, prefix_in_by}
+use Rattle.rpki_ip.proofs.DerModes.{content_tightens, strict_content_check}
 use Rattle.rpki_ip.proofs.DerReadings.{prefix_check}
 use Rattle.rpki_ip.proofs.prefix.Prefix.parse_content.Goals as goal
 
@@ -19,3 +19,14 @@ returns-clause-exact c = exact c
 
 pub returns-clause-reads : goal.returns-clause-reads
 returns-clause-reads c lenient = parses_by (λ _. Unit {0}) (IsPrefixContent 128) (prefix_in 128) (λ p. p) (content_octets c.args.content.now) c.of_content.result (prefix_check 128) tt (exact c lenient)
+
+pub returns-clause-strict : goal.returns-clause-strict
+returns-clause-strict c strict =
+    let octets = content_octets c.args.content.now in
+    parses_by (λ _. Unit {0}) (IsStrictContent 128) (prefix_in_by true 128) (λ p. p) octets c.of_content.result (strict_content_check 128) tt (subst (λ mode. Gives (λ p. p) c.of_content.result (prefix_in_by mode 128 octets)) strict c.of_content.ensures.by_mode)
+
+pub returns-clause-refused : goal.returns-clause-refused
+returns-clause-refused c =
+    let octets = content_octets c.args.content.now in
+    let strict = is_strict_in c.args.content.now in
+    refused_in (IsPrefixContent 128) (prefix_in 128) (prefix_in_by strict 128 octets) (λ p. p) c.args.content.now c.of_content.result (prefix_check 128) (content_tightens strict 128 octets) c.of_content.ensures.by_mode

@@ -1,12 +1,12 @@
 -- What the reading gives is what the content says by its rule.
-use Rattle.std.proofs.Common.{◌∙◌, ℕ, false, ap, subst}
+use Rattle.std.proofs.Common.{◌∙◌, ℕ, true, false, ap, subst}
 use Rattle.rpki_der.specs.Reading.{Gives}
 use Rattle.rpki_der.specs.Views.{content_octets, is_strict_in}
 use Rattle.rpki_der.proofs.Cursors.{parses_by}
-use Rattle.rpki_der.proofs.Modes.{same_found}
+use Rattle.rpki_der.proofs.Modes.{refused_in, same_found}
 use Rattle.rpki_base.specs.Families.{bits_of}
-use Rattle.rpki_ip.specs.PrefixDer.{IsPrefixContent, prefix_in, prefix_in_by}
-use Rattle.rpki_ip.proofs.DerModes.{content_tightens}
+use Rattle.rpki_ip.specs.PrefixDer.{IsPrefixContent, IsStrictContent, prefix_in, prefix_in_by}
+use Rattle.rpki_ip.proofs.DerModes.{content_tightens, strict_content_check}
 use Rattle.rpki_ip.proofs.DerReadings.{prefix_check}
 use Rattle.rpki_ip.proofs.prefix.Prefix.parse_content_with_family.Goals as goal
 
@@ -27,3 +27,16 @@ returns-clause-exact c = exact c
 
 pub returns-clause-reads : goal.returns-clause-reads
 returns-clause-reads c lenient = parses_by (λ _. Unit {0}) (IsPrefixContent (bits_of c.args.family)) (prefix_in (bits_of c.args.family)) (λ p. p) (content_octets c.args.content.now) c.of_content.result (prefix_check (bits_of c.args.family)) tt (exact c lenient)
+
+pub returns-clause-strict : goal.returns-clause-strict
+returns-clause-strict c strict =
+    let octets = content_octets c.args.content.now in
+    let limit = bits_of c.args.family in
+    parses_by (λ _. Unit {0}) (IsStrictContent limit) (prefix_in_by true limit) (λ p. p) octets c.of_content.result (strict_content_check limit) tt (subst (λ mode. Gives (λ p. p) c.of_content.result (prefix_in_by mode limit octets)) strict (by c))
+
+pub returns-clause-refused : goal.returns-clause-refused
+returns-clause-refused c =
+    let octets = content_octets c.args.content.now in
+    let strict = is_strict_in c.args.content.now in
+    let limit = bits_of c.args.family in
+    refused_in (IsPrefixContent limit) (prefix_in limit) (prefix_in_by strict limit octets) (λ p. p) c.args.content.now c.of_content.result (prefix_check limit) (content_tightens strict limit octets) (by c)

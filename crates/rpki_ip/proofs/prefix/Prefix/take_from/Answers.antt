@@ -1,11 +1,11 @@
--- What the reading gives is the value of the grammar of the mode.
+-- What the reading gives is the value of the grammar of the mode, and it gives what was written.
 use Rattle.std.proofs.Common.{true, subst, arith}
 use Rattle.rpki_der.specs.Der.{Spells}
 use Rattle.rpki_der.specs.Views.{Takes}
 use Rattle.rpki_der.proofs.Cursors.{reads_by}
 use Rattle.rpki_der.proofs.Modes.{exact_by, refused_by}
 use Rattle.rpki_ip.specs.PrefixDer.{IsPrefixDer, IsPrefixWithin, prefix_at, prefix_by, prefix_der}
-use Rattle.rpki_ip.proofs.DerModes.{IsStrictPrefix, prefix_modal, written_prefix_reading}
+use Rattle.rpki_ip.proofs.DerModes.{IsStrictPrefix, prefix_back, prefix_modal, written_prefix_reading}
 use Rattle.rpki_ip.proofs.DerReadings.{prefix_reading}
 use Rattle.rpki_ip.proofs.prefix.Prefix.take_from.Goals as goal
 
@@ -25,3 +25,6 @@ returns-clause-strict c strict =
 
 pub returns-clause-refused : goal.returns-clause-refused
 returns-clause-refused c = refused_by (IsPrefixDer 128) (IsStrictPrefix 128) (prefix_at 128) (λ strict. prefix_by strict 128) (λ p. p) c.args.cursor.now c.next.new.cursor c.next.result (prefix_reading 128) (prefix_modal 128) c.next.ensures.by_mode
+
+pub returns-clause-reads_back : goal.returns-clause-reads_back
+returns-clause-reads_back c = λ p rest is at. prefix_back 128 (omega arith) c.args.cursor.now c.next.new.cursor c.next.result c.next.ensures.by_mode p rest (is, is.short) at

@@ -1,4 +1,4 @@
--- What the reading gives is the value of the grammar of the mode.
+-- What the reading gives is the value of the grammar of the mode, and it gives what was written.
 use Rattle.std.proofs.Common.{ℕ, true, subst}
 use Rattle.rpki_der.specs.Der.{Spells}
 use Rattle.rpki_der.specs.Views.{Takes, is_strict}
@@ -6,7 +6,7 @@ use Rattle.rpki_der.proofs.Cursors.{reads_by}
 use Rattle.rpki_der.proofs.Modes.{exact_by, refused_by}
 use Rattle.rpki_base.specs.Families.{bits_of}
 use Rattle.rpki_ip.specs.PrefixDer.{IsPrefixDer, IsPrefixWithin, prefix_at, prefix_by, prefix_der}
-use Rattle.rpki_ip.proofs.DerModes.{IsStrictPrefix, bits_few_enough, prefix_modal, written_prefix_reading}
+use Rattle.rpki_ip.proofs.DerModes.{IsStrictPrefix, bits_few_enough, prefix_back, prefix_modal, written_prefix_reading}
 use Rattle.rpki_ip.proofs.DerReadings.{prefix_reading}
 use Rattle.rpki_ip.proofs.prefix.Prefix.take_from_with_family.Goals as goal
 
@@ -39,3 +39,6 @@ pub returns-clause-refused : goal.returns-clause-refused
 returns-clause-refused c =
     let limit = bits_of c.args.family in
     refused_by (IsPrefixDer limit) (IsStrictPrefix limit) (prefix_at limit) (λ strict. prefix_by strict limit) (λ p. p) c.args.cursor.now c.next.new.cursor c.next.result (prefix_reading limit) (prefix_modal limit) (by c)
+
+pub returns-clause-reads_back : goal.returns-clause-reads_back
+returns-clause-reads_back c = prefix_back (bits_of c.args.family) (bits_few_enough c.args.family) c.args.cursor.now c.next.new.cursor c.next.result (by c)

@@ -33,3 +33,6 @@ returns-clause-refused c = refused_optional_by (IsIpBlockDer 128) (IsStrictIpBlo
 
 pub returns-clause-reads_back : goal.returns-clause-reads_back
 returns-clause-reads_back c = taken_back Ipv6 c.args.cursor.now c.next_opt.new.cursor c.next_opt.result c.next_opt.ensures.by_mode
+
+pub returns-clause-by_mode : goal.returns-clause-by_mode
+returns-clause-by_mode c = c.next_opt.ensures.by_mode

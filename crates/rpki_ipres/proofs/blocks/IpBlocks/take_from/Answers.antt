@@ -17,3 +17,6 @@ returns-clause-strict g c = reads_canonical_set Ipv6 c.args.cursor.now c.next_se
 
 pub returns-clause-refused : goal.returns-clause-refused
 returns-clause-refused g c = refused_set Ipv6 c.args.cursor.now c.next_set.new.cursor c.next_set.result c.next_set.ensures.by_mode
+
+pub returns-clause-by_mode : goal.returns-clause-by_mode
+returns-clause-by_mode g c = c.next_set.ensures.by_mode

@@ -154,7 +154,13 @@ def faults_of(crate: str, file: str, line: str) -> Iterator[str]:
 def claims() -> Iterator[tuple[int, str, str, str]]:
     """The claims of the page, each with its line, and the crate and the file that it stands below."""
     crate = file = ""
-    for number, line in enumerate(PAGE.read_text().split("\n"), 1):
+    # A line that goes on below is one line; the blank lines keep the numbers of those behind it.
+    text = re.sub(
+        r"(?m)^- .*(?:\n  .*)+",
+        lambda it: re.sub(r"\n +", " ", it[0]) + "\n" * it[0].count("\n"),
+        PAGE.read_text(),
+    )
+    for number, line in enumerate(text.split("\n"), 1):
         if line.startswith("## "):
             crate, file = (re.findall(r"`([^`]+)`", line) or [""])[0], ""
         elif found := re.fullmatch(r"`(src/\S+)`", line):

@@ -14,6 +14,7 @@ before it. Ends with status 1 where something isn't there.
 import re
 import sys
 from collections.abc import Iterator
+from functools import cache
 from pathlib import Path
 
 from api_page import items_of, libraries
@@ -62,6 +63,7 @@ def is_path(name: str) -> bool:
     return bool(rest) and (first in FOLDERS or (CRATES / first).is_dir()) or name.endswith(ENDINGS)
 
 
+@cache
 def has_path(name: str) -> bool:
     """Whether the file is there: from the top, in the crates, in docs, or anywhere in a crate where it has no folder."""
     places = [TOP, CRATES, TOP / "docs"]
@@ -131,16 +133,28 @@ def named_by(name: str) -> list[Path]:
     return found[:1] or [*(CRATES / crate / "src").rglob("*.rt")]
 
 
+@cache
+def every_source() -> list[Path]:
+    """The sources of all crates."""
+    return [*CRATES.glob("*/src/**/*.rt")]
+
+
+@cache
+def stripped(file: Path) -> list[str]:
+    """The lines of a source without their indents."""
+    return [it.strip() for it in file.read_text().split("\n")]
+
+
 def has_block(file: Path, block: list[str]) -> bool:
     """Whether the lines of a source have a block, whatever their indents."""
-    lines = [it.strip() for it in file.read_text().split("\n")]
+    lines = stripped(file)
     wanted = [it.strip() for it in block]
     return any(lines[at : at + len(wanted)] == wanted for at in range(len(lines)))
 
 
 def faults_of_head(file: Path, crates: set[str]) -> Iterator[tuple[int, str]]:
     """The blocks in a source's head that don't stand in what the paragraph before them names, or in any source."""
-    anywhere = [*CRATES.glob("*/src/**/*.rt")]
+    anywhere = every_source()
     places, block, start = anywhere, None, 0
     for number, line in lines_of(file):
         if line.startswith("```"):

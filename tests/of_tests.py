@@ -1,0 +1,247 @@
+#!/usr/bin/env python3
+"""Shows that the tests can fail: in a copy of the repository one thing is made wrong, and the test has to say which.
+
+A case is a file, a text that stands there once or first, what is put in its place, the test, and what that has to print
+when it ends with status 1. A case whose text isn't there fails. The copies have the first rows alone, so that it is
+quick, and nothing outside a temporary folder is written. What needs a program or a library that isn't built is left out
+by name. `check` is tried beside parts and a prover that only say that they ran. Status 1 where a test says nothing.
+"""
+
+import os
+import re
+import shutil
+import subprocess
+import sys
+import tempfile
+from collections.abc import Iterator
+from concurrent.futures import ThreadPoolExecutor
+from dataclasses import dataclass
+from pathlib import Path
+from queue import SimpleQueue
+
+TOP = Path(__file__).resolve().parent.parent
+COPIES = min(4, os.cpu_count() or 1)
+RESPATH = Path("crates", "respath", "out", "respath")
+LIBRARY = Path("crates", "pigyelund_c", "out", "libpigyelund_c.a")
+# How many of the first lines of a file a copy has.
+PROGRAMS = "rows_values", "rows_sets", "rows_claims", "rows_calls"
+KEPT = {f"crates/{name}/{file}": 6 for name in PROGRAMS for file in ("stdin", "stdout")}
+KEPT |= {"foreign/rows.txt": 14, "docs/PROVED.md": 69}
+# The tests that need what is built, and how each is asked then.
+OF_C, OF_PYTHON = "foreign/c/test.c", "foreign/python/test.py"
+BUILT = {
+    OF_C: ("built/test", "foreign"),
+    OF_PYTHON: ("python3", OF_PYTHON, "built/libpigyelund.so", "foreign"),
+}
+
+
+@dataclass(frozen=True)
+class Case:
+    """What is made wrong, and the test that has to tell it."""
+
+    test: str
+    file: str
+    old: str
+    new: str
+    said: str
+
+
+ROWS = "tests/rows.py"
+PROVED = "tests/proved_page.py"
+NAMES = "tests/names_in_docs.py"
+CASES = (
+    Case(ROWS, "crates/rows_values/stdout", "AS7-AS7 ", "AS7-AS8 ", "rows_values/stdin:1: "),
+    Case(ROWS, "crates/rows_sets/stdout", "AS7, ", "", "rows_sets/stdin:1: "),
+    Case(ROWS, "crates/rows_claims/stdout", "AS121", "AS122", "rows_claims/stdin:1: "),
+    Case(ROWS, "crates/rows_calls/stdout", "AS65551", "AS65552", "rows_calls/stdin:2: "),
+    Case(ROWS, "crates/rows_values/stdout", "AS7-AS7 3006020107020107\n", "", "rows_values: 6 lines have 5 answers"),
+    Case(ROWS, "crates/rows_sets/stdout", "true\n", "", "rows_sets: 6 lines have 5 answers"),
+    Case(ROWS, "crates/rows_claims/stdin", "diff ", "\ndiff ", "rows_claims: 7 lines have 6 answers"),
+    Case(ROWS, "crates/rows_calls/stdout", "inherit\n", "", "rows_calls: 6 lines have 5 answers"),
+    Case(ROWS, "crates/example_holdings/stdout", "Added: asn: AS65001", "Added: asn: AS65000", "stdout:1: "),
+    Case(ROWS, "crates/example_verified_set/stdout", "AS64502", "AS64503", "example_verified_set/args: "),
+    Case(ROWS, "crates/bench_growth/stdout", "2 routes: 2 Valid", "2 routes: 1 Valid", "bench_growth/args: 1 2"),
+    Case("tests/errors_page.py", "docs/ERRORS.md", "error: bad hex", "error: bad hexa", "is answered 'error: bad hex'"),
+    Case("tests/errors_page.py", "README.md", "\n    10.0.0.0/8\n", "\n    10.0.0.0/9\n", "is answered '10.0.0.0/8'"),
+    Case(PROVED, "docs/PROVED.md", "`flushed`", "`flooded`", "no call has the clause flooded"),
+    Case(PROVED, "docs/PROVED.md", "`Source::read`,", "`Source::reads`,", "has no call Source::reads"),
+    Case(PROVED, "docs/PROVED.md", "`Run.AnswersAll`", "`Run.AnswersNone`", "has no AnswersNone"),
+    Case(PROVED, "docs/PROVED.md", "`Run.AnswersFirst`", "`Run.AnswersAll`", "no clause of the row uses AnswersAll"),
+    Case(PROVED, "crates/lines_engine/src/engine.rt", "ensures flushed", "ensures flooded",
+         "no call has the clause flushed"),
+    Case(PROVED, "README.md", "|---|---|\n", f"|---|---|\n| {'x' * 201} | |\n", "a cell of 201 characters"),
+    Case(NAMES, "docs/CALLING.md", "## Conditions", "`rpki_moon`\n\n## Conditions", "no crate rpki_moon"),
+    Case(NAMES, "docs/TESTS.md", "# Tests", "# Tests\n\n`tests/moon.py` `moon_rises`", "no file tests/moon.py"),
+    Case(NAMES, "docs/TESTS.md", "# Tests", "# Tests\n\n`tests/rows.py` `moon_rises`", "no moon_rises"),
+    Case(NAMES, "docs/CALLING.md", "Ok(_) => Ok(None),", "Ok(_) => Ok(Moon),", "isn't in crates/example_calls/"),
+    Case(NAMES, "docs/CALLING.md", "| `Asn::add` ", "| `Asn::moon` ", "the condition of Asn::add stands nowhere"),
+    Case(NAMES, "crates/rpki_cover/src/lib.rt", "//!     list.push(", "//!     moon.push(", "rpki_cover/src/lib.rt:"),
+    Case("tests/words_once.py", "crates/rpki_cover/specs/Walk.antt", "pub free_bits :", "pub Ascends :",
+         "Ascends: crates/"),
+    Case("tests/unused_imports.py", "crates/rpki_cover/src/cover.rt", "{IsShortestCover}", "{IsShortestCover, Moon}",
+         "Moon is used by no clause"),
+    Case("tests/api_page.py", "docs/api/rpki_cover.md", "ascending", "descending", "docs/api/rpki_cover.md is not"),
+    Case("tests/api_page.py", "crates/rpki_cover/src/cover.rt", "/// The first number.", "/// The first moon.",
+         "docs/api/rpki_cover.md is not"),
+    Case("tests/api_page.py", "tests/api_page.py", '"rpki_text::number"', '"rpki_text::moon"', "is no rpki_text::moon"),
+    Case("tests/layers_picture.py", "docs/layers.svg", "<line x1=", "<line x2=", "is not what crates.txt says"),
+    Case("tests/layers_picture.py", "crates.txt", "\nrpki_cover: rpki_addr\n", "\nrpki_cover:\n", "is not what crates"),
+    Case("tests/layers_picture.py", "crates.txt", "\nrpki_text:\n", "\nrpki_text:\nmoon:\n", "moon is in no room"),
+    Case("tests/edits_apply.py", "crates/rpki_cover/must-fail/cover_by_one_enclosing_prefix.edit", "old: ", "old: moon",
+         "cover_by_one_enclosing_prefix.edit: "),
+    Case("tests/edits_apply.py", "crates/rpki_cover/edits/last_number_is_left_out.edit", "file: ", "file: moon/",
+         "last_number_is_left_out.edit: "),
+    Case("tests/wide_comments.py", "crates/rpki_cover/src/cover.rt", "/// The first number.",
+         f"/// The first number, {'far ' * 30}", "rpki_cover/src/cover.rt: comments wider"),
+    Case(OF_C, "foreign/rows.txt", " 10 - - -\n", " 11 - - -\n", "row 1: another status"),
+    Case(OF_C, "foreign/texts.txt", "out of memory", "out of mind", "another text of a status"),
+    Case(OF_PYTHON, "foreign/rows.txt", " 10 - - -\n", " 11 - - -\n", "another answer: verify 0,0,0"),
+    Case(OF_PYTHON, "foreign/texts.txt", "out of memory", "out of mind", "status 2 is "),
+)
+
+
+def said_by(command: tuple[str, ...], copy: Path) -> tuple[int, str]:
+    """The status and the whole output of a command in a copy."""
+    paths = {"TMPDIR": str(copy.parent), "PYTHONPATH": "foreign/python", "PYTHONDONTWRITEBYTECODE": "1"}
+    run = subprocess.run(
+        command, cwd=copy, env=os.environ | paths, stdout=subprocess.PIPE, stderr=subprocess.STDOUT, timeout=300
+    )
+    return run.returncode, run.stdout.decode("utf-8", "replace")
+
+
+def fault_of(case: Case, copy: Path) -> str | None:
+    """What a test doesn't say of a case, None where it tells it; the copy is as before then."""
+    path, command = copy / case.file, BUILT.get(case.test, (case.test,))
+    before = path.read_bytes()
+    if case.old.encode() not in before:
+        return f"{case.old!r} doesn't stand there"
+    path.write_bytes(before.replace(case.old.encode(), case.new.encode(), 1))
+    status, said = said_by(command, copy)
+    path.write_bytes(before)
+    if (status, case.said in said) != (1, True):
+        return f"status {status} in place of 1 with {case.said!r}: {said[-400:]}"
+    return None
+
+
+def left_out() -> Iterator[tuple[str, str]]:
+    """The tests that can't be asked here, and what they need."""
+    if not (TOP / RESPATH).is_file():
+        yield "tests/errors_page.py", f"{RESPATH}, which ./respath builds"
+    for test in (OF_C, OF_PYTHON):
+        for tool in ("gcc", "make", "ar"):
+            if not shutil.which(tool):
+                yield test, tool
+        if not (TOP / LIBRARY).is_file():
+            yield test, f"{LIBRARY}, which rt lib builds there"
+
+
+def make_first(copy: Path, is_foreign: bool) -> None:
+    """Makes the copy that the others are copied from, where it is asked with what C and Python need."""
+    shutil.copytree(TOP, copy, symlinks=True, ignore=shutil.ignore_patterns(".git", "out", "__pycache__"))
+    for name, count in KEPT.items():
+        lines = (copy / name).read_bytes().splitlines(keepends=True)
+        (copy / name).write_bytes(b"".join(lines[:count]))
+    # Its words would be words that are there.
+    (copy / "tests" / "of_tests.py").write_text("")
+    # A thousand payloads take the reference seconds.
+    args = (copy / "crates" / "bench_growth" / "args").read_text().removesuffix("1000\n2000\n")
+    (copy / "crates" / "bench_growth" / "args").write_text(args)
+    stdout = (copy / "crates" / "bench_growth" / "stdout").read_text().splitlines(keepends=True)
+    (copy / "crates" / "bench_growth" / "stdout").write_text("".join(stdout[:-1]))
+    if (TOP / RESPATH).is_file():
+        (copy / RESPATH).parent.mkdir()
+        shutil.copy2(TOP / RESPATH, copy / RESPATH)
+    if is_foreign:
+        (copy / "built").mkdir()
+        kit = Path(shutil.which("rt") or "rt").resolve().parent.parent
+        where = [f"OUT={copy / 'built'}", f"LIB={TOP / LIBRARY}", f"KIT={kit}"]
+        subprocess.run(["make", "-s", "-C", copy / "foreign" / "c", "CC=gcc", *where, "all", "shared"], check=True)
+
+
+def of_cases(folder: Path) -> Iterator[tuple[str, str | None]]:
+    """Each case that can be tried, and what is wrong with it; in front of them that the rows pass as they are."""
+    absent: dict[str, str] = {}
+    for test, need in left_out():
+        absent.setdefault(test, need)
+    for test, need in absent.items():
+        print(f"left out: {test} needs {need}")
+    make_first(folder / "0", OF_C not in absent)
+    copies: SimpleQueue[Path] = SimpleQueue()
+    for at in range(COPIES):
+        copies.put(folder / str(at))
+        if at:
+            shutil.copytree(folder / "0", folder / str(at), symlinks=True)
+
+    def tried(case: Case) -> str | None:
+        copy = copies.get()
+        try:
+            return fault_of(case, copy)
+        finally:
+            copies.put(copy)
+
+    for test in (ROWS, *(it for it in BUILT if it not in absent)):
+        status, said = said_by(BUILT.get(test, (test,)), folder / "0")
+        yield f"{test} passes", None if status == 0 else said
+    cases = [case for case in CASES if case.test not in absent]
+    with ThreadPoolExecutor(COPIES) as pool:
+        for case, fault in zip(cases, pool.map(tried, cases), strict=True):
+            yield f"{case.test}: {case.file}, {case.new[:60]!r}", fault
+
+
+PART = '#!/bin/sh\n[ "${0##*/}" != rows.py ] || [ $# -eq 0 ] || exit 0\n'
+PART += 'case " $FAILING " in *" ${0##*/} "*) exit 1 ;; esac\n'
+
+
+def of_check(folder: Path) -> Iterator[tuple[str, str | None]]:
+    """What `check` says beside parts that say nothing: each is named, and counted where it fails."""
+    listed = re.search(r"\nfor test in (.*?); do\n", (TOP / "check").read_text(), re.DOTALL)
+    parts = listed[1].replace("\\\n", " ").split() if listed else []
+    (folder / "tests").mkdir(parents=True)
+    (folder / "bin").mkdir()
+    shutil.copy(TOP / "check", folder)
+    fakes = {f"tests/{Path(it).name}": PART for it in (*parts, ROWS) if it != "reference"}
+    fakes |= {"respath": '#!/bin/sh\nexit "${NOTED-0}"\n', "bin/rt": '#!/bin/sh\necho "$TOTAL"\nexit "${PROVED-0}"\n'}
+    for name, text in fakes.items():
+        (folder / name).write_text(text)
+        (folder / name).chmod(0o755)
+    one, many = "places.py", " ".join([*(Path(it).name for it in parts), "rows.py"])
+    failing = {"": [], one: [f"tests/{one}"], "rows.py": ["reference"], many: parts}
+    for names, wanted in failing.items():
+        total = f"3 passed, {len(wanted)} failed"
+        run = checked(folder, FAILING=names, TOTAL="3 passed, 0 failed")
+        lines = run.stdout.splitlines()
+        found = [it.removeprefix("FAILED: ") for it in lines if it.startswith("FAILED: ")]
+        named = [it.removesuffix(":") for it in lines if it.endswith(":")]
+        seen = (run.returncode, lines[-1], found, named)
+        fault = None if parts and seen == (int(bool(wanted)), total, wanted, parts) else f"{seen}"
+        yield f"check: {len(wanted)} of {len(parts)} parts fail", fault
+    for name, status in (("PROVED", "7"), ("NOTED", "5")):
+        run = checked(folder, **{name: status}, TOTAL="2 passed, 1 failed")
+        seen = (run.returncode, run.stdout)
+        yield f"check: {name} {status}", None if seen == (int(status), "2 passed, 1 failed\n") else f"{seen}"
+
+
+def checked(folder: Path, **more: str) -> subprocess.CompletedProcess:
+    """A run of the copy of `check`, with the prover beside it."""
+    paths = {"PATH": f"{folder / 'bin'}:{os.environ['PATH']}", "TMPDIR": str(folder)}
+    env = {name: value for name, value in os.environ.items() if name not in ("FAILING", "PROVED", "NOTED", "TOTAL")}
+    return subprocess.run([folder / "check"], env=env | paths | more, capture_output=True, text=True, timeout=60)
+
+
+def main() -> int:
+    """Tries all cases, and names those that no test tells."""
+    count = found = 0
+    with tempfile.TemporaryDirectory() as name:
+        folder = Path(name)
+        for results in (of_cases(folder), of_check(folder / "check")):
+            for what, fault in results:
+                count += 1
+                if fault is not None:
+                    print(f"FAILED  {what}: {fault}")
+                    found += 1
+    print(f"tests of tests: {count} cases, {found} that nothing tells")
+    return 1 if found else 0
+
+
+if __name__ == "__main__":
+    sys.exit(main())

@@ -228,6 +228,16 @@ def _whole_v4(text: str) -> str:
     return ip.print_set(numbers, Family.V4) if ip.is_whole(numbers) else "none"
 
 
+def _listed_set(text: str) -> str:
+    numbers, addresses = _cut(text, ";")
+    parts = _cut(addresses, ";")
+    claim = lines.read_claim("as", numbers)
+    v4, v6 = (resources.INHERIT if part == "inherit" else paths.claim_of(ip.read_either(part)) for part in parts)
+    if resources.INHERIT in (claim, v4, v6) or not ip.is_whole(v4 or []):
+        return "none"
+    return print_triple((claim or [], v4 or [], v6 or []))
+
+
 def _fault_of(text: str) -> str:
     try:
         asn.read_set(text)
@@ -327,6 +337,7 @@ CALLERS: dict[str, Callable[[str], str]] = {
     "covering": _covering,
     "union_of_three": _union_of_three,
     "blocks_of": _as_list,
+    "made_again": _as_list,
     "printed_and_read": _as_v6,
     "resources_printed_and_read": lambda text: print_triple(_triple(text)),
     "written_and_read": _as_v6,
@@ -337,6 +348,7 @@ CALLERS: dict[str, Callable[[str], str]] = {
     "between": _between,
     "behind": _behind,
     "whole_v4": _whole_v4,
+    "listed_set": _listed_set,
     "listed_in_the_end": lambda text: asn.print_set([asn.read_block(text).bounds()]),
     "any_error": _as_list,
     "fault_of": _fault_of,

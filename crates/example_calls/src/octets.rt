@@ -1,8 +1,7 @@
 //! Blocks, sets and resources that are written in DER, and read again from what was written: each is the same.
 ghost use Rattle.std.specs.Prelude.{◌≡◌, ◌≢◌, IfOk};
 ghost use Rattle.rpki_chain.specs.declared.choice.ResourcesChoice.TheVariants.{Missing};
-ghost use Rattle.rpki_base.specs.declared.family.AddressFamily.TheVariants.{Ipv4};
-ghost use Rattle.rpki_ipres.specs.Resources.{IsFamilyClaim, if_present};
+ghost use Rattle.rpki_ipres.specs.Resources.{IsWholeClaim, if_present};
 
 use rpki_der::{Cursor, put_header, tag};
 use rpki_resources::OrMemory;
@@ -108,16 +107,18 @@ pub fn resources_written_and_read<A: Allocator + Copy>(
 }
 
 /// The resources of IPv4 and IPv6 as they are read again from what is written of them, and None where they are missing.
-/// One of them at least isn't. `AllocError` where there is no memory for them.
+/// One of them at least isn't, and what is listed of IPv4 consists of whole addresses. `AllocError` where there is no
+/// memory for them.
 pub fn families_written_and_read<A: Allocator + Copy>(
     alloc: A,
     v4: &IpResources<A>,
     v6: &IpResources<A>,
 ) -> Result<(Option<IpResources<A>>, Option<IpResources<A>>), AllocError>
-    requires whole { IsFamilyClaim Ipv4 v4.now }
+    requires whole { IsWholeClaim v4.now }
     requires present { v4.now ≡ Missing → v6.now ≢ Missing }
     ensures { IfOk result (λ read. read ≡ (if_present v4.now, if_present v6.now)) }
 {
+    rpki_ipres::laws::claims_of_families(); // so that the proof sees that a whole claim is one on IPv4
     let mut octets = Vec::new(alloc);
     IpResources::encode_families(v4, v6, &mut octets)?;
     let mut cursor = Cursor::new(octets.as_slice());

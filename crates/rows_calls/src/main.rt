@@ -60,6 +60,7 @@ fn of_sets(alloc: Global, name: &str, operands: &str) -> anyhow::Result<String> 
     match name {
         "union_of_three" => sets::union_of_three(alloc, operands),
         "blocks_of" => sets::blocks_of(alloc, operands),
+        "made_again" => sets::made_again(alloc, operands),
         "printed_and_read" => sets::printed_and_read(alloc, operands),
         "resources_printed_and_read" => sets::resources_printed_and_read(alloc, operands),
         "written_and_read" => octets::written_and_read(alloc, operands),
@@ -76,6 +77,7 @@ fn of_values(alloc: Global, name: &str, operands: &str) -> anyhow::Result<String
         "between" => values::between(alloc, operands),
         "behind" => values::behind(alloc, operands),
         "whole_v4" => values::whole_v4(alloc, operands),
+        "listed_set" => values::listed_set(alloc, operands),
         "listed_in_the_end" => values::listed_in_the_end(alloc, operands),
         "any_error" => values::any_error(alloc, operands),
         "fault_of" => values::fault_of(alloc, operands),

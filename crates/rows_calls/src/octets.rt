@@ -1,7 +1,4 @@
 //! Sets and resources in DER.
-ghost use Rattle.rpki_base.specs.declared.family.AddressFamily.TheVariants.{Ipv4};
-ghost use Rattle.rpki_ipres.specs.Resources.{IsFamilyClaim};
-
 use crate::print::{self, cut};
 use crate::sets::as_v6;
 use rpki_resources::repository::resources::{
@@ -48,16 +45,15 @@ fn with_v4(alloc: Global, v4: &Ipv4Blocks, list: &str) -> anyhow::Result<String>
     with_v6(alloc, &v4, list)
 }
 
-fn with_v6(alloc: Global, v4: &IpResources, list: &str) -> anyhow::Result<String>
-    requires { IsFamilyClaim Ipv4 v4.now }
-{
+fn with_v6(alloc: Global, v4: &IpResources, list: &str) -> anyhow::Result<String> {
     let v6 = v6_claim(alloc, list)?;
     of_families(alloc, v4, &v6)
 }
 
-fn of_families(alloc: Global, v4: &IpResources, v6: &IpResources) -> anyhow::Result<String>
-    requires { IsFamilyClaim Ipv4 v4.now }
-{
+fn of_families(alloc: Global, v4: &IpResources, v6: &IpResources) -> anyhow::Result<String> {
+    if !v4.is_whole_v4() {
+        return print::text(alloc, "parts of IPv4 addresses");
+    }
     if v4.is_missing() && v6.is_missing() {
         return print::text(alloc, "missing");
     }

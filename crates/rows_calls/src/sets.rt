@@ -45,6 +45,12 @@ pub fn blocks_of(alloc: Global, list: &str) -> anyhow::Result<String> {
     joined(alloc, &blocks)
 }
 
+/// `made_again LIST` of AS numbers.
+pub fn made_again(alloc: Global, list: &str) -> anyhow::Result<String> {
+    let set = AsBlocks::from_str(alloc, list)?;
+    print::made(alloc, example_calls::sets::made_again(alloc, &set))
+}
+
 fn joined(alloc: Global, blocks: &[AsBlock]) -> anyhow::Result<String> {
     let mut text = String::new(alloc);
     for block in blocks {

@@ -1,7 +1,7 @@
 //! Conditions that are met, refusals that are told apart, and resources that are built block by block.
 use crate::print::{self, cut};
 use example_calls::{builders, conditions, errors};
-use rpki_resources::repository::resources::{AsBlock, Asn, IpBlocks};
+use rpki_resources::repository::resources::{AsBlock, AsResources, Asn, IpBlocks, IpResources};
 use std::alloc::Global;
 
 /// `between ASN ASN`
@@ -22,6 +22,34 @@ pub fn behind(alloc: Global, asn: &str) -> anyhow::Result<String> {
 pub fn whole_v4(alloc: Global, list: &str) -> anyhow::Result<String> {
     let blocks = IpBlocks::from_str(alloc, list)?;
     print::option(alloc, &conditions::whole_v4(blocks))
+}
+
+/// `listed_set A ; B ; C` of AS numbers and of addresses of either family, each a list or `inherit`.
+pub fn listed_set(alloc: Global, lists: &str) -> anyhow::Result<String> {
+    let (asn, addresses) = cut(lists, ';');
+    let asn = AsResources::from_str(alloc, asn)?;
+    let (ipv4, ipv6) = cut(addresses, ';');
+    let ipv4 = ip_claim(alloc, ipv4)?;
+    with_ipv6(alloc, &asn, &ipv4, ipv6)
+}
+
+fn with_ipv6(
+    alloc: Global,
+    asn: &AsResources,
+    ipv4: &IpResources,
+    list: &str,
+) -> anyhow::Result<String> {
+    let ipv6 = ip_claim(alloc, list)?;
+    let found = conditions::listed_set(asn, ipv4, &ipv6)?;
+    print::option(alloc, &found)
+}
+
+fn ip_claim(alloc: Global, list: &str) -> anyhow::Result<IpResources> {
+    if list == "inherit" {
+        return Ok(IpResources::inherit());
+    }
+    let set = IpBlocks::from_str(alloc, list)?;
+    Ok(IpResources::blocks(set))
 }
 
 /// `listed_in_the_end BLOCK` of AS numbers.

@@ -4,7 +4,8 @@ use Rattle.std.specs.Str.{IsUtf8, trim}
 use Rattle.payload_texts.specs.Columns.{IsHeader}
 use Rattle.rpki_text.specs.Reading.{Answers}
 use Rattle.rpki_text.proofs.ReadingLemmas.{Answers-from_found}
-use Rattle.rpki_base.proofs.AsnLemmas.{IsAsnText-one, IsNumberText-one}
+use Rattle.rpki_base.proofs.AsnLemmas.{IsAsnText-one}
+use Rattle.rpki_text.proofs.NumberTexts.{IsNumberText-one}
 use Rattle.rpki_prefix.specs.MaxLen.{MaxLenValue, IsMaxLenOf, HasMaxLenError}
 use Rattle.rpki_prefix.specs.Values.{FamilyPrefix}
 use Rattle.rpki_prefix.specs.declared.error.MaxLenError.{MaxLenError}

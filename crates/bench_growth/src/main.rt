@@ -1,13 +1,14 @@
 //! How calls grow with what they are asked: what they give on the standard output, and their times on standard error.
 //!
-//! For each N that an argument names: two sets of N blocks of AS numbers that interleave, of which each block of the one
-//! overlaps one of the other, and no two touch; two such sets of addresses, whose blocks lie apart; then N blocks of AS
-//! numbers and N blocks of addresses, which are read from a SEQUENCE where they stand in another order, and written as a
-//! set, and which are read in either mode where they ascend.
+//! For each N that an argument names: two sets of N blocks of AS numbers that interleave, of which each block of the
+//! one overlaps one of the other, and no two touch; two such sets of addresses, whose blocks lie apart; then N blocks
+//! of AS numbers and N blocks of addresses, which are read from a SEQUENCE where they stand in another order, and
+//! written as a set, and which are read in either mode where they ascend.
 //!
-//! Behind the word `origins` the numbers are pairs: of how many payloads a table is made, and for the origins of how many
-//! routes it is asked. They are made like those of a full table: four of five are of IPv4, most of them of 24 bits; half of
-//! the routes are those of payloads, some longer or by another AS. The same numbers make the same payloads and routes.
+//! Behind the word `origins` the numbers are pairs: of how many payloads a table is made, and for the origins of how
+//! many routes it is asked. They are made like those of a full table: four of five are of IPv4, most of them of 24
+//! bits; half of the routes are those of payloads, some longer or by another AS. The same numbers make the same
+//! payloads and routes.
 #![tactic(auto)]
 
 mod asn;

@@ -36,7 +36,8 @@ pub fn behind(asn: Asn) -> Option<Asn>
     Some(asn.add(1))
 }
 
-/// A set of IPv4 addresses, or None where the set has a part of one: [`Ipv4Blocks::from_ip_blocks`] wants whole addresses.
+/// A set of IPv4 addresses, or None where the set has a part of one: [`Ipv4Blocks::from_ip_blocks`] wants whole
+/// addresses.
 pub fn whole_v4<A: Allocator>(blocks: IpBlocks<A>) -> Option<Ipv4Blocks<A>>
     ensures { MatchOption result (¬ IsWhole (Holds blocks)) (λ set. set ≡ blocks) }
 {

@@ -65,8 +65,8 @@ pub fn written_and_read<A: Allocator + Copy>(
     }
 }
 
-/// A set of AS numbers as it is read again from what is written of it, put in one SEQUENCE. `AllocError` where there is no
-/// memory for it.
+/// A set of AS numbers as it is read again from what is written of it, put in one SEQUENCE. `AllocError` where there is
+/// no memory for it.
 pub fn as_written_and_read<A: Allocator + Copy>(
     alloc: A,
     set: &AsBlocks<A>,
@@ -87,8 +87,8 @@ pub fn as_written_and_read<A: Allocator + Copy>(
     }
 }
 
-/// AS resources as they are read again from what is written of them. They aren't missing. `AllocError` where there is no
-/// memory for them.
+/// AS resources as they are read again from what is written of them. They aren't missing. `AllocError` where there is
+/// no memory for them.
 pub fn resources_written_and_read<A: Allocator + Copy>(
     alloc: A,
     resources: &AsResources<A>,

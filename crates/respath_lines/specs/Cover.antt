@@ -1,5 +1,5 @@
--- What `cover` answers: the shortest list of prefixes with the addresses that a list of blocks writes, or the fault of the
--- list.
+-- What `cover` answers: the shortest list of prefixes with the addresses that a list of blocks writes, or the fault of
+-- the list.
 use Rattle.std.specs.Prelude.{◌≡◌, ◌≢◌, ℕ, List, ◌∷◌, ◌++◌, map, codes, decimal}
 use Rattle.rpki_text.specs.Cuts.{slash}
 use Rattle.rpki_text.specs.Lists.{joined}

@@ -1,5 +1,5 @@
--- What `path` answers: what the claims along a path leave of a root, the first of them that is refused, or the fault of the
--- first part of the path that isn't read.
+-- What `path` answers: what the claims along a path leave of a root, the first of them that is refused, or the fault of
+-- the first part of the path that isn't read.
 use Rattle.std.specs.Prelude.{◌≡◌, ◌≢◌, ◌⊎◌, ℕ, ◌==◌, List, [], ◌∷◌, ◌++◌, Result, Ok, Err, codes, decimal}
 use Rattle.std.specs.List.{slice_split, before_first, after_first}
 use Rattle.std.specs.Str.{trim}
@@ -54,8 +54,8 @@ pub record IsNoStep (part : List ℕ) : Type 0 where
 -- ---- the parts of a path, in whose lists `Writes` says which set a list writes, and `Fails` which fault it has
 
 module _ {R : Type 0} (claim : R → Claim) (Writes : List ℕ → Runs → Type 0) where
-  -- The part is a step: `inherit` or `missing` alone, whose mode says nothing, or a mode and the list of what is claimed, of
-  -- no blocks for a missing claim.
+  -- The part is a step: `inherit` or `missing` alone, whose mode says nothing, or a mode and the list of what is
+  -- claimed, of no blocks for a missing claim.
   abbrev pub IsStepText : List ℕ → Step R → Type 0
   IsStepText part step =
       ((trim part ≡ codes "inherit") × (claim step.claim ≡ Inherit))

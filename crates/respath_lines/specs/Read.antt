@@ -31,8 +31,8 @@ IsEnded (Err fault) rest answer = answer ≡ Err fault
 abbrev pub HasFault : {V Y : Type 0} → (List ℕ → V → Type 0) → (List ℕ → Result (Y × List ℕ) DerError) → List ℕ → DerError → Type 0
 HasFault Is reading octets fault = HasNone Is octets × (only reading octets ≡ Err fault)
 
--- the answer is what is printed of the value that the octets are; where they are none, it is the text of their first fault,
--- behind `error: `
+-- the answer is what is printed of the value that the octets are; where they are none, it is the text of their first
+-- fault, behind `error: `
 abbrev pub ShowsOctets : {V Y : Type 0} → (List ℕ → V → Type 0) → (List ℕ → Result (Y × List ℕ) DerError) → (V → List ℕ) → List ℕ → List ℕ → Type 0
 ShowsOctets {V} Is reading value_text octets answer =
     ((value : V) × Is octets value × (answer ≡ value_text value))

@@ -9,8 +9,8 @@ use Rattle.std.specs.Cmp.{IsTotalOrder}
 use Rattle.std.specs.declared.cmp.Ordering.{Ordering}
 use Rattle.std.specs.declared.cmp.Ordering.TheVariants.{Less, Equal}
 
--- a turn of a walk along two lists: x stands next in the one; before the place of the other one all are less than x, and
--- before the place that the walk came from all are less than what is left of the one
+-- a turn of a walk along two lists: x stands next in the one; before the place of the other one all are less than x,
+-- and before the place that the walk came from all are less than what is left of the one
 pub record IsTurn {X : Type 0} (R : X → X → Ordering) (one other : List X) (at from place : ℕ) (x : X) : Type 0 where
   pub small : at < length one
   pub is : x ≡ get_or one at x

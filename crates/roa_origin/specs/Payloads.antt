@@ -1,4 +1,5 @@
--- Validated payloads of route origin authorizations, and the routes that they cover and match (RFC 6811, 2; RFC 9582, 4.3).
+-- Validated payloads of route origin authorizations, and the routes that they cover and match (RFC 6811, 2; RFC 9582,
+-- 4.3).
 use Rattle.std.specs.Prelude.{◌≡◌, ◌≢◌, ℕ, ◌≤◌, ◌<◌, ◌^◌}
 use Rattle.rpki_prefix.specs.MaxLen.{IsMaxLenPrefix, MaxLenValue, resolved}
 use Rattle.rpki_prefix.specs.Values.{FamilyPrefix, CoversPrefix}
@@ -24,7 +25,8 @@ prefix_len payload = payload.0.prefix.len
 abbrev pub CoversRoute : FamilyPrefix → Payload → Type 0
 CoversRoute route payload = CoversPrefix payload.0.prefix route
 
--- besides, the route is no longer than the payload allows, and its AS is the payload's and not AS0 (RFC 6811, 2: 'Matched')
+-- besides, the route is no longer than the payload allows, and its AS is the payload's and not AS0 (RFC 6811, 2:
+-- 'Matched')
 pub record Matches (route : FamilyPrefix) (asn : ℕ) (payload : Payload) : Type 0 where
   pub covers : CoversRoute route payload
   pub allowed : route.len ≤ longest payload

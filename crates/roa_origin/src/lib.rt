@@ -1,6 +1,6 @@
-//! The validity of route origins by validated payloads of route origin authorizations (RFC 6811, RFC 9582): of one route
-//! by a list, and of many routes by a table; and what a cache tells routers of payloads (RFC 8210): a table of them, and
-//! what is announced and withdrawn from one table to the next.
+//! The validity of route origins by validated payloads of route origin authorizations (RFC 6811, RFC 9582): of one
+//! route by a list, and of many routes by a table; and what a cache tells routers of payloads (RFC 8210): a table of
+//! them, and what is announced and withdrawn from one table to the next.
 //!
 //! A list that is made already is asked by [`origin`]; for many routes a table is made of it once, and is asked as in
 //! `example_calls::routes::count_invalid`:

@@ -1,7 +1,7 @@
-//! The program `rows_sets`: each line of the standard input is a call of the libraries that makes chains or sets and asks
-//! them, or is a line of `respath`, and is answered with one line on the standard output. Each call is made again with each
-//! of its requests for memory refused; where such a run does anything but tell that memory is wanting, the line's answer
-//! says so.
+//! The program `rows_sets`: each line of the standard input is a call of the libraries that makes chains or sets and
+//! asks them, or is a line of `respath`, and is answered with one line on the standard output. Each call is made again
+//! with each of its requests for memory refused; where such a run does anything but tell that memory is wanting, the
+//! line's answer says so.
 #![tactic(auto)]
 
 mod as_sets;

@@ -21,17 +21,17 @@ const REQUESTS: u64 = 64;
 /// How often each fault was met, at its number; and at 0, how often none.
 type Counts = [u64; 16];
 
-/// What a reader makes of some octets: the number of its fault, with the cursor where it was; 0 for a value that is read
-/// back from the octets that are written of it, which strictly are those that were taken, and for one that is skipped; and
-/// `None` for anything else.
+/// What a reader makes of some octets: the number of its fault, with the cursor where it was; 0 for a value that is
+/// read back from the octets that are written of it, which strictly are those that were taken, and for one that is
+/// skipped; and `None` for anything else.
 type Reading = Option<u8>;
 
 /// A reader, and the mode of the cursors that it is given.
 type ModalReader = (Mode, Reader);
 
-/// The answer to `altered READER HEX` and `alteredstrict READER HEX`: of the proper beginnings of these octets, and apart
-/// from them of the octets with each of the 256 values at each place, how many are read, and how many are refused by each
-/// fault.
+/// The answer to `altered READER HEX` and `alteredstrict READER HEX`: of the proper beginnings of these octets, and
+/// apart from them of the octets with each of the 256 values at each place, how many are read, and how many are refused
+/// by each fault.
 pub fn answer(alloc: Global, mode: Mode, operands: &str) -> Result<String, AllocError> {
     let (name, text) = cut(operands, ' ');
     let Some(reader) = Reader::named(name) else {

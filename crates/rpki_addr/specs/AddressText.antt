@@ -45,7 +45,8 @@ pub record AreGroupsAndIpv4 (text groups : List ℕ) : Type 0 where
 abbrev pub AreGroupsAtEnd : List ℕ → List ℕ → Type 0
 AreGroupsAtEnd text groups = AreGroups text groups ⊎ AreGroupsAndIpv4 text groups
 
--- The text is groups, `::` and groups, at most seven in all, and the groups between are zero. An IPv4 text may stand at the end.
+-- The text is groups, `::` and groups, at most seven in all, and the groups between are zero. An IPv4 text may stand at
+-- the end.
 pub record IsCompressed (text groups : List ℕ) : Type 0 where
   pub front_text : List ℕ
   pub back_text : List ℕ

@@ -4,7 +4,8 @@ use Rattle.std.specs.Net.Reader.{Segments, after, read_segments}
 use Rattle.rpki_text.specs.Digits.{from_groups}
 use Rattle.rpki_addr.specs.declared.addr.read.Groups.{Groups}
 
--- what is known of groups that were read: their number, how many they are, whether an IPv4 text closes them, what follows
+-- what is known of groups that were read: their number, how many they are, whether an IPv4 text closes them, what
+-- follows
 abbrev pub parts : Groups → ℕ × ℕ × Bool × List ℕ
 parts groups = (groups.bits, groups.count, groups.closed, groups.rest.now)
 

@@ -6,7 +6,8 @@ pub record PrefixValue : Type 0 where
   pub first : ℕ
   pub len : ℕ
 
--- p is a prefix of width w: its first number, of w bits, is a multiple of how many numbers the prefix has (RFC 3779, 2.1.1)
+-- p is a prefix of width w: its first number, of w bits, is a multiple of how many numbers the prefix has (RFC 3779,
+-- 2.1.1)
 pub record IsPrefix (w : ℕ) (p : PrefixValue) : Type 0 where
   pub short : p.len ≤ w
   pub aligned : p.first % 2 ^ (w - p.len) ≡ 0

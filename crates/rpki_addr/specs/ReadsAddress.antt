@@ -8,7 +8,8 @@ use Rattle.rpki_addr.specs.declared.addr.AddrParseError.TheVariants.{Ipv4, Ipv6,
 use Rattle.rpki_addr.specs.declared.addr.IpAddr.{IpAddr}
 use Rattle.rpki_addr.specs.declared.addr.IpAddr.TheVariants.{V4, V6}
 
--- The text is read as an address exactly where it writes one, else it is refused as no IPv4 text. What is printed of an address is read as that address.
+-- The text is read as an address exactly where it writes one, else it is refused as no IPv4 text. What is printed of an
+-- address is read as that address.
 pub record ReadsIpv4 (text : List ℕ) (r : Result ℕ AddrParseError) : Type 0 where
   pub exact : Answers (IsIpv4Text text) (λ e. (e ≡ Ipv4) × ((n : ℕ) → ¬ IsIpv4Text text n)) r
   pub reads_back : (n : ℕ) → n < 2 ^ 32 → text ≡ ipv4_text n → r ≡ Ok n

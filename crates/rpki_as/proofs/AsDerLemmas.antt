@@ -150,7 +150,7 @@ one_set blocks a b says tell = IsRunsOf-unique (Covers as_bounds blocks) a b say
 -- blocks in new form are what is written of them
 pub strict_blocks : IsWritten as_bounds new_as_block as_block_octets 4294967295 (λ b. Unit {0}) IsStrictBlock
 unfolding IsRun32
-strict_blocks  = grind (arith, block_is, block_numbers, block_spelled)
+strict_blocks = grind (arith, block_is, block_numbers, block_spelled)
 
 -- a SEQUENCE of blocks
 pub blocks_modal : IsModal (IsSequenceFrom greatest_of_as_block IsNextBlock None) as_blocks_at as_blocks_by

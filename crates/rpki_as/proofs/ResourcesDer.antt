@@ -49,7 +49,7 @@ inner_reading =
 
 -- and what encloses them
 as_choice_reading : IsReading IsAsChoice as_choice_at
-as_choice_reading  = grind (arith, enclosed_reading, inner_reading)
+as_choice_reading = grind (arith, enclosed_reading, inner_reading)
 
 -- blocks say one claim
 one_claim : (choice : ResourcesChoice (List AsBlock)) (a b : Claim) → ListsBy (IsRunsOfBlocks as_bounds) choice a → ListsBy (IsRunsOfBlocks as_bounds) choice b → a ≡ b
@@ -137,7 +137,7 @@ chain_listed old choice rest fits strict read =
     listed_chain as_bounds new_as_block as_block_octets 4294967295 (λ b. Unit {0}) IsStrictBlock strict_blocks found.0 choice found.1
 
 as_choice_modal : IsModal IsStrictChoice as_choice_at as_choice_by
-as_choice_modal  = search (arith, enclosed_modal, inner_modal)
+as_choice_modal = search (arith, enclosed_modal, inner_modal)
 
 -- blocks of which one is taken stand for a set that isn't empty
 some_numbers : (content : List ℕ) (xs : List AsBlock) (set : Runs) → EachFrom greatest_of_as_block IsNextBlock None content xs → xs ≢ [] → IsRunsOfBlocks as_bounds xs set → set ≢ []

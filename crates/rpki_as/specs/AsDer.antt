@@ -19,8 +19,8 @@ use Rattle.rpki_as_block.specs.declared.block.AsBlock.{AsBlock}
 abbrev pub IsAsBlockSequence : List ℕ → Runs → Type 0
 IsAsBlockSequence = Refines (IsSequenceOf IsAsBlock) (IsRunsOfBlocks as_bounds)
 
--- a SEQUENCE of one value of context tag 0 (128 + 32: of the context, constructed), in which stands a NULL for inherited
--- resources, and else a SEQUENCE of blocks, one at least (3.2.3.1 to 3.2.3.4; RFC 6487, 4.8.11)
+-- a SEQUENCE of one value of context tag 0 (128 + 32: of the context, constructed), in which stands a NULL for
+-- inherited resources, and else a SEQUENCE of blocks, one at least (3.2.3.1 to 3.2.3.4; RFC 6487, 4.8.11)
 abbrev pub IsAsChoice : List ℕ → ResourcesChoice (List AsBlock) → Type 0
 IsAsChoice = Encloses 48 (Encloses 160 (IsChoiceOf (IsSequenceOf IsAsBlock)))
 

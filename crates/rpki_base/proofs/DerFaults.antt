@@ -1,5 +1,5 @@
--- Which faults readings name: those of their layer and of the layers below it, whose numbers are no greater. So a fault of
--- a layer is named exactly where that layer finds it.
+-- Which faults readings name: those of their layer and of the layers below it, whose numbers are no greater. So a fault
+-- of a layer is named exactly where that layer finds it.
 use Rattle.std.proofs.Common.{◌≡◌, ◌≢◌, ℕ, zero, suc, ◌<◌, ◌≤◌, ◌↔◌, Bool, true, false, cond, eqb, List, [], ◌∷◌, length, Result, Ok, Err, refl, sym, subst, arith}
 use Rattle.std.proofs.lemmas.Bool.{eqb-true, ne_eqb}
 use Rattle.std.proofs.lemmas.List.{length-drop}
@@ -197,4 +197,3 @@ begins_two reading C D says bytes (first, second, one, two, c) = (first, second,
 
 pub begins_value : (tag : ℕ) (P Q : List ℕ → Type 0) → ((content : List ℕ) → P content → Q content) → (bytes : List ℕ) → BeginsWithValue tag P bytes → BeginsWithValue tag Q bytes
 begins_value tag P Q says bytes (v, found, p) = (v, found, says v.0 p)
-

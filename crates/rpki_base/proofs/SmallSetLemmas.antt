@@ -17,7 +17,7 @@ use Rattle.rpki_base.proofs.WalkLemmas.{Among, to_among, from_among, is_among, R
 -- a walk gives the set S, where S are the wanted numbers
 module _ (wanted : Wanted) (S : ℕ → Type 0) (xs ys : List ℕ) (left : IsSmallSet xs) (right : IsSmallSet ys) (wanted_are : (n : ℕ) → IsWanted wanted xs ys n ↔ S n) where
   walk_set : IsSmallSetOf S (walk wanted xs ys)
-  walk_set  = grind (arith, IsStrictlyIncreasing-rises, Rises-from_increasing, from_among, to_among, walk_is, walk_rises)
+  walk_set = grind (arith, IsStrictlyIncreasing-rises, Rises-from_increasing, from_among, to_among, walk_is, walk_rises)
 
 -- a number that is among others is contained, and one that isn't is not
 no_among : (n : ℕ) (xs : List ℕ) → ¬ Contains xs n → ¬ Among n xs

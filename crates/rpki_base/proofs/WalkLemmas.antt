@@ -94,17 +94,17 @@ IsWanted wanted xs ys n =
 -- one turn: the least number x is of the left list alone
 module _ (wanted : Wanted) (x n : ℕ) (xs ys zs : List ℕ) (before : Above x ys) (rest : Among n zs ↔ IsWanted wanted xs ys n) where
   left_turn : Among n (kept_items wanted.left x zs) ↔ IsWanted wanted (x ∷ xs) ys n
-  left_turn  = grind (arith, above_is, kept_is)
+  left_turn = grind (arith, above_is, kept_is)
 
 -- one turn: the least number y is of the right list alone
 module _ (wanted : Wanted) (y n : ℕ) (xs ys zs : List ℕ) (before : Above y xs) (rest : Among n zs ↔ IsWanted wanted xs ys n) where
   right_turn : Among n (kept_items wanted.right y zs) ↔ IsWanted wanted xs (y ∷ ys) n
-  right_turn  = grind (arith, above_is, kept_is)
+  right_turn = grind (arith, above_is, kept_is)
 
 -- one turn: both lists begin with it
 module _ (wanted : Wanted) (x y n : ℕ) (xs ys zs : List ℕ) (same : x ≡ y) (above_left : Above x xs) (above_right : Above y ys) (rest : Among n zs ↔ IsWanted wanted xs ys n) where
   both_turn : Among n (kept_items wanted.both x zs) ↔ IsWanted wanted (x ∷ xs) (y ∷ ys) n
-  both_turn  = grind (arith, above_is, kept_is)
+  both_turn = grind (arith, above_is, kept_is)
 
 -- a walk from x on, where `others` walks over what follows x and a list: it gives the wanted numbers
 module _ (wanted : Wanted) (x : ℕ) (xs : List ℕ) (others : List ℕ → List ℕ) (above : Above x xs) (others_are : (ys : List ℕ) → Rises ys → (n : ℕ) → Among n (others ys) ↔ IsWanted wanted xs ys n) where

@@ -9,7 +9,8 @@ use Rattle.rpki_text.specs.Reading.{Answers}
 abbrev pub IsAsLetters : List ℕ → Type 0
 IsAsLetters letters = (letters ≡ []) ⊎ (str_to_ascii_lowercase letters ≡ codes "as")
 
--- The text is an optional `as` and then a number text of n, which is at most 4294967295 (RFC 5396, 2, asplain; RFC 6793).
+-- The text is an optional `as` and then a number text of n, which is at most 4294967295 (RFC 5396, 2, asplain; RFC
+-- 6793).
 pub record IsAsnText (text : List ℕ) (n : ℕ) : Type 0 where
   pub letters : List ℕ
   pub digits : List ℕ

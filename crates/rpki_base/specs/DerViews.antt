@@ -43,8 +43,8 @@ ReadsTagged tag G old new (Ok None) = (begins_with tag (left old) ≡ false) × 
 ReadsTagged tag G old new (Ok (Some x)) = (begins_with tag (left old) ≡ true) × Front G (left old) x (left new)
 ReadsTagged tag G old new (Err e) = (begins_with tag (left old) ≡ true) × NoFront G (left old) × (new ≡ old)
 
--- A refusal is that of a strict cursor, of octets that aren't canonical, or the cursor stood at no value of the grammar;
--- want of memory says nothing.
+-- A refusal is that of a strict cursor, of octets that aren't canonical, or the cursor stood at no value of the
+-- grammar; want of memory says nothing.
 abbrev pub NotCanonicalOrMemory : {X Y : Type 0} → (List ℕ → Y → Type 0) → Cursor → Result X (OrMemory DerError) → Type 0
 NotCanonicalOrMemory G old (Ok x) = Unit {0}
 NotCanonicalOrMemory G old (Err e) = IfRefused (λ fault. ((is_strict old ≡ true) × (fault ≡ NotCanonical)) ⊎ NoFront G (left old)) e

@@ -88,8 +88,8 @@ fn read_some<R: ReadNext, A: Allocator + Copy>(
     Ok(values)
 }
 
-/// The resources that list the set of the blocks. Blocks that are a chain already are taken as they stand, and others are
-/// joined. `AllocError` where there is no memory for what the set's owners share.
+/// The resources that list the set of the blocks. Blocks that are a chain already are taken as they stand, and others
+/// are joined. `AllocError` where there is no memory for what the set's owners share.
 pub fn make_sets<T: Block, A: Allocator>(
     alloc: A,
     listed: ResourcesChoice<Vec<T, A>>,

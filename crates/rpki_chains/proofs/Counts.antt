@@ -1,4 +1,5 @@
--- How often the blocks of a chain were read: once each by a walk, and by a search that halves once for each binary digit.
+-- How often the blocks of a chain were read: once each by a walk, and by a search that halves once for each binary
+-- digit.
 use Rattle.std.proofs.Common.{add-one, ◌≡◌, ℕ, ◌+◌, ◌-◌, ◌*◌, ◌^◌, ◌<◌, ◌≤◌, ⊎_elim, List, length, Option, Some, None, is_some, if◌then◌else◌, ap, arith}
 use Rattle.std.proofs.Math.Nat.{mul-le-mul_right, pow-le-pow_right, two-pow-succ}
 use Rattle.std.proofs.lemmas.Bool.{cases_lt}

@@ -1,5 +1,5 @@
--- A walk over two lists that asks whether the chain that is the one lies in the other: the block of the other that is held,
--- and the rest behind it.
+-- A walk over two lists that asks whether the chain that is the one lies in the other: the block of the other that is
+-- held, and the rest behind it.
 use Rattle.std.proofs.Common.{◌≡◌, ℕ, ◌+◌, ◌-◌, ◌<◌, ◌≤◌, ⊎_elim, List, [], ◌∷◌, length, drop, get_or, ap, sym, refl, ◌∙◌, subst, arith, Option, Some, None, zero, suc}
 use Rattle.std.proofs.lemmas.Bool.{cases_lt}
 use Rattle.std.proofs.lemmas.List.{get_or_default, length-drop}

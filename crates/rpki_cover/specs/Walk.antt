@@ -1,13 +1,16 @@
--- The cover list of a range of numbers, as a walk from its beginning finds it; proofs/CoverList says that it is that list.
+-- The cover list of a range of numbers, as a walk from its beginning finds it; proofs/CoverList says that it is that
+-- list.
 use Rattle.std.specs.Prelude.{ℕ, zero, suc, ◌+◌, ◌-◌, ◌%◌, ◌^◌, ◌==◌, nat_le, ◌&&◌, List, [], ◌∷◌, if◌then◌else◌, Option, Some, None}
 use Rattle.rpki_addr.specs.Prefixes.{PrefixValue}
 
--- the greatest k up to the first argument for which 2 ^ k divides a and the 2 ^ k numbers from a on end at b or before, or 0
+-- the greatest k up to the first argument for which 2 ^ k divides a and the 2 ^ k numbers from a on end at b or before,
+-- or 0
 abbrev pub free_bits_upto : ℕ → ℕ → ℕ → ℕ
 free_bits_upto zero a b = 0
 free_bits_upto (suc k) a b = (if (a % 2 ^ suc k == 0) && nat_le (a + 2 ^ suc k) (b + 1) then suc k else free_bits_upto k a b)
 
--- the greatest prefix from a on, then the greatest from behind it on, and so forth; at most as many as the first argument says
+-- the greatest prefix from a on, then the greatest from behind it on, and so forth; at most as many as the first
+-- argument says
 abbrev pub cover_list_upto : ℕ → ℕ → ℕ → ℕ → List PrefixValue
 cover_list_upto zero w a b = []
 cover_list_upto (suc n) w a b =

@@ -60,8 +60,8 @@ AreClaims certificate asn v4 v6 =
     × IsNumbersClaim certificate.encoding (octets_of_numbers certificate) asn
     × AreAddressClaims certificate.encoding (octets_of_addresses certificate) (v4, v6)
 
--- for the reason there are no claims: neither extension is there, or the AS identifiers are none, or else the IP address
--- blocks
+-- for the reason there are no claims: neither extension is there, or the AS identifiers are none, or else the IP
+-- address blocks
 abbrev pub AreNoClaims : {A : Type 0} → Extensions → Unverified A → Type 0
 AreNoClaims certificate Absent = AreAbsent certificate
 AreNoClaims certificate (AsOctets fault) = HasNumbersFault certificate.encoding (octets_of_numbers certificate) fault

@@ -2,8 +2,8 @@
 //! what an issuer has, followed down a path from a trust anchor, and written. Either extension may be absent; a
 //! certificate with neither is refused.
 //!
-//! The octets of both go to `verified_octets`, with how they are read (`Encoding`) and what becomes of a claim that lists
-//! too much (`Overclaim`), as in the program `example_verified_set`:
+//! The octets of both go to `verified_octets`, with how they are read (`Encoding`) and what becomes of a claim that
+//! lists too much (`Overclaim`), as in the program `example_verified_set`:
 //!
 //! ```rust
 //! let certificate = Extensions {

@@ -38,9 +38,9 @@ pub fn verified_path<A: Allocator + Copy>(
     Ok(issuer)
 }
 
-/// What the certificates on a path leave of what a trust anchor lists: each is verified by what the ones before it leave,
-/// the first by the anchor's set. `Refused` with the reason for which the anchor lists no set, or else with the first
-/// certificate that isn't verified; `Memory` where there is no memory for a set on the way.
+/// What the certificates on a path leave of what a trust anchor lists: each is verified by what the ones before it
+/// leave, the first by the anchor's set. `Refused` with the reason for which the anchor lists no set, or else with the
+/// first certificate that isn't verified; `Memory` where there is no memory for a set on the way.
 pub fn verified_below<A: Allocator + Copy>(
     alloc: A,
     anchor: &Extensions<'_>,

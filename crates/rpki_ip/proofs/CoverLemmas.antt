@@ -13,7 +13,8 @@ pub range_of : (w a b x y : ℕ) (ps : List PrefixValue) → x ≡ a → y ≡ b
 range_of w a b x y ps e f k =
     subst (λ t. IsShortestCover w (IsWithin (t, b)) ps) e (subst (λ t. IsShortestCover w (IsWithin (x, t)) ps) f k)
 
--- 96 bits behind the first number of a prefix of IPv4 addresses lose none, and clearing the bits behind its length changes nothing
+-- 96 bits behind the first number of a prefix of IPv4 addresses lose none, and clearing the bits behind its length
+-- changes nothing
 pub widened_first : (p : PrefixValue) → IsPrefix 32 p → cleared 128 (p.first * 2 ^ 96 % 2 ^ 128) p.len ≡ p.first * 2 ^ 96
 widened_first p is =
     let small : p.first * 2 ^ 96 % 2 ^ 128 ≡ p.first * 2 ^ 96 = omega (arith, is.below) in

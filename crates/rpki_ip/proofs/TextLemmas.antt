@@ -22,7 +22,8 @@ use Rattle.rpki_ip.specs.declared.error.FromStrError.{FromStrError}
 use Rattle.rpki_ip.specs.declared.error.FromStrError.TheVariants as Fault
 use Rattle.rpki_base.specs.declared.family.AddressFamily.{AddressFamily}
 
--- A stage of a reader finds something, of which the rest speaks, or it has a fault of its own. Where both are one at most, so are the values and faults of the whole.
+-- A stage of a reader finds something, of which the rest speaks, or it has a fault of its own. Where both are one at
+-- most, so are the values and faults of the whole.
 module _ {S X : Type 0} (At : S → Type 0) (None : FromStrError → Type 0) (same : (s t : S) → At s → At t → s ≡ t) (apart : (s : S) (e : FromStrError) → At s → None e → ⊥) (one_none : (d e : FromStrError) → None d → None e → d ≡ e) (Has : S → X → Type 0) (Fails : S → FromStrError → Type 0) (one : (s : S) (r q : Result X FromStrError) → MatchResult r (Has s) (Fails s) → MatchResult q (Has s) (Fails s) → r ≡ q) where
   pub stage_one : (r q : Result X FromStrError) → MatchResult r (λ x. (s : S) × At s × Has s x) (λ e. None e ⊎ ((s : S) × At s × Fails s e)) → MatchResult q (λ x. (s : S) × At s × Has s x) (λ e. None e ⊎ ((s : S) × At s × Fails s e)) → r ≡ q
   stage_one (Ok x) (Ok y) (s, at, h) (t, here, k) = one t (Ok x) (Ok y) (subst (λ z. Has z x) (same s t at here) h) k

@@ -1,4 +1,5 @@
--- The reading finds the blocks of the grammar, whatever follows them, and no others: what readers of lists are told of it.
+-- The reading finds the blocks of the grammar, whatever follows them, and no others: what readers of lists are told of
+-- it.
 use Rattle.std.proofs.Common.{◌≡◌, ℕ, ◌<◌, List, length, refl, sym, subst, arith, inl, inr}
 use Rattle.rpki_der.specs.Der.{IsBytes, IsTlv, IsValue, Refines, Tlv, bit_content}
 use Rattle.rpki_der.specs.Reading.{IsReading}

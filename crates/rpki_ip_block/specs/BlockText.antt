@@ -8,7 +8,8 @@ use Rattle.rpki_base.specs.declared.family.AddressFamily.{AddressFamily}
 use Rattle.rpki_ip_block.specs.declared.block.IpBlock.{IpBlock}
 use Rattle.rpki_ip_block.specs.declared.block.IpBlock.TheVariants.{Prefix, Range}
 
--- The text writes the block: a prefix round its first slash; with no slash, a range round its first dash; with neither, one address.
+-- The text writes the block: a prefix round its first slash; with no slash, a range round its first dash; with neither,
+-- one address.
 abbrev pub IsIpBlockText : Option AddressFamily → List ℕ → IpBlock → Type 0
 IsIpBlockText wanted text (Prefix p) = IsIpPrefixText wanted text p
 IsIpBlockText wanted text (Range r) = HasNo slash text × (IsRangeText wanted text r ⊎ (HasNo dash text × IsSingleText wanted text r))

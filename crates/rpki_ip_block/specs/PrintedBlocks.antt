@@ -33,7 +33,8 @@ abbrev pub IsBlockOf : AddressFamily → IpBlock → Type 0
 IsBlockOf Ipv4 b = IsBlock b × HasWholeBounds (ip_bounds b)
 IsBlockOf Ipv6 b = IsBlock b
 
--- The text is read as the block of either family that it writes, or as the fault that it has. What is printed of a block of a family is read as a block with its bounds.
+-- The text is read as the block of either family that it writes, or as the fault that it has. What is printed of a
+-- block of a family is read as a block with its bounds.
 pub record ReadsIpBlock (text : List ℕ) (r : Result IpBlock FromStrError) : Type 0 where
   pub exact : Answers (IsIpBlockText None text) (HasIpBlockFault None text) r
   pub reads_back : (family : AddressFamily) (block : IpBlock) → IsBlockOf family block → text ≡ ip_block_text family block → MatchResult r (λ read. ip_bounds read ≡ ip_bounds block) (λ _. ⊥)

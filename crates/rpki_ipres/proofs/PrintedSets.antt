@@ -1,5 +1,5 @@
--- What is printed of a set is a list text with that set, a list text has one set at most, and so sets of the same addresses
--- alone print alike.
+-- What is printed of a set is a list text with that set, a list text has one set at most, and so sets of the same
+-- addresses alone print alike.
 use Rattle.std.proofs.Common.{◌≡◌, ℕ, ◌↔◌, List, map, refl, sym, ap, ◌∙◌, subst}
 use Rattle.rpki_chain.specs.Runs.{Runs, Holds, IsRunsOfBlocks}
 use Rattle.rpki_chains.specs.Sets.{Covers}

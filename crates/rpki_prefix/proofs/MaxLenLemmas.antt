@@ -1,4 +1,5 @@
--- A text writes one prefix with a greatest length or without, or has one fault; and what is printed writes what it was printed of.
+-- A text writes one prefix with a greatest length or without, or has one fault; and what is printed writes what it was
+-- printed of.
 use Rattle.std.proofs.Common.{◌≡◌, ℕ, ◌-◌, ◌^◌, ◌≢◌, inl, inr, List, [], ◌∷◌, ◌++◌, decimal, Option, Some, None, Result, MatchResult, All, refl, sym, ap, subst, arith, append-nil}
 use Rattle.std.specs.List.{AllByRecursion}
 use Rattle.std.specs.Str.Parse.{AllDigits}

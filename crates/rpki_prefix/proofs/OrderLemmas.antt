@@ -1,4 +1,5 @@
--- The orders of prefixes, without and with greatest lengths, are total, and what stands at one place in them is the same.
+-- The orders of prefixes, without and with greatest lengths, are total, and what stands at one place in them is the
+-- same.
 use Rattle.std.proofs.Common.{rules, ◌≡◌, ◌↔◌, ℕ, Bool, true, false, ◌&&◌, eqb, Option, Some, None, refl, sym, ap, ap₂, ◌∙◌}
 use Rattle.std.proofs.lemmas.Bool.{and_parts, eqb-true}
 use Rattle.std.proofs.lemmas.Cmp.{tied_itself}

@@ -84,7 +84,8 @@ max_text (Some n) = dash ∷ decimal n
 abbrev pub max_len_text : MaxLenValue → List ℕ
 max_len_text m = prefix_text m.prefix ++ max_text m.max_len
 
--- The text is read exactly where it writes a prefix with a greatest length or without, else as its first fault; what is printed is read back.
+-- The text is read exactly where it writes a prefix with a greatest length or without, else as its first fault; what is
+-- printed is read back.
 pub record ReadsMaxLen (text : List ℕ) (r : Result MaxLenValue ParseMaxLenPrefixError) : Type 0 where
   pub exact : Answers (IsMaxLenText text) (HasMaxLenTextFault text) r
   pub reads_back : (m : MaxLenValue) → IsMaxLenPrefix m → text ≡ max_len_text m → r ≡ Ok m

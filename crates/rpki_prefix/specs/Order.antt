@@ -1,4 +1,5 @@
--- The order of prefixes, as in the Rust crate `rpki` 0.20.1: by family, by last address, and a longer prefix before a shorter one.
+-- The order of prefixes, as in the Rust crate `rpki` 0.20.1: by family, by last address, and a longer prefix before a
+-- shorter one.
 use Rattle.std.specs.Prelude.{ℕ}
 use Rattle.std.specs.declared.cmp.Ordering.{Ordering}
 use Rattle.std.specs.Ordering.{on, then_cmp, flip_args, bool_cmp, nat_cmp}

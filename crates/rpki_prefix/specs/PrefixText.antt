@@ -63,7 +63,8 @@ HasRelaxedPrefixTextFault = HasTextFaultBy HasRelaxedPrefixError
 abbrev pub prefix_text : FamilyPrefix → List ℕ
 prefix_text p = ip_text p.addr ++ slash ∷ decimal p.len
 
--- The text is read as a prefix exactly where it writes one, else as its first fault; what is printed of a prefix is read as that prefix.
+-- The text is read as a prefix exactly where it writes one, else as its first fault; what is printed of a prefix is
+-- read as that prefix.
 pub record ReadsPrefix (text : List ℕ) (r : Result FamilyPrefix ParsePrefixError) : Type 0 where
   pub exact : Answers (IsPrefixText text) (HasPrefixTextFault text) r
   pub reads_back : (p : FamilyPrefix) → IsFamilyPrefix p → text ≡ prefix_text p → r ≡ Ok p

@@ -163,8 +163,8 @@ impl PartialOrd for MaxLenPrefix {
 
 /// Reads a prefix, or a prefix, a dash and a greatest length, as in `10.0.0.0/8-24`.
 ///
-/// The text is cut at its first dash. The greatest length is a decimal text of a `u8`, as [`parse_u8`] reads it. Refused
-/// with the first fault: that of the prefix, that of the number, and that of [`MaxLenPrefix::new`].
+/// The text is cut at its first dash. The greatest length is a decimal text of a `u8`, as [`parse_u8`] reads it.
+/// Refused with the first fault: that of the prefix, that of the number, and that of [`MaxLenPrefix::new`].
 impl FromStr for MaxLenPrefix {
     type Err = ParseMaxLenPrefixError;
 

@@ -1,4 +1,5 @@
--- Texts of sets of the three kinds, and of what differs between two of them, as the Rust crate `rpki` 0.20.1 prints them.
+-- Texts of sets of the three kinds, and of what differs between two of them, as the Rust crate `rpki` 0.20.1 prints
+-- them.
 use Rattle.std.specs.Prelude.{ℕ, List, [], ◌++◌, codes, if◌then◌else◌}
 use Rattle.rpki_as.specs.ListText.{IsAsListText, as_list_text}
 use Rattle.rpki_chain.specs.Runs.{Runs}

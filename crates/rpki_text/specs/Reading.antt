@@ -3,8 +3,8 @@ use Rattle.std.specs.Prelude.{◌≡◌, Result, Ok, Err, MatchResult}
 use Rattle.rpki_text.specs.Memory.{IsMemory, IfRefused}
 use Rattle.rpki_text.specs.declared.memory.OrMemory.{OrMemory}
 
--- What is answered is a value that the text has, or a fault that it has; each value that it has is the answer, and so is each fault.
--- So a text has one value or one fault at most, and the answer is decided wherever it has one.
+-- What is answered is a value that the text has, or a fault that it has; each value that it has is the answer, and so
+-- is each fault. So a text has one value or one fault at most, and the answer is decided wherever it has one.
 pub record Answers {A E : Type 0} (Has : A → Type 0) (Fails : E → Type 0) (r : Result A E) : Type 0 where
   pub found : MatchResult r Has Fails
   pub each_value : (a : A) → Has a → r ≡ Ok a

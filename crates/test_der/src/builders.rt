@@ -93,8 +93,8 @@ fn builds_addresses<A: Allocator + Copy>(
     }
 }
 
-/// Addresses are listed in the place of resources that were inherited, in two calls. Of one that is refused memory, what
-/// was pushed before stays.
+/// Addresses are listed in the place of resources that were inherited, in two calls. Of one that is refused memory,
+/// what was pushed before stays.
 fn lists_addresses<A: Allocator + Copy>(alloc: A) -> Result<bool, AllocError> {
     let mut builder = IpResourcesBuilder::new(alloc);
     builder.inherit();

@@ -1,5 +1,5 @@
-//! Readers and writers of std over those devices. Of a failed call they tell that it may be tried again, which nothing here
-//! does: a call behind one that failed is counted, so that a test sees it, and fails.
+//! Readers and writers of std over those devices. Of a failed call they tell that it may be tried again, which nothing
+//! here does: a call behind one that failed is counted, so that a test sees it, and fails.
 use crate::slices::{SliceSink, SliceSource};
 use lines_engine::device::{Sink, Source};
 use std::io;

@@ -34,7 +34,8 @@ pub fn all_print<A: Allocator + Copy, T: fmt::Display>(
     Ok(true)
 }
 
-/// Whether a run is out of memory wherever one of its requests is refused, and true where none is. It makes one at least.
+/// Whether a run is out of memory wherever one of its requests is refused, and true where none is. It makes one at
+/// least.
 pub fn holds_where_refused<F: Fn(&Refusing) -> Result<bool, AllocError>>(
     alloc: Global,
     run: F,

@@ -1,4 +1,5 @@
--- The last payload whose AS number isn't below the route's is the one to ask: what ranks no higher allows no longer route of its AS.
+-- The last payload whose AS number isn't below the route's is the one to ask: what ranks no higher allows no longer
+-- route of its AS.
 use Rattle.std.proofs.Common.{rules, arith, ◌≡◌, ◌≤◌, ◌<◌, ◌-◌, ℕ, true, false, leb, sym, ◌∙◌, get_or, inl, inr, List, length, subst}
 use Rattle.std.proofs.lemmas.Bool.{cases_lt, leb-true, le-leb, ltb-true}
 use Rattle.std.proofs.lemmas.List.{get_or_default}

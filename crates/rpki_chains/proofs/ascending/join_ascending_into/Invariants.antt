@@ -1,5 +1,5 @@
--- The runs closed and the run at hand hold what the blocks passed cover. Where the blocks ascend, those to come begin no
--- earlier than the run.
+-- The runs closed and the run at hand hold what the blocks passed cover. Where the blocks ascend, those to come begin
+-- no earlier than the run.
 use Rattle.std.proofs.Common.{ℕ, ◌<◌, ◌≤◌, ◌↔◌, take, length, get_or}
 use Rattle.std.specs.List.Sorted.{IsNonDecreasingBy}
 use Rattle.rpki_chains.specs.Joining.{IsHeld, IsBehind}

@@ -1,5 +1,5 @@
--- Each value is taken, and each that encloses it ends behind it; what a strict cursor gave is the runs of its set as they
--- stand.
+-- Each value is taken, and each that encloses it ends behind it; what a strict cursor gave is the runs of its set as
+-- they stand.
 use Rattle.std.proofs.Common.{◌∙◌, refl, sym}
 use Rattle.rpki_chains.specs.Sets.{IsChain}
 use Rattle.rpki_chain.proofs.Ascending.{listed_are}

@@ -2,9 +2,10 @@
 """Shows that the tests can fail: in a copy of the repository one thing is made wrong, and the test has to say which.
 
 A case is a file, a text that stands there once or first, what is put in its place, the test, and what that has to print
-when it ends with status 1. A case whose text isn't there fails. The copies have the first rows alone, so that it is
-quick, and nothing outside a temporary folder is written. What needs a program or a library that isn't built is left out
-by name. `check` is tried beside parts and a prover that only say that they ran. Status 1 where a test says nothing.
+when it ends with status 1. A case whose text isn't there fails. The copies have the first rows and claims alone, so
+that it is quick, and nothing outside a temporary folder is written. What needs a program or a library that isn't built
+is left out by name. `check` is tried beside parts that only fail or don't, and a prover that only says what it is told.
+Status 1 where a test says nothing.
 """
 
 import os
@@ -26,7 +27,7 @@ LIBRARY = Path("crates", "pigyelund_c", "out", "libpigyelund_c.a")
 # How many of the first lines of a file a copy has.
 PROGRAMS = "rows_values", "rows_sets", "rows_claims", "rows_calls"
 KEPT = {f"crates/{name}/{file}": 6 for name in PROGRAMS for file in ("stdin", "stdout")}
-KEPT |= {"foreign/rows.txt": 14, "docs/PROVED.md": 69}
+KEPT |= {"foreign/rows.txt": 14}
 # The tests that need what is built, and how each is asked then.
 OF_C, OF_PYTHON = "foreign/c/test.c", "foreign/python/test.py"
 BUILT = {
@@ -141,6 +142,8 @@ def make_first(copy: Path, is_foreign: bool) -> None:
     for name, count in KEPT.items():
         lines = (copy / name).read_bytes().splitlines(keepends=True)
         (copy / name).write_bytes(b"".join(lines[:count]))
+    page = copy / "docs" / "PROVED.md"
+    page.write_text(page.read_text().partition("\n## `respath_lines`")[0])
     # Its words would be words that are there.
     (copy / "tests" / "of_tests.py").write_text("")
     # A thousand payloads take the reference seconds.

@@ -1,5 +1,5 @@
 -- The payloads that cover a route, among the first of a table.
-use Rattle.std.proofs.Common.{◌≡◌, ◌⊎◌, ℕ, zero, suc, ◌+◌, ◌-◌, ◌^◌, ◌<◌, ◌≤◌, Bool, true, false, cond, inl, inr, None, List, [], ◌∷◌, ◌++◌, reverse, take, length, get_or, refl, arith, sym, ◌∙◌, ap}
+use Rattle.std.proofs.Common.{◌≡◌, ◌⊎◌, ℕ, zero, suc, ◌+◌, ◌-◌, ◌<◌, ◌≤◌, Bool, true, false, cond, inl, inr, None, List, [], ◌∷◌, ◌++◌, reverse, take, length, get_or, refl, arith, sym, ◌∙◌, ap}
 use Rattle.std.proofs.lemmas.Bool.{cases_lt, and_parts, eqb-true, eq-eqb, leb-true, le-leb}
 use Rattle.std.proofs.lemmas.List.{get_or_default, take_all, reverse-append, reverse-reverse}
 use Rattle.std.proofs.lemmas.List.Elements.{All-filter, filter_more, filter_passes}

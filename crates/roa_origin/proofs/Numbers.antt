@@ -1,5 +1,5 @@
 -- A prefix covers another, told by the numbers of both.
-use Rattle.std.proofs.Common.{◌≡◌, ◌↔◌, Bool, true, false, ℕ, ◌+◌, ◌-◌, ◌^◌, ◌<◌, ◌≤◌, arith, refl, sym, ap, subst}
+use Rattle.std.proofs.Common.{◌≡◌, ◌↔◌, Bool, true, false, ℕ, ◌+◌, ◌-◌, ◌^◌, ◌<◌, ◌≤◌, arith, refl}
 use Rattle.std.proofs.lemmas.Nat.{pow_pos}
 use Rattle.rpki_addr.specs.Prefixes.{PrefixValue, IsPrefix, IsIn, LiesIn}
 use Rattle.rpki_prefix.proofs.Covering.{round_covers}

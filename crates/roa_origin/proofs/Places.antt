@@ -1,5 +1,5 @@
 -- What the numbers of a table's order say: a place tells the prefix, a rank the AS number and the greatest length.
-use Rattle.std.proofs.Common.{◌≡◌, ℕ, ◌+◌, ◌-◌, ◌*◌, ◌^◌, ◌<◌, ◌≤◌, None, Some, Option, List, length, get_or, All, arith, inl, inr, ap, sym, ◌∙◌, true, false, refl}
+use Rattle.std.proofs.Common.{◌≡◌, ℕ, ◌+◌, ◌-◌, ◌*◌, ◌^◌, ◌<◌, ◌≤◌, None, Some, Option, List, get_or, All, arith, inl, inr, ap, sym, true, false, refl}
 use Rattle.std.proofs.lemmas.Bool.{cases_lt}
 use Rattle.std.proofs.lemmas.Nat.{pow_pos, pow_below}
 use Rattle.std.specs.List.Sorted.{IsNonDecreasingBy}

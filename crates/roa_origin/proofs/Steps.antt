@@ -7,7 +7,7 @@ use Rattle.roa_origin.proofs.Groups.{group, matched_in, none_in}
 use Rattle.roa_origin.proofs.Scans.{Tells, covered, passed}
 use Rattle.roa_origin.proofs.Walks.{has_prefix, seen_or_free}
 use Rattle.roa_origin.specs.Links.{AreUpTo, IsGroup, IsInOrder, IsLink}
-use Rattle.roa_origin.specs.Payloads.{CoversRoute, Matches, Payload}
+use Rattle.roa_origin.specs.Payloads.{CoversRoute, Payload}
 use Rattle.roa_origin.specs.Validities.{IsMatched}
 use Rattle.roa_origin.specs.declared.links.Link.{Link}
 use Rattle.roa_origin.specs.declared.validation.Validity.{Validity}

@@ -1,5 +1,5 @@
 -- Digits at the front of a text, as std's readers take them.
-use Rattle.std.proofs.Common.{◌≡◌, ◌≢◌, ℕ, ◌+◌, ◌*◌, ◌^◌, ◌<◌, ◌≤◌, ◌==◌, ◌&&◌, ◌-◌, length-drop, nat_lt, nat_le, true, false, List, [], ◌∷◌, ◌++◌, length, get_or, take, drop, Some, None, option_and_then, option_map, Bool, cond, subst, append-nil, append_assoc, decimal, refl, sym, ap, ◌∙◌, arith, lit≤, inl, inr, ne_eqb, eq-eqb, true≢false, le-ltb, lt-ltb, drop_at}
+use Rattle.std.proofs.Common.{◌≡◌, ◌≢◌, ℕ, ◌+◌, ◌*◌, ◌^◌, ◌<◌, ◌≤◌, ◌==◌, ◌&&◌, ◌-◌, length-drop, nat_lt, nat_le, false, List, [], ◌∷◌, ◌++◌, length, get_or, take, drop, Some, None, option_and_then, option_map, Bool, cond, subst, append-nil, append_assoc, decimal, refl, sym, ap, ◌∙◌, arith, lit≤, inl, inr, ne_eqb, eq-eqb, true≢false, le-ltb, drop_at}
 use Rattle.std.proofs.lemmas.Bool.{cases_eq}
 use Rattle.std.proofs.lemmas.Option.{none-some, same_Some}
 use Rattle.std.proofs.lemmas.Bool.Decides.{nat_tests}

@@ -1,8 +1,8 @@
 -- What is printed of an IPv6 address is the one text that its groups ask for.
-use Rattle.std.proofs.Common.{◌≡◌, ℕ, zero, suc, ◌+◌, ◌/◌, ◌%◌, ◌^◌, ◌<◌, ◌≤◌, inl, inr, Bool, true, false, cond, List, [], ◌∷◌, ◌++◌, length, map, flat_map, take, drop, replicate, codes, arith, refl, sym, ap, ap₂, ◌∙◌, subst, lit<, add-one, one-add, zero-add, suc-add, length-take-le, le-leb, lt-ltb, le-ltb, eq-eqb, ne_eqb}
+use Rattle.std.proofs.Common.{◌≡◌, ℕ, zero, suc, ◌+◌, ◌%◌, ◌^◌, ◌<◌, ◌≤◌, inl, inr, Bool, true, false, cond, List, [], ◌∷◌, ◌++◌, length, map, flat_map, take, drop, replicate, codes, arith, refl, sym, ap, ap₂, ◌∙◌, lit<, add-one, one-add, zero-add, suc-add, length-take-le, le-leb, lt-ltb, le-ltb, eq-eqb, ne_eqb}
 use Rattle.std.specs.Bool.{Decides}
 use Rattle.std.specs.Prelude.{bytes_eq}
-use Rattle.std.specs.Int.Digits.{AllBelowBase, number_from_digits}
+use Rattle.std.specs.Int.Digits.{AllBelowBase}
 use Rattle.std.specs.Net.Addr.{octets_of as std_octets_of}
 use Rattle.std.specs.Net.Text as std
 use Rattle.std.specs.Net.Text.{hex, hex_groups_text, zero_run, longest_zero_run, ipv6_text as std_ipv6_text}

@@ -1,5 +1,5 @@
 -- Where a range of AS numbers is reversed, and that no fault of lists is one of a block.
-use Rattle.std.proofs.Common.{◌≡◌, ℕ, ◌<◌, ◌↔◌, Bool, true, is_ok, ap, ltb, List, Result, Ok, Err, refl, arith}
+use Rattle.std.proofs.Common.{◌≡◌, ℕ, ◌<◌, ◌↔◌, true, is_ok, ap, ltb, List, Result, Ok, Err, refl, arith}
 use Rattle.std.proofs.lemmas.Bool.{lt-ltb, ltb-true}
 use Rattle.rpki_chains.specs.Ranges.{RangeValue}
 use Rattle.rpki_der.specs.declared.error.DerError.{DerError}

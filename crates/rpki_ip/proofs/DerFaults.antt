@@ -1,18 +1,15 @@
 -- Where a range of addresses is reversed, and which faults families, prefixes and ranges have.
-use Rattle.std.proofs.Common.{◌≡◌, ℕ, ◌/◌, ◌*◌, ◌-◌, ◌^◌, ◌<◌, ◌↔◌, ◌||◌, ltb, List, length, Result, Ok, Err, refl, arith, ◌&&◌, Bool, true, is_ok, ap, cond, eqb, get_or}
+use Rattle.std.proofs.Common.{◌≡◌, ℕ, ◌/◌, ◌*◌, ◌-◌, ◌^◌, ◌<◌, ◌↔◌, ◌||◌, ltb, List, length, Result, Ok, Err, refl, arith, true, is_ok}
 use Rattle.std.proofs.lemmas.Bool.{lt-ltb, ltb-true}
 use Rattle.rpki_addr.specs.Prefixes.{PrefixValue, last_of}
 use Rattle.rpki_der.specs.declared.error.DerError.{DerError}
-use Rattle.rpki_der.specs.declared.error.DerError.TheVariants.{BadPrefix, ReversedRange, BadFamily, NotCanonical}
+use Rattle.rpki_der.specs.declared.error.DerError.TheVariants.{BadPrefix, ReversedRange, NotCanonical}
 use Rattle.rpki_der.specs.Der.{Bits, big_endian, bit_count}
 use Rattle.rpki_der.specs.Reading.{◌>>=◌, bits, is_padded, passing, refined, tagged_at}
 use Rattle.rpki_base.specs.DerFaults.{BeginsWithTwo}
 use Rattle.rpki_der.proofs.Steps.{ok_or_err}
 use Rattle.rpki_base.proofs.DerFaults.{NamesTo, begins_two, bind_names, bits_names, cond_fails, cond_names, names_more, not_named, pair_fails, pair_names, refined_names, tagged_names, bind_fails, first_fails}
 use Rattle.rpki_ip.specs.PrefixDer.{prefix_at, prefix_in, prefix_of, prefix_by, prefix_in_by, prefix_of_by}
-use Rattle.rpki_base.specs.declared.family.AddressFamily.{AddressFamily}
-use Rattle.rpki_base.specs.declared.family.AddressFamily.TheVariants.{Ipv4, Ipv6}
-use Rattle.rpki_base.specs.FamilyDer.{family_at, family_of_octets}
 use Rattle.rpki_ip.specs.RangeDer.{range_in, span_of}
 use Rattle.rpki_ip.specs.Ranges.{RangeValue}
 

@@ -10,8 +10,8 @@ use Rattle.rpki_addr.specs.Prefixes.{PrefixValue, IsPrefix}
 use Rattle.rpki_cover.proofs.Multiples.{IsMultiple, mod_multiple, multiple_gap, multiple_mod, multiple_self, multiple_smaller, multiple_sum}
 use Rattle.rpki_der.specs.declared.cursor.Cursor.{Cursor}
 use Rattle.rpki_der.specs.declared.error.DerError.{DerError}
-use Rattle.rpki_der.specs.declared.error.DerError.TheVariants.{BadPrefix, BadBitString, NotCanonical}
-use Rattle.rpki_der.specs.Der.{Bits, IsBitContent, IsBitString, IsBits, IsBytes, IsPadded, Refines, Spells, Where, big_endian, big_endian_after, bit_content, bit_string_value, last_octet, bit_count}
+use Rattle.rpki_der.specs.declared.error.DerError.TheVariants.{BadPrefix}
+use Rattle.rpki_der.specs.Der.{Bits, IsBitString, IsBits, IsBytes, IsPadded, Refines, Spells, Where, big_endian, big_endian_after, bit_content, bit_string_value, last_octet}
 use Rattle.rpki_der.specs.Reading.{◌>>=◌, IsModal, IsReading, Tightens, bits, bits_by, is_padded, passing, tagged_at}
 use Rattle.rpki_der.specs.Views.{Takes, is_strict, left}
 use Rattle.rpki_der.proofs.Contents.{bits_check}

@@ -1,13 +1,11 @@
 -- A text writes one prefix, or has one fault; and what is printed of a prefix writes it.
-use Rattle.std.proofs.Common.{◌≡◌, ℕ, ◌-◌, ◌^◌, ◌≤◌, ◌<◌, inl, inr, List, [], decimal, Result, Err, MatchResult, refl, sym, ap, ◌∙◌, subst, arith}
+use Rattle.std.proofs.Common.{◌≡◌, ℕ, ◌-◌, ◌^◌, ◌<◌, inl, inr, List, [], Result, Err, MatchResult, refl, sym, ap, ◌∙◌, subst, arith}
 use Rattle.rpki_addr.specs.AddressText.{IsIpText}
 use Rattle.rpki_text.specs.Cuts.{HasNo, Around, slash}
 use Rattle.rpki_text.specs.Numbers.{IsNumberText, HasNumberFault}
-use Rattle.rpki_addr.specs.PrintedAddress.{ip_text}
 use Rattle.rpki_text.specs.Reading.{Answers}
 use Rattle.rpki_addr.specs.ReadsAddress.{IsAddress}
 use Rattle.rpki_addr.specs.declared.addr.IpAddr.{IpAddr}
-use Rattle.rpki_addr.specs.declared.addr.IpAddr.TheVariants.{V4, V6}
 use Rattle.rpki_text.specs.declared.number.ParseIntError.{ParseIntError}
 use Rattle.rpki_addr.proofs.AddressBytes.{ip_bytes, no_slash}
 use Rattle.rpki_addr.proofs.AddressReads.{IsIpText-one, IsIpText-ip_text}
@@ -21,7 +19,6 @@ use Rattle.rpki_prefix.specs.Values.{FamilyPrefix, IsFamilyPrefix, IsPrefixOf, I
 use Rattle.rpki_prefix.specs.declared.error.ParsePrefixError.{ParsePrefixError}
 use Rattle.rpki_prefix.specs.declared.error.ParsePrefixError.TheVariants.{Empty, MissingLen, InvalidAddr, InvalidLen, InvalidPrefix}
 use Rattle.rpki_prefix.specs.declared.error.PrefixError.{PrefixError}
-use Rattle.rpki_prefix.specs.declared.error.PrefixError.TheVariants.{LenOverflow, NonZeroHost}
 
 -- a number text has no fault, and any other has one
 pub number_apart : (text : List ℕ) (n : ℕ) (f : ParseIntError) → IsNumberText (2 ^ 8 - 1) text n → HasNumberFault (2 ^ 8 - 1) text f → ⊥

@@ -1,5 +1,5 @@
 -- Each payload gets its link.
-use Rattle.std.proofs.Common.{arith, ◌≡◌, ◌+◌, List, [], ◌∷◌, sym, ◌∙◌, ap, subst, length-append}
+use Rattle.std.proofs.Common.{◌+◌, List, [], ◌∷◌, sym, ◌∙◌, ap, subst, length-append}
 use Rattle.roa_origin.specs.Links.{AreLinks}
 use Rattle.roa_origin.specs.declared.links.Link.{Link}
 use Rattle.roa_origin.proofs.Walks.{linked_more}

@@ -2,7 +2,7 @@
 use Rattle.std.proofs.Common.{arith, ◌≡◌, ◌≤◌, ◌<◌, ◌-◌, true, false, refl, sym, ◌∙◌, ap, length, get_or, subst}
 use Rattle.std.proofs.lemmas.List.{get_or_default}
 use Rattle.rpki_prefix.specs.Values.{CoversPrefix, FamilyPrefix, IsFamilyPrefix}
-use Rattle.roa_origin.specs.Links.{IsLink, NoneCovers}
+use Rattle.roa_origin.specs.Links.{NoneCovers}
 use Rattle.roa_origin.specs.Payloads.{Payload}
 use Rattle.roa_origin.specs.Places.{payload_place}
 use Rattle.roa_origin.proofs.Walks.{link_again, link_new, prefix_of}

@@ -1,5 +1,5 @@
 -- The numbers tell whether the one prefix lies in the other.
-use Rattle.std.proofs.Common.{rules, ◌≡◌, ◌≤◌, ◌<◌, ◌+◌, ◌-◌, ◌^◌, true, false, leb, sym, ◌∙◌}
+use Rattle.std.proofs.Common.{rules, ◌≡◌, ◌+◌, ◌-◌, ◌^◌, true, false, sym, ◌∙◌}
 use Rattle.std.proofs.lemmas.Bool.{leb-true, le-leb}
 use Rattle.rpki_prefix.specs.Values.{is_v6, width}
 use Rattle.roa_origin.specs.Entries.{addr_of}

@@ -1,5 +1,5 @@
 -- Prefixes are the same where their places tie.
-use Rattle.std.proofs.Common.{◌≡◌, is_eq, nat_cmp, sym, ap, ◌∙◌}
+use Rattle.std.proofs.Common.{is_eq, nat_cmp, sym, ap, ◌∙◌}
 use Rattle.roa_origin.specs.Payloads.{Payload}
 use Rattle.roa_origin.specs.Places.{payload_place, place}
 use Rattle.roa_origin.proofs.Orders.{nat_same}

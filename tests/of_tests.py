@@ -199,12 +199,12 @@ def of_check(folder: Path) -> Iterator[tuple[str, str | None]]:
     """What `check` says beside parts that say nothing: each is named, and counted where it fails."""
     listed = re.search(r"\nfor test in (.*?); do\n", (TOP / "check").read_text(), re.DOTALL)
     parts = listed[1].replace("\\\n", " ").split() if listed else []
-    (folder / "tests").mkdir(parents=True)
-    (folder / "bin").mkdir()
+    folder.mkdir()
     shutil.copy(TOP / "check", folder)
-    fakes = {f"tests/{Path(it).name}": PART for it in (*parts, ROWS) if it != "reference"}
+    fakes = {it: PART for it in (*parts, f"tests/{Path(ROWS).name}") if it != "reference"}
     fakes |= {"respath": '#!/bin/sh\nexit "${NOTED-0}"\n', "bin/rt": '#!/bin/sh\necho "$TOTAL"\nexit "${PROVED-0}"\n'}
     for name, text in fakes.items():
+        (folder / name).parent.mkdir(exist_ok=True)
         (folder / name).write_text(text)
         (folder / name).chmod(0o755)
     one, many = "places.py", " ".join([*(Path(it).name for it in parts), "rows.py"])

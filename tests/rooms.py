@@ -33,7 +33,7 @@ ROOMS = (
     Room("addresses, prefixes", ("rpki_addr", "rpki_cover", "rpki_prefix"), 5),
     Room("sets of addresses", ("rpki_ip", "rpki_ip_block", "rpki_ipres", "rpki_family"), 4),
     Room("all kinds, certificates", ("rpki_resources", "rpki_extensions"), 1),
-    Room("origins of routes", ("roa_*", "rtr_*", "payload_*", "origin_*", "origins*"), 6),
+    Room("origins of routes", ("roa_*", "payload_*", "origin_*", "origins*"), 6),
     Room("lines, respath", ("respath*", "lines_*"), 3, is_high=True),
     Room("from C", ("pigyelund_c",), 0, is_high=True),
     Room("examples", ("example_*",)),

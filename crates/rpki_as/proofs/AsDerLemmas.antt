@@ -29,10 +29,11 @@ use Rattle.rpki_base.proofs.DerWriting.{sequence_written, written_alike}
 use Rattle.rpki_as.specs.AsDer.{IsAsBlockSequence, as_run_octets, as_sequence_octets, as_set_octets}
 use Rattle.rpki_as_block.specs.AsDer.{IsAsBlock, as_block_octets, as_range_content}
 use Rattle.rpki_as_block.specs.AsDerLaws.{as_block_has_octets, as_block_reading}
-use Rattle.rpki_as_block.specs.AsDerModes.{IsNextBlock, IsStrictBlock, next_block_modal}
+use Rattle.rpki_as_block.specs.AsDerModes.{IsNextBlock, IsStrictBlock}
+use Rattle.rpki_as_block.specs.AsDerModeLaws.{next_block_modal}
 use Rattle.rpki_as.specs.AsDerReading.{as_blocks_at, as_blocks_by, greatest_of_as_block}
 use Rattle.rpki_as_block.specs.AsDerReading.{as_block_at, next_block_by}
-use Rattle.rpki_as_block.specs.BlockForms.{new_as_block_bounds}
+use Rattle.rpki_as_block.specs.BlockFormLaws.{new_as_block_bounds}
 use Rattle.rpki_as.specs.Blocks.{IsAsSet}
 use Rattle.rpki_as_block.specs.Blocks.{as_bounds, new_as_block}
 use Rattle.rpki_as_block.specs.declared.block.AsBlock.{AsBlock}

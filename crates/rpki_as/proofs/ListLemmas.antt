@@ -15,7 +15,7 @@ use Rattle.rpki_text.proofs.PrintedLemmas.{IsShown, IsElement, elements-joined}
 use Rattle.rpki_chains.specs.Sets.{Covers}
 use Rattle.rpki_chain.specs.Runs.{Runs, IsRunsOfBlocks}
 use Rattle.rpki_chain.proofs.RunLists.{IsRunsOf-unique, IsRunsOfBlocks-bounds}
-use Rattle.rpki_as_block.specs.BlockForms.{new_as_block_bounds}
+use Rattle.rpki_as_block.specs.BlockFormLaws.{new_as_block_bounds}
 use Rattle.rpki_as.specs.Blocks.{IsAsSet}
 use Rattle.rpki_as_block.specs.Blocks.{as_bounds, new_as_block}
 use Rattle.rpki_as_block.specs.BlockText.{IsAsBlockText, HasAsBlockFault, as_block_text}

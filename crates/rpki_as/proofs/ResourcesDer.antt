@@ -30,7 +30,8 @@ use Rattle.rpki_chain.proofs.ClaimLemmas.{lists_one}
 use Rattle.rpki_as.specs.AsDer.{IsAsChoice, IsAsResources, IsPresentAsClaim, as_resources_octets, as_sequence_octets, as_set_octets}
 use Rattle.rpki_as_block.specs.AsDer.{IsAsBlock, as_block_octets}
 use Rattle.rpki_as_block.specs.AsDerLaws.{as_block_has_octets, as_block_reading}
-use Rattle.rpki_as_block.specs.AsDerModes.{IsNextBlock, IsStrictBlock, next_block_modal}
+use Rattle.rpki_as_block.specs.AsDerModes.{IsNextBlock, IsStrictBlock}
+use Rattle.rpki_as_block.specs.AsDerModeLaws.{next_block_modal}
 use Rattle.rpki_as.specs.AsDerReading.{as_choice_at, as_choice_by, greatest_of_as_block}
 use Rattle.rpki_as_block.specs.AsDerReading.{as_block_at, next_block_by}
 use Rattle.rpki_as.specs.Blocks.{IsAsSet}

@@ -3,7 +3,8 @@ ghost use Rattle.std.specs.Prelude.{◌≡◌, ℕ, ◌↔◌, [], ◌∷◌, Is
 ghost use Rattle.std.specs.Slice.Iter.{iter_rest};
 ghost use Rattle.rpki_text.specs.Memory.{IsMemory};
 ghost use Rattle.rpki_text.specs.Reading.{AnswersOrMemory};
-ghost use Rattle.rpki_chains.specs.Equality.{same_runs, runs_per, runs_equiv};
+ghost use Rattle.rpki_chains.specs.Equality.{same_runs};
+ghost use Rattle.rpki_chains.specs.EqualityLaws.{runs_per, runs_equiv};
 ghost use Rattle.rpki_chains.specs.Sets.{IsChain};
 ghost use Rattle.rpki_chain.specs.Choices.{MatchChoice};
 ghost use Rattle.rpki_chain.specs.Operations.{IsDifference, IsIntersection, IsUnion};

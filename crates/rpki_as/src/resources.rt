@@ -2,8 +2,10 @@
 ghost use Rattle.std.specs.Prelude.{◌≡◌, ◌≢◌, ◌↔◌, [], IsTrue, IfOk, Ok, Some, MatchResult};
 ghost use Rattle.rpki_text.specs.Memory.{IsMemory};
 ghost use Rattle.rpki_text.specs.Reading.{AnswersOrMemory};
-ghost use Rattle.rpki_chains.specs.Equality.{same_runs, runs_per, runs_equiv};
-ghost use Rattle.rpki_chain.specs.ChoiceEquality.{choice_eq, choice_equiv, choice_per};
+ghost use Rattle.rpki_chains.specs.Equality.{same_runs};
+ghost use Rattle.rpki_chains.specs.EqualityLaws.{runs_per, runs_equiv};
+ghost use Rattle.rpki_chain.specs.ChoiceEquality.{choice_eq};
+ghost use Rattle.rpki_chain.specs.ChoiceEqualityLaws.{choice_equiv, choice_per};
 ghost use Rattle.rpki_chain.specs.Choices.{MatchChoice, IsRefused};
 ghost use Rattle.rpki_chain.specs.ChoiceDer.{choice_octets};
 ghost use Rattle.rpki_chain.specs.Claims.{Claim, IsClaim, ListsSome, claim_of};

@@ -15,7 +15,8 @@ use Rattle.rpki_base.proofs.DerCursors.{optional_back}
 use Rattle.rpki_chains.specs.Sets.{IsNew}
 use Rattle.rpki_as_block.specs.AsDer.{HasAsNumbers, IsAsBlock, IsSetBlock, as_block_octets, as_range_content}
 use Rattle.rpki_as_block.specs.AsDerLaws.{as_block_has_octets, as_block_reading}
-use Rattle.rpki_as_block.specs.AsDerModes.{IsStrictBlock, as_block_modal}
+use Rattle.rpki_as_block.specs.AsDerModes.{IsStrictBlock}
+use Rattle.rpki_as_block.specs.AsDerModeLaws.{as_block_modal}
 use Rattle.rpki_as_block.specs.AsDerReading.{as_block_at, as_block_by}
 use Rattle.rpki_as_block.specs.Blocks.{as_bounds, new_as_block}
 use Rattle.rpki_as_block.specs.declared.block.AsBlock.{AsBlock}

@@ -1,8 +1,9 @@
 pub mod AsDer
 pub mod AsDerLaws
+pub mod AsDerModeLaws
 pub mod AsDerModes
 pub mod AsDerReading
-pub mod BlockForms
+pub mod BlockFormLaws
 pub mod BlockPlaces
 pub mod Blocks
 pub mod BlockText

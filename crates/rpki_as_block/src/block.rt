@@ -110,7 +110,7 @@ impl AsBlock {
 impl Block for AsBlock {
     ghost use Rattle.std.specs.Prelude.{refl};
     ghost use Rattle.rpki_as_block.specs.Blocks.{as_bounds, new_as_block};
-    ghost use Rattle.rpki_as_block.specs.BlockForms.{new_as_block_bounds};
+    ghost use Rattle.rpki_as_block.specs.BlockFormLaws.{new_as_block_bounds};
 
     type Item = Asn;
 
@@ -164,7 +164,8 @@ impl Block for AsBlock {
 /// Blocks are equal where their bounds are, whatever their forms.
 impl PartialEq for AsBlock {
     ghost use Rattle.std.specs.Prelude.{◌≡◌, ◌↔◌, IsTrue};
-    ghost use Rattle.rpki_chains.specs.Equality.{have_same_bounds, blocks_per};
+    ghost use Rattle.rpki_chains.specs.Equality.{have_same_bounds};
+    ghost use Rattle.rpki_chains.specs.EqualityLaws.{blocks_per};
     ghost use Rattle.rpki_as_block.specs.Blocks.{as_bounds};
 
     ghost eq = { have_same_bounds as_bounds };
@@ -180,7 +181,7 @@ impl PartialEq for AsBlock {
 }
 
 impl Eq for AsBlock {
-    ghost use Rattle.rpki_chains.specs.Equality.{blocks_equiv};
+    ghost use Rattle.rpki_chains.specs.EqualityLaws.{blocks_equiv};
     ghost use Rattle.rpki_as_block.specs.Blocks.{as_bounds};
 
     ghost laws = { blocks_equiv as_bounds };

@@ -2,6 +2,7 @@
 pub mod BlockSets
 pub mod ChoiceDer
 pub mod ChoiceEquality
+pub mod ChoiceEqualityLaws
 pub mod Choices
 pub mod Claims
 pub mod Operations

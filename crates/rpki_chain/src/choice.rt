@@ -1,7 +1,8 @@
 //! What is said of resources: that there are none, that they are the issuer's, or which they are.
 ghost use Rattle.std.specs.Prelude.{◌≡◌, ◌↔◌, IsTrue, IfOk, Ok, MatchResult, ⊤};
 ghost use Rattle.rpki_text.specs.Memory.{IsMemory};
-ghost use Rattle.rpki_chain.specs.ChoiceEquality.{choice_eq, choice_equiv, choice_per};
+ghost use Rattle.rpki_chain.specs.ChoiceEquality.{choice_eq};
+ghost use Rattle.rpki_chain.specs.ChoiceEqualityLaws.{choice_equiv, choice_per};
 ghost use Rattle.rpki_chain.specs.Choices.{ListsBy, MatchChoice, IsRefused, choice_text};
 ghost use Rattle.rpki_chain.specs.declared.choice.ResourcesChoice.TheVariants.{Missing, Inherit};
 

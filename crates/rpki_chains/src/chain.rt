@@ -2,7 +2,7 @@
 ghost use Rattle.std.specs.Prelude.{◌≡◌, ◌↔◌, IsTrue, map};
 ghost use Rattle.std.specs.Coded.{Coded-set};
 ghost use Rattle.rpki_chains.specs.Sets.{IsChain};
-ghost use Rattle.rpki_chains.specs.Props.{IsChain-prop};
+ghost use Rattle.rpki_chains.specs.ChainLaws.{IsChain-prop};
 
 use crate::block::Block;
 use crate::common::common_from;
@@ -249,7 +249,8 @@ impl<T: Block> Copy for Chain<'_, T> {}
 impl<T: Block> PartialEq for Chain<'_, T> {
     ghost use Rattle.std.specs.Prelude.{◌≡◌, ℕ, ◌↔◌, IsTrue, map};
     ghost use Rattle.rpki_chains.specs.Sets.{Covers};
-    ghost use Rattle.rpki_chains.specs.Equality.{same_runs, chains_per};
+    ghost use Rattle.rpki_chains.specs.Equality.{same_runs};
+    ghost use Rattle.rpki_chains.specs.EqualityLaws.{chains_per};
     ghost use Rattle.rpki_chains.specs.View.{chain_blocks};
 
     ghost eq = { λ a b. same_runs (map T.bounds (chain_blocks a)) (map T.bounds (chain_blocks b)) };
@@ -270,7 +271,7 @@ impl<T: Block> PartialEq for Chain<'_, T> {
 }
 
 impl<T: Block> Eq for Chain<'_, T> {
-    ghost use Rattle.rpki_chains.specs.Equality.{chains_equiv};
+    ghost use Rattle.rpki_chains.specs.EqualityLaws.{chains_equiv};
     ghost use Rattle.rpki_chains.specs.View.{chain_blocks};
 
     ghost laws = { chains_equiv T.bounds (λ c. chain_blocks c) };

@@ -1,6 +1,7 @@
 //! A chain with the memory that its blocks stand in.
 ghost use Rattle.std.specs.Prelude.{◌≡◌, ℕ, ◌↔◌, List, [], All, IsTrue, IfOk, OnOk, map};
-ghost use Rattle.rpki_chains.specs.Equality.{same_runs, chains_per, chains_equiv};
+ghost use Rattle.rpki_chains.specs.Equality.{same_runs};
+ghost use Rattle.rpki_chains.specs.EqualityLaws.{chains_per, chains_equiv};
 ghost use Rattle.rpki_chains.specs.Sets.{Covers, IsNew, IsChain, IsChainOf};
 ghost use Rattle.rpki_chains.specs.Owned.{owned_blocks, IsOwned};
 ghost use Rattle.rpki_chains.specs.View.{chain_blocks};

@@ -1,6 +1,7 @@
 //! A chain that several owners hold.
 ghost use Rattle.std.specs.Prelude.{◌≡◌, ℕ, ◌↔◌, List, [], IsTrue, IfOk, map};
-ghost use Rattle.rpki_chains.specs.Equality.{same_runs, chains_per, chains_equiv};
+ghost use Rattle.rpki_chains.specs.Equality.{same_runs};
+ghost use Rattle.rpki_chains.specs.EqualityLaws.{chains_per, chains_equiv};
 ghost use Rattle.rpki_chains.specs.Sets.{Covers, IsChainOf};
 ghost use Rattle.rpki_chains.specs.Owned.{shared_blocks, IsShared};
 ghost use Rattle.rpki_chains.specs.View.{chain_blocks};

@@ -1,5 +1,5 @@
 pub mod Der
 pub mod Faults
-pub mod Fronts
+pub mod FrontLaws
 pub mod Reading
 pub mod Views

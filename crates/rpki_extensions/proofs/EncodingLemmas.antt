@@ -13,7 +13,7 @@ use Rattle.rpki_extensions.specs.Claims.{claim_or_missing}
 use Rattle.rpki_der.specs.declared.cursor.Cursor.{Cursor}
 use Rattle.rpki_der.specs.declared.error.DerError.{DerError}
 use Rattle.rpki_der.specs.Der.{Front, HasNone, OneFront, Spells}
-use Rattle.rpki_der.specs.Fronts.{none_where_more, none_where_no_front, whole_value}
+use Rattle.rpki_der.specs.FrontLaws.{none_where_more, none_where_no_front, whole_value}
 use Rattle.rpki_der.specs.Reading.{ended}
 use Rattle.rpki_der.specs.Views.{Lenient, Strict, is_strict, left}
 use Rattle.rpki_base.specs.DerReading.{only}

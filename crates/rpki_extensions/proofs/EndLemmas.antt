@@ -2,7 +2,7 @@
 use Rattle.std.proofs.Common.{arith, ◌≡◌, ◌≢◌, ℕ, length, List, [], ◌∷◌, MatchResult, IsErr, Result, Ok, Err, refl, sym, subst}
 use Rattle.std.proofs.lemmas.Bool.{ne_eqb}
 use Rattle.rpki_der.specs.Der.{HasNone, NoFront}
-use Rattle.rpki_der.specs.Fronts.{none_where_no_front}
+use Rattle.rpki_der.specs.FrontLaws.{none_where_no_front}
 use Rattle.rpki_der.specs.Reading.{ended}
 use Rattle.rpki_der.specs.declared.error.DerError.{DerError}
 use Rattle.rpki_text.specs.Memory.{IfRefused}

@@ -16,7 +16,8 @@ use Rattle.rpki_ip.proofs.DerModes.{IsStrictPrefix, prefix_is_spelled, spelled_i
 use Rattle.rpki_ip.proofs.DerWritten.{from_short, length_prefix, to_short}
 use Rattle.rpki_ip.proofs.Shortest.{shortest_from_is, shortest_to_is}
 use Rattle.rpki_ip_block.specs.BlockDer.{IsSetIpBlock, ip_block_der}
-use Rattle.rpki_ip_block.specs.BlockModes.{IsStrictIpBlock, ip_block_modal}
+use Rattle.rpki_ip_block.specs.BlockModes.{IsStrictIpBlock}
+use Rattle.rpki_ip_block.specs.BlockModeLaws.{ip_block_modal}
 use Rattle.rpki_ip_block.specs.BlockReading.{ip_block_by, is_range, is_set_range, span}
 use Rattle.rpki_ip_block.specs.Blocks.{block_from, length_of, new_ip_block}
 use Rattle.rpki_ip_block.specs.declared.block.IpBlock.{IpBlock}

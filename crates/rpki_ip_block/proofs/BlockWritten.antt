@@ -14,7 +14,8 @@ use Rattle.rpki_base.specs.Families.{bits_of}
 use Rattle.rpki_base.specs.declared.family.AddressFamily.{AddressFamily}
 use Rattle.rpki_base.specs.declared.family.AddressFamily.TheVariants.{Ipv4, Ipv6}
 use Rattle.rpki_ip_block.specs.BlockDer.{IsBlockWithin, IsIpBlockDer, ip_block_der}
-use Rattle.rpki_ip_block.specs.BlockModes.{IsStrictIpBlock, ip_block_modal}
+use Rattle.rpki_ip_block.specs.BlockModes.{IsStrictIpBlock}
+use Rattle.rpki_ip_block.specs.BlockModeLaws.{ip_block_modal}
 use Rattle.rpki_ip_block.specs.BlockReading.{ip_block_at, ip_block_by}
 use Rattle.rpki_ip_block.specs.Blocks.{ip_bounds, new_ip_block}
 use Rattle.rpki_ip_block.specs.PrintedBlocks.{IsBlockOf}

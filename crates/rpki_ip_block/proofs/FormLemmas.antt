@@ -12,7 +12,7 @@ use Rattle.rpki_addr.proofs.PrefixNumbers.{cleared_first}
 use Rattle.rpki_prefix.specs.Values.{FamilyPrefix, IsFamilyPrefix}
 use Rattle.rpki_addr.specs.AddrText.{first_of}
 use Rattle.rpki_ip.specs.Ranges.{RangeValue, IsRangeOf, range_bounds}
-use Rattle.rpki_ip_block.specs.BlockForms.{both_pass, bounds_of_length, found_length}
+use Rattle.rpki_ip_block.specs.BlockFormLaws.{both_pass, bounds_of_length, found_length}
 use Rattle.rpki_ip_block.specs.Blocks.{prefix_bounds, has_length, length_upto, length_of, block_from, new_ip_block}
 use Rattle.rpki_ip_block.specs.PrintedBlocks.{IsBlock}
 use Rattle.rpki_ip_block.specs.declared.block.IpBlock.TheVariants.{Prefix, Range}

@@ -1,5 +1,6 @@
 pub mod BlockDer
-pub mod BlockForms
+pub mod BlockFormLaws
+pub mod BlockModeLaws
 pub mod BlockModes
 pub mod BlockReading
 pub mod BlockReadingLaws

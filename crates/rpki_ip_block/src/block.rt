@@ -93,7 +93,7 @@ impl IpBlock {
 impl Block for IpBlock {
     ghost use Rattle.std.specs.Prelude.{refl};
     ghost use Rattle.rpki_ip_block.specs.Blocks.{ip_bounds, new_ip_block};
-    ghost use Rattle.rpki_ip_block.specs.BlockForms.{new_ip_block_bounds};
+    ghost use Rattle.rpki_ip_block.specs.BlockFormLaws.{new_ip_block_bounds};
 
     type Item = Addr;
 
@@ -144,7 +144,8 @@ impl Block for IpBlock {
 impl PartialEq for IpBlock {
     ghost use Rattle.std.specs.Prelude.{◌≡◌, ◌↔◌, IsTrue};
     ghost use Rattle.rpki_ip_block.specs.Blocks.{ip_bounds};
-    ghost use Rattle.rpki_chains.specs.Equality.{have_same_bounds, blocks_per};
+    ghost use Rattle.rpki_chains.specs.Equality.{have_same_bounds};
+    ghost use Rattle.rpki_chains.specs.EqualityLaws.{blocks_per};
 
     ghost eq = { have_same_bounds ip_bounds };
 
@@ -159,7 +160,7 @@ impl PartialEq for IpBlock {
 }
 
 impl Eq for IpBlock {
-    ghost use Rattle.rpki_chains.specs.Equality.{blocks_equiv};
+    ghost use Rattle.rpki_chains.specs.EqualityLaws.{blocks_equiv};
     ghost use Rattle.rpki_ip_block.specs.Blocks.{ip_bounds};
 
     ghost laws = { blocks_equiv ip_bounds };

@@ -279,7 +279,8 @@ impl ReadNext for IpBlockReader {
     ghost use Rattle.rpki_base.specs.Families.{bits_of};
     ghost use Rattle.std.specs.Prelude.{Some, None};
     ghost use Rattle.rpki_ip_block.specs.BlockDer.{IsIpBlockDer};
-    ghost use Rattle.rpki_ip_block.specs.BlockModes.{IsNextIpBlock, next_ip_block_modal};
+    ghost use Rattle.rpki_ip_block.specs.BlockModes.{IsNextIpBlock};
+    ghost use Rattle.rpki_ip_block.specs.BlockModeLaws.{next_ip_block_modal};
     ghost use Rattle.rpki_ip_block.specs.BlockReading.{ip_block_at, next_ip_block_by};
     ghost use Rattle.rpki_ip_block.specs.BlockReadingLaws.{ip_block_has_octets, ip_block_reading};
     ghost use Rattle.rpki_ip_block.specs.Blocks.{ip_bounds};

@@ -36,9 +36,9 @@ use Rattle.rpki_text.specs.declared.memory.OrMemory.{OrMemory}
 use Rattle.rpki_text.specs.declared.memory.OrMemory.TheVariants.{Refused, Memory}
 use Rattle.rpki_text.specs.Memory.{IsMemory}
 use Rattle.rpki_ip_block.specs.BlockDer.{IsBlockWithin, IsIpBlockDer, IsSetIpBlock, ip_block_der}
-use Rattle.rpki_ip_block.specs.BlockForms.{new_ip_block_bounds}
+use Rattle.rpki_ip_block.specs.BlockFormLaws.{new_ip_block_bounds}
 use Rattle.rpki_chains.proofs.Beyond.{beyond_is, is_beyond_of}
-use Rattle.rpki_ip_block.specs.BlockModes.{ip_block_modal}
+use Rattle.rpki_ip_block.specs.BlockModeLaws.{ip_block_modal}
 use Rattle.rpki_ip_block.specs.BlockReading.{ip_block_at, ip_block_by, ip_blocks_at, next_ip_block_by}
 use Rattle.rpki_ip_block.specs.BlockReadingLaws.{blocks_reading, ip_block_has_octets, ip_block_reading}
 use Rattle.rpki_ip_block.specs.Blocks.{ip_bounds, new_ip_block}

@@ -11,7 +11,7 @@ use Rattle.rpki_chain.proofs.SetLemmas.{bounds_made}
 use Rattle.rpki_ip.specs.Whole.{HasWholeBounds}
 use Rattle.rpki_base.specs.declared.family.AddressFamily.{AddressFamily}
 use Rattle.rpki_base.specs.declared.family.AddressFamily.TheVariants.{Ipv4, Ipv6}
-use Rattle.rpki_ip_block.specs.BlockForms.{new_ip_block_bounds}
+use Rattle.rpki_ip_block.specs.BlockFormLaws.{new_ip_block_bounds}
 use Rattle.rpki_ip_block.specs.Blocks.{ip_bounds, new_ip_block}
 use Rattle.rpki_ip_block.specs.PrintedBlocks.{IsBlockOf}
 use Rattle.rpki_ip_block.specs.declared.block.IpBlock.{IpBlock}

@@ -22,7 +22,7 @@ use Rattle.rpki_ip.specs.Whole.{HasWholeBounds}
 use Rattle.rpki_ip.proofs.DerWritten.{few_bits}
 use Rattle.rpki_ip_block.specs.BlockDer.{IsBlockWithin, IsIpBlockDer, ip_block_der}
 use Rattle.rpki_ip_block.specs.PrintedBlocks.{IsBlock}
-use Rattle.rpki_ip_block.specs.BlockForms.{new_ip_block_bounds}
+use Rattle.rpki_ip_block.specs.BlockFormLaws.{new_ip_block_bounds}
 use Rattle.rpki_ip_block.specs.BlockReading.{ip_block_at}
 use Rattle.rpki_ip_block.specs.Blocks.{ip_bounds, new_ip_block}
 use Rattle.rpki_ip_block.specs.declared.block.IpBlock.{IpBlock}

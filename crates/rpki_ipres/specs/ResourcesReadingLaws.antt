@@ -9,7 +9,8 @@ use Rattle.rpki_base.specs.DerReading.{IsSequenceFrom, IsSequenceOf, values_from
 use Rattle.rpki_chain.specs.ChoiceDer.{IsChoiceOf, choice_at}
 use Rattle.rpki_chain.proofs.ChoiceReadings.{choice_modal, choice_reading}
 use Rattle.rpki_ip_block.specs.BlockDer.{IsIpBlockDer}
-use Rattle.rpki_ip_block.specs.BlockModes.{IsNextIpBlock, next_ip_block_modal}
+use Rattle.rpki_ip_block.specs.BlockModes.{IsNextIpBlock}
+use Rattle.rpki_ip_block.specs.BlockModeLaws.{next_ip_block_modal}
 use Rattle.rpki_ip_block.specs.BlockReading.{ip_block_at, next_ip_block_by}
 use Rattle.rpki_ip_block.specs.BlockReadingLaws.{ip_block_has_octets, ip_block_reading}
 use Rattle.rpki_ip_block.specs.declared.block.IpBlock.{IpBlock}

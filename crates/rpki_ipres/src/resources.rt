@@ -3,9 +3,11 @@ ghost use Rattle.std.specs.Prelude.{◌≡◌, ◌≢◌, ◌↔◌, [], IsTrue,
 ghost use Rattle.rpki_text.specs.Memory.{IsMemory};
 ghost use Rattle.rpki_chain.specs.Choices.{IsRefused, MatchChoice};
 ghost use Rattle.rpki_base.specs.DerWriting.{octets_of_all, sequence_octets};
-ghost use Rattle.rpki_chains.specs.Equality.{same_runs, runs_per, runs_equiv};
+ghost use Rattle.rpki_chains.specs.Equality.{same_runs};
+ghost use Rattle.rpki_chains.specs.EqualityLaws.{runs_per, runs_equiv};
 ghost use Rattle.rpki_chain.specs.ChoiceDer.{choice_octets};
-ghost use Rattle.rpki_chain.specs.ChoiceEquality.{choice_eq, choice_per, choice_equiv};
+ghost use Rattle.rpki_chain.specs.ChoiceEquality.{choice_eq};
+ghost use Rattle.rpki_chain.specs.ChoiceEqualityLaws.{choice_per, choice_equiv};
 ghost use Rattle.rpki_chain.specs.Claims.{ListsSome, claim_of};
 ghost use Rattle.rpki_chain.specs.declared.choice.ResourcesChoice.TheVariants.{Missing, Inherit};
 ghost use Rattle.rpki_ip_block.specs.BlockDer.{ip_block_der};

@@ -1,3 +1,4 @@
 pub mod TripleFaults
+pub mod TripleLaws
 pub mod Triples
 pub mod TripleText

@@ -1,7 +1,6 @@
 -- Sets of the three kinds of resources (RFC 3779, 2 and 3), and what differs between two of them.
 use Rattle.std.specs.Prelude.{◌≡◌, ℕ, ◌↔◌, ◌⊎◌, [], ◌∷◌, Bool, true, false, ◌&&◌}
-use Rattle.std.specs.Cmp.{IsEquivalence, IsPartialEquivalence, on_equiv, and_equiv, partial_equiv_from_equiv}
-use Rattle.rpki_chains.specs.Equality.{same_runs, runs_equiv}
+use Rattle.rpki_chains.specs.Equality.{same_runs}
 use Rattle.rpki_chain.specs.Claims.{Claim}
 use Rattle.rpki_chain.specs.Operations.{IsUnion, IsIntersection, IsDifference}
 use Rattle.rpki_chain.specs.Runs.{Runs, Holds}
@@ -111,17 +110,3 @@ pub record AreListed (a b c : Claim) (t : Triple) : Type 0 where
 -- one of the claims at least is inherited
 abbrev pub IsOneInherited : Claim → Claim → Claim → Type 0
 IsOneInherited asn ipv4 ipv6 = (asn ≡ Inherit) ⊎ ((ipv4 ≡ Inherit) ⊎ (ipv6 ≡ Inherit))
-
--- ---- the laws of `==`
-
-pub triples_equiv : IsEquivalence is_same_triple
-triples_equiv = and_equiv (on_equiv (λ (t : Triple). t.asn) runs_equiv) (and_equiv (on_equiv (λ (t : Triple). t.ipv4) runs_equiv) (on_equiv (λ (t : Triple). t.ipv6) runs_equiv))
-
-pub triples_per : IsPartialEquivalence is_same_triple
-triples_per = partial_equiv_from_equiv triples_equiv
-
-pub changes_equiv : IsEquivalence are_same_changes
-changes_equiv = and_equiv (on_equiv (λ (d : Changes). d.added) triples_equiv) (on_equiv (λ (d : Changes). d.removed) triples_equiv)
-
-pub changes_per : IsPartialEquivalence are_same_changes
-changes_per = partial_equiv_from_equiv changes_equiv

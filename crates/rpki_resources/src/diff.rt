@@ -1,6 +1,7 @@
 //! What differs between two sets of resources.
 ghost use Rattle.std.specs.Prelude.{◌≡◌, ◌↔◌, IsTrue, IfOk, Ok, Err, MatchResult};
-ghost use Rattle.rpki_resources.specs.Triples.{Changes, are_same_changes, changes_equiv, changes_per, no_changes};
+ghost use Rattle.rpki_resources.specs.Triples.{Changes, are_same_changes, no_changes};
+ghost use Rattle.rpki_resources.specs.TripleLaws.{changes_equiv, changes_per};
 
 use crate::set::ResourceSet;
 use std::alloc::{AllocError, Allocator, Global};

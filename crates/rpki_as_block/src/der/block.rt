@@ -311,7 +311,8 @@ impl ReadNext for AsBlockReader {
     ghost use Rattle.std.specs.Prelude.{Some, None};
     ghost use Rattle.rpki_as_block.specs.AsDer.{IsAsBlock};
     ghost use Rattle.rpki_as_block.specs.AsDerLaws.{as_block_has_octets, as_block_reading};
-    ghost use Rattle.rpki_as_block.specs.AsDerModes.{IsNextBlock, next_block_modal};
+    ghost use Rattle.rpki_as_block.specs.AsDerModes.{IsNextBlock};
+    ghost use Rattle.rpki_as_block.specs.AsDerModeLaws.{next_block_modal};
     ghost use Rattle.rpki_as_block.specs.AsDerReading.{as_block_at, next_block_by};
     ghost use Rattle.rpki_as_block.specs.Blocks.{as_bounds};
 

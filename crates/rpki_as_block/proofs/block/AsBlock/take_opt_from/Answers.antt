@@ -7,7 +7,8 @@ use Rattle.rpki_der.specs.Views.{Takes}
 use Rattle.rpki_der.proofs.Modes.{exact_optional_by, refused_optional_by}
 use Rattle.rpki_as_block.specs.AsDer.{IsAsBlock, IsSetBlock, as_block_octets}
 use Rattle.rpki_as_block.specs.AsDerLaws.{as_block_reading}
-use Rattle.rpki_as_block.specs.AsDerModes.{IsStrictBlock, as_block_modal}
+use Rattle.rpki_as_block.specs.AsDerModes.{IsStrictBlock}
+use Rattle.rpki_as_block.specs.AsDerModeLaws.{as_block_modal}
 use Rattle.rpki_as_block.specs.AsDerReading.{as_block_at, as_block_by}
 use Rattle.rpki_as_block.proofs.AsDerLemmas.{block_back, set_block_reading}
 use Rattle.rpki_as_block.proofs.block.AsBlock.take_opt_from.Goals as goal

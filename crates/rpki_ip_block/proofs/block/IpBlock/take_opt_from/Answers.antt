@@ -7,7 +7,8 @@ use Rattle.rpki_der.specs.Views.{Takes}
 use Rattle.rpki_der.proofs.Modes.{exact_optional_by, refused_optional_by}
 use Rattle.rpki_base.specs.declared.family.AddressFamily.TheVariants.{Ipv6}
 use Rattle.rpki_ip_block.specs.BlockDer.{IsIpBlockDer, IsSetIpBlock, ip_block_der}
-use Rattle.rpki_ip_block.specs.BlockModes.{IsStrictIpBlock, ip_block_modal}
+use Rattle.rpki_ip_block.specs.BlockModes.{IsStrictIpBlock}
+use Rattle.rpki_ip_block.specs.BlockModeLaws.{ip_block_modal}
 use Rattle.rpki_ip_block.specs.BlockReading.{ip_block_at, ip_block_by}
 use Rattle.rpki_ip_block.specs.BlockReadingLaws.{ip_block_reading}
 use Rattle.rpki_ip_block.proofs.BlockModes.{set_block_reading}

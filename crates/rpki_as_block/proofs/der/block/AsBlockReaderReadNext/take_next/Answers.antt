@@ -1,6 +1,7 @@
 -- Leniently the readings are one.
 use Rattle.rpki_der.proofs.Modes.{exact_optional_by}
-use Rattle.rpki_as_block.specs.AsDerModes.{IsNextBlock, next_block_modal}
+use Rattle.rpki_as_block.specs.AsDerModes.{IsNextBlock}
+use Rattle.rpki_as_block.specs.AsDerModeLaws.{next_block_modal}
 use Rattle.rpki_as_block.specs.AsDerReading.{as_block_at, next_block_by}
 use Rattle.rpki_as_block.proofs.der.block.AsBlockReaderReadNext.take_next.Goals as goal
 

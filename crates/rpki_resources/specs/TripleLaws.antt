@@ -1,0 +1,16 @@
+-- The laws of equality of sets of the three kinds, and of what differs.
+use Rattle.std.specs.Cmp.{IsEquivalence, IsPartialEquivalence, on_equiv, and_equiv, partial_equiv_from_equiv}
+use Rattle.rpki_chains.specs.EqualityLaws.{runs_equiv}
+use Rattle.rpki_resources.specs.Triples.{Changes, Triple, are_same_changes, is_same_triple}
+
+pub triples_equiv : IsEquivalence is_same_triple
+triples_equiv = and_equiv (on_equiv (λ (t : Triple). t.asn) runs_equiv) (and_equiv (on_equiv (λ (t : Triple). t.ipv4) runs_equiv) (on_equiv (λ (t : Triple). t.ipv6) runs_equiv))
+
+pub triples_per : IsPartialEquivalence is_same_triple
+triples_per = partial_equiv_from_equiv triples_equiv
+
+pub changes_equiv : IsEquivalence are_same_changes
+changes_equiv = and_equiv (on_equiv (λ (d : Changes). d.added) triples_equiv) (on_equiv (λ (d : Changes). d.removed) triples_equiv)
+
+pub changes_per : IsPartialEquivalence are_same_changes
+changes_per = partial_equiv_from_equiv changes_equiv

@@ -52,24 +52,37 @@ impl fmt::Display for PrefixError {
 impl std::error::Error for PrefixError {}
 
 /// What is wrong with the text of a prefix. The first fault in this order is answered.
-#[derive(Clone, Copy, Debug, PartialEq, Eq, Error)]
+#[derive(Clone, Copy, Debug, PartialEq, Eq)]
 pub enum ParsePrefixError {
     /// There is no text.
-    #[error("empty string")]
     Empty,
     /// There is no slash.
-    #[error("missing length portion")]
     MissingLen,
     /// What stands before the first slash is no address.
-    #[error("invalid address: {0}")]
     InvalidAddr(AddrParseError),
     /// What stands behind it is no decimal text of a `u8`.
-    #[error("invalid length: {0}")]
     InvalidLen(ParseIntError),
     /// The address and the length are no prefix.
-    #[error("{0}")]
     InvalidPrefix(PrefixError),
 }
+
+impl fmt::Display for ParsePrefixError {
+    ghost use Rattle.rpki_prefix.specs.PrefixText.{prefix_fault_text};
+
+    ghost output = { λ fault. Some (prefix_fault_text fault) };
+
+    fn fmt<W: fmt::Write>(&self, f: &mut fmt::Formatter<W>) -> fmt::Result {
+        match self {
+            ParsePrefixError::Empty => f.write_str("empty string"),
+            ParsePrefixError::MissingLen => f.write_str("missing length portion"),
+            ParsePrefixError::InvalidAddr(fault) => write!(f, "invalid address: {fault}"),
+            ParsePrefixError::InvalidLen(fault) => write!(f, "invalid length: {fault}"),
+            ParsePrefixError::InvalidPrefix(fault) => write!(f, "{fault}"),
+        }
+    }
+}
+
+impl std::error::Error for ParsePrefixError {}
 
 impl From<AddrParseError> for ParsePrefixError {
     ghost use Rattle.rpki_prefix.specs.declared.error.ParsePrefixError.TheVariants.{InvalidAddr};

@@ -51,7 +51,7 @@ fn first_blocks<T: Block, A: Allocator, X: Reads<T>>(
 {
     // The length is asked for what its contract tells: that the blocks are a chain.
     let _len = own.len();
-    let mut chain = Vec::new(alloc);
+    let mut chain = Vec::with_capacity(alloc, len)?;
     // A block in new form is the one that is made of its bounds, so each comes out as it was.
     for at in 0..len {
         let (min, max) = own.read(at);

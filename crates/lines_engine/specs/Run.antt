@@ -1,8 +1,9 @@
 -- What a run leaves in a writer. `old` and `new` are the known bytes that it held; `Is` says which text is answered to
 -- a line.
-use Rattle.std.specs.Prelude.{◌≡◌, ℕ, List, [], ◌∷◌, ◌++◌, Option}
+use Rattle.std.specs.Prelude.{◌≡◌, ◌≢◌, ℕ, List, [], ◌∷◌, ◌++◌, Option, None, Some, ⊤}
 use Rattle.std.specs.List.{AllZip, flat_map}
 use Rattle.std.specs.Io.KnownBytes.{Appends}
+use Rattle.rpki_text.specs.Cuts.{HasNo}
 use Rattle.rpki_text.specs.Lines.{lines_of}
 
 -- a text as a line
@@ -41,3 +42,22 @@ AnswersFirst Is old new input = (rest : List (List ℕ)) × HasAnswered Is old n
 -- a beginning of the answers was written
 abbrev pub BeginsAnswers : (List ℕ → List ℕ → Type 0) → Option (List ℕ) → Option (List ℕ) → List ℕ → Type 0
 BeginsAnswers Is old new input = (rest : List (List ℕ)) × ((unwritten : List ℕ) × HasAnswered Is old new (lines_of input) rest unwritten)
+
+-- of these lines some first ones were answered, not all, and those answers were written whole
+abbrev pub AnswersSomeOf : (List ℕ → List ℕ → Type 0) → Option (List ℕ) → Option (List ℕ) → List (List ℕ) → Type 0
+AnswersSomeOf Is old new lines = (rest : List (List ℕ)) × (rest ≢ []) × HasAnswered Is old new lines rest []
+
+-- some first ones were answered, and a beginning of those answers was written
+abbrev pub BeginsAnswersOf : (List ℕ → List ℕ → Type 0) → Option (List ℕ) → Option (List ℕ) → List (List ℕ) → Type 0
+BeginsAnswersOf Is old new lines = (rest : List (List ℕ)) × ((unwritten : List ℕ) × HasAnswered Is old new lines rest unwritten)
+
+-- The answers of some first lines of the input were written whole. The other lines are those of `left`, what is left
+-- to be read, behind a part of a line that was read.
+abbrev pub AnswersBut : (List ℕ → List ℕ → Type 0) → Option (List ℕ) → Option (List ℕ) → Option (List ℕ) → Option (List ℕ) → List ℕ → Type 0
+AnswersBut Is old new None left part = ⊤
+AnswersBut Is old new (Some input) None part = ⊥
+AnswersBut Is old new (Some input) (Some left) part = HasAnswered Is old new (lines_of input) (lines_of (part ++ left)) []
+
+-- the answers of the lines whose ends were read, and of no other, were written whole
+abbrev pub AnswersEnded : (List ℕ → List ℕ → Type 0) → Option (List ℕ) → Option (List ℕ) → Option (List ℕ) → Option (List ℕ) → Type 0
+AnswersEnded Is old new input left = (part : List ℕ) × HasNo 10 part × AnswersBut Is old new input left part

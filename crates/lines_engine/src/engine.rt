@@ -1,4 +1,4 @@
-//! Reads the whole input, and then answers each line of it.
+//! Reads the whole input, and then answers each line of it; and the steps of a run, which others share.
 ghost use Rattle.std.specs.Prelude.{◌≡◌, [], ℕ, true, false, IfOk, IfErr, IfSome, OnOk, OnErr, IsErrOf, List};
 ghost use Rattle.std.specs.Io.KnownBytes.{IsAtEnd, Keeps};
 ghost use Rattle.lines_engine.specs.Run.{HasWritten, HasAnsweredLine, AnswersAll, AnswersFirst, BeginsAnswers};
@@ -10,7 +10,7 @@ use rpki_text::line::cut_line;
 use std::alloc::Allocator;
 
 /// The bytes that one read asks for.
-const PIECE: usize = 64 * 1024;
+pub(crate) const PIECE: usize = 64 * 1024;
 
 /// Reads the whole input, and then answers each line, in order, with one line. No failed call is tried again,
 /// and the writer is flushed at the end, of an empty input too.
@@ -56,8 +56,12 @@ pub fn run<A: Allocator + Copy, L: Answers, R: Source, W: Sink>(
     flush_all(writer)
 }
 
-/// Reads until nothing is left.
-fn read_to_end<A: Allocator, R: Source>(alloc: A, reader: &mut R) -> Result<Vec<u8, A>, RunError>
+/// Reads until nothing is left. Answers [`RunError::Read`] where a read failed, and [`RunError::Memory`] where a
+/// request for memory was refused.
+pub fn read_to_end<A: Allocator, R: Source>(
+    alloc: A,
+    reader: &mut R,
+) -> Result<Vec<u8, A>, RunError>
     requires clear { R.mark reader.old ≡ false }
     ensures unmarked { OnOk result (R.mark reader.new ≡ R.mark reader.old) }
     ensures whole { OnOk result (IsAtEnd (R.left reader.new)) }
@@ -112,7 +116,7 @@ fn answer_lines<A: Allocator + Copy, L: Answers, W: Sink>(
 
 /// Makes the whole answer to a line, and then writes it.
 #[tactic(auto, using(crate::proofs::RunLemmas::line_answered))]
-fn answer_line<A: Allocator + Copy, L: Answers, W: Sink>(
+pub(crate) fn answer_line<A: Allocator + Copy, L: Answers, W: Sink>(
     alloc: A,
     answers: &L,
     line: &[u8],
@@ -134,8 +138,8 @@ fn answer_line<A: Allocator + Copy, L: Answers, W: Sink>(
     write_all(writer, text.as_bytes()).map_err(|_| RunError::Write)
 }
 
-/// Writes a whole piece. No call is tried again.
-fn write_all<W: Sink>(writer: &mut W, piece: &[u8]) -> Result<(), DeviceFault>
+/// Writes a whole piece. No call is tried again: [`DeviceFault`] where one failed, or took nothing.
+pub fn write_all<W: Sink>(writer: &mut W, piece: &[u8]) -> Result<(), DeviceFault>
     requires clear { W.mark writer.old ≡ false }
     ensures unmarked { OnOk result (W.mark writer.new ≡ W.mark writer.old) }
     ensures whole { OnOk result (HasWritten (W.written writer.old) (W.written writer.new) piece.now
@@ -155,8 +159,8 @@ fn write_all<W: Sink>(writer: &mut W, piece: &[u8]) -> Result<(), DeviceFault>
     Ok(())
 }
 
-/// Hands on all that was written. No call is tried again.
-fn flush_all<W: Sink>(writer: &mut W) -> Result<(), RunError>
+/// Hands on all that was written. No call is tried again: [`RunError::Write`] where it failed.
+pub fn flush_all<W: Sink>(writer: &mut W) -> Result<(), RunError>
     requires clear { W.mark writer.old ≡ false }
     ensures unmarked { OnOk result (W.mark writer.new ≡ W.mark writer.old) }
     ensures flushed { OnOk result (W.flushed writer.new ≡ true) }

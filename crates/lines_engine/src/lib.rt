@@ -1,5 +1,6 @@
-//! The engine of a program that answers lines: it reads an input whole, and then answers each line of it. What a line
-//! is answered is no affair of its own ([`answers::Answers`]).
+//! The engines of a program that answers lines: one reads an input whole, and then answers each line of it
+//! ([`engine::run`]), one answers lines as it reads them ([`stream::answer_as_read`]). What a line is answered is no
+//! affair of theirs ([`answers::Answers`]).
 //!
 //! The program `respath` runs it over the standard streams:
 //!
@@ -15,3 +16,4 @@ pub mod answers;
 pub mod device;
 pub mod engine;
 pub mod error;
+pub mod stream;

@@ -1,0 +1,213 @@
+//! Answers lines as they are read, in memory that doesn't grow with the input.
+ghost use Rattle.std.specs.Prelude.{◌≡◌, ◌<◌, ◌++◌, length, ℕ, List, [], true, false, IfErr, IfOk, IfSome, OnOk, IsErrOf, MatchOption};
+ghost use Rattle.std.specs.Io.KnownBytes.{IsAtEnd};
+ghost use Rattle.rpki_text.specs.Cuts.{HasNo, IsCutAt};
+ghost use Rattle.rpki_text.specs.Lines.{lines_of};
+ghost use Rattle.lines_engine.specs.Run.{AnswersAll, AnswersEnded, AnswersFirst, AnswersSomeOf, BeginsAnswers, BeginsAnswersOf, HasAnswered, HasAnsweredLine};
+
+use crate::answers::Answers;
+use crate::device::{DeviceFault, Sink, Source};
+use crate::engine::{PIECE, answer_line, flush_all};
+use crate::error::RunError;
+use std::alloc::Allocator;
+
+/// Answers each line as soon as its end was read, in order, with one line. Of what was read it keeps the part of a line
+/// whose end wasn't, so that its memory grows with the longest line alone. No failed call is tried again, and the
+/// writer is flushed at the end, of an empty input too.
+///
+/// [`RunError::Read`] and [`RunError::Write`] are answered where a call of the device failed, or a write took
+/// nothing; [`RunError::Memory`] where a request for memory was refused, or the input has 2^64 bytes.
+pub fn answer_as_read<A: Allocator + Copy, L: Answers, R: Source, W: Sink>(
+    alloc: A,
+    answers: &L,
+    reader: &mut R,
+    writer: &mut W,
+) -> Result<(), RunError>
+    // Neither has failed: no call follows one that did.
+    requires reader_clear { R.mark reader.old ≡ false }
+    requires writer_clear { W.mark writer.old ≡ false }
+
+    // No call failed, nothing is left to be read, each line's answer was written whole, and the writer is flushed.
+    ensures unmarked { OnOk result ((R.mark reader.new ≡ R.mark reader.old)
+        × (W.mark writer.new ≡ W.mark writer.old)) }
+    ensures read_whole { OnOk result (IsAtEnd (R.left reader.new)) }
+    ensures answered { OnOk result (IfSome (R.left reader.old)
+        (AnswersAll (L.is_answer answers.now) (W.written writer.old) (W.written writer.new))) }
+    ensures flushed { OnOk result (W.flushed writer.new ≡ true) }
+
+    // A read failed, and no write did. The answers of the lines whose ends were read were written whole, and nothing
+    // else.
+    ensures read { IsErrOf result RunError.Read →
+        (R.mark reader.new ≡ true) × (W.mark writer.new ≡ W.mark writer.old) }
+    ensures ended_answered { IsErrOf result RunError.Read → AnswersEnded (L.is_answer answers.now)
+        (W.written writer.old) (W.written writer.new) (R.left reader.old) (R.left reader.new) }
+
+    // No call failed. The answers of some first lines, of not all where there is any, were written whole, and
+    // nothing else.
+    ensures memory_unmarked { IsErrOf result RunError.Memory →
+        (R.mark reader.new ≡ R.mark reader.old) × (W.mark writer.new ≡ W.mark writer.old) }
+    ensures some_answered { IsErrOf result RunError.Memory → IfSome (R.left reader.old)
+        (AnswersFirst (L.is_answer answers.now) (W.written writer.old) (W.written writer.new)) }
+
+    // A write or a flush failed, or a write took nothing, and a beginning of the answers was written.
+    ensures write { IsErrOf result RunError.Write → W.mark writer.new ≡ true }
+    ensures some_written { IsErrOf result RunError.Write → IfSome (R.left reader.old)
+        (BeginsAnswers (L.is_answer answers.now) (W.written writer.old) (W.written writer.new)) }
+{
+    let part = answer_ended(alloc, answers, reader, writer)?;
+    answer_last(alloc, answers, &part, writer)?;
+    flush_all(writer)
+}
+
+/// Reads until nothing is left, and answers each line that is ended. What stands behind the last end is left.
+fn answer_ended<A: Allocator + Copy, L: Answers, R: Source, W: Sink>(
+    alloc: A,
+    answers: &L,
+    reader: &mut R,
+    writer: &mut W,
+) -> Result<Vec<u8, A>, RunError>
+    requires reader_clear { R.mark reader.old ≡ false }
+    requires writer_clear { W.mark writer.old ≡ false }
+    ensures unmarked { OnOk result ((R.mark reader.new ≡ R.mark reader.old)
+        × (W.mark writer.new ≡ W.mark writer.old)) }
+    ensures read_whole { OnOk result (IsAtEnd (R.left reader.new)) }
+    ensures unended { IfOk result (λ part. HasNo 10 part.items) }
+    ensures answered { IfOk result (λ part. IfSome (R.left reader.old) (λ input. HasAnswered
+        (L.is_answer answers.now) (W.written writer.old) (W.written writer.new) (lines_of input) (lines_of part.items) [])) }
+    ensures read { IsErrOf result RunError.Read →
+        (R.mark reader.new ≡ true) × (W.mark writer.new ≡ W.mark writer.old) }
+    ensures ended_answered { IsErrOf result RunError.Read → AnswersEnded (L.is_answer answers.now)
+        (W.written writer.old) (W.written writer.new) (R.left reader.old) (R.left reader.new) }
+    ensures memory_unmarked { IsErrOf result RunError.Memory →
+        (R.mark reader.new ≡ R.mark reader.old) × (W.mark writer.new ≡ W.mark writer.old) }
+    ensures some_answered { IsErrOf result RunError.Memory → IfSome (R.left reader.old)
+        (AnswersFirst (L.is_answer answers.now) (W.written writer.old) (W.written writer.new)) }
+    ensures write { IsErrOf result RunError.Write → W.mark writer.new ≡ true }
+    ensures some_written { IsErrOf result RunError.Write → IfSome (R.left reader.old)
+        (BeginsAnswers (L.is_answer answers.now) (W.written writer.old) (W.written writer.new)) }
+{
+    let mut part = Vec::new(alloc);
+    let mut piece = [0u8; PIECE];
+    let mut total: usize = 0;
+    loop {
+        let count = match reader.read(&mut piece) {
+            Ok(count) => count,
+            Err(DeviceFault) => return Err(RunError::Read),
+        };
+        if count == 0 {
+            return Ok(part);
+        }
+        total = match total.checked_add(count) {
+            Some(total) => total,
+            None => return Err(RunError::Memory),
+        };
+        answer_piece(alloc, answers, &mut part, &piece[..count], writer)?;
+    }
+}
+
+/// Answers each line that ends in a piece, the first one behind the part that earlier pieces have of it. The part then
+/// is what the piece has of a line whose end wasn't read.
+fn answer_piece<A: Allocator + Copy, L: Answers, W: Sink>(
+    alloc: A,
+    answers: &L,
+    part: &mut Vec<u8, A>,
+    piece: &[u8],
+    writer: &mut W,
+) -> Result<(), RunError>
+    requires clear { W.mark writer.old ≡ false }
+    requires unended { HasNo 10 part.old.items }
+    ensures unmarked { OnOk result (W.mark writer.new ≡ W.mark writer.old) }
+    ensures unended { OnOk result (HasNo 10 part.new.items) }
+    ensures answered { OnOk result ((more : List ℕ) → HasAnswered (L.is_answer answers.now)
+        (W.written writer.old) (W.written writer.new)
+        (lines_of (part.old.items ++ (piece.now ++ more))) (lines_of (part.new.items ++ more)) []) }
+    ensures memory_unmarked { IsErrOf result RunError.Memory → W.mark writer.new ≡ W.mark writer.old }
+    ensures some_answered { IsErrOf result RunError.Memory → (more : List ℕ) → AnswersSomeOf
+        (L.is_answer answers.now) (W.written writer.old) (W.written writer.new)
+        (lines_of (part.old.items ++ (piece.now ++ more))) }
+    ensures write { IsErrOf result RunError.Write → W.mark writer.new ≡ true }
+    ensures some_written { IsErrOf result RunError.Write → (more : List ℕ) → BeginsAnswersOf
+        (L.is_answer answers.now) (W.written writer.old) (W.written writer.new)
+        (lines_of (part.old.items ++ (piece.now ++ more))) }
+    ensures not_read { IsErrOf result RunError.Read → ⊥ }
+{
+    let mut rest = piece;
+    while let Some((line, behind)) = cut_ended(rest) {
+        answer_joined(alloc, answers, part, line, writer)?;
+        rest = behind;
+    }
+    keep(part, rest)
+}
+
+/// Answers a line of which earlier pieces have a part, which is empty then.
+fn answer_joined<A: Allocator + Copy, L: Answers, W: Sink>(
+    alloc: A,
+    answers: &L,
+    part: &mut Vec<u8, A>,
+    line: &[u8],
+    writer: &mut W,
+) -> Result<(), RunError>
+    requires clear { W.mark writer.old ≡ false }
+    ensures unmarked { OnOk result (W.mark writer.new ≡ W.mark writer.old) }
+    ensures empty { OnOk result (part.new.items ≡ []) }
+    ensures answered { OnOk result (HasAnsweredLine (L.is_answer answers.now) (W.written writer.old)
+        (W.written writer.new) (part.old.items ++ line.now) []) }
+    ensures memory { IsErrOf result RunError.Memory → writer.new ≡ writer.old }
+    ensures write { IsErrOf result RunError.Write → W.mark writer.new ≡ true }
+    ensures some_written { IsErrOf result RunError.Write → (unwritten : List ℕ) × HasAnsweredLine
+        (L.is_answer answers.now) (W.written writer.old) (W.written writer.new) (part.old.items ++ line.now) unwritten }
+    ensures not_read { IsErrOf result RunError.Read → ⊥ }
+{
+    if part.as_slice().is_empty() {
+        return answer_line(alloc, answers, line, writer);
+    }
+    part.extend_from_slice(line)?;
+    answer_line(alloc, answers, part.as_slice(), writer)?;
+    part.clear();
+    Ok(())
+}
+
+/// Keeps what a piece has of a line whose end wasn't read. Nothing is asked for where that is nothing.
+fn keep<A: Allocator>(part: &mut Vec<u8, A>, rest: &[u8]) -> Result<(), RunError>
+    ensures kept { OnOk result (part.new.items ≡ part.old.items ++ rest.now) }
+    ensures memory { IfErr result (λ error. (error ≡ RunError.Memory) × (0 < length rest.now)) }
+{
+    if !rest.is_empty() {
+        part.extend_from_slice(rest)?;
+    }
+    Ok(())
+}
+
+/// Answers the last line, whose end is missing, if there is one.
+fn answer_last<A: Allocator + Copy, L: Answers, W: Sink>(
+    alloc: A,
+    answers: &L,
+    part: &[u8],
+    writer: &mut W,
+) -> Result<(), RunError>
+    requires clear { W.mark writer.old ≡ false }
+    requires unended { HasNo 10 part.now }
+    ensures unmarked { OnOk result (W.mark writer.new ≡ W.mark writer.old) }
+    ensures answered { OnOk result (HasAnswered (L.is_answer answers.now) (W.written writer.old)
+        (W.written writer.new) (lines_of part.now) [] []) }
+    ensures memory_unmarked { IsErrOf result RunError.Memory → W.mark writer.new ≡ W.mark writer.old }
+    ensures some_answered { IsErrOf result RunError.Memory → AnswersSomeOf (L.is_answer answers.now)
+        (W.written writer.old) (W.written writer.new) (lines_of part.now) }
+    ensures write { IsErrOf result RunError.Write → W.mark writer.new ≡ true }
+    ensures some_written { IsErrOf result RunError.Write → BeginsAnswersOf (L.is_answer answers.now)
+        (W.written writer.old) (W.written writer.new) (lines_of part.now) }
+    ensures not_read { IsErrOf result RunError.Read → ⊥ }
+{
+    if part.is_empty() {
+        return Ok(());
+    }
+    answer_line(alloc, answers, part, writer)
+}
+
+/// The first line of a text without its end, and what stands behind that, if an end stands in the text.
+fn cut_ended(text: &[u8]) -> Option<(&[u8], &[u8])>
+    ensures { MatchOption result (HasNo 10 text.now) (λ cut. IsCutAt 10 text.now cut.0.now cut.1.now) }
+{
+    let at = text.iter().position(|byte| *byte == b'\n')?;
+    Some((&text[..at], &text[at + 1..]))
+}

@@ -39,12 +39,38 @@ def without_laws(functions, bare):
     return [it for it in functions if it.ret or it.body], bare
 
 
+def without_docs(reader):
+    """The reader of words, which passes over documentation."""
+    return lambda words: reader([it for it in words if not it.startswith("///")])
+
+
 def firsts(found):
     """One failure, one value and one argument: of a bool both values."""
     kept = {}
     for it in found:
         kept.setdefault(it.text if it.text in ("false", "true") else it.kind, it)
     return list(kept.values())
+
+
+def checks_once(copy_class):
+    """The check that shows whether plants compile judges them too, and what it said is kept."""
+    write, check, said = copy_class.write, copy_class.check, {}
+
+    def writes(copy, plants):
+        copy.standing = tuple(plants)
+        write(copy, plants)
+
+    def checks(copy, names):
+        names = tuple(names)
+        own = tuple(name for it in copy.standing for name in it.f.symbols or [it.name])
+        if own and names in (own, ("",)):
+            if (copy.standing, own) not in said:
+                said[copy.standing, own] = check(copy, own)
+            if re.search(r"(?m)^only=|error[\[:]", said[copy.standing, own] or ""):
+                return said[copy.standing, own]
+        return check(copy, names)
+
+    copy_class.write, copy_class.check = writes, checks
 
 
 def planted():
@@ -56,7 +82,10 @@ def planted():
     importlib.machinery.SourceFileLoader("rt-plant", planter.__file__).exec_module(planter)
     # One check a crate, but for bodies of one method, of which each takes a check of its own.
     planter.BATCH, planter.SECONDS = 400, 1200
+    checks_once(planter.Copy)
     chosen, compiled, giving_up = planter.chosen, planter.Copy.compiled, planter.bodies.Bodies.giving_up
+    # A variant's or a field's documentation is no name of it.
+    planter.bodies.without_attributes = without_docs(planter.bodies.without_attributes)
     planter.chosen = lambda *given: without_laws(*chosen(*given))
     # Where the unchanged call isn't planted, the planter tries no body that calls the function.
     planter.Copy.compiled = lambda copy, plants: compiled(copy, [it for it in plants if it.body != it.f.call()])

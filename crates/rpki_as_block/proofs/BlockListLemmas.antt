@@ -1,12 +1,12 @@
 -- Lists of AS blocks, read element by element from the front of what is left.
-use Rattle.std.proofs.Common.{◌≡◌, ℕ, ◌+◌, ◌-◌, ◌<◌, ◌≤◌, List, [], ◌∷◌, ◌++◌, length, take, drop, get_or, Ok, arith, refl, sym, ap, ◌∙◌, subst, length-drop, inl, inr}
+use Rattle.std.proofs.Common.{◌≡◌, ℕ, ◌+◌, ◌-◌, ◌<◌, ◌≤◌, List, [], ◌∷◌, ◌++◌, length, take, drop, get_or, Ok, Option, Some, None, ◌⊎◌, arith, refl, sym, ap, ◌∙◌, subst, length-drop, inl, inr}
 use Rattle.std.proofs.lemmas.List.{length-take, drop_more, take-append-drop, append_assoc, append-nil}
 use Rattle.std.proofs.Math.Seq.{drop-length}
 use Rattle.rpki_text.specs.Lists.{elements, HaveValues}
 use Rattle.rpki_text.proofs.ElementLemmas.{IsPartOf, elements_first, elements_last}
 use Rattle.rpki_text.proofs.PrintedLemmas.{IsElement}
 use Rattle.rpki_as_block.specs.BlockText.{ReadsAsBlock}
-use Rattle.rpki_as_block.specs.BlockPlaces.{IsAsBlockBetween, IsAfterSpace}
+use Rattle.rpki_as_block.specs.BlockPlaces.{AreAsBlocksFrom, IsAfterSpace, IsAsBlockAt, IsAsBlockBetween, StandsAt}
 use Rattle.rpki_as_block.specs.declared.block.AsBlock.{AsBlock}
 use Rattle.rpki_as_block.proofs.BlockLemmas.{reads_block}
 use Rattle.rpki_as_block.proofs.BlockPlaceLemmas.{drop_later}
@@ -15,14 +15,51 @@ use Rattle.rpki_as_block.proofs.BlockPlaceLemmas.{drop_later}
 abbrev pub Have : List (List ℕ) → List AsBlock → Type 0
 Have = HaveValues (λ t b. ReadsAsBlock t (Ok b))
 
--- blocks that what is left has complete those of the text
+-- Blocks that what is left has complete those of the text. Where the whole is of the usual form, what is left is.
 pub record IsSoFar (start : ℕ) (text : List ℕ) (blocks : List AsBlock) : Type 0 where
   pub within : start ≤ length text
   pub completed : (more : List AsBlock) → Have (elements (drop start text)) more → Have (elements text) (blocks ++ more)
+  pub usual : (all : List AsBlock) → AreAsBlocksFrom 0 text all → (rest : List AsBlock) × AreAsBlocksFrom start text rest
 
 -- at the start nothing is read
 pub none_so_far : (text : List ℕ) → IsSoFar 0 text []
-none_so_far text = record { within = omega arith; completed = λ more h. h }
+none_so_far text = record { within = omega arith; completed = λ more h. h; usual = λ all h. (all, h) }
+
+-- one place alone is behind a space, if one stands there
+same_place : (start first other : ℕ) (text : List ℕ) → IsAfterSpace start first text → IsAfterSpace start other text → first ≡ other
+same_place start first other text (inl a) (inl b) = a.0 ∙ sym b.0
+same_place start first other text (inl a) (inr b) = absurd (a.1 b.1)
+same_place start first other text (inr a) (inl b) = absurd (b.1 a.1)
+same_place start first other text (inr a) (inr b) = a.0 ∙ sym b.0
+
+-- it is the block of the usual form that stands there, and ends there
+abbrev pub IsAlone : ℕ → List ℕ → AsBlock → ℕ → Type 0
+IsAlone first text b end = (other : AsBlock) (place : ℕ) → IsAsBlockAt first place text other → ◌≡◌ {A = Option (AsBlock × ℕ)} (Some (b, end)) (Some (other, place))
+
+-- its end
+abbrev end_of : Option (AsBlock × ℕ) → ℕ
+end_of None = 0
+end_of (Some found) = found.1
+
+-- what stands behind a block in a list of the usual form
+abbrev pub GoesOn : ℕ → List ℕ → List AsBlock → Type 0
+GoesOn end text more = ((end ≡ length text) × (more ≡ [])) ⊎ (StandsAt 44 end text × AreAsBlocksFrom (end + 1) text more)
+
+-- a list of the usual form begins with a block of it
+pub first_block : (start first : ℕ) (text : List ℕ) (rest : List AsBlock) → IsAfterSpace start first text → AreAsBlocksFrom start text rest → (b : AsBlock) × (end : ℕ) × (more : List AsBlock) × IsAsBlockAt first end text b × GoesOn end text more
+first_block start first text [] after h = absurd h
+first_block start first text (b ∷ more) after (place, end, there, block, on) =
+    (b, end, more, subst (λ k. IsAsBlockAt k end text b) (same_place start place first text there after) block, on)
+
+-- it goes on no further where neither the text's end nor a comma stands behind that block
+pub goes_no_further : (start first end : ℕ) (text : List ℕ) (b : AsBlock) (rest : List AsBlock) → IsAfterSpace start first text → IsAlone first text b end → ¬ (end ≡ length text) → ¬ (get_or text end 0 ≡ 44) → ¬ AreAsBlocksFrom start text rest
+goes_no_further start first end text b rest after alone not_last not_comma h =
+    let (other, place, more, there, on) = first_block start first text rest after h in
+    let is : end ≡ place = ap end_of (alone other place there) in
+    elim on [
+      | inl k ↦ not_last (is ∙ k.0)
+      | inr k ↦ not_comma (subst (λ e. get_or text e 0 ≡ 44) (sym is) k.0.1)
+    ]
 
 -- a block's text, which is an element
 module _ (start first end : ℕ) (text : List ℕ) (b : AsBlock) (after : IsAfterSpace start first text) (h : IsAsBlockBetween first end text b) where
@@ -39,11 +76,11 @@ module _ (start first end : ℕ) (text : List ℕ) (b : AsBlock) (after : IsAfte
   -- with the space before it
   part : (p : List ℕ) × IsPartOf p (take (end - first) (drop first text)) × (drop start text ≡ p ++ drop end text)
   part = elim after [
-    | inl same ↦ (take (end - first) (drop first text), inl refl, ap (λ k. drop k text) (sym same) ∙ behind)
+    | inl same ↦ (take (end - first) (drop first text), inl refl, ap (λ k. drop k text) (sym same.0) ∙ behind)
     | inr k ↦ (
       32 ∷ take (end - first) (drop first text),
       inr refl,
-      drop_more text start 0 k.1 ∙ (ap (λ c. c ∷ drop (start + 1) text) k.2 ∙ ap (λ t. 32 ∷ t) (ap (λ j. drop j text) (sym k.0) ∙ behind)),
+      drop_more text start 0 k.1.0 ∙ (ap (λ c. c ∷ drop (start + 1) text) k.1.1 ∙ ap (λ t. 32 ∷ t) (ap (λ j. drop j text) (sym k.0) ∙ behind)),
     )
   ]
 
@@ -51,14 +88,24 @@ module _ (start first end : ℕ) (text : List ℕ) (b : AsBlock) (after : IsAfte
   value : ReadsAsBlock (take (end - first) (drop first text)) (Ok b)
   value = reads_block _ (Ok b) h.block
 
-  -- one that a comma follows leaves what is behind the comma
-  pub one_more : (blocks : List AsBlock) → IsSoFar start text blocks → end < length text → get_or text end 0 ≡ 44 → IsSoFar (end + 1) text (blocks ++ b ∷ [])
-  one_more blocks before more comma_is =
+  -- a list of the usual form goes on behind it
+  left_behind : end < length text → IsAlone first text b end → (other : AsBlock) × (place : ℕ) × (more : List AsBlock) × IsAsBlockAt first place text other × GoesOn place text more → (rest : List AsBlock) × AreAsBlocksFrom (end + 1) text rest
+  left_behind more alone (other, place, rest, block, on) =
+      let is : end ≡ place = ap end_of (alone other place block) in
+      elim on [
+        | inl k ↦ absurd (omega (arith, more, is, k.0))
+        | inr k ↦ (rest, subst (λ e. AreAsBlocksFrom (e + 1) text rest) (sym is) k.1)
+      ]
+
+  -- one that a comma follows leaves what is behind the comma, where each block of the usual form there is it
+  pub one_more : IsAlone first text b end → (blocks : List AsBlock) → IsSoFar start text blocks → end < length text → get_or text end 0 ≡ 44 → IsSoFar (end + 1) text (blocks ++ b ∷ [])
+  one_more alone blocks before more comma_is =
       let shape : drop start text ≡ part.0 ++ 44 ∷ drop (end + 1) text = part.2 ∙ ap (λ t. part.0 ++ t) (drop_more text end 0 more ∙ ap (λ c. c ∷ drop (end + 1) text) comma_is) in
       let these : elements (drop start text) ≡ take (end - first) (drop first text) ∷ elements (drop (end + 1) text) = ap elements shape ∙ elements_first part.0 _ (drop (end + 1) text) part.1 is_element in
       record {
         within = omega (arith, more);
         completed = λ rest k. subst (Have (elements text)) (sym (append_assoc blocks (b ∷ []) rest)) (before.completed (b ∷ rest) (subst (λ t. Have t (b ∷ rest)) (sym these) (value, k)));
+        usual = λ all h. let (rest, k) = before.usual all h in left_behind more alone (first_block start first text rest after k);
       }
 
   -- and one that ends the text is the last

@@ -1,13 +1,13 @@
 -- AS blocks at a place among bytes: one number, or two round a dash.
-use Rattle.std.proofs.Common.{◌≡◌, ℕ, suc, zero, ◌+◌, ◌-◌, ◌<◌, ◌≤◌, List, [], ◌∷◌, ◌++◌, length, take, drop, get_or, Ok, arith, sym, ap, ◌∙◌, subst, length-drop}
+use Rattle.std.proofs.Common.{◌≡◌, ℕ, suc, zero, ◌+◌, ◌-◌, ◌<◌, ◌≤◌, List, [], ◌∷◌, ◌++◌, length, take, drop, get_or, Option, Some, None, Ok, arith, sym, ap, ◌∙◌, subst, length-drop}
 use Rattle.std.specs.Int.{IsInRange}
 use Rattle.std.specs.List.{AllByRecursion}
 use Rattle.std.proofs.lemmas.List.{length-take, drop_more, drop-drop, take-append-drop}
 use Rattle.std.proofs.Math.Seq.{take-length, take-append-add}
 use Rattle.rpki_text.specs.Cuts.{HasNo, dash}
-use Rattle.rpki_base.specs.AsnPlaces.{IsAsnBetween}
+use Rattle.rpki_base.specs.AsnPlaces.{IsAsnAt, IsAsnBetween}
 use Rattle.rpki_as_block.specs.BlockText.{IsAsBlockText, ReadsAsBlock}
-use Rattle.rpki_as_block.specs.BlockPlaces.{IsAsBlockBetween}
+use Rattle.rpki_as_block.specs.BlockPlaces.{IsAsBlockAt, IsAsBlockBetween, StandsAt}
 use Rattle.rpki_as_block.specs.declared.block.AsBlock.{AsBlock}
 use Rattle.rpki_as_block.specs.declared.block.AsBlock.TheVariants.{Id, Range}
 use Rattle.rpki_chains.specs.Ranges.{RangeValue}
@@ -69,6 +69,62 @@ range_between start middle end text r h dash_is k ordered =
       };
       shown = rw shape (shown_both _ _ h.bytes k.bytes);
     }
+
+-- the number and the place of what is found
+abbrev number_of : Option (ℕ × ℕ) → ℕ
+number_of None = 0
+number_of (Some found) = found.0
+
+abbrev place_of : Option (ℕ × ℕ) → ℕ
+place_of None = 0
+place_of (Some found) = found.1
+
+abbrev id_found : Option (ℕ × ℕ) → Option (AsBlock × ℕ)
+id_found None = None
+id_found (Some found) = Some (Id found.0, found.1)
+
+abbrev range_found : ℕ → Option (ℕ × ℕ) → Option (AsBlock × ℕ)
+range_found min None = None
+range_found min (Some found) = Some (Range (record { min = min; max = found.0 }), found.1)
+
+abbrev found_to : ℕ → AsBlock → Option (AsBlock × ℕ)
+found_to end b = Some (b, end)
+
+-- what is found at a place is the number of the usual form there
+abbrev pub IsOneNumber : ℕ → List ℕ → Option (ℕ × ℕ) → Type 0
+IsOneNumber start text found = (n end : ℕ) → IsAsnAt start end text n → found ≡ Some (n, end)
+
+-- a block of the usual form begins with one
+pub first_number : (start end : ℕ) (text : List ℕ) (b : AsBlock) → IsAsBlockAt start end text b → (n middle : ℕ) × IsAsnAt start middle text n
+first_number start end text (Id n) h = (n, end, h.0)
+first_number start end text (Range r) h = (r.min, h.0, h.1)
+
+-- without a dash behind it, it is the block
+pub id_alone : (start min dash_at : ℕ) (text : List ℕ) → IsOneNumber start text (Some (min, dash_at)) → ¬ StandsAt 45 dash_at text → (b : AsBlock) (end : ℕ) → IsAsBlockAt start end text b → ◌≡◌ {A = Option (AsBlock × ℕ)} (Some (Id min, dash_at)) (Some (b, end))
+id_alone start min dash_at text one alone (Id n) end h = ap id_found (one n end h.0)
+id_alone start min dash_at text one alone (Range r) end h = absurd (alone (subst (λ k. StandsAt 45 k text) (sym (ap place_of (one r.min h.0 h.1))) h.2))
+
+-- with one, a second number follows
+pub two_numbers : (start min dash_at : ℕ) (text : List ℕ) → IsOneNumber start text (Some (min, dash_at)) → StandsAt 45 dash_at text → (b : AsBlock) (end : ℕ) → IsAsBlockAt start end text b → (max : ℕ) × (b ≡ Range (record { min = min; max = max })) × IsAsnAt (dash_at + 1) end text max × (min ≤ max)
+two_numbers start min dash_at text one dash_there (Id n) end h = absurd (h.1 (subst (λ k. StandsAt 45 k text) (ap place_of (one n end h.0)) dash_there))
+two_numbers start min dash_at text one dash_there (Range r) end h =
+    let found = one r.min h.0 h.1 in
+    let same : min ≡ r.min = ap number_of found in
+    let place : dash_at ≡ h.0 = ap place_of found in
+    (r.max, ap (λ (m : ℕ). Range (record { min = m; max = r.max })) (sym same), subst (λ (k : ℕ). IsAsnAt (k + 1) end text r.max) (sym place) h.3, omega (arith, same, h.4))
+
+-- which ends the block
+pub range_alone : (start min dash_at max last : ℕ) (text : List ℕ) → IsOneNumber start text (Some (min, dash_at)) → StandsAt 45 dash_at text → IsOneNumber (dash_at + 1) text (Some (max, last)) → (b : AsBlock) (end : ℕ) → IsAsBlockAt start end text b → ◌≡◌ {A = Option (AsBlock × ℕ)} (Some (Range (record { min = min; max = max }), last)) (Some (b, end))
+range_alone start min dash_at max last text one dash_there two b end h =
+    let (other, is, there, ordered) = two_numbers start min dash_at text one dash_there b end h in
+    ap (range_found min) (two other end there) ∙ ap (found_to end) (sym is)
+
+-- and is not less than the first
+pub in_order_there : (start min dash_at max last : ℕ) (text : List ℕ) → IsOneNumber start text (Some (min, dash_at)) → StandsAt 45 dash_at text → IsOneNumber (dash_at + 1) text (Some (max, last)) → (b : AsBlock) (end : ℕ) → IsAsBlockAt start end text b → min ≤ max
+in_order_there start min dash_at max last text one dash_there two b end h =
+    let (other, is, there, ordered) = two_numbers start min dash_at text one dash_there b end h in
+    let same : max ≡ other = ap number_of (two other end there) in
+    omega (arith, same, ordered)
 
 -- a block that takes the whole text is the answer
 pub reads_whole : (text bytes : List ℕ) (b : AsBlock) (end : ℕ) → bytes ≡ text → IsAsBlockBetween 0 end bytes b → end ≡ length bytes → ReadsAsBlock text (Ok b)

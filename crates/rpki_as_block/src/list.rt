@@ -1,9 +1,10 @@
 //! Lists of AS blocks.
-ghost use Rattle.std.specs.Prelude.{◌≤◌, Ok, Err, IfOk, IfSome, MatchResult, length};
+ghost use Rattle.std.specs.Prelude.{◌≤◌, List, Ok, Err, IfOk, MatchOption, MatchResult, length};
 ghost use Rattle.rpki_text.specs.Memory.{IfRefused};
 ghost use Rattle.rpki_text.specs.Lists.{elements, HaveValues, HasFirstFault};
 ghost use Rattle.rpki_as_block.specs.BlockText.{ReadsAsBlock};
-ghost use Rattle.rpki_as_block.specs.BlockPlaces.{IsAfterSpace};
+ghost use Rattle.rpki_as_block.specs.BlockPlaces.{AreAsBlocksFrom, IsAfterSpace};
+ghost use Rattle.rpki_as_block.specs.declared.block.AsBlock.{AsBlock};
 
 use crate::block::AsBlock;
 use crate::error::FromStrError;
@@ -24,9 +25,10 @@ fn after_space(text: &[u8], start: usize) -> usize
     }
 }
 
-/// The blocks of a list whose elements all are of the usual form, each with one space before it or none.
+/// The blocks of a list whose elements all are of the usual form, each with one space before it or none. None where
+/// the text is no such list.
 fn usual_blocks<A: Allocator>(alloc: A, text: &[u8]) -> Result<Option<Vec<AsBlock, A>>, AllocError>
-    ensures { IfOk result (λ found. IfSome found
+    ensures { IfOk result (λ found. MatchOption found ((blocks : List AsBlock) → ¬ AreAsBlocksFrom 0 text.now blocks)
         (λ blocks. HaveValues (λ t b. ReadsAsBlock t (Ok b)) (elements text.now) blocks.items)) }
 {
     let mut blocks = Vec::new(alloc);

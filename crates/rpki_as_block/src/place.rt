@@ -1,6 +1,7 @@
 //! AS blocks of the usual form, read at a place among bytes.
-ghost use Rattle.std.specs.Prelude.{◌≤◌, length, IfSome};
-ghost use Rattle.rpki_as_block.specs.BlockPlaces.{IsAsBlockBetween};
+ghost use Rattle.std.specs.Prelude.{◌≡◌, ℕ, ◌≤◌, length, Some, IfSome};
+ghost use Rattle.rpki_as_block.specs.BlockPlaces.{IsAsBlockAt, IsAsBlockBetween};
+ghost use Rattle.rpki_as_block.specs.declared.block.AsBlock.{AsBlock};
 
 use crate::block::AsBlock;
 use crate::range::AsRange;
@@ -10,7 +11,9 @@ use rpki_base::asn::place::asn_at;
 /// place behind it. Other texts of blocks there may be nothing to this call, as in [`asn_at`].
 pub(crate) fn block_at(text: &[u8], start: usize) -> Option<(AsBlock, usize)>
     requires { start ≤ length text.now }
-    ensures { IfSome result (λ found. IsAsBlockBetween start found.1 text.now found.0) }
+    ensures found { IfSome result (λ found. IsAsBlockBetween start found.1 text.now found.0) }
+    // One of the usual form that stands there is found.
+    ensures each { (b : AsBlock) (end : ℕ) → IsAsBlockAt start end text.now b → result ≡ Some (b, end) }
 {
     let (min, dash) = asn_at(text, start)?;
     if dash == text.len() || text[dash] != b'-' {

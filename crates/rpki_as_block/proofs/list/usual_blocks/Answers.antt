@@ -1,12 +1,24 @@
 -- Each block completes those so far, and the last ends the list.
-use Rattle.std.proofs.Common.{◌<◌, length, arith}
-use Rattle.rpki_as_block.proofs.BlockListLemmas.{one_more, all_read}
+use Rattle.std.proofs.Common.{◌<◌, length, arith, sym, ◌∙◌}
+use Rattle.rpki_as_block.proofs.BlockListLemmas.{all_read, first_block, goes_no_further, one_more}
 use Rattle.rpki_as_block.proofs.list.usual_blocks.Goals as goal
 
 pub returns-then-end-text : goal.returns-then-end-text
-returns-then-end-text g c = rw c.in_ok-push.ensures.items (all_read _ _ _ _ _ c.after_space-first.ensures c.in-Some.ensures _ c.loop-block.invariant c.if-end-text.true)
+returns-then-end-text g c = rw c.in_ok-push.ensures.items (all_read _ _ _ _ _ c.after_space-first.ensures c.in-Some.ensures.found _ c.loop-block.invariant c.if-end-text.true)
 
 pub loop-block-preserved : goal.loop-block-preserved
 loop-block-preserved g c =
-    let left : c.in-Some.end < length c.args.text.now = omega (arith, c.if-end-text.false, c.in-Some.ensures.within) in
-    rw c.in_ok-push.ensures.items (one_more _ _ _ _ _ c.after_space-first.ensures c.in-Some.ensures _ c.loop-block.invariant left c.if-text-end-ne44.false)
+    let left : c.in-Some.end < length c.args.text.now = omega (arith, c.if-end-text.false, c.in-Some.ensures.found.within) in
+    rw c.in_ok-push.ensures.items (one_more _ _ _ _ _ c.after_space-first.ensures c.in-Some.ensures.found c.in-Some.ensures.each _ c.loop-block.invariant left c.if-text-end-ne44.false)
+
+pub returns-in_default : goal.returns-in_default
+returns-in_default g c blocks h =
+    let (rest, left) = c.loop-block.invariant.usual blocks h in
+    let (b, end, more, there, on) = first_block _ _ _ rest c.after_space-first.ensures left in
+    let none = sym c.in_default.is ∙ c.block_at.ensures.each b end there in
+    absurd cc
+
+pub returns-then-text-end-ne44 : goal.returns-then-text-end-ne44
+returns-then-text-end-ne44 g c blocks h =
+    let (rest, left) = c.loop-block.invariant.usual blocks h in
+    goes_no_further _ _ _ _ _ rest c.after_space-first.ensures c.in-Some.ensures.each c.if-end-text.false c.if-text-end-ne44.true left

@@ -81,14 +81,14 @@ width_small : (a : IpAddr) → width a ≤ 128
 width_small (V4 n) = omega arith
 width_small (V6 n) = omega arith
 
-longest_small : (p : Payload) → IsLawfulPayload p → longest p ≤ 128
+pub longest_small : (p : Payload) → IsLawfulPayload p → longest p ≤ 128
 longest_small p is = go p.0.max_len is.prefix.1
   where
     go : (m : Option ℕ) → IsMaxLenOf p.0.prefix m → resolved p.0.prefix m ≤ 128
     go None h = (let s : p.0.prefix.len ≤ width p.0.prefix.addr = is.prefix.0.short in omega (arith, s, width_small p.0.prefix.addr))
     go (Some n) h = omega (arith, h.1, width_small p.0.prefix.addr)
 
-told_small : (m : Option ℕ) → told m ≤ 1
+pub told_small : (m : Option ℕ) → told m ≤ 1
 told_small None = omega arith
 told_small (Some n) = omega arith
 

@@ -1,9 +1,9 @@
 //! Payloads as a table holds them: in 32 octets each.
-ghost use Rattle.std.specs.Prelude.{◌+◌, ◌-◌, ◌*◌, ◌^◌, ◌<◌, ◌≡◌, ◌↔◌, ◌≤◌, IsTrue, nat_le};
+ghost use Rattle.std.specs.Prelude.{◌+◌, ◌-◌, ◌*◌, ◌^◌, ◌<◌, ◌≡◌, ◌↔◌, ◌≤◌, IsTrue, nat_le, nat_lt};
 ghost use Rattle.std.specs.Ordering.{nat_cmp};
 ghost use Rattle.rpki_prefix.specs.Values.{IsFamilyPrefix, is_v6, width};
 ghost use Rattle.roa_origin.specs.Payloads.{CoversRoute, IsLawfulPayload, Matches, longest, prefix_len};
-ghost use Rattle.roa_origin.specs.Places.{payload_place, rank, table_place, told};
+ghost use Rattle.roa_origin.specs.Places.{payload_place, rank, sent_place, sent_rank, table_place, told};
 ghost use Rattle.roa_origin.specs.Starts.{first_bits};
 
 use rpki_base::Asn;
@@ -127,13 +127,29 @@ impl Entry {
         }
     }
 
-    /// The number by which payloads of one prefix are in order: the greatest AS number comes first, and by one AS the
-    /// shortest greatest length.
+    /// The number by which payloads of one prefix are in order as they are sent: the greatest AS number comes first,
+    /// and by one AS the shortest greatest length.
+    fn sent_rank(&self) -> u64
+        ensures value { result ≡ sent_rank self.now }
+        ensures small { result < 2 ^ 42 }
+    {
+        let below_greatest = u64::from(u32::MAX - self.asn.into_u32());
+        below_greatest * 512 + u64::from(self.longest()) * 2
+    }
+
+    /// The number by which payloads of one prefix are in order: by one greatest length the one comes first that isn't
+    /// told.
     fn rank(&self) -> u64
         ensures { result ≡ rank self.now }
     {
-        let below_greatest = u64::from(u32::MAX - self.asn.into_u32());
-        below_greatest * 512 + u64::from(self.longest()) * 2 + self.told()
+        self.sent_rank() + self.told()
+    }
+
+    /// Compares the ranks of payloads as they are sent.
+    fn cmp_sent_rank(&self, other: &Entry) -> Ordering
+        ensures { result ≡ nat_cmp (sent_rank self.now) (sent_rank other.now) }
+    {
+        self.sent_rank().cmp(&other.sent_rank())
     }
 
     /// Compares the ranks of payloads.
@@ -162,6 +178,32 @@ impl Entry {
             Ordering::Equal => self.cmp_rank(other),
             by_prefix => by_prefix,
         }
+    }
+
+    /// Compares payloads by a table's order, as they are sent.
+    pub(crate) fn cmp_sent(&self, other: &Entry) -> Ordering
+        ensures order { result ≡ nat_cmp (sent_place self.now) (sent_place other.now) }
+        ensures payloads { IsLawfulPayload self.now × IsLawfulPayload other.now }
+    {
+        match self.cmp_prefix(other) {
+            Ordering::Equal => self.cmp_sent_rank(other),
+            by_prefix => by_prefix,
+        }
+    }
+
+    /// Whether the payload comes before another in a table's order, as they are sent.
+    pub(crate) fn is_sent_before(&self, other: &Entry) -> bool
+        ensures { result ≡ nat_lt (sent_place self.now) (sent_place other.now) }
+    {
+        self.cmp_sent(other).is_lt()
+    }
+
+    /// Whether two payloads are the same as they are sent.
+    pub(crate) fn is_sent_as(&self, other: &Entry) -> bool
+        ensures same { IsTrue result ↔ (sent_place self.now ≡ sent_place other.now) }
+        ensures payloads { IsLawfulPayload self.now × IsLawfulPayload other.now }
+    {
+        self.cmp_sent(other).is_eq()
     }
 
     /// Whether the payload's prefix comes no later in a table's order than that of another.

@@ -1,9 +1,11 @@
 //! What callers may rely on and no single call says.
-ghost use Rattle.std.specs.Prelude.{◌≡◌, ◌↔◌, List, [], Contains, ℕ};
+ghost use Rattle.std.specs.Prelude.{◌≡◌, ◌↔◌, ◌⊎◌, List, [], Contains, map, ℕ};
 ghost use Rattle.std.specs.List.Sorted.{IsPermutation};
 ghost use Rattle.rpki_prefix.specs.Values.{FamilyPrefix};
-ghost use Rattle.roa_origin.specs.Payloads.{Payload};
-ghost use Rattle.roa_origin.specs.Tables.{IsAfter, IsAscending, IsTableOf, IsWithout};
+ghost use Rattle.roa_origin.specs.Payloads.{IsLawfulPayload, Payload};
+ghost use Rattle.roa_origin.specs.Places.{table_place};
+ghost use Rattle.roa_origin.specs.Tables.{IsAfter, IsAscending, IsTableOf, IsWithout, as_sent};
+ghost use Rattle.roa_origin.specs.Updates.{IsSentIn, IsUpdated};
 ghost use Rattle.roa_origin.specs.Validities.{IsValidity};
 
 use crate::validation::Validity;
@@ -37,3 +39,23 @@ pub fn laws_of_changes()
 {
     rpki_prefix::laws::total_order(); // so that the proof sees that the order is total
 }
+
+/// A table after changes has, as payloads are sent, those of the table before that aren't withdrawn, and those that are
+/// announced; it lists them as they were listed, and announced ones as they are sent. Changes lead to one list,
+/// whatever its order.
+pub fn laws_of_updates()
+    ensures sent { (table announced withdrawn next : List Payload) → IsUpdated table announced withdrawn next
+        → (p : Payload) → IsSentIn next p ↔ ((IsSentIn table p × ¬ IsSentIn withdrawn p) ⊎ IsSentIn announced p) }
+    ensures listed { (table announced withdrawn next : List Payload) → IsUpdated table announced withdrawn next
+        → (p : Payload) → Contains next p
+        ↔ ((Contains table p × ¬ IsSentIn withdrawn p) ⊎ Contains (map as_sent announced) p) }
+    ensures one { (table announced withdrawn next other : List Payload)
+        → IsUpdated table announced withdrawn next → IsUpdated table announced withdrawn other
+        → IsPermutation next other }
+{}
+
+/// Payloads are the same where the number is by which tables list them: so their order is one, and of payloads that are
+/// listed both `OriginTable::payloads` and `OriginTable::covering` give one list.
+pub fn laws_of_places()
+    ensures { (p q : Payload) → IsLawfulPayload p → IsLawfulPayload q → table_place p ≡ table_place q → p ≡ q }
+{}

@@ -76,7 +76,7 @@ fn sent<A: Allocator>(
 }
 
 /// The payload with its greatest length told.
-fn with_greatest_length(payload: &(MaxLenPrefix, Asn)) -> (MaxLenPrefix, Asn)
+pub(crate) fn with_greatest_length(payload: &(MaxLenPrefix, Asn)) -> (MaxLenPrefix, Asn)
     ensures { result ≡ as_sent payload.now }
 {
     let (prefix, asn) = *payload;

@@ -1,7 +1,8 @@
 //! Where a table's payloads stand whose addresses begin with the same bits: a search looks there first.
-ghost use Rattle.std.specs.Prelude.{◌≡◌, ◌≤◌, IfOk, length, nat_lt};
+ghost use Rattle.std.specs.Prelude.{◌<◌, ◌≤◌, IfOk, length, slice_index_or};
 ghost use Rattle.std.specs.List.Sorted.{IsNonDecreasingBy};
 ghost use Rattle.roa_origin.specs.Links.{AreFamilyPrefixes};
+ghost use Rattle.roa_origin.specs.Payloads.{Payload};
 ghost use Rattle.roa_origin.specs.Places.{payload_place};
 ghost use Rattle.roa_origin.specs.Starts.{AreStarts, IsStart, first_bits};
 
@@ -20,23 +21,25 @@ pub(crate) fn bits_for(payloads: usize) -> u8
     bits
 }
 
-/// The place in a table before which the first bits write less than a number. This is a binary search.
-fn start_of(payloads: &[Entry], bits: u8, number: usize) -> usize
+/// The place in a table before which the first bits write less than a number, from one on before which they do.
+fn start_from(payloads: &[Entry], bits: u8, number: usize, from: usize) -> usize
     requires ordered { IsNonDecreasingBy payload_place payloads.now }
     requires prefixes { AreFamilyPrefixes payloads.now (length payloads.now) }
     requires some { 1 ≤ bits }
     requires few { bits ≤ 16 }
+    requires from { from ≤ length payloads.now }
+    requires before { (k : _) (d : Payload) → k < from
+        → first_bits bits (slice_index_or payloads.now k d).0.prefix < number }
     ensures { IsStart bits payloads.now number result }
 {
-    payloads.partition_point(
-        |payload: &Entry| -> bool
-            requires { (1 ≤ bits) × (bits ≤ 16) }
-            ensures { result ≡ nat_lt (first_bits bits payload.now.0.prefix) number }
-        { payload.first_bits(bits) < number },
-    )
+    let mut at = from;
+    while at < payloads.len() && payloads[at].first_bits(bits) < number {
+        at += 1;
+    }
+    at
 }
 
-/// The starts of all numbers that the first bits of an address write, and the end.
+/// The starts of all numbers that the first bits of an address write, and the end. One walk along the payloads.
 pub(crate) fn starts<A: Allocator>(
     alloc: A,
     payloads: &[Entry],
@@ -50,8 +53,10 @@ pub(crate) fn starts<A: Allocator>(
 {
     let numbers = (2 << bits) + 1;
     let mut starts = Vec::with_capacity(alloc, numbers)?;
+    let mut at = 0;
     for number in 0..numbers {
-        starts.push(start_of(payloads, bits, number))?;
+        at = start_from(payloads, bits, number, at);
+        starts.push(at)?;
     }
     Ok(starts)
 }

@@ -1,9 +1,13 @@
--- The starts so far are those of the numbers gone through.
-use Rattle.std.proofs.Common.{◌≡◌, ◌<◌, ℕ, length, slice_index}
-use Rattle.roa_origin.specs.Starts.{IsStart}
+-- The starts so far are those of the numbers gone through, and before the last of them the first bits write less than
+-- the next number.
+use Rattle.std.proofs.Common.{◌≡◌, ◌≤◌, ◌<◌, ℕ, get_or, length, slice_index}
+use Rattle.roa_origin.specs.Payloads.{Payload}
+use Rattle.roa_origin.specs.Starts.{IsStart, first_bits}
 use Rattle.roa_origin.proofs.starts.starts.Given as goal
 
 abbrev pub invariant-loop-number : goal.invariant-loop-number
 invariant-loop-number g l =
     (length l.starts.items ≡ l.number)
     × ((number : ℕ) → number < l.number → IsStart l.bits l.payloads number (slice_index l.starts.items number))
+    × (l.at ≤ length l.payloads)
+    × ((k : ℕ) (d : Payload) → k < l.at → first_bits l.bits (get_or l.payloads k d).0.prefix < l.number)

@@ -1,0 +1,115 @@
+-- What changes in order say of the list that they came in.
+use Rattle.std.proofs.Common.{◌≡◌, ℕ, ◌+◌, ◌*◌, ◌^◌, ◌<◌, ◌≤◌, inl, inr, List, All, Any, get_or, length, map, take, refl, arith, sym, ◌∙◌, ap, subst}
+use Rattle.std.proofs.lemmas.Bool.{cases_lt}
+use Rattle.std.proofs.lemmas.List.{get_or-map, get_or-take, get_or_default, length-map, length-take}
+use Rattle.std.proofs.lemmas.List.Sorted.{All-permutation, IsPermutation-map, IsPermutation-refl, IsPermutation-trans}
+use Rattle.std.specs.List.Sorted.{IsNonDecreasingBy, IsPermutation}
+use Rattle.roa_origin.specs.Payloads.{IsLawfulPayload, Payload}
+use Rattle.roa_origin.specs.Places.{sent_place}
+use Rattle.roa_origin.specs.Tables.{as_sent}
+use Rattle.roa_origin.specs.Updates.{AreChangesOf, AreSorted, IsFirstPlace, IsLawfulChange, IsOf, IsOfBefore, IsSearched, IsSentIn, change_place, sent_change}
+use Rattle.roa_origin.specs.declared.updates.Change.{Change}
+use Rattle.roa_origin.proofs.Found.{any_moved}
+use Rattle.roa_origin.proofs.Sent.{same_sent, sent_same}
+
+-- ---- changes as they came
+
+abbrev entry_of : Change → Payload
+entry_of c = c.entry
+
+made : Payload → ℕ → Change
+made p n = record { entry = p; place = n }
+
+-- those of payloads gone through
+module _ (xs : List Payload) (cs : List Change) (same : map entry_of cs ≡ map as_sent xs) where
+  as_many : length cs ≡ length xs
+  as_many = sym (length-map cs entry_of) ∙ ap length same ∙ length-map xs as_sent
+
+  entry_at : (n : ℕ) (d : Change) (e : Payload) → n < length xs → (get_or cs n d).entry ≡ as_sent (get_or xs n e)
+  entry_at n d e small = sym (get_or-map entry_of cs n d e (omega (arith, small, as_many))) ∙ ap (λ ps. get_or ps n e) same ∙ get_or-map as_sent xs n e e small
+
+  pub listed : All IsLawfulChange cs → ((n : ℕ) (d : Change) → n < length cs → (get_or cs n d).place ≡ n) → AreChangesOf xs cs
+  listed lawful places = record {
+    lawful = lawful;
+    entries = subst (λ ps. IsPermutation (map as_sent xs) ps) (sym same) (IsPermutation-refl (map as_sent xs));
+    at_place = λ n d small.
+        let at : (get_or cs n d).place ≡ n = places n d small in
+        let inside : n < length xs = omega (arith, small, as_many) in
+        (omega (arith, at, inside), λ e. ap (λ k. as_sent (get_or xs k e)) at ∙ sym (entry_at n d e inside));
+    each = λ n d small.
+        let c = made d n in
+        let inside : n < length cs = omega (arith, small, as_many) in
+        (n, get_or cs n c, inside, get_or_default cs n (get_or cs n c) c inside, (entry_at n c d small, places n c inside));
+  }
+
+-- in another order they are changes of the same list
+pub listed_moved : (xs : List Payload) (cs ds : List Change) → IsPermutation cs ds → AreChangesOf xs cs → AreChangesOf xs ds
+listed_moved xs cs ds moved are = record {
+  lawful = All-permutation IsLawfulChange cs ds moved are.lawful;
+  entries = IsPermutation-trans (map as_sent xs) (map entry_of cs) (map entry_of ds) are.entries (IsPermutation-map entry_of cs ds moved);
+  at_place = All-permutation (λ change. (change.place < length xs) × ((d : Payload) → as_sent (get_or xs change.place d) ≡ change.entry)) cs ds moved are.at_place;
+  each = λ n d small. any_moved (λ change. (change.entry ≡ as_sent (get_or xs n d)) × (change.place ≡ n)) cs ds moved (are.each n d small);
+}
+
+-- ---- a payload among changes
+
+module _ (xs : List Payload) (cs : List Change) (are : AreChangesOf xs cs) (p : Payload) (is : IsLawfulPayload p) where
+  -- the list has a payload before a place where a change of it stands before
+  pub sent_before : (n : ℕ) → Any (IsOfBefore p n) cs → IsSentIn (take n xs) p
+  sent_before n (k, c, inside, there, is_of) =
+      let at = are.at_place k c inside in
+      let less : c.place < n = is_of.1 in
+      let place : c.place < length xs = subst (λ (b : Change). b.place < length xs) there at.0 in
+      let entry : as_sent (get_or xs c.place p) ≡ c.entry = subst (λ (b : Change). as_sent (get_or xs b.place p) ≡ b.entry) there (at.1 p) in
+      let lawful : IsLawfulChange c = subst IsLawfulChange there (are.lawful k c inside) in
+      let q : Payload = get_or xs c.place p in
+      let sent : as_sent q ≡ as_sent p = ap as_sent entry ∙ same_sent c.entry p lawful.payload is is_of.0 in
+      (c.place, q, omega (arith, less, place, length-take n xs), get_or-take n xs c.place q less ∙ get_or_default xs c.place q p place, sent)
+
+  pub change_before : (n : ℕ) → IsSentIn (take n xs) p → Any (IsOfBefore p n) cs
+  change_before n (k, q, inside, there, same) =
+      let small : k < n = omega (arith, inside, length-take n xs) in
+      let within : k < length xs = omega (arith, inside, length-take n xs) in
+      let found = are.each k q within in
+      let of : IsOf p found.1 = ap sent_place found.4.0 ∙ sent_same (get_or xs k q) p (ap as_sent (sym (get_or-take n xs k q small) ∙ there) ∙ same) in
+      (found.0, found.1, found.2, found.3, (of, omega (arith, found.4.1, small)))
+
+  pub sent_in : Any (IsOf p) cs → IsSentIn xs p
+  sent_in (k, c, inside, there, of) =
+      let at = are.at_place k c inside in
+      let place : c.place < length xs = subst (λ (b : Change). b.place < length xs) there at.0 in
+      let entry : as_sent (get_or xs c.place p) ≡ c.entry = subst (λ (b : Change). as_sent (get_or xs b.place p) ≡ b.entry) there (at.1 p) in
+      let lawful : IsLawfulChange c = subst IsLawfulChange there (are.lawful k c inside) in
+      let q : Payload = get_or xs c.place p in
+      (c.place, q, place, get_or_default xs c.place q p place, ap as_sent entry ∙ same_sent c.entry p lawful.payload is of)
+
+  pub change_of : IsSentIn xs p → Any (IsOf p) cs
+  change_of (k, q, inside, there, same) =
+      let found = are.each k q inside in
+      (found.0, found.1, found.2, found.3, ap sent_place found.4.0 ∙ sent_same (get_or xs k q) p (ap as_sent there ∙ same))
+
+-- ---- changes in order
+
+place_upper : (m n r s : ℕ) → s < 2 ^ 64 → m * 2 ^ 64 + r ≤ n * 2 ^ 64 + s → m ≤ n
+place_upper m n r s small le = omega (arith, small, le)
+
+-- by the order of their payloads
+pub by_payload : (cs : List Change) → AreSorted cs → IsNonDecreasingBy sent_change cs
+by_payload cs order i j d le small =
+    place_upper (sent_place (get_or cs i d).entry) (sent_place (get_or cs j d).entry) (get_or cs i d).place (get_or cs j d).place (order.lawful j d small).number (order.ordered i j d le small)
+
+-- the first one of a payload has the least place
+pub first_of : (cs : List Change) (p : Payload) (at : ℕ) → AreSorted cs → IsSearched sent_change cs (sent_place p) at
+    → at < length cs → (x : Change) → get_or cs at x ≡ x → IsOf p x → IsFirstPlace cs p x.place
+first_of cs p at order searched inside x is of = record {
+  there = (at, x, inside, is, (of, refl));
+  first = λ k d small same. elim (cases_lt k at) [
+    | inl low ↦ absurd (let less = searched.before k d low small in omega (arith, less, same))
+    | inr high ↦
+        let up : change_place x ≤ change_place (get_or cs k d) = subst (λ (b : Change). change_place b ≤ change_place (get_or cs k d)) (get_or_default cs at d x inside ∙ is) (order.ordered at k d high small) in
+        second (sent_place x.entry) (sent_place (get_or cs k d).entry) x.place (get_or cs k d).place (of ∙ sym same) up
+  ];
+}
+  where
+    second : (m n r s : ℕ) → m ≡ n → m * 2 ^ 64 + r ≤ n * 2 ^ 64 + s → r ≤ s
+    second m n r s e le = omega (arith, e, le)

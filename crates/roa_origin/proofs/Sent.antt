@@ -1,0 +1,80 @@
+-- Payloads are the same as they are sent where a number of theirs is, which follows the table's order.
+use Rattle.std.proofs.Common.{◌≡◌, ℕ, ◌+◌, ◌*◌, ◌^◌, ◌<◌, ◌≤◌, None, Some, Option, List, get_or, length, arith, refl, sym, ◌∙◌, ap}
+use Rattle.std.specs.List.Sorted.{IsNonDecreasingBy}
+use Rattle.roa_origin.proofs.Found.{found}
+use Rattle.roa_origin.proofs.Places.{longest_small, rank_small, same_prefix, told_small}
+use Rattle.rpki_prefix.specs.MaxLen.{resolved}
+use Rattle.rpki_prefix.specs.Values.{FamilyPrefix}
+use Rattle.roa_origin.specs.Payloads.{IsLawfulPayload, Payload, longest}
+use Rattle.roa_origin.specs.Places.{payload_place, rank, sent_place, sent_rank, table_place, told}
+use Rattle.roa_origin.specs.Tables.{as_sent}
+use Rattle.roa_origin.specs.Updates.{IsSearched, IsSentIn}
+
+-- the number has 64 bits behind the place of the prefix
+pub sent_small : (p : Payload) → IsLawfulPayload p → sent_rank p < 2 ^ 64
+sent_small p is = (let long = longest_small p is in omega (arith, long))
+
+first_same : (m n r s : ℕ) → r < 2 ^ 64 → s < 2 ^ 64 → m * 2 ^ 64 + r ≡ n * 2 ^ 64 + s → m ≡ n
+first_same m n r s small small' e = omega (arith, small, small', e)
+
+second_same : (m n r s : ℕ) → m ≡ n → m * 2 ^ 64 + r ≡ n * 2 ^ 64 + s → r ≡ s
+second_same m n r s same e = omega (arith, same, e)
+
+pub same_sent : (p q : Payload) → IsLawfulPayload p → IsLawfulPayload q → sent_place p ≡ sent_place q → as_sent p ≡ as_sent q
+same_sent p q is is' e =
+    let places : payload_place p ≡ payload_place q = first_same (payload_place p) (payload_place q) (sent_rank p) (sent_rank q) (sent_small p is) (sent_small q is') e in
+    let ranks : sent_rank p ≡ sent_rank q = second_same (payload_place p) (payload_place q) (sent_rank p) (sent_rank q) places e in
+    let long = longest_small p is in
+    let long' = longest_small q is' in
+    let number : p.1 < 2 ^ 32 = is.number in
+    let number' : q.1 < 2 ^ 32 = is'.number in
+    let prefixes = same_prefix p.0.prefix q.0.prefix is.prefix.0 is'.prefix.0 places in
+    let lens : longest p ≡ longest q = omega (arith, ranks, long, long', number, number') in
+    let asns : p.1 ≡ q.1 = omega (arith, ranks, long, long', number, number') in
+    λ i. (record { prefix = prefixes i; max_len = Some (lens i) }, asns i)
+
+-- a number of theirs tells payloads apart
+told_same : (p : FamilyPrefix) (m n : Option ℕ) → told m ≡ told n → resolved p m ≡ resolved p n → m ≡ n
+told_same p None None e f = refl
+told_same p (Some a) (Some b) e f = ap Some f
+told_same p None (Some b) e f = absurd (omega (arith, e))
+told_same p (Some a) None e f = absurd (omega (arith, e))
+
+pub same_payload : (p q : Payload) → IsLawfulPayload p → IsLawfulPayload q → table_place p ≡ table_place q → p ≡ q
+same_payload p q is is' e =
+    let places : payload_place p ≡ payload_place q = first_same (payload_place p) (payload_place q) (rank p) (rank q) (rank_small p is) (rank_small q is') e in
+    let ranks : rank p ≡ rank q = second_same (payload_place p) (payload_place q) (rank p) (rank q) places e in
+    let long = longest_small p is in
+    let long' = longest_small q is' in
+    let one = told_small p.0.max_len in
+    let one' = told_small q.0.max_len in
+    let number : p.1 < 2 ^ 32 = is.number in
+    let number' : q.1 < 2 ^ 32 = is'.number in
+    let prefixes = same_prefix p.0.prefix q.0.prefix is.prefix.0 is'.prefix.0 places in
+    let lens : longest p ≡ longest q = omega (arith, ranks, long, long', one, one', number, number') in
+    let tolds : told p.0.max_len ≡ told q.0.max_len = omega (arith, ranks, long, long', one, one', number, number') in
+    let asns : p.1 ≡ q.1 = omega (arith, ranks, long, long', one, one', number, number') in
+    let max_lens = told_same q.0.prefix p.0.max_len q.0.max_len tolds (ap (λ r. resolved r p.0.max_len) (sym prefixes) ∙ lens) in
+    λ i. (record { prefix = prefixes i; max_len = max_lens i }, asns i)
+
+pub sent_same : (p q : Payload) → as_sent p ≡ as_sent q → sent_place p ≡ sent_place q
+sent_same p q e = ap sent_place e
+
+-- what comes no later comes no later as it is sent
+pub sent_up : (p q : Payload) → table_place p ≤ table_place q → sent_place p ≤ sent_place q
+sent_up p q le =
+    let one = told_small p.0.max_len in
+    let one' = told_small q.0.max_len in
+    omega (arith, le, one, one')
+
+pub by_sent : (xs : List Payload) → IsNonDecreasingBy table_place xs → IsNonDecreasingBy sent_place xs
+by_sent xs ranked i j d le small = sent_up (get_or xs i d) (get_or xs j d) (ranked i j d le small)
+
+-- of payloads as they are sent the two orders are one
+pub as_told : (p q : Payload) → told p.0.max_len ≡ 1 → told q.0.max_len ≡ 1 → sent_place p ≤ sent_place q → table_place p ≤ table_place q
+as_told p q one one' le = omega (arith, one, one', le)
+
+-- a table that has a payload has it where a search for it stops
+pub sent_there : (xs : List Payload) (p : Payload) (at : ℕ) → IsNonDecreasingBy table_place xs → IsSearched sent_place xs (sent_place p) at
+    → IsSentIn xs p → (at < length xs) × ((d : Payload) → sent_place (get_or xs at d) ≡ sent_place p)
+sent_there xs p at ranked searched h = found sent_place xs (sent_place p) at (by_sent xs ranked) searched (h.0, h.1, h.2, h.3, sent_same h.1 p h.4)

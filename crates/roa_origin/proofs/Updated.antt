@@ -1,0 +1,182 @@
+-- One walk along a table and the changes of it, turn by turn.
+use Rattle.std.proofs.Common.{◌≡◌, ℕ, ◌+◌, ◌<◌, ◌≤◌, List, [], ◌∷◌, ◌++◌, All, Any, get_or, length, map, take, inl, inr, refl, arith, sym, ◌∙◌, ap, subst}
+use Rattle.std.proofs.lemmas.List.{get_or-map, get_or_default, length-map, take_all, take_more}
+use Rattle.std.proofs.lemmas.List.Elements.{All-append, All-head, All-map, All-tail}
+use Rattle.std.proofs.lemmas.List.Sorted.{All-permutation, IsPermutation-append_right, IsPermutation-refl, IsPermutation-trans}
+use Rattle.std.specs.List.Sorted.{IsNonDecreasingBy, IsPermutation}
+use Rattle.roa_origin.specs.Coverings.{AreThose}
+use Rattle.roa_origin.specs.Links.{IsInOrder}
+use Rattle.roa_origin.specs.Payloads.{IsLawfulPayload, Payload}
+use Rattle.roa_origin.specs.Places.{sent_place, table_place}
+use Rattle.roa_origin.specs.Tables.{as_sent}
+use Rattle.roa_origin.specs.Updates.{AreChangesOf, AreSorted, IsMergedOf, IsOf, IsSearched, IsSentIn, IsUpdated, sent_change}
+use Rattle.roa_origin.specs.declared.updates.Change.{Change}
+use Rattle.roa_origin.proofs.Found.{found}
+use Rattle.roa_origin.proofs.Listed.{by_payload, change_of, sent_in}
+use Rattle.roa_origin.proofs.Merges.{All-those, IsMerged, moved_last, moved_middle, none_merged, skipped, taken, those_more, those_without, turned}
+use Rattle.roa_origin.proofs.Places.{by_places}
+use Rattle.roa_origin.proofs.Sent.{as_told, by_sent}
+
+abbrev pub entry_of : Change → Payload
+entry_of c = c.entry
+
+-- no change is of a payload
+abbrev pub Stays : List Change → Payload → Type 0
+Stays changes p = ¬ Any (IsOf p) changes
+
+-- the walk stands at places of the table, of the withdrawn and of the announced; the list has what is kept of the
+-- table's payloads before, and what is announced before
+pub record IsSoFar (table : List Payload) (withdrawn announced : List Change) (at gone come : ℕ) (list : List Payload) : Type 0 where
+  pub at_within : at ≤ length table
+  pub gone_within : gone ≤ length withdrawn
+  pub come_within : come ≤ length announced
+  pub passed : (k i : ℕ) (d : Change) (e : Payload) → k < gone → at ≤ i → i < length table → sent_place (get_or withdrawn k d).entry < sent_place (get_or table i e)
+  pub kept : List Payload
+  pub stays : AreThose (Stays withdrawn) (take at table) kept
+  pub has : IsPermutation (kept ++ take come (map entry_of announced)) list
+  pub merged : IsMerged table_place table (map entry_of announced) at come list
+
+module _ (table : List Payload) (order : IsInOrder table) (withdrawn announced : List Change) (gone_order : AreSorted withdrawn) (come_order : AreSorted announced) where
+  entries : List Payload
+  entries = map entry_of announced
+
+  -- what is announced is in a table's order, since each has its greatest length
+  up : IsNonDecreasingBy table_place entries
+  unfolding entries
+  up i j d le small =
+      let many = length-map announced entry_of in
+      let c : Change = record { entry = d; place = 0 } in
+      let inside : j < length announced = omega (arith, small, many) in
+      let inside' : i < length announced = omega (arith, le, inside) in
+      let one = come_order.lawful i c inside' in
+      let other = come_order.lawful j c inside in
+      let sent = as_told (get_or announced i c).entry (get_or announced j c).entry one.sent other.sent (by_payload announced come_order i j c le inside) in
+      subst (λ (p : Payload). table_place p ≤ table_place (get_or (map entry_of announced) j d)) (sym (get_or-map entry_of announced i c d inside'))
+      (subst (λ (p : Payload). table_place (get_or announced i c).entry ≤ table_place p) (sym (get_or-map entry_of announced j c d inside)) sent)
+
+  pub start : IsSoFar table withdrawn announced 0 0 0 []
+  start = record {
+    at_within = omega arith;
+    gone_within = omega arith;
+    come_within = omega arith;
+    passed = λ k i d e small from inside. absurd (omega (arith, small));
+    kept = [];
+    stays = refl;
+    has = IsPermutation-refl [];
+    merged = none_merged table_place table (map entry_of announced);
+  }
+
+  module _ (at gone come : ℕ) (list : List Payload) (so_far : IsSoFar table withdrawn announced at gone come list) where
+    -- the next one is announced
+    pub comes : (c : Change) → come < length announced → get_or announced come c ≡ c
+        → ((e : Payload) → at < length table → table_place c.entry ≤ table_place (get_or table at e))
+        → IsSoFar table withdrawn announced at gone (come + 1) (list ++ c.entry ∷ [])
+    unfolding entries
+    comes c inside is le =
+        let many = length-map announced entry_of in
+        let within : come < length (map entry_of announced) = omega (arith, inside, many) in
+        let entry : get_or (map entry_of announced) come c.entry ≡ c.entry = get_or-map entry_of announced come c c.entry inside ∙ ap entry_of is in
+        let more : take (come + 1) (map entry_of announced) ≡ take come (map entry_of announced) ++ c.entry ∷ [] =
+        take_more (map entry_of announced) come c.entry within ∙ ap (λ p. take come (map entry_of announced) ++ p ∷ []) entry in
+        record {
+          at_within = so_far.at_within;
+          gone_within = so_far.gone_within;
+          come_within = omega (arith, inside);
+          passed = so_far.passed;
+          kept = so_far.kept;
+          stays = so_far.stays;
+          has = subst (λ ps. IsPermutation (so_far.kept ++ ps) (list ++ c.entry ∷ [])) (sym more) (moved_last so_far.kept (take come (map entry_of announced)) list c.entry so_far.has);
+          merged = turned table_place (map entry_of announced) table (come + 1) at (list ++ c.entry ∷ [])
+              (taken table_place (map entry_of announced) table come at list c.entry up order.ranked within entry (λ small. le c.entry small) (turned table_place table (map entry_of announced) at come list so_far.merged));
+        }
+
+    -- the next one is of the table
+    module _ (p : Payload) (small : at < length table) (is : get_or table at p ≡ p) (place : ℕ) (within : place ≤ length withdrawn) (searched : IsSearched sent_change withdrawn (sent_place p) place) where
+      next : take (at + 1) table ≡ take at table ++ p ∷ []
+      next = take_more table at p small ∙ ap (λ q. take at table ++ q ∷ []) is
+
+      passed_more : (k i : ℕ) (d : Change) (e : Payload) → k < place → at + 1 ≤ i → i < length table → sent_place (get_or withdrawn k d).entry < sent_place (get_or table i e)
+      passed_more k i d e low from inside =
+          let less = searched.before k d low (omega (arith, low, within)) in
+          let more : sent_place p ≤ sent_place (get_or table i e) = subst (λ (q : Payload). sent_place q ≤ sent_place (get_or table i e)) (get_or_default table at e p small ∙ is) (by_sent table order.ranked at i e (omega (arith, from)) inside) in
+          omega (arith, less, more)
+
+      -- and is withdrawn
+      pub goes : (place < length withdrawn) × ((d : Change) → IsOf p (get_or withdrawn place d)) → IsSoFar table withdrawn announced (at + 1) place come list
+      goes there = record {
+        at_within = omega (arith, small);
+        gone_within = within;
+        come_within = so_far.come_within;
+        passed = passed_more;
+        kept = so_far.kept;
+        stays = subst (λ ps. AreThose (Stays withdrawn) ps so_far.kept) (sym next) (those_without (Stays withdrawn) (take at table) so_far.kept p (λ none. none some) so_far.stays);
+        has = so_far.has;
+        merged = skipped table_place table (map entry_of announced) at come list so_far.merged;
+      }
+        where
+          c : Change
+          c = record { entry = p; place = 0 }
+
+          some : Any (IsOf p) withdrawn
+          some = (place, get_or withdrawn place c, there.0, get_or_default withdrawn place (get_or withdrawn place c) c there.0, there.1 c)
+
+      -- or stays
+      pub remains : ¬ ((place < length withdrawn) × ((d : Change) → IsOf p (get_or withdrawn place d)))
+          → ((c : Change) → come < length announced → table_place p ≤ table_place (get_or announced come c).entry)
+          → IsSoFar table withdrawn announced (at + 1) place come (list ++ p ∷ [])
+      unfolding entries
+      remains none le =
+          let many = length-map announced entry_of in
+          let stays : Stays withdrawn p = λ some. none (found sent_change withdrawn (sent_place p) place (by_payload withdrawn gone_order) searched some) in record {
+            at_within = omega (arith, small);
+            gone_within = within;
+            come_within = so_far.come_within;
+            passed = passed_more;
+            kept = so_far.kept ++ p ∷ [];
+            stays = subst (λ ps. AreThose (Stays withdrawn) ps (so_far.kept ++ p ∷ [])) (sym next) (those_more (Stays withdrawn) (take at table) so_far.kept p stays so_far.stays);
+            has = moved_middle so_far.kept (take come (map entry_of announced)) list p so_far.has;
+            merged = taken table_place table (map entry_of announced) at come list p order.ranked up small is (λ inside.
+                let c : Change = record { entry = p; place = 0 } in
+                let there : come < length announced = omega (arith, inside, many) in
+                subst (λ (q : Payload). table_place p ≤ table_place q) (sym (get_or-map entry_of announced come c p there)) (le c there)) so_far.merged;
+          }
+
+  -- at the end the list has all
+  module _ (at gone come : ℕ) (list : List Payload) (so_far : IsSoFar table withdrawn announced at gone come list) (all : length table ≤ at) (each : length announced ≤ come) where
+    every : take come (map entry_of announced) ≡ map entry_of announced
+    every = take_all come (map entry_of announced) (let many = length-map announced entry_of in omega (arith, many, each))
+
+    pub merged_of : IsMergedOf table withdrawn announced list
+    merged_of = record {
+      kept = so_far.kept;
+      stays = subst (λ ps. AreThose (Stays withdrawn) ps so_far.kept) (take_all at table all) so_far.stays;
+      has = subst (λ ps. IsPermutation (so_far.kept ++ ps) list) every so_far.has;
+    }
+
+    pub in_order : IsInOrder list
+    in_order =
+        let m = merged_of in
+        let kept : All IsLawfulPayload m.kept = All-those (Stays withdrawn) IsLawfulPayload table m.kept m.stays order.payloads in
+        let come : All IsLawfulPayload (map entry_of announced) = All-map IsLawfulPayload entry_of announced (λ k c inside. (come_order.lawful k c inside).payload) in
+        let payloads = All-permutation IsLawfulPayload (m.kept ++ map entry_of announced) list m.has (All-append IsLawfulPayload m.kept (map entry_of announced) kept come) in
+        record { payloads = payloads; ordered = by_places list payloads so_far.merged.ordered; ranked = so_far.merged.ordered }
+
+-- ---- the lists that the changes came in
+
+pub updated_by : (table xs ys : List Payload) (ds cs : List Change) (next : List Payload) → All IsLawfulPayload table → AreChangesOf xs ds → AreChangesOf ys cs
+    → IsMergedOf table ds cs next → IsUpdated table ys xs next
+updated_by table xs ys ds cs next lawful gone come m = record {
+  kept = m.kept;
+  stays = those_of table m.kept lawful m.stays;
+  has = IsPermutation-trans (m.kept ++ map as_sent ys) (m.kept ++ map entry_of cs) next (IsPermutation-append_right m.kept (map as_sent ys) (map entry_of cs) come.entries) m.has;
+}
+  where
+    those_of : (ps kept : List Payload) → All IsLawfulPayload ps → AreThose (Stays ds) ps kept → AreThose (λ p. ¬ IsSentIn xs p) ps kept
+    those_of [] kept all e = e
+    those_of (p ∷ ps) kept all those =
+        let is = All-head IsLawfulPayload p ps all in
+        let rest = All-tail IsLawfulPayload p ps all in
+        elim those [
+          | inl w ↦ inl ((λ has. w.0 (change_of xs ds gone p is has)), w.1, w.2, those_of ps w.1 rest w.3)
+          | inr w ↦ inr ((λ none. w.0 (λ some. none (sent_in xs ds gone p is some))), those_of ps kept rest w.1)
+        ]

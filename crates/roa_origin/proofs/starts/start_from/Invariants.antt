@@ -1,0 +1,13 @@
+-- Before the place the first bits write less.
+use Rattle.std.proofs.Common.{◌-◌, ◌≤◌, ◌<◌, ℕ, get_or, length}
+use Rattle.roa_origin.specs.Payloads.{Payload}
+use Rattle.roa_origin.specs.Starts.{first_bits}
+use Rattle.roa_origin.proofs.starts.start_from.Given as goal
+
+abbrev pub invariant-loop-at : goal.invariant-loop-at
+invariant-loop-at l =
+    (l.at ≤ length l.payloads)
+    × ((k : ℕ) (d : Payload) → k < l.at → first_bits l.bits (get_or l.payloads k d).0.prefix < l.number)
+
+abbrev pub decreases-loop-at : goal.decreases-loop-at
+decreases-loop-at l = length l.payloads - l.at

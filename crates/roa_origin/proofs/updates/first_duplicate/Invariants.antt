@@ -1,0 +1,8 @@
+-- None was found so far.
+use Rattle.std.proofs.Common.{◌<◌, ℕ, List}
+use Rattle.roa_origin.specs.Payloads.{Payload}
+use Rattle.roa_origin.specs.Updates.{AreChangesOf, IsDuplicateRecord}
+use Rattle.roa_origin.proofs.updates.first_duplicate.Given as goal
+
+abbrev pub invariant-loop-place : goal.invariant-loop-place
+invariant-loop-place l = (gone : List Payload) → AreChangesOf gone l.withdrawn → (n : ℕ) → n < l.place → ¬ IsDuplicateRecord l.table l.announced gone n

@@ -1,0 +1,26 @@
+-- From the place on none comes earlier, since the first there doesn't.
+use Rattle.std.proofs.Common.{arith, ◌≡◌, ◌≤◌, true, false, sym, ◌∙◌, subst, get_or, inl, inr}
+use Rattle.std.proofs.lemmas.Bool.{cases_lt, lt-ltb}
+use Rattle.std.proofs.lemmas.List.{get_or_default}
+use Rattle.roa_origin.proofs.Listed.{by_payload}
+use Rattle.roa_origin.specs.Places.{sent_place}
+use Rattle.roa_origin.specs.Updates.{sent_change}
+use Rattle.roa_origin.specs.declared.updates.Change.{Change}
+use Rattle.roa_origin.proofs.updates.passed.Goals as goal
+
+pub returns-else-is_sent_before-clause-searched : goal.returns-else-is_sent_before-clause-searched
+returns-else-is_sent_before-clause-searched c =
+    let xs = c.args.changes.now in
+    let at = c.loop-at.at in
+    let t = sent_place c.args.payload.now in
+    let x : Change = get_or xs at c.index-changes-at.result in
+    let here : t ≤ sent_change x = elim (cases_lt (sent_change x) t) [
+      | inl less ↦ absurd (let f : true ≡ false = sym (lt-ltb (sent_change x) t less) ∙ sym c.is_sent_before.ensures ∙ c.if-is_sent_before.false in cc)
+      | inr more ↦ more
+    ] in record {
+      before = λ k d low inside. c.loop-at.invariant.1 k d low;
+      from = λ k d from inside.
+          let first : t ≤ sent_change (get_or xs at d) = subst (λ (y : Change). t ≤ sent_change y) (get_or_default xs at c.index-changes-at.result d c.loop-at-test.true) here in
+          let up = by_payload xs c.requires.in_order at k d from inside in
+          omega (arith, first, up);
+    }

@@ -1,0 +1,13 @@
+-- Before the place all come earlier.
+use Rattle.std.proofs.Common.{◌-◌, ◌≤◌, ◌<◌, ℕ, get_or, length}
+use Rattle.roa_origin.specs.Places.{sent_place}
+use Rattle.roa_origin.specs.declared.updates.Change.{Change}
+use Rattle.roa_origin.proofs.updates.passed.Given as goal
+
+abbrev pub invariant-loop-at : goal.invariant-loop-at
+invariant-loop-at l =
+    (l.at ≤ length l.changes)
+    × ((k : ℕ) (d : Change) → k < l.at → sent_place (get_or l.changes k d).entry < sent_place l.payload)
+
+abbrev pub decreases-loop-at : goal.decreases-loop-at
+decreases-loop-at l = length l.changes - l.at

@@ -1,0 +1,12 @@
+-- Sorted changes are in order.
+use Rattle.std.proofs.Common.{rules}
+use Rattle.std.proofs.lemmas.List.Sorted.{All-permutation, IsNonDecreasingBy-from_sort_by}
+use Rattle.roa_origin.specs.Updates.{IsLawfulChange, change_place}
+use Rattle.roa_origin.proofs.updates.sort_changes.Goals as goal
+
+pub returns-clause-in_order : goal.returns-clause-in_order
+returns-clause-in_order g c =
+    let xs = c.sort_unstable_by.new.self.items in record {
+      lawful = All-permutation IsLawfulChange c.args.changes.now.items xs c.sort_unstable_by.ensures.permutation c.requires;
+      ordered = IsNonDecreasingBy-from_sort_by change_place xs c.sort_unstable_by.ensures.sorted (λ a r q k. search rules);
+    }

@@ -1,0 +1,41 @@
+-- Each turn takes the next payload, of the table or announced.
+use Rattle.std.proofs.Common.{◌≤◌, IsTrue, get_or, sym, subst}
+use Rattle.std.proofs.lemmas.List.{get_or_default}
+use Rattle.roa_origin.proofs.Updated.{comes, goes, in_order, merged_of, remains}
+use Rattle.roa_origin.specs.Payloads.{Payload}
+use Rattle.roa_origin.specs.Places.{table_place}
+use Rattle.roa_origin.specs.declared.updates.Change.{Change}
+use Rattle.roa_origin.proofs.updates.updated.Goals.{then-not-stands_at+in_ok-push-2, else-not-stands_at}
+use Rattle.roa_origin.proofs.updates.updated.Goals as goal
+
+pub loop-at-preserved-then-announced_is_next : goal.loop-at-preserved-then-announced_is_next
+loop-at-preserved-then-announced_is_next g c =
+    let next = c.announced_is_next.ensures.announced c.if-announced_is_next.true in
+    let r : Change = c.index-announced-come.result in
+    let x : Change = get_or c.args.announced.now c.loop-at.come r in
+    rw c.in_ok-push.ensures.items (comes c.args.table.now c.requires.table c.args.withdrawn.now c.args.announced.now c.requires.withdrawn c.requires.announced c.loop-at.at c.loop-at.gone c.loop-at.come c.loop-at.next.items c.loop-at.invariant
+    x next.0 (get_or_default c.args.announced.now c.loop-at.come x r next.0) (λ e small. next.1 r e small))
+
+pub loop-at-preserved : goal.loop-at-preserved
+loop-at-preserved g c =
+    let next = c.announced_is_next.ensures.table c.if-announced_is_next.false in
+    let p : Payload = c.index-table-at.result in
+    let place = c.passed-gone.result in
+    elim c.if-not-stands_at.branch [
+      | then-not-stands_at+in_ok-push-2 w ↦
+          rw (w.next-is, w.in_ok-push-2.ensures.items) (remains c.args.table.now c.requires.table c.args.withdrawn.now c.args.announced.now c.requires.withdrawn c.requires.announced c.loop-at.at c.loop-at.gone c.loop-at.come c.loop-at.next.items c.loop-at.invariant
+          p next.0 (sym c.index-table-at.is) place c.passed-gone.ensures.within c.passed-gone.ensures.searched
+          (λ h. let t : IsTrue c.stands_at.result = c.stands_at.ensures.1 h in let f = w.if-not-stands_at.true in cc)
+          (λ d small. subst (λ (y : Payload). table_place y ≤ table_place (get_or c.args.announced.now c.loop-at.come d).entry) (sym c.index-table-at.is) (next.1 d p small)))
+      | else-not-stands_at w ↦
+          rw w.next-is (goes c.args.table.now c.requires.table c.args.withdrawn.now c.args.announced.now c.requires.withdrawn c.requires.announced c.loop-at.at c.loop-at.gone c.loop-at.come c.loop-at.next.items c.loop-at.invariant
+          p next.0 (sym c.index-table-at.is) place c.passed-gone.ensures.within c.passed-gone.ensures.searched (c.stands_at.ensures.0 w.if-not-stands_at.false))
+    ]
+
+pub returns-clause-in_order : goal.returns-clause-in_order
+returns-clause-in_order g c =
+    in_order c.args.table.now c.requires.table c.args.withdrawn.now c.args.announced.now c.requires.withdrawn c.requires.announced c.loop-at.at c.loop-at.gone c.loop-at.come c.loop-at.next.items c.loop-at.invariant c.if-at-table.false c.if-come-announced.false
+
+pub returns-clause-updated : goal.returns-clause-updated
+returns-clause-updated g c =
+    merged_of c.args.table.now c.requires.table c.args.withdrawn.now c.args.announced.now c.requires.withdrawn c.requires.announced c.loop-at.at c.loop-at.gone c.loop-at.come c.loop-at.next.items c.loop-at.invariant c.if-at-table.false c.if-come-announced.false

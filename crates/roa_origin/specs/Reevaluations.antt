@@ -1,0 +1,24 @@
+-- The routes whose validity changes from one table to the next (RFC 6811, 4).
+use Rattle.std.specs.Prelude.{◌≢◌, ◌↔◌, ℕ, ◌<◌, List, AllPairs, Contains, length, slice_index_or}
+use Rattle.rpki_prefix.specs.Values.{FamilyPrefix}
+use Rattle.roa_origin.specs.Payloads.{Payload}
+use Rattle.roa_origin.specs.Validities.{IsValidity}
+use Rattle.roa_origin.specs.declared.validation.Validity.{Validity}
+
+-- two lists of payloads give the route of an AS two validities
+pub record HasChanged (old new : List Payload) (route : FamilyPrefix) (asn : ℕ) : Type 0 where
+  pub before : Validity
+  pub after : Validity
+  pub was : IsValidity route asn old before
+  pub is : IsValidity route asn new after
+  pub differ : before ≢ after
+
+-- at this place stands such a route
+pub record IsChangedAt (old new : List Payload) (routes : List (FamilyPrefix × ℕ)) (place : ℕ) : Type 0 where
+  pub within : place < length routes
+  pub changed : (d : FamilyPrefix × ℕ) → HasChanged old new (slice_index_or routes place d).0 (slice_index_or routes place d).1
+
+-- the places of these routes, ascending
+pub record AreChanged (old new : List Payload) (routes : List (FamilyPrefix × ℕ)) (places : List ℕ) : Type 0 where
+  pub ascending : AllPairs (λ i j. i < j) places
+  pub members : (place : ℕ) → Contains places place ↔ IsChangedAt old new routes place

@@ -1,0 +1,45 @@
+//! The payloads of a table.
+ghost use Rattle.std.specs.Prelude.{◌≡◌};
+ghost use Rattle.std.specs.Iterator.{YieldsFirst, item_count};
+
+use crate::entry::Entry;
+use rpki_base::Asn;
+use rpki_prefix::MaxLenPrefix;
+use std::marker::Model;
+
+/// The payloads of a table that are left, in its order. Contracts see it as their list.
+#[derive(Drop)]
+pub struct TablePayloads<'a> {
+    entries: &'a [Entry],
+}
+
+impl<'a> Model for TablePayloads<'a> {
+    ghost use Rattle.std.specs.Prelude.{List};
+    ghost use Rattle.roa_origin.specs.Payloads.{Payload};
+
+    ghost Value = { List Payload };
+
+    ghost view = { λ payloads. payloads.entries.now };
+}
+
+impl<'a> TablePayloads<'a> {
+    pub(crate) fn of(entries: &'a [Entry]) -> TablePayloads<'a>
+        ensures { result ≡ entries.now }
+    {
+        TablePayloads { entries }
+    }
+}
+
+impl Iterator for TablePayloads<'_> {
+    type Item = (MaxLenPrefix, Asn);
+
+    ghost next_gives = { YieldsFirst (λ payloads. payloads) };
+
+    ghost remaining = { item_count (λ payloads. payloads) };
+
+    fn next(&mut self) -> Option<(MaxLenPrefix, Asn)> {
+        let (first, rest) = self.entries.split_first()?;
+        self.entries = rest;
+        Some(first.payload())
+    }
+}

@@ -1,0 +1,359 @@
+//! A router's table after the changes that a cache sends it (RFC 8210, 5.3, 5.6 and 5.7).
+ghost use Rattle.std.specs.Prelude.{◌≡◌, ◌^◌, ◌<◌, ◌≤◌, ◌⊎◌, ◌↔◌, ℕ, false, List, All, Any, IfOk, IsTrue, MatchOption, MatchResult, length, nat_lt, slice_index_or};
+ghost use Rattle.std.specs.List.Sorted.{IsPermutation};
+ghost use Rattle.std.specs.Ordering.{nat_cmp};
+ghost use Rattle.rpki_text.specs.Memory.{IfRefused};
+ghost use Rattle.roa_origin.specs.Links.{IsInOrder};
+ghost use Rattle.roa_origin.specs.Payloads.{Payload};
+ghost use Rattle.roa_origin.specs.Places.{sent_place, table_place};
+ghost use Rattle.roa_origin.specs.Tables.{as_sent};
+ghost use Rattle.roa_origin.specs.Updates.{AreChangesOf, AreSorted, AreUpdates, HasChangeFault, IsDuplicateRecord, IsFirst, IsFirstPlace, IsLawfulChange, IsMergedOf, IsOf, IsOfBefore, IsSearched, IsSentIn, IsUnknownRecord, IsUpdated, change_place, sent_change};
+
+use crate::entry::Entry;
+use crate::payloads::with_greatest_length;
+use rpki_base::Asn;
+use rpki_prefix::MaxLenPrefix;
+use rpki_text::memory::OrMemory;
+use std::alloc::{AllocError, Allocator};
+use std::cmp::Ordering;
+use thiserror::Error;
+
+/// Why changes are none of a table, which a router reports to its cache (RFC 8210, 5.11 and 12). Withdrawals are looked
+/// at first, each list in its order; the first that is wrong is told by its place in its list, counted from 0.
+#[derive(Clone, Copy, Debug, PartialEq, Eq, Error)]
+pub enum ChangeFault {
+    /// A payload is withdrawn that the table hasn't, or that is withdrawn before (error 6).
+    #[error("withdrawal of unknown record at {0}")]
+    UnknownWithdrawal(usize),
+    /// A payload is announced that the table has and that isn't withdrawn, or that is announced before (error 7).
+    #[error("duplicate announcement received at {0}")]
+    DuplicateAnnouncement(usize),
+}
+
+/// A payload that is announced or withdrawn, as it is sent, with its place in the list that it came in.
+#[derive(Clone, Copy)]
+pub(crate) struct Change {
+    pub(crate) entry: Entry,
+    pub(crate) place: usize,
+}
+
+impl Change {
+    /// The change of the payload at a place of a list.
+    fn new(payload: &(MaxLenPrefix, Asn), place: usize) -> Change
+        ensures entry { result.entry ≡ as_sent payload.now }
+        ensures place { result.place ≡ place }
+        ensures lawful { IsLawfulChange result }
+    {
+        Change {
+            entry: Entry::new(with_greatest_length(payload)),
+            place,
+        }
+    }
+
+    /// Compares changes by their payloads, and by one payload by their places.
+    fn cmp_place(&self, other: &Change) -> Ordering
+        ensures { result ≡ nat_cmp (change_place self.now) (change_place other.now) }
+    {
+        let by_place = cmp_numbers(self.place, other.place);
+        self.entry.cmp_sent(&other.entry).then(by_place)
+    }
+}
+
+/// Compares places.
+fn cmp_numbers(one: usize, other: usize) -> Ordering
+    ensures order { result ≡ nat_cmp one other }
+    ensures one { one < 2 ^ 64 }
+    ensures other { other < 2 ^ 64 }
+{
+    one.cmp(&other)
+}
+
+/// The changes of a list of payloads, in its order.
+fn listed_changes<A: Allocator>(
+    alloc: A,
+    payloads: &[(MaxLenPrefix, Asn)],
+) -> Result<Vec<Change, A>, AllocError>
+    ensures { IfOk result (λ changes. AreChangesOf payloads.now changes.items) }
+{
+    let mut changes = Vec::with_capacity(alloc, payloads.len())?;
+    for (place, payload) in payloads.iter().enumerate() {
+        changes.push(Change::new(payload, place))?;
+    }
+    Ok(changes)
+}
+
+/// The changes of a list of payloads, in the order of the payloads.
+fn sorted_changes<A: Allocator>(
+    alloc: A,
+    payloads: &[(MaxLenPrefix, Asn)],
+) -> Result<Vec<Change, A>, AllocError>
+    ensures changes { IfOk result (λ changes. AreChangesOf payloads.now changes.items) }
+    ensures in_order { IfOk result (λ changes. AreSorted changes.items) }
+{
+    let mut changes = listed_changes(alloc, payloads)?;
+    sort_changes(&mut changes);
+    Ok(changes)
+}
+
+/// Brings changes into the order of their payloads.
+fn sort_changes<A: Allocator>(changes: &mut Vec<Change, A>)
+    requires { All IsLawfulChange changes.old.items }
+    ensures permutation { IsPermutation changes.old.items changes.new.items }
+    ensures in_order { AreSorted changes.new.items }
+{
+    changes.sort_unstable_by(
+        |one: &Change, other: &Change| -> Ordering
+            ensures { result ≡ nat_cmp (change_place one.now) (change_place other.now) }
+        { one.cmp_place(other) },
+    );
+}
+
+/// Whether a change of the payload stands at a place.
+fn stands_at(changes: &[Change], at: usize, payload: &Entry) -> bool
+    ensures { IsTrue result ↔ ((at < length changes.now)
+        × ((d : Change) → IsOf payload.now (slice_index_or changes.now at d))) }
+{
+    at < changes.len() && changes[at].entry.is_sent_as(payload)
+}
+
+/// The place before which changes are of payloads that come earlier. This is a binary search.
+fn place_of(changes: &[Change], payload: &Entry) -> usize
+    requires { AreSorted changes.now }
+    ensures within { result ≤ length changes.now }
+    ensures searched { IsSearched sent_change changes.now (sent_place payload.now) result }
+{
+    changes.partition_point(
+        |change: &Change| -> bool
+            ensures { result ≡ nat_lt (sent_place change.now.entry) (sent_place payload.entry.now) }
+        { change.entry.is_sent_before(payload) },
+    )
+}
+
+/// The least place at which a list has a payload, by its changes.
+fn first_place(changes: &[Change], payload: &Entry) -> Option<usize>
+    requires { AreSorted changes.now }
+    ensures { MatchOption result (All (λ change. ¬ IsOf payload.now change) changes.now)
+        (IsFirstPlace changes.now payload.now) }
+{
+    let at = place_of(changes, payload);
+    if stands_at(changes, at, payload) {
+        return Some(changes[at].place);
+    }
+    None
+}
+
+/// Whether a list has a payload before a place, by its changes.
+fn is_listed_before(changes: &[Change], payload: &Entry, place: usize) -> bool
+    requires { AreSorted changes.now }
+    ensures { IsTrue result ↔ Any (IsOfBefore payload.now place) changes.now }
+{
+    match first_place(changes, payload) {
+        Some(first) => first < place,
+        None => false,
+    }
+}
+
+/// Whether a list has a payload, by its changes.
+fn is_listed(changes: &[Change], payload: &Entry) -> bool
+    requires { AreSorted changes.now }
+    ensures { IsTrue result ↔ Any (IsOf payload.now) changes.now }
+{
+    first_place(changes, payload).is_some()
+}
+
+/// The place before which a table's payloads come earlier, as they are sent. This is a binary search.
+fn place_in(table: &[Entry], payload: &Entry) -> usize
+    requires { IsInOrder table.now }
+    ensures within { result ≤ length table.now }
+    ensures searched { IsSearched sent_place table.now (sent_place payload.now) result }
+{
+    table.partition_point(
+        |entry: &Entry| -> bool
+            ensures { result ≡ nat_lt (sent_place entry.now) (sent_place payload.entry.now) }
+        { entry.is_sent_before(payload) },
+    )
+}
+
+/// Whether a table has a payload, as payloads are sent.
+fn has(table: &[Entry], payload: &Entry) -> bool
+    requires { IsInOrder table.now }
+    ensures { IsTrue result ↔ IsSentIn table.now payload.now }
+{
+    let at = place_in(table, payload);
+    at < table.len() && table[at].is_sent_as(payload)
+}
+
+/// Whether a table hasn't a payload, or a list has it before a place.
+fn is_unknown(table: &[Entry], changes: &[Change], payload: &Entry, place: usize) -> bool
+    requires table { IsInOrder table.now }
+    requires changes { AreSorted changes.now }
+    ensures { IsTrue result ↔ ((¬ IsSentIn table.now payload.now)
+        ⊎ Any (IsOfBefore payload.now place) changes.now) }
+{
+    if has(table, payload) {
+        return is_listed_before(changes, payload, place);
+    }
+    true
+}
+
+/// Whether a table has a payload that isn't withdrawn, or a list has it before a place.
+fn is_duplicate(
+    table: &[Entry],
+    withdrawn: &[Change],
+    changes: &[Change],
+    payload: &Entry,
+    place: usize,
+) -> bool
+    requires table { IsInOrder table.now }
+    requires withdrawn { AreSorted withdrawn.now }
+    requires changes { AreSorted changes.now }
+    ensures { IsTrue result ↔ ((IsSentIn table.now payload.now × ¬ Any (IsOf payload.now) withdrawn.now)
+        ⊎ Any (IsOfBefore payload.now place) changes.now) }
+{
+    if has(table, payload) && !is_listed(withdrawn, payload) {
+        return true;
+    }
+    is_listed_before(changes, payload, place)
+}
+
+/// The first place at which a payload is withdrawn that a table hasn't, or that is withdrawn before.
+fn first_unknown(
+    table: &[Entry],
+    withdrawn: &[(MaxLenPrefix, Asn)],
+    changes: &[Change],
+) -> Option<usize>
+    requires table { IsInOrder table.now }
+    requires changes { AreChangesOf withdrawn.now changes.now }
+    requires in_order { AreSorted changes.now }
+    ensures { MatchOption result ((n : ℕ) → ¬ IsUnknownRecord table.now withdrawn.now n)
+        (IsFirst (IsUnknownRecord table.now withdrawn.now)) }
+{
+    for (place, payload) in withdrawn.iter().enumerate() {
+        let entry = Entry::new(*payload);
+        if is_unknown(table, changes, &entry, place) {
+            return Some(place);
+        }
+    }
+    None
+}
+
+/// The first place at which a payload is announced that a table has and that isn't withdrawn, or that is announced
+/// before.
+fn first_duplicate(
+    table: &[Entry],
+    withdrawn: &[Change],
+    announced: &[(MaxLenPrefix, Asn)],
+    changes: &[Change],
+) -> Option<usize>
+    requires table { IsInOrder table.now }
+    requires withdrawn { AreSorted withdrawn.now }
+    requires changes { AreChangesOf announced.now changes.now }
+    requires in_order { AreSorted changes.now }
+    ensures { (gone : List Payload) → AreChangesOf gone withdrawn.now
+        → MatchOption result ((n : ℕ) → ¬ IsDuplicateRecord table.now announced.now gone n)
+        (IsFirst (IsDuplicateRecord table.now announced.now gone)) }
+{
+    for (place, payload) in announced.iter().enumerate() {
+        let entry = Entry::new(*payload);
+        if is_duplicate(table, withdrawn, changes, &entry, place) {
+            return Some(place);
+        }
+    }
+    None
+}
+
+/// Whether the next payload to be listed is announced: that one comes before the next of the table, or the table is
+/// listed whole.
+fn announced_is_next(table: &[Entry], at: usize, announced: &[Change], come: usize) -> bool
+    requires at { at ≤ length table.now }
+    requires come { come ≤ length announced.now }
+    requires some { (at < length table.now) ⊎ (come < length announced.now) }
+    ensures announced { IsTrue result → (come < length announced.now) × ((d : Change) (e : Payload) → at < length table.now
+        → table_place (slice_index_or announced.now come d).entry ≤ table_place (slice_index_or table.now at e)) }
+    ensures table { result ≡ false → (at < length table.now) × ((d : Change) (e : Payload) → come < length announced.now
+        → table_place (slice_index_or table.now at e) ≤ table_place (slice_index_or announced.now come d).entry) }
+{
+    if at == table.len() {
+        return true;
+    }
+    if come == announced.len() {
+        return false;
+    }
+    announced[come].entry.cmp_place(&table[at]).is_lt()
+}
+
+/// The first place from one on at which no change is of a payload that comes earlier.
+fn passed(changes: &[Change], from: usize, payload: &Entry) -> usize
+    requires from { from ≤ length changes.now }
+    requires in_order { AreSorted changes.now }
+    requires passed { (k : _) (d : Change) → k < from
+        → sent_place (slice_index_or changes.now k d).entry < sent_place payload.now }
+    ensures within { result ≤ length changes.now }
+    ensures searched { IsSearched sent_change changes.now (sent_place payload.now) result }
+{
+    let mut at = from;
+    while at < changes.len() && changes[at].entry.is_sent_before(payload) {
+        at += 1;
+    }
+    at
+}
+
+/// The payloads of a table that aren't withdrawn, and those announced, in a table's order. One walk along the three.
+fn updated<A: Allocator>(
+    alloc: A,
+    table: &[Entry],
+    withdrawn: &[Change],
+    announced: &[Change],
+) -> Result<Vec<Entry, A>, AllocError>
+    requires table { IsInOrder table.now }
+    requires withdrawn { AreSorted withdrawn.now }
+    requires announced { AreSorted announced.now }
+    ensures in_order { IfOk result (λ next. IsInOrder next.items) }
+    ensures updated { IfOk result (λ next. IsMergedOf table.now withdrawn.now announced.now next.items) }
+{
+    let mut next = Vec::with_capacity(alloc, table.len() + announced.len())?;
+    let mut at = 0;
+    let mut gone = 0;
+    let mut come = 0;
+    while at < table.len() || come < announced.len() {
+        if announced_is_next(table, at, announced, come) {
+            next.push(announced[come].entry)?;
+            come += 1;
+        } else {
+            let payload = &table[at];
+            gone = passed(withdrawn, gone, payload);
+            if !stands_at(withdrawn, gone, payload) {
+                next.push(*payload)?;
+            }
+            at += 1;
+        }
+    }
+    Ok(next)
+}
+
+/// The payloads of a table after changes, in a table's order, or the first fault of the changes.
+pub(crate) fn after_changes<A: Allocator>(
+    alloc: A,
+    table: &[Entry],
+    announced: &[(MaxLenPrefix, Asn)],
+    withdrawn: &[(MaxLenPrefix, Asn)],
+) -> Result<Vec<Entry, A>, OrMemory<ChangeFault>>
+where
+    A: Copy,
+    requires { IsInOrder table.now }
+    ensures in_order { IfOk result (λ next. IsInOrder next.items) }
+    ensures updated { IfOk result (λ next. IsUpdated table.now announced.now withdrawn.now next.items) }
+    ensures faults { MatchResult result (λ _. AreUpdates table.now announced.now withdrawn.now)
+        (IfRefused (HasChangeFault table.now announced.now withdrawn.now)) }
+{
+    let gone = sorted_changes(alloc, withdrawn)?;
+    if let Some(place) = first_unknown(table, withdrawn, gone.as_slice()) {
+        return Err(OrMemory::Refused(ChangeFault::UnknownWithdrawal(place)));
+    }
+    let come = sorted_changes(alloc, announced)?;
+    if let Some(place) = first_duplicate(table, gone.as_slice(), announced, come.as_slice()) {
+        return Err(OrMemory::Refused(ChangeFault::DuplicateAnnouncement(place)));
+    }
+    let next = updated(alloc, table, gone.as_slice(), come.as_slice())?;
+    Ok(next)
+}

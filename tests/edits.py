@@ -121,10 +121,13 @@ def place(kit, crate, edit: Path) -> tuple[str, int]:
 def must_fail(kit, crate, edit: Path, kept: str | None) -> tuple[bool, str]:
     """Whether the prover refuses the crate with this edit, and what to say of it."""
     started = time.monotonic()
-    refused, text = kit.must_fail(crate, str(edit), JOBS, kept)
+    found, text = kit.must_fail(crate, str(edit), JOBS, kept)
+    refused = found in (kit.REFUSED, kit.AT_LIMIT)
     why = text.partition(".edit: ")[2]
     if "only because a proof file names" in why:
         why = f"refused for a name alone: {why.rpartition('): ')[2]}"
+    elif found == kit.AT_LIMIT:
+        why = f"refused by a limit alone: {why.rpartition('): ')[2]}"
     elif refused:
         why = why.replace("refused, as it must be", "refused at a goal", 1)
     else:

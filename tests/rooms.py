@@ -27,7 +27,7 @@ class Room:
 # From the ground up; a crate is in the first room that has its name.
 ROOMS = (
     Room("texts, shared", ("rpki_text", "rpki_base"), 3),
-    Room("DER", ("rpki_der", "rpki_claims"), 0),
+    Room("DER", ("rpki_der",), 0),
     Room("blocks and sets", ("rpki_chains", "rpki_chain"), 2),
     Room("AS numbers", ("rpki_as_block", "rpki_as"), 1),
     Room("addresses, prefixes", ("rpki_addr", "rpki_cover", "rpki_prefix"), 5),

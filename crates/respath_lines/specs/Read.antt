@@ -12,7 +12,7 @@ use Rattle.rpki_chain.specs.declared.choice.ResourcesChoice.TheVariants.{Missing
 use Rattle.rpki_as.specs.AsDer.{IsAsResources}
 use Rattle.rpki_as.specs.AsDerReading.{as_choice_at}
 use Rattle.rpki_as.specs.ResourcesText.{as_resources_text}
-use Rattle.rpki_claims.specs.Families.{ByFamily, of_family}
+use Rattle.rpki_base.specs.FamiliesDer.{ByFamily, of_family}
 use Rattle.rpki_base.specs.declared.family.AddressFamily.{AddressFamily}
 use Rattle.rpki_base.specs.declared.family.AddressFamily.TheVariants.{Ipv4, Ipv6}
 use Rattle.rpki_ipres.specs.ResourcesDer.{IsIpFamilies, ip_families_at}

@@ -6,6 +6,13 @@ pub mod DerFaults
 pub mod DerModes
 pub mod DerReadings
 pub mod DerWriting
+pub mod FamiliesFaults
+pub mod FamiliesGathering
+pub mod FamiliesLoops
+pub mod FamiliesMembers
+pub mod FamiliesModes
+pub mod FamiliesSaid
+pub mod FamiliesWritten
 pub mod FamilyLemmas
 pub mod SmallSetLemmas
 pub mod WalkLemmas

@@ -6,6 +6,9 @@ pub mod DerReading
 pub mod DerViews
 pub mod DerWriting
 pub mod Families
+pub mod FamiliesDer
+pub mod FamiliesFaults
+pub mod FamiliesReading
 pub mod FamilyDer
 pub mod SmallSet
 pub mod Steps

@@ -27,3 +27,35 @@ impl AddressFamily {
         }
     }
 }
+
+/// A type that stands for a family, [`Ipv4Family`] or [`Ipv6Family`].
+pub trait Family {
+    ghost use Rattle.rpki_base.specs.declared.family.AddressFamily.{AddressFamily};
+
+    ghost FAMILY: { AddressFamily };
+
+    /// The family.
+    const FAMILY: AddressFamily;
+}
+
+/// IPv4, as the family of blocks, sets and faults.
+pub enum Ipv4Family {}
+
+impl Family for Ipv4Family {
+    ghost use Rattle.rpki_base.specs.declared.family.AddressFamily.TheVariants.{Ipv4};
+
+    ghost FAMILY = { Ipv4 };
+
+    const FAMILY: AddressFamily = AddressFamily::Ipv4;
+}
+
+/// IPv6, as the family of blocks, sets and faults.
+pub enum Ipv6Family {}
+
+impl Family for Ipv6Family {
+    ghost use Rattle.rpki_base.specs.declared.family.AddressFamily.TheVariants.{Ipv6};
+
+    ghost FAMILY = { Ipv6 };
+
+    const FAMILY: AddressFamily = AddressFamily::Ipv6;
+}

@@ -19,7 +19,7 @@ pub mod small_set;
 
 pub use addr::{AddrParseError, IpAddr, Ipv4Addr, Ipv6Addr};
 pub use asn::{Asn, ParseAsnError};
-pub use memory::OrMemory;
+pub use memory::{OrMemory, refused_as};
 pub use number::ParseIntError;
 pub use small_set::SmallAsnSet;
 

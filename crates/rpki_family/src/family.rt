@@ -1,12 +1,2 @@
-//! The families as types.
-ghost use Rattle.rpki_base.specs.declared.family.AddressFamily.{AddressFamily};
-
-use rpki_ip::family::AddressFamily;
-
-/// A type that stands for a family, [`Ipv4Family`](crate::v4::Ipv4Family) or [`Ipv6Family`](crate::v6::Ipv6Family).
-pub trait Family {
-    ghost FAMILY: { AddressFamily };
-
-    /// The family.
-    const FAMILY: AddressFamily;
-}
+//! The families as types, which stand in a crate below this one.
+pub use rpki_base::family::{Family, Ipv4Family, Ipv6Family};

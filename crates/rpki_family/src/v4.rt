@@ -8,20 +8,10 @@ ghost use Rattle.rpki_ip_block.specs.PrintedBlocks.{IsBlockOf};
 
 use crate::block::FamilyBlock;
 use crate::blocks::FamilyBlocks;
-use crate::family::Family;
 use rpki_base::addr::Ipv4Addr;
-use rpki_ip::family::AddressFamily;
+pub use rpki_base::family::Ipv4Family;
 use rpki_ipres::blocks::IpBlocks;
 use std::alloc::{Allocator, Global};
-
-/// IPv4, as the family of blocks and sets.
-pub enum Ipv4Family {}
-
-impl Family for Ipv4Family {
-    ghost FAMILY = { Ipv4 };
-
-    const FAMILY: AddressFamily = AddressFamily::Ipv4;
-}
 
 /// The IPv4 addresses of a prefix or of a range (RFC 3779, 2.2.3.7). It consists of whole IPv4 addresses.
 pub type Ipv4Block = FamilyBlock<Ipv4Family>;

@@ -6,20 +6,10 @@ ghost use Rattle.rpki_ip_block.specs.PrintedBlocks.{IsBlockOf};
 
 use crate::block::FamilyBlock;
 use crate::blocks::FamilyBlocks;
-use crate::family::Family;
 use rpki_base::addr::Ipv6Addr;
-use rpki_ip::family::AddressFamily;
+pub use rpki_base::family::Ipv6Family;
 use rpki_ipres::blocks::IpBlocks;
 use std::alloc::{Allocator, Global};
-
-/// IPv6, as the family of blocks and sets.
-pub enum Ipv6Family {}
-
-impl Family for Ipv6Family {
-    ghost FAMILY = { Ipv6 };
-
-    const FAMILY: AddressFamily = AddressFamily::Ipv6;
-}
 
 /// The IPv6 addresses of a prefix or of a range (RFC 3779, 2.2.3.7).
 pub type Ipv6Block = FamilyBlock<Ipv6Family>;

@@ -6,8 +6,8 @@ use Rattle.rpki_base.specs.DerFaults.{BeginsEmpty, BeginsWithValue}
 use Rattle.rpki_base.specs.DerReading.{values_of}
 use Rattle.rpki_base.proofs.DerFaults.{NamesTo, names_more, no_values, not_named, refined_names, tagged_names, values_names}
 use Rattle.rpki_chain.proofs.ChoiceFaults.{choice_fails, choice_names}
-use Rattle.rpki_claims.specs.FamilyFaults.{BeginsWithRepeat}
-use Rattle.rpki_claims.proofs.FamilyFaults.{families_names, family_twice, no_family}
+use Rattle.rpki_base.specs.FamiliesFaults.{BeginsWithRepeat}
+use Rattle.rpki_base.proofs.FamiliesFaults.{families_names, family_twice, no_family}
 use Rattle.rpki_base.specs.Families.{bits_of}
 use Rattle.rpki_base.specs.declared.family.AddressFamily.{AddressFamily}
 use Rattle.rpki_ip_block.specs.BlockReading.{ip_block_at, ip_blocks_at}

@@ -10,11 +10,11 @@ use Rattle.rpki_chain.specs.ChoiceDer.{IsChoiceOf}
 use Rattle.rpki_chain.specs.Claims.{Claim}
 use Rattle.rpki_chain.specs.declared.choice.ResourcesChoice.{ResourcesChoice}
 use Rattle.rpki_chain.specs.declared.choice.ResourcesChoice.TheVariants.{Missing, Inherit, Blocks}
-use Rattle.rpki_claims.specs.Families.{AreInOrder, ByFamily, IsFamilies, IsFamiliesInOrder, IsMember, SaysOption, families_der, member_der, option_der}
-use Rattle.rpki_claims.proofs.Gathering.{families_reading}
-use Rattle.rpki_claims.proofs.Modes.{families_modal}
-use Rattle.rpki_claims.proofs.Said.{one_by_family, reads_same, stands_for, stood_for}
-use Rattle.rpki_claims.proofs.Written.{content_shorter}
+use Rattle.rpki_base.specs.FamiliesDer.{AreInOrder, ByFamily, IsFamilies, IsFamiliesInOrder, IsMember, SaysOption, families_der, member_der, option_der}
+use Rattle.rpki_base.proofs.FamiliesGathering.{families_reading}
+use Rattle.rpki_base.proofs.FamiliesModes.{families_modal}
+use Rattle.rpki_base.proofs.FamiliesSaid.{one_by_family, reads_same, stands_for, stood_for}
+use Rattle.rpki_base.proofs.FamiliesWritten.{content_shorter}
 use Rattle.rpki_der.specs.declared.cursor.Cursor.{Cursor}
 use Rattle.rpki_der.specs.declared.error.DerError.{DerError}
 use Rattle.rpki_der.specs.Der.{IsBytes, Refines, Spells, sequence_value}

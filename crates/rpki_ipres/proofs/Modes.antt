@@ -18,7 +18,7 @@ use Rattle.rpki_chain.specs.declared.choice.ResourcesChoice.{ResourcesChoice}
 use Rattle.rpki_chain.specs.declared.choice.ResourcesChoice.TheVariants.{Missing, Inherit, Blocks}
 use Rattle.rpki_chain.proofs.Ascending.{IsWritten, listed_chain, no_numbers, set_spelled, spelled_set, taken_chain}
 use Rattle.rpki_chain.proofs.ChoiceReadings.{has_numbers}
-use Rattle.rpki_claims.proofs.Written.{content_shorter}
+use Rattle.rpki_base.proofs.FamiliesWritten.{content_shorter}
 use Rattle.rpki_der.proofs.Written.{value_is}
 use Rattle.rpki_der.specs.declared.cursor.Cursor.{Cursor}
 use Rattle.rpki_der.specs.declared.error.DerError.{DerError}

@@ -16,9 +16,9 @@ use Rattle.rpki_chain.specs.declared.choice.ResourcesChoice.{ResourcesChoice}
 use Rattle.rpki_chain.specs.declared.choice.ResourcesChoice.TheVariants.{Missing, Inherit, Blocks}
 use Rattle.rpki_chain.proofs.ClaimLemmas.{lists_one}
 use Rattle.rpki_chain.proofs.RunLists.{same_numbers}
-use Rattle.rpki_claims.specs.Families.{option_der}
-use Rattle.rpki_claims.proofs.Said.{one_families}
-use Rattle.rpki_claims.proofs.Written.{Writes, content_shorter, families_written}
+use Rattle.rpki_base.specs.FamiliesDer.{option_der}
+use Rattle.rpki_base.proofs.FamiliesSaid.{one_families}
+use Rattle.rpki_base.proofs.FamiliesWritten.{Writes, content_shorter, families_written}
 use Rattle.rpki_base.specs.Families.{bits_of}
 use Rattle.rpki_base.specs.FamilyDer.{family_der}
 use Rattle.rpki_base.specs.declared.family.AddressFamily.{AddressFamily}

@@ -7,8 +7,8 @@ use Rattle.rpki_der.specs.declared.error.DerError.{DerError}
 use Rattle.rpki_base.specs.DerViews.{ReadsOrMemory}
 use Rattle.rpki_text.specs.declared.memory.OrMemory.{OrMemory}
 use Rattle.rpki_chain.specs.Claims.{Claim}
-use Rattle.rpki_claims.specs.Families.{ByFamily}
-use Rattle.rpki_claims.proofs.Gathering.{IsThere, each_there}
+use Rattle.rpki_base.specs.FamiliesDer.{ByFamily}
+use Rattle.rpki_base.proofs.FamiliesGathering.{IsThere, each_there}
 use Rattle.rpki_chain.specs.declared.choice.ResourcesChoice.TheVariants.{Missing, Inherit, Blocks}
 use Rattle.rpki_chain.specs.Runs.{Runs, Holds, IsRunsOfBlocks}
 use Rattle.rpki_base.specs.Families.{bits_of}

@@ -4,8 +4,8 @@ use Rattle.std.specs.Prelude.{ℕ, Bool, List, Option, Some, None, Result}
 use Rattle.rpki_base.specs.DerReading.{sequence_from, values_from}
 use Rattle.rpki_chain.specs.ChoiceDer.{choice_at}
 use Rattle.rpki_chain.specs.declared.choice.ResourcesChoice.{ResourcesChoice}
-use Rattle.rpki_claims.specs.Families.{ByFamily}
-use Rattle.rpki_claims.specs.FamiliesReading.{families_by}
+use Rattle.rpki_base.specs.FamiliesDer.{ByFamily}
+use Rattle.rpki_base.specs.FamiliesReading.{families_by}
 use Rattle.rpki_der.specs.declared.error.DerError.{DerError}
 use Rattle.rpki_base.specs.Families.{bits_of}
 use Rattle.rpki_ip_block.specs.BlockReading.{next_ip_block_by}

@@ -7,8 +7,8 @@ use Rattle.rpki_chain.specs.Choices.{ListsBy}
 use Rattle.rpki_chain.specs.Claims.{Claim}
 use Rattle.rpki_chain.specs.Runs.{IsRunsOfBlocks}
 use Rattle.rpki_chain.specs.declared.choice.ResourcesChoice.{ResourcesChoice}
-use Rattle.rpki_claims.specs.Families.{ByFamily, IsFamilies, SaysByFamily, families_der, option_der}
-use Rattle.rpki_claims.specs.FamiliesReading.{families_at}
+use Rattle.rpki_base.specs.FamiliesDer.{ByFamily, IsFamilies, SaysByFamily, families_der, option_der}
+use Rattle.rpki_base.specs.FamiliesReading.{families_at}
 use Rattle.rpki_der.specs.declared.error.DerError.{DerError}
 use Rattle.rpki_base.specs.Families.{bits_of}
 use Rattle.rpki_base.specs.declared.family.AddressFamily.{AddressFamily}

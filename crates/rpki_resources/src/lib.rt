@@ -25,5 +25,5 @@ pub use diff::ResourceDiff;
 pub use error::{FromStrError, InheritError};
 pub use set::ResourceSet;
 
-/// Why a call that takes memory answered no value.
-pub use rpki_base::memory::OrMemory;
+/// Why a call that takes memory answered no value, and the call that turns why it refuses.
+pub use rpki_base::memory::{OrMemory, refused_as};

@@ -16,5 +16,5 @@ pub mod list;
 pub mod memory;
 pub mod number;
 
-pub use memory::OrMemory;
+pub use memory::{OrMemory, refused_as};
 pub use number::ParseIntError;

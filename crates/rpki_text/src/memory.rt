@@ -1,4 +1,6 @@
 //! The refusal of a call that also takes memory.
+ghost use Rattle.std.specs.Prelude.{◌≡◌, MatchResult};
+ghost use Rattle.std.specs.Result.{IsErrAnd};
 ghost use Rattle.rpki_text.specs.Memory.{ForRefused, IsMemory, IsRefusedAnd, MatchOrMemory};
 
 use std::alloc::{AllocError, AllocFailed};
@@ -26,6 +28,23 @@ impl<E> OrMemory<E> {
             OrMemory::Refused(fault) => OrMemory::Refused(f(fault)),
             OrMemory::Memory(error) => OrMemory::Memory(error),
         }
+    }
+}
+
+/// The same answer, with what the function makes of why a call refuses what it was given in the place of that. A value
+/// and want of memory stay as they are, and the function is called for a refusal alone.
+pub fn refused_as<T, E, D, F: FnOnce(E) -> D>(
+    answer: Result<T, OrMemory<E>>,
+    f: F,
+) -> Result<T, OrMemory<D>>
+    requires { (error : _) → answer ≡ Err error → ForRefused error (F.pre f) }
+    ensures { MatchResult answer (λ value. result ≡ Ok value)
+        (λ error. IsErrAnd result (λ told. MatchOrMemory error
+        (λ fault. IsRefusedAnd told (F.post f fault)) (IsMemory told))) }
+{
+    match answer {
+        Ok(value) => Ok(value),
+        Err(error) => Err(error.map_refused(f)),
     }
 }
 

@@ -4,7 +4,7 @@ ghost use Rattle.rpki_base.specs.DerFaults.{BeginsEmpty, BeginsWithValue};
 ghost use Rattle.rpki_chain.specs.Claims.{Claim, claim_of};
 ghost use Rattle.rpki_chain.specs.Runs.{Runs, Holds};
 ghost use Rattle.rpki_chain.specs.declared.choice.ResourcesChoice.TheVariants.{Missing};
-ghost use Rattle.rpki_claims.specs.FamilyFaults.{BeginsWithRepeat};
+ghost use Rattle.rpki_base.specs.FamiliesFaults.{BeginsWithRepeat};
 ghost use Rattle.rpki_der.specs.Der.{OneFront, sequence_value};
 ghost use Rattle.rpki_der.specs.declared.error.DerError.TheVariants.{DuplicateFamily, EmptyBlocks, NoFamily, NotCanonical};
 ghost use Rattle.rpki_base.specs.Families.{bits_of};

@@ -3,7 +3,7 @@ use crate::der::blocks::{append_family, family_len, put_family};
 use crate::resources::IpResources;
 use rpki_base::memory::OrMemory;
 use rpki_chain::der::{content_len, encode_choice, make_sets, take_listed};
-use rpki_claims::{ReadClaim, take_families};
+use rpki_base::der::{ReadClaim, take_families};
 use rpki_der::{Cursor, DerError, append_header, header_len, tag};
 use rpki_ip::family::AddressFamily;
 use rpki_ip_block::der::IpBlockReader;
@@ -21,7 +21,7 @@ impl<A: Allocator> IpResources<A> {
     ghost use Rattle.rpki_base.specs.Families.{bits_of};
     ghost use Rattle.rpki_base.specs.declared.family.AddressFamily.TheVariants.{Ipv4, Ipv6};
     ghost use Rattle.rpki_ipres.specs.Modes.{ip_families_by, ip_resources_by};
-    ghost use Rattle.rpki_claims.specs.Families.{families_der};
+    ghost use Rattle.rpki_base.specs.FamiliesDer.{families_der};
     ghost use Rattle.rpki_ipres.specs.Resources.{ArePresentClaims, IsPresentFamilyClaim, IsFamilyClaim, IsIpClaim, IsWholeClaim, if_present};
     ghost use Rattle.rpki_ipres.specs.ResourcesDer.{IsIpFamilies, IsIpResources, SaysClaimOf, SaysClaims, ip_content_der, ip_families_at, ip_families_der, ip_member_der, ip_resources_at, ip_resources_der};
 

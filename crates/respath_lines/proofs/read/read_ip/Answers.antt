@@ -1,6 +1,6 @@
 use Rattle.std.proofs.lemmas.Result.{IfOk-weaker}
 use Rattle.std.specs.String.{string_bytes}
-use Rattle.rpki_claims.specs.Families.{of_family}
+use Rattle.rpki_base.specs.FamiliesDer.{of_family}
 use Rattle.rpki_ipres.specs.ResourcesDer.{IsIpFamilies, ip_families_at}
 use Rattle.respath_lines.specs.Read.{family_text}
 use Rattle.respath_lines.proofs.ReadLemmas.{shows_text}

@@ -1,5 +1,5 @@
 -- What a take at the front of the octets tells of all of them.
-use Rattle.rpki_claims.specs.Families.{families_der}
+use Rattle.rpki_base.specs.FamiliesDer.{families_der}
 use Rattle.rpki_ipres.specs.Modes.{ip_families_by}
 use Rattle.rpki_ipres.specs.Resources.{ArePresentClaims}
 use Rattle.rpki_ipres.specs.ResourcesDer.{IsIpFamilies, SaysClaims, ip_resources_der}

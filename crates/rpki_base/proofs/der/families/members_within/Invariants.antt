@@ -1,9 +1,9 @@
 -- What the loop over the members keeps.
 use Rattle.std.proofs.Common.{◌≡◌, length}
 use Rattle.rpki_der.specs.Views.{is_strict, left}
-use Rattle.rpki_claims.specs.FamiliesReading.{member_by, members_by, none_found}
-use Rattle.rpki_claims.proofs.Loops.{SoFar}
-use Rattle.rpki_claims.proofs.read.members_within.Given as goal
+use Rattle.rpki_base.specs.FamiliesReading.{member_by, members_by, none_found}
+use Rattle.rpki_base.proofs.FamiliesLoops.{SoFar}
+use Rattle.rpki_base.proofs.der.families.members_within.Given as goal
 
 -- what was found, and what is left, give the whole
 abbrev pub invariant-loop-inside : goal.invariant-loop-inside

@@ -1,7 +1,7 @@
 -- A SEQUENCE, and the member in it.
 use Rattle.std.proofs.Common.{refl}
 use Rattle.rpki_der.specs.Reading.{refined}
-use Rattle.rpki_claims.proofs.read.next_member.Goals as goal
+use Rattle.rpki_base.proofs.der.families.next_member.Goals as goal
 
 pub returns-clause-by_mode : goal.returns-clause-by_mode
 unfolding refined

@@ -10,10 +10,10 @@ use Rattle.rpki_text.specs.declared.memory.OrMemory.TheVariants.{Refused, Memory
 use Rattle.rpki_text.specs.Memory.{IfRefused}
 use Rattle.rpki_base.specs.declared.family.AddressFamily.{AddressFamily}
 use Rattle.rpki_base.specs.declared.family.AddressFamily.TheVariants.{Ipv4, Ipv6}
-use Rattle.rpki_claims.specs.Families.{ByFamily, SaysByFamily, SaysOption}
-use Rattle.rpki_claims.specs.FamiliesReading.{SaysClaim, member_at, members_by, seen, with_claim}
-use Rattle.rpki_claims.proofs.Gathering.{member_has_octets}
-use Rattle.rpki_claims.proofs.Members.{SaysNew, member_reading}
+use Rattle.rpki_base.specs.FamiliesDer.{ByFamily, SaysByFamily, SaysOption}
+use Rattle.rpki_base.specs.FamiliesReading.{SaysClaim, member_at, members_by, seen, with_claim}
+use Rattle.rpki_base.proofs.FamiliesGathering.{member_has_octets}
+use Rattle.rpki_base.proofs.FamiliesMembers.{SaysNew, member_reading}
 
 module _ {X Y : Type 0} (C : Y → X → Type 0) where
   -- what stands for something is something

@@ -12,9 +12,9 @@ use Rattle.rpki_base.proofs.DerFaults.{NamesTo, begins_value, bind_fails, bind_n
 use Rattle.rpki_base.specs.declared.family.AddressFamily.{AddressFamily}
 use Rattle.rpki_base.specs.FamilyDer.{family_at}
 use Rattle.rpki_base.proofs.FamilyLemmas.{family_names}
-use Rattle.rpki_claims.specs.Families.{ByFamily, claims_among}
-use Rattle.rpki_claims.specs.FamiliesReading.{families_at, families_in, member_at, member_in, members_by, members_in, none_found, seen, was_seen, with_claim}
-use Rattle.rpki_claims.specs.FamilyFaults.{BeginsAmong, BeginsWithRepeat, any_member_at}
+use Rattle.rpki_base.specs.FamiliesDer.{ByFamily, claims_among}
+use Rattle.rpki_base.specs.FamiliesReading.{families_at, families_in, member_at, member_in, members_by, members_in, none_found, seen, was_seen, with_claim}
+use Rattle.rpki_base.specs.FamiliesFaults.{BeginsAmong, BeginsWithRepeat, any_member_at}
 
 module _ {X : Type 0} (claim_at : AddressFamily → List ℕ → Result (X × List ℕ) DerError) (names : (family : AddressFamily) (bytes : List ℕ) → NamesTo 11 (claim_at family bytes)) where
   -- what is read of a member behind its family

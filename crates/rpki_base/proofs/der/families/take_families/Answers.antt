@@ -2,12 +2,12 @@
 use Rattle.std.proofs.Common.{false}
 use Rattle.rpki_der.specs.Der.{Refines}
 use Rattle.rpki_base.proofs.DerCursors.{reads_said_by}
-use Rattle.rpki_claims.specs.Families.{IsFamilies, SaysByFamily}
-use Rattle.rpki_claims.specs.FamiliesReading.{families_at}
-use Rattle.rpki_claims.proofs.Gathering.{families_reading}
-use Rattle.rpki_claims.proofs.Modes.{exact_families}
-use Rattle.rpki_claims.proofs.Said.{reads_same, stands_for, stood_for}
-use Rattle.rpki_claims.proofs.read.take_families.Goals as goal
+use Rattle.rpki_base.specs.FamiliesDer.{IsFamilies, SaysByFamily}
+use Rattle.rpki_base.specs.FamiliesReading.{families_at}
+use Rattle.rpki_base.proofs.FamiliesGathering.{families_reading}
+use Rattle.rpki_base.proofs.FamiliesModes.{exact_families}
+use Rattle.rpki_base.proofs.FamiliesSaid.{reads_same, stands_for, stood_for}
+use Rattle.rpki_base.proofs.der.families.take_families.Goals as goal
 
 exact : goal.returns-clause-exact
 exact g c =

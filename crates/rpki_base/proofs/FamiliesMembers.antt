@@ -11,8 +11,8 @@ use Rattle.rpki_base.proofs.DerReadings.{ended_is}
 use Rattle.rpki_base.specs.declared.family.AddressFamily.{AddressFamily}
 use Rattle.rpki_base.specs.FamilyDer.{IsFamilyDer, family_at}
 use Rattle.rpki_base.proofs.FamilyLemmas.{family_reading}
-use Rattle.rpki_claims.specs.Families.{SaysMember}
-use Rattle.rpki_claims.specs.FamiliesReading.{member_at, member_in, was_seen}
+use Rattle.rpki_base.specs.FamiliesDer.{SaysMember}
+use Rattle.rpki_base.specs.FamiliesReading.{member_at, member_in, was_seen}
 
 -- a member of a family that wasn't there before
 abbrev pub SaysNew : {X : Type 0} → (AddressFamily → List ℕ → X → Type 0) → Bool × Bool → List ℕ → AddressFamily × X → Type 0

@@ -1,4 +1,5 @@
-//! Reading families, each with its claim.
+//! Reading the SEQUENCE of families of addresses, each with its claim (RFC 3779, 2.2.3; RFC 6487, 4.8.10), whatever a
+//! claim is.
 ghost use Rattle.std.specs.Prelude.{◌≡◌, ℕ, Bool, List, Result, length};
 ghost use Rattle.rpki_der.specs.declared.error.DerError.{DerError as Fault};
 ghost use Rattle.rpki_der.specs.Der.{Refines};
@@ -6,12 +7,12 @@ ghost use Rattle.rpki_der.specs.Reading.{Gives, IsModal, IsReading, passing};
 ghost use Rattle.rpki_der.specs.Views.{Lenient, is_strict, left};
 ghost use Rattle.rpki_base.specs.DerViews.{GivesSaidOrMemory, ReadsOrMemory, TakesSaidOrMemory};
 ghost use Rattle.rpki_base.specs.declared.family.AddressFamily.{AddressFamily as SomeFamily};
-ghost use Rattle.rpki_claims.specs.Families.{IsFamilies, SaysByFamily};
-ghost use Rattle.rpki_claims.specs.FamiliesReading.{SaysClaim, families_at, families_by, families_in_by, is_in_order, member_by, member_in_by, members_by, none_found, seen, was_seen, with_claim};
+ghost use Rattle.rpki_base.specs.FamiliesDer.{IsFamilies, SaysByFamily};
+ghost use Rattle.rpki_base.specs.FamiliesReading.{SaysClaim, families_at, families_by, families_in_by, is_in_order, member_by, member_in_by, members_by, none_found, seen, was_seen, with_claim};
 
-use rpki_base::family::AddressFamily;
-use rpki_base::memory::OrMemory;
+use crate::family::AddressFamily;
 use rpki_der::{Cursor, DerError};
+use rpki_text::memory::OrMemory;
 
 /// What IPv4 has and what IPv6 has, if they have something.
 pub type ByFamily<C> = (Option<C>, Option<C>);

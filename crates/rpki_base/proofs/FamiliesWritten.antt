@@ -8,7 +8,7 @@ use Rattle.rpki_base.specs.declared.family.AddressFamily.{AddressFamily}
 use Rattle.rpki_base.specs.declared.family.AddressFamily.TheVariants.{Ipv4, Ipv6}
 use Rattle.rpki_base.specs.FamilyDer.{family_der}
 use Rattle.rpki_base.proofs.FamilyLemmas.{family_written}
-use Rattle.rpki_claims.specs.Families.{ByFamily, IsFamilies, IsMember, SaysFamilies, families_der, member_der, option_der}
+use Rattle.rpki_base.specs.FamiliesDer.{ByFamily, IsFamilies, IsMember, SaysFamilies, families_der, member_der, option_der}
 
 -- a SEQUENCE is longer than what is in it
 pub content_shorter : (content : List ℕ) → length (sequence_value content) < 2 ^ 64 → length content < 2 ^ 64

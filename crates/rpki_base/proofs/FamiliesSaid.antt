@@ -11,9 +11,9 @@ use Rattle.rpki_base.specs.DerViews.{ReadsOrMemory}
 use Rattle.rpki_base.proofs.DerReadings.{one_front_said}
 use Rattle.rpki_base.specs.declared.family.AddressFamily.{AddressFamily}
 use Rattle.rpki_base.specs.declared.family.AddressFamily.TheVariants.{Ipv4, Ipv6}
-use Rattle.rpki_claims.specs.Families.{AreGathered, ByFamily, IsFamilies, IsMember, SaysByFamily, SaysOption, claims_among, listed}
-use Rattle.rpki_claims.specs.FamiliesReading.{families_at}
-use Rattle.rpki_claims.proofs.Gathering.{families_reading}
+use Rattle.rpki_base.specs.FamiliesDer.{AreGathered, ByFamily, IsFamilies, IsMember, SaysByFamily, SaysOption, claims_among, listed}
+use Rattle.rpki_base.specs.FamiliesReading.{families_at}
+use Rattle.rpki_base.proofs.FamiliesGathering.{families_reading}
 
 -- octets are of one grammar where they are of the other, so what is read of one is of the other
 pub reads_same : {X : Type 0} (G H : List ℕ → X → Type 0) (old new : Cursor) (result : Result X (OrMemory DerError)) → ((bytes : List ℕ) (x : X) → G bytes x → H bytes x) → ((bytes : List ℕ) (x : X) → H bytes x → G bytes x)

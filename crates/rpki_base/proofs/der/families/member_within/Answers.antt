@@ -4,8 +4,8 @@ use Rattle.std.proofs.lemmas.Result.{err_from_is_err_and}
 use Rattle.rpki_der.specs.Reading.{ended, passing}
 use Rattle.rpki_der.specs.Views.{is_strict, left}
 use Rattle.rpki_base.specs.FamilyDer.{family_at}
-use Rattle.rpki_claims.specs.FamiliesReading.{is_in_order, member_in_by, seen, was_seen}
-use Rattle.rpki_claims.proofs.read.member_within.Goals as goal
+use Rattle.rpki_base.specs.FamiliesReading.{is_in_order, member_in_by, seen, was_seen}
+use Rattle.rpki_base.proofs.der.families.member_within.Goals as goal
 
 pub returns-in_err-look_at_order : goal.returns-in_err-look_at_order
 unfolding member_in_by

@@ -7,7 +7,7 @@ use Rattle.rpki_der.specs.Reading.{◌>>=◌, ended, passing, refined, tagged_at
 use Rattle.rpki_base.specs.declared.family.AddressFamily.{AddressFamily}
 use Rattle.rpki_base.specs.declared.family.AddressFamily.TheVariants.{Ipv4, Ipv6}
 use Rattle.rpki_base.specs.FamilyDer.{family_at}
-use Rattle.rpki_claims.specs.Families.{ByFamily}
+use Rattle.rpki_base.specs.FamiliesDer.{ByFamily}
 
 -- whether IPv4 has something, and whether IPv6 has
 abbrev pub seen : {X : Type 0} → ByFamily X → Bool × Bool

@@ -7,10 +7,10 @@ use Rattle.std.proofs.lemmas.Result.{err_from_is_err_and}
 use Rattle.rpki_der.specs.Views.{is_strict, left}
 use Rattle.rpki_der.proofs.Modes.{found_is}
 use Rattle.rpki_text.specs.Memory.{IfRefused}
-use Rattle.rpki_claims.specs.FamiliesReading.{member_at, member_by, members_by, none_found, seen}
-use Rattle.rpki_claims.proofs.Loops.{fewer_left, loop_ends, loop_fails_or_memory, loop_more}
-use Rattle.rpki_claims.proofs.Modes.{member_tightens}
-use Rattle.rpki_claims.proofs.read.members_within.Goals as goal
+use Rattle.rpki_base.specs.FamiliesReading.{member_at, member_by, members_by, none_found, seen}
+use Rattle.rpki_base.proofs.FamiliesLoops.{fewer_left, loop_ends, loop_fails_or_memory, loop_more}
+use Rattle.rpki_base.proofs.FamiliesModes.{member_tightens}
+use Rattle.rpki_base.proofs.der.families.members_within.Goals as goal
 
 pub loop-inside-init : goal.loop-inside-init
 loop-inside-init g c = record { mode = refl; so_far = record { before = none_found; says = (tt, tt); steps = length (left c.args.content); enough = omega arith; whole = refl } }

@@ -4,8 +4,8 @@ use Rattle.rpki_der.specs.declared.error.DerError.{DerError}
 use Rattle.rpki_base.specs.DerFaults.{BeginsWithAll, BeginsWithValue}
 use Rattle.rpki_base.specs.declared.family.AddressFamily.{AddressFamily}
 use Rattle.rpki_base.specs.FamilyDer.{family_at}
-use Rattle.rpki_claims.specs.Families.{claims_among}
-use Rattle.rpki_claims.specs.FamiliesReading.{member_at}
+use Rattle.rpki_base.specs.FamiliesDer.{claims_among}
+use Rattle.rpki_base.specs.FamiliesReading.{member_at}
 
 -- a member, whatever its family is
 abbrev pub any_member_at : {X : Type 0} → (AddressFamily → List ℕ → Result (X × List ℕ) DerError) → List ℕ → Result ((AddressFamily × X) × List ℕ) DerError

@@ -20,8 +20,8 @@ use Rattle.rpki_base.specs.DerViews.{TakesSaidOrMemory}
 use Rattle.rpki_base.specs.declared.family.AddressFamily.{AddressFamily}
 use Rattle.rpki_base.specs.declared.family.AddressFamily.TheVariants.{Ipv4, Ipv6}
 use Rattle.rpki_base.specs.FamilyDer.{IsFamilyDer, family_at}
-use Rattle.rpki_claims.specs.Families.{AreInOrder, ByFamily, IsFamiliesInOrder, IsMember, SaysMember}
-use Rattle.rpki_claims.specs.FamiliesReading.{families_at, families_by, families_in, families_in_by, is_in_order, member_at, member_by, member_in, member_in_by, members_by, none_found, seen, was_seen, with_claim}
+use Rattle.rpki_base.specs.FamiliesDer.{AreInOrder, ByFamily, IsFamiliesInOrder, IsMember, SaysMember}
+use Rattle.rpki_base.specs.FamiliesReading.{families_at, families_by, families_in, families_in_by, is_in_order, member_at, member_by, member_in, member_in_by, members_by, none_found, seen, was_seen, with_claim}
 
 -- members, one after another
 pub members_tighten : {X : Type 0} (strict : Bool) (by found : Bool × Bool → List ℕ → Result ((AddressFamily × X) × List ℕ) DerError) → ((before : Bool × Bool) (bytes : List ℕ) → Tightens strict (by before bytes) (found before bytes))

@@ -12,9 +12,9 @@ use Rattle.rpki_der.proofs.Readings.{fits_content, fits_rest, refined_reading, t
 use Rattle.rpki_der.proofs.Steps.{bind_ok, ok_is, passed}
 use Rattle.rpki_base.specs.declared.family.AddressFamily.{AddressFamily}
 use Rattle.rpki_base.specs.declared.family.AddressFamily.TheVariants.{Ipv4, Ipv6}
-use Rattle.rpki_claims.specs.Families.{ByFamily, IsFamilies, IsMember, SaysFamilies, claims_among, listed, of_family}
-use Rattle.rpki_claims.specs.FamiliesReading.{families_at, families_in, member_at, members_by, members_in, none_found, seen, was_seen, with_claim}
-use Rattle.rpki_claims.proofs.Members.{SaysNew, member_reading}
+use Rattle.rpki_base.specs.FamiliesDer.{ByFamily, IsFamilies, IsMember, SaysFamilies, claims_among, listed, of_family}
+use Rattle.rpki_base.specs.FamiliesReading.{families_at, families_in, member_at, members_by, members_in, none_found, seen, was_seen, with_claim}
+use Rattle.rpki_base.proofs.FamiliesMembers.{SaysNew, member_reading}
 
 -- what was found before and what these members have is all
 abbrev pub Adds : {X : Type 0} → ByFamily X → List (AddressFamily × X) → ByFamily X → Type 0

@@ -34,6 +34,32 @@ def parts_handed_back(bodies, of):
     return [bodies.Body(f"({', '.join(it[0] for it in others)}, {given[-1]})", None, "argument")]
 
 
+def faults_beside_memory(bodies, of):
+    """The first fault that the error names beside want of memory."""
+    name, _, held = bodies.named(of.resolved(of.f.ret))
+    error, path, faults = bodies.named(of.resolved(held[1])) if name == "Result" and len(held) == 2 else ("", "", [])
+    found = of.values(of.resolved(faults[0]))[:1] if error == "OrMemory" and faults else []
+    return [bodies.Body(f"Err({path}::Refused({it}))", None, "failure") for it in found]
+
+
+def adds_modules(bodies):
+    """What takes the types of a library below, with the public modules that they stand in."""
+
+    def add_library(source, name, folder):
+        below = bodies.Source(folder)
+        below.read("src/lib.rt")
+        root = Path(folder, "src/lib.rt").read_text()
+        for it, found in below.declared.items():
+            for module, *rest in found:
+                is_public = module and re.search(rf"(?m)^pub mod {module[0]}\b", root)
+                source.below[it].append((("", name, *(module if is_public else ())), *rest))
+        source.makers += [it for it in below.functions if it.is_pub]
+        source.of_memory |= below.of_memory
+        source.defaults |= below.defaults
+
+    return add_library
+
+
 def without_laws(functions, bare):
     """The functions but for laws, which do nothing: what they ensure is a theorem."""
     return [it for it in functions if it.ret or it.body], bare
@@ -86,10 +112,14 @@ def planted():
     chosen, compiled, giving_up = planter.chosen, planter.Copy.compiled, planter.bodies.Bodies.giving_up
     # A variant's or a field's documentation is no name of it.
     planter.bodies.without_attributes = without_docs(planter.bodies.without_attributes)
+    planter.bodies.Source.add_library = adds_modules(planter.bodies)
     planter.chosen = lambda *given: without_laws(*chosen(*given))
     # Where the unchanged call isn't planted, the planter tries no body that calls the function.
     planter.Copy.compiled = lambda copy, plants: compiled(copy, [it for it in plants if it.body != it.f.call()])
-    planter.bodies.Bodies.giving_up = lambda of: firsts(giving_up(of)) + parts_handed_back(planter.bodies, of)
+    planter.bodies.Bodies.giving_up = lambda of: [
+        *firsts(faults_beside_memory(planter.bodies, of) + giving_up(of)),
+        *parts_handed_back(planter.bodies, of),
+    ]
     sys.exit(planter.main("--all", "--max", "9999", "--minutes", "60"))
 
 

@@ -1,109 +1,37 @@
--- The lines of a file, read one after another; a file writes one list of payloads, or has one fault.
-use Rattle.std.proofs.Common.{◌≡◌, ◌≢◌, ℕ, ◌+◌, inl, inr, List, [], ◌∷◌, ◌++◌, Result, Ok, Err, MatchResult, refl, sym, ap, subst, ◌∙◌, append_assoc, append-nil}
-use Rattle.rpki_text.specs.Lines.{lines_of}
+-- A file in either form writes one list of payloads, or has one fault.
+use Rattle.std.proofs.Common.{◌≡◌, inl, inr, ℕ, List, Result, Ok, Err, MatchResult}
+use Rattle.rpki_prefix.specs.MaxLen.{MaxLenValue}
 use Rattle.rpki_text.specs.Memory.{IfRefused}
 use Rattle.rpki_text.specs.Reading.{AnswersOrMemory}
 use Rattle.rpki_text.specs.declared.memory.OrMemory.{OrMemory}
 use Rattle.rpki_text.specs.declared.memory.OrMemory.TheVariants.{Refused, Memory}
-use Rattle.rpki_prefix.specs.MaxLen.{MaxLenValue}
-use Rattle.payload_texts.specs.Columns.{usual}
-use Rattle.payload_texts.specs.Files.{AreRows, HaveFirstFault, HasFileFault, IsPayloadFile, columns_after, payloads_of}
-use Rattle.payload_texts.specs.Rows.{IsRow, HasRowFault}
-use Rattle.payload_texts.specs.declared.columns.Columns.{Columns}
+use Rattle.payload_texts.specs.Files.{HasFileFault, IsPayloadFile}
 use Rattle.payload_texts.specs.declared.fault.FileFault.{FileFault}
-use Rattle.payload_texts.specs.declared.fault.FileFault.TheVariants.{Line, NoPayload}
-use Rattle.payload_texts.specs.declared.fault.PayloadFault.{PayloadFault}
-use Rattle.payload_texts.specs.declared.row.Row.{Row}
-use Rattle.payload_texts.proofs.RowLemmas.{row_apart, row_fault_one, row_one}
+use Rattle.payload_texts.proofs.CsvLemmas.{csv_apart, csv_fault_one, csv_one}
+use Rattle.payload_texts.proofs.JsonLemmas.{json_apart, json_fault_one, json_one}
 
--- What the rest of a text writes behind the payloads before it, the text writes; what is wrong there first is so in the
--- text.
-pub record IsReadSo (text rest : List ℕ) (number : ℕ) (columns : Columns) (payloads : List (MaxLenValue × ℕ)) : Type 0 where
-  pub values : (more : List (MaxLenValue × ℕ)) → AreRows columns (lines_of rest) more → AreRows usual (lines_of text) (payloads ++ more)
-  pub faults : (fault : FileFault) → HaveFirstFault (number + 1) columns (lines_of rest) fault → HaveFirstFault 1 usual (lines_of text) fault
+module _ (text : List ℕ) where
+  file_one : (a b : List (MaxLenValue × ℕ)) → IsPayloadFile text a → IsPayloadFile text b → a ≡ b
+  file_one a b (inl h) (inl k) = json_one text a b h.1 k.1
+  file_one a b (inl h) (inr k) = absurd (k.0 h.0)
+  file_one a b (inr h) (inl k) = absurd (h.0 k.0)
+  file_one a b (inr h) (inr k) = csv_one text a b h.1 k.1
 
--- nothing is read yet
-pub read_none : (text : List ℕ) → IsReadSo text text 0 usual []
-read_none text = record { values = λ more rows. rows; faults = λ fault wrong. wrong }
+  file_apart : (a : List (MaxLenValue × ℕ)) (f : FileFault) → IsPayloadFile text a → HasFileFault text f → ⊥
+  file_apart a f (inl h) (inl k) = json_apart text a f h.1 k.1
+  file_apart a f (inl h) (inr k) = k.0 h.0
+  file_apart a f (inr h) (inl k) = h.0 k.0
+  file_apart a f (inr h) (inr k) = csv_apart text a f h.1 k.1
 
-module _ (text rest after line : List ℕ) (number : ℕ) (columns : Columns) (payloads : List (MaxLenValue × ℕ)) (had : IsReadSo text rest number columns payloads) (first : lines_of rest ≡ line ∷ lines_of after) where
-  -- one line more
-  pub read_more : (row : Row) → IsRow columns line row → IsReadSo text after (number + 1) (columns_after columns row) (payloads ++ payloads_of row)
-  read_more row is = record {
-    values = λ more rows. subst (AreRows usual (lines_of text)) (sym (append_assoc payloads (payloads_of row) more))
-        (had.values (payloads_of row ++ more) (subst (λ lines. AreRows columns lines (payloads_of row ++ more)) (sym first) (row, is, more, refl, rows)));
-    faults = λ fault wrong. had.faults fault (subst (λ lines. HaveFirstFault (number + 1) columns lines fault) (sym first) (inr (row, is, wrong)));
-  }
+  file_fault_one : (d e : FileFault) → HasFileFault text d → HasFileFault text e → d ≡ e
+  file_fault_one d e (inl h) (inl k) = json_fault_one text d e h.1 k.1
+  file_fault_one d e (inl h) (inr k) = absurd (k.0 h.0)
+  file_fault_one d e (inr h) (inl k) = absurd (h.0 k.0)
+  file_fault_one d e (inr h) (inr k) = csv_fault_one text d e h.1 k.1
 
-  -- which writes no payload
-  pub read_over : (row : Row) → payloads_of row ≡ [] → IsRow columns line row → IsReadSo text after (number + 1) (columns_after columns row) payloads
-  read_over row none is =
-      subst (IsReadSo text after (number + 1) (columns_after columns row)) (ap (λ z. payloads ++ z) none ∙ append-nil payloads) (read_more row is)
-
-  -- the next line is wrong
-  pub read_wrong : (wrong : PayloadFault) → HasRowFault columns line wrong → HasFileFault text (Line (number + 1) wrong)
-  read_wrong wrong has = had.faults (Line (number + 1) wrong) (subst (λ lines. HaveFirstFault (number + 1) columns lines (Line (number + 1) wrong)) (sym first) (inl (wrong, has, refl)))
-
--- nothing is left
-read_all : (text rest : List ℕ) (number : ℕ) (columns : Columns) (payloads : List (MaxLenValue × ℕ)) → IsReadSo text rest number columns payloads → rest ≡ [] → AreRows usual (lines_of text) payloads
-read_all text rest number columns payloads had end =
-    subst (AreRows usual (lines_of text)) (append-nil payloads) (had.values [] (subst (λ z. AreRows columns (lines_of z) []) (sym end) refl))
-
-pub read_some : (text rest : List ℕ) (number : ℕ) (columns : Columns) (payloads : List (MaxLenValue × ℕ)) → IsReadSo text rest number columns payloads → rest ≡ [] → payloads ≢ [] → IsPayloadFile text payloads
-read_some text rest number columns payloads had end some = (read_all text rest number columns payloads had end, some)
-
-pub read_no_payload : (text rest : List ℕ) (number : ℕ) (columns : Columns) (payloads : List (MaxLenValue × ℕ)) → IsReadSo text rest number columns payloads → rest ≡ [] → payloads ≡ [] → HasFileFault text NoPayload
-read_no_payload text rest number columns payloads had end none = subst (AreRows usual (lines_of text)) none (read_all text rest number columns payloads had end)
-
--- lines write one list of payloads
-rows_one : (columns : Columns) (lines : List (List ℕ)) (a b : List (MaxLenValue × ℕ)) → AreRows columns lines a → AreRows columns lines b → a ≡ b
-rows_one columns [] a b h k = h ∙ sym k
-rows_one columns (line ∷ lines) a b (row, is, more, a_is, rows) (other, iz, others, b_is, rest) =
-    let same = row_one columns line row other is iz in
-    let tail = rows_one (columns_after columns row) lines more others rows (subst (λ z. AreRows (columns_after columns z) lines others) (sym same) rest) in
-    a_is ∙ ap (λ z. payloads_of row ++ z) tail ∙ ap (λ z. payloads_of z ++ others) same ∙ sym b_is
-
--- lines that write payloads have no fault
-rows_apart : (number : ℕ) (columns : Columns) (lines : List (List ℕ)) (a : List (MaxLenValue × ℕ)) (fault : FileFault) → AreRows columns lines a → HaveFirstFault number columns lines fault → ⊥
-rows_apart number columns [] a fault h wrong = wrong
-rows_apart number columns (line ∷ lines) a fault (row, is, more, a_is, rows) (inl (wrong, has, _)) = row_apart columns line row wrong is has
-rows_apart number columns (line ∷ lines) a fault (row, is, more, a_is, rows) (inr (other, iz, later)) =
-    let same = row_one columns line row other is iz in
-    rows_apart (number + 1) (columns_after columns row) lines more fault rows (subst (λ z. HaveFirstFault (number + 1) (columns_after columns z) lines fault) (sym same) later)
-
--- lines have one first fault
-first_one : (number : ℕ) (columns : Columns) (lines : List (List ℕ)) (d e : FileFault) → HaveFirstFault number columns lines d → HaveFirstFault number columns lines e → d ≡ e
-first_one number columns [] d e h k = absurd h
-first_one number columns (line ∷ lines) d e (inl (wrong, has, d_is)) (inl (other, haz, e_is)) =
-    d_is ∙ ap (Line number) (row_fault_one columns line wrong other has haz) ∙ sym e_is
-first_one number columns (line ∷ lines) d e (inl (wrong, has, d_is)) (inr (row, is, later)) = absurd (row_apart columns line row wrong is has)
-first_one number columns (line ∷ lines) d e (inr (row, is, later)) (inl (wrong, has, e_is)) = absurd (row_apart columns line row wrong is has)
-first_one number columns (line ∷ lines) d e (inr (row, is, later)) (inr (other, iz, rest)) =
-    let same = row_one columns line row other is iz in
-    first_one (number + 1) (columns_after columns row) lines d e later (subst (λ z. HaveFirstFault (number + 1) (columns_after columns z) lines e) (sym same) rest)
-
--- so a file writes one list, and then has no fault, or has one
-file_apart : (text : List ℕ) (a : List (MaxLenValue × ℕ)) (fault : FileFault) → IsPayloadFile text a → HasFileFault text fault → ⊥
-file_apart text a (Line number wrong) h k = rows_apart 1 usual (lines_of text) a (Line number wrong) h.0 k
-file_apart text a NoPayload h k = h.1 (rows_one usual (lines_of text) a [] h.0 k)
-
-file_fault_one : (text : List ℕ) (d e : FileFault) → HasFileFault text d → HasFileFault text e → d ≡ e
-file_fault_one text (Line m wrong) (Line n other) h k = first_one 1 usual (lines_of text) (Line m wrong) (Line n other) h k
-file_fault_one text (Line m wrong) NoPayload h k = absurd (rows_apart 1 usual (lines_of text) [] (Line m wrong) k h)
-file_fault_one text NoPayload (Line n other) h k = absurd (rows_apart 1 usual (lines_of text) [] (Line n other) h k)
-file_fault_one text NoPayload NoPayload h k = refl
-
--- and what is found decides the answer
+-- so what is found decides the answer
 pub file_answers : {V : Type 0} (view : V → List (MaxLenValue × ℕ)) (text : List ℕ) (r : Result V (OrMemory FileFault))
     → MatchResult r (λ v. IsPayloadFile text (view v)) (IfRefused (HasFileFault text)) → AnswersOrMemory view (IsPayloadFile text) (HasFileFault text) r
-file_answers view text (Ok v) found = record {
-  found = found;
-  each_value = λ a h. rows_one usual (lines_of text) (view v) a found.0 h.0;
-  each_fault = λ e h. file_apart text (view v) e found h;
-}
-file_answers view text (Err (Refused d)) found = record {
-  found = found;
-  each_value = λ a h. file_apart text a d h found;
-  each_fault = λ e h. file_fault_one text d e found h;
-}
+file_answers view text (Ok v) found = record { found = found; each_value = λ a h. file_one text (view v) a found h; each_fault = λ e h. file_apart text (view v) e found h }
+file_answers view text (Err (Refused d)) found = record { found = found; each_value = λ a h. file_apart text a d h found; each_fault = λ e h. file_fault_one text d e found h }
 file_answers view text (Err (Memory m)) found = record { found = found; each_value = λ a h. tt; each_fault = λ e h. tt }

@@ -33,18 +33,18 @@ max_error_one p n Underflow Underflow h k = refl
 
 module _ (a p m : List ℕ) where
   -- three texts write one prefix and one AS number
-  prefix_one : (x y : MaxLenValue) (j k : ℕ) → ArePayload a p m x j → ArePayload a p m y k → x ≡ y
+  pub prefix_one : (x y : MaxLenValue) (j k : ℕ) → ArePayload a p m x j → ArePayload a p m y k → x ≡ y
   prefix_one x y j k h i =
       let same = IsPrefixText-one p x.prefix y.prefix h.prefix_is i.prefix_is in
       let len = IsNumberText-one (2 ^ 8 - 1) m h.len i.len h.len_is i.len_is in
       let max = h.max_len ∙ ap Some len ∙ sym i.max_len in
       λ t. record { prefix = same t; max_len = max t }
 
-  asn_one : (x y : MaxLenValue) (j k : ℕ) → ArePayload a p m x j → ArePayload a p m y k → j ≡ k
+  pub asn_one : (x y : MaxLenValue) (j k : ℕ) → ArePayload a p m x j → ArePayload a p m y k → j ≡ k
   asn_one x y j k h i = IsAsnText-one a j k h.asn_is i.asn_is
 
   -- and then have no fault
-  fields_apart : (x : MaxLenValue) (j : ℕ) (f : PayloadFault) → ArePayload a p m x j → HaveFault a p m f → ⊥
+  pub fields_apart : (x : MaxLenValue) (j : ℕ) (f : PayloadFault) → ArePayload a p m x j → HaveFault a p m f → ⊥
   fields_apart x j NotUtf8 h wrong = wrong
   fields_apart x j (Asn f) h wrong = wrong j h.asn_is
   fields_apart x j (Prefix f) h wrong = IsPrefixText-no_fault p x.prefix f h.prefix_is wrong.1

@@ -1,46 +1,19 @@
--- What a file of validated payloads writes.
-use Rattle.std.specs.Prelude.{◌≡◌, ◌≢◌, ◌⊎◌, ℕ, ◌+◌, List, [], ◌∷◌, ◌++◌}
+-- What a file of validated payloads writes, in either form.
+use Rattle.std.specs.Prelude.{◌⊎◌, ℕ, List, ◌∷◌}
+use Rattle.std.specs.Str.{IsTrimAsciiStart}
 use Rattle.rpki_prefix.specs.MaxLen.{MaxLenValue}
-use Rattle.rpki_text.specs.Lines.{lines_of}
-use Rattle.payload_texts.specs.Columns.{usual}
-use Rattle.payload_texts.specs.Rows.{IsRow, HasRowFault}
-use Rattle.payload_texts.specs.declared.columns.Columns.{Columns}
+use Rattle.payload_texts.specs.Csv.{IsCsvFile, HasCsvFault}
+use Rattle.payload_texts.specs.JsonFiles.{IsJsonFile, HasJsonFault}
 use Rattle.payload_texts.specs.declared.fault.FileFault.{FileFault}
-use Rattle.payload_texts.specs.declared.fault.FileFault.TheVariants.{Line, NoPayload}
-use Rattle.payload_texts.specs.declared.fault.PayloadFault.{PayloadFault}
-use Rattle.payload_texts.specs.declared.row.Row.{Row}
-use Rattle.payload_texts.specs.declared.row.Row.TheVariants.{Blank, Header, Payload}
 
--- the payload of a line, if it writes one
-abbrev pub payloads_of : Row → List (MaxLenValue × ℕ)
-payloads_of Blank = []
-payloads_of (Header next) = []
-payloads_of (Payload payload) = payload ∷ []
+-- the first octet that is no white space is `{`, which opens an object (RFC 8259, 4)
+abbrev pub IsObjectText : List ℕ → Type 0
+IsObjectText text = (rest : List ℕ) × IsTrimAsciiStart text (123 ∷ rest)
 
--- the columns of the lines behind one
-abbrev pub columns_after : Columns → Row → Columns
-columns_after columns Blank = columns
-columns_after columns (Header next) = next
-columns_after columns (Payload payload) = columns
-
--- lines with these columns, until one of them names others, write these payloads
-abbrev pub AreRows : Columns → List (List ℕ) → List (MaxLenValue × ℕ) → Type 0
-AreRows columns [] payloads = payloads ≡ []
-AreRows columns (line ∷ lines) payloads =
-    (row : Row) × IsRow columns line row × (more : List (MaxLenValue × ℕ)) × (payloads ≡ payloads_of row ++ more) × AreRows (columns_after columns row) lines more
-
--- the first of these lines that is wrong, and what is wrong with it; number is that of the first line
-abbrev pub HaveFirstFault : ℕ → Columns → List (List ℕ) → FileFault → Type 0
-HaveFirstFault number columns [] fault = ⊥
-HaveFirstFault number columns (line ∷ lines) fault =
-    ((wrong : PayloadFault) × HasRowFault columns line wrong × (fault ≡ Line number wrong))
-    ⊎ ((row : Row) × IsRow columns line row × HaveFirstFault (number + 1) (columns_after columns row) lines fault)
-
--- the lines of a text write these payloads, one at least
+-- the text writes these payloads, one at least: as JSON where it opens an object, else in lines
 abbrev pub IsPayloadFile : List ℕ → List (MaxLenValue × ℕ) → Type 0
-IsPayloadFile text payloads = AreRows usual (lines_of text) payloads × (payloads ≢ [])
+IsPayloadFile text payloads = (IsObjectText text × IsJsonFile text payloads) ⊎ ((¬ IsObjectText text) × IsCsvFile text payloads)
 
--- one of the lines is wrong, the first counted as 1, or none writes a payload
+-- this is what is wrong with it
 abbrev pub HasFileFault : List ℕ → FileFault → Type 0
-HasFileFault text (Line number wrong) = HaveFirstFault 1 usual (lines_of text) (Line number wrong)
-HasFileFault text NoPayload = AreRows usual (lines_of text) []
+HasFileFault text fault = (IsObjectText text × HasJsonFault text fault) ⊎ ((¬ IsObjectText text) × HasCsvFault text fault)

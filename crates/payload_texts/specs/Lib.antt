@@ -1,5 +1,9 @@
--- Definitions: the fields of lines, their columns, and the payloads that files write.
+-- Definitions: the fields of lines, their columns, the members of JSON's items, and the payloads that files write.
 pub mod Columns
+pub mod Csv
 pub mod Fields
 pub mod Files
+pub mod Items
+pub mod JsonFiles
+pub mod Members
 pub mod Rows

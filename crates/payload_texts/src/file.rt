@@ -1,25 +1,31 @@
-//! A file of validated payloads.
-ghost use Rattle.std.specs.Prelude.{MatchResult};
+//! A file of validated payloads, in either form.
+ghost use Rattle.std.specs.Prelude.{◌↔◌, IsTrue, MatchResult};
 ghost use Rattle.rpki_text.specs.Memory.{IfRefused};
 ghost use Rattle.rpki_text.specs.Reading.{AnswersOrMemory};
-ghost use Rattle.payload_texts.specs.Files.{IsPayloadFile, HasFileFault};
+ghost use Rattle.payload_texts.specs.Files.{IsObjectText, IsPayloadFile, HasFileFault};
 
-use crate::columns::Columns;
+use crate::csv::read_csv;
 use crate::fault::FileFault;
-use crate::row::{Row, read_row};
+use crate::json_file::read_json;
 use rpki_base::Asn;
 use rpki_base::memory::OrMemory;
 use rpki_prefix::MaxLenPrefix;
-use rpki_text::line::cut_line;
 use std::alloc::Allocator;
 
 /// The payloads of a file, in its order, each as often as it stands there.
 ///
-/// A line is white space, the names of columns, or a payload: an AS number, a prefix and a greatest length. These are
-/// its first three fields in this order, or stand in the columns that the last line before it which names them tells.
+/// Where its first octet that is no white space opens an object, the file is JSON (RFC 8259), and its payloads are the
+/// items of the object's member `roas`, an array. An item is an object with the members `asn`, a number or a text,
+/// `prefix`, a text, and `maxLength`, a number. Each of these members stands there once; no other one is looked at. The
+/// text nests no deeper than 128.
 ///
-/// Refused by the first line that is wrong, and what is wrong with it; and where no line writes a payload.
-pub fn read_payloads<A: Allocator>(
+/// Otherwise it is lines of comma separated values. A line is white space, the names of columns, or a payload: an AS
+/// number, a prefix and a greatest length. These are its first three fields in this order, or stand in the columns that
+/// the last line before it which names them tells.
+///
+/// Refused by the first line, or the first item, that is wrong, and what is wrong with it; where the text is no JSON or
+/// lacks the array; and where nothing in it writes a payload.
+pub fn read_payloads<A: Allocator + Copy>(
     alloc: A,
     text: &[u8],
 ) -> Result<Vec<(MaxLenPrefix, Asn), A>, OrMemory<FileFault>>
@@ -30,31 +36,23 @@ pub fn read_payloads<A: Allocator>(
 }
 
 /// The payloads of a file, or its fault.
-#[tactic(auto, using(crate::proofs::FileLemmas::read_none, crate::proofs::FileLemmas::read_more))]
-fn payloads_in<A: Allocator>(
+fn payloads_in<A: Allocator + Copy>(
     alloc: A,
     text: &[u8],
 ) -> Result<Vec<(MaxLenPrefix, Asn), A>, OrMemory<FileFault>>
     ensures { MatchResult result (λ payloads. IsPayloadFile text.now payloads.items)
         (IfRefused (HasFileFault text.now)) }
 {
-    let mut payloads = Vec::new(alloc);
-    let mut columns = Columns::USUAL;
-    let mut number = 0;
-    let mut rest = text;
-    while !rest.is_empty() {
-        let (line, after) = cut_line(rest);
-        number += 1;
-        match read_row(columns, line) {
-            Ok(Row::Payload(payload)) => payloads.push(payload)?,
-            Ok(Row::Header(next)) => columns = next,
-            Ok(Row::Blank) => {}
-            Err(fault) => return Err(OrMemory::Refused(FileFault::Line(number, fault))),
-        }
-        rest = after;
+    if opens_object(text) {
+        read_json(alloc, text)
+    } else {
+        read_csv(alloc, text)
     }
-    if payloads.as_slice().is_empty() {
-        return Err(OrMemory::Refused(FileFault::NoPayload));
-    }
-    Ok(payloads)
+}
+
+/// Whether the first octet that is no white space opens an object.
+fn opens_object(text: &[u8]) -> bool
+    ensures { IsTrue result ↔ IsObjectText text.now }
+{
+    text.trim_ascii_start().starts_with(b"{")
 }

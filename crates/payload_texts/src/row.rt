@@ -61,8 +61,12 @@ fn is_blank(line: &str) -> bool
     line.trim().is_empty()
 }
 
-/// The payload that three fields write.
-fn read_fields(asn: &str, prefix: &str, max_len: &str) -> Result<(MaxLenPrefix, Asn), PayloadFault>
+/// The payload that three texts write.
+pub(crate) fn read_fields(
+    asn: &str,
+    prefix: &str,
+    max_len: &str,
+) -> Result<(MaxLenPrefix, Asn), PayloadFault>
     ensures { MatchResult result (λ x. ArePayload asn.now prefix.now max_len.now x.0 x.1)
         (HaveFault asn.now prefix.now max_len.now) }
 {

@@ -2,8 +2,8 @@ use Rattle.std.proofs.Common.{length, refl, sym, ap, ◌∙◌, arith}
 use Rattle.std.proofs.lemmas.Bool.{eqb-true, eqb-false}
 use Rattle.std.proofs.lemmas.List.{nil_from_length}
 use Rattle.payload_texts.specs.declared.row.Row.TheVariants.{Header, Payload}
-use Rattle.payload_texts.proofs.FileLemmas.{read_more, read_no_payload, read_over, read_some, read_wrong}
-use Rattle.payload_texts.proofs.file.payloads_in.Goals as goal
+use Rattle.payload_texts.proofs.CsvLemmas.{read_more, read_no_payload, read_over, read_some, read_wrong}
+use Rattle.payload_texts.proofs.csv.read_csv.Goals as goal
 
 pub returns-in-Err : goal.returns-in-Err
 returns-in-Err g c = read_wrong _ _ c.cut_line.result.1.now c.cut_line.result.0.now _ _ _ c.loop-rest.invariant.read c.cut_line.ensures.first c.in-Err.fault c.in-Err.ensures.found

@@ -1,7 +1,7 @@
 -- The lines before the rest are read, and there are no more of them than octets.
 use Rattle.std.proofs.Common.{◌≤◌, ◌+◌, length}
-use Rattle.payload_texts.proofs.FileLemmas.{IsReadSo}
-use Rattle.payload_texts.proofs.file.payloads_in.Given as goal
+use Rattle.payload_texts.proofs.CsvLemmas.{IsReadSo}
+use Rattle.payload_texts.proofs.csv.read_csv.Given as goal
 
 abbrev pub invariant-loop-rest : goal.invariant-loop-rest
 invariant-loop-rest g l = record {

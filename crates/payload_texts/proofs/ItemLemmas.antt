@@ -1,0 +1,86 @@
+-- Items one after another; an item writes one payload, or has one fault, and so do the items of an array.
+use Rattle.std.proofs.Common.{◌≡◌, inl, inr, ℕ, ◌+◌, List, ◌∷◌, sym, ap, ◌∙◌, subst}
+use Rattle.json.specs.Json.{Json, Items, item, no_items}
+use Rattle.rpki_prefix.specs.MaxLen.{MaxLenValue}
+use Rattle.payload_texts.specs.Items.{AreItems, HasItemFault, HasTexts, HaveWrongItem, IsItem}
+use Rattle.payload_texts.specs.Members.{HasText}
+use Rattle.payload_texts.specs.Rows.{ArePayload, HaveFault}
+use Rattle.payload_texts.specs.declared.fault.FileFault.{FileFault}
+use Rattle.payload_texts.specs.declared.fault.FileFault.TheVariants.{Item}
+use Rattle.payload_texts.specs.declared.fault.ItemFault.{ItemFault}
+use Rattle.payload_texts.specs.declared.fault.ItemFault.TheVariants.{Member, Payload}
+use Rattle.payload_texts.specs.declared.fault.PayloadFault.{PayloadFault}
+use Rattle.payload_texts.specs.declared.member.Member.TheVariants.{Asn, Prefix, MaxLength}
+use Rattle.payload_texts.proofs.MemberLemmas.{member_fault_one, text_apart, text_one}
+use Rattle.payload_texts.proofs.RowLemmas.{asn_one, fields_apart, have_one, prefix_one}
+
+abbrev Payloads : Type 0
+Payloads = List (MaxLenValue × ℕ)
+
+module _ (value : Json) where
+  -- the texts of an item, and what they write
+  pub texts_write : (a p m : List ℕ) (payload : MaxLenValue × ℕ) → HasText Asn value a → HasText Prefix value p → HasText MaxLength value m → ArePayload a p m payload.0 payload.1 → IsItem value payload
+  texts_write a p m payload h i j are = (a, p, m, record { asn = h; prefix = i; max_length = j }, are)
+
+  pub texts_fail : (a p m : List ℕ) (f : PayloadFault) → HasText Asn value a → HasText Prefix value p → HasText MaxLength value m → HaveFault a p m f → HasItemFault value (Payload f)
+  texts_fail a p m f h i j wrong = (a, p, m, record { asn = h; prefix = i; max_length = j }, wrong)
+
+  -- the same texts
+  same_texts : (P : List ℕ → List ℕ → List ℕ → Type 0) (a b p q m n : List ℕ) → HasTexts value a p m → HasTexts value b q n → P b q n → P a p m
+  same_texts P a b p q m n h k wrote =
+      let asn = text_one Asn value b a k.asn h.asn in
+      let prefix = text_one Prefix value q p k.prefix h.prefix in
+      let max = text_one MaxLength value n m k.max_length h.max_length in
+      subst (λ z. P a p z) max (subst (λ z. P a z n) prefix (subst (λ z. P z q n) asn wrote))
+
+  item_one : (x y : MaxLenValue × ℕ) → IsItem value x → IsItem value y → x ≡ y
+  item_one x y (a, p, m, h, is) (b, q, n, k, iz) =
+      let same = same_texts (λ a p m. ArePayload a p m y.0 y.1) a b p q m n h k iz in
+      let prefix = prefix_one a p m x.0 y.0 x.1 y.1 is same in
+      let asn = asn_one a p m x.0 y.0 x.1 y.1 is same in
+      λ i. (prefix i, asn i)
+
+  item_apart : (x : MaxLenValue × ℕ) (f : ItemFault) → IsItem value x → HasItemFault value f → ⊥
+  item_apart x (Member Asn f) (a, p, m, h, is) wrong = text_apart Asn value a f h.asn wrong
+  item_apart x (Member Prefix f) (a, p, m, h, is) (_, wrong) = text_apart Prefix value p f h.prefix wrong
+  item_apart x (Member MaxLength f) (a, p, m, h, is) (_, _, wrong) = text_apart MaxLength value m f h.max_length wrong
+  item_apart x (Payload f) (a, p, m, h, is) (b, q, n, k, wrong) = fields_apart a p m x.0 x.1 f is (same_texts (λ a p m. HaveFault a p m f) a b p q m n h k wrong)
+
+  item_fault_one : (d e : ItemFault) → HasItemFault value d → HasItemFault value e → d ≡ e
+  item_fault_one (Member Asn f) (Member Asn g) h k = ap (Member Asn) (member_fault_one Asn value f g h k)
+  item_fault_one (Member Asn f) (Member Prefix g) h ((a, is), _) = absurd (text_apart Asn value a f is h)
+  item_fault_one (Member Asn f) (Member MaxLength g) h ((a, is), _, _) = absurd (text_apart Asn value a f is h)
+  item_fault_one (Member Asn f) (Payload g) h (a, p, m, k, _) = absurd (text_apart Asn value a f k.asn h)
+  item_fault_one (Member Prefix f) (Member Asn g) ((a, is), _) k = absurd (text_apart Asn value a g is k)
+  item_fault_one (Member Prefix f) (Member Prefix g) (_, h) (_, k) = ap (Member Prefix) (member_fault_one Prefix value f g h k)
+  item_fault_one (Member Prefix f) (Member MaxLength g) (_, h) (_, (p, is), _) = absurd (text_apart Prefix value p f is h)
+  item_fault_one (Member Prefix f) (Payload g) (_, h) (a, p, m, k, _) = absurd (text_apart Prefix value p f k.prefix h)
+  item_fault_one (Member MaxLength f) (Member Asn g) ((a, is), _, _) k = absurd (text_apart Asn value a g is k)
+  item_fault_one (Member MaxLength f) (Member Prefix g) (_, (p, is), _) (_, k) = absurd (text_apart Prefix value p g is k)
+  item_fault_one (Member MaxLength f) (Member MaxLength g) (_, _, h) (_, _, k) = ap (Member MaxLength) (member_fault_one MaxLength value f g h k)
+  item_fault_one (Member MaxLength f) (Payload g) (_, _, h) (a, p, m, k, _) = absurd (text_apart MaxLength value m f k.max_length h)
+  item_fault_one (Payload f) (Member Asn g) (a, p, m, h, _) k = absurd (text_apart Asn value a g h.asn k)
+  item_fault_one (Payload f) (Member Prefix g) (a, p, m, h, _) (_, k) = absurd (text_apart Prefix value p g h.prefix k)
+  item_fault_one (Payload f) (Member MaxLength g) (a, p, m, h, _) (_, _, k) = absurd (text_apart MaxLength value m g h.max_length k)
+  item_fault_one (Payload f) (Payload g) (a, p, m, h, wrong) (b, q, n, k, other) =
+      ap Payload (have_one a p m f g wrong (same_texts (λ a p m. HaveFault a p m g) a b p q m n h k other))
+
+-- items write one list of payloads
+pub items_one : (items : Items) (a b : Payloads) → AreItems items a → AreItems items b → a ≡ b
+items_one no_items a b h k = h ∙ sym k
+items_one (item value items) a b (x, is, more, a_is, rest) (y, iz, others, b_is, last) =
+    a_is ∙ ap (λ z. z ∷ more) (item_one value x y is iz) ∙ ap (λ z. y ∷ z) (items_one items more others rest last) ∙ sym b_is
+
+-- and then have no fault
+pub items_apart : (place : ℕ) (items : Items) (a : Payloads) (fault : FileFault) → AreItems items a → HaveWrongItem place items fault → ⊥
+items_apart place no_items a fault h wrong = wrong
+items_apart place (item value items) a fault (x, is, more, _, rest) (inl (wrong, has, _)) = item_apart value x wrong is has
+items_apart place (item value items) a fault (x, is, more, _, rest) (inr (_, _, later)) = items_apart (place + 1) items more fault rest later
+
+-- they have one first fault
+pub wrong_item_one : (place : ℕ) (items : Items) (d e : FileFault) → HaveWrongItem place items d → HaveWrongItem place items e → d ≡ e
+wrong_item_one place no_items d e h k = absurd h
+wrong_item_one place (item value items) d e (inl (wrong, has, d_is)) (inl (other, haz, e_is)) = d_is ∙ ap (Item place) (item_fault_one value wrong other has haz) ∙ sym e_is
+wrong_item_one place (item value items) d e (inl (wrong, has, _)) (inr (x, is, _)) = absurd (item_apart value x wrong is has)
+wrong_item_one place (item value items) d e (inr (x, is, _)) (inl (wrong, has, _)) = absurd (item_apart value x wrong is has)
+wrong_item_one place (item value items) d e (inr (_, _, later)) (inr (_, _, last)) = wrong_item_one (place + 1) items d e later last

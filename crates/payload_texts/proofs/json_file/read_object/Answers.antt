@@ -1,0 +1,29 @@
+use Rattle.std.proofs.Common.{◌≡◌, None, true, false, arith}
+use Rattle.std.proofs.lemmas.Bool.{MatchBool-at_false, MatchBool-at_true}
+use Rattle.json.specs.Reads.{token_of}
+use Rattle.payload_texts.proofs.GrammarLemmas.{members_in}
+use Rattle.payload_texts.proofs.JsonLemmas.{more_in, none_in, object_in, wrong_in}
+use Rattle.payload_texts.proofs.json_file.read_object.Goals as goal
+
+pub returns-then-not-begins_object-clause-invalid : goal.returns-then-not-begins_object-clause-invalid
+returns-then-not-begins_object-clause-invalid g c invalid =
+    let no : c.begins_object.result ≡ false = grind arith in
+    none_in c.args.text.now c.in_ok-reader.reader c.in_ok-reader.ensures.ok (MatchBool-at_false _ _ no c.begins_object.ensures)
+
+pub returns-in_err-told-clause-invalid : goal.returns-in_err-told-clause-invalid
+returns-in_err-told-clause-invalid g c invalid =
+    let yes : c.begins_object.result ≡ true = grind arith in
+    let failed : members_in 127 c.begins_object.new.reader ≡ None = grind arith in
+    wrong_in c.args.text.now c.in_ok-reader.reader c.in_ok-reader.ensures.ok c.begins_object.new.reader (MatchBool-at_true _ _ yes c.begins_object.ensures) failed
+
+pub returns-clause-invalid : goal.returns-clause-invalid
+returns-clause-invalid g c invalid =
+    let yes : c.begins_object.result ≡ true = grind arith in
+    let ms = c.in_ok-told.ensures.told in
+    more_in c.args.text.now c.in_ok-reader.reader c.in_ok-reader.ensures.ok c.begins_object.new.reader _ _ (token_of c.in-Some.field-0) ms.0 (MatchBool-at_true _ _ yes c.begins_object.ensures) ms.2 c.in-Some.ensures.value
+
+pub returns-in-None-clause-told : goal.returns-in-None-clause-told
+returns-in-None-clause-told g c =
+    let yes : c.begins_object.result ≡ true = grind arith in
+    let ms = c.in_ok-told.ensures.told in
+    (ms.0, object_in c.args.text.now c.in_ok-reader.reader c.in_ok-reader.ensures.ok c.begins_object.new.reader _ ms.0 (MatchBool-at_true _ _ yes c.begins_object.ensures) ms.2 c.in-None.ensures.value.0, ms.1)

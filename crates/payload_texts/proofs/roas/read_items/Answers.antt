@@ -1,0 +1,48 @@
+use Rattle.std.proofs.Common.{◌≡◌, ◌<◌, [], ◌∷◌, ◌++◌, length, None, ap, ◌∙◌, arith}
+use Rattle.json.specs.Json.{after_end_array, item, parse_map, value}
+use Rattle.json.specs.Value.{value_view}
+use Rattle.json.proofs.Grammar.{left_none}
+use Rattle.payload_texts.proofs.GrammarLemmas.{an_item, bad_item}
+use Rattle.payload_texts.proofs.RoasLemmas.{read_all, read_more, read_wrong}
+use Rattle.payload_texts.proofs.roas.read_items.Goals as goal
+
+pub returns-in_err-item-clause-invalid : goal.returns-in_err-item-clause-invalid
+returns-in_err-item-clause-invalid g c invalid =
+    let l = c.loop-alloc in
+    let going : (after_end_array l.reader ≡ None) × (c.take_end_array.new.self ≡ l.reader) = grind arith in
+    let failed : value c.args.depth c.take_end_array.new.self ≡ None = grind arith in
+    l.invariant.read.ends (bad_item c.args.depth l.reader going.0 (rw (← going.1) failed))
+
+pub returns-in_err-skip_items-in-Err-clause-invalid : goal.returns-in_err-skip_items-in-Err-clause-invalid
+returns-in_err-skip_items-in-Err-clause-invalid g c invalid =
+    let l = c.loop-alloc in
+    let v = value_view c.in_ok-item.item in
+    let going : (after_end_array l.reader ≡ None) × (c.take_end_array.new.self ≡ l.reader) = grind arith in
+    let step = an_item c.args.depth l.reader c.read.new.reader v going.0 (rw (← going.1) c.in_ok-item.ensures.ok) in
+    l.invariant.read.ends (step ∙ ap (parse_map (item v)) (left_none _ c.in_err-skip_items-in-Err.ensures.read))
+
+-- the first item that is wrong
+pub returns-in-Err-clause-told : goal.returns-in-Err-clause-told
+returns-in-Err-clause-told g c =
+    let l = c.loop-alloc in
+    let going : (after_end_array l.reader ≡ None) × (c.take_end_array.new.self ≡ l.reader) = grind arith in
+    let len : c.len-place.result ≡ length l.payloads.items = grind arith in
+    rw len (read_wrong c.args.depth _ l.reader c.read.new.reader (value_view c.in_ok-item.item) l.payloads.items l.invariant.read going.0 (rw (← going.1) c.in_ok-item.ensures.ok) g.row.A.Denot c.in-Err.fault c.skip_items.new.reader c.in-Err.ensures c.in_ok-skip_items-in-Err.ensures.read)
+
+-- a payload more
+pub loop-alloc-preserved-else-is_err-2 : goal.loop-alloc-preserved-else-is_err-2
+loop-alloc-preserved-else-is_err-2 g c =
+    let l = c.loop-alloc in
+    let going : (after_end_array l.reader ≡ None) × (c.take_end_array.new.self ≡ l.reader) = grind arith in
+    let less : length c.read.new.reader < length l.reader = rw (← going.1) c.in_ok-item.ensures.shorter in
+    let pushed : c.push.new.self.items ≡ l.payloads.items ++ c.in-Ok.payload ∷ [] = grind arith in
+    record {
+      read = rw pushed (read_more c.args.depth _ l.reader c.read.new.reader (value_view c.in_ok-item.item) l.payloads.items l.invariant.read going.0 (rw (← going.1) c.in_ok-item.ensures.ok) c.in-Ok.payload c.in-Ok.ensures);
+      within = omega (arith, less, l.invariant.within);
+    }
+
+-- no item is left
+pub returns-clause-told : goal.returns-clause-told
+returns-clause-told g c =
+    let l = c.loop-alloc in
+    read_all c.args.depth _ l.reader c.take_end_array.new.self l.payloads l.invariant.read (grind arith)

@@ -1,0 +1,45 @@
+-- What a file in JSON (RFC 8259) writes: the items of its member `roas`.
+use Rattle.std.specs.Prelude.{◌≡◌, ◌≢◌, ℕ, List, [], ◌∷◌, MatchResult, Result, Some, Vec, codes}
+use Rattle.std.specs.Str.{IsUtf8}
+use Rattle.json.specs.Json.{Json, array, object, Items, Members, document}
+use Rattle.rpki_prefix.specs.MaxLen.{MaxLenValue}
+use Rattle.payload_texts.specs.Items.{AreItems, HaveWrongItem}
+use Rattle.payload_texts.specs.Members.{values_in, AreWrong}
+use Rattle.payload_texts.specs.declared.fault.FileFault.{FileFault}
+use Rattle.payload_texts.specs.declared.fault.FileFault.TheVariants.{Line, NoPayload, NotObject, Roas, Item}
+
+-- the text is a JSON text, and its value is an object of these members
+abbrev pub IsJsonObject : List ℕ → Members → Type 0
+IsJsonObject text members = IsUtf8 text × (document text ≡ Some (object members))
+
+-- the name of the member that has the payloads
+abbrev pub roas : List ℕ
+roas = codes "roas"
+
+-- the values of it are one array, whose items write these payloads
+abbrev pub WriteRoas : List Json → List (MaxLenValue × ℕ) → Type 0
+WriteRoas values payloads = (items : Items) × (values ≡ array items ∷ []) × AreItems items payloads
+
+-- the values of it are no single array, or one of its items, of which the first counts as 1, is wrong
+abbrev pub HaveRoasFault : List Json → FileFault → Type 0
+HaveRoasFault values (Line number wrong) = ⊥
+HaveRoasFault values NoPayload = ⊥
+HaveRoasFault values NotObject = ⊥
+HaveRoasFault values (Roas wrong) = AreWrong (λ value. (items : Items) × (value ≡ array items)) values wrong
+HaveRoasFault values (Item place wrong) = (items : Items) × (values ≡ array items ∷ []) × HaveWrongItem 1 items (Item place wrong)
+
+-- they tell the payloads, or what is wrong
+abbrev pub TellRoas : {A : Type 0} → List Json → Result (Vec (MaxLenValue × ℕ) A) FileFault → Type 0
+TellRoas values told = MatchResult told (λ payloads. WriteRoas values payloads.items) (HaveRoasFault values)
+
+-- the text writes these payloads, one at least
+abbrev pub IsJsonFile : List ℕ → List (MaxLenValue × ℕ) → Type 0
+IsJsonFile text payloads = ((members : Members) × IsJsonObject text members × WriteRoas (values_in roas members) payloads) × (payloads ≢ [])
+
+-- the text is no JSON object, its member `roas` is wrong, or no item writes a payload
+abbrev pub HasJsonFault : List ℕ → FileFault → Type 0
+HasJsonFault text (Line number wrong) = ⊥
+HasJsonFault text NoPayload = (members : Members) × IsJsonObject text members × WriteRoas (values_in roas members) []
+HasJsonFault text NotObject = (members : Members) → ¬ IsJsonObject text members
+HasJsonFault text (Roas wrong) = (members : Members) × IsJsonObject text members × HaveRoasFault (values_in roas members) (Roas wrong)
+HasJsonFault text (Item place wrong) = (members : Members) × IsJsonObject text members × HaveRoasFault (values_in roas members) (Item place wrong)

@@ -1,0 +1,43 @@
+//! A file of payloads in comma separated values.
+ghost use Rattle.std.specs.Prelude.{MatchResult};
+ghost use Rattle.rpki_text.specs.Memory.{IfRefused};
+ghost use Rattle.payload_texts.specs.Csv.{IsCsvFile, HasCsvFault};
+
+use crate::columns::Columns;
+use crate::fault::FileFault;
+use crate::row::{Row, read_row};
+use rpki_base::Asn;
+use rpki_base::memory::OrMemory;
+use rpki_prefix::MaxLenPrefix;
+use rpki_text::line::cut_line;
+use std::alloc::Allocator;
+
+/// The payloads of lines of fields, in their order, or what is wrong there.
+#[tactic(auto, using(crate::proofs::CsvLemmas::read_none, crate::proofs::CsvLemmas::read_more))]
+pub(crate) fn read_csv<A: Allocator>(
+    alloc: A,
+    text: &[u8],
+) -> Result<Vec<(MaxLenPrefix, Asn), A>, OrMemory<FileFault>>
+    ensures { MatchResult result (λ payloads. IsCsvFile text.now payloads.items)
+        (IfRefused (HasCsvFault text.now)) }
+{
+    let mut payloads = Vec::new(alloc);
+    let mut columns = Columns::USUAL;
+    let mut number = 0;
+    let mut rest = text;
+    while !rest.is_empty() {
+        let (line, after) = cut_line(rest);
+        number += 1;
+        match read_row(columns, line) {
+            Ok(Row::Payload(payload)) => payloads.push(payload)?,
+            Ok(Row::Header(next)) => columns = next,
+            Ok(Row::Blank) => {}
+            Err(fault) => return Err(OrMemory::Refused(FileFault::Line(number, fault))),
+        }
+        rest = after;
+    }
+    if payloads.as_slice().is_empty() {
+        return Err(OrMemory::Refused(FileFault::NoPayload));
+    }
+    Ok(payloads)
+}

@@ -1,0 +1,35 @@
+//! An item of a list of payloads in JSON.
+ghost use Rattle.std.specs.Prelude.{MatchResult};
+ghost use Rattle.json.specs.Value.{value_view};
+ghost use Rattle.payload_texts.specs.Items.{IsItem, HasItemFault};
+
+use crate::fault::ItemFault;
+use crate::member::{Member, text_of};
+use crate::row::read_fields;
+use json::Value;
+use rpki_base::Asn;
+use rpki_prefix::MaxLenPrefix;
+use std::alloc::Allocator;
+
+/// The payload that an item writes. Members of other names aren't looked at.
+pub(crate) fn read_item<A: Allocator>(item: &Value<'_, A>) -> Result<(MaxLenPrefix, Asn), ItemFault>
+    ensures { MatchResult result (IsItem (value_view item.now))
+        (HasItemFault (value_view item.now)) }
+{
+    let asn = match text_of(Member::Asn, item) {
+        Ok(text) => text,
+        Err(fault) => return Err(ItemFault::Member(Member::Asn, fault)),
+    };
+    let prefix = match text_of(Member::Prefix, item) {
+        Ok(text) => text,
+        Err(fault) => return Err(ItemFault::Member(Member::Prefix, fault)),
+    };
+    let max_len = match text_of(Member::MaxLength, item) {
+        Ok(text) => text,
+        Err(fault) => return Err(ItemFault::Member(Member::MaxLength, fault)),
+    };
+    match read_fields(asn, prefix, max_len) {
+        Ok(payload) => Ok(payload),
+        Err(fault) => Err(ItemFault::Payload(fault)),
+    }
+}

@@ -1,0 +1,132 @@
+//! The list of payloads in a file of JSON.
+ghost use Rattle.std.specs.Prelude.{◌≡◌, ◌<◌, ◌↔◌, [], ◌∷◌, IfOk, IsTrue, MatchResult, OnOk, Some, None, Err, length};
+ghost use Rattle.json.specs.Json.{Json, Items, Members, array, value, items, members};
+ghost use Rattle.payload_texts.specs.declared.fault.FileFault.TheVariants.{Roas};
+ghost use Rattle.payload_texts.specs.declared.fault.MemberFault.TheVariants.{Missing};
+ghost use Rattle.json.specs.Reads.{skip_items, skip_members};
+ghost use Rattle.payload_texts.specs.JsonFiles.{TellRoas, roas};
+ghost use Rattle.payload_texts.specs.Members.{values_in};
+
+use crate::fault::{FileFault, MemberFault};
+use crate::item::read_item;
+use json::{Error, Invalid, Reader, Token, Value};
+use rpki_base::Asn;
+use rpki_prefix::MaxLenPrefix;
+use std::alloc::Allocator;
+
+/// The payloads of the member `roas`, or what is wrong with it.
+pub(crate) type Roas<A> = Result<Vec<(MaxLenPrefix, Asn), A>, FileFault>;
+
+/// What the members of an object tell of `roas`, up to the object's end.
+#[tactic(auto, using(crate::proofs::RoasLemmas::told_none))]
+pub(crate) fn read_members<A: Allocator + Copy>(
+    alloc: A,
+    reader: &mut Reader<'_>,
+    depth: usize,
+) -> Result<Roas<A>, Error>
+    requires { 0 < depth }
+    ensures told { IfOk result (λ told. (ms : Members) × TellRoas (values_in roas ms) told
+        × (members (value depth) (length reader.old) reader.old ≡ Some (ms, reader.new))) }
+    ensures invalid { result ≡ Err Error.Invalid
+        → members (value depth) (length reader.old) reader.old ≡ None }
+{
+    let mut told = Err(FileFault::Roas(MemberFault::Missing));
+    while let Some(key) = reader.next_key()? {
+        if key != "roas" {
+            reader.skip_value(depth)?;
+        } else if is_missing(&told) {
+            told = read_list(alloc, reader, depth)?;
+        } else {
+            reader.skip_value(depth)?;
+            told = Err(FileFault::Roas(MemberFault::Repeated));
+        }
+    }
+    Ok(told)
+}
+
+/// Whether no member `roas` was read yet.
+fn is_missing<A: Allocator>(told: &Roas<A>) -> bool
+    ensures { IsTrue result ↔ (told.now ≡ Err (Roas Missing)) }
+{
+    matches!(told, Err(FileFault::Roas(MemberFault::Missing)))
+}
+
+/// What a value of `roas` tells.
+fn read_list<A: Allocator + Copy>(
+    alloc: A,
+    reader: &mut Reader<'_>,
+    depth: usize,
+) -> Result<Roas<A>, Error>
+    requires { 0 < depth }
+    ensures told { IfOk result
+        (λ told. (j : Json) × TellRoas (j ∷ []) told × (value depth reader.old ≡ Some (j, reader.new))) }
+    ensures invalid { result ≡ Err Error.Invalid → value depth reader.old ≡ None }
+    ensures shorter { OnOk result (length reader.new < length reader.old) }
+{
+    let token = reader.next().ok_or(Error::Invalid)?;
+    match token {
+        Token::BeginArray => read_items(alloc, reader, depth - 1),
+        Token::BeginObject => {
+            skip_members(reader, depth - 1)?;
+            Ok(Err(FileFault::Roas(MemberFault::Kind)))
+        }
+        Token::String(_) | Token::Number(_) | Token::Bool(_) | Token::Null => {
+            Ok(Err(FileFault::Roas(MemberFault::Kind)))
+        }
+        Token::EndObject | Token::EndArray | Token::Key(_) | Token::Bad => Err(Error::Invalid),
+    }
+}
+
+/// What the items of an array tell, up to the array's end.
+#[tactic(auto, using(crate::proofs::RoasLemmas::read_none))]
+fn read_items<A: Allocator + Copy>(
+    alloc: A,
+    reader: &mut Reader<'_>,
+    depth: usize,
+) -> Result<Roas<A>, Error>
+    ensures told { IfOk result (λ told. (js : Items) × TellRoas (array js ∷ []) told
+        × (items (value depth) (length reader.old) reader.old ≡ Some (js, reader.new))) }
+    ensures invalid { result ≡ Err Error.Invalid
+        → items (value depth) (length reader.old) reader.old ≡ None }
+    ensures shorter { OnOk result (length reader.new < length reader.old) }
+{
+    let mut payloads = Vec::new(alloc);
+    while !reader.take_end_array() {
+        let item = Value::read(alloc, reader, depth)?;
+        match read_item(&item) {
+            Ok(payload) => if payloads.push(payload).is_err() {
+                return Err(Error::OutOfMemory);
+            },
+            Err(fault) => {
+                let place = payloads.len() + 1;
+                skip_items(reader, depth)?;
+                return Ok(Err(FileFault::Item(place, fault)));
+            }
+        }
+    }
+    Ok(Ok(payloads))
+}
+
+/// Passes over items up to the end of their array.
+fn skip_items(reader: &mut Reader<'_>, depth: usize) -> Result<(), Invalid>
+    ensures read { MatchResult result (λ _. skip_items depth reader.old ≡ Some reader.new)
+        (λ _. skip_items depth reader.old ≡ None) }
+    ensures shorter { OnOk result (length reader.new < length reader.old) }
+{
+    while !reader.take_end_array() {
+        reader.skip_value(depth)?;
+    }
+    Ok(())
+}
+
+/// Passes over members up to the end of their object.
+fn skip_members(reader: &mut Reader<'_>, depth: usize) -> Result<(), Invalid>
+    ensures read { MatchResult result (λ _. skip_members depth reader.old ≡ Some reader.new)
+        (λ _. skip_members depth reader.old ≡ None) }
+    ensures shorter { OnOk result (length reader.new < length reader.old) }
+{
+    while let Some(_) = reader.next_key()? {
+        reader.skip_value(depth)?;
+    }
+    Ok(())
+}

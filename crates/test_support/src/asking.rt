@@ -21,6 +21,16 @@ pub fn prints<A: Allocator, T: fmt::Display>(
     Ok(printed.as_str() == text)
 }
 
+/// Whether this is what `{:?}` writes of a value. `AllocError` where there is no memory for it.
+pub fn shows<A: Allocator, T: fmt::Debug>(
+    alloc: A,
+    value: &T,
+    text: &str,
+) -> Result<bool, AllocError> {
+    let shown = format!(in alloc; "{value:?}")?;
+    Ok(shown.as_str() == text)
+}
+
 /// Whether each value is printed as the text beside it. `AllocError` where there is no memory for it.
 pub fn all_print<A: Allocator + Copy, T: fmt::Display>(
     alloc: A,

@@ -24,7 +24,7 @@ mod in_turn;
 mod plan;
 mod requests;
 
-pub use asking::{all_print, hash_of, holds_where_refused, prints};
+pub use asking::{all_print, hash_of, holds_where_refused, prints, shows};
 pub use in_turn::{Outcome, refuse_in_turn};
 pub use plan::Plan;
 use requests::Requests;
@@ -66,6 +66,12 @@ impl<A: Allocator> Refusing<A> {
         self.requests.asked()
     }
 
+    /// How many octets the requests asked for together, those of the refused ones too.
+    // As of `asked`, no clause can say it.
+    pub fn octets(&self) -> u64 {
+        self.requests.octets()
+    }
+
     /// How many of the requests so far were refused.
     pub fn refused(&self) -> u64
         ensures { IsSomeRefusedCount (plan_of self.now) result }
@@ -85,7 +91,7 @@ unsafe impl<A: Allocator> Allocator for Refusing<A> {
     ghost dealloc_token = { λ heap ty ptr. A.dealloc_token heap.inner ty ptr };
 
     fn allocate(&self, size: usize, align: usize) -> Result<*mut u8, AllocError> {
-        if self.requests.next_is_refused() {
+        if self.requests.next_is_refused(size) {
             return Err(AllocError);
         }
         self.inner.allocate(size, align)

@@ -1,4 +1,4 @@
-// The count of the requests for memory, and which of them are refused.
+// The count of the requests for memory and of their octets, and which of them are refused.
 ghost use Rattle.std.specs.Prelude.{◌≡◌};
 ghost use Rattle.test_support.specs.Plans.{IsSomeAnswer, IsSomeRefusedCount};
 
@@ -9,6 +9,7 @@ use std::cell::Cell;
 pub(crate) struct Requests {
     plan: Plan,
     asked: Cell<u64>,
+    octets: Cell<u64>,
 }
 
 impl Requests {
@@ -18,6 +19,7 @@ impl Requests {
         Requests {
             plan,
             asked: Cell::new(0),
+            octets: Cell::new(0),
         }
     }
 
@@ -31,18 +33,24 @@ impl Requests {
         self.asked.get()
     }
 
+    pub(crate) fn octets(&self) -> u64 {
+        self.octets.get()
+    }
+
     pub(crate) fn refused(&self) -> u64
         ensures { IsSomeRefusedCount self.now.plan result }
     {
         self.plan.refused_among(self.asked())
     }
 
-    // Counts a request, and tells whether it is refused.
-    pub(crate) fn next_is_refused(&self) -> bool
+    // Counts a request of so many octets, and tells whether it is refused.
+    pub(crate) fn next_is_refused(&self, size: usize) -> bool
         ensures { IsSomeAnswer self.now.plan result }
     {
         let number = self.asked.get();
         self.asked.set(number.saturating_add(1));
+        self.octets
+            .set(self.octets.get().saturating_add(size as u64));
         self.plan.refuses(number)
     }
 }

@@ -32,10 +32,10 @@ allocate_spec 𝓤 𝓛 𝓜 𝓡 wired Y L g d d' met _ =
     -- [the `&` to the requests; the token; the `&` to the allocator inside; the other token]
     enter ! _ _ _ _ _ $ alloc_all ! (λ l. pass_all ! refl ((tt, tt), ((tt, record { fits = are.1.0.1 }), ((tt, record { fits = are.1.1.0.1 }), tt))) $
     sets ! (addr ! (through ! refl (fld ! refl (stop !)))) refl (tt, tt) $
-    use2 𝓛 (raw ((Asks 𝓛 𝓜.mem 𝓡.returns).pre (at_asks 𝓛 𝓜.mem 𝓡.returns κ q k x.requests))) (Asks-goes 𝓛 𝓜.mem 𝓡.returns κ q k x.requests) $
-    calls_at ! (framed 𝓤 𝓛.H 𝓜 𝓣) (Asks 𝓛 𝓜.mem 𝓡.returns) (asks.met 𝓤 𝓛 𝓜 𝓡 (code.calls-test_support::requests::Requests::next_is_refused 𝓡.env wired)) (at_asks 𝓛 𝓜.mem 𝓡.returns κ q k x.requests)
-    (and_then ! (get ! refl) (no_more !)) (λ u.
-    use1 𝓛 (later (some (λ (b : Bool). given (u ≡ vbool b) (‵ (flft κ q))))) (Asks-gives 𝓛 𝓜.mem 𝓡.returns κ q k x.requests u) $ await ! tt $ pick ! (λ b. learn ! (λ is. lands_as ! is refl (tt, tt) $
+    use2 𝓛 (raw ((Asks 𝓛 𝓜.mem 𝓡.returns).pre (at_asks 𝓛 𝓜.mem 𝓡.returns κ q k x.requests n))) (Asks-goes 𝓛 𝓜.mem 𝓡.returns κ q k x.requests n are.1.0.1) $
+    calls_at ! (framed 𝓤 𝓛.H 𝓜 𝓣) (Asks 𝓛 𝓜.mem 𝓡.returns) (asks.met 𝓤 𝓛 𝓜 𝓡 (code.calls-test_support::requests::Requests::next_is_refused 𝓡.env wired)) (at_asks 𝓛 𝓜.mem 𝓡.returns κ q k x.requests n)
+    (and_then ! (get ! refl) (and_then ! (get ! refl) (no_more !))) (λ u.
+    use1 𝓛 (later (some (λ (b : Bool). given (u ≡ vbool b) (‵ (flft κ q))))) (Asks-gives 𝓛 𝓜.mem 𝓡.returns κ q k x.requests n u) $ await ! tt $ pick ! (λ b. learn ! (λ is. lands_as ! is refl (tt, tt) $
     -- [the token; the `&` to the allocator inside; the other token]
     first ! $ branches ! (get ! refl)
     (λ refused. sets ! (agg ! (no_more !)) refl (tt, tt) $ sets ! (agg ! (and_then ! (lit ! tt) (and_then ! (get ! refl) (no_more !)))) refl (Answer-typed false 0 0) $

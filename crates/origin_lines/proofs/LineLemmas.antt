@@ -1,0 +1,171 @@
+-- A line writes one route alone, or has one fault.
+use Rattle.std.proofs.Common.{◌≡◌, ◌⊎◌, ℕ, List, Option, Some, None, Result, Ok, Err, MatchResult, inl, inr, refl, sym, ap, subst, ◌∙◌}
+use Rattle.std.specs.Prelude.{codes}
+use Rattle.std.specs.Str.{IsUtf8, trim}
+use Rattle.rpki_text.specs.Reading.{Answers}
+use Rattle.rpki_text.proofs.ReadingLemmas.{Answers-from_found}
+use Rattle.rpki_base.proofs.AsnLemmas.{IsAsnText-one}
+use Rattle.rpki_prefix.proofs.TextLemmas.{IsPrefixText-one, IsPrefixText-no_fault, HasPrefixTextFault-one}
+use Rattle.origin_lines.specs.Routes.{AreRouteWords, HasDumpFault, HasFaultBy, HasLineFault, HasRouteFault, HasWordFault, HaveWordsFault, IsAsnOrigin, IsDumpRoute, IsFieldAt, IsLineOf, IsNoAsnText, IsNoFieldAt, IsPathPlace, IsRouteLine, IsRouteBy, IsWordOrigin, last_word, origin_word, prefix_word}
+use Rattle.origin_lines.specs.declared.fault.RouteFault.{RouteFault}
+use Rattle.origin_lines.specs.declared.fault.RouteFault.TheVariants.{NotUtf8, TooFewFields, Prefix, Asn}
+use Rattle.origin_lines.specs.declared.route.Route.{Route}
+
+-- where what is said of the origin holds of one at most, and of none that there is a fault of
+module _ (Origin : Option ℕ → Type 0) (NoOrigin : Type 0) (one : (a b : Option ℕ) → Origin a → Origin b → a ≡ b) (apart : (a : Option ℕ) → Origin a → NoOrigin → ⊥)
+    (text : List ℕ) where
+  by_one : (a b : Route) → IsRouteBy Origin text a → IsRouteBy Origin text b → a ≡ b
+  by_one a b h k =
+      let prefix = IsPrefixText-one text a.prefix b.prefix h.prefix k.prefix in
+      let origin = one a.origin b.origin h.origin k.origin in
+      λ i. record { prefix = prefix i; origin = origin i }
+
+  by_apart : (a : Route) (f : RouteFault) → IsRouteBy Origin text a → HasFaultBy NoOrigin text f → ⊥
+  by_apart a NotUtf8 h wrong = wrong
+  by_apart a TooFewFields h wrong = wrong
+  by_apart a (Prefix f) h wrong = IsPrefixText-no_fault text a.prefix f h.prefix wrong
+  by_apart a (Asn f) h wrong = apart a.origin h.origin wrong.1
+
+  by_fault : (d e : RouteFault) → HasFaultBy NoOrigin text d → HasFaultBy NoOrigin text e → d ≡ e
+  by_fault NotUtf8 e h k = absurd h
+  by_fault TooFewFields e h k = absurd h
+  by_fault (Prefix f) NotUtf8 h k = absurd k
+  by_fault (Prefix f) TooFewFields h k = absurd k
+  by_fault (Prefix f) (Prefix g) h k = ap Prefix (HasPrefixTextFault-one text f g h k)
+  by_fault (Prefix f) (Asn g) h ((p, is), _) = absurd (IsPrefixText-no_fault text p f is h)
+  by_fault (Asn f) NotUtf8 h k = absurd k
+  by_fault (Asn f) TooFewFields h k = absurd k
+  by_fault (Asn f) (Prefix g) ((p, is), _) k = absurd (IsPrefixText-no_fault text p g is k)
+  by_fault (Asn f) (Asn g) h k = refl
+
+-- the text of an AS number
+asn_one : (text : List ℕ) (a b : Option ℕ) → IsAsnOrigin text a → IsAsnOrigin text b → a ≡ b
+asn_one text None b h k = absurd h
+asn_one text (Some m) None h k = absurd k
+asn_one text (Some m) (Some n) h k = ap Some (IsAsnText-one text m n h k)
+
+asn_apart : (text : List ℕ) (a : Option ℕ) → IsAsnOrigin text a → IsNoAsnText text → ⊥
+asn_apart text None h none = h
+asn_apart text (Some n) h none = none n h
+
+-- the last word of a path
+word_one : (word : List ℕ) (a b : Option ℕ) → IsWordOrigin word a → IsWordOrigin word b → a ≡ b
+word_one word None None h k = refl
+word_one word None (Some n) (inl e) k = absurd (k.0 e)
+word_one word None (Some n) (inr set) k = absurd (k.1 set)
+word_one word (Some m) None h (inl e) = absurd (h.0 e)
+word_one word (Some m) None h (inr set) = absurd (h.1 set)
+word_one word (Some m) (Some n) h k = ap Some (IsAsnText-one word m n h.2 k.2)
+
+word_apart : (word : List ℕ) (a : Option ℕ) → IsWordOrigin word a → HasWordFault word → ⊥
+word_apart word None (inl e) wrong = wrong.0 e
+word_apart word None (inr set) wrong = wrong.1 set
+word_apart word (Some n) h wrong = wrong.2 n h.2
+
+-- ---- the fields of a dump's line
+
+field_one : (n : ℕ) (line x y : List ℕ) → IsFieldAt n line x → IsFieldAt n line y → x ≡ y
+field_one n line x y h k = let e : Some x ≡ Some y = sym h ∙ k in cc
+
+field_apart : (n : ℕ) (line x : List ℕ) → IsFieldAt n line x → IsNoFieldAt n line → ⊥
+field_apart n line x h none = let e : Some x ≡ None = sym h ∙ none in cc
+
+place_one : (line : List ℕ) (m n : ℕ) → IsPathPlace line m → IsPathPlace line n → m ≡ n
+place_one line m n (inl h) (inl k) = h.1 ∙ sym k.1
+place_one line m n (inl h) (inr k) = absurd (let e : codes "TABLE_DUMP2" ≡ codes "TABLE_DUMP2_AP" = field_one 0 line _ _ h.0 k.0 in cc)
+place_one line m n (inr h) (inl k) = absurd (let e : codes "TABLE_DUMP2_AP" ≡ codes "TABLE_DUMP2" = field_one 0 line _ _ h.0 k.0 in cc)
+place_one line m n (inr h) (inr k) = h.1 ∙ sym k.1
+
+module _ (n : ℕ) (line : List ℕ) where
+  -- two pairs of fields are the same, so what holds of the one holds of the other
+  moved : (P : List ℕ → List ℕ → Type 0) (p q r s : List ℕ) → IsFieldAt 5 line p → IsFieldAt n line q → IsFieldAt 5 line r → IsFieldAt n line s → P r s → P p q
+  moved P p q r s at at' there there' h =
+      subst (λ z. P z q) (field_one 5 line r p there at) (subst (λ z. P r z) (field_one n line s q there' at') h)
+
+  dump_one : (a b : Route) → IsDumpRoute n line a → IsDumpRoute n line b → a ≡ b
+  dump_one a b (p, q, at, h) (r, s, there, k) =
+      by_one (IsWordOrigin (last_word q)) (HasWordFault (last_word q)) (word_one (last_word q)) (word_apart (last_word q)) p a b h
+      (moved (λ x y. IsRouteBy (IsWordOrigin (last_word y)) x b) p q r s at.prefix_is at.path_is there.prefix_is there.path_is k)
+
+  dump_apart : (a : Route) (f : RouteFault) → IsDumpRoute n line a → HasDumpFault n line f → ⊥
+  dump_apart a f (p, q, at, h) (inl (inl none, _)) = field_apart 5 line p at.prefix_is none
+  dump_apart a f (p, q, at, h) (inl (inr none, _)) = field_apart n line q at.path_is none
+  dump_apart a f (p, q, at, h) (inr (r, s, there, wrong)) =
+      by_apart (IsWordOrigin (last_word q)) (HasWordFault (last_word q)) (word_one (last_word q)) (word_apart (last_word q)) p a f h
+      (moved (λ x y. HasFaultBy (HasWordFault (last_word y)) x f) p q r s at.prefix_is at.path_is there.prefix_is there.path_is wrong)
+
+  missing : (f : RouteFault) (p q : List ℕ) → IsFieldAt 5 line p → IsFieldAt n line q → (IsNoFieldAt 5 line ⊎ IsNoFieldAt n line) → ⊥
+  missing f p q at at' (inl none) = field_apart 5 line p at none
+  missing f p q at at' (inr none) = field_apart n line q at' none
+
+  dump_fault : (d e : RouteFault) → HasDumpFault n line d → HasDumpFault n line e → d ≡ e
+  dump_fault d e (inl h) (inl k) = h.1 ∙ sym k.1
+  dump_fault d e (inl h) (inr (r, s, there, wrong)) = absurd (missing e r s there.prefix_is there.path_is h.0)
+  dump_fault d e (inr (p, q, at, wrong)) (inl k) = absurd (missing d p q at.prefix_is at.path_is k.0)
+  dump_fault d e (inr (p, q, at, wrong)) (inr (r, s, there, other)) =
+      by_fault (IsWordOrigin (last_word q)) (HasWordFault (last_word q)) (word_one (last_word q)) (word_apart (last_word q)) p d e wrong
+      (moved (λ x y. HasFaultBy (HasWordFault (last_word y)) x e) p q r s at.prefix_is at.path_is there.prefix_is there.path_is other)
+
+-- ---- any line
+
+module _ (line : List ℕ) where
+  line_one : (a b : Route) → IsLineOf line a → IsLineOf line b → a ≡ b
+  line_one a b (inl h) (inl k) =
+      by_one (IsAsnOrigin (origin_word line)) (IsNoAsnText (origin_word line)) (asn_one (origin_word line)) (asn_apart (origin_word line)) (prefix_word line) a b h.1 k.1
+  line_one a b (inl h) (inr (n, place, _)) = absurd (h.0 n place)
+  line_one a b (inr (n, place, _)) (inl k) = absurd (k.0 n place)
+  line_one a b (inr (m, place, h)) (inr (n, other, k)) =
+      dump_one n line a b (subst (λ z. IsDumpRoute z line a) (place_one line m n place other) h) k
+
+  line_apart : (a : Route) (f : RouteFault) → IsLineOf line a → HasLineFault line f → ⊥
+  line_apart a f (inl h) (inl k) =
+      by_apart (IsAsnOrigin (origin_word line)) (IsNoAsnText (origin_word line)) (asn_one (origin_word line)) (asn_apart (origin_word line)) (prefix_word line) a f h.1 k.1
+  line_apart a f (inl h) (inr (n, place, _)) = h.0 n place
+  line_apart a f (inr (n, place, _)) (inl k) = k.0 n place
+  line_apart a f (inr (m, place, h)) (inr (n, other, k)) =
+      dump_apart n line a f (subst (λ z. IsDumpRoute z line a) (place_one line m n place other) h) k
+
+  line_fault : (d e : RouteFault) → HasLineFault line d → HasLineFault line e → d ≡ e
+  line_fault d e (inl h) (inl k) =
+      by_fault (IsAsnOrigin (origin_word line)) (IsNoAsnText (origin_word line)) (asn_one (origin_word line)) (asn_apart (origin_word line)) (prefix_word line) d e h.1 k.1
+  line_fault d e (inl h) (inr (n, place, _)) = absurd (h.0 n place)
+  line_fault d e (inr (n, place, _)) (inl k) = absurd (k.0 n place)
+  line_fault d e (inr (m, place, h)) (inr (n, other, k)) =
+      dump_fault n line d e (subst (λ z. HasDumpFault z line d) (place_one line m n place other) h) k
+
+pub route_one : (line : List ℕ) (a b : Route) → IsRouteLine line a → IsRouteLine line b → a ≡ b
+route_one line a b h k = line_one (trim line) a b h.1 k.1
+
+pub route_apart : (line : List ℕ) (a : Route) (f : RouteFault) → IsRouteLine line a → HasRouteFault line f → ⊥
+route_apart line a f h (inl wrong) = wrong.0 h.0
+route_apart line a f h (inr wrong) = line_apart (trim line) a f h.1 wrong.1
+
+pub route_fault : (line : List ℕ) (d e : RouteFault) → HasRouteFault line d → HasRouteFault line e → d ≡ e
+route_fault line d e (inl h) (inl k) = h.1 ∙ sym k.1
+route_fault line d e (inl h) (inr k) = absurd (h.0 k.0)
+route_fault line d e (inr h) (inl k) = absurd (k.0 h.0)
+route_fault line d e (inr h) (inr k) = line_fault (trim line) d e h.1 k.1
+
+-- so what is found decides the answer
+pub route_answers : (line : List ℕ) (r : Result Route RouteFault) → MatchResult r (IsRouteLine line) (HasRouteFault line) → Answers (IsRouteLine line) (HasRouteFault line) r
+route_answers line r found = Answers-from_found r found (route_one line) (route_apart line) (route_fault line)
+
+-- ---- what is found of parts is found of the line
+
+pub words_found : (text prefix origin : List ℕ) (r : Result Route RouteFault) → prefix ≡ prefix_word text → origin ≡ origin_word text
+    → MatchResult r (IsRouteBy (IsAsnOrigin origin) prefix) (HasFaultBy (IsNoAsnText origin) prefix) → MatchResult r (AreRouteWords text) (HaveWordsFault text)
+words_found text prefix origin r one other found =
+    subst (λ o. MatchResult r (IsRouteBy (IsAsnOrigin o) (prefix_word text)) (HasFaultBy (IsNoAsnText o) (prefix_word text))) other
+    (subst (λ p. MatchResult r (IsRouteBy (IsAsnOrigin origin) p) (HasFaultBy (IsNoAsnText origin) p)) one found)
+
+pub dump_found : (n : ℕ) (line prefix path word : List ℕ) (r : Result Route RouteFault) → IsFieldAt 5 line prefix → IsFieldAt n line path → word ≡ last_word path
+    → MatchResult r (IsRouteBy (IsWordOrigin word) prefix) (HasFaultBy (HasWordFault word) prefix) → MatchResult r (IsDumpRoute n line) (HasDumpFault n line)
+dump_found n line prefix path word (Ok route) at there is found =
+    (prefix, path, record { prefix_is = at; path_is = there }, subst (λ w. IsRouteBy (IsWordOrigin w) prefix route) is found)
+dump_found n line prefix path word (Err fault) at there is found =
+    inr (prefix, path, record { prefix_is = at; path_is = there }, subst (λ w. HasFaultBy (HasWordFault w) prefix fault) is found)
+
+pub text_found : (line text : List ℕ) (r : Result Route RouteFault) → IsUtf8 line → text ≡ trim line → MatchResult r (IsLineOf text) (HasLineFault text)
+    → MatchResult r (IsRouteLine line) (HasRouteFault line)
+text_found line text (Ok route) utf8 is found = (utf8, subst (λ t. IsLineOf t route) is found)
+text_found line text (Err fault) utf8 is found = inr (utf8, subst (λ t. HasLineFault t fault) is found)

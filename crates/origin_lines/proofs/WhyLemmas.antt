@@ -1,0 +1,259 @@
+-- The payloads that cover a route, told one after another.
+use Rattle.std.proofs.Common.{◌≡◌, ◌≢◌, ◌⊎◌, ◌↔◌, ℕ, suc, ◌+◌, ◌-◌, ◌*◌, ◌^◌, ◌<◌, ◌≤◌, Option, Some, None, List, [], ◌∷◌, ◌++◌, map, length, get_or, refl, sym, ap, subst, ◌∙◌, inl, inr, arith, reverse, append_assoc}
+use Rattle.std.specs.List.{AllPairs, Contains}
+use Rattle.std.specs.List.Sorted.{IsNonDecreasingBy}
+use Rattle.std.proofs.lemmas.Bool.{cases_lt}
+use Rattle.std.proofs.lemmas.List.{append-nil, get_or-reverse, get_or_at, length-append, length-reverse, map-append}
+use Rattle.std.proofs.lemmas.List.Elements.{Contains-append_left, Contains-append_right, Contains-get_or, Contains-push, Contains-push_cases}
+use Rattle.std.proofs.lemmas.List.Quantifiers.{all_pairs_push}
+use Rattle.rpki_prefix.specs.Values.{FamilyPrefix, IsFamilyPrefix}
+use Rattle.roa_origin.specs.Coverings.{AreThose}
+use Rattle.roa_origin.specs.Payloads.{CoversRoute, IsLawfulPayload, Payload, longest, prefix_len}
+use Rattle.roa_origin.specs.Places.{payload_place, rank, table_place}
+use Rattle.roa_origin.specs.Tables.{as_sent}
+use Rattle.roa_origin.proofs.Nested.{covers_between}
+use Rattle.roa_origin.proofs.Orders.{covers_place}
+use Rattle.roa_origin.proofs.Places.{by_ranks, no_earlier, rank_asn, rank_longest, rank_small, same_prefix}
+use Rattle.origin_lines.specs.Explanations.{IsExplanation, IsReason, IsToldBefore, TellsEach, TellsNext, told_text}
+use Rattle.origin_lines.specs.declared.explanation.Reason.{Reason}
+use Rattle.origin_lines.specs.declared.explanation.Reason.TheVariants.{Match, Length, As}
+use Rattle.origin_lines.proofs.Members.{from_reverse, here, map_from, map_has, those_are, those_have, to_reverse}
+
+-- ---- the order in which they are told
+
+pub told_trans : (p q r : Payload) → IsToldBefore p q → IsToldBefore q r → IsToldBefore p r
+told_trans p q r (inl h) (inl k) = inl (omega (arith, h, k))
+told_trans p q r (inl h) (inr (e, k)) = inl (omega (arith, h, e))
+told_trans p q r (inr (e, h)) (inl k) = inl (omega (arith, e, k))
+told_trans p q r (inr (e, inl h)) (inr (f, inl k)) = inr (f ∙ e, inl (omega (arith, h, k)))
+told_trans p q r (inr (e, inl h)) (inr (f, inr (same, k))) = inr (f ∙ e, inl (omega (arith, h, same)))
+told_trans p q r (inr (e, inr (same, h))) (inr (f, inl k)) = inr (f ∙ e, inl (omega (arith, same, k)))
+told_trans p q r (inr (e, inr (same, h))) (inr (f, inr (equal, k))) = inr (f ∙ e, inr (same ∙ equal, omega (arith, h, k)))
+
+pub told_once : (p : Payload) → IsToldBefore p p → ⊥
+told_once p (inl h) = omega (arith, h)
+told_once p (inr (e, inl h)) = omega (arith, h)
+told_once p (inr (e, inr (same, h))) = omega (arith, h)
+
+-- the first of two numbers, by their order with a second of 64 bits each
+upper : (m n r s : ℕ) → s < 2 ^ 64 → m * 2 ^ 64 + r ≤ n * 2 ^ 64 + s → m ≤ n
+upper m n r s small le = omega (arith, small, le)
+
+-- of two payloads that cover a route, the one that a table has later is told before the other, or is the same as it is
+-- sent
+module _ (route : FamilyPrefix) (is : IsFamilyPrefix route) (y x : Payload) (of_y : IsLawfulPayload y) (of_x : IsLawfulPayload x)
+    (covers_y : CoversRoute route y) (covers_x : CoversRoute route x) (places : table_place x ≤ table_place y) where
+  -- of one prefix
+  by_prefix : x.0.prefix ≡ y.0.prefix → IsToldBefore y x ⊎ (as_sent y ≡ as_sent x)
+  by_prefix same =
+      let ranks = by_ranks x y same places in
+      let len : prefix_len x ≡ prefix_len y = ap (λ (p : FamilyPrefix). p.len) same in
+      elim (cases_lt y.1 x.1) [
+        | inl less ↦ inl (inr (len, inl less))
+        | inr most ↦ (
+            let least = rank_asn x y of_x of_y ranks in
+            let asn : y.1 ≡ x.1 = omega (arith, most, least) in
+            elim (cases_lt (longest x) (longest y)) [
+              | inl less ↦ inl (inr (len, inr (asn, less)))
+              | inr most ↦ (
+                  let no_longer = rank_longest x y (sym asn) ranks in
+                  let long : longest y ≡ longest x = omega (arith, most, no_longer) in
+                  inr (λ i. (record { prefix = sym same i; max_len = Some (long i) }, asn i)))
+            ])
+      ]
+
+  pub told_or_same : prefix_len x ≤ prefix_len y → IsToldBefore y x ⊎ (as_sent y ≡ as_sent x)
+  told_or_same lens = elim (cases_lt (prefix_len x) (prefix_len y)) [
+    | inl less ↦ inl (inl less)
+    | inr most ↦ (
+        let len : prefix_len x ≡ prefix_len y = omega (arith, lens, most) in
+        let below : payload_place x ≤ payload_place y = upper (payload_place x) (payload_place y) (rank x) (rank y) (rank_small y of_y) places in
+        let round = covers_between x.0.prefix y.0.prefix route of_x.prefix.0 of_y.prefix.0 is below (covers_place y.0.prefix route of_y.prefix.0 is covers_y) covers_x in
+        let above : payload_place y ≤ payload_place x = no_earlier x.0.prefix y.0.prefix round len in
+        by_prefix (same_prefix x.0.prefix y.0.prefix of_x.prefix.0 of_y.prefix.0 (omega (arith, below, above))))
+  ]
+
+-- ---- two that stand together in a list whose other end is the least
+
+at_reverse : (f : Payload → ℕ) (all : List Payload) (i j : ℕ) (d : Payload) → IsNonDecreasingBy f (reverse all) → i ≤ j → j < length all → f (get_or all j d) ≤ f (get_or all i d)
+at_reverse f all i j d ordered le small =
+    let n = length all in
+    let long = length-reverse all in
+    let first : f (get_or (reverse all) (n - 1 - j) d) ≤ f (get_or (reverse all) (n - 1 - i) d) = ordered (n - 1 - j) (n - 1 - i) d (omega (arith, le, small)) (omega (arith, le, small, long)) in
+    let back_j : n - 1 - (n - 1 - j) ≡ j = omega (arith, small) in
+    let back_i : n - 1 - (n - 1 - i) ≡ i = omega (arith, small, le) in
+    let at_j : get_or (reverse all) (n - 1 - j) d ≡ get_or all j d = get_or-reverse all (n - 1 - j) d (omega (arith, small)) ∙ ap (λ k. get_or all k d) back_j in
+    let at_i : get_or (reverse all) (n - 1 - i) d ≡ get_or all i d = get_or-reverse all (n - 1 - i) d (omega (arith, small, le)) ∙ ap (λ k. get_or all k d) back_i in
+    subst (λ (z : Payload). f (get_or all j d) ≤ f z) at_i (subst (λ (z : Payload). f z ≤ f (get_or (reverse all) (n - 1 - i) d)) at_j first)
+
+pub adjacent : (f : Payload → ℕ) (all done front rest : List Payload) (y x : Payload) → IsNonDecreasingBy f (reverse all) → all ≡ done ++ x ∷ rest → done ≡ front ++ y ∷ []
+    → f x ≤ f y
+adjacent f all done front rest y x ordered cut ends =
+    let m = length front in
+    let one_more : length done ≡ m + 1 = ap length ends ∙ length-append front (y ∷ []) in
+    let whole : all ≡ front ++ y ∷ (x ∷ rest) = cut ∙ ap (λ zs. zs ++ x ∷ rest) ends ∙ append_assoc front (y ∷ []) (x ∷ rest) in
+    let long : length all ≡ length done + suc (length rest) = ap length cut ∙ length-append done (x ∷ rest) in
+    let at_x : get_or all (m + 1) y ≡ x = ap (λ zs. get_or zs (m + 1) y) cut ∙ get_or_at done x rest y (m + 1) one_more in
+    let at_y : get_or all m y ≡ y = ap (λ zs. get_or zs m y) whole ∙ get_or_at front y (x ∷ rest) y m refl in
+    let le = at_reverse f all m (m + 1) y ordered (omega arith) (omega (arith, one_more, long)) in
+    subst (λ (z : Payload). f x ≤ f z) at_y (subst (λ (z : Payload). f z ≤ f (get_or all m y)) at_x le)
+
+-- ---- what is told so far
+
+-- the last payload of those that are done
+abbrev IsLastOf : Option Payload → List Payload → Type 0
+IsLastOf None done = done ≡ []
+IsLastOf (Some y) done = ((front : List Payload) × (done ≡ front ++ y ∷ [])) × IsLawfulPayload y
+
+-- what is told is told before it, or is the same as it is sent
+abbrev IsUpTo : Option Payload → List Payload → Type 0
+IsUpTo None told = told ≡ []
+IsUpTo (Some y) told = (q : Payload) → Contains told q → IsToldBefore q y ⊎ (q ≡ as_sent y)
+
+pub record IsToldSo (route : FamilyPrefix) (asn : ℕ) (done : List Payload) (last : Option Payload) (text : List ℕ) : Type 0 where
+  pub told : List Payload
+  pub ordered : AllPairs IsToldBefore told
+  pub members : (p : Payload) → Contains told p ↔ Contains (map as_sent done) p
+  pub tells : TellsEach route asn told text
+  pub up_to : IsUpTo last told
+  pub at_end : IsLastOf last done
+
+pub told_none : (route : FamilyPrefix) (asn : ℕ) → IsToldSo route asn [] None []
+told_none route asn = record {
+  told = [];
+  ordered = λ i j d less small. absurd (omega (arith, small));
+  members = λ p. (λ h. h, λ h. h);
+  tells = refl;
+  up_to = refl;
+  at_end = refl;
+}
+
+-- the text of one more
+tells_push : (route : FamilyPrefix) (asn : ℕ) (told : List Payload) (text : List ℕ) (p : Payload) (reason : Reason) → IsReason route asn p reason → TellsEach route asn told text
+    → TellsEach route asn (told ++ p ∷ []) (text ++ told_text reason p)
+tells_push route asn [] text p reason is e = (reason, is, [], ap (λ t. t ++ told_text reason p) e ∙ sym (append-nil (told_text reason p)), refl)
+tells_push route asn (q ∷ told) text p reason is (r, of_q, more, e, rest) =
+    (r, of_q, more ++ told_text reason p, ap (λ t. t ++ told_text reason p) e ∙ append_assoc (told_text r q) more (told_text reason p), tells_push route asn told more p reason is rest)
+
+module _ (route : FamilyPrefix) (asn : ℕ) (done : List Payload) (x : Payload) (lawful : IsLawfulPayload x) where
+  more_sent : map as_sent (done ++ x ∷ []) ≡ map as_sent done ++ as_sent x ∷ []
+  more_sent = map-append as_sent done (x ∷ [])
+
+  -- a payload that is the same, as it is sent, as the last one isn't told again
+  pub told_same : (y : Payload) (text : List ℕ) → as_sent y ≡ as_sent x → IsToldSo route asn done (Some y) text → IsToldSo route asn (done ++ x ∷ []) (Some x) text
+  told_same y text same had = record {
+    told = had.told;
+    ordered = had.ordered;
+    members = λ p. (
+      λ h. subst (λ zs. Contains zs p) (sym more_sent) (Contains-append_left (map as_sent done) (as_sent x ∷ []) p ((had.members p).0 h)),
+      λ h. again p (Contains-push_cases (map as_sent done) (as_sent x) p (subst (λ zs. Contains zs p) more_sent h)),
+    );
+    tells = had.tells;
+    up_to = λ q h. moved q (had.up_to q h);
+    at_end = ((done, refl), lawful);
+  }
+    where
+      was : Contains (map as_sent done) (as_sent y)
+      was = map_has as_sent done y (subst (λ zs. Contains zs y) (sym had.at_end.0.1) (Contains-push had.at_end.0.0 y))
+
+      again : (p : Payload) → Contains (map as_sent done) p ⊎ (as_sent x ≡ p) → Contains had.told p
+      again p (inl h) = (had.members p).1 h
+      again p (inr e) = (had.members p).1 (subst (Contains (map as_sent done)) (same ∙ e) was)
+
+      moved : (q : Payload) → IsToldBefore q y ⊎ (q ≡ as_sent y) → IsToldBefore q x ⊎ (q ≡ as_sent x)
+      moved q (inl h) = inl (let there : IsToldBefore q (as_sent y) = h in subst (IsToldBefore q) same there)
+      moved q (inr e) = inr (e ∙ same)
+
+  -- a payload as it is sent has the same against it
+  reason_sent : (reason : Reason) → IsReason route asn x reason → IsReason route asn (as_sent x) reason
+  reason_sent Match h = (record { same_as = h.0.same_as; not_as0 = h.0.not_as0 }, h.1)
+  reason_sent Length h = (record { same_as = h.0.same_as; not_as0 = h.0.not_as0 }, h.1)
+  reason_sent As h = λ k. h (record { same_as = k.same_as; not_as0 = k.not_as0 })
+
+  -- and any other is
+  pub told_more : (last : Option Payload) (text : List ℕ) (reason : Reason) → IsReason route asn x reason → ((y : Payload) → last ≡ Some y → IsToldBefore y x)
+      → IsToldSo route asn done last text → IsToldSo route asn (done ++ x ∷ []) (Some x) (text ++ told_text reason x)
+  told_more last text reason is next had = record {
+    told = had.told ++ as_sent x ∷ [];
+    ordered = all_pairs_push IsToldBefore had.told (as_sent x) had.ordered (λ k d small. before last next had.up_to (get_or had.told k d) (Contains-get_or had.told k d small));
+    members = λ p. (
+      λ h. subst (λ zs. Contains zs p) (sym more_sent) (on p (Contains-push_cases had.told (as_sent x) p h)),
+      λ h. back p (Contains-push_cases (map as_sent done) (as_sent x) p (subst (λ zs. Contains zs p) more_sent h)),
+    );
+    tells = tells_push route asn had.told text (as_sent x) reason (reason_sent reason is) had.tells;
+    up_to = λ q h. upto q (Contains-push_cases had.told (as_sent x) q h);
+    at_end = ((done, refl), lawful);
+  }
+    where
+      before : (l : Option Payload) → ((y : Payload) → l ≡ Some y → IsToldBefore y x) → IsUpTo l had.told → (q : Payload) → Contains had.told q → IsToldBefore q x
+      before None after none q h = absurd (let no : Contains [] q = subst (λ zs. Contains zs q) none h in let small = no.1 in omega (arith, small))
+      before (Some y) after upto q h = elim (upto q h) [
+        | inl less ↦ told_trans q y x less (after y refl)
+        | inr e ↦ subst (λ z. IsToldBefore z x) (sym e) (after y refl)
+      ]
+
+      on : (p : Payload) → Contains had.told p ⊎ (as_sent x ≡ p) → Contains (map as_sent done ++ as_sent x ∷ []) p
+      on p (inl h) = Contains-append_left (map as_sent done) (as_sent x ∷ []) p ((had.members p).0 h)
+      on p (inr e) = subst (Contains (map as_sent done ++ as_sent x ∷ [])) e (Contains-push (map as_sent done) (as_sent x))
+
+      back : (p : Payload) → Contains (map as_sent done) p ⊎ (as_sent x ≡ p) → Contains (had.told ++ as_sent x ∷ []) p
+      back p (inl h) = Contains-append_left had.told (as_sent x ∷ []) p ((had.members p).1 h)
+      back p (inr e) = subst (Contains (had.told ++ as_sent x ∷ [])) e (Contains-push had.told (as_sent x))
+
+      upto : (q : Payload) → Contains had.told q ⊎ (as_sent x ≡ q) → IsToldBefore q x ⊎ (q ≡ as_sent x)
+      upto q (inl h) = inl (before last next had.up_to q h)
+      upto q (inr e) = inr (sym e)
+
+-- when all are done, what is told explains the route
+pub all_told : (route : FamilyPrefix) (asn : ℕ) (table all : List Payload) (last : Option Payload) (text : List ℕ) → AreThose (CoversRoute route) table (reverse all)
+    → (had : IsToldSo route asn all last text) → IsExplanation route table had.told
+all_told route asn table all last text those had = record {
+  ordered = had.ordered;
+  members = λ p. (λ h. on p (map_from as_sent all p ((had.members p).0 h)), λ h. (had.members p).1 (back p h.0 (map_from as_sent table p h.1)));
+}
+  where
+    on : (p : Payload) → (x : Payload) × Contains all x × (as_sent x ≡ p) → CoversRoute route p × Contains (map as_sent table) p
+    on p (x, h, e) =
+        let found = those_are (CoversRoute route) table (reverse all) x those (to_reverse all x h) in
+        let covers : CoversRoute route (as_sent x) = found.0 in
+        (subst (CoversRoute route) e covers, subst (Contains (map as_sent table)) e (map_has as_sent table x found.1))
+
+    back : (p : Payload) → CoversRoute route p → (x : Payload) × Contains table x × (as_sent x ≡ p) → Contains (map as_sent all) p
+    back p covers (x, h, e) =
+        let covered : CoversRoute route (as_sent x) = subst (CoversRoute route) (sym e) covers in
+        subst (Contains (map as_sent all)) e (map_has as_sent all x (from_reverse all x (those_have (CoversRoute route) table (reverse all) x those h covered)))
+
+-- the next payload of those that cover a route
+module _ (route : FamilyPrefix) (is : IsFamilyPrefix route) (asn : ℕ) (table all done rest : List Payload) (x : Payload) (lawful : IsLawfulPayload x)
+    (those : AreThose (CoversRoute route) table (reverse all)) (lens : IsNonDecreasingBy prefix_len (reverse all)) (places : IsNonDecreasingBy table_place (reverse all))
+    (cut : all ≡ done ++ x ∷ rest) where
+  covers_x : CoversRoute route x
+  covers_x =
+      let inside : Contains all x = subst (λ zs. Contains zs x) (sym cut) (Contains-append_right done (x ∷ rest) x (here x rest)) in
+      (those_are (CoversRoute route) table (reverse all) x those (to_reverse all x inside)).0
+
+  -- behind another it isn't told before it
+  behind : (y : Payload) → IsLastOf (Some y) done → as_sent y ≢ as_sent x → IsToldBefore y x
+  behind y ends other =
+      let before : Contains done y = subst (λ zs. Contains zs y) (sym ends.0.1) (Contains-push ends.0.0 y) in
+      let inside : Contains all y = subst (λ zs. Contains zs y) (sym cut) (Contains-append_left done (x ∷ rest) y before) in
+      let covers_y = (those_are (CoversRoute route) table (reverse all) y those (to_reverse all y inside)).0 in
+      elim (told_or_same route is y x ends.1 lawful covers_y covers_x (adjacent table_place all done ends.0.0 rest y x places cut ends.0.1)
+      (adjacent prefix_len all done ends.0.0 rest y x lens cut ends.0.1)) [
+        | inl less ↦ less
+        | inr same ↦ absurd (other same)
+      ]
+
+  pub told_next : (last : Option Payload) (why more : List ℕ) → IsToldSo route asn done last why → TellsNext route asn last x more
+      → IsToldSo route asn (done ++ x ∷ []) (Some x) (why ++ more)
+  told_next None why more had (inl (again, e)) = absurd again
+  told_next (Some y) why more had (inl (again, e)) =
+      let same : why ≡ why ++ more = sym (append-nil why) ∙ ap (λ t. why ++ t) (sym e) in
+      subst (λ t. IsToldSo route asn (done ++ x ∷ []) (Some x) t) same (told_same route asn done x lawful y why again had)
+  told_next None why more had (inr (other, (reason, against, e))) =
+      subst (λ t. IsToldSo route asn (done ++ x ∷ []) (Some x) (why ++ t)) (sym e)
+      (told_more route asn done x lawful None why reason against (λ y f. absurd (let no : None ≡ Some y = f in cc)) had)
+  told_next (Some y) why more had (inr (other, (reason, against, e))) =
+      subst (λ t. IsToldSo route asn (done ++ x ∷ []) (Some x) (why ++ t)) (sym e)
+      (told_more route asn done x lawful (Some y) why reason against
+      (λ z f. let same : y ≡ z = cc in subst (λ u. IsToldBefore u x) same (behind y had.at_end other)) had)

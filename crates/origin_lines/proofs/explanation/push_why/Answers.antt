@@ -1,0 +1,38 @@
+-- The payloads that cover the route are those that were given, and then those that are left.
+use Rattle.std.proofs.Common.{◌≡◌, List, [], ◌∷◌, ◌++◌, sym, ap, subst, ◌∙◌, append_assoc}
+use Rattle.std.proofs.lemmas.List.{append-nil}
+use Rattle.std.specs.String.{string_bytes}
+use Rattle.roa_origin.specs.Payloads.{Payload}
+use Rattle.origin_lines.proofs.Members.{walked}
+use Rattle.origin_lines.proofs.WhyLemmas.{IsToldSo, all_told, told_next, told_none}
+use Rattle.origin_lines.proofs.explanation.push_why.Goals as goal
+
+pub loop-payload-init : goal.loop-payload-init
+loop-payload-init g c = ([], told_none c.args.route c.args.asn, sym (append-nil (string_bytes c.args.text.now)))
+
+pub loop-payload-preserved : goal.loop-payload-preserved
+loop-payload-preserved g c =
+    let all : List Payload = c.covering-payload-items.result in
+    let covering = c.covering-payload-items.ensures in
+    let done : List Payload = c.loop-payload.yielded in
+    let x : Payload = c.in-Some.payload in
+    let rest : List Payload = c.next.new.self in
+    let had = c.loop-payload.invariant in
+    let next = c.in_ok-push_next.ensures in
+    let cut : all ≡ done ++ x ∷ rest =
+    sym c.into_iter-payload-iterator.ensures.into_iter_gives ∙ walked _ done c.loop-payload.payload-iterator c.loop-payload.yielded_by ∙ ap (λ left. done ++ left) c.in-Some.ensures.steps in (
+      had.0 ++ next.0,
+      told_next c.args.route c.see_prefix.ensures c.args.asn c.args.table.now all done rest x c.see_payload.ensures covering.covering covering.longest_first covering.order cut
+          c.loop-payload.last had.0 next.0 had.1 next.1,
+      next.2 ∙ ap (λ t. t ++ next.0) had.2 ∙ append_assoc _ had.0 next.0,
+    )
+
+pub returns : goal.returns
+returns g c =
+    let all : List Payload = c.covering-payload-items.result in
+    let done : List Payload = c.loop-payload.yielded in
+    let had = c.loop-payload.invariant in
+    let whole : done ≡ all =
+    sym (sym c.into_iter-payload-iterator.ensures.into_iter_gives ∙ walked _ done c.loop-payload.payload-iterator c.loop-payload.yielded_by ∙ ap (λ left. done ++ left) c.in-None.ensures.steps.0 ∙ append-nil done) in
+    let told = subst (λ ys. IsToldSo c.args.route c.args.asn ys c.loop-payload.last had.0) whole had.1 in
+    (had.0, (told.told, all_told c.args.route c.args.asn c.args.table.now all c.loop-payload.last had.0 c.covering-payload-items.ensures.covering told, told.tells), had.2)

@@ -1,0 +1,10 @@
+use Rattle.std.proofs.lemmas.List.Sorted.{IsPermutation-sym}
+use Rattle.origin_lines.proofs.OrderLemmas.{answer_one, any_order}
+use Rattle.origin_lines.proofs.laws.laws_of_answers.Goals as goal
+
+pub returns-clause-one : goal.returns-clause-one
+returns-clause-one c = answer_one
+
+pub returns-clause-any_order : goal.returns-clause-any_order
+returns-clause-any_order c why payloads others line text moved =
+    (any_order why payloads others line text moved, any_order why others payloads line text (IsPermutation-sym payloads others moved))

@@ -1,0 +1,131 @@
+-- The route that a line writes: a prefix and an AS number, or a line of `bgpdump -m`, which prints the tables of route
+-- collectors (RFC 6396, 4.3; RFC 8050, 4).
+use Rattle.std.specs.Prelude.{◌≡◌, ◌≢◌, ◌⊎◌, ◌==◌, ◌-◌, ◌++◌, ℕ, Bool, List, [], Option, Some, None, codes, length, slice_get, slice_index}
+use Rattle.std.specs.List.{after_first, after_last, before_first, slice_split}
+use Rattle.std.specs.Str.{IsUtf8, trim}
+use Rattle.origin_lines.specs.Words.{is_gap}
+use Rattle.rpki_base.specs.AsnText.{IsAsnText}
+use Rattle.rpki_prefix.specs.PrefixText.{IsPrefixText, HasPrefixTextFault, prefix_fault_text}
+use Rattle.rpki_prefix.specs.Values.{FamilyPrefix}
+use Rattle.origin_lines.specs.declared.fault.RouteFault.{RouteFault}
+use Rattle.origin_lines.specs.declared.fault.RouteFault.TheVariants.{NotUtf8, TooFewFields, Prefix, Asn}
+use Rattle.origin_lines.specs.declared.route.Route.{Route}
+
+-- a text writes the prefix of a route, and what it says of its origin holds
+pub record IsRouteBy (Origin : Option ℕ → Type 0) (prefix_text : List ℕ) (route : Route) : Type 0 where
+  pub prefix : IsPrefixText prefix_text route.prefix
+  pub origin : Origin route.origin
+
+-- the first fault of both: the text writes no prefix, or it does and nothing tells the origin
+abbrev pub HasFaultBy : Type 0 → List ℕ → RouteFault → Type 0
+HasFaultBy NoOrigin prefix_text NotUtf8 = ⊥
+HasFaultBy NoOrigin prefix_text TooFewFields = ⊥
+HasFaultBy NoOrigin prefix_text (Prefix f) = HasPrefixTextFault prefix_text f
+HasFaultBy NoOrigin prefix_text (Asn f) = ((p : FamilyPrefix) × IsPrefixText prefix_text p) × NoOrigin
+
+-- no AS number
+abbrev pub IsNoAsnText : List ℕ → Type 0
+IsNoAsnText text = (n : ℕ) → ¬ IsAsnText text n
+
+-- ---- a prefix and an AS number
+
+-- the line up to its first space, and what stands behind that, without white space round them
+abbrev pub prefix_word : List ℕ → List ℕ
+prefix_word line = trim (before_first is_gap line)
+
+abbrev pub origin_word : List ℕ → List ℕ
+origin_word line = trim (after_first is_gap line)
+
+-- the text is the AS number of the origin
+abbrev pub IsAsnOrigin : List ℕ → Option ℕ → Type 0
+IsAsnOrigin text None = ⊥
+IsAsnOrigin text (Some n) = IsAsnText text n
+
+abbrev pub AreRouteWords : List ℕ → Route → Type 0
+AreRouteWords line = IsRouteBy (IsAsnOrigin (origin_word line)) (prefix_word line)
+
+abbrev pub HaveWordsFault : List ℕ → RouteFault → Type 0
+HaveWordsFault line = HasFaultBy (IsNoAsnText (origin_word line)) (prefix_word line)
+
+-- ---- a line of a dump
+
+-- `b'|'`, which stands between two fields
+abbrev pub is_bar : ℕ → Bool
+is_bar byte = byte == 124
+
+abbrev pub fields_of : List ℕ → List (List ℕ)
+fields_of line = slice_split is_bar line
+
+-- the field of a line behind so many others
+abbrev pub IsFieldAt : ℕ → List ℕ → List ℕ → Type 0
+IsFieldAt n line text = slice_get (fields_of line) n ≡ Some text
+
+abbrev pub IsNoFieldAt : ℕ → List ℕ → Type 0
+IsNoFieldAt n line = slice_get (fields_of line) n ≡ None
+
+-- behind how many fields the path of a dump's line stands; the first field tells whether an identifier stands before it
+abbrev pub IsPathPlace : List ℕ → ℕ → Type 0
+IsPathPlace line n =
+    (IsFieldAt 0 line (codes "TABLE_DUMP2") × (n ≡ 6))
+    ⊎ (IsFieldAt 0 line (codes "TABLE_DUMP2_AP") × (n ≡ 7))
+
+-- the sixth field, and the one of the path
+pub record AreDumpTexts (n : ℕ) (line prefix path : List ℕ) : Type 0 where
+  pub prefix_is : IsFieldAt 5 line prefix
+  pub path_is : IsFieldAt n line path
+
+-- the last word of a path
+abbrev pub last_word : List ℕ → List ℕ
+last_word path = after_last is_gap (trim path)
+
+-- a set of AS numbers: the word begins with `{` and ends with `}`
+pub record IsSetWord (word : List ℕ) : Type 0 where
+  pub begins : slice_index word 0 ≡ 123
+  pub ends : slice_index word (length word - 1) ≡ 125
+
+-- Of a path that is empty, or ends in a set, no AS is the origin; of any other the last word is (RFC 6811, 2). For an
+-- empty path it is the AS of the collector, which the line doesn't tell.
+abbrev pub IsWordOrigin : List ℕ → Option ℕ → Type 0
+IsWordOrigin word None = (word ≡ []) ⊎ IsSetWord word
+IsWordOrigin word (Some n) = (word ≢ []) × (¬ IsSetWord word) × IsAsnText word n
+
+abbrev pub HasWordFault : List ℕ → Type 0
+HasWordFault word = (word ≢ []) × (¬ IsSetWord word) × IsNoAsnText word
+
+-- the route of a dump's line whose path stands behind n fields
+abbrev pub IsDumpRoute : ℕ → List ℕ → Route → Type 0
+IsDumpRoute n line route = (prefix : List ℕ) × (path : List ℕ) × AreDumpTexts n line prefix path × IsRouteBy (IsWordOrigin (last_word path)) prefix route
+
+-- a field is missing, or both have a fault
+abbrev pub HasDumpFault : ℕ → List ℕ → RouteFault → Type 0
+HasDumpFault n line fault =
+    ((IsNoFieldAt 5 line ⊎ IsNoFieldAt n line) × (fault ≡ TooFewFields))
+    ⊎ ((prefix : List ℕ) × (path : List ℕ) × AreDumpTexts n line prefix path × HasFaultBy (HasWordFault (last_word path)) prefix fault)
+
+-- ---- any line
+
+-- the line is none of a dump
+abbrev pub IsNoDump : List ℕ → Type 0
+IsNoDump line = (n : ℕ) → ¬ IsPathPlace line n
+
+-- what a line writes without white space round it
+abbrev pub IsLineOf : List ℕ → Route → Type 0
+IsLineOf line route = (IsNoDump line × AreRouteWords line route) ⊎ ((n : ℕ) × IsPathPlace line n × IsDumpRoute n line route)
+
+abbrev pub HasLineFault : List ℕ → RouteFault → Type 0
+HasLineFault line fault = (IsNoDump line × HaveWordsFault line fault) ⊎ ((n : ℕ) × IsPathPlace line n × HasDumpFault n line fault)
+
+-- the route that a line writes
+abbrev pub IsRouteLine : List ℕ → Route → Type 0
+IsRouteLine line route = IsUtf8 line × IsLineOf (trim line) route
+
+-- this is the first thing that is wrong with a line
+abbrev pub HasRouteFault : List ℕ → RouteFault → Type 0
+HasRouteFault line fault = ((¬ IsUtf8 line) × (fault ≡ NotUtf8)) ⊎ (IsUtf8 line × HasLineFault (trim line) fault)
+
+-- what is said of it
+abbrev pub route_fault_text : RouteFault → List ℕ
+route_fault_text NotUtf8 = codes "not UTF-8"
+route_fault_text TooFewFields = codes "too few fields"
+route_fault_text (Prefix f) = codes "invalid prefix: " ++ prefix_fault_text f
+route_fault_text (Asn f) = codes "invalid AS number"

@@ -1,0 +1,64 @@
+//! What is answered to the line of a route.
+ghost use Rattle.std.specs.Prelude.{IfOk};
+ghost use Rattle.std.specs.String.{string_bytes};
+ghost use Rattle.origin_lines.specs.Answers.{TellsRoute};
+
+use crate::explanation::push_why;
+use crate::outcome::{asked_asn, outcome_of};
+use crate::route::{Route, read_route};
+use lines_engine::answers::Answers;
+use roa_origin::OriginTable;
+use rpki_base::Asn;
+use rpki_prefix::Prefix;
+use std::alloc::{AllocError, Allocator, Global};
+
+/// Answers lines of routes by a table of validated payloads.
+///
+/// A line is answered by `valid`, `invalid-length`, `invalid-as` or `not-found` ([`Outcome`](crate::Outcome)), or by
+/// what is wrong with it behind `error: `, a blank line too.
+#[derive(Drop)]
+pub struct Routes<'a, B: Allocator = Global> {
+    /// The payloads.
+    pub table: &'a OriginTable<B>,
+    /// Whether each payload that covers the route is told behind the word: `match:`, `length:` or `as:`, then the
+    /// prefix, a dash and the greatest length, always, and behind another colon the AS. Each stands once, the longest
+    /// prefix first, then the least AS number, then the longest greatest length.
+    pub why: bool,
+}
+
+impl<B: Allocator> Answers for Routes<'_, B> {
+    ghost use Rattle.origin_lines.specs.Answers.{IsOriginAnswer};
+
+    ghost is_answer = { λ routes line text. IsOriginAnswer routes.why routes.table.now line text };
+
+    fn answer<A: Allocator + Copy>(&self, alloc: A, line: &[u8]) -> Result<String<A>, AllocError> {
+        match read_route(line) {
+            Ok(route) => {
+                let Route { prefix, origin } = route;
+                told(alloc, self.table, self.why, prefix, asked_asn(origin))
+            }
+            Err(fault) => format!(in alloc; "error: {fault}"),
+        }
+    }
+}
+
+/// What the payloads of a table say of the route to a prefix that an AS originates, and, where that is wanted, what
+/// explains it.
+#[tactic(auto, using(crate::proofs::AnswerLemmas::word_told, crate::proofs::AnswerLemmas::why_told))]
+fn told<A: Allocator + Copy, B: Allocator>(
+    alloc: A,
+    table: &OriginTable<B>,
+    why: bool,
+    route: Prefix,
+    asn: Asn,
+) -> Result<String<A>, AllocError>
+    ensures { IfOk result (λ text. TellsRoute why table.now route asn (string_bytes text)) }
+{
+    let outcome = outcome_of(table, route, asn);
+    let mut text = format!(in alloc; "{outcome}")?;
+    if !why {
+        return Ok(text);
+    }
+    push_why(&mut text, table, route, asn)?;
+    Ok(text)
+}

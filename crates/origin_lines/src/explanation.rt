@@ -1,0 +1,145 @@
+//! What explains the word for a route: the payloads that cover it.
+ghost use Rattle.std.specs.Prelude.{◌≡◌, ◌↔◌, ◌++◌, ℕ, List, IsTrue, OnOk};
+ghost use Rattle.std.specs.String.{string_bytes};
+ghost use Rattle.rpki_prefix.specs.Values.{IsFamilyPrefix};
+ghost use Rattle.roa_origin.specs.Payloads.{IsLawfulPayload};
+ghost use Rattle.roa_origin.specs.Tables.{as_sent};
+ghost use Rattle.origin_lines.specs.Explanations.{IsReason, IsSentAgain, TellsNext, TellsWhy, told_text};
+ghost use Rattle.origin_lines.specs.declared.explanation.Reason.{Reason};
+
+use crate::outcome::has_as;
+use roa_origin::OriginTable;
+use rpki_base::Asn;
+use rpki_prefix::{MaxLenPrefix, Prefix};
+use std::alloc::{AllocError, Allocator};
+use std::fmt;
+
+/// What stands against a route by a payload that covers it (RFC 6811, 2).
+#[derive(Clone, Copy, Debug, PartialEq, Eq)]
+pub enum Reason {
+    /// Nothing: it matches the route.
+    Match,
+    /// The route is longer than the payload allows.
+    Length,
+    /// The payload has another AS, or AS0; the route's length isn't looked at.
+    As,
+}
+
+impl fmt::Display for Reason {
+    ghost use Rattle.std.specs.Prelude.{Some};
+    ghost use Rattle.origin_lines.specs.Explanations.{reason_text};
+
+    ghost output = { λ reason. Some (reason_text reason) };
+
+    fn fmt<W: fmt::Write>(&self, f: &mut fmt::Formatter<W>) -> fmt::Result {
+        f.write_str(match self {
+            Reason::Match => "match",
+            Reason::Length => "length",
+            Reason::As => "as",
+        })
+    }
+}
+
+/// What stands against the route to a prefix that an AS originates by a payload that covers it.
+fn reason_for(route: Prefix, asn: Asn, payload: &(MaxLenPrefix, Asn)) -> Reason
+    ensures { IsReason route asn payload.now result }
+{
+    if !has_as(payload, asn) {
+        return Reason::As;
+    }
+    if route.len() <= payload.0.resolved_max_len() {
+        Reason::Match
+    } else {
+        Reason::Length
+    }
+}
+
+/// Appends to a text the payloads that cover the route to a prefix, each once, and what stands by each against its
+/// origination by an AS.
+pub(crate) fn push_why<A: Allocator, B: Allocator>(
+    text: &mut String<A>,
+    table: &OriginTable<B>,
+    route: Prefix,
+    asn: Asn,
+) -> Result<(), AllocError>
+    ensures { OnOk result ((why : List ℕ) × TellsWhy route asn table.now why
+        × (string_bytes text.new ≡ string_bytes text.old ++ why)) }
+{
+    see_prefix(route);
+    let mut last = None;
+    for payload in table.covering(route) {
+        see_payload(&payload);
+        push_next(text, route, asn, &last, &payload)?;
+        last = Some(payload);
+    }
+    Ok(())
+}
+
+/// Reads a prefix, so that the proof sees that it is one.
+fn see_prefix(prefix: Prefix)
+    ensures { IsFamilyPrefix prefix }
+{
+    let _len = prefix.len();
+}
+
+/// Reads a payload, so that the proof sees that it is one.
+fn see_payload(payload: &(MaxLenPrefix, Asn))
+    ensures { IsLawfulPayload payload.now }
+{
+    let _number = payload.1.into_u32();
+    let _len = payload.0.prefix().len();
+}
+
+/// Appends to a text a payload that covers a route, and what stands against the route by it: nothing, where it is the
+/// same, as it is sent, as the one before it.
+fn push_next<A: Allocator>(
+    text: &mut String<A>,
+    route: Prefix,
+    asn: Asn,
+    last: &Option<(MaxLenPrefix, Asn)>,
+    payload: &(MaxLenPrefix, Asn),
+) -> Result<(), AllocError>
+    ensures { OnOk result ((more : List ℕ) × TellsNext route asn last.now payload.now more
+        × (string_bytes text.new ≡ string_bytes text.old ++ more)) }
+{
+    if is_told(last, payload) {
+        return Ok(());
+    }
+    push_payload(text, route, asn, payload)
+}
+
+/// Whether a payload is the same, as it is sent, as the one before it.
+fn is_told(last: &Option<(MaxLenPrefix, Asn)>, payload: &(MaxLenPrefix, Asn)) -> bool
+    ensures { IsTrue result ↔ IsSentAgain last.now payload.now }
+{
+    match last {
+        Some(before) => is_same(before, payload),
+        None => false,
+    }
+}
+
+/// Whether two payloads are the same as they are sent.
+fn is_same(one: &(MaxLenPrefix, Asn), other: &(MaxLenPrefix, Asn)) -> bool
+    ensures { IsTrue result ↔ (as_sent one.now ≡ as_sent other.now) }
+{
+    one.1 == other.1
+        && one.0.prefix() == other.0.prefix()
+        && one.0.resolved_max_len() == other.0.resolved_max_len()
+}
+
+/// Appends to a text a payload that covers a route, and what stands against the route by it.
+fn push_payload<A: Allocator>(
+    text: &mut String<A>,
+    route: Prefix,
+    asn: Asn,
+    payload: &(MaxLenPrefix, Asn),
+) -> Result<(), AllocError>
+    ensures { OnOk result ((reason : Reason) × IsReason route asn payload.now reason
+        × (string_bytes text.new ≡ string_bytes text.old ++ told_text reason payload.now)) }
+{
+    let reason = reason_for(route, asn, payload);
+    let prefix = payload.0.prefix();
+    let len = payload.0.resolved_max_len();
+    let holder = payload.1;
+    write!(text, " {reason}:{prefix}-{len}:{holder}")
+}

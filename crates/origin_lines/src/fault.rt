@@ -1,0 +1,57 @@
+//! What is wrong with lines of routes.
+ghost use Rattle.std.specs.Prelude.{◌≡◌, Some};
+
+use rpki_base::asn::ParseAsnError;
+use rpki_prefix::ParsePrefixError;
+use std::error::Error;
+use std::fmt;
+
+/// What is wrong with the line of a route. The first fault in this order is answered.
+#[derive(Clone, Copy, Debug, PartialEq, Eq)]
+pub enum RouteFault {
+    /// The line isn't UTF-8.
+    NotUtf8,
+    /// It is a line of a dump, and has no field for the path.
+    TooFewFields,
+    /// What stands in the prefix's place writes none.
+    Prefix(ParsePrefixError),
+    /// What stands in the origin's place writes no AS number.
+    Asn(ParseAsnError),
+}
+
+impl fmt::Display for RouteFault {
+    ghost use Rattle.origin_lines.specs.Routes.{route_fault_text};
+
+    ghost output = { λ fault. Some (route_fault_text fault) };
+
+    fn fmt<W: fmt::Write>(&self, f: &mut fmt::Formatter<W>) -> fmt::Result {
+        match self {
+            RouteFault::NotUtf8 => f.write_str("not UTF-8"),
+            RouteFault::TooFewFields => f.write_str("too few fields"),
+            RouteFault::Prefix(fault) => write!(f, "invalid prefix: {fault}"),
+            RouteFault::Asn(fault) => write!(f, "{fault}"),
+        }
+    }
+}
+
+impl Error for RouteFault {}
+
+impl From<ParsePrefixError> for RouteFault {
+    ghost use Rattle.origin_lines.specs.declared.fault.RouteFault.TheVariants.{Prefix};
+
+    ghost from_gives = { λ fault error. error ≡ Prefix fault };
+
+    fn from(fault: ParsePrefixError) -> RouteFault {
+        RouteFault::Prefix(fault)
+    }
+}
+
+impl From<ParseAsnError> for RouteFault {
+    ghost use Rattle.origin_lines.specs.declared.fault.RouteFault.TheVariants.{Asn};
+
+    ghost from_gives = { λ fault error. error ≡ Asn fault };
+
+    fn from(fault: ParseAsnError) -> RouteFault {
+        RouteFault::Asn(fault)
+    }
+}

@@ -1,0 +1,198 @@
+//! A line of a route.
+ghost use Rattle.std.specs.Prelude.{◌≡◌, ◌⊎◌, ◌↔◌, ◌∷◌, [], IsTrue, MatchOption, MatchResult};
+ghost use Rattle.std.specs.List.{after_first, after_last, before_first};
+ghost use Rattle.origin_lines.specs.Words.{is_gap};
+ghost use Rattle.rpki_text.specs.Reading.{Answers};
+ghost use Rattle.origin_lines.specs.Routes.{AreRouteWords, HasDumpFault, HasFaultBy, HasLineFault, HasRouteFault, HasWordFault, HaveWordsFault, IsAsnOrigin, IsDumpRoute, IsFieldAt, IsLineOf, IsNoAsnText, IsNoDump, IsNoFieldAt, IsPathPlace, IsRouteLine, IsRouteBy, IsSetWord, IsWordOrigin, fields_of, origin_word, prefix_word};
+
+use crate::fault::RouteFault;
+use rpki_base::Asn;
+use rpki_base::asn::ParseAsnError;
+use rpki_prefix::Prefix;
+use std::str::FromStr;
+
+/// Behind how many fields of a dump's line its prefix stands.
+const PREFIX_PLACE: usize = 5;
+
+/// A route that a line writes.
+#[derive(Clone, Copy, Debug, PartialEq, Eq)]
+pub struct Route {
+    /// What is announced.
+    pub prefix: Prefix,
+    /// The AS that originates it, if its path tells one alone.
+    pub origin: Option<Asn>,
+}
+
+/// The route that a line writes, in one of two forms.
+///
+/// A prefix and an AS number, with a space between them, and more white space round each or none.
+///
+/// A line of `bgpdump -m`, whose fields are cut at each `|`. Where the first field is `TABLE_DUMP2`, the sixth is the
+/// prefix and the seventh the path; where it is `TABLE_DUMP2_AP`, the path is the eighth, behind its identifier. The
+/// last word of the path is the origin. A path that is empty, or ends in a set of AS numbers as `{64496,64497}`, tells
+/// no origin (RFC 6811, 2).
+pub fn read_route(line: &[u8]) -> Result<Route, RouteFault>
+    ensures { Answers (IsRouteLine line.now) (HasRouteFault line.now) result }
+{
+    route_of(line)
+}
+
+/// The route that a line writes, or its fault.
+fn route_of(line: &[u8]) -> Result<Route, RouteFault>
+    ensures { MatchResult result (IsRouteLine line.now) (HasRouteFault line.now) }
+{
+    let Ok(text) = str::from_utf8(line) else {
+        return Err(RouteFault::NotUtf8);
+    };
+    read_text(text.trim())
+}
+
+/// The route that a text writes without white space round it, or its fault.
+fn read_text(text: &str) -> Result<Route, RouteFault>
+    ensures { MatchResult result (IsLineOf text.now) (HasLineFault text.now) }
+{
+    match path_place(text) {
+        Some(place) => read_dump(text, place),
+        None => read_words(text),
+    }
+}
+
+/// Behind how many fields of a line its path stands, if it is one of a dump.
+#[tactic(auto, using(crate::proofs::FieldLemmas::no_place, crate::proofs::FieldLemmas::other_place))]
+fn path_place(line: &str) -> Option<usize>
+    ensures { MatchOption result (IsNoDump line.now) (IsPathPlace line.now) }
+{
+    match field_at(line, 0)? {
+        "TABLE_DUMP2" => Some(6),
+        "TABLE_DUMP2_AP" => Some(7),
+        _ => None,
+    }
+}
+
+/// The field of a line behind so many others, if there is one.
+#[tactic(auto, using(crate::proofs::FieldLemmas::field_first, crate::proofs::FieldLemmas::field_next, crate::proofs::FieldLemmas::field_none))]
+fn field_at(line: &str, place: usize) -> Option<&str>
+    ensures { MatchOption result (IsNoFieldAt place line.now) (λ field. IsFieldAt place line.now field.now) }
+{
+    let mut rest = line;
+    let mut left = place;
+    while left > 0 {
+        let (_, behind) = cut_field(rest)?;
+        rest = behind;
+        left -= 1;
+    }
+    match cut_field(rest) {
+        Some((field, _)) => Some(field),
+        None => Some(rest),
+    }
+}
+
+/// What stands before the first bar of a text, and what stands behind it, if there is one.
+#[tactic(auto, using(crate::proofs::FieldLemmas::cut_some, crate::proofs::FieldLemmas::cut_none))]
+fn cut_field(text: &str) -> Option<(&str, &str)>
+    ensures { MatchOption result (fields_of text.now ≡ text.now ∷ [])
+        (λ cut. fields_of text.now ≡ cut.0.now ∷ fields_of cut.1.now) }
+{
+    text.split_once('|')
+}
+
+/// The route of a prefix and an AS number with a space between them.
+fn read_words(text: &str) -> Result<Route, RouteFault>
+    ensures { MatchResult result (AreRouteWords text.now) (HaveWordsFault text.now) }
+{
+    let (prefix, origin) = words_of(text);
+    read_pair(prefix, origin)
+}
+
+/// The route of a prefix and an AS number.
+fn read_pair(prefix: &str, origin: &str) -> Result<Route, RouteFault>
+    ensures { MatchResult result (IsRouteBy (IsAsnOrigin origin.now) prefix.now)
+        (HasFaultBy (IsNoAsnText origin.now) prefix.now) }
+{
+    let prefix = Prefix::from_str(prefix)?;
+    let origin = Asn::from_str(origin)?;
+    Ok(Route {
+        prefix,
+        origin: Some(origin),
+    })
+}
+
+/// What stands before the first space of a line and what stands behind it, without white space round them: nothing,
+/// where there is no space.
+fn words_of(line: &str) -> (&str, &str)
+    ensures prefix { result.0.now ≡ prefix_word line.now }
+    ensures origin { result.1.now ≡ origin_word line.now }
+{
+    let (prefix, origin) = cut_at_gap(line);
+    (prefix.trim(), origin.trim())
+}
+
+/// What stands before the first space of a text and what stands behind it: nothing, where there is no space.
+fn cut_at_gap(text: &str) -> (&str, &str)
+    ensures before { result.0.now ≡ before_first is_gap text.now }
+    ensures behind { result.1.now ≡ after_first is_gap text.now }
+{
+    match text.split_once(' ') {
+        Some((before, behind)) => (before, behind),
+        None => (text, ""),
+    }
+}
+
+/// The route of a dump's line whose path stands behind so many fields.
+fn read_dump(line: &str, path_place: usize) -> Result<Route, RouteFault>
+    ensures { MatchResult result (IsDumpRoute path_place line.now)
+        (HasDumpFault path_place line.now) }
+{
+    let Some(prefix) = field_at(line, PREFIX_PLACE) else {
+        return Err(RouteFault::TooFewFields);
+    };
+    let Some(path) = field_at(line, path_place) else {
+        return Err(RouteFault::TooFewFields);
+    };
+    read_fields(prefix, last_word(path.trim()))
+}
+
+/// The route of a prefix and the last word of a path.
+fn read_fields(prefix: &str, word: &str) -> Result<Route, RouteFault>
+    ensures { MatchResult result (IsRouteBy (IsWordOrigin word.now) prefix.now)
+        (HasFaultBy (HasWordFault word.now) prefix.now) }
+{
+    let prefix = Prefix::from_str(prefix)?;
+    let origin = read_origin(word)?;
+    Ok(Route { prefix, origin })
+}
+
+/// The origin that the last word of a path tells, if it tells one AS alone.
+fn read_origin(word: &str) -> Result<Option<Asn>, ParseAsnError>
+    ensures { MatchResult result (IsWordOrigin word.now) (λ _. HasWordFault word.now) }
+{
+    if tells_none(word) {
+        return Ok(None);
+    }
+    let origin = Asn::from_str(word)?;
+    Ok(Some(origin))
+}
+
+/// Whether the last word of a path tells no origin: it is empty, or a set of AS numbers.
+fn tells_none(word: &str) -> bool
+    ensures { IsTrue result ↔ ((word.now ≡ []) ⊎ IsSetWord word.now) }
+{
+    word.is_empty() || is_set(word)
+}
+
+/// What stands behind the last space of a text: all, where there is no space.
+fn last_word(text: &str) -> &str
+    ensures { result.now ≡ after_last is_gap text.now }
+{
+    match text.rsplit_once(' ') {
+        Some((_, word)) => word,
+        None => text,
+    }
+}
+
+/// Whether a word is a set of AS numbers.
+fn is_set(word: &str) -> bool
+    ensures { IsTrue result ↔ IsSetWord word.now }
+{
+    word.starts_with('{') && word.ends_with('}')
+}

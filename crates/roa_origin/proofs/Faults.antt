@@ -19,7 +19,8 @@ pub nowhere : (P : ℕ → Type 0) (n : ℕ) → ((k : ℕ) → P k → k < n) �
 nowhere P n within none k h = none k (within k h) h
 
 -- the payload read at a place
-pub read_there : (xs : List Payload) (n : ℕ) (p r : Payload) → n < length xs → r ≡ get_or xs n r → p ≡ r → get_or xs n p ≡ p
+pub read_there : (xs : List Payload) (n : ℕ) (p r : Payload) → n < length xs → r ≡ get_or xs n r → p ≡ r
+    → get_or xs n p ≡ p
 read_there xs n p r inside is value = get_or_default xs n p r inside ∙ sym is ∙ sym value
 
 module _ (table xs : List Payload) (n : ℕ) (p : Payload) (inside : n < length xs) (is : get_or xs n p ≡ p) (lawful : IsLawfulPayload p) (cs : List Change) (are : AreChangesOf xs cs) where
@@ -51,7 +52,8 @@ module _ (table xs : List Payload) (n : ℕ) (p : Payload) (inside : n < length 
       ]);
     }
 
-    pub not_duplicate : ¬ ((IsSentIn table p × ¬ Any (IsOf p) ds) ⊎ Any (IsOfBefore p n) cs) → ¬ IsDuplicateRecord table xs gone n
+    pub not_duplicate : ¬ ((IsSentIn table p × ¬ Any (IsOf p) ds) ⊎ Any (IsOfBefore p n) cs)
+        → ¬ IsDuplicateRecord table xs gone n
     not_duplicate not h = elim (subst (λ (q : Payload). (IsSentIn table q × ¬ IsSentIn gone q) ⊎ IsSentIn (take n xs) q) (here p) (h.duplicate p)) [
       | inl stays ↦ not (inl (stays.0, λ has. stays.1 (sent_in gone ds these p lawful has)))
       | inr before ↦ not (inr (change_before xs cs are p lawful n before))

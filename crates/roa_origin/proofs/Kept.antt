@@ -21,7 +21,8 @@ behind x xs p (k, inside, same) = (suc k, omega arith, same)
 first : {X : Type 0} (x : X) (xs : List X) → Contains (x ∷ xs) x
 first x xs = (zero, omega arith, refl)
 
-those_had : {X : Type 0} (P : X → Type 0) (xs ys : List X) → AreThose P xs ys → (p : X) → Contains ys p → Contains xs p × P p
+those_had : {X : Type 0} (P : X → Type 0) (xs ys : List X) → AreThose P xs ys → (p : X) → Contains ys p
+    → Contains xs p × P p
 those_had P [] ys e p h = absurd (let has : Contains [] p = subst (λ zs. Contains zs p) e h in omega (arith, has.1))
 those_had P (x ∷ xs) ys those p h = elim those [
   | inl w ↦ elim (cons_cases x w.1 p (subst (λ zs. Contains zs p) w.2 h)) [
@@ -31,7 +32,8 @@ those_had P (x ∷ xs) ys those p h = elim those [
   | inr w ↦ (let had = those_had P xs ys w.1 p h in (behind x xs p had.0, had.1))
 ]
 
-those_have : {X : Type 0} (P : X → Type 0) (xs ys : List X) → AreThose P xs ys → (p : X) → Contains xs p → P p → Contains ys p
+those_have : {X : Type 0} (P : X → Type 0) (xs ys : List X) → AreThose P xs ys → (p : X) → Contains xs p → P p
+    → Contains ys p
 those_have P [] ys e p h is = absurd (omega (arith, h.1))
 those_have P (x ∷ xs) ys those p h is = elim those [
   | inl w ↦ subst (λ zs. Contains zs p) (sym w.2) (elim (cons_cases x xs p h) [
@@ -60,13 +62,15 @@ one_of_those P (x ∷ xs) ys zs one other = elim one [
 -- ---- a table after changes
 
 module _ (table announced withdrawn next : List Payload) (is : IsUpdated table announced withdrawn next) where
-  pub has_listed : (p : Payload) → Contains next p → (Contains table p × ¬ IsSentIn withdrawn p) ⊎ Contains (map as_sent announced) p
+  pub has_listed : (p : Payload) → Contains next p
+      → (Contains table p × ¬ IsSentIn withdrawn p) ⊎ Contains (map as_sent announced) p
   has_listed p h = elim (Contains-append_cases is.kept (map as_sent announced) p (Contains-permutation next (is.kept ++ map as_sent announced) p (IsPermutation-sym (is.kept ++ map as_sent announced) next is.has) h)) [
     | inl kept ↦ inl (those_had (λ q. ¬ IsSentIn withdrawn q) table is.kept is.stays p kept)
     | inr came ↦ inr came
   ]
 
-  pub lists : (p : Payload) → (Contains table p × ¬ IsSentIn withdrawn p) ⊎ Contains (map as_sent announced) p → Contains next p
+  pub lists : (p : Payload) → (Contains table p × ¬ IsSentIn withdrawn p) ⊎ Contains (map as_sent announced) p
+      → Contains next p
   lists p h = Contains-permutation (is.kept ++ map as_sent announced) next p is.has (elim h [
     | inl stays ↦ Contains-append_left is.kept (map as_sent announced) p (those_have (λ q. ¬ IsSentIn withdrawn q) table is.kept is.stays p stays.0 stays.1)
     | inr came ↦ Contains-append_right is.kept (map as_sent announced) p came
@@ -107,7 +111,8 @@ module _ (table announced withdrawn next : List Payload) (is : IsUpdated table a
   ]
 
 -- changes lead to one list
-pub one_updated : (table announced withdrawn next other : List Payload) → IsUpdated table announced withdrawn next → IsUpdated table announced withdrawn other → IsPermutation next other
+pub one_updated : (table announced withdrawn next other : List Payload) → IsUpdated table announced withdrawn next
+    → IsUpdated table announced withdrawn other → IsPermutation next other
 one_updated table announced withdrawn next other one two =
     let same = one_of_those (λ q. ¬ IsSentIn withdrawn q) table one.kept two.kept one.stays two.stays in
     IsPermutation-trans next (one.kept ++ map as_sent announced) other (IsPermutation-sym (one.kept ++ map as_sent announced) next one.has) (subst (λ ks. IsPermutation (ks ++ map as_sent announced) other) (sym same) two.has)

@@ -28,7 +28,8 @@ module _ (xs : List Payload) (cs : List Change) (same : map entry_of cs ≡ map 
   entry_at : (n : ℕ) (d : Change) (e : Payload) → n < length xs → (get_or cs n d).entry ≡ as_sent (get_or xs n e)
   entry_at n d e small = sym (get_or-map entry_of cs n d e (omega (arith, small, as_many))) ∙ ap (λ ps. get_or ps n e) same ∙ get_or-map as_sent xs n e e small
 
-  pub listed : All IsLawfulChange cs → ((n : ℕ) (d : Change) → n < length cs → (get_or cs n d).place ≡ n) → AreChangesOf xs cs
+  pub listed : All IsLawfulChange cs → ((n : ℕ) (d : Change) → n < length cs → (get_or cs n d).place ≡ n)
+      → AreChangesOf xs cs
   listed lawful places = record {
     lawful = lawful;
     entries = subst (λ ps. IsPermutation (map as_sent xs) ps) (sym same) (IsPermutation-refl (map as_sent xs));
@@ -43,7 +44,8 @@ module _ (xs : List Payload) (cs : List Change) (same : map entry_of cs ≡ map 
   }
 
 -- in another order they are changes of the same list
-pub listed_moved : (xs : List Payload) (cs ds : List Change) → IsPermutation cs ds → AreChangesOf xs cs → AreChangesOf xs ds
+pub listed_moved : (xs : List Payload) (cs ds : List Change) → IsPermutation cs ds → AreChangesOf xs cs
+    → AreChangesOf xs ds
 listed_moved xs cs ds moved are = record {
   lawful = All-permutation IsLawfulChange cs ds moved are.lawful;
   entries = IsPermutation-trans (map as_sent xs) (map entry_of cs) (map entry_of ds) are.entries (IsPermutation-map entry_of cs ds moved);

@@ -12,7 +12,8 @@ use Rattle.roa_origin.specs.declared.validation.Validity.{Validity}
 use Rattle.roa_origin.specs.declared.validation.Validity.TheVariants.{Valid, Invalid, NotFound}
 
 -- a list gives a route one validity
-pub one_validity : (route : FamilyPrefix) (asn : ℕ) (xs : List Payload) (v w : Validity) → IsValidity route asn xs v → IsValidity route asn xs w → v ≡ w
+pub one_validity : (route : FamilyPrefix) (asn : ℕ) (xs : List Payload) (v w : Validity) → IsValidity route asn xs v
+    → IsValidity route asn xs w → v ≡ w
 one_validity route asn xs Valid w h k = sym (k.valid.1 (h.valid.0 refl))
 one_validity route asn xs Invalid w h k = sym (k.invalid.1 (h.invalid.0 refl))
 one_validity route asn xs NotFound w h k = sym (k.not_found.1 (h.not_found.0 refl))

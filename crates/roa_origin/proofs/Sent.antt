@@ -20,7 +20,8 @@ first_same m n r s small small' e = omega (arith, small, small', e)
 second_same : (m n r s : ℕ) → m ≡ n → m * 2 ^ 64 + r ≡ n * 2 ^ 64 + s → r ≡ s
 second_same m n r s same e = omega (arith, same, e)
 
-pub same_sent : (p q : Payload) → IsLawfulPayload p → IsLawfulPayload q → sent_place p ≡ sent_place q → as_sent p ≡ as_sent q
+pub same_sent : (p q : Payload) → IsLawfulPayload p → IsLawfulPayload q → sent_place p ≡ sent_place q
+    → as_sent p ≡ as_sent q
 same_sent p q is is' e =
     let places : payload_place p ≡ payload_place q = first_same (payload_place p) (payload_place q) (sent_rank p) (sent_rank q) (sent_small p is) (sent_small q is') e in
     let ranks : sent_rank p ≡ sent_rank q = second_same (payload_place p) (payload_place q) (sent_rank p) (sent_rank q) places e in
@@ -71,10 +72,12 @@ pub by_sent : (xs : List Payload) → IsNonDecreasingBy table_place xs → IsNon
 by_sent xs ranked i j d le small = sent_up (get_or xs i d) (get_or xs j d) (ranked i j d le small)
 
 -- of payloads as they are sent the two orders are one
-pub as_told : (p q : Payload) → told p.0.max_len ≡ 1 → told q.0.max_len ≡ 1 → sent_place p ≤ sent_place q → table_place p ≤ table_place q
+pub as_told : (p q : Payload) → told p.0.max_len ≡ 1 → told q.0.max_len ≡ 1 → sent_place p ≤ sent_place q
+    → table_place p ≤ table_place q
 as_told p q one one' le = omega (arith, one, one', le)
 
 -- a table that has a payload has it where a search for it stops
-pub sent_there : (xs : List Payload) (p : Payload) (at : ℕ) → IsNonDecreasingBy table_place xs → IsSearched sent_place xs (sent_place p) at
-    → IsSentIn xs p → (at < length xs) × ((d : Payload) → sent_place (get_or xs at d) ≡ sent_place p)
+pub sent_there : (xs : List Payload) (p : Payload) (at : ℕ) → IsNonDecreasingBy table_place xs
+    → IsSearched sent_place xs (sent_place p) at → IsSentIn xs p
+    → (at < length xs) × ((d : Payload) → sent_place (get_or xs at d) ≡ sent_place p)
 sent_there xs p at ranked searched h = found sent_place xs (sent_place p) at (by_sent xs ranked) searched (h.0, h.1, h.2, h.3, sent_same h.1 p h.4)

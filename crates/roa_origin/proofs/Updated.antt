@@ -1,9 +1,11 @@
 -- One walk along a table and the changes of it, turn by turn.
-use Rattle.std.proofs.Common.{◌≡◌, ℕ, ◌+◌, ◌<◌, ◌≤◌, List, [], ◌∷◌, ◌++◌, All, Any, get_or, length, map, take, inl, inr, refl, arith, sym, ◌∙◌, ap, subst}
-use Rattle.std.proofs.lemmas.List.{get_or-map, get_or_default, length-map, take_all, take_more}
+use Rattle.std.proofs.Common.{◌≡◌, ℕ, zero, suc, ◌+◌, ◌-◌, ◌<◌, ◌≤◌, None, List, [], ◌∷◌, ◌++◌, All, Any, get_or, length, map, take, drop, inl, inr, refl, arith, sym, ◌∙◌, ap, subst, append_assoc, length-drop}
+use Rattle.std.proofs.lemmas.List.{append-nil, get_or-drop, get_or-map, get_or_default, length-map, take_all, take_more}
 use Rattle.std.proofs.lemmas.List.Elements.{All-append, All-head, All-map, All-tail}
 use Rattle.std.proofs.lemmas.List.Sorted.{All-permutation, IsPermutation-append_right, IsPermutation-refl, IsPermutation-trans}
+use Rattle.std.specs.List.{slice_range}
 use Rattle.std.specs.List.Sorted.{IsNonDecreasingBy, IsPermutation}
+use Rattle.rpki_addr.specs.declared.addr.IpAddr.TheVariants.{V4}
 use Rattle.roa_origin.specs.Coverings.{AreThose}
 use Rattle.roa_origin.specs.Links.{IsInOrder}
 use Rattle.roa_origin.specs.Payloads.{IsLawfulPayload, Payload}
@@ -30,7 +32,8 @@ pub record IsSoFar (table : List Payload) (withdrawn announced : List Change) (a
   pub at_within : at ≤ length table
   pub gone_within : gone ≤ length withdrawn
   pub come_within : come ≤ length announced
-  pub passed : (k i : ℕ) (d : Change) (e : Payload) → k < gone → at ≤ i → i < length table → sent_place (get_or withdrawn k d).entry < sent_place (get_or table i e)
+  pub passed : (k i : ℕ) (d : Change) (e : Payload) → k < gone → at ≤ i → i < length table
+      → sent_place (get_or withdrawn k d).entry < sent_place (get_or table i e)
   pub kept : List Payload
   pub stays : AreThose (Stays withdrawn) (take at table) kept
   pub has : IsPermutation (kept ++ take come (map entry_of announced)) list
@@ -95,14 +98,32 @@ module _ (table : List Payload) (order : IsInOrder table) (withdrawn announced :
       next : take (at + 1) table ≡ take at table ++ p ∷ []
       next = take_more table at p small ∙ ap (λ q. take at table ++ q ∷ []) is
 
-      passed_more : (k i : ℕ) (d : Change) (e : Payload) → k < place → at + 1 ≤ i → i < length table → sent_place (get_or withdrawn k d).entry < sent_place (get_or table i e)
+      passed_more : (k i : ℕ) (d : Change) (e : Payload) → k < place → at + 1 ≤ i → i < length table
+          → sent_place (get_or withdrawn k d).entry < sent_place (get_or table i e)
       passed_more k i d e low from inside =
           let less = searched.before k d low (omega (arith, low, within)) in
           let more : sent_place p ≤ sent_place (get_or table i e) = subst (λ (q : Payload). sent_place q ≤ sent_place (get_or table i e)) (get_or_default table at e p small ∙ is) (by_sent table order.ranked at i e (omega (arith, from)) inside) in
           omega (arith, less, more)
 
+      -- the walk along the withdrawn gets there
+      pub advanced : IsSoFar table withdrawn announced at place come list
+      advanced = record {
+        at_within = so_far.at_within;
+        gone_within = within;
+        come_within = so_far.come_within;
+        passed = λ k i d e low from inside.
+            let less = searched.before k d low (omega (arith, low, within)) in
+            let more : sent_place p ≤ sent_place (get_or table i e) = subst (λ (q : Payload). sent_place q ≤ sent_place (get_or table i e)) (get_or_default table at e p small ∙ is) (by_sent table order.ranked at i e from inside) in
+            omega (arith, less, more);
+        kept = so_far.kept;
+        stays = so_far.stays;
+        has = so_far.has;
+        merged = so_far.merged;
+      }
+
       -- and is withdrawn
-      pub goes : (place < length withdrawn) × ((d : Change) → IsOf p (get_or withdrawn place d)) → IsSoFar table withdrawn announced (at + 1) place come list
+      pub goes : (place < length withdrawn) × ((d : Change) → IsOf p (get_or withdrawn place d))
+          → IsSoFar table withdrawn announced (at + 1) place come list
       goes there = record {
         at_within = omega (arith, small);
         gone_within = within;
@@ -141,6 +162,68 @@ module _ (table : List Payload) (order : IsInOrder table) (withdrawn announced :
                 subst (λ (q : Payload). table_place p ≤ table_place q) (sym (get_or-map entry_of announced come c p there)) (le c there)) so_far.merged;
           }
 
+  -- a run of the table's payloads comes before the next that is withdrawn, and no later than the next announced
+  module _ (at gone come end : ℕ) (list : List Payload) (so_far : IsSoFar table withdrawn announced at gone come list) (end_within : end ≤ length table)
+      (before : (k : ℕ) (d : Payload) (e : Change) → k < end → gone < length withdrawn → sent_place (get_or table k d) < sent_change (get_or withdrawn gone e))
+      (up_to : (k : ℕ) (d : Payload) (e : Change) → k < end → come < length announced → table_place (get_or table k d) ≤ table_place (get_or announced come e).entry) where
+    -- some payload, whichever
+    some : Payload
+    some = (record { prefix = record { addr = V4 0; len = 0 }; max_len = None }, 0)
+
+    module _ (n : ℕ) (ps : List Payload) (far : IsSoFar table withdrawn announced (at + n) gone come ps) (short : at + n < end) where
+      p : Payload
+      p = get_or table (at + n) some
+
+      small : at + n < length table
+      small = omega (arith, short, end_within)
+
+      is : get_or table (at + n) p ≡ p
+      unfolding p
+      is = get_or_default table (at + n) p some small
+
+      less : (e : Change) → gone < length withdrawn → sent_place p < sent_change (get_or withdrawn gone e)
+      less e there = subst (λ (q : Payload). sent_place q < sent_change (get_or withdrawn gone e)) is (before (at + n) p e short there)
+
+      searched : IsSearched sent_change withdrawn (sent_place p) gone
+      searched = record {
+        before = λ k d low inside. subst (λ (q : Payload). sent_change (get_or withdrawn k d) < sent_place q) is (far.passed k (at + n) d p low (omega arith) small);
+        from = λ k d from inside.
+            let there : gone < length withdrawn = omega (arith, from, inside) in
+            let up = by_payload withdrawn gone_order gone k d from inside in
+            omega (arith, less d there, up);
+      }
+
+      none : ¬ ((gone < length withdrawn) × ((d : Change) → IsOf p (get_or withdrawn gone d)))
+      none h = (let c : Change = record { entry = p; place = 0 } in omega (arith, less c h.0, h.1 c))
+
+      next_of_run : IsSoFar table withdrawn announced (at + n + 1) gone come (ps ++ p ∷ [])
+      next_of_run = remains (at + n) gone come ps far p small is gone far.gone_within searched none
+          (λ c there. subst (λ (q : Payload). table_place q ≤ table_place (get_or announced come c).entry) is (up_to (at + n) p c short there))
+
+      piece : ps ≡ list ++ take n (drop at table) → ps ++ p ∷ [] ≡ list ++ take (suc n) (drop at table)
+      piece e =
+          let inside : n < length (drop at table) = omega (arith, small, length-drop at table) in
+          let last : get_or (drop at table) n p ≡ p = get_or-drop at table n p ∙ is in
+          let more : take (suc n) (drop at table) ≡ take n (drop at table) ++ p ∷ [] =
+          ap (λ k. take k (drop at table)) (let f : suc n ≡ n + 1 = omega arith in f) ∙ take_more (drop at table) n p inside ∙ ap (λ q. take n (drop at table) ++ q ∷ []) last in
+          ap (λ qs. qs ++ p ∷ []) e ∙ append_assoc list (take n (drop at table)) (p ∷ []) ∙ ap (λ qs. list ++ qs) (sym more)
+
+    pub run_of : (n : ℕ) → at + n ≤ end
+        → IsSoFar table withdrawn announced (at + n) gone come (list ++ take n (drop at table))
+    run_of zero short =
+        subst (λ k. IsSoFar table withdrawn announced k gone come (list ++ take 0 (drop at table))) (let e : at ≡ at + 0 = omega arith in e)
+        (subst (λ ps. IsSoFar table withdrawn announced at gone come ps) (sym (append-nil list)) so_far)
+    run_of (suc n) short =
+        let ps : List Payload = list ++ take n (drop at table) in
+        let shorter : at + n < end = omega (arith, short) in
+        let far = run_of n (omega (arith, short)) in
+        subst (λ k. IsSoFar table withdrawn announced k gone come (list ++ take (suc n) (drop at table))) (let e : at + n + 1 ≡ at + suc n = omega arith in e)
+        (subst (λ qs. IsSoFar table withdrawn announced (at + n + 1) gone come qs) (piece n ps far shorter refl) (next_of_run n ps far shorter))
+
+    pub run : at ≤ end → IsSoFar table withdrawn announced end gone come (list ++ slice_range table at end)
+    run le = subst (λ k. IsSoFar table withdrawn announced k gone come (list ++ slice_range table at end)) (let e : at + (end - at) ≡ end = omega (arith, le) in e)
+        (run_of (end - at) (omega (arith, le)))
+
   -- at the end the list has all
   module _ (at gone come : ℕ) (list : List Payload) (so_far : IsSoFar table withdrawn announced at gone come list) (all : length table ≤ at) (each : length announced ≤ come) where
     every : take come (map entry_of announced) ≡ map entry_of announced
@@ -163,15 +246,16 @@ module _ (table : List Payload) (order : IsInOrder table) (withdrawn announced :
 
 -- ---- the lists that the changes came in
 
-pub updated_by : (table xs ys : List Payload) (ds cs : List Change) (next : List Payload) → All IsLawfulPayload table → AreChangesOf xs ds → AreChangesOf ys cs
-    → IsMergedOf table ds cs next → IsUpdated table ys xs next
+pub updated_by : (table xs ys : List Payload) (ds cs : List Change) (next : List Payload) → All IsLawfulPayload table
+    → AreChangesOf xs ds → AreChangesOf ys cs → IsMergedOf table ds cs next → IsUpdated table ys xs next
 updated_by table xs ys ds cs next lawful gone come m = record {
   kept = m.kept;
   stays = those_of table m.kept lawful m.stays;
   has = IsPermutation-trans (m.kept ++ map as_sent ys) (m.kept ++ map entry_of cs) next (IsPermutation-append_right m.kept (map as_sent ys) (map entry_of cs) come.entries) m.has;
 }
   where
-    those_of : (ps kept : List Payload) → All IsLawfulPayload ps → AreThose (Stays ds) ps kept → AreThose (λ p. ¬ IsSentIn xs p) ps kept
+    those_of : (ps kept : List Payload) → All IsLawfulPayload ps → AreThose (Stays ds) ps kept
+        → AreThose (λ p. ¬ IsSentIn xs p) ps kept
     those_of [] kept all e = e
     those_of (p ∷ ps) kept all those =
         let is = All-head IsLawfulPayload p ps all in

@@ -180,6 +180,13 @@ impl Entry {
         }
     }
 
+    /// Whether the payload comes no later in a table's order than another.
+    pub(crate) fn is_up_to(&self, other: &Entry) -> bool
+        ensures { result ≡ nat_le (table_place self.now) (table_place other.now) }
+    {
+        self.cmp_place(other).is_le()
+    }
+
     /// Compares payloads by a table's order, as they are sent.
     pub(crate) fn cmp_sent(&self, other: &Entry) -> Ordering
         ensures order { result ≡ nat_cmp (sent_place self.now) (sent_place other.now) }

@@ -1,5 +1,5 @@
 //! A router's table after the changes that a cache sends it (RFC 8210, 5.3, 5.6 and 5.7).
-ghost use Rattle.std.specs.Prelude.{◌≡◌, ◌^◌, ◌<◌, ◌≤◌, ◌⊎◌, ◌↔◌, ℕ, false, List, All, Any, IfOk, IsTrue, MatchOption, MatchResult, length, nat_lt, slice_index_or};
+ghost use Rattle.std.specs.Prelude.{◌≡◌, ◌^◌, ◌<◌, ◌≤◌, ◌⊎◌, ◌↔◌, ℕ, false, List, All, Any, IfOk, IsTrue, MatchOption, MatchResult, length, nat_le, nat_lt, slice_index_or};
 ghost use Rattle.std.specs.List.Sorted.{IsPermutation};
 ghost use Rattle.std.specs.Ordering.{nat_cmp};
 ghost use Rattle.rpki_text.specs.Memory.{IfRefused};
@@ -298,7 +298,84 @@ fn passed(changes: &[Change], from: usize, payload: &Entry) -> usize
     at
 }
 
-/// The payloads of a table that aren't withdrawn, and those announced, in a table's order. One walk along the three.
+/// The place up to which a table's payloads come before that of the next change, as they are sent.
+fn end_before(table: &[Entry], changes: &[Change], next: usize) -> usize
+    requires { IsInOrder table.now }
+    ensures within { result ≤ length table.now }
+    ensures before { (k : _) (d : Payload) (e : Change) → k < result → next < length changes.now
+        → sent_place (slice_index_or table.now k d) < sent_change (slice_index_or changes.now next e) }
+    ensures from { (k : _) (d : Payload) (e : Change) → result ≤ k → k < length table.now
+        → (next < length changes.now)
+        × (sent_change (slice_index_or changes.now next e) ≤ sent_place (slice_index_or table.now k d)) }
+{
+    if next < changes.len() {
+        return place_in(table, &changes[next].entry);
+    }
+    table.len()
+}
+
+/// How many of a table's payloads come no later than another. This is a binary search.
+fn count_up_to(table: &[Entry], payload: &Entry) -> usize
+    requires { IsInOrder table.now }
+    ensures within { result ≤ length table.now }
+    ensures up_to { (k : _) (d : Payload) → k < result
+        → table_place (slice_index_or table.now k d) ≤ table_place payload.now }
+    ensures later { (k : _) (d : Payload) → result ≤ k → k < length table.now
+        → table_place payload.now < table_place (slice_index_or table.now k d) }
+{
+    table.partition_point(
+        |entry: &Entry| -> bool
+            ensures { result ≡ nat_le (table_place entry.now) (table_place payload.entry.now) }
+        { entry.is_up_to(payload) },
+    )
+}
+
+/// The place up to which a table's payloads come no later than that of the next change.
+fn end_up_to(table: &[Entry], changes: &[Change], next: usize) -> usize
+    requires { IsInOrder table.now }
+    ensures within { result ≤ length table.now }
+    ensures up_to { (k : _) (d : Payload) (e : Change) → k < result → next < length changes.now
+        → table_place (slice_index_or table.now k d) ≤ table_place (slice_index_or changes.now next e).entry }
+    ensures later { (k : _) (d : Payload) (e : Change) → result ≤ k → k < length table.now
+        → (next < length changes.now)
+        × (table_place (slice_index_or changes.now next e).entry < table_place (slice_index_or table.now k d)) }
+{
+    if next < changes.len() {
+        return count_up_to(table, &changes[next].entry);
+    }
+    table.len()
+}
+
+/// The place up to which a table's payloads stay and are next to be listed: the one at a place, and those behind it
+/// that come before what is withdrawn next and no later than what is announced next.
+fn run_end(
+    table: &[Entry],
+    at: usize,
+    withdrawn: &[Change],
+    gone: usize,
+    announced: &[Change],
+    come: usize,
+) -> usize
+    requires table { IsInOrder table.now }
+    requires at { at < length table.now }
+    requires before { (d : Payload) (e : Change) → gone < length withdrawn.now
+        → sent_place (slice_index_or table.now at d) < sent_change (slice_index_or withdrawn.now gone e) }
+    requires up_to { (d : Payload) (e : Change) → come < length announced.now
+        → table_place (slice_index_or table.now at d) ≤ table_place (slice_index_or announced.now come e).entry }
+    ensures some { at < result }
+    ensures within { result ≤ length table.now }
+    ensures before { (k : _) (d : Payload) (e : Change) → k < result → gone < length withdrawn.now
+        → sent_place (slice_index_or table.now k d) < sent_change (slice_index_or withdrawn.now gone e) }
+    ensures up_to { (k : _) (d : Payload) (e : Change) → k < result → come < length announced.now
+        → table_place (slice_index_or table.now k d) ≤ table_place (slice_index_or announced.now come e).entry }
+{
+    let before = end_before(table, withdrawn, gone);
+    let up_to = end_up_to(table, announced, come);
+    before.min(up_to)
+}
+
+/// The payloads of a table that aren't withdrawn, and those announced, in a table's order. One walk along the
+/// changes, which lists the payloads between them run by run.
 fn updated<A: Allocator>(
     alloc: A,
     table: &[Entry],
@@ -322,10 +399,13 @@ fn updated<A: Allocator>(
         } else {
             let payload = &table[at];
             gone = passed(withdrawn, gone, payload);
-            if !stands_at(withdrawn, gone, payload) {
-                next.push(*payload)?;
+            if stands_at(withdrawn, gone, payload) {
+                at += 1;
+            } else {
+                let end = run_end(table, at, withdrawn, gone, announced, come);
+                next.extend_from_slice(&table[at..end])?;
+                at = end;
             }
-            at += 1;
         }
     }
     Ok(next)

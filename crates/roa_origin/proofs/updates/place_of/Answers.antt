@@ -10,7 +10,8 @@ use Rattle.roa_origin.proofs.updates.place_of.Goals as goal
 
 -- the point found parts them
 point : (c : goal.After-partition_point)
-    → IsPartitionPoint (λ y. ltb (sent_change y) (sent_place c.args.payload.now) ≡ true) (λ y. ltb (sent_change y) (sent_place c.args.payload.now) ≡ false) c.args.changes.now c.partition_point.result
+    → IsPartitionPoint (λ y. ltb (sent_change y) (sent_place c.args.payload.now) ≡ true)
+    (λ y. ltb (sent_change y) (sent_place c.args.payload.now) ≡ false) c.args.changes.now c.partition_point.result
 point c =
     let t = sent_place c.args.payload.now in
     IsPartitionPoint-from_clause (λ y. ltb (sent_change y) t) c.args.changes.now c.partition_point.result c.partition_point.ensures.partitioned

@@ -1,11 +1,9 @@
 -- Each turn takes the next payload, of the table or announced.
-use Rattle.std.proofs.Common.{◌≤◌, IsTrue, get_or, sym, subst}
+use Rattle.std.proofs.Common.{arith, get_or, sym}
 use Rattle.std.proofs.lemmas.List.{get_or_default}
-use Rattle.roa_origin.proofs.Updated.{comes, goes, in_order, merged_of, remains}
+use Rattle.roa_origin.proofs.Updated.{advanced, comes, goes, in_order, merged_of, run}
 use Rattle.roa_origin.specs.Payloads.{Payload}
-use Rattle.roa_origin.specs.Places.{table_place}
 use Rattle.roa_origin.specs.declared.updates.Change.{Change}
-use Rattle.roa_origin.proofs.updates.updated.Goals.{then-not-stands_at+in_ok-push-2, else-not-stands_at}
 use Rattle.roa_origin.proofs.updates.updated.Goals as goal
 
 pub loop-at-preserved-then-announced_is_next : goal.loop-at-preserved-then-announced_is_next
@@ -16,21 +14,23 @@ loop-at-preserved-then-announced_is_next g c =
     rw c.in_ok-push.ensures.items (comes c.args.table.now c.requires.table c.args.withdrawn.now c.args.announced.now c.requires.withdrawn c.requires.announced c.loop-at.at c.loop-at.gone c.loop-at.come c.loop-at.next.items c.loop-at.invariant
     x next.0 (get_or_default c.args.announced.now c.loop-at.come x r next.0) (λ e small. next.1 r e small))
 
+pub loop-at-preserved-then-stands_at : goal.loop-at-preserved-then-stands_at
+loop-at-preserved-then-stands_at g c =
+    let next = c.announced_is_next.ensures.table c.if-announced_is_next.false in
+    let p : Payload = c.index-table-at.result in
+    goes c.args.table.now c.requires.table c.args.withdrawn.now c.args.announced.now c.requires.withdrawn c.requires.announced c.loop-at.at c.loop-at.gone c.loop-at.come c.loop-at.next.items c.loop-at.invariant
+    p next.0 (sym c.index-table-at.is) c.passed-gone.result c.passed-gone.ensures.within c.passed-gone.ensures.searched (c.stands_at.ensures.0 c.if-stands_at.true)
+
 pub loop-at-preserved : goal.loop-at-preserved
 loop-at-preserved g c =
     let next = c.announced_is_next.ensures.table c.if-announced_is_next.false in
     let p : Payload = c.index-table-at.result in
     let place = c.passed-gone.result in
-    elim c.if-not-stands_at.branch [
-      | then-not-stands_at+in_ok-push-2 w ↦
-          rw (w.next-is, w.in_ok-push-2.ensures.items) (remains c.args.table.now c.requires.table c.args.withdrawn.now c.args.announced.now c.requires.withdrawn c.requires.announced c.loop-at.at c.loop-at.gone c.loop-at.come c.loop-at.next.items c.loop-at.invariant
-          p next.0 (sym c.index-table-at.is) place c.passed-gone.ensures.within c.passed-gone.ensures.searched
-          (λ h. let t : IsTrue c.stands_at.result = c.stands_at.ensures.1 h in let f = w.if-not-stands_at.true in cc)
-          (λ d small. subst (λ (y : Payload). table_place y ≤ table_place (get_or c.args.announced.now c.loop-at.come d).entry) (sym c.index-table-at.is) (next.1 d p small)))
-      | else-not-stands_at w ↦
-          rw w.next-is (goes c.args.table.now c.requires.table c.args.withdrawn.now c.args.announced.now c.requires.withdrawn c.requires.announced c.loop-at.at c.loop-at.gone c.loop-at.come c.loop-at.next.items c.loop-at.invariant
-          p next.0 (sym c.index-table-at.is) place c.passed-gone.ensures.within c.passed-gone.ensures.searched (c.stands_at.ensures.0 w.if-not-stands_at.false))
-    ]
+    let end = c.run_end-end in
+    let so_far = advanced c.args.table.now c.requires.table c.args.withdrawn.now c.args.announced.now c.requires.withdrawn c.requires.announced c.loop-at.at c.loop-at.gone c.loop-at.come c.loop-at.next.items c.loop-at.invariant
+    p next.0 (sym c.index-table-at.is) place c.passed-gone.ensures.within c.passed-gone.ensures.searched in
+    rw c.in_ok-extend_from_slice.ensures.items (run c.args.table.now c.requires.table c.args.withdrawn.now c.args.announced.now c.requires.withdrawn c.requires.announced c.loop-at.at place c.loop-at.come end.result c.loop-at.next.items so_far
+    end.ensures.within end.ensures.before end.ensures.up_to (omega (arith, end.ensures.some)))
 
 pub returns-clause-in_order : goal.returns-clause-in_order
 returns-clause-in_order g c =

@@ -1,0 +1,28 @@
+-- The search parts the payloads that come no later from the others.
+use Rattle.std.proofs.Common.{rules, arith, ◌≡◌, true, false, leb, sym, ◌∙◌, get_or, inl, inr}
+use Rattle.std.proofs.lemmas.Bool.{cases_lt, le-leb, leb-true}
+use Rattle.std.proofs.lemmas.List.Sorted.{IsPartitionPoint-from_clause, IsPartitionedBy-leb}
+use Rattle.std.specs.List.Sorted.{IsPartitionPoint}
+use Rattle.roa_origin.specs.Places.{table_place}
+use Rattle.roa_origin.proofs.updates.count_up_to.Goals as goal
+
+-- the point found parts them
+point : (c : goal.After-partition_point)
+    → IsPartitionPoint (λ y. leb (table_place y) (table_place c.args.payload.now) ≡ true)
+    (λ y. leb (table_place y) (table_place c.args.payload.now) ≡ false) c.args.table.now c.partition_point.result
+point c =
+    let t = table_place c.args.payload.now in
+    IsPartitionPoint-from_clause (λ y. leb (table_place y) t) c.args.table.now c.partition_point.result c.partition_point.ensures.partitioned
+    (IsPartitionedBy-leb table_place c.args.table.now t c.requires.ranked) (λ a r q k. search rules)
+
+pub returns-clause-up_to : goal.returns-clause-up_to
+returns-clause-up_to c k d small = leb-true (table_place (get_or c.args.table.now k d)) (table_place c.args.payload.now) ((point c).0 k d (omega arith) small)
+
+pub returns-clause-later : goal.returns-clause-later
+returns-clause-later c k d from small =
+    let m = table_place (get_or c.args.table.now k d) in
+    let t = table_place c.args.payload.now in
+    elim (cases_lt t m) [
+      | inl less ↦ less
+      | inr more ↦ absurd (let f : true ≡ false = sym (le-leb m t more) ∙ (point c).1 k d from small in cc)
+    ]

@@ -11,6 +11,7 @@ LENGTHS = {
     Family.V6: (48,) * 7 + (44, 40, 40, 36, 32, 32, 32, 32, 29),
 }
 LONGEST = {Family.V4: 24, Family.V6: 48}
+WORST = {"one": range(8, 9), "chain": range(1, 33)}
 DIGITS = {"Valid": 1, "Invalid": 2, "NotFound": 3}
 
 
@@ -69,14 +70,31 @@ def shortened(family: Family, address: int, length: int) -> Prefix:
     return Prefix(family, address >> behind << behind, length)
 
 
-def answer(payload_count: int, route_count: int) -> str:
-    """What the program prints of so many payloads and routes."""
-    numbers = Numbers(SEED)
-    payloads = [numbers.payload() for _ in range(payload_count)]
-    routes = [numbers.route(payloads) for _ in range(route_count)]
-    validities = [validity(prefix, asn, payloads) for prefix, asn in routes]
+def told(validities: list[str]) -> str:
+    """What the program prints of the validities of routes."""
     counts = ", ".join(f"{validities.count(name)} {name}" for name in DIGITS)
     mark = 0
     for found in validities:
         mark = (mark * 31 + DIGITS[found]) & WORD
-    return f"{route_count} routes: {counts}, mark {mark}"
+    return f"{len(validities)} routes: {counts}, mark {mark}"
+
+
+def answer(payload_count: int, route_count: int) -> str:
+    """What the program prints of so many payloads and routes. Without routes the payloads don't matter."""
+    numbers = Numbers(SEED)
+    payloads = [numbers.payload() for _ in range(payload_count if route_count else 0)]
+    routes = [numbers.route(payloads) for _ in range(route_count)]
+    return told([validity(prefix, asn, payloads) for prefix, asn in routes])
+
+
+def worst_answers(word: str, payload_count: int) -> list[str]:
+    """What it prints of three routes, a thousand times each, by payloads of the prefixes of some lengths round
+    10.0.0.0."""
+    lengths = WORST[word]
+    payloads = [
+        Payload(MaxLenPrefix(shortened(Family.V4, 10 << 24, lengths[at % len(lengths)]), None), at // len(lengths) + 1)
+        for at in range(payload_count)
+    ]
+    asked = ((11 << 24, 24, 65_536), (10 << 24, 32, 65_536), (10 << 24, 8, 1))
+    routes = [(shortened(Family.V4, address, length), asn) for address, length, asn in asked]
+    return [told([validity(*route, payloads)] * 1000) for route in routes]

@@ -9,6 +9,9 @@
 //! many routes it is asked. They are made like those of a full table: four of five are of IPv4, most of them of 24
 //! bits; half of the routes are those of payloads, some longer or by another AS. The same numbers make the same
 //! payloads and routes.
+//!
+//! Behind the words `one` and `chain` each number is how many payloads a table is made of: of one prefix, each of
+//! another AS, or of prefixes of all lengths, one in the other. It is asked for three routes a thousand times each.
 #![tactic(auto)]
 
 mod asn;
@@ -16,18 +19,20 @@ mod ip;
 mod made_routes;
 mod measure;
 mod origins;
+mod worst;
 
 use measure::{measure_der, measure_modes, measure_operations};
 use rpki_as::blocks::AsBlocks;
 use rpki_ipres::blocks::IpBlocks;
 use std::{env, io};
+use worst::Lengths;
 
 fn main(rt: HostRuntime) -> io::Result<()> {
     let mut asked = Asked::Sets;
     for word in env::args(&rt)?.skip(1) {
         asked = match word.as_str().parse::<usize>() {
             Ok(count) => measure_asked(&rt, asked, count)?,
-            Err(_) => Asked::Origins,
+            Err(_) => Asked::named(word.as_str()),
         };
     }
     Ok(())
@@ -42,6 +47,19 @@ enum Asked {
     Origins,
     /// How many routes, of a table of so many payloads.
     Routes(usize),
+    /// How many payloads, of prefixes of these lengths.
+    Worst(Lengths),
+}
+
+impl Asked {
+    /// What the numbers behind a word are.
+    fn named(word: &str) -> Asked {
+        match word {
+            "one" => Asked::Worst(Lengths::ONE),
+            "chain" => Asked::Worst(Lengths::ALL),
+            _ => Asked::Origins,
+        }
+    }
 }
 
 /// Measures what a number asks for, and tells what the next one is.
@@ -55,6 +73,10 @@ fn measure_asked(rt: &HostRuntime, asked: Asked, count: usize) -> io::Result<Ask
         Asked::Routes(payloads) => {
             origins::measure(rt, payloads, count)?;
             Ok(Asked::Origins)
+        }
+        Asked::Worst(lengths) => {
+            worst::measure(rt, lengths, count)?;
+            Ok(asked)
         }
     }
 }

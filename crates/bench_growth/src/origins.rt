@@ -2,14 +2,17 @@
 use crate::made_routes::{self, Numbers};
 use roa_origin::{OriginTable, Validity};
 use rpki_base::Asn;
-use rpki_prefix::Prefix;
+use rpki_prefix::{MaxLenPrefix, Prefix};
 use std::io;
 use std::time::Instant;
 
 /// Where the numbers begin.
 const SEED: u64 = 6811;
 
-/// Makes payloads, their table and routes, and asks the table for each route.
+/// How many payloads are announced, and at most withdrawn.
+const CHANGED: usize = 150;
+
+/// Makes payloads, their table and routes, asks the table for each route, and changes it.
 pub fn measure(rt: &HostRuntime, payloads: usize, routes: usize) -> io::Result<()> {
     let mut numbers = Numbers::after(SEED);
     let listed = made_routes::payloads(rt.alloc(), &mut numbers, payloads)?;
@@ -17,11 +20,28 @@ pub fn measure(rt: &HostRuntime, payloads: usize, routes: usize) -> io::Result<(
     let start = Instant::now(rt)?;
     let table = OriginTable::new(rt.alloc(), &listed)?;
     tell(rt, "payloads", listed.len(), start)?;
-    measure_routes(rt, &table, &asked)
+    measure_routes(rt, &table, &asked)?;
+    let announced = made_routes::payloads(rt.alloc(), &mut numbers, CHANGED)?;
+    let withdrawn = listed.as_slice().get(..CHANGED).unwrap_or(&[]);
+    measure_changes(rt, &table, &announced, withdrawn)
+}
+
+/// Makes the next table of changes.
+fn measure_changes(
+    rt: &HostRuntime,
+    table: &OriginTable,
+    announced: &[(MaxLenPrefix, Asn)],
+    withdrawn: &[(MaxLenPrefix, Asn)],
+) -> io::Result<()> {
+    let start = Instant::now(rt)?;
+    match table.with_changes(rt.alloc(), announced, withdrawn) {
+        Ok(next) => tell(rt, "changed", next.len(), start),
+        Err(fault) => eprintln!(rt; "{fault}"),
+    }
 }
 
 /// Asks the table for each route.
-fn measure_routes(
+pub fn measure_routes(
     rt: &HostRuntime,
     table: &OriginTable,
     routes: &[(Prefix, Asn)],

@@ -4,6 +4,7 @@ use crate::pairs::Pair;
 use rows_support::print;
 use rpki_as::block::AsBlock;
 use rpki_as::blocks::AsBlocks;
+use rpki_as::builder::AsBlocksBuilder;
 use rpki_base::asn::Asn;
 use rpki_base::number::parse_u32;
 use rpki_chain::block::Block;
@@ -36,6 +37,8 @@ fn of_kind<A: Allocator + Copy>(
         "as" => as_union(alloc, count, &every_fourth_asn(alloc, count, 0)?),
         "v6" => ip_union(alloc, count, &every_fourth_address(alloc, count, 0)?),
         "families" => families(alloc, every_fourth_address(alloc, count, 0)?),
+        "cover" => cover(alloc, count),
+        "build" => built(alloc, &every_fourth_asn(alloc, count, 2)?),
         _ => of_count(alloc, question, u64::from(count)),
     }
 }
@@ -144,6 +147,19 @@ fn as_union<A: Allocator + Copy>(
     format!(in alloc; "{size} numbers")
 }
 
+/// How many numbers a builder's set has, of those of a set and of as many that are pushed before them one by one.
+fn built<A: Allocator + Copy>(alloc: A, others: &AsBlocks<A>) -> Result<String<A>, AllocError> {
+    let others = others.iter().as_slice();
+    let mut builder = AsBlocksBuilder::new(alloc);
+    for at in 0..others.len() as u64 {
+        let number = u32::try_from(at.saturating_mul(4)).unwrap_or(u32::MAX);
+        builder.push(AsBlock::Id(Asn::from_u32(number)))?;
+    }
+    builder.extend_from(others)?;
+    let size = builder.finalize()?.asn_count();
+    format!(in alloc; "{size} numbers")
+}
+
 fn every_fourth_address<A: Allocator + Copy>(
     alloc: A,
     count: u32,
@@ -166,6 +182,17 @@ fn ip_union<A: Allocator + Copy>(
     let others = every_fourth_address(alloc, count, 2)?;
     let len = set.union(alloc, &others)?.iter().count();
     format!(in alloc; "{len} blocks")
+}
+
+/// How many octets answer a line that asks for the cover of so many ranges, each of all addresses that begin with the
+/// same 16 bits but the first and the last.
+fn cover<A: Allocator + Copy>(alloc: A, count: u32) -> Result<String<A>, AllocError> {
+    let mut line = String::from_str(alloc, "cover v6 ")?;
+    for at in 0..count {
+        write!(line, "{at:x}::1-{at:x}:ffff:ffff:ffff:ffff:ffff:ffff:fffe,")?;
+    }
+    let len = respath_lines::answer(alloc, line.as_bytes())?.len();
+    format!(in alloc; "{len} octets")
 }
 
 /// How many octets write a set of IPv6.

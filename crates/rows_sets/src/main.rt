@@ -12,16 +12,27 @@ mod lists;
 mod long;
 mod pairs;
 mod question;
+mod requests;
 mod small_sets;
 
 use line::Line;
+use rows_support::print::cut;
 use rows_support::refusals;
+use std::alloc::{AllocError, Global};
 use std::io;
 
 fn main(rt: HostRuntime) -> io::Result<()> {
     for line in rt.lines(rt.alloc()) {
-        let answer = refusals::answer(rt.alloc(), &Line(line?.as_str()))?;
+        let answer = answer(rt.alloc(), line?.as_str())?;
         println!(rt; "{answer}")?;
     }
     Ok(())
+}
+
+/// The answer to a line. `requests` counts what a call asks for, and refuses none of it.
+fn answer(alloc: Global, line: &str) -> Result<String, AllocError> {
+    match cut(line, ' ') {
+        ("requests", operands) => requests::answer(alloc, operands),
+        _ => refusals::answer(alloc, &Line(line)),
+    }
 }

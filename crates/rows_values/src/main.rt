@@ -10,6 +10,7 @@ mod covers;
 mod line;
 mod modes;
 mod orders;
+mod requests;
 mod takes;
 mod texts;
 mod values;
@@ -29,10 +30,12 @@ fn main(rt: HostRuntime) -> io::Result<()> {
     Ok(())
 }
 
-/// The answer to a line. `altered` and `alteredstrict` read many values, and have memory refused for each.
+/// The answer to a line. `altered` and `alteredstrict` read many values, and have memory refused for each; `requests`
+/// counts what a call asks for, and refuses none of it.
 fn answer(alloc: Global, line: &str) -> Result<String, AllocError> {
     match cut(line, ' ') {
         ("altered", operands) => altered::answer(alloc, Mode::Lenient, operands),
+        ("requests", operands) => requests::answer(alloc, operands),
         ("alteredstrict", operands) => altered::answer(alloc, Mode::Strict, operands),
         _ => refusals::answer(alloc, &Line(line)),
     }

@@ -10,6 +10,8 @@ mod as_blocks;
 #[cfg(test)]
 mod checks;
 #[cfg(test)]
+mod debug;
+#[cfg(test)]
 mod faults;
 #[cfg(test)]
 mod hashes;

@@ -1,0 +1,240 @@
+"""How much memory calls ask for, by rules: how many requests, and how many octets together.
+
+The rules name lengths of lists and nothing of how they are made. An element takes what its parts take in their order,
+each at a multiple of its size. A list whose length is known is asked for at once; one that isn't grows to twice its
+room, of four elements at first. A set's list has owners, whose counts are one request more; whoever shares a set asks
+for nothing.
+"""
+
+import re
+from collections.abc import Callable, Iterator
+from typing import Any
+
+from . import asn, ip, prefixes, resources, sets, texts
+from .addresses import Family
+from .calls_of_sets import read_triple
+from .calls_of_values import OCTETS
+from .lines import octets_of
+from .prefixes import Payload
+from .sets import Set
+
+WORD = 8
+AS_BLOCK = 3 * 4  # which kind, and two numbers of 32 bits
+IP_BLOCK = 3 * 16  # which kind, and two numbers of 128 bits
+ASN = 4
+PAYLOAD = 80  # family and address 32, length and greatest length up to 64, AS number up to 80
+ENTRY = 32  # of a table: an address, an AS number, two lengths, the family
+LINK = 2 * WORD
+# Two counts and the allocator; of the list whether it is there, its place, length, room and allocator.
+OWNERS = 8 * WORD
+
+Rooms = list[int]  # the octets of each request
+
+
+def at_once(count: int, size: int) -> Rooms:
+    """The room of a list whose length is known."""
+    return [count * size] if count else []
+
+
+def grown(count: int, size: int, room: int = 0, least: int = 4) -> Rooms:
+    """The rooms of a list that grows to a length, from one that it has."""
+    rooms = []
+    while room < count:
+        room = max(2 * room, least, room + 1)
+        rooms.append(room * size)
+    return rooms
+
+
+def reserved(count: int, room: int, size: int) -> Rooms:
+    """The room of a list that has some, of which more is asked for at once."""
+    return [max(2 * room, count, 4) * size] if count > room else []
+
+
+def shared(rooms: Rooms) -> Rooms:
+    """The rooms of a list, and of what its owners share: nothing for an empty one."""
+    return [*rooms, OWNERS] if rooms else []
+
+
+def octets(length: int) -> Rooms:
+    """The room of octets that are written at once: eight of them at least, as std has it."""
+    return [max(8, length)] if length else []
+
+
+def _text(rooms: Rooms) -> str:
+    return f"requests {len(rooms)}, octets {sum(rooms)}"
+
+
+# ---- sets
+
+
+def union(left: Set, right: Set, size: int) -> Rooms:
+    """Where one is empty the other is shared; else there is room for both."""
+    return shared(at_once(len(left) + len(right), size)) if left and right else []
+
+
+def intersection(left: Set, right: Set, size: int) -> Rooms:
+    """What lies in the other is shared. Else the runs before the first that doesn't are known."""
+    if sets.has_all(right, left):
+        return []
+    first = next(at for at, run in enumerate(left) if not sets.has_all(right, [run]))
+    common = len(sets.intersection(left, right))
+    return shared(at_once(first, size) + grown(common, size, first))
+
+
+def difference(left: Set, right: Set, size: int) -> Rooms:
+    """Nobody knows how many runs will be left."""
+    return shared(grown(len(sets.difference(left, right)), size))
+
+
+OF_TWO = {"union": union, "intersection": intersection, "assign": intersection, "difference": difference}
+
+
+def _built(left: int, right: int, size: int) -> Rooms:
+    """Blocks one by one, and then more that are counted first."""
+    pushed = grown(left, size)
+    return shared(pushed + reserved(left + right, pushed[-1] // size if pushed else 0, size))
+
+
+USUAL = re.compile(r" ?(AS)?\d+(-(AS)?\d+)?")
+
+
+def _as_text(text: str) -> Rooms:
+    """Elements of the usual form are read as they come; at the first other one, or behind the last, all is read anew,
+    when the list so far was given back."""
+    count = len(list(texts.elements(text)))
+    usual, at = 0, 0
+    while found := USUAL.match(text, at):
+        usual, at = usual + 1, found.end() + 1
+        if text[found.end() : at] != ",":
+            break
+    is_usual = usual == count and at > len(text)
+    return ([] if is_usual else grown(usual, AS_BLOCK)) + shared(grown(count, AS_BLOCK))
+
+
+def _of_blocks(call: str, left: int, right: int, size: int) -> Rooms | None:
+    given: dict[str, Callable[[], Rooms]] = {
+        "text": lambda: shared(grown(left, size)),
+        "from_blocks": lambda: shared(at_once(left, size)),
+        "from_vec": lambda: shared(at_once(left, size)),
+        "build": lambda: _built(left, right, size),
+    }
+    return given[call]() if call in given else None
+
+
+def _path(call: str, anchor: Set, claim: Set, size: int) -> Rooms:
+    """Two steps: one that claims all of the anchor, and another claim."""
+    return difference(claim, anchor, size) if call == "refuse" else intersection(claim, anchor, size)
+
+
+def _of_kind(kind: str, call: str, text: str) -> str:
+    size = AS_BLOCK if kind == "as" else IP_BLOCK
+    family = Family.V4 if kind == "v4" else None
+    read = asn.read_block if kind == "as" else lambda block: ip.read_block(block, family)
+    if (kind, call) == ("as", "text"):
+        return _text(_as_text(text))
+    left, right = ([read(part).bounds() for part in texts.elements(side)] for side in texts.cut(text, "|"))
+    rooms = _of_blocks(call, len(left), len(right), size)
+    if rooms is not None:
+        return _text(rooms)
+    one, other = sets.merged(left), sets.merged(right)
+    if call == "octets":
+        write = resources.written_as_blocks if kind == "as" else resources.written_ip_set
+        return _text(octets(len(write(one))))
+    if call in ("refuse", "trim"):
+        return _text(_path(call, one, other, size))
+    if call in OF_TWO:
+        return _text(OF_TWO[call](one, other, size))
+    answers = {"all": shared(at_once(1, size)), "copy": []}
+    return _text(answers[call]) if call in answers else "no such call"
+
+
+def _of_small(call: str, text: str) -> str:
+    numbers = [asn.read_asn(part) for part in texts.elements(text)]
+    return _text(at_once(len(numbers if call == "list" else set(numbers)), ASN))
+
+
+def of_sets(operands: str) -> str:
+    """The answer of `rows_sets` to `requests KIND CALL A|B`."""
+    kind, rest = texts.cut(operands, " ")
+    call, text = texts.cut(rest, " ")
+    return _of_small(call, text) if kind == "small" else _of_kind(kind, call, text)
+
+
+# ---- octets
+
+
+def _listed(found: Any) -> Iterator[int]:
+    """How many runs each set has of what was read."""
+    if isinstance(found, list):
+        yield len(found)
+    elif isinstance(found, tuple):
+        for claim in found:
+            yield from _listed(claim)
+
+
+def of_octets(operands: str) -> str:
+    """The answer of `rows_values` to `requests take READER HEX` and `requests written READER HEX`."""
+    call, rest = texts.cut(operands, " ")
+    kind, text = texts.cut(rest, " ")
+    reader = OCTETS[kind]
+    found, _ = reader.read(octets_of(text) or b"", True)
+    if call == "written":
+        return _text(octets(len(reader.write(found))))
+    size = AS_BLOCK if kind.startswith("as") else IP_BLOCK
+    return _text([room for count in _listed(found) for room in shared(grown(count, size))])
+
+
+# ---- payloads, and sets of three kinds
+
+
+def _payloads(text: str) -> list[Payload]:
+    entries = (texts.trim(entry) for entry in text.split("|"))
+    pairs = (texts.cut(entry, " ") for entry in entries if entry)
+    return [Payload(prefixes.read_max_len(prefix), asn.read_asn(number)) for prefix, number in pairs]
+
+
+def _sent(payloads: list[Payload]) -> set[Payload]:
+    """The payloads as routers get them, each with its greatest length."""
+    return {
+        Payload(prefixes.MaxLenPrefix(it.prefix.prefix, it.prefix.resolved()), it.asn) for it in payloads
+    }
+
+
+def _table(payloads: list[Payload]) -> Rooms:
+    """An entry and a link for each, and the starts of what has the same first bits: two families' and the end.
+
+    There are as many bits as leave some sixteen payloads to a start, one at least.
+    """
+    bits = max(1, min(16, (len(payloads) // 16).bit_length()))
+    count = len(payloads)
+    return at_once(count, ENTRY) + at_once(count, LINK) + at_once(2 * 2**bits + 1, WORD)
+
+
+def _changes(text: str) -> Rooms:
+    one, other = (_sent(_payloads(side)) for side in texts.cut(text, ";"))
+    return grown(len(other - one), PAYLOAD) + grown(len(one - other), PAYLOAD)
+
+
+def _triple(call: str, text: str) -> Rooms:
+    left, right = texts.cut(text, "|")
+    sizes = (AS_BLOCK, IP_BLOCK, IP_BLOCK)
+    if call == "lists":
+        numbers, *addresses = left.split(";")
+        counts = (len(list(texts.elements(side))) for side in addresses)
+        return _as_text(numbers) + [room for count in counts for room in shared(grown(count, IP_BLOCK))]
+    rooms = []
+    for one, other, size in zip(read_triple(left), read_triple(right), sizes, strict=True):
+        rooms += OF_TWO[call](one, other, size)
+        rooms += difference(other, one, size) if call == "difference" else []
+    return rooms
+
+
+def of_claims(operands: str) -> str:
+    """The answer of `rows_claims` to `requests CALL ..`."""
+    call, text = texts.cut(operands, " ")
+    given: dict[str, Callable[[str], Rooms]] = {
+        "table": lambda text: _table(_payloads(text)),
+        "payloads": lambda text: at_once(len(_payloads(text)), PAYLOAD),
+        "changes": _changes,
+    }
+    return _text(given[call](text) if call in given else _triple(call, text))

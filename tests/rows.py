@@ -22,6 +22,7 @@ from reference import (
     lines,
     made_routes,
     random_lines,
+    requests,
 )
 from reference.calls_of_callers import NotSaid
 
@@ -38,10 +39,20 @@ def answer_of_claims(line: str) -> str:
     return calls_of_sets.answer(line)
 
 
+def with_requests(count: Callable[[str], str], answer: Callable[[str], str]) -> Callable[[str], str]:
+    """Answers the lines that count requests for memory by rules on lists, and the others by the calls."""
+
+    def answer_of(line: str) -> str:
+        command, _, operands = line.partition(" ")
+        return count(operands) if command == "requests" else answer(line)
+
+    return answer_of
+
+
 PROGRAMS: dict[str, Callable[[str], str]] = {
-    "rows_values": calls_of_values.answer,
-    "rows_sets": calls_of_sets.answer,
-    "rows_claims": answer_of_claims,
+    "rows_values": with_requests(requests.of_octets, calls_of_values.answer),
+    "rows_sets": with_requests(requests.of_sets, calls_of_sets.answer),
+    "rows_claims": with_requests(requests.of_claims, answer_of_claims),
     "rows_calls": calls_of_callers.answer,
 }
 
@@ -116,16 +127,29 @@ def compare_verified_set() -> bool:
     return comparison.tell("example_verified_set")
 
 
+def asked_of_origins(given: list[str]) -> Iterator[tuple[str, list[str]]]:
+    """What `bench_growth` is asked of origins, and what it answers."""
+    word, before = "", None
+    for argument in given:
+        if not argument.isdigit():
+            word, before = argument, None
+        elif word in made_routes.WORST:
+            yield f"{word} {argument}", made_routes.worst_answers(word, int(argument))
+        elif word and before is None:
+            before = int(argument)
+        elif word:
+            yield f"{before} {argument}", [made_routes.answer(before, int(argument))]
+            before = None
+
+
 def compare_growth() -> bool:
-    """Compares what `bench_growth` prints of origins, for the pairs of numbers behind that word of its arguments."""
+    """Compares what `bench_growth` prints of origins, for the numbers behind the words of its arguments about them."""
     comparison = Comparison()
     given, printed = (lines_of(CRATES / "bench_growth" / file) for file in ("args", "stdout"))
-    counts = [int(word) for word in given[given.index("origins") + 1 :]]
     printed = [line for line in printed if " routes: " in line]
-    asked = zip(counts[::2], counts[1::2], strict=True)
-    for (payloads, routes), found in zip(asked, printed, strict=True):
-        line = f"{payloads} {routes}"
-        comparison.add("bench_growth/args", line, made_routes.answer(payloads, routes), found)
+    answers = [(line, answer) for line, found in asked_of_origins(given) for answer in found]
+    for (line, answer), found in zip(answers, printed, strict=True):
+        comparison.add("bench_growth/args", line, answer, found)
     return comparison.tell("bench_growth")
 
 

@@ -2,7 +2,7 @@
 
 from collections.abc import Callable
 
-from . import asn, ip, lines, paths, prefixes, resources, sets, texts
+from . import asn, ip, lines, paths, payload_files, prefixes, resources, route_lines, sets, texts
 from .addresses import Family
 from .calls_of_sets import print_changes, print_triple, read_triple
 from .faults import DerFault, Fault
@@ -411,6 +411,81 @@ def _outside(text: str) -> str:
     return "None" if place is None else f"Some({place})"
 
 
+class _Faulty(Exception):
+    """Why changes are none of a table."""
+
+
+def _as_sent(payload: Payload) -> Payload:
+    """The payload as routers get it: with a greatest length."""
+    return Payload(prefixes.MaxLenPrefix(payload.prefix.prefix, payload.prefix.resolved()), payload.asn)
+
+
+def _table_key(payload: Payload) -> tuple[int, ...]:
+    """A table's order: IPv4 first, the first address, the shorter prefix; the greatest AS, the shortest greatest
+    length, the one that isn't told."""
+    prefix = payload.prefix.prefix
+    is_told = payload.prefix.max_length is not None
+    return prefix.family.bits, prefix.address, prefix.length, -payload.asn, payload.prefix.resolved(), is_told
+
+
+def _after(payloads: list[Payload], announced: list[Payload], withdrawn: list[Payload]) -> list[Payload]:
+    """What a client has that takes the withdrawals one by one and then the announcements (RFC 8210, 5.3, 5.11)."""
+    has = {_as_sent(payload) for payload in payloads}
+    gone: set[Payload] = set()
+    for place, payload in enumerate(map(_as_sent, withdrawn)):
+        if payload not in has:
+            raise _Faulty(f"error: withdrawal of unknown record at {place}")
+        has.remove(payload)
+        gone.add(payload)
+    for place, payload in enumerate(map(_as_sent, announced)):
+        if payload in has:
+            raise _Faulty(f"error: duplicate announcement received at {place}")
+        has.add(payload)
+    return [payload for payload in payloads if _as_sent(payload) not in gone] + list(map(_as_sent, announced))
+
+
+def _changes_of_table(text: str) -> str:
+    listed, others = texts.cut(text, ";")
+    parts = (listed, *texts.cut(others, ";"))
+    lists = []
+    for part, name in zip(parts, ("payload", "announcement", "withdrawal"), strict=True):
+        try:
+            lists.append([_payload(entry) for entry in _entries(part)])
+        except Fault:
+            return f"no such {name}"
+    try:
+        after = _after(*lists)
+    except _Faulty as fault:
+        return str(fault)
+    return " | ".join(f"{payload.prefix.text()} AS{payload.asn}" for payload in sorted(after, key=_table_key))
+
+
+def _changed(text: str) -> str:
+    listed, others = texts.cut(text, ";")
+    following, asked = texts.cut(others, ";")
+    try:
+        old, new = ([_payload(entry) for entry in _entries(part)] for part in (listed, following))
+    except Fault:
+        return "no such payload"
+    try:
+        routes = [_route(entry) for entry in _entries(asked)]
+    except Fault:
+        return "no such route"
+    places = [
+        str(place)
+        for place, route in enumerate(routes)
+        if prefixes.validity(*route, old) != prefixes.validity(*route, new)
+    ]
+    return " ".join(places) or "none"
+def _answered(text: str, is_explained: bool) -> str:
+    listed, route = texts.cut(text, ";") if ";" in text else (text, "")
+    try:
+        payloads = [_payload(entry) for entry in _entries(listed)]
+    except Fault:
+        return "no such payload"
+    return route_lines.answer(payloads, route, is_explained)
+
+
 def is_origin(line: str) -> bool:
     """Whether a line of `rows_claims` is answered by `origin_answer`."""
     return texts.cut(line, " ")[0] in _ORIGIN_COMMANDS
@@ -425,4 +500,17 @@ def origin_answer(line: str) -> str:
         return f"error: {fault}"
 
 
-_ORIGIN_COMMANDS = {"origin": _origin, "outside": _outside}
+def _payloads_of_octets(text: str) -> str:
+    return payload_files.answer(_octets(text))
+
+
+_ORIGIN_COMMANDS = {
+    "origin": _origin,
+    "outside": _outside,
+    "changes": _changes_of_table,
+    "changed": _changed,
+    "route": lambda text: _answered(text, False),
+    "why": lambda text: _answered(text, True),
+    "payloads": lambda text: payload_files.answer(text.replace("|", "\n").encode()),
+    "octets": _payloads_of_octets,
+}

@@ -92,11 +92,18 @@ def _long(question: str, text: str) -> str:
     def shown(numbers: Set) -> str:
         return f"{len(numbers)} blocks"
 
+    def cover() -> str:
+        ranges = (f"{at:x}::1-{at:x}:ffff:ffff:ffff:ffff:ffff:ffff:fffe" for at in range(count))
+        return f"{len(lines.answer(('cover v6 ' + ','.join(ranges)).encode()))} octets"
+
     def families() -> str:
         return f"{len(resources.written_families(resources.Families(None, fourths)))} octets"
 
     answers: dict[str, Callable[[], str]] = {
         "as": lambda: f"{len(sets.union(fourths, others))} numbers",
+        "build": lambda: f"{len(sets.union(fourths, others))} numbers",
+        "changes": lambda: f"{len(set(fourths) - set(others))} announced, {len(set(others) - set(fourths))} withdrawn",
+        "cover": cover,
         "v6": lambda: shown(sets.union(fourths, others)),
         "families": families,
         "from_blocks": lambda: shown(fourths),

@@ -1,7 +1,7 @@
 //! The entries behind a line's question.
 use rows_support::print::cut;
 use rpki_base::Asn;
-use rpki_prefix::MaxLenPrefix;
+use rpki_prefix::{MaxLenPrefix, Prefix};
 use std::alloc::{AllocError, Allocator};
 use std::str::FromStr;
 
@@ -23,6 +23,14 @@ impl Entry for (MaxLenPrefix, Asn) {
     fn read(text: &str) -> Option<(MaxLenPrefix, Asn)> {
         let (prefix, asn) = cut(text, ' ');
         Some((MaxLenPrefix::read(prefix)?, Asn::from_str(asn).ok()?))
+    }
+}
+
+/// `PREFIX AS`.
+impl Entry for (Prefix, Asn) {
+    fn read(text: &str) -> Option<(Prefix, Asn)> {
+        let (prefix, asn) = cut(text, ' ');
+        Some((Prefix::from_str(prefix).ok()?, Asn::from_str(asn).ok()?))
     }
 }
 

@@ -1,5 +1,5 @@
 //! The answer to a line, by its command.
-use crate::{claims, outside, routes, triples};
+use crate::{claims, long, outside, payloads, route_lines, routes, triples};
 use rows_support::print::cut;
 use rows_support::refusals::Call;
 use std::alloc::{AllocError, Allocator};
@@ -22,7 +22,14 @@ impl Call for Line<'_> {
             "set" => triples::set(alloc, rest),
             "diff" => triples::difference(alloc, rest),
             "origin" => routes::answer(alloc, rest),
+            "changes" => routes::changes(alloc, rest),
+            "changed" => routes::changed(alloc, rest),
+            "long" => long::answer(alloc, kind, operands),
             "outside" => outside::answer(alloc, rest),
+            "route" => route_lines::answer_to_line(alloc, rest, false),
+            "why" => route_lines::answer_to_line(alloc, rest, true),
+            "payloads" => payloads::of_text(alloc, rest),
+            "octets" => payloads::of_octets(alloc, rest),
             _ => String::from_str(alloc, "no such command"),
         }
     }

@@ -1,17 +1,16 @@
-//! What a list of payloads, and a table of them, say of a route.
-use crate::entries;
+//! What a list of payloads, and a table of them, say of a route; a table after changes, and the routes that change.
+use crate::entries::{self, Entry};
 use roa_check::{Validity, origin};
 use roa_origin::OriginTable;
-use rows_support::print::cut;
+use rows_support::print::{self, cut};
 use rpki_base::Asn;
 use rpki_prefix::{MaxLenPrefix, Prefix};
 use std::alloc::{AllocError, Allocator};
-use std::str::FromStr;
 
 /// The answer to `origin ROUTE AS | PREFIX[-MAX] AS | ..`.
 pub fn answer<A: Allocator + Copy>(alloc: A, operands: &str) -> Result<String<A>, AllocError> {
     let (route, list) = cut(operands, '|');
-    let Some((prefix, asn)) = read_route(route.trim()) else {
+    let Some((prefix, asn)) = <(Prefix, Asn)>::read(route.trim()) else {
         return String::from_str(alloc, "no such route");
     };
     match entries::read::<(MaxLenPrefix, Asn), A>(alloc, list)? {
@@ -46,8 +45,122 @@ fn by_table<A: Allocator + Copy>(
     Ok(table.origin(route, asn))
 }
 
-/// The route that `PREFIX AS` writes.
-fn read_route(text: &str) -> Option<(Prefix, Asn)> {
-    let (prefix, asn) = cut(text, ' ');
-    Some((Prefix::from_str(prefix).ok()?, Asn::from_str(asn).ok()?))
+/// The answer to `changes PREFIX[-MAX] AS | .. ; ANNOUNCED | .. ; WITHDRAWN | ..`: the payloads of the table of the
+/// first after the changes.
+pub fn changes<A: Allocator + Copy>(alloc: A, operands: &str) -> Result<String<A>, AllocError> {
+    let (listed, changes) = cut(operands, ';');
+    match entries::read::<(MaxLenPrefix, Asn), A>(alloc, listed)? {
+        Some(payloads) => changes_of(alloc, &payloads, changes),
+        None => String::from_str(alloc, "no such payload"),
+    }
+}
+
+fn changes_of<A: Allocator + Copy>(
+    alloc: A,
+    payloads: &[(MaxLenPrefix, Asn)],
+    changes: &str,
+) -> Result<String<A>, AllocError> {
+    let (announced, withdrawn) = cut(changes, ';');
+    match entries::read::<(MaxLenPrefix, Asn), A>(alloc, announced)? {
+        Some(announced) => after_changes(alloc, payloads, &announced, withdrawn),
+        None => String::from_str(alloc, "no such announcement"),
+    }
+}
+
+fn after_changes<A: Allocator + Copy>(
+    alloc: A,
+    payloads: &[(MaxLenPrefix, Asn)],
+    announced: &[(MaxLenPrefix, Asn)],
+    withdrawn: &str,
+) -> Result<String<A>, AllocError> {
+    match entries::read::<(MaxLenPrefix, Asn), A>(alloc, withdrawn)? {
+        Some(withdrawn) => changed_table(alloc, payloads, announced, &withdrawn),
+        None => String::from_str(alloc, "no such withdrawal"),
+    }
+}
+
+fn changed_table<A: Allocator + Copy>(
+    alloc: A,
+    payloads: &[(MaxLenPrefix, Asn)],
+    announced: &[(MaxLenPrefix, Asn)],
+    withdrawn: &[(MaxLenPrefix, Asn)],
+) -> Result<String<A>, AllocError> {
+    let table = OriginTable::new(alloc, payloads)?;
+    match table.with_changes(alloc, announced, withdrawn) {
+        Ok(next) => listed(alloc, &next),
+        Err(fault) => print::refused(alloc, fault),
+    }
+}
+
+/// The payloads of a table.
+fn listed<A: Allocator + Copy>(alloc: A, table: &OriginTable<A>) -> Result<String<A>, AllocError> {
+    let mut text = String::new(alloc);
+    for (prefix, asn) in table.payloads() {
+        if !text.is_empty() {
+            text.push_str(" | ")?;
+        }
+        write!(text, "{prefix} {asn}")?;
+    }
+    Ok(text)
+}
+
+/// The answer to `changed PREFIX[-MAX] AS | .. ; PREFIX[-MAX] AS | .. ; ROUTE AS | ..`: the places of the routes whose
+/// validity differs by tables of the two lists.
+pub fn changed<A: Allocator + Copy>(alloc: A, operands: &str) -> Result<String<A>, AllocError> {
+    let (listed, others) = cut(operands, ';');
+    match entries::read::<(MaxLenPrefix, Asn), A>(alloc, listed)? {
+        Some(payloads) => changed_from(alloc, &payloads, others),
+        None => String::from_str(alloc, "no such payload"),
+    }
+}
+
+fn changed_from<A: Allocator + Copy>(
+    alloc: A,
+    payloads: &[(MaxLenPrefix, Asn)],
+    others: &str,
+) -> Result<String<A>, AllocError> {
+    let (listed, routes) = cut(others, ';');
+    match entries::read::<(MaxLenPrefix, Asn), A>(alloc, listed)? {
+        Some(next) => changed_between(alloc, payloads, &next, routes),
+        None => String::from_str(alloc, "no such payload"),
+    }
+}
+
+fn changed_between<A: Allocator + Copy>(
+    alloc: A,
+    payloads: &[(MaxLenPrefix, Asn)],
+    next: &[(MaxLenPrefix, Asn)],
+    routes: &str,
+) -> Result<String<A>, AllocError> {
+    match entries::read::<(Prefix, Asn), A>(alloc, routes)? {
+        Some(routes) => changed_routes(alloc, payloads, next, &routes),
+        None => String::from_str(alloc, "no such route"),
+    }
+}
+
+fn changed_routes<A: Allocator + Copy>(
+    alloc: A,
+    payloads: &[(MaxLenPrefix, Asn)],
+    next: &[(MaxLenPrefix, Asn)],
+    routes: &[(Prefix, Asn)],
+) -> Result<String<A>, AllocError> {
+    let old = OriginTable::new(alloc, payloads)?;
+    let new = OriginTable::new(alloc, next)?;
+    let places = roa_origin::changed(alloc, &old, &new, routes)?;
+    told(alloc, places.as_slice())
+}
+
+/// The places, or that there is none.
+fn told<A: Allocator + Copy>(alloc: A, places: &[usize]) -> Result<String<A>, AllocError> {
+    if places.is_empty() {
+        return String::from_str(alloc, "none");
+    }
+    let mut text = String::new(alloc);
+    for place in places {
+        if !text.is_empty() {
+            text.push_str(" ")?;
+        }
+        write!(text, "{place}")?;
+    }
+    Ok(text)
 }

@@ -48,7 +48,7 @@ fn of_sets<A: Allocator + Copy>(
 }
 
 /// The set that three lists write.
-fn read<A: Allocator + Copy>(
+pub fn read<A: Allocator + Copy>(
     alloc: A,
     lists: &str,
 ) -> Result<ResourceSet<A>, OrMemory<FromStrError>> {

@@ -1,0 +1,44 @@
+//! What a file of validated payloads writes.
+use hex::FromHexError;
+use payload_texts::read_payloads;
+use rows_support::print::{append, refused};
+use rpki_base::Asn;
+use rpki_prefix::MaxLenPrefix;
+use std::alloc::{AllocError, Allocator};
+
+/// The answer to `payloads TEXT`, in which `|` stands for the end of a line.
+pub fn of_text<A: Allocator + Copy>(alloc: A, text: &str) -> Result<String<A>, AllocError> {
+    let mut octets = Vec::new(alloc);
+    for octet in text.as_bytes() {
+        octets.push(if *octet == b'|' { b'\n' } else { *octet })?;
+    }
+    answer(alloc, &octets)
+}
+
+/// The answer to `octets HEX`.
+pub fn of_octets<A: Allocator + Copy>(alloc: A, text: &str) -> Result<String<A>, AllocError> {
+    match hex::decode(alloc, text) {
+        Ok(octets) => answer(alloc, &octets),
+        Err(FromHexError::OutOfMemory) => Err(AllocError),
+        Err(_) => String::from_str(alloc, "no hexadecimal"),
+    }
+}
+
+fn answer<A: Allocator + Copy>(alloc: A, file: &[u8]) -> Result<String<A>, AllocError> {
+    match read_payloads(alloc, file) {
+        Ok(payloads) => listed(alloc, &payloads),
+        Err(fault) => refused(alloc, fault),
+    }
+}
+
+fn listed<A: Allocator + Copy>(
+    alloc: A,
+    payloads: &[(MaxLenPrefix, Asn)],
+) -> Result<String<A>, AllocError> {
+    let mut list = String::new(alloc);
+    for (prefix, asn) in payloads {
+        append(&mut list, ", ", *prefix)?;
+        append(&mut list, " ", *asn)?;
+    }
+    Ok(list)
+}

@@ -1,0 +1,128 @@
+//! How much memory tables of payloads and sets of three kinds ask for.
+use crate::{entries, triples};
+use roa_origin::{OriginTable, PayloadTable};
+use rows_support::print::{cut, refused};
+use rows_support::requests::Asked;
+use rpki_base::Asn;
+use rpki_prefix::MaxLenPrefix;
+use rpki_resources::repository::resources::set::ResourceSet;
+use std::alloc::{AllocError, Global};
+use test_support::{Plan, Refusing};
+
+/// The answer to `requests CALL ..`. What a call makes is held until it has ended.
+pub fn answer(alloc: Global, operands: &str) -> Result<String, AllocError> {
+    let (call, rest) = cut(operands, ' ');
+    let counting = &Refusing::new(alloc, Plan::RefuseNone);
+    match call {
+        "table" | "payloads" => of_list(alloc, counting, call, rest),
+        "changes" => of_lists(alloc, counting, rest),
+        _ => of_triples(alloc, counting, call, rest),
+    }
+}
+
+/// `requests table PREFIX[-MAX] AS | ..` of a table that is asked for routes, `requests payloads ..` of a list that is
+/// sent to routers.
+fn of_list(
+    alloc: Global,
+    counting: &Refusing,
+    call: &str,
+    list: &str,
+) -> Result<String, AllocError> {
+    match entries::read::<(MaxLenPrefix, Asn), Global>(alloc, list)? {
+        Some(payloads) if call == "table" => of_table(alloc, counting, &payloads),
+        Some(payloads) => of_payloads(alloc, counting, &payloads),
+        None => String::from_str(alloc, "no such payload"),
+    }
+}
+
+fn of_table(
+    alloc: Global,
+    counting: &Refusing,
+    payloads: &[(MaxLenPrefix, Asn)],
+) -> Result<String, AllocError> {
+    let before = Asked::of(counting);
+    let _table = OriginTable::new(counting, payloads)?;
+    before.since(alloc, counting)
+}
+
+fn of_payloads(
+    alloc: Global,
+    counting: &Refusing,
+    payloads: &[(MaxLenPrefix, Asn)],
+) -> Result<String, AllocError> {
+    let before = Asked::of(counting);
+    let _table = PayloadTable::new(counting, payloads)?;
+    before.since(alloc, counting)
+}
+
+/// `requests changes LIST ; LIST` of what is sent from the one list to the other.
+fn of_lists(alloc: Global, counting: &Refusing, lists: &str) -> Result<String, AllocError> {
+    let (list, next) = cut(lists, ';');
+    let list = entries::read::<(MaxLenPrefix, Asn), Global>(alloc, list)?;
+    match (
+        list,
+        entries::read::<(MaxLenPrefix, Asn), Global>(alloc, next)?,
+    ) {
+        (Some(list), Some(next)) => of_changes(alloc, counting, &list, &next),
+        _ => String::from_str(alloc, "no such payload"),
+    }
+}
+
+fn of_changes(
+    alloc: Global,
+    counting: &Refusing,
+    list: &[(MaxLenPrefix, Asn)],
+    next: &[(MaxLenPrefix, Asn)],
+) -> Result<String, AllocError> {
+    let list = PayloadTable::new(counting, list)?;
+    let next = PayloadTable::new(counting, next)?;
+    let before = Asked::of(counting);
+    let _changes = list.changes_to(counting, &next)?;
+    before.since(alloc, counting)
+}
+
+/// `requests OPERATION A ; B ; C | D ; E ; F`, and `requests lists A ; B ; C` of the reading.
+fn of_triples(
+    alloc: Global,
+    counting: &Refusing,
+    call: &str,
+    operands: &str,
+) -> Result<String, AllocError> {
+    let (left, right) = cut(operands, '|');
+    let before = Asked::of(counting);
+    match triples::read(counting, left) {
+        Ok(_) if call == "lists" => before.since(alloc, counting),
+        Ok(set) => of_left(alloc, counting, call, &set, right),
+        Err(error) => refused(alloc, error),
+    }
+}
+
+fn of_left(
+    alloc: Global,
+    counting: &Refusing,
+    call: &str,
+    set: &ResourceSet<&Refusing>,
+    lists: &str,
+) -> Result<String, AllocError> {
+    match triples::read(counting, lists) {
+        Ok(other) => of_both(alloc, counting, call, set, &other),
+        Err(error) => refused(alloc, error),
+    }
+}
+
+fn of_both(
+    alloc: Global,
+    counting: &Refusing,
+    call: &str,
+    set: &ResourceSet<&Refusing>,
+    other: &ResourceSet<&Refusing>,
+) -> Result<String, AllocError> {
+    let before = Asked::of(counting);
+    match call {
+        "union" => set.union(counting, other).map(drop)?,
+        "intersection" => set.intersection(counting, other).map(drop)?,
+        "difference" => set.difference(counting, other).map(drop)?,
+        _ => return String::from_str(alloc, "no such call"),
+    }
+    before.since(alloc, counting)
+}

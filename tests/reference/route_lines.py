@@ -1,0 +1,77 @@
+"""Lines of routes, and what payloads answer to them (RFC 6811, 2)."""
+
+from typing import NamedTuple
+
+from . import asn, prefixes, texts
+from .faults import Fault
+from .prefixes import Payload, Prefix
+
+# Behind how many fields of a dump's line its path stands, by its first field.
+PATHS = {"TABLE_DUMP2": 6, "TABLE_DUMP2_AP": 7}
+PREFIX_PLACE = 5
+WORDS = {"Valid": "valid", "NotFound": "not-found"}
+
+
+class Route(NamedTuple):
+    """What is announced, and the AS that originates it, 0 where no AS does alone."""
+
+    prefix: Prefix
+    origin: int
+
+
+def _prefix(text: str) -> Prefix:
+    try:
+        return prefixes.read_prefix(text)
+    except Fault as fault:
+        raise Fault(f"invalid prefix: {fault}") from None
+
+
+def _origin_of(path: str) -> int:
+    last = texts.trim(path).split(" ")[-1]
+    if not last or (last[0] == "{" and last[-1] == "}"):
+        return 0
+    return asn.read_asn(last)
+
+
+def read_route(line: str) -> Route:
+    """The route that a line writes."""
+    line = texts.trim(line)
+    fields = line.split("|")
+    place = PATHS.get(fields[0])
+    if place is not None:
+        if len(fields) <= place:
+            raise Fault("too few fields")
+        return Route(_prefix(fields[PREFIX_PLACE]), _origin_of(fields[place]))
+    prefix, _, origin = line.partition(" ")
+    return Route(_prefix(texts.trim(prefix)), asn.read_asn(texts.trim(origin)))
+
+
+def _reason(route: Route, payload: Payload) -> str:
+    if payload.asn != route.origin or route.origin == 0:
+        return "as"
+    return "match" if route.prefix.length <= payload.prefix.resolved() else "length"
+
+
+def _told(route: Route, payload: Payload) -> str:
+    prefix = payload.prefix
+    return f" {_reason(route, payload)}:{prefix.prefix.text()}-{prefix.resolved()}:AS{payload.asn}"
+
+
+def _order(payload: Payload) -> tuple[int, int, int]:
+    return -payload.prefix.prefix.length, payload.asn, -payload.prefix.resolved()
+
+
+def answer(payloads: list[Payload], line: str, is_explained: bool) -> str:
+    """What payloads answer to a line, with what explains it or without."""
+    try:
+        route = read_route(line)
+    except Fault as fault:
+        return f"error: {fault}"
+    covering = [payload for payload in payloads if payload.prefix.prefix.covers(route.prefix)]
+    found = prefixes.validity(route.prefix, route.origin, payloads)
+    is_held = any(payload.asn == route.origin != 0 for payload in covering)
+    word = WORDS.get(found, "invalid-length" if is_held else "invalid-as")
+    if not is_explained:
+        return word
+    ordered = sorted(covering, key=_order)
+    return word + "".join(dict.fromkeys(_told(route, payload) for payload in ordered))

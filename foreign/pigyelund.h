@@ -12,14 +12,22 @@
  * ROOM. Each output is a room (pointer and length) and a place for a length. Where both outputs fit, both are written
  * at the front of their rooms, the lengths are those of the outputs, and nothing behind them is touched. Where one
  * doesn't fit the answer is PG_TOO_SMALL, neither room is touched, and the lengths say what is wanted: a second call
- * with rooms of these lengths doesn't answer PG_TOO_SMALL. Rooms of length 0 ask for the lengths alone. The library
- * keeps nothing between calls, hands out no memory, and frees all that it takes from malloc before it returns.
+ * with rooms of these lengths doesn't answer PG_TOO_SMALL. Rooms of length 0 ask for the lengths alone. But for tables
+ * the library keeps nothing between calls, hands out no memory, and frees all that it takes from malloc before it
+ * returns.
+ *
+ * TABLES. pg_table_new and pg_table_changed hand out a table of payloads, which lives until pg_table_free takes it
+ * back. A table never changes. Its handle is null where no table is told: the calls answer PG_NO_TABLE of null, and
+ * pg_table_free does nothing. What a caller owes of any other handle is said below.
  *
  * OWED by a caller, and tested by nothing:
  *
  * - Each pointer is that of an array of the length beside it, aligned as C wants it of the type (arrays of
- *   pg_certificate, pg_payload and pg_route, and the size_t that a length or a place is written to), and none is null,
- *   also at length 0. The inline functions below take null.
+ *   pg_certificate, pg_payload, pg_route and pg_covering, the size_t that a length or a place is written to, and the
+ *   place of a handle), and none is null, also at length 0. The inline functions below take null.
+ * - A handle that isn't null was told by pg_table_new or pg_table_changed, and not given to pg_table_free; and none is
+ *   given to it before each call that was given the same handle has returned. What it points to is nobody's to read or
+ *   to write.
  * - Outputs overlap neither inputs nor one another, and nothing else writes to inputs or outputs, nor reads outputs,
  *   until the call returns.
  * - malloc, realloc and free are those of one allocator, and a block is aligned to each power of two up to 16 that
@@ -28,7 +36,9 @@
  * - No call stands in a signal handler, or in the forked child of a process with threads.
  *
  * THREADS. Calls have no state in common, so any number may run at once where what is owed holds of each: inputs may be
- * shared, outputs may not. This was tested with eight threads, not proved.
+ * shared, outputs may not. This was tested with eight threads, not proved. Any number of threads may ask one table, and
+ * one may make the next from it meanwhile; whoever hands a handle to another thread orders that by a lock, by the start
+ * or join of a thread, or by a seq_cst atomic, and so the last call that has a handle before pg_table_free.
  */
 #ifndef PIGYELUND_H
 #define PIGYELUND_H
@@ -55,11 +65,15 @@ extern "C" {
 #define PG_BAD_FAMILY 13u   /* the family is neither PG_IPV4 nor PG_IPV6 */
 #define PG_BAD_PREFIX 14u   /* a length is above the family's, or bits of the address behind it are set */
 #define PG_BAD_MAX_LEN 15u  /* a greatest length is below the prefix's length, or above the family's */
+#define PG_NO_TABLE 16u     /* the handle is null */
+#define PG_UNKNOWN_WITHDRAWAL 17u     /* a payload is withdrawn that the table hasn't, or twice (RFC 8210, 12: 6) */
+#define PG_DUPLICATE_ANNOUNCEMENT 18u /* a payload is announced that the table has, or twice (RFC 8210, 12: 7) */
 #define PG_BAD_AS 0x100u    /* + number of the first fault: octets of AS identifiers are none */
 #define PG_BAD_IP 0x200u    /* + number of the first fault: octets of IP address blocks are none */
 #define PG_SECOND 0x1000u   /* + one of 0x1nn, 0x2nn: said of the certificate, and not of the issuer;
                                + one of these or 3: of the second set, and not of the first;
-                               + 13 or 14: of a route, and not of a payload */
+                               + 13 or 14: of a route, and not of a payload;
+                               + 13, 14 or 15: of a payload that is withdrawn, and not of one that is announced */
 #define PG_FAULT(s) ((s) & 0xffu) /* of a PG_BAD_AS or PG_BAD_IP: 1 truncated, 2 tag, 3 length, 4 integer,
                                      5 bit string, 6 NULL, 7 trailing data, 8 prefix, 9 family, 10 reversed range,
                                      11 no blocks, 12 family twice, 13 no family, 14 not canonical */
@@ -89,9 +103,14 @@ extern "C" {
 #define PG_NOT_FOUND 1u
 #define PG_INVALID 2u
 
+/* Why a payload that covers a route doesn't match it: its AS isn't the route's, or that is AS 0; the route is longer
+ * than it allows; or the sum. 0 where it matches. */
+#define PG_OTHER_AS 1u
+#define PG_TOO_LONG 2u
+
 /* The version of the calls of this header, and that of the library that is linked: it grows where a call is added, so
  * the library's may be greater. */
-#define PG_VERSION 3u
+#define PG_VERSION 4u
 uint32_t pg_version(void);
 
 /* What the issuer's set leaves of a certificate's claims: nothing of an absent extension or of a family that isn't in
@@ -150,6 +169,47 @@ typedef struct {
 uint32_t pg_origins(const pg_payload *payloads, size_t payload_count, const pg_route *routes, size_t route_count,
                     uint8_t *out, size_t room, size_t *len, size_t *place);
 
+/* A table of payloads that stays. */
+typedef struct pg_table pg_table;
+
+/* A payload of a table, as it is told: an IPv4 address is the first four octets, and those behind are 0; and why it
+ * doesn't match the route that it covers. */
+typedef struct {
+  uint8_t address[16];
+  uint32_t asn;
+  uint8_t family, len, max_len, mismatch;
+} pg_covering;
+
+/* The table of payloads, in any order, each as often as it comes. Where one is none the status is that of the first,
+ * as of pg_origins, and *place is its place; else *place is 0. *table is the handle, null with any status but PG_OK. */
+uint32_t pg_table_new(const pg_payload *payloads, size_t count, pg_table **table, size_t *place);
+
+/* The table that a table is after payloads are withdrawn and then others announced, as a router has it (RFC 8210, 5.6):
+ * another one, with a handle of its own; the one that is asked stays as it is. A payload that is listed more than once
+ * is withdrawn as often. Refusals come in this order: PG_NO_TABLE; the first payload that is none of those that are
+ * announced; of those that are withdrawn (PG_SECOND and its status); PG_UNKNOWN_WITHDRAWAL; PG_DUPLICATE_ANNOUNCEMENT.
+ * *place is the place of that payload in its array, counted from 0; else 0. *next is null with any status but PG_OK. */
+uint32_t pg_table_changed(const pg_table *table, const pg_payload *announced, size_t announced_count,
+                          const pg_payload *withdrawn, size_t withdrawn_count, pg_table **next, size_t *place);
+
+/* The validity of each route by a table, as pg_origins tells it, but that no table is made: a call for one route is
+ * cheap. PG_NO_TABLE comes before the first route that is none. */
+uint32_t pg_table_origins(const pg_table *table, const pg_route *routes, size_t count, uint8_t *out, size_t room,
+                          size_t *len, size_t *place);
+
+/* The payloads of a table that cover a route, which explain its validity: the longest prefix first, by one prefix the
+ * least AS number, and by one AS the longest greatest length. Rooms and lengths count payloads. Refusals come in this
+ * order: PG_NO_TABLE, PG_SECOND + PG_BAD_FAMILY, PG_SECOND + PG_BAD_PREFIX; *len is then 0, the room untouched. */
+uint32_t pg_table_covering(const pg_table *table, const pg_route *route, pg_covering *out, size_t room, size_t *len);
+
+/* How many payloads a table lists; and all of them: IPv4 before IPv6, then by the address, the shorter prefix first, by
+ * one prefix the greatest AS number, and by one AS the shortest greatest length. */
+uint32_t pg_table_len(const pg_table *table, size_t *len);
+uint32_t pg_table_payloads(const pg_table *table, pg_payload *out, size_t room, size_t *len);
+
+/* Takes a table back, or null. */
+void pg_table_free(pg_table *table);
+
 /* The answer of respath (README.md) to a line, both UTF-8 and without the end of a line. The status is PG_OK,
  * PG_TOO_SMALL or PG_MEMORY: what is wrong with a line is said by its answer. */
 uint32_t pg_answer(const uint8_t *line, size_t line_len, uint8_t *out, size_t room, size_t *len);
@@ -189,7 +249,7 @@ static inline const char *pg_status_text(uint32_t status) {
       PG_TEXTS("AS identifiers of the certificate or of the second set: "),
       PG_TEXTS("IP address blocks of the certificate or of the second set: ")};
 #undef PG_TEXTS
-  static const char *const others[16] = {"done",
+  static const char *const others[19] = {"done",
                                          "a room is too small",
                                          "out of memory",
                                          "inherited resources in place of a set",
@@ -204,15 +264,19 @@ static inline const char *pg_status_text(uint32_t status) {
                                          "unknown number of extensions",
                                          "unknown family",
                                          "bad prefix of a payload",
-                                         "bad greatest length of a payload"};
+                                         "bad greatest length of a payload",
+                                         "no table",
+                                         "withdrawal of an unknown payload",
+                                         "duplicate announcement of a payload"};
   uint32_t fault = PG_FAULT(status), kind = status - fault, second = kind >= PG_SECOND ? 1u : 0u;
   uint32_t octets = kind - second * PG_SECOND;
-  if (status < 16u) return others[status];
+  if (status < 19u) return others[status];
   if (octets == PG_BAD_AS || octets == PG_BAD_IP)
     if (fault >= 1u && fault <= 14u) return faults[2u * second + (octets == PG_BAD_IP ? 1u : 0u)][fault - 1u];
   if (status == PG_SECOND + PG_INHERITED) return "inherited resources in place of the second set";
-  if (status == PG_SECOND + PG_BAD_FAMILY) return "unknown family of a route";
-  if (status == PG_SECOND + PG_BAD_PREFIX) return "bad prefix of a route";
+  if (status == PG_SECOND + PG_BAD_FAMILY) return "unknown family of a route or of a withdrawn payload";
+  if (status == PG_SECOND + PG_BAD_PREFIX) return "bad prefix of a route or of a withdrawn payload";
+  if (status == PG_SECOND + PG_BAD_MAX_LEN) return "bad greatest length of a withdrawn payload";
   return "unknown status";
 }
 

@@ -19,6 +19,7 @@ from pathlib import Path
 TOP = Path(__file__).resolve().parent.parent
 PAGE = TOP / "docs" / "FOREIGN.md"
 CRATE = TOP / "crates" / "pigyelund_c"
+ROUTES = TOP / "crates" / "route_calls"
 # Which name in pigyelund.h is which one in the library's definitions.
 CHOICES = {
     "LENIENT": "encoding_number Any",
@@ -34,6 +35,8 @@ CHOICES = {
     "NOT_FOUND": "validity_number NotFound",
     "INVALID": "validity_number Invalid",
 }
+# Why a payload that covers a route doesn't match it: the first two cases of IsMismatch, and their sum is the third.
+MISMATCHES = {"OTHER_AS": 1, "TOO_LONG": 2}
 SOURCES = {"c": "program.c", "toml": "Cargo.toml", "rust": "src/main.rs", "python": "program.py"}
 
 
@@ -45,11 +48,16 @@ def stored() -> dict[str, int]:
 
 def of_library() -> dict[str, int]:
     """The library's own numbers: its statuses, those that choose, by their definitions, and its version."""
-    statuses = re.findall(r"^pub const (\w+): u32 = (\d+);$", (CRATE / "src" / "status.rt").read_text(), re.MULTILINE)
-    found = {name: int(number) for name, number in statuses}
-    specs = "".join((CRATE / "specs" / f"{name}.antt").read_text() for name in ("Numbers", "Origins"))
+    files = [crate / "src" / "status.rt" for crate in (CRATE, ROUTES)]
+    texts = "".join(file.read_text() for file in files)
+    found = {}
+    for name, number in re.findall(r"^pub const (\w+): u32 = (\d+);$", texts, re.MULTILINE):
+        if found.setdefault(name, int(number)) != int(number):
+            raise SystemExit(f"{name} has two numbers in {' and '.join(map(str, files))}")
+    named = (CRATE / "specs" / "Numbers", ROUTES / "specs" / "Families", ROUTES / "specs" / "Origins")
+    specs = "".join(file.with_suffix(".antt").read_text() for file in named)
     choices = dict(re.findall(r"^(\w+_number \w+) = (\d+)$", specs, re.MULTILINE))
-    found |= {name: int(choices[of]) for name, of in CHOICES.items()}
+    found |= {name: int(choices[of]) for name, of in CHOICES.items()} | MISMATCHES
     calls = (CRATE / "src" / "verify.rt").read_text()
     version = re.search(r"fn pg_version\(\) -> u32\s+ensures \{ result ≡ (\d+) \}", calls)
     return found | {"VERSION": int(version[1])} if version else found
@@ -71,7 +79,7 @@ def of_page(numbers: dict[str, int]) -> list[str]:
         if int(number, 0) != sum(numbers.get(name, -1) for name in names.split(" + "))
     ]
     told = {name for _, names in rows for name in names.split(" + ")}
-    missing = numbers.keys() - CHOICES.keys() - {"VERSION"} - told
+    missing = numbers.keys() - CHOICES.keys() - MISMATCHES.keys() - {"VERSION"} - told
     return faults + [f"{PAGE.name} has no status {name}" for name in sorted(missing)]
 
 

@@ -5,9 +5,10 @@ A row has a call and its numbers, joined by commas; four words that go in, in he
 octets; the status, the two words that are told, and how many certificates of a path are verified. What goes in are the
 two extensions of the issuer, of the first set or of the anchor, and then those of the certificate or of the second set;
 or a run of octets and the certificates of a path, each as six numbers; or payloads, 23 octets each, and routes, 22 each:
-address, AS number, family, length, greatest length. Of these the last word is the place of the first that is none. With
---write the file is written anew. Status 1
-where it differs.
+address, AS number, family, length, greatest length. Of these the last word is the place of the first that is none. Of a
+table the first word has its payloads; the third a route that is covered, whose answer has 24 octets for each payload, the
+last of them why it doesn't match; or the payloads that are announced, and the fourth those that are withdrawn: these are
+answered by all payloads of the next table. With --write the file is written anew. Status 1 where it differs.
 """
 
 import sys
@@ -31,6 +32,8 @@ Triple = tuple[Set, Set, Set]
 
 OK, INHERITED, BAD_MODE, OVERCLAIM_AS, NO, BAD_ENCODING = 0, 3, 4, 5, 8, 9
 ABSENT, OUTSIDE, BAD_PRESENT, BAD_FAMILY, BAD_PREFIX, BAD_MAX_LEN = 10, 11, 12, 13, 14, 15
+UNKNOWN_WITHDRAWAL, DUPLICATE_ANNOUNCEMENT = 17, 18
+OTHER_AS, TOO_LONG = 1, 2
 BAD_AS, BAD_IP, SECOND = 0x100, 0x200, 0x1000
 LENIENT, STRICT = 0, 1
 REFUSE, TRIM = 0, 1
@@ -78,6 +81,15 @@ class Status(Exception):
         super().__init__(number)
         self.number = number
         self.excess = excess
+
+
+class StatusAt(Exception):
+    """A refusal, and the place of what is none."""
+
+    def __init__(self, number: int, place: int) -> None:
+        super().__init__(number, place)
+        self.number = number
+        self.place = place
 
 
 def read_numbers(octets: bytes | None, strict: bool, base: int) -> Claim:
@@ -225,6 +237,75 @@ def origins_answer(question: Question) -> Answer:
     return Answer(OK, (bytes(found), b""), 0)
 
 
+def payload_octets(payload: prefixes.Payload) -> bytes:
+    """The octets that tell a payload."""
+    family, address, length = payload.prefix.prefix
+    octets = address.to_bytes(family.bits // 8, "big").ljust(16, b"\0") + payload.asn.to_bytes(4, "big")
+    return octets + bytes([1 if family is Family.V4 else 2, length, payload.prefix.resolved()])
+
+
+def table_place(payload: prefixes.Payload) -> tuple[int, ...]:
+    """Where a payload stands in a table: by family, address and length, the greatest AS number first, and then by the
+    greatest length."""
+    family, address, length = payload.prefix.prefix
+    return family.bits, address, length, -payload.asn, payload.prefix.resolved()
+
+
+def payloads_in(octets: bytes, base: int = 0) -> list[prefixes.Payload]:
+    """The payloads of an array; a status, and the place, where one is none."""
+    found = []
+    for place, each in enumerate(cut(octets, 23)):
+        try:
+            found.append(payload_of(each))
+        except Status as refusal:
+            raise StatusAt(base + refusal.number, place) from None
+    return found
+
+
+def covering_octets(route: bytes, payloads: list[prefixes.Payload]) -> bytes:
+    """The payloads that cover a route, the longest prefix first, and why each doesn't match it (RFC 6811, 2)."""
+    prefix, number = prefix_of(route, SECOND), int.from_bytes(route[16:20], "big")
+    found = sorted((one for one in payloads if one.prefix.prefix.covers(prefix)), key=table_place, reverse=True)
+    told = b""
+    for payload in found:
+        why = OTHER_AS * (payload.asn != number or number == 0) + TOO_LONG * (prefix.length > payload.prefix.resolved())
+        told += payload_octets(payload) + bytes([why])
+    return told
+
+
+def changed_payloads(
+    payloads: list[prefixes.Payload], announced: list[prefixes.Payload], withdrawn: list[prefixes.Payload]
+) -> list[prefixes.Payload]:
+    """The payloads that a router has after changes (RFC 8210, 5.6 and 12): withdrawals are looked at first."""
+    left = set(payloads)
+    for place, payload in enumerate(withdrawn):
+        if payload not in left:
+            raise StatusAt(UNKNOWN_WITHDRAWAL, place)
+        left.remove(payload)
+    for place, payload in enumerate(announced):
+        if payload in left:
+            raise StatusAt(DUPLICATE_ANNOUNCEMENT, place)
+        left.add(payload)
+    return [one for one in payloads if one in left and one not in announced] + announced
+
+
+def table_answer(question: Question) -> Answer:
+    """What is told of a table: what covers a route, its payloads, or those of the next one."""
+    try:
+        payloads = payloads_in(question.first[0])
+        match question.call:
+            case "covering":
+                return Answer(OK, (covering_octets(question.second[0], payloads), b""), 0)
+            case "changed":
+                announced, withdrawn = payloads_in(question.second[0]), payloads_in(question.second[1], SECOND)
+                payloads = changed_payloads(payloads, announced, withdrawn)
+        return Answer(OK, (b"".join(map(payload_octets, sorted(payloads, key=table_place))), b""), 0)
+    except StatusAt as refusal:
+        return Answer(refusal.number, (b"", b""), refusal.place)
+    except Status as refusal:
+        return Answer(refusal.number, (b"", b""), 0)
+
+
 def cut(octets: bytes, length: int) -> list[bytes]:
     """Octets in parts of a length."""
     return [octets[at : at + length] for at in range(0, len(octets), length)]
@@ -266,6 +347,8 @@ def answer(question: Question) -> Answer:
         return path_answer(question)
     if question.call == "origins":
         return origins_answer(question)
+    if question.call in ("covering", "payloads", "changed"):
+        return table_answer(question)
     try:
         return Answer(OK, told(question))
     except Status as refusal:
@@ -493,6 +576,53 @@ def of_origins() -> Iterator[Question]:
             yield asked([bad, *payloads], [bad[:22]])
 
 
+def of_tables() -> Iterator[Question]:
+    """What covers routes; payloads in a table's order; changes, and what is none of them, at each place."""
+    source = Random(8210)
+
+    def asked(call: str, payloads: list[bytes], *others: list[bytes]) -> Question:
+        second, fourth = (*map(b"".join, others), b"", b"")[:2]
+        return Question(call, (), (b"".join(payloads), b""), (second, fourth))
+
+    def distinct(count: int) -> list[bytes]:
+        """Payloads of which no two are the same."""
+        found: dict[prefixes.Payload, bytes] = {}
+        while len(found) < count:
+            octets = random_routed(source, True)
+            found.setdefault(payload_of(octets), octets)
+        return list(found.values())
+
+    for count in (0, 1, 2, 3, 5, 9, 40) * 4:
+        payloads = [random_routed(source, True) for _ in range(count)]
+        yield asked("payloads", payloads)
+        for _ in range(3):
+            yield asked("covering", payloads, [random_routed(source, False)])
+    for count in (1, 2, 4, 8, 24) * 4:
+        all_of = distinct(count + 4)
+        table, fresh = all_of[:count], all_of[count:]
+        gone = source.sample(table, source.randrange(count + 1))
+        yield asked("changed", table, fresh, gone)
+        yield asked("changed", table, fresh + gone[:1], gone)
+        yield asked("changed", table + gone, fresh, gone)
+        yield asked("changed", table, fresh, gone + fresh[:1])
+        yield asked("changed", table, fresh, [*gone, *gone[:1]])
+        yield asked("changed", table, fresh + [one for one in table if one not in gone][:1], gone)
+        yield asked("changed", table, fresh + fresh[:1], gone)
+        yield asked("changed", table, fresh + fresh[:1], gone + fresh[:1])
+    good, fine = routed(1, 10 << 24, 8, 64496, 24), routed(1, 10 << 24, 24, 64496)
+    chain = [routed(1, 0, length, asn, 24) for length in range(25) for asn in (0, 1, 2)]
+    for asn in range(3):
+        for length in (0, 24, 25, 32):
+            yield asked("covering", chain, [routed(1, 0, length, asn)])
+    for bad in (routed(0, 0, 0, 1, 0), routed(1, 1, 31, 1, 31), routed(1, 10 << 24, 8, 1, 33)):
+        yield asked("payloads", [good, bad])
+        yield asked("covering", [bad], [fine])
+        yield asked("covering", [good], [bad[:22]])
+        yield asked("changed", [good], [bad], [bad])
+        yield asked("changed", [good], [], [good, bad])
+        yield asked("changed", [good], [good, bad], [bad])
+
+
 def of_lines() -> Iterator[Question]:
     """Lines of each command, well-formed and damaged, and lines of none."""
     for line in (b"", b" ", b"\xff", b"norm", b"norm v5 0.0.0.0", b"cover as AS1", b"NORM as AS1", b"der as inherit\0"):
@@ -540,7 +670,7 @@ def joined(parts: Iterable[object], by: str) -> str:
 
 def rows() -> Iterator[str]:
     """The rows of the file."""
-    parts = of_certificates, of_absence, of_paths, of_sets, of_covers, of_origins, of_lines
+    parts = of_certificates, of_absence, of_paths, of_sets, of_covers, of_origins, of_tables, of_lines
     for question in (question for part in parts for question in part()):
         found = answer(question)
         words = [question.call, joined(question.numbers, ","), *map(hexadecimal, (*question.first, *question.second))]

@@ -35,7 +35,7 @@ ROOMS = (
     Room("all kinds, certificates", ("rpki_resources", "rpki_extensions"), 1),
     Room("origins of routes", ("roa_*", "payload_*", "origin_*", "origins*"), 6),
     Room("lines, respath", ("respath*", "lines_*"), 3, is_high=True),
-    Room("from C", ("pigyelund_c",), 0, is_high=True),
+    Room("from C", ("box_pointer", "route_calls", "pigyelund_c"), 0, is_high=True),
     Room("examples", ("example_*",)),
     Room("rows", ("rows_*",)),
     Room("tests", ("test_*",)),

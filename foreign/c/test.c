@@ -21,7 +21,7 @@ typedef struct {
   size_t length;
 } run;
 
-typedef enum { VERIFY, PATH, MAKE, TEST, COVER, ORIGINS, ANSWER } kind;
+typedef enum { VERIFY, PATH, MAKE, TEST, COVER, ANSWER, ORIGINS, COVERING, PAYLOADS, CHANGED } kind;
 
 /* one row: a call, its numbers, what goes in, and what is told */
 typedef struct {
@@ -32,9 +32,9 @@ typedef struct {
   uint32_t numbers[3], status;
   run in[4], told[2];
   pg_certificate *certificates;
-  pg_payload *payloads;
+  pg_payload *payloads, *announced, *withdrawn;
   pg_route *routes;
-  size_t count, route_count, verified;
+  size_t count, route_count, announced_count, withdrawn_count, verified;
 } question;
 
 static atomic_uint calls, faults;
@@ -98,29 +98,33 @@ static uint32_t read_asn(const uint8_t *octets) {
   return (uint32_t)octets[0] << 24 | (uint32_t)octets[1] << 16 | (uint32_t)octets[2] << 8 | octets[3];
 }
 
-/* payloads of 23 octets each, and routes of 22 */
-static void read_routes(question *q) {
-  q->count = q->in[0].length / 23;
-  q->route_count = q->in[2].length / 22;
-  q->payloads = (pg_payload *)(void *)block(q->count * sizeof(pg_payload));
-  q->routes = (pg_route *)(void *)block(q->route_count * sizeof(pg_route));
-  for (size_t i = 0; i < q->count; i++) {
-    const uint8_t *octets = q->in[0].octets + 23 * i;
-    pg_payload *payload = q->payloads + i;
-    memcpy(payload->address, octets, 16);
-    payload->asn = read_asn(octets + 16);
-    payload->family = octets[20];
-    payload->len = octets[21];
-    payload->max_len = octets[22];
+/* payloads of 23 octets each */
+static pg_payload *read_payloads(const run *in, size_t *count) {
+  pg_payload *found = (pg_payload *)(void *)block(in->length / 23 * sizeof *found);
+  *count = in->length / 23;
+  for (size_t i = 0; i < *count; i++) {
+    const uint8_t *octets = in->octets + 23 * i;
+    memcpy(found[i].address, octets, 16);
+    found[i].asn = read_asn(octets + 16);
+    found[i].family = octets[20];
+    found[i].len = octets[21];
+    found[i].max_len = octets[22];
   }
-  for (size_t i = 0; i < q->route_count; i++) {
-    const uint8_t *octets = q->in[2].octets + 22 * i;
-    pg_route *route = q->routes + i;
-    memcpy(route->address, octets, 16);
-    route->asn = read_asn(octets + 16);
-    route->family = octets[20];
-    route->len = octets[21];
+  return found;
+}
+
+/* and routes of 22 */
+static pg_route *read_routes(const run *in, size_t *count) {
+  pg_route *found = (pg_route *)(void *)block(in->length / 22 * sizeof *found);
+  *count = in->length / 22;
+  for (size_t i = 0; i < *count; i++) {
+    const uint8_t *octets = in->octets + 22 * i;
+    memcpy(found[i].address, octets, 16);
+    found[i].asn = read_asn(octets + 16);
+    found[i].family = octets[20];
+    found[i].len = octets[21];
   }
+  return found;
 }
 
 static void name_call(question *q, const char *call) {
@@ -130,7 +134,8 @@ static void name_call(question *q, const char *call) {
     pg_operation *operation;
     pg_test *test;
   } names[] = {{"verify", VERIFY, 0, 0}, {"path", PATH, 0, 0}, {"cover", COVER, 0, 0}, {"answer", ANSWER, 0, 0},
-               {"origins", ORIGINS, 0, 0}, {"union", MAKE, pg_union, 0}, {"intersection", MAKE, pg_intersection, 0},
+               {"origins", ORIGINS, 0, 0}, {"covering", COVERING, 0, 0}, {"payloads", PAYLOADS, 0, 0},
+               {"changed", CHANGED, 0, 0}, {"union", MAKE, pg_union, 0}, {"intersection", MAKE, pg_intersection, 0},
                {"difference", MAKE, pg_difference, 0}, {"contains", TEST, 0, pg_contains},
                {"equal", TEST, 0, pg_equal}};
   for (size_t i = 0; i < sizeof names / sizeof *names; i++)
@@ -191,6 +196,134 @@ static void ask(const question *q, size_t as_room, size_t ip_room) {
   expect(is_marked(ip, fits ? told[1].length : 0, ip_room), q->row, "octets behind those in the second room");
   free(as);
   free(ip);
+}
+
+/* ---- tables */
+
+static int is_of_table(const question *q) {
+  return q->call == ORIGINS || q->call == COVERING || q->call == PAYLOADS || q->call == CHANGED;
+}
+
+/* the octets that tell payloads, and what stands behind each */
+static uint8_t *put_payload(uint8_t *to, const uint8_t *address, uint32_t asn, const uint8_t *rest, size_t count) {
+  memcpy(to, address, 16);
+  for (int i = 0; i < 4; i++) to[16 + i] = (uint8_t)(asn >> (24 - 8 * i));
+  memcpy(to + 20, rest, count);
+  return to + 20 + count;
+}
+
+/* all payloads, with a room of each length up to what is wanted */
+static void ask_payloads(const question *q, const pg_table *table) {
+  size_t wanted = q->told[0].length / 23, len = ANY;
+  expect(pg_table_len(table, &len) == PG_OK && len == wanted, q->row, "another number of payloads");
+  for (size_t room = 0; room <= wanted + 1; room += room < wanted && wanted > SMALL ? wanted - room : 1) {
+    pg_payload *out = (pg_payload *)(void *)block(room * sizeof *out);
+    uint8_t *octets = block(room * 23), *at = octets;
+    int fits = wanted <= room;
+    len = ANY;
+    expect(pg_table_payloads(table, out, room, &len) == (fits ? PG_OK : PG_TOO_SMALL), q->row, "another status");
+    expect(len == wanted, q->row, "another length");
+    for (size_t i = 0; fits && i < len; i++) at = put_payload(at, out[i].address, out[i].asn, &out[i].family, 3);
+    expect(!fits || !memcmp(octets, q->told[0].octets, q->told[0].length), q->row, "other payloads");
+    expect(is_marked((uint8_t *)out, fits ? len * sizeof *out : 0, room * sizeof *out), q->row, "payloads behind");
+    free(out);
+    free(octets);
+    calls++;
+  }
+}
+
+/* what covers the first route */
+static void ask_covering(const question *q, const pg_table *table) {
+  size_t wanted = q->told[0].length / 24, len = ANY;
+  for (size_t room = 0; room <= wanted + 1; room++) {
+    pg_covering *out = (pg_covering *)(void *)block(room * sizeof *out);
+    uint8_t *octets = block(room * 24), *at = octets;
+    int fits = wanted <= room;
+    uint32_t found = pg_table_covering(table, q->routes, out, room, &len);
+    expect(found == (fits ? q->status : PG_TOO_SMALL), q->row, "another status");
+    expect(len == wanted, q->row, "another length");
+    for (size_t i = 0; fits && i < len; i++) at = put_payload(at, out[i].address, out[i].asn, &out[i].family, 4);
+    expect(!fits || !memcmp(octets, q->told[0].octets, q->told[0].length), q->row, "other payloads");
+    expect(is_marked((uint8_t *)out, fits ? len * sizeof *out : 0, room * sizeof *out), q->row, "payloads behind");
+    free(out);
+    free(octets);
+    calls++;
+  }
+}
+
+/* all routes, and then each alone */
+static void ask_origins(const question *q, const pg_table *table) {
+  size_t len = ANY, place = ANY, wanted = q->told[0].length;
+  uint8_t *out = block(wanted + 1);
+  uint32_t found = pg_table_origins(table, q->routes, q->route_count, out, wanted + 1, &len, &place);
+  expect(found == q->status && len == wanted && place == q->verified, q->row, "another status by a table");
+  expect(!memcmp(out, q->told[0].octets, wanted), q->row, "other validities by a table");
+  expect(is_marked(out, wanted, wanted + 1), q->row, "octets behind validities by a table");
+  if (wanted) {
+    memset(out, MARK, wanted);
+    found = pg_table_origins(table, q->routes, q->route_count, out, wanted - 1, &len, &place);
+    expect(found == PG_TOO_SMALL && len == wanted && place == 0, q->row, "another status of a small room");
+    expect(is_marked(out, 0, wanted), q->row, "octets in a small room");
+  }
+  for (size_t i = 0; i < wanted; i++) {
+    found = pg_table_origins(table, q->routes + i, 1, out, 1, &len, &place);
+    expect(found == PG_OK && len == 1 && out[0] == q->told[0].octets[i], q->row, "another validity alone");
+    calls++;
+  }
+  free(out);
+}
+
+/* a table of the payloads, unless one is none */
+static void ask_table(const question *q) {
+  pg_table *table = 0, *next = 0;
+  size_t place = ANY;
+  int is_none = q->status != PG_OK && q->status < PG_SECOND && q->call != CHANGED;
+  uint32_t found = pg_table_new(q->payloads, q->count, &table, &place);
+  calls++;
+  expect(found == (is_none ? q->status : PG_OK), q->row, "another status of a table");
+  expect(place == (is_none ? q->verified : 0), q->row, "another place of a table");
+  expect((table == 0) == is_none, q->row, "another handle");
+  if (table) {
+    if (q->call == ORIGINS) ask_origins(q, table);
+    if (q->call == COVERING) ask_covering(q, table);
+    if (q->call == PAYLOADS) ask_payloads(q, table);
+    if (q->call == CHANGED) {
+      size_t before = ANY, after = ANY;
+      pg_table_len(table, &before);
+      found = pg_table_changed(table, q->announced, q->announced_count, q->withdrawn, q->withdrawn_count, &next,
+                               &place);
+      expect(found == q->status && place == q->verified, q->row, "another status of changes");
+      expect((next == 0) == (q->status != PG_OK), q->row, "another handle after changes");
+      if (next) ask_payloads(q, next);
+      pg_table_len(table, &after);
+      expect(before == after && before == q->count, q->row, "the table has changed");
+    }
+  }
+  pg_table_free(next);
+  pg_table_free(table);
+}
+
+/* of null, each call but the first says that there is no table, and writes nothing */
+static void ask_null(void) {
+  uint8_t octet = MARK;
+  pg_payload payload = {0};
+  pg_covering covering = {0};
+  pg_route route = {0};
+  pg_table *next = (pg_table *)(void *)&octet;
+  size_t len = ANY, place = ANY;
+  pg_table_free(0);
+  expect(pg_table_origins(0, &route, 1, &octet, 1, &len, &place) == PG_NO_TABLE, 0, "origins of null");
+  expect(!len && !place, 0, "a length of null");
+  expect(octet == MARK, 0, "an octet of null");
+  len = ANY;
+  expect(pg_table_covering(0, &route, &covering, 1, &len) == PG_NO_TABLE && !len, 0, "what covers by null");
+  len = ANY;
+  expect(pg_table_len(0, &len) == PG_NO_TABLE && !len, 0, "the length of null");
+  len = ANY;
+  expect(pg_table_payloads(0, &payload, 1, &len) == PG_NO_TABLE && !len, 0, "payloads of null");
+  place = ANY;
+  expect(pg_table_changed(0, &payload, 1, &payload, 1, &next, &place) == PG_NO_TABLE, 0, "null is changed");
+  expect(!place && !next, 0, "a table after null");
 }
 
 /* with rooms of each length */
@@ -263,7 +396,12 @@ static question question_of(unsigned row, char **words) {
   read_numbers(&q, words[1]);
   for (int i = 0; i < 4; i++) q.in[i] = read_run(q.call == PATH && i == 3 ? "-" : words[2 + i]);
   read_certificates(&q, q.call == PATH ? words[5] : "-");
-  if (q.call == ORIGINS) read_routes(&q);
+  if (is_of_table(&q)) {
+    q.payloads = read_payloads(q.in, &q.count);
+    if (q.call == CHANGED) q.announced = read_payloads(q.in + 2, &q.announced_count);
+    if (q.call == CHANGED) q.withdrawn = read_payloads(q.in + 3, &q.withdrawn_count);
+    if (q.call != CHANGED) q.routes = read_routes(q.in + 2, &q.route_count);
+  }
   q.status = (uint32_t)strtoul(words[6], 0, 10);
   for (int i = 0; i < 2; i++) q.told[i] = read_run(words[7 + i]);
   q.verified = strtoul(words[9], 0, 10);
@@ -275,6 +413,8 @@ static void end_question(question *q) {
   for (int i = 0; i < 2; i++) free(q->told[i].octets);
   free(q->certificates);
   free(q->payloads);
+  free(q->announced);
+  free(q->withdrawn);
   free(q->routes);
 }
 
@@ -309,7 +449,8 @@ static void *ask_round(void *of) {
   const questions *q = (const questions *)of;
   for (unsigned i = 0; i < q->count; i++) {
     const question *one = q->all + (q->first + i) % q->count;
-    if (one->call == TEST) expect(call_in_short(one, 0) == one->status, one->row, "another status on a thread");
+    if (is_of_table(one)) ask_table(one);
+    else if (one->call == TEST) expect(call_in_short(one, 0) == one->status, one->row, "another status on a thread");
     else ask(one, one->told[0].length, one->told[1].length);
   }
   return 0;
@@ -348,9 +489,11 @@ int main(int count, char **words) {
   if (count != 2) return 2;
   expect(pg_version() == PG_VERSION, 0, "another version");
   ask_texts(words[1]);
+  ask_null();
   rows = read_rows(words[1]);
   for (unsigned i = 0; i < rows.count; i++) {
-    if (rows.all[i].call != TEST) ask_rooms(rows.all + i);
+    if (is_of_table(rows.all + i)) ask_table(rows.all + i);
+    if (rows.all[i].call != TEST && rows.all[i].call <= ORIGINS) ask_rooms(rows.all + i);
     ask_in_short(rows.all + i);
   }
   if (rows.count) ask_on_threads(rows);

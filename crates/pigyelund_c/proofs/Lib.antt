@@ -1,3 +1,2 @@
 pub mod CoverLemmas
-pub mod OriginLemmas
 pub mod PathLemmas

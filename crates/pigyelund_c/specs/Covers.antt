@@ -9,7 +9,8 @@ use Rattle.rpki_base.specs.declared.family.AddressFamily.{AddressFamily}
 use Rattle.rpki_base.specs.declared.family.AddressFamily.TheVariants.{Ipv4, Ipv6}
 use Rattle.rpki_resources.specs.Triples.{Triple, set_of_family}
 use Rattle.rpki_extensions.specs.declared.encoding.Encoding.{Encoding}
-use Rattle.pigyelund_c.specs.Numbers.{encoding_number, family_number}
+use Rattle.pigyelund_c.specs.Numbers.{encoding_number}
+use Rattle.route_calls.specs.Families.{family_number}
 use Rattle.pigyelund_c.specs.Sets.{IsNoSet, IsSet}
 use Rattle.pigyelund_c.specs.Statuses.{misasked_status, unread_status}
 use Rattle.pigyelund_c.specs.declared.cover.Uncovered.{Uncovered}

@@ -1,11 +1,9 @@
 pub mod Certificates
 pub mod Covers
 pub mod Numbers
-pub mod Origins
 pub mod PairStatuses
 pub mod Pairs
 pub mod Paths
-pub mod Routes
 pub mod Sets
 pub mod Statuses
 pub mod Unverified

@@ -4,8 +4,6 @@ use Rattle.rpki_chain.specs.declared.path.Overclaim.{Overclaim}
 use Rattle.rpki_chain.specs.declared.path.Overclaim.TheVariants.{Refuse, Trim}
 use Rattle.rpki_extensions.specs.declared.encoding.Encoding.{Encoding}
 use Rattle.rpki_extensions.specs.declared.encoding.Encoding.TheVariants.{Any, Canonical}
-use Rattle.rpki_base.specs.declared.family.AddressFamily.{AddressFamily}
-use Rattle.rpki_base.specs.declared.family.AddressFamily.TheVariants.{Ipv4, Ipv6}
 use Rattle.pigyelund_c.specs.declared.encodings.Present.{Present}
 use Rattle.pigyelund_c.specs.declared.encodings.Present.TheVariants.{Neither, Numbers, Addresses, Both}
 
@@ -23,11 +21,6 @@ present_number Neither = 0
 present_number Numbers = 1
 present_number Addresses = 2
 present_number Both = 3
-
--- as in IP address blocks (RFC 3779, 2.2.3.3)
-abbrev pub family_number : AddressFamily → ℕ
-family_number Ipv4 = 1
-family_number Ipv6 = 2
 
 -- the octets of AS identifiers, where these are there
 abbrev pub numbers_there : Present → List ℕ → Option (List ℕ)

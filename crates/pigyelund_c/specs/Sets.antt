@@ -1,10 +1,11 @@
 -- Sets of resources that cross as the values of the two extensions of RFC 3779.
-use Rattle.std.specs.Prelude.{◌≡◌, ◌⊎◌, ◌<◌, ℕ, List, [], ◌∷◌, ◌++◌, Option, Some, None, length, drop}
+use Rattle.std.specs.Prelude.{◌≡◌, ◌⊎◌, ◌<◌, ℕ, List, [], ◌∷◌, Option, Some, None, length}
 use Rattle.rpki_chain.specs.Claims.{Claim}
 use Rattle.rpki_resources.specs.Triples.{AreListed, IsOneInherited, Triple}
 use Rattle.rpki_extensions.specs.Claims.{AreAddressClaims, HasAddressesFault, HasNumbersFault, IsNumbersClaim}
 use Rattle.rpki_extensions.specs.Written.{written_addresses, written_numbers}
 use Rattle.rpki_extensions.specs.declared.encoding.Encoding.{Encoding}
+use Rattle.route_calls.specs.Told.{IsPut}
 use Rattle.pigyelund_c.specs.declared.refusal.Unread.{Unread}
 use Rattle.pigyelund_c.specs.declared.refusal.Unread.TheVariants.{Numbers, Addresses, Inherited}
 
@@ -53,10 +54,6 @@ as_value t = octets_or_none (written_numbers t.asn)
 abbrev pub ip_value : Triple → List ℕ
 ip_value t = octets_or_none (written_addresses t.ipv4 t.ipv6)
 
--- octets stand at the front of a room, and what was behind them is as it was
-abbrev pub IsPut : List ℕ → List ℕ → List ℕ → Type 0
-IsPut octets before after = after ≡ octets ++ drop (length octets) before
-
 -- a status and a set are told: written whole, or not at all, and then with status 1 and the lengths that are wanted, or
 -- with status 2
 abbrev pub IsTold : ℕ → Triple → List ℕ → List ℕ → List ℕ → List ℕ → ℕ → ℕ → ℕ → Type 0
@@ -67,16 +64,3 @@ IsTold status set as_before ip_before as_after ip_after as_len ip_len result =
     × ((length as_before < as_len) ⊎ (length ip_before < ip_len)))
     ⊎ ((result ≡ status) × IsPut (as_value set) as_before as_after × IsPut (ip_value set) ip_before ip_after
     × (as_len ≡ length (as_value set)) × (ip_len ≡ length (ip_value set))))
-
--- octets are told: written whole, or not at all, and then with status 1; the length is theirs
-abbrev pub AreOctetsTold : List ℕ → List ℕ → List ℕ → ℕ → ℕ → Type 0
-AreOctetsTold octets before after len result =
-    (len ≡ length octets)
-    × (((result ≡ 1) × (after ≡ before) × (length before < len)) ⊎ ((result ≡ 0) × IsPut octets before after))
-
--- an answer is told of which P holds; or the status of a reason for which N holds, or 2, and nothing is written
-abbrev pub IsAnswered : (R : Type 0) → (List ℕ → Type 0) → (R → ℕ) → (R → Type 0) → List ℕ → List ℕ → ℕ → ℕ → Type 0
-IsAnswered R P status N before after len result =
-    ((octets : List ℕ) × P octets × AreOctetsTold octets before after len result)
-    ⊎ (((reason : R) × N reason × (result ≡ status reason) × (after ≡ before) × (len ≡ 0))
-    ⊎ ((result ≡ 2) × (after ≡ before) × (len ≡ 0)))

@@ -5,7 +5,8 @@ ghost use Rattle.rpki_base.specs.declared.family.AddressFamily.TheVariants.{Ipv4
 ghost use Rattle.pigyelund_c.specs.Covers.{IsCoverIn, IsCover, IsNoCover, AreCoverOctets, prefix_octets, uncovered_status};
 ghost use Rattle.pigyelund_c.specs.Sets.{IsNoSet};
 
-use crate::encodings::{encoding_of, family_of};
+use crate::encodings::encoding_of;
+use route_calls::family::family_of;
 use crate::read::set_of;
 use crate::refusal::{Misasked, Unread};
 use rpki_extensions::encoding::Encoding;

@@ -1,11 +1,11 @@
 //! The export of shortest covers.
 ghost use Rattle.pigyelund_c.specs.Covers.{IsCover, IsNoCover, uncovered_status};
-ghost use Rattle.pigyelund_c.specs.Sets.{IsAnswered};
+ghost use Rattle.route_calls.specs.Told.{IsAnswered};
 ghost use Rattle.pigyelund_c.specs.declared.cover.Uncovered.{Uncovered};
 
 use crate::cover::cover;
 use crate::status;
-use crate::tell::tell_octets;
+use route_calls::tell::tell_items;
 use rpki_resources::OrMemory;
 use std::alloc::Global;
 
@@ -27,7 +27,7 @@ pub extern "C" fn pg_cover(
         (IsNoCover ip.now encoding family) out.old out.new len.new result }
 {
     match cover(alloc, ip, encoding, family) {
-        Ok(octets) => tell_octets(octets.as_slice(), out, len),
+        Ok(octets) => tell_items(octets.as_slice(), out, len),
         Err(OrMemory::Refused(reason)) => {
             *len = 0;
             reason.status()

@@ -1,14 +1,13 @@
-//! Numbers that choose: how octets are read, what becomes of a claim that lists too much, which extensions are there,
-//! and a family.
+//! Numbers that choose: how octets are read, what becomes of a claim that lists too much, and which extensions are
+//! there.
 ghost use Rattle.std.specs.Prelude.{◌≡◌, ◌≢◌, MatchOption, option_map};
 ghost use Rattle.rpki_chain.specs.declared.path.Overclaim.{Overclaim as Mode};
 ghost use Rattle.rpki_extensions.specs.declared.encoding.Encoding.{Encoding as Way};
-ghost use Rattle.rpki_base.specs.declared.family.AddressFamily.{AddressFamily as Family};
-ghost use Rattle.pigyelund_c.specs.Numbers.{addresses_there, encoding_number, family_number, mode_number, numbers_there, present_number};
+ghost use Rattle.pigyelund_c.specs.Numbers.{addresses_there, encoding_number, mode_number, numbers_there, present_number};
 ghost use Rattle.pigyelund_c.specs.declared.encodings.Present.{Present as There};
 
 use rpki_extensions::encoding::Encoding;
-use rpki_resources::repository::resources::{AddressFamily, Overclaim};
+use rpki_resources::repository::resources::Overclaim;
 
 /// Which extensions a certificate has.
 #[derive(Clone, Copy)]
@@ -79,19 +78,6 @@ pub(crate) fn present_of(number: u32) -> Option<Present>
         1 => Some(Present::Numbers),
         2 => Some(Present::Addresses),
         3 => Some(Present::Both),
-        _ => None,
-    }
-}
-
-/// The family that a number chooses, as it is numbered in IP address blocks (RFC 3779, 2.2.3.3). None where it is of
-/// none.
-pub(crate) fn family_of(number: u32) -> Option<AddressFamily>
-    ensures { MatchOption result ((family : Family) → number ≢ family_number family)
-        (λ family. number ≡ family_number family) }
-{
-    match number {
-        1 => Some(AddressFamily::Ipv4),
-        2 => Some(AddressFamily::Ipv6),
         _ => None,
     }
 }

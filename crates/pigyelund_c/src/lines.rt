@@ -1,10 +1,10 @@
 //! The export of the answers of `respath`.
 ghost use Rattle.std.specs.Prelude.{◌≡◌, ◌⊎◌, ℕ, List};
 ghost use Rattle.respath_lines.specs.Answer.{IsAnswer};
-ghost use Rattle.pigyelund_c.specs.Sets.{AreOctetsTold};
+ghost use Rattle.route_calls.specs.Told.{AreTold};
 
 use crate::status;
-use crate::tell::tell_octets;
+use route_calls::tell::tell_items;
 use respath_lines::answer;
 use std::alloc::Global;
 
@@ -14,11 +14,11 @@ use std::alloc::Global;
 #[unsafe(no_mangle)]
 pub extern "C" fn pg_answer(alloc: Global, line: &[u8], out: &mut [u8], len: &mut usize) -> u32
     ensures { ((text : List ℕ) × IsAnswer line.now text
-        × AreOctetsTold text out.old out.new len.new result)
+        × AreTold text out.old out.new len.new result)
         ⊎ ((result ≡ 2) × (out.new ≡ out.old) × (len.new ≡ 0)) }
 {
     match answer(alloc, line) {
-        Ok(text) => tell_octets(text.as_bytes(), out, len),
+        Ok(text) => tell_items(text.as_bytes(), out, len),
         Err(_) => {
             *len = 0;
             status::MEMORY

@@ -1,10 +1,10 @@
 //! The export of route origins.
-ghost use Rattle.pigyelund_c.specs.Origins.{AreOriginsTold};
+ghost use Rattle.route_calls.specs.Origins.{AreOriginsTold};
 
-use crate::origin::origins;
-use crate::route::{Payload, Route};
+use route_calls::origin::origins;
+use route_calls::route::{Payload, Route};
 use crate::status;
-use crate::tell::tell_octets;
+use route_calls::tell::tell_items;
 use rpki_resources::OrMemory;
 use std::alloc::Global;
 
@@ -27,7 +27,7 @@ pub extern "C" fn pg_origins(
 {
     *place = 0;
     match origins(alloc, payloads, routes) {
-        Ok(octets) => tell_octets(octets.as_slice(), out, len),
+        Ok(octets) => tell_items(octets.as_slice(), out, len),
         Err(OrMemory::Refused(reason)) => {
             *len = 0;
             *place = reason.place();

@@ -1,4 +1,5 @@
-//! What calls answer. A number, once it is given out, never changes its meaning.
+//! What calls answer. A number, once it is given out, never changes its meaning; those of routes and tables stand in
+//! `route_calls`.
 
 /// It is done.
 pub const OK: u32 = 0;
@@ -28,10 +29,8 @@ pub const OUTSIDE: u32 = 11;
 pub const BAD_PRESENT: u32 = 12;
 /// The number of a family is none.
 pub const BAD_FAMILY: u32 = 13;
-/// An address and a length are no prefix.
-pub const BAD_PREFIX: u32 = 14;
-/// A greatest length is none of its prefix.
-pub const BAD_MAX_LEN: u32 = 15;
+/// The handle of a table is null.
+pub const NO_TABLE: u32 = 16;
 /// The octets of AS identifiers are none: this and the number of their first fault.
 pub const BAD_AS: u32 = 256;
 /// The octets of IP address blocks are none: this and the number of their first fault.

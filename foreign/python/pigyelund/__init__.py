@@ -13,9 +13,10 @@ from ipaddress import IPv4Network, IPv6Network
 from typing import NamedTuple
 
 from . import raw
-from .raw import Family, Operation, Payload, Present, Rooms, Route, Status, Test, Told
+from .raw import Family, Mismatch, Operation, Payload, Present, Rooms, Route, Status, Test, Told
 from .reasons import (
     Absent,
+    BadChange,
     BadNumber,
     BadOctets,
     BadOrigin,
@@ -27,17 +28,21 @@ from .reasons import (
     refused,
     status_text,
 )
+from .table import Covering, Table, Validity
 
 __all__ = [
     "Absent",
+    "BadChange",
     "BadNumber",
     "BadOctets",
     "BadOrigin",
     "Certificate",
+    "Covering",
     "Encoding",
     "Extensions",
     "Family",
     "Inherited",
+    "Mismatch",
     "Mode",
     "NoMemory",
     "Operation",
@@ -48,6 +53,7 @@ __all__ = [
     "Resources",
     "Route",
     "Status",
+    "Table",
     "Test",
     "Validity",
     "raw",
@@ -67,14 +73,6 @@ class Mode(IntEnum):
 
     REFUSE = 0
     TRIM = 1
-
-
-class Validity(IntEnum):
-    """What payloads say of a route (RFC 6811, 2)."""
-
-    VALID = 0
-    NOT_FOUND = 1
-    INVALID = 2
 
 
 class Extensions(NamedTuple):
@@ -161,6 +159,10 @@ class Pigyelund:
         if told.status != Status.OK:
             raise refused(told.status, place=told.number)
         return [Validity(octet) for octet in told.held[0]]
+
+    def table(self, payloads: object) -> Table:
+        """A table of payloads, in any order, which stays until it is closed. `BadOrigin` where one is none."""
+        return Table(self.raw, payloads)
 
     def answer(self, line: str) -> str:
         """The answer of respath to a line. `NoMemory` where there is no memory for it."""

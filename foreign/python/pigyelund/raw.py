@@ -3,8 +3,8 @@ in a run of octets. Nothing is refused here but a number that its parameter has 
 
 import ctypes
 import os
-from enum import Enum, IntEnum
-from ipaddress import IPv4Network, IPv6Network
+from enum import Enum, IntEnum, IntFlag
+from ipaddress import IPv4Network, IPv6Network, ip_network
 from pathlib import Path
 from typing import NamedTuple
 
@@ -30,9 +30,20 @@ class Status(IntEnum):
     BAD_FAMILY = 13
     BAD_PREFIX = 14
     BAD_MAX_LEN = 15
+    NO_TABLE = 16
+    UNKNOWN_WITHDRAWAL = 17
+    DUPLICATE_ANNOUNCEMENT = 18
     BAD_AS = 0x100
     BAD_IP = 0x200
     SECOND = 0x1000
+
+
+class Mismatch(IntFlag):
+    """Why a payload that covers a route doesn't match it: its AS isn't the route's, or that is AS 0; the route is longer
+    than it allows. None of these where it matches."""
+
+    OTHER_AS = 1
+    TOO_LONG = 2
 
 
 class Present(IntEnum):
@@ -111,6 +122,19 @@ class Payload(Fields):
         length = prefix.prefixlen if max_len is None else max_len
         return cls(address_of(prefix), asn, family_of(prefix), prefix.prefixlen, length)
 
+    @property
+    def prefix(self) -> IPv4Network | IPv6Network:
+        """The prefix. `ValueError` where it is none."""
+        octets = bytes(self.address)[: 4 if self.family == Family.V4 else 16]
+        return ip_network((octets, self.len))
+
+
+class Covering(Fields):
+    """A payload that covers a route, and why it doesn't match it."""
+
+    _fields_ = [*Payload._fields_, ("mismatch", ctypes.c_uint8)]
+    prefix = Payload.prefix
+
 
 class Route(Fields):
     """The prefix that a route leads to, and the AS that originates it: 0 where the path ends in an AS_SET, so that no
@@ -145,6 +169,32 @@ class Told(NamedTuple):
     lengths: Rooms
     held: Pair
     number: int | None = None
+
+
+class TableTold(NamedTuple):
+    """The status, the handle of a table, None where there is none, and the place of what is none."""
+
+    status: int
+    table: int | None
+    place: int
+
+
+def array_of(kind: type[Fields], given: object) -> tuple[object, int]:
+    """An array of elements that are given, and how many they are: a sequence of such, or an object with the buffer
+    protocol, whose octets are such elements side by side as C lays them out. `ValueError` where they end in one."""
+    if isinstance(given, ctypes.Array) and given._type_ is kind:
+        return given, len(given)
+    try:
+        octets = memoryview(given).cast("B")  # type: ignore[arg-type]
+    except TypeError:
+        listed = list(given)  # type: ignore[call-overload]
+        return (kind * max(len(listed), 1))(*listed), len(listed)
+    count, rest = divmod(octets.nbytes, ctypes.sizeof(kind))
+    if rest:
+        raise ValueError(f"{octets.nbytes} octets of elements of {ctypes.sizeof(kind)}")
+    held = (kind * max(count, 1))()
+    ctypes.memmove(held, (ctypes.c_char * max(octets.nbytes, 1)).from_buffer_copy(octets.tobytes() or b"\0"), octets.nbytes)
+    return held, count
 
 
 def words_of(*sets: Pair) -> list[object]:
@@ -182,11 +232,22 @@ class Library:
             ],
             "pg_answer": [*octets[:2], *room],
         }
+        table, place = ctypes.c_void_p, ctypes.POINTER(size)
+        payloads, given = [ctypes.c_void_p, size], ctypes.POINTER(ctypes.c_void_p)
+        calls |= {
+            "pg_table_new": [*payloads, given, place],
+            "pg_table_changed": [table, *payloads, *payloads, given, place],
+            "pg_table_origins": [table, ctypes.c_void_p, size, *room, place],
+            "pg_table_covering": [table, ctypes.POINTER(Route), *room],
+            "pg_table_len": [table, place],
+            "pg_table_payloads": [table, *room],
+        }
         calls |= {call.value: [*octets, number, *rooms] for call in Operation}
         calls |= {call.value: [*octets, number] for call in Test}
         for name, words in calls.items():
             call = getattr(self._library, name)
             call.restype, call.argtypes = number, words
+        self._library.pg_table_free.restype, self._library.pg_table_free.argtypes = None, [table]
 
     def _call(self, name: str, words: list[object]) -> int:
         """One call: the status. `OverflowError` where a number has more bits than its parameter."""
@@ -241,6 +302,48 @@ class Library:
         asked = (Route * max(len(routes), 1))(*routes)
         words = [listed, len(payloads), asked, len(routes)]
         return self._told_once("pg_origins", words, room, ctypes.c_size_t())
+
+    def table_new(self, payloads: object, count: int) -> TableTold:
+        """`pg_table_new` of an array of payloads."""
+        return self._table_told("pg_table_new", [payloads, count])
+
+    def table_changed(
+        self, table: int | None, announced: object, announced_count: int, withdrawn: object, withdrawn_count: int
+    ) -> TableTold:
+        """`pg_table_changed` of two arrays of payloads."""
+        words = [table, announced, announced_count, withdrawn, withdrawn_count]
+        return self._table_told("pg_table_changed", words)
+
+    def _table_told(self, name: str, words: list[object]) -> TableTold:
+        """One call that hands out a table."""
+        table, place = ctypes.c_void_p(), ctypes.c_size_t()
+        status = self._call(name, [*words, ctypes.byref(table), ctypes.byref(place)])
+        return TableTold(status, table.value, place.value)
+
+    def table_origins(self, table: int | None, routes: object, count: int, room: int) -> Told:
+        """`pg_table_origins` of an array of routes with a room of this length, and the place that it tells."""
+        return self._told_once("pg_table_origins", [table, routes, count], room, ctypes.c_size_t())
+
+    def table_covering(self, table: int | None, route: Route, room: int) -> tuple[int, list[Covering], int]:
+        """`pg_table_covering` with a room for so many: the status, what the room holds, and the length."""
+        held, length = (Covering * max(room, 1))(), ctypes.c_size_t()
+        status = self._call("pg_table_covering", [table, ctypes.byref(route), held, room, ctypes.byref(length)])
+        return status, held[:room], length.value
+
+    def table_len(self, table: int | None) -> tuple[int, int]:
+        """`pg_table_len`: the status, and the length."""
+        length = ctypes.c_size_t()
+        return self._call("pg_table_len", [table, ctypes.byref(length)]), length.value
+
+    def table_payloads(self, table: int | None, room: int) -> tuple[int, list[Payload], int]:
+        """`pg_table_payloads` with a room for so many: the status, what the room holds, and the length."""
+        held, length = (Payload * max(room, 1))(), ctypes.c_size_t()
+        status = self._call("pg_table_payloads", [table, held, room, ctypes.byref(length)])
+        return status, held[:room], length.value
+
+    def table_free(self, table: int | None) -> None:
+        """`pg_table_free`."""
+        self._library.pg_table_free(table)
 
     def answer(self, line: bytes, room: int) -> Told:
         """`pg_answer` with a room of this length."""

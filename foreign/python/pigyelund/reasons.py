@@ -29,9 +29,13 @@ TEXTS = {
     Status.BAD_FAMILY: "unknown family",
     Status.BAD_PREFIX: "bad prefix of a payload",
     Status.BAD_MAX_LEN: "bad greatest length of a payload",
+    Status.NO_TABLE: "no table",
+    Status.UNKNOWN_WITHDRAWAL: "withdrawal of an unknown payload",
+    Status.DUPLICATE_ANNOUNCEMENT: "duplicate announcement of a payload",
     Status.SECOND + Status.INHERITED: "inherited resources in place of the second set",
-    Status.SECOND + Status.BAD_FAMILY: "unknown family of a route",
-    Status.SECOND + Status.BAD_PREFIX: "bad prefix of a route",
+    Status.SECOND + Status.BAD_FAMILY: "unknown family of a route or of a withdrawn payload",
+    Status.SECOND + Status.BAD_PREFIX: "bad prefix of a route or of a withdrawn payload",
+    Status.SECOND + Status.BAD_MAX_LEN: "bad greatest length of a withdrawn payload",
 }
 FAULTS = (
     "truncated",
@@ -110,6 +114,10 @@ class BadOrigin(Refused):
     """A payload or a route is none: the place of the first one."""
 
 
+class BadChange(BadOrigin):
+    """A payload is withdrawn that the table hasn't, or announced that it has, or twice: the place of the first one."""
+
+
 class BadNumber(Refused):
     """A number that chooses is none: of an encoding, a mode, a family, of extensions, or the place of octets."""
 
@@ -137,5 +145,6 @@ def refused(
     if status & ~Status.SECOND & 0xF00 in (Status.BAD_AS, Status.BAD_IP):
         kind = BadOctets
     elif place is not None and kind is not NoMemory:
-        kind = BadOrigin
+        is_change = status in (Status.UNKNOWN_WITHDRAWAL, Status.DUPLICATE_ANNOUNCEMENT)
+        kind = BadChange if is_change else BadOrigin
     return kind(status, excess, verified, None if kind is NoMemory else place)

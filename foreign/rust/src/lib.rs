@@ -22,9 +22,11 @@ extern crate alloc;
 
 pub mod raw;
 mod reason;
+mod table;
 
 pub use raw::{version, Octets, Operation, Payload, Route, Test};
 pub use reason::{Fault, Reason, Refused, RefusedOrigin, RefusedPath, Side};
+pub use table::{Covering, Table};
 
 use alloc::string::String;
 use alloc::vec::Vec;
@@ -266,6 +268,15 @@ pub fn cover(ip: &[u8], encoding: Encoding, family: Family) -> Result<Vec<Prefix
     Ok(prefixes.collect())
 }
 
+/// The validity of an octet that is told.
+fn validity_of(octet: u8) -> Validity {
+    match u32::from(octet) {
+        raw::VALID => Validity::Valid,
+        raw::NOT_FOUND => Validity::NotFound,
+        _ => Validity::Invalid,
+    }
+}
+
 /// The validity of each route by the payloads.
 pub fn origins(payloads: &[Payload], routes: &[Route]) -> Result<Vec<Validity>, RefusedOrigin> {
     let mut octets = alloc::vec![0; routes.len()];
@@ -274,12 +285,7 @@ pub fn origins(payloads: &[Payload], routes: &[Route]) -> Result<Vec<Validity>, 
         let reason = Reason::of_status(status);
         return Err(RefusedOrigin { reason, place });
     }
-    let validities = octets.iter().map(|octet| match u32::from(*octet) {
-        raw::VALID => Validity::Valid,
-        raw::NOT_FOUND => Validity::NotFound,
-        _ => Validity::Invalid,
-    });
-    Ok(validities.collect())
+    Ok(octets.into_iter().map(validity_of).collect())
 }
 
 /// The answer of `respath` to a line, without the end of a line. Memory alone is a reason why there is none: what is

@@ -37,11 +37,18 @@ pub const BAD_FAMILY: u32 = 13;
 pub const BAD_PREFIX: u32 = 14;
 /// The greatest length is none of its prefix.
 pub const BAD_MAX_LEN: u32 = 15;
+/// The handle of a table is null.
+pub const NO_TABLE: u32 = 16;
+/// A payload is withdrawn that the table hasn't, or twice.
+pub const UNKNOWN_WITHDRAWAL: u32 = 17;
+/// A payload is announced that the table has, or twice.
+pub const DUPLICATE_ANNOUNCEMENT: u32 = 18;
 /// With the number of the first fault added: octets of AS identifiers are none.
 pub const BAD_AS: u32 = 0x100;
 /// With the number of the first fault added: octets of IP address blocks are none.
 pub const BAD_IP: u32 = 0x200;
-/// Added to another status: it is said of the certificate, of the second set, or of a route.
+/// Added to another status: it is said of the certificate, of the second set, of a route, or of a payload that is
+/// withdrawn.
 pub const SECOND: u32 = 0x1000;
 
 /// Octets that the syntax allows, in any order.
@@ -68,6 +75,10 @@ pub const VALID: u32 = 0;
 pub const NOT_FOUND: u32 = 1;
 /// One covers it, and none matches it.
 pub const INVALID: u32 = 2;
+/// The AS of a payload that covers a route isn't the route's, or that is AS 0.
+pub const OTHER_AS: u32 = 1;
+/// The route is longer than the payload allows.
+pub const TOO_LONG: u32 = 2;
 
 /// A call that makes a set of two: pointers and lengths of both, the encoding, both rooms, and the lengths that are
 /// told.
@@ -207,6 +218,45 @@ extern "C" {
         len: *mut usize,
         place: *mut usize,
     ) -> u32;
+    fn pg_table_new(
+        payloads: *const Payload,
+        count: usize,
+        table: *mut *mut Handle,
+        place: *mut usize,
+    ) -> u32;
+    fn pg_table_changed(
+        table: *const Handle,
+        announced: *const Payload,
+        announced_count: usize,
+        withdrawn: *const Payload,
+        withdrawn_count: usize,
+        next: *mut *mut Handle,
+        place: *mut usize,
+    ) -> u32;
+    fn pg_table_origins(
+        table: *const Handle,
+        routes: *const Route,
+        count: usize,
+        out: *mut u8,
+        room: usize,
+        len: *mut usize,
+        place: *mut usize,
+    ) -> u32;
+    fn pg_table_covering(
+        table: *const Handle,
+        route: *const Route,
+        out: *mut Covering,
+        room: usize,
+        len: *mut usize,
+    ) -> u32;
+    fn pg_table_len(table: *const Handle, len: *mut usize) -> u32;
+    fn pg_table_payloads(
+        table: *const Handle,
+        out: *mut Payload,
+        room: usize,
+        len: *mut usize,
+    ) -> u32;
+    fn pg_table_free(table: *mut Handle);
     fn pg_answer(
         line: *const u8,
         line_len: usize,
@@ -245,7 +295,7 @@ pub struct Certificate {
 
 /// A validated payload: a prefix, its greatest length, and the AS that may originate it, as `pigyelund.h` has them.
 #[repr(C)]
-#[derive(Clone, Copy, Debug, PartialEq, Eq)]
+#[derive(Clone, Copy, Debug, Default, PartialEq, Eq, Hash)]
 pub struct Payload {
     /// The octets of the address, of which an IPv4 address has the first four.
     pub address: [u8; 16],
@@ -297,6 +347,138 @@ impl Route {
             family: family as u8,
             len,
         }
+    }
+}
+
+/// A payload that covers a route, and why it doesn't match it, as `pigyelund.h` has them.
+#[repr(C)]
+#[derive(Clone, Copy, Debug, Default, PartialEq, Eq)]
+pub struct Covering {
+    /// The octets of the address, of which an IPv4 address has the first four; those behind are 0.
+    pub address: [u8; 16],
+    /// The AS that may originate it.
+    pub asn: u32,
+    /// The number of its family.
+    pub family: u8,
+    /// The length of the prefix.
+    pub len: u8,
+    /// The greatest length.
+    pub max_len: u8,
+    /// [`OTHER_AS`], [`TOO_LONG`], their sum, or 0 where it matches.
+    pub mismatch: u8,
+}
+
+/// What the handle of a table points to.
+#[repr(C)]
+struct Handle {
+    inside: [u8; 0],
+}
+
+/// A table that the library hands out, which is given back where this is dropped; or null.
+#[derive(Debug)]
+pub struct Table(*mut Handle);
+
+// SAFETY: no call writes to a table, and each takes what it needs from malloc; so any number may ask one at once, from
+// any thread. A table is freed by whoever owns it, once: when nothing borrows it any more. That its type is `Send` and
+// `Sync` in the library's own language is proved there.
+unsafe impl Send for Table {}
+unsafe impl Sync for Table {}
+
+impl Drop for Table {
+    fn drop(&mut self) {
+        // SAFETY: the handle is null, or was told by `pg_table_new` or `pg_table_changed`, and is given back once.
+        unsafe { pg_table_free(self.0) }
+    }
+}
+
+impl Table {
+    /// No table, as each call tells it where it refuses.
+    pub fn null() -> Table {
+        Table(core::ptr::null_mut())
+    }
+
+    /// Whether there is no table.
+    pub fn is_null(&self) -> bool {
+        self.0.is_null()
+    }
+
+    /// One call for a table of payloads: the status, the table, and the place of what is none.
+    pub fn new(payloads: &[Payload]) -> (u32, Table, usize) {
+        let (mut table, mut place) = (Table::null(), 0);
+        // SAFETY: as in `origins`; what stood in the place of the handle was null.
+        let status = unsafe {
+            pg_table_new(
+                payloads.as_ptr(),
+                payloads.len(),
+                &mut table.0,
+                &mut place,
+            )
+        };
+        (status, table, place)
+    }
+
+    /// One call for the table after changes: the status, the table, and the place of what is none.
+    pub fn changed(&self, announced: &[Payload], withdrawn: &[Payload]) -> (u32, Table, usize) {
+        let (mut next, mut place) = (Table::null(), 0);
+        // SAFETY: as in `new`; this table is borrowed for the call.
+        let status = unsafe {
+            pg_table_changed(
+                self.0,
+                announced.as_ptr(),
+                announced.len(),
+                withdrawn.as_ptr(),
+                withdrawn.len(),
+                &mut next.0,
+                &mut place,
+            )
+        };
+        (status, next, place)
+    }
+
+    /// One call for the validity of routes with a room of the caller's: the status, the length of what is told, and the
+    /// place of what is none.
+    pub fn origins(&self, routes: &[Route], out: &mut [u8]) -> (u32, usize, usize) {
+        let (mut len, mut place) = (0, 0);
+        // SAFETY: as in `changed`; `Route` is laid out as in C.
+        let status = unsafe {
+            pg_table_origins(
+                self.0,
+                routes.as_ptr(),
+                routes.len(),
+                out.as_mut_ptr(),
+                out.len(),
+                &mut len,
+                &mut place,
+            )
+        };
+        (status, len, place)
+    }
+
+    /// One call for what covers a route with a room of the caller's: the status, and the length of what is told.
+    pub fn covering(&self, route: &Route, out: &mut [Covering]) -> (u32, usize) {
+        let mut len = 0;
+        // SAFETY: as in `changed`; `Covering` is laid out as in C.
+        let status = unsafe {
+            pg_table_covering(self.0, route, out.as_mut_ptr(), out.len(), &mut len)
+        };
+        (status, len)
+    }
+
+    /// One call for the number of payloads: the status, and the number.
+    pub fn count(&self) -> (u32, usize) {
+        let mut len = 0;
+        // SAFETY: as in `changed`.
+        let status = unsafe { pg_table_len(self.0, &mut len) };
+        (status, len)
+    }
+
+    /// One call for all payloads with a room of the caller's: the status, and the length of what is told.
+    pub fn payloads(&self, out: &mut [Payload]) -> (u32, usize) {
+        let mut len = 0;
+        // SAFETY: as in `changed`; `Payload` is laid out as in C.
+        let status =
+            unsafe { pg_table_payloads(self.0, out.as_mut_ptr(), out.len(), &mut len) };
+        (status, len)
     }
 }
 

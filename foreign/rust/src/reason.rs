@@ -8,9 +8,9 @@ use crate::Resources;
 /// Of which of two values a reason speaks.
 #[derive(Clone, Copy, Debug, PartialEq, Eq, Hash)]
 pub enum Side {
-    /// The issuer, the anchor, the first set, or a payload.
+    /// The issuer, the anchor, the first set, a payload, or one that is announced.
     First,
-    /// The certificate, the second set, or a route.
+    /// The certificate, the second set, a route, or a payload that is withdrawn.
     Second,
 }
 
@@ -126,6 +126,12 @@ pub enum Reason {
     BadPrefix(Side),
     /// The greatest length of a payload is none.
     BadMaxLen,
+    /// The greatest length of a payload that is withdrawn is none.
+    BadWithdrawnMaxLen,
+    /// A payload is withdrawn that the table hasn't, or twice (RFC 8210, 12: 6).
+    UnknownWithdrawal,
+    /// A payload is announced that the table has, or twice (RFC 8210, 12: 7).
+    DuplicateAnnouncement,
     /// Another status, which no call here but one of [`raw`] answers.
     Other(u32),
 }
@@ -147,6 +153,9 @@ impl Reason {
             (raw::OVERCLAIM_V6, Side::First) => Reason::OverclaimedV6,
             (raw::ABSENT, Side::First) => Reason::Absent,
             (raw::BAD_MAX_LEN, Side::First) => Reason::BadMaxLen,
+            (raw::BAD_MAX_LEN, Side::Second) => Reason::BadWithdrawnMaxLen,
+            (raw::UNKNOWN_WITHDRAWAL, Side::First) => Reason::UnknownWithdrawal,
+            (raw::DUPLICATE_ANNOUNCEMENT, Side::First) => Reason::DuplicateAnnouncement,
             _ => match (first & !0xff, Fault::of_number(first & 0xff)) {
                 (raw::BAD_AS, Some(fault)) => Reason::BadAs(side, fault),
                 (raw::BAD_IP, Some(fault)) => Reason::BadIp(side, fault),
@@ -169,6 +178,9 @@ impl Reason {
             Reason::BadFamily(side) => side.status() + raw::BAD_FAMILY,
             Reason::BadPrefix(side) => side.status() + raw::BAD_PREFIX,
             Reason::BadMaxLen => raw::BAD_MAX_LEN,
+            Reason::BadWithdrawnMaxLen => raw::SECOND + raw::BAD_MAX_LEN,
+            Reason::UnknownWithdrawal => raw::UNKNOWN_WITHDRAWAL,
+            Reason::DuplicateAnnouncement => raw::DUPLICATE_ANNOUNCEMENT,
             Reason::Other(status) => status,
         }
     }
@@ -184,6 +196,7 @@ fn other_text(status: u32) -> &'static str {
         raw::BAD_ENCODING => "unknown encoding",
         raw::OUTSIDE => "octets of a certificate outside of the run",
         raw::BAD_PRESENT => "unknown number of extensions",
+        raw::NO_TABLE => "no table",
         _ => "unknown status",
     }
 }
@@ -212,10 +225,13 @@ impl Display for Reason {
             Reason::OverclaimedV6 => "overclaimed IPv6 resources",
             Reason::Absent => "the certificate has neither extension",
             Reason::BadFamily(Side::First) => "unknown family",
-            Reason::BadFamily(Side::Second) => "unknown family of a route",
+            Reason::BadFamily(Side::Second) => "unknown family of a route or of a withdrawn payload",
             Reason::BadPrefix(Side::First) => "bad prefix of a payload",
-            Reason::BadPrefix(Side::Second) => "bad prefix of a route",
+            Reason::BadPrefix(Side::Second) => "bad prefix of a route or of a withdrawn payload",
             Reason::BadMaxLen => "bad greatest length of a payload",
+            Reason::BadWithdrawnMaxLen => "bad greatest length of a withdrawn payload",
+            Reason::UnknownWithdrawal => "withdrawal of an unknown payload",
+            Reason::DuplicateAnnouncement => "duplicate announcement of a payload",
             Reason::Other(status) => other_text(status),
         })
     }
@@ -271,12 +287,13 @@ impl Display for RefusedPath {
 
 impl Error for RefusedPath {}
 
-/// Why no route's validity is told.
+/// Why no route's validity, or no table, is told.
 #[derive(Clone, Copy, Debug, PartialEq, Eq)]
 pub struct RefusedOrigin {
     /// The reason.
     pub reason: Reason,
-    /// The place of the first payload that is none, or of the first route where the reason says so; else 0.
+    /// The place of the first payload that is none, or of the first route or withdrawn payload where the reason says so;
+    /// else 0.
     pub place: usize,
 }
 

@@ -3,4 +3,4 @@ use Rattle.std.proofs.Common.{inl}
 use Rattle.pigyelund_c.proofs.covers.pg_cover.Goals as goal
 
 pub returns-in-Ok : goal.returns-in-Ok
-returns-in-Ok c = inl (c.in-Ok.octets.items, c.in-Ok.ensures, rw c.as_slice.ensures.value at c.tell_octets.ensures)
+returns-in-Ok c = inl (c.in-Ok.octets.items, c.in-Ok.ensures, rw c.as_slice.ensures.value at c.tell_items.ensures)

@@ -1,29 +1,29 @@
 //! The validity of many routes by an array of payloads.
 ghost use Rattle.std.specs.Prelude.{◌≡◌, MatchResult};
 ghost use Rattle.rpki_text.specs.Memory.{IfRefused};
-ghost use Rattle.pigyelund_c.specs.Origins.{AreEach, AreNoOrigins, AreOrigins, IsFirstNone, IsOrigin, no_origins_place, no_origins_status, validity_number};
-ghost use Rattle.pigyelund_c.specs.Routes.{IsNoPayload, IsNoRoute, IsPayload};
+ghost use Rattle.route_calls.specs.Origins.{AreEach, AreNoOrigins, AreOrigins, IsFirstNone, IsOrigin, no_origins_place, no_origins_status, validity_number};
+ghost use Rattle.route_calls.specs.Routes.{IsNoPayload, IsNoRoute, IsPayload};
 
 use crate::route::{Payload, Route, Unrouted};
 use crate::status;
 use roa_origin::{OriginTable, Validity};
 use rpki_base::Asn;
 use rpki_prefix::MaxLenPrefix;
-use rpki_resources::OrMemory;
+use rpki_text::memory::OrMemory;
 use std::alloc::Global;
 
 /// Which of an array is the first that is none, counted from 0, and why.
 #[derive(Clone, Copy)]
-pub(crate) struct FirstNone {
+pub struct FirstNone {
     /// The place.
-    pub(crate) at: usize,
+    pub at: usize,
     /// The reason.
-    pub(crate) reason: Unrouted,
+    pub reason: Unrouted,
 }
 
 /// Why no origins are told.
 #[derive(Clone, Copy)]
-pub(crate) enum NoOrigins {
+pub enum NoOrigins {
     /// A payload is none.
     Payload(FirstNone),
     /// A route is none.
@@ -32,7 +32,7 @@ pub(crate) enum NoOrigins {
 
 impl NoOrigins {
     /// The status of a reason.
-    pub(crate) fn status(self) -> u32
+    pub fn status(self) -> u32
         ensures { result ≡ no_origins_status self }
     {
         match self {
@@ -42,7 +42,7 @@ impl NoOrigins {
     }
 
     /// The place of what is none.
-    pub(crate) fn place(self) -> usize
+    pub fn place(self) -> usize
         ensures { result ≡ no_origins_place self }
     {
         match self {
@@ -64,7 +64,7 @@ fn number_of(validity: Validity) -> u8
 }
 
 /// The payloads of an array. `Refused` with the first that is none, `Memory` where there is no memory for them.
-fn payloads_of(
+pub fn payloads_of(
     alloc: Global,
     payloads: &[Payload],
 ) -> Result<Vec<(MaxLenPrefix, Asn), Global>, OrMemory<FirstNone>>
@@ -89,8 +89,28 @@ fn origin_of(table: &OriginTable<Global>, route: &Route) -> Result<u8, Unrouted>
     Ok(number_of(table.origin(prefix, Asn::from_u32(route.asn))))
 }
 
-/// The validity of each route of an array by payloads, as numbers. `Refused` with the first that is none, `Memory`
-/// where there is no memory for a table or for the numbers.
+/// The validity of each route of an array by a table, as numbers. `Refused` with the first that is none, `Memory` where
+/// there is no memory for the numbers.
+pub fn origins_in(
+    alloc: Global,
+    table: &OriginTable<Global>,
+    routes: &[Route],
+) -> Result<Vec<u8, Global>, OrMemory<FirstNone>>
+    ensures { MatchResult result
+        (λ octets. AreEach (IsOrigin table.now) routes.now octets.items)
+        (IfRefused (IsFirstNone (IsOrigin table.now) IsNoRoute routes.now)) }
+{
+    let mut octets = Vec::with_capacity(alloc, routes.len())?;
+    for (at, route) in routes.iter().enumerate() {
+        match origin_of(table, route) {
+            Ok(octet) => octets.push(octet)?,
+            Err(reason) => return Err(OrMemory::Refused(FirstNone { at, reason })),
+        }
+    }
+    Ok(octets)
+}
+
+/// The same by payloads, of which a table is made first. `Memory` too where there is no memory for it.
 fn origins_of(
     alloc: Global,
     payloads: &[(MaxLenPrefix, Asn)],
@@ -102,19 +122,12 @@ fn origins_of(
 {
     roa_origin::laws::laws_of_validities(); // so that the proof sees that the table's order doesn't matter
     let table = OriginTable::new(alloc, payloads)?;
-    let mut octets = Vec::with_capacity(alloc, routes.len())?;
-    for (at, route) in routes.iter().enumerate() {
-        match origin_of(&table, route) {
-            Ok(octet) => octets.push(octet)?,
-            Err(reason) => return Err(OrMemory::Refused(FirstNone { at, reason })),
-        }
-    }
-    Ok(octets)
+    origins_in(alloc, &table, routes)
 }
 
 /// The validity of each route by payloads, as numbers. `Refused` with the first payload that is none, or else the first
 /// route; `Memory` where there is no memory for a table or for the numbers.
-pub(crate) fn origins(
+pub fn origins(
     alloc: Global,
     payloads: &[Payload],
     routes: &[Route],

@@ -1,8 +1,8 @@
 use Rattle.std.proofs.Common.{[]}
-use Rattle.pigyelund_c.specs.Routes.{IsPayload}
-use Rattle.pigyelund_c.specs.declared.route.Payload.{Payload as Handed}
-use Rattle.pigyelund_c.proofs.OriginLemmas.{one_more}
-use Rattle.pigyelund_c.proofs.origin.payloads_of.Goals as goal
+use Rattle.route_calls.specs.Routes.{IsPayload}
+use Rattle.route_calls.specs.declared.route.Payload.{Payload as Handed}
+use Rattle.route_calls.proofs.OriginLemmas.{one_more}
+use Rattle.route_calls.proofs.origin.payloads_of.Goals as goal
 
 -- what a place behind the end would have
 abbrev nothing : Handed

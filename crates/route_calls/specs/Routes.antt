@@ -10,11 +10,11 @@ use Rattle.rpki_prefix.specs.Values.{FamilyPrefix, HasPrefixError, IsPrefixOf}
 use Rattle.rpki_prefix.specs.declared.error.MaxLenError.{MaxLenError}
 use Rattle.rpki_prefix.specs.declared.error.PrefixError.{PrefixError}
 use Rattle.roa_origin.specs.Payloads.{Payload}
-use Rattle.pigyelund_c.specs.Numbers.{family_number}
-use Rattle.pigyelund_c.specs.declared.route.Payload.{Payload as Handed}
-use Rattle.pigyelund_c.specs.declared.route.Route.{Route}
-use Rattle.pigyelund_c.specs.declared.route.Unrouted.{Unrouted}
-use Rattle.pigyelund_c.specs.declared.route.Unrouted.TheVariants.{NoFamily, NoPrefix, NoMaxLen}
+use Rattle.route_calls.specs.Families.{family_number}
+use Rattle.route_calls.specs.declared.route.Payload.{Payload as Handed}
+use Rattle.route_calls.specs.declared.route.Route.{Route}
+use Rattle.route_calls.specs.declared.route.Unrouted.{Unrouted}
+use Rattle.route_calls.specs.declared.route.Unrouted.TheVariants.{NoFamily, NoPrefix, NoMaxLen}
 
 -- the address that octets are, the highest first; an IPv4 address is the first four of sixteen
 abbrev pub address_in : AddressFamily → List ℕ → IpAddr

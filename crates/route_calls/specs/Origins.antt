@@ -5,14 +5,14 @@ use Rattle.roa_origin.specs.Payloads.{Payload}
 use Rattle.roa_origin.specs.Validities.{IsValidity}
 use Rattle.roa_origin.specs.declared.validation.Validity.{Validity}
 use Rattle.roa_origin.specs.declared.validation.Validity.TheVariants.{Valid, Invalid, NotFound}
-use Rattle.pigyelund_c.specs.Routes.{IsNoPayload, IsNoRoute, IsPayload, IsRoute, unrouted_status}
-use Rattle.pigyelund_c.specs.Sets.{AreOctetsTold}
-use Rattle.pigyelund_c.specs.declared.origin.FirstNone.{FirstNone}
-use Rattle.pigyelund_c.specs.declared.origin.NoOrigins.{NoOrigins}
-use Rattle.pigyelund_c.specs.declared.origin.NoOrigins.TheVariants.{Payload as NoPayload, Route as NoRoute}
-use Rattle.pigyelund_c.specs.declared.route.Payload.{Payload as Handed}
-use Rattle.pigyelund_c.specs.declared.route.Route.{Route}
-use Rattle.pigyelund_c.specs.declared.route.Unrouted.{Unrouted}
+use Rattle.route_calls.specs.Routes.{IsNoPayload, IsNoRoute, IsPayload, IsRoute, unrouted_status}
+use Rattle.route_calls.specs.Told.{AreTold}
+use Rattle.route_calls.specs.declared.origin.FirstNone.{FirstNone}
+use Rattle.route_calls.specs.declared.origin.NoOrigins.{NoOrigins}
+use Rattle.route_calls.specs.declared.origin.NoOrigins.TheVariants.{Payload as NoPayload, Route as NoRoute}
+use Rattle.route_calls.specs.declared.route.Payload.{Payload as Handed}
+use Rattle.route_calls.specs.declared.route.Route.{Route}
+use Rattle.route_calls.specs.declared.route.Unrouted.{Unrouted}
 
 -- ---- arrays
 
@@ -62,9 +62,14 @@ abbrev pub no_origins_place : NoOrigins → ℕ
 no_origins_place (NoPayload first) = first.at
 no_origins_place (NoRoute first) = first.at
 
--- the validities are told; or the status and the place of what is none, or 2, and nothing is written
-abbrev pub AreOriginsTold : List Handed → List Route → List ℕ → List ℕ → ℕ → ℕ → ℕ → Type 0
-AreOriginsTold handed routes before after len place result =
-    ((octets : List ℕ) × AreOrigins handed routes octets × AreOctetsTold octets before after len result × (place ≡ 0))
-    ⊎ (((reason : NoOrigins) × AreNoOrigins handed routes reason × (result ≡ no_origins_status reason) × (place ≡ no_origins_place reason) × (after ≡ before) × (len ≡ 0))
+-- octets of which P holds are told; or the status and the place of a reason for which N holds, or 2, and nothing is
+-- written
+abbrev pub IsAnsweredAt : (R : Type 0) → (List ℕ → Type 0) → (R → ℕ) → (R → ℕ) → (R → Type 0) → List ℕ → List ℕ → ℕ → ℕ → ℕ → Type 0
+IsAnsweredAt R P status place_of N before after len place result =
+    ((octets : List ℕ) × P octets × AreTold octets before after len result × (place ≡ 0))
+    ⊎ (((reason : R) × N reason × (result ≡ status reason) × (place ≡ place_of reason) × (after ≡ before) × (len ≡ 0))
     ⊎ ((result ≡ 2) × (after ≡ before) × (len ≡ 0) × (place ≡ 0)))
+
+-- the validities of routes by payloads are told
+abbrev pub AreOriginsTold : List Handed → List Route → List ℕ → List ℕ → ℕ → ℕ → ℕ → Type 0
+AreOriginsTold handed routes = IsAnsweredAt NoOrigins (AreOrigins handed routes) no_origins_status no_origins_place (AreNoOrigins handed routes)

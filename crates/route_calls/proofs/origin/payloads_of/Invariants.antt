@@ -1,7 +1,7 @@
 use Rattle.std.proofs.Common.{take}
-use Rattle.pigyelund_c.specs.Origins.{AreEach}
-use Rattle.pigyelund_c.specs.Routes.{IsPayload}
-use Rattle.pigyelund_c.proofs.origin.payloads_of.Given as goal
+use Rattle.route_calls.specs.Origins.{AreEach}
+use Rattle.route_calls.specs.Routes.{IsPayload}
+use Rattle.route_calls.proofs.origin.payloads_of.Given as goal
 
 -- the payloads so far are read
 abbrev pub invariant-loop-at : goal.invariant-loop-at

@@ -1,0 +1,2 @@
+pub mod OriginLemmas
+pub mod TableLemmas

@@ -1,0 +1,23 @@
+-- Both lists are read, and their changes are those of the table.
+use Rattle.std.proofs.Common.{sym, subst, ◌∙◌}
+use Rattle.roa_origin.specs.Updates.{IsUpdated}
+use Rattle.route_calls.proofs.change.changed_table.Goals as goal
+
+pub returns-in-Err-Refused-with_changes : goal.returns-in-Err-Refused-with_changes
+returns-in-Err-Refused-with_changes c =
+    let told = rw c.in-Err-Refused-with_changes.field-0-is at c.in-Err-Refused-with_changes.ensures.faults in
+    rw c.in-Err-Refused-with_changes.fault-is (
+      (c.in-Ok.read.items, c.in-Ok-payloads_of.read.items),
+      record { announced_are = c.in-Ok.ensures; withdrawn_are = c.in-Ok-payloads_of.ensures },
+      rw c.as_slice.ensures.value at (rw c.as_slice-2.ensures.value at told),
+    )
+
+pub returns-in-Ok-new : goal.returns-in-Ok-new
+returns-in-Ok-new c =
+    let fresh = rw c.as_slice.ensures.value at (rw c.as_slice-2.ensures.value at c.in-Ok-with_changes.ensures.faults) in
+    let next = rw c.as_slice.ensures.value at (rw c.as_slice-2.ensures.value at c.in-Ok-with_changes.ensures.next) in (
+      (c.in-Ok.read.items, c.in-Ok-payloads_of.read.items),
+      record { announced_are = c.in-Ok.ensures; withdrawn_are = c.in-Ok-payloads_of.ensures },
+      fresh,
+      subst (IsUpdated c.args.table.now c.in-Ok.read.items c.in-Ok-payloads_of.read.items) (sym (c.of.ensures ∙ c.in-Ok-new.ensures.ok)) next,
+    )

@@ -1,0 +1,68 @@
+-- The block of a box is given out.
+use Rattle.std.proofs.Common.{◌≡◌, ℕ, List, [], ◌∷◌, ◌++◌, refl, sym, ap, ◌∙◌, subst, lit<}
+use seplogic.Ra.Ura.{Ura}
+use mir.Val.{Val, vptr, vnull, vstruct, vcons, vnil, of_list}
+use base.Logic.{SProp, ent, sep, emp, id⊢}
+use base.Fml.{Fml, Lft, Share, ftrue, flft, fex, fsep}
+use prog.Memory.{Memory}
+use prog.Routine.{Routine}
+use prog.Wp.{WpFn, Calls, Loops}
+use types.Logic.{Logic, sem}
+use types.Kit.{‵, raw, ◌⊛◌, given, at_ret, ◌$◌, ◌∵◌, !, qed, by, move, keep, drop, split, join, fsplit, fjoin, fpick, fpack, suffices, use0, use1, rewrite, feq_i, feq_l}
+use types.Run.{stop, fld, of_opd, lit, bin, addr, no_more, and_then, first, blocks, branches, skips, exec, returns, returns_within, enter}
+use types.ByLocal.{alloc_all, pass_all, free_all, look_at, get, get_in, through, sets, sets_last, env}
+use types.Part.{agg, sub, whole}
+use types.Match.{live}
+use contract.Monad.{Fun, fact, fact_i}
+use contract.Running.{tables}
+use denote.RattleType.{RattleType, Valss, owns}
+use denote.Builtin.{RawPtr}
+use denote.Memory.{lone}
+use denote.Param.{layout}
+use denote.Ref.{Bor, ShrRef}
+use denote.RawPtr.{InBlock, Ptr, block_ptr, null_ptr, ptr_val, Testable, tests_null}
+use denote.Signature.{types_at, type_at, plain}
+use denote.Steps.{nothing}
+use denote.Struct.Struct.{within}
+use denote.Struct.Owning.{shape}
+use denote.Triple.Entry.{alive}
+use denote.Triple.Walked.{Stays, stay_dropped, walk_of}
+use Rattle.std.proofs.alloc.Calls.{Goes-blank, handle_tells}
+use Rattle.std.proofs.raw_atomic.Walks.{proved_at, leaves}
+use Rattle.std.specs.contracts.alloc.Global as heap
+use Rattle.std.proofs.alloc.Global.TheLaws as heap_laws
+use Rattle.std.specs.contracts.impls.GlobalAllocator.TheImpl.{ghosts}
+use Rattle.std.specs.declared.alloc.Global.{Global}
+use Rattle.std.specs.Box.Ownership.{box_owns}
+use Rattle.std.specs.Prelude.{Option, Some, None}
+use Rattle.box_pointer.specs.contracts.BoxPointer as pointer
+use Rattle.box_pointer.proofs.Words.{apart, fit, words}
+use Rattle.route_calls.specs.Handles.{table_row, boxed_table}
+use Rattle.route_calls.specs.contracts.handle.TablePlace as place_struct
+use Rattle.route_calls.specs.contracts.handle.TablePlace.of.{ended, clauses}
+use Rattle.route_calls.specs.contracts.handle.TablePlace.of.Key.{name as #self}
+use Rattle.route_calls.proofs.handle.TablePlace.of.Statement.{statement}
+use Rattle.route_calls.proofs.handle.TablePlace.of.Code as code
+
+pub of_spec : {M : Type 1} → statement M
+of_spec 𝓤 𝓛 𝓜 𝓡 wired =
+    let H = 𝓛.H in let 𝓣 = tables 𝓤 H 𝓜 𝓡 𝓡.env in let En = ended in let c = clauses 𝓛 𝓜.mem 𝓡.returns in
+    let R : RattleType = table_row in let Z : RattleType = heap.the_row in let LZ = heap_laws.the_row_laws in
+    let P : RattleType = pointer.the_row R Z ghosts in let fn = code.function in
+    let hs : Stays En.signature.params En.kept = (stay_dropped (plain (λ _. P)) En.kept.0, tt) in
+    proved_at 𝓛 En hs c 𝓜 𝓡 (Goes-blank 𝓛 0 (plain (λ _. P)) En.kept.0 (λ κs x f. tt), tt) #self fn (code.unfolded 𝓤 H 𝓜 𝓡 wired) (λ z are.
+    let Post : Val → SProp 𝓤 = (walk_of 𝓛 En hs c).post z in let Run : List Val → SProp 𝓤 = λ ws. WpFn 𝓤 H 𝓣.C 𝓣.Λ fn ws Post in let v = z.0.3.0 in
+    qed 𝓛 ((raw (alive 𝓛 En.signature z.0.0 z.0.1) ⊛ ‵ (owns (types_at En.signature.params z.0.0) z.0.3 z.0.4)) ∷ ‵ ftrue ∷ []) ∵ move ! (1 ∷ []) $ drop ! $ split ! $ move ! (1 ∷ []) $ fsplit ! $
+    apart R Z LZ ghosts ! v z.0.4.0 (λ b o h e ws fits.
+    let w : Val = words b o h in let out : Val = vstruct (vcons (vptr b o) vnil) in
+    suffices ! (Run (w ∷ [])) (subst (λ (us : List Val). ent 𝓤 (Run (w ∷ [])) (Run us)) (sym (λ i. ws i ++ [])) (id⊢ 𝓤 (Run (w ∷ [])))) $
+    enter ! 𝓣.C 𝓣.Λ fn (w ∷ []) Post $ alloc_all ! (λ l. pass_all ! refl (fit R Z LZ ghosts b o h fits, tt) $
+    -- [the box; the handle; nothing; the tokens]
+    sets ! (of_opd ! (get_in ! (fld ! refl (stop !)) (sub ! 0 refl (whole !)))) refl (tt, tt) $ sets ! (of_opd ! (get ! refl)) refl (tt, tt) $
+    sets ! (agg ! (and_then ! (get ! refl) (no_more !))) refl (tt, (tt, tt)) $ returns ! (look_at ! 0 refl) $ free_all ! refl $ keep ! (0 ∷ 3 ∷ []) $
+    fpack ! Global (λ a. box_owns (ghosts.dealloc_token a) R (block_ptr b o) v.value) v.alloc $
+    nothing ! $ feq_i ! (List Val) (vptr b o ∷ []) (vptr b o ∷ []) refl $ fjoin ! $ feq_i ! (List Val) (out ∷ []) (out ∷ []) refl $ fjoin ! $
+    fpack ! (Valss (RawPtr ∷ [])) (within (shape place_struct.the_type) (block_ptr b o, tt) (out ∷ [])) (vptr b o ∷ [], tt) $ fjoin ! $
+    let told : Type 0 = (Some v.value ≡ Some v.value) × InBlock (block_ptr b o) in
+    use0 𝓛 (raw (fact 𝓤 told)) (fact_i 𝓤 told (emp 𝓤) (refl, tt)) $ nothing ! $ nothing ! $ fjoin ! $
+    keep ! (3 ∷ 0 ∷ 2 ∷ 1 ∷ []) $ by ! (leaves 𝓛 En hs c z out (record { at = block_ptr b o; given = Some v.value }) (tt, tt) (tt, tt)))))

@@ -1,0 +1,13 @@
+use Rattle.std.proofs.Common.{[]}
+use Rattle.route_calls.specs.Origins.{IsOrigin}
+use Rattle.route_calls.specs.declared.route.Route.{Route}
+use Rattle.route_calls.proofs.OriginLemmas.{one_more}
+use Rattle.route_calls.proofs.origin.origins_in.Goals as goal
+
+-- what a place behind the end would have
+abbrev nothing : Route
+nothing = record { address = []; asn = 0; family = 0; len = 0 }
+
+pub loop-at-preserved : goal.loop-at-preserved
+loop-at-preserved c =
+    one_more (IsOrigin c.args.table.now) c.args.routes.now c.loop-at.octets.items _ c.loop-at.at nothing c.in-Ok.octet c.loop-at-test.true c.in_ok-push-in-Ok.ensures.items c.loop-at.invariant c.in-Ok.ensures

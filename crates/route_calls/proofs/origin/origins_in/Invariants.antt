@@ -1,0 +1,7 @@
+use Rattle.std.proofs.Common.{take}
+use Rattle.route_calls.specs.Origins.{AreEach, IsOrigin}
+use Rattle.route_calls.proofs.origin.origins_in.Given as goal
+
+-- the validities so far are told
+abbrev pub invariant-loop-at : goal.invariant-loop-at
+invariant-loop-at l = AreEach (IsOrigin l.fn.table) (take l.at l.fn.routes) l.octets.items

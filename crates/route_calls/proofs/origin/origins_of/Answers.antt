@@ -1,0 +1,18 @@
+-- What a table tells of routes, the list that it was made of tells too.
+use Rattle.std.proofs.Common.{ℕ}
+use Rattle.route_calls.specs.Origins.{IsOrigin}
+use Rattle.route_calls.specs.Routes.{IsNoRoute}
+use Rattle.route_calls.specs.declared.route.Route.{Route}
+use Rattle.route_calls.proofs.OriginLemmas.{by_another}
+use Rattle.route_calls.proofs.origin.origins_of.Goals as goal
+
+pub returns : goal.returns
+returns c =
+    let by_list : (r : Route) (octet : ℕ) → IsOrigin c.in_ok-table.table r octet → IsOrigin c.args.payloads.now r octet = λ r octet told. record {
+      prefix = told.prefix;
+      is_route = told.is_route;
+      validity = told.validity;
+      is_validity = (c.laws_of_validities.ensures.any_order told.prefix _ c.args.payloads.now _ told.validity c.in_ok-table.ensures.payloads).1 told.is_validity;
+      told = told.told;
+    } in
+    by_another (IsOrigin c.in_ok-table.table) (IsOrigin c.args.payloads.now) by_list IsNoRoute c.args.routes.now _ _ c.origins_in.ensures

@@ -1,0 +1,7 @@
+pub mod Families
+pub mod Handles
+pub mod Origins
+pub mod Routes
+pub mod Tables
+pub mod Tellings
+pub mod Told

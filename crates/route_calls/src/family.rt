@@ -1,0 +1,19 @@
+//! The number of a family.
+ghost use Rattle.std.specs.Prelude.{◌≡◌, ◌≢◌, MatchOption};
+ghost use Rattle.rpki_base.specs.declared.family.AddressFamily.{AddressFamily as Family};
+ghost use Rattle.route_calls.specs.Families.{family_number};
+
+use rpki_base::family::AddressFamily;
+
+/// The family that a number chooses, as it is numbered in IP address blocks (RFC 3779, 2.2.3.3). None where it is of
+/// none.
+pub fn family_of(number: u32) -> Option<AddressFamily>
+    ensures { MatchOption result ((family : Family) → number ≢ family_number family)
+        (λ family. number ≡ family_number family) }
+{
+    match number {
+        1 => Some(AddressFamily::Ipv4),
+        2 => Some(AddressFamily::Ipv6),
+        _ => None,
+    }
+}

@@ -1,0 +1,22 @@
+//! Payloads, routes and tables as callers in C hand them over and are told them: what the exports of `pigyelund_c` on
+//! route origins are made of (RFC 6811, 2; RFC 8210, 5.6).
+//!
+//! The exports tell what these answer, as `pigyelund_c::tables` does:
+//!
+//! ```rust
+//! match made_table(alloc, payloads) {
+//!     Ok(parts) => {
+//!         *table = TablePlace::of(parts);
+//!         status::OK
+//!     }
+//! ```
+#![tactic(auto)]
+
+pub mod change;
+pub mod family;
+pub mod handle;
+pub mod origin;
+pub mod route;
+pub mod status;
+pub mod table;
+pub mod tell;

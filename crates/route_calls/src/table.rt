@@ -1,0 +1,104 @@
+//! Tables that stay: made of payloads that are handed over, and asked for the validity of routes, for what covers one,
+//! and for all payloads.
+ghost use Rattle.std.specs.Prelude.{◌≡◌, IfOk, MatchResult, map};
+ghost use Rattle.rpki_text.specs.Memory.{IfRefused};
+ghost use Rattle.route_calls.specs.Origins.{AreEach, IsOrigin};
+ghost use Rattle.route_calls.specs.Tables.{AreNoTableOrigins, IsNoTable, IsTableOfHanded};
+ghost use Rattle.route_calls.specs.Routes.{IsNoRoute};
+ghost use Rattle.route_calls.specs.Tellings.{AreCoveringsOf, AreCoveringsTo, handed_of};
+
+use crate::origin::{NoOrigins, origins_in, payloads_of};
+use crate::route::{Covering, Payload, Route, Unrouted};
+use box_pointer::BoxPointer;
+use roa_origin::OriginTable;
+use rpki_base::Asn;
+use rpki_prefix::Prefix;
+use rpki_text::memory::OrMemory;
+use std::alloc::{AllocError, Global};
+
+/// The boxed table of payloads. `Refused` with the first that is none, `Memory` where there is no memory for them, for
+/// the table or for its box.
+pub fn made_table(
+    alloc: Global,
+    payloads: &[Payload],
+) -> Result<BoxPointer<OriginTable<Global>, Global>, OrMemory<NoOrigins>>
+    ensures { MatchResult result (λ parts. IsTableOfHanded payloads.now parts.value)
+        (IfRefused (IsNoTable payloads.now)) }
+{
+    let read = match payloads_of(alloc, payloads) {
+        Ok(read) => read,
+        Err(OrMemory::Refused(first)) => return Err(OrMemory::Refused(NoOrigins::Payload(first))),
+        Err(OrMemory::Memory(error)) => return Err(OrMemory::Memory(error)),
+    };
+    let table = OriginTable::new(alloc, read.as_slice())?;
+    match Box::new(alloc, table) {
+        Ok(boxed) => Ok(BoxPointer::of(boxed)),
+        Err(_) => Err(OrMemory::Memory(AllocError)),
+    }
+}
+
+/// The validity of each route by a table, as numbers. `Refused` with the first route that is none, `Memory` where there
+/// is no memory for the numbers.
+pub fn table_origins(
+    alloc: Global,
+    table: &OriginTable<Global>,
+    routes: &[Route],
+) -> Result<Vec<u8, Global>, OrMemory<NoOrigins>>
+    ensures { MatchResult result
+        (λ octets. AreEach (IsOrigin table.now) routes.now octets.items)
+        (IfRefused (AreNoTableOrigins table.now routes.now)) }
+{
+    match origins_in(alloc, table, routes) {
+        Ok(octets) => Ok(octets),
+        Err(OrMemory::Refused(first)) => Err(OrMemory::Refused(NoOrigins::Route(first))),
+        Err(OrMemory::Memory(error)) => Err(OrMemory::Memory(error)),
+    }
+}
+
+/// The payloads of a table that cover the route to a prefix that an AS originates, each with why it doesn't match it.
+/// `AllocError` where there is no memory for them.
+fn coverings_to(
+    alloc: Global,
+    table: &OriginTable<Global>,
+    route: Prefix,
+    asn: Asn,
+) -> Result<Vec<Covering, Global>, AllocError>
+    ensures { IfOk result (λ told. AreCoveringsTo table.now route asn told.items) }
+{
+    let mut told = Vec::new(alloc);
+    for payload in table.covering(route) {
+        told.push(Covering::of(route, asn, &payload))?;
+    }
+    Ok(told)
+}
+
+/// The same of a route that is handed over. `Refused` where it is none, `Memory` as `coverings_to`.
+pub fn coverings(
+    alloc: Global,
+    table: &OriginTable<Global>,
+    route: &Route,
+) -> Result<Vec<Covering, Global>, OrMemory<Unrouted>>
+    ensures { MatchResult result (λ told. AreCoveringsOf table.now route.now told.items)
+        (IfRefused (IsNoRoute route.now)) }
+{
+    let prefix = match route.prefix() {
+        Ok(prefix) => prefix,
+        Err(reason) => return Err(OrMemory::Refused(reason)),
+    };
+    let told = coverings_to(alloc, table, prefix, Asn::from_u32(route.asn))?;
+    Ok(told)
+}
+
+/// All payloads of a table, in its order. `AllocError` where there is no memory for them.
+pub fn all_payloads(
+    alloc: Global,
+    table: &OriginTable<Global>,
+) -> Result<Vec<Payload, Global>, AllocError>
+    ensures { IfOk result (λ told. told.items ≡ map handed_of table.now) }
+{
+    let mut told = Vec::with_capacity(alloc, table.len())?;
+    for payload in table.payloads() {
+        told.push(Payload::of(&payload))?;
+    }
+    Ok(told)
+}

@@ -43,6 +43,7 @@ of_c() {
             -o "$out/as_cpp" || fail "the example is C++"
         same "the example in C++" "$out/as_cpp"
     fi
+    has_python && { tests/foreign_rtr.py "$spaced/libpigyelund.a" || fail "a router against a cache"; }
     if has "C under valgrind" valgrind; then
         valgrind -q --error-exitcode=9 --leak-check=full "$spaced/test" foreign >/dev/null || fail "valgrind"
     fi
@@ -81,6 +82,7 @@ END
     cp "$prefix/lib/libpigyelund.so" "$out"/there/lib/python3*/site-packages/pigyelund
     finds env
     tests/foreign_page.py Python "$prefix" || fail "the program in Python"
+    tests/foreign_page.py "A table in Python" "$prefix" || fail "the table in Python"
 }
 
 of_rust() {
@@ -90,6 +92,7 @@ of_rust() {
     same "the example in Rust" cargo run -q --offline --manifest-path foreign/rust/Cargo.toml --example verify
     RUSTDOCFLAGS=-Dwarnings cargo doc -q --offline --no-deps --manifest-path foreign/rust/Cargo.toml || fail "cargo doc"
     has_python && { tests/foreign_page.py Rust "$prefix" || fail "the program in Rust"; }
+    has_python && { tests/foreign_page.py "A table in Rust" "$prefix" || fail "the table in Rust"; }
 }
 
 if has_python; then
@@ -102,6 +105,7 @@ if has "C, and all that is installed," gcc make ar; then
     of_c
     of_install
     has_python && { tests/foreign_page.py C "$prefix" || fail "the program in C"; of_python; }
+    has_python && { tests/foreign_page.py "A table in C" "$prefix" || fail "the table in C"; }
     has "Rust" cargo cc && of_rust
 fi
 if [ $# -eq 0 ]; then

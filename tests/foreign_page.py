@@ -4,9 +4,9 @@ page's programs.
 
 Without arguments: foreign/numbers.txt has each number of crates/pigyelund_c, the header defines these names and no
 others, and each row of the table of statuses in docs/FOREIGN.md has the number of its name; the version of the package
-is the same in each file that has it. With LANGUAGE PREFIX, C, Rust or Python: the program of that section, in an empty
-folder, built by its commands with the library that is installed under PREFIX, prints what the page says. Status 1 where
-something differs.
+is the same in each file that has it. With SECTION PREFIX, as C or `A table in C`: the program of that section, in an
+empty folder, built by its commands with the library that is installed under PREFIX, prints what the page says. Status 1
+where something differs.
 """
 
 import os

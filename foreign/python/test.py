@@ -11,6 +11,7 @@ from itertools import chain
 from pathlib import Path
 
 from pigyelund import (
+    BadChange,
     BadNumber,
     BadOctets,
     BadOrigin,
@@ -19,6 +20,7 @@ from pigyelund import (
     Extensions,
     Family,
     Inherited,
+    Mismatch,
     Mode,
     NoMemory,
     Operation,
@@ -29,6 +31,7 @@ from pigyelund import (
     Resources,
     Route,
     Status,
+    Table,
     Test,
     Validity,
     raw,
@@ -153,9 +156,78 @@ def are_origins(library: Pigyelund, row: Row) -> bool:
         return [of(octet(*address), asn, *others) for address, asn, others in parts(octets, length)]
 
     payloads, routes = made(Payload, row.first.asn, 23), made(Route, row.second.asn, 22)
-    return row.is_told(lambda rooms: library.raw.origins(payloads, routes, rooms[0])) and row.is_answer(
-        lambda: Resources(bytes(library.origins(payloads, routes)))
+
+    def by_table() -> Resources:
+        with library.table(payloads) as table:
+            found = table.origins(routes)
+            if [table.origin(route) for route in routes] != found:
+                return Resources(b"one by one")
+            if table.origin_octets(buffer_of(routes)) != bytes(found):
+                return Resources(b"by a buffer")
+            return Resources(bytes(found))
+
+    return (
+        row.is_told(lambda rooms: library.raw.origins(payloads, routes, rooms[0]))
+        and row.is_answer(lambda: Resources(bytes(library.origins(payloads, routes))))
+        and row.is_answer(by_table)
     )
+
+
+def buffer_of(items: list[Payload] | list[Route]) -> bytes:
+    """Payloads or routes side by side, as C lays them out."""
+    return b"".join(map(bytes, items))
+
+
+def payload_octets(payload: object, rest: bytes) -> bytes:
+    """The octets that tell a payload."""
+    return bytes(payload.address) + payload.asn.to_bytes(4, "big") + rest
+
+
+def payloads_of(octets: bytes) -> list[Payload]:
+    """The payloads of a run."""
+    octet = Payload._fields_[0][1]
+    return [Payload(octet(*address), asn, *others) for address, asn, others in parts(octets, 23)]
+
+
+def all_of(table: Table) -> Resources:
+    """The payloads of a table."""
+    found = [payload_octets(it, bytes([it.family, it.len, it.max_len])) for it in table]
+    return Resources(b"".join(found) if len(found) == len(table) else b"another length")
+
+
+def is_of_table(library: Pigyelund, row: Row) -> bool:
+    """Whether the row of a table is answered as it says, by lists and by buffers."""
+    payloads = payloads_of(row.first.asn)
+
+    def covering(given: object) -> Resources:
+        (address, asn, others), = parts(row.second.asn, 22)
+        with library.table(given) as table:
+            route = Route(Route._fields_[0][1](*address), asn, *others)
+            status, held, length = library.raw.table_covering(table._handle(), route, 200)
+            if status == Status.OK and len(table.covering(route)) != length:
+                return Resources(b"another length")
+            found = [payload_octets(it, bytes([it.family, it.len, it.max_len, it.mismatch])) for it in held[:length]]
+            told = table.covering(route)
+            if [it.mismatch for it in told] != [Mismatch(it.mismatch) for it in held[:length]]:
+                return Resources(b"another reason")
+            return Resources(b"".join(found))
+
+    def listed(given: object) -> Resources:
+        with library.table(given) as table:
+            return all_of(table)
+
+    def changed(given: object) -> Resources:
+        announced, withdrawn = payloads_of(row.second.asn), payloads_of(row.second.ip)
+        with library.table(given) as table:
+            before = all_of(table)
+            try:
+                with table.changed(announced, buffer_of(withdrawn)) as following:
+                    return all_of(following)
+            finally:
+                assert all_of(table) == before
+
+    call = {"covering": covering, "payloads": listed, "changed": changed}[row.call]
+    return row.is_answer(lambda: call(payloads)) and row.is_answer(lambda: call(buffer_of(payloads)))
 
 
 def is_line(library: Pigyelund, row: Row) -> bool:
@@ -185,6 +257,7 @@ def is_of_sets(library: Pigyelund, row: Row) -> bool:
 
 
 ASKED = {"verify": is_verified, "path": is_verified_path, "cover": is_cover, "origins": are_origins, "answer": is_line}
+ASKED |= {call: is_of_table for call in ("covering", "payloads", "changed")}
 
 
 # ---- what no row says: each test tells what is wrong
@@ -194,7 +267,7 @@ def names_and_numbers(library: Pigyelund, folder: Path) -> Iterator[str]:
     """Each name has its number of numbers.txt."""
     table = re.findall(r"^NUMBER\((\w+), (\d+)\)$", (folder / "numbers.txt").read_text(), re.MULTILINE)
     stored = {name: int(number) for name, number in table}
-    named = {it.name: it.value for it in chain(Status, Encoding, Mode, Present, Validity)}
+    named = {it.name: it.value for it in chain(Status, Encoding, Mode, Present, Validity, Mismatch)}
     named |= {f"IP{it.name}": it.value for it in Family}
     named["VERSION"] = library.version()
     for name in sorted(stored.keys() | named.keys()):
@@ -326,7 +399,42 @@ def reasons(library: Pigyelund, _: Path) -> Iterator[str]:
         yield "want of memory"
 
 
-OTHERS = names_and_numbers, texts, no_bits_are_dropped, defaults, lenient, reasons
+def tables(library: Pigyelund, _: Path) -> Iterator[str]:
+    """What a table is beside rows: closed once for all, refused, of arrays and buffers, and empty."""
+    payloads = [Payload.of(TEN, 1, 9), Payload.of(IPv6Network("2001:db8::/32"), 2)]
+    table = library.table(payloads)
+    if [it.prefix for it in table] != [TEN, IPv6Network("2001:db8::/32")] or len(table) != 2:
+        yield "the payloads of a table"
+    (covering,) = table.covering(Route.of(IPv4Network("10.0.0.0/24"), 2))
+    if covering != (TEN, 9, 1, Mismatch.OTHER_AS | Mismatch.TOO_LONG):
+        yield f"{covering} covers"
+    try:
+        yield f"a duplicate answers {table.changed(payloads[:1])}"
+    except BadChange as reason:
+        if (reason.place, str(reason)) != (0, "at place 0: duplicate announcement of a payload"):
+            yield f"{reason!r} of a duplicate"
+    table.close()
+    table.close()
+    for call in (lambda: len(table), lambda: table.origins([]), lambda: table.changed(), lambda: next(iter(table))):
+        try:
+            yield f"a table that is closed answers {call()}"
+        except ValueError:
+            pass
+    array = (Payload * 2)(*payloads)
+    for given in (array, bytes(array), bytearray(bytes(array)), memoryview(bytes(array)), iter(payloads), []):
+        with library.table(given) as of:
+            if len(of) not in (2, 0 if given == [] else 2):
+                yield f"{len(of)} payloads of {type(given)}"
+    try:
+        yield f"a part of a payload answers {library.table(bytes(array)[:-1])}"
+    except ValueError:
+        pass
+    if library.raw.table_origins(None, (Route * 1)(), 1, 1).status != Status.NO_TABLE:
+        yield "null is a table"
+    library.raw.table_free(None)
+
+
+OTHERS = names_and_numbers, texts, no_bits_are_dropped, defaults, lenient, reasons, tables
 
 
 def main() -> int:

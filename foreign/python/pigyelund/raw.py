@@ -39,8 +39,8 @@ class Status(IntEnum):
 
 
 class Mismatch(IntFlag):
-    """Why a payload that covers a route doesn't match it: its AS isn't the route's, or that is AS 0; the route is longer
-    than it allows. None of these where it matches."""
+    """Why a payload that covers a route doesn't match it: its AS isn't the route's, or that is AS 0; the route is
+    longer than it allows. None of these where it matches."""
 
     OTHER_AS = 1
     TOO_LONG = 2
@@ -193,7 +193,7 @@ def array_of(kind: type[Fields], given: object) -> tuple[object, int]:
     if rest:
         raise ValueError(f"{octets.nbytes} octets of elements of {ctypes.sizeof(kind)}")
     held = (kind * max(count, 1))()
-    ctypes.memmove(held, (ctypes.c_char * max(octets.nbytes, 1)).from_buffer_copy(octets.tobytes() or b"\0"), octets.nbytes)
+    ctypes.memmove(held, octets.tobytes(), octets.nbytes)
     return held, count
 
 

@@ -2,8 +2,8 @@
 
 from collections.abc import Iterator
 from enum import IntEnum
-from typing import NamedTuple
 from ipaddress import IPv4Network, IPv6Network
+from typing import NamedTuple
 
 from . import raw
 from .raw import Mismatch, Payload, Route, Status
@@ -29,12 +29,12 @@ class Covering(NamedTuple):
 
 class Table:
     """A table of validated payloads, which is asked as often as one likes (RFC 6811, 2), and from which the next one is
-    made by changes (RFC 8210, 5.6). It never changes, and any number of threads may ask it at once. Its memory is freed by
-    `close`, at the end of a `with`, or with the object; a table that is closed answers `ValueError`.
+    made by changes (RFC 8210, 5.6). It never changes, and any number of threads may ask it at once. Its memory is freed
+    by `close`, at the end of a `with`, or with the object; a table that is closed answers `ValueError`.
 
     Payloads and routes are sequences of `Payload` and `Route`, or objects with the buffer protocol (`bytes`, a
-    `memoryview`, an `array`) whose octets are such side by side as C lays them out: 24 each, in the order of the fields,
-    with numbers as the processor has them."""
+    `memoryview`, an `array`) whose octets are such side by side as C lays them out: 24 each, in the order of the
+    fields, with numbers as the processor has them."""
 
     def __init__(self, library: raw.Library, payloads: object) -> None:
         self._library = library
@@ -94,8 +94,8 @@ class Table:
         return self.origins([route])[0]
 
     def covering(self, route: Route) -> list[Covering]:
-        """The payloads that cover a route, which explain its validity: the longest prefix first, by one prefix the least
-        AS number, and by one AS the longest greatest length. `BadOrigin` where it is none."""
+        """The payloads that cover a route, which explain its validity: the longest prefix first, by one prefix the
+        least AS number, and by one AS the longest greatest length. `BadOrigin` where it is none."""
         status, held, length = self._library.table_covering(self._handle(), route, 8)
         if status == Status.TOO_SMALL:
             status, held, length = self._library.table_covering(self._handle(), route, length)

@@ -406,14 +406,8 @@ impl Table {
     pub fn new(payloads: &[Payload]) -> (u32, Table, usize) {
         let (mut table, mut place) = (Table::null(), 0);
         // SAFETY: as in `origins`; what stood in the place of the handle was null.
-        let status = unsafe {
-            pg_table_new(
-                payloads.as_ptr(),
-                payloads.len(),
-                &mut table.0,
-                &mut place,
-            )
-        };
+        let status =
+            unsafe { pg_table_new(payloads.as_ptr(), payloads.len(), &mut table.0, &mut place) };
         (status, table, place)
     }
 
@@ -458,9 +452,8 @@ impl Table {
     pub fn covering(&self, route: &Route, out: &mut [Covering]) -> (u32, usize) {
         let mut len = 0;
         // SAFETY: as in `changed`; `Covering` is laid out as in C.
-        let status = unsafe {
-            pg_table_covering(self.0, route, out.as_mut_ptr(), out.len(), &mut len)
-        };
+        let status =
+            unsafe { pg_table_covering(self.0, route, out.as_mut_ptr(), out.len(), &mut len) };
         (status, len)
     }
 
@@ -476,8 +469,7 @@ impl Table {
     pub fn payloads(&self, out: &mut [Payload]) -> (u32, usize) {
         let mut len = 0;
         // SAFETY: as in `changed`; `Payload` is laid out as in C.
-        let status =
-            unsafe { pg_table_payloads(self.0, out.as_mut_ptr(), out.len(), &mut len) };
+        let status = unsafe { pg_table_payloads(self.0, out.as_mut_ptr(), out.len(), &mut len) };
         (status, len)
     }
 }

@@ -225,7 +225,9 @@ impl Display for Reason {
             Reason::OverclaimedV6 => "overclaimed IPv6 resources",
             Reason::Absent => "the certificate has neither extension",
             Reason::BadFamily(Side::First) => "unknown family",
-            Reason::BadFamily(Side::Second) => "unknown family of a route or of a withdrawn payload",
+            Reason::BadFamily(Side::Second) => {
+                "unknown family of a route or of a withdrawn payload"
+            }
             Reason::BadPrefix(Side::First) => "bad prefix of a payload",
             Reason::BadPrefix(Side::Second) => "bad prefix of a route or of a withdrawn payload",
             Reason::BadMaxLen => "bad greatest length of a payload",
@@ -292,8 +294,8 @@ impl Error for RefusedPath {}
 pub struct RefusedOrigin {
     /// The reason.
     pub reason: Reason,
-    /// The place of the first payload that is none, or of the first route or withdrawn payload where the reason says so;
-    /// else 0.
+    /// The place of the first payload that is none, or of the first route or withdrawn payload where the reason says
+    /// so; else 0.
     pub place: usize,
 }
 

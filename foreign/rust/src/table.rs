@@ -6,8 +6,9 @@ use core::net::IpAddr;
 use crate::raw::{self, OK, OTHER_AS, TOO_LONG, TOO_SMALL};
 use crate::{address_of, validity_of, Payload, Prefix, Reason, RefusedOrigin, Route, Validity};
 
-/// A table of validated payloads, which is asked as often as one likes (RFC 6811, 2), and from which the next one is made
-/// by changes (RFC 8210, 5.6). It never changes. It is `Send` and `Sync`: any number of threads may ask it at once.
+/// A table of validated payloads, which is asked as often as one likes (RFC 6811, 2), and from which the next one is
+/// made by changes (RFC 8210, 5.6). It never changes. It is `Send` and `Sync`: any number of threads may ask it at
+/// once.
 ///
 /// ```
 /// use pigyelund::{Payload, Route, Table, Validity};
@@ -88,8 +89,8 @@ impl Table {
         }
     }
 
-    /// The payloads that cover a route, which explain its validity: the longest prefix first, by one prefix the least AS
-    /// number, and by one AS the longest greatest length.
+    /// The payloads that cover a route, which explain its validity: the longest prefix first, by one prefix the least
+    /// AS number, and by one AS the longest greatest length.
     pub fn covering(&self, route: &Route) -> Result<IntoIter<Covering>, Reason> {
         let found = with_items(|out: &mut [raw::Covering]| self.0.covering(route, out))?;
         Ok(found
@@ -131,7 +132,11 @@ pub struct Covering {
 
 impl Covering {
     fn of(told: &raw::Covering) -> Covering {
-        let width = if u32::from(told.family) == raw::IPV4 { 4 } else { 16 };
+        let width = if u32::from(told.family) == raw::IPV4 {
+            4
+        } else {
+            16
+        };
         let address: IpAddr = address_of(&told.address[..width]);
         Covering {
             prefix: Prefix {

@@ -4,7 +4,8 @@ use pigyelund::raw::{NO, OK, TOO_SMALL};
 use pigyelund::{
     answer, contains, cover, difference, equal, intersection, origins, union, verify, verify_path,
     version, Certificate, Encoding, Extensions, Family, Fault, Octets, Operation, Overclaim,
-    Payload, Reason, Refused, RefusedOrigin, RefusedPath, Resources, Route, Side, Test, Validity,
+    Payload, Reason, Refused, RefusedOrigin, RefusedPath, Resources, Route, Side, Table, Test,
+    Validity,
 };
 use std::collections::BTreeMap;
 use std::error::Error;
@@ -98,6 +99,19 @@ fn route(octets: &[u8]) -> Route {
         family: octets[20],
         len: octets[21],
     }
+}
+
+/// The octets that tell a payload.
+fn told_octets(address: [u8; 16], asn: u32, rest: &[u8]) -> Vec<u8> {
+    [&address[..], &asn.to_be_bytes()[..], rest].concat()
+}
+
+/// The octets that tell all payloads of a table.
+fn payload_octets(table: &Table) -> Vec<u8> {
+    let all = table.payloads().unwrap();
+    assert_eq!(all.len(), table.len());
+    all.flat_map(|it| told_octets(it.address, it.asn, &[it.family, it.len, it.max_len]))
+        .collect()
 }
 
 /// A row: what goes in, and what is told.
@@ -281,6 +295,93 @@ impl Row<'_> {
         }
     }
 
+    fn payloads(&self, at: usize) -> Vec<Payload> {
+        self.runs[at].chunks(23).map(payload).collect()
+    }
+
+    /// A refusal has the row's status and place.
+    fn expect_refused(&self, RefusedOrigin { reason, place }: RefusedOrigin) {
+        let found = (reason.status(), Some(place));
+        assert_eq!(found, (self.status, self.verified), "{}", self.text);
+    }
+
+    /// A row of routes by a table: all at once, and each alone.
+    fn ask_table_origins(&self) {
+        let routes: Vec<Route> = self.runs[2].chunks(22).map(route).collect();
+        let table = match Table::new(&self.payloads(0)) {
+            Ok(table) => table,
+            Err(refused) => return self.expect_refused(refused),
+        };
+        match table.origins(&routes) {
+            Ok(found) => {
+                let octets: Vec<u8> = found.iter().map(|validity| *validity as u8).collect();
+                assert_eq!(
+                    (OK, &octets),
+                    (self.status, &self.told.asn),
+                    "{}",
+                    self.text
+                );
+                for (route, validity) in routes.iter().zip(found) {
+                    assert_eq!(table.origin(route), Ok(validity), "{}", self.text);
+                }
+            }
+            Err(refused) => self.expect_refused(refused),
+        }
+    }
+
+    fn ask_covering(&self) {
+        let route = route(&self.runs[2]);
+        let table = match Table::new(&self.payloads(0)) {
+            Ok(table) => table,
+            Err(refused) => return self.expect_refused(refused),
+        };
+        let found = match table.covering(&route) {
+            Ok(found) => found,
+            Err(reason) => return assert_eq!(reason.status(), self.status, "{}", self.text),
+        };
+        let octets: Vec<u8> = found
+            .flat_map(|it| {
+                let address = octets_of(it.prefix.address);
+                let mut padded = [0; 16];
+                padded[..address.len()].copy_from_slice(&address);
+                let family = if it.prefix.address.is_ipv4() { 1 } else { 2 };
+                let why = u8::from(it.is_other_as()) + 2 * u8::from(it.is_too_long());
+                assert_eq!(it.is_match(), why == 0);
+                told_octets(padded, it.asn, &[family, it.prefix.len, it.max_len, why])
+            })
+            .collect();
+        assert_eq!(
+            (OK, &octets),
+            (self.status, &self.told.asn),
+            "{}",
+            self.text
+        );
+    }
+
+    /// A row of payloads, or of changes.
+    fn ask_payloads(&self) {
+        let table = match Table::new(&self.payloads(0)) {
+            Ok(table) => table,
+            Err(refused) => return self.expect_refused(refused),
+        };
+        if self.call == "payloads" {
+            assert_eq!(
+                (OK, payload_octets(&table)),
+                (self.status, self.told.asn.clone())
+            );
+            return;
+        }
+        let before = payload_octets(&table);
+        match table.changed(&self.payloads(2), &self.payloads(3)) {
+            Ok(next) => {
+                let found = (OK, payload_octets(&next));
+                assert_eq!(found, (self.status, self.told.asn.clone()), "{}", self.text);
+            }
+            Err(refused) => self.expect_refused(refused),
+        }
+        assert_eq!(payload_octets(&table), before, "{}", self.text);
+    }
+
     fn ask_answer(&self) {
         let line = &self.runs[0];
         self.ask_room(|out| raw::answer(line, out));
@@ -324,7 +425,12 @@ impl Row<'_> {
             "verify" => self.ask_verify(),
             "path" => self.ask_path(),
             "cover" => self.ask_cover(),
-            "origins" => self.ask_origins(),
+            "origins" => {
+                self.ask_origins();
+                self.ask_table_origins();
+            }
+            "covering" => self.ask_covering(),
+            "payloads" | "changed" => self.ask_payloads(),
             "answer" => self.ask_answer(),
             "union" => self.ask_operation(Operation::Union, union),
             "intersection" => self.ask_operation(Operation::Intersection, intersection),
@@ -381,6 +487,9 @@ fn named() -> Vec<(&'static str, u32)> {
         ("BAD_FAMILY", raw::BAD_FAMILY),
         ("BAD_PREFIX", raw::BAD_PREFIX),
         ("BAD_MAX_LEN", raw::BAD_MAX_LEN),
+        ("NO_TABLE", raw::NO_TABLE),
+        ("UNKNOWN_WITHDRAWAL", raw::UNKNOWN_WITHDRAWAL),
+        ("DUPLICATE_ANNOUNCEMENT", raw::DUPLICATE_ANNOUNCEMENT),
         ("BAD_AS", raw::BAD_AS),
         ("BAD_IP", raw::BAD_IP),
         ("SECOND", raw::SECOND),
@@ -396,6 +505,8 @@ fn named() -> Vec<(&'static str, u32)> {
         ("VALID", Validity::Valid as u32),
         ("NOT_FOUND", Validity::NotFound as u32),
         ("INVALID", Validity::Invalid as u32),
+        ("OTHER_AS", raw::OTHER_AS),
+        ("TOO_LONG", raw::TOO_LONG),
         ("VERSION", version()),
     ]
 }
@@ -485,6 +596,45 @@ fn reasons_are_errors() {
     assert_eq!(found.reason, Reason::Inherited(Side::Second));
     let found = cover(&[0x30], Encoding::Lenient, Family::V6).unwrap_err();
     assert_eq!(found.reason, Reason::BadIp(Side::First, Fault::Truncated));
+}
+
+/// One table is asked on threads at once, while each makes the next from it.
+#[test]
+fn a_table_is_asked_on_threads() {
+    let net = |at: usize| IpAddr::V4(Ipv4Addr::from((at as u32) << 12));
+    let payloads: Vec<Payload> = (0..4000)
+        .map(|at| Payload::new(net(at), 20, 24, 7))
+        .collect();
+    let table = Table::new(&payloads).unwrap();
+    thread::scope(|scope| {
+        for turn in 0..THREADS {
+            let (table, payloads) = (&table, &payloads);
+            scope.spawn(move || {
+                for at in (turn..payloads.len()).step_by(3) {
+                    let found = table.origin(&Route::new(net(at), 24, 7));
+                    assert_eq!(found, Ok(Validity::Valid));
+                }
+                let next = table.changed(&[], &payloads[turn..turn + 1]).unwrap();
+                assert_eq!(next.len(), payloads.len() - 1);
+                let gone = next.origin(&Route::new(net(turn), 24, 7));
+                assert_eq!(gone, Ok(Validity::NotFound));
+            });
+        }
+    });
+    assert_eq!(table.len(), payloads.len());
+}
+
+#[test]
+fn a_null_table_is_refused() {
+    let null = raw::Table::null();
+    let route = Route::new(Ipv4Addr::new(10, 0, 0, 0).into(), 8, 1);
+    assert!(null.is_null());
+    assert_eq!(null.origins(&[route], &mut [0]), (raw::NO_TABLE, 0, 0));
+    assert_eq!(null.covering(&route, &mut []), (raw::NO_TABLE, 0));
+    assert_eq!(null.count(), (raw::NO_TABLE, 0));
+    assert_eq!(null.payloads(&mut []), (raw::NO_TABLE, 0));
+    let (status, next, place) = null.changed(&[], &[]);
+    assert_eq!((status, next.is_null(), place), (raw::NO_TABLE, true, 0));
 }
 
 #[test]

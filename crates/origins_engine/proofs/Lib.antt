@@ -1,0 +1,3 @@
+-- Lemmas on runs.
+pub mod AnswerLemmas
+pub mod LineLemmas

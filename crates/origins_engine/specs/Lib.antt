@@ -1,0 +1,3 @@
+-- Definitions: what is left of a reader, and what runs leave in a writer by the octets of their inputs.
+pub mod Readers
+pub mod Runs

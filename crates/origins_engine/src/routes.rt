@@ -1,0 +1,116 @@
+//! Answers routes by the payloads of a file.
+ghost use Rattle.std.specs.Prelude.{◌≡◌, Err, false, true, IfOk, IfSome, OnOk, IsErrOf, length};
+ghost use Rattle.std.specs.Io.KnownBytes.{IsAtEnd};
+ghost use Rattle.lines_engine.specs.Run.{AnswersAll, AnswersEnded, AnswersFirst, BeginsAnswers};
+ghost use Rattle.lines_engine.specs.declared.error.RunError.TheVariants as RunError;
+ghost use Rattle.origin_lines.specs.Answers.{IsOriginAnswer};
+ghost use Rattle.origins_engine.specs.Runs.{ByFile};
+ghost use Rattle.origins_engine.specs.declared.error.OriginsError.TheVariants.{Payloads, Run};
+ghost use Rattle.origins_engine.specs.declared.error.PayloadsError.TheVariants as PayloadsError;
+ghost use Rattle.payload_texts.specs.Files.{HasFileFault};
+
+use crate::error::{OriginsError, PayloadsError};
+use crate::file::read_file;
+use lines_engine::device::{Sink, Source};
+use lines_engine::error::RunError;
+use lines_engine::stream::answer_as_read;
+use origin_lines::Routes;
+use payload_texts::FileFault;
+use roa_origin::OriginTable;
+use rpki_base::Asn;
+use rpki_prefix::MaxLenPrefix;
+use std::alloc::Allocator;
+
+/// Reads all payloads, and then answers each line of routes as it is read, in order, with one line; with `why` behind
+/// the word each payload that covers the route. Answers how many payloads were read.
+pub fn answer_routes<A: Allocator + Copy, P: Source, R: Source, W: Sink>(
+    alloc: A,
+    payloads: &mut P,
+    why: bool,
+    routes: &mut R,
+    writer: &mut W,
+) -> Result<usize, OriginsError>
+    // None has failed: no call follows one that did.
+    requires payloads_clear { P.mark payloads.old ≡ false }
+    requires routes_clear { R.mark routes.old ≡ false }
+    requires writer_clear { W.mark writer.old ≡ false }
+
+    // No call failed, all was read, each line of the routes was answered by the payloads that the file writes, which
+    // are as many as is answered, and the writer is flushed.
+    ensures unmarked { OnOk result ((P.mark payloads.new ≡ P.mark payloads.old)
+        × (R.mark routes.new ≡ R.mark routes.old) × (W.mark writer.new ≡ W.mark writer.old)) }
+    ensures read_whole { OnOk result (IsAtEnd (P.left payloads.new) × IsAtEnd (R.left routes.new)) }
+    ensures answered { IfOk result (λ count. IfSome (P.left payloads.old) (ByFile (λ listed.
+        (count ≡ length listed) × IfSome (R.left routes.old)
+        (AnswersAll (IsOriginAnswer why listed) (W.written writer.old) (W.written writer.new))))) }
+    ensures flushed { OnOk result (W.flushed writer.new ≡ true) }
+
+    // The payloads weren't read: no route was, and nothing was written.
+    ensures untouched { (error : PayloadsError) → result ≡ Err (Payloads error) →
+        (routes.new ≡ routes.old) × (writer.new ≡ writer.old) }
+    ensures read { IsErrOf result (Payloads PayloadsError.Read) → P.mark payloads.new ≡ true }
+    ensures wrong { (fault : FileFault) → IsErrOf result (Payloads (PayloadsError.File fault)) →
+        IfSome (P.left payloads.old) (λ text. HasFileFault text fault) }
+
+    // A read of the routes failed. The answers of the lines whose ends were read were written whole, and nothing else.
+    ensures routes_read { IsErrOf result (Run RunError.Read) →
+        (R.mark routes.new ≡ true) × (W.mark writer.new ≡ W.mark writer.old) }
+    ensures ended_answered { IsErrOf result (Run RunError.Read) → IfSome (P.left payloads.old) (ByFile (λ listed.
+        AnswersEnded (IsOriginAnswer why listed) (W.written writer.old) (W.written writer.new)
+        (R.left routes.old) (R.left routes.new))) }
+
+    // No call failed. The answers of some first lines, of not all where there is any, were written whole, and nothing
+    // else.
+    ensures memory_unmarked { IsErrOf result (Run RunError.Memory) →
+        (R.mark routes.new ≡ R.mark routes.old) × (W.mark writer.new ≡ W.mark writer.old) }
+    ensures some_answered { IsErrOf result (Run RunError.Memory) → IfSome (P.left payloads.old) (ByFile (λ listed.
+        IfSome (R.left routes.old)
+        (AnswersFirst (IsOriginAnswer why listed) (W.written writer.old) (W.written writer.new)))) }
+
+    // A write or a flush failed, or a write took nothing, and a beginning of the answers was written.
+    ensures write { IsErrOf result (Run RunError.Write) → W.mark writer.new ≡ true }
+    ensures some_written { IsErrOf result (Run RunError.Write) → IfSome (P.left payloads.old) (ByFile (λ listed.
+        IfSome (R.left routes.old)
+        (BeginsAnswers (IsOriginAnswer why listed) (W.written writer.old) (W.written writer.new)))) }
+{
+    let listed = match read_file(alloc, payloads) {
+        Ok(listed) => listed,
+        Err(error) => return Err(OriginsError::Payloads(error)),
+    };
+    match answer_by(alloc, listed.as_slice(), why, routes, writer) {
+        Ok(()) => Ok(listed.len()),
+        Err(error) => Err(OriginsError::Run(error)),
+    }
+}
+
+/// Answers each line of routes by a list of payloads, as it is read.
+fn answer_by<A: Allocator + Copy, R: Source, W: Sink>(
+    alloc: A,
+    listed: &[(MaxLenPrefix, Asn)],
+    why: bool,
+    routes: &mut R,
+    writer: &mut W,
+) -> Result<(), RunError>
+    requires routes_clear { R.mark routes.old ≡ false }
+    requires writer_clear { W.mark writer.old ≡ false }
+    ensures unmarked { OnOk result ((R.mark routes.new ≡ R.mark routes.old)
+        × (W.mark writer.new ≡ W.mark writer.old)) }
+    ensures read_whole { OnOk result (IsAtEnd (R.left routes.new)) }
+    ensures answered { OnOk result (IfSome (R.left routes.old)
+        (AnswersAll (IsOriginAnswer why listed.now) (W.written writer.old) (W.written writer.new))) }
+    ensures flushed { OnOk result (W.flushed writer.new ≡ true) }
+    ensures read { IsErrOf result RunError.Read →
+        (R.mark routes.new ≡ true) × (W.mark writer.new ≡ W.mark writer.old) }
+    ensures ended_answered { IsErrOf result RunError.Read → AnswersEnded (IsOriginAnswer why listed.now)
+        (W.written writer.old) (W.written writer.new) (R.left routes.old) (R.left routes.new) }
+    ensures memory_unmarked { IsErrOf result RunError.Memory →
+        (R.mark routes.new ≡ R.mark routes.old) × (W.mark writer.new ≡ W.mark writer.old) }
+    ensures some_answered { IsErrOf result RunError.Memory → IfSome (R.left routes.old)
+        (AnswersFirst (IsOriginAnswer why listed.now) (W.written writer.old) (W.written writer.new)) }
+    ensures write { IsErrOf result RunError.Write → W.mark writer.new ≡ true }
+    ensures some_written { IsErrOf result RunError.Write → IfSome (R.left routes.old)
+        (BeginsAnswers (IsOriginAnswer why listed.now) (W.written writer.old) (W.written writer.new)) }
+{
+    let table = OriginTable::new(alloc, listed)?;
+    answer_as_read(alloc, &Routes { table: &table, why }, routes, writer)
+}

@@ -12,7 +12,7 @@ copy="$files/a copy"
 out=$copy/crates/respath/out
 mkdir -p "$copy/bin" "$copy/tools" "$copy/tmp" "$copy/crates/other"
 for crate in $(sed '/^#/d; s/[ :].*//' "$top/crates.txt"); do mkdir -p "$copy/crates/$crate/out"; done
-cp "$top/respath" "$top/crates.txt" "$copy/"
+cp "$top/respath" "$top/program.sh" "$top/crates.txt" "$copy/"
 # shellcheck disable=SC2016 # the README's own marks
 echo 'Last proved whole with `a-kit logic 12`.' >"$copy/README.md"
 printf '#!/bin/sh\necho ran\n' >"$out/respath"

@@ -202,7 +202,8 @@ def of_check(folder: Path) -> Iterator[tuple[str, str | None]]:
     folder.mkdir()
     shutil.copy(TOP / "check", folder)
     fakes = {it: PART for it in (*parts, f"tests/{Path(ROWS).name}") if it != "reference"}
-    fakes |= {"respath": '#!/bin/sh\nexit "${NOTED-0}"\n', "bin/rt": '#!/bin/sh\necho "$TOTAL"\nexit "${PROVED-0}"\n'}
+    fakes |= dict.fromkeys(("respath", "origins"), '#!/bin/sh\nexit "${NOTED-0}"\n')
+    fakes |= {"bin/rt": '#!/bin/sh\necho "$TOTAL"\nexit "${PROVED-0}"\n'}
     for name, text in fakes.items():
         (folder / name).parent.mkdir(exist_ok=True)
         (folder / name).write_text(text)

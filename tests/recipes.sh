@@ -32,11 +32,14 @@ missing_tool() {
     done
 }
 
-# The folder has a ./respath that is the one of the repository. What a command sets, the later ones have.
-printf '#!/bin/sh\nexec "%s/respath" "$@"\n' "$top" >"$folder/run/respath"
-chmod +x "$folder/run/respath"
+# The folder has a ./respath and an ./origins that are those of the repository. What a command sets, the later ones have.
+for program in respath origins; do
+    printf '#!/bin/sh\nexec "%s/%s" "$@"\n' "$top" "$program" >"$folder/run/$program"
+    chmod +x "$folder/run/$program"
+done
 cd "$folder/run" || exit 1
 ./respath </dev/null || exit 1
+./origins --help >/dev/null || exit 1
 failed=0
 for command in "$folder"/page/command.*; do
     number=${command##*.}

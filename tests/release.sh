@@ -12,14 +12,15 @@ has() { command -v "$2" >/dev/null || { echo "left out: $1 needs $2"; return 1; 
 fail() { echo "FAILED: $1"; failed=1; }
 
 # The examples of a page of the manual, as they are printed.
-printed() { sed -n '/^\.SH EXAMPLES/,/^\.fi/{s/\\-/-/g; s/\\(aq/'"'"'/g; /^\./d; p}' "$1"; }
+printed() { sed -n '/^\.SH EXAMPLES/,/^\.fi/{s/\\-/-/g; s/\\(aq/'"'"'/g; s/\\e/\\/g; /^\./d; p}' "$1"; }
 
 # answers FOLDER PAGE: whether the program in FOLDER answers each example as the page shows it
 answers() {
     printed "$2" >"$out/shown"
+    mkdir -p "$out/examples"
     sed -n 's/^\$ //p' "$out/shown" | while IFS= read -r line; do
         printf '$ %s\n' "$line"
-        PATH="$1:$PATH" sh -c "$line"
+        (cd "$out/examples" && PATH="$1:$PATH" sh -c "$line" 2>/dev/null)
     done | diff "$out/shown" - && grep -q '^\$ ' "$out/shown"
 }
 
@@ -29,12 +30,14 @@ answers() {
 mkdir "$out/un packed" && tar -xzf "$out/one/pigyelund-$version.tar.gz" -C "$out/un packed" || fail "tar"
 tree="$out/un packed/pigyelund-$version"
 (cd "$tree" && sha256sum --quiet -c SHA256SUMS) || fail "the sums of the files"
-answers "$tree/bin" "$tree/share/man/man1/respath.1" || fail "the manual's examples"
+for program in respath origins; do
+    answers "$tree/bin" "$tree/share/man/man1/$program.1" || fail "the manual's examples of $program"
+done
 grep -q '^logic=proved .*axioms=' "$tree/share/doc/pigyelund/VERDICTS" || fail "the verdicts"
 cmp LICENSE "$tree/share/doc/pigyelund/LICENSE" || fail "the licence"
 if has "a program in C" gcc; then tests/foreign_page.py C "$tree" || fail "a program in C"; fi
-if has "the manual's page" groff; then
-    [ -z "$(groff -man -ww -z "$tree/share/man/man1/respath.1" 2>&1)" ] || fail "the manual's page"
+if has "the manual's pages" groff; then
+    [ -z "$(groff -man -ww -z "$tree"/share/man/man1/*.1 2>&1)" ] || fail "the manual's pages"
 fi
 if has "the package of Debian" dpkg-deb && has "the package of Debian" dpkg; then
     ./release --deb "$version" "$out/deb" >"$out/log" 2>&1 || { cat "$out/log"; fail "release --deb"; }
@@ -42,8 +45,10 @@ if has "the package of Debian" dpkg-deb && has "the package of Debian" dpkg; the
     # Its root has no libc6, which is this system's.
     dpkg --root="$out/root" --log="$out/dpkg" --force-not-root --force-depends -i "$out"/deb/*.deb >"$out/log" 2>&1 ||
         { cat "$out/log"; fail "dpkg --install"; }
-    gzip -d <"$out/root/usr/share/man/man1/respath.1.gz" >"$out/page"
-    answers "$out/root/usr/bin" "$out/page" || fail "the installed program"
+    for program in respath origins; do
+        gzip -d <"$out/root/usr/share/man/man1/$program.1.gz" >"$out/page"
+        answers "$out/root/usr/bin" "$out/page" || fail "the installed $program"
+    done
     for part in bin include lib; do
         diff -r "$tree/$part" "$out/root/usr/$part" || fail "the same tree makes the same $part"
     done

@@ -6,9 +6,9 @@ ghost use Rattle.pigyelund_c.specs.Covers.{IsCoverIn, IsCover, IsNoCover, AreCov
 ghost use Rattle.pigyelund_c.specs.Sets.{IsNoSet};
 
 use crate::encodings::encoding_of;
-use route_calls::family::family_of;
 use crate::read::set_of;
 use crate::refusal::{Misasked, Unread};
+use route_calls::family::family_of;
 use rpki_extensions::encoding::Encoding;
 use rpki_resources::OrMemory;
 use rpki_resources::repository::resources::{AddressFamily, Ipv4Blocks, Ipv6Blocks, Prefix};

@@ -4,8 +4,8 @@ ghost use Rattle.respath_lines.specs.Answer.{IsAnswer};
 ghost use Rattle.route_calls.specs.Told.{AreTold};
 
 use crate::status;
-use route_calls::tell::tell_items;
 use respath_lines::answer;
+use route_calls::tell::tell_items;
 use std::alloc::Global;
 
 /// Tells the answer of `respath` to a line, both without the end of a line. The status is 0 where the answer is told; 1

@@ -1,9 +1,9 @@
 //! The export of route origins.
 ghost use Rattle.route_calls.specs.Origins.{AreOriginsTold};
 
+use crate::status;
 use route_calls::origin::origins;
 use route_calls::route::{Payload, Route};
-use crate::status;
 use route_calls::tell::tell_items;
 use rpki_resources::OrMemory;
 use std::alloc::Global;

@@ -1,10 +1,10 @@
 //! The exports of tables that stay.
 ghost use Rattle.route_calls.specs.Tables.{AreCoveringsTold, ArePayloadsTold, AreTableOriginsTold, IsChangedTableTold, IsCountTold, IsMadeTableTold};
 
+use crate::status;
 use route_calls::change::changed_table;
 use route_calls::handle::{TableOwner, TablePlace, TableRef};
 use route_calls::route::{Covering, Payload, Route};
-use crate::status;
 use route_calls::table::{all_payloads, coverings, made_table, table_origins};
 use route_calls::tell::tell_items;
 use rpki_resources::OrMemory;

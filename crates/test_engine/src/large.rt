@@ -1,9 +1,8 @@
-//! A run over more octets than any buffer between has: an input of more than 2^24, an answer of more than 2^16.
+//! Runs over more octets than any buffer between has: an input of more than 2^24, an answer of more than 2^16.
+use crate::seen::Engine;
 use crate::slices::{Habits, SliceSink, SliceSource};
 use crate::streams::{SliceReader, SliceWriter};
 use lines_engine::adapters::{FromRead, IntoWrite};
-use lines_engine::engine::run;
-use respath_lines::lines::Commands;
 use std::alloc::{AllocError, Global};
 
 /// How many AS numbers a line lists: every second one from 0 on.
@@ -33,37 +32,47 @@ fn input(alloc: Global) -> Result<Vec<u8>, AllocError> {
 }
 
 /// Whether this is what is written for an input, over a reader and a writer of std.
-fn is_answered(alloc: Global, input: &[u8], output: &[u8], room: &mut [u8]) -> bool {
+fn is_answered(
+    alloc: Global,
+    engine: Engine,
+    input: &[u8],
+    output: &[u8],
+    room: &mut [u8],
+) -> bool {
     let mut reader = SliceReader {
         source: SliceSource::new(input, Habits::GOOD),
     };
     let mut writer = SliceWriter {
         sink: SliceSink::new(room, Habits::GOOD),
     };
-    let ended = run(
+    let ended = engine.run(
         alloc,
-        &Commands,
         &mut FromRead::new(&mut reader),
         &mut IntoWrite::new(&mut writer),
     );
     ended.is_ok() && writer.sink.written() == output
 }
 
-fn is_answered_whole(alloc: Global, output: &[u8]) -> Result<bool, AllocError> {
+fn is_answered_whole(alloc: Global, engine: Engine, output: &[u8]) -> Result<bool, AllocError> {
     let input = input(alloc)?;
     let mut room = Vec::new(alloc);
     room.resize(output.len() + 1, 0)?;
     let is_large = input.len() > 1 << 24 && output.len() > 1 << 16;
-    Ok(is_large && is_answered(alloc, &input, output, &mut room))
+    Ok(is_large && is_answered(alloc, engine, &input, output, &mut room))
 }
 
-fn all_is_answered(alloc: Global) -> Result<bool, AllocError> {
+fn all_is_answered(alloc: Global, engine: Engine) -> Result<bool, AllocError> {
     let mut output = list(alloc, ", ")?;
     output.push_str(", AS4294967295\nAS7\n")?;
-    is_answered_whole(alloc, output.as_bytes())
+    is_answered_whole(alloc, engine, output.as_bytes())
 }
 
 #[test]
 fn a_large_input_is_answered_whole(rt: HostRuntime) {
-    assert!(rt; all_is_answered(rt.alloc()) == Ok(true));
+    for engine in &Engine::ALL {
+        assert!(rt;
+            all_is_answered(rt.alloc(), *engine) == Ok(true),
+            "{engine:?}"
+        );
+    }
 }

@@ -1,5 +1,5 @@
 //! Runs over devices that move few bytes, fail or fill up, and over memory that is refused.
-use crate::seen::{Devices, ROOM, Row, Seen, run_own};
+use crate::seen::{Devices, Engine, ROOM, Row, Seen, run_own};
 use crate::slices::Habits;
 use lines_engine::error::RunError;
 use std::alloc::Global;
@@ -46,9 +46,18 @@ const LONG: Row = Row {
         error: unknown command\nerror: unknown command\nerror: unknown command\n",
 };
 
+/// Each engine over each kind of devices.
+const RUNS: [(Engine, Devices); 4] = [
+    (Engine::Whole, Devices::Own),
+    (Engine::Whole, Devices::Std),
+    (Engine::AsRead, Devices::Own),
+    (Engine::AsRead, Devices::Std),
+];
+
 /// Stops the test where a run wasn't as it must be.
-fn check(rt: &impl Abort, is_right: bool, devices: Devices, number: u64) {
-    assert!(rt; is_right, "{devices:?} devices, {number}");
+fn check(rt: &impl Abort, is_right: bool, run: (Engine, Devices), number: u64) {
+    let (engine, devices) = run;
+    assert!(rt; is_right, "{engine:?}, {devices:?} devices, {number}");
 }
 
 /// Whether all was read, answered and flushed.
@@ -57,17 +66,29 @@ fn is_whole(seen: &Seen, row: &Row) -> bool {
     seen.ended.is_ok() && seen.left == 0 && all_written && seen.flushed
 }
 
+/// What is seen of a run.
+fn seen_of(
+    run: (Engine, Devices),
+    heap: Global,
+    row: &Row,
+    reading: Habits,
+    writing: Habits,
+) -> Seen {
+    let (engine, devices) = run;
+    devices.run(heap, engine, row, reading, writing)
+}
+
 /// Whether an input is answered over devices of these habits.
-fn is_answered(devices: Devices, heap: Global, row: &Row, habits: Habits) -> bool {
-    is_whole(&devices.run(heap, row, habits, habits), row)
+fn is_answered(run: (Engine, Devices), heap: Global, row: &Row, habits: Habits) -> bool {
+    is_whole(&seen_of(run, heap, row, habits, habits), row)
 }
 
 #[test]
 fn each_input_is_answered_and_flushed(rt: HostRuntime) {
     for row in &ENDS_OF_LINES {
-        for devices in &Devices::ALL {
-            let is_right = is_answered(*devices, rt.alloc(), row, Habits::GOOD);
-            check(&rt, is_right, *devices, row.input.len() as u64);
+        for run in &RUNS {
+            let is_right = is_answered(*run, rt.alloc(), row, Habits::GOOD);
+            check(&rt, is_right, *run, row.input.len() as u64);
         }
     }
 }
@@ -75,35 +96,50 @@ fn each_input_is_answered_and_flushed(rt: HostRuntime) {
 #[test]
 fn a_run_in_steps_answers_the_same(rt: HostRuntime) {
     for step in &[1, 3, usize::MAX] {
-        for devices in &Devices::ALL {
+        for run in &RUNS {
             let habits = Habits::in_steps(*step);
-            let is_right = is_answered(*devices, rt.alloc(), &LINES, habits);
-            check(&rt, is_right, *devices, *step as u64);
+            let is_right = is_answered(*run, rt.alloc(), &LINES, habits);
+            check(&rt, is_right, *run, *step as u64);
         }
     }
 }
 
-/// Whether the read with this number, which fails, is the last call of all, and its fault the answer.
-fn ends_at_read(devices: Devices, heap: Global, number: u64) -> bool {
-    let seen = devices.run(heap, &LINES, Habits::failing_at(number), Habits::GOOD);
-    let is_last = seen.reads == number.saturating_add(1) && seen.writes == 0;
-    matches!(seen.ended, Err(RunError::Read)) && is_last
+/// How many lines end in bytes.
+fn ends_in(bytes: &[u8]) -> usize {
+    bytes.iter().filter(|byte| **byte == b'\n').count()
+}
+
+/// How many lines are answered before the read with this number, at a byte a read.
+fn answered_before(engine: Engine, number: u64) -> usize {
+    match engine {
+        Engine::Whole => 0,
+        Engine::AsRead => ends_in(&LINES.input[..(number as usize).min(LINES.input.len())]),
+    }
+}
+
+/// Whether the read with this number, which fails, is the last one, and its fault the answer. Nothing is flushed.
+fn ends_at_read(run: (Engine, Devices), heap: Global, number: u64) -> bool {
+    let seen = seen_of(run, heap, &LINES, Habits::failing_at(number), Habits::GOOD);
+    let is_last = seen.reads == number.saturating_add(1) && !seen.flushed;
+    let answered = ends_in(&LINES.output[..seen.written.min(LINES.output.len())]);
+    let is_right = answered == answered_before(run.0, number) && are_whole_lines(&seen, &LINES);
+    matches!(seen.ended, Err(RunError::Read)) && is_last && is_right
 }
 
 #[test]
 fn each_read_fails_in_turn(rt: HostRuntime) {
     for number in 0..READS {
-        for devices in &Devices::ALL {
-            let is_right = ends_at_read(*devices, rt.alloc(), number);
-            check(&rt, is_right, *devices, number);
+        for run in &RUNS {
+            let is_right = ends_at_read(*run, rt.alloc(), number);
+            check(&rt, is_right, *run, number);
         }
     }
 }
 
 /// Whether the write or flush with this number, which fails, is the writer's last call, and its fault the answer. The
 /// bytes before it were written, one a call.
-fn ends_at_write(devices: Devices, heap: Global, number: u64, habits: Habits) -> bool {
-    let seen = devices.run(heap, &LINES, Habits::GOOD, habits);
+fn ends_at_write(run: (Engine, Devices), heap: Global, number: u64, habits: Habits) -> bool {
+    let seen = seen_of(run, heap, &LINES, Habits::GOOD, habits);
     let is_last = seen.writes == number.saturating_add(1) && !seen.flushed;
     let is_beginning = seen.begins && seen.written as u64 == number;
     matches!(seen.ended, Err(RunError::Write)) && is_last && is_beginning
@@ -112,25 +148,26 @@ fn ends_at_write(devices: Devices, heap: Global, number: u64, habits: Habits) ->
 #[test]
 fn each_write_and_the_flush_fail_in_turn(rt: HostRuntime) {
     for number in 0..WRITES {
-        for devices in &Devices::ALL {
+        for run in &RUNS {
             let habits = Habits::failing_at(number);
-            let is_right = ends_at_write(*devices, rt.alloc(), number, habits);
-            check(&rt, is_right, *devices, number);
+            let is_right = ends_at_write(*run, rt.alloc(), number, habits);
+            check(&rt, is_right, *run, number);
         }
     }
 }
 
 #[test]
 fn a_write_that_takes_nothing_is_a_fault(rt: HostRuntime) {
-    for devices in &Devices::ALL {
-        let is_right = ends_at_write(*devices, rt.alloc(), 0, Habits::in_steps(0));
-        check(&rt, is_right, *devices, 0);
+    for run in &RUNS {
+        let is_right = ends_at_write(*run, rt.alloc(), 0, Habits::in_steps(0));
+        check(&rt, is_right, *run, 0);
     }
 }
 
 /// Whether a run makes so many calls, where none of them fails.
-fn asks(devices: Devices, heap: Global, row: &Row, reads: u64, writes: u64) -> bool {
-    let seen = devices.run(
+fn asks(run: (Engine, Devices), heap: Global, row: &Row, reads: u64, writes: u64) -> bool {
+    let seen = seen_of(
+        run,
         heap,
         row,
         Habits::failing_at(reads),
@@ -141,26 +178,26 @@ fn asks(devices: Devices, heap: Global, row: &Row, reads: u64, writes: u64) -> b
 
 #[test]
 fn no_other_call_is_made(rt: HostRuntime) {
-    for devices in &Devices::ALL {
-        let is_right = asks(*devices, rt.alloc(), &LINES, READS, WRITES);
-        check(&rt, is_right, *devices, WRITES);
+    for run in &RUNS {
+        let is_right = asks(*run, rt.alloc(), &LINES, READS, WRITES);
+        check(&rt, is_right, *run, WRITES);
         // Of an empty input the end is read, and it is flushed too.
-        let is_right = asks(*devices, rt.alloc(), &ENDS_OF_LINES[0], 1, 1);
-        check(&rt, is_right, *devices, 1);
+        let is_right = asks(*run, rt.alloc(), &ENDS_OF_LINES[0], 1, 1);
+        check(&rt, is_right, *run, 1);
     }
 }
 
 /// Whether what there is room for was written, and then a write that took nothing was the fault.
-fn ends_when_full(devices: Devices, heap: Global) -> bool {
-    let seen = devices.run(heap, &LONG, Habits::GOOD, Habits::GOOD);
+fn ends_when_full(run: (Engine, Devices), heap: Global) -> bool {
+    let seen = seen_of(run, heap, &LONG, Habits::GOOD, Habits::GOOD);
     let is_full = seen.written == ROOM && seen.begins && !seen.flushed;
     matches!(seen.ended, Err(RunError::Write)) && is_full
 }
 
 #[test]
 fn a_sink_that_fills_up_is_a_fault(rt: HostRuntime) {
-    for devices in &Devices::ALL {
-        check(&rt, ends_when_full(*devices, rt.alloc()), *devices, 0);
+    for run in &RUNS {
+        check(&rt, ends_when_full(*run, rt.alloc()), *run, 0);
     }
 }
 
@@ -182,8 +219,8 @@ fn are_whole_lines(seen: &Seen, row: &Row) -> bool {
 
 /// How a run ended that may have been refused a request: then only the answers of some first lines were written, and
 /// nothing was flushed.
-fn outcome(refusing: &Refusing<Global>, row: &Row) -> Outcome {
-    let seen = run_own(refusing, row, Habits::GOOD, Habits::GOOD);
+fn outcome(refusing: &Refusing<Global>, engine: Engine, row: &Row) -> Outcome {
+    let seen = run_own(refusing, engine, row, Habits::GOOD, Habits::GOOD);
     match seen.ended {
         Ok(()) if is_whole(&seen, row) => Outcome::Expected,
         Err(RunError::Memory) if are_whole_lines(&seen, row) && !seen.flushed => {
@@ -193,17 +230,23 @@ fn outcome(refusing: &Refusing<Global>, row: &Row) -> Outcome {
     }
 }
 
+/// How many requests were refused in turn, or the number of the one behind which a run wasn't as it must be.
+fn refused(heap: Global, engine: Engine, row: &Row) -> Result<u64, u64> {
+    refuse_in_turn(
+        heap,
+        1000,
+        |refusing: &Refusing<Global>| outcome(refusing, engine, row),
+    )
+}
+
 #[test]
 fn each_request_is_refused_in_turn(rt: HostRuntime) {
-    for row in &[LINES, WORKED] {
-        let refused = refuse_in_turn(
-            rt.alloc(),
-            1000,
-            |refusing: &Refusing<Global>| outcome(refusing, row),
-        );
-        match refused {
-            Ok(requests) => assert!(rt; requests > 10, "{requests} requests"),
-            Err(number) => assert!(rt; false, "request {number}"),
+    for engine in &Engine::ALL {
+        for row in &[LINES, WORKED] {
+            match refused(rt.alloc(), *engine, row) {
+                Ok(requests) => assert!(rt; requests > 10, "{engine:?}, {requests} requests"),
+                Err(number) => assert!(rt; false, "{engine:?}, request {number}"),
+            }
         }
     }
 }

@@ -1,9 +1,13 @@
 //! A run, and what is seen of it as plain values.
+ghost use Rattle.std.specs.Prelude.{◌≡◌, false};
+
 use crate::slices::{Habits, SliceSink, SliceSource};
 use crate::streams::{SliceReader, SliceWriter};
 use lines_engine::adapters::{FromRead, IntoWrite};
+use lines_engine::device::{Sink, Source};
 use lines_engine::engine::run;
 use lines_engine::error::RunError;
+use lines_engine::stream::answer_as_read;
 use respath_lines::lines::Commands;
 use std::alloc::{Allocator, Global};
 
@@ -35,6 +39,35 @@ pub struct Seen {
     pub flushed: bool,
 }
 
+/// Which engine runs.
+#[derive(Clone, Copy, Debug, PartialEq, Eq)]
+pub enum Engine {
+    /// The one that reads all before it answers.
+    Whole,
+    /// The one that answers as it reads.
+    AsRead,
+}
+
+impl Engine {
+    pub const ALL: [Engine; 2] = [Engine::Whole, Engine::AsRead];
+
+    /// Answers the lines of a source.
+    pub fn run<A: Allocator + Copy, R: Source, W: Sink>(
+        self,
+        alloc: A,
+        reader: &mut R,
+        writer: &mut W,
+    ) -> Result<(), RunError>
+        requires reader_clear { R.mark reader.old ≡ false }
+        requires writer_clear { W.mark writer.old ≡ false }
+    {
+        match self {
+            Engine::Whole => run(alloc, &Commands, reader, writer),
+            Engine::AsRead => answer_as_read(alloc, &Commands, reader, writer),
+        }
+    }
+}
+
 /// Whose devices a run is over.
 #[derive(Clone, Copy, Debug)]
 pub enum Devices {
@@ -45,28 +78,39 @@ pub enum Devices {
 }
 
 impl Devices {
-    pub const ALL: [Devices; 2] = [Devices::Own, Devices::Std];
-
     /// Runs an input over such devices.
-    pub fn run(self, heap: Global, row: &Row, reading: Habits, writing: Habits) -> Seen {
+    pub fn run(
+        self,
+        heap: Global,
+        engine: Engine,
+        row: &Row,
+        reading: Habits,
+        writing: Habits,
+    ) -> Seen {
         match self {
-            Devices::Own => run_own(heap, row, reading, writing),
-            Devices::Std => run_std(heap, row, reading, writing),
+            Devices::Own => run_own(heap, engine, row, reading, writing),
+            Devices::Std => run_std(heap, engine, row, reading, writing),
         }
     }
 }
 
 /// Runs an input over the engine's own devices.
-pub fn run_own<A: Allocator + Copy>(alloc: A, row: &Row, reading: Habits, writing: Habits) -> Seen {
+pub fn run_own<A: Allocator + Copy>(
+    alloc: A,
+    engine: Engine,
+    row: &Row,
+    reading: Habits,
+    writing: Habits,
+) -> Seen {
     let mut room = [0u8; ROOM];
     let mut source = SliceSource::new(row.input, reading);
     let mut sink = SliceSink::new(&mut room, writing);
-    let ended = run(alloc, &Commands, &mut source, &mut sink);
+    let ended = engine.run(alloc, &mut source, &mut sink);
     look(ended, row, &source, &sink)
 }
 
 /// Runs an input over a reader and a writer of std.
-fn run_std(heap: Global, row: &Row, reading: Habits, writing: Habits) -> Seen {
+fn run_std(heap: Global, engine: Engine, row: &Row, reading: Habits, writing: Habits) -> Seen {
     let mut room = [0u8; ROOM];
     let mut reader = SliceReader {
         source: SliceSource::new(row.input, reading),
@@ -74,9 +118,8 @@ fn run_std(heap: Global, row: &Row, reading: Habits, writing: Habits) -> Seen {
     let mut writer = SliceWriter {
         sink: SliceSink::new(&mut room, writing),
     };
-    let ended = run(
+    let ended = engine.run(
         heap,
-        &Commands,
         &mut FromRead::new(&mut reader),
         &mut IntoWrite::new(&mut writer),
     );

@@ -16,8 +16,8 @@ pub returns-in-Err-Refused-clause-wrong : goal.returns-in-Err-Refused-clause-wro
 returns-in-Err-Refused-clause-wrong g c fault is =
     let same : c.in-Err-Refused.fault ≡ fault = cc in
     let refused =
-        subst (λ r. IfRefused (HasFileFault c.deref.result.now) r) c.in-Err-Refused.field-0-is
-        c.in-Err-Refused.ensures.found in
+    subst (λ r. IfRefused (HasFileFault c.deref.result.now) r) c.in-Err-Refused.field-0-is
+    c.in-Err-Refused.ensures.found in
     of_bytes (g.P.Source.left c.args.file.now) c.in-Ok.text.items (λ text. HasFileFault text fault) c.in-Ok.ensures.bytes
     (subst (λ f. HasFileFault c.in-Ok.text.items f) same
     (subst (λ text. HasFileFault text c.in-Err-Refused.fault) c.deref.ensures.value refused))

@@ -12,12 +12,14 @@ pub returns-in-Ok-answer_by-clause-answered : goal.returns-in-Ok-answer_by-claus
 returns-in-Ok-answer_by-clause-answered g c =
     let count : c.len.result ≡ length c.in-Ok.listed.items = first_of (search rules, grind (arith, common_steps)) in
     let had = c.in-Ok-answer_by.ensures.answered in
-    by_file (g.P.Source.left c.args.payloads.now) _ c.in-Ok.listed.items c.in-Ok.ensures.payloads
-    (count, subst
-    (λ xs. IfSome (g.R.Source.left c.args.routes.now)
-    (AnswersAll (IsOriginAnswer c.args.why xs) (g.W.Sink.written c.args.writer.now)
-    (g.W.Sink.written c.answer_by.new.writer)))
-    c.as_slice.ensures.value had)
+    by_file (g.P.Source.left c.args.payloads.now) _ c.in-Ok.listed.items c.in-Ok.ensures.payloads (
+      count,
+      subst
+          (λ xs. IfSome (g.R.Source.left c.args.routes.now)
+          (AnswersAll (IsOriginAnswer c.args.why xs) (g.W.Sink.written c.args.writer.now)
+          (g.W.Sink.written c.answer_by.new.writer)))
+          c.as_slice.ensures.value had,
+    )
 
 pub returns-clause-ended_answered : goal.returns-clause-ended_answered
 returns-clause-ended_answered g c is =

@@ -9,12 +9,14 @@ pub returns-in-Ok-tell_changes-clause-told : goal.returns-in-Ok-tell_changes-cla
 returns-in-Ok-tell_changes-clause-told g c =
     let first : c.len.result ≡ length c.in-Ok.listed.items = first_of (search rules, grind (arith, common_steps)) in
     let second : c.len-in-Ok-tell_changes.result ≡ length c.in-Ok-read_file.listed.items =
-        first_of (search rules, grind (arith, common_steps)) in
+    first_of (search rules, grind (arith, common_steps)) in
     let both = c.in-Ok-tell_changes.ensures.told in
     let told = rw (c.as_slice.ensures.value, c.as_slice-2.ensures.value) at both in
-    by_file (g.P.Source.left c.args.old.now) _ c.in-Ok.listed.items c.in-Ok.ensures.payloads
-    (first, by_file (g.N.Source.left c.args.new.now) _ c.in-Ok-read_file.listed.items
-    c.in-Ok-read_file.ensures.payloads (second, told))
+    by_file (g.P.Source.left c.args.old.now) _ c.in-Ok.listed.items c.in-Ok.ensures.payloads (
+      first,
+      by_file (g.N.Source.left c.args.new.now) _ c.in-Ok-read_file.listed.items
+          c.in-Ok-read_file.ensures.payloads (second, told),
+    )
 
 -- memory was wanting, before the first line or behind it
 pub returns-clause-some_told : goal.returns-clause-some_told

@@ -1,0 +1,30 @@
+//! What the program says where it fails.
+use lines_engine::error::RunError;
+use origins_engine::error::PayloadsError;
+use std::fmt;
+
+/// Why the program has no answer, or not all of them.
+#[derive(Clone, Copy, Debug)]
+pub enum Failure<'a> {
+    /// The words behind its name can't be read.
+    Words,
+    /// A file can't be opened.
+    NotOpened(&'a str),
+    /// The payloads of a file weren't read.
+    Payloads(&'a str, PayloadsError),
+    /// What came behind the payloads failed.
+    Run(RunError),
+}
+
+impl fmt::Display for Failure<'_> {
+    fn fmt<W: fmt::Write>(&self, f: &mut fmt::Formatter<W>) -> fmt::Result {
+        match self {
+            Failure::Words => f.write_str("the words behind the name can't be read"),
+            Failure::NotOpened(name) => write!(f, "{name}: can't be opened"),
+            Failure::Payloads(name, PayloadsError::Read) => write!(f, "{name}: read failed"),
+            Failure::Payloads(name, PayloadsError::File(fault)) => write!(f, "{name}: {fault}"),
+            Failure::Payloads(_, PayloadsError::Memory) => f.write_str("out of memory"),
+            Failure::Run(error) => write!(f, "{error}"),
+        }
+    }
+}

@@ -1,0 +1,188 @@
+# shellcheck shell=sh
+# Read by the scripts that start a program: it is proved and built where it isn't yet, or where a source of a crate
+# that it needs is newer. Before that `top` is the folder of the sources and `started` the name of the program and of
+# its crate; `wanting` says what there is no rt for, and `meanwhile` and `instead` what else can be done than to wait or
+# to copy.
+program=$top/crates/$started/out/$started
+noted=${program%/*}/proved-with # the kit that proved the program, and the sum of that program
+
+tell() {
+    printf '%s: %s\n' "$started" "$1" >&2
+}
+
+is_current() {
+    [ -x "$program" ] &&
+        [ -z "$(for crate in $(needed_crates); do
+            find "$top/crates/$crate" -name out -prune -o -type f -newer "$program" -print
+        done | head -n 1)" ]
+}
+
+# The program's crate and those that it stands on, from the ground up: a line for each, with those that it names.
+needed_lines() {
+    awk -v started="$started" '
+        !/^#/ { sub(":", "", $1); names[++count] = $1; below[$1] = $0 }
+        END {
+            needed[started] = 1
+            for (at = count; at > 0; at--) {
+                words = split(below[names[at]], word)
+                for (one = 1; names[at] in needed && one <= words; one++) needed[word[one]] = 1
+            }
+            for (at = 1; at <= count; at++)
+                if (names[at] in needed) {
+                    words = split(below[names[at]], word)
+                    line = names[at]
+                    for (one = 2; one <= words; one++) if (word[one] in below) line = line " " word[one]
+                    print line
+                }
+        }' "$top/crates.txt"
+}
+
+needed_crates() {
+    needed_lines | cut -d ' ' -f 1
+}
+
+# Ends the process that leads a group, with all of its group, and a second later by force what is left of it.
+end_group() {
+    kill -s TERM -- "-$1" 2>/dev/null || kill -s TERM "$1" 2>/dev/null || return
+    sleep 1
+    kill -s KILL -- "-$1" 2>/dev/null
+}
+
+# Runs rt with these words in the folder of a crate. It leads a group, with which it ends where this job is told to end:
+# what it has begun itself ends too.
+run_rt() {
+    folder=$top/crates/$1
+    shift
+    ending=
+    trap 'ending=1' INT TERM HUP
+    { (cd "$folder" && exec "$(command -v setsid || command -v env)" rt "$@") <&8 8<&- & } 8<&0
+    prover=$!
+    trap 'end_group "$prover"; exit 1' INT TERM HUP
+    [ -z "$ending" ] || { end_group "$prover"; exit 1; }
+    wait "$prover"
+}
+
+# Proves and builds a crate, and says why where that fails.
+prove() {
+    log=$work/$1
+    [ "$1" = "$started" ] && set -- "$1" run -- --version || set -- "$1" lib
+    run_rt "$@" </dev/null >"$log" 2>&1 || { tail -n 20 "$log" >&2; return 1; }
+}
+
+minutes() {
+    echo "$((($(date +%s) - began) / 60)) min"
+}
+
+# Proves and builds a crate as soon as those that it stands on are, and marks it; where one fails the marks are gone.
+prove_in_turn() {
+    crate=$1
+    shift
+    for below; do
+        until [ -e "$marks/$below" ]; do
+            [ -d "$marks" ] || return 1
+            sleep 1
+        done
+    done
+    echo "$started: proving $crate ($(find "$marks" -type f | wc -l) of $all are proved, after $(minutes))" >&2
+    if prove "$crate"; then
+        { : >"$marks/$crate"; } 2>/dev/null # no marks where another one failed
+    else
+        rm -rf "$marks"
+        return 1
+    fi
+}
+
+# Ends all that is being proved, and the script with this status.
+end_build() {
+    trap '' INT TERM HUP
+    # shellcheck disable=SC2086 # numbers of jobs
+    kill $running 2>/dev/null
+    wait
+    rm -rf "$work"
+    exit "$1"
+}
+
+# Proves and builds the crates, those that don't stand on each other side by side, and says how long it takes.
+build() {
+    tell "the program is proved and built first, twenty to thirty minutes on four processors$meanwhile"
+    began=$(date +%s)
+    all=$(needed_crates | wc -l)
+    work=$(mktemp -d) || exit 1
+    marks=$work/marks
+    mkdir "$marks" || exit 1
+    running=
+    ending=
+    trap 'ending=130' INT
+    trap 'ending=143' TERM
+    trap 'ending=129' HUP
+    while read -r line; do
+        # shellcheck disable=SC2086 # a line is words
+        prove_in_turn $line &
+        running="$running $!"
+    done <<END
+$(needed_lines)
+END
+    trap 'end_build 130' INT
+    trap 'end_build 143' TERM
+    trap 'end_build 129' HUP
+    [ -z "$ending" ] || end_build "$ending"
+    for job in $running; do
+        wait "$job" || built=no
+    done
+    trap - INT TERM HUP
+    rm -rf "$work"
+    if [ -n "${built-}" ]; then
+        tell "the program was not built"
+        exit 1
+    fi
+    tell "proved and built in $(minutes)"
+    [ -x "$program" ] && touch "$program" && note_kit
+}
+
+# Whether the program can be built here; where not, it says so at once.
+can_build() {
+    can=${can-yes}
+    has_prover || can=
+    for crate in $(needed_crates); do
+        folder=$top/crates/$crate/out
+        [ -d "$folder" ] || folder=$top/crates/$crate
+        if ! [ -w "$folder" ]; then
+            tell "the program isn't built, and $folder can't be written: copy the sources$instead"
+            can=
+            break
+        fi
+    done
+    [ -n "$can" ]
+}
+
+has_prover() {
+    command -v rt >/dev/null || {
+        tell "the program isn't built, and there is no rt to $wanting it: put the Rattle kit's bin folder on the PATH"
+        return 1
+    }
+}
+
+sum_of_program() {
+    sha256sum <"$program"
+}
+
+# Notes which kit proved the program that has been built now.
+note_kit() {
+    { rt version && sum_of_program; } >"$noted"
+}
+
+# The kit that proved the very program that lies here.
+kit_of_program() {
+    { read -r kit && read -r sum; } 2>/dev/null <"$noted" && [ "$sum" = "$(sum_of_program)" ] && echo "$kit"
+}
+
+version() {
+    revision=unknown
+    [ ! -e "$top/.git" ] || revision=$(git -C "$top" rev-parse --short=12 HEAD 2>/dev/null) || revision=unknown
+    echo "$started, revision $revision"
+    if is_current && kit=$(kit_of_program); then
+        echo "proved here with $kit"
+    else
+        sed -n 's/^Last proved whole with `\(.*\)`\.$/not proved here; last proved whole with \1/p' "$top/README.md"
+    fi
+}

@@ -1,0 +1,241 @@
+#!/usr/bin/env python3
+"""Compares what the program `origins` prints with what the reference beside this file says.
+
+From a seed it makes files of payloads in each form that validators write, wrong ones too, and lines of routes; it asks
+the built program for answers, for what explains them, for tables and for what changes between two files. Status 1 where
+something differs.
+"""
+
+import argparse
+import json
+import subprocess
+import sys
+import tempfile
+from pathlib import Path
+from random import Random
+
+from reference import payload_files, route_lines
+from reference.addresses import Family, print_address
+from reference.faults import Fault
+from reference.prefixes import MaxLenPrefix, Payload, Prefix
+
+TOP = Path(__file__).resolve().parent.parent
+PROGRAM = TOP / "crates" / "origins" / "out" / "origins"
+FILES = 20
+SHOWN = 10
+DAMAGE = "0123456789ASas.:/-+,|{} \t\"\u00a0\u0661"
+
+
+class Maker:
+    """Makes files of payloads and lines of routes that lie close together."""
+
+    def __init__(self, seed: int) -> None:
+        self.random = Random(seed)
+
+    def one_in(self, count: int) -> bool:
+        """True once in so many times."""
+        return self.random.randrange(count) == 0
+
+    def prefix(self) -> Prefix:
+        """A prefix of a few addresses, of any length."""
+        family = self.random.choice((Family.V4, Family.V4, Family.V6))
+        low = 4 if self.one_in(8) else 16
+        length = self.random.randint(0 if self.one_in(30) else low, 32 if self.one_in(4) else 26)
+        base = 0x0A000000 if family is Family.V4 else 0x20010DB8 << 96
+        bits = self.random.getrandbits(6) << family.bits - 26 | self.random.getrandbits(2) << family.bits - 16
+        behind = family.bits - length
+        return Prefix(family, (base ^ bits) >> behind << behind, length)
+
+    def asn(self) -> int:
+        """One of few AS numbers, and sometimes AS0 or the last one."""
+        return self.random.choice((64496, 64497, 64498, 64499, 0 if self.one_in(4) else 7, 2**32 - 1))
+
+    def payload(self) -> Payload:
+        """A payload."""
+        prefix = self.prefix()
+        longest = min(prefix.family.bits, prefix.length + self.random.choice((0, 0, 1, 2, 8)))
+        return Payload(MaxLenPrefix(prefix, longest), self.asn())
+
+    def damaged(self, text: str) -> str:
+        """A text with characters inserted, dropped or replaced."""
+        for _ in range(self.random.randint(1, 2)):
+            at = self.random.randrange(len(text) + 1)
+            inserted = self.random.choice(DAMAGE) if self.one_in(2) else ""
+            text = text[:at] + inserted + text[at + self.random.randrange(2) :]
+        return text
+
+    def file(self, payloads: list[Payload]) -> bytes:
+        """A file of payloads in one of the forms that validators write."""
+        return self.random.choice((self._plain, self._quoted, self._later, self._json, self._json))(payloads)
+
+    def _plain(self, payloads: list[Payload]) -> bytes:
+        end = self.random.choice(("\n", "\r\n"))
+        names = ("ASN,IP Prefix,Max Length,Trust Anchor", "ASN,Prefix,Max prefix length")
+        head = self.random.choice(("", *(f"{name}{end}" for name in names)))
+        lines = [f"AS{asn},{prefix.prefix.text()},{prefix.max_length},ripe" for prefix, asn in payloads]
+        return (head + end.join(lines) + self.random.choice(("", end, end + end))).encode()
+
+    def _quoted(self, payloads: list[Payload]) -> bytes:
+        head = '"ASN","IP Prefix","Max Length","Trust Anchor"\n'
+        lines = [f'"{asn}","{prefix.prefix.text()}","{prefix.max_length}","x"\n' for prefix, asn in payloads]
+        return (head + "".join(lines)).encode()
+
+    def _later(self, payloads: list[Payload]) -> bytes:
+        head = "URI,ASN,IP Prefix,Max Length,Not Before,Not After\n"
+        lines = [f"rsync://x/,AS{asn},{prefix.prefix.text()},{prefix.max_length},a,b\n" for prefix, asn in payloads]
+        return (head + "".join(lines)).encode()
+
+    def _json(self, payloads: list[Payload]) -> bytes:
+        items = [
+            {
+                "asn": asn if self.one_in(2) else f"AS{asn}",
+                "prefix": prefix.prefix.text(),
+                "maxLength": prefix.max_length,
+                "ta": "ripe",
+            }
+            for prefix, asn in payloads
+        ]
+        value = {"metadata": {"vrps": len(items)}, "roas": items, "bgpsec_keys": []}
+        return json.dumps(value, indent=self.random.choice((None, 1))).encode()
+
+    def wrong(self, payloads: list[Payload]) -> bytes:
+        """The same, damaged or cut."""
+        octets = self.file(payloads)
+        if self.one_in(4):
+            return octets[: self.random.randrange(len(octets) + 1)]
+        lines = octets.decode().split("\n")
+        at = self.random.randrange(len(lines))
+        lines[at] = self.damaged(lines[at])
+        return "\n".join(lines).encode()
+
+    def line(self) -> bytes:
+        """A line of a route."""
+        prefix, origin = self.prefix(), self.asn()
+        path = f"64500 {origin}" if not self.one_in(6) else self.random.choice(("", "64500 {7,8}", "{64496}", "7 {}"))
+        text = self.random.choice(
+            (
+                f"{prefix.text()} AS{origin}",
+                f"{prefix.text()} {origin}",
+                f"\t{prefix.text()}  as{origin}\r",
+                f"TABLE_DUMP2|1732579200|B|203.0.113.1|64500|{prefix.text()}|{path}|IGP|203.0.113.1|0|0||NAG||",
+                f"TABLE_DUMP2_AP|1732579200|B|203.0.113.1|64500|{prefix.text()}|7|{path}|IGP|203.0.113.1|0|0||NAG||",
+            )
+        )
+        octets = (self.damaged(text) if self.one_in(6) else text).encode().replace(b"\n", b"")
+        return octets[:9] + b"\xff" + octets[9:] if self.one_in(200) else octets
+
+
+def run(program: Path, words: list[str | Path], lines: bytes = b"") -> tuple[int, list[str], str]:
+    """The status, the lines and what stands on standard error."""
+    done = subprocess.run([program, *words], input=lines, capture_output=True, check=False)
+    printed = done.stdout.decode("utf-8").split("\n")
+    return done.returncode, printed[:-1] if printed[-1] == "" else printed, done.stderr.decode("utf-8")
+
+
+def table(payloads: list[Payload]) -> list[Payload]:
+    """The payloads in order, each once."""
+    return sorted(set(payloads), key=lambda one: (*one.prefix.key(), one.asn))
+
+
+def answer(line: bytes, payloads: list[Payload], why: bool) -> str:
+    """What is answered to a line."""
+    try:
+        return route_lines.answer(payloads, line.decode("utf-8"), why)
+    except UnicodeDecodeError:
+        return "error: not UTF-8"
+
+
+def text(payload: Payload) -> str:
+    """A payload as it is told."""
+    return f"{payload.prefix.text()} AS{payload.asn}"
+
+
+class Comparison:
+    """How many answers were compared, and how many differ."""
+
+    def __init__(self, program: Path, folder: Path, maker: Maker) -> None:
+        self.program, self.folder, self.maker = program, folder, maker
+        self.compared = self.differing = 0
+
+    def same(self, what: str, expected: object, found: object) -> None:
+        """Compares what is expected with what was found."""
+        self.compared += 1
+        if expected != found:
+            self.differing += 1
+            if self.differing <= SHOWN:
+                print(f"{what}\n  the reference: {expected}\n  the program:   {found}")
+
+    def kept(self, name: str, octets: bytes) -> Path:
+        """A file of these octets."""
+        path = self.folder / name
+        path.write_bytes(octets)
+        return path
+
+    def routes(self, count: int) -> None:
+        """Asks lines of routes by a file, in a word and why."""
+        payloads = [self.maker.payload() for _ in range(self.maker.random.choice((1, 5, 40, 200)))]
+        file = self.kept("payloads", self.maker.file(payloads))
+        listed = payload_files.read(file.read_bytes())
+        lines = [self.maker.line() for _ in range(count)]
+        octets = b"\n".join(lines) + b"\n"
+        for why in (False, True):
+            status, answers, said = run(self.program, ["--why", file] if why else [file], octets)
+            self.same("a run", (0, f"origins: {len(listed)} payloads\n", count), (status, said, len(answers)))
+            for line, found in zip(lines, answers, strict=False):
+                self.same(repr(line), answer(line, listed, why), found)
+        status, _, _ = run(self.program, ["--check", file], octets)
+        words = {answer(line, listed, False).split("-")[0].split(":")[0] for line in lines}
+        self.same("a check", 3 if words & {"invalid", "error"} else 0, status)
+
+    def tables(self) -> None:
+        """Asks for tables, and for what changes between two files."""
+        maker = self.maker
+        shared = [maker.payload() for _ in range(30)]
+        before = shared + [maker.payload() for _ in range(maker.random.randrange(20))] + shared[:3]
+        after = shared[5:] + [maker.payload() for _ in range(maker.random.randrange(20))]
+        old, new = self.kept("old", maker.file(before)), self.kept("new", maker.file(after))
+        status, found, said = run(self.program, ["--table", old])
+        self.same("a table", (0, f"origins: {len(before)} payloads\n"), (status, said))
+        self.same("a table", [text(one) for one in table(before)], found)
+        asn = maker.asn()
+        _, found, _ = run(self.program, ["--table", "--of", f"AS{asn}", old])
+        self.same("a table of an AS", [text(one) for one in table(before) if one.asn == asn], found)
+        withdrawn, announced = set(before) - set(after), set(after) - set(before)
+        changes = [f"withdraw {text(one)}" for one in table(withdrawn)]
+        changes += [f"announce {text(one)}" for one in table(announced)]
+        status, found, said = run(self.program, ["--diff", old, new])
+        self.same("a change", (0, f"origins: {len(before)} payloads, and then {len(after)}\n"), (status, said))
+        self.same("a change", changes, found)
+
+    def wrong(self) -> None:
+        """Asks by a file that may be wrong."""
+        payloads = [self.maker.payload() for _ in range(5)]
+        file = self.kept("wrong", self.maker.wrong(payloads))
+        try:
+            expected = (0, [text(one) for one in table(payload_files.read(file.read_bytes()))])
+            self.same(repr(file.read_bytes()), expected, run(self.program, ["--table", file])[:2])
+        except Fault as fault:
+            wanted = (1, [], f"origins: {file}: {fault}\n")
+            self.same(repr(file.read_bytes()), wanted, run(self.program, ["--table", file]))
+
+
+def main() -> int:
+    """Reads the options and compares."""
+    parser = argparse.ArgumentParser(description=__doc__.splitlines()[0])
+    parser.add_argument("seed", type=int)
+    parser.add_argument("count", type=int, help="how many lines of routes")
+    parser.add_argument("--program", type=Path, default=PROGRAM, help="a built origins")
+    options = parser.parse_args()
+    with tempfile.TemporaryDirectory() as folder:
+        comparison = Comparison(options.program, Path(folder), Maker(options.seed))
+        for _ in range(FILES):
+            comparison.routes(options.count // FILES)
+            comparison.tables()
+            for _ in range(10):
+                comparison.wrong()
+    print(f"origins, seed {options.seed}: {comparison.compared} answers compared, {comparison.differing} differ")
+    return 1 if comparison.differing else 0
+
+
+if __name__ == "__main__":
+    sys.exit(main())

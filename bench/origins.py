@@ -65,14 +65,24 @@ def routes_of(made: random.Random, payloads: list[Payload], count: int) -> Itera
         yield bits, number, length, asn
 
 
+# A process is counted with the memory that its parent had as it was begun: a small one begins the program.
+CHILD = """
+import os, resource, subprocess, sys
+status = subprocess.call(sys.argv[1:], stderr=subprocess.DEVNULL)
+used = resource.getrusage(resource.RUSAGE_CHILDREN)
+print(status, used.ru_utime + used.ru_stime, used.ru_maxrss, file=sys.stderr)
+"""
+
+
 def run(words: list[object], stdin: Path | None, stdout: Path) -> tuple[float, float]:
     """Seconds of the processor and the peak of memory in MiB of a program."""
     with open(stdin or os.devnull, "rb") as given, open(stdout, "wb") as taken:
-        child = subprocess.Popen(words, stdin=given, stdout=taken, stderr=subprocess.DEVNULL)
-        _, status, used = os.wait4(child.pid, 0)
-    if status:
+        small = [sys.executable, "-S", "-E", "-c", CHILD, *words]
+        told = subprocess.run(small, stdin=given, stdout=taken, stderr=subprocess.PIPE, text=True, check=True).stderr
+    status, seconds, memory = told.split()
+    if status != "0":
         raise SystemExit(f"{words}: status {status}")
-    return used.ru_utime + used.ru_stime, used.ru_maxrss / 1024
+    return float(seconds), int(memory) / 1024
 
 
 def rtrlib(folder: Path) -> Path | None:

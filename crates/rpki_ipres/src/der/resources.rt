@@ -1,9 +1,9 @@
 //! Resources of addresses in DER: of one family, and by families (RFC 3779, 2.2.3.1 to 2.2.3.6).
 use crate::der::blocks::{append_family, family_len, put_family};
 use crate::resources::IpResources;
+use rpki_base::der::{ReadClaim, take_families};
 use rpki_base::memory::OrMemory;
 use rpki_chain::der::{content_len, encode_choice, make_sets, take_listed};
-use rpki_base::der::{ReadClaim, take_families};
 use rpki_der::{Cursor, DerError, append_header, header_len, tag};
 use rpki_ip::family::AddressFamily;
 use rpki_ip_block::der::IpBlockReader;

@@ -1,14 +1,15 @@
 #!/usr/bin/env python3
 """Asks a cache of payloads by foreign/rtr/router.c, over the static library, and by rtrlib: foreign_rtr.py LIBRARY.
 
-StayRTR serves a file of payloads on a free port of 127.0.0.1: all of them, then changes, which it notifies, then a file
-of its next session, so that the router has to begin anew. After each the router's table is what the file lists, and
-what rtrlib has of the same cache. Ends within LIMIT seconds. Where gcc, stayrtr or rtrlib aren't there, that is said,
-and nothing is tested. Status 1 where a table differs.
+StayRTR serves a file of payloads on a free port of 127.0.0.1: all of them, then changes, which it notifies; then more
+changes than it keeps while the router is stopped, so that it answers by a Cache Reset; then a file of its next session.
+After each the router's table is what the file lists, and what rtrlib has of the same cache. Ends within LIMIT seconds.
+Where gcc, stayrtr or rtrlib aren't there, that is said, and nothing is tested. Status 1 where a table differs.
 """
 
 import json
 import shutil
+import signal
 import socket
 import subprocess
 import sys
@@ -21,6 +22,7 @@ TOP = Path(__file__).resolve().parent.parent
 SOURCES = TOP / "foreign" / "rtr"
 LIMIT = 100
 COUNT = 400
+KEPT = 3  # of how many serial numbers StayRTR keeps what has changed since
 
 Entry = tuple[str, int, int]
 
@@ -120,15 +122,23 @@ def main() -> int:
         build(sys.argv[1], folder)
         entries = [made(source) for _ in range(COUNT)]
         changed = [*entries[COUNT // 4 :], *(made(source) for _ in range(COUNT // 3))]
-        steps = [entries, changed, changed[10:], [*changed[:50], *(made(source) for _ in range(COUNT))]]
+        steps = [entries, changed, changed[10:], changed[20:], [*changed[:50], *(made(source) for _ in range(COUNT))]]
         write(folder / "cache.json", entries)
         cache = Cache(port, folder / "cache.json")
-        router = subprocess.Popen(
-            [str(folder / "router"), str(port), str(len(steps)), str(LIMIT)], stdout=subprocess.PIPE, text=True
-        )
+        words = [str(folder / "router"), str(port), str(len(steps)), str(LIMIT)]
+        said = (folder / "said").open("w")
+        router = subprocess.Popen(words, stdout=subprocess.PIPE, stderr=said, text=True)
         try:
             for at, step in enumerate(steps):
-                if at == len(steps) - 1:  # another session, of which the router knows nothing
+                if at == len(steps) - 2:
+                    router.send_signal(signal.SIGSTOP)
+                    for more in range(KEPT + 2):
+                        write(folder / "cache.json", step[more:])
+                        time.sleep(1.5)
+                    write(folder / "cache.json", step)
+                    time.sleep(1.5)
+                    router.send_signal(signal.SIGCONT)
+                elif at == len(steps) - 1:  # another session, of which the router knows nothing
                     cache.stop()
                     write(folder / "cache.json", step)
                     cache = Cache(port, folder / "cache.json")
@@ -142,9 +152,13 @@ def main() -> int:
                     faults += 1
                     print(f"step {at}: {len(wanted)} payloads, {len(found)} of the router, {len(peer)} of rtrlib")
             faults += router.wait(timeout=20) != 0
+            if "cache reset" not in (folder / "said").read_text():
+                faults += 1
+                print("the cache never answered by a Cache Reset")
         finally:
             router.kill()
             cache.stop()
+            said.close()
         print(f"a router: {len(steps)} tables, {faults} faults")
     return 1 if faults else 0
 

@@ -379,8 +379,8 @@ struct Handle {
 pub struct Table(*mut Handle);
 
 // SAFETY: no call writes to a table, and each takes what it needs from malloc; so any number may ask one at once, from
-// any thread. A table is freed by whoever owns it, once: when nothing borrows it any more. That its type is `Send` and
-// `Sync` in the library's own language is proved there.
+// any thread. A table is freed by whoever owns it, once: when nothing borrows it any more. docs/FOREIGN.md says what of
+// this is proved.
 unsafe impl Send for Table {}
 unsafe impl Sync for Table {}
 

@@ -13,10 +13,12 @@ pub fn answer<A: Allocator + Copy>(
     question: &str,
     count: &str,
 ) -> Result<String<A>, AllocError> {
-    match (question, parse_u32(count)) {
-        ("changes", Ok(count)) => changes(alloc, count),
-        (_, Ok(_)) => String::from_str(alloc, "no such command"),
-        (_, Err(fault)) => print::error(alloc, fault),
+    if question != "changes" {
+        return String::from_str(alloc, "no such command");
+    }
+    match parse_u32(count) {
+        Ok(count) => changes(alloc, count),
+        Err(fault) => print::error(alloc, fault),
     }
 }
 

@@ -97,11 +97,11 @@ fn of_triples(
     }
 }
 
-fn of_left(
+fn of_left<'a>(
     alloc: Global,
-    counting: &Refusing,
+    counting: &'a Refusing,
     call: &str,
-    set: &ResourceSet<&Refusing>,
+    set: &ResourceSet<&'a Refusing>,
     lists: &str,
 ) -> Result<String, AllocError> {
     match triples::read(counting, lists) {
@@ -110,12 +110,12 @@ fn of_left(
     }
 }
 
-fn of_both(
+fn of_both<'a>(
     alloc: Global,
-    counting: &Refusing,
+    counting: &'a Refusing,
     call: &str,
-    set: &ResourceSet<&Refusing>,
-    other: &ResourceSet<&Refusing>,
+    set: &ResourceSet<&'a Refusing>,
+    other: &ResourceSet<&'a Refusing>,
 ) -> Result<String, AllocError> {
     let before = Asked::of(counting);
     match call {

@@ -1,6 +1,5 @@
 //! What no clause says of numbers, addresses, prefixes, ranges and blocks, and what no line of the program
-//! `rows_values` can say of them: values and their parts, conversions, forms of blocks, hashes, the texts of faults,
-//! and the paths of types.
+//! `rows_values` can say of them: values and their parts, conversions, forms of blocks.
 #![tactic(auto)]
 
 #[cfg(test)]
@@ -10,17 +9,9 @@ mod as_blocks;
 #[cfg(test)]
 mod checks;
 #[cfg(test)]
-mod debug;
-#[cfg(test)]
-mod faults;
-#[cfg(test)]
-mod hashes;
-#[cfg(test)]
 mod ip_blocks;
 #[cfg(test)]
 mod numbers;
-#[cfg(test)]
-mod paths;
 #[cfg(test)]
 mod prefixes;
 #[cfg(test)]

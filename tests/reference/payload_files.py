@@ -6,7 +6,7 @@ from collections.abc import Iterator
 
 from . import asn, prefixes, texts
 from .faults import Fault
-from .prefixes import MaxLenPrefix, Payload
+from .prefixes import Payload
 
 _DEEPEST = 128
 _NAMES = {
@@ -94,15 +94,7 @@ def _payload(number: str, prefix: str, length: str) -> Payload:
         found = prefixes.read_prefix(prefix)
     except Fault as fault:
         raise Fault(f"invalid prefix: {fault}") from None
-    try:
-        longest = texts.number(length, 255)
-    except Fault as fault:
-        raise Fault(f"invalid max length: {fault}") from None
-    if longest > found.family.bits:
-        raise Fault("max-length too large")
-    if longest < found.length:
-        raise Fault("max-length smaller than prefix length")
-    return Payload(MaxLenPrefix(found, longest), origin)
+    return Payload(prefixes.with_max_len(found, length), origin)
 
 
 def _of_json(octets: bytes) -> Iterator[Payload]:

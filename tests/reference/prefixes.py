@@ -91,14 +91,10 @@ def read_prefix(text: str, is_relaxed: bool = False) -> Prefix:
     return Prefix(family, cleared, length)
 
 
-def read_max_len(text: str) -> MaxLenPrefix:
-    """A prefix, and behind a dash the greatest length."""
-    if "-" not in text:
-        return MaxLenPrefix(read_prefix(text), None)
-    left, right = texts.cut(text, "-")
-    found = read_prefix(left)
+def with_max_len(found: Prefix, text: str) -> MaxLenPrefix:
+    """A prefix with the greatest length that the text writes."""
     try:
-        length = texts.number(right, 255)
+        length = texts.number(text, 255)
     except Fault as fault:
         raise Fault(f"invalid max length: {fault}") from None
     if length > found.family.bits:
@@ -106,6 +102,14 @@ def read_max_len(text: str) -> MaxLenPrefix:
     if length < found.length:
         raise Fault("max-length smaller than prefix length")
     return MaxLenPrefix(found, length)
+
+
+def read_max_len(text: str) -> MaxLenPrefix:
+    """A prefix, and behind a dash the greatest length."""
+    if "-" not in text:
+        return MaxLenPrefix(read_prefix(text), None)
+    left, right = texts.cut(text, "-")
+    return with_max_len(read_prefix(left), right)
 
 
 def validity(route: Prefix, asn: int, payloads: list[Payload]) -> str:

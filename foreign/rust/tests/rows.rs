@@ -275,24 +275,14 @@ impl Row<'_> {
             (status, len)
         });
         match origins(&payloads, &routes) {
-            Ok(found) => {
-                let octets: Vec<u8> = found.iter().map(|validity| *validity as u8).collect();
-                assert_eq!(
-                    (OK, &octets),
-                    (self.status, &self.told.asn),
-                    "{}",
-                    self.text
-                );
-            }
-            Err(RefusedOrigin { reason, place }) => {
-                assert_eq!(
-                    (reason.status(), Some(place)),
-                    (self.status, self.verified),
-                    "{}",
-                    self.text
-                );
-            }
+            Ok(found) => self.expect_validities(&found),
+            Err(refused) => self.expect_refused(refused),
         }
+    }
+
+    fn expect_validities(&self, found: &[Validity]) {
+        let octets: Vec<u8> = found.iter().map(|validity| *validity as u8).collect();
+        assert_eq!((OK, &octets), (self.status, &self.told.asn), "{}", self.text);
     }
 
     fn payloads(&self, at: usize) -> Vec<Payload> {
@@ -314,13 +304,7 @@ impl Row<'_> {
         };
         match table.origins(&routes) {
             Ok(found) => {
-                let octets: Vec<u8> = found.iter().map(|validity| *validity as u8).collect();
-                assert_eq!(
-                    (OK, &octets),
-                    (self.status, &self.told.asn),
-                    "{}",
-                    self.text
-                );
+                self.expect_validities(&found);
                 for (route, validity) in routes.iter().zip(found) {
                     assert_eq!(table.origin(route), Ok(validity), "{}", self.text);
                 }

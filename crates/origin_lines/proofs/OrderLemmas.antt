@@ -4,16 +4,16 @@ use Rattle.std.specs.List.{AllPairs, Contains}
 use Rattle.std.specs.List.Sorted.{IsPermutation}
 use Rattle.std.proofs.lemmas.List.Sorted.{Contains-permutation, IsPermutation-sym}
 use Rattle.rpki_prefix.specs.Values.{FamilyPrefix}
-use Rattle.roa_origin.specs.Payloads.{CoversRoute, Payload}
+use Rattle.roa_origin.specs.Payloads.{CoversRoute, HasAs, Payload}
 use Rattle.roa_origin.specs.Tables.{as_sent}
-use Rattle.roa_origin.specs.Validities.{IsValidity}
+use Rattle.roa_origin.specs.Validities.{IsHeldBy, IsValidity}
 use Rattle.roa_origin.specs.declared.validation.Validity.{Validity}
 use Rattle.roa_origin.specs.declared.validation.Validity.TheVariants as Validities
 use Rattle.roa_origin.proofs.Scans.{same_validity}
 use Rattle.origin_lines.specs.Words.{fault_line}
 use Rattle.origin_lines.specs.Answers.{IsOriginAnswer, TellsIf, TellsRoute}
 use Rattle.origin_lines.specs.Explanations.{IsExplanation, IsReason, IsToldBefore, TellsEach, told_text}
-use Rattle.origin_lines.specs.Outcomes.{HasAs, IsHeldBy, IsOutcomeOf, asked_asn, outcome_text}
+use Rattle.origin_lines.specs.Outcomes.{IsOutcomeOf, asked_asn, outcome_text}
 use Rattle.origin_lines.specs.Routes.{route_fault_text}
 use Rattle.origin_lines.specs.declared.explanation.Reason.{Reason}
 use Rattle.origin_lines.specs.declared.explanation.Reason.TheVariants.{Match, Length, As}

@@ -4,9 +4,8 @@ use Rattle.rpki_text.specs.Cuts.{dash}
 use Rattle.rpki_base.specs.AsnText.{asn_text}
 use Rattle.rpki_prefix.specs.PrefixText.{prefix_text}
 use Rattle.rpki_prefix.specs.Values.{FamilyPrefix}
-use Rattle.roa_origin.specs.Payloads.{CoversRoute, Payload, longest, prefix_len}
+use Rattle.roa_origin.specs.Payloads.{CoversRoute, HasAs, Payload, longest, prefix_len}
 use Rattle.roa_origin.specs.Tables.{as_sent}
-use Rattle.origin_lines.specs.Outcomes.{HasAs}
 use Rattle.origin_lines.specs.declared.explanation.Reason.{Reason}
 use Rattle.origin_lines.specs.declared.explanation.Reason.TheVariants.{Match, Length, As}
 

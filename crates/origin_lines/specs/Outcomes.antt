@@ -1,8 +1,8 @@
 -- What payloads say of a route in a word (RFC 6811, 2).
-use Rattle.std.specs.Prelude.{◌≡◌, ◌≢◌, ℕ, List, Option, Any, codes, unwrap_or}
+use Rattle.std.specs.Prelude.{ℕ, List, Option, codes, unwrap_or}
 use Rattle.rpki_prefix.specs.Values.{FamilyPrefix}
-use Rattle.roa_origin.specs.Payloads.{CoversRoute, Payload}
-use Rattle.roa_origin.specs.Validities.{IsValidity}
+use Rattle.roa_origin.specs.Payloads.{Payload}
+use Rattle.roa_origin.specs.Validities.{IsHeldBy, IsValidity}
 use Rattle.roa_origin.specs.declared.validation.Validity.TheVariants as Validity
 use Rattle.origin_lines.specs.declared.outcome.Outcome.{Outcome}
 use Rattle.origin_lines.specs.declared.outcome.Outcome.TheVariants.{Valid, InvalidLength, InvalidAs, NotFound}
@@ -10,15 +10,6 @@ use Rattle.origin_lines.specs.declared.outcome.Outcome.TheVariants.{Valid, Inval
 -- the number by which payloads are asked of a route: AS0, which none matches, where it has no origin
 abbrev pub asked_asn : Option ℕ → ℕ
 asked_asn origin = unwrap_or origin 0
-
--- the payload's AS is the route's, which isn't AS0
-pub record HasAs (asn : ℕ) (payload : Payload) : Type 0 where
-  pub same_as : payload.1 ≡ asn
-  pub not_as0 : asn ≢ 0
-
--- a payload that covers the route has its AS
-abbrev pub IsHeldBy : FamilyPrefix → ℕ → List Payload → Type 0
-IsHeldBy route asn payloads = Any (λ payload. CoversRoute route payload × HasAs asn payload) payloads
 
 -- the validity, and of an invalid route whether only a length stands against it
 abbrev pub IsOutcomeOf : FamilyPrefix → ℕ → List Payload → Outcome → Type 0

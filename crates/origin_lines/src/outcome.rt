@@ -1,6 +1,7 @@
 //! What payloads say of a route in a word.
 ghost use Rattle.std.specs.Prelude.{◌≡◌, ◌↔◌, IsTrue};
-ghost use Rattle.origin_lines.specs.Outcomes.{HasAs, IsHeldBy, IsOutcomeOf, asked_asn};
+ghost use Rattle.roa_origin.specs.Payloads.{HasAs};
+ghost use Rattle.origin_lines.specs.Outcomes.{IsOutcomeOf, asked_asn};
 
 use roa_origin::{OriginTable, Validity};
 use rpki_base::Asn;
@@ -52,25 +53,13 @@ pub fn outcome_of<B: Allocator>(table: &OriginTable<B>, route: Prefix, asn: Asn)
         Validity::Valid => Outcome::Valid,
         Validity::NotFound => Outcome::NotFound,
         Validity::Invalid => {
-            if is_held(table, route, asn) {
+            if table.is_held_by(route, asn) {
                 Outcome::InvalidLength
             } else {
                 Outcome::InvalidAs
             }
         }
     }
-}
-
-/// Whether a payload that covers the route to a prefix has this AS, which isn't AS0.
-fn is_held<B: Allocator>(table: &OriginTable<B>, route: Prefix, asn: Asn) -> bool
-    ensures { IsTrue result ↔ IsHeldBy route asn table.now }
-{
-    for payload in table.covering(route) {
-        if has_as(&payload, asn) {
-            return true;
-        }
-    }
-    false
 }
 
 /// Whether a payload has this AS, which isn't AS0.

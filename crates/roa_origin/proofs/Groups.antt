@@ -1,12 +1,11 @@
 -- The payloads of one prefix, as a piece of a table.
-use Rattle.std.proofs.Common.{◌≡◌, ℕ, ◌+◌, ◌-◌, ◌<◌, ◌≤◌, List, length, get_or, arith, sym, ◌∙◌, subst}
+use Rattle.std.proofs.Common.{◌≡◌, ℕ, ◌+◌, ◌-◌, ◌<◌, ◌≤◌, Any, List, length, get_or, arith, sym, ◌∙◌, subst}
 use Rattle.std.proofs.lemmas.List.{get_or-take, get_or-drop, get_or_default, length-take-le, length-drop}
 use Rattle.std.specs.List.{slice_range}
 use Rattle.rpki_prefix.specs.Values.{FamilyPrefix}
 use Rattle.roa_origin.proofs.Places.{by_ranks}
 use Rattle.roa_origin.specs.Links.{IsGroup, IsInOrder}
-use Rattle.roa_origin.specs.Payloads.{CoversRoute, IsLawfulPayload, Matches, Payload}
-use Rattle.roa_origin.specs.Validities.{IsMatched}
+use Rattle.roa_origin.specs.Payloads.{CoversRoute, IsLawfulPayload, Payload}
 
 -- an element of a piece
 pub in_piece : (xs : List Payload) (a b k : ℕ) (d : Payload) → k < b - a → get_or (slice_range xs a b) k d ≡ get_or xs (a + k) d
@@ -37,18 +36,18 @@ module _ (xs : List Payload) (order : IsInOrder xs) (route : FamilyPrefix) (a b 
         rw (first, last) (by_ranks (get_or xs (a + i) d) (get_or xs (a + j) d) (one ∙ sym other) up);
   }
 
-  -- what matches in it matches in the table
-  pub matched_in : (asn : ℕ) → IsMatched route asn (slice_range xs a b) → IsMatched route asn xs
-  matched_in asn h =
+  -- what some payload of it is, some payload of the table is
+  pub any_in : (P : Payload → Type 0) → Any P (slice_range xs a b) → Any P xs
+  any_in P h =
       let small : h.0 < length (slice_range xs a b) = h.2 in
       let there = in_piece xs a b h.0 h.1 (omega (arith, small, wide)) in
       (a + h.0, h.1, omega (arith, small, wide, within), sym there ∙ h.3, h.4)
 
-  -- and where none does in it, none does of those places
-  pub none_in : (asn : ℕ) → ¬ IsMatched route asn (slice_range xs a b) → (k : ℕ) (d : Payload) → a ≤ k → k < b → ¬ Matches route asn (get_or xs k d)
-  none_in asn none k d from before matches =
+  -- and what none of it is, none is at those places
+  pub none_in : (P : Payload → Type 0) → ¬ Any P (slice_range xs a b) → (k : ℕ) (d : Payload) → a ≤ k → k < b → ¬ P (get_or xs k d)
+  none_in P none k d from before is_such =
       let y : Payload = get_or xs k d in
       let e : a + (k - a) ≡ k = omega (arith, from) in
       let inside : k < length xs = omega (arith, before, within) in
       let there : get_or (slice_range xs a b) (k - a) y ≡ get_or xs k y = subst (λ j. get_or (slice_range xs a b) (k - a) y ≡ get_or xs j y) e (in_piece xs a b (k - a) y (omega (arith, from, before))) in
-      none (k - a, y, omega (arith, from, before, wide), there ∙ get_or_default xs k y d inside, matches)
+      none (k - a, y, omega (arith, from, before, wide), there ∙ get_or_default xs k y d inside, is_such)

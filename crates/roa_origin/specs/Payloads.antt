@@ -32,3 +32,8 @@ pub record Matches (route : FamilyPrefix) (asn : ℕ) (payload : Payload) : Type
   pub allowed : route.len ≤ longest payload
   pub same_as : payload.1 ≡ asn
   pub not_as0 : asn ≢ 0
+
+-- the payload's AS is the route's, which isn't AS0
+pub record HasAs (asn : ℕ) (payload : Payload) : Type 0 where
+  pub same_as : payload.1 ≡ asn
+  pub not_as0 : asn ≢ 0

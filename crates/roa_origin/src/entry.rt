@@ -2,7 +2,7 @@
 ghost use Rattle.std.specs.Prelude.{◌+◌, ◌-◌, ◌*◌, ◌^◌, ◌<◌, ◌≡◌, ◌↔◌, ◌≤◌, IsTrue, nat_le, nat_lt};
 ghost use Rattle.std.specs.Ordering.{nat_cmp};
 ghost use Rattle.rpki_prefix.specs.Values.{IsFamilyPrefix, is_v6, width};
-ghost use Rattle.roa_origin.specs.Payloads.{CoversRoute, IsLawfulPayload, Matches, longest, prefix_len};
+ghost use Rattle.roa_origin.specs.Payloads.{CoversRoute, HasAs, IsLawfulPayload, Matches, longest, prefix_len};
 ghost use Rattle.roa_origin.specs.Places.{payload_place, rank, sent_place, sent_rank, table_place, told};
 ghost use Rattle.roa_origin.specs.Starts.{first_bits};
 
@@ -289,11 +289,18 @@ impl Entry {
         route.asn.into_u32() <= self.asn.into_u32()
     }
 
+    /// Whether the payload's AS is the route's, which isn't AS0.
+    pub(crate) fn has_as_of(&self, route: &Entry) -> bool
+        ensures { IsTrue result ↔ HasAs route.now.1 self.now }
+    {
+        route.asn != Asn::MIN && self.asn == route.asn
+    }
+
     /// Whether the payload matches a route that it covers (RFC 6811, 2; RFC 9582, 4.3.2).
     pub(crate) fn allows(&self, route: &Entry) -> bool
         requires { CoversRoute route.now.0.prefix self.now }
         ensures { IsTrue result ↔ Matches route.now.0.prefix route.now.1 self.now }
     {
-        route.asn != Asn::MIN && self.asn == route.asn && route.len <= self.longest()
+        self.has_as_of(route) && route.len <= self.longest()
     }
 }

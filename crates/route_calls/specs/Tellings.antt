@@ -1,5 +1,5 @@
 -- Payloads that are told: those of a table, and those that cover a route, each with why it doesn't match it.
-use Rattle.std.specs.Prelude.{◌≡◌, ◌≢◌, ◌⊎◌, ℕ, ◌+◌, ◌≤◌, List, [], ◌∷◌, ◌++◌, reverse}
+use Rattle.std.specs.Prelude.{◌≡◌, ◌⊎◌, ℕ, ◌+◌, ◌≤◌, List, [], ◌∷◌, ◌++◌, reverse}
 use Rattle.std.specs.Int.{to_be_bytes, w128}
 use Rattle.std.specs.List.Sorted.{IsNonDecreasingBy}
 use Rattle.rpki_text.specs.Digits.{octets_of}
@@ -7,7 +7,7 @@ use Rattle.rpki_addr.specs.declared.addr.IpAddr.{IpAddr}
 use Rattle.rpki_addr.specs.declared.addr.IpAddr.TheVariants.{V4, V6}
 use Rattle.rpki_prefix.specs.Values.{FamilyPrefix}
 use Rattle.roa_origin.specs.Coverings.{AreThose}
-use Rattle.roa_origin.specs.Payloads.{CoversRoute, Payload, longest}
+use Rattle.roa_origin.specs.Payloads.{CoversRoute, HasAs, Payload, longest}
 use Rattle.roa_origin.specs.Places.{table_place}
 use Rattle.route_calls.specs.Origins.{AreEach}
 use Rattle.route_calls.specs.Routes.{IsRoute, unrouted_status}
@@ -40,18 +40,14 @@ handed_of payload = record {
 
 -- ---- one that covers a route
 
--- its AS is the route's, and not AS0
-abbrev pub HasAsOf : ℕ → Payload → Type 0
-HasAsOf asn payload = (payload.1 ≡ asn) × (asn ≢ 0)
-
 -- why it doesn't match the route: 1 for its AS, 2 because the route is longer than it allows, the sum for both; and 0
 -- where it matches
 abbrev pub IsMismatch : FamilyPrefix → ℕ → Payload → ℕ → Type 0
 IsMismatch route asn payload why =
-    ((why ≡ 0) × HasAsOf asn payload × (route.len ≤ longest payload))
-    ⊎ (((why ≡ 1) × (¬ HasAsOf asn payload) × (route.len ≤ longest payload))
-    ⊎ (((why ≡ 2) × HasAsOf asn payload × (¬ (route.len ≤ longest payload)))
-    ⊎ ((why ≡ 3) × (¬ HasAsOf asn payload) × (¬ (route.len ≤ longest payload)))))
+    ((why ≡ 0) × HasAs asn payload × (route.len ≤ longest payload))
+    ⊎ (((why ≡ 1) × (¬ HasAs asn payload) × (route.len ≤ longest payload))
+    ⊎ (((why ≡ 2) × HasAs asn payload × (¬ (route.len ≤ longest payload)))
+    ⊎ ((why ≡ 3) × (¬ HasAs asn payload) × (¬ (route.len ≤ longest payload)))))
 
 pub record IsCovering (route : FamilyPrefix) (asn : ℕ) (payload : Payload) (told : Covering) : Type 0 where
   pub payload_told : handed_of payload ≡ record { address = told.address; asn = told.asn; family = told.family; len = told.len; max_len = told.max_len }

@@ -1,6 +1,6 @@
 -- The payloads that cover a route are told one after another.
 use Rattle.route_calls.specs.Tellings.{IsCovering}
-use Rattle.route_calls.proofs.TableLemmas.{all_told, one_told}
+use Rattle.route_calls.proofs.TableLemmas.{one_told}
 use Rattle.route_calls.proofs.table.coverings_to.Goals as goal
 
 pub loop-payload-preserved : goal.loop-payload-preserved

@@ -1,30 +1,25 @@
 -- The box that a handle owns, as its parts.
-use Rattle.std.proofs.Common.{◌≡◌, ℕ, List, [], ◌∷◌, ◌++◌, refl, sym, ap, ◌∙◌, subst, lit<}
+use Rattle.std.proofs.Common.{◌≡◌, List, [], ◌∷◌, ◌++◌, refl, sym, subst, lit<}
 use seplogic.Ra.Ura.{Ura}
-use mir.Val.{Val, vptr, vnull, vstruct, vcons, vnil, of_list}
+use mir.Val.{Val, vstruct, vcons, vnil, of_list}
 use base.Logic.{SProp, ent, sep, emp, id⊢}
-use base.Fml.{Fml, Lft, Share, ftrue, flft, fex, fsep}
+use base.Fml.{ftrue}
 use prog.Memory.{Memory}
 use prog.Routine.{Routine}
 use prog.Wp.{WpFn, Calls, Loops}
 use types.Logic.{Logic, sem}
-use types.Kit.{‵, raw, ◌⊛◌, given, at_ret, ◌$◌, ◌∵◌, !, qed, by, move, keep, drop, split, join, fsplit, fjoin, fpick, fpack, suffices, use0, use1, rewrite, feq_i, feq_l}
-use types.Run.{stop, fld, of_opd, lit, bin, addr, no_more, and_then, first, blocks, branches, skips, exec, returns, returns_within, enter}
-use types.ByLocal.{alloc_all, pass_all, free_all, look_at, get, get_in, through, sets, sets_last, env}
+use types.Kit.{‵, raw, ◌⊛◌, at_ret, ◌$◌, ◌∵◌, !, qed, by, move, keep, drop, split, fsplit, fjoin, fpick, use0, use1, feq_l}
+use types.Run.{stop, fld, of_opd, lit, bin, no_more, and_then, first, branches, skips, exec, returns, returns_within, enter}
+use types.ByLocal.{alloc_all, pass_all, free_all, look_at, get, get_in, sets, env}
 use types.Part.{agg, sub, whole}
 use types.Match.{live}
 use contract.Monad.{Fun, fact, fact_i}
 use contract.Running.{tables}
-use denote.RattleType.{RattleType, Valss, owns}
-use denote.Builtin.{RawPtr}
-use denote.Memory.{lone}
+use denote.RattleType.{RattleType, owns}
 use denote.Param.{layout}
-use denote.Ref.{Bor, ShrRef}
 use denote.RawPtr.{Ptr, block_ptr, null_ptr, ptr_val, Testable, tests_null}
-use denote.Signature.{types_at, type_at, plain}
+use denote.Signature.{types_at, plain}
 use denote.Steps.{nothing}
-use denote.Struct.Struct.{within}
-use denote.Struct.Owning.{shape}
 use denote.Triple.Entry.{alive}
 use denote.Triple.Walked.{Stays, stay_dropped, walk_of}
 use Rattle.std.proofs.alloc.Calls.{Goes-blank, handle_tells}
@@ -32,9 +27,8 @@ use Rattle.std.proofs.raw_atomic.Walks.{proved_at, leaves}
 use Rattle.std.specs.contracts.alloc.Global as heap
 use Rattle.std.proofs.alloc.Global.TheLaws as heap_laws
 use Rattle.std.specs.contracts.impls.GlobalAllocator.TheImpl.{ghosts}
-use Rattle.std.specs.declared.alloc.Global.{Global}
 use Rattle.std.specs.Box.Ownership.{box_owns}
-use Rattle.std.specs.Prelude.{Option, Some, None}
+use Rattle.std.specs.Prelude.{Some, None}
 use Rattle.box_pointer.specs.contracts.BoxPointer as pointer
 use Rattle.box_pointer.proofs.Words.{fit, heap as words_heap, together, words}
 use Rattle.route_calls.specs.Handles.{table_row, boxed_table}

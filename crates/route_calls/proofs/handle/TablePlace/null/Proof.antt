@@ -1,43 +1,25 @@
 -- A place with no table.
-use Rattle.std.proofs.Common.{◌≡◌, ℕ, List, [], ◌∷◌, ◌++◌, refl, sym, ap, ◌∙◌, subst, lit<}
-use seplogic.Ra.Ura.{Ura}
-use mir.Val.{Val, vptr, vnull, vstruct, vcons, vnil, of_list}
-use base.Logic.{SProp, ent, sep, emp, id⊢}
-use base.Fml.{Fml, Lft, Share, ftrue, flft, fex, fsep}
-use prog.Memory.{Memory}
-use prog.Routine.{Routine}
-use prog.Wp.{WpFn, Calls, Loops}
-use types.Logic.{Logic, sem}
-use types.Kit.{‵, raw, ◌⊛◌, given, at_ret, ◌$◌, ◌∵◌, !, qed, by, move, keep, drop, split, join, fsplit, fjoin, fpick, fpack, suffices, use0, use1, rewrite, feq_i, feq_l}
-use types.Run.{stop, fld, of_opd, lit, bin, addr, no_more, and_then, first, blocks, branches, skips, exec, returns, returns_within, enter}
-use types.ByLocal.{alloc_all, pass_all, free_all, look_at, get, get_in, through, sets, sets_last, env}
-use types.Part.{agg, sub, whole}
-use types.Match.{live}
-use contract.Monad.{Fun, fact, fact_i}
+use Rattle.std.proofs.Common.{◌≡◌, List, [], ◌∷◌, refl, lit<}
+use mir.Val.{Val, vnull, vstruct, vcons, vnil}
+use base.Logic.{SProp, emp}
+use base.Fml.{ftrue}
+use types.Kit.{‵, raw, ◌⊛◌, ◌$◌, ◌∵◌, !, qed, by, move, keep, drop, split, fjoin, fpack, use0, feq_i}
+use types.Run.{lit, no_more, and_then, returns, enter}
+use types.ByLocal.{alloc_all, pass_all, free_all, look_at, sets}
+use types.Part.{agg}
+use contract.Monad.{fact, fact_i}
 use contract.Running.{tables}
-use denote.RattleType.{RattleType, Valss, owns}
+use denote.RattleType.{Valss, owns}
 use denote.Builtin.{RawPtr}
-use denote.Memory.{lone}
-use denote.Param.{layout}
-use denote.Ref.{Bor, ShrRef}
-use denote.RawPtr.{Ptr, block_ptr, null_ptr, ptr_val, Testable, tests_null}
-use denote.Signature.{types_at, type_at, plain}
+use denote.RawPtr.{null_ptr}
+use denote.Signature.{types_at}
 use denote.Steps.{nothing}
 use denote.Struct.Struct.{within}
 use denote.Struct.Owning.{shape}
 use denote.Triple.Entry.{alive}
-use denote.Triple.Walked.{Stays, stay_dropped, walk_of}
-use Rattle.std.proofs.alloc.Calls.{Goes-blank, handle_tells}
+use denote.Triple.Walked.{Stays, walk_of}
 use Rattle.std.proofs.raw_atomic.Walks.{proved_at, leaves}
-use Rattle.std.specs.contracts.alloc.Global as heap
-use Rattle.std.proofs.alloc.Global.TheLaws as heap_laws
-use Rattle.std.specs.contracts.impls.GlobalAllocator.TheImpl.{ghosts}
-use Rattle.std.specs.declared.alloc.Global.{Global}
-use Rattle.std.specs.Box.Ownership.{box_owns}
-use Rattle.std.specs.Prelude.{Option, Some, None}
-use Rattle.box_pointer.specs.contracts.BoxPointer as pointer
-use Rattle.box_pointer.proofs.Words.{apart, fit, words}
-use Rattle.route_calls.specs.Handles.{table_row, boxed_table}
+use Rattle.std.specs.Prelude.{None}
 use Rattle.route_calls.specs.contracts.handle.TablePlace as place_struct
 use Rattle.route_calls.specs.contracts.handle.TablePlace.null.{ended, clauses}
 use Rattle.route_calls.specs.contracts.handle.TablePlace.null.Key.{name as #self}

@@ -1,6 +1,7 @@
 /* test FOLDER, which has rows.txt and texts.txt: asks each row, with rooms of each length from 0 to what is wanted and
- * one more, and looks that nothing is written but what is told; then all rows on eight threads at once. Inputs and
- * rooms are blocks of their own, so that valgrind sees an octet too far. */
+ * one more, and looks that nothing is written but what is told; with each of its requests for memory refused in turn;
+ * then all rows on eight threads at once. Inputs and rooms are blocks of their own, so that valgrind sees an octet too
+ * far. It is linked with --wrap=malloc,--wrap=realloc, which leads each request of the library here. */
 #include "../pigyelund.h"
 #include <pthread.h>
 #include <stdatomic.h>
@@ -14,7 +15,7 @@
 _Static_assert(PG_FAULT(PG_BAD_AS + 1u) == 1u && PG_FAULT(PG_SECOND + PG_BAD_IP + 14u) == 14u, "PG_FAULT");
 _Static_assert(PG_FAULT(PG_BAD_IP + 255u) == 255u, "PG_FAULT");
 
-enum { MARK = 0xa5, LENGTH = 1 << 16, SMALL = 40, WORDS = 10, PLACES = 16, THREADS = 8, ANY = 77 };
+enum { MARK = 0xa5, LENGTH = 1 << 16, SMALL = 40, WORDS = 10, PLACES = 16, THREADS = 8, ANY = 77, MANY = 1 << 17 };
 
 typedef struct {
   uint8_t *octets;
@@ -382,6 +383,127 @@ static void ask_in_short(const question *q) {
   free(out.ip);
 }
 
+/* ---- memory refused */
+
+static int counts, was_refused; /* whether requests are counted; whether one was refused */
+static size_t granted;          /* how many there will be before each is refused */
+
+void *__real_malloc(size_t length);
+void *__wrap_malloc(size_t length);
+void *__real_realloc(void *at, size_t length);
+void *__wrap_realloc(void *at, size_t length);
+
+static int is_refused(void) {
+  if (!counts) return 0;
+  if (granted) return granted--, 0;
+  return was_refused = 1;
+}
+
+void *__wrap_malloc(size_t length) { return is_refused() ? 0 : __real_malloc(length); }
+void *__wrap_realloc(void *at, size_t length) { return is_refused() ? 0 : __real_realloc(at, length); }
+
+/* what a call is made on, and what it tells beside its status */
+typedef struct {
+  const question *row;
+  const pg_table *table;
+  size_t room, length, other_length, place;
+  uint8_t *out, *other;
+  pg_table *made;
+} refusable;
+
+static uint32_t of_row(refusable *r) {
+  const question *q = r->row;
+  if (q->call == TEST) return call_in_short(q, 0);
+  return call_of(q, r->out, r->room, r->other, r->room, &r->length, &r->other_length, &r->place);
+}
+
+static uint32_t of_new(refusable *r) { return pg_table_new(r->row->payloads, r->row->count, &r->made, &r->place); }
+
+static uint32_t of_changed(refusable *r) {
+  const question *q = r->row;
+  return pg_table_changed(r->table, q->announced, q->announced_count, q->withdrawn, q->withdrawn_count, &r->made,
+                          &r->place);
+}
+
+static uint32_t of_origins(refusable *r) {
+  return pg_table_origins(r->table, r->row->routes, r->row->route_count, r->out, r->room, &r->length, &r->place);
+}
+
+static uint32_t of_covering(refusable *r) {
+  return pg_table_covering(r->table, r->row->routes, (pg_covering *)(void *)r->out, r->room / sizeof(pg_covering),
+                           &r->length);
+}
+
+static uint32_t of_payloads(refusable *r) {
+  return pg_table_payloads(r->table, (pg_payload *)(void *)r->out, r->room / sizeof(pg_payload), &r->length);
+}
+
+/* a call with each of its requests refused in turn: it tells that memory is wanting, and nothing else; of how many
+ * certificates were verified nothing is said then */
+static void ask_refused(uint32_t (*call)(refusable *), const question *q, const pg_table *table, size_t room) {
+  int is_refused_now = 1;
+  for (size_t n = 0; is_refused_now; n++) {
+    refusable r = {q, table, room, 0, 0, 0, block(room), block(room), 0};
+    uint32_t found;
+    was_refused = 0;
+    granted = n;
+    counts = 1;
+    found = call(&r);
+    counts = 0;
+    calls++;
+    is_refused_now = was_refused;
+    if (was_refused) {
+      expect(found == PG_MEMORY, q->row, "another status where memory is refused");
+      expect(!r.length && !r.other_length && !r.made, q->row, "something is told where memory is refused");
+      expect(!r.place || q->call == PATH, q->row, "a place where memory is refused");
+      expect(is_marked(r.out, 0, room) && is_marked(r.other, 0, room), q->row, "octets where memory is refused");
+    } else {
+      expect(found != PG_MEMORY, q->row, "memory is wanting that wasn't refused");
+    }
+    pg_table_free(r.made);
+    free(r.out);
+    free(r.other);
+  }
+}
+
+static void ask_row_refused(const question *q) {
+  pg_table *table = 0;
+  size_t place;
+  if (q->call != COVERING && q->call != PAYLOADS && q->call != CHANGED)
+    ask_refused(of_row, q, 0, q->told[0].length + q->told[1].length);
+  if (!is_of_table(q)) return;
+  ask_refused(of_new, q, 0, 0);
+  if (pg_table_new(q->payloads, q->count, &table, &place) != PG_OK) return;
+  if (q->call == CHANGED) ask_refused(of_changed, q, table, 0);
+  if (q->call == ORIGINS) ask_refused(of_origins, q, table, q->route_count);
+  if (q->call == COVERING) ask_refused(of_covering, q, table, 64 * sizeof(pg_covering));
+  if (q->call == PAYLOADS) ask_refused(of_payloads, q, table, q->count * sizeof(pg_payload));
+  pg_table_free(table);
+}
+
+/* ---- many routes: each is a payload, half of them of its AS */
+
+static void ask_many(void) {
+  pg_payload *payloads = (pg_payload *)(void *)block(MANY * sizeof *payloads);
+  pg_route *routes = (pg_route *)(void *)block(MANY * sizeof *routes);
+  uint8_t *out = block(MANY);
+  size_t len = ANY, place = ANY;
+  int is_so = 1;
+  for (uint32_t i = 0; i < MANY; i++) {
+    pg_payload payload = {{10, (uint8_t)(i >> 16), (uint8_t)(i >> 8), (uint8_t)i}, i + 1, PG_IPV4, 32, 32};
+    pg_route route = {{10, (uint8_t)(i >> 16), (uint8_t)(i >> 8), (uint8_t)i}, i % 2 ? i + 1 : i + 2, PG_IPV4, 32};
+    payloads[i] = payload;
+    routes[i] = route;
+  }
+  expect(pg_origins(payloads, MANY, routes, MANY, out, MANY, &len, &place) == PG_OK, 0, "many routes");
+  for (uint32_t i = 0; i < MANY; i++) is_so = is_so && out[i] == (i % 2 ? PG_VALID : PG_INVALID);
+  expect(is_so && len == MANY && place == 0, 0, "validities of many routes");
+  calls++;
+  free(payloads);
+  free(routes);
+  free(out);
+}
+
 /* ---- all rows */
 
 typedef struct {
@@ -490,11 +612,13 @@ int main(int count, char **words) {
   expect(pg_version() == PG_VERSION, 0, "another version");
   ask_texts(words[1]);
   ask_null();
+  ask_many();
   rows = read_rows(words[1]);
   for (unsigned i = 0; i < rows.count; i++) {
     if (is_of_table(rows.all + i)) ask_table(rows.all + i);
     if (rows.all[i].call != TEST && rows.all[i].call <= ORIGINS) ask_rooms(rows.all + i);
     ask_in_short(rows.all + i);
+    ask_row_refused(rows.all + i);
   }
   if (rows.count) ask_on_threads(rows);
   for (unsigned i = 0; i < rows.count; i++) end_question(rows.all + i);

@@ -102,6 +102,7 @@ def _long(question: str, text: str) -> str:
     answers: dict[str, Callable[[], str]] = {
         "as": lambda: f"{len(sets.union(fourths, others))} numbers",
         "build": lambda: f"{len(sets.union(fourths, others))} numbers",
+        "changed": lambda: f"{len(set(fourths) - set(others))} changed",  # valid by the one, by the other not found
         "changes": lambda: f"{len(set(fourths) - set(others))} announced, {len(set(others) - set(fourths))} withdrawn",
         "cover": cover,
         "v6": lambda: shown(sets.union(fourths, others)),

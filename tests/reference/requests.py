@@ -200,13 +200,12 @@ def _sent(payloads: list[Payload]) -> set[Payload]:
     }
 
 
-def _table(payloads: list[Payload]) -> Rooms:
+def _table(count: int) -> Rooms:
     """An entry and a link for each, and the starts of what has the same first bits: two families' and the end.
 
     There are as many bits as leave some sixteen payloads to a start, one at least.
     """
-    bits = max(1, min(16, (len(payloads) // 16).bit_length()))
-    count = len(payloads)
+    bits = max(1, min(16, (count // 16).bit_length()))
     return at_once(count, ENTRY) + at_once(count, LINK) + at_once(2 * 2**bits + 1, WORD)
 
 
@@ -233,7 +232,8 @@ def of_claims(operands: str) -> str:
     """The answer of `rows_claims` to `requests CALL ..`."""
     call, text = texts.cut(operands, " ")
     given: dict[str, Callable[[str], Rooms]] = {
-        "table": lambda text: _table(_payloads(text)),
+        "table": lambda text: _table(len(_payloads(text))),
+        "many": lambda text: _table(texts.number(text, 2**32 - 1)),
         "payloads": lambda text: at_once(len(_payloads(text)), PAYLOAD),
         "changes": _changes,
     }

@@ -1,9 +1,11 @@
 //! How much memory tables of payloads and sets of three kinds ask for.
+use crate::long::every_fourth;
 use crate::{entries, triples};
 use roa_origin::{OriginTable, PayloadTable};
-use rows_support::print::{cut, refused};
+use rows_support::print::{cut, error, refused};
 use rows_support::requests::Asked;
 use rpki_base::Asn;
+use rpki_base::number::parse_u32;
 use rpki_prefix::MaxLenPrefix;
 use rpki_resources::repository::resources::set::ResourceSet;
 use std::alloc::{AllocError, Global};
@@ -15,6 +17,7 @@ pub fn answer(alloc: Global, operands: &str) -> Result<String, AllocError> {
     let counting = &Refusing::new(alloc, Plan::RefuseNone);
     match call {
         "table" | "payloads" => of_list(alloc, counting, call, rest),
+        "many" => of_many(alloc, counting, rest),
         "changes" => of_lists(alloc, counting, rest),
         _ => of_triples(alloc, counting, call, rest),
     }
@@ -43,6 +46,14 @@ fn of_table(
     let before = Asked::of(counting);
     let _table = OriginTable::new(counting, payloads)?;
     before.since(alloc, counting)
+}
+
+/// `requests many N` of a table of N payloads.
+fn of_many(alloc: Global, counting: &Refusing, count: &str) -> Result<String, AllocError> {
+    match parse_u32(count) {
+        Ok(count) => of_table(alloc, counting, &every_fourth(alloc, count, 0)?),
+        Err(fault) => error(alloc, fault),
+    }
 }
 
 fn of_payloads(

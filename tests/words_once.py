@@ -26,7 +26,7 @@ def declared_in(text):
         inside = None
         if re.match(r"^ *(?:[a-z]+ )*(?:record|data) ", line):
             inside = indent
-        found = DECLARED.match(line)
+        found = None if line.lstrip().startswith("pub use ") else DECLARED.match(line)
         if found and found["kind"] != "mod " and "mod " not in found["words"]:
             yield found["name"]
 

@@ -1,7 +1,7 @@
 //! The program's input: what a holder had and what it gets, each a line of three lists.
 ghost use Rattle.std.specs.Prelude.{◌≡◌, IfOk, MatchResult, map};
 ghost use Rattle.std.specs.Str.Lines.{lines};
-ghost use Rattle.rpki_text.specs.Memory.{IfRefused};
+ghost use Rattle.rpki_resources.specs.Memory.{IfRefused};
 ghost use Rattle.example_holdings.specs.Inputs.{AreLists, HasInputFault, HasOtherCount, IsInput, lists_of};
 
 use rpki_resources::OrMemory;

@@ -1,9 +1,9 @@
 //! The octets of what a certificate lists (RFC 3779, 2.2.3 and 3.2.3).
 ghost use Rattle.std.specs.Prelude.{◌≡◌, [], IfOk, MatchOption};
-ghost use Rattle.rpki_chain.specs.Claims.{claim_of};
-ghost use Rattle.rpki_chain.specs.declared.choice.ResourcesChoice.TheVariants.{Missing};
-ghost use Rattle.rpki_as.specs.AsDer.{as_resources_octets};
-ghost use Rattle.rpki_ipres.specs.ResourcesDer.{ip_families_der};
+ghost use Rattle.rpki_resources.specs.Claims.{claim_of};
+ghost use Rattle.rpki_resources.specs.ResourcesChoice.TheVariants.{Missing};
+ghost use Rattle.rpki_resources.specs.AsDer.{as_resources_octets};
+ghost use Rattle.rpki_resources.specs.ResourcesDer.{ip_families_der};
 
 use rpki_resources::repository::resources::{AsResources, IpResources, ResourceSet};
 use std::alloc::{AllocError, Allocator};

@@ -2,3 +2,19 @@ pub mod TripleFaults
 pub mod TripleLaws
 pub mod Triples
 pub mod TripleText
+-- The words of its public clauses that stand in the crates below: whoever calls this crate lists it alone.
+pub use Rattle.rpki_text.specs.Memory
+pub use Rattle.rpki_text.specs.Reading
+pub use Rattle.rpki_base.specs.declared.family.AddressFamily
+pub use Rattle.rpki_chains.specs.Sets
+pub use Rattle.rpki_chain.specs.Choices
+pub use Rattle.rpki_chain.specs.Claims
+pub use Rattle.rpki_chain.specs.Operations
+pub use Rattle.rpki_chain.specs.Runs
+pub use Rattle.rpki_chain.specs.declared.choice.ResourcesChoice
+pub use Rattle.rpki_as.specs.AsDer
+pub use Rattle.rpki_as.specs.ListText
+pub use Rattle.rpki_ip.specs.Ranges
+pub use Rattle.rpki_ipres.specs.Resources
+pub use Rattle.rpki_ipres.specs.ResourcesDer
+pub use Rattle.rpki_ipres.specs.SetText

@@ -7,10 +7,12 @@ ghost use Rattle.std.specs.Prelude.{◌≡◌, false, IfOk};
 mod failure;
 mod help;
 mod options;
+mod watched;
 
 use crate::failure::Failure;
 use crate::help::{HELP, USAGE, VERSION};
 use crate::options::{Task, parse};
+use crate::watched::Watched;
 use lines_engine::adapters::{FromRead, IntoWrite};
 use lines_engine::device::Source;
 use lines_engine::error::RunError;
@@ -18,7 +20,6 @@ use origins_engine::error::{ChangesError, OriginsError};
 use origins_engine::routes::answer_routes;
 use origins_engine::tables::{write_changes, write_table};
 use origins_engine::until_end::UntilEnd;
-use origins_engine::watched::Watched;
 use rpki_base::Asn;
 use std::fs::File;
 use std::io::{BufWriter, Stdout};
@@ -88,7 +89,7 @@ fn answer<'a>(rt: &HostRuntime, name: &'a str, why: bool, check: bool) -> Result
     match answer_routes(rt.alloc(), &mut payloads, why, &mut routes, &mut writer) {
         Ok(count) => {
             let _ = eprintln!(rt; "origins: {count} payloads");
-            Ok(if check && writer.has_found() { 3 } else { 0 })
+            Ok(if check && writer.seen.has_found { 3 } else { 0 })
         }
         Err(OriginsError::Payloads(error)) => Err(Failure::Payloads(name, error)),
         Err(OriginsError::Run(error)) => Err(Failure::Run(error)),

@@ -1,3 +1,4 @@
 -- Lemmas on runs.
 pub mod AnswerLemmas
+pub mod CheckLemmas
 pub mod LineLemmas

@@ -1,3 +1,5 @@
--- Definitions: what is left of a reader, and what runs leave in a writer by the octets of their inputs.
+-- Definitions: what is left of a reader, what runs leave in a writer by the octets of their inputs, and what a check
+-- looks for there.
+pub mod Checks
 pub mod Readers
 pub mod Runs

@@ -1,5 +1,5 @@
 -- What was answered by the list, is answered by what the file writes.
-use Rattle.std.proofs.Common.{◌≡◌, ℕ, List, Err, ap, arith, length, rules, subst}
+use Rattle.std.proofs.Common.{◌≡◌, Err, ap, arith, length, rules, subst}
 use Rattle.std.specs.Prelude.{IfSome}
 use Rattle.std.proofs.lemmas.Grind.{common_steps}
 use Rattle.lines_engine.specs.Run.{AnswersAll, AnswersEnded, AnswersFirst, BeginsAnswers}

@@ -434,7 +434,83 @@ def tables(library: Pigyelund, _: Path) -> Iterator[str]:
     library.raw.table_free(None)
 
 
-OTHERS = names_and_numbers, texts, no_bits_are_dropped, defaults, lenient, reasons, tables
+def items() -> list[raw.Fields]:
+    """Payloads and routes of which each two differ in one field or in their kind, and how they are told and covered."""
+    six = IPv6Network("2001:db8::/32")
+    found: list[raw.Fields] = [Payload.of(TEN, 1, 9), Payload.of(TEN, 2, 9), Payload.of(TEN, 1), Payload.of(six, 1, 48)]
+    found += [Payload.of(IPv4Network("10.0.0.0/9"), 1, 9), Payload.of(IPv4Network("11.0.0.0/8"), 1, 9)]
+    found += [Payload(raw.address_of(TEN), 1, Family.V6, 8, 9), Payload(raw.address_of(TEN), 1, 7, 8, 9)]
+    found += [Route.of(TEN, 1), Route.of(TEN, 2), Route.of(six, 1), Route(raw.address_of(TEN), 1, 1, 40)]
+    found += [raw.Covering(raw.address_of(TEN), 1, 1, 8, 9, why) for why in range(3)]
+    return found + [raw.Certificate(0, 1, 1, 0, 1), raw.Certificate(0, 0, 0, 1, 1)]
+
+
+def equal_fields(_: Pigyelund, __: Path) -> Iterator[str]:
+    """Items are equal, and so are their hashes and texts, exactly where kind and fields are."""
+    for at, item in enumerate(items()):
+        for other_at, other in enumerate(items()):
+            is_same = (item == other, not item != other, len({item, other}) == 1, repr(item) == repr(other))
+            if is_same != (at == other_at,) * 4:
+                yield f"{item} and {other}: {is_same}"
+        behind = type(item).from_buffer_copy(bytes(item)[: item._count_].ljust(len(bytes(item)), b"\7"))
+        if behind != item or hash(behind) != hash(item):
+            yield f"octets behind {item} are looked at"
+    if items()[0] == (raw.address_of(TEN), 1, 1, 8, 9) or items()[0] is None:
+        yield "a payload is a tuple"
+
+
+def item_texts(_: Pigyelund, __: Path) -> Iterator[str]:
+    """Of a payload and of a route Python prints what makes it again; of what has no prefix its fields."""
+    six = IPv6Network("2001:db8::/32")
+    found = [Payload.of(TEN, 1, 9), Payload.of(TEN, 1), Payload.of(six, 2**32 - 1, 48)]
+    for item in (*found, Route.of(TEN, 1), Route.of(six, 0)):
+        if eval(repr(item)) != item:
+            yield f"{item} is another one"
+    no_prefix = Payload(raw.address_of(IPv4Network("10.1.0.0/16")), 1, 1, 8, 9)
+    no_family = Route(raw.address_of(TEN), 1, 7, 8)
+    for item, text in (
+        (Payload.of(TEN, 1, 9), "Payload.of(prefix=IPv4Network('10.0.0.0/8'), asn=1, max_len=9)"),
+        (no_prefix, f"Payload(address=0a01{'00' * 14}, asn=1, family=1, len=8, max_len=9)"),
+        (no_family, f"Route(address=0a{'00' * 15}, asn=1, family=7, len=8)"),
+    ):
+        if repr(item) != text:
+            yield f"{item} in place of {text}"
+
+
+def changes_by_sets(library: Pigyelund, _: Path) -> Iterator[str]:
+    """What one list has and another one hasn't makes of the table of the one that of the other."""
+    old = [Payload.of(TEN, asn, 8 + asn % 3) for asn in range(1, 9)]
+    new = [Payload.of(TEN, asn, 8 + asn % 2) for asn in range(3, 12)]
+    with library.table(old) as table, table.changed(set(new) - set(old), set(old) - set(new)) as following:
+        with library.table(new) as wanted:
+            if list(following) != list(wanted) or len(following) != len(new):
+                yield f"{list(following)} after changes"
+
+
+def copies(library: Pigyelund, _: Path) -> Iterator[str]:
+    """A payload that is handed over twice is told twice; a withdrawal takes both, and names it once."""
+    twice, other = Payload.of(TEN, 1), Payload.of(TEN, 2)
+    with library.table([twice, other, twice]) as table:
+        if len(table) != 3 or list(table).count(twice) != 2 or len(table.covering(Route.of(TEN, 1))) != 3:
+            yield f"{list(table)} of copies"
+        for announced, withdrawn, told in (([], [twice], [other]), ([twice], [twice], [other, twice])):
+            with table.changed(announced, withdrawn) as following:
+                if list(following) != told:
+                    yield f"{list(following)} after a withdrawal of copies"
+        for announced, withdrawn, status, place in (
+            ([], [twice, twice], Status.UNKNOWN_WITHDRAWAL, 1),
+            ([twice], [], Status.DUPLICATE_ANNOUNCEMENT, 0),
+            ([Payload.of(TEN, 3)] * 2, [], Status.DUPLICATE_ANNOUNCEMENT, 1),
+        ):
+            try:
+                yield f"copies answer {table.changed(announced, withdrawn)}"
+            except BadChange as reason:
+                if (reason.status, reason.place) != (status, place):
+                    yield f"{reason!r} of copies"
+
+
+OTHERS = (names_and_numbers, texts, no_bits_are_dropped, defaults, lenient, reasons, tables)
+OTHERS += (equal_fields, item_texts, changes_by_sets, copies)
 
 
 def main() -> int:

@@ -77,19 +77,39 @@ class Test(Enum):
 
 
 class Fields(ctypes.Structure):
-    """Numbers side by side. ctypes drops the bits of a number that its field has no room for; here that is an error."""
+    """Numbers side by side. ctypes drops the bits of a number that its field has no room for; here that is an error.
+    Two are equal where all their fields are. No field of one that is in a set, or a key, may be set."""
 
     _ends_: dict[str, int]  # of each number the first one that its field has no room for
+    _count_: int  # of the octets of all fields: what C leaves free stands behind them alone
 
     def __init_subclass__(cls) -> None:
         super().__init_subclass__()
         numbers = [(name, kind) for name, kind in cls._fields_ if not issubclass(kind, ctypes.Array)]
         cls._ends_ = {name: 1 << 8 * ctypes.sizeof(kind) for name, kind in numbers}
+        cls._count_ = sum(ctypes.sizeof(kind) for _, kind in cls._fields_)
 
     def __setattr__(self, name: str, value: object) -> None:
         if name in self._ends_ and isinstance(value, int) and not 0 <= value < self._ends_[name]:
             raise OverflowError(f"{name}: {value}")
         super().__setattr__(name, value)
+
+    def __eq__(self, other: object) -> bool:
+        if type(other) is not type(self):
+            return NotImplemented
+        return self._octets() == other._octets()
+
+    def __hash__(self) -> int:
+        return hash(self._octets())
+
+    def __repr__(self) -> str:
+        values = [(name, getattr(self, name)) for name, _ in self._fields_]
+        texts = {name: bytes(it).hex() if isinstance(it, ctypes.Array) else str(it) for name, it in values}
+        return spelled(type(self).__name__, texts)
+
+    def _octets(self) -> bytes:
+        """Those of all fields."""
+        return bytes(self)[: self._count_]
 
 
 class Certificate(Fields):
@@ -128,6 +148,9 @@ class Payload(Fields):
         octets = bytes(self.address)[: 4 if self.family == Family.V4 else 16]
         return ip_network((octets, self.len))
 
+    def __repr__(self) -> str:
+        return made_by_of(self, asn=self.asn, max_len=self.max_len)
+
 
 class Covering(Fields):
     """A payload that covers a route, and why it doesn't match it."""
@@ -146,6 +169,29 @@ class Route(Fields):
     def of(cls, prefix: IPv4Network | IPv6Network, asn: int) -> "Route":
         """That to a prefix."""
         return cls(address_of(prefix), asn, family_of(prefix), prefix.prefixlen)
+
+    prefix = Payload.prefix
+
+    def __repr__(self) -> str:
+        return made_by_of(self, asn=self.asn)
+
+
+def spelled(call: str, texts: dict[str, str]) -> str:
+    """A call with named values, as it is written."""
+    return f"{call}({', '.join(f'{name}={text}' for name, text in texts.items())})"
+
+
+def made_by_of(item: Payload | Route, **numbers: int) -> str:
+    """How `of` makes an item of its prefix and numbers; else its fields, as where it has no prefix."""
+    kind = type(item)
+    try:
+        prefix = item.prefix
+    except ValueError:
+        return Fields.__repr__(item)
+    if kind.of(prefix, **numbers) != item:
+        return Fields.__repr__(item)
+    texts = {name: str(number) for name, number in numbers.items()}
+    return spelled(f"{kind.__name__}.of", {"prefix": repr(prefix)} | texts)
 
 
 def address_of(prefix: IPv4Network | IPv6Network) -> ctypes.Array[ctypes.c_uint8]:

@@ -325,7 +325,7 @@ impl Payload {
 
 /// The prefix that a route leads to, and the AS that originates it, as `pigyelund.h` has them.
 #[repr(C)]
-#[derive(Clone, Copy, Debug, PartialEq, Eq)]
+#[derive(Clone, Copy, Debug, PartialEq, Eq, Hash)]
 pub struct Route {
     /// The octets of the address, of which an IPv4 address has the first four.
     pub address: [u8; 16],
@@ -352,7 +352,7 @@ impl Route {
 
 /// A payload that covers a route, and why it doesn't match it, as `pigyelund.h` has them.
 #[repr(C)]
-#[derive(Clone, Copy, Debug, Default, PartialEq, Eq)]
+#[derive(Clone, Copy, Debug, Default, PartialEq, Eq, Hash)]
 pub struct Covering {
     /// The octets of the address, of which an IPv4 address has the first four; those behind are 0.
     pub address: [u8; 16],

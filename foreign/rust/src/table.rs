@@ -119,7 +119,7 @@ impl Table {
 }
 
 /// A payload that covers a route, and why it doesn't match it.
-#[derive(Clone, Copy, Debug, PartialEq, Eq)]
+#[derive(Clone, Copy, Debug, PartialEq, Eq, Hash)]
 pub struct Covering {
     /// Its prefix.
     pub prefix: Prefix,

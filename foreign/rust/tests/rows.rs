@@ -7,7 +7,7 @@ use pigyelund::{
     Payload, Reason, Refused, RefusedOrigin, RefusedPath, Resources, Route, Side, Table, Test,
     Validity,
 };
-use std::collections::BTreeMap;
+use std::collections::{BTreeMap, HashSet};
 use std::error::Error;
 use std::net::{IpAddr, Ipv4Addr};
 use std::thread;
@@ -606,6 +606,52 @@ fn a_table_is_asked_on_threads() {
         }
     });
     assert_eq!(table.len(), payloads.len());
+}
+
+/// What one set has and another one hasn't makes of the table of the one that of the other.
+#[test]
+fn changes_are_made_by_sets() {
+    let ten = IpAddr::V4(Ipv4Addr::new(10, 0, 0, 0));
+    let of = |numbers: std::ops::Range<u32>, lengths: u32| -> HashSet<Payload> {
+        let payload = |asn| Payload::new(ten, 8, 8 + (asn % lengths) as u8, asn);
+        numbers.map(payload).collect()
+    };
+    let (old, new) = (of(1..9, 3), of(3..12, 2));
+    let table = Table::new(&Vec::from_iter(old.clone())).unwrap();
+    let (announced, withdrawn) = (Vec::from_iter(&new - &old), Vec::from_iter(&old - &new));
+    let next = table.changed(&announced, &withdrawn).unwrap();
+    let wanted = Table::new(&Vec::from_iter(new)).unwrap();
+    assert_eq!(payload_octets(&next), payload_octets(&wanted));
+    let routes = [9, 9, 10].map(|len| Route::new(ten, len, 3));
+    assert_eq!(HashSet::from(routes).len(), 2);
+    let covering = routes.map(|route| HashSet::<_>::from_iter(wanted.covering(&route).unwrap()));
+    assert!(covering[0] == covering[1] && covering[0] != covering[2]);
+}
+
+/// A payload that is handed over twice is told twice; a withdrawal takes both, and names it once.
+#[test]
+fn a_table_has_copies() {
+    let ten = IpAddr::V4(Ipv4Addr::new(10, 0, 0, 0));
+    let [twice, other] = [1, 2].map(|asn| Payload::new(ten, 8, 8, asn));
+    let table = Table::new(&[twice, other, twice]).unwrap();
+    let told = |table: Table| table.payloads().unwrap().collect::<Vec<_>>();
+    assert_eq!(table.covering(&Route::new(ten, 8, 1)).unwrap().len(), 3);
+    assert_eq!(told(table.changed(&[], &[twice]).unwrap()), [other]);
+    assert_eq!(
+        told(table.changed(&[twice], &[twice]).unwrap()),
+        [other, twice]
+    );
+    let refused = table.changed(&[], &[twice, twice]).unwrap_err();
+    assert_eq!(
+        (refused.reason, refused.place),
+        (Reason::UnknownWithdrawal, 1)
+    );
+    let refused = table.changed(&[twice], &[]).unwrap_err();
+    assert_eq!(
+        (refused.reason, refused.place),
+        (Reason::DuplicateAnnouncement, 0)
+    );
+    assert_eq!(told(table), [other, twice, twice]);
 }
 
 #[test]

@@ -161,7 +161,8 @@ class Pigyelund:
         return [Validity(octet) for octet in told.held[0]]
 
     def table(self, payloads: object) -> Table:
-        """A table of payloads, in any order, which stays until it is closed. `BadOrigin` where one is none."""
+        """A table of payloads, in any order, each as often as it comes, which stays until it is closed. `BadOrigin`
+        where one is none."""
         return Table(self.raw, payloads)
 
     def answer(self, line: str) -> str:

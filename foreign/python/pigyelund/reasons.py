@@ -67,7 +67,8 @@ def status_text(status: int) -> str:
 
 class Refused(Exception):
     """Why nothing is told: the status, and the excess where too much is claimed. Of a path also how many certificates
-    are verified: the reason is that of the next one; of origins the place of the payload or of the route."""
+    are verified: the reason is that of the next one; of origins and of tables the place of the payload or of the route,
+    counted from 0."""
 
     def __init__(
         self, status: int, excess: Resources = Resources(), verified: int | None = None, place: int | None = None

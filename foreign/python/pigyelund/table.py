@@ -73,7 +73,10 @@ class Table:
 
     def changed(self, announced: object = (), withdrawn: object = ()) -> "Table":
         """The table that this one is after payloads are withdrawn and then others announced; this one stays as it is.
-        `BadChange` where one is withdrawn that isn't there, or announced that is; `BadOrigin` where one is none."""
+        Each of both names a payload once; a withdrawal takes all copies of it. `BadChange` where one is withdrawn that
+        isn't there, or announced that is and isn't withdrawn, or where one is named twice; `BadOrigin` where one is
+        none. Its `place` counts in what is withdrawn where the status is UNKNOWN_WITHDRAWAL or has SECOND, else in what
+        is announced."""
         arrays = (*raw.array_of(Payload, announced), *raw.array_of(Payload, withdrawn))
         return self._of(self._library, _told(self._library.table_changed(self._handle(), *arrays)))
 

@@ -294,8 +294,9 @@ impl Error for RefusedPath {}
 pub struct RefusedOrigin {
     /// The reason.
     pub reason: Reason,
-    /// The place of the first payload that is none, or of the first route or withdrawn payload where the reason says
-    /// so; else 0.
+    /// The place, counted from 0, of what is refused: with [`Side::Second`], [`Reason::BadWithdrawnMaxLen`] and
+    /// [`Reason::UnknownWithdrawal`] in the routes, or in what is withdrawn; else in the payloads, or in what is
+    /// announced; and 0 where none is refused.
     pub place: usize,
 }
 

@@ -55,12 +55,14 @@ fn with_items<T: Copy + Default>(
 }
 
 impl Table {
-    /// The table of payloads, in any order, each as often as it comes.
+    /// The table of payloads, in any order, each as often as it comes: one that comes twice is listed and told twice.
     pub fn new(payloads: &[Payload]) -> Result<Table, RefusedOrigin> {
         told(raw::Table::new(payloads))
     }
 
-    /// The table that this one is after payloads are withdrawn and then others announced; this one stays as it is.
+    /// The table that this one is after payloads are withdrawn and then others announced; this one stays as it is. Each
+    /// list names a payload once; a withdrawal takes all copies of it. One that is withdrawn has to be there; one that
+    /// is announced must not, but where it is withdrawn too.
     pub fn changed(
         &self,
         announced: &[Payload],

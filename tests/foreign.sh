@@ -78,6 +78,7 @@ print(pigyelund.Pigyelund().answer("norm as 1"))
 END
     finds() { [ "$("$@" "$out/there/bin/python" "$out/finds.py")" = AS1 ] || fail "Python finds the library: $1"; }
     finds env PIGYELUND_LIB="$prefix/lib"
+    finds env -C "$prefix/lib" PIGYELUND_LIB=.
     finds env LD_LIBRARY_PATH="$prefix/lib"
     cp "$prefix/lib/libpigyelund.so" "$out"/there/lib/python3*/site-packages/pigyelund
     finds env
@@ -85,12 +86,21 @@ END
     tests/foreign_page.py "A table in Python" "$prefix" || fail "the table in Python"
 }
 
+# says TEXT FOLDER: the package of Rust isn't built with that folder of the library, and says why
+says() {
+    PIGYELUND_LIB=$2 cargo check -q --offline --manifest-path foreign/rust/Cargo.toml >"$out/log" 2>&1
+    [ $? -ne 0 ] && grep -qF "$1: $2 " "$out/log" || fail "cargo says: $1: $2"
+}
+
 of_rust() {
     export PIGYELUND_LIB="$prefix/lib" CARGO_TARGET_DIR="$out/rust"
+    says "PIGYELUND_LIB is no absolute path" lib
+    says "PIGYELUND_LIB names a folder without libpigyelund.a" "$spaced"/none
     cargo test -q --offline --manifest-path foreign/rust/Cargo.toml >"$out/log" 2>&1 ||
         { cat "$out/log"; fail "the test in Rust"; }
     same "the example in Rust" cargo run -q --offline --manifest-path foreign/rust/Cargo.toml --example verify
     RUSTDOCFLAGS=-Dwarnings cargo doc -q --offline --no-deps --manifest-path foreign/rust/Cargo.toml || fail "cargo doc"
+    has_python && { tests/foreign_page.py "The examples" "$prefix" || fail "the examples"; }
     has_python && { tests/foreign_page.py Rust "$prefix" || fail "the program in Rust"; }
     has_python && { tests/foreign_page.py "A table in Rust" "$prefix" || fail "the table in Rust"; }
 }

@@ -2,18 +2,40 @@
 use std::env::var;
 use std::path::Path;
 
+/// Whether a folder has the library.
+fn has_library(folder: &str) -> bool {
+    Path::new(folder).join("libpigyelund.a").exists()
+}
+
+/// The folder of the library, or why there is none.
+fn folder() -> Result<String, String> {
+    let named = var("PIGYELUND_LIB").unwrap_or_default();
+    if named.is_empty() {
+        let usual = ["/usr/local/lib", "/usr/lib"];
+        let found = usual.into_iter().find(|folder| has_library(folder));
+        return found
+            .map(String::from)
+            .ok_or("libpigyelund.a isn't found: PIGYELUND_LIB names its folder".into());
+    }
+    if Path::new(&named).is_relative() {
+        return Err(format!("PIGYELUND_LIB is no absolute path: {named}"));
+    }
+    if !has_library(&named) {
+        return Err(format!(
+            "PIGYELUND_LIB names a folder without libpigyelund.a: {named}"
+        ));
+    }
+    Ok(named)
+}
+
 fn main() {
     println!("cargo:rerun-if-env-changed=PIGYELUND_LIB");
-    let folder = var("PIGYELUND_LIB").ok().or_else(|| {
-        let usual = ["/usr/local/lib", "/usr/lib"];
-        let found = usual
-            .iter()
-            .find(|folder| Path::new(folder).join("libpigyelund.a").exists());
-        found.map(|folder| folder.to_string())
-    });
-    let Some(folder) = folder else {
-        eprintln!("libpigyelund.a isn't found: PIGYELUND_LIB names its folder (docs/FOREIGN.md)");
-        std::process::exit(1);
+    let folder = match folder() {
+        Ok(folder) => folder,
+        Err(why) => {
+            eprintln!("{why} (docs/FOREIGN.md)");
+            std::process::exit(1);
+        }
     };
     println!("cargo:rerun-if-changed={folder}/libpigyelund.a");
     println!("cargo:rustc-link-search=native={folder}");

@@ -253,7 +253,7 @@ def found_library() -> str:
     the system's loader finds."""
     folder = os.environ.get("PIGYELUND_LIB")
     if folder:
-        return str(Path(folder) / NAME)
+        return os.path.join(os.path.abspath(folder), NAME)
     beside = Path(__file__).parent / NAME
     return str(beside) if beside.exists() else NAME
 

@@ -186,13 +186,13 @@ typedef struct {
 uint32_t pg_table_new(const pg_payload *payloads, size_t count, pg_table **table, size_t *place);
 
 /* The table that a table is after payloads are withdrawn and then others announced, as a router has it (RFC 8210, 5.6):
- * another one, with a handle of its own; the one that is asked stays as it is. Each array names a payload once, and one
- * that the table lists more than once too: a withdrawal takes all of its copies. One that is withdrawn and announced
- * has to be there, and is listed once then. Of nothing that is announced or withdrawn the pointer is that of any
- * payload, with length 0. Refusals come in this order: PG_NO_TABLE; the first payload that is none of those that are
- * announced; of those that are withdrawn (PG_SECOND and its status); PG_UNKNOWN_WITHDRAWAL; PG_DUPLICATE_ANNOUNCEMENT.
- * *place is the place of that payload, counted from 0: in withdrawn with PG_SECOND and with PG_UNKNOWN_WITHDRAWAL, else
- * in announced; and 0 where no payload is refused. *next is null with any status but PG_OK. */
+ * another one, with a handle of its own; the one that is asked stays as it is. Each array names a payload once, also
+ * one that the table lists more than once: a withdrawal takes all of its copies. One that is withdrawn and announced
+ * has to be there, and is listed once then. Where nothing is announced, or nothing withdrawn, the pointer is that of
+ * any payload, with length 0. Refusals come in this order: PG_NO_TABLE; the first payload that is none of those that
+ * are announced; of those that are withdrawn (PG_SECOND and its status); PG_UNKNOWN_WITHDRAWAL;
+ * PG_DUPLICATE_ANNOUNCEMENT. *place is the place of that payload, counted from 0: in withdrawn with PG_SECOND and with
+ * PG_UNKNOWN_WITHDRAWAL, else in announced; and 0 where none is refused. *next is null with any status but PG_OK. */
 uint32_t pg_table_changed(const pg_table *table, const pg_payload *announced, size_t announced_count,
                           const pg_payload *withdrawn, size_t withdrawn_count, pg_table **next, size_t *place);
 

@@ -434,6 +434,10 @@ def tables(library: Pigyelund, _: Path) -> Iterator[str]:
     library.raw.table_free(None)
 
 
+class OtherPayload(Payload):
+    """Another kind with the fields of a payload."""
+
+
 def items() -> list[raw.Fields]:
     """Payloads and routes of which each two differ in one field or in their kind, and how they are told and covered."""
     six = IPv6Network("2001:db8::/32")
@@ -442,7 +446,7 @@ def items() -> list[raw.Fields]:
     found += [Payload(raw.address_of(TEN), 1, Family.V6, 8, 9), Payload(raw.address_of(TEN), 1, 7, 8, 9)]
     found += [Route.of(TEN, 1), Route.of(TEN, 2), Route.of(six, 1), Route(raw.address_of(TEN), 1, 1, 40)]
     found += [raw.Covering(raw.address_of(TEN), 1, 1, 8, 9, why) for why in range(3)]
-    return found + [raw.Certificate(0, 1, 1, 0, 1), raw.Certificate(0, 0, 0, 1, 1)]
+    return found + [OtherPayload.of(TEN, 1, 9), raw.Certificate(0, 1, 1, 0, 1), raw.Certificate(0, 0, 0, 1, 1)]
 
 
 def equal_fields(_: Pigyelund, __: Path) -> Iterator[str]:

@@ -124,7 +124,8 @@ def must_fail(kit, crate, edit: Path, kept: str | None) -> tuple[bool, str]:
     found, text = kit.must_fail(crate, str(edit), JOBS, kept)
     refused = found in (kit.REFUSED, kit.AT_LIMIT)
     why = text.partition(".edit: ")[2]
-    if "only because a proof file names" in why:
+    # a goal that a proof file answers and the edit has no more is a name too
+    if "only because a proof file names" in why or "`: `goal." in why:
         why = f"refused for a name alone: {why.rpartition('): ')[2]}"
     elif found == kit.AT_LIMIT:
         why = f"refused by a limit alone: {why.rpartition('): ')[2]}"

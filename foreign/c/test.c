@@ -213,43 +213,57 @@ static uint8_t *put_payload(uint8_t *to, const uint8_t *address, uint32_t asn, c
   return to + 20 + count;
 }
 
-/* all payloads, with a room of each length up to what is wanted */
+/* what a call is made on, and what it tells beside its status */
+typedef struct {
+  const question *row;
+  const pg_table *table;
+  size_t room, length, other_length, place;
+  uint8_t *out, *other;
+  pg_table *made;
+} attempt;
+
+static uint32_t of_covering(attempt *a) {
+  return pg_table_covering(a->table, a->row->routes, (pg_covering *)(void *)a->out, a->room / sizeof(pg_covering),
+                           &a->length);
+}
+
+static uint32_t of_payloads(attempt *a) {
+  return pg_table_payloads(a->table, (pg_payload *)(void *)a->out, a->room / sizeof(pg_payload), &a->length);
+}
+
+_Static_assert(sizeof(pg_covering) == sizeof(pg_payload), "a payload that covers is one with one octet more");
+
+/* a call whose room is for so many payloads, of each of which so many octets are told */
+static void ask_in_room(uint32_t (*call)(attempt *), const question *q, const pg_table *table, size_t count,
+                        size_t octets) {
+  size_t wanted = q->told[0].length / octets, length = count * sizeof(pg_covering);
+  attempt a = {q, table, length, ANY, 0, 0, block(length), 0, 0};
+  const pg_covering *out = (pg_covering *)(void *)a.out;
+  uint8_t *told = block(count * octets), *at = told;
+  int fits = wanted <= count;
+  expect(call(&a) == (fits ? q->status : PG_TOO_SMALL), q->row, "another status");
+  expect(a.length == wanted, q->row, "another length");
+  for (size_t i = 0; fits && i < wanted; i++)
+    at = put_payload(at, out[i].address, out[i].asn, &out[i].family, octets - 20);
+  expect(!fits || !memcmp(told, q->told[0].octets, q->told[0].length), q->row, "other payloads");
+  expect(is_marked(a.out, fits ? wanted * sizeof *out : 0, length), q->row, "payloads behind");
+  free(a.out);
+  free(told);
+  calls++;
+}
+
+/* all payloads, with a room of each length up to what is wanted, of a long list with none and one of that length */
 static void ask_payloads(const question *q, const pg_table *table) {
   size_t wanted = q->told[0].length / 23, len = ANY;
   expect(pg_table_len(table, &len) == PG_OK && len == wanted, q->row, "another number of payloads");
-  for (size_t room = 0; room <= wanted + 1; room += room < wanted && wanted > SMALL ? wanted - room : 1) {
-    pg_payload *out = (pg_payload *)(void *)block(room * sizeof *out);
-    uint8_t *octets = block(room * 23), *at = octets;
-    int fits = wanted <= room;
-    len = ANY;
-    expect(pg_table_payloads(table, out, room, &len) == (fits ? PG_OK : PG_TOO_SMALL), q->row, "another status");
-    expect(len == wanted, q->row, "another length");
-    for (size_t i = 0; fits && i < len; i++) at = put_payload(at, out[i].address, out[i].asn, &out[i].family, 3);
-    expect(!fits || !memcmp(octets, q->told[0].octets, q->told[0].length), q->row, "other payloads");
-    expect(is_marked((uint8_t *)out, fits ? len * sizeof *out : 0, room * sizeof *out), q->row, "payloads behind");
-    free(out);
-    free(octets);
-    calls++;
-  }
+  for (size_t room = 0; room <= wanted + 1; room += room < wanted && wanted > SMALL ? wanted - room : 1)
+    ask_in_room(of_payloads, q, table, room, 23);
 }
 
-/* what covers the first route */
+/* what covers the first route, likewise */
 static void ask_covering(const question *q, const pg_table *table) {
-  size_t wanted = q->told[0].length / 24, len = ANY;
-  for (size_t room = 0; room <= wanted + 1; room++) {
-    pg_covering *out = (pg_covering *)(void *)block(room * sizeof *out);
-    uint8_t *octets = block(room * 24), *at = octets;
-    int fits = wanted <= room;
-    uint32_t found = pg_table_covering(table, q->routes, out, room, &len);
-    expect(found == (fits ? q->status : PG_TOO_SMALL), q->row, "another status");
-    expect(len == wanted, q->row, "another length");
-    for (size_t i = 0; fits && i < len; i++) at = put_payload(at, out[i].address, out[i].asn, &out[i].family, 4);
-    expect(!fits || !memcmp(octets, q->told[0].octets, q->told[0].length), q->row, "other payloads");
-    expect(is_marked((uint8_t *)out, fits ? len * sizeof *out : 0, room * sizeof *out), q->row, "payloads behind");
-    free(out);
-    free(octets);
-    calls++;
-  }
+  size_t wanted = q->told[0].length / 24;
+  for (size_t room = 0; room <= wanted + 1; room++) ask_in_room(of_covering, q, table, room, 24);
 }
 
 /* all routes, and then each alone */
@@ -402,67 +416,49 @@ static int is_refused(void) {
 void *__wrap_malloc(size_t length) { return is_refused() ? 0 : __real_malloc(length); }
 void *__wrap_realloc(void *at, size_t length) { return is_refused() ? 0 : __real_realloc(at, length); }
 
-/* what a call is made on, and what it tells beside its status */
-typedef struct {
-  const question *row;
-  const pg_table *table;
-  size_t room, length, other_length, place;
-  uint8_t *out, *other;
-  pg_table *made;
-} refusable;
-
-static uint32_t of_row(refusable *r) {
-  const question *q = r->row;
+static uint32_t of_row(attempt *a) {
+  const question *q = a->row;
   if (q->call == TEST) return call_in_short(q, 0);
-  return call_of(q, r->out, r->room, r->other, r->room, &r->length, &r->other_length, &r->place);
+  return call_of(q, a->out, a->room, a->other, a->room, &a->length, &a->other_length, &a->place);
 }
 
-static uint32_t of_new(refusable *r) { return pg_table_new(r->row->payloads, r->row->count, &r->made, &r->place); }
+static uint32_t of_new(attempt *a) { return pg_table_new(a->row->payloads, a->row->count, &a->made, &a->place); }
 
-static uint32_t of_changed(refusable *r) {
-  const question *q = r->row;
-  return pg_table_changed(r->table, q->announced, q->announced_count, q->withdrawn, q->withdrawn_count, &r->made,
-                          &r->place);
+static uint32_t of_changed(attempt *a) {
+  const question *q = a->row;
+  return pg_table_changed(a->table, q->announced, q->announced_count, q->withdrawn, q->withdrawn_count, &a->made,
+                          &a->place);
 }
 
-static uint32_t of_origins(refusable *r) {
-  return pg_table_origins(r->table, r->row->routes, r->row->route_count, r->out, r->room, &r->length, &r->place);
-}
-
-static uint32_t of_covering(refusable *r) {
-  return pg_table_covering(r->table, r->row->routes, (pg_covering *)(void *)r->out, r->room / sizeof(pg_covering),
-                           &r->length);
-}
-
-static uint32_t of_payloads(refusable *r) {
-  return pg_table_payloads(r->table, (pg_payload *)(void *)r->out, r->room / sizeof(pg_payload), &r->length);
+static uint32_t of_origins(attempt *a) {
+  return pg_table_origins(a->table, a->row->routes, a->row->route_count, a->out, a->room, &a->length, &a->place);
 }
 
 /* a call with each of its requests refused in turn: it tells that memory is wanting, and nothing else; of how many
  * certificates were verified nothing is said then */
-static void ask_refused(uint32_t (*call)(refusable *), const question *q, const pg_table *table, size_t room) {
+static void ask_refused(uint32_t (*call)(attempt *), const question *q, const pg_table *table, size_t room) {
   int is_refused_now = 1;
   for (size_t n = 0; is_refused_now; n++) {
-    refusable r = {q, table, room, 0, 0, 0, block(room), block(room), 0};
+    attempt a = {q, table, room, 0, 0, 0, block(room), block(room), 0};
     uint32_t found;
     was_refused = 0;
     granted = n;
     counts = 1;
-    found = call(&r);
+    found = call(&a);
     counts = 0;
     calls++;
     is_refused_now = was_refused;
     if (was_refused) {
       expect(found == PG_MEMORY, q->row, "another status where memory is refused");
-      expect(!r.length && !r.other_length && !r.made, q->row, "something is told where memory is refused");
-      expect(!r.place || q->call == PATH, q->row, "a place where memory is refused");
-      expect(is_marked(r.out, 0, room) && is_marked(r.other, 0, room), q->row, "octets where memory is refused");
+      expect(!a.length && !a.other_length && !a.made, q->row, "something is told where memory is refused");
+      expect(!a.place || q->call == PATH, q->row, "a place where memory is refused");
+      expect(is_marked(a.out, 0, room) && is_marked(a.other, 0, room), q->row, "octets where memory is refused");
     } else {
       expect(found != PG_MEMORY, q->row, "memory is wanting that wasn't refused");
     }
-    pg_table_free(r.made);
-    free(r.out);
-    free(r.other);
+    pg_table_free(a.made);
+    free(a.out);
+    free(a.other);
   }
 }
 

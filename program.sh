@@ -48,10 +48,10 @@ end_group() {
     kill -s KILL -- "-$1" 2>/dev/null
 }
 
-# Runs rt with these words in the folder of a crate. It leads a group, with which it ends where this job is told to end:
-# what it has begun itself ends too.
+# Runs rt with these words in a folder. It leads a group, with which it ends where this job is told to end: what it has
+# begun itself ends too.
 run_rt() {
-    folder=$top/crates/$1
+    folder=$1
     shift
     ending=
     trap 'ending=1' INT TERM HUP
@@ -62,11 +62,47 @@ run_rt() {
     wait "$prover"
 }
 
+# The copy of the sources in which a crate is proved. While rt works on a crate it keeps others from those below it, so
+# crates side by side in one folder would wait for each other. The libraries below go along, and what is kept of the
+# crate's own proof.
+make_copy() {
+    copy=$copies/$1
+    parts=$(started=$1 && needed_crates | sed 's,^,crates/,')
+    mkdir "$copy" || return
+    # shellcheck disable=SC2086 # folders of crates
+    (cd "$top" && tar -cf - --exclude=out crates.txt HANDLES $parts) | tar -xf - -C "$copy" || return
+    for part in $parts; do
+        [ "$part" != "crates/$1" ] && [ -d "$top/$part/out/rlib" ] || continue
+        mkdir "$copy/$part/out" || return
+        cp -al "$top/$part/out/rlib" "$copy/$part/out/" 2>/dev/null || cp -a "$top/$part/out/rlib" "$copy/$part/out/" || return
+    done
+    [ ! -e "$top/crates/$1/out" ] || mv "$top/crates/$1/out" "$copy/crates/$1/out"
+}
+
+# Brings back what was made of a crate in its copy, whether it is proved or not.
+end_copy() {
+    [ ! -e "$copies/$1/crates/$1/out" ] || mv "$copies/$1/crates/$1/out" "$top/crates/$1/out"
+    rm -rf "${copies:?}/$1"
+}
+
+# Proves and builds a library in its copy, and the program where it stands.
+prove_in_place() {
+    if [ "$1" = "$started" ]; then
+        run_rt "$top/crates/$1" run -- --version
+    else
+        make_copy "$1" && run_rt "$copies/$1/crates/$1" lib
+    fi
+}
+
 # Proves and builds a crate, and says why where that fails.
 prove() {
     log=$work/$1
-    [ "$1" = "$started" ] && set -- "$1" run -- --version || set -- "$1" lib
-    run_rt "$@" </dev/null >"$log" 2>&1 || { tail -n 20 "$log" >&2; return 1; }
+    if prove_in_place "$1" </dev/null >"$log" 2>&1; then
+        end_copy "$1"
+    else
+        tail -n 20 "$log" >&2
+        return 1
+    fi
 }
 
 minutes() {
@@ -92,13 +128,21 @@ prove_in_turn() {
     fi
 }
 
+# Ends all copies: what they keep serves the next run.
+end_copies() {
+    for copy in "$copies"/*; do
+        [ ! -d "$copy" ] || end_copy "${copy##*/}"
+    done
+    rm -rf "$work"
+}
+
 # Ends all that is being proved, and the script with this status.
 end_build() {
     trap '' INT TERM HUP
     # shellcheck disable=SC2086 # numbers of jobs
     kill $running 2>/dev/null
     wait
-    rm -rf "$work"
+    end_copies
     exit "$1"
 }
 
@@ -109,7 +153,8 @@ build() {
     all=$(needed_crates | wc -l)
     work=$(mktemp -d) || exit 1
     marks=$work/marks
-    mkdir "$marks" || exit 1
+    copies=$work/copies
+    mkdir "$marks" "$copies" || exit 1
     running=
     ending=
     trap 'ending=130' INT
@@ -130,7 +175,7 @@ END
         wait "$job" || built=no
     done
     trap - INT TERM HUP
-    rm -rf "$work"
+    end_copies
     if [ -n "${built-}" ]; then
         tell "the program was not built"
         exit 1

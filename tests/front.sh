@@ -12,7 +12,7 @@ copy="$files/a copy"
 out=$copy/crates/respath/out
 mkdir -p "$copy/bin" "$copy/tools" "$copy/tmp" "$copy/crates/other"
 for crate in $(sed '/^#/d; s/[ :].*//' "$top/crates.txt"); do mkdir -p "$copy/crates/$crate/out"; done
-cp "$top/respath" "$top/program.sh" "$top/crates.txt" "$copy/"
+cp "$top/respath" "$top/program.sh" "$top/crates.txt" "$top/HANDLES" "$copy/"
 # shellcheck disable=SC2016 # the README's own marks
 echo 'Last proved whole with `a-kit logic 12`.' >"$copy/README.md"
 printf '#!/bin/sh\necho ran\n' >"$out/respath"
@@ -21,8 +21,8 @@ ln -s "$copy/respath" "$files/link"
 chmod -R go+rX "$files"
 
 # The tools of the script, and no rt
-for tool in sh awk cat cut date dirname find grep head id ls mkdir mktemp mv readlink rm sed setsid sha256sum sleep \
-    tail tee touch tr wc; do
+for tool in sh awk cat cp cut date dirname find grep head id ls mkdir mktemp mv readlink rm sed setsid sha256sum sleep \
+    tail tar tee touch tr wc; do
     ln -s "$(command -v "$tool")" "$copy/tools/$tool"
 done
 

@@ -9,8 +9,8 @@ use crate::read::set_of;
 use crate::refusal::Unread;
 use crate::status;
 use rpki_extensions::encoding::Encoding;
-use rpki_resources::OrMemory;
 use rpki_resources::repository::resources::ResourceSet;
+use rpki_resources::{OrMemory, refused_as};
 use std::alloc::Global;
 
 /// Two sets that were read.
@@ -57,16 +57,15 @@ fn two(
     ensures { MatchResult result (AreTwo encoding a_as.now a_ip.now b_as.now b_ip.now)
         (IfRefused (AreNotTwo encoding a_as.now a_ip.now b_as.now b_ip.now)) }
 {
-    let first = match set_of(alloc, a_as, a_ip, encoding) {
-        Ok(set) => set,
-        Err(OrMemory::Refused(reason)) => return Err(OrMemory::Refused(Unpaired::First(reason))),
-        Err(OrMemory::Memory(error)) => return Err(OrMemory::Memory(error)),
-    };
-    match set_of(alloc, b_as, b_ip, encoding) {
-        Ok(second) => Ok(Pair { first, second }),
-        Err(OrMemory::Refused(reason)) => Err(OrMemory::Refused(Unpaired::Second(reason))),
-        Err(OrMemory::Memory(error)) => Err(OrMemory::Memory(error)),
-    }
+    let first = refused_as(
+        set_of(alloc, a_as, a_ip, encoding),
+        |reason| Unpaired::First(reason),
+    )?;
+    let second = refused_as(
+        set_of(alloc, b_as, b_ip, encoding),
+        |reason| Unpaired::Second(reason),
+    )?;
+    Ok(Pair { first, second })
 }
 
 /// The same by the number of an encoding.

@@ -17,7 +17,7 @@ pub first_part : (w n x : ℕ) → n ≤ w → x < 2 ^ w → x / 2 ^ (w - n) < 2
 first_part w n x le small = shr_below x n (w - n) (subst (λ k. x < 2 ^ k) (omega (arith, le)) small)
 
 -- sixteen bits are less than 2 ^ 17 of them
-pub few_numbers : (n : ℕ) → n ≤ 16 → 2 ^ n ≤ 2 ^ 16
+pub few_numbers : (n : ℕ) → n ≤ 20 → 2 ^ n ≤ 2 ^ 20
 few_numbers n few = pow-le-pow_right (lit≤ tt) few
 
 -- the first bits of a greater number are no less
@@ -27,7 +27,7 @@ up k x y le =
     le-div (x / 2 ^ k) y (2 ^ k) (pow_pos k) (omega (arith, down, le))
 
 -- what comes no later has first bits that write no more
-pub first_up : (n : ℕ) (p q : FamilyPrefix) → n ≤ 16 → IsFamilyPrefix p → IsFamilyPrefix q → place p ≤ place q → first_bits n p ≤ first_bits n q
+pub first_up : (n : ℕ) (p q : FamilyPrefix) → n ≤ 20 → IsFamilyPrefix p → IsFamilyPrefix q → place p ≤ place q → first_bits n p ≤ first_bits n q
 first_up n p q few = of_addrs p.addr q.addr p.len q.len where
   of_addrs : (a b : IpAddr) (k l : ℕ) → IsFamilyPrefix (record { addr = a; len = k }) → IsFamilyPrefix (record { addr = b; len = l })
       → place (record { addr = a; len = k }) ≤ place (record { addr = b; len = l })
@@ -47,7 +47,7 @@ first_up n p q few = of_addrs p.addr q.addr p.len q.len where
       absurd (omega (arith, le, below, short))
 
 -- payloads before the start of a prefix's first bits come before the prefix
-pub before_start : (n : ℕ) (xs : List Payload) (p : FamilyPrefix) (start : ℕ) → n ≤ 16 → AreFamilyPrefixes xs (length xs) → IsFamilyPrefix p
+pub before_start : (n : ℕ) (xs : List Payload) (p : FamilyPrefix) (start : ℕ) → n ≤ 20 → AreFamilyPrefixes xs (length xs) → IsFamilyPrefix p
     → IsStart n xs (first_bits n p) start → (k : ℕ) (d : Payload) → k < start → payload_place (get_or xs k d) < place p
 before_start n xs p start few prefixes is at k d small =
     let there : k < length xs = omega (arith, small, at.within) in
@@ -57,7 +57,7 @@ before_start n xs p start few prefixes is at k d small =
     ]
 
 -- payloads from the start of the next number on come after it
-pub after_start : (n : ℕ) (xs : List Payload) (p : FamilyPrefix) (end : ℕ) → n ≤ 16 → AreFamilyPrefixes xs (length xs) → IsFamilyPrefix p
+pub after_start : (n : ℕ) (xs : List Payload) (p : FamilyPrefix) (end : ℕ) → n ≤ 20 → AreFamilyPrefixes xs (length xs) → IsFamilyPrefix p
     → IsStart n xs (first_bits n p + 1) end → (k : ℕ) (d : Payload) → end ≤ k → k < length xs → place p < payload_place (get_or xs k d)
 after_start n xs p end few prefixes is at k d from small =
     elim (cases_lt (place p) (payload_place (get_or xs k d))) [

@@ -17,6 +17,6 @@ pub record IsStart (n : ℕ) (xs : List Payload) (number start : ℕ) : Type 0 w
 -- the starts of all numbers of n bits of both families, and the end
 pub record AreStarts (n : ℕ) (xs : List Payload) (starts : List ℕ) : Type 0 where
   pub some : 1 ≤ n
-  pub few : n ≤ 16
+  pub few : n ≤ 20
   pub as_many : length starts ≡ 2 * 2 ^ n + 1
   pub each : (number : ℕ) → number < length starts → IsStart n xs number (slice_index starts number)

@@ -233,7 +233,7 @@ impl Entry {
     /// The number that the first bits of the prefix's address write, those of IPv6 after those of IPv4.
     pub(crate) fn first_bits(&self, count: u8) -> usize
         requires some { 1 ≤ count }
-        requires few { count ≤ 16 }
+        requires few { count ≤ 20 }
         ensures value { result ≡ first_bits count self.now.0.prefix }
         ensures below { result < 2 * 2 ^ count }
     {

@@ -1,5 +1,5 @@
 //! The links of a table's payloads, by which a walk gets from a prefix to the shorter ones that cover it.
-ghost use Rattle.std.specs.Prelude.{◌≡◌, ◌-◌, ◌<◌, ◌≤◌, ◌⊎◌, IfOk, length, slice_index_or};
+ghost use Rattle.std.specs.Prelude.{◌≡◌, ◌-◌, ◌^◌, ◌<◌, ◌≤◌, ◌⊎◌, IfOk, length, slice_index_or};
 ghost use Rattle.rpki_prefix.specs.Values.{IsFamilyPrefix};
 ghost use Rattle.roa_origin.specs.Links.{AreLinks, AreUpTo, IsInOrder, IsLink, IsTable, NoneCovers};
 ghost use Rattle.roa_origin.specs.Payloads.{CoversRoute, Payload};
@@ -7,12 +7,15 @@ ghost use Rattle.roa_origin.specs.Payloads.{CoversRoute, Payload};
 use crate::entry::Entry;
 use std::alloc::{AllocError, Allocator};
 
+/// How many payloads a table has at most, so that its links take half the room.
+const MOST: usize = 0xffff_ffff;
+
 /// Where the payloads begin that have the prefix of one, and how many there are up to the nearest one before them that
 /// covers it: 0 where none does.
 #[derive(Clone, Copy)]
 pub(crate) struct Link {
-    pub(crate) first: usize,
-    pub(crate) back: usize,
+    pub(crate) first: u32,
+    pub(crate) back: u32,
 }
 
 impl Link {
@@ -22,7 +25,8 @@ impl Link {
         ensures { ((result ≡ at) × (self.first < at))
             ⊎ ((result ≡ self.back) × (at ≤ self.first)) }
     {
-        if self.first < at { at } else { self.back }
+        let first = self.first as usize;
+        if first < at { at } else { self.back as usize }
     }
 }
 
@@ -45,7 +49,7 @@ pub(crate) fn nearest(payloads: &[Entry], links: &[Link], from: usize, route: &E
         if payloads[at - 1].covers(route) {
             break;
         }
-        at = links[at - 1].back;
+        at = links[at - 1].back as usize;
     }
     at
 }
@@ -54,6 +58,7 @@ pub(crate) fn nearest(payloads: &[Entry], links: &[Link], from: usize, route: &E
 fn next_link(payloads: &[Entry], links: &[Link], at: usize) -> Link
     requires in_order { IsInOrder payloads.now }
     requires within { at < length payloads.now }
+    requires few { length payloads.now < 2 ^ 32 }
     requires as_many { length links.now ≡ at }
     requires linked { AreLinks payloads.now links.now }
     ensures { (d : Payload) → IsLink payloads.now at (slice_index_or payloads.now at d) result }
@@ -66,14 +71,20 @@ fn next_link(payloads: &[Entry], links: &[Link], at: usize) -> Link
         return links[at - 1];
     }
     let back = nearest(payloads, links, at, payload);
-    Link { first: at, back }
+    Link {
+        first: at as u32,
+        back: back as u32,
+    }
 }
 
-/// The link of each payload.
+/// The link of each payload. `AllocError` too where there are more than links have room for.
 pub(crate) fn links<A: Allocator>(alloc: A, payloads: &[Entry]) -> Result<Vec<Link, A>, AllocError>
     requires { IsInOrder payloads.now }
     ensures { IfOk result (λ links. IsTable payloads.now links.items) }
 {
+    if payloads.len() > MOST {
+        return Err(AllocError);
+    }
     let mut links = Vec::with_capacity(alloc, payloads.len())?;
     for at in 0..payloads.len() {
         let link = next_link(payloads, links.as_slice(), at);

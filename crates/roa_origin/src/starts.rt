@@ -9,13 +9,13 @@ ghost use Rattle.roa_origin.specs.Starts.{AreStarts, IsStart, first_bits};
 use crate::entry::Entry;
 use std::alloc::{AllocError, Allocator};
 
-/// How many first bits tell the starts of so many payloads apart: for each start some 16 payloads, if they are many.
+/// How many first bits tell the starts of so many payloads apart: for each start some two payloads, up to a million starts.
 pub(crate) fn bits_for(payloads: usize) -> u8
     ensures some { 1 ≤ result }
-    ensures few { result ≤ 16 }
+    ensures few { result ≤ 20 }
 {
     let mut bits = 1;
-    while bits < 16 && (payloads >> (bits + 4)) > 0 {
+    while bits < 20 && (payloads >> (bits + 1)) > 0 {
         bits += 1;
     }
     bits
@@ -26,7 +26,7 @@ fn start_from(payloads: &[Entry], bits: u8, number: usize, from: usize) -> usize
     requires ordered { IsNonDecreasingBy payload_place payloads.now }
     requires prefixes { AreFamilyPrefixes payloads.now (length payloads.now) }
     requires some { 1 ≤ bits }
-    requires few { bits ≤ 16 }
+    requires few { bits ≤ 20 }
     requires from { from ≤ length payloads.now }
     requires before { (k : _) (d : Payload) → k < from
         → first_bits bits (slice_index_or payloads.now k d).0.prefix < number }
@@ -48,7 +48,7 @@ pub(crate) fn starts<A: Allocator>(
     requires ordered { IsNonDecreasingBy payload_place payloads.now }
     requires prefixes { AreFamilyPrefixes payloads.now (length payloads.now) }
     requires some { 1 ≤ bits }
-    requires few { bits ≤ 16 }
+    requires few { bits ≤ 20 }
     ensures { IfOk result (λ starts. AreStarts bits payloads.now starts.items) }
 {
     let numbers = (2 << bits) + 1;

@@ -9,7 +9,7 @@ use crate::status;
 use roa_origin::{OriginTable, Validity};
 use rpki_base::Asn;
 use rpki_prefix::MaxLenPrefix;
-use rpki_text::memory::OrMemory;
+use rpki_text::memory::{OrMemory, refused_as};
 use std::alloc::Global;
 
 /// Which of an array is the first that is none, counted from 0, and why.
@@ -135,14 +135,12 @@ pub fn origins(
     ensures { MatchResult result (λ octets. AreOrigins payloads.now routes.now octets.items)
         (IfRefused (AreNoOrigins payloads.now routes.now)) }
 {
-    let read = match payloads_of(alloc, payloads) {
-        Ok(read) => read,
-        Err(OrMemory::Refused(first)) => return Err(OrMemory::Refused(NoOrigins::Payload(first))),
-        Err(OrMemory::Memory(error)) => return Err(OrMemory::Memory(error)),
-    };
-    match origins_of(alloc, read.as_slice(), routes) {
-        Ok(octets) => Ok(octets),
-        Err(OrMemory::Refused(first)) => Err(OrMemory::Refused(NoOrigins::Route(first))),
-        Err(OrMemory::Memory(error)) => Err(OrMemory::Memory(error)),
-    }
+    let read = refused_as(
+        payloads_of(alloc, payloads),
+        |first| NoOrigins::Payload(first),
+    )?;
+    refused_as(
+        origins_of(alloc, read.as_slice(), routes),
+        |first| NoOrigins::Route(first),
+    )
 }

@@ -13,7 +13,7 @@ use box_pointer::BoxPointer;
 use roa_origin::OriginTable;
 use rpki_base::Asn;
 use rpki_prefix::Prefix;
-use rpki_text::memory::OrMemory;
+use rpki_text::memory::{OrMemory, refused_as};
 use std::alloc::{AllocError, Global};
 
 /// The boxed table of payloads. `Refused` with the first that is none, `Memory` where there is no memory for them, for
@@ -25,11 +25,10 @@ pub fn made_table(
     ensures { MatchResult result (λ parts. IsTableOfHanded payloads.now parts.value)
         (IfRefused (IsNoTable payloads.now)) }
 {
-    let read = match payloads_of(alloc, payloads) {
-        Ok(read) => read,
-        Err(OrMemory::Refused(first)) => return Err(OrMemory::Refused(NoOrigins::Payload(first))),
-        Err(OrMemory::Memory(error)) => return Err(OrMemory::Memory(error)),
-    };
+    let read = refused_as(
+        payloads_of(alloc, payloads),
+        |first| NoOrigins::Payload(first),
+    )?;
     let table = OriginTable::new(alloc, read.as_slice())?;
     match Box::new(alloc, table) {
         Ok(boxed) => Ok(BoxPointer::of(boxed)),
@@ -48,11 +47,10 @@ pub fn table_origins(
         (λ octets. AreEach (IsOrigin table.now) routes.now octets.items)
         (IfRefused (AreNoTableOrigins table.now routes.now)) }
 {
-    match origins_in(alloc, table, routes) {
-        Ok(octets) => Ok(octets),
-        Err(OrMemory::Refused(first)) => Err(OrMemory::Refused(NoOrigins::Route(first))),
-        Err(OrMemory::Memory(error)) => Err(OrMemory::Memory(error)),
-    }
+    refused_as(
+        origins_in(alloc, table, routes),
+        |first| NoOrigins::Route(first),
+    )
 }
 
 /// The payloads of a table that cover the route to a prefix that an AS originates, each with why it doesn't match it.

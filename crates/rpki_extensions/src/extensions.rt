@@ -7,8 +7,8 @@ ghost use Rattle.rpki_extensions.specs.Claims.{AreClaims, AreNoClaims};
 use crate::encoding::Encoding;
 use crate::error::Unverified;
 use crate::read::{address_claims, numbers_claim};
-use rpki_resources::OrMemory;
 use rpki_resources::repository::resources::{AsResources, IpResources, Overclaim};
+use rpki_resources::{OrMemory, refused_as};
 use std::alloc::{Allocator, Global};
 
 /// The values of a certificate's two extensions, and how they are read.
@@ -51,19 +51,14 @@ impl Extensions<'_> {
         if self.numbers.is_none() && self.addresses.is_none() {
             return Err(OrMemory::Refused(Unverified::Absent));
         }
-        let asn = match numbers_claim(alloc, self.numbers, self.encoding) {
-            Ok(claim) => claim,
-            Err(OrMemory::Refused(fault)) => {
-                return Err(OrMemory::Refused(Unverified::AsOctets(fault)));
-            }
-            Err(OrMemory::Memory(error)) => return Err(OrMemory::Memory(error)),
-        };
-        match address_claims(alloc, self.addresses, self.encoding) {
-            Ok((ipv4, ipv6)) => Ok(Claims { asn, ipv4, ipv6 }),
-            Err(OrMemory::Refused(fault)) => {
-                Err(OrMemory::Refused(Unverified::AddressOctets(fault)))
-            }
-            Err(OrMemory::Memory(error)) => Err(OrMemory::Memory(error)),
-        }
+        let asn = refused_as(
+            numbers_claim(alloc, self.numbers, self.encoding),
+            |fault| Unverified::AsOctets(fault),
+        )?;
+        let (ipv4, ipv6) = refused_as(
+            address_claims(alloc, self.addresses, self.encoding),
+            |fault| Unverified::AddressOctets(fault),
+        )?;
+        Ok(Claims { asn, ipv4, ipv6 })
     }
 }

@@ -1,5 +1,5 @@
 -- The bytes of which the text of an address is made.
-use Rattle.std.proofs.Common.{◌≡◌, ◌⊎◌, ◌<◌, ◌^◌, ℕ, zero, suc, Bool, true, false, List, [], ◌∷◌, ◌++◌, length, codes, get_or, arith, lit<, lit≤, refl, sym, ap, ◌∙◌, subst, inl, inr}
+use Rattle.std.proofs.Common.{◌≡◌, ◌⊎◌, ◌<◌, ◌^◌, ℕ, zero, suc, Bool, true, false, List, [], ◌∷◌, ◌++◌, length, length-append, codes, decimal, get_or, arith, lit<, lit≤, refl, sym, ap, ◌∙◌, subst, inl, inr}
 use Rattle.std.specs.Char.{digit_value}
 use Rattle.std.specs.Int.{IsInRange}
 use Rattle.std.specs.List.{All, Contains, AllByRecursion}
@@ -8,6 +8,7 @@ use Rattle.std.specs.Net.Grammar.{IsDotted, IsGroupsAfter, IsColonHex}
 use Rattle.std.specs.Str.Parse.{AllDigits}
 use Rattle.std.proofs.NetLemmas.Alphabet.{IsDigitOrDot, All-ipv4_text}
 use Rattle.std.proofs.lemmas.Bool.Decides.{nat_tests}
+use Rattle.std.proofs.lemmas.Fmt.{decimal_is_IsNumeral}
 use Rattle.std.proofs.lemmas.List.Elements.{All-nil, All-weaker, All-append, All-from_recursion, Contains-append_left, Contains-append_right}
 use Rattle.rpki_addr.specs.AddressText.{IsIpv4Text, IsIpv6Text}
 use Rattle.rpki_addr.proofs.AddressLemmas.{IsIpv4Text-dotted, IsGroupsText-colon_hex}
@@ -29,6 +30,16 @@ dotted_written text octets h = subst (All IsDigitOrDot) (sym h.spelled) (All-ipv
 
 pub ipv4_written : (text : List ℕ) (n : ℕ) → IsIpv4Text text n → All IsDigitOrDot text
 ipv4_written text n h = dotted_written text h.octets (IsIpv4Text-dotted text n h)
+
+-- one or more
+some_at_end : (xs ys : List ℕ) → 0 < length ys → 0 < length (xs ++ ys)
+some_at_end xs ys some = omega (arith, some, length-append xs ys)
+
+dotted_some : (text octets : List ℕ) → IsDotted text octets → 0 < length text
+dotted_some text octets h = subst (λ t. 0 < length t) (sym h.spelled) (some_at_end _ (decimal h.d) (decimal_is_IsNumeral h.d (omega (arith, h.fit.3))).0.0)
+
+pub ipv4_some : (text : List ℕ) (n : ℕ) → IsIpv4Text text n → 0 < length text
+ipv4_some text n h = dotted_some text h.octets (IsIpv4Text-dotted text n h)
 
 -- these are among those of IPv6
 wider : (b : ℕ) → IsDigitOrDot b → IsWrittenByte b

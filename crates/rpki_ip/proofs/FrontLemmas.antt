@@ -1,21 +1,16 @@
 -- A length in digits at the front of a text.
-use Rattle.std.proofs.Common.{◌≡◌, ℕ, ◌-◌, ◌<◌, ◌≤◌, List, ◌++◌, length, take, drop, Some, arith, refl, sym, ap, ◌∙◌, length-drop}
+use Rattle.std.proofs.Common.{◌≡◌, ℕ, ◌-◌, ◌<◌, ◌≤◌, List, ◌++◌, length, take, drop, arith, refl, sym, ap, ◌∙◌, length-drop}
 use Rattle.std.specs.Str.Parse.{AllDigits, digits_value}
 use Rattle.std.proofs.lemmas.Str.Parse.{without_leading_plus_none, digit_at}
 use Rattle.std.proofs.lemmas.List.{length-take, take-append-drop}
 use Rattle.rpki_text.specs.Numbers.{IsNumberText, AreDigitsFrom}
 use Rattle.rpki_addr.specs.AddressFronts.{IsAtFront}
-use Rattle.rpki_addr.specs.AddressText.{IsIpv4Text, IsIpv6Text}
 use Rattle.rpki_addr.specs.Bits.{cleared}
 use Rattle.rpki_addr.specs.Prefixes.{PrefixValue}
 use Rattle.rpki_addr.specs.AddrText.{first_of}
 use Rattle.rpki_addr.specs.declared.addr.IpAddr.{IpAddr}
-use Rattle.rpki_addr.specs.declared.addr.IpAddr.TheVariants.{V4, V6}
 use Rattle.rpki_base.specs.Families.{bits_of, family_of}
-use Rattle.rpki_base.specs.declared.family.AddressFamily.{AddressFamily}
-use Rattle.rpki_base.specs.declared.family.AddressFamily.TheVariants.{Ipv4, Ipv6}
-use Rattle.rpki_ip.specs.BlockText.{IsAddressText, IsPrefixAt, IsRangeFrom, WithAddress}
-use Rattle.rpki_ip.specs.Ranges.{RangeValue}
+use Rattle.rpki_ip.specs.BlockText.{IsPrefixAt}
 
 -- digits are a number text
 digits_are_number : (limit : ℕ) (ds : List ℕ) (n : ℕ) → 0 < length ds → AllDigits 10 ds → digits_value 10 ds ≡ n → n ≤ limit → IsNumberText limit ds n

@@ -1,5 +1,5 @@
 -- Blocks at the front of a text: the addresses that write one, and what stands round them.
-use Rattle.std.proofs.Common.{◌≡◌, ◌≢◌, ◌⊎◌, ◌<◌, ℕ, List, [], ◌∷◌, ◌++◌, length, Option, Some, None, IfSome, arith, lit<, lit≤, refl, sym, ap, ◌∙◌, subst, inl, inr, length-append, append_assoc}
+use Rattle.std.proofs.Common.{◌≡◌, ◌≢◌, ◌<◌, ℕ, List, [], ◌∷◌, ◌++◌, length, Option, Some, None, IfSome, arith, lit<, lit≤, refl, sym, ap, ◌∙◌, inl, inr, length-append, append_assoc}
 use Rattle.std.specs.Borrow.{Bor}
 use Rattle.std.specs.Int.{IsInRange}
 use Rattle.std.specs.List.{All, Contains, AllByRecursion}

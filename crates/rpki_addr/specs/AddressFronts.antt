@@ -1,6 +1,5 @@
 -- Texts that begin with the text of an address.
 use Rattle.std.specs.Prelude.{◌≡◌, ◌≢◌, ℕ, ◌≤◌, List, ◌++◌, slice_index}
-use Rattle.std.specs.Borrow.{Bor}
 use Rattle.std.specs.Char.{digit_value}
 
 -- the text begins with one that writes the value, and rest stands behind that
@@ -8,10 +7,6 @@ pub record IsAtFront {A : Type 0} (Writes : List ℕ → A → Type 0) (text : L
   pub front : List ℕ
   pub split : text ≡ front ++ rest
   pub writes : Writes front value
-
--- these are the number and what stands behind its text
-abbrev pub IsFound : ℕ → List ℕ → ℕ × Bor (List ℕ) → Type 0
-IsFound n rest found = (found.0 ≡ n) × (found.1.now ≡ rest)
 
 -- no decimal digit stands there
 abbrev pub EndsIpv4 : List ℕ → Type 0

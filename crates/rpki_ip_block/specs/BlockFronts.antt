@@ -11,8 +11,8 @@ use Rattle.rpki_ip_block.specs.ListText.{IsElementText}
 use Rattle.rpki_ip_block.specs.declared.block.IpBlock.{IpBlock}
 use Rattle.rpki_ip_block.specs.declared.block.IpBlock.TheVariants.{Prefix, Range}
 
--- The text begins with an element that writes the block, with bytes from `-` on alone, so with neither a comma nor white
--- space, and rest stands behind that.
+-- The text begins with an element that writes the block, with bytes from `-` on alone, so with neither a comma nor
+-- white space, and rest stands behind that.
 pub record IsBlockAtFront (family : AddressFamily) (text : List ℕ) (b : IpBlock) (rest : List ℕ) : Type 0 where
   pub front : List ℕ
   pub split : text ≡ front ++ rest

@@ -1,6 +1,7 @@
 -- Lemmas on the texts of addresses, and on masks.
 pub mod AddrTextLemmas
 pub mod AddressBytes
+pub mod AddressFronts
 pub mod AddressLemmas
 pub mod AddressReading
 pub mod AddressReads
@@ -10,3 +11,4 @@ pub mod PrefixNumbers
 pub mod PrintLemmas
 pub mod PrintedAddressLemmas
 pub mod Tables
+pub mod WrittenBytes

@@ -1,5 +1,6 @@
 -- Definitions: the texts of addresses, read and printed, and addresses of either family as numbers of 128 bits.
 pub mod AddrText
+pub mod AddressFronts
 pub mod AddressReading
 pub mod AddressText
 pub mod Bits

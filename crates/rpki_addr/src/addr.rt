@@ -4,6 +4,7 @@ ghost use Rattle.rpki_text.specs.Digits.{octets_of, groups_of};
 ghost use Rattle.rpki_addr.specs.ReadsAddress.{address_fault_text};
 ghost use Rattle.rpki_addr.specs.declared.addr.IpAddr.TheVariants.{V4 as the_v4, V6 as the_v6};
 
+pub mod front;
 mod groups;
 mod print;
 mod read;

@@ -3,6 +3,7 @@ pub mod DerFaults
 pub mod DerModes
 pub mod DerReadings
 pub mod DerWritten
+pub mod FrontLemmas
 pub mod PrefixBits
 pub mod RangeLemmas
 pub mod Shortest

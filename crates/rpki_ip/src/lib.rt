@@ -14,6 +14,7 @@
 pub mod cover;
 pub mod der;
 pub mod error;
+pub mod front;
 pub mod laws;
 pub mod prefix;
 pub mod range;

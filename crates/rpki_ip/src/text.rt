@@ -22,7 +22,7 @@ use std::fmt;
 use std::str::FromStr;
 
 /// The family of an address.
-fn family_of(addr: &IpAddr) -> AddressFamily
+pub(crate) fn family_of(addr: &IpAddr) -> AddressFamily
     ensures { result ≡ the_family addr.now }
 {
     match addr {
@@ -32,7 +32,7 @@ fn family_of(addr: &IpAddr) -> AddressFamily
 }
 
 /// The greatest number that an address stands for.
-fn greatest(addr: &IpAddr) -> Addr
+pub(crate) fn greatest(addr: &IpAddr) -> Addr
     ensures { result ≡ greatest_of addr.now }
 {
     match addr {
@@ -91,7 +91,7 @@ pub fn range_between(
 
 /// The range from one address to another of its family. Where there is none, it is first their families that differ,
 /// and then their order.
-fn range_from(first: IpAddr, last: IpAddr) -> Result<AddressRange, FromStrError>
+pub(crate) fn range_from(first: IpAddr, last: IpAddr) -> Result<AddressRange, FromStrError>
     ensures { MatchResult result (IsRangeFrom first last) (HasPairFault first last) }
 {
     if family_of(&first) != family_of(&last) {

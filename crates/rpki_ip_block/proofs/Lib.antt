@@ -2,6 +2,8 @@ pub mod BlockModes
 pub mod BlockWritten
 pub mod DerFaults
 pub mod FormLemmas
+pub mod FrontLemmas
+pub mod ListFronts
 pub mod ListLemmas
 pub mod PrintedLemmas
 pub mod PrintedLists

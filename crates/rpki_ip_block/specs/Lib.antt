@@ -1,5 +1,6 @@
 pub mod BlockDer
 pub mod BlockFormLaws
+pub mod BlockFronts
 pub mod BlockModeLaws
 pub mod BlockModes
 pub mod BlockReading

@@ -10,6 +10,7 @@
 
 pub mod block;
 pub mod der;
+mod front;
 pub mod list;
 pub mod text;
 

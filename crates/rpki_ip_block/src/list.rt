@@ -1,7 +1,7 @@
 //! Texts of lists of blocks, read and printed.
 ghost use Rattle.std.specs.Prelude.{◌≡◌, ◌↔◌, IsTrue, IfOk, All, List, Some, map, MatchResult};
 ghost use Rattle.std.specs.Fmt.{WritesOnOk};
-ghost use Rattle.rpki_text.specs.Memory.{IsMemory};
+ghost use Rattle.rpki_text.specs.Memory.{IsMemory, IfRefused};
 ghost use Rattle.rpki_text.specs.Reading.{AnswersOrMemory};
 ghost use Rattle.rpki_ip.specs.Whole.{HasWholeBounds};
 ghost use Rattle.rpki_base.specs.declared.family.AddressFamily.TheVariants.{Ipv4};
@@ -12,6 +12,7 @@ ghost use Rattle.rpki_ip_block.specs.PrintedBlocks.{ip_block_text, block_list_te
 ghost use Rattle.rpki_ip_block.specs.declared.block.IpBlock.{IpBlock};
 
 use crate::block::IpBlock;
+use crate::front::usual_blocks;
 use crate::text::{has_byte, read_block};
 use rpki_base::list::{FmtElement, ReadElement, fmt_elements, read_elements};
 use rpki_base::memory::OrMemory;
@@ -77,12 +78,29 @@ impl ReadElement for ByColon {
     }
 }
 
+/// The blocks that the elements of a list write, as [`read_blocks`] answers. A list of the usual form is read at once,
+/// with no search for its commas.
+fn blocks_of<A: Allocator + Copy>(
+    alloc: A,
+    family: AddressFamily,
+    text: &str,
+) -> Result<Vec<IpBlock, A>, OrMemory<FromStrError>>
+    ensures { MatchResult result (λ v. HasBlocks family text.now v.items)
+        (IfRefused (HasBlocksFault family text.now)) }
+{
+    if let Some(blocks) = usual_blocks(alloc, family, text.as_bytes())? {
+        return Ok(blocks);
+    }
+    let reader = InFamily { family };
+    read_elements(alloc, &reader, text)
+}
+
 /// The blocks that the elements of a list of blocks of a family write, in its order.
 ///
 /// The text is cut at its commas, each part is trimmed of white space, and a part that is then empty is left out. The
 /// first element that writes no block is refused: by [`FromStrError::FamilyMismatch`] where it has a colon in a list of
 /// IPv4, or a dot and no colon in one of IPv6, and else by the fault of [`IpBlock::from_v4_str`] or `from_v6_str`.
-pub fn read_blocks<A: Allocator>(
+pub fn read_blocks<A: Allocator + Copy>(
     alloc: A,
     family: AddressFamily,
     text: &str,
@@ -97,8 +115,7 @@ pub fn read_blocks<A: Allocator>(
     ensures whole { IfOk result (λ v. family ≡ Ipv4
         → All (λ block. HasWholeBounds (ip_bounds block)) v.items) }
 {
-    let reader = InFamily { family };
-    read_elements(alloc, &reader, text)
+    blocks_of(alloc, family, text)
 }
 
 /// The family of a list that tells none.

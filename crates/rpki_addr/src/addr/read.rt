@@ -72,7 +72,7 @@ fn take_next_octet(text: &[u8]) -> Option<(u8, &[u8])>
 
 /// Takes an IPv4 text, as the number of its address.
 #[tactic(auto, unfolding(std::specs::Net::Reader::read_ipv4))]
-fn take_ipv4(text: &[u8]) -> Option<(u32, &[u8])>
+pub(super) fn take_ipv4(text: &[u8]) -> Option<(u32, &[u8])>
     ensures { Reader.read_view (λ n. n) result
         ≡ option_map with_octets (Reader.read_ipv4 text.now) }
 {
@@ -292,7 +292,7 @@ fn with_zeros(bits: u128, count: usize) -> u128
 }
 
 /// Takes an IPv6 text, as the number of its address.
-fn take_ipv6(text: &[u8]) -> Option<(u128, &[u8])>
+pub(super) fn take_ipv6(text: &[u8]) -> Option<(u128, &[u8])>
     ensures { Reader.read_view (λ n. n) result
         ≡ option_map with_number (Reader.read_ipv6 text.now) }
 {

@@ -1,0 +1,31 @@
+-- A length in digits at the front of a text.
+use Rattle.std.proofs.Common.{◌≡◌, ℕ, ◌-◌, ◌<◌, ◌≤◌, List, ◌++◌, length, take, drop, arith, refl, sym, ap, ◌∙◌, length-drop}
+use Rattle.std.specs.Str.Parse.{AllDigits, digits_value}
+use Rattle.std.proofs.lemmas.Str.Parse.{without_leading_plus_none, digit_at}
+use Rattle.std.proofs.lemmas.List.{length-take, take-append-drop}
+use Rattle.rpki_text.specs.Numbers.{IsNumberText, AreDigitsFrom}
+use Rattle.rpki_addr.specs.AddressFronts.{IsAtFront}
+use Rattle.rpki_addr.specs.Bits.{cleared}
+use Rattle.rpki_addr.specs.Prefixes.{PrefixValue}
+use Rattle.rpki_addr.specs.AddrText.{first_of}
+use Rattle.rpki_addr.specs.declared.addr.IpAddr.{IpAddr}
+use Rattle.rpki_base.specs.Families.{bits_of, family_of}
+use Rattle.rpki_ip.specs.BlockText.{IsPrefixAt}
+
+-- digits are a number text
+digits_are_number : (limit : ℕ) (ds : List ℕ) (n : ℕ) → 0 < length ds → AllDigits 10 ds → digits_value 10 ds ≡ n → n ≤ limit → IsNumberText limit ds n
+digits_are_number limit ds n some all value small =
+    let first = digit_at ds 0 all some in
+    let whole = without_leading_plus_none ds (λ e. omega (arith, e, first.0)) in
+    record { digits = rw whole (some, all); value = rw whole value; within = small }
+
+-- so digits at the front are a length, where the family has it
+pub prefix_at : (first : IpAddr) (text : List ℕ) (n end : ℕ) (p : PrefixValue) → AreDigitsFrom 0 end text n → (end ≡ 0 → ⊥) → n ≤ bits_of (family_of first) → bits_of (family_of first) ≤ 128 → p ≡ record { first = cleared 128 (first_of first) n; len = n } → IsAtFront (λ t p. AllDigits 10 t × IsPrefixAt first t p) text p (drop end text)
+prefix_at first text n end p h some small most is =
+    let count : length (take (end - 0) (drop 0 text)) ≡ end = omega (arith, length-take (end - 0) (drop 0 text), length-drop 0 text, h.digits.within) in
+    let number = digits_are_number 255 (take (end - 0) (drop 0 text)) n (omega (arith, count, some)) h.digits.all_digits h.digits.value (omega (arith, small, most)) in
+    record {
+      front = take (end - 0) (drop 0 text);
+      split = sym (take-append-drop (end - 0) text) ∙ ap (λ k. take (end - 0) text ++ drop k text) (omega arith);
+      writes = (h.digits.all_digits, rw is (record { length_text = number; within = small; first = refl }));
+    }

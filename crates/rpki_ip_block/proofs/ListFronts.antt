@@ -1,0 +1,43 @@
+-- Lists of blocks, read element by element from the front of what is left.
+use Rattle.std.proofs.Common.{◌≡◌, ℕ, List, [], ◌∷◌, ◌++◌, ◌<◌, length, arith, refl, sym, ap, ◌∙◌, subst, inl, inr, append-nil, append_assoc, length-append}
+use Rattle.rpki_text.specs.Lists.{elements, HaveValues}
+use Rattle.rpki_text.proofs.ElementLemmas.{IsPartOf, elements_first, elements_last}
+use Rattle.rpki_text.proofs.PrintedLemmas.{IsElement}
+use Rattle.rpki_base.specs.declared.family.AddressFamily.{AddressFamily}
+use Rattle.rpki_ip_block.specs.BlockFronts.{IsBlockAtFront, IsBehindSpace}
+use Rattle.rpki_ip_block.specs.ListText.{IsElementText, HasBlocks}
+use Rattle.rpki_ip_block.specs.declared.block.IpBlock.{IpBlock}
+
+-- blocks that what is left has complete those of the text
+abbrev pub IsSoFar : AddressFamily → List ℕ → List ℕ → List IpBlock → Type 0
+IsSoFar family text left blocks = (more : List IpBlock) → HasBlocks family left more → HasBlocks family text (blocks ++ more)
+
+-- the block's text, which is an element
+module _ (family : AddressFamily) (left start : List ℕ) (b : IpBlock) (rest : List ℕ) (before : IsBehindSpace left start) (h : IsBlockAtFront family start b rest) where
+  is_element : IsElement h.front
+  is_element = record { shown = h.shown; some = h.some }
+
+  -- it stands at the front of what is left, with the space before it
+  part : (p : List ℕ) × IsPartOf p h.front × (left ≡ p ++ rest)
+  part = elim before [
+    | inl same ↦ (h.front, inl refl, sym same ∙ h.split)
+    | inr spaced ↦ (32 ∷ h.front, inr refl, spaced ∙ ap (λ t. 32 ∷ t) h.split)
+  ]
+
+  -- one that a comma follows leaves what is behind the comma
+  pub one_more : (text : List ℕ) (blocks : List IpBlock) (more : List ℕ) → IsSoFar family text left blocks → rest ≡ 44 ∷ more → IsSoFar family text more (blocks ++ b ∷ [])
+  one_more text blocks more so_far comma others has =
+      let shape : left ≡ part.0 ++ 44 ∷ more = part.2 ∙ ap (λ t. part.0 ++ t) comma in
+      let these : elements left ≡ h.front ∷ elements more = ap elements shape ∙ elements_first part.0 h.front more part.1 is_element in
+      subst (HasBlocks family text) (sym (append_assoc blocks (b ∷ []) others)) (so_far (b ∷ others) (subst (λ t. HaveValues (IsElementText family) t (b ∷ others)) (sym these) (h.block, has)))
+
+  -- and one that ends the text is the last
+  pub all_read : (text : List ℕ) (blocks : List IpBlock) → IsSoFar family text left blocks → rest ≡ [] → HasBlocks family text (blocks ++ b ∷ [])
+  all_read text blocks so_far last =
+      let shape : left ≡ part.0 = part.2 ∙ (ap (λ t. part.0 ++ t) last ∙ append-nil part.0) in
+      let these : elements left ≡ h.front ∷ [] = ap elements shape ∙ elements_last part.0 h.front part.1 is_element in
+      so_far (b ∷ []) (subst (λ t. HaveValues (IsElementText family) t (b ∷ [])) (sym these) (h.block, tt))
+
+  -- less is left behind it
+  pub shorter : (more : List ℕ) → rest ≡ 44 ∷ more → length more < length left
+  shorter more comma = omega (arith, ap length part.2, length-append part.0 rest, ap length comma)

@@ -1,0 +1,97 @@
+//! Blocks of the usual form at the front of a text, and lists of such blocks.
+ghost use Rattle.std.specs.Prelude.{◌≡◌, ◌∷◌, IfOk, IfSome};
+ghost use Rattle.rpki_ip_block.specs.ListText.{HasBlocks};
+ghost use Rattle.rpki_ip_block.specs.BlockFronts.{IsBlockAtFront, IsRangeBehind, IsPrefixBehind, IsBehindSpace};
+
+use crate::block::IpBlock;
+use rpki_base::addr::IpAddr;
+use rpki_ip::family::AddressFamily;
+use rpki_ip::front::{address_front, prefix_to_front, range_of, range_to_front};
+use std::alloc::{AllocError, Allocator};
+
+/// What stands behind this byte at the front.
+#[inline(always)]
+fn behind(byte: u8, text: &[u8]) -> Option<&[u8]>
+    ensures { IfSome result (λ rest. text.now ≡ byte ∷ rest.now) }
+{
+    let (first, rest) = text.split_first()?;
+    if *first == byte { Some(rest) } else { None }
+}
+
+/// The range from an address to the one at the front, as a block, and what stands behind that.
+#[inline(always)]
+fn range_behind(family: AddressFamily, first: IpAddr, text: &[u8]) -> Option<(IpBlock, &[u8])>
+    ensures { IfSome result (λ found. IsRangeBehind family first text.now found.0 found.1.now) }
+{
+    match range_to_front(family, first, text) {
+        Some((range, rest)) => Some((IpBlock::Range(range), rest)),
+        None => None,
+    }
+}
+
+/// The prefix at an address by the length at the front, as a block, and what stands behind that.
+#[inline(always)]
+fn prefix_behind(first: IpAddr, text: &[u8]) -> Option<(IpBlock, &[u8])>
+    ensures { IfSome result (λ found. IsPrefixBehind first text.now found.0 found.1.now) }
+{
+    match prefix_to_front(first, text) {
+        Some((prefix, rest)) => Some((IpBlock::Prefix(prefix), rest)),
+        None => None,
+    }
+}
+
+/// The block that one address writes, or two round a dash, or one and a length behind a slash, and what stands behind
+/// it. Other texts of blocks may be nothing to this call.
+#[inline(always)]
+fn block_front(family: AddressFamily, text: &[u8]) -> Option<(IpBlock, &[u8])>
+    ensures { IfSome result (λ found. IsBlockAtFront family text.now found.0 found.1.now) }
+{
+    let Some((first, rest)) = address_front(family, text) else {
+        return None;
+    };
+    if let Some(last) = behind(b'-', rest) {
+        return range_behind(family, first, last);
+    }
+    if let Some(len) = behind(b'/', rest) {
+        return prefix_behind(first, len);
+    }
+    Some((IpBlock::Range(range_of(first)), rest))
+}
+
+/// What stands behind a space, if one stands at the front, and else the whole text.
+#[inline(always)]
+fn behind_space(text: &[u8]) -> &[u8]
+    ensures { IsBehindSpace text.now result.now }
+{
+    match text {
+        [b' ', rest @ ..] => rest,
+        _ => text,
+    }
+}
+
+/// The blocks of a list whose elements all are of the usual form, each with one space before it or none. None where
+/// an element is of another form, or is none.
+pub(crate) fn usual_blocks<A: Allocator>(
+    alloc: A,
+    family: AddressFamily,
+    text: &[u8],
+) -> Result<Option<Vec<IpBlock, A>>, AllocError>
+    ensures { IfOk result
+        (λ found. IfSome found (λ blocks. HasBlocks family text.now blocks.items)) }
+{
+    let mut blocks = Vec::new(alloc);
+    let mut left = text;
+    loop {
+        let Some((block, rest)) = block_front(family, behind_space(left)) else {
+            return Ok(None);
+        };
+        blocks.push(block)?;
+        if rest.is_empty() {
+            return Ok(Some(blocks));
+        }
+        let Some(more) = behind(b',', rest) else {
+            return Ok(None);
+        };
+        left = more;
+    }
+}

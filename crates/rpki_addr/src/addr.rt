@@ -5,7 +5,7 @@ ghost use Rattle.rpki_addr.specs.ReadsAddress.{address_fault_text};
 ghost use Rattle.rpki_addr.specs.declared.addr.IpAddr.TheVariants.{V4 as the_v4, V6 as the_v6};
 
 mod groups;
-mod print;
+pub mod print;
 mod read;
 mod text;
 

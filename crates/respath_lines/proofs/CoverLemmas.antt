@@ -1,9 +1,10 @@
 -- What `cover` shows.
-use Rattle.std.proofs.Common.{◌≡◌, ◌≢◌, ℕ, List, Result, [], ◌∷◌, ◌++◌, Ok, Err, MatchResult, ap, ◌∙◌, sym, subst, inl, inr, append_assoc, length, map, decimal, arith}
+use Rattle.std.proofs.Common.{◌≡◌, ◌≢◌, ◌==◌, ℕ, Bool, true, false, refl, List, Result, [], ◌∷◌, ◌++◌, Ok, Err, MatchResult, ap, ◌∙◌, sym, subst, inl, inr, append_assoc, length, map, decimal, arith}
 use Rattle.std.specs.Prelude.{IsErrAnd, codes}
 use Rattle.std.specs.Iterator.{Drains, YieldsFirst}
 use Rattle.std.specs.List.{flat_map}
 use Rattle.std.proofs.lemmas.List.{append-nil, length-append, map-append, flat_map_more}
+use Rattle.std.proofs.lemmas.Bool.{eqb-true, eqb-false}
 use Rattle.rpki_text.specs.Cuts.{slash}
 use Rattle.rpki_text.specs.Memory.{IsMemory, IfRefused}
 use Rattle.rpki_addr.specs.Prefixes.{PrefixValue}
@@ -14,7 +15,7 @@ use Rattle.rpki_ip.specs.Faults.{ip_from_str_error_text}
 use Rattle.rpki_ip.specs.declared.error.FromStrError.{FromStrError}
 use Rattle.rpki_base.specs.declared.family.AddressFamily.{AddressFamily}
 use Rattle.rpki_ip_block.specs.ListText.{HasBlocksFault}
-use Rattle.respath_lines.specs.Cover.{IsCoverIp, IsCoverText, cover_text, prefix_with_length}
+use Rattle.respath_lines.specs.Cover.{IsCoverIp, IsCoverText, cover_text, listed_text, prefix_with_length}
 use Rattle.respath_lines.specs.Shown.{ShowsResult}
 
 -- what is shown of the prefixes that cover a set, or of the fault of its list
@@ -44,6 +45,12 @@ next_text family (q ∷ ps) p text begun made is some more grown =
     ∙ append_assoc (cover_text family (q ∷ ps)) (codes ", ") (shown p)
     ∙ flat_map_more (λ next. codes ", " ++ next) (shown q) (map shown ps) (shown p)
     ∙ ap (λ texts. shown q ++ flat_map (λ next. codes ", " ++ next) texts) (sym (map-append shown ps (p ∷ [])))
+
+-- and that of either, by what is written of the one that is appended
+pub more_text : (is_first : Bool) (family : AddressFamily) (ps : List PrefixValue) (p : PrefixValue) (text made : List ℕ) → text ≡ cover_text family ps → is_first ≡ (length text == 0) → made ≡ text ++ listed_text is_first family p → made ≡ cover_text family (ps ++ p ∷ [])
+more_text true family ps p text made is empty grown = first_text family ps p text text made is (eqb-true (length text) 0 (sym empty)) refl grown
+more_text false family ps p text made is some grown =
+    next_text family ps p text (text ++ codes ", ") made is (eqb-false (length text) 0 (sym some)) refl (grown ∙ sym (append_assoc text (codes ", ") (prefix_with_length family p)))
 
 -- what an iterator gives to its end is its list
 pub drained : (all ps : List PrefixValue) → Drains (YieldsFirst (λ (left : List PrefixValue). left)) all ps → ps ≡ all

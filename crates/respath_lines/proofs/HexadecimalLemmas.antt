@@ -1,13 +1,14 @@
 -- The octets that a text of digits writes, and the text that writes octets.
 use Rattle.std.proofs.Common.{◌≡◌, ℕ, zero, suc, ◌+◌, ◌*◌, ◌/◌, ◌%◌, ◌<◌, ◌≤◌, ◌==◌, nat_le, nat_lt, Bool, true, ◌&&◌, ◌⊎◌, inl, inr, List, [], ◌∷◌, length, slice_index, Option, Some, None, Result, Ok, Err, refl, sym, ap, ◌∙◌, arith}
-use Rattle.std.proofs.lemmas.Bool.{and_parts, cases_eq, cases_lt, eqb-true, leb-true, ltb-true}
+use Rattle.std.proofs.lemmas.Bool.{and_parts, cases_lt, eqb-true, le-ltb, leb-true, lt-ltb, ltb-true}
 use Rattle.std.proofs.lemmas.Str.{digit_value-digit_char}
 use Rattle.std.specs.Char.{digit_value, digit_char}
 use Rattle.std.specs.Result.{result_unwrap_or}
-use Rattle.hex.specs.Hex.{IsBytes, decode_of, decode_pairs, hex_digit_value, encode_with, lower_digits}
+use Rattle.hex.specs.Hex.{IsBytes, decode_pairs, hex_digit_value, encode_with, lower_digits, pair_value}
 use Rattle.hex.specs.declared.error.FromHexError.{FromHexError}
-use Rattle.hex.proofs.HexLemmas.{decode_of-even, decode_of-odd}
-use Rattle.respath_lines.specs.Hexadecimal.{IsHexadecimal, lower_hexadecimal}
+use Rattle.hex.specs.declared.error.FromHexError.TheVariants.{InvalidHexCharacter}
+use Rattle.rpki_addr.specs.AddressReading.{hex_value}
+use Rattle.respath_lines.specs.Hexadecimal.{IsHexadecimal, IsPairOf, lower_hexadecimal}
 
 -- whether a digit has this value, among those below 16
 abbrev has_value : ℕ → Option ℕ → Bool
@@ -147,7 +148,7 @@ encode_lower_is (octet ∷ octets) bytes =
     rw (high, low, rest) refl
 
 -- a text of digits has an even number of them
-even_text : (text octets : List ℕ) → IsHexadecimal text octets → length text % 2 ≡ 0
+pub even_text : (text octets : List ℕ) → IsHexadecimal text octets → length text % 2 ≡ 0
 unfolding IsHexadecimal
 even_text [] [] writes = refl
 even_text [] (octet ∷ octets) writes = absurd writes
@@ -157,18 +158,61 @@ even_text (high ∷ low ∷ text) (octet ∷ octets) writes =
     let rest = even_text text octets writes.1 in
     omega (arith, rest)
 
--- what is read writes the octets
-pub read_writes : (text octets : List ℕ) → decode_of text ≡ Ok octets → IsHexadecimal text octets
-read_writes text octets is =
-    elim (cases_eq (length text % 2) 1) [
-      | inl odd ↦ cc (sym is ∙ decode_of-odd text odd)
-      | inr even ↦ pairs_write 0 text octets (sym (decode_of-even text (omega (arith, even))) ∙ is)
+-- what the table says of a digit, and of any other byte
+value_by : (byte v : ℕ) → v ≡ hex_value byte → (v < 16 → digit_value byte ≡ v) × (16 ≤ v → 16 ≤ digit_value byte)
+unfolding hex_value
+value_by byte v is =
+    elim (cases_lt (digit_value byte) 16) [
+      | inl small ↦
+          let e : v ≡ digit_value byte = is ∙ rw (lt-ltb (digit_value byte) 16 small) refl in
+          (λ less. sym e, λ more. absurd (omega (arith, e, more, small)))
+      | inr past ↦
+          let e : v ≡ 16 = is ∙ rw (le-ltb (digit_value byte) 16 (omega (arith, past))) refl in
+          (λ less. absurd (omega (arith, e, less)), λ more. omega (arith, past))
     ]
 
--- what is refused writes none
-pub refused_writes_none : (text : List ℕ) (e : FromHexError) → decode_of text ≡ Err e → (octets : List ℕ) → ¬ IsHexadecimal text octets
-refused_writes_none text e is octets writes =
-    cc (sym is ∙ decode_of-even text (even_text text octets writes) ∙ pairs_of 0 text octets writes)
+-- two digits write an octet
+pub pair_is : (high low h l : ℕ) → h ≡ hex_value high → l ≡ hex_value low → h ≤ 15 → l ≤ 15 → IsPairOf high low (h * 16 + l)
+pair_is high low h l first second small also =
+    let e = (value_by high h first).0 (omega (arith, small)) in
+    let f = (value_by low l second).0 (omega (arith, also)) in
+    record { high_digit = omega (arith, e, small); low_digit = omega (arith, f, also); value = rw (e, f) refl }
+
+-- and no other two bytes do
+pub no_high : (high low h octet : ℕ) → h ≡ hex_value high → 15 < h → ¬ IsPairOf high low octet
+no_high high low h octet first past pair =
+    let more = (value_by high h first).1 (omega (arith, past)) in
+    absurd (omega (arith, more, pair.high_digit))
+
+pub no_low : (high low l octet : ℕ) → l ≡ hex_value low → 15 < l → ¬ IsPairOf high low octet
+no_low high low l octet second past pair =
+    let more = (value_by low l second).1 (omega (arith, past)) in
+    absurd (omega (arith, more, pair.low_digit))
+
+-- a pair that writes an octet is read as it
+pub pair_reads : (high low octet i : ℕ) → IsPairOf high low octet → pair_value high low i ≡ Ok octet
+pair_reads high low octet i pair =
+    let first = digit_of high pair.high_digit in
+    let second = digit_of low pair.low_digit in
+    rw (first, second, pair.value) refl
+
+-- and one that writes none is refused
+pub pair_fails : (high low i : ℕ) → ((octet : ℕ) → ¬ IsPairOf high low octet) → (e : FromHexError) × (pair_value high low i ≡ Err e)
+pair_fails high low i none =
+    elim (option_cases (hex_digit_value high)) [
+      | inl bad ↦ (InvalidHexCharacter high i, rw bad refl)
+      | inr some ↦ elim (option_cases (hex_digit_value low)) [
+        | inl bad ↦ (InvalidHexCharacter low (i + 1), rw (some.1, bad) refl)
+        | inr other ↦
+            let first = some_digit high some.0 some.1 in
+            let second = some_digit low other.0 other.1 in
+            absurd (none (some.0 * 16 + other.0) (record { high_digit = rw first.0 first.1; low_digit = rw second.0 second.1; value = rw (first.0, second.0) refl }))
+      ]
+    ]
+
+-- where pairs are refused, the text writes no octets
+pub refused_writes_none : (text : List ℕ) (e : FromHexError) → decode_pairs 0 text ≡ Err e → (octets : List ℕ) → ¬ IsHexadecimal text octets
+refused_writes_none text e is octets writes = cc (sym is ∙ pairs_of 0 text octets writes)
 
 -- a text writes one list of octets at most
 pub one_octets : (text a b : List ℕ) → IsHexadecimal text a → IsHexadecimal text b → a ≡ b

@@ -1,6 +1,6 @@
 -- What `cover` answers: the shortest list of prefixes with the addresses that a list of blocks writes, or the fault of
 -- the list.
-use Rattle.std.specs.Prelude.{◌≡◌, ◌≢◌, ℕ, List, ◌∷◌, ◌++◌, map, codes, decimal}
+use Rattle.std.specs.Prelude.{◌≡◌, ◌≢◌, ℕ, Bool, if◌then◌else◌, List, ◌∷◌, ◌++◌, map, codes, decimal}
 use Rattle.rpki_text.specs.Cuts.{slash}
 use Rattle.rpki_text.specs.Lists.{joined}
 use Rattle.rpki_addr.specs.Prefixes.{PrefixValue}
@@ -17,6 +17,10 @@ use Rattle.respath_lines.specs.Shown.{ShowsValueOrFault}
 -- what is printed of a prefix: its address, and behind a slash its length, also where it is the family's greatest
 abbrev pub prefix_with_length : AddressFamily → PrefixValue → List ℕ
 prefix_with_length family p = addr_text family p.first ++ slash ∷ decimal p.len
+
+-- and of one among others: behind a comma and a space where it isn't the first
+abbrev pub listed_text : Bool → AddressFamily → PrefixValue → List ℕ
+listed_text is_first family p = if is_first then prefix_with_length family p else codes ", " ++ prefix_with_length family p
 
 -- of a list of them
 abbrev pub cover_text : AddressFamily → List PrefixValue → List ℕ

@@ -1,15 +1,18 @@
 //! The command `cover`: a list of blocks becomes the shortest list of prefixes with the same addresses.
-ghost use Rattle.std.specs.Prelude.{◌≡◌, ◌++◌, ◌∷◌, [], List, IfOk, MatchResult, OnOk};
+ghost use Rattle.std.specs.Prelude.{◌≡◌, ◌≤◌, ◌++◌, ◌∷◌, [], List, length, take, codes, if◌then◌else◌, Some, IfOk, MatchResult, OnOk};
 ghost use Rattle.std.specs.Iterator.{Drains, IsFinite};
 ghost use Rattle.std.specs.String.{string_bytes};
 ghost use Rattle.rpki_text.specs.Memory.{IfRefused};
 ghost use Rattle.rpki_addr.specs.Prefixes.{PrefixValue};
 ghost use Rattle.rpki_base.specs.declared.family.AddressFamily.TheVariants.{Ipv4, Ipv6};
 ghost use Rattle.rpki_ip_block.specs.ListText.{HasBlocksFault};
-ghost use Rattle.respath_lines.specs.Cover.{IsCoverAnswer, IsCoverIp, IsCoverText, prefix_with_length, cover_text};
+ghost use Rattle.rpki_ip.specs.PrintedText.{as_ip, shown_bits};
+ghost use Rattle.respath_lines.specs.Cover.{IsCoverAnswer, IsCoverIp, IsCoverText, listed_text, cover_text};
 
 use crate::kind::{Kind, kind_named};
-use crate::shown::shown_text;
+use crate::shown::{self, shown_text};
+use rpki_addr::addr::IpAddr;
+use rpki_addr::addr::print::{IP_ROOM, put, put_ip, put_octet, write_front};
 use rpki_base::memory::OrMemory;
 use rpki_family::v4::Ipv4Blocks;
 use rpki_family::v6::Ipv6Blocks;
@@ -17,6 +20,7 @@ use rpki_ip::error::FromStrError;
 use rpki_ip::family::AddressFamily;
 use rpki_ip::prefix::Prefix;
 use std::alloc::{AllocError, Allocator};
+use std::fmt;
 
 /// The answer to `cover KIND LIST`.
 pub(crate) fn cover<A: Allocator + Copy>(
@@ -79,11 +83,71 @@ fn printed_prefixes<A: Allocator, I: Iterator<Item = Prefix>>(
     ensures { IfOk result (λ text. (ps : List PrefixValue) × Drains I.next_gives prefixes ps
         × (string_bytes text ≡ cover_text family ps)) }
 {
-    let mut text = String::new(alloc);
+    let mut text = String::with_capacity(alloc, shown::ROOM)?;
     for prefix in prefixes {
         append(&mut text, family, prefix)?;
     }
     Ok(text)
+}
+
+/// The most bytes of a prefix among others: a comma, a space, an address, a slash and a length.
+const ROOM: usize = IP_ROOM + 6;
+
+/// Puts a comma and a space in front of a buffer, if something stands before what follows, and answers where they end.
+fn put_separator(out: &mut [u8], is_first: bool) -> usize
+    requires { 2 ≤ length out.old }
+    ensures text { take result out.new ≡ (if is_first then [] else codes ", ") }
+    ensures end { result ≤ 2 }
+{
+    if is_first {
+        return 0;
+    }
+    let at = put(out, 0, b',');
+    put(out, at, b' ')
+}
+
+/// The address of a prefix, as one of a family.
+fn shown_addr(family: AddressFamily, prefix: Prefix) -> IpAddr
+    ensures { result ≡ as_ip family (shown_bits family prefix.first) }
+{
+    match family {
+        AddressFamily::Ipv4 => IpAddr::V4(prefix.to_v4()),
+        AddressFamily::Ipv6 => IpAddr::V6(prefix.to_v6()),
+    }
+}
+
+/// A prefix of a family among those that are printed.
+#[derive(Drop)]
+struct Listed {
+    family: AddressFamily,
+    prefix: Prefix,
+    is_first: bool,
+}
+
+impl Listed {
+    /// Puts the prefix in front of a buffer, and answers where it ends.
+    fn put(&self, out: &mut [u8]) -> usize
+        requires { 46 ≤ length out.old }
+        ensures text { take result out.new
+            ≡ listed_text self.now.is_first self.now.family self.now.prefix }
+        ensures end { result ≤ 46 }
+    {
+        let at = put_separator(out, self.is_first);
+        let at = put_ip(out, at, shown_addr(self.family, self.prefix));
+        let at = put(out, at, b'/');
+        put_octet(out, at, self.prefix.addr_len())
+    }
+}
+
+/// Prints the address, a slash and the length, whatever that is, behind a comma and a space where it isn't the first.
+impl fmt::Display for Listed {
+    ghost output = { λ p. Some (listed_text p.is_first p.family p.prefix) };
+
+    fn fmt<W: fmt::Write>(&self, f: &mut fmt::Formatter<W>) -> fmt::Result {
+        let mut out = [0; ROOM];
+        let end = self.put(&mut out);
+        write_front(&out, end, f)
+    }
 }
 
 /// Appends a prefix to those that are printed, behind a comma and a space where one stands before it.
@@ -95,30 +159,11 @@ fn append<A: Allocator>(
     ensures { (ps : List PrefixValue) → string_bytes text.old ≡ cover_text family ps
         → OnOk result (string_bytes text.new ≡ cover_text family (ps ++ prefix ∷ [])) }
 {
-    if !text.is_empty() {
-        text.push_str(", ")?;
-    }
-    push_prefix(text, family, prefix)
-}
-
-/// Appends a prefix to a text, as one of a family: its address, a slash and its length, whatever that is.
-fn push_prefix<A: Allocator>(
-    text: &mut String<A>,
-    family: AddressFamily,
-    prefix: Prefix,
-) -> Result<(), AllocError>
-    ensures { OnOk result
-        (string_bytes text.new ≡ string_bytes text.old ++ prefix_with_length family prefix) }
-{
-    let len = prefix.addr_len();
-    match family {
-        AddressFamily::Ipv4 => {
-            let addr = prefix.to_v4();
-            write!(text, "{addr}/{len}")
-        }
-        AddressFamily::Ipv6 => {
-            let addr = prefix.to_v6();
-            write!(text, "{addr}/{len}")
-        }
-    }
+    let is_first = text.is_empty();
+    let listed = Listed {
+        family,
+        prefix,
+        is_first,
+    };
+    write!(text, "{listed}")
 }

@@ -1,10 +1,60 @@
 //! Octets in hexadecimal, two digits an octet.
-ghost use Rattle.std.specs.Prelude.{◌≡◌, ℕ, List, IfOk, MatchOption};
+ghost use Rattle.std.specs.Prelude.{◌≡◌, ◌*◌, ℕ, length, List, IfOk, IsTrue, IsFalse, MatchOption};
 ghost use Rattle.std.specs.String.{string_bytes};
-ghost use Rattle.respath_lines.specs.Hexadecimal.{IsHexadecimal, lower_hexadecimal};
+ghost use Rattle.rpki_addr.specs.AddressReading.{hex_value};
+ghost use Rattle.respath_lines.specs.Hexadecimal.{IsHexadecimal, IsPairOf, lower_hexadecimal};
 
-use hex::FromHexError;
 use std::alloc::{AllocError, Allocator};
+
+/// The value of each byte as a digit, in either case, and 16 where it is none.
+static DIGIT_VALUES: [u8; 256] = [
+    16, 16, 16, 16, 16, 16, 16, 16, 16, 16, 16, 16, 16, 16, 16, 16, 16, 16, 16, 16, 16, 16, 16, 16,
+    16, 16, 16, 16, 16, 16, 16, 16, 16, 16, 16, 16, 16, 16, 16, 16, 16, 16, 16, 16, 16, 16, 16, 16,
+    0, 1, 2, 3, 4, 5, 6, 7, 8, 9, 16, 16, 16, 16, 16, 16, 16, 10, 11, 12, 13, 14, 15, 16, 16, 16,
+    16, 16, 16, 16, 16, 16, 16, 16, 16, 16, 16, 16, 16, 16, 16, 16, 16, 16, 16, 16, 16, 16, 16, 10,
+    11, 12, 13, 14, 15, 16, 16, 16, 16, 16, 16, 16, 16, 16, 16, 16, 16, 16, 16, 16, 16, 16, 16, 16,
+    16, 16, 16, 16, 16, 16, 16, 16, 16, 16, 16, 16, 16, 16, 16, 16, 16, 16, 16, 16, 16, 16, 16, 16,
+    16, 16, 16, 16, 16, 16, 16, 16, 16, 16, 16, 16, 16, 16, 16, 16, 16, 16, 16, 16, 16, 16, 16, 16,
+    16, 16, 16, 16, 16, 16, 16, 16, 16, 16, 16, 16, 16, 16, 16, 16, 16, 16, 16, 16, 16, 16, 16, 16,
+    16, 16, 16, 16, 16, 16, 16, 16, 16, 16, 16, 16, 16, 16, 16, 16, 16, 16, 16, 16, 16, 16, 16, 16,
+    16, 16, 16, 16, 16, 16, 16, 16, 16, 16, 16, 16, 16, 16, 16, 16, 16, 16, 16, 16, 16, 16, 16, 16,
+    16, 16, 16, 16, 16, 16, 16, 16, 16, 16, 16, 16, 16, 16,
+];
+
+/// The value of a digit, or 16 at any other byte.
+#[inline(always)]
+fn value_of(byte: u8) -> u8
+    ensures { result ≡ hex_value byte }
+{
+    DIGIT_VALUES[usize::from(byte)]
+}
+
+/// The octet that two digits write; None where one of them is no digit.
+#[inline(always)]
+fn octet_of(high: u8, low: u8) -> Option<u8>
+    ensures { MatchOption result ((octet : ℕ) → ¬ IsPairOf high low octet) (IsPairOf high low) }
+{
+    let (high, low) = (value_of(high), value_of(low));
+    if high > 15 || low > 15 {
+        return None;
+    }
+    Some(high * 16 + low)
+}
+
+/// Puts the octets that pairs of digits write. False, where one of them writes none.
+fn put_octets(digits: &[u8], octets: &mut [u8]) -> bool
+    requires { length digits.now ≡ 2 * length octets.old }
+    ensures written { IsTrue result → IsHexadecimal digits.now octets.new }
+    ensures none { IsFalse result → (octets : List ℕ) → ¬ IsHexadecimal digits.now octets }
+{
+    for at in 0..octets.len() {
+        let Some(octet) = octet_of(digits[2 * at], digits[2 * at + 1]) else {
+            return false;
+        };
+        octets[at] = octet;
+    }
+    true
+}
 
 /// The octets that a text writes, with digits of either case; None where it writes none.
 pub(crate) fn octets_of<A: Allocator>(
@@ -15,15 +65,15 @@ pub(crate) fn octets_of<A: Allocator>(
         ((octets : List ℕ) → ¬ IsHexadecimal text.now octets)
         (λ octets. IsHexadecimal text.now octets.items)) }
 {
-    match hex::decode(alloc, text) {
-        Ok(octets) => Ok(Some(octets)),
-        Err(fault) => {
-            if fault == FromHexError::OutOfMemory {
-                return Err(AllocError);
-            }
-            Ok(None)
-        }
+    let digits = text.as_bytes();
+    if digits.len() % 2 != 0 {
+        return Ok(None);
     }
+    let mut octets = vec![in alloc; 0u8; digits.len() / 2]?;
+    if put_octets(digits, octets.as_mut_slice()) {
+        return Ok(Some(octets));
+    }
+    Ok(None)
 }
 
 /// The text that writes octets, in lower case.

@@ -7,6 +7,7 @@ ghost use Rattle.respath_lines.specs.Shown.{error_line};
 
 use crate::kind::{Kind, kind_named};
 use crate::lists::{AsLists, IpLists};
+use crate::shown::printed;
 use crate::steps::{PartFault, read_path};
 use rpki_base::memory::OrMemory;
 use rpki_chain::path::PathRefusal;
@@ -85,7 +86,7 @@ fn told<S: fmt::Display + Drop, F: fmt::Display + Drop, A: Allocator + Copy>(
         → IfOk result (λ text. ShowsLeft list_text excess_text left (string_bytes text)) }
 {
     match left {
-        Ok(set) => format!(in alloc; "{set}"),
+        Ok(set) => printed(alloc, &set),
         Err(OrMemory::Refused(refusal)) => refused(alloc, refusal),
         Err(OrMemory::Memory(error)) => Err(error),
     }

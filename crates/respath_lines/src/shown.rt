@@ -7,6 +7,23 @@ use rpki_base::memory::OrMemory;
 use std::alloc::{AllocError, Allocator};
 use std::fmt;
 
+/// The bytes that an answer has room for from the start, so that a short one isn't moved as it grows.
+pub(crate) const ROOM: usize = 64;
+
+/// What is printed of a value.
+pub(crate) fn printed<T: fmt::Display, A: Allocator>(
+    alloc: A,
+    value: &T,
+) -> Result<String<A>, AllocError>
+    // Whatever text the value prints.
+    ensures { (value_text : List ℕ) → T.output value.now ≡ Some value_text
+        → IfOk result (λ text. string_bytes text ≡ value_text) }
+{
+    let mut text = String::with_capacity(alloc, ROOM)?;
+    write!(text, "{value}")?;
+    Ok(text)
+}
+
 /// What is printed of the value, or of the fault behind `error: `. `AllocError` where there was no memory for the call,
 /// or there is none for the text.
 pub(crate) fn shown<T: fmt::Display + Drop, E: fmt::Display + Drop, A: Allocator + Copy>(
@@ -19,7 +36,7 @@ pub(crate) fn shown<T: fmt::Display + Drop, E: fmt::Display + Drop, A: Allocator
         → IfOk result (λ text. ShowsResult value_text fault_text found (string_bytes text)) }
 {
     match found {
-        Ok(value) => format!(in alloc; "{value}"),
+        Ok(value) => printed(alloc, &value),
         Err(OrMemory::Refused(fault)) => format!(in alloc; "error: {fault}"),
         Err(OrMemory::Memory(error)) => Err(error),
     }

@@ -6,7 +6,7 @@ ghost use Rattle.rpki_addr.specs.declared.addr.IpAddr.TheVariants.{V4 as the_v4,
 
 pub mod front;
 mod groups;
-mod print;
+pub mod print;
 mod read;
 mod text;
 

@@ -2,7 +2,7 @@
 //!
 //! A text is read as one of IPv4, as one of IPv6, or as one of either family. It is printed as one of IPv4, by the
 //! first 32 bits of each address, or as one of IPv6.
-ghost use Rattle.std.specs.Prelude.{◌≡◌, ◌↔◌, IsTrue, None, Some, MatchResult};
+ghost use Rattle.std.specs.Prelude.{◌≡◌, ◌≤◌, ◌↔◌, IsTrue, None, Some, MatchResult, length, take};
 ghost use Rattle.std.specs.Fmt.{WritesOnOk};
 ghost use Rattle.rpki_text.specs.Reading.{Answers};
 ghost use Rattle.rpki_addr.specs.AddrText.{greatest_of};
@@ -15,6 +15,7 @@ use crate::error::FromStrError;
 use crate::family::AddressFamily;
 use crate::prefix::Prefix;
 use crate::range::AddressRange;
+use rpki_addr::addr::print::{IP_ROOM, put, put_ip, put_octet, write_front};
 use rpki_addr::bits::Addr;
 use rpki_base::addr::{AddrParseError, IpAddr, Ipv4Addr, Ipv6Addr};
 use rpki_base::number::{ParseIntError, parse_u8};
@@ -162,6 +163,41 @@ fn look_alike(family: AddressFamily, a: Addr, b: Addr) -> bool
     }
 }
 
+/// The most bytes of a prefix: an address, a slash and a length.
+const PREFIX_ROOM: usize = IP_ROOM + 4;
+
+/// The most bytes of a range: two addresses and a dash.
+const RANGE_ROOM: usize = 2 * IP_ROOM + 1;
+
+/// Puts a prefix, as one of the family, in front of a buffer, and answers where it ends.
+fn put_prefix(out: &mut [u8], family: AddressFamily, prefix: Prefix) -> usize
+    requires { 44 ≤ length out.old }
+    ensures text { take result out.new ≡ ip_prefix_text family prefix }
+    ensures end { result ≤ 44 }
+{
+    let end = put_ip(out, 0, shown(family, prefix.addr()));
+    let len = prefix.addr_len();
+    if len == family.max_addr_len() {
+        return end;
+    }
+    let end = put(out, end, b'/');
+    put_octet(out, end, len)
+}
+
+/// Puts a range, as one of the family, in front of a buffer, and answers where it ends.
+fn put_range(out: &mut [u8], family: AddressFamily, range: AddressRange) -> usize
+    requires { 81 ≤ length out.old }
+    ensures text { take result out.new ≡ ip_range_text family range }
+    ensures end { result ≤ 81 }
+{
+    let end = put_ip(out, 0, shown(family, range.min()));
+    if look_alike(family, range.min(), range.max()) {
+        return end;
+    }
+    let end = put(out, end, b'-');
+    put_ip(out, end, shown(family, range.max()))
+}
+
 impl Prefix {
     /// Reads an IPv4 address and a length round the first slash, as [`read_prefix`] does.
     pub fn from_v4_str(text: &str) -> Result<Prefix, FromStrError>
@@ -188,13 +224,9 @@ impl Prefix {
     ) -> fmt::Result
         ensures { WritesOnOk W.write_str_gives f.old result (ip_prefix_text family self.now) f.new }
     {
-        let addr = shown(family, self.addr());
-        let len = self.addr_len();
-        if len == family.max_addr_len() {
-            write!(f, "{addr}")
-        } else {
-            write!(f, "{addr}/{len}")
-        }
+        let mut out = [0; PREFIX_ROOM];
+        let end = put_prefix(&mut out, family, *self);
+        write_front(&out, end, f)
     }
 
     /// Writes the prefix as one of IPv4, as [`Prefix::fmt_as`] does.
@@ -250,13 +282,9 @@ impl AddressRange {
     ) -> fmt::Result
         ensures { WritesOnOk W.write_str_gives f.old result (ip_range_text family self.now) f.new }
     {
-        let min = shown(family, self.min());
-        let max = shown(family, self.max());
-        if look_alike(family, self.min(), self.max()) {
-            write!(f, "{min}")
-        } else {
-            write!(f, "{min}-{max}")
-        }
+        let mut out = [0; RANGE_ROOM];
+        let end = put_range(&mut out, family, *self);
+        write_front(&out, end, f)
     }
 
     /// Writes the range as one of IPv4, as [`AddressRange::fmt_as`] does.

@@ -1,10 +1,13 @@
 -- The first line of a text.
-use Rattle.std.proofs.Common.{◌≡◌, ◌+◌, ◌-◌, ◌<◌, ◌≤◌, ℕ, Bool, true, false, List, [], ◌∷◌, length, take, drop, refl, cond, not, suc, arith, Some, None}
+use Rattle.std.proofs.Common.{◌≡◌, ◌+◌, ◌-◌, ◌<◌, ◌≤◌, ℕ, Bool, true, false, List, [], ◌∷◌, length, take, drop, refl, cond, not, suc, arith, Option, Some, None}
 use Rattle.std.proofs.Math.Seq.{take-length}
 use Rattle.std.proofs.lemmas.List.{length-drop}
 use borrow.Author.Tests.{ltb-true, ltb-false}
 use Rattle.std.specs.Prelude.{nat_lt}
+use Rattle.std.proofs.lemmas.Bool.{lt-ltb, le-ltb, false_from_ne_true}
+use Rattle.std.proofs.lemmas.List.Sums.{position_or_len_is}
 use Rattle.std.specs.List.{onto_first, position_or_len, position}
+use Rattle.memchr.specs.Find.{IsFirstByte, is_byte}
 use Rattle.rpki_text.specs.Lines.{is_end, lines_of}
 
 -- the text up to its first 0a, and then the lines behind it
@@ -56,3 +59,14 @@ only_line (b ∷ text) some none = by_test (nat_lt (position_or_len is_end (b �
       → lines_of (b ∷ text) ≡ (b ∷ text) ∷ []
   by_test true below is = cc
   by_test false above is = whole b text (ltb-false _ _ above)
+
+-- a search answers the first 0a
+pub first_end : (text : List ℕ) (found : Option ℕ) → IsFirstByte (is_byte 10) text found → found ≡ position is_end text
+first_end text None none =
+    let nowhere : position_or_len is_end text ≡ length text =
+    position_or_len_is is_end text (length text) 0 (omega arith) (λ k below. false_from_ne_true _ (none k (omega arith) below)) (λ below. absurd (omega arith)) in
+    rw (nowhere, le-ltb (length text) (length text) (omega arith)) refl
+first_end text (Some at) found =
+    let here : position_or_len is_end text ≡ at =
+    position_or_len_is is_end text at 0 (omega (arith, found.0.high)) (λ k below. false_from_ne_true _ (found.0.before k (omega arith) below)) (λ below. found.1) in
+    rw (here, lt-ltb at (length text) found.0.high) refl

@@ -2,6 +2,8 @@
 ghost use Rattle.std.specs.Prelude.{◌≡◌, ◌<◌, ◌∷◌, length, position};
 ghost use Rattle.rpki_text.specs.Lines.{is_end, lines_of};
 
+use memchr::memchr;
+
 /// The first line of a text that isn't empty, without its end, and what stands behind its end. `\n` ends a line; the
 /// last one may have no end.
 #[tactic(auto, using(crate::proofs::LineLemmas::first_line, crate::proofs::LineLemmas::only_line))]
@@ -17,8 +19,9 @@ pub fn cut_line(text: &[u8]) -> (&[u8], &[u8])
 }
 
 /// Where the first line of a text ends, if something ends it.
+#[tactic(auto, using(crate::proofs::LineLemmas::first_end))]
 fn line_end(text: &[u8]) -> Option<usize>
     ensures { result ≡ position is_end text.now }
 {
-    text.iter().position(|byte| *byte == b'\n')
+    memchr(b'\n', text)
 }

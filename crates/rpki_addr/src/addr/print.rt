@@ -3,22 +3,24 @@
 //! What is put stands behind the bytes that a caller has there; the answer is where it ends.
 ghost use Rattle.std.specs.Prelude.{◌≡◌, ◌+◌, ◌*◌, ◌<◌, ◌≤◌, [], ◌∷◌, ◌++◌, length, take, codes, decimal, nat_lt};
 ghost use Rattle.std.specs.Char.{digit_char};
+ghost use Rattle.std.specs.Fmt.{WritesOnOk};
 ghost use Rattle.std.specs.Net.Text.{hex, groups_text as std_groups_text, hex_groups_text, longest_zero_run};
 ghost use Rattle.rpki_addr.specs.AddressText.{dotted};
-ghost use Rattle.rpki_addr.specs.PrintedAddress.{ipv4_text, ipv6_text};
+ghost use Rattle.rpki_addr.specs.PrintedAddress.{ipv4_text, ipv6_text, ip_text};
 
-use super::Ipv4Addr;
 use super::groups::split_groups;
+use super::{IpAddr, Ipv4Addr};
+use std::{fmt, str};
 
 /// The most bytes of an IPv4 text.
 pub(crate) const IPV4_ROOM: usize = 15;
 
-/// The most bytes of an IPv6 text, and one for the colon behind a last group.
-pub(crate) const IPV6_ROOM: usize = 40;
+/// The most bytes of a text of either family, and one for the colon behind a last group.
+pub const IP_ROOM: usize = 40;
 
 /// Puts a byte.
 #[inline(always)]
-fn put(out: &mut [u8], at: usize, byte: u8) -> usize
+pub fn put(out: &mut [u8], at: usize, byte: u8) -> usize
     requires { at < length out.old }
     ensures text { take result out.new ≡ take at out.old ++ byte ∷ [] }
     ensures end { result ≡ at + 1 }
@@ -41,7 +43,7 @@ fn put_all(out: &mut [u8], at: usize, bytes: &[u8]) -> usize
 }
 
 /// Puts an octet in decimal.
-fn put_octet(out: &mut [u8], at: usize, octet: u8) -> usize
+pub fn put_octet(out: &mut [u8], at: usize, octet: u8) -> usize
     requires { at + 3 ≤ length out.old }
     ensures text { take result out.new ≡ take at out.old ++ decimal octet }
     ensures end { result ≤ at + 3 }
@@ -169,39 +171,62 @@ fn longest_run(groups: &[u16]) -> ZeroRun
 }
 
 /// Puts groups, the longest run of two or more zeros as two colons (RFC 5952, 4.2).
-fn put_shortened(out: &mut [u8], groups: &[u16]) -> usize
-    requires { 5 * length groups.now ≤ length out.old }
-    ensures text { take result out.new ≡ hex_groups_text groups.now }
-    ensures end { result ≤ length out.old }
+fn put_shortened(out: &mut [u8], at: usize, groups: &[u16]) -> usize
+    requires { at + 5 * length groups.now ≤ length out.old }
+    ensures text { take result out.new ≡ take at out.old ++ hex_groups_text groups.now }
+    ensures end { result ≤ at + 5 * length groups.now }
 {
     let run = longest_run(groups);
     if run.is_shortened() {
-        let at = put_groups(out, 0, &groups[..run.start]);
+        let at = put_groups(out, at, &groups[..run.start]);
         let at = put(out, at, b':');
         let at = put(out, at, b':');
         return put_groups(out, at, &groups[run.start + run.len..]);
     }
-    put_groups(out, 0, groups)
+    put_groups(out, at, groups)
 }
 
 /// Puts the IPv4-mapped address of an IPv4 address (RFC 4291, 2.5.5.2), with dots.
-fn put_mapped(out: &mut [u8], low: Ipv4Addr) -> usize
-    requires { 22 ≤ length out.old }
-    ensures text { take result out.new ≡ codes "::ffff:" ++ ipv4_text low }
-    ensures end { result ≤ 22 }
+fn put_mapped(out: &mut [u8], at: usize, low: Ipv4Addr) -> usize
+    requires { at + 22 ≤ length out.old }
+    ensures text { take result out.new ≡ take at out.old ++ codes "::ffff:" ++ ipv4_text low }
+    ensures end { result ≤ at + 22 }
 {
-    let at = put_all(out, 0, b"::ffff:");
+    let at = put_all(out, at, b"::ffff:");
     put_ipv4(out, at, low.octets())
 }
 
 /// Puts the IPv6 address of these bits. An IPv4-mapped one ends in its IPv4 address (RFC 5952, 5).
-pub(crate) fn put_ipv6(out: &mut [u8], bits: u128) -> usize
-    requires { 40 ≤ length out.old }
-    ensures text { take result out.new ≡ ipv6_text bits }
-    ensures end { result ≤ length out.old }
+pub(crate) fn put_ipv6(out: &mut [u8], at: usize, bits: u128) -> usize
+    requires { at + 40 ≤ length out.old }
+    ensures text { take result out.new ≡ take at out.old ++ ipv6_text bits }
+    ensures end { result ≤ at + 40 }
 {
     if bits / 0x1_0000_0000 == 0xffff {
-        return put_mapped(out, Ipv4Addr::from_bits((bits % 0x1_0000_0000) as u32));
+        return put_mapped(out, at, Ipv4Addr::from_bits((bits % 0x1_0000_0000) as u32));
     }
-    put_shortened(out, &split_groups(bits))
+    put_shortened(out, at, &split_groups(bits))
+}
+
+/// Puts an address of either family.
+#[inline(always)]
+pub fn put_ip(out: &mut [u8], at: usize, addr: IpAddr) -> usize
+    requires { at + 40 ≤ length out.old }
+    ensures text { take result out.new ≡ take at out.old ++ ip_text addr }
+    ensures end { result ≤ at + 40 }
+{
+    match addr {
+        IpAddr::V4(addr) => put_ipv4(out, at, addr.octets()),
+        IpAddr::V6(addr) => put_ipv6(out, at, addr.to_bits()),
+    }
+}
+
+/// Writes what stands in a buffer before a place, at once.
+pub fn write_front<W: fmt::Write>(out: &[u8], end: usize, f: &mut fmt::Formatter<W>) -> fmt::Result
+    requires { end ≤ length out.now }
+    ensures { WritesOnOk W.write_str_gives f.old result (take end out.now) f.new }
+{
+    // What is put is ASCII, so it is a text.
+    let text = str::from_utf8(&out[..end]).map_err(|_| fmt::Error)?;
+    f.write_str(text)
 }

@@ -3,11 +3,11 @@ ghost use Rattle.std.specs.Prelude.{Some};
 ghost use Rattle.rpki_addr.specs.PrintedAddress.{ipv4_text, ipv6_text, ip_text};
 ghost use Rattle.rpki_addr.specs.ReadsAddress.{ReadsIpv4, ReadsIpv6, ReadsIp};
 
-use super::print::{IPV4_ROOM, IPV6_ROOM, put_ipv4, put_ipv6};
+use super::print::{IP_ROOM, IPV4_ROOM, put_ipv4, put_ipv6, write_front};
 use super::read::{ipv4_of, ipv6_of};
 use super::{AddrParseError, IpAddr, Ipv4Addr, Ipv6Addr};
+use std::fmt;
 use std::str::FromStr;
-use std::{fmt, str};
 
 /// Reads four decimals with dots between them, each 0 to 255 without leading zeros (RFC 4291, section 2.2).
 ///
@@ -67,9 +67,7 @@ impl fmt::Display for Ipv4Addr {
     fn fmt<W: fmt::Write>(&self, f: &mut fmt::Formatter<W>) -> fmt::Result {
         let mut out = [0; IPV4_ROOM];
         let end = put_ipv4(&mut out, 0, self.octets());
-        // The bytes are ASCII, so they are a text.
-        let text = str::from_utf8(&out[..end]).map_err(|_| fmt::Error)?;
-        f.write_str(text)
+        write_front(&out, end, f)
     }
 }
 
@@ -79,11 +77,9 @@ impl fmt::Display for Ipv6Addr {
     ghost output = { λ address. Some (ipv6_text address) };
 
     fn fmt<W: fmt::Write>(&self, f: &mut fmt::Formatter<W>) -> fmt::Result {
-        let mut out = [0; IPV6_ROOM];
-        let end = put_ipv6(&mut out, self.0);
-        // The bytes are ASCII, so they are a text.
-        let text = str::from_utf8(&out[..end]).map_err(|_| fmt::Error)?;
-        f.write_str(text)
+        let mut out = [0; IP_ROOM];
+        let end = put_ipv6(&mut out, 0, self.0);
+        write_front(&out, end, f)
     }
 }
 

@@ -3,7 +3,7 @@ use Rattle.std.specs.Iterator.{Drains}
 use Rattle.respath_lines.proofs.cover.printed_prefixes.Goals as goal
 
 pub loop-prefix-init : goal.loop-prefix-init
-loop-prefix-init g c = rw c.into_iter-prefix-iterator.ensures.into_iter_gives (c.requires.can, c.requires.ends, c.new-text.ensures.bytes)
+loop-prefix-init g c = rw c.into_iter-prefix-iterator.ensures.into_iter_gives (c.requires.can, c.requires.ends, c.in_ok-text.ensures.bytes)
 
 pub loop-prefix-preserved : goal.loop-prefix-preserved
 loop-prefix-preserved g c =

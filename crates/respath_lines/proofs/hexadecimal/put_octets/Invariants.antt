@@ -1,0 +1,8 @@
+-- The octets so far are those of the pairs so far.
+use Rattle.std.proofs.Common.{◌≡◌, ◌*◌, take, drop}
+use Rattle.hex.specs.Hex.{decode_pairs}
+use Rattle.hex.proofs.Pairs.{prepend}
+use Rattle.respath_lines.proofs.hexadecimal.put_octets.Given as goal
+
+abbrev pub invariant-loop-at : goal.invariant-loop-at
+invariant-loop-at l = decode_pairs 0 l.digits ≡ prepend (take l.at l.octets) (decode_pairs (2 * l.at) (drop (2 * l.at) l.digits))

@@ -21,6 +21,7 @@ fn later<T: Block>(item: T::Item, other: T::Item) -> T::Item
 
 /// Puts what a block has in common with one that ends no earlier behind a chain, and nothing where they have no item in
 /// common.
+#[inline(always)]
 fn push_common<T: Block, A: Allocator>(
     chain: &mut Vec<T, A>,
     block: (T::Item, T::Item),

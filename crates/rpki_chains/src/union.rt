@@ -11,6 +11,7 @@ use std::alloc::{AllocError, Allocator};
 
 /// Takes the next bounds into the run at hand: where they overlap or touch, it becomes the run over both. Else it is
 /// closed, which puts its block behind the chain, and the next bounds are the run at hand.
+#[inline(always)]
 pub fn take_in<T: Block, A: Allocator>(
     chain: &mut Vec<T, A>,
     run: &mut (T::Item, T::Item),

@@ -10,8 +10,10 @@ use crate::read::set_of;
 use crate::refusal::{Misasked, Unread};
 use route_calls::family::family_of;
 use rpki_extensions::encoding::Encoding;
+use rpki_family::blocks::FamilyBlocks;
+use rpki_family::family::Family;
 use rpki_resources::OrMemory;
-use rpki_resources::repository::resources::{AddressFamily, Ipv4Blocks, Ipv6Blocks, Prefix};
+use rpki_resources::repository::resources::{AddressFamily, Prefix};
 use std::alloc::{AllocError, Global};
 
 /// Why there is no cover.
@@ -53,24 +55,27 @@ fn put_v6(prefix: Prefix, octets: &mut Vec<u8, Global>) -> Result<(), AllocError
     Ok(())
 }
 
-/// The prefixes of the shortest cover of a set of IPv4 addresses, one after the other.
-fn v4_cover(alloc: Global, set: &Ipv4Blocks) -> Result<Vec<u8, Global>, AllocError>
-    ensures { IfOk result (λ octets. AreCoverOctets Ipv4 set.now octets.items) }
+/// Puts a prefix of a family behind others.
+fn put(
+    family: AddressFamily,
+    prefix: Prefix,
+    octets: &mut Vec<u8, Global>,
+) -> Result<(), AllocError>
+    ensures { OnOk result (octets.new.items ≡ octets.old.items ++ prefix_octets family prefix) }
 {
-    let mut octets = Vec::new(alloc);
-    for prefix in set.prefixes() {
-        put_v4(prefix, &mut octets)?;
+    match family {
+        AddressFamily::Ipv4 => put_v4(prefix, octets),
+        AddressFamily::Ipv6 => put_v6(prefix, octets),
     }
-    Ok(octets)
 }
 
-/// The prefixes of the shortest cover of a set of IPv6 addresses, one after the other.
-fn v6_cover(alloc: Global, set: &Ipv6Blocks) -> Result<Vec<u8, Global>, AllocError>
-    ensures { IfOk result (λ octets. AreCoverOctets Ipv6 set.now octets.items) }
+/// The prefixes of the shortest cover of a set of addresses of a family, one after the other.
+fn ip_cover<F: Family>(alloc: Global, set: &FamilyBlocks<F>) -> Result<Vec<u8, Global>, AllocError>
+    ensures { IfOk result (λ octets. AreCoverOctets F.FAMILY set.now octets.items) }
 {
     let mut octets = Vec::new(alloc);
     for prefix in set.prefixes() {
-        put_v6(prefix, &mut octets)?;
+        put(F::FAMILY, prefix, &mut octets)?;
     }
     Ok(octets)
 }
@@ -88,8 +93,8 @@ fn cover_in(
 {
     let set = set_of(alloc, &[], addresses, encoding)?;
     let octets = match family {
-        AddressFamily::Ipv4 => v4_cover(alloc, set.ipv4())?,
-        AddressFamily::Ipv6 => v6_cover(alloc, set.ipv6())?,
+        AddressFamily::Ipv4 => ip_cover(alloc, set.ipv4())?,
+        AddressFamily::Ipv6 => ip_cover(alloc, set.ipv6())?,
     };
     Ok(octets)
 }

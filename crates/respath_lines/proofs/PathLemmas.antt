@@ -16,8 +16,10 @@ use Rattle.rpki_chain.specs.Runs.{Runs, Holds}
 use Rattle.rpki_chain.specs.declared.path.PathRefusal.{PathRefusal}
 use Rattle.rpki_chain.specs.declared.path.Step.{Step}
 use Rattle.rpki_ip.specs.Whole.{IsWhole}
-use Rattle.rpki_base.specs.declared.family.AddressFamily.TheVariants.{Ipv4}
+use Rattle.rpki_base.specs.declared.family.AddressFamily.{AddressFamily}
+use Rattle.rpki_base.specs.declared.family.AddressFamily.TheVariants.{Ipv4, Ipv6}
 use Rattle.rpki_ip_block.specs.ListText.{HasBlocks}
+use Rattle.rpki_ipres.specs.Families.{IsClaimIn}
 use Rattle.rpki_ipres.specs.Resources.{IsWholeClaim}
 use Rattle.rpki_ipres.specs.SetText.{IsSetOf}
 use Rattle.rpki_ip_block.proofs.WholeReadings.{whole_list}
@@ -93,8 +95,10 @@ whole_steps [] (step ∷ steps) have = absurd have
 whole_steps (part ∷ parts) [] have = absurd have
 whole_steps (part ∷ parts) (step ∷ steps) have = All-cons (λ (s : Step Claim). IsWholeClaim s.claim) step steps (whole_step part step have.0) (whole_steps parts steps have.1)
 
--- so a path of them does
-pub whole_path : (parts : List (List ℕ)) (root : Runs) (steps : List (Step Claim)) → ArePath (λ c. c) (λ list. IsSetOf (HasBlocks Ipv4 list)) parts root steps
-    → IsWhole (Holds root) × All (λ (s : Step Claim). IsWholeClaim s.claim) steps
-whole_path [] root steps are = absurd are
-whole_path (list ∷ parts) root steps are = (whole_listed list root are.0, whole_steps parts steps are.1)
+-- so what a path claims of a family is of the family
+pub path_in : (family : AddressFamily) (parts : List (List ℕ)) (root : Runs) (steps : List (Step Claim))
+    → ArePath (λ c. c) (λ list. IsSetOf (HasBlocks family list)) parts root steps
+    → All (λ (s : Step Claim). IsClaimIn family s.claim) steps
+path_in Ipv4 [] root steps are = absurd are
+path_in Ipv4 (list ∷ parts) root steps are = whole_steps parts steps are.1
+path_in Ipv6 parts root steps are = λ k d small. tt

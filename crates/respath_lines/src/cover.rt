@@ -4,7 +4,6 @@ ghost use Rattle.std.specs.Iterator.{Drains, IsFinite};
 ghost use Rattle.std.specs.String.{string_bytes};
 ghost use Rattle.rpki_text.specs.Memory.{IfRefused};
 ghost use Rattle.rpki_addr.specs.Prefixes.{PrefixValue};
-ghost use Rattle.rpki_base.specs.declared.family.AddressFamily.TheVariants.{Ipv4, Ipv6};
 ghost use Rattle.rpki_ip_block.specs.ListText.{HasBlocksFault};
 ghost use Rattle.rpki_ip.specs.PrintedText.{as_ip, shown_bits};
 ghost use Rattle.respath_lines.specs.Cover.{IsCoverAnswer, IsCoverIp, IsCoverText, listed_text, cover_text};
@@ -14,8 +13,8 @@ use crate::shown::{self, shown_text};
 use rpki_addr::addr::IpAddr;
 use rpki_addr::addr::print::{IP_ROOM, put, put_ip, put_octet, write_front};
 use rpki_base::memory::OrMemory;
-use rpki_family::v4::Ipv4Blocks;
-use rpki_family::v6::Ipv6Blocks;
+use rpki_family::blocks::FamilyBlocks;
+use rpki_family::family::{Family, Ipv4Family, Ipv6Family};
 use rpki_ip::error::FromStrError;
 use rpki_ip::family::AddressFamily;
 use rpki_ip::prefix::Prefix;
@@ -31,43 +30,29 @@ pub(crate) fn cover<A: Allocator + Copy>(
     ensures { IfOk result (λ text. IsCoverAnswer kind.now list.now (string_bytes text)) }
 {
     match kind_named(kind) {
-        Some(Kind::V4) => cover_v4(alloc, list),
-        Some(Kind::V6) => cover_v6(alloc, list),
+        Some(Kind::V4) => cover_ip::<Ipv4Family, A>(alloc, list),
+        Some(Kind::V6) => cover_ip::<Ipv6Family, A>(alloc, list),
         Some(Kind::As) | None => String::from_str(alloc, "error: unknown kind"),
     }
 }
 
-/// The prefixes that cover the set that a list of IPv4 blocks writes, printed, or the fault of the list.
-fn cover_v4<A: Allocator + Copy>(alloc: A, list: &str) -> Result<String<A>, AllocError>
-    ensures { IfOk result (λ text. IsCoverIp Ipv4 list.now (string_bytes text)) }
+/// The prefixes that cover the set that a list of blocks of a family writes, printed, or the fault of the list.
+fn cover_ip<F: Family, A: Allocator + Copy>(alloc: A, list: &str) -> Result<String<A>, AllocError>
+    ensures { IfOk result (λ text. IsCoverIp F.FAMILY list.now (string_bytes text)) }
 {
-    shown_text(alloc, v4_text(alloc, list))
+    shown_text(alloc, ip_text::<F, A>(alloc, list))
 }
 
-/// The prefixes that cover the set that a list of IPv6 blocks writes, printed, or the fault of the list.
-fn cover_v6<A: Allocator + Copy>(alloc: A, list: &str) -> Result<String<A>, AllocError>
-    ensures { IfOk result (λ text. IsCoverIp Ipv6 list.now (string_bytes text)) }
+/// The same prefixes, printed. `Refused` with the fault of the list.
+fn ip_text<F: Family, A: Allocator + Copy>(
+    alloc: A,
+    list: &str,
+) -> Result<String<A>, OrMemory<FromStrError>>
+    ensures { MatchResult result (λ text. IsCoverText F.FAMILY list.now (string_bytes text))
+        (IfRefused (HasBlocksFault F.FAMILY list.now)) }
 {
-    shown_text(alloc, v6_text(alloc, list))
-}
-
-/// The prefixes that cover the set that a list of IPv4 blocks writes, printed. `Refused` with the fault of the list.
-fn v4_text<A: Allocator + Copy>(alloc: A, list: &str) -> Result<String<A>, OrMemory<FromStrError>>
-    ensures { MatchResult result (λ text. IsCoverText Ipv4 list.now (string_bytes text))
-        (IfRefused (HasBlocksFault Ipv4 list.now)) }
-{
-    let set = Ipv4Blocks::from_str(alloc, list)?;
-    let text = printed_prefixes(alloc, AddressFamily::Ipv4, set.prefixes())?;
-    Ok(text)
-}
-
-/// The prefixes that cover the set that a list of IPv6 blocks writes, printed. `Refused` with the fault of the list.
-fn v6_text<A: Allocator + Copy>(alloc: A, list: &str) -> Result<String<A>, OrMemory<FromStrError>>
-    ensures { MatchResult result (λ text. IsCoverText Ipv6 list.now (string_bytes text))
-        (IfRefused (HasBlocksFault Ipv6 list.now)) }
-{
-    let set = Ipv6Blocks::from_str(alloc, list)?;
-    let text = printed_prefixes(alloc, AddressFamily::Ipv6, set.prefixes())?;
+    let set = FamilyBlocks::<F, A>::from_str(alloc, list)?;
+    let text = printed_prefixes(alloc, F::FAMILY, set.prefixes())?;
     Ok(text)
 }
 

@@ -1,7 +1,6 @@
 //! The command `path`: what the claims along a path leave of a root, or the first of them that is refused.
 ghost use Rattle.std.specs.Prelude.{◌≡◌, ℕ, List, Some, IfOk};
 ghost use Rattle.std.specs.String.{string_bytes};
-ghost use Rattle.rpki_base.specs.declared.family.AddressFamily.TheVariants.{Ipv4, Ipv6};
 ghost use Rattle.respath_lines.specs.Path.{IsPathAnswer, IsPathAs, IsPathIp, ShowsLeft, part_fault_text, refusal_text};
 ghost use Rattle.respath_lines.specs.Shown.{error_line};
 
@@ -11,9 +10,7 @@ use crate::shown::printed;
 use crate::steps::{PartFault, read_path};
 use rpki_base::memory::OrMemory;
 use rpki_chain::path::PathRefusal;
-use rpki_family::v4::Ipv4Blocks;
-use rpki_family::v6::Ipv6Blocks;
-use rpki_ip::family::AddressFamily;
+use rpki_family::family::{Family, Ipv4Family, Ipv6Family};
 use std::alloc::{AllocError, Allocator};
 use std::fmt;
 
@@ -27,8 +24,8 @@ pub(crate) fn path<A: Allocator + Copy>(
 {
     match kind_named(kind) {
         Some(Kind::As) => path_as(alloc, path),
-        Some(Kind::V4) => path_v4(alloc, path),
-        Some(Kind::V6) => path_v6(alloc, path),
+        Some(Kind::V4) => path_ip::<Ipv4Family, A>(alloc, path),
+        Some(Kind::V6) => path_ip::<Ipv6Family, A>(alloc, path),
         None => String::from_str(alloc, "error: unknown kind"),
     }
 }
@@ -44,31 +41,13 @@ fn path_as<A: Allocator + Copy>(alloc: A, path: &str) -> Result<String<A>, Alloc
     }
 }
 
-/// What a path leaves of a set of IPv4 addresses, its first refusal, or the fault of its first part that isn't read.
-fn path_v4<A: Allocator + Copy>(alloc: A, path: &str) -> Result<String<A>, AllocError>
-    ensures { IfOk result (λ text. IsPathIp Ipv4 path.now (string_bytes text)) }
+/// What a path leaves of a set of addresses of a family, its first refusal, or the fault of its first part that isn't
+/// read.
+fn path_ip<F: Family, A: Allocator + Copy>(alloc: A, path: &str) -> Result<String<A>, AllocError>
+    ensures { IfOk result (λ text. IsPathIp F.FAMILY path.now (string_bytes text)) }
 {
-    let family = AddressFamily::Ipv4;
-    match read_path(alloc, &IpLists { family }, path) {
-        Ok((root, steps)) => {
-            let root = Ipv4Blocks::from_ip_blocks(root);
-            told(alloc, root.verify_path(alloc, steps.as_slice()))
-        }
-        Err(OrMemory::Refused(fault)) => unread(alloc, fault),
-        Err(OrMemory::Memory(error)) => Err(error),
-    }
-}
-
-/// What a path leaves of a set of IPv6 addresses, its first refusal, or the fault of its first part that isn't read.
-fn path_v6<A: Allocator + Copy>(alloc: A, path: &str) -> Result<String<A>, AllocError>
-    ensures { IfOk result (λ text. IsPathIp Ipv6 path.now (string_bytes text)) }
-{
-    let family = AddressFamily::Ipv6;
-    match read_path(alloc, &IpLists { family }, path) {
-        Ok((root, steps)) => {
-            let root = Ipv6Blocks::from_ip_blocks(root);
-            told(alloc, root.verify_path(alloc, steps.as_slice()))
-        }
+    match read_path(alloc, &IpLists::<F>::new(), path) {
+        Ok((root, steps)) => told(alloc, root.verify_path(alloc, steps.as_slice())),
         Err(OrMemory::Refused(fault)) => unread(alloc, fault),
         Err(OrMemory::Memory(error)) => Err(error),
     }

@@ -5,9 +5,14 @@ use Rattle.rpki_base.specs.Families.{family_of}
 use Rattle.rpki_base.specs.declared.family.AddressFamily.{AddressFamily}
 use Rattle.rpki_base.specs.declared.family.AddressFamily.TheVariants.{Ipv4, Ipv6}
 use Rattle.rpki_chain.specs.Operations.{IsDifference, IsIntersection, IsUnion}
-use Rattle.rpki_chain.specs.Runs.{Runs, IsRunsOfBlocks}
+use Rattle.rpki_chain.specs.Claims.{Claim}
+use Rattle.rpki_chain.specs.Paths.{IsIssued, IsExcess, IsUncovered, IsPathResult, IsFirstRefusal}
+use Rattle.rpki_chain.specs.Runs.{Runs, Holds, IsRunsOfBlocks}
+use Rattle.rpki_chain.specs.declared.path.Overclaim.{Overclaim}
+use Rattle.rpki_chain.specs.declared.path.PathRefusal.{PathRefusal}
+use Rattle.rpki_chain.specs.declared.path.Step.{Step}
 use Rattle.rpki_family.proofs.CoverLemmas.{v4_covered}
-use Rattle.rpki_family.specs.Families.{HasBoundsIn, IsWholeIn, IsCoverListIn}
+use Rattle.rpki_family.specs.Families.{HasBoundsIn, IsCoverListIn}
 use Rattle.rpki_family.specs.SetCovers.{runs_cover}
 use Rattle.rpki_ip.specs.Whole.{HasWholeBounds}
 use Rattle.rpki_ip_block.specs.Blocks.{ip_bounds, new_ip_block, prefix_bounds}
@@ -17,8 +22,10 @@ use Rattle.rpki_ip_block.specs.BlockText.{IsIpBlockText}
 use Rattle.rpki_ip_block.specs.declared.block.IpBlock.{IpBlock}
 use Rattle.rpki_ip_block.proofs.WholeReadings.{whole_text, whole_family_prefix}
 use Rattle.rpki_ipres.proofs.SetTextLemmas.{blocks_of_family}
+use Rattle.rpki_ipres.proofs.WholeClaims.{whole_excess, whole_issued, whole_refusal, whole_result, whole_uncovered}
 use Rattle.rpki_ipres.proofs.WholeReadings.{whole_cover}
 use Rattle.rpki_ipres.proofs.WholeSets.{whole_difference, whole_intersection, whole_union}
+use Rattle.rpki_ipres.specs.Families.{IsClaimIn, IsWholeIn}
 use Rattle.rpki_ipres.specs.SetText.{IsIpSet, IsFamilySet}
 
 -- ---- sets
@@ -54,6 +61,35 @@ blocks_in Ipv6 xs set made is = λ k d small. tt
 pub covered_in : (family : AddressFamily) (set : Runs) → IsIpSet set → IsWholeIn family set → IsCoverListIn family set (runs_cover 128 set)
 covered_in Ipv4 set is whole = v4_covered set is whole
 covered_in Ipv6 set is whole = tt
+
+-- ---- claims: what they leave of a set of the family, and what is too much
+
+pub issued_in : (family : AddressFamily) (set issued : Runs) (claim : Claim) (mode : Overclaim)
+    → IsWholeIn family set → IsClaimIn family claim → IsIssued (Holds set) claim mode issued → IsWholeIn family issued
+issued_in Ipv4 set issued claim mode own whole is = whole_issued set issued claim mode own whole is
+issued_in Ipv6 set issued claim mode own whole is = tt
+
+pub excess_in : (family : AddressFamily) (set excess : Runs) (claim : Claim) (mode : Overclaim)
+    → IsWholeIn family set → IsClaimIn family claim → IsExcess (Holds set) claim mode excess → IsWholeIn family excess
+excess_in Ipv4 set excess claim mode own whole is = whole_excess set excess claim mode own whole is
+excess_in Ipv6 set excess claim mode own whole is = tt
+
+pub uncovered_in : (family : AddressFamily) (set excess : Runs) (issuer : Claim)
+    → IsWholeIn family set → IsClaimIn family issuer → IsUncovered (Holds set) issuer excess → IsWholeIn family excess
+uncovered_in Ipv4 set excess issuer own whole is = whole_uncovered set excess issuer own whole is
+uncovered_in Ipv6 set excess issuer own whole is = tt
+
+pub result_in : (family : AddressFamily) (set left : Runs) (steps : List (Step Claim))
+    → IsWholeIn family set → All (λ (s : Step Claim). IsClaimIn family s.claim) steps
+    → IsPathResult (λ c. c) (Holds set) steps left → IsWholeIn family left
+result_in Ipv4 set left steps own whole is = whole_result set left steps own whole is
+result_in Ipv6 set left steps own whole is = tt
+
+pub refusal_in : (family : AddressFamily) (set : Runs) (steps : List (Step Claim)) (refusal : PathRefusal Runs)
+    → IsWholeIn family set → All (λ (s : Step Claim). IsClaimIn family s.claim) steps
+    → IsFirstRefusal (λ c. c) (Holds set) steps refusal → IsWholeIn family refusal.fault
+refusal_in Ipv4 set steps refusal own whole is = whole_refusal set steps refusal own whole is
+refusal_in Ipv6 set steps refusal own whole is = tt
 
 -- ---- texts
 

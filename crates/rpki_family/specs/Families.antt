@@ -1,9 +1,9 @@
--- What is of a family: all bounds and all sets in IPv6, and in IPv4 those of whole addresses.
+-- What is of a family: all bounds in IPv6, and in IPv4 whole ones; and covers by its own addresses.
 use Rattle.std.specs.Prelude.{ℕ, List, ⊤}
 use Rattle.rpki_addr.specs.Prefixes.{PrefixValue}
-use Rattle.rpki_chain.specs.Runs.{Runs, Holds}
+use Rattle.rpki_chain.specs.Runs.{Runs}
 use Rattle.rpki_cover.specs.Covers.{IsV4CoverList}
-use Rattle.rpki_ip.specs.Whole.{IsWhole, HasWholeBounds}
+use Rattle.rpki_ip.specs.Whole.{HasWholeBounds}
 use Rattle.rpki_base.specs.declared.family.AddressFamily.{AddressFamily}
 use Rattle.rpki_base.specs.declared.family.AddressFamily.TheVariants.{Ipv4, Ipv6}
 use Rattle.rpki_family.specs.SetCovers.{Ipv4Of}
@@ -12,11 +12,6 @@ use Rattle.rpki_family.specs.SetCovers.{Ipv4Of}
 abbrev pub HasBoundsIn : AddressFamily → ℕ × ℕ → Type 0
 HasBoundsIn Ipv4 b = HasWholeBounds b
 HasBoundsIn Ipv6 b = ⊤
-
--- the runs are those of a set of the family
-abbrev pub IsWholeIn : AddressFamily → Runs → Type 0
-IsWholeIn Ipv4 set = IsWhole (Holds set)
-IsWholeIn Ipv6 set = ⊤
 
 -- the prefixes are those that cover a set of the family by its own addresses
 abbrev pub IsCoverListIn : AddressFamily → Runs → List PrefixValue → Type 0

@@ -10,16 +10,15 @@ ghost use Rattle.rpki_chain.specs.Runs.{Runs, Holds, IsRunsOfBlocks};
 ghost use Rattle.rpki_chains.specs.Sets.{IsWithin};
 ghost use Rattle.rpki_ip_block.specs.Blocks.{ip_bounds, new_ip_block};
 ghost use Rattle.rpki_ip_block.specs.ListText.{HasBlocks, HasBlocksFault};
+ghost use Rattle.rpki_ipres.specs.Families.{IsWholeIn};
 ghost use Rattle.rpki_ipres.specs.Resources.{IsFamilyClaim};
 ghost use Rattle.rpki_ipres.specs.SetText.{IsFamilySet, IsSetOf, set_text};
-ghost use Rattle.rpki_family.specs.Families.{IsWholeIn};
 
 use crate::block::FamilyBlock;
 use crate::family::Family;
 use crate::iter::BlockIter;
 use rpki_base::memory::OrMemory;
 use rpki_ip::error::FromStrError;
-use rpki_ip::family::AddressFamily;
 use rpki_ipres::blocks::IpBlocks;
 use rpki_ipres::resources::IpResources;
 use std::alloc::{AllocError, Allocator, Global};
@@ -39,7 +38,7 @@ pub struct FamilyBlocks<F: Family, A: Allocator = Global> {
 
 impl<F: Family, A: Allocator> Model for FamilyBlocks<F, A> {
     ghost use Rattle.rpki_chain.specs.Runs.{Runs};
-    ghost use Rattle.rpki_family.specs.Families.{IsWholeIn};
+    ghost use Rattle.rpki_ipres.specs.Families.{IsWholeIn};
 
     ghost Value = { Runs };
 
@@ -103,6 +102,14 @@ impl<F: Family, A: Allocator> FamilyBlocks<F, A> {
     {
         let _blocks = self.blocks.iter(); // read so that the proof sees that each number has 128 bits
         &self.blocks
+    }
+
+    /// The set as one of addresses of either family; its memory has as many owners as before.
+    pub fn into_ip_blocks(self) -> IpBlocks<A>
+        ensures value { result ≡ self }
+        ensures whole { IsWholeIn F.FAMILY self }
+    {
+        self.blocks
     }
 
     /// The resources that list the set, whose memory has one owner more, and missing ones where it has no addresses.
@@ -277,10 +284,6 @@ impl<F: Family, A: Allocator> fmt::Display for FamilyBlocks<F, A> {
     ghost output = { λ set. Some (set_text F.FAMILY set) };
 
     fn fmt<W: fmt::Write>(&self, f: &mut fmt::Formatter<W>) -> fmt::Result {
-        let blocks = match F::FAMILY {
-            AddressFamily::Ipv4 => self.blocks.as_v4(),
-            AddressFamily::Ipv6 => self.blocks.as_v6(),
-        };
-        write!(f, "{blocks}")
+        fmt::Display::fmt(&self.blocks.as_family(F::FAMILY), f)
     }
 }

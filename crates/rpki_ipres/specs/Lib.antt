@@ -1,3 +1,4 @@
+pub mod Families
 pub mod Modes
 pub mod Resources
 pub mod ResourcesDer

@@ -22,7 +22,10 @@ pub use block::IpBlock;
 pub use blocks::IpBlocks;
 pub use builder::{IpBlocksBuilder, IpResourcesBuilder};
 pub use family::IpBlocksForFamily;
-pub use overclaim::{OverclaimedIpResources, OverclaimedIpv4Resources, OverclaimedIpv6Resources};
+pub use overclaim::{
+    OverclaimedFamilyResources, OverclaimedIpResources, OverclaimedIpv4Resources,
+    OverclaimedIpv6Resources,
+};
 pub use resources::{InheritedIpResources, IpResources};
 pub use text::{DisplayV4Block, DisplayV6Block};
 pub use verify::IpStep;

@@ -1,16 +1,8 @@
 -- A prefix covers another exactly where its bounds lie round the other's, and then it isn't before it.
-use Rattle.std.proofs.Common.{◌≡◌, ℕ, ◌+◌, ◌-◌, ◌^◌, ◌<◌, ◌≤◌, Bool, true, false, sym, ◌∙◌, ap, refl, arith, inl, inr}
-use Rattle.std.proofs.lemmas.Bool.{cases_order, eq-eqb, ne_eqb, le-ltb}
+use Rattle.rpki_prefix.proofs.Common.{Bool, ap, arith, false, inl, inr, refl, sym, true, ℕ, ◌+◌, ◌-◌, ◌<◌, ◌^◌, ◌∙◌, ◌≡◌, ◌≤◌, cases_order, eq-eqb, le-ltb, ne_eqb, bool_cmp, is_lt, nat_cmp, Equal, Greater, IpAddr, V4, V6, LiesRound, last_bits, prefix_cmp, CoversPrefix, FamilyPrefix, address_number, interval, is_v6, last_addr, width, with_bits}
 use Rattle.std.proofs.lemmas.Nat.{pow_pos, pow_below}
-use Rattle.std.specs.Ordering.{is_lt, bool_cmp, nat_cmp}
 use mathlib.Core.Bool.{beq}
-use Rattle.std.specs.declared.cmp.Ordering.TheVariants.{Equal, Greater}
-use Rattle.rpki_addr.specs.declared.addr.IpAddr.{IpAddr}
-use Rattle.rpki_addr.specs.declared.addr.IpAddr.TheVariants.{V4, V6}
 use Rattle.rpki_addr.specs.Prefixes.{IsIn}
-use Rattle.rpki_prefix.specs.Nesting.{LiesRound}
-use Rattle.rpki_prefix.specs.Order.{prefix_cmp, last_bits}
-use Rattle.rpki_prefix.specs.Values.{FamilyPrefix, CoversPrefix, interval, width, address_number, with_bits, last_addr, is_v6}
 
 -- where the bounds of p lie round those of q, p covers q
 pub covers_round : (p q : FamilyPrefix) → LiesRound p q → CoversPrefix p q

@@ -1,11 +1,7 @@
 -- On the host bits of addresses: the bits after a prefix's length.
-use Rattle.std.proofs.Common.{◌≡◌, ℕ, ◌+◌, ◌-◌, ◌^◌, ◌<◌, ◌≤◌, ◌∙◌, refl, arith, bit_and, bit_or, lit≤}
+use Rattle.rpki_prefix.proofs.Common.{arith, bit_and, bit_or, lit≤, refl, ℕ, ◌+◌, ◌-◌, ◌<◌, ◌^◌, ◌∙◌, ◌≡◌, ◌≤◌, clear_host, set_host, IpAddr, V4, V6, IsRelaxedPrefixOf, address_number, cleared_addr, width}
 use Rattle.rpki_addr.specs.Bits.{cleared}
-use Rattle.rpki_addr.specs.declared.addr.IpAddr.{IpAddr}
-use Rattle.rpki_addr.specs.declared.addr.IpAddr.TheVariants.{V4, V6}
-use Rattle.rpki_addr.proofs.Masks.{clear_host, set_host}
 use Rattle.rpki_addr.proofs.PrefixNumbers.{cleared_prefix, cleared_holds}
-use Rattle.rpki_prefix.specs.Values.{IsRelaxedPrefixOf, width, address_number, cleared_addr}
 
 -- what `n & !m` is, where the host bits of m are set
 pub cleared_by : (w n len m r : ℕ) → n < 2 ^ w → m + 1 ≡ 2 ^ (w - len) → r ≡ bit_and n (2 ^ w - 1 - m) → r ≡ cleared w n len

@@ -1,26 +1,16 @@
 -- A text writes one prefix with a greatest length or without, or has one fault; and what is printed writes what it was
 -- printed of.
-use Rattle.std.proofs.Common.{◌≡◌, ℕ, ◌-◌, ◌^◌, ◌≢◌, inl, inr, List, [], ◌∷◌, ◌++◌, decimal, Option, Some, None, Result, MatchResult, All, refl, sym, ap, subst, arith, append-nil}
+use Rattle.rpki_prefix.proofs.Common.{All, List, MatchResult, None, Option, Result, Some, [], ap, append-nil, arith, decimal, inl, inr, refl, subst, sym, ℕ, ◌++◌, ◌-◌, ◌^◌, ◌∷◌, ◌≡◌, ◌≢◌, IsAddressByte, ip_bytes, not_dash, around_at, none_around, IsNumberText-decimal, IsNumberText-one, Answers-from_found, Around, HasNo, dash, slash, HasNumberFault, IsNumberText, ArePrefixAndMax, HasMaxLen, HasMaxLenError, HasMaxLenTextFault, IsMaxLenOf, IsMaxLenText, IsMaxLenTextOf, MaxLenValue, ReadsMaxLen, max_text, HasPrefixTextFault, IsPrefixText, prefix_text, FamilyPrefix, IsFamilyPrefix, ParsePrefixError}
 use Rattle.std.specs.List.{AllByRecursion}
 use Rattle.std.specs.Str.Parse.{AllDigits}
 use Rattle.std.proofs.lemmas.Fmt.{decimal_is_IsNumeral}
 use Rattle.std.proofs.lemmas.List.Elements.{All-append, All-cons, All-from_recursion, All-weaker}
 use Rattle.std.proofs.lemmas.Str.Parse.{digit_from_value}
-use Rattle.rpki_text.specs.Cuts.{HasNo, Around, slash, dash}
-use Rattle.rpki_text.specs.Numbers.{IsNumberText, HasNumberFault}
 use Rattle.rpki_addr.specs.PrintedAddress.{ip_text}
-use Rattle.rpki_addr.proofs.AddressBytes.{IsAddressByte, ip_bytes, not_dash}
-use Rattle.rpki_text.proofs.NumberTexts.{IsNumberText-one, IsNumberText-decimal}
-use Rattle.rpki_text.proofs.CutLemmas.{none_around, around_at}
-use Rattle.rpki_text.proofs.ReadingLemmas.{Answers-from_found}
-use Rattle.rpki_prefix.specs.MaxLen.{MaxLenValue, IsMaxLenOf, HasMaxLenError, ArePrefixAndMax, HasMaxLen, IsMaxLenTextOf, IsMaxLenText, HasMaxLenTextFault, max_text, ReadsMaxLen}
-use Rattle.rpki_prefix.specs.PrefixText.{IsPrefixText, HasPrefixTextFault, prefix_text}
-use Rattle.rpki_prefix.specs.Values.{FamilyPrefix, IsFamilyPrefix}
 use Rattle.rpki_prefix.specs.declared.error.MaxLenError.{MaxLenError}
 use Rattle.rpki_prefix.specs.declared.error.MaxLenError.TheVariants.{Overflow, Underflow}
 use Rattle.rpki_prefix.specs.declared.error.ParseMaxLenPrefixError.{ParseMaxLenPrefixError}
 use Rattle.rpki_prefix.specs.declared.error.ParseMaxLenPrefixError.TheVariants.{InvalidPrefix, InvalidMaxLenFormat, InvalidMaxLenValue}
-use Rattle.rpki_prefix.specs.declared.error.ParsePrefixError.{ParsePrefixError}
 use Rattle.rpki_prefix.proofs.HostBits.{few_bits}
 use Rattle.rpki_prefix.proofs.TextLemmas.{number_apart, same_number_fault, IsPrefixText-one, IsPrefixText-no_fault, HasPrefixTextFault-one, IsPrefixText-prefix_text}
 

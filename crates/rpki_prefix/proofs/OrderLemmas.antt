@@ -1,19 +1,11 @@
 -- The orders of prefixes, without and with greatest lengths, are total, and what stands at one place in them is the
 -- same.
-use Rattle.std.proofs.Common.{rules, ◌≡◌, ◌↔◌, ℕ, Bool, true, false, ◌&&◌, eqb, Option, Some, None, refl, sym, ap, ap₂, ◌∙◌}
-use Rattle.std.proofs.lemmas.Bool.{and_parts, eqb-true}
+use Rattle.rpki_prefix.proofs.Common.{Bool, None, Option, Some, ap, ap₂, eqb, false, refl, rules, sym, true, ℕ, ◌&&◌, ◌↔◌, ◌∙◌, ◌≡◌, and_parts, eqb-true, is_eq, Equal, IpAddr, V4, V6, MaxLenValue, max_len_cmp, prefix_cmp, FamilyPrefix}
 use Rattle.std.proofs.lemmas.Cmp.{tied_itself}
 use Rattle.std.specs.Cmp.{Equal-is, IsTotalOrder}
 use Rattle.std.specs.Cmp.Rules.{comparing}
 use Rattle.std.specs.Option.{option_eq}
-use Rattle.std.specs.Ordering.{is_eq}
-use Rattle.std.specs.declared.cmp.Ordering.TheVariants.{Equal}
-use Rattle.rpki_addr.specs.declared.addr.IpAddr.{IpAddr}
-use Rattle.rpki_addr.specs.declared.addr.IpAddr.TheVariants.{V4, V6}
-use Rattle.rpki_prefix.specs.MaxLen.{MaxLenValue, max_len_cmp}
-use Rattle.rpki_prefix.specs.Order.{prefix_cmp}
 use Rattle.rpki_prefix.specs.OrderLaws.{IsSameAddress, prefix_ties, max_len_ties}
-use Rattle.rpki_prefix.specs.Values.{FamilyPrefix}
 
 pub prefix_total : IsTotalOrder prefix_cmp
 prefix_total = Prim.search (comparing, rules) depth 9

@@ -1,22 +1,12 @@
 -- A text writes one prefix, or has one fault; and what is printed of a prefix writes it.
-use Rattle.std.proofs.Common.{◌≡◌, ℕ, ◌-◌, ◌^◌, ◌<◌, inl, inr, List, [], Result, Err, MatchResult, refl, sym, ap, ◌∙◌, subst, arith}
+use Rattle.rpki_prefix.proofs.Common.{Err, List, MatchResult, Result, [], ap, arith, inl, inr, refl, subst, sym, ℕ, ◌-◌, ◌<◌, ◌^◌, ◌∙◌, ◌≡◌, ip_bytes, no_slash, IpAddr, around_at, none_around, IsNumberText-decimal, IsNumberText-one, Answers-from_found, Around, HasNo, slash, HasNumberFault, IsNumberText, AreParts, HasNoParts, HasParts, HasPrefixTextFault, HasRelaxedPrefixTextFault, HasTextFaultBy, IsPrefixText, IsRelaxedPrefixText, IsTextBy, ReadsPrefix, prefix_text, FamilyPrefix, HasPrefixError, HasRelaxedPrefixError, IsFamilyPrefix, IsPrefixOf, IsRelaxedPrefixOf, address_number, cleared_addr, width, ParsePrefixError}
 use Rattle.rpki_addr.specs.AddressText.{IsIpText}
-use Rattle.rpki_text.specs.Cuts.{HasNo, Around, slash}
-use Rattle.rpki_text.specs.Numbers.{IsNumberText, HasNumberFault}
 use Rattle.rpki_text.specs.Reading.{Answers}
 use Rattle.rpki_addr.specs.ReadsAddress.{IsAddress}
-use Rattle.rpki_addr.specs.declared.addr.IpAddr.{IpAddr}
 use Rattle.rpki_text.specs.declared.number.ParseIntError.{ParseIntError}
-use Rattle.rpki_addr.proofs.AddressBytes.{ip_bytes, no_slash}
 use Rattle.rpki_addr.proofs.AddressReads.{IsIpText-one, IsIpText-ip_text}
-use Rattle.rpki_text.proofs.NumberTexts.{IsNumberText-one, IsNumberText-decimal}
-use Rattle.rpki_text.proofs.CutLemmas.{none_around, around_at}
 use Rattle.rpki_text.proofs.NumberLemmas.{number_answers}
-use Rattle.rpki_text.proofs.ReadingLemmas.{Answers-from_found}
 use Rattle.rpki_prefix.proofs.HostBits.{few_bits}
-use Rattle.rpki_prefix.specs.PrefixText.{AreParts, HasParts, HasNoParts, IsTextBy, HasTextFaultBy, IsPrefixText, HasPrefixTextFault, IsRelaxedPrefixText, HasRelaxedPrefixTextFault, prefix_text, ReadsPrefix}
-use Rattle.rpki_prefix.specs.Values.{FamilyPrefix, IsFamilyPrefix, IsPrefixOf, IsRelaxedPrefixOf, HasPrefixError, HasRelaxedPrefixError, cleared_addr, width, address_number}
-use Rattle.rpki_prefix.specs.declared.error.ParsePrefixError.{ParsePrefixError}
 use Rattle.rpki_prefix.specs.declared.error.ParsePrefixError.TheVariants.{Empty, MissingLen, InvalidAddr, InvalidLen, InvalidPrefix}
 use Rattle.rpki_prefix.specs.declared.error.PrefixError.{PrefixError}
 

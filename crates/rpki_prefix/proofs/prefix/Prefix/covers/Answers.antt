@@ -1,8 +1,4 @@
-use Rattle.std.proofs.Common.{rules, arith, ◌≡◌, ◌≤◌, IsTrue, leb, sym, ◌∙◌, ap, true, false}
-use Rattle.std.proofs.lemmas.Bool.{leb-true, le-leb}
-use Rattle.rpki_prefix.specs.Order.{last_bits}
-use Rattle.rpki_prefix.specs.Values.{address_number}
-use Rattle.rpki_prefix.specs.Nesting.{LiesRound}
+use Rattle.rpki_prefix.proofs.Common.{IsTrue, ap, arith, false, leb, rules, sym, true, ◌∙◌, ◌≡◌, ◌≤◌, le-leb, leb-true, LiesRound, last_bits, address_number}
 use Rattle.rpki_prefix.proofs.Covering.{BeginsRound, covers_round, round_covers, not_before, same_bool, beq_same, bits_last}
 use Rattle.rpki_prefix.proofs.prefix.Prefix.covers.Goals as goal
 use Rattle.rpki_prefix.proofs.prefix.Prefix.covers.Goals.{then-is_v6, else-is_v6}

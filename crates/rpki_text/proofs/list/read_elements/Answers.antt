@@ -1,9 +1,7 @@
 -- Each part adds its value, is left out, or is the first fault.
-use Rattle.std.proofs.Common.{length, map, sym, ◌∙◌, lit<}
-use Rattle.std.proofs.lemmas.Bool.{eqb-false}
+use Rattle.rpki_text.proofs.Common.{length, lit<, map, sym, ◌∙◌, eqb-false, map-append}
 use Rattle.std.proofs.lemmas.Iterator.Splits.{YieldsList-from_str_split}
 use Rattle.std.proofs.lemmas.Iterator.Consumers.{YieldsList-turn, YieldsList-end, YieldsList-so_far, YieldsList-at}
-use Rattle.std.proofs.lemmas.List.{map-append}
 use Rattle.rpki_text.proofs.ListLemmas.{fault_at, values_more, elements_are}
 use Rattle.rpki_text.proofs.list.read_elements.Goals as goal
 

@@ -1,6 +1,5 @@
 -- Between visible ASCII nothing is trimmed.
-use Rattle.std.proofs.Common.{◌-◌, ◌<◌, length, get_or, arith, ap, subst}
-use Rattle.std.specs.Int.{IsInRange}
+use Rattle.rpki_text.proofs.Common.{ap, arith, get_or, length, subst, ◌-◌, ◌<◌, IsInRange}
 use Rattle.rpki_text.proofs.TrimLemmas.{trim_visible}
 use Rattle.rpki_text.proofs.list.trimmed.Goals as goal
 

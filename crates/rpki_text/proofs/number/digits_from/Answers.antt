@@ -1,5 +1,5 @@
 -- Nine digits and one more fit, and one more digit adds to the value.
-use Rattle.std.proofs.Common.{◌-◌, ◌<◌, length, arith}
+use Rattle.rpki_text.proofs.Common.{arith, length, ◌-◌, ◌<◌}
 use Rattle.rpki_text.proofs.NumberLemmas.{few_below, digit_more}
 use Rattle.rpki_text.proofs.number.digits_from.Goals as goal
 

@@ -1,5 +1,4 @@
-use Rattle.std.proofs.Common.{◌∙◌, Err, ap, refl, sym}
-use Rattle.rpki_text.specs.Lines.{lines_of}
+use Rattle.lines_engine.proofs.Common.{Err, ap, refl, sym, ◌∙◌, lines_of}
 use Rattle.lines_engine.proofs.RunLemmas.{answered_none, answered_more}
 use Rattle.lines_engine.proofs.engine.answer_lines.Goals as goal
 

@@ -1,5 +1,4 @@
-use Rattle.std.proofs.Common.{◌∙◌, ◌<◌, length, take, Err, ap, refl, sym, arith}
-use Rattle.std.proofs.lemmas.Grind.{common_steps}
+use Rattle.lines_engine.proofs.Common.{Err, ap, arith, length, refl, sym, take, ◌<◌, ◌∙◌, common_steps}
 use Rattle.lines_engine.proofs.StreamLemmas.{but_begun, but_more, but_none, but_some, but_unanswered}
 use Rattle.lines_engine.proofs.stream.answer_ended.Goals as goal
 

@@ -1,5 +1,4 @@
-use Rattle.std.proofs.Common.{◌≡◌, ◌<◌, length, arith}
-use Rattle.std.proofs.lemmas.Grind.{common_steps}
+use Rattle.lines_engine.proofs.Common.{arith, length, ◌<◌, ◌≡◌, common_steps}
 use Rattle.lines_engine.proofs.StreamLemmas.{line_last, none_last, last_none, last_part}
 use Rattle.lines_engine.proofs.stream.answer_last.Goals as goal
 

@@ -1,4 +1,4 @@
-use Rattle.std.proofs.Common.{[], ◌∙◌, Err, ap, refl, sym, arith}
+use Rattle.lines_engine.proofs.Common.{Err, [], ap, arith, refl, sym, ◌∙◌}
 use Rattle.lines_engine.proofs.RunLemmas.{answered_none}
 use Rattle.lines_engine.proofs.StreamLemmas.{joined_part, joined_some, other_of, piece_more, rest_some}
 use Rattle.lines_engine.proofs.stream.answer_piece.Goals as goal

@@ -1,7 +1,6 @@
 -- A reader that goes on to the least number of what another reader answers.
-use Rattle.std.proofs.Common.{◌≡◌, ℕ, Result, Ok, Err, refl, sym, ap, ◌∙◌}
+use Rattle.rpki_addr.proofs.Common.{Err, Ok, Result, ap, refl, sym, ℕ, ◌∙◌, ◌≡◌, IsFirstOf}
 use Rattle.rpki_text.specs.Reading.{Answers}
-use Rattle.rpki_addr.specs.AddrText.{IsFirstOf}
 
 module _ {X E : Type 0} (first : X → ℕ) (Writes : X → Type 0) (Fails : E → Type 0) where
   -- an answer is one value

@@ -1,21 +1,13 @@
 -- A printed address has digits, the letters `a` to `f`, dots and colons, so neither a slash nor a dash nor a comma.
-use Rattle.std.proofs.Common.{◌≡◌, ◌≢◌, ◌⊎◌, ◌^◌, ◌<◌, ℕ, zero, suc, List, [], ◌∷◌, ◌++◌, codes, drop, take, get_or, arith, lit<, lit≤, inl, inr, subst}
+use Rattle.rpki_addr.proofs.Common.{List, [], arith, codes, drop, get_or, inl, inr, lit<, lit≤, subst, suc, take, zero, ℕ, ◌++◌, ◌<◌, ◌^◌, ◌∷◌, ◌≡◌, ◌≢◌, ◌⊎◌, AllSegments, AllSegments-drop, cond_both, bytes_eq, last_digit_below, groups_of, octets_of, ip_text, ipv4_text, ipv6_text, IpAddr, V4, V6}
 use Rattle.std.specs.Int.{IsInRange}
 use Rattle.std.specs.List.{All}
 use Rattle.std.specs.Net.Addr.{octets_of as net_octets_of}
 use Rattle.std.specs.Net.Text as std
-use Rattle.std.specs.Prelude.{bytes_eq}
 use Rattle.std.proofs.NetLemmas.Alphabet.{IsDigitOrDot, All-ipv4_text, All-hex_groups_text}
-use Rattle.std.proofs.NetLemmas.Texts.{AllSegments, AllSegments-drop}
-use Rattle.std.proofs.lemmas.Bool.{cond_both}
 use Rattle.std.proofs.lemmas.List.Elements.{All-weaker, All-append, All-from_recursion}
 use Rattle.rpki_text.specs.Cuts.{HasNo, slash, dash}
-use Rattle.rpki_text.specs.Digits.{octets_of, groups_of}
-use Rattle.rpki_addr.specs.PrintedAddress.{ipv4_text, ipv6_text, ip_text}
-use Rattle.rpki_addr.specs.declared.addr.IpAddr.{IpAddr}
-use Rattle.rpki_addr.specs.declared.addr.IpAddr.TheVariants.{V4, V6}
 use Rattle.rpki_addr.proofs.AddressLemmas.{dotted_is}
-use Rattle.rpki_text.proofs.DigitLemmas.{last_digit_below}
 
 -- a dot, a decimal digit or a colon, or a letter from `a` to `f`
 abbrev pub IsAddressByte : ℕ → Type 0

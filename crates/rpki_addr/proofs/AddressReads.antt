@@ -1,21 +1,11 @@
 -- What the readers of addresses answer: a text writes one address at most, and a printed address is read back.
-use Rattle.std.proofs.Common.{◌≡◌, ℕ, ◌^◌, ◌<◌, List, Ok, Err, refl, sym, ap, ◌∙◌, lit<}
+use Rattle.rpki_addr.proofs.Common.{Err, List, Ok, ap, lit<, refl, sym, ℕ, ◌<◌, ◌^◌, ◌∙◌, ◌≡◌, IsDotted-not_colon_hex, IsColonHex-ipv6_text, ipv4_octets, ipv6_segments, last_digit_below, last_digits_below, length-last_digits, number-last_digits, from_groups, from_octets, groups_of, octets_of, IsIpText, IsIpv4Text, IsIpv6Text, ip_text, ipv4_text, ipv6_text, IsAddress, ReadsIp, ReadsIpv4, ReadsIpv6, IpAddr, V4, V6}
 use Rattle.std.specs.declared.net.ipv4_addr.Ipv4Addr.{Ipv4Addr as StdIpv4}
 use Rattle.std.specs.declared.net.ipv6_addr.Ipv6Addr.{Ipv6Addr as StdIpv6}
-use Rattle.std.specs.Net.Addr.{ipv4_octets, ipv6_segments}
 use Rattle.std.specs.Net.Grammar as std
-use Rattle.std.proofs.NetLemmas.Ipv6.{IsDotted-not_colon_hex}
 use Rattle.std.proofs.NetLemmas.Theorems.{IsIpv4Text_unique, IsIpv6Text_unique}
-use Rattle.std.proofs.NetLemmas.Texts.{IsColonHex-ipv6_text}
-use Rattle.rpki_text.specs.Digits.{groups_of, from_groups, octets_of, from_octets}
 use Rattle.rpki_addr.specs.declared.addr.AddrParseError.TheVariants.{Ipv4, Ipv6}
-use Rattle.rpki_addr.specs.declared.addr.IpAddr.{IpAddr}
-use Rattle.rpki_addr.specs.declared.addr.IpAddr.TheVariants.{V4, V6}
-use Rattle.rpki_addr.specs.AddressText.{IsIpv4Text, IsIpv6Text, IsIpText}
-use Rattle.rpki_addr.specs.PrintedAddress.{ipv4_text, ipv6_text, ip_text}
-use Rattle.rpki_addr.specs.ReadsAddress.{ReadsIpv4, ReadsIpv6, ReadsIp, IsAddress}
 use Rattle.rpki_addr.proofs.AddressLemmas.{IsIpv4Text-dotted, IsDotted-ipv4, IsGroupsText-colon_hex, IsColonHex-groups}
-use Rattle.rpki_text.proofs.DigitLemmas.{number-last_digits, length-last_digits, last_digits_below, last_digit_below}
 
 -- a text writes one IPv4 address at most
 pub IsIpv4Text-one : (text : List ℕ) (m n : ℕ) → IsIpv4Text text m → IsIpv4Text text n → m ≡ n
@@ -62,7 +52,8 @@ IsIpText-ip_text (V4 n) small = IsIpv4Text-ipv4_text n small
 IsIpText-ip_text (V6 n) small = IsIpv6Text-ipv6_text n small
 
 -- where std reads an address, and where it reads none
-pub reads_ipv4_ok : (text : List ℕ) (a : StdIpv4) → std.IsIpv4Text text a → ReadsIpv4 text (Ok (from_octets (ipv4_octets a)))
+pub reads_ipv4_ok : (text : List ℕ) (a : StdIpv4) → std.IsIpv4Text text a
+    → ReadsIpv4 text (Ok (from_octets (ipv4_octets a)))
 reads_ipv4_ok text a h =
     let here : IsIpv4Text text (from_octets (ipv4_octets a)) = IsDotted-ipv4 text (ipv4_octets a) h in
     let each : (n : ℕ) → IsIpv4Text text n → Ok (from_octets (ipv4_octets a)) ≡ Ok n = λ n k. ap Ok (IsIpv4Text-one text _ n here k) in
@@ -79,7 +70,8 @@ reads_ipv4_err text none =
       reads_back = λ n small is. absurd (no_text n (rw is (IsIpv4Text-ipv4_text n small)));
     }
 
-pub reads_ipv6_ok : (text : List ℕ) (a : StdIpv6) → std.IsIpv6Text text a → ReadsIpv6 text (Ok (from_groups (ipv6_segments a)))
+pub reads_ipv6_ok : (text : List ℕ) (a : StdIpv6) → std.IsIpv6Text text a
+    → ReadsIpv6 text (Ok (from_groups (ipv6_segments a)))
 reads_ipv6_ok text a h =
     let here : IsIpv6Text text (from_groups (ipv6_segments a)) = record { groups = ipv6_segments a; written = IsColonHex-groups text (ipv6_segments a) h; value = refl } in
     let each : (n : ℕ) → IsIpv6Text text n → Ok (from_groups (ipv6_segments a)) ≡ Ok n = λ n k. ap Ok (IsIpv6Text-one text _ n here k) in

@@ -4,6 +4,7 @@ pub mod AddressBytes
 pub mod AddressLemmas
 pub mod AddressReading
 pub mod AddressReads
+pub mod Common
 pub mod GroupReading
 pub mod Masks
 pub mod PrefixNumbers

@@ -1,7 +1,5 @@
 -- On masks, which clear or set the last bits of a number.
-use Rattle.std.proofs.Common.{◌≡◌, ℕ, ◌+◌, ◌-◌, ◌*◌, ◌/◌, ◌%◌, ◌^◌, ◌<◌, ◌≤◌, ◌∙◌, ap, arith, bit_and, bit_or}
-use Rattle.std.proofs.Math.Nat.{pow-le-pow_right}
-use Rattle.std.proofs.lemmas.Nat.{pow_pos, and_mask, shr_split}
+use Rattle.rpki_addr.proofs.Common.{ap, arith, bit_and, bit_or, ℕ, ◌%◌, ◌*◌, ◌+◌, ◌-◌, ◌/◌, ◌<◌, ◌^◌, ◌∙◌, ◌≡◌, ◌≤◌, pow-le-pow_right, and_mask, pow_pos, shr_split}
 use Rattle.std.proofs.lemmas.Nat.Bits.{ones_shr, and_high_mask}
 use Rattle.std.specs.Int.Bits.{or_add_and}
 

@@ -1,8 +1,5 @@
 -- On the numbers of prefixes.
-use Rattle.std.proofs.Common.{◌≡◌, ℕ, suc, ◌+◌, ◌-◌, ◌*◌, ◌/◌, ◌%◌, ◌^◌, ◌<◌, ◌≤◌, arith, inl, inr}
-use Rattle.std.proofs.Math.Nat.{two-pow-succ, pow-le-pow_right}
-use Rattle.std.proofs.lemmas.Bool.{cases_order}
-use Rattle.std.proofs.lemmas.Nat.{pow_pos, pow_below, shr_split, mod_below, mod-mul-add}
+use Rattle.rpki_addr.proofs.Common.{arith, inl, inr, suc, ℕ, ◌%◌, ◌*◌, ◌+◌, ◌-◌, ◌/◌, ◌<◌, ◌^◌, ◌≡◌, ◌≤◌, pow-le-pow_right, two-pow-succ, cases_order, mod-mul-add, mod_below, pow_below, pow_pos, shr_split}
 use Rattle.rpki_addr.specs.Bits.{cleared}
 use Rattle.rpki_addr.specs.Prefixes.{PrefixValue, IsPrefix, IsIn}
 

@@ -1,10 +1,5 @@
 -- Steps of reading that did not fail.
-use Rattle.std.proofs.Common.{◌≡◌, ℕ, zero, suc, ◌+◌, Bool, true, false, cond, ◌&&◌, List, ◌∷◌, ◌++◌, length, replicate, Result, Ok, Err, refl, arith, inl, inr}
-use Rattle.std.proofs.lemmas.Bool.{cases_lt}
-use Rattle.std.proofs.lemmas.List.{get_or_past, get_or_append_left, get_or-append-add}
-use Rattle.rpki_der.specs.declared.error.DerError.{DerError}
-use Rattle.rpki_der.specs.Reading.{◌>>=◌}
-use Rattle.rpki_der.specs.Der.{IsBytes}
+use Rattle.rpki_der.proofs.Common.{Bool, Err, List, Ok, Result, arith, cond, false, inl, inr, length, refl, replicate, suc, true, zero, ℕ, ◌&&◌, ◌++◌, ◌+◌, ◌∷◌, ◌≡◌, cases_lt, get_or-append-add, get_or_append_left, get_or_past, IsBytes, ◌>>=◌, DerError}
 
 -- octets behind the first
 pub IsBytes-rest : (b : ℕ) (bytes : List ℕ) → IsBytes (b ∷ bytes) → IsBytes bytes
@@ -33,17 +28,20 @@ pub fits_back : (a b : List ℕ) → IsBytes (a ++ b) → IsBytes b
 fits_back a b h i = rw (← get_or-append-add a b i 0) (h (length a + i))
 
 -- the value of a step that did not fail
-pub bind_ok : {A B : Type 0} (r : Result A DerError) (f : A → Result B DerError) (y : B) → (r >>= f) ≡ Ok y → (x : A) × (r ≡ Ok x) × (f x ≡ Ok y)
+pub bind_ok : {A B : Type 0} (r : Result A DerError) (f : A → Result B DerError) (y : B) → (r >>= f) ≡ Ok y
+    → (x : A) × (r ≡ Ok x) × (f x ≡ Ok y)
 bind_ok (Ok x) f y e = (x, refl, e)
 bind_ok (Err d) f y e = absurd cc
 
 -- a test that did not fail
-pub passed : {A : Type 0} (b : Bool) (d : DerError) (r : Result A DerError) (y : A) → cond b (Err d) r ≡ Ok y → (b ≡ false) × (r ≡ Ok y)
+pub passed : {A : Type 0} (b : Bool) (d : DerError) (r : Result A DerError) (y : A) → cond b (Err d) r ≡ Ok y
+    → (b ≡ false) × (r ≡ Ok y)
 passed true d r y e = absurd cc
 passed false d r y e = (refl, e)
 
 -- a test that did not fail, the other way round
-pub passed_true : {A : Type 0} (b : Bool) (d : DerError) (r : Result A DerError) (y : A) → cond b r (Err d) ≡ Ok y → (b ≡ true) × (r ≡ Ok y)
+pub passed_true : {A : Type 0} (b : Bool) (d : DerError) (r : Result A DerError) (y : A) → cond b r (Err d) ≡ Ok y
+    → (b ≡ true) × (r ≡ Ok y)
 passed_true true d r y e = (refl, e)
 passed_true false d r y e = absurd cc
 

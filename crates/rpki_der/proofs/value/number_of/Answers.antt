@@ -1,8 +1,6 @@
 -- So far the number is that of the digits, and has no more bits than they.
-use Rattle.std.proofs.Common.{◌≡◌, ◌≤◌, ◌+◌, ◌*◌, ◌^◌, ◌∙◌, get_or, take, ap, sym, arith}
+use Rattle.rpki_der.proofs.Common.{ap, arith, get_or, sym, take, ◌*◌, ◌+◌, ◌^◌, ◌∙◌, ◌≡◌, ◌≤◌, take_all, big_endian}
 use Rattle.std.proofs.Math.Nat.{pow-le-pow_right}
-use Rattle.std.proofs.lemmas.List.{take_all}
-use Rattle.rpki_der.specs.Der.{big_endian}
 use Rattle.rpki_der.proofs.Numbers.{big_endian_more, digit_more}
 use Rattle.rpki_der.proofs.value.number_of.Goals as goal
 

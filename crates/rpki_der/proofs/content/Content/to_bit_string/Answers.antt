@@ -1,8 +1,5 @@
 -- What the reading gives is what the content says by the rule of the mode.
-use Rattle.std.proofs.Common.{◌∙◌, true, false, ap, subst}
-use Rattle.rpki_der.specs.Der.{IsBitContent, IsPadded, Where}
-use Rattle.rpki_der.specs.Reading.{Gives, bits, bits_by}
-use Rattle.rpki_der.specs.Views.{content_octets, bit_string_of, is_strict_in}
+use Rattle.rpki_der.proofs.Common.{ap, false, subst, true, ◌∙◌, IsBitContent, IsPadded, Where, Gives, bits, bits_by, bit_string_of, content_octets, is_strict_in}
 use Rattle.rpki_der.proofs.Contents.{bits_check}
 use Rattle.rpki_der.proofs.Cursors.{parses_by}
 use Rattle.rpki_der.proofs.Modes.{bits_tighten, padded_check, refused_in, same_found}

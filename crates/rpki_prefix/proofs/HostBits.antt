@@ -4,7 +4,8 @@ use Rattle.rpki_addr.specs.Bits.{cleared}
 use Rattle.rpki_addr.proofs.PrefixNumbers.{cleared_prefix, cleared_holds}
 
 -- what `n & !m` is, where the host bits of m are set
-pub cleared_by : (w n len m r : ℕ) → n < 2 ^ w → m + 1 ≡ 2 ^ (w - len) → r ≡ bit_and n (2 ^ w - 1 - m) → r ≡ cleared w n len
+pub cleared_by : (w n len m r : ℕ) → n < 2 ^ w → m + 1 ≡ 2 ^ (w - len) → r ≡ bit_and n (2 ^ w - 1 - m)
+    → r ≡ cleared w n len
 cleared_by w n len m r below mask is = is ∙ clear_host w (w - len) n m (omega arith) below mask
 
 -- and what `n | m` is
@@ -12,7 +13,8 @@ pub filled_by : (w n len m r : ℕ) → m + 1 ≡ 2 ^ (w - len) → r ≡ bit_or
 filled_by w n len m r mask is = omega (arith, is, set_host (w - len) n m mask)
 
 -- the address with its host bits cleared is a prefix's, and that prefix holds the address
-pub relaxed_prefix : (a : IpAddr) (len : ℕ) → len ≤ width a → address_number a < 2 ^ width a → IsRelaxedPrefixOf a len (record { addr = cleared_addr a len; len = len })
+pub relaxed_prefix : (a : IpAddr) (len : ℕ) → len ≤ width a → address_number a < 2 ^ width a
+    → IsRelaxedPrefixOf a len (record { addr = cleared_addr a len; len = len })
 relaxed_prefix (V4 n) len short below = record { same_bits = refl; same_len = refl; is_prefix = cleared_prefix 32 n len short below; holds = cleared_holds 32 n len }
 relaxed_prefix (V6 n) len short below = record { same_bits = refl; same_len = refl; is_prefix = cleared_prefix 128 n len short below; holds = cleared_holds 128 n len }
 

@@ -22,7 +22,8 @@ ends c = c.number-then-number.ensures ∙ ap address_number c.max_addr.ensures.v
 other_ends : (c : goal.After-number-then-number-2) → c.number-then-number-2.result ≡ last_bits c.args.self
 other_ends c = c.number-then-number-2.ensures ∙ ap address_number c.max_addr-then-number.ensures.value ∙ bits_last _
 
-round : (c : goal.After-number-then-number-2) → IsTrue (leb c.number-then-number.result c.number-then-number-2.result) → LiesRound c.args.self c.args.other
+round : (c : goal.After-number-then-number-2) → IsTrue (leb c.number-then-number.result c.number-then-number-2.result)
+    → LiesRound c.args.self c.args.other
 round c t =
     let b : BeginsRound c.args.self c.args.other = begins c in
     let upto : c.number-then-number.result ≤ c.number-then-number-2.result = leb-true _ _ (search (rules, t)) in

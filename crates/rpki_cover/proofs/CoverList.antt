@@ -1,14 +1,9 @@
 -- The walk through a range finds its cover list.
-use Rattle.std.proofs.Common.{◌≡◌, ℕ, suc, zero, ◌+◌, ◌-◌, ◌^◌, ◌<◌, ◌≤◌, ◌⊎◌, leb, List, [], ◌∷◌, ◌∙◌, ap, subst, refl, arith, inl, inr}
-use Rattle.std.proofs.lemmas.Bool.{cases_Bool, cases_order, leb-true, leb-false}
-use Rattle.std.proofs.lemmas.Nat.{pow_pos, pow_below}
+use Rattle.rpki_cover.proofs.Common.{List, [], ap, arith, inl, inr, leb, refl, subst, suc, zero, ℕ, ◌+◌, ◌-◌, ◌<◌, ◌^◌, ◌∙◌, ◌∷◌, ◌≡◌, ◌≤◌, ◌⊎◌, cases_Bool, cases_order, leb-false, leb-true, pow_below, pow_pos, IsIn, IsMaximal, IsParent, IsPrefix, LiesIn, PrefixValue, Ascends, cover_list, cover_list_upto, free_bits_upto}
 use Rattle.rpki_cover.proofs.Multiples.{multiple_mod, nested, Nested}
 use Rattle.rpki_cover.proofs.Greatest.{Fits, IsGreatest, free_bits_upto_is}
 use Rattle.rpki_cover.proofs.Membership.{In, all_of}
 use Rattle.rpki_cover.proofs.Nesting.{InRange, Within, first_in, within_of, of_within, inside_of, multiple_at, no_straddle, parent_of}
-use Rattle.rpki_cover.specs.Walk.{free_bits_upto, cover_list_upto, cover_list}
-use Rattle.rpki_addr.specs.Prefixes.{PrefixValue, IsPrefix, IsIn, LiesIn, IsParent, IsMaximal}
-use Rattle.rpki_cover.specs.Covers.{Ascends}
 
 -- a list that is the cover list of S, and in which each prefix inside S finds its place
 pub record CoverOf (w : ℕ) (S : ℕ → Type 0) (ps : List PrefixValue) : Type 0 where
@@ -94,7 +89,8 @@ module _ (w a b k : ℕ) (order : a ≤ b) (below : b < 2 ^ w) (g : IsGreatest w
   }
 
   -- a maximal prefix is the head, or is maximal behind it
-  maximal_cases : (p : PrefixValue) → IsMaximal w (InRange a b) p → (head_prefix w a k ≡ p) ⊎ IsMaximal w (InRange (a + 2 ^ k) b) p
+  maximal_cases : (p : PrefixValue) → IsMaximal w (InRange a b) p
+      → (head_prefix w a k ≡ p) ⊎ IsMaximal w (InRange (a + 2 ^ k) b) p
   maximal_cases p m =
       let v : Within w p a b = within_of w a b p m.inside in
       let from : a ≤ p.first = v.from in
@@ -127,7 +123,8 @@ module _ (w a b k : ℕ) (order : a ≤ b) (below : b < 2 ^ w) (g : IsGreatest w
       ]
 
   -- so the head and the cover list of what is behind it are the cover list
-  pub cover_step : (ps : List PrefixValue) → CoverOf w (InRange (a + 2 ^ k) b) ps → CoverOf w (InRange a b) (head_prefix w a k ∷ ps)
+  pub cover_step : (ps : List PrefixValue) → CoverOf w (InRange (a + 2 ^ k) b) ps
+      → CoverOf w (InRange a b) (head_prefix w a k ∷ ps)
   cover_step ps t = record {
     ascending = (
       all_of (λ q. a + 2 ^ (w - (w - k)) ≤ q.first) ps (λ q i.

@@ -1,8 +1,5 @@
 -- Elements of lists, by recursion.
-use Rattle.std.proofs.Common.{◌≡◌, suc, zero, ◌<◌, ◌≤◌, ◌⊎◌, Bool, true, false, List, [], ◌∷◌, ◌++◌, length, ◌∙◌, ap, arith, inl, inr}
-use Rattle.std.specs.List.{All, Contains, filter}
-use Rattle.std.proofs.lemmas.Bool.{cases_Bool}
-use Rattle.std.proofs.lemmas.List.Elements.{All-contains, All-contains_itself, All-weaker}
+use Rattle.rpki_cover.proofs.Common.{Bool, List, [], ap, arith, false, inl, inr, length, suc, true, zero, ◌++◌, ◌<◌, ◌∙◌, ◌∷◌, ◌≡◌, ◌≤◌, ◌⊎◌, cases_Bool, All-contains, All-contains_itself, All-weaker, All, Contains, filter}
 
 -- x is an element of xs, by recursion on the list
 abbrev pub In : {X : Type 0} → List X → X → Type 0

@@ -1,9 +1,6 @@
 -- A set has one cover list.
-use Rattle.std.proofs.Common.{◌≡◌, ℕ, ◌+◌, ◌-◌, ◌^◌, ◌<◌, ◌≤◌, List, [], ◌∷◌, sym, ap, subst, refl, arith, inl, inr}
-use Rattle.std.proofs.lemmas.Nat.{pow_pos}
+use Rattle.rpki_cover.proofs.Common.{List, [], ap, arith, inl, inr, refl, subst, sym, ℕ, ◌+◌, ◌-◌, ◌<◌, ◌^◌, ◌∷◌, ◌≡◌, ◌≤◌, pow_pos, PrefixValue, Ascends, IsCoverList}
 use Rattle.rpki_cover.proofs.Membership.{In, in_of, of_in, at_all}
-use Rattle.rpki_addr.specs.Prefixes.{PrefixValue}
-use Rattle.rpki_cover.specs.Covers.{Ascends, IsCoverList}
 
 -- later prefixes begin later
 behind : (w : ℕ) (p q : PrefixValue) (ps : List PrefixValue) → Ascends w (p ∷ ps) → In ps q → p.first < q.first
@@ -20,7 +17,8 @@ same_heads w p q ps qs a b (inr i) (inr j) = absurd (
     let h : q.first < p.first = behind w q p qs b i in let k : p.first < q.first = behind w p q ps a j in omega arith)
 
 -- what is later in the one is later in the other
-in_tail : (w : ℕ) (p r : PrefixValue) (ps qs : List PrefixValue) → Ascends w (p ∷ ps) → In ps r → In (p ∷ qs) r → In qs r
+in_tail : (w : ℕ) (p r : PrefixValue) (ps qs : List PrefixValue) → Ascends w (p ∷ ps) → In ps r → In (p ∷ qs) r
+    → In qs r
 in_tail w p r ps qs a i (inr j) = j
 in_tail w p r ps qs a i (inl e) = absurd (let h : p.first < r.first = behind w p r ps a i in let k : p.first ≡ r.first = ap (λ (x : PrefixValue). x.first) e in omega arith)
 
@@ -38,7 +36,8 @@ same_lists w (p ∷ ps) (q ∷ qs) a b f g =
     cc
 
 -- a set has one cover list
-pub one_cover_list : (w : ℕ) (S : ℕ → Type 0) (ps qs : List PrefixValue) → IsCoverList w S ps → IsCoverList w S qs → ps ≡ qs
+pub one_cover_list : (w : ℕ) (S : ℕ → Type 0) (ps qs : List PrefixValue) → IsCoverList w S ps → IsCoverList w S qs
+    → ps ≡ qs
 one_cover_list w S ps qs c d = same_lists w ps qs c.ascending d.ascending
     (λ p i. in_of qs p ((d.members p).1 ((c.members p).0 (of_in ps p i))))
     (λ p i. in_of ps p ((c.members p).1 ((d.members p).0 (of_in qs p i))))

@@ -1,5 +1,4 @@
-use Rattle.std.proofs.Common.{rules, arith, ◌≡◌, ◌+◌, ◌-◌, min, ◌∙◌, refl}
-use Rattle.std.specs.Int.Count.{count_trailing_zeros}
+use Rattle.rpki_cover.proofs.Common.{arith, min, refl, rules, ◌+◌, ◌-◌, ◌∙◌, ◌≡◌, count_trailing_zeros}
 use Rattle.rpki_cover.proofs.FreeBits.{greatest_by}
 use Rattle.rpki_cover.proofs.cover.free_bits.Goals as goal
 use Rattle.rpki_cover.proofs.cover.free_bits.Goals.{in-Some, in-None}

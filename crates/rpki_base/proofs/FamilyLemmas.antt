@@ -1,18 +1,5 @@
 -- Families in DER: what is read, what is written, and which faults are named.
-use Rattle.std.proofs.Common.{◌≡◌, ℕ, ◌&&◌, Bool, true, false, cond, eqb, List, [], ◌∷◌, length, get_or}
-use Rattle.std.proofs.Common.{Result, Ok, Err, refl, sym, ap, subst, ◌∙◌, arith}
-use Rattle.std.specs.Prelude.{IsErrAnd, MatchResult}
-use Rattle.std.proofs.lemmas.Bool.{eqb-true, and_parts}
-use Rattle.rpki_der.specs.declared.error.DerError.{DerError}
-use Rattle.rpki_der.specs.declared.error.DerError.TheVariants.{BadFamily}
-use Rattle.rpki_der.specs.Der.{Refines, header, length_octets}
-use Rattle.rpki_der.specs.Reading.{Gives, tagged_at, IsReading}
-use Rattle.rpki_der.proofs.Steps.{IsCheck, ok_is, ok_or_err}
-use Rattle.rpki_der.proofs.Readings.{IsTagged, refined_reading, same_reading, tagged_reading}
-use Rattle.rpki_der.proofs.Written.{value_is}
-use Rattle.rpki_base.specs.declared.family.AddressFamily.{AddressFamily}
-use Rattle.rpki_base.specs.declared.family.AddressFamily.TheVariants.{Ipv4, Ipv6}
-use Rattle.rpki_base.specs.FamilyDer.{SaysFamily, IsFamilyDer, family_der, family_octets, family_of_octets, family_at}
+use Rattle.rpki_base.proofs.Common.{Bool, Err, List, Ok, Result, [], ap, arith, cond, eqb, false, get_or, length, refl, subst, sym, true, ℕ, ◌&&◌, ◌∙◌, ◌∷◌, ◌≡◌, and_parts, eqb-true, IsErrAnd, MatchResult, IsTagged, refined_reading, same_reading, tagged_reading, IsCheck, ok_is, ok_or_err, value_is, Refines, header, length_octets, Gives, IsReading, tagged_at, DerError, BadFamily, IsFamilyDer, SaysFamily, family_at, family_der, family_octets, family_of_octets, AddressFamily, Ipv4, Ipv6}
 use Rattle.rpki_base.proofs.DerFaults.{NamesTo, cond_names, names_more, refined_names, tagged_names}
 
 -- ---- a fault under another name

@@ -1,10 +1,5 @@
 -- Lenient readings name lower faults, and strictly the look at the unused bits comes last.
-use Rattle.std.proofs.Common.{◌≡◌, ℕ, ◌≤◌, true, is_ok, List, Ok, Err, refl, arith}
-use Rattle.rpki_der.specs.declared.error.DerError.TheVariants.{NotCanonical}
-use Rattle.rpki_der.specs.Reading.{◌>>=◌, bit_string_at, bit_string_by, bits, bits_by, is_padded, passing, refined, tagged_at, unsigned, value_at}
-use Rattle.rpki_base.specs.AsnDer.{as_number_at}
-use Rattle.rpki_base.specs.FamilyDer.{family_at}
-use Rattle.rpki_der.proofs.Steps.{ok_or_err}
+use Rattle.rpki_base.proofs.Common.{Err, List, Ok, arith, is_ok, refl, true, ℕ, ◌≡◌, ◌≤◌, ok_or_err, bit_string_at, bit_string_by, bits, bits_by, is_padded, passing, refined, tagged_at, unsigned, value_at, ◌>>=◌, NotCanonical, as_number_at, family_at}
 use Rattle.rpki_base.proofs.DerFaults.{NamesTo, bind_fails, bits_names, first_fails, names_more, not_named, refined_names, tagged_names, unsigned_names, value_names}
 use Rattle.rpki_base.proofs.FamilyLemmas.{family_names}
 use Rattle.rpki_base.proofs.laws.not_canonical.Goals as goal

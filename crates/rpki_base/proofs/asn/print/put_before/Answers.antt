@@ -1,5 +1,5 @@
 -- The digits are ten at most, and the letters stand before them.
-use Rattle.std.proofs.Common.{◌≤◌, ◌∷◌, arith, ap, ◌∙◌}
+use Rattle.rpki_base.proofs.Common.{ap, arith, ◌∙◌, ◌∷◌, ◌≤◌}
 use Rattle.rpki_base.proofs.AsnPrinting.{ten_digits, letters_before}
 use Rattle.rpki_base.proofs.asn.print.put_before.Goals as goal
 

@@ -1,7 +1,5 @@
 -- Each turn writes the next value, for which there is room.
-use Rattle.std.proofs.Common.{◌++◌, length, ap, sym, ◌∙◌, arith}
-use Rattle.std.proofs.lemmas.List.{append-nil, length-append, take_all}
-use Rattle.rpki_base.specs.DerWriting.{octets_of_all}
+use Rattle.rpki_base.proofs.Common.{ap, arith, length, sym, ◌++◌, ◌∙◌, append-nil, length-append, take_all, octets_of_all}
 use Rattle.rpki_base.proofs.WritingLemmas.{written_more, left_more}
 use Rattle.rpki_base.proofs.der.write.append_all.Goals as goal
 

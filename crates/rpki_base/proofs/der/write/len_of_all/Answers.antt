@@ -1,7 +1,6 @@
 -- A part of the length is at most the whole.
-use Rattle.std.proofs.Common.{◌≤◌, ◌+◌, length, take, arith}
+use Rattle.rpki_base.proofs.Common.{arith, length, take, ◌+◌, ◌≤◌, octets_of_all}
 use Rattle.std.proofs.lemmas.List.Folds.{length-flat_map-take}
-use Rattle.rpki_base.specs.DerWriting.{octets_of_all}
 use Rattle.rpki_base.proofs.der.write.len_of_all.Goals as goal
 
 pub returns-in_err-total-clause-none : goal.returns-in_err-total-clause-none

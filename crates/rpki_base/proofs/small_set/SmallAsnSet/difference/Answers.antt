@@ -1,6 +1,5 @@
 -- The walk gives what is in this set alone.
-use Rattle.std.proofs.Common.{◌∙◌, arith, subst}
-use Rattle.rpki_base.specs.SmallSet.{IsSmallSet}
+use Rattle.rpki_base.proofs.Common.{arith, subst, ◌∙◌, IsSmallSet}
 use Rattle.rpki_base.proofs.SmallSetLemmas.{difference_is}
 use Rattle.rpki_base.proofs.WalkSizes.{difference_few}
 use Rattle.rpki_base.proofs.small_set.SmallAsnSet.difference.Goals as goal

@@ -1,6 +1,5 @@
 -- The walk gives what is in both sets.
-use Rattle.std.proofs.Common.{◌∙◌, arith, subst}
-use Rattle.rpki_base.specs.SmallSet.{IsSmallSet}
+use Rattle.rpki_base.proofs.Common.{arith, subst, ◌∙◌, IsSmallSet}
 use Rattle.rpki_base.proofs.SmallSetLemmas.{intersection_is}
 use Rattle.rpki_base.proofs.WalkSizes.{intersection_few, intersection_few_of_other}
 use Rattle.rpki_base.proofs.small_set.SmallAsnSet.intersection.Goals as goal

@@ -1,6 +1,5 @@
 -- The test of where a block may begin says so.
-use Rattle.std.proofs.Common.{◌≡◌, ℕ, ◌+◌, true, Option, Some, None, refl}
-use Rattle.std.proofs.lemmas.Bool.{lt-ltb, ltb-true}
+use Rattle.rpki_chains.proofs.Imports.{None, Option, Some, refl, true, ℕ, ◌+◌, ◌≡◌, lt-ltb, ltb-true}
 use Rattle.rpki_chains.specs.Beyond.{IsBeyond, is_beyond}
 
 pub beyond_is : (before : Option ℕ) (n : ℕ) → is_beyond before n ≡ true → IsBeyond before n

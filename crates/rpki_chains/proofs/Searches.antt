@@ -1,14 +1,12 @@
 -- The first run that doesn't end before a number: a search finds it, and it tells what is covered from there on.
-use Rattle.std.proofs.Common.{◌≡◌, ℕ, ◌+◌, ◌<◌, ◌≤◌, ◌↔◌, ⊎_elim, List, length, get_or, max, Option, Some, None, IfSome, MatchOption, ap, sym, subst, arith}
-use Rattle.std.proofs.Math.Nat.{le_refl}
-use Rattle.std.proofs.lemmas.Bool.{cases_lt}
-use Rattle.rpki_chains.specs.Sets.{IsWithin, Covers, IsRun, IsRunFrom, IsChain, HoldsBlock, numbers}
+use Rattle.rpki_chains.proofs.Imports.{IfSome, List, MatchOption, None, Option, Some, ap, arith, get_or, length, max, subst, sym, ℕ, ⊎_elim, ◌+◌, ◌<◌, ◌↔◌, ◌≡◌, ◌≤◌, le_refl, cases_lt, Covers, HoldsBlock, IsChain, IsRun, IsRunFrom, IsWithin, numbers}
 use Rattle.rpki_chains.proofs.Chains.{element_at, ascends, IsChainOf-itself}
 use Rattle.rpki_chains.proofs.Sides.{IsAt}
 
 module _ {B : Type 0} (f : B → ℕ × ℕ) (form : ℕ × ℕ → B) where
   -- a number behind one block is behind all earlier ones
-  pub behind_all : (xs : List B) (i k n : ℕ) (d : B) → IsChain f form xs → i < length xs → ((e : B) → (f (get_or xs i e)).1 < n) → k ≤ i → (f (get_or xs k d)).1 < n
+  pub behind_all : (xs : List B) (i k n : ℕ) (d : B) → IsChain f form xs → i < length xs
+      → ((e : B) → (f (get_or xs i e)).1 < n) → k ≤ i → (f (get_or xs k d)).1 < n
   behind_all xs i k n d h lt high le = ⊎_elim
       (λ (earlier : k < i). let a = h.apart k i d earlier lt in let o = h.ordered i d lt in let l = high d in omega arith)
       (λ (not : i ≤ k). let same : i ≡ k = omega arith in let P : ℕ → Type 0 = λ j. (f (get_or xs j d)).1 < n in subst P same (high d))
@@ -38,7 +36,9 @@ module _ {B : Type 0} (f : B → ℕ × ℕ) (form : ℕ × ℕ → B) (xs : Lis
   }
 
   -- so the search finds that run, or that there is none
-  pub first_found : {I : Type 0} (number : I → ℕ) (last : ℕ) (found : Option (I × I)) → IsChain f form xs → HoldsBlock f number last xs at found → IfSome found (λ b. n ≤ number b.1) → MatchOption found ((m : ℕ) → n ≤ m → Covers f xs m → ⊥) (λ b. IsRunFrom (Covers f xs) n (numbers number b))
+  pub first_found : {I : Type 0} (number : I → ℕ) (last : ℕ) (found : Option (I × I)) → IsChain f form xs
+      → HoldsBlock f number last xs at found → IfSome found (λ b. n ≤ number b.1)
+      → MatchOption found ((m : ℕ) → n ≤ m → Covers f xs m → ⊥) (λ b. IsRunFrom (Covers f xs) n (numbers number b))
   first_found number last None h here reaches = none_from (omega (arith, here))
   first_found number last (Some b) h here reaches = IsRunFrom-found (numbers number b) h (here.0, here.1) reaches
 

@@ -1,6 +1,5 @@
 -- Blocks with other bounds at one place decide it.
-use Rattle.std.proofs.Common.{◌≡◌, arith}
-use Rattle.std.proofs.lemmas.Bool.Decides.{nat_tests}
+use Rattle.rpki_chains.proofs.Imports.{arith, ◌≡◌, nat_tests}
 use Rattle.rpki_chains.proofs.Sorts.{map-at}
 use Rattle.rpki_chains.proofs.chain.are_same_blocks.Goals as goal
 

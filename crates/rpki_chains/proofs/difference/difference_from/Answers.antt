@@ -1,8 +1,5 @@
 -- Each turn is done with one block and keeps the walk; at its end all blocks of the one chain are decided.
-use Rattle.std.proofs.Common.{◌+◌, ◌∙◌, ap, sym, refl, arith}
-use Rattle.std.proofs.Math.Nat.{le_refl}
-use Rattle.std.proofs.lemmas.List.{length_push}
-use Rattle.rpki_chains.specs.Sets.{Covers}
+use Rattle.rpki_chains.proofs.Imports.{ap, arith, refl, sym, ◌+◌, ◌∙◌, le_refl, length_push, Covers}
 use Rattle.rpki_chains.proofs.Chains.{IsChainOf-from}
 use Rattle.rpki_chains.proofs.Sides.{IsAt-from}
 use Rattle.rpki_chains.proofs.Counts.{read_next}

@@ -1,7 +1,5 @@
 -- What is made of a block's bounds has these bounds; and a block in new form, made anew, is the same.
-use Rattle.std.proofs.Common.{◌≡◌, ◌+◌, ◌++◌, ◌∷◌, [], ap, sym, ◌∙◌, take, map}
-use Rattle.std.proofs.lemmas.List.{take_all, take_more}
-use Rattle.rpki_chains.specs.Sets.{IsNew}
+use Rattle.rpki_chains.proofs.Imports.{[], ap, map, sym, take, ◌++◌, ◌+◌, ◌∙◌, ◌∷◌, ◌≡◌, take_all, take_more, IsNew}
 use Rattle.rpki_chains.proofs.Sorts.{map-push_taken}
 use Rattle.rpki_chains.proofs.owned.rebuild.Goals as goal
 

@@ -1,6 +1,5 @@
 -- What is refused is what the chains, which are still the same, have in common.
-use Rattle.std.proofs.Common.{subst, arith}
-use Rattle.rpki_chains.specs.Sets.{Covers, IsChainOf}
+use Rattle.rpki_chains.proofs.Imports.{arith, subst, Covers, IsChainOf}
 use Rattle.rpki_chains.proofs.FitTurns.{overhang-not_inside}
 use Rattle.rpki_chains.proofs.trim.trim_counted.Goals as goal
 

@@ -1,6 +1,5 @@
 -- Chains with the same bounds cover the same numbers, and a set has one chain.
-use Rattle.std.proofs.Common.{◌≡◌, ℕ, map, ap, sym, arith}
-use Rattle.std.proofs.lemmas.Bool.Decides.{nat_tests}
+use Rattle.rpki_chains.proofs.Imports.{ap, arith, map, sym, ℕ, ◌≡◌, nat_tests}
 use Rattle.std.specs.Bool.{Decides, one_answer}
 use Rattle.std.specs.Cmp.Lexicographic.{pointwise_decides}
 use Rattle.rpki_chains.specs.Equality.{is_same_pair}

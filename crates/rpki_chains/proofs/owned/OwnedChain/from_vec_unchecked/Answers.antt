@@ -1,6 +1,5 @@
 -- Memory is held for blocks alone.
-use Rattle.std.proofs.Common.{length, ap, arith}
-use Rattle.std.proofs.lemmas.Bool.Decides.{nat_tests}
+use Rattle.rpki_chains.proofs.Imports.{ap, arith, length, nat_tests}
 use Rattle.rpki_chains.proofs.owned.OwnedChain.from_vec_unchecked.Goals as goal
 
 pub invariant_of-result : goal.invariant_of-result

@@ -1,13 +1,9 @@
 -- The columns that a line names.
-use Rattle.std.proofs.Common.{◌≡◌, ℕ, suc, ◌+◌, ◌-◌, ◌<◌, Bool, true, false, List, [], inl, inr, refl, sym, ap, subst, ◌∙◌, arith}
+use Rattle.payload_texts.proofs.Common.{Bool, List, [], ap, arith, false, inl, inr, refl, subst, suc, sym, true, ℕ, ◌+◌, ◌-◌, ◌<◌, ◌∙◌, ◌≡◌, after_first, IsColumn, IsHeader, Names, field, is_comma, Columns}
 use borrow.Author.Tests.{ltb-true, ltb-false}
 use Rattle.std.specs.Prelude.{nat_lt}
-use Rattle.std.specs.List.{after_first}
-use Rattle.payload_texts.specs.Columns.{IsColumn, IsHeader, Names}
-use Rattle.payload_texts.specs.Fields.{field, is_comma}
 use Rattle.payload_texts.specs.declared.columns.Column.{Column}
 use Rattle.payload_texts.specs.declared.columns.Column.TheVariants.{Asn, Prefix, MaxLen}
-use Rattle.payload_texts.specs.declared.columns.Columns.{Columns}
 use Rattle.payload_texts.proofs.FieldLemmas.{field_empty}
 
 -- an empty text is no column's name
@@ -32,14 +28,15 @@ looked_none column line = record {
 }
 
 -- the next field is the first of the rest
-here : (column : Column) (line rest : List ℕ) (commas : ℕ) → AreLooked column line rest commas → field commas line ≡ field 0 rest
+here : (column : Column) (line rest : List ℕ) (commas : ℕ) → AreLooked column line rest commas
+    → field commas line ≡ field 0 rest
 here column line rest commas had =
     let none_more : commas + 0 ≡ commas = omega arith in
     ap (λ n. field n line) (sym none_more) ∙ had.same 0
 
 -- one field more, which isn't the column's name
-pub looked_more : (column : Column) (line rest : List ℕ) (commas : ℕ) → AreLooked column line rest commas → ¬ Names column (field 0 rest)
-    → AreLooked column line (after_first is_comma rest) (commas + 1)
+pub looked_more : (column : Column) (line rest : List ℕ) (commas : ℕ) → AreLooked column line rest commas
+    → ¬ Names column (field 0 rest) → AreLooked column line (after_first is_comma rest) (commas + 1)
 looked_more column line rest commas had other = record {
   same = λ n.
       let one_more : commas + 1 + n ≡ commas + suc n = omega arith in
@@ -55,14 +52,16 @@ looked_more column line rest commas had other = record {
         λ named. other (subst (Names column) (ap (λ n. field n line) last ∙ here column line rest commas had) named)
 
 -- one field more, which is
-pub looked_found : (column : Column) (line rest : List ℕ) (commas : ℕ) → AreLooked column line rest commas → Names column (field 0 rest) → IsColumn column line commas
+pub looked_found : (column : Column) (line rest : List ℕ) (commas : ℕ) → AreLooked column line rest commas
+    → Names column (field 0 rest) → IsColumn column line commas
 looked_found column line rest commas had named = record {
   named = subst (Names column) (sym (here column line rest commas had)) named;
   first = had.none;
 }
 
 -- nothing is left
-pub looked_all : (column : Column) (line rest : List ℕ) (commas : ℕ) → AreLooked column line rest commas → rest ≡ [] → (n : ℕ) → ¬ Names column (field n line)
+pub looked_all : (column : Column) (line rest : List ℕ) (commas : ℕ) → AreLooked column line rest commas → rest ≡ []
+    → (n : ℕ) → ¬ Names column (field n line)
 looked_all column line rest commas had end n = by_test (nat_lt n commas) refl where
   by_test : (test : Bool) → nat_lt n commas ≡ test → ¬ Names column (field n line)
   by_test true is = had.none n (ltb-true _ _ is)

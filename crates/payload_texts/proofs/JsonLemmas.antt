@@ -1,15 +1,6 @@
 -- A text of JSON is one object or none; what it writes is one list of payloads, or one fault.
-use Rattle.std.proofs.Common.{◌≡◌, ◌≢◌, ◌⊎◌, inl, inr, ℕ, List, [], ◌∷◌, Option, Some, None, option_and_then, refl, sym, ap, ◌∙◌, subst, arith}
-use Rattle.json.specs.Token.{Token}
-use Rattle.json.specs.Json.{Json, Items, Members, Parse, array, boolean, document, if_last, null, number, object, parse_map, string, value, value_with}
+use Rattle.payload_texts.proofs.Common.{List, None, Option, Some, [], ap, arith, inl, inr, option_and_then, refl, subst, sym, ℕ, ◌∙◌, ◌∷◌, ◌≡◌, ◌≢◌, ◌⊎◌, value-begin_object, value_is, Items, Json, Members, Parse, array, boolean, document, if_last, null, number, object, parse_map, string, value, value_with, Token, MaxLenValue, AreItems, HaveWrongItem, HasJsonFault, HaveRoasFault, IsJsonFile, IsJsonObject, WriteRoas, roas, values_in, FileFault, Item, Line, NoPayload, NotObject, Roas}
 use Rattle.json.specs.Lex.{tokens}
-use Rattle.json.proofs.Grammar.{value-begin_object, value_is}
-use Rattle.rpki_prefix.specs.MaxLen.{MaxLenValue}
-use Rattle.payload_texts.specs.Items.{AreItems, HaveWrongItem}
-use Rattle.payload_texts.specs.JsonFiles.{HasJsonFault, HaveRoasFault, IsJsonFile, IsJsonObject, WriteRoas, roas}
-use Rattle.payload_texts.specs.Members.{values_in}
-use Rattle.payload_texts.specs.declared.fault.FileFault.{FileFault}
-use Rattle.payload_texts.specs.declared.fault.FileFault.TheVariants.{Line, NoPayload, NotObject, Roas, Item}
 use Rattle.payload_texts.proofs.GrammarLemmas.{members_in}
 use Rattle.payload_texts.proofs.ItemLemmas.{items_apart, items_one, wrong_item_one}
 use Rattle.payload_texts.proofs.MemberLemmas.{wrong_apart, wrong_one}
@@ -22,7 +13,8 @@ abbrev whole : List Token → Option Json
 whole ts = option_and_then (λ p. if_last p.0 p.1) (value 128 ts)
 
 -- an object's members, then the end
-pub object_read : (ts : List Token) (ms : Members) → members_in 127 ts ≡ Some (ms, []) → whole (Token.begin_object ∷ ts) ≡ Some (object ms)
+pub object_read : (ts : List Token) (ms : Members) → members_in 127 ts ≡ Some (ms, [])
+    → whole (Token.begin_object ∷ ts) ≡ Some (object ms)
 object_read ts ms e = ap (option_and_then (λ p. if_last p.0 p.1)) (value-begin_object 128 ts (omega arith) ∙ ap (parse_map object) e)
 
 abbrev IsObject : Option Json → Type 0
@@ -35,12 +27,14 @@ IsObject (Some (array js)) = ⊥
 IsObject (Some (object ms)) = Unit {0}
 
 -- it is none where the members are wrong, or something follows
-pub members_wrong : (ts : List Token) → members_in 127 ts ≡ None → (ms : Members) → whole (Token.begin_object ∷ ts) ≢ Some (object ms)
+pub members_wrong : (ts : List Token) → members_in 127 ts ≡ None → (ms : Members)
+    → whole (Token.begin_object ∷ ts) ≢ Some (object ms)
 members_wrong ts e ms is =
     let none = ap (option_and_then (λ p. if_last p.0 p.1)) (value-begin_object 128 ts (omega arith) ∙ ap (parse_map object) e) in
     subst IsObject (sym (sym none ∙ is)) tt
 
-pub more_follows : (ts rest : List Token) (t : Token) (all : Members) → members_in 127 ts ≡ Some (all, t ∷ rest) → (ms : Members) → whole (Token.begin_object ∷ ts) ≢ Some (object ms)
+pub more_follows : (ts rest : List Token) (t : Token) (all : Members) → members_in 127 ts ≡ Some (all, t ∷ rest)
+    → (ms : Members) → whole (Token.begin_object ∷ ts) ≢ Some (object ms)
 more_follows ts rest t all e ms is =
     let none = ap (option_and_then (λ p. if_last p.0 p.1)) (value-begin_object 128 ts (omega arith) ∙ ap (parse_map object) e) in
     subst IsObject (sym (sym none ∙ is)) tt
@@ -55,7 +49,8 @@ no_other : (j : Json) (ts : List Token) → (IsObject (Some j) → ⊥) → IsOb
 no_other j [] none h = none h
 no_other j (t ∷ ts) none h = h
 
-none_begins : (a : Parse Items) (o : Parse Members) (ts : List Token) → ((r : List Token) → ts ≢ Token.begin_object ∷ r) → IsObject (option_and_then (λ p. if_last p.0 p.1) (value_with a o ts)) → ⊥
+none_begins : (a : Parse Items) (o : Parse Members) (ts : List Token) → ((r : List Token) → ts ≢ Token.begin_object ∷ r)
+    → IsObject (option_and_then (λ p. if_last p.0 p.1) (value_with a o ts)) → ⊥
 none_begins a o [] none h = h
 none_begins a o (Token.begin_object ∷ ts) none h = none ts refl
 none_begins a o (Token.end_object ∷ ts) none h = h
@@ -68,7 +63,8 @@ none_begins a o (Token.boolean b ∷ ts) none h = no_other (boolean b) ts (λ k.
 none_begins a o (Token.null ∷ ts) none h = no_other null ts (λ k. k) h
 none_begins a o (Token.bad ∷ ts) none h = h
 
-pub no_object : (ts : List Token) → ((r : List Token) → ts ≢ Token.begin_object ∷ r) → (ms : Members) → whole ts ≢ Some (object ms)
+pub no_object : (ts : List Token) → ((r : List Token) → ts ≢ Token.begin_object ∷ r) → (ms : Members)
+    → whole ts ≢ Some (object ms)
 no_object ts none ms is =
     none_begins _ _ ts none (subst (λ z. IsObject (option_and_then (λ p. if_last p.0 p.1) z)) (value_is 128 ts) (subst IsObject (sym is) tt))
 
@@ -78,13 +74,16 @@ module _ (text : List ℕ) (ts : List Token) (are : ts ≡ tokens text) where
   pub none_in : ((r : List Token) → ts ≢ Token.begin_object ∷ r) → (ms : Members) → document text ≢ Some (object ms)
   none_in none ms e = no_object ts none ms (ap whole are ∙ e)
 
-  pub wrong_in : (r : List Token) → ts ≡ Token.begin_object ∷ r → members_in 127 r ≡ None → (ms : Members) → document text ≢ Some (object ms)
+  pub wrong_in : (r : List Token) → ts ≡ Token.begin_object ∷ r → members_in 127 r ≡ None → (ms : Members)
+      → document text ≢ Some (object ms)
   wrong_in r opens wrong ms e = members_wrong r wrong ms (ap whole (sym opens ∙ are) ∙ e)
 
-  pub more_in : (r rest now : List Token) (t : Token) (all : Members) → ts ≡ Token.begin_object ∷ r → members_in 127 r ≡ Some (all, now) → now ≡ t ∷ rest → (ms : Members) → document text ≢ Some (object ms)
+  pub more_in : (r rest now : List Token) (t : Token) (all : Members) → ts ≡ Token.begin_object ∷ r
+      → members_in 127 r ≡ Some (all, now) → now ≡ t ∷ rest → (ms : Members) → document text ≢ Some (object ms)
   more_in r rest now t all opens read more ms e = more_follows r rest t all (read ∙ ap (λ z. Some (all, z)) more) ms (ap whole (sym opens ∙ are) ∙ e)
 
-  pub object_in : (r now : List Token) (ms : Members) → ts ≡ Token.begin_object ∷ r → members_in 127 r ≡ Some (ms, now) → now ≡ [] → document text ≡ Some (object ms)
+  pub object_in : (r now : List Token) (ms : Members) → ts ≡ Token.begin_object ∷ r → members_in 127 r ≡ Some (ms, now)
+      → now ≡ [] → document text ≡ Some (object ms)
   object_in r now ms opens read end = ap whole (sym are ∙ opens) ∙ object_read r ms (read ∙ ap (λ z. Some (ms, z)) end)
 
 -- ---- the text's object is one
@@ -138,18 +137,11 @@ module _ (values : List Json) where
       wrong_item_one 1 items (Item n wrong) (Item m other) h (subst (λ z. HaveWrongItem 1 z (Item m other)) (array_one others items iz is) k)
 
 module _ (text : List ℕ) where
-  -- what is told of the member is so in the text
-  pub fault_in : (ms : Members) (f : FileFault) → IsJsonObject text ms → HaveRoasFault (values_in roas ms) f → HasJsonFault text f
-  fault_in ms (Line n wrong) is h = h
-  fault_in ms NoPayload is h = absurd h
-  fault_in ms NotObject is h = absurd h
-  fault_in ms (Roas wrong) is h = (ms, is, h)
-  fault_in ms (Item n wrong) is h = (ms, is, h)
-
   -- the ways in which a text is wrong
   faults : (f : FileFault) → HasJsonFault text f
       → (((ms : Members) → ¬ IsJsonObject text ms) × (f ≡ NotObject))
-      ⊎ ((ms : Members) × IsJsonObject text ms × ((WriteRoas (values_in roas ms) [] × (f ≡ NoPayload)) ⊎ HaveRoasFault (values_in roas ms) f))
+      ⊎ ((ms : Members) × IsJsonObject text ms
+      × ((WriteRoas (values_in roas ms) [] × (f ≡ NoPayload)) ⊎ HaveRoasFault (values_in roas ms) f))
   faults (Line n wrong) h = absurd h
   faults NoPayload (ms, is, h) = inr (ms, is, inl (h, refl))
   faults NotObject h = inl (h, refl)
@@ -162,12 +154,14 @@ module _ (text : List ℕ) where
   pub json_apart : (a : Payloads) (f : FileFault) → IsJsonFile text a → HasJsonFault text f → ⊥
   json_apart a f ((ms, is, h), some) wrong = by_fault (faults f wrong) where
     by_fault : (((ms : Members) → ¬ IsJsonObject text ms) × (f ≡ NotObject))
-        ⊎ ((ms : Members) × IsJsonObject text ms × ((WriteRoas (values_in roas ms) [] × (f ≡ NoPayload)) ⊎ HaveRoasFault (values_in roas ms) f)) → ⊥
+        ⊎ ((ms : Members) × IsJsonObject text ms
+        × ((WriteRoas (values_in roas ms) [] × (f ≡ NoPayload)) ⊎ HaveRoasFault (values_in roas ms) f)) → ⊥
     by_fault (inl k) = k.0 ms is
     by_fault (inr (ns, iz, inl k)) = some (write_one (values_in roas ms) a [] h (subst (λ z. WriteRoas (values_in roas z) []) (object_one text ns ms iz is) k.0))
     by_fault (inr (ns, iz, inr k)) = write_apart (values_in roas ms) a f h (subst (λ z. HaveRoasFault (values_in roas z) f) (object_one text ns ms iz is) k)
 
-  roas_ways : (values : List Json) (d e : FileFault) → (WriteRoas values [] × (d ≡ NoPayload)) ⊎ HaveRoasFault values d → (WriteRoas values [] × (e ≡ NoPayload)) ⊎ HaveRoasFault values e → d ≡ e
+  roas_ways : (values : List Json) (d e : FileFault) → (WriteRoas values [] × (d ≡ NoPayload)) ⊎ HaveRoasFault values d
+      → (WriteRoas values [] × (e ≡ NoPayload)) ⊎ HaveRoasFault values e → d ≡ e
   roas_ways values d e (inl h) (inl k) = h.1 ∙ sym k.1
   roas_ways values d e (inl h) (inr k) = absurd (write_apart values [] e h.0 k)
   roas_ways values d e (inr h) (inl k) = absurd (write_apart values [] d k.0 h)
@@ -176,9 +170,11 @@ module _ (text : List ℕ) where
   pub json_fault_one : (d e : FileFault) → HasJsonFault text d → HasJsonFault text e → d ≡ e
   json_fault_one d e h k = by_faults (faults d h) (faults e k) where
     by_faults : (((ms : Members) → ¬ IsJsonObject text ms) × (d ≡ NotObject))
-        ⊎ ((ms : Members) × IsJsonObject text ms × ((WriteRoas (values_in roas ms) [] × (d ≡ NoPayload)) ⊎ HaveRoasFault (values_in roas ms) d))
+        ⊎ ((ms : Members) × IsJsonObject text ms
+        × ((WriteRoas (values_in roas ms) [] × (d ≡ NoPayload)) ⊎ HaveRoasFault (values_in roas ms) d))
         → (((ms : Members) → ¬ IsJsonObject text ms) × (e ≡ NotObject))
-        ⊎ ((ms : Members) × IsJsonObject text ms × ((WriteRoas (values_in roas ms) [] × (e ≡ NoPayload)) ⊎ HaveRoasFault (values_in roas ms) e)) → d ≡ e
+        ⊎ ((ms : Members) × IsJsonObject text ms
+        × ((WriteRoas (values_in roas ms) [] × (e ≡ NoPayload)) ⊎ HaveRoasFault (values_in roas ms) e)) → d ≡ e
     by_faults (inl one) (inl other) = one.1 ∙ sym other.1
     by_faults (inl one) (inr (ns, iz, _)) = absurd (one.0 ns iz)
     by_faults (inr (ms, is, _)) (inl other) = absurd (other.0 ms is)

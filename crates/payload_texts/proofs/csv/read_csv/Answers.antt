@@ -1,7 +1,4 @@
-use Rattle.std.proofs.Common.{length, refl, sym, ap, ◌∙◌, arith}
-use Rattle.std.proofs.lemmas.Bool.{eqb-true, eqb-false}
-use Rattle.std.proofs.lemmas.List.{nil_from_length}
-use Rattle.payload_texts.specs.declared.row.Row.TheVariants.{Header, Payload}
+use Rattle.payload_texts.proofs.Common.{ap, arith, length, refl, sym, ◌∙◌, eqb-false, eqb-true, nil_from_length, Header, Payload}
 use Rattle.payload_texts.proofs.CsvLemmas.{read_more, read_no_payload, read_over, read_some, read_wrong}
 use Rattle.payload_texts.proofs.csv.read_csv.Goals as goal
 

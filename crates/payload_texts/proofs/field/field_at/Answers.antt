@@ -1,7 +1,4 @@
-use Rattle.std.proofs.Common.{◌≡◌, ap, subst, ◌∙◌, arith}
-use Rattle.std.specs.List.{before_first}
-use Rattle.std.specs.Str.{trim}
-use Rattle.payload_texts.specs.Fields.{behind, is_comma, unquoted}
+use Rattle.payload_texts.proofs.Common.{ap, arith, subst, ◌∙◌, ◌≡◌, before_first, trim, behind, is_comma, unquoted}
 use Rattle.payload_texts.proofs.field.field_at.Goals as goal
 
 -- no comma is left to pass

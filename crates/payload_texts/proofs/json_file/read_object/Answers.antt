@@ -1,6 +1,4 @@
-use Rattle.std.proofs.Common.{◌≡◌, None, true, false, arith}
-use Rattle.std.proofs.lemmas.Bool.{MatchBool-at_false, MatchBool-at_true}
-use Rattle.json.specs.Reads.{token_of}
+use Rattle.payload_texts.proofs.Common.{None, arith, false, true, ◌≡◌, MatchBool-at_false, MatchBool-at_true, token_of}
 use Rattle.payload_texts.proofs.GrammarLemmas.{members_in}
 use Rattle.payload_texts.proofs.JsonLemmas.{more_in, none_in, object_in, wrong_in}
 use Rattle.payload_texts.proofs.json_file.read_object.Goals as goal

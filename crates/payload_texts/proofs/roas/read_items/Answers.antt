@@ -1,7 +1,4 @@
-use Rattle.std.proofs.Common.{◌≡◌, ◌<◌, [], ◌∷◌, ◌++◌, length, None, ap, ◌∙◌, arith}
-use Rattle.json.specs.Json.{after_end_array, item, parse_map, value}
-use Rattle.json.specs.Value.{value_view}
-use Rattle.json.proofs.Grammar.{left_none}
+use Rattle.payload_texts.proofs.Common.{None, [], ap, arith, length, ◌++◌, ◌<◌, ◌∙◌, ◌∷◌, ◌≡◌, left_none, after_end_array, item, parse_map, value, value_view}
 use Rattle.payload_texts.proofs.GrammarLemmas.{an_item, bad_item}
 use Rattle.payload_texts.proofs.RoasLemmas.{read_all, read_more, read_wrong}
 use Rattle.payload_texts.proofs.roas.read_items.Goals as goal

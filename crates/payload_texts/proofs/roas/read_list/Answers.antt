@@ -1,8 +1,4 @@
-use Rattle.std.proofs.Common.{◌≡◌, ◌∷◌, [], ap, ◌∙◌, arith}
-use Rattle.json.specs.Token.{Token}
-use Rattle.json.specs.Json.{value}
-use Rattle.json.specs.Reads.{token_of}
-use Rattle.json.proofs.Grammar.{value_is}
+use Rattle.payload_texts.proofs.Common.{[], ap, arith, ◌∙◌, ◌∷◌, ◌≡◌, value_is, value, token_of, Token}
 use Rattle.payload_texts.proofs.RoasLemmas.{array_fails, array_read, object_fails, object_passed, scalar_passed}
 use Rattle.payload_texts.proofs.roas.read_list.Goals as goal
 
@@ -23,7 +19,8 @@ returns-in-BeginArray-clause-invalid g c invalid =
     let opened : c.args.reader.now ≡ Token.begin_array ∷ c.next.new.self = first ∙ ap (λ k. token_of k ∷ c.next.new.self) c.in-BeginArray.is in
     array_fails c.args.depth c.requires _ c.next.new.self opened (c.read_items.ensures.invalid invalid)
 
-pub returns-in_err-skip_members-in-BeginObject-clause-invalid : goal.returns-in_err-skip_members-in-BeginObject-clause-invalid
+pub returns-in_err-skip_members-in-BeginObject-clause-invalid :
+    goal.returns-in_err-skip_members-in-BeginObject-clause-invalid
 returns-in_err-skip_members-in-BeginObject-clause-invalid g c invalid =
     let first : c.args.reader.now ≡ token_of c.in_ok-token.token ∷ c.next.new.self = grind arith in
     let opened : c.args.reader.now ≡ Token.begin_object ∷ c.next.new.self = first ∙ ap (λ k. token_of k ∷ c.next.new.self) c.in-BeginObject.is in

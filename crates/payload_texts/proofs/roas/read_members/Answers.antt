@@ -1,9 +1,4 @@
-use Rattle.std.proofs.Common.{◌≡◌, Some, None, false, true, sym, ◌∙◌, arith}
-use Rattle.std.proofs.lemmas.Bool.{false≢true}
-use Rattle.std.specs.Str.{bytes_eq}
-use Rattle.json.specs.Json.{read_key, value}
-use Rattle.json.proofs.Grammar.{left_none, read_key-shorter}
-use Rattle.payload_texts.specs.JsonFiles.{roas}
+use Rattle.payload_texts.proofs.Common.{None, Some, arith, false, sym, true, ◌∙◌, ◌≡◌, false≢true, bytes_eq, left_none, read_key-shorter, read_key, value, roas}
 use Rattle.payload_texts.proofs.GrammarLemmas.{bad_key, bad_member}
 use Rattle.payload_texts.proofs.RoasLemmas.{told_again, told_all, told_first, told_over}
 use Rattle.payload_texts.proofs.roas.read_members.Goals as goal

@@ -1,7 +1,4 @@
-use Rattle.std.proofs.Common.{◌≡◌, ◌<◌, length, None, ap, ◌∙◌, arith}
-use Rattle.json.specs.Json.{after_end_array}
-use Rattle.json.specs.Reads.{skip_items}
-use Rattle.json.proofs.Grammar.{left, left_none}
+use Rattle.payload_texts.proofs.Common.{None, ap, arith, length, ◌<◌, ◌∙◌, ◌≡◌, left, left_none, after_end_array, skip_items}
 use Rattle.payload_texts.proofs.GrammarLemmas.{bad_item, left_item, no_item}
 use Rattle.payload_texts.proofs.roas.skip_items.Goals as goal
 

@@ -1,7 +1,4 @@
-use Rattle.std.proofs.Common.{◌≡◌, Some, None, ap, ◌∙◌, arith}
-use Rattle.json.specs.Json.{read_key}
-use Rattle.json.specs.Reads.{skip_members}
-use Rattle.json.proofs.Grammar.{left, left_none, read_key-shorter}
+use Rattle.payload_texts.proofs.Common.{None, Some, ap, arith, ◌∙◌, ◌≡◌, left, left_none, read_key-shorter, read_key, skip_members}
 use Rattle.payload_texts.proofs.GrammarLemmas.{bad_key, bad_member, left_member, no_member}
 use Rattle.payload_texts.proofs.roas.skip_members.Goals as goal
 

@@ -1,6 +1,4 @@
-use Rattle.std.proofs.Common.{length, sym, ◌∙◌}
-use Rattle.std.proofs.lemmas.Bool.{eqb-true}
-use Rattle.std.proofs.lemmas.List.{nil_from_length}
+use Rattle.payload_texts.proofs.Common.{length, sym, ◌∙◌, eqb-true, nil_from_length}
 use Rattle.payload_texts.proofs.ColumnLemmas.{looked_all}
 use Rattle.payload_texts.proofs.columns.Column.place.Goals as goal
 

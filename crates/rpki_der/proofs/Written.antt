@@ -1,5 +1,5 @@
 -- What is written is a value, and values are spelled by the conditions of X.690.
-use Rattle.rpki_der.proofs.Common.{List, ap, arith, length, refl, ℕ, ◌++◌, ◌<◌, ◌^◌, ◌∷◌, ◌≡◌, lt-ltb, Bits, IsBitString, IsBits, IsBytes, IsLength, IsTag, IsU32, IsValue, bit_string_value, header, length_octets, u32_value, value}
+use Rattle.rpki_der.proofs.Common.{List, arith, length, refl, ℕ, ◌++◌, ◌<◌, ◌^◌, ◌∷◌, ◌≡◌, lt-ltb, Bits, IsBitString, IsBits, IsBytes, IsLength, IsTag, IsU32, IsValue, bit_string_value, header, length_octets, u32_value, value}
 use Rattle.rpki_der.proofs.Contents.{length-integer}
 use Rattle.rpki_der.proofs.Lengths.{length_spelled, spelled_length}
 
@@ -25,9 +25,7 @@ length-header tag n lt = rw (lt-ltb n 128 lt) (omega arith)
 pub value_spelled : (tag : ℕ) (len content : List ℕ) → IsTag tag → IsBytes len → IsLength len (length content)
     → IsValue (tag ∷ (len ++ content)) tag content
 unfolding header
-value_spelled tag len content has_tag fits is =
-    let spelled = length_spelled len (length content) fits is in
-    record { has_tag = has_tag; short = spelled.1; spelled = ap (λ (x : List ℕ). tag ∷ (x ++ content)) spelled.0 }
+value_spelled tag len content has_tag fits is = grind (arith, length_spelled)
 
 -- and each value is such
 pub spelled_value : (bytes : List ℕ) (tag : ℕ) (content : List ℕ) → IsValue bytes tag content

@@ -22,10 +22,7 @@ IsAsAnd-rest text rest other h k = same_rest h.letters k.letters rest other (IsA
 
 -- `a` in either case is no digit
 letter_is_no_digit : (b : ℕ) → to_ascii_lowercase b ≡ 97 → 58 ≤ b
-letter_is_no_digit b letter = let is = lowercase_is b in elim (cases_lt b 58) [
-  | inl l ↦ absurd (omega (arith, is.1 (omega arith)))
-  | inr h ↦ h
-]
+letter_is_no_digit b letter = grind (arith, cases_lt, lowercase_is)
 
 -- so no number text begins with it
 first_of_number : (b : ℕ) (more : List ℕ) (n : ℕ) → IsNumberText (2 ^ 32 - 1) (b ∷ more) n → to_ascii_lowercase b ≡ 97
@@ -50,8 +47,7 @@ IsAsAnd-no_number text rest n h k =
 
 -- a number behind `as` is the text's
 to_text : (text rest : List ℕ) (n : ℕ) → IsAfterAs text rest → IsNumberText (2 ^ 32 - 1) rest n → IsAsnText text n
-to_text text rest n (inl h) k = record { letters = h.letters; digits = rest; split = h.split; prefix = inr h.lower; number = k }
-to_text text rest n (inr h) k = record { letters = []; digits = rest; split = sym h.0; prefix = inl refl; number = k }
+to_text text rest n h k = grind (arith)
 
 -- an AS number text with letters begins with them
 as_and : (text : List ℕ) (n : ℕ) (k : IsAsnText text n) → str_to_ascii_lowercase k.letters ≡ codes "as"

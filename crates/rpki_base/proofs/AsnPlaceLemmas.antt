@@ -12,17 +12,11 @@ digits_are_bytes (c ∷ cs) h = let range = digit_from_value c h.0 in ((range.0,
 -- digits are a number text
 digits_are_number : (ds : List ℕ) (n : ℕ) → 0 < length ds → AllDigits 10 ds → digits_value 10 ds ≡ n → n < 2 ^ 32
     → IsNumberText (2 ^ 32 - 1) ds n
-digits_are_number ds n some all value small =
-    let first = digit_at ds 0 all some in
-    let whole = without_leading_plus_none ds (λ e. omega (arith, e, first.0)) in
-    record { digits = rw whole (some, all); value = rw whole value; within = omega (arith, small) }
+digits_are_number ds n some all value small = grind (arith, digit_at, without_leading_plus_none)
 
 -- letters in either case are `as`
 letters_are : (x y : ℕ) → (x ≡ 65) ⊎ (x ≡ 97) → (y ≡ 83) ⊎ (y ≡ 115) → str_to_ascii_lowercase (x ∷ y ∷ []) ≡ codes "as"
-letters_are x y (inl e) (inl f) = rw (e, f) refl
-letters_are x y (inl e) (inr f) = rw (e, f) refl
-letters_are x y (inr e) (inl f) = rw (e, f) refl
-letters_are x y (inr e) (inr f) = rw (e, f) refl
+letters_are x y h h2 = grind (arith)
 
 letter_bytes : (x y : ℕ) (ds : List ℕ) → (x ≡ 65) ⊎ (x ≡ 97) → (y ≡ 83) ⊎ (y ≡ 115)
     → AllByRecursion (IsInRange 48 122) ds → AllByRecursion (IsInRange 48 122) (x ∷ y ∷ ds)
@@ -79,10 +73,7 @@ asn_between start end text n h = elim h.letters [
 
 -- the letters end at one place
 same_letters : (start a b : ℕ) (text : List ℕ) → IsAfterLetters start a text → IsAfterLetters start b text → a ≡ b
-same_letters start a b text (inl h) (inl k) = omega (arith, h.0, k.0)
-same_letters start a b text (inl h) (inr k) = absurd (h.1 k.1)
-same_letters start a b text (inr h) (inl k) = absurd (k.1 h.1)
-same_letters start a b text (inr h) (inr k) = omega (arith, h.0, k.0)
+same_letters start a b text h h2 = grind (arith)
 
 -- where all digits were read, no others reach further
 no_further : (start end other : ℕ) (text : List ℕ) (n m : ℕ) → AreDigitsFrom start end text n
@@ -101,13 +92,7 @@ no_further start end other text n m h k further =
 -- so they end at one place
 same_end : (start end other : ℕ) (text : List ℕ) (n m : ℕ) → AreDigitsFrom start end text n
     → AreDigitsFrom start other text m → end ≡ other
-same_end start end other text n m h k = elim (cases_lt end other) [
-  | inl less ↦ absurd (no_further start end other text n m h k less)
-  | inr least ↦ elim (cases_lt other end) [
-    | inl less ↦ absurd (no_further start other end text m n k h less)
-    | inr most ↦ omega (arith, least, most)
-  ]
-]
+same_end start end other text n m h k = grind (arith, cases_lt, no_further)
 
 -- and write one number
 same_value : (start end other : ℕ) (text : List ℕ) (n m : ℕ) → AreDigitsFrom start end text n

@@ -1,5 +1,5 @@
 -- What the proofs of this crate use of std, of the crates below and of its own definitions, passed on by one name.
-pub use Rattle.std.proofs.Common.{Bool, Contains, Err, IsTrue, List, None, Ok, Option, Result, Some, [], add-one, ap, append_assoc, ap₂, arith, codes, cond, decimal, drop, eqb, false, get_or, inl, inr, is_ok, le-ltb, length, length-drop, lit≤, lt-ltb, ltb, option_map, refl, set, subst, suc, sym, take, true, vec_len, zero, ℕ, ◌&&◌, ◌++◌, ◌+◌, ◌-◌, ◌<◌, ◌^◌, ◌↔◌, ◌∙◌, ◌∷◌, ◌≡◌, ◌≢◌, ◌≤◌, ◌⊎◌}
+pub use Rattle.std.proofs.Common.{Bool, Contains, Err, IsTrue, List, None, Ok, Option, Result, Some, [], add-one, ap, append_assoc, ap₂, arith, codes, cond, decimal, drop, eqb, false, get_or, inl, inr, is_ok, le-ltb, length, length-drop, lit≤, lt-ltb, ltb, refl, set, subst, suc, sym, take, true, vec_len, zero, ℕ, ◌&&◌, ◌++◌, ◌+◌, ◌-◌, ◌<◌, ◌^◌, ◌↔◌, ◌∙◌, ◌∷◌, ◌≡◌, ◌≢◌, ◌≤◌, ◌⊎◌}
 pub use Rattle.std.proofs.Math.Seq.{take-append_seam, take-length}
 pub use Rattle.std.proofs.lemmas.Bool.{and_parts, cases_eq, cases_lt, eq-eqb, eqb-false, eqb-true, ne_eqb}
 pub use Rattle.std.proofs.lemmas.Fmt.{decimal_is_IsNumeral, length-decimal-le}
@@ -20,7 +20,7 @@ pub use Rattle.rpki_der.proofs.Steps.{IsCheck, bind_ok, ok_is, ok_or_err, passed
 pub use Rattle.rpki_der.proofs.Written.{u32_is, value_is}
 pub use Rattle.rpki_der.specs.Der.{Each, EachFrom, Front, IsBytes, IsSequence, IsTlv, IsValue, OneFront, Refines, Tlv, octets, sequence_value}
 unfoldable pub use Rattle.rpki_der.specs.Der.{header, length_octets}
-pub use Rattle.rpki_der.specs.Reading.{Gives, IsModal, IsReading, Tightens, bit_string_at, bit_string_by, each, ended, is_padded, passing, ◌>>=◌}
+pub use Rattle.rpki_der.specs.Reading.{Gives, IsModal, IsReading, Tightens, bit_string_at, bit_string_by, each, ended, passing, ◌>>=◌}
 unfoldable pub use Rattle.rpki_der.specs.Reading.{bits, bits_by, each_from, length_at, long_length_at, nothing, optional, refined, tagged_at, unsigned, value_at}
 pub use Rattle.rpki_der.specs.Views.{Lenient, ReadsOptional, Takes, is_strict, left}
 pub use Rattle.rpki_der.specs.declared.cursor.Cursor.{Cursor}

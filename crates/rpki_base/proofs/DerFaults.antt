@@ -38,9 +38,7 @@ refined_names n reading check first second bytes = search (bind_names, first, se
 
 pub value_names : (bytes : List ℕ) → NamesTo 3 (value_at bytes)
 unfolding value_at length_at long_length_at
-value_names [] = omega arith
-value_names (tag ∷ []) = search (arith, cond_names, bind_names)
-value_names (tag ∷ first ∷ bytes) = search (arith, cond_names, bind_names) depth 9
+value_names bytes = grind (arith, bind_names, cond_names)
 
 pub tagged_names : (tag : ℕ) (bytes : List ℕ) → NamesTo 3 (tagged_at tag bytes)
 unfolding tagged_at
@@ -73,8 +71,7 @@ bits_names (unused ∷ octets) = search (arith, cond_names)
 
 pub nothing_names : (content : List ℕ) → NamesTo 6 (nothing content)
 unfolding nothing
-nothing_names [] = tt
-nothing_names (b ∷ bytes) = omega arith
+nothing_names content = grind (arith)
 
 pub ended_names : (bytes : List ℕ) → NamesTo 7 (ended bytes)
 ended_names bytes = search (arith, cond_names)
@@ -127,8 +124,7 @@ cond_fails b x d e r ok is = grind arith
 -- the fault of what is named otherwise
 pub mapped_fails : {A B : Type 0} (r : Result A DerError) (f : A → B) (e : DerError)
     → ((r >>= λ x. Ok (f x)) ≡ Err e) ↔ (r ≡ Err e)
-mapped_fails (Ok x) f e = ((λ is. absurd cc), (λ is. absurd cc))
-mapped_fails (Err d) f e = ((λ is. cc), (λ is. cc))
+mapped_fails r f e = grind (arith)
 
 -- the end of a content isn't looked at before what is found in it
 ended_fails : {A : Type 0} (y : A) (bytes : List ℕ) (e : DerError) → 7 < fault_number e
@@ -160,10 +156,7 @@ pub tagged_fails : {X : Type 0} (tag : ℕ) (check : List ℕ → Result X DerEr
     → (bytes : List ℕ)
     → (refined (tagged_at tag) check bytes ≡ Err e) ↔ BeginsWithValue tag (λ content. check content ≡ Err e) bytes
 unfolding refined
-tagged_fails tag check e above bytes = (
-  (λ is. let a = bind_fails (tagged_at tag bytes) _ e (not_named 3 _ e (tagged_names tag bytes) above) is in (a.0, a.1, (mapped_fails (check a.0.0) _ e).0 a.2)),
-  (λ (v, found, fails). rw (found, fails) refl),
-)
+tagged_fails tag check e above bytes = grind (arith, bind_fails, mapped_fails, not_named, tagged_names)
 
 -- a value that encloses one
 pub enclosed_fails : {X : Type 0} (tag : ℕ) (reading : List ℕ → Result (X × List ℕ) DerError) (e : DerError)
@@ -205,8 +198,7 @@ sequence_fails {X} tag one two e apart above never bytes = (
 pub no_values : {X : Type 0} (reading : List ℕ → Result (X × List ℕ) DerError) (content : List ℕ)
     → (values_of reading content ≡ Ok []) ↔ (content ≡ [])
 unfolding values_from each_from
-no_values reading [] = ((λ is. refl), (λ is. refl))
-no_values reading (b ∷ bytes) = ((λ is. grind arith), (λ none. absurd cc))
+no_values reading content = grind (arith)
 
 -- ---- the same of what is found
 

@@ -1,5 +1,5 @@
 -- Readings from readings: of one of two tags, of two values, of values that are passed over, and of sequences.
-use Rattle.rpki_base.proofs.Common.{Bool, Err, List, Ok, Result, [], ap, arith, cond, eqb, false, inl, inr, length, refl, subst, sym, true, ℕ, ◌++◌, ◌∙◌, ◌≡◌, ◌≢◌, eq-eqb, eqb-true, ne_eqb, append-nil, nil_from_length, HasOctets, each_again, each_takes, fits_content, fits_rest, one_front, refined_reading, tagged_reading, value_reading, IsCheck, bind_ok, ok_is, passed_true, EachFrom, IsBytes, IsSequence, IsTlv, IsValue, OneFront, Refines, Tlv, IsReading, ended, refined, tagged_at, value_at, ◌>>=◌, DerError, BadTag, TrailingData, Encloses, IsSequenceFrom, SaysByTag, SaysPair, Skips, by_tag, enclosed_at, only, pair_in, sequence_from, skipping, values_from}
+use Rattle.rpki_base.proofs.Common.{Bool, Err, List, Ok, Result, [], ap, arith, cond, eqb, length, refl, subst, sym, ℕ, ◌++◌, ◌∙◌, ◌≡◌, ◌≢◌, eq-eqb, eqb-true, ne_eqb, append-nil, nil_from_length, HasOctets, each_again, each_takes, fits_content, fits_rest, one_front, refined_reading, tagged_reading, value_reading, IsCheck, bind_ok, ok_is, passed_true, EachFrom, IsBytes, IsSequence, IsTlv, IsValue, OneFront, Refines, Tlv, IsReading, ended, refined, tagged_at, value_at, ◌>>=◌, DerError, BadTag, TrailingData, Encloses, IsSequenceFrom, SaysByTag, SaysPair, Skips, by_tag, enclosed_at, only, pair_in, sequence_from, skipping, values_from}
 
 -- ---- passed over
 
@@ -13,10 +13,7 @@ skips_reading G reading is = refined_reading G (λ x u. Unit {0}) (λ x. Unit {0
 -- what a content says, under another name
 pub mapped_check : {W X Y : Type 0} (Fits : W → Type 0) (C : W → X → Type 0) (check : W → Result X DerError) (f : X → Y)
     → IsCheck Fits C check → IsCheck Fits (λ w y. (x : X) × C w x × (y ≡ f x)) (λ w. check w >>= λ x. Ok (f x))
-mapped_check Fits C check f is = record {
-  takes = λ w y fits e. let a = bind_ok (check w) (λ x. Ok (f x)) y e in (a.0, is.takes w a.0 fits a.1, sym (ok_is (f a.0) y a.2));
-  again = λ w y (x, says, named). rw (is.again w x says, named) refl;
-}
+mapped_check Fits C check f is = grind (arith, bind_ok, ok_is)
 
 -- ---- one of two tags
 
@@ -25,22 +22,14 @@ by_tag_says : {X : Type 0} (tag : ℕ) (One Two : List ℕ → X → Type 0) (on
     → IsCheck IsBytes One one → IsCheck IsBytes Two two → (v : Tlv) (x : X) → IsBytes v.content → (first second : Bool)
     → eqb v.tag tag ≡ first → eqb v.tag 48 ≡ second
     → cond first (one v.content) (cond second (two v.content) (Err BadTag)) ≡ Ok x → SaysByTag tag One Two v x
-by_tag_says tag One Two one two is also v x fits true second t s e = inl (eqb-true v.tag tag t, is.takes v.content x fits e)
-by_tag_says tag One Two one two is also v x fits false true t s e = inr (eqb-true v.tag 48 s, also.takes v.content x fits e)
-by_tag_says tag One Two one two is also v x fits false false t s e = absurd cc
+by_tag_says tag One Two one two is also v x fits first second t s e = grind (arith, eqb-true)
 
 -- the two together
 by_tag_check : {X : Type 0} (tag : ℕ) (One Two : List ℕ → X → Type 0) (one two : List ℕ → Result X DerError) → tag ≢ 48
     → IsCheck IsBytes One one → IsCheck IsBytes Two two
     → IsCheck (λ v. IsBytes v.content) (SaysByTag tag One Two) (by_tag tag one two)
 unfolding by_tag
-by_tag_check tag One Two one two apart is also = record {
-  takes = λ v x fits e. by_tag_says tag One Two one two is also v x fits (eqb v.tag tag) (eqb v.tag 48) refl refl e;
-  again = λ v x. elim [
-    | inl (t, says) ↦ rw (eq-eqb v.tag tag t, is.again v.content x says) refl
-    | inr (s, says) ↦ rw (ne_eqb v.tag tag (λ t. apart (sym t ∙ s)), eq-eqb v.tag 48 s, also.again v.content x says) refl
-  ];
-}
+by_tag_check tag One Two one two apart is also = grind (arith, by_tag_says, eq-eqb, ne_eqb)
 
 -- a value of a tag, or a SEQUENCE, each by its rule for the content
 pub by_tag_reading : {X : Type 0} (tag : ℕ) (One Two : List ℕ → X → Type 0) (one two : List ℕ → Result X DerError)
@@ -122,10 +111,7 @@ pub values_check : {S X : Type 0} (next : S → X → S) (G : S → List ℕ →
     → ((state : S) → HasOctets (G state)) → (state : S)
     → IsCheck IsBytes (EachFrom next G state) (values_from next reading state)
 unfolding values_from
-values_check next G reading is has state = record {
-  takes = λ content xs fits e. each_takes next G reading is (length content) state content xs fits e;
-  again = λ content xs all. each_again next G reading is has xs (length content) state content (omega arith) all;
-}
+values_check next G reading is has state = grind (arith, each_again, each_takes)
 
 -- a SEQUENCE of values
 pub sequence_reading : {S X : Type 0} (next : S → X → S) (G : S → List ℕ → X → Type 0)

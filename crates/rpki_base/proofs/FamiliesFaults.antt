@@ -1,6 +1,6 @@
 -- Families are refused for none at all exactly where none are there, and for one that is there twice exactly where it
 -- stands behind members that were read, of which one has it.
-use Rattle.rpki_base.proofs.Common.{Bool, Err, List, Ok, Result, [], ap, arith, cond, eqb, false, inl, length, refl, suc, sym, true, zero, ℕ, ◌<◌, ◌↔◌, ◌∙◌, ◌∷◌, ◌≡◌, ◌≢◌, ◌≤◌, ne_eqb, bind_ok, ok_is, passed, ended, refined, tagged_at, ◌>>=◌, DerError, DuplicateFamily, NoFamily, BeginsEmpty, BeginsWithAll, BeginsWithValue, ByFamily, claims_among, families_at, families_in, member_at, member_in, members_by, members_in, none_found, seen, was_seen, with_claim, family_at, AddressFamily}
+use Rattle.rpki_base.proofs.Common.{Bool, Err, List, Ok, Result, [], ap, arith, cond, false, inl, length, refl, suc, sym, true, zero, ℕ, ◌<◌, ◌↔◌, ◌∙◌, ◌∷◌, ◌≡◌, ◌≢◌, ◌≤◌, ne_eqb, bind_ok, ok_is, passed, ended, refined, tagged_at, ◌>>=◌, DerError, DuplicateFamily, NoFamily, BeginsEmpty, BeginsWithAll, BeginsWithValue, ByFamily, claims_among, families_at, families_in, member_at, member_in, members_by, members_in, none_found, seen, was_seen, with_claim, family_at, AddressFamily}
 use Rattle.std.specs.Prelude.{◌⊎◌}
 use Rattle.rpki_base.proofs.DerFaults.{NamesTo, begins_value, bind_fails, bind_names, cond_names, ended_names, names_more, not_named, refined_names, tagged_fails, tagged_names, tagged_shorter}
 use Rattle.rpki_base.proofs.FamilyLemmas.{family_names}
@@ -36,9 +36,7 @@ module _ {X : Type 0} (claim_at : AddressFamily → List ℕ → Result (X × Li
 
   families_in_names : (content : List ℕ) → NamesTo 13 (families_in claim_at content)
   unfolding families_in
-  families_in_names content =
-      let members = members_in claim_at (length content) none_found content in
-      cond_names 13 (eqb (length content) 0) (Err NoFamily) members (omega arith) (names_more 12 13 members (omega arith) (members_names (length content) none_found content))
+  families_in_names content = grind (arith, cond_names, members_names, names_more)
 
   -- up to NoFamily
   pub families_names : (bytes : List ℕ) → NamesTo 13 (families_at claim_at bytes)

@@ -1,15 +1,12 @@
 -- The loop over the members: what was found, and what is left, give the whole.
-use Rattle.rpki_base.proofs.Common.{Bool, Err, List, None, Ok, Option, Result, Some, [], ap, arith, length, refl, subst, suc, sym, zero, ℕ, ◌<◌, ◌∙◌, ◌∷◌, ◌≡◌, ◌≢◌, ◌≤◌, is_some, shorter, IsBytes, IsSequence, Refines, IsReading, DerError, IfRefused, OrMemory, Memory, Refused, ByFamily, SaysByFamily, SaysOption, SaysClaim, member_at, members_by, seen, with_claim, AddressFamily, Ipv4, Ipv6}
+use Rattle.rpki_base.proofs.Common.{Bool, Err, List, Ok, Option, Result, [], ap, arith, length, refl, sym, ℕ, ◌<◌, ◌∙◌, ◌∷◌, ◌≡◌, ◌≢◌, ◌≤◌, is_some, shorter, IsBytes, IsSequence, Refines, IsReading, DerError, IfRefused, OrMemory, Memory, Refused, ByFamily, SaysByFamily, SaysOption, SaysClaim, member_at, members_by, seen, with_claim, AddressFamily}
 use Rattle.rpki_base.proofs.FamiliesGathering.{member_has_octets}
 use Rattle.rpki_base.proofs.FamiliesMembers.{SaysNew, member_reading}
 
 module _ {X Y : Type 0} (C : Y → X → Type 0) where
   -- what stands for something is something
   both_some : (y : Option Y) (x : Option X) → SaysOption C y x → is_some y ≡ is_some x
-  both_some None None says = refl
-  both_some None (Some x) says = absurd says
-  both_some (Some y) None says = absurd says
-  both_some (Some y) (Some x) says = refl
+  both_some y x says = grind (arith)
 
   -- so the same families were there
   pub same_seen : (before : ByFamily Y) (found : ByFamily X) → SaysByFamily C before found → seen before ≡ seen found
@@ -18,8 +15,7 @@ module _ {X Y : Type 0} (C : Y → X → Type 0) where
   -- one claim more on both sides
   pub with_says : (before : ByFamily Y) (found : ByFamily X) (family : AddressFamily) (y : Y) (x : X)
       → SaysByFamily C before found → C y x → SaysByFamily C (with_claim before family y) (with_claim found family x)
-  with_says before found Ipv4 y x says c = (c, says.1)
-  with_says before found Ipv6 y x says c = (says.0, c)
+  with_says before found family y x says c = grind (arith)
 
 module _ {X Y : Type 0} (member_of : Bool × Bool → List ℕ → Result ((AddressFamily × Y) × List ℕ) DerError) (C : Y → X → Type 0) where
   -- what was found stands for what was read before, and this and what is left give the whole
@@ -37,16 +33,8 @@ module _ {X Y : Type 0} (member_of : Bool × Bool → List ℕ → Result ((Addr
       → member_of (seen found) (b ∷ bytes) ≡ Ok (read, rest) → SaysClaim C read member
       → length rest < length (b ∷ bytes) → SoFar (with_claim found member.0 member.1) rest total
   unfolding members_by
-  more_by zero before found b bytes total read member rest says enough whole at claim fewer = absurd (omega arith)
-  more_by (suc steps) before found b bytes total read member rest says enough whole at claim fewer =
-      let taken : member_of (seen before) (b ∷ bytes) ≡ Ok (read, rest) = ap (λ s. member_of s (b ∷ bytes)) (same_seen C before found says) ∙ at in
-      let both = with_says C before found read.0 read.1 member.1 says claim.1 in record {
-        before = with_claim before read.0 read.1;
-        says = subst (λ (f : AddressFamily). SaysByFamily C (with_claim before read.0 read.1) (with_claim found f member.1)) claim.0 both;
-        steps = steps;
-        enough = omega arith;
-        whole = rw taken at whole;
-      }
+  more_by steps before found b bytes total read member rest says enough whole at claim fewer =
+      grind (arith, same_seen, with_says)
 
   -- a turn that reads a member
   pub loop_more : (found : ByFamily X) (bytes : List ℕ) (total : Result (ByFamily Y) DerError)
@@ -59,8 +47,7 @@ module _ {X Y : Type 0} (member_of : Bool × Bool → List ℕ → Result ((Addr
   -- at the end nothing more is read
   ends_by : (steps : ℕ) (before : ByFamily Y) → members_by member_of steps before [] ≡ Ok before
   unfolding members_by
-  ends_by zero before = refl
-  ends_by (suc steps) before = refl
+  ends_by steps before = grind (arith)
 
   -- at the end of the octets what was found is all
   pub loop_ends : (found : ByFamily X) (bytes : List ℕ) (total : Result (ByFamily Y) DerError) → SoFar found bytes total
@@ -71,8 +58,7 @@ module _ {X Y : Type 0} (member_of : Bool × Bool → List ℕ → Result ((Addr
   fails_by : (steps : ℕ) (before : ByFamily Y) (b : ℕ) (bytes : List ℕ) (e : DerError) → length (b ∷ bytes) ≤ steps
       → member_of (seen before) (b ∷ bytes) ≡ Err e → members_by member_of steps before (b ∷ bytes) ≡ Err e
   unfolding members_by
-  fails_by zero before b bytes e enough read = absurd (omega arith)
-  fails_by (suc steps) before b bytes e enough read = rw read refl
+  fails_by steps before b bytes e enough read = grind (arith)
 
   -- a turn that fails is what the whole fails with
   loop_fails : (found : ByFamily X) (bytes : List ℕ) (total : Result (ByFamily Y) DerError) (e : DerError)

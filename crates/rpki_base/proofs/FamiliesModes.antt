@@ -118,8 +118,7 @@ module _ {X : Type 0} (S : AddressFamily → List ℕ → X → Type 0) (claim_a
   -- behind IPv6 nothing stands
   nothing_behind : (v4 : Option X) (y : X) (member : AddressFamily × X) (content : List ℕ)
       → SaysNext S (seen (v4, Some y)) content member → ⊥
-  nothing_behind v4 y (Ipv4, x) content (says, new, ordered) = cc
-  nothing_behind v4 y (Ipv6, x) content (says, new, ordered) = cc
+  nothing_behind v4 y member content h = grind (arith)
 
   behind_v6 : (steps : ℕ) (v4 : Option X) (y : X) (bytes : List ℕ) (fs : ByFamily X) → IsBytes bytes
       → members_by (member_by true claim_at) steps (v4, Some y) bytes ≡ Ok fs → (bytes ≡ []) × ((v4, Some y) ≡ fs)

@@ -1,5 +1,5 @@
 -- On the host bits of addresses: the bits after a prefix's length.
-use Rattle.rpki_prefix.proofs.Common.{arith, bit_and, bit_or, lit≤, refl, ℕ, ◌+◌, ◌-◌, ◌<◌, ◌^◌, ◌∙◌, ◌≡◌, ◌≤◌, clear_host, set_host, IpAddr, V4, V6, IsRelaxedPrefixOf, address_number, cleared_addr, width}
+use Rattle.rpki_prefix.proofs.Common.{arith, bit_and, bit_or, ℕ, ◌+◌, ◌-◌, ◌<◌, ◌^◌, ◌∙◌, ◌≡◌, ◌≤◌, clear_host, set_host, IpAddr, IsRelaxedPrefixOf, address_number, cleared_addr, width}
 use Rattle.rpki_addr.specs.Bits.{cleared}
 use Rattle.rpki_addr.proofs.PrefixNumbers.{cleared_prefix, cleared_holds}
 
@@ -15,10 +15,8 @@ filled_by w n len m r mask is = omega (arith, is, set_host (w - len) n m mask)
 -- the address with its host bits cleared is a prefix's, and that prefix holds the address
 pub relaxed_prefix : (a : IpAddr) (len : ℕ) → len ≤ width a → address_number a < 2 ^ width a
     → IsRelaxedPrefixOf a len (record { addr = cleared_addr a len; len = len })
-relaxed_prefix (V4 n) len short below = record { same_bits = refl; same_len = refl; is_prefix = cleared_prefix 32 n len short below; holds = cleared_holds 32 n len }
-relaxed_prefix (V6 n) len short below = record { same_bits = refl; same_len = refl; is_prefix = cleared_prefix 128 n len short below; holds = cleared_holds 128 n len }
+relaxed_prefix a len short below = grind (arith, cleared_holds, cleared_prefix)
 
 -- no address has more than 128 bits
 pub few_bits : (a : IpAddr) → width a ≤ 128
-few_bits (V4 n) = lit≤ tt
-few_bits (V6 n) = lit≤ tt
+few_bits a = grind (arith)

@@ -1,5 +1,5 @@
 -- The walk through a range finds its cover list.
-use Rattle.rpki_cover.proofs.Common.{List, [], ap, arith, inl, inr, leb, refl, subst, suc, zero, ℕ, ◌+◌, ◌-◌, ◌<◌, ◌^◌, ◌∙◌, ◌∷◌, ◌≡◌, ◌≤◌, ◌⊎◌, cases_Bool, cases_order, leb-false, leb-true, pow_below, pow_pos, IsIn, IsMaximal, IsParent, IsPrefix, LiesIn, PrefixValue, Ascends, cover_list, cover_list_upto, free_bits_upto}
+use Rattle.rpki_cover.proofs.Common.{List, [], ap, arith, inl, inr, leb, refl, subst, suc, zero, ℕ, ◌+◌, ◌-◌, ◌<◌, ◌^◌, ◌∷◌, ◌≡◌, ◌≤◌, ◌⊎◌, cases_Bool, cases_order, leb-false, leb-true, pow_below, pow_pos, IsIn, IsMaximal, IsParent, IsPrefix, LiesIn, PrefixValue, Ascends, cover_list, cover_list_upto, free_bits_upto}
 use Rattle.rpki_cover.proofs.Multiples.{multiple_mod, nested, Nested}
 use Rattle.rpki_cover.proofs.Greatest.{Fits, IsGreatest, free_bits_upto_is}
 use Rattle.rpki_cover.proofs.Membership.{In, all_of}
@@ -14,20 +14,11 @@ pub record CoverOf (w : ℕ) (S : ℕ → Type 0) (ps : List PrefixValue) : Type
 
 -- nothing is inside no numbers
 pub cover_none : (w : ℕ) (S : ℕ → Type 0) → ((n : ℕ) → S n → ⊥) → CoverOf w S []
-cover_none w S none = record {
-  ascending = tt;
-  sound = λ p i. absurd i;
-  complete = λ p m. none p.first (m.inside p.first (first_in w p));
-  nests = λ q is i. absurd (none q.first (i q.first (first_in w q)));
-}
+cover_none w S none = grind (arith, first_in)
 
 -- prefixes with the same first number and length are the same
 pub same_prefix : (p q : PrefixValue) → p.first ≡ q.first → p.len ≡ q.len → p ≡ q
-same_prefix p q e f =
-    let g : PrefixValue = record { first = q.first; len = p.len } in
-    let l : p ≡ record { first = q.first; len = p.len } = ap (λ (x : ℕ). let r : PrefixValue = record { first = x; len = p.len } in r) e in
-    let r : record { first = q.first; len = p.len } ≡ q = ap (λ (x : ℕ). let r : PrefixValue = record { first = q.first; len = x } in r) f in
-    l ∙ r
+same_prefix p q e f = grind (arith)
 
 -- the prefix of the 2 ^ k numbers from a on
 abbrev pub head_prefix : ℕ → ℕ → ℕ → PrefixValue
@@ -40,11 +31,7 @@ module _ (w a b k : ℕ) (order : a ≤ b) (below : b < 2 ^ w) (g : IsGreatest w
 
   -- it is a prefix, inside the range, and its parent isn't
   head_is_prefix : IsPrefix w (head_prefix w a k)
-  head_is_prefix = record {
-    short = omega arith;
-    aligned = rw size_is (multiple_mod (2 ^ k) a (pow_pos k) g.fits.aligned);
-    below = omega arith;
-  }
+  head_is_prefix = grind (arith, multiple_mod, pow_pos, size_is)
 
   head_within : Within w (head_prefix w a k) a b
   head_within = record { from = omega arith; upto = rw size_is g.fits.within }

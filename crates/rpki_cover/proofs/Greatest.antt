@@ -52,6 +52,4 @@ free_bits_is w a b h = free_bits_upto_is w a b h
 
 -- there is one
 pub same_greatest : (w a b j k : ℕ) → IsGreatest w a b j → IsGreatest w a b k → j ≡ k
-same_greatest w a b j k m n =
-    let p : j ≤ k = n.greatest j m.upto m.fits in
-    let q : k ≤ j = m.greatest k n.upto n.fits in omega arith
+same_greatest w a b j k m n = grind (arith)

@@ -45,12 +45,7 @@ same_by_number w (r ∷ rs) p q n asc (inr i) (inl f) m l =
 
 -- the prefix of one number
 pub single : (w n : ℕ) → n < 2 ^ w → IsPrefix w (record { first = n; len = w })
-single w n h = record {
-  short = omega arith;
-  aligned = (let e : w - w ≡ 0 = omega arith in let s : 2 ^ (w - w) ≡ 1 = ap (λ i. 2 ^ i) e in
-      rw s (multiple_mod 1 n (omega arith) (record { times = n; is = omega arith })));
-  below = h;
-}
+single w n h = grind (arith, multiple_mod)
 
 module _ (w : ℕ) (S : ℕ → Type 0) (ps : List PrefixValue) (c : CoverOf w S ps) (small : (n : ℕ) → S n → n < 2 ^ w) where
   list_from : IsCoverList w S ps

@@ -1,5 +1,5 @@
 -- A set has one cover list.
-use Rattle.rpki_cover.proofs.Common.{List, [], ap, arith, inl, inr, refl, subst, sym, ℕ, ◌+◌, ◌-◌, ◌<◌, ◌^◌, ◌∷◌, ◌≡◌, ◌≤◌, pow_pos, PrefixValue, Ascends, IsCoverList}
+use Rattle.rpki_cover.proofs.Common.{List, [], arith, inl, inr, refl, subst, sym, ℕ, ◌+◌, ◌-◌, ◌<◌, ◌^◌, ◌∷◌, ◌≡◌, ◌≤◌, pow_pos, PrefixValue, Ascends, IsCoverList}
 use Rattle.rpki_cover.proofs.Membership.{In, in_of, of_in, at_all}
 
 -- later prefixes begin later
@@ -11,16 +11,12 @@ behind w p q ps a i =
 -- the first prefixes are one
 same_heads : (w : ℕ) (p q : PrefixValue) (ps qs : List PrefixValue) → Ascends w (p ∷ ps) → Ascends w (q ∷ qs)
     → In (q ∷ qs) p → In (p ∷ ps) q → p ≡ q
-same_heads w p q ps qs a b (inl e) j = sym e
-same_heads w p q ps qs a b (inr i) (inl e) = e
-same_heads w p q ps qs a b (inr i) (inr j) = absurd (
-    let h : q.first < p.first = behind w q p qs b i in let k : p.first < q.first = behind w p q ps a j in omega arith)
+same_heads w p q ps qs a b h j = grind (arith, behind)
 
 -- what is later in the one is later in the other
 in_tail : (w : ℕ) (p r : PrefixValue) (ps qs : List PrefixValue) → Ascends w (p ∷ ps) → In ps r → In (p ∷ qs) r
     → In qs r
-in_tail w p r ps qs a i (inr j) = j
-in_tail w p r ps qs a i (inl e) = absurd (let h : p.first < r.first = behind w p r ps a i in let k : p.first ≡ r.first = ap (λ (x : PrefixValue). x.first) e in omega arith)
+in_tail w p r ps qs a i h = grind (arith, behind)
 
 -- two ascending lists with the same members are one
 pub same_lists : (w : ℕ) (ps qs : List PrefixValue) → Ascends w ps → Ascends w qs

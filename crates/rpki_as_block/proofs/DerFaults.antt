@@ -1,15 +1,8 @@
 -- Where a range of AS numbers is reversed, and that no fault of lists is one of a block.
-use Rattle.std.proofs.Common.{◌≡◌, ℕ, ◌<◌, ◌↔◌, true, is_ok, ap, ltb, List, Result, Ok, Err, refl, arith}
-use Rattle.std.proofs.lemmas.Bool.{lt-ltb, ltb-true}
-use Rattle.rpki_chains.specs.Ranges.{RangeValue}
-use Rattle.rpki_der.specs.declared.error.DerError.{DerError}
+use Rattle.rpki_as_block.proofs.Common.{Err, List, Ok, Result, ap, arith, is_ok, ltb, refl, true, ℕ, ◌<◌, ◌↔◌, ◌≡◌, lt-ltb, ltb-true, as_number_at, RangeValue, passing, refined, tagged_at, unsigned, value_at, ◌>>=◌, DerError, as_block_at, as_block_by, as_block_of, as_id_in, as_range_block_in, as_range_in, is_new_form, range_of, Id, Range}
 use Rattle.rpki_der.specs.declared.error.DerError.TheVariants.{NotCanonical, ReversedRange}
-use Rattle.rpki_der.specs.Reading.{◌>>=◌, passing, refined, tagged_at, unsigned, value_at}
-use Rattle.rpki_base.specs.AsnDer.{as_number_at}
 use Rattle.rpki_base.specs.DerFaults.{BeginsWithTwo, BeginsWithValue}
 use Rattle.rpki_base.proofs.DerFaults.{NamesTo, begins_two, begins_value, bind_fails, bind_names, by_tag_names, cond_fails, cond_names, mapped_fails, names_more, not_named, pair_fails, pair_names, refined_names, sequence_fails, tagged_names, unsigned_names, value_names}
-use Rattle.rpki_as_block.specs.AsDerReading.{as_block_at, as_block_by, as_block_of, as_id_in, as_range_block_in, as_range_in, is_new_form, range_of}
-use Rattle.rpki_as_block.specs.declared.block.AsBlock.TheVariants.{Id, Range}
 
 -- ---- which faults are named
 
@@ -50,7 +43,8 @@ Less first second = second < first
 abbrev Fails : ℕ → ℕ → Type 0
 Fails first second = range_of first second ≡ Err ReversedRange
 
-pub range_fails : (content : List ℕ) → (as_range_in content ≡ Err ReversedRange) ↔ BeginsWithTwo as_number_at (λ first second. second < first) content
+pub range_fails : (content : List ℕ)
+    → (as_range_in content ≡ Err ReversedRange) ↔ BeginsWithTwo as_number_at (λ first second. second < first) content
 range_fails content =
     let both = pair_fails as_number_at range_of ReversedRange (omega arith) (λ bytes. not_named 4 (as_number_at bytes) ReversedRange (number_names bytes) (omega arith)) content in (
       (λ is. begins_two as_number_at Fails Less (λ first second. (range_of_fails first second).0) content (both.0 is)),
@@ -64,7 +58,9 @@ Reversed = BeginsWithTwo as_number_at (λ first second. second < first)
 abbrev FailsInside : List ℕ → Type 0
 FailsInside content = as_range_block_in content ≡ Err ReversedRange
 
-pub block_fails : (bytes : List ℕ) → (as_block_at bytes ≡ Err ReversedRange) ↔ BeginsWithValue 48 (BeginsWithTwo as_number_at (λ first second. second < first)) bytes
+pub block_fails : (bytes : List ℕ)
+    → (as_block_at bytes ≡ Err ReversedRange)
+    ↔ BeginsWithValue 48 (BeginsWithTwo as_number_at (λ first second. second < first)) bytes
 block_fails bytes =
     let both = sequence_fails 2 as_id_in as_range_block_in ReversedRange (λ e. omega arith) (omega arith) (λ content. not_named 4 (as_id_in content) ReversedRange (id_names content) (omega arith)) bytes in (
       (λ is. begins_value 48 FailsInside Reversed (λ content fails. (range_fails content).0 ((mapped_fails (as_range_in content) Range ReversedRange).0 fails)) bytes (both.0 is)),

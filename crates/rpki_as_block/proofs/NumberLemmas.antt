@@ -1,8 +1,6 @@
 -- Lists of numbers: those of an interval.
-use Rattle.std.proofs.Common.{◌≡◌, ℕ, zero, suc, ◌+◌, ◌-◌, ◌<◌, List, [], ◌∷◌, length, get_or, refl, ap, ◌∙◌, arith, Option, Some, None}
+use Rattle.rpki_as_block.proofs.Common.{List, None, Option, Some, [], ap, arith, get_or, length, refl, suc, zero, ℕ, ◌+◌, ◌-◌, ◌<◌, ◌∙◌, ◌∷◌, ◌≡◌, IsWithin, IsListOf, IsSizeOf, numbers_from, numbers_within}
 use Rattle.std.specs.Iterator.{YieldsFirst, MakesProgress, item_count}
-use Rattle.rpki_chains.specs.Sets.{IsWithin}
-use Rattle.rpki_as_block.specs.Numbers.{IsListOf, IsSizeOf, numbers_from, numbers_within}
 
 -- how many there are
 pub length-numbers_from : (k a : ℕ) → length (numbers_from k a) ≡ k
@@ -62,7 +60,8 @@ IsSizeOf-within b k is = record {
 }
 
 -- an iterator that yields the first of its numbers gets on
-pub makes_progress : (can : List ℕ → Type 0) → ((ns : List ℕ) → can ns) → (o : Option ℕ) (old new : List ℕ) → YieldsFirst (λ (ns : List ℕ). ns) old o new → MakesProgress can (item_count (λ (ns : List ℕ). ns)) old o new
+pub makes_progress : (can : List ℕ → Type 0) → ((ns : List ℕ) → can ns) → (o : Option ℕ) (old new : List ℕ)
+    → YieldsFirst (λ (ns : List ℕ). ns) old o new → MakesProgress can (item_count (λ (ns : List ℕ). ns)) old o new
 makes_progress can may None old new steps = record { on = λ _. tt; keeps = tt; rests = λ _. tt }
 makes_progress can may (Some n) old new steps =
     let shorter = ap length steps in

@@ -1,8 +1,5 @@
 -- What is written is the block, which is read.
-use Rattle.std.proofs.Common.{◌<◌, ◌^◌, arith}
-use Rattle.rpki_as_block.specs.AsDer.{as_block_octets}
-use Rattle.rpki_as_block.specs.AsDerLaws.{as_block_reading}
-use Rattle.rpki_as_block.specs.Blocks.{as_bounds}
+use Rattle.rpki_as_block.proofs.Common.{arith, ◌<◌, ◌^◌, as_block_octets, as_block_reading, as_bounds}
 use Rattle.rpki_as_block.proofs.AsDerLemmas.{block_written}
 use Rattle.rpki_as_block.proofs.block.AsBlock.encode.Goals as goal
 

@@ -1,15 +1,5 @@
 -- What the reading gives is the value of the grammar of the mode.
-use Rattle.std.proofs.Common.{subst, true}
-use Rattle.rpki_base.proofs.DerCursors.{reads_optional_value_by}
-use Rattle.rpki_der.specs.Der.{Spells}
-use Rattle.rpki_der.specs.Reading.{optional}
-use Rattle.rpki_der.specs.Views.{Takes}
-use Rattle.rpki_der.proofs.Modes.{exact_optional_by, refused_optional_by}
-use Rattle.rpki_as_block.specs.AsDer.{IsAsBlock, IsSetBlock, as_block_octets}
-use Rattle.rpki_as_block.specs.AsDerLaws.{as_block_reading}
-use Rattle.rpki_as_block.specs.AsDerModes.{IsStrictBlock}
-use Rattle.rpki_as_block.specs.AsDerModeLaws.{as_block_modal}
-use Rattle.rpki_as_block.specs.AsDerReading.{as_block_at, as_block_by}
+use Rattle.rpki_as_block.proofs.Common.{subst, true, reads_optional_value_by, exact_optional_by, refused_optional_by, Spells, optional, Takes, IsAsBlock, IsSetBlock, as_block_octets, as_block_reading, as_block_modal, IsStrictBlock, as_block_at, as_block_by}
 use Rattle.rpki_as_block.proofs.AsDerLemmas.{block_back, set_block_reading}
 use Rattle.rpki_as_block.proofs.block.AsBlock.take_opt_from.Goals as goal
 

@@ -1,10 +1,7 @@
 -- The order of the two numbers decides.
-use Rattle.std.proofs.Common.{◌≡◌, ltb, true, false, refl, arith}
-use Rattle.std.proofs.lemmas.Bool.{lt-ltb, le-ltb}
+use Rattle.rpki_as_block.proofs.Common.{arith, false, ltb, refl, true, ◌≡◌, le-ltb, lt-ltb, err_from_is_err_and, range_of}
 use Rattle.std.proofs.lemmas.Grind.{common_steps}
-use Rattle.std.proofs.lemmas.Result.{err_from_is_err_and}
 use Rattle.rpki_base.specs.DerReading.{pair_in}
-use Rattle.rpki_as_block.specs.AsDerReading.{range_of}
 use Rattle.rpki_as_block.proofs.der.block.range_within.Goals as goal
 
 pub returns-then-gt : goal.returns-then-gt

@@ -1,6 +1,4 @@
-use Rattle.std.proofs.Common.{arith, ◌≡◌, ◌<◌, ◌∷◌, sym, ap, ◌∙◌}
-use Rattle.std.proofs.lemmas.Bool.Decides.{nat_tests}
-use Rattle.rpki_as_block.specs.Numbers.{numbers_within, numbers_left}
+use Rattle.rpki_as_block.proofs.Common.{ap, arith, sym, ◌<◌, ◌∙◌, ◌∷◌, ◌≡◌, nat_tests, numbers_left, numbers_within}
 use Rattle.rpki_as_block.proofs.NumberLemmas.{numbers_within-cons, numbers_within-one, makes_progress}
 use Rattle.rpki_as_block.proofs.iter.AsBlockIterIterator.next.Goals as goal
 use Rattle.rpki_as_block.proofs.iter.AsBlockIterIterator.next.Goals.{then-lt, else-lt}

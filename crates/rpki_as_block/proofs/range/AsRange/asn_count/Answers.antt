@@ -1,5 +1,4 @@
-use Rattle.std.proofs.Common.{arith, ap}
-use Rattle.rpki_chains.specs.Ranges.{RangeValue}
+use Rattle.rpki_as_block.proofs.Common.{ap, arith, RangeValue}
 use Rattle.rpki_as_block.proofs.NumberLemmas.{IsSizeOf-within}
 use Rattle.rpki_as_block.proofs.range.AsRange.asn_count.Goals as goal
 

@@ -1,5 +1,5 @@
 -- On texts cut at a byte: a text without the byte isn't cut, and a text is cut in one way.
-use Rattle.rpki_text.proofs.Common.{List, [], arith, length, refl, subst, suc, sym, ℕ, ◌++◌, ◌∙◌, ◌∷◌, ◌≡◌}
+use Rattle.rpki_text.proofs.Common.{List, [], arith, length, refl, subst, suc, ℕ, ◌++◌, ◌∷◌, ◌≡◌}
 use Rattle.rpki_text.specs.Cuts.{HasNo, IsCutAt, Around}
 
 byte_apart : (b : ℕ) (left right : List ℕ) → HasNo b (left ++ b ∷ right) → ⊥
@@ -27,9 +27,7 @@ one_cut b (x ∷ left) right (y ∷ before) after h k e =
 -- what stands round the first b of a text holds of every cut at it
 pub around_at : (b : ℕ) (text left right : List ℕ) (P : List ℕ → List ℕ → Type 0) → IsCutAt b text left right
     → Around b text P → P left right
-around_at b text left right P cut h =
-    let same = one_cut b h.left h.right left right h.cut.first cut.first (sym h.cut.split ∙ cut.split) in
-    subst (λ l. P l right) same.0 (subst (λ r. P h.left r) same.1 h.holds)
+around_at b text left right P cut h = grind (arith, one_cut)
 
 -- fronts of one length leave the same rest
 pub same_rest : (xs ys rest other : List ℕ) → length xs ≡ length ys → xs ++ rest ≡ ys ++ other → rest ≡ other

@@ -1,62 +1,26 @@
 -- The first line of a text.
-use Rattle.rpki_text.proofs.Common.{Bool, List, None, Some, [], arith, cond, drop, false, length, not, refl, suc, take, true, ℕ, ◌+◌, ◌-◌, ◌<◌, ◌∷◌, ◌≡◌, ◌≤◌, take-length, onto_first, position, position_or_len}
+use Rattle.rpki_text.proofs.Common.{List, None, Some, [], arith, drop, length, take, ℕ, ◌+◌, ◌-◌, ◌<◌, ◌∷◌, ◌≡◌, ◌≤◌, take-length, position, position_or_len}
 use Rattle.std.proofs.lemmas.List.{length-drop}
 use borrow.Author.Tests.{ltb-true, ltb-false}
-use Rattle.std.specs.Prelude.{nat_lt}
 use Rattle.rpki_text.specs.Lines.{is_end, lines_of}
 
 -- the text up to its first 0a, and then the lines behind it
 cut : (text : List ℕ) → position_or_len is_end text < length text
     → lines_of text ≡ take (position_or_len is_end text) text ∷ lines_of (drop (position_or_len is_end text + 1) text)
 cut [] found = absurd (omega arith)
-cut (b ∷ bs) found = by_test (is_end b) found (cut bs) where
-  by_test : (test : Bool) → cond (not test) (1 + position_or_len is_end bs) 0 < length (b ∷ bs)
-      → (position_or_len is_end bs < length bs
-      → lines_of bs ≡ take (position_or_len is_end bs) bs ∷ lines_of (drop (position_or_len is_end bs + 1) bs))
-      → cond test ([] ∷ lines_of bs) (onto_first b (lines_of bs))
-      ≡ take (cond (not test) (1 + position_or_len is_end bs) 0) (b ∷ bs)
-      ∷ lines_of (drop (cond (not test) (1 + position_or_len is_end bs) 0 + 1) (b ∷ bs))
-  by_test true short others = refl
-  by_test false short others =
-      let p = position_or_len is_end bs in
-      let below : p < length bs = omega arith in
-      let twice : 1 + p + 1 ≡ suc (p + 1) = omega arith in
-      let once : 1 + p ≡ suc p = omega arith in
-      rw (twice, once, others below) refl
+cut (b ∷ bs) found = grind (arith, cut bs)
 
 -- where there is no 0a, the text is one line
 whole : (b : ℕ) (text : List ℕ) → length (b ∷ text) ≤ position_or_len is_end (b ∷ text)
     → lines_of (b ∷ text) ≡ (b ∷ text) ∷ []
-whole b [] none = by_test (is_end b) none where
-  by_test : (test : Bool) → 1 ≤ cond (not test) (1 + 0) 0 → cond test ([] ∷ []) ((b ∷ []) ∷ []) ≡ (b ∷ []) ∷ []
-  by_test true wrong = absurd (omega arith)
-  by_test false right = refl
-whole b (d ∷ text) none = by_test (is_end b) none (whole d text) where
-  by_test : (test : Bool) → length (b ∷ d ∷ text) ≤ cond (not test) (1 + position_or_len is_end (d ∷ text)) 0
-      → (length (d ∷ text) ≤ position_or_len is_end (d ∷ text) → lines_of (d ∷ text) ≡ (d ∷ text) ∷ [])
-      → cond test ([] ∷ lines_of (d ∷ text)) (onto_first b (lines_of (d ∷ text))) ≡ (b ∷ d ∷ text) ∷ []
-  by_test true wrong others = absurd (omega arith)
-  by_test false right others =
-      let more : length (d ∷ text) ≤ position_or_len is_end (d ∷ text) = omega arith in
-      rw (others more) refl
+whole b [] none = grind (arith)
+whole b (d ∷ text) none = grind (arith, whole d text)
 
 -- where `position` answered, at its answer
 pub first_line : (text : List ℕ) (at : ℕ) → position is_end text ≡ Some at
     → lines_of text ≡ take at text ∷ lines_of (take (length text - (at + 1)) (drop (at + 1) text))
-first_line text at found = by_test (nat_lt (position_or_len is_end text) (length text)) refl found where
-  by_test : (test : Bool) → nat_lt (position_or_len is_end text) (length text) ≡ test
-      → cond test (Some (position_or_len is_end text)) None ≡ Some at
-      → lines_of text ≡ take at text ∷ lines_of (take (length text - (at + 1)) (drop (at + 1) text))
-  by_test true below is =
-      let here : position_or_len is_end text ≡ at = cc in
-      let all : take (length text - (at + 1)) (drop (at + 1) text) ≡ drop (at + 1) text = rw (← length-drop (at + 1) text) (take-length (drop (at + 1) text)) in
-      rw (all, ← here) (cut text (ltb-true _ _ below))
-  by_test false above is = cc
+first_line text at found = grind (arith, cut, length-drop, ltb-true, take-length)
 
 pub only_line : (text : List ℕ) → 0 < length text → position is_end text ≡ None → lines_of text ≡ text ∷ []
 only_line [] some none = absurd (omega arith)
-only_line (b ∷ text) some none = by_test (nat_lt (position_or_len is_end (b ∷ text)) (length (b ∷ text))) refl none where
-  by_test : (test : Bool) → nat_lt (position_or_len is_end (b ∷ text)) (length (b ∷ text)) ≡ test
-      → cond test (Some (position_or_len is_end (b ∷ text))) None ≡ None → lines_of (b ∷ text) ≡ (b ∷ text) ∷ []
-  by_test true below is = cc
-  by_test false above is = whole b text (ltb-false _ _ above)
+only_line (b ∷ text) some none = grind (arith, ltb-false, whole)

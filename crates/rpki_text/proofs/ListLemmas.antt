@@ -1,28 +1,13 @@
 -- Texts of lists: their elements one by one, and their one list of values or first fault.
-use Rattle.rpki_text.proofs.Common.{Bool, Err, List, MatchResult, Ok, Result, [], add-one, ap, arith, cond, drop, eqb, false, get_or, length, ltb, refl, subst, sym, take, true, ℕ, ◌++◌, ◌+◌, ◌<◌, ◌∙◌, ◌∷◌, ◌≡◌, drop-cons, lt-ltb, take-append-drop, slice_split, trim, HasFirstFault, HaveValues, comma, elements, kept, AnswersOrMemory}
+use Rattle.rpki_text.proofs.Common.{Bool, List, MatchResult, Result, [], add-one, ap, arith, cond, drop, eqb, get_or, length, ltb, refl, subst, sym, take, true, ℕ, ◌++◌, ◌+◌, ◌<◌, ◌∙◌, ◌∷◌, ◌≡◌, drop-cons, lt-ltb, take-append-drop, slice_split, trim, HasFirstFault, HaveValues, comma, elements, kept, AnswersOrMemory}
 use Rattle.rpki_text.specs.declared.memory.OrMemory.{OrMemory}
-use Rattle.rpki_text.specs.declared.memory.OrMemory.TheVariants.{Refused, Memory}
 use Rattle.rpki_text.specs.Memory.{IfRefused}
 
 -- an answer that is right decides a reader that may want memory, where there is one value or one fault at most
 module _ {A V E : Type 0} (view : V → A) (Has : A → Type 0) (Fails : E → Type 0) (one : (a b : A) → Has a → Has b → a ≡ b) (apart : (a : A) (e : E) → Has a → Fails e → ⊥) (same : (d e : E) → Fails d → Fails e → d ≡ e) where
   pub AnswersOrMemory-from_found : (r : Result V (OrMemory E)) → MatchResult r (λ v. Has (view v)) (IfRefused Fails)
       → AnswersOrMemory view Has Fails r
-  AnswersOrMemory-from_found (Ok v) found = record {
-    found = found;
-    each_value = λ a h. one (view v) a found h;
-    each_fault = λ e f. apart (view v) e found f;
-  }
-  AnswersOrMemory-from_found (Err (Refused d)) found = record {
-    found = found;
-    each_value = λ a h. apart a d h found;
-    each_fault = λ e f. same d e found f;
-  }
-  AnswersOrMemory-from_found (Err (Memory d)) found = record {
-    found = tt;
-    each_value = λ a h. tt;
-    each_fault = λ e f. tt;
-  }
+  AnswersOrMemory-from_found r found = grind (arith)
 
 module _ {A : Type 0} (Has : List ℕ → A → Type 0) where
   -- two lists in a row
@@ -88,8 +73,7 @@ module _ {A : Type 0} (Has : List ℕ → A → Type 0) where
 -- a first part that is kept or not, before two lists
 cond-append : (b : Bool) (t : List ℕ) (whole front back : List (List ℕ)) → whole ≡ front ++ back
     → cond b (t ∷ whole) whole ≡ cond b (t ∷ front) front ++ back
-cond-append true t whole front back e = ap (λ l. t ∷ l) e
-cond-append false t whole front back e = e
+cond-append b t whole front back e = grind (arith)
 
 -- what is kept of two lists of parts
 pub kept-append : (xs ys : List (List ℕ)) → kept (xs ++ ys) ≡ kept xs ++ kept ys
@@ -141,8 +125,7 @@ fault_at Has Fails text i part values e at some before fault = record {
 pub values_more : {A : Type 0} (Has : List ℕ → A → Type 0) (parts : List (List ℕ)) (part : List ℕ) (values : List A)
     (value : A) → HaveValues Has (kept parts) values → (length (trim part) ≡ 0 → ⊥) → Has (trim part) value
     → HaveValues Has (kept (parts ++ part ∷ [])) (values ++ value ∷ [])
-values_more Has parts part values value h some here =
-    rw (kept-append parts (part ∷ []), kept_one part some) (HaveValues-append Has (kept parts) (trim part ∷ []) values (value ∷ []) h (here, tt))
+values_more Has parts part values value h some here = grind (arith, HaveValues-append, kept-append, kept_one)
 
 -- what an element's reader says, in words that follow from it
 module _ {A E : Type 0} (Gives Has : List ℕ → A → Type 0) (Refuses Fails : List ℕ → E → Type 0) (has : (t : List ℕ) (a : A) → Gives t a → Has t a) (fails : (t : List ℕ) (e : E) → Refuses t e → Fails t e) where
@@ -163,6 +146,4 @@ module _ {A E : Type 0} (Gives Has : List ℕ → A → Type 0) (Refuses Fails :
   pub found_weaker : {V : Type 0} (view : V → List A) (texts : List (List ℕ)) (r : Result V (OrMemory E))
       → MatchResult r (λ v. HaveValues Gives texts (view v)) (IfRefused (HasFirstFault Gives Refuses texts))
       → MatchResult r (λ v. HaveValues Has texts (view v)) (IfRefused (HasFirstFault Has Fails texts))
-  found_weaker view texts (Ok v) h = HaveValues-weaker texts (view v) h
-  found_weaker view texts (Err (Refused e)) h = HasFirstFault-weaker texts e h
-  found_weaker view texts (Err (Memory e)) h = tt
+  found_weaker view texts r h = grind (arith, HasFirstFault-weaker, HaveValues-weaker)

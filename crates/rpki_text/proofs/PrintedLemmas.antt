@@ -104,11 +104,7 @@ pub joined_by_loop : {A : Type 0} (show : A → List ℕ) (items : List A) (firs
     → first ≡ get_or items 0 first → length (take (length items - 1) (drop 1 items)) ≤ i
     → show first ++ flat_map (λ b. codes ", " ++ show b) (take i (take (length items - 1) (drop 1 items)))
     ≡ joined (map show items)
-joined_by_loop show [] first i some is end = absurd (omega arith)
-joined_by_loop show (x ∷ xs) first i some is end =
-    let whole : take (length (x ∷ xs) - 1) xs ≡ xs = take_all (length (x ∷ xs) - 1) xs (omega arith) in
-    let all : take i (take (length (x ∷ xs) - 1) xs) ≡ xs = take_all i _ end ∙ whole in
-    rw all (ap (λ f. show f ++ flat_map (λ b. codes ", " ++ show b) xs) is ∙ ap (λ t. show x ++ t) (more_shown show xs))
+joined_by_loop show items first i some is end = grind (arith, more_shown, take_all)
 
 -- one more item of a loop that writes each
 pub written_more : {A : Type 0} (f : A → List ℕ) (xs : List A) (i : ℕ) (item : A) → i < length xs

@@ -1,5 +1,5 @@
 -- Where a text has one value or one fault at most, an answer that is right decides its reader.
-use Rattle.rpki_text.proofs.Common.{Err, Ok, Result, ap, ◌≡◌, Answers}
+use Rattle.rpki_text.proofs.Common.{Err, Ok, Result, arith, ◌≡◌, Answers}
 use Rattle.std.specs.Prelude.{MatchResult}
 
 -- by two answers: those that are right are one
@@ -12,13 +12,4 @@ answers_by_one one r found = record { found = found; each_value = λ a h. one r 
 pub Answers-from_found : {A E : Type 0} {Has : A → Type 0} {Fails : E → Type 0} (r : Result A E)
     → MatchResult r Has Fails → ((a b : A) → Has a → Has b → a ≡ b) → ((a : A) (e : E) → Has a → Fails e → ⊥)
     → ((d e : E) → Fails d → Fails e → d ≡ e) → Answers Has Fails r
-Answers-from_found (Ok x) found one apart same = record {
-  found = found;
-  each_value = λ a h. ap Ok (one x a found h);
-  each_fault = λ e h. absurd (apart x e found h);
-}
-Answers-from_found (Err d) found one apart same = record {
-  found = found;
-  each_value = λ a h. absurd (apart a d h found);
-  each_fault = λ e h. ap Err (same d e found h);
-}
+Answers-from_found r found one apart same = grind (arith)

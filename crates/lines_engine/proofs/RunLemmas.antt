@@ -1,5 +1,5 @@
 -- Steps of a run.
-use Rattle.lines_engine.proofs.Common.{List, None, Option, Some, [], ap, append-nil, append_assoc, drop, length, refl, sym, take, ℕ, ◌++◌, ◌-◌, ◌∙◌, ◌∷◌, ◌≡◌, flat_map-append, Appends, Keeps, IfSome, lines_of, AnswersAll, AnswersFirst, BeginsAnswers, HasAnswered, HasAnsweredLine, HasWritten, as_line}
+use Rattle.lines_engine.proofs.Common.{List, None, Option, Some, [], ap, append-nil, append_assoc, arith, drop, length, refl, sym, take, ℕ, ◌++◌, ◌-◌, ◌∙◌, ◌∷◌, ◌≡◌, flat_map-append, Appends, Keeps, IfSome, lines_of, AnswersAll, AnswersFirst, BeginsAnswers, HasAnswered, HasAnsweredLine, HasWritten, as_line}
 use Rattle.std.proofs.lemmas.List.{take-append-drop, length-drop}
 use Rattle.std.proofs.lemmas.List.Elements.{AllZip-push}
 use Rattle.std.proofs.Math.Seq.{take-length}
@@ -40,17 +40,7 @@ module _ (Is : List ℕ → List ℕ → Type 0) where
   -- a call keeps what was written
   pub answered_kept : (a b c : Option (List ℕ)) (lines rest : List (List ℕ)) (unwritten : List ℕ)
       → HasAnswered Is a b lines rest unwritten → Keeps b c → HasAnswered Is a c lines rest unwritten
-  answered_kept a b c lines rest unwritten had kept = record {
-    answered = had.answered;
-    texts = had.texts;
-    lines_are = had.lines_are;
-    are_answers = had.are_answers;
-    wrote = record {
-      written = had.wrote.written;
-      bytes_are = had.wrote.bytes_are;
-      wrote = appends_kept a b c had.wrote.written had.wrote.wrote kept;
-    };
-  }
+  answered_kept a b c lines rest unwritten had kept = grind (arith, appends_kept)
 
   -- an answer was made, and some of it written
   pub line_answered : (a b : Option (List ℕ)) (line text bytes unwritten : List ℕ) → Is line text → bytes ≡ as_line text
@@ -75,5 +65,4 @@ module _ (Is : List ℕ → List ℕ → Type 0) where
   -- all was written, and then a flush failed
   pub unflushed : (input a b c : Option (List ℕ)) (text : List ℕ) → IfSome input (λ bytes. text ≡ bytes)
       → AnswersAll Is a b text → Keeps b c → IfSome input (BeginsAnswers Is a c)
-  unflushed None a b c text is had kept = tt
-  unflushed (Some bytes) a b c text is had kept = ([], ([], rw is at (answered_kept a b c (lines_of text) [] [] had kept)))
+  unflushed input a b c text is had kept = grind (arith, answered_kept)

@@ -19,11 +19,7 @@ lines-ended (b ∷ line) behind none = by_test (eqb b 10) refl (lines-ended line
 -- a text has a line where it has a byte
 pub lines-some : (text : List ℕ) → 0 < length text → lines_of text ≢ []
 lines-some [] some none = absurd (omega arith)
-lines-some (b ∷ text) some none = by_test (eqb b 10) (lines_of text) none where
-  by_test : (test : Bool) (lines : List (List ℕ)) → cond test ([] ∷ lines) (onto_first b lines) ≡ [] → ⊥
-  by_test true lines e = cc
-  by_test false [] e = cc
-  by_test false (line ∷ lines) e = cc
+lines-some (b ∷ text) some none = grind (arith)
 
 -- a text with a byte and no end is one line
 pub lines-unended : (text : List ℕ) → HasNo 10 text → 0 < length text → lines_of text ≡ text ∷ []
@@ -53,8 +49,7 @@ lines-joined part piece line behind more none cut =
 
 -- what an error says besides which one it is
 pub other_of : {X E Q : Type 0} (r : Result X E) (e : E) → IsErrOf r e → IfErr r (λ error. (error ≡ e) × Q) → Q
-other_of (Ok x) e is says = cc
-other_of (Err f) e is says = says.1
+other_of r e is says = grind (arith)
 
 module _ (Is : List ℕ → List ℕ → Type 0) where
   AllZip-append : (xs ys zs ws : List (List ℕ)) → AllZip Is xs ys → AllZip Is zs ws → AllZip Is (xs ++ zs) (ys ++ ws)
@@ -97,19 +92,14 @@ module _ (Is : List ℕ → List ℕ → Type 0) where
 
   -- nothing is read
   pub but_none : (a input : Option (List ℕ)) → AnswersBut Is a a input input []
-  but_none a None = tt
-  but_none a (Some bytes) = answered_none Is a (lines_of bytes)
+  but_none a input = grind (arith, answered_none)
 
   -- a piece was read, and the lines that end in it answered
   pub but_more : (a b c input left next : Option (List ℕ)) (part piece others : List ℕ)
       → AnswersBut Is a b input left part → Consumes left next piece
       → ((more : List ℕ) → HasAnswered Is b c (lines_of (part ++ (piece ++ more))) (lines_of (others ++ more)) [])
       → AnswersBut Is a c input next others
-  but_more a b c None left next part piece others had read each = tt
-  but_more a b c (Some input) None next part piece others had read each = absurd had
-  but_more a b c (Some input) (Some left) None part piece others had read each = absurd read
-  but_more a b c (Some input) (Some left) (Some next) part piece others had read each =
-      answered_then a b c (lines_of input) (lines_of (part ++ (piece ++ next))) (lines_of (others ++ next)) [] (rw read at had) (each next)
+  but_more a b c input left next part piece others had read each = grind (arith, answered_then)
 
   -- not all of these others were answered
   pub then_some : (a b c : Option (List ℕ)) (input : List ℕ) (others : List (List ℕ))
@@ -150,14 +140,12 @@ module _ (Is : List ℕ → List ℕ → Type 0) where
   -- a piece with a byte was read, and none of it answered
   pub but_unanswered : (a b input left next : Option (List ℕ)) (part piece : List ℕ) → AnswersBut Is a b input left part
       → Consumes left next piece → 0 < length piece → IfSome input (AnswersFirst Is a b)
-  but_unanswered a b input left next part piece had read some =
-      but_some a b b input left next part piece had read (none_answered b part piece some)
+  but_unanswered a b input left next part piece had read some = grind (arith, but_some, none_answered)
 
   -- the last line is answered
   pub line_last : {X E : Type 0} (r : Result X E) (a b : Option (List ℕ)) (part : List ℕ) → HasNo 10 part
       → 0 < length part → OnOk r (HasAnsweredLine Is a b part []) → OnOk r (HasAnswered Is a b (lines_of part) [] [])
-  line_last (Ok x) a b part none some one = rw (lines-unended part none some) (answered_one a b part [] [] one)
-  line_last (Err e) a b part none some one = tt
+  line_last r a b part none some one = grind (arith, answered_one, lines-unended)
 
   -- there is none
   pub none_last : (a : Option (List ℕ)) (part : List ℕ) → length part ≡ 0 → HasAnswered Is a a (lines_of part) [] []
@@ -211,8 +199,7 @@ module _ (Is : List ℕ → List ℕ → Type 0) where
       → HasAnswered Is b c (lines_of part) [] [] → Keeps c d → OnOk r (IfSome input (AnswersAll Is a d))
   last_all (Err e) a b c d input part had all kept = tt
   last_all (Ok x) a b c d None part had all kept = tt
-  last_all (Ok x) a b c d (Some bytes) part had all kept =
-      answered_kept Is a c d (lines_of bytes) [] [] (answered_then a b c (lines_of bytes) (lines_of part) [] [] had all) kept
+  last_all (Ok x) a b c d (Some bytes) part had all kept = grind (arith, answered_kept, answered_then)
 
   pub last_unflushed : (a b c d input : Option (List ℕ)) (part : List ℕ)
       → IfSome input (λ bytes. HasAnswered Is a b (lines_of bytes) (lines_of part) [])

@@ -25,6 +25,5 @@ pub use Rattle.payload_texts.specs.declared.fault.FileFault.TheVariants.{Item, L
 pub use Rattle.payload_texts.specs.declared.fault.ItemFault.{ItemFault}
 pub use Rattle.payload_texts.specs.declared.fault.MemberFault.TheVariants.{Kind, Missing, Repeated}
 pub use Rattle.payload_texts.specs.declared.fault.PayloadFault.{PayloadFault}
-pub use Rattle.payload_texts.specs.declared.member.Member.TheVariants.{Asn, MaxLength, Prefix}
 pub use Rattle.payload_texts.specs.declared.row.Row.{Row}
 pub use Rattle.payload_texts.specs.declared.row.Row.TheVariants.{Blank, Header, Payload}

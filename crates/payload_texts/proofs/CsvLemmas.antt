@@ -1,5 +1,5 @@
 -- The lines of a file, read one after another; a file writes one list of payloads, or has one fault.
-use Rattle.payload_texts.proofs.Common.{List, [], ap, append-nil, append_assoc, inl, inr, refl, subst, sym, ℕ, ◌++◌, ◌+◌, ◌∙◌, ◌∷◌, ◌≡◌, ◌≢◌, MaxLenValue, usual, HasRowFault, IsRow, Columns, FileFault, Item, Line, NoPayload, NotObject, Roas, PayloadFault, Row}
+use Rattle.payload_texts.proofs.Common.{List, [], ap, append-nil, append_assoc, arith, inl, inr, refl, subst, sym, ℕ, ◌++◌, ◌+◌, ◌∙◌, ◌∷◌, ◌≡◌, ◌≢◌, MaxLenValue, usual, HasRowFault, IsRow, Columns, FileFault, Line, NoPayload, PayloadFault, Row}
 use Rattle.rpki_text.specs.Lines.{lines_of}
 use Rattle.payload_texts.specs.Csv.{AreRows, HaveFirstFault, HasCsvFault, IsCsvFile, columns_after, payloads_of}
 use Rattle.payload_texts.proofs.RowLemmas.{row_apart, row_fault_one, row_one}
@@ -29,8 +29,7 @@ module _ (text rest after line : List ℕ) (number : ℕ) (columns : Columns) (p
   -- which writes no payload
   pub read_over : (row : Row) → payloads_of row ≡ [] → IsRow columns line row
       → IsReadSo text after (number + 1) (columns_after columns row) payloads
-  read_over row none is =
-      subst (IsReadSo text after (number + 1) (columns_after columns row)) (ap (λ z. payloads ++ z) none ∙ append-nil payloads) (read_more row is)
+  read_over row none is = grind (arith, read_more)
 
   -- the next line is wrong
   pub read_wrong : (wrong : PayloadFault) → HasRowFault columns line wrong → HasCsvFault text (Line (number + 1) wrong)
@@ -86,20 +85,7 @@ csv_one text a b h k = rows_one usual (lines_of text) a b h.0 k.0
 
 pub csv_apart : (text : List ℕ) (a : List (MaxLenValue × ℕ)) (fault : FileFault) → IsCsvFile text a
     → HasCsvFault text fault → ⊥
-csv_apart text a (Line number wrong) h k = rows_apart 1 usual (lines_of text) a (Line number wrong) h.0 k
-csv_apart text a NoPayload h k = h.1 (rows_one usual (lines_of text) a [] h.0 k)
-csv_apart text a NotObject h k = k
-csv_apart text a (Roas wrong) h k = k
-csv_apart text a (Item place wrong) h k = k
+csv_apart text a fault h k = grind (arith, rows_apart, rows_one)
 
 pub csv_fault_one : (text : List ℕ) (d e : FileFault) → HasCsvFault text d → HasCsvFault text e → d ≡ e
-csv_fault_one text NotObject e h k = absurd h
-csv_fault_one text (Roas wrong) e h k = absurd h
-csv_fault_one text (Item place wrong) e h k = absurd h
-csv_fault_one text d NotObject h k = absurd k
-csv_fault_one text d (Roas wrong) h k = absurd k
-csv_fault_one text d (Item place wrong) h k = absurd k
-csv_fault_one text (Line m wrong) (Line n other) h k = first_one 1 usual (lines_of text) (Line m wrong) (Line n other) h k
-csv_fault_one text (Line m wrong) NoPayload h k = absurd (rows_apart 1 usual (lines_of text) [] (Line m wrong) k h)
-csv_fault_one text NoPayload (Line n other) h k = absurd (rows_apart 1 usual (lines_of text) [] (Line n other) h k)
-csv_fault_one text NoPayload NoPayload h k = refl
+csv_fault_one text d e h k = grind (arith, first_one, rows_apart)

@@ -4,10 +4,7 @@ use Rattle.rpki_text.proofs.PrintedLemmas.{trim_shown}
 
 -- behind one comma more
 pub behind_next : (n : ℕ) (line : List ℕ) → 0 < n → behind (n - 1) (after_first is_comma line) ≡ behind n line
-behind_next zero line some = absurd (omega arith)
-behind_next (suc n) line some =
-    let one_less : suc n - 1 ≡ n = omega arith in
-    ap (λ m. behind m (after_first is_comma line)) one_less
+behind_next n line some = grind (arith)
 
 -- a text without octets has none behind its commas either
 behind_empty : (n : ℕ) → behind n [] ≡ []

@@ -1,5 +1,5 @@
 -- A file in either form writes one list of payloads, or has one fault.
-use Rattle.payload_texts.proofs.Common.{Err, List, MatchResult, Ok, Result, inl, inr, ℕ, ◌≡◌, MaxLenValue, AnswersOrMemory, FileFault}
+use Rattle.payload_texts.proofs.Common.{Err, List, MatchResult, Ok, Result, arith, inl, inr, ℕ, ◌≡◌, MaxLenValue, AnswersOrMemory, FileFault}
 use Rattle.rpki_text.specs.Memory.{IfRefused}
 use Rattle.rpki_text.specs.declared.memory.OrMemory.{OrMemory}
 use Rattle.rpki_text.specs.declared.memory.OrMemory.TheVariants.{Refused, Memory}
@@ -21,10 +21,7 @@ module _ (text : List ℕ) where
   file_apart a f (inr h) (inr k) = csv_apart text a f h.1 k.1
 
   file_fault_one : (d e : FileFault) → HasFileFault text d → HasFileFault text e → d ≡ e
-  file_fault_one d e (inl h) (inl k) = json_fault_one text d e h.1 k.1
-  file_fault_one d e (inl h) (inr k) = absurd (k.0 h.0)
-  file_fault_one d e (inr h) (inl k) = absurd (h.0 k.0)
-  file_fault_one d e (inr h) (inr k) = csv_fault_one text d e h.1 k.1
+  file_fault_one d e h h2 = grind (arith, csv_fault_one, json_fault_one)
 
 -- so what is found decides the answer
 pub file_answers : {V : Type 0} (view : V → List (MaxLenValue × ℕ)) (text : List ℕ) (r : Result V (OrMemory FileFault))

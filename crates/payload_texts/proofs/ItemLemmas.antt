@@ -1,5 +1,6 @@
 -- Items one after another; an item writes one payload, or has one fault, and so do the items of an array.
-use Rattle.payload_texts.proofs.Common.{List, ap, inl, inr, subst, sym, ℕ, ◌+◌, ◌∙◌, ◌∷◌, ◌≡◌, Items, Json, item, no_items, MaxLenValue, AreItems, HasItemFault, HasTexts, HaveWrongItem, IsItem, HasText, ArePayload, HaveFault, FileFault, Item, ItemFault, PayloadFault, Asn, MaxLength, Prefix}
+use Rattle.payload_texts.proofs.Common.{List, ap, arith, inl, inr, sym, ℕ, ◌+◌, ◌∙◌, ◌∷◌, ◌≡◌, Items, Json, item, no_items, MaxLenValue, AreItems, HasItemFault, HasTexts, HaveWrongItem, IsItem, HasText, ArePayload, HaveFault, FileFault, Item, ItemFault, PayloadFault}
+use Rattle.payload_texts.specs.declared.member.Member.TheVariants.{Asn, MaxLength, Prefix}
 use Rattle.payload_texts.specs.declared.fault.ItemFault.TheVariants.{Member, Payload}
 use Rattle.payload_texts.proofs.MemberLemmas.{member_fault_one, text_apart, text_one}
 use Rattle.payload_texts.proofs.RowLemmas.{asn_one, fields_apart, have_one, prefix_one}
@@ -15,11 +16,7 @@ module _ (value : Json) where
   -- the same texts
   same_texts : (P : List ℕ → List ℕ → List ℕ → Type 0) (a b p q m n : List ℕ) → HasTexts value a p m
       → HasTexts value b q n → P b q n → P a p m
-  same_texts P a b p q m n h k wrote =
-      let asn = text_one Asn value b a k.asn h.asn in
-      let prefix = text_one Prefix value q p k.prefix h.prefix in
-      let max = text_one MaxLength value n m k.max_length h.max_length in
-      subst (λ z. P a p z) max (subst (λ z. P a z n) prefix (subst (λ z. P z q n) asn wrote))
+  same_texts P a b p q m n h k wrote = grind (arith, text_one)
 
   item_one : (x y : MaxLenValue × ℕ) → IsItem value x → IsItem value y → x ≡ y
   item_one x y (a, p, m, h, is) (b, q, n, k, iz) =
@@ -50,8 +47,7 @@ module _ (value : Json) where
   item_fault_one (Payload f) (Member Asn g) (a, p, m, h, _) k = absurd (text_apart Asn value a g h.asn k)
   item_fault_one (Payload f) (Member Prefix g) (a, p, m, h, _) (_, k) = absurd (text_apart Prefix value p g h.prefix k)
   item_fault_one (Payload f) (Member MaxLength g) (a, p, m, h, _) (_, _, k) = absurd (text_apart MaxLength value m g h.max_length k)
-  item_fault_one (Payload f) (Payload g) (a, p, m, h, wrong) (b, q, n, k, other) =
-      ap Payload (have_one a p m f g wrong (same_texts (λ a p m. HaveFault a p m g) a b p q m n h k other))
+  item_fault_one (Payload f) (Payload g) (a, p, m, h, wrong) (b, q, n, k, other) = grind (arith, have_one, same_texts)
 
 -- items write one list of payloads
 pub items_one : (items : Items) (a b : Payloads) → AreItems items a → AreItems items b → a ≡ b

@@ -1,5 +1,5 @@
 -- What the values of the member `roas` tell, one after another, and the items of one.
-use Rattle.payload_texts.proofs.Common.{Err, IfOk, List, None, Ok, Result, Some, Vec, [], ap, append-nil, append_assoc, arith, false, if◌then◌else◌, inl, inr, length, refl, subst, sym, true, ℕ, ◌++◌, ◌+◌, ◌-◌, ◌<◌, ◌∙◌, ◌∷◌, ◌≡◌, length-append, bytes_eq, left, left_none, left_some, value-begin_array, value-begin_object, Items, Json, Members, array, item, member, no_items, no_members, parse_map, Token, MaxLenValue, AreItems, HasItemFault, HaveWrongItem, IsItem, TellRoas, roas, values_in, FileFault, Item, Line, NoPayload, NotObject, Roas, ItemFault, Kind, Missing, Repeated}
+use Rattle.payload_texts.proofs.Common.{Err, IfOk, List, None, Ok, Result, Some, Vec, [], ap, append-nil, append_assoc, arith, false, if◌then◌else◌, inl, inr, length, refl, subst, sym, true, ℕ, ◌++◌, ◌+◌, ◌-◌, ◌<◌, ◌∙◌, ◌∷◌, ◌≡◌, length-append, bytes_eq, left, left_none, left_some, value-begin_array, value-begin_object, Items, Json, Members, array, item, member, no_items, no_members, parse_map, Token, MaxLenValue, AreItems, HasItemFault, HaveWrongItem, IsItem, TellRoas, roas, values_in, FileFault, Item, Roas, ItemFault, Kind, Missing, Repeated}
 use Rattle.payload_texts.proofs.GrammarLemmas.{a_member, an_item, items_in, members_in, no_item, no_member}
 use Rattle.json.specs.Json as json
 
@@ -68,14 +68,7 @@ told_none depth first = record { values = []; is_told = refl; ends = λ e. e; wh
 -- a value was there before, unless that is told
 told_some : {A : Type 0} (values : List Json) (told : Result (Vec (MaxLenValue × ℕ) A) FileFault) → TellRoas values told
     → (told ≡ Err (Roas Missing) → ⊥) → 0 < length values
-told_some values (Ok v) (items, is, _) some = omega (arith, ap length is)
-told_some values (Err (Line n wrong)) h some = absurd h
-told_some values (Err NoPayload) h some = absurd h
-told_some values (Err NotObject) h some = absurd h
-told_some values (Err (Roas Missing)) h some = absurd (some refl)
-told_some values (Err (Roas Repeated)) h some = omega (arith, h)
-told_some values (Err (Roas Kind)) (value, is, _) some = omega (arith, ap length is)
-told_some values (Err (Item n wrong)) (items, is, _) some = omega (arith, ap length is)
+told_some values told h some = grind (arith)
 
 told_missing : {A : Type 0} (values : List Json) (told : Result (Vec (MaxLenValue × ℕ) A) FileFault)
     → TellRoas values told → told ≡ Err (Roas Missing) → values ≡ []
@@ -163,8 +156,7 @@ module _ (depth : ℕ) (some : 0 < depth) (first r : List Token) where
       → first ≡ Token.begin_array ∷ r
       → IfOk told (λ told. (js : Items) × TellRoas (array js ∷ []) told × (items_in (depth - 1) r ≡ Some (js, new)))
       → IfOk told (λ told. (j : Json) × TellRoas (j ∷ []) told × (json.value depth first ≡ Some (j, new)))
-  array_read new (Ok told) opens (js, is, read) = (array js, is, ap (json.value depth) opens ∙ value-begin_array depth r some ∙ ap (parse_map array) read)
-  array_read new (Err e) opens h = h
+  array_read new told opens h = grind (arith, value-begin_array)
 
   pub array_fails : first ≡ Token.begin_array ∷ r → items_in (depth - 1) r ≡ None → json.value depth first ≡ None
   array_fails opens none = ap (json.value depth) opens ∙ value-begin_array depth r some ∙ ap (parse_map array) none
@@ -197,16 +189,7 @@ json_of Token.null = json.null
 json_of Token.bad = json.null
 
 no_array_of : (t : Token) → IsNoArray (json_of t)
-no_array_of Token.begin_object = tt
-no_array_of Token.end_object = tt
-no_array_of Token.begin_array = tt
-no_array_of Token.end_array = tt
-no_array_of (Token.key s) = tt
-no_array_of (Token.string s) = tt
-no_array_of (Token.number s) = tt
-no_array_of (Token.boolean b) = tt
-no_array_of Token.null = tt
-no_array_of Token.bad = tt
+no_array_of t = grind (arith)
 
 pub scalar_passed : (A : Type 0) (depth : ℕ) (first r : List Token) (t : Token)
     → json.value depth first ≡ Some (json_of t, r)

@@ -1,5 +1,5 @@
 -- Lists of blocks that ascend and neither overlap nor touch, and what they cover.
-use Rattle.rpki_chains.proofs.Imports.{List, [], ap, arith, get_or, inl, inr, length, refl, subst, suc, sym, zero, ℕ, ⊎_elim, ◌++◌, ◌+◌, ◌-◌, ◌<◌, ◌↔◌, ◌∙◌, ◌∷◌, ◌≡◌, ◌≤◌, ◌⊎◌, le_refl, cases_lt, get_or_append_left, get_or_default, get_or_push, length_push, All-push, Covers, IsChain, IsChainOf, IsNew, IsRun, IsWithin}
+use Rattle.rpki_chains.proofs.Imports.{List, [], ap, arith, get_or, length, refl, subst, suc, sym, zero, ℕ, ⊎_elim, ◌++◌, ◌+◌, ◌-◌, ◌<◌, ◌↔◌, ◌∙◌, ◌∷◌, ◌≡◌, ◌≤◌, ◌⊎◌, le_refl, cases_lt, get_or_append_left, get_or_default, get_or_push, length_push, All-push, Covers, IsChain, IsChainOf, IsNew, IsRun, IsWithin}
 use Rattle.std.proofs.lemmas.List.Quantifiers.{Any-push, all_pairs_push}
 
 -- the element at an index
@@ -19,14 +19,7 @@ module _ {B : Type 0} (f : B → ℕ × ℕ) where
 
   -- a number that the longer list covers lies in the list before or in the new block
   pub Covers-push_cases : (xs : List B) (y : B) (n : ℕ) → Covers f (xs ++ y ∷ []) n → Covers f xs n ⊎ IsWithin (f y) n
-  Covers-push_cases xs y n (k, x, lt, e, w) =
-      let l = length_push xs y in
-      ⊎_elim
-      (λ below. inl (k, x, below, sym (get_or_append_left xs (y ∷ []) x k below) ∙ e, w))
-      (λ (above : length xs ≤ k). let at : length xs ≡ k = omega arith in
-      let P : B → Type 0 = λ z. IsWithin (f z) n in
-      inr (subst P (sym e ∙ get_or_push xs y x k at) w))
-      (cases_lt k (length xs))
+  Covers-push_cases xs y n h = grind (arith, cases_lt, get_or_append_left, get_or_push, length_push)
 
   -- one block more covers its numbers more
   pub Covers-push : (xs : List B) (y : B) (n : ℕ) → Covers f (xs ++ y ∷ []) n ↔ (Covers f xs n ⊎ IsWithin (f y) n)

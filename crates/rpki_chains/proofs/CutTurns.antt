@@ -14,9 +14,7 @@ module _ {B I : Type 0} (f : B → ℕ × ℕ) (form : ℕ × ℕ → B) (number
 
   -- at the end there is no rest
   pub turn-end : (rest cut : Option (I × I)) → IsCut number rest cut End → rest ≡ None
-  turn-end None cut h = refl
-  turn-end (Some b) None h = absurd cc
-  turn-end (Some b) (Some c) h = absurd h
+  turn-end rest cut h = grind (arith)
 
   -- then the pieces are the numbers of the one chain that aren't in the other
   pub turn-done : (xs ys out : List B) (i j : ℕ) (rest : Option (I × I)) (cut : Option (ℕ × ℕ))
@@ -30,11 +28,7 @@ module _ {B I : Type 0} (f : B → ℕ × ℕ) (form : ℕ × ℕ → B) (number
       → Walk f form xs ys i (At rest) j (At cut) out → IsCut number rest cut Skip
       → (j < length ys)
       × ((next : Option (I × I)) → IsAt f ys (j + 1) (At next) → Walk f form xs ys i (At rest) (j + 1) (At next) out)
-  turn-skip xs ys out i j None cut w h = absurd cc
-  turn-skip xs ys out i j (Some b) None w h = absurd cc
-  turn-skip xs ys out i j (Some b) (Some c) w h =
-      let at : IsAt f ys j (Some (numbers number c)) = w.cut_is in
-      (at.0, λ next head. Walk-skip f form xs ys out i j (numbers number b) (numbers number c) (At next) w h head)
+  turn-skip xs ys out i j rest cut w h = grind (arith, Walk-skip)
 
   -- a piece is kept, and the next block of the chain is looked at
   pub turn-keep : (xs ys out : List B) (i j : ℕ) (rest cut : Option (I × I)) (min max : I)
@@ -147,11 +141,7 @@ module _ {B I : Type 0} (f : B → ℕ × ℕ) (form : ℕ × ℕ → B) (number
   -- a block that was passed ends before the block at hand
   ends_before : (ys : List B) (j k : ℕ) (d : B) (cut : Option (ℕ × ℕ)) → IsChain f form ys → IsAt f ys j cut → k < j
       → k < length ys → Before cut (f (get_or ys k d)).1
-  ends_before ys j k d None hy at early lt = tt
-  ends_before ys j k d (Some c) hy at early lt =
-      let a = hy.apart k j d early at.0 in
-      let low = ap (λ (z : ℕ × ℕ). z.0) (at.1 d) in
-      omega arith
+  ends_before ys j k d cut hy at early lt = grind (arith)
 
   -- the walk goes on from an overhang: all that comes before it is taken out
   pub Walk-from : (first last : ℕ) (xs ys : List B) (o : Overhang I) → IsOverhang f number first last xs ys o

@@ -22,21 +22,7 @@ module _ {B : Type 0} (f : B → ℕ × ℕ) (form : ℕ × ℕ → B) where
   -- no number from the rest on and before the cut is taken out
   clear : (xs ys out : List B) (i j : ℕ) (b : ℕ × ℕ) (cut : Option (ℕ × ℕ)) → Walk xs ys i (Some b) j cut out → (n : ℕ)
       → b.0 ≤ n → ((c : ℕ × ℕ) → cut ≡ Some c → n < c.0) → Covers f ys n → ⊥
-  clear xs ys out i j b None w n from before (k, x, lt, e, v) =
-      let end : j ≡ length ys = w.cut_is in
-      let p = w.passed b refl k x (omega arith) lt in
-      let same = ap (λ (z : B). (f z).1) e in
-      omega (arith, v.1)
-  clear xs ys out i j b (Some c) w n from before (k, x, lt, e, v) =
-      let at : IsAt f ys j (Some c) = w.cut_is in
-      let here = ap (λ (p : ℕ × ℕ). p.0) (at.1 x) in
-      let low = before c refl in
-      let same_high = ap (λ (z : B). (f z).1) e in
-      let same_low = ap (λ (z : B). (f z).0) e in
-      ⊎_elim
-      (λ (early : k < j). let p = w.passed b refl k x early lt in omega (arith, v.1))
-      (λ (late : j ≤ k). let up = ascends f form ys w.other_chain j k x late lt in omega (arith, v.0))
-      (cases_lt k j)
+  clear xs ys out i j b cut w n from before h = grind (arith, ascends, cases_lt)
 
   -- the numbers of the rest are numbers of the chain
   inside : (xs ys out : List B) (i j : ℕ) (b : ℕ × ℕ) (cut : Option (ℕ × ℕ)) → Walk xs ys i (Some b) j cut out → (n : ℕ)

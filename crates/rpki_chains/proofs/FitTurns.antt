@@ -12,9 +12,7 @@ module _ {B I : Type 0} (f : B → ℕ × ℕ) (form : ℕ × ℕ → B) (number
       → (j < length ys)
       × (IsAt f ys (j + 1) (bounds_of number next)
       → Inside f form xs ys i (Some (numbers number b)) (j + 1) (bounds_of number next))
-  fit-skip xs ys i j b c next w h =
-      let at : IsAt f ys j (Some (numbers number c)) = w.other_at in
-      (at.0, λ after. Inside-skip f form xs ys i j (numbers number b) (numbers number c) (bounds_of number next) w h after)
+  fit-skip xs ys i j b c next w h = grind (arith, Inside-skip, bounds_of)
 
   -- the next block is looked at
   pub fit-inside : (xs ys : List B) (i j : ℕ) (b c : I × I) (next : Option (I × I))

@@ -28,14 +28,7 @@ module _ {B : Type 0} (f : B → ℕ × ℕ) (form : ℕ × ℕ → B) where
   -- the other's block ends before
   pub Inside-skip : (xs ys : List B) (i j : ℕ) (b c : ℕ × ℕ) (next : Option (ℕ × ℕ))
       → Inside xs ys i (Some b) j (Some c) → c.1 < b.0 → IsAt f ys (j + 1) next → Inside xs ys i (Some b) (j + 1) next
-  Inside-skip xs ys i j b c next w less after = record {
-    own_chain = w.own_chain;
-    other_chain = w.other_chain;
-    own_at = w.own_at;
-    other_at = after;
-    inside = w.inside;
-    passed = λ n o before. (let le = up_to f form ys j c w.other_chain w.other_at next after n o before in omega arith);
-  }
+  Inside-skip xs ys i j b c next w less after = grind (arith, up_to)
 
   -- the block lies in the other's
   pub Inside-fit : (xs ys : List B) (i j : ℕ) (b c : ℕ × ℕ) (next : Option (ℕ × ℕ)) → Inside xs ys i (Some b) j (Some c)

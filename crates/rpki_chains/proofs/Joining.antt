@@ -21,11 +21,7 @@ module _ {B : Type 0} (f : B → ℕ × ℕ) (form : ℕ × ℕ → B) (last : �
   -- and they are what is held
   pub first_held : {C : Type 0} (g : C → ℕ × ℕ) (zs : List C) (z : C) (run : ℕ × ℕ) → 0 < length zs → z ≡ get_or zs 0 z
       → g z ≡ run → (n : ℕ) → IsHeld f [] run n ↔ Covers g (take 1 zs) n
-  first_held g zs z run lt is same n =
-      taken_more (λ n. Covers f [] n) (IsHeld f [] run) g zs 0 z lt is (λ m. (
-        ⊎_elim inl (λ w. inr (subst (λ (b : ℕ × ℕ). IsWithin b m) (sym same) w)),
-        ⊎_elim inl (λ w. inr (subst (λ (b : ℕ × ℕ). IsWithin b m) same w)),
-      )) (λ m. (λ c. absurd (Covers-nil f m c), λ c. absurd (Covers-nil g m c))) n
+  first_held g zs z run lt is same n = grind (arith, Covers-nil, taken_more)
 
   module _ (xs : List B) (run : ℕ × ℕ) (h : IsBehind f form last xs run) where
     -- the run is made longer

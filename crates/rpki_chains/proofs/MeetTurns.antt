@@ -1,5 +1,5 @@
 -- The turns of the walk over what two chains have in common, as the code takes them.
-use Rattle.rpki_chains.proofs.Imports.{List, None, Option, Some, ap, arith, get_or, inl, inr, length, subst, sym, take, ℕ, ⊎_elim, ◌+◌, ◌<◌, ◌∙◌, ◌≡◌, ◌≤◌, ◌⊎◌, get_or-take, length-take-le, All-take, IsOverhang, Covers, IsChain, IsChainOf, IsNew, numbers, Overhang}
+use Rattle.rpki_chains.proofs.Imports.{List, None, Option, Some, ap, arith, get_or, inl, inr, length, subst, sym, take, ℕ, ⊎_elim, ◌+◌, ◌<◌, ◌∙◌, ◌≡◌, ◌≤◌, ◌⊎◌, get_or-take, length-take-le, All-take, IsOverhang, Covers, IsChain, IsChainOf, numbers, Overhang}
 use Rattle.rpki_chains.specs.Common.{IsCommonPushed}
 use Rattle.rpki_chains.proofs.Sides.{IsAt, bounds_of, IsAt-from, ordered_at, index_before, low_at}
 use Rattle.rpki_chains.proofs.Chains.{IsChainOf-from}
@@ -8,14 +8,7 @@ use Rattle.rpki_chains.proofs.Meets.{Meet, Meet-swap, Meet-before, Meet-ends, Me
 module _ {B : Type 0} (f : B → ℕ × ℕ) (form : ℕ × ℕ → B) where
   -- the first blocks of a chain are a chain
   pub IsChain-take : (xs : List B) (i : ℕ) → i ≤ length xs → IsChain f form xs → IsChain f form (take i xs)
-  IsChain-take xs i le h = record {
-    ordered = All-take (λ x. (f x).0 ≤ (f x).1) i xs h.ordered;
-    apart = λ k m d below lt. (
-        let len = length-take-le i xs le in
-        let a = h.apart k m d below (omega arith) in
-        rw (get_or-take i xs k d (omega arith), get_or-take i xs m d (omega arith)) a);
-    new_form = All-take (λ x. IsNew f form x) i xs h.new_form;
-  }
+  IsChain-take xs i le h = grind (arith, All-take, get_or-take, length-take-le)
 
 module _ {B I : Type 0} (f : B → ℕ × ℕ) (form : ℕ × ℕ → B) (number : I → ℕ) where
   -- the numbers of what is at hand

@@ -12,23 +12,12 @@ IsSplit Held Left All = (n : ℕ) → (Held n ⊎ Left n) ↔ All n
 
 -- the two sides of what is left in the other order
 pub split-swap : (Held S U All : ℕ → Type 0) → IsSplit Held (λ n. S n ⊎ U n) All → IsSplit Held (λ n. U n ⊎ S n) All
-split-swap Held S U All h n = (
-  λ x. (h n).0 (⊎_elim inl (λ r. inr (⊎_elim inr inl r)) x),
-  λ all. ⊎_elim inl (λ r. inr (⊎_elim inr inl r)) ((h n).1 all),
-)
+split-swap Held S U All h n = grind (arith)
 
 -- a turn moves the block at hand from what is left to what is held
 pub split-turn : (Held New Left Next All : ℕ → Type 0) (b : ℕ × ℕ) → ((n : ℕ) → Left n ↔ (IsWithin b n ⊎ Next n))
     → ((n : ℕ) → New n ↔ (Held n ⊎ IsWithin b n)) → IsSplit Held Left All → IsSplit New Next All
-split-turn Held New Left Next All b left step before n = (
-  ⊎_elim
-      (λ new. ⊎_elim (λ h. (before n).0 (inl h)) (λ w. (before n).0 (inr ((left n).1 (inl w)))) ((step n).0 new))
-      (λ r. (before n).0 (inr ((left n).1 (inr r)))),
-  λ all. ⊎_elim
-      (λ h. inl ((step n).1 (inl h)))
-      (λ l. ⊎_elim (λ w. inl ((step n).1 (inr w))) inr ((left n).0 l))
-      ((before n).1 all),
-)
+split-turn Held New Left Next All b left step before n = grind (arith)
 
 module _ {B : Type 0} (f : B → ℕ × ℕ) where
   -- the blocks that are left are the one at hand and those behind it
@@ -49,13 +38,7 @@ module _ {B : Type 0} (f : B → ℕ × ℕ) where
   -- what two lists cover
   pub Covers-append : (xs ys : List B) (n : ℕ) → Covers f (xs ++ ys) n ↔ (Covers f xs n ⊎ Covers f ys n)
   Covers-append [] ys n = (inr, ⊎_elim (λ c. absurd (Covers-nil f n c)) (λ c. c))
-  Covers-append (x ∷ xs) ys n =
-      let rest = Covers-append xs ys n in (
-        λ c. ⊎_elim (λ w. inl (Covers-head f x xs n w)) (λ r. ⊎_elim (λ own. inl (Covers-tail f x xs n own)) inr (rest.0 r)) (Covers-cons_cases f x (xs ++ ys) n c),
-        λ h. ⊎_elim
-            (λ own. ⊎_elim (Covers-head f x (xs ++ ys) n) (λ r. Covers-tail f x (xs ++ ys) n (rest.1 (inl r))) (Covers-cons_cases f x xs n own))
-            (λ other. Covers-tail f x (xs ++ ys) n (rest.1 (inr other))) h,
-      )
+  Covers-append (x ∷ xs) ys n = grind (arith, Covers-cons_cases, Covers-head, Covers-tail, Covers-append xs ys n)
 
   -- at first the run is a block of those that are left
   pub split-start : (b : ℕ × ℕ) (All : ℕ → Type 0) → ((n : ℕ) → IsWithin b n → All n) → IsSplit (IsHeld f [] b) All All

@@ -12,10 +12,7 @@ rest-begins : {B : Type 0} (ys : List B) (k : ℕ) (y : B) (more : List B) → d
     → (k < length ys) × ((d : B) → get_or ys k d ≡ y) × (more ≡ drop (suc k) ys)
 rest-begins [] zero y more e = absurd cc
 rest-begins [] (suc k) y more e = absurd cc
-rest-begins (x ∷ ys) zero y more e =
-    let first : x ≡ y = cc in
-    let tail : ys ≡ more = cc in
-    (omega arith, λ d. first, sym tail)
+rest-begins (x ∷ ys) zero y more e = grind (arith)
 rest-begins (x ∷ ys) (suc k) y more e = let r = rest-begins ys k y more e in (omega (arith, r.0), r.1, r.2)
 
 module _ {B : Type 0} (f : B → ℕ × ℕ) (form : ℕ × ℕ → B) where
@@ -43,11 +40,7 @@ module _ {B : Type 0} (f : B → ℕ × ℕ) (form : ℕ × ℕ → B) where
   -- the next block of xs is looked at
   pub Passing-at : (xs ys : List B) (i : ℕ) (x : B) (b c : ℕ × ℕ) (rest : List B) (o : Option (ℕ × ℕ))
       → Passing xs ys i o c rest → i < length xs → x ≡ get_or xs i x → f x ≡ b → Passing xs ys i (Some b) c rest
-  Passing-at xs ys i x b c rest None w lt is same = let end : i ≡ length xs = w.1.own_at in absurd (omega arith)
-  Passing-at xs ys i x b c rest (Some o) w lt is same =
-      let at : IsAt f xs i (Some o) = w.1.own_at in
-      let e : o ≡ b = sym (at.1 x) ∙ ap f (sym is) ∙ same in
-      subst (λ (p : ℕ × ℕ). Passing xs ys i (Some p) c rest) e w
+  Passing-at xs ys i x b c rest o w lt is same = grind (arith)
 
   -- the held block ends before it, and the next one is held
   pub Passing-skip : (xs ys : List B) (i : ℕ) (b c d : ℕ × ℕ) (y : B) (rest more : List B)
@@ -71,8 +64,7 @@ module _ {B : Type 0} (f : B → ℕ × ℕ) (form : ℕ × ℕ → B) where
   -- all of xs was passed
   pub Passing-done : (xs ys : List B) (i : ℕ) (c : ℕ × ℕ) (rest : List B) (o : Option (ℕ × ℕ))
       → Passing xs ys i o c rest → length xs ≤ i → IsInside f xs ys
-  Passing-done xs ys i c rest None w end = λ n covered. w.1.inside n covered tt
-  Passing-done xs ys i c rest (Some b) w end = let at : IsAt f xs i (Some b) = w.1.own_at in absurd (omega (arith, at.0))
+  Passing-done xs ys i c rest o w end = grind (arith)
 
   -- the bounds that were read are the block's
   pub read_bounds : {I : Type 0} (number : I → ℕ) (x : B) (b : I × I) → number b.0 ≡ (f x).0 → number b.1 ≡ (f x).1
@@ -112,8 +104,4 @@ module _ {B : Type 0} (f : B → ℕ × ℕ) (form : ℕ × ℕ → B) where
   -- the rest is shorter than the list
   pub Passing-shorter : (xs ys : List B) (i : ℕ) (o : Option (ℕ × ℕ)) (c : ℕ × ℕ) (rest : List B)
       → Passing xs ys i o c rest → length rest + 1 ≤ length ys
-  Passing-shorter xs ys i o c rest (j, w, is) =
-      let long : length rest ≡ length (drop (suc j) ys) = ap length is in
-      let left = length-drop (suc j) ys in
-      let held : IsAt f ys j (Some c) = w.other_at in
-      omega (arith, held.0)
+  Passing-shorter xs ys i o c rest h = grind (arith, length-drop)

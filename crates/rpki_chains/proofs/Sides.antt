@@ -13,8 +13,7 @@ bounds_of number b = option_map (numbers number) b
 -- what was read is the block at hand
 pub IsAt-from : {B I : Type 0} (f : B → ℕ × ℕ) (number : I → ℕ) (last : ℕ) (xs : List B) (i : ℕ)
     (block : Option (I × I)) → HoldsBlock f number last xs i block → IsAt f xs i (bounds_of number block)
-IsAt-from f number last xs i None h = h
-IsAt-from f number last xs i (Some b) h = (h.0, h.1)
+IsAt-from f number last xs i block h = grind (arith)
 
 module _ {B : Type 0} (f : B → ℕ × ℕ) (form : ℕ × ℕ → B) where
   module _ (xs : List B) (i : ℕ) (b : ℕ × ℕ) (h : IsChain f form xs) (at : IsAt f xs i (Some b)) where

@@ -1,5 +1,5 @@
 -- What another order of a list, or a list with the same bounds, says of what it covers.
-use Rattle.rpki_chains.proofs.Imports.{List, [], ap, arith, get_or, length, map, refl, subst, suc, sym, take, zero, ℕ, ◌++◌, ◌+◌, ◌<◌, ◌∙◌, ◌∷◌, ◌≡◌, map-append, take_more, Contains-permutation, IsPermutation, Covers, IsWithin}
+use Rattle.rpki_chains.proofs.Imports.{List, [], ap, arith, get_or, length, map, suc, sym, take, zero, ℕ, ◌++◌, ◌+◌, ◌<◌, ◌∙◌, ◌∷◌, ◌≡◌, map-append, take_more, Contains-permutation, IsPermutation, Covers}
 
 -- a loop's step: what was mapped and what was passed grow by one
 pub map-push_taken : {B C : Type 0} (f : B → ℕ × ℕ) (g : C → ℕ × ℕ) (xs : List B) (ys : List C) (i : ℕ) (x : B) (y : C)
@@ -14,9 +14,7 @@ pub Covers-map : {B C : Type 0} (f : B → ℕ × ℕ) (g : C → ℕ × ℕ) (x
     → map f xs ≡ map g ys → Covers f xs n → Covers g ys n
 Covers-map f g [] ys n e (k, x, lt, is, w) = absurd (omega arith)
 Covers-map f g (x ∷ xs) [] n e c = cc
-Covers-map f g (x ∷ xs) (y ∷ ys) n e (zero, z, lt, is, w) =
-    let same : f z ≡ g y = ap f (sym is) ∙ (cc) in
-    (zero, y, omega arith, refl, subst (λ b. IsWithin b n) same w)
+Covers-map f g (x ∷ xs) (y ∷ ys) n e (zero, z, lt, is, w) = grind (arith)
 Covers-map f g (x ∷ xs) (y ∷ ys) n e (suc k, z, lt, is, w) =
     let rest = Covers-map f g xs ys n (cc) (k, z, omega arith, is, w) in
     (suc rest.0, rest.1, omega (arith, rest.2), rest.3, rest.4)

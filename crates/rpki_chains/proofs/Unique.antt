@@ -1,5 +1,5 @@
 -- A set of numbers has exactly one chain.
-use Rattle.rpki_chains.proofs.Imports.{List, [], ap, arith, get_or, inl, inr, refl, subst, suc, sym, zero, ℕ, ⊎_elim, ◌+◌, ◌<◌, ◌↔◌, ◌∙◌, ◌∷◌, ◌≡◌, ◌≤◌, ◌⊎◌, le_refl, cases_lt, All-tail, Covers, IsChain, IsNew, IsWithin}
+use Rattle.rpki_chains.proofs.Imports.{List, [], ap, arith, get_or, refl, suc, sym, ℕ, ⊎_elim, ◌+◌, ◌<◌, ◌↔◌, ◌∙◌, ◌∷◌, ◌≡◌, ◌≤◌, ◌⊎◌, le_refl, cases_lt, All-tail, Covers, IsChain, IsNew, IsWithin}
 use Rattle.rpki_chains.proofs.Chains.{Covers-nil}
 
 module _ {B : Type 0} (f : B → ℕ × ℕ) where
@@ -13,8 +13,7 @@ module _ {B : Type 0} (f : B → ℕ × ℕ) where
 
   -- and no others
   pub Covers-cons_cases : (x : B) (xs : List B) (n : ℕ) → Covers f (x ∷ xs) n → IsWithin (f x) n ⊎ Covers f xs n
-  Covers-cons_cases x xs n (zero, z, lt, e, w) = let P : B → Type 0 = λ y. IsWithin (f y) n in inl (subst P (sym e) w)
-  Covers-cons_cases x xs n (suc k, z, lt, e, w) = inr (k, z, omega arith, e, w)
+  Covers-cons_cases x xs n h = grind (arith)
 
   module _ (form : ℕ × ℕ → B) where
     -- the rest of a chain is a chain

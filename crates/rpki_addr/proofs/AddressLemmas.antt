@@ -1,5 +1,5 @@
 -- Texts of addresses: our grammar and that of std's readers are one.
-use Rattle.rpki_addr.proofs.Common.{Bool, IsTrue, List, [], ap, append_assoc, arith, codes, false, flat_map, inl, inr, length, refl, replicate, subst, sym, true, ℕ, ◌%◌, ◌*◌, ◌++◌, ◌+◌, ◌-◌, ◌/◌, ◌∙◌, ◌∷◌, ◌≡◌, ◌⊎◌, AllBelowBase, segments_of, dotted_text, from_octets, AreGroups, AreGroupsAndIpv4, AreGroupsAtEnd, IsGroupText, IsGroupsText, IsIpv4Text, dotted}
+use Rattle.rpki_addr.proofs.Common.{Bool, IsTrue, List, [], ap, append_assoc, arith, codes, false, flat_map, inl, inr, length, refl, replicate, subst, sym, true, ℕ, ◌%◌, ◌++◌, ◌+◌, ◌-◌, ◌/◌, ◌∙◌, ◌∷◌, ◌≡◌, ◌⊎◌, AllBelowBase, segments_of, dotted_text, from_octets, AreGroups, AreGroupsAndIpv4, AreGroupsAtEnd, IsGroupText, IsGroupsText, IsIpv4Text, dotted}
 use Rattle.std.proofs.lemmas.List.{append-nil}
 use Rattle.std.specs.Net.Grammar as std
 use Rattle.rpki_text.specs.Lists.{joined_by, HaveValues}
@@ -15,15 +15,7 @@ to_dotted text [] four small spelled = absurd (omega (arith, four))
 to_dotted text (a ∷ []) four small spelled = absurd (omega (arith, four))
 to_dotted text (a ∷ b ∷ []) four small spelled = absurd (omega (arith, four))
 to_dotted text (a ∷ b ∷ c ∷ []) four small spelled = absurd (omega (arith, four))
-to_dotted text (a ∷ b ∷ c ∷ d ∷ []) four small spelled = record {
-  a = a;
-  b = b;
-  c = c;
-  d = d;
-  fit = (small.0, small.1.0, small.1.1.0, small.1.1.1.0);
-  value = refl;
-  spelled = spelled ∙ sym (dotted_is a b c d);
-}
+to_dotted text (a ∷ b ∷ c ∷ d ∷ []) four small spelled = grind (arith, dotted_is)
 to_dotted text (a ∷ b ∷ c ∷ d ∷ e ∷ more) four small spelled = absurd (omega (arith, four))
 
 pub IsIpv4Text-dotted : (text : List ℕ) (n : ℕ) (h : IsIpv4Text text n) → std.IsDotted text h.octets
@@ -31,22 +23,12 @@ IsIpv4Text-dotted text n h = to_dotted text h.octets h.four h.small h.spelled
 
 -- and one of std's is one of ours
 pub IsDotted-ipv4 : (text octets : List ℕ) → std.IsDotted text octets → IsIpv4Text text (from_octets octets)
-IsDotted-ipv4 text octets h = record {
-  octets = octets;
-  four = ap length h.value;
-  small = subst (AllBelowBase 256) (sym h.value) (h.fit.0, (h.fit.1, (h.fit.2, (h.fit.3, tt))));
-  spelled = h.spelled ∙ dotted_is h.a h.b h.c h.d ∙ ap dotted (sym h.value);
-  value = refl;
-}
+IsDotted-ipv4 text octets h = grind (arith, dotted_is)
 
 -- the last two groups of four octets
 pub two_groups : (text octets : List ℕ) (n : ℕ) → std.IsDotted text octets → from_octets octets ≡ n
     → segments_of octets ≡ (n / 0x10000) ∷ (n % 0x10000) ∷ []
-two_groups text octets n h is =
-    let value : (((0 + h.a) * 256 + h.b) * 256 + h.c) * 256 + h.d ≡ n = ap from_octets (sym h.value) ∙ is in
-    let high : h.a * 256 + h.b ≡ n / 0x10000 = omega (arith, value, h.fit.0, h.fit.1, h.fit.2, h.fit.3) in
-    let low : h.c * 256 + h.d ≡ n % 0x10000 = omega (arith, value, h.fit.0, h.fit.1, h.fit.2, h.fit.3) in
-    ap segments_of h.value ∙ (rw (high, low) refl)
+two_groups text octets n h is = grind (arith)
 
 -- texts with a colon before each
 abbrev after_colons : List (List ℕ) → List ℕ
@@ -95,8 +77,7 @@ ipv4_first (t ∷ texts) [] last n h k = absurd h
 ipv4_first (t ∷ texts) (g ∷ front) last n h k = inl (t, after_colons (texts ++ last ∷ []), refl, ((h.0.digits, h.0.value), h.0.few), ipv4_behind texts front last n h.1 k)
 
 pub AreGroupsAtEnd-std : (text groups : List ℕ) → AreGroupsAtEnd text groups → std.IsGroups true text groups
-AreGroupsAtEnd-std text groups (inl h) = AreGroups-std true text groups h
-AreGroupsAtEnd-std text groups (inr h) = subst (λ t. std.IsGroups true t groups) (sym h.spelled) (subst (λ g. std.IsGroups true (joined_by (codes ":") (h.texts ++ h.last ∷ [])) g) (sym h.value) (ipv4_first h.texts h.front h.last h.n h.each h.ipv4))
+AreGroupsAtEnd-std text groups h = grind (arith, AreGroups-std, ipv4_first)
 
 -- an IPv6 text of ours is one of std's
 pub IsGroupsText-colon_hex : (text groups : List ℕ) → IsGroupsText text groups → std.IsColonHex text groups
@@ -208,15 +189,4 @@ end_groups text groups h = elim (groups_from true text groups h) [ inl k ↦ inl
 
 -- an IPv6 text of std's is one of ours
 pub IsColonHex-groups : (text groups : List ℕ) → std.IsColonHex text groups → IsGroupsText text groups
-IsColonHex-groups text groups (inl (h, eight)) = inl (end_groups text groups h, eight)
-IsColonHex-groups text groups (inr h) = inr (record {
-  front_text = h.head_text;
-  back_text = h.tail_text;
-  front = h.head;
-  back = h.tail;
-  spelled = h.spelled;
-  front_groups = front_groups h.head_text h.head h.head_groups;
-  back_groups = end_groups h.tail_text h.tail h.tail_groups;
-  at_most_seven = omega (arith, h.room);
-  value = (let between : 8 - length h.head - length h.tail ≡ 8 - (length h.head + length h.tail) = omega arith in h.value ∙ ap (λ k. h.head ++ replicate k 0 ++ h.tail) between);
-})
+IsColonHex-groups text groups h = grind (arith, end_groups, front_groups)

@@ -1,5 +1,5 @@
 -- What the proofs of this crate use of std, of the crates below and of its own definitions, passed on by one name.
-pub use Rattle.std.proofs.Common.{Bool, Bor, Err, IsTrue, List, None, Ok, Option, Result, Some, [], add-one, ap, append-nil, append_assoc, ap₂, arith, bit_and, bit_or, codes, cond, decimal, drop, drop_at, eq-eqb, false, flat_map, get_or, inl, inr, le-leb, le-ltb, length, length-append, length-drop, length-take-le, lit<, lit≤, lt-ltb, map, nat_eq, nat_le, nat_lt, ne_eqb, one-add, option_and_then, option_map, refl, replicate, rules, subst, suc, suc-add, sym, take, true, true≢false, zero, zero-add, ℕ, ◌%◌, ◌&&◌, ◌*◌, ◌++◌, ◌+◌, ◌-◌, ◌/◌, ◌<◌, ◌==◌, ◌^◌, ◌∙◌, ◌∷◌, ◌≡◌, ◌≢◌, ◌≤◌, ◌⊎◌}
+pub use Rattle.std.proofs.Common.{Bool, Bor, Err, IsTrue, List, None, Ok, Result, Some, [], add-one, ap, append-nil, append_assoc, ap₂, arith, bit_and, bit_or, codes, cond, decimal, drop, drop_at, eq-eqb, false, flat_map, get_or, inl, inr, le-leb, le-ltb, length, length-append, length-drop, length-take-le, lit<, lit≤, lt-ltb, map, nat_eq, nat_le, nat_lt, ne_eqb, one-add, option_and_then, option_map, refl, replicate, rules, subst, suc, suc-add, sym, take, true, true≢false, zero, zero-add, ℕ, ◌%◌, ◌&&◌, ◌*◌, ◌++◌, ◌+◌, ◌-◌, ◌/◌, ◌<◌, ◌==◌, ◌^◌, ◌∙◌, ◌∷◌, ◌≡◌, ◌≢◌, ◌≤◌, ◌⊎◌}
 pub use Rattle.std.proofs.Math.Nat.{add-mul, div-div-eq-div-mul, mul-le-mul_left, mul-one, mul_assoc, pow-le-pow_right, pow-succ', pow-zero, two-pow-succ}
 pub use Rattle.std.proofs.NetLemmas.Ipv4.{read_ipv4_complete, read_ipv4_sound, read_octet_sound}
 pub use Rattle.std.proofs.NetLemmas.Ipv6.{EndsGroups-nil, IsDotted-not_colon_hex, read_ipv6_complete, read_ipv6_sound}
@@ -31,4 +31,3 @@ pub use Rattle.rpki_addr.specs.PrintedAddress.{HasZeroRun, IsFirstLongestRun, Is
 unfoldable pub use Rattle.rpki_addr.specs.PrintedAddress.{ipv6_text}
 pub use Rattle.rpki_addr.specs.ReadsAddress.{IsAddress, ReadsIp, ReadsIpv4, ReadsIpv6}
 pub use Rattle.rpki_addr.specs.declared.addr.IpAddr.{IpAddr}
-pub use Rattle.rpki_addr.specs.declared.addr.IpAddr.TheVariants.{V4, V6}

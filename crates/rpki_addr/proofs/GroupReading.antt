@@ -1,5 +1,5 @@
 -- Groups as one number while they are read.
-use Rattle.rpki_addr.proofs.Common.{Bool, Bor, List, None, Option, Some, [], ap, append-nil, append_assoc, ap₂, arith, cond, eq-eqb, false, length, length-append, lit<, lit≤, nat_lt, ne_eqb, option_and_then, option_map, refl, replicate, subst, suc, sym, true, zero, ℕ, ◌%◌, ◌*◌, ◌++◌, ◌+◌, ◌-◌, ◌/◌, ◌<◌, ◌==◌, ◌^◌, ◌∙◌, ◌∷◌, ◌≡◌, ◌≢◌, ◌≤◌, add-mul, mul-le-mul_left, mul-one, mul_assoc, pow-le-pow_right, pow-succ', pow-zero, read_ipv4_sound, ltb-true, nat_tests, number_after_append, number_push, length-replicate, mul-add-lt, pow-add, none-some, number_from_digits_after, segments_of, Read, Segments, after, read_byte, read_ipv4, read_ipv4_if, read_ipv6, read_segment, read_segments, read_separator, read_tail, below_power, next_below, from_groups, from_octets, numbered, with_number, with_octets, IsSoFar, parts}
+use Rattle.rpki_addr.proofs.Common.{Bool, Bor, List, None, Some, [], ap, append-nil, append_assoc, ap₂, arith, cond, false, length, length-append, lit<, lit≤, nat_lt, ne_eqb, option_and_then, option_map, refl, replicate, subst, suc, sym, true, zero, ℕ, ◌%◌, ◌*◌, ◌++◌, ◌+◌, ◌-◌, ◌/◌, ◌<◌, ◌==◌, ◌^◌, ◌∙◌, ◌∷◌, ◌≡◌, ◌≢◌, ◌≤◌, add-mul, mul-le-mul_left, mul-one, mul_assoc, pow-le-pow_right, pow-succ', pow-zero, read_ipv4_sound, ltb-true, nat_tests, number_after_append, number_push, length-replicate, mul-add-lt, pow-add, none-some, number_from_digits_after, segments_of, Read, Segments, after, read_byte, read_ipv4, read_ipv4_if, read_ipv6, read_segment, read_segments, read_separator, read_tail, below_power, next_below, from_groups, from_octets, numbered, with_number, with_octets, IsSoFar, parts}
 use Rattle.std.proofs.NetLemmas.Options.{same_parts}
 use Rattle.rpki_addr.specs.declared.addr.read.Groups.{Groups}
 use Rattle.rpki_addr.proofs.AddressLemmas.{two_groups}
@@ -45,14 +45,10 @@ elided_fits front back h t low high room =
 -- one zero group more, and none
 pub one_zero_more : (bits n : ℕ) → 0 < n → bits * 0x10000 * 0x10000 ^ (n - 1) ≡ bits * 0x10000 ^ n
 one_zero_more bits zero some = absurd (omega (arith, some))
-one_zero_more bits (suc m) some =
-    let less : suc m - 1 ≡ m = omega arith in
-    rw less (mul_assoc bits 0x10000 (0x10000 ^ m) ∙ ap (λ k. bits * k) (sym (pow-succ' 0x10000 m)))
+one_zero_more bits (suc m) some = grind (arith, mul_assoc, pow-succ')
 
 pub no_zero_more : (bits n : ℕ) → n ≤ 0 → bits ≡ bits * 0x10000 ^ n
-no_zero_more bits n none =
-    let is : n ≡ 0 = omega (arith, none) in
-    sym (ap (λ k. bits * 0x10000 ^ k) is ∙ ap (λ k. bits * k) (pow-zero 0x10000) ∙ mul-one bits)
+no_zero_more bits n none = grind (arith, mul-one, pow-zero)
 
 pub one_zero_fits : (bits n : ℕ) → 0 < n → bits * 0x10000 ^ n < 2 ^ 128 → bits * 0x10000 < 2 ^ 128
 one_zero_fits bits n some fits =
@@ -63,8 +59,7 @@ one_zero_fits bits n some fits =
 
 ipv4_if_some : (b : Bool) (text : List ℕ) (p : List ℕ × List ℕ) → read_ipv4_if b text ≡ Some p
     → (b ≡ true) × (read_ipv4 text ≡ Some p)
-ipv4_if_some true text p e = (refl, e)
-ipv4_if_some false text p e = absurd (none-some p e)
+ipv4_if_some b text p e = grind (arith, none-some)
 
 number_two : (xs : List ℕ) (g h : ℕ) → from_groups (xs ++ g ∷ h ∷ []) ≡ (from_groups xs * 0x10000 + g) * 0x10000 + h
 number_two xs g h = ap from_groups (sym (append_assoc xs (g ∷ []) (h ∷ []))) ∙ number_push 0x10000 (xs ++ g ∷ []) h ∙ ap (λ k. k * 0x10000 + h) (number_push 0x10000 xs g)
@@ -72,14 +67,10 @@ number_two xs g h = ap from_groups (sym (append_assoc xs (g ∷ []) (h ∷ [])))
 -- a read that is seen through a view
 seen : (r : Read (List ℕ)) (n : ℕ) (rest : List ℕ) → Some (n, rest) ≡ option_map with_octets r
     → (o : List ℕ) × (r ≡ Some (o, rest)) × (from_octets o ≡ n)
-seen None n rest e = absurd (none-some _ (sym e))
-seen (Some p) n rest e =
-    let (value, left) = same_parts n (from_octets p.0) rest p.1 e in
-    (p.0, ap (λ l. Some (p.0, l)) (sym left), sym value)
+seen r n rest e = grind (arith, none-some, same_parts)
 
 unseen : (r : Read (List ℕ)) → None ≡ option_map with_octets r → None ≡ r
-unseen None e = refl
-unseen (Some p) e = absurd (none-some _ e)
+unseen r e = grind (arith, none-some)
 
 -- so an IPv4 text stands only where two groups have room
 pub ipv4_room : (b : Bool) (text : List ℕ) (n : ℕ) (rest : List ℕ)
@@ -220,29 +211,18 @@ module _ (n : ℕ) (text : List ℕ) (groups : Groups) (unclosed : groups.closed
 pub ipv6_full : (text : List ℕ) (a h : ℕ) (b : Bool) (s : List ℕ) → (a, h, b, s) ≡ numbered (read_segments 8 true text)
     → h ≡ 8 → Some (a, s) ≡ option_map with_number (read_ipv6 text)
 unfolding read_ipv6
-ipv6_full text a h b s e eight =
-    let found = read_segments 8 true text in
-    let long : length found.0 ≡ 8 = ap (λ (p : ℕ × ℕ × Bool × List ℕ). p.1) (sym e) ∙ eight in
-    rw (eq-eqb (length found.0) 8 long) (ap₂ (λ n l. Some (n, l)) (ap (λ (p : ℕ × ℕ × Bool × List ℕ). p.0) e) (ap (λ (p : ℕ × ℕ × Bool × List ℕ). p.3) e))
+ipv6_full text a h b s e eight = grind (arith, found)
 
 -- fewer, with an IPv4 text at the end
 pub ipv6_short : (text : List ℕ) (a h : ℕ) (b : Bool) (s : List ℕ) → (a, h, b, s) ≡ numbered (read_segments 8 true text)
     → h ≢ 8 → b ≡ true → None ≡ option_map with_number (read_ipv6 text)
 unfolding read_ipv6
-ipv6_short text a h b s e other ends =
-    let found = read_segments 8 true text in
-    let short : length found.0 ≢ 8 = λ eight. other (ap (λ (p : ℕ × ℕ × Bool × List ℕ). p.1) e ∙ eight) in
-    let ipv4_end : found.1 ≡ true = ap (λ (p : ℕ × ℕ × Bool × List ℕ). p.2) (sym e) ∙ ends in
-    rw (ne_eqb (length found.0) 8 short, ipv4_end)
+ipv6_short text a h b s e other ends = grind (arith, found)
 
 -- what is behind two colons
 tail_none : (head text : List ℕ) → None ≡ option_and_then (read_byte 58) (read_byte 58 text)
     → read_tail head text ≡ None
-tail_none head text e = go (read_byte 58 text) refl
-  where
-    go : (r : Option (List ℕ)) → read_byte 58 text ≡ r → read_tail head text ≡ None
-    go None is = rw is
-    go (Some one) is = let none : None ≡ read_byte 58 one = rw is at e in rw (is, ← none)
+tail_none head text e = grind (arith)
 
 tail_some : (head text two : List ℕ) → Some two ≡ option_and_then (read_byte 58) (read_byte 58 text)
     → read_tail head text
@@ -251,29 +231,14 @@ tail_some : (head text two : List ℕ) → Some two ≡ option_and_then (read_by
           ++ (read_segments (7 - length head) true two).0,
       (read_segments (7 - length head) true two).2,
     )
-tail_some head text two e = go (read_byte 58 text) refl
-  where
-    go : (r : Option (List ℕ)) → read_byte 58 text ≡ r
-        → read_tail head text
-        ≡ Some (
-          head ++ replicate (8 - length head - length (read_segments (7 - length head) true two).0) 0
-              ++ (read_segments (7 - length head) true two).0,
-          (read_segments (7 - length head) true two).2,
-        )
-    go None is = absurd (none-some _ (sym (rw is at e)))
-    go (Some one) is = let some : Some two ≡ read_byte 58 one = rw is at e in rw (is, ← some)
+tail_some head text two e = grind (arith, none-some)
 
 -- fewer, with no two colons behind them
 pub ipv6_no_colons : (text : List ℕ) (a h : ℕ) (b : Bool) (s : List ℕ)
     → (a, h, b, s) ≡ numbered (read_segments 8 true text) → h ≢ 8 → b ≡ false
     → None ≡ option_and_then (read_byte 58) (read_byte 58 s) → None ≡ option_map with_number (read_ipv6 text)
 unfolding read_ipv6
-ipv6_no_colons text a h b s e other plain none =
-    let found = read_segments 8 true text in
-    let short : length found.0 ≢ 8 = λ eight. other (ap (λ (p : ℕ × ℕ × Bool × List ℕ). p.1) e ∙ eight) in
-    let no_ipv4 : found.1 ≡ false = ap (λ (p : ℕ × ℕ × Bool × List ℕ). p.2) (sym e) ∙ plain in
-    let rest : s ≡ found.2 = ap (λ (p : ℕ × ℕ × Bool × List ℕ). p.3) e in
-    rw (ne_eqb (length found.0) 8 short, no_ipv4, tail_none found.0 found.2 (rw rest at none))
+ipv6_no_colons text a h b s e other plain none = grind (arith, found, tail_none)
 
 -- and with some
 pub ipv6_colons : (text : List ℕ) (a h : ℕ) (b : Bool) (s two : List ℕ) (c t : ℕ) (d : Bool) (rest : List ℕ)

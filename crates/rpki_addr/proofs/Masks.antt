@@ -21,7 +21,4 @@ set_host k n m mask =
 
 -- the mask `MAX >> len` of w bits has its last w - len bits set
 pub host_ones : (w len : ℕ) → len ≤ w → (2 ^ w - 1) / 2 ^ len + 1 ≡ 2 ^ (w - len)
-host_ones w len short =
-    let ones : (2 ^ w - 1) / 2 ^ len ≡ 2 ^ (w - len) - 1 = ones_shr w len short in
-    let some : 0 < 2 ^ (w - len) = pow_pos (w - len) in
-    omega (arith, ones, some)
+host_ones w len short = grind (arith, ones_shr, pow_pos)

@@ -1,5 +1,8 @@
 -- What is written of blocks of AS numbers.
-use Rattle.rpki_as_block.proofs.Common.{Bool, List, Ok, Option, Result, Some, ap, arith, false, length, refl, subst, sym, true, ℕ, ◌++◌, ◌<◌, ◌^◌, ◌∙◌, ◌≡◌, ◌≤◌, length-append, optional_back, as_number_octets, IsNew, lenient_is, same_reading, length-header, u32_is, value_is, Spells, header, integer, sequence_value, IsReading, optional, Takes, is_strict, left, DerError, HasAsNumbers, IsAsBlock, IsSetBlock, as_block_octets, as_range_content, as_block_has_octets, as_block_reading, as_block_modal, IsStrictBlock, as_block_at, as_block_by, as_bounds, new_as_block, AsBlock, Id, Range}
+use Rattle.rpki_as_block.proofs.Common.{Bool, List, Ok, Option, Result, Some, arith, false, length, refl, subst, sym, true, ℕ, ◌++◌, ◌<◌, ◌^◌, ◌≡◌, ◌≤◌, length-append, optional_back, as_number_octets, IsNew, lenient_is, same_reading, length-header, u32_is, value_is, IsReading, optional, HasAsNumbers, IsAsBlock, IsSetBlock, as_block_octets, as_range_content, as_block_has_octets, as_block_reading, as_block_modal, IsStrictBlock, as_block_at, as_block_by, as_bounds, new_as_block, AsBlock, Id, Range}
+use Rattle.rpki_der.specs.Der.{Spells, header, integer}
+use Rattle.rpki_der.specs.Views.{Takes, is_strict, left}
+use Rattle.rpki_der.specs.declared.error.DerError.{DerError}
 use Rattle.rpki_der.specs.declared.cursor.Cursor.{Cursor}
 use Rattle.rpki_der.proofs.Contents.{length-integer}
 
@@ -23,24 +26,16 @@ block_written (Range r) ordered lt =
 
 -- octets that are a block are those that are written of it
 pub block_spelled : (bytes : List ℕ) (x : AsBlock) → IsAsBlock bytes x → bytes ≡ as_block_octets x
-block_spelled bytes (Id n) is = is.1.spelled
-block_spelled bytes (Range r) (ordered, (content, is, (second, front, last))) =
-    let one : front.0 ≡ as_number_octets r.min = front.1.1.spelled in
-    let two : second ≡ as_number_octets r.max = last.1.spelled in
-    let whole : content ≡ as_range_content (r.min, r.max) = front.2 ∙ ap (λ (t : List ℕ). t ++ second) one ∙ ap (λ (t : List ℕ). as_number_octets r.min ++ t) two in
-    is.spelled ∙ ap sequence_value whole
+block_spelled bytes x is = grind (arith)
 
 -- its numbers
 pub block_numbers : (bytes : List ℕ) (x : AsBlock) → IsAsBlock bytes x
     → ((as_bounds x).0 ≤ (as_bounds x).1) × ((as_bounds x).1 < 2 ^ 32)
-block_numbers bytes (Id n) is = (omega arith, is.0)
-block_numbers bytes (Range r) (ordered, (content, is, (second, front, last))) = (ordered, last.0)
+block_numbers bytes x is = grind (arith)
 
 -- strictly, these octets are found, of the blocks that sets have
 pub set_block_is : (bytes : List ℕ) (x : AsBlock) → IsStrictBlock bytes x → Spells IsSetBlock as_block_octets bytes x
-set_block_is bytes x (is, new_form) =
-    let numbers = block_numbers bytes x is in
-    (record { ordered = numbers.0; below = numbers.1; new_form = new_form }, block_spelled bytes x is)
+set_block_is bytes x h = grind (arith, block_numbers, block_spelled)
 
 pub is_set_block : (bytes : List ℕ) (x : AsBlock) → Spells IsSetBlock as_block_octets bytes x → IsStrictBlock bytes x
 is_set_block bytes x (is, spelled) = (subst (λ (t : List ℕ). IsAsBlock t x) (sym spelled) (block_written x is.ordered is.below), is.new_form)

@@ -28,13 +28,7 @@ block_apart text (Range r) BadBlocks h f = absurd f
 
 -- no text has two faults
 pub same_block_fault : (text : List ℕ) (d e : FromStrError) → HasAsBlockFault text d → HasAsBlockFault text e → d ≡ e
-same_block_fault text BadAsn BadAsn f g = refl
-same_block_fault text BadAsn BadRange f g = absurd (none_around dash text _ f.0 g)
-same_block_fault text BadRange BadAsn f g = absurd (none_around dash text _ g.0 f)
-same_block_fault text BadRange BadRange f g = refl
-same_block_fault text BadBlocks e f g = absurd f
-same_block_fault text BadAsn BadBlocks f g = absurd g
-same_block_fault text BadRange BadBlocks f g = absurd g
+same_block_fault text d e f g = grind (arith, none_around)
 
 -- what is printed of a number has no dash
 no_dash : (bs : List ℕ) → AllByRecursion (IsInRange 48 90) bs → HasNo dash bs

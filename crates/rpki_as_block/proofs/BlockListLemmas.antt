@@ -20,10 +20,7 @@ pub record IsSoFar (start : ℕ) (text : List ℕ) (blocks : List AsBlock) : Typ
 -- one place alone is behind a space, if one stands there
 same_place : (start first other : ℕ) (text : List ℕ) → IsAfterSpace start first text → IsAfterSpace start other text
     → first ≡ other
-same_place start first other text (inl a) (inl b) = a.0 ∙ sym b.0
-same_place start first other text (inl a) (inr b) = absurd (a.1 b.1)
-same_place start first other text (inr a) (inl b) = absurd (b.1 a.1)
-same_place start first other text (inr a) (inr b) = a.0 ∙ sym b.0
+same_place start first other text h h2 = grind (arith)
 
 -- it is the block of the usual form that stands there, and ends there
 abbrev pub IsAlone : ℕ → List ℕ → AsBlock → ℕ → Type 0
@@ -43,8 +40,7 @@ pub first_block : (start first : ℕ) (text : List ℕ) (rest : List AsBlock) �
     → AreAsBlocksFrom start text rest
     → (b : AsBlock) × (end : ℕ) × (more : List AsBlock) × IsAsBlockAt first end text b × GoesOn end text more
 first_block start first text [] after h = absurd h
-first_block start first text (b ∷ more) after (place, end, there, block, on) =
-    (b, end, more, subst (λ k. IsAsBlockAt k end text b) (same_place start place first text there after) block, on)
+first_block start first text (b ∷ more) after (place, end, there, block, on) = grind (arith, same_place)
 
 -- it goes on no further where neither the text's end nor a comma stands behind that block
 pub goes_no_further : (start first end : ℕ) (text : List ℕ) (b : AsBlock) (rest : List AsBlock)
@@ -86,12 +82,7 @@ module _ (start first end : ℕ) (text : List ℕ) (b : AsBlock) (after : IsAfte
   left_behind : end < length text → IsAlone first text b end
       → (other : AsBlock) × (place : ℕ) × (more : List AsBlock) × IsAsBlockAt first place text other
       × GoesOn place text more → (rest : List AsBlock) × AreAsBlocksFrom (end + 1) text rest
-  left_behind more alone (other, place, rest, block, on) =
-      let is : end ≡ place = ap end_of (alone other place block) in
-      elim on [
-        | inl k ↦ absurd (omega (arith, more, is, k.0))
-        | inr k ↦ (rest, subst (λ e. AreAsBlocksFrom (e + 1) text rest) (sym is) k.1)
-      ]
+  left_behind more alone h = grind (arith)
 
   -- one that a comma follows leaves what is behind the comma, where each block of the usual form there is it
   pub one_more : IsAlone first text b end → (blocks : List AsBlock) → IsSoFar start text blocks → end < length text

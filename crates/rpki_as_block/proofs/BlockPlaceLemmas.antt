@@ -23,12 +23,7 @@ shown_both (x ∷ xs) ys h k = ((omega (arith, h.0.0), omega (arith, h.0.1)), sh
 -- one number is a block
 pub id_between : (start end : ℕ) (text : List ℕ) (n : ℕ) → IsAsnBetween start end text n
     → IsAsBlockBetween start end text (Id n)
-id_between start end text n h = record {
-  in_order = h.in_order;
-  within = h.within;
-  block = (no_dash _ h.bytes, h.number);
-  shown = shown _ h.bytes;
-}
+id_between start end text n h = grind (arith, no_dash, shown)
 
 -- the rest behind a place is that behind a later one
 pub drop_later : {A : Type 0} (start end : ℕ) (xs : List A) → start ≤ end
@@ -54,19 +49,7 @@ cut_between start middle end text b first last within is =
 pub range_between : (start middle end : ℕ) (text : List ℕ) (r : RangeValue) → IsAsnBetween start middle text r.min
     → get_or text middle 0 ≡ 45 → IsAsnBetween (middle + 1) end text r.max → r.min ≤ r.max
     → IsAsBlockBetween start end text (Range r)
-range_between start middle end text r h dash_is k ordered =
-    let shape = cut_between start middle end text 45 (omega (arith, h.in_order)) (omega (arith, k.in_order)) k.within dash_is in
-    record {
-      in_order = omega (arith, h.in_order, k.in_order);
-      within = k.within;
-      block = record {
-        left = take (middle - start) (drop start text);
-        right = take (end - (middle + 1)) (drop (middle + 1) text);
-        cut = record { split = shape; first = no_dash _ h.bytes };
-        holds = record { min_text = h.number; max_text = k.number; in_order = ordered };
-      };
-      shown = rw shape (shown_both _ _ h.bytes k.bytes);
-    }
+range_between start middle end text r h dash_is k ordered = grind (arith, cut_between, no_dash, shown, shown_both)
 
 -- the number and the place of what is found
 abbrev number_of : Option (ℕ × ℕ) → ℕ
@@ -95,8 +78,7 @@ IsOneNumber start text found = (n end : ℕ) → IsAsnAt start end text n → fo
 -- a block of the usual form begins with one
 pub first_number : (start end : ℕ) (text : List ℕ) (b : AsBlock) → IsAsBlockAt start end text b
     → (n middle : ℕ) × IsAsnAt start middle text n
-first_number start end text (Id n) h = (n, end, h.0)
-first_number start end text (Range r) h = (r.min, h.0, h.1)
+first_number start end text b h = grind (arith)
 
 -- without a dash behind it, it is the block
 pub id_alone : (start min dash_at : ℕ) (text : List ℕ) → IsOneNumber start text (Some (min, dash_at))

@@ -1,5 +1,5 @@
 -- What the proofs of this crate use of std, of the crates below and of its own definitions, passed on by one name.
-pub use Rattle.std.proofs.Common.{Bool, Err, List, MatchResult, None, Ok, Option, Result, Some, [], ap, arith, drop, false, get_or, inl, inr, is_ok, length, length-drop, lit<, ltb, refl, subst, suc, sym, take, true, zero, ℕ, ◌++◌, ◌+◌, ◌-◌, ◌<◌, ◌^◌, ◌↔◌, ◌∙◌, ◌∷◌, ◌≡◌, ◌≤◌, ◌⊎◌}
+pub use Rattle.std.proofs.Common.{Bool, Err, List, MatchResult, None, Ok, Option, Result, Some, [], ap, arith, drop, false, get_or, inl, inr, is_ok, length, length-drop, lit<, refl, subst, suc, sym, take, true, zero, ℕ, ◌++◌, ◌+◌, ◌-◌, ◌<◌, ◌^◌, ◌↔◌, ◌∙◌, ◌∷◌, ◌≡◌, ◌≤◌, ◌⊎◌}
 pub use Rattle.std.proofs.Math.Seq.{drop-length, take-append-add, take-length}
 pub use Rattle.std.proofs.lemmas.Bool.{le-ltb, lt-ltb, ltb-true}
 pub use Rattle.std.proofs.lemmas.Bool.Decides.{nat_tests}
@@ -14,11 +14,8 @@ pub use Rattle.rpki_chains.specs.Sets.{IsNew, IsWithin}
 pub use Rattle.rpki_der.proofs.Modes.{exact_optional_by, lenient_is, refused_optional_by}
 pub use Rattle.rpki_der.proofs.Readings.{one_front, same_reading}
 pub use Rattle.rpki_der.proofs.Written.{length-header, u32_is, value_is}
-pub use Rattle.rpki_der.specs.Der.{Spells, header, integer, sequence_value}
 pub use Rattle.rpki_der.specs.Reading.{IsReading, optional, passing, tagged_at, unsigned, value_at, ◌>>=◌}
 unfoldable pub use Rattle.rpki_der.specs.Reading.{refined}
-pub use Rattle.rpki_der.specs.Views.{Takes, is_strict, left}
-pub use Rattle.rpki_der.specs.declared.error.DerError.{DerError}
 pub use Rattle.rpki_text.specs.Cuts.{HasNo, dash}
 pub use Rattle.rpki_as_block.specs.AsDer.{HasAsNumbers, IsAsBlock, IsBlockInAnyOrder, IsSetBlock, as_block_octets, as_range_content}
 pub use Rattle.rpki_as_block.specs.AsDerLaws.{as_block_has_octets, as_block_reading, skip_reading}

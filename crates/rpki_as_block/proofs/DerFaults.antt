@@ -1,5 +1,5 @@
 -- Where a range of AS numbers is reversed, and that no fault of lists is one of a block.
-use Rattle.rpki_as_block.proofs.Common.{Err, List, Ok, Result, ap, arith, is_ok, ltb, refl, true, ℕ, ◌<◌, ◌↔◌, ◌≡◌, lt-ltb, ltb-true, as_number_at, RangeValue, passing, refined, tagged_at, unsigned, value_at, ◌>>=◌, DerError, as_block_at, as_block_by, as_block_of, as_id_in, as_range_block_in, as_range_in, is_new_form, range_of, Id, Range}
+use Rattle.rpki_as_block.proofs.Common.{Err, List, Ok, ap, arith, is_ok, true, ℕ, ◌<◌, ◌↔◌, ◌≡◌, lt-ltb, ltb-true, as_number_at, passing, refined, tagged_at, unsigned, value_at, ◌>>=◌, as_block_at, as_block_by, as_block_of, as_id_in, as_range_block_in, as_range_in, is_new_form, range_of, Id, Range}
 use Rattle.rpki_der.specs.declared.error.DerError.TheVariants.{NotCanonical, ReversedRange}
 use Rattle.rpki_base.specs.DerFaults.{BeginsWithTwo, BeginsWithValue}
 use Rattle.rpki_base.proofs.DerFaults.{NamesTo, begins_two, begins_value, bind_fails, bind_names, by_tag_names, cond_fails, cond_names, mapped_fails, names_more, not_named, pair_fails, pair_names, refined_names, sequence_fails, tagged_names, unsigned_names, value_names}
@@ -11,9 +11,7 @@ number_names = refined_names 4 (tagged_at 2) unsigned (λ bytes. names_more 3 4 
 
 range_of_names : (min max : ℕ) → NamesTo 10 (range_of min max)
 unfolding range_of
-range_of_names min max =
-    let made : Result RangeValue DerError = Ok (record { min = min; max = max }) in
-    cond_names 10 (ltb max min) (Err ReversedRange) made (omega arith) tt
+range_of_names min max = grind (arith, cond_names)
 
 range_names : (content : List ℕ) → NamesTo 10 (as_range_in content)
 range_names = pair_names 10 as_number_at range_of (omega arith) (λ bytes. names_more 4 10 (as_number_at bytes) (omega arith) (number_names bytes)) range_of_names
@@ -32,9 +30,7 @@ block_names =
 
 range_of_fails : (min max : ℕ) → (range_of min max ≡ Err ReversedRange) ↔ (max < min)
 unfolding range_of
-range_of_fails min max =
-    let made : RangeValue = record { min = min; max = max } in
-    ((λ is. ltb-true max min (cond_fails (ltb max min) made ReversedRange ReversedRange (Ok made) refl is)), (λ less. rw (lt-ltb max min less) refl))
+range_of_fails min max = grind (arith, cond_fails, lt-ltb, ltb-true)
 
 -- the second number is less than the first
 abbrev Less : ℕ → ℕ → Type 0

@@ -172,28 +172,7 @@ module _ {B : Type 0} (f : B → ℕ × ℕ) (form : ℕ × ℕ → B) where
   pub Walk-skip : (xs ys out : List B) (i j : ℕ) (b c : ℕ × ℕ) (next : Option (ℕ × ℕ))
       → Walk xs ys i (Some b) j (Some c) out → c.1 < b.0 → IsAt f ys (j + 1) next
       → Walk xs ys i (Some b) (j + 1) next out
-  Walk-skip xs ys out i j b c next w high head =
-      let at : IsAt f ys j (Some c) = w.cut_is in
-      let same_number : (a b : ℕ × ℕ) → Some a ≡ Some b → a ≡ b = λ a b e. cc in
-      record {
-        own_chain = w.own_chain;
-        other_chain = w.other_chain;
-        chain = w.chain;
-        rest_is = w.rest_is;
-        cut_is = head;
-        passed = λ a e k d early lt. ⊎_elim
-            (λ (before : k < j). w.passed a e k d before lt)
-            (λ (late : j ≤ k).
-            let same : k ≡ j = omega arith in
-            let P : ℕ → Type 0 = λ m. f (get_or ys m d) ≡ c in
-            let here : f (get_or ys k d) ≡ c = subst P (sym same) (at.1 d) in
-            let ends = ap (λ (p : ℕ × ℕ). p.1) here in
-            let begins = ap (λ (p : ℕ × ℕ). p.0) (same_number b a e) in
-            omega arith)
-            (cases_lt k j);
-        edge = w.edge;
-        covers = w.covers;
-      }
+  Walk-skip xs ys out i j b c next w high head = grind (arith, cases_lt)
 
   -- the rest reaches beyond the cut, which has begun
   pub Walk-advance : (xs ys out : List B) (i j : ℕ) (b c r : ℕ × ℕ) → Walk xs ys i (Some b) j (Some c) out → c.0 ≤ b.0

@@ -33,7 +33,7 @@ pub use Rattle.rpki_text.specs.declared.memory.OrMemory.TheVariants.{Memory, Ref
 pub use Rattle.rpki_base.specs.AsnDer.{IsAsNumber, as_number_at, as_number_octets}
 pub use Rattle.rpki_base.specs.AsnText.{IsAfterAs, IsAsAnd, IsAsnText, ReadsAsn, asn_text}
 pub use Rattle.rpki_base.specs.DerFaults.{BeginsEmpty, BeginsWithAll, BeginsWithTwo, BeginsWithValue}
-pub use Rattle.rpki_base.specs.DerReading.{Encloses, IsSequenceFrom, IsSequenceOf, SaysByTag, SaysPair, Skips, begins_with, enclosed_at, sequence_from, skipping, values_of}
+pub use Rattle.rpki_base.specs.DerReading.{Encloses, IsSequenceFrom, IsSequenceOf, SaysByTag, SaysPair, Skips, enclosed_at, sequence_from, skipping, values_of}
 unfoldable pub use Rattle.rpki_base.specs.DerReading.{by_tag, if_tagged, only, pair_by, pair_in, values_from}
 pub use Rattle.rpki_base.specs.DerViews.{GivesOrMemory, NotCanonicalOrMemory, ReadsOrMemory, ReadsTagged, TakesOrMemory, TakesSaidOrMemory}
 pub use Rattle.rpki_base.specs.DerWriting.{octets_of_all, sequence_octets}

@@ -1,5 +1,5 @@
 -- From the reading to the grammar, for calls that take memory, or that look at the tag first.
-use Rattle.rpki_base.proofs.Common.{Bool, Err, List, None, Ok, Option, Result, Some, ap, arith, cond, false, length, refl, sym, true, ℕ, ◌++◌, ◌<◌, ◌∙◌, ◌≡◌, length-append, none_by, reads_optional_by, as_some, some_err, some_is, ok_is, ok_or_err, IsBytes, Refines, IsReading, optional, ◌>>=◌, ReadsOptional, Takes, left, Cursor, DerError, OrMemory, begins_with, if_tagged, ReadsOrMemory, ReadsTagged, TakesOrMemory, TakesSaidOrMemory}
+use Rattle.rpki_base.proofs.Common.{Err, List, None, Ok, Option, Result, Some, ap, arith, length, sym, ℕ, ◌++◌, ◌<◌, ◌∙◌, ◌≡◌, length-append, none_by, reads_optional_by, as_some, some_err, some_is, ok_is, ok_or_err, IsBytes, Refines, IsReading, optional, ◌>>=◌, ReadsOptional, Takes, left, Cursor, DerError, OrMemory, if_tagged, ReadsOrMemory, ReadsTagged, TakesOrMemory, TakesSaidOrMemory}
 
 -- a take that may want memory
 pub reads_or_memory_by : {X Y : Type 0} (G : List ℕ → Y → Type 0) (reading : List ℕ → Result (Y × List ℕ) DerError)
@@ -34,31 +34,8 @@ pub reads_tagged_by : {X : Type 0} (tag : ℕ) (G : List ℕ → X → Type 0) (
     (old new : Cursor) (result : Result (Option X) DerError) → IsReading G reading → IsBytes (left old)
     → Takes (λ o. o) old new result (if_tagged tag reading) → ReadsTagged tag G old new result
 unfolding if_tagged
-reads_tagged_by {X} tag G reading old new result is fits = decided result
-  where
-    read : Bool → Result (Option X × List ℕ) DerError
-    read b = cond b (reading (left old) >>= as_some) (Ok (None, left old))
-
-    none : (b : Bool) → begins_with tag (left old) ≡ b → read b ≡ Ok (None, left new)
-        → ReadsTagged tag G old new (Ok None)
-    none true t took = absurd (none_ok (reading (left old)) (left new) took)
-    none false t took = (t, sym (ap (λ p. p.1) (ok_is (None, left old) (None, left new) took)))
-
-    some : (x : X) (b : Bool) → begins_with tag (left old) ≡ b → read b ≡ Ok (Some x, left new)
-        → ReadsTagged tag G old new (Ok (Some x))
-    some x true t took = (t, is.takes (left old) x (left new) fits (some_ok (reading (left old)) x (left new) took))
-    some x false t took = let h = ap (λ p. p.0) (ok_is (None, left old) (Some x, left new) took) in absurd cc
-
-    fails : (e : DerError) (b : Bool) → begins_with tag (left old) ≡ b → read b ≡ Err e → new ≡ old
-        → ReadsTagged tag G old new (Err e)
-    fails e true t took kept = (t, none_by G reading (left old) e is (some_err (reading (left old)) e took), kept)
-    fails e false t took kept = absurd cc
-
-    decided : (result : Result (Option X) DerError) → Takes (λ o. o) old new result (if_tagged tag reading)
-        → ReadsTagged tag G old new result
-    decided (Ok None) took = none (begins_with tag (left old)) refl took
-    decided (Ok (Some x)) took = some x (begins_with tag (left old)) refl took
-    decided (Err e) took = fails e (begins_with tag (left old)) refl took.0 took.1
+reads_tagged_by tag G reading old new result is fits =
+    grind (arith, as_some, none_by, none_ok, ok_is, some_err, some_ok)
 
 -- a take that answers what is said by what the reading gives
 pub reads_said_by : {X Y : Type 0} (G : List ℕ → Y → Type 0) (C : Y → X → Type 0)

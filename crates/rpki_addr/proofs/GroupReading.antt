@@ -248,19 +248,4 @@ pub ipv6_colons : (text : List ℕ) (a h : ℕ) (b : Bool) (s two : List ℕ) (c
     → Some (a * 0x10000 ^ (8 - h) + c, rest) ≡ option_map with_number (read_ipv6 text)
 unfolding read_ipv6
 ipv6_colons text a h b s two c t d rest e within other plain some e₁ room =
-    let found = read_segments 8 true text in
-    let is_h : h ≡ length found.0 = ap (λ (p : ℕ × ℕ × Bool × List ℕ). p.1) e in
-    let short : length found.0 ≢ 8 = λ eight. other (is_h ∙ eight) in
-    let no_ipv4 : found.1 ≡ false = ap (λ (p : ℕ × ℕ × Bool × List ℕ). p.2) (sym e) ∙ plain in
-    let left : s ≡ found.2 = ap (λ (p : ℕ × ℕ × Bool × List ℕ). p.3) e in
-    let tail = read_segments (7 - length found.0) true two in
-    let e₂ : (c, t, d, rest) ≡ numbered tail = e₁ ∙ ap (λ k. numbered (read_segments (7 - k) true two)) is_h in
-    let is_t : t ≡ length tail.0 = ap (λ (p : ℕ × ℕ × Bool × List ℕ). p.1) e₂ in
-    let is_c : c ≡ from_groups tail.0 = ap (λ (p : ℕ × ℕ × Bool × List ℕ). p.0) e₂ in
-    let is_a : a ≡ from_groups found.0 = ap (λ (p : ℕ × ℕ × Bool × List ℕ). p.0) e in
-    let is_rest : rest ≡ tail.2 = ap (λ (p : ℕ × ℕ × Bool × List ℕ). p.3) e₂ in
-    let fit : length found.0 + length tail.0 ≤ 8 = omega (arith, room, within, is_h, is_t) in
-    let number : a * 0x10000 ^ (8 - h) + c ≡ from_groups (found.0 ++ replicate (8 - length found.0 - length tail.0) 0 ++ tail.0) =
-    rw (is_a, is_h, is_c) (sym (number_elided found.0 tail.0 fit)) in
-    rw (ne_eqb (length found.0) 8 short, no_ipv4, tail_some found.0 found.2 two (rw left at some))
-    (ap₂ (λ n l. Some (n, l)) number is_rest)
+    grind (arith, found, number_elided, tail_some)

@@ -2,9 +2,9 @@
 """Finds statements of proofs and definitions above 120 columns, and with --write breaks them. [CRATE..]
 
 A statement is what stands behind the colon of a name, to the next line that isn't indented further. It breaks before an
-arrow, and where what stands between two arrows is too wide by itself, before one of its terms; what follows is indented
-by four columns more than the name. Records, modules and proofs stay as they are. Ends with status 1 where a line is
-wider.
+arrow, and where what stands between two arrows is too wide by itself, before the loosest of its operators, or else
+between its terms; what follows is indented by four columns more than the name. Records, modules and proofs stay as they
+are. Ends with status 1 where a line is wider.
 """
 
 import re
@@ -62,7 +62,7 @@ def laid(text: str, first: str, indent: str) -> list[str]:
     if len(found) == 1:
         opened = next((at for at, it in enumerate(text) if it in OPENS), None)
         if opened is None or text[-1] not in CLOSES:
-            return [before + text]
+            return [first, indent + text] if first.strip() else [before + text]
         inner = laid(text[opened + 1 : -1], before + text[: opened + 1], indent)
         return [*inner[:-1], inner[-1] + text[-1]]
     lines = [first]
@@ -78,20 +78,17 @@ def narrow(lines: list[str]) -> list[str]:
     return laid(rest, f"{name} :", " " * (len(name) - len(name.lstrip()) + 4))
 
 
-def with_narrow_statements(lines: list[str]) -> list[str]:
-    """The lines of a file, with its wide statements broken."""
-    out: list[str] = []
+def statements(lines: list[str]) -> Iterator[tuple[int, int]]:
+    """The wide statements of a file: from a line to the one behind the last."""
     at = 0
     while at < len(lines):
         head = HEAD.match(lines[at])
         end = at + 1
         while head and end < len(lines) and lines[end].startswith(f"{head[1]} ") and "--" not in lines[end]:
             end += 1
-        statement = lines[at:end]
-        is_wide = head is not None and "--" not in lines[at] and any(len(it) > WIDTH for it in statement)
-        out += narrow(statement) if is_wide else statement
+        if head and "--" not in lines[at] and any(len(it) > WIDTH for it in lines[at:end]):
+            yield at, end
         at = end
-    return out
 
 
 def main() -> int:
@@ -100,13 +97,14 @@ def main() -> int:
     found = 0
     for path in files(names):
         lines = path.read_text().split("\n")
-        broken = with_narrow_statements(lines)
-        if broken != lines and "--write" in sys.argv:
-            path.write_text("\n".join(broken))
-        elif broken != lines:
-            wide = len([it for it in lines if len(it) > WIDTH]) - len([it for it in broken if len(it) > WIDTH])
+        if "--write" in sys.argv:
+            for at, end in reversed(list(statements(lines))):
+                lines[at:end] = narrow(lines[at:end])
+            path.write_text("\n".join(lines))
+        wide = sum(len(it) > WIDTH for at, end in statements(lines) for it in lines[at:end])
+        if wide:
             print(f"{path.relative_to(TOP)}: {wide} lines of statements above {WIDTH} columns")
-            found += wide
+        found += wide
     print(f"wide lines of statements: {found}; tests/wide_statements.py --write breaks them")
     return 1 if found else 0
 

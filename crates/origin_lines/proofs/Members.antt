@@ -1,9 +1,6 @@
 -- Members of lists: of what is mapped, of what a property picks out, of what an iterator has given.
-use Rattle.std.proofs.Common.{◌≡◌, ◌⊎◌, zero, suc, List, [], ◌∷◌, ◌++◌, map, refl, sym, ap, subst, ◌∙◌, inl, inr, arith, reverse}
+use Rattle.origin_lines.proofs.Common.{List, [], ap, arith, inl, inr, map, refl, reverse, subst, suc, sym, zero, ◌++◌, ◌∙◌, ◌∷◌, ◌≡◌, ◌⊎◌, Contains-permutation, IsPermutation-reverse, IsPermutation-sym, Any, Contains, AreThose}
 use Rattle.std.specs.Iterator.{Yields, YieldsFirst}
-use Rattle.std.specs.List.{Any, Contains}
-use Rattle.std.proofs.lemmas.List.Sorted.{Contains-permutation, IsPermutation-reverse, IsPermutation-sym}
-use Rattle.roa_origin.specs.Coverings.{AreThose}
 
 module _ {X : Type 0} where
   pub here : (x : X) (xs : List X) → Contains (x ∷ xs) x
@@ -54,7 +51,8 @@ module _ {X : Type 0} where
   ]
 
   -- what an iterator has given and what is left are its list
-  pub walked : (all given left : List X) → Yields (YieldsFirst (λ (xs : List X). xs)) all given left → all ≡ given ++ left
+  pub walked : (all given left : List X) → Yields (YieldsFirst (λ (xs : List X). xs)) all given left
+      → all ≡ given ++ left
   walked all [] left e = e
   walked all (x ∷ given) left (next, first, more) = first ∙ ap (λ xs. x ∷ xs) (walked next given left more)
 

@@ -20,11 +20,7 @@ first_in w p = record { from = omega arith; upto = (let h : 0 < 2 ^ (w - p.len) 
 
 -- a prefix is inside the range exactly where its bounds are
 pub within_of : (w a b : ℕ) (p : PrefixValue) → LiesIn w (InRange a b) p → Within w p a b
-within_of w a b p i =
-    let h : 0 < 2 ^ (w - p.len) = pow_pos (w - p.len) in
-    let f : InRange a b p.first = i p.first (first_in w p) in
-    let l : InRange a b (p.first + 2 ^ (w - p.len) - 1) = i (p.first + 2 ^ (w - p.len) - 1) (record { from = omega arith; upto = omega arith }) in
-    record { from = f.0; upto = (let u : p.first + 2 ^ (w - p.len) - 1 ≤ b = l.1 in omega arith) }
+within_of w a b p i = grind (arith, first_in, pow_pos)
 
 pub of_within : (w a b : ℕ) (p : PrefixValue) → Within w p a b → LiesIn w (InRange a b) p
 of_within w a b p i n h = (omega (arith, i.from, h.from), omega (arith, i.upto, h.upto))
@@ -90,5 +86,4 @@ prefixes_nested w p q is_p is_q n in_p in_q = elim (cases_lt (w - p.len) (w - q.
 -- where one lies in the other, they share its first number
 pub nested_share : (w : ℕ) (p q : PrefixValue) → LiesIn w (IsIn w p) q ⊎ LiesIn w (IsIn w q) p
     → (n : ℕ) × IsIn w p n × IsIn w q n
-nested_share w p q (inl inside) = (q.first, inside q.first (first_in w q), first_in w q)
-nested_share w p q (inr inside) = (p.first, first_in w p, inside p.first (first_in w p))
+nested_share w p q h = grind (arith, first_in)

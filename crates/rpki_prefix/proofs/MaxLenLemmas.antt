@@ -8,7 +8,6 @@ use Rattle.std.proofs.lemmas.List.Elements.{All-append, All-cons, All-from_recur
 use Rattle.std.proofs.lemmas.Str.Parse.{digit_from_value}
 use Rattle.rpki_addr.specs.PrintedAddress.{ip_text}
 use Rattle.rpki_prefix.specs.declared.error.MaxLenError.{MaxLenError}
-use Rattle.rpki_prefix.specs.declared.error.MaxLenError.TheVariants.{Overflow, Underflow}
 use Rattle.rpki_prefix.specs.declared.error.ParseMaxLenPrefixError.{ParseMaxLenPrefixError}
 use Rattle.rpki_prefix.specs.declared.error.ParseMaxLenPrefixError.TheVariants.{InvalidPrefix, InvalidMaxLenFormat, InvalidMaxLenValue}
 use Rattle.rpki_prefix.proofs.HostBits.{few_bits}
@@ -42,16 +41,12 @@ text_one text x y h k = value_one text x.prefix y.prefix x.max_len y.max_len h k
 
 -- a greatest length of the prefix has no error
 max_apart : (p : FamilyPrefix) (n : ℕ) (f : MaxLenError) → IsMaxLenOf p (Some n) → HasMaxLenError p (Some n) f → ⊥
-max_apart p n Overflow h above = let upto = h.1 in omega (arith, upto, above)
-max_apart p n Underflow h k = let from = h.0 in let below = k.1 in omega (arith, from, below)
+max_apart p n f h above = grind (arith)
 
 -- there is one error
 max_error_one : (p : FamilyPrefix) (n : ℕ) (f g : MaxLenError) → HasMaxLenError p (Some n) f
     → HasMaxLenError p (Some n) g → f ≡ g
-max_error_one p n Overflow Overflow h k = refl
-max_error_one p n Overflow Underflow h k = absurd (let upto = k.0 in omega (arith, h, upto))
-max_error_one p n Underflow Overflow h k = absurd (let upto = h.0 in omega (arith, k, upto))
-max_error_one p n Underflow Underflow h k = refl
+max_error_one p n f g h k = grind (arith)
 
 -- a text that writes a prefix and a greatest length has no fault
 apart_of : (text : List ℕ) (p : FamilyPrefix) (m : Option ℕ) (e : ParseMaxLenPrefixError) → IsMaxLenTextOf text p m

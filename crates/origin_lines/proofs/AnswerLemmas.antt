@@ -1,19 +1,17 @@
 -- What is told of a route.
-use Rattle.origin_lines.proofs.Common.{Bool, List, [], ap, false, inl, refl, subst, sym, true, ℕ, ◌++◌, ◌∙◌, ◌≡◌, append-nil, Payload, FamilyPrefix, IsOriginAnswer, TellsRoute, TellsWhy, IsOutcomeOf, asked_asn, outcome_text, IsRouteLine, Outcome, Route}
+use Rattle.origin_lines.proofs.Common.{Bool, List, arith, false, inl, subst, true, ℕ, ◌++◌, ◌≡◌, append-nil, Payload, FamilyPrefix, IsOriginAnswer, TellsRoute, TellsWhy, IsOutcomeOf, asked_asn, outcome_text, IsRouteLine, Outcome, Route}
 
 -- the word alone
 pub word_told : (why : Bool) (payloads : List Payload) (route : FamilyPrefix) (asn : ℕ) (outcome : Outcome)
     (text : List ℕ) → why ≡ false → IsOutcomeOf route asn payloads outcome → text ≡ outcome_text outcome
     → TellsRoute why payloads route asn text
-word_told why payloads route asn outcome text alone is says =
-    subst (λ b. TellsRoute b payloads route asn text) (sym alone) (outcome, is, [], refl, says ∙ sym (append-nil (outcome_text outcome)))
+word_told why payloads route asn outcome text alone is says = grind (arith, append-nil)
 
 -- and what explains it
 pub why_told : (why : Bool) (payloads : List Payload) (route : FamilyPrefix) (asn : ℕ) (outcome : Outcome)
     (word behind text : List ℕ) → why ≡ true → IsOutcomeOf route asn payloads outcome → word ≡ outcome_text outcome
     → TellsWhy route asn payloads behind → text ≡ word ++ behind → TellsRoute why payloads route asn text
-why_told why payloads route asn outcome word behind text wanted is says tells more =
-    subst (λ b. TellsRoute b payloads route asn text) (sym wanted) (outcome, is, behind, tells, more ∙ ap (λ t. t ++ behind) says)
+why_told why payloads route asn outcome word behind text wanted is says tells more = grind (arith)
 
 -- what is told of the route that a line writes is an answer to the line
 pub route_answered : (why : Bool) (payloads : List Payload) (line text : List ℕ) (route : Route) (prefix : FamilyPrefix)

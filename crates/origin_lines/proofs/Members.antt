@@ -1,5 +1,5 @@
 -- Members of lists: of what is mapped, of what a property picks out, of what an iterator has given.
-use Rattle.origin_lines.proofs.Common.{List, [], ap, arith, inl, inr, map, refl, reverse, subst, suc, sym, zero, ◌++◌, ◌∙◌, ◌∷◌, ◌≡◌, ◌⊎◌, Contains-permutation, IsPermutation-reverse, IsPermutation-sym, Any, Contains, AreThose}
+use Rattle.origin_lines.proofs.Common.{List, [], ap, arith, inl, inr, map, refl, reverse, subst, suc, sym, ◌++◌, ◌∙◌, ◌∷◌, ◌≡◌, ◌⊎◌, Contains-permutation, IsPermutation-reverse, IsPermutation-sym, Any, Contains, AreThose}
 use Rattle.std.specs.Iterator.{Yields, YieldsFirst}
 
 module _ {X : Type 0} where
@@ -10,8 +10,7 @@ module _ {X : Type 0} where
   there x xs y (k, small, is) = (suc k, omega (arith, small), is)
 
   pub cons_cases : (x : X) (xs : List X) (y : X) → Contains (x ∷ xs) y → (x ≡ y) ⊎ Contains xs y
-  cons_cases x xs y (zero, small, is) = inl is
-  cons_cases x xs y (suc k, small, is) = inr (k, omega (arith, small), is)
+  cons_cases x xs y h = grind (arith)
 
   pub no_member : (x : X) → Contains [] x → ⊥
   no_member x (k, small, is) = omega (arith, small)

@@ -1,5 +1,5 @@
 -- An answer is the only one, and the same in whatever order the payloads stand.
-use Rattle.origin_lines.proofs.Common.{Bool, List, [], ap, ap₂, arith, false, inl, inr, map, refl, subst, suc, sym, true, ℕ, ◌++◌, ◌∙◌, ◌∷◌, ◌≡◌, Contains-permutation, IsPermutation-sym, AllPairs, Contains, IsPermutation, CoversRoute, HasAs, Payload, as_sent, FamilyPrefix, IsOriginAnswer, TellsIf, TellsRoute, IsExplanation, IsReason, IsToldBefore, TellsEach, told_text, IsOutcomeOf, asked_asn, outcome_text, route_fault_text, fault_line, Reason, As, Length, Match, Outcome, Route}
+use Rattle.origin_lines.proofs.Common.{Bool, List, [], ap, ap₂, arith, false, inl, inr, map, refl, subst, suc, sym, true, ℕ, ◌++◌, ◌∙◌, ◌∷◌, ◌≡◌, Contains-permutation, IsPermutation-sym, AllPairs, Contains, IsPermutation, CoversRoute, HasAs, Payload, as_sent, FamilyPrefix, IsOriginAnswer, TellsIf, TellsRoute, IsExplanation, IsReason, IsToldBefore, TellsEach, told_text, IsOutcomeOf, asked_asn, route_fault_text, fault_line, Reason, Outcome, Route}
 use Rattle.roa_origin.specs.Validities.{IsHeldBy, IsValidity}
 use Rattle.roa_origin.specs.declared.validation.Validity.{Validity}
 use Rattle.roa_origin.specs.declared.validation.Validity.TheVariants as Validities
@@ -57,9 +57,7 @@ any_order why payloads others line text moved (inr wrong) = inr wrong
 
 validity_one : (route : FamilyPrefix) (asn : ℕ) (xs : List Payload) (v w : Validity) → IsValidity route asn xs v
     → IsValidity route asn xs w → v ≡ w
-validity_one route asn xs Validities.Valid w h k = sym (k.valid.1 (h.valid.0 refl))
-validity_one route asn xs Validities.Invalid w h k = sym (k.invalid.1 (h.invalid.0 refl))
-validity_one route asn xs Validities.NotFound w h k = sym (k.not_found.1 (h.not_found.0 refl))
+validity_one route asn xs v w h k = grind (arith)
 
 module _ (route : FamilyPrefix) (asn : ℕ) (xs : List Payload) where
   valid_invalid : IsValidity route asn xs Validities.Valid → IsValidity route asn xs Validities.Invalid → ⊥
@@ -72,22 +70,7 @@ module _ (route : FamilyPrefix) (asn : ℕ) (xs : List Payload) where
   invalid_unknown h k = let e : Validities.Invalid ≡ Validities.NotFound = validity_one route asn xs Validities.Invalid Validities.NotFound h k in cc
 
   outcome_one : (a b : Outcome) → IsOutcomeOf route asn xs a → IsOutcomeOf route asn xs b → a ≡ b
-  outcome_one Valid Valid h k = refl
-  outcome_one Valid InvalidLength h k = absurd (valid_invalid h k.0)
-  outcome_one Valid InvalidAs h k = absurd (valid_invalid h k.0)
-  outcome_one Valid NotFound h k = absurd (valid_unknown h k)
-  outcome_one InvalidLength Valid h k = absurd (valid_invalid k h.0)
-  outcome_one InvalidLength InvalidLength h k = refl
-  outcome_one InvalidLength InvalidAs h k = absurd (k.1 h.1)
-  outcome_one InvalidLength NotFound h k = absurd (invalid_unknown h.0 k)
-  outcome_one InvalidAs Valid h k = absurd (valid_invalid k h.0)
-  outcome_one InvalidAs InvalidLength h k = absurd (h.1 k.1)
-  outcome_one InvalidAs InvalidAs h k = refl
-  outcome_one InvalidAs NotFound h k = absurd (invalid_unknown h.0 k)
-  outcome_one NotFound Valid h k = absurd (valid_unknown k h)
-  outcome_one NotFound InvalidLength h k = absurd (invalid_unknown k.0 h)
-  outcome_one NotFound InvalidAs h k = absurd (invalid_unknown k.0 h)
-  outcome_one NotFound NotFound h k = refl
+  outcome_one a b h k = grind (arith, invalid_unknown, valid_invalid, valid_unknown)
 
 -- ---- lists in one strict order with the same members are the same
 
@@ -132,15 +115,7 @@ explained_one route payloads told other h k =
 
 reason_one : (route : FamilyPrefix) (asn : ℕ) (p : Payload) (a b : Reason) → IsReason route asn p a
     → IsReason route asn p b → a ≡ b
-reason_one route asn p Match Match h k = refl
-reason_one route asn p Match Length h k = absurd (omega (arith, h.1, k.1))
-reason_one route asn p Match As h k = absurd (k h.0)
-reason_one route asn p Length Match h k = absurd (omega (arith, h.1, k.1))
-reason_one route asn p Length Length h k = refl
-reason_one route asn p Length As h k = absurd (k h.0)
-reason_one route asn p As Match h k = absurd (h k.0)
-reason_one route asn p As Length h k = absurd (h k.0)
-reason_one route asn p As As h k = refl
+reason_one route asn p a b h k = grind (arith)
 
 each_one : (route : FamilyPrefix) (asn : ℕ) (told : List Payload) (text other : List ℕ) → TellsEach route asn told text
     → TellsEach route asn told other → text ≡ other
@@ -156,8 +131,7 @@ why_one true payloads route asn text other (told, is, each) (others, are, all) =
 
 route_told_one : (why : Bool) (payloads : List Payload) (route : FamilyPrefix) (asn : ℕ) (text other : List ℕ)
     → TellsRoute why payloads route asn text → TellsRoute why payloads route asn other → text ≡ other
-route_told_one why payloads route asn text other (a, is_a, behind, tells, e) (b, is_b, behinds, told, f) =
-    e ∙ ap₂ (λ outcome more. outcome_text outcome ++ more) (outcome_one route asn payloads a b is_a is_b) (why_one why payloads route asn behind behinds tells told) ∙ sym f
+route_told_one why payloads route asn text other h h2 = grind (arith, outcome_one, why_one)
 
 pub answer_one : (why : Bool) (payloads : List Payload) (line text other : List ℕ)
     → IsOriginAnswer why payloads line text → IsOriginAnswer why payloads line other → text ≡ other

@@ -94,6 +94,8 @@ CASES = (
          "last_number_is_left_out.edit: "),
     Case("tests/wide_comments.py", "crates/rpki_cover/src/cover.rt", "/// The first number.",
          f"/// The first number, {'far ' * 30}", "rpki_cover/src/cover.rt: comments wider"),
+    Case("tests/wide_statements.py", "crates/rpki_cover/specs/Walk.antt", "pub free_bits : ",
+         f"pub free_bits : {'(n : ℕ) → ' * 12}", "rpki_cover/specs/Walk.antt: 1 lines of statements"),
     Case(OF_C, "foreign/rows.txt", " 10 - - -\n", " 11 - - -\n", "row 1: another status"),
     Case(OF_C, "foreign/texts.txt", "out of memory", "out of mind", "another text of a status"),
     Case(OF_PYTHON, "foreign/rows.txt", " 10 - - -\n", " 11 - - -\n", "another answer: verify 0,0,0"),

@@ -1,27 +1,13 @@
 -- The two words of a box that is taken apart: its pointer, and its allocator's handle.
-use Rattle.std.proofs.Common.{◌≡◌, ℕ, List, [], ◌∷◌, ◌++◌, refl, subst}
+use Rattle.box_pointer.proofs.Common.{List, [], refl, subst, ℕ, ◌++◌, ◌∷◌, ◌≡◌, Al, handle_tells, Good, Fml, fst∗, never, RawPtr, layout, Laws, RattleType, Valss, Ptr, block_ptr, in_a_block, null_ptr, ptr_val, nothing, dnil, impl, tnil, Val, WT, has_ty, of_list, vcons, vnil, vptr, vstruct, Goal, Item, Seq, Step, drop, feq_i, feq_l, fjoin, fpack, fpick, fsplit, move, step, ‵, ◌$◌, Logic, sem}
 use mathlib.Core.Bool.{true, ◌&&◌}
 use lib.Dec.{T}
 use seplogic.Ra.Ura.{Ura}
-use mir.Syntax.{impl, tnil, dnil}
 use mir.Raw.{raw as bare}
-use mir.Val.{Val, vptr, vstruct, vcons, vnil, of_list, has_ty, WT}
-use base.Fml.{Fml}
-use base.Logic.{never, fst∗}
-use types.Logic.{Logic, sem}
-use types.Kit.{Item, Goal, Seq, Step, step, ‵, ◌$◌, move, drop, fsplit, fjoin, fpick, fpack, feq_i, feq_l}
-use denote.RattleType.{RattleType, Valss}
-use denote.Builtin.{RawPtr}
 use denote.Memory.{lone}
-use denote.RawPtr.{Ptr, block_ptr, null_ptr, ptr_val, in_a_block}
-use denote.Steps.{nothing}
-use denote.Param.{layout}
-use denote.Param.Laws.{Laws}
 use denote.Struct.Struct.{within}
 use denote.Struct.Owning.{shape}
 use Rattle.std.specs.declared.alloc.Allocator.{Ghosts}
-use Rattle.std.proofs.alloc.Calls.{Al, handle_tells}
-use Rattle.std.proofs.cell.Inside.{Good}
 use Rattle.std.specs.Box.Ownership.{box_owns}
 use Rattle.std.proofs.ResultValues.{and_tt}
 use Rattle.box_pointer.specs.contracts.BoxPointer as parts

@@ -1,18 +1,13 @@
 -- Steps of a run.
-use Rattle.std.proofs.Common.{◌≡◌, ℕ, ◌-◌, List, [], ◌∷◌, ◌++◌, length, take, drop, refl, sym, ap, ◌∙◌, append_assoc, append-nil, Some, None, Option}
-use Rattle.std.specs.Prelude.{IfSome}
-use Rattle.std.specs.Io.KnownBytes.{Appends, Keeps}
+use Rattle.lines_engine.proofs.Common.{List, None, Option, Some, [], ap, append-nil, append_assoc, arith, drop, length, refl, sym, take, ℕ, ◌++◌, ◌-◌, ◌∙◌, ◌∷◌, ◌≡◌, flat_map-append, Appends, Keeps, IfSome, lines_of, AnswersAll, AnswersFirst, BeginsAnswers, HasAnswered, HasAnsweredLine, HasWritten, as_line}
 use Rattle.std.proofs.lemmas.List.{take-append-drop, length-drop}
 use Rattle.std.proofs.lemmas.List.Elements.{AllZip-push}
-use Rattle.std.proofs.lemmas.Grind.{flat_map-append}
 use Rattle.std.proofs.Math.Seq.{take-length}
-use Rattle.rpki_text.specs.Lines.{lines_of}
-use Rattle.lines_engine.specs.Run.{as_line, HasWritten, HasAnsweredLine, HasAnswered, AnswersAll, AnswersFirst, BeginsAnswers}
 use Rattle.lines_engine.proofs.KnownLemmas.{appends_nothing, appends_both, appends_kept}
 
 -- a write takes some of what is left, which a range from there on then is
-pub written_more : (a b c : Option (List ℕ)) (bytes rest : List ℕ) (count : ℕ) → HasWritten a b bytes rest → Appends b c (take count rest)
-    → HasWritten a c bytes (take (length rest - count) (drop count rest))
+pub written_more : (a b c : Option (List ℕ)) (bytes rest : List ℕ) (count : ℕ) → HasWritten a b bytes rest
+    → Appends b c (take count rest) → HasWritten a c bytes (take (length rest - count) (drop count rest))
 written_more a b c bytes rest count had wrote = record {
   written = had.written ++ take count rest;
   bytes_are =
@@ -23,8 +18,9 @@ written_more a b c bytes rest count had wrote = record {
 
 module _ (Is : List ℕ → List ℕ → Type 0) where
   -- the first of the lines that are left is answered
-  pub answered_more : (a b c : Option (List ℕ)) (lines : List (List ℕ)) (line : List ℕ) (rest : List (List ℕ)) (unwritten : List ℕ)
-      → HasAnswered Is a b lines (line ∷ rest) [] → HasAnsweredLine Is b c line unwritten → HasAnswered Is a c lines rest unwritten
+  pub answered_more : (a b c : Option (List ℕ)) (lines : List (List ℕ)) (line : List ℕ) (rest : List (List ℕ))
+      (unwritten : List ℕ) → HasAnswered Is a b lines (line ∷ rest) [] → HasAnsweredLine Is b c line unwritten
+      → HasAnswered Is a c lines rest unwritten
   answered_more a b c lines line rest unwritten had more = record {
     answered = had.answered ++ line ∷ [];
     texts = had.texts ++ more.text ∷ [];
@@ -44,20 +40,11 @@ module _ (Is : List ℕ → List ℕ → Type 0) where
   -- a call keeps what was written
   pub answered_kept : (a b c : Option (List ℕ)) (lines rest : List (List ℕ)) (unwritten : List ℕ)
       → HasAnswered Is a b lines rest unwritten → Keeps b c → HasAnswered Is a c lines rest unwritten
-  answered_kept a b c lines rest unwritten had kept = record {
-    answered = had.answered;
-    texts = had.texts;
-    lines_are = had.lines_are;
-    are_answers = had.are_answers;
-    wrote = record {
-      written = had.wrote.written;
-      bytes_are = had.wrote.bytes_are;
-      wrote = appends_kept a b c had.wrote.written had.wrote.wrote kept;
-    };
-  }
+  answered_kept a b c lines rest unwritten had kept = grind (arith, appends_kept)
 
   -- an answer was made, and some of it written
-  pub line_answered : (a b : Option (List ℕ)) (line text bytes unwritten : List ℕ) → Is line text → bytes ≡ as_line text → HasWritten a b bytes unwritten → HasAnsweredLine Is a b line unwritten
+  pub line_answered : (a b : Option (List ℕ)) (line text bytes unwritten : List ℕ) → Is line text → bytes ≡ as_line text
+      → HasWritten a b bytes unwritten → HasAnsweredLine Is a b line unwritten
   line_answered a b line text bytes unwritten is_answer is wrote = record { text = text; is_answer = is_answer; wrote = rw is at wrote }
 
   -- nothing is answered yet
@@ -76,6 +63,6 @@ module _ (Is : List ℕ → List ℕ → Type 0) where
   unanswered (Some bytes) a = (lines_of bytes, answered_none a (lines_of bytes), λ none. none)
 
   -- all was written, and then a flush failed
-  pub unflushed : (input a b c : Option (List ℕ)) (text : List ℕ) → IfSome input (λ bytes. text ≡ bytes) → AnswersAll Is a b text → Keeps b c → IfSome input (BeginsAnswers Is a c)
-  unflushed None a b c text is had kept = tt
-  unflushed (Some bytes) a b c text is had kept = ([], ([], rw is at (answered_kept a b c (lines_of text) [] [] had kept)))
+  pub unflushed : (input a b c : Option (List ℕ)) (text : List ℕ) → IfSome input (λ bytes. text ≡ bytes)
+      → AnswersAll Is a b text → Keeps b c → IfSome input (BeginsAnswers Is a c)
+  unflushed input a b c text is had kept = grind (arith, answered_kept)

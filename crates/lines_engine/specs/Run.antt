@@ -53,11 +53,13 @@ BeginsAnswersOf Is old new lines = (rest : List (List ℕ)) × ((unwritten : Lis
 
 -- The answers of some first lines of the input were written whole. The other lines are those of `left`, what is left
 -- to be read, behind a part of a line that was read.
-abbrev pub AnswersBut : (List ℕ → List ℕ → Type 0) → Option (List ℕ) → Option (List ℕ) → Option (List ℕ) → Option (List ℕ) → List ℕ → Type 0
+abbrev pub AnswersBut : (List ℕ → List ℕ → Type 0) → Option (List ℕ) → Option (List ℕ) → Option (List ℕ)
+    → Option (List ℕ) → List ℕ → Type 0
 AnswersBut Is old new None left part = ⊤
 AnswersBut Is old new (Some input) None part = ⊥
 AnswersBut Is old new (Some input) (Some left) part = HasAnswered Is old new (lines_of input) (lines_of (part ++ left)) []
 
 -- the answers of the lines whose ends were read, and of no other, were written whole
-abbrev pub AnswersEnded : (List ℕ → List ℕ → Type 0) → Option (List ℕ) → Option (List ℕ) → Option (List ℕ) → Option (List ℕ) → Type 0
+abbrev pub AnswersEnded : (List ℕ → List ℕ → Type 0) → Option (List ℕ) → Option (List ℕ) → Option (List ℕ)
+    → Option (List ℕ) → Type 0
 AnswersEnded Is old new input left = (part : List ℕ) × HasNo 10 part × AnswersBut Is old new input left part

@@ -1,53 +1,46 @@
 -- How a dump's line is cut: at each bar, and its path at the last space.
-use Rattle.std.proofs.Common.{◌≡◌, ◌≢◌, ℕ, zero, suc, ◌+◌, ◌-◌, ◌<◌, ◌≤◌, true, List, [], ◌∷◌, Some, None, length, drop, get_or, inl, inr, sym, ap, ◌∙◌, not, arith, eq-eqb, ne_eqb, length-drop, get_or-drop}
-use Rattle.std.specs.Prelude.{codes, slice_get}
-use Rattle.std.specs.List.{after_first, after_last, before_first, position_or_len, suffix_len}
+use Rattle.origin_lines.proofs.Common.{List, None, Some, [], ap, arith, drop, eq-eqb, get_or, get_or-drop, length, length-drop, ne_eqb, not, true, ℕ, ◌+◌, ◌-◌, ◌<◌, ◌∙◌, ◌∷◌, ◌≡◌, ◌≢◌, ◌≤◌, after_first, after_last, before_first, position_or_len, suffix_len, codes, slice_get, IsFieldAt, IsNoDump, IsNoFieldAt, fields_of, is_bar, is_gap}
 use Rattle.std.specs.Str.Pattern.{RFindsChar}
 use Rattle.std.proofs.lemmas.List.Sums.{fails_before_first, suffix_len_is}
 use Rattle.std.proofs.lemmas.List.Splits.{slice_split_first, slice_split_none}
 use Rattle.std.proofs.lemmas.Str.{len_utf8_ascii}
 use Rattle.std.proofs.lemmas.Str.Pattern.{NoCharPasses-char}
-use Rattle.origin_lines.specs.Words.{is_gap}
-use Rattle.origin_lines.specs.Routes.{IsFieldAt, IsNoDump, IsNoFieldAt, fields_of, is_bar}
 
 -- a text with a bar is a field and the fields behind it
-pub cut_some : (text field behind : List ℕ) → position_or_len is_bar text < length text → field ≡ before_first is_bar text → behind ≡ after_first is_bar text
-    → fields_of text ≡ field ∷ fields_of behind
-cut_some text field behind some one more =
-    slice_split_first is_bar text 0 some ∙ (λ i. sym one i ∷ fields_of (sym more i))
+pub cut_some : (text field behind : List ℕ) → position_or_len is_bar text < length text
+    → field ≡ before_first is_bar text → behind ≡ after_first is_bar text → fields_of text ≡ field ∷ fields_of behind
+cut_some text field behind some one more = grind (arith, slice_split_first)
 
 -- and one without is one field
 pub cut_none : (text : List ℕ) → position_or_len is_bar text ≡ length text → fields_of text ≡ text ∷ []
 cut_none text none = slice_split_none is_bar text (λ k d small. fails_before_first is_bar text k d (omega (arith, none, small)))
 
 -- the fields behind the first one
-pub field_next : (text field behind : List ℕ) (n : ℕ) → fields_of text ≡ field ∷ fields_of behind → 0 < n → slice_get (fields_of text) n ≡ slice_get (fields_of behind) (n - 1)
-field_next text field behind zero cut some = absurd (omega arith)
-field_next text field behind (suc n) cut some =
-    let one_less : n ≡ suc n - 1 = omega arith in
-    ap (λ fields. slice_get fields (suc n)) cut ∙ ap (slice_get (fields_of behind)) one_less
+pub field_next : (text field behind : List ℕ) (n : ℕ) → fields_of text ≡ field ∷ fields_of behind → 0 < n
+    → slice_get (fields_of text) n ≡ slice_get (fields_of behind) (n - 1)
+field_next text field behind n cut some = grind (arith)
 
 -- there is none behind the only one
 pub field_none : (text : List ℕ) (n : ℕ) → fields_of text ≡ text ∷ [] → 0 < n → slice_get (fields_of text) n ≡ None
-field_none text zero cut some = absurd (omega arith)
-field_none text (suc n) cut some = ap (λ fields. slice_get fields (suc n)) cut
+field_none text n cut some = grind (arith)
 
-pub field_first : (text field : List ℕ) (fields : List (List ℕ)) → fields_of text ≡ field ∷ fields → slice_get (fields_of text) 0 ≡ Some field
+pub field_first : (text field : List ℕ) (fields : List (List ℕ)) → fields_of text ≡ field ∷ fields
+    → slice_get (fields_of text) 0 ≡ Some field
 field_first text field fields cut = ap (λ all. slice_get all 0) cut
 
 -- a line that begins otherwise is none of a dump
-pub other_place : (line kind : List ℕ) → IsFieldAt 0 line kind → kind ≢ codes "TABLE_DUMP2" → kind ≢ codes "TABLE_DUMP2_AP" → IsNoDump line
-other_place line kind is not_one nor_other n (inl dump) = not_one (let e : Some kind ≡ Some (codes "TABLE_DUMP2") = sym is ∙ dump.0 in cc)
-other_place line kind is not_one nor_other n (inr dump) = nor_other (let e : Some kind ≡ Some (codes "TABLE_DUMP2_AP") = sym is ∙ dump.0 in cc)
+pub other_place : (line kind : List ℕ) → IsFieldAt 0 line kind → kind ≢ codes "TABLE_DUMP2"
+    → kind ≢ codes "TABLE_DUMP2_AP" → IsNoDump line
+other_place line kind is not_one nor_other n h = grind (arith)
 
 pub no_place : (line : List ℕ) → IsNoFieldAt 0 line → IsNoDump line
-no_place line none n (inl dump) = let e : None ≡ Some (codes "TABLE_DUMP2") = sym none ∙ dump.0 in absurd cc
-no_place line none n (inr dump) = let e : None ≡ Some (codes "TABLE_DUMP2_AP") = sym none ∙ dump.0 in absurd cc
+no_place line none n h = grind (arith)
 
 -- ---- the last word of a path
 
 -- what is found from the end is the last space
-pub last_some : (text word : List ℕ) (i j : ℕ) → RFindsChar 32 text (Some (i, j)) → word ≡ drop j text → j ≤ length text → word ≡ after_last is_gap text
+pub last_some : (text word : List ℕ) (i j : ℕ) → RFindsChar 32 text (Some (i, j)) → word ≡ drop j text → j ≤ length text
+    → word ≡ after_last is_gap text
 last_some text word i j found is within =
     let low : 32 < 128 = omega arith in
     let next : j ≡ i + 1 = omega (arith, found.1.ends, len_utf8_ascii 32 low) in

@@ -1,15 +1,11 @@
 -- A line writes one route alone, or has one fault.
-use Rattle.std.proofs.Common.{◌≡◌, ◌⊎◌, ℕ, List, Option, Some, None, Result, Ok, Err, MatchResult, inl, inr, refl, sym, ap, subst, ◌∙◌}
-use Rattle.std.specs.Prelude.{codes}
-use Rattle.std.specs.Str.{IsUtf8, trim}
+use Rattle.origin_lines.proofs.Common.{Err, List, MatchResult, None, Ok, Option, Result, Some, ap, arith, inl, inr, refl, subst, sym, ℕ, ◌∙◌, ◌≡◌, ◌⊎◌, IsUtf8, trim, AreRouteWords, HasDumpFault, HasFaultBy, HasLineFault, HasRouteFault, HasWordFault, HaveWordsFault, IsAsnOrigin, IsDumpRoute, IsFieldAt, IsLineOf, IsNoAsnText, IsNoFieldAt, IsPathPlace, IsRouteBy, IsRouteLine, IsWordOrigin, last_word, origin_word, prefix_word, Route}
 use Rattle.rpki_text.specs.Reading.{Answers}
 use Rattle.rpki_text.proofs.ReadingLemmas.{Answers-from_found}
 use Rattle.rpki_base.proofs.AsnLemmas.{IsAsnText-one}
 use Rattle.rpki_prefix.proofs.TextLemmas.{IsPrefixText-one, IsPrefixText-no_fault, HasPrefixTextFault-one}
-use Rattle.origin_lines.specs.Routes.{AreRouteWords, HasDumpFault, HasFaultBy, HasLineFault, HasRouteFault, HasWordFault, HaveWordsFault, IsAsnOrigin, IsDumpRoute, IsFieldAt, IsLineOf, IsNoAsnText, IsNoFieldAt, IsPathPlace, IsRouteLine, IsRouteBy, IsWordOrigin, last_word, origin_word, prefix_word}
 use Rattle.origin_lines.specs.declared.fault.RouteFault.{RouteFault}
 use Rattle.origin_lines.specs.declared.fault.RouteFault.TheVariants.{NotUtf8, TooFewFields, Prefix, Asn}
-use Rattle.origin_lines.specs.declared.route.Route.{Route}
 
 -- where what is said of the origin holds of one at most, and of none that there is a fault of
 module _ (Origin : Option ℕ → Type 0) (NoOrigin : Type 0) (one : (a b : Option ℕ) → Origin a → Origin b → a ≡ b) (apart : (a : Option ℕ) → Origin a → NoOrigin → ⊥)
@@ -40,13 +36,10 @@ module _ (Origin : Option ℕ → Type 0) (NoOrigin : Type 0) (one : (a b : Opti
 
 -- the text of an AS number
 asn_one : (text : List ℕ) (a b : Option ℕ) → IsAsnOrigin text a → IsAsnOrigin text b → a ≡ b
-asn_one text None b h k = absurd h
-asn_one text (Some m) None h k = absurd k
-asn_one text (Some m) (Some n) h k = ap Some (IsAsnText-one text m n h k)
+asn_one text a b h k = grind (arith, IsAsnText-one)
 
 asn_apart : (text : List ℕ) (a : Option ℕ) → IsAsnOrigin text a → IsNoAsnText text → ⊥
-asn_apart text None h none = h
-asn_apart text (Some n) h none = none n h
+asn_apart text a h none = grind (arith)
 
 -- the last word of a path
 word_one : (word : List ℕ) (a b : Option ℕ) → IsWordOrigin word a → IsWordOrigin word b → a ≡ b
@@ -71,16 +64,13 @@ field_apart : (n : ℕ) (line x : List ℕ) → IsFieldAt n line x → IsNoField
 field_apart n line x h none = let e : Some x ≡ None = sym h ∙ none in cc
 
 place_one : (line : List ℕ) (m n : ℕ) → IsPathPlace line m → IsPathPlace line n → m ≡ n
-place_one line m n (inl h) (inl k) = h.1 ∙ sym k.1
-place_one line m n (inl h) (inr k) = absurd (let e : codes "TABLE_DUMP2" ≡ codes "TABLE_DUMP2_AP" = field_one 0 line _ _ h.0 k.0 in cc)
-place_one line m n (inr h) (inl k) = absurd (let e : codes "TABLE_DUMP2_AP" ≡ codes "TABLE_DUMP2" = field_one 0 line _ _ h.0 k.0 in cc)
-place_one line m n (inr h) (inr k) = h.1 ∙ sym k.1
+place_one line m n h h2 = grind (arith, field_one)
 
 module _ (n : ℕ) (line : List ℕ) where
   -- two pairs of fields are the same, so what holds of the one holds of the other
-  moved : (P : List ℕ → List ℕ → Type 0) (p q r s : List ℕ) → IsFieldAt 5 line p → IsFieldAt n line q → IsFieldAt 5 line r → IsFieldAt n line s → P r s → P p q
-  moved P p q r s at at' there there' h =
-      subst (λ z. P z q) (field_one 5 line r p there at) (subst (λ z. P r z) (field_one n line s q there' at') h)
+  moved : (P : List ℕ → List ℕ → Type 0) (p q r s : List ℕ) → IsFieldAt 5 line p → IsFieldAt n line q
+      → IsFieldAt 5 line r → IsFieldAt n line s → P r s → P p q
+  moved P p q r s at at' there there' h = grind (arith, field_one)
 
   dump_one : (a b : Route) → IsDumpRoute n line a → IsDumpRoute n line b → a ≡ b
   dump_one a b (p, q, at, h) (r, s, there, k) =
@@ -94,9 +84,9 @@ module _ (n : ℕ) (line : List ℕ) where
       by_apart (IsWordOrigin (last_word q)) (HasWordFault (last_word q)) (word_one (last_word q)) (word_apart (last_word q)) p a f h
       (moved (λ x y. HasFaultBy (HasWordFault (last_word y)) x f) p q r s at.prefix_is at.path_is there.prefix_is there.path_is wrong)
 
-  missing : (f : RouteFault) (p q : List ℕ) → IsFieldAt 5 line p → IsFieldAt n line q → (IsNoFieldAt 5 line ⊎ IsNoFieldAt n line) → ⊥
-  missing f p q at at' (inl none) = field_apart 5 line p at none
-  missing f p q at at' (inr none) = field_apart n line q at' none
+  missing : (f : RouteFault) (p q : List ℕ) → IsFieldAt 5 line p → IsFieldAt n line q
+      → (IsNoFieldAt 5 line ⊎ IsNoFieldAt n line) → ⊥
+  missing f p q at at' h = grind (arith, field_apart)
 
   dump_fault : (d e : RouteFault) → HasDumpFault n line d → HasDumpFault n line e → d ≡ e
   dump_fault d e (inl h) (inl k) = h.1 ∙ sym k.1
@@ -147,25 +137,29 @@ route_fault line d e (inr h) (inl k) = absurd (k.0 h.0)
 route_fault line d e (inr h) (inr k) = line_fault (trim line) d e h.1 k.1
 
 -- so what is found decides the answer
-pub route_answers : (line : List ℕ) (r : Result Route RouteFault) → MatchResult r (IsRouteLine line) (HasRouteFault line) → Answers (IsRouteLine line) (HasRouteFault line) r
+pub route_answers : (line : List ℕ) (r : Result Route RouteFault)
+    → MatchResult r (IsRouteLine line) (HasRouteFault line) → Answers (IsRouteLine line) (HasRouteFault line) r
 route_answers line r found = Answers-from_found r found (route_one line) (route_apart line) (route_fault line)
 
 -- ---- what is found of parts is found of the line
 
-pub words_found : (text prefix origin : List ℕ) (r : Result Route RouteFault) → prefix ≡ prefix_word text → origin ≡ origin_word text
-    → MatchResult r (IsRouteBy (IsAsnOrigin origin) prefix) (HasFaultBy (IsNoAsnText origin) prefix) → MatchResult r (AreRouteWords text) (HaveWordsFault text)
+pub words_found : (text prefix origin : List ℕ) (r : Result Route RouteFault) → prefix ≡ prefix_word text
+    → origin ≡ origin_word text
+    → MatchResult r (IsRouteBy (IsAsnOrigin origin) prefix) (HasFaultBy (IsNoAsnText origin) prefix)
+    → MatchResult r (AreRouteWords text) (HaveWordsFault text)
 words_found text prefix origin r one other found =
     subst (λ o. MatchResult r (IsRouteBy (IsAsnOrigin o) (prefix_word text)) (HasFaultBy (IsNoAsnText o) (prefix_word text))) other
     (subst (λ p. MatchResult r (IsRouteBy (IsAsnOrigin origin) p) (HasFaultBy (IsNoAsnText origin) p)) one found)
 
-pub dump_found : (n : ℕ) (line prefix path word : List ℕ) (r : Result Route RouteFault) → IsFieldAt 5 line prefix → IsFieldAt n line path → word ≡ last_word path
-    → MatchResult r (IsRouteBy (IsWordOrigin word) prefix) (HasFaultBy (HasWordFault word) prefix) → MatchResult r (IsDumpRoute n line) (HasDumpFault n line)
-dump_found n line prefix path word (Ok route) at there is found =
-    (prefix, path, record { prefix_is = at; path_is = there }, subst (λ w. IsRouteBy (IsWordOrigin w) prefix route) is found)
+pub dump_found : (n : ℕ) (line prefix path word : List ℕ) (r : Result Route RouteFault) → IsFieldAt 5 line prefix
+    → IsFieldAt n line path → word ≡ last_word path
+    → MatchResult r (IsRouteBy (IsWordOrigin word) prefix) (HasFaultBy (HasWordFault word) prefix)
+    → MatchResult r (IsDumpRoute n line) (HasDumpFault n line)
+dump_found n line prefix path word (Ok route) at there is found = grind (arith)
 dump_found n line prefix path word (Err fault) at there is found =
     inr (prefix, path, record { prefix_is = at; path_is = there }, subst (λ w. HasFaultBy (HasWordFault w) prefix fault) is found)
 
-pub text_found : (line text : List ℕ) (r : Result Route RouteFault) → IsUtf8 line → text ≡ trim line → MatchResult r (IsLineOf text) (HasLineFault text)
-    → MatchResult r (IsRouteLine line) (HasRouteFault line)
+pub text_found : (line text : List ℕ) (r : Result Route RouteFault) → IsUtf8 line → text ≡ trim line
+    → MatchResult r (IsLineOf text) (HasLineFault text) → MatchResult r (IsRouteLine line) (HasRouteFault line)
 text_found line text (Ok route) utf8 is found = (utf8, subst (λ t. IsLineOf t route) is found)
 text_found line text (Err fault) utf8 is found = inr (utf8, subst (λ t. HasLineFault t fault) is found)

@@ -1,9 +1,6 @@
 -- Members of lists: of what is mapped, of what a property picks out, of what an iterator has given.
-use Rattle.std.proofs.Common.{◌≡◌, ◌⊎◌, zero, suc, List, [], ◌∷◌, ◌++◌, map, refl, sym, ap, subst, ◌∙◌, inl, inr, arith, reverse}
+use Rattle.origin_lines.proofs.Common.{List, [], ap, arith, inl, inr, map, refl, reverse, subst, suc, sym, ◌++◌, ◌∙◌, ◌∷◌, ◌≡◌, ◌⊎◌, Contains-permutation, IsPermutation-reverse, IsPermutation-sym, Any, Contains, AreThose}
 use Rattle.std.specs.Iterator.{Yields, YieldsFirst}
-use Rattle.std.specs.List.{Any, Contains}
-use Rattle.std.proofs.lemmas.List.Sorted.{Contains-permutation, IsPermutation-reverse, IsPermutation-sym}
-use Rattle.roa_origin.specs.Coverings.{AreThose}
 
 module _ {X : Type 0} where
   pub here : (x : X) (xs : List X) → Contains (x ∷ xs) x
@@ -13,8 +10,7 @@ module _ {X : Type 0} where
   there x xs y (k, small, is) = (suc k, omega (arith, small), is)
 
   pub cons_cases : (x : X) (xs : List X) (y : X) → Contains (x ∷ xs) y → (x ≡ y) ⊎ Contains xs y
-  cons_cases x xs y (zero, small, is) = inl is
-  cons_cases x xs y (suc k, small, is) = inr (k, omega (arith, small), is)
+  cons_cases x xs y h = grind (arith)
 
   pub no_member : (x : X) → Contains [] x → ⊥
   no_member x (k, small, is) = omega (arith, small)
@@ -54,7 +50,8 @@ module _ {X : Type 0} where
   ]
 
   -- what an iterator has given and what is left are its list
-  pub walked : (all given left : List X) → Yields (YieldsFirst (λ (xs : List X). xs)) all given left → all ≡ given ++ left
+  pub walked : (all given left : List X) → Yields (YieldsFirst (λ (xs : List X). xs)) all given left
+      → all ≡ given ++ left
   walked all [] left e = e
   walked all (x ∷ given) left (next, first, more) = first ∙ ap (λ xs. x ∷ xs) (walked next given left more)
 

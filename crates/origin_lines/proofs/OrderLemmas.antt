@@ -1,25 +1,10 @@
 -- An answer is the only one, and the same in whatever order the payloads stand.
-use Rattle.std.proofs.Common.{◌≡◌, ℕ, suc, Bool, true, false, List, [], ◌∷◌, ◌++◌, map, refl, sym, ap, ap₂, subst, ◌∙◌, inl, inr, arith}
-use Rattle.std.specs.List.{AllPairs, Contains}
-use Rattle.std.specs.List.Sorted.{IsPermutation}
-use Rattle.std.proofs.lemmas.List.Sorted.{Contains-permutation, IsPermutation-sym}
-use Rattle.rpki_prefix.specs.Values.{FamilyPrefix}
-use Rattle.roa_origin.specs.Payloads.{CoversRoute, HasAs, Payload}
-use Rattle.roa_origin.specs.Tables.{as_sent}
+use Rattle.origin_lines.proofs.Common.{Bool, List, [], ap, ap₂, arith, false, inl, inr, map, refl, subst, suc, sym, true, ℕ, ◌++◌, ◌∙◌, ◌∷◌, ◌≡◌, Contains-permutation, IsPermutation-sym, AllPairs, Contains, IsPermutation, CoversRoute, HasAs, Payload, as_sent, FamilyPrefix, IsOriginAnswer, TellsIf, TellsRoute, IsExplanation, IsReason, IsToldBefore, TellsEach, told_text, IsOutcomeOf, asked_asn, route_fault_text, fault_line, Reason, Outcome, Route}
 use Rattle.roa_origin.specs.Validities.{IsHeldBy, IsValidity}
 use Rattle.roa_origin.specs.declared.validation.Validity.{Validity}
 use Rattle.roa_origin.specs.declared.validation.Validity.TheVariants as Validities
 use Rattle.roa_origin.proofs.Scans.{same_validity}
-use Rattle.origin_lines.specs.Words.{fault_line}
-use Rattle.origin_lines.specs.Answers.{IsOriginAnswer, TellsIf, TellsRoute}
-use Rattle.origin_lines.specs.Explanations.{IsExplanation, IsReason, IsToldBefore, TellsEach, told_text}
-use Rattle.origin_lines.specs.Outcomes.{IsOutcomeOf, asked_asn, outcome_text}
-use Rattle.origin_lines.specs.Routes.{route_fault_text}
-use Rattle.origin_lines.specs.declared.explanation.Reason.{Reason}
-use Rattle.origin_lines.specs.declared.explanation.Reason.TheVariants.{Match, Length, As}
-use Rattle.origin_lines.specs.declared.outcome.Outcome.{Outcome}
 use Rattle.origin_lines.specs.declared.outcome.Outcome.TheVariants.{Valid, InvalidLength, InvalidAs, NotFound}
-use Rattle.origin_lines.specs.declared.route.Route.{Route}
 use Rattle.origin_lines.proofs.LineLemmas.{route_apart, route_fault, route_one}
 use Rattle.origin_lines.proofs.Members.{any_has, any_of, cons_cases, here, map_from, map_has, no_member, there}
 use Rattle.origin_lines.proofs.WhyLemmas.{told_once, told_trans}
@@ -37,8 +22,8 @@ module _ (route : FamilyPrefix) (asn : ℕ) (payloads others : List Payload) (mo
       let found = map_from as_sent payloads p h in
       subst (Contains (map as_sent others)) found.2 (map_has as_sent others found.0 (Contains-permutation payloads others found.0 moved found.1))
 
-outcome_moved : (route : FamilyPrefix) (asn : ℕ) (payloads others : List Payload) (outcome : Outcome) → IsPermutation payloads others → IsOutcomeOf route asn payloads outcome
-    → IsOutcomeOf route asn others outcome
+outcome_moved : (route : FamilyPrefix) (asn : ℕ) (payloads others : List Payload) (outcome : Outcome)
+    → IsPermutation payloads others → IsOutcomeOf route asn payloads outcome → IsOutcomeOf route asn others outcome
 outcome_moved route asn payloads others Valid moved h = same_validity route asn payloads others Validities.Valid moved h
 outcome_moved route asn payloads others NotFound moved h = same_validity route asn payloads others Validities.NotFound moved h
 outcome_moved route asn payloads others InvalidLength moved (h, held) =
@@ -46,7 +31,8 @@ outcome_moved route asn payloads others InvalidLength moved (h, held) =
 outcome_moved route asn payloads others InvalidAs moved (h, free) =
     (same_validity route asn payloads others Validities.Invalid moved h, λ held. free (held_moved route asn others payloads (IsPermutation-sym payloads others moved) held))
 
-explanation_moved : (route : FamilyPrefix) (payloads others told : List Payload) → IsPermutation payloads others → IsExplanation route payloads told → IsExplanation route others told
+explanation_moved : (route : FamilyPrefix) (payloads others told : List Payload) → IsPermutation payloads others
+    → IsExplanation route payloads told → IsExplanation route others told
 explanation_moved route payloads others told moved h = record {
   ordered = h.ordered;
   members = λ p. (
@@ -55,13 +41,13 @@ explanation_moved route payloads others told moved h = record {
   );
 }
 
-tells_moved : (why : Bool) (payloads others : List Payload) (route : FamilyPrefix) (asn : ℕ) (text : List ℕ) → IsPermutation payloads others → TellsIf why payloads route asn text
-    → TellsIf why others route asn text
+tells_moved : (why : Bool) (payloads others : List Payload) (route : FamilyPrefix) (asn : ℕ) (text : List ℕ)
+    → IsPermutation payloads others → TellsIf why payloads route asn text → TellsIf why others route asn text
 tells_moved false payloads others route asn text moved h = h
 tells_moved true payloads others route asn text moved (told, is, each) = (told, explanation_moved route payloads others told moved is, each)
 
-pub any_order : (why : Bool) (payloads others : List Payload) (line text : List ℕ) → IsPermutation payloads others → IsOriginAnswer why payloads line text
-    → IsOriginAnswer why others line text
+pub any_order : (why : Bool) (payloads others : List Payload) (line text : List ℕ) → IsPermutation payloads others
+    → IsOriginAnswer why payloads line text → IsOriginAnswer why others line text
 any_order why payloads others line text moved (inl (route, is, (outcome, is_outcome, behind, tells, whole))) =
     let asn = asked_asn route.origin in
     inl (route, is, (outcome, outcome_moved route.prefix asn payloads others outcome moved is_outcome, behind, tells_moved why payloads others route.prefix asn behind moved tells, whole))
@@ -69,10 +55,9 @@ any_order why payloads others line text moved (inr wrong) = inr wrong
 
 -- ---- one answer alone
 
-validity_one : (route : FamilyPrefix) (asn : ℕ) (xs : List Payload) (v w : Validity) → IsValidity route asn xs v → IsValidity route asn xs w → v ≡ w
-validity_one route asn xs Validities.Valid w h k = sym (k.valid.1 (h.valid.0 refl))
-validity_one route asn xs Validities.Invalid w h k = sym (k.invalid.1 (h.invalid.0 refl))
-validity_one route asn xs Validities.NotFound w h k = sym (k.not_found.1 (h.not_found.0 refl))
+validity_one : (route : FamilyPrefix) (asn : ℕ) (xs : List Payload) (v w : Validity) → IsValidity route asn xs v
+    → IsValidity route asn xs w → v ≡ w
+validity_one route asn xs v w h k = grind (arith)
 
 module _ (route : FamilyPrefix) (asn : ℕ) (xs : List Payload) where
   valid_invalid : IsValidity route asn xs Validities.Valid → IsValidity route asn xs Validities.Invalid → ⊥
@@ -85,40 +70,26 @@ module _ (route : FamilyPrefix) (asn : ℕ) (xs : List Payload) where
   invalid_unknown h k = let e : Validities.Invalid ≡ Validities.NotFound = validity_one route asn xs Validities.Invalid Validities.NotFound h k in cc
 
   outcome_one : (a b : Outcome) → IsOutcomeOf route asn xs a → IsOutcomeOf route asn xs b → a ≡ b
-  outcome_one Valid Valid h k = refl
-  outcome_one Valid InvalidLength h k = absurd (valid_invalid h k.0)
-  outcome_one Valid InvalidAs h k = absurd (valid_invalid h k.0)
-  outcome_one Valid NotFound h k = absurd (valid_unknown h k)
-  outcome_one InvalidLength Valid h k = absurd (valid_invalid k h.0)
-  outcome_one InvalidLength InvalidLength h k = refl
-  outcome_one InvalidLength InvalidAs h k = absurd (k.1 h.1)
-  outcome_one InvalidLength NotFound h k = absurd (invalid_unknown h.0 k)
-  outcome_one InvalidAs Valid h k = absurd (valid_invalid k h.0)
-  outcome_one InvalidAs InvalidLength h k = absurd (h.1 k.1)
-  outcome_one InvalidAs InvalidAs h k = refl
-  outcome_one InvalidAs NotFound h k = absurd (invalid_unknown h.0 k)
-  outcome_one NotFound Valid h k = absurd (valid_unknown k h)
-  outcome_one NotFound InvalidLength h k = absurd (invalid_unknown k.0 h)
-  outcome_one NotFound InvalidAs h k = absurd (invalid_unknown k.0 h)
-  outcome_one NotFound NotFound h k = refl
+  outcome_one a b h k = grind (arith, invalid_unknown, valid_invalid, valid_unknown)
 
 -- ---- lists in one strict order with the same members are the same
 
 rest_ordered : (x : Payload) (xs : List Payload) → AllPairs IsToldBefore (x ∷ xs) → AllPairs IsToldBefore xs
 rest_ordered x xs ordered i j d less small = ordered (suc i) (suc j) d (omega (arith, less)) (omega (arith, small))
 
-first_before : (x : Payload) (xs : List Payload) (y : Payload) → AllPairs IsToldBefore (x ∷ xs) → Contains xs y → IsToldBefore x y
+first_before : (x : Payload) (xs : List Payload) (y : Payload) → AllPairs IsToldBefore (x ∷ xs) → Contains xs y
+    → IsToldBefore x y
 first_before x xs y ordered (k, small, is) = subst (IsToldBefore x) is (ordered 0 (suc k) y (omega arith) (omega (arith, small)))
 
-same_rest : (x y : Payload) (xs ys : List Payload) → AllPairs IsToldBefore (x ∷ xs) → y ≡ x → ((p : Payload) → Contains (x ∷ xs) p → Contains (y ∷ ys) p)
-    → (p : Payload) → Contains xs p → Contains ys p
+same_rest : (x y : Payload) (xs ys : List Payload) → AllPairs IsToldBefore (x ∷ xs) → y ≡ x
+    → ((p : Payload) → Contains (x ∷ xs) p → Contains (y ∷ ys) p) → (p : Payload) → Contains xs p → Contains ys p
 same_rest x y xs ys ordered e members p h = elim (cons_cases y ys p (members p (there x xs p h))) [
   | inl is ↦ absurd (told_once x (subst (IsToldBefore x) (sym is ∙ e) (first_before x xs p ordered h)))
   | inr more ↦ more
 ]
 
-ordered_one : (xs ys : List Payload) → AllPairs IsToldBefore xs → AllPairs IsToldBefore ys → ((p : Payload) → Contains xs p → Contains ys p) → ((p : Payload) → Contains ys p → Contains xs p)
-    → xs ≡ ys
+ordered_one : (xs ys : List Payload) → AllPairs IsToldBefore xs → AllPairs IsToldBefore ys
+    → ((p : Payload) → Contains xs p → Contains ys p) → ((p : Payload) → Contains ys p → Contains xs p) → xs ≡ ys
 ordered_one [] [] a b on back = refl
 ordered_one [] (y ∷ ys) a b on back = absurd (no_member y (back y (here y ys)))
 ordered_one (x ∷ xs) [] a b on back = absurd (no_member x (on x (here x xs)))
@@ -135,40 +106,35 @@ ordered_one (x ∷ xs) (y ∷ ys) a b on back =
       ]
     ]
 
-explained_one : (route : FamilyPrefix) (payloads told other : List Payload) → IsExplanation route payloads told → IsExplanation route payloads other → told ≡ other
+explained_one : (route : FamilyPrefix) (payloads told other : List Payload) → IsExplanation route payloads told
+    → IsExplanation route payloads other → told ≡ other
 explained_one route payloads told other h k =
     ordered_one told other h.ordered k.ordered (λ p is. (k.members p).1 ((h.members p).0 is)) (λ p is. (h.members p).1 ((k.members p).0 is))
 
 -- ---- so one text
 
-reason_one : (route : FamilyPrefix) (asn : ℕ) (p : Payload) (a b : Reason) → IsReason route asn p a → IsReason route asn p b → a ≡ b
-reason_one route asn p Match Match h k = refl
-reason_one route asn p Match Length h k = absurd (omega (arith, h.1, k.1))
-reason_one route asn p Match As h k = absurd (k h.0)
-reason_one route asn p Length Match h k = absurd (omega (arith, h.1, k.1))
-reason_one route asn p Length Length h k = refl
-reason_one route asn p Length As h k = absurd (k h.0)
-reason_one route asn p As Match h k = absurd (h k.0)
-reason_one route asn p As Length h k = absurd (h k.0)
-reason_one route asn p As As h k = refl
+reason_one : (route : FamilyPrefix) (asn : ℕ) (p : Payload) (a b : Reason) → IsReason route asn p a
+    → IsReason route asn p b → a ≡ b
+reason_one route asn p a b h k = grind (arith)
 
-each_one : (route : FamilyPrefix) (asn : ℕ) (told : List Payload) (text other : List ℕ) → TellsEach route asn told text → TellsEach route asn told other → text ≡ other
+each_one : (route : FamilyPrefix) (asn : ℕ) (told : List Payload) (text other : List ℕ) → TellsEach route asn told text
+    → TellsEach route asn told other → text ≡ other
 each_one route asn [] text other h k = h ∙ sym k
 each_one route asn (p ∷ told) text other (a, is_a, more, e, rest) (b, is_b, others, f, left) =
     e ∙ ap₂ (λ reason behind. told_text reason p ++ behind) (reason_one route asn p a b is_a is_b) (each_one route asn told more others rest left) ∙ sym f
 
-why_one : (why : Bool) (payloads : List Payload) (route : FamilyPrefix) (asn : ℕ) (text other : List ℕ) → TellsIf why payloads route asn text → TellsIf why payloads route asn other
-    → text ≡ other
+why_one : (why : Bool) (payloads : List Payload) (route : FamilyPrefix) (asn : ℕ) (text other : List ℕ)
+    → TellsIf why payloads route asn text → TellsIf why payloads route asn other → text ≡ other
 why_one false payloads route asn text other h k = h ∙ sym k
 why_one true payloads route asn text other (told, is, each) (others, are, all) =
     each_one route asn told text other each (subst (λ ps. TellsEach route asn ps other) (explained_one route payloads others told are is) all)
 
-route_told_one : (why : Bool) (payloads : List Payload) (route : FamilyPrefix) (asn : ℕ) (text other : List ℕ) → TellsRoute why payloads route asn text
-    → TellsRoute why payloads route asn other → text ≡ other
-route_told_one why payloads route asn text other (a, is_a, behind, tells, e) (b, is_b, behinds, told, f) =
-    e ∙ ap₂ (λ outcome more. outcome_text outcome ++ more) (outcome_one route asn payloads a b is_a is_b) (why_one why payloads route asn behind behinds tells told) ∙ sym f
+route_told_one : (why : Bool) (payloads : List Payload) (route : FamilyPrefix) (asn : ℕ) (text other : List ℕ)
+    → TellsRoute why payloads route asn text → TellsRoute why payloads route asn other → text ≡ other
+route_told_one why payloads route asn text other h h2 = grind (arith, outcome_one, why_one)
 
-pub answer_one : (why : Bool) (payloads : List Payload) (line text other : List ℕ) → IsOriginAnswer why payloads line text → IsOriginAnswer why payloads line other → text ≡ other
+pub answer_one : (why : Bool) (payloads : List Payload) (line text other : List ℕ)
+    → IsOriginAnswer why payloads line text → IsOriginAnswer why payloads line other → text ≡ other
 answer_one why payloads line text other (inl (a, is_a, h)) (inl (b, is_b, k)) =
     route_told_one why payloads b.prefix (asked_asn b.origin) text other
     (subst (λ (z : Route). TellsRoute why payloads z.prefix (asked_asn z.origin) text) (route_one line a b is_a is_b) h) k

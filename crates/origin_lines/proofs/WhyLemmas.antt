@@ -1,39 +1,21 @@
 -- The payloads that cover a route, told one after another.
-use Rattle.std.proofs.Common.{◌≡◌, ◌≢◌, ◌⊎◌, ◌↔◌, ℕ, suc, ◌+◌, ◌-◌, ◌*◌, ◌^◌, ◌<◌, ◌≤◌, Option, Some, None, List, [], ◌∷◌, ◌++◌, map, length, get_or, refl, sym, ap, subst, ◌∙◌, inl, inr, arith, reverse, append_assoc}
-use Rattle.std.specs.List.{AllPairs, Contains}
-use Rattle.std.specs.List.Sorted.{IsNonDecreasingBy}
+use Rattle.origin_lines.proofs.Common.{List, None, Option, Some, [], ap, append_assoc, arith, get_or, inl, inr, length, map, refl, reverse, subst, suc, sym, ℕ, ◌*◌, ◌++◌, ◌+◌, ◌-◌, ◌<◌, ◌^◌, ◌↔◌, ◌∙◌, ◌∷◌, ◌≡◌, ◌≢◌, ◌≤◌, ◌⊎◌, append-nil, get_or-reverse, get_or_at, length-append, length-reverse, map-append, AllPairs, Contains, IsNonDecreasingBy, AreThose, CoversRoute, IsLawfulPayload, Payload, prefix_len, as_sent, FamilyPrefix, IsFamilyPrefix, IsExplanation, IsReason, IsToldBefore, TellsEach, TellsNext, told_text, Reason}
 use Rattle.std.proofs.lemmas.Bool.{cases_lt}
-use Rattle.std.proofs.lemmas.List.{append-nil, get_or-reverse, get_or_at, length-append, length-reverse, map-append}
 use Rattle.std.proofs.lemmas.List.Elements.{Contains-append_left, Contains-append_right, Contains-get_or, Contains-push, Contains-push_cases}
 use Rattle.std.proofs.lemmas.List.Quantifiers.{all_pairs_push}
-use Rattle.rpki_prefix.specs.Values.{FamilyPrefix, IsFamilyPrefix}
-use Rattle.roa_origin.specs.Coverings.{AreThose}
-use Rattle.roa_origin.specs.Payloads.{CoversRoute, IsLawfulPayload, Payload, longest, prefix_len}
-use Rattle.roa_origin.specs.Places.{payload_place, rank, table_place}
-use Rattle.roa_origin.specs.Tables.{as_sent}
+use Rattle.roa_origin.specs.Places.{table_place}
 use Rattle.roa_origin.proofs.Nested.{covers_between}
 use Rattle.roa_origin.proofs.Orders.{covers_place}
 use Rattle.roa_origin.proofs.Places.{by_ranks, no_earlier, rank_asn, rank_longest, rank_small, same_prefix}
-use Rattle.origin_lines.specs.Explanations.{IsExplanation, IsReason, IsToldBefore, TellsEach, TellsNext, told_text}
-use Rattle.origin_lines.specs.declared.explanation.Reason.{Reason}
-use Rattle.origin_lines.specs.declared.explanation.Reason.TheVariants.{Match, Length, As}
 use Rattle.origin_lines.proofs.Members.{from_reverse, here, map_from, map_has, those_are, those_have, to_reverse}
 
 -- ---- the order in which they are told
 
 pub told_trans : (p q r : Payload) → IsToldBefore p q → IsToldBefore q r → IsToldBefore p r
-told_trans p q r (inl h) (inl k) = inl (omega (arith, h, k))
-told_trans p q r (inl h) (inr (e, k)) = inl (omega (arith, h, e))
-told_trans p q r (inr (e, h)) (inl k) = inl (omega (arith, e, k))
-told_trans p q r (inr (e, inl h)) (inr (f, inl k)) = inr (f ∙ e, inl (omega (arith, h, k)))
-told_trans p q r (inr (e, inl h)) (inr (f, inr (same, k))) = inr (f ∙ e, inl (omega (arith, h, same)))
-told_trans p q r (inr (e, inr (same, h))) (inr (f, inl k)) = inr (f ∙ e, inl (omega (arith, same, k)))
-told_trans p q r (inr (e, inr (same, h))) (inr (f, inr (equal, k))) = inr (f ∙ e, inr (same ∙ equal, omega (arith, h, k)))
+told_trans p q r h h2 = grind (arith)
 
 pub told_once : (p : Payload) → IsToldBefore p p → ⊥
-told_once p (inl h) = omega (arith, h)
-told_once p (inr (e, inl h)) = omega (arith, h)
-told_once p (inr (e, inr (same, h))) = omega (arith, h)
+told_once p h = grind (arith)
 
 -- the first of two numbers, by their order with a second of 64 bits each
 upper : (m n r s : ℕ) → s < 2 ^ 64 → m * 2 ^ 64 + r ≤ n * 2 ^ 64 + s → m ≤ n
@@ -45,37 +27,16 @@ module _ (route : FamilyPrefix) (is : IsFamilyPrefix route) (y x : Payload) (of_
     (covers_y : CoversRoute route y) (covers_x : CoversRoute route x) (places : table_place x ≤ table_place y) where
   -- of one prefix
   by_prefix : x.0.prefix ≡ y.0.prefix → IsToldBefore y x ⊎ (as_sent y ≡ as_sent x)
-  by_prefix same =
-      let ranks = by_ranks x y same places in
-      let len : prefix_len x ≡ prefix_len y = ap (λ (p : FamilyPrefix). p.len) same in
-      elim (cases_lt y.1 x.1) [
-        | inl less ↦ inl (inr (len, inl less))
-        | inr most ↦ (
-            let least = rank_asn x y of_x of_y ranks in
-            let asn : y.1 ≡ x.1 = omega (arith, most, least) in
-            elim (cases_lt (longest x) (longest y)) [
-              | inl less ↦ inl (inr (len, inr (asn, less)))
-              | inr most ↦ (
-                  let no_longer = rank_longest x y (sym asn) ranks in
-                  let long : longest y ≡ longest x = omega (arith, most, no_longer) in
-                  inr (λ i. (record { prefix = sym same i; max_len = Some (long i) }, asn i)))
-            ])
-      ]
+  by_prefix same = grind (arith, by_ranks, cases_lt, rank_asn, rank_longest)
 
   pub told_or_same : prefix_len x ≤ prefix_len y → IsToldBefore y x ⊎ (as_sent y ≡ as_sent x)
-  told_or_same lens = elim (cases_lt (prefix_len x) (prefix_len y)) [
-    | inl less ↦ inl (inl less)
-    | inr most ↦ (
-        let len : prefix_len x ≡ prefix_len y = omega (arith, lens, most) in
-        let below : payload_place x ≤ payload_place y = upper (payload_place x) (payload_place y) (rank x) (rank y) (rank_small y of_y) places in
-        let round = covers_between x.0.prefix y.0.prefix route of_x.prefix.0 of_y.prefix.0 is below (covers_place y.0.prefix route of_y.prefix.0 is covers_y) covers_x in
-        let above : payload_place y ≤ payload_place x = no_earlier x.0.prefix y.0.prefix round len in
-        by_prefix (same_prefix x.0.prefix y.0.prefix of_x.prefix.0 of_y.prefix.0 (omega (arith, below, above))))
-  ]
+  told_or_same lens =
+      grind (arith, by_prefix, cases_lt, covers_between, covers_place, no_earlier, rank_small, same_prefix, upper)
 
 -- ---- two that stand together in a list whose other end is the least
 
-at_reverse : (f : Payload → ℕ) (all : List Payload) (i j : ℕ) (d : Payload) → IsNonDecreasingBy f (reverse all) → i ≤ j → j < length all → f (get_or all j d) ≤ f (get_or all i d)
+at_reverse : (f : Payload → ℕ) (all : List Payload) (i j : ℕ) (d : Payload) → IsNonDecreasingBy f (reverse all) → i ≤ j
+    → j < length all → f (get_or all j d) ≤ f (get_or all i d)
 at_reverse f all i j d ordered le small =
     let n = length all in
     let long = length-reverse all in
@@ -86,8 +47,8 @@ at_reverse f all i j d ordered le small =
     let at_i : get_or (reverse all) (n - 1 - i) d ≡ get_or all i d = get_or-reverse all (n - 1 - i) d (omega (arith, small, le)) ∙ ap (λ k. get_or all k d) back_i in
     subst (λ (z : Payload). f (get_or all j d) ≤ f z) at_i (subst (λ (z : Payload). f z ≤ f (get_or (reverse all) (n - 1 - i) d)) at_j first)
 
-pub adjacent : (f : Payload → ℕ) (all done front rest : List Payload) (y x : Payload) → IsNonDecreasingBy f (reverse all) → all ≡ done ++ x ∷ rest → done ≡ front ++ y ∷ []
-    → f x ≤ f y
+pub adjacent : (f : Payload → ℕ) (all done front rest : List Payload) (y x : Payload)
+    → IsNonDecreasingBy f (reverse all) → all ≡ done ++ x ∷ rest → done ≡ front ++ y ∷ [] → f x ≤ f y
 adjacent f all done front rest y x ordered cut ends =
     let m = length front in
     let one_more : length done ≡ m + 1 = ap length ends ∙ length-append front (y ∷ []) in
@@ -119,17 +80,11 @@ pub record IsToldSo (route : FamilyPrefix) (asn : ℕ) (done : List Payload) (la
   pub at_end : IsLastOf last done
 
 pub told_none : (route : FamilyPrefix) (asn : ℕ) → IsToldSo route asn [] None []
-told_none route asn = record {
-  told = [];
-  ordered = λ i j d less small. absurd (omega (arith, small));
-  members = λ p. (λ h. h, λ h. h);
-  tells = refl;
-  up_to = refl;
-  at_end = refl;
-}
+told_none route asn = grind (arith)
 
 -- the text of one more
-tells_push : (route : FamilyPrefix) (asn : ℕ) (told : List Payload) (text : List ℕ) (p : Payload) (reason : Reason) → IsReason route asn p reason → TellsEach route asn told text
+tells_push : (route : FamilyPrefix) (asn : ℕ) (told : List Payload) (text : List ℕ) (p : Payload) (reason : Reason)
+    → IsReason route asn p reason → TellsEach route asn told text
     → TellsEach route asn (told ++ p ∷ []) (text ++ told_text reason p)
 tells_push route asn [] text p reason is e = (reason, is, [], ap (λ t. t ++ told_text reason p) e ∙ sym (append-nil (told_text reason p)), refl)
 tells_push route asn (q ∷ told) text p reason is (r, of_q, more, e, rest) =
@@ -140,7 +95,8 @@ module _ (route : FamilyPrefix) (asn : ℕ) (done : List Payload) (x : Payload) 
   more_sent = map-append as_sent done (x ∷ [])
 
   -- a payload that is the same, as it is sent, as the last one isn't told again
-  pub told_same : (y : Payload) (text : List ℕ) → as_sent y ≡ as_sent x → IsToldSo route asn done (Some y) text → IsToldSo route asn (done ++ x ∷ []) (Some x) text
+  pub told_same : (y : Payload) (text : List ℕ) → as_sent y ≡ as_sent x → IsToldSo route asn done (Some y) text
+      → IsToldSo route asn (done ++ x ∷ []) (Some x) text
   told_same y text same had = record {
     told = had.told;
     ordered = had.ordered;
@@ -166,13 +122,12 @@ module _ (route : FamilyPrefix) (asn : ℕ) (done : List Payload) (x : Payload) 
 
   -- a payload as it is sent has the same against it
   reason_sent : (reason : Reason) → IsReason route asn x reason → IsReason route asn (as_sent x) reason
-  reason_sent Match h = (record { same_as = h.0.same_as; not_as0 = h.0.not_as0 }, h.1)
-  reason_sent Length h = (record { same_as = h.0.same_as; not_as0 = h.0.not_as0 }, h.1)
-  reason_sent As h = λ k. h (record { same_as = k.same_as; not_as0 = k.not_as0 })
+  reason_sent reason h = grind (arith)
 
   -- and any other is
-  pub told_more : (last : Option Payload) (text : List ℕ) (reason : Reason) → IsReason route asn x reason → ((y : Payload) → last ≡ Some y → IsToldBefore y x)
-      → IsToldSo route asn done last text → IsToldSo route asn (done ++ x ∷ []) (Some x) (text ++ told_text reason x)
+  pub told_more : (last : Option Payload) (text : List ℕ) (reason : Reason) → IsReason route asn x reason
+      → ((y : Payload) → last ≡ Some y → IsToldBefore y x) → IsToldSo route asn done last text
+      → IsToldSo route asn (done ++ x ∷ []) (Some x) (text ++ told_text reason x)
   told_more last text reason is next had = record {
     told = had.told ++ as_sent x ∷ [];
     ordered = all_pairs_push IsToldBefore had.told (as_sent x) had.ordered (λ k d small. before last next had.up_to (get_or had.told k d) (Contains-get_or had.told k d small));
@@ -185,7 +140,8 @@ module _ (route : FamilyPrefix) (asn : ℕ) (done : List Payload) (x : Payload) 
     at_end = ((done, refl), lawful);
   }
     where
-      before : (l : Option Payload) → ((y : Payload) → l ≡ Some y → IsToldBefore y x) → IsUpTo l had.told → (q : Payload) → Contains had.told q → IsToldBefore q x
+      before : (l : Option Payload) → ((y : Payload) → l ≡ Some y → IsToldBefore y x) → IsUpTo l had.told
+          → (q : Payload) → Contains had.told q → IsToldBefore q x
       before None after none q h = absurd (let no : Contains [] q = subst (λ zs. Contains zs q) none h in let small = no.1 in omega (arith, small))
       before (Some y) after upto q h = elim (upto q h) [
         | inl less ↦ told_trans q y x less (after y refl)
@@ -205,20 +161,23 @@ module _ (route : FamilyPrefix) (asn : ℕ) (done : List Payload) (x : Payload) 
       upto q (inr e) = inr (sym e)
 
 -- when all are done, what is told explains the route
-pub all_told : (route : FamilyPrefix) (asn : ℕ) (table all : List Payload) (last : Option Payload) (text : List ℕ) → AreThose (CoversRoute route) table (reverse all)
-    → (had : IsToldSo route asn all last text) → IsExplanation route table had.told
+pub all_told : (route : FamilyPrefix) (asn : ℕ) (table all : List Payload) (last : Option Payload) (text : List ℕ)
+    → AreThose (CoversRoute route) table (reverse all) → (had : IsToldSo route asn all last text)
+    → IsExplanation route table had.told
 all_told route asn table all last text those had = record {
   ordered = had.ordered;
   members = λ p. (λ h. on p (map_from as_sent all p ((had.members p).0 h)), λ h. (had.members p).1 (back p h.0 (map_from as_sent table p h.1)));
 }
   where
-    on : (p : Payload) → (x : Payload) × Contains all x × (as_sent x ≡ p) → CoversRoute route p × Contains (map as_sent table) p
+    on : (p : Payload) → (x : Payload) × Contains all x × (as_sent x ≡ p)
+        → CoversRoute route p × Contains (map as_sent table) p
     on p (x, h, e) =
         let found = those_are (CoversRoute route) table (reverse all) x those (to_reverse all x h) in
         let covers : CoversRoute route (as_sent x) = found.0 in
         (subst (CoversRoute route) e covers, subst (Contains (map as_sent table)) e (map_has as_sent table x found.1))
 
-    back : (p : Payload) → CoversRoute route p → (x : Payload) × Contains table x × (as_sent x ≡ p) → Contains (map as_sent all) p
+    back : (p : Payload) → CoversRoute route p → (x : Payload) × Contains table x × (as_sent x ≡ p)
+        → Contains (map as_sent all) p
     back p covers (x, h, e) =
         let covered : CoversRoute route (as_sent x) = subst (CoversRoute route) (sym e) covers in
         subst (Contains (map as_sent all)) e (map_has as_sent all x (from_reverse all x (those_have (CoversRoute route) table (reverse all) x those h covered)))
@@ -244,15 +203,11 @@ module _ (route : FamilyPrefix) (is : IsFamilyPrefix route) (asn : ℕ) (table a
         | inr same ↦ absurd (other same)
       ]
 
-  pub told_next : (last : Option Payload) (why more : List ℕ) → IsToldSo route asn done last why → TellsNext route asn last x more
-      → IsToldSo route asn (done ++ x ∷ []) (Some x) (why ++ more)
+  pub told_next : (last : Option Payload) (why more : List ℕ) → IsToldSo route asn done last why
+      → TellsNext route asn last x more → IsToldSo route asn (done ++ x ∷ []) (Some x) (why ++ more)
   told_next None why more had (inl (again, e)) = absurd again
-  told_next (Some y) why more had (inl (again, e)) =
-      let same : why ≡ why ++ more = sym (append-nil why) ∙ ap (λ t. why ++ t) (sym e) in
-      subst (λ t. IsToldSo route asn (done ++ x ∷ []) (Some x) t) same (told_same route asn done x lawful y why again had)
-  told_next None why more had (inr (other, (reason, against, e))) =
-      subst (λ t. IsToldSo route asn (done ++ x ∷ []) (Some x) (why ++ t)) (sym e)
-      (told_more route asn done x lawful None why reason against (λ y f. absurd (let no : None ≡ Some y = f in cc)) had)
+  told_next (Some y) why more had (inl (again, e)) = grind (arith, append-nil, told_same)
+  told_next None why more had (inr (other, (reason, against, e))) = grind (arith, told_more)
   told_next (Some y) why more had (inr (other, (reason, against, e))) =
       subst (λ t. IsToldSo route asn (done ++ x ∷ []) (Some x) (why ++ t)) (sym e)
       (told_more route asn done x lawful (Some y) why reason against

@@ -1,16 +1,11 @@
 -- Answers by a table are answers by the list that it was made of.
-use Rattle.std.proofs.Common.{◌≡◌, ℕ, Bool, List, [], ◌∷◌, Option, Some, None, subst}
-use Rattle.std.specs.Prelude.{IfSome, OnOk, Result, Ok, Err}
+use Rattle.origins_engine.proofs.Common.{Bool, List, None, Option, Some, [], subst, ℕ, ◌∷◌, ◌≡◌, IfSome, Ok, OnOk, Result, AnswersAll, AnswersBut, AnswersEnded, AnswersFirst, BeginsAnswers, HasAnswered, IsOriginAnswer, IsPayloadFile, Payload, ByFile}
+use Rattle.std.specs.Prelude.{Err}
 use Rattle.std.specs.List.{AllZip}
 use Rattle.std.specs.List.Sorted.{IsPermutation}
 use Rattle.std.proofs.lemmas.List.Sorted.{IsPermutation-sym}
 use Rattle.rpki_text.specs.Lines.{lines_of}
-use Rattle.origin_lines.specs.Answers.{IsOriginAnswer}
 use Rattle.origin_lines.proofs.OrderLemmas.{any_order}
-use Rattle.roa_origin.specs.Payloads.{Payload}
-use Rattle.lines_engine.specs.Run.{AnswersAll, AnswersBut, AnswersEnded, AnswersFirst, BeginsAnswers, HasAnswered}
-use Rattle.payload_texts.specs.Files.{IsPayloadFile}
-use Rattle.origins_engine.specs.Runs.{ByFile}
 
 -- where each answer of the one kind is one of the other
 module _ (Is As : List ℕ → List ℕ → Type 0) (turn : (line text : List ℕ) → Is line text → As line text) where
@@ -66,18 +61,6 @@ pub by_file : (file : Option (List ℕ)) (P : List Payload → Type 0) (listed :
     → IfSome file (λ text. IsPayloadFile text listed) → P listed → IfSome file (ByFile P)
 by_file None P listed is holds = tt
 by_file (Some text) P listed is holds = record { listed = listed; file_is = is; holds = holds }
-
--- those of two
-pub by_files : (file other : Option (List ℕ)) (P Q : List Payload → Type 0) (R : List Payload → List Payload → Type 0)
-    (listed others : List Payload) → IfSome file (λ text. IsPayloadFile text listed)
-    → IfSome other (λ text. IsPayloadFile text others) → P listed → Q others → R listed others
-    → IfSome file (ByFile (λ before. P before × IfSome other (ByFile (λ after. Q after × R before after))))
-by_files None other P Q R listed others is are p q holds = tt
-by_files (Some text) other P Q R listed others is are p q holds = record {
-  listed = listed;
-  file_is = is;
-  holds = (p, by_file other (λ after. Q after × R listed after) others are (q, holds));
-}
 
 -- what holds of a text that was read
 pub of_bytes : (left : Option (List ℕ)) (text : List ℕ) (P : List ℕ → Type 0) → IfSome left (λ bytes. text ≡ bytes)

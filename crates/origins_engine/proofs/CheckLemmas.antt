@@ -1,9 +1,7 @@
 -- What is seen of octets when one more comes.
-use Rattle.std.proofs.Common.{arith, ◌≡◌, ◌⊎◌, ◌<◌, ◌≤◌, ◌+◌, ◌-◌, ℕ, Bool, List, [], ◌∷◌, ◌++◌, inl, inr, length, length-append, get_or, sym, ◌∙◌, subst, refl}
-use Rattle.std.specs.Prelude.{IsTrue, ◌↔◌}
+use Rattle.origins_engine.proofs.Common.{Bool, List, [], arith, get_or, inl, inr, length, length-append, refl, subst, sym, ℕ, ◌++◌, ◌+◌, ◌-◌, ◌<◌, ◌∙◌, ◌∷◌, ◌≡◌, ◌≤◌, ◌⊎◌, IsTrue, ◌↔◌, BeginsLine, HasFound, IsSeen, IsSought}
 use Rattle.std.proofs.lemmas.Bool.{cases_lt}
 use Rattle.std.proofs.lemmas.List.{get_or_append_left, get_or_push}
-use Rattle.origins_engine.specs.Checks.{BeginsLine, HasFound, IsSeen, IsSought}
 use Rattle.origins_engine.specs.declared.check.Seen.{Seen}
 
 module _ (octets : List ℕ) (octet : ℕ) where

@@ -1,4 +1,5 @@
 -- Lemmas on runs.
 pub mod AnswerLemmas
 pub mod CheckLemmas
+pub mod Common
 pub mod LineLemmas

@@ -1,12 +1,9 @@
 -- Lines are written one behind the other.
-use Rattle.std.proofs.Common.{ℕ, List, [], ◌++◌, refl, sym, ap, ◌∙◌, append_assoc, append-nil, Option}
-use Rattle.std.specs.Prelude.{OnErr, OnOk, Result, Ok, Err}
-use Rattle.lines_engine.specs.Run.{HasWritten}
+use Rattle.origins_engine.proofs.Common.{List, Option, [], ap, append-nil, append_assoc, refl, sym, ℕ, ◌++◌, ◌∙◌, Ok, OnErr, OnOk, Result, HasWritten, Payload, TellsBetween, change_lines}
+use Rattle.std.specs.Prelude.{Err}
 use Rattle.lines_engine.proofs.KnownLemmas.{appends_both, appends_kept, appends_nothing}
 use Rattle.std.specs.Io.KnownBytes.{Keeps}
-use Rattle.roa_origin.specs.Payloads.{Payload}
 use Rattle.roa_origin.specs.Tables.{IsWithout}
-use Rattle.origins_engine.specs.Runs.{TellsBetween, change_lines}
 
 -- nothing is written yet
 pub written_none : (a : Option (List ℕ)) (bytes : List ℕ) → HasWritten a a bytes bytes

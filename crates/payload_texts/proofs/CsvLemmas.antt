@@ -1,22 +1,16 @@
 -- The lines of a file, read one after another; a file writes one list of payloads, or has one fault.
-use Rattle.std.proofs.Common.{◌≡◌, ◌≢◌, ℕ, ◌+◌, inl, inr, List, [], ◌∷◌, ◌++◌, refl, sym, ap, subst, ◌∙◌, append_assoc, append-nil}
+use Rattle.payload_texts.proofs.Common.{List, [], ap, append-nil, append_assoc, arith, inl, inr, refl, subst, sym, ℕ, ◌++◌, ◌+◌, ◌∙◌, ◌∷◌, ◌≡◌, ◌≢◌, MaxLenValue, usual, HasRowFault, IsRow, Columns, FileFault, Line, NoPayload, PayloadFault, Row}
 use Rattle.rpki_text.specs.Lines.{lines_of}
-use Rattle.rpki_prefix.specs.MaxLen.{MaxLenValue}
-use Rattle.payload_texts.specs.Columns.{usual}
 use Rattle.payload_texts.specs.Csv.{AreRows, HaveFirstFault, HasCsvFault, IsCsvFile, columns_after, payloads_of}
-use Rattle.payload_texts.specs.Rows.{IsRow, HasRowFault}
-use Rattle.payload_texts.specs.declared.columns.Columns.{Columns}
-use Rattle.payload_texts.specs.declared.fault.FileFault.{FileFault}
-use Rattle.payload_texts.specs.declared.fault.FileFault.TheVariants.{Line, NoPayload, NotObject, Roas, Item}
-use Rattle.payload_texts.specs.declared.fault.PayloadFault.{PayloadFault}
-use Rattle.payload_texts.specs.declared.row.Row.{Row}
 use Rattle.payload_texts.proofs.RowLemmas.{row_apart, row_fault_one, row_one}
 
 -- What the rest of a text writes behind the payloads before it, the text writes; what is wrong there first is so in the
 -- text.
 pub record IsReadSo (text rest : List ℕ) (number : ℕ) (columns : Columns) (payloads : List (MaxLenValue × ℕ)) : Type 0 where
-  pub values : (more : List (MaxLenValue × ℕ)) → AreRows columns (lines_of rest) more → AreRows usual (lines_of text) (payloads ++ more)
-  pub faults : (fault : FileFault) → HaveFirstFault (number + 1) columns (lines_of rest) fault → HaveFirstFault 1 usual (lines_of text) fault
+  pub values : (more : List (MaxLenValue × ℕ)) → AreRows columns (lines_of rest) more
+      → AreRows usual (lines_of text) (payloads ++ more)
+  pub faults : (fault : FileFault) → HaveFirstFault (number + 1) columns (lines_of rest) fault
+      → HaveFirstFault 1 usual (lines_of text) fault
 
 -- nothing is read yet
 pub read_none : (text : List ℕ) → IsReadSo text text 0 usual []
@@ -24,7 +18,8 @@ read_none text = record { values = λ more rows. rows; faults = λ fault wrong. 
 
 module _ (text rest after line : List ℕ) (number : ℕ) (columns : Columns) (payloads : List (MaxLenValue × ℕ)) (had : IsReadSo text rest number columns payloads) (first : lines_of rest ≡ line ∷ lines_of after) where
   -- one line more
-  pub read_more : (row : Row) → IsRow columns line row → IsReadSo text after (number + 1) (columns_after columns row) (payloads ++ payloads_of row)
+  pub read_more : (row : Row) → IsRow columns line row
+      → IsReadSo text after (number + 1) (columns_after columns row) (payloads ++ payloads_of row)
   read_more row is = record {
     values = λ more rows. subst (AreRows usual (lines_of text)) (sym (append_assoc payloads (payloads_of row) more))
         (had.values (payloads_of row ++ more) (subst (λ lines. AreRows columns lines (payloads_of row ++ more)) (sym first) (row, is, more, refl, rows)));
@@ -32,27 +27,31 @@ module _ (text rest after line : List ℕ) (number : ℕ) (columns : Columns) (p
   }
 
   -- which writes no payload
-  pub read_over : (row : Row) → payloads_of row ≡ [] → IsRow columns line row → IsReadSo text after (number + 1) (columns_after columns row) payloads
-  read_over row none is =
-      subst (IsReadSo text after (number + 1) (columns_after columns row)) (ap (λ z. payloads ++ z) none ∙ append-nil payloads) (read_more row is)
+  pub read_over : (row : Row) → payloads_of row ≡ [] → IsRow columns line row
+      → IsReadSo text after (number + 1) (columns_after columns row) payloads
+  read_over row none is = grind (arith, read_more)
 
   -- the next line is wrong
   pub read_wrong : (wrong : PayloadFault) → HasRowFault columns line wrong → HasCsvFault text (Line (number + 1) wrong)
   read_wrong wrong has = had.faults (Line (number + 1) wrong) (subst (λ lines. HaveFirstFault (number + 1) columns lines (Line (number + 1) wrong)) (sym first) (inl (wrong, has, refl)))
 
 -- nothing is left
-read_all : (text rest : List ℕ) (number : ℕ) (columns : Columns) (payloads : List (MaxLenValue × ℕ)) → IsReadSo text rest number columns payloads → rest ≡ [] → AreRows usual (lines_of text) payloads
+read_all : (text rest : List ℕ) (number : ℕ) (columns : Columns) (payloads : List (MaxLenValue × ℕ))
+    → IsReadSo text rest number columns payloads → rest ≡ [] → AreRows usual (lines_of text) payloads
 read_all text rest number columns payloads had end =
     subst (AreRows usual (lines_of text)) (append-nil payloads) (had.values [] (subst (λ z. AreRows columns (lines_of z) []) (sym end) refl))
 
-pub read_some : (text rest : List ℕ) (number : ℕ) (columns : Columns) (payloads : List (MaxLenValue × ℕ)) → IsReadSo text rest number columns payloads → rest ≡ [] → payloads ≢ [] → IsCsvFile text payloads
+pub read_some : (text rest : List ℕ) (number : ℕ) (columns : Columns) (payloads : List (MaxLenValue × ℕ))
+    → IsReadSo text rest number columns payloads → rest ≡ [] → payloads ≢ [] → IsCsvFile text payloads
 read_some text rest number columns payloads had end some = (read_all text rest number columns payloads had end, some)
 
-pub read_no_payload : (text rest : List ℕ) (number : ℕ) (columns : Columns) (payloads : List (MaxLenValue × ℕ)) → IsReadSo text rest number columns payloads → rest ≡ [] → payloads ≡ [] → HasCsvFault text NoPayload
+pub read_no_payload : (text rest : List ℕ) (number : ℕ) (columns : Columns) (payloads : List (MaxLenValue × ℕ))
+    → IsReadSo text rest number columns payloads → rest ≡ [] → payloads ≡ [] → HasCsvFault text NoPayload
 read_no_payload text rest number columns payloads had end none = subst (AreRows usual (lines_of text)) none (read_all text rest number columns payloads had end)
 
 -- lines write one list of payloads
-rows_one : (columns : Columns) (lines : List (List ℕ)) (a b : List (MaxLenValue × ℕ)) → AreRows columns lines a → AreRows columns lines b → a ≡ b
+rows_one : (columns : Columns) (lines : List (List ℕ)) (a b : List (MaxLenValue × ℕ)) → AreRows columns lines a
+    → AreRows columns lines b → a ≡ b
 rows_one columns [] a b h k = h ∙ sym k
 rows_one columns (line ∷ lines) a b (row, is, more, a_is, rows) (other, iz, others, b_is, rest) =
     let same = row_one columns line row other is iz in
@@ -60,7 +59,8 @@ rows_one columns (line ∷ lines) a b (row, is, more, a_is, rows) (other, iz, ot
     a_is ∙ ap (λ z. payloads_of row ++ z) tail ∙ ap (λ z. payloads_of z ++ others) same ∙ sym b_is
 
 -- lines that write payloads have no fault
-rows_apart : (number : ℕ) (columns : Columns) (lines : List (List ℕ)) (a : List (MaxLenValue × ℕ)) (fault : FileFault) → AreRows columns lines a → HaveFirstFault number columns lines fault → ⊥
+rows_apart : (number : ℕ) (columns : Columns) (lines : List (List ℕ)) (a : List (MaxLenValue × ℕ)) (fault : FileFault)
+    → AreRows columns lines a → HaveFirstFault number columns lines fault → ⊥
 rows_apart number columns [] a fault h wrong = wrong
 rows_apart number columns (line ∷ lines) a fault (row, is, more, a_is, rows) (inl (wrong, has, _)) = row_apart columns line row wrong is has
 rows_apart number columns (line ∷ lines) a fault (row, is, more, a_is, rows) (inr (other, iz, later)) =
@@ -68,7 +68,8 @@ rows_apart number columns (line ∷ lines) a fault (row, is, more, a_is, rows) (
     rows_apart (number + 1) (columns_after columns row) lines more fault rows (subst (λ z. HaveFirstFault (number + 1) (columns_after columns z) lines fault) (sym same) later)
 
 -- lines have one first fault
-first_one : (number : ℕ) (columns : Columns) (lines : List (List ℕ)) (d e : FileFault) → HaveFirstFault number columns lines d → HaveFirstFault number columns lines e → d ≡ e
+first_one : (number : ℕ) (columns : Columns) (lines : List (List ℕ)) (d e : FileFault)
+    → HaveFirstFault number columns lines d → HaveFirstFault number columns lines e → d ≡ e
 first_one number columns [] d e h k = absurd h
 first_one number columns (line ∷ lines) d e (inl (wrong, has, d_is)) (inl (other, haz, e_is)) =
     d_is ∙ ap (Line number) (row_fault_one columns line wrong other has haz) ∙ sym e_is
@@ -82,21 +83,9 @@ first_one number columns (line ∷ lines) d e (inr (row, is, later)) (inr (other
 pub csv_one : (text : List ℕ) (a b : List (MaxLenValue × ℕ)) → IsCsvFile text a → IsCsvFile text b → a ≡ b
 csv_one text a b h k = rows_one usual (lines_of text) a b h.0 k.0
 
-pub csv_apart : (text : List ℕ) (a : List (MaxLenValue × ℕ)) (fault : FileFault) → IsCsvFile text a → HasCsvFault text fault → ⊥
-csv_apart text a (Line number wrong) h k = rows_apart 1 usual (lines_of text) a (Line number wrong) h.0 k
-csv_apart text a NoPayload h k = h.1 (rows_one usual (lines_of text) a [] h.0 k)
-csv_apart text a NotObject h k = k
-csv_apart text a (Roas wrong) h k = k
-csv_apart text a (Item place wrong) h k = k
+pub csv_apart : (text : List ℕ) (a : List (MaxLenValue × ℕ)) (fault : FileFault) → IsCsvFile text a
+    → HasCsvFault text fault → ⊥
+csv_apart text a fault h k = grind (arith, rows_apart, rows_one)
 
 pub csv_fault_one : (text : List ℕ) (d e : FileFault) → HasCsvFault text d → HasCsvFault text e → d ≡ e
-csv_fault_one text NotObject e h k = absurd h
-csv_fault_one text (Roas wrong) e h k = absurd h
-csv_fault_one text (Item place wrong) e h k = absurd h
-csv_fault_one text d NotObject h k = absurd k
-csv_fault_one text d (Roas wrong) h k = absurd k
-csv_fault_one text d (Item place wrong) h k = absurd k
-csv_fault_one text (Line m wrong) (Line n other) h k = first_one 1 usual (lines_of text) (Line m wrong) (Line n other) h k
-csv_fault_one text (Line m wrong) NoPayload h k = absurd (rows_apart 1 usual (lines_of text) [] (Line m wrong) k h)
-csv_fault_one text NoPayload (Line n other) h k = absurd (rows_apart 1 usual (lines_of text) [] (Line n other) h k)
-csv_fault_one text NoPayload NoPayload h k = refl
+csv_fault_one text d e h k = grind (arith, first_one, rows_apart)

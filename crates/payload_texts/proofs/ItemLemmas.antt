@@ -1,16 +1,7 @@
 -- Items one after another; an item writes one payload, or has one fault, and so do the items of an array.
-use Rattle.std.proofs.Common.{◌≡◌, inl, inr, ℕ, ◌+◌, List, ◌∷◌, sym, ap, ◌∙◌, subst}
-use Rattle.json.specs.Json.{Json, Items, item, no_items}
-use Rattle.rpki_prefix.specs.MaxLen.{MaxLenValue}
-use Rattle.payload_texts.specs.Items.{AreItems, HasItemFault, HasTexts, HaveWrongItem, IsItem}
-use Rattle.payload_texts.specs.Members.{HasText}
-use Rattle.payload_texts.specs.Rows.{ArePayload, HaveFault}
-use Rattle.payload_texts.specs.declared.fault.FileFault.{FileFault}
-use Rattle.payload_texts.specs.declared.fault.FileFault.TheVariants.{Item}
-use Rattle.payload_texts.specs.declared.fault.ItemFault.{ItemFault}
+use Rattle.payload_texts.proofs.Common.{List, ap, arith, inl, inr, sym, ℕ, ◌+◌, ◌∙◌, ◌∷◌, ◌≡◌, Items, Json, item, no_items, MaxLenValue, AreItems, HasItemFault, HasTexts, HaveWrongItem, IsItem, HasText, ArePayload, HaveFault, FileFault, Item, ItemFault, PayloadFault}
+use Rattle.payload_texts.specs.declared.member.Member.TheVariants.{Asn, MaxLength, Prefix}
 use Rattle.payload_texts.specs.declared.fault.ItemFault.TheVariants.{Member, Payload}
-use Rattle.payload_texts.specs.declared.fault.PayloadFault.{PayloadFault}
-use Rattle.payload_texts.specs.declared.member.Member.TheVariants.{Asn, Prefix, MaxLength}
 use Rattle.payload_texts.proofs.MemberLemmas.{member_fault_one, text_apart, text_one}
 use Rattle.payload_texts.proofs.RowLemmas.{asn_one, fields_apart, have_one, prefix_one}
 
@@ -18,20 +9,14 @@ abbrev Payloads : Type 0
 Payloads = List (MaxLenValue × ℕ)
 
 module _ (value : Json) where
-  -- the texts of an item, and what they write
-  pub texts_write : (a p m : List ℕ) (payload : MaxLenValue × ℕ) → HasText Asn value a → HasText Prefix value p → HasText MaxLength value m → ArePayload a p m payload.0 payload.1 → IsItem value payload
-  texts_write a p m payload h i j are = (a, p, m, record { asn = h; prefix = i; max_length = j }, are)
-
-  pub texts_fail : (a p m : List ℕ) (f : PayloadFault) → HasText Asn value a → HasText Prefix value p → HasText MaxLength value m → HaveFault a p m f → HasItemFault value (Payload f)
+  pub texts_fail : (a p m : List ℕ) (f : PayloadFault) → HasText Asn value a → HasText Prefix value p
+      → HasText MaxLength value m → HaveFault a p m f → HasItemFault value (Payload f)
   texts_fail a p m f h i j wrong = (a, p, m, record { asn = h; prefix = i; max_length = j }, wrong)
 
   -- the same texts
-  same_texts : (P : List ℕ → List ℕ → List ℕ → Type 0) (a b p q m n : List ℕ) → HasTexts value a p m → HasTexts value b q n → P b q n → P a p m
-  same_texts P a b p q m n h k wrote =
-      let asn = text_one Asn value b a k.asn h.asn in
-      let prefix = text_one Prefix value q p k.prefix h.prefix in
-      let max = text_one MaxLength value n m k.max_length h.max_length in
-      subst (λ z. P a p z) max (subst (λ z. P a z n) prefix (subst (λ z. P z q n) asn wrote))
+  same_texts : (P : List ℕ → List ℕ → List ℕ → Type 0) (a b p q m n : List ℕ) → HasTexts value a p m
+      → HasTexts value b q n → P b q n → P a p m
+  same_texts P a b p q m n h k wrote = grind (arith, text_one)
 
   item_one : (x y : MaxLenValue × ℕ) → IsItem value x → IsItem value y → x ≡ y
   item_one x y (a, p, m, h, is) (b, q, n, k, iz) =
@@ -62,8 +47,7 @@ module _ (value : Json) where
   item_fault_one (Payload f) (Member Asn g) (a, p, m, h, _) k = absurd (text_apart Asn value a g h.asn k)
   item_fault_one (Payload f) (Member Prefix g) (a, p, m, h, _) (_, k) = absurd (text_apart Prefix value p g h.prefix k)
   item_fault_one (Payload f) (Member MaxLength g) (a, p, m, h, _) (_, _, k) = absurd (text_apart MaxLength value m g h.max_length k)
-  item_fault_one (Payload f) (Payload g) (a, p, m, h, wrong) (b, q, n, k, other) =
-      ap Payload (have_one a p m f g wrong (same_texts (λ a p m. HaveFault a p m g) a b p q m n h k other))
+  item_fault_one (Payload f) (Payload g) (a, p, m, h, wrong) (b, q, n, k, other) = grind (arith, have_one, same_texts)
 
 -- items write one list of payloads
 pub items_one : (items : Items) (a b : Payloads) → AreItems items a → AreItems items b → a ≡ b
@@ -72,13 +56,15 @@ items_one (item value items) a b (x, is, more, a_is, rest) (y, iz, others, b_is,
     a_is ∙ ap (λ z. z ∷ more) (item_one value x y is iz) ∙ ap (λ z. y ∷ z) (items_one items more others rest last) ∙ sym b_is
 
 -- and then have no fault
-pub items_apart : (place : ℕ) (items : Items) (a : Payloads) (fault : FileFault) → AreItems items a → HaveWrongItem place items fault → ⊥
+pub items_apart : (place : ℕ) (items : Items) (a : Payloads) (fault : FileFault) → AreItems items a
+    → HaveWrongItem place items fault → ⊥
 items_apart place no_items a fault h wrong = wrong
 items_apart place (item value items) a fault (x, is, more, _, rest) (inl (wrong, has, _)) = item_apart value x wrong is has
 items_apart place (item value items) a fault (x, is, more, _, rest) (inr (_, _, later)) = items_apart (place + 1) items more fault rest later
 
 -- they have one first fault
-pub wrong_item_one : (place : ℕ) (items : Items) (d e : FileFault) → HaveWrongItem place items d → HaveWrongItem place items e → d ≡ e
+pub wrong_item_one : (place : ℕ) (items : Items) (d e : FileFault) → HaveWrongItem place items d
+    → HaveWrongItem place items e → d ≡ e
 wrong_item_one place no_items d e h k = absurd h
 wrong_item_one place (item value items) d e (inl (wrong, has, d_is)) (inl (other, haz, e_is)) = d_is ∙ ap (Item place) (item_fault_one value wrong other has haz) ∙ sym e_is
 wrong_item_one place (item value items) d e (inl (wrong, has, _)) (inr (x, is, _)) = absurd (item_apart value x wrong is has)

@@ -1,15 +1,6 @@
 -- A text of JSON is one object or none; what it writes is one list of payloads, or one fault.
-use Rattle.std.proofs.Common.{◌≡◌, ◌≢◌, ◌⊎◌, inl, inr, ℕ, List, [], ◌∷◌, Option, Some, None, option_and_then, refl, sym, ap, ◌∙◌, subst, arith}
-use Rattle.json.specs.Token.{Token}
-use Rattle.json.specs.Json.{Json, Items, Members, Parse, array, boolean, document, if_last, null, number, object, parse_map, string, value, value_with}
+use Rattle.payload_texts.proofs.Common.{List, None, Option, Some, [], ap, arith, inl, inr, option_and_then, subst, sym, ℕ, ◌∙◌, ◌∷◌, ◌≡◌, ◌≢◌, ◌⊎◌, value-begin_object, value_is, Items, Json, Members, Parse, array, boolean, document, if_last, null, number, object, parse_map, string, value, value_with, Token, MaxLenValue, AreItems, HasJsonFault, HaveRoasFault, IsJsonFile, IsJsonObject, WriteRoas, roas, values_in, FileFault, NoPayload, NotObject}
 use Rattle.json.specs.Lex.{tokens}
-use Rattle.json.proofs.Grammar.{value-begin_object, value_is}
-use Rattle.rpki_prefix.specs.MaxLen.{MaxLenValue}
-use Rattle.payload_texts.specs.Items.{AreItems, HaveWrongItem}
-use Rattle.payload_texts.specs.JsonFiles.{HasJsonFault, HaveRoasFault, IsJsonFile, IsJsonObject, WriteRoas, roas}
-use Rattle.payload_texts.specs.Members.{values_in}
-use Rattle.payload_texts.specs.declared.fault.FileFault.{FileFault}
-use Rattle.payload_texts.specs.declared.fault.FileFault.TheVariants.{Line, NoPayload, NotObject, Roas, Item}
 use Rattle.payload_texts.proofs.GrammarLemmas.{members_in}
 use Rattle.payload_texts.proofs.ItemLemmas.{items_apart, items_one, wrong_item_one}
 use Rattle.payload_texts.proofs.MemberLemmas.{wrong_apart, wrong_one}
@@ -22,7 +13,8 @@ abbrev whole : List Token → Option Json
 whole ts = option_and_then (λ p. if_last p.0 p.1) (value 128 ts)
 
 -- an object's members, then the end
-pub object_read : (ts : List Token) (ms : Members) → members_in 127 ts ≡ Some (ms, []) → whole (Token.begin_object ∷ ts) ≡ Some (object ms)
+pub object_read : (ts : List Token) (ms : Members) → members_in 127 ts ≡ Some (ms, [])
+    → whole (Token.begin_object ∷ ts) ≡ Some (object ms)
 object_read ts ms e = ap (option_and_then (λ p. if_last p.0 p.1)) (value-begin_object 128 ts (omega arith) ∙ ap (parse_map object) e)
 
 abbrev IsObject : Option Json → Type 0
@@ -35,42 +27,28 @@ IsObject (Some (array js)) = ⊥
 IsObject (Some (object ms)) = Unit {0}
 
 -- it is none where the members are wrong, or something follows
-pub members_wrong : (ts : List Token) → members_in 127 ts ≡ None → (ms : Members) → whole (Token.begin_object ∷ ts) ≢ Some (object ms)
-members_wrong ts e ms is =
-    let none = ap (option_and_then (λ p. if_last p.0 p.1)) (value-begin_object 128 ts (omega arith) ∙ ap (parse_map object) e) in
-    subst IsObject (sym (sym none ∙ is)) tt
+pub members_wrong : (ts : List Token) → members_in 127 ts ≡ None → (ms : Members)
+    → whole (Token.begin_object ∷ ts) ≢ Some (object ms)
+members_wrong ts e ms is = grind (arith, value-begin_object)
 
-pub more_follows : (ts rest : List Token) (t : Token) (all : Members) → members_in 127 ts ≡ Some (all, t ∷ rest) → (ms : Members) → whole (Token.begin_object ∷ ts) ≢ Some (object ms)
-more_follows ts rest t all e ms is =
-    let none = ap (option_and_then (λ p. if_last p.0 p.1)) (value-begin_object 128 ts (omega arith) ∙ ap (parse_map object) e) in
-    subst IsObject (sym (sym none ∙ is)) tt
+pub more_follows : (ts rest : List Token) (t : Token) (all : Members) → members_in 127 ts ≡ Some (all, t ∷ rest)
+    → (ms : Members) → whole (Token.begin_object ∷ ts) ≢ Some (object ms)
+more_follows ts rest t all e ms is = grind (arith, value-begin_object)
 
 -- or no object begins
 no_array : (r : Option (Items × List Token)) → IsObject (option_and_then (λ p. if_last p.0 p.1) (parse_map array r)) → ⊥
-no_array None h = h
-no_array (Some (items, [])) h = h
-no_array (Some (items, t ∷ ts)) h = h
+no_array r h = grind (arith)
 
 no_other : (j : Json) (ts : List Token) → (IsObject (Some j) → ⊥) → IsObject (if_last j ts) → ⊥
-no_other j [] none h = none h
-no_other j (t ∷ ts) none h = h
+no_other j ts none h = grind (arith)
 
-none_begins : (a : Parse Items) (o : Parse Members) (ts : List Token) → ((r : List Token) → ts ≢ Token.begin_object ∷ r) → IsObject (option_and_then (λ p. if_last p.0 p.1) (value_with a o ts)) → ⊥
-none_begins a o [] none h = h
-none_begins a o (Token.begin_object ∷ ts) none h = none ts refl
-none_begins a o (Token.end_object ∷ ts) none h = h
-none_begins a o (Token.begin_array ∷ ts) none h = no_array (a ts) h
-none_begins a o (Token.end_array ∷ ts) none h = h
-none_begins a o (Token.key s ∷ ts) none h = h
-none_begins a o (Token.string s ∷ ts) none h = no_other (string s) ts (λ k. k) h
-none_begins a o (Token.number s ∷ ts) none h = no_other (number s) ts (λ k. k) h
-none_begins a o (Token.boolean b ∷ ts) none h = no_other (boolean b) ts (λ k. k) h
-none_begins a o (Token.null ∷ ts) none h = no_other null ts (λ k. k) h
-none_begins a o (Token.bad ∷ ts) none h = h
+none_begins : (a : Parse Items) (o : Parse Members) (ts : List Token) → ((r : List Token) → ts ≢ Token.begin_object ∷ r)
+    → IsObject (option_and_then (λ p. if_last p.0 p.1) (value_with a o ts)) → ⊥
+none_begins a o ts none h = grind (arith, no_array, no_other)
 
-pub no_object : (ts : List Token) → ((r : List Token) → ts ≢ Token.begin_object ∷ r) → (ms : Members) → whole ts ≢ Some (object ms)
-no_object ts none ms is =
-    none_begins _ _ ts none (subst (λ z. IsObject (option_and_then (λ p. if_last p.0 p.1) z)) (value_is 128 ts) (subst IsObject (sym is) tt))
+pub no_object : (ts : List Token) → ((r : List Token) → ts ≢ Token.begin_object ∷ r) → (ms : Members)
+    → whole ts ≢ Some (object ms)
+no_object ts none ms is = grind (arith, none_begins, value_is)
 
 -- ---- the same of a text's tokens
 
@@ -78,13 +56,16 @@ module _ (text : List ℕ) (ts : List Token) (are : ts ≡ tokens text) where
   pub none_in : ((r : List Token) → ts ≢ Token.begin_object ∷ r) → (ms : Members) → document text ≢ Some (object ms)
   none_in none ms e = no_object ts none ms (ap whole are ∙ e)
 
-  pub wrong_in : (r : List Token) → ts ≡ Token.begin_object ∷ r → members_in 127 r ≡ None → (ms : Members) → document text ≢ Some (object ms)
+  pub wrong_in : (r : List Token) → ts ≡ Token.begin_object ∷ r → members_in 127 r ≡ None → (ms : Members)
+      → document text ≢ Some (object ms)
   wrong_in r opens wrong ms e = members_wrong r wrong ms (ap whole (sym opens ∙ are) ∙ e)
 
-  pub more_in : (r rest now : List Token) (t : Token) (all : Members) → ts ≡ Token.begin_object ∷ r → members_in 127 r ≡ Some (all, now) → now ≡ t ∷ rest → (ms : Members) → document text ≢ Some (object ms)
+  pub more_in : (r rest now : List Token) (t : Token) (all : Members) → ts ≡ Token.begin_object ∷ r
+      → members_in 127 r ≡ Some (all, now) → now ≡ t ∷ rest → (ms : Members) → document text ≢ Some (object ms)
   more_in r rest now t all opens read more ms e = more_follows r rest t all (read ∙ ap (λ z. Some (all, z)) more) ms (ap whole (sym opens ∙ are) ∙ e)
 
-  pub object_in : (r now : List Token) (ms : Members) → ts ≡ Token.begin_object ∷ r → members_in 127 r ≡ Some (ms, now) → now ≡ [] → document text ≡ Some (object ms)
+  pub object_in : (r now : List Token) (ms : Members) → ts ≡ Token.begin_object ∷ r → members_in 127 r ≡ Some (ms, now)
+      → now ≡ [] → document text ≡ Some (object ms)
   object_in r now ms opens read end = ap whole (sym are ∙ opens) ∙ object_read r ms (read ∙ ap (λ z. Some (ms, z)) end)
 
 -- ---- the text's object is one
@@ -118,43 +99,18 @@ module _ (values : List Json) where
   write_one a b (items, is, are) (others, iz, arez) = items_one items a b are (subst (λ z. AreItems z b) (array_one others items iz is) arez)
 
   write_apart : (a : Payloads) (f : FileFault) → WriteRoas values a → HaveRoasFault values f → ⊥
-  write_apart a (Line n wrong) h k = k
-  write_apart a NoPayload h k = k
-  write_apart a NotObject h k = k
-  write_apart a (Roas wrong) (items, is, are) k = wrong_apart (λ value. (items : Items) × (value ≡ array items)) values (array items) wrong is (items, refl) k
-  write_apart a (Item n wrong) (items, is, are) (others, iz, k) = items_apart 1 items a (Item n wrong) are (subst (λ z. HaveWrongItem 1 z (Item n wrong)) (array_one others items iz is) k)
+  write_apart a f h k = grind (arith, array_one, items_apart, wrong_apart)
 
   roas_fault_one : (d e : FileFault) → HaveRoasFault values d → HaveRoasFault values e → d ≡ e
-  roas_fault_one (Line n wrong) e h k = absurd h
-  roas_fault_one NoPayload e h k = absurd h
-  roas_fault_one NotObject e h k = absurd h
-  roas_fault_one d (Line n wrong) h k = absurd k
-  roas_fault_one d NoPayload h k = absurd k
-  roas_fault_one d NotObject h k = absurd k
-  roas_fault_one (Roas f) (Roas g) h k = ap Roas (wrong_one (λ value. (items : Items) × (value ≡ array items)) values f g h k)
-  roas_fault_one (Roas f) (Item n wrong) h (items, is, k) = absurd (wrong_apart (λ value. (items : Items) × (value ≡ array items)) values (array items) f is (items, refl) h)
-  roas_fault_one (Item n wrong) (Roas g) (items, is, h) k = absurd (wrong_apart (λ value. (items : Items) × (value ≡ array items)) values (array items) g is (items, refl) k)
-  roas_fault_one (Item n wrong) (Item m other) (items, is, h) (others, iz, k) =
-      wrong_item_one 1 items (Item n wrong) (Item m other) h (subst (λ z. HaveWrongItem 1 z (Item m other)) (array_one others items iz is) k)
+  roas_fault_one d e h k = grind (arith, array_one, wrong_apart, wrong_item_one, wrong_one)
 
 module _ (text : List ℕ) where
-  -- what is told of the member is so in the text
-  pub fault_in : (ms : Members) (f : FileFault) → IsJsonObject text ms → HaveRoasFault (values_in roas ms) f → HasJsonFault text f
-  fault_in ms (Line n wrong) is h = h
-  fault_in ms NoPayload is h = absurd h
-  fault_in ms NotObject is h = absurd h
-  fault_in ms (Roas wrong) is h = (ms, is, h)
-  fault_in ms (Item n wrong) is h = (ms, is, h)
-
   -- the ways in which a text is wrong
   faults : (f : FileFault) → HasJsonFault text f
       → (((ms : Members) → ¬ IsJsonObject text ms) × (f ≡ NotObject))
-      ⊎ ((ms : Members) × IsJsonObject text ms × ((WriteRoas (values_in roas ms) [] × (f ≡ NoPayload)) ⊎ HaveRoasFault (values_in roas ms) f))
-  faults (Line n wrong) h = absurd h
-  faults NoPayload (ms, is, h) = inr (ms, is, inl (h, refl))
-  faults NotObject h = inl (h, refl)
-  faults (Roas wrong) (ms, is, h) = inr (ms, is, inr h)
-  faults (Item n wrong) (ms, is, h) = inr (ms, is, inr h)
+      ⊎ ((ms : Members) × IsJsonObject text ms
+      × ((WriteRoas (values_in roas ms) [] × (f ≡ NoPayload)) ⊎ HaveRoasFault (values_in roas ms) f))
+  faults f h = grind (arith)
 
   pub json_one : (a b : Payloads) → IsJsonFile text a → IsJsonFile text b → a ≡ b
   json_one a b ((ms, is, h), _) ((ns, iz, k), _) = write_one (values_in roas ms) a b h (subst (λ z. WriteRoas (values_in roas z) b) (object_one text ns ms iz is) k)
@@ -162,12 +118,14 @@ module _ (text : List ℕ) where
   pub json_apart : (a : Payloads) (f : FileFault) → IsJsonFile text a → HasJsonFault text f → ⊥
   json_apart a f ((ms, is, h), some) wrong = by_fault (faults f wrong) where
     by_fault : (((ms : Members) → ¬ IsJsonObject text ms) × (f ≡ NotObject))
-        ⊎ ((ms : Members) × IsJsonObject text ms × ((WriteRoas (values_in roas ms) [] × (f ≡ NoPayload)) ⊎ HaveRoasFault (values_in roas ms) f)) → ⊥
+        ⊎ ((ms : Members) × IsJsonObject text ms
+        × ((WriteRoas (values_in roas ms) [] × (f ≡ NoPayload)) ⊎ HaveRoasFault (values_in roas ms) f)) → ⊥
     by_fault (inl k) = k.0 ms is
     by_fault (inr (ns, iz, inl k)) = some (write_one (values_in roas ms) a [] h (subst (λ z. WriteRoas (values_in roas z) []) (object_one text ns ms iz is) k.0))
     by_fault (inr (ns, iz, inr k)) = write_apart (values_in roas ms) a f h (subst (λ z. HaveRoasFault (values_in roas z) f) (object_one text ns ms iz is) k)
 
-  roas_ways : (values : List Json) (d e : FileFault) → (WriteRoas values [] × (d ≡ NoPayload)) ⊎ HaveRoasFault values d → (WriteRoas values [] × (e ≡ NoPayload)) ⊎ HaveRoasFault values e → d ≡ e
+  roas_ways : (values : List Json) (d e : FileFault) → (WriteRoas values [] × (d ≡ NoPayload)) ⊎ HaveRoasFault values d
+      → (WriteRoas values [] × (e ≡ NoPayload)) ⊎ HaveRoasFault values e → d ≡ e
   roas_ways values d e (inl h) (inl k) = h.1 ∙ sym k.1
   roas_ways values d e (inl h) (inr k) = absurd (write_apart values [] e h.0 k)
   roas_ways values d e (inr h) (inl k) = absurd (write_apart values [] d k.0 h)
@@ -176,9 +134,11 @@ module _ (text : List ℕ) where
   pub json_fault_one : (d e : FileFault) → HasJsonFault text d → HasJsonFault text e → d ≡ e
   json_fault_one d e h k = by_faults (faults d h) (faults e k) where
     by_faults : (((ms : Members) → ¬ IsJsonObject text ms) × (d ≡ NotObject))
-        ⊎ ((ms : Members) × IsJsonObject text ms × ((WriteRoas (values_in roas ms) [] × (d ≡ NoPayload)) ⊎ HaveRoasFault (values_in roas ms) d))
+        ⊎ ((ms : Members) × IsJsonObject text ms
+        × ((WriteRoas (values_in roas ms) [] × (d ≡ NoPayload)) ⊎ HaveRoasFault (values_in roas ms) d))
         → (((ms : Members) → ¬ IsJsonObject text ms) × (e ≡ NotObject))
-        ⊎ ((ms : Members) × IsJsonObject text ms × ((WriteRoas (values_in roas ms) [] × (e ≡ NoPayload)) ⊎ HaveRoasFault (values_in roas ms) e)) → d ≡ e
+        ⊎ ((ms : Members) × IsJsonObject text ms
+        × ((WriteRoas (values_in roas ms) [] × (e ≡ NoPayload)) ⊎ HaveRoasFault (values_in roas ms) e)) → d ≡ e
     by_faults (inl one) (inl other) = one.1 ∙ sym other.1
     by_faults (inl one) (inr (ns, iz, _)) = absurd (one.0 ns iz)
     by_faults (inr (ms, is, _)) (inl other) = absurd (other.0 ms is)

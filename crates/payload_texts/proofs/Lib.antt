@@ -1,5 +1,6 @@
 -- Lemmas on fields, columns, lines, members, items and files.
 pub mod ColumnLemmas
+pub mod Common
 pub mod CsvLemmas
 pub mod FieldLemmas
 pub mod FileLemmas

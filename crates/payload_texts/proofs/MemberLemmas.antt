@@ -1,33 +1,25 @@
 -- Members of an object, one after another; an item's member has one text, or one fault.
-use Rattle.std.proofs.Common.{◌≡◌, inl, inr, ℕ, ◌<◌, Bool, true, false, List, [], ◌∷◌, ◌++◌, length, Option, Some, None, Result, Vec, if◌then◌else◌, refl, sym, ap, ◌∙◌, subst, append-nil, arith}
-use Rattle.std.proofs.lemmas.List.{length-append}
+use Rattle.payload_texts.proofs.Common.{Bool, List, None, Option, Result, Some, Vec, [], ap, append-nil, arith, false, if◌then◌else◌, length, refl, subst, sym, true, ℕ, ◌++◌, ◌<◌, ◌∙◌, ◌∷◌, ◌≡◌, length-append, bytes_eq, Json, array, boolean, null, number, object, string, members_view, value_view, AreWrong, HasMemberFault, HasText, IsFound, Writes, name_of, named_values, values_in, Kind, Missing}
 use Rattle.std.specs.Borrow.{Bor}
-use Rattle.std.specs.Str.{bytes_eq}
-use Rattle.json.specs.Find.{as_number, as_str}
-use Rattle.json.specs.Json.{Json, null, boolean, number, string, array, object}
-use Rattle.json.specs.Value.{members_view, value_view}
+use Rattle.json.specs.Find.{as_number}
 use Rattle.json.specs.declared.value.Value.{Value, Object}
 use Rattle.json.proofs.Trees.{view-Object}
-use Rattle.payload_texts.specs.Members.{AreWrong, HasMemberFault, HasText, IsFound, Writes, name_of, values_in, named_values}
 use Rattle.payload_texts.specs.declared.fault.MemberFault.{MemberFault}
-use Rattle.payload_texts.specs.declared.fault.MemberFault.TheVariants.{Missing, Repeated, Kind}
 use Rattle.payload_texts.specs.declared.member.Member.{Member}
-use Rattle.payload_texts.specs.declared.member.Member.TheVariants.{Asn, Prefix, MaxLength}
 
 -- what a member's value adds to those before it
 abbrev pub if_named : List ℕ → List ℕ → Json → List Json
 if_named name key value = if bytes_eq key name then value ∷ [] else []
 
-one_before : (b : Bool) (value : Json) (more last : List Json) → (if b then value ∷ (more ++ last) else more ++ last) ≡ (if b then value ∷ more else more) ++ last
-one_before true value more last = refl
-one_before false value more last = refl
+one_before : (b : Bool) (value : Json) (more last : List Json)
+    → (if b then value ∷ (more ++ last) else more ++ last) ≡ (if b then value ∷ more else more) ++ last
+one_before b value more last = grind (arith)
 
 pub values_push : {A : Type 0} → (name : List ℕ) (ms : List (Bor (List ℕ) × Value A)) (m : Bor (List ℕ) × Value A)
-    → values_in name (members_view (ms ++ m ∷ [])) ≡ values_in name (members_view ms) ++ if_named name m.0.now (value_view m.1)
+    → values_in name (members_view (ms ++ m ∷ []))
+    ≡ values_in name (members_view ms) ++ if_named name m.0.now (value_view m.1)
 values_push name [] m = refl
-values_push name (n ∷ ms) m =
-    ap (λ z. if bytes_eq n.0.now name then value_view n.1 ∷ z else z) (values_push name ms m)
-    ∙ one_before (bytes_eq n.0.now name) (value_view n.1) (values_in name (members_view ms)) (if_named name m.0.now (value_view m.1))
+values_push name (n ∷ ms) m = grind (arith, one_before, values_push name ms m)
 
 -- a number's text, and a string's
 abbrev json_text : Json → List ℕ
@@ -42,70 +34,25 @@ abbrev IsThere : Option (List ℕ) → Type 0
 IsThere None = ⊥
 IsThere (Some s) = Unit {0}
 
-abbrev the_text : Option (List ℕ) → List ℕ
-the_text None = []
-the_text (Some s) = s
-
-pub number_is : (j : Json) (s : List ℕ) → Some s ≡ as_number j → j ≡ number s
-number_is null s e = absurd (subst IsThere e tt)
-number_is (boolean b) s e = absurd (subst IsThere e tt)
-number_is (number t) s e = ap (λ o. number (the_text o)) (sym e)
-number_is (string t) s e = absurd (subst IsThere e tt)
-number_is (array js) s e = absurd (subst IsThere e tt)
-number_is (object ms) s e = absurd (subst IsThere e tt)
-
-pub string_is : (j : Json) (s : List ℕ) → Some s ≡ as_str j → j ≡ string s
-string_is null s e = absurd (subst IsThere e tt)
-string_is (boolean b) s e = absurd (subst IsThere e tt)
-string_is (number t) s e = absurd (subst IsThere e tt)
-string_is (string t) s e = ap (λ o. string (the_text o)) (sym e)
-string_is (array js) s e = absurd (subst IsThere e tt)
-string_is (object ms) s e = absurd (subst IsThere e tt)
-
-pub no_number : (j : Json) (s : List ℕ) → None ≡ as_number j → j ≡ number s → ⊥
-no_number j s e is = subst IsThere (sym (e ∙ ap as_number is)) tt
-
-pub no_string : (j : Json) (s : List ℕ) → None ≡ as_str j → j ≡ string s → ⊥
-no_string j s e is = subst IsThere (sym (e ∙ ap as_str is)) tt
-
 number_or_string : (s t : List ℕ) → number s ≡ string t → ⊥
 number_or_string s t e = subst (λ j. IsThere (as_number j)) e tt
 
 -- a value has one text
 writes_one : (part : Member) (a b : List ℕ) (value : Json) → Writes part a value → Writes part b value → a ≡ b
-writes_one Asn a b value (inl h) (inl k) = ap json_text (sym h ∙ k)
-writes_one Asn a b value (inl h) (inr k) = absurd (number_or_string a b (sym h ∙ k))
-writes_one Asn a b value (inr h) (inl k) = absurd (number_or_string b a (sym k ∙ h))
-writes_one Asn a b value (inr h) (inr k) = ap json_text (sym h ∙ k)
-writes_one Prefix a b value h k = ap json_text (sym h ∙ k)
-writes_one MaxLength a b value h k = ap json_text (sym h ∙ k)
+writes_one part a b value h k = grind (arith, number_or_string)
 
 abbrev the_value : List Json → Json
 the_value [] = null
 the_value (value ∷ values) = value
 
 -- values are one of a kind, or wrong in one way
-pub wrong_apart : (IsKind : Json → Type 0) (values : List Json) (value : Json) (fault : MemberFault) → values ≡ value ∷ [] → IsKind value → AreWrong IsKind values fault → ⊥
-wrong_apart IsKind values value Missing one kind none = omega (arith, ap length (sym one ∙ none))
-wrong_apart IsKind values value Repeated one kind more = omega (arith, more, ap length one)
-wrong_apart IsKind values value Kind one kind (other, is, wrong) = wrong (subst IsKind (ap the_value (sym one ∙ is)) kind)
+pub wrong_apart : (IsKind : Json → Type 0) (values : List Json) (value : Json) (fault : MemberFault)
+    → values ≡ value ∷ [] → IsKind value → AreWrong IsKind values fault → ⊥
+wrong_apart IsKind values value fault one kind none = grind (arith)
 
-pub wrong_one : (IsKind : Json → Type 0) (values : List Json) (d e : MemberFault) → AreWrong IsKind values d → AreWrong IsKind values e → d ≡ e
-wrong_one IsKind values Missing Missing h k = refl
-wrong_one IsKind values Missing Repeated h k = absurd (omega (arith, k, ap length h))
-wrong_one IsKind values Missing Kind h (value, is, _) = absurd (omega (arith, ap length (sym h ∙ is)))
-wrong_one IsKind values Repeated Missing h k = absurd (omega (arith, h, ap length k))
-wrong_one IsKind values Repeated Repeated h k = refl
-wrong_one IsKind values Repeated Kind h (value, is, _) = absurd (omega (arith, h, ap length is))
-wrong_one IsKind values Kind Missing (value, is, _) k = absurd (omega (arith, ap length (sym k ∙ is)))
-wrong_one IsKind values Kind Repeated (value, is, _) k = absurd (omega (arith, k, ap length is))
-wrong_one IsKind values Kind Kind h k = refl
-
--- what is wrong with values of any kind is so with those of each
-pub wrong_of_any : (IsKind : Json → Type 0) (values : List Json) (fault : MemberFault) → AreWrong (λ value. Unit {0}) values fault → AreWrong IsKind values fault
-wrong_of_any IsKind values Missing h = h
-wrong_of_any IsKind values Repeated h = h
-wrong_of_any IsKind values Kind (value, is, never) = absurd (never tt)
+pub wrong_one : (IsKind : Json → Type 0) (values : List Json) (d e : MemberFault) → AreWrong IsKind values d
+    → AreWrong IsKind values e → d ≡ e
+wrong_one IsKind values d e h k = grind (arith)
 
 module _ (part : Member) (item : Json) where
   pub text_one : (a b : List ℕ) → HasText part item a → HasText part item b → a ≡ b
@@ -118,39 +65,35 @@ module _ (part : Member) (item : Json) where
   member_fault_one d e h k = wrong_one (λ value. (text : List ℕ) × Writes part text value) (named_values (name_of part) item) d e h k
 
 -- with one value more it stays wrong, unless none was there
-pub more_wrong : (values : List Json) (value : Json) (fault : MemberFault) → AreWrong (λ value. Unit {0}) values fault → (fault ≡ Missing → ⊥) → AreWrong (λ value. Unit {0}) (values ++ value ∷ []) fault
-more_wrong values value Missing h some = absurd (some refl)
-more_wrong values value Repeated h some = omega (arith, h, length-append values (value ∷ []))
-more_wrong values value Kind (only, is, never) some = absurd (never tt)
+pub more_wrong : (values : List Json) (value : Json) (fault : MemberFault) → AreWrong (λ value. Unit {0}) values fault
+    → (fault ≡ Missing → ⊥) → AreWrong (λ value. Unit {0}) (values ++ value ∷ []) fault
+more_wrong values value fault h some = grind (arith, length-append)
 
 pub two_values : (values : List Json) (first value : Json) → values ≡ first ∷ [] → 1 < length (values ++ value ∷ [])
 two_values values first value one = omega (arith, ap length one, length-append values (value ∷ []))
 
 module _ {A : Type 0} (name : List ℕ) (ms : List (Bor (List ℕ) × Value A)) (m : Bor (List ℕ) × Value A) (found : Result (Bor (Value A)) MemberFault) where
   -- a member more, of another name, and of this one
-  pub found_over : bytes_eq m.0.now name ≡ false → IsFound (values_in name (members_view ms)) found → IsFound (values_in name (members_view (ms ++ m ∷ []))) found
+  pub found_over : bytes_eq m.0.now name ≡ false → IsFound (values_in name (members_view ms)) found
+      → IsFound (values_in name (members_view (ms ++ m ∷ []))) found
   found_over other h =
       let added : if_named name m.0.now (value_view m.1) ≡ [] = ap (λ b. if b then value_view m.1 ∷ [] else []) other in
       subst (λ z. IsFound z found) (sym (values_push name ms m ∙ ap (λ z. values_in name (members_view ms) ++ z) added ∙ append-nil (values_in name (members_view ms)))) h
 
-  pub found_more : bytes_eq m.0.now name ≡ true → IsFound (values_in name (members_view ms) ++ value_view m.1 ∷ []) found → IsFound (values_in name (members_view (ms ++ m ∷ []))) found
-  found_more same h =
-      let added : if_named name m.0.now (value_view m.1) ≡ value_view m.1 ∷ [] = ap (λ b. if b then value_view m.1 ∷ [] else []) same in
-      subst (λ z. IsFound z found) (sym (values_push name ms m ∙ ap (λ z. values_in name (members_view ms) ++ z) added)) h
+  pub found_more : bytes_eq m.0.now name ≡ true
+      → IsFound (values_in name (members_view ms) ++ value_view m.1 ∷ []) found
+      → IsFound (values_in name (members_view (ms ++ m ∷ []))) found
+  found_more same h = grind (arith, values_push)
 
 -- an item's members are those of its object
-members_seen : {A : Type 0} (name : List ℕ) (item : Value A) (v : Vec (Bor (List ℕ) × Value A) A) → item ≡ Object v → named_values name (value_view item) ≡ values_in name (members_view v.items)
+members_seen : {A : Type 0} (name : List ℕ) (item : Value A) (v : Vec (Bor (List ℕ) × Value A) A) → item ≡ Object v
+    → named_values name (value_view item) ≡ values_in name (members_view v.items)
 members_seen name item v is = ap (λ z. named_values name (value_view z)) is ∙ ap (named_values name) (view-Object v)
 
 module _ {A : Type 0} (part : Member) (item : Value A) (v : Vec (Bor (List ℕ) × Value A) A) (name : List ℕ) (is : item ≡ Object v) (is_name : name ≡ name_of part) where
   seen : named_values (name_of part) (value_view item) ≡ values_in name (members_view v.items)
   seen = members_seen (name_of part) item v is ∙ ap (λ n. values_in n (members_view v.items)) (sym is_name)
 
-  pub text_found : (value : Json) (text : List ℕ) → values_in name (members_view v.items) ≡ value ∷ [] → Writes part text value → HasText part (value_view item) text
-  text_found value text one writes = (value, seen ∙ one, writes)
-
-  pub kind_wrong : (value : Json) → values_in name (members_view v.items) ≡ value ∷ [] → ((text : List ℕ) → ¬ Writes part text value) → HasMemberFault part (value_view item) Kind
+  pub kind_wrong : (value : Json) → values_in name (members_view v.items) ≡ value ∷ []
+      → ((text : List ℕ) → ¬ Writes part text value) → HasMemberFault part (value_view item) Kind
   kind_wrong value one none = (value, seen ∙ one, λ h. none h.0 h.1)
-
-  pub member_wrong : (fault : MemberFault) → AreWrong (λ value. Unit {0}) (values_in name (members_view v.items)) fault → HasMemberFault part (value_view item) fault
-  member_wrong fault h = wrong_of_any _ _ fault (subst (λ z. AreWrong (λ value. Unit {0}) z fault) (sym seen) h)

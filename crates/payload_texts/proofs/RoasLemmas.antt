@@ -1,20 +1,7 @@
 -- What the values of the member `roas` tell, one after another, and the items of one.
-use Rattle.std.proofs.Common.{◌≡◌, inl, inr, ℕ, ◌+◌, ◌-◌, ◌<◌, true, false, if◌then◌else◌, List, [], ◌∷◌, ◌++◌, length, Some, None, Result, Ok, Err, Vec, IfOk, refl, sym, ap, ◌∙◌, subst, append_assoc, append-nil, arith}
-use Rattle.std.proofs.lemmas.List.{length-append}
-use Rattle.std.specs.Str.{bytes_eq}
-use Rattle.json.specs.Token.{Token}
-use Rattle.json.specs.Json.{Json, Items, Members, array, item, member, no_items, no_members, parse_map}
-use Rattle.rpki_prefix.specs.MaxLen.{MaxLenValue}
-use Rattle.payload_texts.specs.Items.{AreItems, HasItemFault, HaveWrongItem, IsItem}
-use Rattle.payload_texts.specs.JsonFiles.{TellRoas, roas}
-use Rattle.payload_texts.specs.Members.{values_in}
-use Rattle.payload_texts.specs.declared.fault.FileFault.{FileFault}
-use Rattle.payload_texts.specs.declared.fault.FileFault.TheVariants.{Line, NoPayload, NotObject, Roas, Item}
-use Rattle.payload_texts.specs.declared.fault.ItemFault.{ItemFault}
-use Rattle.payload_texts.specs.declared.fault.MemberFault.TheVariants.{Missing, Repeated, Kind}
+use Rattle.payload_texts.proofs.Common.{Err, IfOk, List, None, Ok, Result, Some, Vec, [], ap, append-nil, append_assoc, arith, false, if◌then◌else◌, inl, inr, length, refl, subst, sym, true, ℕ, ◌++◌, ◌+◌, ◌-◌, ◌<◌, ◌∙◌, ◌∷◌, ◌≡◌, length-append, bytes_eq, left, left_none, left_some, value-begin_array, value-begin_object, Items, Json, Members, array, item, member, no_items, no_members, parse_map, Token, MaxLenValue, AreItems, HasItemFault, HaveWrongItem, IsItem, TellRoas, roas, values_in, FileFault, Item, Roas, ItemFault, Kind, Missing, Repeated}
 use Rattle.payload_texts.proofs.GrammarLemmas.{a_member, an_item, items_in, members_in, no_item, no_member}
 use Rattle.json.specs.Json as json
-use Rattle.json.proofs.Grammar.{left, left_none, left_some, value-begin_array, value-begin_object}
 
 abbrev Payloads : Type 0
 Payloads = List (MaxLenValue × ℕ)
@@ -33,7 +20,8 @@ read_none depth first = record { ends = λ e. e; whole = λ items rest e. (items
 
 module _ (depth : ℕ) (first now r : List Token) (value : Json) (payloads : Payloads) (had : AreReadSo depth first now payloads) (going : json.after_end_array now ≡ None) (next : json.value depth now ≡ Some (value, r)) where
   -- one item more
-  pub read_more : (payload : MaxLenValue × ℕ) → IsItem value payload → AreReadSo depth first r (payloads ++ payload ∷ [])
+  pub read_more : (payload : MaxLenValue × ℕ) → IsItem value payload
+      → AreReadSo depth first r (payloads ++ payload ∷ [])
   read_more payload is = record {
     ends = λ e. had.ends (an_item depth now r value going next ∙ ap (parse_map (item value)) e);
     whole = λ items rest e.
@@ -47,15 +35,18 @@ module _ (depth : ℕ) (first now r : List Token) (value : Json) (payloads : Pay
   }
 
   -- the next item is wrong, and the others are passed over
-  pub read_wrong : (A : Type 0) (wrong : ItemFault) (rest : List Token) → HasItemFault value wrong → left (items_in depth r) ≡ Some rest
-      → (js : Items) × TellRoas {A = A} (array js ∷ []) (Err (Item (length payloads + 1) wrong)) × (items_in depth first ≡ Some (js, rest))
+  pub read_wrong : (A : Type 0) (wrong : ItemFault) (rest : List Token) → HasItemFault value wrong
+      → left (items_in depth r) ≡ Some rest
+      → (js : Items) × TellRoas {A = A} (array js ∷ []) (Err (Item (length payloads + 1) wrong))
+      × (items_in depth first ≡ Some (js, rest))
   read_wrong A wrong rest has passed =
       let js = left_some (items_in depth r) rest passed in
       let h = had.whole (item value js.0) rest (an_item depth now r value going next ∙ ap (parse_map (item value)) js.1) in
       (h.0, (h.0, refl, h.3 (Item (length payloads + 1) wrong) (inl (wrong, has, refl))), h.1)
 
 -- no item is left
-pub read_all : {A : Type 0} (depth : ℕ) (first now rest : List Token) (v : Vec (MaxLenValue × ℕ) A) → AreReadSo depth first now v.items → json.after_end_array now ≡ Some rest
+pub read_all : {A : Type 0} (depth : ℕ) (first now rest : List Token) (v : Vec (MaxLenValue × ℕ) A)
+    → AreReadSo depth first now v.items → json.after_end_array now ≡ Some rest
     → (js : Items) × TellRoas {A = A} (array js ∷ []) (Ok v) × (items_in depth first ≡ Some (js, rest))
 read_all depth first now rest v had end =
     let h = had.whole no_items rest (no_item depth now rest end) in
@@ -68,29 +59,27 @@ pub record IsToldSo {A : Type 0} (depth : ℕ) (first now : List Token) (told : 
   pub is_told : TellRoas values told
   pub ends : members_in depth now ≡ None → members_in depth first ≡ None
   pub whole : (ms : Members) (rest : List Token) → members_in depth now ≡ Some (ms, rest)
-      → (all : Members) × (members_in depth first ≡ Some (all, rest)) × (values_in roas all ≡ values ++ values_in roas ms)
+      → (all : Members) × (members_in depth first ≡ Some (all, rest))
+      × (values_in roas all ≡ values ++ values_in roas ms)
 
 pub told_none : {A : Type 0} (depth : ℕ) (first : List Token) → IsToldSo {A = A} depth first first (Err (Roas Missing))
 told_none depth first = record { values = []; is_told = refl; ends = λ e. e; whole = λ ms rest e. (ms, e, refl) }
 
 -- a value was there before, unless that is told
-told_some : {A : Type 0} (values : List Json) (told : Result (Vec (MaxLenValue × ℕ) A) FileFault) → TellRoas values told → (told ≡ Err (Roas Missing) → ⊥) → 0 < length values
-told_some values (Ok v) (items, is, _) some = omega (arith, ap length is)
-told_some values (Err (Line n wrong)) h some = absurd h
-told_some values (Err NoPayload) h some = absurd h
-told_some values (Err NotObject) h some = absurd h
-told_some values (Err (Roas Missing)) h some = absurd (some refl)
-told_some values (Err (Roas Repeated)) h some = omega (arith, h)
-told_some values (Err (Roas Kind)) (value, is, _) some = omega (arith, ap length is)
-told_some values (Err (Item n wrong)) (items, is, _) some = omega (arith, ap length is)
+told_some : {A : Type 0} (values : List Json) (told : Result (Vec (MaxLenValue × ℕ) A) FileFault) → TellRoas values told
+    → (told ≡ Err (Roas Missing) → ⊥) → 0 < length values
+told_some values told h some = grind (arith)
 
-told_missing : {A : Type 0} (values : List Json) (told : Result (Vec (MaxLenValue × ℕ) A) FileFault) → TellRoas values told → told ≡ Err (Roas Missing) → values ≡ []
+told_missing : {A : Type 0} (values : List Json) (told : Result (Vec (MaxLenValue × ℕ) A) FileFault)
+    → TellRoas values told → told ≡ Err (Roas Missing) → values ≡ []
 told_missing values told h is = subst (TellRoas values) is h
 
-named : (key : List ℕ) (value : Json) (ms : Members) → bytes_eq key roas ≡ true → values_in roas (member key value ms) ≡ value ∷ values_in roas ms
+named : (key : List ℕ) (value : Json) (ms : Members) → bytes_eq key roas ≡ true
+    → values_in roas (member key value ms) ≡ value ∷ values_in roas ms
 named key value ms e = ap (λ b. if b then value ∷ values_in roas ms else values_in roas ms) e
 
-not_named : (key : List ℕ) (value : Json) (ms : Members) → bytes_eq key roas ≡ false → values_in roas (member key value ms) ≡ values_in roas ms
+not_named : (key : List ℕ) (value : Json) (ms : Members) → bytes_eq key roas ≡ false
+    → values_in roas (member key value ms) ≡ values_in roas ms
 not_named key value ms e = ap (λ b. if b then value ∷ values_in roas ms else values_in roas ms) e
 
 module _ {A : Type 0} (depth : ℕ) (first now s r : List Token) (key : List ℕ) (told : Result (Vec (MaxLenValue × ℕ) A) FileFault) (had : IsToldSo depth first now told) (is_key : json.read_key now ≡ Some (Some key, s)) where
@@ -109,8 +98,9 @@ module _ {A : Type 0} (depth : ℕ) (first now s r : List Token) (key : List ℕ
       }
 
   -- the first of the name
-  pub told_first : (next : Result (Vec (MaxLenValue × ℕ) A) FileFault) (value : Json) → bytes_eq key roas ≡ true → told ≡ Err (Roas Missing)
-      → TellRoas (value ∷ []) next → json.value depth s ≡ Some (value, r) → IsToldSo depth first r next
+  pub told_first : (next : Result (Vec (MaxLenValue × ℕ) A) FileFault) (value : Json) → bytes_eq key roas ≡ true
+      → told ≡ Err (Roas Missing) → TellRoas (value ∷ []) next → json.value depth s ≡ Some (value, r)
+      → IsToldSo depth first r next
   told_first next value same missing is read =
       let step = a_member depth now s r key value is_key read in
       let none = told_missing had.values told had.is_told missing in
@@ -124,7 +114,8 @@ module _ {A : Type 0} (depth : ℕ) (first now s r : List Token) (key : List ℕ
       }
 
   -- another one
-  pub told_again : bytes_eq key roas ≡ true → (told ≡ Err (Roas Missing) → ⊥) → left (json.value depth s) ≡ Some r → IsToldSo {A = A} depth first r (Err (Roas Repeated))
+  pub told_again : bytes_eq key roas ≡ true → (told ≡ Err (Roas Missing) → ⊥) → left (json.value depth s) ≡ Some r
+      → IsToldSo {A = A} depth first r (Err (Roas Repeated))
   told_again same some passed =
       let j = left_some (json.value depth s) r passed in
       let step = a_member depth now s r key j.0 is_key j.1 in
@@ -139,7 +130,9 @@ module _ {A : Type 0} (depth : ℕ) (first now s r : List Token) (key : List ℕ
       }
 
 -- no member is left
-pub told_all : {A : Type 0} (depth : ℕ) (first now rest : List Token) (told : Result (Vec (MaxLenValue × ℕ) A) FileFault) → IsToldSo depth first now told → json.read_key now ≡ Some (None, rest)
+pub told_all : {A : Type 0} (depth : ℕ) (first now rest : List Token)
+    (told : Result (Vec (MaxLenValue × ℕ) A) FileFault) → IsToldSo depth first now told
+    → json.read_key now ≡ Some (None, rest)
     → (ms : Members) × TellRoas (values_in roas ms) told × (members_in depth first ≡ Some (ms, rest))
 told_all depth first now rest told had end =
     let h = had.whole no_members rest (no_member depth now rest end) in
@@ -159,16 +152,17 @@ no_array : (j : Json) → ((items : Items) × (j ≡ array items)) → IsNoArray
 no_array j (items, is) h = subst IsNoArray is h
 
 module _ (depth : ℕ) (some : 0 < depth) (first r : List Token) where
-  pub array_read : {A E : Type 0} (new : List Token) (told : Result (Result (Vec (MaxLenValue × ℕ) A) FileFault) E) → first ≡ Token.begin_array ∷ r
+  pub array_read : {A E : Type 0} (new : List Token) (told : Result (Result (Vec (MaxLenValue × ℕ) A) FileFault) E)
+      → first ≡ Token.begin_array ∷ r
       → IfOk told (λ told. (js : Items) × TellRoas (array js ∷ []) told × (items_in (depth - 1) r ≡ Some (js, new)))
       → IfOk told (λ told. (j : Json) × TellRoas (j ∷ []) told × (json.value depth first ≡ Some (j, new)))
-  array_read new (Ok told) opens (js, is, read) = (array js, is, ap (json.value depth) opens ∙ value-begin_array depth r some ∙ ap (parse_map array) read)
-  array_read new (Err e) opens h = h
+  array_read new told opens h = grind (arith, value-begin_array)
 
   pub array_fails : first ≡ Token.begin_array ∷ r → items_in (depth - 1) r ≡ None → json.value depth first ≡ None
   array_fails opens none = ap (json.value depth) opens ∙ value-begin_array depth r some ∙ ap (parse_map array) none
 
-  pub object_passed : (A : Type 0) (new : List Token) → first ≡ Token.begin_object ∷ r → left (members_in (depth - 1) r) ≡ Some new
+  pub object_passed : (A : Type 0) (new : List Token) → first ≡ Token.begin_object ∷ r
+      → left (members_in (depth - 1) r) ≡ Some new
       → (j : Json) × TellRoas {A = A} (j ∷ []) (Err (Roas Kind)) × (json.value depth first ≡ Some (j, new))
   object_passed A new opens passed =
       let ms = left_some (members_in (depth - 1) r) new passed in (
@@ -177,7 +171,8 @@ module _ (depth : ℕ) (some : 0 < depth) (first r : List Token) where
         ap (json.value depth) opens ∙ value-begin_object depth r some ∙ ap (parse_map json.object) ms.1,
       )
 
-  pub object_fails : first ≡ Token.begin_object ∷ r → left (members_in (depth - 1) r) ≡ None → json.value depth first ≡ None
+  pub object_fails : first ≡ Token.begin_object ∷ r → left (members_in (depth - 1) r) ≡ None
+      → json.value depth first ≡ None
   object_fails opens none = ap (json.value depth) opens ∙ value-begin_object depth r some ∙ ap (parse_map json.object) (left_none (members_in (depth - 1) r) none)
 
 -- the value of a token that opens nothing
@@ -194,17 +189,9 @@ json_of Token.null = json.null
 json_of Token.bad = json.null
 
 no_array_of : (t : Token) → IsNoArray (json_of t)
-no_array_of Token.begin_object = tt
-no_array_of Token.end_object = tt
-no_array_of Token.begin_array = tt
-no_array_of Token.end_array = tt
-no_array_of (Token.key s) = tt
-no_array_of (Token.string s) = tt
-no_array_of (Token.number s) = tt
-no_array_of (Token.boolean b) = tt
-no_array_of Token.null = tt
-no_array_of Token.bad = tt
+no_array_of t = grind (arith)
 
-pub scalar_passed : (A : Type 0) (depth : ℕ) (first r : List Token) (t : Token) → json.value depth first ≡ Some (json_of t, r)
+pub scalar_passed : (A : Type 0) (depth : ℕ) (first r : List Token) (t : Token)
+    → json.value depth first ≡ Some (json_of t, r)
     → (j : Json) × TellRoas {A = A} (j ∷ []) (Err (Roas Kind)) × (json.value depth first ≡ Some (j, r))
 scalar_passed A depth first r t is = (json_of t, (json_of t, refl, λ h. no_array (json_of t) h (no_array_of t)), is)

@@ -1,35 +1,21 @@
 -- A line writes one thing alone, or has one fault.
-use Rattle.std.proofs.Common.{◌≡◌, ◌≢◌, ℕ, ◌-◌, ◌^◌, ◌⊎◌, inl, inr, List, [], Some, Result, MatchResult, refl, sym, ap, subst, ◌∙◌, arith}
-use Rattle.std.specs.Str.{IsUtf8, trim}
-use Rattle.payload_texts.specs.Columns.{IsHeader}
-use Rattle.rpki_text.specs.Reading.{Answers}
+use Rattle.payload_texts.proofs.Common.{List, MatchResult, Result, Some, [], ap, arith, inl, inr, refl, subst, sym, ℕ, ◌-◌, ◌^◌, ◌∙◌, ◌≡◌, ◌≢◌, ◌⊎◌, IsUtf8, trim, HasMaxLenError, IsMaxLenOf, MaxLenValue, Answers, IsHeader, field, ArePayload, HasRowFault, HaveFault, IsBody, IsRow, Columns, PayloadFault, Row, Blank, Header, Payload}
 use Rattle.rpki_text.proofs.ReadingLemmas.{Answers-from_found}
 use Rattle.rpki_base.proofs.AsnLemmas.{IsAsnText-one}
 use Rattle.rpki_text.proofs.NumberTexts.{IsNumberText-one}
-use Rattle.rpki_prefix.specs.MaxLen.{MaxLenValue, IsMaxLenOf, HasMaxLenError}
 use Rattle.rpki_prefix.specs.Values.{FamilyPrefix}
 use Rattle.rpki_prefix.specs.declared.error.MaxLenError.{MaxLenError}
-use Rattle.rpki_prefix.specs.declared.error.MaxLenError.TheVariants.{Overflow, Underflow}
 use Rattle.rpki_prefix.proofs.TextLemmas.{IsPrefixText-one, IsPrefixText-no_fault, HasPrefixTextFault-one, number_apart, same_number_fault}
-use Rattle.payload_texts.specs.Fields.{field}
-use Rattle.payload_texts.specs.Rows.{ArePayload, HaveFault, IsBody, IsRow, HasRowFault}
-use Rattle.payload_texts.specs.declared.columns.Columns.{Columns}
-use Rattle.payload_texts.specs.declared.fault.PayloadFault.{PayloadFault}
 use Rattle.payload_texts.specs.declared.fault.PayloadFault.TheVariants.{NotUtf8, Asn, Prefix, MaxLenFormat, MaxLen}
-use Rattle.payload_texts.specs.declared.row.Row.{Row}
-use Rattle.payload_texts.specs.declared.row.Row.TheVariants.{Blank, Header, Payload}
 use Rattle.payload_texts.proofs.ColumnLemmas.{header_one}
 
 -- a number is a greatest length of a prefix, or has one error
 max_apart : (p : FamilyPrefix) (n : ℕ) (f : MaxLenError) → IsMaxLenOf p (Some n) → HasMaxLenError p (Some n) f → ⊥
-max_apart p n Overflow h above = let upto = h.1 in omega (arith, upto, above)
-max_apart p n Underflow h k = let from = h.0 in let below = k.1 in omega (arith, from, below)
+max_apart p n f h above = grind (arith)
 
-max_error_one : (p : FamilyPrefix) (n : ℕ) (f g : MaxLenError) → HasMaxLenError p (Some n) f → HasMaxLenError p (Some n) g → f ≡ g
-max_error_one p n Overflow Overflow h k = refl
-max_error_one p n Overflow Underflow h k = absurd (let upto = k.0 in omega (arith, h, upto))
-max_error_one p n Underflow Overflow h k = absurd (let upto = h.0 in omega (arith, k, upto))
-max_error_one p n Underflow Underflow h k = refl
+max_error_one : (p : FamilyPrefix) (n : ℕ) (f g : MaxLenError) → HasMaxLenError p (Some n) f
+    → HasMaxLenError p (Some n) g → f ≡ g
+max_error_one p n f g h k = grind (arith)
 
 module _ (a p m : List ℕ) where
   -- three texts write one prefix and one AS number
@@ -89,19 +75,11 @@ module _ (columns : Columns) (line : List ℕ) where
 
   -- the line isn't UTF-8, or its fields have the fault
   faults : (f : PayloadFault) → HasRowFault columns line f → ((¬ IsUtf8 line) × (f ≡ NotUtf8)) ⊎ (IsBody line × Fails f)
-  faults NotUtf8 h = inl (h, refl)
-  faults (Asn f) h = inr h
-  faults (Prefix f) h = inr h
-  faults (MaxLenFormat f) h = inr h
-  faults (MaxLen f) h = inr h
+  faults f h = grind (arith)
 
   -- the fault of the fields is the line's
   pub row_fault : (f : PayloadFault) → IsBody line → Fails f → HasRowFault columns line f
-  row_fault NotUtf8 body h = absurd h
-  row_fault (Asn f) body h = (body, h)
-  row_fault (Prefix f) body h = (body, h)
-  row_fault (MaxLenFormat f) body h = (body, h)
-  row_fault (MaxLen f) body h = (body, h)
+  row_fault f body h = grind (arith)
 
   pub row_one : (x y : Row) → IsRow columns line x → IsRow columns line y → x ≡ y
   row_one Blank Blank h k = refl
@@ -134,13 +112,9 @@ module _ (columns : Columns) (line : List ℕ) where
     by_fault (inr k) = body_apart x f h k.0 k.1
 
   pub row_fault_one : (d e : PayloadFault) → HasRowFault columns line d → HasRowFault columns line e → d ≡ e
-  row_fault_one d e h k = by_faults (faults d h) (faults e k) where
-    by_faults : ((¬ IsUtf8 line) × (d ≡ NotUtf8)) ⊎ (IsBody line × Fails d) → ((¬ IsUtf8 line) × (e ≡ NotUtf8)) ⊎ (IsBody line × Fails e) → d ≡ e
-    by_faults (inl one) (inl other) = one.1 ∙ sym other.1
-    by_faults (inl bad) (inr body) = absurd (bad.0 body.0.utf8)
-    by_faults (inr body) (inl bad) = absurd (bad.0 body.0.utf8)
-    by_faults (inr one) (inr other) = have_one _ _ _ d e one.1 other.1
+  row_fault_one d e h k = grind (arith, faults, have_one)
 
   -- so what is found decides the answer
-  pub row_answers : (r : Result Row PayloadFault) → MatchResult r (IsRow columns line) (HasRowFault columns line) → Answers (IsRow columns line) (HasRowFault columns line) r
+  pub row_answers : (r : Result Row PayloadFault) → MatchResult r (IsRow columns line) (HasRowFault columns line)
+      → Answers (IsRow columns line) (HasRowFault columns line) r
   row_answers r found = Answers-from_found r found row_one row_apart row_fault_one

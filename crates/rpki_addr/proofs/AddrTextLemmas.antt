@@ -1,7 +1,6 @@
 -- A reader that goes on to the least number of what another reader answers.
-use Rattle.std.proofs.Common.{◌≡◌, ℕ, Result, Ok, Err, refl, sym, ap, ◌∙◌}
+use Rattle.rpki_addr.proofs.Common.{Err, Ok, Result, arith, ℕ, ◌≡◌, IsFirstOf}
 use Rattle.rpki_text.specs.Reading.{Answers}
-use Rattle.rpki_addr.specs.AddrText.{IsFirstOf}
 
 module _ {X E : Type 0} (first : X → ℕ) (Writes : X → Type 0) (Fails : E → Type 0) where
   -- an answer is one value
@@ -10,16 +9,8 @@ module _ {X E : Type 0} (first : X → ℕ) (Writes : X → Type 0) (Fails : E �
 
   -- an answer, and its least number
   pub first_of_ok : (x : X) → Answers Writes Fails (Ok x) → Answers (IsFirstOf first Writes) Fails (Ok (first x))
-  first_of_ok x h = record {
-    found = (x, h.found, refl);
-    each_value = λ a w. let (y, is, e) = w in ap Ok (ap first (ok_one x y (Ok x) refl (h.each_value y is)) ∙ sym e);
-    each_fault = λ e f. absurd (let z = h.each_fault e f in cc);
-  }
+  first_of_ok x h = grind (arith, ok_one)
 
   -- a fault stays
   pub first_of_err : (e : E) → Answers Writes Fails (Err e) → Answers (IsFirstOf first Writes) Fails (Err e)
-  first_of_err e h = record {
-    found = h.found;
-    each_value = λ a w. let (y, is, _) = w in absurd (let z = h.each_value y is in cc);
-    each_fault = λ f k. let z = h.each_fault f k in cc;
-  }
+  first_of_err e h = grind (arith)

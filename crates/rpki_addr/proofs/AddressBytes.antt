@@ -1,21 +1,13 @@
 -- A printed address has digits, the letters `a` to `f`, dots and colons, so neither a slash nor a dash nor a comma.
-use Rattle.std.proofs.Common.{◌≡◌, ◌≢◌, ◌⊎◌, ◌^◌, ◌<◌, ℕ, zero, suc, List, [], ◌∷◌, ◌++◌, codes, drop, take, get_or, arith, lit<, lit≤, inl, inr, subst}
+use Rattle.rpki_addr.proofs.Common.{List, [], arith, codes, drop, get_or, inl, inr, lit<, lit≤, subst, suc, take, zero, ℕ, ◌++◌, ◌<◌, ◌^◌, ◌∷◌, ◌≡◌, ◌≢◌, ◌⊎◌, AllSegments, AllSegments-drop, cond_both, bytes_eq, last_digit_below, groups_of, octets_of, ip_text, ipv4_text, ipv6_text, IpAddr}
 use Rattle.std.specs.Int.{IsInRange}
 use Rattle.std.specs.List.{All}
 use Rattle.std.specs.Net.Addr.{octets_of as net_octets_of}
 use Rattle.std.specs.Net.Text as std
-use Rattle.std.specs.Prelude.{bytes_eq}
 use Rattle.std.proofs.NetLemmas.Alphabet.{IsDigitOrDot, All-ipv4_text, All-hex_groups_text}
-use Rattle.std.proofs.NetLemmas.Texts.{AllSegments, AllSegments-drop}
-use Rattle.std.proofs.lemmas.Bool.{cond_both}
 use Rattle.std.proofs.lemmas.List.Elements.{All-weaker, All-append, All-from_recursion}
 use Rattle.rpki_text.specs.Cuts.{HasNo, slash, dash}
-use Rattle.rpki_text.specs.Digits.{octets_of, groups_of}
-use Rattle.rpki_addr.specs.PrintedAddress.{ipv4_text, ipv6_text, ip_text}
-use Rattle.rpki_addr.specs.declared.addr.IpAddr.{IpAddr}
-use Rattle.rpki_addr.specs.declared.addr.IpAddr.TheVariants.{V4, V6}
 use Rattle.rpki_addr.proofs.AddressLemmas.{dotted_is}
-use Rattle.rpki_text.proofs.DigitLemmas.{last_digit_below}
 
 -- a dot, a decimal digit or a colon, or a letter from `a` to `f`
 abbrev pub IsAddressByte : ℕ → Type 0
@@ -61,19 +53,14 @@ ipv6_bytes n = group_bytes (groups_of n) (last_digit_below 0x10000 (lit< tt) 8 n
 
 -- and one of either family
 pub ip_bytes : (a : IpAddr) → All IsAddressByte (ip_text a)
-ip_bytes (V4 n) = ipv4_bytes n
-ip_bytes (V6 n) = ipv6_bytes n
+ip_bytes a = grind (arith, ipv4_bytes, ipv6_bytes)
 
 -- none of these bytes is a slash, or a dash
 pub not_slash : (b : ℕ) → IsAddressByte b → b ≢ slash
-not_slash b (inl h) e = omega (arith, h, e)
-not_slash b (inr (inl h)) e = let low = h.0 in omega (arith, low, e)
-not_slash b (inr (inr h)) e = let low = h.0 in omega (arith, low, e)
+not_slash b h e = grind (arith)
 
 pub not_dash : (b : ℕ) → IsAddressByte b → b ≢ dash
-not_dash b (inl h) e = omega (arith, h, e)
-not_dash b (inr (inl h)) e = let low = h.0 in omega (arith, low, e)
-not_dash b (inr (inr h)) e = let low = h.0 in omega (arith, low, e)
+not_dash b h e = grind (arith)
 
 -- so it has no slash and no dash
 pub no_slash : (text : List ℕ) → All IsAddressByte text → HasNo slash text

@@ -1,21 +1,11 @@
 -- What the readers of addresses answer: a text writes one address at most, and a printed address is read back.
-use Rattle.std.proofs.Common.{◌≡◌, ℕ, ◌^◌, ◌<◌, List, Ok, Err, refl, sym, ap, ◌∙◌, lit<}
+use Rattle.rpki_addr.proofs.Common.{Err, List, Ok, ap, arith, lit<, refl, sym, ℕ, ◌<◌, ◌^◌, ◌∙◌, ◌≡◌, IsDotted-not_colon_hex, IsColonHex-ipv6_text, ipv4_octets, ipv6_segments, last_digit_below, last_digits_below, length-last_digits, number-last_digits, from_groups, from_octets, groups_of, octets_of, IsIpText, IsIpv4Text, IsIpv6Text, ip_text, ipv4_text, ipv6_text, IsAddress, ReadsIp, ReadsIpv4, ReadsIpv6, IpAddr}
 use Rattle.std.specs.declared.net.ipv4_addr.Ipv4Addr.{Ipv4Addr as StdIpv4}
 use Rattle.std.specs.declared.net.ipv6_addr.Ipv6Addr.{Ipv6Addr as StdIpv6}
-use Rattle.std.specs.Net.Addr.{ipv4_octets, ipv6_segments}
 use Rattle.std.specs.Net.Grammar as std
-use Rattle.std.proofs.NetLemmas.Ipv6.{IsDotted-not_colon_hex}
 use Rattle.std.proofs.NetLemmas.Theorems.{IsIpv4Text_unique, IsIpv6Text_unique}
-use Rattle.std.proofs.NetLemmas.Texts.{IsColonHex-ipv6_text}
-use Rattle.rpki_text.specs.Digits.{groups_of, from_groups, octets_of, from_octets}
 use Rattle.rpki_addr.specs.declared.addr.AddrParseError.TheVariants.{Ipv4, Ipv6}
-use Rattle.rpki_addr.specs.declared.addr.IpAddr.{IpAddr}
-use Rattle.rpki_addr.specs.declared.addr.IpAddr.TheVariants.{V4, V6}
-use Rattle.rpki_addr.specs.AddressText.{IsIpv4Text, IsIpv6Text, IsIpText}
-use Rattle.rpki_addr.specs.PrintedAddress.{ipv4_text, ipv6_text, ip_text}
-use Rattle.rpki_addr.specs.ReadsAddress.{ReadsIpv4, ReadsIpv6, ReadsIp, IsAddress}
 use Rattle.rpki_addr.proofs.AddressLemmas.{IsIpv4Text-dotted, IsDotted-ipv4, IsGroupsText-colon_hex, IsColonHex-groups}
-use Rattle.rpki_text.proofs.DigitLemmas.{number-last_digits, length-last_digits, last_digits_below, last_digit_below}
 
 -- a text writes one IPv4 address at most
 pub IsIpv4Text-one : (text : List ℕ) (m n : ℕ) → IsIpv4Text text m → IsIpv4Text text n → m ≡ n
@@ -34,10 +24,7 @@ pub IsIpv4Text-not_ipv6 : (text : List ℕ) (m n : ℕ) → IsIpv4Text text m �
 IsIpv4Text-not_ipv6 text m n h k = IsDotted-not_colon_hex text h.octets k.groups (IsIpv4Text-dotted text m h) (IsGroupsText-colon_hex text k.groups k.written)
 
 pub IsIpText-one : (text : List ℕ) (a b : IpAddr) → IsIpText text a → IsIpText text b → a ≡ b
-IsIpText-one text (V4 m) (V4 n) h k = ap V4 (IsIpv4Text-one text m n h k)
-IsIpText-one text (V4 m) (V6 n) h k = absurd (IsIpv4Text-not_ipv6 text m n h k)
-IsIpText-one text (V6 m) (V4 n) h k = absurd (IsIpv4Text-not_ipv6 text n m k h)
-IsIpText-one text (V6 m) (V6 n) h k = ap V6 (IsIpv6Text-one text m n h k)
+IsIpText-one text a b h k = grind (arith, IsIpv4Text-not_ipv6, IsIpv4Text-one, IsIpv6Text-one)
 
 -- what is printed of an address writes it
 pub IsIpv4Text-ipv4_text : (n : ℕ) → n < 2 ^ 32 → IsIpv4Text (ipv4_text n) n
@@ -58,11 +45,11 @@ IsIpv6Text-ipv6_text n small = record {
 }
 
 pub IsIpText-ip_text : (a : IpAddr) → IsAddress a → IsIpText (ip_text a) a
-IsIpText-ip_text (V4 n) small = IsIpv4Text-ipv4_text n small
-IsIpText-ip_text (V6 n) small = IsIpv6Text-ipv6_text n small
+IsIpText-ip_text a small = grind (arith, IsIpv4Text-ipv4_text, IsIpv6Text-ipv6_text)
 
 -- where std reads an address, and where it reads none
-pub reads_ipv4_ok : (text : List ℕ) (a : StdIpv4) → std.IsIpv4Text text a → ReadsIpv4 text (Ok (from_octets (ipv4_octets a)))
+pub reads_ipv4_ok : (text : List ℕ) (a : StdIpv4) → std.IsIpv4Text text a
+    → ReadsIpv4 text (Ok (from_octets (ipv4_octets a)))
 reads_ipv4_ok text a h =
     let here : IsIpv4Text text (from_octets (ipv4_octets a)) = IsDotted-ipv4 text (ipv4_octets a) h in
     let each : (n : ℕ) → IsIpv4Text text n → Ok (from_octets (ipv4_octets a)) ≡ Ok n = λ n k. ap Ok (IsIpv4Text-one text _ n here k) in
@@ -79,7 +66,8 @@ reads_ipv4_err text none =
       reads_back = λ n small is. absurd (no_text n (rw is (IsIpv4Text-ipv4_text n small)));
     }
 
-pub reads_ipv6_ok : (text : List ℕ) (a : StdIpv6) → std.IsIpv6Text text a → ReadsIpv6 text (Ok (from_groups (ipv6_segments a)))
+pub reads_ipv6_ok : (text : List ℕ) (a : StdIpv6) → std.IsIpv6Text text a
+    → ReadsIpv6 text (Ok (from_groups (ipv6_segments a)))
 reads_ipv6_ok text a h =
     let here : IsIpv6Text text (from_groups (ipv6_segments a)) = record { groups = ipv6_segments a; written = IsColonHex-groups text (ipv6_segments a) h; value = refl } in
     let each : (n : ℕ) → IsIpv6Text text n → Ok (from_groups (ipv6_segments a)) ≡ Ok n = λ n k. ap Ok (IsIpv6Text-one text _ n here k) in
@@ -98,7 +86,4 @@ reads_ipv6_err text none =
 
 -- the same of either family
 pub reads_ip_ok : (text : List ℕ) (a : IpAddr) → IsIpText text a → ReadsIp text (Ok a)
-reads_ip_ok text a h = record {
-  exact = record { found = h; each_value = λ b k. ap Ok (IsIpText-one text a b h k); each_fault = λ e f. absurd (f.1 a h) };
-  reads_back = λ b small is. ap Ok (IsIpText-one text a b h (rw is (IsIpText-ip_text b small)));
-}
+reads_ip_ok text a h = grind (arith, IsIpText-ip_text, IsIpText-one)

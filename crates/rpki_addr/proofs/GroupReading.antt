@@ -1,26 +1,12 @@
 -- Groups as one number while they are read.
-use Rattle.std.proofs.Common.{◌≡◌, ◌≢◌, ℕ, zero, suc, ◌+◌, ◌-◌, ◌*◌, ◌/◌, ◌%◌, ◌^◌, ◌<◌, ◌≤◌, ◌==◌, nat_lt, Bool, true, false, cond, Bor, List, [], ◌∷◌, ◌++◌, length, replicate, Option, Some, None, option_map, option_and_then, refl, sym, subst, ap, ap₂, ◌∙◌, arith, lit<, lit≤, append-nil, append_assoc, length-append, ne_eqb, eq-eqb}
-use Rattle.std.proofs.lemmas.Option.{none-some}
-use Rattle.std.proofs.lemmas.Bool.{ltb-true}
-use Rattle.std.proofs.lemmas.Bool.Decides.{nat_tests}
-use Rattle.std.proofs.lemmas.Int.Digits.{number_push, number_after_append}
-use Rattle.std.proofs.lemmas.List.{length-replicate}
-use Rattle.std.proofs.lemmas.Nat.{mul-add-lt, pow-add}
-use Rattle.std.proofs.Math.Nat.{pow-zero, pow-succ', pow-le-pow_right, mul_assoc, mul-one, add-mul, mul-le-mul_left}
+use Rattle.rpki_addr.proofs.Common.{Bool, Bor, List, None, Some, [], ap, append-nil, append_assoc, ap₂, arith, cond, false, length, length-append, lit<, lit≤, nat_lt, ne_eqb, option_and_then, option_map, refl, replicate, subst, suc, sym, true, zero, ℕ, ◌%◌, ◌*◌, ◌++◌, ◌+◌, ◌-◌, ◌/◌, ◌<◌, ◌==◌, ◌^◌, ◌∙◌, ◌∷◌, ◌≡◌, ◌≢◌, ◌≤◌, add-mul, mul-le-mul_left, mul-one, mul_assoc, pow-le-pow_right, pow-succ', pow-zero, read_ipv4_sound, ltb-true, nat_tests, number_after_append, number_push, length-replicate, mul-add-lt, pow-add, none-some, number_from_digits_after, segments_of, Read, Segments, after, read_byte, read_ipv4, read_ipv4_if, read_ipv6, read_segment, read_segments, read_separator, read_tail, below_power, next_below, from_groups, from_octets, numbered, with_number, with_octets, IsSoFar, parts}
 use Rattle.std.proofs.NetLemmas.Options.{same_parts}
-use Rattle.std.proofs.NetLemmas.Ipv4.{read_ipv4_sound}
-use Rattle.std.specs.Int.Digits.{number_from_digits_after}
-use Rattle.std.specs.Net.Addr.{segments_of}
-use Rattle.std.specs.Net.Reader.{Read, Segments, read_byte, read_ipv4, read_ipv4_if, read_segment, read_separator, read_segments, read_tail, read_ipv6, after}
-use Rattle.rpki_text.specs.Digits.{from_groups, from_octets}
-use Rattle.rpki_addr.specs.AddressReading.{numbered, with_number, with_octets}
-use Rattle.rpki_addr.specs.GroupsRead.{IsSoFar, parts}
 use Rattle.rpki_addr.specs.declared.addr.read.Groups.{Groups}
 use Rattle.rpki_addr.proofs.AddressLemmas.{two_groups}
-use Rattle.rpki_text.proofs.DigitLemmas.{next_below, below_power}
 
 -- groups behind others, as numbers
-number_after_is : (n : ℕ) (ys : List ℕ) → number_from_digits_after 0x10000 n ys ≡ n * 0x10000 ^ length ys + from_groups ys
+number_after_is : (n : ℕ) (ys : List ℕ)
+    → number_from_digits_after 0x10000 n ys ≡ n * 0x10000 ^ length ys + from_groups ys
 number_after_is n [] = omega (arith, ap (λ k. n * k) (pow-zero 0x10000), mul-one n)
 number_after_is n (y ∷ ys) =
     let here = number_after_is (n * 0x10000 + y) ys in
@@ -35,7 +21,9 @@ zeros_front zero ys = refl
 zeros_front (suc k) ys = zeros_front k ys
 
 -- the groups of a text with two colons
-number_elided : (front back : List ℕ) → length front + length back ≤ 8 → from_groups (front ++ replicate (8 - length front - length back) 0 ++ back) ≡ from_groups front * 0x10000 ^ (8 - length front) + from_groups back
+number_elided : (front back : List ℕ) → length front + length back ≤ 8
+    → from_groups (front ++ replicate (8 - length front - length back) 0 ++ back)
+    ≡ from_groups front * 0x10000 ^ (8 - length front) + from_groups back
 number_elided front back room =
     let gap = 8 - length front - length back in
     let long : length (replicate {A = ℕ} gap 0 ++ back) ≡ 8 - length front = omega (arith, length-append (replicate {A = ℕ} gap 0) back, length-replicate {A = ℕ} gap 0, room) in
@@ -45,7 +33,8 @@ number_elided front back room =
     ∙ ap₂ (λ k n. from_groups front * 0x10000 ^ k + n) long (zeros_front gap back)
 
 -- what fits behind so many groups
-pub elided_fits : (front back h t : ℕ) → front < 0x10000 ^ h → back < 0x10000 ^ t → h + t ≤ 8 → front * 0x10000 ^ (8 - h) + back < 2 ^ 128
+pub elided_fits : (front back h t : ℕ) → front < 0x10000 ^ h → back < 0x10000 ^ t → h + t ≤ 8
+    → front * 0x10000 ^ (8 - h) + back < 2 ^ 128
 elided_fits front back h t low high room =
     let up : 0x10000 ^ t ≤ 0x10000 ^ (8 - h) = pow-le-pow_right (lit≤ tt) (omega (arith, room)) in
     let below = mul-add-lt front (0x10000 ^ (8 - h)) back (0x10000 ^ h) low (omega (arith, high, up)) in
@@ -56,14 +45,10 @@ elided_fits front back h t low high room =
 -- one zero group more, and none
 pub one_zero_more : (bits n : ℕ) → 0 < n → bits * 0x10000 * 0x10000 ^ (n - 1) ≡ bits * 0x10000 ^ n
 one_zero_more bits zero some = absurd (omega (arith, some))
-one_zero_more bits (suc m) some =
-    let less : suc m - 1 ≡ m = omega arith in
-    rw less (mul_assoc bits 0x10000 (0x10000 ^ m) ∙ ap (λ k. bits * k) (sym (pow-succ' 0x10000 m)))
+one_zero_more bits (suc m) some = grind (arith, mul_assoc, pow-succ')
 
 pub no_zero_more : (bits n : ℕ) → n ≤ 0 → bits ≡ bits * 0x10000 ^ n
-no_zero_more bits n none =
-    let is : n ≡ 0 = omega (arith, none) in
-    sym (ap (λ k. bits * 0x10000 ^ k) is ∙ ap (λ k. bits * k) (pow-zero 0x10000) ∙ mul-one bits)
+no_zero_more bits n none = grind (arith, mul-one, pow-zero)
 
 pub one_zero_fits : (bits n : ℕ) → 0 < n → bits * 0x10000 ^ n < 2 ^ 128 → bits * 0x10000 < 2 ^ 128
 one_zero_fits bits n some fits =
@@ -72,30 +57,29 @@ one_zero_fits bits n some fits =
     let more : bits * 0x10000 ^ 1 ≤ bits * 0x10000 ^ n = mul-le-mul_left bits up in
     omega (arith, more, fits)
 
-ipv4_if_some : (b : Bool) (text : List ℕ) (p : List ℕ × List ℕ) → read_ipv4_if b text ≡ Some p → (b ≡ true) × (read_ipv4 text ≡ Some p)
-ipv4_if_some true text p e = (refl, e)
-ipv4_if_some false text p e = absurd (none-some p e)
+ipv4_if_some : (b : Bool) (text : List ℕ) (p : List ℕ × List ℕ) → read_ipv4_if b text ≡ Some p
+    → (b ≡ true) × (read_ipv4 text ≡ Some p)
+ipv4_if_some b text p e = grind (arith, none-some)
 
 number_two : (xs : List ℕ) (g h : ℕ) → from_groups (xs ++ g ∷ h ∷ []) ≡ (from_groups xs * 0x10000 + g) * 0x10000 + h
 number_two xs g h = ap from_groups (sym (append_assoc xs (g ∷ []) (h ∷ []))) ∙ number_push 0x10000 (xs ++ g ∷ []) h ∙ ap (λ k. k * 0x10000 + h) (number_push 0x10000 xs g)
 
 -- a read that is seen through a view
-seen : (r : Read (List ℕ)) (n : ℕ) (rest : List ℕ) → Some (n, rest) ≡ option_map with_octets r → (o : List ℕ) × (r ≡ Some (o, rest)) × (from_octets o ≡ n)
-seen None n rest e = absurd (none-some _ (sym e))
-seen (Some p) n rest e =
-    let (value, left) = same_parts n (from_octets p.0) rest p.1 e in
-    (p.0, ap (λ l. Some (p.0, l)) (sym left), sym value)
+seen : (r : Read (List ℕ)) (n : ℕ) (rest : List ℕ) → Some (n, rest) ≡ option_map with_octets r
+    → (o : List ℕ) × (r ≡ Some (o, rest)) × (from_octets o ≡ n)
+seen r n rest e = grind (arith, none-some, same_parts)
 
 unseen : (r : Read (List ℕ)) → None ≡ option_map with_octets r → None ≡ r
-unseen None e = refl
-unseen (Some p) e = absurd (none-some _ e)
+unseen r e = grind (arith, none-some)
 
 -- so an IPv4 text stands only where two groups have room
-pub ipv4_room : (b : Bool) (text : List ℕ) (n : ℕ) (rest : List ℕ) → Some (n, rest) ≡ option_map with_octets (read_ipv4_if b text) → b ≡ true
+pub ipv4_room : (b : Bool) (text : List ℕ) (n : ℕ) (rest : List ℕ)
+    → Some (n, rest) ≡ option_map with_octets (read_ipv4_if b text) → b ≡ true
 ipv4_room b text n rest e = let (o, read, value) = seen (read_ipv4_if b text) n rest e in (ipv4_if_some b text (o, rest) read).0
 
 -- two groups more
-two_more : (bits i g h : ℕ) → bits < 0x10000 ^ i → g < 0x10000 → h < 0x10000 → (bits * 0x10000 + g) * 0x10000 + h < 0x10000 ^ (i + 2)
+two_more : (bits i g h : ℕ) → bits < 0x10000 ^ i → g < 0x10000 → h < 0x10000
+    → (bits * 0x10000 + g) * 0x10000 + h < 0x10000 ^ (i + 2)
 two_more bits i g h small one two =
     let first = next_below 0x10000 (lit< tt) i bits g small one in
     let second = next_below 0x10000 (lit< tt) (i + 1) (bits * 0x10000 + g) h first two in
@@ -106,7 +90,8 @@ two_more bits i g h small one two =
 pub one_fits : (bits i v : ℕ) → i < 8 → bits < 0x10000 ^ i → v < 0x10000 → bits * 0x10000 + v < 2 ^ 128
 one_fits bits i v within small value = omega (arith, below_power 0x10000 (lit< tt) i 8 bits v within small value)
 
-pub two_fit : (bits i g h : ℕ) → i + 1 < 8 → bits < 0x10000 ^ i → g < 0x10000 → h < 0x10000 → (bits * 0x10000 + g) * 0x10000 + h < 2 ^ 128
+pub two_fit : (bits i g h : ℕ) → i + 1 < 8 → bits < 0x10000 ^ i → g < 0x10000 → h < 0x10000
+    → (bits * 0x10000 + g) * 0x10000 + h < 2 ^ 128
 two_fit bits i g h within small one two = one_fits (bits * 0x10000 + g) (i + 1) h within (next_below 0x10000 (lit< tt) i bits g small one) two
 
 -- ---- what a reader with room for one group more finds at a text, by what stands there
@@ -117,7 +102,8 @@ module _ (left : ℕ) (at_start : Bool) (text : List ℕ) where
   ends_here none = rw (← none) refl
 
   module _ (behind : List ℕ) (colon : Some behind ≡ read_separator at_start text) where
-    dotted_here : (octets rest : List ℕ) → Some (octets, rest) ≡ read_ipv4_if (nat_lt 0 left) behind → read_segments (suc left) at_start text ≡ (segments_of octets, true, rest)
+    dotted_here : (octets rest : List ℕ) → Some (octets, rest) ≡ read_ipv4_if (nat_lt 0 left) behind
+        → read_segments (suc left) at_start text ≡ (segments_of octets, true, rest)
     unfolding read_segments
     dotted_here octets rest dots = rw (← colon, ← dots) refl
 
@@ -126,7 +112,8 @@ module _ (left : ℕ) (at_start : Bool) (text : List ℕ) where
       unfolding read_segments
       nothing_here none = rw (← colon, ← no_dots, ← none) refl
 
-      group_here : (group : ℕ) (rest : List ℕ) → Some (group, rest) ≡ read_segment behind → read_segments (suc left) at_start text ≡ after (group ∷ []) (read_segments left false rest)
+      group_here : (group : ℕ) (rest : List ℕ) → Some (group, rest) ≡ read_segment behind
+          → read_segments (suc left) at_start text ≡ after (group ∷ []) (read_segments left false rest)
       unfolding read_segments
       group_here group rest digits = rw (← colon, ← no_dots, ← digits) refl
 
@@ -169,11 +156,16 @@ module _ (n : ℕ) (text : List ℕ) (groups : Groups) (unclosed : groups.closed
     unfolding found
     found_here s is = rw one_left is
 
-    pub no_colon : None ≡ read_separator (groups.count == 0) groups.rest.now → parts groups ≡ numbered (read_segments n true text)
+    pub no_colon : None ≡ read_separator (groups.count == 0) groups.rest.now
+        → parts groups ≡ numbered (read_segments n true text)
     no_colon none = all_read (found_here _ (ends_here left (groups.count == 0) groups.rest.now none))
 
     module _ (behind : List ℕ) (colon : Some behind ≡ read_separator (groups.count == 0) groups.rest.now) where
-      pub with_ipv4 : (low number : ℕ) (rest : Bor (List ℕ)) → Some (low, rest.now) ≡ option_map with_octets (read_ipv4_if (nat_lt (groups.count + 1) n) behind) → low < 2 ^ 32 → number ≡ low → IsSoFar n text (record { bits = groups.bits * 0x100000000 + number; count = groups.count + 2; closed = true; rest = rest })
+      pub with_ipv4 : (low number : ℕ) (rest : Bor (List ℕ))
+          → Some (low, rest.now) ≡ option_map with_octets (read_ipv4_if (nat_lt (groups.count + 1) n) behind)
+          → low < 2 ^ 32 → number ≡ low
+          → IsSoFar n text
+          (record { bits = groups.bits * 0x100000000 + number; count = groups.count + 2; closed = true; rest = rest })
       with_ipv4 low number rest e small is =
           let (octets, read, value) = seen (read_ipv4_if (nat_lt (groups.count + 1) n) behind) low rest.now e in
           let if_some = ipv4_if_some _ behind (octets, rest.now) read in
@@ -197,7 +189,10 @@ module _ (n : ℕ) (text : List ℕ) (groups : Groups) (unclosed : groups.closed
         pub no_more : None ≡ read_segment behind → parts groups ≡ numbered (read_segments n true text)
         no_more none = all_read (found_here _ (nothing_here left (groups.count == 0) groups.rest.now behind colon no_dots none))
 
-        pub with_group : (group number : ℕ) (rest : Bor (List ℕ)) → Some (group, rest.now) ≡ read_segment behind → group < 0x10000 → number ≡ group → IsSoFar n text (record { bits = groups.bits * 0x10000 + number; count = groups.count + 1; closed = false; rest = rest })
+        pub with_group : (group number : ℕ) (rest : Bor (List ℕ)) → Some (group, rest.now) ≡ read_segment behind
+            → group < 0x10000 → number ≡ group
+            → IsSoFar n text
+            (record { bits = groups.bits * 0x10000 + number; count = groups.count + 1; closed = false; rest = rest })
         unfolding left
         with_group group number rest e small is =
             let here = found_here _ (group_here left (groups.count == 0) groups.rest.now behind colon no_dots group rest.now e) in
@@ -213,64 +208,44 @@ module _ (n : ℕ) (text : List ℕ) (groups : Groups) (unclosed : groups.closed
             })
 
 -- eight groups
-pub ipv6_full : (text : List ℕ) (a h : ℕ) (b : Bool) (s : List ℕ) → (a, h, b, s) ≡ numbered (read_segments 8 true text) → h ≡ 8 → Some (a, s) ≡ option_map with_number (read_ipv6 text)
+pub ipv6_full : (text : List ℕ) (a h : ℕ) (b : Bool) (s : List ℕ) → (a, h, b, s) ≡ numbered (read_segments 8 true text)
+    → h ≡ 8 → Some (a, s) ≡ option_map with_number (read_ipv6 text)
 unfolding read_ipv6
-ipv6_full text a h b s e eight =
-    let found = read_segments 8 true text in
-    let long : length found.0 ≡ 8 = ap (λ (p : ℕ × ℕ × Bool × List ℕ). p.1) (sym e) ∙ eight in
-    rw (eq-eqb (length found.0) 8 long) (ap₂ (λ n l. Some (n, l)) (ap (λ (p : ℕ × ℕ × Bool × List ℕ). p.0) e) (ap (λ (p : ℕ × ℕ × Bool × List ℕ). p.3) e))
+ipv6_full text a h b s e eight = grind (arith, found)
 
 -- fewer, with an IPv4 text at the end
-pub ipv6_short : (text : List ℕ) (a h : ℕ) (b : Bool) (s : List ℕ) → (a, h, b, s) ≡ numbered (read_segments 8 true text) → h ≢ 8 → b ≡ true → None ≡ option_map with_number (read_ipv6 text)
+pub ipv6_short : (text : List ℕ) (a h : ℕ) (b : Bool) (s : List ℕ) → (a, h, b, s) ≡ numbered (read_segments 8 true text)
+    → h ≢ 8 → b ≡ true → None ≡ option_map with_number (read_ipv6 text)
 unfolding read_ipv6
-ipv6_short text a h b s e other ends =
-    let found = read_segments 8 true text in
-    let short : length found.0 ≢ 8 = λ eight. other (ap (λ (p : ℕ × ℕ × Bool × List ℕ). p.1) e ∙ eight) in
-    let ipv4_end : found.1 ≡ true = ap (λ (p : ℕ × ℕ × Bool × List ℕ). p.2) (sym e) ∙ ends in
-    rw (ne_eqb (length found.0) 8 short, ipv4_end)
+ipv6_short text a h b s e other ends = grind (arith, found)
 
 -- what is behind two colons
-tail_none : (head text : List ℕ) → None ≡ option_and_then (read_byte 58) (read_byte 58 text) → read_tail head text ≡ None
-tail_none head text e = go (read_byte 58 text) refl
-  where
-    go : (r : Option (List ℕ)) → read_byte 58 text ≡ r → read_tail head text ≡ None
-    go None is = rw is
-    go (Some one) is = let none : None ≡ read_byte 58 one = rw is at e in rw (is, ← none)
+tail_none : (head text : List ℕ) → None ≡ option_and_then (read_byte 58) (read_byte 58 text)
+    → read_tail head text ≡ None
+tail_none head text e = grind (arith)
 
-tail_some : (head text two : List ℕ) → Some two ≡ option_and_then (read_byte 58) (read_byte 58 text) → read_tail head text ≡ Some (head ++ replicate (8 - length head - length (read_segments (7 - length head) true two).0) 0 ++ (read_segments (7 - length head) true two).0, (read_segments (7 - length head) true two).2)
-tail_some head text two e = go (read_byte 58 text) refl
-  where
-    go : (r : Option (List ℕ)) → read_byte 58 text ≡ r → read_tail head text ≡ Some (head ++ replicate (8 - length head - length (read_segments (7 - length head) true two).0) 0 ++ (read_segments (7 - length head) true two).0, (read_segments (7 - length head) true two).2)
-    go None is = absurd (none-some _ (sym (rw is at e)))
-    go (Some one) is = let some : Some two ≡ read_byte 58 one = rw is at e in rw (is, ← some)
+tail_some : (head text two : List ℕ) → Some two ≡ option_and_then (read_byte 58) (read_byte 58 text)
+    → read_tail head text
+    ≡ Some (
+      head ++ replicate (8 - length head - length (read_segments (7 - length head) true two).0) 0
+          ++ (read_segments (7 - length head) true two).0,
+      (read_segments (7 - length head) true two).2,
+    )
+tail_some head text two e = grind (arith, none-some)
 
 -- fewer, with no two colons behind them
-pub ipv6_no_colons : (text : List ℕ) (a h : ℕ) (b : Bool) (s : List ℕ) → (a, h, b, s) ≡ numbered (read_segments 8 true text) → h ≢ 8 → b ≡ false → None ≡ option_and_then (read_byte 58) (read_byte 58 s) → None ≡ option_map with_number (read_ipv6 text)
+pub ipv6_no_colons : (text : List ℕ) (a h : ℕ) (b : Bool) (s : List ℕ)
+    → (a, h, b, s) ≡ numbered (read_segments 8 true text) → h ≢ 8 → b ≡ false
+    → None ≡ option_and_then (read_byte 58) (read_byte 58 s) → None ≡ option_map with_number (read_ipv6 text)
 unfolding read_ipv6
-ipv6_no_colons text a h b s e other plain none =
-    let found = read_segments 8 true text in
-    let short : length found.0 ≢ 8 = λ eight. other (ap (λ (p : ℕ × ℕ × Bool × List ℕ). p.1) e ∙ eight) in
-    let no_ipv4 : found.1 ≡ false = ap (λ (p : ℕ × ℕ × Bool × List ℕ). p.2) (sym e) ∙ plain in
-    let rest : s ≡ found.2 = ap (λ (p : ℕ × ℕ × Bool × List ℕ). p.3) e in
-    rw (ne_eqb (length found.0) 8 short, no_ipv4, tail_none found.0 found.2 (rw rest at none))
+ipv6_no_colons text a h b s e other plain none = grind (arith, found, tail_none)
 
 -- and with some
-pub ipv6_colons : (text : List ℕ) (a h : ℕ) (b : Bool) (s two : List ℕ) (c t : ℕ) (d : Bool) (rest : List ℕ) → (a, h, b, s) ≡ numbered (read_segments 8 true text) → h ≤ 8 → h ≢ 8 → b ≡ false → Some two ≡ option_and_then (read_byte 58) (read_byte 58 s) → (c, t, d, rest) ≡ numbered (read_segments (7 - h) true two) → t ≤ 7 - h → Some (a * 0x10000 ^ (8 - h) + c, rest) ≡ option_map with_number (read_ipv6 text)
+pub ipv6_colons : (text : List ℕ) (a h : ℕ) (b : Bool) (s two : List ℕ) (c t : ℕ) (d : Bool) (rest : List ℕ)
+    → (a, h, b, s) ≡ numbered (read_segments 8 true text) → h ≤ 8 → h ≢ 8 → b ≡ false
+    → Some two ≡ option_and_then (read_byte 58) (read_byte 58 s)
+    → (c, t, d, rest) ≡ numbered (read_segments (7 - h) true two) → t ≤ 7 - h
+    → Some (a * 0x10000 ^ (8 - h) + c, rest) ≡ option_map with_number (read_ipv6 text)
 unfolding read_ipv6
 ipv6_colons text a h b s two c t d rest e within other plain some e₁ room =
-    let found = read_segments 8 true text in
-    let is_h : h ≡ length found.0 = ap (λ (p : ℕ × ℕ × Bool × List ℕ). p.1) e in
-    let short : length found.0 ≢ 8 = λ eight. other (is_h ∙ eight) in
-    let no_ipv4 : found.1 ≡ false = ap (λ (p : ℕ × ℕ × Bool × List ℕ). p.2) (sym e) ∙ plain in
-    let left : s ≡ found.2 = ap (λ (p : ℕ × ℕ × Bool × List ℕ). p.3) e in
-    let tail = read_segments (7 - length found.0) true two in
-    let e₂ : (c, t, d, rest) ≡ numbered tail = e₁ ∙ ap (λ k. numbered (read_segments (7 - k) true two)) is_h in
-    let is_t : t ≡ length tail.0 = ap (λ (p : ℕ × ℕ × Bool × List ℕ). p.1) e₂ in
-    let is_c : c ≡ from_groups tail.0 = ap (λ (p : ℕ × ℕ × Bool × List ℕ). p.0) e₂ in
-    let is_a : a ≡ from_groups found.0 = ap (λ (p : ℕ × ℕ × Bool × List ℕ). p.0) e in
-    let is_rest : rest ≡ tail.2 = ap (λ (p : ℕ × ℕ × Bool × List ℕ). p.3) e₂ in
-    let fit : length found.0 + length tail.0 ≤ 8 = omega (arith, room, within, is_h, is_t) in
-    let number : a * 0x10000 ^ (8 - h) + c ≡ from_groups (found.0 ++ replicate (8 - length found.0 - length tail.0) 0 ++ tail.0) =
-    rw (is_a, is_h, is_c) (sym (number_elided found.0 tail.0 fit)) in
-    rw (ne_eqb (length found.0) 8 short, no_ipv4, tail_some found.0 found.2 two (rw left at some))
-    (ap₂ (λ n l. Some (n, l)) number is_rest)
+    grind (arith, found, number_elided, tail_some)

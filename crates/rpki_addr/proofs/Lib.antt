@@ -5,6 +5,7 @@ pub mod AddressFronts
 pub mod AddressLemmas
 pub mod AddressReading
 pub mod AddressReads
+pub mod Common
 pub mod GroupReading
 pub mod Masks
 pub mod PrefixNumbers

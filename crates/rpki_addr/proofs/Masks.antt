@@ -1,7 +1,5 @@
 -- On masks, which clear or set the last bits of a number.
-use Rattle.std.proofs.Common.{◌≡◌, ℕ, ◌+◌, ◌-◌, ◌*◌, ◌/◌, ◌%◌, ◌^◌, ◌<◌, ◌≤◌, ◌∙◌, ap, arith, bit_and, bit_or}
-use Rattle.std.proofs.Math.Nat.{pow-le-pow_right}
-use Rattle.std.proofs.lemmas.Nat.{pow_pos, and_mask, shr_split}
+use Rattle.rpki_addr.proofs.Common.{ap, arith, bit_and, bit_or, ℕ, ◌%◌, ◌*◌, ◌+◌, ◌-◌, ◌/◌, ◌<◌, ◌^◌, ◌∙◌, ◌≡◌, ◌≤◌, pow-le-pow_right, and_mask, pow_pos, shr_split}
 use Rattle.std.proofs.lemmas.Nat.Bits.{ones_shr, and_high_mask}
 use Rattle.std.specs.Int.Bits.{or_add_and}
 
@@ -23,7 +21,4 @@ set_host k n m mask =
 
 -- the mask `MAX >> len` of w bits has its last w - len bits set
 pub host_ones : (w len : ℕ) → len ≤ w → (2 ^ w - 1) / 2 ^ len + 1 ≡ 2 ^ (w - len)
-host_ones w len short =
-    let ones : (2 ^ w - 1) / 2 ^ len ≡ 2 ^ (w - len) - 1 = ones_shr w len short in
-    let some : 0 < 2 ^ (w - len) = pow_pos (w - len) in
-    omega (arith, ones, some)
+host_ones w len short = grind (arith, ones_shr, pow_pos)

@@ -1,28 +1,15 @@
 -- On the numbers of prefixes.
-use Rattle.std.proofs.Common.{◌≡◌, ℕ, suc, ◌+◌, ◌-◌, ◌*◌, ◌/◌, ◌%◌, ◌^◌, ◌<◌, ◌≤◌, arith, inl, inr}
-use Rattle.std.proofs.Math.Nat.{two-pow-succ, pow-le-pow_right}
-use Rattle.std.proofs.lemmas.Bool.{cases_order}
-use Rattle.std.proofs.lemmas.Nat.{pow_pos, pow_below, shr_split, mod_below, mod-mul-add}
+use Rattle.rpki_addr.proofs.Common.{arith, ℕ, ◌%◌, ◌*◌, ◌+◌, ◌-◌, ◌/◌, ◌<◌, ◌^◌, ◌≡◌, ◌≤◌, pow-le-pow_right, two-pow-succ, cases_order, mod-mul-add, mod_below, pow_below, pow_pos, shr_split}
 use Rattle.rpki_addr.specs.Bits.{cleared}
 use Rattle.rpki_addr.specs.Prefixes.{PrefixValue, IsPrefix, IsIn}
 
 -- clearing the bits behind its length leaves a prefix's first number as it is
 pub cleared_first : (w : ℕ) (p : PrefixValue) → IsPrefix w p → cleared w p.first p.len ≡ p.first
-cleared_first w p is =
-    let parts : p.first / 2 ^ (w - p.len) * 2 ^ (w - p.len) + p.first % 2 ^ (w - p.len) ≡ p.first = shr_split p.first (w - p.len) in
-    omega (arith, parts, is.aligned)
+cleared_first w p is = grind (arith, shr_split)
 
 -- a power of 2 is known by the power of 2 that is at most it and more than half of it
 pub power_is : (h k : ℕ) → 2 ^ h ≤ 2 ^ k → (h < k → 2 ^ k < 2 * 2 ^ h) → h ≡ k
-power_is h k low high = elim (cases_order h k) [
-  | inl same ↦ same
-  | inr (inl less) ↦ absurd (
-      let twice : 2 ^ suc h ≡ 2 ^ h + 2 ^ h = two-pow-succ h in
-      let most : 2 ^ suc h ≤ 2 ^ k = pow-le-pow_right {n = 2} (omega arith) less in
-      let below : 2 ^ k < 2 * 2 ^ h = high less in
-      omega (arith, twice, most, below))
-  | inr (inr more) ↦ absurd (let above : 2 ^ k < 2 ^ h = pow_below k h more in omega (arith, above, low))
-]
+power_is h k low high = grind (arith, cases_order, pow-le-pow_right, pow_below, two-pow-succ)
 
 -- clearing the bits behind a length gives a prefix of that length
 pub cleared_prefix : (w n len : ℕ) → len ≤ w → n < 2 ^ w → IsPrefix w (record { first = cleared w n len; len = len })
@@ -33,8 +20,4 @@ cleared_prefix w n len short below =
 
 -- which holds the number
 pub cleared_holds : (w n len : ℕ) → IsIn w (record { first = cleared w n len; len = len }) n
-cleared_holds w n len =
-    let some : 0 < 2 ^ (w - len) = pow_pos (w - len) in
-    let parts : n / 2 ^ (w - len) * 2 ^ (w - len) + n % 2 ^ (w - len) ≡ n = shr_split n (w - len) in
-    let rest : n % 2 ^ (w - len) < 2 ^ (w - len) = mod_below n (2 ^ (w - len)) some in
-    record { from = omega (arith, parts); upto = omega (arith, parts, rest) }
+cleared_holds w n len = grind (arith, mod_below, pow_pos, shr_split)

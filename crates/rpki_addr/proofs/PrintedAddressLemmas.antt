@@ -1,21 +1,13 @@
 -- What is printed of an IPv6 address is the one text that its groups ask for.
-use Rattle.std.proofs.Common.{◌≡◌, ℕ, zero, suc, ◌+◌, ◌%◌, ◌^◌, ◌<◌, ◌≤◌, inl, inr, Bool, true, false, cond, List, [], ◌∷◌, ◌++◌, length, map, flat_map, take, drop, replicate, codes, arith, refl, sym, ap, ap₂, ◌∙◌, lit<, add-one, one-add, zero-add, suc-add, length-take-le, le-leb, lt-ltb, le-ltb, eq-eqb, ne_eqb}
+use Rattle.rpki_addr.proofs.Common.{Bool, List, [], add-one, ap, ap₂, arith, codes, cond, drop, eq-eqb, false, flat_map, inl, inr, le-leb, le-ltb, length, length-take-le, lit<, lt-ltb, map, ne_eqb, one-add, refl, replicate, suc, suc-add, sym, take, true, zero, zero-add, ℕ, ◌%◌, ◌++◌, ◌+◌, ◌<◌, ◌^◌, ◌∙◌, ◌∷◌, ◌≡◌, ◌≤◌, div-div-eq-div-mul, cases_eq, cases_lt, lt-leb, append_cancel_left, div_below, AllBelowBase, hex, hex_groups_text, longest_zero_run, zero_run, bytes_eq, last_digits_below, number-last_digits, groups_of, last_digits, HasZeroRun, IsFirstLongestRun, IsMapped, IsPrintedIpv6, IsShortened, IsUnshortened, hex_text, ipv4_text, ipv6_text}
 use Rattle.std.specs.Bool.{Decides}
-use Rattle.std.specs.Prelude.{bytes_eq}
-use Rattle.std.specs.Int.Digits.{AllBelowBase}
 use Rattle.std.specs.Net.Addr.{octets_of as std_octets_of}
 use Rattle.std.specs.Net.Text as std
-use Rattle.std.specs.Net.Text.{hex, hex_groups_text, zero_run, longest_zero_run, ipv6_text as std_ipv6_text}
-use Rattle.std.proofs.Math.Nat.{div-div-eq-div-mul}
-use Rattle.std.proofs.lemmas.Bool.{cases_lt, cases_eq, lt-leb}
-use Rattle.std.proofs.lemmas.Nat.{div_below}
-use Rattle.std.proofs.lemmas.List.{append_cancel_left}
+use Rattle.std.specs.Net.Text.{ipv6_text as std_ipv6_text}
 use Rattle.std.proofs.lemmas.Slice.Eq.{bytes_eq-Decides}
-use Rattle.rpki_text.specs.Digits.{last_digits, groups_of}
-use Rattle.rpki_addr.specs.PrintedAddress.{ipv4_text, hex_text, groups_text, HasZeroRun, IsFirstLongestRun, IsShortened, IsUnshortened, IsMapped, IsPrintedIpv6, ipv6_text}
+use Rattle.rpki_addr.specs.PrintedAddress.{groups_text}
 use Rattle.rpki_addr.proofs.AddressLemmas.{dotted_is}
 use Rattle.rpki_text.proofs.CutLemmas.{same_rest}
-use Rattle.rpki_text.proofs.DigitLemmas.{number-last_digits, last_digits_below}
 
 -- a group in hexadecimal, as std writes it
 hex_is : (g : ℕ) → g < 0x10000 → hex g ≡ hex_text g
@@ -23,7 +15,8 @@ unfolding hex
 hex_is g small = grind (arith, cases_lt, lt-leb)
 
 -- groups with colons between them, as std writes them
-more_groups_are : (groups : List ℕ) → AllBelowBase 0x10000 groups → flat_map (λ t. codes ":" ++ hex t) groups ≡ flat_map (λ next. codes ":" ++ next) (map hex_text groups)
+more_groups_are : (groups : List ℕ) → AllBelowBase 0x10000 groups
+    → flat_map (λ t. codes ":" ++ hex t) groups ≡ flat_map (λ next. codes ":" ++ next) (map hex_text groups)
 more_groups_are [] h = refl
 more_groups_are (g ∷ groups) h = ap₂ (λ t u. 58 ∷ (t ++ u)) (hex_is g h.0) (more_groups_are groups h.1)
 
@@ -66,7 +59,8 @@ record Best (groups : List ℕ) (r : ℕ × ℕ) : Type 0 where
   first : (before after : List ℕ) → HasZeroRun groups before r.1 after → r.0 ≤ length before
 
 -- the run at the front is the best one, if no later run is longer
-here_best : (g : ℕ) (rest : List ℕ) (later : ℕ × ℕ) → Best rest later → later.1 ≤ zero_run (g ∷ rest) → Best (g ∷ rest) (0, zero_run (g ∷ rest))
+here_best : (g : ℕ) (rest : List ℕ) (later : ℕ × ℕ) → Best rest later → later.1 ≤ zero_run (g ∷ rest)
+    → Best (g ∷ rest) (0, zero_run (g ∷ rest))
 here_best g rest later best more = record {
   run = rw zero-add (zero_run_is (g ∷ rest));
   within = omega arith;
@@ -79,7 +73,8 @@ here_best g rest later best more = record {
     most (b ∷ before) m after e = let tail : rest ≡ before ++ (replicate m 0 ++ after) = cc in let h = best.longest before m after tail in omega (arith, h, more)
 
 -- and a later one is, if it is longer
-later_best : (g : ℕ) (rest : List ℕ) (later : ℕ × ℕ) → Best rest later → zero_run (g ∷ rest) < later.1 → Best (g ∷ rest) (later.0 + 1, later.1)
+later_best : (g : ℕ) (rest : List ℕ) (later : ℕ × ℕ) → Best rest later → zero_run (g ∷ rest) < later.1
+    → Best (g ∷ rest) (later.0 + 1, later.1)
 later_best g rest later best more = record {
   run = rw (add-one, suc-add) (ap (λ l. g ∷ l) best.run);
   within = (let h = best.within in omega arith);
@@ -114,7 +109,9 @@ longest_best (g ∷ rest) = elim (cases_lt (zero_run (g ∷ rest)) (longest_zero
 ]
 
 -- so it is the first longest run
-chosen_run : (groups : List ℕ) → IsFirstLongestRun groups (take (longest_zero_run groups).0 groups) (longest_zero_run groups).1 (drop ((longest_zero_run groups).0 + (longest_zero_run groups).1) groups)
+chosen_run : (groups : List ℕ)
+    → IsFirstLongestRun groups (take (longest_zero_run groups).0 groups) (longest_zero_run groups).1
+    (drop ((longest_zero_run groups).0 + (longest_zero_run groups).1) groups)
 chosen_run groups =
     let best = longest_best groups in
     let len = length-take-le (longest_zero_run groups).0 groups best.within in
@@ -125,7 +122,8 @@ chosen_run groups =
     }
 
 -- two or more zero groups are shortened
-shortened : (groups : List ℕ) → AllBelowBase 0x10000 groups → 1 < (longest_zero_run groups).1 → IsShortened groups (hex_groups_text groups)
+shortened : (groups : List ℕ) → AllBelowBase 0x10000 groups → 1 < (longest_zero_run groups).1
+    → IsShortened groups (hex_groups_text groups)
 unfolding hex_groups_text
 shortened groups below some =
     let front = take (longest_zero_run groups).0 groups in
@@ -140,7 +138,8 @@ shortened groups below some =
     }
 
 -- and fewer are not
-unshortened : (groups : List ℕ) → AllBelowBase 0x10000 groups → (longest_zero_run groups).1 ≤ 1 → IsUnshortened groups (hex_groups_text groups)
+unshortened : (groups : List ℕ) → AllBelowBase 0x10000 groups → (longest_zero_run groups).1 ≤ 1
+    → IsUnshortened groups (hex_groups_text groups)
 unfolding hex_groups_text
 unshortened groups below few = record {
   no_two = λ before m after e. (let h = (longest_best groups).longest before m after e in omega (arith, h, few));
@@ -163,7 +162,9 @@ pub unmapped_is : (n : ℕ) → n < 2 ^ 128 → ¬ IsMapped n → ipv6_text n �
 unfolding ipv6_text std_ipv6_text
 unmapped_is n small other = by_test (bytes_eq (take 6 (groups_of n)) (0 ∷ 0 ∷ 0 ∷ 0 ∷ 0 ∷ 0xffff ∷ [])) (bytes_eq-Decides (take 6 (groups_of n)) (0 ∷ 0 ∷ 0 ∷ 0 ∷ 0 ∷ 0xffff ∷ []))
   where
-    by_test : (b : Bool) → Decides b (take 6 (groups_of n) ≡ 0 ∷ 0 ∷ 0 ∷ 0 ∷ 0 ∷ 0xffff ∷ []) → cond b (codes "::ffff:" ++ std.ipv4_text (std_octets_of (drop 6 (groups_of n)))) (hex_groups_text (groups_of n)) ≡ hex_groups_text (groups_of n)
+    by_test : (b : Bool) → Decides b (take 6 (groups_of n) ≡ 0 ∷ 0 ∷ 0 ∷ 0 ∷ 0 ∷ 0xffff ∷ [])
+        → cond b (codes "::ffff:" ++ std.ipv4_text (std_octets_of (drop 6 (groups_of n))))
+        (hex_groups_text (groups_of n)) ≡ hex_groups_text (groups_of n)
     by_test true h = absurd (other (first_six n small (h.0 refl)))
     by_test false h = refl
 
@@ -175,7 +176,10 @@ IsPrintedIpv6-ipv6_text n small = by_test (bytes_eq (take 6 (groups_of n)) (0 �
     below : AllBelowBase 0x10000 (groups_of n)
     below = last_digits_below 0x10000 (lit< tt) 8 n
 
-    by_test : (b : Bool) → Decides b (take 6 (groups_of n) ≡ 0 ∷ 0 ∷ 0 ∷ 0 ∷ 0 ∷ 0xffff ∷ []) → IsPrintedIpv6 n (cond b (codes "::ffff:" ++ std.ipv4_text (std_octets_of (drop 6 (groups_of n)))) (hex_groups_text (groups_of n)))
+    by_test : (b : Bool) → Decides b (take 6 (groups_of n) ≡ 0 ∷ 0 ∷ 0 ∷ 0 ∷ 0 ∷ 0xffff ∷ [])
+        → IsPrintedIpv6 n
+        (cond b (codes "::ffff:" ++ std.ipv4_text (std_octets_of (drop 6 (groups_of n))))
+        (hex_groups_text (groups_of n)))
     by_test true h = inl (first_six n small (h.0 refl), ap (λ t. codes "::ffff:" ++ t) (last_bits n))
     by_test false h = inr (
       (λ mapped. let e = h.1 (six_first n mapped) in cc),

@@ -1,13 +1,13 @@
 -- A table that has what is wanted at each place, by a test that computes.
-use Rattle.std.proofs.Common.{◌≡◌, ℕ, zero, suc, ◌<◌, Bool, true, ◌&&◌, nat_eq, get_or, List, arith, inl, inr}
-use Rattle.std.proofs.lemmas.Bool.{cases_eq, and_parts, eqb-true}
+use Rattle.rpki_addr.proofs.Common.{Bool, List, arith, get_or, inl, inr, nat_eq, suc, true, zero, ℕ, ◌&&◌, ◌<◌, ◌≡◌, and_parts, cases_eq, eqb-true}
 
 -- the table has what f gives, below n
 unfoldable pub agrees_below : List ℕ → (ℕ → ℕ) → ℕ → Bool
 agrees_below table f zero = true
 agrees_below table f (suc n) = nat_eq (get_or table n 0) (f n) && agrees_below table f n
 
-pub agrees_at : (table : List ℕ) (f : ℕ → ℕ) (n : ℕ) → agrees_below table f n ≡ true → (b : ℕ) → b < n → get_or table b 0 ≡ f b
+pub agrees_at : (table : List ℕ) (f : ℕ → ℕ) (n : ℕ) → agrees_below table f n ≡ true → (b : ℕ) → b < n
+    → get_or table b 0 ≡ f b
 unfolding agrees_below
 agrees_at table f zero h b less = absurd (omega (arith, less))
 agrees_at table f (suc n) h b less =

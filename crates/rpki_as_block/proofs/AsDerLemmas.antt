@@ -1,26 +1,10 @@
 -- What is written of blocks of AS numbers.
-use Rattle.std.proofs.Common.{◌≡◌, ℕ, ◌^◌, ◌<◌, ◌≤◌, Bool, true, false, List, ◌++◌, Option, Some, Result, Ok, length, refl, ap, ◌∙◌, subst, sym, arith}
-use Rattle.std.proofs.lemmas.List.{length-append}
-use Rattle.rpki_der.specs.Der.{Spells, header, integer, sequence_value}
-use Rattle.rpki_der.specs.declared.cursor.Cursor.{Cursor}
-use Rattle.rpki_der.specs.declared.error.DerError.{DerError}
-use Rattle.rpki_der.specs.Reading.{IsReading, optional}
+use Rattle.rpki_as_block.proofs.Common.{Bool, List, Ok, Option, Result, Some, arith, false, length, refl, subst, sym, true, ℕ, ◌++◌, ◌<◌, ◌^◌, ◌≡◌, ◌≤◌, length-append, optional_back, as_number_octets, IsNew, lenient_is, same_reading, length-header, u32_is, value_is, IsReading, optional, HasAsNumbers, IsAsBlock, IsSetBlock, as_block_octets, as_range_content, as_block_has_octets, as_block_reading, as_block_modal, IsStrictBlock, as_block_at, as_block_by, as_bounds, new_as_block, AsBlock, Id, Range}
+use Rattle.rpki_der.specs.Der.{Spells, header, integer}
 use Rattle.rpki_der.specs.Views.{Takes, is_strict, left}
-use Rattle.rpki_der.proofs.Modes.{lenient_is}
+use Rattle.rpki_der.specs.declared.error.DerError.{DerError}
+use Rattle.rpki_der.specs.declared.cursor.Cursor.{Cursor}
 use Rattle.rpki_der.proofs.Contents.{length-integer}
-use Rattle.rpki_der.proofs.Readings.{same_reading}
-use Rattle.rpki_der.proofs.Written.{length-header, u32_is, value_is}
-use Rattle.rpki_base.specs.AsnDer.{as_number_octets}
-use Rattle.rpki_base.proofs.DerCursors.{optional_back}
-use Rattle.rpki_chains.specs.Sets.{IsNew}
-use Rattle.rpki_as_block.specs.AsDer.{HasAsNumbers, IsAsBlock, IsSetBlock, as_block_octets, as_range_content}
-use Rattle.rpki_as_block.specs.AsDerLaws.{as_block_has_octets, as_block_reading}
-use Rattle.rpki_as_block.specs.AsDerModes.{IsStrictBlock}
-use Rattle.rpki_as_block.specs.AsDerModeLaws.{as_block_modal}
-use Rattle.rpki_as_block.specs.AsDerReading.{as_block_at, as_block_by}
-use Rattle.rpki_as_block.specs.Blocks.{as_bounds, new_as_block}
-use Rattle.rpki_as_block.specs.declared.block.AsBlock.{AsBlock}
-use Rattle.rpki_as_block.specs.declared.block.AsBlock.TheVariants.{Id, Range}
 
 -- an AS number has seven octets at most
 pub length-number : (n : ℕ) → n < 2 ^ 32 → length (as_number_octets n) ≤ 7
@@ -31,7 +15,8 @@ pub length-content : (b : ℕ × ℕ) → b.0 ≤ b.1 → b.1 < 2 ^ 32 → lengt
 length-content b ordered lt = omega (arith, length-number b.0 (omega arith), length-number b.1 lt, length-append (as_number_octets b.0) (as_number_octets b.1))
 
 -- what is written of a block is the block
-pub block_written : (x : AsBlock) → (as_bounds x).0 ≤ (as_bounds x).1 → (as_bounds x).1 < 2 ^ 32 → IsAsBlock (as_block_octets x) x
+pub block_written : (x : AsBlock) → (as_bounds x).0 ≤ (as_bounds x).1 → (as_bounds x).1 < 2 ^ 32
+    → IsAsBlock (as_block_octets x) x
 block_written (Id n) ordered lt = u32_is n lt
 block_written (Range r) ordered lt =
     let short = length-content (r.min, r.max) ordered lt in
@@ -41,23 +26,16 @@ block_written (Range r) ordered lt =
 
 -- octets that are a block are those that are written of it
 pub block_spelled : (bytes : List ℕ) (x : AsBlock) → IsAsBlock bytes x → bytes ≡ as_block_octets x
-block_spelled bytes (Id n) is = is.1.spelled
-block_spelled bytes (Range r) (ordered, (content, is, (second, front, last))) =
-    let one : front.0 ≡ as_number_octets r.min = front.1.1.spelled in
-    let two : second ≡ as_number_octets r.max = last.1.spelled in
-    let whole : content ≡ as_range_content (r.min, r.max) = front.2 ∙ ap (λ (t : List ℕ). t ++ second) one ∙ ap (λ (t : List ℕ). as_number_octets r.min ++ t) two in
-    is.spelled ∙ ap sequence_value whole
+block_spelled bytes x is = grind (arith)
 
 -- its numbers
-pub block_numbers : (bytes : List ℕ) (x : AsBlock) → IsAsBlock bytes x → ((as_bounds x).0 ≤ (as_bounds x).1) × ((as_bounds x).1 < 2 ^ 32)
-block_numbers bytes (Id n) is = (omega arith, is.0)
-block_numbers bytes (Range r) (ordered, (content, is, (second, front, last))) = (ordered, last.0)
+pub block_numbers : (bytes : List ℕ) (x : AsBlock) → IsAsBlock bytes x
+    → ((as_bounds x).0 ≤ (as_bounds x).1) × ((as_bounds x).1 < 2 ^ 32)
+block_numbers bytes x is = grind (arith)
 
 -- strictly, these octets are found, of the blocks that sets have
 pub set_block_is : (bytes : List ℕ) (x : AsBlock) → IsStrictBlock bytes x → Spells IsSetBlock as_block_octets bytes x
-set_block_is bytes x (is, new_form) =
-    let numbers = block_numbers bytes x is in
-    (record { ordered = numbers.0; below = numbers.1; new_form = new_form }, block_spelled bytes x is)
+set_block_is bytes x h = grind (arith, block_numbers, block_spelled)
 
 pub is_set_block : (bytes : List ℕ) (x : AsBlock) → Spells IsSetBlock as_block_octets bytes x → IsStrictBlock bytes x
 is_set_block bytes x (is, spelled) = (subst (λ (t : List ℕ). IsAsBlock t x) (sym spelled) (block_written x is.ordered is.below), is.new_form)
@@ -66,9 +44,10 @@ pub set_block_reading : IsReading (Spells IsSetBlock as_block_octets) (as_block_
 set_block_reading = same_reading IsStrictBlock (Spells IsSetBlock as_block_octets) (as_block_by true) (λ bytes x fits is. set_block_is bytes x is) is_set_block as_block_modal.tight
 
 -- what was written of a block is read as the block
-pub block_back : (old new : Cursor) (result : Result (Option AsBlock) DerError) → Takes (λ block. block) old new result (optional (as_block_by (is_strict old)))
-    → (block : AsBlock) (rest : List ℕ) → HasAsNumbers block → (is_strict old ≡ true → IsNew as_bounds new_as_block block) → left old ≡ as_block_octets block ++ rest
-    → (result ≡ Ok (Some block)) × (left new ≡ rest)
+pub block_back : (old new : Cursor) (result : Result (Option AsBlock) DerError)
+    → Takes (λ block. block) old new result (optional (as_block_by (is_strict old))) → (block : AsBlock) (rest : List ℕ)
+    → HasAsNumbers block → (is_strict old ≡ true → IsNew as_bounds new_as_block block)
+    → left old ≡ as_block_octets block ++ rest → (result ≡ Ok (Some block)) × (left new ≡ rest)
 block_back old new result took block rest numbers form at = by_mode (is_strict old) took form
   where
     written : IsAsBlock (as_block_octets block) block
@@ -77,7 +56,8 @@ block_back old new result took block rest numbers form at = by_mode (is_strict o
     some : 0 < length (as_block_octets block)
     some = as_block_has_octets (as_block_octets block) block written
 
-    by_mode : (strict : Bool) → Takes (λ block. block) old new result (optional (as_block_by strict)) → (strict ≡ true → IsNew as_bounds new_as_block block) → (result ≡ Ok (Some block)) × (left new ≡ rest)
+    by_mode : (strict : Bool) → Takes (λ block. block) old new result (optional (as_block_by strict))
+        → (strict ≡ true → IsNew as_bounds new_as_block block) → (result ≡ Ok (Some block)) × (left new ≡ rest)
     by_mode true took form = optional_back IsStrictBlock (as_block_by true) old new result as_block_modal.tight took (as_block_octets block) block rest some (written, form refl) at
     by_mode false took form =
         optional_back IsAsBlock as_block_at old new result as_block_reading (subst (λ r. Takes (λ block. block) old new result (optional r)) (lenient_is IsStrictBlock as_block_at as_block_by as_block_modal) took) (as_block_octets block) block rest some written at

@@ -1,16 +1,8 @@
 -- A text writes one block at most, or has one fault; what is printed of a block writes it.
-use Rattle.std.proofs.Common.{◌≡◌, ℕ, suc, ◌<◌, ◌≤◌, ◌^◌, List, [], ◌∷◌, length, get_or, Result, Ok, Err, MatchResult, arith, refl, sym, ap, subst, zero}
-use Rattle.std.specs.Int.{IsInRange}
-use Rattle.std.specs.List.{AllByRecursion}
+use Rattle.rpki_as_block.proofs.Common.{Err, List, MatchResult, Ok, Result, [], ap, arith, get_or, length, refl, subst, suc, sym, zero, ℕ, ◌<◌, ◌^◌, ◌∷◌, ◌≡◌, ◌≤◌, IsInRange, AllByRecursion, range_bounds, HasNo, dash, HasAsBlockFault, IsAsBlockText, IsAsRangeBetween, NoRange, ReadsAsBlock, as_block_text, as_bounds, AsBlock, Id, Range}
 use Rattle.rpki_base.specs.AsnText.{asn_text}
-use Rattle.rpki_text.specs.Cuts.{HasNo, dash}
 use Rattle.rpki_base.proofs.AsnLemmas.{IsAsnText-asn_text, IsAsnText-one, asn_text_bytes}
 use Rattle.rpki_text.proofs.CutLemmas.{none_around, around_at}
-use Rattle.rpki_chains.specs.Ranges.{range_bounds}
-use Rattle.rpki_as_block.specs.Blocks.{as_bounds}
-use Rattle.rpki_as_block.specs.BlockText.{IsAsRangeBetween, NoRange, IsAsBlockText, HasAsBlockFault, as_block_text, ReadsAsBlock}
-use Rattle.rpki_as_block.specs.declared.block.AsBlock.{AsBlock}
-use Rattle.rpki_as_block.specs.declared.block.AsBlock.TheVariants.{Id, Range}
 use Rattle.rpki_as_block.specs.declared.error.FromStrError.{FromStrError}
 use Rattle.rpki_as_block.specs.declared.error.FromStrError.TheVariants.{BadAsn, BadRange, BadBlocks}
 
@@ -36,25 +28,21 @@ block_apart text (Range r) BadBlocks h f = absurd f
 
 -- no text has two faults
 pub same_block_fault : (text : List ℕ) (d e : FromStrError) → HasAsBlockFault text d → HasAsBlockFault text e → d ≡ e
-same_block_fault text BadAsn BadAsn f g = refl
-same_block_fault text BadAsn BadRange f g = absurd (none_around dash text _ f.0 g)
-same_block_fault text BadRange BadAsn f g = absurd (none_around dash text _ g.0 f)
-same_block_fault text BadRange BadRange f g = refl
-same_block_fault text BadBlocks e f g = absurd f
-same_block_fault text BadAsn BadBlocks f g = absurd g
-same_block_fault text BadRange BadBlocks f g = absurd g
+same_block_fault text d e f g = grind (arith, none_around)
 
 -- what is printed of a number has no dash
 no_dash : (bs : List ℕ) → AllByRecursion (IsInRange 48 90) bs → HasNo dash bs
 no_dash bs h i small e = omega (arith, (byte_at bs i h small).0, e)
   where
-    byte_at : (bs : List ℕ) (i : ℕ) → AllByRecursion (IsInRange 48 90) bs → i < length bs → IsInRange 48 90 (get_or bs i 0)
+    byte_at : (bs : List ℕ) (i : ℕ) → AllByRecursion (IsInRange 48 90) bs → i < length bs
+        → IsInRange 48 90 (get_or bs i 0)
     byte_at [] i h small = absurd (omega arith)
     byte_at (b ∷ bs) zero h small = h.0
     byte_at (b ∷ bs) (suc i) h small = byte_at bs i h.1 (omega arith)
 
 -- what is printed of a block writes it
-pub IsAsBlockText-block_text : (b : AsBlock) → (as_bounds b).0 ≤ (as_bounds b).1 → (as_bounds b).1 < 2 ^ 32 → IsAsBlockText (as_block_text b) b
+pub IsAsBlockText-block_text : (b : AsBlock) → (as_bounds b).0 ≤ (as_bounds b).1 → (as_bounds b).1 < 2 ^ 32
+    → IsAsBlockText (as_block_text b) b
 IsAsBlockText-block_text (Id n) ordered small = (no_dash (asn_text n) (asn_text_bytes n small), IsAsnText-asn_text n small)
 IsAsBlockText-block_text (Range r) ordered small =
     let low : r.min < 2 ^ 32 = omega arith in
@@ -70,7 +58,8 @@ IsAsBlockText-block_text (Range r) ordered small =
     }
 
 -- a reader that finds what the text has meets the whole contract
-pub reads_block : (text : List ℕ) (r : Result AsBlock FromStrError) → MatchResult r (IsAsBlockText text) (HasAsBlockFault text) → ReadsAsBlock text r
+pub reads_block : (text : List ℕ) (r : Result AsBlock FromStrError)
+    → MatchResult r (IsAsBlockText text) (HasAsBlockFault text) → ReadsAsBlock text r
 reads_block text (Ok b) found = record {
   exact = record {
     found = found;

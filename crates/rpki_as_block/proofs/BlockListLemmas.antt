@@ -1,13 +1,8 @@
 -- Lists of AS blocks, read element by element from the front of what is left.
-use Rattle.std.proofs.Common.{◌≡◌, ℕ, ◌+◌, ◌-◌, ◌<◌, ◌≤◌, List, [], ◌∷◌, ◌++◌, length, take, drop, get_or, Ok, Option, Some, None, ◌⊎◌, arith, refl, sym, ap, ◌∙◌, subst, length-drop, inl, inr}
-use Rattle.std.proofs.lemmas.List.{length-take, drop_more, take-append-drop, append_assoc, append-nil}
-use Rattle.std.proofs.Math.Seq.{drop-length}
+use Rattle.rpki_as_block.proofs.Common.{List, None, Ok, Option, Some, [], ap, arith, drop, get_or, inl, inr, length, length-drop, refl, subst, sym, take, ℕ, ◌++◌, ◌+◌, ◌-◌, ◌<◌, ◌∙◌, ◌∷◌, ◌≡◌, ◌≤◌, ◌⊎◌, drop-length, append-nil, append_assoc, drop_more, length-take, take-append-drop, AreAsBlocksFrom, IsAfterSpace, IsAsBlockAt, IsAsBlockBetween, StandsAt, ReadsAsBlock, AsBlock}
 use Rattle.rpki_text.specs.Lists.{elements, HaveValues}
 use Rattle.rpki_text.proofs.ElementLemmas.{IsPartOf, elements_first, elements_last}
 use Rattle.rpki_text.proofs.PrintedLemmas.{IsElement}
-use Rattle.rpki_as_block.specs.BlockText.{ReadsAsBlock}
-use Rattle.rpki_as_block.specs.BlockPlaces.{AreAsBlocksFrom, IsAfterSpace, IsAsBlockAt, IsAsBlockBetween, StandsAt}
-use Rattle.rpki_as_block.specs.declared.block.AsBlock.{AsBlock}
 use Rattle.rpki_as_block.proofs.BlockLemmas.{reads_block}
 use Rattle.rpki_as_block.proofs.BlockPlaceLemmas.{drop_later}
 
@@ -19,18 +14,13 @@ Have = HaveValues (λ t b. ReadsAsBlock t (Ok b))
 pub record IsSoFar (start : ℕ) (text : List ℕ) (blocks : List AsBlock) : Type 0 where
   pub within : start ≤ length text
   pub completed : (more : List AsBlock) → Have (elements (drop start text)) more → Have (elements text) (blocks ++ more)
-  pub usual : (all : List AsBlock) → AreAsBlocksFrom 0 text all → (rest : List AsBlock) × AreAsBlocksFrom start text rest
-
--- at the start nothing is read
-pub none_so_far : (text : List ℕ) → IsSoFar 0 text []
-none_so_far text = record { within = omega arith; completed = λ more h. h; usual = λ all h. (all, h) }
+  pub usual : (all : List AsBlock) → AreAsBlocksFrom 0 text all
+      → (rest : List AsBlock) × AreAsBlocksFrom start text rest
 
 -- one place alone is behind a space, if one stands there
-same_place : (start first other : ℕ) (text : List ℕ) → IsAfterSpace start first text → IsAfterSpace start other text → first ≡ other
-same_place start first other text (inl a) (inl b) = a.0 ∙ sym b.0
-same_place start first other text (inl a) (inr b) = absurd (a.1 b.1)
-same_place start first other text (inr a) (inl b) = absurd (b.1 a.1)
-same_place start first other text (inr a) (inr b) = a.0 ∙ sym b.0
+same_place : (start first other : ℕ) (text : List ℕ) → IsAfterSpace start first text → IsAfterSpace start other text
+    → first ≡ other
+same_place start first other text h h2 = grind (arith)
 
 -- it is the block of the usual form that stands there, and ends there
 abbrev pub IsAlone : ℕ → List ℕ → AsBlock → ℕ → Type 0
@@ -46,13 +36,16 @@ abbrev pub GoesOn : ℕ → List ℕ → List AsBlock → Type 0
 GoesOn end text more = ((end ≡ length text) × (more ≡ [])) ⊎ (StandsAt 44 end text × AreAsBlocksFrom (end + 1) text more)
 
 -- a list of the usual form begins with a block of it
-pub first_block : (start first : ℕ) (text : List ℕ) (rest : List AsBlock) → IsAfterSpace start first text → AreAsBlocksFrom start text rest → (b : AsBlock) × (end : ℕ) × (more : List AsBlock) × IsAsBlockAt first end text b × GoesOn end text more
+pub first_block : (start first : ℕ) (text : List ℕ) (rest : List AsBlock) → IsAfterSpace start first text
+    → AreAsBlocksFrom start text rest
+    → (b : AsBlock) × (end : ℕ) × (more : List AsBlock) × IsAsBlockAt first end text b × GoesOn end text more
 first_block start first text [] after h = absurd h
-first_block start first text (b ∷ more) after (place, end, there, block, on) =
-    (b, end, more, subst (λ k. IsAsBlockAt k end text b) (same_place start place first text there after) block, on)
+first_block start first text (b ∷ more) after (place, end, there, block, on) = grind (arith, same_place)
 
 -- it goes on no further where neither the text's end nor a comma stands behind that block
-pub goes_no_further : (start first end : ℕ) (text : List ℕ) (b : AsBlock) (rest : List AsBlock) → IsAfterSpace start first text → IsAlone first text b end → ¬ (end ≡ length text) → ¬ (get_or text end 0 ≡ 44) → ¬ AreAsBlocksFrom start text rest
+pub goes_no_further : (start first end : ℕ) (text : List ℕ) (b : AsBlock) (rest : List AsBlock)
+    → IsAfterSpace start first text → IsAlone first text b end → ¬ (end ≡ length text) → ¬ (get_or text end 0 ≡ 44)
+    → ¬ AreAsBlocksFrom start text rest
 goes_no_further start first end text b rest after alone not_last not_comma h =
     let (other, place, more, there, on) = first_block start first text rest after h in
     let is : end ≡ place = ap end_of (alone other place there) in
@@ -63,9 +56,6 @@ goes_no_further start first end text b rest after alone not_last not_comma h =
 
 -- a block's text, which is an element
 module _ (start first end : ℕ) (text : List ℕ) (b : AsBlock) (after : IsAfterSpace start first text) (h : IsAsBlockBetween first end text b) where
-  element : List ℕ
-  element = take (end - first) (drop first text)
-
   is_element : IsElement (take (end - first) (drop first text))
   is_element = record { shown = h.shown; some = omega (arith, h.in_order, h.within, length-take (end - first) (drop first text), length-drop first text) }
 
@@ -89,16 +79,14 @@ module _ (start first end : ℕ) (text : List ℕ) (b : AsBlock) (after : IsAfte
   value = reads_block _ (Ok b) h.block
 
   -- a list of the usual form goes on behind it
-  left_behind : end < length text → IsAlone first text b end → (other : AsBlock) × (place : ℕ) × (more : List AsBlock) × IsAsBlockAt first place text other × GoesOn place text more → (rest : List AsBlock) × AreAsBlocksFrom (end + 1) text rest
-  left_behind more alone (other, place, rest, block, on) =
-      let is : end ≡ place = ap end_of (alone other place block) in
-      elim on [
-        | inl k ↦ absurd (omega (arith, more, is, k.0))
-        | inr k ↦ (rest, subst (λ e. AreAsBlocksFrom (e + 1) text rest) (sym is) k.1)
-      ]
+  left_behind : end < length text → IsAlone first text b end
+      → (other : AsBlock) × (place : ℕ) × (more : List AsBlock) × IsAsBlockAt first place text other
+      × GoesOn place text more → (rest : List AsBlock) × AreAsBlocksFrom (end + 1) text rest
+  left_behind more alone h = grind (arith)
 
   -- one that a comma follows leaves what is behind the comma, where each block of the usual form there is it
-  pub one_more : IsAlone first text b end → (blocks : List AsBlock) → IsSoFar start text blocks → end < length text → get_or text end 0 ≡ 44 → IsSoFar (end + 1) text (blocks ++ b ∷ [])
+  pub one_more : IsAlone first text b end → (blocks : List AsBlock) → IsSoFar start text blocks → end < length text
+      → get_or text end 0 ≡ 44 → IsSoFar (end + 1) text (blocks ++ b ∷ [])
   one_more alone blocks before more comma_is =
       let shape : drop start text ≡ part.0 ++ 44 ∷ drop (end + 1) text = part.2 ∙ ap (λ t. part.0 ++ t) (drop_more text end 0 more ∙ ap (λ c. c ∷ drop (end + 1) text) comma_is) in
       let these : elements (drop start text) ≡ take (end - first) (drop first text) ∷ elements (drop (end + 1) text) = ap elements shape ∙ elements_first part.0 _ (drop (end + 1) text) part.1 is_element in
@@ -109,7 +97,8 @@ module _ (start first end : ℕ) (text : List ℕ) (b : AsBlock) (after : IsAfte
       }
 
   -- and one that ends the text is the last
-  pub all_read : (blocks : List AsBlock) → IsSoFar start text blocks → end ≡ length text → Have (elements text) (blocks ++ b ∷ [])
+  pub all_read : (blocks : List AsBlock) → IsSoFar start text blocks → end ≡ length text
+      → Have (elements text) (blocks ++ b ∷ [])
   all_read blocks before last =
       let nothing : drop end text ≡ [] = ap (λ k. drop k text) last ∙ drop-length text in
       let shape : drop start text ≡ part.0 = part.2 ∙ (ap (λ t. part.0 ++ t) nothing ∙ append-nil part.0) in

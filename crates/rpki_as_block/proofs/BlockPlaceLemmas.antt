@@ -1,16 +1,6 @@
 -- AS blocks at a place among bytes: one number, or two round a dash.
-use Rattle.std.proofs.Common.{◌≡◌, ℕ, suc, zero, ◌+◌, ◌-◌, ◌<◌, ◌≤◌, List, [], ◌∷◌, ◌++◌, length, take, drop, get_or, Option, Some, None, Ok, arith, sym, ap, ◌∙◌, subst, length-drop}
-use Rattle.std.specs.Int.{IsInRange}
-use Rattle.std.specs.List.{AllByRecursion}
-use Rattle.std.proofs.lemmas.List.{length-take, drop_more, drop-drop, take-append-drop}
-use Rattle.std.proofs.Math.Seq.{take-length, take-append-add}
-use Rattle.rpki_text.specs.Cuts.{HasNo, dash}
+use Rattle.rpki_as_block.proofs.Common.{List, None, Ok, Option, Some, [], ap, arith, drop, get_or, length, length-drop, subst, suc, sym, take, zero, ℕ, ◌++◌, ◌+◌, ◌-◌, ◌<◌, ◌∙◌, ◌∷◌, ◌≡◌, ◌≤◌, take-append-add, take-length, drop-drop, drop_more, length-take, take-append-drop, IsInRange, AllByRecursion, RangeValue, HasNo, dash, IsAsBlockAt, IsAsBlockBetween, StandsAt, IsAsBlockText, ReadsAsBlock, AsBlock, Id, Range}
 use Rattle.rpki_base.specs.AsnPlaces.{IsAsnAt, IsAsnBetween}
-use Rattle.rpki_as_block.specs.BlockText.{IsAsBlockText, ReadsAsBlock}
-use Rattle.rpki_as_block.specs.BlockPlaces.{IsAsBlockAt, IsAsBlockBetween, StandsAt}
-use Rattle.rpki_as_block.specs.declared.block.AsBlock.{AsBlock}
-use Rattle.rpki_as_block.specs.declared.block.AsBlock.TheVariants.{Id, Range}
-use Rattle.rpki_chains.specs.Ranges.{RangeValue}
 use Rattle.rpki_as_block.proofs.BlockLemmas.{reads_block}
 
 -- letters and digits aren't dashes
@@ -25,25 +15,26 @@ shown [] h = tt
 shown (b ∷ bs) h = ((omega (arith, h.0.0), omega (arith, h.0.1)), shown bs h.1)
 
 -- as are two such texts with the dash between them
-shown_both : (xs ys : List ℕ) → AllByRecursion (IsInRange 48 122) xs → AllByRecursion (IsInRange 48 122) ys → AllByRecursion (IsInRange 45 126) (xs ++ 45 ∷ ys)
+shown_both : (xs ys : List ℕ) → AllByRecursion (IsInRange 48 122) xs → AllByRecursion (IsInRange 48 122) ys
+    → AllByRecursion (IsInRange 45 126) (xs ++ 45 ∷ ys)
 shown_both [] ys h k = ((omega arith, omega arith), shown ys k)
 shown_both (x ∷ xs) ys h k = ((omega (arith, h.0.0), omega (arith, h.0.1)), shown_both xs ys h.1 k)
 
 -- one number is a block
-pub id_between : (start end : ℕ) (text : List ℕ) (n : ℕ) → IsAsnBetween start end text n → IsAsBlockBetween start end text (Id n)
-id_between start end text n h = record {
-  in_order = h.in_order;
-  within = h.within;
-  block = (no_dash _ h.bytes, h.number);
-  shown = shown _ h.bytes;
-}
+pub id_between : (start end : ℕ) (text : List ℕ) (n : ℕ) → IsAsnBetween start end text n
+    → IsAsBlockBetween start end text (Id n)
+id_between start end text n h = grind (arith, no_dash, shown)
 
 -- the rest behind a place is that behind a later one
-pub drop_later : {A : Type 0} (start end : ℕ) (xs : List A) → start ≤ end → drop (end - start) (drop start xs) ≡ drop end xs
+pub drop_later : {A : Type 0} (start end : ℕ) (xs : List A) → start ≤ end
+    → drop (end - start) (drop start xs) ≡ drop end xs
 drop_later start end xs h = drop-drop (end - start) start xs ∙ ap (λ k. drop k xs) (omega (arith, h))
 
 -- the bytes to a later place are those to the byte between, this byte, and those behind it
-cut_between : (start middle end : ℕ) (text : List ℕ) (b : ℕ) → start ≤ middle → middle < end → end ≤ length text → get_or text middle 0 ≡ b → take (end - start) (drop start text) ≡ take (middle - start) (drop start text) ++ b ∷ take (end - (middle + 1)) (drop (middle + 1) text)
+cut_between : (start middle end : ℕ) (text : List ℕ) (b : ℕ) → start ≤ middle → middle < end → end ≤ length text
+    → get_or text middle 0 ≡ b
+    → take (end - start) (drop start text)
+    ≡ take (middle - start) (drop start text) ++ b ∷ take (end - (middle + 1)) (drop (middle + 1) text)
 cut_between start middle end text b first last within is =
     let left = take (middle - start) (drop start text) in
     let count : length left ≡ middle - start = omega (arith, length-take (middle - start) (drop start text), length-drop start text) in
@@ -55,20 +46,10 @@ cut_between start middle end text b first last within is =
     ∙ take-append-add left (b ∷ drop (middle + 1) text) (suc (end - (middle + 1)))
 
 -- and two round a dash are one too
-pub range_between : (start middle end : ℕ) (text : List ℕ) (r : RangeValue) → IsAsnBetween start middle text r.min → get_or text middle 0 ≡ 45 → IsAsnBetween (middle + 1) end text r.max → r.min ≤ r.max → IsAsBlockBetween start end text (Range r)
-range_between start middle end text r h dash_is k ordered =
-    let shape = cut_between start middle end text 45 (omega (arith, h.in_order)) (omega (arith, k.in_order)) k.within dash_is in
-    record {
-      in_order = omega (arith, h.in_order, k.in_order);
-      within = k.within;
-      block = record {
-        left = take (middle - start) (drop start text);
-        right = take (end - (middle + 1)) (drop (middle + 1) text);
-        cut = record { split = shape; first = no_dash _ h.bytes };
-        holds = record { min_text = h.number; max_text = k.number; in_order = ordered };
-      };
-      shown = rw shape (shown_both _ _ h.bytes k.bytes);
-    }
+pub range_between : (start middle end : ℕ) (text : List ℕ) (r : RangeValue) → IsAsnBetween start middle text r.min
+    → get_or text middle 0 ≡ 45 → IsAsnBetween (middle + 1) end text r.max → r.min ≤ r.max
+    → IsAsBlockBetween start end text (Range r)
+range_between start middle end text r h dash_is k ordered = grind (arith, cut_between, no_dash, shown, shown_both)
 
 -- the number and the place of what is found
 abbrev number_of : Option (ℕ × ℕ) → ℕ
@@ -95,17 +76,21 @@ abbrev pub IsOneNumber : ℕ → List ℕ → Option (ℕ × ℕ) → Type 0
 IsOneNumber start text found = (n end : ℕ) → IsAsnAt start end text n → found ≡ Some (n, end)
 
 -- a block of the usual form begins with one
-pub first_number : (start end : ℕ) (text : List ℕ) (b : AsBlock) → IsAsBlockAt start end text b → (n middle : ℕ) × IsAsnAt start middle text n
-first_number start end text (Id n) h = (n, end, h.0)
-first_number start end text (Range r) h = (r.min, h.0, h.1)
+pub first_number : (start end : ℕ) (text : List ℕ) (b : AsBlock) → IsAsBlockAt start end text b
+    → (n middle : ℕ) × IsAsnAt start middle text n
+first_number start end text b h = grind (arith)
 
 -- without a dash behind it, it is the block
-pub id_alone : (start min dash_at : ℕ) (text : List ℕ) → IsOneNumber start text (Some (min, dash_at)) → ¬ StandsAt 45 dash_at text → (b : AsBlock) (end : ℕ) → IsAsBlockAt start end text b → ◌≡◌ {A = Option (AsBlock × ℕ)} (Some (Id min, dash_at)) (Some (b, end))
+pub id_alone : (start min dash_at : ℕ) (text : List ℕ) → IsOneNumber start text (Some (min, dash_at))
+    → ¬ StandsAt 45 dash_at text → (b : AsBlock) (end : ℕ) → IsAsBlockAt start end text b
+    → ◌≡◌ {A = Option (AsBlock × ℕ)} (Some (Id min, dash_at)) (Some (b, end))
 id_alone start min dash_at text one alone (Id n) end h = ap id_found (one n end h.0)
 id_alone start min dash_at text one alone (Range r) end h = absurd (alone (subst (λ k. StandsAt 45 k text) (sym (ap place_of (one r.min h.0 h.1))) h.2))
 
 -- with one, a second number follows
-pub two_numbers : (start min dash_at : ℕ) (text : List ℕ) → IsOneNumber start text (Some (min, dash_at)) → StandsAt 45 dash_at text → (b : AsBlock) (end : ℕ) → IsAsBlockAt start end text b → (max : ℕ) × (b ≡ Range (record { min = min; max = max })) × IsAsnAt (dash_at + 1) end text max × (min ≤ max)
+pub two_numbers : (start min dash_at : ℕ) (text : List ℕ) → IsOneNumber start text (Some (min, dash_at))
+    → StandsAt 45 dash_at text → (b : AsBlock) (end : ℕ) → IsAsBlockAt start end text b
+    → (max : ℕ) × (b ≡ Range (record { min = min; max = max })) × IsAsnAt (dash_at + 1) end text max × (min ≤ max)
 two_numbers start min dash_at text one dash_there (Id n) end h = absurd (h.1 (subst (λ k. StandsAt 45 k text) (ap place_of (one n end h.0)) dash_there))
 two_numbers start min dash_at text one dash_there (Range r) end h =
     let found = one r.min h.0 h.1 in
@@ -114,20 +99,26 @@ two_numbers start min dash_at text one dash_there (Range r) end h =
     (r.max, ap (λ (m : ℕ). Range (record { min = m; max = r.max })) (sym same), subst (λ (k : ℕ). IsAsnAt (k + 1) end text r.max) (sym place) h.3, omega (arith, same, h.4))
 
 -- which ends the block
-pub range_alone : (start min dash_at max last : ℕ) (text : List ℕ) → IsOneNumber start text (Some (min, dash_at)) → StandsAt 45 dash_at text → IsOneNumber (dash_at + 1) text (Some (max, last)) → (b : AsBlock) (end : ℕ) → IsAsBlockAt start end text b → ◌≡◌ {A = Option (AsBlock × ℕ)} (Some (Range (record { min = min; max = max }), last)) (Some (b, end))
+pub range_alone : (start min dash_at max last : ℕ) (text : List ℕ) → IsOneNumber start text (Some (min, dash_at))
+    → StandsAt 45 dash_at text → IsOneNumber (dash_at + 1) text (Some (max, last)) → (b : AsBlock) (end : ℕ)
+    → IsAsBlockAt start end text b
+    → ◌≡◌ {A = Option (AsBlock × ℕ)} (Some (Range (record { min = min; max = max }), last)) (Some (b, end))
 range_alone start min dash_at max last text one dash_there two b end h =
     let (other, is, there, ordered) = two_numbers start min dash_at text one dash_there b end h in
     ap (range_found min) (two other end there) ∙ ap (found_to end) (sym is)
 
 -- and is not less than the first
-pub in_order_there : (start min dash_at max last : ℕ) (text : List ℕ) → IsOneNumber start text (Some (min, dash_at)) → StandsAt 45 dash_at text → IsOneNumber (dash_at + 1) text (Some (max, last)) → (b : AsBlock) (end : ℕ) → IsAsBlockAt start end text b → min ≤ max
+pub in_order_there : (start min dash_at max last : ℕ) (text : List ℕ) → IsOneNumber start text (Some (min, dash_at))
+    → StandsAt 45 dash_at text → IsOneNumber (dash_at + 1) text (Some (max, last)) → (b : AsBlock) (end : ℕ)
+    → IsAsBlockAt start end text b → min ≤ max
 in_order_there start min dash_at max last text one dash_there two b end h =
     let (other, is, there, ordered) = two_numbers start min dash_at text one dash_there b end h in
     let same : max ≡ other = ap number_of (two other end there) in
     omega (arith, same, ordered)
 
 -- a block that takes the whole text is the answer
-pub reads_whole : (text bytes : List ℕ) (b : AsBlock) (end : ℕ) → bytes ≡ text → IsAsBlockBetween 0 end bytes b → end ≡ length bytes → ReadsAsBlock text (Ok b)
+pub reads_whole : (text bytes : List ℕ) (b : AsBlock) (end : ℕ) → bytes ≡ text → IsAsBlockBetween 0 end bytes b
+    → end ≡ length bytes → ReadsAsBlock text (Ok b)
 reads_whole text bytes b end same h all =
     let whole : take (end - 0) (drop 0 bytes) ≡ text = ap (λ k. take k bytes) (omega (arith, all)) ∙ (take-length bytes ∙ same) in
     reads_block text (Ok b) (subst (λ t. IsAsBlockText t b) whole h.block)

@@ -1,15 +1,8 @@
 -- Where a range of AS numbers is reversed, and that no fault of lists is one of a block.
-use Rattle.std.proofs.Common.{◌≡◌, ℕ, ◌<◌, ◌↔◌, true, is_ok, ap, ltb, List, Result, Ok, Err, refl, arith}
-use Rattle.std.proofs.lemmas.Bool.{lt-ltb, ltb-true}
-use Rattle.rpki_chains.specs.Ranges.{RangeValue}
-use Rattle.rpki_der.specs.declared.error.DerError.{DerError}
+use Rattle.rpki_as_block.proofs.Common.{Err, List, Ok, ap, arith, is_ok, true, ℕ, ◌<◌, ◌↔◌, ◌≡◌, lt-ltb, ltb-true, as_number_at, passing, refined, tagged_at, unsigned, value_at, ◌>>=◌, as_block_at, as_block_by, as_block_of, as_id_in, as_range_block_in, as_range_in, is_new_form, range_of, Id, Range}
 use Rattle.rpki_der.specs.declared.error.DerError.TheVariants.{NotCanonical, ReversedRange}
-use Rattle.rpki_der.specs.Reading.{◌>>=◌, passing, refined, tagged_at, unsigned, value_at}
-use Rattle.rpki_base.specs.AsnDer.{as_number_at}
 use Rattle.rpki_base.specs.DerFaults.{BeginsWithTwo, BeginsWithValue}
 use Rattle.rpki_base.proofs.DerFaults.{NamesTo, begins_two, begins_value, bind_fails, bind_names, by_tag_names, cond_fails, cond_names, mapped_fails, names_more, not_named, pair_fails, pair_names, refined_names, sequence_fails, tagged_names, unsigned_names, value_names}
-use Rattle.rpki_as_block.specs.AsDerReading.{as_block_at, as_block_by, as_block_of, as_id_in, as_range_block_in, as_range_in, is_new_form, range_of}
-use Rattle.rpki_as_block.specs.declared.block.AsBlock.TheVariants.{Id, Range}
 
 -- ---- which faults are named
 
@@ -18,9 +11,7 @@ number_names = refined_names 4 (tagged_at 2) unsigned (λ bytes. names_more 3 4 
 
 range_of_names : (min max : ℕ) → NamesTo 10 (range_of min max)
 unfolding range_of
-range_of_names min max =
-    let made : Result RangeValue DerError = Ok (record { min = min; max = max }) in
-    cond_names 10 (ltb max min) (Err ReversedRange) made (omega arith) tt
+range_of_names min max = grind (arith, cond_names)
 
 range_names : (content : List ℕ) → NamesTo 10 (as_range_in content)
 range_names = pair_names 10 as_number_at range_of (omega arith) (λ bytes. names_more 4 10 (as_number_at bytes) (omega arith) (number_names bytes)) range_of_names
@@ -39,9 +30,7 @@ block_names =
 
 range_of_fails : (min max : ℕ) → (range_of min max ≡ Err ReversedRange) ↔ (max < min)
 unfolding range_of
-range_of_fails min max =
-    let made : RangeValue = record { min = min; max = max } in
-    ((λ is. ltb-true max min (cond_fails (ltb max min) made ReversedRange ReversedRange (Ok made) refl is)), (λ less. rw (lt-ltb max min less) refl))
+range_of_fails min max = grind (arith, cond_fails, lt-ltb, ltb-true)
 
 -- the second number is less than the first
 abbrev Less : ℕ → ℕ → Type 0
@@ -50,7 +39,8 @@ Less first second = second < first
 abbrev Fails : ℕ → ℕ → Type 0
 Fails first second = range_of first second ≡ Err ReversedRange
 
-pub range_fails : (content : List ℕ) → (as_range_in content ≡ Err ReversedRange) ↔ BeginsWithTwo as_number_at (λ first second. second < first) content
+pub range_fails : (content : List ℕ)
+    → (as_range_in content ≡ Err ReversedRange) ↔ BeginsWithTwo as_number_at (λ first second. second < first) content
 range_fails content =
     let both = pair_fails as_number_at range_of ReversedRange (omega arith) (λ bytes. not_named 4 (as_number_at bytes) ReversedRange (number_names bytes) (omega arith)) content in (
       (λ is. begins_two as_number_at Fails Less (λ first second. (range_of_fails first second).0) content (both.0 is)),
@@ -64,7 +54,9 @@ Reversed = BeginsWithTwo as_number_at (λ first second. second < first)
 abbrev FailsInside : List ℕ → Type 0
 FailsInside content = as_range_block_in content ≡ Err ReversedRange
 
-pub block_fails : (bytes : List ℕ) → (as_block_at bytes ≡ Err ReversedRange) ↔ BeginsWithValue 48 (BeginsWithTwo as_number_at (λ first second. second < first)) bytes
+pub block_fails : (bytes : List ℕ)
+    → (as_block_at bytes ≡ Err ReversedRange)
+    ↔ BeginsWithValue 48 (BeginsWithTwo as_number_at (λ first second. second < first)) bytes
 block_fails bytes =
     let both = sequence_fails 2 as_id_in as_range_block_in ReversedRange (λ e. omega arith) (omega arith) (λ content. not_named 4 (as_id_in content) ReversedRange (id_names content) (omega arith)) bytes in (
       (λ is. begins_value 48 FailsInside Reversed (λ content fails. (range_fails content).0 ((mapped_fails (as_range_in content) Range ReversedRange).0 fails)) bytes (both.0 is)),

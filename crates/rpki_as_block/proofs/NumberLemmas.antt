@@ -1,8 +1,6 @@
 -- Lists of numbers: those of an interval.
-use Rattle.std.proofs.Common.{◌≡◌, ℕ, zero, suc, ◌+◌, ◌-◌, ◌<◌, List, [], ◌∷◌, length, get_or, refl, ap, ◌∙◌, arith, Option, Some, None}
+use Rattle.rpki_as_block.proofs.Common.{List, Option, [], ap, arith, get_or, length, refl, suc, zero, ℕ, ◌+◌, ◌-◌, ◌<◌, ◌∙◌, ◌∷◌, ◌≡◌, IsWithin, IsListOf, IsSizeOf, numbers_from, numbers_within}
 use Rattle.std.specs.Iterator.{YieldsFirst, MakesProgress, item_count}
-use Rattle.rpki_chains.specs.Sets.{IsWithin}
-use Rattle.rpki_as_block.specs.Numbers.{IsListOf, IsSizeOf, numbers_from, numbers_within}
 
 -- how many there are
 pub length-numbers_from : (k a : ℕ) → length (numbers_from k a) ≡ k
@@ -13,9 +11,7 @@ length-numbers_from (suc k) a = ap suc (length-numbers_from k (a + 1))
 get_or-numbers_from : (k a i d : ℕ) → i < k → get_or (numbers_from k a) i d ≡ a + i
 get_or-numbers_from zero a i d small = absurd (omega arith)
 get_or-numbers_from (suc k) a zero d small = omega arith
-get_or-numbers_from (suc k) a (suc i) d small =
-    let later = get_or-numbers_from k (a + 1) i d (omega arith) in
-    later ∙ omega arith
+get_or-numbers_from (suc k) a (suc i) d small = grind (arith, get_or-numbers_from k (a + 1) i d (omega arith))
 
 -- the numbers from the one bound to the other
 pub IsListOf-numbers_within : (b : ℕ × ℕ) → IsListOf (IsWithin b) (numbers_within b)
@@ -42,16 +38,12 @@ length-numbers_within b = length-numbers_from (b.1 + 1 - b.0) b.0
 -- the first of them, and the others
 pub numbers_within-cons : (a b : ℕ) → a < b → numbers_within (a, b) ≡ a ∷ numbers_within (a + 1, b)
 unfolding numbers_within
-numbers_within-cons a b below =
-    let more : b + 1 - a ≡ suc (b + 1 - (a + 1)) = omega arith in
-    rw more refl
+numbers_within-cons a b below = grind (arith)
 
 -- one number
 pub numbers_within-one : (a b : ℕ) → a ≡ b → numbers_within (a, b) ≡ a ∷ []
 unfolding numbers_within
-numbers_within-one a b same =
-    let more : b + 1 - a ≡ 1 = omega arith in
-    rw more refl
+numbers_within-one a b same = grind (arith)
 
 -- an interval has as many numbers as there are from the one bound to the other
 pub IsSizeOf-within : (b : ℕ × ℕ) (k : ℕ) → k + b.0 ≡ b.1 + 1 → IsSizeOf (IsWithin b) k
@@ -62,8 +54,6 @@ IsSizeOf-within b k is = record {
 }
 
 -- an iterator that yields the first of its numbers gets on
-pub makes_progress : (can : List ℕ → Type 0) → ((ns : List ℕ) → can ns) → (o : Option ℕ) (old new : List ℕ) → YieldsFirst (λ (ns : List ℕ). ns) old o new → MakesProgress can (item_count (λ (ns : List ℕ). ns)) old o new
-makes_progress can may None old new steps = record { on = λ _. tt; keeps = tt; rests = λ _. tt }
-makes_progress can may (Some n) old new steps =
-    let shorter = ap length steps in
-    record { on = λ _. (may new, tt, omega arith); keeps = may new; rests = λ _. tt }
+pub makes_progress : (can : List ℕ → Type 0) → ((ns : List ℕ) → can ns) → (o : Option ℕ) (old new : List ℕ)
+    → YieldsFirst (λ (ns : List ℕ). ns) old o new → MakesProgress can (item_count (λ (ns : List ℕ). ns)) old o new
+makes_progress can may o old new steps = grind (arith)

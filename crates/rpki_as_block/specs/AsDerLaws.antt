@@ -51,11 +51,13 @@ SaysRange : List ℕ → AsBlock → Type 0
 SaysRange content b = (r : RangeValue) × SaysPair IsAsNumber IsBetween content r × (b ≡ Range r)
 
 -- what says a number says an AS number as it is spelled
-number_spelled : (bytes content : List ℕ) (n : ℕ) → IsBytes bytes → IsValue bytes 2 content → IsUnsigned content n → IsAsNumber bytes n
+number_spelled : (bytes content : List ℕ) (n : ℕ) → IsBytes bytes → IsValue bytes 2 content → IsUnsigned content n
+    → IsAsNumber bytes n
 number_spelled bytes content n fits is says = (says.limit, subst (IsValue bytes 2) (unsigned_spelled content n (fits_content bytes 2 content is fits) says) is)
 
 -- from the tag and the content to the grammar
-block_to : (bytes : List ℕ) (b : AsBlock) → IsBytes bytes → Refines IsTlv (SaysByTag 2 SaysId SaysRange) bytes b → IsAsBlock bytes b
+block_to : (bytes : List ℕ) (b : AsBlock) → IsBytes bytes → Refines IsTlv (SaysByTag 2 SaysId SaysRange) bytes b
+    → IsAsBlock bytes b
 unfolding SaysId SaysRange IsBetween
 block_to bytes b fits (v, is, inl (t, (n, says, e))) = subst (IsAsBlock bytes) (sym e) (number_spelled bytes v.content n fits (subst (λ (tag : ℕ). IsValue bytes tag v.content) t is) says)
 block_to bytes b fits (v, is, inr (t, (r, (min, max, both, (ordered, made)), e))) = subst (IsAsBlock bytes) (sym (e ∙ ap (λ (x : RangeValue). Range x) made)) (ordered, (v.content, subst (λ (tag : ℕ). IsValue bytes tag v.content) t is, both))
@@ -88,13 +90,15 @@ SaysTwo : List ℕ → Unit {0} → Type 0
 SaysTwo = SaysPair IsAsNumber (λ first second u. Unit {0})
 
 -- from the tag and the content to the grammar
-skip_to : (bytes : List ℕ) (u : Unit {0}) → IsBytes bytes → Refines IsTlv (SaysByTag 2 SaysAsNumber SaysTwo) bytes u → IsBlockInAnyOrder bytes u
+skip_to : (bytes : List ℕ) (u : Unit {0}) → IsBytes bytes → Refines IsTlv (SaysByTag 2 SaysAsNumber SaysTwo) bytes u
+    → IsBlockInAnyOrder bytes u
 unfolding SaysTwo
 skip_to bytes u fits (v, is, inl (t, (n, says))) = inl (n, number_spelled bytes v.content n fits (subst (λ (tag : ℕ). IsValue bytes tag v.content) t is) says)
 skip_to bytes u fits (v, is, inr (t, (first, second, both, unit))) = inr (v.content, subst (λ (tag : ℕ). IsValue bytes tag v.content) t is, (first, second, both))
 
 -- and back
-skip_from : (bytes : List ℕ) (u : Unit {0}) → IsBlockInAnyOrder bytes u → Refines IsTlv (SaysByTag 2 SaysAsNumber SaysTwo) bytes u
+skip_from : (bytes : List ℕ) (u : Unit {0}) → IsBlockInAnyOrder bytes u
+    → Refines IsTlv (SaysByTag 2 SaysAsNumber SaysTwo) bytes u
 unfolding SaysTwo
 skip_from bytes u (inl (n, is)) = (record { tag = 2; content = integer n }, is.1, inl (refl, (n, spelled_unsigned n is.0)))
 skip_from bytes u (inr (content, is, (first, second, both))) = (record { tag = 48; content = content }, is, inr (refl, (first, second, both, tt)))
@@ -103,7 +107,8 @@ skip_from bytes u (inr (content, is, (first, second, both))) = (record { tag = 4
 skip_check : IsCheck IsBytes SaysAsNumber skip_number
 skip_check = record { takes = λ content u fits e. number_of content u (unsigned content) refl e; again = λ content u (n, says). rw (unsigned_check.again content n says) refl }
   where
-    number_of : (content : List ℕ) (u : Unit {0}) (r : Result ℕ DerError) → unsigned content ≡ r → (r >>= λ n. Ok tt) ≡ Ok u → SaysAsNumber content u
+    number_of : (content : List ℕ) (u : Unit {0}) (r : Result ℕ DerError) → unsigned content ≡ r
+        → (r >>= λ n. Ok tt) ≡ Ok u → SaysAsNumber content u
     number_of content u (Ok n) is e = (n, unsigned_check.takes content n tt is)
     number_of content u (Err d) is e = absurd cc
 

@@ -36,7 +36,8 @@ pub as_block_modal : IsModal IsStrictBlock as_block_at as_block_by
 as_block_modal = tested_modal IsAsBlock (IsNew as_bounds new_as_block) as_block_at (λ strict. as_block_at) is_new_form (plain_modal IsAsBlock as_block_at as_block_reading) new_form_is is_new_form_of
 
 -- a block behind others
-pub next_block_modal : (before : Option ℕ) → IsModal (IsNextBlock before) as_block_at (λ strict. next_block_by strict before)
+pub next_block_modal : (before : Option ℕ)
+    → IsModal (IsNextBlock before) as_block_at (λ strict. next_block_by strict before)
 next_block_modal before =
     tested_modal IsStrictBlock (λ block. IsBeyond before (as_bounds block).0) as_block_at as_block_by (λ block. is_beyond before (as_bounds block).0) as_block_modal
     (λ x e. beyond_is before (as_bounds x).0 e) (λ x e. is_beyond_of before (as_bounds x).0 e)

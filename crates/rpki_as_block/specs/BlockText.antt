@@ -43,4 +43,5 @@ as_block_text (Range r) = as_range_text r
 -- The text is read as the block that it writes, or as the fault that it has. What is printed of a block is read as it.
 pub record ReadsAsBlock (text : List ℕ) (r : Result AsBlock FromStrError) : Type 0 where
   pub exact : Answers (IsAsBlockText text) (HasAsBlockFault text) r
-  pub reads_back : (b : AsBlock) → (as_bounds b).0 ≤ (as_bounds b).1 → (as_bounds b).1 < 2 ^ 32 → text ≡ as_block_text b → r ≡ Ok b
+  pub reads_back : (b : AsBlock) → (as_bounds b).0 ≤ (as_bounds b).1 → (as_bounds b).1 < 2 ^ 32 → text ≡ as_block_text b
+      → r ≡ Ok b

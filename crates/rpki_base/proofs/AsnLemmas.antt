@@ -1,18 +1,9 @@
 -- Texts of AS numbers: each writes one at most, and what is printed is read back.
-use Rattle.std.proofs.Common.{◌≡◌, ℕ, suc, ◌-◌, ◌^◌, ◌<◌, ◌≤◌, List, [], ◌∷◌, ◌++◌, length, take, Ok, Err, arith, refl, sym, ap, ◌∙◌, subst, length-append, inl, inr, codes, decimal, lit≤}
+use Rattle.rpki_base.proofs.Common.{Err, List, Ok, [], ap, arith, codes, decimal, inl, inr, length, lit≤, refl, subst, suc, sym, take, ℕ, ◌++◌, ◌-◌, ◌<◌, ◌^◌, ◌∙◌, ◌∷◌, ◌≡◌, ◌≤◌, take-append_seam, cases_lt, decimal_is_IsNumeral, digit_from_value, without_leading_plus_none, IsInRange, AllByRecursion, str_to_ascii_lowercase, AllDigits, IsNumberText, IsAfterAs, IsAsAnd, IsAsnText, ReadsAsn, asn_text}
+use Rattle.std.proofs.Common.{length-append}
 use Rattle.std.specs.Char.{to_ascii_lowercase}
-use Rattle.std.specs.Str.Parse.{AllDigits}
-use Rattle.std.specs.Int.{IsInRange}
-use Rattle.std.specs.List.{AllByRecursion}
-use Rattle.std.specs.Str.{str_to_ascii_lowercase}
-use Rattle.std.proofs.lemmas.Fmt.{decimal_is_IsNumeral}
-use Rattle.std.proofs.lemmas.Str.Parse.{without_leading_plus_none, digit_from_value}
 use Rattle.std.proofs.lemmas.Str.Ascii.{lowercase_is}
-use Rattle.std.proofs.lemmas.Bool.{cases_lt}
 use Rattle.rpki_base.specs.declared.asn.ParseAsnError.{ParseAsnError}
-use Rattle.std.proofs.Math.Seq.{take-append_seam}
-use Rattle.rpki_text.specs.Numbers.{IsNumberText}
-use Rattle.rpki_base.specs.AsnText.{IsAsnText, IsAsAnd, IsAfterAs, asn_text, ReadsAsn}
 use Rattle.rpki_text.proofs.CutLemmas.{same_rest}
 use Rattle.rpki_text.proofs.NumberTexts.{IsNumberText-one, IsNumberText-decimal}
 
@@ -31,13 +22,11 @@ IsAsAnd-rest text rest other h k = same_rest h.letters k.letters rest other (IsA
 
 -- `a` in either case is no digit
 letter_is_no_digit : (b : ℕ) → to_ascii_lowercase b ≡ 97 → 58 ≤ b
-letter_is_no_digit b letter = let is = lowercase_is b in elim (cases_lt b 58) [
-  | inl l ↦ absurd (omega (arith, is.1 (omega arith)))
-  | inr h ↦ h
-]
+letter_is_no_digit b letter = grind (arith, cases_lt, lowercase_is)
 
 -- so no number text begins with it
-first_of_number : (b : ℕ) (more : List ℕ) (n : ℕ) → IsNumberText (2 ^ 32 - 1) (b ∷ more) n → to_ascii_lowercase b ≡ 97 → ⊥
+first_of_number : (b : ℕ) (more : List ℕ) (n : ℕ) → IsNumberText (2 ^ 32 - 1) (b ∷ more) n → to_ascii_lowercase b ≡ 97
+    → ⊥
 first_of_number b more n h letter =
     let high = letter_is_no_digit b letter in
     let whole = without_leading_plus_none (b ∷ more) (λ e. omega (arith, e)) in
@@ -45,7 +34,8 @@ first_of_number b more n h letter =
     omega (arith, (digit_from_value b digits.0).1)
 
 -- `as` begins with it
-as_letters_first : (letters rest : List ℕ) → str_to_ascii_lowercase letters ≡ codes "as" → (b : ℕ) × (more : List ℕ) × (letters ++ rest ≡ b ∷ more) × (to_ascii_lowercase b ≡ 97)
+as_letters_first : (letters rest : List ℕ) → str_to_ascii_lowercase letters ≡ codes "as"
+    → (b : ℕ) × (more : List ℕ) × (letters ++ rest ≡ b ∷ more) × (to_ascii_lowercase b ≡ 97)
 as_letters_first [] rest e = absurd (omega (arith, ap length e))
 as_letters_first (b ∷ letters) rest e = let first : to_ascii_lowercase b ≡ 97 = cc in (b, letters ++ rest, refl, first)
 
@@ -57,11 +47,11 @@ IsAsAnd-no_number text rest n h k =
 
 -- a number behind `as` is the text's
 to_text : (text rest : List ℕ) (n : ℕ) → IsAfterAs text rest → IsNumberText (2 ^ 32 - 1) rest n → IsAsnText text n
-to_text text rest n (inl h) k = record { letters = h.letters; digits = rest; split = h.split; prefix = inr h.lower; number = k }
-to_text text rest n (inr h) k = record { letters = []; digits = rest; split = sym h.0; prefix = inl refl; number = k }
+to_text text rest n h k = grind (arith)
 
 -- an AS number text with letters begins with them
-as_and : (text : List ℕ) (n : ℕ) (k : IsAsnText text n) → str_to_ascii_lowercase k.letters ≡ codes "as" → IsAsAnd text k.digits
+as_and : (text : List ℕ) (n : ℕ) (k : IsAsnText text n) → str_to_ascii_lowercase k.letters ≡ codes "as"
+    → IsAsAnd text k.digits
 as_and text n k lower = record { letters = k.letters; split = k.split; lower = lower }
 
 -- and without letters it is a number text
@@ -90,7 +80,8 @@ IsAsnText-asn_text n small = record {
 }
 
 -- where a number stands behind the optional `as`, it is the answer
-pub reads_ok : (text rest : List ℕ) (n : ℕ) → IsAfterAs text rest → IsNumberText (2 ^ 32 - 1) rest n → ReadsAsn text (Ok n)
+pub reads_ok : (text rest : List ℕ) (n : ℕ) → IsAfterAs text rest → IsNumberText (2 ^ 32 - 1) rest n
+    → ReadsAsn text (Ok n)
 reads_ok text rest n after h =
     let each : (m : ℕ) → IsAsnText text m → Ok n ≡ Ok m = λ m k. ap Ok (IsNumberText-one _ rest n m h (from_text text rest m after k)) in
     record {
@@ -103,7 +94,8 @@ reads_ok text rest n after h =
     }
 
 -- and where none does, the fault is
-pub reads_err : (text rest : List ℕ) (e : ParseAsnError) → IsAfterAs text rest → ((n : ℕ) → ¬ IsNumberText (2 ^ 32 - 1) rest n) → ReadsAsn text (Err e)
+pub reads_err : (text rest : List ℕ) (e : ParseAsnError) → IsAfterAs text rest
+    → ((n : ℕ) → ¬ IsNumberText (2 ^ 32 - 1) rest n) → ReadsAsn text (Err e)
 reads_err text rest e after none =
     let no_text : (n : ℕ) → ¬ IsAsnText text n = λ n k. none n (from_text text rest n after k) in
     record {

@@ -1,16 +1,6 @@
 -- AS numbers at a place among bytes: letters and digits behind them.
-use Rattle.std.proofs.Common.{◌≡◌, ℕ, suc, ◌+◌, ◌-◌, ◌^◌, ◌<◌, ◌≤◌, List, [], ◌∷◌, length, take, drop, get_or, Ok, arith, refl, sym, ap, ◌∙◌, subst, inl, inr, ◌⊎◌, codes, length-drop}
-use Rattle.std.specs.Str.Parse.{AllDigits, digits_value}
-use Rattle.std.specs.Int.{IsInRange}
-use Rattle.std.specs.List.{AllByRecursion}
-use Rattle.std.specs.Str.{str_to_ascii_lowercase}
-use Rattle.std.proofs.lemmas.Str.Parse.{without_leading_plus_none, digit_from_value, digit_at}
+use Rattle.rpki_base.proofs.Common.{List, Ok, [], ap, arith, codes, drop, get_or, inl, inr, length, length-drop, refl, subst, suc, sym, take, ℕ, ◌+◌, ◌-◌, ◌<◌, ◌^◌, ◌∙◌, ◌∷◌, ◌≡◌, ◌≤◌, ◌⊎◌, take-length, cases_lt, drop_more, get_or-drop, get_or-take, length-take, digit_at, digit_from_value, without_leading_plus_none, IsInRange, AllByRecursion, str_to_ascii_lowercase, AllDigits, digits_value, AreDigitsBetween, AreDigitsFrom, IsNumberText, IsAsnText, ReadsAsn}
 use Rattle.std.proofs.lemmas.Str.{digit_value_digit}
-use Rattle.std.proofs.lemmas.Bool.{cases_lt}
-use Rattle.std.proofs.lemmas.List.{length-take, drop_more, get_or-drop, get_or-take}
-use Rattle.std.proofs.Math.Seq.{take-length}
-use Rattle.rpki_text.specs.Numbers.{IsNumberText, AreDigitsBetween, AreDigitsFrom}
-use Rattle.rpki_base.specs.AsnText.{IsAsnText, ReadsAsn}
 use Rattle.rpki_base.specs.AsnPlaces.{HasLettersAt, IsAfterLetters, IsAsnAt, IsAsnBetween}
 use Rattle.rpki_base.proofs.AsnLemmas.{IsAsnText-one, IsAsnText-asn_text}
 
@@ -20,24 +10,22 @@ digits_are_bytes [] h = tt
 digits_are_bytes (c ∷ cs) h = let range = digit_from_value c h.0 in ((range.0, omega (arith, range.1)), digits_are_bytes cs h.1)
 
 -- digits are a number text
-digits_are_number : (ds : List ℕ) (n : ℕ) → 0 < length ds → AllDigits 10 ds → digits_value 10 ds ≡ n → n < 2 ^ 32 → IsNumberText (2 ^ 32 - 1) ds n
-digits_are_number ds n some all value small =
-    let first = digit_at ds 0 all some in
-    let whole = without_leading_plus_none ds (λ e. omega (arith, e, first.0)) in
-    record { digits = rw whole (some, all); value = rw whole value; within = omega (arith, small) }
+digits_are_number : (ds : List ℕ) (n : ℕ) → 0 < length ds → AllDigits 10 ds → digits_value 10 ds ≡ n → n < 2 ^ 32
+    → IsNumberText (2 ^ 32 - 1) ds n
+digits_are_number ds n some all value small = grind (arith, digit_at, without_leading_plus_none)
 
 -- letters in either case are `as`
 letters_are : (x y : ℕ) → (x ≡ 65) ⊎ (x ≡ 97) → (y ≡ 83) ⊎ (y ≡ 115) → str_to_ascii_lowercase (x ∷ y ∷ []) ≡ codes "as"
-letters_are x y (inl e) (inl f) = rw (e, f) refl
-letters_are x y (inl e) (inr f) = rw (e, f) refl
-letters_are x y (inr e) (inl f) = rw (e, f) refl
-letters_are x y (inr e) (inr f) = rw (e, f) refl
+letters_are x y h h2 = grind (arith)
 
-letter_bytes : (x y : ℕ) (ds : List ℕ) → (x ≡ 65) ⊎ (x ≡ 97) → (y ≡ 83) ⊎ (y ≡ 115) → AllByRecursion (IsInRange 48 122) ds → AllByRecursion (IsInRange 48 122) (x ∷ y ∷ ds)
+letter_bytes : (x y : ℕ) (ds : List ℕ) → (x ≡ 65) ⊎ (x ≡ 97) → (y ≡ 83) ⊎ (y ≡ 115)
+    → AllByRecursion (IsInRange 48 122) ds → AllByRecursion (IsInRange 48 122) (x ∷ y ∷ ds)
 letter_bytes x y ds a b h = ((omega (arith, a), omega (arith, a)), ((omega (arith, b), omega (arith, b)), h))
 
 -- the bytes from start on, where `as` stands there
-behind_letters : (start end : ℕ) (text : List ℕ) → start + 2 ≤ end → start + 2 ≤ length text → take (end - start) (drop start text) ≡ get_or text start 0 ∷ get_or text (start + 1) 0 ∷ take (end - (start + 2)) (drop (start + 2) text)
+behind_letters : (start end : ℕ) (text : List ℕ) → start + 2 ≤ end → start + 2 ≤ length text
+    → take (end - start) (drop start text)
+    ≡ get_or text start 0 ∷ get_or text (start + 1) 0 ∷ take (end - (start + 2)) (drop (start + 2) text)
 behind_letters start end text more within =
     let count : end - start ≡ suc (suc (end - (start + 2))) = omega (arith, more) in
     let one = drop_more text start 0 (omega (arith, within)) in
@@ -47,7 +35,8 @@ behind_letters start end text more within =
     ∙ ap (take (suc (suc (end - (start + 2))))) (one ∙ ap (λ t. get_or text start 0 ∷ t) (two ∙ ap (λ k. get_or text (start + 1) 0 ∷ drop k text) place))
 
 -- digits, which nothing or letters go before
-number_between : (start end : ℕ) (text : List ℕ) (n : ℕ) → AreDigitsBetween start end text n → start < end → n < 2 ^ 32 → IsAsnBetween start end text n
+number_between : (start end : ℕ) (text : List ℕ) (n : ℕ) → AreDigitsBetween start end text n → start < end → n < 2 ^ 32
+    → IsAsnBetween start end text n
 number_between start end text n h some small =
     let more : 0 < length (take (end - start) (drop start text)) = omega (arith, length-take (end - start) (drop start text), length-drop start text, some, h.within) in
     record {
@@ -57,7 +46,8 @@ number_between start end text n h some small =
       bytes = digits_are_bytes _ h.all_digits;
     }
 
-letters_between : (start end : ℕ) (text : List ℕ) (n : ℕ) → HasLettersAt start text → AreDigitsBetween (start + 2) end text n → start + 2 < end → n < 2 ^ 32 → IsAsnBetween start end text n
+letters_between : (start end : ℕ) (text : List ℕ) (n : ℕ) → HasLettersAt start text
+    → AreDigitsBetween (start + 2) end text n → start + 2 < end → n < 2 ^ 32 → IsAsnBetween start end text n
 letters_between start end text n letters h some small =
     let more : 0 < length (take (end - (start + 2)) (drop (start + 2) text)) = omega (arith, length-take (end - (start + 2)) (drop (start + 2) text), length-drop (start + 2) text, some, h.within) in
     let shape = behind_letters start end text h.in_order letters.within in
@@ -83,13 +73,11 @@ asn_between start end text n h = elim h.letters [
 
 -- the letters end at one place
 same_letters : (start a b : ℕ) (text : List ℕ) → IsAfterLetters start a text → IsAfterLetters start b text → a ≡ b
-same_letters start a b text (inl h) (inl k) = omega (arith, h.0, k.0)
-same_letters start a b text (inl h) (inr k) = absurd (h.1 k.1)
-same_letters start a b text (inr h) (inl k) = absurd (k.1 h.1)
-same_letters start a b text (inr h) (inr k) = omega (arith, h.0, k.0)
+same_letters start a b text h h2 = grind (arith)
 
 -- where all digits were read, no others reach further
-no_further : (start end other : ℕ) (text : List ℕ) (n m : ℕ) → AreDigitsFrom start end text n → AreDigitsFrom start other text m → end < other → ⊥
+no_further : (start end other : ℕ) (text : List ℕ) (n m : ℕ) → AreDigitsFrom start end text n
+    → AreDigitsFrom start other text m → end < other → ⊥
 no_further start end other text n m h k further =
     let all = take (other - start) (drop start text) in
     let here : end - start < length all = omega (arith, length-take (other - start) (drop start text), length-drop start text, further, h.digits.in_order, k.digits.within) in
@@ -102,23 +90,21 @@ no_further start end other text n m h k further =
     ]
 
 -- so they end at one place
-same_end : (start end other : ℕ) (text : List ℕ) (n m : ℕ) → AreDigitsFrom start end text n → AreDigitsFrom start other text m → end ≡ other
-same_end start end other text n m h k = elim (cases_lt end other) [
-  | inl less ↦ absurd (no_further start end other text n m h k less)
-  | inr least ↦ elim (cases_lt other end) [
-    | inl less ↦ absurd (no_further start other end text m n k h less)
-    | inr most ↦ omega (arith, least, most)
-  ]
-]
+same_end : (start end other : ℕ) (text : List ℕ) (n m : ℕ) → AreDigitsFrom start end text n
+    → AreDigitsFrom start other text m → end ≡ other
+same_end start end other text n m h k = grind (arith, cases_lt, no_further)
 
 -- and write one number
-same_value : (start end other : ℕ) (text : List ℕ) (n m : ℕ) → AreDigitsFrom start end text n → AreDigitsFrom start other text m → n ≡ m
+same_value : (start end other : ℕ) (text : List ℕ) (n m : ℕ) → AreDigitsFrom start end text n
+    → AreDigitsFrom start other text m → n ≡ m
 same_value start end other text n m h k =
     let there : AreDigitsFrom start end text m = subst (λ e. AreDigitsFrom start e text m) (sym (same_end start end other text n m h k)) k in
     sym h.digits.value ∙ there.digits.value
 
 -- the digits behind the letters are those of each number that stands there
-pub digits_of : (start after end : ℕ) (text : List ℕ) (v : ℕ) → IsAfterLetters start after text → AreDigitsFrom after end text v → (n other : ℕ) → (h : IsAsnAt start other text n) → (v ≡ n) × (end ≡ other) × (h.after ≡ after)
+pub digits_of : (start after end : ℕ) (text : List ℕ) (v : ℕ) → IsAfterLetters start after text
+    → AreDigitsFrom after end text v → (n other : ℕ) → (h : IsAsnAt start other text n)
+    → (v ≡ n) × (end ≡ other) × (h.after ≡ after)
 digits_of start after end text v letters digits n other h =
     let place = same_letters start h.after after text h.letters letters in
     let there : AreDigitsFrom after other text n = subst (λ a. AreDigitsFrom a other text n) place h.digits in
@@ -136,7 +122,8 @@ reads_number text n h = record {
 }
 
 -- and so is one that takes the whole text
-pub reads_whole : (text bytes : List ℕ) (n end : ℕ) → bytes ≡ text → IsAsnBetween 0 end bytes n → end ≡ length bytes → ReadsAsn text (Ok n)
+pub reads_whole : (text bytes : List ℕ) (n end : ℕ) → bytes ≡ text → IsAsnBetween 0 end bytes n → end ≡ length bytes
+    → ReadsAsn text (Ok n)
 reads_whole text bytes n end same h all =
     let whole : take (end - 0) (drop 0 bytes) ≡ text = ap (λ k. take k bytes) (omega (arith, all)) ∙ (take-length bytes ∙ same) in
     reads_number text n (subst (λ t. IsAsnText t n) whole h.number)

@@ -1,14 +1,13 @@
 -- Room for the text of an AS number, and what a buffer has after `AS` was put before digits.
-use Rattle.std.proofs.Common.{◌≡◌, ℕ, ◌+◌, ◌-◌, ◌^◌, ◌<◌, ◌≤◌, List, ◌∷◌, length, drop, set, decimal, arith, ap, ◌∙◌}
-use Rattle.std.proofs.lemmas.Fmt.{length-decimal-le}
-use Rattle.std.proofs.lemmas.List.{drop-set, length-set}
+use Rattle.rpki_base.proofs.Common.{List, ap, arith, decimal, drop, length, set, ℕ, ◌+◌, ◌-◌, ◌<◌, ◌^◌, ◌∙◌, ◌∷◌, ◌≡◌, ◌≤◌, length-decimal-le, drop-set, length-set}
 
 -- an AS number has ten digits at most
 pub ten_digits : (n : ℕ) → n < 2 ^ 32 → length (decimal n) ≤ 10
 ten_digits n small = length-decimal-le 10 n (omega arith) (omega arith) (omega arith)
 
 -- the letters stand before what was there
-pub letters_before : (bytes : List ℕ) (at : ℕ) → 2 ≤ at → at ≤ length bytes → drop (at - 2) (set (set bytes (at - 1) 83) (at - 2) 65) ≡ 65 ∷ 83 ∷ drop at bytes
+pub letters_before : (bytes : List ℕ) (at : ℕ) → 2 ≤ at → at ≤ length bytes
+    → drop (at - 2) (set (set bytes (at - 1) 83) (at - 2) 65) ≡ 65 ∷ 83 ∷ drop at bytes
 letters_before bytes at low high =
     let first : at - 2 + 1 ≡ at - 1 = omega (arith, low) in
     let second : at - 1 + 1 ≡ at = omega (arith, low) in

@@ -1,108 +1,60 @@
 -- From the reading to the grammar, for calls that take memory, or that look at the tag first.
-use Rattle.std.proofs.Common.{◌≡◌, ℕ, ◌<◌, Bool, true, false, cond, List, [], ◌∷◌, ◌++◌, length, Option, Some, None, Result, Ok, Err, refl, ap, sym, ◌∙◌, option_map, arith}
-use Rattle.std.proofs.lemmas.List.{length-append}
-use Rattle.rpki_der.specs.declared.cursor.Cursor.{Cursor}
-use Rattle.rpki_der.specs.declared.error.DerError.{DerError}
-use Rattle.rpki_der.specs.Der.{IsBytes, Refines}
-use Rattle.rpki_der.specs.Reading.{◌>>=◌, IsReading, optional}
-use Rattle.rpki_der.specs.Views.{ReadsOptional, Takes, left}
-use Rattle.rpki_der.proofs.Cursors.{none_by, reads_optional_by}
-use Rattle.rpki_der.proofs.Lists.{as_some, some_is, some_err}
-use Rattle.rpki_der.proofs.Steps.{ok_is, ok_or_err}
-use Rattle.rpki_text.specs.declared.memory.OrMemory.{OrMemory}
-use Rattle.rpki_text.specs.declared.memory.OrMemory.TheVariants.{Refused, Memory}
-use Rattle.rpki_base.specs.DerReading.{begins_with, if_tagged}
-use Rattle.rpki_base.specs.DerViews.{ReadsOrMemory, ReadsTagged, TakesOrMemory, TakesSaidOrMemory}
+use Rattle.rpki_base.proofs.Common.{Err, List, None, Ok, Option, Result, Some, ap, arith, length, sym, ℕ, ◌++◌, ◌<◌, ◌∙◌, ◌≡◌, length-append, none_by, reads_optional_by, as_some, some_err, some_is, ok_is, ok_or_err, IsBytes, Refines, IsReading, optional, ◌>>=◌, ReadsOptional, Takes, left, Cursor, DerError, OrMemory, if_tagged, ReadsOrMemory, ReadsTagged, TakesOrMemory, TakesSaidOrMemory}
 
 -- a take that may want memory
-pub reads_or_memory_by : {X Y : Type 0} (G : List ℕ → Y → Type 0) (reading : List ℕ → Result (Y × List ℕ) DerError) (view : X → Y) (old new : Cursor) (result : Result X (OrMemory DerError))
-    → IsReading G reading → IsBytes (left old) → TakesOrMemory view old new result reading → ReadsOrMemory G view old new result
-reads_or_memory_by G reading view old new (Ok x) is fits took = is.takes (left old) (view x) (left new) fits took
-reads_or_memory_by G reading view old new (Err (Refused e)) is fits took = (none_by G reading (left old) e is took.0, took.1)
-reads_or_memory_by G reading view old new (Err (Memory e)) is fits took = (tt, took.1)
+pub reads_or_memory_by : {X Y : Type 0} (G : List ℕ → Y → Type 0) (reading : List ℕ → Result (Y × List ℕ) DerError)
+    (view : X → Y) (old new : Cursor) (result : Result X (OrMemory DerError)) → IsReading G reading → IsBytes (left old)
+    → TakesOrMemory view old new result reading → ReadsOrMemory G view old new result
+reads_or_memory_by G reading view old new result is fits took = grind (arith, none_by)
 
 -- a take of what is written
-pub value_back : {X : Type 0} (G : List ℕ → X → Type 0) (reading : List ℕ → Result (X × List ℕ) DerError) (old new : Cursor) (result : Result X DerError)
-    → IsReading G reading → Takes (λ x. x) old new result reading
-    → (front : List ℕ) (x : X) (rest : List ℕ) → G front x → left old ≡ front ++ rest → (result ≡ Ok x) × (left new ≡ rest)
-value_back {X} G reading old new result is took front x rest g at = by_result result took
-  where
-    found : reading (left old) ≡ Ok (x, rest)
-    found = ap reading at ∙ is.again front x rest g
-
-    by_result : (r : Result X DerError) → Takes (λ x. x) old new r reading → (r ≡ Ok x) × (left new ≡ rest)
-    by_result (Ok y) took =
-        let both : (y, left new) ≡ (x, rest) = ok_is (y, left new) (x, rest) (sym took ∙ found) in
-        (ap (λ (p : X × List ℕ). Ok p.0) both, ap (λ (p : X × List ℕ). p.1) both)
-    by_result (Err e) took = absurd (ok_or_err (x, rest) e (reading (left old)) found took.0)
+pub value_back : {X : Type 0} (G : List ℕ → X → Type 0) (reading : List ℕ → Result (X × List ℕ) DerError)
+    (old new : Cursor) (result : Result X DerError) → IsReading G reading → Takes (λ x. x) old new result reading
+    → (front : List ℕ) (x : X) (rest : List ℕ) → G front x → left old ≡ front ++ rest
+    → (result ≡ Ok x) × (left new ≡ rest)
+value_back G reading old new result is took front x rest g at = grind (arith, ok_is, ok_or_err)
 
 -- a take that answers None at the end, of values as they are
-pub reads_optional_value_by : {X : Type 0} (G : List ℕ → X → Type 0) (reading : List ℕ → Result (X × List ℕ) DerError) (old new : Cursor) (result : Result (Option X) DerError)
-    → IsReading G reading → IsBytes (left old) → Takes (λ o. o) old new result (optional reading) → ReadsOptional G (λ x. x) old new result
-reads_optional_value_by {X} G reading old new result is fits took = reads_optional_by G reading (λ x. x) old new result is fits (mapped result took)
-  where
-    mapped : (result : Result (Option X) DerError) → Takes (λ o. o) old new result (optional reading) → Takes (λ o. option_map (λ x. x) o) old new result (optional reading)
-    mapped (Ok None) took = took
-    mapped (Ok (Some x)) took = took
-    mapped (Err e) took = took
+pub reads_optional_value_by : {X : Type 0} (G : List ℕ → X → Type 0) (reading : List ℕ → Result (X × List ℕ) DerError)
+    (old new : Cursor) (result : Result (Option X) DerError) → IsReading G reading → IsBytes (left old)
+    → Takes (λ o. o) old new result (optional reading) → ReadsOptional G (λ x. x) old new result
+reads_optional_value_by G reading old new result is fits took = grind (arith, reads_optional_by)
 
 -- Some is of what the reading gives
-some_ok : {X : Type 0} (r : Result (X × List ℕ) DerError) (x : X) (rest : List ℕ) → (r >>= as_some) ≡ Ok (Some x, rest) → r ≡ Ok (x, rest)
-some_ok (Ok (y, t)) x rest e =
-    let both = ok_is (Some y, t) (Some x, rest) e in
-    let first : y ≡ x = some_is y x (ap (λ p. p.0) both) in
-    let second : t ≡ rest = ap (λ p. p.1) both in
-    ap (λ y. Ok (y, t)) first ∙ ap (λ (t : List ℕ). Ok (x, t)) second
-some_ok (Err d) x rest e = absurd cc
+some_ok : {X : Type 0} (r : Result (X × List ℕ) DerError) (x : X) (rest : List ℕ) → (r >>= as_some) ≡ Ok (Some x, rest)
+    → r ≡ Ok (x, rest)
+some_ok r x rest e = grind (arith, ok_is, some_is)
 
 -- and None is never
 none_ok : {X : Type 0} (r : Result (X × List ℕ) DerError) (rest : List ℕ) → (r >>= as_some) ≡ Ok (None, rest) → ⊥
-none_ok (Ok (y, t)) rest e = let h = ap (λ p. p.0) (ok_is (Some y, t) (None, rest) e) in cc
-none_ok (Err d) rest e = cc
+none_ok r rest e = grind (arith, ok_is)
 
 -- a take of a value that is there if its tag is
-pub reads_tagged_by : {X : Type 0} (tag : ℕ) (G : List ℕ → X → Type 0) (reading : List ℕ → Result (X × List ℕ) DerError) (old new : Cursor) (result : Result (Option X) DerError)
-    → IsReading G reading → IsBytes (left old) → Takes (λ o. o) old new result (if_tagged tag reading) → ReadsTagged tag G old new result
+pub reads_tagged_by : {X : Type 0} (tag : ℕ) (G : List ℕ → X → Type 0) (reading : List ℕ → Result (X × List ℕ) DerError)
+    (old new : Cursor) (result : Result (Option X) DerError) → IsReading G reading → IsBytes (left old)
+    → Takes (λ o. o) old new result (if_tagged tag reading) → ReadsTagged tag G old new result
 unfolding if_tagged
-reads_tagged_by {X} tag G reading old new result is fits = decided result
-  where
-    read : Bool → Result (Option X × List ℕ) DerError
-    read b = cond b (reading (left old) >>= as_some) (Ok (None, left old))
-
-    none : (b : Bool) → begins_with tag (left old) ≡ b → read b ≡ Ok (None, left new) → ReadsTagged tag G old new (Ok None)
-    none true t took = absurd (none_ok (reading (left old)) (left new) took)
-    none false t took = (t, sym (ap (λ p. p.1) (ok_is (None, left old) (None, left new) took)))
-
-    some : (x : X) (b : Bool) → begins_with tag (left old) ≡ b → read b ≡ Ok (Some x, left new) → ReadsTagged tag G old new (Ok (Some x))
-    some x true t took = (t, is.takes (left old) x (left new) fits (some_ok (reading (left old)) x (left new) took))
-    some x false t took = let h = ap (λ p. p.0) (ok_is (None, left old) (Some x, left new) took) in absurd cc
-
-    fails : (e : DerError) (b : Bool) → begins_with tag (left old) ≡ b → read b ≡ Err e → new ≡ old → ReadsTagged tag G old new (Err e)
-    fails e true t took kept = (t, none_by G reading (left old) e is (some_err (reading (left old)) e took), kept)
-    fails e false t took kept = absurd cc
-
-    decided : (result : Result (Option X) DerError) → Takes (λ o. o) old new result (if_tagged tag reading) → ReadsTagged tag G old new result
-    decided (Ok None) took = none (begins_with tag (left old)) refl took
-    decided (Ok (Some x)) took = some x (begins_with tag (left old)) refl took
-    decided (Err e) took = fails e (begins_with tag (left old)) refl took.0 took.1
+reads_tagged_by tag G reading old new result is fits =
+    grind (arith, as_some, none_by, none_ok, ok_is, some_err, some_ok)
 
 -- a take that answers what is said by what the reading gives
-pub reads_said_by : {X Y : Type 0} (G : List ℕ → Y → Type 0) (C : Y → X → Type 0) (reading : List ℕ → Result (Y × List ℕ) DerError) (old new : Cursor) (result : Result X (OrMemory DerError))
-    → IsReading G reading → IsBytes (left old) → TakesSaidOrMemory C old new result reading → ReadsOrMemory (Refines G C) (λ x. x) old new result
-reads_said_by G C reading old new (Ok x) is fits (y, read, says) = let found = is.takes (left old) y (left new) fits read in (found.0, (y, found.1, says), found.2)
-reads_said_by G C reading old new (Err (Refused e)) is fits (failed, kept) = ((λ x rest found. none_by G reading (left old) e is failed found.1.0 rest (found.0, found.1.1, found.2)), kept)
-reads_said_by G C reading old new (Err (Memory e)) is fits (failed, kept) = (tt, kept)
+pub reads_said_by : {X Y : Type 0} (G : List ℕ → Y → Type 0) (C : Y → X → Type 0)
+    (reading : List ℕ → Result (Y × List ℕ) DerError) (old new : Cursor) (result : Result X (OrMemory DerError))
+    → IsReading G reading → IsBytes (left old) → TakesSaidOrMemory C old new result reading
+    → ReadsOrMemory (Refines G C) (λ x. x) old new result
+reads_said_by G C reading old new result is fits h = grind (arith, none_by)
 
 -- what a reading finds, a take finds that answers None at the end
-optional_again : {X : Type 0} (reading : List ℕ → Result (X × List ℕ) DerError) (bytes : List ℕ) (x : X) (rest : List ℕ) → 0 < length bytes → reading bytes ≡ Ok (x, rest) → optional reading bytes ≡ Ok (Some x, rest)
+optional_again : {X : Type 0} (reading : List ℕ → Result (X × List ℕ) DerError) (bytes : List ℕ) (x : X) (rest : List ℕ)
+    → 0 < length bytes → reading bytes ≡ Ok (x, rest) → optional reading bytes ≡ Ok (Some x, rest)
 unfolding optional
-optional_again reading [] x rest some e = absurd (omega (arith, some))
-optional_again reading (b ∷ bytes) x rest some e = rw e refl
+optional_again reading bytes x rest some e = grind (arith)
 
 -- so such a take gives the value that stands there, and then stands behind it
-pub optional_back : {X : Type 0} (G : List ℕ → X → Type 0) (reading : List ℕ → Result (X × List ℕ) DerError) (old new : Cursor) (result : Result (Option X) DerError)
-    → IsReading G reading → Takes (λ x. x) old new result (optional reading)
-    → (front : List ℕ) (x : X) (rest : List ℕ) → 0 < length front → G front x → left old ≡ front ++ rest → (result ≡ Ok (Some x)) × (left new ≡ rest)
+pub optional_back : {X : Type 0} (G : List ℕ → X → Type 0) (reading : List ℕ → Result (X × List ℕ) DerError)
+    (old new : Cursor) (result : Result (Option X) DerError) → IsReading G reading
+    → Takes (λ x. x) old new result (optional reading) → (front : List ℕ) (x : X) (rest : List ℕ) → 0 < length front
+    → G front x → left old ≡ front ++ rest → (result ≡ Ok (Some x)) × (left new ≡ rest)
 optional_back {X} G reading old new result is took front x rest some g at = by_result result took
   where
     longer : 0 < length (left old)
@@ -111,7 +63,8 @@ optional_back {X} G reading old new result is took front x rest some g at = by_r
     found : optional reading (left old) ≡ Ok (Some x, rest)
     found = optional_again reading (left old) x rest longer (ap reading at ∙ is.again front x rest g)
 
-    by_result : (r : Result (Option X) DerError) → Takes (λ x. x) old new r (optional reading) → (r ≡ Ok (Some x)) × (left new ≡ rest)
+    by_result : (r : Result (Option X) DerError) → Takes (λ x. x) old new r (optional reading)
+        → (r ≡ Ok (Some x)) × (left new ≡ rest)
     by_result (Ok o) took =
         let both : (o, left new) ≡ (Some x, rest) = ok_is (o, left new) (Some x, rest) (sym took ∙ found) in
         (ap (λ (p : Option X × List ℕ). Ok p.0) both, ap (λ (p : Option X × List ℕ). p.1) both)

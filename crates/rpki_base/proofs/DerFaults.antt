@@ -1,15 +1,8 @@
 -- Which faults readings name: those of their layer and of the layers below it, whose numbers are no greater. So a fault
 -- of a layer is named exactly where that layer finds it.
-use Rattle.std.proofs.Common.{◌≡◌, ◌≢◌, ℕ, zero, suc, ◌<◌, ◌≤◌, ◌↔◌, Bool, true, false, cond, eqb, List, [], ◌∷◌, length, Result, Ok, Err, refl, sym, subst, arith}
-use Rattle.std.proofs.lemmas.Bool.{eqb-true, ne_eqb}
+use Rattle.rpki_base.proofs.Common.{Bool, Err, List, Ok, Result, [], arith, cond, eqb, false, length, refl, subst, suc, sym, true, zero, ℕ, ◌<◌, ◌↔◌, ◌∷◌, ◌≡◌, ◌≢◌, ◌≤◌, eqb-true, ne_eqb, Tlv, bits, each_from, ended, length_at, long_length_at, nothing, refined, tagged_at, unsigned, value_at, ◌>>=◌, DerError, BadTag, BeginsWithTwo, BeginsWithValue, by_tag, enclosed_at, only, pair_in, values_from, values_of}
 use Rattle.std.proofs.lemmas.List.{length-drop}
-use Rattle.rpki_der.specs.declared.error.DerError.{DerError}
-use Rattle.rpki_der.specs.declared.error.DerError.TheVariants.{BadTag}
-use Rattle.rpki_der.specs.Der.{Tlv}
 use Rattle.rpki_der.specs.Faults.{fault_number}
-use Rattle.rpki_der.specs.Reading.{◌>>=◌, bits, each_from, ended, length_at, long_length_at, nothing, refined, tagged_at, unsigned, value_at}
-use Rattle.rpki_base.specs.DerFaults.{BeginsWithTwo, BeginsWithValue}
-use Rattle.rpki_base.specs.DerReading.{by_tag, enclosed_at, only, pair_in, values_from, values_of}
 
 -- ---- how far the faults of an answer go
 
@@ -19,20 +12,24 @@ NamesTo n (Ok x) = Unit {0}
 NamesTo n (Err e) = fault_number e ≤ n
 
 -- so none of a greater number is named
-pub not_named : {X : Type 0} (n : ℕ) (r : Result X DerError) (e : DerError) → NamesTo n r → n < fault_number e → r ≡ Err e → ⊥
+pub not_named : {X : Type 0} (n : ℕ) (r : Result X DerError) (e : DerError) → NamesTo n r → n < fault_number e
+    → r ≡ Err e → ⊥
 not_named n r e names above is = let few : fault_number e ≤ n = subst (NamesTo n) is names in omega (arith, few, above)
 
 -- and a greater bound is one too
 pub names_more : {X : Type 0} (m n : ℕ) (r : Result X DerError) → m ≤ n → NamesTo m r → NamesTo n r
 names_more m n r more names = grind arith
 
-pub bind_names : {A B : Type 0} (n : ℕ) (r : Result A DerError) (f : A → Result B DerError) → NamesTo n r → ((x : A) → NamesTo n (f x)) → NamesTo n (r >>= f)
+pub bind_names : {A B : Type 0} (n : ℕ) (r : Result A DerError) (f : A → Result B DerError) → NamesTo n r
+    → ((x : A) → NamesTo n (f x)) → NamesTo n (r >>= f)
 bind_names n r f first more = grind (arith, more)
 
-pub cond_names : {A : Type 0} (n : ℕ) (b : Bool) (p q : Result A DerError) → NamesTo n p → NamesTo n q → NamesTo n (cond b p q)
+pub cond_names : {A : Type 0} (n : ℕ) (b : Bool) (p q : Result A DerError) → NamesTo n p → NamesTo n q
+    → NamesTo n (cond b p q)
 cond_names n b p q first second = grind arith
 
-pub refined_names : {X Y : Type 0} (n : ℕ) (reading : List ℕ → Result (X × List ℕ) DerError) (check : X → Result Y DerError) → ((bytes : List ℕ) → NamesTo n (reading bytes)) → ((x : X) → NamesTo n (check x))
+pub refined_names : {X Y : Type 0} (n : ℕ) (reading : List ℕ → Result (X × List ℕ) DerError)
+    (check : X → Result Y DerError) → ((bytes : List ℕ) → NamesTo n (reading bytes)) → ((x : X) → NamesTo n (check x))
     → (bytes : List ℕ) → NamesTo n (refined reading check bytes)
 unfolding refined
 refined_names n reading check first second bytes = search (bind_names, first, second)
@@ -41,9 +38,7 @@ refined_names n reading check first second bytes = search (bind_names, first, se
 
 pub value_names : (bytes : List ℕ) → NamesTo 3 (value_at bytes)
 unfolding value_at length_at long_length_at
-value_names [] = omega arith
-value_names (tag ∷ []) = search (arith, cond_names, bind_names)
-value_names (tag ∷ first ∷ bytes) = search (arith, cond_names, bind_names) depth 9
+value_names bytes = grind (arith, bind_names, cond_names)
 
 pub tagged_names : (tag : ℕ) (bytes : List ℕ) → NamesTo 3 (tagged_at tag bytes)
 unfolding tagged_at
@@ -60,7 +55,8 @@ unfolding value_at
 value_shorter [] v is = absurd cc
 value_shorter (tag ∷ bytes) v is = grind (arith, length-drop {A = ℕ}, length_shorter)
 
-pub tagged_shorter : (tag : ℕ) (bytes : List ℕ) (value : List ℕ × List ℕ) → tagged_at tag bytes ≡ Ok value → length value.1 < length bytes
+pub tagged_shorter : (tag : ℕ) (bytes : List ℕ) (value : List ℕ × List ℕ) → tagged_at tag bytes ≡ Ok value
+    → length value.1 < length bytes
 unfolding tagged_at
 tagged_shorter tag bytes value is = grind (arith, value_shorter)
 
@@ -75,61 +71,71 @@ bits_names (unused ∷ octets) = search (arith, cond_names)
 
 pub nothing_names : (content : List ℕ) → NamesTo 6 (nothing content)
 unfolding nothing
-nothing_names [] = tt
-nothing_names (b ∷ bytes) = omega arith
+nothing_names content = grind (arith)
 
 pub ended_names : (bytes : List ℕ) → NamesTo 7 (ended bytes)
 ended_names bytes = search (arith, cond_names)
 
 -- ---- readings from readings
 
-pub by_tag_names : {X : Type 0} (n tag : ℕ) (one two : List ℕ → Result X DerError) → 3 ≤ n → ((content : List ℕ) → NamesTo n (one content)) → ((content : List ℕ) → NamesTo n (two content))
-    → (v : Tlv) → NamesTo n (by_tag tag one two v)
+pub by_tag_names : {X : Type 0} (n tag : ℕ) (one two : List ℕ → Result X DerError) → 3 ≤ n
+    → ((content : List ℕ) → NamesTo n (one content)) → ((content : List ℕ) → NamesTo n (two content)) → (v : Tlv)
+    → NamesTo n (by_tag tag one two v)
 unfolding by_tag
 by_tag_names n tag one two above first second v = search (arith, cond_names, first, second)
 
-pub pair_names : {X Y : Type 0} (n : ℕ) (reading : List ℕ → Result (X × List ℕ) DerError) (check : X → X → Result Y DerError) → 7 ≤ n → ((bytes : List ℕ) → NamesTo n (reading bytes)) → ((first second : X) → NamesTo n (check first second))
-    → (content : List ℕ) → NamesTo n (pair_in reading check content)
+pub pair_names : {X Y : Type 0} (n : ℕ) (reading : List ℕ → Result (X × List ℕ) DerError)
+    (check : X → X → Result Y DerError) → 7 ≤ n → ((bytes : List ℕ) → NamesTo n (reading bytes))
+    → ((first second : X) → NamesTo n (check first second)) → (content : List ℕ)
+    → NamesTo n (pair_in reading check content)
 unfolding pair_in
 pair_names n reading check above reads checks content = search (arith, bind_names, names_more, ended_names, reads, checks)
 
-each_names : {S X : Type 0} (n : ℕ) (next : S → X → S) (reading : S → List ℕ → Result (X × List ℕ) DerError) → 1 ≤ n → ((state : S) (bytes : List ℕ) → NamesTo n (reading state bytes))
-    → (steps : ℕ) (state : S) (bytes : List ℕ) → NamesTo n (each_from next steps reading state bytes)
+each_names : {S X : Type 0} (n : ℕ) (next : S → X → S) (reading : S → List ℕ → Result (X × List ℕ) DerError) → 1 ≤ n
+    → ((state : S) (bytes : List ℕ) → NamesTo n (reading state bytes)) → (steps : ℕ) (state : S) (bytes : List ℕ)
+    → NamesTo n (each_from next steps reading state bytes)
 unfolding each_from
 each_names n next reading above reads steps state [] = tt
 each_names n next reading above reads zero state (b ∷ bytes) = above
 each_names n next reading above reads (suc steps) state (b ∷ bytes) = search (bind_names, reads, each_names n next reading above reads steps)
 
-pub values_names : {X : Type 0} (n : ℕ) (reading : List ℕ → Result (X × List ℕ) DerError) → 1 ≤ n → ((bytes : List ℕ) → NamesTo n (reading bytes)) → (content : List ℕ) → NamesTo n (values_of reading content)
+pub values_names : {X : Type 0} (n : ℕ) (reading : List ℕ → Result (X × List ℕ) DerError) → 1 ≤ n
+    → ((bytes : List ℕ) → NamesTo n (reading bytes)) → (content : List ℕ) → NamesTo n (values_of reading content)
 unfolding values_from
 values_names n reading above reads content = search (each_names)
 
 -- ---- where a fault is met
 
 -- the step before didn't name it, so this one does
-pub bind_fails : {A B : Type 0} (r : Result A DerError) (f : A → Result B DerError) (e : DerError) → (r ≡ Err e → ⊥) → (r >>= f) ≡ Err e → (x : A) × (r ≡ Ok x) × (f x ≡ Err e)
+pub bind_fails : {A B : Type 0} (r : Result A DerError) (f : A → Result B DerError) (e : DerError) → (r ≡ Err e → ⊥)
+    → (r >>= f) ≡ Err e → (x : A) × (r ≡ Ok x) × (f x ≡ Err e)
 bind_fails r f e never is = grind (arith, never)
 
 -- the steps behind can't name it, so this one does
-pub first_fails : {A B : Type 0} (r : Result A DerError) (f : A → Result B DerError) (e : DerError) → ((x : A) → f x ≡ Err e → ⊥) → (r >>= f) ≡ Err e → r ≡ Err e
+pub first_fails : {A B : Type 0} (r : Result A DerError) (f : A → Result B DerError) (e : DerError)
+    → ((x : A) → f x ≡ Err e → ⊥) → (r >>= f) ≡ Err e → r ≡ Err e
 first_fails r f e never is = grind (arith, never)
 
 -- a test that names it
-pub cond_fails : {A : Type 0} (b : Bool) (x : A) (d e : DerError) (r : Result A DerError) → r ≡ Ok x → cond b (Err d) r ≡ Err e → b ≡ true
+pub cond_fails : {A : Type 0} (b : Bool) (x : A) (d e : DerError) (r : Result A DerError) → r ≡ Ok x
+    → cond b (Err d) r ≡ Err e → b ≡ true
 cond_fails b x d e r ok is = grind arith
 
 -- the fault of what is named otherwise
-pub mapped_fails : {A B : Type 0} (r : Result A DerError) (f : A → B) (e : DerError) → ((r >>= λ x. Ok (f x)) ≡ Err e) ↔ (r ≡ Err e)
-mapped_fails (Ok x) f e = ((λ is. absurd cc), (λ is. absurd cc))
-mapped_fails (Err d) f e = ((λ is. cc), (λ is. cc))
+pub mapped_fails : {A B : Type 0} (r : Result A DerError) (f : A → B) (e : DerError)
+    → ((r >>= λ x. Ok (f x)) ≡ Err e) ↔ (r ≡ Err e)
+mapped_fails r f e = grind (arith)
 
 -- the end of a content isn't looked at before what is found in it
-ended_fails : {A : Type 0} (y : A) (bytes : List ℕ) (e : DerError) → 7 < fault_number e → (ended bytes >>= λ end. Ok y) ≡ Err e → ⊥
+ended_fails : {A : Type 0} (y : A) (bytes : List ℕ) (e : DerError) → 7 < fault_number e
+    → (ended bytes >>= λ end. Ok y) ≡ Err e → ⊥
 ended_fails y bytes e above = not_named 7 (ended bytes >>= λ end. Ok y) e (search (bind_names, ended_names)) above
 
 -- two values
-pub pair_fails : {X Y : Type 0} (reading : List ℕ → Result (X × List ℕ) DerError) (check : X → X → Result Y DerError) (e : DerError) → 7 < fault_number e → ((bytes : List ℕ) → reading bytes ≡ Err e → ⊥)
-    → (content : List ℕ) → (pair_in reading check content ≡ Err e) ↔ BeginsWithTwo reading (λ first second. check first second ≡ Err e) content
+pub pair_fails : {X Y : Type 0} (reading : List ℕ → Result (X × List ℕ) DerError) (check : X → X → Result Y DerError)
+    (e : DerError) → 7 < fault_number e → ((bytes : List ℕ) → reading bytes ≡ Err e → ⊥) → (content : List ℕ)
+    → (pair_in reading check content ≡ Err e)
+    ↔ BeginsWithTwo reading (λ first second. check first second ≡ Err e) content
 unfolding pair_in
 pair_fails reading check e above never content = (
   (λ is.
@@ -140,33 +146,35 @@ pair_fails reading check e above never content = (
 )
 
 -- the one value of a content
-pub only_fails : {X : Type 0} (reading : List ℕ → Result (X × List ℕ) DerError) (e : DerError) → 7 < fault_number e → (content : List ℕ) → (only reading content ≡ Err e) ↔ (reading content ≡ Err e)
+pub only_fails : {X : Type 0} (reading : List ℕ → Result (X × List ℕ) DerError) (e : DerError) → 7 < fault_number e
+    → (content : List ℕ) → (only reading content ≡ Err e) ↔ (reading content ≡ Err e)
 unfolding only
 only_fails reading e above content = ((λ is. first_fails (reading content) _ e (λ x. ended_fails x.0 x.1 e above) is), (λ fails. rw fails refl))
 
 -- a content of a tag
-pub tagged_fails : {X : Type 0} (tag : ℕ) (check : List ℕ → Result X DerError) (e : DerError) → 3 < fault_number e → (bytes : List ℕ)
+pub tagged_fails : {X : Type 0} (tag : ℕ) (check : List ℕ → Result X DerError) (e : DerError) → 3 < fault_number e
+    → (bytes : List ℕ)
     → (refined (tagged_at tag) check bytes ≡ Err e) ↔ BeginsWithValue tag (λ content. check content ≡ Err e) bytes
 unfolding refined
-tagged_fails tag check e above bytes = (
-  (λ is. let a = bind_fails (tagged_at tag bytes) _ e (not_named 3 _ e (tagged_names tag bytes) above) is in (a.0, a.1, (mapped_fails (check a.0.0) _ e).0 a.2)),
-  (λ (v, found, fails). rw (found, fails) refl),
-)
+tagged_fails tag check e above bytes = grind (arith, bind_fails, mapped_fails, not_named, tagged_names)
 
 -- a value that encloses one
-pub enclosed_fails : {X : Type 0} (tag : ℕ) (reading : List ℕ → Result (X × List ℕ) DerError) (e : DerError) → 7 < fault_number e → (bytes : List ℕ)
+pub enclosed_fails : {X : Type 0} (tag : ℕ) (reading : List ℕ → Result (X × List ℕ) DerError) (e : DerError)
+    → 7 < fault_number e → (bytes : List ℕ)
     → (enclosed_at tag reading bytes ≡ Err e) ↔ BeginsWithValue tag (λ content. reading content ≡ Err e) bytes
 enclosed_fails tag reading e above bytes = (
   (λ is. let a = (tagged_fails tag (only reading) e (omega arith) bytes).0 is in (a.0, a.1, (only_fails reading e above a.0.0).0 a.2)),
   (λ (v, found, fails). (tagged_fails tag (only reading) e (omega arith) bytes).1 (v, found, (only_fails reading e above v.0).1 fails)),
 )
 
-tagged_value : (tag : ℕ) (bytes : List ℕ) (v : List ℕ × List ℕ) → tagged_at tag bytes ≡ Ok v → value_at bytes ≡ Ok (record { tag = tag; content = v.0 }, v.1)
+tagged_value : (tag : ℕ) (bytes : List ℕ) (v : List ℕ × List ℕ) → tagged_at tag bytes ≡ Ok v
+    → value_at bytes ≡ Ok (record { tag = tag; content = v.0 }, v.1)
 unfolding tagged_at
 tagged_value tag bytes v is = grind (arith, eqb-true)
 
 -- a SEQUENCE, where the fault isn't one of the other tag's content
-pub sequence_fails : {X : Type 0} (tag : ℕ) (one two : List ℕ → Result X DerError) (e : DerError) → tag ≢ 48 → 3 < fault_number e → ((content : List ℕ) → one content ≡ Err e → ⊥) → (bytes : List ℕ)
+pub sequence_fails : {X : Type 0} (tag : ℕ) (one two : List ℕ → Result X DerError) (e : DerError) → tag ≢ 48
+    → 3 < fault_number e → ((content : List ℕ) → one content ≡ Err e → ⊥) → (bytes : List ℕ)
     → (refined value_at (by_tag tag one two) bytes ≡ Err e) ↔ BeginsWithValue 48 (λ content. two content ≡ Err e) bytes
 unfolding refined by_tag tagged_at
 sequence_fails {X} tag one two e apart above never bytes = (
@@ -179,21 +187,26 @@ sequence_fails {X} tag one two e apart above never bytes = (
       rw (tagged_value 48 bytes content found, other, fails) refl),
 )
   where
-    by_tests : (v : Tlv) (first second : Bool) → cond first (one v.content) (cond second (two v.content) (Err BadTag)) ≡ Err e → (second ≡ true) × (two v.content ≡ Err e)
+    by_tests : (v : Tlv) (first second : Bool)
+        → cond first (one v.content) (cond second (two v.content) (Err BadTag)) ≡ Err e
+        → (second ≡ true) × (two v.content ≡ Err e)
     by_tests v first second is = grind (arith, never)
 
 -- ---- values one after another
 
 -- none are there exactly where the content is empty
-pub no_values : {X : Type 0} (reading : List ℕ → Result (X × List ℕ) DerError) (content : List ℕ) → (values_of reading content ≡ Ok []) ↔ (content ≡ [])
+pub no_values : {X : Type 0} (reading : List ℕ → Result (X × List ℕ) DerError) (content : List ℕ)
+    → (values_of reading content ≡ Ok []) ↔ (content ≡ [])
 unfolding values_from each_from
-no_values reading [] = ((λ is. refl), (λ is. refl))
-no_values reading (b ∷ bytes) = ((λ is. grind arith), (λ none. absurd cc))
+no_values reading content = grind (arith)
 
 -- ---- the same of what is found
 
-pub begins_two : {X : Type 0} (reading : List ℕ → Result (X × List ℕ) DerError) (C D : X → X → Type 0) → ((first second : X) → C first second → D first second) → (bytes : List ℕ) → BeginsWithTwo reading C bytes → BeginsWithTwo reading D bytes
+pub begins_two : {X : Type 0} (reading : List ℕ → Result (X × List ℕ) DerError) (C D : X → X → Type 0)
+    → ((first second : X) → C first second → D first second) → (bytes : List ℕ) → BeginsWithTwo reading C bytes
+    → BeginsWithTwo reading D bytes
 begins_two reading C D says bytes (first, second, one, two, c) = (first, second, one, two, says first.0 second.0 c)
 
-pub begins_value : (tag : ℕ) (P Q : List ℕ → Type 0) → ((content : List ℕ) → P content → Q content) → (bytes : List ℕ) → BeginsWithValue tag P bytes → BeginsWithValue tag Q bytes
+pub begins_value : (tag : ℕ) (P Q : List ℕ → Type 0) → ((content : List ℕ) → P content → Q content) → (bytes : List ℕ)
+    → BeginsWithValue tag P bytes → BeginsWithValue tag Q bytes
 begins_value tag P Q says bytes (v, found, p) = (v, found, says v.0 p)

@@ -1,29 +1,14 @@
 -- Readings from readings by the mode, and calls that take memory.
-use Rattle.std.proofs.Common.{◌≡◌, ℕ, zero, suc, Bool, true, false, List, [], ◌∷◌, ◌++◌, length, Result, Ok, Err, refl, sym, ap, subst, ◌∙◌, arith, inl}
-use Rattle.std.specs.Prelude.{MatchResult}
-use Rattle.std.proofs.lemmas.List.{append-nil, length-append}
-use Rattle.rpki_der.specs.declared.cursor.Cursor.{Cursor}
-use Rattle.rpki_der.specs.declared.error.DerError.{DerError}
-use Rattle.rpki_der.specs.Der.{EachFrom, IsBytes, Refines, Tlv}
-use Rattle.rpki_der.specs.Reading.{◌>>=◌, IsModal, IsReading, Tightens, each_from, ended, passing, tagged_at}
-use Rattle.rpki_der.specs.Views.{Lenient, is_strict, left}
-use Rattle.rpki_der.proofs.Lists.{HasOctets}
-use Rattle.rpki_der.proofs.Readings.{fits_rest}
-use Rattle.rpki_der.proofs.Steps.{IsCheck, bind_ok, ok_is, ok_or_err}
-use Rattle.rpki_der.proofs.Modes.{bind_tightens, cond_tightens, each_tightens, found_is, lenient_is, looked_tightens, passed_is, passes, passing_tightens, refused_at, same_found}
-use Rattle.rpki_text.specs.Memory.{IsMemory}
-use Rattle.rpki_text.specs.declared.memory.OrMemory.{OrMemory}
-use Rattle.rpki_text.specs.declared.memory.OrMemory.TheVariants.{Refused, Memory}
-use Rattle.rpki_base.specs.DerReading.{Encloses, IsSequenceFrom, SaysPair, by_tag, enclosed_at, only, pair_by, pair_in, sequence_from, values_from, values_of}
-use Rattle.rpki_base.specs.DerViews.{NotCanonicalOrMemory, ReadsOrMemory, TakesOrMemory, TakesSaidOrMemory}
+use Rattle.rpki_base.proofs.Common.{Bool, Err, List, Ok, Result, [], ap, arith, false, inl, length, refl, subst, suc, sym, true, zero, ℕ, ◌++◌, ◌∙◌, ◌∷◌, ◌≡◌, append-nil, length-append, MatchResult, HasOctets, bind_tightens, cond_tightens, each_tightens, found_is, lenient_is, looked_tightens, passed_is, passes, passing_tightens, refused_at, same_found, fits_rest, IsCheck, bind_ok, ok_is, ok_or_err, EachFrom, IsBytes, Refines, Tlv, IsModal, IsReading, Tightens, each_from, ended, passing, tagged_at, ◌>>=◌, Lenient, is_strict, left, Cursor, DerError, IsMemory, OrMemory, Memory, Refused, Encloses, IsSequenceFrom, SaysPair, by_tag, enclosed_at, only, pair_by, pair_in, sequence_from, values_from, values_of, NotCanonicalOrMemory, ReadsOrMemory, TakesOrMemory, TakesSaidOrMemory}
 use Rattle.rpki_base.proofs.DerReadings.{ended_is, enclosed_reading, sequence_reading, values_check}
 
 -- ---- by the tag
 
 -- a value of the tag, or a SEQUENCE
 pub by_tag_tightens : {X : Type 0} (strict : Bool) (tag : ℕ) (one two first second : List ℕ → Result X DerError)
-    → ((content : List ℕ) → Tightens strict (one content) (first content)) → ((content : List ℕ) → Tightens strict (two content) (second content))
-    → (v : Tlv) → Tightens strict (by_tag tag one two v) (by_tag tag first second v)
+    → ((content : List ℕ) → Tightens strict (one content) (first content))
+    → ((content : List ℕ) → Tightens strict (two content) (second content)) → (v : Tlv)
+    → Tightens strict (by_tag tag one two v) (by_tag tag first second v)
 unfolding by_tag
 by_tag_tightens strict tag one two first second tight also v = grind (arith, cond_tightens)
 
@@ -32,8 +17,11 @@ by_tag_tightens strict tag one two first second tight also v = grind (arith, con
 -- two values that pass a test strictly
 module _ {X Y : Type 0} (S : List ℕ → X → Type 0) (C : X → X → Y → Type 0) (reading : List ℕ → Result (X × List ℕ) DerError) (check : X → X → Result Y DerError) (test : X → X → Bool) where
   -- what is read strictly
-  pub tested_pair_check : IsReading S reading → ((first second : X) (y : Y) → check first second ≡ Ok y → C first second y) → ((first second : X) (y : Y) → C first second y → check first second ≡ Ok y)
-      → IsCheck IsBytes (SaysPair S (λ first second y. C first second y × (test first second ≡ true))) (pair_by true reading check test)
+  pub tested_pair_check : IsReading S reading
+      → ((first second : X) (y : Y) → check first second ≡ Ok y → C first second y)
+      → ((first second : X) (y : Y) → C first second y → check first second ≡ Ok y)
+      → IsCheck IsBytes (SaysPair S (λ first second y. C first second y × (test first second ≡ true)))
+      (pair_by true reading check test)
   unfolding pair_by
   tested_pair_check is says back = record {
     takes = λ content y fits e.
@@ -54,8 +42,9 @@ module _ {X Y : Type 0} (S : List ℕ → X → Type 0) (C : X → X → Y → T
   }
 
   -- by the mode
-  pub tested_pair_tightens : (strict : Bool) (by : List ℕ → Result (X × List ℕ) DerError) → ((bytes : List ℕ) → Tightens strict (by bytes) (reading bytes))
-      → (content : List ℕ) → Tightens strict (pair_by strict by check test content) (pair_in reading check content)
+  pub tested_pair_tightens : (strict : Bool) (by : List ℕ → Result (X × List ℕ) DerError)
+      → ((bytes : List ℕ) → Tightens strict (by bytes) (reading bytes)) → (content : List ℕ)
+      → Tightens strict (pair_by strict by check test content) (pair_in reading check content)
   unfolding pair_by pair_in
   tested_pair_tightens strict by tight content =
       let then : X × List ℕ → X × List ℕ → Result Y DerError = λ first second. check first.0 second.0 >>= λ y. (ended second.1 >>= λ end. passing strict (λ y. test first.0 second.0) y) in
@@ -66,14 +55,16 @@ module _ {X Y : Type 0} (S : List ℕ → X → Type 0) (C : X → X → Y → T
       (λ y. bind_tightens strict (ended second.1) (ended second.1) (λ end. passing strict (λ y. test first.0 second.0) y) (λ end. Ok y) (inl refl) (λ end. passing_tightens strict (λ y. test first.0 second.0) y))))
 
 -- one value
-pub only_tightens : {X : Type 0} (strict : Bool) (by reading : List ℕ → Result (X × List ℕ) DerError) → ((bytes : List ℕ) → Tightens strict (by bytes) (reading bytes))
-    → (content : List ℕ) → Tightens strict (only by content) (only reading content)
+pub only_tightens : {X : Type 0} (strict : Bool) (by reading : List ℕ → Result (X × List ℕ) DerError)
+    → ((bytes : List ℕ) → Tightens strict (by bytes) (reading bytes)) → (content : List ℕ)
+    → Tightens strict (only by content) (only reading content)
 unfolding only
 only_tightens strict by reading tight content = grind (arith, bind_tightens)
 
 -- and a value that encloses one
-pub enclosed_modal : {X : Type 0} (tag : ℕ) (S : List ℕ → X → Type 0) (reading : List ℕ → Result (X × List ℕ) DerError) (by : Bool → List ℕ → Result (X × List ℕ) DerError)
-    → IsModal S reading by → IsModal (Encloses tag S) (enclosed_at tag reading) (λ strict. enclosed_at tag (by strict))
+pub enclosed_modal : {X : Type 0} (tag : ℕ) (S : List ℕ → X → Type 0) (reading : List ℕ → Result (X × List ℕ) DerError)
+    (by : Bool → List ℕ → Result (X × List ℕ) DerError) → IsModal S reading by
+    → IsModal (Encloses tag S) (enclosed_at tag reading) (λ strict. enclosed_at tag (by strict))
 enclosed_modal tag S reading by is = record {
   tight = enclosed_reading tag S (by true) is.tight;
   tightens = λ strict bytes. looked_tightens strict (tagged_at tag) (only (by strict)) (only reading) (only_tightens strict (by strict) reading (is.tightens strict)) bytes;
@@ -82,13 +73,17 @@ enclosed_modal tag S reading by is = record {
 -- ---- sequences
 
 -- values that don't depend on a state may be read from any
-then_stateless : {S T X : Type 0} (next : S → X → S) (more : T → X → T) (reading : List ℕ → Result (X × List ℕ) DerError) (steps : ℕ)
-    → ((s : S) (t : T) (bytes : List ℕ) → each_from next steps (λ s. reading) s bytes ≡ each_from more steps (λ t. reading) t bytes)
+then_stateless : {S T X : Type 0} (next : S → X → S) (more : T → X → T)
+    (reading : List ℕ → Result (X × List ℕ) DerError) (steps : ℕ)
+    → ((s : S) (t : T) (bytes : List ℕ)
+    → each_from next steps (λ s. reading) s bytes ≡ each_from more steps (λ t. reading) t bytes)
     → (s : S) (t : T) (r : Result (X × List ℕ) DerError)
-    → (r >>= λ x. each_from next steps (λ s. reading) (next s x.0) x.1 >>= λ xs. Ok (x.0 ∷ xs)) ≡ (r >>= λ x. each_from more steps (λ t. reading) (more t x.0) x.1 >>= λ xs. Ok (x.0 ∷ xs))
+    → (r >>= λ x. each_from next steps (λ s. reading) (next s x.0) x.1 >>= λ xs. Ok (x.0 ∷ xs))
+    ≡ (r >>= λ x. each_from more steps (λ t. reading) (more t x.0) x.1 >>= λ xs. Ok (x.0 ∷ xs))
 then_stateless next more reading steps same s t v7 = grind (arith)
 
-each_stateless : {S T X : Type 0} (next : S → X → S) (more : T → X → T) (reading : List ℕ → Result (X × List ℕ) DerError) (steps : ℕ) (s : S) (t : T) (bytes : List ℕ)
+each_stateless : {S T X : Type 0} (next : S → X → S) (more : T → X → T)
+    (reading : List ℕ → Result (X × List ℕ) DerError) (steps : ℕ) (s : S) (t : T) (bytes : List ℕ)
     → each_from next steps (λ s. reading) s bytes ≡ each_from more steps (λ t. reading) t bytes
 unfolding each_from
 each_stateless next more reading zero s t [] = refl
@@ -96,13 +91,15 @@ each_stateless next more reading (suc steps) s t [] = refl
 each_stateless next more reading zero s t (b ∷ bytes) = refl
 each_stateless next more reading (suc steps) s t (b ∷ bytes) = then_stateless next more reading steps (each_stateless next more reading steps) s t (reading (b ∷ bytes))
 
-pub values_stateless : {S X : Type 0} (next : S → X → S) (reading : List ℕ → Result (X × List ℕ) DerError) (s : S) → values_from next (λ s. reading) s ≡ values_of reading
+pub values_stateless : {S X : Type 0} (next : S → X → S) (reading : List ℕ → Result (X × List ℕ) DerError) (s : S)
+    → values_from next (λ s. reading) s ≡ values_of reading
 unfolding values_from
 values_stateless next reading s = λ i content. each_stateless next (λ (state : Unit {0}) x. state) reading (length content) s tt content i
 
 -- a value that is found strictly has an octet where those have that are found leniently
-pub strict_has_octets : {X : Type 0} (G S : List ℕ → X → Type 0) (reading : List ℕ → Result (X × List ℕ) DerError) (by : Bool → List ℕ → Result (X × List ℕ) DerError)
-    → IsReading G reading → HasOctets G → IsModal S reading by → HasOctets S
+pub strict_has_octets : {X : Type 0} (G S : List ℕ → X → Type 0) (reading : List ℕ → Result (X × List ℕ) DerError)
+    (by : Bool → List ℕ → Result (X × List ℕ) DerError) → IsReading G reading → HasOctets G → IsModal S reading by
+    → HasOctets S
 strict_has_octets G S reading by is has modal (b ∷ front) x says = omega arith
 strict_has_octets G S reading by is has modal [] x says =
     let found : reading [] ≡ Ok (x, []) = found_is true (by true []) (reading []) (x, []) (modal.tightens true []) (modal.tight.again [] x [] says) in
@@ -111,22 +108,30 @@ strict_has_octets G S reading by is has modal [] x says =
     omega (arith, some, ap length front.2, length-append front.0 [])
 
 -- all values of a content
-pub values_tighten : {S X : Type 0} (strict : Bool) (next : S → X → S) (by reading : S → List ℕ → Result (X × List ℕ) DerError) → ((state : S) (bytes : List ℕ) → Tightens strict (by state bytes) (reading state bytes))
-    → (state : S) (content : List ℕ) → Tightens strict (values_from next by state content) (values_from next reading state content)
+pub values_tighten : {S X : Type 0} (strict : Bool) (next : S → X → S)
+    (by reading : S → List ℕ → Result (X × List ℕ) DerError)
+    → ((state : S) (bytes : List ℕ) → Tightens strict (by state bytes) (reading state bytes))
+    → (state : S) (content : List ℕ)
+    → Tightens strict (values_from next by state content) (values_from next reading state content)
 unfolding values_from
 values_tighten strict next by reading tight state content = each_tightens strict next by reading tight (length content) state content
 
 -- strictly
-pub strict_values_check : {S X : Type 0} (next : S → X → S) (G H : S → List ℕ → X → Type 0) (reading : S → List ℕ → Result (X × List ℕ) DerError) (by : Bool → S → List ℕ → Result (X × List ℕ) DerError)
-    → ((state : S) → IsReading (G state) (reading state)) → ((state : S) → HasOctets (G state)) → ((state : S) → IsModal (H state) (reading state) (λ strict. by strict state))
-    → (state : S) → IsCheck IsBytes (EachFrom next H state) (values_from next (by true) state)
+pub strict_values_check : {S X : Type 0} (next : S → X → S) (G H : S → List ℕ → X → Type 0)
+    (reading : S → List ℕ → Result (X × List ℕ) DerError) (by : Bool → S → List ℕ → Result (X × List ℕ) DerError)
+    → ((state : S) → IsReading (G state) (reading state)) → ((state : S) → HasOctets (G state))
+    → ((state : S) → IsModal (H state) (reading state) (λ strict. by strict state)) → (state : S)
+    → IsCheck IsBytes (EachFrom next H state) (values_from next (by true) state)
 strict_values_check next G H reading by is has modal state =
     values_check next H (by true) (λ state. (modal state).tight) (λ state. strict_has_octets (G state) (H state) (reading state) (λ strict. by strict state) (is state) (has state) (modal state)) state
 
 -- a SEQUENCE of values
-pub sequence_modal : {S X : Type 0} (next : S → X → S) (G H : S → List ℕ → X → Type 0) (reading : S → List ℕ → Result (X × List ℕ) DerError) (by : Bool → S → List ℕ → Result (X × List ℕ) DerError)
-    → ((state : S) → IsReading (G state) (reading state)) → ((state : S) → HasOctets (G state)) → ((state : S) → IsModal (H state) (reading state) (λ strict. by strict state))
-    → (state : S) → IsModal (IsSequenceFrom next H state) (sequence_from next reading state) (λ strict. sequence_from next (by strict) state)
+pub sequence_modal : {S X : Type 0} (next : S → X → S) (G H : S → List ℕ → X → Type 0)
+    (reading : S → List ℕ → Result (X × List ℕ) DerError) (by : Bool → S → List ℕ → Result (X × List ℕ) DerError)
+    → ((state : S) → IsReading (G state) (reading state)) → ((state : S) → HasOctets (G state))
+    → ((state : S) → IsModal (H state) (reading state) (λ strict. by strict state)) → (state : S)
+    → IsModal (IsSequenceFrom next H state) (sequence_from next reading state)
+    (λ strict. sequence_from next (by strict) state)
 sequence_modal next G H reading by is has modal state = record {
   tight = sequence_reading next H (by true) (λ state. (modal state).tight) (λ state. strict_has_octets (G state) (H state) (reading state) (λ strict. by strict state) (is state) (has state) (modal state)) state;
   tightens = λ strict bytes. looked_tightens strict (tagged_at 48) (values_from next (by strict) state) (values_from next reading state) (values_tighten strict next (by strict) reading (λ state. (modal state).tightens strict) state) bytes;
@@ -135,31 +140,42 @@ sequence_modal next G H reading by is has modal state = record {
 -- ---- calls that take memory
 
 -- a take from a cursor that isn't strict
-pub exact_or_memory_by : {X Y : Type 0} (S : List ℕ → Y → Type 0) (reading : List ℕ → Result (Y × List ℕ) DerError) (by : Bool → List ℕ → Result (Y × List ℕ) DerError) (view : X → Y) (old new : Cursor) (result : Result X (OrMemory DerError))
-    → IsModal S reading by → TakesOrMemory view old new result (by (is_strict old)) → Lenient old (TakesOrMemory view old new result reading)
+pub exact_or_memory_by : {X Y : Type 0} (S : List ℕ → Y → Type 0) (reading : List ℕ → Result (Y × List ℕ) DerError)
+    (by : Bool → List ℕ → Result (Y × List ℕ) DerError) (view : X → Y) (old new : Cursor)
+    (result : Result X (OrMemory DerError)) → IsModal S reading by
+    → TakesOrMemory view old new result (by (is_strict old)) → Lenient old (TakesOrMemory view old new result reading)
 exact_or_memory_by v0 reading by view old new result modal took lenient = grind (arith, lenient_is)
 
 -- one that answers what is said by what the reading gives
-pub exact_said_by : {X Y : Type 0} (S : List ℕ → Y → Type 0) (C : Y → X → Type 0) (reading : List ℕ → Result (Y × List ℕ) DerError) (by : Bool → List ℕ → Result (Y × List ℕ) DerError) (old new : Cursor) (result : Result X (OrMemory DerError))
-    → IsModal S reading by → TakesSaidOrMemory C old new result (by (is_strict old)) → Lenient old (TakesSaidOrMemory C old new result reading)
+pub exact_said_by : {X Y : Type 0} (S : List ℕ → Y → Type 0) (C : Y → X → Type 0)
+    (reading : List ℕ → Result (Y × List ℕ) DerError) (by : Bool → List ℕ → Result (Y × List ℕ) DerError)
+    (old new : Cursor) (result : Result X (OrMemory DerError)) → IsModal S reading by
+    → TakesSaidOrMemory C old new result (by (is_strict old)) → Lenient old (TakesSaidOrMemory C old new result reading)
 exact_said_by v0 v1 reading by old new result modal took lenient = grind (arith, lenient_is)
 
 -- a take that answers what is said by what the reading gives
-pub refused_said_by : {X Y : Type 0} (G S : List ℕ → Y → Type 0) (C : Y → X → Type 0) (reading : List ℕ → Result (Y × List ℕ) DerError) (by : Bool → List ℕ → Result (Y × List ℕ) DerError) (old new : Cursor) (result : Result X (OrMemory DerError))
-    → IsReading G reading → IsModal S reading by → TakesSaidOrMemory C old new result (by (is_strict old)) → NotCanonicalOrMemory (Refines G C) old result
+pub refused_said_by : {X Y : Type 0} (G S : List ℕ → Y → Type 0) (C : Y → X → Type 0)
+    (reading : List ℕ → Result (Y × List ℕ) DerError) (by : Bool → List ℕ → Result (Y × List ℕ) DerError)
+    (old new : Cursor) (result : Result X (OrMemory DerError)) → IsReading G reading → IsModal S reading by
+    → TakesSaidOrMemory C old new result (by (is_strict old)) → NotCanonicalOrMemory (Refines G C) old result
 refused_said_by v0 v1 v2 reading by old new v7 is modal took = grind (arith, refused_at)
 
 -- a take, by another name of the grammar
-pub reads_same : {X Y : Type 0} (G H : List ℕ → Y → Type 0) (view : X → Y) (old new : Cursor) (result : Result X (OrMemory DerError))
-    → ((bytes : List ℕ) (y : Y) → G bytes y → H bytes y) → ((bytes : List ℕ) (y : Y) → H bytes y → G bytes y) → ReadsOrMemory G view old new result → ReadsOrMemory H view old new result
+pub reads_same : {X Y : Type 0} (G H : List ℕ → Y → Type 0) (view : X → Y) (old new : Cursor)
+    (result : Result X (OrMemory DerError)) → ((bytes : List ℕ) (y : Y) → G bytes y → H bytes y)
+    → ((bytes : List ℕ) (y : Y) → H bytes y → G bytes y) → ReadsOrMemory G view old new result
+    → ReadsOrMemory H view old new result
 reads_same G H view old new (Ok x) to from (front, is, split) = (front, to front (view x) is, split)
 reads_same G H view old new (Err (Refused e)) to from (none, kept) = ((λ y rest found. none y rest (found.0, from found.0 y found.1, found.2)), kept)
 reads_same G H view old new (Err (Memory e)) to from read = read
 
 -- a take in either mode, where a value stands that is found strictly: it answers the one thing that the value says
-pub takes_said_by : {X Y : Type 0} (S : List ℕ → Y → Type 0) (C : Y → X → Type 0) (reading : List ℕ → Result (Y × List ℕ) DerError) (by : Bool → List ℕ → Result (Y × List ℕ) DerError) (old new : Cursor) (result : Result X (OrMemory DerError))
-    → IsModal S reading by → ((y : Y) (a b : X) → C y a → C y b → a ≡ b) → TakesSaidOrMemory C old new result (by (is_strict old))
-    → (front rest : List ℕ) (y : Y) (x : X) → S front y → C y x → left old ≡ front ++ rest → MatchResult result (λ read. (read ≡ x) × (left new ≡ rest)) IsMemory
+pub takes_said_by : {X Y : Type 0} (S : List ℕ → Y → Type 0) (C : Y → X → Type 0)
+    (reading : List ℕ → Result (Y × List ℕ) DerError) (by : Bool → List ℕ → Result (Y × List ℕ) DerError)
+    (old new : Cursor) (result : Result X (OrMemory DerError)) → IsModal S reading by
+    → ((y : Y) (a b : X) → C y a → C y b → a ≡ b) → TakesSaidOrMemory C old new result (by (is_strict old))
+    → (front rest : List ℕ) (y : Y) (x : X) → S front y → C y x → left old ≡ front ++ rest
+    → MatchResult result (λ read. (read ≡ x) × (left new ≡ rest)) IsMemory
 takes_said_by {X} {Y} S C reading by old new result modal one took front rest y x says tells at = decided result took
   where
     found : (strict : Bool) → by strict (front ++ rest) ≡ Ok (y, rest)
@@ -171,7 +187,8 @@ takes_said_by {X} {Y} S C reading by old new result modal one took front rest y 
     expected : by (is_strict old) (left old) ≡ Ok (y, rest)
     expected = ap (by (is_strict old)) at ∙ found (is_strict old)
 
-    decided : (result : Result X (OrMemory DerError)) → TakesSaidOrMemory C old new result (by (is_strict old)) → MatchResult result (λ read. (read ≡ x) × (left new ≡ rest)) IsMemory
+    decided : (result : Result X (OrMemory DerError)) → TakesSaidOrMemory C old new result (by (is_strict old))
+        → MatchResult result (λ read. (read ≡ x) × (left new ≡ rest)) IsMemory
     decided (Ok read) (z, here, tell) =
         let both = ok_is (z, left new) (y, rest) (sym here ∙ expected) in
         (one y read x (subst (λ y. C y read) (ap (λ p. p.0) both) tell) tells, ap (λ p. p.1) both)

@@ -1,16 +1,6 @@
 -- Lists that are written: they are values of the grammar, and no two lists are written alike, also in a SEQUENCE.
-use Rattle.std.proofs.Common.{◌≡◌, ℕ, ◌+◌, ◌^◌, ◌<◌, ◌≤◌, ◌⊎◌, Bool, cond, ltb, List, [], ◌∷◌, ◌++◌, length, drop, Result, Ok, refl, sym, ap, ◌∙◌, arith, inl, inr}
-use Rattle.std.proofs.lemmas.Bool.{cases_lt, le-ltb, lt-ltb}
-use Rattle.std.proofs.lemmas.List.{drop_at}
-use Rattle.std.specs.List.{AllByRecursion}
-use Rattle.rpki_der.specs.declared.error.DerError.{DerError}
-use Rattle.rpki_der.specs.Der.{Each, header, length_octets, octets, sequence_value}
-use Rattle.rpki_der.specs.Reading.{IsReading, each}
-use Rattle.rpki_der.proofs.Steps.{ok_is}
-use Rattle.rpki_der.proofs.Lists.{HasOctets, each_again}
-use Rattle.rpki_der.proofs.Written.{value_is}
-use Rattle.rpki_base.specs.DerReading.{IsSequenceOf}
-use Rattle.rpki_base.specs.DerWriting.{octets_of_all, sequence_octets}
+use Rattle.rpki_base.proofs.Common.{Bool, List, Ok, Result, [], ap, arith, cond, drop, inl, inr, length, ltb, refl, sym, ℕ, ◌++◌, ◌+◌, ◌<◌, ◌^◌, ◌∙◌, ◌∷◌, ◌≡◌, ◌≤◌, ◌⊎◌, cases_lt, drop_at, AllByRecursion, HasOctets, each_again, ok_is, value_is, Each, header, length_octets, octets, sequence_value, IsReading, each, DerError, IsSequenceOf, octets_of_all, sequence_octets}
+use Rattle.std.proofs.lemmas.Bool.{le-ltb, lt-ltb}
 
 -- the first of lists that are one
 head_of : (a b : ℕ) (xs ys : List ℕ) → a ∷ xs ≡ b ∷ ys → a ≡ b
@@ -27,12 +17,14 @@ module _ {X : Type 0} (G : List ℕ → X → Type 0) (octets : X → List ℕ) 
   each_written (x ∷ xs) all = (octets_of_all octets xs, (octets x, all.0, refl), each_written xs all.1)
 
   -- and in one SEQUENCE they are a SEQUENCE of them
-  pub sequence_written : (xs : List X) → AllByRecursion (λ x. G (octets x) x) xs → length (octets_of_all octets xs) < 2 ^ 64 → IsSequenceOf G (sequence_octets octets xs) xs
+  pub sequence_written : (xs : List X) → AllByRecursion (λ x. G (octets x) x) xs
+      → length (octets_of_all octets xs) < 2 ^ 64 → IsSequenceOf G (sequence_octets octets xs) xs
   sequence_written xs all short = (octets_of_all octets xs, value_is 48 (octets_of_all octets xs) (omega arith) short, each_written xs all)
 
   -- lists that are written alike are one
   pub written_alike : (reading : List ℕ → Result (X × List ℕ) DerError) → IsReading G reading → HasOctets G
-      → (xs ys : List X) → AllByRecursion (λ x. G (octets x) x) xs → AllByRecursion (λ x. G (octets x) x) ys → octets_of_all octets xs ≡ octets_of_all octets ys → xs ≡ ys
+      → (xs ys : List X) → AllByRecursion (λ x. G (octets x) x) xs → AllByRecursion (λ x. G (octets x) x) ys
+      → octets_of_all octets xs ≡ octets_of_all octets ys → xs ≡ ys
   written_alike reading is has xs ys all also same =
       let next : Unit {0} → X → Unit {0} = λ state x. state in
       let steps = length (octets_of_all octets xs) in
@@ -48,7 +40,8 @@ after_length m n xs ys = by_order (cases_lt m 128) (cases_lt n 128)
     spelled : ℕ → Bool → List ℕ
     spelled k short = cond short (k ∷ []) ((128 + length (octets k)) ∷ octets k)
 
-    by_order : (m < 128) ⊎ (128 ≤ m) → (n < 128) ⊎ (128 ≤ n) → spelled m (ltb m 128) ++ xs ≡ spelled n (ltb n 128) ++ ys → xs ≡ ys
+    by_order : (m < 128) ⊎ (128 ≤ m) → (n < 128) ⊎ (128 ≤ n) → spelled m (ltb m 128) ++ xs ≡ spelled n (ltb n 128) ++ ys
+        → xs ≡ ys
     by_order (inl a) (inl b) = rw (lt-ltb m 128 a, lt-ltb n 128 b) (λ e. tail_of m n xs ys e)
     by_order (inl a) (inr b) = rw (lt-ltb m 128 a, le-ltb n 128 b) (λ e. absurd (let h : m ≡ 128 + length (octets n) = head_of m (128 + length (octets n)) xs (octets n ++ ys) e in omega (arith, h, a)))
     by_order (inr a) (inl b) = rw (le-ltb m 128 a, lt-ltb n 128 b) (λ e. absurd (let h : 128 + length (octets m) ≡ n = head_of (128 + length (octets m)) n (octets m ++ xs) ys e in omega (arith, h, b)))

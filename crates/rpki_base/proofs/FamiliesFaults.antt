@@ -1,19 +1,9 @@
 -- Families are refused for none at all exactly where none are there, and for one that is there twice exactly where it
 -- stands behind members that were read, of which one has it.
-use Rattle.std.proofs.Common.{◌≡◌, ◌≢◌, ℕ, zero, suc, ◌≤◌, ◌<◌, ◌↔◌, Bool, true, false, cond, List, [], ◌∷◌, length, Result, Ok, Err, refl, sym, ap, ◌∙◌, arith, inl, eqb}
+use Rattle.rpki_base.proofs.Common.{Bool, Err, List, Ok, Result, [], ap, arith, cond, false, inl, length, refl, suc, sym, true, zero, ℕ, ◌<◌, ◌↔◌, ◌∙◌, ◌∷◌, ◌≡◌, ◌≢◌, ◌≤◌, ne_eqb, bind_ok, ok_is, passed, ended, refined, tagged_at, ◌>>=◌, DerError, DuplicateFamily, NoFamily, BeginsEmpty, BeginsWithAll, BeginsWithValue, ByFamily, claims_among, families_at, families_in, member_at, member_in, members_by, members_in, none_found, seen, was_seen, with_claim, family_at, AddressFamily}
 use Rattle.std.specs.Prelude.{◌⊎◌}
-use Rattle.std.proofs.lemmas.Bool.{ne_eqb}
-use Rattle.rpki_der.specs.declared.error.DerError.{DerError}
-use Rattle.rpki_der.specs.declared.error.DerError.TheVariants.{DuplicateFamily, NoFamily}
-use Rattle.rpki_der.specs.Reading.{◌>>=◌, ended, refined, tagged_at}
-use Rattle.rpki_der.proofs.Steps.{bind_ok, ok_is, passed}
-use Rattle.rpki_base.specs.DerFaults.{BeginsEmpty, BeginsWithAll, BeginsWithValue}
 use Rattle.rpki_base.proofs.DerFaults.{NamesTo, begins_value, bind_fails, bind_names, cond_names, ended_names, names_more, not_named, refined_names, tagged_fails, tagged_names, tagged_shorter}
-use Rattle.rpki_base.specs.declared.family.AddressFamily.{AddressFamily}
-use Rattle.rpki_base.specs.FamilyDer.{family_at}
 use Rattle.rpki_base.proofs.FamilyLemmas.{family_names}
-use Rattle.rpki_base.specs.FamiliesDer.{ByFamily, claims_among}
-use Rattle.rpki_base.specs.FamiliesReading.{families_at, families_in, member_at, member_in, members_by, members_in, none_found, seen, was_seen, with_claim}
 use Rattle.rpki_base.specs.FamiliesFaults.{BeginsAmong, BeginsWithRepeat, any_member_at}
 
 module _ {X : Type 0} (claim_at : AddressFamily → List ℕ → Result (X × List ℕ) DerError) (names : (family : AddressFamily) (bytes : List ℕ) → NamesTo 11 (claim_at family bytes)) where
@@ -34,7 +24,8 @@ module _ {X : Type 0} (claim_at : AddressFamily → List ℕ → Result (X × Li
   member_names : (before : Bool × Bool) (bytes : List ℕ) → NamesTo 12 (member_at claim_at before bytes)
   member_names before = refined_names 12 (tagged_at 48) (member_in claim_at before) (λ bytes. names_more 3 12 (tagged_at 48 bytes) (omega arith) (tagged_names 48 bytes)) (member_in_names before)
 
-  members_names : (steps : ℕ) (found : ByFamily X) (bytes : List ℕ) → NamesTo 12 (members_by (member_at claim_at) steps found bytes)
+  members_names : (steps : ℕ) (found : ByFamily X) (bytes : List ℕ)
+      → NamesTo 12 (members_by (member_at claim_at) steps found bytes)
   unfolding members_by
   members_names zero found [] = tt
   members_names (suc steps) found [] = tt
@@ -45,9 +36,7 @@ module _ {X : Type 0} (claim_at : AddressFamily → List ℕ → Result (X × Li
 
   families_in_names : (content : List ℕ) → NamesTo 13 (families_in claim_at content)
   unfolding families_in
-  families_in_names content =
-      let members = members_in claim_at (length content) none_found content in
-      cond_names 13 (eqb (length content) 0) (Err NoFamily) members (omega arith) (names_more 12 13 members (omega arith) (members_names (length content) none_found content))
+  families_in_names content = grind (arith, cond_names, members_names, names_more)
 
   -- up to NoFamily
   pub families_names : (bytes : List ℕ) → NamesTo 13 (families_at claim_at bytes)
@@ -62,7 +51,8 @@ module _ {X : Type 0} (claim_at : AddressFamily → List ℕ → Result (X × Li
   IsEmpty content = content ≡ []
 
   -- where there are octets, members are read
-  some_families : (b : ℕ) (bytes : List ℕ) → families_in claim_at (b ∷ bytes) ≡ members_in claim_at (length (b ∷ bytes)) none_found (b ∷ bytes)
+  some_families : (b : ℕ) (bytes : List ℕ)
+      → families_in claim_at (b ∷ bytes) ≡ members_in claim_at (length (b ∷ bytes)) none_found (b ∷ bytes)
   unfolding families_in
   some_families b bytes = rw (ne_eqb (length (b ∷ bytes)) 0 (λ e. omega arith)) refl
 
@@ -85,24 +75,29 @@ module _ {X : Type 0} (claim_at : AddressFamily → List ℕ → Result (X × Li
   abbrev BeginsSeen : Bool × Bool → List ℕ → Type 0
   BeginsSeen before content = (family : AddressFamily × List ℕ) × (family_at content ≡ Ok family) × (was_seen before family.0 ≡ true)
 
-  seen_by : (b : Bool) (r : Result (AddressFamily × X) DerError) → NamesTo 11 r → cond b (Err DuplicateFamily) r ≡ Err DuplicateFamily → b ≡ true
+  seen_by : (b : Bool) (r : Result (AddressFamily × X) DerError) → NamesTo 11 r
+      → cond b (Err DuplicateFamily) r ≡ Err DuplicateFamily → b ≡ true
   seen_by v0 r few is = grind (arith, not_named)
 
-  seen_fails : (before : Bool × Bool) (content : List ℕ) → member_in claim_at before content ≡ Err DuplicateFamily → BeginsSeen before content
+  seen_fails : (before : Bool × Bool) (content : List ℕ) → member_in claim_at before content ≡ Err DuplicateFamily
+      → BeginsSeen before content
   unfolding member_in
   seen_fails before content is = grind (arith, bind_fails, claim_names, family_names, not_named, seen_by)
 
-  fails_seen : (before : Bool × Bool) (content : List ℕ) → BeginsSeen before content → member_in claim_at before content ≡ Err DuplicateFamily
+  fails_seen : (before : Bool × Bool) (content : List ℕ) → BeginsSeen before content
+      → member_in claim_at before content ≡ Err DuplicateFamily
   unfolding member_in
   fails_seen before content (family, read, there) = rw (read, there) refl
 
   abbrev Fails : Bool × Bool → List ℕ → Type 0
   Fails before content = member_in claim_at before content ≡ Err DuplicateFamily
 
-  member_fails : (before : Bool × Bool) (bytes : List ℕ) → member_at claim_at before bytes ≡ Err DuplicateFamily → BeginsWithValue 48 (BeginsSeen before) bytes
+  member_fails : (before : Bool × Bool) (bytes : List ℕ) → member_at claim_at before bytes ≡ Err DuplicateFamily
+      → BeginsWithValue 48 (BeginsSeen before) bytes
   member_fails before bytes is = begins_value 48 (Fails before) (BeginsSeen before) (seen_fails before) bytes ((tagged_fails 48 (member_in claim_at before) DuplicateFamily (omega arith) bytes).0 is)
 
-  fails_member : (before : Bool × Bool) (bytes : List ℕ) → BeginsWithValue 48 (BeginsSeen before) bytes → member_at claim_at before bytes ≡ Err DuplicateFamily
+  fails_member : (before : Bool × Bool) (bytes : List ℕ) → BeginsWithValue 48 (BeginsSeen before) bytes
+      → member_at claim_at before bytes ≡ Err DuplicateFamily
   fails_member before bytes found = (tagged_fails 48 (member_in claim_at before) DuplicateFamily (omega arith) bytes).1 (begins_value 48 (BeginsSeen before) (Fails before) (fails_seen before) bytes found)
 
   -- the content of a member that is read, by its parts
@@ -112,14 +107,17 @@ module _ {X : Type 0} (claim_at : AddressFamily → List ℕ → Result (X × Li
     new : was_seen before member.0 ≡ false
     claim : claim_of member.0 behind ≡ Ok member
 
-  claim_family : (family : AddressFamily) (bytes : List ℕ) (member : AddressFamily × X) → claim_of family bytes ≡ Ok member → family ≡ member.0
+  claim_family : (family : AddressFamily) (bytes : List ℕ) (member : AddressFamily × X)
+      → claim_of family bytes ≡ Ok member → family ≡ member.0
   claim_family family bytes member is = grind (arith, bind_ok, ok_is)
 
-  behind_is : (before : Bool × Bool) (content : List ℕ) (family : AddressFamily) (behind : List ℕ) (member : AddressFamily × X)
-      → family_at content ≡ Ok (family, behind) → behind_family before (family, behind) ≡ Ok member → IsInside before content member
+  behind_is : (before : Bool × Bool) (content : List ℕ) (family : AddressFamily) (behind : List ℕ)
+      (member : AddressFamily × X) → family_at content ≡ Ok (family, behind)
+      → behind_family before (family, behind) ≡ Ok member → IsInside before content member
   behind_is before content family behind member read is = grind (arith, claim_family, passed)
 
-  inside_is : (before : Bool × Bool) (content : List ℕ) (member : AddressFamily × X) → member_in claim_at before content ≡ Ok member → IsInside before content member
+  inside_is : (before : Bool × Bool) (content : List ℕ) (member : AddressFamily × X)
+      → member_in claim_at before content ≡ Ok member → IsInside before content member
   unfolding member_in
   inside_is before content member is =
       let f = bind_ok (family_at content) (behind_family before) member is in
@@ -132,24 +130,31 @@ module _ {X : Type 0} (claim_at : AddressFamily → List ℕ → Result (X × Li
     inside : IsInside before content member
 
   content_is : (before : Bool × Bool) (bytes content left : List ℕ) (found member : AddressFamily × X) (rest : List ℕ)
-      → tagged_at 48 bytes ≡ Ok (content, left) → member_in claim_at before content ≡ Ok found → found ≡ member → left ≡ rest → IsRead before bytes member rest
+      → tagged_at 48 bytes ≡ Ok (content, left) → member_in claim_at before content ≡ Ok found → found ≡ member
+      → left ≡ rest → IsRead before bytes member rest
   content_is before bytes content left found member rest read is same also = grind (arith, inside_is)
 
-  read_is : (before : Bool × Bool) (bytes : List ℕ) (member : AddressFamily × X) (rest : List ℕ) → member_at claim_at before bytes ≡ Ok (member, rest) → IsRead before bytes member rest
+  read_is : (before : Bool × Bool) (bytes : List ℕ) (member : AddressFamily × X) (rest : List ℕ)
+      → member_at claim_at before bytes ≡ Ok (member, rest) → IsRead before bytes member rest
   unfolding refined
   read_is before bytes member rest is = grind (arith, bind_ok, content_is, ok_is)
 
   -- where its family wasn't there before, it is read
-  is_read : (before after : Bool × Bool) (bytes : List ℕ) (member : AddressFamily × X) (rest : List ℕ) → IsRead before bytes member rest → was_seen after member.0 ≡ false → member_at claim_at after bytes ≡ Ok (member, rest)
+  is_read : (before after : Bool × Bool) (bytes : List ℕ) (member : AddressFamily × X) (rest : List ℕ)
+      → IsRead before bytes member rest → was_seen after member.0 ≡ false
+      → member_at claim_at after bytes ≡ Ok (member, rest)
   unfolding refined member_in
   is_read before after bytes member rest is new = rw (is.enclosed, is.inside.family, new, is.inside.claim) refl
 
   -- and else it isn't
-  is_repeated : (before after : Bool × Bool) (bytes : List ℕ) (member : AddressFamily × X) (rest : List ℕ) → IsRead before bytes member rest → was_seen after member.0 ≡ true → member_at claim_at after bytes ≡ Err DuplicateFamily
+  is_repeated : (before after : Bool × Bool) (bytes : List ℕ) (member : AddressFamily × X) (rest : List ℕ)
+      → IsRead before bytes member rest → was_seen after member.0 ≡ true
+      → member_at claim_at after bytes ≡ Err DuplicateFamily
   is_repeated before after bytes member rest is there = fails_member after bytes ((is.content, rest), is.enclosed, ((member.0, is.inside.behind), is.inside.family, there))
 
   -- behind a member fewer octets are left
-  member_shorter : (before : Bool × Bool) (bytes : List ℕ) (one : (AddressFamily × X) × List ℕ) → member_at claim_at before bytes ≡ Ok one → length one.1 < length bytes
+  member_shorter : (before : Bool × Bool) (bytes : List ℕ) (one : (AddressFamily × X) × List ℕ)
+      → member_at claim_at before bytes ≡ Ok one → length one.1 < length bytes
   member_shorter before bytes one is = let read = read_is before bytes one.0 one.1 is in tagged_shorter 48 bytes (read.content, one.1) read.enclosed
 
   none_seen : (family : AddressFamily) → was_seen (false, false) family ≡ false
@@ -160,10 +165,14 @@ module _ {X : Type 0} (claim_at : AddressFamily → List ℕ → Result (X × Li
   IsThere found members family = (was_seen (seen found) family ≡ true) ⊎ (claims_among family members ≢ [])
 
   -- one member more
-  there_behind : (found : ByFamily X) (member : AddressFamily × X) (members : List (AddressFamily × X)) (family : AddressFamily) → IsThere (with_claim found member.0 member.1) members family → IsThere found (member ∷ members) family
+  there_behind : (found : ByFamily X) (member : AddressFamily × X) (members : List (AddressFamily × X))
+      (family : AddressFamily) → IsThere (with_claim found member.0 member.1) members family
+      → IsThere found (member ∷ members) family
   there_behind found v1 members v3 there = grind (arith)
 
-  there_before : (found : ByFamily X) (member : AddressFamily × X) (members : List (AddressFamily × X)) (family : AddressFamily) → IsThere found (member ∷ members) family → IsThere (with_claim found member.0 member.1) members family
+  there_before : (found : ByFamily X) (member : AddressFamily × X) (members : List (AddressFamily × X))
+      (family : AddressFamily) → IsThere found (member ∷ members) family
+      → IsThere (with_claim found member.0 member.1) members family
   there_before found v1 members v3 there = grind (arith)
 
   abbrev BeginsThere : ByFamily X → List (AddressFamily × X) → List ℕ → Type 0
@@ -173,16 +182,20 @@ module _ {X : Type 0} (claim_at : AddressFamily → List ℕ → Result (X × Li
   Repeats found bytes = (members : List (AddressFamily × X)) × (rest : List ℕ) × BeginsWithAll (any_member_at claim_at) bytes members rest × BeginsWithValue 48 (BeginsThere found members) rest
 
   -- a refusal is that of the first member whose family was there
-  repeats : (steps : ℕ) (found : ByFamily X) (bytes : List ℕ) → members_by (member_at claim_at) steps found bytes ≡ Err DuplicateFamily → Repeats found bytes
+  repeats : (steps : ℕ) (found : ByFamily X) (bytes : List ℕ)
+      → members_by (member_at claim_at) steps found bytes ≡ Err DuplicateFamily → Repeats found bytes
   unfolding members_by
   repeats zero found [] is = absurd cc
   repeats (suc steps) found [] is = absurd cc
   repeats zero found (b ∷ bytes) is = absurd cc
   repeats (suc steps) found (b ∷ bytes) is = by_member (λ one fails. repeats steps (with_claim found one.0.0 one.0.1) one.1 fails) (member_at claim_at (seen found) (b ∷ bytes)) refl is
     where
-      by_member : ((one : (AddressFamily × X) × List ℕ) → members_by (member_at claim_at) steps (with_claim found one.0.0 one.0.1) one.1 ≡ Err DuplicateFamily → Repeats (with_claim found one.0.0 one.0.1) one.1)
-          → (r : Result ((AddressFamily × X) × List ℕ) DerError) → member_at claim_at (seen found) (b ∷ bytes) ≡ r
-          → (r >>= λ one. members_by (member_at claim_at) steps (with_claim found one.0.0 one.0.1) one.1) ≡ Err DuplicateFamily → Repeats found (b ∷ bytes)
+      by_member : ((one : (AddressFamily × X) × List ℕ)
+          → members_by (member_at claim_at) steps (with_claim found one.0.0 one.0.1) one.1 ≡ Err DuplicateFamily
+          → Repeats (with_claim found one.0.0 one.0.1) one.1) → (r : Result ((AddressFamily × X) × List ℕ) DerError)
+          → member_at claim_at (seen found) (b ∷ bytes) ≡ r
+          → (r >>= λ one. members_by (member_at claim_at) steps (with_claim found one.0.0 one.0.1) one.1)
+          ≡ Err DuplicateFamily → Repeats found (b ∷ bytes)
       by_member again (Ok one) read fails =
           let more = again one fails in
           let alone = is_read (seen found) (false, false) (b ∷ bytes) one.0 one.1 (read_is (seen found) (b ∷ bytes) one.0 one.1 read) (none_seen one.0.0) in (
@@ -196,7 +209,9 @@ module _ {X : Type 0} (claim_at : AddressFamily → List ℕ → Result (X × Li
           ([], b ∷ bytes, refl, begins_value 48 (BeginsSeen (seen found)) (BeginsThere found []) (λ content (family, at, there). (family, at, inl there)) (b ∷ bytes) (member_fails (seen found) (b ∷ bytes) failed))
 
   -- and there the reading stops; fewer octets are left behind a member, so the steps are enough
-  fails_repeats : (steps : ℕ) (found : ByFamily X) (members : List (AddressFamily × X)) (bytes rest : List ℕ) → length bytes ≤ steps → BeginsWithAll (any_member_at claim_at) bytes members rest → BeginsWithValue 48 (BeginsThere found members) rest
+  fails_repeats : (steps : ℕ) (found : ByFamily X) (members : List (AddressFamily × X)) (bytes rest : List ℕ)
+      → length bytes ≤ steps → BeginsWithAll (any_member_at claim_at) bytes members rest
+      → BeginsWithValue 48 (BeginsThere found members) rest
       → members_by (member_at claim_at) steps found bytes ≡ Err DuplicateFamily
   unfolding members_by
   fails_repeats steps found [] [] rest enough all there = absurd (let bytes : rest ≡ [] = sym all in let some = tagged_shorter 48 rest there.0 there.1 in omega (arith, some, ap length bytes))
@@ -208,8 +223,11 @@ module _ {X : Type 0} (claim_at : AddressFamily → List ℕ → Result (X × Li
       alone : IsRead (false, false) (b ∷ bytes) m all.0
       alone = read_is (false, false) (b ∷ bytes) m all.0 all.1
 
-      by_family : (length all.0 ≤ steps → BeginsWithValue 48 (BeginsThere (with_claim found m.0 m.1) ms) rest → members_by (member_at claim_at) steps (with_claim found m.0 m.1) all.0 ≡ Err DuplicateFamily)
-          → (t : Bool) → was_seen (seen found) m.0 ≡ t → (member_at claim_at (seen found) (b ∷ bytes) >>= λ one. members_by (member_at claim_at) steps (with_claim found one.0.0 one.0.1) one.1) ≡ Err DuplicateFamily
+      by_family : (length all.0 ≤ steps → BeginsWithValue 48 (BeginsThere (with_claim found m.0 m.1) ms) rest
+          → members_by (member_at claim_at) steps (with_claim found m.0 m.1) all.0 ≡ Err DuplicateFamily) → (t : Bool)
+          → was_seen (seen found) m.0 ≡ t
+          → (member_at claim_at (seen found) (b ∷ bytes) >>= λ one. members_by (member_at claim_at) steps
+          (with_claim found one.0.0 one.0.1) one.1) ≡ Err DuplicateFamily
       by_family again true was = let failed = is_repeated (false, false) (seen found) (b ∷ bytes) m all.0 alone was in rw failed refl
       by_family again false new =
           let read = is_read (false, false) (seen found) (b ∷ bytes) m all.0 alone new in
@@ -229,12 +247,14 @@ module _ {X : Type 0} (claim_at : AddressFamily → List ℕ → Result (X × Li
   unfolding families_in
   fails_twice [] (members, rest, all, begins) = absurd (none_there members all begins)
     where
-      none_there : (members : List (AddressFamily × X)) → BeginsWithAll (any_member_at claim_at) [] members rest → BeginsAmong members rest → ⊥
+      none_there : (members : List (AddressFamily × X)) → BeginsWithAll (any_member_at claim_at) [] members rest
+          → BeginsAmong members rest → ⊥
       none_there [] all begins = let some = tagged_shorter 48 rest begins.0 begins.1 in omega (arith, some, ap length (sym all))
       none_there (m ∷ ms) all begins = let some = member_shorter (false, false) [] (m, all.0) all.1 in omega (arith, some)
   fails_twice (b ∷ bytes) (members, rest, all, begins) = grind (arith, begins_value, fails_repeats, some_families)
 
-  pub family_twice : (bytes : List ℕ) → (families_at claim_at bytes ≡ Err DuplicateFamily) ↔ BeginsWithValue 48 (BeginsWithRepeat claim_at) bytes
+  pub family_twice : (bytes : List ℕ)
+      → (families_at claim_at bytes ≡ Err DuplicateFamily) ↔ BeginsWithValue 48 (BeginsWithRepeat claim_at) bytes
   family_twice bytes =
       let both = tagged_fails 48 (families_in claim_at) DuplicateFamily (omega arith) bytes in
       ((λ is. begins_value 48 FailsTwice (BeginsWithRepeat claim_at) twice_fails bytes (both.0 is)), (λ found. both.1 (begins_value 48 (BeginsWithRepeat claim_at) FailsTwice fails_twice bytes found)))

@@ -1,36 +1,21 @@
 -- The loop over the members: what was found, and what is left, give the whole.
-use Rattle.std.proofs.Common.{◌≡◌, ◌≢◌, ℕ, zero, suc, ◌<◌, ◌≤◌, Bool, List, [], ◌∷◌, length, Option, Some, None, Result, Ok, Err, refl, sym, ap, subst, ◌∙◌, arith}
-use Rattle.std.specs.Prelude.{is_some}
-use Rattle.rpki_der.specs.declared.error.DerError.{DerError}
-use Rattle.rpki_der.specs.Der.{IsBytes, IsSequence, Refines}
-use Rattle.rpki_der.specs.Reading.{IsReading}
-use Rattle.rpki_der.proofs.Lists.{shorter}
-use Rattle.rpki_text.specs.declared.memory.OrMemory.{OrMemory}
-use Rattle.rpki_text.specs.declared.memory.OrMemory.TheVariants.{Refused, Memory}
-use Rattle.rpki_text.specs.Memory.{IfRefused}
-use Rattle.rpki_base.specs.declared.family.AddressFamily.{AddressFamily}
-use Rattle.rpki_base.specs.declared.family.AddressFamily.TheVariants.{Ipv4, Ipv6}
-use Rattle.rpki_base.specs.FamiliesDer.{ByFamily, SaysByFamily, SaysOption}
-use Rattle.rpki_base.specs.FamiliesReading.{SaysClaim, member_at, members_by, seen, with_claim}
+use Rattle.rpki_base.proofs.Common.{Bool, Err, List, Ok, Option, Result, [], ap, arith, length, refl, sym, ℕ, ◌<◌, ◌∙◌, ◌∷◌, ◌≡◌, ◌≢◌, ◌≤◌, is_some, shorter, IsBytes, IsSequence, Refines, IsReading, DerError, IfRefused, OrMemory, Memory, Refused, ByFamily, SaysByFamily, SaysOption, SaysClaim, member_at, members_by, seen, with_claim, AddressFamily}
 use Rattle.rpki_base.proofs.FamiliesGathering.{member_has_octets}
 use Rattle.rpki_base.proofs.FamiliesMembers.{SaysNew, member_reading}
 
 module _ {X Y : Type 0} (C : Y → X → Type 0) where
   -- what stands for something is something
   both_some : (y : Option Y) (x : Option X) → SaysOption C y x → is_some y ≡ is_some x
-  both_some None None says = refl
-  both_some None (Some x) says = absurd says
-  both_some (Some y) None says = absurd says
-  both_some (Some y) (Some x) says = refl
+  both_some y x says = grind (arith)
 
   -- so the same families were there
   pub same_seen : (before : ByFamily Y) (found : ByFamily X) → SaysByFamily C before found → seen before ≡ seen found
   same_seen before found says = let a = both_some before.0 found.0 says.0 in let b = both_some before.1 found.1 says.1 in λ i. (a i, b i)
 
   -- one claim more on both sides
-  pub with_says : (before : ByFamily Y) (found : ByFamily X) (family : AddressFamily) (y : Y) (x : X) → SaysByFamily C before found → C y x → SaysByFamily C (with_claim before family y) (with_claim found family x)
-  with_says before found Ipv4 y x says c = (c, says.1)
-  with_says before found Ipv6 y x says c = (says.0, c)
+  pub with_says : (before : ByFamily Y) (found : ByFamily X) (family : AddressFamily) (y : Y) (x : X)
+      → SaysByFamily C before found → C y x → SaysByFamily C (with_claim before family y) (with_claim found family x)
+  with_says before found family y x says c = grind (arith)
 
 module _ {X Y : Type 0} (member_of : Bool × Bool → List ℕ → Result ((AddressFamily × Y) × List ℕ) DerError) (C : Y → X → Type 0) where
   -- what was found stands for what was read before, and this and what is left give the whole
@@ -42,58 +27,57 @@ module _ {X Y : Type 0} (member_of : Bool × Bool → List ℕ → Result ((Addr
     pub whole : members_by member_of steps before bytes ≡ total
 
   -- a turn, by the steps that are left
-  more_by : (steps : ℕ) (before : ByFamily Y) (found : ByFamily X) (b : ℕ) (bytes : List ℕ) (total : Result (ByFamily Y) DerError) (read : AddressFamily × Y) (member : AddressFamily × X) (rest : List ℕ)
-      → SaysByFamily C before found → length (b ∷ bytes) ≤ steps → members_by member_of steps before (b ∷ bytes) ≡ total → member_of (seen found) (b ∷ bytes) ≡ Ok (read, rest) → SaysClaim C read member → length rest < length (b ∷ bytes)
-      → SoFar (with_claim found member.0 member.1) rest total
+  more_by : (steps : ℕ) (before : ByFamily Y) (found : ByFamily X) (b : ℕ) (bytes : List ℕ)
+      (total : Result (ByFamily Y) DerError) (read : AddressFamily × Y) (member : AddressFamily × X) (rest : List ℕ)
+      → SaysByFamily C before found → length (b ∷ bytes) ≤ steps → members_by member_of steps before (b ∷ bytes) ≡ total
+      → member_of (seen found) (b ∷ bytes) ≡ Ok (read, rest) → SaysClaim C read member
+      → length rest < length (b ∷ bytes) → SoFar (with_claim found member.0 member.1) rest total
   unfolding members_by
-  more_by zero before found b bytes total read member rest says enough whole at claim fewer = absurd (omega arith)
-  more_by (suc steps) before found b bytes total read member rest says enough whole at claim fewer =
-      let taken : member_of (seen before) (b ∷ bytes) ≡ Ok (read, rest) = ap (λ s. member_of s (b ∷ bytes)) (same_seen C before found says) ∙ at in
-      let both = with_says C before found read.0 read.1 member.1 says claim.1 in record {
-        before = with_claim before read.0 read.1;
-        says = subst (λ (f : AddressFamily). SaysByFamily C (with_claim before read.0 read.1) (with_claim found f member.1)) claim.0 both;
-        steps = steps;
-        enough = omega arith;
-        whole = rw taken at whole;
-      }
+  more_by steps before found b bytes total read member rest says enough whole at claim fewer =
+      grind (arith, same_seen, with_says)
 
   -- a turn that reads a member
-  pub loop_more : (found : ByFamily X) (bytes : List ℕ) (total : Result (ByFamily Y) DerError) (read : AddressFamily × Y) (member : AddressFamily × X) (rest : List ℕ)
-      → SoFar found bytes total → member_of (seen found) bytes ≡ Ok (read, rest) → SaysClaim C read member → length rest < length bytes → SoFar (with_claim found member.0 member.1) rest total
+  pub loop_more : (found : ByFamily X) (bytes : List ℕ) (total : Result (ByFamily Y) DerError)
+      (read : AddressFamily × Y) (member : AddressFamily × X) (rest : List ℕ) → SoFar found bytes total
+      → member_of (seen found) bytes ≡ Ok (read, rest) → SaysClaim C read member → length rest < length bytes
+      → SoFar (with_claim found member.0 member.1) rest total
   loop_more found [] total read member rest so at claim fewer = absurd (omega arith)
   loop_more found (b ∷ bytes) total read member rest so at claim fewer = more_by so.steps so.before found b bytes total read member rest so.says so.enough so.whole at claim fewer
 
   -- at the end nothing more is read
   ends_by : (steps : ℕ) (before : ByFamily Y) → members_by member_of steps before [] ≡ Ok before
   unfolding members_by
-  ends_by zero before = refl
-  ends_by (suc steps) before = refl
+  ends_by steps before = grind (arith)
 
   -- at the end of the octets what was found is all
-  pub loop_ends : (found : ByFamily X) (bytes : List ℕ) (total : Result (ByFamily Y) DerError) → SoFar found bytes total → bytes ≡ [] → (all : ByFamily Y) × (total ≡ Ok all) × SaysByFamily C all found
+  pub loop_ends : (found : ByFamily X) (bytes : List ℕ) (total : Result (ByFamily Y) DerError) → SoFar found bytes total
+      → bytes ≡ [] → (all : ByFamily Y) × (total ≡ Ok all) × SaysByFamily C all found
   loop_ends found bytes total so none = (so.before, sym so.whole ∙ ap (members_by member_of so.steps so.before) none ∙ ends_by so.steps so.before, so.says)
 
   -- a turn that fails, by the steps that are left
-  fails_by : (steps : ℕ) (before : ByFamily Y) (b : ℕ) (bytes : List ℕ) (e : DerError) → length (b ∷ bytes) ≤ steps → member_of (seen before) (b ∷ bytes) ≡ Err e → members_by member_of steps before (b ∷ bytes) ≡ Err e
+  fails_by : (steps : ℕ) (before : ByFamily Y) (b : ℕ) (bytes : List ℕ) (e : DerError) → length (b ∷ bytes) ≤ steps
+      → member_of (seen before) (b ∷ bytes) ≡ Err e → members_by member_of steps before (b ∷ bytes) ≡ Err e
   unfolding members_by
-  fails_by zero before b bytes e enough read = absurd (omega arith)
-  fails_by (suc steps) before b bytes e enough read = rw read refl
+  fails_by steps before b bytes e enough read = grind (arith)
 
   -- a turn that fails is what the whole fails with
-  loop_fails : (found : ByFamily X) (bytes : List ℕ) (total : Result (ByFamily Y) DerError) (e : DerError) → SoFar found bytes total → bytes ≢ [] → member_of (seen found) bytes ≡ Err e → total ≡ Err e
+  loop_fails : (found : ByFamily X) (bytes : List ℕ) (total : Result (ByFamily Y) DerError) (e : DerError)
+      → SoFar found bytes total → bytes ≢ [] → member_of (seen found) bytes ≡ Err e → total ≡ Err e
   loop_fails found [] total e so some read = absurd (some refl)
   loop_fails found (b ∷ bytes) total e so some read =
       let failed : member_of (seen so.before) (b ∷ bytes) ≡ Err e = ap (λ s. member_of s (b ∷ bytes)) (same_seen C so.before found so.says) ∙ read in
       sym so.whole ∙ fails_by so.steps so.before b bytes e so.enough failed
 
   -- unless memory was wanting
-  pub loop_fails_or_memory : (found : ByFamily X) (bytes : List ℕ) (total : Result (ByFamily Y) DerError) (e : OrMemory DerError) → SoFar found bytes total → bytes ≢ [] → IfRefused (λ fault. member_of (seen found) bytes ≡ Err fault) e
-      → IfRefused (λ fault. total ≡ Err fault) e
+  pub loop_fails_or_memory : (found : ByFamily X) (bytes : List ℕ) (total : Result (ByFamily Y) DerError)
+      (e : OrMemory DerError) → SoFar found bytes total → bytes ≢ []
+      → IfRefused (λ fault. member_of (seen found) bytes ≡ Err fault) e → IfRefused (λ fault. total ≡ Err fault) e
   loop_fails_or_memory found bytes total (Refused d) so some read = loop_fails found bytes total d so some read
   loop_fails_or_memory found bytes total (Memory a) so some read = tt
 
 module _ {X Y : Type 0} (G : AddressFamily → List ℕ → Y → Type 0) (claim_at : AddressFamily → List ℕ → Result (Y × List ℕ) DerError) (is : (family : AddressFamily) → IsReading (G family) (claim_at family)) where
   -- behind a member fewer octets are left
-  pub fewer_left : (found : ByFamily X) (bytes : List ℕ) (read : AddressFamily × Y) (rest : List ℕ) → IsBytes bytes → member_at claim_at (seen found) bytes ≡ Ok (read, rest) → length rest < length bytes
+  pub fewer_left : (found : ByFamily X) (bytes : List ℕ) (read : AddressFamily × Y) (rest : List ℕ) → IsBytes bytes
+      → member_at claim_at (seen found) bytes ≡ Ok (read, rest) → length rest < length bytes
   fewer_left found bytes read rest fits at =
       shorter (Refines IsSequence (SaysNew G (seen found))) (member_has_octets G (seen found)) bytes read rest ((member_reading G claim_at is (seen found)).takes bytes read rest fits at)

@@ -1,26 +1,17 @@
 -- A member that is read is one of a family that wasn't there before, and each such member is read.
-use Rattle.std.proofs.Common.{◌≡◌, ℕ, Bool, false, cond, List, [], ◌++◌, Result, Ok, Err, refl, sym, ap, subst, ◌∙◌}
-use Rattle.std.proofs.lemmas.List.{append-nil}
-use Rattle.rpki_der.specs.declared.error.DerError.{DerError}
-use Rattle.rpki_der.specs.declared.error.DerError.TheVariants.{DuplicateFamily}
-use Rattle.rpki_der.specs.Der.{IsBytes, IsSequence, Refines}
-use Rattle.rpki_der.specs.Reading.{◌>>=◌, IsReading, ended, tagged_at}
-use Rattle.rpki_der.proofs.Steps.{bind_ok, ok_is, passed}
-use Rattle.rpki_der.proofs.Readings.{fits_content, fits_rest, refined_reading, tagged_reading}
+use Rattle.rpki_base.proofs.Common.{Bool, Err, List, Ok, Result, [], ap, cond, false, refl, subst, sym, ℕ, ◌++◌, ◌∙◌, ◌≡◌, append-nil, fits_content, fits_rest, refined_reading, tagged_reading, bind_ok, ok_is, passed, IsBytes, IsSequence, Refines, IsReading, ended, tagged_at, ◌>>=◌, DerError, DuplicateFamily, SaysMember, member_at, member_in, was_seen, IsFamilyDer, family_at, AddressFamily}
 use Rattle.rpki_base.proofs.DerReadings.{ended_is}
-use Rattle.rpki_base.specs.declared.family.AddressFamily.{AddressFamily}
-use Rattle.rpki_base.specs.FamilyDer.{IsFamilyDer, family_at}
 use Rattle.rpki_base.proofs.FamilyLemmas.{family_reading}
-use Rattle.rpki_base.specs.FamiliesDer.{SaysMember}
-use Rattle.rpki_base.specs.FamiliesReading.{member_at, member_in, was_seen}
 
 -- a member of a family that wasn't there before
-abbrev pub SaysNew : {X : Type 0} → (AddressFamily → List ℕ → X → Type 0) → Bool × Bool → List ℕ → AddressFamily × X → Type 0
+abbrev pub SaysNew : {X : Type 0} → (AddressFamily → List ℕ → X → Type 0) → Bool × Bool → List ℕ → AddressFamily × X
+    → Type 0
 SaysNew G before content member = SaysMember G content member × (was_seen before member.0 ≡ false)
 
 module _ {X : Type 0} (G : AddressFamily → List ℕ → X → Type 0) (claim_at : AddressFamily → List ℕ → Result (X × List ℕ) DerError) (is : (family : AddressFamily) → IsReading (G family) (claim_at family)) where
   -- a member that is read is said by the content
-  member_says : (before : Bool × Bool) (content : List ℕ) (member : AddressFamily × X) → IsBytes content → member_in claim_at before content ≡ Ok member → SaysNew G before content member
+  member_says : (before : Bool × Bool) (content : List ℕ) (member : AddressFamily × X) → IsBytes content
+      → member_in claim_at before content ≡ Ok member → SaysNew G before content member
   unfolding member_in
   member_says before content member fits e =
       let finish : AddressFamily → X × List ℕ → Result (AddressFamily × X) DerError = λ family claim. ended claim.1 >>= λ end. Ok (family, claim.0) in
@@ -35,7 +26,8 @@ module _ {X : Type 0} (G : AddressFamily → List ℕ → X → Type 0) (claim_a
       subst (SaysNew G before content) (ok_is (f.0.0, c.0.0) member z.2) ((f.0.1, first, last), g.0)
 
   -- a member that the content says is read
-  member_again : (before : Bool × Bool) (content : List ℕ) (member : AddressFamily × X) → SaysNew G before content member → member_in claim_at before content ≡ Ok member
+  member_again : (before : Bool × Bool) (content : List ℕ) (member : AddressFamily × X)
+      → SaysNew G before content member → member_in claim_at before content ≡ Ok member
   unfolding member_in
   member_again before content member (both, new) =
       let first : family_at content ≡ Ok (member.0, both.0) = ap family_at both.1.2 ∙ family_reading.again both.1.0 member.0 both.0 both.1.1 in
@@ -43,7 +35,8 @@ module _ {X : Type 0} (G : AddressFamily → List ℕ → X → Type 0) (claim_a
       rw (first, new, second) refl
 
   -- a SEQUENCE of a family that wasn't there before and its claim
-  pub member_reading : (before : Bool × Bool) → IsReading (Refines IsSequence (SaysNew G before)) (member_at claim_at before)
+  pub member_reading : (before : Bool × Bool)
+      → IsReading (Refines IsSequence (SaysNew G before)) (member_at claim_at before)
   member_reading before =
       refined_reading IsSequence (SaysNew G before) IsBytes (tagged_at 48) (member_in claim_at before) (tagged_reading 48) (λ front content h fits. fits_content front 48 content h fits)
       (record { takes = member_says before; again = member_again before })

@@ -1,22 +1,12 @@
 -- Families whose claims stand for others: what the families stand for is what they are with the
 -- claims that theirs stand for.
-use Rattle.std.proofs.Common.{◌≡◌, ◌≢◌, ℕ, List, [], ◌∷◌, Option, Some, None, Result, Ok, Err, refl, sym, ap, subst, ◌∙◌, arith}
-use Rattle.rpki_der.specs.declared.cursor.Cursor.{Cursor}
-use Rattle.rpki_der.specs.declared.error.DerError.{DerError}
-use Rattle.rpki_der.specs.Der.{Each, OneFront, Refines}
-use Rattle.rpki_der.specs.Reading.{IsReading}
-use Rattle.rpki_text.specs.declared.memory.OrMemory.{OrMemory}
-use Rattle.rpki_text.specs.declared.memory.OrMemory.TheVariants.{Refused, Memory}
-use Rattle.rpki_base.specs.DerViews.{ReadsOrMemory}
+use Rattle.rpki_base.proofs.Common.{Err, List, None, Ok, Option, Result, Some, [], ap, arith, refl, subst, sym, ℕ, ◌∙◌, ◌∷◌, ◌≡◌, ◌≢◌, Each, OneFront, Refines, IsReading, Cursor, DerError, OrMemory, Memory, Refused, ReadsOrMemory, AreGathered, ByFamily, IsFamilies, IsMember, SaysByFamily, SaysOption, claims_among, listed, families_at, AddressFamily, Ipv4, Ipv6}
 use Rattle.rpki_base.proofs.DerReadings.{one_front_said}
-use Rattle.rpki_base.specs.declared.family.AddressFamily.{AddressFamily}
-use Rattle.rpki_base.specs.declared.family.AddressFamily.TheVariants.{Ipv4, Ipv6}
-use Rattle.rpki_base.specs.FamiliesDer.{AreGathered, ByFamily, IsFamilies, IsMember, SaysByFamily, SaysOption, claims_among, listed}
-use Rattle.rpki_base.specs.FamiliesReading.{families_at}
 use Rattle.rpki_base.proofs.FamiliesGathering.{families_reading}
 
 -- octets are of one grammar where they are of the other, so what is read of one is of the other
-pub reads_same : {X : Type 0} (G H : List ℕ → X → Type 0) (old new : Cursor) (result : Result X (OrMemory DerError)) → ((bytes : List ℕ) (x : X) → G bytes x → H bytes x) → ((bytes : List ℕ) (x : X) → H bytes x → G bytes x)
+pub reads_same : {X : Type 0} (G H : List ℕ → X → Type 0) (old new : Cursor) (result : Result X (OrMemory DerError))
+    → ((bytes : List ℕ) (x : X) → G bytes x → H bytes x) → ((bytes : List ℕ) (x : X) → H bytes x → G bytes x)
     → ReadsOrMemory G (λ x. x) old new result → ReadsOrMemory H (λ x. x) old new result
 reads_same G H old new (Ok x) to from (front, is, at) = (front, to front x is, at)
 reads_same G H old new (Err (Refused e)) to from (none, kept) = ((λ x rest found. none x rest (found.0, from found.0 x found.1, found.2)), kept)
@@ -44,11 +34,13 @@ module _ {X Y : Type 0} (C : Y → X → Type 0) where
   none_says v0 says = grind (arith)
 
   -- what an option stands for is one thing, where what is in it does
-  one_option : ((y : Y) (a b : X) → C y a → C y b → a ≡ b) → (y : Option Y) (a b : Option X) → SaysOption C y a → SaysOption C y b → a ≡ b
+  one_option : ((y : Y) (a b : X) → C y a → C y b → a ≡ b) → (y : Option Y) (a b : Option X) → SaysOption C y a
+      → SaysOption C y b → a ≡ b
   one_option one v1 a b says tells = grind (arith, says_none, says_some)
 
   -- and so do families
-  pub one_by_family : ((y : Y) (a b : X) → C y a → C y b → a ≡ b) → (found : ByFamily Y) (a b : ByFamily X) → SaysByFamily C found a → SaysByFamily C found b → a ≡ b
+  pub one_by_family : ((y : Y) (a b : X) → C y a → C y b → a ≡ b) → (found : ByFamily Y) (a b : ByFamily X)
+      → SaysByFamily C found a → SaysByFamily C found b → a ≡ b
   one_by_family one found a b says tells = grind (arith, one_option)
 
 module _ {X Y : Type 0} (G : AddressFamily → List ℕ → Y → Type 0) (C : Y → X → Type 0) where
@@ -64,7 +56,9 @@ module _ {X Y : Type 0} (G : AddressFamily → List ℕ → Y → Type 0) (C : Y
     pub some : before ≢ [] → members ≢ []
 
   -- what members and what they gather stand for
-  told : (members : List (AddressFamily × Y)) (content : List ℕ) (y4 y6 : Option Y) (x4 x6 : Option X) → Each (IsMember G) content members → AreGathered members (y4, y6) → SaysOption C y4 x4 → SaysOption C y6 x6 → Told content members (x4, x6)
+  told : (members : List (AddressFamily × Y)) (content : List ℕ) (y4 y6 : Option Y) (x4 x6 : Option X)
+      → Each (IsMember G) content members → AreGathered members (y4, y6) → SaysOption C y4 x4 → SaysOption C y6 x6
+      → Told content members (x4, x6)
   told [] content y4 y6 x4 x6 all gathered v4 v6 =
       let a : x4 ≡ None = says_none C x4 (subst (λ y. SaysOption C y x4) (none_listed y4 (gathered Ipv4)) v4) in
       let b : x6 ≡ None = says_none C x6 (subst (λ y. SaysOption C y x6) (none_listed y6 (gathered Ipv6)) v6) in
@@ -89,7 +83,8 @@ module _ {X Y : Type 0} (G : AddressFamily → List ℕ → Y → Type 0) (C : Y
       }
 
   -- families that stand for others are families with those claims
-  pub stands_for : (bytes : List ℕ) (fs : ByFamily X) → Refines (IsFamilies G) (SaysByFamily C) bytes fs → IsFamilies Stands bytes fs
+  pub stands_for : (bytes : List ℕ) (fs : ByFamily X) → Refines (IsFamilies G) (SaysByFamily C) bytes fs
+      → IsFamilies Stands bytes fs
   stands_for bytes fs (found, (content, is, (members, all, some, gathered)), says) =
       let t = told members content found.0 found.1 fs.0 fs.1 all gathered says.0 says.1 in
       (content, is, (t.members, t.all, t.some some, t.gathered))
@@ -105,7 +100,8 @@ module _ {X Y : Type 0} (G : AddressFamily → List ℕ → Y → Type 0) (C : Y
     pub some : after ≢ [] → members ≢ []
 
   -- members whose claims stand for these
-  found : (members : List (AddressFamily × X)) (content : List ℕ) (x4 x6 : Option X) → Each (IsMember Stands) content members → AreGathered members (x4, x6) → Found content members (x4, x6)
+  found : (members : List (AddressFamily × X)) (content : List ℕ) (x4 x6 : Option X)
+      → Each (IsMember Stands) content members → AreGathered members (x4, x6) → Found content members (x4, x6)
   found [] content x4 x6 all gathered =
       let a : x4 ≡ None = none_listed x4 (gathered Ipv4) in
       let b : x6 ≡ None = none_listed x6 (gathered Ipv6) in record {
@@ -143,12 +139,15 @@ module _ {X Y : Type 0} (G : AddressFamily → List ℕ → Y → Type 0) (C : Y
       }
 
   -- and families with claims that others stand for are what those families stand for
-  pub stood_for : (bytes : List ℕ) (fs : ByFamily X) → IsFamilies Stands bytes fs → Refines (IsFamilies G) (SaysByFamily C) bytes fs
+  pub stood_for : (bytes : List ℕ) (fs : ByFamily X) → IsFamilies Stands bytes fs
+      → Refines (IsFamilies G) (SaysByFamily C) bytes fs
   stood_for bytes fs (content, is, (members, all, some, gathered)) =
       let t = found members content fs.0 fs.1 all gathered in
       ((t.v4, t.v6), (content, is, (t.members, t.all, t.some some, t.gathered)), t.says)
 
   -- octets begin with at most one SEQUENCE of families, which have one claim each
-  pub one_families : (claim_at : AddressFamily → List ℕ → Result (Y × List ℕ) DerError) → ((family : AddressFamily) → IsReading (G family) (claim_at family)) → ((y : Y) (a b : X) → C y a → C y b → a ≡ b) → OneFront (IsFamilies Stands)
+  pub one_families : (claim_at : AddressFamily → List ℕ → Result (Y × List ℕ) DerError)
+      → ((family : AddressFamily) → IsReading (G family) (claim_at family))
+      → ((y : Y) (a b : X) → C y a → C y b → a ≡ b) → OneFront (IsFamilies Stands)
   one_families claim_at reading one a b x y r s is also =
       one_front_said (IsFamilies G) (SaysByFamily C) (families_at claim_at) (families_reading G claim_at reading) (one_by_family C one) a b x y r s (stood_for a x is) (stood_for b y also)

@@ -1,20 +1,10 @@
 -- What is written of families, each with its claim, is a SEQUENCE of them.
-use Rattle.std.proofs.Common.{◌≡◌, ◌≢◌, ℕ, ◌^◌, ◌<◌, List, [], ◌∷◌, ◌++◌, length, Option, Some, None, refl, sym, arith}
-use Rattle.std.specs.Prelude.{IfSome}
-use Rattle.std.proofs.lemmas.List.{append-nil, length-append}
-use Rattle.rpki_der.specs.Der.{header, sequence_value}
-use Rattle.rpki_der.proofs.Written.{value_is}
-use Rattle.rpki_base.specs.declared.family.AddressFamily.{AddressFamily}
-use Rattle.rpki_base.specs.declared.family.AddressFamily.TheVariants.{Ipv4, Ipv6}
-use Rattle.rpki_base.specs.FamilyDer.{family_der}
+use Rattle.rpki_base.proofs.Common.{List, None, Option, Some, [], arith, length, refl, sym, ℕ, ◌++◌, ◌<◌, ◌^◌, ◌∷◌, ◌≡◌, ◌≢◌, append-nil, length-append, IfSome, value_is, sequence_value, ByFamily, IsFamilies, IsMember, SaysFamilies, families_der, member_der, option_der, AddressFamily, Ipv4, Ipv6}
 use Rattle.rpki_base.proofs.FamilyLemmas.{family_written}
-use Rattle.rpki_base.specs.FamiliesDer.{ByFamily, IsFamilies, IsMember, SaysFamilies, families_der, member_der, option_der}
 
 -- a SEQUENCE is longer than what is in it
 pub content_shorter : (content : List ℕ) → length (sequence_value content) < 2 ^ 64 → length content < 2 ^ 64
-content_shorter content short =
-    let parts = length-append (header 48 (length content)) content in
-    omega (arith, short, parts)
+content_shorter content short = grind (arith, length-append)
 
 module _ {X : Type 0} (G : AddressFamily → List ℕ → X → Type 0) (octets : X → List ℕ) where
   -- what is written of a claim, in fewer octets than a length can tell, is the claim
@@ -22,15 +12,13 @@ module _ {X : Type 0} (G : AddressFamily → List ℕ → X → Type 0) (octets 
   Writes family x = length (octets x) < 2 ^ 64 → G family (octets x) x
 
   -- a member
-  pub member_written : (family : AddressFamily) (x : X) → Writes family x → length (member_der octets family x) < 2 ^ 64 → IsMember G (member_der octets family x) (family, x)
-  member_written family x writes short =
-      let content : List ℕ = family_der family ++ octets x in
-      let small : length content < 2 ^ 64 = content_shorter content short in
-      let back : length (octets x) < 2 ^ 64 = omega (arith, small, length-append (family_der family) (octets x)) in
-      (content, value_is 48 content (omega arith) small, (octets x, (family_der family, family_written family, refl), writes back))
+  pub member_written : (family : AddressFamily) (x : X) → Writes family x → length (member_der octets family x) < 2 ^ 64
+      → IsMember G (member_der octets family x) (family, x)
+  member_written family x writes short = grind (arith, content_shorter, family_written, length-append, value_is)
 
   -- the members that there are, of which there is one at least
-  says_written : (v4 v6 : Option X) → IfSome v4 (Writes Ipv4) → IfSome v6 (Writes Ipv6) → (v4 ≡ None → v6 ≢ None) → length (option_der octets Ipv4 v4 ++ option_der octets Ipv6 v6) < 2 ^ 64
+  says_written : (v4 v6 : Option X) → IfSome v4 (Writes Ipv4) → IfSome v6 (Writes Ipv6) → (v4 ≡ None → v6 ≢ None)
+      → length (option_der octets Ipv4 v4 ++ option_der octets Ipv6 v6) < 2 ^ 64
       → SaysFamilies G (option_der octets Ipv4 v4 ++ option_der octets Ipv6 v6) (v4, v6)
   says_written None None first second some short = absurd (some refl refl)
   says_written (Some x) None first second some short =
@@ -52,8 +40,7 @@ module _ {X : Type 0} (G : AddressFamily → List ℕ → X → Type 0) (octets 
       )
 
   -- families, of which there is one at least
-  pub families_written : (fs : ByFamily X) → IfSome fs.0 (Writes Ipv4) → IfSome fs.1 (Writes Ipv6) → (fs.0 ≡ None → fs.1 ≢ None) → length (families_der octets fs) < 2 ^ 64 → IsFamilies G (families_der octets fs) fs
-  families_written fs first second some short =
-      let content : List ℕ = option_der octets Ipv4 fs.0 ++ option_der octets Ipv6 fs.1 in
-      let small : length content < 2 ^ 64 = content_shorter content short in
-      (content, value_is 48 content (omega arith) small, says_written fs.0 fs.1 first second some small)
+  pub families_written : (fs : ByFamily X) → IfSome fs.0 (Writes Ipv4) → IfSome fs.1 (Writes Ipv6)
+      → (fs.0 ≡ None → fs.1 ≢ None) → length (families_der octets fs) < 2 ^ 64
+      → IsFamilies G (families_der octets fs) fs
+  families_written fs first second some short = grind (arith, content_shorter, says_written, value_is)

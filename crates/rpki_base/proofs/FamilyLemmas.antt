@@ -1,18 +1,5 @@
 -- Families in DER: what is read, what is written, and which faults are named.
-use Rattle.std.proofs.Common.{◌≡◌, ℕ, ◌&&◌, Bool, true, false, cond, eqb, List, [], ◌∷◌, length, get_or}
-use Rattle.std.proofs.Common.{Result, Ok, Err, refl, sym, ap, subst, ◌∙◌, arith}
-use Rattle.std.specs.Prelude.{IsErrAnd, MatchResult}
-use Rattle.std.proofs.lemmas.Bool.{eqb-true, and_parts}
-use Rattle.rpki_der.specs.declared.error.DerError.{DerError}
-use Rattle.rpki_der.specs.declared.error.DerError.TheVariants.{BadFamily}
-use Rattle.rpki_der.specs.Der.{Refines, header, length_octets}
-use Rattle.rpki_der.specs.Reading.{Gives, tagged_at, IsReading}
-use Rattle.rpki_der.proofs.Steps.{IsCheck, ok_is, ok_or_err}
-use Rattle.rpki_der.proofs.Readings.{IsTagged, refined_reading, same_reading, tagged_reading}
-use Rattle.rpki_der.proofs.Written.{value_is}
-use Rattle.rpki_base.specs.declared.family.AddressFamily.{AddressFamily}
-use Rattle.rpki_base.specs.declared.family.AddressFamily.TheVariants.{Ipv4, Ipv6}
-use Rattle.rpki_base.specs.FamilyDer.{SaysFamily, IsFamilyDer, family_der, family_octets, family_of_octets, family_at}
+use Rattle.rpki_base.proofs.Common.{Bool, Err, List, Ok, Result, [], ap, arith, cond, eqb, get_or, length, refl, subst, true, ℕ, ◌&&◌, ◌∙◌, ◌∷◌, ◌≡◌, and_parts, eqb-true, IsErrAnd, MatchResult, IsTagged, refined_reading, same_reading, tagged_reading, IsCheck, ok_is, ok_or_err, value_is, Refines, header, length_octets, Gives, IsReading, tagged_at, DerError, BadFamily, IsFamilyDer, SaysFamily, family_at, family_der, family_octets, family_of_octets, AddressFamily, Ipv4, Ipv6}
 use Rattle.rpki_base.proofs.DerFaults.{NamesTo, cond_names, names_more, refined_names, tagged_names}
 
 -- ---- a fault under another name
@@ -23,10 +10,7 @@ pub renamed : {X Y E : Type 0} (Fits : X → Type 0) (C : X → Y → Type 0) (c
     → IsCheck Fits C check → Fits x → Gives (λ y. y) read (check x)
     → MatchResult read (λ y. named ≡ Ok y) (λ e. IsErrAnd named (P e))
     → MatchResult named (C x) (λ _. (y : Y) → C x y → ⊥)
-renamed Fits C check x (Ok y) named P is fits gives same =
-    subst (λ r. MatchResult r (C x) (λ _. (z : _) → C x z → ⊥)) (sym same) (is.takes x y fits gives)
-renamed Fits C check x (Err e) (Ok y) P is fits gives same = absurd same
-renamed Fits C check x (Err e) (Err d) P is fits gives same = λ y c. ok_or_err y e (check x) (is.again x y c) gives
+renamed Fits C check x read named P is fits gives same = grind (arith, ok_or_err)
 
 -- ---- families
 
@@ -42,20 +26,14 @@ two (c ∷ d ∷ e ∷ rest) a b n x y = absurd (omega arith)
 are_two : (content : List ℕ) (b : ℕ)
     → ((eqb (length content) 2) && (eqb (get_or content 0 0) 0) && (eqb (get_or content 1 0) b)) ≡ true
     → content ≡ 0 ∷ b ∷ []
-are_two content b e =
-    let x = and_parts ((eqb (length content) 2) && (eqb (get_or content 0 0) 0)) (eqb (get_or content 1 0) b) e in
-    let y = and_parts (eqb (length content) 2) (eqb (get_or content 0 0) 0) x.0 in
-    two content 0 b
-    (eqb-true (length content) 2 y.0) (eqb-true (get_or content 0 0) 0 y.1) (eqb-true (get_or content 1 0) b x.1)
+are_two content b e = grind (arith, and_parts, eqb-true, two)
 
 -- a family by its tests
 family_by : (content : List ℕ) (f : AddressFamily) (one other : Bool)
     → ((eqb (length content) 2) && (eqb (get_or content 0 0) 0) && (eqb (get_or content 1 0) 1)) ≡ one
     → ((eqb (length content) 2) && (eqb (get_or content 0 0) 0) && (eqb (get_or content 1 0) 2)) ≡ other
     → cond one (Ok Ipv4) (cond other (Ok Ipv6) (Err BadFamily)) ≡ Ok f → SaysFamily content f
-family_by content f true other t s e = subst (SaysFamily content) (ok_is Ipv4 f e) (are_two content 1 t)
-family_by content f false true t s e = subst (SaysFamily content) (ok_is Ipv6 f e) (are_two content 2 s)
-family_by content f false false t s e = absurd cc
+family_by content f one other t s e = grind (arith, are_two, ok_is)
 
 -- a family that is read is said
 family_says : (content : List ℕ) (f : AddressFamily) → family_of_octets content ≡ Ok f → SaysFamily content f
@@ -65,15 +43,11 @@ family_says content f e = family_by content f _ _ refl refl e
 -- the octets of a family are read
 family_back : (f : AddressFamily) → family_of_octets (family_octets f) ≡ Ok f
 unfolding family_of_octets
-family_back Ipv4 = refl
-family_back Ipv6 = refl
+family_back f = grind (arith)
 
 -- the two together
 pub family_check : IsCheck (λ _. Unit {0}) SaysFamily family_of_octets
-family_check = record {
-  takes = λ content f fits e. family_says content f e;
-  again = λ content f s. ap family_of_octets s ∙ family_back f;
-}
+family_check = grind (arith, family_back, family_says)
 
 -- an OCTET STRING of a family
 pub family_reading : IsReading IsFamilyDer family_at
@@ -87,23 +61,16 @@ family_reading =
 -- a family takes four octets
 pub length_family : (family : AddressFamily) → length (family_der family) ≡ 4
 unfolding header length_octets
-length_family Ipv4 = refl
-length_family Ipv6 = refl
+length_family family = grind (arith)
 
 -- the OCTET STRING of a family
 pub family_written : (family : AddressFamily) → IsFamilyDer (family_der family) family
-family_written Ipv4 = value_is 4 _ (omega arith) (omega arith)
-family_written Ipv6 = value_is 4 _ (omega arith) (omega arith)
+family_written family = grind (arith, value_is)
 
 -- which fault is named
 family_of_names : (content : List ℕ) → NamesTo 9 (family_of_octets content)
 unfolding family_of_octets
-family_of_names content =
-    let none : Result AddressFamily DerError = Err BadFamily in
-    let two = (eqb (length content) 2) && (eqb (get_or content 0 0) 0) in
-    let second = two && (eqb (get_or content 1 0) 2) in
-    cond_names 9 (two && (eqb (get_or content 1 0) 1)) (Ok Ipv4) (cond second (Ok Ipv6) none) tt
-    (cond_names 9 second (Ok Ipv6) none tt (omega arith))
+family_of_names content = grind (arith, cond_names, two)
 
 pub family_names : (bytes : List ℕ) → NamesTo 9 (family_at bytes)
 family_names =

@@ -1,6 +1,7 @@
 pub mod AsnLemmas
 pub mod AsnPlaceLemmas
 pub mod AsnPrinting
+pub mod Common
 pub mod DerCursors
 pub mod DerFaults
 pub mod DerModes

@@ -1,17 +1,12 @@
 -- Small sets: what the walks, a list and a search give.
-use Rattle.std.proofs.Common.{◌≡◌, ℕ, zero, suc, ◌<◌, ◌≤◌, inl, inr, ◌↔◌, List, [], ◌∷◌, length, get_or, Contains, IsTrue, Result, Ok, Err, eqb, arith, refl, sym, ap₂, ◌∙◌}
+use Rattle.rpki_base.proofs.Common.{Contains, Err, IsTrue, List, Ok, Result, [], ap₂, arith, eqb, get_or, inl, inr, length, refl, suc, sym, zero, ℕ, ◌<◌, ◌↔◌, ◌∙◌, ◌∷◌, ◌≡◌, ◌≤◌, cases_lt, IsBinarySearchResult, IsPermutation, IsSorted, IsInBoth, IsInEither, IsInFirstAlone, IsInOne, IsSmallSet, IsSmallSetOf, any_side, only_both, only_left, only_one, walk, Wanted}
 use Rattle.std.specs.Ordering.{nat_cmp}
-use Rattle.std.proofs.lemmas.Bool.{cases_lt}
 use Rattle.std.specs.Result.{is_ok}
 use Rattle.std.specs.List.Retain.{IsFiltered, DiffersFromLast}
-use Rattle.std.specs.List.Sorted.{IsBinarySearchResult, IsPermutation, IsSorted}
 use Rattle.std.proofs.lemmas.List.Sorted.{searched, Contains-permutation, IsPermutation-sym}
 use Rattle.std.proofs.lemmas.List.Filters.{dedup_is}
 use Rattle.std.proofs.lemmas.List.Kept.{Contains-dedup_nat, Contains-from_dedup}
 use Rattle.std.proofs.lemmas.Map.Keys.{IsStrictlyIncreasing-dedup}
-use Rattle.rpki_base.specs.SmallSet.{IsSmallSet, IsSmallSetOf, IsInFirstAlone, IsInOne, IsInBoth, IsInEither}
-use Rattle.rpki_base.specs.Walks.{walk, only_left, only_one, only_both, any_side}
-use Rattle.rpki_base.specs.declared.small_set.walk.Wanted.{Wanted}
 use Rattle.rpki_base.proofs.WalkLemmas.{Among, to_among, from_among, is_among, Rises, above_is, Rises-from_increasing, IsStrictlyIncreasing-rises, IsWanted, walk_is, walk_rises}
 
 -- a walk gives the set S, where S are the wanted numbers
@@ -55,7 +50,8 @@ module _ (xs ys zs : List ℕ) (left : IsSmallSet xs) (right : IsSmallSet ys) wh
   )))
 
 -- a list that was sorted and freed of repeats is the set of its numbers
-pub from_list_is : (list sorted left : List ℕ) → IsPermutation list sorted → IsSorted nat_cmp sorted → IsFiltered (DiffersFromLast eqb) [] sorted left → IsSmallSetOf (Contains list) left
+pub from_list_is : (list sorted left : List ℕ) → IsPermutation list sorted → IsSorted nat_cmp sorted
+    → IsFiltered (DiffersFromLast eqb) [] sorted left → IsSmallSetOf (Contains list) left
 from_list_is list sorted left moved ascends filtered =
     let is = dedup_is eqb sorted left filtered in
     rw is (record {
@@ -81,7 +77,8 @@ not_falling (x ∷ xs) h (suc i) zero le small = absurd (omega (arith, le))
 not_falling (x ∷ xs) h (suc i) (suc j) le small = not_falling xs h.1 i j (omega (arith, le)) (omega (arith, small))
 
 -- a binary search in a set finds just its numbers
-pub search_is : (xs : List ℕ) (n : ℕ) (r : Result ℕ ℕ) → IsSmallSet xs → IsBinarySearchResult (λ y. nat_cmp y n) xs r → IsTrue (is_ok r) ↔ Contains xs n
+pub search_is : (xs : List ℕ) (n : ℕ) (r : Result ℕ ℕ) → IsSmallSet xs → IsBinarySearchResult (λ y. nat_cmp y n) xs r
+    → IsTrue (is_ok r) ↔ Contains xs n
 search_is xs n (Ok i) small h =
     let found = searched xs n (Ok i) h (not_falling xs (Rises-from_increasing xs small)) in
     ((λ _. (i, found.0, same_default xs i n 0 found.0 ∙ found.1)), λ _. refl)
@@ -89,7 +86,8 @@ search_is xs n (Err i) small h =
     let missed = searched xs n (Err i) h (not_falling xs (Rises-from_increasing xs small)) in
     ((λ never. cc), λ k. absurd (none missed k))
   where
-    none : ((i ≤ length xs) × ((k : ℕ) → k < i → get_or xs k 0 < n) × ((k : ℕ) → i ≤ k → k < length xs → n < get_or xs k 0)) → Contains xs n → ⊥
+    none : ((i ≤ length xs) × ((k : ℕ) → k < i → get_or xs k 0 < n)
+        × ((k : ℕ) → i ≤ k → k < length xs → n < get_or xs k 0)) → Contains xs n → ⊥
     none missed (k, here, is) = elim (cases_lt k i) [
       | inl before ↦ (let less = missed.1 k before in omega (arith, less, sym (same_default xs k n 0 here) ∙ is))
       | inr after ↦ (let more = missed.2 k after here in omega (arith, more, sym (same_default xs k n 0 here) ∙ is))

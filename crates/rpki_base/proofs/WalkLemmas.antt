@@ -1,10 +1,5 @@
 -- A walk over two ascending lists gives the wanted numbers of both, ascending.
-use Rattle.std.proofs.Common.{◌≡◌, ℕ, zero, suc, ◌<◌, ◌⊎◌, inl, inr, ◌↔◌, Bool, List, [], ◌∷◌, length, get_or, Contains, IsTrue, arith, subst, add-one, lt-ltb, le-ltb}
-use Rattle.std.specs.List.{AllByRecursion}
-use Rattle.std.specs.List.Sorted.{IsStrictlyIncreasing}
-use Rattle.std.proofs.lemmas.Bool.{cases_lt, cases_eq}
-use Rattle.rpki_base.specs.Walks.{kept_items, all_kept, walk_step, walk}
-use Rattle.rpki_base.specs.declared.small_set.walk.Wanted.{Wanted}
+use Rattle.rpki_base.proofs.Common.{Bool, Contains, IsTrue, List, [], add-one, arith, get_or, inl, inr, le-ltb, length, lt-ltb, subst, suc, zero, ℕ, ◌<◌, ◌↔◌, ◌∷◌, ◌≡◌, ◌⊎◌, cases_eq, cases_lt, AllByRecursion, IsStrictlyIncreasing, all_kept, kept_items, walk, walk_step, Wanted}
 
 -- n is one of the numbers
 abbrev pub Among : ℕ → List ℕ → Type 0
@@ -108,7 +103,8 @@ module _ (wanted : Wanted) (x y n : ℕ) (xs ys zs : List ℕ) (same : x ≡ y) 
 
 -- a walk from x on, where `others` walks over what follows x and a list: it gives the wanted numbers
 module _ (wanted : Wanted) (x : ℕ) (xs : List ℕ) (others : List ℕ → List ℕ) (above : Above x xs) (others_are : (ys : List ℕ) → Rises ys → (n : ℕ) → Among n (others ys) ↔ IsWanted wanted xs ys n) where
-  step_is : (ys : List ℕ) → Rises ys → (n : ℕ) → Among n (walk_step wanted x xs others ys) ↔ IsWanted wanted (x ∷ xs) ys n
+  step_is : (ys : List ℕ) → Rises ys → (n : ℕ)
+      → Among n (walk_step wanted x xs others ys) ↔ IsWanted wanted (x ∷ xs) ys n
   step_is [] h n = grind (arith, all_kept_is)
   step_is (y ∷ ys) h n = elim (cases_lt x y) [
     | inl less ↦ rw (lt-ltb x y less) (left_turn wanted x n xs (y ∷ ys) (others (y ∷ ys)) (less, above_more x y ys less h.0) (others_are (y ∷ ys) h n))
@@ -145,7 +141,8 @@ module _ (wanted : Wanted) (x : ℕ) (xs : List ℕ) (others : List ℕ → List
   ]
 
 -- a walk gives the wanted numbers, ascending
-walk_above : (wanted : Wanted) (xs : List ℕ) (m : ℕ) (ys : List ℕ) → Above m xs → Above m ys → Above m (walk wanted xs ys)
+walk_above : (wanted : Wanted) (xs : List ℕ) (m : ℕ) (ys : List ℕ) → Above m xs → Above m ys
+    → Above m (walk wanted xs ys)
 walk_above wanted [] m ys h k = above_all_kept wanted.right m ys k
 walk_above wanted (x ∷ xs) m ys h k = step_above wanted x xs (walk wanted xs) (walk_above wanted xs) m ys h.0 h.1 k
 
@@ -153,6 +150,7 @@ pub walk_rises : (wanted : Wanted) (xs ys : List ℕ) → Rises xs → Rises ys 
 walk_rises wanted [] ys h k = rises_all_kept wanted.right ys k
 walk_rises wanted (x ∷ xs) ys h k = step_rises wanted x xs (walk wanted xs) h.0 (walk_above wanted xs) (λ others r. walk_rises wanted xs others h.1 r) h.1 ys k
 
-pub walk_is : (wanted : Wanted) (xs ys : List ℕ) → Rises xs → Rises ys → (n : ℕ) → Among n (walk wanted xs ys) ↔ IsWanted wanted xs ys n
+pub walk_is : (wanted : Wanted) (xs ys : List ℕ) → Rises xs → Rises ys → (n : ℕ)
+    → Among n (walk wanted xs ys) ↔ IsWanted wanted xs ys n
 walk_is wanted [] ys h k n = grind (arith, all_kept_is)
 walk_is wanted (x ∷ xs) ys h k n = step_is wanted x xs (walk wanted xs) h.0 (λ others r m. walk_is wanted xs others h.1 r m) ys k n

@@ -1,8 +1,5 @@
 -- How many numbers a walk over two lists gives at most.
-use Rattle.std.proofs.Common.{ℕ, suc, ◌+◌, ◌≤◌, List, [], ◌∷◌, length, arith, inl, inr, lt-ltb, le-ltb}
-use Rattle.std.proofs.lemmas.Bool.{cases_lt}
-use Rattle.rpki_base.specs.Walks.{kept_items, all_kept, walk_step, walk, only_left, only_one, only_both, any_side}
-use Rattle.rpki_base.specs.declared.small_set.walk.Wanted.{Wanted}
+use Rattle.rpki_base.proofs.Common.{List, [], arith, inl, inr, le-ltb, length, lt-ltb, suc, ℕ, ◌+◌, ◌∷◌, ◌≤◌, cases_lt, all_kept, any_side, kept_items, only_both, only_left, only_one, walk, walk_step, Wanted}
 
 -- what a walk keeps stays within this bound on the lengths of both lists, whichever list a number comes from
 record IsBound (wanted : Wanted) (bound : ℕ → ℕ → ℕ) : Type 0 where
@@ -10,11 +7,14 @@ record IsBound (wanted : Wanted) (bound : ℕ → ℕ → ℕ) : Type 0 where
   all_right : (ys : List ℕ) → length (all_kept wanted.right ys) ≤ bound 0 (length ys)
   left : (m n x : ℕ) (zs : List ℕ) → length zs ≤ bound m n → length (kept_items wanted.left x zs) ≤ bound (suc m) n
   right : (m n y : ℕ) (zs : List ℕ) → length zs ≤ bound m n → length (kept_items wanted.right y zs) ≤ bound m (suc n)
-  both : (m n x : ℕ) (zs : List ℕ) → length zs ≤ bound m n → length (kept_items wanted.both x zs) ≤ bound (suc m) (suc n)
+  both : (m n x : ℕ) (zs : List ℕ) → length zs ≤ bound m n
+      → length (kept_items wanted.both x zs) ≤ bound (suc m) (suc n)
 
 module _ (wanted : Wanted) (bound : ℕ → ℕ → ℕ) (is : IsBound wanted bound) where
   -- a walk from x on, where `others` walks over what follows x and a list
-  step_few : (x : ℕ) (xs : List ℕ) (others : List ℕ → List ℕ) → ((ys : List ℕ) → length (others ys) ≤ bound (length xs) (length ys)) → (ys : List ℕ) → length (walk_step wanted x xs others ys) ≤ bound (suc (length xs)) (length ys)
+  step_few : (x : ℕ) (xs : List ℕ) (others : List ℕ → List ℕ)
+      → ((ys : List ℕ) → length (others ys) ≤ bound (length xs) (length ys)) → (ys : List ℕ)
+      → length (walk_step wanted x xs others ys) ≤ bound (suc (length xs)) (length ys)
   step_few x xs others few [] = is.all_left (x ∷ xs)
   step_few x xs others few (y ∷ ys) = elim (cases_lt x y) [
     | inl less ↦ rw (lt-ltb x y less) (is.left (length xs) (suc (length ys)) x (others (y ∷ ys)) (few (y ∷ ys)))

@@ -12,7 +12,8 @@ use Rattle.rpki_der.specs.Reading.{◌>>=◌, each_from, ended, passing, refined
 abbrev pub SaysByTag : {X : Type 0} → ℕ → (List ℕ → X → Type 0) → (List ℕ → X → Type 0) → Tlv → X → Type 0
 SaysByTag tag One Two v x = ((v.tag ≡ tag) × One v.content x) ⊎ ((v.tag ≡ 48) × Two v.content x)
 
-unfoldable pub by_tag : {X : Type 0} → ℕ → (List ℕ → Result X DerError) → (List ℕ → Result X DerError) → Tlv → Result X DerError
+unfoldable pub by_tag : {X : Type 0} → ℕ → (List ℕ → Result X DerError) → (List ℕ → Result X DerError) → Tlv
+    → Result X DerError
 by_tag tag one two v =
     if v.tag == tag then one v.content else
     if v.tag == 48 then two v.content else
@@ -25,7 +26,8 @@ abbrev pub SaysPair : {X Y : Type 0} → (List ℕ → X → Type 0) → (X → 
 SaysPair {X} G C content y = (first : X) × (second : X) × Both G G content first second × C first second y
 
 -- what two values say is looked at before the end of the content
-unfoldable pub pair_in : {X Y : Type 0} → (List ℕ → Result (X × List ℕ) DerError) → (X → X → Result Y DerError) → List ℕ → Result Y DerError
+unfoldable pub pair_in : {X Y : Type 0} → (List ℕ → Result (X × List ℕ) DerError) → (X → X → Result Y DerError) → List ℕ
+    → Result Y DerError
 pair_in reading check content = do
   first ← reading content
   second ← reading first.1
@@ -34,7 +36,8 @@ pair_in reading check content = do
   Ok y
 
 -- the same by the mode: strictly only where the two values pass a test, which is made behind the end of the content
-unfoldable pub pair_by : {X Y : Type 0} → Bool → (List ℕ → Result (X × List ℕ) DerError) → (X → X → Result Y DerError) → (X → X → Bool) → List ℕ → Result Y DerError
+unfoldable pub pair_by : {X Y : Type 0} → Bool → (List ℕ → Result (X × List ℕ) DerError) → (X → X → Result Y DerError)
+    → (X → X → Bool) → List ℕ → Result Y DerError
 pair_by strict reading check test content = do
   first ← reading content
   second ← reading first.1
@@ -55,7 +58,8 @@ only reading content = do
   end ← ended x.1
   Ok x.0
 
-abbrev pub enclosed_at : {X : Type 0} → ℕ → (List ℕ → Result (X × List ℕ) DerError) → List ℕ → Result (X × List ℕ) DerError
+abbrev pub enclosed_at : {X : Type 0} → ℕ → (List ℕ → Result (X × List ℕ) DerError) → List ℕ
+    → Result (X × List ℕ) DerError
 enclosed_at tag reading = refined (tagged_at tag) (only reading)
 
 -- ---- passed over
@@ -64,7 +68,8 @@ enclosed_at tag reading = refined (tagged_at tag) (only reading)
 abbrev pub Skips : {X : Type 0} → (List ℕ → X → Type 0) → List ℕ → Unit {0} → Type 0
 Skips G = Refines G (λ x u. Unit {0})
 
-abbrev pub skipping : {X : Type 0} → (List ℕ → Result (X × List ℕ) DerError) → List ℕ → Result (Unit {0} × List ℕ) DerError
+abbrev pub skipping : {X : Type 0} → (List ℕ → Result (X × List ℕ) DerError) → List ℕ
+    → Result (Unit {0} × List ℕ) DerError
 skipping reading = refined reading (λ x. Ok tt)
 
 -- ---- only if its tag is there
@@ -75,7 +80,8 @@ begins_with octet [] = false
 begins_with octet (b ∷ bytes) = b == octet
 
 -- what reading finds where the next octet is the tag; elsewhere, and at the end, nothing, and no octet is taken
-unfoldable pub if_tagged : {X : Type 0} → ℕ → (List ℕ → Result (X × List ℕ) DerError) → List ℕ → Result (Option X × List ℕ) DerError
+unfoldable pub if_tagged : {X : Type 0} → ℕ → (List ℕ → Result (X × List ℕ) DerError) → List ℕ
+    → Result (Option X × List ℕ) DerError
 if_tagged tag reading bytes =
     if begins_with tag bytes then (reading bytes >>= λ x. Ok (Some x.0, x.1)) else Ok (None, bytes)
 
@@ -90,15 +96,18 @@ abbrev pub IsSequenceOf : {X : Type 0} → (List ℕ → X → Type 0) → List 
 IsSequenceOf G = Refines IsSequence (Each G)
 
 -- all values of a content
-unfoldable pub values_from : {S X : Type 0} → (S → X → S) → (S → List ℕ → Result (X × List ℕ) DerError) → S → List ℕ → Result (List X) DerError
+unfoldable pub values_from : {S X : Type 0} → (S → X → S) → (S → List ℕ → Result (X × List ℕ) DerError) → S → List ℕ
+    → Result (List X) DerError
 values_from next reading state content = each_from next (length content) reading state content
 
-abbrev pub sequence_from : {S X : Type 0} → (S → X → S) → (S → List ℕ → Result (X × List ℕ) DerError) → S → List ℕ → Result (List X × List ℕ) DerError
+abbrev pub sequence_from : {S X : Type 0} → (S → X → S) → (S → List ℕ → Result (X × List ℕ) DerError) → S → List ℕ
+    → Result (List X × List ℕ) DerError
 sequence_from next reading state = refined (tagged_at 48) (values_from next reading state)
 
 -- the same with nothing to remember
 abbrev pub values_of : {X : Type 0} → (List ℕ → Result (X × List ℕ) DerError) → List ℕ → Result (List X) DerError
 values_of reading = values_from (λ (state : Unit {0}) x. state) (λ state. reading) tt
 
-abbrev pub sequence_of : {X : Type 0} → (List ℕ → Result (X × List ℕ) DerError) → List ℕ → Result (List X × List ℕ) DerError
+abbrev pub sequence_of : {X : Type 0} → (List ℕ → Result (X × List ℕ) DerError) → List ℕ
+    → Result (List X × List ℕ) DerError
 sequence_of reading = refined (tagged_at 48) (values_of reading)

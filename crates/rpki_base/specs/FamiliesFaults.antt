@@ -8,7 +8,8 @@ use Rattle.rpki_base.specs.FamiliesDer.{claims_among}
 use Rattle.rpki_base.specs.FamiliesReading.{member_at}
 
 -- a member, whatever its family is
-abbrev pub any_member_at : {X : Type 0} → (AddressFamily → List ℕ → Result (X × List ℕ) DerError) → List ℕ → Result ((AddressFamily × X) × List ℕ) DerError
+abbrev pub any_member_at : {X : Type 0} → (AddressFamily → List ℕ → Result (X × List ℕ) DerError) → List ℕ
+    → Result ((AddressFamily × X) × List ℕ) DerError
 any_member_at claim_at = member_at claim_at (false, false)
 
 -- a SEQUENCE that begins with a family of these members

@@ -13,5 +13,6 @@ chosen wanted Right = wanted.right
 
 -- n stands first in a walk over both lists, whatever is wanted, and these are left
 pub record IsStep (left right : List ℕ) (side : Side) (n : ℕ) (next_left next_right : List ℕ) : Type 0 where
-  pub gives : (wanted : Wanted) → walk wanted left right ≡ kept_items (chosen wanted side) n (walk wanted next_left next_right)
+  pub gives : (wanted : Wanted)
+      → walk wanted left right ≡ kept_items (chosen wanted side) n (walk wanted next_left next_right)
   pub fewer : length next_left + length next_right < length left + length right

@@ -1,11 +1,6 @@
 -- Lists of blocks that ascend and neither overlap nor touch, and what they cover.
-use Rattle.std.proofs.Common.{◌≡◌, ℕ, ◌+◌, ◌-◌, ◌<◌, ◌≤◌, ◌↔◌, ◌⊎◌, inl, inr, ⊎_elim, List, [], ◌∷◌, ◌++◌, length, get_or, refl, sym, ap, ◌∙◌, subst, arith, zero, suc}
-use Rattle.std.proofs.Math.Nat.{le_refl}
-use Rattle.std.proofs.lemmas.Bool.{cases_lt}
-use Rattle.std.proofs.lemmas.List.{get_or_append_left, get_or_push, length_push, get_or_default}
-use Rattle.std.proofs.lemmas.List.Elements.{All-push}
+use Rattle.rpki_chains.proofs.Imports.{List, [], ap, arith, get_or, length, refl, subst, suc, sym, zero, ℕ, ⊎_elim, ◌++◌, ◌+◌, ◌-◌, ◌<◌, ◌↔◌, ◌∙◌, ◌∷◌, ◌≡◌, ◌≤◌, ◌⊎◌, le_refl, cases_lt, get_or_append_left, get_or_default, get_or_push, length_push, All-push, Covers, IsChain, IsChainOf, IsNew, IsRun, IsWithin}
 use Rattle.std.proofs.lemmas.List.Quantifiers.{Any-push, all_pairs_push}
-use Rattle.rpki_chains.specs.Sets.{IsNew, IsWithin, Covers, IsRun, IsChain, IsChainOf}
 
 -- the element at an index
 pub element_at : {B : Type 0} (xs : List B) (i : ℕ) → i < length xs → (x : B) × (x ≡ get_or xs i x)
@@ -24,21 +19,15 @@ module _ {B : Type 0} (f : B → ℕ × ℕ) where
 
   -- a number that the longer list covers lies in the list before or in the new block
   pub Covers-push_cases : (xs : List B) (y : B) (n : ℕ) → Covers f (xs ++ y ∷ []) n → Covers f xs n ⊎ IsWithin (f y) n
-  Covers-push_cases xs y n (k, x, lt, e, w) =
-      let l = length_push xs y in
-      ⊎_elim
-      (λ below. inl (k, x, below, sym (get_or_append_left xs (y ∷ []) x k below) ∙ e, w))
-      (λ (above : length xs ≤ k). let at : length xs ≡ k = omega arith in
-      let P : B → Type 0 = λ z. IsWithin (f z) n in
-      inr (subst P (sym e ∙ get_or_push xs y x k at) w))
-      (cases_lt k (length xs))
+  Covers-push_cases xs y n h = grind (arith, cases_lt, get_or_append_left, get_or_push, length_push)
 
   -- one block more covers its numbers more
   pub Covers-push : (xs : List B) (y : B) (n : ℕ) → Covers f (xs ++ y ∷ []) n ↔ (Covers f xs n ⊎ IsWithin (f y) n)
   Covers-push xs y n = (Covers-push_cases xs y n, ⊎_elim (λ (k, x, lt, e, w). (k, x, (let l = length_push xs y in omega arith), get_or_append_left xs (y ∷ []) x k lt ∙ e, w)) (Any-push (λ x. IsWithin (f x) n) xs y))
 
   -- the same, with the bounds by another name
-  pub Covers-push_as : (xs : List B) (y : B) (b : ℕ × ℕ) → f y ≡ b → (n : ℕ) → Covers f (xs ++ y ∷ []) n ↔ (Covers f xs n ⊎ IsWithin b n)
+  pub Covers-push_as : (xs : List B) (y : B) (b : ℕ × ℕ) → f y ≡ b → (n : ℕ)
+      → Covers f (xs ++ y ∷ []) n ↔ (Covers f xs n ⊎ IsWithin b n)
   Covers-push_as xs y b same n = subst (λ (c : ℕ × ℕ). Covers f (xs ++ y ∷ []) n ↔ (Covers f xs n ⊎ IsWithin c n)) same (Covers-push xs y n)
 
   module _ (form : ℕ × ℕ → B) where
@@ -47,7 +36,8 @@ module _ {B : Type 0} (f : B → ℕ × ℕ) where
     IsChain-nil = record { ordered = λ k d lt. absurd (omega arith); apart = λ i j d lt below. absurd (omega arith); new_form = λ k d lt. absurd (omega arith) }
 
     -- a chain with one more block behind it that doesn't touch the last
-    pub IsChain-push : (xs : List B) (y : B) → IsChain f form xs → (f y).0 ≤ (f y).1 → IsNew f form y → ((at : ℕ) (d : B) → at + 1 ≡ length xs → (f (get_or xs at d)).1 + 1 < (f y).0) → IsChain f form (xs ++ y ∷ [])
+    pub IsChain-push : (xs : List B) (y : B) → IsChain f form xs → (f y).0 ≤ (f y).1 → IsNew f form y
+        → ((at : ℕ) (d : B) → at + 1 ≡ length xs → (f (get_or xs at d)).1 + 1 < (f y).0) → IsChain f form (xs ++ y ∷ [])
     IsChain-push xs y h o new last = record {
       ordered = All-push (λ x. (f x).0 ≤ (f x).1) xs y h.ordered o;
       apart = all_pairs_push (λ x z. (f x).1 + 1 < (f z).0) xs y h.apart (λ k d lt. ⊎_elim
@@ -63,7 +53,8 @@ module _ {B : Type 0} (f : B → ℕ × ℕ) where
     }
 
     -- a later block begins no earlier
-    pub ascends : (xs : List B) → IsChain f form xs → (i k : ℕ) (d : B) → i ≤ k → k < length xs → (f (get_or xs i d)).0 ≤ (f (get_or xs k d)).0
+    pub ascends : (xs : List B) → IsChain f form xs → (i k : ℕ) (d : B) → i ≤ k → k < length xs
+        → (f (get_or xs i d)).0 ≤ (f (get_or xs k d)).0
     ascends xs h i k d le lt = ⊎_elim
         (λ (before : i < k). let a = h.apart i k d before lt in let o = h.ordered i d (omega arith) in omega arith)
         (λ (not : k ≤ i). let same : i ≡ k = omega arith in let P : ℕ → Type 0 = λ j. (f (get_or xs i d)).0 ≤ (f (get_or xs j d)).0 in subst P same (omega arith))
@@ -121,7 +112,8 @@ module _ {B : Type 0} (f : B → ℕ × ℕ) where
         }
 
     -- the same for any set that has the chain's numbers
-    pub IsChainOf-from : (xs : List B) (S : ℕ → Type 0) → IsChain f form xs → ((n : ℕ) → Covers f xs n ↔ S n) → IsChainOf f form S xs
+    pub IsChainOf-from : (xs : List B) (S : ℕ → Type 0) → IsChain f form xs → ((n : ℕ) → Covers f xs n ↔ S n)
+        → IsChainOf f form S xs
     IsChainOf-from xs S h same =
         let own = IsChainOf-itself xs h in
         record {

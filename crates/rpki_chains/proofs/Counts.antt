@@ -1,20 +1,18 @@
 -- How often the blocks of a chain were read: once each by a walk, and by a search that halves once for each binary
 -- digit.
-use Rattle.std.proofs.Common.{add-one, ◌≡◌, ℕ, ◌+◌, ◌-◌, ◌*◌, ◌^◌, ◌<◌, ◌≤◌, ⊎_elim, List, length, Option, Some, None, is_some, if◌then◌else◌, ap, arith}
-use Rattle.std.proofs.Math.Nat.{mul-le-mul_right, pow-le-pow_right, two-pow-succ}
-use Rattle.std.proofs.lemmas.Bool.{cases_lt}
-use Rattle.rpki_chains.specs.Sets.{HoldsBlock}
+use Rattle.rpki_chains.proofs.Imports.{List, Option, add-one, ap, arith, if◌then◌else◌, is_some, length, ℕ, ◌*◌, ◌+◌, ◌-◌, ◌<◌, ◌^◌, ◌≡◌, ◌≤◌, mul-le-mul_right, pow-le-pow_right, two-pow-succ, cases_lt, HoldsBlock}
 
 module _ {B I : Type 0} (f : B → ℕ × ℕ) (number : I → ℕ) (last : ℕ) where
   -- the blocks behind the first weren't read
-  pub read_first : (xs : List B) (block : Option (I × I)) (count new : ℕ) → HoldsBlock f number last xs 0 block → new ≡ count + (if is_some block then 1 else 0) → new + (length xs - (0 + 1)) ≤ count + length xs
-  read_first xs None count new end is = let e : 0 ≡ length xs = end in omega arith
-  read_first xs (Some b) count new here is = let lt = here.0 in omega arith
+  pub read_first : (xs : List B) (block : Option (I × I)) (count new : ℕ) → HoldsBlock f number last xs 0 block
+      → new ≡ count + (if is_some block then 1 else 0) → new + (length xs - (0 + 1)) ≤ count + length xs
+  read_first xs block count new end is = grind (arith)
 
   -- nor those behind the next
-  pub read_next : (xs : List B) (at : ℕ) (block : Option (I × I)) (count new : ℕ) → HoldsBlock f number last xs (at + 1) block → new ≡ count + (if is_some block then 1 else 0) → new + (length xs - (at + 1 + 1)) ≤ count + (length xs - (at + 1))
-  read_next xs at None count new end is = let e : at + 1 ≡ length xs = end in omega arith
-  read_next xs at (Some b) count new here is = let lt = here.0 in omega arith
+  pub read_next : (xs : List B) (at : ℕ) (block : Option (I × I)) (count new : ℕ)
+      → HoldsBlock f number last xs (at + 1) block → new ≡ count + (if is_some block then 1 else 0)
+      → new + (length xs - (at + 1 + 1)) ≤ count + (length xs - (at + 1))
+  read_next xs at block count new end is = grind (arith)
 
 -- each read halved what is searched, and so took one digit off
 abbrev pub Halved : ℕ → ℕ → ℕ → ℕ → Type 0
@@ -22,23 +20,18 @@ Halved len size old count = (old ≤ count) × ((digits : ℕ) → len < 2 ^ dig
 
 -- a number that is left is one digit at least
 digit_left : (size steps digits : ℕ) → 0 < size → size * 2 ^ steps < 2 ^ digits → steps < digits
-digit_left size steps digits some less = ⊎_elim
-    (λ (yes : steps < digits). yes)
-    (λ (no : digits ≤ steps).
-    let two : 0 < 2 = omega arith in
-    let p : 2 ^ digits ≤ 2 ^ steps = pow-le-pow_right two no in
-    let one : 1 * 2 ^ steps ≤ size * 2 ^ steps = mul-le-mul_right (2 ^ steps) some in
-    absurd (omega arith))
-    (cases_lt steps digits)
+digit_left size steps digits some less = grind (arith, cases_lt, mul-le-mul_right, pow-le-pow_right)
 
-half_left : (size next steps digits : ℕ) → 2 * next ≤ size → size * 2 ^ steps < 2 ^ digits → next * 2 ^ (steps + 1) < 2 ^ digits
+half_left : (size next steps digits : ℕ) → 2 * next ≤ size → size * 2 ^ steps < 2 ^ digits
+    → next * 2 ^ (steps + 1) < 2 ^ digits
 half_left size next steps digits half less =
     let double : 2 ^ (steps + 1) ≡ 2 ^ steps + 2 ^ steps = rw add-one (two-pow-succ steps) in
     let whole : (2 * next) * 2 ^ steps ≤ size * 2 ^ steps = mul-le-mul_right (2 ^ steps) half in
     let twice : next * 2 ^ (steps + 1) ≡ next * (2 ^ steps + 2 ^ steps) = ap (λ p. next * p) double in
     omega arith
 
-pub Halved-step : (len size next old count new : ℕ) → Halved len size old count → 0 < size → 2 * next ≤ size → new ≡ count + 1 → Halved len next old new
+pub Halved-step : (len size next old count new : ℕ) → Halved len size old count → 0 < size → 2 * next ≤ size
+    → new ≡ count + 1 → Halved len next old new
 Halved-step len size next old count new (grows, before) some half is =
     let steps : new - old ≡ (count - old) + 1 = omega arith in (
       omega arith,

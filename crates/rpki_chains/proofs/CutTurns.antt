@@ -1,11 +1,7 @@
 -- The turns of the walk that takes one chain's numbers out of another, as the code takes them.
-use Rattle.std.proofs.Common.{◌≡◌, ℕ, ◌+◌, ◌<◌, ◌≤◌, ◌↔◌, inl, inr, List, [], ◌∷◌, ◌++◌, length, get_or, refl, ap, ◌∙◌, arith, Option, Some, None}
+use Rattle.rpki_chains.proofs.Imports.{List, None, Option, Some, [], ap, arith, get_or, inl, inr, length, refl, ℕ, ◌++◌, ◌+◌, ◌<◌, ◌↔◌, ◌∙◌, ◌∷◌, ◌≡◌, ◌≤◌, le_refl, Before, IsOverhang, Covers, IsChain, IsNew, numbers, Overhang}
 use Rattle.std.specs.Option.{IfSome}
-use Rattle.std.proofs.Math.Nat.{le_refl}
-use Rattle.rpki_chains.specs.Sets.{IsNew, IsChain, numbers, Covers}
 use Rattle.rpki_chains.specs.Cut.{IsCut}
-use Rattle.rpki_chains.specs.Overhang.{Before, IsOverhang}
-use Rattle.rpki_chains.specs.declared.overhang.Overhang.{Overhang}
 use Rattle.rpki_chains.specs.declared.difference.Cut.TheVariants.{End, Skip, Keep, Drop, Split, Advance}
 use Rattle.rpki_chains.proofs.Chains.{IsChain-nil, Covers-nil, Covers-at}
 use Rattle.rpki_chains.proofs.Sides.{IsAt, IsAt-from, bounds_of, ordered_at}
@@ -18,25 +14,28 @@ module _ {B I : Type 0} (f : B → ℕ × ℕ) (form : ℕ × ℕ → B) (number
 
   -- at the end there is no rest
   pub turn-end : (rest cut : Option (I × I)) → IsCut number rest cut End → rest ≡ None
-  turn-end None cut h = refl
-  turn-end (Some b) None h = absurd cc
-  turn-end (Some b) (Some c) h = absurd h
+  turn-end rest cut h = grind (arith)
 
   -- then the pieces are the numbers of the one chain that aren't in the other
-  pub turn-done : (xs ys out : List B) (i j : ℕ) (rest : Option (I × I)) (cut : Option (ℕ × ℕ)) → Walk f form xs ys i (At rest) j cut out → rest ≡ None → (n : ℕ) → Covers f out n ↔ (Covers f xs n × (Covers f ys n → ⊥))
+  pub turn-done : (xs ys out : List B) (i j : ℕ) (rest : Option (I × I)) (cut : Option (ℕ × ℕ))
+      → Walk f form xs ys i (At rest) j cut out → rest ≡ None → (n : ℕ)
+      → Covers f out n ↔ (Covers f xs n × (Covers f ys n → ⊥))
   turn-done xs ys out i j None cut w e n = (λ h. (let facts = (w.covers n).0 h in (facts.0, facts.1)), λ (o, not). (w.covers n).1 (o, not, tt))
   turn-done xs ys out i j (Some b) cut w e n = cc
 
   -- the next cut is looked at
-  pub turn-skip : (xs ys out : List B) (i j : ℕ) (rest cut : Option (I × I)) → Walk f form xs ys i (At rest) j (At cut) out → IsCut number rest cut Skip → (j < length ys) × ((next : Option (I × I)) → IsAt f ys (j + 1) (At next) → Walk f form xs ys i (At rest) (j + 1) (At next) out)
-  turn-skip xs ys out i j None cut w h = absurd cc
-  turn-skip xs ys out i j (Some b) None w h = absurd cc
-  turn-skip xs ys out i j (Some b) (Some c) w h =
-      let at : IsAt f ys j (Some (numbers number c)) = w.cut_is in
-      (at.0, λ next head. Walk-skip f form xs ys out i j (numbers number b) (numbers number c) (At next) w h head)
+  pub turn-skip : (xs ys out : List B) (i j : ℕ) (rest cut : Option (I × I))
+      → Walk f form xs ys i (At rest) j (At cut) out → IsCut number rest cut Skip
+      → (j < length ys)
+      × ((next : Option (I × I)) → IsAt f ys (j + 1) (At next) → Walk f form xs ys i (At rest) (j + 1) (At next) out)
+  turn-skip xs ys out i j rest cut w h = grind (arith, Walk-skip)
 
   -- a piece is kept, and the next block of the chain is looked at
-  pub turn-keep : (xs ys out : List B) (i j : ℕ) (rest cut : Option (I × I)) (min max : I) → Walk f form xs ys i (At rest) j (At cut) out → IsCut number rest cut (Keep min max) → (i < length xs) × (number min ≤ number max) × ((next : Option (I × I)) (y : B) → f y ≡ numbers number (min, max) → IsNew f form y → IsAt f xs (i + 1) (At next) → Walk f form xs ys (i + 1) (At next) j (At cut) (out ++ y ∷ []))
+  pub turn-keep : (xs ys out : List B) (i j : ℕ) (rest cut : Option (I × I)) (min max : I)
+      → Walk f form xs ys i (At rest) j (At cut) out → IsCut number rest cut (Keep min max)
+      → (i < length xs) × (number min ≤ number max)
+      × ((next : Option (I × I)) (y : B) → f y ≡ numbers number (min, max) → IsNew f form y
+      → IsAt f xs (i + 1) (At next) → Walk f form xs ys (i + 1) (At next) j (At cut) (out ++ y ∷ []))
   turn-keep xs ys out i j None cut min max w h = absurd cc
   turn-keep xs ys out i j (Some b) None min max w h =
       let rest : IsRest f form xs i (Some (numbers number b)) = w.rest_is in
@@ -76,7 +75,10 @@ module _ {B I : Type 0} (f : B → ℕ × ℕ) (form : ℕ × ℕ → B) (number
       )
 
   -- nothing is kept, and the next block of the chain is looked at
-  pub turn-drop : (xs ys out : List B) (i j : ℕ) (rest cut : Option (I × I)) → Walk f form xs ys i (At rest) j (At cut) out → IsCut number rest cut Drop → (i < length xs) × ((next : Option (I × I)) → IsAt f xs (i + 1) (At next) → Walk f form xs ys (i + 1) (At next) j (At cut) out)
+  pub turn-drop : (xs ys out : List B) (i j : ℕ) (rest cut : Option (I × I))
+      → Walk f form xs ys i (At rest) j (At cut) out → IsCut number rest cut Drop
+      → (i < length xs)
+      × ((next : Option (I × I)) → IsAt f xs (i + 1) (At next) → Walk f form xs ys (i + 1) (At next) j (At cut) out)
   turn-drop xs ys out i j None cut w h = absurd cc
   turn-drop xs ys out i j (Some b) None w h = absurd cc
   turn-drop xs ys out i j (Some b) (Some c) w h =
@@ -84,7 +86,12 @@ module _ {B I : Type 0} (f : B → ℕ × ℕ) (form : ℕ × ℕ → B) (number
       (rest.0, λ next head. Walk-drop f form xs ys out i j (numbers number b) (numbers number c) (At next) w h.0 h.1 head)
 
   -- what is left behind a cut is at hand, with the next cut
-  pub turn-advance : (first last : ℕ) (xs ys out : List B) (i j : ℕ) (rest cut : Option (I × I)) (next max : I) → Walk f form xs ys i (At rest) j (At cut) out → IsCut number rest cut (Advance next max) → IfSome rest (λ b. (first ≤ number b.0) × (number b.1 ≤ last)) → (j < length ys) × (first ≤ number next) × (number max ≤ last) × ((after : Option (I × I)) → IsAt f ys (j + 1) (At after) → Walk f form xs ys i (At (Some (next, max))) (j + 1) (At after) out)
+  pub turn-advance : (first last : ℕ) (xs ys out : List B) (i j : ℕ) (rest cut : Option (I × I)) (next max : I)
+      → Walk f form xs ys i (At rest) j (At cut) out → IsCut number rest cut (Advance next max)
+      → IfSome rest (λ b. (first ≤ number b.0) × (number b.1 ≤ last))
+      → (j < length ys) × (first ≤ number next) × (number max ≤ last)
+      × ((after : Option (I × I)) → IsAt f ys (j + 1) (At after)
+      → Walk f form xs ys i (At (Some (next, max))) (j + 1) (At after) out)
   turn-advance first last xs ys out i j None cut next max w h valid = absurd cc
   turn-advance first last xs ys out i j (Some b) None next max w h valid = absurd cc
   turn-advance first last xs ys out i j (Some b) (Some c) next max w (begins, (meets, beyond, goes, to)) valid =
@@ -102,7 +109,12 @@ module _ {B I : Type 0} (f : B → ℕ × ℕ) (form : ℕ × ℕ → B) (number
       )
 
   -- the same, with the piece before the cut kept
-  pub turn-split : (first last : ℕ) (xs ys out : List B) (i j : ℕ) (rest cut : Option (I × I)) (min end next max : I) → Walk f form xs ys i (At rest) j (At cut) out → IsCut number rest cut (Split min end next max) → IfSome rest (λ b. (first ≤ number b.0) × (number b.1 ≤ last)) → (j < length ys) × (number min ≤ number end) × (first ≤ number next) × (number max ≤ last) × ((after : Option (I × I)) (y : B) → f y ≡ numbers number (min, end) → IsNew f form y → IsAt f ys (j + 1) (At after) → Walk f form xs ys i (At (Some (next, max))) (j + 1) (At after) (out ++ y ∷ []))
+  pub turn-split : (first last : ℕ) (xs ys out : List B) (i j : ℕ) (rest cut : Option (I × I)) (min end next max : I)
+      → Walk f form xs ys i (At rest) j (At cut) out → IsCut number rest cut (Split min end next max)
+      → IfSome rest (λ b. (first ≤ number b.0) × (number b.1 ≤ last))
+      → (j < length ys) × (number min ≤ number end) × (first ≤ number next) × (number max ≤ last)
+      × ((after : Option (I × I)) (y : B) → f y ≡ numbers number (min, end) → IsNew f form y
+      → IsAt f ys (j + 1) (At after) → Walk f form xs ys i (At (Some (next, max))) (j + 1) (At after) (out ++ y ∷ []))
   turn-split first last xs ys out i j None cut min end next max w h valid = absurd cc
   turn-split first last xs ys out i j (Some b) None min end next max w h valid = absurd cc
   turn-split first last xs ys out i j (Some b) (Some c) min end next max w (begins, from, ends, (meets, beyond, goes, to)) valid =
@@ -127,15 +139,14 @@ module _ {B I : Type 0} (f : B → ℕ × ℕ) (form : ℕ × ℕ → B) (number
       )
 
   -- a block that was passed ends before the block at hand
-  ends_before : (ys : List B) (j k : ℕ) (d : B) (cut : Option (ℕ × ℕ)) → IsChain f form ys → IsAt f ys j cut → k < j → k < length ys → Before cut (f (get_or ys k d)).1
-  ends_before ys j k d None hy at early lt = tt
-  ends_before ys j k d (Some c) hy at early lt =
-      let a = hy.apart k j d early at.0 in
-      let low = ap (λ (z : ℕ × ℕ). z.0) (at.1 d) in
-      omega arith
+  ends_before : (ys : List B) (j k : ℕ) (d : B) (cut : Option (ℕ × ℕ)) → IsChain f form ys → IsAt f ys j cut → k < j
+      → k < length ys → Before cut (f (get_or ys k d)).1
+  ends_before ys j k d cut hy at early lt = grind (arith)
 
   -- the walk goes on from an overhang: all that comes before it is taken out
-  pub Walk-from : (first last : ℕ) (xs ys : List B) (o : Overhang I) → IsOverhang f number first last xs ys o → IsChain f form xs → IsChain f form ys → Walk f form xs ys o.own_at (At (Some (o.min, o.max))) o.other_at (At o.other) []
+  pub Walk-from : (first last : ℕ) (xs ys : List B) (o : Overhang I) → IsOverhang f number first last xs ys o
+      → IsChain f form xs → IsChain f form ys
+      → Walk f form xs ys o.own_at (At (Some (o.min, o.max))) o.other_at (At o.other) []
   Walk-from first last xs ys o h hx hy =
       let b : ℕ × ℕ = numbers number (o.min, o.max) in
       let same_number : (a c : ℕ × ℕ) → Some a ≡ Some c → a ≡ c = λ a c e. cc in

@@ -1,9 +1,6 @@
 -- A walk over a chain and over another whose numbers are taken out of it.
-use Rattle.std.proofs.Common.{◌≡◌, ℕ, ◌+◌, ◌<◌, ◌≤◌, ◌↔◌, ◌⊎◌, inl, inr, ⊎_elim, List, [], ◌∷◌, ◌++◌, length, get_or, refl, sym, ap, ◌∙◌, subst, arith, Option, Some, None, MatchOption}
-use Rattle.std.proofs.lemmas.Bool.{cases_lt}
-use Rattle.rpki_chains.specs.Sets.{IsNew, IsWithin, Covers, IsChain}
+use Rattle.rpki_chains.proofs.Imports.{List, MatchOption, None, Option, Some, [], ap, arith, get_or, inl, inr, length, refl, subst, sym, ℕ, ⊎_elim, ◌++◌, ◌+◌, ◌<◌, ◌↔◌, ◌∙◌, ◌∷◌, ◌≡◌, ◌≤◌, ◌⊎◌, cases_lt, Before, Covers, IsChain, IsNew, IsWithin}
 use Rattle.rpki_chains.proofs.Chains.{Covers-push_as, Covers-at, IsChain-push, element_at, ascends}
-use Rattle.rpki_chains.specs.Overhang.{Before}
 use Rattle.rpki_chains.proofs.Sides.{IsAt}
 
 module _ {B : Type 0} (f : B → ℕ × ℕ) (form : ℕ × ℕ → B) where
@@ -23,25 +20,13 @@ module _ {B : Type 0} (f : B → ℕ × ℕ) (form : ℕ × ℕ → B) where
     pub covers : (n : ℕ) → Covers f out n ↔ (Covers f xs n × (Covers f ys n → ⊥) × Before rest n)
 
   -- no number from the rest on and before the cut is taken out
-  clear : (xs ys out : List B) (i j : ℕ) (b : ℕ × ℕ) (cut : Option (ℕ × ℕ)) → Walk xs ys i (Some b) j cut out → (n : ℕ) → b.0 ≤ n → ((c : ℕ × ℕ) → cut ≡ Some c → n < c.0) → Covers f ys n → ⊥
-  clear xs ys out i j b None w n from before (k, x, lt, e, v) =
-      let end : j ≡ length ys = w.cut_is in
-      let p = w.passed b refl k x (omega arith) lt in
-      let same = ap (λ (z : B). (f z).1) e in
-      omega (arith, v.1)
-  clear xs ys out i j b (Some c) w n from before (k, x, lt, e, v) =
-      let at : IsAt f ys j (Some c) = w.cut_is in
-      let here = ap (λ (p : ℕ × ℕ). p.0) (at.1 x) in
-      let low = before c refl in
-      let same_high = ap (λ (z : B). (f z).1) e in
-      let same_low = ap (λ (z : B). (f z).0) e in
-      ⊎_elim
-      (λ (early : k < j). let p = w.passed b refl k x early lt in omega (arith, v.1))
-      (λ (late : j ≤ k). let up = ascends f form ys w.other_chain j k x late lt in omega (arith, v.0))
-      (cases_lt k j)
+  clear : (xs ys out : List B) (i j : ℕ) (b : ℕ × ℕ) (cut : Option (ℕ × ℕ)) → Walk xs ys i (Some b) j cut out → (n : ℕ)
+      → b.0 ≤ n → ((c : ℕ × ℕ) → cut ≡ Some c → n < c.0) → Covers f ys n → ⊥
+  clear xs ys out i j b cut w n from before h = grind (arith, ascends, cases_lt)
 
   -- the numbers of the rest are numbers of the chain
-  inside : (xs ys out : List B) (i j : ℕ) (b : ℕ × ℕ) (cut : Option (ℕ × ℕ)) → Walk xs ys i (Some b) j cut out → (n : ℕ) → b.0 ≤ n → n ≤ b.1 → Covers f xs n
+  inside : (xs ys out : List B) (i j : ℕ) (b : ℕ × ℕ) (cut : Option (ℕ × ℕ)) → Walk xs ys i (Some b) j cut out → (n : ℕ)
+      → b.0 ≤ n → n ≤ b.1 → Covers f xs n
   inside xs ys out i j b cut w n from to =
       let rest : IsRest xs i (Some b) = w.rest_is in
       let found = element_at xs i rest.0 in
@@ -58,7 +43,9 @@ module _ {B : Type 0} (f : B → ℕ × ℕ) (form : ℕ × ℕ → B) where
       Covers-at f ys j n found.0 at.0 (subst (λ (p : ℕ × ℕ). IsWithin p n) (sym here) v)
 
   -- a piece that begins where the rest does stands apart from those before it
-  pub piece : (xs ys out : List B) (i j : ℕ) (b : ℕ × ℕ) (cut : Option (ℕ × ℕ)) → Walk xs ys i (Some b) j cut out → (y : B) → (f y).0 ≡ b.0 → (f y).0 ≤ (f y).1 → IsNew f form y → ((c : ℕ × ℕ) → cut ≡ Some c → b.0 < c.0) → IsChain f form (out ++ y ∷ [])
+  pub piece : (xs ys out : List B) (i j : ℕ) (b : ℕ × ℕ) (cut : Option (ℕ × ℕ)) → Walk xs ys i (Some b) j cut out
+      → (y : B) → (f y).0 ≡ b.0 → (f y).0 ≤ (f y).1 → IsNew f form y → ((c : ℕ × ℕ) → cut ≡ Some c → b.0 < c.0)
+      → IsChain f form (out ++ y ∷ [])
   piece xs ys out i j b cut w y begins ordered new before =
       IsChain-push f form out y w.chain ordered new (λ at d end.
       let lt : at < length out = omega arith in
@@ -73,7 +60,10 @@ module _ {B : Type 0} (f : B → ℕ × ℕ) (form : ℕ × ℕ → B) where
       (cases_lt (n + 1) b.0))
 
   -- the rest is decided, and the next block of the chain is at hand
-  pub Walk-next : (xs ys out new : List B) (i j : ℕ) (b : ℕ × ℕ) (cut next : Option (ℕ × ℕ)) → Walk xs ys i (Some b) j cut out → IsAt f xs (i + 1) next → IsChain f form new → ((n : ℕ) → Covers f new n ↔ (Covers f xs n × (Covers f ys n → ⊥) × (n ≤ b.1))) → Walk xs ys (i + 1) next j cut new
+  pub Walk-next : (xs ys out new : List B) (i j : ℕ) (b : ℕ × ℕ) (cut next : Option (ℕ × ℕ))
+      → Walk xs ys i (Some b) j cut out → IsAt f xs (i + 1) next → IsChain f form new
+      → ((n : ℕ) → Covers f new n ↔ (Covers f xs n × (Covers f ys n → ⊥) × (n ≤ b.1)))
+      → Walk xs ys (i + 1) next j cut new
   Walk-next xs ys out new i j b cut None w head chain covers =
       let rest : IsRest xs i (Some b) = w.rest_is in
       let end : i + 1 ≡ length xs = head in
@@ -141,7 +131,9 @@ module _ {B : Type 0} (f : B → ℕ × ℕ) (form : ℕ × ℕ → B) where
       }
 
   -- the whole rest is kept
-  pub Walk-keep : (xs ys out : List B) (i j : ℕ) (b : ℕ × ℕ) (cut next : Option (ℕ × ℕ)) (y : B) → Walk xs ys i (Some b) j cut out → f y ≡ b → IsNew f form y → ((c : ℕ × ℕ) → cut ≡ Some c → b.1 < c.0) → IsAt f xs (i + 1) next → Walk xs ys (i + 1) next j cut (out ++ y ∷ [])
+  pub Walk-keep : (xs ys out : List B) (i j : ℕ) (b : ℕ × ℕ) (cut next : Option (ℕ × ℕ)) (y : B)
+      → Walk xs ys i (Some b) j cut out → f y ≡ b → IsNew f form y → ((c : ℕ × ℕ) → cut ≡ Some c → b.1 < c.0)
+      → IsAt f xs (i + 1) next → Walk xs ys (i + 1) next j cut (out ++ y ∷ [])
   Walk-keep xs ys out i j b cut next y w is new before head =
       let rest : IsRest xs i (Some b) = w.rest_is in
       let ordered = rest.3 in
@@ -161,7 +153,9 @@ module _ {B : Type 0} (f : B → ℕ × ℕ) (form : ℕ × ℕ → B) where
       ))
 
   -- the rest lies in the cut
-  pub Walk-drop : (xs ys out : List B) (i j : ℕ) (b c : ℕ × ℕ) (next : Option (ℕ × ℕ)) → Walk xs ys i (Some b) j (Some c) out → c.0 ≤ b.0 → b.1 ≤ c.1 → IsAt f xs (i + 1) next → Walk xs ys (i + 1) next j (Some c) out
+  pub Walk-drop : (xs ys out : List B) (i j : ℕ) (b c : ℕ × ℕ) (next : Option (ℕ × ℕ))
+      → Walk xs ys i (Some b) j (Some c) out → c.0 ≤ b.0 → b.1 ≤ c.1 → IsAt f xs (i + 1) next
+      → Walk xs ys (i + 1) next j (Some c) out
   Walk-drop xs ys out i j b c next w low high head =
       let rest : IsRest xs i (Some b) = w.rest_is in
       let ordered = rest.3 in
@@ -175,32 +169,14 @@ module _ {B : Type 0} (f : B → ℕ × ℕ) (form : ℕ × ℕ → B) where
       ))
 
   -- the cut ends before the rest
-  pub Walk-skip : (xs ys out : List B) (i j : ℕ) (b c : ℕ × ℕ) (next : Option (ℕ × ℕ)) → Walk xs ys i (Some b) j (Some c) out → c.1 < b.0 → IsAt f ys (j + 1) next → Walk xs ys i (Some b) (j + 1) next out
-  Walk-skip xs ys out i j b c next w high head =
-      let at : IsAt f ys j (Some c) = w.cut_is in
-      let same_number : (a b : ℕ × ℕ) → Some a ≡ Some b → a ≡ b = λ a b e. cc in
-      record {
-        own_chain = w.own_chain;
-        other_chain = w.other_chain;
-        chain = w.chain;
-        rest_is = w.rest_is;
-        cut_is = head;
-        passed = λ a e k d early lt. ⊎_elim
-            (λ (before : k < j). w.passed a e k d before lt)
-            (λ (late : j ≤ k).
-            let same : k ≡ j = omega arith in
-            let P : ℕ → Type 0 = λ m. f (get_or ys m d) ≡ c in
-            let here : f (get_or ys k d) ≡ c = subst P (sym same) (at.1 d) in
-            let ends = ap (λ (p : ℕ × ℕ). p.1) here in
-            let begins = ap (λ (p : ℕ × ℕ). p.0) (same_number b a e) in
-            omega arith)
-            (cases_lt k j);
-        edge = w.edge;
-        covers = w.covers;
-      }
+  pub Walk-skip : (xs ys out : List B) (i j : ℕ) (b c : ℕ × ℕ) (next : Option (ℕ × ℕ))
+      → Walk xs ys i (Some b) j (Some c) out → c.1 < b.0 → IsAt f ys (j + 1) next
+      → Walk xs ys i (Some b) (j + 1) next out
+  Walk-skip xs ys out i j b c next w high head = grind (arith, cases_lt)
 
   -- the rest reaches beyond the cut, which has begun
-  pub Walk-advance : (xs ys out : List B) (i j : ℕ) (b c r : ℕ × ℕ) → Walk xs ys i (Some b) j (Some c) out → c.0 ≤ b.0 → b.0 ≤ c.1 → c.1 < b.1 → r.0 ≡ c.1 + 1 → r.1 ≡ b.1 → Walk xs ys i (Some r) j (Some c) out
+  pub Walk-advance : (xs ys out : List B) (i j : ℕ) (b c r : ℕ × ℕ) → Walk xs ys i (Some b) j (Some c) out → c.0 ≤ b.0
+      → b.0 ≤ c.1 → c.1 < b.1 → r.0 ≡ c.1 + 1 → r.1 ≡ b.1 → Walk xs ys i (Some r) j (Some c) out
   Walk-advance xs ys out i j b c r w low inner high begins ends =
       let rest : IsRest xs i (Some b) = w.rest_is in
       let same_number : (a b : ℕ × ℕ) → Some a ≡ Some b → a ≡ b = λ a b e. cc in
@@ -222,7 +198,9 @@ module _ {B : Type 0} (f : B → ℕ × ℕ) (form : ℕ × ℕ → B) where
       }
 
   -- the rest begins before the cut and reaches into it
-  pub Walk-split : (xs ys out : List B) (i j : ℕ) (b c r : ℕ × ℕ) (y : B) → Walk xs ys i (Some b) j (Some c) out → b.0 < c.0 → c.0 ≤ b.1 → (f y).0 ≡ b.0 → (f y).1 + 1 ≡ c.0 → IsNew f form y → r.0 ≡ c.0 → r.1 ≡ b.1 → Walk xs ys i (Some r) j (Some c) (out ++ y ∷ [])
+  pub Walk-split : (xs ys out : List B) (i j : ℕ) (b c r : ℕ × ℕ) (y : B) → Walk xs ys i (Some b) j (Some c) out
+      → b.0 < c.0 → c.0 ≤ b.1 → (f y).0 ≡ b.0 → (f y).1 + 1 ≡ c.0 → IsNew f form y → r.0 ≡ c.0 → r.1 ≡ b.1
+      → Walk xs ys i (Some r) j (Some c) (out ++ y ∷ [])
   Walk-split xs ys out i j b c r y w low inner from to new begins ends =
       let rest : IsRest xs i (Some b) = w.rest_is in
       let at : IsAt f ys j (Some c) = w.cut_is in

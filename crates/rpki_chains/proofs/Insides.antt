@@ -1,9 +1,6 @@
 -- A walk over two chains that finds the first block of the one that doesn't lie in the other.
-use Rattle.std.proofs.Common.{ℕ, ◌+◌, ◌<◌, ◌≤◌, ◌⊎◌, ⊎_elim, List, sym, subst, arith, Option, Some, None}
-use Rattle.std.proofs.lemmas.Bool.{cases_lt}
-use Rattle.rpki_chains.specs.Sets.{IsWithin, Covers, IsChain}
+use Rattle.rpki_chains.proofs.Imports.{List, None, Option, Some, arith, subst, sym, ℕ, ⊎_elim, ◌+◌, ◌<◌, ◌≤◌, ◌⊎◌, cases_lt, Before, Covers, IsChain, IsWithin}
 use Rattle.rpki_chains.proofs.Chains.{IsChainOf-itself, element_at}
-use Rattle.rpki_chains.specs.Overhang.{Before}
 use Rattle.rpki_chains.proofs.Sides.{IsAt, ordered_at, covers_at, high_at, up_to, before_next, none_before_first}
 
 module _ {B : Type 0} (f : B → ℕ × ℕ) (form : ℕ × ℕ → B) where
@@ -17,7 +14,8 @@ module _ {B : Type 0} (f : B → ℕ × ℕ) (form : ℕ × ℕ → B) where
     pub passed : (n : ℕ) → Covers f ys n → Before c n → Before b n
 
   -- nothing was passed yet
-  pub Inside-start : (xs ys : List B) (b c : Option (ℕ × ℕ)) → IsChain f form xs → IsChain f form ys → IsAt f xs 0 b → IsAt f ys 0 c → Inside xs ys 0 b 0 c
+  pub Inside-start : (xs ys : List B) (b c : Option (ℕ × ℕ)) → IsChain f form xs → IsChain f form ys → IsAt f xs 0 b
+      → IsAt f ys 0 c → Inside xs ys 0 b 0 c
   Inside-start xs ys b c hx hy own other = record {
     own_chain = hx;
     other_chain = hy;
@@ -28,18 +26,13 @@ module _ {B : Type 0} (f : B → ℕ × ℕ) (form : ℕ × ℕ → B) where
   }
 
   -- the other's block ends before
-  pub Inside-skip : (xs ys : List B) (i j : ℕ) (b c : ℕ × ℕ) (next : Option (ℕ × ℕ)) → Inside xs ys i (Some b) j (Some c) → c.1 < b.0 → IsAt f ys (j + 1) next → Inside xs ys i (Some b) (j + 1) next
-  Inside-skip xs ys i j b c next w less after = record {
-    own_chain = w.own_chain;
-    other_chain = w.other_chain;
-    own_at = w.own_at;
-    other_at = after;
-    inside = w.inside;
-    passed = λ n o before. (let le = up_to f form ys j c w.other_chain w.other_at next after n o before in omega arith);
-  }
+  pub Inside-skip : (xs ys : List B) (i j : ℕ) (b c : ℕ × ℕ) (next : Option (ℕ × ℕ))
+      → Inside xs ys i (Some b) j (Some c) → c.1 < b.0 → IsAt f ys (j + 1) next → Inside xs ys i (Some b) (j + 1) next
+  Inside-skip xs ys i j b c next w less after = grind (arith, up_to)
 
   -- the block lies in the other's
-  pub Inside-fit : (xs ys : List B) (i j : ℕ) (b c : ℕ × ℕ) (next : Option (ℕ × ℕ)) → Inside xs ys i (Some b) j (Some c) → c.0 ≤ b.0 → b.1 ≤ c.1 → IsAt f xs (i + 1) next → Inside xs ys (i + 1) next j (Some c)
+  pub Inside-fit : (xs ys : List B) (i j : ℕ) (b c : ℕ × ℕ) (next : Option (ℕ × ℕ)) → Inside xs ys i (Some b) j (Some c)
+      → c.0 ≤ b.0 → b.1 ≤ c.1 → IsAt f xs (i + 1) next → Inside xs ys (i + 1) next j (Some c)
   Inside-fit xs ys i j b c next w low high after = record {
     own_chain = w.own_chain;
     other_chain = w.other_chain;
@@ -58,14 +51,16 @@ module _ {B : Type 0} (f : B → ℕ × ℕ) (form : ℕ × ℕ → B) where
   }
 
   -- the block at hand doesn't lie in the other chain
-  pub Inside-none_left : (xs ys : List B) (i j : ℕ) (b : ℕ × ℕ) → Inside xs ys i (Some b) j None → ((n : ℕ) → IsWithin b n → Covers f ys n) → ⊥
+  pub Inside-none_left : (xs ys : List B) (i j : ℕ) (b : ℕ × ℕ) → Inside xs ys i (Some b) j None
+      → ((n : ℕ) → IsWithin b n → Covers f ys n) → ⊥
   Inside-none_left xs ys i j b w all =
       let ordered = ordered_at f form xs i b w.own_chain w.own_at in
       let less : b.0 < b.0 = w.passed b.0 (all b.0 (omega arith, ordered)) tt in
       omega arith
 
   -- nor where it begins before the other's block, or ends behind it
-  pub Inside-beyond : (xs ys : List B) (i j : ℕ) (b c : ℕ × ℕ) → Inside xs ys i (Some b) j (Some c) → b.0 ≤ c.1 → (b.0 < c.0) ⊎ (c.1 < b.1) → ((n : ℕ) → IsWithin b n → Covers f ys n) → ⊥
+  pub Inside-beyond : (xs ys : List B) (i j : ℕ) (b c : ℕ × ℕ) → Inside xs ys i (Some b) j (Some c) → b.0 ≤ c.1
+      → (b.0 < c.0) ⊎ (c.1 < b.1) → ((n : ℕ) → IsWithin b n → Covers f ys n) → ⊥
   Inside-beyond xs ys i j b c w meets way all =
       let ordered = ordered_at f form xs i b w.own_chain w.own_at in
       ⊎_elim

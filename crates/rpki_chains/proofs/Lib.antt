@@ -5,6 +5,7 @@ mod Counts
 mod CutTurns
 mod Cutting
 pub mod FitTurns
+pub mod Imports
 mod Insides
 mod Joining
 mod MeetTurns

@@ -1,11 +1,6 @@
 -- The turns of the walk over what two chains have in common, as the code takes them.
-use Rattle.std.proofs.Common.{◌≡◌, ℕ, ◌+◌, ◌<◌, ◌≤◌, ◌⊎◌, inl, inr, ⊎_elim, List, length, get_or, take, sym, subst, ap, ◌∙◌, arith, Option, Some, None}
-use Rattle.std.proofs.lemmas.List.{get_or-take, length-take-le}
-use Rattle.std.proofs.lemmas.List.Elements.{All-take}
-use Rattle.rpki_chains.specs.Sets.{IsNew, IsChain, IsChainOf, numbers, Covers}
+use Rattle.rpki_chains.proofs.Imports.{List, None, Option, Some, ap, arith, get_or, inl, inr, length, subst, sym, take, ℕ, ⊎_elim, ◌+◌, ◌<◌, ◌∙◌, ◌≡◌, ◌≤◌, ◌⊎◌, get_or-take, length-take-le, All-take, IsOverhang, Covers, IsChain, IsChainOf, numbers, Overhang}
 use Rattle.rpki_chains.specs.Common.{IsCommonPushed}
-use Rattle.rpki_chains.specs.declared.overhang.Overhang.{Overhang}
-use Rattle.rpki_chains.specs.Overhang.{IsOverhang}
 use Rattle.rpki_chains.proofs.Sides.{IsAt, bounds_of, IsAt-from, ordered_at, index_before, low_at}
 use Rattle.rpki_chains.proofs.Chains.{IsChainOf-from}
 use Rattle.rpki_chains.proofs.Meets.{Meet, Meet-swap, Meet-before, Meet-ends, Meet-end}
@@ -13,14 +8,7 @@ use Rattle.rpki_chains.proofs.Meets.{Meet, Meet-swap, Meet-before, Meet-ends, Me
 module _ {B : Type 0} (f : B → ℕ × ℕ) (form : ℕ × ℕ → B) where
   -- the first blocks of a chain are a chain
   pub IsChain-take : (xs : List B) (i : ℕ) → i ≤ length xs → IsChain f form xs → IsChain f form (take i xs)
-  IsChain-take xs i le h = record {
-    ordered = All-take (λ x. (f x).0 ≤ (f x).1) i xs h.ordered;
-    apart = λ k m d below lt. (
-        let len = length-take-le i xs le in
-        let a = h.apart k m d below (omega arith) in
-        rw (get_or-take i xs k d (omega arith), get_or-take i xs m d (omega arith)) a);
-    new_form = All-take (λ x. IsNew f form x) i xs h.new_form;
-  }
+  IsChain-take xs i le h = grind (arith, All-take, get_or-take, length-take-le)
 
 module _ {B I : Type 0} (f : B → ℕ × ℕ) (form : ℕ × ℕ → B) (number : I → ℕ) where
   -- the numbers of what is at hand
@@ -28,11 +16,15 @@ module _ {B I : Type 0} (f : B → ℕ × ℕ) (form : ℕ × ℕ → B) (number
   At b = bounds_of number b
 
   -- the blocks at hand are ordered
-  pub meet-ordered : (xs ys out : List B) (i j : ℕ) (b : I × I) (c : Option (ℕ × ℕ)) → Meet f form xs ys i (At (Some b)) j c out → number b.0 ≤ number b.1
+  pub meet-ordered : (xs ys out : List B) (i j : ℕ) (b : I × I) (c : Option (ℕ × ℕ))
+      → Meet f form xs ys i (At (Some b)) j c out → number b.0 ≤ number b.1
   meet-ordered xs ys out i j b c w = ordered_at f form xs i (numbers number b) w.own_chain w.own_at
 
   -- the one chain's block ends first: what both have of it is behind the chain, and the next block is at hand
-  pub meet-own_ends : (xs ys out made : List B) (i j : ℕ) (b c : I × I) (next : Option (I × I)) → Meet f form xs ys i (At (Some b)) j (At (Some c)) out → IsCommonPushed f form (numbers number b) (numbers number c) out made → number b.1 ≤ number c.1 → IsAt f xs (i + 1) (At next) → Meet f form xs ys (i + 1) (At next) j (At (Some c)) made
+  pub meet-own_ends : (xs ys out made : List B) (i j : ℕ) (b c : I × I) (next : Option (I × I))
+      → Meet f form xs ys i (At (Some b)) j (At (Some c)) out
+      → IsCommonPushed f form (numbers number b) (numbers number c) out made → number b.1 ≤ number c.1
+      → IsAt f xs (i + 1) (At next) → Meet f form xs ys (i + 1) (At next) j (At (Some c)) made
   meet-own_ends xs ys out made i j b c next w pushed first after =
       let ordered = meet-ordered xs ys out i j b (At (Some c)) w in
       elim pushed [
@@ -45,16 +37,22 @@ module _ {B I : Type 0} (f : B → ℕ × ℕ) (form : ℕ × ℕ → B) (number
       ]
 
   -- the other chain's block ends first
-  pub meet-other_ends : (xs ys out made : List B) (i j : ℕ) (b c : I × I) (next : Option (I × I)) → Meet f form xs ys i (At (Some b)) j (At (Some c)) out → IsCommonPushed f form (numbers number c) (numbers number b) out made → number c.1 ≤ number b.1 → IsAt f ys (j + 1) (At next) → Meet f form xs ys i (At (Some b)) (j + 1) (At next) made
+  pub meet-other_ends : (xs ys out made : List B) (i j : ℕ) (b c : I × I) (next : Option (I × I))
+      → Meet f form xs ys i (At (Some b)) j (At (Some c)) out
+      → IsCommonPushed f form (numbers number c) (numbers number b) out made → number c.1 ≤ number b.1
+      → IsAt f ys (j + 1) (At next) → Meet f form xs ys i (At (Some b)) (j + 1) (At next) made
   meet-other_ends xs ys out made i j b c next w pushed first after =
       Meet-swap f form ys xs made (j + 1) i (At next) (At (Some b)) (meet-own_ends ys xs out made j i c b next (Meet-swap f form xs ys out i j (At (Some b)) (At (Some c)) w) pushed first after)
 
   -- where one chain has ended, all is there that both have
-  pub meet-done : (xs ys out : List B) (i j : ℕ) (b c : Option (ℕ × ℕ)) → Meet f form xs ys i b j c out → (b ≡ None) ⊎ (c ≡ None) → IsChainOf f form (λ n. Covers f xs n × Covers f ys n) out
+  pub meet-done : (xs ys out : List B) (i j : ℕ) (b c : Option (ℕ × ℕ)) → Meet f form xs ys i b j c out
+      → (b ≡ None) ⊎ (c ≡ None) → IsChainOf f form (λ n. Covers f xs n × Covers f ys n) out
   meet-done xs ys out i j b c w ended = IsChainOf-from f form out (λ n. Covers f xs n × Covers f ys n) w.chain (Meet-end f form xs ys out i j b c w ended)
 
   -- what came before an overhang is what the chains have in common there
-  pub Meet-start : (first last : ℕ) (xs ys : List B) (o : Overhang I) → IsOverhang f number first last xs ys o → IsChain f form xs → IsChain f form ys → Meet f form xs ys o.own_at (At (Some (o.min, o.max))) o.other_at (At o.other) (take o.own_at xs)
+  pub Meet-start : (first last : ℕ) (xs ys : List B) (o : Overhang I) → IsOverhang f number first last xs ys o
+      → IsChain f form xs → IsChain f form ys
+      → Meet f form xs ys o.own_at (At (Some (o.min, o.max))) o.other_at (At o.other) (take o.own_at xs)
   Meet-start first last xs ys o h hx hy =
       let b : ℕ × ℕ = numbers number (o.min, o.max) in
       let at : IsAt f xs o.own_at (Some b) = IsAt-from f number last xs o.own_at (Some (o.min, o.max)) h.own_block in

@@ -1,10 +1,6 @@
 -- A walk over two chains that gives what they have in common.
-use Rattle.std.proofs.Common.{◌≡◌, ℕ, ◌+◌, ◌<◌, ◌≤◌, ◌↔◌, ◌⊎◌, inl, inr, ⊎_elim, List, [], ◌∷◌, ◌++◌, length, get_or, sym, subst, arith, Option, Some, None}
-use Rattle.std.proofs.lemmas.Bool.{cases_lt}
-use Rattle.std.proofs.lemmas.List.{length_push}
-use Rattle.rpki_chains.specs.Sets.{IsNew, Covers, IsChain}
+use Rattle.rpki_chains.proofs.Imports.{List, None, Option, Some, [], arith, get_or, inl, inr, length, subst, sym, ℕ, ⊎_elim, ◌++◌, ◌+◌, ◌<◌, ◌↔◌, ◌∷◌, ◌≡◌, ◌≤◌, ◌⊎◌, cases_lt, length_push, Before, Covers, IsChain, IsNew}
 use Rattle.rpki_chains.proofs.Chains.{Covers-push, Covers-at, IsChain-push}
-use Rattle.rpki_chains.specs.Overhang.{Before}
 use Rattle.rpki_chains.proofs.Sides.{IsAt, ordered_at, covers_at, up_to, before_next, gap_before}
 
 module _ {B : Type 0} (f : B → ℕ × ℕ) (form : ℕ × ℕ → B) where
@@ -19,7 +15,8 @@ module _ {B : Type 0} (f : B → ℕ × ℕ) (form : ℕ × ℕ → B) where
     pub few : length out ≤ i + j
 
   -- the chains may change places
-  pub Meet-swap : (xs ys out : List B) (i j : ℕ) (b c : Option (ℕ × ℕ)) → Meet xs ys i b j c out → Meet ys xs j c i b out
+  pub Meet-swap : (xs ys out : List B) (i j : ℕ) (b c : Option (ℕ × ℕ)) → Meet xs ys i b j c out
+      → Meet ys xs j c i b out
   Meet-swap xs ys out i j b c w = record {
     own_chain = w.other_chain;
     other_chain = w.own_chain;
@@ -31,7 +28,9 @@ module _ {B : Type 0} (f : B → ℕ × ℕ) (form : ℕ × ℕ → B) where
   }
 
   -- the one block ends before the other begins
-  pub Meet-before : (xs ys out : List B) (i j : ℕ) (b c : ℕ × ℕ) (next : Option (ℕ × ℕ)) → Meet xs ys i (Some b) j (Some c) out → b.1 < c.0 → IsAt f xs (i + 1) next → Meet xs ys (i + 1) next j (Some c) out
+  pub Meet-before : (xs ys out : List B) (i j : ℕ) (b c : ℕ × ℕ) (next : Option (ℕ × ℕ))
+      → Meet xs ys i (Some b) j (Some c) out → b.1 < c.0 → IsAt f xs (i + 1) next
+      → Meet xs ys (i + 1) next j (Some c) out
   Meet-before xs ys out i j b c next w less after = record {
     own_chain = w.own_chain;
     other_chain = w.other_chain;
@@ -49,7 +48,10 @@ module _ {B : Type 0} (f : B → ℕ × ℕ) (form : ℕ × ℕ → B) where
   }
 
   -- the blocks meet, and the one ends first
-  pub Meet-ends : (xs ys out : List B) (i j : ℕ) (b c : ℕ × ℕ) (next : Option (ℕ × ℕ)) (y : B) → Meet xs ys i (Some b) j (Some c) out → b.0 ≤ (f y).0 → c.0 ≤ (f y).0 → ((f y).0 ≡ b.0) ⊎ ((f y).0 ≡ c.0) → (f y).0 ≤ (f y).1 → (f y).1 ≡ b.1 → b.1 ≤ c.1 → IsNew f form y → IsAt f xs (i + 1) next → Meet xs ys (i + 1) next j (Some c) (out ++ y ∷ [])
+  pub Meet-ends : (xs ys out : List B) (i j : ℕ) (b c : ℕ × ℕ) (next : Option (ℕ × ℕ)) (y : B)
+      → Meet xs ys i (Some b) j (Some c) out → b.0 ≤ (f y).0 → c.0 ≤ (f y).0 → ((f y).0 ≡ b.0) ⊎ ((f y).0 ≡ c.0)
+      → (f y).0 ≤ (f y).1 → (f y).1 ≡ b.1 → b.1 ≤ c.1 → IsNew f form y → IsAt f xs (i + 1) next
+      → Meet xs ys (i + 1) next j (Some c) (out ++ y ∷ [])
   Meet-ends xs ys out i j b c next y w own_low other_low which ordered ends first new after = record {
     own_chain = w.own_chain;
     other_chain = w.other_chain;
@@ -92,7 +94,8 @@ module _ {B : Type 0} (f : B → ℕ × ℕ) (form : ℕ × ℕ → B) where
   }
 
   -- nothing is left on one side
-  pub Meet-end : (xs ys out : List B) (i j : ℕ) (b c : Option (ℕ × ℕ)) → Meet xs ys i b j c out → (b ≡ None) ⊎ (c ≡ None) → (n : ℕ) → Covers f out n ↔ (Covers f xs n × Covers f ys n)
+  pub Meet-end : (xs ys out : List B) (i j : ℕ) (b c : Option (ℕ × ℕ)) → Meet xs ys i b j c out
+      → (b ≡ None) ⊎ (c ≡ None) → (n : ℕ) → Covers f out n ↔ (Covers f xs n × Covers f ys n)
   Meet-end xs ys out i j b c w none n = (
     λ h. (let facts = (w.covers n).0 h in (facts.0, facts.1)),
     λ (x, y). (w.covers n).1 (x, y, ⊎_elim (λ (e : b ≡ None). inl (subst (λ o. Before o n) (sym e) tt)) (λ (e : c ≡ None). inr (subst (λ o. Before o n) (sym e) tt)) none),

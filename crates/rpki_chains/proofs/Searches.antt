@@ -1,26 +1,18 @@
 -- The first run that doesn't end before a number: a search finds it, and it tells what is covered from there on.
-use Rattle.std.proofs.Common.{◌≡◌, ℕ, ◌+◌, ◌<◌, ◌≤◌, ◌↔◌, ⊎_elim, List, length, get_or, max, Option, Some, None, IfSome, MatchOption, ap, sym, subst, arith}
-use Rattle.std.proofs.Math.Nat.{le_refl}
-use Rattle.std.proofs.lemmas.Bool.{cases_lt}
-use Rattle.rpki_chains.specs.Sets.{IsWithin, Covers, IsRun, IsRunFrom, IsChain, HoldsBlock, numbers}
+use Rattle.rpki_chains.proofs.Imports.{IfSome, List, MatchOption, None, Option, Some, ap, arith, get_or, length, subst, ℕ, ⊎_elim, ◌<◌, ◌↔◌, ◌≡◌, ◌≤◌, le_refl, cases_lt, Covers, HoldsBlock, IsChain, IsRun, IsRunFrom, IsWithin, numbers}
 use Rattle.rpki_chains.proofs.Chains.{element_at, ascends, IsChainOf-itself}
 use Rattle.rpki_chains.proofs.Sides.{IsAt}
 
 module _ {B : Type 0} (f : B → ℕ × ℕ) (form : ℕ × ℕ → B) where
   -- a number behind one block is behind all earlier ones
-  pub behind_all : (xs : List B) (i k n : ℕ) (d : B) → IsChain f form xs → i < length xs → ((e : B) → (f (get_or xs i e)).1 < n) → k ≤ i → (f (get_or xs k d)).1 < n
-  behind_all xs i k n d h lt high le = ⊎_elim
-      (λ (earlier : k < i). let a = h.apart k i d earlier lt in let o = h.ordered i d lt in let l = high d in omega arith)
-      (λ (not : i ≤ k). let same : i ≡ k = omega arith in let P : ℕ → Type 0 = λ j. (f (get_or xs j d)).1 < n in subst P same (high d))
-      (cases_lt k i)
+  pub behind_all : (xs : List B) (i k n : ℕ) (d : B) → IsChain f form xs → i < length xs
+      → ((e : B) → (f (get_or xs i e)).1 < n) → k ≤ i → (f (get_or xs k d)).1 < n
+  behind_all xs i k n d h lt high le = grind (arith, cases_lt)
 
 module _ {B : Type 0} (f : B → ℕ × ℕ) (form : ℕ × ℕ → B) (xs : List B) (n at : ℕ) (below : (k : ℕ) (d : B) → k < at → k < length xs → (f (get_or xs k d)).1 < n) where
   -- all blocks end before n
   pub none_from : length xs ≤ at → (m : ℕ) → n ≤ m → Covers f xs m → ⊥
-  none_from all m from (k, x, lt, e, w) =
-      let less = below k x (omega arith) lt in
-      let high = ap (λ (y : B). (f y).1) e in
-      omega (arith, w.1)
+  none_from all m from h = grind (arith)
 
   -- all before the one at hand do
   pub IsRunFrom-found : (b : ℕ × ℕ) → IsChain f form xs → IsAt f xs at (Some b) → n ≤ b.1 → IsRunFrom (Covers f xs) n b
@@ -38,39 +30,21 @@ module _ {B : Type 0} (f : B → ℕ × ℕ) (form : ℕ × ℕ → B) (xs : Lis
   }
 
   -- so the search finds that run, or that there is none
-  pub first_found : {I : Type 0} (number : I → ℕ) (last : ℕ) (found : Option (I × I)) → IsChain f form xs → HoldsBlock f number last xs at found → IfSome found (λ b. n ≤ number b.1) → MatchOption found ((m : ℕ) → n ≤ m → Covers f xs m → ⊥) (λ b. IsRunFrom (Covers f xs) n (numbers number b))
+  pub first_found : {I : Type 0} (number : I → ℕ) (last : ℕ) (found : Option (I × I)) → IsChain f form xs
+      → HoldsBlock f number last xs at found → IfSome found (λ b. n ≤ number b.1)
+      → MatchOption found ((m : ℕ) → n ≤ m → Covers f xs m → ⊥) (λ b. IsRunFrom (Covers f xs) n (numbers number b))
   first_found number last None h here reaches = none_from (omega (arith, here))
   first_found number last (Some b) h here reaches = IsRunFrom-found (numbers number b) h (here.0, here.1) reaches
 
 module _ (S : ℕ → Type 0) (n : ℕ) (b : ℕ × ℕ) (h : IsRunFrom S n b) where
   -- it has n, or nothing does
   pub has_number : b.0 ≤ n ↔ S n
-  has_number = (
-    λ low. h.run.inside n (low, h.reaches),
-    λ held. ⊎_elim (λ (less : n < b.0). absurd (h.first n (le_refl n) less held)) (λ (low : b.0 ≤ n). low) (cases_lt n b.0),
-  )
+  has_number = grind (arith, cases_lt, le_refl)
 
   -- it has all numbers from n to a greatest, or nothing has
   pub has_all : (c : ℕ × ℕ) → n ≡ c.0 → c.0 ≤ c.1 → ((b.0 ≤ c.0) × (c.1 ≤ b.1)) ↔ ((m : ℕ) → IsWithin c m → S m)
-  has_all c is ordered = (
-    λ (low, high) m w. h.run.inside m (omega (arith, w.0), omega (arith, w.1)),
-    λ all. (
-      (let low = has_number.1 (subst S (sym is) (all c.0 (le_refl c.0, ordered))) in omega arith),
-      ⊎_elim
-          (λ (beyond : b.1 < c.1). let reaches = h.reaches in absurd (h.run.ends (all (b.1 + 1) (omega arith, omega arith))))
-          (λ (high : c.1 ≤ b.1). high)
-          (cases_lt b.1 c.1),
-    ),
-  )
+  has_all c is ordered = grind (arith, cases_lt, le_refl)
 
   -- it has some of them, or nothing has
   pub has_some : (c : ℕ × ℕ) → n ≡ c.0 → c.0 ≤ c.1 → b.0 ≤ c.1 ↔ ((m : ℕ) × IsWithin c m × S m)
-  has_some c is ordered =
-      let reaches = h.reaches in
-      let run = h.run.ordered in (
-        λ low. (max c.0 b.0, (omega arith, omega arith), h.run.inside (max c.0 b.0) (omega arith, omega arith)),
-        λ (m, w, held). ⊎_elim
-            (λ (less : c.1 < b.0). absurd (h.first m (omega (arith, w.0)) (omega (arith, w.1)) held))
-            (λ (low : b.0 ≤ c.1). low)
-            (cases_lt c.1 b.0),
-      )
+  has_some c is ordered = grind (arith, cases_lt)

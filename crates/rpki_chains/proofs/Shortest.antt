@@ -1,16 +1,15 @@
 -- No list of blocks with the same cover is shorter than a chain.
-use Rattle.std.proofs.Common.{ℕ, ◌+◌, ◌<◌, ◌≤◌, ◌↔◌, ⊎_elim, List, [], ◌∷◌, length, get_or, sym, arith, suc}
+use Rattle.rpki_chains.proofs.Imports.{List, [], arith, get_or, length, suc, sym, ℕ, ⊎_elim, ◌+◌, ◌<◌, ◌↔◌, ◌∷◌, ◌≤◌, IsPermutation-remove, IsPermutation-sym, length_permutation, IsPermutation, Covers, IsChain}
 use Rattle.std.specs.List.{remove}
-use Rattle.std.specs.List.Sorted.{IsPermutation}
-use Rattle.std.proofs.lemmas.List.Sorted.{IsPermutation-remove, IsPermutation-sym, length_permutation}
-use Rattle.rpki_chains.specs.Sets.{Covers, IsChain}
 use Rattle.rpki_chains.proofs.Chains.{Covers-at, IsChainOf-itself}
 use Rattle.rpki_chains.proofs.Sorts.{Covers-permutation}
 use Rattle.rpki_chains.proofs.Unique.{Covers-head, Covers-tail, Covers-cons_cases, IsChain-tail}
 
 module _ {B : Type 0} (f : B → ℕ × ℕ) (form : ℕ × ℕ → B) where
   -- each block of the chain needs one of its own
-  needs_own : (xs ys : List B) → IsChain f form xs → ((k : ℕ) (d : B) → k < length xs → Covers f ys (f (get_or xs k d)).0) → ((k : ℕ) (d : B) → k < length xs → Covers f ys ((f (get_or xs k d)).1 + 1) → ⊥) → length xs ≤ length ys
+  needs_own : (xs ys : List B) → IsChain f form xs
+      → ((k : ℕ) (d : B) → k < length xs → Covers f ys (f (get_or xs k d)).0)
+      → ((k : ℕ) (d : B) → k < length xs → Covers f ys ((f (get_or xs k d)).1 + 1) → ⊥) → length xs ≤ length ys
   needs_own [] ys h lows gaps = omega arith
   needs_own (x ∷ xs) ys h lows gaps =
       let c : Covers f ys (f x).0 = lows 0 x (omega arith) in
@@ -32,7 +31,8 @@ module _ {B : Type 0} (f : B → ℕ × ℕ) (form : ℕ × ℕ → B) where
       omega arith
 
   -- so none with the chain's cover is shorter
-  pub IsChain-shortest : (xs ys : List B) → IsChain f form xs → ((n : ℕ) → Covers f ys n ↔ Covers f xs n) → length xs ≤ length ys
+  pub IsChain-shortest : (xs ys : List B) → IsChain f form xs → ((n : ℕ) → Covers f ys n ↔ Covers f xs n)
+      → length xs ≤ length ys
   IsChain-shortest xs ys h same =
       let runs = (IsChainOf-itself f form xs h).runs in
       needs_own xs ys h

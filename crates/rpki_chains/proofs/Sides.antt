@@ -1,9 +1,5 @@
 -- One side of a walk over two chains: the block at hand, and the numbers before it.
-use Rattle.std.proofs.Common.{◌≡◌, ℕ, ◌+◌, ◌<◌, ◌≤◌, ⊎_elim, List, length, get_or, ap, subst, arith, Option, Some, None, MatchOption}
-use Rattle.std.proofs.lemmas.Bool.{cases_lt}
-use Rattle.rpki_chains.specs.Overhang.{Before}
-use Rattle.std.specs.Option.{option_map}
-use Rattle.rpki_chains.specs.Sets.{Covers, IsChain, HoldsBlock, numbers}
+use Rattle.rpki_chains.proofs.Imports.{List, MatchOption, None, Option, Some, ap, arith, get_or, length, subst, ℕ, ⊎_elim, ◌+◌, ◌<◌, ◌≡◌, ◌≤◌, cases_lt, option_map, Before, Covers, HoldsBlock, IsChain, numbers}
 use Rattle.rpki_chains.proofs.Chains.{Covers-at, element_at, ascends}
 
 -- the block at an index is at hand, or none is at the end of the list
@@ -15,9 +11,9 @@ abbrev pub bounds_of : {I : Type 0} → (I → ℕ) → Option (I × I) → Opti
 bounds_of number b = option_map (numbers number) b
 
 -- what was read is the block at hand
-pub IsAt-from : {B I : Type 0} (f : B → ℕ × ℕ) (number : I → ℕ) (last : ℕ) (xs : List B) (i : ℕ) (block : Option (I × I)) → HoldsBlock f number last xs i block → IsAt f xs i (bounds_of number block)
-IsAt-from f number last xs i None h = h
-IsAt-from f number last xs i (Some b) h = (h.0, h.1)
+pub IsAt-from : {B I : Type 0} (f : B → ℕ × ℕ) (number : I → ℕ) (last : ℕ) (xs : List B) (i : ℕ)
+    (block : Option (I × I)) → HoldsBlock f number last xs i block → IsAt f xs i (bounds_of number block)
+IsAt-from f number last xs i block h = grind (arith)
 
 module _ {B : Type 0} (f : B → ℕ × ℕ) (form : ℕ × ℕ → B) where
   module _ (xs : List B) (i : ℕ) (b : ℕ × ℕ) (h : IsChain f form xs) (at : IsAt f xs i (Some b)) where
@@ -69,7 +65,8 @@ module _ {B : Type 0} (f : B → ℕ × ℕ) (form : ℕ × ℕ → B) where
         (cases_lt k (i + 1)))
         (cases_lt k i)
       where
-        not_before : (next : Option (ℕ × ℕ)) → IsAt f xs (i + 1) next → (k : ℕ) (x : B) → k < length xs → i + 1 ≤ k → (n : ℕ) → (f (get_or xs k x)).0 ≤ n → Before next n → ⊥
+        not_before : (next : Option (ℕ × ℕ)) → IsAt f xs (i + 1) next → (k : ℕ) (x : B) → k < length xs → i + 1 ≤ k
+            → (n : ℕ) → (f (get_or xs k x)).0 ≤ n → Before next n → ⊥
         not_before None end k x lt beyond n from before = let e : i + 1 ≡ length xs = end in omega arith
         not_before (Some c) at' k x lt beyond n from before =
             let up = ascends f form xs h (i + 1) k x beyond lt in
@@ -87,7 +84,8 @@ module _ {B : Type 0} (f : B → ℕ × ℕ) (form : ℕ × ℕ → B) where
         omega arith
 
   -- no number of a chain comes before its first block
-  pub none_before_first : (xs : List B) (b : Option (ℕ × ℕ)) → IsChain f form xs → IsAt f xs 0 b → (n : ℕ) → Covers f xs n → Before b n → ⊥
+  pub none_before_first : (xs : List B) (b : Option (ℕ × ℕ)) → IsChain f form xs → IsAt f xs 0 b → (n : ℕ)
+      → Covers f xs n → Before b n → ⊥
   none_before_first xs None h at n c before = let e : 0 ≡ length xs = at in let lt = c.2 in omega arith
   none_before_first xs (Some b) h at n (k, x, lt, e, v) before =
       let up = ascends f form xs h 0 k x (omega arith) lt in

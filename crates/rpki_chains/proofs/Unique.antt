@@ -1,9 +1,5 @@
 -- A set of numbers has exactly one chain.
-use Rattle.std.proofs.Common.{◌≡◌, ℕ, ◌+◌, ◌<◌, ◌≤◌, ◌↔◌, ◌⊎◌, inl, inr, ⊎_elim, List, [], ◌∷◌, get_or, refl, sym, ap, subst, arith, zero, suc, ◌∙◌}
-use Rattle.std.proofs.lemmas.Bool.{cases_lt}
-use Rattle.std.proofs.lemmas.List.Elements.{All-tail}
-use Rattle.std.proofs.Math.Nat.{le_refl}
-use Rattle.rpki_chains.specs.Sets.{IsNew, IsWithin, Covers, IsChain}
+use Rattle.rpki_chains.proofs.Imports.{List, [], ap, arith, get_or, refl, suc, sym, ℕ, ⊎_elim, ◌+◌, ◌<◌, ◌↔◌, ◌∙◌, ◌∷◌, ◌≡◌, ◌≤◌, ◌⊎◌, le_refl, cases_lt, All-tail, Covers, IsChain, IsNew, IsWithin}
 use Rattle.rpki_chains.proofs.Chains.{Covers-nil}
 
 module _ {B : Type 0} (f : B → ℕ × ℕ) where
@@ -17,8 +13,7 @@ module _ {B : Type 0} (f : B → ℕ × ℕ) where
 
   -- and no others
   pub Covers-cons_cases : (x : B) (xs : List B) (n : ℕ) → Covers f (x ∷ xs) n → IsWithin (f x) n ⊎ Covers f xs n
-  Covers-cons_cases x xs n (zero, z, lt, e, w) = let P : B → Type 0 = λ y. IsWithin (f y) n in inl (subst P (sym e) w)
-  Covers-cons_cases x xs n (suc k, z, lt, e, w) = inr (k, z, omega arith, e, w)
+  Covers-cons_cases x xs n h = grind (arith)
 
   module _ (form : ℕ × ℕ → B) where
     -- the rest of a chain is a chain
@@ -47,7 +42,8 @@ module _ {B : Type 0} (f : B → ℕ × ℕ) where
     Covers-gap x xs n h is c = ⊎_elim (λ w. omega (arith, w.1)) (λ r. let b = Covers-beyond x xs n h r in omega arith) (Covers-cons_cases x xs n c)
 
     -- the first block of the one doesn't end before that of the other, where they begin alike
-    Covers-no_shorter : (x : B) (xs : List B) (y : B) (ys : List B) → IsChain f form (x ∷ xs) → IsChain f form (y ∷ ys) → ((n : ℕ) → Covers f (y ∷ ys) n → Covers f (x ∷ xs) n) → (f x).0 ≡ (f y).0 → (f y).1 ≤ (f x).1
+    Covers-no_shorter : (x : B) (xs : List B) (y : B) (ys : List B) → IsChain f form (x ∷ xs) → IsChain f form (y ∷ ys)
+        → ((n : ℕ) → Covers f (y ∷ ys) n → Covers f (x ∷ xs) n) → (f x).0 ≡ (f y).0 → (f y).1 ≤ (f x).1
     Covers-no_shorter x xs y ys hx hy same low =
         let ox : (f x).0 ≤ (f x).1 = hx.ordered 0 x (omega arith) in
         ⊎_elim
@@ -60,7 +56,8 @@ module _ {B : Type 0} (f : B → ℕ × ℕ) where
     first_covered x xs h = let o : (f x).0 ≤ (f x).1 = h.ordered 0 x (omega arith) in Covers-head x xs (f x).0 (le_refl (f x).0, o)
 
     -- chains that cover the same numbers are the same
-    pub IsChain-unique : (xs ys : List B) → IsChain f form xs → IsChain f form ys → ((n : ℕ) → Covers f xs n ↔ Covers f ys n) → xs ≡ ys
+    pub IsChain-unique : (xs ys : List B) → IsChain f form xs → IsChain f form ys
+        → ((n : ℕ) → Covers f xs n ↔ Covers f ys n) → xs ≡ ys
     IsChain-unique [] [] hx hy same = refl
     IsChain-unique (x ∷ xs) [] hx hy same = absurd (Covers-nil f _ ((same (f x).0).0 (first_covered x xs hx)))
     IsChain-unique [] (y ∷ ys) hx hy same = absurd (Covers-nil f _ ((same (f y).0).1 (first_covered y ys hy)))

@@ -19,8 +19,10 @@ pub runs_per : IsPartialEquivalence same_runs
 runs_per = partial_equiv_from_equiv runs_equiv
 
 -- and of what is compared by the bounds of its blocks
-pub chains_equiv : {C B : Type 0} (bounds : B → ℕ × ℕ) (blocks : C → List B) → IsEquivalence (λ (a b : C). same_runs (map bounds (blocks a)) (map bounds (blocks b)))
+pub chains_equiv : {C B : Type 0} (bounds : B → ℕ × ℕ) (blocks : C → List B)
+    → IsEquivalence (λ (a b : C). same_runs (map bounds (blocks a)) (map bounds (blocks b)))
 chains_equiv bounds blocks = on_equiv (λ c. map bounds (blocks c)) runs_equiv
 
-pub chains_per : {C B : Type 0} (bounds : B → ℕ × ℕ) (blocks : C → List B) → IsPartialEquivalence (λ (a b : C). same_runs (map bounds (blocks a)) (map bounds (blocks b)))
+pub chains_per : {C B : Type 0} (bounds : B → ℕ × ℕ) (blocks : C → List B)
+    → IsPartialEquivalence (λ (a b : C). same_runs (map bounds (blocks a)) (map bounds (blocks b)))
 chains_per bounds blocks = partial_equiv_from_equiv (chains_equiv bounds blocks)

@@ -1,11 +1,7 @@
 -- How many prefixes a cover list of a range has.
-use Rattle.std.proofs.Common.{◌≡◌, ℕ, suc, zero, ◌+◌, ◌-◌, ◌*◌, ◌/◌, ◌%◌, ◌^◌, ◌<◌, ◌≤◌, ◌⊎◌, leb, length, ap, arith, inl, inr}
-use Rattle.std.proofs.lemmas.Bool.{cases_Bool, cases_lt, cases_eq, leb-true, lt-leb}
-use Rattle.std.proofs.lemmas.Nat.{div-add-mod'}
-use Rattle.std.proofs.Math.Nat.{two-pow-succ, pow-le-pow_right}
+use Rattle.rpki_cover.proofs.Common.{ap, arith, inl, inr, leb, length, suc, zero, ℕ, ◌%◌, ◌*◌, ◌+◌, ◌-◌, ◌/◌, ◌<◌, ◌^◌, ◌≡◌, ◌≤◌, ◌⊎◌, pow-le-pow_right, two-pow-succ, cases_Bool, cases_eq, cases_lt, leb-true, lt-leb, div-add-mod', cover_list, cover_list_upto, free_bits_upto}
 use Rattle.rpki_cover.proofs.Multiples.{IsMultiple, multiple_gap, multiple_zero, multiple_self, multiple_sum, multiple_smaller}
 use Rattle.rpki_cover.proofs.Greatest.{IsGreatest, free_bits_upto_is}
-use Rattle.rpki_cover.specs.Walk.{free_bits_upto, cover_list_upto, cover_list}
 
 -- of two neighbouring multiples of s, one is a multiple of 2 s
 pub even_or_next : (s a : ℕ) → IsMultiple s a → IsMultiple (s + s) a ⊎ IsMultiple (s + s) (a + s)
@@ -63,7 +59,8 @@ cover_list_none : (n w a b : ℕ) → b < a → length (cover_list_upto n w a b)
 cover_list_none v0 w a b h = grind (arith, lt-leb)
 
 -- where less than 2 ^ k numbers are left from a multiple of 2 ^ k on, at most k prefixes are
-cover_list_down : (n w a b k : ℕ) → k ≤ w → IsMultiple (2 ^ k) a → b + 1 < a + 2 ^ k → length (cover_list_upto n w a b) ≤ k
+cover_list_down : (n w a b k : ℕ) → k ≤ w → IsMultiple (2 ^ k) a → b + 1 < a + 2 ^ k
+    → length (cover_list_upto n w a b) ≤ k
 cover_list_down zero w a b k kw m h = omega arith
 cover_list_down (suc n) w a b k kw m h =
     elim (cases_Bool (leb a b)) [
@@ -85,7 +82,8 @@ cover_list_down (suc n) w a b k kw m h =
     ]
 
 -- from a multiple of 2 ^ k other than 0 on
-cover_list_up : (n w a b k : ℕ) → 2 ≤ w → k < w → 0 < a → b < 2 ^ w → a < 2 ^ w → IsMultiple (2 ^ k) a → length (cover_list_upto n w a b) + k + 2 ≤ 2 * w
+cover_list_up : (n w a b k : ℕ) → 2 ≤ w → k < w → 0 < a → b < 2 ^ w → a < 2 ^ w → IsMultiple (2 ^ k) a
+    → length (cover_list_upto n w a b) + k + 2 ≤ 2 * w
 cover_list_up zero w a b k two kw pos below belowa m = omega arith
 cover_list_up (suc n) w a b k two kw pos below belowa m =
     elim (cases_Bool (leb a b)) [

@@ -1,14 +1,9 @@
 -- The walk through a range finds its cover list.
-use Rattle.std.proofs.Common.{◌≡◌, ℕ, suc, zero, ◌+◌, ◌-◌, ◌^◌, ◌<◌, ◌≤◌, ◌⊎◌, leb, List, [], ◌∷◌, ◌∙◌, ap, subst, refl, arith, inl, inr}
-use Rattle.std.proofs.lemmas.Bool.{cases_Bool, cases_order, leb-true, leb-false}
-use Rattle.std.proofs.lemmas.Nat.{pow_pos, pow_below}
+use Rattle.rpki_cover.proofs.Common.{List, [], ap, arith, inl, inr, leb, refl, subst, suc, zero, ℕ, ◌+◌, ◌-◌, ◌<◌, ◌^◌, ◌∷◌, ◌≡◌, ◌≤◌, ◌⊎◌, cases_Bool, cases_order, leb-false, leb-true, pow_below, pow_pos, IsIn, IsMaximal, IsParent, IsPrefix, LiesIn, PrefixValue, Ascends, cover_list, cover_list_upto, free_bits_upto}
 use Rattle.rpki_cover.proofs.Multiples.{multiple_mod, nested, Nested}
 use Rattle.rpki_cover.proofs.Greatest.{Fits, IsGreatest, free_bits_upto_is}
 use Rattle.rpki_cover.proofs.Membership.{In, all_of}
 use Rattle.rpki_cover.proofs.Nesting.{InRange, Within, first_in, within_of, of_within, inside_of, multiple_at, no_straddle, parent_of}
-use Rattle.rpki_cover.specs.Walk.{free_bits_upto, cover_list_upto, cover_list}
-use Rattle.rpki_addr.specs.Prefixes.{PrefixValue, IsPrefix, IsIn, LiesIn, IsParent, IsMaximal}
-use Rattle.rpki_cover.specs.Covers.{Ascends}
 
 -- a list that is the cover list of S, and in which each prefix inside S finds its place
 pub record CoverOf (w : ℕ) (S : ℕ → Type 0) (ps : List PrefixValue) : Type 0 where
@@ -19,20 +14,11 @@ pub record CoverOf (w : ℕ) (S : ℕ → Type 0) (ps : List PrefixValue) : Type
 
 -- nothing is inside no numbers
 pub cover_none : (w : ℕ) (S : ℕ → Type 0) → ((n : ℕ) → S n → ⊥) → CoverOf w S []
-cover_none w S none = record {
-  ascending = tt;
-  sound = λ p i. absurd i;
-  complete = λ p m. none p.first (m.inside p.first (first_in w p));
-  nests = λ q is i. absurd (none q.first (i q.first (first_in w q)));
-}
+cover_none w S none = grind (arith, first_in)
 
 -- prefixes with the same first number and length are the same
 pub same_prefix : (p q : PrefixValue) → p.first ≡ q.first → p.len ≡ q.len → p ≡ q
-same_prefix p q e f =
-    let g : PrefixValue = record { first = q.first; len = p.len } in
-    let l : p ≡ record { first = q.first; len = p.len } = ap (λ (x : ℕ). let r : PrefixValue = record { first = x; len = p.len } in r) e in
-    let r : record { first = q.first; len = p.len } ≡ q = ap (λ (x : ℕ). let r : PrefixValue = record { first = q.first; len = x } in r) f in
-    l ∙ r
+same_prefix p q e f = grind (arith)
 
 -- the prefix of the 2 ^ k numbers from a on
 abbrev pub head_prefix : ℕ → ℕ → ℕ → PrefixValue
@@ -45,11 +31,7 @@ module _ (w a b k : ℕ) (order : a ≤ b) (below : b < 2 ^ w) (g : IsGreatest w
 
   -- it is a prefix, inside the range, and its parent isn't
   head_is_prefix : IsPrefix w (head_prefix w a k)
-  head_is_prefix = record {
-    short = omega arith;
-    aligned = rw size_is (multiple_mod (2 ^ k) a (pow_pos k) g.fits.aligned);
-    below = omega arith;
-  }
+  head_is_prefix = grind (arith, multiple_mod, pow_pos, size_is)
 
   head_within : Within w (head_prefix w a k) a b
   head_within = record { from = omega arith; upto = rw size_is g.fits.within }
@@ -94,7 +76,8 @@ module _ (w a b k : ℕ) (order : a ≤ b) (below : b < 2 ^ w) (g : IsGreatest w
   }
 
   -- a maximal prefix is the head, or is maximal behind it
-  maximal_cases : (p : PrefixValue) → IsMaximal w (InRange a b) p → (head_prefix w a k ≡ p) ⊎ IsMaximal w (InRange (a + 2 ^ k) b) p
+  maximal_cases : (p : PrefixValue) → IsMaximal w (InRange a b) p
+      → (head_prefix w a k ≡ p) ⊎ IsMaximal w (InRange (a + 2 ^ k) b) p
   maximal_cases p m =
       let v : Within w p a b = within_of w a b p m.inside in
       let from : a ≤ p.first = v.from in
@@ -127,7 +110,8 @@ module _ (w a b k : ℕ) (order : a ≤ b) (below : b < 2 ^ w) (g : IsGreatest w
       ]
 
   -- so the head and the cover list of what is behind it are the cover list
-  pub cover_step : (ps : List PrefixValue) → CoverOf w (InRange (a + 2 ^ k) b) ps → CoverOf w (InRange a b) (head_prefix w a k ∷ ps)
+  pub cover_step : (ps : List PrefixValue) → CoverOf w (InRange (a + 2 ^ k) b) ps
+      → CoverOf w (InRange a b) (head_prefix w a k ∷ ps)
   cover_step ps t = record {
     ascending = (
       all_of (λ q. a + 2 ^ (w - (w - k)) ≤ q.first) ps (λ q i.

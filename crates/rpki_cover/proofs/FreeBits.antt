@@ -1,11 +1,7 @@
 -- The greatest prefix at the beginning of a range, by zeros at the end and a logarithm.
-use Rattle.std.proofs.Common.{◌≡◌, ℕ, suc, ◌+◌, ◌-◌, ◌*◌, ◌^◌, ◌<◌, ◌≤◌, min, arith, inl, inr}
-use Rattle.std.proofs.lemmas.Bool.{cases_lt}
-use Rattle.std.proofs.Math.Nat.{two-pow-succ, pow-le-pow_right}
-use Rattle.std.specs.Int.Count.{count_trailing_zeros}
+use Rattle.rpki_cover.proofs.Common.{arith, inl, inr, min, suc, ℕ, ◌*◌, ◌+◌, ◌-◌, ◌<◌, ◌^◌, ◌≡◌, ◌≤◌, pow-le-pow_right, two-pow-succ, cases_lt, count_trailing_zeros, free_bits}
 use Rattle.rpki_cover.proofs.Multiples.{IsMultiple, multiple_smaller, zeros_divide, zeros_greatest}
 use Rattle.rpki_cover.proofs.Greatest.{free_bits_is, same_greatest}
-use Rattle.rpki_cover.specs.Walk.{free_bits}
 
 -- what the code computes is the greatest
 pub greatest_by : (w a b t f : ℕ) → w ≤ 128 → a ≤ b → b < 2 ^ w → t ≡ count_trailing_zeros 128 a

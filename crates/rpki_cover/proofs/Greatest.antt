@@ -1,9 +1,6 @@
 -- The greatest block of 2 ^ k numbers at the beginning of a range.
-use Rattle.std.proofs.Common.{◌≡◌, ℕ, suc, zero, ◌+◌, ◌%◌, ◌^◌, ◌≤◌, Bool, true, eqb, leb, ◌&&◌, arith, inl, inr}
-use Rattle.std.proofs.lemmas.Bool.{cases_Bool, cases_order, and_parts, eqb-true, leb-true, eq-eqb, le-leb, and_from}
-use Rattle.std.proofs.lemmas.Nat.{pow_pos}
+use Rattle.rpki_cover.proofs.Common.{Bool, arith, eqb, inl, inr, leb, suc, true, zero, ℕ, ◌%◌, ◌&&◌, ◌+◌, ◌^◌, ◌≡◌, ◌≤◌, and_from, and_parts, cases_Bool, cases_order, eq-eqb, eqb-true, le-leb, leb-true, pow_pos, free_bits, free_bits_upto}
 use Rattle.rpki_cover.proofs.Multiples.{IsMultiple, multiple_mod, mod_multiple}
-use Rattle.rpki_cover.specs.Walk.{free_bits_upto, free_bits}
 
 -- 2 ^ k numbers from a on are a block, which ends at b or before
 pub record Fits (a b k : ℕ) : Type 0 where
@@ -55,6 +52,4 @@ free_bits_is w a b h = free_bits_upto_is w a b h
 
 -- there is one
 pub same_greatest : (w a b j k : ℕ) → IsGreatest w a b j → IsGreatest w a b k → j ≡ k
-same_greatest w a b j k m n =
-    let p : j ≤ k = n.greatest j m.upto m.fits in
-    let q : k ≤ j = m.greatest k n.upto n.fits in omega arith
+same_greatest w a b j k m n = grind (arith)

@@ -1,16 +1,12 @@
 -- The cover list of two sets with a gap between them.
-use Rattle.std.proofs.Common.{ℕ, ◌+◌, ◌-◌, ◌^◌, ◌<◌, ◌≤◌, ◌⊎◌, List, [], ◌∷◌, ◌++◌, refl, arith, inl, inr}
-use Rattle.std.proofs.lemmas.Bool.{cases_lt}
-use Rattle.std.proofs.lemmas.Nat.{pow_pos}
-use Rattle.std.proofs.lemmas.List.Elements.{All-append}
-use Rattle.rpki_addr.specs.Prefixes.{PrefixValue, LiesIn, IsMaximal}
+use Rattle.rpki_cover.proofs.Common.{List, [], arith, inl, inr, refl, ℕ, ◌++◌, ◌+◌, ◌-◌, ◌<◌, ◌^◌, ◌∷◌, ◌≤◌, ◌⊎◌, cases_lt, All-append, pow_pos, IsMaximal, LiesIn, PrefixValue, Ascends}
 use Rattle.rpki_cover.proofs.CoverList.{CoverOf}
 use Rattle.rpki_cover.proofs.Membership.{In, all_of, in_append_left, in_append_right, in_append_cases}
 use Rattle.rpki_cover.proofs.Nesting.{first_in}
-use Rattle.rpki_cover.specs.Covers.{Ascends}
 
 -- the same numbers have the same cover list
-pub cover_same : (w : ℕ) (S T : ℕ → Type 0) (ps : List PrefixValue) → ((n : ℕ) → S n → T n) → ((n : ℕ) → T n → S n) → CoverOf w S ps → CoverOf w T ps
+pub cover_same : (w : ℕ) (S T : ℕ → Type 0) (ps : List PrefixValue) → ((n : ℕ) → S n → T n) → ((n : ℕ) → T n → S n)
+    → CoverOf w S ps → CoverOf w T ps
 cover_same w S T ps to from c = record {
   ascending = c.ascending;
   sound = λ p i. let m : IsMaximal w S p = c.sound p i in record {
@@ -28,7 +24,8 @@ cover_same w S T ps to from c = record {
 
 -- of two ascending lists, one ends where the other begins, or before
 ascends_append : (w m : ℕ) (ps qs : List PrefixValue) → Ascends w ps → Ascends w qs
-    → ((p : PrefixValue) → In ps p → p.first + 2 ^ (w - p.len) ≤ m) → ((q : PrefixValue) → In qs q → m ≤ q.first) → Ascends w (ps ++ qs)
+    → ((p : PrefixValue) → In ps p → p.first + 2 ^ (w - p.len) ≤ m) → ((q : PrefixValue) → In qs q → m ≤ q.first)
+    → Ascends w (ps ++ qs)
 ascends_append w m [] qs a b f g = b
 ascends_append w m (p ∷ ps) qs a b f g = (
   All-append (λ q. p.first + 2 ^ (w - p.len) ≤ q.first) ps qs a.0
@@ -56,7 +53,8 @@ module _ (w m : ℕ) (S T : ℕ → Type 0) (low : (n : ℕ) → S n → n ≤ m
       ]
 
   -- so the cover lists are that of both, one after the other
-  pub cover_joined : (ps qs : List PrefixValue) → CoverOf w S ps → CoverOf w T qs → CoverOf w (λ n. S n ⊎ T n) (ps ++ qs)
+  pub cover_joined : (ps qs : List PrefixValue) → CoverOf w S ps → CoverOf w T qs
+      → CoverOf w (λ n. S n ⊎ T n) (ps ++ qs)
   cover_joined ps qs c d = record {
     ascending = ascends_append w (m + 1) ps qs c.ascending d.ascending
         (λ p i.

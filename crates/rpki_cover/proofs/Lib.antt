@@ -1,3 +1,4 @@
+pub mod Common
 pub mod CoverList
 pub mod Counting
 pub mod FreeBits

@@ -1,8 +1,5 @@
 -- Elements of lists, by recursion.
-use Rattle.std.proofs.Common.{◌≡◌, suc, zero, ◌<◌, ◌≤◌, ◌⊎◌, Bool, true, false, List, [], ◌∷◌, ◌++◌, length, ◌∙◌, ap, arith, inl, inr}
-use Rattle.std.specs.List.{All, Contains, filter}
-use Rattle.std.proofs.lemmas.Bool.{cases_Bool}
-use Rattle.std.proofs.lemmas.List.Elements.{All-contains, All-contains_itself, All-weaker}
+use Rattle.rpki_cover.proofs.Common.{Bool, List, [], arith, false, inl, inr, length, suc, true, zero, ◌++◌, ◌<◌, ◌∷◌, ◌≡◌, ◌≤◌, ◌⊎◌, cases_Bool, All-contains, All-contains_itself, All-weaker, All, Contains, filter}
 
 -- x is an element of xs, by recursion on the list
 abbrev pub In : {X : Type 0} → List X → X → Type 0
@@ -46,21 +43,14 @@ in_append_cases (z ∷ zs) ys x (inr i) = elim (in_append_cases zs ys x i) [ inl
 module _ {X : Type 0} (test : X → Bool) where
   pub in_filter : (xs : List X) (x : X) → In xs x → test x ≡ true → In (filter test xs) x
   in_filter [] x i t = absurd i
-  in_filter (y ∷ ys) x (inl e) t =
-      let h : test y ≡ true = ap test e ∙ t in rw h (inl e)
-  in_filter (y ∷ ys) x (inr i) t =
-      elim (cases_Bool (test y)) [ inl h ↦ rw h (inr (in_filter ys x i t)) | inr h ↦ rw h (in_filter ys x i t) ]
+  in_filter (y ∷ ys) x (inl e) t = grind (arith)
+  in_filter (y ∷ ys) x (inr i) t = grind (arith, cases_Bool, in_filter ys x i t)
 
   pub length_filter_le : (xs : List X) → length (filter test xs) ≤ length xs
   length_filter_le [] = omega arith
-  length_filter_le (y ∷ ys) = let k : length (filter test ys) ≤ length ys = length_filter_le ys in
-      elim (cases_Bool (test y)) [ inl h ↦ rw h (omega (arith, k)) | inr h ↦ rw h (omega (arith, k)) ]
+  length_filter_le (y ∷ ys) = grind (arith, cases_Bool, length_filter_le ys)
 
   pub filter_shrinks : (xs : List X) (x : X) → In xs x → test x ≡ false → length (filter test xs) < length xs
   filter_shrinks [] x i t = absurd i
-  filter_shrinks (y ∷ ys) x (inl e) t =
-      let h : test y ≡ false = ap test e ∙ t in
-      let k : length (filter test ys) ≤ length ys = length_filter_le ys in rw h (omega (arith, k))
-  filter_shrinks (y ∷ ys) x (inr i) t =
-      let k : length (filter test ys) < length ys = filter_shrinks ys x i t in
-      elim (cases_Bool (test y)) [ inl h ↦ rw h (omega (arith, k)) | inr h ↦ rw h (omega (arith, k)) ]
+  filter_shrinks (y ∷ ys) x (inl e) t = grind (arith, length_filter_le)
+  filter_shrinks (y ∷ ys) x (inr i) t = grind (arith, cases_Bool, filter_shrinks ys x i t)

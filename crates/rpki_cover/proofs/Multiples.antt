@@ -1,9 +1,5 @@
 -- Multiples, and the greatest power of 2 of which a number is one.
-use Rattle.std.proofs.Common.{◌≡◌, ℕ, suc, zero, ◌+◌, ◌-◌, ◌*◌, ◌/◌, ◌%◌, ◌^◌, ◌<◌, ◌≤◌, ◌∙◌, ap, sym, refl, arith, inl, inr}
-use Rattle.std.proofs.lemmas.Bool.{cases_lt}
-use Rattle.std.proofs.lemmas.Nat.{pow-add, shr_split, div-add-mod', mod-mul-add, div-mul-add}
-use Rattle.std.proofs.Math.Nat.{mul-le-mul_right, mul-sub, two-pow-succ}
-use Rattle.std.specs.Int.Count.{count_trailing_zeros}
+use Rattle.rpki_cover.proofs.Common.{ap, arith, inl, inr, refl, suc, sym, zero, ℕ, ◌%◌, ◌*◌, ◌+◌, ◌-◌, ◌/◌, ◌<◌, ◌^◌, ◌∙◌, ◌≡◌, ◌≤◌, mul-le-mul_right, mul-sub, two-pow-succ, cases_lt, div-add-mod', div-mul-add, mod-mul-add, pow-add, shr_split, count_trailing_zeros}
 use lib.Count.{under}
 
 -- a is a multiple of s
@@ -85,7 +81,8 @@ pub record Nested (a s b t : ℕ) : Type 0 where
   pub from : a ≤ b
   pub upto : b + t ≤ a + s
 
-pub nested : (j k a b : ℕ) → j ≤ k → IsMultiple (2 ^ k) a → IsMultiple (2 ^ j) b → b < a + 2 ^ k → a < b + 2 ^ j → Nested a (2 ^ k) b (2 ^ j)
+pub nested : (j k a b : ℕ) → j ≤ k → IsMultiple (2 ^ k) a → IsMultiple (2 ^ j) b → b < a + 2 ^ k → a < b + 2 ^ j
+    → Nested a (2 ^ k) b (2 ^ j)
 nested j k a b h m n p q =
     let m' : IsMultiple (2 ^ j) a = multiple_smaller j k a h m in
     let e : IsMultiple (2 ^ j) (a + 2 ^ k) = multiple_smaller j k (a + 2 ^ k) h (multiple_sum (2 ^ k) a (2 ^ k) m (multiple_self (2 ^ k))) in
@@ -112,7 +109,8 @@ zeros_divide zero n = record { times = n; is = omega arith }
 zeros_divide (suc w) n = under_divides n (count_trailing_zeros w (n / 2)) (n % 2) refl (zeros_divide w (n / 2))
 
 -- one digit more leaves it the greatest
-under_greatest : (n t d j : ℕ) → n % 2 ≡ d → ((i : ℕ) → suc i ≡ j → IsMultiple (2 ^ i) (n / 2) → i ≤ t) → IsMultiple (2 ^ j) n → j ≤ under d t
+under_greatest : (n t d j : ℕ) → n % 2 ≡ d → ((i : ℕ) → suc i ≡ j → IsMultiple (2 ^ i) (n / 2) → i ≤ t)
+    → IsMultiple (2 ^ j) n → j ≤ under d t
 under_greatest n t d zero z f m = omega arith
 under_greatest n t zero (suc i) z f m =
     let d : 2 ^ suc i ≡ 2 ^ i + 2 ^ i = two-pow-succ i in

@@ -1,12 +1,9 @@
 -- Prefixes inside ranges and inside one another.
-use Rattle.std.proofs.Common.{◌≡◌, ℕ, ◌+◌, ◌-◌, ◌^◌, ◌<◌, ◌≤◌, ◌⊎◌, arith, inl, inr}
-use Rattle.std.proofs.lemmas.Bool.{cases_lt}
-use Rattle.std.proofs.lemmas.Nat.{pow_pos}
+use Rattle.rpki_cover.proofs.Common.{arith, inl, inr, ℕ, ◌+◌, ◌-◌, ◌<◌, ◌^◌, ◌≡◌, ◌≤◌, ◌⊎◌, cases_lt, pow_pos, IsIn, IsParent, IsPrefix, LiesIn, PrefixValue}
 use Rattle.rpki_cover.proofs.Greatest.{Fits, IsGreatest}
 use Rattle.rpki_cover.proofs.Multiples.{IsMultiple, mod_multiple, nested, Nested}
 use Rattle.rpki_addr.proofs.PrefixNumbers.{cleared_prefix, cleared_holds}
 use Rattle.rpki_addr.specs.Bits.{cleared}
-use Rattle.rpki_addr.specs.Prefixes.{PrefixValue, IsPrefix, IsIn, LiesIn, IsParent}
 
 -- the numbers from a to b
 abbrev pub InRange : ℕ → ℕ → ℕ → Type 0
@@ -23,17 +20,14 @@ first_in w p = record { from = omega arith; upto = (let h : 0 < 2 ^ (w - p.len) 
 
 -- a prefix is inside the range exactly where its bounds are
 pub within_of : (w a b : ℕ) (p : PrefixValue) → LiesIn w (InRange a b) p → Within w p a b
-within_of w a b p i =
-    let h : 0 < 2 ^ (w - p.len) = pow_pos (w - p.len) in
-    let f : InRange a b p.first = i p.first (first_in w p) in
-    let l : InRange a b (p.first + 2 ^ (w - p.len) - 1) = i (p.first + 2 ^ (w - p.len) - 1) (record { from = omega arith; upto = omega arith }) in
-    record { from = f.0; upto = (let u : p.first + 2 ^ (w - p.len) - 1 ≤ b = l.1 in omega arith) }
+within_of w a b p i = grind (arith, first_in, pow_pos)
 
 pub of_within : (w a b : ℕ) (p : PrefixValue) → Within w p a b → LiesIn w (InRange a b) p
 of_within w a b p i n h = (omega (arith, i.from, h.from), omega (arith, i.upto, h.upto))
 
 -- a prefix is inside another by its bounds
-pub inside_of : (w : ℕ) (q p : PrefixValue) → p.first ≤ q.first → q.first + 2 ^ (w - q.len) ≤ p.first + 2 ^ (w - p.len) → LiesIn w (IsIn w p) q
+pub inside_of : (w : ℕ) (q p : PrefixValue) → p.first ≤ q.first → q.first + 2 ^ (w - q.len) ≤ p.first + 2 ^ (w - p.len)
+    → LiesIn w (IsIn w p) q
 inside_of w q p h k n i = record { from = omega (arith, i.from); upto = omega (arith, i.upto) }
 
 -- its first number is a multiple of how many it has
@@ -62,7 +56,8 @@ no_straddle w a b k p g is i =
     ]
 
 -- a prefix of positive length has a parent
-pub parent_of : (w : ℕ) (p : PrefixValue) → IsPrefix w p → 0 < p.len → (q : PrefixValue) × IsParent w q p × (q.first ≤ p.first)
+pub parent_of : (w : ℕ) (p : PrefixValue) → IsPrefix w p → 0 < p.len
+    → (q : PrefixValue) × IsParent w q p × (q.first ≤ p.first)
 parent_of w p is pos =
     let prefix : IsPrefix w (record { first = cleared w p.first (p.len - 1); len = p.len - 1 }) = cleared_prefix w p.first (p.len - 1) (omega (arith, is.short)) is.below in
     let held : IsIn w (record { first = cleared w p.first (p.len - 1); len = p.len - 1 }) p.first = cleared_holds w p.first (p.len - 1) in
@@ -75,7 +70,8 @@ parent_of w p is pos =
     )
 
 -- of two prefixes that share a number the longer lies in the shorter
-pub prefixes_nested : (w : ℕ) (p q : PrefixValue) → IsPrefix w p → IsPrefix w q → (n : ℕ) → IsIn w p n → IsIn w q n → LiesIn w (IsIn w p) q ⊎ LiesIn w (IsIn w q) p
+pub prefixes_nested : (w : ℕ) (p q : PrefixValue) → IsPrefix w p → IsPrefix w q → (n : ℕ) → IsIn w p n → IsIn w q n
+    → LiesIn w (IsIn w p) q ⊎ LiesIn w (IsIn w q) p
 prefixes_nested w p q is_p is_q n in_p in_q = elim (cases_lt (w - p.len) (w - q.len)) [
   | inl fewer ↦
       let k : Nested q.first (2 ^ (w - q.len)) p.first (2 ^ (w - p.len)) =
@@ -88,6 +84,6 @@ prefixes_nested w p q is_p is_q n in_p in_q = elim (cases_lt (w - p.len) (w - q.
 ]
 
 -- where one lies in the other, they share its first number
-pub nested_share : (w : ℕ) (p q : PrefixValue) → LiesIn w (IsIn w p) q ⊎ LiesIn w (IsIn w q) p → (n : ℕ) × IsIn w p n × IsIn w q n
-nested_share w p q (inl inside) = (q.first, inside q.first (first_in w q), first_in w q)
-nested_share w p q (inr inside) = (p.first, first_in w p, inside p.first (first_in w p))
+pub nested_share : (w : ℕ) (p q : PrefixValue) → LiesIn w (IsIn w p) q ⊎ LiesIn w (IsIn w q) p
+    → (n : ℕ) × IsIn w p n × IsIn w q n
+nested_share w p q h = grind (arith, first_in)

@@ -1,15 +1,10 @@
 -- A cover list has the union of its set, and no shorter list of prefixes has.
-use Rattle.std.proofs.Common.{◌≡◌, ℕ, ◌+◌, ◌-◌, ◌^◌, ◌<◌, ◌≤◌, Bool, leb, List, [], ◌∷◌, length, sym, ◌∙◌, ap, subst, refl, arith, inl, inr}
-use Rattle.std.specs.List.{All, filter}
-use Rattle.std.proofs.lemmas.Bool.{le-leb, lt-leb}
+use Rattle.rpki_cover.proofs.Common.{Bool, List, [], ap, arith, inl, inr, leb, length, refl, subst, sym, ℕ, ◌+◌, ◌-◌, ◌<◌, ◌^◌, ◌∙◌, ◌∷◌, ◌≡◌, ◌≤◌, le-leb, lt-leb, All, filter, IsIn, IsPrefix, LiesIn, PrefixValue, Ascends, HasUnion, IsCoverList, IsShortest, IsShortestCover, cover_list}
 use Rattle.rpki_cover.proofs.Membership.{In, in_of, of_in, all_of, at_all, in_filter, filter_shrinks}
 use Rattle.rpki_cover.proofs.Multiples.{multiple_mod}
 use Rattle.rpki_cover.proofs.Nesting.{InRange, first_in}
 use Rattle.rpki_cover.proofs.CoverList.{CoverOf, cover_list_covers}
-use Rattle.rpki_cover.specs.Walk.{cover_list}
-use Rattle.rpki_addr.specs.Prefixes.{PrefixValue, IsPrefix, IsIn, LiesIn}
 use Rattle.rpki_cover.proofs.Unique.{one_cover_list}
-use Rattle.rpki_cover.specs.Covers.{Ascends, IsCoverList, HasUnion, IsShortest, IsShortestCover}
 
 -- a prefix of the list qs begins in p
 pub record Hit (w : ℕ) (qs : List PrefixValue) (p : PrefixValue) : Type 0 where
@@ -18,7 +13,8 @@ pub record Hit (w : ℕ) (qs : List PrefixValue) (p : PrefixValue) : Type 0 wher
   pub starts : IsIn w p by_.first
 
 -- prefixes that ascend, in each of which one of the others begins, are at most as many as the others
-pub pigeon : (w : ℕ) (ps qs : List PrefixValue) → Ascends w ps → ((p : PrefixValue) → In ps p → Hit w qs p) → length ps ≤ length qs
+pub pigeon : (w : ℕ) (ps qs : List PrefixValue) → Ascends w ps → ((p : PrefixValue) → In ps p → Hit w qs p)
+    → length ps ≤ length qs
 pigeon w [] qs asc hits = omega arith
 pigeon w (p ∷ ps) qs asc hits =
     let test : PrefixValue → Bool = λ q. leb (p.first + 2 ^ (w - p.len)) q.first in
@@ -33,7 +29,8 @@ pigeon w (p ∷ ps) qs asc hits =
     omega (arith, shrink, rest)
 
 -- two prefixes of an ascending list that share a number are one
-pub same_by_number : (w : ℕ) (ps : List PrefixValue) (p q : PrefixValue) (n : ℕ) → Ascends w ps → In ps p → In ps q → IsIn w p n → IsIn w q n → p ≡ q
+pub same_by_number : (w : ℕ) (ps : List PrefixValue) (p q : PrefixValue) (n : ℕ) → Ascends w ps → In ps p → In ps q
+    → IsIn w p n → IsIn w q n → p ≡ q
 same_by_number w [] p q n asc i j m l = absurd i
 same_by_number w (r ∷ rs) p q n asc (inl e) (inl f) m l = sym e ∙ f
 same_by_number w (r ∷ rs) p q n asc (inr i) (inr j) m l = same_by_number w rs p q n asc.1 i j m l
@@ -48,12 +45,7 @@ same_by_number w (r ∷ rs) p q n asc (inr i) (inl f) m l =
 
 -- the prefix of one number
 pub single : (w n : ℕ) → n < 2 ^ w → IsPrefix w (record { first = n; len = w })
-single w n h = record {
-  short = omega arith;
-  aligned = (let e : w - w ≡ 0 = omega arith in let s : 2 ^ (w - w) ≡ 1 = ap (λ i. 2 ^ i) e in
-      rw s (multiple_mod 1 n (omega arith) (record { times = n; is = omega arith })));
-  below = h;
-}
+single w n h = grind (arith, multiple_mod)
 
 module _ (w : ℕ) (S : ℕ → Type 0) (ps : List PrefixValue) (c : CoverOf w S ps) (small : (n : ℕ) → S n → n < 2 ^ w) where
   list_from : IsCoverList w S ps

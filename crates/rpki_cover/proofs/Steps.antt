@@ -1,13 +1,10 @@
 -- The walk that finds a cover list, step by step.
-use Rattle.std.proofs.Common.{◌≡◌, ℕ, suc, zero, ◌+◌, ◌-◌, ◌^◌, ◌<◌, ◌≤◌, true, leb, Option, Some, None, List, [], ◌∷◌, MatchOption, ◌∙◌, ap, refl, arith, inl, inr}
-use Rattle.std.proofs.lemmas.Bool.{cases_Bool, le-leb, lt-leb}
-use Rattle.std.proofs.lemmas.Nat.{pow_pos}
-use Rattle.rpki_addr.specs.Prefixes.{PrefixValue}
+use Rattle.rpki_cover.proofs.Common.{List, MatchOption, Option, [], ap, arith, inl, inr, leb, refl, suc, zero, ℕ, ◌+◌, ◌-◌, ◌<◌, ◌^◌, ◌∷◌, ◌≡◌, ◌≤◌, cases_Bool, le-leb, lt-leb, pow_pos, PrefixValue, cover_list, cover_list_upto, free_bits, free_bits_upto, left_cover}
 use Rattle.rpki_cover.proofs.CoverList.{head_prefix}
-use Rattle.rpki_cover.specs.Walk.{free_bits, free_bits_upto, cover_list_upto, cover_list, left_cover}
 
 -- any count that is large enough gives one list
-pub cover_list_fuel : (n m w a b : ℕ) → b + 1 ≤ a + n → b + 1 ≤ a + m → cover_list_upto n w a b ≡ cover_list_upto m w a b
+pub cover_list_fuel : (n m w a b : ℕ) → b + 1 ≤ a + n → b + 1 ≤ a + m
+    → cover_list_upto n w a b ≡ cover_list_upto m w a b
 cover_list_fuel zero zero w a b h k = refl
 cover_list_fuel zero (suc m) w a b h k = rw (lt-leb a b (omega arith)) refl
 cover_list_fuel (suc n) zero w a b h k = rw (lt-leb a b (omega arith)) refl
@@ -26,18 +23,13 @@ unfolding cover_list
 cover_list_end w a b h = cover_list_fuel (b + 1 - a) zero w a b (omega arith) (omega arith)
 
 -- the greatest prefix from the beginning on, and what is behind it
-pub cover_list_next : (w a b : ℕ) → a ≤ b → cover_list w a b ≡ head_prefix w a (free_bits w a b) ∷ cover_list w (a + 2 ^ free_bits w a b) b
+pub cover_list_next : (w a b : ℕ) → a ≤ b
+    → cover_list w a b ≡ head_prefix w a (free_bits w a b) ∷ cover_list w (a + 2 ^ free_bits w a b) b
 unfolding cover_list free_bits
-cover_list_next w a b h =
-    let p : 0 < 2 ^ free_bits_upto w a b = pow_pos (free_bits_upto w a b) in
-    let l : leb a b ≡ true = le-leb a b h in
-    let one : cover_list_upto (suc (b - a)) w a b ≡ head_prefix w a (free_bits_upto w a b) ∷ cover_list_upto (b - a) w (a + 2 ^ free_bits_upto w a b) b = rw l refl in
-    cover_list_fuel (b + 1 - a) (suc (b - a)) w a b (omega arith) (omega arith) ∙ one
-    ∙ ap (λ (ps : List PrefixValue). head_prefix w a (free_bits_upto w a b) ∷ ps)
-    (cover_list_fuel (b - a) (b + 1 - (a + 2 ^ free_bits_upto w a b)) w (a + 2 ^ free_bits_upto w a b) b (omega arith) (omega arith))
+cover_list_next w a b h = grind (arith, cover_list_fuel, head_prefix, le-leb, pow_pos)
 
 -- the first prefix, and the cover list of what is left behind it
-pub left_next : (w a b k : ℕ) (left : Option (ℕ × ℕ)) → a ≤ b → k ≡ free_bits w a b → MatchOption left (b < a + 2 ^ k) (λ r. (r ≡ (a + 2 ^ k, b)) × (a + 2 ^ k ≤ b))
+pub left_next : (w a b k : ℕ) (left : Option (ℕ × ℕ)) → a ≤ b → k ≡ free_bits w a b
+    → MatchOption left (b < a + 2 ^ k) (λ r. (r ≡ (a + 2 ^ k, b)) × (a + 2 ^ k ≤ b))
     → cover_list w a b ≡ head_prefix w a k ∷ left_cover w left
-left_next w a b k None order is past = rw is (cover_list_next w a b order ∙ ap (λ (ps : List PrefixValue). head_prefix w a (free_bits w a b) ∷ ps) (cover_list_end w (a + 2 ^ free_bits w a b) b (rw is at past)))
-left_next w a b k (Some r) order is (e, more) = rw (e, is) (cover_list_next w a b order)
+left_next w a b k left order is past = grind (arith, cover_list_end, cover_list_next, head_prefix)

@@ -1,9 +1,6 @@
 -- A set has one cover list.
-use Rattle.std.proofs.Common.{◌≡◌, ℕ, ◌+◌, ◌-◌, ◌^◌, ◌<◌, ◌≤◌, List, [], ◌∷◌, sym, ap, subst, refl, arith, inl, inr}
-use Rattle.std.proofs.lemmas.Nat.{pow_pos}
+use Rattle.rpki_cover.proofs.Common.{List, [], arith, inl, inr, refl, subst, sym, ℕ, ◌+◌, ◌-◌, ◌<◌, ◌^◌, ◌∷◌, ◌≡◌, ◌≤◌, pow_pos, PrefixValue, Ascends, IsCoverList}
 use Rattle.rpki_cover.proofs.Membership.{In, in_of, of_in, at_all}
-use Rattle.rpki_addr.specs.Prefixes.{PrefixValue}
-use Rattle.rpki_cover.specs.Covers.{Ascends, IsCoverList}
 
 -- later prefixes begin later
 behind : (w : ℕ) (p q : PrefixValue) (ps : List PrefixValue) → Ascends w (p ∷ ps) → In ps q → p.first < q.first
@@ -14,15 +11,12 @@ behind w p q ps a i =
 -- the first prefixes are one
 same_heads : (w : ℕ) (p q : PrefixValue) (ps qs : List PrefixValue) → Ascends w (p ∷ ps) → Ascends w (q ∷ qs)
     → In (q ∷ qs) p → In (p ∷ ps) q → p ≡ q
-same_heads w p q ps qs a b (inl e) j = sym e
-same_heads w p q ps qs a b (inr i) (inl e) = e
-same_heads w p q ps qs a b (inr i) (inr j) = absurd (
-    let h : q.first < p.first = behind w q p qs b i in let k : p.first < q.first = behind w p q ps a j in omega arith)
+same_heads w p q ps qs a b h j = grind (arith, behind)
 
 -- what is later in the one is later in the other
-in_tail : (w : ℕ) (p r : PrefixValue) (ps qs : List PrefixValue) → Ascends w (p ∷ ps) → In ps r → In (p ∷ qs) r → In qs r
-in_tail w p r ps qs a i (inr j) = j
-in_tail w p r ps qs a i (inl e) = absurd (let h : p.first < r.first = behind w p r ps a i in let k : p.first ≡ r.first = ap (λ (x : PrefixValue). x.first) e in omega arith)
+in_tail : (w : ℕ) (p r : PrefixValue) (ps qs : List PrefixValue) → Ascends w (p ∷ ps) → In ps r → In (p ∷ qs) r
+    → In qs r
+in_tail w p r ps qs a i h = grind (arith, behind)
 
 -- two ascending lists with the same members are one
 pub same_lists : (w : ℕ) (ps qs : List PrefixValue) → Ascends w ps → Ascends w qs
@@ -38,7 +32,8 @@ same_lists w (p ∷ ps) (q ∷ qs) a b f g =
     cc
 
 -- a set has one cover list
-pub one_cover_list : (w : ℕ) (S : ℕ → Type 0) (ps qs : List PrefixValue) → IsCoverList w S ps → IsCoverList w S qs → ps ≡ qs
+pub one_cover_list : (w : ℕ) (S : ℕ → Type 0) (ps qs : List PrefixValue) → IsCoverList w S ps → IsCoverList w S qs
+    → ps ≡ qs
 one_cover_list w S ps qs c d = same_lists w ps qs c.ascending d.ascending
     (λ p i. in_of qs p ((d.members p).1 ((c.members p).0 (of_in ps p i))))
     (λ p i. in_of ps p ((c.members p).1 ((d.members p).0 (of_in qs p i))))

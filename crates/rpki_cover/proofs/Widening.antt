@@ -1,16 +1,11 @@
 -- Cover lists of IPv4 addresses, at width 32 and as prefixes of addresses of 128 bits.
-use Rattle.std.proofs.Common.{◌≡◌, ℕ, suc, zero, ◌+◌, ◌-◌, ◌*◌, ◌/◌, ◌%◌, ◌^◌, ◌<◌, ◌≤◌, List, ◌∷◌, map, sym, ◌∙◌, ap, subst, refl, arith, inl, inr}
-use Rattle.std.proofs.lemmas.Bool.{cases_lt, le-leb, lt-leb}
-use Rattle.std.proofs.lemmas.Nat.{pow_pos, pow-add}
-use Rattle.rpki_addr.specs.Prefixes.{PrefixValue, IsPrefix}
+use Rattle.rpki_cover.proofs.Common.{List, ap, arith, inl, inr, map, refl, subst, suc, sym, zero, ℕ, ◌%◌, ◌*◌, ◌+◌, ◌-◌, ◌/◌, ◌<◌, ◌^◌, ◌∙◌, ◌∷◌, ◌≡◌, ◌≤◌, cases_lt, le-leb, lt-leb, pow-add, pow_pos, IsPrefix, PrefixValue, IsCoverList, IsShortestCover, widened, cover_list, cover_list_upto, free_bits_upto}
 use Rattle.rpki_cover.proofs.CoverList.{head_prefix, same_prefix}
 use Rattle.rpki_cover.proofs.Greatest.{Fits, IsGreatest, free_bits_upto_is, same_greatest}
 use Rattle.rpki_cover.proofs.Multiples.{IsMultiple, multiple_mod, mod_multiple}
 use Rattle.rpki_cover.proofs.Nesting.{InRange}
 use Rattle.rpki_cover.proofs.Shortest.{range_cover}
 use Rattle.rpki_cover.proofs.Steps.{cover_list_fuel}
-use Rattle.rpki_cover.specs.Covers.{IsCoverList, IsShortestCover, widened}
-use Rattle.rpki_cover.specs.Walk.{free_bits_upto, cover_list_upto, cover_list}
 
 -- the last address of the IPv4 address b
 abbrev pub last_v4 : ℕ → ℕ
@@ -70,11 +65,13 @@ wide_greatest w v a b k ew ev g =
       ];
     }
 
-wide_host : (w v a b : ℕ) → w ≡ 128 → v ≡ 32 → a ≤ b → free_bits_upto w (a * 2 ^ 96) (last_v4 b) ≡ free_bits_upto v a b + 96
+wide_host : (w v a b : ℕ) → w ≡ 128 → v ≡ 32 → a ≤ b
+    → free_bits_upto w (a * 2 ^ 96) (last_v4 b) ≡ free_bits_upto v a b + 96
 wide_host w v a b ew ev h = same_greatest w (a * 2 ^ 96) (last_v4 b) (free_bits_upto w (a * 2 ^ 96) (last_v4 b)) (free_bits_upto v a b + 96)
     (free_bits_upto_is w (a * 2 ^ 96) (last_v4 b) (omega arith)) (wide_greatest w v a b (free_bits_upto v a b) ew ev (free_bits_upto_is v a b h))
 
-wide_upto : (n w v a b : ℕ) → w ≡ 128 → v ≡ 32 → cover_list_upto n w (a * 2 ^ 96) (last_v4 b) ≡ map widened (cover_list_upto n v a b)
+wide_upto : (n w v a b : ℕ) → w ≡ 128 → v ≡ 32
+    → cover_list_upto n w (a * 2 ^ 96) (last_v4 b) ≡ map widened (cover_list_upto n v a b)
 wide_upto zero w v a b ew ev = refl
 wide_upto (suc n) w v a b ew ev =
     elim (cases_lt b a) [

@@ -1,10 +1,5 @@
 -- Contents: what the reading answers is what the conditions of X.690 say, and that is how they are spelled.
-use Rattle.std.proofs.Common.{◌≡◌, ℕ, zero, suc, ◌-◌, ◌^◌, ◌<◌, ◌≤◌, ◌≢◌, Bool, true, false, cond, eqb, ltb, ◌&&◌, List, [], ◌∷◌, ◌++◌, length, get_or, drop, Ok, refl, sym, ap, subst, ◌∙◌, arith, inl, inr}
-use Rattle.std.specs.Int.{w64, to_be_bytes, bytes_high_first}
-use Rattle.std.proofs.lemmas.Bool.{cases_lt, ltb-false, ltb-true, le-ltb, lt-ltb, eqb-false, ne_eqb, leb-false, lt-leb, or_parts, or_from}
-use Rattle.std.proofs.lemmas.List.{drop_at, length-append}
-use Rattle.rpki_der.specs.Der.{IsBytes, big_endian, octets, integer, with_sign, without_zeros, Bits, IsBits, IsUnsigned, IsBitContent, IsNothing}
-use Rattle.rpki_der.specs.Reading.{unsigned, bits, nothing}
+use Rattle.rpki_der.proofs.Common.{Bool, List, Ok, [], ap, arith, cond, drop, eqb, false, get_or, inl, inr, length, ltb, refl, subst, suc, sym, true, zero, ℕ, ◌&&◌, ◌++◌, ◌-◌, ◌<◌, ◌^◌, ◌∙◌, ◌∷◌, ◌≡◌, ◌≢◌, ◌≤◌, cases_lt, eqb-false, le-ltb, leb-false, lt-leb, lt-ltb, ltb-false, ltb-true, ne_eqb, or_from, or_parts, drop_at, length-append, bytes_high_first, to_be_bytes, w64, Bits, IsBitContent, IsBits, IsBytes, IsNothing, IsUnsigned, big_endian, integer, octets, with_sign, without_zeros, bits, nothing, unsigned}
 use Rattle.rpki_der.proofs.Steps.{IsCheck, IsBytes-rest, passed, passed_true, ok_is, one_false, and_false}
 use Rattle.rpki_der.proofs.Numbers.{octets-big_endian, big_endian-octets, octets-zero, octets_head, length-without_zeros}
 
@@ -24,7 +19,8 @@ first_set : (a b : Bool) → a ≡ false → (a && b) ≡ false
 first_set v0 b e = grind (arith)
 
 -- of two or more octets, one that begins with zero goes on with a bit that is 1
-not_long : (content : List ℕ) (n : ℕ) → IsUnsigned content n → (ltb 1 (length content) && (eqb (get_or content 0 0) 0) && ltb (get_or content 1 0) 128) ≡ false
+not_long : (content : List ℕ) (n : ℕ) → IsUnsigned content n
+    → (ltb 1 (length content) && (eqb (get_or content 0 0) 0) && ltb (get_or content 1 0) 128) ≡ false
 not_long v0 n is = grind (arith, and_false, first_set, le-ltb, ne_eqb, one_alone)
 
 -- a number that meets the conditions is read
@@ -39,7 +35,8 @@ unsigned_check = record { takes = λ content n fits e. unsigned_says content n e
 -- ---- an integer: the conditions and the spelling
 
 -- the conditions leave one spelling, by the first octets
-spelled_of : (content : List ℕ) → IsBytes content → IsUnsigned content (big_endian content) → content ≡ integer (big_endian content)
+spelled_of : (content : List ℕ) → IsBytes content → IsUnsigned content (big_endian content)
+    → content ≡ integer (big_endian content)
 unfolding integer
 spelled_of [] fits is = absurd (omega (arith, is.some))
 spelled_of (zero ∷ []) fits is = rw octets-zero refl
@@ -67,7 +64,8 @@ unfolding octets
 length-octets_32 n lt = rw (high_zero n lt) (length-without_zeros (bytes_high_first 4 n))
 
 -- octets that begin with no zero, with a zero in front where their first bit is 1
-says_signed : (n d : ℕ) (ds : List ℕ) → n < 2 ^ 32 → big_endian (d ∷ ds) ≡ n → length (d ∷ ds) ≤ 4 → d ≢ 0 → (b : Bool) → ltb d 128 ≡ b → IsUnsigned (cond b (d ∷ ds) (0 ∷ d ∷ ds)) n
+says_signed : (n d : ℕ) (ds : List ℕ) → n < 2 ^ 32 → big_endian (d ∷ ds) ≡ n → length (d ∷ ds) ≤ 4 → d ≢ 0 → (b : Bool)
+    → ltb d 128 ≡ b → IsUnsigned (cond b (d ∷ ds) (0 ∷ d ∷ ds)) n
 says_signed n d ds lt back few nonzero v7 low = grind (arith, ltb-false, ltb-true)
 
 -- the same for a number, which may have no octets

@@ -1,26 +1,24 @@
 -- From the reading to the grammar, for the calls on a cursor and on a content.
-use Rattle.std.proofs.Common.{◌≡◌, ℕ, List, Option, Some, None, Result, Ok, Err, option_map, ap, ◌∙◌}
-use Rattle.rpki_der.specs.declared.cursor.Cursor.{Cursor}
-use Rattle.rpki_der.specs.declared.error.DerError.{DerError}
-use Rattle.rpki_der.specs.Der.{IsBytes, NoFront}
-use Rattle.rpki_der.specs.Reading.{Gives, IsReading, optional}
-use Rattle.rpki_der.specs.Views.{left, Takes, ReadsValue, ReadsOptional, Parses}
+use Rattle.rpki_der.proofs.Common.{Err, List, None, Ok, Option, Result, Some, ap, option_map, ℕ, ◌∙◌, ◌≡◌, IsBytes, NoFront, Gives, IsReading, optional, Parses, ReadsOptional, ReadsValue, Takes, left, Cursor, DerError}
 use Rattle.rpki_der.proofs.Steps.{IsCheck, ok_or_err}
 use Rattle.rpki_der.proofs.Lists.{optional_some, optional_none, optional_err}
 
 -- a reading that fails finds no value of its grammar
-pub none_by : {X : Type 0} (G : List ℕ → X → Type 0) (reading : List ℕ → Result (X × List ℕ) DerError) (bytes : List ℕ) (e : DerError) → IsReading G reading → reading bytes ≡ Err e → NoFront G bytes
+pub none_by : {X : Type 0} (G : List ℕ → X → Type 0) (reading : List ℕ → Result (X × List ℕ) DerError) (bytes : List ℕ)
+    (e : DerError) → IsReading G reading → reading bytes ≡ Err e → NoFront G bytes
 none_by G reading bytes e is failed = λ x rest found. ok_or_err (x, rest) e (reading bytes) (ap reading found.2 ∙ is.again found.0 x rest found.1) failed
 
 -- a take that answers what the reading gives answers the value of its grammar
-pub reads_by : {X Y : Type 0} (G : List ℕ → Y → Type 0) (reading : List ℕ → Result (Y × List ℕ) DerError) (view : X → Y) (old new : Cursor) (result : Result X DerError)
-    → IsReading G reading → IsBytes (left old) → Takes view old new result reading → ReadsValue G view old new result
+pub reads_by : {X Y : Type 0} (G : List ℕ → Y → Type 0) (reading : List ℕ → Result (Y × List ℕ) DerError) (view : X → Y)
+    (old new : Cursor) (result : Result X DerError) → IsReading G reading → IsBytes (left old)
+    → Takes view old new result reading → ReadsValue G view old new result
 reads_by G reading view old new (Ok x) is fits took = is.takes (left old) (view x) (left new) fits took
 reads_by G reading view old new (Err e) is fits took = (none_by G reading (left old) e is took.0, took.1)
 
 -- the same for a take that answers None at the end
-pub reads_optional_by : {X Y : Type 0} (G : List ℕ → Y → Type 0) (reading : List ℕ → Result (Y × List ℕ) DerError) (view : X → Y) (old new : Cursor) (result : Result (Option X) DerError)
-    → IsReading G reading → IsBytes (left old) → Takes (λ o. option_map view o) old new result (optional reading) → ReadsOptional G view old new result
+pub reads_optional_by : {X Y : Type 0} (G : List ℕ → Y → Type 0) (reading : List ℕ → Result (Y × List ℕ) DerError)
+    (view : X → Y) (old new : Cursor) (result : Result (Option X) DerError) → IsReading G reading → IsBytes (left old)
+    → Takes (λ o. option_map view o) old new result (optional reading) → ReadsOptional G view old new result
 reads_optional_by G reading view old new (Ok None) is fits took = optional_none reading (left old) (left new) took
 reads_optional_by G reading view old new (Ok (Some x)) is fits took =
     let found = optional_some reading (left old) (view x) (left new) took in
@@ -30,7 +28,8 @@ reads_optional_by G reading view old new (Err e) is fits took =
     (failed.0, none_by G reading (left old) e is failed.1, took.1)
 
 -- the same for a content and its rule
-pub parses_by : {X Y : Type 0} (Fits : List ℕ → Type 0) (C : List ℕ → Y → Type 0) (check : List ℕ → Result Y DerError) (view : X → Y) (octets : List ℕ) (result : Result X DerError)
-    → IsCheck Fits C check → Fits octets → Gives view result (check octets) → Parses C view octets result
+pub parses_by : {X Y : Type 0} (Fits : List ℕ → Type 0) (C : List ℕ → Y → Type 0) (check : List ℕ → Result Y DerError)
+    (view : X → Y) (octets : List ℕ) (result : Result X DerError) → IsCheck Fits C check → Fits octets
+    → Gives view result (check octets) → Parses C view octets result
 parses_by Fits C check view octets (Ok x) is fits gives = is.takes octets (view x) fits gives
 parses_by Fits C check view octets (Err e) is fits gives = λ y says. ok_or_err y e (check octets) (is.again octets y says) gives

@@ -1,11 +1,5 @@
 -- Lengths: what the reading answers is what the conditions of X.690 say, and that is how they are spelled.
-use Rattle.std.proofs.Common.{◌≡◌, ℕ, zero, suc, ◌+◌, ◌-◌, ◌^◌, ◌<◌, ◌≤◌, ◌≢◌, Bool, true, false, cond, eqb, ltb, ◌||◌, List, [], ◌∷◌, ◌++◌, length, get_or, take, drop, Result, Ok, Err, refl, sym, ap, subst, ◌∙◌, arith, inl, inr}
-use Rattle.std.proofs.lemmas.Bool.{ltb-false, ltb-true, le-ltb, lt-ltb, eqb-false, ne_eqb, or_parts, or_from}
-use Rattle.std.proofs.lemmas.List.{take_at, drop_at, take-append-drop, length-append, length-take, get_or_append_left}
-use Rattle.rpki_der.specs.declared.error.DerError.{DerError}
-use Rattle.rpki_der.specs.declared.error.DerError.TheVariants.{Truncated, BadLength}
-use Rattle.rpki_der.specs.Der.{IsBytes, big_endian, octets, length_octets, IsLength, IsLongLength, Front}
-use Rattle.rpki_der.specs.Reading.{long_length_at, length_at}
+use Rattle.rpki_der.proofs.Common.{Bool, Err, List, Ok, Result, [], ap, arith, cond, drop, eqb, false, get_or, inl, inr, length, ltb, refl, subst, suc, sym, take, true, zero, ℕ, ◌++◌, ◌+◌, ◌-◌, ◌<◌, ◌^◌, ◌||◌, ◌∙◌, ◌∷◌, ◌≡◌, ◌≢◌, ◌≤◌, eqb-false, le-ltb, lt-ltb, ltb-false, ltb-true, ne_eqb, or_from, or_parts, drop_at, get_or_append_left, length-append, length-take, take-append-drop, take_at, Front, IsBytes, IsLength, IsLongLength, big_endian, length_octets, octets, length_at, long_length_at, DerError, BadLength, Truncated}
 use Rattle.rpki_der.proofs.Steps.{IsBytes-rest, fits_front, passed, ok_is}
 use Rattle.rpki_der.proofs.Numbers.{octets-big_endian, big_endian-octets, big_endian_small, length-octets, octets_head}
 
@@ -18,7 +12,8 @@ get_or-take_first (suc n) [] pos = refl
 get_or-take_first (suc n) (b ∷ bs) pos = refl
 
 -- a length that is read from further octets meets the conditions
-long_says : (first : ℕ) (bytes : List ℕ) (n : ℕ) (rest : List ℕ) → 128 ≤ first → long_length_at (first - 128) bytes ≡ Ok (n, rest)
+long_says : (first : ℕ) (bytes : List ℕ) (n : ℕ) (rest : List ℕ) → 128 ≤ first
+    → long_length_at (first - 128) bytes ≡ Ok (n, rest)
     → (digits : List ℕ) × IsLongLength first digits n × (bytes ≡ digits ++ rest)
 unfolding long_length_at
 long_says first bytes n rest large e =
@@ -50,7 +45,8 @@ long_says first bytes n rest large e =
 
 -- by the first octet, below 128 or not
 length_by : (first : ℕ) (bytes : List ℕ) (n : ℕ) (rest : List ℕ) (b : Bool) → ltb first 128 ≡ b
-    → cond b (Ok (first, bytes)) (long_length_at (first - 128) bytes) ≡ Ok (n, rest) → Front IsLength (first ∷ bytes) n rest
+    → cond b (Ok (first, bytes)) (long_length_at (first - 128) bytes) ≡ Ok (n, rest)
+    → Front IsLength (first ∷ bytes) n rest
 length_by first bytes n rest true t e =
     let made = ok_is (first, bytes) (n, rest) e in
     let n-is : first ≡ n = ap (λ (p : ℕ × List ℕ). p.0) made in
@@ -72,7 +68,8 @@ has_some [] h = absurd (h refl)
 has_some (d ∷ ds) h = omega arith
 
 -- a length in further octets that meets the conditions is read
-says_long : (first : ℕ) (ds : List ℕ) (n : ℕ) (rest : List ℕ) → IsLongLength first ds n → long_length_at (length ds) (ds ++ rest) ≡ Ok (n, rest)
+says_long : (first : ℕ) (ds : List ℕ) (n : ℕ) (rest : List ℕ) → IsLongLength first ds n
+    → long_length_at (length ds) (ds ++ rest) ≡ Ok (n, rest)
 unfolding long_length_at
 says_long first ds n rest is =
     let some : 0 < length ds = has_some ds is.no_zero in
@@ -97,7 +94,8 @@ says_length (first ∷ digits) n rest (inr is) =
 -- ---- the conditions and the spelling
 
 -- the conditions leave one spelling, of a length below 2 ^ 64
-pub length_spelled : (bytes : List ℕ) (n : ℕ) → IsBytes bytes → IsLength bytes n → (bytes ≡ length_octets n) × (n < 2 ^ 64)
+pub length_spelled : (bytes : List ℕ) (n : ℕ) → IsBytes bytes → IsLength bytes n
+    → (bytes ≡ length_octets n) × (n < 2 ^ 64)
 unfolding length_octets
 length_spelled [] n fits is = absurd is
 length_spelled (first ∷ digits) n fits (inl is) =
@@ -110,7 +108,8 @@ length_spelled (first ∷ digits) n fits (inr is) =
     (rw (not, are, is.count) refl, rw (← is.spelled) (big_endian_small digits inside is.few))
 
 -- by the size of the length, below 128 or not
-by_size : (n : ℕ) → n < 2 ^ 64 → (b : Bool) → ltb n 128 ≡ b → IsLength (cond b (n ∷ []) ((128 + length (octets n)) ∷ octets n)) n
+by_size : (n : ℕ) → n < 2 ^ 64 → (b : Bool) → ltb n 128 ≡ b
+    → IsLength (cond b (n ∷ []) ((128 + length (octets n)) ∷ octets n)) n
 by_size n lt true t = inl (ltb-true n 128 t, refl, refl)
 by_size n lt false t =
     let large : 128 ≤ n = ltb-false n 128 t in
@@ -124,7 +123,8 @@ spelled_length n lt = by_size n lt (ltb n 128) refl
 -- ---- the reading and the spelling
 
 -- a length that is read is spelled so
-pub length_takes : (bytes : List ℕ) (n : ℕ) (rest : List ℕ) → IsBytes bytes → length_at bytes ≡ Ok (n, rest) → (bytes ≡ length_octets n ++ rest) × (n < 2 ^ 64)
+pub length_takes : (bytes : List ℕ) (n : ℕ) (rest : List ℕ) → IsBytes bytes → length_at bytes ≡ Ok (n, rest)
+    → (bytes ≡ length_octets n ++ rest) × (n < 2 ^ 64)
 length_takes bytes n rest fits e =
     let found = length_says bytes n rest e in
     let is = length_spelled found.0 n (fits_front found.0 rest (subst IsBytes found.2 fits)) found.1 in

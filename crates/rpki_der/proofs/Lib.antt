@@ -1,3 +1,4 @@
+pub mod Common
 pub mod Steps
 pub mod Numbers
 pub mod Contents

@@ -1,9 +1,5 @@
 -- Values one after another to the end of the octets, each read in the state that the values before it led to.
-use Rattle.std.proofs.Common.{◌≡◌, ◌≢◌, ℕ, zero, suc, ◌<◌, ◌≤◌, List, [], ◌∷◌, ◌++◌, length, Option, Some, None, Result, Ok, Err, refl, sym, ap, subst, ◌∙◌, append_assoc, arith}
-use Rattle.std.proofs.lemmas.List.{length-append, append-nil}
-use Rattle.rpki_der.specs.declared.error.DerError.{DerError}
-use Rattle.rpki_der.specs.Der.{IsBytes, IsValue, header, Front, EachFrom}
-use Rattle.rpki_der.specs.Reading.{◌>>=◌, each_from, optional, IsReading}
+use Rattle.rpki_der.proofs.Common.{Err, List, None, Ok, Option, Result, Some, [], ap, append_assoc, arith, length, refl, subst, suc, sym, zero, ℕ, ◌++◌, ◌<◌, ◌∙◌, ◌∷◌, ◌≡◌, ◌≢◌, ◌≤◌, append-nil, length-append, EachFrom, Front, IsBytes, IsValue, header, IsReading, each_from, optional, ◌>>=◌, DerError}
 use Rattle.rpki_der.proofs.Steps.{bind_ok, ok_is}
 use Rattle.rpki_der.proofs.Readings.{fits_rest}
 
@@ -17,20 +13,24 @@ unfolding header
 value_has_octets bytes tag content is = rw is.spelled (omega arith)
 
 -- behind a value fewer octets are left
-pub shorter : {X : Type 0} (G : List ℕ → X → Type 0) → HasOctets G → (bytes : List ℕ) (x : X) (rest : List ℕ) → Front G bytes x rest → length rest < length bytes
+pub shorter : {X : Type 0} (G : List ℕ → X → Type 0) → HasOctets G → (bytes : List ℕ) (x : X) (rest : List ℕ)
+    → Front G bytes x rest → length rest < length bytes
 shorter G has bytes x rest found = let some = has found.0 x found.1 in omega (arith, length-append found.0 rest, ap length found.2)
 
 -- ---- the reading and the grammar
 
 -- at the end nothing more is read
-pub each-nil : {S X : Type 0} (next : S → X → S) (steps : ℕ) (reading : S → List ℕ → Result (X × List ℕ) DerError) (state : S) → each_from next steps reading state [] ≡ Ok []
+pub each-nil : {S X : Type 0} (next : S → X → S) (steps : ℕ) (reading : S → List ℕ → Result (X × List ℕ) DerError)
+    (state : S) → each_from next steps reading state [] ≡ Ok []
 unfolding each_from
 each-nil next zero reading state = refl
 each-nil next (suc steps) reading state = refl
 
 -- values that are read are those of the grammar
-pub each_takes : {S X : Type 0} (next : S → X → S) (G : S → List ℕ → X → Type 0) (reading : S → List ℕ → Result (X × List ℕ) DerError) → ((state : S) → IsReading (G state) (reading state))
-    → (steps : ℕ) (state : S) (bytes : List ℕ) (xs : List X) → IsBytes bytes → each_from next steps reading state bytes ≡ Ok xs → EachFrom next G state bytes xs
+pub each_takes : {S X : Type 0} (next : S → X → S) (G : S → List ℕ → X → Type 0)
+    (reading : S → List ℕ → Result (X × List ℕ) DerError) → ((state : S) → IsReading (G state) (reading state))
+    → (steps : ℕ) (state : S) (bytes : List ℕ) (xs : List X) → IsBytes bytes
+    → each_from next steps reading state bytes ≡ Ok xs → EachFrom next G state bytes xs
 unfolding each_from
 each_takes next G reading is zero state [] xs fits e = subst (EachFrom next G state []) (ok_is [] xs e) refl
 each_takes next G reading is (suc steps) state [] xs fits e = subst (EachFrom next G state []) (ok_is [] xs e) refl
@@ -43,8 +43,10 @@ each_takes next G reading is (suc steps) state (b ∷ bytes) xs fits e =
     subst (EachFrom next G state (b ∷ bytes)) (ok_is (first.0.0 ∷ others.0) xs others.2) (first.0.1, found, after)
 
 -- values of the grammar are read
-pub each_again : {S X : Type 0} (next : S → X → S) (G : S → List ℕ → X → Type 0) (reading : S → List ℕ → Result (X × List ℕ) DerError) → ((state : S) → IsReading (G state) (reading state)) → ((state : S) → HasOctets (G state))
-    → (xs : List X) (steps : ℕ) (state : S) (bytes : List ℕ) → length bytes ≤ steps → EachFrom next G state bytes xs → each_from next steps reading state bytes ≡ Ok xs
+pub each_again : {S X : Type 0} (next : S → X → S) (G : S → List ℕ → X → Type 0)
+    (reading : S → List ℕ → Result (X × List ℕ) DerError) → ((state : S) → IsReading (G state) (reading state))
+    → ((state : S) → HasOctets (G state)) → (xs : List X) (steps : ℕ) (state : S) (bytes : List ℕ)
+    → length bytes ≤ steps → EachFrom next G state bytes xs → each_from next steps reading state bytes ≡ Ok xs
 unfolding each_from
 each_again next G reading is has [] steps state bytes le all = ap (each_from next steps reading state) all ∙ each-nil next steps reading state
 each_again next G reading is has (x ∷ xs) steps state [] le all =
@@ -70,13 +72,16 @@ pub record SoFar {S X : Type 0} (next : S → X → S) (reading : S → List ℕ
   pub whole : with_front front (each_from next steps reading state bytes) ≡ total
 
 -- one more value, put behind those read so far
-with_one : {X : Type 0} (front : List X) (x : X) (read : Result (List X) DerError) → with_front front (read >>= λ xs. Ok (x ∷ xs)) ≡ with_front (front ++ x ∷ []) read
+with_one : {X : Type 0} (front : List X) (x : X) (read : Result (List X) DerError)
+    → with_front front (read >>= λ xs. Ok (x ∷ xs)) ≡ with_front (front ++ x ∷ []) read
 with_one front x (Ok xs) = ap (λ (ys : List _). Ok ys) (sym (append_assoc front (x ∷ []) xs))
 with_one front x (Err e) = refl
 
 -- a turn, by the steps that are left
-more_by : {S X : Type 0} (next : S → X → S) (reading : S → List ℕ → Result (X × List ℕ) DerError) (front : List X) (state : S) (b : ℕ) (bytes : List ℕ) (total : Result (List X) DerError) (x : X) (rest : List ℕ) (steps : ℕ)
-    → length (b ∷ bytes) ≤ steps → with_front front (each_from next steps reading state (b ∷ bytes)) ≡ total → reading state (b ∷ bytes) ≡ Ok (x, rest) → length rest < length (b ∷ bytes)
+more_by : {S X : Type 0} (next : S → X → S) (reading : S → List ℕ → Result (X × List ℕ) DerError) (front : List X)
+    (state : S) (b : ℕ) (bytes : List ℕ) (total : Result (List X) DerError) (x : X) (rest : List ℕ) (steps : ℕ)
+    → length (b ∷ bytes) ≤ steps → with_front front (each_from next steps reading state (b ∷ bytes)) ≡ total
+    → reading state (b ∷ bytes) ≡ Ok (x, rest) → length rest < length (b ∷ bytes)
     → SoFar next reading (front ++ x ∷ []) (next state x) rest total
 unfolding each_from
 more_by next reading front state b bytes total x rest zero enough whole read fewer = absurd (omega arith)
@@ -85,26 +90,31 @@ more_by next reading front state b bytes total x rest (suc steps) enough whole r
     record { steps = steps; enough = omega arith; whole = sym (one ∙ with_one front x (each_from next steps reading (next state x) rest)) ∙ whole }
 
 -- a turn that reads a value
-pub loop_more : {S X : Type 0} (next : S → X → S) (reading : S → List ℕ → Result (X × List ℕ) DerError) (front : List X) (state : S) (bytes : List ℕ) (total : Result (List X) DerError) (x : X) (rest : List ℕ)
-    → SoFar next reading front state bytes total → reading state bytes ≡ Ok (x, rest) → length rest < length bytes → SoFar next reading (front ++ x ∷ []) (next state x) rest total
+pub loop_more : {S X : Type 0} (next : S → X → S) (reading : S → List ℕ → Result (X × List ℕ) DerError) (front : List X)
+    (state : S) (bytes : List ℕ) (total : Result (List X) DerError) (x : X) (rest : List ℕ)
+    → SoFar next reading front state bytes total → reading state bytes ≡ Ok (x, rest) → length rest < length bytes
+    → SoFar next reading (front ++ x ∷ []) (next state x) rest total
 loop_more next reading front state [] total x rest so read fewer = absurd (omega arith)
 loop_more next reading front state (b ∷ bytes) total x rest so read fewer = more_by next reading front state b bytes total x rest so.steps so.enough so.whole read fewer
 
 -- at the end of the octets the values read so far are all
-pub loop_ends : {S X : Type 0} (next : S → X → S) (reading : S → List ℕ → Result (X × List ℕ) DerError) (front : List X) (state : S) (bytes : List ℕ) (total : Result (List X) DerError)
-    → SoFar next reading front state bytes total → bytes ≡ [] → total ≡ Ok front
+pub loop_ends : {S X : Type 0} (next : S → X → S) (reading : S → List ℕ → Result (X × List ℕ) DerError) (front : List X)
+    (state : S) (bytes : List ℕ) (total : Result (List X) DerError) → SoFar next reading front state bytes total
+    → bytes ≡ [] → total ≡ Ok front
 loop_ends next reading front state bytes total so none =
     sym so.whole ∙ ap (λ (t : List ℕ). with_front front (each_from next so.steps reading state t)) none ∙ ap (with_front front) (each-nil next so.steps reading state) ∙ ap (λ (ys : List _). Ok ys) (append-nil front)
 
 -- a turn that fails, by the steps that are left
-fails_by : {S X : Type 0} (next : S → X → S) (reading : S → List ℕ → Result (X × List ℕ) DerError) (front : List X) (state : S) (b : ℕ) (bytes : List ℕ) (e : DerError) (steps : ℕ)
-    → length (b ∷ bytes) ≤ steps → reading state (b ∷ bytes) ≡ Err e → with_front front (each_from next steps reading state (b ∷ bytes)) ≡ Err e
+fails_by : {S X : Type 0} (next : S → X → S) (reading : S → List ℕ → Result (X × List ℕ) DerError) (front : List X)
+    (state : S) (b : ℕ) (bytes : List ℕ) (e : DerError) (steps : ℕ) → length (b ∷ bytes) ≤ steps
+    → reading state (b ∷ bytes) ≡ Err e → with_front front (each_from next steps reading state (b ∷ bytes)) ≡ Err e
 unfolding each_from
 fails_by next reading front state b bytes e zero enough read = absurd (omega arith)
 fails_by next reading front state b bytes e (suc steps) enough read = rw read refl
 
 -- a turn that fails is what the whole fails with
-pub loop_fails : {S X : Type 0} (next : S → X → S) (reading : S → List ℕ → Result (X × List ℕ) DerError) (front : List X) (state : S) (bytes : List ℕ) (total : Result (List X) DerError) (e : DerError)
+pub loop_fails : {S X : Type 0} (next : S → X → S) (reading : S → List ℕ → Result (X × List ℕ) DerError)
+    (front : List X) (state : S) (bytes : List ℕ) (total : Result (List X) DerError) (e : DerError)
     → SoFar next reading front state bytes total → bytes ≢ [] → reading state bytes ≡ Err e → total ≡ Err e
 loop_fails next reading front state [] total e so some read = absurd (some refl)
 loop_fails next reading front state (b ∷ bytes) total e so some read = sym so.whole ∙ fails_by next reading front state b bytes e so.steps so.enough read
@@ -125,7 +135,8 @@ some_err (Ok x) e h = absurd cc
 some_err (Err d) e h = cc
 
 -- Some is what the reading gives before the end
-pub optional_some : {X : Type 0} (reading : List ℕ → Result (X × List ℕ) DerError) (bytes : List ℕ) (x : X) (rest : List ℕ) → optional reading bytes ≡ Ok (Some x, rest) → (bytes ≢ []) × (reading bytes ≡ Ok (x, rest))
+pub optional_some : {X : Type 0} (reading : List ℕ → Result (X × List ℕ) DerError) (bytes : List ℕ) (x : X)
+    (rest : List ℕ) → optional reading bytes ≡ Ok (Some x, rest) → (bytes ≢ []) × (reading bytes ≡ Ok (x, rest))
 unfolding optional
 optional_some reading [] x rest e = let h = ap (λ p. p.0) (ok_is (None, []) (Some x, rest) e) in absurd cc
 optional_some reading (b ∷ bytes) x rest e =
@@ -136,7 +147,8 @@ optional_some reading (b ∷ bytes) x rest e =
     ((λ z. absurd cc), a.1 ∙ ap (λ y. Ok (y, a.0.1)) first ∙ ap (λ (t : List ℕ). Ok (x, t)) second)
 
 -- None is at the end, and nothing is left
-pub optional_none : {X : Type 0} (reading : List ℕ → Result (X × List ℕ) DerError) (bytes rest : List ℕ) → optional reading bytes ≡ Ok (None, rest) → (bytes ≡ []) × (rest ≡ [])
+pub optional_none : {X : Type 0} (reading : List ℕ → Result (X × List ℕ) DerError) (bytes rest : List ℕ)
+    → optional reading bytes ≡ Ok (None, rest) → (bytes ≡ []) × (rest ≡ [])
 unfolding optional
 optional_none reading [] rest e = (refl, ap (λ p. p.1) (sym (ok_is (None, []) (None, rest) e)))
 optional_none reading (b ∷ bytes) rest e =
@@ -145,7 +157,8 @@ optional_none reading (b ∷ bytes) rest e =
     absurd cc
 
 -- a fault is what the reading gives before the end
-pub optional_err : {X : Type 0} (reading : List ℕ → Result (X × List ℕ) DerError) (bytes : List ℕ) (e : DerError) → optional reading bytes ≡ Err e → (bytes ≢ []) × (reading bytes ≡ Err e)
+pub optional_err : {X : Type 0} (reading : List ℕ → Result (X × List ℕ) DerError) (bytes : List ℕ) (e : DerError)
+    → optional reading bytes ≡ Err e → (bytes ≢ []) × (reading bytes ≡ Err e)
 unfolding optional
 optional_err reading [] e h = absurd cc
 optional_err reading (b ∷ bytes) e h = ((λ z. absurd cc), some_err (reading (b ∷ bytes)) e h)

@@ -1,14 +1,7 @@
 -- Readings by the mode: leniently what is read without one, and strictly that or NotCanonical.
-use Rattle.std.proofs.Common.{◌≡◌, ℕ, zero, suc, ◌%◌, ◌^◌, Bool, true, false, cond, List, [], ◌∷◌, Option, Result, Ok, Err, refl, sym, subst, inl, inr, arith}
+use Rattle.rpki_der.proofs.Common.{Bool, Err, List, Ok, Option, Result, [], arith, cond, false, inl, inr, refl, subst, suc, sym, true, zero, ℕ, ◌%◌, ◌^◌, ◌∷◌, ◌≡◌, eq-eqb, eqb-true, Bits, HasNone, IsBitContent, IsBitString, IsPadded, NoFront, Refines, Where, bit_content, last_octet, Gives, IsModal, IsReading, Tightens, bit_string_at, bit_string_by, bits, bits_by, each_from, is_padded, optional, passing, refined, tagged_at, ◌>>=◌, Lenient, NotCanonicalInOr, NotCanonicalOr, Takes, content_octets, is_strict, is_strict_in, Cursor, DerError, NotCanonical}
 use Rattle.std.specs.Prelude.{◌⊎◌}
-use Rattle.std.proofs.lemmas.Bool.{eqb-true, eq-eqb}
-use Rattle.rpki_der.specs.declared.cursor.Cursor.{Cursor}
-use Rattle.rpki_der.specs.declared.error.DerError.{DerError}
-use Rattle.rpki_der.specs.declared.error.DerError.TheVariants.{NotCanonical}
-use Rattle.rpki_der.specs.Der.{Bits, HasNone, IsBitContent, IsBitString, IsPadded, NoFront, Refines, Where, bit_content, last_octet}
-use Rattle.rpki_der.specs.Reading.{◌>>=◌, Gives, IsModal, IsReading, Tightens, bit_string_at, bit_string_by, bits, bits_by, each_from, is_padded, optional, passing, refined, tagged_at}
 use Rattle.rpki_der.specs.declared.content.Content.{Content}
-use Rattle.rpki_der.specs.Views.{Lenient, NotCanonicalInOr, NotCanonicalOr, Takes, content_octets, is_strict, is_strict_in}
 use Rattle.rpki_der.proofs.Contents.{bits_check}
 use Rattle.rpki_der.proofs.Cursors.{none_by}
 use Rattle.rpki_der.proofs.Lists.{optional_err}
@@ -26,56 +19,64 @@ pub same_found : {A : Type 0} (by found : Result A DerError) → Tightens false 
 same_found by found v2 = grind (arith)
 
 -- what is Ok is found
-pub found_is : {A : Type 0} (strict : Bool) (by found : Result A DerError) (x : A) → Tightens strict by found → by ≡ Ok x → found ≡ Ok x
+pub found_is : {A : Type 0} (strict : Bool) (by found : Result A DerError) (x : A) → Tightens strict by found
+    → by ≡ Ok x → found ≡ Ok x
 found_is strict by found x v4 ok = grind (arith, ok_or_err)
 
 -- a fault that isn't NotCanonical is found
-pub fault_is : {A : Type 0} (strict : Bool) (by found : Result A DerError) (e : DerError) → Tightens strict by found → by ≡ Err e → ((strict ≡ true) × (e ≡ NotCanonical)) ⊎ (found ≡ Err e)
+pub fault_is : {A : Type 0} (strict : Bool) (by found : Result A DerError) (e : DerError) → Tightens strict by found
+    → by ≡ Err e → ((strict ≡ true) × (e ≡ NotCanonical)) ⊎ (found ≡ Err e)
 fault_is strict by found e v4 failed = grind (arith, err_is)
 
 -- so leniently the readings are one
-pub lenient_is : {X : Type 0} (S : List ℕ → X → Type 0) (reading : List ℕ → Result (X × List ℕ) DerError) (by : Bool → List ℕ → Result (X × List ℕ) DerError) → IsModal S reading by → by false ≡ reading
+pub lenient_is : {X : Type 0} (S : List ℕ → X → Type 0) (reading : List ℕ → Result (X × List ℕ) DerError)
+    (by : Bool → List ℕ → Result (X × List ℕ) DerError) → IsModal S reading by → by false ≡ reading
 lenient_is S reading by is = λ i bytes. same_found (by false bytes) (reading bytes) (is.tightens false bytes) i
 
 -- ---- steps
 
 module _ {A B : Type 0} (strict : Bool) (by : Result A DerError) (found : Result A DerError) (f g : A → Result B DerError) where
   -- one step after another
-  pub bind_tightens : Tightens strict by found → ((x : A) → Tightens strict (f x) (g x)) → Tightens strict (by >>= f) (found >>= g)
+  pub bind_tightens : Tightens strict by found → ((x : A) → Tightens strict (f x) (g x))
+      → Tightens strict (by >>= f) (found >>= g)
   bind_tightens v0 more = grind (arith)
 
 -- one of two by a condition
-pub cond_tightens : {X : Type 0} (strict b : Bool) (p q r s : Result X DerError) → Tightens strict p r → Tightens strict q s → Tightens strict (cond b p q) (cond b r s)
+pub cond_tightens : {X : Type 0} (strict b : Bool) (p q r s : Result X DerError) → Tightens strict p r
+    → Tightens strict q s → Tightens strict (cond b p q) (cond b r s)
 cond_tightens strict v1 p q r s first second = grind (arith)
 
--- the same on both sides
-pub alike : {A : Type 0} (strict : Bool) (r : Result A DerError) → Tightens strict r r
-alike strict r = inl refl
-
 -- a test that is made strictly alone
-pub passing_tightens : {X : Type 0} (strict : Bool) (test : X → Bool) (x : X) → Tightens strict (passing strict test x) (Ok x)
+pub passing_tightens : {X : Type 0} (strict : Bool) (test : X → Bool) (x : X)
+    → Tightens strict (passing strict test x) (Ok x)
 unfolding passing
 passing_tightens v0 test x = grind (arith)
 
 -- behind what is found
-pub then_passing : {X : Type 0} (strict : Bool) (test : X → Bool) (r : Result X DerError) → Tightens strict (r >>= passing strict test) r
+pub then_passing : {X : Type 0} (strict : Bool) (test : X → Bool) (r : Result X DerError)
+    → Tightens strict (r >>= passing strict test) r
 then_passing strict test v2 = grind (arith, passing_tightens)
 
 -- what is looked at once more
-pub refined_tightens : {X Y : Type 0} (strict : Bool) (by reading : List ℕ → Result (X × List ℕ) DerError) (look check : X → Result Y DerError)
-    → ((bytes : List ℕ) → Tightens strict (by bytes) (reading bytes)) → ((x : X) → Tightens strict (look x) (check x))
-    → (bytes : List ℕ) → Tightens strict (refined by look bytes) (refined reading check bytes)
+pub refined_tightens : {X Y : Type 0} (strict : Bool) (by reading : List ℕ → Result (X × List ℕ) DerError)
+    (look check : X → Result Y DerError) → ((bytes : List ℕ) → Tightens strict (by bytes) (reading bytes))
+    → ((x : X) → Tightens strict (look x) (check x)) → (bytes : List ℕ)
+    → Tightens strict (refined by look bytes) (refined reading check bytes)
 unfolding refined
 refined_tightens strict by reading look check first second bytes = grind (arith, bind_tightens)
 
 -- a look at what a reading finds that is the same in both modes
-pub looked_tightens : {X Y : Type 0} (strict : Bool) (reading : List ℕ → Result (X × List ℕ) DerError) (look check : X → Result Y DerError)
-    → ((x : X) → Tightens strict (look x) (check x)) → (bytes : List ℕ) → Tightens strict (refined reading look bytes) (refined reading check bytes)
+pub looked_tightens : {X Y : Type 0} (strict : Bool) (reading : List ℕ → Result (X × List ℕ) DerError)
+    (look check : X → Result Y DerError) → ((x : X) → Tightens strict (look x) (check x)) → (bytes : List ℕ)
+    → Tightens strict (refined reading look bytes) (refined reading check bytes)
 looked_tightens strict reading look check second bytes = refined_tightens strict reading reading look check (λ bytes. inl refl) second bytes
 
 -- values one after another
-pub each_tightens : {S X : Type 0} (strict : Bool) (next : S → X → S) (by reading : S → List ℕ → Result (X × List ℕ) DerError) → ((state : S) (bytes : List ℕ) → Tightens strict (by state bytes) (reading state bytes))
-    → (steps : ℕ) (state : S) (bytes : List ℕ) → Tightens strict (each_from next steps by state bytes) (each_from next steps reading state bytes)
+pub each_tightens : {S X : Type 0} (strict : Bool) (next : S → X → S)
+    (by reading : S → List ℕ → Result (X × List ℕ) DerError)
+    → ((state : S) (bytes : List ℕ) → Tightens strict (by state bytes) (reading state bytes))
+    → (steps : ℕ) (state : S) (bytes : List ℕ)
+    → Tightens strict (each_from next steps by state bytes) (each_from next steps reading state bytes)
 unfolding each_from
 each_tightens strict next by reading one zero state [] = inl refl
 each_tightens strict next by reading one (suc steps) state [] = inl refl
@@ -101,14 +102,15 @@ unfolding passing
 passes test x e = rw e refl
 
 -- a rule, of what passes a test
-pub passing_check : {X Y : Type 0} (Fits : X → Type 0) (C : X → Y → Type 0) (P : Y → Type 0) (check : X → Result Y DerError) (test : Y → Bool)
-    → IsCheck Fits C check → ((y : Y) → test y ≡ true → P y) → ((y : Y) → P y → test y ≡ true)
-    → IsCheck Fits (λ x y. C x y × P y) (λ x. check x >>= passing true test)
+pub passing_check : {X Y : Type 0} (Fits : X → Type 0) (C : X → Y → Type 0) (P : Y → Type 0)
+    (check : X → Result Y DerError) (test : Y → Bool) → IsCheck Fits C check → ((y : Y) → test y ≡ true → P y)
+    → ((y : Y) → P y → test y ≡ true) → IsCheck Fits (λ x y. C x y × P y) (λ x. check x >>= passing true test)
 passing_check v0 v1 v2 check test is says back = grind (arith, bind_ok, passed_is, passes)
 
 -- what a reading finds, of that what passes a test
-pub passing_reading : {X : Type 0} (G : List ℕ → X → Type 0) (P : X → Type 0) (reading : List ℕ → Result (X × List ℕ) DerError) (test : X → Bool)
-    → IsReading G reading → ((x : X) → test x ≡ true → P x) → ((x : X) → P x → test x ≡ true)
+pub passing_reading : {X : Type 0} (G : List ℕ → X → Type 0) (P : X → Type 0)
+    (reading : List ℕ → Result (X × List ℕ) DerError) (test : X → Bool) → IsReading G reading
+    → ((x : X) → test x ≡ true → P x) → ((x : X) → P x → test x ≡ true)
     → IsReading (Where G P) (refined reading (passing true test))
 passing_reading {X} G P reading test is says back =
     same_reading (Refines G Passes) (Where G P) (refined reading (passing true test))
@@ -122,20 +124,24 @@ passing_reading {X} G P reading test is says back =
     Passes x y = (x ≡ y) × P y
 
 -- one that doesn't look at the mode
-pub plain_modal : {X : Type 0} (G : List ℕ → X → Type 0) (reading : List ℕ → Result (X × List ℕ) DerError) → IsReading G reading → IsModal G reading (λ strict. reading)
+pub plain_modal : {X : Type 0} (G : List ℕ → X → Type 0) (reading : List ℕ → Result (X × List ℕ) DerError)
+    → IsReading G reading → IsModal G reading (λ strict. reading)
 plain_modal G reading is = record { tight = is; tightens = λ strict bytes. inl refl }
 
 -- twice
-tightens_twice : {A : Type 0} (strict : Bool) (a b c : Result A DerError) → Tightens strict a b → Tightens strict b c → Tightens strict a c
+tightens_twice : {A : Type 0} (strict : Bool) (a b c : Result A DerError) → Tightens strict a b → Tightens strict b c
+    → Tightens strict a c
 tightens_twice strict a b c v4 v5 = grind (arith)
 
 -- a test that is made strictly alone, of what a reading finds
-passing_tested : {X : Type 0} (strict : Bool) (test : X → Bool) (r : Result (X × List ℕ) DerError) → Tightens strict (r >>= λ x. passing strict test x.0 >>= λ y. Ok (y, x.1)) r
+passing_tested : {X : Type 0} (strict : Bool) (test : X → Bool) (r : Result (X × List ℕ) DerError)
+    → Tightens strict (r >>= λ x. passing strict test x.0 >>= λ y. Ok (y, x.1)) r
 passing_tested strict test v2 = grind (arith, bind_tightens, passing_tightens)
 
 -- one whose finds pass a test strictly
-pub tested_modal : {X : Type 0} (S : List ℕ → X → Type 0) (P : X → Type 0) (reading : List ℕ → Result (X × List ℕ) DerError) (by : Bool → List ℕ → Result (X × List ℕ) DerError) (test : X → Bool)
-    → IsModal S reading by → ((x : X) → test x ≡ true → P x) → ((x : X) → P x → test x ≡ true)
+pub tested_modal : {X : Type 0} (S : List ℕ → X → Type 0) (P : X → Type 0)
+    (reading : List ℕ → Result (X × List ℕ) DerError) (by : Bool → List ℕ → Result (X × List ℕ) DerError)
+    (test : X → Bool) → IsModal S reading by → ((x : X) → test x ≡ true → P x) → ((x : X) → P x → test x ≡ true)
     → IsModal (Where S P) reading (λ strict. refined (by strict) (passing strict test))
 unfolding refined
 tested_modal S P reading by test is says back = record {
@@ -146,38 +152,51 @@ tested_modal S P reading by test is says back = record {
 -- ---- calls on a cursor
 
 -- a take from a cursor that isn't strict
-pub exact_by : {X Y : Type 0} (S : List ℕ → Y → Type 0) (reading : List ℕ → Result (Y × List ℕ) DerError) (by : Bool → List ℕ → Result (Y × List ℕ) DerError) (view : X → Y) (old new : Cursor) (result : Result X DerError)
-    → IsModal S reading by → Takes view old new result (by (is_strict old)) → Lenient old (Takes view old new result reading)
+pub exact_by : {X Y : Type 0} (S : List ℕ → Y → Type 0) (reading : List ℕ → Result (Y × List ℕ) DerError)
+    (by : Bool → List ℕ → Result (Y × List ℕ) DerError) (view : X → Y) (old new : Cursor) (result : Result X DerError)
+    → IsModal S reading by → Takes view old new result (by (is_strict old))
+    → Lenient old (Takes view old new result reading)
 exact_by v0 reading by view old new result modal took lenient = grind (arith, lenient_is)
 
 -- one that answers None at the end
-pub exact_optional_by : {X Y : Type 0} (S : List ℕ → Y → Type 0) (reading : List ℕ → Result (Y × List ℕ) DerError) (by : Bool → List ℕ → Result (Y × List ℕ) DerError) (view : X → Option Y) (old new : Cursor) (result : Result X DerError)
-    → IsModal S reading by → Takes view old new result (optional (by (is_strict old))) → Lenient old (Takes view old new result (optional reading))
+pub exact_optional_by : {X Y : Type 0} (S : List ℕ → Y → Type 0) (reading : List ℕ → Result (Y × List ℕ) DerError)
+    (by : Bool → List ℕ → Result (Y × List ℕ) DerError) (view : X → Option Y) (old new : Cursor)
+    (result : Result X DerError) → IsModal S reading by → Takes view old new result (optional (by (is_strict old)))
+    → Lenient old (Takes view old new result (optional reading))
 exact_optional_by S reading by view old new result modal took lenient =
     subst (λ r. Takes view old new result (optional r)) (lenient_is S reading by modal) (subst (λ mode. Takes view old new result (optional (by mode))) lenient took)
 
 -- a fault of a reading by the mode
-pub refused_at : {X : Type 0} (G S : List ℕ → X → Type 0) (reading : List ℕ → Result (X × List ℕ) DerError) (by : Bool → List ℕ → Result (X × List ℕ) DerError) → IsReading G reading → IsModal S reading by
-    → (strict : Bool) (bytes : List ℕ) (e : DerError) → by strict bytes ≡ Err e → ((strict ≡ true) × (e ≡ NotCanonical)) ⊎ NoFront G bytes
+pub refused_at : {X : Type 0} (G S : List ℕ → X → Type 0) (reading : List ℕ → Result (X × List ℕ) DerError)
+    (by : Bool → List ℕ → Result (X × List ℕ) DerError) → IsReading G reading → IsModal S reading by
+    → (strict : Bool) (bytes : List ℕ) (e : DerError) → by strict bytes ≡ Err e
+    → ((strict ≡ true) × (e ≡ NotCanonical)) ⊎ NoFront G bytes
 refused_at v0 v1 reading by is modal strict bytes e failed = grind (arith, fault_is, none_by)
 
 -- a take
-pub refused_by : {X Y : Type 0} (G S : List ℕ → Y → Type 0) (reading : List ℕ → Result (Y × List ℕ) DerError) (by : Bool → List ℕ → Result (Y × List ℕ) DerError) (view : X → Y) (old new : Cursor) (result : Result X DerError)
-    → IsReading G reading → IsModal S reading by → Takes view old new result (by (is_strict old)) → NotCanonicalOr G old result
+pub refused_by : {X Y : Type 0} (G S : List ℕ → Y → Type 0) (reading : List ℕ → Result (Y × List ℕ) DerError)
+    (by : Bool → List ℕ → Result (Y × List ℕ) DerError) (view : X → Y) (old new : Cursor) (result : Result X DerError)
+    → IsReading G reading → IsModal S reading by → Takes view old new result (by (is_strict old))
+    → NotCanonicalOr G old result
 refused_by v0 v1 reading by view old new v7 is modal took = grind (arith, refused_at)
 
 -- a take that answers None at the end
-pub refused_optional_by : {X Y : Type 0} (G S : List ℕ → Y → Type 0) (reading : List ℕ → Result (Y × List ℕ) DerError) (by : Bool → List ℕ → Result (Y × List ℕ) DerError) (view : X → Option Y) (old new : Cursor) (result : Result X DerError)
-    → IsReading G reading → IsModal S reading by → Takes view old new result (optional (by (is_strict old))) → NotCanonicalOr G old result
+pub refused_optional_by : {X Y : Type 0} (G S : List ℕ → Y → Type 0) (reading : List ℕ → Result (Y × List ℕ) DerError)
+    (by : Bool → List ℕ → Result (Y × List ℕ) DerError) (view : X → Option Y) (old new : Cursor)
+    (result : Result X DerError) → IsReading G reading → IsModal S reading by
+    → Takes view old new result (optional (by (is_strict old))) → NotCanonicalOr G old result
 refused_optional_by v0 v1 reading by view old new v7 is modal took = grind (arith, optional_err, refused_at)
 
 -- a content
-pub refused_in : {X Y : Type 0} (C : List ℕ → Y → Type 0) (check : List ℕ → Result Y DerError) (by : Result Y DerError) (view : X → Y) (value : Content) (result : Result X DerError)
-    → IsCheck (λ _. Unit {0}) C check → Tightens (is_strict_in value) by (check (content_octets value)) → Gives view result by → NotCanonicalInOr C value result
+pub refused_in : {X Y : Type 0} (C : List ℕ → Y → Type 0) (check : List ℕ → Result Y DerError) (by : Result Y DerError)
+    (view : X → Y) (value : Content) (result : Result X DerError) → IsCheck (λ _. Unit {0}) C check
+    → Tightens (is_strict_in value) by (check (content_octets value)) → Gives view result by
+    → NotCanonicalInOr C value result
 refused_in C check by view value (Ok x) is tight gives = tt
 refused_in C check by view value (Err e) is tight gives = found (fault_is (is_strict_in value) by (check (content_octets value)) e tight gives)
   where
-    found : ((is_strict_in value ≡ true) × (e ≡ NotCanonical)) ⊎ (check (content_octets value) ≡ Err e) → ((is_strict_in value ≡ true) × (e ≡ NotCanonical)) ⊎ HasNone C (content_octets value)
+    found : ((is_strict_in value ≡ true) × (e ≡ NotCanonical)) ⊎ (check (content_octets value) ≡ Err e)
+        → ((is_strict_in value ≡ true) × (e ≡ NotCanonical)) ⊎ HasNone C (content_octets value)
     found (inl not_canonical) = inl not_canonical
     found (inr none) = inr (λ y says. ok_or_err y e (check (content_octets value)) (is.again (content_octets value) y says) none)
 

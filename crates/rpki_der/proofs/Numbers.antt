@@ -1,20 +1,19 @@
 -- Numbers and the octets that spell them.
-use Rattle.std.proofs.Common.{◌≡◌, ℕ, zero, suc, ◌+◌, ◌-◌, ◌*◌, ◌^◌, ◌<◌, ◌≤◌, ◌≢◌, List, [], ◌∷◌, ◌++◌, length, get_or, take, replicate, refl, sym, ap, ◌∙◌, arith}
-use Rattle.std.specs.Int.{w64, from_be_bytes, to_be_bytes}
-use Rattle.std.proofs.lemmas.List.{length-append, length-replicate}
+use Rattle.rpki_der.proofs.Common.{List, [], ap, arith, get_or, length, refl, replicate, suc, sym, take, zero, ℕ, ◌*◌, ◌++◌, ◌+◌, ◌-◌, ◌<◌, ◌^◌, ◌∙◌, ◌∷◌, ◌≡◌, ◌≢◌, ◌≤◌, length-append, length-replicate, from_be_bytes, to_be_bytes, w64, IsBytes, big_endian, big_endian_after, octets, without_zeros}
 use Rattle.std.proofs.lemmas.Nat.{be_bytes_8, from_be_bytes-to_be_bytes_8, pow-add}
-use Rattle.rpki_der.specs.Der.{IsBytes, big_endian, big_endian_after, without_zeros, octets}
 use Rattle.rpki_der.proofs.Steps.{IsBytes-zeros}
 
 -- ---- one digit more
 
 -- from any number on
-more_after : (n : ℕ) (ds : List ℕ) (i : ℕ) → i < length ds → big_endian_after n (take (suc i) ds) ≡ big_endian_after n (take i ds) * 256 + get_or ds i 0
+more_after : (n : ℕ) (ds : List ℕ) (i : ℕ) → i < length ds
+    → big_endian_after n (take (suc i) ds) ≡ big_endian_after n (take i ds) * 256 + get_or ds i 0
 more_after n [] i lt = absurd (omega arith)
 more_after n (d ∷ ds) zero lt = refl
 more_after n (d ∷ ds) (suc i) lt = more_after (n * 256 + d) ds i (omega arith)
 
-pub big_endian_more : (ds : List ℕ) (i : ℕ) → i < length ds → big_endian (take (i + 1) ds) ≡ big_endian (take i ds) * 256 + get_or ds i 0
+pub big_endian_more : (ds : List ℕ) (i : ℕ) → i < length ds
+    → big_endian (take (i + 1) ds) ≡ big_endian (take i ds) * 256 + get_or ds i 0
 big_endian_more ds i lt = let e : i + 1 ≡ suc i = omega arith in rw e (more_after 0 ds i lt)
 
 -- it is eight bits
@@ -82,7 +81,8 @@ unfolding octets
 big_endian-octets n lt = big_endian-without_zeros (to_be_bytes w64 n) ∙ eight_octets n lt
 
 -- the same where the first octet is in sight
-octets-first : (d : ℕ) (ds : List ℕ) → IsBytes (d ∷ ds) → suc (length ds) ≤ 8 → d ≢ 0 → octets (big_endian (d ∷ ds)) ≡ d ∷ ds
+octets-first : (d : ℕ) (ds : List ℕ) → IsBytes (d ∷ ds) → suc (length ds) ≤ 8 → d ≢ 0
+    → octets (big_endian (d ∷ ds)) ≡ d ∷ ds
 unfolding octets
 octets-first d ds fits le nonzero =
     let m = 8 - suc (length ds) in
@@ -92,7 +92,8 @@ octets-first d ds fits le nonzero =
     ap without_zeros (be_bytes_8 whole (big_endian (d ∷ ds)) len (IsBytes-zeros m (d ∷ ds) fits) (sym same)) ∙ without_zeros-zeros m (d ∷ ds) ∙ without_zeros-head d ds nonzero
 
 -- octets that don't begin with zero are the fewest of their number
-pub octets-big_endian : (ds : List ℕ) → IsBytes ds → 0 < length ds → length ds ≤ 8 → get_or ds 0 0 ≢ 0 → octets (big_endian ds) ≡ ds
+pub octets-big_endian : (ds : List ℕ) → IsBytes ds → 0 < length ds → length ds ≤ 8 → get_or ds 0 0 ≢ 0
+    → octets (big_endian ds) ≡ ds
 octets-big_endian [] fits some le nonzero = absurd (omega arith)
 octets-big_endian (d ∷ ds) fits some le nonzero = octets-first d ds fits le nonzero
 

@@ -1,11 +1,5 @@
 -- The readings find the values of their grammars, whatever follows them, and no others.
-use Rattle.std.proofs.Common.{◌≡◌, ℕ, ◌%◌, ◌^◌, ◌<◌, ◌≤◌, ◌≢◌, false, cond, eqb, ltb, List, [], ◌∷◌, ◌++◌, length, take, drop, Result, Ok, Err, refl, sym, ap, subst, ◌∙◌, append_assoc, arith}
-use Rattle.std.proofs.lemmas.Bool.{ltb-false, le-ltb, eqb-true, eqb-false, ne_eqb, eq-eqb}
-use Rattle.std.proofs.lemmas.List.{take_at, drop_at, take-append-drop, length-append, length-take, append_cancel_right}
-use Rattle.rpki_der.specs.declared.error.DerError.{DerError}
-use Rattle.rpki_der.specs.declared.error.DerError.TheVariants.{Truncated, BadTag}
-use Rattle.rpki_der.specs.Der.{Tlv, IsBytes, IsTag, length_octets, header, value, IsValue, IsTlv, Front, Refines, OneFront, IsUnsigned, IsBitContent, IsNothing, IsU32, IsBitString, IsNull}
-use Rattle.rpki_der.specs.Reading.{◌>>=◌, length_at, value_at, tagged_at, unsigned, bits, nothing, u32_at, bit_string_at, null_at, IsReading, refined}
+use Rattle.rpki_der.proofs.Common.{Err, List, Ok, Result, [], ap, append_assoc, arith, cond, drop, eqb, false, length, ltb, refl, subst, sym, take, ℕ, ◌%◌, ◌++◌, ◌<◌, ◌^◌, ◌∙◌, ◌∷◌, ◌≡◌, ◌≢◌, ◌≤◌, eq-eqb, eqb-false, eqb-true, le-ltb, ltb-false, ne_eqb, append_cancel_right, drop_at, length-append, length-take, take-append-drop, take_at, Front, IsBitContent, IsBitString, IsBytes, IsNothing, IsNull, IsTag, IsTlv, IsU32, IsUnsigned, IsValue, OneFront, Refines, Tlv, header, length_octets, value, IsReading, bit_string_at, bits, length_at, nothing, null_at, refined, tagged_at, u32_at, unsigned, value_at, ◌>>=◌, DerError, BadTag, Truncated}
 use Rattle.rpki_der.proofs.Steps.{IsCheck, IsBytes-rest, fits_front, fits_back, bind_ok, passed, passed_true, ok_is}
 use Rattle.rpki_der.proofs.Contents.{unsigned_check, unsigned_spelled, spelled_unsigned, bits_check, nothing_check}
 use Rattle.rpki_der.proofs.Lengths.{length_takes, length_again}
@@ -17,8 +11,9 @@ abbrev cut : ℕ → ℕ → List ℕ → Tlv × List ℕ
 cut tag n bytes = (record { tag = tag; content = take n bytes }, drop n bytes)
 
 -- a tag, the octets of a length, and as many octets, are a value
-value_front : (tag n : ℕ) (bytes after : List ℕ) (v : Tlv) (rest : List ℕ) → IsTag tag → n < 2 ^ 64 → bytes ≡ length_octets n ++ after → n ≤ length after
-    → cut tag n after ≡ (v, rest) → Front IsTlv (tag ∷ bytes) v rest
+value_front : (tag n : ℕ) (bytes after : List ℕ) (v : Tlv) (rest : List ℕ) → IsTag tag → n < 2 ^ 64
+    → bytes ≡ length_octets n ++ after → n ≤ length after → cut tag n after ≡ (v, rest)
+    → Front IsTlv (tag ∷ bytes) v rest
 unfolding header
 value_front tag n bytes after v rest low lt split enough made =
     let content = take n after in
@@ -28,7 +23,8 @@ value_front tag n bytes after v rest low lt split enough made =
     subst (λ (p : Tlv × List ℕ). Front IsTlv (tag ∷ bytes) p.0 p.1) made (value tag content, record { has_tag = low; short = omega arith; spelled = refl }, whole)
 
 -- a value that is read is spelled so
-value_takes : (bytes : List ℕ) (v : Tlv) (rest : List ℕ) → IsBytes bytes → value_at bytes ≡ Ok (v, rest) → Front IsTlv bytes v rest
+value_takes : (bytes : List ℕ) (v : Tlv) (rest : List ℕ) → IsBytes bytes → value_at bytes ≡ Ok (v, rest)
+    → Front IsTlv bytes v rest
 unfolding value_at
 value_takes [] v rest fits e = absurd cc
 value_takes (tag ∷ bytes) v rest fits e =
@@ -43,7 +39,8 @@ value_takes (tag ∷ bytes) v rest fits e =
     value_front tag n bytes after v rest (omega arith) long.1 long.0 (ltb-false (length after) n g2.0) (ok_is (cut tag n after) (v, rest) g2.1)
 
 -- the octets of a tag and a content are read as them
-value_again_spelled : (tag : ℕ) (content rest : List ℕ) → IsTag tag → length content < 2 ^ 64 → value_at (value tag content ++ rest) ≡ Ok (record { tag = tag; content = content }, rest)
+value_again_spelled : (tag : ℕ) (content rest : List ℕ) → IsTag tag → length content < 2 ^ 64
+    → value_at (value tag content ++ rest) ≡ Ok (record { tag = tag; content = content }, rest)
 unfolding value_at header
 value_again_spelled tag content rest low lt =
     let is_low : eqb (tag % 32) 31 ≡ false = ne_eqb (tag % 32) 31 (λ h. omega arith) in
@@ -61,7 +58,8 @@ pub value_reading : IsReading IsTlv value_at
 value_reading = record { takes = value_takes; again = value_again }
 
 -- octets begin with at most one value of a grammar that has a reading
-pub one_front : {X : Type 0} (G : List ℕ → X → Type 0) (reading : List ℕ → Result (X × List ℕ) DerError) → IsReading G reading → OneFront G
+pub one_front : {X : Type 0} (G : List ℕ → X → Type 0) (reading : List ℕ → Result (X × List ℕ) DerError)
+    → IsReading G reading → OneFront G
 one_front G reading is a b x y r s p q e =
     let both = ok_is (x, r) (y, s) (sym (is.again a x r p) ∙ ap reading e ∙ is.again b y s q) in
     let same : r ≡ s = ap (λ p. p.1) both in
@@ -70,15 +68,18 @@ one_front G reading is a b x y r s p q e =
 -- ---- octets of the parts
 
 -- the content of octets is octets
-pub fits_content : (bytes : List ℕ) (tag : ℕ) (content : List ℕ) → IsValue bytes tag content → IsBytes bytes → IsBytes content
+pub fits_content : (bytes : List ℕ) (tag : ℕ) (content : List ℕ) → IsValue bytes tag content → IsBytes bytes
+    → IsBytes content
 fits_content bytes tag content is h = fits_back (header tag (length content)) content (subst IsBytes is.spelled h)
 
 -- a value at the front of octets is octets
-pub fits_value : {X : Type 0} (G : List ℕ → X → Type 0) (bytes : List ℕ) (x : X) (rest : List ℕ) (found : Front G bytes x rest) → IsBytes bytes → IsBytes found.0
+pub fits_value : {X : Type 0} (G : List ℕ → X → Type 0) (bytes : List ℕ) (x : X) (rest : List ℕ)
+    (found : Front G bytes x rest) → IsBytes bytes → IsBytes found.0
 fits_value G bytes x rest found h = fits_front found.0 rest (subst IsBytes found.2 h)
 
 -- what follows it is octets
-pub fits_rest : {X : Type 0} (G : List ℕ → X → Type 0) (bytes : List ℕ) (x : X) (rest : List ℕ) (found : Front G bytes x rest) → IsBytes bytes → IsBytes rest
+pub fits_rest : {X : Type 0} (G : List ℕ → X → Type 0) (bytes : List ℕ) (x : X) (rest : List ℕ)
+    (found : Front G bytes x rest) → IsBytes bytes → IsBytes rest
 fits_rest G bytes x rest found h = fits_back found.0 rest (subst IsBytes found.2 h)
 
 -- ---- values of one tag
@@ -87,7 +88,8 @@ abbrev pub IsTagged : ℕ → List ℕ → List ℕ → Type 0
 IsTagged tag bytes content = IsValue bytes tag content
 
 -- a value of one tag that is read is one
-tagged_takes : (tag : ℕ) (bytes content rest : List ℕ) → IsBytes bytes → tagged_at tag bytes ≡ Ok (content, rest) → Front (IsTagged tag) bytes content rest
+tagged_takes : (tag : ℕ) (bytes content rest : List ℕ) → IsBytes bytes → tagged_at tag bytes ≡ Ok (content, rest)
+    → Front (IsTagged tag) bytes content rest
 unfolding tagged_at
 tagged_takes tag bytes content rest fits e =
     let a = bind_ok (value_at bytes) (λ v. cond (eqb v.0.tag tag) (Ok (v.0.content, v.1)) (Err BadTag)) (content, rest) e in
@@ -98,7 +100,8 @@ tagged_takes tag bytes content rest fits e =
     subst (λ (p : List ℕ × List ℕ). Front (IsTagged tag) bytes p.0 p.1) made (found.0, is, found.2)
 
 -- a value of the tag is read, whatever follows
-tagged_again : (tag : ℕ) (front content rest : List ℕ) → IsTagged tag front content → tagged_at tag (front ++ rest) ≡ Ok (content, rest)
+tagged_again : (tag : ℕ) (front content rest : List ℕ) → IsTagged tag front content
+    → tagged_at tag (front ++ rest) ≡ Ok (content, rest)
 unfolding tagged_at
 tagged_again tag front content rest is = rw (value_again front (record { tag = tag; content = content }) rest is, eq-eqb tag tag refl) refl
 
@@ -109,9 +112,11 @@ tagged_reading tag = record { takes = tagged_takes tag; again = tagged_again tag
 -- ---- values looked at once more
 
 -- what is read and passes the second look is in the refined grammar
-refined_takes : {X Y : Type 0} (G : List ℕ → X → Type 0) (C : X → Y → Type 0) (Fits : X → Type 0) (reading : List ℕ → Result (X × List ℕ) DerError) (check : X → Result Y DerError)
-    → IsReading G reading → ((front : List ℕ) (x : X) → G front x → IsBytes front → Fits x) → IsCheck Fits C check
-    → (bytes : List ℕ) (y : Y) (rest : List ℕ) → IsBytes bytes → refined reading check bytes ≡ Ok (y, rest) → Front (Refines G C) bytes y rest
+refined_takes : {X Y : Type 0} (G : List ℕ → X → Type 0) (C : X → Y → Type 0) (Fits : X → Type 0)
+    (reading : List ℕ → Result (X × List ℕ) DerError) (check : X → Result Y DerError) → IsReading G reading
+    → ((front : List ℕ) (x : X) → G front x → IsBytes front → Fits x) → IsCheck Fits C check
+    → (bytes : List ℕ) (y : Y) (rest : List ℕ) → IsBytes bytes → refined reading check bytes ≡ Ok (y, rest)
+    → Front (Refines G C) bytes y rest
 unfolding refined
 refined_takes G C Fits reading check is inside says bytes y rest fits e =
     let a = bind_ok (reading bytes) (λ x. check x.0 >>= λ y. Ok (y, x.1)) (y, rest) e in
@@ -122,26 +127,32 @@ refined_takes G C Fits reading check is inside says bytes y rest fits e =
     subst (λ p. Front (Refines G C) bytes p.0 p.1) made (found.0, (a.0.0, found.1, c), found.2)
 
 -- what is in the refined grammar is read and passes
-refined_again : {X Y : Type 0} (G : List ℕ → X → Type 0) (C : X → Y → Type 0) (Fits : X → Type 0) (reading : List ℕ → Result (X × List ℕ) DerError) (check : X → Result Y DerError)
-    → IsReading G reading → IsCheck Fits C check → (front : List ℕ) (y : Y) (rest : List ℕ) → Refines G C front y → refined reading check (front ++ rest) ≡ Ok (y, rest)
+refined_again : {X Y : Type 0} (G : List ℕ → X → Type 0) (C : X → Y → Type 0) (Fits : X → Type 0)
+    (reading : List ℕ → Result (X × List ℕ) DerError) (check : X → Result Y DerError) → IsReading G reading
+    → IsCheck Fits C check → (front : List ℕ) (y : Y) (rest : List ℕ) → Refines G C front y
+    → refined reading check (front ++ rest) ≡ Ok (y, rest)
 unfolding refined
 refined_again G C Fits reading check is says front y rest r = rw (is.again front r.0 rest r.1, says.again r.0 y r.2) refl
 
 -- the two together
-pub refined_reading : {X Y : Type 0} (G : List ℕ → X → Type 0) (C : X → Y → Type 0) (Fits : X → Type 0) (reading : List ℕ → Result (X × List ℕ) DerError) (check : X → Result Y DerError)
-    → IsReading G reading → ((front : List ℕ) (x : X) → G front x → IsBytes front → Fits x) → IsCheck Fits C check → IsReading (Refines G C) (refined reading check)
+pub refined_reading : {X Y : Type 0} (G : List ℕ → X → Type 0) (C : X → Y → Type 0) (Fits : X → Type 0)
+    (reading : List ℕ → Result (X × List ℕ) DerError) (check : X → Result Y DerError) → IsReading G reading
+    → ((front : List ℕ) (x : X) → G front x → IsBytes front → Fits x) → IsCheck Fits C check
+    → IsReading (Refines G C) (refined reading check)
 refined_reading G C Fits reading check is inside says = record { takes = refined_takes G C Fits reading check is inside says; again = refined_again G C Fits reading check is says }
 
 -- two grammars of the same values have the same readings
 pub same_reading : {X : Type 0} (G H : List ℕ → X → Type 0) (reading : List ℕ → Result (X × List ℕ) DerError)
-    → ((bytes : List ℕ) (x : X) → IsBytes bytes → G bytes x → H bytes x) → ((bytes : List ℕ) (x : X) → H bytes x → G bytes x) → IsReading G reading → IsReading H reading
+    → ((bytes : List ℕ) (x : X) → IsBytes bytes → G bytes x → H bytes x)
+    → ((bytes : List ℕ) (x : X) → H bytes x → G bytes x) → IsReading G reading → IsReading H reading
 same_reading G H reading to from is = record {
   takes = λ bytes x rest fits e. let found = is.takes bytes x rest fits e in (found.0, to found.0 x (fits_value G bytes x rest found fits) found.1, found.2);
   again = λ front x rest h. is.again front x rest (from front x h);
 }
 
 -- the content of a tag, by a rule that asks nothing of the octets
-content_reading : {Y : Type 0} (tag : ℕ) (C : List ℕ → Y → Type 0) (check : List ℕ → Result Y DerError) → IsCheck (λ _. Unit {0}) C check → IsReading (Refines (IsTagged tag) C) (refined (tagged_at tag) check)
+content_reading : {Y : Type 0} (tag : ℕ) (C : List ℕ → Y → Type 0) (check : List ℕ → Result Y DerError)
+    → IsCheck (λ _. Unit {0}) C check → IsReading (Refines (IsTagged tag) C) (refined (tagged_at tag) check)
 content_reading tag C check says = refined_reading (IsTagged tag) C (λ _. Unit {0}) (tagged_at tag) check (tagged_reading tag) (λ front x is fits. tt) says
 
 -- a content by the conditions is the content as it is spelled

@@ -1,10 +1,5 @@
 -- Steps of reading that did not fail.
-use Rattle.std.proofs.Common.{◌≡◌, ℕ, zero, suc, ◌+◌, Bool, true, false, cond, ◌&&◌, List, ◌∷◌, ◌++◌, length, replicate, Result, Ok, Err, refl, arith, inl, inr}
-use Rattle.std.proofs.lemmas.Bool.{cases_lt}
-use Rattle.std.proofs.lemmas.List.{get_or_past, get_or_append_left, get_or-append-add}
-use Rattle.rpki_der.specs.declared.error.DerError.{DerError}
-use Rattle.rpki_der.specs.Reading.{◌>>=◌}
-use Rattle.rpki_der.specs.Der.{IsBytes}
+use Rattle.rpki_der.proofs.Common.{Bool, Err, List, Ok, Result, arith, cond, false, length, replicate, suc, true, zero, ℕ, ◌&&◌, ◌++◌, ◌+◌, ◌∷◌, ◌≡◌, cases_lt, get_or-append-add, get_or_append_left, get_or_past, IsBytes, ◌>>=◌, DerError}
 
 -- octets behind the first
 pub IsBytes-rest : (b : ℕ) (bytes : List ℕ) → IsBytes (b ∷ bytes) → IsBytes bytes
@@ -12,8 +7,7 @@ IsBytes-rest b bytes h i = h (suc i)
 
 -- a zero is an octet
 pub IsBytes-zero : (bytes : List ℕ) → IsBytes bytes → IsBytes (0 ∷ bytes)
-IsBytes-zero bytes h zero = omega arith
-IsBytes-zero bytes h (suc i) = h i
+IsBytes-zero bytes h h2 = grind (arith)
 
 -- zeros are octets
 pub IsBytes-zeros : (n : ℕ) (bytes : List ℕ) → IsBytes bytes → IsBytes (replicate n 0 ++ bytes)
@@ -22,30 +16,26 @@ IsBytes-zeros (suc n) bytes h = IsBytes-zero (replicate n 0 ++ bytes) (IsBytes-z
 
 -- the octets of the parts
 pub fits_front : (a b : List ℕ) → IsBytes (a ++ b) → IsBytes a
-fits_front a b h i =
-    elim (cases_lt i (length a)) [
-      | inl lt ↦ rw (← get_or_append_left a b 0 i lt) (h i)
-      | inr le ↦ rw (get_or_past a i 0 le) (omega arith)
-    ]
+fits_front a b h i = grind (arith, cases_lt, get_or_append_left, get_or_past)
 
 -- the second part of octets
 pub fits_back : (a b : List ℕ) → IsBytes (a ++ b) → IsBytes b
 fits_back a b h i = rw (← get_or-append-add a b i 0) (h (length a + i))
 
 -- the value of a step that did not fail
-pub bind_ok : {A B : Type 0} (r : Result A DerError) (f : A → Result B DerError) (y : B) → (r >>= f) ≡ Ok y → (x : A) × (r ≡ Ok x) × (f x ≡ Ok y)
-bind_ok (Ok x) f y e = (x, refl, e)
-bind_ok (Err d) f y e = absurd cc
+pub bind_ok : {A B : Type 0} (r : Result A DerError) (f : A → Result B DerError) (y : B) → (r >>= f) ≡ Ok y
+    → (x : A) × (r ≡ Ok x) × (f x ≡ Ok y)
+bind_ok r f y e = grind (arith)
 
 -- a test that did not fail
-pub passed : {A : Type 0} (b : Bool) (d : DerError) (r : Result A DerError) (y : A) → cond b (Err d) r ≡ Ok y → (b ≡ false) × (r ≡ Ok y)
-passed true d r y e = absurd cc
-passed false d r y e = (refl, e)
+pub passed : {A : Type 0} (b : Bool) (d : DerError) (r : Result A DerError) (y : A) → cond b (Err d) r ≡ Ok y
+    → (b ≡ false) × (r ≡ Ok y)
+passed b d r y e = grind (arith)
 
 -- a test that did not fail, the other way round
-pub passed_true : {A : Type 0} (b : Bool) (d : DerError) (r : Result A DerError) (y : A) → cond b r (Err d) ≡ Ok y → (b ≡ true) × (r ≡ Ok y)
-passed_true true d r y e = (refl, e)
-passed_true false d r y e = absurd cc
+pub passed_true : {A : Type 0} (b : Bool) (d : DerError) (r : Result A DerError) (y : A) → cond b r (Err d) ≡ Ok y
+    → (b ≡ true) × (r ≡ Ok y)
+passed_true b d r y e = grind (arith)
 
 -- an answer that is Ok
 abbrev done : {A : Type 0} → A → Result A DerError
@@ -57,13 +47,11 @@ ok_is x y e = cc
 
 -- one of two tests fails that don't both pass
 pub one_false : (a b : Bool) → (a && b) ≡ false → a ≡ true → b ≡ false
-one_false true b e p = e
-one_false false b e p = absurd cc
+one_false a b e p = grind (arith)
 
 -- two tests of which the second fails
 pub and_false : (a b : Bool) → b ≡ false → (a && b) ≡ false
-and_false true b e = e
-and_false false b e = refl
+and_false a b e = grind (arith)
 
 -- an answer isn't both
 pub ok_or_err : {A : Type 0} (x : A) (e : DerError) (r : Result A DerError) → r ≡ Ok x → r ≡ Err e → ⊥

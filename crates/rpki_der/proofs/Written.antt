@@ -1,12 +1,11 @@
 -- What is written is a value, and values are spelled by the conditions of X.690.
-use Rattle.std.proofs.Common.{◌≡◌, ℕ, ◌^◌, ◌<◌, List, ◌∷◌, ◌++◌, length, refl, ap, arith}
-use Rattle.std.proofs.lemmas.Bool.{lt-ltb}
-use Rattle.rpki_der.specs.Der.{IsBytes, IsTag, IsLength, IsValue, header, length_octets, value, Bits, IsBits, IsU32, IsBitString, u32_value, bit_string_value}
+use Rattle.rpki_der.proofs.Common.{List, arith, length, refl, ℕ, ◌++◌, ◌<◌, ◌^◌, ◌∷◌, ◌≡◌, lt-ltb, Bits, IsBitString, IsBits, IsBytes, IsLength, IsTag, IsU32, IsValue, bit_string_value, header, length_octets, u32_value, value}
 use Rattle.rpki_der.proofs.Contents.{length-integer}
 use Rattle.rpki_der.proofs.Lengths.{length_spelled, spelled_length}
 
 -- the octets of a tag and a content are the value
-pub value_is : (tag : ℕ) (content : List ℕ) → IsTag tag → length content < 2 ^ 64 → IsValue (value tag content) tag content
+pub value_is : (tag : ℕ) (content : List ℕ) → IsTag tag → length content < 2 ^ 64
+    → IsValue (value tag content) tag content
 value_is tag content has_tag short = record { has_tag = has_tag; short = short; spelled = refl }
 
 -- the INTEGER of a number of 32 bits
@@ -23,13 +22,13 @@ unfolding header length_octets
 length-header tag n lt = rw (lt-ltb n 128 lt) (omega arith)
 
 -- a tag, a length that meets the conditions, and as many octets, are a value
-pub value_spelled : (tag : ℕ) (len content : List ℕ) → IsTag tag → IsBytes len → IsLength len (length content) → IsValue (tag ∷ (len ++ content)) tag content
+pub value_spelled : (tag : ℕ) (len content : List ℕ) → IsTag tag → IsBytes len → IsLength len (length content)
+    → IsValue (tag ∷ (len ++ content)) tag content
 unfolding header
-value_spelled tag len content has_tag fits is =
-    let spelled = length_spelled len (length content) fits is in
-    record { has_tag = has_tag; short = spelled.1; spelled = ap (λ (x : List ℕ). tag ∷ (x ++ content)) spelled.0 }
+value_spelled tag len content has_tag fits is = grind (arith, length_spelled)
 
 -- and each value is such
-pub spelled_value : (bytes : List ℕ) (tag : ℕ) (content : List ℕ) → IsValue bytes tag content → (len : List ℕ) × IsLength len (length content) × (bytes ≡ tag ∷ (len ++ content))
+pub spelled_value : (bytes : List ℕ) (tag : ℕ) (content : List ℕ) → IsValue bytes tag content
+    → (len : List ℕ) × IsLength len (length content) × (bytes ≡ tag ∷ (len ++ content))
 unfolding header
 spelled_value bytes tag content is = (length_octets (length content), spelled_length (length content) is.short, is.spelled)

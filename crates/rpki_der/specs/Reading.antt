@@ -77,14 +77,16 @@ bits_by strict content = bits content >>= passing strict is_padded
 -- ---- readings from readings
 
 -- what reading finds, looked at once more
-unfoldable pub refined : {X Y : Type 0} → (List ℕ → Result (X × List ℕ) DerError) → (X → Result Y DerError) → List ℕ → Result (Y × List ℕ) DerError
+unfoldable pub refined : {X Y : Type 0} → (List ℕ → Result (X × List ℕ) DerError) → (X → Result Y DerError) → List ℕ
+    → Result (Y × List ℕ) DerError
 refined reading check bytes = do
   x ← reading bytes
   y ← check x.0
   Ok (y, x.1)
 
 -- what reading finds; at the end of the octets, nothing
-unfoldable pub optional : {X : Type 0} → (List ℕ → Result (X × List ℕ) DerError) → List ℕ → Result (Option X × List ℕ) DerError
+unfoldable pub optional : {X : Type 0} → (List ℕ → Result (X × List ℕ) DerError) → List ℕ
+    → Result (Option X × List ℕ) DerError
 optional reading [] = Ok (None, [])
 optional reading (b ∷ bytes) = do
   x ← reading (b ∷ bytes)
@@ -92,7 +94,8 @@ optional reading (b ∷ bytes) = do
 
 -- what reading finds, again and again to the end of the octets, each time in the state that the values before led
 -- to; a value has an octet at least, so the number of the octets is enough for steps
-unfoldable pub each_from : {S X : Type 0} → (S → X → S) → ℕ → (S → List ℕ → Result (X × List ℕ) DerError) → S → List ℕ → Result (List X) DerError
+unfoldable pub each_from : {S X : Type 0} → (S → X → S) → ℕ → (S → List ℕ → Result (X × List ℕ) DerError) → S → List ℕ
+    → Result (List X) DerError
 each_from next steps reading state [] = Ok []
 each_from next zero reading state (b ∷ bytes) = Err Truncated
 each_from next (suc steps) reading state (b ∷ bytes) = do
@@ -122,7 +125,8 @@ null_at = refined (tagged_at 5) nothing
 
 -- reading finds the values of a grammar, whatever follows them, and no others
 pub record IsReading {X : Type 0} (G : List ℕ → X → Type 0) (reading : List ℕ → Result (X × List ℕ) DerError) : Type 0 where
-  pub takes : (bytes : List ℕ) (x : X) (rest : List ℕ) → IsBytes bytes → reading bytes ≡ Ok (x, rest) → Front G bytes x rest
+  pub takes : (bytes : List ℕ) (x : X) (rest : List ℕ) → IsBytes bytes → reading bytes ≡ Ok (x, rest)
+      → Front G bytes x rest
   pub again : (front : List ℕ) (x : X) (rest : List ℕ) → G front x → reading (front ++ rest) ≡ Ok (x, rest)
 
 -- a reading by the mode finds what is found, or refuses it as not canonical, which is done strictly alone

@@ -51,14 +51,16 @@ ReadsValue G view old new (Ok x) = Front G (left old) (view x) (left new)
 ReadsValue G view old new (Err e) = NoFront G (left old) × (new ≡ old)
 
 -- The same, but None exactly at the end.
-abbrev pub ReadsOptional : {X Y : Type 0} → (List ℕ → Y → Type 0) → (X → Y) → Cursor → Cursor → Result (Option X) DerError → Type 0
+abbrev pub ReadsOptional : {X Y : Type 0} → (List ℕ → Y → Type 0) → (X → Y) → Cursor → Cursor
+    → Result (Option X) DerError → Type 0
 ReadsOptional G view old new (Ok None) = (left old ≡ []) × (left new ≡ [])
 ReadsOptional G view old new (Ok (Some x)) = Front G (left old) (view x) (left new)
 ReadsOptional G view old new (Err e) = (left old ≢ []) × NoFront G (left old) × (new ≡ old)
 
 -- The answer, seen by view, is what reading gives where the cursor stood, its fault too, and the cursor then stands
 -- where reading ends. A refusal leaves it where it stood.
-abbrev pub Takes : {X Y : Type 0} → (X → Y) → Cursor → Cursor → Result X DerError → (List ℕ → Result (Y × List ℕ) DerError) → Type 0
+abbrev pub Takes : {X Y : Type 0} → (X → Y) → Cursor → Cursor → Result X DerError
+    → (List ℕ → Result (Y × List ℕ) DerError) → Type 0
 Takes view old new (Ok x) reading = reading (left old) ≡ Ok (view x, left new)
 Takes view old new (Err e) reading = (reading (left old) ≡ Err e) × (new ≡ old)
 

@@ -1,14 +1,11 @@
 -- On the host bits of addresses: the bits after a prefix's length.
-use Rattle.std.proofs.Common.{◌≡◌, ℕ, ◌+◌, ◌-◌, ◌^◌, ◌<◌, ◌≤◌, ◌∙◌, refl, arith, bit_and, bit_or, lit≤}
+use Rattle.rpki_prefix.proofs.Common.{arith, bit_and, bit_or, ℕ, ◌+◌, ◌-◌, ◌<◌, ◌^◌, ◌∙◌, ◌≡◌, ◌≤◌, clear_host, set_host, IpAddr, IsRelaxedPrefixOf, address_number, cleared_addr, width}
 use Rattle.rpki_addr.specs.Bits.{cleared}
-use Rattle.rpki_addr.specs.declared.addr.IpAddr.{IpAddr}
-use Rattle.rpki_addr.specs.declared.addr.IpAddr.TheVariants.{V4, V6}
-use Rattle.rpki_addr.proofs.Masks.{clear_host, set_host}
 use Rattle.rpki_addr.proofs.PrefixNumbers.{cleared_prefix, cleared_holds}
-use Rattle.rpki_prefix.specs.Values.{IsRelaxedPrefixOf, width, address_number, cleared_addr}
 
 -- what `n & !m` is, where the host bits of m are set
-pub cleared_by : (w n len m r : ℕ) → n < 2 ^ w → m + 1 ≡ 2 ^ (w - len) → r ≡ bit_and n (2 ^ w - 1 - m) → r ≡ cleared w n len
+pub cleared_by : (w n len m r : ℕ) → n < 2 ^ w → m + 1 ≡ 2 ^ (w - len) → r ≡ bit_and n (2 ^ w - 1 - m)
+    → r ≡ cleared w n len
 cleared_by w n len m r below mask is = is ∙ clear_host w (w - len) n m (omega arith) below mask
 
 -- and what `n | m` is
@@ -16,11 +13,10 @@ pub filled_by : (w n len m r : ℕ) → m + 1 ≡ 2 ^ (w - len) → r ≡ bit_or
 filled_by w n len m r mask is = omega (arith, is, set_host (w - len) n m mask)
 
 -- the address with its host bits cleared is a prefix's, and that prefix holds the address
-pub relaxed_prefix : (a : IpAddr) (len : ℕ) → len ≤ width a → address_number a < 2 ^ width a → IsRelaxedPrefixOf a len (record { addr = cleared_addr a len; len = len })
-relaxed_prefix (V4 n) len short below = record { same_bits = refl; same_len = refl; is_prefix = cleared_prefix 32 n len short below; holds = cleared_holds 32 n len }
-relaxed_prefix (V6 n) len short below = record { same_bits = refl; same_len = refl; is_prefix = cleared_prefix 128 n len short below; holds = cleared_holds 128 n len }
+pub relaxed_prefix : (a : IpAddr) (len : ℕ) → len ≤ width a → address_number a < 2 ^ width a
+    → IsRelaxedPrefixOf a len (record { addr = cleared_addr a len; len = len })
+relaxed_prefix a len short below = grind (arith, cleared_holds, cleared_prefix)
 
 -- no address has more than 128 bits
 pub few_bits : (a : IpAddr) → width a ≤ 128
-few_bits (V4 n) = lit≤ tt
-few_bits (V6 n) = lit≤ tt
+few_bits a = grind (arith)

@@ -1,3 +1,4 @@
+pub mod Common
 pub mod Covering
 pub mod HostBits
 pub mod MaxLenLemmas

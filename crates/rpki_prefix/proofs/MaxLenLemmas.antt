@@ -1,26 +1,15 @@
 -- A text writes one prefix with a greatest length or without, or has one fault; and what is printed writes what it was
 -- printed of.
-use Rattle.std.proofs.Common.{◌≡◌, ℕ, ◌-◌, ◌^◌, ◌≢◌, inl, inr, List, [], ◌∷◌, ◌++◌, decimal, Option, Some, None, Result, MatchResult, All, refl, sym, ap, subst, arith, append-nil}
+use Rattle.rpki_prefix.proofs.Common.{All, List, MatchResult, None, Option, Result, Some, [], ap, append-nil, arith, decimal, inl, inr, refl, subst, sym, ℕ, ◌++◌, ◌-◌, ◌^◌, ◌∷◌, ◌≡◌, ◌≢◌, IsAddressByte, ip_bytes, not_dash, around_at, none_around, IsNumberText-decimal, IsNumberText-one, Answers-from_found, Around, HasNo, dash, slash, HasNumberFault, IsNumberText, ArePrefixAndMax, HasMaxLen, HasMaxLenError, HasMaxLenTextFault, IsMaxLenOf, IsMaxLenText, IsMaxLenTextOf, MaxLenValue, ReadsMaxLen, max_text, HasPrefixTextFault, IsPrefixText, prefix_text, FamilyPrefix, IsFamilyPrefix, ParsePrefixError}
 use Rattle.std.specs.List.{AllByRecursion}
 use Rattle.std.specs.Str.Parse.{AllDigits}
 use Rattle.std.proofs.lemmas.Fmt.{decimal_is_IsNumeral}
 use Rattle.std.proofs.lemmas.List.Elements.{All-append, All-cons, All-from_recursion, All-weaker}
 use Rattle.std.proofs.lemmas.Str.Parse.{digit_from_value}
-use Rattle.rpki_text.specs.Cuts.{HasNo, Around, slash, dash}
-use Rattle.rpki_text.specs.Numbers.{IsNumberText, HasNumberFault}
 use Rattle.rpki_addr.specs.PrintedAddress.{ip_text}
-use Rattle.rpki_addr.proofs.AddressBytes.{IsAddressByte, ip_bytes, not_dash}
-use Rattle.rpki_text.proofs.NumberTexts.{IsNumberText-one, IsNumberText-decimal}
-use Rattle.rpki_text.proofs.CutLemmas.{none_around, around_at}
-use Rattle.rpki_text.proofs.ReadingLemmas.{Answers-from_found}
-use Rattle.rpki_prefix.specs.MaxLen.{MaxLenValue, IsMaxLenOf, HasMaxLenError, ArePrefixAndMax, HasMaxLen, IsMaxLenTextOf, IsMaxLenText, HasMaxLenTextFault, max_text, ReadsMaxLen}
-use Rattle.rpki_prefix.specs.PrefixText.{IsPrefixText, HasPrefixTextFault, prefix_text}
-use Rattle.rpki_prefix.specs.Values.{FamilyPrefix, IsFamilyPrefix}
 use Rattle.rpki_prefix.specs.declared.error.MaxLenError.{MaxLenError}
-use Rattle.rpki_prefix.specs.declared.error.MaxLenError.TheVariants.{Overflow, Underflow}
 use Rattle.rpki_prefix.specs.declared.error.ParseMaxLenPrefixError.{ParseMaxLenPrefixError}
 use Rattle.rpki_prefix.specs.declared.error.ParseMaxLenPrefixError.TheVariants.{InvalidPrefix, InvalidMaxLenFormat, InvalidMaxLenValue}
-use Rattle.rpki_prefix.specs.declared.error.ParsePrefixError.{ParsePrefixError}
 use Rattle.rpki_prefix.proofs.HostBits.{few_bits}
 use Rattle.rpki_prefix.proofs.TextLemmas.{number_apart, same_number_fault, IsPrefixText-one, IsPrefixText-no_fault, HasPrefixTextFault-one, IsPrefixText-prefix_text}
 
@@ -52,18 +41,16 @@ text_one text x y h k = value_one text x.prefix y.prefix x.max_len y.max_len h k
 
 -- a greatest length of the prefix has no error
 max_apart : (p : FamilyPrefix) (n : ℕ) (f : MaxLenError) → IsMaxLenOf p (Some n) → HasMaxLenError p (Some n) f → ⊥
-max_apart p n Overflow h above = let upto = h.1 in omega (arith, upto, above)
-max_apart p n Underflow h k = let from = h.0 in let below = k.1 in omega (arith, from, below)
+max_apart p n f h above = grind (arith)
 
 -- there is one error
-max_error_one : (p : FamilyPrefix) (n : ℕ) (f g : MaxLenError) → HasMaxLenError p (Some n) f → HasMaxLenError p (Some n) g → f ≡ g
-max_error_one p n Overflow Overflow h k = refl
-max_error_one p n Overflow Underflow h k = absurd (let upto = k.0 in omega (arith, h, upto))
-max_error_one p n Underflow Overflow h k = absurd (let upto = h.0 in omega (arith, k, upto))
-max_error_one p n Underflow Underflow h k = refl
+max_error_one : (p : FamilyPrefix) (n : ℕ) (f g : MaxLenError) → HasMaxLenError p (Some n) f
+    → HasMaxLenError p (Some n) g → f ≡ g
+max_error_one p n f g h k = grind (arith)
 
 -- a text that writes a prefix and a greatest length has no fault
-apart_of : (text : List ℕ) (p : FamilyPrefix) (m : Option ℕ) (e : ParseMaxLenPrefixError) → IsMaxLenTextOf text p m → HasMaxLenTextFault text e → ⊥
+apart_of : (text : List ℕ) (p : FamilyPrefix) (m : Option ℕ) (e : ParseMaxLenPrefixError) → IsMaxLenTextOf text p m
+    → HasMaxLenTextFault text e → ⊥
 apart_of text p None (InvalidPrefix f) h (inl k) = IsPrefixText-no_fault text p f h.1 k.1
 apart_of text p None (InvalidPrefix f) h (inr k) = none_around dash text _ h.0 k
 apart_of text p None (InvalidMaxLenFormat f) h k = none_around dash text _ h.0 k
@@ -81,29 +68,34 @@ apart_of text p (Some m) (InvalidMaxLenValue f) h (q, n, both, fault) =
     max_apart p m f h.1 (subst (λ r. HasMaxLenError r (Some m) f) same.prefix (subst (λ k. HasMaxLenError q (Some k) f) same.max fault))
 
 -- so a text that writes a value has none
-text_apart : (text : List ℕ) (m : MaxLenValue) (e : ParseMaxLenPrefixError) → IsMaxLenText text m → HasMaxLenTextFault text e → ⊥
+text_apart : (text : List ℕ) (m : MaxLenValue) (e : ParseMaxLenPrefixError) → IsMaxLenText text m
+    → HasMaxLenTextFault text e → ⊥
 text_apart text m e h k = apart_of text m.prefix m.max_len e h k
 
 -- a prefix before the dash has no fault there
-faulty_prefix : (text : List ℕ) (f : ParsePrefixError) (P : List ℕ → Type 0) → HasMaxLenTextFault text (InvalidPrefix f) → Around dash text (λ l r. (p : FamilyPrefix) × IsPrefixText l p × P r) → ⊥
+faulty_prefix : (text : List ℕ) (f : ParsePrefixError) (P : List ℕ → Type 0) → HasMaxLenTextFault text (InvalidPrefix f)
+    → Around dash text (λ l r. (p : FamilyPrefix) × IsPrefixText l p × P r) → ⊥
 faulty_prefix text f P (inl h) k = none_around dash text _ h.0 k
 faulty_prefix text f P (inr h) k =
     let (p, is, _) = k.holds in
     IsPrefixText-no_fault k.left p f is (around_at dash text k.left k.right (λ l r. HasPrefixTextFault l f) k.cut h)
 
 -- the prefix and the number, found round the dash
-as_around : (text : List ℕ) (p : FamilyPrefix) (n : ℕ) → HasMaxLen text p n → Around dash text (λ l r. (q : FamilyPrefix) × IsPrefixText l q × IsNumberText (2 ^ 8 - 1) r n)
+as_around : (text : List ℕ) (p : FamilyPrefix) (n : ℕ) → HasMaxLen text p n
+    → Around dash text (λ l r. (q : FamilyPrefix) × IsPrefixText l q × IsNumberText (2 ^ 8 - 1) r n)
 as_around text p n h = record { left = h.left; right = h.right; cut = h.cut; holds = (p, h.holds.prefix_text, h.holds.max_len_text) }
 
 -- what stands behind the dash is a number or isn't
-number_and_fault : (text : List ℕ) (p : FamilyPrefix) (n : ℕ) (f : _) → HasMaxLen text p n → HasMaxLenTextFault text (InvalidMaxLenFormat f) → ⊥
+number_and_fault : (text : List ℕ) (p : FamilyPrefix) (n : ℕ) (f : _) → HasMaxLen text p n
+    → HasMaxLenTextFault text (InvalidMaxLenFormat f) → ⊥
 number_and_fault text p n f h k =
     let here = around_at dash text k.left k.right (λ l r. ArePrefixAndMax l r p n) k.cut h in
     let (q, is, fault) = k.holds in
     number_apart k.right n f here.max_len_text fault
 
 -- a text has one fault
-fault_one : (text : List ℕ) (d e : ParseMaxLenPrefixError) → HasMaxLenTextFault text d → HasMaxLenTextFault text e → d ≡ e
+fault_one : (text : List ℕ) (d e : ParseMaxLenPrefixError) → HasMaxLenTextFault text d → HasMaxLenTextFault text e
+    → d ≡ e
 fault_one text (InvalidPrefix f) (InvalidPrefix g) (inl h) (inl k) = ap InvalidPrefix (HasPrefixTextFault-one text f g h.1 k.1)
 fault_one text (InvalidPrefix f) (InvalidPrefix g) (inl h) (inr k) = absurd (none_around dash text _ h.0 k)
 fault_one text (InvalidPrefix f) (InvalidPrefix g) (inr h) (inl k) = absurd (none_around dash text _ k.0 h)
@@ -138,7 +130,8 @@ prefix_no_dash p h =
     λ k l. all k 0 l
 
 -- what is printed of a value writes it
-written : (p : FamilyPrefix) (m : Option ℕ) → IsFamilyPrefix p → IsMaxLenOf p m → IsMaxLenTextOf (prefix_text p ++ max_text m) p m
+written : (p : FamilyPrefix) (m : Option ℕ) → IsFamilyPrefix p → IsMaxLenOf p m
+    → IsMaxLenTextOf (prefix_text p ++ max_text m) p m
 written p None h within = rw (append-nil (prefix_text p)) (prefix_no_dash p h, IsPrefixText-prefix_text p h)
 written p (Some n) h within =
     let few = few_bits p.addr in
@@ -153,7 +146,8 @@ written p (Some n) h within =
     )
 
 -- what is found is the answer, and what is printed is read back
-pub reads_max_len : (text : List ℕ) (r : Result MaxLenValue ParseMaxLenPrefixError) → MatchResult r (IsMaxLenText text) (HasMaxLenTextFault text) → ReadsMaxLen text r
+pub reads_max_len : (text : List ℕ) (r : Result MaxLenValue ParseMaxLenPrefixError)
+    → MatchResult r (IsMaxLenText text) (HasMaxLenTextFault text) → ReadsMaxLen text r
 reads_max_len text r found =
     let exact = Answers-from_found r found (text_one text) (text_apart text) (fault_one text) in
     record { exact = exact; reads_back = λ m h is. exact.each_value m (subst (λ t. IsMaxLenText t m) (sym is) (written m.prefix m.max_len h.0 h.1)) }

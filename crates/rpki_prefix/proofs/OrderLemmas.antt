@@ -1,19 +1,11 @@
 -- The orders of prefixes, without and with greatest lengths, are total, and what stands at one place in them is the
 -- same.
-use Rattle.std.proofs.Common.{rules, ◌≡◌, ◌↔◌, ℕ, Bool, true, false, ◌&&◌, eqb, Option, Some, None, refl, sym, ap, ap₂, ◌∙◌}
-use Rattle.std.proofs.lemmas.Bool.{and_parts, eqb-true}
+use Rattle.rpki_prefix.proofs.Common.{Bool, Option, ap, ap₂, arith, eqb, false, refl, rules, sym, true, ℕ, ◌&&◌, ◌↔◌, ◌∙◌, ◌≡◌, and_parts, eqb-true, is_eq, Equal, IpAddr, V4, V6, MaxLenValue, max_len_cmp, prefix_cmp, FamilyPrefix}
 use Rattle.std.proofs.lemmas.Cmp.{tied_itself}
 use Rattle.std.specs.Cmp.{Equal-is, IsTotalOrder}
 use Rattle.std.specs.Cmp.Rules.{comparing}
 use Rattle.std.specs.Option.{option_eq}
-use Rattle.std.specs.Ordering.{is_eq}
-use Rattle.std.specs.declared.cmp.Ordering.TheVariants.{Equal}
-use Rattle.rpki_addr.specs.declared.addr.IpAddr.{IpAddr}
-use Rattle.rpki_addr.specs.declared.addr.IpAddr.TheVariants.{V4, V6}
-use Rattle.rpki_prefix.specs.MaxLen.{MaxLenValue, max_len_cmp}
-use Rattle.rpki_prefix.specs.Order.{prefix_cmp}
 use Rattle.rpki_prefix.specs.OrderLaws.{IsSameAddress, prefix_ties, max_len_ties}
-use Rattle.rpki_prefix.specs.Values.{FamilyPrefix}
 
 pub prefix_total : IsTotalOrder prefix_cmp
 prefix_total = Prim.search (comparing, rules) depth 9
@@ -26,18 +18,13 @@ same_addr (V4 m) (V6 n) = false
 same_addr (V6 m) (V4 n) = false
 
 same_addr-true : (a b : IpAddr) → same_addr a b ≡ true → a ≡ b
-same_addr-true (V4 m) (V4 n) e = ap V4 (eqb-true m n e)
-same_addr-true (V6 m) (V6 n) e = ap V6 (eqb-true m n e)
-same_addr-true (V4 m) (V6 n) e = cc
-same_addr-true (V6 m) (V4 n) e = cc
+same_addr-true a b e = grind (arith, eqb-true)
 
 is_test : IsSameAddress same_addr
 is_test = record { of_v4 = λ m n. refl; of_v6 = λ m n. refl; v4_v6 = λ m n. refl; v6_v4 = λ m n. refl }
 
 same_prefix : (p q : FamilyPrefix) → (same_addr p.addr q.addr && eqb p.len q.len) ≡ true → p ≡ q
-same_prefix p q e =
-    let both = and_parts (same_addr p.addr q.addr) (eqb p.len q.len) e in
-    ap₂ (λ (a : IpAddr) (k : ℕ). let prefix : FamilyPrefix = record { addr = a; len = k } in prefix) (same_addr-true p.addr q.addr both.0) (eqb-true p.len q.len both.1)
+same_prefix p q e = grind (arith, and_parts, eqb-true, same_addr-true)
 
 pub one_place : (p q : FamilyPrefix) → (prefix_cmp p q ≡ Equal) ↔ (p ≡ q)
 one_place p q = (
@@ -49,10 +36,7 @@ pub max_len_total : IsTotalOrder max_len_cmp
 max_len_total = Prim.search (comparing, rules) depth 9
 
 option_same : (m n : Option ℕ) → option_eq eqb m n ≡ true → m ≡ n
-option_same None None e = refl
-option_same None (Some y) e = cc
-option_same (Some x) None e = cc
-option_same (Some x) (Some y) e = ap Some (eqb-true x y e)
+option_same m n e = grind (arith, eqb-true)
 
 max_len_tied : (m n : MaxLenValue) → is_eq (max_len_cmp m n) ≡ true → m ≡ n
 max_len_tied m n e =

@@ -1,31 +1,23 @@
 -- A text writes one prefix, or has one fault; and what is printed of a prefix writes it.
-use Rattle.std.proofs.Common.{◌≡◌, ℕ, ◌-◌, ◌^◌, ◌<◌, inl, inr, List, [], Result, Err, MatchResult, refl, sym, ap, ◌∙◌, subst, arith}
+use Rattle.rpki_prefix.proofs.Common.{Err, List, MatchResult, Result, [], ap, arith, inl, inr, refl, subst, sym, ℕ, ◌-◌, ◌<◌, ◌^◌, ◌∙◌, ◌≡◌, ip_bytes, no_slash, IpAddr, around_at, none_around, IsNumberText-decimal, IsNumberText-one, Answers-from_found, Around, HasNo, slash, HasNumberFault, IsNumberText, AreParts, HasNoParts, HasParts, HasPrefixTextFault, HasRelaxedPrefixTextFault, HasTextFaultBy, IsPrefixText, IsRelaxedPrefixText, IsTextBy, ReadsPrefix, prefix_text, FamilyPrefix, HasPrefixError, HasRelaxedPrefixError, IsFamilyPrefix, IsPrefixOf, IsRelaxedPrefixOf, address_number, cleared_addr, width, ParsePrefixError}
 use Rattle.rpki_addr.specs.AddressText.{IsIpText}
-use Rattle.rpki_text.specs.Cuts.{HasNo, Around, slash}
-use Rattle.rpki_text.specs.Numbers.{IsNumberText, HasNumberFault}
 use Rattle.rpki_text.specs.Reading.{Answers}
 use Rattle.rpki_addr.specs.ReadsAddress.{IsAddress}
-use Rattle.rpki_addr.specs.declared.addr.IpAddr.{IpAddr}
 use Rattle.rpki_text.specs.declared.number.ParseIntError.{ParseIntError}
-use Rattle.rpki_addr.proofs.AddressBytes.{ip_bytes, no_slash}
 use Rattle.rpki_addr.proofs.AddressReads.{IsIpText-one, IsIpText-ip_text}
-use Rattle.rpki_text.proofs.NumberTexts.{IsNumberText-one, IsNumberText-decimal}
-use Rattle.rpki_text.proofs.CutLemmas.{none_around, around_at}
 use Rattle.rpki_text.proofs.NumberLemmas.{number_answers}
-use Rattle.rpki_text.proofs.ReadingLemmas.{Answers-from_found}
 use Rattle.rpki_prefix.proofs.HostBits.{few_bits}
-use Rattle.rpki_prefix.specs.PrefixText.{AreParts, HasParts, HasNoParts, IsTextBy, HasTextFaultBy, IsPrefixText, HasPrefixTextFault, IsRelaxedPrefixText, HasRelaxedPrefixTextFault, prefix_text, ReadsPrefix}
-use Rattle.rpki_prefix.specs.Values.{FamilyPrefix, IsFamilyPrefix, IsPrefixOf, IsRelaxedPrefixOf, HasPrefixError, HasRelaxedPrefixError, cleared_addr, width, address_number}
-use Rattle.rpki_prefix.specs.declared.error.ParsePrefixError.{ParsePrefixError}
 use Rattle.rpki_prefix.specs.declared.error.ParsePrefixError.TheVariants.{Empty, MissingLen, InvalidAddr, InvalidLen, InvalidPrefix}
 use Rattle.rpki_prefix.specs.declared.error.PrefixError.{PrefixError}
 
 -- a number text has no fault, and any other has one
-pub number_apart : (text : List ℕ) (n : ℕ) (f : ParseIntError) → IsNumberText (2 ^ 8 - 1) text n → HasNumberFault (2 ^ 8 - 1) text f → ⊥
+pub number_apart : (text : List ℕ) (n : ℕ) (f : ParseIntError) → IsNumberText (2 ^ 8 - 1) text n
+    → HasNumberFault (2 ^ 8 - 1) text f → ⊥
 number_apart text n f h k = let e = (number_answers (2 ^ 8 - 1) text (Err f) k).each_value n h in cc
 
 -- and one alone
-pub same_number_fault : (text : List ℕ) (f g : ParseIntError) → HasNumberFault (2 ^ 8 - 1) text f → HasNumberFault (2 ^ 8 - 1) text g → f ≡ g
+pub same_number_fault : (text : List ℕ) (f g : ParseIntError) → HasNumberFault (2 ^ 8 - 1) text f
+    → HasNumberFault (2 ^ 8 - 1) text g → f ≡ g
 same_number_fault text f g h k = err_one (Err f) refl ((number_answers (2 ^ 8 - 1) text (Err f) h).each_fault g k)
   where
     err_one : (r : Result ℕ ParseIntError) → r ≡ Err f → r ≡ Err g → f ≡ g
@@ -56,7 +48,9 @@ parts_apart text a n (InvalidLen f) h k =
 parts_apart text a n (InvalidPrefix f) h k = k
 
 -- what stands before the slash is an address or isn't
-no_addr_and_addr : (text : List ℕ) (F : Type 0) (g : ParseIntError) → Around slash text (λ l r. ((a : IpAddr) → ¬ IsIpText l a) × F) → Around slash text (λ l r. (a : IpAddr) × IsIpText l a × HasNumberFault (2 ^ 8 - 1) r g) → ⊥
+no_addr_and_addr : (text : List ℕ) (F : Type 0) (g : ParseIntError)
+    → Around slash text (λ l r. ((a : IpAddr) → ¬ IsIpText l a) × F)
+    → Around slash text (λ l r. (a : IpAddr) × IsIpText l a × HasNumberFault (2 ^ 8 - 1) r g) → ⊥
 no_addr_and_addr text F g h k = let (a, is, fault) = k.holds in (around_at slash text k.left k.right (λ l r. ((b : IpAddr) → ¬ IsIpText l b) × F) k.cut h).0 a is
 
 -- a text without them has one fault
@@ -76,14 +70,16 @@ module _ (Rule : IpAddr → ℕ → FamilyPrefix → Type 0) (Fails : IpAddr →
         rule_one k.addr k.len p q (subst (λ a. Rule a k.len p) same.address (subst (λ n. Rule h.addr n p) same.length h.prefix)) k.prefix
 
     -- and has no fault then
-    text_apart : (text : List ℕ) (p : FamilyPrefix) (e : ParsePrefixError) → IsTextBy Rule text p → HasTextFaultBy Fails text e → ⊥
+    text_apart : (text : List ℕ) (p : FamilyPrefix) (e : ParsePrefixError) → IsTextBy Rule text p
+        → HasTextFaultBy Fails text e → ⊥
     text_apart text p e h (inl k) = parts_apart text h.addr h.len e h.parts k
     text_apart text p e h (inr (a, n, f, parts, fault, _)) =
         let same = parts_one text h.addr a h.len n h.parts parts in
         apart a n p f (subst (λ b. Rule b n p) same.address (subst (λ m. Rule h.addr m p) same.length h.prefix)) fault
 
     -- and else one fault
-    fault_one : (text : List ℕ) (d e : ParsePrefixError) → HasTextFaultBy Fails text d → HasTextFaultBy Fails text e → d ≡ e
+    fault_one : (text : List ℕ) (d e : ParsePrefixError) → HasTextFaultBy Fails text d → HasTextFaultBy Fails text e
+        → d ≡ e
     fault_one text d e (inl h) (inl k) = no_parts_one text d e h k
     fault_one text d e (inl h) (inr (a, n, f, parts, _, _)) = absurd (parts_apart text a n d parts h)
     fault_one text d e (inr (a, n, f, parts, _, _)) (inl k) = absurd (parts_apart text a n e parts k)
@@ -92,7 +88,9 @@ module _ (Rule : IpAddr → ℕ → FamilyPrefix → Type 0) (Fails : IpAddr →
         u ∙ ap InvalidPrefix (fails_one b m f g (subst (λ c. Fails c m f) same.address (subst (λ l. Fails a l f) same.length h)) k) ∙ sym v
 
     -- so what is found is the answer
-    answers_by : (text : List ℕ) (r : Result FamilyPrefix ParsePrefixError) → MatchResult r (IsTextBy Rule text) (HasTextFaultBy Fails text) → Answers (IsTextBy Rule text) (HasTextFaultBy Fails text) r
+    answers_by : (text : List ℕ) (r : Result FamilyPrefix ParsePrefixError)
+        → MatchResult r (IsTextBy Rule text) (HasTextFaultBy Fails text)
+        → Answers (IsTextBy Rule text) (HasTextFaultBy Fails text) r
     answers_by text r found = Answers-from_found r found (text_one text) (text_apart text) (fault_one text)
 
 -- of an address and a length there is one prefix, or one reason that there is none
@@ -116,15 +114,19 @@ same_width : (a : IpAddr) (n : ℕ) → width (cleared_addr a n) ≡ width a
 same_width v0 n = grind (arith)
 
 -- a prefix and an error exclude each other
-relaxed_apart : (a : IpAddr) (n : ℕ) (p : FamilyPrefix) (f : PrefixError) → IsRelaxedPrefixOf a n p → HasRelaxedPrefixError a n f → ⊥
+relaxed_apart : (a : IpAddr) (n : ℕ) (p : FamilyPrefix) (f : PrefixError) → IsRelaxedPrefixOf a n p
+    → HasRelaxedPrefixError a n f → ⊥
 relaxed_apart a n p v3 h above = grind (arith, same_width)
 
 -- there is one error
-relaxed_error_one : (a : IpAddr) (n : ℕ) (f g : PrefixError) → HasRelaxedPrefixError a n f → HasRelaxedPrefixError a n g → f ≡ g
+relaxed_error_one : (a : IpAddr) (n : ℕ) (f g : PrefixError) → HasRelaxedPrefixError a n f → HasRelaxedPrefixError a n g
+    → f ≡ g
 relaxed_error_one a n v2 v3 h k = grind (arith)
 
 -- what is found by the relaxed reader is the answer
-pub reads_relaxed : (text : List ℕ) (r : Result FamilyPrefix ParsePrefixError) → MatchResult r (IsRelaxedPrefixText text) (HasRelaxedPrefixTextFault text) → Answers (IsRelaxedPrefixText text) (HasRelaxedPrefixTextFault text) r
+pub reads_relaxed : (text : List ℕ) (r : Result FamilyPrefix ParsePrefixError)
+    → MatchResult r (IsRelaxedPrefixText text) (HasRelaxedPrefixTextFault text)
+    → Answers (IsRelaxedPrefixText text) (HasRelaxedPrefixTextFault text) r
 reads_relaxed = answers_by IsRelaxedPrefixOf HasRelaxedPrefixError relaxed_one relaxed_apart relaxed_error_one
 
 -- what is printed
@@ -136,7 +138,9 @@ pub IsPrefixText-prefix_text : (p : FamilyPrefix) → IsFamilyPrefix p → IsPre
 IsPrefixText-prefix_text p h = grind (arith, IsIpText-ip_text, IsNumberText-decimal, few_bits, ip_bytes, is_address, no_slash)
 
 -- what is found by the strict reader is the answer
-pub prefix_text_answers : (text : List ℕ) (r : Result FamilyPrefix ParsePrefixError) → MatchResult r (IsPrefixText text) (HasPrefixTextFault text) → Answers (IsPrefixText text) (HasPrefixTextFault text) r
+pub prefix_text_answers : (text : List ℕ) (r : Result FamilyPrefix ParsePrefixError)
+    → MatchResult r (IsPrefixText text) (HasPrefixTextFault text)
+    → Answers (IsPrefixText text) (HasPrefixTextFault text) r
 prefix_text_answers = answers_by IsPrefixOf HasPrefixError prefix_one prefix_apart error_one
 
 -- a text writes one prefix
@@ -144,15 +148,18 @@ pub IsPrefixText-one : (text : List ℕ) (p q : FamilyPrefix) → IsPrefixText t
 IsPrefixText-one = text_one IsPrefixOf HasPrefixError prefix_one prefix_apart error_one
 
 -- and has no fault then
-pub IsPrefixText-no_fault : (text : List ℕ) (p : FamilyPrefix) (e : ParsePrefixError) → IsPrefixText text p → HasPrefixTextFault text e → ⊥
+pub IsPrefixText-no_fault : (text : List ℕ) (p : FamilyPrefix) (e : ParsePrefixError) → IsPrefixText text p
+    → HasPrefixTextFault text e → ⊥
 IsPrefixText-no_fault = text_apart IsPrefixOf HasPrefixError prefix_one prefix_apart error_one
 
 -- and else one fault
-pub HasPrefixTextFault-one : (text : List ℕ) (d e : ParsePrefixError) → HasPrefixTextFault text d → HasPrefixTextFault text e → d ≡ e
+pub HasPrefixTextFault-one : (text : List ℕ) (d e : ParsePrefixError) → HasPrefixTextFault text d
+    → HasPrefixTextFault text e → d ≡ e
 HasPrefixTextFault-one = fault_one IsPrefixOf HasPrefixError prefix_one prefix_apart error_one
 
 -- and what is printed is read back
-pub reads_prefix : (text : List ℕ) (r : Result FamilyPrefix ParsePrefixError) → MatchResult r (IsPrefixText text) (HasPrefixTextFault text) → ReadsPrefix text r
+pub reads_prefix : (text : List ℕ) (r : Result FamilyPrefix ParsePrefixError)
+    → MatchResult r (IsPrefixText text) (HasPrefixTextFault text) → ReadsPrefix text r
 reads_prefix text r found =
     let exact = prefix_text_answers text r found in
     record { exact = exact; reads_back = λ p h is. exact.each_value p (subst (λ t. IsPrefixText t p) (sym is) (IsPrefixText-prefix_text p h)) }

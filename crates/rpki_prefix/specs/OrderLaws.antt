@@ -51,7 +51,8 @@ same_ends w a b k l = elim (cases_eq k l) [
 ]
 
 -- within a family
-same_keys : (w a b k l : ℕ) → (eqb a b && eqb k l) ≡ is_eq (ordering_then (nat_cmp (a + 2 ^ (w - k) - 1) (b + 2 ^ (w - l) - 1)) (nat_cmp l k))
+same_keys : (w a b k l : ℕ)
+    → (eqb a b && eqb k l) ≡ is_eq (ordering_then (nat_cmp (a + 2 ^ (w - k) - 1) (b + 2 ^ (w - l) - 1)) (nat_cmp l k))
 same_keys w a b k l =
     same_ends w a b k l
     ∙ sym (is_eq_then (nat_cmp (a + 2 ^ (w - k) - 1) (b + 2 ^ (w - l) - 1)) (nat_cmp l k)
@@ -59,7 +60,8 @@ same_keys w a b k l =
 
 module _ (test : IpAddr → IpAddr → Bool) (is : IsSameAddress test) where
   -- the keys of two addresses with lengths
-  ties_at : (a b : IpAddr) (k l : ℕ) → (test a b && eqb k l) ≡ is_eq (prefix_cmp (record { addr = a; len = k }) (record { addr = b; len = l }))
+  ties_at : (a b : IpAddr) (k l : ℕ)
+      → (test a b && eqb k l) ≡ is_eq (prefix_cmp (record { addr = a; len = k }) (record { addr = b; len = l }))
   ties_at (V4 m) (V4 n) k l = rw (is.of_v4 m n) (same_keys 32 m n k l)
   ties_at (V6 m) (V6 n) k l = rw (is.of_v6 m n) (same_keys 128 m n k l)
   ties_at (V4 m) (V6 n) k l = rw (is.v4_v6 m n) refl
@@ -78,5 +80,6 @@ option_ties (Some x) (Some y) = eq_turned x y ∙ sym (is_eq_nat y x)
 
 module _ (test : IpAddr → IpAddr → Bool) (is : IsSameAddress test) where
   pub max_len_ties : (x y : MaxLenValue)
-      → ((test x.prefix.addr y.prefix.addr && eqb x.prefix.len y.prefix.len) && option_eq eqb x.max_len y.max_len) ≡ is_eq (max_len_cmp x y)
+      → ((test x.prefix.addr y.prefix.addr && eqb x.prefix.len y.prefix.len) && option_eq eqb x.max_len y.max_len)
+      ≡ is_eq (max_len_cmp x y)
   max_len_ties x y = rw (is_eq_then (prefix_cmp x.prefix y.prefix) (option_cmp nat_cmp y.max_len x.max_len), prefix_ties test is x.prefix y.prefix, option_ties x.max_len y.max_len) refl

@@ -1,5 +1,5 @@
 -- On texts cut at a byte: a text without the byte isn't cut, and a text is cut in one way.
-use Rattle.std.proofs.Common.{◌≡◌, ℕ, suc, List, [], ◌∷◌, ◌++◌, length, arith, refl, sym, ◌∙◌, subst}
+use Rattle.rpki_text.proofs.Common.{List, [], arith, length, refl, subst, suc, ℕ, ◌++◌, ◌∷◌, ◌≡◌}
 use Rattle.rpki_text.specs.Cuts.{HasNo, IsCutAt, Around}
 
 byte_apart : (b : ℕ) (left right : List ℕ) → HasNo b (left ++ b ∷ right) → ⊥
@@ -13,7 +13,8 @@ HasNo-no_cut b text left right none cut = byte_apart b left right (subst (HasNo 
 pub none_around : (b : ℕ) (text : List ℕ) (P : List ℕ → List ℕ → Type 0) → HasNo b text → Around b text P → ⊥
 none_around b text P none h = HasNo-no_cut b text h.left h.right none h.cut
 
-one_cut : (b : ℕ) (left right before after : List ℕ) → HasNo b left → HasNo b before → left ++ b ∷ right ≡ before ++ b ∷ after → (left ≡ before) × (right ≡ after)
+one_cut : (b : ℕ) (left right before after : List ℕ) → HasNo b left → HasNo b before
+    → left ++ b ∷ right ≡ before ++ b ∷ after → (left ≡ before) × (right ≡ after)
 one_cut b [] right [] after h k e = let same : right ≡ after = cc in (refl, same)
 one_cut b [] right (y ∷ before) after h k e = let same : y ≡ b = cc in absurd (k 0 (omega arith) same)
 one_cut b (x ∷ left) right [] after h k e = let same : x ≡ b = cc in absurd (h 0 (omega arith) same)
@@ -24,10 +25,9 @@ one_cut b (x ∷ left) right (y ∷ before) after h k e =
     ((let front = rest.0 in cc), rest.1)
 
 -- what stands round the first b of a text holds of every cut at it
-pub around_at : (b : ℕ) (text left right : List ℕ) (P : List ℕ → List ℕ → Type 0) → IsCutAt b text left right → Around b text P → P left right
-around_at b text left right P cut h =
-    let same = one_cut b h.left h.right left right h.cut.first cut.first (sym h.cut.split ∙ cut.split) in
-    subst (λ l. P l right) same.0 (subst (λ r. P h.left r) same.1 h.holds)
+pub around_at : (b : ℕ) (text left right : List ℕ) (P : List ℕ → List ℕ → Type 0) → IsCutAt b text left right
+    → Around b text P → P left right
+around_at b text left right P cut h = grind (arith, one_cut)
 
 -- fronts of one length leave the same rest
 pub same_rest : (xs ys rest other : List ℕ) → length xs ≡ length ys → xs ++ rest ≡ ys ++ other → rest ≡ other

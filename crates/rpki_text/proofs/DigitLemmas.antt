@@ -1,11 +1,7 @@
 -- On numbers as digits.
-use Rattle.std.proofs.Common.{◌≡◌, ℕ, zero, suc, ◌+◌, ◌*◌, ◌/◌, ◌%◌, ◌^◌, ◌<◌, ◌≤◌, List, [], ◌∷◌, ◌++◌, length, get_or, arith, refl, ◌∙◌, length-append, add-one}
+use Rattle.rpki_text.proofs.Common.{List, [], add-one, arith, get_or, length, length-append, refl, suc, zero, ℕ, ◌%◌, ◌*◌, ◌++◌, ◌+◌, ◌/◌, ◌<◌, ◌^◌, ◌∙◌, ◌∷◌, ◌≡◌, ◌≤◌, div-add-mod, mul_comm, pow-le-pow_right, pow-suc, pow-succ', pow-zero, number_push, AllByRecursion}
 use Rattle.std.specs.Int.Digits.{number_from_digits}
-use Rattle.std.specs.List.{AllByRecursion}
-use Rattle.std.proofs.lemmas.Int.Digits.{number_push}
-use Rattle.std.proofs.lemmas.Nat.{div_below, mod_below}
-use Rattle.std.proofs.lemmas.Nat.{mul-add-lt}
-use Rattle.std.proofs.Math.Nat.{pow-zero, pow-suc, pow-succ', pow-le-pow_right, div-add-mod, mul_comm}
+use Rattle.std.proofs.lemmas.Nat.{div_below, mod_below, mul-add-lt}
 use Rattle.rpki_text.specs.Digits.{last_digits}
 
 module _ (base : ℕ) (some : 0 < base) where
@@ -21,7 +17,8 @@ module _ (base : ℕ) (some : 0 < base) where
   length-last_digits zero n = refl
   length-last_digits (suc k) n = omega (arith, length-append (last_digits base k (n / base)) ((n % base) ∷ []), length-last_digits k (n / base))
 
-  below_push : (xs : List ℕ) (d : ℕ) → AllByRecursion (λ x. x < base) xs → d < base → AllByRecursion (λ x. x < base) (xs ++ d ∷ [])
+  below_push : (xs : List ℕ) (d : ℕ) → AllByRecursion (λ x. x < base) xs → d < base
+      → AllByRecursion (λ x. x < base) (xs ++ d ∷ [])
   below_push [] d h l = (l, tt)
   below_push (x ∷ xs) d h l = (h.0, below_push xs d h.1 l)
 

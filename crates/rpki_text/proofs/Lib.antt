@@ -1,4 +1,5 @@
 -- Lemmas on what readers answer, on lines, on numbers in decimal and on lists of texts.
+pub mod Common
 pub mod CutLemmas
 pub mod DigitLemmas
 pub mod ElementLemmas

@@ -1,45 +1,27 @@
 -- Texts of lists: their elements one by one, and their one list of values or first fault.
-use Rattle.std.proofs.Common.{◌≡◌, ℕ, ◌+◌, ◌<◌, List, [], ◌∷◌, ◌++◌, length, take, drop, get_or, cond, eqb, ltb, true, false, Bool, Result, Ok, Err, MatchResult, arith, refl, sym, ap, ◌∙◌, subst, add-one}
-use Rattle.std.specs.List.{slice_split}
-use Rattle.std.specs.Str.{trim}
-use Rattle.std.proofs.lemmas.List.{take-append-drop}
-use Rattle.std.proofs.lemmas.Bool.{lt-ltb}
-use Rattle.std.proofs.Math.Seq.{drop-cons}
+use Rattle.rpki_text.proofs.Common.{Bool, List, MatchResult, Result, [], add-one, ap, arith, cond, drop, eqb, get_or, length, ltb, refl, subst, sym, take, true, ℕ, ◌++◌, ◌+◌, ◌<◌, ◌∙◌, ◌∷◌, ◌≡◌, drop-cons, lt-ltb, take-append-drop, slice_split, trim, HasFirstFault, HaveValues, comma, elements, kept, AnswersOrMemory}
 use Rattle.rpki_text.specs.declared.memory.OrMemory.{OrMemory}
-use Rattle.rpki_text.specs.declared.memory.OrMemory.TheVariants.{Refused, Memory}
 use Rattle.rpki_text.specs.Memory.{IfRefused}
-use Rattle.rpki_text.specs.Reading.{AnswersOrMemory}
-use Rattle.rpki_text.specs.Lists.{kept, elements, comma, HaveValues, HasFirstFault}
 
 -- an answer that is right decides a reader that may want memory, where there is one value or one fault at most
 module _ {A V E : Type 0} (view : V → A) (Has : A → Type 0) (Fails : E → Type 0) (one : (a b : A) → Has a → Has b → a ≡ b) (apart : (a : A) (e : E) → Has a → Fails e → ⊥) (same : (d e : E) → Fails d → Fails e → d ≡ e) where
-  pub AnswersOrMemory-from_found : (r : Result V (OrMemory E)) → MatchResult r (λ v. Has (view v)) (IfRefused Fails) → AnswersOrMemory view Has Fails r
-  AnswersOrMemory-from_found (Ok v) found = record {
-    found = found;
-    each_value = λ a h. one (view v) a found h;
-    each_fault = λ e f. apart (view v) e found f;
-  }
-  AnswersOrMemory-from_found (Err (Refused d)) found = record {
-    found = found;
-    each_value = λ a h. apart a d h found;
-    each_fault = λ e f. same d e found f;
-  }
-  AnswersOrMemory-from_found (Err (Memory d)) found = record {
-    found = tt;
-    each_value = λ a h. tt;
-    each_fault = λ e f. tt;
-  }
+  pub AnswersOrMemory-from_found : (r : Result V (OrMemory E)) → MatchResult r (λ v. Has (view v)) (IfRefused Fails)
+      → AnswersOrMemory view Has Fails r
+  AnswersOrMemory-from_found r found = grind (arith)
 
 module _ {A : Type 0} (Has : List ℕ → A → Type 0) where
   -- two lists in a row
-  pub HaveValues-append : (texts more : List (List ℕ)) (values others : List A) → HaveValues Has texts values → HaveValues Has more others → HaveValues Has (texts ++ more) (values ++ others)
+  pub HaveValues-append : (texts more : List (List ℕ)) (values others : List A) → HaveValues Has texts values
+      → HaveValues Has more others → HaveValues Has (texts ++ more) (values ++ others)
   HaveValues-append [] more [] others h k = k
   HaveValues-append (t ∷ texts) more (v ∷ values) others h k = (h.0, HaveValues-append texts more values others h.1 k)
   HaveValues-append [] more (v ∷ values) others h k = absurd h
   HaveValues-append (t ∷ texts) more [] others h k = absurd h
 
   -- texts have one list of values, if each has one value
-  pub HaveValues-one : ((t : List ℕ) (a b : A) → Has t a → Has t b → a ≡ b) → (texts : List (List ℕ)) (values others : List A) → HaveValues Has texts values → HaveValues Has texts others → values ≡ others
+  pub HaveValues-one : ((t : List ℕ) (a b : A) → Has t a → Has t b → a ≡ b)
+      → (texts : List (List ℕ)) (values others : List A) → HaveValues Has texts values → HaveValues Has texts others
+      → values ≡ others
   HaveValues-one one [] [] [] h k = refl
   HaveValues-one one [] [] (w ∷ others) h k = absurd k
   HaveValues-one one [] (v ∷ values) others h k = absurd h
@@ -51,7 +33,8 @@ module _ {A : Type 0} (Has : List ℕ → A → Type 0) where
       cc
 
   -- a text among others has a value too
-  HaveValues-at : (front : List (List ℕ)) (bad : List ℕ) (rest : List (List ℕ)) (values : List A) → HaveValues Has (front ++ bad ∷ rest) values → (a : A) × Has bad a
+  HaveValues-at : (front : List (List ℕ)) (bad : List ℕ) (rest : List (List ℕ)) (values : List A)
+      → HaveValues Has (front ++ bad ∷ rest) values → (a : A) × Has bad a
   HaveValues-at [] bad rest [] h = absurd h
   HaveValues-at [] bad rest (v ∷ values) h = (v, h.0)
   HaveValues-at (t ∷ front) bad rest [] h = absurd h
@@ -59,13 +42,18 @@ module _ {A : Type 0} (Has : List ℕ → A → Type 0) where
 
   module _ {E : Type 0} (Fails : List ℕ → E → Type 0) (apart : (t : List ℕ) (a : A) (e : E) → Has t a → Fails t e → ⊥) where
     -- not all have values where one has a fault
-    pub first_fault_apart : (texts : List (List ℕ)) (values : List A) (e : E) → HaveValues Has texts values → HasFirstFault Has Fails texts e → ⊥
+    pub first_fault_apart : (texts : List (List ℕ)) (values : List A) (e : E) → HaveValues Has texts values
+        → HasFirstFault Has Fails texts e → ⊥
     first_fault_apart texts values e h f =
         let at = HaveValues-at f.front f.bad f.rest values (subst (λ t. HaveValues Has t values) f.split h) in
         apart f.bad at.0 e at.1 f.fault
 
     -- two first faults of one list stand at one place
-    one_first_fault : (front : List (List ℕ)) (bad : List ℕ) (rest others : List (List ℕ)) (worse : List ℕ) (more : List (List ℕ)) (values more_values : List A) (d e : E) → ((t : List ℕ) (d e : E) → Fails t d → Fails t e → d ≡ e) → HaveValues Has front values → HaveValues Has others more_values → Fails bad d → Fails worse e → front ++ bad ∷ rest ≡ others ++ worse ∷ more → d ≡ e
+    one_first_fault : (front : List (List ℕ)) (bad : List ℕ) (rest others : List (List ℕ)) (worse : List ℕ)
+        (more : List (List ℕ)) (values more_values : List A) (d e : E)
+        → ((t : List ℕ) (d e : E) → Fails t d → Fails t e → d ≡ e) → HaveValues Has front values
+        → HaveValues Has others more_values → Fails bad d → Fails worse e → front ++ bad ∷ rest ≡ others ++ worse ∷ more
+        → d ≡ e
     one_first_fault [] bad rest [] worse more values vs d e same h k f g is = let first : bad ≡ worse = cc in same worse d e (subst (λ t. Fails t d) first f) g
     one_first_fault [] bad rest (t ∷ others) worse more values [] d e same h k f g is = absurd k
     one_first_fault [] bad rest (t ∷ others) worse more values (v ∷ vs) d e same h k f g is = let first : t ≡ bad = cc in absurd (apart bad v d (subst (λ t. Has t v) first k.0) f)
@@ -78,13 +66,14 @@ module _ {A : Type 0} (Has : List ℕ → A → Type 0) where
         one_first_fault front bad rest others worse more values vs d e same h.1 k.1 f g tail
 
     -- so there is one first fault
-    pub same_first_fault : ((t : List ℕ) (d e : E) → Fails t d → Fails t e → d ≡ e) → (texts : List (List ℕ)) (d e : E) → HasFirstFault Has Fails texts d → HasFirstFault Has Fails texts e → d ≡ e
+    pub same_first_fault : ((t : List ℕ) (d e : E) → Fails t d → Fails t e → d ≡ e) → (texts : List (List ℕ)) (d e : E)
+        → HasFirstFault Has Fails texts d → HasFirstFault Has Fails texts e → d ≡ e
     same_first_fault same texts d e f g = one_first_fault f.front f.bad f.rest g.front g.bad g.rest f.values g.values d e same f.before g.before f.fault g.fault (sym f.split ∙ g.split)
 
 -- a first part that is kept or not, before two lists
-cond-append : (b : Bool) (t : List ℕ) (whole front back : List (List ℕ)) → whole ≡ front ++ back → cond b (t ∷ whole) whole ≡ cond b (t ∷ front) front ++ back
-cond-append true t whole front back e = ap (λ l. t ∷ l) e
-cond-append false t whole front back e = e
+cond-append : (b : Bool) (t : List ℕ) (whole front back : List (List ℕ)) → whole ≡ front ++ back
+    → cond b (t ∷ whole) whole ≡ cond b (t ∷ front) front ++ back
+cond-append b t whole front back e = grind (arith)
 
 -- what is kept of two lists of parts
 pub kept-append : (xs ys : List (List ℕ)) → kept (xs ++ ys) ≡ kept xs ++ kept ys
@@ -96,11 +85,13 @@ pub kept_one : (part : List ℕ) → (length (trim part) ≡ 0 → ⊥) → kept
 kept_one part some = let is : ltb 0 (length (trim part)) ≡ true = lt-ltb 0 (length (trim part)) (omega (arith, some)) in rw is
 
 -- the parts, cut round one of them
-pub parts_at : (parts : List (List ℕ)) (i : ℕ) (d : List ℕ) → i < length parts → parts ≡ take i parts ++ get_or parts i d ∷ drop (i + 1) parts
+pub parts_at : (parts : List (List ℕ)) (i : ℕ) (d : List ℕ) → i < length parts
+    → parts ≡ take i parts ++ get_or parts i d ∷ drop (i + 1) parts
 parts_at parts i d l = sym (take-append-drop i parts) ∙ ap (λ t. take i parts ++ t) (rw add-one (drop-cons parts i d l))
 
 -- what is kept of all parts, round one that is kept
-pub kept_at : (parts : List (List ℕ)) (i : ℕ) (part : List ℕ) → i < length parts → part ≡ get_or parts i part → (length (trim part) ≡ 0 → ⊥) → kept parts ≡ kept (take i parts) ++ trim part ∷ kept (drop (i + 1) parts)
+pub kept_at : (parts : List (List ℕ)) (i : ℕ) (part : List ℕ) → i < length parts → part ≡ get_or parts i part
+    → (length (trim part) ≡ 0 → ⊥) → kept parts ≡ kept (take i parts) ++ trim part ∷ kept (drop (i + 1) parts)
 kept_at parts i part l is some =
     ap kept (parts_at parts i part l)
     ∙ kept-append (take i parts) (get_or parts i part ∷ drop (i + 1) parts)
@@ -115,7 +106,11 @@ unfolding elements
 elements_are text = refl
 
 -- a part's fault is the list's first one, where the parts before it have values
-pub fault_at : {A E : Type 0} (Has : List ℕ → A → Type 0) (Fails : List ℕ → E → Type 0) (text : List ℕ) (i : ℕ) (part : List ℕ) (values : List A) (e : E) → (i < length (slice_split (λ b. eqb b comma) text)) × (part ≡ get_or (slice_split (λ b. eqb b comma) text) i part) → (length (trim part) ≡ 0 → ⊥) → HaveValues Has (kept (take i (slice_split (λ b. eqb b comma) text))) values → Fails (trim part) e → HasFirstFault Has Fails (elements text) e
+pub fault_at : {A E : Type 0} (Has : List ℕ → A → Type 0) (Fails : List ℕ → E → Type 0) (text : List ℕ) (i : ℕ)
+    (part : List ℕ) (values : List A) (e : E)
+    → (i < length (slice_split (λ b. eqb b comma) text)) × (part ≡ get_or (slice_split (λ b. eqb b comma) text) i part)
+    → (length (trim part) ≡ 0 → ⊥) → HaveValues Has (kept (take i (slice_split (λ b. eqb b comma) text))) values
+    → Fails (trim part) e → HasFirstFault Has Fails (elements text) e
 fault_at Has Fails text i part values e at some before fault = record {
   front = kept (take i (slice_split (λ b. eqb b comma) text));
   bad = trim part;
@@ -127,25 +122,28 @@ fault_at Has Fails text i part values e at some before fault = record {
 }
 
 -- one more part that is kept
-pub values_more : {A : Type 0} (Has : List ℕ → A → Type 0) (parts : List (List ℕ)) (part : List ℕ) (values : List A) (value : A) → HaveValues Has (kept parts) values → (length (trim part) ≡ 0 → ⊥) → Has (trim part) value → HaveValues Has (kept (parts ++ part ∷ [])) (values ++ value ∷ [])
-values_more Has parts part values value h some here =
-    rw (kept-append parts (part ∷ []), kept_one part some) (HaveValues-append Has (kept parts) (trim part ∷ []) values (value ∷ []) h (here, tt))
+pub values_more : {A : Type 0} (Has : List ℕ → A → Type 0) (parts : List (List ℕ)) (part : List ℕ) (values : List A)
+    (value : A) → HaveValues Has (kept parts) values → (length (trim part) ≡ 0 → ⊥) → Has (trim part) value
+    → HaveValues Has (kept (parts ++ part ∷ [])) (values ++ value ∷ [])
+values_more Has parts part values value h some here = grind (arith, HaveValues-append, kept-append, kept_one)
 
 -- what an element's reader says, in words that follow from it
 module _ {A E : Type 0} (Gives Has : List ℕ → A → Type 0) (Refuses Fails : List ℕ → E → Type 0) (has : (t : List ℕ) (a : A) → Gives t a → Has t a) (fails : (t : List ℕ) (e : E) → Refuses t e → Fails t e) where
   -- of all values
-  pub HaveValues-weaker : (texts : List (List ℕ)) (values : List A) → HaveValues Gives texts values → HaveValues Has texts values
+  pub HaveValues-weaker : (texts : List (List ℕ)) (values : List A) → HaveValues Gives texts values
+      → HaveValues Has texts values
   HaveValues-weaker [] [] h = tt
   HaveValues-weaker [] (v ∷ values) h = absurd h
   HaveValues-weaker (t ∷ texts) [] h = absurd h
   HaveValues-weaker (t ∷ texts) (v ∷ values) h = (has t v h.0, HaveValues-weaker texts values h.1)
 
   -- of the first fault
-  HasFirstFault-weaker : (texts : List (List ℕ)) (e : E) → HasFirstFault Gives Refuses texts e → HasFirstFault Has Fails texts e
+  HasFirstFault-weaker : (texts : List (List ℕ)) (e : E) → HasFirstFault Gives Refuses texts e
+      → HasFirstFault Has Fails texts e
   HasFirstFault-weaker texts e f = record { front = f.front; bad = f.bad; rest = f.rest; split = f.split; values = f.values; before = HaveValues-weaker f.front f.values f.before; fault = fails f.bad e f.fault }
 
   -- and of the answer
-  pub found_weaker : {V : Type 0} (view : V → List A) (texts : List (List ℕ)) (r : Result V (OrMemory E)) → MatchResult r (λ v. HaveValues Gives texts (view v)) (IfRefused (HasFirstFault Gives Refuses texts)) → MatchResult r (λ v. HaveValues Has texts (view v)) (IfRefused (HasFirstFault Has Fails texts))
-  found_weaker view texts (Ok v) h = HaveValues-weaker texts (view v) h
-  found_weaker view texts (Err (Refused e)) h = HasFirstFault-weaker texts e h
-  found_weaker view texts (Err (Memory e)) h = tt
+  pub found_weaker : {V : Type 0} (view : V → List A) (texts : List (List ℕ)) (r : Result V (OrMemory E))
+      → MatchResult r (λ v. HaveValues Gives texts (view v)) (IfRefused (HasFirstFault Gives Refuses texts))
+      → MatchResult r (λ v. HaveValues Has texts (view v)) (IfRefused (HasFirstFault Has Fails texts))
+  found_weaker view texts r h = grind (arith, HasFirstFault-weaker, HaveValues-weaker)

@@ -1,20 +1,7 @@
 -- Number texts: each has one value or one fault, and a scan from the left finds it.
-use Rattle.std.proofs.Common.{◌≡◌, ℕ, ◌+◌, ◌-◌, ◌*◌, ◌<◌, ◌≤◌, ◌≢◌, List, [], ◌∷◌, ◌++◌, length, take, drop, get_or, Result, Ok, Err, MatchResult, arith, refl, sym, ap, ◌∙◌, subst, ◌⊎◌, inl, inr, add-one, ◌^◌, length-drop}
-use Rattle.std.specs.Char.{digit_value}
-use Rattle.std.specs.Int.{IsInRange}
-use Rattle.std.proofs.Math.Seq.{drop-cons}
-use Rattle.std.proofs.lemmas.Str.Parse.{digit_from_value}
-use Rattle.std.proofs.lemmas.Bool.{cases_lt}
-use Rattle.std.specs.Str.Parse.{AllDigits, digits_value, digits_value_after, without_leading_plus}
-use Rattle.std.proofs.lemmas.Str.{digit_value_digit}
-use Rattle.std.proofs.lemmas.List.{take_more, take-append-drop, length-take, get_or-drop}
-use Rattle.std.proofs.lemmas.Int.Digits.{digits_value_more, digits_value-lt}
-use Rattle.std.proofs.Math.Nat.{pow-le-pow_right}
+use Rattle.rpki_text.proofs.Common.{List, MatchResult, Result, [], add-one, ap, arith, drop, get_or, length, length-drop, refl, subst, sym, take, ℕ, ◌*◌, ◌++◌, ◌+◌, ◌-◌, ◌<◌, ◌^◌, ◌∙◌, ◌∷◌, ◌≡◌, ◌≢◌, ◌≤◌, ◌⊎◌, pow-le-pow_right, drop-cons, cases_lt, digits_value-lt, digits_value_more, get_or-drop, length-take, take-append-drop, take_more, digit_value_digit, digit_from_value, digit_value, IsInRange, AllDigits, digits_value, digits_value_after, without_leading_plus, AreDigitsBetween, DigitsFail, HasInvalidDigit, HasNumberFault, IsNumberText, IsValueUpTo, PassesLimit, StopsBelow, Answers}
 use Rattle.rpki_text.specs.declared.number.ParseIntError.{ParseIntError}
-use Rattle.rpki_text.specs.declared.number.ParseIntError.TheVariants.{Empty, InvalidDigit, PosOverflow}
-use Rattle.rpki_text.specs.Reading.{Answers}
 use Rattle.rpki_text.proofs.ReadingLemmas.{Answers-from_found}
-use Rattle.rpki_text.specs.Numbers.{IsNumberText, IsValueUpTo, PassesLimit, StopsBelow, HasInvalidDigit, HasNumberFault, DigitsFail, AreDigitsBetween}
 
 -- digits and one digit more
 pub AllDigits-push : (xs : List ℕ) (c : ℕ) → AllDigits 10 xs → digit_value c < 10 → AllDigits 10 (xs ++ c ∷ [])
@@ -27,7 +14,8 @@ value_after_grows m n [] h = h
 value_after_grows m n (c ∷ cs) h = value_after_grows m (n * 10 + digit_value c) cs (omega arith)
 
 -- digits in two parts
-value_after_append : (n : ℕ) (xs ys : List ℕ) → digits_value_after 10 n (xs ++ ys) ≡ digits_value_after 10 (digits_value_after 10 n xs) ys
+value_after_append : (n : ℕ) (xs ys : List ℕ)
+    → digits_value_after 10 n (xs ++ ys) ≡ digits_value_after 10 (digits_value_after 10 n xs) ys
 value_after_append n [] ys = refl
 value_after_append n (x ∷ xs) ys = value_after_append (n * 10 + digit_value x) xs ys
 
@@ -59,25 +47,16 @@ no_digit_behind (y ∷ ys) c ws h l = no_digit_behind ys c ws h.1 l
 
 -- digits that stop at or below the limit have no beginning above it
 pub StopsBelow-not_above : (limit : ℕ) (ds : List ℕ) → StopsBelow limit ds → PassesLimit limit ds → ⊥
-StopsBelow-not_above limit ds s p =
-    elim (meet p.front p.rest s.front s.rest s.byte (sym p.split ∙ s.split)) [
-      | begins more e ↦ (
-          let bound = value_front p.front more in
-          let whole : digits_value 10 (p.front ++ more) ≡ digits_value 10 s.front = ap (digits_value 10) (sym e) in
-          omega (arith, p.above, s.value.within, bound, whole))
-      | beyond more e ↦ no_digit_behind s.front s.byte more (subst (AllDigits 10) e p.all_digits) s.not_digit
-    ]
+StopsBelow-not_above limit ds s p = grind (arith, meet, no_digit_behind, value_front)
 
 -- nor are all bytes digits then
 pub StopsBelow-no_numeral : (limit : ℕ) (ds : List ℕ) → StopsBelow limit ds → AllDigits 10 ds → ⊥
 StopsBelow-no_numeral limit ds s h = no_digit_behind s.front s.byte s.rest (subst (AllDigits 10) s.split h) s.not_digit
 
 -- a number text has no beginning above its limit
-IsNumberText-not_above : (limit n : ℕ) (text : List ℕ) → IsNumberText limit text n → PassesLimit limit (without_leading_plus text) → ⊥
-IsNumberText-not_above limit n text h p =
-    let bound = value_front p.front p.rest in
-    let whole : digits_value 10 (p.front ++ p.rest) ≡ digits_value 10 (without_leading_plus text) = ap (digits_value 10) (sym p.split) in
-    omega (arith, p.above, h.within, h.value, bound, whole)
+IsNumberText-not_above : (limit n : ℕ) (text : List ℕ) → IsNumberText limit text n
+    → PassesLimit limit (without_leading_plus text) → ⊥
+IsNumberText-not_above limit n text h p = grind (arith, value_front)
 
 -- no digits pass no limit
 none_above : (limit : ℕ) (ds : List ℕ) → ds ≡ [] → PassesLimit limit ds → ⊥
@@ -91,44 +70,31 @@ empty_not_above : (limit : ℕ) (text : List ℕ) → text ≡ [] → PassesLimi
 empty_not_above limit text e p = none_above limit (without_leading_plus text) (ap without_leading_plus e) p
 
 -- no text has both a value and a fault
-number_apart : (limit : ℕ) (text : List ℕ) (n : ℕ) (e : ParseIntError) → IsNumberText limit text n → HasNumberFault limit text e → ⊥
-number_apart limit text n Empty h f = (let none : length (without_leading_plus text) ≡ 0 = ap (λ t. length (without_leading_plus t)) f in omega (arith, h.digits.0, none))
-number_apart limit text n InvalidDigit h f = f.no_number n h
-number_apart limit text n PosOverflow h f = IsNumberText-not_above limit n text h f
+number_apart : (limit : ℕ) (text : List ℕ) (n : ℕ) (e : ParseIntError) → IsNumberText limit text n
+    → HasNumberFault limit text e → ⊥
+number_apart limit text n e h f = grind (arith, IsNumberText-not_above)
 
 -- a text has one fault at most
-same_fault : (limit : ℕ) (text : List ℕ) (d e : ParseIntError) → HasNumberFault limit text d → HasNumberFault limit text e → d ≡ e
-same_fault limit text Empty Empty f g = refl
-same_fault limit text Empty InvalidDigit f g = absurd (g.some_text f)
-same_fault limit text Empty PosOverflow f g = absurd (empty_not_above limit text f g)
-same_fault limit text InvalidDigit Empty f g = absurd (f.some_text g)
-same_fault limit text InvalidDigit InvalidDigit f g = refl
-same_fault limit text InvalidDigit PosOverflow f g = absurd (f.not_above g)
-same_fault limit text PosOverflow Empty f g = absurd (empty_not_above limit text g f)
-same_fault limit text PosOverflow InvalidDigit f g = absurd (g.not_above f)
-same_fault limit text PosOverflow PosOverflow f g = refl
+same_fault : (limit : ℕ) (text : List ℕ) (d e : ParseIntError) → HasNumberFault limit text d
+    → HasNumberFault limit text e → d ≡ e
+same_fault limit text d e f g = grind (arith, empty_not_above)
 
 -- so a right answer is the only one
-pub number_answers : (limit : ℕ) (text : List ℕ) (r : Result ℕ ParseIntError) → MatchResult r (IsNumberText limit text) (HasNumberFault limit text) → Answers (IsNumberText limit text) (HasNumberFault limit text) r
+pub number_answers : (limit : ℕ) (text : List ℕ) (r : Result ℕ ParseIntError)
+    → MatchResult r (IsNumberText limit text) (HasNumberFault limit text)
+    → Answers (IsNumberText limit text) (HasNumberFault limit text) r
 number_answers limit text r found = Answers-from_found r found (λ a b h k. sym h.value ∙ k.value) (number_apart limit text) (same_fault limit text)
 
 -- the text gives what the digits behind its plus give
-pub text_from_digits : (limit : ℕ) (text : List ℕ) (r : Result ℕ ParseIntError) → text ≢ [] → 0 < length (without_leading_plus text) → MatchResult r (IsValueUpTo limit (without_leading_plus text)) (DigitsFail limit (without_leading_plus text)) → MatchResult r (IsNumberText limit text) (HasNumberFault limit text)
-text_from_digits limit text (Ok n) some more h = record { digits = (more, h.all_digits); value = h.value; within = h.within }
-text_from_digits limit text (Err Empty) some more h = absurd h
-text_from_digits limit text (Err InvalidDigit) some more h = record {
-  some_text = some;
-  no_number = λ n k. StopsBelow-no_numeral limit _ h k.digits.1;
-  not_above = StopsBelow-not_above limit _ h;
-}
-text_from_digits limit text (Err PosOverflow) some more h = h
+pub text_from_digits : (limit : ℕ) (text : List ℕ) (r : Result ℕ ParseIntError) → text ≢ []
+    → 0 < length (without_leading_plus text)
+    → MatchResult r (IsValueUpTo limit (without_leading_plus text)) (DigitsFail limit (without_leading_plus text))
+    → MatchResult r (IsNumberText limit text) (HasNumberFault limit text)
+text_from_digits limit text r some more h = grind (arith, StopsBelow-no_numeral, StopsBelow-not_above)
 
 -- a byte outside `0` to `9` has no digit's value
 pub value_of_other : (b : ℕ) → (b < 48) ⊎ (57 < b) → 10 ≤ digit_value b
-value_of_other b other = elim (cases_lt (digit_value b) 10) [
-  | inl l ↦ (let range = digit_from_value b l in elim other [ inl low ↦ omega (arith, range.0) | inr high ↦ omega (arith, range.1) ])
-  | inr h ↦ h
-]
+value_of_other b other = grind (arith, cases_lt, digit_from_value)
 
 -- a list, cut round one of its places
 pub split_at : (xs : List ℕ) (i : ℕ) → i < length xs → xs ≡ take i xs ++ get_or xs i 0 ∷ drop (i + 1) xs
@@ -168,7 +134,8 @@ no_text [] e = refl
 no_text (x ∷ xs) e = absurd (omega (arith, e))
 
 -- a plus with no digits behind it
-pub no_digits : (limit : ℕ) (text : List ℕ) → text ≢ [] → length (without_leading_plus text) ≡ 0 → HasInvalidDigit limit text
+pub no_digits : (limit : ℕ) (text : List ℕ) → text ≢ [] → length (without_leading_plus text) ≡ 0
+    → HasInvalidDigit limit text
 no_digits limit text some none = record {
   some_text = some;
   no_number = λ n h. omega (arith, h.digits.0);
@@ -176,7 +143,8 @@ no_digits limit text some none = record {
 }
 
 -- fewer than ten digits write a number below 10 ^ 9
-pub few_below : (start end : ℕ) (text : List ℕ) (n : ℕ) → AreDigitsBetween start end text n → end - start < 10 → n < 10 ^ 9
+pub few_below : (start end : ℕ) (text : List ℕ) (n : ℕ) → AreDigitsBetween start end text n → end - start < 10
+    → n < 10 ^ 9
 few_below start end text n h few =
     let below = digits_value-lt 10 (take (end - start) (drop start text)) h.all_digits in
     let short : length (take (end - start) (drop start text)) ≤ 9 = omega (arith, length-take (end - start) (drop start text)) in
@@ -184,7 +152,9 @@ few_below start end text n h few =
     omega (arith, below, up, h.value)
 
 -- one digit more, which stands for n
-pub digit_more : (start end : ℕ) (text : List ℕ) (value n : ℕ) → AreDigitsBetween start end text value → end < length text → end - start < 10 → IsInRange 48 57 (get_or text end 0) → n ≡ get_or text end 0 - 48 → AreDigitsBetween start (end + 1) text (value * 10 + n)
+pub digit_more : (start end : ℕ) (text : List ℕ) (value n : ℕ) → AreDigitsBetween start end text value
+    → end < length text → end - start < 10 → IsInRange 48 57 (get_or text end 0) → n ≡ get_or text end 0 - 48
+    → AreDigitsBetween start (end + 1) text (value * 10 + n)
 digit_more start end text value n h here few digit is =
     let at : get_or (drop start text) (end - start) 0 ≡ get_or text end 0 = get_or-drop start text (end - start) 0 ∙ ap (λ i. get_or text i 0) (omega (arith, h.in_order)) in
     let more : IsValueUpTo (value * 10 + n) (take (end - start + 1) (drop start text)) (value * 10 + n) = value_more (value * 10 + n) value n (drop start text) (end - start) (omega (arith, length-drop start text, h.in_order)) (rw at digit) (is ∙ ap (λ b. b - 48) (sym at)) (record { all_digits = h.all_digits; value = h.value; within = omega arith }) (omega arith) in

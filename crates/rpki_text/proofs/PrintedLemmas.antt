@@ -1,17 +1,6 @@
 -- The elements of a printed list are the texts that were joined.
-use Rattle.std.proofs.Common.{◌≡◌, ℕ, ◌+◌, ◌-◌, ◌<◌, ◌≤◌, List, [], ◌∷◌, ◌++◌, map, length, take, drop, get_or, eqb, true, false, arith, refl, sym, ap, ◌∙◌, codes, lit<}
-use Rattle.std.specs.Int.{IsInRange}
-use Rattle.std.specs.Char.{is_whitespace}
-use Rattle.std.specs.List.{AllByRecursion, slice_split, flat_map}
-use Rattle.std.specs.Str.{trim, trim_start, trim_end, chars, encode_utf8_all, skip_leading_whitespace, drop_trailing_whitespace, all_scalars}
-use Rattle.std.proofs.lemmas.Str.{chars-encodes, encode_ascii}
-use Rattle.std.proofs.lemmas.Bool.Decides.{nat_tests}
-use Rattle.std.proofs.lemmas.Bool.{lt-ltb}
-use Rattle.std.proofs.lemmas.List.{append-nil, take_all, take_more}
+use Rattle.rpki_text.proofs.Common.{List, [], ap, arith, codes, drop, eqb, false, get_or, length, lit<, map, refl, sym, take, true, ℕ, ◌++◌, ◌+◌, ◌-◌, ◌<◌, ◌∙◌, ◌∷◌, ◌≡◌, ◌≤◌, lt-ltb, nat_tests, append-nil, take_all, take_more, All-from_recursion, slice_split_at, slice_split_none, chars-encodes, encode_ascii, is_whitespace, IsInRange, AllByRecursion, flat_map, slice_split, all_scalars, chars, drop_trailing_whitespace, encode_utf8_all, skip_leading_whitespace, trim, trim_end, trim_start, comma, elements, joined, kept}
 use Rattle.std.proofs.lemmas.Grind.{flat_map-append}
-use Rattle.std.proofs.lemmas.List.Elements.{All-from_recursion}
-use Rattle.std.proofs.lemmas.List.Splits.{slice_split_at, slice_split_none}
-use Rattle.rpki_text.specs.Lists.{kept, elements, joined, comma}
 use Rattle.rpki_text.proofs.ListLemmas.{elements_are}
 
 -- visible ASCII from `-` on, so neither a comma nor white space
@@ -72,7 +61,10 @@ no_comma [] h = tt
 no_comma (b ∷ bs) h = (grind (arith, nat_tests), no_comma bs h.1)
 
 -- joined texts, cut at their commas
-parts_of : (text : List ℕ) (more : List (List ℕ)) → AllByRecursion (λ b. eqb b comma ≡ false) text → AllByRecursion (AllByRecursion IsShown) more → slice_split (λ b. eqb b comma) (text ++ flat_map (λ next. codes ", " ++ next) more) ≡ text ∷ map (λ next. 32 ∷ next) more
+parts_of : (text : List ℕ) (more : List (List ℕ)) → AllByRecursion (λ b. eqb b comma ≡ false) text
+    → AllByRecursion (AllByRecursion IsShown) more
+    → slice_split (λ b. eqb b comma) (text ++ flat_map (λ next. codes ", " ++ next) more)
+    ≡ text ∷ map (λ next. 32 ∷ next) more
 parts_of text [] h k = rw append-nil (slice_split_none (λ b. eqb b comma) text (All-from_recursion _ text h))
 parts_of text (next ∷ more) h k =
     slice_split_at (λ b. eqb b comma) text comma (32 ∷ next ++ flat_map (λ next. codes ", " ++ next) more) (All-from_recursion _ text h) refl
@@ -102,20 +94,21 @@ elements-joined (t ∷ texts) h =
     ∙ (rw (trim_shown t h.0.shown, lt-ltb 0 (length t) h.0.some, kept_spaced texts h.1))
 
 -- what is written behind the first item
-more_shown : {A : Type 0} (show : A → List ℕ) (xs : List A) → flat_map (λ b. codes ", " ++ show b) xs ≡ flat_map (λ next. codes ", " ++ next) (map show xs)
+more_shown : {A : Type 0} (show : A → List ℕ) (xs : List A)
+    → flat_map (λ b. codes ", " ++ show b) xs ≡ flat_map (λ next. codes ", " ++ next) (map show xs)
 more_shown show [] = refl
 more_shown show (x ∷ xs) = ap (λ t. 44 ∷ 32 ∷ (show x ++ t)) (more_shown show xs)
 
 -- the first item and a loop over the rest write the joined texts
-pub joined_by_loop : {A : Type 0} (show : A → List ℕ) (items : List A) (first : A) (i : ℕ) → 1 ≤ length items → first ≡ get_or items 0 first → length (take (length items - 1) (drop 1 items)) ≤ i → show first ++ flat_map (λ b. codes ", " ++ show b) (take i (take (length items - 1) (drop 1 items))) ≡ joined (map show items)
-joined_by_loop show [] first i some is end = absurd (omega arith)
-joined_by_loop show (x ∷ xs) first i some is end =
-    let whole : take (length (x ∷ xs) - 1) xs ≡ xs = take_all (length (x ∷ xs) - 1) xs (omega arith) in
-    let all : take i (take (length (x ∷ xs) - 1) xs) ≡ xs = take_all i _ end ∙ whole in
-    rw all (ap (λ f. show f ++ flat_map (λ b. codes ", " ++ show b) xs) is ∙ ap (λ t. show x ++ t) (more_shown show xs))
+pub joined_by_loop : {A : Type 0} (show : A → List ℕ) (items : List A) (first : A) (i : ℕ) → 1 ≤ length items
+    → first ≡ get_or items 0 first → length (take (length items - 1) (drop 1 items)) ≤ i
+    → show first ++ flat_map (λ b. codes ", " ++ show b) (take i (take (length items - 1) (drop 1 items)))
+    ≡ joined (map show items)
+joined_by_loop show items first i some is end = grind (arith, more_shown, take_all)
 
 -- one more item of a loop that writes each
-pub written_more : {A : Type 0} (f : A → List ℕ) (xs : List A) (i : ℕ) (item : A) → i < length xs → item ≡ get_or xs i item → flat_map f (take i xs) ++ f item ≡ flat_map f (take (i + 1) xs)
+pub written_more : {A : Type 0} (f : A → List ℕ) (xs : List A) (i : ℕ) (item : A) → i < length xs
+    → item ≡ get_or xs i item → flat_map f (take i xs) ++ f item ≡ flat_map f (take (i + 1) xs)
 written_more f xs i item l is = sym (
     ap (flat_map f) (take_more xs i item l)
     ∙ flat_map-append f (take i xs) (get_or xs i item ∷ [])

@@ -1,12 +1,5 @@
 -- A text between visible ASCII has no white space at its ends.
-use Rattle.std.proofs.Common.{◌≡◌, ℕ, ◌+◌, ◌-◌, ◌<◌, List, [], ◌∷◌, ◌++◌, length, get_or, eqb, cond, ◌&&◌, Bool, true, false, arith, refl, sym, ap, ◌∙◌, subst, length-append}
-use Rattle.std.specs.Int.{IsInRange}
-use Rattle.std.specs.Char.{is_whitespace, encode_utf8}
-use Rattle.std.specs.Str.{trim, trim_start, trim_end, chars, encode_utf8_all, skip_leading_whitespace, drop_trailing_whitespace, IsUtf8}
-use Rattle.std.proofs.lemmas.Bool.Decides.{nat_tests}
-use Rattle.std.proofs.lemmas.List.{append-nil}
-use Rattle.std.proofs.lemmas.Str.{chars-encodes, char_from_byte, inside_one, length-encode, len_utf8_bounds}
-use Rattle.std.proofs.Math.Seq.{get_or-append-add}
+use Rattle.rpki_text.proofs.Common.{Bool, List, [], ap, arith, cond, eqb, false, get_or, length, length-append, refl, subst, sym, ℕ, ◌&&◌, ◌++◌, ◌+◌, ◌-◌, ◌<◌, ◌∙◌, ◌∷◌, ◌≡◌, get_or-append-add, nat_tests, append-nil, char_from_byte, chars-encodes, inside_one, len_utf8_bounds, length-encode, encode_utf8, is_whitespace, IsInRange, IsUtf8, chars, drop_trailing_whitespace, encode_utf8_all, skip_leading_whitespace, trim, trim_end, trim_start}
 
 -- a visible byte is no white space
 dark : (c : ℕ) → IsInRange 33 126 c → is_whitespace c ≡ false
@@ -18,19 +11,14 @@ some_bytes c = omega (arith, length-encode c, (len_utf8_bounds c).0)
 
 -- one before others that stay
 stays : (b : Bool) (x : ℕ) (l m : List ℕ) → l ≡ m → 0 < length m → cond (b && eqb (length l) 0) [] (x ∷ l) ≡ x ∷ m
-stays false x l m e some = ap (λ k. x ∷ k) e
-stays true x l m e some =
-    let full : eqb (length l) 0 ≡ false = let same = ap length e in grind (arith, nat_tests) in
-    ap (λ t. cond t [] (x ∷ l)) full ∙ ap (λ k. x ∷ k) e
+stays b x l m e some = grind (arith, nat_tests)
 
 -- characters whose last byte is visible end with no white space
-no_white_end : (cs : List ℕ) → 0 < length cs → IsInRange 33 126 (get_or (encode_utf8_all cs) (length (encode_utf8_all cs) - 1) 0) → drop_trailing_whitespace cs ≡ cs
+no_white_end : (cs : List ℕ) → 0 < length cs
+    → IsInRange 33 126 (get_or (encode_utf8_all cs) (length (encode_utf8_all cs) - 1) 0)
+    → drop_trailing_whitespace cs ≡ cs
 no_white_end [] some h = absurd (omega (arith, some))
-no_white_end (c ∷ []) some h =
-    let one : encode_utf8 c ++ [] ≡ encode_utf8 c = append-nil (encode_utf8 c) in
-    let last : IsInRange 33 126 (get_or (encode_utf8 c) (length (encode_utf8 c) - 1) 0) = subst (λ l. IsInRange 33 126 (get_or l (length l - 1) 0)) one h in
-    let is : c ≡ get_or (encode_utf8 c) (length (encode_utf8 c) - 1) 0 = inside_one c [] (encode_utf8 c) (length (encode_utf8 c) - 1) (sym one) (omega (arith, some_bytes c)) (omega (arith, last.1)) in
-    rw (dark c (subst (IsInRange 33 126) (sym is) last)) refl
+no_white_end (c ∷ []) some h = grind (arith, append-nil, dark, inside_one, some_bytes)
 no_white_end (c ∷ d ∷ more) some h =
     let front = encode_utf8 c in
     let back = encode_utf8_all (d ∷ more) in
@@ -40,14 +28,14 @@ no_white_end (c ∷ d ∷ more) some h =
     stays (is_whitespace c) c (drop_trailing_whitespace (d ∷ more)) (d ∷ more) (no_white_end (d ∷ more) (omega arith) (subst (IsInRange 33 126) byte h)) (omega arith)
 
 -- nor do those whose first byte is visible begin with it
-no_white_start : (cs : List ℕ) → 0 < length (encode_utf8_all cs) → IsInRange 33 126 (get_or (encode_utf8_all cs) 0 0) → skip_leading_whitespace cs ≡ cs
+no_white_start : (cs : List ℕ) → 0 < length (encode_utf8_all cs) → IsInRange 33 126 (get_or (encode_utf8_all cs) 0 0)
+    → skip_leading_whitespace cs ≡ cs
 no_white_start [] some h = refl
-no_white_start (c ∷ more) some h =
-    let is : c ≡ get_or (encode_utf8_all (c ∷ more)) 0 0 = char_from_byte (encode_utf8_all (c ∷ more)) (encode_utf8_all more) c refl (omega (arith, h.1)) some in
-    rw (dark c (subst (IsInRange 33 126) (sym is) h)) refl
+no_white_start (c ∷ more) some h = grind (arith, char_from_byte, dark)
 
 -- so a text between visible bytes is trimmed of nothing
-pub trim_visible : (text : List ℕ) → IsUtf8 text → 0 < length text → IsInRange 33 126 (get_or text 0 0) → IsInRange 33 126 (get_or text (length text - 1) 0) → text ≡ trim text
+pub trim_visible : (text : List ℕ) → IsUtf8 text → 0 < length text → IsInRange 33 126 (get_or text 0 0)
+    → IsInRange 33 126 (get_or text (length text - 1) 0) → text ≡ trim text
 unfolding trim_start trim_end
 trim_visible text u some first last =
     let own : chars text ≡ u.0 = ap chars (sym u.1.1) ∙ chars-encodes u.0 u.1.0 in

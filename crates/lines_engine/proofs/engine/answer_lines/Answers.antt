@@ -1,5 +1,4 @@
-use Rattle.std.proofs.Common.{◌∙◌, Err, ap, refl, sym}
-use Rattle.rpki_text.specs.Lines.{lines_of}
+use Rattle.lines_engine.proofs.Common.{Err, ap, arith, refl, sym, lines_of}
 use Rattle.lines_engine.proofs.RunLemmas.{answered_none, answered_more}
 use Rattle.lines_engine.proofs.engine.answer_lines.Goals as goal
 
@@ -12,11 +11,7 @@ returns-in_err-answer_line-clause-some_written g c is =
     (lines_of c.cut_line.result.1.now, (part.0, answered_more (g.L.Answers.is_answer c.args.answers.now) _ _ _ _ c.cut_line.result.0.now _ part.0 (rw c.cut_line.ensures.first at c.loop-rest.invariant.answered) part.1))
 
 pub loop-rest-preserved : goal.loop-rest-preserved
-loop-rest-preserved g c =
-    record {
-      unmarked = c.in_ok-answer_line.ensures.unmarked ∙ c.loop-rest.invariant.unmarked;
-      answered = answered_more (g.L.Answers.is_answer c.args.answers.now) _ _ _ _ c.cut_line.result.0.now _ _ (rw c.cut_line.ensures.first at c.loop-rest.invariant.answered) c.in_ok-answer_line.ensures.answered;
-    }
+loop-rest-preserved g c = grind (arith, answered_more)
 
 pub loop-rest-init : goal.loop-rest-init
 loop-rest-init g c = record { unmarked = refl; answered = answered_none (g.L.Answers.is_answer c.args.answers.now) _ _ }

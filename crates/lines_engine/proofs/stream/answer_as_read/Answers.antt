@@ -1,4 +1,4 @@
-use Rattle.std.proofs.Common.{Err, ap, sym}
+use Rattle.lines_engine.proofs.Common.{Err, ap, sym}
 use Rattle.lines_engine.proofs.StreamLemmas.{last_all, last_begun, last_some, last_unflushed}
 use Rattle.lines_engine.proofs.stream.answer_as_read.Goals as goal
 

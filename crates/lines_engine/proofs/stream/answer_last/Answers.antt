@@ -1,17 +1,12 @@
-use Rattle.std.proofs.Common.{◌≡◌, ◌<◌, length, arith}
-use Rattle.std.proofs.lemmas.Grind.{common_steps}
+use Rattle.lines_engine.proofs.Common.{arith, length, ◌<◌, common_steps}
 use Rattle.lines_engine.proofs.StreamLemmas.{line_last, none_last, last_none, last_part}
 use Rattle.lines_engine.proofs.stream.answer_last.Goals as goal
 
 pub returns-then-is_empty-clause-answered : goal.returns-then-is_empty-clause-answered
-returns-then-is_empty-clause-answered g c =
-    let none : length c.args.part.now ≡ 0 = grind (arith, common_steps) in
-    none_last (g.L.Answers.is_answer c.args.answers.now) _ _ none
+returns-then-is_empty-clause-answered g c = grind (arith, common_steps, none_last)
 
 pub returns-clause-answered : goal.returns-clause-answered
-returns-clause-answered g c =
-    let some : 0 < length c.args.part.now = grind (arith, common_steps) in
-    line_last (g.L.Answers.is_answer c.args.answers.now) c.answer_line.result _ _ _ c.requires.unended some c.answer_line.ensures.answered
+returns-clause-answered g c = grind (arith, common_steps, line_last)
 
 pub returns-clause-some_answered : goal.returns-clause-some_answered
 returns-clause-some_answered g c is =

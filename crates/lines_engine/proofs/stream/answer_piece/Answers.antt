@@ -1,14 +1,10 @@
-use Rattle.std.proofs.Common.{[], ◌∙◌, Err, ap, refl, sym, arith}
+use Rattle.lines_engine.proofs.Common.{Err, ap, arith, sym}
 use Rattle.lines_engine.proofs.RunLemmas.{answered_none}
 use Rattle.lines_engine.proofs.StreamLemmas.{joined_part, joined_some, other_of, piece_more, rest_some}
 use Rattle.lines_engine.proofs.stream.answer_piece.Goals as goal
 
 pub loop-line-init : goal.loop-line-init
-loop-line-init g c = record {
-  unmarked = refl;
-  unended = c.requires.unended;
-  answered = λ more. answered_none (g.L.Answers.is_answer c.args.answers.now) _ _;
-}
+loop-line-init g c = grind (arith, answered_none)
 
 -- the line that ends in the piece was not answered
 pub returns-in_err-answer_joined-clause-some_answered : goal.returns-in_err-answer_joined-clause-some_answered
@@ -25,13 +21,7 @@ returns-in_err-answer_joined-clause-some_written g c is more =
     joined_part (g.L.Answers.is_answer c.args.answers.now) _ _ _ _ c.loop-line.part.items c.loop-line.rest.now c.in-Some.line.now c.in-Some.behind.now more part.0 c.loop-line.invariant.unended c.in-Some.ensures (c.loop-line.invariant.answered more) part.1
 
 pub loop-line-preserved : goal.loop-line-preserved
-loop-line-preserved g c =
-    let empty = c.in_ok-answer_joined.ensures.empty in
-    record {
-      unmarked = c.in_ok-answer_joined.ensures.unmarked ∙ c.loop-line.invariant.unmarked;
-      unended = rw empty (λ k small. absurd (omega arith));
-      answered = λ more. rw empty (piece_more (g.L.Answers.is_answer c.args.answers.now) _ _ _ _ c.loop-line.part.items c.loop-line.rest.now c.in-Some.line.now c.in-Some.behind.now more [] c.loop-line.invariant.unended c.in-Some.ensures (c.loop-line.invariant.answered more) c.in_ok-answer_joined.ensures.answered);
-    }
+loop-line-preserved g c = grind (arith, piece_more)
 
 -- the rest was not kept
 pub returns-clause-some_answered : goal.returns-clause-some_answered

@@ -1,8 +1,5 @@
 -- The payloads that cover the route are those that were given, and then those that are left.
-use Rattle.std.proofs.Common.{◌≡◌, List, [], ◌∷◌, ◌++◌, sym, ap, subst, ◌∙◌, append_assoc}
-use Rattle.std.proofs.lemmas.List.{append-nil}
-use Rattle.std.specs.String.{string_bytes}
-use Rattle.roa_origin.specs.Payloads.{Payload}
+use Rattle.origin_lines.proofs.Common.{List, [], ap, append_assoc, subst, sym, ◌++◌, ◌∙◌, ◌∷◌, ◌≡◌, append-nil, string_bytes, Payload}
 use Rattle.origin_lines.proofs.Members.{walked}
 use Rattle.origin_lines.proofs.WhyLemmas.{IsToldSo, all_told, told_next, told_none}
 use Rattle.origin_lines.proofs.explanation.push_why.Goals as goal

@@ -1,6 +1,5 @@
 -- The payloads so far are told behind the text.
-use Rattle.std.proofs.Common.{◌≡◌, ◌++◌, ℕ, List}
-use Rattle.std.specs.String.{string_bytes}
+use Rattle.origin_lines.proofs.Common.{List, ℕ, ◌++◌, ◌≡◌, string_bytes}
 use Rattle.origin_lines.proofs.WhyLemmas.{IsToldSo}
 use Rattle.origin_lines.proofs.explanation.push_why.Given as goal
 

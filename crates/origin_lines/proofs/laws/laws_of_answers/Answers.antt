@@ -1,4 +1,4 @@
-use Rattle.std.proofs.lemmas.List.Sorted.{IsPermutation-sym}
+use Rattle.origin_lines.proofs.Common.{IsPermutation-sym}
 use Rattle.origin_lines.proofs.OrderLemmas.{answer_one, any_order}
 use Rattle.origin_lines.proofs.laws.laws_of_answers.Goals as goal
 

@@ -1,9 +1,7 @@
 -- What is left to pass leads to the field.
-use Rattle.std.proofs.Common.{◌≡◌}
-use Rattle.std.specs.Prelude.{slice_get}
+use Rattle.origin_lines.proofs.Common.{◌≡◌, slice_get, fields_of}
 use denote.Shadow.{shadow}
 use denote.Text.{Utf8}
-use Rattle.origin_lines.specs.Routes.{fields_of}
 use Rattle.origin_lines.proofs.route.field_at.Given as goal
 
 abbrev pub invariant-loop-left : goal.invariant-loop-left

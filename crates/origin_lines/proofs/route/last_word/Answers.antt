@@ -1,4 +1,4 @@
-use Rattle.std.proofs.Common.{arith}
+use Rattle.origin_lines.proofs.Common.{arith}
 use Rattle.origin_lines.proofs.FieldLemmas.{last_none, last_some}
 use Rattle.origin_lines.proofs.route.last_word.Goals as goal
 

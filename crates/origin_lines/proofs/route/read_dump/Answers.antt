@@ -1,6 +1,4 @@
-use Rattle.std.proofs.Common.{ap, ◌∙◌}
-use Rattle.std.specs.List.{after_last}
-use Rattle.origin_lines.specs.Words.{is_gap}
+use Rattle.origin_lines.proofs.Common.{ap, ◌∙◌, after_last, is_gap}
 use Rattle.origin_lines.proofs.LineLemmas.{dump_found}
 use Rattle.origin_lines.proofs.route.read_dump.Goals as goal
 

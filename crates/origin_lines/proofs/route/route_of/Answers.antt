@@ -1,5 +1,4 @@
-use Rattle.std.proofs.Common.{rules, ap, ◌∙◌}
-use Rattle.std.specs.Str.{IsUtf8, trim}
+use Rattle.origin_lines.proofs.Common.{ap, rules, ◌∙◌, IsUtf8, trim}
 use Rattle.origin_lines.proofs.LineLemmas.{text_found}
 use Rattle.origin_lines.proofs.route.route_of.Goals as goal
 

@@ -1,7 +1,6 @@
 -- What the octets write that were read, the file writes.
-use Rattle.std.proofs.Common.{◌≡◌, subst}
+use Rattle.origins_engine.proofs.Common.{subst, ◌≡◌, HasFileFault, IsPayloadFile}
 use Rattle.rpki_text.specs.Memory.{IfRefused}
-use Rattle.payload_texts.specs.Files.{HasFileFault, IsPayloadFile}
 use Rattle.origins_engine.proofs.AnswerLemmas.{of_bytes}
 use Rattle.origins_engine.proofs.file.read_file.Goals as goal
 

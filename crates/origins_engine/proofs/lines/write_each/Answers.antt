@@ -1,5 +1,4 @@
-use Rattle.std.proofs.Common.{[], ◌∙◌}
-use Rattle.origins_engine.specs.Runs.{payload_line, payload_lines}
+use Rattle.origins_engine.proofs.Common.{[], ◌∙◌, payload_line, payload_lines}
 use Rattle.origins_engine.proofs.LineLemmas.{then_part, written_then}
 use Rattle.origins_engine.proofs.lines.write_each.Goals as goal
 

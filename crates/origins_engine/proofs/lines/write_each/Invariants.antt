@@ -1,7 +1,5 @@
 -- The lines of all payloads but those of the rest are written.
-use Rattle.std.proofs.Common.{◌≡◌, length}
-use Rattle.lines_engine.specs.Run.{HasWritten}
-use Rattle.origins_engine.specs.Runs.{payload_lines}
+use Rattle.origins_engine.proofs.Common.{length, ◌≡◌, HasWritten, payload_lines}
 use Rattle.origins_engine.proofs.lines.write_each.Given as goal
 
 abbrev pub invariant-loop-payload : goal.invariant-loop-payload

@@ -1,4 +1,4 @@
-use Rattle.origin_lines.specs.Answers.{IsOriginAnswer}
+use Rattle.origins_engine.proofs.Common.{IsOriginAnswer}
 use Rattle.lines_engine.proofs.RunLemmas.{unanswered}
 use Rattle.origins_engine.proofs.AnswerLemmas.{all-as, begins-as, ended-as, first-as, turned}
 use Rattle.origins_engine.proofs.routes.answer_by.Goals as goal

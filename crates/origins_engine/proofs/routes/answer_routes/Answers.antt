@@ -1,10 +1,6 @@
 -- What was answered by the list, is answered by what the file writes.
-use Rattle.std.proofs.Common.{◌≡◌, Err, ap, arith, length, rules, subst}
-use Rattle.std.specs.Prelude.{IfSome}
-use Rattle.std.proofs.lemmas.Grind.{common_steps}
-use Rattle.lines_engine.specs.Run.{AnswersAll, AnswersEnded, AnswersFirst, BeginsAnswers}
+use Rattle.origins_engine.proofs.Common.{Err, ap, arith, length, rules, subst, ◌≡◌, common_steps, IfSome, AnswersAll, AnswersEnded, AnswersFirst, BeginsAnswers, IsOriginAnswer}
 use Rattle.lines_engine.specs.declared.error.RunError.TheVariants as RunError
-use Rattle.origin_lines.specs.Answers.{IsOriginAnswer}
 use Rattle.origins_engine.proofs.AnswerLemmas.{by_file}
 use Rattle.origins_engine.proofs.routes.answer_routes.Goals as goal
 

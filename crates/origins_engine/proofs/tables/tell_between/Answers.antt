@@ -1,4 +1,4 @@
-use Rattle.std.proofs.Common.{[], inr}
+use Rattle.origins_engine.proofs.Common.{[], inr}
 use Rattle.origins_engine.proofs.LineLemmas.{told_between, told_flushed, written_kept}
 use Rattle.origins_engine.proofs.tables.tell_between.Goals as goal
 

@@ -1,6 +1,5 @@
 -- What was told of the two lists, the files write.
-use Rattle.std.proofs.Common.{◌≡◌, Err, ap, arith, length, rules}
-use Rattle.std.proofs.lemmas.Grind.{common_steps}
+use Rattle.origins_engine.proofs.Common.{Err, ap, arith, length, rules, ◌≡◌, common_steps}
 use Rattle.lines_engine.specs.declared.error.RunError.TheVariants as RunError
 use Rattle.origins_engine.proofs.AnswerLemmas.{by_file}
 use Rattle.origins_engine.proofs.tables.write_changes.Goals as goal

@@ -1,8 +1,6 @@
 -- What was told of the list, the file writes.
-use Rattle.std.proofs.Common.{◌≡◌, [], Err, ap, arith, length, rules, subst}
-use Rattle.std.proofs.lemmas.Grind.{common_steps}
+use Rattle.origins_engine.proofs.Common.{Err, [], ap, arith, length, rules, subst, ◌≡◌, common_steps, TellsTable}
 use Rattle.lines_engine.specs.declared.error.RunError.TheVariants as RunError
-use Rattle.origins_engine.specs.Runs.{TellsTable}
 use Rattle.origins_engine.proofs.AnswerLemmas.{by_file}
 use Rattle.origins_engine.proofs.tables.write_table.Goals as goal
 

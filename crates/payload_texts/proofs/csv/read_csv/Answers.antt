@@ -1,7 +1,4 @@
-use Rattle.std.proofs.Common.{length, refl, sym, ap, ◌∙◌, arith}
-use Rattle.std.proofs.lemmas.Bool.{eqb-true, eqb-false}
-use Rattle.std.proofs.lemmas.List.{nil_from_length}
-use Rattle.payload_texts.specs.declared.row.Row.TheVariants.{Header, Payload}
+use Rattle.payload_texts.proofs.Common.{arith, refl, eqb-false, eqb-true, nil_from_length, Header, Payload}
 use Rattle.payload_texts.proofs.CsvLemmas.{read_more, read_no_payload, read_over, read_some, read_wrong}
 use Rattle.payload_texts.proofs.csv.read_csv.Goals as goal
 
@@ -31,13 +28,7 @@ loop-rest-preserved-in-Ok-Header g c =
 
 -- no line is left
 pub returns-then-is_empty : goal.returns-then-is_empty
-returns-then-is_empty g c =
-    let end = nil_from_length c.loop-rest.rest.now (eqb-true (length c.loop-rest.rest.now) 0 (sym c.is_empty.ensures ∙ c.loop-rest-test.false)) in
-    let none = sym c.as_slice.ensures.value ∙ nil_from_length c.as_slice.result.now (eqb-true (length c.as_slice.result.now) 0 (sym c.is_empty-2.ensures ∙ c.if-is_empty.true)) in
-    read_no_payload _ c.loop-rest.rest.now c.loop-rest.number c.loop-rest.columns c.loop-rest.payloads.items c.loop-rest.invariant.read end none
+returns-then-is_empty g c = grind (arith, eqb-true, nil_from_length, read_no_payload)
 
 pub returns : goal.returns
-returns g c =
-    let end = nil_from_length c.loop-rest.rest.now (eqb-true (length c.loop-rest.rest.now) 0 (sym c.is_empty.ensures ∙ c.loop-rest-test.false)) in
-    read_some _ c.loop-rest.rest.now c.loop-rest.number c.loop-rest.columns c.loop-rest.payloads.items c.loop-rest.invariant.read end
-    (λ z. eqb-false (length c.as_slice.result.now) 0 (sym c.is_empty-2.ensures ∙ c.if-is_empty.false) (ap length (c.as_slice.ensures.value ∙ z)))
+returns g c = grind (arith, eqb-false, eqb-true, nil_from_length, read_some)

@@ -1,5 +1,5 @@
 -- The lines before the rest are read, and there are no more of them than octets.
-use Rattle.std.proofs.Common.{◌≤◌, ◌+◌, length}
+use Rattle.payload_texts.proofs.Common.{length, ◌+◌, ◌≤◌}
 use Rattle.payload_texts.proofs.CsvLemmas.{IsReadSo}
 use Rattle.payload_texts.proofs.csv.read_csv.Given as goal
 

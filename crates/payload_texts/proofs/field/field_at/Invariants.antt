@@ -1,8 +1,5 @@
 -- What is left to pass leads to the field.
-use Rattle.std.proofs.Common.{◌≡◌}
-use denote.Shadow.{shadow}
-use denote.Text.{Utf8}
-use Rattle.payload_texts.specs.Fields.{behind}
+use Rattle.payload_texts.proofs.Common.{◌≡◌, shadow, Utf8, behind}
 use Rattle.payload_texts.proofs.field.field_at.Given as goal
 
 abbrev pub invariant-loop-left : goal.invariant-loop-left

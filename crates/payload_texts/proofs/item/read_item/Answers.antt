@@ -1,4 +1,4 @@
-use Rattle.json.specs.Value.{value_view}
+use Rattle.payload_texts.proofs.Common.{value_view}
 use Rattle.payload_texts.proofs.ItemLemmas.{texts_fail}
 use Rattle.payload_texts.proofs.item.read_item.Goals as goal
 

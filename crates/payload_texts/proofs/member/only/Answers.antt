@@ -1,8 +1,4 @@
-use Rattle.std.proofs.Common.{◌≡◌, ◌+◌, [], ◌∷◌, ◌++◌, take, true, false, sym, ap, ◌∙◌, arith}
-use Rattle.std.proofs.lemmas.List.{take_more}
-use Rattle.std.specs.Str.{bytes_eq}
-use Rattle.json.specs.Value.{members_view}
-use Rattle.payload_texts.specs.Members.{values_in}
+use Rattle.payload_texts.proofs.Common.{[], ap, arith, false, sym, take, true, ◌++◌, ◌+◌, ◌∙◌, ◌∷◌, ◌≡◌, take_more, bytes_eq, members_view, values_in}
 use Rattle.payload_texts.proofs.MemberLemmas.{found_more, found_over}
 use Rattle.payload_texts.proofs.member.only.Goals as goal
 

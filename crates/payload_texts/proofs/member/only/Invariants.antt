@@ -1,7 +1,5 @@
 -- What was found is the answer of the members before.
-use Rattle.std.proofs.Common.{take}
-use Rattle.json.specs.Value.{members_view}
-use Rattle.payload_texts.specs.Members.{IsFound, values_in}
+use Rattle.payload_texts.proofs.Common.{take, members_view, IsFound, values_in}
 use Rattle.payload_texts.proofs.member.only.Given as goal
 
 abbrev pub invariant-loop-member : goal.invariant-loop-member

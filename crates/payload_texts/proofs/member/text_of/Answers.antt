@@ -1,4 +1,4 @@
-use Rattle.json.specs.Value.{value_view}
+use Rattle.payload_texts.proofs.Common.{value_view}
 use Rattle.payload_texts.proofs.MemberLemmas.{kind_wrong}
 use Rattle.payload_texts.proofs.member.text_of.Goals as goal
 

@@ -1,17 +1,10 @@
-use Rattle.std.proofs.Common.{◌≡◌, ◌<◌, [], ◌∷◌, ◌++◌, length, None, ap, ◌∙◌, arith}
-use Rattle.json.specs.Json.{after_end_array, item, parse_map, value}
-use Rattle.json.specs.Value.{value_view}
-use Rattle.json.proofs.Grammar.{left_none}
+use Rattle.payload_texts.proofs.Common.{None, [], ap, arith, length, ◌++◌, ◌<◌, ◌∙◌, ◌∷◌, ◌≡◌, left_none, after_end_array, item, parse_map, value_view}
 use Rattle.payload_texts.proofs.GrammarLemmas.{an_item, bad_item}
 use Rattle.payload_texts.proofs.RoasLemmas.{read_all, read_more, read_wrong}
 use Rattle.payload_texts.proofs.roas.read_items.Goals as goal
 
 pub returns-in_err-item-clause-invalid : goal.returns-in_err-item-clause-invalid
-returns-in_err-item-clause-invalid g c invalid =
-    let l = c.loop-alloc in
-    let going : (after_end_array l.reader ≡ None) × (c.take_end_array.new.self ≡ l.reader) = grind arith in
-    let failed : value c.args.depth c.take_end_array.new.self ≡ None = grind arith in
-    l.invariant.read.ends (bad_item c.args.depth l.reader going.0 (rw (← going.1) failed))
+returns-in_err-item-clause-invalid g c invalid = grind (arith, bad_item)
 
 pub returns-in_err-skip_items-in-Err-clause-invalid : goal.returns-in_err-skip_items-in-Err-clause-invalid
 returns-in_err-skip_items-in-Err-clause-invalid g c invalid =

@@ -1,5 +1,5 @@
 -- The items before are read.
-use Rattle.std.proofs.Common.{◌≤◌, length}
+use Rattle.payload_texts.proofs.Common.{length, ◌≤◌}
 use Rattle.payload_texts.proofs.RoasLemmas.{AreReadSo}
 use Rattle.payload_texts.proofs.roas.read_items.Given as goal
 

@@ -1,15 +1,9 @@
-use Rattle.std.proofs.Common.{◌≡◌, ◌∷◌, [], ap, ◌∙◌, arith}
-use Rattle.json.specs.Token.{Token}
-use Rattle.json.specs.Json.{value}
-use Rattle.json.specs.Reads.{token_of}
-use Rattle.json.proofs.Grammar.{value_is}
+use Rattle.payload_texts.proofs.Common.{ap, arith, ◌∙◌, ◌∷◌, ◌≡◌, value_is, token_of, Token}
 use Rattle.payload_texts.proofs.RoasLemmas.{array_fails, array_read, object_fails, object_passed, scalar_passed}
 use Rattle.payload_texts.proofs.roas.read_list.Goals as goal
 
 pub returns-in_err-token-clause-invalid : goal.returns-in_err-token-clause-invalid
-returns-in_err-token-clause-invalid g c invalid =
-    let empty : c.args.reader.now ≡ [] = grind arith in
-    ap (value c.args.depth) empty ∙ value_is c.args.depth []
+returns-in_err-token-clause-invalid g c invalid = grind (arith, value_is)
 
 pub returns-in-BeginArray-clause-told : goal.returns-in-BeginArray-clause-told
 returns-in-BeginArray-clause-told g c =
@@ -18,16 +12,11 @@ returns-in-BeginArray-clause-told g c =
     array_read c.args.depth c.requires _ c.next.new.self _ c.read_items.result opened c.read_items.ensures.told
 
 pub returns-in-BeginArray-clause-invalid : goal.returns-in-BeginArray-clause-invalid
-returns-in-BeginArray-clause-invalid g c invalid =
-    let first : c.args.reader.now ≡ token_of c.in_ok-token.token ∷ c.next.new.self = grind arith in
-    let opened : c.args.reader.now ≡ Token.begin_array ∷ c.next.new.self = first ∙ ap (λ k. token_of k ∷ c.next.new.self) c.in-BeginArray.is in
-    array_fails c.args.depth c.requires _ c.next.new.self opened (c.read_items.ensures.invalid invalid)
+returns-in-BeginArray-clause-invalid g c invalid = grind (arith, array_fails)
 
-pub returns-in_err-skip_members-in-BeginObject-clause-invalid : goal.returns-in_err-skip_members-in-BeginObject-clause-invalid
-returns-in_err-skip_members-in-BeginObject-clause-invalid g c invalid =
-    let first : c.args.reader.now ≡ token_of c.in_ok-token.token ∷ c.next.new.self = grind arith in
-    let opened : c.args.reader.now ≡ Token.begin_object ∷ c.next.new.self = first ∙ ap (λ k. token_of k ∷ c.next.new.self) c.in-BeginObject.is in
-    object_fails c.args.depth c.requires _ c.next.new.self opened c.in_err-skip_members-in-BeginObject.ensures.read
+pub returns-in_err-skip_members-in-BeginObject-clause-invalid :
+    goal.returns-in_err-skip_members-in-BeginObject-clause-invalid
+returns-in_err-skip_members-in-BeginObject-clause-invalid g c invalid = grind (arith, object_fails)
 
 pub returns-in_ok-skip_members-in-BeginObject-clause-told : goal.returns-in_ok-skip_members-in-BeginObject-clause-told
 returns-in_ok-skip_members-in-BeginObject-clause-told g c =
@@ -41,6 +30,4 @@ returns-in-String-clause-told g c =
     scalar_passed g.row.A.Denot c.args.depth _ c.next.new.self (token_of c.in_ok-token.token) (rw (value_is c.args.depth c.args.reader.now, first) (grind arith))
 
 pub returns-in-EndObject-clause-invalid : goal.returns-in-EndObject-clause-invalid
-returns-in-EndObject-clause-invalid g c invalid =
-    let first : c.args.reader.now ≡ token_of c.in_ok-token.token ∷ c.next.new.self = grind arith in
-    rw (value_is c.args.depth c.args.reader.now, first) (grind arith)
+returns-in-EndObject-clause-invalid g c invalid = grind (arith, value_is)

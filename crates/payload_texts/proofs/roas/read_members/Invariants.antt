@@ -1,5 +1,5 @@
 -- What is told is told of the members before.
-use Rattle.std.proofs.Common.{◌≤◌, length}
+use Rattle.payload_texts.proofs.Common.{length, ◌≤◌}
 use Rattle.payload_texts.proofs.RoasLemmas.{IsToldSo}
 use Rattle.payload_texts.proofs.roas.read_members.Given as goal
 

@@ -1,6 +1,5 @@
 -- What is left behind all items is left behind the next ones.
-use Rattle.std.proofs.Common.{◌≡◌, ◌≤◌, length}
-use Rattle.json.proofs.Grammar.{left}
+use Rattle.payload_texts.proofs.Common.{length, ◌≡◌, ◌≤◌, left}
 use Rattle.payload_texts.proofs.GrammarLemmas.{items_in}
 use Rattle.payload_texts.proofs.roas.skip_items.Given as goal
 

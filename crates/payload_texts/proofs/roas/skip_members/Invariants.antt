@@ -1,6 +1,5 @@
 -- What is left behind all members is left behind the next ones.
-use Rattle.std.proofs.Common.{◌≡◌, ◌≤◌, length}
-use Rattle.json.proofs.Grammar.{left}
+use Rattle.payload_texts.proofs.Common.{length, ◌≡◌, ◌≤◌, left}
 use Rattle.payload_texts.proofs.GrammarLemmas.{members_in}
 use Rattle.payload_texts.proofs.roas.skip_members.Given as goal
 

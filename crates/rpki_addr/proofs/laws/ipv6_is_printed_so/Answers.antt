@@ -1,6 +1,5 @@
 -- The printed text is the one that is asked for.
-use Rattle.std.proofs.Common.{sym, subst}
-use Rattle.rpki_addr.specs.PrintedAddress.{IsPrintedIpv6, ipv6_text}
+use Rattle.rpki_addr.proofs.Common.{subst, sym, IsPrintedIpv6, ipv6_text}
 use Rattle.rpki_addr.proofs.PrintedAddressLemmas.{IsPrintedIpv6-ipv6_text, IsPrintedIpv6-one}
 use Rattle.rpki_addr.proofs.laws.ipv6_is_printed_so.Goals as goal
 

@@ -1,5 +1,5 @@
 -- Each block completes those so far, and the last ends the list.
-use Rattle.std.proofs.Common.{◌<◌, length, arith, sym, ◌∙◌}
+use Rattle.rpki_as_block.proofs.Common.{arith, length, sym, ◌<◌, ◌∙◌}
 use Rattle.rpki_as_block.proofs.BlockListLemmas.{all_read, first_block, goes_no_further, one_more}
 use Rattle.rpki_as_block.proofs.list.usual_blocks.Goals as goal
 

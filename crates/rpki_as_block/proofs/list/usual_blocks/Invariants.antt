@@ -1,5 +1,5 @@
 -- What the loop over the elements keeps.
-use Rattle.std.proofs.Common.{◌-◌, length}
+use Rattle.rpki_as_block.proofs.Common.{length, ◌-◌}
 use Rattle.rpki_as_block.proofs.BlockListLemmas.{IsSoFar}
 use Rattle.rpki_as_block.proofs.list.usual_blocks.Given as goal
 

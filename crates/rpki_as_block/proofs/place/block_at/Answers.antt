@@ -1,8 +1,6 @@
 -- One number is a block, and two round a dash where they are in order.
-use Rattle.std.proofs.Common.{◌<◌, ◌≤◌, arith, sym, ◌∙◌}
-use Rattle.std.proofs.lemmas.Bool.Decides.{nat_tests}
+use Rattle.rpki_as_block.proofs.Common.{arith, sym, ◌<◌, ◌∙◌, ◌≤◌, nat_tests, StandsAt}
 use Rattle.rpki_as_block.proofs.BlockPlaceLemmas.{first_number, id_alone, id_between, in_order_there, range_alone, range_between, two_numbers}
-use Rattle.rpki_as_block.specs.BlockPlaces.{StandsAt}
 use Rattle.rpki_as_block.proofs.place.block_at.Goals as goal
 use Rattle.rpki_as_block.proofs.place.block_at.Goals.{then-dash-text-via-then-dash-text, then-dash-text-via-else-dash-text+then-text-dash-ne45}
 

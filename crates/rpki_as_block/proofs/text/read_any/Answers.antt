@@ -1,6 +1,5 @@
-use Rattle.std.proofs.Common.{None, Some, lit<}
+use Rattle.rpki_as_block.proofs.Common.{None, Some, lit<, err_from_is_err_and}
 use Rattle.std.proofs.lemmas.Str.Pattern.{split_parts}
-use Rattle.std.proofs.lemmas.Result.{err_from_is_err_and}
 use Rattle.rpki_as_block.proofs.BlockLemmas.{reads_block}
 use Rattle.rpki_as_block.proofs.text.read_any.Goals as goal
 

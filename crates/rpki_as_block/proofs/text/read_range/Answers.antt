@@ -1,6 +1,5 @@
-use Rattle.std.proofs.Common.{◌≡◌, ap, sym, ◌∙◌, arith}
+use Rattle.rpki_as_block.proofs.Common.{ap, arith, sym, ◌∙◌, ◌≡◌, nat_tests}
 use Rattle.std.specs.Result.{result_ok}
-use Rattle.std.proofs.lemmas.Bool.Decides.{nat_tests}
 use Rattle.rpki_as_block.proofs.text.read_range.Goals as goal
 
 pub returns-in_err-min : goal.returns-in_err-min

@@ -1,5 +1,5 @@
 -- `==` compares the lists, and lists of the same numbers are one.
-use Rattle.std.proofs.Common.{◌↔◌, Contains, subst}
+use Rattle.rpki_base.proofs.Common.{Contains, subst, ◌↔◌}
 use Rattle.std.specs.Cmp.Lexicographic.{bytes_decides}
 use Rattle.rpki_base.proofs.SmallSetLemmas.{one_set}
 use Rattle.rpki_base.proofs.laws.equal_small_sets.Goals as goal

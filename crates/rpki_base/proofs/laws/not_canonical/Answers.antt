@@ -1,10 +1,5 @@
 -- Lenient readings name lower faults, and strictly the look at the unused bits comes last.
-use Rattle.std.proofs.Common.{◌≡◌, ℕ, ◌≤◌, true, is_ok, List, Ok, Err, refl, arith}
-use Rattle.rpki_der.specs.declared.error.DerError.TheVariants.{NotCanonical}
-use Rattle.rpki_der.specs.Reading.{◌>>=◌, bit_string_at, bit_string_by, bits, bits_by, is_padded, passing, refined, tagged_at, unsigned, value_at}
-use Rattle.rpki_base.specs.AsnDer.{as_number_at}
-use Rattle.rpki_base.specs.FamilyDer.{family_at}
-use Rattle.rpki_der.proofs.Steps.{ok_or_err}
+use Rattle.rpki_base.proofs.Common.{Err, List, arith, is_ok, true, ℕ, ◌≡◌, ◌≤◌, ok_or_err, bit_string_at, bit_string_by, bits, bits_by, refined, tagged_at, unsigned, value_at, NotCanonical, as_number_at, family_at}
 use Rattle.rpki_base.proofs.DerFaults.{NamesTo, bind_fails, bits_names, first_fails, names_more, not_named, refined_names, tagged_names, unsigned_names, value_names}
 use Rattle.rpki_base.proofs.FamilyLemmas.{family_names}
 use Rattle.rpki_base.proofs.laws.not_canonical.Goals as goal
@@ -21,11 +16,7 @@ bit_string_names = refined_names 5 (tagged_at 3) bits (λ bytes. header_names 3 
 
 bit_string_last : (bytes : List ℕ) → bit_string_by true bytes ≡ Err NotCanonical → is_ok (bit_string_at bytes) ≡ true
 unfolding refined bits_by
-bit_string_last bytes is =
-    let a = bind_fails (tagged_at 3 bytes) (λ x. bits_by true x.0 >>= λ y. Ok (y, x.1)) NotCanonical (not_named 3 (tagged_at 3 bytes) NotCanonical (tagged_names 3 bytes) (omega arith)) is in
-    let inside = first_fails (bits_by true a.0.0) (λ y. Ok (y, a.0.1)) NotCanonical (λ y fails. ok_or_err (y, a.0.1) NotCanonical (Ok (y, a.0.1)) refl fails) a.2 in
-    let b = bind_fails (bits a.0.0) (passing true is_padded) NotCanonical (not_named 5 (bits a.0.0) NotCanonical (bits_names a.0.0) (omega arith)) inside in
-    rw (a.1, b.1) refl
+bit_string_last bytes is = grind (arith, bind_fails, bits_names, first_fails, not_named, ok_or_err, tagged_names)
 
 pub returns : goal.returns
 returns c = record {

@@ -1,8 +1,5 @@
 -- Each turn takes in the next block; and the last run is closed in the end.
-use Rattle.std.proofs.Common.{◌≡◌, ℕ, ◌<◌, ◌↔◌, ◌⊎◌, ◌∙◌, get_or, length, ap, subst, sym, arith}
-use Rattle.std.proofs.lemmas.List.{take_all, get_or_default}
-use Rattle.rpki_chains.specs.Joining.{IsHeld}
-use Rattle.rpki_chains.specs.Sets.{IsWithin, numbers}
+use Rattle.rpki_chains.proofs.Imports.{ap, arith, get_or, length, subst, sym, ℕ, ◌<◌, ◌↔◌, ◌∙◌, ◌≡◌, ◌⊎◌, get_or_default, take_all, IsHeld, IsWithin, numbers}
 use Rattle.rpki_chains.proofs.Joining.{first_run, first_held, taken_more, closed_run, held_closed}
 use Rattle.rpki_chains.proofs.ascending.join_ascending_into.Goals as goal
 

@@ -1,6 +1,5 @@
 -- An item is reached where it is not above the next one.
-use Rattle.std.proofs.Common.{◌+◌, ◌≤◌, arith}
-use Rattle.std.proofs.lemmas.Bool.Decides.{nat_tests}
+use Rattle.rpki_chains.proofs.Imports.{arith, ◌+◌, ◌≤◌, nat_tests}
 use Rattle.rpki_chains.proofs.build.is_reached.Goals as goal
 
 pub returns-in-Some : goal.returns-in-Some

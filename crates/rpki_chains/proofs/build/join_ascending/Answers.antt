@@ -1,8 +1,5 @@
 -- The first block is the run at hand; each turn takes in the next one; and the last run is closed in the end.
-use Rattle.std.proofs.Common.{◌≡◌, ℕ, ◌+◌, ◌<◌, ◌≤◌, ◌↔◌, ◌⊎◌, ⊎_elim, ◌∙◌, ◌++◌, ◌∷◌, [], get_or, length, take, slice_set, ap, subst, sym, refl, arith}
-use Rattle.std.proofs.lemmas.List.{take_all, take_more_set, get_or_default, get_or-set_other, length-set}
-use Rattle.rpki_chains.specs.Joining.{IsHeld}
-use Rattle.rpki_chains.specs.Sets.{IsWithin, numbers}
+use Rattle.rpki_chains.proofs.Imports.{[], ap, arith, get_or, length, refl, slice_set, subst, sym, take, ℕ, ⊎_elim, ◌++◌, ◌+◌, ◌<◌, ◌↔◌, ◌∙◌, ◌∷◌, ◌≡◌, ◌≤◌, ◌⊎◌, get_or-set_other, get_or_default, length-set, take_all, take_more_set, IsHeld, IsWithin, numbers}
 use Rattle.rpki_chains.proofs.Joining.{first_run, first_held, taken_more, longer_run, longer_held, next_run, held_next, closed_run, held_closed}
 use Rattle.rpki_chains.proofs.build.join_ascending.Goals as goal
 

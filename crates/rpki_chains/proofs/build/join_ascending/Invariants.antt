@@ -1,8 +1,6 @@
 -- The runs closed and the run at hand hold what the blocks passed covered. The blocks to come stand
 -- as they did, and begin no earlier than the run.
-use Rattle.std.proofs.Common.{ℕ, ◌≡◌, ◌<◌, ◌≤◌, ◌↔◌, take, length, get_or}
-use Rattle.rpki_chains.specs.Joining.{IsHeld, IsBehind}
-use Rattle.rpki_chains.specs.Sets.{Covers, numbers}
+use Rattle.rpki_chains.proofs.Imports.{get_or, length, take, ℕ, ◌<◌, ◌↔◌, ◌≡◌, ◌≤◌, IsBehind, IsHeld, Covers, numbers}
 use Rattle.rpki_chains.proofs.build.join_ascending.Given as goal
 
 abbrev pub invariant-loop-at : goal.invariant-loop-at

@@ -1,6 +1,5 @@
 -- Sorted blocks ascend, and cover what they covered.
-use Rattle.std.proofs.Common.{rules}
-use Rattle.std.proofs.lemmas.List.Sorted.{IsPermutation-sym, IsNonDecreasingBy-from_sort_by}
+use Rattle.rpki_chains.proofs.Imports.{rules, IsNonDecreasingBy-from_sort_by, IsPermutation-sym}
 use Rattle.rpki_chains.proofs.Sorts.{Covers-permutation}
 use Rattle.rpki_chains.proofs.build.sort.Goals as goal
 

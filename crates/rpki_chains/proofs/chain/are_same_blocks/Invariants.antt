@@ -1,5 +1,5 @@
 -- The bounds passed are the same.
-use Rattle.std.proofs.Common.{◌≡◌, take, map}
+use Rattle.rpki_chains.proofs.Imports.{map, take, ◌≡◌}
 use Rattle.rpki_chains.proofs.chain.are_same_blocks.Given as goal
 
 abbrev pub invariant-loop-i : goal.invariant-loop-i

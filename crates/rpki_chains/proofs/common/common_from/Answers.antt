@@ -1,8 +1,5 @@
 -- Each turn is done with one block and keeps the walk; at its end one chain has no block any more.
-use Rattle.std.proofs.Common.{◌+◌, ◌∙◌, ◌≤◌, inl, inr, Some, None, ap, subst, arith, refl, take}
-use Rattle.std.proofs.Math.Nat.{le_refl}
-use Rattle.std.proofs.lemmas.Bool.Decides.{nat_tests}
-use Rattle.rpki_chains.specs.Sets.{numbers}
+use Rattle.rpki_chains.proofs.Imports.{None, Some, ap, arith, inl, inr, refl, subst, take, ◌+◌, ◌∙◌, ◌≤◌, le_refl, nat_tests, numbers}
 use Rattle.rpki_chains.proofs.Counts.{read_next}
 use Rattle.rpki_chains.proofs.Sides.{bounds_of, IsAt-from}
 use Rattle.rpki_chains.proofs.Meets.{Meet, Meet-swap}

@@ -1,6 +1,5 @@
 -- The blocks so far are what the chains have in common up to the blocks at hand.
-use Rattle.std.proofs.Common.{◌≡◌, ◌+◌, ◌-◌, ◌^◌, ◌<◌, ◌≤◌, length, Some}
-use Rattle.rpki_chains.specs.Sets.{numbers}
+use Rattle.rpki_chains.proofs.Imports.{Some, length, ◌+◌, ◌-◌, ◌<◌, ◌^◌, ◌≡◌, ◌≤◌, numbers}
 use Rattle.rpki_chains.proofs.Meets.{Meet}
 use Rattle.rpki_chains.proofs.common.common_from.Given as goal
 
@@ -10,9 +9,12 @@ invariant-loop-chain g l =
     let xs = g.X.Reads.blocks l.fn.own in
     let ys = g.Y.Reads.blocks l.fn.other in
     record {
-      own_reads : g.X.Reads.count l.own + (length xs - (l.own_at + 1)) ≤ g.X.Reads.count l.fn.own + l.fn.overhang.own_at + (length xs - (l.fn.overhang.own_at + 1));
-      other_reads : g.Y.Reads.count l.other + (length ys - (l.other_at + 1)) ≤ g.Y.Reads.count l.fn.other + (length ys - (l.fn.overhang.other_at + 1));
-      walk : Meet g.T.Block.bounds g.T.Block.form xs ys l.own_at (Some (numbers number l.own_block)) l.other_at (Some (numbers number l.other_block)) l.chain.items;
+      own_reads : g.X.Reads.count l.own + (length xs - (l.own_at + 1))
+          ≤ g.X.Reads.count l.fn.own + l.fn.overhang.own_at + (length xs - (l.fn.overhang.own_at + 1));
+      other_reads : g.Y.Reads.count l.other + (length ys - (l.other_at + 1))
+          ≤ g.Y.Reads.count l.fn.other + (length ys - (l.fn.overhang.other_at + 1));
+      walk : Meet g.T.Block.bounds g.T.Block.form xs ys l.own_at (Some (numbers number l.own_block)) l.other_at
+          (Some (numbers number l.other_block)) l.chain.items;
       own_bound : length xs < 2 ^ 64;
       other_bound : length ys < 2 ^ 64;
       own_kept : g.X.Reads.blocks l.own ≡ xs;

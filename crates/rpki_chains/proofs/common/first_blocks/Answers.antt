@@ -1,7 +1,5 @@
 -- A block in new form, made anew from its bounds, is the same.
-use Rattle.std.proofs.Common.{◌≡◌, ℕ, ◌+◌, ◌<◌, ◌++◌, ◌∷◌, [], ap, sym, ◌∙◌, take, arith, length, get_or}
-use Rattle.std.proofs.lemmas.List.{take_more}
-use Rattle.rpki_chains.specs.Sets.{IsNew, numbers}
+use Rattle.rpki_chains.proofs.Imports.{[], ap, arith, get_or, length, sym, take, ℕ, ◌++◌, ◌+◌, ◌<◌, ◌∙◌, ◌∷◌, ◌≡◌, take_more, IsNew, numbers}
 use Rattle.rpki_chains.proofs.Chains.{element_at}
 use Rattle.rpki_chains.proofs.common.first_blocks.Goals as goal
 

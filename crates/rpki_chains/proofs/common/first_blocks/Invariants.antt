@@ -1,6 +1,5 @@
 -- The blocks passed were made anew, and the chain is the same.
-use Rattle.std.proofs.Common.{◌≡◌, ◌+◌, ◌≤◌, length, take}
-use Rattle.rpki_chains.specs.Sets.{IsChain}
+use Rattle.rpki_chains.proofs.Imports.{length, take, ◌+◌, ◌≡◌, ◌≤◌, IsChain}
 use Rattle.rpki_chains.proofs.common.first_blocks.Given as goal
 
 abbrev pub invariant-loop-at : goal.invariant-loop-at

@@ -1,6 +1,5 @@
 -- Where the cut lies in the rest decides what becomes of it.
-use Rattle.std.proofs.Common.{◌<◌, ◌≤◌, refl, arith, inr}
-use Rattle.std.proofs.lemmas.Bool.Decides.{nat_tests}
+use Rattle.rpki_chains.proofs.Imports.{arith, inr, refl, ◌<◌, ◌≤◌, nat_tests}
 use Rattle.rpki_chains.proofs.difference.cut_by.Goals as goal
 
 pub before-end-requires : goal.before-end-requires

@@ -1,6 +1,5 @@
 -- Where no block leaves the other chain nothing is left, and else what a walk finds from there on.
-use Rattle.std.proofs.Common.{[]}
-use Rattle.rpki_chains.specs.Sets.{Covers}
+use Rattle.rpki_chains.proofs.Imports.{[], Covers}
 use Rattle.rpki_chains.proofs.Chains.{Covers-nil, IsChain-nil, IsChainOf-from}
 use Rattle.rpki_chains.proofs.difference.difference_counted.Goals as goal
 

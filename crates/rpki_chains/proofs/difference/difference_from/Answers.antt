@@ -1,8 +1,5 @@
 -- Each turn is done with one block and keeps the walk; at its end all blocks of the one chain are decided.
-use Rattle.std.proofs.Common.{◌+◌, ◌∙◌, ap, sym, refl, arith}
-use Rattle.std.proofs.Math.Nat.{le_refl}
-use Rattle.std.proofs.lemmas.List.{length_push}
-use Rattle.rpki_chains.specs.Sets.{Covers}
+use Rattle.rpki_chains.proofs.Imports.{ap, arith, refl, sym, ◌+◌, ◌∙◌, le_refl, length_push, Covers}
 use Rattle.rpki_chains.proofs.Chains.{IsChainOf-from}
 use Rattle.rpki_chains.proofs.Sides.{IsAt-from}
 use Rattle.rpki_chains.proofs.Counts.{read_next}
@@ -29,23 +26,13 @@ loop-other_at-init g c =
     }
 
 pub overflow_add-other_at : goal.overflow_add-other_at
-overflow_add-other_at g c =
-    let inv = c.loop-other_at.invariant in
-    let within = (turn-skip g.T.Block.bounds g.T.Block.form g.T.Block.number _ _ _ _ _ c.loop-other_at.rest c.loop-other_at.cut inv.walk c.in-Skip.ensures).0 in
-    let bound = inv.other_bound in
-    omega arith
+overflow_add-other_at g c = grind (arith, turn-skip)
 
 pub read_at-cut-requires : goal.read_at-cut-requires
-read_at-cut-requires g c =
-    let inv = c.loop-other_at.invariant in
-    let within = (turn-skip g.T.Block.bounds g.T.Block.form g.T.Block.number _ _ _ _ _ c.loop-other_at.rest c.loop-other_at.cut inv.walk c.in-Skip.ensures).0 in
-    rw inv.other_kept (omega arith)
+read_at-cut-requires g c = grind (arith, turn-skip)
 
 pub loop-other_at-smaller-in-Skip : goal.loop-other_at-smaller-in-Skip
-loop-other_at-smaller-in-Skip g c =
-    let inv = c.loop-other_at.invariant in
-    let within = (turn-skip g.T.Block.bounds g.T.Block.form g.T.Block.number _ _ _ _ _ c.loop-other_at.rest c.loop-other_at.cut inv.walk c.in-Skip.ensures).0 in
-    omega arith
+loop-other_at-smaller-in-Skip g c = grind (arith, turn-skip)
 
 pub loop-other_at-preserved-in-Skip : goal.loop-other_at-preserved-in-Skip
 loop-other_at-preserved-in-Skip g c =
@@ -74,23 +61,13 @@ loop-other_at-preserved-in-Skip g c =
     }
 
 pub overflow_add-own_at : goal.overflow_add-own_at
-overflow_add-own_at g c =
-    let inv = c.loop-other_at.invariant in
-    let within = (turn-keep g.T.Block.bounds g.T.Block.form g.T.Block.number _ _ _ _ _ c.loop-other_at.rest c.loop-other_at.cut c.in-Keep.min c.in-Keep.max inv.walk c.in-Keep.ensures).0 in
-    let bound = inv.own_bound in
-    omega arith
+overflow_add-own_at g c = grind (arith, turn-keep)
 
 pub read_at-rest-requires : goal.read_at-rest-requires
-read_at-rest-requires g c =
-    let inv = c.loop-other_at.invariant in
-    let within = (turn-keep g.T.Block.bounds g.T.Block.form g.T.Block.number _ _ _ _ _ c.loop-other_at.rest c.loop-other_at.cut c.in-Keep.min c.in-Keep.max inv.walk c.in-Keep.ensures).0 in
-    rw inv.own_kept (omega arith)
+read_at-rest-requires g c = grind (arith, turn-keep)
 
 pub loop-other_at-smaller-in-Keep : goal.loop-other_at-smaller-in-Keep
-loop-other_at-smaller-in-Keep g c =
-    let inv = c.loop-other_at.invariant in
-    let within = (turn-keep g.T.Block.bounds g.T.Block.form g.T.Block.number _ _ _ _ _ c.loop-other_at.rest c.loop-other_at.cut c.in-Keep.min c.in-Keep.max inv.walk c.in-Keep.ensures).0 in
-    omega arith
+loop-other_at-smaller-in-Keep g c = grind (arith, turn-keep)
 
 pub loop-other_at-preserved-in-Keep : goal.loop-other_at-preserved-in-Keep
 loop-other_at-preserved-in-Keep g c =
@@ -120,23 +97,13 @@ loop-other_at-preserved-in-Keep g c =
     }
 
 pub overflow_add-own_at-in-Drop : goal.overflow_add-own_at-in-Drop
-overflow_add-own_at-in-Drop g c =
-    let inv = c.loop-other_at.invariant in
-    let within = (turn-drop g.T.Block.bounds g.T.Block.form g.T.Block.number _ _ _ _ _ c.loop-other_at.rest c.loop-other_at.cut inv.walk c.in-Drop.ensures).0 in
-    let bound = inv.own_bound in
-    omega arith
+overflow_add-own_at-in-Drop g c = grind (arith, turn-drop)
 
 pub read_at-rest-requires-in-Drop : goal.read_at-rest-requires-in-Drop
-read_at-rest-requires-in-Drop g c =
-    let inv = c.loop-other_at.invariant in
-    let within = (turn-drop g.T.Block.bounds g.T.Block.form g.T.Block.number _ _ _ _ _ c.loop-other_at.rest c.loop-other_at.cut inv.walk c.in-Drop.ensures).0 in
-    rw inv.own_kept (omega arith)
+read_at-rest-requires-in-Drop g c = grind (arith, turn-drop)
 
 pub loop-other_at-smaller-in-Drop : goal.loop-other_at-smaller-in-Drop
-loop-other_at-smaller-in-Drop g c =
-    let inv = c.loop-other_at.invariant in
-    let within = (turn-drop g.T.Block.bounds g.T.Block.form g.T.Block.number _ _ _ _ _ c.loop-other_at.rest c.loop-other_at.cut inv.walk c.in-Drop.ensures).0 in
-    omega arith
+loop-other_at-smaller-in-Drop g c = grind (arith, turn-drop)
 
 pub loop-other_at-preserved-in-Drop : goal.loop-other_at-preserved-in-Drop
 loop-other_at-preserved-in-Drop g c =
@@ -165,23 +132,13 @@ loop-other_at-preserved-in-Drop g c =
     }
 
 pub overflow_add-other_at-in-Split : goal.overflow_add-other_at-in-Split
-overflow_add-other_at-in-Split g c =
-    let inv = c.loop-other_at.invariant in
-    let within = (turn-split g.T.Block.bounds g.T.Block.form g.T.Block.number g.T.Block.first g.T.Block.last _ _ _ _ _ c.loop-other_at.rest c.loop-other_at.cut c.in-Split.min c.in-Split.end c.in-Split.next c.in-Split.max inv.walk c.in-Split.ensures inv.valid).0 in
-    let bound = inv.other_bound in
-    omega arith
+overflow_add-other_at-in-Split g c = grind (arith, turn-split)
 
 pub read_at-cut-requires-in-Split : goal.read_at-cut-requires-in-Split
-read_at-cut-requires-in-Split g c =
-    let inv = c.loop-other_at.invariant in
-    let within = (turn-split g.T.Block.bounds g.T.Block.form g.T.Block.number g.T.Block.first g.T.Block.last _ _ _ _ _ c.loop-other_at.rest c.loop-other_at.cut c.in-Split.min c.in-Split.end c.in-Split.next c.in-Split.max inv.walk c.in-Split.ensures inv.valid).0 in
-    rw inv.other_kept (omega arith)
+read_at-cut-requires-in-Split g c = grind (arith, turn-split)
 
 pub loop-other_at-smaller-in-Split : goal.loop-other_at-smaller-in-Split
-loop-other_at-smaller-in-Split g c =
-    let inv = c.loop-other_at.invariant in
-    let within = (turn-split g.T.Block.bounds g.T.Block.form g.T.Block.number g.T.Block.first g.T.Block.last _ _ _ _ _ c.loop-other_at.rest c.loop-other_at.cut c.in-Split.min c.in-Split.end c.in-Split.next c.in-Split.max inv.walk c.in-Split.ensures inv.valid).0 in
-    omega arith
+loop-other_at-smaller-in-Split g c = grind (arith, turn-split)
 
 pub loop-other_at-preserved-in-Split : goal.loop-other_at-preserved-in-Split
 loop-other_at-preserved-in-Split g c =
@@ -211,23 +168,13 @@ loop-other_at-preserved-in-Split g c =
     }
 
 pub overflow_add-other_at-in-Advance : goal.overflow_add-other_at-in-Advance
-overflow_add-other_at-in-Advance g c =
-    let inv = c.loop-other_at.invariant in
-    let within = (turn-advance g.T.Block.bounds g.T.Block.form g.T.Block.number g.T.Block.first g.T.Block.last _ _ _ _ _ c.loop-other_at.rest c.loop-other_at.cut c.in-Advance.next c.in-Advance.max inv.walk c.in-Advance.ensures inv.valid).0 in
-    let bound = inv.other_bound in
-    omega arith
+overflow_add-other_at-in-Advance g c = grind (arith, turn-advance)
 
 pub read_at-cut-requires-in-Advance : goal.read_at-cut-requires-in-Advance
-read_at-cut-requires-in-Advance g c =
-    let inv = c.loop-other_at.invariant in
-    let within = (turn-advance g.T.Block.bounds g.T.Block.form g.T.Block.number g.T.Block.first g.T.Block.last _ _ _ _ _ c.loop-other_at.rest c.loop-other_at.cut c.in-Advance.next c.in-Advance.max inv.walk c.in-Advance.ensures inv.valid).0 in
-    rw inv.other_kept (omega arith)
+read_at-cut-requires-in-Advance g c = grind (arith, turn-advance)
 
 pub loop-other_at-smaller : goal.loop-other_at-smaller
-loop-other_at-smaller g c =
-    let inv = c.loop-other_at.invariant in
-    let within = (turn-advance g.T.Block.bounds g.T.Block.form g.T.Block.number g.T.Block.first g.T.Block.last _ _ _ _ _ c.loop-other_at.rest c.loop-other_at.cut c.in-Advance.next c.in-Advance.max inv.walk c.in-Advance.ensures inv.valid).0 in
-    omega arith
+loop-other_at-smaller g c = grind (arith, turn-advance)
 
 pub loop-other_at-preserved : goal.loop-other_at-preserved
 loop-other_at-preserved g c =

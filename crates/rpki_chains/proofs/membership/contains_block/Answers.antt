@@ -1,7 +1,5 @@
 -- The block lies in the first one that doesn't end before it begins, or in none.
-use Rattle.std.proofs.Common.{◌≤◌, ◌<◌, IsTrue, arith}
-use Rattle.std.proofs.lemmas.Bool.Decides.{nat_tests}
-use Rattle.rpki_chains.specs.Sets.{Covers, numbers}
+use Rattle.rpki_chains.proofs.Imports.{IsTrue, arith, ◌<◌, ◌≤◌, nat_tests, Covers, numbers}
 use Rattle.rpki_chains.proofs.Searches.{has_all}
 use Rattle.rpki_chains.proofs.membership.contains_block.Goals as goal
 

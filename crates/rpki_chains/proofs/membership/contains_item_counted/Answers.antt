@@ -1,7 +1,5 @@
 -- The item lies in the first block that doesn't end before it, or in none.
-use Rattle.std.proofs.Common.{◌≤◌, IsTrue, arith}
-use Rattle.std.proofs.lemmas.Bool.Decides.{nat_tests}
-use Rattle.rpki_chains.specs.Sets.{Covers, numbers}
+use Rattle.rpki_chains.proofs.Imports.{IsTrue, arith, ◌≤◌, nat_tests, Covers, numbers}
 use Rattle.rpki_chains.proofs.Searches.{has_number}
 use Rattle.rpki_chains.proofs.membership.contains_item_counted.Goals as goal
 

@@ -1,6 +1,5 @@
 -- The part that is searched halves, and what is found is the block behind it.
-use Rattle.std.proofs.Common.{ℕ, ◌-◌, ◌<◌, ◌≤◌, length, ap, ◌∙◌, arith}
-use Rattle.std.proofs.lemmas.Bool.Decides.{nat_tests}
+use Rattle.rpki_chains.proofs.Imports.{ap, arith, length, ℕ, ◌-◌, ◌<◌, ◌∙◌, ◌≤◌, nat_tests}
 use Rattle.rpki_chains.proofs.Counts.{Halved-step}
 use Rattle.rpki_chains.proofs.Searches.{behind_all, first_found}
 use Rattle.rpki_chains.proofs.membership.first_from.Goals as goal

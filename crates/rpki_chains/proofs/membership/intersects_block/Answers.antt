@@ -1,7 +1,5 @@
 -- The block meets the first one that doesn't end before it begins, or none.
-use Rattle.std.proofs.Common.{◌≤◌, IsTrue, arith}
-use Rattle.std.proofs.lemmas.Bool.Decides.{nat_tests}
-use Rattle.rpki_chains.specs.Sets.{Covers, numbers}
+use Rattle.rpki_chains.proofs.Imports.{IsTrue, arith, ◌≤◌, nat_tests, Covers, numbers}
 use Rattle.rpki_chains.proofs.Searches.{has_some}
 use Rattle.rpki_chains.proofs.membership.intersects_block.Goals as goal
 

@@ -1,5 +1,5 @@
 -- The middle leaves at most half on each side.
-use Rattle.std.proofs.Common.{arith}
+use Rattle.rpki_chains.proofs.Imports.{arith}
 use Rattle.rpki_chains.proofs.membership.middle_of.Goals as goal
 
 pub returns-clause-halves : goal.returns-clause-halves

@@ -1,6 +1,5 @@
 -- The first block of a chain leaves the empty one.
-use Rattle.std.proofs.Common.{◌∙◌, ap, sym}
-use Rattle.std.specs.Option.{option_copied}
+use Rattle.rpki_chains.proofs.Imports.{ap, sym, ◌∙◌, option_copied}
 use Rattle.rpki_chains.proofs.FitTurns.{first_leaves}
 use Rattle.rpki_chains.proofs.overhang.first_of.Goals as goal
 

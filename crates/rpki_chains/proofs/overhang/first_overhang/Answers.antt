@@ -1,6 +1,5 @@
 -- Each turn is done with one block, and a block that reaches beyond the other chain is an overhang.
-use Rattle.std.proofs.Common.{◌+◌, ◌∙◌, Some, None, arith}
-use Rattle.rpki_chains.specs.Sets.{numbers}
+use Rattle.rpki_chains.proofs.Imports.{None, Some, arith, ◌+◌, ◌∙◌, numbers}
 use Rattle.rpki_chains.proofs.Counts.{read_first, read_next}
 use Rattle.rpki_chains.proofs.Sides.{IsAt-from}
 use Rattle.rpki_chains.proofs.Insides.{Inside-start}

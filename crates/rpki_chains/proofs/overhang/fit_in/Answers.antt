@@ -1,6 +1,5 @@
 -- How the two blocks lie decides the fit.
-use Rattle.std.proofs.Common.{◌<◌, ◌≤◌, arith, inl, inr}
-use Rattle.std.proofs.lemmas.Bool.Decides.{nat_tests}
+use Rattle.rpki_chains.proofs.Imports.{arith, inl, inr, ◌<◌, ◌≤◌, nat_tests}
 use Rattle.rpki_chains.proofs.overhang.fit_in.Goals as goal
 
 pub returns-then-lt : goal.returns-then-lt

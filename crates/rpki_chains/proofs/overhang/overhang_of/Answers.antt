@@ -1,7 +1,5 @@
 -- Each turn passes a block of the one chain that the held block of the other has, or holds the next one.
-use Rattle.std.proofs.Common.{◌≡◌, ◌<◌, ◌≤◌, ◌⊎◌, ◌∷◌, inl, inr, length, sym, ◌∙◌, arith}
-use Rattle.std.proofs.lemmas.Bool.Decides.{nat_tests}
-use Rattle.rpki_chains.specs.Sets.{numbers}
+use Rattle.rpki_chains.proofs.Imports.{arith, inl, inr, length, sym, ◌<◌, ◌∙◌, ◌∷◌, ◌≡◌, ◌≤◌, ◌⊎◌, nat_tests, numbers}
 use Rattle.rpki_chains.proofs.FitTurns.{leaves_none}
 use Rattle.rpki_chains.proofs.Passing.{Passing-start, Passing-at, Passing-skip, Passing-end, Passing-beyond, Passing-shorter, Passing-fit, Passing-done, read_bounds}
 use Rattle.rpki_chains.proofs.overhang.overhang_of.Goals as goal

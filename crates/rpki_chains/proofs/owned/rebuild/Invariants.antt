@@ -1,6 +1,5 @@
 -- The blocks passed were made anew, each of its bounds.
-use Rattle.std.proofs.Common.{◌≡◌, All, map, take}
-use Rattle.rpki_chains.specs.Sets.{IsNew}
+use Rattle.rpki_chains.proofs.Imports.{All, map, take, ◌≡◌, IsNew}
 use Rattle.rpki_chains.proofs.owned.rebuild.Given as goal
 
 abbrev pub invariant-loop-block : goal.invariant-loop-block

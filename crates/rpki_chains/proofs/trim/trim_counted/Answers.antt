@@ -1,6 +1,5 @@
 -- What is refused is what the chains, which are still the same, have in common.
-use Rattle.std.proofs.Common.{subst, arith}
-use Rattle.rpki_chains.specs.Sets.{Covers, IsChainOf}
+use Rattle.rpki_chains.proofs.Imports.{arith, subst, Covers, IsChainOf}
 use Rattle.rpki_chains.proofs.FitTurns.{overhang-not_inside}
 use Rattle.rpki_chains.proofs.trim.trim_counted.Goals as goal
 
@@ -18,28 +17,13 @@ returns-in-Ok-clause-refused g c =
     (subst (λ ys. IsChainOf f form (λ n. Covers f (g.X.Reads.blocks c.first_overhang.new.own) n × Covers f ys n) c.in-Ok.chain) c.first_overhang.ensures.other_kept c.in-Ok.ensures.common)
 
 pub returns-in-Ok-clause-reads : goal.returns-in-Ok-clause-reads
-returns-in-Ok-clause-reads g c =
-    let own = c.in-Some.ensures.own_left in
-    let other = c.in-Some.ensures.other_left in
-    let within = c.in-Some.ensures.value.own_block.0 in
-    let again = rw c.first_overhang.ensures.own_kept at c.common_from.ensures.own_reads in
-    let rest = rw c.first_overhang.ensures.other_kept at c.common_from.ensures.other_reads in
-    omega arith
+returns-in-Ok-clause-reads g c = grind (arith)
 
 pub returns-in-Err-clause-reads : goal.returns-in-Err-clause-reads
-returns-in-Err-clause-reads g c =
-    let own = c.in-Some.ensures.own_left in
-    let other = c.in-Some.ensures.other_left in
-    let within = c.in-Some.ensures.value.own_block.0 in
-    let again = rw c.first_overhang.ensures.own_kept at c.common_from.ensures.own_reads in
-    let rest = rw c.first_overhang.ensures.other_kept at c.common_from.ensures.other_reads in
-    omega arith
+returns-in-Err-clause-reads g c = grind (arith)
 
 pub returns-in-None-clause-reads : goal.returns-in-None-clause-reads
-returns-in-None-clause-reads g c =
-    let own = c.first_overhang.ensures.own_reads in
-    let other = c.first_overhang.ensures.other_reads in
-    omega arith
+returns-in-None-clause-reads g c = grind (arith)
 
 pub returns-in-Ok-clause-few : goal.returns-in-Ok-clause-few
 returns-in-Ok-clause-few g c = rw (c.first_overhang.ensures.own_kept, c.first_overhang.ensures.other_kept) at c.in-Ok.ensures.few

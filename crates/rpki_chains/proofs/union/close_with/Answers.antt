@@ -1,6 +1,5 @@
 -- Each turn takes in the block at hand; at the end the run is closed, and nothing is left.
-use Rattle.std.proofs.Common.{◌+◌, ◌∙◌, Some, drop, refl, ap, sym, arith}
-use Rattle.rpki_chains.specs.Sets.{Covers, numbers}
+use Rattle.rpki_chains.proofs.Imports.{Some, ap, arith, drop, refl, sym, ◌+◌, ◌∙◌, Covers, numbers}
 use Rattle.rpki_chains.proofs.Counts.{read_next}
 use Rattle.rpki_chains.proofs.Joining.{closed_run}
 use Rattle.rpki_chains.proofs.Merges.{Side-at, Side-ordered, Side-next, Covers-left, split-turn, closed_rest}

@@ -1,6 +1,5 @@
 -- The run is made longer, or closed where the next bounds don't touch it.
-use Rattle.std.proofs.Common.{◌≡◌, ◌≤◌, ◌∙◌, ⊎_elim, ap, sym, arith}
-use Rattle.rpki_chains.specs.Sets.{numbers}
+use Rattle.rpki_chains.proofs.Imports.{ap, arith, sym, ⊎_elim, ◌∙◌, ◌≡◌, ◌≤◌, numbers}
 use Rattle.rpki_chains.proofs.Joining.{longer_run, longer_held, next_run, held_next}
 use Rattle.rpki_chains.proofs.union.take_in.Goals as goal
 

@@ -1,9 +1,6 @@
 -- Each turn takes in the block that begins first; where one chain ends, what is left of the other is taken in.
-use Rattle.std.proofs.Common.{◌≡◌, ℕ, ◌+◌, ◌≤◌, ◌⊎◌, ◌∙◌, inl, inr, ⊎_elim, Some, [], drop, arith}
-use Rattle.std.proofs.lemmas.Bool.Decides.{nat_tests}
+use Rattle.rpki_chains.proofs.Imports.{Some, [], arith, drop, inl, inr, ℕ, ⊎_elim, ◌+◌, ◌∙◌, ◌≡◌, ◌≤◌, ◌⊎◌, nat_tests, IsBehind, IsHeld, Covers, IsWithin, numbers}
 use Rattle.std.proofs.lemmas.Result.{IfOk-weaker}
-use Rattle.rpki_chains.specs.Joining.{IsHeld, IsBehind}
-use Rattle.rpki_chains.specs.Sets.{IsWithin, Covers, numbers}
 use Rattle.rpki_chains.proofs.Counts.{read_first, read_next}
 use Rattle.rpki_chains.proofs.Merges.{Side-first, Side-at, Side-ordered, Side-behind, Side-covers, Side-next, Side-waits, split-start, split-beside, split-swap, union_rest, union_few}
 use Rattle.rpki_chains.proofs.union.union_counted.Goals as goal

@@ -1,7 +1,5 @@
 -- The run at hand begins no later than the blocks at hand, and nothing is lost.
-use Rattle.std.proofs.Common.{◌≡◌, ◌+◌, ◌-◌, ◌^◌, ◌<◌, ◌≤◌, ◌⊎◌, length, drop}
-use Rattle.rpki_chains.specs.Joining.{IsHeld, IsBehind}
-use Rattle.rpki_chains.specs.Sets.{Covers, numbers}
+use Rattle.rpki_chains.proofs.Imports.{drop, length, ◌+◌, ◌-◌, ◌<◌, ◌^◌, ◌≡◌, ◌≤◌, ◌⊎◌, IsBehind, IsHeld, Covers, numbers}
 use Rattle.rpki_chains.proofs.Merges.{IsSplit, Side}
 use Rattle.rpki_chains.proofs.union.union_counted.Given as goal
 
@@ -19,7 +17,8 @@ invariant-loop-chain g l =
       behind : IsBehind f form last l.chain.items (numbers number l.run);
       own_side : Side f form number last xs l.own_at l.own_block l.run;
       other_side : Side f form number last ys l.other_at l.other_block l.run;
-      held : IsSplit (IsHeld f l.chain.items (numbers number l.run)) (λ n. Covers f (drop l.own_at xs) n ⊎ Covers f (drop l.other_at ys) n) (λ n. Covers f xs n ⊎ Covers f ys n);
+      held : IsSplit (IsHeld f l.chain.items (numbers number l.run))
+          (λ n. Covers f (drop l.own_at xs) n ⊎ Covers f (drop l.other_at ys) n) (λ n. Covers f xs n ⊎ Covers f ys n);
       own_bound : length xs < 2 ^ 64;
       other_bound : length ys < 2 ^ 64;
       own_kept : g.X.Reads.blocks l.own ≡ xs;

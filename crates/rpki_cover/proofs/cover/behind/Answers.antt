@@ -1,5 +1,4 @@
-use Rattle.std.proofs.Common.{arith, ◌^◌, ◌≤◌}
-use Rattle.std.proofs.Math.Nat.{pow-le-pow_right}
+use Rattle.rpki_cover.proofs.Common.{arith, ◌^◌, ◌≤◌, pow-le-pow_right}
 use Rattle.rpki_cover.proofs.cover.behind.Goals as goal
 
 pub returns-then-free-ge128 : goal.returns-then-free-ge128

@@ -1,6 +1,5 @@
 -- The readings find what is written.
-use Rattle.std.proofs.Common.{[], arith}
-use Rattle.rpki_der.specs.Der.{u32_value, bit_string_value, octet_string_value, null_value, sequence_value}
+use Rattle.rpki_der.proofs.Common.{[], arith, bit_string_value, null_value, octet_string_value, sequence_value, u32_value}
 use Rattle.rpki_der.proofs.Readings.{tagged_reading, u32_reading, bit_string_reading, null_reading}
 use Rattle.rpki_der.proofs.Written.{value_is, u32_is, bit_string_is}
 use Rattle.rpki_der.proofs.laws.read_back.Goals as goal

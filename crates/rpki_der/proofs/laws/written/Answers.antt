@@ -1,5 +1,5 @@
 -- Each has its tag, and a content that is short enough.
-use Rattle.std.proofs.Common.{[], arith}
+use Rattle.rpki_der.proofs.Common.{[], arith}
 use Rattle.rpki_der.proofs.Written.{value_is, u32_is, bit_string_is}
 use Rattle.rpki_der.proofs.laws.written.Goals as goal
 

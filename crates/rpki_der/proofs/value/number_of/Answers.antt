@@ -1,8 +1,6 @@
 -- So far the number is that of the digits, and has no more bits than they.
-use Rattle.std.proofs.Common.{◌≡◌, ◌≤◌, ◌+◌, ◌*◌, ◌^◌, ◌∙◌, get_or, take, ap, sym, arith}
+use Rattle.rpki_der.proofs.Common.{arith, ◌*◌, ◌^◌, ◌≤◌, take_all}
 use Rattle.std.proofs.Math.Nat.{pow-le-pow_right}
-use Rattle.std.proofs.lemmas.List.{take_all}
-use Rattle.rpki_der.specs.Der.{big_endian}
 use Rattle.rpki_der.proofs.Numbers.{big_endian_more, digit_more}
 use Rattle.rpki_der.proofs.value.number_of.Goals as goal
 
@@ -17,12 +15,7 @@ overflow_add-number c =
     omega (arith, p, c.loop-digit.invariant.below, c.type_inv.digits c.loop-digit.digit-index)
 
 pub loop-digit-preserved : goal.loop-digit-preserved
-loop-digit-preserved c = record {
-  value = ap (λ t. t * 256 + get_or c.args.digits.now c.loop-digit.digit-index 0) c.loop-digit.invariant.value ∙ sym (big_endian_more c.args.digits.now c.loop-digit.digit-index c.loop-digit-test.true);
-  below = rw (digit_more c.loop-digit.digit-index) (omega (arith, c.loop-digit.invariant.below, c.type_inv.digits c.loop-digit.digit-index));
-}
+loop-digit-preserved c = grind (arith, big_endian_more, digit_more)
 
 pub returns : goal.returns
-returns c =
-    let all : take c.loop-digit.digit-index c.args.digits.now ≡ c.args.digits.now = take_all c.loop-digit.digit-index c.args.digits.now (omega (arith, c.loop-digit.auto.digit-index-end, c.loop-digit-test.false)) in
-    record { number = c.loop-digit.invariant.value ∙ ap big_endian all }
+returns c = grind (arith, take_all)

@@ -1,5 +1,4 @@
-use Rattle.std.proofs.Common.{◌≡◌, ◌<◌, ◌*◌, ◌^◌, take}
-use Rattle.rpki_der.specs.Der.{big_endian}
+use Rattle.rpki_der.proofs.Common.{take, ◌*◌, ◌<◌, ◌^◌, ◌≡◌, big_endian}
 use Rattle.rpki_der.proofs.value.number_of.Given as goal
 
 abbrev pub invariant-loop-digit : goal.invariant-loop-digit

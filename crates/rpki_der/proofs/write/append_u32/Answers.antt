@@ -1,7 +1,5 @@
 -- The content is the end of the number's octets.
-use Rattle.std.proofs.Common.{◌≡◌, ℕ, ◌-◌, ◌++◌, List, take, drop, length, ap, ◌∙◌, append_assoc, arith}
-use Rattle.std.proofs.lemmas.List.{length-drop, take_all}
-use Rattle.rpki_der.specs.Der.{header, integer}
+use Rattle.rpki_der.proofs.Common.{List, ap, append_assoc, arith, drop, length, take, ℕ, ◌++◌, ◌-◌, ◌∙◌, ◌≡◌, length-drop, take_all, header, integer}
 use Rattle.rpki_der.proofs.Contents.{integer-end}
 use Rattle.rpki_der.proofs.write.append_u32.Goals as goal
 

@@ -1,10 +1,8 @@
 -- The content of an INTEGER of 32 bits has five octets at most, and two stand before it.
-use Rattle.std.proofs.Common.{◌≤◌, arith}
+use Rattle.rpki_der.proofs.Common.{arith}
 use Rattle.rpki_der.proofs.Contents.{length-integer}
 use Rattle.rpki_der.proofs.Written.{length-header}
 use Rattle.rpki_der.proofs.write.u32_len.Goals as goal
 
 pub returns-clause-short : goal.returns-clause-short
-returns-clause-short c =
-    let few : c.integer_len.result ≤ 5 = omega (arith, c.integer_len.ensures.len, length-integer c.args.number c.ranges.number.fits) in
-    omega (arith, c.value_len.ensures.len, length-header 2 c.integer_len.result (omega arith))
+returns-clause-short c = grind (arith, length-header, length-integer)

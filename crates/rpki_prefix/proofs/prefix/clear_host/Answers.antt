@@ -1,6 +1,4 @@
-use Rattle.std.proofs.Common.{◌≡◌, ◌+◌, ◌-◌, ◌^◌, ◌∙◌, ap}
-use Rattle.rpki_addr.specs.declared.addr.IpAddr.TheVariants.{V4, V6}
-use Rattle.rpki_prefix.specs.Values.{width}
+use Rattle.rpki_prefix.proofs.Common.{ap, ◌+◌, ◌-◌, ◌^◌, ◌∙◌, ◌≡◌, V4, V6, width}
 use Rattle.rpki_prefix.proofs.HostBits.{cleared_by}
 use Rattle.rpki_prefix.proofs.prefix.clear_host.Goals as goal
 

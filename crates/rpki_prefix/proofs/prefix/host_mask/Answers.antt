@@ -1,5 +1,4 @@
-use Rattle.std.proofs.Common.{◌≡◌, ◌-◌, ◌^◌, ap, ◌∙◌, arith}
-use Rattle.rpki_addr.proofs.Masks.{host_ones}
+use Rattle.rpki_prefix.proofs.Common.{ap, arith, ◌-◌, ◌^◌, ◌∙◌, ◌≡◌, host_ones}
 use Rattle.rpki_prefix.proofs.prefix.host_mask.Goals as goal
 
 pub returns-else-count-eq0 : goal.returns-else-count-eq0

@@ -1,15 +1,9 @@
-use Rattle.std.proofs.Common.{◌≡◌, ◌+◌, ◌-◌, ◌^◌, ◌∙◌, ap}
-use Rattle.rpki_addr.specs.declared.addr.IpAddr.TheVariants.{V4, V6}
-use Rattle.rpki_prefix.specs.Values.{width}
+use Rattle.rpki_prefix.proofs.Common.{arith, ◌-◌}
 use Rattle.rpki_prefix.proofs.HostBits.{filled_by}
 use Rattle.rpki_prefix.proofs.prefix.set_host.Goals as goal
 
 pub returns-in-V4 : goal.returns-in-V4
-returns-in-V4 c =
-    let mask : c.host_mask-mask.result + 1 ≡ 2 ^ (32 - c.args.len) = rw (c.address_bits.ensures ∙ ap width c.in-V4.is) at c.host_mask-mask.ensures in
-    rw (c.in-V4.is, ← c.to_bits.ensures) (ap V4 (filled_by 32 c.to_bits.result c.args.len c.host_mask-mask.result _ mask c.from_bits.ensures))
+returns-in-V4 c = grind (arith, filled_by)
 
 pub returns-in-V6 : goal.returns-in-V6
-returns-in-V6 c =
-    let mask : c.host_mask-mask.result + 1 ≡ 2 ^ (128 - c.args.len) = rw (c.address_bits.ensures ∙ ap width c.in-V6.is) at c.host_mask-mask.ensures in
-    rw (c.in-V6.is, ← c.to_bits-in-V6.ensures) (ap V6 (filled_by 128 c.to_bits-in-V6.result c.args.len c.host_mask-mask.result _ mask c.from_bits-in-V6.ensures))
+returns-in-V6 c = grind (arith, filled_by)

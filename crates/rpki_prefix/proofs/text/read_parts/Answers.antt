@@ -1,7 +1,4 @@
-use Rattle.std.proofs.Common.{None, Some, length, lit<, ap, sym, ◌∙◌}
-use Rattle.std.proofs.lemmas.Bool.{eqb-false}
-use Rattle.std.proofs.lemmas.Str.Pattern.{split_parts}
-use Rattle.std.proofs.lemmas.Result.{err_from_is_err_and}
+use Rattle.rpki_prefix.proofs.Common.{None, Some, ap, length, lit<, sym, ◌∙◌, eqb-false, err_from_is_err_and, split_parts}
 use Rattle.rpki_prefix.proofs.text.read_parts.Goals as goal
 
 pub returns-in_default : goal.returns-in_default

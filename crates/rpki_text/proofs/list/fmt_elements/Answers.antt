@@ -1,5 +1,5 @@
 -- The first item and the loop write the joined texts.
-use Rattle.std.proofs.Common.{◌++◌, refl, codes}
+use Rattle.rpki_text.proofs.Common.{codes, refl, ◌++◌}
 use Rattle.std.proofs.Output.{has_written_append, has_written_of_eq}
 use Rattle.rpki_text.proofs.PrintedLemmas.{joined_by_loop, written_more}
 use Rattle.rpki_text.proofs.list.fmt_elements.Goals as goal

@@ -1,6 +1,5 @@
 -- What the loop over the items behind the first keeps.
-use Rattle.std.proofs.Common.{◌≡◌, ℕ, List, Some, ◌++◌, take, codes}
-use Rattle.std.specs.List.{flat_map}
+use Rattle.rpki_text.proofs.Common.{List, Some, codes, take, ℕ, ◌++◌, ◌≡◌, flat_map}
 use Rattle.std.specs.Fmt.{HasWritten, IsPlainFormatter}
 use Rattle.rpki_text.proofs.list.fmt_elements.Given as goal
 

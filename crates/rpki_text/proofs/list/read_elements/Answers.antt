@@ -1,18 +1,13 @@
 -- Each part adds its value, is left out, or is the first fault.
-use Rattle.std.proofs.Common.{length, map, sym, ◌∙◌, lit<}
-use Rattle.std.proofs.lemmas.Bool.{eqb-false}
+use Rattle.rpki_text.proofs.Common.{arith, length, lit<, sym, ◌∙◌, eqb-false, map-append}
 use Rattle.std.proofs.lemmas.Iterator.Splits.{YieldsList-from_str_split}
 use Rattle.std.proofs.lemmas.Iterator.Consumers.{YieldsList-turn, YieldsList-end, YieldsList-so_far, YieldsList-at}
-use Rattle.std.proofs.lemmas.List.{map-append}
 use Rattle.rpki_text.proofs.ListLemmas.{fault_at, values_more, elements_are}
 use Rattle.rpki_text.proofs.list.read_elements.Goals as goal
 
 -- one more value
 pub loop-part-preserved : goal.loop-part-preserved
-loop-part-preserved g c =
-    let some = eqb-false (length c.trimmed-element.result.now) 0 (sym c.is_empty.ensures ∙ c.if-is_empty.false) in
-    let value = rw c.trimmed-element.ensures at c.in-Ok.ensures in
-    rw (map-append, c.in_ok-push-in-Ok.ensures.items) (values_more (g.R.ReadElement.has c.args.reader.now) (map (λ p. p.now) c.loop-part.yielded) c.in-Some.part.now _ _ c.loop-part.invariant (rw c.trimmed-element.ensures at some) value)
+loop-part-preserved g c = grind (arith, eqb-false, map-append, values_more)
 
 pub returns-in-Err : goal.returns-in-Err
 returns-in-Err g c =

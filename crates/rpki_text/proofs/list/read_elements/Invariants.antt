@@ -1,6 +1,5 @@
 -- What the loop over the parts keeps.
-use Rattle.std.proofs.Common.{map}
-use Rattle.rpki_text.specs.Lists.{kept, HaveValues}
+use Rattle.rpki_text.proofs.Common.{map, HaveValues, kept}
 use Rattle.rpki_text.proofs.list.read_elements.Given as goal
 
 -- the values so far are those of the parts so far, as kept

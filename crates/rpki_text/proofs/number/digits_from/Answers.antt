@@ -1,17 +1,13 @@
 -- Nine digits and one more fit, and one more digit adds to the value.
-use Rattle.std.proofs.Common.{◌-◌, ◌<◌, length, arith}
+use Rattle.rpki_text.proofs.Common.{arith, length, ◌-◌, ◌<◌}
 use Rattle.rpki_text.proofs.NumberLemmas.{few_below, digit_more}
 use Rattle.rpki_text.proofs.number.digits_from.Goals as goal
 
 pub overflow_mul-value : goal.overflow_mul-value
-overflow_mul-value c =
-    let few : c.loop-end.end - c.args.start < 10 = omega (arith, c.loop-end-test.true, c.few_behind-stop.ensures.within.1, c.loop-end.invariant.in_order) in
-    let below = few_below _ _ _ _ c.loop-end.invariant few in omega (arith, below)
+overflow_mul-value c = grind (arith, few_below)
 
 pub overflow_add-value : goal.overflow_add-value
-overflow_add-value c =
-    let few : c.loop-end.end - c.args.start < 10 = omega (arith, c.loop-end-test.true, c.few_behind-stop.ensures.within.1, c.loop-end.invariant.in_order) in
-    let below = few_below _ _ _ _ c.loop-end.invariant few in omega (arith, below, c.from.ensures, c.if-not-is_ascii_digit.ensures.cases)
+overflow_add-value c = grind (arith, few_below)
 
 pub loop-end-preserved : goal.loop-end-preserved
 loop-end-preserved c =

@@ -1,6 +1,5 @@
 -- The value is that of the digits so far.
-use Rattle.std.proofs.Common.{◌-◌, length}
-use Rattle.rpki_text.specs.Numbers.{AreDigitsBetween}
+use Rattle.rpki_text.proofs.Common.{length, ◌-◌, AreDigitsBetween}
 use Rattle.rpki_text.proofs.number.digits_from.Given as goal
 
 abbrev pub invariant-loop-end : goal.invariant-loop-end

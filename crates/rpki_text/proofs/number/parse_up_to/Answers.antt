@@ -1,7 +1,5 @@
 -- No text, a plus alone, or what the digits give.
-use Rattle.std.proofs.Common.{◌≡◌, ◌<◌, length, arith, sym, ap, ◌∙◌}
-use Rattle.std.proofs.lemmas.Bool.{eqb-true, eqb-false}
-use Rattle.std.specs.Str.Parse.{without_leading_plus}
+use Rattle.rpki_text.proofs.Common.{ap, arith, length, sym, ◌<◌, ◌∙◌, ◌≡◌, eqb-false, eqb-true, without_leading_plus}
 use Rattle.rpki_text.proofs.NumberLemmas.{number_answers, text_from_digits, no_text, no_digits}
 use Rattle.rpki_text.proofs.number.parse_up_to.Goals as goal
 

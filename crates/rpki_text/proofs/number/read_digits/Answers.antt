@@ -1,5 +1,5 @@
 -- One more digit adds to the value, passes the limit, or is no digit.
-use Rattle.std.proofs.Common.{◌+◌, take, drop, get_or, arith, refl}
+use Rattle.rpki_text.proofs.Common.{arith, drop, get_or, refl, take, ◌+◌}
 use Rattle.rpki_text.proofs.NumberLemmas.{value_more, value_passes, value_of_other, split_at}
 use Rattle.rpki_text.proofs.number.read_digits.Goals as goal
 

@@ -1,6 +1,5 @@
 -- The value is that of the digits so far.
-use Rattle.std.proofs.Common.{take}
-use Rattle.rpki_text.specs.Numbers.{IsValueUpTo}
+use Rattle.rpki_text.proofs.Common.{take, IsValueUpTo}
 use Rattle.rpki_text.proofs.number.read_digits.Given as goal
 
 abbrev pub invariant-loop-byte : goal.invariant-loop-byte

@@ -1,5 +1,4 @@
-use Rattle.std.proofs.Common.{refl}
-use Rattle.std.specs.String.{string_bytes}
+use Rattle.origin_lines.proofs.Common.{refl, string_bytes}
 use Rattle.std.proofs.lemmas.Result.{IfOk-weaker}
 use Rattle.origin_lines.proofs.AnswerLemmas.{route_answered}
 use Rattle.origin_lines.proofs.answers.RoutesAnswers.answer.Goals as goal

@@ -1,5 +1,5 @@
 -- One byte more is seen.
-use Rattle.std.proofs.Common.{rules}
+use Rattle.origins_engine.proofs.Common.{rules}
 use Rattle.origins_engine.proofs.CheckLemmas.{seen_more}
 use Rattle.origins_engine.proofs.check.Seen.with.Goals as goal
 

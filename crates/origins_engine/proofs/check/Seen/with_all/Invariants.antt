@@ -1,6 +1,5 @@
 -- What was seen so far is what is seen of the bytes so far.
-use Rattle.std.proofs.Common.{List, ℕ, ◌++◌, take}
-use Rattle.origins_engine.specs.Checks.{IsSeen}
+use Rattle.origins_engine.proofs.Common.{List, take, ℕ, ◌++◌, IsSeen}
 use Rattle.origins_engine.proofs.check.Seen.with_all.Given as goal
 
 abbrev pub invariant-loop-byte : goal.invariant-loop-byte

@@ -1,11 +1,7 @@
-use Rattle.std.proofs.Common.{length, sym, ◌∙◌}
-use Rattle.std.proofs.lemmas.Bool.{eqb-true}
-use Rattle.std.proofs.lemmas.List.{nil_from_length}
+use Rattle.payload_texts.proofs.Common.{arith, eqb-true, nil_from_length}
 use Rattle.payload_texts.proofs.ColumnLemmas.{looked_all}
 use Rattle.payload_texts.proofs.columns.Column.place.Goals as goal
 
 -- no field is left
 pub returns : goal.returns
-returns c =
-    let end = nil_from_length c.loop-rest.rest.now (eqb-true (length c.loop-rest.rest.now) 0 (sym c.is_empty.ensures ∙ c.loop-rest-test.false)) in
-    looked_all c.args.self c.args.line.now c.loop-rest.rest.now c.loop-rest.commas c.loop-rest.invariant.looked end
+returns c = grind (arith, eqb-true, looked_all, nil_from_length)

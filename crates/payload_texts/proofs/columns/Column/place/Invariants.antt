@@ -1,7 +1,5 @@
 -- The fields before the rest aren't the column's name, and there are no more of them than octets.
-use Rattle.std.proofs.Common.{◌+◌, ◌≤◌, length}
-use denote.Shadow.{shadow}
-use denote.Text.{Utf8}
+use Rattle.payload_texts.proofs.Common.{length, ◌+◌, ◌≤◌, shadow, Utf8}
 use Rattle.payload_texts.proofs.ColumnLemmas.{AreLooked}
 use Rattle.payload_texts.proofs.columns.Column.place.Given as goal
 

@@ -1,6 +1,5 @@
 -- The table is held against the digits of std, by computing.
-use Rattle.std.proofs.Common.{refl}
-use Rattle.std.specs.Char.{digit_char}
+use Rattle.rpki_addr.proofs.Common.{refl, digit_char}
 use Rattle.rpki_addr.specs.declared.addr.print.TheConstants.{HEX_DIGITS}
 use Rattle.rpki_addr.proofs.Tables.{agrees_below, agrees_at}
 use Rattle.rpki_addr.proofs.addr.print.hex_digit.Goals as goal

@@ -1,6 +1,5 @@
 -- The run at this place, and the longest one from it on.
-use Rattle.std.proofs.Common.{◌≡◌, ◌+◌, ◌≤◌, length, drop}
-use Rattle.std.specs.Net.Text.{zero_run, longest_zero_run}
+use Rattle.rpki_addr.proofs.Common.{drop, length, ◌+◌, ◌≡◌, ◌≤◌, longest_zero_run, zero_run}
 use Rattle.rpki_addr.proofs.addr.print.longest_run.Given as goal
 
 abbrev pub invariant-loop-start : goal.invariant-loop-start

@@ -1,5 +1,5 @@
 -- The bytes so far are put.
-use Rattle.std.proofs.Common.{◌≡◌, ◌+◌, ◌++◌, take}
+use Rattle.rpki_addr.proofs.Common.{take, ◌++◌, ◌+◌, ◌≡◌}
 use Rattle.rpki_addr.proofs.addr.print.put_all.Given as goal
 
 abbrev pub invariant-loop-byte : goal.invariant-loop-byte

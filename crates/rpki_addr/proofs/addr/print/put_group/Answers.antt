@@ -1,5 +1,5 @@
 -- The digits are those of the group.
-use Rattle.std.proofs.Common.{◌∙◌}
+use Rattle.rpki_addr.proofs.Common.{◌∙◌}
 use Rattle.rpki_addr.proofs.PrintLemmas.{two_at_end, three_at_end, four_at_end, hex_one, hex_two, hex_three, hex_four}
 use Rattle.rpki_addr.proofs.addr.print.put_group.Goals as goal
 

@@ -1,6 +1,5 @@
 -- The first group and those so far are written.
-use Rattle.std.proofs.Common.{◌≡◌, ◌+◌, ◌*◌, ◌≤◌, ◌∷◌, ◌++◌, get_or, take}
-use Rattle.std.specs.Net.Text.{groups_text}
+use Rattle.rpki_addr.proofs.Common.{get_or, take, ◌*◌, ◌++◌, ◌+◌, ◌∷◌, ◌≡◌, ◌≤◌, groups_text}
 use Rattle.rpki_addr.proofs.addr.print.put_groups.Given as goal
 
 abbrev pub invariant-loop-group : goal.invariant-loop-group

@@ -1,7 +1,6 @@
 -- Four decimals, and a dot after each but the last.
-use Rattle.std.proofs.Common.{◌≡◌, length, ◌++◌, take, sym, ap, ◌∙◌, rules}
+use Rattle.rpki_addr.proofs.Common.{ap, length, rules, sym, take, ◌++◌, ◌∙◌, ◌≡◌, dotted}
 use Rattle.std.proofs.NetLemmas.Arrays.{four_items}
-use Rattle.rpki_addr.specs.AddressText.{dotted}
 use Rattle.rpki_addr.proofs.PrintLemmas.{dotted_at_end}
 use Rattle.rpki_addr.proofs.addr.print.put_ipv4.Goals as goal
 

@@ -1,6 +1,5 @@
 -- The digits are those of the octet.
-use Rattle.std.proofs.Common.{sym, ap, ◌∙◌, ◌++◌, take, arith}
-use Rattle.std.proofs.lemmas.Fmt.{decimal_digit}
+use Rattle.rpki_addr.proofs.Common.{ap, arith, sym, take, ◌++◌, ◌∙◌, decimal_digit}
 use Rattle.rpki_addr.proofs.PrintLemmas.{two_at_end, three_at_end, decimal_two, decimal_three}
 use Rattle.rpki_addr.proofs.addr.print.put_octet.Goals as goal
 

@@ -1,8 +1,5 @@
 -- The groups, or those on both sides of the longest run.
-use Rattle.std.proofs.Common.{◌≡◌, ℕ, ◌+◌, ◌-◌, ◌≤◌, List, ◌++◌, length, length-drop, codes, take, drop, sym, ap, ◌∙◌, arith}
-use Rattle.std.proofs.lemmas.Bool.{ltb-true, ltb-false}
-use Rattle.std.proofs.lemmas.List.{take_all}
-use Rattle.std.specs.Net.Text.{groups_text, longest_zero_run}
+use Rattle.rpki_addr.proofs.Common.{List, ap, arith, codes, drop, length, length-drop, sym, take, ℕ, ◌++◌, ◌+◌, ◌-◌, ◌∙◌, ◌≡◌, ◌≤◌, ltb-false, ltb-true, take_all, groups_text, longest_zero_run}
 use Rattle.rpki_addr.proofs.PrintLemmas.{shortened_at_end, hex_groups_plain, hex_groups_shortened}
 use Rattle.rpki_addr.proofs.addr.print.put_shortened.Goals as goal
 

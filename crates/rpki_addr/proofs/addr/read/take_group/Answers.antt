@@ -1,5 +1,5 @@
 -- One, two, three or four digits.
-use Rattle.std.proofs.Common.{sym}
+use Rattle.rpki_addr.proofs.Common.{sym}
 use Rattle.rpki_addr.proofs.AddressReading.{slice_from, group_none, group_one, group_two, group_three, group_four, group_five}
 use Rattle.rpki_addr.proofs.addr.read.take_group.Goals as goal
 

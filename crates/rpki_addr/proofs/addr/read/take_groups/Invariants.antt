@@ -1,6 +1,5 @@
 -- The groups so far are the first ones.
-use Rattle.std.proofs.Common.{◌-◌}
-use Rattle.rpki_addr.specs.GroupsRead.{IsSoFar}
+use Rattle.rpki_addr.proofs.Common.{◌-◌, IsSoFar}
 use Rattle.rpki_addr.proofs.addr.read.take_groups.Given as goal
 
 abbrev pub invariant-loop-longer : goal.invariant-loop-longer

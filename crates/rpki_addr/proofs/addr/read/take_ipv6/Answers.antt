@@ -1,5 +1,5 @@
 -- All eight groups, or groups on both sides of two colons.
-use Rattle.std.proofs.Common.{arith}
+use Rattle.rpki_addr.proofs.Common.{arith}
 use Rattle.rpki_addr.proofs.GroupReading.{ipv6_full, ipv6_short, ipv6_no_colons, ipv6_colons, elided_fits}
 use Rattle.rpki_addr.proofs.addr.read.take_ipv6.Goals as goal
 

@@ -1,5 +1,5 @@
 -- With no dot behind the group there is no IPv4 text.
-use Rattle.std.proofs.Common.{sym, ◌∙◌}
+use Rattle.rpki_addr.proofs.Common.{sym, ◌∙◌}
 use Rattle.rpki_addr.proofs.AddressReading.{no_dot_behind, ipv4_if_none, not_equal}
 use Rattle.rpki_addr.proofs.addr.read.take_last_two.Goals as goal
 

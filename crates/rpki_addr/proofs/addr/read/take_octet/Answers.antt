@@ -1,5 +1,5 @@
 -- One, two or three digits, without a leading zero.
-use Rattle.std.proofs.Common.{sym}
+use Rattle.rpki_addr.proofs.Common.{sym}
 use Rattle.rpki_addr.proofs.AddressReading.{slice_from, octet_none, octet_one, octet_two, octet_three, octet_above, octet_four, octet_zero}
 use Rattle.rpki_addr.proofs.addr.read.take_octet.Goals as goal
 

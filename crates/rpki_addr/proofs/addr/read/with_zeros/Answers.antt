@@ -1,5 +1,5 @@
 -- One group of zeros more fits.
-use Rattle.std.proofs.Common.{ℕ, ◌<◌, ◌^◌, sym, subst, ◌∙◌, arith}
+use Rattle.rpki_addr.proofs.Common.{arith, subst, sym, ℕ, ◌<◌, ◌^◌, ◌∙◌}
 use Rattle.rpki_addr.proofs.GroupReading.{one_zero_more, no_zero_more, one_zero_fits}
 use Rattle.rpki_addr.proofs.addr.read.with_zeros.Goals as goal
 

@@ -1,5 +1,5 @@
 -- The groups of zeros that are left stand behind the number so far.
-use Rattle.std.proofs.Common.{◌≡◌, ◌*◌, ◌^◌}
+use Rattle.rpki_addr.proofs.Common.{◌*◌, ◌^◌, ◌≡◌}
 use Rattle.rpki_addr.proofs.addr.read.with_zeros.Given as goal
 
 abbrev pub invariant-loop-left : goal.invariant-loop-left

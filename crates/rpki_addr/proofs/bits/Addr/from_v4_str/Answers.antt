@@ -1,6 +1,4 @@
-use Rattle.std.proofs.Common.{◌*◌, ◌^◌}
-use Rattle.std.proofs.lemmas.Result.{err_from_is_err_and}
-use Rattle.rpki_addr.specs.AddressText.{IsIpv4Text}
+use Rattle.rpki_addr.proofs.Common.{◌*◌, ◌^◌, err_from_is_err_and, IsIpv4Text}
 use Rattle.rpki_addr.proofs.AddrTextLemmas.{first_of_ok, first_of_err}
 use Rattle.rpki_addr.proofs.bits.Addr.from_v4_str.Goals as goal
 

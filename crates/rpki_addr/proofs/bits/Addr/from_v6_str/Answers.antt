@@ -1,5 +1,4 @@
-use Rattle.std.proofs.lemmas.Result.{err_from_is_err_and}
-use Rattle.rpki_addr.specs.AddressText.{IsIpv6Text}
+use Rattle.rpki_addr.proofs.Common.{err_from_is_err_and, IsIpv6Text}
 use Rattle.rpki_addr.proofs.AddrTextLemmas.{first_of_ok, first_of_err}
 use Rattle.rpki_addr.proofs.bits.Addr.from_v6_str.Goals as goal
 

@@ -1,5 +1,4 @@
-use Rattle.std.proofs.Common.{◌≤◌, ◌^◌, ◌/◌, ◌-◌, arith}
-use Rattle.std.proofs.lemmas.Nat.{or_lt, shr_le}
+use Rattle.rpki_addr.proofs.Common.{arith, ◌-◌, ◌/◌, ◌^◌, ◌≤◌, or_lt, shr_le}
 use Rattle.rpki_addr.proofs.Masks.{set_host, host_ones}
 use Rattle.rpki_addr.proofs.bits.Addr.to_max.Goals as goal
 

@@ -1,4 +1,4 @@
-use Rattle.std.proofs.Common.{◌-◌, arith}
+use Rattle.rpki_addr.proofs.Common.{arith, ◌-◌}
 use Rattle.rpki_addr.proofs.Masks.{clear_host, host_ones}
 use Rattle.rpki_addr.proofs.bits.Addr.to_min.Goals as goal
 

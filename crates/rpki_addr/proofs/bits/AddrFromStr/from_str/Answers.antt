@@ -1,6 +1,4 @@
-use Rattle.std.proofs.lemmas.Result.{err_from_is_err_and}
-use Rattle.rpki_addr.specs.AddressText.{IsIpText}
-use Rattle.rpki_addr.specs.AddrText.{first_of}
+use Rattle.rpki_addr.proofs.Common.{err_from_is_err_and, first_of, IsIpText}
 use Rattle.rpki_addr.proofs.AddrTextLemmas.{first_of_ok, first_of_err}
 use Rattle.rpki_addr.proofs.bits.AddrFromStr.from_str.Goals as goal
 

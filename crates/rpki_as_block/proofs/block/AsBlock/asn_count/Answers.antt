@@ -1,4 +1,4 @@
-use Rattle.std.proofs.Common.{arith}
+use Rattle.rpki_as_block.proofs.Common.{arith}
 use Rattle.rpki_as_block.proofs.NumberLemmas.{IsSizeOf-within}
 use Rattle.rpki_as_block.proofs.block.AsBlock.asn_count.Goals as goal
 

@@ -1,15 +1,10 @@
 -- What is written is the block, which is read.
-use Rattle.std.proofs.Common.{◌<◌, ◌^◌, arith}
-use Rattle.rpki_as_block.specs.AsDer.{as_block_octets}
-use Rattle.rpki_as_block.specs.AsDerLaws.{as_block_reading}
-use Rattle.rpki_as_block.specs.Blocks.{as_bounds}
+use Rattle.rpki_as_block.proofs.Common.{arith, as_block_octets, as_block_reading}
 use Rattle.rpki_as_block.proofs.AsDerLemmas.{block_written}
 use Rattle.rpki_as_block.proofs.block.AsBlock.encode.Goals as goal
 
 pub returns-clause-numbers : goal.returns-clause-numbers
-returns-clause-numbers g c =
-    let below : (as_bounds c.args.self.now).1 < 2 ^ 32 = omega (arith, c.into_u32-number.type_inv, c.into_u32-number.ensures, c.max.ensures.value) in
-    (c.max.ensures.in_order, below)
+returns-clause-numbers g c = grind (arith)
 
 pub returns-clause-read_back : goal.returns-clause-read_back
 returns-clause-read_back g c =

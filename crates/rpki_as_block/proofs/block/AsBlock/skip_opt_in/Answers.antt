@@ -1,8 +1,5 @@
 -- What the reading gives is the value of the grammar.
-use Rattle.rpki_base.proofs.DerCursors.{reads_optional_value_by}
-use Rattle.rpki_as_block.specs.AsDer.{IsBlockInAnyOrder}
-use Rattle.rpki_as_block.specs.AsDerLaws.{skip_reading}
-use Rattle.rpki_as_block.specs.AsDerReading.{skip_block_at}
+use Rattle.rpki_as_block.proofs.Common.{reads_optional_value_by, IsBlockInAnyOrder, skip_reading, skip_block_at}
 use Rattle.rpki_as_block.proofs.block.AsBlock.skip_opt_in.Goals as goal
 
 pub returns-clause-reads : goal.returns-clause-reads

@@ -1,15 +1,5 @@
 -- What the reading gives is the value of the grammar of the mode.
-use Rattle.std.proofs.Common.{subst, true}
-use Rattle.rpki_base.proofs.DerCursors.{reads_optional_value_by}
-use Rattle.rpki_der.specs.Der.{Spells}
-use Rattle.rpki_der.specs.Reading.{optional}
-use Rattle.rpki_der.specs.Views.{Takes}
-use Rattle.rpki_der.proofs.Modes.{exact_optional_by, refused_optional_by}
-use Rattle.rpki_as_block.specs.AsDer.{IsAsBlock, IsSetBlock, as_block_octets}
-use Rattle.rpki_as_block.specs.AsDerLaws.{as_block_reading}
-use Rattle.rpki_as_block.specs.AsDerModes.{IsStrictBlock}
-use Rattle.rpki_as_block.specs.AsDerModeLaws.{as_block_modal}
-use Rattle.rpki_as_block.specs.AsDerReading.{as_block_at, as_block_by}
+use Rattle.rpki_as_block.proofs.Common.{arith, reads_optional_value_by, exact_optional_by, refused_optional_by, IsAsBlock, as_block_reading, as_block_modal, IsStrictBlock, as_block_at, as_block_by}
 use Rattle.rpki_as_block.proofs.AsDerLemmas.{block_back, set_block_reading}
 use Rattle.rpki_as_block.proofs.block.AsBlock.take_opt_from.Goals as goal
 
@@ -23,9 +13,7 @@ pub returns-clause-reads : goal.returns-clause-reads
 returns-clause-reads c lenient = reads_optional_value_by IsAsBlock as_block_at c.args.cursor.now c.next_opt.new.cursor c.next_opt.result as_block_reading c.args.cursor.now.bytes (exact c lenient)
 
 pub returns-clause-strict : goal.returns-clause-strict
-returns-clause-strict c strict =
-    let took = subst (λ mode. Takes (λ block. block) c.args.cursor.now c.next_opt.new.cursor c.next_opt.result (optional (as_block_by mode))) strict c.next_opt.ensures.by_mode in
-    reads_optional_value_by (Spells IsSetBlock as_block_octets) (as_block_by true) c.args.cursor.now c.next_opt.new.cursor c.next_opt.result set_block_reading c.args.cursor.now.bytes took
+returns-clause-strict c strict = grind (arith, reads_optional_value_by, set_block_reading)
 
 pub returns-clause-refused : goal.returns-clause-refused
 returns-clause-refused c = refused_optional_by IsAsBlock IsStrictBlock as_block_at as_block_by (λ block. block) c.args.cursor.now c.next_opt.new.cursor c.next_opt.result as_block_reading as_block_modal c.next_opt.ensures.by_mode

@@ -1,8 +1,5 @@
 -- An AS number has 32 bits.
-use Rattle.std.proofs.Common.{◌<◌, ◌^◌, subst}
-use Rattle.rpki_der.proofs.Readings.{u32_reading}
-use Rattle.rpki_der.proofs.Written.{u32_is}
-use Rattle.rpki_base.specs.AsnDer.{as_number_octets}
+use Rattle.rpki_base.proofs.Common.{subst, ◌<◌, ◌^◌, u32_reading, u32_is, as_number_octets}
 use Rattle.rpki_base.proofs.asn.Asn.encode.Goals as goal
 
 pub returns-clause-read_back : goal.returns-clause-read_back

@@ -1,8 +1,5 @@
 -- What the reading gives is the value of the grammar.
-use Rattle.rpki_der.proofs.Readings.{u32_reading}
-use Rattle.rpki_der.proofs.Cursors.{reads_by}
-use Rattle.rpki_base.specs.AsnDer.{IsAsNumber, as_number_at}
-use Rattle.rpki_base.specs.DerReading.{Skips, skipping}
+use Rattle.rpki_base.proofs.Common.{reads_by, u32_reading, IsAsNumber, as_number_at, Skips, skipping}
 use Rattle.rpki_base.proofs.DerReadings.{skips_reading}
 use Rattle.rpki_base.proofs.asn.Asn.skip_in.Goals as goal
 

@@ -1,8 +1,5 @@
 -- What the reading gives is the value of the grammar, and it gives what was written.
-use Rattle.rpki_der.proofs.Cursors.{reads_by}
-use Rattle.rpki_der.proofs.Readings.{u32_reading}
-use Rattle.rpki_der.proofs.Written.{u32_is}
-use Rattle.rpki_base.specs.AsnDer.{IsAsNumber, as_number_at, as_number_octets}
+use Rattle.rpki_base.proofs.Common.{reads_by, u32_reading, u32_is, IsAsNumber, as_number_at, as_number_octets}
 use Rattle.rpki_base.proofs.DerCursors.{value_back}
 use Rattle.rpki_base.proofs.asn.Asn.take_from.Goals as goal
 

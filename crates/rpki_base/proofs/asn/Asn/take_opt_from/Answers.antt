@@ -1,6 +1,5 @@
 -- What the reading gives is the value of the grammar.
-use Rattle.rpki_der.proofs.Readings.{u32_reading}
-use Rattle.rpki_base.specs.AsnDer.{IsAsNumber, as_number_at}
+use Rattle.rpki_base.proofs.Common.{u32_reading, IsAsNumber, as_number_at}
 use Rattle.rpki_base.proofs.DerCursors.{reads_tagged_by}
 use Rattle.rpki_base.proofs.asn.Asn.take_opt_from.Goals as goal
 

@@ -1,5 +1,5 @@
 -- The letters and the digits behind them are those of each number that stands there.
-use Rattle.std.proofs.Common.{◌<◌, ◌^◌, arith, refl}
+use Rattle.rpki_base.proofs.Common.{arith, refl, ◌<◌, ◌^◌}
 use Rattle.rpki_base.proofs.AsnPlaceLemmas.{asn_between, digits_of}
 use Rattle.rpki_base.proofs.asn.place.asn_at.Goals as goal
 use Rattle.rpki_base.proofs.asn.place.asn_at.Goals.{then-end-first-via-then-end-first, then-end-first-via-else-end-first+then-value-from}

@@ -1,5 +1,5 @@
 -- The digits are ten at most, and the letters stand before them.
-use Rattle.std.proofs.Common.{◌≤◌, ◌∷◌, arith, ap, ◌∙◌}
+use Rattle.rpki_base.proofs.Common.{arith}
 use Rattle.rpki_base.proofs.AsnPrinting.{ten_digits, letters_before}
 use Rattle.rpki_base.proofs.asn.print.put_before.Goals as goal
 
@@ -16,13 +16,7 @@ pub overflow_sub-result : goal.overflow_sub-result
 overflow_sub-result c = omega (arith, ten_digits c.from.result (omega arith), c.requires.0, c.write_digits-digits.ensures.start)
 
 pub returns-clause-text : goal.returns-clause-text
-returns-clause-text c =
-    let w = c.write_digits-digits in
-    let low : 2 ≤ w.result = omega (arith, ten_digits c.from.result (omega arith), c.requires.0, w.ensures.start) in
-    letters_before w.new.buf w.result low (omega (arith, w.ensures.start, c.requires.1))
-    ∙ ap (λ t. 65 ∷ 83 ∷ t) (rw (c.from.ensures, c.into_u32.ensures) at w.ensures.written)
+returns-clause-text c = grind (arith, letters_before, ten_digits)
 
 pub returns-clause-room : goal.returns-clause-room
-returns-clause-room c =
-    let short = ten_digits c.from.result (omega arith) in
-    (omega (arith, short, c.requires.0, c.write_digits-digits.ensures.start), omega (arith, short, c.requires.0, c.write_digits-digits.ensures.start))
+returns-clause-room c = grind (arith, ten_digits)

@@ -1,10 +1,5 @@
 -- A family that wasn't found before, in its order, its claim, and the end.
-use Rattle.std.proofs.Common.{◌≡◌, Ok, false, refl, sym, ap, ◌∙◌}
-use Rattle.std.proofs.lemmas.Result.{err_from_is_err_and}
-use Rattle.rpki_der.specs.Reading.{ended, passing}
-use Rattle.rpki_der.specs.Views.{is_strict, left}
-use Rattle.rpki_base.specs.FamilyDer.{family_at}
-use Rattle.rpki_base.specs.FamiliesReading.{is_in_order, member_in_by, seen, was_seen}
+use Rattle.rpki_base.proofs.Common.{Ok, ap, false, refl, sym, ◌∙◌, ◌≡◌, err_from_is_err_and, ended, passing, is_strict, left, is_in_order, member_in_by, seen, was_seen, family_at}
 use Rattle.rpki_base.proofs.der.families.member_within.Goals as goal
 
 pub returns-in_err-look_at_order : goal.returns-in_err-look_at_order

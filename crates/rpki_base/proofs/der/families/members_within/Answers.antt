@@ -1,13 +1,6 @@
 -- Each turn takes a member of a family that wasn't found before, or is at the end, or meets the
 -- first fault.
-use Rattle.std.proofs.Common.{◌≡◌, ◌≢◌, Bool, Ok, Err, [], length, refl, sym, ap, subst, ◌∙◌, arith}
-use Rattle.std.proofs.lemmas.Bool.{eqb-true, eqb-false}
-use Rattle.std.proofs.lemmas.List.{nil_from_length}
-use Rattle.std.proofs.lemmas.Result.{err_from_is_err_and}
-use Rattle.rpki_der.specs.Views.{is_strict, left}
-use Rattle.rpki_der.proofs.Modes.{found_is}
-use Rattle.rpki_text.specs.Memory.{IfRefused}
-use Rattle.rpki_base.specs.FamiliesReading.{member_at, member_by, members_by, none_found, seen}
+use Rattle.rpki_base.proofs.Common.{Bool, Err, Ok, [], ap, arith, length, refl, subst, sym, ◌∙◌, ◌≡◌, ◌≢◌, eqb-false, eqb-true, nil_from_length, err_from_is_err_and, found_is, is_strict, left, IfRefused, member_at, member_by, members_by, none_found, seen}
 use Rattle.rpki_base.proofs.FamiliesLoops.{fewer_left, loop_ends, loop_fails_or_memory, loop_more}
 use Rattle.rpki_base.proofs.FamiliesModes.{member_tightens}
 use Rattle.rpki_base.proofs.der.families.members_within.Goals as goal

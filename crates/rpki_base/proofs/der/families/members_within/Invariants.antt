@@ -1,7 +1,5 @@
 -- What the loop over the members keeps.
-use Rattle.std.proofs.Common.{◌≡◌, length}
-use Rattle.rpki_der.specs.Views.{is_strict, left}
-use Rattle.rpki_base.specs.FamiliesReading.{member_by, members_by, none_found}
+use Rattle.rpki_base.proofs.Common.{length, ◌≡◌, is_strict, left, member_by, members_by, none_found}
 use Rattle.rpki_base.proofs.FamiliesLoops.{SoFar}
 use Rattle.rpki_base.proofs.der.families.members_within.Given as goal
 
@@ -11,7 +9,8 @@ invariant-loop-inside g l =
     let member = member_by (is_strict l.fn.content) (g.R.ReadClaim.reading_by l.reader (is_strict l.fn.content)) in
     record {
       mode : is_strict l.inside ≡ is_strict l.fn.content;
-      so_far : SoFar member (g.R.ReadClaim.says l.reader) l.found (left l.inside) (members_by member (length (left l.fn.content)) none_found (left l.fn.content));
+      so_far : SoFar member (g.R.ReadClaim.says l.reader) l.found (left l.inside)
+          (members_by member (length (left l.fn.content)) none_found (left l.fn.content));
     }
 
 abbrev pub decreases-loop-inside : goal.decreases-loop-inside

@@ -1,6 +1,5 @@
 -- A SEQUENCE, and the member in it.
-use Rattle.std.proofs.Common.{refl}
-use Rattle.rpki_der.specs.Reading.{refined}
+use Rattle.rpki_base.proofs.Common.{refl, refined}
 use Rattle.rpki_base.proofs.der.families.next_member.Goals as goal
 
 pub returns-clause-by_mode : goal.returns-clause-by_mode

@@ -1,9 +1,6 @@
 -- What the reading gives is what stands there, and the claims that it stands for.
-use Rattle.std.proofs.Common.{false}
-use Rattle.rpki_der.specs.Der.{Refines}
+use Rattle.rpki_base.proofs.Common.{false, Refines, IsFamilies, SaysByFamily, families_at}
 use Rattle.rpki_base.proofs.DerCursors.{reads_said_by}
-use Rattle.rpki_base.specs.FamiliesDer.{IsFamilies, SaysByFamily}
-use Rattle.rpki_base.specs.FamiliesReading.{families_at}
 use Rattle.rpki_base.proofs.FamiliesGathering.{families_reading}
 use Rattle.rpki_base.proofs.FamiliesModes.{exact_families}
 use Rattle.rpki_base.proofs.FamiliesSaid.{reads_same, stands_for, stood_for}

@@ -1,9 +1,5 @@
 -- Leniently the readings are one.
-use Rattle.std.proofs.Common.{◌∙◌, false, ap, subst}
-use Rattle.rpki_der.specs.Views.{left}
-use Rattle.rpki_der.proofs.Modes.{same_found}
-use Rattle.rpki_base.specs.DerReading.{values_from}
-use Rattle.rpki_base.specs.DerViews.{GivesOrMemory}
+use Rattle.rpki_base.proofs.Common.{ap, false, subst, ◌∙◌, same_found, left, values_from, GivesOrMemory}
 use Rattle.rpki_base.proofs.DerModes.{values_tighten}
 use Rattle.rpki_base.proofs.der.read.read_values.Goals as goal
 

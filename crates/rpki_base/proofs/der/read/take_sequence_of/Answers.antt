@@ -1,5 +1,5 @@
 -- What the reading gives is the value of the grammar.
-use Rattle.rpki_base.specs.DerReading.{IsSequenceFrom, sequence_from}
+use Rattle.rpki_base.proofs.Common.{IsSequenceFrom, sequence_from}
 use Rattle.rpki_base.proofs.DerCursors.{reads_or_memory_by}
 use Rattle.rpki_base.proofs.DerModes.{exact_or_memory_by, sequence_modal}
 use Rattle.rpki_base.proofs.DerReadings.{sequence_reading}

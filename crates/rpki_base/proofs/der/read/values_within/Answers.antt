@@ -1,11 +1,5 @@
 -- Each turn reads the next value, or is at the end, or meets the first fault.
-use Rattle.std.proofs.Common.{◌≡◌, length, ap, sym, ◌∙◌, Ok, Some, None}
-use Rattle.std.proofs.lemmas.Result.{err_from_is_err_and}
-use Rattle.rpki_der.specs.Reading.{optional, each_from}
-use Rattle.rpki_der.specs.Views.{is_strict, left}
-use Rattle.rpki_der.proofs.Lists.{loop_more, loop_ends, loop_fails, optional_some, optional_none, optional_err, shorter}
-use Rattle.rpki_der.proofs.Modes.{found_is}
-use Rattle.rpki_base.specs.DerReading.{values_from}
+use Rattle.rpki_base.proofs.Common.{None, Ok, Some, ap, length, sym, ◌∙◌, ◌≡◌, err_from_is_err_and, loop_ends, loop_fails, loop_more, optional_err, optional_none, optional_some, shorter, found_is, each_from, optional, is_strict, left, values_from}
 use Rattle.rpki_base.proofs.der.read.values_within.Goals as goal
 
 pub loop-values-smaller : goal.loop-values-smaller

@@ -1,8 +1,5 @@
 -- What the loop over the values keeps.
-use Rattle.std.proofs.Common.{◌≡◌, length}
-use Rattle.rpki_der.specs.Reading.{each_from}
-use Rattle.rpki_der.specs.Views.{is_strict, left}
-use Rattle.rpki_der.proofs.Lists.{SoFar}
+use Rattle.rpki_base.proofs.Common.{length, ◌≡◌, SoFar, each_from, is_strict, left}
 use Rattle.rpki_base.proofs.der.read.values_within.Given as goal
 
 -- what was read, and what is left in the state after it, give the whole
@@ -12,7 +9,8 @@ invariant-loop-values g l =
     let reading = g.R.ReadNext.reading_by l.reader (is_strict l.fn.content) in
     record {
       mode : is_strict l.inside ≡ is_strict l.fn.content;
-      so_far : SoFar next reading l.values.items l.state (left l.inside) (each_from next (length (left l.fn.content)) reading (g.R.ReadNext.first l.reader) (left l.fn.content));
+      so_far : SoFar next reading l.values.items l.state (left l.inside)
+          (each_from next (length (left l.fn.content)) reading (g.R.ReadNext.first l.reader) (left l.fn.content));
     }
 
 abbrev pub decreases-loop-values : goal.decreases-loop-values

@@ -1,7 +1,5 @@
 -- Each turn writes the next value, for which there is room.
-use Rattle.std.proofs.Common.{◌++◌, length, ap, sym, ◌∙◌, arith}
-use Rattle.std.proofs.lemmas.List.{append-nil, length-append, take_all}
-use Rattle.rpki_base.specs.DerWriting.{octets_of_all}
+use Rattle.rpki_base.proofs.Common.{ap, arith, length, sym, ◌∙◌, append-nil, length-append, take_all}
 use Rattle.rpki_base.proofs.WritingLemmas.{written_more, left_more}
 use Rattle.rpki_base.proofs.der.write.append_all.Goals as goal
 
@@ -29,9 +27,7 @@ loop-value-preserved g c =
     }
 
 pub returns-clause-items : goal.returns-clause-items
-returns-clause-items g c =
-    let values = c.args.values.now in
-    c.loop-value.invariant.written ∙ ap (λ xs. c.args.out.now.items ++ octets_of_all g.V.Encode.octets xs) (take_all c.loop-value.value-index values c.loop-value-test.false)
+returns-clause-items g c = grind (arith, take_all)
 
 pub returns-clause-capacity : goal.returns-clause-capacity
 returns-clause-capacity g c = c.loop-value.invariant.capacity

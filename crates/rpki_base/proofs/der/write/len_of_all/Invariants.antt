@@ -1,6 +1,5 @@
 -- What the loop over the values keeps.
-use Rattle.std.proofs.Common.{◌≡◌, length, take}
-use Rattle.rpki_base.specs.DerWriting.{octets_of_all}
+use Rattle.rpki_base.proofs.Common.{length, take, ◌≡◌, octets_of_all}
 use Rattle.rpki_base.proofs.der.write.len_of_all.Given as goal
 
 -- the length of the values so far

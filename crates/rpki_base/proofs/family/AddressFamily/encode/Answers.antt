@@ -1,5 +1,5 @@
 -- The reading finds what is written.
-use Rattle.rpki_base.specs.FamilyDer.{family_der}
+use Rattle.rpki_base.proofs.Common.{family_der}
 use Rattle.rpki_base.proofs.FamilyLemmas.{family_reading, family_written}
 use Rattle.rpki_base.proofs.family.AddressFamily.encode.Goals as goal
 

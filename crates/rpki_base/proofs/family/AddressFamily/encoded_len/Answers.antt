@@ -1,5 +1,5 @@
 -- Two octets stand before the two of a family.
-use Rattle.std.proofs.Common.{◌∙◌}
+use Rattle.rpki_base.proofs.Common.{◌∙◌}
 use Rattle.rpki_base.proofs.FamilyLemmas.{length_family}
 use Rattle.rpki_base.proofs.family.AddressFamily.encoded_len.Goals as goal
 

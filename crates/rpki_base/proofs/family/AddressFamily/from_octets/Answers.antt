@@ -1,5 +1,5 @@
 -- What the reading gives is what the octets say by the rule.
-use Rattle.rpki_base.specs.FamilyDer.{SaysFamily, family_of_octets}
+use Rattle.rpki_base.proofs.Common.{SaysFamily, family_of_octets}
 use Rattle.rpki_base.proofs.FamilyLemmas.{family_check, renamed}
 use Rattle.rpki_base.proofs.family.AddressFamily.from_octets.Goals as goal
 

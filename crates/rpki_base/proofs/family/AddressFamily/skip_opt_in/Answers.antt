@@ -1,8 +1,7 @@
 -- What the reading gives is the value of the grammar.
-use Rattle.rpki_base.specs.DerReading.{Skips, skipping}
+use Rattle.rpki_base.proofs.Common.{Skips, skipping, IsFamilyDer, family_at}
 use Rattle.rpki_base.proofs.DerCursors.{reads_tagged_by}
 use Rattle.rpki_base.proofs.DerReadings.{skips_reading}
-use Rattle.rpki_base.specs.FamilyDer.{IsFamilyDer, family_at}
 use Rattle.rpki_base.proofs.FamilyLemmas.{family_reading}
 use Rattle.rpki_base.proofs.family.AddressFamily.skip_opt_in.Goals as goal
 

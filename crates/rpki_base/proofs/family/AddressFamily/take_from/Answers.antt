@@ -1,6 +1,5 @@
 -- What the reading gives is the value of the grammar, and it gives what was written.
-use Rattle.rpki_der.proofs.Cursors.{reads_by}
-use Rattle.rpki_base.specs.FamilyDer.{IsFamilyDer, family_at, family_der}
+use Rattle.rpki_base.proofs.Common.{reads_by, IsFamilyDer, family_at, family_der}
 use Rattle.rpki_base.proofs.DerCursors.{value_back}
 use Rattle.rpki_base.proofs.FamilyLemmas.{family_reading, family_written}
 use Rattle.rpki_base.proofs.family.AddressFamily.take_from.Goals as goal

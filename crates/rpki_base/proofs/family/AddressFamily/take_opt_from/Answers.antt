@@ -1,6 +1,6 @@
 -- What the reading gives is the value of the grammar.
+use Rattle.rpki_base.proofs.Common.{IsFamilyDer, family_at}
 use Rattle.rpki_base.proofs.DerCursors.{reads_tagged_by}
-use Rattle.rpki_base.specs.FamilyDer.{IsFamilyDer, family_at}
 use Rattle.rpki_base.proofs.FamilyLemmas.{family_reading}
 use Rattle.rpki_base.proofs.family.AddressFamily.take_opt_from.Goals as goal
 

@@ -1,6 +1,5 @@
 -- The search finds just the numbers of the set.
-use Rattle.std.proofs.Common.{◌∙◌, subst}
-use Rattle.rpki_base.specs.SmallSet.{IsSmallSet}
+use Rattle.rpki_base.proofs.Common.{subst, ◌∙◌, IsSmallSet}
 use Rattle.rpki_base.proofs.SmallSetLemmas.{search_is}
 use Rattle.rpki_base.proofs.small_set.SmallAsnSet.contains.Goals as goal
 

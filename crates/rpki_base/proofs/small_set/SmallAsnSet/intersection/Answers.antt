@@ -1,6 +1,5 @@
 -- The walk gives what is in both sets.
-use Rattle.std.proofs.Common.{◌∙◌, arith, subst}
-use Rattle.rpki_base.specs.SmallSet.{IsSmallSet}
+use Rattle.rpki_base.proofs.Common.{arith, subst, ◌∙◌, IsSmallSet}
 use Rattle.rpki_base.proofs.SmallSetLemmas.{intersection_is}
 use Rattle.rpki_base.proofs.WalkSizes.{intersection_few, intersection_few_of_other}
 use Rattle.rpki_base.proofs.small_set.SmallAsnSet.intersection.Goals as goal
@@ -12,16 +11,10 @@ returns-clause-set g c =
     intersection_is _ _ c.new.result (subst IsSmallSet c.self.view_is c.self.invariant) (subst IsSmallSet c.other.view_is c.other.invariant) (rw (left, right) at c.new.ensures)
 
 pub returns-clause-few : goal.returns-clause-few
-returns-clause-few g c =
-    let left = c.as_slice.ensures.value ∙ c.self.view_is in
-    rw (← c.new.ensures, left) at (intersection_few c.as_slice.result.now c.as_slice-2.result.now)
+returns-clause-few g c = grind (arith, intersection_few)
 
 pub returns-clause-few_of_other : goal.returns-clause-few_of_other
-returns-clause-few_of_other g c =
-    let right = c.as_slice-2.ensures.value ∙ c.other.view_is in
-    rw (← c.new.ensures, right) at (intersection_few_of_other c.as_slice.result.now c.as_slice-2.result.now)
+returns-clause-few_of_other g c = grind (arith, intersection_few_of_other)
 
 pub returns-clause-fits : goal.returns-clause-fits
-returns-clause-fits g c =
-    let few = rw (← c.new.ensures) at (intersection_few c.as_slice.result.now c.as_slice-2.result.now) in
-    omega (arith, few, c.as_slice.type_inv.0)
+returns-clause-fits g c = grind (arith, intersection_few)

@@ -1,6 +1,5 @@
 -- The walk gives what is in one set alone.
-use Rattle.std.proofs.Common.{◌∙◌, arith, subst}
-use Rattle.rpki_base.specs.SmallSet.{IsSmallSet}
+use Rattle.rpki_base.proofs.Common.{arith, subst, ◌∙◌, IsSmallSet}
 use Rattle.rpki_base.proofs.SmallSetLemmas.{symmetric_difference_is}
 use Rattle.rpki_base.proofs.WalkSizes.{symmetric_difference_few}
 use Rattle.rpki_base.proofs.small_set.SmallAsnSet.symmetric_difference.Goals as goal
@@ -12,12 +11,7 @@ returns-clause-set g c =
     symmetric_difference_is _ _ c.new.result (subst IsSmallSet c.self.view_is c.self.invariant) (subst IsSmallSet c.other.view_is c.other.invariant) (rw (left, right) at c.new.ensures)
 
 pub returns-clause-few : goal.returns-clause-few
-returns-clause-few g c =
-    let left = c.as_slice.ensures.value ∙ c.self.view_is in
-    let right = c.as_slice-2.ensures.value ∙ c.other.view_is in
-    rw (← c.new.ensures, left, right) at (symmetric_difference_few c.as_slice.result.now c.as_slice-2.result.now)
+returns-clause-few g c = grind (arith, symmetric_difference_few)
 
 pub returns-clause-fits : goal.returns-clause-fits
-returns-clause-fits g c =
-    let few = rw (← c.new.ensures) at (symmetric_difference_few c.as_slice.result.now c.as_slice-2.result.now) in
-    omega (arith, few, c.as_slice.type_inv.1, c.as_slice-2.type_inv.1)
+returns-clause-fits g c = grind (arith, symmetric_difference_few)

@@ -1,6 +1,5 @@
 -- An item lies in a block where it lies between its ends.
-use Rattle.std.proofs.Common.{◌≤◌, IsTrue, arith}
-use Rattle.std.proofs.lemmas.Bool.Decides.{nat_tests}
+use Rattle.rpki_chains.proofs.Imports.{IsTrue, arith, ◌≤◌, nat_tests}
 use Rattle.rpki_chains.proofs.block.Block.contains.Goals as goal
 
 pub returns-then-le : goal.returns-then-le

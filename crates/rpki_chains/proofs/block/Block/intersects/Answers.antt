@@ -1,6 +1,5 @@
 -- Blocks meet where neither ends before the other begins.
-use Rattle.std.proofs.Common.{◌≤◌, IsTrue, max, arith}
-use Rattle.std.proofs.lemmas.Bool.Decides.{nat_tests}
+use Rattle.rpki_chains.proofs.Imports.{IsTrue, arith, max, ◌≤◌, nat_tests}
 use Rattle.rpki_chains.proofs.block.Block.intersects.Goals as goal
 
 pub returns-then-le : goal.returns-then-le

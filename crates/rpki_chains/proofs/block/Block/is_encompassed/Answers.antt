@@ -1,7 +1,5 @@
 -- A block lies in another where its ends do.
-use Rattle.std.proofs.Common.{◌≤◌, IsTrue, arith}
-use Rattle.std.proofs.lemmas.Bool.Decides.{nat_tests}
-use Rattle.rpki_chains.specs.Sets.{IsWithin}
+use Rattle.rpki_chains.proofs.Imports.{IsTrue, arith, ◌≤◌, nat_tests, IsWithin}
 use Rattle.rpki_chains.proofs.block.Block.is_encompassed.Goals as goal
 
 pub returns-then-le : goal.returns-then-le

@@ -1,23 +1,12 @@
 -- Blocks that are not apart lie together between the lesser minimum and the greater maximum.
-use Rattle.std.proofs.Common.{◌≡◌, ℕ, ◌+◌, ◌<◌, ◌≤◌, ◌↔◌, ◌⊎◌, inl, inr, ⊎_elim, ap, arith}
-use Rattle.std.proofs.lemmas.Bool.{cases_lt}
-use Rattle.std.proofs.lemmas.Bool.Decides.{nat_tests}
-use Rattle.rpki_chains.specs.Sets.{IsWithin}
+use Rattle.rpki_chains.proofs.Imports.{ap, arith, inl, inr, ℕ, ⊎_elim, ◌+◌, ◌<◌, ◌↔◌, ◌≡◌, ◌≤◌, ◌⊎◌, cases_lt, nat_tests, IsWithin}
 use Rattle.rpki_chains.proofs.block.Block.sum.Goals as goal
 use Rattle.rpki_chains.proofs.block.Block.sum.Goals.{in-Some+else-lt, in_default, in-Some-next+else-lt-2, in_default-next, then-le, else-le, then-le-2, else-le-2}
 
 -- between the lesser minimum and the greater maximum of two blocks that overlap or touch lie their numbers alone
-over_both : (s b d : ℕ × ℕ) → s.0 ≤ b.0 → s.0 ≤ d.0 → (s.0 ≡ b.0) ⊎ (s.0 ≡ d.0) → b.1 ≤ s.1 → d.1 ≤ s.1 → (s.1 ≡ b.1) ⊎ (s.1 ≡ d.1) → d.0 ≤ b.1 + 1 → b.0 ≤ d.1 + 1 → (n : ℕ) → IsWithin s n ↔ (IsWithin b n ⊎ IsWithin d n)
-over_both s b d lowest lowest' low highest highest' high meets meets' n = (
-  λ v. let from = v.0 in let to = v.1 in ⊎_elim
-      (λ (early : n < b.0). inr (⊎_elim (λ (e : s.0 ≡ b.0). omega arith) (λ (e : s.0 ≡ d.0). omega arith) low, omega arith))
-      (λ (in_from : b.0 ≤ n). ⊎_elim
-      (λ (beyond : b.1 < n). inr (omega arith, ⊎_elim (λ (e : s.1 ≡ b.1). omega arith) (λ (e : s.1 ≡ d.1). omega arith) high))
-      (λ (in_to : n ≤ b.1). inl (in_from, in_to))
-      (cases_lt b.1 n))
-      (cases_lt n b.0),
-  ⊎_elim (λ v. (omega (arith, v.0), omega (arith, v.1))) (λ v. (omega (arith, v.0), omega (arith, v.1))),
-)
+over_both : (s b d : ℕ × ℕ) → s.0 ≤ b.0 → s.0 ≤ d.0 → (s.0 ≡ b.0) ⊎ (s.0 ≡ d.0) → b.1 ≤ s.1 → d.1 ≤ s.1
+    → (s.1 ≡ b.1) ⊎ (s.1 ≡ d.1) → d.0 ≤ b.1 + 1 → b.0 ≤ d.1 + 1 → (n : ℕ) → IsWithin s n ↔ (IsWithin b n ⊎ IsWithin d n)
+over_both s b d lowest lowest' low highest highest' high meets meets' n = grind (arith, cases_lt)
 
 pub returns-then-lt-clause-apart : goal.returns-then-lt-clause-apart
 returns-then-lt-clause-apart g c beside =

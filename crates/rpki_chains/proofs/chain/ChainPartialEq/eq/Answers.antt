@@ -1,6 +1,5 @@
 -- Chains with the same bounds cover the same numbers, and a set has one chain.
-use Rattle.std.proofs.Common.{◌≡◌, ℕ, map, ap, sym, arith}
-use Rattle.std.proofs.lemmas.Bool.Decides.{nat_tests}
+use Rattle.rpki_chains.proofs.Imports.{ap, arith, map, sym, ℕ, ◌≡◌, nat_tests}
 use Rattle.std.specs.Bool.{Decides, one_answer}
 use Rattle.std.specs.Cmp.Lexicographic.{pointwise_decides}
 use Rattle.rpki_chains.specs.Equality.{is_same_pair}
@@ -9,10 +8,7 @@ use Rattle.rpki_chains.proofs.Unique.{IsChain-unique}
 use Rattle.rpki_chains.proofs.chain.ChainPartialEq.eq.Goals as goal
 
 is_same_pair_decides : (a b : ℕ × ℕ) → Decides (is_same_pair a b) (a ≡ b)
-is_same_pair_decides a b = (
-  λ t. let low : a.0 ≡ b.0 = grind (arith, nat_tests) in let high : a.1 ≡ b.1 = grind (arith, nat_tests) in λ i. (low i, high i),
-  λ e. let low : a.0 ≡ b.0 = ap (λ (p : ℕ × ℕ). p.0) e in let high : a.1 ≡ b.1 = ap (λ (p : ℕ × ℕ). p.1) e in grind (arith, nat_tests),
-)
+is_same_pair_decides a b = grind (arith, nat_tests)
 
 pub returns-clause-value : goal.returns-clause-value
 returns-clause-value g c = one_answer _ _ c.are_same_blocks.ensures (pointwise_decides {E = is_same_pair} is_same_pair_decides _ _)

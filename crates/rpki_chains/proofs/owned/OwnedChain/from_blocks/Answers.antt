@@ -1,6 +1,5 @@
 -- Blocks that ascend are joined while they are copied; others are made anew, which cover what the blocks covered.
-use Rattle.std.proofs.Common.{sym}
-use Rattle.rpki_chains.specs.Sets.{Covers}
+use Rattle.rpki_chains.proofs.Imports.{sym, Covers}
 use Rattle.rpki_chains.proofs.Chains.{IsChain-from, IsChainOf-from}
 use Rattle.rpki_chains.proofs.Sorts.{Covers-map}
 use Rattle.rpki_chains.proofs.owned.OwnedChain.from_blocks.Goals as goal

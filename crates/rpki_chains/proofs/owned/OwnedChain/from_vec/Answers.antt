@@ -1,5 +1,5 @@
 -- What was joined is the chain of what the blocks covered.
-use Rattle.rpki_chains.specs.Sets.{Covers}
+use Rattle.rpki_chains.proofs.Imports.{Covers}
 use Rattle.rpki_chains.proofs.Chains.{IsChainOf-from}
 use Rattle.rpki_chains.proofs.owned.OwnedChain.from_vec.Goals as goal
 

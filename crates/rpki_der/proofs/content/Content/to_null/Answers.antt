@@ -1,7 +1,5 @@
 -- What the reading gives is what the content says by its rule.
-use Rattle.rpki_der.specs.Der.{IsNothing}
-use Rattle.rpki_der.specs.Reading.{nothing}
-use Rattle.rpki_der.specs.Views.{content_octets}
+use Rattle.rpki_der.proofs.Common.{IsNothing, nothing, content_octets}
 use Rattle.rpki_der.proofs.Contents.{nothing_check}
 use Rattle.rpki_der.proofs.Cursors.{parses_by}
 use Rattle.rpki_der.proofs.content.Content.to_null.Goals as goal

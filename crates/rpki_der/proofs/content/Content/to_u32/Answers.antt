@@ -1,7 +1,5 @@
 -- What the reading gives is what the content says by its rule.
-use Rattle.rpki_der.specs.Der.{IsUnsigned}
-use Rattle.rpki_der.specs.Reading.{unsigned}
-use Rattle.rpki_der.specs.Views.{content_octets}
+use Rattle.rpki_der.proofs.Common.{IsUnsigned, unsigned, content_octets}
 use Rattle.rpki_der.proofs.Contents.{unsigned_check}
 use Rattle.rpki_der.proofs.Cursors.{parses_by}
 use Rattle.rpki_der.proofs.content.Content.to_u32.Goals as goal

@@ -1,8 +1,5 @@
 -- What the reading gives is the value of the grammar of the mode.
-use Rattle.std.proofs.Common.{subst, true}
-use Rattle.rpki_der.specs.Der.{IsBitString, IsPadded, Where}
-use Rattle.rpki_der.specs.Reading.{bit_string_at, bit_string_by}
-use Rattle.rpki_der.specs.Views.{Takes, bit_string_of}
+use Rattle.rpki_der.proofs.Common.{subst, true, IsBitString, IsPadded, Where, bit_string_at, bit_string_by, Takes, bit_string_of}
 use Rattle.rpki_der.proofs.Readings.{bit_string_reading}
 use Rattle.rpki_der.proofs.Cursors.{reads_by}
 use Rattle.rpki_der.proofs.Modes.{bit_string_modal, exact_by, refused_by}

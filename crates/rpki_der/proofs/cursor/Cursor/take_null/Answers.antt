@@ -1,6 +1,5 @@
 -- What the reading gives is the value of the grammar.
-use Rattle.rpki_der.specs.Der.{IsNull}
-use Rattle.rpki_der.specs.Reading.{null_at}
+use Rattle.rpki_der.proofs.Common.{IsNull, null_at}
 use Rattle.rpki_der.proofs.Readings.{null_reading}
 use Rattle.rpki_der.proofs.Cursors.{reads_by}
 use Rattle.rpki_der.proofs.cursor.Cursor.take_null.Goals as goal

@@ -1,7 +1,5 @@
 -- What the reading gives is the value of the grammar.
-use Rattle.rpki_der.specs.Der.{IsTlv}
-use Rattle.rpki_der.specs.Reading.{value_at}
-use Rattle.rpki_der.specs.Views.{tlv}
+use Rattle.rpki_der.proofs.Common.{IsTlv, value_at, tlv}
 use Rattle.rpki_der.proofs.Readings.{value_reading}
 use Rattle.rpki_der.proofs.Cursors.{reads_optional_by}
 use Rattle.rpki_der.proofs.cursor.Cursor.take_opt_value.Goals as goal

@@ -1,7 +1,5 @@
 -- What the reading gives is the value of the grammar.
-use Rattle.rpki_der.specs.Der.{IsSequence}
-use Rattle.rpki_der.specs.Reading.{tagged_at}
-use Rattle.rpki_der.specs.Views.{left}
+use Rattle.rpki_der.proofs.Common.{IsSequence, tagged_at, left}
 use Rattle.rpki_der.proofs.Readings.{tagged_reading}
 use Rattle.rpki_der.proofs.Cursors.{reads_by}
 use Rattle.rpki_der.proofs.cursor.Cursor.take_sequence.Goals as goal

@@ -1,6 +1,5 @@
 -- What the reading gives is the value of the grammar.
-use Rattle.rpki_der.specs.Der.{IsU32}
-use Rattle.rpki_der.specs.Reading.{u32_at}
+use Rattle.rpki_der.proofs.Common.{IsU32, u32_at}
 use Rattle.rpki_der.proofs.Readings.{u32_reading}
 use Rattle.rpki_der.proofs.Cursors.{reads_by}
 use Rattle.rpki_der.proofs.cursor.Cursor.take_u32.Goals as goal

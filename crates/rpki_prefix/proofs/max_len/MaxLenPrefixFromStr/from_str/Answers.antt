@@ -1,7 +1,4 @@
-use Rattle.std.proofs.Common.{inl, inr, None, Some, Ok, lit<, sym, subst}
-use Rattle.std.proofs.lemmas.Result.{err_from_is_err_and}
-use Rattle.std.proofs.lemmas.Str.Pattern.{split_parts}
-use Rattle.rpki_prefix.specs.MaxLen.{IsMaxLenText}
+use Rattle.rpki_prefix.proofs.Common.{None, Ok, Some, inl, inr, lit<, subst, sym, err_from_is_err_and, split_parts, IsMaxLenText}
 use Rattle.rpki_prefix.proofs.MaxLenLemmas.{reads_max_len}
 use Rattle.rpki_prefix.proofs.max_len.MaxLenPrefixFromStr.from_str.Goals as goal
 

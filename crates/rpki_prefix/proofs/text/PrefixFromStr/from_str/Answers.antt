@@ -1,5 +1,4 @@
-use Rattle.std.proofs.Common.{inl, inr, Ok, refl}
-use Rattle.std.proofs.lemmas.Result.{err_from_is_err_and}
+use Rattle.rpki_prefix.proofs.Common.{Ok, inl, inr, refl, err_from_is_err_and}
 use Rattle.rpki_prefix.proofs.TextLemmas.{reads_prefix}
 use Rattle.rpki_prefix.proofs.text.PrefixFromStr.from_str.Goals as goal
 

@@ -1,6 +1,5 @@
 -- Each turn is a turn of the reader on lists.
-use Rattle.std.proofs.Common.{◌/◌, ◌%◌, ◌<◌, ◌^◌, arith, lit<, rules, sym}
-use Rattle.std.proofs.lemmas.Bool.{ltb-true}
+use Rattle.rpki_addr.proofs.Common.{arith, lit<, rules, sym, ◌%◌, ◌/◌, ◌<◌, ◌^◌, ltb-true}
 use Rattle.rpki_addr.proofs.GroupReading.{no_room, no_colon, with_ipv4, no_more, with_group, ipv4_room, one_fits, two_fit}
 use Rattle.rpki_addr.proofs.AddressReading.{no_group, ipv4_if_none}
 use Rattle.rpki_addr.proofs.addr.read.Groups.longer.Goals as goal

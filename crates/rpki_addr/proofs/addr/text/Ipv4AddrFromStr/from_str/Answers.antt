@@ -1,8 +1,5 @@
 -- The address that is read, or none.
-use Rattle.std.proofs.Common.{◌≡◌, ap, ◌∙◌, Ok, option_map, subst, rules}
-use Rattle.std.specs.Net.Reader.{read_ipv4, whole_value}
-use Rattle.rpki_addr.specs.AddressReading.{with_octets}
-use Rattle.rpki_addr.specs.ReadsAddress.{ReadsIpv4}
+use Rattle.rpki_addr.proofs.Common.{Ok, ap, option_map, rules, subst, ◌∙◌, ◌≡◌, read_ipv4, whole_value, with_octets, ReadsIpv4}
 use Rattle.rpki_addr.proofs.AddressReading.{ipv4_whole, ipv4_no_whole}
 use Rattle.rpki_addr.proofs.AddressReads.{reads_ipv4_ok, reads_ipv4_err}
 use Rattle.rpki_addr.proofs.addr.text.Ipv4AddrFromStr.from_str.Goals as goal

@@ -1,8 +1,5 @@
 -- The address that is read, or none.
-use Rattle.std.proofs.Common.{◌≡◌, ap, ◌∙◌, Ok, option_map, subst, rules}
-use Rattle.std.specs.Net.Reader.{read_ipv6, whole_value}
-use Rattle.rpki_addr.specs.AddressReading.{with_number}
-use Rattle.rpki_addr.specs.ReadsAddress.{ReadsIpv6}
+use Rattle.rpki_addr.proofs.Common.{Ok, ap, option_map, rules, subst, ◌∙◌, ◌≡◌, read_ipv6, whole_value, with_number, ReadsIpv6}
 use Rattle.rpki_addr.proofs.AddressReading.{ipv6_whole, ipv6_no_whole}
 use Rattle.rpki_addr.proofs.AddressReads.{reads_ipv6_ok, reads_ipv6_err}
 use Rattle.rpki_addr.proofs.addr.text.Ipv6AddrFromStr.from_str.Goals as goal

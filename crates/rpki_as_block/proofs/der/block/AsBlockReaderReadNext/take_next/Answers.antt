@@ -1,8 +1,5 @@
 -- Leniently the readings are one.
-use Rattle.rpki_der.proofs.Modes.{exact_optional_by}
-use Rattle.rpki_as_block.specs.AsDerModes.{IsNextBlock}
-use Rattle.rpki_as_block.specs.AsDerModeLaws.{next_block_modal}
-use Rattle.rpki_as_block.specs.AsDerReading.{as_block_at, next_block_by}
+use Rattle.rpki_as_block.proofs.Common.{exact_optional_by, next_block_modal, IsNextBlock, as_block_at, next_block_by}
 use Rattle.rpki_as_block.proofs.der.block.AsBlockReaderReadNext.take_next.Goals as goal
 
 pub returns-clause-exact : goal.returns-clause-exact

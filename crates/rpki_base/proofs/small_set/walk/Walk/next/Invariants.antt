@@ -1,6 +1,5 @@
 -- The numbers that were passed over aren't wanted.
-use Rattle.std.proofs.Common.{◌≡◌, ◌+◌, length}
-use Rattle.rpki_base.specs.Walks.{walk}
+use Rattle.rpki_base.proofs.Common.{length, ◌+◌, ◌≡◌, walk}
 use Rattle.rpki_base.proofs.small_set.walk.Walk.next.Given as goal
 
 abbrev pub invariant-loop-step : goal.invariant-loop-step

@@ -1,6 +1,5 @@
 -- Octets that were written to an empty vector.
-use Rattle.std.proofs.Common.{◌≡◌, ℕ, List, [], ◌++◌, sym, ap, ◌∙◌}
-use Rattle.std.proofs.lemmas.List.{append-nil}
+use Rattle.example_calls.proofs.Common.{List, [], ap, sym, ℕ, ◌++◌, ◌∙◌, ◌≡◌, append-nil}
 
 -- octets of which nothing is left out stand for what was written
 pub only : (octets slice items old written : List ℕ) → octets ≡ slice → slice ≡ items → items ≡ old ++ written → old ≡ [] → octets ≡ written ++ []

@@ -1,11 +1,9 @@
 -- What paths leave lies in their roots.
-use Rattle.std.proofs.Common.{ℕ, List}
+use Rattle.example_calls.proofs.Common.{List, ℕ, Holds, Runs, IsLeftInEach}
 use Rattle.rpki_chain.specs.Claims.{Claim}
 use Rattle.rpki_chain.specs.Paths.{IsPathResult}
-use Rattle.rpki_chain.specs.Runs.{Runs, Holds}
 use Rattle.rpki_chain.specs.declared.path.Step.{Step}
 use Rattle.rpki_resources.specs.Triples.{HasEachOf, Triple}
-use Rattle.example_calls.specs.Certificates.{IsLeftInEach}
 
 -- so of each kind
 pub inside : ((root set : Runs) (steps : List (Step Claim)) → IsPathResult (λ claim. claim) (Holds root) steps set → (n : ℕ) → Holds set n → Holds root n)

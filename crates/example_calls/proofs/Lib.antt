@@ -1,4 +1,5 @@
 pub mod AllWritten
 pub mod CertificateLemmas
+pub mod Common
 pub mod RouteLemmas
 pub mod TableLemmas

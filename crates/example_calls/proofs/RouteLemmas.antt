@@ -1,7 +1,6 @@
 -- Routes that are counted one after another.
-use Rattle.std.proofs.Common.{arith, ◌≡◌, ◌<◌, ℕ, suc, ◌+◌, length, get_or, inl, inr, List, [], ◌∷◌, ◌++◌, take, refl, sym, ap, ◌∙◌}
+use Rattle.example_calls.proofs.Common.{List, [], ap, arith, get_or, inl, inr, length, refl, suc, sym, take, ℕ, ◌++◌, ◌+◌, ◌<◌, ◌∙◌, ◌∷◌, ◌≡◌, AreThose}
 use Rattle.std.proofs.Math.Seq.{take-suc}
-use Rattle.roa_origin.specs.Coverings.{AreThose}
 
 module _ {X : Type 0} (P : X → Type 0) where
   -- one element more, of which P holds or doesn't

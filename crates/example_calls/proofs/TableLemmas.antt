@@ -1,18 +1,15 @@
 -- Prefixes that were sorted and freed of duplicates.
-use Rattle.std.proofs.Common.{arith, ◌≡◌, ◌↔◌, ℕ, suc, ◌+◌, ◌<◌, length, get_or, Bool, inl, inr, List, [], ◌∷◌, ◌++◌, take, Contains, IsTrue, refl, sym, ap, ◌∙◌, subst}
+use Rattle.example_calls.proofs.Common.{Bool, Contains, IsTrue, List, [], ap, refl, sym, ◌↔◌, ◌∙◌, ◌≡◌, FamilyPrefix}
 use Rattle.std.proofs.lemmas.Cmp.{tied_itself}
-use Rattle.std.proofs.lemmas.List.Elements.{Contains-append_left, Contains-push, Contains-push_cases}
 use Rattle.std.proofs.lemmas.List.Filters.{dedup_is}
 use Rattle.std.proofs.lemmas.List.Kept.{Contains-dedup, Contains-from_dedup, IsStrictlySortedBy-dedup}
 use Rattle.std.proofs.lemmas.List.Sorted.{Contains-permutation, IsPermutation-sym}
-use Rattle.std.proofs.Math.Seq.{take-suc}
 use Rattle.std.specs.Cmp.{Equal-is, IsEquivalence, IsTotalOrder, both_ways}
 use Rattle.std.specs.List.Retain.{IsFiltered, DiffersFromLast}
 use Rattle.std.specs.List.Sorted.{IsPermutation, IsSorted, IsStrictlySortedBy}
 use Rattle.std.specs.Ordering.{eq_by_cmp, is_eq}
 use Rattle.std.specs.declared.cmp.Ordering.TheVariants.{Equal}
 use Rattle.rpki_prefix.specs.Order.{prefix_cmp}
-use Rattle.rpki_prefix.specs.Values.{CoversPrefix, FamilyPrefix}
 
 module _ (equal : FamilyPrefix → FamilyPrefix → Bool) (same : (p q : FamilyPrefix) → IsTrue (equal p q) ↔ (p ≡ q)) where
   equivalence : IsEquivalence equal

@@ -1,22 +1,9 @@
 -- What `cover` shows.
-use Rattle.std.proofs.Common.{◌≡◌, ◌≢◌, ◌==◌, ℕ, Bool, true, false, refl, List, Result, [], ◌∷◌, ◌++◌, Ok, Err, MatchResult, ap, ◌∙◌, sym, subst, inl, inr, append_assoc, length, map, decimal, arith}
+use Rattle.respath_lines.proofs.Common.{Bool, Err, List, MatchResult, Ok, Result, [], ap, append_assoc, arith, decimal, false, inl, inr, length, map, refl, subst, sym, true, ℕ, ◌++◌, ◌==◌, ◌∙◌, ◌∷◌, ◌≡◌, ◌≢◌, eqb-false, eqb-true, append-nil, flat_map_more, length-append, map-append, Drains, YieldsFirst, flat_map, AddressFamily, ip_from_str_error_text, FromStrError, HasBlocksFault, IfRefused, IsMemory, OrMemory, Memory, Refused, IsCoverIp, IsCoverText, cover_text, listed_text, prefix_with_length, ShowsResult}
 use Rattle.std.specs.Prelude.{IsErrAnd, codes}
-use Rattle.std.specs.Iterator.{Drains, YieldsFirst}
-use Rattle.std.specs.List.{flat_map}
-use Rattle.std.proofs.lemmas.List.{append-nil, length-append, map-append, flat_map_more}
-use Rattle.std.proofs.lemmas.Bool.{eqb-true, eqb-false}
 use Rattle.rpki_text.specs.Cuts.{slash}
-use Rattle.rpki_text.specs.Memory.{IsMemory, IfRefused}
 use Rattle.rpki_addr.specs.Prefixes.{PrefixValue}
-use Rattle.rpki_text.specs.declared.memory.OrMemory.{OrMemory}
-use Rattle.rpki_text.specs.declared.memory.OrMemory.TheVariants.{Refused, Memory}
 use Rattle.rpki_ip.specs.PrintedText.{addr_text}
-use Rattle.rpki_ip.specs.Faults.{ip_from_str_error_text}
-use Rattle.rpki_ip.specs.declared.error.FromStrError.{FromStrError}
-use Rattle.rpki_base.specs.declared.family.AddressFamily.{AddressFamily}
-use Rattle.rpki_ip_block.specs.ListText.{HasBlocksFault}
-use Rattle.respath_lines.specs.Cover.{IsCoverIp, IsCoverText, cover_text, listed_text, prefix_with_length}
-use Rattle.respath_lines.specs.Shown.{ShowsResult}
 
 -- what is shown of the prefixes that cover a set, or of the fault of its list
 pub shows_cover : {S : Type 0} (bytes : S → List ℕ) (family : AddressFamily) (list : List ℕ) (found : Result S (OrMemory FromStrError))

@@ -1,12 +1,5 @@
 -- The resources of a family that a text writes.
-use Rattle.std.proofs.Common.{◌≢◌, ℕ, List, [], ◌∷◌, Result, Ok, Err, MatchResult, codes}
-use Rattle.rpki_chain.specs.Claims.{Claim}
-use Rattle.rpki_ip.specs.declared.error.FromStrError.{FromStrError}
-use Rattle.rpki_base.specs.declared.family.AddressFamily.{AddressFamily}
-use Rattle.rpki_ip_block.specs.ListText.{HasBlocksFault}
-use Rattle.rpki_text.specs.Memory.{IfRefused}
-use Rattle.rpki_text.specs.declared.memory.OrMemory.{OrMemory}
-use Rattle.rpki_text.specs.declared.memory.OrMemory.TheVariants.{Refused, Memory}
+use Rattle.respath_lines.proofs.Common.{Err, List, MatchResult, Ok, Result, [], codes, ℕ, ◌∷◌, ◌≢◌, AddressFamily, Claim, FromStrError, HasBlocksFault, IfRefused, OrMemory, Memory, Refused}
 use Rattle.respath_lines.specs.Der.{HasIpResourcesFault, IsIpResourcesText, IsListed}
 
 module _ (family : AddressFamily) (list : List ℕ) (other : list ≢ codes "inherit") where

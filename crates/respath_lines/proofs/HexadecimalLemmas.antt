@@ -1,14 +1,10 @@
 -- The octets that a text of digits writes, and the text that writes octets.
-use Rattle.std.proofs.Common.{◌≡◌, ℕ, zero, suc, ◌+◌, ◌*◌, ◌/◌, ◌%◌, ◌<◌, ◌≤◌, ◌==◌, nat_le, nat_lt, Bool, true, ◌&&◌, ◌⊎◌, inl, inr, List, [], ◌∷◌, length, slice_index, Option, Some, None, Result, Ok, Err, refl, sym, ap, ◌∙◌, arith}
-use Rattle.std.proofs.lemmas.Bool.{and_parts, cases_lt, eqb-true, le-ltb, leb-true, lt-ltb, ltb-true}
+use Rattle.respath_lines.proofs.Common.{Bool, Err, List, None, Ok, Option, Result, Some, [], ap, arith, inl, inr, length, nat_le, nat_lt, refl, slice_index, suc, sym, true, zero, ℕ, ◌%◌, ◌&&◌, ◌*◌, ◌+◌, ◌/◌, ◌<◌, ◌==◌, ◌∙◌, ◌∷◌, ◌≡◌, ◌≤◌, ◌⊎◌, and_parts, cases_lt, eqb-true, le-ltb, leb-true, lt-ltb, ltb-true, IsBytes, decode_pairs, encode_with, hex_digit_value, lower_digits, pair_value, hex_value, IsHexadecimal, IsPairOf, lower_hexadecimal}
 use Rattle.std.proofs.lemmas.Str.{digit_value-digit_char}
 use Rattle.std.specs.Char.{digit_value, digit_char}
 use Rattle.std.specs.Result.{result_unwrap_or}
-use Rattle.hex.specs.Hex.{IsBytes, decode_pairs, hex_digit_value, encode_with, lower_digits, pair_value}
 use Rattle.hex.specs.declared.error.FromHexError.{FromHexError}
 use Rattle.hex.specs.declared.error.FromHexError.TheVariants.{InvalidHexCharacter}
-use Rattle.rpki_addr.specs.AddressReading.{hex_value}
-use Rattle.respath_lines.specs.Hexadecimal.{IsHexadecimal, IsPairOf, lower_hexadecimal}
 
 -- whether a digit has this value, among those below 16
 abbrev has_value : ℕ → Option ℕ → Bool

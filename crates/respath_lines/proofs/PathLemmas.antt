@@ -1,30 +1,18 @@
 -- The parts of a path, and what is read of them.
-use Rattle.std.proofs.Common.{◌≡◌, ℕ, ◌+◌, ◌<◌, inl, inr, List, [], ◌∷◌, ◌++◌, Result, Ok, Err, length, take, drop, get_or, eqb, sym, ap, subst, ◌∙◌, arith}
-use Rattle.std.specs.List.{All, position_or_len, before_first, after_first}
+use Rattle.respath_lines.proofs.Common.{Err, List, Ok, Result, [], ap, arith, drop, eqb, get_or, inl, inr, length, subst, sym, take, ℕ, ◌++◌, ◌+◌, ◌<◌, ◌∙◌, ◌∷◌, ◌≡◌, All, after_first, before_first, position_or_len, AddressFamily, Claim, claim_of, Holds, Runs, HasBlocks, IsSetOf, HasFirstFault, HaveValues, IfRefused, AnswersOrMemory, OrMemory, Memory, Refused, ArePath, HasRootFault, HasStepFault, HavePathFault, IsStepText, ShowsLeft, ShowsPath, list_of, parts_of}
 use Rattle.std.proofs.lemmas.List.Elements.{All-nil, All-cons}
 use Rattle.std.proofs.lemmas.List.Splits.{slice_split_none, slice_split_first}
 use Rattle.std.proofs.lemmas.List.Sums.{fails_before_first}
-use Rattle.rpki_text.specs.Lists.{HaveValues, HasFirstFault}
-use Rattle.rpki_text.specs.Memory.{IfRefused}
-use Rattle.rpki_text.specs.declared.memory.OrMemory.{OrMemory}
-use Rattle.rpki_text.specs.declared.memory.OrMemory.TheVariants.{Refused, Memory}
 use Rattle.rpki_text.proofs.ListLemmas.{HaveValues-append, parts_at}
-use Rattle.rpki_text.specs.Reading.{AnswersOrMemory}
-use Rattle.rpki_chain.specs.Claims.{Claim, claim_of}
 use Rattle.rpki_chain.specs.Paths.{IsPathResult, IsFirstRefusal}
-use Rattle.rpki_chain.specs.Runs.{Runs, Holds}
 use Rattle.rpki_chain.specs.declared.path.PathRefusal.{PathRefusal}
 use Rattle.rpki_chain.specs.declared.path.Step.{Step}
 use Rattle.rpki_ip.specs.Whole.{IsWhole}
-use Rattle.rpki_base.specs.declared.family.AddressFamily.{AddressFamily}
 use Rattle.rpki_base.specs.declared.family.AddressFamily.TheVariants.{Ipv4, Ipv6}
-use Rattle.rpki_ip_block.specs.ListText.{HasBlocks}
 use Rattle.rpki_ipres.specs.Families.{IsClaimIn}
 use Rattle.rpki_ipres.specs.Resources.{IsWholeClaim}
-use Rattle.rpki_ipres.specs.SetText.{IsSetOf}
 use Rattle.rpki_ip_block.proofs.WholeReadings.{whole_list}
 use Rattle.rpki_ipres.proofs.WholeReadings.{whole_cover}
-use Rattle.respath_lines.specs.Path.{ArePath, HasRootFault, HasStepFault, HavePathFault, IsStepText, ShowsLeft, ShowsPath, list_of, parts_of}
 use Rattle.respath_lines.specs.declared.steps.PartFault.{PartFault}
 
 -- a text without a bar is one part

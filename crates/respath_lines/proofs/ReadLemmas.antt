@@ -1,6 +1,5 @@
 -- What a take at the front of octets, and then their end, tell of all of them.
-use Rattle.std.proofs.Common.{◌≡◌, ◌≢◌, ℕ, List, [], ◌∷◌, length, Result, Ok, Err, MatchResult, inl, inr, refl, subst, arith}
-use Rattle.std.proofs.lemmas.Bool.{ne_eqb}
+use Rattle.respath_lines.proofs.Common.{Err, List, MatchResult, Ok, Result, [], arith, inl, inr, length, refl, subst, ℕ, ◌∷◌, ◌≡◌, ◌≢◌, ne_eqb, fault_text, IfRefused, OrMemory, Memory, Refused, IsHexadecimal, HasFault, IsEnded, ShowsHexadecimal, ShowsOctets, ShowsResult}
 use Rattle.rpki_der.specs.Der.{OneFront}
 use Rattle.rpki_der.specs.Reading.{ended}
 use Rattle.rpki_der.specs.FrontLaws.{none_where_more, none_where_no_front, whole_value}
@@ -8,15 +7,8 @@ use Rattle.rpki_der.specs.Views.{left}
 use Rattle.rpki_der.specs.declared.cursor.Cursor.{Cursor}
 use Rattle.rpki_der.specs.declared.error.DerError.{DerError}
 use Rattle.rpki_der.specs.declared.error.DerError.TheVariants.{TrailingData}
-use Rattle.rpki_text.specs.Memory.{IfRefused}
-use Rattle.rpki_text.specs.declared.memory.OrMemory.{OrMemory}
-use Rattle.rpki_text.specs.declared.memory.OrMemory.TheVariants.{Refused, Memory}
 use Rattle.rpki_base.specs.DerReading.{only}
 use Rattle.rpki_base.specs.DerViews.{ReadsOrMemory, TakesSaidOrMemory}
-use Rattle.rpki_der.specs.Faults.{fault_text}
-use Rattle.respath_lines.specs.Hexadecimal.{IsHexadecimal}
-use Rattle.respath_lines.specs.Read.{HasFault, IsEnded, ShowsHexadecimal, ShowsOctets}
-use Rattle.respath_lines.specs.Shown.{ShowsResult}
 use Rattle.respath_lines.proofs.HexadecimalLemmas.{one_octets}
 
 -- octets that are left are a fault

@@ -1,24 +1,9 @@
 -- The payloads that cover a route, among the first of a table.
-use Rattle.std.proofs.Common.{◌≡◌, ◌⊎◌, ℕ, zero, suc, ◌+◌, ◌-◌, ◌<◌, ◌≤◌, Bool, true, false, cond, inl, inr, None, List, [], ◌∷◌, ◌++◌, reverse, take, length, get_or, refl, arith, sym, ◌∙◌, ap}
-use Rattle.std.proofs.lemmas.Bool.{cases_lt, and_parts, eqb-true, eq-eqb, leb-true, le-leb}
-use Rattle.std.proofs.lemmas.List.{get_or_default, take_all, reverse-append, reverse-reverse}
-use Rattle.std.proofs.lemmas.List.Elements.{All-filter, filter_more, filter_passes}
-use Rattle.std.proofs.lemmas.List.Kept.{IsNonDecreasingBy-filter}
-use Rattle.std.specs.List.{filter}
-use Rattle.std.specs.List.Sorted.{IsNonDecreasingBy}
-use Rattle.rpki_addr.specs.declared.addr.IpAddr.{IpAddr}
-use Rattle.rpki_addr.specs.declared.addr.IpAddr.TheVariants.{V4, V6}
-use Rattle.rpki_prefix.proofs.Covering.{covers_round, round_covers}
-use Rattle.rpki_prefix.specs.Values.{FamilyPrefix, IsFamilyPrefix, is_v6, width}
+use Rattle.roa_origin.proofs.Common.{Bool, List, None, [], ap, arith, cond, false, get_or, inl, inr, length, refl, reverse, suc, sym, take, true, zero, ℕ, ◌++◌, ◌+◌, ◌-◌, ◌<◌, ◌∙◌, ◌∷◌, ◌≡◌, ◌≤◌, ◌⊎◌, and_parts, cases_lt, eq-eqb, eqb-true, le-leb, leb-true, get_or_default, reverse-append, reverse-reverse, take_all, All-filter, filter_more, filter_passes, IsNonDecreasingBy-filter, filter, IsNonDecreasingBy, IpAddr, V4, V6, covers_round, round_covers, FamilyPrefix, IsFamilyPrefix, is_v6, width, AreThose, IsWalk, covering_before, covers_route, IsInOrder, IsLink, NoneCovers, CoversRoute, Payload, prefix_len, payload_place, place, Link}
 use Rattle.roa_origin.proofs.Nested.{covers_between}
 use Rattle.roa_origin.proofs.Orders.{covers_place}
 use Rattle.roa_origin.proofs.Places.{covers_len, same_width}
 use Rattle.roa_origin.proofs.Walks.{passes_none, prefix_of}
-use Rattle.roa_origin.specs.Coverings.{AreThose, IsWalk, covers_route, covering_before}
-use Rattle.roa_origin.specs.Links.{IsInOrder, IsLink, NoneCovers}
-use Rattle.roa_origin.specs.Payloads.{Payload, CoversRoute, prefix_len}
-use Rattle.roa_origin.specs.Places.{payload_place, place}
-use Rattle.roa_origin.specs.declared.links.Link.{Link}
 
 -- addresses are of one family where they have as many bits
 same_family : (a b : IpAddr) → width a ≡ width b → is_v6 a ≡ is_v6 b

@@ -1,10 +1,5 @@
 -- The first place that is at fault, and what changes in order say of a place.
-use Rattle.std.proofs.Common.{◌≡◌, ℕ, ◌+◌, ◌<◌, ◌⊎◌, inl, inr, List, Any, get_or, length, take, arith, sym, ◌∙◌, subst}
-use Rattle.std.proofs.lemmas.Bool.{cases_lt}
-use Rattle.std.proofs.lemmas.List.{get_or_default}
-use Rattle.roa_origin.specs.Payloads.{IsLawfulPayload, Payload}
-use Rattle.roa_origin.specs.Updates.{AreChangesOf, IsDuplicateRecord, IsOf, IsOfBefore, IsSentIn, IsUnknownRecord}
-use Rattle.roa_origin.specs.declared.updates.Change.{Change}
+use Rattle.roa_origin.proofs.Common.{Any, List, arith, get_or, inl, inr, length, subst, sym, take, ℕ, ◌+◌, ◌<◌, ◌∙◌, ◌≡◌, ◌⊎◌, cases_lt, get_or_default, IsLawfulPayload, Payload, AreChangesOf, IsDuplicateRecord, IsOf, IsOfBefore, IsSentIn, IsUnknownRecord, Change}
 use Rattle.roa_origin.proofs.Listed.{change_before, change_of, sent_before, sent_in}
 
 -- what holds at no place before one and not there holds at no place up to it

@@ -1,15 +1,6 @@
 -- The first bits of addresses: how many numbers they write, and that they follow the order of places.
-use Rattle.std.proofs.Common.{arith, ◌≡◌, ◌≤◌, ◌<◌, ◌+◌, ◌-◌, ◌*◌, ◌/◌, ◌^◌, ℕ, List, length, get_or, inl, inr, lit≤, subst, sym}
-use Rattle.std.proofs.lemmas.Bool.{cases_lt}
-use Rattle.std.proofs.lemmas.Nat.{le-div, pow_pos, shr_below}
+use Rattle.roa_origin.proofs.Common.{List, arith, get_or, inl, inr, length, lit≤, subst, sym, ℕ, ◌*◌, ◌+◌, ◌-◌, ◌/◌, ◌<◌, ◌^◌, ◌≡◌, ◌≤◌, cases_lt, le-div, pow_pos, shr_below, IpAddr, V4, V6, FamilyPrefix, IsFamilyPrefix, AreFamilyPrefixes, Payload, payload_place, place, AreStarts, IsStart, first_bits}
 use Rattle.std.proofs.Math.Nat.{div-mul-le_self, pow-le-pow_right}
-use Rattle.rpki_addr.specs.declared.addr.IpAddr.TheVariants.{V4, V6}
-use Rattle.rpki_addr.specs.declared.addr.IpAddr.{IpAddr}
-use Rattle.rpki_prefix.specs.Values.{FamilyPrefix, IsFamilyPrefix}
-use Rattle.roa_origin.specs.Links.{AreFamilyPrefixes}
-use Rattle.roa_origin.specs.Payloads.{Payload}
-use Rattle.roa_origin.specs.Places.{payload_place, place}
-use Rattle.roa_origin.specs.Starts.{AreStarts, IsStart, first_bits}
 use Rattle.roa_origin.proofs.Nested.{below_256}
 
 -- the first n of w bits write a number of n bits

@@ -1,10 +1,5 @@
 -- A list in the order of numbers has one of them where a search for it stops, or nowhere.
-use Rattle.std.proofs.Common.{◌≡◌, ℕ, ◌<◌, ◌≤◌, inl, inr, List, Any, get_or, length, arith, ◌∙◌, ap}
-use Rattle.std.proofs.lemmas.Bool.{cases_lt}
-use Rattle.std.proofs.lemmas.List.{get_or_default}
-use Rattle.std.proofs.lemmas.List.Sorted.{Contains-permutation}
-use Rattle.std.specs.List.Sorted.{IsNonDecreasingBy, IsPermutation}
-use Rattle.roa_origin.specs.Updates.{IsSearched}
+use Rattle.roa_origin.proofs.Common.{Any, List, ap, arith, get_or, inl, inr, length, ℕ, ◌<◌, ◌∙◌, ◌≡◌, ◌≤◌, cases_lt, get_or_default, Contains-permutation, IsNonDecreasingBy, IsPermutation, IsSearched}
 
 module _ {X : Type 0} (f : X → ℕ) (xs : List X) (t at : ℕ) (ordered : IsNonDecreasingBy f xs) (searched : IsSearched f xs t at) where
   pub found : Any (λ x. f x ≡ t) xs → (at < length xs) × ((d : X) → f (get_or xs at d) ≡ t)

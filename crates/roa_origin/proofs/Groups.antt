@@ -1,11 +1,7 @@
 -- The payloads of one prefix, as a piece of a table.
-use Rattle.std.proofs.Common.{◌≡◌, ℕ, ◌+◌, ◌-◌, ◌<◌, ◌≤◌, Any, List, length, get_or, arith, sym, ◌∙◌, subst}
-use Rattle.std.proofs.lemmas.List.{get_or-take, get_or-drop, get_or_default, length-take-le, length-drop}
-use Rattle.std.specs.List.{slice_range}
-use Rattle.rpki_prefix.specs.Values.{FamilyPrefix}
+use Rattle.roa_origin.proofs.Common.{Any, List, arith, get_or, length, subst, sym, ℕ, ◌+◌, ◌-◌, ◌<◌, ◌∙◌, ◌≡◌, ◌≤◌, get_or-drop, get_or-take, get_or_default, length-take-le, slice_range, FamilyPrefix, IsGroup, IsInOrder, CoversRoute, IsLawfulPayload, Payload}
+use Rattle.std.proofs.lemmas.List.{length-drop}
 use Rattle.roa_origin.proofs.Places.{by_ranks}
-use Rattle.roa_origin.specs.Links.{IsGroup, IsInOrder}
-use Rattle.roa_origin.specs.Payloads.{CoversRoute, IsLawfulPayload, Payload}
 
 -- an element of a piece
 pub in_piece : (xs : List Payload) (a b k : ℕ) (d : Payload) → k < b - a → get_or (slice_range xs a b) k d ≡ get_or xs (a + k) d

@@ -1,13 +1,5 @@
 -- What stays of a list, and what a table has after changes.
-use Rattle.std.proofs.Common.{◌≡◌, ◌⊎◌, zero, suc, ◌<◌, inl, inr, List, [], ◌∷◌, ◌++◌, Contains, get_or, length, map, arith, refl, sym, ◌∙◌, ap, subst}
-use Rattle.std.proofs.lemmas.List.{get_or-map, get_or_default, length-map}
-use Rattle.std.proofs.lemmas.List.Elements.{Contains-append_cases, Contains-append_left, Contains-append_right}
-use Rattle.std.proofs.lemmas.List.Sorted.{Contains-permutation, IsPermutation-sym, IsPermutation-trans}
-use Rattle.std.specs.List.Sorted.{IsPermutation}
-use Rattle.roa_origin.specs.Coverings.{AreThose}
-use Rattle.roa_origin.specs.Payloads.{Payload}
-use Rattle.roa_origin.specs.Tables.{as_sent}
-use Rattle.roa_origin.specs.Updates.{IsSentIn, IsUpdated}
+use Rattle.roa_origin.proofs.Common.{Contains, List, [], ap, arith, get_or, inl, inr, length, map, refl, subst, suc, sym, zero, ◌++◌, ◌<◌, ◌∙◌, ◌∷◌, ◌≡◌, ◌⊎◌, get_or-map, get_or_default, length-map, Contains-append_cases, Contains-append_left, Contains-append_right, Contains-permutation, IsPermutation-sym, IsPermutation-trans, IsPermutation, AreThose, Payload, as_sent, IsSentIn, IsUpdated}
 
 -- ---- the elements of which something holds
 

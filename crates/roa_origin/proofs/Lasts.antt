@@ -1,12 +1,5 @@
 -- The payload to ask of a group: the last one whose AS number isn't below the route's.
-use Rattle.std.proofs.Common.{arith, ◌≡◌, ◌≤◌, ◌<◌, ◌-◌, ℕ, true, false, leb, sym, ◌∙◌, ap, get_or, inl, inr, List, length}
-use Rattle.std.proofs.lemmas.Bool.{cases_lt, leb-true, le-leb}
-use Rattle.std.proofs.lemmas.List.{get_or_default}
-use Rattle.std.specs.List.Sorted.{IsPartitionPoint, IsPartitionedBy}
-use Rattle.rpki_prefix.specs.Values.{FamilyPrefix}
-use Rattle.roa_origin.specs.Links.{IsGroup, IsLastOf}
-use Rattle.roa_origin.specs.Payloads.{HasAs, Matches, Payload, longest}
-use Rattle.roa_origin.specs.Validities.{IsHeldBy, IsMatched}
+use Rattle.roa_origin.proofs.Common.{List, ap, arith, false, get_or, inl, inr, leb, length, sym, true, ℕ, ◌-◌, ◌<◌, ◌∙◌, ◌≡◌, ◌≤◌, cases_lt, le-leb, leb-true, get_or_default, IsPartitionPoint, IsPartitionedBy, FamilyPrefix, IsGroup, IsLastOf, HasAs, Matches, Payload, longest, IsHeldBy, IsMatched}
 use Rattle.roa_origin.proofs.Places.{rank_asn, rank_longest}
 
 module _ (route : FamilyPrefix) (xs : List Payload) (asn : ℕ) (group : IsGroup route xs) where

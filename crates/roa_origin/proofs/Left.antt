@@ -1,12 +1,7 @@
 -- The walk from group to group of payloads that cover a route: what of those that it has passed none is.
-use Rattle.std.proofs.Common.{ℕ, ◌-◌, ◌<◌, ◌≤◌, Any, List, length, get_or, arith, sym, ◌∙◌, subst}
-use Rattle.std.specs.List.{slice_range}
-use Rattle.rpki_prefix.specs.Values.{FamilyPrefix, IsFamilyPrefix, CoversPrefix}
+use Rattle.roa_origin.proofs.Common.{Any, List, arith, get_or, length, subst, sym, ℕ, ◌-◌, ◌<◌, ◌∙◌, ◌≤◌, slice_range, CoversPrefix, FamilyPrefix, IsFamilyPrefix, AreUpTo, IsGroup, IsTable, NoneCovers, CoversRoute, HasAs, Payload, Link}
 use Rattle.roa_origin.proofs.Steps.{any_at, back_up_to, back_within, fewer_left, first_within, group_at, last, link, linked, none_left}
 use Rattle.roa_origin.proofs.Walks.{nowhere, steps}
-use Rattle.roa_origin.specs.Links.{AreUpTo, IsGroup, IsTable, NoneCovers}
-use Rattle.roa_origin.specs.Payloads.{CoversRoute, HasAs, Payload}
-use Rattle.roa_origin.specs.declared.links.Link.{Link}
 
 -- what covers a prefix covers what that covers
 covers_through : (p q r : FamilyPrefix) → CoversPrefix p q → CoversPrefix q r → CoversPrefix p r

@@ -1,14 +1,5 @@
 -- What changes in order say of the list that they came in.
-use Rattle.std.proofs.Common.{◌≡◌, ℕ, ◌+◌, ◌*◌, ◌^◌, ◌<◌, ◌≤◌, inl, inr, List, All, Any, get_or, length, map, take, refl, arith, sym, ◌∙◌, ap, subst}
-use Rattle.std.proofs.lemmas.Bool.{cases_lt}
-use Rattle.std.proofs.lemmas.List.{get_or-map, get_or-take, get_or_default, length-map, length-take}
-use Rattle.std.proofs.lemmas.List.Sorted.{All-permutation, IsPermutation-map, IsPermutation-refl, IsPermutation-trans}
-use Rattle.std.specs.List.Sorted.{IsNonDecreasingBy, IsPermutation}
-use Rattle.roa_origin.specs.Payloads.{IsLawfulPayload, Payload}
-use Rattle.roa_origin.specs.Places.{sent_place}
-use Rattle.roa_origin.specs.Tables.{as_sent}
-use Rattle.roa_origin.specs.Updates.{AreChangesOf, AreSorted, IsFirstPlace, IsLawfulChange, IsOf, IsOfBefore, IsSearched, IsSentIn, change_place, sent_change}
-use Rattle.roa_origin.specs.declared.updates.Change.{Change}
+use Rattle.roa_origin.proofs.Common.{All, Any, List, ap, arith, get_or, inl, inr, length, map, refl, subst, sym, take, ℕ, ◌*◌, ◌+◌, ◌<◌, ◌^◌, ◌∙◌, ◌≡◌, ◌≤◌, cases_lt, get_or-map, get_or-take, get_or_default, length-map, length-take, All-permutation, IsPermutation-map, IsPermutation-refl, IsPermutation-trans, IsNonDecreasingBy, IsPermutation, IsLawfulPayload, Payload, sent_place, as_sent, AreChangesOf, AreSorted, IsFirstPlace, IsLawfulChange, IsOf, IsOfBefore, IsSearched, IsSentIn, change_place, sent_change, Change}
 use Rattle.roa_origin.proofs.Found.{any_moved}
 use Rattle.roa_origin.proofs.Sent.{same_sent, sent_same}
 

@@ -1,15 +1,8 @@
 -- Lists in order have one order: two with the same elements are the same.
-use Rattle.std.proofs.Common.{arith, ◌≡◌, ◌≢◌, ◌↔◌, ◌⊎◌, zero, suc, Bool, inl, inr, List, [], ◌∷◌, Contains, AllPairs, IsTrue, refl, sym, ap, ◌∙◌, subst}
-use Rattle.std.proofs.lemmas.List.Elements.{All-from_recursion}
+use Rattle.roa_origin.proofs.Common.{AllPairs, Bool, Contains, IsTrue, List, [], ap, arith, inl, inr, refl, subst, suc, sym, zero, ◌↔◌, ◌∙◌, ◌∷◌, ◌≡◌, ◌≢◌, ◌⊎◌, All-from_recursion, AllPairs-cons, Contains-dedup, Contains-from_dedup, IsStrictlySortedBy-dedup, Contains-permutation, IsPermutation-sym, Equal-is, IsEquivalence, IsTotalOrder, both_ways, IsPermutation, IsSorted, IsStrictlySortedBy, eq_by_cmp, ordering_reverse, Ordering, Equal, Less}
 use Rattle.std.proofs.lemmas.List.Filters.{dedup_is}
-use Rattle.std.proofs.lemmas.List.Kept.{AllPairs-cons, Contains-dedup, Contains-from_dedup, IsStrictlySortedBy-dedup}
-use Rattle.std.proofs.lemmas.List.Sorted.{Contains-permutation, IsPermutation-sym}
-use Rattle.std.specs.Cmp.{Equal-is, IsEquivalence, IsTotalOrder, both_ways}
 use Rattle.std.specs.List.Retain.{IsFiltered, DiffersFromLast}
-use Rattle.std.specs.List.Sorted.{IsPermutation, IsSorted, IsStrictlySortedBy}
-use Rattle.std.specs.Ordering.{eq_by_cmp, is_eq, ordering_reverse}
-use Rattle.std.specs.declared.cmp.Ordering.{Ordering}
-use Rattle.std.specs.declared.cmp.Ordering.TheVariants.{Less, Equal}
+use Rattle.std.specs.Ordering.{is_eq}
 use Rattle.roa_origin.proofs.Totals.{cases_ordering}
 
 -- a list without elements is empty

@@ -1,12 +1,6 @@
 -- Two lists in order, merged by turns: each turn takes the next element of one of them, which comes no later than the
 -- next of the other.
-use Rattle.std.proofs.Common.{◌≡◌, ℕ, ◌+◌, ◌-◌, ◌<◌, ◌≤◌, List, [], ◌∷◌, ◌++◌, All, get_or, length, arith, inl, inr, refl, sym, ◌∙◌, ap, subst, append_assoc, length-append}
-use Rattle.std.proofs.lemmas.List.{get_or_default}
-use Rattle.std.proofs.lemmas.List.Elements.{All-cons, All-head, All-same, All-tail}
-use Rattle.std.proofs.lemmas.List.Sorted.{IsNonDecreasingBy-push, IsPermutation-append_left, IsPermutation-cons, IsPermutation-middle, IsPermutation-sym, IsPermutation-to_front, IsPermutation-trans}
-use Rattle.std.proofs.Math.Seq.{get_or-append_seam}
-use Rattle.std.specs.List.Sorted.{IsNonDecreasingBy, IsPermutation}
-use Rattle.roa_origin.specs.Coverings.{AreThose}
+use Rattle.roa_origin.proofs.Common.{All, List, [], ap, append_assoc, arith, get_or, inl, inr, length, length-append, refl, subst, sym, ℕ, ◌++◌, ◌+◌, ◌-◌, ◌<◌, ◌∙◌, ◌∷◌, ◌≡◌, ◌≤◌, get_or-append_seam, get_or_default, All-cons, All-head, All-same, All-tail, IsNonDecreasingBy-push, IsPermutation-append_left, IsPermutation-cons, IsPermutation-middle, IsPermutation-sym, IsPermutation-to_front, IsPermutation-trans, IsNonDecreasingBy, IsPermutation, AreThose}
 
 -- a list in order whose last element comes no later than what is left of two lists from places on
 pub record IsMerged {X : Type 0} (f : X → ℕ) (xs ys : List X) (at come : ℕ) (list : List X) : Type 0 where

@@ -1,12 +1,7 @@
 -- A prefix covers another, told by the numbers of both.
-use Rattle.std.proofs.Common.{◌≡◌, ◌↔◌, Bool, true, false, ℕ, ◌+◌, ◌-◌, ◌^◌, ◌<◌, ◌≤◌, arith, refl}
-use Rattle.std.proofs.lemmas.Nat.{pow_pos}
-use Rattle.rpki_addr.specs.Prefixes.{PrefixValue, IsPrefix, IsIn, LiesIn}
-use Rattle.rpki_prefix.proofs.Covering.{round_covers}
-use Rattle.rpki_prefix.specs.Values.{CoversPrefix, FamilyPrefix, IsFamilyPrefix, address_number, is_v6, width}
+use Rattle.roa_origin.proofs.Common.{Bool, arith, false, refl, true, ℕ, ◌+◌, ◌-◌, ◌<◌, ◌^◌, ◌↔◌, ◌≡◌, ◌≤◌, pow_pos, IsIn, IsPrefix, LiesIn, PrefixValue, round_covers, CoversPrefix, FamilyPrefix, IsFamilyPrefix, address_number, is_v6, width, addr_of}
 use Rattle.roa_origin.proofs.Nested.{nested_bounds}
 use Rattle.roa_origin.proofs.Places.{covers_len}
-use Rattle.roa_origin.specs.Entries.{addr_of}
 
 abbrev pub made : Bool → ℕ → ℕ → FamilyPrefix
 made v n len = record { addr = addr_of v n; len = len }

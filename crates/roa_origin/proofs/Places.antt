@@ -1,16 +1,6 @@
 -- What the numbers of a table's order say: a place tells the prefix, a rank the AS number and the greatest length.
-use Rattle.std.proofs.Common.{◌≡◌, ℕ, ◌+◌, ◌-◌, ◌*◌, ◌^◌, ◌<◌, ◌≤◌, None, Some, Option, List, get_or, All, arith, inl, inr, ap, sym, true, false, refl}
-use Rattle.std.proofs.lemmas.Bool.{cases_lt}
-use Rattle.std.proofs.lemmas.Nat.{pow_pos, pow_below}
-use Rattle.std.specs.List.Sorted.{IsNonDecreasingBy}
-use Rattle.rpki_addr.specs.declared.addr.IpAddr.{IpAddr}
-use Rattle.rpki_addr.specs.declared.addr.IpAddr.TheVariants.{V4, V6}
-use Rattle.rpki_prefix.proofs.Covering.{round_covers}
-use Rattle.rpki_prefix.specs.MaxLen.{IsMaxLenOf, resolved}
-use Rattle.rpki_prefix.specs.Values.{CoversPrefix, FamilyPrefix, IsFamilyPrefix, is_v6, width}
+use Rattle.roa_origin.proofs.Common.{All, List, None, Option, Some, ap, arith, false, get_or, inl, inr, refl, sym, true, ℕ, ◌*◌, ◌+◌, ◌-◌, ◌<◌, ◌^◌, ◌≡◌, ◌≤◌, cases_lt, pow_below, pow_pos, IsNonDecreasingBy, IpAddr, V4, V6, round_covers, IsMaxLenOf, resolved, CoversPrefix, FamilyPrefix, IsFamilyPrefix, is_v6, width, IsLawfulPayload, Payload, longest, payload_place, place, rank, table_place, told}
 use Rattle.roa_origin.proofs.Nested.{below_256}
-use Rattle.roa_origin.specs.Payloads.{IsLawfulPayload, Payload, longest}
-use Rattle.roa_origin.specs.Places.{payload_place, place, rank, table_place, told}
 
 -- addresses have as many bits where they are of one family, and there alone
 pub same_width : (a b : IpAddr) → is_v6 a ≡ is_v6 b → width a ≡ width b

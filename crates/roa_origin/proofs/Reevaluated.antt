@@ -1,15 +1,6 @@
 -- The places of the routes gone through whose validity differs by two lists.
-use Rattle.std.proofs.Common.{◌≡◌, ◌≢◌, ◌↔◌, ℕ, ◌+◌, ◌<◌, ◌≤◌, inl, inr, List, [], ◌∷◌, ◌++◌, AllPairs, Contains, get_or, length, arith, refl, sym, ◌∙◌, subst}
-use Rattle.std.proofs.lemmas.Bool.{cases_lt}
-use Rattle.std.proofs.lemmas.List.{get_or_default}
-use Rattle.std.proofs.lemmas.List.Elements.{Contains-append_left, Contains-get_or, Contains-push, Contains-push_cases}
-use Rattle.std.proofs.lemmas.List.Quantifiers.{all_pairs_push}
-use Rattle.rpki_prefix.specs.Values.{FamilyPrefix}
-use Rattle.roa_origin.specs.Payloads.{Payload}
+use Rattle.roa_origin.proofs.Common.{AllPairs, Contains, List, [], arith, get_or, inl, inr, length, refl, subst, sym, ℕ, ◌++◌, ◌+◌, ◌<◌, ◌↔◌, ◌∙◌, ◌∷◌, ◌≡◌, ◌≢◌, ◌≤◌, cases_lt, get_or_default, Contains-append_left, Contains-get_or, Contains-push, Contains-push_cases, all_pairs_push, FamilyPrefix, Payload, IsValidity, Validity, Invalid, NotFound, Valid}
 use Rattle.roa_origin.specs.Reevaluations.{AreChanged, HasChanged, IsChangedAt}
-use Rattle.roa_origin.specs.Validities.{IsValidity}
-use Rattle.roa_origin.specs.declared.validation.Validity.{Validity}
-use Rattle.roa_origin.specs.declared.validation.Validity.TheVariants.{Valid, Invalid, NotFound}
 
 -- a list gives a route one validity
 pub one_validity : (route : FamilyPrefix) (asn : ℕ) (xs : List Payload) (v w : Validity) → IsValidity route asn xs v

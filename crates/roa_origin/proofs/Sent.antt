@@ -1,14 +1,7 @@
 -- Payloads are the same as they are sent where a number of theirs is, which follows the table's order.
-use Rattle.std.proofs.Common.{◌≡◌, ℕ, ◌+◌, ◌*◌, ◌^◌, ◌<◌, ◌≤◌, None, Some, Option, List, get_or, length, arith, refl, sym, ◌∙◌, ap}
-use Rattle.std.specs.List.Sorted.{IsNonDecreasingBy}
+use Rattle.roa_origin.proofs.Common.{List, None, Option, Some, ap, arith, get_or, length, refl, sym, ℕ, ◌*◌, ◌+◌, ◌<◌, ◌^◌, ◌∙◌, ◌≡◌, ◌≤◌, IsNonDecreasingBy, resolved, FamilyPrefix, IsLawfulPayload, Payload, longest, payload_place, rank, sent_place, sent_rank, table_place, told, as_sent, IsSearched, IsSentIn}
 use Rattle.roa_origin.proofs.Found.{found}
 use Rattle.roa_origin.proofs.Places.{longest_small, rank_small, same_prefix, told_small}
-use Rattle.rpki_prefix.specs.MaxLen.{resolved}
-use Rattle.rpki_prefix.specs.Values.{FamilyPrefix}
-use Rattle.roa_origin.specs.Payloads.{IsLawfulPayload, Payload, longest}
-use Rattle.roa_origin.specs.Places.{payload_place, rank, sent_place, sent_rank, table_place, told}
-use Rattle.roa_origin.specs.Tables.{as_sent}
-use Rattle.roa_origin.specs.Updates.{IsSearched, IsSentIn}
 
 -- the number has 64 bits behind the place of the prefix
 pub sent_small : (p : Payload) → IsLawfulPayload p → sent_rank p < 2 ^ 64

@@ -1,18 +1,9 @@
 -- One step of the walk along the links, from the first n payloads on: what it passes over, and what that tells of a
 -- route.
-use Rattle.std.proofs.Common.{◌≡◌, ℕ, ◌-◌, ◌<◌, ◌≤◌, ◌⊎◌, inl, inr, Any, List, length, get_or, arith, sym, ◌∙◌, ap, subst}
-use Rattle.std.proofs.lemmas.List.{get_or_default}
-use Rattle.std.specs.List.{slice_range}
-use Rattle.rpki_prefix.specs.Values.{FamilyPrefix, IsFamilyPrefix, CoversPrefix}
+use Rattle.roa_origin.proofs.Common.{Any, List, ap, arith, get_or, inl, inr, length, subst, sym, ℕ, ◌-◌, ◌<◌, ◌∙◌, ◌≡◌, ◌≤◌, ◌⊎◌, get_or_default, slice_range, CoversPrefix, FamilyPrefix, IsFamilyPrefix, AreUpTo, IsGroup, IsLink, IsTable, CoversRoute, Matches, Payload, IsMatched, Link, Validity, Invalid}
 use Rattle.roa_origin.proofs.Groups.{any_in, group, none_in}
 use Rattle.roa_origin.proofs.Scans.{Tells, covered, passed}
 use Rattle.roa_origin.proofs.Walks.{fewer, has_prefix, no_link, nowhere, seen_or_free, steps}
-use Rattle.roa_origin.specs.Links.{AreUpTo, IsGroup, IsLink, IsTable}
-use Rattle.roa_origin.specs.Payloads.{CoversRoute, Matches, Payload}
-use Rattle.roa_origin.specs.Validities.{IsMatched}
-use Rattle.roa_origin.specs.declared.links.Link.{Link}
-use Rattle.roa_origin.specs.declared.validation.Validity.{Validity}
-use Rattle.roa_origin.specs.declared.validation.Validity.TheVariants.{Invalid}
 
 module _ (r : FamilyPrefix) (is_r : IsFamilyPrefix r) (xs : List Payload) (links : List Link) (table : IsTable xs links)
     (n : ℕ) (within : n ≤ length xs) (upto : AreUpTo xs n r) (some : 0 < n) where

@@ -1,14 +1,7 @@
 -- The order of payloads is total, and payloads tie in it exactly where they are the same.
-use Rattle.std.proofs.Common.{true, false, Bool, IsTrue, ◌&&◌, ◌==◌, ◌≡◌, ◌↔◌, ◌⊎◌, ℕ, inl, inr, refl, subst}
-use Rattle.std.proofs.lemmas.Bool.{eq-eqb, eqb-true}
+use Rattle.roa_origin.proofs.Common.{Bool, IsTrue, false, inl, inr, refl, subst, true, ℕ, ◌&&◌, ◌==◌, ◌↔◌, ◌≡◌, ◌⊎◌, eq-eqb, eqb-true, IsTotalOrder, ranks, nat_cmp, ordering_then, Ordering, Equal, Greater, Less, MaxLenValue, max_len_cmp, Payload, payload_cmp}
 use Rattle.std.proofs.lemmas.Cmp.{by_ranked, nat_cmp_total, on_total, then_total, tied_itself}
-use Rattle.std.specs.Cmp.{IsTotalOrder, ranks}
-use Rattle.std.specs.Ordering.{is_eq, is_lt, nat_cmp, ordering_then}
-use Rattle.std.specs.declared.cmp.Ordering.{Ordering}
-use Rattle.std.specs.declared.cmp.Ordering.TheVariants.{Less, Equal, Greater}
-use Rattle.rpki_prefix.specs.MaxLen.{MaxLenValue, max_len_cmp}
-use Rattle.roa_origin.specs.Payloads.{Payload}
-use Rattle.roa_origin.specs.Tables.{payload_cmp}
+use Rattle.std.specs.Ordering.{is_eq, is_lt}
 
 pub total : IsTotalOrder max_len_cmp → IsTotalOrder payload_cmp
 total prefixes = then_total (on_total (λ p. p.0) prefixes) (on_total (λ p. p.1) nat_cmp_total)

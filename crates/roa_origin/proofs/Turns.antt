@@ -1,13 +1,5 @@
 -- Lists in order, and one walk along two of them.
-use Rattle.std.proofs.Common.{arith, ◌≡◌, ◌≢◌, ◌↔◌, ℕ, suc, ◌+◌, ◌<◌, ◌≤◌, inl, inr, length, get_or, List, [], ◌∷◌, ◌++◌, take, Contains, AllPairs, sym, ap, ◌∙◌, subst}
-use Rattle.std.proofs.lemmas.Bool.{cases_lt, cases_order}
-use Rattle.std.proofs.lemmas.List.{get_or-take, get_or_default, length-take-le}
-use Rattle.std.proofs.lemmas.List.Elements.{Contains-append_left, Contains-push, Contains-push_cases}
-use Rattle.std.proofs.lemmas.List.Quantifiers.{all_pairs_push}
-use Rattle.std.proofs.Math.Seq.{take-suc}
-use Rattle.std.specs.Cmp.{IsTotalOrder}
-use Rattle.std.specs.declared.cmp.Ordering.{Ordering}
-use Rattle.std.specs.declared.cmp.Ordering.TheVariants.{Less, Equal}
+use Rattle.roa_origin.proofs.Common.{AllPairs, Contains, List, [], ap, arith, get_or, inl, inr, length, subst, suc, sym, take, ℕ, ◌++◌, ◌+◌, ◌<◌, ◌↔◌, ◌∙◌, ◌∷◌, ◌≡◌, ◌≢◌, ◌≤◌, take-suc, cases_lt, cases_order, get_or-take, get_or_default, length-take-le, Contains-append_left, Contains-push, Contains-push_cases, all_pairs_push, IsTotalOrder, Ordering, Equal, Less}
 
 -- a turn of a walk along two lists: x stands next in the one; before the place of the other one all are less than x,
 -- and before the place that the walk came from all are less than what is left of the one

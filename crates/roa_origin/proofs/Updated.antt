@@ -1,18 +1,5 @@
 -- One walk along a table and the changes of it, turn by turn.
-use Rattle.std.proofs.Common.{◌≡◌, ℕ, zero, suc, ◌+◌, ◌-◌, ◌<◌, ◌≤◌, None, List, [], ◌∷◌, ◌++◌, All, Any, get_or, length, map, take, drop, inl, inr, refl, arith, sym, ◌∙◌, ap, subst, append_assoc, length-drop}
-use Rattle.std.proofs.lemmas.List.{append-nil, get_or-drop, get_or-map, get_or_default, length-map, take_all, take_more}
-use Rattle.std.proofs.lemmas.List.Elements.{All-append, All-head, All-map, All-tail}
-use Rattle.std.proofs.lemmas.List.Sorted.{All-permutation, IsPermutation-append_right, IsPermutation-refl, IsPermutation-trans}
-use Rattle.std.specs.List.{slice_range}
-use Rattle.std.specs.List.Sorted.{IsNonDecreasingBy, IsPermutation}
-use Rattle.rpki_addr.specs.declared.addr.IpAddr.TheVariants.{V4}
-use Rattle.roa_origin.specs.Coverings.{AreThose}
-use Rattle.roa_origin.specs.Links.{IsInOrder}
-use Rattle.roa_origin.specs.Payloads.{IsLawfulPayload, Payload}
-use Rattle.roa_origin.specs.Places.{sent_place, table_place}
-use Rattle.roa_origin.specs.Tables.{as_sent}
-use Rattle.roa_origin.specs.Updates.{AreChangesOf, AreSorted, IsMergedOf, IsOf, IsSearched, IsSentIn, IsUpdated, sent_change}
-use Rattle.roa_origin.specs.declared.updates.Change.{Change}
+use Rattle.roa_origin.proofs.Common.{All, Any, List, None, [], ap, append_assoc, arith, drop, get_or, inl, inr, length, length-drop, map, refl, subst, suc, sym, take, zero, ℕ, ◌++◌, ◌+◌, ◌-◌, ◌<◌, ◌∙◌, ◌∷◌, ◌≡◌, ◌≤◌, append-nil, get_or-drop, get_or-map, get_or_default, length-map, take_all, take_more, All-append, All-head, All-map, All-tail, All-permutation, IsPermutation-append_right, IsPermutation-refl, IsPermutation-trans, slice_range, IsNonDecreasingBy, IsPermutation, V4, AreThose, IsInOrder, IsLawfulPayload, Payload, sent_place, table_place, as_sent, AreChangesOf, AreSorted, IsMergedOf, IsOf, IsSearched, IsSentIn, IsUpdated, sent_change, Change}
 use Rattle.roa_origin.proofs.Found.{found}
 use Rattle.roa_origin.proofs.Listed.{by_payload, change_of, sent_in}
 use Rattle.roa_origin.proofs.Merges.{All-those, IsMerged, moved_last, moved_middle, none_merged, skipped, taken, those_more, those_without, turned}

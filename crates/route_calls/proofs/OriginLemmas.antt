@@ -1,12 +1,9 @@
 -- One element of an array after another; and validities in a table's order.
-use Rattle.std.proofs.Common.{◌≡◌, ℕ, ◌+◌, ◌<◌, suc, List, [], ◌∷◌, ◌++◌, get_or, length, take, refl, sym, ap, ◌∙◌, subst, arith}
+use Rattle.route_calls.proofs.Common.{List, [], ap, arith, get_or, length, refl, subst, suc, sym, take, ℕ, ◌++◌, ◌+◌, ◌<◌, ◌∙◌, ◌∷◌, ◌≡◌, get_or_default, Err, MatchResult, Ok, Result, AreEach, IsFirstNone}
 use Rattle.std.proofs.Math.Seq.{take-suc}
-use Rattle.std.proofs.lemmas.List.{get_or_default}
 use Rattle.rpki_text.specs.Memory.{IfRefused}
 use Rattle.rpki_text.specs.declared.memory.OrMemory.{OrMemory}
 use Rattle.rpki_text.specs.declared.memory.OrMemory.TheVariants.{Refused, Memory}
-use Rattle.std.specs.Prelude.{MatchResult, Result, Ok, Err}
-use Rattle.route_calls.specs.Origins.{AreEach, IsFirstNone}
 use Rattle.route_calls.specs.declared.origin.FirstNone.{FirstNone}
 use Rattle.route_calls.specs.declared.route.Unrouted.{Unrouted}
 

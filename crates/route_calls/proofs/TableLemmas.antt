@@ -1,7 +1,5 @@
 -- Payloads that are told one after another.
-use Rattle.std.proofs.Common.{◌≡◌, List, [], ◌∷◌, ◌++◌, refl, sym, ap, ◌∙◌, subst, append_assoc}
-use Rattle.std.proofs.lemmas.List.{append-nil}
-use Rattle.route_calls.specs.Origins.{AreEach}
+use Rattle.route_calls.proofs.Common.{List, [], ap, append_assoc, refl, subst, sym, ◌++◌, ◌∙◌, ◌∷◌, ◌≡◌, append-nil, AreEach}
 use Rattle.route_calls.proofs.OriginLemmas.{append}
 
 module _ {X Y : Type 0} (R : X → Y → Type 0) where

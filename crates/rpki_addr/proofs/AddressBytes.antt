@@ -1,11 +1,7 @@
 -- A printed address has digits, the letters `a` to `f`, dots and colons, so neither a slash nor a dash nor a comma.
-use Rattle.rpki_addr.proofs.Common.{List, [], arith, codes, drop, get_or, inl, inr, lit<, lit≤, subst, suc, take, zero, ℕ, ◌++◌, ◌<◌, ◌^◌, ◌∷◌, ◌≡◌, ◌≢◌, ◌⊎◌, AllSegments, AllSegments-drop, cond_both, bytes_eq, last_digit_below, groups_of, octets_of, ip_text, ipv4_text, ipv6_text, IpAddr}
-use Rattle.std.specs.Int.{IsInRange}
-use Rattle.std.specs.List.{All}
+use Rattle.rpki_addr.proofs.Common.{List, [], arith, codes, drop, get_or, inl, inr, lit<, lit≤, subst, suc, take, zero, ℕ, ◌++◌, ◌<◌, ◌^◌, ◌∷◌, ◌≡◌, ◌≢◌, ◌⊎◌, All-hex_groups_text, All-ipv4_text, IsDigitOrDot, AllSegments, AllSegments-drop, cond_both, All-append, All-from_recursion, All-weaker, IsInRange, All, bytes_eq, last_digit_below, groups_of, octets_of, ip_text, ipv4_text, ipv6_text, IpAddr}
 use Rattle.std.specs.Net.Addr.{octets_of as net_octets_of}
 use Rattle.std.specs.Net.Text as std
-use Rattle.std.proofs.NetLemmas.Alphabet.{IsDigitOrDot, All-ipv4_text, All-hex_groups_text}
-use Rattle.std.proofs.lemmas.List.Elements.{All-weaker, All-append, All-from_recursion}
 use Rattle.rpki_text.specs.Cuts.{HasNo, slash, dash}
 use Rattle.rpki_addr.proofs.AddressLemmas.{dotted_is}
 

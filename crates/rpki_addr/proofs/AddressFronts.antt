@@ -1,14 +1,6 @@
 -- Texts that begin with an address: what std's readers find at their front, and of which bytes an address is made.
-use Rattle.std.proofs.Common.{◌≡◌, ℕ, List, Option, Some, None, option_map, sym, ap, ◌∙◌, subst}
-use Rattle.std.specs.Net.Reader.{read_ipv4, read_ipv6}
-use Rattle.std.proofs.NetLemmas.Ipv4.{read_ipv4_sound, read_ipv4_complete}
-use Rattle.std.proofs.NetLemmas.Ipv6.{read_ipv6_sound, read_ipv6_complete}
-use Rattle.std.proofs.NetLemmas.Options.{same_parts}
-use Rattle.std.proofs.lemmas.Option.{none-some, same_Some}
-use Rattle.rpki_text.specs.Digits.{from_octets, from_groups}
+use Rattle.rpki_addr.proofs.Common.{List, None, Option, Some, ap, option_map, subst, sym, ℕ, ◌∙◌, ◌≡◌, read_ipv4_complete, read_ipv4_sound, read_ipv6_complete, read_ipv6_sound, same_parts, none-some, same_Some, read_ipv4, read_ipv6, from_groups, from_octets, with_number, with_octets, IsIpv4Text, IsIpv6Text}
 use Rattle.rpki_addr.specs.AddressFronts.{IsAtFront, EndsIpv4, EndsIpv6}
-use Rattle.rpki_addr.specs.AddressReading.{with_octets, with_number}
-use Rattle.rpki_addr.specs.AddressText.{IsIpv4Text, IsIpv6Text}
 use Rattle.rpki_addr.proofs.AddressLemmas.{IsDotted-ipv4, IsIpv4Text-dotted, IsColonHex-groups, IsGroupsText-colon_hex}
 
 -- what was read, as a number

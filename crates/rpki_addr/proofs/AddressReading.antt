@@ -1,8 +1,6 @@
 -- Digits at the front of a text, as std's readers take them.
-use Rattle.rpki_addr.proofs.Common.{Bool, List, None, Some, [], ap, append-nil, append_assoc, arith, cond, decimal, drop, drop_at, eq-eqb, false, get_or, inl, inr, le-ltb, length, length-drop, lit≤, nat_le, nat_lt, ne_eqb, option_and_then, option_map, refl, subst, sym, take, true≢false, ℕ, ◌&&◌, ◌*◌, ◌++◌, ◌+◌, ◌-◌, ◌<◌, ◌==◌, ◌^◌, ◌∙◌, ◌∷◌, ◌≡◌, ◌≢◌, ◌≤◌, pow-le-pow_right, read_ipv4_complete, read_ipv4_sound, read_octet_sound, EndsGroups-nil, read_ipv6_complete, read_ipv6_sound, cases_eq, cases_lt, nat_tests, decimal_digit, decimal_is_IsNumeral, first_decimal, digits_value-lt, get_or_append_left, take_all, none-some, same_Some, digit_value, Read, digit_count, read_ipv4, read_ipv4_if, read_ipv6, read_number, read_octet, read_segment, whole_value, from_groups, from_octets, with_number, with_octets}
+use Rattle.rpki_addr.proofs.Common.{Bool, List, None, Some, [], ap, append-nil, append_assoc, arith, cond, decimal, drop, drop_at, eq-eqb, false, get_or, inl, inr, le-ltb, length, length-drop, lit≤, nat_le, nat_lt, ne_eqb, option_and_then, option_map, refl, subst, sym, take, true≢false, ℕ, ◌&&◌, ◌*◌, ◌++◌, ◌+◌, ◌-◌, ◌<◌, ◌==◌, ◌^◌, ◌∙◌, ◌∷◌, ◌≡◌, ◌≢◌, ◌≤◌, pow-le-pow_right, read_ipv4_complete, read_ipv4_sound, read_octet_sound, EndsGroups-nil, read_ipv6_complete, read_ipv6_sound, cases_eq, cases_lt, nat_tests, decimal_digit, decimal_is_IsNumeral, first_decimal, digits_value-lt, get_or_append_left, take_all, none-some, same_Some, digit_value, IsColonHex, IsDotted, Read, digit_count, read_ipv4, read_ipv4_if, read_ipv6, read_number, read_octet, read_segment, whole_value, AllDigits, IsNumeral, digits_value, from_groups, from_octets, with_number, with_octets}
 use Rattle.rpki_addr.proofs.PrintLemmas.{decimal_two, decimal_three}
-use Rattle.std.specs.Str.Parse.{AllDigits, IsNumeral, digits_value}
-use Rattle.std.specs.Net.Grammar.{IsDotted, IsColonHex}
 use Rattle.std.proofs.NetLemmas.Numbers.{NoDigit, read_number_some, read_number_large, read_number_empty, digit_count-append}
 
 -- no digit, no octet

@@ -1,6 +1,5 @@
 -- Groups as one number while they are read.
-use Rattle.rpki_addr.proofs.Common.{Bool, Bor, List, None, Some, [], ap, append-nil, append_assoc, ap₂, arith, cond, false, length, length-append, lit<, lit≤, nat_lt, ne_eqb, option_and_then, option_map, refl, replicate, subst, suc, sym, true, zero, ℕ, ◌%◌, ◌*◌, ◌++◌, ◌+◌, ◌-◌, ◌/◌, ◌<◌, ◌==◌, ◌^◌, ◌∙◌, ◌∷◌, ◌≡◌, ◌≢◌, ◌≤◌, add-mul, mul-le-mul_left, mul-one, mul_assoc, pow-le-pow_right, pow-succ', pow-zero, read_ipv4_sound, ltb-true, nat_tests, number_after_append, number_push, length-replicate, mul-add-lt, pow-add, none-some, number_from_digits_after, segments_of, Read, Segments, after, read_byte, read_ipv4, read_ipv4_if, read_ipv6, read_segment, read_segments, read_separator, read_tail, below_power, next_below, from_groups, from_octets, numbered, with_number, with_octets, IsSoFar, parts}
-use Rattle.std.proofs.NetLemmas.Options.{same_parts}
+use Rattle.rpki_addr.proofs.Common.{Bool, Bor, List, None, Some, [], ap, append-nil, append_assoc, ap₂, arith, cond, false, length, length-append, lit<, lit≤, nat_lt, ne_eqb, option_and_then, option_map, refl, replicate, subst, suc, sym, true, zero, ℕ, ◌%◌, ◌*◌, ◌++◌, ◌+◌, ◌-◌, ◌/◌, ◌<◌, ◌==◌, ◌^◌, ◌∙◌, ◌∷◌, ◌≡◌, ◌≢◌, ◌≤◌, add-mul, mul-le-mul_left, mul-one, mul_assoc, pow-le-pow_right, pow-succ', pow-zero, read_ipv4_sound, same_parts, ltb-true, nat_tests, number_after_append, number_push, length-replicate, mul-add-lt, pow-add, none-some, number_from_digits_after, segments_of, Read, Segments, after, read_byte, read_ipv4, read_ipv4_if, read_ipv6, read_segment, read_segments, read_separator, read_tail, below_power, next_below, from_groups, from_octets, numbered, with_number, with_octets, IsSoFar, parts}
 use Rattle.rpki_addr.specs.declared.addr.read.Groups.{Groups}
 use Rattle.rpki_addr.proofs.AddressLemmas.{two_groups}
 

@@ -1,10 +1,5 @@
 -- What a buffer has after several writes, and what the digits of an octet and of a group are.
-use Rattle.std.proofs.Common.{◌≡◌, ℕ, ◌+◌, ◌/◌, ◌%◌, ◌<◌, ◌≤◌, List, [], ◌∷◌, ◌++◌, take, drop, codes, decimal, arith, refl, ap, ◌∙◌, append_assoc, le-leb, lt-ltb, le-ltb}
-use Rattle.std.specs.Char.{digit_char}
-use Rattle.std.specs.Net.Text.{hex, groups_text, hex_groups_text, longest_zero_run}
-use Rattle.std.proofs.lemmas.Bool.{lt-leb}
-use Rattle.std.proofs.lemmas.Fmt.{decimal_digit, decimal_step}
-use Rattle.rpki_addr.specs.AddressText.{dotted}
+use Rattle.rpki_addr.proofs.Common.{List, [], ap, append_assoc, arith, codes, decimal, drop, le-leb, le-ltb, lt-ltb, refl, take, ℕ, ◌%◌, ◌++◌, ◌+◌, ◌/◌, ◌<◌, ◌∙◌, ◌∷◌, ◌≡◌, ◌≤◌, lt-leb, decimal_digit, decimal_step, digit_char, groups_text, hex, hex_groups_text, longest_zero_run, dotted}
 use Rattle.rpki_addr.proofs.AddressLemmas.{dotted_is}
 
 -- two, three and four bytes at the end

@@ -1,16 +1,5 @@
 -- The bytes of which the text of an address is made.
-use Rattle.std.proofs.Common.{◌≡◌, ◌⊎◌, ◌<◌, ◌^◌, ℕ, zero, suc, Bool, true, false, List, [], ◌∷◌, ◌++◌, length, length-append, codes, decimal, get_or, arith, lit<, lit≤, refl, sym, ap, ◌∙◌, subst, inl, inr}
-use Rattle.std.specs.Char.{digit_value}
-use Rattle.std.specs.Int.{IsInRange}
-use Rattle.std.specs.List.{All, Contains, AllByRecursion}
-use Rattle.std.specs.Net.Addr.{segments_of}
-use Rattle.std.specs.Net.Grammar.{IsDotted, IsGroupsAfter, IsColonHex}
-use Rattle.std.specs.Str.Parse.{AllDigits}
-use Rattle.std.proofs.NetLemmas.Alphabet.{IsDigitOrDot, All-ipv4_text}
-use Rattle.std.proofs.lemmas.Bool.Decides.{nat_tests}
-use Rattle.std.proofs.lemmas.Fmt.{decimal_is_IsNumeral}
-use Rattle.std.proofs.lemmas.List.Elements.{All-nil, All-weaker, All-append, All-from_recursion, Contains-append_left, Contains-append_right}
-use Rattle.rpki_addr.specs.AddressText.{IsIpv4Text, IsIpv6Text}
+use Rattle.rpki_addr.proofs.Common.{Bool, List, [], ap, arith, codes, decimal, false, get_or, inl, inr, length, length-append, lit<, lit≤, refl, subst, suc, sym, true, zero, ℕ, ◌++◌, ◌<◌, ◌^◌, ◌∙◌, ◌∷◌, ◌≡◌, ◌⊎◌, All-ipv4_text, IsDigitOrDot, nat_tests, decimal_is_IsNumeral, All-append, All-from_recursion, All-nil, All-weaker, Contains-append_left, Contains-append_right, digit_value, IsInRange, All, AllByRecursion, Contains, segments_of, IsColonHex, IsDotted, IsGroupsAfter, AllDigits, IsIpv4Text, IsIpv6Text}
 use Rattle.rpki_addr.proofs.AddressLemmas.{IsIpv4Text-dotted, IsGroupsText-colon_hex}
 
 -- a dot, a hexadecimal digit or a colon, among others, but no slash

@@ -1,43 +1,8 @@
 -- What is written of sets of AS numbers, and that it is read back.
-use Rattle.std.proofs.Common.{◌≡◌, ℕ, zero, suc, ◌+◌, ◌*◌, ◌^◌, ◌<◌, ◌≤◌, ◌↔◌, true, List, None, [], ◌∷◌, ◌++◌, length, map, get_or, Result, Ok, refl, sym, ap, subst, ◌∙◌, arith, ⊎_elim}
-use Rattle.std.specs.List.{AllByRecursion, flat_map}
+use Rattle.rpki_as.proofs.Common.{List, None, Ok, Result, [], ap, arith, get_or, length, map, refl, subst, suc, sym, true, zero, ℕ, ◌*◌, ◌++◌, ◌+◌, ◌<◌, ◌^◌, ◌↔◌, ◌∙◌, ◌∷◌, ◌≡◌, ◌≤◌, cases_lt, eq-eqb, ne_eqb, length-append, recursion_from_All, flat_map-map, AllByRecursion, flat_map, block_numbers, block_spelled, block_written, length-content, length-number, IsAsBlock, as_block_octets, as_block_has_octets, as_block_reading, next_block_modal, IsNextBlock, IsStrictBlock, as_block_at, next_block_by, new_as_block_bounds, as_bounds, new_as_block, AsBlock, reads_said_by, exact_said_by, reads_same, refused_said_by, sequence_modal, takes_said_by, values_stateless, sequence_reading, IsSequenceFrom, IsSequenceOf, NotCanonicalOrMemory, ReadsOrMemory, TakesSaidOrMemory, IsWritten, set_spelled, spelled_set, taken_chain, IsRunsOf-unique, same_numbers, Holds, IsRunsOfBlocks, Runs, Covers, IsChain, one_front, length-header, IsBytes, OneFront, Refines, Spells, sequence_value, IsModal, IsReading, refined, tagged_at, Lenient, Strict, is_strict, left, Cursor, DerError, IsMemory, OrMemory, IsAsBlockSequence, as_run_octets, as_sequence_octets, as_set_octets, as_blocks_at, as_blocks_by, greatest_of_as_block, IsAsSet}
 use Rattle.std.specs.Prelude.{MatchResult}
-use Rattle.std.proofs.lemmas.Bool.{cases_lt, eq-eqb, ne_eqb}
-use Rattle.std.proofs.lemmas.List.{length-append}
-use Rattle.std.proofs.lemmas.List.Elements.{recursion_from_All}
-use Rattle.std.proofs.lemmas.List.Folds.{flat_map-map}
-use Rattle.rpki_chain.specs.Runs.{Runs, Holds, IsRunsOfBlocks}
-use Rattle.rpki_chains.specs.Sets.{Covers, IsChain}
-use Rattle.rpki_chain.proofs.Ascending.{IsWritten, set_spelled, spelled_set, taken_chain}
-use Rattle.rpki_chain.proofs.RunLists.{IsRunsOf-unique, same_numbers}
 use Rattle.rpki_chain.proofs.SetLemmas.{bounds_made, made_of_set}
-use Rattle.rpki_der.specs.declared.cursor.Cursor.{Cursor}
-use Rattle.rpki_der.specs.declared.error.DerError.{DerError}
-use Rattle.rpki_der.specs.Der.{IsBytes, OneFront, Refines, Spells, header, sequence_value}
-use Rattle.rpki_der.specs.Reading.{IsModal, IsReading, refined, tagged_at}
-use Rattle.rpki_der.specs.Views.{Lenient, Strict, is_strict, left}
-use Rattle.rpki_der.proofs.Readings.{one_front}
-use Rattle.rpki_der.proofs.Written.{length-header}
-use Rattle.rpki_base.specs.DerReading.{IsSequenceFrom, IsSequenceOf}
-use Rattle.rpki_base.specs.DerViews.{NotCanonicalOrMemory, ReadsOrMemory, TakesSaidOrMemory}
-use Rattle.rpki_text.specs.Memory.{IsMemory}
-use Rattle.rpki_text.specs.declared.memory.OrMemory.{OrMemory}
-use Rattle.rpki_base.proofs.DerCursors.{reads_said_by}
-use Rattle.rpki_base.proofs.DerModes.{exact_said_by, reads_same, refused_said_by, sequence_modal, takes_said_by, values_stateless}
-use Rattle.rpki_base.proofs.DerReadings.{sequence_reading}
 use Rattle.rpki_base.proofs.DerWriting.{sequence_written, written_alike}
-use Rattle.rpki_as.specs.AsDer.{IsAsBlockSequence, as_run_octets, as_sequence_octets, as_set_octets}
-use Rattle.rpki_as_block.specs.AsDer.{IsAsBlock, as_block_octets, as_range_content}
-use Rattle.rpki_as_block.specs.AsDerLaws.{as_block_has_octets, as_block_reading}
-use Rattle.rpki_as_block.specs.AsDerModes.{IsNextBlock, IsStrictBlock}
-use Rattle.rpki_as_block.specs.AsDerModeLaws.{next_block_modal}
-use Rattle.rpki_as.specs.AsDerReading.{as_blocks_at, as_blocks_by, greatest_of_as_block}
-use Rattle.rpki_as_block.specs.AsDerReading.{as_block_at, next_block_by}
-use Rattle.rpki_as_block.specs.BlockFormLaws.{new_as_block_bounds}
-use Rattle.rpki_as.specs.Blocks.{IsAsSet}
-use Rattle.rpki_as_block.specs.Blocks.{as_bounds, new_as_block}
-use Rattle.rpki_as_block.specs.declared.block.AsBlock.{AsBlock}
-use Rattle.rpki_as_block.proofs.AsDerLemmas.{block_numbers, block_spelled, block_written, length-content, length-number}
 
 -- ---- the blocks of a set
 

@@ -1,15 +1,7 @@
 -- The numbers of the blocks of a set, and how many they are.
-use Rattle.std.proofs.Common.{◌≡◌, ℕ, ◌+◌, ◌<◌, ◌≤◌, ◌^◌, List, [], ◌∷◌, length, get_or, map, refl, ap, ◌∙◌, take, subst, arith}
-use Rattle.std.proofs.lemmas.List.{take_more, length-append, append-nil}
+use Rattle.rpki_as.proofs.Common.{List, [], ap, arith, get_or, length, map, refl, subst, take, ℕ, ◌+◌, ◌<◌, ◌^◌, ◌∙◌, ◌∷◌, ◌≡◌, ◌≤◌, append-nil, length-append, take_more, flat_map-map, length-flat_map-take, length-numbers_within, as_bounds, IsListOf, IsSizeOf, numbers_of, numbers_within, AsBlock, Holds, IsAsSet}
 use Rattle.std.proofs.lemmas.List.Concat.{flat_map-append}
-use Rattle.std.proofs.lemmas.List.Folds.{flat_map-map, length-flat_map-take}
-use Rattle.rpki_chain.specs.Runs.{Holds}
-use Rattle.rpki_as.specs.Blocks.{IsAsSet}
-use Rattle.rpki_as_block.specs.Blocks.{as_bounds}
-use Rattle.rpki_as_block.specs.Numbers.{IsListOf, IsSizeOf, numbers_within, numbers_of}
-use Rattle.rpki_as_block.specs.declared.block.AsBlock.{AsBlock}
 use Rattle.rpki_as.proofs.NumberLemmas.{IsListOf-runs, size_below}
-use Rattle.rpki_as_block.proofs.NumberLemmas.{length-numbers_within}
 
 -- the numbers of the blocks, block by block, are those of the set
 pub IsListOf-blocks : (blocks : List AsBlock) → IsAsSet (map as_bounds blocks) → IsListOf (Holds (map as_bounds blocks)) (numbers_of blocks)

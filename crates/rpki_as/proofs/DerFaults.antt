@@ -1,19 +1,11 @@
 -- AS resources are refused for a list of no blocks exactly where a SEQUENCE of nothing stands in the values that
 -- enclose it, whose ends are looked at behind it.
-use Rattle.std.proofs.Common.{◌≡◌, ℕ, ◌≤◌, ◌↔◌, List, Result, Ok, Err, arith}
-use Rattle.rpki_der.specs.declared.error.DerError.{DerError}
+use Rattle.rpki_as.proofs.Common.{Err, List, Ok, Result, arith, ℕ, ◌↔◌, ◌≡◌, ◌≤◌, as_block_at, AsBlock, enclosed_at, only, values_of, choice_at, ResourcesChoice, ended, tagged_at, ◌>>=◌, DerError, as_blocks_at, as_choice_at}
 use Rattle.rpki_der.specs.declared.error.DerError.TheVariants.{EmptyBlocks, NotCanonical}
-use Rattle.rpki_der.specs.Reading.{◌>>=◌, ended, tagged_at}
 use Rattle.rpki_base.specs.DerFaults.{BeginsEmpty, BeginsWithValue}
-use Rattle.rpki_base.specs.DerReading.{enclosed_at, only, values_of}
 use Rattle.rpki_base.proofs.DerFaults.{NamesTo, begins_value, bind_names, enclosed_fails, ended_names, names_more, no_values, not_named, refined_names, tagged_names, values_names}
-use Rattle.rpki_chain.specs.ChoiceDer.{choice_at}
-use Rattle.rpki_chain.specs.declared.choice.ResourcesChoice.{ResourcesChoice}
 use Rattle.rpki_chain.proofs.ChoiceFaults.{choice_fails, choice_names}
-use Rattle.rpki_as_block.specs.AsDerReading.{as_block_at}
-use Rattle.rpki_as_block.specs.declared.block.AsBlock.{AsBlock}
 use Rattle.rpki_as_block.proofs.DerFaults.{block_names}
-use Rattle.rpki_as.specs.AsDerReading.{as_blocks_at, as_choice_at}
 
 abbrev choice : List ℕ → Result (ResourcesChoice (List AsBlock) × List ℕ) DerError
 choice = choice_at (values_of as_block_at)

@@ -1,29 +1,10 @@
 -- A text writes one set at most, or has one first fault; what is printed of a set writes it.
-use Rattle.std.proofs.Common.{◌≡◌, ℕ, ◌≤◌, ◌<◌, ◌^◌, List, [], ◌∷◌, ◌++◌, map, Result, MatchResult, arith, lit≤, refl, sym, subst}
+use Rattle.rpki_as.proofs.Common.{List, MatchResult, Result, [], arith, lit≤, map, refl, subst, sym, ℕ, ◌++◌, ◌<◌, ◌^◌, ◌∷◌, ◌≡◌, ◌≤◌, All-head, All-tail, All, AllByRecursion, IsAsBlockText-block_text, IsAsBlockText-one, block_apart, same_block_fault, new_as_block_bounds, HasAsBlockFault, IsAsBlockText, as_block_text, as_bounds, new_as_block, AsBlock, Id, Range, FromStrError, IsRunsOf-unique, IsRunsOfBlocks-bounds, IsRunsOfBlocks, Runs, Covers, AnswersOrMemory-from_found, HaveValues-one, first_fault_apart, same_first_fault, HaveValues, elements, IfRefused, AnswersOrMemory, OrMemory, IsAsSet, HasAsListFault, IsAsListText, as_list_text}
 use Rattle.std.specs.Int.{IsInRange}
-use Rattle.std.specs.List.{All, AllByRecursion}
-use Rattle.std.proofs.lemmas.List.Elements.{All-head, All-tail}
 use Rattle.rpki_base.specs.AsnText.{asn_text}
 use Rattle.rpki_text.specs.Cuts.{dash}
-use Rattle.rpki_text.specs.Lists.{elements, HaveValues}
-use Rattle.rpki_text.specs.Memory.{IfRefused}
-use Rattle.rpki_text.specs.Reading.{AnswersOrMemory}
-use Rattle.rpki_text.specs.declared.memory.OrMemory.{OrMemory}
 use Rattle.rpki_base.proofs.AsnLemmas.{asn_text_bytes}
-use Rattle.rpki_text.proofs.ListLemmas.{AnswersOrMemory-from_found, HaveValues-one, first_fault_apart, same_first_fault}
 use Rattle.rpki_text.proofs.PrintedLemmas.{IsShown, IsElement, elements-joined}
-use Rattle.rpki_chains.specs.Sets.{Covers}
-use Rattle.rpki_chain.specs.Runs.{Runs, IsRunsOfBlocks}
-use Rattle.rpki_chain.proofs.RunLists.{IsRunsOf-unique, IsRunsOfBlocks-bounds}
-use Rattle.rpki_as_block.specs.BlockFormLaws.{new_as_block_bounds}
-use Rattle.rpki_as.specs.Blocks.{IsAsSet}
-use Rattle.rpki_as_block.specs.Blocks.{as_bounds, new_as_block}
-use Rattle.rpki_as_block.specs.BlockText.{IsAsBlockText, HasAsBlockFault, as_block_text}
-use Rattle.rpki_as.specs.ListText.{IsAsListText, HasAsListFault, as_list_text}
-use Rattle.rpki_as_block.specs.declared.block.AsBlock.{AsBlock}
-use Rattle.rpki_as_block.specs.declared.block.AsBlock.TheVariants.{Id, Range}
-use Rattle.rpki_as_block.specs.declared.error.FromStrError.{FromStrError}
-use Rattle.rpki_as_block.proofs.BlockLemmas.{IsAsBlockText-one, IsAsBlockText-block_text, block_apart, same_block_fault}
 
 -- a text writes one set at most
 pub IsAsListText-one : (text : List ℕ) (a b : Runs) → IsAsListText text a → IsAsListText text b → a ≡ b

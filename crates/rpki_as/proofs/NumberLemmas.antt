@@ -1,18 +1,8 @@
 -- Lists of numbers: those of runs, one after the other.
-use Rattle.std.proofs.Common.{◌≡◌, ℕ, zero, suc, ◌+◌, ◌-◌, ◌<◌, ◌≤◌, ◌↔◌, ◌⊎◌, inl, inr, ⊎_elim, List, [], ◌∷◌, ◌++◌, length, get_or, refl, ap, ◌∙◌, arith, Option, Some, None}
-use Rattle.std.specs.List.{All, AllPairs, Contains, flat_map}
+use Rattle.rpki_as.proofs.Common.{List, None, Option, Some, [], ap, arith, get_or, inl, inr, length, refl, suc, zero, ℕ, ⊎_elim, ◌++◌, ◌+◌, ◌-◌, ◌<◌, ◌↔◌, ◌∙◌, ◌∷◌, ◌≡◌, ◌≤◌, ◌⊎◌, cases_lt, get_or-append_right, get_or_append_left, length-append, All-tail, Contains-append_cases, Contains-append_left, Contains-append_right, Contains-get_or, All, AllPairs, Contains, flat_map, IsListOf-numbers_within, length-numbers_within, as_bounds, IsListOf, IsSizeOf, numbers_within, AsBlock, Holds, Runs, IsWithin}
 use Rattle.std.specs.Iterator.{YieldsFirst}
-use Rattle.std.proofs.lemmas.Bool.{cases_lt}
-use Rattle.std.proofs.lemmas.List.{length-append, get_or_append_left, get_or-append_right}
-use Rattle.std.proofs.lemmas.List.Elements.{All-tail, Contains-get_or, Contains-append_left, Contains-append_right, Contains-append_cases}
-use Rattle.rpki_chains.specs.Sets.{IsWithin}
-use Rattle.rpki_chain.specs.Runs.{Runs, Holds}
 use Rattle.rpki_chains.proofs.Chains.{Covers-nil}
 use Rattle.rpki_chains.proofs.Unique.{Covers-head, Covers-tail, Covers-cons_cases}
-use Rattle.rpki_as_block.specs.Blocks.{as_bounds}
-use Rattle.rpki_as_block.specs.declared.block.AsBlock.{AsBlock}
-use Rattle.rpki_as_block.specs.Numbers.{IsListOf, IsSizeOf, numbers_within}
-use Rattle.rpki_as_block.proofs.NumberLemmas.{IsListOf-numbers_within, length-numbers_within}
 
 -- two sets of which the one lies below the other: its list stands first
 IsListOf-append : (S U : ℕ → Type 0) (ms ns : List ℕ) → IsListOf S ms → IsListOf U ns → ((m n : ℕ) → S m → U n → m < n) → IsListOf (λ n. S n ⊎ U n) (ms ++ ns)

@@ -1,9 +1,5 @@
 -- Sets of the same numbers alone print alike.
-use Rattle.std.proofs.Common.{◌≡◌, ℕ, ◌↔◌, refl, sym, ap, subst}
-use Rattle.rpki_chain.specs.Runs.{Runs, Holds}
-use Rattle.rpki_chain.proofs.RunLists.{same_numbers}
-use Rattle.rpki_as.specs.Blocks.{IsAsSet}
-use Rattle.rpki_as.specs.ListText.{IsAsListText, as_list_text}
+use Rattle.rpki_as.proofs.Common.{ap, refl, subst, sym, ℕ, ◌↔◌, ◌≡◌, same_numbers, Holds, Runs, IsAsSet, IsAsListText, as_list_text}
 use Rattle.rpki_as.proofs.ListLemmas.{IsAsListText-one, IsAsListText-as_list_text}
 
 -- what is printed of a set is a list text with that set

@@ -1,43 +1,9 @@
 -- What is written of AS resources is read back.
-use Rattle.std.proofs.Common.{◌≡◌, ◌≢◌, ℕ, ◌+◌, ◌^◌, ◌<◌, ◌≤◌, ◌↔◌, true, List, [], ◌∷◌, ◌++◌, length, map, None, Result, Ok, refl, sym, ap, subst, ◌∙◌, arith, ⊎_elim}
-use Rattle.std.specs.Prelude.{MatchResult, ⊤}
-use Rattle.std.proofs.lemmas.Bool.{cases_lt, le-ltb, lt-ltb}
-use Rattle.std.proofs.lemmas.List.{append_assoc, length-append}
-use Rattle.rpki_der.specs.declared.cursor.Cursor.{Cursor}
-use Rattle.rpki_der.specs.declared.error.DerError.{DerError}
-use Rattle.rpki_der.specs.Der.{Each, EachFrom, IsBytes, OneFront, Refines, Spells, header, length_octets, sequence_value, value}
-use Rattle.rpki_der.specs.Reading.{IsModal, IsReading}
-use Rattle.rpki_der.specs.Views.{Lenient, Strict, is_strict, left}
+use Rattle.rpki_as.proofs.Common.{List, None, Ok, Result, [], ap, arith, length, map, refl, subst, sym, true, ℕ, ◌++◌, ◌+◌, ◌^◌, ◌↔◌, ◌∙◌, ◌∷◌, ◌≡◌, ◌≢◌, ◌≤◌, cases_lt, le-ltb, lt-ltb, append_assoc, length-append, ⊤, block_numbers, IsAsBlock, as_block_octets, as_block_has_octets, as_block_reading, next_block_modal, IsNextBlock, IsStrictBlock, as_block_at, next_block_by, as_bounds, new_as_block, AsBlock, reads_said_by, enclosed_modal, exact_said_by, reads_same, refused_said_by, strict_values_check, takes_said_by, values_stateless, values_tighten, enclosed_reading, one_front_said, values_check, Encloses, IsSequenceFrom, IsSequenceOf, values_from, values_of, NotCanonicalOrMemory, ReadsOrMemory, TakesSaidOrMemory, listed_chain, no_numbers, lists_one, IsChoiceOf, choice_at, choice_octets, Claim, IsClaim, IsRunsOfBlocks, Runs, ResourcesChoice, Blocks, Inherit, Missing, IsChain, value_is, Each, EachFrom, IsBytes, OneFront, Refines, Spells, header, length_octets, sequence_value, value, IsModal, IsReading, Lenient, Strict, is_strict, left, Cursor, DerError, IsMemory, OrMemory, IsAsChoice, IsAsResources, IsPresentAsClaim, as_resources_octets, as_sequence_octets, as_choice_at, as_choice_by, greatest_of_as_block, IsAsSet}
+use Rattle.std.specs.Prelude.{MatchResult}
 use Rattle.rpki_der.proofs.Numbers.{length-octets}
-use Rattle.rpki_der.proofs.Written.{value_is}
-use Rattle.rpki_text.specs.Memory.{IsMemory}
-use Rattle.rpki_text.specs.declared.memory.OrMemory.{OrMemory}
-use Rattle.rpki_base.specs.DerReading.{Encloses, IsSequenceFrom, IsSequenceOf, enclosed_at, values_from, values_of}
-use Rattle.rpki_base.specs.DerViews.{NotCanonicalOrMemory, ReadsOrMemory, TakesSaidOrMemory}
-use Rattle.rpki_base.proofs.DerCursors.{reads_said_by}
-use Rattle.rpki_base.proofs.DerModes.{enclosed_modal, exact_said_by, reads_same, refused_said_by, strict_values_check, takes_said_by, values_stateless, values_tighten}
-use Rattle.rpki_base.proofs.DerReadings.{enclosed_reading, one_front_said, values_check}
-use Rattle.rpki_chain.specs.declared.choice.ResourcesChoice.{ResourcesChoice}
-use Rattle.rpki_chain.specs.declared.choice.ResourcesChoice.TheVariants.{Missing, Inherit, Blocks}
-use Rattle.rpki_chain.specs.ChoiceDer.{IsChoiceOf, choice_at, choice_octets}
 use Rattle.rpki_chain.specs.Choices.{ListsBy, MatchChoice}
-use Rattle.rpki_chain.specs.Claims.{Claim, IsClaim}
-use Rattle.rpki_chain.specs.Runs.{Runs, IsRunsOfBlocks}
-use Rattle.rpki_chains.specs.Sets.{IsChain}
-use Rattle.rpki_chain.proofs.Ascending.{listed_chain, no_numbers}
 use Rattle.rpki_chain.proofs.ChoiceReadings.{choice_modal, choice_reading, has_numbers}
-use Rattle.rpki_chain.proofs.ClaimLemmas.{lists_one}
-use Rattle.rpki_as.specs.AsDer.{IsAsChoice, IsAsResources, IsPresentAsClaim, as_resources_octets, as_sequence_octets, as_set_octets}
-use Rattle.rpki_as_block.specs.AsDer.{IsAsBlock, as_block_octets}
-use Rattle.rpki_as_block.specs.AsDerLaws.{as_block_has_octets, as_block_reading}
-use Rattle.rpki_as_block.specs.AsDerModes.{IsNextBlock, IsStrictBlock}
-use Rattle.rpki_as_block.specs.AsDerModeLaws.{next_block_modal}
-use Rattle.rpki_as.specs.AsDerReading.{as_choice_at, as_choice_by, greatest_of_as_block}
-use Rattle.rpki_as_block.specs.AsDerReading.{as_block_at, next_block_by}
-use Rattle.rpki_as.specs.Blocks.{IsAsSet}
-use Rattle.rpki_as_block.specs.Blocks.{as_bounds, new_as_block}
-use Rattle.rpki_as_block.specs.declared.block.AsBlock.{AsBlock}
-use Rattle.rpki_as_block.proofs.AsDerLemmas.{block_numbers}
 use Rattle.rpki_as.proofs.AsDerLemmas.{blocks_say, one_set, sequence_blocks, sequence_spelled, set_octets_few, spelled_sequence, strict_blocks}
 
 -- ---- readings

@@ -1,26 +1,7 @@
 -- A text writes one claim at most, or has one fault; what is printed of resources writes them.
-use Rattle.std.proofs.Common.{◌≡◌, ℕ, List, [], ◌∷◌, ◌++◌, Result, MatchResult, codes, refl, ap, ◌∙◌, slice_index, map, arith, Bool, true, false}
-use Rattle.std.specs.List.{flat_map}
+use Rattle.rpki_as.proofs.Common.{Bool, List, MatchResult, Result, [], ap, arith, codes, false, map, refl, slice_index, true, ℕ, ◌++◌, ◌∙◌, ◌∷◌, ◌≡◌, flat_map, block_apart, same_block_fault, HasAsBlockFault, IsAsBlockText, as_block_text, new_as_block, AsBlock, Id, Range, FromStrError, empty_set, Claim, IsClaim, claim_of, Runs, Blocks, Inherit, Missing, AnswersOrMemory-from_found, first_fault_apart, same_first_fault, elements, IfRefused, AnswersOrMemory, OrMemory, IsAsSet, HasAsListFault, IsAsListText, as_list_text, HasAsResourcesFault, IsAsResourcesText, IsInherit, as_resources_text}
 use Rattle.std.specs.Bool.{Decides}
-use Rattle.rpki_text.specs.Lists.{elements}
-use Rattle.rpki_text.specs.Memory.{IfRefused}
-use Rattle.rpki_text.specs.Reading.{AnswersOrMemory}
-use Rattle.rpki_text.specs.declared.memory.OrMemory.{OrMemory}
 use Rattle.rpki_text.specs.declared.memory.OrMemory.TheVariants.{Refused, Memory}
-use Rattle.rpki_text.proofs.ListLemmas.{AnswersOrMemory-from_found, first_fault_apart, same_first_fault}
-use Rattle.rpki_chain.specs.Claims.{Claim, IsClaim, claim_of}
-use Rattle.rpki_chain.specs.Runs.{Runs}
-use Rattle.rpki_chain.specs.declared.choice.ResourcesChoice.TheVariants.{Missing, Inherit, Blocks}
-use Rattle.rpki_chain.proofs.ClaimLemmas.{empty_set}
-use Rattle.rpki_as.specs.Blocks.{IsAsSet}
-use Rattle.rpki_as_block.specs.Blocks.{new_as_block}
-use Rattle.rpki_as_block.specs.BlockText.{IsAsBlockText, HasAsBlockFault, as_block_text}
-use Rattle.rpki_as.specs.ListText.{IsAsListText, HasAsListFault, as_list_text}
-use Rattle.rpki_as.specs.ResourcesText.{IsInherit, IsAsResourcesText, HasAsResourcesFault, as_resources_text}
-use Rattle.rpki_as_block.specs.declared.block.AsBlock.{AsBlock}
-use Rattle.rpki_as_block.specs.declared.block.AsBlock.TheVariants.{Id, Range}
-use Rattle.rpki_as_block.specs.declared.error.FromStrError.{FromStrError}
-use Rattle.rpki_as_block.proofs.BlockLemmas.{block_apart, same_block_fault}
 use Rattle.rpki_as.proofs.ListLemmas.{IsAsListText-as_list_text, IsAsListText-one}
 
 -- what isn't told isn't so

@@ -1,23 +1,10 @@
 -- Blocks that strict cursors take one after another: they are a chain, and the octets are what is written of their set.
-use Rattle.std.proofs.Common.{◌≡◌, ℕ, suc, ◌+◌, ◌^◌, ◌<◌, ◌≤◌, List, [], ◌∷◌, ◌++◌, length, map, Option, Some, None, refl, sym, ap, subst, ◌∙◌, arith}
-use Rattle.std.specs.Prelude.{All, AllPairs, ⊤}
-use Rattle.std.proofs.lemmas.List.Elements.{All-cons, All-map, All-nil, All-tail}
+use Rattle.rpki_chain.proofs.Common.{List, None, Option, Some, [], ap, arith, length, map, refl, subst, suc, sym, ℕ, ◌++◌, ◌+◌, ◌<◌, ◌^◌, ◌∙◌, ◌∷◌, ◌≡◌, ◌≤◌, All-cons, All-map, All-nil, All-tail, All, AllPairs, ⊤, IsSequenceFrom, Covers-nil, IsChain-nil, Covers-head, Covers, IsChain, IsNew, EachFrom, IsValue, Refines, Spells, Where, sequence_value, IsBlockChain, IsBlockSet, IsChoiceOf, ListsBy, MatchChoice, IsRunsOfBlocks, Runs, ResourcesChoice, Blocks, Inherit, Missing}
 use Rattle.std.proofs.lemmas.List.Folds.{flat_map-map}
 use Rattle.std.proofs.lemmas.List.Kept.{AllPairs-cons}
 use Rattle.rpki_chains.specs.Beyond.{IsBeyond}
-use Rattle.rpki_chains.specs.Sets.{Covers, IsChain, IsNew}
-use Rattle.rpki_chains.proofs.Chains.{Covers-nil, IsChain-nil}
-use Rattle.rpki_chains.proofs.Unique.{Covers-head}
-use Rattle.rpki_der.specs.Der.{EachFrom, IsValue, Refines, Spells, Where, sequence_value}
 use Rattle.rpki_der.proofs.Written.{value_is}
-use Rattle.rpki_base.specs.DerReading.{IsSequenceFrom}
 use Rattle.rpki_base.specs.DerWriting.{octets_of_all, sequence_octets}
-use Rattle.rpki_chain.specs.BlockSets.{IsBlockChain, IsBlockSet}
-use Rattle.rpki_chain.specs.ChoiceDer.{IsChoiceOf}
-use Rattle.rpki_chain.specs.Choices.{ListsBy, MatchChoice}
-use Rattle.rpki_chain.specs.declared.choice.ResourcesChoice.{ResourcesChoice}
-use Rattle.rpki_chain.specs.declared.choice.ResourcesChoice.TheVariants.{Missing, Inherit, Blocks}
-use Rattle.rpki_chain.specs.Runs.{Runs, IsRunsOfBlocks}
 use Rattle.rpki_chain.proofs.RunLists.{IsRunsOf-unique, IsRunsOfBlocks-bounds}
 use Rattle.rpki_chain.proofs.SetLemmas.{IsBlockSet-from_chain, blocks_made, made_of_set}
 

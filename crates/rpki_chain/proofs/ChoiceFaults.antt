@@ -1,13 +1,9 @@
 -- Resources are refused for a list of no blocks exactly where a SEQUENCE of nothing stands, whatever a block is.
-use Rattle.std.proofs.Common.{◌≡◌, ℕ, ◌↔◌, List, [], ◌∷◌, Result, Ok, Err, refl, ap, ◌∙◌, arith}
-use Rattle.rpki_der.specs.declared.error.DerError.{DerError}
+use Rattle.rpki_chain.proofs.Common.{List, Ok, Result, [], ap, arith, refl, ℕ, ◌↔◌, ◌∙◌, ◌∷◌, ◌≡◌, nothing, value_at, DerError, choice_at, choice_in, inherited_in, listed_in, some_in, some_of, ResourcesChoice, Blocks, Inherit}
+use Rattle.std.proofs.Common.{Err}
 use Rattle.rpki_der.specs.declared.error.DerError.TheVariants.{EmptyBlocks}
-use Rattle.rpki_der.specs.Reading.{nothing, value_at}
 use Rattle.rpki_base.specs.DerFaults.{BeginsEmpty}
 use Rattle.rpki_base.proofs.DerFaults.{NamesTo, begins_value, bind_fails, bind_names, by_tag_names, mapped_fails, names_more, not_named, nothing_names, refined_names, sequence_fails, value_names}
-use Rattle.rpki_chain.specs.declared.choice.ResourcesChoice.{ResourcesChoice}
-use Rattle.rpki_chain.specs.declared.choice.ResourcesChoice.TheVariants.{Inherit, Blocks}
-use Rattle.rpki_chain.specs.ChoiceDer.{choice_at, choice_in, inherited_in, listed_in, some_in, some_of}
 
 module _ {X : Type 0} (values : List ℕ → Result (List X) DerError) (names : (content : List ℕ) → NamesTo 10 (values content)) where
   inherited : List ℕ → Result (ResourcesChoice (List X)) DerError

@@ -1,22 +1,11 @@
 -- The reading of resources finds what the grammar says, and nothing else.
-use Rattle.std.proofs.Common.{◌≡◌, ◌≢◌, ℕ, ◌≤◌, Bool, true, List, [], ◌∷◌, Some, Result, Ok, refl, sym, subst, ◌∙◌, arith, inl, inr, slice_get, get_or, ap}
-use Rattle.rpki_der.specs.declared.error.DerError.{DerError}
-use Rattle.rpki_der.specs.Der.{IsBytes, IsNothing, IsSequence, IsTlv, IsValue, Refines}
-use Rattle.rpki_der.specs.Reading.{IsModal, IsReading, Tightens, nothing, value_at}
+use Rattle.rpki_chain.proofs.Common.{Bool, List, Ok, Result, Some, [], ap, arith, get_or, inl, inr, refl, slice_get, subst, sym, true, ℕ, ◌∙◌, ◌∷◌, ◌≡◌, ◌≢◌, ◌≤◌, SaysByTag, Covers-nil, Covers-head, Covers, IsBytes, IsNothing, IsSequence, IsTlv, IsValue, Refines, IsModal, IsReading, Tightens, nothing, value_at, DerError, IsChoiceOf, choice_at, choice_in, inherited_in, listed_in, some_in, some_of, Holds, IsRunsOfBlocks, Runs, ResourcesChoice, Blocks, Inherit, Missing}
 use Rattle.rpki_der.proofs.Contents.{nothing_check}
 use Rattle.rpki_der.proofs.Modes.{bind_tightens, looked_tightens}
 use Rattle.rpki_der.proofs.Readings.{same_reading}
 use Rattle.rpki_der.proofs.Steps.{IsCheck, bind_ok}
-use Rattle.rpki_base.specs.DerReading.{SaysByTag}
 use Rattle.rpki_base.proofs.DerModes.{by_tag_tightens}
 use Rattle.rpki_base.proofs.DerReadings.{by_tag_reading, mapped_check}
-use Rattle.rpki_chain.specs.declared.choice.ResourcesChoice.{ResourcesChoice}
-use Rattle.rpki_chain.specs.declared.choice.ResourcesChoice.TheVariants.{Missing, Inherit, Blocks}
-use Rattle.rpki_chain.specs.ChoiceDer.{IsChoiceOf, choice_at, choice_in, inherited_in, listed_in, some_in, some_of}
-use Rattle.rpki_chain.specs.Runs.{Runs, Holds, IsRunsOfBlocks}
-use Rattle.rpki_chains.specs.Sets.{Covers}
-use Rattle.rpki_chains.proofs.Chains.{Covers-nil}
-use Rattle.rpki_chains.proofs.Unique.{Covers-head}
 
 -- blocks of which the first has a number have numbers
 pub has_numbers : {B : Type 0} (f : B → ℕ × ℕ) (xs : List B) (x : B) (set : Runs) → slice_get xs 0 ≡ Some x → (f x).0 ≤ (f x).1 → IsRunsOfBlocks f xs set → set ≢ []

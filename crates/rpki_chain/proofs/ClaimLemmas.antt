@@ -1,14 +1,6 @@
 -- Claims: when two are one, and that a grammar of resources has those that are written by it.
-use Rattle.std.proofs.Common.{◌≡◌, ℕ, [], refl, sym, ap, ◌∙◌, arith}
-use Rattle.std.specs.Bool.{Decides}
-use Rattle.rpki_chains.specs.Equality.{same_runs}
-use Rattle.rpki_chain.specs.declared.choice.ResourcesChoice.{ResourcesChoice}
-use Rattle.rpki_chain.specs.declared.choice.ResourcesChoice.TheVariants.{Missing, Inherit, Blocks}
-use Rattle.rpki_chain.specs.BlockSets.{IsBlockSet}
+use Rattle.rpki_chain.proofs.Common.{[], ap, arith, refl, sym, ℕ, ◌∙◌, ◌≡◌, Decides, same_runs, IsBlockSet, ListsBy, Claim, Runs, ResourcesChoice, Blocks, Inherit, Missing}
 use Rattle.rpki_chain.specs.ChoiceEquality.{choice_eq}
-use Rattle.rpki_chain.specs.Choices.{ListsBy}
-use Rattle.rpki_chain.specs.Claims.{Claim}
-use Rattle.rpki_chain.specs.Runs.{Runs}
 use Rattle.rpki_chain.proofs.SetLemmas.{same_runs_decides}
 
 -- what two claims list, if they list something

@@ -1,15 +1,6 @@
 -- What an issuer's claim leaves out of a set.
-use Rattle.std.proofs.Common.{◌≡◌, ℕ, ◌↔◌, ◌⊎◌, inl, inr, ⊎_elim, [], sym, subst}
-use Rattle.std.specs.Prelude.{Result, Ok, Err, IsOk, IfErr, IsErrAnd}
-use Rattle.std.proofs.lemmas.Bool.{false≢true}
-use Rattle.rpki_text.specs.declared.memory.OrMemory.{OrMemory}
-use Rattle.rpki_text.specs.declared.memory.OrMemory.TheVariants.{Refused, Memory}
-use Rattle.rpki_text.specs.Memory.{IsMemory, IfRefused}
-use Rattle.rpki_chain.specs.Claims.{Claim}
-use Rattle.rpki_chain.specs.Operations.{IsDifference}
-use Rattle.rpki_chain.specs.Paths.{Leaves, IsCovered, IsUncovered}
-use Rattle.rpki_chain.specs.Runs.{Runs, Holds, IsRunsOf}
-use Rattle.rpki_chain.specs.declared.choice.ResourcesChoice.TheVariants.{Missing, Inherit, Blocks}
+use Rattle.rpki_chain.proofs.Common.{[], inl, inr, subst, sym, ℕ, ⊎_elim, ◌↔◌, ◌≡◌, ◌⊎◌, false≢true, Err, IfErr, IsErrAnd, IsOk, IfRefused, IsMemory, OrMemory, Memory, Refused, Claim, IsDifference, IsCovered, IsUncovered, Leaves, Holds, IsRunsOf, Runs, Blocks, Inherit, Missing}
+use Rattle.std.specs.Prelude.{Result, Ok}
 use Rattle.rpki_chain.proofs.Issued.{none_held}
 use Rattle.rpki_chain.proofs.LawLemmas.{empty_set}
 use Rattle.rpki_chain.proofs.RunLists.{Holds-decided}

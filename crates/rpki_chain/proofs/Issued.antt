@@ -1,20 +1,6 @@
 -- What one claim leaves, and by what it exceeds: each of its outcomes, and that there is one.
-use Rattle.std.proofs.Common.{◌≡◌, ◌≢◌, ℕ, ◌≤◌, ⊎_elim, [], ◌∷◌, refl, sym, subst}
-use Rattle.std.specs.Prelude.{Result, Ok, Err, IsErrAnd, MatchResult}
-use Rattle.std.proofs.Math.Nat.{le_refl}
-use Rattle.std.proofs.lemmas.List.Elements.{All-head}
-use Rattle.rpki_text.specs.declared.memory.OrMemory.{OrMemory}
-use Rattle.rpki_text.specs.declared.memory.OrMemory.TheVariants.{Refused, Memory}
-use Rattle.rpki_text.specs.Memory.{IsMemory, IfRefused}
-use Rattle.rpki_chains.proofs.Chains.{Covers-nil}
-use Rattle.rpki_chains.proofs.Unique.{Covers-head}
-use Rattle.rpki_chain.specs.Claims.{Claim}
-use Rattle.rpki_chain.specs.Operations.{IsIntersection, IsDifference}
-use Rattle.rpki_chain.specs.Paths.{Lists, Leaves, Exceeds, IsIssued, IsExcess}
-use Rattle.rpki_chain.specs.Runs.{Runs, Holds, IsRunsOf}
-use Rattle.rpki_chain.specs.declared.choice.ResourcesChoice.TheVariants.{Inherit, Blocks}
-use Rattle.rpki_chain.specs.declared.path.Overclaim.{Overclaim}
-use Rattle.rpki_chain.specs.declared.path.Overclaim.TheVariants.{Refuse, Trim}
+use Rattle.rpki_chain.proofs.Common.{[], refl, subst, sym, ℕ, ⊎_elim, ◌∷◌, ◌≡◌, ◌≢◌, ◌≤◌, le_refl, All-head, Err, IsErrAnd, MatchResult, Covers-nil, Covers-head, IfRefused, IsMemory, OrMemory, Memory, Refused, Claim, IsDifference, IsIntersection, Exceeds, IsExcess, IsIssued, Leaves, Lists, Holds, IsRunsOf, Runs, Blocks, Inherit, Overclaim, Refuse, Trim}
+use Rattle.std.specs.Prelude.{Result, Ok}
 use Rattle.rpki_chain.proofs.RunLists.{Holds-decided, IsRunsOf-same, IsRunsOf-unique}
 
 -- a call that wants memory answers neither

@@ -1,10 +1,6 @@
 -- Sets with the same numbers are one list of runs, and a set that has a number is not empty.
-use Rattle.std.proofs.Common.{◌≡◌, ℕ, ◌≤◌, ◌↔◌, [], ◌∷◌, refl}
-use Rattle.std.proofs.Math.Nat.{le_refl}
-use Rattle.std.proofs.lemmas.List.Elements.{All-head}
-use Rattle.rpki_chain.specs.Runs.{Runs, IsRunsOf}
+use Rattle.rpki_chain.proofs.Common.{[], refl, ℕ, ◌↔◌, ◌∷◌, ◌≡◌, ◌≤◌, le_refl, All-head, Covers-head, IsRunsOf, Runs}
 use Rattle.rpki_chain.proofs.RunLists.{IsRunsOf-same, IsRunsOf-unique}
-use Rattle.rpki_chains.proofs.Unique.{Covers-head}
 
 -- sets with the same numbers are one
 pub one_set : (S U : ℕ → Type 0) (a b : Runs) → IsRunsOf S a → IsRunsOf U b → ((n : ℕ) → S n ↔ U n) → a ≡ b

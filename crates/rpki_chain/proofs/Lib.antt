@@ -3,6 +3,7 @@ pub mod Ascending
 pub mod ChoiceFaults
 pub mod ChoiceReadings
 pub mod ClaimLemmas
+pub mod Common
 mod Covered
 mod Issued
 mod LawLemmas

@@ -1,15 +1,6 @@
 -- A path of one step, and what holds of what a path leaves.
-use Rattle.std.proofs.Common.{◌≡◌, ℕ, ◌<◌, ◌↔◌, ◌⊎◌, inl, inr, ⊎_elim, List, [], ◌∷◌, length, get_or, take, refl, sym, ap, ◌∙◌, subst, arith, zero, suc}
+use Rattle.rpki_chain.proofs.Common.{List, [], ap, arith, get_or, inl, inr, length, refl, subst, suc, sym, take, zero, ℕ, ⊎_elim, ◌<◌, ◌↔◌, ◌∙◌, ◌∷◌, ◌≡◌, ◌⊎◌, get_or_default, All-cons, All-contains, All-contains_itself, All-head, All-nil, All-tail, All-weaker, Contains, Claim, Exceeds, ExceedsAt, IsExcess, IsFirstRefusal, IsIssued, IsLeft, IsPathResult, Leaves, Lists, one_step, Holds, Runs, Overclaim, Refuse, Trim, Step}
 use Rattle.std.specs.List.{All}
-use Rattle.std.specs.Prelude.{Contains}
-use Rattle.std.proofs.lemmas.List.{get_or_default}
-use Rattle.std.proofs.lemmas.List.Elements.{All-nil, All-cons, All-head, All-tail, All-contains, All-contains_itself, All-weaker}
-use Rattle.rpki_chain.specs.Claims.{Claim}
-use Rattle.rpki_chain.specs.Paths.{Lists, Leaves, Exceeds, IsExcess, IsIssued, IsLeft, ExceedsAt, IsPathResult, IsFirstRefusal, one_step}
-use Rattle.rpki_chain.specs.Runs.{Runs, Holds}
-use Rattle.rpki_chain.specs.declared.path.Overclaim.{Overclaim}
-use Rattle.rpki_chain.specs.declared.path.Overclaim.TheVariants.{Refuse, Trim}
-use Rattle.rpki_chain.specs.declared.path.Step.{Step}
 use Rattle.rpki_chain.proofs.Covered.{Leaves-decided}
 use Rattle.rpki_chain.proofs.LawLemmas.{one_set}
 use Rattle.rpki_chain.proofs.PathSteps.{Exceeds-same, ExceedsAt-step}

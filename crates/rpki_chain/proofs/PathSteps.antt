@@ -1,15 +1,6 @@
 -- One step of a path after another, and that a path has one result or one first refusal.
-use Rattle.std.proofs.Common.{◌≡◌, ℕ, ◌+◌, ◌<◌, ◌≤◌, ◌↔◌, ⊎_elim, List, [], length, get_or, take, sym, ◌∙◌, subst, arith}
-use Rattle.std.proofs.lemmas.Bool.{cases_lt}
-use Rattle.std.proofs.lemmas.List.{get_or_default, get_or-take, length-take-le, take_all}
-use Rattle.std.proofs.lemmas.List.Elements.{All-more}
-use Rattle.rpki_chain.specs.Claims.{Claim}
-use Rattle.rpki_chain.specs.Paths.{Leaves, Exceeds, IsExcess, IsIssued, IsLeft, ExceedsAt, IsPathResult, IsFirstRefusal}
-use Rattle.rpki_chain.specs.Runs.{Runs, Holds, IsRunsOf}
-use Rattle.rpki_chain.specs.declared.path.Overclaim.{Overclaim}
-use Rattle.rpki_chain.specs.declared.path.Overclaim.TheVariants.{Refuse, Trim}
+use Rattle.rpki_chain.proofs.Common.{List, [], arith, get_or, length, subst, sym, take, ℕ, ⊎_elim, ◌+◌, ◌<◌, ◌↔◌, ◌∙◌, ◌≡◌, ◌≤◌, cases_lt, get_or-take, get_or_default, length-take-le, take_all, All-more, Claim, Exceeds, ExceedsAt, IsExcess, IsFirstRefusal, IsIssued, IsLeft, IsPathResult, Leaves, Holds, IsRunsOf, Runs, Overclaim, Refuse, Trim, Step}
 use Rattle.rpki_chain.specs.declared.path.PathRefusal.{PathRefusal}
-use Rattle.rpki_chain.specs.declared.path.Step.{Step}
 use Rattle.rpki_chain.proofs.Issued.{some_held}
 use Rattle.rpki_chain.proofs.RunLists.{IsRunsOf-same, IsRunsOf-unique}
 

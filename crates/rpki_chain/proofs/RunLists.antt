@@ -1,14 +1,7 @@
 -- Runs of sets: those of a chain, and that a set has one list of them.
-use Rattle.std.proofs.Common.{◌≡◌, ℕ, suc, ◌+◌, ◌<◌, ◌≤◌, ◌↔◌, ◌⊎◌, inl, inr, ⊎_elim, List, [], ◌∷◌, ◌++◌, length, get_or, map, take, refl, sym, ap, ◌∙◌, subst, arith}
-use Rattle.std.proofs.lemmas.Bool.{cases_lt}
-use Rattle.std.proofs.lemmas.List.{append_assoc, get_or-map, length-map, map-append}
+use Rattle.rpki_chain.proofs.Common.{List, [], ap, arith, get_or, inl, inr, length, map, refl, subst, suc, sym, take, ℕ, ⊎_elim, ◌++◌, ◌+◌, ◌<◌, ◌↔◌, ◌∙◌, ◌∷◌, ◌≡◌, ◌≤◌, ◌⊎◌, cases_lt, append_assoc, get_or-map, length-map, map-append, All-map, Covers-nil, IsChain-from, IsChainOf-from, Covers-cons_cases, Covers-head, Covers-tail, IsChain-unique, Covers, IsChain, IsChainOf, IsWithin, Holds, IsRunsOf, IsRunsOfBlocks, Runs}
 use Rattle.std.proofs.Math.Seq.{take-suc}
-use Rattle.std.proofs.lemmas.List.Elements.{All-map}
-use Rattle.rpki_chains.specs.Sets.{IsWithin, Covers, IsChain, IsChainOf}
-use Rattle.rpki_chains.proofs.Chains.{Covers-nil, IsChainOf-from, IsChain-from}
-use Rattle.rpki_chains.proofs.Unique.{Covers-head, Covers-tail, Covers-cons_cases, IsChain-unique}
 use Rattle.rpki_chains.proofs.Sorts.{Covers-map}
-use Rattle.rpki_chain.specs.Runs.{Runs, Holds, IsRunsOf, IsRunsOfBlocks}
 
 -- whether a number lies within bounds is decided
 is_decided : (b : ℕ × ℕ) (n : ℕ) → IsWithin b n ⊎ (IsWithin b n → ⊥)

@@ -1,19 +1,9 @@
 -- Chains of blocks, and the sets that they are.
-use Rattle.std.proofs.Common.{◌≡◌, ℕ, ◌+◌, ◌-◌, ◌<◌, ◌≤◌, ◌↔◌, ◌⊎◌, inl, ⊎_elim, List, [], ◌∷◌, length, get_or, map, refl, sym, ap, Result, IfOk, subst, arith}
-use Rattle.std.specs.Bool.{Decides}
-use Rattle.std.specs.Prelude.{All}
+use Rattle.rpki_chain.proofs.Common.{IfOk, List, Result, [], ap, arith, get_or, inl, length, map, refl, subst, sym, ℕ, ⊎_elim, ◌+◌, ◌-◌, ◌<◌, ◌↔◌, ◌∷◌, ◌≡◌, ◌≤◌, ◌⊎◌, cases_lt, All-map, All-tail, IfOk-weaker, Decides, All, Covers-nil, is_same_pair, same_runs, Covers, IsChain, IsInside, IsNew, IsBlockChain, IsBlockSet, Holds, IsRunsOf, IsRunsOfBlocks, Runs}
 use Rattle.std.specs.Cmp.Lexicographic.{pointwise_decides}
-use Rattle.std.proofs.lemmas.Bool.{cases_lt}
 use Rattle.std.proofs.lemmas.Grind.{common_steps}
-use Rattle.std.proofs.lemmas.Result.{IfOk-weaker}
-use Rattle.std.proofs.lemmas.List.Elements.{All-map, All-tail}
-use Rattle.rpki_chain.specs.BlockSets.{IsBlockSet, IsBlockChain}
-use Rattle.rpki_chains.specs.Equality.{is_same_pair, same_runs}
-use Rattle.rpki_chains.specs.Sets.{Covers, IsInside, IsNew, IsChain}
 use Rattle.rpki_chains.specs.Overhang.{IsOverhang}
 use Rattle.rpki_chains.specs.declared.overhang.Overhang.{Overhang}
-use Rattle.rpki_chain.specs.Runs.{Runs, Holds, IsRunsOf, IsRunsOfBlocks}
-use Rattle.rpki_chains.proofs.Chains.{Covers-nil}
 use Rattle.rpki_chains.proofs.FitTurns.{overhang-not_inside}
 use Rattle.rpki_chain.proofs.RunLists.{IsRunsOf-itself, IsRunsOf-same, IsRunsOfBlocks-bounds, Holds-map}
 

@@ -1,29 +1,11 @@
 -- What a take in either mode, and then the end of the octets, tell of all of them.
-use Rattle.std.proofs.Common.{◌≡◌, ◌≢◌, ℕ, Bool, List, [], ◌++◌, Option, Some, None, Result, Ok, Err, refl, sym, ap, subst, ◌∙◌}
-use Rattle.std.proofs.lemmas.List.{append-nil}
-use Rattle.std.specs.Prelude.{IfSome}
-use Rattle.rpki_chain.specs.Claims.{Claim}
-use Rattle.rpki_chain.specs.declared.choice.ResourcesChoice.TheVariants.{Missing, Inherit, Blocks}
-use Rattle.rpki_base.specs.FamiliesDer.{ByFamily, families_der}
-use Rattle.rpki_base.specs.declared.family.AddressFamily.{AddressFamily}
-use Rattle.rpki_base.specs.declared.family.AddressFamily.TheVariants.{Ipv4, Ipv6}
-use Rattle.rpki_ipres.specs.Resources.{ArePresentClaims, IsFamilyClaim, IsPresentFamilyClaim, if_present}
-use Rattle.rpki_ipres.specs.ResourcesDer.{ip_families_der, ip_resources_der}
-use Rattle.rpki_extensions.specs.Claims.{claim_or_missing}
+use Rattle.rpki_extensions.proofs.Common.{Bool, Err, List, None, Ok, Option, Result, Some, [], ap, refl, subst, sym, ℕ, ◌++◌, ◌∙◌, ◌≡◌, ◌≢◌, append-nil, IfSome, ByFamily, families_der, AddressFamily, Ipv4, Ipv6, Claim, Blocks, Inherit, Missing, ended, DerError, ArePresentClaims, IsFamilyClaim, IsPresentFamilyClaim, if_present, ip_families_der, ip_resources_der, IfRefused, OrMemory, Memory, Refused, claim_or_missing, IsSaidIn, is_canonical, Encoding, Any, Canonical}
 use Rattle.rpki_der.specs.declared.cursor.Cursor.{Cursor}
-use Rattle.rpki_der.specs.declared.error.DerError.{DerError}
 use Rattle.rpki_der.specs.Der.{Front, HasNone, OneFront, Spells}
 use Rattle.rpki_der.specs.FrontLaws.{none_where_more, none_where_no_front, whole_value}
-use Rattle.rpki_der.specs.Reading.{ended}
 use Rattle.rpki_der.specs.Views.{Lenient, Strict, is_strict, left}
 use Rattle.rpki_base.specs.DerReading.{only}
 use Rattle.rpki_base.specs.DerViews.{ReadsOrMemory, TakesSaidOrMemory}
-use Rattle.rpki_text.specs.Memory.{IfRefused}
-use Rattle.rpki_text.specs.declared.memory.OrMemory.{OrMemory}
-use Rattle.rpki_text.specs.declared.memory.OrMemory.TheVariants.{Refused, Memory}
-use Rattle.rpki_extensions.specs.Encodings.{IsSaidIn, is_canonical}
-use Rattle.rpki_extensions.specs.declared.encoding.Encoding.{Encoding}
-use Rattle.rpki_extensions.specs.declared.encoding.Encoding.TheVariants.{Any, Canonical}
 use Rattle.rpki_extensions.proofs.EndLemmas.{nothing_left, something_left}
 
 -- the fault of a take is that of all octets

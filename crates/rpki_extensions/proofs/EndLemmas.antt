@@ -1,13 +1,6 @@
 -- What a take at the front of octets, and then their end, tell of all of them.
-use Rattle.std.proofs.Common.{arith, ◌≡◌, ◌≢◌, ℕ, length, List, [], ◌∷◌, MatchResult, IsErr, Result, Ok, Err, refl, sym, subst}
+use Rattle.rpki_extensions.proofs.Common.{Err, IsErr, List, MatchResult, Ok, Result, [], arith, length, refl, subst, sym, ℕ, ◌∷◌, ◌≡◌, ◌≢◌, ended, DerError, IfRefused, OrMemory}
 use Rattle.std.proofs.lemmas.Bool.{ne_eqb}
-use Rattle.rpki_der.specs.Der.{HasNone, NoFront}
-use Rattle.rpki_der.specs.FrontLaws.{none_where_no_front}
-use Rattle.rpki_der.specs.Reading.{ended}
-use Rattle.rpki_der.specs.declared.error.DerError.{DerError}
-use Rattle.rpki_text.specs.Memory.{IfRefused}
-use Rattle.rpki_text.specs.declared.memory.OrMemory.{OrMemory}
-use Rattle.rpki_text.specs.declared.memory.OrMemory.TheVariants.{Refused, Memory}
 use Rattle.std.specs.Result.{IsErrAnd}
 
 -- the end was seen

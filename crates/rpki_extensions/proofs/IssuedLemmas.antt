@@ -1,17 +1,8 @@
 -- What claims leave of an issuer's resources, and that it lies in them.
-use Rattle.std.proofs.Common.{ℕ, MatchResult, Result, Ok, Err, inr}
-use Rattle.rpki_text.specs.Memory.{IfRefused}
-use Rattle.rpki_text.specs.declared.memory.OrMemory.{OrMemory}
-use Rattle.rpki_text.specs.declared.memory.OrMemory.TheVariants.{Refused, Memory}
-use Rattle.rpki_chain.specs.Claims.{Claim}
+use Rattle.rpki_extensions.proofs.Common.{Err, MatchResult, Ok, Result, inr, ℕ, Claim, Holds, Runs, HasEachOf, Triple, IfRefused, OrMemory, Memory, Refused, AreClaims, IsIssuedOfEach, IsNotIssuedOfEach, IsUnverified, IsVerified, Extensions}
 use Rattle.rpki_chain.specs.Paths.{IsIssued}
-use Rattle.rpki_chain.specs.Runs.{Runs, Holds}
 use Rattle.rpki_chain.specs.declared.path.Overclaim.{Overclaim}
-use Rattle.rpki_resources.specs.Triples.{HasEachOf, Triple}
-use Rattle.rpki_extensions.specs.Claims.{AreClaims}
-use Rattle.rpki_extensions.specs.Issued.{IsIssuedOfEach, IsNotIssuedOfEach, IsUnverified, IsVerified}
 use Rattle.rpki_extensions.specs.declared.error.Unverified.{Unverified}
-use Rattle.rpki_extensions.specs.declared.extensions.Extensions.{Extensions}
 
 -- what claims come to, said of their extensions
 pub of_claims : {A : Type 0} (issuer : Triple) (certificate : Extensions) (asn v4 v6 : Claim) (answer : Result Triple (OrMemory (Unverified A)))

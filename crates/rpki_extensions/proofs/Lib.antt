@@ -1,3 +1,4 @@
+pub mod Common
 pub mod EncodingLemmas
 pub mod EndLemmas
 pub mod IssuedLemmas

@@ -1,12 +1,6 @@
 -- One certificate of a path after another.
-use Rattle.std.proofs.Common.{◌≡◌, ℕ, ◌+◌, ◌<◌, suc, List, [], ◌∷◌, ◌++◌, length, get_or, take, refl, sym, ap, ◌∙◌, subst, arith}
+use Rattle.rpki_extensions.proofs.Common.{List, [], ap, arith, get_or, length, refl, subst, suc, sym, take, ℕ, ◌++◌, ◌+◌, ◌<◌, ◌∙◌, ◌∷◌, ◌≡◌, get_or_default, Holds, HasEachOf, Triple, IsVerified, IsVerifiedPath, Extensions}
 use Rattle.std.proofs.Math.Seq.{take-suc}
-use Rattle.std.proofs.lemmas.List.{get_or_default}
-use Rattle.rpki_chain.specs.Runs.{Holds}
-use Rattle.rpki_resources.specs.Triples.{HasEachOf, Triple}
-use Rattle.rpki_extensions.specs.Issued.{IsVerified}
-use Rattle.rpki_extensions.specs.Paths.{IsVerifiedPath}
-use Rattle.rpki_extensions.specs.declared.extensions.Extensions.{Extensions}
 use Rattle.rpki_extensions.proofs.IssuedLemmas.{inside}
 
 -- the certificate at a place, whatever one behind the end would be

@@ -1,17 +1,6 @@
 -- What is written of claims is read as them.
-use Rattle.std.proofs.Common.{◌≡◌, ◌≢◌, ℕ, List, [], ◌++◌, ◌<◌, length, Some, None, refl, sym, ap, ◌∙◌, subst}
-use Rattle.std.specs.Prelude.{◌^◌, IfSome}
-use Rattle.rpki_chain.specs.Claims.{Claim}
-use Rattle.rpki_chain.specs.declared.choice.ResourcesChoice.TheVariants.{Missing, Inherit, Blocks}
-use Rattle.rpki_base.specs.declared.family.AddressFamily.{AddressFamily}
-use Rattle.rpki_base.specs.declared.family.AddressFamily.TheVariants.{Ipv4, Ipv6}
-use Rattle.rpki_ipres.specs.Resources.{IsFamilyClaim, IsPresentFamilyClaim, if_present}
-use Rattle.rpki_ipres.specs.ResourcesDer.{IsIpFamilies, ip_families_der}
-use Rattle.rpki_extensions.specs.Claims.{AreAddressClaims, claim_or_missing}
-use Rattle.rpki_extensions.specs.Encodings.{IsAddressValue}
+use Rattle.rpki_extensions.proofs.Common.{List, None, Some, [], ap, length, refl, subst, sym, ℕ, ◌++◌, ◌<◌, ◌∙◌, ◌≡◌, ◌≢◌, IfSome, ◌^◌, AddressFamily, Ipv4, Ipv6, Claim, Blocks, Inherit, Missing, IsFamilyClaim, IsPresentFamilyClaim, if_present, IsIpFamilies, ip_families_der, AreAddressClaims, claim_or_missing, IsAddressValue, Encoding, Any, Canonical}
 use Rattle.rpki_extensions.specs.Written.{claimed_addresses}
-use Rattle.rpki_extensions.specs.declared.encoding.Encoding.{Encoding}
-use Rattle.rpki_extensions.specs.declared.encoding.Encoding.TheVariants.{Any, Canonical}
 
 some_addresses : (v4 v6 : Claim) → (v4 ≡ Missing → v6 ≢ Missing) → Some (ip_families_der v4 v6) ≡ claimed_addresses v4 v6
 some_addresses Missing Missing some = absurd (some refl refl)

@@ -1,31 +1,19 @@
 -- Covers of sets of addresses: those of their runs, one after the other.
-use Rattle.std.proofs.Common.{◌≡◌, ℕ, suc, ◌+◌, ◌-◌, ◌*◌, ◌/◌, ◌%◌, ◌^◌, ◌<◌, ◌≤◌, ◌↔◌, ◌⊎◌, Option, Some, None, List, [], ◌∷◌, ◌++◌, length, get_or, map, refl, sym, ◌∙◌, ap, subst, arith, inl, inr}
+use Rattle.rpki_family.proofs.Common.{List, None, Option, Some, [], ap, arith, get_or, inl, inr, length, map, refl, subst, suc, sym, ℕ, ◌%◌, ◌*◌, ◌++◌, ◌+◌, ◌-◌, ◌/◌, ◌<◌, ◌^◌, ◌↔◌, ◌∙◌, ◌∷◌, ◌≡◌, ◌≤◌, ◌⊎◌, map-append, All-head, All-map, All-tail, All, AllPairs, Holds, Runs, IsWithin, IsShortestCover, IsV4CoverList, widened, RangeValue, range_bounds, HasWholeBounds, IsWhole, ip_bounds, IpBlock, IsIpSet, Ipv4Of, blocks_cover, runs_cover}
 use Rattle.std.specs.Iterator.{YieldsFirst, MakesProgress, item_count}
-use Rattle.std.specs.List.{All, AllPairs}
-use Rattle.std.proofs.lemmas.List.{map-append}
 use Rattle.std.proofs.lemmas.Nat.{pow_pos}
-use Rattle.std.proofs.lemmas.List.Elements.{All-head, All-tail, All-map}
 use Rattle.rpki_addr.specs.Prefixes.{PrefixValue}
 use Rattle.rpki_chains.proofs.Chains.{Covers-nil}
 use Rattle.rpki_chain.proofs.RunLists.{Holds-map}
 use Rattle.rpki_chains.proofs.Unique.{Covers-head, Covers-tail, Covers-cons_cases}
-use Rattle.rpki_chain.specs.Runs.{Runs, Holds}
-use Rattle.rpki_chains.specs.Sets.{IsWithin}
 use Rattle.rpki_cover.proofs.CoverList.{CoverOf, cover_none, cover_list_covers}
 use Rattle.rpki_cover.proofs.Joined.{cover_same, cover_joined}
 use Rattle.rpki_cover.proofs.Multiples.{IsMultiple, mod_multiple, multiple_gap, multiple_self, multiple_smaller}
 use Rattle.rpki_cover.proofs.Shortest.{range_cover, shortest_cover_from}
 use Rattle.rpki_cover.proofs.Widening.{whole_list}
-use Rattle.rpki_cover.specs.Covers.{IsShortestCover, IsV4CoverList, widened}
 use Rattle.rpki_cover.specs.Walk.{cover_list}
-use Rattle.rpki_family.specs.SetCovers.{runs_cover, blocks_cover, Ipv4Of}
-use Rattle.rpki_ip.specs.Ranges.{RangeValue, range_bounds}
-use Rattle.rpki_ip.specs.Whole.{IsWhole, HasWholeBounds}
 use Rattle.rpki_ipres.proofs.WholeLemmas.{whole_runs}
-use Rattle.rpki_ip_block.specs.Blocks.{ip_bounds}
 use Rattle.rpki_ip_block.specs.PrintedBlocks.{IsBlock}
-use Rattle.rpki_ipres.specs.SetText.{IsIpSet}
-use Rattle.rpki_ip_block.specs.declared.block.IpBlock.{IpBlock}
 use Rattle.rpki_ip_block.specs.declared.block.IpBlock.TheVariants.{Prefix, Range}
 
 -- ---- runs of numbers of w bits

@@ -1,32 +1,22 @@
 -- What is of a family: by cases, IPv4 where addresses are whole, and IPv6 where there is nothing to show.
-use Rattle.std.proofs.Common.{◌≡◌, ℕ, List, Some, map, sym, subst, refl}
-use Rattle.std.specs.List.{All}
-use Rattle.rpki_base.specs.Families.{family_of}
+use Rattle.rpki_family.proofs.Common.{List, Some, map, subst, sym, ℕ, ◌≡◌, All, family_of, Claim, Holds, IsRunsOfBlocks, Runs, HasWholeBounds, ip_bounds, new_ip_block, prefix_bounds, IpBlock, IsFamilySet, IsIpSet, HasBoundsIn, IsCoverListIn, runs_cover}
 use Rattle.rpki_base.specs.declared.family.AddressFamily.{AddressFamily}
 use Rattle.rpki_base.specs.declared.family.AddressFamily.TheVariants.{Ipv4, Ipv6}
 use Rattle.rpki_chain.specs.Operations.{IsDifference, IsIntersection, IsUnion}
-use Rattle.rpki_chain.specs.Claims.{Claim}
 use Rattle.rpki_chain.specs.Paths.{IsIssued, IsExcess, IsUncovered, IsPathResult, IsFirstRefusal}
-use Rattle.rpki_chain.specs.Runs.{Runs, Holds, IsRunsOfBlocks}
 use Rattle.rpki_chain.specs.declared.path.Overclaim.{Overclaim}
 use Rattle.rpki_chain.specs.declared.path.PathRefusal.{PathRefusal}
 use Rattle.rpki_chain.specs.declared.path.Step.{Step}
 use Rattle.rpki_family.proofs.CoverLemmas.{v4_covered}
-use Rattle.rpki_family.specs.Families.{HasBoundsIn, IsCoverListIn}
-use Rattle.rpki_family.specs.SetCovers.{runs_cover}
-use Rattle.rpki_ip.specs.Whole.{HasWholeBounds}
-use Rattle.rpki_ip_block.specs.Blocks.{ip_bounds, new_ip_block, prefix_bounds}
 use Rattle.rpki_prefix.specs.Values.{FamilyPrefix, IsFamilyPrefix}
 use Rattle.rpki_addr.specs.AddrText.{first_of}
 use Rattle.rpki_ip_block.specs.BlockText.{IsIpBlockText}
-use Rattle.rpki_ip_block.specs.declared.block.IpBlock.{IpBlock}
 use Rattle.rpki_ip_block.proofs.WholeReadings.{whole_text, whole_family_prefix}
 use Rattle.rpki_ipres.proofs.SetTextLemmas.{blocks_of_family}
 use Rattle.rpki_ipres.proofs.WholeClaims.{whole_excess, whole_issued, whole_refusal, whole_result, whole_uncovered}
 use Rattle.rpki_ipres.proofs.WholeReadings.{whole_cover}
 use Rattle.rpki_ipres.proofs.WholeSets.{whole_difference, whole_intersection, whole_union}
 use Rattle.rpki_ipres.specs.Families.{IsClaimIn, IsWholeIn}
-use Rattle.rpki_ipres.specs.SetText.{IsIpSet, IsFamilySet}
 
 -- ---- sets
 

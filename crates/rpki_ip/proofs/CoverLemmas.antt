@@ -1,12 +1,6 @@
 -- Covers of ranges of addresses.
-use Rattle.std.proofs.Common.{◌≡◌, ℕ, ◌*◌, ◌%◌, ◌^◌, List, refl, ◌∙◌, ap, subst, arith}
-use Rattle.rpki_addr.proofs.PrefixNumbers.{cleared_first}
-use Rattle.rpki_addr.specs.Bits.{cleared}
-use Rattle.rpki_addr.specs.Prefixes.{PrefixValue, IsPrefix}
-use Rattle.rpki_chains.specs.Sets.{IsWithin}
+use Rattle.rpki_ip.proofs.Common.{List, ap, arith, refl, subst, ℕ, ◌%◌, ◌*◌, ◌^◌, ◌∙◌, ◌≡◌, cleared_first, cleared, IsPrefix, PrefixValue, IsWithin, widened_prefix, IsShortestCover, widened}
 use Rattle.rpki_cover.proofs.Nesting.{InRange}
-use Rattle.rpki_cover.proofs.Widening.{widened_prefix}
-use Rattle.rpki_cover.specs.Covers.{IsShortestCover, widened}
 
 -- the cover of a range of other numbers that are the same
 pub range_of : (w a b x y : ℕ) (ps : List PrefixValue) → x ≡ a → y ≡ b → IsShortestCover w (InRange x y) ps → IsShortestCover w (IsWithin (a, b)) ps

@@ -1,17 +1,7 @@
 -- Where a range of addresses is reversed, and which faults families, prefixes and ranges have.
-use Rattle.std.proofs.Common.{◌≡◌, ℕ, ◌/◌, ◌*◌, ◌-◌, ◌^◌, ◌<◌, ◌↔◌, ◌||◌, ltb, List, length, Result, Ok, Err, refl, arith, true, is_ok}
-use Rattle.std.proofs.lemmas.Bool.{lt-ltb, ltb-true}
-use Rattle.rpki_addr.specs.Prefixes.{PrefixValue, last_of}
-use Rattle.rpki_der.specs.declared.error.DerError.{DerError}
-use Rattle.rpki_der.specs.declared.error.DerError.TheVariants.{BadPrefix, ReversedRange, NotCanonical}
-use Rattle.rpki_der.specs.Der.{Bits, big_endian, bit_count}
-use Rattle.rpki_der.specs.Reading.{◌>>=◌, bits, is_padded, passing, refined, tagged_at}
+use Rattle.rpki_ip.proofs.Common.{Err, List, Ok, Result, arith, is_ok, length, ltb, refl, true, ℕ, ◌*◌, ◌-◌, ◌/◌, ◌<◌, ◌^◌, ◌||◌, ◌↔◌, ◌≡◌, lt-ltb, ltb-true, PrefixValue, last_of, ok_or_err, Bits, big_endian, bit_count, bits, is_padded, passing, refined, tagged_at, ◌>>=◌, DerError, BadPrefix, NotCanonical, ReversedRange, prefix_at, prefix_by, prefix_in, prefix_in_by, prefix_of, prefix_of_by, range_in, span_of, RangeValue}
 use Rattle.rpki_base.specs.DerFaults.{BeginsWithTwo}
-use Rattle.rpki_der.proofs.Steps.{ok_or_err}
 use Rattle.rpki_base.proofs.DerFaults.{NamesTo, begins_two, bind_names, bits_names, cond_fails, cond_names, names_more, not_named, pair_fails, pair_names, refined_names, tagged_names, bind_fails, first_fails}
-use Rattle.rpki_ip.specs.PrefixDer.{prefix_at, prefix_in, prefix_of, prefix_by, prefix_in_by, prefix_of_by}
-use Rattle.rpki_ip.specs.RangeDer.{range_in, span_of}
-use Rattle.rpki_ip.specs.Ranges.{RangeValue}
 
 -- ---- which faults are named
 

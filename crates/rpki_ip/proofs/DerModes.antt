@@ -1,30 +1,9 @@
 -- Prefixes in either mode: strictly, the octets are those that are written of them.
-use Rattle.std.proofs.Common.{◌≡◌, ℕ, zero, suc, ◌+◌, ◌-◌, ◌*◌, ◌/◌, ◌%◌, ◌^◌, ◌<◌, ◌≤◌, ◌||◌, ◌&&◌, Bool, true, false, cond, List, [], ◌∷◌, ◌++◌, length, get_or, take, drop, Result, Ok, Err, refl, sym, ap, subst, ◌∙◌, arith}
-use Rattle.std.specs.Int.{bytes_high_first, to_be_bytes, w128}
+use Rattle.rpki_ip.proofs.Common.{Bool, Err, List, Ok, Result, [], ap, arith, cond, drop, false, get_or, length, refl, subst, suc, sym, take, true, zero, ℕ, ◌%◌, ◌&&◌, ◌*◌, ◌++◌, ◌+◌, ◌-◌, ◌/◌, ◌<◌, ◌^◌, ◌||◌, ◌∙◌, ◌∷◌, ◌≡◌, ◌≤◌, mul-div_cancel, mul-mod_left, mul_assoc, and_parts, eqb-true, le-leb, le-ltb, leb-true, lt-ltb, ltb-false, ltb-true, or_from, or_parts, take-append-drop, pow-add, pow_pos, shl-shr, shr_split, bytes_high_first, to_be_bytes, w128, IsPrefix, PrefixValue, bits_of, IsMultiple, mod_multiple, multiple_gap, multiple_mod, multiple_self, multiple_smaller, multiple_sum, bits_check, bind_tightens, is_padded_of, lenient_is, looked_tightens, padded_is, passed_is, passes, then_passing, IsTagged, fits_content, refined_reading, same_reading, tagged_reading, IsBytes-rest, IsCheck, bind_ok, fits_front, value_is, Bits, IsBitString, IsBits, IsBytes, IsPadded, Refines, Spells, Where, big_endian, big_endian_after, bit_content, bit_string_value, last_octet, IsModal, IsReading, Tightens, bits, bits_by, is_padded, passing, tagged_at, ◌>>=◌, Takes, is_strict, left, DerError, BadPrefix, IsPrefixDer, IsPrefixWithin, IsStrictContent, SaysPrefix, is_longer, octet_count, prefix_at, prefix_bits, prefix_by, prefix_der, prefix_in, prefix_in_by, prefix_of, prefix_of_by, IsRangeWithin, IsSpan, RangeValue}
 use Rattle.std.specs.Prelude.{◌⊎◌}
-use Rattle.std.proofs.lemmas.Bool.{and_parts, eqb-true, le-leb, le-ltb, leb-true, lt-ltb, ltb-false, ltb-true, or_from, or_parts}
-use Rattle.std.proofs.lemmas.List.{take-append-drop}
-use Rattle.std.proofs.lemmas.Nat.{pow-add, pow_pos, shl-shr, shr_split}
-use Rattle.std.proofs.Math.Nat.{mul-div_cancel, mul-mod_left, mul_assoc}
-use Rattle.rpki_addr.specs.Prefixes.{PrefixValue, IsPrefix}
-use Rattle.rpki_cover.proofs.Multiples.{IsMultiple, mod_multiple, multiple_gap, multiple_mod, multiple_self, multiple_smaller, multiple_sum}
 use Rattle.rpki_der.specs.declared.cursor.Cursor.{Cursor}
-use Rattle.rpki_der.specs.declared.error.DerError.{DerError}
-use Rattle.rpki_der.specs.declared.error.DerError.TheVariants.{BadPrefix}
-use Rattle.rpki_der.specs.Der.{Bits, IsBitString, IsBits, IsBytes, IsPadded, Refines, Spells, Where, big_endian, big_endian_after, bit_content, bit_string_value, last_octet}
-use Rattle.rpki_der.specs.Reading.{◌>>=◌, IsModal, IsReading, Tightens, bits, bits_by, is_padded, passing, tagged_at}
-use Rattle.rpki_der.specs.Views.{Takes, is_strict, left}
-use Rattle.rpki_der.proofs.Contents.{bits_check}
-use Rattle.rpki_der.proofs.Modes.{bind_tightens, is_padded_of, lenient_is, looked_tightens, padded_is, passed_is, passes, then_passing}
-use Rattle.rpki_der.proofs.Readings.{IsTagged, fits_content, refined_reading, same_reading, tagged_reading}
-use Rattle.rpki_der.proofs.Steps.{IsBytes-rest, IsCheck, bind_ok, fits_front}
-use Rattle.rpki_der.proofs.Written.{value_is}
 use Rattle.rpki_base.specs.declared.family.AddressFamily.{AddressFamily}
-use Rattle.rpki_base.specs.Families.{bits_of}
 use Rattle.rpki_base.proofs.DerCursors.{value_back}
-use Rattle.rpki_ip.specs.PrefixDer.{IsPrefixDer, IsPrefixWithin, IsStrictContent, SaysPrefix, is_longer, octet_count, prefix_at, prefix_bits, prefix_by, prefix_der, prefix_in, prefix_in_by, prefix_of, prefix_of_by}
-use Rattle.rpki_ip.specs.RangeDer.{IsRangeWithin, IsSpan}
-use Rattle.rpki_ip.specs.Ranges.{RangeValue}
 use Rattle.rpki_ip.proofs.DerReadings.{prefix_again, prefix_reading, prefix_says}
 use Rattle.rpki_ip.proofs.DerWritten.{prefix_written}
 use Rattle.rpki_ip.proofs.PrefixBits.{bits_few, bits_fit, bits_say, byte_is, first_bits, said_prefix}

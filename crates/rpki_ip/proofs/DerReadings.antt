@@ -1,17 +1,6 @@
 -- The readings find the families, prefixes and ranges of the grammars, whatever follows them, and no others.
-use Rattle.std.proofs.Common.{◌≡◌, ℕ, ◌-◌, ◌*◌, ◌/◌, ◌^◌, ◌≤◌, ◌||◌, false, ltb, List, length, Ok, refl, sym, subst, arith, inl, inr}
-use Rattle.std.proofs.lemmas.Bool.{ltb-false, le-ltb, cases_lt, or_parts, or_from}
-use Rattle.rpki_addr.specs.Prefixes.{PrefixValue, last_of}
+use Rattle.rpki_ip.proofs.Common.{List, Ok, arith, false, inl, inr, length, ltb, refl, subst, sym, ℕ, ◌*◌, ◌-◌, ◌/◌, ◌^◌, ◌||◌, ◌≡◌, ◌≤◌, cases_lt, le-ltb, ltb-false, or_from, or_parts, PrefixValue, last_of, bits_check, IsTagged, fits_content, refined_reading, same_reading, tagged_reading, IsCheck, bind_ok, ok_is, passed, Bits, IsBits, IsBytes, IsSequence, Refines, big_endian, bit_content, bit_count, IsReading, bits, refined, tagged_at, BadPrefix, ReversedRange, IsPrefixContent, IsPrefixDer, SaysPrefix, prefix_at, prefix_in, prefix_of, IsRangeDer, IsSpan, SaysRange, range_in, span_of, RangeValue}
 use Rattle.rpki_base.proofs.DerReadings.{pair_check}
-use Rattle.rpki_der.specs.declared.error.DerError.TheVariants.{BadPrefix, ReversedRange}
-use Rattle.rpki_der.specs.Der.{Bits, IsBits, IsBytes, IsSequence, bit_content, bit_count, big_endian, Refines}
-use Rattle.rpki_der.specs.Reading.{bits, refined, tagged_at, IsReading}
-use Rattle.rpki_der.proofs.Steps.{IsCheck, bind_ok, passed, ok_is}
-use Rattle.rpki_der.proofs.Contents.{bits_check}
-use Rattle.rpki_der.proofs.Readings.{IsTagged, fits_content, refined_reading, same_reading, tagged_reading}
-use Rattle.rpki_ip.specs.PrefixDer.{SaysPrefix, IsPrefixContent, IsPrefixDer, prefix_of, prefix_in, prefix_at}
-use Rattle.rpki_ip.specs.RangeDer.{IsRangeDer, IsSpan, SaysRange, range_in, span_of}
-use Rattle.rpki_ip.specs.Ranges.{RangeValue}
 
 -- ---- prefixes
 

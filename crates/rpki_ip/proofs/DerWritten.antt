@@ -1,15 +1,5 @@
 -- What is written is in the grammars, and how long it is.
-use Rattle.std.proofs.Common.{◌≡◌, ℕ, ◌+◌, ◌-◌, ◌%◌, ◌^◌, ◌<◌, ◌≤◌, true, ltb, List, ◌∷◌, ◌++◌, length, refl, sym, ap, subst, ◌∙◌, append_assoc, arith, inl, inr}
-use Rattle.std.proofs.lemmas.Bool.{cases_lt, lt-ltb}
-use Rattle.std.proofs.lemmas.Nat.{pow_below, pow_pos}
-use Rattle.std.proofs.lemmas.List.{length-append}
-use Rattle.rpki_addr.specs.Prefixes.{PrefixValue, IsPrefix}
-use Rattle.rpki_der.specs.Der.{header, length_octets, bit_string_value}
-use Rattle.rpki_der.proofs.Written.{value_is}
-use Rattle.rpki_ip.specs.PrefixDer.{IsPrefixDer, prefix_bits, prefix_der}
-use Rattle.rpki_ip.specs.RangeDer.{IsRangeDer, IsRangeWithin, range_content, range_der, without_end_ones, without_end_zeros}
-use Rattle.rpki_ip.specs.Ranges.{RangeValue}
-use Rattle.rpki_cover.proofs.Multiples.{IsMultiple, multiple_diff, multiple_least, multiple_mod, multiple_self, mod_multiple}
+use Rattle.rpki_ip.proofs.Common.{List, ap, append_assoc, arith, inl, inr, length, ltb, refl, subst, sym, true, ℕ, ◌%◌, ◌++◌, ◌+◌, ◌-◌, ◌<◌, ◌^◌, ◌∙◌, ◌∷◌, ◌≡◌, ◌≤◌, cases_lt, lt-ltb, length-append, pow_below, pow_pos, IsPrefix, PrefixValue, IsMultiple, mod_multiple, multiple_diff, multiple_least, multiple_mod, multiple_self, value_is, bit_string_value, header, length_octets, IsPrefixDer, prefix_bits, prefix_der, IsRangeDer, IsRangeWithin, range_content, range_der, without_end_ones, without_end_zeros, RangeValue}
 use Rattle.rpki_ip.proofs.PrefixBits.{bits_few, bits_fit, bits_say}
 use Rattle.rpki_ip.proofs.Shortest.{shortest_from_is, shortest_to_is}
 

@@ -1,16 +1,11 @@
 -- A length in digits at the front of a text.
-use Rattle.std.proofs.Common.{◌≡◌, ℕ, ◌-◌, ◌<◌, ◌≤◌, List, ◌++◌, length, take, drop, arith, refl, sym, ap, ◌∙◌, length-drop}
+use Rattle.rpki_ip.proofs.Common.{List, ap, arith, drop, length, length-drop, refl, sym, take, ℕ, ◌++◌, ◌-◌, ◌<◌, ◌∙◌, ◌≡◌, ◌≤◌, length-take, take-append-drop, cleared, PrefixValue, bits_of, family_of, IsPrefixAt}
 use Rattle.std.specs.Str.Parse.{AllDigits, digits_value}
 use Rattle.std.proofs.lemmas.Str.Parse.{without_leading_plus_none, digit_at}
-use Rattle.std.proofs.lemmas.List.{length-take, take-append-drop}
 use Rattle.rpki_text.specs.Numbers.{IsNumberText, AreDigitsFrom}
 use Rattle.rpki_addr.specs.AddressFronts.{IsAtFront}
-use Rattle.rpki_addr.specs.Bits.{cleared}
-use Rattle.rpki_addr.specs.Prefixes.{PrefixValue}
 use Rattle.rpki_addr.specs.AddrText.{first_of}
 use Rattle.rpki_addr.specs.declared.addr.IpAddr.{IpAddr}
-use Rattle.rpki_base.specs.Families.{bits_of, family_of}
-use Rattle.rpki_ip.specs.BlockText.{IsPrefixAt}
 
 -- digits are a number text
 digits_are_number : (limit : ℕ) (ds : List ℕ) (n : ℕ) → 0 < length ds → AllDigits 10 ds → digits_value 10 ds ≡ n → n ≤ limit → IsNumberText limit ds n

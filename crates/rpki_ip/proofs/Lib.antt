@@ -1,3 +1,4 @@
+pub mod Common
 pub mod CoverLemmas
 pub mod DerFaults
 pub mod DerModes

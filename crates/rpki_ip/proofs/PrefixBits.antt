@@ -1,15 +1,7 @@
 -- The bits of a prefix, as octets and as a number.
-use Rattle.std.proofs.Common.{◌≡◌, ℕ, zero, suc, ◌+◌, ◌-◌, ◌*◌, ◌/◌, ◌%◌, ◌^◌, ◌<◌, ◌≤◌, List, [], ◌∷◌, ◌++◌, length, take, drop, replicate, refl, sym, ap, ◌∙◌, arith}
-use Rattle.std.specs.Int.{bytes_high_first, byte_at, from_be_bytes, to_be_bytes, w128}
-use Rattle.std.proofs.lemmas.Nat.{pow-add, pow_pos, mod_low, shl-shr, shr-shr, shr_split, shr_below, shl_below, div-add-mod'}
-use Rattle.std.proofs.lemmas.List.{drop-replicate, length-take}
+use Rattle.rpki_ip.proofs.Common.{List, [], ap, arith, drop, length, refl, replicate, suc, sym, take, zero, ℕ, ◌%◌, ◌*◌, ◌++◌, ◌+◌, ◌-◌, ◌/◌, ◌<◌, ◌^◌, ◌∙◌, ◌∷◌, ◌≡◌, ◌≤◌, div-div-eq-div-mul, pow-suc, drop-replicate, length-take, div-add-mod', mod_low, pow-add, pow_pos, shl-shr, shl_below, shr-shr, shr_below, shr_split, byte_at, bytes_high_first, from_be_bytes, to_be_bytes, w128, IsPrefix, PrefixValue, IsBytes-rest, Bits, IsBits, IsBytes, big_endian, big_endian_after, SaysPrefix, octet_count, prefix_bits}
 use borrow.Rule.Slice.PartMut.{put_mid}
-use Rattle.std.proofs.Math.Nat.{div-div-eq-div-mul, pow-suc}
-use Rattle.rpki_addr.specs.Prefixes.{PrefixValue, IsPrefix}
-use Rattle.rpki_der.specs.Der.{IsBytes, Bits, IsBits, big_endian, big_endian_after}
 use Rattle.rpki_der.proofs.Numbers.{digit_more}
-use Rattle.rpki_der.proofs.Steps.{IsBytes-rest}
-use Rattle.rpki_ip.specs.PrefixDer.{SaysPrefix, prefix_bits, octet_count}
 
 -- ---- the number that octets spell
 

@@ -1,13 +1,6 @@
 -- On the prefix of a range's addresses.
-use Rattle.std.proofs.Common.{◌≡◌, ℕ, zero, suc, ◌+◌, ◌-◌, ◌*◌, ◌%◌, ◌^◌, ◌<◌, ◌≤◌, ◌∙◌, ap, sym, refl, arith, inl, inr, bit_and}
-use Rattle.std.proofs.Math.Nat.{two-pow-succ, pow-le-pow_right, mod-eq_of_lt, mod_self}
-use Rattle.std.proofs.lemmas.Bool.{cases_order}
-use Rattle.std.proofs.lemmas.Nat.{pow_pos, pow_below, and_mask, and_comm, and_block, leading_length}
+use Rattle.rpki_ip.proofs.Common.{ap, arith, bit_and, inl, inr, refl, suc, sym, zero, ℕ, ◌%◌, ◌*◌, ◌+◌, ◌-◌, ◌<◌, ◌^◌, ◌∙◌, ◌≡◌, ◌≤◌, mod-eq_of_lt, mod_self, pow-le-pow_right, two-pow-succ, cases_order, and_block, and_comm, and_mask, leading_length, pow_below, pow_pos, count_leading_zeros, power_is, IsPrefix, PrefixValue, IsRangeOf, RangeValue}
 use Rattle.std.specs.Int.Bits.{and_zero_r}
-use Rattle.std.specs.Int.Count.{count_leading_zeros}
-use Rattle.rpki_addr.specs.Prefixes.{PrefixValue, IsPrefix}
-use Rattle.rpki_ip.specs.Ranges.{RangeValue, IsRangeOf}
-use Rattle.rpki_addr.proofs.PrefixNumbers.{power_is}
 
 -- ---- the bits behind a prefix
 

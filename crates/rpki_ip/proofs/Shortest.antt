@@ -1,11 +1,5 @@
 -- The shortest prefixes that begin or end with an address.
-use Rattle.std.proofs.Common.{◌≡◌, ℕ, ◌+◌, ◌-◌, ◌*◌, ◌/◌, ◌^◌, ◌<◌, ◌≤◌, refl, sym, ap, ◌∙◌, arith}
-use Rattle.std.proofs.lemmas.Nat.{pow_pos, div-mul-add, trailing_le}
-use Rattle.std.specs.Int.{w128, trailing_zeros, trailing_ones, bit_not}
-use Rattle.std.specs.Int.Count.{count_trailing_zeros}
-use Rattle.rpki_addr.specs.Bits.{cleared}
-use Rattle.rpki_ip.specs.RangeDer.{IsShortestFrom, IsShortestTo, without_end_zeros, without_end_ones}
-use Rattle.rpki_cover.proofs.Multiples.{IsMultiple, multiple_self, multiple_sum, multiple_diff, multiple_least, multiple_smaller, multiple_mod, mod_multiple, multiple_div, zeros_divide, zeros_greatest}
+use Rattle.rpki_ip.proofs.Common.{ap, arith, refl, sym, ℕ, ◌*◌, ◌+◌, ◌-◌, ◌/◌, ◌<◌, ◌^◌, ◌∙◌, ◌≡◌, ◌≤◌, div-mul-add, pow_pos, trailing_le, bit_not, trailing_ones, trailing_zeros, w128, count_trailing_zeros, cleared, IsMultiple, mod_multiple, multiple_diff, multiple_div, multiple_least, multiple_mod, multiple_self, multiple_smaller, multiple_sum, zeros_divide, zeros_greatest, IsShortestFrom, IsShortestTo, without_end_ones, without_end_zeros}
 
 -- ---- a first address
 

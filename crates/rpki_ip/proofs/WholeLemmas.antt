@@ -1,6 +1,5 @@
 -- Which ranges consist of whole IPv4 addresses.
-use Rattle.std.proofs.Common.{ℕ, ◌+◌, ◌-◌, ◌*◌, ◌/◌, ◌^◌, ◌≤◌, ◌↔◌, Bool, IsTrue, arith}
-use Rattle.rpki_chains.specs.Sets.{IsWithin}
+use Rattle.rpki_ip.proofs.Common.{Bool, IsTrue, arith, ℕ, ◌*◌, ◌+◌, ◌-◌, ◌/◌, ◌^◌, ◌↔◌, ◌≤◌, IsWithin}
 use Rattle.rpki_ip.specs.Whole.{IsWhole, HasWholeBounds}
 
 -- between the first number of an address and the last one of an address lie whole addresses

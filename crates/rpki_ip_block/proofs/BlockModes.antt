@@ -1,27 +1,9 @@
 -- Strictly, the octets of a block are those that are written of it.
-use Rattle.std.proofs.Common.{◌≡◌, ℕ, ◌-◌, ◌^◌, ◌<◌, ◌≤◌, ◌&&◌, Bool, true, false, eqb, List, ◌++◌, Option, Some, None, length, refl, sym, ap, subst, ◌∙◌, arith}
-use Rattle.std.proofs.lemmas.Bool.{and_parts, eq-eqb, eqb-true}
+use Rattle.rpki_ip_block.proofs.Common.{Bool, List, None, Option, Some, ap, arith, eqb, false, length, refl, subst, sym, true, ℕ, ◌&&◌, ◌++◌, ◌-◌, ◌<◌, ◌^◌, ◌∙◌, ◌≡◌, ◌≤◌, and_parts, eq-eqb, eqb-true, pow_pos, PrefixValue, last_of, fits_content, same_reading, IsBytes, Spells, sequence_value, IsReading, IsStrictPrefix, prefix_is_spelled, spelled_is_prefix, within, from_short, length_prefix, to_short, prefix_der, is_written_as, range_content, without_end_ones, without_end_zeros, RangeValue, range_bounds, IsSetIpBlock, ip_block_der, ip_block_modal, IsStrictIpBlock, ip_block_by, is_range, is_set_range, span, block_from, length_of, new_ip_block, IpBlock, Prefix, Range}
 use Rattle.std.proofs.lemmas.List.{length-append}
-use Rattle.std.proofs.lemmas.Nat.{pow_pos}
-use Rattle.rpki_addr.specs.Prefixes.{PrefixValue, last_of}
-use Rattle.rpki_der.specs.Der.{IsBytes, Spells, sequence_value}
-use Rattle.rpki_der.specs.Reading.{IsReading}
-use Rattle.rpki_der.proofs.Readings.{fits_content, same_reading}
 use Rattle.rpki_der.proofs.Steps.{fits_back, fits_front}
 use Rattle.rpki_der.proofs.Written.{value_is}
-use Rattle.rpki_ip.specs.PrefixDer.{prefix_der}
-use Rattle.rpki_ip.specs.RangeDer.{is_written_as, range_content, without_end_ones, without_end_zeros}
-use Rattle.rpki_ip.specs.Ranges.{RangeValue, range_bounds}
-use Rattle.rpki_ip.proofs.DerModes.{IsStrictPrefix, prefix_is_spelled, spelled_is_prefix, within}
-use Rattle.rpki_ip.proofs.DerWritten.{from_short, length_prefix, to_short}
 use Rattle.rpki_ip.proofs.Shortest.{shortest_from_is, shortest_to_is}
-use Rattle.rpki_ip_block.specs.BlockDer.{IsSetIpBlock, ip_block_der}
-use Rattle.rpki_ip_block.specs.BlockModes.{IsStrictIpBlock}
-use Rattle.rpki_ip_block.specs.BlockModeLaws.{ip_block_modal}
-use Rattle.rpki_ip_block.specs.BlockReading.{ip_block_by, is_range, is_set_range, span}
-use Rattle.rpki_ip_block.specs.Blocks.{block_from, length_of, new_ip_block}
-use Rattle.rpki_ip_block.specs.declared.block.IpBlock.{IpBlock}
-use Rattle.rpki_ip_block.specs.declared.block.IpBlock.TheVariants.{Prefix, Range}
 use Rattle.rpki_ip_block.proofs.FormLemmas.{new_prefix}
 
 -- ---- ranges

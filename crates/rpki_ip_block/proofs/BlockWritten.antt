@@ -1,28 +1,9 @@
 -- What is written of a block is the block.
-use Rattle.std.proofs.Common.{◌≡◌, ℕ, ◌+◌, ◌-◌, ◌^◌, ◌<◌, ◌≤◌, Bool, true, false, List, ◌++◌, Option, Some, Result, Ok, length, refl, subst, arith}
-use Rattle.std.proofs.lemmas.Nat.{pow_pos}
-use Rattle.rpki_base.proofs.DerCursors.{optional_back}
+use Rattle.rpki_ip_block.proofs.Common.{Bool, List, Ok, Option, Result, Some, arith, false, length, refl, subst, true, ℕ, ◌++◌, ◌+◌, ◌-◌, ◌<◌, ◌^◌, ◌≡◌, ◌≤◌, pow_pos, optional_back, bits_of, AddressFamily, Ipv4, Ipv6, lenient_is, optional, Takes, is_strict, left, bits_few_enough, few_bits, prefix_written, range_written, IsBlockWithin, IsIpBlockDer, ip_block_der, ip_block_modal, IsStrictIpBlock, ip_block_at, ip_block_by, ip_block_has_octets, ip_block_reading, ip_bounds, new_ip_block, IsBlockOf, IpBlock, Prefix, Range}
 use Rattle.rpki_chains.specs.Sets.{IsNew}
 use Rattle.rpki_der.specs.declared.cursor.Cursor.{Cursor}
 use Rattle.rpki_der.specs.declared.error.DerError.{DerError}
-use Rattle.rpki_der.specs.Reading.{optional}
-use Rattle.rpki_der.specs.Views.{Takes, is_strict, left}
-use Rattle.rpki_der.proofs.Modes.{lenient_is}
-use Rattle.rpki_ip.proofs.DerModes.{bits_few_enough}
-use Rattle.rpki_ip.proofs.DerWritten.{few_bits, prefix_written, range_written}
-use Rattle.rpki_base.specs.Families.{bits_of}
-use Rattle.rpki_base.specs.declared.family.AddressFamily.{AddressFamily}
-use Rattle.rpki_base.specs.declared.family.AddressFamily.TheVariants.{Ipv4, Ipv6}
-use Rattle.rpki_ip_block.specs.BlockDer.{IsBlockWithin, IsIpBlockDer, ip_block_der}
-use Rattle.rpki_ip_block.specs.BlockModes.{IsStrictIpBlock}
-use Rattle.rpki_ip_block.specs.BlockModeLaws.{ip_block_modal}
-use Rattle.rpki_ip_block.specs.BlockReading.{ip_block_at, ip_block_by}
-use Rattle.rpki_ip_block.specs.Blocks.{ip_bounds, new_ip_block}
-use Rattle.rpki_ip_block.specs.PrintedBlocks.{IsBlockOf}
 use Rattle.rpki_ip_block.proofs.BlockModes.{is_set_block}
-use Rattle.rpki_ip_block.specs.declared.block.IpBlock.{IpBlock}
-use Rattle.rpki_ip_block.specs.declared.block.IpBlock.TheVariants.{Prefix, Range}
-use Rattle.rpki_ip_block.specs.BlockReadingLaws.{ip_block_has_octets, ip_block_reading}
 
 -- a block whose bounds need no more bits than the limit
 pub block_written : (limit : ℕ) (block : IpBlock) → limit ≤ 128 → IsBlockWithin limit block → IsIpBlockDer limit (ip_block_der block) block

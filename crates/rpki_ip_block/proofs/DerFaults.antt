@@ -1,15 +1,9 @@
 -- Where a block of addresses is a reversed range, and that no fault of lists is one of a block.
-use Rattle.std.proofs.Common.{◌≡◌, ℕ, ◌<◌, ◌↔◌, List, Ok, Err, arith}
+use Rattle.rpki_ip_block.proofs.Common.{Err, List, Ok, arith, ℕ, ◌<◌, ◌↔◌, ◌≡◌, last_of, value_at, prefix_at, prefix_in, range_in, ip_block_at, ip_block_of, prefix_block_in, range_block_in, Prefix, Range}
 use Rattle.rpki_base.specs.DerFaults.{BeginsWithTwo, BeginsWithValue}
-use Rattle.rpki_addr.specs.Prefixes.{last_of}
 use Rattle.rpki_base.proofs.DerFaults.{NamesTo, begins_value, bind_names, by_tag_names, mapped_fails, names_more, not_named, refined_names, sequence_fails, value_names}
 use Rattle.rpki_der.specs.declared.error.DerError.TheVariants.{NotCanonical, ReversedRange}
-use Rattle.rpki_der.specs.Reading.{value_at}
-use Rattle.rpki_ip.specs.PrefixDer.{prefix_at, prefix_in}
-use Rattle.rpki_ip.specs.RangeDer.{range_in}
 use Rattle.rpki_ip.proofs.DerFaults.{prefix_content_names, range_fails, range_names}
-use Rattle.rpki_ip_block.specs.BlockReading.{ip_block_at, ip_block_of, prefix_block_in, range_block_in}
-use Rattle.rpki_ip_block.specs.declared.block.IpBlock.TheVariants.{Prefix, Range}
 
 module _ (limit : ℕ) where
   prefix_block_names : (content : List ℕ) → NamesTo 8 (prefix_block_in limit content)

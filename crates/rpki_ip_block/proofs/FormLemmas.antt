@@ -1,21 +1,7 @@
 -- Which blocks are in new form, and prefixes of a family as prefixes of 128 bits.
-use Rattle.std.proofs.Common.{◌≡◌, ℕ, zero, suc, ◌+◌, ◌-◌, ◌*◌, ◌/◌, ◌%◌, ◌^◌, ◌<◌, ◌≤◌, inl, inr, Bool, true, false, refl, ap, sym, ◌∙◌, arith, Option, Some, None}
-use Rattle.std.specs.Prelude.{◌==◌, if◌then◌else◌}
-use Rattle.std.proofs.Math.Nat.{mul-mod_left, mul_assoc}
-use Rattle.std.proofs.lemmas.Bool.{cases_order, eq-eqb, eqb-true}
-use Rattle.std.proofs.lemmas.Nat.{pow_pos, pow_below, pow-add, shr_split}
-use Rattle.rpki_addr.specs.Bits.{cleared}
-use Rattle.rpki_addr.specs.Prefixes.{PrefixValue, IsPrefix}
-use Rattle.rpki_addr.specs.declared.addr.IpAddr.{IpAddr}
-use Rattle.rpki_addr.specs.declared.addr.IpAddr.TheVariants.{V4, V6}
-use Rattle.rpki_addr.proofs.PrefixNumbers.{cleared_first}
-use Rattle.rpki_prefix.specs.Values.{FamilyPrefix, IsFamilyPrefix}
-use Rattle.rpki_addr.specs.AddrText.{first_of}
-use Rattle.rpki_ip.specs.Ranges.{RangeValue, IsRangeOf, range_bounds}
+use Rattle.rpki_ip_block.proofs.Common.{Bool, None, Option, Some, ap, arith, false, inl, inr, refl, suc, sym, true, zero, ℕ, ◌%◌, ◌*◌, ◌+◌, ◌-◌, ◌/◌, ◌<◌, ◌^◌, ◌∙◌, ◌≡◌, ◌≤◌, mul-mod_left, mul_assoc, cases_order, eq-eqb, eqb-true, pow-add, pow_below, pow_pos, shr_split, if◌then◌else◌, cleared_first, first_of, cleared, IsPrefix, PrefixValue, IpAddr, V4, V6, IsRangeOf, RangeValue, range_bounds, FamilyPrefix, IsFamilyPrefix, block_from, has_length, length_of, length_upto, new_ip_block, prefix_bounds, IsBlock, Prefix, Range}
+use Rattle.std.specs.Prelude.{◌==◌}
 use Rattle.rpki_ip_block.specs.BlockFormLaws.{both_pass, bounds_of_length, found_length}
-use Rattle.rpki_ip_block.specs.Blocks.{prefix_bounds, has_length, length_upto, length_of, block_from, new_ip_block}
-use Rattle.rpki_ip_block.specs.PrintedBlocks.{IsBlock}
-use Rattle.rpki_ip_block.specs.declared.block.IpBlock.TheVariants.{Prefix, Range}
 
 -- a prefix has its length
 has_own_length : (p : PrefixValue) → IsPrefix 128 p → has_length (prefix_bounds p) p.len ≡ true

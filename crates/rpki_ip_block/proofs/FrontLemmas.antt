@@ -1,26 +1,10 @@
 -- Blocks at the front of a text: the addresses that write one, and what stands round them.
-use Rattle.std.proofs.Common.{◌≡◌, ◌≢◌, ◌<◌, ℕ, List, [], ◌∷◌, ◌++◌, length, Option, Some, None, IfSome, arith, lit<, lit≤, refl, sym, ap, ◌∙◌, inl, inr, length-append, append_assoc}
+use Rattle.rpki_ip_block.proofs.Common.{IfSome, List, None, Option, Some, [], ap, append_assoc, arith, inl, inr, length, length-append, lit<, lit≤, refl, sym, ℕ, ◌++◌, ◌<◌, ◌∙◌, ◌∷◌, ◌≡◌, ◌≢◌, IsDigitOrDot, All-append, All-cons, All-contains, All-from_recursion, All-weaker, Contains-append_left, recursion_from_All, digit_from_value, IsInRange, AllByRecursion, PrefixValue, IpAddr, V4, V6, AddressFamily, Ipv4, Ipv6, IsAddressText, IsPrefixAt, IsRangeFrom, WithAddress, RangeValue, HasNo, dash, slash, IsBlockAtFront, IsPrefixBehind, IsRangeBehind, IsForeign, IpBlock, Prefix, Range}
 use Rattle.std.specs.Borrow.{Bor}
-use Rattle.std.specs.Int.{IsInRange}
-use Rattle.std.specs.List.{All, Contains, AllByRecursion}
+use Rattle.std.specs.List.{All, Contains}
 use Rattle.std.specs.Str.Parse.{AllDigits}
-use Rattle.std.proofs.NetLemmas.Alphabet.{IsDigitOrDot}
-use Rattle.std.proofs.lemmas.List.Elements.{All-cons, All-weaker, All-append, All-contains, All-from_recursion, recursion_from_All, Contains-append_left}
-use Rattle.std.proofs.lemmas.Str.Parse.{digit_from_value}
-use Rattle.rpki_text.specs.Cuts.{HasNo, slash, dash}
 use Rattle.rpki_addr.specs.AddressFronts.{IsAtFront}
-use Rattle.rpki_addr.specs.Prefixes.{PrefixValue}
-use Rattle.rpki_addr.specs.declared.addr.IpAddr.{IpAddr}
-use Rattle.rpki_addr.specs.declared.addr.IpAddr.TheVariants.{V4, V6}
 use Rattle.rpki_addr.proofs.WrittenBytes.{IsWrittenByte, ipv4_written, ipv4_some, ipv6_written, ipv6_colon}
-use Rattle.rpki_base.specs.declared.family.AddressFamily.{AddressFamily}
-use Rattle.rpki_base.specs.declared.family.AddressFamily.TheVariants.{Ipv4, Ipv6}
-use Rattle.rpki_ip.specs.BlockText.{IsAddressText, IsPrefixAt, IsRangeFrom, WithAddress}
-use Rattle.rpki_ip.specs.Ranges.{RangeValue}
-use Rattle.rpki_ip_block.specs.BlockFronts.{IsBlockAtFront, IsRangeBehind, IsPrefixBehind}
-use Rattle.rpki_ip_block.specs.ListText.{IsForeign}
-use Rattle.rpki_ip_block.specs.declared.block.IpBlock.{IpBlock}
-use Rattle.rpki_ip_block.specs.declared.block.IpBlock.TheVariants.{Prefix, Range}
 
 -- what keeps a text from being taken for one of the other family: in IPv4 no byte from the colon on, in IPv6 a colon
 abbrev OwnBytes : AddressFamily → List ℕ → Type 0

@@ -1,5 +1,6 @@
 pub mod BlockModes
 pub mod BlockWritten
+pub mod Common
 pub mod DerFaults
 pub mod FormLemmas
 pub mod FrontLemmas

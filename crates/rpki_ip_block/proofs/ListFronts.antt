@@ -1,12 +1,6 @@
 -- Lists of blocks, read element by element from the front of what is left.
-use Rattle.std.proofs.Common.{◌≡◌, ℕ, List, [], ◌∷◌, ◌++◌, ◌<◌, length, arith, refl, sym, ap, ◌∙◌, subst, inl, inr, append-nil, append_assoc, length-append}
-use Rattle.rpki_text.specs.Lists.{elements, HaveValues}
+use Rattle.rpki_ip_block.proofs.Common.{List, [], ap, append-nil, append_assoc, arith, inl, inr, length, length-append, refl, subst, sym, ℕ, ◌++◌, ◌<◌, ◌∙◌, ◌∷◌, ◌≡◌, AddressFamily, IsElement, HaveValues, elements, IsBehindSpace, IsBlockAtFront, HasBlocks, IsElementText, IpBlock}
 use Rattle.rpki_text.proofs.ElementLemmas.{IsPartOf, elements_first, elements_last}
-use Rattle.rpki_text.proofs.PrintedLemmas.{IsElement}
-use Rattle.rpki_base.specs.declared.family.AddressFamily.{AddressFamily}
-use Rattle.rpki_ip_block.specs.BlockFronts.{IsBlockAtFront, IsBehindSpace}
-use Rattle.rpki_ip_block.specs.ListText.{IsElementText, HasBlocks}
-use Rattle.rpki_ip_block.specs.declared.block.IpBlock.{IpBlock}
 
 -- blocks that what is left has complete those of the text
 abbrev pub IsSoFar : AddressFamily → List ℕ → List ℕ → List IpBlock → Type 0

@@ -1,16 +1,7 @@
 -- A text of a list of blocks has one list of values or one first fault.
-use Rattle.std.proofs.Common.{◌≡◌, ℕ, inl, inr, Bool, true, false, IsTrue, ◌↔◌, List, Option, Some, Result, Ok, Err, MatchResult, refl, sym, ◌∙◌, subst}
-use Rattle.rpki_text.specs.Lists.{elements, HaveValues, HasFirstFault}
-use Rattle.rpki_text.specs.Memory.{IfRefused}
-use Rattle.rpki_text.specs.Reading.{AnswersOrMemory}
-use Rattle.rpki_text.specs.declared.memory.OrMemory.{OrMemory}
+use Rattle.rpki_ip_block.proofs.Common.{Bool, Err, IsTrue, List, MatchResult, Ok, Option, Result, Some, false, inl, inr, refl, subst, sym, true, ℕ, ◌↔◌, ◌∙◌, ◌≡◌, AddressFamily, FromStrError, HasFirstFault, HaveValues, elements, IfRefused, AnswersOrMemory, OrMemory, HasIpBlockFault, IsIpBlockText, HasBlocks, HasBlocksFault, HasElementFault, HasIpBlocks, HasIpBlocksFault, HasMismatch, IsElementText, IsFamilyOf, IsForeign, IpBlock}
 use Rattle.rpki_text.specs.declared.memory.OrMemory.TheVariants.{Refused, Memory}
 use Rattle.rpki_text.proofs.ListLemmas.{AnswersOrMemory-from_found, HaveValues-one, first_fault_apart, same_first_fault}
-use Rattle.rpki_ip.specs.declared.error.FromStrError.{FromStrError}
-use Rattle.rpki_base.specs.declared.family.AddressFamily.{AddressFamily}
-use Rattle.rpki_ip_block.specs.BlockText.{IsIpBlockText, HasIpBlockFault}
-use Rattle.rpki_ip_block.specs.ListText.{IsForeign, IsElementText, HasElementFault, HasBlocks, HasBlocksFault, IsFamilyOf, HasMismatch, HasIpBlocks, HasIpBlocksFault}
-use Rattle.rpki_ip_block.specs.declared.block.IpBlock.{IpBlock}
 use Rattle.rpki_ip_block.proofs.TextLemmas.{block_one}
 
 -- an element that isn't taken for one of the other family is read as a block

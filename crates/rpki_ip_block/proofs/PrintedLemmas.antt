@@ -1,34 +1,7 @@
 -- What is printed of a block is a text of a block with its bounds.
-use Rattle.std.proofs.Common.{◌≡◌, ℕ, ◌+◌, ◌-◌, ◌%◌, ◌^◌, ◌≤◌, ◌<◌, ◌≢◌, inl, inr, List, ◌∷◌, ◌++◌, None, Some, Result, MatchResult, All, arith, lit<, refl, sym, ap, ◌∙◌, decimal}
-use Rattle.std.proofs.Math.Nat.{pow-le-pow_right}
-use Rattle.std.proofs.lemmas.Bool.{cases_lt, cases_eq, eq-eqb, ne_eqb}
-use Rattle.std.proofs.lemmas.List.Elements.{All-cons, All-append, All-weaker}
-use Rattle.std.proofs.lemmas.Nat.{pow_pos}
-use Rattle.rpki_text.specs.Cuts.{HasNo, slash, dash}
-use Rattle.rpki_addr.specs.Bits.{cleared}
-use Rattle.rpki_addr.specs.Prefixes.{PrefixValue, IsPrefix, last_of}
-use Rattle.rpki_addr.specs.PrintedAddress.{ip_text}
-use Rattle.rpki_text.specs.Reading.{Answers}
+use Rattle.rpki_ip_block.proofs.Common.{All, List, MatchResult, None, Result, Some, ap, arith, decimal, inl, inr, lit<, refl, sym, ℕ, ◌%◌, ◌++◌, ◌+◌, ◌-◌, ◌<◌, ◌^◌, ◌∙◌, ◌∷◌, ◌≡◌, ◌≢◌, ◌≤◌, pow-le-pow_right, cases_eq, cases_lt, eq-eqb, ne_eqb, All-append, All-cons, All-weaker, pow_pos, IsAddressByte, ip_bytes, no_dash, no_slash, not_slash, IsIpText-ip_text, cleared_first, first_of, greatest_of, cleared, IsPrefix, PrefixValue, last_of, ip_text, IpAddr, bits_of, family_of, AddressFamily, Ipv4, Ipv6, single_of, IsAddressText, IsRangeFrom, as_ip, shown_bits, RangeValue, FromStrError, HasNo, dash, slash, Answers, HasIpBlockFault, IsIpBlockText, ip_bounds, IsBlockOf, ReadsIpBlock, ip_block_text, IpBlock, Prefix, Range}
 use Rattle.rpki_addr.specs.ReadsAddress.{IsAddress}
-use Rattle.rpki_addr.specs.declared.addr.IpAddr.{IpAddr}
-use Rattle.rpki_addr.proofs.AddressBytes.{IsAddressByte, ip_bytes, not_slash, no_slash, no_dash}
-use Rattle.rpki_addr.proofs.AddressReads.{IsIpText-ip_text}
 use Rattle.rpki_text.proofs.NumberTexts.{IsNumberText-decimal}
-use Rattle.rpki_addr.proofs.PrefixNumbers.{cleared_first}
-use Rattle.rpki_addr.specs.AddrText.{first_of, greatest_of}
-use Rattle.rpki_ip.specs.BlockText.{IsAddressText, IsRangeFrom}
-use Rattle.rpki_base.specs.Families.{bits_of, family_of}
-use Rattle.rpki_ip.specs.PrintedText.{shown_bits, as_ip}
-use Rattle.rpki_ip.specs.Ranges.{RangeValue}
-use Rattle.rpki_ip.specs.declared.error.FromStrError.{FromStrError}
-use Rattle.rpki_base.specs.declared.family.AddressFamily.{AddressFamily}
-use Rattle.rpki_base.specs.declared.family.AddressFamily.TheVariants.{Ipv4, Ipv6}
-use Rattle.rpki_ip.proofs.TextLemmas.{single_of}
-use Rattle.rpki_ip_block.specs.BlockText.{IsIpBlockText, HasIpBlockFault}
-use Rattle.rpki_ip_block.specs.Blocks.{ip_bounds}
-use Rattle.rpki_ip_block.specs.PrintedBlocks.{ip_block_text, IsBlockOf, ReadsIpBlock}
-use Rattle.rpki_ip_block.specs.declared.block.IpBlock.{IpBlock}
-use Rattle.rpki_ip_block.specs.declared.block.IpBlock.TheVariants.{Prefix, Range}
 
 -- two addresses with a dash between them have no slash
 no_slash_between : (left right : List ℕ) → All IsAddressByte left → All IsAddressByte right → HasNo slash (left ++ dash ∷ right)

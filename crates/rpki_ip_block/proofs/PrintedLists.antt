@@ -1,36 +1,10 @@
 -- What is printed of a list of blocks is read as blocks of their bounds.
-use Rattle.std.proofs.Common.{◌≡◌, ℕ, zero, suc, ◌/◌, ◌%◌, ◌^◌, ◌≤◌, ◌<◌, ◌==◌, inl, inr, List, [], ◌∷◌, ◌++◌, length, map, codes, decimal, Some, Result, MatchResult, All, refl, sym, ap, ◌∙◌, subst, arith, lit<, lit≤, Contains}
-use Rattle.std.specs.Int.{IsInRange}
-use Rattle.std.specs.List.{AllByRecursion, flat_map}
-use Rattle.std.proofs.NetLemmas.Alphabet.{IsDigitOrDot, All-ipv4_text}
-use Rattle.std.proofs.lemmas.Bool.{cond_both}
+use Rattle.rpki_ip_block.proofs.Common.{All, Contains, List, MatchResult, Result, Some, [], ap, arith, codes, decimal, inl, inr, length, lit<, lit≤, map, refl, subst, suc, sym, zero, ℕ, ◌%◌, ◌++◌, ◌/◌, ◌<◌, ◌==◌, ◌^◌, ◌∙◌, ◌∷◌, ◌≡◌, ◌≤◌, All-ipv4_text, IsDigitOrDot, cond_both, All-append, All-cons, All-from_get_or, All-head, All-nil, All-tail, All-weaker, recursion_from_All, digit_at, IsInRange, AllByRecursion, flat_map, IsAddressByte, ip_bytes, IsIpv6Text-ipv6_text, ipv4_text, ipv6_text, bits_of, AddressFamily, Ipv4, Ipv6, addr_text, as_ip, shown_bits, FromStrError, IsElement, IsShown, elements-joined, dash, slash, HaveValues, elements, joined_by, IsMemory, AnswersOrMemory, OrMemory, IsIpBlockText, ip_bounds, HasBlocks, HasBlocksFault, HasIpBlocks, HasIpBlocksFault, IsElementText, IsFamilyOf, IsForeign, colon, dot, IsBlockOf, block_list_text, ip_block_text, IpBlock, Prefix, Range}
 use Rattle.std.proofs.lemmas.Fmt.{decimal_is_IsNumeral}
-use Rattle.std.proofs.lemmas.List.Elements.{All-head, All-tail, All-nil, All-cons, All-append, All-weaker, All-from_get_or, recursion_from_All}
-use Rattle.std.proofs.lemmas.Str.Parse.{digit_at}
 use Rattle.rpki_addr.specs.AddressText.{IsGroupText, IsGroupsText, dotted}
-use Rattle.rpki_text.specs.Cuts.{slash, dash}
 use Rattle.rpki_text.specs.Digits.{octets_of}
-use Rattle.rpki_text.specs.Lists.{elements, joined_by, HaveValues}
-use Rattle.rpki_text.specs.Memory.{IsMemory}
-use Rattle.rpki_addr.specs.PrintedAddress.{ipv4_text, ipv6_text}
-use Rattle.rpki_text.specs.Reading.{AnswersOrMemory}
-use Rattle.rpki_text.specs.declared.memory.OrMemory.{OrMemory}
-use Rattle.rpki_addr.proofs.AddressBytes.{IsAddressByte, ip_bytes}
 use Rattle.rpki_addr.proofs.AddressLemmas.{dotted_is}
-use Rattle.rpki_addr.proofs.AddressReads.{IsIpv6Text-ipv6_text}
 use Rattle.rpki_text.proofs.DigitLemmas.{last_digit_below, length-last_digits}
-use Rattle.rpki_text.proofs.PrintedLemmas.{IsShown, IsElement, elements-joined}
-use Rattle.rpki_base.specs.Families.{bits_of}
-use Rattle.rpki_ip.specs.PrintedText.{shown_bits, as_ip, addr_text}
-use Rattle.rpki_ip.specs.declared.error.FromStrError.{FromStrError}
-use Rattle.rpki_base.specs.declared.family.AddressFamily.{AddressFamily}
-use Rattle.rpki_base.specs.declared.family.AddressFamily.TheVariants.{Ipv4, Ipv6}
-use Rattle.rpki_ip_block.specs.BlockText.{IsIpBlockText}
-use Rattle.rpki_ip_block.specs.Blocks.{ip_bounds}
-use Rattle.rpki_ip_block.specs.ListText.{dot, colon, IsForeign, IsElementText, HasBlocks, HasBlocksFault, IsFamilyOf, HasIpBlocks, HasIpBlocksFault}
-use Rattle.rpki_ip_block.specs.PrintedBlocks.{ip_block_text, block_list_text, IsBlockOf}
-use Rattle.rpki_ip_block.specs.declared.block.IpBlock.{IpBlock}
-use Rattle.rpki_ip_block.specs.declared.block.IpBlock.TheVariants.{Prefix, Range}
 use Rattle.rpki_ip_block.proofs.PrintedLemmas.{written_of, prefix_of}
 
 -- a byte b stands in the text

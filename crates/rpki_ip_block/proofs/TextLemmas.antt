@@ -1,17 +1,6 @@
 -- A text of a block has one value or one fault at most, and each form is found by the byte that cuts the text.
-use Rattle.std.proofs.Common.{◌≡◌, ℕ, inl, inr, List, Option, Result, Ok, Err, MatchResult, refl, sym, ap, ◌∙◌}
-use Rattle.rpki_text.specs.Cuts.{HasNo, IsCutAt, Around, slash, dash}
-use Rattle.rpki_addr.specs.Prefixes.{PrefixValue}
-use Rattle.rpki_text.specs.Reading.{Answers}
+use Rattle.rpki_ip_block.proofs.Common.{Err, List, MatchResult, Ok, Option, Result, ap, inl, inr, refl, sym, ℕ, ◌∙◌, ◌≡◌, PrefixValue, AddressFamily, answers_by_one, prefix_one, range_one, single_one, HasAddressFault, HasIpPrefixTextFault, HasPrefixFault, HasRangeFault, HasRangeTextFault, IsIpPrefixText, IsIpRangeBetween, IsPrefixBetween, IsRangeText, IsSingleText, RangeValue, FromStrError, Around, HasNo, IsCutAt, dash, slash, Answers, HasIpBlockFault, IsIpBlockText, IpBlock, Prefix, Range}
 use Rattle.rpki_text.proofs.CutLemmas.{none_around}
-use Rattle.rpki_ip.specs.BlockText.{IsPrefixBetween, HasPrefixFault, IsIpPrefixText, HasIpPrefixTextFault, IsIpRangeBetween, HasRangeFault, IsRangeText, HasRangeTextFault, IsSingleText, HasAddressFault}
-use Rattle.rpki_ip.specs.Ranges.{RangeValue}
-use Rattle.rpki_ip.specs.declared.error.FromStrError.{FromStrError}
-use Rattle.rpki_base.specs.declared.family.AddressFamily.{AddressFamily}
-use Rattle.rpki_ip.proofs.TextLemmas.{prefix_one, range_one, single_one, answers_by_one}
-use Rattle.rpki_ip_block.specs.BlockText.{IsIpBlockText, HasIpBlockFault}
-use Rattle.rpki_ip_block.specs.declared.block.IpBlock.{IpBlock}
-use Rattle.rpki_ip_block.specs.declared.block.IpBlock.TheVariants.{Prefix, Range}
 
 -- the block of a prefix, and of a range
 abbrev pub of_prefix : Result PrefixValue FromStrError → Result IpBlock FromStrError

@@ -1,36 +1,9 @@
 -- What is read as blocks of IPv4, from texts and from octets, begins and ends with whole IPv4 addresses.
-use Rattle.std.proofs.Common.{◌≡◌, ℕ, ◌+◌, ◌-◌, ◌*◌, ◌/◌, ◌%◌, ◌^◌, ◌<◌, ◌≤◌, inl, inr, List, [], ◌∷◌, Some, Result, Ok, Err, sym, ap, ◌∙◌, subst, arith}
+use Rattle.rpki_ip_block.proofs.Common.{Err, List, Ok, Result, Some, [], ap, arith, inl, inr, subst, sym, ℕ, ◌%◌, ◌*◌, ◌+◌, ◌-◌, ◌/◌, ◌<◌, ◌^◌, ◌∙◌, ◌∷◌, ◌≡◌, ◌≤◌, add-mul, mul-mod_left, mul_assoc, All-cons, All-nil, pow-add, pow_pos, IfOk, first_of, cleared, PrefixValue, IpAddr, V4, V6, bits_of, family_of, AddressFamily, Ipv4, Ipv6, Bits, Each, big_endian, IsRangeFrom, SaysPrefix, RangeValue, range_bounds, FromStrError, FamilyPrefix, IsFamilyPrefix, width, HaveValues, elements, AnswersOrMemory, OrMemory, IsIpBlockDer, IsIpBlockText, ip_bounds, prefix_bounds, HasBlocks, HasBlocksFault, HasIpBlocks, IsElementText, IsFamilyOf, IpBlock, Prefix, Range}
 use Rattle.std.specs.List.{All}
-use Rattle.std.specs.Prelude.{IfOk}
-use Rattle.std.proofs.Math.Nat.{mul-mod_left, mul_assoc, add-mul}
-use Rattle.std.proofs.lemmas.List.Elements.{All-cons, All-nil}
-use Rattle.std.proofs.lemmas.Nat.{pow_pos, pow-add}
-use Rattle.rpki_der.specs.Der.{Bits, Each, big_endian}
-use Rattle.rpki_text.specs.Lists.{elements, HaveValues}
-use Rattle.rpki_addr.specs.Bits.{cleared}
-use Rattle.rpki_addr.specs.Prefixes.{PrefixValue}
-use Rattle.rpki_text.specs.Reading.{AnswersOrMemory}
-use Rattle.rpki_addr.specs.declared.addr.IpAddr.{IpAddr}
-use Rattle.rpki_addr.specs.declared.addr.IpAddr.TheVariants.{V4, V6}
-use Rattle.rpki_text.specs.declared.memory.OrMemory.{OrMemory}
-use Rattle.rpki_addr.specs.AddrText.{first_of}
-use Rattle.rpki_ip.specs.BlockText.{IsRangeFrom}
-use Rattle.rpki_base.specs.Families.{bits_of, family_of}
-use Rattle.rpki_ip.specs.PrefixDer.{SaysPrefix}
-use Rattle.rpki_ip.specs.Ranges.{RangeValue, range_bounds}
 use Rattle.rpki_ip.specs.Whole.{HasWholeBounds}
-use Rattle.rpki_ip.specs.declared.error.FromStrError.{FromStrError}
-use Rattle.rpki_base.specs.declared.family.AddressFamily.{AddressFamily}
-use Rattle.rpki_base.specs.declared.family.AddressFamily.TheVariants.{Ipv4, Ipv6}
-use Rattle.rpki_ip_block.specs.BlockDer.{IsIpBlockDer}
-use Rattle.rpki_ip_block.specs.BlockText.{IsIpBlockText}
-use Rattle.rpki_ip_block.specs.Blocks.{prefix_bounds, ip_bounds}
-use Rattle.rpki_ip_block.specs.ListText.{IsElementText, IsFamilyOf, HasBlocks, HasBlocksFault, HasIpBlocks}
-use Rattle.rpki_ip_block.specs.declared.block.IpBlock.{IpBlock}
-use Rattle.rpki_ip_block.specs.declared.block.IpBlock.TheVariants.{Prefix, Range}
 use Rattle.rpki_ip_block.proofs.FormLemmas.{family_prefix}
 use Rattle.rpki_ip_block.proofs.ListLemmas.{same_family}
-use Rattle.rpki_prefix.specs.Values.{FamilyPrefix, IsFamilyPrefix, width}
 
 -- ---- texts
 

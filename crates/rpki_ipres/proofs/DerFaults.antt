@@ -1,19 +1,12 @@
 -- Where resources of addresses are refused for a list of no blocks, for no family, for one that is there twice.
-use Rattle.std.proofs.Common.{◌≡◌, ℕ, ◌↔◌, List, Err, arith}
+use Rattle.rpki_ipres.proofs.Common.{Err, List, arith, ℕ, ◌↔◌, ◌≡◌, values_of, bits_of, AddressFamily, tagged_at, ip_block_at, ip_blocks_at, IpBlock, ip_families_at, ip_resources_at}
 use Rattle.rpki_der.specs.declared.error.DerError.TheVariants.{DuplicateFamily, EmptyBlocks, NoFamily, NotCanonical}
-use Rattle.rpki_der.specs.Reading.{tagged_at}
 use Rattle.rpki_base.specs.DerFaults.{BeginsEmpty, BeginsWithValue}
-use Rattle.rpki_base.specs.DerReading.{values_of}
 use Rattle.rpki_base.proofs.DerFaults.{NamesTo, names_more, no_values, not_named, refined_names, tagged_names, values_names}
 use Rattle.rpki_chain.proofs.ChoiceFaults.{choice_fails, choice_names}
 use Rattle.rpki_base.specs.FamiliesFaults.{BeginsWithRepeat}
 use Rattle.rpki_base.proofs.FamiliesFaults.{families_names, family_twice, no_family}
-use Rattle.rpki_base.specs.Families.{bits_of}
-use Rattle.rpki_base.specs.declared.family.AddressFamily.{AddressFamily}
-use Rattle.rpki_ip_block.specs.BlockReading.{ip_block_at, ip_blocks_at}
-use Rattle.rpki_ip_block.specs.declared.block.IpBlock.{IpBlock}
 use Rattle.rpki_ip_block.proofs.DerFaults.{block_names}
-use Rattle.rpki_ipres.specs.ResourcesDer.{ip_families_at, ip_resources_at}
 
 blocks_names : (limit : ℕ) (content : List ℕ) → NamesTo {X = List IpBlock} 10 (values_of (ip_block_at limit) content)
 blocks_names limit = values_names 10 (ip_block_at limit) (omega arith) (block_names limit)

@@ -1,42 +1,6 @@
 -- Families of resources in either mode: strictly, the octets are those that are written of them.
-use Rattle.std.proofs.Common.{◌≡◌, ◌≢◌, ℕ, ◌^◌, ◌<◌, true, List, [], ◌++◌, length, Option, Some, None, Result, Ok, Err, refl, sym, ap, subst, ◌∙◌, arith, inl, inr}
-use Rattle.std.specs.Prelude.{IfOk, IfSome, MatchResult}
-use Rattle.std.proofs.lemmas.List.{append-nil, length-append}
-use Rattle.rpki_base.specs.DerReading.{IsSequenceOf}
-use Rattle.rpki_base.specs.DerViews.{NotCanonicalOrMemory, ReadsOrMemory, TakesSaidOrMemory}
-use Rattle.rpki_base.proofs.DerCursors.{reads_said_by}
-use Rattle.rpki_base.proofs.DerModes.{refused_said_by, takes_said_by}
-use Rattle.rpki_chain.specs.ChoiceDer.{IsChoiceOf}
-use Rattle.rpki_chain.specs.Claims.{Claim}
-use Rattle.rpki_chain.specs.declared.choice.ResourcesChoice.{ResourcesChoice}
-use Rattle.rpki_chain.specs.declared.choice.ResourcesChoice.TheVariants.{Missing, Inherit, Blocks}
-use Rattle.rpki_base.specs.FamiliesDer.{AreInOrder, ByFamily, IsFamilies, IsFamiliesInOrder, IsMember, SaysOption, families_der, member_der, option_der}
-use Rattle.rpki_base.proofs.FamiliesGathering.{families_reading}
+use Rattle.rpki_ipres.proofs.Common.{Err, List, None, Ok, Option, Result, Some, [], ap, arith, inl, inr, length, refl, subst, sym, true, ℕ, ◌++◌, ◌<◌, ◌^◌, ◌∙◌, ◌≡◌, ◌≢◌, append-nil, length-append, IfOk, IfSome, MatchResult, reads_said_by, refused_said_by, takes_said_by, families_reading, one_by_family, reads_same, stands_for, stood_for, content_shorter, family_written, IsSequenceOf, NotCanonicalOrMemory, ReadsOrMemory, TakesSaidOrMemory, bits_of, AreInOrder, ByFamily, IsFamilies, IsFamiliesInOrder, IsMember, SaysOption, families_der, member_der, option_der, family_der, AddressFamily, Ipv4, Ipv6, IsChoiceOf, Claim, ResourcesChoice, Missing, found_is, value_is, IsBytes, Refines, Spells, sequence_value, IsModal, Strict, is_strict, left, Cursor, DerError, bits_few_enough, IsIpBlockDer, IpBlock, IsMemory, OrMemory, Memory, Refused, ip_families_by, ip_resources_by, ArePresentClaims, IsFamilyClaim, IsPresentFamilyClaim, IsWholeClaim, if_present, IsIpFamilies, SaysClaimOf, SaysClaims, ip_families_at, ip_families_der, ip_resources_at, ip_resources_der, resources_reading}
 use Rattle.rpki_base.proofs.FamiliesModes.{families_modal}
-use Rattle.rpki_base.proofs.FamiliesSaid.{one_by_family, reads_same, stands_for, stood_for}
-use Rattle.rpki_base.proofs.FamiliesWritten.{content_shorter}
-use Rattle.rpki_der.specs.declared.cursor.Cursor.{Cursor}
-use Rattle.rpki_der.specs.declared.error.DerError.{DerError}
-use Rattle.rpki_der.specs.Der.{IsBytes, Refines, Spells, sequence_value}
-use Rattle.rpki_der.specs.Reading.{IsModal}
-use Rattle.rpki_der.specs.Views.{Strict, is_strict, left}
-use Rattle.rpki_der.proofs.Modes.{found_is}
-use Rattle.rpki_der.proofs.Written.{value_is}
-use Rattle.rpki_base.specs.declared.family.AddressFamily.{AddressFamily}
-use Rattle.rpki_base.specs.declared.family.AddressFamily.TheVariants.{Ipv4, Ipv6}
-use Rattle.rpki_base.specs.Families.{bits_of}
-use Rattle.rpki_base.specs.FamilyDer.{family_der}
-use Rattle.rpki_ip.proofs.DerModes.{bits_few_enough}
-use Rattle.rpki_base.proofs.FamilyLemmas.{family_written}
-use Rattle.rpki_text.specs.declared.memory.OrMemory.{OrMemory}
-use Rattle.rpki_text.specs.declared.memory.OrMemory.TheVariants.{Refused, Memory}
-use Rattle.rpki_text.specs.Memory.{IsMemory}
-use Rattle.rpki_ip_block.specs.BlockDer.{IsIpBlockDer}
-use Rattle.rpki_ip_block.specs.declared.block.IpBlock.{IpBlock}
-use Rattle.rpki_ipres.specs.Modes.{ip_families_by, ip_resources_by}
-use Rattle.rpki_ipres.specs.Resources.{ArePresentClaims, IsFamilyClaim, IsPresentFamilyClaim, IsWholeClaim, if_present}
-use Rattle.rpki_ipres.specs.ResourcesDer.{IsIpFamilies, SaysClaimOf, SaysClaims, ip_families_at, ip_families_der, ip_resources_at, ip_resources_der}
-use Rattle.rpki_ipres.specs.ResourcesReadingLaws.{resources_reading}
 use Rattle.rpki_ipres.proofs.Modes.{IsWrittenChoice, claim_spelled, spelled_claim, written_modal}
 use Rattle.rpki_ipres.proofs.ResourcesWritten.{front_short, one_claim}
 use Rattle.rpki_ipres.proofs.WholeReadings.{whole_families_when_taken}

@@ -1,26 +1,6 @@
 -- What is written of sets, alone and behind their family, stands for them, and octets stand for one set at most.
-use Rattle.std.proofs.Common.{◌≡◌, ◌≢◌, ℕ, ◌+◌, ◌<◌, ◌^◌, ◌↔◌, List, [], ◌∷◌, ◌++◌, length, map, refl, sym, ap, subst, ◌∙◌, arith}
-use Rattle.std.proofs.lemmas.List.{append_assoc, append_cancel_left, length-append}
-use Rattle.rpki_der.specs.Der.{OneFront, header, sequence_value}
-use Rattle.rpki_der.specs.Reading.{tagged_at}
+use Rattle.rpki_ipres.proofs.Common.{List, [], ap, arith, length, map, refl, subst, sym, ℕ, ◌++◌, ◌+◌, ◌<◌, ◌^◌, ◌↔◌, ◌∙◌, ◌∷◌, ◌≡◌, ◌≢◌, append_assoc, append_cancel_left, length-append, one_content, family_reading, family_written, IsSequenceOf, octets_of_all, bits_of, IsFamilyDer, family_at, family_der, AddressFamily, same_numbers, Holds, IsRunsOfBlocks, Runs, value_is, OneFront, header, sequence_value, tagged_at, IsIpBlockDer, ip_blocks_at, blocks_reading, ip_bounds, new_ip_block, IpBlock, IsIpBlockSequence, IsIpFamily, ip_family_der, ip_run_der, ip_set_der, IsFamilySet}
 use Rattle.rpki_der.proofs.Readings.{IsTagged, one_front, tagged_reading}
-use Rattle.rpki_der.proofs.Written.{value_is}
-use Rattle.rpki_base.specs.DerReading.{IsSequenceOf}
-use Rattle.rpki_base.specs.DerWriting.{octets_of_all}
-use Rattle.rpki_base.proofs.DerWriting.{one_content}
-use Rattle.rpki_chain.specs.Runs.{Runs, Holds, IsRunsOfBlocks}
-use Rattle.rpki_chain.proofs.RunLists.{same_numbers}
-use Rattle.rpki_base.specs.Families.{bits_of}
-use Rattle.rpki_base.specs.FamilyDer.{IsFamilyDer, family_at, family_der}
-use Rattle.rpki_base.specs.declared.family.AddressFamily.{AddressFamily}
-use Rattle.rpki_base.proofs.FamilyLemmas.{family_reading, family_written}
-use Rattle.rpki_ip_block.specs.BlockDer.{IsIpBlockDer}
-use Rattle.rpki_ip_block.specs.BlockReading.{ip_blocks_at}
-use Rattle.rpki_ip_block.specs.BlockReadingLaws.{blocks_reading}
-use Rattle.rpki_ip_block.specs.Blocks.{ip_bounds, new_ip_block}
-use Rattle.rpki_ip_block.specs.declared.block.IpBlock.{IpBlock}
-use Rattle.rpki_ipres.specs.SetDer.{IsIpBlockSequence, IsIpFamily, ip_family_der, ip_run_der, ip_set_der}
-use Rattle.rpki_ipres.specs.SetText.{IsFamilySet}
 use Rattle.rpki_ipres.proofs.SetTextLemmas.{is_ip_set}
 use Rattle.rpki_ipres.proofs.SetWritten.{blocks_say, one_set, set_written, written_as_numbers}
 

@@ -1,3 +1,4 @@
+pub mod Common
 pub mod DerFaults
 pub mod FamilyModes
 pub mod FamilyWritten

@@ -1,57 +1,12 @@
 -- Sets and resources of addresses in either mode: strictly, the octets are those that are written of them.
-use Rattle.std.proofs.Common.{◌≡◌, ◌≢◌, ℕ, ◌-◌, ◌^◌, ◌<◌, ◌≤◌, true, List, [], ◌∷◌, ◌++◌, length, Option, None, Result, Ok, Err, refl, sym, ap, subst, ◌∙◌, arith}
-use Rattle.std.specs.Prelude.{All, IfOk, MatchResult, ⊤}
-use Rattle.std.proofs.lemmas.List.Elements.{All-from_recursion}
-use Rattle.std.proofs.lemmas.Nat.{pow_pos}
-use Rattle.rpki_base.specs.DerReading.{IsSequenceFrom, IsSequenceOf}
-use Rattle.rpki_base.specs.DerViews.{NotCanonicalOrMemory, ReadsOrMemory, TakesSaidOrMemory}
-use Rattle.rpki_base.specs.DerWriting.{octets_of_all}
-use Rattle.rpki_base.proofs.DerCursors.{reads_said_by}
-use Rattle.rpki_base.proofs.DerModes.{exact_said_by, refused_said_by, sequence_modal, takes_said_by, values_stateless}
+use Rattle.rpki_ipres.proofs.Common.{Err, List, None, Ok, Option, Result, [], ap, arith, length, refl, subst, sym, true, ℕ, ◌++◌, ◌-◌, ◌<◌, ◌^◌, ◌∷◌, ◌≡◌, ◌≢◌, ◌≤◌, All-from_recursion, pow_pos, IfOk, MatchResult, ⊤, reads_said_by, exact_said_by, refused_said_by, sequence_modal, takes_said_by, values_stateless, content_shorter, IsSequenceFrom, IsSequenceOf, NotCanonicalOrMemory, ReadsOrMemory, TakesSaidOrMemory, octets_of_all, bits_of, AddressFamily, Ipv4, IsWritten, listed_chain, no_numbers, set_spelled, spelled_set, taken_chain, IsChoiceOf, Claim, Holds, IsRunsOfBlocks, Runs, ResourcesChoice, Blocks, Inherit, Missing, IsChain, found_is, tested_modal, value_is, EachFrom, Front, IsBytes, Refines, Spells, Where, IsModal, refined, tagged_at, Lenient, Strict, is_strict, left, Cursor, DerError, bits_few_enough, within, whole_set, HasWholeBounds, IsWhole, new_block_fits, IsBlockWithin, IsIpBlockDer, IsSetIpBlock, ip_block_der, new_ip_block_bounds, ip_block_at, ip_block_by, ip_blocks_at, next_ip_block_by, blocks_reading, ip_block_has_octets, ip_block_reading, ip_bounds, new_ip_block, IpBlock, Prefix, Range, IsMemory, OrMemory, Memory, Refused, greatest_of_ip_block, ip_blocks_by, ip_resources_by, IsFamilyClaim, IsPresentFamilyClaim, IsWholeClaim, IsIpResources, SaysClaimOf, ip_resources_at, ip_resources_der, resources_modal_of, resources_reading, IsIpBlockSequence, ip_run_der, ip_set_der, IsFamilySet, IsIpSet}
+use Rattle.std.specs.Prelude.{All}
 use Rattle.rpki_chains.specs.Beyond.{IsBeyond, is_beyond}
-use Rattle.rpki_chains.specs.Sets.{IsChain}
-use Rattle.rpki_chain.specs.Runs.{Runs, Holds, IsRunsOfBlocks}
-use Rattle.rpki_chain.specs.ChoiceDer.{IsChoiceOf}
 use Rattle.rpki_chain.specs.Choices.{MatchChoice}
-use Rattle.rpki_chain.specs.Claims.{Claim}
-use Rattle.rpki_chain.specs.declared.choice.ResourcesChoice.{ResourcesChoice}
-use Rattle.rpki_chain.specs.declared.choice.ResourcesChoice.TheVariants.{Missing, Inherit, Blocks}
-use Rattle.rpki_chain.proofs.Ascending.{IsWritten, listed_chain, no_numbers, set_spelled, spelled_set, taken_chain}
 use Rattle.rpki_chain.proofs.ChoiceReadings.{has_numbers}
-use Rattle.rpki_base.proofs.FamiliesWritten.{content_shorter}
-use Rattle.rpki_der.proofs.Written.{value_is}
-use Rattle.rpki_der.specs.declared.cursor.Cursor.{Cursor}
-use Rattle.rpki_der.specs.declared.error.DerError.{DerError}
-use Rattle.rpki_der.specs.Der.{EachFrom, Front, IsBytes, Refines, Spells, Where}
-use Rattle.rpki_der.specs.Reading.{IsModal, refined, tagged_at}
-use Rattle.rpki_der.specs.Views.{Lenient, Strict, is_strict, left}
-use Rattle.rpki_der.proofs.Modes.{found_is, tested_modal}
-use Rattle.rpki_base.specs.declared.family.AddressFamily.{AddressFamily}
-use Rattle.rpki_base.specs.declared.family.AddressFamily.TheVariants.{Ipv4, Ipv6}
-use Rattle.rpki_base.specs.Families.{bits_of}
-use Rattle.rpki_ip.specs.Whole.{HasWholeBounds, IsWhole}
-use Rattle.rpki_ip.proofs.DerModes.{bits_few_enough, within}
-use Rattle.rpki_ip.proofs.WholeLemmas.{whole_set}
-use Rattle.rpki_text.specs.declared.memory.OrMemory.{OrMemory}
-use Rattle.rpki_text.specs.declared.memory.OrMemory.TheVariants.{Refused, Memory}
-use Rattle.rpki_text.specs.Memory.{IsMemory}
-use Rattle.rpki_ip_block.specs.BlockDer.{IsBlockWithin, IsIpBlockDer, IsSetIpBlock, ip_block_der}
-use Rattle.rpki_ip_block.specs.BlockFormLaws.{new_ip_block_bounds}
 use Rattle.rpki_chains.proofs.Beyond.{beyond_is, is_beyond_of}
 use Rattle.rpki_ip_block.specs.BlockModeLaws.{ip_block_modal}
-use Rattle.rpki_ip_block.specs.BlockReading.{ip_block_at, ip_block_by, ip_blocks_at, next_ip_block_by}
-use Rattle.rpki_ip_block.specs.BlockReadingLaws.{blocks_reading, ip_block_has_octets, ip_block_reading}
-use Rattle.rpki_ip_block.specs.Blocks.{ip_bounds, new_ip_block}
-use Rattle.rpki_ip_block.specs.declared.block.IpBlock.{IpBlock}
-use Rattle.rpki_ip_block.specs.declared.block.IpBlock.TheVariants.{Prefix, Range}
 use Rattle.rpki_ip_block.proofs.BlockModes.{set_block_reading}
-use Rattle.rpki_ip_block.proofs.FormLemmas.{new_block_fits}
-use Rattle.rpki_ipres.specs.Modes.{greatest_of_ip_block, ip_blocks_by, ip_resources_by}
-use Rattle.rpki_ipres.specs.Resources.{IsFamilyClaim, IsPresentFamilyClaim, IsWholeClaim}
-use Rattle.rpki_ipres.specs.ResourcesDer.{IsIpResources, SaysClaimOf, ip_resources_at, ip_resources_der}
-use Rattle.rpki_ipres.specs.ResourcesReadingLaws.{resources_modal_of, resources_reading}
-use Rattle.rpki_ipres.specs.SetDer.{IsIpBlockSequence, ip_run_der, ip_set_der}
-use Rattle.rpki_ipres.specs.SetText.{IsFamilySet, IsIpSet}
 use Rattle.rpki_ipres.proofs.SetTextLemmas.{is_ip_set}
 use Rattle.rpki_ipres.proofs.SetWritten.{IsRunWithin, content_short, family_runs, made_within, one_set}
 use Rattle.rpki_ipres.proofs.ResourcesWritten.{front_short, one_claim}

@@ -1,16 +1,8 @@
 -- What is printed of a set is a list text with that set, a list text has one set at most, and so sets of the same
 -- addresses alone print alike.
-use Rattle.std.proofs.Common.{◌≡◌, ℕ, ◌↔◌, List, map, refl, sym, ap, ◌∙◌, subst}
-use Rattle.rpki_chain.specs.Runs.{Runs, Holds, IsRunsOfBlocks}
-use Rattle.rpki_chains.specs.Sets.{Covers}
-use Rattle.rpki_chain.proofs.RunLists.{IsRunsOf-unique, IsRunsOfBlocks-bounds, same_numbers}
-use Rattle.rpki_base.specs.declared.family.AddressFamily.{AddressFamily}
-use Rattle.rpki_ip_block.specs.Blocks.{ip_bounds, new_ip_block}
-use Rattle.rpki_ip_block.specs.ListText.{HasBlocks, HasIpBlocks}
-use Rattle.rpki_ip_block.specs.declared.block.IpBlock.{IpBlock}
+use Rattle.rpki_ipres.proofs.Common.{List, ap, map, refl, subst, sym, ℕ, ◌↔◌, ◌∙◌, ◌≡◌, AddressFamily, IsRunsOf-unique, IsRunsOfBlocks-bounds, same_numbers, Holds, IsRunsOfBlocks, Runs, Covers, ip_bounds, new_ip_block, HasBlocks, HasIpBlocks, IpBlock, IsFamilySet, IsIpSet, IsSetOf, set_text}
 use Rattle.rpki_ip_block.proofs.ListLemmas.{same_blocks, same_ip_blocks}
 use Rattle.rpki_ip_block.proofs.PrintedLists.{family_list, list_told}
-use Rattle.rpki_ipres.specs.SetText.{IsSetOf, IsIpSet, IsFamilySet, set_text}
 use Rattle.rpki_ipres.proofs.SetTextLemmas.{blocks_bounds, blocks_of_family, is_ip_set}
 
 module _ (Has : List IpBlock → Type 0) where

@@ -1,36 +1,7 @@
 -- What is written of resources, alone and by families, stands for them, and octets stand for one
 -- claim at most.
-use Rattle.std.proofs.Common.{◌≡◌, ◌≢◌, ◌↔◌, ℕ, ◌+◌, ◌^◌, ◌<◌, List, [], ◌∷◌, ◌++◌, length, map, Option, Some, None, refl, ap, subst, arith}
-use Rattle.std.specs.Prelude.{IfSome}
-use Rattle.std.proofs.lemmas.List.{append_cancel_left, length-append}
-use Rattle.rpki_der.specs.Der.{OneFront, header}
-use Rattle.rpki_der.proofs.Written.{value_is}
-use Rattle.rpki_base.specs.DerReading.{IsSequenceOf}
-use Rattle.rpki_base.specs.DerWriting.{octets_of_all}
+use Rattle.rpki_ipres.proofs.Common.{List, None, Option, Some, [], ap, arith, length, map, refl, subst, ℕ, ◌++◌, ◌+◌, ◌<◌, ◌^◌, ◌↔◌, ◌∷◌, ◌≡◌, ◌≢◌, append_cancel_left, length-append, IfSome, one_content, one_families, Writes, content_shorter, families_written, IsSequenceOf, octets_of_all, bits_of, option_der, family_der, AddressFamily, Ipv4, Ipv6, lists_one, same_numbers, IsChoiceOf, Claim, claim_of, IsRunsOfBlocks, Runs, ResourcesChoice, Blocks, Inherit, Missing, value_is, OneFront, header, IsIpBlockDer, ip_bounds, new_ip_block, IpBlock, IsFamilyClaim, IsIpClaim, if_present, IsIpFamilies, IsIpResources, SaysClaimOf, ip_families_der, ip_member_der, ip_resources_at, ip_resources_der, resources_reading, ip_family_der, ip_run_der, IsFamilySet}
 use Rattle.rpki_base.proofs.DerReadings.{one_front_said}
-use Rattle.rpki_base.proofs.DerWriting.{one_content}
-use Rattle.rpki_chain.specs.ChoiceDer.{IsChoiceOf}
-use Rattle.rpki_chain.specs.Claims.{Claim, claim_of}
-use Rattle.rpki_chain.specs.Runs.{Runs, IsRunsOfBlocks}
-use Rattle.rpki_chain.specs.declared.choice.ResourcesChoice.{ResourcesChoice}
-use Rattle.rpki_chain.specs.declared.choice.ResourcesChoice.TheVariants.{Missing, Inherit, Blocks}
-use Rattle.rpki_chain.proofs.ClaimLemmas.{lists_one}
-use Rattle.rpki_chain.proofs.RunLists.{same_numbers}
-use Rattle.rpki_base.specs.FamiliesDer.{option_der}
-use Rattle.rpki_base.proofs.FamiliesSaid.{one_families}
-use Rattle.rpki_base.proofs.FamiliesWritten.{Writes, content_shorter, families_written}
-use Rattle.rpki_base.specs.Families.{bits_of}
-use Rattle.rpki_base.specs.FamilyDer.{family_der}
-use Rattle.rpki_base.specs.declared.family.AddressFamily.{AddressFamily}
-use Rattle.rpki_base.specs.declared.family.AddressFamily.TheVariants.{Ipv4, Ipv6}
-use Rattle.rpki_ip_block.specs.BlockDer.{IsIpBlockDer}
-use Rattle.rpki_ip_block.specs.Blocks.{ip_bounds, new_ip_block}
-use Rattle.rpki_ip_block.specs.declared.block.IpBlock.{IpBlock}
-use Rattle.rpki_ipres.specs.SetDer.{ip_family_der, ip_run_der}
-use Rattle.rpki_ipres.specs.Resources.{IsFamilyClaim, IsIpClaim, if_present}
-use Rattle.rpki_ipres.specs.ResourcesDer.{IsIpFamilies, IsIpResources, SaysClaimOf, ip_families_der, ip_member_der, ip_resources_at, ip_resources_der}
-use Rattle.rpki_ipres.specs.ResourcesReadingLaws.{resources_reading}
-use Rattle.rpki_ipres.specs.SetText.{IsFamilySet}
 use Rattle.rpki_ipres.proofs.SetTextLemmas.{is_ip_set}
 use Rattle.rpki_ipres.proofs.SetWritten.{blocks_say, one_set, set_written, written_as_numbers}
 

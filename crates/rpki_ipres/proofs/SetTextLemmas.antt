@@ -1,22 +1,6 @@
 -- A list writes one set at most, or has one fault, and what is printed of a set is read as that set.
-use Rattle.std.proofs.Common.{◌≡◌, ◌≤◌, List, map, get_or, Ok, Err, sym, ◌∙◌, subst, arith}
-use Rattle.std.specs.List.{All}
-use Rattle.std.proofs.lemmas.List.Elements.{All-map}
+use Rattle.rpki_ipres.proofs.Common.{Err, List, Ok, arith, get_or, map, subst, sym, ◌∙◌, ◌≡◌, ◌≤◌, All-map, All, AddressFamily, Ipv4, Ipv6, IsRunsOf-unique, IsRunsOfBlocks-bounds, bounds_made, IsRunsOfBlocks, Runs, Covers, HasWholeBounds, new_block_fits, new_ip_block_bounds, ip_bounds, new_ip_block, IsBlockOf, IpBlock, OrMemory, IsFamilySet, IsIpSet, IsSetOf}
 use Rattle.rpki_text.specs.Reading.{AnswersOrMemory}
-use Rattle.rpki_text.specs.declared.memory.OrMemory.{OrMemory}
-use Rattle.rpki_chain.specs.Runs.{Runs, IsRunsOfBlocks}
-use Rattle.rpki_chains.specs.Sets.{Covers}
-use Rattle.rpki_chain.proofs.RunLists.{IsRunsOf-unique, IsRunsOfBlocks-bounds}
-use Rattle.rpki_chain.proofs.SetLemmas.{bounds_made}
-use Rattle.rpki_ip.specs.Whole.{HasWholeBounds}
-use Rattle.rpki_base.specs.declared.family.AddressFamily.{AddressFamily}
-use Rattle.rpki_base.specs.declared.family.AddressFamily.TheVariants.{Ipv4, Ipv6}
-use Rattle.rpki_ip_block.specs.BlockFormLaws.{new_ip_block_bounds}
-use Rattle.rpki_ip_block.specs.Blocks.{ip_bounds, new_ip_block}
-use Rattle.rpki_ip_block.specs.PrintedBlocks.{IsBlockOf}
-use Rattle.rpki_ip_block.specs.declared.block.IpBlock.{IpBlock}
-use Rattle.rpki_ip_block.proofs.FormLemmas.{new_block_fits}
-use Rattle.rpki_ipres.specs.SetText.{IsSetOf, IsIpSet, IsFamilySet}
 use Rattle.rpki_ipres.proofs.WholeLemmas.{whole_runs}
 
 module _ {V E : Type 0} (view : V → List IpBlock) (Has : List IpBlock → Type 0) (Fails : E → Type 0) where

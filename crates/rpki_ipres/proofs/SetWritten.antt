@@ -1,37 +1,9 @@
 -- What is written of sets of addresses, and that it is read back.
-use Rattle.std.proofs.Common.{◌≡◌, ℕ, ◌+◌, ◌-◌, ◌^◌, ◌<◌, ◌≤◌, ◌↔◌, false, eqb, List, [], ◌∷◌, ◌++◌, length, map, sym, ap, subst, ◌∙◌, arith}
-use Rattle.std.specs.List.{AllByRecursion}
-use Rattle.std.proofs.lemmas.List.{length-append}
-use Rattle.std.proofs.lemmas.List.Elements.{recursion_from_All}
+use Rattle.rpki_ipres.proofs.Common.{List, [], ap, arith, eqb, false, length, map, subst, sym, ℕ, ◌++◌, ◌+◌, ◌-◌, ◌<◌, ◌^◌, ◌↔◌, ◌∙◌, ◌∷◌, ◌≡◌, ◌≤◌, length-append, recursion_from_All, pow_pos, AllByRecursion, one_content, sequence_written, written_alike, IsSequenceOf, octets_of_all, sequence_octets, bits_of, family_der, AddressFamily, Ipv4, Ipv6, IsRunsOf-unique, same_numbers, made_of_set, Holds, IsRunsOfBlocks, Runs, Covers, header, sequence_value, HasWholeBounds, new_block_fits, IsBlockWithin, IsIpBlockDer, ip_block_der, new_ip_block_bounds, ip_block_at, ip_block_has_octets, ip_block_reading, ip_bounds, new_ip_block, IsBlock, IpBlock, Prefix, Range, ip_family_der, ip_run_der, ip_set_der, IsFamilySet, IsIpSet}
 use Rattle.std.proofs.lemmas.List.Folds.{flat_map-map}
-use Rattle.std.proofs.lemmas.Nat.{pow_pos}
-use Rattle.rpki_chain.specs.Runs.{Runs, Holds, IsRunsOfBlocks}
-use Rattle.rpki_chains.specs.Sets.{Covers}
-use Rattle.rpki_chain.proofs.RunLists.{IsRunsOf-unique, same_numbers}
-use Rattle.rpki_chain.proofs.SetLemmas.{made_of_set}
-use Rattle.rpki_der.specs.Der.{header, sequence_value}
-use Rattle.rpki_base.specs.DerReading.{IsSequenceOf}
-use Rattle.rpki_base.specs.DerWriting.{octets_of_all, sequence_octets}
-use Rattle.rpki_base.proofs.DerWriting.{one_content, sequence_written, written_alike}
-use Rattle.rpki_base.specs.declared.family.AddressFamily.{AddressFamily}
-use Rattle.rpki_base.specs.declared.family.AddressFamily.TheVariants.{Ipv4, Ipv6}
-use Rattle.rpki_base.specs.Families.{bits_of}
-use Rattle.rpki_base.specs.FamilyDer.{family_der}
 use Rattle.rpki_ip.specs.RangeDer.{IsRangeWithin}
-use Rattle.rpki_ip.specs.Whole.{HasWholeBounds}
 use Rattle.rpki_ip.proofs.DerWritten.{few_bits}
-use Rattle.rpki_ip_block.specs.BlockDer.{IsBlockWithin, IsIpBlockDer, ip_block_der}
-use Rattle.rpki_ip_block.specs.PrintedBlocks.{IsBlock}
-use Rattle.rpki_ip_block.specs.BlockFormLaws.{new_ip_block_bounds}
-use Rattle.rpki_ip_block.specs.BlockReading.{ip_block_at}
-use Rattle.rpki_ip_block.specs.Blocks.{ip_bounds, new_ip_block}
-use Rattle.rpki_ip_block.specs.declared.block.IpBlock.{IpBlock}
-use Rattle.rpki_ip_block.specs.declared.block.IpBlock.TheVariants.{Prefix, Range}
-use Rattle.rpki_ip_block.specs.BlockReadingLaws.{ip_block_has_octets, ip_block_reading}
 use Rattle.rpki_ip_block.proofs.BlockWritten.{block_written}
-use Rattle.rpki_ip_block.proofs.FormLemmas.{new_block_fits}
-use Rattle.rpki_ipres.specs.SetDer.{ip_family_der, ip_run_der, ip_set_der}
-use Rattle.rpki_ipres.specs.SetText.{IsFamilySet, IsIpSet}
 use Rattle.rpki_ipres.proofs.SetTextLemmas.{blocks_bounds}
 use Rattle.rpki_ipres.proofs.WholeLemmas.{whole_runs}
 

@@ -1,18 +1,10 @@
 -- Where a set and the claims on it consist of whole IPv4 addresses, so does what they leave, and what is too much.
-use Rattle.std.proofs.Common.{ℕ, List, take, sym, subst}
-use Rattle.std.specs.List.{All}
-use Rattle.std.proofs.lemmas.List.Elements.{All-take}
-use Rattle.rpki_chain.specs.Claims.{Claim}
+use Rattle.rpki_ipres.proofs.Common.{List, subst, sym, take, ℕ, All-take, All, Ipv4, Claim, Holds, IsRunsOf, Runs, Blocks, Inherit, Missing, IsWhole, IsFamilyClaim, IsIpClaim, IsWholeClaim}
 use Rattle.rpki_chain.specs.Paths.{Lists, Leaves, Exceeds, IsIssued, IsExcess, IsUncovered, IsLeft, IsPathResult, IsFirstRefusal}
-use Rattle.rpki_chain.specs.Runs.{Runs, Holds, IsRunsOf}
-use Rattle.rpki_chain.specs.declared.choice.ResourcesChoice.TheVariants.{Missing, Inherit, Blocks}
 use Rattle.rpki_chain.specs.declared.path.Overclaim.{Overclaim}
 use Rattle.rpki_chain.specs.declared.path.Overclaim.TheVariants.{Refuse, Trim}
 use Rattle.rpki_chain.specs.declared.path.PathRefusal.{PathRefusal}
 use Rattle.rpki_chain.specs.declared.path.Step.{Step}
-use Rattle.rpki_ip.specs.Whole.{IsWhole}
-use Rattle.rpki_base.specs.declared.family.AddressFamily.TheVariants.{Ipv4}
-use Rattle.rpki_ipres.specs.Resources.{IsFamilyClaim, IsIpClaim, IsWholeClaim}
 
 -- what a whole claim lists, and what it leaves, is whole
 whole_lists : (claim : Claim) → IsWholeClaim claim → IsWhole (Lists claim)

@@ -1,17 +1,8 @@
 -- Which sets consist of whole IPv4 addresses, by their runs.
-use Rattle.std.proofs.Common.{◌≡◌, ℕ, ◌+◌, ◌-◌, ◌%◌, ◌^◌, ◌<◌, ◌≤◌, inl, inr, List, length, get_or, map, refl, sym, ap, ◌∙◌, subst, arith}
+use Rattle.rpki_ipres.proofs.Common.{List, ap, arith, get_or, inl, inr, length, map, refl, subst, sym, ℕ, ◌%◌, ◌+◌, ◌-◌, ◌<◌, ◌^◌, ◌∙◌, ◌≡◌, ◌≤◌, cases_order, get_or-map, length-map, All-map, Holds, IsRunsOf, Runs, IsChainOf, IsRun, whole_set, HasWholeBounds, IsWhole, ip_bounds, IpBlock}
 use Rattle.std.specs.Prelude.{All}
 use Rattle.std.proofs.Math.Nat.{le_refl}
-use Rattle.std.proofs.lemmas.Bool.{cases_order}
-use Rattle.std.proofs.lemmas.List.{get_or-map, length-map}
-use Rattle.std.proofs.lemmas.List.Elements.{All-map}
-use Rattle.rpki_chain.specs.Runs.{Runs, Holds, IsRunsOf}
-use Rattle.rpki_chains.specs.Sets.{IsRun, IsChainOf}
 use Rattle.rpki_chains.proofs.Chains.{IsChainOf-from}
-use Rattle.rpki_ip.specs.Whole.{IsWhole, HasWholeBounds}
-use Rattle.rpki_ip.proofs.WholeLemmas.{whole_set}
-use Rattle.rpki_ip_block.specs.Blocks.{ip_bounds}
-use Rattle.rpki_ip_block.specs.declared.block.IpBlock.{IpBlock}
 
 -- a run of a whole set has whole bounds
 whole_run : (S : ℕ → Type 0) (b : ℕ × ℕ) → IsRun S b → IsWhole S → HasWholeBounds b

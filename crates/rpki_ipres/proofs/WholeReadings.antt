@@ -1,27 +1,5 @@
 -- The sets and claims that are read as IPv4 consist of whole IPv4 addresses.
-use Rattle.std.proofs.Common.{◌≡◌, ℕ, List, Option, Some, None, Result, Ok, Err, refl, sym, subst}
-use Rattle.std.specs.List.{All}
-use Rattle.std.specs.Prelude.{IfOk, IfSome}
-use Rattle.rpki_der.specs.declared.cursor.Cursor.{Cursor}
-use Rattle.rpki_der.specs.declared.error.DerError.{DerError}
-use Rattle.rpki_base.specs.DerViews.{ReadsOrMemory}
-use Rattle.rpki_text.specs.declared.memory.OrMemory.{OrMemory}
-use Rattle.rpki_chain.specs.Claims.{Claim}
-use Rattle.rpki_base.specs.FamiliesDer.{ByFamily}
-use Rattle.rpki_base.proofs.FamiliesGathering.{IsThere, each_there}
-use Rattle.rpki_chain.specs.declared.choice.ResourcesChoice.TheVariants.{Missing, Inherit, Blocks}
-use Rattle.rpki_chain.specs.Runs.{Runs, Holds, IsRunsOfBlocks}
-use Rattle.rpki_base.specs.Families.{bits_of}
-use Rattle.rpki_ip.specs.Whole.{IsWhole, HasWholeBounds}
-use Rattle.rpki_base.specs.declared.family.AddressFamily.{AddressFamily}
-use Rattle.rpki_base.specs.declared.family.AddressFamily.TheVariants.{Ipv4, Ipv6}
-use Rattle.rpki_ip.proofs.WholeLemmas.{whole_set}
-use Rattle.rpki_ip_block.specs.Blocks.{ip_bounds}
-use Rattle.rpki_ip_block.specs.declared.block.IpBlock.{IpBlock}
-use Rattle.rpki_ip_block.proofs.WholeReadings.{whole_each}
-use Rattle.rpki_ipres.specs.SetDer.{IsIpBlockSequence}
-use Rattle.rpki_ipres.specs.Resources.{IsWholeClaim}
-use Rattle.rpki_ipres.specs.ResourcesDer.{IsIpFamilies, IsIpResources}
+use Rattle.rpki_ipres.proofs.Common.{Err, List, None, Ok, Option, Result, Some, refl, subst, sym, ℕ, ◌≡◌, All, IfOk, IfSome, IsThere, each_there, ReadsOrMemory, bits_of, ByFamily, AddressFamily, Ipv4, Ipv6, Claim, Holds, IsRunsOfBlocks, Runs, Blocks, Inherit, Missing, Cursor, DerError, whole_set, HasWholeBounds, IsWhole, whole_each, ip_bounds, IpBlock, OrMemory, IsWholeClaim, IsIpFamilies, IsIpResources, IsIpBlockSequence}
 
 -- the set of blocks with whole bounds is whole
 pub whole_cover : (blocks : List IpBlock) (set : Runs) → All (λ b. HasWholeBounds (ip_bounds b)) blocks → IsRunsOfBlocks ip_bounds blocks set → IsWhole (Holds set)

@@ -1,8 +1,6 @@
 -- Unions, intersections and differences of sets of whole IPv4 addresses consist of whole IPv4 addresses.
-use Rattle.std.proofs.Common.{⊎_elim, inl, inr, sym}
+use Rattle.rpki_ipres.proofs.Common.{inl, inr, sym, ⊎_elim, Holds, Runs, IsWhole}
 use Rattle.rpki_chain.specs.Operations.{IsUnion, IsIntersection, IsDifference}
-use Rattle.rpki_chain.specs.Runs.{Runs, Holds}
-use Rattle.rpki_ip.specs.Whole.{IsWhole}
 
 pub whole_union : (a b set : Runs) → IsWhole (Holds a) → IsWhole (Holds b) → IsUnion a b set → IsWhole (Holds set)
 whole_union a b set own other is m n same held =

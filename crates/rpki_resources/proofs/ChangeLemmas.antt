@@ -1,13 +1,9 @@
 -- What differs between two sets leads from the one to the other.
-use Rattle.std.proofs.Common.{◌≡◌, ℕ, ◌≤◌, ◌↔◌, [], ◌∷◌, refl, inl, inr, ⊎_elim, subst}
+use Rattle.rpki_resources.proofs.Common.{[], inl, inr, refl, subst, ℕ, ⊎_elim, ◌↔◌, ◌∷◌, ◌≡◌, ◌≤◌, IsDifference, IsUnion, Holds, IsRunsOf, Runs, Covers-nil, IsDifferenceOf, Triple}
 use Rattle.std.proofs.Math.Nat.{le_refl}
 use Rattle.std.proofs.lemmas.List.Elements.{All-head}
 use Rattle.rpki_chains.proofs.Unique.{Covers-head}
-use Rattle.rpki_chains.proofs.Chains.{Covers-nil}
-use Rattle.rpki_chain.specs.Operations.{IsUnion, IsDifference}
-use Rattle.rpki_chain.specs.Runs.{Runs, Holds, IsRunsOf}
 use Rattle.rpki_chain.proofs.RunLists.{Holds-decided, IsRunsOf-same, IsRunsOf-unique}
-use Rattle.rpki_resources.specs.Triples.{Triple, IsDifferenceOf}
 
 -- sets with the same numbers are one
 one_set : (S U : ℕ → Type 0) (a b : Runs) → IsRunsOf S a → IsRunsOf U b → ((n : ℕ) → S n ↔ U n) → a ≡ b

@@ -1,16 +1,10 @@
 -- What claims list.
-use Rattle.std.proofs.Common.{◌≡◌, false, true, [], Result, Ok, Err, sym, ap, ◌∙◌, subst}
-use Rattle.std.specs.Prelude.{MatchResult}
-use Rattle.rpki_chains.proofs.Chains.{Covers-nil}
-use Rattle.rpki_text.specs.Memory.{IsMemory}
-use Rattle.rpki_text.specs.declared.memory.OrMemory.{OrMemory}
+use Rattle.rpki_resources.proofs.Common.{Err, Ok, Result, [], ap, false, subst, sym, true, ◌∙◌, ◌≡◌, MatchResult, Holds, Runs, Covers-nil, IsMemory, OrMemory, ListsRuns}
 use Rattle.rpki_chain.specs.Choices.{IsRefused, MatchChoice}
 use Rattle.rpki_chain.specs.Claims.{Claim}
-use Rattle.rpki_chain.specs.Runs.{Runs, Holds}
 use Rattle.rpki_chain.specs.declared.choice.ResourcesChoice.TheVariants.{Missing, Inherit, Blocks}
 use Rattle.rpki_ip.specs.Whole.{IsWhole}
 use Rattle.rpki_ipres.specs.Resources.{IsWholeClaim}
-use Rattle.rpki_resources.specs.Triples.{ListsRuns}
 
 -- the set of an answer, if there is one
 abbrev set_in : {E : Type 0} → Result Runs E → Runs

@@ -1,7 +1,5 @@
 -- What is asked of each kind, one after the other.
-use Rattle.std.proofs.Common.{◌≡◌, ◌↔◌, Bool, true, false, IsTrue, refl, sym, subst}
-use Rattle.rpki_chain.specs.Runs.{Runs}
-use Rattle.rpki_resources.specs.Triples.{Triple, InEach}
+use Rattle.rpki_resources.proofs.Common.{Bool, IsTrue, false, refl, subst, sym, true, ◌↔◌, ◌≡◌, Runs, InEach, Triple}
 
 yes : IsTrue true
 yes = refl

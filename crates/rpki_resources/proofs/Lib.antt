@@ -1,5 +1,6 @@
 mod ChangeLemmas
 mod ClaimLemmas
+pub mod Common
 mod KindLemmas
 mod MadeLemmas
 mod PrintLemmas

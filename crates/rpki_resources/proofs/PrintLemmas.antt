@@ -1,9 +1,5 @@
 -- What is printed of a kind, by whether its list is empty.
-use Rattle.std.proofs.Common.{◌≡◌, ℕ, ◌↔◌, Bool, true, false, IsTrue, List, [], ◌∷◌, ◌++◌, refl}
-use Rattle.std.specs.Prelude.{if◌then◌else◌}
-use Rattle.rpki_chain.specs.Runs.{Runs}
-use Rattle.rpki_resources.specs.Triples.{is_none}
-use Rattle.rpki_resources.specs.TripleText.{kind_text}
+use Rattle.rpki_resources.proofs.Common.{Bool, IsTrue, List, [], false, refl, true, ℕ, ◌++◌, ◌↔◌, ◌∷◌, ◌≡◌, if◌then◌else◌, Runs, kind_text, is_none}
 
 -- whether a set is empty is what its list tells
 none_is : (b : Bool) (set : Runs) → IsTrue b ↔ (set ≡ []) → b ≡ is_none set

@@ -1,19 +1,12 @@
 -- Three lists that are read one after another.
-use Rattle.std.proofs.Common.{◌≡◌, List, ℕ, Result, Ok, Err, ap}
+use Rattle.rpki_resources.proofs.Common.{Err, List, Ok, Result, ap, ℕ, ◌≡◌, HasAsListFault, IsAsListText, Runs, IsMemory, OrMemory, HasIpv4ListFault, HasIpv6ListFault, IsIpv4ListText, IsIpv6ListText, IsTripleText, Triple, Asn, Ipv4, Ipv6}
 use Rattle.std.specs.declared.alloc.AllocError.{AllocError}
-use Rattle.rpki_text.specs.Memory.{IsMemory}
 use Rattle.rpki_text.specs.Reading.{AnswersOrMemory}
-use Rattle.rpki_text.specs.declared.memory.OrMemory.{OrMemory}
 use Rattle.rpki_text.specs.declared.memory.OrMemory.TheVariants.{Refused, Memory}
-use Rattle.rpki_as.specs.ListText.{IsAsListText, HasAsListFault}
 use Rattle.rpki_as_block.specs.declared.error.FromStrError as as_fault
 use Rattle.rpki_ip.specs.declared.error.FromStrError as ip_fault
-use Rattle.rpki_chain.specs.Runs.{Runs}
-use Rattle.rpki_resources.specs.Triples.{Triple}
-use Rattle.rpki_resources.specs.TripleText.{IsIpv4ListText, IsIpv6ListText, HasIpv4ListFault, HasIpv6ListFault, IsTripleText}
 use Rattle.rpki_resources.specs.TripleFaults.{HasTripleFault, refusal_of}
 use Rattle.rpki_resources.specs.declared.error.FromStrError.{FromStrError}
-use Rattle.rpki_resources.specs.declared.error.FromStrError.TheVariants.{Asn, Ipv4, Ipv6}
 
 -- what the three readers answer, and what is answered of all
 abbrev pub OfAsn : List ℕ → Result Runs (OrMemory as_fault.FromStrError) → Type 0

@@ -1,12 +1,9 @@
 -- The first line of a text.
-use Rattle.std.proofs.Common.{◌≡◌, ◌+◌, ◌-◌, ◌<◌, ◌≤◌, ℕ, Bool, true, false, List, [], ◌∷◌, length, take, drop, refl, cond, not, suc, arith, Option, Some, None}
-use Rattle.std.proofs.Math.Seq.{take-length}
+use Rattle.rpki_text.proofs.Common.{Bool, List, None, Option, Some, [], arith, cond, drop, false, length, not, refl, suc, take, true, ℕ, ◌+◌, ◌-◌, ◌<◌, ◌∷◌, ◌≡◌, ◌≤◌, take-length, false_from_ne_true, le-ltb, lt-ltb, onto_first, position, position_or_len}
 use Rattle.std.proofs.lemmas.List.{length-drop}
 use borrow.Author.Tests.{ltb-true, ltb-false}
 use Rattle.std.specs.Prelude.{nat_lt}
-use Rattle.std.proofs.lemmas.Bool.{lt-ltb, le-ltb, false_from_ne_true}
 use Rattle.std.proofs.lemmas.List.Sums.{position_or_len_is}
-use Rattle.std.specs.List.{onto_first, position_or_len, position}
 use Rattle.memchr.specs.Find.{IsFirstByte, is_byte}
 use Rattle.rpki_text.specs.Lines.{is_end, lines_of}
 

@@ -1,4 +1,4 @@
-use Rattle.std.proofs.lemmas.Result.{IfOk-weaker}
+use Rattle.respath_lines.proofs.Common.{IfOk-weaker}
 use Rattle.respath_lines.proofs.answer.Goals as goal
 
 pub returns-in_default : goal.returns-in_default

@@ -1,7 +1,5 @@
 -- The prefixes found, when all were gone through.
-use Rattle.std.proofs.Common.{refl}
-use Rattle.std.proofs.lemmas.List.{take_all}
-use Rattle.rpki_prefix.specs.Values.{CoversPrefix, FamilyPrefix}
+use Rattle.example_calls.proofs.Common.{refl, take_all, CoversPrefix, FamilyPrefix}
 use Rattle.example_calls.proofs.RouteLemmas.{one_kept, one_passed}
 use Rattle.example_calls.proofs.cache.covering.Goals as goal
 use Rattle.example_calls.proofs.cache.covering.Goals.{then-covers+in_ok-push, else-covers}

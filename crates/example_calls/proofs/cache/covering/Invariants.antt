@@ -1,7 +1,5 @@
 -- What was found so far are the prefixes, of those gone through, that cover the route.
-use Rattle.std.proofs.Common.{take}
-use Rattle.rpki_prefix.specs.Values.{CoversPrefix}
-use Rattle.roa_origin.specs.Coverings.{AreThose}
+use Rattle.example_calls.proofs.Common.{take, AreThose, CoversPrefix}
 use Rattle.example_calls.proofs.cache.covering.Given as goal
 
 abbrev pub invariant-loop-prefix : goal.invariant-loop-prefix

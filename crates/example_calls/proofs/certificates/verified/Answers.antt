@@ -1,5 +1,4 @@
-use Rattle.std.proofs.Common.{rules}
-use Rattle.example_calls.specs.Certificates.{IsLeftInEach}
+use Rattle.example_calls.proofs.Common.{rules, IsLeftInEach}
 use Rattle.example_calls.proofs.CertificateLemmas.{inside}
 use Rattle.example_calls.proofs.certificates.verified.Goals as goal
 

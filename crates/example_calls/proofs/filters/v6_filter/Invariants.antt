@@ -1,4 +1,4 @@
-use Rattle.std.proofs.Common.{◌≡◌, ◌++◌}
+use Rattle.example_calls.proofs.Common.{◌++◌, ◌≡◌}
 use Rattle.example_calls.proofs.filters.v6_filter.Given as goal
 
 -- the prefixes so far, with those that are left, are all of them

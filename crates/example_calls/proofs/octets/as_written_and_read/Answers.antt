@@ -1,9 +1,6 @@
 -- What was written is the set's SEQUENCE with nothing behind it.
-use Rattle.std.proofs.Common.{◌≡◌, ℕ, List, [], ◌++◌, length, refl, sym, ap, ◌∙◌, subst}
-use Rattle.std.proofs.lemmas.List.{append-nil}
-use Rattle.rpki_text.specs.Memory.{IsMemory}
+use Rattle.example_calls.proofs.Common.{List, [], ap, length, refl, subst, sym, ℕ, ◌++◌, ◌∙◌, ◌≡◌, append-nil, as_set_octets, IsMemory}
 use Rattle.rpki_der.specs.Der.{header, sequence_value}
-use Rattle.rpki_as.specs.AsDer.{as_set_octets}
 use Rattle.example_calls.proofs.octets.as_written_and_read.Goals as goal
 
 -- what was read as octets, if nothing was left out

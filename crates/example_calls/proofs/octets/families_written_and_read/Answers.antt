@@ -1,6 +1,5 @@
 -- What was written is the families' octets with nothing behind them.
-use Rattle.std.proofs.Common.{[], subst}
-use Rattle.rpki_text.specs.Memory.{IsMemory}
+use Rattle.example_calls.proofs.Common.{[], subst, IsMemory}
 use Rattle.rpki_ipres.specs.ResourcesDer.{ip_families_der}
 use Rattle.example_calls.proofs.AllWritten.{only}
 use Rattle.example_calls.proofs.octets.families_written_and_read.Goals as goal

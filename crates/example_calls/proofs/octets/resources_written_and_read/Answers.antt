@@ -1,7 +1,5 @@
 -- What was written is the resources' octets with nothing behind them.
-use Rattle.std.proofs.Common.{[], subst}
-use Rattle.rpki_text.specs.Memory.{IsMemory}
-use Rattle.rpki_as.specs.AsDer.{as_resources_octets}
+use Rattle.example_calls.proofs.Common.{[], subst, as_resources_octets, IsMemory}
 use Rattle.example_calls.proofs.AllWritten.{only}
 use Rattle.example_calls.proofs.octets.resources_written_and_read.Goals as goal
 

@@ -1,6 +1,5 @@
 -- What was written is the set's SEQUENCE with nothing behind it.
-use Rattle.std.proofs.Common.{[], subst}
-use Rattle.rpki_text.specs.Memory.{IsMemory}
+use Rattle.example_calls.proofs.Common.{[], subst, IsMemory}
 use Rattle.rpki_ipres.specs.SetDer.{ip_set_der}
 use Rattle.example_calls.proofs.AllWritten.{only}
 use Rattle.example_calls.proofs.octets.written_and_read.Goals as goal

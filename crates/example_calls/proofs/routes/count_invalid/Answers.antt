@@ -1,11 +1,9 @@
 -- Each route is asked for in turn.
-use Rattle.std.proofs.Common.{arith, ◌≡◌, ◌++◌, ◌∷◌, [], List, length, refl, sym, subst, ap, ◌+◌, ◌∙◌, true, false}
-use Rattle.std.proofs.lemmas.List.{length_push}
+use Rattle.example_calls.proofs.Common.{List, [], ap, arith, false, refl, subst, sym, true, ◌++◌, ◌+◌, ◌∙◌, ◌∷◌, ◌≡◌, length_push, IsInvalid, Route}
 use denote.Enum.Bare.{sameb}
 use Rattle.roa_origin.specs.contracts.validation.Validity.{the_type}
 use Rattle.roa_origin.specs.declared.validation.Validity.{Validity}
 use Rattle.roa_origin.specs.declared.validation.Validity.TheVariants.{Valid, Invalid, NotFound}
-use Rattle.example_calls.specs.Routes.{IsInvalid, Route}
 use Rattle.example_calls.proofs.RouteLemmas.{one_kept, one_passed}
 use Rattle.example_calls.proofs.routes.count_invalid.Goals as goal
 use Rattle.example_calls.proofs.routes.count_invalid.Goals.{then-eq, else-eq}

@@ -1,6 +1,5 @@
 -- The routes gone through are counted.
-use Rattle.std.proofs.Common.{◌≤◌, take}
-use Rattle.example_calls.specs.Routes.{IsCountOfInvalid}
+use Rattle.example_calls.proofs.Common.{take, ◌≤◌, IsCountOfInvalid}
 use Rattle.example_calls.proofs.routes.count_invalid.Given as goal
 
 abbrev pub invariant-loop-route : goal.invariant-loop-route

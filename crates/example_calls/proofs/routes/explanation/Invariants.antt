@@ -1,5 +1,5 @@
 -- The payloads that the iterator gave so far.
-use Rattle.std.proofs.Common.{◌≡◌}
+use Rattle.example_calls.proofs.Common.{◌≡◌}
 use Rattle.example_calls.proofs.routes.explanation.Given as goal
 
 abbrev pub invariant-loop-payload : goal.invariant-loop-payload

@@ -1,7 +1,5 @@
 -- Nothing is left behind the last block.
-use Rattle.std.proofs.Common.{◌≡◌, []}
-use Rattle.std.proofs.lemmas.List.{append-nil, nil_from_length}
-use Rattle.std.specs.Slice.Iter.{iter_rest}
+use Rattle.example_calls.proofs.Common.{[], ◌≡◌, append-nil, nil_from_length, iter_rest}
 use Rattle.example_calls.proofs.sets.blocks_of.Goals as goal
 
 pub returns-clause-blocks : goal.returns-clause-blocks

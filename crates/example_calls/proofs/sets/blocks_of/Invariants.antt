@@ -1,5 +1,4 @@
-use Rattle.std.proofs.Common.{◌≡◌, ◌++◌}
-use Rattle.std.specs.Slice.Iter.{iter_rest}
+use Rattle.example_calls.proofs.Common.{◌++◌, ◌≡◌, iter_rest}
 use Rattle.example_calls.proofs.sets.blocks_of.Given as goal
 
 -- the blocks so far, with those that are left, are all of them

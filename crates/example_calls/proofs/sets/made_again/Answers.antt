@@ -1,6 +1,4 @@
-use Rattle.std.proofs.Common.{subst, sym}
-use Rattle.std.proofs.lemmas.Result.{IfOk-weaker}
-use Rattle.rpki_chain.specs.Runs.{IsRunsOfBlocks}
+use Rattle.example_calls.proofs.Common.{subst, sym, IfOk-weaker, IsRunsOfBlocks}
 use Rattle.rpki_as_block.specs.Blocks.{as_bounds}
 use Rattle.example_calls.proofs.sets.made_again.Goals as goal
 

@@ -1,5 +1,4 @@
-use Rattle.std.proofs.Common.{⊎_elim, inl, inr}
-use Rattle.std.proofs.lemmas.Result.{IfOk-weaker}
+use Rattle.example_calls.proofs.Common.{inl, inr, ⊎_elim, IfOk-weaker}
 use Rattle.example_calls.proofs.sets.union_of_three.Goals as goal
 
 pub returns : goal.returns

@@ -1,6 +1,4 @@
-use Rattle.std.proofs.Common.{◌≡◌, ap, ◌∙◌, subst}
-use Rattle.rpki_text.specs.Memory.{IsMemory}
-use Rattle.rpki_chain.specs.Runs.{Runs}
+use Rattle.example_calls.proofs.Common.{ap, subst, ◌∙◌, ◌≡◌, Runs, IsMemory}
 use Rattle.rpki_base.specs.declared.family.AddressFamily.{AddressFamily}
 use Rattle.rpki_base.specs.declared.family.AddressFamily.TheVariants.{Ipv6}
 use Rattle.rpki_ipres.specs.SetText.{set_text}

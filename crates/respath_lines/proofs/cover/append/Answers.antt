@@ -1,6 +1,4 @@
-use Rattle.std.proofs.Common.{◌≡◌, ◌==◌, length, rules}
-use Rattle.std.proofs.lemmas.Result.{on_ok_weaker}
-use Rattle.std.specs.String.{string_bytes}
+use Rattle.respath_lines.proofs.Common.{length, rules, ◌==◌, ◌≡◌, on_ok_weaker, string_bytes}
 use Rattle.respath_lines.proofs.CoverLemmas.{more_text}
 use Rattle.respath_lines.proofs.cover.append.Goals as goal
 

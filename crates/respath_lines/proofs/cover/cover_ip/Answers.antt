@@ -1,7 +1,4 @@
-use Rattle.std.proofs.Common.{refl}
-use Rattle.std.specs.String.{string_bytes}
-use Rattle.std.proofs.lemmas.Result.{IfOk-weaker}
-use Rattle.rpki_ip.specs.Faults.{ip_from_str_error_text}
+use Rattle.respath_lines.proofs.Common.{refl, IfOk-weaker, string_bytes, ip_from_str_error_text}
 use Rattle.respath_lines.proofs.CoverLemmas.{shows_cover}
 use Rattle.respath_lines.proofs.cover.cover_ip.Goals as goal
 

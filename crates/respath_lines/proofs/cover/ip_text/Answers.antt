@@ -1,6 +1,5 @@
-use Rattle.std.proofs.Common.{sym, subst}
+use Rattle.respath_lines.proofs.Common.{subst, sym, Holds}
 use Rattle.rpki_cover.specs.Covers.{IsShortestCover}
-use Rattle.rpki_chain.specs.Runs.{Holds}
 use Rattle.respath_lines.proofs.CoverLemmas.{drained, handed_on, wants_memory}
 use Rattle.respath_lines.proofs.cover.ip_text.Goals as goal
 

@@ -1,5 +1,4 @@
-use Rattle.std.proofs.Common.{subst}
-use Rattle.std.specs.Iterator.{Drains}
+use Rattle.respath_lines.proofs.Common.{subst, Drains}
 use Rattle.respath_lines.proofs.cover.printed_prefixes.Goals as goal
 
 pub loop-prefix-init : goal.loop-prefix-init

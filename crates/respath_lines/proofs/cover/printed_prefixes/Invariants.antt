@@ -1,6 +1,4 @@
-use Rattle.std.proofs.Common.{◌≡◌}
-use Rattle.std.specs.String.{string_bytes}
-use Rattle.respath_lines.specs.Cover.{cover_text}
+use Rattle.respath_lines.proofs.Common.{◌≡◌, string_bytes, cover_text}
 use Rattle.respath_lines.proofs.cover.printed_prefixes.Given as goal
 
 -- the text is that of the prefixes so far

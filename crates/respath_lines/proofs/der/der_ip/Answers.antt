@@ -1,5 +1,4 @@
-use Rattle.std.proofs.Common.{inr}
-use Rattle.std.proofs.lemmas.Result.{IfOk-weaker}
+use Rattle.respath_lines.proofs.Common.{inr, IfOk-weaker}
 use Rattle.respath_lines.proofs.der.der_ip.Goals as goal
 
 pub returns-in-Err-Refused : goal.returns-in-Err-Refused

@@ -1,4 +1,4 @@
-use Rattle.std.proofs.Common.{◌∙◌, codes, sym}
+use Rattle.respath_lines.proofs.Common.{codes, sym, ◌∙◌}
 use Rattle.std.specs.Cmp.Lexicographic.{bytes_decides}
 use Rattle.rpki_as.proofs.ResourcesTexts.{not_true}
 use Rattle.respath_lines.proofs.DerLemmas.{listed_resources}

@@ -1,5 +1,4 @@
-use Rattle.std.proofs.Common.{◌∙◌, arith}
-use Rattle.std.proofs.lemmas.Result.{IfOk-weaker}
+use Rattle.respath_lines.proofs.Common.{arith, ◌∙◌, IfOk-weaker}
 use Rattle.respath_lines.proofs.HexadecimalLemmas.{encode_lower_is}
 use Rattle.respath_lines.proofs.hexadecimal.hexadecimal_of.Goals as goal
 

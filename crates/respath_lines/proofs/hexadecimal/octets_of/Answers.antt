@@ -1,5 +1,5 @@
 -- A text of digits has an even number of them.
-use Rattle.std.proofs.Common.{length, ap, arith}
+use Rattle.respath_lines.proofs.Common.{ap, arith, length}
 use Rattle.respath_lines.proofs.HexadecimalLemmas.{even_text}
 use Rattle.respath_lines.proofs.hexadecimal.octets_of.Goals as goal
 

@@ -1,6 +1,5 @@
 -- Each pair is read in its turn, and the first that writes no octet ends it.
-use Rattle.std.proofs.Common.{◌*◌, arith}
-use Rattle.hex.proofs.Pairs.{decode_step, decode_err, decode_done}
+use Rattle.respath_lines.proofs.Common.{arith, ◌*◌, decode_done, decode_err, decode_step}
 use Rattle.respath_lines.proofs.HexadecimalLemmas.{pair_reads, pair_fails, pairs_write, refused_writes_none}
 use Rattle.respath_lines.proofs.hexadecimal.put_octets.Goals as goal
 

@@ -1,7 +1,5 @@
 -- The octets so far are those of the pairs so far.
-use Rattle.std.proofs.Common.{◌≡◌, ◌*◌, take, drop}
-use Rattle.hex.specs.Hex.{decode_pairs}
-use Rattle.hex.proofs.Pairs.{prepend}
+use Rattle.respath_lines.proofs.Common.{drop, take, ◌*◌, ◌≡◌, prepend, decode_pairs}
 use Rattle.respath_lines.proofs.hexadecimal.put_octets.Given as goal
 
 abbrev pub invariant-loop-at : goal.invariant-loop-at

@@ -1,6 +1,5 @@
 -- The table is held against the digits of std, by computing.
-use Rattle.std.proofs.Common.{refl, arith}
-use Rattle.rpki_addr.specs.AddressReading.{hex_value}
+use Rattle.respath_lines.proofs.Common.{arith, refl, hex_value}
 use Rattle.rpki_addr.proofs.Tables.{agrees_below, agrees_at}
 use Rattle.respath_lines.specs.declared.hexadecimal.TheConstants.{DIGIT_VALUES}
 use Rattle.respath_lines.proofs.hexadecimal.value_of.Goals as goal

@@ -1,8 +1,4 @@
-use Rattle.std.proofs.Common.{refl}
-use Rattle.std.specs.String.{string_bytes}
-use Rattle.std.proofs.lemmas.Result.{IfOk-weaker}
-use Rattle.rpki_as_block.specs.Faults.{as_from_str_error_text}
-use Rattle.rpki_as.specs.ListText.{IsAsListText, HasAsListFault, as_list_text}
+use Rattle.respath_lines.proofs.Common.{refl, IfOk-weaker, string_bytes, HasAsListFault, IsAsListText, as_list_text, as_from_str_error_text}
 use Rattle.respath_lines.proofs.ShownLemmas.{ShowsValueOrFault-of_reader}
 use Rattle.respath_lines.proofs.norm.norm_as.Goals as goal
 

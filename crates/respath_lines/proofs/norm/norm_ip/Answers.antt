@@ -1,9 +1,4 @@
-use Rattle.std.proofs.Common.{refl}
-use Rattle.std.specs.String.{string_bytes}
-use Rattle.std.proofs.lemmas.Result.{IfOk-weaker}
-use Rattle.rpki_ip.specs.Faults.{ip_from_str_error_text}
-use Rattle.rpki_ip_block.specs.ListText.{HasBlocks, HasBlocksFault}
-use Rattle.rpki_ipres.specs.SetText.{IsSetOf, set_text}
+use Rattle.respath_lines.proofs.Common.{refl, IfOk-weaker, string_bytes, ip_from_str_error_text, HasBlocks, HasBlocksFault, IsSetOf, set_text}
 use Rattle.respath_lines.proofs.ShownLemmas.{ShowsValueOrFault-of_reader}
 use Rattle.respath_lines.proofs.norm.norm_ip.Goals as goal
 

@@ -1,9 +1,5 @@
-use Rattle.std.proofs.Common.{inl, inr, refl}
-use Rattle.std.proofs.lemmas.Result.{IfOk-weaker}
-use Rattle.std.specs.String.{string_bytes}
+use Rattle.respath_lines.proofs.Common.{inl, inr, refl, IfOk-weaker, string_bytes, as_list_text, as_from_str_error_text}
 use Rattle.rpki_as.specs.Faults.{overclaimed_as_text}
-use Rattle.rpki_as.specs.ListText.{as_list_text}
-use Rattle.rpki_as_block.specs.Faults.{as_from_str_error_text}
 use Rattle.respath_lines.proofs.PathLemmas.{shows_path}
 use Rattle.respath_lines.proofs.path.path_as.Goals as goal
 

@@ -1,9 +1,4 @@
-use Rattle.std.proofs.Common.{inl, inr, refl}
-use Rattle.std.proofs.lemmas.Result.{IfOk-weaker}
-use Rattle.std.specs.String.{string_bytes}
-use Rattle.rpki_ip.specs.Faults.{ip_from_str_error_text}
-use Rattle.rpki_ipres.specs.SetText.{overclaimed_ip_text, set_text}
-use Rattle.respath_lines.specs.Path.{parts_of}
+use Rattle.respath_lines.proofs.Common.{inl, inr, refl, IfOk-weaker, string_bytes, ip_from_str_error_text, overclaimed_ip_text, set_text, parts_of}
 use Rattle.respath_lines.proofs.PathLemmas.{path_in, shows_path}
 use Rattle.respath_lines.proofs.path.path_ip.Goals as goal
 

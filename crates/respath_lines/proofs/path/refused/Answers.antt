@@ -1,4 +1,4 @@
-use Rattle.std.proofs.Common.{append_assoc}
+use Rattle.respath_lines.proofs.Common.{append_assoc}
 use Rattle.respath_lines.proofs.path.refused.Goals as goal
 
 pub returns : goal.returns

@@ -1,9 +1,7 @@
+use Rattle.respath_lines.proofs.Common.{IsAsResources, as_choice_at, IsRunsOfBlocks}
 use Rattle.rpki_as.proofs.ResourcesDer.{one_resources}
-use Rattle.rpki_as.specs.AsDer.{IsAsResources}
-use Rattle.rpki_as.specs.AsDerReading.{as_choice_at}
 use Rattle.rpki_as_block.specs.Blocks.{as_bounds}
 use Rattle.rpki_chain.specs.Choices.{ListsBy}
-use Rattle.rpki_chain.specs.Runs.{IsRunsOfBlocks}
 use Rattle.respath_lines.proofs.ReadLemmas.{ended_take}
 use Rattle.respath_lines.proofs.read.as_resources_in.Goals as goal
 

@@ -1,5 +1,5 @@
+use Rattle.respath_lines.proofs.Common.{IsIpFamilies, SaysClaims, ip_families_at}
 use Rattle.rpki_ipres.proofs.ResourcesWritten.{one_of_families}
-use Rattle.rpki_ipres.specs.ResourcesDer.{IsIpFamilies, SaysClaims, ip_families_at}
 use Rattle.respath_lines.proofs.ReadLemmas.{ended_take}
 use Rattle.respath_lines.proofs.read.families_in.Goals as goal
 

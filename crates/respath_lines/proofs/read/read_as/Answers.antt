@@ -1,9 +1,4 @@
-use Rattle.std.proofs.Common.{refl}
-use Rattle.std.proofs.lemmas.Result.{IfOk-weaker}
-use Rattle.std.specs.String.{string_bytes}
-use Rattle.rpki_der.specs.Faults.{fault_text}
-use Rattle.rpki_as.specs.AsDer.{IsAsResources}
-use Rattle.rpki_as.specs.AsDerReading.{as_choice_at}
+use Rattle.respath_lines.proofs.Common.{refl, IfOk-weaker, string_bytes, IsAsResources, as_choice_at, fault_text}
 use Rattle.rpki_as.specs.ResourcesText.{as_resources_text}
 use Rattle.respath_lines.proofs.ReadLemmas.{shows_octets, shows_text}
 use Rattle.respath_lines.proofs.read.read_as.Goals as goal

@@ -1,8 +1,5 @@
-use Rattle.std.proofs.lemmas.Result.{IfOk-weaker}
-use Rattle.std.specs.String.{string_bytes}
+use Rattle.respath_lines.proofs.Common.{IfOk-weaker, string_bytes, IsIpFamilies, ip_families_at, family_text}
 use Rattle.rpki_base.specs.FamiliesDer.{of_family}
-use Rattle.rpki_ipres.specs.ResourcesDer.{IsIpFamilies, ip_families_at}
-use Rattle.respath_lines.specs.Read.{family_text}
 use Rattle.respath_lines.proofs.ReadLemmas.{shows_text}
 use Rattle.respath_lines.proofs.read.read_ip.Goals as goal
 

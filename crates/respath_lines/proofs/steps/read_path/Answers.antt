@@ -1,6 +1,4 @@
-use Rattle.std.proofs.Common.{[], lit<}
-use Rattle.std.proofs.lemmas.Result.{err_from_is_err_and}
-use Rattle.respath_lines.specs.Path.{parts_of}
+use Rattle.respath_lines.proofs.Common.{[], lit<, err_from_is_err_and, parts_of}
 use Rattle.respath_lines.proofs.PathLemmas.{first_part, one_part, refused_root, refused_step}
 use Rattle.respath_lines.proofs.steps.read_path.Goals as goal
 

@@ -1,8 +1,6 @@
-use Rattle.std.proofs.Common.{length, map, lit<}
+use Rattle.respath_lines.proofs.Common.{length, lit<, map, map-append, HasStepFault, IsStepText, parts_of}
 use Rattle.std.proofs.lemmas.Iterator.Splits.{YieldsList-from_str_split}
 use Rattle.std.proofs.lemmas.Iterator.Consumers.{YieldsList-turn, YieldsList-end, YieldsList-so_far, YieldsList-at}
-use Rattle.std.proofs.lemmas.List.{map-append}
-use Rattle.respath_lines.specs.Path.{HasStepFault, IsStepText, parts_of}
 use Rattle.respath_lines.proofs.PathLemmas.{first_refused, more_values}
 use Rattle.respath_lines.proofs.steps.read_steps.Goals as goal
 

@@ -1,6 +1,4 @@
-use Rattle.std.proofs.Common.{map}
-use Rattle.rpki_text.specs.Lists.{HaveValues}
-use Rattle.respath_lines.specs.Path.{IsStepText}
+use Rattle.respath_lines.proofs.Common.{map, HaveValues, IsStepText}
 use Rattle.respath_lines.proofs.steps.read_steps.Given as goal
 
 -- the steps so far are those of the parts so far

@@ -1,8 +1,5 @@
 -- The next payload is kept where the other list hasn't it.
-use Rattle.std.proofs.Common.{arith, ◌↔◌, subst, Contains}
-use Rattle.std.proofs.lemmas.List.{take_all}
-use Rattle.roa_origin.specs.Payloads.{Payload}
-use Rattle.roa_origin.specs.Tables.{payload_cmp}
+use Rattle.roa_origin.proofs.Common.{Contains, arith, subst, ◌↔◌, take_all, Payload, payload_cmp}
 use Rattle.roa_origin.proofs.Totals.{ties, total}
 use Rattle.roa_origin.proofs.Turns.{IsTurn, ascending_more, dropped, kept, nowhere, passed_more, there}
 use Rattle.roa_origin.proofs.changes.left_of.Goals.{then-not-stands_at+in_ok-push, else-not-stands_at}

@@ -1,8 +1,5 @@
 -- What is kept so far, in order; and before the place all are less than the payloads to come.
-use Rattle.std.proofs.Common.{◌≡◌, ◌↔◌, ◌≤◌, ◌<◌, length, get_or, take, ℕ, Contains}
-use Rattle.std.specs.declared.cmp.Ordering.TheVariants.{Less}
-use Rattle.roa_origin.specs.Payloads.{Payload}
-use Rattle.roa_origin.specs.Tables.{IsAscending, payload_cmp}
+use Rattle.roa_origin.proofs.Common.{Contains, get_or, length, take, ℕ, ◌<◌, ◌↔◌, ◌≡◌, ◌≤◌, Less, Payload, IsAscending, payload_cmp}
 use Rattle.roa_origin.proofs.changes.left_of.Given as goal
 
 abbrev pub invariant-loop-payload : goal.invariant-loop-payload

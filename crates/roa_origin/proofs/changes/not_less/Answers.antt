@@ -1,10 +1,5 @@
 -- The payload at the place is less too.
-use Rattle.std.proofs.Common.{arith, ◌≡◌, inl, inr, is_lt, get_or, sym, ap, subst, ◌∙◌}
-use Rattle.std.proofs.lemmas.Bool.{cases_lt}
-use Rattle.std.proofs.lemmas.List.{get_or_default}
-use Rattle.std.specs.declared.cmp.Ordering.TheVariants.{Less}
-use Rattle.roa_origin.specs.Payloads.{Payload}
-use Rattle.roa_origin.specs.Tables.{payload_cmp}
+use Rattle.roa_origin.proofs.Common.{ap, arith, get_or, inl, inr, is_lt, subst, sym, ◌∙◌, ◌≡◌, cases_lt, get_or_default, Less, Payload, payload_cmp}
 use Rattle.roa_origin.proofs.Totals.{less_of}
 use Rattle.roa_origin.proofs.changes.not_less.Goals as goal
 

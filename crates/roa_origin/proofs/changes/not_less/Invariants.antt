@@ -1,8 +1,5 @@
 -- Up to the place, from the first one on, all are less.
-use Rattle.std.proofs.Common.{length, ◌-◌, ◌≡◌, ◌≤◌, ◌<◌, slice_index_or, ℕ}
-use Rattle.std.specs.declared.cmp.Ordering.TheVariants.{Less}
-use Rattle.roa_origin.specs.Payloads.{Payload}
-use Rattle.roa_origin.specs.Tables.{payload_cmp}
+use Rattle.roa_origin.proofs.Common.{length, slice_index_or, ℕ, ◌-◌, ◌<◌, ◌≡◌, ◌≤◌, Less, Payload, payload_cmp}
 use Rattle.roa_origin.proofs.changes.not_less.Given as goal
 
 abbrev pub invariant-loop-at : goal.invariant-loop-at

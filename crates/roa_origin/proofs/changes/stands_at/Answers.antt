@@ -1,8 +1,5 @@
 -- Payloads that tie are the same.
-use Rattle.std.proofs.Common.{◌≡◌, is_eq, sym, ap, ◌∙◌, get_or}
-use Rattle.std.proofs.lemmas.List.{get_or_default}
-use Rattle.roa_origin.specs.Payloads.{Payload}
-use Rattle.roa_origin.specs.Tables.{payload_cmp}
+use Rattle.roa_origin.proofs.Common.{ap, get_or, is_eq, sym, ◌∙◌, ◌≡◌, get_or_default, Payload, payload_cmp}
 use Rattle.roa_origin.proofs.Totals.{equal_of, ties, total}
 use Rattle.roa_origin.proofs.changes.stands_at.Goals as goal
 

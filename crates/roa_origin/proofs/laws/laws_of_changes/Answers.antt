@@ -1,6 +1,5 @@
 -- What is left and what is announced are the payloads of the next table.
-use Rattle.std.proofs.Common.{inl, inr}
-use Rattle.roa_origin.specs.Tables.{payload_cmp}
+use Rattle.roa_origin.proofs.Common.{inl, inr, payload_cmp}
 use Rattle.roa_origin.proofs.Lists.{decide, nothing, same_list}
 use Rattle.roa_origin.proofs.Totals.{ties, total}
 use Rattle.roa_origin.proofs.laws.laws_of_changes.Goals as goal

@@ -1,5 +1,5 @@
 -- Payloads in order have one order.
-use Rattle.roa_origin.specs.Tables.{payload_cmp}
+use Rattle.roa_origin.proofs.Common.{payload_cmp}
 use Rattle.roa_origin.proofs.Lists.{same_list}
 use Rattle.roa_origin.proofs.Totals.{ties, total}
 use Rattle.roa_origin.proofs.laws.laws_of_tables.Goals as goal

@@ -1,5 +1,5 @@
 -- A validity is told by what it stands for.
-use Rattle.std.proofs.lemmas.List.Sorted.{IsPermutation-sym}
+use Rattle.roa_origin.proofs.Common.{IsPermutation-sym}
 use Rattle.roa_origin.proofs.Reevaluated.{one_validity}
 use Rattle.roa_origin.proofs.Scans.{same_validity}
 use Rattle.roa_origin.proofs.laws.laws_of_validities.Goals as goal

@@ -1,7 +1,5 @@
 -- Each payload gets its link.
-use Rattle.std.proofs.Common.{◌+◌, List, [], ◌∷◌, sym, ◌∙◌, ap, subst, length-append}
-use Rattle.roa_origin.specs.Links.{AreLinks}
-use Rattle.roa_origin.specs.declared.links.Link.{Link}
+use Rattle.roa_origin.proofs.Common.{List, [], ap, length-append, subst, sym, ◌+◌, ◌∙◌, ◌∷◌, AreLinks, Link}
 use Rattle.roa_origin.proofs.Walks.{linked_more}
 use Rattle.roa_origin.proofs.links.links.Goals as goal
 

@@ -1,6 +1,5 @@
 -- The payloads passed have their links.
-use Rattle.std.proofs.Common.{◌≡◌, length}
-use Rattle.roa_origin.specs.Links.{AreLinks}
+use Rattle.roa_origin.proofs.Common.{length, ◌≡◌, AreLinks}
 use Rattle.roa_origin.proofs.links.links.Given as goal
 
 abbrev pub invariant-loop-at : goal.invariant-loop-at

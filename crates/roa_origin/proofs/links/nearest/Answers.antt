@@ -1,6 +1,5 @@
 -- Each step of the walk passes none that covers the prefix.
-use Rattle.std.proofs.Common.{arith, ◌≡◌, ◌<◌, ◌-◌, true, false, sym, ◌∙◌, length}
-use Rattle.roa_origin.specs.Payloads.{CoversRoute, Payload}
+use Rattle.roa_origin.proofs.Common.{arith, false, length, sym, true, ◌-◌, ◌<◌, ◌∙◌, ◌≡◌, CoversRoute, Payload}
 use Rattle.roa_origin.proofs.Walks.{fewer, leads_back, walked}
 use Rattle.roa_origin.proofs.links.nearest.Goals as goal
 

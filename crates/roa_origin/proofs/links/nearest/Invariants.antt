@@ -1,6 +1,5 @@
 -- Of the payloads that the walk has passed none covers the prefix.
-use Rattle.std.proofs.Common.{◌≤◌}
-use Rattle.roa_origin.specs.Links.{NoneCovers}
+use Rattle.roa_origin.proofs.Common.{◌≤◌, NoneCovers}
 use Rattle.roa_origin.proofs.Walks.{steps}
 use Rattle.roa_origin.proofs.links.nearest.Given as goal
 

@@ -1,10 +1,5 @@
 -- A payload behind one of its prefix has its link, and the first of a prefix one of its own.
-use Rattle.std.proofs.Common.{arith, ◌≡◌, ◌≤◌, ◌<◌, ◌-◌, true, false, refl, sym, ◌∙◌, ap, length, get_or, subst}
-use Rattle.std.proofs.lemmas.List.{get_or_default}
-use Rattle.rpki_prefix.specs.Values.{CoversPrefix, FamilyPrefix, IsFamilyPrefix}
-use Rattle.roa_origin.specs.Links.{NoneCovers}
-use Rattle.roa_origin.specs.Payloads.{Payload}
-use Rattle.roa_origin.specs.Places.{payload_place}
+use Rattle.roa_origin.proofs.Common.{ap, arith, false, get_or, length, refl, subst, sym, true, ◌-◌, ◌<◌, ◌∙◌, ◌≡◌, ◌≤◌, get_or_default, CoversPrefix, FamilyPrefix, IsFamilyPrefix, NoneCovers, Payload, payload_place}
 use Rattle.roa_origin.proofs.Walks.{link_again, link_new, prefix_of}
 use Rattle.roa_origin.proofs.links.next_link.Goals as goal
 

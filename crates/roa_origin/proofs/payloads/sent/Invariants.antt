@@ -1,6 +1,5 @@
 -- The payloads so far, as they are sent.
-use Rattle.std.proofs.Common.{◌≡◌, map, take}
-use Rattle.roa_origin.specs.Tables.{as_sent}
+use Rattle.roa_origin.proofs.Common.{map, take, ◌≡◌, as_sent}
 use Rattle.roa_origin.proofs.payloads.sent.Given as goal
 
 abbrev pub invariant-loop-payload : goal.invariant-loop-payload

@@ -1,8 +1,6 @@
 -- Each route is asked of both tables.
-use Rattle.std.proofs.Common.{arith, ℕ, IsTrue, sym}
-use Rattle.rpki_prefix.specs.Values.{FamilyPrefix}
+use Rattle.roa_origin.proofs.Common.{IsTrue, arith, sym, ℕ, FamilyPrefix, Validity}
 use Rattle.roa_origin.proofs.Reevaluated.{all_of, differ, none_more, one_more, same_where_not_differing, tie}
-use Rattle.roa_origin.specs.declared.validation.Validity.{Validity}
 use Rattle.roa_origin.proofs.reevaluation.changed.Goals.{then-differ+in_ok-push, else-differ}
 use Rattle.roa_origin.proofs.reevaluation.changed.Goals as goal
 

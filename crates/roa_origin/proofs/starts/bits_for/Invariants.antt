@@ -1,5 +1,5 @@
 -- One bit more at each turn, and 20 at most.
-use Rattle.std.proofs.Common.{◌≤◌, ◌-◌}
+use Rattle.roa_origin.proofs.Common.{◌-◌, ◌≤◌}
 use Rattle.roa_origin.proofs.starts.bits_for.Given as goal
 
 abbrev pub invariant-loop-bits : goal.invariant-loop-bits

@@ -1,8 +1,5 @@
 -- From the place on the first bits write no less, since at the place they don't.
-use Rattle.std.proofs.Common.{arith, ◌≤◌, ◌∙◌, get_or, subst}
-use Rattle.std.proofs.lemmas.List.{get_or_default}
-use Rattle.roa_origin.specs.Payloads.{Payload}
-use Rattle.roa_origin.specs.Starts.{first_bits}
+use Rattle.roa_origin.proofs.Common.{arith, get_or, subst, ◌∙◌, ◌≤◌, get_or_default, Payload, first_bits}
 use Rattle.roa_origin.proofs.Firsts.{first_up}
 use Rattle.roa_origin.proofs.starts.start_from.Goals as goal
 

@@ -1,7 +1,5 @@
 -- Before the place the first bits write less.
-use Rattle.std.proofs.Common.{◌-◌, ◌≤◌, ◌<◌, ℕ, get_or, length}
-use Rattle.roa_origin.specs.Payloads.{Payload}
-use Rattle.roa_origin.specs.Starts.{first_bits}
+use Rattle.roa_origin.proofs.Common.{get_or, length, ℕ, ◌-◌, ◌<◌, ◌≤◌, Payload, first_bits}
 use Rattle.roa_origin.proofs.starts.start_from.Given as goal
 
 abbrev pub invariant-loop-at : goal.invariant-loop-at

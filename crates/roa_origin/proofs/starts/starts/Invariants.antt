@@ -1,8 +1,6 @@
 -- The starts so far are those of the numbers gone through, and before the last of them the first bits write less than
 -- the next number.
-use Rattle.std.proofs.Common.{◌≡◌, ◌≤◌, ◌<◌, ℕ, get_or, length, slice_index}
-use Rattle.roa_origin.specs.Payloads.{Payload}
-use Rattle.roa_origin.specs.Starts.{IsStart, first_bits}
+use Rattle.roa_origin.proofs.Common.{get_or, length, slice_index, ℕ, ◌<◌, ◌≡◌, ◌≤◌, Payload, IsStart, first_bits}
 use Rattle.roa_origin.proofs.starts.starts.Given as goal
 
 abbrev pub invariant-loop-number : goal.invariant-loop-number

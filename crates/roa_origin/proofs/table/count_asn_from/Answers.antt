@@ -1,8 +1,5 @@
 -- The test parts the payloads of a group.
-use Rattle.std.proofs.Common.{rules, ◌≡◌, true, false, leb}
-use Rattle.std.proofs.lemmas.List.Sorted.{IsPartitionPoint-from_clause}
-use Rattle.std.specs.List.Sorted.{IsPartitionPoint}
-use Rattle.roa_origin.specs.Payloads.{Payload}
+use Rattle.roa_origin.proofs.Common.{false, leb, rules, true, ◌≡◌, IsPartitionPoint-from_clause, IsPartitionPoint, Payload}
 use Rattle.roa_origin.proofs.Lasts.{last_of, parted}
 use Rattle.roa_origin.proofs.table.count_asn_from.Goals as goal
 

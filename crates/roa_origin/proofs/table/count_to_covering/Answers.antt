@@ -1,6 +1,5 @@
 -- What comes later than the route doesn't cover it, nor what the walk to the nearest that does has passed.
-use Rattle.std.proofs.Common.{arith, inl, inr}
-use Rattle.std.proofs.lemmas.Bool.{cases_lt}
+use Rattle.roa_origin.proofs.Common.{arith, inl, inr, cases_lt}
 use Rattle.roa_origin.proofs.Walks.{later_covers_none}
 use Rattle.roa_origin.proofs.table.count_to_covering.Goals as goal
 

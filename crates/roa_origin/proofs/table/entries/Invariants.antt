@@ -1,6 +1,5 @@
 -- The entries so far are those of the payloads gone through.
-use Rattle.std.proofs.Common.{◌≡◌, All, take}
-use Rattle.roa_origin.specs.Payloads.{IsLawfulPayload}
+use Rattle.roa_origin.proofs.Common.{All, take, ◌≡◌, IsLawfulPayload}
 use Rattle.roa_origin.proofs.table.entries.Given as goal
 
 abbrev pub invariant-loop-payload : goal.invariant-loop-payload

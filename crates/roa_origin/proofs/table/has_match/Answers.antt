@@ -1,7 +1,5 @@
 -- The last payload that has no lesser AS number is the one to ask.
-use Rattle.std.proofs.Common.{arith, ◌<◌, ◌-◌, sym, length, subst}
-use Rattle.std.proofs.lemmas.Bool.{ltb-true}
-use Rattle.roa_origin.specs.Payloads.{CoversRoute, Matches, Payload}
+use Rattle.roa_origin.proofs.Common.{arith, length, subst, sym, ◌-◌, ◌<◌, ltb-true, CoversRoute, Matches, Payload}
 use Rattle.roa_origin.proofs.Lasts.{last_matches}
 use Rattle.roa_origin.proofs.table.has_match.Goals as goal
 

@@ -1,7 +1,5 @@
 -- Each step passes a prefix of whose payloads none has the AS.
-use Rattle.std.proofs.Common.{arith, ◌≡◌, true, false, refl, sym, ◌∙◌, subst}
-use Rattle.roa_origin.specs.Links.{IsGroup}
-use Rattle.roa_origin.specs.Validities.{IsHeldBy}
+use Rattle.roa_origin.proofs.Common.{arith, false, refl, subst, sym, true, ◌∙◌, ◌≡◌, IsGroup, IsHeldBy}
 use Rattle.roa_origin.proofs.Left.{begun, ended, fewer_then, first_left, found, group_left, held, passed}
 use Rattle.roa_origin.proofs.table.is_held_in.Goals as goal
 

@@ -1,8 +1,5 @@
 -- What covers the route stands on the walk along the links from the last payload that comes no later.
-use Rattle.std.proofs.Common.{arith, ◌≡◌, ◌≤◌, true, false, sym, ◌∙◌, subst}
-use Rattle.roa_origin.specs.Links.{IsGroup}
-use Rattle.roa_origin.specs.Payloads.{CoversRoute, Matches}
-use Rattle.roa_origin.specs.Validities.{IsMatched}
+use Rattle.roa_origin.proofs.Common.{arith, false, subst, sym, true, ◌∙◌, ◌≡◌, ◌≤◌, IsGroup, CoversRoute, Matches, IsMatched}
 use Rattle.roa_origin.proofs.Scans.{all_seen, matched}
 use Rattle.roa_origin.proofs.Steps.{any_at, back_up_to, back_within, fewer_left, first_within, group_at, is_last, step_covered, step_free}
 use Rattle.roa_origin.proofs.Walks.{later_free}

@@ -1,8 +1,6 @@
 -- Changes without a fault make the next table.
-use Rattle.std.proofs.Common.{List, sym, subst}
+use Rattle.roa_origin.proofs.Common.{List, subst, sym, AreChangesOf, Change}
 use Rattle.roa_origin.proofs.Updated.{updated_by}
-use Rattle.roa_origin.specs.Updates.{AreChangesOf}
-use Rattle.roa_origin.specs.declared.updates.Change.{Change}
 use Rattle.roa_origin.proofs.updates.after_changes.Goals as goal
 
 pub returns-clause-updated : goal.returns-clause-updated

@@ -1,9 +1,5 @@
 -- The search parts the payloads that come no later from the others.
-use Rattle.std.proofs.Common.{rules, arith, ◌≡◌, true, false, leb, sym, ◌∙◌, get_or, inl, inr}
-use Rattle.std.proofs.lemmas.Bool.{cases_lt, le-leb, leb-true}
-use Rattle.std.proofs.lemmas.List.Sorted.{IsPartitionPoint-from_clause, IsPartitionedBy-leb}
-use Rattle.std.specs.List.Sorted.{IsPartitionPoint}
-use Rattle.roa_origin.specs.Places.{table_place}
+use Rattle.roa_origin.proofs.Common.{arith, false, get_or, inl, inr, leb, rules, sym, true, ◌∙◌, ◌≡◌, cases_lt, le-leb, leb-true, IsPartitionPoint-from_clause, IsPartitionedBy-leb, IsPartitionPoint, table_place}
 use Rattle.roa_origin.proofs.updates.count_up_to.Goals as goal
 
 -- the point found parts them

@@ -1,8 +1,6 @@
 -- A payload that is announced is new, or its place is the first that isn't.
-use Rattle.std.proofs.Common.{arith, ◌<◌, IsTrue, length, sym, subst}
+use Rattle.roa_origin.proofs.Common.{IsTrue, arith, length, subst, sym, ◌<◌, IsLawfulPayload, Payload, IsDuplicateRecord}
 use Rattle.roa_origin.proofs.Faults.{duplicate, none_more, not_duplicate, nowhere, read_there}
-use Rattle.roa_origin.specs.Payloads.{IsLawfulPayload, Payload}
-use Rattle.roa_origin.specs.Updates.{IsDuplicateRecord}
 use Rattle.roa_origin.proofs.updates.first_duplicate.Goals as goal
 
 pub returns-then-is_duplicate : goal.returns-then-is_duplicate

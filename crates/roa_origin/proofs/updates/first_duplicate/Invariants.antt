@@ -1,7 +1,5 @@
 -- None was found so far.
-use Rattle.std.proofs.Common.{◌<◌, ℕ, List}
-use Rattle.roa_origin.specs.Payloads.{Payload}
-use Rattle.roa_origin.specs.Updates.{AreChangesOf, IsDuplicateRecord}
+use Rattle.roa_origin.proofs.Common.{List, ℕ, ◌<◌, Payload, AreChangesOf, IsDuplicateRecord}
 use Rattle.roa_origin.proofs.updates.first_duplicate.Given as goal
 
 abbrev pub invariant-loop-place : goal.invariant-loop-place

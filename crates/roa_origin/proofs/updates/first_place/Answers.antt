@@ -1,11 +1,7 @@
 -- The first change of a payload has the least place.
-use Rattle.std.proofs.Common.{IsTrue, get_or, sym, subst}
+use Rattle.roa_origin.proofs.Common.{IsTrue, get_or, subst, sym, get_or_default, sent_place, IsFirstPlace, IsOf, sent_change, Change}
 use Rattle.roa_origin.proofs.Found.{found}
 use Rattle.roa_origin.proofs.Listed.{by_payload, first_of}
-use Rattle.std.proofs.lemmas.List.{get_or_default}
-use Rattle.roa_origin.specs.Places.{sent_place}
-use Rattle.roa_origin.specs.Updates.{IsFirstPlace, IsOf, sent_change}
-use Rattle.roa_origin.specs.declared.updates.Change.{Change}
 use Rattle.roa_origin.proofs.updates.first_place.Goals as goal
 
 pub returns-then-stands_at : goal.returns-then-stands_at

@@ -1,8 +1,6 @@
 -- A payload that is withdrawn is known, or its place is the first that isn't.
-use Rattle.std.proofs.Common.{arith, ◌<◌, IsTrue, length, sym, subst}
+use Rattle.roa_origin.proofs.Common.{IsTrue, arith, length, subst, sym, ◌<◌, IsLawfulPayload, Payload, IsUnknownRecord}
 use Rattle.roa_origin.proofs.Faults.{none_more, not_unknown, nowhere, read_there, unknown}
-use Rattle.roa_origin.specs.Payloads.{IsLawfulPayload, Payload}
-use Rattle.roa_origin.specs.Updates.{IsUnknownRecord}
 use Rattle.roa_origin.proofs.updates.first_unknown.Goals as goal
 
 pub returns-then-is_unknown : goal.returns-then-is_unknown

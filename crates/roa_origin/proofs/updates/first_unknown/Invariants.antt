@@ -1,6 +1,5 @@
 -- None was found so far.
-use Rattle.std.proofs.Common.{◌<◌, ℕ}
-use Rattle.roa_origin.specs.Updates.{IsUnknownRecord}
+use Rattle.roa_origin.proofs.Common.{ℕ, ◌<◌, IsUnknownRecord}
 use Rattle.roa_origin.proofs.updates.first_unknown.Given as goal
 
 abbrev pub invariant-loop-place : goal.invariant-loop-place

@@ -1,9 +1,6 @@
 -- A table that has the payload has it where the search stops.
-use Rattle.std.proofs.Common.{arith, ◌≡◌, sym, subst, length}
-use Rattle.std.proofs.lemmas.Bool.{ltb-true}
+use Rattle.roa_origin.proofs.Common.{arith, length, subst, sym, ◌≡◌, ltb-true, Payload, sent_place}
 use Rattle.roa_origin.proofs.Sent.{same_sent, sent_there}
-use Rattle.roa_origin.specs.Payloads.{Payload}
-use Rattle.roa_origin.specs.Places.{sent_place}
 use Rattle.roa_origin.proofs.updates.has.Goals as goal
 
 pub returns-then-at-table : goal.returns-then-at-table

@@ -1,8 +1,6 @@
 -- When all payloads are gone through, the changes are theirs.
-use Rattle.std.proofs.Common.{arith, map, ap, ◌∙◌}
-use Rattle.std.proofs.lemmas.List.{take_all}
+use Rattle.roa_origin.proofs.Common.{ap, arith, map, ◌∙◌, take_all, as_sent}
 use Rattle.roa_origin.proofs.Listed.{listed}
-use Rattle.roa_origin.specs.Tables.{as_sent}
 use Rattle.roa_origin.proofs.updates.listed_changes.Goals as goal
 
 pub returns : goal.returns

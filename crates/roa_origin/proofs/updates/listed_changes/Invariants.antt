@@ -1,8 +1,5 @@
 -- The changes so far are those of the payloads gone through, each with its place.
-use Rattle.std.proofs.Common.{◌≡◌, ◌<◌, ℕ, All, get_or, length, map, take}
-use Rattle.roa_origin.specs.Tables.{as_sent}
-use Rattle.roa_origin.specs.Updates.{IsLawfulChange}
-use Rattle.roa_origin.specs.declared.updates.Change.{Change}
+use Rattle.roa_origin.proofs.Common.{All, get_or, length, map, take, ℕ, ◌<◌, ◌≡◌, as_sent, IsLawfulChange, Change}
 use Rattle.roa_origin.proofs.updates.listed_changes.Given as goal
 
 abbrev pub invariant-loop-place : goal.invariant-loop-place

@@ -1,11 +1,6 @@
 -- From the place on none comes earlier, since the first there doesn't.
-use Rattle.std.proofs.Common.{arith, ◌≡◌, ◌≤◌, true, false, sym, ◌∙◌, subst, get_or, inl, inr}
-use Rattle.std.proofs.lemmas.Bool.{cases_lt, lt-ltb}
-use Rattle.std.proofs.lemmas.List.{get_or_default}
+use Rattle.roa_origin.proofs.Common.{arith, false, get_or, inl, inr, subst, sym, true, ◌∙◌, ◌≡◌, ◌≤◌, cases_lt, lt-ltb, get_or_default, sent_place, sent_change, Change}
 use Rattle.roa_origin.proofs.Listed.{by_payload}
-use Rattle.roa_origin.specs.Places.{sent_place}
-use Rattle.roa_origin.specs.Updates.{sent_change}
-use Rattle.roa_origin.specs.declared.updates.Change.{Change}
 use Rattle.roa_origin.proofs.updates.passed.Goals as goal
 
 pub returns-else-is_sent_before-clause-searched : goal.returns-else-is_sent_before-clause-searched

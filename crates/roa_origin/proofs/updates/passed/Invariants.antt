@@ -1,7 +1,5 @@
 -- Before the place all come earlier.
-use Rattle.std.proofs.Common.{◌-◌, ◌≤◌, ◌<◌, ℕ, get_or, length}
-use Rattle.roa_origin.specs.Places.{sent_place}
-use Rattle.roa_origin.specs.declared.updates.Change.{Change}
+use Rattle.roa_origin.proofs.Common.{get_or, length, ℕ, ◌-◌, ◌<◌, ◌≤◌, sent_place, Change}
 use Rattle.roa_origin.proofs.updates.passed.Given as goal
 
 abbrev pub invariant-loop-at : goal.invariant-loop-at

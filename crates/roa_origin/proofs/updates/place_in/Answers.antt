@@ -1,10 +1,6 @@
 -- The search parts the payloads that come earlier from the others.
-use Rattle.std.proofs.Common.{rules, arith, ◌≡◌, true, false, ltb, sym, ◌∙◌, get_or, inl, inr}
-use Rattle.std.proofs.lemmas.Bool.{cases_lt, lt-ltb, ltb-true}
-use Rattle.std.proofs.lemmas.List.Sorted.{IsPartitionPoint-from_clause, IsPartitionedBy-ltb}
-use Rattle.std.specs.List.Sorted.{IsPartitionPoint}
+use Rattle.roa_origin.proofs.Common.{arith, false, get_or, inl, inr, ltb, rules, sym, true, ◌∙◌, ◌≡◌, cases_lt, lt-ltb, ltb-true, IsPartitionPoint-from_clause, IsPartitionedBy-ltb, IsPartitionPoint, sent_place}
 use Rattle.roa_origin.proofs.Sent.{by_sent}
-use Rattle.roa_origin.specs.Places.{sent_place}
 use Rattle.roa_origin.proofs.updates.place_in.Goals as goal
 
 -- the point found parts them

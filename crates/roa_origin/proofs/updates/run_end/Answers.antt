@@ -1,9 +1,5 @@
 -- The payload at the place is one of the run.
-use Rattle.std.proofs.Common.{arith, None, ◌<◌, inl, inr}
-use Rattle.std.proofs.lemmas.Bool.{cases_lt}
-use Rattle.rpki_addr.specs.declared.addr.IpAddr.TheVariants.{V4}
-use Rattle.roa_origin.specs.Payloads.{Payload}
-use Rattle.roa_origin.specs.declared.updates.Change.{Change}
+use Rattle.roa_origin.proofs.Common.{None, arith, inl, inr, ◌<◌, cases_lt, V4, Payload, Change}
 use Rattle.roa_origin.proofs.updates.run_end.Goals as goal
 
 pub returns-clause-some : goal.returns-clause-some

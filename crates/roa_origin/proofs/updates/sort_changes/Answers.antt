@@ -1,7 +1,5 @@
 -- Sorted changes are in order.
-use Rattle.std.proofs.Common.{rules}
-use Rattle.std.proofs.lemmas.List.Sorted.{All-permutation, IsNonDecreasingBy-from_sort_by}
-use Rattle.roa_origin.specs.Updates.{IsLawfulChange, change_place}
+use Rattle.roa_origin.proofs.Common.{rules, All-permutation, IsNonDecreasingBy-from_sort_by, IsLawfulChange, change_place}
 use Rattle.roa_origin.proofs.updates.sort_changes.Goals as goal
 
 pub returns-clause-in_order : goal.returns-clause-in_order

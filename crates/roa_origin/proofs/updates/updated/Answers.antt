@@ -1,9 +1,6 @@
 -- Each turn takes the next payload, of the table or announced.
-use Rattle.std.proofs.Common.{arith, get_or, sym}
-use Rattle.std.proofs.lemmas.List.{get_or_default}
+use Rattle.roa_origin.proofs.Common.{arith, get_or, sym, get_or_default, Payload, Change}
 use Rattle.roa_origin.proofs.Updated.{advanced, comes, goes, in_order, merged_of, run}
-use Rattle.roa_origin.specs.Payloads.{Payload}
-use Rattle.roa_origin.specs.declared.updates.Change.{Change}
 use Rattle.roa_origin.proofs.updates.updated.Goals as goal
 
 pub loop-at-preserved-then-announced_is_next : goal.loop-at-preserved-then-announced_is_next

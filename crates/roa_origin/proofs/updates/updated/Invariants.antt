@@ -1,5 +1,5 @@
 -- So far the list has what is kept of the payloads gone through, and what was announced, in order.
-use Rattle.std.proofs.Common.{◌+◌, ◌-◌, length}
+use Rattle.roa_origin.proofs.Common.{length, ◌+◌, ◌-◌}
 use Rattle.roa_origin.proofs.Updated.{IsSoFar}
 use Rattle.roa_origin.proofs.updates.updated.Given as goal
 

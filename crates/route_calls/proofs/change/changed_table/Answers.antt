@@ -1,5 +1,5 @@
 -- Both lists are read, and their changes are those of the table.
-use Rattle.std.proofs.Common.{sym, subst, ◌∙◌}
+use Rattle.route_calls.proofs.Common.{subst, sym, ◌∙◌}
 use Rattle.roa_origin.specs.Updates.{IsUpdated}
 use Rattle.route_calls.proofs.change.changed_table.Goals as goal
 

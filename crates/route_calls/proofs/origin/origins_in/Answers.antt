@@ -1,6 +1,4 @@
-use Rattle.std.proofs.Common.{[]}
-use Rattle.route_calls.specs.Origins.{IsOrigin}
-use Rattle.route_calls.specs.declared.route.Route.{Route}
+use Rattle.route_calls.proofs.Common.{[], IsOrigin, Route}
 use Rattle.route_calls.proofs.OriginLemmas.{one_more}
 use Rattle.route_calls.proofs.origin.origins_in.Goals as goal
 

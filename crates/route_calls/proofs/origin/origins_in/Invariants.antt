@@ -1,5 +1,4 @@
-use Rattle.std.proofs.Common.{take}
-use Rattle.route_calls.specs.Origins.{AreEach, IsOrigin}
+use Rattle.route_calls.proofs.Common.{take, AreEach, IsOrigin}
 use Rattle.route_calls.proofs.origin.origins_in.Given as goal
 
 -- the validities so far are told

@@ -1,8 +1,5 @@
 -- What a table tells of routes, the list that it was made of tells too.
-use Rattle.std.proofs.Common.{ℕ}
-use Rattle.route_calls.specs.Origins.{IsOrigin}
-use Rattle.route_calls.specs.Routes.{IsNoRoute}
-use Rattle.route_calls.specs.declared.route.Route.{Route}
+use Rattle.route_calls.proofs.Common.{ℕ, IsOrigin, IsNoRoute, Route}
 use Rattle.route_calls.proofs.OriginLemmas.{by_another}
 use Rattle.route_calls.proofs.origin.origins_of.Goals as goal
 

@@ -1,5 +1,4 @@
-use Rattle.std.proofs.Common.{[]}
-use Rattle.route_calls.specs.Routes.{IsPayload}
+use Rattle.route_calls.proofs.Common.{[], IsPayload}
 use Rattle.route_calls.specs.declared.route.Payload.{Payload as Handed}
 use Rattle.route_calls.proofs.OriginLemmas.{one_more}
 use Rattle.route_calls.proofs.origin.payloads_of.Goals as goal

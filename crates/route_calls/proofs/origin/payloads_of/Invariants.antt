@@ -1,6 +1,4 @@
-use Rattle.std.proofs.Common.{take}
-use Rattle.route_calls.specs.Origins.{AreEach}
-use Rattle.route_calls.specs.Routes.{IsPayload}
+use Rattle.route_calls.proofs.Common.{take, AreEach, IsPayload}
 use Rattle.route_calls.proofs.origin.payloads_of.Given as goal
 
 -- the payloads so far are read

@@ -1,5 +1,4 @@
-use Rattle.std.proofs.Common.{◌≡◌, ◌++◌, map}
-use Rattle.route_calls.specs.Tellings.{handed_of}
+use Rattle.route_calls.proofs.Common.{map, ◌++◌, ◌≡◌, handed_of}
 use Rattle.route_calls.proofs.table.all_payloads.Given as goal
 
 -- the payloads so far, with those that are left, are all of them

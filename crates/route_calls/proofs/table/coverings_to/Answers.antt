@@ -1,5 +1,5 @@
 -- The payloads that cover a route are told one after another.
-use Rattle.route_calls.specs.Tellings.{IsCovering}
+use Rattle.route_calls.proofs.Common.{IsCovering}
 use Rattle.route_calls.proofs.TableLemmas.{one_told}
 use Rattle.route_calls.proofs.table.coverings_to.Goals as goal
 

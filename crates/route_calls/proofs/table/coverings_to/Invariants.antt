@@ -1,4 +1,4 @@
-use Rattle.route_calls.specs.Tellings.{IsCovering}
+use Rattle.route_calls.proofs.Common.{IsCovering}
 use Rattle.route_calls.proofs.TableLemmas.{SoFar}
 use Rattle.route_calls.proofs.table.coverings_to.Given as goal
 

@@ -1,7 +1,5 @@
 -- A SEQUENCE says its blocks.
-use Rattle.std.proofs.Common.{refl}
-use Rattle.rpki_base.specs.DerReading.{by_tag}
-use Rattle.rpki_chain.specs.declared.choice.ResourcesChoice.TheVariants.{Blocks}
+use Rattle.rpki_chain.proofs.Common.{refl, by_tag, Blocks}
 use Rattle.rpki_chain.proofs.der.listed_in.Goals as goal
 
 pub returns-in_ok-read_some-in-48-clause-by_mode : goal.returns-in_ok-read_some-in-48-clause-by_mode

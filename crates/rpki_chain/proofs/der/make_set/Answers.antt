@@ -1,5 +1,5 @@
 -- The first block has a number.
-use Rattle.std.proofs.Common.{arith}
+use Rattle.rpki_chain.proofs.Common.{arith}
 use Rattle.rpki_chain.proofs.ChoiceReadings.{first_of_some, has_numbers}
 use Rattle.rpki_chain.proofs.der.make_set.Goals as goal
 

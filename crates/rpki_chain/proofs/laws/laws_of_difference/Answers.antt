@@ -1,6 +1,4 @@
-use Rattle.std.proofs.Common.{⊎_elim, inl, inr, subst}
-use Rattle.rpki_chain.specs.Runs.{Runs, Holds}
-use Rattle.rpki_chains.proofs.Chains.{Covers-nil}
+use Rattle.rpki_chain.proofs.Common.{inl, inr, subst, ⊎_elim, Covers-nil, Holds, Runs}
 use Rattle.rpki_chain.proofs.RunLists.{Holds-decided}
 use Rattle.rpki_chain.proofs.LawLemmas.{one_set, empty_set}
 use Rattle.rpki_chain.proofs.laws.laws_of_difference.Goals as goal

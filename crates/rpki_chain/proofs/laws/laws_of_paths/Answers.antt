@@ -1,4 +1,4 @@
-use Rattle.std.proofs.lemmas.List.Elements.{All-nil}
+use Rattle.rpki_chain.proofs.Common.{All-nil}
 use Rattle.rpki_chain.proofs.LawLemmas.{one_set}
 use Rattle.rpki_chain.proofs.PathLaws.{any_order, inside_issuer, not_trimmed}
 use Rattle.rpki_chain.proofs.laws.laws_of_paths.Goals as goal

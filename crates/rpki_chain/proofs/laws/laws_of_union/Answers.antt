@@ -1,4 +1,4 @@
-use Rattle.std.proofs.Common.{inl, inr, ⊎_elim}
+use Rattle.rpki_chain.proofs.Common.{inl, inr, ⊎_elim}
 use Rattle.rpki_chain.proofs.LawLemmas.{one_set}
 use Rattle.rpki_chain.proofs.laws.laws_of_union.Goals as goal
 

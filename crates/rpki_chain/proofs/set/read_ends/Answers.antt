@@ -1,4 +1,4 @@
-use Rattle.std.proofs.Common.{arith}
+use Rattle.rpki_chain.proofs.Common.{arith}
 use Rattle.rpki_chain.proofs.SetLemmas.{IsBlockChain-from_ends}
 use Rattle.rpki_chain.proofs.set.read_ends.Goals as goal
 

@@ -1,5 +1,4 @@
-use Rattle.std.proofs.Common.{ap}
-use Rattle.rpki_chain.specs.Claims.{claim_by}
+use Rattle.rpki_chain.proofs.Common.{ap, claim_by}
 use Rattle.rpki_chain.proofs.Issued.{issued-inherit, wants_memory}
 use Rattle.rpki_chain.proofs.verify.issued_by.Goals as goal
 

@@ -1,7 +1,4 @@
-use Rattle.std.proofs.Common.{subst, arith}
-use Rattle.rpki_chain.specs.Claims.{Claim}
-use Rattle.rpki_chain.specs.Paths.{IsExcess, IsIssued}
-use Rattle.rpki_chain.specs.Runs.{Holds}
+use Rattle.rpki_chain.proofs.Common.{arith, subst, Claim, IsExcess, IsIssued, Holds}
 use Rattle.rpki_chain.proofs.PathSteps.{path-begins, path-refused, path-left, path-accepted, path-done}
 use Rattle.rpki_chain.proofs.verify.left_by.Goals as goal
 

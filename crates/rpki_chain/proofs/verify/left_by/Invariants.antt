@@ -1,6 +1,4 @@
-use Rattle.std.proofs.Common.{ℕ, ◌<◌, take}
-use Rattle.rpki_chain.specs.Paths.{IsLeft, ExceedsAt}
-use Rattle.rpki_chain.specs.Runs.{Holds, IsRunsOf}
+use Rattle.rpki_chain.proofs.Common.{take, ℕ, ◌<◌, ExceedsAt, IsLeft, Holds, IsRunsOf}
 use Rattle.rpki_chain.proofs.verify.left_by.Given as goal
 
 -- the steps so far left what is left, and none of them was refused

@@ -1,7 +1,4 @@
-use Rattle.std.proofs.Common.{ℕ, refl}
-use Rattle.std.proofs.lemmas.Bool.{false≢true}
-use Rattle.rpki_chain.specs.declared.choice.ResourcesChoice.TheVariants.{Blocks}
-use Rattle.rpki_chain.specs.Runs.{Holds}
+use Rattle.rpki_chain.proofs.Common.{refl, ℕ, false≢true, Holds, Blocks}
 use Rattle.rpki_chain.proofs.Issued.{issued-inside, issued-trim, excess-refused, handed_on}
 use Rattle.rpki_chain.proofs.verify.listed_by.Goals as goal
 use Rattle.rpki_chain.proofs.verify.listed_by.Goals.{in-Refuse+in_ok-covered_by-in-Refuse, in-Trim+in_default}

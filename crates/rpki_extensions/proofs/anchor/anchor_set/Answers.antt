@@ -1,6 +1,4 @@
-use Rattle.std.proofs.Common.{inr, subst}
-use Rattle.rpki_text.specs.Memory.{IfRefused}
-use Rattle.rpki_resources.specs.Triples.{IsOneInherited}
+use Rattle.rpki_extensions.proofs.Common.{inr, subst, IsOneInherited, IfRefused}
 use Rattle.rpki_extensions.proofs.anchor.anchor_set.Goals as goal
 
 pub returns-in-Err-Refused : goal.returns-in-Err-Refused

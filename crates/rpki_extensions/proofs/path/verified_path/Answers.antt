@@ -1,10 +1,6 @@
-use Rattle.std.proofs.Common.{arith, get_or, None, subst, sym}
-use Rattle.std.proofs.lemmas.List.{take_all}
-use Rattle.rpki_extensions.specs.Paths.{IsVerifiedPath}
+use Rattle.rpki_extensions.proofs.Common.{None, arith, get_or, subst, sym, take_all, IsVerifiedPath, Any, Extensions}
 use Rattle.rpki_extensions.proofs.PathLemmas.{path-inside, path-more, same-place}
 use Rattle.rpki_chain.specs.declared.path.Overclaim.TheVariants.{Refuse}
-use Rattle.rpki_extensions.specs.declared.encoding.Encoding.TheVariants.{Any}
-use Rattle.rpki_extensions.specs.declared.extensions.Extensions.{Extensions}
 use Rattle.rpki_extensions.proofs.path.verified_path.Goals as goal
 
 pub returns-clause-path : goal.returns-clause-path

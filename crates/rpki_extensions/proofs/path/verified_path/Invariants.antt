@@ -1,5 +1,4 @@
-use Rattle.std.proofs.Common.{take}
-use Rattle.rpki_extensions.specs.Paths.{IsVerifiedPath}
+use Rattle.rpki_extensions.proofs.Common.{take, IsVerifiedPath}
 use Rattle.rpki_extensions.proofs.path.verified_path.Given as goal
 
 -- the certificates so far leave the issuer's resources

@@ -1,9 +1,9 @@
 -- What a take at the front of the octets tells of all of them.
+use Rattle.rpki_extensions.proofs.Common.{IsRunsOfBlocks}
 use Rattle.rpki_as.specs.AsDer.{IsAsResources, IsPresentAsClaim, as_resources_octets}
 use Rattle.rpki_as.specs.AsDerReading.{as_choice_by}
 use Rattle.rpki_as_block.specs.Blocks.{as_bounds}
 use Rattle.rpki_chain.specs.Choices.{ListsBy}
-use Rattle.rpki_chain.specs.Runs.{IsRunsOfBlocks}
 use Rattle.rpki_extensions.proofs.EndLemmas.{passed_on}
 use Rattle.rpki_extensions.proofs.EncodingLemmas.{all_in, more_in, refused_in}
 use Rattle.rpki_extensions.proofs.read.read_as.Goals as goal

@@ -1,8 +1,6 @@
 -- What a take at the front of the octets tells of all of them.
-use Rattle.rpki_base.specs.FamiliesDer.{families_der}
+use Rattle.rpki_extensions.proofs.Common.{families_der, ArePresentClaims, IsIpFamilies, SaysClaims, ip_resources_der}
 use Rattle.rpki_ipres.specs.Modes.{ip_families_by}
-use Rattle.rpki_ipres.specs.Resources.{ArePresentClaims}
-use Rattle.rpki_ipres.specs.ResourcesDer.{IsIpFamilies, SaysClaims, ip_resources_der}
 use Rattle.rpki_extensions.proofs.EndLemmas.{passed_on}
 use Rattle.rpki_extensions.proofs.EncodingLemmas.{all_in, families_again, more_in, refused_in}
 use Rattle.rpki_extensions.proofs.read.read_families.Goals as goal

@@ -1,7 +1,5 @@
 -- What is written of the claims is read as them.
-use Rattle.std.proofs.Common.{rules, ◌≡◌, ◌≢◌, ◌<◌, length}
-use Rattle.std.specs.Prelude.{◌^◌}
-use Rattle.rpki_chain.specs.declared.choice.ResourcesChoice.TheVariants.{Missing}
+use Rattle.rpki_extensions.proofs.Common.{length, rules, ◌<◌, ◌≡◌, ◌≢◌, ◌^◌, Missing}
 use Rattle.rpki_extensions.proofs.WrittenLemmas.{is_read_back, is_written}
 use Rattle.rpki_extensions.proofs.write.write_address_claims.Goals as goal
 

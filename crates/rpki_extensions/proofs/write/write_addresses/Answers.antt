@@ -1,8 +1,5 @@
 -- The claims that list the set are those that are written, and are read back.
-use Rattle.std.proofs.Common.{IfOk, option_map, subst}
-use Rattle.rpki_chain.specs.Claims.{Claim}
-use Rattle.rpki_extensions.specs.Claims.{AreAddressClaims}
-use Rattle.rpki_extensions.specs.declared.encoding.Encoding.{Encoding}
+use Rattle.rpki_extensions.proofs.Common.{IfOk, option_map, subst, Claim, AreAddressClaims, Encoding}
 use Rattle.rpki_extensions.proofs.write.write_addresses.Goals as goal
 
 pub returns-clause-reads_back : goal.returns-clause-reads_back

@@ -1,4 +1,4 @@
-use Rattle.std.proofs.Common.{sym, subst}
+use Rattle.rpki_family.proofs.Common.{subst, sym}
 use Rattle.rpki_family.specs.FamilyText.{ReadsFamilyBlock}
 use Rattle.rpki_family.proofs.block.read_block.Goals as goal
 

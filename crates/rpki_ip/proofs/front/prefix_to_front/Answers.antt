@@ -1,7 +1,6 @@
 -- The digits at the front are the length.
-use Rattle.std.proofs.Common.{◌≤◌, arith, refl, ap, ◌∙◌}
+use Rattle.rpki_ip.proofs.Common.{ap, arith, refl, ◌∙◌, ◌≤◌, bits_of, family_of}
 use Rattle.rpki_addr.proofs.AddressReading.{slice_from}
-use Rattle.rpki_base.specs.Families.{bits_of, family_of}
 use Rattle.rpki_ip.proofs.DerModes.{bits_few_enough}
 use Rattle.rpki_ip.proofs.FrontLemmas.{prefix_at}
 use Rattle.rpki_ip.proofs.front.prefix_to_front.Goals as goal

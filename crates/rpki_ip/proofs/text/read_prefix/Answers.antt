@@ -1,7 +1,4 @@
-use Rattle.std.proofs.Common.{None, Some, lit<}
-use Rattle.std.proofs.lemmas.Str.Pattern.{split_parts}
-use Rattle.rpki_text.specs.Cuts.{slash}
-use Rattle.rpki_ip.specs.BlockText.{IsPrefixBetween, HasPrefixFault}
+use Rattle.rpki_ip.proofs.Common.{None, Some, lit<, split_parts, slash, HasPrefixFault, IsPrefixBetween}
 use Rattle.rpki_ip.proofs.TextLemmas.{prefix_one, cut_answers, no_cut_answers}
 use Rattle.rpki_ip.proofs.text.read_prefix.Goals as goal
 

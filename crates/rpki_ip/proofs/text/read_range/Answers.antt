@@ -1,7 +1,4 @@
-use Rattle.std.proofs.Common.{None, Some, lit<}
-use Rattle.std.proofs.lemmas.Str.Pattern.{split_parts}
-use Rattle.rpki_text.specs.Cuts.{dash}
-use Rattle.rpki_ip.specs.BlockText.{IsIpRangeBetween, HasRangeFault}
+use Rattle.rpki_ip.proofs.Common.{None, Some, lit<, split_parts, dash, HasRangeFault, IsIpRangeBetween}
 use Rattle.rpki_ip.proofs.TextLemmas.{range_one, cut_answers, no_cut_answers}
 use Rattle.rpki_ip.proofs.text.read_range.Goals as goal
 

@@ -1,6 +1,5 @@
 -- Each block completes those so far, and the last ends the list.
-use Rattle.std.proofs.Common.{sym, ◌∙◌}
-use Rattle.std.proofs.lemmas.Bool.{eqb-true}
+use Rattle.rpki_ip_block.proofs.Common.{sym, ◌∙◌, eqb-true}
 use Rattle.std.proofs.lemmas.List.{nil_from_length}
 use Rattle.rpki_ip_block.proofs.ListFronts.{all_read, one_more}
 use Rattle.rpki_ip_block.proofs.front.usual_blocks.Goals as goal

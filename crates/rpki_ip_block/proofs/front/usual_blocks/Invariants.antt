@@ -1,5 +1,5 @@
 -- What the loop over the elements keeps.
-use Rattle.std.proofs.Common.{length}
+use Rattle.rpki_ip_block.proofs.Common.{length}
 use Rattle.rpki_ip_block.proofs.ListFronts.{IsSoFar}
 use Rattle.rpki_ip_block.proofs.front.usual_blocks.Given as goal
 

@@ -1,5 +1,4 @@
-use Rattle.std.proofs.Common.{refl}
-use Rattle.rpki_ip_block.specs.PrintedBlocks.{ip_block_text}
+use Rattle.rpki_ip_block.proofs.Common.{refl, ip_block_text}
 use Rattle.rpki_ip_block.proofs.list.fmt_blocks.Goals as goal
 
 pub returns : goal.returns

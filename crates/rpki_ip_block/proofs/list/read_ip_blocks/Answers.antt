@@ -1,5 +1,4 @@
-use Rattle.std.proofs.Common.{Vec}
-use Rattle.rpki_ip_block.specs.declared.block.IpBlock.{IpBlock}
+use Rattle.rpki_ip_block.proofs.Common.{Vec, IpBlock}
 use Rattle.rpki_ip_block.proofs.ListLemmas.{ip_answers}
 use Rattle.rpki_ip_block.proofs.PrintedLists.{ip_list_back}
 use Rattle.rpki_ip_block.proofs.list.read_ip_blocks.Goals as goal

@@ -1,7 +1,6 @@
-use Rattle.std.proofs.Common.{None, Some, Ok, Err, lit<}
+use Rattle.rpki_ip_block.proofs.Common.{Err, None, Ok, Some, lit<, dash, slash}
 use Rattle.std.proofs.lemmas.Result.{err_from_is_err_and}
 use Rattle.std.proofs.lemmas.Str.Pattern.{split_parts}
-use Rattle.rpki_text.specs.Cuts.{slash, dash}
 use Rattle.rpki_ip_block.proofs.TextLemmas.{prefix_answers, range_answers, single_answers}
 use Rattle.rpki_ip_block.proofs.text.read_block.Goals as goal
 

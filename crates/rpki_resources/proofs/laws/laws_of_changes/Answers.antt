@@ -1,5 +1,4 @@
-use Rattle.std.proofs.Common.{◌≡◌, [], ap, sym}
-use Rattle.rpki_resources.specs.Triples.{Triple, Changes}
+use Rattle.rpki_resources.proofs.Common.{[], ap, sym, ◌≡◌, Changes, Triple}
 use Rattle.rpki_resources.proofs.ChangeLemmas.{restored, one_difference, same_where_none, none_where_same}
 use Rattle.rpki_resources.proofs.laws.laws_of_changes.Goals as goal
 

@@ -1,7 +1,5 @@
-use Rattle.std.proofs.Common.{ℕ, List, ◌++◌, codes, refl, ap₂, ap}
+use Rattle.rpki_resources.proofs.Common.{List, ap, ap₂, codes, refl, ℕ, ◌++◌, as_list_text, ipv4_list_text, ipv6_list_text}
 use Rattle.std.proofs.Output.{has_written_append, has_written_of_eq}
-use Rattle.rpki_as.specs.ListText.{as_list_text}
-use Rattle.rpki_resources.specs.TripleText.{ipv4_list_text, ipv6_list_text}
 use Rattle.rpki_resources.proofs.PrintLemmas.{kind_is}
 use Rattle.rpki_resources.proofs.texts.fmt_change.Goals as goal
 

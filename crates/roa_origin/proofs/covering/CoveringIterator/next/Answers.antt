@@ -1,6 +1,5 @@
 -- The nearest payload that covers the route is the first of those left, and its link tells the others.
-use Rattle.std.proofs.Common.{◌≡◌, ◌<◌, ◌-◌, length, refl, sym, ◌∙◌, ap, arith, subst}
-use Rattle.roa_origin.specs.Links.{NoneCovers}
+use Rattle.roa_origin.proofs.Common.{ap, arith, length, refl, subst, sym, ◌-◌, ◌<◌, ◌∙◌, ◌≡◌, NoneCovers}
 use Rattle.roa_origin.proofs.Covered.{gives, nothing_left, walk_on}
 use Rattle.roa_origin.proofs.covering.CoveringIterator.next.Goals as goal
 

@@ -1,8 +1,6 @@
 -- A mask of the open bits is the number of addresses less one.
-use Rattle.std.proofs.Common.{arith, ◌≡◌, ◌-◌, ◌^◌, ◌∙◌, ap, refl}
+use Rattle.roa_origin.proofs.Common.{ap, arith, refl, ◌-◌, ◌^◌, ◌∙◌, ◌≡◌, width, prefix_len}
 use Rattle.rpki_addr.proofs.Masks.{host_ones}
-use Rattle.rpki_prefix.specs.Values.{width}
-use Rattle.roa_origin.specs.Payloads.{prefix_len}
 use Rattle.roa_origin.proofs.entry.Entry.addresses_behind.Goals as goal
 
 pub returns-then-fixed : goal.returns-then-fixed

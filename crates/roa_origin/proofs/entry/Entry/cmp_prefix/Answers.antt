@@ -1,6 +1,5 @@
 -- The fields compare as the places of the payloads.
-use Rattle.std.proofs.Common.{subst}
-use Rattle.roa_origin.specs.Payloads.{IsLawfulPayload, Payload}
+use Rattle.roa_origin.proofs.Common.{subst, IsLawfulPayload, Payload}
 use Rattle.roa_origin.proofs.Orders.{fields_cmp}
 use Rattle.roa_origin.proofs.entry.Entry.cmp_prefix.Goals as goal
 

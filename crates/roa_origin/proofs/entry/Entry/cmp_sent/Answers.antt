@@ -1,6 +1,5 @@
 -- The places of two payloads decide, and where they tie the ranks do.
-use Rattle.std.proofs.Common.{sym, ◌∙◌}
-use Rattle.roa_origin.specs.Places.{payload_place, sent_rank}
+use Rattle.roa_origin.proofs.Common.{sym, ◌∙◌, payload_place, sent_rank}
 use Rattle.roa_origin.proofs.Orders.{by_place, by_rank}
 use Rattle.roa_origin.proofs.Sent.{sent_small}
 use Rattle.roa_origin.proofs.entry.Entry.cmp_sent.Goals as goal

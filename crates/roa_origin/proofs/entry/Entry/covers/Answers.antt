@@ -1,8 +1,5 @@
 -- The numbers tell whether the one prefix lies in the other.
-use Rattle.std.proofs.Common.{rules, ◌≡◌, ◌+◌, ◌-◌, ◌^◌, true, false, sym, ◌∙◌}
-use Rattle.std.proofs.lemmas.Bool.{leb-true, le-leb}
-use Rattle.rpki_prefix.specs.Values.{is_v6, width}
-use Rattle.roa_origin.specs.Entries.{addr_of}
+use Rattle.roa_origin.proofs.Common.{false, rules, sym, true, ◌+◌, ◌-◌, ◌^◌, ◌∙◌, ◌≡◌, le-leb, leb-true, is_v6, width, addr_of}
 use Rattle.roa_origin.proofs.Numbers.{by_distance, family_of, no_earlier, no_shorter}
 use Rattle.roa_origin.proofs.entry.Entry.covers.Goals as goal
 

@@ -1,10 +1,8 @@
 -- The first bits write a number of as many bits, and those of IPv6 stand after it.
-use Rattle.std.proofs.Common.{arith, ◌<◌, ◌-◌, ◌/◌, ◌^◌, Bool, true, false, subst}
-use Rattle.rpki_prefix.specs.Values.{IsFamilyPrefix}
-use Rattle.roa_origin.specs.Entries.{addr_of}
+use Rattle.roa_origin.proofs.Common.{Bool, arith, false, subst, true, ◌-◌, ◌/◌, ◌<◌, ◌^◌, IsFamilyPrefix, addr_of}
 use Rattle.roa_origin.proofs.Firsts.{few_numbers, first_part}
 use Rattle.roa_origin.proofs.entry.Entry.first_bits.Goals as goal
-use Rattle.roa_origin.proofs.entry.Entry.first_bits.Goals.{After-row_known-1, After-row_known-else-self-1}
+use Rattle.roa_origin.proofs.entry.Entry.first_bits.Goals.{After-row_known-1}
 
 v6 : (c : After-row_known-1) → c.self.inside.bits / 2 ^ (128 - c.args.count) < 2 ^ c.args.count
 v6 c =

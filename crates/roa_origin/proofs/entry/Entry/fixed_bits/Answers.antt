@@ -1,7 +1,5 @@
 -- A prefix is no longer than an address of its family.
-use Rattle.std.proofs.Common.{arith, ◌≤◌, Bool, true, false, subst}
-use Rattle.rpki_prefix.specs.Values.{IsFamilyPrefix}
-use Rattle.roa_origin.specs.Entries.{addr_of}
+use Rattle.roa_origin.proofs.Common.{Bool, arith, false, subst, true, ◌≤◌, IsFamilyPrefix, addr_of}
 use Rattle.roa_origin.proofs.entry.Entry.fixed_bits.Goals as goal
 
 pub returns-then-self : goal.returns-then-self

@@ -1,6 +1,5 @@
 -- The flags tell the families.
-use Rattle.std.proofs.Common.{rules}
-use Rattle.rpki_prefix.proofs.Covering.{beq_same, same_bool}
+use Rattle.roa_origin.proofs.Common.{rules, beq_same, same_bool}
 use Rattle.roa_origin.proofs.Numbers.{families, family_of}
 use Rattle.roa_origin.proofs.entry.Entry.has_family_of.Goals as goal
 

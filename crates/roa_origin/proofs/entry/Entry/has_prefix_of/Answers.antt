@@ -1,7 +1,6 @@
 -- Prefixes are the same where their places tie.
-use Rattle.std.proofs.Common.{is_eq, nat_cmp, sym, ap, ◌∙◌}
-use Rattle.roa_origin.specs.Payloads.{Payload}
-use Rattle.roa_origin.specs.Places.{payload_place, place}
+use Rattle.roa_origin.proofs.Common.{ap, is_eq, sym, ◌∙◌, Payload, payload_place, place}
+use Rattle.std.proofs.Common.{nat_cmp}
 use Rattle.roa_origin.proofs.Orders.{nat_same}
 use Rattle.roa_origin.proofs.Places.{same_prefix}
 use Rattle.roa_origin.proofs.Totals.{equal_of, nat_ties}

@@ -1,6 +1,6 @@
 -- Payloads are the same as they are sent where their places tie.
-use Rattle.std.proofs.Common.{is_eq, nat_cmp, sym, ap, ◌∙◌}
-use Rattle.roa_origin.specs.Places.{sent_place}
+use Rattle.roa_origin.proofs.Common.{ap, is_eq, sym, ◌∙◌, sent_place}
+use Rattle.std.proofs.Common.{nat_cmp}
 use Rattle.roa_origin.proofs.Orders.{nat_same}
 use Rattle.roa_origin.proofs.Totals.{equal_of, nat_ties}
 use Rattle.roa_origin.proofs.entry.Entry.is_sent_as.Goals as goal

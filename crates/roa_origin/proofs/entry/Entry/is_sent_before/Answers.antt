@@ -1,8 +1,6 @@
 -- What compares as less is less.
-use Rattle.std.proofs.Common.{◌≡◌, Bool, true, false, cond, ◌==◌, is_lt, refl, ap, ◌∙◌}
+use Rattle.roa_origin.proofs.Common.{Bool, ap, cond, false, is_lt, refl, true, ◌==◌, ◌∙◌, ◌≡◌, Equal, Greater, Less, sent_place}
 use Rattle.std.specs.Prelude.{nat_lt}
-use Rattle.std.specs.declared.cmp.Ordering.TheVariants.{Less, Equal, Greater}
-use Rattle.roa_origin.specs.Places.{sent_place}
 use Rattle.roa_origin.proofs.entry.Entry.is_sent_before.Goals as goal
 
 less : (s t : Bool) → is_lt (cond s Less (cond t Equal Greater)) ≡ s

@@ -1,8 +1,5 @@
 -- What doesn't compare as greater is no greater.
-use Rattle.std.proofs.Common.{◌≡◌, ℕ, inl, inr, leb, is_le, ap, sym, ◌∙◌, arith}
-use Rattle.std.proofs.lemmas.Bool.{cases_order, le-leb, lt-leb}
-use Rattle.std.specs.Ordering.{nat_cmp}
-use Rattle.roa_origin.specs.Places.{table_place}
+use Rattle.roa_origin.proofs.Common.{ap, arith, inl, inr, is_le, leb, sym, ℕ, ◌∙◌, ◌≡◌, cases_order, le-leb, lt-leb, nat_cmp, table_place}
 use Rattle.roa_origin.proofs.Orders.{nat_greater, nat_less, nat_same}
 use Rattle.roa_origin.proofs.entry.Entry.is_up_to.Goals as goal
 

@@ -1,5 +1,5 @@
 -- 1 where there is one.
-use Rattle.std.proofs.Common.{refl}
+use Rattle.roa_origin.proofs.Common.{refl}
 use Rattle.roa_origin.proofs.entry.Entry.told.Goals as goal
 
 pub returns-in-Some-clause-value : goal.returns-in-Some-clause-value

@@ -1,5 +1,5 @@
 -- What is sorted and freed of duplicates is in order, and has the payloads of the list.
-use Rattle.roa_origin.specs.Tables.{payload_cmp}
+use Rattle.roa_origin.proofs.Common.{payload_cmp}
 use Rattle.roa_origin.proofs.Lists.{ascending, members}
 use Rattle.roa_origin.proofs.Totals.{equal_where_the_same, ties, total}
 use Rattle.roa_origin.proofs.payloads.PayloadTable.new.Goals as goal

@@ -1,13 +1,5 @@
 -- What covers the route stands before the first payload that comes later than it.
-use Rattle.std.proofs.Common.{◌≡◌, List, reverse, sym, ◌∙◌, ap, subst}
-use Rattle.std.proofs.lemmas.List.Kept.{IsNonDecreasingBy-filter}
-use Rattle.std.specs.List.{filter}
-use Rattle.std.specs.List.Sorted.{IsNonDecreasingBy}
-use Rattle.roa_origin.specs.Coverings.{AreThose, covers_route}
-use Rattle.rpki_prefix.specs.Values.{FamilyPrefix, IsFamilyPrefix}
-use Rattle.roa_origin.specs.Links.{IsInOrder, IsTable}
-use Rattle.roa_origin.specs.Payloads.{CoversRoute, Payload, prefix_len}
-use Rattle.roa_origin.specs.Places.{table_place}
+use Rattle.roa_origin.proofs.Common.{List, ap, reverse, subst, sym, ◌∙◌, ◌≡◌, IsNonDecreasingBy-filter, filter, IsNonDecreasingBy, FamilyPrefix, IsFamilyPrefix, AreThose, covers_route, IsInOrder, IsTable, CoversRoute, Payload, prefix_len, table_place}
 use Rattle.roa_origin.proofs.Covered.{all_before, are_those, by_length}
 use Rattle.roa_origin.proofs.Firsts.{same_starts}
 use Rattle.roa_origin.proofs.Walks.{same_table}

@@ -1,9 +1,6 @@
 -- The answer by other names of the payloads and of the route.
-use Rattle.std.proofs.Common.{ℕ, sym, ◌∙◌, subst, List}
+use Rattle.roa_origin.proofs.Common.{List, subst, sym, ℕ, ◌∙◌, FamilyPrefix, IsFamilyPrefix, Payload, IsHeldBy}
 use Rattle.std.specs.Prelude.{IsTrue, ◌↔◌}
-use Rattle.rpki_prefix.specs.Values.{FamilyPrefix, IsFamilyPrefix}
-use Rattle.roa_origin.specs.Payloads.{Payload}
-use Rattle.roa_origin.specs.Validities.{IsHeldBy}
 use Rattle.roa_origin.proofs.Firsts.{same_starts}
 use Rattle.roa_origin.proofs.Walks.{renamed, same_table}
 use Rattle.roa_origin.proofs.table.OriginTable.is_held_by.Goals as goal

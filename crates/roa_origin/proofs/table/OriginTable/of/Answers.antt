@@ -1,7 +1,5 @@
 -- The links are those of the sorted payloads.
-use Rattle.std.proofs.Common.{sym, subst, List}
-use Rattle.roa_origin.specs.Links.{IsInOrder, IsTable}
-use Rattle.roa_origin.specs.Payloads.{Payload}
+use Rattle.roa_origin.proofs.Common.{List, subst, sym, IsInOrder, IsTable, Payload}
 use Rattle.roa_origin.proofs.Walks.{prefix_of}
 use Rattle.roa_origin.proofs.table.OriginTable.of.Goals as goal
 

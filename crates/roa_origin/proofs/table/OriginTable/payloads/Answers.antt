@@ -1,8 +1,5 @@
 -- A table is in order.
-use Rattle.std.proofs.Common.{List, sym, ◌∙◌, subst}
-use Rattle.std.specs.List.Sorted.{IsNonDecreasingBy}
-use Rattle.roa_origin.specs.Payloads.{Payload}
-use Rattle.roa_origin.specs.Places.{table_place}
+use Rattle.roa_origin.proofs.Common.{List, subst, sym, ◌∙◌, IsNonDecreasingBy, Payload, table_place}
 use Rattle.roa_origin.proofs.table.OriginTable.payloads.Goals as goal
 
 pub returns-clause-order : goal.returns-clause-order

@@ -1,5 +1,5 @@
 -- The payloads decide, and where they tie the places do.
-use Rattle.roa_origin.specs.Places.{sent_place}
+use Rattle.roa_origin.proofs.Common.{sent_place}
 use Rattle.roa_origin.proofs.Orders.{wide}
 use Rattle.roa_origin.proofs.updates.Change.cmp_place.Goals as goal
 

@@ -1,43 +1,14 @@
 -- The box that a handle owns, as its parts.
-use Rattle.std.proofs.Common.{◌≡◌, List, [], ◌∷◌, ◌++◌, refl, sym, subst, lit<}
-use seplogic.Ra.Ura.{Ura}
-use mir.Val.{Val, vstruct, vcons, vnil, of_list}
-use base.Logic.{SProp, ent, sep, emp, id⊢}
-use base.Fml.{ftrue}
-use prog.Memory.{Memory}
-use prog.Routine.{Routine}
-use prog.Wp.{WpFn, Calls, Loops}
-use types.Logic.{Logic, sem}
-use types.Kit.{‵, raw, ◌⊛◌, at_ret, ◌$◌, ◌∵◌, !, qed, by, move, keep, drop, split, fsplit, fjoin, fpick, use0, use1, feq_l}
-use types.Run.{stop, fld, of_opd, lit, bin, no_more, and_then, first, branches, skips, exec, returns, returns_within, enter}
-use types.ByLocal.{alloc_all, pass_all, free_all, look_at, get, get_in, sets, env}
-use types.Part.{agg, sub, whole}
-use types.Match.{live}
-use contract.Monad.{Fun, fact, fact_i}
-use contract.Running.{tables}
-use denote.RattleType.{RattleType, owns}
+use Rattle.route_calls.proofs.Common.{List, [], lit<, refl, subst, sym, ◌++◌, ◌∷◌, ◌≡◌, after, Goes-blank, handle_tells, Some-of, none_of, leaves, proved_at, box_owns, None, Some, if_non_null, ftrue, SProp, emp, ent, id⊢, sep, Fun, fact, fact_i, tables, RattleType, owns, Ptr, Testable, block_ptr, null_ptr, ptr_val, tests_null, plain, types_at, nothing, alive, Stays, stay_dropped, walk_of, Val, of_list, vcons, vnil, vstruct, Memory, Routine, Calls, Loops, WpFn, Ura, alloc_all, env, free_all, get, get_in, look_at, pass_all, sets, at_ret, !, by, drop, feq_l, fjoin, fpick, fsplit, keep, move, qed, raw, split, use0, use1, ‵, ◌$◌, ◌∵◌, ◌⊛◌, Logic, sem, live, agg, sub, whole, and_then, bin, branches, enter, exec, first, fld, lit, no_more, of_opd, returns, returns_within, skips, stop, fit, together, words, boxed_table, table_row}
 use denote.Param.{layout}
-use denote.RawPtr.{Ptr, block_ptr, null_ptr, ptr_val, Testable, tests_null}
-use denote.Signature.{types_at, plain}
-use denote.Steps.{nothing}
-use denote.Triple.Entry.{alive}
-use denote.Triple.Walked.{Stays, stay_dropped, walk_of}
-use Rattle.std.proofs.alloc.Calls.{Goes-blank, handle_tells}
-use Rattle.std.proofs.raw_atomic.Walks.{proved_at, leaves}
 use Rattle.std.specs.contracts.alloc.Global as heap
 use Rattle.std.proofs.alloc.Global.TheLaws as heap_laws
 use Rattle.std.specs.contracts.impls.GlobalAllocator.TheImpl.{ghosts}
-use Rattle.std.specs.Box.Ownership.{box_owns}
-use Rattle.std.specs.Prelude.{Some, None}
 use Rattle.box_pointer.specs.contracts.BoxPointer as pointer
-use Rattle.box_pointer.proofs.Words.{fit, heap as words_heap, together, words}
-use Rattle.route_calls.specs.Handles.{table_row, boxed_table}
+use Rattle.box_pointer.proofs.Words.{heap as words_heap}
 use Rattle.std.proofs.cell.Inside.{Good}
-use Rattle.std.specs.Ptr.{if_non_null}
 use Rattle.std.proofs.ResultValues.{and_tt}
-use Rattle.std.proofs.VecSteps.Shapes.{after}
 use Rattle.std.specs.contracts.option.Option as option
-use Rattle.std.proofs.option.Made.{Some-of, none_of}
 use Rattle.route_calls.specs.contracts.handle.TableOwner as owner_struct
 use Rattle.route_calls.specs.contracts.handle.TableOwner.into_parts.{ended, clauses}
 use Rattle.route_calls.specs.contracts.handle.TableOwner.into_parts.Key.{name as #self}

@@ -1,25 +1,5 @@
 -- A place with no table.
-use Rattle.std.proofs.Common.{◌≡◌, List, [], ◌∷◌, refl, lit<}
-use mir.Val.{Val, vnull, vstruct, vcons, vnil}
-use base.Logic.{SProp, emp}
-use base.Fml.{ftrue}
-use types.Kit.{‵, raw, ◌⊛◌, ◌$◌, ◌∵◌, !, qed, by, move, keep, drop, split, fjoin, fpack, use0, feq_i}
-use types.Run.{lit, no_more, and_then, returns, enter}
-use types.ByLocal.{alloc_all, pass_all, free_all, look_at, sets}
-use types.Part.{agg}
-use contract.Monad.{fact, fact_i}
-use contract.Running.{tables}
-use denote.RattleType.{Valss, owns}
-use denote.Builtin.{RawPtr}
-use denote.RawPtr.{null_ptr}
-use denote.Signature.{types_at}
-use denote.Steps.{nothing}
-use denote.Struct.Struct.{within}
-use denote.Struct.Owning.{shape}
-use denote.Triple.Entry.{alive}
-use denote.Triple.Walked.{Stays, walk_of}
-use Rattle.std.proofs.raw_atomic.Walks.{proved_at, leaves}
-use Rattle.std.specs.Prelude.{None}
+use Rattle.route_calls.proofs.Common.{List, [], lit<, refl, ◌∷◌, ◌≡◌, leaves, proved_at, None, ftrue, SProp, emp, fact, fact_i, tables, RawPtr, Valss, owns, null_ptr, types_at, nothing, shape, within, alive, Stays, walk_of, Val, vcons, vnil, vnull, vstruct, alloc_all, free_all, look_at, pass_all, sets, !, by, drop, feq_i, fjoin, fpack, keep, move, qed, raw, split, use0, ‵, ◌$◌, ◌∵◌, ◌⊛◌, agg, and_then, enter, lit, no_more, returns}
 use Rattle.route_calls.specs.contracts.handle.TablePlace as place_struct
 use Rattle.route_calls.specs.contracts.handle.TablePlace.null.{ended, clauses}
 use Rattle.route_calls.specs.contracts.handle.TablePlace.null.Key.{name as #self}

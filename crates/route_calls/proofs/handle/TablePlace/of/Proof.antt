@@ -1,35 +1,10 @@
 -- The block of a box is given out.
-use Rattle.std.proofs.Common.{◌≡◌, List, [], ◌∷◌, ◌++◌, refl, sym, subst}
-use mir.Val.{Val, vptr, vstruct, vcons, vnil}
-use base.Logic.{SProp, ent, emp, id⊢}
-use base.Fml.{ftrue}
-use prog.Wp.{WpFn}
-use types.Kit.{‵, raw, ◌⊛◌, ◌$◌, ◌∵◌, !, qed, by, move, keep, drop, split, fsplit, fjoin, fpack, suffices, use0, feq_i}
-use types.Run.{stop, fld, of_opd, no_more, and_then, returns, enter}
-use types.ByLocal.{alloc_all, pass_all, free_all, look_at, get, get_in, sets}
-use types.Part.{agg, sub, whole}
-use contract.Monad.{fact, fact_i}
-use contract.Running.{tables}
-use denote.RattleType.{RattleType, Valss, owns}
-use denote.Builtin.{RawPtr}
-use denote.RawPtr.{InBlock, block_ptr}
-use denote.Signature.{types_at, plain}
-use denote.Steps.{nothing}
-use denote.Struct.Struct.{within}
-use denote.Struct.Owning.{shape}
-use denote.Triple.Entry.{alive}
-use denote.Triple.Walked.{Stays, stay_dropped, walk_of}
-use Rattle.std.proofs.alloc.Calls.{Goes-blank}
-use Rattle.std.proofs.raw_atomic.Walks.{proved_at, leaves}
+use Rattle.route_calls.proofs.Common.{List, [], refl, subst, sym, ◌++◌, ◌∷◌, ◌≡◌, Goes-blank, leaves, proved_at, box_owns, Some, ftrue, SProp, emp, ent, id⊢, fact, fact_i, tables, RawPtr, RattleType, Valss, owns, InBlock, block_ptr, plain, types_at, nothing, shape, within, alive, Stays, stay_dropped, walk_of, Val, vcons, vnil, vptr, vstruct, WpFn, alloc_all, free_all, get, get_in, look_at, pass_all, sets, !, by, drop, feq_i, fjoin, fpack, fsplit, keep, move, qed, raw, split, suffices, use0, ‵, ◌$◌, ◌∵◌, ◌⊛◌, agg, sub, whole, and_then, enter, fld, no_more, of_opd, returns, stop, apart, fit, words, table_row}
 use Rattle.std.specs.contracts.alloc.Global as heap
 use Rattle.std.proofs.alloc.Global.TheLaws as heap_laws
 use Rattle.std.specs.contracts.impls.GlobalAllocator.TheImpl.{ghosts}
 use Rattle.std.specs.declared.alloc.Global.{Global}
-use Rattle.std.specs.Box.Ownership.{box_owns}
-use Rattle.std.specs.Prelude.{Some}
 use Rattle.box_pointer.specs.contracts.BoxPointer as pointer
-use Rattle.box_pointer.proofs.Words.{apart, fit, words}
-use Rattle.route_calls.specs.Handles.{table_row}
 use Rattle.route_calls.specs.contracts.handle.TablePlace as place_struct
 use Rattle.route_calls.specs.contracts.handle.TablePlace.of.{ended, clauses}
 use Rattle.route_calls.specs.contracts.handle.TablePlace.of.Key.{name as #self}

@@ -1,44 +1,16 @@
 -- The table that a handle lends.
-use Rattle.std.proofs.Common.{◌≡◌, List, [], ◌∷◌, ◌++◌, refl, sym, subst, lit<}
-use seplogic.Ra.Ura.{Ura}
-use mir.Val.{Val, vptr, vstruct, vcons, vnil, of_list}
-use base.Logic.{SProp, ent, sep, emp}
-use base.Fml.{Lft, ftrue}
-use prog.Memory.{Memory}
-use prog.Routine.{Routine}
-use prog.Wp.{WpFn, Calls, Loops}
-use types.Logic.{Logic, sem}
-use types.Kit.{‵, raw, ◌⊛◌, at_ret, ◌$◌, ◌∵◌, !, qed, by, move, keep, drop, split, fsplit, fjoin, fpick, use0, use1, feq_i, feq_l}
-use types.Run.{stop, fld, of_opd, lit, bin, addr, no_more, and_then, first, blocks, branches, skips, exec, returns, returns_within, enter}
-use types.ByLocal.{alloc_all, pass_all, free_all, look_at, get, get_in, through, sets, sets_last, env}
-use types.Part.{agg, sub, whole}
-use types.Match.{live}
-use contract.Monad.{Fun, fact, fact_i}
-use contract.Running.{tables}
-use denote.RattleType.{RattleType, owns}
+use Rattle.route_calls.proofs.Common.{List, [], lit<, refl, subst, sym, ◌++◌, ◌∷◌, ◌≡◌, after, Goes-blank, Some-of, none_of, leaves, proved_at, None, Some, if_non_null, Lft, ftrue, SProp, emp, ent, sep, Fun, fact, fact_i, tables, RattleType, owns, InBlock, Ptr, Testable, block_ptr, null_ptr, ptr_val, tests_null, plain, types_at, nothing, alive, Stays, stay_dropped, walk_of, Val, of_list, vcons, vnil, vptr, vstruct, Memory, Routine, Calls, Loops, WpFn, Ura, alloc_all, env, free_all, get, get_in, look_at, pass_all, sets, sets_last, through, at_ret, !, by, drop, feq_i, feq_l, fjoin, fpick, fsplit, keep, move, qed, raw, split, use0, use1, ‵, ◌$◌, ◌∵◌, ◌⊛◌, Logic, sem, live, agg, sub, whole, addr, and_then, bin, blocks, branches, enter, exec, first, fld, lit, no_more, of_opd, returns, returns_within, skips, stop, table_row}
 use denote.Ref.{ShrRef}
-use denote.RawPtr.{InBlock, Ptr, block_ptr, null_ptr, ptr_val, Testable, tests_null}
-use denote.Signature.{types_at, plain}
-use denote.Steps.{nothing}
-use denote.Triple.Entry.{alive}
-use denote.Triple.Walked.{Stays, stay_dropped, walk_of}
-use Rattle.std.proofs.alloc.Calls.{Goes-blank}
-use Rattle.std.proofs.raw_atomic.Walks.{proved_at, leaves}
 use Rattle.std.specs.contracts.alloc.Global as heap
 use Rattle.std.proofs.alloc.Global.TheLaws as heap_laws
 use Rattle.std.specs.contracts.impls.GlobalAllocator.TheImpl.{ghosts}
-use Rattle.std.specs.Prelude.{Some, None}
-use Rattle.route_calls.specs.Handles.{table_row}
 use contract.BorrowLft.{⊑_static}
 use denote.Memory.{shared_of}
 use denote.Opens.{hide}
 use denote.SharingLaws.{shortens}
 use denote.Struct.Lending.{lent_at}
 use mir.Syntax.{named}
-use Rattle.std.specs.Ptr.{if_non_null}
-use Rattle.std.proofs.VecSteps.Shapes.{after}
 use Rattle.std.specs.contracts.option.Option as option
-use Rattle.std.proofs.option.Made.{Some-of, none_of}
 use Rattle.roa_origin.proofs.table.OriginTable.TheLaws as table_laws
 use Rattle.route_calls.specs.contracts.handle.TableRef as ref_struct
 use Rattle.route_calls.specs.contracts.handle.TableRef.table.{ended, clauses}

@@ -1,7 +1,5 @@
 -- A mapped address ends in its IPv4 address, and any other is its groups.
-use Rattle.std.proofs.Common.{◌++◌, codes, take, sym, ap, ◌∙◌, append_assoc}
-use Rattle.std.specs.Net.Text.{hex_groups_text}
-use Rattle.rpki_addr.specs.PrintedAddress.{ipv4_text}
+use Rattle.rpki_addr.proofs.Common.{ap, append_assoc, codes, sym, take, ◌++◌, ◌∙◌, hex_groups_text, ipv4_text}
 use Rattle.rpki_addr.proofs.PrintedAddressLemmas.{mapped_is, unmapped_is}
 use Rattle.rpki_addr.proofs.addr.print.put_ipv6.Goals as goal
 

@@ -1,8 +1,4 @@
-use Rattle.std.proofs.Common.{arith, ◌≡◌, ◌≤◌, ◌+◌, ◌^◌, length, map}
-use Rattle.std.proofs.lemmas.List.{take_all}
-use Rattle.rpki_as.specs.Blocks.{IsAsSet}
-use Rattle.rpki_as_block.specs.Blocks.{as_bounds}
-use Rattle.rpki_as_block.specs.Numbers.{numbers_of}
+use Rattle.rpki_as.proofs.Common.{arith, length, map, ◌+◌, ◌^◌, ◌≡◌, ◌≤◌, take_all, as_bounds, numbers_of, IsAsSet}
 use Rattle.rpki_as.proofs.CountLemmas.{count_step, count_fits, IsSizeOf-blocks}
 use Rattle.rpki_as.proofs.blocks.AsBlocks.asn_count.Goals as goal
 

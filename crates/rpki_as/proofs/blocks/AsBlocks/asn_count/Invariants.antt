@@ -1,5 +1,4 @@
-use Rattle.std.proofs.Common.{◌≡◌, length, take}
-use Rattle.rpki_as_block.specs.Numbers.{numbers_of}
+use Rattle.rpki_as.proofs.Common.{length, take, ◌≡◌, numbers_of}
 use Rattle.rpki_as.proofs.blocks.AsBlocks.asn_count.Given as goal
 
 -- the count is that of the numbers of the blocks so far

@@ -1,12 +1,6 @@
 -- What is written of the blocks is what is written of the runs.
-use Rattle.std.proofs.Common.{◌≡◌, ◌+◌, ◌≤◌, ◌++◌, ℕ, List, length, ap, subst, ◌∙◌, vec_len}
-use Rattle.std.specs.Prelude.{OnOk, IsOk}
-use Rattle.std.specs.List.{flat_map}
-use Rattle.std.proofs.lemmas.List.Folds.{flat_map-map}
+use Rattle.rpki_as.proofs.Common.{List, ap, length, subst, vec_len, ℕ, ◌++◌, ◌+◌, ◌∙◌, ◌≡◌, ◌≤◌, flat_map-map, flat_map, IsOk, OnOk, as_block_octets, new_as_block, as_set_octets}
 use Rattle.std.specs.Vec.{vec_capacity}
-use Rattle.rpki_as.specs.AsDer.{as_set_octets}
-use Rattle.rpki_as_block.specs.AsDer.{as_block_octets}
-use Rattle.rpki_as_block.specs.Blocks.{new_as_block}
 use Rattle.rpki_as.proofs.blocks.AsBlocks.encode.Goals as goal
 
 pub returns-clause-ok : goal.returns-clause-ok

@@ -1,9 +1,4 @@
-use Rattle.std.proofs.Common.{Vec, Ok, Err}
-use Rattle.std.proofs.lemmas.Result.{err_from_is_err_and}
-use Rattle.rpki_text.specs.Lists.{elements}
-use Rattle.rpki_text.proofs.ListLemmas.{found_weaker}
-use Rattle.rpki_as_block.specs.BlockText.{IsAsBlockText, HasAsBlockFault, ReadsAsBlock}
-use Rattle.rpki_as_block.specs.declared.block.AsBlock.{AsBlock}
+use Rattle.rpki_as.proofs.Common.{Err, Ok, Vec, err_from_is_err_and, HasAsBlockFault, IsAsBlockText, ReadsAsBlock, AsBlock, found_weaker, elements}
 use Rattle.rpki_as.proofs.ListLemmas.{list_answers, IsAsListText-as_list_text}
 use Rattle.rpki_as.proofs.blocks.AsBlocks.from_str.Goals as goal
 

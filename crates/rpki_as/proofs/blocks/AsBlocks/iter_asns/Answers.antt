@@ -1,7 +1,5 @@
-use Rattle.std.proofs.Common.{map}
+use Rattle.rpki_as.proofs.Common.{map, as_bounds, IsAsSet}
 use Rattle.std.specs.Slice.Iter.{iter_rest}
-use Rattle.rpki_as.specs.Blocks.{IsAsSet}
-use Rattle.rpki_as_block.specs.Blocks.{as_bounds}
 use Rattle.rpki_as.proofs.CountLemmas.{IsListOf-blocks}
 use Rattle.rpki_as.proofs.blocks.AsBlocks.iter_asns.Goals as goal
 

@@ -1,5 +1,5 @@
 -- What a strict cursor gave is the runs of its set as they stand.
-use Rattle.std.proofs.Common.{sym, ◌∙◌}
+use Rattle.rpki_as.proofs.Common.{sym, ◌∙◌}
 use Rattle.rpki_as.proofs.AsDerLemmas.{chain_read}
 use Rattle.rpki_as.proofs.blocks.AsBlocks.next_set.Goals as goal
 

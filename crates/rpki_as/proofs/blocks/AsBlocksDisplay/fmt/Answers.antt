@@ -1,5 +1,4 @@
-use Rattle.std.proofs.Common.{refl}
-use Rattle.rpki_as_block.specs.BlockText.{as_block_text}
+use Rattle.rpki_as.proofs.Common.{refl, as_block_text}
 use Rattle.rpki_as.proofs.blocks.AsBlocksDisplay.fmt.Goals as goal
 
 pub returns-clause-writes : goal.returns-clause-writes

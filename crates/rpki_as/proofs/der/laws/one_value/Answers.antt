@@ -1,8 +1,5 @@
 -- Each grammar has a reading.
-use Rattle.rpki_der.proofs.Readings.{one_front}
-use Rattle.rpki_as_block.specs.AsDer.{IsAsBlock, IsBlockInAnyOrder}
-use Rattle.rpki_as_block.specs.AsDerLaws.{as_block_reading, skip_reading}
-use Rattle.rpki_as_block.specs.AsDerReading.{as_block_at, skip_block_at}
+use Rattle.rpki_as.proofs.Common.{IsAsBlock, IsBlockInAnyOrder, as_block_reading, skip_reading, as_block_at, skip_block_at, one_front}
 use Rattle.rpki_as.proofs.AsDerLemmas.{one_sequence}
 use Rattle.rpki_as.proofs.der.laws.one_value.Goals as goal
 

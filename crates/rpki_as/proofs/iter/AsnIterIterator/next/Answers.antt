@@ -1,7 +1,5 @@
-use Rattle.std.proofs.Common.{refl, sym, ◌∙◌}
-use Rattle.rpki_as_block.specs.Numbers.{numbers_of}
+use Rattle.rpki_as.proofs.Common.{refl, sym, ◌∙◌, makes_progress, numbers_of}
 use Rattle.rpki_as.proofs.NumberLemmas.{numbers_step}
-use Rattle.rpki_as_block.proofs.NumberLemmas.{makes_progress}
 use Rattle.rpki_as.proofs.iter.AsnIterIterator.next.Goals as goal
 
 pub returns-clause-steps : goal.returns-clause-steps

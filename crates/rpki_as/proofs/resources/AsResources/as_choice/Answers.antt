@@ -1,10 +1,6 @@
 -- What is written of the blocks is what is written of the runs.
-use Rattle.std.proofs.Common.{sym, ap, ◌∙◌}
-use Rattle.rpki_der.specs.Der.{sequence_value}
+use Rattle.rpki_as.proofs.Common.{ap, sym, ◌∙◌, as_block_octets, choice_octets, sequence_value, as_sequence_octets}
 use Rattle.rpki_base.specs.DerWriting.{sequence_octets}
-use Rattle.rpki_chain.specs.ChoiceDer.{choice_octets}
-use Rattle.rpki_as.specs.AsDer.{as_sequence_octets}
-use Rattle.rpki_as_block.specs.AsDer.{as_block_octets}
 use Rattle.rpki_as.proofs.AsDerLemmas.{blocks_octets}
 use Rattle.rpki_as.proofs.resources.AsResources.as_choice.Goals as goal
 

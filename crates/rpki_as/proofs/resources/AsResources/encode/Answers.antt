@@ -1,6 +1,5 @@
 -- What is appended, one after the other, is the value in the tagged value in the SEQUENCE.
-use Rattle.std.proofs.Common.{ℕ, arith, ap, length}
-use Rattle.std.proofs.lemmas.List.{length-append}
+use Rattle.rpki_as.proofs.Common.{ap, arith, length, ℕ, length-append}
 use Rattle.rpki_as.proofs.ResourcesDer.{enclosed_twice}
 use Rattle.rpki_as.proofs.resources.AsResources.encode.Goals as goal
 

@@ -1,9 +1,5 @@
 -- The text is `inherit`, or is read as a list.
-use Rattle.std.proofs.Common.{Ok, Err, codes, sym, ◌∙◌}
-use Rattle.std.proofs.lemmas.Result.{err_from_is_err_and}
-use Rattle.rpki_chain.specs.Claims.{claim_of}
-use Rattle.rpki_chain.specs.declared.choice.ResourcesChoice.TheVariants.{Inherit}
-use Rattle.rpki_as.specs.ResourcesText.{IsInherit}
+use Rattle.rpki_as.proofs.Common.{Err, Ok, codes, sym, ◌∙◌, err_from_is_err_and, claim_of, Inherit, IsInherit}
 use Rattle.std.specs.Cmp.Lexicographic.{bytes_decides}
 use Rattle.rpki_as.proofs.ResourcesTexts.{list_claim, list_fault, not_true, one_claim, printed_resources, resources_answers}
 use Rattle.rpki_as.proofs.resources.AsResources.from_str.Goals as goal

@@ -1,11 +1,6 @@
 -- Each value is taken, and each that encloses it ends behind it; what a strict cursor gave is the runs of its set as
 -- they stand.
-use Rattle.std.proofs.Common.{◌∙◌, refl, sym}
-use Rattle.rpki_chains.specs.Sets.{IsChain}
-use Rattle.rpki_chain.proofs.Ascending.{listed_are}
-use Rattle.rpki_der.specs.Reading.{refined}
-use Rattle.rpki_base.specs.DerReading.{only}
-use Rattle.rpki_as_block.specs.Blocks.{as_bounds, new_as_block}
+use Rattle.rpki_as.proofs.Common.{refl, sym, ◌∙◌, as_bounds, new_as_block, only, listed_are, IsChain, refined}
 use Rattle.rpki_as.proofs.ResourcesDer.{chain_listed, claim_of_listed}
 use Rattle.rpki_as.proofs.resources.AsResources.next_resources.Goals as goal
 

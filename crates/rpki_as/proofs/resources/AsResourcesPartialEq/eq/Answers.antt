@@ -1,5 +1,5 @@
 -- The comparison tells whether the claims are one.
-use Rattle.rpki_chain.proofs.ClaimLemmas.{claims_decide}
+use Rattle.rpki_as.proofs.Common.{claims_decide}
 use Rattle.rpki_as.proofs.resources.AsResourcesPartialEq.eq.Goals as goal
 
 pub returns-clause-same : goal.returns-clause-same

@@ -1,4 +1,4 @@
-use Rattle.std.proofs.Common.{arith, ap, map, refl, ◌∙◌}
+use Rattle.rpki_chain.proofs.Common.{ap, arith, map, refl, ◌∙◌}
 use Rattle.rpki_chain.proofs.RunLists.{added_next}
 use Rattle.rpki_chain.proofs.builder.BlockSetBuilder.extend_from.Goals as goal
 

@@ -1,5 +1,5 @@
 -- The blocks passed were added, each made anew, and there is room for the others.
-use Rattle.std.proofs.Common.{◌≡◌, ◌+◌, ◌-◌, ◌≤◌, ◌++◌, length, map, take, vec_len}
+use Rattle.rpki_chain.proofs.Common.{length, map, take, vec_len, ◌++◌, ◌+◌, ◌-◌, ◌≡◌, ◌≤◌}
 use Rattle.std.specs.Vec.{vec_capacity}
 use Rattle.rpki_chain.proofs.builder.BlockSetBuilder.extend_from.Given as goal
 

@@ -1,4 +1,4 @@
-use Rattle.std.proofs.lemmas.Result.{IfOk-weaker}
+use Rattle.rpki_chain.proofs.Common.{IfOk-weaker}
 use Rattle.rpki_chain.proofs.RunLists.{IsRunsOf-same, Holds-map}
 use Rattle.rpki_chain.proofs.builder.BlockSetBuilder.finalize.Goals as goal
 

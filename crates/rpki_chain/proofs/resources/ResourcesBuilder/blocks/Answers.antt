@@ -1,6 +1,5 @@
 -- The list that is handed over is the one so far, and one without blocks where there was none.
-use Rattle.std.proofs.Common.{rules, ◌≡◌, ℕ, List, Option, refl, ap, ◌∙◌, option_map}
-use Rattle.rpki_chain.specs.Claims.{blocks_so_far}
+use Rattle.rpki_chain.proofs.Common.{List, Option, ap, option_map, refl, rules, ℕ, ◌∙◌, ◌≡◌, blocks_so_far}
 use Rattle.rpki_chain.proofs.resources.ResourcesBuilder.blocks.Goals as goal
 use Rattle.rpki_chain.proofs.resources.ResourcesBuilder.blocks.Goals.{in-Some, in-None}
 

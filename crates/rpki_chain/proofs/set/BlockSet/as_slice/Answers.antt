@@ -1,4 +1,4 @@
-use Rattle.std.proofs.Common.{sym, ◌∙◌}
+use Rattle.rpki_chain.proofs.Common.{sym, ◌∙◌}
 use Rattle.rpki_chain.proofs.SetLemmas.{IsBlockSet-from_chain, blocks_made}
 use Rattle.rpki_chain.proofs.set.BlockSet.as_slice.Goals as goal
 

@@ -1,7 +1,5 @@
 -- A block that leaves the other set shows that not all lie in it, and from it on the excess is what they differ by.
-use Rattle.std.proofs.Common.{ℕ, refl, sym, subst}
-use Rattle.rpki_chain.specs.Operations.{IsDifference}
-use Rattle.rpki_chain.specs.Runs.{Runs, Holds}
+use Rattle.rpki_chain.proofs.Common.{refl, subst, sym, ℕ, IsDifference, Holds, Runs}
 use Rattle.rpki_chain.proofs.Covered.{wants_memory}
 use Rattle.rpki_chain.proofs.RunLists.{IsRunsOf-difference, Holds-map}
 use Rattle.rpki_chain.proofs.SetLemmas.{not_inside_set}

@@ -1,6 +1,5 @@
 -- A chain is the runs of what it covers.
-use Rattle.rpki_chains.specs.Sets.{Covers}
-use Rattle.rpki_chains.proofs.Chains.{IsChainOf-itself}
+use Rattle.rpki_chain.proofs.Common.{IsChainOf-itself, Covers}
 use Rattle.rpki_chain.proofs.RunLists.{IsRunsOf-from_chain}
 use Rattle.rpki_chain.proofs.SetLemmas.{made}
 use Rattle.rpki_chain.proofs.set.BlockSet.from_vec_unchecked.Goals as goal

@@ -1,4 +1,4 @@
-use Rattle.std.proofs.Common.{refl}
+use Rattle.rpki_chain.proofs.Common.{refl}
 use Rattle.rpki_chain.proofs.RunLists.{IsRunsOf-intersection}
 use Rattle.rpki_chain.proofs.SetLemmas.{made, IsRunsOf-inside}
 use Rattle.rpki_chain.proofs.set.BlockSet.intersection.Goals as goal

@@ -1,7 +1,5 @@
 -- A block that leaves the other set shows that not all lie in it, and with it what both have is told.
-use Rattle.std.proofs.Common.{ℕ, refl, sym, subst}
-use Rattle.rpki_chain.specs.Operations.{IsIntersection}
-use Rattle.rpki_chain.specs.Runs.{Runs, Holds}
+use Rattle.rpki_chain.proofs.Common.{refl, subst, sym, ℕ, IsIntersection, Holds, Runs}
 use Rattle.rpki_chain.proofs.Covered.{wants_memory}
 use Rattle.rpki_chain.proofs.RunLists.{IsRunsOf-intersection, Holds-map}
 use Rattle.rpki_chain.proofs.SetLemmas.{not_inside_set}

@@ -1,9 +1,5 @@
 -- A missing claim covers the empty set, an inherited one each, and one that lists a set what lies in it.
-use Rattle.std.proofs.Common.{◌↔◌, ap, sym, subst}
-use Rattle.std.specs.Prelude.{IsOk}
-use Rattle.rpki_chain.specs.Claims.{Claim, claim_by}
-use Rattle.rpki_chain.specs.Paths.{IsCovered}
-use Rattle.rpki_chain.specs.Runs.{Holds}
+use Rattle.rpki_chain.proofs.Common.{ap, subst, sym, ◌↔◌, IsOk, Claim, claim_by, IsCovered, Holds}
 use Rattle.rpki_chain.proofs.Covered.{covered-missing, refused-listed}
 use Rattle.rpki_chain.proofs.set.BlockSet.verify_covered.Goals as goal
 

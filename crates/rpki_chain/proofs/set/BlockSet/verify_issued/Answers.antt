@@ -1,4 +1,4 @@
-use Rattle.rpki_text.proofs.ListLemmas.{AnswersOrMemory-from_found}
+use Rattle.rpki_chain.proofs.Common.{AnswersOrMemory-from_found}
 use Rattle.rpki_chain.proofs.Issued.{one_issued, issued_or_excess, one_excess}
 use Rattle.rpki_chain.proofs.set.BlockSet.verify_issued.Goals as goal
 

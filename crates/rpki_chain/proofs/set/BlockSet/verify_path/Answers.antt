@@ -1,5 +1,4 @@
-use Rattle.rpki_text.proofs.ListLemmas.{AnswersOrMemory-from_found}
-use Rattle.rpki_chain.specs.Runs.{Holds}
+use Rattle.rpki_chain.proofs.Common.{AnswersOrMemory-from_found, Holds}
 use Rattle.rpki_chain.proofs.PathSteps.{one_result, result_or_refusal, one_refusal}
 use Rattle.rpki_chain.proofs.set.BlockSet.verify_path.Goals as goal
 

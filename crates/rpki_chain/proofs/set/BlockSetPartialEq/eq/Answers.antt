@@ -1,7 +1,4 @@
-use Rattle.std.proofs.Common.{◌≡◌, sym, subst}
-use Rattle.rpki_chain.specs.BlockSets.{IsBlockSet}
-use Rattle.rpki_chains.specs.Equality.{same_runs}
-use Rattle.rpki_chain.specs.Runs.{Runs, Holds}
+use Rattle.rpki_chain.proofs.Common.{subst, sym, ◌≡◌, same_runs, IsBlockSet, Holds, Runs}
 use Rattle.rpki_chain.proofs.RunLists.{same_numbers}
 use Rattle.rpki_chain.proofs.SetLemmas.{same_runs_decides, IsBlockSet-from_chain}
 use Rattle.rpki_chain.proofs.set.BlockSetPartialEq.eq.Goals as goal

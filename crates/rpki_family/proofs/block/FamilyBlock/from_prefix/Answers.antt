@@ -1,9 +1,5 @@
-use Rattle.std.proofs.Common.{◌≡◌, rules, ap, sym, ◌∙◌, subst}
-use Rattle.rpki_base.specs.Families.{family_of}
-use Rattle.rpki_ip_block.specs.Blocks.{ip_bounds}
-use Rattle.rpki_ip_block.specs.declared.block.IpBlock.{IpBlock}
+use Rattle.rpki_family.proofs.Common.{ap, rules, subst, sym, ◌∙◌, ◌≡◌, family_of, ip_bounds, IpBlock, HasBoundsIn}
 use Rattle.rpki_family.proofs.FamilyLemmas.{prefix_in}
-use Rattle.rpki_family.specs.Families.{HasBoundsIn}
 use Rattle.rpki_family.proofs.block.FamilyBlock.from_prefix.Given as given
 use Rattle.rpki_family.proofs.block.FamilyBlock.from_prefix.Goals as goal
 use Rattle.rpki_family.proofs.block.FamilyBlock.from_prefix.Goals.{in-V4, in-V6}

@@ -1,11 +1,5 @@
-use Rattle.std.proofs.Common.{[], ◌∷◌, ◌++◌, take, sym, ap, subst, ◌∙◌}
-use Rattle.std.specs.List.{All}
-use Rattle.std.proofs.lemmas.List.{take_more}
-use Rattle.std.proofs.lemmas.List.Elements.{All-push}
-use Rattle.rpki_ip_block.specs.Blocks.{ip_bounds}
-use Rattle.rpki_ip_block.specs.declared.block.IpBlock.{IpBlock}
+use Rattle.rpki_family.proofs.Common.{[], ap, subst, sym, take, ◌++◌, ◌∙◌, ◌∷◌, take_more, All-push, All, ip_bounds, IpBlock, HasBoundsIn}
 use Rattle.rpki_family.proofs.FamilyLemmas.{cover_in}
-use Rattle.rpki_family.specs.Families.{HasBoundsIn}
 use Rattle.rpki_family.proofs.blocks.FamilyBlocks.from_blocks.Goals as goal
 
 pub loop-block-preserved : goal.loop-block-preserved

@@ -1,7 +1,4 @@
-use Rattle.std.proofs.Common.{◌≡◌, take}
-use Rattle.std.specs.List.{All}
-use Rattle.rpki_ip_block.specs.Blocks.{ip_bounds}
-use Rattle.rpki_family.specs.Families.{HasBoundsIn}
+use Rattle.rpki_family.proofs.Common.{take, ◌≡◌, All, ip_bounds, HasBoundsIn}
 use Rattle.rpki_family.proofs.blocks.FamilyBlocks.from_blocks.Given as goal
 
 -- the blocks so far, which are the family's

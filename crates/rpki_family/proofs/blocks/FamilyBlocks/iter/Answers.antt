@@ -1,7 +1,4 @@
-use Rattle.std.proofs.Common.{map, ◌∙◌, ap}
-use Rattle.std.specs.Slice.Iter.{iter_rest}
-use Rattle.std.proofs.lemmas.List.{map-id}
-use Rattle.rpki_ip_block.specs.Blocks.{new_ip_block}
+use Rattle.rpki_family.proofs.Common.{ap, map, ◌∙◌, map-id, iter_rest, new_ip_block}
 use Rattle.rpki_family.proofs.FamilyLemmas.{blocks_in}
 use Rattle.rpki_family.proofs.blocks.FamilyBlocks.iter.Goals as goal
 

@@ -1,12 +1,6 @@
-use Rattle.std.proofs.Common.{◌≡◌, subst, ◌++◌, ◌∙◌}
-use Rattle.std.specs.Slice.Iter.{iter_rest}
-use Rattle.rpki_chain.specs.Runs.{Holds}
-use Rattle.rpki_cover.specs.Covers.{IsShortestCover}
+use Rattle.rpki_family.proofs.Common.{subst, ◌++◌, ◌∙◌, ◌≡◌, iter_rest, Holds, IsShortestCover, IsIpSet, IsCoverListIn, blocks_cover, runs_cover}
 use Rattle.rpki_family.proofs.CoverLemmas.{set_covered, begun}
 use Rattle.rpki_family.proofs.FamilyLemmas.{covered_in}
-use Rattle.rpki_family.specs.Families.{IsCoverListIn}
-use Rattle.rpki_family.specs.SetCovers.{runs_cover, blocks_cover}
-use Rattle.rpki_ipres.specs.SetText.{IsIpSet}
 use Rattle.rpki_family.proofs.blocks.FamilyBlocks.prefixes.Given as given
 use Rattle.rpki_family.proofs.blocks.FamilyBlocks.prefixes.Goals as goal
 

@@ -1,6 +1,5 @@
 -- A set of a family is claimed as one.
-use Rattle.std.proofs.Common.{sym, subst, ◌∙◌, ap}
-use Rattle.rpki_chain.specs.Claims.{claim_of}
+use Rattle.rpki_family.proofs.Common.{ap, subst, sym, ◌∙◌, claim_of}
 use Rattle.rpki_ipres.specs.Resources.{IsFamilyClaim}
 use Rattle.rpki_ipres.proofs.ResourcesWritten.{set_claimed}
 use Rattle.rpki_family.proofs.blocks.FamilyBlocks.to_ip_resources.Goals as goal

@@ -1,9 +1,4 @@
-use Rattle.std.proofs.Common.{subst}
-use Rattle.std.specs.List.{All}
-use Rattle.std.specs.Slice.Iter.{iter_rest}
-use Rattle.std.proofs.lemmas.List.Elements.{All-tail}
-use Rattle.rpki_ip_block.specs.Blocks.{ip_bounds}
-use Rattle.rpki_ip_block.specs.declared.block.IpBlock.{IpBlock}
+use Rattle.rpki_family.proofs.Common.{subst, All-tail, All, iter_rest, ip_bounds, IpBlock}
 use Rattle.rpki_family.proofs.iter.BlockIterIterator.next.Goals as goal
 
 pub invariant_of-self-2 : goal.invariant_of-self-2

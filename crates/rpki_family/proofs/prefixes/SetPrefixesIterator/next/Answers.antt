@@ -1,10 +1,5 @@
-use Rattle.std.proofs.Common.{◌≡◌, refl, sym, subst, ◌∙◌}
-use Rattle.rpki_chains.specs.Sets.{IsWithin}
-use Rattle.rpki_cover.specs.Covers.{IsShortestCover}
+use Rattle.rpki_family.proofs.Common.{refl, subst, sym, ◌∙◌, ◌≡◌, IsWithin, IsShortestCover, range_bounds, ip_bounds, blocks_cover}
 use Rattle.rpki_family.proofs.CoverLemmas.{set_step, block_below, same_bounds, makes_progress}
-use Rattle.rpki_family.specs.SetCovers.{blocks_cover}
-use Rattle.rpki_ip.specs.Ranges.{range_bounds}
-use Rattle.rpki_ip_block.specs.Blocks.{ip_bounds}
 use Rattle.rpki_family.proofs.prefixes.SetPrefixesIterator.next.Given as given
 use Rattle.rpki_family.proofs.prefixes.SetPrefixesIterator.next.Goals as goal
 

@@ -1,8 +1,4 @@
-use Rattle.std.proofs.Common.{◌≡◌, ◌∷◌, map, sym, ap, ◌∙◌}
-use Rattle.std.specs.List.{All}
-use Rattle.std.proofs.lemmas.List.Elements.{All-head, All-tail}
-use Rattle.rpki_addr.specs.Prefixes.{IsPrefix}
-use Rattle.rpki_cover.specs.Covers.{widened}
+use Rattle.rpki_ip.proofs.Common.{ap, map, sym, ◌∙◌, ◌∷◌, ◌≡◌, All-head, All-tail, All, IsPrefix, widened}
 use Rattle.rpki_ip.proofs.CoverLemmas.{widened_made}
 use Rattle.rpki_ip.proofs.cover.V4PrefixesIterator.next.Goals as goal
 

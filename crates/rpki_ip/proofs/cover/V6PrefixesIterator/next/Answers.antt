@@ -1,7 +1,4 @@
-use Rattle.std.proofs.Common.{◌≡◌, ◌∷◌}
-use Rattle.std.specs.List.{All}
-use Rattle.std.proofs.lemmas.List.Elements.{All-tail}
-use Rattle.rpki_addr.specs.Prefixes.{IsPrefix}
+use Rattle.rpki_ip.proofs.Common.{◌∷◌, ◌≡◌, All-tail, All, IsPrefix}
 use Rattle.rpki_ip.proofs.cover.V6PrefixesIterator.next.Goals as goal
 
 pub invariant_of-self-2 : goal.invariant_of-self-2

@@ -1,5 +1,5 @@
 -- The padded octets spell the bits.
-use Rattle.std.proofs.Common.{◌∙◌}
+use Rattle.rpki_ip.proofs.Common.{◌∙◌}
 use Rattle.rpki_ip.proofs.PrefixBits.{number_before}
 use Rattle.rpki_ip.proofs.der.prefix.beginning_with.Goals as goal
 

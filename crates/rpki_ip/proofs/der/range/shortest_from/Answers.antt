@@ -1,8 +1,5 @@
 -- Clearing the bits behind the zeros changes nothing.
-use Rattle.std.proofs.Common.{◌≡◌, ◌-◌, ◌∙◌, sym, subst}
-use Rattle.std.specs.Int.{w128, trailing_zeros}
-use Rattle.rpki_addr.specs.Bits.{cleared}
-use Rattle.rpki_ip.specs.RangeDer.{IsShortestFrom}
+use Rattle.rpki_ip.proofs.Common.{subst, sym, ◌-◌, ◌∙◌, ◌≡◌, trailing_zeros, w128, cleared, IsShortestFrom}
 use Rattle.rpki_ip.proofs.Shortest.{shortest_from_is, cleared_from}
 use Rattle.rpki_ip.proofs.der.range.shortest_from.Goals as goal
 

@@ -1,8 +1,5 @@
 -- Clearing the bits behind the ones clears these.
-use Rattle.std.proofs.Common.{◌≡◌, ◌-◌, ◌∙◌, ap, sym, subst}
-use Rattle.std.specs.Int.{w128, trailing_ones}
-use Rattle.rpki_addr.specs.Bits.{cleared}
-use Rattle.rpki_ip.specs.RangeDer.{IsShortestTo}
+use Rattle.rpki_ip.proofs.Common.{ap, subst, sym, ◌-◌, ◌∙◌, ◌≡◌, trailing_ones, w128, cleared, IsShortestTo}
 use Rattle.rpki_ip.proofs.Shortest.{shortest_to_is, cleared_to}
 use Rattle.rpki_ip.proofs.der.range.shortest_to.Goals as goal
 

@@ -1,5 +1,5 @@
 -- The reading finds what is written.
-use Rattle.rpki_ip.specs.PrefixDer.{prefix_der}
+use Rattle.rpki_ip.proofs.Common.{prefix_der}
 use Rattle.rpki_ip.proofs.DerReadings.{prefix_reading}
 use Rattle.rpki_ip.proofs.DerWritten.{prefix_written}
 use Rattle.rpki_ip.proofs.prefix.Prefix.encode.Goals as goal

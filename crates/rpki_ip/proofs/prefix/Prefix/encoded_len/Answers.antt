@@ -1,6 +1,5 @@
 -- A prefix has sixteen octets at most.
-use Rattle.std.proofs.Common.{length, ap, ◌∙◌}
-use Rattle.rpki_der.specs.Der.{bit_string_value}
+use Rattle.rpki_ip.proofs.Common.{ap, length, ◌∙◌, bit_string_value}
 use Rattle.rpki_ip.proofs.DerWritten.{length_prefix}
 use Rattle.rpki_ip.proofs.prefix.Prefix.encoded_len.Goals as goal
 

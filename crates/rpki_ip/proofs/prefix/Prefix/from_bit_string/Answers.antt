@@ -1,10 +1,6 @@
 -- What the reading gives is what the bits say by the rule.
-use Rattle.std.proofs.Common.{arith}
-use Rattle.rpki_der.specs.Der.{IsBits}
-use Rattle.rpki_der.specs.Views.{bit_string_of}
-use Rattle.rpki_ip.specs.PrefixDer.{SaysPrefix, prefix_of}
+use Rattle.rpki_ip.proofs.Common.{arith, renamed, IsBits, bit_string_of, SaysPrefix, prefix_of}
 use Rattle.rpki_ip.proofs.DerReadings.{bits_prefix_check}
-use Rattle.rpki_base.proofs.FamilyLemmas.{renamed}
 use Rattle.rpki_ip.proofs.prefix.Prefix.from_bit_string.Goals as goal
 
 pub returns : goal.returns

@@ -1,8 +1,5 @@
 -- The octets with zeros behind them, and the unused bits cleared.
-use Rattle.std.proofs.Common.{◌≡◌, ◌≤◌, ◌+◌, ◌-◌, ◌*◌, ◌/◌, ◌^◌, ◌∙◌, length, ap, sym, arith}
-use Rattle.rpki_addr.specs.Prefixes.{PrefixValue}
-use Rattle.rpki_der.specs.Der.{big_endian}
-use Rattle.rpki_der.specs.Views.{bit_string_of}
+use Rattle.rpki_ip.proofs.Common.{ap, arith, length, sym, ◌*◌, ◌+◌, ◌-◌, ◌/◌, ◌^◌, ◌∙◌, ◌≡◌, ◌≤◌, PrefixValue, big_endian, bit_string_of}
 use Rattle.rpki_ip.proofs.DerReadings.{prefix_again}
 use Rattle.rpki_ip.proofs.PrefixBits.{used_bits}
 use Rattle.rpki_ip.proofs.prefix.Prefix.of_bits.Goals as goal

@@ -1,8 +1,6 @@
 -- The length is looked at first.
-use Rattle.std.proofs.Common.{◌≡◌, ◌∙◌, true, false, ap, refl, sym}
+use Rattle.rpki_ip.proofs.Common.{ap, false, refl, sym, true, ◌∙◌, ◌≡◌, content_octets, is_strict_in, is_longer}
 use Rattle.std.proofs.lemmas.Result.{err_from_is_err_and}
-use Rattle.rpki_der.specs.Views.{content_octets, is_strict_in}
-use Rattle.rpki_ip.specs.PrefixDer.{is_longer}
 use Rattle.rpki_ip.proofs.DerModes.{length_first}
 use Rattle.rpki_ip.proofs.prefix.Prefix.of_content.Goals as goal
 

@@ -1,11 +1,5 @@
 -- What the reading gives is what the content says by its rule.
-use Rattle.std.proofs.Common.{◌∙◌, ℕ, true, false, ap, subst}
-use Rattle.rpki_der.specs.Reading.{Gives}
-use Rattle.rpki_der.specs.Views.{content_octets, is_strict_in}
-use Rattle.rpki_der.proofs.Cursors.{parses_by}
-use Rattle.rpki_der.proofs.Modes.{refused_in, same_found}
-use Rattle.rpki_base.specs.Families.{bits_of}
-use Rattle.rpki_ip.specs.PrefixDer.{IsPrefixContent, IsStrictContent, prefix_in, prefix_in_by}
+use Rattle.rpki_ip.proofs.Common.{ap, false, subst, true, ℕ, ◌∙◌, bits_of, parses_by, refused_in, same_found, Gives, content_octets, is_strict_in, IsPrefixContent, IsStrictContent, prefix_in, prefix_in_by}
 use Rattle.rpki_ip.proofs.DerModes.{content_tightens, strict_content_check}
 use Rattle.rpki_ip.proofs.DerReadings.{prefix_check}
 use Rattle.rpki_ip.proofs.prefix.Prefix.parse_content_with_family.Goals as goal

@@ -1,8 +1,5 @@
 -- The count is rounded up.
-use Rattle.std.proofs.Common.{◌≡◌, ◌-◌, ◌*◌, ◌∙◌, ap, arith, take}
-use Rattle.std.specs.Int.{w128, to_be_bytes}
-use Rattle.rpki_der.specs.Der.{bits_with}
-use Rattle.rpki_ip.specs.PrefixDer.{octet_count}
+use Rattle.rpki_ip.proofs.Common.{ap, arith, take, ◌*◌, ◌-◌, ◌∙◌, ◌≡◌, to_be_bytes, w128, bits_with, octet_count}
 use Rattle.rpki_ip.proofs.prefix.Prefix.parts.Goals as goal
 
 pub returns-clause-bits : goal.returns-clause-bits

@@ -1,10 +1,5 @@
 -- What the reading gives is the value of the grammar of the mode, and it gives what was written.
-use Rattle.std.proofs.Common.{true, subst, arith}
-use Rattle.rpki_der.specs.Der.{Spells}
-use Rattle.rpki_der.specs.Views.{Takes}
-use Rattle.rpki_der.proofs.Cursors.{reads_by}
-use Rattle.rpki_der.proofs.Modes.{exact_by, refused_by}
-use Rattle.rpki_ip.specs.PrefixDer.{IsPrefixDer, IsPrefixWithin, prefix_at, prefix_by, prefix_der}
+use Rattle.rpki_ip.proofs.Common.{arith, subst, true, reads_by, exact_by, refused_by, Spells, Takes, IsPrefixDer, IsPrefixWithin, prefix_at, prefix_by, prefix_der}
 use Rattle.rpki_ip.proofs.DerModes.{IsStrictPrefix, prefix_back, prefix_modal, written_prefix_reading}
 use Rattle.rpki_ip.proofs.DerReadings.{prefix_reading}
 use Rattle.rpki_ip.proofs.prefix.Prefix.take_from.Goals as goal

@@ -1,11 +1,5 @@
 -- What the reading gives is the value of the grammar of the mode, and it gives what was written.
-use Rattle.std.proofs.Common.{ℕ, true, subst}
-use Rattle.rpki_der.specs.Der.{Spells}
-use Rattle.rpki_der.specs.Views.{Takes, is_strict}
-use Rattle.rpki_der.proofs.Cursors.{reads_by}
-use Rattle.rpki_der.proofs.Modes.{exact_by, refused_by}
-use Rattle.rpki_base.specs.Families.{bits_of}
-use Rattle.rpki_ip.specs.PrefixDer.{IsPrefixDer, IsPrefixWithin, prefix_at, prefix_by, prefix_der}
+use Rattle.rpki_ip.proofs.Common.{subst, true, ℕ, bits_of, reads_by, exact_by, refused_by, Spells, Takes, is_strict, IsPrefixDer, IsPrefixWithin, prefix_at, prefix_by, prefix_der}
 use Rattle.rpki_ip.proofs.DerModes.{IsStrictPrefix, bits_few_enough, prefix_back, prefix_modal, written_prefix_reading}
 use Rattle.rpki_ip.proofs.DerReadings.{prefix_reading}
 use Rattle.rpki_ip.proofs.prefix.Prefix.take_from_with_family.Goals as goal

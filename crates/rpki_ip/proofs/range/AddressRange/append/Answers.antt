@@ -1,9 +1,5 @@
 -- The header, and the two prefixes behind it.
-use Rattle.std.proofs.Common.{◌≡◌, ◌+◌, ◌∙◌, ap, arith, length}
-use Rattle.std.proofs.lemmas.List.{length-append}
-use Rattle.rpki_der.specs.Der.{header}
-use Rattle.rpki_ip.specs.PrefixDer.{prefix_der}
-use Rattle.rpki_ip.specs.RangeDer.{range_content, without_end_zeros, without_end_ones}
+use Rattle.rpki_ip.proofs.Common.{ap, arith, length, ◌+◌, ◌∙◌, ◌≡◌, length-append, header, prefix_der, range_content, without_end_ones, without_end_zeros}
 use Rattle.rpki_ip.proofs.DerWritten.{joined}
 use Rattle.rpki_ip.proofs.range.AddressRange.append.Goals as goal
 

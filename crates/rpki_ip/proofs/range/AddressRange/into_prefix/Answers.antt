@@ -1,6 +1,5 @@
 -- There is one prefix at most.
-use Rattle.std.proofs.Common.{rules, ap, Ok}
-use Rattle.rpki_ip.specs.Ranges.{IsRangeOf}
+use Rattle.rpki_ip.proofs.Common.{Ok, ap, rules, IsRangeOf}
 use Rattle.rpki_ip.proofs.RangeLemmas.{one_prefix}
 use Rattle.rpki_ip.proofs.range.AddressRange.into_prefix.Goals as goal
 

@@ -1,5 +1,4 @@
-use Rattle.std.proofs.Common.{rules}
-use Rattle.rpki_ip.specs.Ranges.{range_bounds}
+use Rattle.rpki_ip.proofs.Common.{rules, range_bounds}
 use Rattle.rpki_ip.proofs.WholeLemmas.{whole_test}
 use Rattle.rpki_ip.proofs.range.AddressRange.is_whole_v4.Goals as goal
 

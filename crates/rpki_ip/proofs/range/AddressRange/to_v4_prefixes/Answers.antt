@@ -1,8 +1,4 @@
-use Rattle.std.proofs.Common.{◌≡◌, ◌/◌, ◌^◌, ap, ◌∙◌, refl, arith}
-use Rattle.rpki_chains.specs.Sets.{IsWithin}
-use Rattle.rpki_cover.proofs.Shortest.{cover_prefixes}
-use Rattle.rpki_cover.proofs.Widening.{whole_cover}
-use Rattle.rpki_cover.specs.Covers.{IsShortestCover}
+use Rattle.rpki_ip.proofs.Common.{ap, arith, refl, ◌/◌, ◌^◌, ◌∙◌, ◌≡◌, IsWithin, cover_prefixes, whole_cover, IsShortestCover}
 use Rattle.rpki_ip.proofs.CoverLemmas.{range_of}
 use Rattle.rpki_ip.proofs.range.AddressRange.to_v4_prefixes.Goals as goal
 

@@ -1,5 +1,4 @@
-use Rattle.std.proofs.Common.{◌≡◌, ◌∙◌}
-use Rattle.rpki_cover.proofs.Shortest.{cover_prefixes}
+use Rattle.rpki_ip.proofs.Common.{◌∙◌, ◌≡◌, cover_prefixes}
 use Rattle.rpki_ip.proofs.CoverLemmas.{range_of}
 use Rattle.rpki_ip.proofs.range.AddressRange.to_v6_prefixes.Goals as goal
 

@@ -1,6 +1,4 @@
-use Rattle.std.proofs.Common.{arith, subst, ap, sym, ◌≡◌, ◌∙◌, Ok}
-use Rattle.rpki_ip.specs.Ranges.{RangeValue, IsRangeOf}
-use Rattle.rpki_ip_block.specs.Blocks.{new_ip_block}
+use Rattle.rpki_ip_block.proofs.Common.{Ok, ap, arith, subst, sym, ◌∙◌, ◌≡◌, IsRangeOf, RangeValue, new_ip_block}
 use Rattle.rpki_ip_block.proofs.FormLemmas.{new_prefix, new_range}
 use Rattle.rpki_ip_block.proofs.block.IpBlock.from_pair.Goals as goal
 

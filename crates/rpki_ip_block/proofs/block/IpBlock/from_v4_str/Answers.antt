@@ -1,4 +1,4 @@
-use Rattle.rpki_base.specs.declared.family.AddressFamily.TheVariants.{Ipv4}
+use Rattle.rpki_ip_block.proofs.Common.{Ipv4}
 use Rattle.rpki_ip_block.proofs.PrintedLemmas.{block_back}
 use Rattle.rpki_ip_block.proofs.block.IpBlock.from_v4_str.Goals as goal
 

@@ -1,4 +1,4 @@
-use Rattle.rpki_base.specs.declared.family.AddressFamily.TheVariants.{Ipv6}
+use Rattle.rpki_ip_block.proofs.Common.{Ipv6}
 use Rattle.rpki_ip_block.proofs.PrintedLemmas.{block_back}
 use Rattle.rpki_ip_block.proofs.block.IpBlock.from_v6_str.Goals as goal
 

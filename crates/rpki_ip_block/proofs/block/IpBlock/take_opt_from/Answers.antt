@@ -1,16 +1,5 @@
 -- What the reading gives is the value of the grammar of the mode.
-use Rattle.std.proofs.Common.{true, subst, arith}
-use Rattle.rpki_base.proofs.DerCursors.{reads_optional_value_by}
-use Rattle.rpki_der.specs.Der.{Spells}
-use Rattle.rpki_der.specs.Reading.{optional}
-use Rattle.rpki_der.specs.Views.{Takes}
-use Rattle.rpki_der.proofs.Modes.{exact_optional_by, refused_optional_by}
-use Rattle.rpki_base.specs.declared.family.AddressFamily.TheVariants.{Ipv6}
-use Rattle.rpki_ip_block.specs.BlockDer.{IsIpBlockDer, IsSetIpBlock, ip_block_der}
-use Rattle.rpki_ip_block.specs.BlockModes.{IsStrictIpBlock}
-use Rattle.rpki_ip_block.specs.BlockModeLaws.{ip_block_modal}
-use Rattle.rpki_ip_block.specs.BlockReading.{ip_block_at, ip_block_by}
-use Rattle.rpki_ip_block.specs.BlockReadingLaws.{ip_block_reading}
+use Rattle.rpki_ip_block.proofs.Common.{arith, subst, true, reads_optional_value_by, Ipv6, exact_optional_by, refused_optional_by, Spells, optional, Takes, IsIpBlockDer, IsSetIpBlock, ip_block_der, ip_block_modal, IsStrictIpBlock, ip_block_at, ip_block_by, ip_block_reading}
 use Rattle.rpki_ip_block.proofs.BlockModes.{set_block_reading}
 use Rattle.rpki_ip_block.proofs.BlockWritten.{taken_back}
 use Rattle.rpki_ip_block.proofs.block.IpBlock.take_opt_from.Goals as goal

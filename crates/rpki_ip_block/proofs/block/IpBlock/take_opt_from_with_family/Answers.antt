@@ -1,17 +1,5 @@
 -- What the reading gives is the value of the grammar of the mode.
-use Rattle.std.proofs.Common.{true, subst}
-use Rattle.rpki_base.proofs.DerCursors.{reads_optional_value_by}
-use Rattle.rpki_der.specs.Der.{Spells}
-use Rattle.rpki_der.specs.Reading.{optional}
-use Rattle.rpki_der.specs.Views.{Takes}
-use Rattle.rpki_der.proofs.Modes.{exact_optional_by, refused_optional_by}
-use Rattle.rpki_base.specs.Families.{bits_of}
-use Rattle.rpki_ip.proofs.DerModes.{bits_few_enough}
-use Rattle.rpki_ip_block.specs.BlockDer.{IsIpBlockDer, IsSetIpBlock, ip_block_der}
-use Rattle.rpki_ip_block.specs.BlockModes.{IsStrictIpBlock}
-use Rattle.rpki_ip_block.specs.BlockModeLaws.{ip_block_modal}
-use Rattle.rpki_ip_block.specs.BlockReading.{ip_block_at, ip_block_by}
-use Rattle.rpki_ip_block.specs.BlockReadingLaws.{ip_block_reading}
+use Rattle.rpki_ip_block.proofs.Common.{subst, true, reads_optional_value_by, bits_of, exact_optional_by, refused_optional_by, Spells, optional, Takes, bits_few_enough, IsIpBlockDer, IsSetIpBlock, ip_block_der, ip_block_modal, IsStrictIpBlock, ip_block_at, ip_block_by, ip_block_reading}
 use Rattle.rpki_ip_block.proofs.BlockModes.{set_block_reading}
 use Rattle.rpki_ip_block.proofs.BlockWritten.{taken_back}
 use Rattle.rpki_ip_block.proofs.block.IpBlock.take_opt_from_with_family.Goals as goal

@@ -1,6 +1,5 @@
-use Rattle.std.proofs.Common.{ap}
+use Rattle.rpki_ip_block.proofs.Common.{ap, Prefix}
 use Rattle.rpki_ip_block.proofs.FormLemmas.{family_prefix}
-use Rattle.rpki_ip_block.specs.declared.block.IpBlock.TheVariants.{Prefix}
 use Rattle.rpki_ip_block.proofs.block.IpBlockFromFamilyPrefix.from.Goals as goal
 
 pub returns : goal.returns

@@ -1,9 +1,5 @@
 -- Leniently the readings are one.
-use Rattle.rpki_der.proofs.Modes.{exact_optional_by}
-use Rattle.rpki_base.specs.Families.{bits_of}
-use Rattle.rpki_ip_block.specs.BlockModes.{IsNextIpBlock}
-use Rattle.rpki_ip_block.specs.BlockModeLaws.{next_ip_block_modal}
-use Rattle.rpki_ip_block.specs.BlockReading.{ip_block_at, next_ip_block_by}
+use Rattle.rpki_ip_block.proofs.Common.{bits_of, exact_optional_by, next_ip_block_modal, IsNextIpBlock, ip_block_at, next_ip_block_by}
 use Rattle.rpki_ip_block.proofs.der.IpBlockReaderReadNext.take_next.Goals as goal
 
 pub returns-clause-exact : goal.returns-clause-exact

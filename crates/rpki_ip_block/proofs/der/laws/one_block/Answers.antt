@@ -1,8 +1,5 @@
 -- The grammar of blocks has a reading.
-use Rattle.rpki_der.proofs.Readings.{one_front}
-use Rattle.rpki_ip_block.specs.BlockDer.{IsIpBlockDer}
-use Rattle.rpki_ip_block.specs.BlockReading.{ip_block_at}
-use Rattle.rpki_ip_block.specs.BlockReadingLaws.{ip_block_reading}
+use Rattle.rpki_ip_block.proofs.Common.{one_front, IsIpBlockDer, ip_block_at, ip_block_reading}
 use Rattle.rpki_ip_block.proofs.der.laws.one_block.Goals as goal
 
 pub returns : goal.returns

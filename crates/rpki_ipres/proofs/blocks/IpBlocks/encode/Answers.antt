@@ -1,11 +1,5 @@
 -- What is written of the blocks is what is written of the runs.
-use Rattle.std.proofs.Common.{◌≡◌, ◌+◌, ◌≤◌, ◌++◌, ℕ, List, length, ap, subst, ◌∙◌, vec_len}
-use Rattle.std.specs.Prelude.{OnOk, IsOk}
-use Rattle.std.specs.Vec.{vec_capacity}
-use Rattle.rpki_der.specs.Der.{sequence_value}
-use Rattle.rpki_base.specs.DerWriting.{sequence_octets}
-use Rattle.rpki_ip_block.specs.BlockDer.{ip_block_der}
-use Rattle.rpki_ipres.specs.SetDer.{ip_set_der}
+use Rattle.rpki_ipres.proofs.Common.{List, ap, length, subst, vec_len, ℕ, ◌++◌, ◌+◌, ◌∙◌, ◌≡◌, ◌≤◌, IsOk, OnOk, vec_capacity, sequence_octets, sequence_value, ip_block_der, ip_set_der}
 use Rattle.rpki_ipres.proofs.SetWritten.{written_as_runs}
 use Rattle.rpki_ipres.proofs.blocks.IpBlocks.encode.Goals as goal
 

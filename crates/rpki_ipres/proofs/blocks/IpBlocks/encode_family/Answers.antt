@@ -1,13 +1,5 @@
 -- What is written of the blocks is what is written of the runs, of which there are some.
-use Rattle.std.proofs.Common.{◌≡◌, ◌+◌, ◌≤◌, ◌++◌, ℕ, List, length, map, ap, sym, subst, ◌∙◌, vec_len, eqb}
-use Rattle.std.specs.Prelude.{OnOk, IsOk}
-use Rattle.std.specs.Vec.{vec_capacity}
-use Rattle.rpki_ip_block.specs.Blocks.{new_ip_block}
-use Rattle.rpki_der.specs.Der.{sequence_value}
-use Rattle.rpki_base.specs.DerWriting.{sequence_octets}
-use Rattle.rpki_base.specs.FamilyDer.{family_der}
-use Rattle.rpki_ip_block.specs.BlockDer.{ip_block_der}
-use Rattle.rpki_ip_block.specs.declared.block.IpBlock.{IpBlock}
+use Rattle.rpki_ipres.proofs.Common.{List, ap, eqb, length, map, subst, sym, vec_len, ℕ, ◌++◌, ◌+◌, ◌∙◌, ◌≡◌, ◌≤◌, IsOk, OnOk, vec_capacity, sequence_octets, family_der, sequence_value, ip_block_der, new_ip_block, IpBlock}
 use Rattle.rpki_ipres.proofs.SetWritten.{family_written}
 use Rattle.rpki_ipres.proofs.blocks.IpBlocks.encode_family.Goals as goal
 

@@ -1,7 +1,4 @@
-use Rattle.std.proofs.Common.{Vec}
-use Rattle.std.proofs.lemmas.Result.{err_from_is_err_and}
-use Rattle.rpki_ip_block.specs.ListText.{HasBlocks, HasBlocksFault}
-use Rattle.rpki_ip_block.specs.declared.block.IpBlock.{IpBlock}
+use Rattle.rpki_ipres.proofs.Common.{Vec, err_from_is_err_and, HasBlocks, HasBlocksFault, IpBlock}
 use Rattle.rpki_ipres.proofs.SetTextLemmas.{set_answers, set_refused, blocks_of_family, read_as}
 use Rattle.rpki_ipres.proofs.WholeReadings.{whole_cover}
 use Rattle.rpki_ipres.proofs.blocks.IpBlocks.from_family_str.Goals as goal

@@ -1,8 +1,4 @@
-use Rattle.std.proofs.Common.{◌≡◌, ◌∙◌, false, true, inl, inr, get_or, refl, sym, ap, subst, arith}
-use Rattle.std.proofs.lemmas.Bool.{cases_order}
-use Rattle.std.proofs.lemmas.List.{get_or_default}
-use Rattle.rpki_ip.specs.Whole.{HasWholeBounds}
-use Rattle.rpki_ip_block.specs.Blocks.{ip_bounds}
+use Rattle.rpki_ipres.proofs.Common.{ap, arith, false, get_or, inl, inr, refl, subst, sym, true, ◌∙◌, ◌≡◌, cases_order, get_or_default, HasWholeBounds, ip_bounds}
 use Rattle.rpki_ipres.proofs.WholeLemmas.{whole_block, blocks_whole}
 use Rattle.rpki_ipres.proofs.blocks.IpBlocks.is_whole_v4.Goals as goal
 

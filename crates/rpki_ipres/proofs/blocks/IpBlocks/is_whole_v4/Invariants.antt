@@ -1,7 +1,4 @@
-use Rattle.std.proofs.Common.{ℕ, ◌<◌, get_or}
-use Rattle.rpki_ip.specs.Whole.{HasWholeBounds}
-use Rattle.rpki_ip_block.specs.Blocks.{ip_bounds}
-use Rattle.rpki_ip_block.specs.declared.block.IpBlock.{IpBlock}
+use Rattle.rpki_ipres.proofs.Common.{get_or, ℕ, ◌<◌, HasWholeBounds, ip_bounds, IpBlock}
 use Rattle.rpki_ipres.proofs.blocks.IpBlocks.is_whole_v4.Given as goal
 
 -- the blocks so far have whole bounds

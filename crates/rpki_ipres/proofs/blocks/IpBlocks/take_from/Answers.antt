@@ -1,5 +1,5 @@
 -- What the reading gives is the value of the grammar of the mode, and it gives what was written.
-use Rattle.rpki_base.specs.declared.family.AddressFamily.TheVariants.{Ipv6}
+use Rattle.rpki_ipres.proofs.Common.{Ipv6}
 use Rattle.rpki_ipres.proofs.Modes.{exact_set, reads_back_set, reads_canonical_set, reads_set, refused_set}
 use Rattle.rpki_ipres.proofs.blocks.IpBlocks.take_from.Goals as goal
 

@@ -1,4 +1,4 @@
-use Rattle.std.proofs.Common.{refl}
+use Rattle.rpki_ipres.proofs.Common.{refl}
 use Rattle.rpki_ipres.proofs.ResourcesWritten.{set_as_member}
 use Rattle.rpki_ipres.proofs.der.laws.members.Goals as goal
 

@@ -1,9 +1,5 @@
 -- What is written of the blocks is what is written of the runs.
-use Rattle.std.proofs.Common.{sym, ap, ◌∙◌}
-use Rattle.rpki_der.specs.Der.{sequence_value}
-use Rattle.rpki_base.specs.DerWriting.{octets_of_all, sequence_octets}
-use Rattle.rpki_ip_block.specs.BlockDer.{ip_block_der}
-use Rattle.rpki_ipres.specs.ResourcesDer.{ip_content_der, ip_resources_der}
+use Rattle.rpki_ipres.proofs.Common.{ap, sym, ◌∙◌, octets_of_all, sequence_octets, sequence_value, ip_block_der, ip_content_der, ip_resources_der}
 use Rattle.rpki_ipres.proofs.SetWritten.{written_as_runs}
 use Rattle.rpki_ipres.proofs.resources.IpResources.as_choice.Goals as goal
 

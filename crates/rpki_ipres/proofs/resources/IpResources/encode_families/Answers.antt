@@ -1,7 +1,5 @@
 -- The header of the SEQUENCE, and the families.
-use Rattle.std.proofs.Common.{arith}
-use Rattle.rpki_base.specs.declared.family.AddressFamily.TheVariants.{Ipv4, Ipv6}
-use Rattle.rpki_ipres.specs.ResourcesDer.{ip_member_der}
+use Rattle.rpki_ipres.proofs.Common.{arith, Ipv4, Ipv6, ip_member_der}
 use Rattle.rpki_ipres.proofs.FamilyWritten.{two_written}
 use Rattle.rpki_ipres.proofs.resources.IpResources.encode_families.Goals as goal
 

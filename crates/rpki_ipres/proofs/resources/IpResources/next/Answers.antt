@@ -1,8 +1,5 @@
 -- What is taken of a family, as resources; what a strict cursor gave is the runs of its set as they stand.
-use Rattle.std.proofs.Common.{sym, ◌∙◌}
-use Rattle.rpki_chains.specs.Sets.{IsChain}
-use Rattle.rpki_chain.proofs.Ascending.{listed_are}
-use Rattle.rpki_ip_block.specs.Blocks.{ip_bounds, new_ip_block}
+use Rattle.rpki_ipres.proofs.Common.{sym, ◌∙◌, listed_are, IsChain, ip_bounds, new_ip_block}
 use Rattle.rpki_ipres.proofs.Modes.{chain_listed}
 use Rattle.rpki_ipres.proofs.resources.IpResources.next.Goals as goal
 

@@ -1,4 +1,4 @@
-use Rattle.std.proofs.Common.{refl}
+use Rattle.rpki_resources.proofs.Common.{refl}
 use Rattle.rpki_resources.proofs.KindLemmas.{both, not_both, each}
 use Rattle.rpki_resources.proofs.set.ResourceSet.contains.Goals as goal
 use Rattle.rpki_resources.proofs.set.ResourceSet.contains.Goals.{then-contains, else-contains}

@@ -1,4 +1,4 @@
-use Rattle.std.proofs.Common.{refl}
+use Rattle.rpki_resources.proofs.Common.{refl}
 use Rattle.rpki_resources.proofs.ClaimLemmas.{lists, lists_whole}
 use Rattle.rpki_resources.proofs.set.ResourceSet.from_resources.Goals as goal
 

@@ -1,4 +1,4 @@
-use Rattle.rpki_chain.specs.Operations.{IsIntersection}
+use Rattle.rpki_resources.proofs.Common.{IsIntersection}
 use Rattle.rpki_resources.proofs.MadeLemmas.{made}
 use Rattle.rpki_resources.proofs.set.ResourceSet.intersection.Goals as goal
 

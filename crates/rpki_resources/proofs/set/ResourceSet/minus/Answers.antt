@@ -1,4 +1,4 @@
-use Rattle.rpki_chain.specs.Operations.{IsDifference}
+use Rattle.rpki_resources.proofs.Common.{IsDifference}
 use Rattle.rpki_resources.proofs.MadeLemmas.{made}
 use Rattle.rpki_resources.proofs.set.ResourceSet.minus.Goals as goal
 

@@ -1,4 +1,4 @@
-use Rattle.rpki_chain.specs.Operations.{IsUnion}
+use Rattle.rpki_resources.proofs.Common.{IsUnion}
 use Rattle.rpki_resources.proofs.MadeLemmas.{made}
 use Rattle.rpki_resources.proofs.set.ResourceSet.union.Goals as goal
 

@@ -1,4 +1,4 @@
-use Rattle.std.proofs.Common.{refl}
+use Rattle.rpki_resources.proofs.Common.{refl}
 use Rattle.rpki_resources.proofs.KindLemmas.{both, not_both, each}
 use Rattle.rpki_resources.proofs.set.ResourceSetPartialEq.eq.Goals as goal
 use Rattle.rpki_resources.proofs.set.ResourceSetPartialEq.eq.Goals.{then-eq, else-eq}

@@ -32,8 +32,8 @@ module _ (equal : FamilyPrefix → FamilyPrefix → Bool) (same : (p q : FamilyP
     ascending sorted left ascends filtered = rw (dedup_is equal sorted left filtered) (IsStrictlySortedBy-dedup total ties sorted ascends)
 
   -- and has the prefixes of the list
-  pub members : (list sorted left : List FamilyPrefix) → IsPermutation list sorted → IsFiltered (DiffersFromLast equal) [] sorted left
-      → (p : FamilyPrefix) → Contains left p ↔ Contains list p
+  pub members : (list sorted left : List FamilyPrefix) → IsPermutation list sorted
+      → IsFiltered (DiffersFromLast equal) [] sorted left → (p : FamilyPrefix) → Contains left p ↔ Contains list p
   members list sorted left moved filtered p =
       rw (dedup_is equal sorted left filtered) (
         (λ h. Contains-permutation sorted list p (IsPermutation-sym list sorted moved) (Contains-from_dedup equal sorted p h)),

@@ -20,7 +20,8 @@ pub record IsLeftInEach (root : Triple) (numbers v4 v6 : List (Step Claim)) (set
   pub ipv6 : IsLeftOf root.ipv6 v6 set.ipv6
 
 -- the refusal is the first one of the path of its kind, and the paths of the kinds before it have none
-abbrev pub IsFirstOverclaim : {A : Type 0} → Triple → List (Step Claim) → List (Step Claim) → List (Step Claim) → Overclaimed A → Type 0
+abbrev pub IsFirstOverclaim : {A : Type 0} → Triple → List (Step Claim) → List (Step Claim) → List (Step Claim)
+    → Overclaimed A → Type 0
 IsFirstOverclaim root numbers v4 v6 (Asn refusal) = IsFirstRefusal (λ claim. claim) (Holds root.asn) numbers refusal
 IsFirstOverclaim root numbers v4 v6 (Ipv4 refusal) =
     ((set : Runs) × IsLeftOf root.asn numbers set) × IsFirstRefusal (λ claim. claim) (Holds root.ipv4) v4 refusal

@@ -8,20 +8,24 @@ use Rattle.rpki_base.specs.declared.family.AddressFamily.{AddressFamily}
 use Rattle.pigyelund_c.specs.Covers.{AreCoverOctets, cover_octets, prefix_octets}
 
 -- an address and a length are behind others as a prefix is
-pub behind : (old address bytes more all : List ℕ) (len last : ℕ) → bytes ≡ address → last ≡ len → more ≡ old ++ bytes → all ≡ more ++ last ∷ [] → all ≡ old ++ (address ++ len ∷ [])
+pub behind : (old address bytes more all : List ℕ) (len last : ℕ) → bytes ≡ address → last ≡ len → more ≡ old ++ bytes
+    → all ≡ more ++ last ∷ [] → all ≡ old ++ (address ++ len ∷ [])
 behind old address bytes more all len last same also put pushed =
     pushed ∙ ap (λ (xs : List ℕ). xs ++ last ∷ []) put ∙ append_assoc old bytes (last ∷ [])
     ∙ ap (λ (ys : List ℕ). old ++ ys) (ap (λ (bs : List ℕ). bs ++ last ∷ []) same ∙ ap (λ (n : ℕ). address ++ n ∷ []) also)
 
 -- one more prefix: the octets so far, with those of the ones that are left, are still all
-pub one_more : (family : AddressFamily) (done more : List ℕ) (left rest all : List PrefixValue) (p : PrefixValue) → more ≡ done ++ prefix_octets family p → left ≡ p ∷ rest
-    → done ++ cover_octets family left ≡ cover_octets family all → more ++ cover_octets family rest ≡ cover_octets family all
+pub one_more : (family : AddressFamily) (done more : List ℕ) (left rest all : List PrefixValue) (p : PrefixValue)
+    → more ≡ done ++ prefix_octets family p → left ≡ p ∷ rest
+    → done ++ cover_octets family left ≡ cover_octets family all
+    → more ++ cover_octets family rest ≡ cover_octets family all
 one_more family done more left rest all p grown next so_far =
     ap (λ (xs : List ℕ). xs ++ cover_octets family rest) grown ∙ append_assoc done (prefix_octets family p) (cover_octets family rest)
     ∙ sym (ap (λ (ps : List PrefixValue). done ++ cover_octets family ps) next) ∙ so_far
 
 -- where none is left, those so far are all
-pub all_done : (family : AddressFamily) (set : Runs) (done : List ℕ) (left all made : List PrefixValue) → left ≡ [] → done ++ cover_octets family left ≡ cover_octets family all → all ≡ made
-    → IsShortestCover 128 (Holds set) made → AreCoverOctets family set done
+pub all_done : (family : AddressFamily) (set : Runs) (done : List ℕ) (left all made : List PrefixValue) → left ≡ []
+    → done ++ cover_octets family left ≡ cover_octets family all → all ≡ made → IsShortestCover 128 (Holds set) made
+    → AreCoverOctets family set done
 all_done family set done left all made none so_far same is =
     (made, is, sym (append-nil done) ∙ ap (λ (ps : List PrefixValue). done ++ cover_octets family ps) (sym none) ∙ so_far ∙ ap (cover_octets family) same)

@@ -39,7 +39,8 @@ pub record LiesInRun (run : List ℕ) (c : Certificate) : Type 0 where
 -- the certificate has the octets at the places
 pub record IsCertificateAt (run : List ℕ) (encoding : Encoding) (c : Certificate) (certificate : Extensions) : Type 0 where
   pub inside : LiesInRun run c
-  pub says : IsCertificate c.present (slice_range run c.as_at (c.as_at + c.as_len)) (slice_range run c.ip_at (c.ip_at + c.ip_len)) encoding c.mode certificate
+  pub says : IsCertificate c.present (slice_range run c.as_at (c.as_at + c.as_len))
+      (slice_range run c.ip_at (c.ip_at + c.ip_len)) encoding c.mode certificate
 
 -- a place lies outside, or else a number is none
 abbrev pub IsMisaskedAt : List ℕ → Certificate → Misasked → Type 0

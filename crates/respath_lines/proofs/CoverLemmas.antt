@@ -6,7 +6,8 @@ use Rattle.rpki_addr.specs.Prefixes.{PrefixValue}
 use Rattle.rpki_ip.specs.PrintedText.{addr_text}
 
 -- what is shown of the prefixes that cover a set, or of the fault of its list
-pub shows_cover : {S : Type 0} (bytes : S → List ℕ) (family : AddressFamily) (list : List ℕ) (found : Result S (OrMemory FromStrError))
+pub shows_cover : {S : Type 0} (bytes : S → List ℕ) (family : AddressFamily) (list : List ℕ)
+    (found : Result S (OrMemory FromStrError))
     → MatchResult found (λ text. IsCoverText family list (bytes text)) (IfRefused (HasBlocksFault family list))
     → (text : List ℕ) → ShowsResult bytes ip_from_str_error_text found text → IsCoverIp family list text
 shows_cover bytes family list (Ok printed) is text shows = inl (is.0, is.1, shows ∙ is.2)
@@ -16,7 +17,9 @@ shows_cover bytes family list (Err (Memory error)) is text shows = absurd shows
 -- ---- prefixes that are printed one by one
 
 -- the text of a first prefix
-pub first_text : (family : AddressFamily) (ps : List PrefixValue) (p : PrefixValue) (text begun made : List ℕ) → text ≡ cover_text family ps → length text ≡ 0 → begun ≡ text → made ≡ begun ++ prefix_with_length family p → made ≡ cover_text family (ps ++ p ∷ [])
+pub first_text : (family : AddressFamily) (ps : List PrefixValue) (p : PrefixValue) (text begun made : List ℕ)
+    → text ≡ cover_text family ps → length text ≡ 0 → begun ≡ text → made ≡ begun ++ prefix_with_length family p
+    → made ≡ cover_text family (ps ++ p ∷ [])
 first_text family [] p text begun made is empty same grown = grown ∙ ap (λ (t : List ℕ). t ++ prefix_with_length family p) (same ∙ is) ∙ sym (append-nil (prefix_with_length family p))
 first_text family (q ∷ ps) p text begun made is empty same grown =
     let addr = addr_text family q.first in
@@ -24,7 +27,9 @@ first_text family (q ∷ ps) p text begun made is empty same grown =
     absurd (omega (arith, empty, ap length is, length-append (addr ++ behind) (flat_map (λ next. codes ", " ++ next) (map (prefix_with_length family) ps)), length-append addr behind))
 
 -- and that of one more
-pub next_text : (family : AddressFamily) (ps : List PrefixValue) (p : PrefixValue) (text begun made : List ℕ) → text ≡ cover_text family ps → length text ≢ 0 → begun ≡ text ++ codes ", " → made ≡ begun ++ prefix_with_length family p → made ≡ cover_text family (ps ++ p ∷ [])
+pub next_text : (family : AddressFamily) (ps : List PrefixValue) (p : PrefixValue) (text begun made : List ℕ)
+    → text ≡ cover_text family ps → length text ≢ 0 → begun ≡ text ++ codes ", "
+    → made ≡ begun ++ prefix_with_length family p → made ≡ cover_text family (ps ++ p ∷ [])
 next_text family [] p text begun made is some more grown = absurd (some (ap length is))
 next_text family (q ∷ ps) p text begun made is some more grown =
     let shown = prefix_with_length family in
@@ -34,7 +39,9 @@ next_text family (q ∷ ps) p text begun made is some more grown =
     ∙ ap (λ texts. shown q ++ flat_map (λ next. codes ", " ++ next) texts) (sym (map-append shown ps (p ∷ [])))
 
 -- and that of either, by what is written of the one that is appended
-pub more_text : (is_first : Bool) (family : AddressFamily) (ps : List PrefixValue) (p : PrefixValue) (text made : List ℕ) → text ≡ cover_text family ps → is_first ≡ (length text == 0) → made ≡ text ++ listed_text is_first family p → made ≡ cover_text family (ps ++ p ∷ [])
+pub more_text : (is_first : Bool) (family : AddressFamily) (ps : List PrefixValue) (p : PrefixValue)
+    (text made : List ℕ) → text ≡ cover_text family ps → is_first ≡ (length text == 0)
+    → made ≡ text ++ listed_text is_first family p → made ≡ cover_text family (ps ++ p ∷ [])
 more_text true family ps p text made is empty grown = first_text family ps p text text made is (eqb-true (length text) 0 (sym empty)) refl grown
 more_text false family ps p text made is some grown =
     next_text family ps p text (text ++ codes ", ") made is (eqb-false (length text) 0 (sym some)) refl (grown ∙ sym (append_assoc text (codes ", ") (prefix_with_length family p)))
@@ -45,12 +52,14 @@ drained all [] (left, (end, here, none)) = sym (here ∙ none.0)
 drained all (p ∷ ps) (left, (end, (next, first, more), none)) = ap (λ (xs : List PrefixValue). p ∷ xs) (drained next ps (left, (end, more, none))) ∙ sym first
 
 -- a refusal for want of memory says nothing of the list
-pub wants_memory : {T E : Type 0} (P : T → Type 0) (Q : E → Type 0) (r : Result T (OrMemory E)) → IsErrAnd r IsMemory → MatchResult r P (IfRefused Q)
+pub wants_memory : {T E : Type 0} (P : T → Type 0) (Q : E → Type 0) (r : Result T (OrMemory E)) → IsErrAnd r IsMemory
+    → MatchResult r P (IfRefused Q)
 wants_memory P Q (Ok value) h = absurd h
 wants_memory P Q (Err (Refused fault)) h = absurd h
 wants_memory P Q (Err (Memory error)) h = tt
 
 -- and any other is handed on
-pub handed_on : {T E : Type 0} (P : T → Type 0) (Q : E → Type 0) (refusal : OrMemory E) (r : Result T (OrMemory E)) → IsErrAnd r (λ e. e ≡ refusal) → IfRefused Q refusal → MatchResult r P (IfRefused Q)
+pub handed_on : {T E : Type 0} (P : T → Type 0) (Q : E → Type 0) (refusal : OrMemory E) (r : Result T (OrMemory E))
+    → IsErrAnd r (λ e. e ≡ refusal) → IfRefused Q refusal → MatchResult r P (IfRefused Q)
 handed_on P Q refusal (Ok value) is h = absurd is
 handed_on P Q refusal (Err error) is h = subst (IfRefused Q) (sym is) h

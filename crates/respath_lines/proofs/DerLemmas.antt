@@ -8,7 +8,8 @@ module _ (family : AddressFamily) (list : List ℕ) (other : list ≢ codes "inh
   listed_claim claim (run ∷ runs, is, same) = rw same (other, is, λ none. absurd cc)
 
   -- a text that isn't `inherit` writes what it writes as a list
-  pub listed_resources : (found : Result Claim (OrMemory FromStrError)) → MatchResult found (IsListed family list) (IfRefused (HasBlocksFault family list))
+  pub listed_resources : (found : Result Claim (OrMemory FromStrError))
+      → MatchResult found (IsListed family list) (IfRefused (HasBlocksFault family list))
       → MatchResult found (IsIpResourcesText family list) (IfRefused (HasIpResourcesFault family list))
   listed_resources (Ok claim) is = listed_claim claim is
   listed_resources (Err (Refused fault)) is = (other, is)

@@ -168,7 +168,8 @@ value_by byte v is =
     ]
 
 -- two digits write an octet
-pub pair_is : (high low h l : ℕ) → h ≡ hex_value high → l ≡ hex_value low → h ≤ 15 → l ≤ 15 → IsPairOf high low (h * 16 + l)
+pub pair_is : (high low h l : ℕ) → h ≡ hex_value high → l ≡ hex_value low → h ≤ 15 → l ≤ 15
+    → IsPairOf high low (h * 16 + l)
 pair_is high low h l first second small also =
     let e = (value_by high h first).0 (omega (arith, small)) in
     let f = (value_by low l second).0 (omega (arith, also)) in
@@ -193,7 +194,8 @@ pair_reads high low octet i pair =
     rw (first, second, pair.value) refl
 
 -- and one that writes none is refused
-pub pair_fails : (high low i : ℕ) → ((octet : ℕ) → ¬ IsPairOf high low octet) → (e : FromHexError) × (pair_value high low i ≡ Err e)
+pub pair_fails : (high low i : ℕ) → ((octet : ℕ) → ¬ IsPairOf high low octet)
+    → (e : FromHexError) × (pair_value high low i ≡ Err e)
 pair_fails high low i none =
     elim (option_cases (hex_digit_value high)) [
       | inl bad ↦ (InvalidHexCharacter high i, rw bad refl)
@@ -207,7 +209,8 @@ pair_fails high low i none =
     ]
 
 -- where pairs are refused, the text writes no octets
-pub refused_writes_none : (text : List ℕ) (e : FromHexError) → decode_pairs 0 text ≡ Err e → (octets : List ℕ) → ¬ IsHexadecimal text octets
+pub refused_writes_none : (text : List ℕ) (e : FromHexError) → decode_pairs 0 text ≡ Err e → (octets : List ℕ)
+    → ¬ IsHexadecimal text octets
 refused_writes_none text e is octets writes = cc (sym is ∙ pairs_of 0 text octets writes)
 
 -- a text writes one list of octets at most

@@ -21,16 +21,22 @@ one_part text none =
     slice_split_none (λ b. eqb b 124) text (λ k d below. fails_before_first (λ b. eqb b 124) text k d (omega (arith, none)))
 
 -- and else its first part ends at the first bar
-pub first_part : (text list rest : List ℕ) → (list ≡ before_first (λ b. eqb b 124) text) × (rest ≡ after_first (λ b. eqb b 124) text) × (position_or_len (λ b. eqb b 124) text < length text) → parts_of text ≡ list ∷ parts_of rest
+pub first_part : (text list rest : List ℕ)
+    → (list ≡ before_first (λ b. eqb b 124) text) × (rest ≡ after_first (λ b. eqb b 124) text)
+    × (position_or_len (λ b. eqb b 124) text < length text) → parts_of text ≡ list ∷ parts_of rest
 first_part text list rest (front, back, some) = slice_split_first (λ b. eqb b 124) text 0 some ∙ (λ i. sym front i ∷ parts_of (sym back i))
 
 module _ {A : Type 0} (Has : List ℕ → A → Type 0) where
   -- one more part that is read
-  pub more_values : (parts : List (List ℕ)) (part : List ℕ) (values : List A) (value : A) → HaveValues Has parts values → Has part value → HaveValues Has (parts ++ part ∷ []) (values ++ value ∷ [])
+  pub more_values : (parts : List (List ℕ)) (part : List ℕ) (values : List A) (value : A) → HaveValues Has parts values
+      → Has part value → HaveValues Has (parts ++ part ∷ []) (values ++ value ∷ [])
   more_values parts part values value before here = HaveValues-append Has parts (part ∷ []) values (value ∷ []) before (here, tt)
 
   -- a part is the first that is refused, where the parts before it are read
-  pub first_refused : {E : Type 0} (Fails : List ℕ → E → Type 0) (parts : List (List ℕ)) (at : ℕ) (part : List ℕ) (values : List A) (refusal : OrMemory E) → (at < length parts) × (part ≡ get_or parts at part) → HaveValues Has (take at parts) values → IfRefused (Fails part) refusal → IfRefused (HasFirstFault Has Fails parts) refusal
+  pub first_refused : {E : Type 0} (Fails : List ℕ → E → Type 0) (parts : List (List ℕ)) (at : ℕ) (part : List ℕ)
+      (values : List A) (refusal : OrMemory E) → (at < length parts) × (part ≡ get_or parts at part)
+      → HaveValues Has (take at parts) values → IfRefused (Fails part) refusal
+      → IfRefused (HasFirstFault Has Fails parts) refusal
   first_refused Fails parts at part values (Refused fault) here before fails = record {
     front = take at parts;
     bad = part;
@@ -44,20 +50,26 @@ module _ {A : Type 0} (Has : List ℕ → A → Type 0) where
 
 module _ {R E : Type 0} (claim : R → Claim) (Writes : List ℕ → Runs → Type 0) (Fails : List ℕ → E → Type 0) (parts : List (List ℕ)) (list : List ℕ) (others : List (List ℕ)) (are : parts ≡ list ∷ others) where
   -- the first part of a path is refused
-  pub refused_root : (refusal : OrMemory (PartFault E)) → IfRefused (HasRootFault Fails list) refusal → IfRefused (HavePathFault Fails claim Writes parts) refusal
+  pub refused_root : (refusal : OrMemory (PartFault E)) → IfRefused (HasRootFault Fails list) refusal
+      → IfRefused (HavePathFault Fails claim Writes parts) refusal
   refused_root (Refused fault) fails = rw are (inl fails)
   refused_root (Memory error) fails = tt
 
   -- or a later one, where the first one is read
-  pub refused_step : (root : Runs) → Writes list root → (refusal : OrMemory (PartFault E)) → IfRefused (HasFirstFault (IsStepText claim Writes) (HasStepFault Fails) others) refusal → IfRefused (HavePathFault Fails claim Writes parts) refusal
+  pub refused_step : (root : Runs) → Writes list root → (refusal : OrMemory (PartFault E))
+      → IfRefused (HasFirstFault (IsStepText claim Writes) (HasStepFault Fails) others) refusal
+      → IfRefused (HavePathFault Fails claim Writes parts) refusal
   refused_step root writes (Refused fault) fails = rw are (inr (root, writes, fails))
   refused_step root writes (Memory error) fails = tt
 
 -- ---- what is told of what a path leaves
 
 -- is what it leaves of the root, or its first refusal
-pub shows_path : (list_text excess_text : Runs → List ℕ) (root : Runs) (steps : List (Step Claim)) (left : Result Runs (OrMemory (PathRefusal Runs))) → AnswersOrMemory (λ set. set) (IsPathResult (λ claim. claim) (Holds root) steps) (IsFirstRefusal (λ claim. claim) (Holds root) steps) left
-    → (text : List ℕ) → ShowsLeft list_text excess_text left text → ShowsPath list_text excess_text root steps text
+pub shows_path : (list_text excess_text : Runs → List ℕ) (root : Runs) (steps : List (Step Claim))
+    (left : Result Runs (OrMemory (PathRefusal Runs)))
+    → AnswersOrMemory (λ set. set) (IsPathResult (λ claim. claim) (Holds root) steps)
+    (IsFirstRefusal (λ claim. claim) (Holds root) steps) left → (text : List ℕ)
+    → ShowsLeft list_text excess_text left text → ShowsPath list_text excess_text root steps text
 shows_path list_text excess_text root steps (Ok set) is text shows = inl (set, is.found, shows)
 shows_path list_text excess_text root steps (Err (Refused refusal)) is text shows = inr (refusal, is.found, shows)
 shows_path list_text excess_text root steps (Err (Memory error)) is text shows = absurd shows
@@ -72,12 +84,15 @@ whole_claim_of : (set : Runs) → IsWhole (Holds set) → IsWholeClaim (claim_of
 whole_claim_of [] whole = tt
 whole_claim_of (run ∷ runs) whole = whole
 
-whole_step : (part : List ℕ) (step : Step Claim) → IsStepText (λ c. c) (λ list. IsSetOf (HasBlocks Ipv4 list)) part step → IsWholeClaim step.claim
+whole_step : (part : List ℕ) (step : Step Claim) → IsStepText (λ c. c) (λ list. IsSetOf (HasBlocks Ipv4 list)) part step
+    → IsWholeClaim step.claim
 whole_step part step (inl inherits) = subst IsWholeClaim (sym inherits.1) tt
 whole_step part step (inr (inl misses)) = subst IsWholeClaim (sym misses.1) tt
 whole_step part step (inr (inr (mode, set, writes, same))) = subst IsWholeClaim (sym same) (whole_claim_of set (whole_listed (list_of part) set writes))
 
-whole_steps : (parts : List (List ℕ)) (steps : List (Step Claim)) → HaveValues (IsStepText (λ c. c) (λ list. IsSetOf (HasBlocks Ipv4 list))) parts steps → All (λ (s : Step Claim). IsWholeClaim s.claim) steps
+whole_steps : (parts : List (List ℕ)) (steps : List (Step Claim))
+    → HaveValues (IsStepText (λ c. c) (λ list. IsSetOf (HasBlocks Ipv4 list))) parts steps
+    → All (λ (s : Step Claim). IsWholeClaim s.claim) steps
 whole_steps [] [] have = All-nil (λ (s : Step Claim). IsWholeClaim s.claim)
 whole_steps [] (step ∷ steps) have = absurd have
 whole_steps (part ∷ parts) [] have = absurd have

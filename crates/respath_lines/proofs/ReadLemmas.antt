@@ -22,14 +22,16 @@ module _ {X Y : Type 0} (G : List ℕ → X → Type 0) (reading : List ℕ → 
   only_refused octets fault e = rw e refl
 
   -- and what is left behind a value is one
-  only_more : (octets rest : List ℕ) (y : Y) → reading octets ≡ Ok (y, rest) → rest ≢ [] → only reading octets ≡ Err TrailingData
+  only_more : (octets rest : List ℕ) (y : Y) → reading octets ≡ Ok (y, rest) → rest ≢ []
+      → only reading octets ≡ Err TrailingData
   unfolding only
   only_more octets [] y e some = absurd (some refl)
   only_more octets (b ∷ rest) y e some = rw (e, ended_more b rest) refl
 
   -- a take and the end behind it
-  pub ended_take : (C : Y → X → Type 0) → OneFront G → (old new : Cursor) (taken : Result X (OrMemory DerError)) → ReadsOrMemory G (λ x. x) old new taken
-      → TakesSaidOrMemory C old new taken reading → (answer : Result X (OrMemory DerError)) → IsEnded taken (left new) answer
+  pub ended_take : (C : Y → X → Type 0) → OneFront G → (old new : Cursor) (taken : Result X (OrMemory DerError))
+      → ReadsOrMemory G (λ x. x) old new taken → TakesSaidOrMemory C old new taken reading
+      → (answer : Result X (OrMemory DerError)) → IsEnded taken (left new) answer
       → MatchResult answer (G (left old)) (IfRefused (HasFault G reading (left old)))
   ended_take C one old new (Ok x) reads took (Ok y) (same, nothing) =
       rw same (whole_value G (left old) x (rw nothing at reads))
@@ -43,14 +45,15 @@ module _ {X Y : Type 0} (G : List ℕ → X → Type 0) (reading : List ℕ → 
   module _ (value_text : X → List ℕ) where
     -- what is shown of the value that octets are, or of their first fault
     pub shows_octets : (octets : List ℕ) (found : Result X (OrMemory DerError))
-        → MatchResult found (G octets) (IfRefused (HasFault G reading octets))
-        → (answer : List ℕ) → ShowsResult value_text fault_text found answer → ShowsOctets G reading value_text octets answer
+        → MatchResult found (G octets) (IfRefused (HasFault G reading octets)) → (answer : List ℕ)
+        → ShowsResult value_text fault_text found answer → ShowsOctets G reading value_text octets answer
     shows_octets octets (Ok x) is answer shows = inl (x, is, shows)
     shows_octets octets (Err (Refused fault)) none answer shows = inr (fault, none, shows)
     shows_octets octets (Err (Memory error)) is answer shows = absurd shows
 
     -- what is shown of the octets that a text writes is what is shown of the text
-    pub shows_text : (text octets answer : List ℕ) → IsHexadecimal text octets → ShowsOctets G reading value_text octets answer → ShowsHexadecimal G reading value_text text answer
+    pub shows_text : (text octets answer : List ℕ) → IsHexadecimal text octets
+        → ShowsOctets G reading value_text octets answer → ShowsHexadecimal G reading value_text text answer
     shows_text text octets answer writes shows = record {
       octets = λ others also. subst (λ bytes. ShowsOctets G reading value_text bytes answer) (one_octets text octets others writes also) shows;
       none = λ no. absurd (no octets writes);

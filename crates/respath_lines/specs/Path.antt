@@ -96,7 +96,8 @@ abbrev pub refusal_text : {F : Type 0} → (F → List ℕ) → PathRefusal F �
 refusal_text excess_text refusal = codes "refused at step " ++ decimal refusal.step ++ codes ": " ++ excess_text refusal.fault
 
 -- the text is that of what a path leaves, or that of a refusal; none is, where there was no memory for what it leaves
-abbrev pub ShowsLeft : {S F : Type 0} → (S → List ℕ) → (F → List ℕ) → Result S (OrMemory (PathRefusal F)) → List ℕ → Type 0
+abbrev pub ShowsLeft : {S F : Type 0} → (S → List ℕ) → (F → List ℕ) → Result S (OrMemory (PathRefusal F)) → List ℕ
+    → Type 0
 ShowsLeft list_text excess_text (Ok set) text = text ≡ list_text set
 ShowsLeft list_text excess_text (Err (Refused refusal)) text = text ≡ refusal_text excess_text refusal
 ShowsLeft list_text excess_text (Err (Memory error)) text = ⊥
@@ -110,7 +111,8 @@ ShowsPath list_text excess_text root steps text =
 -- ---- the answer
 
 -- to a path over the sets that some lists write
-abbrev pub IsPathOf : {E : Type 0} → (List ℕ → Runs → Type 0) → (Runs → List ℕ) → (Runs → List ℕ) → (List ℕ → E → Type 0) → (E → List ℕ) → List ℕ → List ℕ → Type 0
+abbrev pub IsPathOf : {E : Type 0} → (List ℕ → Runs → Type 0) → (Runs → List ℕ) → (Runs → List ℕ)
+    → (List ℕ → E → Type 0) → (E → List ℕ) → List ℕ → List ℕ → Type 0
 IsPathOf {E} Writes list_text excess_text Fails fault_text path text =
     ((root : Runs) × (steps : List (Step Claim)) × ArePath (λ claim. claim) Writes (parts_of path) root steps × ShowsPath list_text excess_text root steps text)
     ⊎ ((fault : PartFault E) × HavePathFault Fails (λ (claim : Claim). claim) Writes (parts_of path) fault × (text ≡ error_line (part_fault_text fault_text fault)))

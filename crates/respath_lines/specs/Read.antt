@@ -28,12 +28,14 @@ IsEnded (Ok value) rest (Err (Memory error)) = ⊥
 IsEnded (Err fault) rest answer = answer ≡ Err fault
 
 -- the octets are no value, and this is the first fault that their reading meets
-abbrev pub HasFault : {V Y : Type 0} → (List ℕ → V → Type 0) → (List ℕ → Result (Y × List ℕ) DerError) → List ℕ → DerError → Type 0
+abbrev pub HasFault : {V Y : Type 0} → (List ℕ → V → Type 0) → (List ℕ → Result (Y × List ℕ) DerError) → List ℕ
+    → DerError → Type 0
 HasFault Is reading octets fault = HasNone Is octets × (only reading octets ≡ Err fault)
 
 -- the answer is what is printed of the value that the octets are; where they are none, it is the text of their first
 -- fault, behind `error: `
-abbrev pub ShowsOctets : {V Y : Type 0} → (List ℕ → V → Type 0) → (List ℕ → Result (Y × List ℕ) DerError) → (V → List ℕ) → List ℕ → List ℕ → Type 0
+abbrev pub ShowsOctets : {V Y : Type 0} → (List ℕ → V → Type 0) → (List ℕ → Result (Y × List ℕ) DerError) → (V → List ℕ)
+    → List ℕ → List ℕ → Type 0
 ShowsOctets {V} Is reading value_text octets answer =
     ((value : V) × Is octets value × (answer ≡ value_text value))
     ⊎ ((fault : DerError) × HasFault Is reading octets fault × (answer ≡ error_line (fault_text fault)))

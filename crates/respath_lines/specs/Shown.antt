@@ -8,7 +8,8 @@ abbrev pub error_line : List ℕ → List ℕ
 error_line fault = codes "error: " ++ fault
 
 -- the text is that of a value which is there, or that of a fault which is there, behind `error: `
-abbrev pub ShowsValueOrFault : {V E : Type 0} → (V → Type 0) → (V → List ℕ) → (E → Type 0) → (E → List ℕ) → List ℕ → Type 0
+abbrev pub ShowsValueOrFault : {V E : Type 0} → (V → Type 0) → (V → List ℕ) → (E → Type 0) → (E → List ℕ) → List ℕ
+    → Type 0
 ShowsValueOrFault {V} {E} Has value_text Fails fault_text text =
     ((value : V) × Has value × (text ≡ value_text value))
     ⊎ ((fault : E) × Fails fault × (text ≡ error_line (fault_text fault)))

@@ -24,7 +24,8 @@ is_told route x c =
     rw (eq-eqb _ _ (same_width x.0.prefix.addr route.addr r.family), le-leb _ _ r.from, le-leb _ _ r.upto) refl
 
 -- a test that says it says the same
-pub told : (route : FamilyPrefix) (x : Payload) (b : Bool) → (b ≡ true → CoversRoute route x) → (CoversRoute route x → b ≡ true) → covers_route route x ≡ b
+pub told : (route : FamilyPrefix) (x : Payload) (b : Bool) → (b ≡ true → CoversRoute route x)
+    → (CoversRoute route x → b ≡ true) → covers_route route x ≡ b
 told route x true on back = is_told route x (on refl)
 told route x false on back = which (covers_route route x) refl
   where
@@ -33,25 +34,30 @@ told route x false on back = which (covers_route route x) refl
     which true e = absurd (let f : false ≡ true = back (tells_covers route x e) in cc)
 
 -- one element more
-one_more : (route : FamilyPrefix) (x : Payload) (xs : List Payload) (t : Bool) → covers_route route x ≡ t → AreThose (CoversRoute route) xs (filter (covers_route route) xs)
+one_more : (route : FamilyPrefix) (x : Payload) (xs : List Payload) (t : Bool) → covers_route route x ≡ t
+    → AreThose (CoversRoute route) xs (filter (covers_route route) xs)
     → AreThose (CoversRoute route) (x ∷ xs) (filter (covers_route route) (x ∷ xs))
 one_more route x xs true e those = rw e (inl (tells_covers route x e, filter (covers_route route) xs, refl, those))
 one_more route x xs false e those = rw e (inr ((λ h. absurd (let f : false ≡ true = sym e ∙ is_told route x h in cc)), those))
 
 -- what the test picks out of a list are those that cover the route
-pub are_those : (route : FamilyPrefix) (xs : List Payload) → AreThose (CoversRoute route) xs (filter (covers_route route) xs)
+pub are_those : (route : FamilyPrefix) (xs : List Payload)
+    → AreThose (CoversRoute route) xs (filter (covers_route route) xs)
 are_those route [] = refl
 are_those route (x ∷ xs) = one_more route x xs (covers_route route x) refl (are_those route xs)
 
 module _ (route : FamilyPrefix) (xs : List Payload) where
   -- one payload more
-  picked : (y x : Payload) (s t : Bool) (ys : List Payload) → y ≡ x → s ≡ t → reverse (cond s (y ∷ []) []) ++ ys ≡ cond t (x ∷ ys) ys
+  picked : (y x : Payload) (s t : Bool) (ys : List Payload) → y ≡ x → s ≡ t
+      → reverse (cond s (y ∷ []) []) ++ ys ≡ cond t (x ∷ ys) ys
   picked y x true true ys is e = ap (λ z. z ∷ ys) is
   picked y x false false ys is e = refl
   picked y x true false ys is e = absurd (let f : true ≡ false = e in cc)
   picked y x false true ys is e = absurd (let f : false ≡ true = e in cc)
 
-  pub more : (k : ℕ) (x : Payload) → k < length xs → get_or xs k x ≡ x → covering_before route xs (k + 1) ≡ cond (covers_route route x) (x ∷ covering_before route xs k) (covering_before route xs k)
+  pub more : (k : ℕ) (x : Payload) → k < length xs → get_or xs k x ≡ x
+      → covering_before route xs (k + 1)
+      ≡ cond (covers_route route x) (x ∷ covering_before route xs k) (covering_before route xs k)
   more k x small is =
       let y : Payload = get_or xs k x in
       let s : Bool = covers_route route y in
@@ -59,7 +65,8 @@ module _ (route : FamilyPrefix) (xs : List Payload) where
       ∙ picked y x s (covers_route route x) (covering_before route xs k) is (ap (covers_route route) is)
 
   -- places at which none covers the route give none
-  free_step : (k : ℕ) (d : Payload) → k < length xs → ¬ CoversRoute route (get_or xs k d) → covering_before route xs (k + 1) ≡ covering_before route xs k
+  free_step : (k : ℕ) (d : Payload) → k < length xs → ¬ CoversRoute route (get_or xs k d)
+      → covering_before route xs (k + 1) ≡ covering_before route xs k
   free_step k d small free =
       let y : Payload = get_or xs k d in
       let none : covers_route route y ≡ false = told route y false (λ e. absurd (let f : false ≡ true = e in cc)) (λ c. absurd (free c)) in
@@ -70,7 +77,8 @@ module _ (route : FamilyPrefix) (xs : List Payload) where
   some : Payload
   some = (record { prefix = route; max_len = None }, 0)
 
-  pub none_between : (to from : ℕ) → from ≤ to → to ≤ length xs → NoneCovers xs route from to → covering_before route xs to ≡ covering_before route xs from
+  pub none_between : (to from : ℕ) → from ≤ to → to ≤ length xs → NoneCovers xs route from to
+      → covering_before route xs to ≡ covering_before route xs from
   none_between zero from low high none = (let e : 0 ≡ from = omega (arith, low) in ap (covering_before route xs) e)
   none_between (suc k) from low high none = elim (cases_lt k from) [
     | inl same ↦ (let e : suc k ≡ from = omega (arith, low, same) in ap (covering_before route xs) e)
@@ -147,5 +155,6 @@ module _ (xs : List Payload) (links : List Link) (n : ℕ) (route : FamilyPrefix
       ∙ ap (λ ys. x ∷ ys) (none_between route xs last left before (omega (arith, there)) between)
 
 -- and where there is none, nothing is left
-pub nothing_left : (xs : List Payload) (links : List Link) (n : ℕ) (route : FamilyPrefix) → IsWalk xs links n route → NoneCovers xs route 0 n → covering_before route xs n ≡ []
+pub nothing_left : (xs : List Payload) (links : List Link) (n : ℕ) (route : FamilyPrefix) → IsWalk xs links n route
+    → NoneCovers xs route 0 n → covering_before route xs n ≡ []
 nothing_left xs links n route walk none = none_between route xs n 0 (omega arith) walk.within none

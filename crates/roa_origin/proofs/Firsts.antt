@@ -18,9 +18,11 @@ up k x y le =
     le-div (x / 2 ^ k) y (2 ^ k) (pow_pos k) (omega (arith, down, le))
 
 -- what comes no later has first bits that write no more
-pub first_up : (n : ℕ) (p q : FamilyPrefix) → n ≤ 20 → IsFamilyPrefix p → IsFamilyPrefix q → place p ≤ place q → first_bits n p ≤ first_bits n q
+pub first_up : (n : ℕ) (p q : FamilyPrefix) → n ≤ 20 → IsFamilyPrefix p → IsFamilyPrefix q → place p ≤ place q
+    → first_bits n p ≤ first_bits n q
 first_up n p q few = of_addrs p.addr q.addr p.len q.len where
-  of_addrs : (a b : IpAddr) (k l : ℕ) → IsFamilyPrefix (record { addr = a; len = k }) → IsFamilyPrefix (record { addr = b; len = l })
+  of_addrs : (a b : IpAddr) (k l : ℕ) → IsFamilyPrefix (record { addr = a; len = k })
+      → IsFamilyPrefix (record { addr = b; len = l })
       → place (record { addr = a; len = k }) ≤ place (record { addr = b; len = l })
       → first_bits n (record { addr = a; len = k }) ≤ first_bits n (record { addr = b; len = l })
   of_addrs (V4 x) (V4 y) k l is is' le =
@@ -38,8 +40,9 @@ first_up n p q few = of_addrs p.addr q.addr p.len q.len where
       absurd (omega (arith, le, below, short))
 
 -- payloads before the start of a prefix's first bits come before the prefix
-pub before_start : (n : ℕ) (xs : List Payload) (p : FamilyPrefix) (start : ℕ) → n ≤ 20 → AreFamilyPrefixes xs (length xs) → IsFamilyPrefix p
-    → IsStart n xs (first_bits n p) start → (k : ℕ) (d : Payload) → k < start → payload_place (get_or xs k d) < place p
+pub before_start : (n : ℕ) (xs : List Payload) (p : FamilyPrefix) (start : ℕ) → n ≤ 20
+    → AreFamilyPrefixes xs (length xs) → IsFamilyPrefix p → IsStart n xs (first_bits n p) start → (k : ℕ) (d : Payload)
+    → k < start → payload_place (get_or xs k d) < place p
 before_start n xs p start few prefixes is at k d small =
     let there : k < length xs = omega (arith, small, at.within) in
     elim (cases_lt (payload_place (get_or xs k d)) (place p)) [
@@ -48,8 +51,9 @@ before_start n xs p start few prefixes is at k d small =
     ]
 
 -- payloads from the start of the next number on come after it
-pub after_start : (n : ℕ) (xs : List Payload) (p : FamilyPrefix) (end : ℕ) → n ≤ 20 → AreFamilyPrefixes xs (length xs) → IsFamilyPrefix p
-    → IsStart n xs (first_bits n p + 1) end → (k : ℕ) (d : Payload) → end ≤ k → k < length xs → place p < payload_place (get_or xs k d)
+pub after_start : (n : ℕ) (xs : List Payload) (p : FamilyPrefix) (end : ℕ) → n ≤ 20 → AreFamilyPrefixes xs (length xs)
+    → IsFamilyPrefix p → IsStart n xs (first_bits n p + 1) end → (k : ℕ) (d : Payload) → end ≤ k → k < length xs
+    → place p < payload_place (get_or xs k d)
 after_start n xs p end few prefixes is at k d from small =
     elim (cases_lt (place p) (payload_place (get_or xs k d))) [
       | inl less ↦ less
@@ -57,5 +61,6 @@ after_start n xs p end few prefixes is at k d from small =
     ]
 
 -- starts by another name of the payloads and of the starts
-pub same_starts : (n : ℕ) (xs ys : List Payload) (starts others : List ℕ) → xs ≡ ys → starts ≡ others → AreStarts n ys others → AreStarts n xs starts
+pub same_starts : (n : ℕ) (xs ys : List Payload) (starts others : List ℕ) → xs ≡ ys → starts ≡ others
+    → AreStarts n ys others → AreStarts n xs starts
 same_starts n xs ys starts others e f h = subst (λ (zs : List Payload). AreStarts n zs starts) (sym e) (subst (λ (ks : List ℕ). AreStarts n ys ks) (sym f) h)

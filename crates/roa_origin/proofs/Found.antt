@@ -17,9 +17,6 @@ module _ {X : Type 0} (f : X → ℕ) (xs : List X) (t at : ℕ) (ordered : IsNo
         )
       ]
 
-  pub stands : (at < length xs) × ((d : X) → f (get_or xs at d) ≡ t) → (x : X) → Any (λ x. f x ≡ t) xs
-  stands h x = (at, get_or xs at x, h.0, get_or_default xs at (get_or xs at x) x h.0, h.1 x)
-
 -- what some element of a list is, some element is of the list in another order
 pub any_moved : {X : Type 0} (P : X → Type 0) (xs ys : List X) → IsPermutation xs ys → Any P xs → Any P ys
 any_moved P xs ys moved h = let there = Contains-permutation xs ys h.1 moved (h.0, h.2, h.3) in (there.0, h.1, there.1, there.2, h.4)

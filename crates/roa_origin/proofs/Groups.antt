@@ -4,7 +4,8 @@ use Rattle.std.proofs.lemmas.List.{length-drop}
 use Rattle.roa_origin.proofs.Places.{by_ranks}
 
 -- an element of a piece
-pub in_piece : (xs : List Payload) (a b k : ℕ) (d : Payload) → k < b - a → get_or (slice_range xs a b) k d ≡ get_or xs (a + k) d
+pub in_piece : (xs : List Payload) (a b k : ℕ) (d : Payload) → k < b - a
+    → get_or (slice_range xs a b) k d ≡ get_or xs (a + k) d
 in_piece xs a b k d small = get_or-take (b - a) _ k d small ∙ get_or-drop a xs k d
 
 pub piece_length : (xs : List Payload) (a b : ℕ) → b ≤ length xs → length (slice_range xs a b) ≡ b - a
@@ -15,11 +16,13 @@ module _ (xs : List Payload) (order : IsInOrder xs) (route : FamilyPrefix) (a b 
   wide : length (slice_range xs a b) ≡ b - a
   wide = piece_length xs a b within
 
-  element : (P : Payload → Type 0) (k : ℕ) (d : Payload) → k < length (slice_range xs a b) → P (get_or xs (a + k) d) → P (get_or (slice_range xs a b) k d)
+  element : (P : Payload → Type 0) (k : ℕ) (d : Payload) → k < length (slice_range xs a b) → P (get_or xs (a + k) d)
+      → P (get_or (slice_range xs a b) k d)
   element P k d small = subst P (sym (in_piece xs a b k d (omega (arith, small, wide))))
 
   -- it is a group where the prefix covers the route
-  pub group : ((payload : Payload) → payload.0.prefix ≡ p → CoversRoute route payload) → IsGroup route (slice_range xs a b)
+  pub group : ((payload : Payload) → payload.0.prefix ≡ p → CoversRoute route payload)
+      → IsGroup route (slice_range xs a b)
   group covers = record {
     payloads = λ k d small. element IsLawfulPayload k d small (order.payloads (a + k) d (omega (arith, small, wide, within)));
     covers = λ k d small. element (CoversRoute route) k d small (covers (get_or xs (a + k) d) (has (a + k) d (omega arith) (omega (arith, small, wide))));
@@ -40,7 +43,8 @@ module _ (xs : List Payload) (order : IsInOrder xs) (route : FamilyPrefix) (a b 
       (a + h.0, h.1, omega (arith, small, wide, within), sym there ∙ h.3, h.4)
 
   -- and what none of it is, none is at those places
-  pub none_in : (P : Payload → Type 0) → ¬ Any P (slice_range xs a b) → (k : ℕ) (d : Payload) → a ≤ k → k < b → ¬ P (get_or xs k d)
+  pub none_in : (P : Payload → Type 0) → ¬ Any P (slice_range xs a b) → (k : ℕ) (d : Payload) → a ≤ k → k < b
+      → ¬ P (get_or xs k d)
   none_in P none k d from before is_such =
       let y : Payload = get_or xs k d in
       let e : a + (k - a) ≡ k = omega (arith, from) in

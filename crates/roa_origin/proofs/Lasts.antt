@@ -14,7 +14,8 @@ module _ (route : FamilyPrefix) (xs : List Payload) (asn : ℕ) (group : IsGroup
 
   module _ (n : ℕ) (bound : n ≤ length xs) where
     -- what ranks no higher allows no longer route of its AS
-    pub last_of : IsPartitionPoint (λ (y : Payload). leb asn y.1 ≡ true) (λ (y : Payload). leb asn y.1 ≡ false) xs n → IsLastOf asn xs n
+    pub last_of : IsPartitionPoint (λ (y : Payload). leb asn y.1 ≡ true) (λ (y : Payload). leb asn y.1 ≡ false) xs n
+        → IsLastOf asn xs n
     last_of point k d small same =
         let x : Payload = get_or xs k d in
         elim (cases_lt k n) [

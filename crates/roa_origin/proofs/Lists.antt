@@ -53,7 +53,8 @@ module _ {X : Type 0} (R : X → X → Ordering) (total : IsTotalOrder R) (ties 
   rest_ascends x xs ascends i j d below inside = ascends (suc i) (suc j) d (omega arith) (omega arith)
 
   -- the first of both is the same
-  same_first : (x y : X) (xs ys : List X) → Ascends (x ∷ xs) → Ascends (y ∷ ys) → Contains (y ∷ ys) x → Contains (x ∷ xs) y → x ≡ y
+  same_first : (x y : X) (xs ys : List X) → Ascends (x ∷ xs) → Ascends (y ∷ ys) → Contains (y ∷ ys) x
+      → Contains (x ∷ xs) y → x ≡ y
   same_first x y xs ys a b has back = elim (cons_cases y ys x has) [
     | inl e ↦ sym e
     | inr later ↦ elim (cons_cases x xs y back) [
@@ -63,7 +64,8 @@ module _ {X : Type 0} (R : X → X → Ordering) (total : IsTotalOrder R) (ties 
   ]
 
   -- and what stands behind it is behind the other one's
-  rest_has : (x y : X) (xs ys : List X) → x ≡ y → Ascends (x ∷ xs) → (p : X) → Contains xs p → Contains (y ∷ ys) p → Contains ys p
+  rest_has : (x y : X) (xs ys : List X) → x ≡ y → Ascends (x ∷ xs) → (p : X) → Contains xs p → Contains (y ∷ ys) p
+      → Contains ys p
   rest_has x y xs ys e a p has also = elim (cons_cases y ys p also) [
     | inl same ↦ absurd (not_itself x p (less_than_rest x xs p a has) (e ∙ same))
     | inr there ↦ there
@@ -102,11 +104,13 @@ module _ {X : Type 0} (R : X → X → Ordering) (total : IsTotalOrder R) (ties 
         (λ e. (same x y).1 ((ties x y).0 ((Equal-is (R x y)).0 e)))
 
     -- what is left is in order, each once
-    pub ascending : (sorted left : List X) → IsSorted R sorted → IsFiltered (DiffersFromLast equal) [] sorted left → Ascends left
+    pub ascending : (sorted left : List X) → IsSorted R sorted → IsFiltered (DiffersFromLast equal) [] sorted left
+        → Ascends left
     ascending sorted left ascends filtered = rw (dedup_is equal sorted left filtered) (pairs _ (IsStrictlySortedBy-dedup total decided sorted ascends))
 
     -- and has the elements of the list
-    pub members : (list sorted left : List X) → IsPermutation list sorted → IsFiltered (DiffersFromLast equal) [] sorted left → (p : X) → Contains left p ↔ Contains list p
+    pub members : (list sorted left : List X) → IsPermutation list sorted
+        → IsFiltered (DiffersFromLast equal) [] sorted left → (p : X) → Contains left p ↔ Contains list p
     members list sorted left moved filtered p =
         rw (dedup_is equal sorted left filtered) (
           (λ h. Contains-permutation sorted list p (IsPermutation-sym list sorted moved) (Contains-from_dedup equal sorted p h)),

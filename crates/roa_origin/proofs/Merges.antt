@@ -66,15 +66,6 @@ those_without P (y ∷ xs) ys x h those = elim those [
   | inr w ↦ inr (w.0, those_without P xs ys x h w.1)
 ]
 
--- those of a property are those of another one that holds of the same
-pub those_same : {X : Type 0} (P Q : X → Type 0) (xs ys : List X) → ((x : X) → P x → Q x) → ((x : X) → Q x → P x)
-    → AreThose P xs ys → AreThose Q xs ys
-those_same P Q [] ys on back e = e
-those_same P Q (x ∷ xs) ys on back those = elim those [
-  | inl w ↦ inl (on x w.0, w.1, w.2, those_same P Q xs w.1 on back w.3)
-  | inr w ↦ inr ((λ q. w.0 (back x q)), those_same P Q xs ys on back w.1)
-]
-
 -- what all are, those are
 pub All-those : {X : Type 0} (P R : X → Type 0) (xs ys : List X) → AreThose P xs ys → All R xs → All R ys
 All-those P R [] ys e all = All-same R ys [] e all

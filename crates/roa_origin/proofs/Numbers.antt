@@ -23,7 +23,8 @@ number_of false n = refl
 number_of true n = refl
 
 -- a shorter prefix isn't covered
-pub no_shorter : (u v : Bool) (x y k l : ℕ) → IsFamilyPrefix (made u x k) → l < k → ¬ CoversPrefix (made u x k) (made v y l)
+pub no_shorter : (u v : Bool) (x y k l : ℕ) → IsFamilyPrefix (made u x k) → l < k
+    → ¬ CoversPrefix (made u x k) (made v y l)
 no_shorter u v x y k l is less c = (let longer : k ≤ l = covers_len (made u x k) (made v y l) is c in omega (arith, longer, less))
 
 -- nor one that begins before it
@@ -32,7 +33,8 @@ no_earlier u v x y k l less c =
     let from : address_number (addr_of u x) ≤ address_number (addr_of v y) = (round_covers (made u x k) (made v y l) c).from in
     omega (arith, from, less, number_of u x, number_of v y)
 
-lies_in : (w : ℕ) (p q : PrefixValue) → IsPrefix w p → IsPrefix w q → p.len ≤ q.len → p.first ≤ q.first → q.first < p.first + 2 ^ (w - p.len) → LiesIn w (IsIn w p) q
+lies_in : (w : ℕ) (p q : PrefixValue) → IsPrefix w p → IsPrefix w q → p.len ≤ q.len → p.first ≤ q.first
+    → q.first < p.first + 2 ^ (w - p.len) → LiesIn w (IsIn w p) q
 lies_in w p q is_p is_q short from inside n i =
     let ends : q.first + 2 ^ (w - q.len) ≤ p.first + 2 ^ (w - p.len) = nested_bounds w p q is_p is_q from (λ _. short) inside in
     record { from = omega (arith, from, i.from); upto = omega (arith, ends, i.upto) }
@@ -47,7 +49,8 @@ covered true true x y k l is is' e short from inside =
 covered false true x y k l is is' e short from inside = absurd (let f : false ≡ true = e in cc)
 covered true false x y k l is is' e short from inside = absurd (let f : true ≡ false = e in cc)
 
-covered_inside : (u v : Bool) (x y k l : ℕ) → CoversPrefix (made u x k) (made v y l) → y < x + 2 ^ (width (addr_of u x) - k)
+covered_inside : (u v : Bool) (x y k l : ℕ) → CoversPrefix (made u x k) (made v y l)
+    → y < x + 2 ^ (width (addr_of u x) - k)
 covered_inside u v x y k l c =
     let some = pow_pos (width (addr_of v y) - l) in
     let first : IsIn (width (addr_of u x)) (record { first = address_number (addr_of u x); len = k }) (address_number (addr_of v y)) =
@@ -56,8 +59,9 @@ covered_inside u v x y k l c =
     omega (arith, upto, number_of u x, number_of v y)
 
 -- the first covers the second exactly where that is no farther than its addresses reach
-pub by_distance : (u v : Bool) (x y k l behind : ℕ) → IsFamilyPrefix (made u x k) → IsFamilyPrefix (made v y l) → u ≡ v → k ≤ l → x ≤ y
-    → behind + 1 ≡ 2 ^ (width (addr_of u x) - k) → (y - x ≤ behind) ↔ CoversPrefix (made u x k) (made v y l)
+pub by_distance : (u v : Bool) (x y k l behind : ℕ) → IsFamilyPrefix (made u x k) → IsFamilyPrefix (made v y l) → u ≡ v
+    → k ≤ l → x ≤ y → behind + 1 ≡ 2 ^ (width (addr_of u x) - k)
+    → (y - x ≤ behind) ↔ CoversPrefix (made u x k) (made v y l)
 by_distance u v x y k l behind is is' e short from reach = (
   (λ near. covered u v x y k l is is' e short from (omega (arith, near, reach))),
   λ c. let inside = covered_inside u v x y k l c in omega (arith, inside, reach),

@@ -29,7 +29,8 @@ made a k = record { addr = a; len = k }
 pub same_prefix : (p q : FamilyPrefix) → IsFamilyPrefix p → IsFamilyPrefix q → place p ≡ place q → p ≡ q
 same_prefix p q = go p.addr q.addr p.len q.len
   where
-    go : (a b : IpAddr) (k l : ℕ) → IsFamilyPrefix (made a k) → IsFamilyPrefix (made b l) → place (made a k) ≡ place (made b l) → made a k ≡ made b l
+    go : (a b : IpAddr) (k l : ℕ) → IsFamilyPrefix (made a k) → IsFamilyPrefix (made b l)
+        → place (made a k) ≡ place (made b l) → made a k ≡ made b l
     go (V4 x) (V4 y) k l is is' e =
         let small = below_256 32 _ (omega arith) is in
         let small' = below_256 32 _ (omega arith) is' in
@@ -111,7 +112,8 @@ lower : (m n r s : ℕ) → m ≡ n → m * 2 ^ 64 + r ≤ n * 2 ^ 64 + s → r 
 lower m n r s e le = omega (arith, e, le)
 
 -- payloads in a table's order are in that of their prefixes
-pub by_places : (xs : List Payload) → All IsLawfulPayload xs → IsNonDecreasingBy table_place xs → IsNonDecreasingBy payload_place xs
+pub by_places : (xs : List Payload) → All IsLawfulPayload xs → IsNonDecreasingBy table_place xs
+    → IsNonDecreasingBy payload_place xs
 by_places xs all ranked i j d le small =
     upper (payload_place (get_or xs i d)) (payload_place (get_or xs j d)) (rank (get_or xs i d)) (rank (get_or xs j d)) (rank_small (get_or xs j d) (all j d small)) (ranked i j d le small)
 

@@ -27,12 +27,6 @@ module _ (old new : List Payload) (routes : List (FamilyPrefix × ℕ)) where
     pub ascending : AllPairs (λ i j. i < j) places
     pub members : (k : ℕ) → Contains places k ↔ ((k < n) × IsChangedAt old new routes k)
 
-  pub none_so_far : AreSoFar 0 []
-  none_so_far = record {
-    ascending = λ i j d before inside. absurd (omega (arith, inside));
-    members = λ k. ((λ h. absurd (omega (arith, h.1))), λ h. absurd (omega (arith, h.0)));
-  }
-
   module _ (n : ℕ) (places : List ℕ) (so_far : AreSoFar n places) where
     pub one_more : IsChangedAt old new routes n → AreSoFar (n + 1) (places ++ n ∷ [])
     one_more is = record {

@@ -61,12 +61,14 @@ module _ (r : FamilyPrefix) (is_r : IsFamilyPrefix r) (xs : List Payload) (links
   pub any_at : (P : Payload → Type 0) → Any P (slice_range xs link.first n) → Any P xs
   any_at = any_in xs table.in_order r link.first n within last.0.prefix has
 
-  none_at : (P : Payload → Type 0) → ¬ Any P (slice_range xs link.first n) → (k : ℕ) (d : Payload) → link.first ≤ k → k < n → ¬ P (get_or xs k d)
+  none_at : (P : Payload → Type 0) → ¬ Any P (slice_range xs link.first n) → (k : ℕ) (d : Payload) → link.first ≤ k
+      → k < n → ¬ P (get_or xs k d)
   none_at = none_in xs table.in_order r link.first n within last.0.prefix has
 
   -- what covers the route and none among them is, nor from n on, none behind the link is
-  pub none_left : (P : Payload → Type 0) → ((y : Payload) → P y → CoversRoute r y) → ((k : ℕ) (d : Payload) → n ≤ k → k < length xs → ¬ P (get_or xs k d))
-      → ¬ Any P (slice_range xs link.first n) → (k : ℕ) (d : Payload) → link.back ≤ k → k < length xs → ¬ P (get_or xs k d)
+  pub none_left : (P : Payload → Type 0) → ((y : Payload) → P y → CoversRoute r y)
+      → ((k : ℕ) (d : Payload) → n ≤ k → k < length xs → ¬ P (get_or xs k d)) → ¬ Any P (slice_range xs link.first n)
+      → (k : ℕ) (d : Payload) → link.back ≤ k → k < length xs → ¬ P (get_or xs k d)
   none_left P covers so_far none k d from small is = elim (step k d small from) [
     | inl seen ↦ so_far k d seen small is
     | inr (inl here) ↦ none_at P none k d here.0 here.1 is
@@ -74,8 +76,8 @@ module _ (r : FamilyPrefix) (is_r : IsFamilyPrefix r) (xs : List Payload) (links
   ]
 
   -- it covers the route, and none of its prefix matches
-  pub step_covered : (asn : ℕ) (v : Validity) → Tells r asn xs (λ k. n ≤ k) v → CoversRoute r last → ¬ IsMatched r asn (slice_range xs link.first n)
-      → Tells r asn xs (λ k. link.back ≤ k) Invalid
+  pub step_covered : (asn : ℕ) (v : Validity) → Tells r asn xs (λ k. n ≤ k) v → CoversRoute r last
+      → ¬ IsMatched r asn (slice_range xs link.first n) → Tells r asn xs (λ k. link.back ≤ k) Invalid
   step_covered asn v t covers none =
       covered r asn xs (λ k. n ≤ k) (λ k. link.back ≤ k) v t (n - 1) last stands (get_or_default xs (n - 1) last nowhere stands) covers (λ k d small from. elim (step k d small from) [
         | inl seen ↦ inl seen
@@ -84,7 +86,8 @@ module _ (r : FamilyPrefix) (is_r : IsFamilyPrefix r) (xs : List Payload) (links
       ])
 
   -- it doesn't cover the route
-  pub step_free : (asn : ℕ) (v : Validity) → Tells r asn xs (λ k. n ≤ k) v → ¬ CoversRoute r last → Tells r asn xs (λ k. link.back ≤ k) v
+  pub step_free : (asn : ℕ) (v : Validity) → Tells r asn xs (λ k. n ≤ k) v → ¬ CoversRoute r last
+      → Tells r asn xs (λ k. link.back ≤ k) v
   step_free asn v t free = passed r asn xs (λ k. n ≤ k) (λ k. link.back ≤ k) v t (λ k d small from. elim (step k d small from) [
     | inl seen ↦ inl seen
     | inr (inl here) ↦ inr (λ h. free (subst (λ (p : FamilyPrefix). CoversPrefix p r) (has k d here.0 here.1) h))

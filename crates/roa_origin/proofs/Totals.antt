@@ -21,7 +21,8 @@ both_equal Greater p e = cc
 pub nat_ties : (m n : ℕ) → nat_cmp m n ≡ Equal → m ≡ n
 nat_ties m n e = by_ranked _ _ _ (nat_cmp m n) (ranks m n) (λ f _. cc) (λ _ same. same) (λ f _. cc)
 
-pub ties : ((m n : MaxLenValue) → (max_len_cmp m n ≡ Equal) ↔ (m ≡ n)) → IsTotalOrder payload_cmp → (p q : Payload) → (payload_cmp p q ≡ Equal) ↔ (p ≡ q)
+pub ties : ((m n : MaxLenValue) → (max_len_cmp m n ≡ Equal) ↔ (m ≡ n)) → IsTotalOrder payload_cmp → (p q : Payload)
+    → (payload_cmp p q ≡ Equal) ↔ (p ≡ q)
 ties prefixes is_total p q = (
   (λ e. let both = both_equal (max_len_cmp p.0 q.0) (nat_cmp p.1 q.1) e in λ i. ((prefixes p.0 q.0).0 both.0 i, nat_ties p.1 q.1 both.1 i)),
   λ e. subst (λ (r : Payload). payload_cmp p r ≡ Equal) e (tied_itself is_total p),
@@ -42,7 +43,8 @@ both_true true b e = (refl, e)
 both_true false b e = cc
 
 -- payloads are equal where they are the same
-pub equal_where_the_same : {eq : MaxLenValue → MaxLenValue → Bool} → ((m n : MaxLenValue) → IsTrue (eq m n) ↔ (m ≡ n)) → (p q : Payload) → IsTrue (eq p.0 q.0 && (p.1 == q.1)) ↔ (p ≡ q)
+pub equal_where_the_same : {eq : MaxLenValue → MaxLenValue → Bool} → ((m n : MaxLenValue) → IsTrue (eq m n) ↔ (m ≡ n))
+    → (p q : Payload) → IsTrue (eq p.0 q.0 && (p.1 == q.1)) ↔ (p ≡ q)
 equal_where_the_same {eq} same p q = (
   (λ e. let both = both_true (eq p.0 q.0) (p.1 == q.1) e in λ i. ((same p.0 q.0).0 both.0 i, eqb-true p.1 q.1 both.1 i)),
   λ e. subst (λ (r : Payload). IsTrue (eq p.0 r.0 && (p.1 == r.1))) e (rw ((same p.0 p.0).1 refl, eq-eqb p.1 p.1 refl) refl),

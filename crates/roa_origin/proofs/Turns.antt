@@ -35,7 +35,8 @@ module _ {X : Type 0} (R : X → X → Ordering) (total : IsTotalOrder R) (ties 
     ]
 
     -- and than what stands behind x
-    pub passed_more : (k l : ℕ) (d e : X) → k < place → at + 1 ≤ l → l < length one → R (get_or other k d) (get_or one l e) ≡ Less
+    pub passed_more : (k l : ℕ) (d e : X) → k < place → at + 1 ≤ l → l < length one
+        → R (get_or other k d) (get_or one l e) ≡ Less
     passed_more k l d e low more inside = total.trans (get_or other k d) x (get_or one l e) (before k d low) (later l e (omega (arith, more)) inside)
 
     -- the other list has x at the place, or nowhere
@@ -54,7 +55,8 @@ module _ {X : Type 0} (R : X → X → Ordering) (total : IsTotalOrder R) (ties 
 
     module _ (so_far : (p : X) → Contains left p ↔ (Contains (take at one) p × ¬ Contains other p)) where
       -- x is kept
-      pub kept : ¬ Contains other x → (p : X) → Contains (left ++ x ∷ []) p ↔ (Contains (take (at + 1) one) p × ¬ Contains other p)
+      pub kept : ¬ Contains other x → (p : X)
+          → Contains (left ++ x ∷ []) p ↔ (Contains (take (at + 1) one) p × ¬ Contains other p)
       kept none p =
           rw next (
             (λ h. elim (Contains-push_cases left x p h) [

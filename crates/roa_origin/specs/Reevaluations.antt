@@ -16,7 +16,8 @@ pub record HasChanged (old new : List Payload) (route : FamilyPrefix) (asn : ℕ
 -- at this place stands such a route
 pub record IsChangedAt (old new : List Payload) (routes : List (FamilyPrefix × ℕ)) (place : ℕ) : Type 0 where
   pub within : place < length routes
-  pub changed : (d : FamilyPrefix × ℕ) → HasChanged old new (slice_index_or routes place d).0 (slice_index_or routes place d).1
+  pub changed : (d : FamilyPrefix × ℕ)
+      → HasChanged old new (slice_index_or routes place d).0 (slice_index_or routes place d).1
 
 -- the places of these routes, ascending
 pub record AreChanged (old new : List Payload) (routes : List (FamilyPrefix × ℕ)) (places : List ℕ) : Type 0 where

@@ -17,13 +17,16 @@ IsSentIn payloads p = Any (λ q. as_sent q ≡ as_sent p) payloads
 -- Record')
 pub record IsUnknownRecord (table withdrawn : List Payload) (n : ℕ) : Type 0 where
   pub within : n < length withdrawn
-  pub unknown : (d : Payload) → (¬ IsSentIn table (slice_index_or withdrawn n d)) ⊎ IsSentIn (take n withdrawn) (slice_index_or withdrawn n d)
+  pub unknown : (d : Payload)
+      → (¬ IsSentIn table (slice_index_or withdrawn n d)) ⊎ IsSentIn (take n withdrawn) (slice_index_or withdrawn n d)
 
 -- at this place a payload is announced that the table has and that isn't withdrawn, or that is announced before
 -- ('Duplicate Announcement Received')
 pub record IsDuplicateRecord (table announced withdrawn : List Payload) (n : ℕ) : Type 0 where
   pub within : n < length announced
-  pub duplicate : (d : Payload) → (IsSentIn table (slice_index_or announced n d) × ¬ IsSentIn withdrawn (slice_index_or announced n d)) ⊎ IsSentIn (take n announced) (slice_index_or announced n d)
+  pub duplicate : (d : Payload)
+      → (IsSentIn table (slice_index_or announced n d) × ¬ IsSentIn withdrawn (slice_index_or announced n d))
+      ⊎ IsSentIn (take n announced) (slice_index_or announced n d)
 
 -- P holds at a number, and at none before
 pub record IsFirst (P : ℕ → Type 0) (n : ℕ) : Type 0 where
@@ -63,8 +66,11 @@ change_place change = sent_place change.entry * 2 ^ 64 + change.place
 pub record AreChangesOf (payloads : List Payload) (changes : List Change) : Type 0 where
   pub lawful : All IsLawfulChange changes
   pub entries : IsPermutation (map as_sent payloads) (map (λ change. change.entry) changes)
-  pub at_place : All (λ change. (change.place < length payloads) × ((d : Payload) → as_sent (slice_index_or payloads change.place d) ≡ change.entry)) changes
-  pub each : (n : ℕ) (d : Payload) → n < length payloads → Any (λ change. (change.entry ≡ as_sent (slice_index_or payloads n d)) × (change.place ≡ n)) changes
+  pub at_place : All
+      (λ change. (change.place < length payloads)
+      × ((d : Payload) → as_sent (slice_index_or payloads change.place d) ≡ change.entry)) changes
+  pub each : (n : ℕ) (d : Payload) → n < length payloads
+      → Any (λ change. (change.entry ≡ as_sent (slice_index_or payloads n d)) × (change.place ≡ n)) changes
 
 -- changes in order
 pub record AreSorted (changes : List Change) : Type 0 where

@@ -2,7 +2,6 @@
 pub use Rattle.std.proofs.Common.{List, [], ap, append_assoc, arith, get_or, length, lit<, map, refl, subst, suc, sym, take, ℕ, ◌++◌, ◌+◌, ◌<◌, ◌∙◌, ◌∷◌, ◌≡◌}
 pub use Rattle.std.proofs.VecSteps.Shapes.{after}
 pub use Rattle.std.proofs.alloc.Calls.{Goes-blank, handle_tells}
-pub use Rattle.std.proofs.lemmas.List.{append-nil, get_or_default}
 pub use Rattle.std.proofs.option.Made.{Some-of, none_of}
 pub use Rattle.std.proofs.raw_atomic.Walks.{leaves, proved_at}
 pub use Rattle.std.specs.Box.Ownership.{box_owns}

@@ -64,7 +64,8 @@ no_origins_place (NoRoute first) = first.at
 
 -- octets of which P holds are told; or the status and the place of a reason for which N holds, or 2, and nothing is
 -- written
-abbrev pub IsAnsweredAt : (R : Type 0) → (List ℕ → Type 0) → (R → ℕ) → (R → ℕ) → (R → Type 0) → List ℕ → List ℕ → ℕ → ℕ → ℕ → Type 0
+abbrev pub IsAnsweredAt : (R : Type 0) → (List ℕ → Type 0) → (R → ℕ) → (R → ℕ) → (R → Type 0) → List ℕ → List ℕ → ℕ → ℕ
+    → ℕ → Type 0
 IsAnsweredAt R P status place_of N before after len place result =
     ((octets : List ℕ) × P octets × AreTold octets before after len result × (place ≡ 0))
     ⊎ (((reason : R) × N reason × (result ≡ status reason) × (place ≡ place_of reason) × (after ≡ before) × (len ≡ 0))

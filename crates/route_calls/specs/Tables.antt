@@ -33,7 +33,8 @@ IsNoTable handed (NoRoute first) = ⊥
 
 -- the handle of a table of which P holds is told; or the status and the place of a reason for which N holds, or 2, and
 -- the handle is null
-abbrev pub IsTableTold : (R : Type 0) → (List Payload → Type 0) → (R → ℕ) → (R → ℕ) → (R → Type 0) → Option (List Payload) → Ptr → ℕ → ℕ → Type 0
+abbrev pub IsTableTold : (R : Type 0) → (List Payload → Type 0) → (R → ℕ) → (R → ℕ) → (R → Type 0)
+    → Option (List Payload) → Ptr → ℕ → ℕ → Type 0
 IsTableTold R P status place_of N given at place result =
     ((table : List Payload) × P table × (given ≡ Some table) × InBlock at × (place ≡ 0) × (result ≡ 0))
     ⊎ (((reason : R) × N reason × (result ≡ status reason) × (place ≡ place_of reason) × (at ≡ null_ptr))
@@ -117,7 +118,8 @@ no_change_place (Withdrawn first) = first.at
 no_change_place (Fault fault) = fault_place fault
 
 -- the table after changes is told
-abbrev pub IsChangedTableTold : Ptr → List Payload → List Handed → List Handed → Option (List Payload) → Ptr → ℕ → ℕ → Type 0
+abbrev pub IsChangedTableTold : Ptr → List Payload → List Handed → List Handed → Option (List Payload) → Ptr → ℕ → ℕ
+    → Type 0
 IsChangedTableTold at table announced withdrawn given next place result =
     IsAsked at (IsTableTold NoChange (IsChangedTable table announced withdrawn) no_change_status no_change_place (IsNoChange table announced withdrawn) given next place result)
     ((next ≡ null_ptr) × (place ≡ 0)) result

@@ -50,7 +50,8 @@ IsMismatch route asn payload why =
     ⊎ ((why ≡ 3) × (¬ HasAs asn payload) × (¬ (route.len ≤ longest payload)))))
 
 pub record IsCovering (route : FamilyPrefix) (asn : ℕ) (payload : Payload) (told : Covering) : Type 0 where
-  pub payload_told : handed_of payload ≡ record { address = told.address; asn = told.asn; family = told.family; len = told.len; max_len = told.max_len }
+  pub payload_told : handed_of payload
+      ≡ record { address = told.address; asn = told.asn; family = told.family; len = told.len; max_len = told.max_len }
   pub why : IsMismatch route asn payload told.mismatch
 
 -- those of a table that cover a route, the longest prefix first, by one prefix the least AS number, and by one AS the

@@ -12,7 +12,8 @@ AreTold items before after len result =
     × (((result ≡ 1) × (after ≡ before) × (length before < len)) ⊎ ((result ≡ 0) × IsPut items before after))
 
 -- an answer is told of which P holds; or the status of a reason for which N holds, or 2, and nothing is written
-abbrev pub IsAnswered : {X : Type 0} → (R : Type 0) → (List X → Type 0) → (R → ℕ) → (R → Type 0) → List X → List X → ℕ → ℕ → Type 0
+abbrev pub IsAnswered : {X : Type 0} → (R : Type 0) → (List X → Type 0) → (R → ℕ) → (R → Type 0) → List X → List X → ℕ
+    → ℕ → Type 0
 IsAnswered {X} R P status N before after len result =
     ((items : List X) × P items × AreTold items before after len result)
     ⊎ (((reason : R) × N reason × (result ≡ status reason) × (after ≡ before) × (len ≡ 0))

@@ -3,13 +3,16 @@ use Rattle.rpki_addr.proofs.Common.{List, [], ap, append_assoc, arith, codes, de
 use Rattle.rpki_addr.proofs.AddressLemmas.{dotted_is}
 
 -- two, three and four bytes at the end
-pub two_at_end : (t₀ : List ℕ) {t₁ t₂ : List ℕ} (a b : ℕ) → t₁ ≡ t₀ ++ a ∷ [] → t₂ ≡ t₁ ++ b ∷ [] → t₂ ≡ t₀ ++ a ∷ b ∷ []
+pub two_at_end : (t₀ : List ℕ) {t₁ t₂ : List ℕ} (a b : ℕ) → t₁ ≡ t₀ ++ a ∷ [] → t₂ ≡ t₁ ++ b ∷ []
+    → t₂ ≡ t₀ ++ a ∷ b ∷ []
 two_at_end t₀ {t₁} {t₂} a b e f = f ∙ ap (λ t. t ++ b ∷ []) e ∙ append_assoc t₀ (a ∷ []) (b ∷ [])
 
-pub three_at_end : (t₀ : List ℕ) {t₁ t₂ t₃ : List ℕ} (a b c : ℕ) → t₁ ≡ t₀ ++ a ∷ [] → t₂ ≡ t₁ ++ b ∷ [] → t₃ ≡ t₂ ++ c ∷ [] → t₃ ≡ t₀ ++ a ∷ b ∷ c ∷ []
+pub three_at_end : (t₀ : List ℕ) {t₁ t₂ t₃ : List ℕ} (a b c : ℕ) → t₁ ≡ t₀ ++ a ∷ [] → t₂ ≡ t₁ ++ b ∷ []
+    → t₃ ≡ t₂ ++ c ∷ [] → t₃ ≡ t₀ ++ a ∷ b ∷ c ∷ []
 three_at_end t₀ {t₁} {t₂} {t₃} a b c e f g = g ∙ ap (λ t. t ++ c ∷ []) (two_at_end t₀ a b e f) ∙ append_assoc t₀ (a ∷ b ∷ []) (c ∷ [])
 
-pub four_at_end : (t₀ : List ℕ) {t₁ t₂ t₃ t₄ : List ℕ} (a b c d : ℕ) → t₁ ≡ t₀ ++ a ∷ [] → t₂ ≡ t₁ ++ b ∷ [] → t₃ ≡ t₂ ++ c ∷ [] → t₄ ≡ t₃ ++ d ∷ [] → t₄ ≡ t₀ ++ a ∷ b ∷ c ∷ d ∷ []
+pub four_at_end : (t₀ : List ℕ) {t₁ t₂ t₃ t₄ : List ℕ} (a b c d : ℕ) → t₁ ≡ t₀ ++ a ∷ [] → t₂ ≡ t₁ ++ b ∷ []
+    → t₃ ≡ t₂ ++ c ∷ [] → t₄ ≡ t₃ ++ d ∷ [] → t₄ ≡ t₀ ++ a ∷ b ∷ c ∷ d ∷ []
 four_at_end t₀ {t₁} {t₂} {t₃} {t₄} a b c d e f g h = h ∙ ap (λ t. t ++ d ∷ []) (three_at_end t₀ a b c e f g) ∙ append_assoc t₀ (a ∷ b ∷ c ∷ []) (d ∷ [])
 
 -- a number of two digits, and of three
@@ -23,11 +26,14 @@ decimal_three n low high =
     decimal_step n (omega (arith, low)) (omega (arith, high)) ∙ ap (λ t. t ++ (48 + n % 10) ∷ []) front
 
 -- a group of four digits, of three, of two and of one
-pub hex_four : (g : ℕ) → 0x1000 ≤ g → hex g ≡ digit_char (g / 0x1000) ∷ digit_char (g / 0x100 % 16) ∷ digit_char (g / 0x10 % 16) ∷ digit_char (g % 16) ∷ []
+pub hex_four : (g : ℕ) → 0x1000 ≤ g
+    → hex g
+    ≡ digit_char (g / 0x1000) ∷ digit_char (g / 0x100 % 16) ∷ digit_char (g / 0x10 % 16) ∷ digit_char (g % 16) ∷ []
 unfolding hex
 hex_four g low = rw (le-leb 0x1000 g low) refl
 
-pub hex_three : (g : ℕ) → g < 0x1000 → 0x100 ≤ g → hex g ≡ digit_char (g / 0x100 % 16) ∷ digit_char (g / 0x10 % 16) ∷ digit_char (g % 16) ∷ []
+pub hex_three : (g : ℕ) → g < 0x1000 → 0x100 ≤ g
+    → hex g ≡ digit_char (g / 0x100 % 16) ∷ digit_char (g / 0x10 % 16) ∷ digit_char (g % 16) ∷ []
 unfolding hex
 hex_three g high low = rw (lt-leb 0x1000 g high, le-leb 0x100 g low) refl
 
@@ -40,11 +46,14 @@ unfolding hex
 hex_one g high = rw (lt-leb 0x1000 g (omega (arith, high)), lt-leb 0x100 g (omega (arith, high)), lt-leb 0x10 g high) refl
 
 -- four octets with a dot after each but the last
-pub dotted_at_end : (t₀ : List ℕ) {t₁ t₂ t₃ t₄ t₅ t₆ t₇ : List ℕ} (a b c d : ℕ) → t₁ ≡ t₀ ++ decimal a → t₂ ≡ t₁ ++ 46 ∷ [] → t₃ ≡ t₂ ++ decimal b → t₄ ≡ t₃ ++ 46 ∷ [] → t₅ ≡ t₄ ++ decimal c → t₆ ≡ t₅ ++ 46 ∷ [] → t₇ ≡ t₆ ++ decimal d → t₇ ≡ t₀ ++ dotted (a ∷ b ∷ c ∷ d ∷ [])
+pub dotted_at_end : (t₀ : List ℕ) {t₁ t₂ t₃ t₄ t₅ t₆ t₇ : List ℕ} (a b c d : ℕ) → t₁ ≡ t₀ ++ decimal a
+    → t₂ ≡ t₁ ++ 46 ∷ [] → t₃ ≡ t₂ ++ decimal b → t₄ ≡ t₃ ++ 46 ∷ [] → t₅ ≡ t₄ ++ decimal c → t₆ ≡ t₅ ++ 46 ∷ []
+    → t₇ ≡ t₆ ++ decimal d → t₇ ≡ t₀ ++ dotted (a ∷ b ∷ c ∷ d ∷ [])
 dotted_at_end t₀ a b c d e₁ e₂ e₃ e₄ e₅ e₆ e₇ = rw (e₇, e₆, e₅, e₄, e₃, e₂, e₁, ← dotted_is a b c d) (simp append_assoc)
 
 -- groups, two colons, and groups
-pub shortened_at_end : (t₀ : List ℕ) {t₁ t₂ t₃ t₄ : List ℕ} (front back : List ℕ) → t₁ ≡ t₀ ++ front → t₂ ≡ t₁ ++ 58 ∷ [] → t₃ ≡ t₂ ++ 58 ∷ [] → t₄ ≡ t₃ ++ back → t₄ ≡ t₀ ++ (front ++ codes "::" ++ back)
+pub shortened_at_end : (t₀ : List ℕ) {t₁ t₂ t₃ t₄ : List ℕ} (front back : List ℕ) → t₁ ≡ t₀ ++ front
+    → t₂ ≡ t₁ ++ 58 ∷ [] → t₃ ≡ t₂ ++ 58 ∷ [] → t₄ ≡ t₃ ++ back → t₄ ≡ t₀ ++ (front ++ codes "::" ++ back)
 shortened_at_end t₀ front back e₁ e₂ e₃ e₄ = rw (e₄, e₃, e₂, e₁) (simp append_assoc)
 
 -- the text of groups, by the length of their longest run of zeros
@@ -52,6 +61,9 @@ pub hex_groups_plain : (groups : List ℕ) → (longest_zero_run groups).1 < 2 �
 unfolding hex_groups_text
 hex_groups_plain groups short = rw (le-ltb 1 (longest_zero_run groups).1 (omega (arith, short))) refl
 
-pub hex_groups_shortened : (groups : List ℕ) → 2 ≤ (longest_zero_run groups).1 → hex_groups_text groups ≡ groups_text (take (longest_zero_run groups).0 groups) ++ codes "::" ++ groups_text (drop ((longest_zero_run groups).0 + (longest_zero_run groups).1) groups)
+pub hex_groups_shortened : (groups : List ℕ) → 2 ≤ (longest_zero_run groups).1
+    → hex_groups_text groups
+    ≡ groups_text (take (longest_zero_run groups).0 groups) ++ codes "::"
+    ++ groups_text (drop ((longest_zero_run groups).0 + (longest_zero_run groups).1) groups)
 unfolding hex_groups_text
 hex_groups_shortened groups long = rw (lt-ltb 1 (longest_zero_run groups).1 (omega (arith, long))) refl

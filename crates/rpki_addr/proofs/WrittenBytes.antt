@@ -50,7 +50,8 @@ colons_written : All IsWrittenByte (codes "::")
 colons_written = All-from_recursion IsWrittenByte (58 ∷ 58 ∷ []) (inr (lit≤ tt, lit≤ tt), (inr (lit≤ tt, lit≤ tt), tt))
 
 -- groups
-groups_written : (b : Bool) (lead text segments : List ℕ) → All IsWrittenByte lead → IsGroupsAfter b lead text segments → All IsWrittenByte text
+groups_written : (b : Bool) (lead text segments : List ℕ) → All IsWrittenByte lead → IsGroupsAfter b lead text segments
+    → All IsWrittenByte text
 groups_written b lead text [] before h = subst (All IsWrittenByte) (sym h) (All-nil IsWrittenByte)
 groups_written b lead text (s ∷ segments) before (inl (group, rest, is, digits, more)) =
     let front = All-append IsWrittenByte lead group before (All-from_recursion IsWrittenByte group (digits_written group digits.0.0.1)) in
@@ -68,7 +69,8 @@ pub ipv6_written : (text : List ℕ) (n : ℕ) → IsIpv6Text text n → All IsW
 ipv6_written text n h = colon_hex_written text h.groups (IsGroupsText-colon_hex text h.groups h.written)
 
 -- a colon stands before the second of several groups
-before_second : (b : Bool) (rest : List ℕ) (s : ℕ) (segments : List ℕ) → IsGroupsAfter b (codes ":") rest (s ∷ segments) → Contains rest 58
+before_second : (b : Bool) (rest : List ℕ) (s : ℕ) (segments : List ℕ) → IsGroupsAfter b (codes ":") rest (s ∷ segments)
+    → Contains rest 58
 before_second b rest s segments (inl (group, more, is, _, _)) = subst (λ t. Contains t 58) (sym is) (0, omega arith, refl)
 before_second b rest s segments (inr (last, octets, here, is, _, _)) = subst (λ t. Contains t 58) (sym is) (0, omega arith, refl)
 

@@ -27,7 +27,8 @@ block_is : (b : ℕ × ℕ) → IsRun32 b → IsAsBlock (as_run_octets b) (new_a
 unfolding IsRun32
 block_is b is = grind (arith, block_written)
 
-blocks_are : (set : Runs) → AllByRecursion IsRun32 set → AllByRecursion (λ x. IsAsBlock (as_block_octets x) x) (map new_as_block set)
+blocks_are : (set : Runs) → AllByRecursion IsRun32 set
+    → AllByRecursion (λ x. IsAsBlock (as_block_octets x) x) (map new_as_block set)
 blocks_are [] all = tt
 blocks_are (b ∷ set) all = (block_is b all.0, blocks_are set all.1)
 
@@ -75,7 +76,8 @@ pub blocks_reading : IsReading (IsSequenceOf IsAsBlock) as_blocks_at
 blocks_reading = sequence_reading (λ (state : Unit {0}) (x : AsBlock). state) (λ state. IsAsBlock) (λ state. as_block_at) (λ state. as_block_reading) (λ state. as_block_has_octets) tt
 
 -- what is written of a set, in one SEQUENCE, is a SEQUENCE of its blocks
-pub sequence_blocks : (set : Runs) → IsAsSet set → IsSequenceOf IsAsBlock (as_sequence_octets set) (map new_as_block set)
+pub sequence_blocks : (set : Runs) → IsAsSet set
+    → IsSequenceOf IsAsBlock (as_sequence_octets set) (map new_as_block set)
 sequence_blocks set is =
     let all = runs_32 set is in
     let octets = blocks_octets set in
@@ -93,7 +95,8 @@ one_sequence a b x y r s (xs, is, says) (ys, also, tell) same =
     (one.0, IsRunsOf-unique (Covers as_bounds ys) x y (subst (λ (t : List AsBlock). IsRunsOfBlocks as_bounds t x) one.1 says) tell, one.2)
 
 -- sets that are written alike have the same numbers, and sets of the same numbers are written alike
-pub written_as_numbers : (a b : Runs) → IsAsSet a → IsAsSet b → (as_set_octets a ≡ as_set_octets b) ↔ ((n : ℕ) → Holds a n ↔ Holds b n)
+pub written_as_numbers : (a b : Runs) → IsAsSet a → IsAsSet b
+    → (as_set_octets a ≡ as_set_octets b) ↔ ((n : ℕ) → Holds a n ↔ Holds b n)
 written_as_numbers a b is also = (
   λ same n. (
       let all = runs_32 a is in
@@ -108,7 +111,8 @@ written_as_numbers a b is also = (
 -- ---- takes
 
 -- blocks say one set
-pub one_set : (blocks : List AsBlock) (a b : Runs) → IsRunsOfBlocks as_bounds blocks a → IsRunsOfBlocks as_bounds blocks b → a ≡ b
+pub one_set : (blocks : List AsBlock) (a b : Runs) → IsRunsOfBlocks as_bounds blocks a
+    → IsRunsOfBlocks as_bounds blocks b → a ≡ b
 one_set blocks a b says tell = IsRunsOf-unique (Covers as_bounds blocks) a b says tell
 
 -- ---- by the mode
@@ -125,18 +129,22 @@ blocks_modal =
     (sequence_modal greatest_of_as_block (λ before. IsAsBlock) IsNextBlock (λ before. as_block_at) next_block_by (λ before. as_block_reading) (λ before. as_block_has_octets) next_block_modal None)
 
 -- strictly, its blocks are a chain
-pub chain_read : (old : Cursor) (xs : List AsBlock) (rest : List ℕ) → IsBytes (left old) → is_strict old ≡ true → as_blocks_by (is_strict old) (left old) ≡ Ok (xs, rest) → IsChain as_bounds new_as_block xs
+pub chain_read : (old : Cursor) (xs : List AsBlock) (rest : List ℕ) → IsBytes (left old) → is_strict old ≡ true
+    → as_blocks_by (is_strict old) (left old) ≡ Ok (xs, rest) → IsChain as_bounds new_as_block xs
 chain_read old xs rest fits strict read =
     let found = blocks_modal.tight.takes (left old) xs rest fits (subst (λ mode. as_blocks_by mode (left old) ≡ Ok (xs, rest)) strict read) in
     taken_chain as_bounds new_as_block as_block_octets 4294967295 (λ b. Unit {0}) IsStrictBlock strict_blocks None found.1.0 xs found.1.2
 
 -- and it is what is written of a set
-pub sequence_spelled : (bytes : List ℕ) (set : Runs) → Refines (IsSequenceFrom greatest_of_as_block IsNextBlock None) (IsRunsOfBlocks as_bounds) bytes set → Spells IsAsSet as_sequence_octets bytes set
+pub sequence_spelled : (bytes : List ℕ) (set : Runs)
+    → Refines (IsSequenceFrom greatest_of_as_block IsNextBlock None) (IsRunsOfBlocks as_bounds) bytes set
+    → Spells IsAsSet as_sequence_octets bytes set
 sequence_spelled bytes set is =
     let spelled = set_spelled as_bounds new_as_block as_block_octets 4294967295 (λ b. Unit {0}) IsStrictBlock strict_blocks bytes set is in
     (spelled.0.0, spelled.1)
 
-pub spelled_sequence : (bytes : List ℕ) (set : Runs) → Spells IsAsSet as_sequence_octets bytes set → Refines (IsSequenceFrom greatest_of_as_block IsNextBlock None) (IsRunsOfBlocks as_bounds) bytes set
+pub spelled_sequence : (bytes : List ℕ) (set : Runs) → Spells IsAsSet as_sequence_octets bytes set
+    → Refines (IsSequenceFrom greatest_of_as_block IsNextBlock None) (IsRunsOfBlocks as_bounds) bytes set
 spelled_sequence bytes set (is, spelled) =
     spelled_set as_bounds new_as_block as_block_octets 4294967295 (λ b. Unit {0}) IsStrictBlock strict_blocks bytes set (set_octets_short set is) ((is, λ k d small. tt), spelled)
 
@@ -150,7 +158,8 @@ module _ (old new : Cursor) (result : Result Runs (OrMemory DerError)) (took : T
   reads_set fits lenient = reads_said_by (IsSequenceOf IsAsBlock) (IsRunsOfBlocks as_bounds) as_blocks_at old new result blocks_reading fits (exact_set lenient)
 
   -- strictly, of the octets that are written of it
-  pub reads_canonical_set : IsBytes (left old) → Strict old (ReadsOrMemory (Spells IsAsSet as_sequence_octets) (λ set. set) old new result)
+  pub reads_canonical_set : IsBytes (left old)
+      → Strict old (ReadsOrMemory (Spells IsAsSet as_sequence_octets) (λ set. set) old new result)
   reads_canonical_set fits strict =
       let S = IsSequenceFrom greatest_of_as_block IsNextBlock None in
       let read = reads_said_by S (IsRunsOfBlocks as_bounds) (as_blocks_by true) old new result blocks_modal.tight fits (subst (λ mode. TakesSaidOrMemory (IsRunsOfBlocks as_bounds) old new result (as_blocks_by mode)) strict took) in
@@ -161,7 +170,8 @@ module _ (old new : Cursor) (result : Result Runs (OrMemory DerError)) (took : T
   refused_set = refused_said_by (IsSequenceOf IsAsBlock) (IsSequenceFrom greatest_of_as_block IsNextBlock None) (IsRunsOfBlocks as_bounds) as_blocks_at as_blocks_by old new result blocks_reading blocks_modal took
 
   -- and what is written of a set is read as that set
-  pub reads_back_set : (set : Runs) (rest : List ℕ) → IsAsSet set → left old ≡ as_sequence_octets set ++ rest → MatchResult result (λ read. (read ≡ set) × (left new ≡ rest)) IsMemory
+  pub reads_back_set : (set : Runs) (rest : List ℕ) → IsAsSet set → left old ≡ as_sequence_octets set ++ rest
+      → MatchResult result (λ read. (read ≡ set) × (left new ≡ rest)) IsMemory
   reads_back_set set rest is at =
       let written = spelled_sequence (as_sequence_octets set) set (is, refl) in
       takes_said_by (IsSequenceFrom greatest_of_as_block IsNextBlock None) (IsRunsOfBlocks as_bounds) as_blocks_at as_blocks_by old new result blocks_modal one_set took (as_sequence_octets set) rest written.0 set written.1 written.2 at

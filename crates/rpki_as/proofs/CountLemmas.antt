@@ -4,12 +4,14 @@ use Rattle.std.proofs.lemmas.List.Concat.{flat_map-append}
 use Rattle.rpki_as.proofs.NumberLemmas.{IsListOf-runs, size_below}
 
 -- the numbers of the blocks, block by block, are those of the set
-pub IsListOf-blocks : (blocks : List AsBlock) → IsAsSet (map as_bounds blocks) → IsListOf (Holds (map as_bounds blocks)) (numbers_of blocks)
+pub IsListOf-blocks : (blocks : List AsBlock) → IsAsSet (map as_bounds blocks)
+    → IsListOf (Holds (map as_bounds blocks)) (numbers_of blocks)
 IsListOf-blocks blocks set =
     subst (IsListOf (Holds (map as_bounds blocks))) (flat_map-map numbers_within as_bounds blocks) (IsListOf-runs (map as_bounds blocks) set.are_runs.ordered set.are_runs.apart)
 
 -- so they are as many
-pub IsSizeOf-blocks : (blocks : List AsBlock) → IsAsSet (map as_bounds blocks) → IsSizeOf (Holds (map as_bounds blocks)) (length (numbers_of blocks))
+pub IsSizeOf-blocks : (blocks : List AsBlock) → IsAsSet (map as_bounds blocks)
+    → IsSizeOf (Holds (map as_bounds blocks)) (length (numbers_of blocks))
 IsSizeOf-blocks blocks set = record { list = numbers_of blocks; is_list = IsListOf-blocks blocks set; size = refl }
 
 -- no more than there are AS numbers
@@ -21,7 +23,9 @@ numbers_fit blocks set =
     omega (arith, within.1))
 
 -- the numbers of the blocks before a place, and of the block there
-count_more : (blocks : List AsBlock) (i : ℕ) (x : AsBlock) → i < length blocks → length (numbers_of (take (i + 1) blocks)) ≡ length (numbers_of (take i blocks)) + length (numbers_within (as_bounds (get_or blocks i x)))
+count_more : (blocks : List AsBlock) (i : ℕ) (x : AsBlock) → i < length blocks
+    → length (numbers_of (take (i + 1) blocks))
+    ≡ length (numbers_of (take i blocks)) + length (numbers_within (as_bounds (get_or blocks i x)))
 count_more blocks i x small =
     let more = take_more blocks i x small in
     rw (more, flat_map-append (λ y. numbers_within (as_bounds y)) (take i blocks) (get_or blocks i x ∷ [])) (
@@ -30,7 +34,9 @@ count_more blocks i x small =
     )
 
 -- one more block is counted
-pub count_step : (blocks : List AsBlock) (i count k : ℕ) (x : AsBlock) → i < length blocks → x ≡ get_or blocks i x → count ≡ length (numbers_of (take i blocks)) → k + (as_bounds x).0 ≡ (as_bounds x).1 + 1 → count + k ≡ length (numbers_of (take (i + 1) blocks))
+pub count_step : (blocks : List AsBlock) (i count k : ℕ) (x : AsBlock) → i < length blocks → x ≡ get_or blocks i x
+    → count ≡ length (numbers_of (take i blocks)) → k + (as_bounds x).0 ≡ (as_bounds x).1 + 1
+    → count + k ≡ length (numbers_of (take (i + 1) blocks))
 count_step blocks i count k x small here so_far is =
     let more = count_more blocks i x small in
     let long = length-numbers_within (as_bounds x) in
@@ -38,7 +44,9 @@ count_step blocks i count k x small here so_far is =
     omega arith
 
 -- and all of them are no more than there are AS numbers
-pub count_fits : (blocks : List AsBlock) (i count k : ℕ) (x : AsBlock) → IsAsSet (map as_bounds blocks) → i < length blocks → x ≡ get_or blocks i x → count ≡ length (numbers_of (take i blocks)) → k + (as_bounds x).0 ≡ (as_bounds x).1 + 1 → count + k ≤ 2 ^ 32
+pub count_fits : (blocks : List AsBlock) (i count k : ℕ) (x : AsBlock) → IsAsSet (map as_bounds blocks)
+    → i < length blocks → x ≡ get_or blocks i x → count ≡ length (numbers_of (take i blocks))
+    → k + (as_bounds x).0 ≡ (as_bounds x).1 + 1 → count + k ≤ 2 ^ 32
 count_fits blocks i count k x set small here so_far is =
     let all = numbers_fit blocks set in
     let part = length-flat_map-take (λ (y : AsBlock). numbers_within (as_bounds y)) blocks i x small in

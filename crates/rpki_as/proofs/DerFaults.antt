@@ -27,7 +27,8 @@ empty_inside content =
       (λ found. both.1 (begins_value 160 BeginsEmpty Fails (λ inner. (choice_empty inner).1) content found)),
     )
 
-pub empty_blocks : (bytes : List ℕ) → (as_choice_at bytes ≡ Err EmptyBlocks) ↔ BeginsWithValue 48 (BeginsWithValue 160 BeginsEmpty) bytes
+pub empty_blocks : (bytes : List ℕ)
+    → (as_choice_at bytes ≡ Err EmptyBlocks) ↔ BeginsWithValue 48 (BeginsWithValue 160 BeginsEmpty) bytes
 empty_blocks bytes =
     let both = enclosed_fails 48 (enclosed_at 160 choice) EmptyBlocks (omega arith) bytes in (
       (λ is. begins_value 48 FailsInside (BeginsWithValue 160 BeginsEmpty) (λ content. (empty_inside content).0) bytes (both.0 is)),
@@ -37,13 +38,15 @@ empty_blocks bytes =
 -- ---- what isn't canonical
 
 -- the faults of what a value encloses
-only_names : {X : Type 0} (n : ℕ) (reading : List ℕ → Result (X × List ℕ) DerError) → 7 ≤ n → ((bytes : List ℕ) → NamesTo n (reading bytes)) → (content : List ℕ) → NamesTo n (only reading content)
+only_names : {X : Type 0} (n : ℕ) (reading : List ℕ → Result (X × List ℕ) DerError) → 7 ≤ n
+    → ((bytes : List ℕ) → NamesTo n (reading bytes)) → (content : List ℕ) → NamesTo n (only reading content)
 unfolding only
 only_names n reading above names content =
     bind_names n (reading content) (λ x. ended x.1 >>= λ end. Ok x.0) (names content)
     (λ x. bind_names n (ended x.1) (λ end. Ok x.0) (names_more 7 n (ended x.1) above (ended_names x.1)) (λ end. tt))
 
-enclosed_names : {X : Type 0} (n tag : ℕ) (reading : List ℕ → Result (X × List ℕ) DerError) → 7 ≤ n → ((bytes : List ℕ) → NamesTo n (reading bytes)) → (bytes : List ℕ) → NamesTo n (enclosed_at tag reading bytes)
+enclosed_names : {X : Type 0} (n tag : ℕ) (reading : List ℕ → Result (X × List ℕ) DerError) → 7 ≤ n
+    → ((bytes : List ℕ) → NamesTo n (reading bytes)) → (bytes : List ℕ) → NamesTo n (enclosed_at tag reading bytes)
 enclosed_names n tag reading above names =
     refined_names n (tagged_at tag) (only reading) (λ bytes. names_more 3 n (tagged_at tag bytes) (omega (arith, above)) (tagged_names tag bytes)) (only_names n reading above names)
 

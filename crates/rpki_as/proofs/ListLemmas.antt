@@ -13,7 +13,9 @@ IsAsListText-one text a b h k =
     IsRunsOf-unique (Covers as_bounds h.blocks) a b h.covered (subst (λ blocks. IsRunsOfBlocks as_bounds blocks b) (sym same) k.covered)
 
 -- a reader that finds what the text has meets the whole contract
-pub list_answers : {V : Type 0} (view : V → Runs) (text : List ℕ) (r : Result V (OrMemory FromStrError)) → MatchResult r (λ v. IsAsListText text (view v)) (IfRefused (HasAsListFault text)) → AnswersOrMemory view (IsAsListText text) (HasAsListFault text) r
+pub list_answers : {V : Type 0} (view : V → Runs) (text : List ℕ) (r : Result V (OrMemory FromStrError))
+    → MatchResult r (λ v. IsAsListText text (view v)) (IfRefused (HasAsListFault text))
+    → AnswersOrMemory view (IsAsListText text) (HasAsListFault text) r
 list_answers view text r found =
     AnswersOrMemory-from_found view (IsAsListText text) (HasAsListFault text) (IsAsListText-one text)
     (λ set e h. first_fault_apart IsAsBlockText HasAsBlockFault block_apart (elements text) h.blocks e h.are_written)
@@ -24,7 +26,8 @@ number_shown : (bs : List ℕ) → AllByRecursion (IsInRange 48 90) bs → AllBy
 number_shown [] h = tt
 number_shown (b ∷ bs) h = ((omega (arith, h.0.0), omega (arith, h.0.1)), number_shown bs h.1)
 
-shown-append : (xs ys : List ℕ) → AllByRecursion IsShown xs → AllByRecursion IsShown ys → AllByRecursion IsShown (xs ++ ys)
+shown-append : (xs ys : List ℕ) → AllByRecursion IsShown xs → AllByRecursion IsShown ys
+    → AllByRecursion IsShown (xs ++ ys)
 shown-append [] ys h k = k
 shown-append (x ∷ xs) ys h k = (h.0, shown-append xs ys h.1 k)
 
@@ -32,7 +35,8 @@ asn_shown : (n : ℕ) → n < 2 ^ 32 → AllByRecursion IsShown (asn_text n)
 asn_shown n small = number_shown (asn_text n) (asn_text_bytes n small)
 
 -- and so can what is printed of a block
-block_element : (b : AsBlock) → (as_bounds b).0 ≤ (as_bounds b).1 → (as_bounds b).1 < 2 ^ 32 → IsElement (as_block_text b)
+block_element : (b : AsBlock) → (as_bounds b).0 ≤ (as_bounds b).1 → (as_bounds b).1 < 2 ^ 32
+    → IsElement (as_block_text b)
 block_element (Id n) ordered small = record { shown = asn_shown n small; some = omega arith }
 block_element (Range r) ordered small = record {
   shown = shown-append (asn_text r.min) (dash ∷ asn_text r.max) (asn_shown r.min (omega arith)) ((lit≤ tt, lit≤ tt), asn_shown r.max small);
@@ -61,7 +65,8 @@ blocks_of (b ∷ set) ordered below =
     }
 
 -- what is printed of a set writes it
-pub IsAsListText-as_list_text : (text : List ℕ) (set : Runs) → IsAsSet set → text ≡ as_list_text set → IsAsListText text set
+pub IsAsListText-as_list_text : (text : List ℕ) (set : Runs) → IsAsSet set → text ≡ as_list_text set
+    → IsAsListText text set
 IsAsListText-as_list_text text set is printed =
     let of = blocks_of set is.are_runs.ordered is.below in
     let parts : elements text ≡ map as_block_text (map new_as_block set) = rw printed (elements-joined (map as_block_text (map new_as_block set)) of.shown) in

@@ -5,7 +5,8 @@ use Rattle.rpki_chains.proofs.Chains.{Covers-nil}
 use Rattle.rpki_chains.proofs.Unique.{Covers-head, Covers-tail, Covers-cons_cases}
 
 -- two sets of which the one lies below the other: its list stands first
-IsListOf-append : (S U : ℕ → Type 0) (ms ns : List ℕ) → IsListOf S ms → IsListOf U ns → ((m n : ℕ) → S m → U n → m < n) → IsListOf (λ n. S n ⊎ U n) (ms ++ ns)
+IsListOf-append : (S U : ℕ → Type 0) (ms ns : List ℕ) → IsListOf S ms → IsListOf U ns → ((m n : ℕ) → S m → U n → m < n)
+    → IsListOf (λ n. S n ⊎ U n) (ms ++ ns)
 IsListOf-append S U ms ns h k apart = record {
   members = λ n. (
     λ c. ⊎_elim (λ m. inl ((h.members n).0 m)) (λ m. inr ((k.members n).0 m)) (Contains-append_cases ms ns n c),
@@ -41,7 +42,8 @@ IsListOf-same S U ns same h = record {
 }
 
 -- the numbers of runs, run by run
-pub IsListOf-runs : (runs : Runs) → All (λ b. b.0 ≤ b.1) runs → AllPairs (λ b c. b.1 + 1 < c.0) runs → IsListOf (Holds runs) (flat_map numbers_within runs)
+pub IsListOf-runs : (runs : Runs) → All (λ b. b.0 ≤ b.1) runs → AllPairs (λ b c. b.1 + 1 < c.0) runs
+    → IsListOf (Holds runs) (flat_map numbers_within runs)
 IsListOf-runs [] ordered apart = record {
   members = λ n. (λ (i, small, here). absurd (omega arith), λ held. absurd (Covers-nil (λ b. b) n held));
   ascending = λ i j d below small. absurd (omega arith);
@@ -79,6 +81,8 @@ within_some : (x : AsBlock) → (as_bounds x).0 ≤ (as_bounds x).1 → 0 < leng
 within_some x ordered = let long = length-numbers_within (as_bounds x) in omega arith
 
 -- a step at the numbers of a block is one at those of it and of later ones
-pub numbers_step : (o : Option ℕ) (old new rest : List ℕ) (x : AsBlock) → (as_bounds x).0 ≤ (as_bounds x).1 → YieldsFirst (λ (ns : List ℕ). ns) (numbers_within (as_bounds x)) o new → old ≡ numbers_within (as_bounds x) ++ rest → YieldsFirst (λ (ns : List ℕ). ns) old o (new ++ rest)
+pub numbers_step : (o : Option ℕ) (old new rest : List ℕ) (x : AsBlock) → (as_bounds x).0 ≤ (as_bounds x).1
+    → YieldsFirst (λ (ns : List ℕ). ns) (numbers_within (as_bounds x)) o new
+    → old ≡ numbers_within (as_bounds x) ++ rest → YieldsFirst (λ (ns : List ℕ). ns) old o (new ++ rest)
 numbers_step None old new rest x ordered none is = absurd (let some = within_some x ordered in let empty = ap length none.0 in omega arith)
 numbers_step (Some n) old new rest x ordered first is = is ∙ ap (λ (ns : List ℕ). ns ++ rest) first

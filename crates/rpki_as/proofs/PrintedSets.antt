@@ -6,7 +6,8 @@ use Rattle.rpki_as.proofs.ListLemmas.{IsAsListText-one, IsAsListText-as_list_tex
 pub set_written : (set : Runs) → IsAsSet set → IsAsListText (as_list_text set) set
 set_written set is = IsAsListText-as_list_text (as_list_text set) set is refl
 
-pub printed_as_numbers : (a b : Runs) → IsAsSet a → IsAsSet b → (as_list_text a ≡ as_list_text b) ↔ ((n : ℕ) → Holds a n ↔ Holds b n)
+pub printed_as_numbers : (a b : Runs) → IsAsSet a → IsAsSet b
+    → (as_list_text a ≡ as_list_text b) ↔ ((n : ℕ) → Holds a n ↔ Holds b n)
 printed_as_numbers a b is also = (
   λ printed n. (
       let written = subst (λ text. IsAsListText text a) printed (set_written a is) in

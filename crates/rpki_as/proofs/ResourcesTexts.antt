@@ -32,13 +32,16 @@ module _ (text : List ℕ) where
   claim_apart (Blocks x) e h f = list_apart x e h.1 f.1
 
   -- a reader that finds what the text has meets the whole contract
-  pub resources_answers : (r : Result Claim (OrMemory FromStrError)) → MatchResult r (IsAsResourcesText text) (IfRefused (HasAsResourcesFault text)) → AnswersOrMemory (λ claim. claim) (IsAsResourcesText text) (HasAsResourcesFault text) r
+  pub resources_answers : (r : Result Claim (OrMemory FromStrError))
+      → MatchResult r (IsAsResourcesText text) (IfRefused (HasAsResourcesFault text))
+      → AnswersOrMemory (λ claim. claim) (IsAsResourcesText text) (HasAsResourcesFault text) r
   resources_answers r found =
       AnswersOrMemory-from_found (λ (claim : Claim). claim) (IsAsResourcesText text) (HasAsResourcesFault text) one_claim claim_apart
       (λ d e f g. same_first_fault IsAsBlockText HasAsBlockFault block_apart same_block_fault (elements text) d e f.1 g.1) r found
 
   -- the fault of a list is that of a text which isn't `inherit`
-  pub list_fault : ¬ IsInherit text → (d : OrMemory FromStrError) → IfRefused (HasAsListFault text) d → IfRefused (HasAsResourcesFault text) d
+  pub list_fault : ¬ IsInherit text → (d : OrMemory FromStrError) → IfRefused (HasAsListFault text) d
+      → IfRefused (HasAsResourcesFault text) d
   list_fault other (Refused e) f = (other, f)
   list_fault other (Memory e) f = tt
 
@@ -69,7 +72,8 @@ not_inherit (run ∷ runs) text printed =
     begins_otherwise text (ap (λ t. slice_index t 0) printed ∙ first_is (new_as_block run) more)
 
 -- what is printed of resources writes them
-pub printed_resources : (text : List ℕ) (claim : Claim) → IsClaim IsAsSet claim → text ≡ as_resources_text claim → IsAsResourcesText text claim
+pub printed_resources : (text : List ℕ) (claim : Claim) → IsClaim IsAsSet claim → text ≡ as_resources_text claim
+    → IsAsResourcesText text claim
 printed_resources text Missing is printed = (not_inherit [] text printed, IsAsListText-as_list_text text [] (empty_set 0 4294967295) printed)
 printed_resources text Inherit is printed = printed
 printed_resources text (Blocks set) is printed = (not_inherit set text printed, IsAsListText-as_list_text text set is.0 printed, is.1)

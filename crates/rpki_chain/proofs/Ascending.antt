@@ -14,8 +14,9 @@ beyond_more None a b n first ordered second = tt
 beyond_more (Some greatest) a b n first ordered second = omega (arith, first, ordered, second)
 
 -- what is listed in such lists as were read is as what was read
-pub listed_are : {X Y : Type 0} (items : Y → List X) (P : List X → Type 0) (read : ResourcesChoice (List X)) (listed : ResourcesChoice Y)
-    → ListsBy (λ xs l. items l ≡ xs) read listed → MatchChoice read ⊤ ⊤ P → MatchChoice listed ⊤ ⊤ (λ l. P (items l))
+pub listed_are : {X Y : Type 0} (items : Y → List X) (P : List X → Type 0) (read : ResourcesChoice (List X))
+    (listed : ResourcesChoice Y) → ListsBy (λ xs l. items l ≡ xs) read listed → MatchChoice read ⊤ ⊤ P
+    → MatchChoice listed ⊤ ⊤ (λ l. P (items l))
 listed_are items P Missing listed e is = subst (λ l. MatchChoice l ⊤ ⊤ (λ m. P (items m))) (sym e) tt
 listed_are items P Inherit listed e is = subst (λ l. MatchChoice l ⊤ ⊤ (λ m. P (items m))) (sym e) tt
 listed_are items P (Blocks xs) listed (l, same, e) is = subst (λ m. MatchChoice m ⊤ ⊤ (λ k. P (items k))) (sym e) (subst P (sym same) is)
@@ -51,7 +52,8 @@ module _ {B : Type 0} (f : B → ℕ × ℕ) (form : ℕ × ℕ → B) (octets :
     beyond : All (λ x. IsBeyond before (f x).0) xs
     spelled : bytes ≡ octets_of_all octets xs
 
-  are_taken : (before : Option ℕ) (bytes : List ℕ) (xs : List B) → EachFrom Next Behind before bytes xs → AreTaken before bytes xs
+  are_taken : (before : Option ℕ) (bytes : List ℕ) (xs : List B) → EachFrom Next Behind before bytes xs
+      → AreTaken before bytes xs
   are_taken before bytes [] none = record { chain = record { chain = IsChain-nil f form; above = All-nil _; below = All-nil _ }; fit = All-nil _; beyond = All-nil _; spelled = none }
   are_taken before bytes (x ∷ xs) (rest, (front, (g, first), split), more) =
       let then = are_taken (Some (f x).1) rest xs more in
@@ -72,16 +74,19 @@ module _ {B : Type 0} (f : B → ℕ × ℕ) (form : ℕ × ℕ → B) (octets :
       }
 
   -- so they are a chain, and so is what resources list
-  pub taken_chain : (before : Option ℕ) (bytes : List ℕ) (xs : List B) → EachFrom Next Behind before bytes xs → IsChain f form xs
+  pub taken_chain : (before : Option ℕ) (bytes : List ℕ) (xs : List B) → EachFrom Next Behind before bytes xs
+      → IsChain f form xs
   taken_chain before bytes xs each = (are_taken before bytes xs each).chain.chain
 
-  pub listed_chain : (bytes : List ℕ) (choice : ResourcesChoice (List B)) → IsChoiceOf (IsSequenceFrom Next Behind None) bytes choice → MatchChoice choice ⊤ ⊤ (IsChain f form)
+  pub listed_chain : (bytes : List ℕ) (choice : ResourcesChoice (List B))
+      → IsChoiceOf (IsSequenceFrom Next Behind None) bytes choice → MatchChoice choice ⊤ ⊤ (IsChain f form)
   listed_chain bytes Missing is = tt
   listed_chain bytes Inherit is = tt
   listed_chain bytes (Blocks xs) ((content, at, each), some) = taken_chain None content xs each
 
   -- what is written of runs is taken as their blocks
-  taken : (before : Option ℕ) (set : Runs) → All (λ b. b.0 ≤ b.1) set → All (λ b. b.1 ≤ last) set → All Fits set → AllPairs (λ b c. b.1 + 1 < c.0) set → All (λ b. IsBeyond before b.0) set
+  taken : (before : Option ℕ) (set : Runs) → All (λ b. b.0 ≤ b.1) set → All (λ b. b.1 ≤ last) set → All Fits set
+      → AllPairs (λ b c. b.1 + 1 < c.0) set → All (λ b. IsBeyond before b.0) set
       → EachFrom Next Behind before (octets_of_all (λ b. octets (form b)) set) (map form set)
   taken before [] ordered below fit apart beyond = refl
   taken before (b ∷ set) ordered below fit apart beyond =
@@ -98,7 +103,9 @@ module _ {B : Type 0} (f : B → ℕ × ℕ) (form : ℕ × ℕ → B) (octets :
   IsFitting set = IsBlockSet 0 last set × All Fits set
 
   -- a SEQUENCE of such blocks is what is written of a set
-  pub set_spelled : (bytes : List ℕ) (set : Runs) → Refines (IsSequenceFrom Next Behind None) (IsRunsOfBlocks f) bytes set → Spells IsFitting (sequence_octets (λ b. octets (form b))) bytes set
+  pub set_spelled : (bytes : List ℕ) (set : Runs)
+      → Refines (IsSequenceFrom Next Behind None) (IsRunsOfBlocks f) bytes set
+      → Spells IsFitting (sequence_octets (λ b. octets (form b))) bytes set
   set_spelled bytes set (xs, (content, at, each), says) =
       let are = are_taken None content xs each in
       let runs : Runs = map f xs in
@@ -112,7 +119,8 @@ module _ {B : Type 0} (f : B → ℕ × ℕ) (form : ℕ × ℕ → B) (octets :
 
   -- and what is written of a set, if it isn't too long, is such a SEQUENCE
   pub spelled_set : (bytes : List ℕ) (set : Runs) → length (octets_of_all (λ b. octets (form b)) set) < 2 ^ 64
-      → Spells IsFitting (sequence_octets (λ b. octets (form b))) bytes set → Refines (IsSequenceFrom Next Behind None) (IsRunsOfBlocks f) bytes set
+      → Spells IsFitting (sequence_octets (λ b. octets (form b))) bytes set
+      → Refines (IsSequenceFrom Next Behind None) (IsRunsOfBlocks f) bytes set
   spelled_set bytes set short ((own, fit), spelled) =
       let content = octets_of_all (λ b. octets (form b)) set in (
         map form set,

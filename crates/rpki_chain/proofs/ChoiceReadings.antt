@@ -8,7 +8,8 @@ use Rattle.rpki_base.proofs.DerModes.{by_tag_tightens}
 use Rattle.rpki_base.proofs.DerReadings.{by_tag_reading, mapped_check}
 
 -- blocks of which the first has a number have numbers
-pub has_numbers : {B : Type 0} (f : B → ℕ × ℕ) (xs : List B) (x : B) (set : Runs) → slice_get xs 0 ≡ Some x → (f x).0 ≤ (f x).1 → IsRunsOfBlocks f xs set → set ≢ []
+pub has_numbers : {B : Type 0} (f : B → ℕ × ℕ) (xs : List B) (x : B) (set : Runs) → slice_get xs 0 ≡ Some x
+    → (f x).0 ≤ (f x).1 → IsRunsOfBlocks f xs set → set ≢ []
 has_numbers f [] x set at ordered is none = absurd cc
 has_numbers {B} f (y ∷ ys) x set at ordered is none =
     let first : y ≡ x = cc in
@@ -56,14 +57,16 @@ module _ {X : Type 0} (Says : List ℕ → List X → Type 0) (values : List ℕ
   Sequences : List ℕ → List X → Type 0
   Sequences = Refines IsSequence Says
 
-  to : (bytes : List ℕ) (choice : ResourcesChoice (List X)) → IsBytes bytes → Refines IsTlv (SaysByTag 5 SaysInherit SaysListed) bytes choice → IsChoiceOf Sequences bytes choice
+  to : (bytes : List ℕ) (choice : ResourcesChoice (List X)) → IsBytes bytes
+      → Refines IsTlv (SaysByTag 5 SaysInherit SaysListed) bytes choice → IsChoiceOf Sequences bytes choice
   unfolding Sequences SaysInherit SaysListed SaysSome
   to bytes choice fits (v, is, inl (t, (u, none, e))) =
       subst (IsChoiceOf Sequences bytes) (sym e) (subst (λ (content : List ℕ). IsValue bytes 5 content) none (subst (λ (tag : ℕ). IsValue bytes tag v.content) t is))
   to bytes choice fits (v, is, inr (t, (xs, (says, some), e))) =
       subst (IsChoiceOf Sequences bytes) (sym e) ((v.content, subst (λ (tag : ℕ). IsValue bytes tag v.content) t is, says), some)
 
-  from : (bytes : List ℕ) (choice : ResourcesChoice (List X)) → IsChoiceOf Sequences bytes choice → Refines IsTlv (SaysByTag 5 SaysInherit SaysListed) bytes choice
+  from : (bytes : List ℕ) (choice : ResourcesChoice (List X)) → IsChoiceOf Sequences bytes choice
+      → Refines IsTlv (SaysByTag 5 SaysInherit SaysListed) bytes choice
   unfolding Sequences SaysInherit SaysListed SaysSome
   from bytes Missing is = absurd is
   from bytes Inherit is = (record { tag = 5; content = [] }, is, inl (refl, (tt, refl, refl)))
@@ -79,15 +82,17 @@ module _ {X : Type 0} (Says : List ℕ → List X → Type 0) (values : List ℕ
       (mapped_check IsBytes SaysSome (some_in values) Blocks some_check))
 
 -- the same by the mode
-pub choice_modal : {X : Type 0} (Says : List ℕ → List X → Type 0) (values : List ℕ → Result (List X) DerError) (by : Bool → List ℕ → Result (List X) DerError)
-    → IsCheck IsBytes Says (by true) → ((strict : Bool) (content : List ℕ) → Tightens strict (by strict content) (values content))
+pub choice_modal : {X : Type 0} (Says : List ℕ → List X → Type 0) (values : List ℕ → Result (List X) DerError)
+    (by : Bool → List ℕ → Result (List X) DerError) → IsCheck IsBytes Says (by true)
+    → ((strict : Bool) (content : List ℕ) → Tightens strict (by strict content) (values content))
     → IsModal (IsChoiceOf (Refines IsSequence Says)) (choice_at values) (λ strict. choice_at (by strict))
 choice_modal {X} Says values by check tight = record {
   tight = choice_reading Says (by true) check;
   tightens = λ strict bytes. looked_tightens strict value_at (choice_in (by strict)) (choice_in values) (λ v. by_tag_tightens strict 5 inherited_in (listed_in (by strict)) inherited_in (listed_in values) (λ content. inl refl) (listed strict) v) bytes;
 }
   where
-    listed : (strict : Bool) (content : List ℕ) → Tightens strict (listed_in (by strict) content) (listed_in values content)
+    listed : (strict : Bool) (content : List ℕ)
+        → Tightens strict (listed_in (by strict) content) (listed_in values content)
     listed strict content =
         bind_tightens strict (some_in (by strict) content) (some_in values content) (λ xs. Ok (Blocks xs)) (λ xs. Ok (Blocks xs))
         (bind_tightens strict (by strict content) (values content) some_of some_of (tight strict content) (λ xs. inl refl)) (λ xs. inl refl)

@@ -38,7 +38,8 @@ empty_set first last = record {
 
 module _ {X Y : Type 0} (C : X → Y → Type 0) where
   -- what lists by a rule that says one thing at most is one
-  pub lists_one : ((x : X) (a b : Y) → C x a → C x b → a ≡ b) → (choice : ResourcesChoice X) (a b : ResourcesChoice Y) → ListsBy C choice a → ListsBy C choice b → a ≡ b
+  pub lists_one : ((x : X) (a b : Y) → C x a → C x b → a ≡ b) → (choice : ResourcesChoice X) (a b : ResourcesChoice Y)
+      → ListsBy C choice a → ListsBy C choice b → a ≡ b
   lists_one one Missing a b p q = p ∙ sym q
   lists_one one Inherit a b p q = p ∙ sym q
   lists_one one (Blocks x) a b (y, says, is) (z, tells, also) = is ∙ ap (λ (w : Y). Blocks w) (one x y z says tells) ∙ sym also

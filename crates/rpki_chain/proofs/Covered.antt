@@ -12,24 +12,28 @@ Leaves-decided Inherit n = inl tt
 Leaves-decided (Blocks runs) n = Holds-decided runs n
 
 -- a call that wants memory answers that it isn't so, and tells nothing else
-pub wants_memory : {X E : Type 0} (C : Type 0) (Q : E → Type 0) (r : Result X (OrMemory E)) → (C → ⊥) → IsErrAnd r IsMemory → (IsOk r ↔ C) × IfErr r (IfRefused Q)
+pub wants_memory : {X E : Type 0} (C : Type 0) (Q : E → Type 0) (r : Result X (OrMemory E)) → (C → ⊥)
+    → IsErrAnd r IsMemory → (IsOk r ↔ C) × IfErr r (IfRefused Q)
 wants_memory C Q (Ok x) none h = absurd h
 wants_memory C Q (Err (Refused e)) none h = absurd h
 wants_memory C Q (Err (Memory e)) none h = ((λ ok. absurd (false≢true ok), λ c. absurd (none c)), tt)
 
 module _ (set : Runs) (issuer : Claim) where
   -- a missing claim covers the empty set alone
-  pub covered-missing : (P : Type 0) → issuer ≡ Missing → IsRunsOf (Holds set) set → P ↔ (set ≡ []) → P ↔ IsCovered (Holds set) issuer
+  pub covered-missing : (P : Type 0) → issuer ≡ Missing → IsRunsOf (Holds set) set → P ↔ (set ≡ [])
+      → P ↔ IsCovered (Holds set) issuer
   covered-missing P is runs h = subst (λ (c : Claim). P ↔ IsCovered (Holds set) c) (sym is) (
     λ p n held. none_held set n (h.0 p) held,
     λ none. h.1 (empty_set (Holds set) set runs none),
   )
 
-  pub uncovered-listed : (listed rest : Runs) → issuer ≡ Blocks listed → IsDifference set listed rest → IsRunsOf (λ n. Holds set n × (Leaves issuer n → ⊥)) rest
+  pub uncovered-listed : (listed rest : Runs) → issuer ≡ Blocks listed → IsDifference set listed rest
+      → IsRunsOf (λ n. Holds set n × (Leaves issuer n → ⊥)) rest
   uncovered-listed listed rest is h = subst (λ (c : Claim). IsRunsOf (λ n. Holds set n × (Leaves c n → ⊥)) rest) (sym is) h
 
   -- what isn't covered leaves something
-  pub uncovered : (rest : Runs) → IsRunsOf (λ n. Holds set n × (Leaves issuer n → ⊥)) rest → (IsCovered (Holds set) issuer → ⊥) → IsUncovered (Holds set) issuer rest
+  pub uncovered : (rest : Runs) → IsRunsOf (λ n. Holds set n × (Leaves issuer n → ⊥)) rest
+      → (IsCovered (Holds set) issuer → ⊥) → IsUncovered (Holds set) issuer rest
   uncovered rest runs over = record {
     runs = runs;
     some = λ none. over (λ n held. ⊎_elim (λ l. l)
@@ -38,7 +42,9 @@ module _ (set : Runs) (issuer : Claim) where
   }
 
   -- what isn't listed is what a claim that lists a set is refused by
-  pub refused-listed : {X : Type 0} (listed : Runs) (r : Result X (OrMemory Runs)) → issuer ≡ Blocks listed → IsOk r ↔ ((n : ℕ) → Holds set n → Holds listed n) → IfErr r (IfRefused (IsDifference set listed)) → IfErr r (IfRefused (IsUncovered (Holds set) issuer))
+  pub refused-listed : {X : Type 0} (listed : Runs) (r : Result X (OrMemory Runs)) → issuer ≡ Blocks listed
+      → IsOk r ↔ ((n : ℕ) → Holds set n → Holds listed n) → IfErr r (IfRefused (IsDifference set listed))
+      → IfErr r (IfRefused (IsUncovered (Holds set) issuer))
   refused-listed listed (Ok x) is ok h = tt
   refused-listed listed (Err (Memory e)) is ok h = tt
   refused-listed listed (Err (Refused rest)) is ok h =

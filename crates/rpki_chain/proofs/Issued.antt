@@ -4,13 +4,15 @@ use Rattle.std.specs.Prelude.{Result, Ok}
 use Rattle.rpki_chain.proofs.RunLists.{Holds-decided, IsRunsOf-same, IsRunsOf-unique}
 
 -- a call that wants memory answers neither
-pub wants_memory : {X E : Type 0} (P : X → Type 0) (Q : E → Type 0) (r : Result X (OrMemory E)) → IsErrAnd r IsMemory → MatchResult r P (IfRefused Q)
+pub wants_memory : {X E : Type 0} (P : X → Type 0) (Q : E → Type 0) (r : Result X (OrMemory E)) → IsErrAnd r IsMemory
+    → MatchResult r P (IfRefused Q)
 wants_memory P Q (Ok x) h = absurd h
 wants_memory P Q (Err (Refused e)) h = absurd h
 wants_memory P Q (Err (Memory e)) h = tt
 
 -- and a refusal is handed on as it is
-pub handed_on : {T E : Type 0} (P : T → Type 0) (Q : E → Type 0) (refusal : OrMemory E) (r : Result T (OrMemory E)) → IsErrAnd r (λ e. e ≡ refusal) → IfRefused Q refusal → MatchResult r P (IfRefused Q)
+pub handed_on : {T E : Type 0} (P : T → Type 0) (Q : E → Type 0) (refusal : OrMemory E) (r : Result T (OrMemory E))
+    → IsErrAnd r (λ e. e ≡ refusal) → IfRefused Q refusal → MatchResult r P (IfRefused Q)
 handed_on P Q refusal (Ok value) is h = absurd is
 handed_on P Q refusal (Err error) is h = subst (IfRefused Q) (sym is) h
 
@@ -33,36 +35,42 @@ inside_by_none a b rest h none n held = ⊎_elim
     (Holds-decided b n)
 
 -- a claim that lists no number exceeds nothing
-pub not_exceeded : (S : ℕ → Type 0) (claim : Claim) (mode : Overclaim) (n : ℕ) → (Lists claim n → ⊥) → Exceeds S claim mode n → ⊥
+pub not_exceeded : (S : ℕ → Type 0) (claim : Claim) (mode : Overclaim) (n : ℕ) → (Lists claim n → ⊥)
+    → Exceeds S claim mode n → ⊥
 not_exceeded S claim Refuse n none e = none e.0
 not_exceeded S claim Trim n none e = e
 
 -- nor does one that lists numbers of the issuer
-not_exceeded_inside : (S : ℕ → Type 0) (claim : Claim) (mode : Overclaim) (n : ℕ) → (Lists claim n → S n) → Exceeds S claim mode n → ⊥
+not_exceeded_inside : (S : ℕ → Type 0) (claim : Claim) (mode : Overclaim) (n : ℕ) → (Lists claim n → S n)
+    → Exceeds S claim mode n → ⊥
 not_exceeded_inside S claim Refuse n inside e = e.1 (inside e.0)
 not_exceeded_inside S claim Trim n inside e = e
 
 module _ (set : Runs) (claim : Claim) (mode : Overclaim) where
-  pub issued-inherit : (issued : Runs) → claim ≡ Inherit → issued ≡ set → IsRunsOf (Holds set) set → IsIssued (Holds set) claim mode issued
+  pub issued-inherit : (issued : Runs) → claim ≡ Inherit → issued ≡ set → IsRunsOf (Holds set) set
+      → IsIssued (Holds set) claim mode issued
   issued-inherit issued is same runs = subst (λ (c : Claim). IsIssued (Holds set) c mode issued) (sym is) (record {
     runs = subst (λ (r : Runs). IsRunsOf (λ n. Holds set n × Leaves Inherit n) r) (sym same) (IsRunsOf-same set _ _ (λ n. (λ held. (held, tt), λ x. x.0)) runs);
     accepted = λ n. not_exceeded (Holds set) Inherit mode n (λ none. none);
   })
 
   module _ (listed : Runs) (is : claim ≡ Blocks listed) where
-    pub issued-inside : (issued : Runs) → ((n : ℕ) → Holds listed n → Holds set n) → issued ≡ listed → IsRunsOf (Holds listed) listed → IsIssued (Holds set) claim mode issued
+    pub issued-inside : (issued : Runs) → ((n : ℕ) → Holds listed n → Holds set n) → issued ≡ listed
+        → IsRunsOf (Holds listed) listed → IsIssued (Holds set) claim mode issued
     issued-inside issued inside same runs = subst (λ (c : Claim). IsIssued (Holds set) c mode issued) (sym is) (record {
       runs = subst (λ (r : Runs). IsRunsOf (λ n. Holds set n × Holds listed n) r) (sym same) (IsRunsOf-same listed _ _ (λ n. (λ held. (inside n held, held), λ x. x.1)) runs);
       accepted = λ n. not_exceeded_inside (Holds set) (Blocks listed) mode n (inside n);
     })
 
-    pub issued-trim : (issued : Runs) → mode ≡ Trim → IsIntersection listed set issued → IsIssued (Holds set) claim mode issued
+    pub issued-trim : (issued : Runs) → mode ≡ Trim → IsIntersection listed set issued
+        → IsIssued (Holds set) claim mode issued
     issued-trim issued trim both = subst (λ (c : Claim). IsIssued (Holds set) c mode issued) (sym is) (record {
       runs = IsRunsOf-same issued _ _ (λ n. (λ (a, b). (b, a), λ (a, b). (b, a))) both;
       accepted = λ n e. subst (λ (m : Overclaim). Exceeds (Holds set) (Blocks listed) m n) trim e;
     })
 
-    excess-refuse : (excess : Runs) → mode ≡ Refuse → IsDifference listed set excess → (((n : ℕ) → Holds listed n → Holds set n) → ⊥) → IsExcess (Holds set) claim mode excess
+    excess-refuse : (excess : Runs) → mode ≡ Refuse → IsDifference listed set excess
+        → (((n : ℕ) → Holds listed n → Holds set n) → ⊥) → IsExcess (Holds set) claim mode excess
     excess-refuse excess refuse over not_inside =
         let done : IsExcess (Holds set) (Blocks listed) Refuse excess = record {
           runs = over;
@@ -70,7 +78,8 @@ module _ (set : Runs) (claim : Claim) (mode : Overclaim) where
         } in
         subst (λ (c : Claim). IsExcess (Holds set) c mode excess) (sym is) (subst (λ (m : Overclaim). IsExcess (Holds set) (Blocks listed) m excess) (sym refuse) done)
 
-    pub excess-refused : (refusal : OrMemory Runs) → mode ≡ Refuse → IfRefused (IsDifference listed set) refusal → (((n : ℕ) → Holds listed n → Holds set n) → ⊥) → IfRefused (IsExcess (Holds set) claim mode) refusal
+    pub excess-refused : (refusal : OrMemory Runs) → mode ≡ Refuse → IfRefused (IsDifference listed set) refusal
+        → (((n : ℕ) → Holds listed n → Holds set n) → ⊥) → IfRefused (IsExcess (Holds set) claim mode) refusal
     excess-refused (Refused excess) refuse over not_inside = excess-refuse excess refuse over not_inside
     excess-refused (Memory error) refuse over not_inside = tt
 

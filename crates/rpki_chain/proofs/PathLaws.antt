@@ -24,7 +24,8 @@ module _ (S : ℕ → Type 0) (claim : Claim) (mode : Overclaim) where
     λ (s, all). (s, all 0 (record { claim = claim; mode = mode }) (omega arith)),
   )
 
-  pub path_of_one : (issued : Runs) → IsIssued S claim mode issued ↔ IsPathResult (λ c. c) S (one_step claim mode) issued
+  pub path_of_one : (issued : Runs)
+      → IsIssued S claim mode issued ↔ IsPathResult (λ c. c) S (one_step claim mode) issued
   path_of_one issued = (
     λ h. record {
       runs = IsRunsOf-same issued _ _ left_by_one h.runs;
@@ -38,7 +39,9 @@ module _ (S : ℕ → Type 0) (claim : Claim) (mode : Overclaim) where
     },
   )
 
-  pub refusal_of_one : (excess : Runs) → IsExcess S claim mode excess ↔ IsFirstRefusal (λ c. c) S (one_step claim mode) (record { step = 0; fault = excess })
+  pub refusal_of_one : (excess : Runs)
+      → IsExcess S claim mode excess
+      ↔ IsFirstRefusal (λ c. c) S (one_step claim mode) (record { step = 0; fault = excess })
   refusal_of_one excess = (
     λ h. record {
       excess = IsRunsOf-same excess _ _ exceeds_first h.runs;
@@ -52,7 +55,8 @@ module _ (S : ℕ → Type 0) (claim : Claim) (mode : Overclaim) where
   )
 
 -- what is trimmed once lies in the claim
-pub trimmed_twice : (root once twice : Runs) (claim : Claim) → IsIssued (Holds root) claim Trim once → IsIssued (Holds once) claim Trim twice → twice ≡ once
+pub trimmed_twice : (root once twice : Runs) (claim : Claim) → IsIssued (Holds root) claim Trim once
+    → IsIssued (Holds once) claim Trim twice → twice ≡ once
 trimmed_twice root once twice claim h k = one_set _ _ twice once k.runs h.runs (λ n. (
   λ (held, leaves). (h.runs.members n).0 held,
   λ (held, leaves). ((h.runs.members n).1 (held, leaves), leaves),
@@ -71,7 +75,8 @@ module _ {X : Type 0} (P : X → Type 0) (decide : (x : X) → P x ⊎ (P x → 
       (decide x)
 
 -- whether a path leaves a number is decided
-pub IsLeft-decided : (root : Runs) (steps : List (Step Claim)) (n : ℕ) → IsLeft (λ c. c) (Holds root) steps n ⊎ (IsLeft (λ c. c) (Holds root) steps n → ⊥)
+pub IsLeft-decided : (root : Runs) (steps : List (Step Claim)) (n : ℕ)
+    → IsLeft (λ c. c) (Holds root) steps n ⊎ (IsLeft (λ c. c) (Holds root) steps n → ⊥)
 IsLeft-decided root steps n = ⊎_elim
     (λ held. ⊎_elim
     (λ all. inl (held, all))
@@ -80,30 +85,37 @@ IsLeft-decided root steps n = ⊎_elim
     (λ outside. inr (λ both. outside both.0))
     (Holds-decided root n)
 
-exceeds_refused : (S : ℕ → Type 0) (claim : Claim) (mode : Overclaim) (n : ℕ) → mode ≡ Refuse → Lists claim n → (S n → ⊥) → Exceeds S claim mode n
+exceeds_refused : (S : ℕ → Type 0) (claim : Claim) (mode : Overclaim) (n : ℕ) → mode ≡ Refuse → Lists claim n
+    → (S n → ⊥) → Exceeds S claim mode n
 exceeds_refused S claim mode n refuse listed outside = subst (λ (m : Overclaim). Exceeds S claim m n) (sym refuse) (listed, outside)
 
 exceeds_trimmed : (S : ℕ → Type 0) (claim : Claim) (mode : Overclaim) (n : ℕ) → mode ≡ Trim → Exceeds S claim mode n → ⊥
 exceeds_trimmed S claim mode n trim e = subst (λ (m : Overclaim). Exceeds S claim m n) trim e
 
 -- what is accepted in mode Refuse lies in what the steps before it leave
-pub inside_issuer : (root set : Runs) (steps : List (Step Claim)) (at : ℕ) (step : Step Claim) → IsPathResult (λ c. c) (Holds root) steps set → at < length steps → get_or steps at step ≡ step → step.mode ≡ Refuse → (n : ℕ) → Lists step.claim n → IsLeft (λ c. c) (Holds root) (take at steps) n
+pub inside_issuer : (root set : Runs) (steps : List (Step Claim)) (at : ℕ) (step : Step Claim)
+    → IsPathResult (λ c. c) (Holds root) steps set → at < length steps → get_or steps at step ≡ step
+    → step.mode ≡ Refuse → (n : ℕ) → Lists step.claim n → IsLeft (λ c. c) (Holds root) (take at steps) n
 inside_issuer root set steps at step h lt is refuse n listed = ⊎_elim
     (λ (left : IsLeft (λ c. c) (Holds root) (take at steps) n). left)
     (λ outside. absurd (h.accepted at n (step, lt, is, exceeds_refused (IsLeft (λ c. c) (Holds root) (take at steps)) step.claim step.mode n refuse listed outside)))
     (IsLeft-decided root (take at steps) n)
 
 -- no step in mode Trim is refused
-pub not_trimmed : (root : Runs) (steps : List (Step Claim)) (at n : ℕ) (step : Step Claim) → get_or steps at step ≡ step → step.mode ≡ Trim → ExceedsAt (λ c. c) (Holds root) steps at n → ⊥
+pub not_trimmed : (root : Runs) (steps : List (Step Claim)) (at n : ℕ) (step : Step Claim) → get_or steps at step ≡ step
+    → step.mode ≡ Trim → ExceedsAt (λ c. c) (Holds root) steps at n → ⊥
 not_trimmed root steps at n step there trim (s, lt, is, e) =
     let same : s ≡ step = sym is ∙ get_or_default steps at s step lt ∙ there in
     exceeds_trimmed (IsLeft (λ c. c) (Holds root) (take at steps)) s.claim s.mode n (ap (λ (x : Step Claim). x.mode) same ∙ trim) e
 
 -- what holds of each element of a list holds of those of a list with the same elements
-all_alike : {X : Type 0} (P : X → Type 0) (xs ys : List X) → ((x : X) → Contains ys x → Contains xs x) → All P xs → All P ys
+all_alike : {X : Type 0} (P : X → Type 0) (xs ys : List X) → ((x : X) → Contains ys x → Contains xs x) → All P xs
+    → All P ys
 all_alike P xs ys alike all = All-weaker (Contains ys) P (λ x there. All-contains P xs x all (alike x there)) ys (All-contains_itself ys)
 
-pub any_order : (root set other : Runs) (steps others : List (Step Claim)) → ((step : Step Claim) → Contains steps step ↔ Contains others step) → IsPathResult (λ c. c) (Holds root) steps set → IsPathResult (λ c. c) (Holds root) others other → set ≡ other
+pub any_order : (root set other : Runs) (steps others : List (Step Claim))
+    → ((step : Step Claim) → Contains steps step ↔ Contains others step) → IsPathResult (λ c. c) (Holds root) steps set
+    → IsPathResult (λ c. c) (Holds root) others other → set ≡ other
 any_order root set other steps others alike h k = one_set _ _ set other h.runs k.runs (λ n. (
   λ (held, all). (held, all_alike (λ (s : Step Claim). Leaves s.claim n) steps others (λ s. (alike s).1) all),
   λ (held, all). (held, all_alike (λ (s : Step Claim). Leaves s.claim n) others steps (λ s. (alike s).0) all),

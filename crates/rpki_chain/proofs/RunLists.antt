@@ -66,35 +66,40 @@ IsRunsOf-unique S xs ys hx hy =
     (λ c. (hy.members n).1 ((hx.members n).0 c), λ c. (hx.members n).1 ((hy.members n).0 c)))
 
 -- blocks whose bounds are the runs of a set cover that set
-pub IsRunsOfBlocks-bounds : {B : Type 0} (f : B → ℕ × ℕ) (xs : List B) (set : Runs) → map f xs ≡ set → IsRunsOf (Holds set) set → IsRunsOfBlocks f xs set
+pub IsRunsOfBlocks-bounds : {B : Type 0} (f : B → ℕ × ℕ) (xs : List B) (set : Runs) → map f xs ≡ set
+    → IsRunsOf (Holds set) set → IsRunsOfBlocks f xs set
 IsRunsOfBlocks-bounds f xs set same = IsRunsOf-same set (Holds set) (Covers f xs) (λ n. (
   λ h. (Holds-map f xs n).0 (subst (λ runs. Holds runs n) (sym same) h),
   λ c. subst (λ runs. Holds runs n) same ((Holds-map f xs n).1 c),
 ))
 
 -- the bounds of a chain's blocks are the runs of what they hold
-pub IsRunsOf-itself : {B : Type 0} (f : B → ℕ × ℕ) (form : ℕ × ℕ → B) (xs ys : List B) → IsChain f form xs → xs ≡ ys → IsRunsOf (Holds (map f ys)) (map f xs)
+pub IsRunsOf-itself : {B : Type 0} (f : B → ℕ × ℕ) (form : ℕ × ℕ → B) (xs ys : List B) → IsChain f form xs → xs ≡ ys
+    → IsRunsOf (Holds (map f ys)) (map f xs)
 IsRunsOf-itself {B} f form xs ys h same =
     let runs = IsRunsOf-from_chain f form (Covers f xs) xs (IsChainOf-from f form xs (Covers f xs) h (λ n. (λ c. c, λ c. c))) in
     subst (λ (zs : List B). IsRunsOf (Holds (map f zs)) (map f xs)) same (IsRunsOf-same (map f xs) _ _ (λ n. ((Holds-map f xs n).1, (Holds-map f xs n).0)) runs)
 
 module _ {B : Type 0} (f : B → ℕ × ℕ) (form : ℕ × ℕ → B) (xs some others : List B) where
   -- the runs of what two chains have in common
-  pub IsRunsOf-intersection : IsChainOf f form (λ n. Covers f some n × Covers f others n) xs → IsRunsOf (λ n. Holds (map f some) n × Holds (map f others) n) (map f xs)
+  pub IsRunsOf-intersection : IsChainOf f form (λ n. Covers f some n × Covers f others n) xs
+      → IsRunsOf (λ n. Holds (map f some) n × Holds (map f others) n) (map f xs)
   IsRunsOf-intersection h = IsRunsOf-same (map f xs) _ _ (λ n. (
     λ (a, b). ((Holds-map f some n).1 a, (Holds-map f others n).1 b),
     λ (a, b). ((Holds-map f some n).0 a, (Holds-map f others n).0 b),
   )) (IsRunsOf-from_chain f form _ xs h)
 
   -- the runs of what one chain has and the other has not
-  pub IsRunsOf-difference : IsChainOf f form (λ n. Covers f some n × (Covers f others n → ⊥)) xs → IsRunsOf (λ n. Holds (map f some) n × (Holds (map f others) n → ⊥)) (map f xs)
+  pub IsRunsOf-difference : IsChainOf f form (λ n. Covers f some n × (Covers f others n → ⊥)) xs
+      → IsRunsOf (λ n. Holds (map f some) n × (Holds (map f others) n → ⊥)) (map f xs)
   IsRunsOf-difference h = IsRunsOf-same (map f xs) _ _ (λ n. (
     λ (a, b). ((Holds-map f some n).1 a, λ c. b ((Holds-map f others n).0 c)),
     λ (a, b). ((Holds-map f some n).0 a, λ c. b ((Holds-map f others n).1 c)),
   )) (IsRunsOf-from_chain f form _ xs h)
 
   -- the runs of what one chain or the other has
-  pub IsRunsOf-union : IsChainOf f form (λ n. Covers f some n ⊎ Covers f others n) xs → IsRunsOf (λ n. Holds (map f some) n ⊎ Holds (map f others) n) (map f xs)
+  pub IsRunsOf-union : IsChainOf f form (λ n. Covers f some n ⊎ Covers f others n) xs
+      → IsRunsOf (λ n. Holds (map f some) n ⊎ Holds (map f others) n) (map f xs)
   IsRunsOf-union h = IsRunsOf-same (map f xs) _ _ (λ n. (
     ⊎_elim (λ a. inl ((Holds-map f some n).1 a)) (λ b. inr ((Holds-map f others n).1 b)),
     ⊎_elim (λ a. inl ((Holds-map f some n).0 a)) (λ b. inr ((Holds-map f others n).0 b)),
@@ -109,14 +114,16 @@ pub Holds-decided : (runs : Runs) (n : ℕ) → Holds runs n ⊎ (Holds runs n �
 Holds-decided = Covers-decided (λ b. b)
 
 -- lists of runs that hold the same numbers are the same
-pub same_numbers : (a b : Runs) → IsRunsOf (Holds a) a → IsRunsOf (Holds b) b → ((n : ℕ) → Holds a n ↔ Holds b n) → a ≡ b
+pub same_numbers : (a b : Runs) → IsRunsOf (Holds a) a → IsRunsOf (Holds b) b → ((n : ℕ) → Holds a n ↔ Holds b n)
+    → a ≡ b
 same_numbers a b ha hb same = IsRunsOf-unique (Holds a) a b ha (IsRunsOf-same b (Holds b) (Holds a) (λ n. ((same n).1, (same n).0)) hb)
 
 -- ---- what a builder has
 
 -- one block more was added, made anew with the bounds of the next
-pub added_next : {T : Type 0} (f : T → ℕ × ℕ) (before : Runs) (made blocks : List T) (i : ℕ) (next new : T) → map f made ≡ before ++ map f (take i blocks)
-    → i < length blocks → next ≡ get_or blocks i next → f new ≡ f next → map f (made ++ new ∷ []) ≡ before ++ map f (take (i + 1) blocks)
+pub added_next : {T : Type 0} (f : T → ℕ × ℕ) (before : Runs) (made blocks : List T) (i : ℕ) (next new : T)
+    → map f made ≡ before ++ map f (take i blocks) → i < length blocks → next ≡ get_or blocks i next → f new ≡ f next
+    → map f (made ++ new ∷ []) ≡ before ++ map f (take (i + 1) blocks)
 added_next f before made blocks i next new added lt is same =
     let one : i + 1 ≡ suc i = omega arith in
     map-append f made (new ∷ []) ∙ ap (λ xs. xs ++ f new ∷ []) added ∙ append_assoc before (map f (take i blocks)) (f new ∷ [])

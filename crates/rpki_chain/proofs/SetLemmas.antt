@@ -23,32 +23,38 @@ module _ {B : Type 0} (f : B → ℕ × ℕ) where
   held_by_set P blocks n h = (λ p. (Holds-map f blocks n).1 (h.0 p), λ held. h.1 ((Holds-map f blocks n).0 held))
 
   -- and each of some numbers, or one of them
-  pub all_held_by_set : (P : Type 0) (S : ℕ → Type 0) (blocks : List B) → P ↔ ((n : ℕ) → S n → Covers f blocks n) → P ↔ ((n : ℕ) → S n → Holds (map f blocks) n)
+  pub all_held_by_set : (P : Type 0) (S : ℕ → Type 0) (blocks : List B) → P ↔ ((n : ℕ) → S n → Covers f blocks n)
+      → P ↔ ((n : ℕ) → S n → Holds (map f blocks) n)
   all_held_by_set P S blocks h = (
     λ p n s. (Holds-map f blocks n).1 (h.0 p n s),
     λ all. h.1 (λ n s. (Holds-map f blocks n).0 (all n s)),
   )
 
-  pub some_held_by_set : (P : Type 0) (S : ℕ → Type 0) (blocks : List B) → P ↔ ((n : ℕ) × S n × Covers f blocks n) → P ↔ ((n : ℕ) × S n × Holds (map f blocks) n)
+  pub some_held_by_set : (P : Type 0) (S : ℕ → Type 0) (blocks : List B) → P ↔ ((n : ℕ) × S n × Covers f blocks n)
+      → P ↔ ((n : ℕ) × S n × Holds (map f blocks) n)
   some_held_by_set P S blocks h = (
     λ p. (let held = h.0 p in (held.0, held.1, (Holds-map f blocks held.0).1 held.2)),
     λ (n, s, held). h.1 (n, s, (Holds-map f blocks n).0 held),
   )
 
   -- a chain lies in another exactly where its set does
-  pub inside_set : (P : Type 0) (own other : List B) → P ↔ IsInside f own other → P ↔ ((n : ℕ) → Holds (map f own) n → Holds (map f other) n)
+  pub inside_set : (P : Type 0) (own other : List B) → P ↔ IsInside f own other
+      → P ↔ ((n : ℕ) → Holds (map f own) n → Holds (map f other) n)
   inside_set P own other h = (
     λ p n held. (Holds-map f other n).1 (h.0 p n ((Holds-map f own n).0 held)),
     λ inside. h.1 (λ n covered. (Holds-map f other n).0 (inside n ((Holds-map f own n).1 covered))),
   )
 
   -- and a block that leaves the other is one of no subset
-  pub not_inside_set : {I : Type 0} (form : ℕ × ℕ → B) (number : I → ℕ) (first last : ℕ) (own other : List B) (o : Overhang I) → IsOverhang f number first last own other o → ((n : ℕ) → Holds (map f own) n → Holds (map f other) n) → ⊥
+  pub not_inside_set : {I : Type 0} (form : ℕ × ℕ → B) (number : I → ℕ) (first last : ℕ) (own other : List B)
+      (o : Overhang I) → IsOverhang f number first last own other o
+      → ((n : ℕ) → Holds (map f own) n → Holds (map f other) n) → ⊥
   not_inside_set form number first last own other o leaves inside =
       overhang-not_inside f form number first last own other o leaves (λ n covered. (Holds-map f other n).0 (inside n ((Holds-map f own n).1 covered)))
 
   -- what is made of the chain of S is the set S
-  pub made : {E : Type 0} (r : Result Runs E) (S : ℕ → Type 0) (blocks : List B) → IsRunsOf S (map f blocks) → IfOk r (λ set. set ≡ map f blocks) → IfOk r (IsRunsOf S)
+  pub made : {E : Type 0} (r : Result Runs E) (S : ℕ → Type 0) (blocks : List B) → IsRunsOf S (map f blocks)
+      → IfOk r (λ set. set ≡ map f blocks) → IfOk r (IsRunsOf S)
   made r S blocks runs h = IfOk-weaker r _ _ (λ set same. subst (IsRunsOf S) (sym same) runs) h
 
   -- blocks in new form are those that are made of their bounds
@@ -60,10 +66,13 @@ module _ {B : Type 0} (f : B → ℕ × ℕ) where
       cc
 
   -- and the blocks that are made of the runs of a set have these runs for their bounds
-  pub bounds_made : (form : ℕ × ℕ → B) (first last : ℕ) → ((b : ℕ × ℕ) → first ≤ b.0 → b.0 ≤ b.1 → b.1 ≤ last → f (form b) ≡ b) → (set : Runs) → IsBlockSet first last set → map f (map form set) ≡ set
+  pub bounds_made : (form : ℕ × ℕ → B) (first last : ℕ)
+      → ((b : ℕ × ℕ) → first ≤ b.0 → b.0 ≤ b.1 → b.1 ≤ last → f (form b) ≡ b) → (set : Runs) → IsBlockSet first last set
+      → map f (map form set) ≡ set
   bounds_made form first last law set is = by_each set is.above is.are_runs.ordered is.below
     where
-      by_each : (set : Runs) → All (λ b. first ≤ b.0) set → All (λ b. b.0 ≤ b.1) set → All (λ b. b.1 ≤ last) set → map f (map form set) ≡ set
+      by_each : (set : Runs) → All (λ b. first ≤ b.0) set → All (λ b. b.0 ≤ b.1) set → All (λ b. b.1 ≤ last) set
+          → map f (map form set) ≡ set
       by_each [] above ordered below = refl
       by_each (b ∷ set) above ordered below =
           let same = law b (above 0 b (omega arith)) (ordered 0 b (omega arith)) (below 0 b (omega arith)) in
@@ -71,12 +80,17 @@ module _ {B : Type 0} (f : B → ℕ × ℕ) where
           cc
 
   -- so they stand for the set
-  pub made_of_set : (form : ℕ × ℕ → B) (first last : ℕ) → ((b : ℕ × ℕ) → first ≤ b.0 → b.0 ≤ b.1 → b.1 ≤ last → f (form b) ≡ b) → (set : Runs) → IsBlockSet first last set → IsRunsOfBlocks f (map form set) set
+  pub made_of_set : (form : ℕ × ℕ → B) (first last : ℕ)
+      → ((b : ℕ × ℕ) → first ≤ b.0 → b.0 ≤ b.1 → b.1 ≤ last → f (form b) ≡ b) → (set : Runs) → IsBlockSet first last set
+      → IsRunsOfBlocks f (map form set) set
   made_of_set form first last law set is = IsRunsOfBlocks-bounds f (map form set) set (bounds_made form first last law set is) is.are_runs
 
   module _ (form : ℕ × ℕ → B) (first last : ℕ) where
     -- no block of a chain has lesser numbers than its first block, and none has greater numbers than its last
-    pub IsBlockChain-from_ends : (blocks : List B) → IsChain f form blocks → ((d : B) → 0 < length blocks → (first ≤ (f (get_or blocks 0 d)).0) × ((f (get_or blocks (length blocks - 1) d)).1 ≤ last)) → IsBlockChain f form first last blocks
+    pub IsBlockChain-from_ends : (blocks : List B) → IsChain f form blocks
+        → ((d : B) → 0 < length blocks
+        → (first ≤ (f (get_or blocks 0 d)).0) × ((f (get_or blocks (length blocks - 1) d)).1 ≤ last))
+        → IsBlockChain f form first last blocks
     IsBlockChain-from_ends blocks chain ends = record {
       chain = chain;
       above = λ k d small.
@@ -104,7 +118,8 @@ module _ {B : Type 0} (f : B → ℕ × ℕ) where
     }
 
     -- a chain is a set
-    pub IsBlockSet-from_chain : (blocks : List B) → IsBlockChain f form first last blocks → IsBlockSet first last (map f blocks)
+    pub IsBlockSet-from_chain : (blocks : List B) → IsBlockChain f form first last blocks
+        → IsBlockSet first last (map f blocks)
     IsBlockSet-from_chain blocks h = record {
       are_runs = IsRunsOf-itself f form blocks blocks h.chain refl;
       above = All-map (λ (b : ℕ × ℕ). first ≤ b.0) f blocks h.above;
@@ -112,14 +127,16 @@ module _ {B : Type 0} (f : B → ℕ × ℕ) where
     }
 
     -- a chain inside another is what they have in common
-    pub IsRunsOf-inside : (own other : List B) → IsBlockChain f form first last own → IsInside f own other → IsRunsOf (λ n. Holds (map f own) n × Holds (map f other) n) (map f own)
+    pub IsRunsOf-inside : (own other : List B) → IsBlockChain f form first last own → IsInside f own other
+        → IsRunsOf (λ n. Holds (map f own) n × Holds (map f other) n) (map f own)
     IsRunsOf-inside own other h inside = IsRunsOf-same (map f own) _ _ (λ n. (
       λ held. (held, (Holds-map f other n).1 (inside n ((Holds-map f own n).0 held))),
       λ (held, also). held,
     )) (IsBlockSet-from_chain own h).are_runs
 
     -- a chain is its union with one of no blocks
-    pub IsRunsOf-with_none : (own other : List B) → IsBlockChain f form first last own → other ≡ [] → IsRunsOf (λ n. Holds (map f own) n ⊎ Holds (map f other) n) (map f own)
+    pub IsRunsOf-with_none : (own other : List B) → IsBlockChain f form first last own → other ≡ []
+        → IsRunsOf (λ n. Holds (map f own) n ⊎ Holds (map f other) n) (map f own)
     IsRunsOf-with_none own other h none = IsRunsOf-same (map f own) _ _ (λ n. (
       inl,
       ⊎_elim (λ held. held) (λ held. absurd (Covers-nil f n (subst (λ xs. Covers f xs n) none ((Holds-map f other n).0 held)))),

@@ -16,7 +16,8 @@ IsChoiceOf S bytes Inherit = IsNull bytes tt
 IsChoiceOf S bytes (Blocks xs) = S bytes xs × (xs ≢ [])
 
 -- the same, where the values of a sequence stand for what is listed by the rule C
-abbrev pub IsResourcesOf : {X Y : Type 0} → (List ℕ → List X → Type 0) → (List X → Y → Type 0) → List ℕ → ResourcesChoice Y → Type 0
+abbrev pub IsResourcesOf : {X Y : Type 0} → (List ℕ → List X → Type 0) → (List X → Y → Type 0) → List ℕ
+    → ResourcesChoice Y → Type 0
 IsResourcesOf S C = Refines (IsChoiceOf S) (ListsBy C)
 
 -- ---- what is written: nothing for missing resources
@@ -39,12 +40,15 @@ some_in values content = values content >>= some_of
 abbrev pub inherited_in : {X : Type 0} → List ℕ → Result (ResourcesChoice X) DerError
 inherited_in content = nothing content >>= λ u. Ok Inherit
 
-abbrev pub listed_in : {X : Type 0} → (List ℕ → Result (List X) DerError) → List ℕ → Result (ResourcesChoice (List X)) DerError
+abbrev pub listed_in : {X : Type 0} → (List ℕ → Result (List X) DerError) → List ℕ
+    → Result (ResourcesChoice (List X)) DerError
 listed_in values content = some_in values content >>= λ xs. Ok (Blocks xs)
 
-abbrev pub choice_in : {X : Type 0} → (List ℕ → Result (List X) DerError) → Tlv → Result (ResourcesChoice (List X)) DerError
+abbrev pub choice_in : {X : Type 0} → (List ℕ → Result (List X) DerError) → Tlv
+    → Result (ResourcesChoice (List X)) DerError
 choice_in values = by_tag 5 inherited_in (listed_in values)
 
 -- resources at the front, whose blocks are the values of a content
-abbrev pub choice_at : {X : Type 0} → (List ℕ → Result (List X) DerError) → List ℕ → Result (ResourcesChoice (List X) × List ℕ) DerError
+abbrev pub choice_at : {X : Type 0} → (List ℕ → Result (List X) DerError) → List ℕ
+    → Result (ResourcesChoice (List X) × List ℕ) DerError
 choice_at values = refined value_at (choice_in values)

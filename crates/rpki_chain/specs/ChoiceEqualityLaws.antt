@@ -23,7 +23,8 @@ module _ {X : Type 0} (eq : X → X → Bool) where
   symmetric turned (Blocks x) Inherit = refl
   symmetric turned (Blocks x) (Blocks y) = turned x y
 
-  transitive : ((x y z : X) → eq x y ≡ true → eq y z ≡ true → eq x z ≡ true) → (a b c : ResourcesChoice X) → choice_eq eq a b ≡ true → choice_eq eq b c ≡ true → choice_eq eq a c ≡ true
+  transitive : ((x y z : X) → eq x y ≡ true → eq y z ≡ true → eq x z ≡ true) → (a b c : ResourcesChoice X)
+      → choice_eq eq a b ≡ true → choice_eq eq b c ≡ true → choice_eq eq a c ≡ true
   transitive through Missing Missing c p q = q
   transitive through Missing Inherit c p q = absurd cc
   transitive through Missing (Blocks y) c p q = absurd cc
@@ -36,7 +37,8 @@ module _ {X : Type 0} (eq : X → X → Bool) where
   transitive through (Blocks x) (Blocks y) Inherit p q = absurd cc
   transitive through (Blocks x) (Blocks y) (Blocks z) p q = through x y z p q
 
-  alike : ((x y z : X) → eq x y ≡ true → eq x z ≡ eq y z) → (a b c : ResourcesChoice X) → choice_eq eq a b ≡ true → choice_eq eq a c ≡ choice_eq eq b c
+  alike : ((x y z : X) → eq x y ≡ true → eq x z ≡ eq y z) → (a b c : ResourcesChoice X) → choice_eq eq a b ≡ true
+      → choice_eq eq a c ≡ choice_eq eq b c
   alike same Missing Missing c p = refl
   alike same Missing Inherit c p = absurd cc
   alike same Missing (Blocks y) c p = absurd cc

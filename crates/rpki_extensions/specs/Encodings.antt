@@ -18,7 +18,8 @@ is_canonical Any = false
 is_canonical Canonical = true
 
 -- the value of a grammar, or canonically what is written of the value
-abbrev pub IsSaidIn : {X : Type 0} → Encoding → (List ℕ → X → Type 0) → (X → Type 0) → (X → List ℕ) → List ℕ → X → Type 0
+abbrev pub IsSaidIn : {X : Type 0} → Encoding → (List ℕ → X → Type 0) → (X → Type 0) → (X → List ℕ) → List ℕ → X
+    → Type 0
 IsSaidIn Any G P octets = G
 IsSaidIn Canonical G P octets = Spells P octets
 

@@ -24,7 +24,8 @@ AreRuns w [] = Unit {0}
 AreRuns w (r ∷ rs) = (r.0 ≤ r.1) × (r.1 < 2 ^ w) × All (λ q. r.1 + 1 < q.0) rs × AreRuns w rs
 
 -- the runs of a set are that
-are_runs : (w : ℕ) (runs : Runs) → All (λ b. b.0 ≤ b.1) runs → AllPairs (λ b c. b.1 + 1 < c.0) runs → All (λ b. b.1 < 2 ^ w) runs → AreRuns w runs
+are_runs : (w : ℕ) (runs : Runs) → All (λ b. b.0 ≤ b.1) runs → AllPairs (λ b c. b.1 + 1 < c.0) runs
+    → All (λ b. b.1 < 2 ^ w) runs → AreRuns w runs
 are_runs w [] ordered apart below = tt
 are_runs w (r ∷ rs) ordered apart below = (
   All-head (λ b. b.0 ≤ b.1) r rs ordered,
@@ -99,7 +100,8 @@ narrow_holds runs whole a = (
 )
 
 -- the cover lists at both widths are one
-narrow_cover : (runs : Runs) → All HasWholeBounds runs → runs_cover 128 runs ≡ map widened (runs_cover 32 (map narrowed runs))
+narrow_cover : (runs : Runs) → All HasWholeBounds runs
+    → runs_cover 128 runs ≡ map widened (runs_cover 32 (map narrowed runs))
 narrow_cover [] whole = refl
 narrow_cover (r ∷ rs) whole =
     let here : HasWholeBounds r = All-head HasWholeBounds r rs whole in
@@ -142,24 +144,29 @@ not_empty : (b : ℕ × ℕ) (ps : List PrefixValue) → b.0 ≤ b.1 → IsShort
 not_empty b ps order is none = let (p, (k, small, here), inside) = (is.union b.0).0 (omega arith, order) in let long : length ps ≡ 0 = ap length none in omega (arith, small, long)
 
 -- what is left is the shortest cover of a range, and then others: a step at the former is a step
-pub set_step : (o : Option PrefixValue) (old current new rest : List PrefixValue) (b : ℕ × ℕ) → b.0 ≤ b.1 → b.1 < 2 ^ 128 → IsShortestCover 128 (IsWithin b) current
-    → YieldsFirst (λ (ps : List PrefixValue). ps) current o new → old ≡ cover_list 128 b.0 b.1 ++ rest → YieldsFirst (λ (ps : List PrefixValue). ps) old o (new ++ rest)
+pub set_step : (o : Option PrefixValue) (old current new rest : List PrefixValue) (b : ℕ × ℕ) → b.0 ≤ b.1
+    → b.1 < 2 ^ 128 → IsShortestCover 128 (IsWithin b) current
+    → YieldsFirst (λ (ps : List PrefixValue). ps) current o new → old ≡ cover_list 128 b.0 b.1 ++ rest
+    → YieldsFirst (λ (ps : List PrefixValue). ps) old o (new ++ rest)
 set_step None old current new rest b order below is none e = absurd (not_empty b current order is none.0)
 set_step (Some p) old current new rest b order below is first e =
     let same : cover_list 128 b.0 b.1 ≡ current = is.only (cover_list 128 b.0 b.1) (range_cover 128 b.0 b.1 below).list in
     e ∙ ap (λ (ps : List PrefixValue). ps ++ rest) (same ∙ first)
 
 -- the range from the one bound of a block to the other
-pub same_bounds : (b : ℕ × ℕ) (r : RangeValue) (x y : ℕ) → r ≡ record { min = x; max = y } → x ≡ b.0 → y ≡ b.1 → range_bounds r ≡ b
+pub same_bounds : (b : ℕ × ℕ) (r : RangeValue) (x y : ℕ) → r ≡ record { min = x; max = y } → x ≡ b.0 → y ≡ b.1
+    → range_bounds r ≡ b
 same_bounds b r x y e f g = ap range_bounds e ∙ ap (λ z. (z, y)) f ∙ ap (λ z. (b.0, z)) g
 
 -- what is left at the beginning: the cover of all blocks
-pub begun : (set : Runs) (current : List PrefixValue) (blocks : List IpBlock) → current ≡ [] → map ip_bounds blocks ≡ set → runs_cover 128 set ≡ current ++ blocks_cover blocks
+pub begun : (set : Runs) (current : List PrefixValue) (blocks : List IpBlock) → current ≡ []
+    → map ip_bounds blocks ≡ set → runs_cover 128 set ≡ current ++ blocks_cover blocks
 begun set current blocks none bounds = ap (runs_cover 128) (sym bounds) ∙ ap (λ (ps : List PrefixValue). ps ++ blocks_cover blocks) (sym none)
 
 -- an iterator that yields the first of its prefixes gets on
-pub makes_progress : (can : List PrefixValue → Type 0) → ((ps : List PrefixValue) → can ps) → (o : Option PrefixValue) (old new : List PrefixValue)
-    → YieldsFirst (λ (ps : List PrefixValue). ps) old o new → MakesProgress can (item_count (λ (ps : List PrefixValue). ps)) old o new
+pub makes_progress : (can : List PrefixValue → Type 0) → ((ps : List PrefixValue) → can ps)
+    → (o : Option PrefixValue) (old new : List PrefixValue) → YieldsFirst (λ (ps : List PrefixValue). ps) old o new
+    → MakesProgress can (item_count (λ (ps : List PrefixValue). ps)) old o new
 makes_progress can may None old new steps = record { on = λ _. tt; keeps = tt; rests = λ _. tt }
 makes_progress can may (Some p) old new steps =
     let shorter = ap length steps in

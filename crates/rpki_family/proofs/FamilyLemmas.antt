@@ -25,30 +25,36 @@ pub is_family_set : (family : AddressFamily) (set : Runs) → IsIpSet set → Is
 is_family_set Ipv4 set is whole = (is, whole)
 is_family_set Ipv6 set is whole = is
 
-pub union_in : (family : AddressFamily) (a b set : Runs) → IsWholeIn family a → IsWholeIn family b → IsUnion a b set → IsWholeIn family set
+pub union_in : (family : AddressFamily) (a b set : Runs) → IsWholeIn family a → IsWholeIn family b → IsUnion a b set
+    → IsWholeIn family set
 union_in Ipv4 a b set left right is = whole_union a b set left right is
 union_in Ipv6 a b set left right is = tt
 
-pub intersection_in : (family : AddressFamily) (a b set : Runs) → IsWholeIn family a → IsWholeIn family b → IsIntersection a b set → IsWholeIn family set
+pub intersection_in : (family : AddressFamily) (a b set : Runs) → IsWholeIn family a → IsWholeIn family b
+    → IsIntersection a b set → IsWholeIn family set
 intersection_in Ipv4 a b set left right is = whole_intersection a b set left right is
 intersection_in Ipv6 a b set left right is = tt
 
-pub difference_in : (family : AddressFamily) (a b set : Runs) → IsWholeIn family a → IsWholeIn family b → IsDifference a b set → IsWholeIn family set
+pub difference_in : (family : AddressFamily) (a b set : Runs) → IsWholeIn family a → IsWholeIn family b
+    → IsDifference a b set → IsWholeIn family set
 difference_in Ipv4 a b set left right is = whole_difference a b set left right is
 difference_in Ipv6 a b set left right is = tt
 
 -- the set of blocks of a family
-pub cover_in : (family : AddressFamily) (blocks : List IpBlock) (set : Runs) → All (λ b. HasBoundsIn family (ip_bounds b)) blocks → IsRunsOfBlocks ip_bounds blocks set → IsWholeIn family set
+pub cover_in : (family : AddressFamily) (blocks : List IpBlock) (set : Runs)
+    → All (λ b. HasBoundsIn family (ip_bounds b)) blocks → IsRunsOfBlocks ip_bounds blocks set → IsWholeIn family set
 cover_in Ipv4 blocks set whole is = whole_cover blocks set whole is
 cover_in Ipv6 blocks set whole is = tt
 
 -- the blocks of a set of a family
-pub blocks_in : (family : AddressFamily) (xs : List IpBlock) (set : Runs) → xs ≡ map new_ip_block set → IsFamilySet family set → All (λ b. HasBoundsIn family (ip_bounds b)) xs
+pub blocks_in : (family : AddressFamily) (xs : List IpBlock) (set : Runs) → xs ≡ map new_ip_block set
+    → IsFamilySet family set → All (λ b. HasBoundsIn family (ip_bounds b)) xs
 blocks_in Ipv4 xs set made is = subst (All (λ b. HasWholeBounds (ip_bounds b))) (sym made) (λ k d small. (blocks_of_family Ipv4 set is k d small).1)
 blocks_in Ipv6 xs set made is = λ k d small. tt
 
 -- a set's shortest cover
-pub covered_in : (family : AddressFamily) (set : Runs) → IsIpSet set → IsWholeIn family set → IsCoverListIn family set (runs_cover 128 set)
+pub covered_in : (family : AddressFamily) (set : Runs) → IsIpSet set → IsWholeIn family set
+    → IsCoverListIn family set (runs_cover 128 set)
 covered_in Ipv4 set is whole = v4_covered set is whole
 covered_in Ipv6 set is whole = tt
 
@@ -83,12 +89,14 @@ refusal_in Ipv6 set steps refusal own whole is = tt
 
 -- ---- texts
 
-pub text_in : (family : AddressFamily) (text : List ℕ) (b : IpBlock) → IsIpBlockText (Some family) text b → HasBoundsIn family (ip_bounds b)
+pub text_in : (family : AddressFamily) (text : List ℕ) (b : IpBlock) → IsIpBlockText (Some family) text b
+    → HasBoundsIn family (ip_bounds b)
 text_in Ipv4 text b is = whole_text text b is
 text_in Ipv6 text b is = tt
 
 -- ---- prefixes
 
-pub prefix_in : (family : AddressFamily) (p : FamilyPrefix) → IsFamilyPrefix p → family_of p.addr ≡ family → HasBoundsIn family (prefix_bounds (record { first = first_of p.addr; len = p.len }))
+pub prefix_in : (family : AddressFamily) (p : FamilyPrefix) → IsFamilyPrefix p → family_of p.addr ≡ family
+    → HasBoundsIn family (prefix_bounds (record { first = first_of p.addr; len = p.len }))
 prefix_in Ipv4 p is v4 = whole_family_prefix p is v4
 prefix_in Ipv6 p is v6 = tt

@@ -12,4 +12,5 @@ use Rattle.rpki_ip_block.specs.declared.block.IpBlock.{IpBlock}
 -- of the family is read as a block with its bounds.
 pub record ReadsFamilyBlock (family : AddressFamily) (text : List ℕ) (r : Result IpBlock FromStrError) : Type 0 where
   pub exact : Answers (IsIpBlockText (Some family) text) (HasIpBlockFault (Some family) text) r
-  pub reads_back : (block : IpBlock) → IsBlockOf family block → text ≡ ip_block_text family block → MatchResult r (λ read. ip_bounds read ≡ ip_bounds block) (λ _. ⊥)
+  pub reads_back : (block : IpBlock) → IsBlockOf family block → text ≡ ip_block_text family block
+      → MatchResult r (λ read. ip_bounds read ≡ ip_bounds block) (λ _. ⊥)

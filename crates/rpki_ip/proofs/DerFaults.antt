@@ -46,7 +46,9 @@ module _ (limit : ℕ) where
   unfolding span_of
   fails_span p q less = rw (lt-ltb (last_of 128 q) p.first less) refl
 
-  pub range_fails : (content : List ℕ) → (range_in limit content ≡ Err ReversedRange) ↔ BeginsWithTwo (prefix_at limit) (λ p q. last_of 128 q < p.first) content
+  pub range_fails : (content : List ℕ)
+      → (range_in limit content ≡ Err ReversedRange)
+      ↔ BeginsWithTwo (prefix_at limit) (λ p q. last_of 128 q < p.first) content
   range_fails content =
       let both = pair_fails (prefix_at limit) span_of ReversedRange (omega arith) (λ bytes. not_named 8 (prefix_at limit bytes) ReversedRange (prefix_names bytes) (omega arith)) content in
       ((λ is. begins_two (prefix_at limit) Fails IsBefore span_fails content (both.0 is)), (λ found. both.1 (begins_two (prefix_at limit) IsBefore Fails fails_span content found)))
@@ -60,7 +62,8 @@ module _ (limit : ℕ) where
   never_range content = not_named 10 (range_in limit content) NotCanonical (range_names content) (omega arith)
 
   -- the steps of the reading that come before the look at the unused bits
-  pub prefix_last : (bytes : List ℕ) → prefix_by true limit bytes ≡ Err NotCanonical → is_ok (prefix_at limit bytes) ≡ true
+  pub prefix_last : (bytes : List ℕ) → prefix_by true limit bytes ≡ Err NotCanonical
+      → is_ok (prefix_at limit bytes) ≡ true
   unfolding refined prefix_in prefix_in_by prefix_of_by
   prefix_last bytes is =
       let a = bind_fails (tagged_at 3 bytes) (λ x. prefix_in_by true limit x.0 >>= λ y. Ok (y, x.1)) NotCanonical (not_named 3 (tagged_at 3 bytes) NotCanonical (tagged_names 3 bytes) (omega arith)) is in

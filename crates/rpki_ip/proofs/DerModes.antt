@@ -31,7 +31,8 @@ strict_content_check limit = record {
   again = λ content p (b, (is, padded), says). rw (bits_check.again content b is, prefix_again limit b p says) (passes (λ p. is_padded b) p (is_padded_of b padded));
 }
 
-pub content_tightens : (strict : Bool) (limit : ℕ) (content : List ℕ) → Tightens strict (prefix_in_by strict limit content) (prefix_in limit content)
+pub content_tightens : (strict : Bool) (limit : ℕ) (content : List ℕ)
+    → Tightens strict (prefix_in_by strict limit content) (prefix_in limit content)
 unfolding prefix_in prefix_in_by prefix_of_by
 content_tightens strict limit content = grind (arith, bind_tightens, then_passing)
 
@@ -49,7 +50,8 @@ prefix_modal limit = record {
 -- ---- the octets
 
 -- octets by the number that they spell
-same_octets : (n m : ℕ) (xs ys : List ℕ) → IsBytes xs → IsBytes ys → length xs ≡ length ys → big_endian_after n xs ≡ big_endian_after m ys → (n ≡ m) × (xs ≡ ys)
+same_octets : (n m : ℕ) (xs ys : List ℕ) → IsBytes xs → IsBytes ys → length xs ≡ length ys
+    → big_endian_after n xs ≡ big_endian_after m ys → (n ≡ m) × (xs ≡ ys)
 same_octets n m [] [] f g l e = (e, refl)
 same_octets n m [] (y ∷ ys) f g l e = absurd (omega (arith, l))
 same_octets n m (x ∷ xs) [] f g l e = absurd (omega (arith, l))
@@ -62,7 +64,8 @@ same_octets n m (x ∷ xs) (y ∷ ys) f g l e =
     (top, ap (λ z. z ∷ xs) low ∙ ap (λ (t : List ℕ). y ∷ t) h.1)
 
 -- all but the last octet count 256 times
-with_last : (n b : ℕ) (bs : List ℕ) → (q : ℕ) × (big_endian_after n (b ∷ bs) ≡ q * 256 + get_or (b ∷ bs) (length (b ∷ bs) - 1) 0)
+with_last : (n b : ℕ) (bs : List ℕ)
+    → (q : ℕ) × (big_endian_after n (b ∷ bs) ≡ q * 256 + get_or (b ∷ bs) (length (b ∷ bs) - 1) 0)
 with_last n b [] = (n, refl)
 with_last n b (c ∷ bs) = grind (arith, with_last (n * 256 + b) c bs)
 
@@ -86,7 +89,8 @@ whole : (n m : ℕ) → n % 2 ^ m ≡ 0 → n / 2 ^ m * 2 ^ m ≡ n
 whole n m h = let e = shr_split n m in omega (arith, e, h)
 
 -- two bit strings with no unused bit set say one prefix in one way
-one_spelling : (limit : ℕ) (b c : Bits) (p : PrefixValue) → IsBits b → IsBits c → IsPadded b → IsPadded c → IsBytes b.octets → IsBytes c.octets → SaysPrefix limit b p → SaysPrefix limit c p → b ≡ c
+one_spelling : (limit : ℕ) (b c : Bits) (p : PrefixValue) → IsBits b → IsBits c → IsPadded b → IsPadded c
+    → IsBytes b.octets → IsBytes c.octets → SaysPrefix limit b p → SaysPrefix limit c p → b ≡ c
 one_spelling limit b c p is_b is_c clear_b clear_c fits_b fits_c says_b says_c =
     let count : length b.octets ≡ length c.octets = omega (arith, says_b.len, says_c.len, is_b.below, is_c.below) in
     let unused : b.unused ≡ c.unused = omega (arith, says_b.len, says_c.len, is_b.below, is_c.below) in
@@ -129,7 +133,8 @@ octets_fit p =
     fits_front (take (octet_count p.len) octets) (drop (octet_count p.len) octets) (subst IsBytes (sym (take-append-drop (octet_count p.len) octets)) (bytes_fit 16 p.first))
 
 -- so strictly, these octets are found
-pub prefix_is_spelled : (limit : ℕ) (bytes : List ℕ) (p : PrefixValue) → limit ≤ 128 → IsBytes bytes → IsStrictPrefix limit bytes p → Spells (IsPrefixWithin limit) prefix_der bytes p
+pub prefix_is_spelled : (limit : ℕ) (bytes : List ℕ) (p : PrefixValue) → limit ≤ 128 → IsBytes bytes
+    → IsStrictPrefix limit bytes p → Spells (IsPrefixWithin limit) prefix_der bytes p
 prefix_is_spelled limit bytes p le fits (b, ((counted, is), padded), says) =
     let inside : IsBytes b.octets = IsBytes-rest b.unused b.octets (fits_content bytes 3 (bit_content b) is fits) in
     let prefix : IsPrefix 128 p = said_prefix limit b p le inside says in
@@ -137,19 +142,23 @@ prefix_is_spelled limit bytes p le fits (b, ((counted, is), padded), says) =
     let same : b ≡ prefix_bits p = one_spelling limit b (prefix_bits p) p counted (bits_fit p prefix) padded (prefix_padded p prefix) inside octets says (bits_say limit p prefix says.short) in
     ((prefix, says.short), is.spelled ∙ ap bit_string_value same)
 
-pub spelled_is_prefix : (limit : ℕ) (bytes : List ℕ) (p : PrefixValue) → Spells (IsPrefixWithin limit) prefix_der bytes p → IsStrictPrefix limit bytes p
+pub spelled_is_prefix : (limit : ℕ) (bytes : List ℕ) (p : PrefixValue)
+    → Spells (IsPrefixWithin limit) prefix_der bytes p → IsStrictPrefix limit bytes p
 spelled_is_prefix limit bytes p v3 = grind (arith, bits_few, bits_fit, bits_say, prefix_padded, value_is)
 
-pub written_prefix_reading : (limit : ℕ) → limit ≤ 128 → IsReading (Spells (IsPrefixWithin limit) prefix_der) (prefix_by true limit)
+pub written_prefix_reading : (limit : ℕ) → limit ≤ 128
+    → IsReading (Spells (IsPrefixWithin limit) prefix_der) (prefix_by true limit)
 written_prefix_reading limit le =
     same_reading (IsStrictPrefix limit) (Spells (IsPrefixWithin limit) prefix_der) (prefix_by true limit) (λ bytes p fits is. prefix_is_spelled limit bytes p le fits is) (spelled_is_prefix limit) (prefix_modal limit).tight
 
 -- what was written of a prefix is read as the prefix
-pub prefix_back : (limit : ℕ) → limit ≤ 128 → (old new : Cursor) (result : Result PrefixValue DerError) → Takes (λ p. p) old new result (prefix_by (is_strict old) limit)
-    → (p : PrefixValue) (rest : List ℕ) → IsPrefixWithin limit p → left old ≡ prefix_der p ++ rest → (result ≡ Ok p) × (left new ≡ rest)
+pub prefix_back : (limit : ℕ) → limit ≤ 128 → (old new : Cursor) (result : Result PrefixValue DerError)
+    → Takes (λ p. p) old new result (prefix_by (is_strict old) limit) → (p : PrefixValue) (rest : List ℕ)
+    → IsPrefixWithin limit p → left old ≡ prefix_der p ++ rest → (result ≡ Ok p) × (left new ≡ rest)
 prefix_back limit le old new result took p rest is at = by_mode (is_strict old) took
   where
-    by_mode : (strict : Bool) → Takes (λ p. p) old new result (prefix_by strict limit) → (result ≡ Ok p) × (left new ≡ rest)
+    by_mode : (strict : Bool) → Takes (λ p. p) old new result (prefix_by strict limit)
+        → (result ≡ Ok p) × (left new ≡ rest)
     by_mode true took = value_back (Spells (IsPrefixWithin limit) prefix_der) (prefix_by true limit) old new result (written_prefix_reading limit le) took (prefix_der p) p rest (is, refl) at
     by_mode false took =
         value_back (IsPrefixDer limit) (prefix_at limit) old new result (prefix_reading limit)
@@ -168,12 +177,15 @@ both : (a b : Bool) → a ≡ true → (a && b) ≡ false → b ≡ false
 both v0 b e f = grind (arith)
 
 -- the two looks in either order
-either_order : {A B : Type 0} (strict padded : Bool) (b : A) (p : B) (check : A → Result B DerError) → check b ≡ Ok p → passing strict (λ q. padded) p ≡ (passing strict (λ c. padded) b >>= check)
+either_order : {A B : Type 0} (strict padded : Bool) (b : A) (p : B) (check : A → Result B DerError) → check b ≡ Ok p
+    → passing strict (λ q. padded) p ≡ (passing strict (λ c. padded) b >>= check)
 unfolding passing
 either_order strict padded b p check e = grind (arith)
 
 -- what is read of a content in the order of the code
-pub length_first : (strict : Bool) (limit : ℕ) (content : List ℕ) → limit ≤ 128 → prefix_in_by strict limit content ≡ cond (is_longer limit content) (Err BadPrefix) (bits_by strict content >>= prefix_of limit)
+pub length_first : (strict : Bool) (limit : ℕ) (content : List ℕ) → limit ≤ 128
+    → prefix_in_by strict limit content
+    ≡ cond (is_longer limit content) (Err BadPrefix) (bits_by strict content >>= prefix_of limit)
 unfolding prefix_in_by prefix_of_by bits bits_by prefix_of passing
 length_first strict limit v2 le = grind (arith, and_parts, both, either_order, eqb-true, le-leb, le-ltb, leb-true, lt-ltb, ltb-false, ltb-true, or_from, or_parts, or_true, true_or)
 
@@ -186,7 +198,8 @@ last_below q is =
     multiple_gap (2 ^ (128 - q.len)) q.first (2 ^ 128) (mod_multiple (128 - q.len) q.first is.aligned) (multiple_smaller (128 - q.len) 128 (2 ^ 128) (omega arith) all) is.below
 
 -- the range from one prefix of limit bits to another
-pub within : (limit : ℕ) (p q : PrefixValue) (r : RangeValue) → limit ≤ 128 → IsPrefix 128 p → p.len ≤ limit → IsPrefix 128 q → q.len ≤ limit → IsSpan p q r → IsRangeWithin limit r
+pub within : (limit : ℕ) (p q : PrefixValue) (r : RangeValue) → limit ≤ 128 → IsPrefix 128 p → p.len ≤ limit
+    → IsPrefix 128 q → q.len ≤ limit → IsSpan p q r → IsRangeWithin limit r
 within limit p q r le is_p short_p is_q short_q from_to =
     let some : 0 < 2 ^ (128 - q.len) = pow_pos (128 - q.len) in
     let pos : 0 < 2 ^ (128 - limit) = pow_pos (128 - limit) in

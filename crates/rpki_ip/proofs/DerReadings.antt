@@ -39,7 +39,8 @@ pub bits_prefix_check : (limit : ℕ) → IsCheck IsBits (SaysPrefix limit) (pre
 bits_prefix_check limit = record { takes = prefix_says limit; again = prefix_again limit }
 
 -- a content that is read as a prefix says it
-prefix_in_says : (limit : ℕ) (content : List ℕ) (p : PrefixValue) → prefix_in limit content ≡ Ok p → IsPrefixContent limit content p
+prefix_in_says : (limit : ℕ) (content : List ℕ) (p : PrefixValue) → prefix_in limit content ≡ Ok p
+    → IsPrefixContent limit content p
 unfolding prefix_in
 prefix_in_says limit content p e =
     let x = bind_ok (bits content) (prefix_of limit) p e in
@@ -47,7 +48,8 @@ prefix_in_says limit content p e =
     (x.0, is, prefix_says limit x.0 p is.counted x.2)
 
 -- a content that says a prefix is read as it
-prefix_in_again : (limit : ℕ) (content : List ℕ) (p : PrefixValue) → IsPrefixContent limit content p → prefix_in limit content ≡ Ok p
+prefix_in_again : (limit : ℕ) (content : List ℕ) (p : PrefixValue) → IsPrefixContent limit content p
+    → prefix_in limit content ≡ Ok p
 unfolding prefix_in
 prefix_in_again limit content p is = rw (bits_check.again content is.0 is.1) (prefix_again limit is.0 p is.2)
 
@@ -56,11 +58,13 @@ pub prefix_check : (limit : ℕ) → IsCheck (λ _. Unit {0}) (IsPrefixContent l
 prefix_check limit = record { takes = λ content p fits e. prefix_in_says limit content p e; again = prefix_in_again limit }
 
 -- the BIT STRING of a prefix, by its content and as a bit string
-prefix_to : (limit : ℕ) (bytes : List ℕ) (p : PrefixValue) → Refines (IsTagged 3) (IsPrefixContent limit) bytes p → IsPrefixDer limit bytes p
+prefix_to : (limit : ℕ) (bytes : List ℕ) (p : PrefixValue) → Refines (IsTagged 3) (IsPrefixContent limit) bytes p
+    → IsPrefixDer limit bytes p
 prefix_to limit bytes p (content, is, (b, says, prefix)) = (b, (says.counted, subst (IsTagged 3 bytes) says.spelled is), prefix)
 
 -- and the other way round
-prefix_from : (limit : ℕ) (bytes : List ℕ) (p : PrefixValue) → IsPrefixDer limit bytes p → Refines (IsTagged 3) (IsPrefixContent limit) bytes p
+prefix_from : (limit : ℕ) (bytes : List ℕ) (p : PrefixValue) → IsPrefixDer limit bytes p
+    → Refines (IsTagged 3) (IsPrefixContent limit) bytes p
 prefix_from limit bytes p (b, (counted, is), prefix) = (bit_content b, is, (b, record { counted = counted; spelled = refl }, prefix))
 
 -- a BIT STRING of a prefix

@@ -6,7 +6,8 @@ use Rattle.rpki_ip.proofs.Shortest.{shortest_from_is, shortest_to_is}
 -- ---- lengths
 
 -- the BIT STRING of at most sixteen octets
-length_bit_string : (unused : ℕ) (octets : List ℕ) → length octets ≤ 16 → length (bit_string_value (record { unused = unused; octets = octets })) < 20
+length_bit_string : (unused : ℕ) (octets : List ℕ) → length octets ≤ 16
+    → length (bit_string_value (record { unused = unused; octets = octets })) < 20
 unfolding header length_octets
 length_bit_string unused octets few =
     let small : ltb (length (unused ∷ octets)) 128 ≡ true = lt-ltb (length (unused ∷ octets)) 128 (omega arith) in
@@ -17,8 +18,8 @@ pub length_prefix : (p : PrefixValue) → IsPrefix 128 p → length (prefix_der 
 length_prefix p is = length_bit_string _ _ (bits_few p is)
 
 -- what was appended in three parts
-pub joined : (old first front back first' front' back' b c d : List ℕ) → b ≡ old ++ first → c ≡ b ++ front → d ≡ c ++ back → first ≡ first' → front ≡ front' → back ≡ back'
-    → d ≡ old ++ (first' ++ (front' ++ back'))
+pub joined : (old first front back first' front' back' b c d : List ℕ) → b ≡ old ++ first → c ≡ b ++ front
+    → d ≡ c ++ back → first ≡ first' → front ≡ front' → back ≡ back' → d ≡ old ++ (first' ++ (front' ++ back'))
 joined old first front back first' front' back' b c d eb ec ed e1 e2 e3 =
     ed ∙ ap (λ t. t ++ back) (ec ∙ ap (λ t. t ++ front) eb) ∙ append_assoc (old ++ first) front back ∙ append_assoc old first (front ++ back)
     ∙ ap (λ t. old ++ (t ++ (front ++ back))) e1 ∙ ap (λ t. old ++ (first' ++ (t ++ back))) e2 ∙ ap (λ t. old ++ (first' ++ (front' ++ t))) e3
@@ -30,11 +31,13 @@ pub prefix_written : (limit : ℕ) (p : PrefixValue) → IsPrefix 128 p → p.le
 prefix_written limit p is short = (prefix_bits p, (bits_fit p is, value_is 3 _ (omega arith) (omega (arith, bits_few p is))), bits_say limit p is short)
 
 -- a least address of limit bits is written with at most limit bits
-pub from_short : (limit a : ℕ) → limit ≤ 128 → a < 2 ^ 128 → a % 2 ^ (128 - limit) ≡ 0 → (without_end_zeros a).len ≤ limit
+pub from_short : (limit a : ℕ) → limit ≤ 128 → a < 2 ^ 128 → a % 2 ^ (128 - limit) ≡ 0
+    → (without_end_zeros a).len ≤ limit
 from_short limit a le lt z = (shortest_from_is a lt).shortest (record { first = a; len = limit }) (record { short = le; aligned = z; below = lt }) refl
 
 -- and so is a greatest address of limit bits
-pub to_short : (limit a : ℕ) → limit ≤ 128 → a < 2 ^ 128 → (a + 1) % 2 ^ (128 - limit) ≡ 0 → (without_end_ones a).len ≤ limit
+pub to_short : (limit a : ℕ) → limit ≤ 128 → a < 2 ^ 128 → (a + 1) % 2 ^ (128 - limit) ≡ 0
+    → (without_end_ones a).len ≤ limit
 to_short limit a le lt z =
     let pos : 0 < 2 ^ (128 - limit) = pow_pos (128 - limit) in
     let m : IsMultiple (2 ^ (128 - limit)) (a + 1) = mod_multiple (128 - limit) (a + 1) z in
@@ -44,7 +47,8 @@ to_short limit a le lt z =
     (omega arith)
 
 -- the SEQUENCE of a range
-pub range_written : (limit : ℕ) (r : RangeValue) → limit ≤ 128 → IsRangeWithin limit r → IsRangeDer limit (range_der r) r
+pub range_written : (limit : ℕ) (r : RangeValue) → limit ≤ 128 → IsRangeWithin limit r
+    → IsRangeDer limit (range_der r) r
 range_written limit r le is =
     let low : r.min < 2 ^ 128 = omega (arith, is.is_range.ordered, is.is_range.below) in
     let p = shortest_from_is r.min low in
@@ -67,7 +71,8 @@ range_written limit r le is =
 -- ---- limits
 
 -- a prefix whose first number and whose next one are multiples has no more bits than the limit
-pub few_bits : (limit len first next : ℕ) → limit ≤ 128 → len ≤ 128 → first % 2 ^ (128 - limit) ≡ 0 → next % 2 ^ (128 - limit) ≡ 0 → first < next → first + 2 ^ (128 - len) ≡ next → len ≤ limit
+pub few_bits : (limit len first next : ℕ) → limit ≤ 128 → len ≤ 128 → first % 2 ^ (128 - limit) ≡ 0
+    → next % 2 ^ (128 - limit) ≡ 0 → first < next → first + 2 ^ (128 - len) ≡ next → len ≤ limit
 few_bits limit len first next le short low high some count = elim (cases_lt limit len) [
   | inr enough ↦ enough
   | inl long ↦ absurd (

@@ -8,14 +8,18 @@ use Rattle.rpki_addr.specs.AddrText.{first_of}
 use Rattle.rpki_addr.specs.declared.addr.IpAddr.{IpAddr}
 
 -- digits are a number text
-digits_are_number : (limit : ℕ) (ds : List ℕ) (n : ℕ) → 0 < length ds → AllDigits 10 ds → digits_value 10 ds ≡ n → n ≤ limit → IsNumberText limit ds n
+digits_are_number : (limit : ℕ) (ds : List ℕ) (n : ℕ) → 0 < length ds → AllDigits 10 ds → digits_value 10 ds ≡ n
+    → n ≤ limit → IsNumberText limit ds n
 digits_are_number limit ds n some all value small =
     let first = digit_at ds 0 all some in
     let whole = without_leading_plus_none ds (λ e. omega (arith, e, first.0)) in
     record { digits = rw whole (some, all); value = rw whole value; within = small }
 
 -- so digits at the front are a length, where the family has it
-pub prefix_at : (first : IpAddr) (text : List ℕ) (n end : ℕ) (p : PrefixValue) → AreDigitsFrom 0 end text n → (end ≡ 0 → ⊥) → n ≤ bits_of (family_of first) → bits_of (family_of first) ≤ 128 → p ≡ record { first = cleared 128 (first_of first) n; len = n } → IsAtFront (λ t p. AllDigits 10 t × IsPrefixAt first t p) text p (drop end text)
+pub prefix_at : (first : IpAddr) (text : List ℕ) (n end : ℕ) (p : PrefixValue) → AreDigitsFrom 0 end text n
+    → (end ≡ 0 → ⊥) → n ≤ bits_of (family_of first) → bits_of (family_of first) ≤ 128
+    → p ≡ record { first = cleared 128 (first_of first) n; len = n }
+    → IsAtFront (λ t p. AllDigits 10 t × IsPrefixAt first t p) text p (drop end text)
 prefix_at first text n end p h some small most is =
     let count : length (take (end - 0) (drop 0 text)) ≡ end = omega (arith, length-take (end - 0) (drop 0 text), length-drop 0 text, h.digits.within) in
     let number = digits_are_number 255 (take (end - 0) (drop 0 text)) n (omega (arith, count, some)) h.digits.all_digits h.digits.value (omega (arith, small, most)) in

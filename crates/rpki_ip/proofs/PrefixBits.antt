@@ -109,7 +109,8 @@ shifted : (n k : ℕ) → n * 2 ^ k % 2 ^ k ≡ 0
 shifted n k = let e : n * 2 ^ k ≡ n * 2 ^ k + 0 = omega arith in ap (λ t. t % 2 ^ k) e ∙ mod_low n k 0 (pow_pos k)
 
 -- what bits say is a prefix
-pub said_prefix : (limit : ℕ) (b : Bits) (p : PrefixValue) → limit ≤ 128 → IsBytes b.octets → SaysPrefix limit b p → IsPrefix 128 p
+pub said_prefix : (limit : ℕ) (b : Bits) (p : PrefixValue) → limit ≤ 128 → IsBytes b.octets → SaysPrefix limit b p
+    → IsPrefix 128 p
 said_prefix limit b p le fits s = record {
   short = omega (arith, s.short, le);
   aligned = rw s.first (shifted (big_endian b.octets / 2 ^ b.unused) (128 - p.len));
@@ -128,7 +129,8 @@ abbrev padded : List ℕ → List ℕ
 padded octets = octets ++ replicate (16 - length octets) 0
 
 -- each zero makes the number an octet longer
-from_be_bytes-padded : (octets : List ℕ) → length octets ≤ 16 → from_be_bytes w128 (padded octets) ≡ big_endian octets * 2 ^ (128 - 8 * length octets)
+from_be_bytes-padded : (octets : List ℕ) → length octets ≤ 16
+    → from_be_bytes w128 (padded octets) ≡ big_endian octets * 2 ^ (128 - 8 * length octets)
 from_be_bytes-padded [] le = refl
 from_be_bytes-padded (a ∷ []) le = omega arith
 from_be_bytes-padded (a ∷ b ∷ []) le = omega arith
@@ -150,7 +152,9 @@ from_be_bytes-padded (a ∷ b ∷ c ∷ d ∷ e ∷ f ∷ g ∷ h ∷ i ∷ j �
 
 -- sixteen zeros, with octets written over the first of them
 pub number_before : (octets written : List ℕ) → length octets ≤ 16 → written ≡ octets
-    → from_be_bytes w128 (put_mid 0 (length octets) (0 ∷ 0 ∷ 0 ∷ 0 ∷ 0 ∷ 0 ∷ 0 ∷ 0 ∷ 0 ∷ 0 ∷ 0 ∷ 0 ∷ 0 ∷ 0 ∷ 0 ∷ 0 ∷ []) written) ≡ big_endian octets * 2 ^ (128 - 8 * length octets)
+    → from_be_bytes w128
+    (put_mid 0 (length octets) (0 ∷ 0 ∷ 0 ∷ 0 ∷ 0 ∷ 0 ∷ 0 ∷ 0 ∷ 0 ∷ 0 ∷ 0 ∷ 0 ∷ 0 ∷ 0 ∷ 0 ∷ 0 ∷ []) written)
+    ≡ big_endian octets * 2 ^ (128 - 8 * length octets)
 number_before octets written le e =
     let behind : drop (length octets) (replicate {A = ℕ} 16 0) ≡ replicate (16 - length octets) 0 = drop-replicate (length octets) 16 0 in
     rw (e, behind) (from_be_bytes-padded octets le)

@@ -54,7 +54,8 @@ count_of : (p : PrefixValue) (r : RangeValue) → IsRangeOf p r → r.max - r.mi
 count_of p r same = omega (arith, same.begins, same.ends, pow_pos (128 - p.len))
 
 -- prefixes of the same addresses are one
-pub one_prefix : (p q : PrefixValue) (r : RangeValue) → IsPrefix 128 p → IsPrefix 128 q → IsRangeOf p r → IsRangeOf q r → p ≡ q
+pub one_prefix : (p q : PrefixValue) (r : RangeValue) → IsPrefix 128 p → IsPrefix 128 q → IsRangeOf p r → IsRangeOf q r
+    → p ≡ q
 one_prefix p q r is other same too =
     let counts : 2 ^ (128 - p.len) ≡ 2 ^ (128 - q.len) = sym (count_of p r same) ∙ count_of q r too in
     let host : 128 - p.len ≡ 128 - q.len = power_is (128 - p.len) (128 - q.len) (omega (arith, counts)) (λ less. omega (arith, counts, pow_pos (128 - p.len))) in
@@ -65,7 +66,8 @@ one_prefix p q r is other same too =
 -- what both tests find
 pub prefix_of_bits : (r : RangeValue) → r.min ≤ r.max → r.max < 2 ^ 128
     → bit_and (r.max - r.min) ((r.max - r.min + 1) % 2 ^ 128) ≡ 0 → bit_and r.min (r.max - r.min) ≡ 0
-    → let p : PrefixValue = record { first = r.min; len = count_leading_zeros 128 (r.max - r.min) } in IsPrefix 128 p × IsRangeOf p r
+    → let p : PrefixValue = record { first = r.min; len = count_leading_zeros 128 (r.max - r.min) } in IsPrefix 128 p
+    × IsRangeOf p r
 prefix_of_bits r ordered below ones clear =
     let t = leading_length 128 (r.max - r.min) (omega (arith, below)) in
     let short : count_leading_zeros 128 (r.max - r.min) ≤ 128 = omega (arith, t.1) in

@@ -19,5 +19,6 @@ whole_bounds b ordered whole =
     record { begins = omega (arith, first); ends = omega (arith, last) }
 
 -- so a test of the bounds is one of the set
-pub whole_test : (b : ℕ × ℕ) (test : Bool) → b.0 ≤ b.1 → (IsTrue test ↔ HasWholeBounds b) → IsTrue test ↔ IsWhole (IsWithin b)
+pub whole_test : (b : ℕ × ℕ) (test : Bool) → b.0 ≤ b.1 → (IsTrue test ↔ HasWholeBounds b)
+    → IsTrue test ↔ IsWhole (IsWithin b)
 whole_test b test ordered same = (λ yes. whole_set b (same.0 yes), λ whole. same.1 (whole_bounds b ordered whole))

@@ -12,17 +12,20 @@ use Rattle.rpki_ip_block.proofs.FormLemmas.{new_prefix}
 range_form : (b : ℕ × ℕ) → is_range (new_ip_block b) ≡ true → Range (record { min = b.0; max = b.1 }) ≡ new_ip_block b
 range_form b e = by_length (length_of b) e
   where
-    by_length : (o : Option ℕ) → is_range (block_from b o) ≡ true → Range (record { min = b.0; max = b.1 }) ≡ block_from b o
+    by_length : (o : Option ℕ) → is_range (block_from b o) ≡ true
+        → Range (record { min = b.0; max = b.1 }) ≡ block_from b o
     by_length None e = refl
     by_length (Some len) e = absurd cc
 
 -- the prefixes that are written
-first_is : (p : PrefixValue) (r : RangeValue) → r.min ≡ p.first → p.len ≡ (without_end_zeros p.first).len → p ≡ without_end_zeros r.min
+first_is : (p : PrefixValue) (r : RangeValue) → r.min ≡ p.first → p.len ≡ (without_end_zeros p.first).len
+    → p ≡ without_end_zeros r.min
 first_is p r begins len =
     let same : p.len ≡ (without_end_zeros r.min).len = len ∙ ap (λ a. (without_end_zeros a).len) (sym begins) in
     λ i. record { first = sym begins i; len = same i }
 
-second_is : (q : PrefixValue) (r : RangeValue) → r.max < 2 ^ 128 → r.max ≡ last_of 128 q → q.len ≡ (without_end_ones (last_of 128 q)).len → q ≡ without_end_ones r.max
+second_is : (q : PrefixValue) (r : RangeValue) → r.max < 2 ^ 128 → r.max ≡ last_of 128 q
+    → q.len ≡ (without_end_ones (last_of 128 q)).len → q ≡ without_end_ones r.max
 second_is q r below ends len =
     let w = without_end_ones r.max in
     let shortest = shortest_to_is r.max below in
@@ -35,7 +38,8 @@ second_is q r below ends len =
 -- ---- blocks
 
 -- what strict cursors take is what is written of a block that sets have
-pub set_block_is : (limit : ℕ) (bytes : List ℕ) (block : IpBlock) → limit ≤ 128 → IsBytes bytes → IsStrictIpBlock limit bytes block → Spells (IsSetIpBlock limit) ip_block_der bytes block
+pub set_block_is : (limit : ℕ) (bytes : List ℕ) (block : IpBlock) → limit ≤ 128 → IsBytes bytes
+    → IsStrictIpBlock limit bytes block → Spells (IsSetIpBlock limit) ip_block_der bytes block
 set_block_is limit bytes (Prefix p) le fits is =
     let spelled = prefix_is_spelled limit bytes p le fits is in
     ((spelled.0, new_prefix p spelled.0.0), spelled.1)
@@ -54,7 +58,8 @@ set_block_is limit bytes (Range r) le fits (content, sequence, (p, q, (rest, fro
     let form : Range r ≡ new_ip_block (range_bounds r) = range_form (range_bounds r) (ap (λ b. is_range (new_ip_block b)) (sym bounds) ∙ parts.1) in
     ((range, form), sequence.spelled ∙ ap sequence_value whole)
 
-pub is_set_block : (limit : ℕ) (bytes : List ℕ) (block : IpBlock) → limit ≤ 128 → Spells (IsSetIpBlock limit) ip_block_der bytes block → IsStrictIpBlock limit bytes block
+pub is_set_block : (limit : ℕ) (bytes : List ℕ) (block : IpBlock) → limit ≤ 128
+    → Spells (IsSetIpBlock limit) ip_block_der bytes block → IsStrictIpBlock limit bytes block
 is_set_block limit bytes (Prefix p) le ((is, form), spelled) = spelled_is_prefix limit bytes p (is, spelled)
 is_set_block limit bytes (Range r) le ((is, form), spelled) =
     let low : r.min < 2 ^ 128 = omega (arith, is.is_range.ordered, is.is_range.below) in
@@ -80,6 +85,7 @@ is_set_block limit bytes (Range r) le ((is, form), spelled) =
     both_true true b e f = f
     both_true false b e f = absurd cc
 
-pub set_block_reading : (limit : ℕ) → limit ≤ 128 → IsReading (Spells (IsSetIpBlock limit) ip_block_der) (ip_block_by true limit)
+pub set_block_reading : (limit : ℕ) → limit ≤ 128
+    → IsReading (Spells (IsSetIpBlock limit) ip_block_der) (ip_block_by true limit)
 set_block_reading limit le =
     same_reading (IsStrictIpBlock limit) (Spells (IsSetIpBlock limit) ip_block_der) (ip_block_by true limit) (λ bytes block fits is. set_block_is limit bytes block le fits is) (λ bytes block is. is_set_block limit bytes block le is) (ip_block_modal limit).tight

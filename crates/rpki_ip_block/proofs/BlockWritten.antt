@@ -6,16 +6,19 @@ use Rattle.rpki_der.specs.declared.error.DerError.{DerError}
 use Rattle.rpki_ip_block.proofs.BlockModes.{is_set_block}
 
 -- a block whose bounds need no more bits than the limit
-pub block_written : (limit : ℕ) (block : IpBlock) → limit ≤ 128 → IsBlockWithin limit block → IsIpBlockDer limit (ip_block_der block) block
+pub block_written : (limit : ℕ) (block : IpBlock) → limit ≤ 128 → IsBlockWithin limit block
+    → IsIpBlockDer limit (ip_block_der block) block
 block_written limit (Prefix p) le is = prefix_written limit p is.0 is.1
 block_written limit (Range r) le is = range_written limit r le is
 
 -- it is read back
-pub block_back : (limit : ℕ) (block : IpBlock) (rest : List ℕ) → limit ≤ 128 → IsBlockWithin limit block → ip_block_at limit (ip_block_der block ++ rest) ≡ Ok (block, rest)
+pub block_back : (limit : ℕ) (block : IpBlock) (rest : List ℕ) → limit ≤ 128 → IsBlockWithin limit block
+    → ip_block_at limit (ip_block_der block ++ rest) ≡ Ok (block, rest)
 block_back limit block rest le is = (ip_block_reading limit).again (ip_block_der block) block rest (block_written limit block le is)
 
 -- a block of a family needs no more bits than its addresses
-pub family_within : (family : AddressFamily) (block : IpBlock) → IsBlockOf family block → IsBlockWithin (bits_of family) block
+pub family_within : (family : AddressFamily) (block : IpBlock) → IsBlockOf family block
+    → IsBlockWithin (bits_of family) block
 family_within Ipv4 (Prefix p) (fits, whole) =
     let some : 0 < 2 ^ (128 - p.len) = pow_pos (128 - p.len) in
     (fits, few_bits 32 p.len p.first (p.first + 2 ^ (128 - p.len) - 1 + 1) (omega arith) fits.short whole.begins whole.ends (omega (arith, some)) (omega (arith, some)))
@@ -24,8 +27,10 @@ family_within Ipv6 (Prefix p) fits = (fits, fits.short)
 family_within Ipv6 (Range r) fits = record { is_range = fits; zeros = omega arith; ones = omega arith }
 
 -- what was written of a block is read as the block
-pub taken_back : (family : AddressFamily) (old new : Cursor) (result : Result (Option IpBlock) DerError) → Takes (λ block. block) old new result (optional (ip_block_by (is_strict old) (bits_of family)))
-    → (block : IpBlock) (rest : List ℕ) → IsBlockOf family block → (is_strict old ≡ true → IsNew ip_bounds new_ip_block block) → left old ≡ ip_block_der block ++ rest
+pub taken_back : (family : AddressFamily) (old new : Cursor) (result : Result (Option IpBlock) DerError)
+    → Takes (λ block. block) old new result (optional (ip_block_by (is_strict old) (bits_of family)))
+    → (block : IpBlock) (rest : List ℕ) → IsBlockOf family block
+    → (is_strict old ≡ true → IsNew ip_bounds new_ip_block block) → left old ≡ ip_block_der block ++ rest
     → (result ≡ Ok (Some block)) × (left new ≡ rest)
 taken_back family old new result took block rest is form at = by_mode (is_strict old) took form
   where
@@ -41,7 +46,8 @@ taken_back family old new result took block rest is form at = by_mode (is_strict
     strictly : IsNew ip_bounds new_ip_block block → IsStrictIpBlock (bits_of family) (ip_block_der block) block
     strictly new_form = is_set_block (bits_of family) (ip_block_der block) block (bits_few_enough family) ((within, new_form), refl)
 
-    by_mode : (strict : Bool) → Takes (λ block. block) old new result (optional (ip_block_by strict (bits_of family))) → (strict ≡ true → IsNew ip_bounds new_ip_block block) → (result ≡ Ok (Some block)) × (left new ≡ rest)
+    by_mode : (strict : Bool) → Takes (λ block. block) old new result (optional (ip_block_by strict (bits_of family)))
+        → (strict ≡ true → IsNew ip_bounds new_ip_block block) → (result ≡ Ok (Some block)) × (left new ≡ rest)
     by_mode true took form = optional_back (IsStrictIpBlock (bits_of family)) (ip_block_by true (bits_of family)) old new result (ip_block_modal (bits_of family)).tight took (ip_block_der block) block rest some (strictly (form refl)) at
     by_mode false took form =
         optional_back (IsIpBlockDer (bits_of family)) (ip_block_at (bits_of family)) old new result (ip_block_reading (bits_of family))

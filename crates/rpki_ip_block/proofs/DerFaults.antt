@@ -22,7 +22,9 @@ module _ (limit : ℕ) where
   abbrev Fails : List ℕ → Type 0
   Fails content = range_block_in limit content ≡ Err ReversedRange
 
-  pub block_fails : (bytes : List ℕ) → (ip_block_at limit bytes ≡ Err ReversedRange) ↔ BeginsWithValue 48 (BeginsWithTwo (prefix_at limit) (λ p q. last_of 128 q < p.first)) bytes
+  pub block_fails : (bytes : List ℕ)
+      → (ip_block_at limit bytes ≡ Err ReversedRange)
+      ↔ BeginsWithValue 48 (BeginsWithTwo (prefix_at limit) (λ p q. last_of 128 q < p.first)) bytes
   block_fails bytes =
       let both = sequence_fails 3 (prefix_block_in limit) (range_block_in limit) ReversedRange (λ e. omega (arith, e)) (omega arith) (λ content. not_named 8 (prefix_block_in limit content) ReversedRange (prefix_block_names content) (omega arith)) bytes in (
         (λ is. begins_value 48 Fails Reversed (λ content fails. (range_fails limit content).0 ((mapped_fails (range_in limit content) Range ReversedRange).0 fails)) bytes (both.0 is)),

@@ -54,7 +54,8 @@ new_prefix p is = by_length (length_of (prefix_bounds p)) refl
         λ i. Prefix (record { first = p.first; len = same i })
 
 -- bounds with a length begin a prefix of that length
-prefix_of_length : (b : ℕ × ℕ) (len : ℕ) → b.1 < 2 ^ 128 → len ≤ 128 → has_length b len ≡ true → IsPrefix 128 (record { first = b.0; len = len })
+prefix_of_length : (b : ℕ × ℕ) (len : ℕ) → b.1 < 2 ^ 128 → len ≤ 128 → has_length b len ≡ true
+    → IsPrefix 128 (record { first = b.0; len = len })
 unfolding has_length
 prefix_of_length b len below short has =
     let parts = both_pass (b.0 % 2 ^ (128 - len) == 0) (b.0 + 2 ^ (128 - len) == b.1 + 1) has in
@@ -63,7 +64,8 @@ prefix_of_length b len below short has =
     record { short = short; aligned = eqb-true _ _ parts.0; below = omega (arith, some, count, below) }
 
 -- a range of no prefix is the block of its bounds
-pub new_range : (r : RangeValue) → r.max < 2 ^ 128 → ((p : PrefixValue) → IsPrefix 128 p → IsRangeOf p r → ⊥) → Range r ≡ new_ip_block (range_bounds r)
+pub new_range : (r : RangeValue) → r.max < 2 ^ 128 → ((p : PrefixValue) → IsPrefix 128 p → IsRangeOf p r → ⊥)
+    → Range r ≡ new_ip_block (range_bounds r)
 unfolding length_of
 new_range r below no_prefix = by_length (length_of (range_bounds r)) refl
   where
@@ -84,7 +86,8 @@ new_block_fits b ordered below = by_length (length_of b) refl
     by_length (Some len) e = let (short, has) = found_length 128 b len e in prefix_of_length b len below short has
 
 -- a prefix of IPv4 is one of 128 bits, with 96 zeros behind its address
-prefix_of_v4 : (n len : ℕ) → IsPrefix 32 (record { first = n; len = len }) → IsPrefix 128 (record { first = n * 2 ^ 96; len = len })
+prefix_of_v4 : (n len : ℕ) → IsPrefix 32 (record { first = n; len = len })
+    → IsPrefix 128 (record { first = n * 2 ^ 96; len = len })
 prefix_of_v4 n len is =
     let short : len ≤ 32 = is.short in
     let all : n / 2 ^ (32 - len) * 2 ^ (32 - len) + n % 2 ^ (32 - len) ≡ n = shr_split n (32 - len) in
@@ -99,7 +102,8 @@ prefix_of_v4 n len is =
     }
 
 -- so a prefix of either family is one of 128 bits
-prefix_of : (a : IpAddr) (len : ℕ) → IsFamilyPrefix (record { addr = a; len = len }) → IsPrefix 128 (record { first = first_of a; len = len })
+prefix_of : (a : IpAddr) (len : ℕ) → IsFamilyPrefix (record { addr = a; len = len })
+    → IsPrefix 128 (record { first = first_of a; len = len })
 prefix_of (V4 n) len is = prefix_of_v4 n len is
 prefix_of (V6 n) len is = is
 

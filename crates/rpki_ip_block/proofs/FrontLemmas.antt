@@ -20,7 +20,8 @@ not_foreign : (family : AddressFamily) (text : List ℕ) → OwnBytes family tex
 not_foreign Ipv4 text h foreign = let below = All-contains (λ b. b < 58) text 58 h foreign in omega (arith, below)
 not_foreign Ipv6 text h foreign = foreign.1 h
 
-own_and_more : (family : AddressFamily) (xs ys : List ℕ) → OwnBytes family xs → MoreBytes family ys → OwnBytes family (xs ++ ys)
+own_and_more : (family : AddressFamily) (xs ys : List ℕ) → OwnBytes family xs → MoreBytes family ys
+    → OwnBytes family (xs ++ ys)
 own_and_more Ipv4 xs ys h k = All-append (λ b. b < 58) xs ys h k
 own_and_more Ipv6 xs ys h k = Contains-append_left xs ys 58 h
 
@@ -95,11 +96,14 @@ digits_written [] h = tt
 digits_written (c ∷ cs) h = let range = digit_from_value c h.0 in ((range.0, omega (arith, range.1)), digits_written cs h.1)
 
 -- two texts round a byte, and what stands behind them
-pair_split : (text xs rest last ys left : List ℕ) (b : ℕ) → text ≡ xs ++ rest → rest ≡ b ∷ last → last ≡ ys ++ left → text ≡ (xs ++ b ∷ ys) ++ left
+pair_split : (text xs rest last ys left : List ℕ) (b : ℕ) → text ≡ xs ++ rest → rest ≡ b ∷ last → last ≡ ys ++ left
+    → text ≡ (xs ++ b ∷ ys) ++ left
 pair_split text xs rest last ys left b h is k = h ∙ ap (λ t. xs ++ t) (is ∙ ap (λ t. b ∷ t) k) ∙ sym (append_assoc xs (b ∷ ys) left)
 
 -- one address is a block
-pub single_front : (family : AddressFamily) (text : List ℕ) (a : IpAddr) (rest : List ℕ) (r : RangeValue) → IsAtFront (IsAddressText (Some family)) text a rest → IsRangeFrom a a r → IsBlockAtFront family text (Range r) rest
+pub single_front : (family : AddressFamily) (text : List ℕ) (a : IpAddr) (rest : List ℕ) (r : RangeValue)
+    → IsAtFront (IsAddressText (Some family)) text a rest → IsRangeFrom a a r
+    → IsBlockAtFront family text (Range r) rest
 single_front family text a rest r h is =
     let here = plain family h.front a h.writes in
     record {
@@ -111,7 +115,10 @@ single_front family text a rest r h is =
     }
 
 -- so are two round a dash
-range_front : (family : AddressFamily) (text : List ℕ) (a : IpAddr) (rest last : List ℕ) (r : RangeValue) (left : List ℕ) → IsAtFront (IsAddressText (Some family)) text a rest → rest ≡ dash ∷ last → IsAtFront (λ t r. WithAddress (Some family) t (λ b. IsRangeFrom a b r)) last r left → IsBlockAtFront family text (Range r) left
+range_front : (family : AddressFamily) (text : List ℕ) (a : IpAddr) (rest last : List ℕ) (r : RangeValue)
+    (left : List ℕ) → IsAtFront (IsAddressText (Some family)) text a rest → rest ≡ dash ∷ last
+    → IsAtFront (λ t r. WithAddress (Some family) t (λ b. IsRangeFrom a b r)) last r left
+    → IsBlockAtFront family text (Range r) left
 range_front family text a rest last r left h is k =
     let xs = h.front in
     let ys = k.front in
@@ -140,7 +147,9 @@ range_front family text a rest last r left h is k =
     }
 
 -- and one and a length round a slash
-prefix_front : (family : AddressFamily) (text : List ℕ) (a : IpAddr) (rest len : List ℕ) (p : PrefixValue) (left : List ℕ) → IsAtFront (IsAddressText (Some family)) text a rest → rest ≡ slash ∷ len → IsAtFront (λ t p. AllDigits 10 t × IsPrefixAt a t p) len p left → IsBlockAtFront family text (Prefix p) left
+prefix_front : (family : AddressFamily) (text : List ℕ) (a : IpAddr) (rest len : List ℕ) (p : PrefixValue)
+    (left : List ℕ) → IsAtFront (IsAddressText (Some family)) text a rest → rest ≡ slash ∷ len
+    → IsAtFront (λ t p. AllDigits 10 t × IsPrefixAt a t p) len p left → IsBlockAtFront family text (Prefix p) left
 prefix_front family text a rest len p left h is k =
     let xs = h.front in
     let ys = k.front in
@@ -167,12 +176,17 @@ prefix_front family text a rest len p left h is k =
     }
 
 -- so what is found behind a dash or a slash is a block
-pub range_found : (family : AddressFamily) (text : List ℕ) (a : IpAddr) (rest last : List ℕ) (found : Option (IpBlock × Bor (List ℕ))) → IsAtFront (IsAddressText (Some family)) text a rest → rest ≡ dash ∷ last → IfSome found (λ f. IsRangeBehind family a last f.0 f.1.now) → IfSome found (λ f. IsBlockAtFront family text f.0 f.1.now)
+pub range_found : (family : AddressFamily) (text : List ℕ) (a : IpAddr) (rest last : List ℕ)
+    (found : Option (IpBlock × Bor (List ℕ))) → IsAtFront (IsAddressText (Some family)) text a rest → rest ≡ dash ∷ last
+    → IfSome found (λ f. IsRangeBehind family a last f.0 f.1.now)
+    → IfSome found (λ f. IsBlockAtFront family text f.0 f.1.now)
 range_found family text a rest last None h is k = tt
 range_found family text a rest last (Some (Range r, left)) h is k = range_front family text a rest last r left.now h is k
 range_found family text a rest last (Some (Prefix p, left)) h is k = absurd k
 
-pub prefix_found : (family : AddressFamily) (text : List ℕ) (a : IpAddr) (rest len : List ℕ) (found : Option (IpBlock × Bor (List ℕ))) → IsAtFront (IsAddressText (Some family)) text a rest → rest ≡ slash ∷ len → IfSome found (λ f. IsPrefixBehind a len f.0 f.1.now) → IfSome found (λ f. IsBlockAtFront family text f.0 f.1.now)
+pub prefix_found : (family : AddressFamily) (text : List ℕ) (a : IpAddr) (rest len : List ℕ)
+    (found : Option (IpBlock × Bor (List ℕ))) → IsAtFront (IsAddressText (Some family)) text a rest → rest ≡ slash ∷ len
+    → IfSome found (λ f. IsPrefixBehind a len f.0 f.1.now) → IfSome found (λ f. IsBlockAtFront family text f.0 f.1.now)
 prefix_found family text a rest len None h is k = tt
 prefix_found family text a rest len (Some (Prefix p, left)) h is k = prefix_front family text a rest len p left.now h is k
 prefix_found family text a rest len (Some (Range r, left)) h is k = absurd k

@@ -19,14 +19,16 @@ module _ (family : AddressFamily) (left start : List ℕ) (b : IpBlock) (rest : 
   ]
 
   -- one that a comma follows leaves what is behind the comma
-  pub one_more : (text : List ℕ) (blocks : List IpBlock) (more : List ℕ) → IsSoFar family text left blocks → rest ≡ 44 ∷ more → IsSoFar family text more (blocks ++ b ∷ [])
+  pub one_more : (text : List ℕ) (blocks : List IpBlock) (more : List ℕ) → IsSoFar family text left blocks
+      → rest ≡ 44 ∷ more → IsSoFar family text more (blocks ++ b ∷ [])
   one_more text blocks more so_far comma others has =
       let shape : left ≡ part.0 ++ 44 ∷ more = part.2 ∙ ap (λ t. part.0 ++ t) comma in
       let these : elements left ≡ h.front ∷ elements more = ap elements shape ∙ elements_first part.0 h.front more part.1 is_element in
       subst (HasBlocks family text) (sym (append_assoc blocks (b ∷ []) others)) (so_far (b ∷ others) (subst (λ t. HaveValues (IsElementText family) t (b ∷ others)) (sym these) (h.block, has)))
 
   -- and one that ends the text is the last
-  pub all_read : (text : List ℕ) (blocks : List IpBlock) → IsSoFar family text left blocks → rest ≡ [] → HasBlocks family text (blocks ++ b ∷ [])
+  pub all_read : (text : List ℕ) (blocks : List IpBlock) → IsSoFar family text left blocks → rest ≡ []
+      → HasBlocks family text (blocks ++ b ∷ [])
   all_read text blocks so_far last =
       let shape : left ≡ part.0 = part.2 ∙ (ap (λ t. part.0 ++ t) last ∙ append-nil part.0) in
       let these : elements left ≡ h.front ∷ [] = ap elements shape ∙ elements_last part.0 h.front part.1 is_element in

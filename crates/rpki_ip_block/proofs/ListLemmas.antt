@@ -5,10 +5,15 @@ use Rattle.rpki_text.proofs.ListLemmas.{AnswersOrMemory-from_found, HaveValues-o
 use Rattle.rpki_ip_block.proofs.TextLemmas.{block_one}
 
 -- an element that isn't taken for one of the other family is read as a block
-pub element_found : (family : AddressFamily) (text : List ℕ) (r : Result IpBlock FromStrError) (test : Bool) → (IsTrue test ↔ IsForeign family text) → test ≡ false → MatchResult r (IsIpBlockText (Some family) text) (HasIpBlockFault (Some family) text) → MatchResult r (IsElementText family text) (HasElementFault family text)
+pub element_found : (family : AddressFamily) (text : List ℕ) (r : Result IpBlock FromStrError) (test : Bool)
+    → (IsTrue test ↔ IsForeign family text) → test ≡ false
+    → MatchResult r (IsIpBlockText (Some family) text) (HasIpBlockFault (Some family) text)
+    → MatchResult r (IsElementText family text) (HasElementFault family text)
 element_found family text r test same is h = own r (λ foreign. let z : test ≡ true = same.1 foreign in cc) h
   where
-    own : (r : Result IpBlock FromStrError) → ¬ IsForeign family text → MatchResult r (IsIpBlockText (Some family) text) (HasIpBlockFault (Some family) text) → MatchResult r (IsElementText family text) (HasElementFault family text)
+    own : (r : Result IpBlock FromStrError) → ¬ IsForeign family text
+        → MatchResult r (IsIpBlockText (Some family) text) (HasIpBlockFault (Some family) text)
+        → MatchResult r (IsElementText family text) (HasElementFault family text)
     own (Ok b) none h = (none, h)
     own (Err e) none h = inr (none, h)
 
@@ -30,25 +35,32 @@ module _ {A E : Type 0} (Has : A → Type 0) (Fails : E → Type 0) (one : (r s 
   same_fault d e h k = err_one d e (Err d) refl (one (Err d) (Err e) h k)
 
 -- so a text has one block at most, or one fault
-same_block : (w : Option AddressFamily) (text : List ℕ) (a b : IpBlock) → IsIpBlockText w text a → IsIpBlockText w text b → a ≡ b
+same_block : (w : Option AddressFamily) (text : List ℕ) (a b : IpBlock) → IsIpBlockText w text a
+    → IsIpBlockText w text b → a ≡ b
 same_block w text = same_value (IsIpBlockText w text) (HasIpBlockFault w text) (block_one w text)
 
-element_apart : (family : AddressFamily) (text : List ℕ) (a : IpBlock) (e : FromStrError) → IsElementText family text a → HasElementFault family text e → ⊥
+element_apart : (family : AddressFamily) (text : List ℕ) (a : IpBlock) (e : FromStrError) → IsElementText family text a
+    → HasElementFault family text e → ⊥
 element_apart family text a e h (inl k) = h.0 k.0
 element_apart family text a e h (inr k) = value_apart (IsIpBlockText (Some family) text) (HasIpBlockFault (Some family) text) (block_one (Some family) text) a e h.1 k.1
 
-same_element_fault : (family : AddressFamily) (text : List ℕ) (d e : FromStrError) → HasElementFault family text d → HasElementFault family text e → d ≡ e
+same_element_fault : (family : AddressFamily) (text : List ℕ) (d e : FromStrError) → HasElementFault family text d
+    → HasElementFault family text e → d ≡ e
 same_element_fault family text d e (inl h) (inl k) = h.1 ∙ sym k.1
 same_element_fault family text d e (inl h) (inr k) = absurd (k.0 h.0)
 same_element_fault family text d e (inr h) (inl k) = absurd (h.0 k.0)
 same_element_fault family text d e (inr h) (inr k) = same_fault (IsIpBlockText (Some family) text) (HasIpBlockFault (Some family) text) (block_one (Some family) text) d e h.1 k.1
 
 -- a list of one family writes one list of blocks at most
-pub same_blocks : (family : AddressFamily) (text : List ℕ) (a b : List IpBlock) → HasBlocks family text a → HasBlocks family text b → a ≡ b
+pub same_blocks : (family : AddressFamily) (text : List ℕ) (a b : List IpBlock) → HasBlocks family text a
+    → HasBlocks family text b → a ≡ b
 same_blocks family text = HaveValues-one (IsElementText family) (λ t a b h k. same_block (Some family) t a b h.1 k.1) (elements text)
 
 -- or has one fault
-pub family_answers : {V : Type 0} (view : V → List IpBlock) (family : AddressFamily) (text : List ℕ) (r : Result V (OrMemory FromStrError)) → MatchResult r (λ v. HasBlocks family text (view v)) (IfRefused (HasBlocksFault family text)) → AnswersOrMemory view (HasBlocks family text) (HasBlocksFault family text) r
+pub family_answers : {V : Type 0} (view : V → List IpBlock) (family : AddressFamily) (text : List ℕ)
+    (r : Result V (OrMemory FromStrError))
+    → MatchResult r (λ v. HasBlocks family text (view v)) (IfRefused (HasBlocksFault family text))
+    → AnswersOrMemory view (HasBlocks family text) (HasBlocksFault family text) r
 family_answers view family text r found = AnswersOrMemory-from_found view _ _
     (same_blocks family text)
     (first_fault_apart (IsElementText family) (HasElementFault family) (element_apart family) (elements text))
@@ -62,14 +74,16 @@ same_family text f g (inl h) (inr k) = absurd (k.0 h.0)
 same_family text f g (inr h) (inl k) = absurd (h.0 k.0)
 same_family text f g (inr h) (inr k) = h.1 ∙ sym k.1
 
-mismatch_apart : (family : AddressFamily) (text : List ℕ) (a : IpBlock) (e : FromStrError) → IsIpBlockText (Some family) text a → HasMismatch family text e → ⊥
+mismatch_apart : (family : AddressFamily) (text : List ℕ) (a : IpBlock) (e : FromStrError)
+    → IsIpBlockText (Some family) text a → HasMismatch family text e → ⊥
 mismatch_apart family text a e h k = k.0 a h
 
 pub same_ip_blocks : (text : List ℕ) (a b : List IpBlock) → HasIpBlocks text a → HasIpBlocks text b → a ≡ b
 same_ip_blocks text a b (f, is, h) (g, iz, k) =
     HaveValues-one (IsIpBlockText (Some f)) (same_block (Some f)) (elements text) a b h (subst (λ w. HaveValues (IsIpBlockText (Some w)) (elements text) b) (same_family text g f iz is) k)
 
-ip_blocks_apart : (text : List ℕ) (a : List IpBlock) (e : FromStrError) → HasIpBlocks text a → HasIpBlocksFault text e → ⊥
+ip_blocks_apart : (text : List ℕ) (a : List IpBlock) (e : FromStrError) → HasIpBlocks text a → HasIpBlocksFault text e
+    → ⊥
 ip_blocks_apart text a e (f, is, h) (g, iz, k) =
     first_fault_apart (IsIpBlockText (Some f)) (HasMismatch f) (mismatch_apart f) (elements text) a e h (subst (λ w. HasFirstFault (IsIpBlockText (Some w)) (HasMismatch w) (elements text) e) (same_family text g f iz is) k)
 
@@ -77,10 +91,17 @@ same_ip_fault : (text : List ℕ) (d e : FromStrError) → HasIpBlocksFault text
 same_ip_fault text d e (f, is, h) (g, iz, k) =
     same_first_fault (IsIpBlockText (Some f)) (HasMismatch f) (mismatch_apart f) (λ t d e h k. h.1 ∙ sym k.1) (elements text) d e h (subst (λ w. HasFirstFault (IsIpBlockText (Some w)) (HasMismatch w) (elements text) e) (same_family text g f iz is) k)
 
-pub ip_answers : {V : Type 0} (view : V → List IpBlock) (family : AddressFamily) (text : List ℕ) → IsFamilyOf text family → (r : Result V (OrMemory FromStrError)) → MatchResult r (λ v. HaveValues (IsIpBlockText (Some family)) (elements text) (view v)) (IfRefused (HasFirstFault (IsIpBlockText (Some family)) (HasMismatch family) (elements text))) → AnswersOrMemory view (HasIpBlocks text) (HasIpBlocksFault text) r
+pub ip_answers : {V : Type 0} (view : V → List IpBlock) (family : AddressFamily) (text : List ℕ)
+    → IsFamilyOf text family → (r : Result V (OrMemory FromStrError))
+    → MatchResult r (λ v. HaveValues (IsIpBlockText (Some family)) (elements text) (view v))
+    (IfRefused (HasFirstFault (IsIpBlockText (Some family)) (HasMismatch family) (elements text)))
+    → AnswersOrMemory view (HasIpBlocks text) (HasIpBlocksFault text) r
 ip_answers view family text is r found = AnswersOrMemory-from_found view _ _ (same_ip_blocks text) (ip_blocks_apart text) (same_ip_fault text) r (told r found)
   where
-    told : (r : Result _ (OrMemory FromStrError)) → MatchResult r (λ v. HaveValues (IsIpBlockText (Some family)) (elements text) (view v)) (IfRefused (HasFirstFault (IsIpBlockText (Some family)) (HasMismatch family) (elements text))) → MatchResult r (λ v. HasIpBlocks text (view v)) (IfRefused (HasIpBlocksFault text))
+    told : (r : Result _ (OrMemory FromStrError))
+        → MatchResult r (λ v. HaveValues (IsIpBlockText (Some family)) (elements text) (view v))
+        (IfRefused (HasFirstFault (IsIpBlockText (Some family)) (HasMismatch family) (elements text)))
+        → MatchResult r (λ v. HasIpBlocks text (view v)) (IfRefused (HasIpBlocksFault text))
     told (Ok v) h = (family, is, h)
     told (Err (Refused e)) h = (family, is, h)
     told (Err (Memory e)) h = tt

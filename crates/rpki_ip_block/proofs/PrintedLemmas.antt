@@ -4,20 +4,24 @@ use Rattle.rpki_addr.specs.ReadsAddress.{IsAddress}
 use Rattle.rpki_text.proofs.NumberTexts.{IsNumberText-decimal}
 
 -- two addresses with a dash between them have no slash
-no_slash_between : (left right : List ℕ) → All IsAddressByte left → All IsAddressByte right → HasNo slash (left ++ dash ∷ right)
+no_slash_between : (left right : List ℕ) → All IsAddressByte left → All IsAddressByte right
+    → HasNo slash (left ++ dash ∷ right)
 no_slash_between left right h k =
     let all = All-append (λ b. b ≢ slash) left (dash ∷ right) (All-weaker IsAddressByte _ not_slash left h) (All-cons (λ b. b ≢ slash) dash right (λ e. omega (arith, e)) (All-weaker IsAddressByte _ not_slash right k)) in
     λ i l. all i 0 l
 
 -- printed addresses in each form
 module _ (family : AddressFamily) (a : IpAddr) (is : IsAddressText (Some family) (ip_text a) a) where
-  shown_prefix : (p : PrefixValue) → p.len ≤ bits_of (family_of a) → p.len ≤ 128 → p.first ≡ cleared 128 (first_of a) p.len → IsIpBlockText (Some family) (ip_text a ++ slash ∷ decimal p.len) (Prefix p)
+  shown_prefix : (p : PrefixValue) → p.len ≤ bits_of (family_of a) → p.len ≤ 128
+      → p.first ≡ cleared 128 (first_of a) p.len
+      → IsIpBlockText (Some family) (ip_text a ++ slash ∷ decimal p.len) (Prefix p)
   shown_prefix p fits small first = grind (arith, IsNumberText-decimal, ip_bytes, no_slash)
 
   shown_single : (r : RangeValue) → IsRangeFrom a a r → IsIpBlockText (Some family) (ip_text a) (Range r)
   shown_single r from = (no_slash (ip_text a) (ip_bytes a), inr (no_dash (ip_text a) (ip_bytes a), (a, is, from)))
 
-  shown_range : (b : IpAddr) (r : RangeValue) → IsAddressText (Some family) (ip_text b) b → IsRangeFrom a b r → IsIpBlockText (Some family) (ip_text a ++ dash ∷ ip_text b) (Range r)
+  shown_range : (b : IpAddr) (r : RangeValue) → IsAddressText (Some family) (ip_text b) b → IsRangeFrom a b r
+      → IsIpBlockText (Some family) (ip_text a ++ dash ∷ ip_text b) (Range r)
   shown_range b r iz from = grind (arith, ip_bytes, no_dash, no_slash_between)
 
 -- the address of a family is of that family
@@ -25,7 +29,8 @@ of_family : (family : AddressFamily) (bits : ℕ) → family_of (as_ip family bi
 of_family v0 bits = grind (arith)
 
 -- and its text writes it
-is_written : (family : AddressFamily) (bits : ℕ) → IsAddress (as_ip family bits) → IsAddressText (Some family) (ip_text (as_ip family bits)) (as_ip family bits)
+is_written : (family : AddressFamily) (bits : ℕ) → IsAddress (as_ip family bits)
+    → IsAddressText (Some family) (ip_text (as_ip family bits)) (as_ip family bits)
 is_written family bits small = (of_family family bits, IsIpText-ip_text (as_ip family bits) small)
 
 -- n is the least number of the address that is printed of it
@@ -72,7 +77,8 @@ short_prefix Ipv4 p (is, whole) = elim (cases_lt 32 p.len) [
 ]
 
 -- a prefix of the greatest length is one address
-last_single : (family : AddressFamily) (p : PrefixValue) → p.len ≡ bits_of family → Begins family p.first → greatest_of (as_ip family (shown_bits family p.first)) ≡ last_of 128 p
+last_single : (family : AddressFamily) (p : PrefixValue) → p.len ≡ bits_of family → Begins family p.first
+    → greatest_of (as_ip family (shown_bits family p.first)) ≡ last_of 128 p
 last_single v0 p e begins = grind (arith)
 
 -- a block that the text writes, with the bounds of b
@@ -82,7 +88,8 @@ pub record WritesBoundsOf (family : AddressFamily) (text : List ℕ) (b : IpBloc
   pub bounds : ip_bounds block ≡ ip_bounds b
 
 -- what is printed of a block writes its bounds
-pub written_of : (family : AddressFamily) (b : IpBlock) → IsBlockOf family b → WritesBoundsOf family (ip_block_text family b) b
+pub written_of : (family : AddressFamily) (b : IpBlock) → IsBlockOf family b
+    → WritesBoundsOf family (ip_block_text family b) b
 written_of family (Prefix p) h =
     let begins = begins_of family (Prefix p) h in
     let prefix = prefix_of family p h in
@@ -122,13 +129,17 @@ written_of family (Range r) h =
     ]
 
 -- so a reader that answers what a text writes reads it back
-pub block_back : (family : AddressFamily) (text : List ℕ) (r : Result IpBlock FromStrError) → Answers (IsIpBlockText (Some family) text) (HasIpBlockFault (Some family) text) r → (b : IpBlock) → IsBlockOf family b → text ≡ ip_block_text family b → MatchResult r (λ read. ip_bounds read ≡ ip_bounds b) (λ _. ⊥)
+pub block_back : (family : AddressFamily) (text : List ℕ) (r : Result IpBlock FromStrError)
+    → Answers (IsIpBlockText (Some family) text) (HasIpBlockFault (Some family) text) r → (b : IpBlock)
+    → IsBlockOf family b → text ≡ ip_block_text family b → MatchResult r (λ read. ip_bounds read ≡ ip_bounds b) (λ _. ⊥)
 block_back family text r exact b h is = grind (arith, written_of)
 
 -- a block of one family that the text writes is one of either
-either_family : (family : AddressFamily) (text : List ℕ) (b : IpBlock) → IsIpBlockText (Some family) text b → IsIpBlockText None text b
+either_family : (family : AddressFamily) (text : List ℕ) (b : IpBlock) → IsIpBlockText (Some family) text b
+    → IsIpBlockText None text b
 either_family family text v2 h = grind (arith)
 
 -- so a reader of either family reads both back
-pub reads_block : (text : List ℕ) (r : Result IpBlock FromStrError) → Answers (IsIpBlockText None text) (HasIpBlockFault None text) r → ReadsIpBlock text r
+pub reads_block : (text : List ℕ) (r : Result IpBlock FromStrError)
+    → Answers (IsIpBlockText None text) (HasIpBlockFault None text) r → ReadsIpBlock text r
 reads_block text r exact = grind (arith, either_family, written_of)

@@ -26,7 +26,8 @@ byte_more b (x ∷ xs) ys (suc i, small, is) = let h = byte_more b xs ys (i, ome
 joined_colon : (t u : List ℕ) (more : List (List ℕ)) → HasByte colon (joined_by (codes ":") (t ∷ u ∷ more))
 joined_colon t u more = byte_there colon t (u ++ flat_map (λ next. codes ":" ++ next) more)
 
-groups_colon : (texts : List (List ℕ)) (groups : List ℕ) → HaveValues IsGroupText texts groups → 2 ≤ length groups → HasByte colon (joined_by (codes ":") texts)
+groups_colon : (texts : List (List ℕ)) (groups : List ℕ) → HaveValues IsGroupText texts groups → 2 ≤ length groups
+    → HasByte colon (joined_by (codes ":") texts)
 groups_colon [] [] h two = absurd (omega (arith, two))
 groups_colon [] (g ∷ groups) h two = absurd h
 groups_colon (t ∷ texts) [] h two = absurd h
@@ -34,7 +35,8 @@ groups_colon (t ∷ []) (g ∷ []) h two = absurd (omega (arith, two))
 groups_colon (t ∷ []) (g ∷ k ∷ groups) h two = absurd h.1
 groups_colon (t ∷ u ∷ texts) (g ∷ groups) h two = joined_colon t u texts
 
-last_colon : (texts : List (List ℕ)) (front : List ℕ) (last : List ℕ) → HaveValues IsGroupText texts front → 1 ≤ length front → HasByte colon (joined_by (codes ":") (texts ++ last ∷ []))
+last_colon : (texts : List (List ℕ)) (front : List ℕ) (last : List ℕ) → HaveValues IsGroupText texts front
+    → 1 ≤ length front → HasByte colon (joined_by (codes ":") (texts ++ last ∷ []))
 last_colon [] [] last h one = absurd (omega (arith, one))
 last_colon [] (g ∷ front) last h one = absurd h
 last_colon (t ∷ []) front last h one = joined_colon t last []
@@ -70,7 +72,8 @@ first_below : (family : AddressFamily) (b : IpBlock) → IsBlockOf family b → 
 first_below v0 v1 is = grind (arith)
 
 -- so a byte of each address of a family stands in what is printed of a block
-block_byte : (family : AddressFamily) (byte : ℕ) → ((n : ℕ) → n < 2 ^ 128 → HasByte byte (addr_text family n)) → (b : IpBlock) → IsBlockOf family b → HasByte byte (ip_block_text family b)
+block_byte : (family : AddressFamily) (byte : ℕ) → ((n : ℕ) → n < 2 ^ 128 → HasByte byte (addr_text family n))
+    → (b : IpBlock) → IsBlockOf family b → HasByte byte (ip_block_text family b)
 block_byte family byte each (Prefix p) is =
     let here = each p.first (first_below family (Prefix p) is) in
     cond_both (p.len == bits_of family) (addr_text family p.first) (addr_text family p.first ++ slash ∷ decimal p.len) (HasByte byte) (λ _. here) (λ _. byte_more byte (addr_text family p.first) (slash ∷ decimal p.len) here)
@@ -129,7 +132,8 @@ widened b h = let low = h.0 in (omega (arith, low), h.1)
 small_block : (b : IpBlock) → IsBlockOf Ipv4 b → All (IsInRange 32 57) (ip_block_text Ipv4 b)
 small_block = block_bytes (IsInRange 32 57) (lit≤ tt, lit≤ tt) (lit≤ tt, lit≤ tt) small_digit Ipv4 (λ n. All-weaker (IsInRange 45 57) (IsInRange 32 57) widened _ (small_address (n / 2 ^ 96)))
 
-small_more : (bs : List IpBlock) → All (IsBlockOf Ipv4) bs → All (IsInRange 32 57) (flat_map (λ next. codes ", " ++ next) (map (ip_block_text Ipv4) bs))
+small_more : (bs : List IpBlock) → All (IsBlockOf Ipv4) bs
+    → All (IsInRange 32 57) (flat_map (λ next. codes ", " ++ next) (map (ip_block_text Ipv4) bs))
 small_more [] is = All-nil (IsInRange 32 57)
 small_more (b ∷ bs) is =
     let first = small_block b (All-head (IsBlockOf Ipv4) b bs is) in
@@ -166,15 +170,18 @@ module _ (family : AddressFamily) (Has : List ℕ → IpBlock → Type 0) (own :
       let more = rest.bounds in
       record { values = first.block ∷ rest.values; have = (own b first.block here first.written, rest.have); bounds = cc }
 
-  all_elements : (bs : List IpBlock) → All (IsBlockOf family) bs → AllByRecursion IsElement (map (ip_block_text family) bs)
+  all_elements : (bs : List IpBlock) → All (IsBlockOf family) bs
+      → AllByRecursion IsElement (map (ip_block_text family) bs)
   all_elements [] is = tt
   all_elements (b ∷ bs) is = (block_element family b (All-head (IsBlockOf family) b bs is), all_elements bs (All-tail (IsBlockOf family) b bs is))
 
-  list_written : (text : List ℕ) (bs : List IpBlock) → All (IsBlockOf family) bs → text ≡ block_list_text family bs → WritesAll Has (elements text) bs
+  list_written : (text : List ℕ) (bs : List IpBlock) → All (IsBlockOf family) bs → text ≡ block_list_text family bs
+      → WritesAll Has (elements text) bs
   list_written text bs is printed = rw (printed, elements-joined (map (ip_block_text family) bs) (all_elements bs is)) (all_written bs is)
 
 -- what is printed of blocks is a list of their family
-pub family_list : (family : AddressFamily) (text : List ℕ) (bs : List IpBlock) → All (IsBlockOf family) bs → text ≡ block_list_text family bs → WritesAll (IsElementText family) (elements text) bs
+pub family_list : (family : AddressFamily) (text : List ℕ) (bs : List IpBlock) → All (IsBlockOf family) bs
+    → text ≡ block_list_text family bs → WritesAll (IsElementText family) (elements text) bs
 family_list family = list_written family (IsElementText family) (λ b c h t. (not_foreign family b h, t))
 
 -- and is told to be of their family, unless there are none
@@ -183,14 +190,16 @@ pub record WritesList (text : List ℕ) (bs : List IpBlock) : Type 0 where
   pub is : IsFamilyOf text family
   pub writes : WritesAll (IsIpBlockText (Some family)) (elements text) bs
 
-told_v4 : (text : List ℕ) (bs : List IpBlock) → All (IsBlockOf Ipv4) bs → text ≡ block_list_text Ipv4 bs → WritesList text bs
+told_v4 : (text : List ℕ) (bs : List IpBlock) → All (IsBlockOf Ipv4) bs → text ≡ block_list_text Ipv4 bs
+    → WritesList text bs
 told_v4 text bs is printed = record {
   family = Ipv4;
   is = inr (subst (λ t. ¬ HasByte colon t) (sym printed) (list_no_colon bs is), refl);
   writes = list_written Ipv4 (IsIpBlockText (Some Ipv4)) (λ b c h t. t) text bs is printed;
 }
 
-pub list_told : (family : AddressFamily) (text : List ℕ) (bs : List IpBlock) → All (IsBlockOf family) bs → text ≡ block_list_text family bs → WritesList text bs
+pub list_told : (family : AddressFamily) (text : List ℕ) (bs : List IpBlock) → All (IsBlockOf family) bs
+    → text ≡ block_list_text family bs → WritesList text bs
 list_told Ipv4 text bs is printed = told_v4 text bs is printed
 list_told Ipv6 text [] is printed = told_v4 text [] (All-nil (IsBlockOf Ipv4)) printed
 list_told Ipv6 text (b ∷ bs) is printed = record {
@@ -201,15 +210,22 @@ list_told Ipv6 text (b ∷ bs) is printed = record {
 
 -- so a reader that answers what a text writes reads it back
 module _ {V : Type 0} (view : V → List IpBlock) (text : List ℕ) (r : Result V (OrMemory FromStrError)) where
-  of_values : (bs values : List IpBlock) → map ip_bounds values ≡ map ip_bounds bs → (r : Result V (OrMemory FromStrError)) → MatchResult r (λ v. view v ≡ values) IsMemory → MatchResult r (λ v. map ip_bounds (view v) ≡ map ip_bounds bs) IsMemory
+  of_values : (bs values : List IpBlock) → map ip_bounds values ≡ map ip_bounds bs
+      → (r : Result V (OrMemory FromStrError)) → MatchResult r (λ v. view v ≡ values) IsMemory
+      → MatchResult r (λ v. map ip_bounds (view v) ≡ map ip_bounds bs) IsMemory
   of_values bs values same v3 h = grind (arith)
 
-  pub family_list_back : (family : AddressFamily) → AnswersOrMemory view (HasBlocks family text) (HasBlocksFault family text) r → (bs : List IpBlock) → All (IsBlockOf family) bs → text ≡ block_list_text family bs → MatchResult r (λ v. map ip_bounds (view v) ≡ map ip_bounds bs) IsMemory
+  pub family_list_back : (family : AddressFamily)
+      → AnswersOrMemory view (HasBlocks family text) (HasBlocksFault family text) r → (bs : List IpBlock)
+      → All (IsBlockOf family) bs → text ≡ block_list_text family bs
+      → MatchResult r (λ v. map ip_bounds (view v) ≡ map ip_bounds bs) IsMemory
   family_list_back family exact bs is printed =
       let all = family_list family text bs is printed in
       of_values bs all.values all.bounds r (exact.each_value all.values all.have)
 
-  pub ip_list_back : AnswersOrMemory view (HasIpBlocks text) (HasIpBlocksFault text) r → (family : AddressFamily) (bs : List IpBlock) → All (IsBlockOf family) bs → text ≡ block_list_text family bs → MatchResult r (λ v. map ip_bounds (view v) ≡ map ip_bounds bs) IsMemory
+  pub ip_list_back : AnswersOrMemory view (HasIpBlocks text) (HasIpBlocksFault text) r
+      → (family : AddressFamily) (bs : List IpBlock) → All (IsBlockOf family) bs → text ≡ block_list_text family bs
+      → MatchResult r (λ v. map ip_bounds (view v) ≡ map ip_bounds bs) IsMemory
   ip_list_back exact family bs is printed =
       let told = list_told family text bs is printed in
       let all = told.writes in

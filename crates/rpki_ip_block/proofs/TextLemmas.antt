@@ -30,9 +30,12 @@ module _ (w : Option AddressFamily) (text : List ℕ) where
 
   -- the answer, by the form of the text
   data Formed (r : Result IpBlock FromStrError) : Type 0 where
-    prefix : IsCut slash → (x : Result PrefixValue FromStrError) → MatchResult x (IsIpPrefixText w text) (HasIpPrefixTextFault w text) → r ≡ of_prefix x → Formed r
-    range : HasNo slash text → IsCut dash → (x : Result RangeValue FromStrError) → MatchResult x (IsRangeText w text) (HasRangeTextFault w text) → r ≡ of_range x → Formed r
-    single : HasNo slash text → HasNo dash text → (x : Result RangeValue FromStrError) → MatchResult x (IsSingleText w text) (HasAddressFault w text) → r ≡ of_range x → Formed r
+    prefix : IsCut slash → (x : Result PrefixValue FromStrError)
+        → MatchResult x (IsIpPrefixText w text) (HasIpPrefixTextFault w text) → r ≡ of_prefix x → Formed r
+    range : HasNo slash text → IsCut dash → (x : Result RangeValue FromStrError)
+        → MatchResult x (IsRangeText w text) (HasRangeTextFault w text) → r ≡ of_range x → Formed r
+    single : HasNo slash text → HasNo dash text → (x : Result RangeValue FromStrError)
+        → MatchResult x (IsSingleText w text) (HasAddressFault w text) → r ≡ of_range x → Formed r
 
   formed : (r : Result IpBlock FromStrError) → Says r → Formed r
   formed (Ok (Prefix p)) h = prefix (cut_of slash _ h) (Ok p) h refl
@@ -62,14 +65,21 @@ module _ (w : Option AddressFamily) (text : List ℕ) where
   block_answers r found = answers_by_one block_one r found
 
   -- the reader of the parts of each form reads the block
-  pub prefix_answers : (left right : List ℕ) → IsCutAt slash text left right → (x : Result PrefixValue FromStrError) → MatchResult x (IsPrefixBetween w left right) (HasPrefixFault w left right) → Answers (IsIpBlockText w text) (HasIpBlockFault w text) (of_prefix x)
+  pub prefix_answers : (left right : List ℕ) → IsCutAt slash text left right → (x : Result PrefixValue FromStrError)
+      → MatchResult x (IsPrefixBetween w left right) (HasPrefixFault w left right)
+      → Answers (IsIpBlockText w text) (HasIpBlockFault w text) (of_prefix x)
   prefix_answers left right cut (Ok p) h = block_answers (Ok (Prefix p)) (record { left = left; right = right; cut = cut; holds = h })
   prefix_answers left right cut (Err e) h = block_answers (Err e) (inl (record { left = left; right = right; cut = cut; holds = h }))
 
-  pub range_answers : HasNo slash text → (left right : List ℕ) → IsCutAt dash text left right → (x : Result RangeValue FromStrError) → MatchResult x (IsIpRangeBetween w left right) (HasRangeFault w left right) → Answers (IsIpBlockText w text) (HasIpBlockFault w text) (of_range x)
+  pub range_answers : HasNo slash text → (left right : List ℕ) → IsCutAt dash text left right
+      → (x : Result RangeValue FromStrError)
+      → MatchResult x (IsIpRangeBetween w left right) (HasRangeFault w left right)
+      → Answers (IsIpBlockText w text) (HasIpBlockFault w text) (of_range x)
   range_answers none left right cut (Ok r) h = block_answers (Ok (Range r)) (none, inl (record { left = left; right = right; cut = cut; holds = h }))
   range_answers none left right cut (Err e) h = block_answers (Err e) (inr (none, inl (record { left = left; right = right; cut = cut; holds = h })))
 
-  pub single_answers : HasNo slash text → HasNo dash text → (x : Result RangeValue FromStrError) → Answers (IsSingleText w text) (HasAddressFault w text) x → Answers (IsIpBlockText w text) (HasIpBlockFault w text) (of_range x)
+  pub single_answers : HasNo slash text → HasNo dash text → (x : Result RangeValue FromStrError)
+      → Answers (IsSingleText w text) (HasAddressFault w text) x
+      → Answers (IsIpBlockText w text) (HasIpBlockFault w text) (of_range x)
   single_answers none apart (Ok r) h = block_answers (Ok (Range r)) (none, inr (apart, h.found))
   single_answers none apart (Err e) h = block_answers (Err e) (inr (none, inr (apart, h.found)))

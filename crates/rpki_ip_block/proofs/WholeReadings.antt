@@ -26,7 +26,8 @@ whole_prefix : (p : PrefixValue) (n : ℕ) → p.len ≤ 32 → p.first ≡ clea
 whole_prefix p n = whole_at p (n / 2 ^ (128 - p.len))
 
 -- so has the block of an IPv4 prefix
-pub whole_family_prefix : (p : FamilyPrefix) → IsFamilyPrefix p → family_of p.addr ≡ Ipv4 → HasWholeBounds (prefix_bounds (record { first = first_of p.addr; len = p.len }))
+pub whole_family_prefix : (p : FamilyPrefix) → IsFamilyPrefix p → family_of p.addr ≡ Ipv4
+    → HasWholeBounds (prefix_bounds (record { first = first_of p.addr; len = p.len }))
 whole_family_prefix p is v4 = whole_prefix (record { first = first_of p.addr; len = p.len }) (first_of p.addr) (short p.addr is.short v4) (sym (family_prefix p is))
   where
     short : (a : IpAddr) → p.len ≤ width a → family_of a ≡ Ipv4 → p.len ≤ 32
@@ -34,7 +35,8 @@ whole_family_prefix p is v4 = whole_prefix (record { first = first_of p.addr; le
     short (V6 n) le e = absurd (let z : Ipv6 ≡ Ipv4 = e in cc)
 
 -- and a range between IPv4 addresses
-whole_range : (r : RangeValue) (a b : IpAddr) → family_of a ≡ Ipv4 → family_of b ≡ Ipv4 → IsRangeFrom a b r → HasWholeBounds (range_bounds r)
+whole_range : (r : RangeValue) (a b : IpAddr) → family_of a ≡ Ipv4 → family_of b ≡ Ipv4 → IsRangeFrom a b r
+    → HasWholeBounds (range_bounds r)
 whole_range r (V4 m) (V4 n) e f h =
     let min : r.min ≡ m * 2 ^ 96 = h.min in
     let max : r.max ≡ n * 2 ^ 96 + (2 ^ 96 - 1) = h.max in
@@ -51,7 +53,9 @@ whole_text text (Range r) (none, inl h) = let (a, is, (b, also, from)) = h.holds
 whole_text text (Range r) (none, inr (no_dash, (a, is, from))) = whole_range r a a is.0 is.0 from
 
 -- and each block of a list of IPv4
-pub whole_values : (Has : List ℕ → IpBlock → Type 0) → ((text : List ℕ) (b : IpBlock) → Has text b → IsIpBlockText (Some Ipv4) text b) → (texts : List (List ℕ)) (blocks : List IpBlock) → HaveValues Has texts blocks
+pub whole_values : (Has : List ℕ → IpBlock → Type 0)
+    → ((text : List ℕ) (b : IpBlock) → Has text b → IsIpBlockText (Some Ipv4) text b)
+    → (texts : List (List ℕ)) (blocks : List IpBlock) → HaveValues Has texts blocks
     → All (λ b. HasWholeBounds (ip_bounds b)) blocks
 whole_values Has is_text [] [] h = All-nil (λ b. HasWholeBounds (ip_bounds b))
 whole_values Has is_text [] (b ∷ blocks) h = absurd h
@@ -60,16 +64,19 @@ whole_values Has is_text (text ∷ texts) (b ∷ blocks) h =
     All-cons (λ b. HasWholeBounds (ip_bounds b)) b blocks (whole_text text b (is_text text b h.0)) (whole_values Has is_text texts blocks h.1)
 
 -- of one that is told to be of IPv4
-pub whole_list : (text : List ℕ) (blocks : List IpBlock) → HasBlocks Ipv4 text blocks → All (λ b. HasWholeBounds (ip_bounds b)) blocks
+pub whole_list : (text : List ℕ) (blocks : List IpBlock) → HasBlocks Ipv4 text blocks
+    → All (λ b. HasWholeBounds (ip_bounds b)) blocks
 whole_list text = whole_values (IsElementText Ipv4) (λ t b h. h.1) (elements text)
 
 -- and of one that tells it
-pub whole_untold_list : (text : List ℕ) (blocks : List IpBlock) → IsFamilyOf text Ipv4 → HasIpBlocks text blocks → All (λ b. HasWholeBounds (ip_bounds b)) blocks
+pub whole_untold_list : (text : List ℕ) (blocks : List IpBlock) → IsFamilyOf text Ipv4 → HasIpBlocks text blocks
+    → All (λ b. HasWholeBounds (ip_bounds b)) blocks
 whole_untold_list text blocks v4 (family, told, have) =
     whole_values (IsIpBlockText (Some Ipv4)) (λ t b h. h) (elements text) blocks (subst (λ f. HaveValues (IsIpBlockText (Some f)) (elements text) blocks) (same_family text family Ipv4 told v4) have)
 
 -- so the reader of lists answers such blocks
-pub whole_family_list : {V : Type 0} (view : V → List IpBlock) (family : AddressFamily) (text : List ℕ) (r : Result V (OrMemory FromStrError)) → AnswersOrMemory view (HasBlocks family text) (HasBlocksFault family text) r
+pub whole_family_list : {V : Type 0} (view : V → List IpBlock) (family : AddressFamily) (text : List ℕ)
+    (r : Result V (OrMemory FromStrError)) → AnswersOrMemory view (HasBlocks family text) (HasBlocksFault family text) r
     → IfOk r (λ v. family ≡ Ipv4 → All (λ b. HasWholeBounds (ip_bounds b)) (view v))
 whole_family_list view family text (Ok v) exact = λ v4. whole_list text (view v) (subst (λ f. HasBlocks f text (view v)) v4 exact.found)
 whole_family_list view family text (Err e) exact = tt
@@ -87,7 +94,8 @@ whole_der bytes (Range r) (content, is, (p, q, (rest, (front, (b, first, says), 
     let high = whole_says c q tell in
     record { begins = subst (λ n. n % 2 ^ 96 ≡ 0) (sym span.begins) low.begins; ends = subst (λ n. (n + 1) % 2 ^ 96 ≡ 0) (sym span.ends) high.ends }
 
-pub whole_each : (bytes : List ℕ) (blocks : List IpBlock) → Each (IsIpBlockDer 32) bytes blocks → All (λ b. HasWholeBounds (ip_bounds b)) blocks
+pub whole_each : (bytes : List ℕ) (blocks : List IpBlock) → Each (IsIpBlockDer 32) bytes blocks
+    → All (λ b. HasWholeBounds (ip_bounds b)) blocks
 whole_each bytes [] is = All-nil (λ b. HasWholeBounds (ip_bounds b))
 whole_each bytes (b ∷ blocks) (rest, (front, is, split), more) =
     All-cons (λ b. HasWholeBounds (ip_bounds b)) b blocks (whole_der front b is) (whole_each rest blocks more)

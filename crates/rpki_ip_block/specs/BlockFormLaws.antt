@@ -10,7 +10,8 @@ both_pass true b h = (refl, h)
 both_pass false b h = absurd (let z : false ≡ true = h in cc)
 
 -- bounds with a length are those of a prefix of that length
-pub bounds_of_length : (b : ℕ × ℕ) (len : ℕ) → has_length b len ≡ true → prefix_bounds (record { first = b.0; len = len }) ≡ b
+pub bounds_of_length : (b : ℕ × ℕ) (len : ℕ) → has_length b len ≡ true
+    → prefix_bounds (record { first = b.0; len = len }) ≡ b
 unfolding has_length
 bounds_of_length b len has =
     let count : b.0 + 2 ^ (128 - len) ≡ b.1 + 1 = eqb-true _ _ (both_pass (b.0 % 2 ^ (128 - len) == 0) (b.0 + 2 ^ (128 - len) == b.1 + 1) has).1 in
@@ -32,7 +33,9 @@ found_length zero b len found = by_test (has_length b zero) refl
         absurd cc
 found_length (suc n) b len found = by_test (has_length b (suc n)) refl (found_length n b len)
   where
-    by_test : (t : Bool) → has_length b (suc n) ≡ t → (length_upto n b ≡ Some len → (len ≤ n) × (has_length b len ≡ true)) → (len ≤ suc n) × (has_length b len ≡ true)
+    by_test : (t : Bool) → has_length b (suc n) ≡ t
+        → (length_upto n b ≡ Some len → (len ≤ n) × (has_length b len ≡ true))
+        → (len ≤ suc n) × (has_length b len ≡ true)
     by_test true here before =
         let same : Some (suc n) ≡ Some len = ap (λ (t : Bool). if t then Some (suc n) else length_upto n b) (sym here) ∙ found in
         let is : suc n ≡ len = cc in

@@ -25,7 +25,8 @@ use Rattle.rpki_ip_block.specs.declared.block.IpBlock.TheVariants.{Prefix, Range
 strict_range_check : (limit : ℕ) → IsCheck IsBytes (SaysStrictRange limit) (range_in_by true limit)
 strict_range_check limit = tested_pair_check (IsStrictPrefix limit) IsSpan (prefix_by true limit) span_of is_set_range (prefix_modal limit).tight span_says span_again
 
-range_tightens : (strict : Bool) (limit : ℕ) (content : List ℕ) → Tightens strict (range_in_by strict limit content) (range_in limit content)
+range_tightens : (strict : Bool) (limit : ℕ) (content : List ℕ)
+    → Tightens strict (range_in_by strict limit content) (range_in limit content)
 range_tightens strict limit content = tested_pair_tightens (IsStrictPrefix limit) IsSpan (prefix_at limit) span_of is_set_range strict (prefix_by strict limit) ((prefix_modal limit).tightens strict) content
 
 -- by the tag
@@ -50,7 +51,8 @@ block_from limit bytes (Prefix p) (b, ((counted, is), padded), prefix) =
 block_from limit bytes (Range r) (content, is, says) = (record { tag = 48; content = content }, is, inr (refl, (r, says, refl)))
 
 -- a block
-pub ip_block_modal : (limit : ℕ) → IsModal (IsStrictIpBlock limit) (ip_block_at limit) (λ strict. ip_block_by strict limit)
+pub ip_block_modal : (limit : ℕ)
+    → IsModal (IsStrictIpBlock limit) (ip_block_at limit) (λ strict. ip_block_by strict limit)
 unfolding Says
 ip_block_modal limit = record {
   tight =
@@ -67,7 +69,8 @@ ip_block_modal limit = record {
 }
 
 -- a block behind others
-pub next_ip_block_modal : (limit : ℕ) (before : Option ℕ) → IsModal (IsNextIpBlock limit before) (ip_block_at limit) (λ strict. next_ip_block_by strict limit before)
+pub next_ip_block_modal : (limit : ℕ) (before : Option ℕ)
+    → IsModal (IsNextIpBlock limit before) (ip_block_at limit) (λ strict. next_ip_block_by strict limit before)
 next_ip_block_modal limit before =
     tested_modal (IsStrictIpBlock limit) (λ block. IsBeyond before (ip_bounds block).0) (ip_block_at limit) (λ strict. ip_block_by strict limit) (λ block. is_beyond before (ip_bounds block).0) (ip_block_modal limit)
     (λ x e. beyond_is before (ip_bounds x).0 e) (λ x e. is_beyond_of before (ip_bounds x).0 e)

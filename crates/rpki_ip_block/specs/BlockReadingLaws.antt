@@ -37,7 +37,8 @@ Says : ℕ → Tlv → IpBlock → Type 0
 Says limit = SaysByTag 3 (Named (IsPrefixContent limit) Prefix) (Named (SaysRange limit) Range)
 
 -- that is a block of the grammar
-block_to : (limit : ℕ) (bytes : List ℕ) (block : IpBlock) → Refines IsTlv (Says limit) bytes block → IsIpBlockDer limit bytes block
+block_to : (limit : ℕ) (bytes : List ℕ) (block : IpBlock) → Refines IsTlv (Says limit) bytes block
+    → IsIpBlockDer limit bytes block
 unfolding Says
 block_to limit bytes block (v, is, inl (tag, (p, (b, says, prefix), same))) =
     let octets : IsValue bytes 3 (bit_content b) = subst (λ (t : List ℕ). IsValue bytes 3 t) says.spelled (subst (λ (k : ℕ). IsValue bytes k v.content) tag is) in
@@ -46,7 +47,8 @@ block_to limit bytes block (v, is, inr (tag, (r, says, same))) =
     subst (IsIpBlockDer limit bytes) (sym same) (v.content, subst (λ (k : ℕ). IsValue bytes k v.content) tag is, says)
 
 -- and the other way round
-block_from : (limit : ℕ) (bytes : List ℕ) (block : IpBlock) → IsIpBlockDer limit bytes block → Refines IsTlv (Says limit) bytes block
+block_from : (limit : ℕ) (bytes : List ℕ) (block : IpBlock) → IsIpBlockDer limit bytes block
+    → Refines IsTlv (Says limit) bytes block
 unfolding Says
 block_from limit bytes (Prefix p) (b, (counted, is), prefix) =
     (record { tag = 3; content = bit_content b }, is, inl (refl, (p, (b, record { counted = counted; spelled = refl }, prefix), refl)))
@@ -60,7 +62,8 @@ ip_block_reading limit =
     (by_tag_reading 3 (Named (IsPrefixContent limit) Prefix) (Named (SaysRange limit) Range) (prefix_block_in limit) (range_block_in limit) (λ e. omega (arith, e)) (prefix_says limit) (range_says limit))
 
 -- a block has an octet at least
-pub ip_block_has_octets : (limit : ℕ) (front : List ℕ) (block : IpBlock) → IsIpBlockDer limit front block → 0 < length front
+pub ip_block_has_octets : (limit : ℕ) (front : List ℕ) (block : IpBlock) → IsIpBlockDer limit front block
+    → 0 < length front
 ip_block_has_octets limit front (Prefix p) is = value_has_octets front 3 (bit_content is.0) is.1.1
 ip_block_has_octets limit front (Range r) is = value_has_octets front 48 is.0 is.1
 

@@ -37,4 +37,5 @@ IsBlockOf Ipv6 b = IsBlock b
 -- block of a family is read as a block with its bounds.
 pub record ReadsIpBlock (text : List ℕ) (r : Result IpBlock FromStrError) : Type 0 where
   pub exact : Answers (IsIpBlockText None text) (HasIpBlockFault None text) r
-  pub reads_back : (family : AddressFamily) (block : IpBlock) → IsBlockOf family block → text ≡ ip_block_text family block → MatchResult r (λ read. ip_bounds read ≡ ip_bounds block) (λ _. ⊥)
+  pub reads_back : (family : AddressFamily) (block : IpBlock) → IsBlockOf family block
+      → text ≡ ip_block_text family block → MatchResult r (λ read. ip_bounds read ≡ ip_bounds block) (λ _. ⊥)

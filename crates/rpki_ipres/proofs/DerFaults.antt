@@ -20,7 +20,9 @@ empty_blocks limit = choice_fails (values_of (ip_block_at limit)) (blocks_names 
 pub families_empty : (bytes : List ℕ) → (ip_families_at bytes ≡ Err NoFamily) ↔ BeginsEmpty bytes
 families_empty = no_family (λ family. ip_resources_at (bits_of family)) resources_names
 
-pub families_repeat : (bytes : List ℕ) → (ip_families_at bytes ≡ Err DuplicateFamily) ↔ BeginsWithValue 48 (BeginsWithRepeat (λ family. ip_resources_at (bits_of family))) bytes
+pub families_repeat : (bytes : List ℕ)
+    → (ip_families_at bytes ≡ Err DuplicateFamily)
+    ↔ BeginsWithValue 48 (BeginsWithRepeat (λ family. ip_resources_at (bits_of family))) bytes
 families_repeat = family_twice (λ family. ip_resources_at (bits_of family)) resources_names
 
 -- ---- what isn't canonical

@@ -19,12 +19,17 @@ G family = IsChoiceOf (IsSequenceOf (IsIpBlockDer (bits_of family)))
 -- ---- what is written
 
 -- a member
-member_spelled : (family : AddressFamily) (bytes : List ℕ) (choice : ResourcesChoice (List IpBlock)) (claim : Claim) → IsMember S bytes (family, choice) → SaysClaimOf choice claim → IsPresentFamilyClaim family claim × (bytes ≡ member_der ip_resources_der family claim)
+member_spelled : (family : AddressFamily) (bytes : List ℕ) (choice : ResourcesChoice (List IpBlock)) (claim : Claim)
+    → IsMember S bytes (family, choice) → SaysClaimOf choice claim
+    → IsPresentFamilyClaim family claim × (bytes ≡ member_der ip_resources_der family claim)
 member_spelled family bytes choice claim (content, at, (rest, (front, name, split), is)) says =
     let spelled = claim_spelled family rest claim (choice, is, says) in
     (spelled.0, at.spelled ∙ ap sequence_value (split ∙ ap (λ (t : List ℕ). t ++ rest) name.spelled ∙ ap (λ (t : List ℕ). family_der family ++ t) spelled.1))
 
-spelled_member : (family : AddressFamily) (claim : Claim) → IsPresentFamilyClaim family claim → length (member_der ip_resources_der family claim) < 2 ^ 64 → (choice : ResourcesChoice (List IpBlock)) × IsMember S (member_der ip_resources_der family claim) (family, choice) × SaysClaimOf choice claim
+spelled_member : (family : AddressFamily) (claim : Claim) → IsPresentFamilyClaim family claim
+    → length (member_der ip_resources_der family claim) < 2 ^ 64
+    → (choice : ResourcesChoice (List IpBlock)) × IsMember S (member_der ip_resources_der family claim) (family, choice)
+    × SaysClaimOf choice claim
 spelled_member family claim is short =
     let octets = ip_resources_der claim in
     let content = family_der family ++ octets in
@@ -34,13 +39,18 @@ spelled_member family claim is short =
     (found.0, (content, value_is 48 content (omega arith) small, (octets, (family_der family, family_written family, refl), found.1)), found.2)
 
 -- families
-families_spelled : (bytes : List ℕ) (fs : ByFamily Claim) → Refines (IsFamiliesInOrder S) SaysClaims bytes fs → Spells ArePresentClaims (families_der ip_resources_der) bytes fs
+families_spelled : (bytes : List ℕ) (fs : ByFamily Claim) → Refines (IsFamiliesInOrder S) SaysClaims bytes fs
+    → Spells ArePresentClaims (families_der ip_resources_der) bytes fs
 families_spelled bytes fs (found, (content, at, are), says) = by_cases found.0 found.1 fs.0 fs.1 are says.0 says.1
   where
-    whole : (v4 v6 : Option Claim) → content ≡ option_der ip_resources_der Ipv4 v4 ++ option_der ip_resources_der Ipv6 v6 → bytes ≡ families_der ip_resources_der (v4, v6)
+    whole : (v4 v6 : Option Claim)
+        → content ≡ option_der ip_resources_der Ipv4 v4 ++ option_der ip_resources_der Ipv6 v6
+        → bytes ≡ families_der ip_resources_der (v4, v6)
     whole v4 v6 e = at.spelled ∙ ap sequence_value e
 
-    by_cases : (y4 y6 : Option (ResourcesChoice (List IpBlock))) (v4 v6 : Option Claim) → AreInOrder S content y4 y6 → SaysOption SaysClaimOf y4 v4 → SaysOption SaysClaimOf y6 v6 → Spells ArePresentClaims (families_der ip_resources_der) bytes (v4, v6)
+    by_cases : (y4 y6 : Option (ResourcesChoice (List IpBlock))) (v4 v6 : Option Claim) → AreInOrder S content y4 y6
+        → SaysOption SaysClaimOf y4 v4 → SaysOption SaysClaimOf y6 v6
+        → Spells ArePresentClaims (families_der ip_resources_der) bytes (v4, v6)
     by_cases None None v4 v6 are first second = absurd are
     by_cases (Some x) y6 None v6 are first second = absurd first
     by_cases y4 (Some y) v4 None are first second = absurd second
@@ -57,10 +67,14 @@ families_spelled bytes fs (found, (content, at, are), says) = by_cases found.0 f
         let two = member_spelled Ipv6 rest y b last second in
         ((one.0, two.0, (λ e. absurd cc)), whole (Some a) (Some b) (split ∙ ap (λ (t : List ℕ). t ++ rest) one.1 ∙ ap (λ (t : List ℕ). member_der ip_resources_der Ipv4 a ++ t) two.1))
 
-spelled_families : (bytes : List ℕ) (fs : ByFamily Claim) → length bytes < 2 ^ 64 → Spells ArePresentClaims (families_der ip_resources_der) bytes fs → Refines (IsFamiliesInOrder S) SaysClaims bytes fs
+spelled_families : (bytes : List ℕ) (fs : ByFamily Claim) → length bytes < 2 ^ 64
+    → Spells ArePresentClaims (families_der ip_resources_der) bytes fs
+    → Refines (IsFamiliesInOrder S) SaysClaims bytes fs
 spelled_families bytes fs short (are, spelled) = subst (λ (t : List ℕ). Refines (IsFamiliesInOrder S) SaysClaims t fs) (sym spelled) (by_cases fs.0 fs.1 are (subst (λ (t : List ℕ). length t < 2 ^ 64) spelled short))
   where
-    by_cases : (v4 v6 : Option Claim) → ArePresentClaims (v4, v6) → length (families_der ip_resources_der (v4, v6)) < 2 ^ 64 → Refines (IsFamiliesInOrder S) SaysClaims (families_der ip_resources_der (v4, v6)) (v4, v6)
+    by_cases : (v4 v6 : Option Claim) → ArePresentClaims (v4, v6)
+        → length (families_der ip_resources_der (v4, v6)) < 2 ^ 64
+        → Refines (IsFamiliesInOrder S) SaysClaims (families_der ip_resources_der (v4, v6)) (v4, v6)
     by_cases None None are short = absurd (are.2 refl refl)
     by_cases (Some a) None are short =
         let member = member_der ip_resources_der Ipv4 a in
@@ -82,7 +96,8 @@ spelled_families bytes fs short (are, spelled) = subst (λ (t : List ℕ). Refin
         ((Some one.0, Some two.0), (front ++ rest, value_is 48 (front ++ rest) (omega arith) small, (rest, (front, one.1, refl), two.1)), (one.2, two.2))
 
 -- claims that are there
-present_of : (family : AddressFamily) (claim : Claim) → IsFamilyClaim family claim → IfSome (if_present claim) (IsPresentFamilyClaim family)
+present_of : (family : AddressFamily) (claim : Claim) → IsFamilyClaim family claim
+    → IfSome (if_present claim) (IsPresentFamilyClaim family)
 present_of family v1 is = grind (arith)
 
 none_missing : (claim : Claim) → if_present claim ≡ None → claim ≡ Missing
@@ -92,12 +107,16 @@ none_missing v0 e = grind (arith)
 
 module _ (old new : Cursor) (result : Result (ByFamily Claim) (OrMemory DerError)) (took : TakesSaidOrMemory SaysClaims old new result (ip_families_by (is_strict old))) where
   -- strictly, the octets are those that are written
-  pub reads_canonical_families : IsBytes (left old) → length (left old) < 2 ^ 64 → Strict old (ReadsOrMemory (Spells ArePresentClaims (families_der ip_resources_der)) (λ found. found) old new result)
+  pub reads_canonical_families : IsBytes (left old) → length (left old) < 2 ^ 64
+      → Strict old
+      (ReadsOrMemory (Spells ArePresentClaims (families_der ip_resources_der)) (λ found. found) old new result)
   reads_canonical_families fits short strict =
       let strictly = subst (λ mode. TakesSaidOrMemory SaysClaims old new result (ip_families_by mode)) strict took in
       same result (reads_said_by (IsFamiliesInOrder S) SaysClaims (ip_families_by true) old new result modal.tight fits strictly)
     where
-      same : (result : Result (ByFamily Claim) (OrMemory DerError)) → ReadsOrMemory (Refines (IsFamiliesInOrder S) SaysClaims) (λ found. found) old new result → ReadsOrMemory (Spells ArePresentClaims (families_der ip_resources_der)) (λ found. found) old new result
+      same : (result : Result (ByFamily Claim) (OrMemory DerError))
+          → ReadsOrMemory (Refines (IsFamiliesInOrder S) SaysClaims) (λ found. found) old new result
+          → ReadsOrMemory (Spells ArePresentClaims (families_der ip_resources_der)) (λ found. found) old new result
       same (Ok fs) (front, is, split) = (front, families_spelled front fs is, split)
       same (Err (Refused e)) (none, kept) = ((λ fs rest found. none fs rest (found.0, spelled_families found.0 fs (front_short (left old) found.0 rest short found.2) found.1, found.2)), kept)
       same (Err (Memory e)) read = read
@@ -106,7 +125,9 @@ module _ (old new : Cursor) (result : Result (ByFamily Claim) (OrMemory DerError
   pub refused_families : NotCanonicalOrMemory IsIpFamilies old result
   refused_families = same result (refused_said_by (IsFamilies G) (IsFamiliesInOrder S) SaysClaims ip_families_at ip_families_by old new result (families_reading G (λ family. ip_resources_at (bits_of family)) (λ family. resources_reading (bits_of family))) modal took)
     where
-      same : (result : Result (ByFamily Claim) (OrMemory DerError)) → NotCanonicalOrMemory (Refines (IsFamilies G) SaysClaims) old result → NotCanonicalOrMemory IsIpFamilies old result
+      same : (result : Result (ByFamily Claim) (OrMemory DerError))
+          → NotCanonicalOrMemory (Refines (IsFamilies G) SaysClaims) old result
+          → NotCanonicalOrMemory IsIpFamilies old result
       same (Ok fs) refused = tt
       same (Err (Memory e)) refused = tt
       same (Err (Refused e)) refused = elim refused [
@@ -115,7 +136,8 @@ module _ (old new : Cursor) (result : Result (ByFamily Claim) (OrMemory DerError
       ]
 
   -- and what is written of families is read as them
-  pub reads_back_families : length (left old) < 2 ^ 64 → (v4 v6 : Claim) (rest : List ℕ) → IsFamilyClaim Ipv4 v4 → IsFamilyClaim Ipv6 v6 → (v4 ≡ Missing → v6 ≢ Missing) → left old ≡ ip_families_der v4 v6 ++ rest
+  pub reads_back_families : length (left old) < 2 ^ 64 → (v4 v6 : Claim) (rest : List ℕ) → IsFamilyClaim Ipv4 v4
+      → IsFamilyClaim Ipv6 v6 → (v4 ≡ Missing → v6 ≢ Missing) → left old ≡ ip_families_der v4 v6 ++ rest
       → MatchResult result (λ read. (read ≡ (if_present v4, if_present v6)) × (left new ≡ rest)) IsMemory
   reads_back_families short v4 v6 rest first second some at =
       let fs : ByFamily Claim = (if_present v4, if_present v6) in
@@ -124,7 +146,9 @@ module _ (old new : Cursor) (result : Result (ByFamily Claim) (OrMemory DerError
       takes_said_by (IsFamiliesInOrder S) SaysClaims ip_families_at ip_families_by old new result modal (one_by_family SaysClaimOf one_claim) took (ip_families_der v4 v6) rest written.0 fs written.1 written.2 at
 
 -- what IPv4 has is whole
-pub whole_families_by : (old new : Cursor) (result : Result (ByFamily Claim) (OrMemory DerError)) → IsBytes (left old) → TakesSaidOrMemory SaysClaims old new result (ip_families_by (is_strict old)) → IfOk result (λ found. IfSome found.0 IsWholeClaim)
+pub whole_families_by : (old new : Cursor) (result : Result (ByFamily Claim) (OrMemory DerError)) → IsBytes (left old)
+    → TakesSaidOrMemory SaysClaims old new result (ip_families_by (is_strict old))
+    → IfOk result (λ found. IfSome found.0 IsWholeClaim)
 whole_families_by old new (Err e) fits took = tt
 whole_families_by old new (Ok fs) fits (choices, read, says) =
     let found = found_is (is_strict old) (ip_families_by (is_strict old) (left old)) (ip_families_at (left old)) (choices, left new) (modal.tightens (is_strict old) (left old)) read in

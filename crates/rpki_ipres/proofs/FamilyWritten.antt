@@ -5,7 +5,8 @@ use Rattle.rpki_ipres.proofs.SetTextLemmas.{is_ip_set}
 use Rattle.rpki_ipres.proofs.SetWritten.{blocks_say, one_set, set_written, written_as_numbers}
 
 -- what is appended of two behind the header of a SEQUENCE
-pub two_written : (old one two : List ℕ) (n : ℕ) → n ≡ length one + length two → old ++ header 48 n ++ one ++ two ≡ old ++ sequence_value (one ++ two)
+pub two_written : (old one two : List ℕ) (n : ℕ) → n ≡ length one + length two
+    → old ++ header 48 n ++ one ++ two ≡ old ++ sequence_value (one ++ two)
 two_written old one two n long =
     append_assoc (old ++ header 48 n) one two ∙ append_assoc old (header 48 n) (one ++ two)
     ∙ ap (λ m. old ++ (header 48 m ++ (one ++ two))) (long ∙ sym (length-append one two))
@@ -19,7 +20,8 @@ content_shorter content short =
 -- ---- sets alone
 
 -- what is written of a set of a family is a SEQUENCE of blocks of the family, which stands for the set
-pub sequence_says : (family : AddressFamily) (set : Runs) → IsFamilySet family set → length (ip_set_der set) < 2 ^ 64 → IsIpBlockSequence (bits_of family) (ip_set_der set) set
+pub sequence_says : (family : AddressFamily) (set : Runs) → IsFamilySet family set → length (ip_set_der set) < 2 ^ 64
+    → IsIpBlockSequence (bits_of family) (ip_set_der set) set
 sequence_says family set is short = (
   map new_ip_block set,
   set_written family set is (content_shorter (octets_of_all ip_run_der set) short),
@@ -35,7 +37,8 @@ one_sequence limit a b x y r s (xs, is, says) (ys, also, tell) same =
 -- ---- sets behind their family
 
 -- what is written of a family and a set, which has a number, stands for both
-pub family_says : (family : AddressFamily) (set : Runs) → IsFamilySet family set → set ≢ [] → length (ip_family_der family set) < 2 ^ 64 → IsIpFamily (ip_family_der family set) (family, set)
+pub family_says : (family : AddressFamily) (set : Runs) → IsFamilySet family set → set ≢ []
+    → length (ip_family_der family set) < 2 ^ 64 → IsIpFamily (ip_family_der family set) (family, set)
 family_says family [] is some short = absurd (some refl)
 family_says family (run ∷ set) is some short =
     let content : List ℕ = family_der family ++ ip_set_der (run ∷ set) in
@@ -60,14 +63,16 @@ one_family a b x y r s (content, is, (rest, (front, first, split), says)) (other
     (whole.0, (λ i. (family.1 i, set.1 i)), whole.2)
 
 -- sets of a family that are written alike have the same addresses, and sets of the same addresses are written alike
-pub family_as_numbers : (family : AddressFamily) (a b : Runs) → IsFamilySet family a → IsFamilySet family b → (ip_family_der family a ≡ ip_family_der family b) ↔ ((n : ℕ) → Holds a n ↔ Holds b n)
+pub family_as_numbers : (family : AddressFamily) (a b : Runs) → IsFamilySet family a → IsFamilySet family b
+    → (ip_family_der family a ≡ ip_family_der family b) ↔ ((n : ℕ) → Holds a n ↔ Holds b n)
 unfolding header
 family_as_numbers family a b is also = (
   one_set_of a b is also,
   λ same. ap (ip_family_der family) (same_numbers a b (is_ip_set family a is).are_runs (is_ip_set family b also).are_runs same),
 )
   where
-    one_set_of : (a b : Runs) → IsFamilySet family a → IsFamilySet family b → ip_family_der family a ≡ ip_family_der family b → (n : ℕ) → Holds a n ↔ Holds b n
+    one_set_of : (a b : Runs) → IsFamilySet family a → IsFamilySet family b
+        → ip_family_der family a ≡ ip_family_der family b → (n : ℕ) → Holds a n ↔ Holds b n
     one_set_of [] [] is also same = λ n. (λ h. h, λ h. h)
     one_set_of [] (run ∷ b) is also same = absurd cc
     one_set_of (run ∷ a) [] is also same = absurd cc

@@ -7,7 +7,8 @@ use Rattle.rpki_ipres.proofs.SetTextLemmas.{blocks_bounds, blocks_of_family, is_
 
 module _ (Has : List IpBlock → Type 0) where
   -- blocks with the bounds of a set's are those of the set
-  set_of : (set : Runs) (xs : List IpBlock) → IsIpSet set → Has xs → map ip_bounds xs ≡ map ip_bounds (map new_ip_block set) → IsSetOf Has set
+  set_of : (set : Runs) (xs : List IpBlock) → IsIpSet set → Has xs
+      → map ip_bounds xs ≡ map ip_bounds (map new_ip_block set) → IsSetOf Has set
   set_of set xs is has bounds = record { blocks = xs; are_written = has; covered = IsRunsOfBlocks-bounds ip_bounds xs set (bounds ∙ blocks_bounds set is) is.are_runs }
 
   -- one list of blocks has one set
@@ -17,16 +18,19 @@ module _ (Has : List IpBlock → Type 0) where
       IsRunsOf-unique (Covers ip_bounds h.blocks) a b h.covered (subst (λ xs. IsRunsOfBlocks ip_bounds xs b) same k.covered)
 
 -- lists of a family
-pub family_written : (family : AddressFamily) (set : Runs) → IsFamilySet family set → IsSetOf (HasBlocks family (set_text family set)) set
+pub family_written : (family : AddressFamily) (set : Runs) → IsFamilySet family set
+    → IsSetOf (HasBlocks family (set_text family set)) set
 family_written family set is =
     let all = family_list family (set_text family set) (map new_ip_block set) (blocks_of_family family set is) refl in
     set_of (HasBlocks family (set_text family set)) set all.values (is_ip_set family set is) all.have all.bounds
 
-pub one_family_set : (family : AddressFamily) (text : List ℕ) (a b : Runs) → IsSetOf (HasBlocks family text) a → IsSetOf (HasBlocks family text) b → a ≡ b
+pub one_family_set : (family : AddressFamily) (text : List ℕ) (a b : Runs) → IsSetOf (HasBlocks family text) a
+    → IsSetOf (HasBlocks family text) b → a ≡ b
 one_family_set family text = one_set (HasBlocks family text) (same_blocks family text)
 
 -- lists that tell no family
-pub either_written : (family : AddressFamily) (set : Runs) → IsFamilySet family set → IsSetOf (HasIpBlocks (set_text family set)) set
+pub either_written : (family : AddressFamily) (set : Runs) → IsFamilySet family set
+    → IsSetOf (HasIpBlocks (set_text family set)) set
 either_written family set is =
     let told = list_told family (set_text family set) (map new_ip_block set) (blocks_of_family family set is) refl in
     let all = told.writes in
@@ -36,7 +40,8 @@ pub one_either_set : (text : List ℕ) (a b : Runs) → IsSetOf (HasIpBlocks tex
 one_either_set text = one_set (HasIpBlocks text) (same_ip_blocks text)
 
 -- sets of a family
-pub printed_as_numbers : (family : AddressFamily) (a b : Runs) → IsFamilySet family a → IsFamilySet family b → (set_text family a ≡ set_text family b) ↔ ((n : ℕ) → Holds a n ↔ Holds b n)
+pub printed_as_numbers : (family : AddressFamily) (a b : Runs) → IsFamilySet family a → IsFamilySet family b
+    → (set_text family a ≡ set_text family b) ↔ ((n : ℕ) → Holds a n ↔ Holds b n)
 printed_as_numbers family a b is also = (
   λ printed n. (
       let written = subst (λ text. IsSetOf (HasBlocks family text) a) printed (family_written family a is) in

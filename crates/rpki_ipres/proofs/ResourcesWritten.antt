@@ -6,7 +6,8 @@ use Rattle.rpki_ipres.proofs.SetTextLemmas.{is_ip_set}
 use Rattle.rpki_ipres.proofs.SetWritten.{blocks_say, one_set, set_written, written_as_numbers}
 
 -- the blocks that were read are of one claim at most
-pub one_claim : (choice : ResourcesChoice (List IpBlock)) (a b : Claim) → SaysClaimOf choice a → SaysClaimOf choice b → a ≡ b
+pub one_claim : (choice : ResourcesChoice (List IpBlock)) (a b : Claim) → SaysClaimOf choice a → SaysClaimOf choice b
+    → a ≡ b
 one_claim = lists_one (IsRunsOfBlocks ip_bounds) one_set
 
 -- octets begin with the resources of at most one claim
@@ -29,7 +30,8 @@ set_claimed family [] is = tt
 set_claimed family (run ∷ set) is = (is, λ none. absurd cc)
 
 -- what is written of resources of a family is the resources
-pub resources_written : (family : AddressFamily) (claim : Claim) → IsFamilyClaim family claim → claim ≢ Missing → length (ip_resources_der claim) < 2 ^ 64 → IsIpResources (bits_of family) (ip_resources_der claim) claim
+pub resources_written : (family : AddressFamily) (claim : Claim) → IsFamilyClaim family claim → claim ≢ Missing
+    → length (ip_resources_der claim) < 2 ^ 64 → IsIpResources (bits_of family) (ip_resources_der claim) claim
 resources_written family Missing is some short = absurd (some refl)
 resources_written family Inherit is some short = (Inherit, value_is 5 [] (omega arith) (omega arith), refl)
 resources_written family (Blocks set) (is, some) present short = (
@@ -39,7 +41,8 @@ resources_written family (Blocks set) (is, some) present short = (
 )
 
 -- the same of a claim that may be missing
-present_written : (family : AddressFamily) (claim : Claim) → IsFamilyClaim family claim → IfSome (if_present claim) (Writes (λ family. IsIpResources (bits_of family)) ip_resources_der family)
+present_written : (family : AddressFamily) (claim : Claim) → IsFamilyClaim family claim
+    → IfSome (if_present claim) (Writes (λ family. IsIpResources (bits_of family)) ip_resources_der family)
 present_written family Missing is = tt
 present_written family Inherit is = resources_written family Inherit is (λ none. absurd cc)
 present_written family (Blocks set) is = resources_written family (Blocks set) is (λ none. absurd cc)
@@ -51,7 +54,8 @@ none_present Inherit none = absurd cc
 none_present (Blocks set) none = absurd cc
 
 -- what is written of families is the families
-pub claims_written : (v4 v6 : Claim) → IsFamilyClaim Ipv4 v4 → IsFamilyClaim Ipv6 v6 → (v4 ≡ Missing → v6 ≢ Missing) → length (ip_families_der v4 v6) < 2 ^ 64 → IsIpFamilies (ip_families_der v4 v6) (if_present v4, if_present v6)
+pub claims_written : (v4 v6 : Claim) → IsFamilyClaim Ipv4 v4 → IsFamilyClaim Ipv6 v6 → (v4 ≡ Missing → v6 ≢ Missing)
+    → length (ip_families_der v4 v6) < 2 ^ 64 → IsIpFamilies (ip_families_der v4 v6) (if_present v4, if_present v6)
 claims_written v4 v6 first second some short =
     families_written (λ family. IsIpResources (bits_of family)) ip_resources_der (if_present v4, if_present v6) (present_written Ipv4 v4 first) (present_written Ipv6 v6 second)
     (λ none also. some (none_present v4 none) (none_present v6 also)) short
@@ -95,11 +99,14 @@ resources_alike (Blocks x) Inherit is also same = absurd cc
 resources_alike (Blocks x) (Blocks y) is also same =
     ap (λ (t : Runs). Blocks t) (same_numbers x y is.0.are_runs also.0.are_runs ((written_as_numbers x y is.0 also.0).0 same))
 
-pub resources_as_claims : (a b : Claim) → IsIpClaim a → IsIpClaim b → (ip_resources_der a ≡ ip_resources_der b) ↔ (a ≡ b)
+pub resources_as_claims : (a b : Claim) → IsIpClaim a → IsIpClaim b
+    → (ip_resources_der a ≡ ip_resources_der b) ↔ (a ≡ b)
 resources_as_claims a b is also = (resources_alike a b is also, ap ip_resources_der)
 
 -- and so are those that are written alike behind one family
-members_alike : (family : AddressFamily) (a b : Option Claim) → ((x y : Claim) → a ≡ Some x → b ≡ Some y → ip_resources_der x ≡ ip_resources_der y → x ≡ y) → option_der ip_resources_der family a ≡ option_der ip_resources_der family b → a ≡ b
+members_alike : (family : AddressFamily) (a b : Option Claim)
+    → ((x y : Claim) → a ≡ Some x → b ≡ Some y → ip_resources_der x ≡ ip_resources_der y → x ≡ y)
+    → option_der ip_resources_der family a ≡ option_der ip_resources_der family b → a ≡ b
 unfolding header
 members_alike family None None one same = refl
 members_alike family None (Some y) one same = absurd cc
@@ -114,7 +121,8 @@ present_is Missing x there = absurd cc
 present_is Inherit x there = some_claim Inherit x there
 present_is (Blocks y) x there = some_claim (Blocks y) x there
 
-pub members_as_claims : (family : AddressFamily) (a b : Claim) → IsIpClaim a → IsIpClaim b → (ip_member_der family a ≡ ip_member_der family b) ↔ (a ≡ b)
+pub members_as_claims : (family : AddressFamily) (a b : Claim) → IsIpClaim a → IsIpClaim b
+    → (ip_member_der family a ≡ ip_member_der family b) ↔ (a ≡ b)
 members_as_claims family a b is also = (
   λ same. same_present a b (members_alike family (if_present a) (if_present b) (λ x y first second alike.
       resources_alike x y (subst IsIpClaim (present_is a x first) is) (subst IsIpClaim (present_is b y second) also) alike) same),
@@ -122,12 +130,15 @@ members_as_claims family a b is also = (
 )
 
 -- a set behind its family is written as the resources that list it
-pub set_as_member : (family : AddressFamily) (set : Runs) → ip_family_der family set ≡ ip_member_der family (claim_of set)
+pub set_as_member : (family : AddressFamily) (set : Runs)
+    → ip_family_der family set ≡ ip_member_der family (claim_of set)
 set_as_member family [] = refl
 set_as_member family (run ∷ set) = refl
 
 -- families that are written alike, in fewer octets than a length can tell, have the same resources
-pub families_as_claims : (v4 v6 w4 w6 : Claim) → IsFamilyClaim Ipv4 v4 → IsFamilyClaim Ipv6 v6 → (v4 ≡ Missing → v6 ≢ Missing) → IsFamilyClaim Ipv4 w4 → IsFamilyClaim Ipv6 w6 → (w4 ≡ Missing → w6 ≢ Missing) → length (ip_families_der v4 v6) < 2 ^ 64
+pub families_as_claims : (v4 v6 w4 w6 : Claim) → IsFamilyClaim Ipv4 v4 → IsFamilyClaim Ipv6 v6
+    → (v4 ≡ Missing → v6 ≢ Missing) → IsFamilyClaim Ipv4 w4 → IsFamilyClaim Ipv6 w6 → (w4 ≡ Missing → w6 ≢ Missing)
+    → length (ip_families_der v4 v6) < 2 ^ 64
     → (ip_families_der v4 v6 ≡ ip_families_der w4 w6) ↔ ((v4 ≡ w4) × (v6 ≡ w6))
 families_as_claims v4 v6 w4 w6 first second some third fourth more short = (
   λ same. (

@@ -5,7 +5,8 @@ use Rattle.rpki_ipres.proofs.WholeLemmas.{whole_runs}
 
 module _ {V E : Type 0} (view : V → List IpBlock) (Has : List IpBlock → Type 0) (Fails : E → Type 0) where
   -- the set of the blocks that were read is the one that the text writes
-  pub set_answers : (v : V) (set : Runs) → AnswersOrMemory view Has Fails (Ok v) → IsRunsOfBlocks ip_bounds (view v) set → AnswersOrMemory (λ (s : Runs). s) (IsSetOf Has) Fails (Ok set)
+  pub set_answers : (v : V) (set : Runs) → AnswersOrMemory view Has Fails (Ok v) → IsRunsOfBlocks ip_bounds (view v) set
+      → AnswersOrMemory (λ (s : Runs). s) (IsSetOf Has) Fails (Ok set)
   set_answers v set h covered = record {
     found = record { blocks = view v; are_written = h.found; covered = covered };
     each_value = λ other is. (
@@ -15,7 +16,8 @@ module _ {V E : Type 0} (view : V → List IpBlock) (Has : List IpBlock → Type
   }
 
   -- a refusal is that of the list
-  pub set_refused : (e : OrMemory E) → AnswersOrMemory view Has Fails (Err e) → AnswersOrMemory (λ (s : Runs). s) (IsSetOf Has) Fails (Err e)
+  pub set_refused : (e : OrMemory E) → AnswersOrMemory view Has Fails (Err e)
+      → AnswersOrMemory (λ (s : Runs). s) (IsSetOf Has) Fails (Err e)
   set_refused e h = record { found = h.found; each_value = λ set is. h.each_value is.blocks is.are_written; each_fault = h.each_fault }
 
 -- the blocks that are made of runs have their bounds
@@ -23,7 +25,8 @@ pub blocks_bounds : (set : Runs) → IsIpSet set → map ip_bounds (map new_ip_b
 blocks_bounds = bounds_made ip_bounds new_ip_block 0 340282366920938463463374607431768211455 (λ b from ordered to. new_ip_block_bounds b)
 
 -- the set of blocks with the bounds of runs is that of the runs
-set_of_bounds : (xs : List IpBlock) (set read : Runs) → IsIpSet set → map ip_bounds xs ≡ map ip_bounds (map new_ip_block set) → IsRunsOfBlocks ip_bounds xs read → read ≡ set
+set_of_bounds : (xs : List IpBlock) (set read : Runs) → IsIpSet set
+    → map ip_bounds xs ≡ map ip_bounds (map new_ip_block set) → IsRunsOfBlocks ip_bounds xs read → read ≡ set
 set_of_bounds xs set read is bounds covered =
     IsRunsOf-unique (Covers ip_bounds xs) read set covered (IsRunsOfBlocks-bounds ip_bounds xs set (bounds ∙ blocks_bounds set is) is.are_runs)
 
@@ -34,7 +37,8 @@ blocks_fit set is = All-map (IsBlockOf Ipv6) new_ip_block set (λ k d small.
     new_block_fits (get_or set k d) (is.are_runs.ordered k d small) (omega (arith, below)))
 
 -- and those of a set of the family are of the family
-pub blocks_of_family : (family : AddressFamily) (set : Runs) → IsFamilySet family set → All (IsBlockOf family) (map new_ip_block set)
+pub blocks_of_family : (family : AddressFamily) (set : Runs) → IsFamilySet family set
+    → All (IsBlockOf family) (map new_ip_block set)
 blocks_of_family Ipv6 set is = blocks_fit set is
 blocks_of_family Ipv4 set (is, whole) = λ k d small. (blocks_fit set is k d small, whole_blocks k d small)
   where
@@ -48,5 +52,6 @@ is_ip_set Ipv4 set is = is.0
 is_ip_set Ipv6 set is = is
 
 -- so the set that was read from blocks with their bounds is that set
-pub read_as : (family : AddressFamily) (xs : List IpBlock) (set read : Runs) → IsFamilySet family set → map ip_bounds xs ≡ map ip_bounds (map new_ip_block set) → IsRunsOfBlocks ip_bounds xs read → read ≡ set
+pub read_as : (family : AddressFamily) (xs : List IpBlock) (set read : Runs) → IsFamilySet family set
+    → map ip_bounds xs ≡ map ip_bounds (map new_ip_block set) → IsRunsOfBlocks ip_bounds xs read → read ≡ set
 read_as family xs set read is = set_of_bounds xs set read (is_ip_set family set is)

@@ -14,7 +14,8 @@ abbrev pub IsRunWithin : ℕ → ℕ × ℕ → Type 0
 IsRunWithin limit run = IsRangeWithin limit (record { min = run.0; max = run.1 })
 
 -- the block of a run
-pub made_within : (limit : ℕ) (run : ℕ × ℕ) (block : IpBlock) → limit ≤ 128 → ip_bounds block ≡ run → IsBlock block → IsRunWithin limit run → IsBlockWithin limit block
+pub made_within : (limit : ℕ) (run : ℕ × ℕ) (block : IpBlock) → limit ≤ 128 → ip_bounds block ≡ run → IsBlock block
+    → IsRunWithin limit run → IsBlockWithin limit block
 made_within limit run (Prefix p) le bounds fits is =
     let some : 0 < 2 ^ (128 - p.len) = pow_pos (128 - p.len) in
     let first : p.first ≡ run.0 = ap (λ (b : ℕ × ℕ). b.0) bounds in
@@ -24,11 +25,13 @@ made_within limit run (Prefix p) le bounds fits is =
 made_within limit run (Range r) le bounds fits is = subst (λ (b : ℕ × ℕ). IsRangeWithin limit (record { min = b.0; max = b.1 })) (sym bounds) is
 
 -- what is written of it is the block of the run
-run_written : (limit : ℕ) (run : ℕ × ℕ) → limit ≤ 128 → IsRunWithin limit run → IsIpBlockDer limit (ip_run_der run) (new_ip_block run)
+run_written : (limit : ℕ) (run : ℕ × ℕ) → limit ≤ 128 → IsRunWithin limit run
+    → IsIpBlockDer limit (ip_run_der run) (new_ip_block run)
 run_written limit run le is = block_written limit (new_ip_block run) le (made_within limit run (new_ip_block run) le (new_ip_block_bounds run) (new_block_fits run is.is_range.ordered is.is_range.below) is)
 
 -- the same of all runs
-runs_written : (limit : ℕ) (set : Runs) → limit ≤ 128 → AllByRecursion (IsRunWithin limit) set → AllByRecursion (λ x. IsIpBlockDer limit (ip_block_der x) x) (map new_ip_block set)
+runs_written : (limit : ℕ) (set : Runs) → limit ≤ 128 → AllByRecursion (IsRunWithin limit) set
+    → AllByRecursion (λ x. IsIpBlockDer limit (ip_block_der x) x) (map new_ip_block set)
 runs_written limit [] le all = tt
 runs_written limit (run ∷ set) le all = (run_written limit run le all.0, runs_written limit set le all.1)
 
@@ -37,7 +40,9 @@ pub written_as_runs : (set : Runs) → octets_of_all ip_block_der (map new_ip_bl
 written_as_runs set = flat_map-map ip_block_der new_ip_block set
 
 -- with the family before them, where there are some
-pub family_written : (family : AddressFamily) (set : Runs) → eqb (length (map new_ip_block set)) 0 ≡ false → sequence_value (family_der family ++ sequence_octets ip_block_der (map new_ip_block set)) ≡ ip_family_der family set
+pub family_written : (family : AddressFamily) (set : Runs) → eqb (length (map new_ip_block set)) 0 ≡ false
+    → sequence_value (family_der family ++ sequence_octets ip_block_der (map new_ip_block set))
+    ≡ ip_family_der family set
 family_written family [] some = absurd cc
 family_written family (run ∷ set) some = ap (λ (t : List ℕ). sequence_value (family_der family ++ sequence_value t)) (written_as_runs (run ∷ set))
 
@@ -48,13 +53,15 @@ pub blocks_say : (set : Runs) → IsIpSet set → IsRunsOfBlocks ip_bounds (map 
 blocks_say = made_of_set ip_bounds new_ip_block 0 340282366920938463463374607431768211455 (λ b from ordered to. new_ip_block_bounds b)
 
 -- blocks stand for one set
-pub one_set : (blocks : List IpBlock) (a b : Runs) → IsRunsOfBlocks ip_bounds blocks a → IsRunsOfBlocks ip_bounds blocks b → a ≡ b
+pub one_set : (blocks : List IpBlock) (a b : Runs) → IsRunsOfBlocks ip_bounds blocks a
+    → IsRunsOfBlocks ip_bounds blocks b → a ≡ b
 one_set blocks a b = IsRunsOf-unique (Covers ip_bounds blocks) a b
 
 -- ---- sequences
 
 -- the runs of a set of a family need no more bits than the family's addresses
-pub family_runs : (family : AddressFamily) (set : Runs) → IsFamilySet family set → AllByRecursion (IsRunWithin (bits_of family)) set
+pub family_runs : (family : AddressFamily) (set : Runs) → IsFamilySet family set
+    → AllByRecursion (IsRunWithin (bits_of family)) set
 family_runs Ipv4 set (is, whole) = recursion_from_All (IsRunWithin 32) set (λ k d small.
     let bounds : HasWholeBounds _ = whole_runs set is.are_runs whole k d small in
     record { is_range = record { ordered = is.are_runs.ordered k d small; below = (let most = is.below k d small in omega (arith, most)) }; zeros = bounds.begins; ones = bounds.ends })
@@ -67,7 +74,8 @@ few_family Ipv4 = omega arith
 few_family Ipv6 = omega arith
 
 -- a SEQUENCE that stands in octets is no longer than they are
-pub content_short : (bytes content rest : List ℕ) → length bytes < 2 ^ 64 → bytes ≡ sequence_value content ++ rest → length content < 2 ^ 64
+pub content_short : (bytes content rest : List ℕ) → length bytes < 2 ^ 64 → bytes ≡ sequence_value content ++ rest
+    → length content < 2 ^ 64
 content_short bytes content rest short at =
     let whole : length bytes ≡ length (sequence_value content ++ rest) = ap (λ (t : List ℕ). length t) at in
     let parts : length (sequence_value content ++ rest) ≡ length (sequence_value content) + length rest = length-append (sequence_value content) rest in
@@ -75,7 +83,9 @@ content_short bytes content rest short at =
     omega (arith, short, whole, parts, value)
 
 -- what is written of a set is a SEQUENCE of its blocks
-pub set_written : (family : AddressFamily) (set : Runs) → IsFamilySet family set → length (octets_of_all ip_run_der set) < 2 ^ 64 → IsSequenceOf (IsIpBlockDer (bits_of family)) (ip_set_der set) (map new_ip_block set)
+pub set_written : (family : AddressFamily) (set : Runs) → IsFamilySet family set
+    → length (octets_of_all ip_run_der set) < 2 ^ 64
+    → IsSequenceOf (IsIpBlockDer (bits_of family)) (ip_set_der set) (map new_ip_block set)
 set_written family set is short =
     let octets : octets_of_all ip_block_der (map new_ip_block set) ≡ octets_of_all ip_run_der set = written_as_runs set in
     let all = runs_written (bits_of family) set (few_family family) (family_runs family set is) in
@@ -83,7 +93,8 @@ set_written family set is short =
     subst (λ (t : List ℕ). IsSequenceOf (IsIpBlockDer (bits_of family)) (sequence_value t) (map new_ip_block set)) octets written
 
 -- sets that are written alike have the same addresses, and sets of the same addresses are written alike
-pub written_as_numbers : (a b : Runs) → IsIpSet a → IsIpSet b → (ip_set_der a ≡ ip_set_der b) ↔ ((n : ℕ) → Holds a n ↔ Holds b n)
+pub written_as_numbers : (a b : Runs) → IsIpSet a → IsIpSet b
+    → (ip_set_der a ≡ ip_set_der b) ↔ ((n : ℕ) → Holds a n ↔ Holds b n)
 written_as_numbers a b is also = (
   λ same n. (
       let content : octets_of_all ip_run_der a ≡ octets_of_all ip_run_der b = one_content (octets_of_all ip_run_der a) (octets_of_all ip_run_der b) same in

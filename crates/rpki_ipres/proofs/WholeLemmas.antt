@@ -35,7 +35,9 @@ runs_whole runs all m n same (k, b, small, here, within) =
     (k, b, small, here, whole_set b (subst HasWholeBounds here (all k b small)) m n same within)
 
 -- a block of a chain whose set is whole has whole bounds
-pub whole_block : (blocks : List IpBlock) (runs : Runs) (i : ℕ) (x : IpBlock) → map ip_bounds blocks ≡ runs → IsRunsOf (Holds runs) runs → i < length blocks → x ≡ get_or blocks i x → IsWhole (Holds runs) → HasWholeBounds (ip_bounds x)
+pub whole_block : (blocks : List IpBlock) (runs : Runs) (i : ℕ) (x : IpBlock) → map ip_bounds blocks ≡ runs
+    → IsRunsOf (Holds runs) runs → i < length blocks → x ≡ get_or blocks i x → IsWhole (Holds runs)
+    → HasWholeBounds (ip_bounds x)
 whole_block blocks runs i x bounds h small here whole =
     let all : All HasWholeBounds (map ip_bounds blocks) = subst (All HasWholeBounds) (sym bounds) (whole_runs runs h whole) in
     let long = length-map blocks ip_bounds in
@@ -43,6 +45,7 @@ whole_block blocks runs i x bounds h small here whole =
     subst HasWholeBounds (at ∙ ap ip_bounds (sym here)) (all i (ip_bounds x) (omega (arith, long, small)))
 
 -- and blocks that all have are a whole set
-pub blocks_whole : (blocks : List IpBlock) (runs : Runs) (n : ℕ) → map ip_bounds blocks ≡ runs → length blocks ≤ n → ((k : ℕ) (d : IpBlock) → k < n → HasWholeBounds (ip_bounds (get_or blocks k d))) → IsWhole (Holds runs)
+pub blocks_whole : (blocks : List IpBlock) (runs : Runs) (n : ℕ) → map ip_bounds blocks ≡ runs → length blocks ≤ n
+    → ((k : ℕ) (d : IpBlock) → k < n → HasWholeBounds (ip_bounds (get_or blocks k d))) → IsWhole (Holds runs)
 blocks_whole blocks runs n bounds end each =
     runs_whole runs (subst (All HasWholeBounds) bounds (All-map HasWholeBounds ip_bounds blocks (λ k d small. each k d (omega (arith, end, small)))))

@@ -24,12 +24,17 @@ resources_reading limit =
     (values_check (λ (state : Unit {0}) (x : IpBlock). state) (λ state. IsIpBlockDer limit) (λ state. ip_block_at limit) (λ state. ip_block_reading limit) (λ state. ip_block_has_octets limit) tt)
 
 -- by the mode
-pub resources_modal_of : (limit : ℕ) (S : Option ℕ → List ℕ → IpBlock → Type 0) → ((before : Option ℕ) → IsModal (S before) (ip_block_at limit) (λ strict. next_ip_block_by strict limit before)) → IsModal (IsChoiceOf (IsSequenceFrom greatest_of_ip_block S None)) (ip_resources_at limit) (λ strict. ip_resources_by strict limit)
+pub resources_modal_of : (limit : ℕ) (S : Option ℕ → List ℕ → IpBlock → Type 0)
+    → ((before : Option ℕ) → IsModal (S before) (ip_block_at limit) (λ strict. next_ip_block_by strict limit before))
+    → IsModal (IsChoiceOf (IsSequenceFrom greatest_of_ip_block S None)) (ip_resources_at limit)
+    (λ strict. ip_resources_by strict limit)
 resources_modal_of limit S next =
     subst (λ values. IsModal (IsChoiceOf (IsSequenceFrom greatest_of_ip_block S None)) (choice_at values) (λ strict. ip_resources_by strict limit)) (values_stateless greatest_of_ip_block (ip_block_at limit) None)
     (choice_modal (EachFrom greatest_of_ip_block S None) (values_from greatest_of_ip_block (λ before. ip_block_at limit) None) (λ strict. values_from greatest_of_ip_block (next_ip_block_by strict limit) None)
     (strict_values_check greatest_of_ip_block (λ before. IsIpBlockDer limit) S (λ before. ip_block_at limit) (λ strict. next_ip_block_by strict limit) (λ before. ip_block_reading limit) (λ before. ip_block_has_octets limit) next None)
     (λ strict. values_tighten strict greatest_of_ip_block (next_ip_block_by strict limit) (λ before. ip_block_at limit) (λ before. (next before).tightens strict) None))
 
-pub resources_modal : (limit : ℕ) → IsModal (IsChoiceOf (IsSequenceFrom greatest_of_ip_block (IsNextIpBlock limit) None)) (ip_resources_at limit) (λ strict. ip_resources_by strict limit)
+pub resources_modal : (limit : ℕ)
+    → IsModal (IsChoiceOf (IsSequenceFrom greatest_of_ip_block (IsNextIpBlock limit) None)) (ip_resources_at limit)
+    (λ strict. ip_resources_by strict limit)
 resources_modal limit = resources_modal_of limit (IsNextIpBlock limit) (next_ip_block_modal limit)

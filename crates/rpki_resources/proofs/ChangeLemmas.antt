@@ -17,7 +17,8 @@ empty_set S (b ∷ runs) h none =
     absurd (none b.0 ((h.members b.0).0 (Covers-head (λ x. x) b runs b.0 (le_refl b.0, ordered))))
 
 -- without what is removed and with what is added, the second set is the first
-pub restored : (a b added removed kept set : Runs) → IsRunsOf (Holds a) a → IsDifference a b added → IsDifference b a removed → IsDifference b removed kept → IsUnion kept added set → set ≡ a
+pub restored : (a b added removed kept set : Runs) → IsRunsOf (Holds a) a → IsDifference a b added
+    → IsDifference b a removed → IsDifference b removed kept → IsUnion kept added set → set ≡ a
 restored a b added removed kept set own plus minus left u = one_set _ _ set a u own (λ n. (
   ⊎_elim
       (λ (x : Holds kept n). (let y = (left.members n).0 x in ⊎_elim (λ has. has) (λ (not_in : Holds a n → ⊥). absurd (y.1 ((minus.members n).1 (y.0, not_in)))) (Holds-decided a n)))
@@ -44,7 +45,8 @@ inside a b rest h none n held = ⊎_elim
     (Holds-decided b n)
 
 -- sets between which nothing differs are the same
-pub same_where_none : (a b added removed : Runs) → IsRunsOf (Holds a) a → IsRunsOf (Holds b) b → IsDifference a b added → IsDifference b a removed → added ≡ [] → removed ≡ [] → a ≡ b
+pub same_where_none : (a b added removed : Runs) → IsRunsOf (Holds a) a → IsRunsOf (Holds b) b → IsDifference a b added
+    → IsDifference b a removed → added ≡ [] → removed ≡ [] → a ≡ b
 same_where_none a b added removed own other plus minus no_more no_less = one_set _ _ a b own other (λ n. (inside a b added plus no_more n, inside b a removed minus no_less n))
 
 -- and between the same sets nothing differs

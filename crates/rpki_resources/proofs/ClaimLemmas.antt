@@ -12,7 +12,9 @@ set_in (Ok set) = set
 set_in (Err e) = []
 
 -- what a claim gives as a set is what it lists; q is the answer that hands it on
-pub lists : {D E : Type 0} (claim : Claim) (r : Result Runs (OrMemory E)) (set : Runs) (q : Result Runs D) → MatchChoice claim (r ≡ Ok []) (IsRefused r) (λ listed. MatchResult r (λ (s : Runs). s ≡ listed) IsMemory) → q ≡ Ok set → MatchResult r (λ (s : Runs). q ≡ Ok s) (λ _. false ≡ true) → ListsRuns claim set
+pub lists : {D E : Type 0} (claim : Claim) (r : Result Runs (OrMemory E)) (set : Runs) (q : Result Runs D)
+    → MatchChoice claim (r ≡ Ok []) (IsRefused r) (λ listed. MatchResult r (λ (s : Runs). s ≡ listed) IsMemory)
+    → q ≡ Ok set → MatchResult r (λ (s : Runs). q ≡ Ok s) (λ _. false ≡ true) → ListsRuns claim set
 lists Missing (Ok s) set q h is same = ap set_in (sym is ∙ same) ∙ ap set_in h
 lists Inherit (Ok s) set q h is same = absurd h
 lists (Blocks listed) (Ok s) set q h is same = ap set_in (sym is ∙ same) ∙ h

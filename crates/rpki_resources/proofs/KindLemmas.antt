@@ -22,7 +22,8 @@ not_both v p P Q fails same first = (
 )
 
 -- all three
-pub each : (P : (Triple → Runs) → Type 0) (b : Bool) → IsTrue b ↔ ((P (λ t. t.asn) × P (λ t. t.ipv4)) × P (λ t. t.ipv6)) → IsTrue b ↔ InEach P
+pub each : (P : (Triple → Runs) → Type 0) (b : Bool) → IsTrue b ↔ ((P (λ t. t.asn) × P (λ t. t.ipv4)) × P (λ t. t.ipv6))
+    → IsTrue b ↔ InEach P
 each P b h = (
   λ t. (let all = h.0 t in record { asn = all.0.0; ipv4 = all.0.1; ipv6 = all.1 }),
   λ all. h.1 ((all.asn, all.ipv4), all.ipv6),

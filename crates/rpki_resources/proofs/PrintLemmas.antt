@@ -8,5 +8,6 @@ none_is false [] h = h.1 refl
 none_is true (run ∷ runs) h = absurd (let e : run ∷ runs ≡ [] = h.0 refl in cc)
 none_is false (run ∷ runs) h = refl
 
-pub kind_is : (kind : List ℕ) (text : Runs → List ℕ) (b : Bool) (x y set : Runs) → IsTrue b ↔ (x ≡ []) → x ≡ set → y ≡ set → (if b then [] else kind ++ text y) ≡ kind_text kind text set
+pub kind_is : (kind : List ℕ) (text : Runs → List ℕ) (b : Bool) (x y set : Runs) → IsTrue b ↔ (x ≡ []) → x ≡ set
+    → y ≡ set → (if b then [] else kind ++ text y) ≡ kind_text kind text set
 kind_is kind text b x y set h same also = rw (none_is b x h, same, also) refl

@@ -44,7 +44,8 @@ module _ (a b c : List ℕ) where
       each (Ipv4 e) has = absurd (h.each_value has.0.0 has.0.1)
       each (Ipv6 e) has = absurd (h.each_value has.0.0 has.0.1)
 
-  pub ipv4_fault : (asn : Runs) (d : OrMemory ip_fault.FromStrError) → OfAsn a (Ok asn) → OfIpv4 b (Err d) → OfAll a b c (Err (refusal_of Ipv4 d))
+  pub ipv4_fault : (asn : Runs) (d : OrMemory ip_fault.FromStrError) → OfAsn a (Ok asn) → OfIpv4 b (Err d)
+      → OfAll a b c (Err (refusal_of Ipv4 d))
   ipv4_fault asn (Memory error) first h = no_memory error
   ipv4_fault asn (Refused fault) first h = record {
     found = ((asn, first.found), h.found);
@@ -57,7 +58,8 @@ module _ (a b c : List ℕ) where
       each (Ipv4 e) has = ap Ipv4 (h.each_fault e has.1)
       each (Ipv6 e) has = absurd (h.each_value has.1.0 has.1.1)
 
-  pub ipv6_fault : (asn ipv4 : Runs) (d : OrMemory ip_fault.FromStrError) → OfAsn a (Ok asn) → OfIpv4 b (Ok ipv4) → OfIpv6 c (Err d) → OfAll a b c (Err (refusal_of Ipv6 d))
+  pub ipv6_fault : (asn ipv4 : Runs) (d : OrMemory ip_fault.FromStrError) → OfAsn a (Ok asn) → OfIpv4 b (Ok ipv4)
+      → OfIpv6 c (Err d) → OfAll a b c (Err (refusal_of Ipv6 d))
   ipv6_fault asn ipv4 (Memory error) first second h = no_memory error
   ipv6_fault asn ipv4 (Refused fault) first second h = record {
     found = ((asn, first.found), (ipv4, second.found), h.found);
@@ -70,7 +72,8 @@ module _ (a b c : List ℕ) where
       each (Ipv4 e) has = absurd (second.each_fault e has.1)
       each (Ipv6 e) has = ap Ipv6 (h.each_fault e has.2)
 
-  pub all_read : (asn ipv4 ipv6 : Runs) → OfAsn a (Ok asn) → OfIpv4 b (Ok ipv4) → OfIpv6 c (Ok ipv6) → OfAll a b c (Ok (record { asn = asn; ipv4 = ipv4; ipv6 = ipv6 }))
+  pub all_read : (asn ipv4 ipv6 : Runs) → OfAsn a (Ok asn) → OfIpv4 b (Ok ipv4) → OfIpv6 c (Ok ipv6)
+      → OfAll a b c (Ok (record { asn = asn; ipv4 = ipv4; ipv6 = ipv6 }))
   all_read asn ipv4 ipv6 first second third = record {
     found = record { asn = first.found; ipv4 = second.found; ipv6 = third.found };
     each_value = λ t read.

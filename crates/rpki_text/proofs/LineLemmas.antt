@@ -13,8 +13,11 @@ cut : (text : List ℕ) → position_or_len is_end text < length text
 cut [] found = absurd (omega arith)
 cut (b ∷ bs) found = by_test (is_end b) found (cut bs) where
   by_test : (test : Bool) → cond (not test) (1 + position_or_len is_end bs) 0 < length (b ∷ bs)
-      → (position_or_len is_end bs < length bs → lines_of bs ≡ take (position_or_len is_end bs) bs ∷ lines_of (drop (position_or_len is_end bs + 1) bs))
-      → cond test ([] ∷ lines_of bs) (onto_first b (lines_of bs)) ≡ take (cond (not test) (1 + position_or_len is_end bs) 0) (b ∷ bs) ∷ lines_of (drop (cond (not test) (1 + position_or_len is_end bs) 0 + 1) (b ∷ bs))
+      → (position_or_len is_end bs < length bs
+      → lines_of bs ≡ take (position_or_len is_end bs) bs ∷ lines_of (drop (position_or_len is_end bs + 1) bs))
+      → cond test ([] ∷ lines_of bs) (onto_first b (lines_of bs))
+      ≡ take (cond (not test) (1 + position_or_len is_end bs) 0) (b ∷ bs)
+      ∷ lines_of (drop (cond (not test) (1 + position_or_len is_end bs) 0 + 1) (b ∷ bs))
   by_test true short others = refl
   by_test false short others =
       let p = position_or_len is_end bs in
@@ -24,7 +27,8 @@ cut (b ∷ bs) found = by_test (is_end b) found (cut bs) where
       rw (twice, once, others below) refl
 
 -- where there is no 0a, the text is one line
-whole : (b : ℕ) (text : List ℕ) → length (b ∷ text) ≤ position_or_len is_end (b ∷ text) → lines_of (b ∷ text) ≡ (b ∷ text) ∷ []
+whole : (b : ℕ) (text : List ℕ) → length (b ∷ text) ≤ position_or_len is_end (b ∷ text)
+    → lines_of (b ∷ text) ≡ (b ∷ text) ∷ []
 whole b [] none = by_test (is_end b) none where
   by_test : (test : Bool) → 1 ≤ cond (not test) (1 + 0) 0 → cond test ([] ∷ []) ((b ∷ []) ∷ []) ≡ (b ∷ []) ∷ []
   by_test true wrong = absurd (omega arith)
@@ -39,9 +43,11 @@ whole b (d ∷ text) none = by_test (is_end b) none (whole d text) where
       rw (others more) refl
 
 -- where `position` answered, at its answer
-pub first_line : (text : List ℕ) (at : ℕ) → position is_end text ≡ Some at → lines_of text ≡ take at text ∷ lines_of (take (length text - (at + 1)) (drop (at + 1) text))
+pub first_line : (text : List ℕ) (at : ℕ) → position is_end text ≡ Some at
+    → lines_of text ≡ take at text ∷ lines_of (take (length text - (at + 1)) (drop (at + 1) text))
 first_line text at found = by_test (nat_lt (position_or_len is_end text) (length text)) refl found where
-  by_test : (test : Bool) → nat_lt (position_or_len is_end text) (length text) ≡ test → cond test (Some (position_or_len is_end text)) None ≡ Some at
+  by_test : (test : Bool) → nat_lt (position_or_len is_end text) (length text) ≡ test
+      → cond test (Some (position_or_len is_end text)) None ≡ Some at
       → lines_of text ≡ take at text ∷ lines_of (take (length text - (at + 1)) (drop (at + 1) text))
   by_test true below is =
       let here : position_or_len is_end text ≡ at = cc in
@@ -52,8 +58,8 @@ first_line text at found = by_test (nat_lt (position_or_len is_end text) (length
 pub only_line : (text : List ℕ) → 0 < length text → position is_end text ≡ None → lines_of text ≡ text ∷ []
 only_line [] some none = absurd (omega arith)
 only_line (b ∷ text) some none = by_test (nat_lt (position_or_len is_end (b ∷ text)) (length (b ∷ text))) refl none where
-  by_test : (test : Bool) → nat_lt (position_or_len is_end (b ∷ text)) (length (b ∷ text)) ≡ test → cond test (Some (position_or_len is_end (b ∷ text))) None ≡ None
-      → lines_of (b ∷ text) ≡ (b ∷ text) ∷ []
+  by_test : (test : Bool) → nat_lt (position_or_len is_end (b ∷ text)) (length (b ∷ text)) ≡ test
+      → cond test (Some (position_or_len is_end (b ∷ text))) None ≡ None → lines_of (b ∷ text) ≡ (b ∷ text) ∷ []
   by_test true below is = cc
   by_test false above is = whole b text (ltb-false _ _ above)
 

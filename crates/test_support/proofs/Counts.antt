@@ -12,7 +12,8 @@ among_none zero = refl
 among_none (suc asked) = grind (arith, among_none asked)
 
 -- one, once it was asked
-pub among_only : (refused asked : ℕ) → refused_among (RefuseOnly refused) asked ≡ (if nat_lt refused asked then 1 else 0)
+pub among_only : (refused asked : ℕ)
+    → refused_among (RefuseOnly refused) asked ≡ (if nat_lt refused asked then 1 else 0)
 unfolding refused_among
 among_only refused zero = grind arith
 among_only refused (suc asked) = grind (arith, among_only refused asked)

@@ -27,7 +27,8 @@ counted κ p x = hidden_shr RQ.the_row κ x p.0 p.1
 
 module _ (Z : Al) {M : Type 1} {𝓤 : Ura M} (𝓛 : Logic 𝓤) (κ : Lft) (p : ℕ × ℕ) (x : (RE.the_row Z.row).Denot) where
   -- a `&` to the allocator is one to each of its fields
-  pub fields : ent 𝓤 (sem 𝓛 (hidden_shr (RE.the_row (param 0 Z.row)) κ x p.0 p.1)) (sep 𝓤 (sem 𝓛 (seen Z κ (inner_at Z p) x.inner)) (sem 𝓛 (counted κ (requests_at Z p) x.requests)))
+  pub fields : ent 𝓤 (sem 𝓛 (hidden_shr (RE.the_row (param 0 Z.row)) κ x p.0 p.1))
+      (sep 𝓤 (sem 𝓛 (seen Z κ (inner_at Z p) x.inner)) (sem 𝓛 (counted κ (requests_at Z p) x.requests)))
   fields = qed 𝓛 (‵ (hidden_shr (RE.the_row (param 0 Z.row)) κ x p.0 p.1) ∷ []) ∵ unhide ! $ fsplit ! $ fsplit ! $ move ! (1 ∷ []) $ fsplit ! $ keep ! (2 ∷ 0 ∷ []) $ join ! $ done !
 
 module _ {M : Type 1} {𝓤 : Ura M} (𝓛 : Logic 𝓤) (at_mem : Memory → SProp 𝓤) (run : Routine → Fun 𝓤) where
@@ -49,7 +50,8 @@ module _ {M : Type 1} {𝓤 : Ura M} (𝓛 : Logic 𝓤) (at_mem : Memory → SP
         nothing ! $ move ! (2 ∷ 0 ∷ []) $ join ! $ join ! $ nothing ! $ move ! (1 ∷ 0 ∷ []) $ join ! $ done !
 
     -- what a caller has of it: an answer, and the token
-    pub Asks-gives : (v : Val) → ent 𝓤 (Asks.post at_asks v) (H.⇛ (ex 𝓤 (λ (r : Bool). guard 𝓤 (v ≡ vbool r) (A.lft κ q))))
+    pub Asks-gives : (v : Val)
+        → ent 𝓤 (Asks.post at_asks v) (H.⇛ (ex 𝓤 (λ (r : Bool). guard 𝓤 (v ≡ vbool r) (A.lft κ q))))
     Asks-gives v =
         qed 𝓛 (raw (Asks.post at_asks v) ∷ []) ∵ updating ! $
         use1 𝓛 (later (some (λ (r : Bool). ((‵ (flft κ q) ⊛ ‵ ftrue) ⊛ ‵ (bool.own_val r (v ∷ []))) ⊛ some (λ (ws : Unit {0} × (Unit {0} × Unit {0})). ‵ (fsep ftrue (fsep ftrue ftrue)) ⊛ raw (fact 𝓤 (IsSomeAnswer x.plan r)))))) (id⊢ 𝓤 _) $

@@ -4,8 +4,9 @@ use Rattle.rpki_der.specs.Der.{header, sequence_value}
 use Rattle.example_calls.proofs.octets.as_written_and_read.Goals as goal
 
 -- what was read as octets, if nothing was left out
-only : (written before inside content head start all slice octets : List ℕ) (n : ℕ) → before ≡ [] → content ≡ before ++ written → inside ≡ content → n ≡ length inside → start ≡ [] → head ≡ start ++ header 48 n → all ≡ head ++ inside → slice ≡ all → octets ≡ slice
-    → octets ≡ sequence_value written ++ []
+only : (written before inside content head start all slice octets : List ℕ) (n : ℕ) → before ≡ []
+    → content ≡ before ++ written → inside ≡ content → n ≡ length inside → start ≡ [] → head ≡ start ++ header 48 n
+    → all ≡ head ++ inside → slice ≡ all → octets ≡ slice → octets ≡ sequence_value written ++ []
 only written before inside content head start all slice octets n none wrote read long clean begun ended seen same =
     let inner : inside ≡ written = read ∙ wrote ∙ ap (λ (t : List ℕ). t ++ written) none in
     let front : head ≡ header 48 (length written) = begun ∙ ap (λ (t : List ℕ). t ++ header 48 n) clean ∙ ap (header 48) (long ∙ ap (λ (t : List ℕ). length t) inner) in

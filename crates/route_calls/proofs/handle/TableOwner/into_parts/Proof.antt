@@ -47,7 +47,8 @@ module _ {M : Type 1} {𝓤 : Ura M} (𝓛 : Logic 𝓤) (at_mem : Memory → SP
   a = z.0.3.1.0
 
   at : (s : Ptr) → d.at ≡ s → (h : Val) → Good (layout Z) h → Testable s
-      → ent 𝓤 (sep 𝓤 (sem 𝓛 (if_non_null s (boxed_table s d.payloads))) (sep 𝓤 (sem 𝓛 (Z.own_val a (h ∷ []))) toks)) (Run (word s ∷ h ∷ []))
+      → ent 𝓤 (sep 𝓤 (sem 𝓛 (if_non_null s (boxed_table s d.payloads))) (sep 𝓤 (sem 𝓛 (Z.own_val a (h ∷ []))) toks))
+      (Run (word s ∷ h ∷ []))
   at null_ptr e h fits may =
       qed 𝓛 (‵ ftrue ∷ ‵ (Z.own_val a (h ∷ [])) ∷ raw toks ∷ []) ∵ keep ! (2 ∷ []) $
       enter ! C Λ code.function (word null_ptr ∷ h ∷ []) _ $ alloc_all ! (λ l. pass_all ! refl ((tt, (record { fits = lit< tt }, tt)), (fits, tt)) $

@@ -46,7 +46,8 @@ module _ {M : Type 1} {𝓤 : Ura M} (𝓛 : Logic 𝓤) (at_mem : Memory → SP
   abbrev Ref : RattleType
   Ref = ShrRef (named 0) κ table_row
 
-  at : (s : Ptr) → d.at ≡ s → Testable s → ent 𝓤 (sep 𝓤 (sem 𝓛 (if_non_null s (lent_at table_row s d.payloads []))) toks) (Run (word s ∷ []))
+  at : (s : Ptr) → d.at ≡ s → Testable s
+      → ent 𝓤 (sep 𝓤 (sem 𝓛 (if_non_null s (lent_at table_row s d.payloads []))) toks) (Run (word s ∷ []))
   at null_ptr e may =
       qed 𝓛 (‵ ftrue ∷ raw toks ∷ []) ∵ drop ! $
       enter ! C Λ code.function (word null_ptr ∷ []) _ $ alloc_all ! (λ l. pass_all ! refl ((tt, (record { fits = lit< tt }, tt)), tt) $

@@ -6,7 +6,8 @@ use Rattle.rpki_family.proofs.prefixes.SetPrefixesIterator.next.Goals as goal
 same : (g : given.Over) (c : goal.After-next-3 g) → range_bounds c.new.result ≡ ip_bounds c.in-Some-next.block.now
 same g c = same_bounds _ c.new.result c.min.result c.max.result c.new.ensures c.min.ensures.value c.max.ensures.value
 
-covered : (g : given.Over) (c : goal.After-next-3 g) → IsShortestCover 128 (IsWithin (ip_bounds c.in-Some-next.block.now)) c.to_v6_prefixes-self-inside.result
+covered : (g : given.Over) (c : goal.After-next-3 g)
+    → IsShortestCover 128 (IsWithin (ip_bounds c.in-Some-next.block.now)) c.to_v6_prefixes-self-inside.result
 covered g c = subst (λ b. IsShortestCover 128 (IsWithin b) c.to_v6_prefixes-self-inside.result) (same g c) c.to_v6_prefixes-self-inside.ensures.cover
 
 pub returns-clause-steps : goal.returns-clause-steps

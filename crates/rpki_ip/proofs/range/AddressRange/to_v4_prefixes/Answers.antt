@@ -5,7 +5,8 @@ use Rattle.rpki_ip.proofs.range.AddressRange.to_v4_prefixes.Goals as goal
 last : (c : goal.After-new) → c.from-2.result ≡ c.args.self.max / 2 ^ 96
 last c = c.from-2.ensures ∙ c.to_bits-2.ensures ∙ c.to_v4-max.ensures ∙ ap (λ n. n / 2 ^ 96) c.max.ensures.value
 
-short : (c : goal.After-new) → IsShortestCover 32 (IsWithin (c.args.self.min / 2 ^ 96, c.args.self.max / 2 ^ 96)) c.new.result
+short : (c : goal.After-new)
+    → IsShortestCover 32 (IsWithin (c.args.self.min / 2 ^ 96, c.args.self.max / 2 ^ 96)) c.new.result
 short c =
     let min : c.from.result ≡ c.args.self.min / 2 ^ 96 = c.from.ensures ∙ c.to_bits.ensures ∙ c.to_v4-min.ensures ∙ ap (λ n. n / 2 ^ 96) c.min.ensures.value in
     let max : c.from-2.result ≡ c.args.self.max / 2 ^ 96 = last c in

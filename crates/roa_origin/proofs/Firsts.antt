@@ -7,7 +7,7 @@ use Rattle.roa_origin.proofs.Nested.{below_256}
 pub first_part : (w n x : ℕ) → n ≤ w → x < 2 ^ w → x / 2 ^ (w - n) < 2 ^ n
 first_part w n x le small = shr_below x n (w - n) (subst (λ k. x < 2 ^ k) (omega (arith, le)) small)
 
--- sixteen bits are less than 2 ^ 17 of them
+-- twenty bits write less than 2 ^ 20 numbers, and fewer bits no more
 pub few_numbers : (n : ℕ) → n ≤ 20 → 2 ^ n ≤ 2 ^ 20
 few_numbers n few = pow-le-pow_right (lit≤ tt) few
 

@@ -9,7 +9,8 @@ ghost use Rattle.roa_origin.specs.Starts.{AreStarts, IsStart, first_bits};
 use crate::entry::Entry;
 use std::alloc::{AllocError, Allocator};
 
-/// How many first bits tell the starts of so many payloads apart: for each start some two payloads, up to a million starts.
+/// How many first bits tell the starts of so many payloads apart: a start for each one or two of them, up to a million
+/// starts of a family.
 pub(crate) fn bits_for(payloads: usize) -> u8
     ensures some { 1 ≤ result }
     ensures few { result ≤ 20 }

@@ -37,6 +37,8 @@ CRATE_HEAD = """{about}
 SEAMS = (
     "rpki_text::list",
     "rpki_text::number",
+    "rpki_addr::addr::front",
+    "rpki_addr::addr::print",
     "rpki_base::Asn::append",
     "rpki_base::Encode",
     "rpki_base::ReadNext",
@@ -69,6 +71,7 @@ SEAMS = (
     "rpki_ip::AddressRange::append",
     "rpki_ip::AddressRange::is_written_as",
     "rpki_ip::Prefix::append",
+    "rpki_ip::front",
     "rpki_ip::text",
     "rpki_ip_block::der::IpBlockReader",
     "rpki_ip_block::list",

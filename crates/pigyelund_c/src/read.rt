@@ -6,8 +6,8 @@ ghost use Rattle.pigyelund_c.specs.Sets.{IsNoSet, IsSet, some_octets};
 use crate::refusal::Unread;
 use rpki_extensions::encoding::Encoding;
 use rpki_extensions::read::{address_claims, numbers_claim};
+use rpki_resources::OrMemory;
 use rpki_resources::repository::resources::ResourceSet;
-use rpki_resources::{OrMemory, refused_as};
 use std::alloc::Global;
 
 /// The octets, None where there are none: a set then has no resources of these kinds.
@@ -31,16 +31,19 @@ pub(crate) fn set_of(
     ensures { MatchResult result (IsSet encoding numbers.now addresses.now)
         (IfRefused (IsNoSet encoding numbers.now addresses.now)) }
 {
-    let asn = refused_as(
-        numbers_claim(alloc, some_octets(numbers), encoding),
-        |fault| Unread::Numbers(fault),
-    )?;
-    let (v4, v6) = refused_as(
-        address_claims(alloc, some_octets(addresses), encoding),
-        |fault| Unread::Addresses(fault),
-    )?;
-    refused_as(
-        ResourceSet::from_resources(&asn, &v4, &v6),
-        |_| Unread::Inherited,
-    )
+    let asn = match numbers_claim(alloc, some_octets(numbers), encoding) {
+        Ok(asn) => asn,
+        Err(OrMemory::Refused(fault)) => return Err(OrMemory::Refused(Unread::Numbers(fault))),
+        Err(OrMemory::Memory(error)) => return Err(OrMemory::Memory(error)),
+    };
+    let (v4, v6) = match address_claims(alloc, some_octets(addresses), encoding) {
+        Ok(claims) => claims,
+        Err(OrMemory::Refused(fault)) => return Err(OrMemory::Refused(Unread::Addresses(fault))),
+        Err(OrMemory::Memory(error)) => return Err(OrMemory::Memory(error)),
+    };
+    match ResourceSet::from_resources(&asn, &v4, &v6) {
+        Ok(set) => Ok(set),
+        Err(OrMemory::Refused(_)) => Err(OrMemory::Refused(Unread::Inherited)),
+        Err(OrMemory::Memory(error)) => Err(OrMemory::Memory(error)),
+    }
 }

@@ -5,8 +5,8 @@ ghost use Rattle.rpki_extensions.specs.Anchors.{IsAnchorSet, IsNoAnchor};
 
 use crate::error::Unverified;
 use crate::extensions::Extensions;
+use rpki_resources::OrMemory;
 use rpki_resources::repository::resources::ResourceSet;
-use rpki_resources::{OrMemory, refused_as};
 use std::alloc::Allocator;
 
 /// The set that the extensions of a trust anchor list, and nothing of a kind that is missing. Its mode isn't looked at,
@@ -24,8 +24,9 @@ pub fn anchor_set<A: Allocator + Copy>(
         Ok(claims) => claims,
         Err(error) => return Err(error),
     };
-    refused_as(
-        ResourceSet::from_resources(&claims.asn, &claims.ipv4, &claims.ipv6),
-        |_| Unverified::Inherited,
-    )
+    match ResourceSet::from_resources(&claims.asn, &claims.ipv4, &claims.ipv6) {
+        Ok(set) => Ok(set),
+        Err(OrMemory::Refused(_)) => Err(OrMemory::Refused(Unverified::Inherited)),
+        Err(OrMemory::Memory(error)) => Err(OrMemory::Memory(error)),
+    }
 }

@@ -9,8 +9,8 @@ use crate::anchor::anchor_set;
 use crate::error::{RefusedBelow, UnverifiedCertificate};
 use crate::extensions::Extensions;
 use crate::issued::verified_octets;
+use rpki_resources::OrMemory;
 use rpki_resources::repository::resources::ResourceSet;
-use rpki_resources::{OrMemory, refused_as};
 use std::alloc::Allocator;
 
 /// What the certificates on a path leave of the resources of a trust anchor: each is verified by what the ones before
@@ -50,12 +50,18 @@ pub fn verified_below<A: Allocator + Copy>(
         (IfRefused (IsRefusedBelow anchor.now certificates.now)) }
     ensures inside { IfOk result (LiesInAnchor anchor.now) }
 {
-    let root = refused_as(
-        anchor_set(alloc, anchor),
-        |reason| RefusedBelow::Anchor(reason),
-    )?;
-    refused_as(
-        verified_path(alloc, &root, certificates),
-        |refusal| RefusedBelow::Certificate(refusal),
-    )
+    let root = match anchor_set(alloc, anchor) {
+        Ok(root) => root,
+        Err(OrMemory::Refused(reason)) => {
+            return Err(OrMemory::Refused(RefusedBelow::Anchor(reason)));
+        }
+        Err(OrMemory::Memory(error)) => return Err(OrMemory::Memory(error)),
+    };
+    match verified_path(alloc, &root, certificates) {
+        Ok(set) => Ok(set),
+        Err(OrMemory::Refused(refusal)) => {
+            Err(OrMemory::Refused(RefusedBelow::Certificate(refusal)))
+        }
+        Err(OrMemory::Memory(error)) => Err(OrMemory::Memory(error)),
+    }
 }

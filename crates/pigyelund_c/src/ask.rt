@@ -12,8 +12,8 @@ use crate::refusal::{Misasked, Refusal};
 use rpki_extensions::encoding::Encoding;
 use rpki_extensions::extensions::Extensions;
 use rpki_extensions::issued::verified_octets;
+use rpki_resources::OrMemory;
 use rpki_resources::repository::resources::ResourceSet;
-use rpki_resources::{OrMemory, refused_as};
 use std::alloc::Global;
 
 /// What a certificate's extensions claim of an issuer's set. `Refused` where they are no claims, and else with the
@@ -26,10 +26,11 @@ pub(crate) fn verified(
     ensures { MatchResult result (IsVerified issuer.now certificate.now)
         (IfRefused (IsToldUnverified issuer.now certificate.now)) }
 {
-    refused_as(
-        verified_octets(alloc, issuer, certificate),
-        |reason| Refusal::Unverified(reason),
-    )
+    match verified_octets(alloc, issuer, certificate) {
+        Ok(set) => Ok(set),
+        Err(OrMemory::Refused(reason)) => Err(OrMemory::Refused(Refusal::Unverified(reason))),
+        Err(OrMemory::Memory(error)) => Err(OrMemory::Memory(error)),
+    }
 }
 
 /// The same of an issuer's set that is read from octets first.
@@ -43,11 +44,11 @@ fn left_of(
     ensures { MatchResult result (IsLeftByOctets issuer_as.now issuer_ip.now encoding certificate.now)
         (IfRefused (IsNotLeftByOctets issuer_as.now issuer_ip.now encoding certificate.now)) }
 {
-    let issuer = refused_as(
-        set_of(alloc, issuer_as, issuer_ip, encoding),
-        |reason| Refusal::Issuer(reason),
-    )?;
-    verified(alloc, &issuer, certificate)
+    match set_of(alloc, issuer_as, issuer_ip, encoding) {
+        Ok(issuer) => verified(alloc, &issuer, certificate),
+        Err(OrMemory::Refused(reason)) => Err(OrMemory::Refused(Refusal::Issuer(reason))),
+        Err(OrMemory::Memory(error)) => Err(OrMemory::Memory(error)),
+    }
 }
 
 /// The same of a certificate that is handed over as octets and numbers.

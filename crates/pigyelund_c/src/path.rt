@@ -9,8 +9,8 @@ use crate::encodings::encoding_of;
 use crate::read::set_of;
 use crate::refusal::{Misasked, Refusal};
 use rpki_extensions::encoding::Encoding;
+use rpki_resources::OrMemory;
 use rpki_resources::repository::resources::ResourceSet;
-use rpki_resources::{OrMemory, refused_as};
 use std::alloc::Global;
 
 /// Why a path isn't verified.
@@ -93,11 +93,13 @@ fn path_answered_in(
         (IfRefused
         (IsNoPathOutcomeIn anchor_as.now anchor_ip.now run.now certificates.now encoding)) }
 {
-    let anchor = refused_as(
-        set_of(alloc, anchor_as, anchor_ip, encoding),
-        |reason| Stopped::at_first(Refusal::Issuer(reason)),
-    )?;
-    left_on_path(alloc, anchor, run, encoding, certificates)
+    match set_of(alloc, anchor_as, anchor_ip, encoding) {
+        Ok(anchor) => left_on_path(alloc, anchor, run, encoding, certificates),
+        Err(OrMemory::Refused(reason)) => {
+            Err(OrMemory::Refused(Stopped::at_first(Refusal::Issuer(reason))))
+        }
+        Err(OrMemory::Memory(error)) => Err(OrMemory::Memory(error)),
+    }
 }
 
 /// The same by the number of an encoding.

@@ -24,7 +24,7 @@ IP_BLOCK = 3 * 16  # which kind, and two numbers of 128 bits
 ASN = 4
 PAYLOAD = 80  # family and address 32, length and greatest length up to 64, AS number up to 80
 ENTRY = 32  # of a table: an address, an AS number, two lengths, the family
-LINK = 2 * WORD
+LINK = 2 * 4  # two numbers of 32 bits
 # Two counts and the allocator; of the list whether it is there, its place, length, room and allocator.
 OWNERS = 8 * WORD
 
@@ -95,20 +95,30 @@ def _built(left: int, right: int, size: int) -> Rooms:
     return shared(pushed + reserved(left + right, pushed[-1] // size if pushed else 0, size))
 
 
-USUAL = re.compile(r" ?(AS)?\d+(-(AS)?\d+)?")
+USUAL_AS = re.compile(r" ?(AS)?\d+(-(AS)?\d+)?")
+USUAL_IP = re.compile(r" ?[0-9A-Fa-f:.]+([-/][0-9A-Fa-f:.]+)?")
 
 
-def _as_text(text: str) -> Rooms:
+def _list_text(text: str, form: re.Pattern[str], size: int) -> Rooms:
     """Elements of the usual form are read as they come; at the first other one, or behind the last, all is read anew,
     when the list so far was given back."""
     count = len(list(texts.elements(text)))
     usual, at = 0, 0
-    while found := USUAL.match(text, at):
+    while found := form.match(text, at):
         usual, at = usual + 1, found.end() + 1
         if text[found.end() : at] != ",":
             break
     is_usual = usual == count and at > len(text)
-    return ([] if is_usual else grown(usual, AS_BLOCK)) + shared(grown(count, AS_BLOCK))
+    return ([] if is_usual else grown(usual, size)) + shared(grown(count, size))
+
+
+def _as_text(text: str) -> Rooms:
+    return _list_text(text, USUAL_AS, AS_BLOCK)
+
+
+def _ip_text(text: str) -> Rooms:
+    """A list of addresses of one family."""
+    return _list_text(text, USUAL_IP, IP_BLOCK)
 
 
 def _of_blocks(call: str, left: int, right: int, size: int) -> Rooms | None:
@@ -130,8 +140,8 @@ def _of_kind(kind: str, call: str, text: str) -> str:
     size = AS_BLOCK if kind == "as" else IP_BLOCK
     family = Family.V4 if kind == "v4" else None
     read = asn.read_block if kind == "as" else lambda block: ip.read_block(block, family)
-    if (kind, call) == ("as", "text"):
-        return _text(_as_text(text))
+    if call == "text" and kind in ("as", "v4", "v6"):
+        return _text(_as_text(text) if kind == "as" else _ip_text(text))
     left, right = ([read(part).bounds() for part in texts.elements(side)] for side in texts.cut(text, "|"))
     rooms = _of_blocks(call, len(left), len(right), size)
     if rooms is not None:
@@ -203,9 +213,9 @@ def _sent(payloads: list[Payload]) -> set[Payload]:
 def _table(count: int) -> Rooms:
     """An entry and a link for each, and the starts of what has the same first bits: two families' and the end.
 
-    There are as many bits as leave some sixteen payloads to a start, one at least.
+    There are as many bits as leave one or two payloads to a start, one at least and twenty at most.
     """
-    bits = max(1, min(16, (count // 16).bit_length()))
+    bits = max(1, min(20, (count // 2).bit_length()))
     return at_once(count, ENTRY) + at_once(count, LINK) + at_once(2 * 2**bits + 1, WORD)
 
 
@@ -219,8 +229,7 @@ def _triple(call: str, text: str) -> Rooms:
     sizes = (AS_BLOCK, IP_BLOCK, IP_BLOCK)
     if call == "lists":
         numbers, *addresses = left.split(";")
-        counts = (len(list(texts.elements(side))) for side in addresses)
-        return _as_text(numbers) + [room for count in counts for room in shared(grown(count, IP_BLOCK))]
+        return _as_text(numbers) + [room for side in addresses for room in _ip_text(side)]
     rooms = []
     for one, other, size in zip(read_triple(left), read_triple(right), sizes, strict=True):
         rooms += OF_TWO[call](one, other, size)

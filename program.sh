@@ -62,15 +62,22 @@ run_rt() {
     wait "$prover"
 }
 
+# The lines of crates.txt, as they stand there, of a crate and of those that it stands on.
+lines_of() {
+    (started=$1 && needed_crates) |
+        awk 'NR == FNR { needed[$1]; next } { name = $1; sub(":", "", name) } name in needed' - "$top/crates.txt"
+}
+
 # The copy of the sources in which a crate is proved. While rt works on a crate it keeps others from those below it, so
 # crates side by side in one folder would wait for each other. The libraries below go along, and what is kept of the
-# crate's own proof.
+# crate's own proof; rt wants a folder for each crate that crates.txt names.
 make_copy() {
     copy=$copies/$1
     parts=$(started=$1 && needed_crates | sed 's,^,crates/,')
     mkdir "$copy" || return
+    lines_of "$1" >"$copy/crates.txt" || return
     # shellcheck disable=SC2086 # folders of crates
-    (cd "$top" && tar -cf - --exclude=out crates.txt HANDLES $parts) | tar -xf - -C "$copy" || return
+    (cd "$top" && tar -cf - --exclude=out HANDLES $parts) | tar -xf - -C "$copy" || return
     for part in $parts; do
         [ "$part" != "crates/$1" ] && [ -d "$top/$part/out/rlib" ] || continue
         mkdir "$copy/$part/out" || return

@@ -122,7 +122,10 @@ respath: proving rpki_text (0 of N)
 proving
 respath: the program was not built" $? "$(echo "$said" | sed 's/ of [0-9]* are proved, after 0 min)/ of N)/')"
 # shellcheck disable=SC2016 # the prover's own words
-prover "the-kit logic 12" 'echo "$1 ${PWD##*/}" >>../../asked'
+prover "the-kit logic 12" 'echo "$1 ${PWD##*/}" >>"${0%/*}/../asked"
+for crate in $(sed "/^#/d; s/[ :].*//" ../../crates.txt); do
+    [ -d "../$crate" ] || echo "there is no folder for $crate" >>"${0%/*}/../asked"
+done'
 said=$(run "$copy/respath" | tail -n 2)
 expect "all that the program needs is proved" 0 "respath: proved and built in 0 min
 ran
@@ -132,6 +135,8 @@ said=$(awk 'NR == FNR { at[$2] = FNR; next }
     !/^#/ && sub(":", "", $1) && $1 in at { for (one = 2; one <= NF; one++) if (at[$one] > at[$1]) print $1, $one }' \
     "$copy/asked" "$copy/crates.txt")
 expect "crates are proved in turn" 0 "" $? "$said"
+said=$(grep folder "$copy/asked")
+expect "each crate that is named beside one has a folder there" 1 "" $? "$said"
 expect "a program that was proved by the script" 0 "proved here with the-kit logic 12" $? "$(version)"
 
 # Signals while it is proved, by a prover that waits for a child of its own; the one of them doesn't heed the signal.

@@ -5,19 +5,18 @@ ghost use Rattle.std.specs.String.{string_bytes};
 ghost use Rattle.rpki_text.specs.Memory.{IfRefused};
 ghost use Rattle.rpki_addr.specs.Prefixes.{PrefixValue};
 ghost use Rattle.rpki_ip_block.specs.ListText.{HasBlocksFault};
-ghost use Rattle.rpki_ip.specs.PrintedText.{as_ip, shown_bits};
 ghost use Rattle.respath_lines.specs.Cover.{IsCoverAnswer, IsCoverIp, IsCoverText, listed_text, cover_text};
 
 use crate::kind::{Kind, kind_named};
 use crate::shown::{self, shown_text};
-use rpki_addr::addr::IpAddr;
-use rpki_addr::addr::print::{IP_ROOM, put, put_ip, put_octet, write_front};
+use rpki_addr::addr::print::{PREFIX_ROOM, put, put_with_length, write_front};
 use rpki_base::memory::OrMemory;
 use rpki_family::blocks::FamilyBlocks;
 use rpki_family::family::{Family, Ipv4Family, Ipv6Family};
 use rpki_ip::error::FromStrError;
 use rpki_ip::family::AddressFamily;
 use rpki_ip::prefix::Prefix;
+use rpki_ip::text::shown_addr;
 use std::alloc::{AllocError, Allocator};
 use std::fmt;
 
@@ -75,8 +74,8 @@ fn printed_prefixes<A: Allocator, I: Iterator<Item = Prefix>>(
     Ok(text)
 }
 
-/// The most bytes of a prefix among others: a comma, a space, an address, a slash and a length.
-const ROOM: usize = IP_ROOM + 6;
+/// The most bytes of a prefix among others: a comma, a space and those of the prefix.
+const ROOM: usize = PREFIX_ROOM + 2;
 
 /// Puts a comma and a space in front of a buffer, if something stands before what follows, and answers where they end.
 fn put_separator(out: &mut [u8], is_first: bool) -> usize
@@ -89,16 +88,6 @@ fn put_separator(out: &mut [u8], is_first: bool) -> usize
     }
     let at = put(out, 0, b',');
     put(out, at, b' ')
-}
-
-/// The address of a prefix, as one of a family.
-fn shown_addr(family: AddressFamily, prefix: Prefix) -> IpAddr
-    ensures { result ≡ as_ip family (shown_bits family prefix.first) }
-{
-    match family {
-        AddressFamily::Ipv4 => IpAddr::V4(prefix.to_v4()),
-        AddressFamily::Ipv6 => IpAddr::V6(prefix.to_v6()),
-    }
 }
 
 /// A prefix of a family among those that are printed.
@@ -118,9 +107,8 @@ impl Listed {
         ensures end { result ≤ 46 }
     {
         let at = put_separator(out, self.is_first);
-        let at = put_ip(out, at, shown_addr(self.family, self.prefix));
-        let at = put(out, at, b'/');
-        put_octet(out, at, self.prefix.addr_len())
+        let addr = shown_addr(self.family, self.prefix.addr());
+        put_with_length(out, at, addr, self.prefix.addr_len())
     }
 }
 

@@ -15,7 +15,7 @@ use crate::error::FromStrError;
 use crate::family::AddressFamily;
 use crate::prefix::Prefix;
 use crate::range::AddressRange;
-use rpki_addr::addr::print::{IP_ROOM, put, put_ip, put_octet, write_front};
+use rpki_addr::addr::print::{IP_ROOM, PREFIX_ROOM, put, put_ip, put_with_length, write_front};
 use rpki_addr::bits::Addr;
 use rpki_base::addr::{AddrParseError, IpAddr, Ipv4Addr, Ipv6Addr};
 use rpki_base::number::{ParseIntError, parse_u8};
@@ -144,7 +144,7 @@ pub fn read_single(wanted: Option<AddressFamily>, text: &str) -> Result<AddressR
 }
 
 /// The address as one of the family: in IPv4 its first 32 bits.
-fn shown(family: AddressFamily, addr: Addr) -> IpAddr
+pub fn shown_addr(family: AddressFamily, addr: Addr) -> IpAddr
     ensures { result ≡ as_ip family (shown_bits family addr) }
 {
     match family {
@@ -163,9 +163,6 @@ fn look_alike(family: AddressFamily, a: Addr, b: Addr) -> bool
     }
 }
 
-/// The most bytes of a prefix: an address, a slash and a length.
-const PREFIX_ROOM: usize = IP_ROOM + 4;
-
 /// The most bytes of a range: two addresses and a dash.
 const RANGE_ROOM: usize = 2 * IP_ROOM + 1;
 
@@ -175,13 +172,12 @@ fn put_prefix(out: &mut [u8], family: AddressFamily, prefix: Prefix) -> usize
     ensures text { take result out.new ≡ ip_prefix_text family prefix }
     ensures end { result ≤ 44 }
 {
-    let end = put_ip(out, 0, shown(family, prefix.addr()));
+    let addr = shown_addr(family, prefix.addr());
     let len = prefix.addr_len();
     if len == family.max_addr_len() {
-        return end;
+        return put_ip(out, 0, addr);
     }
-    let end = put(out, end, b'/');
-    put_octet(out, end, len)
+    put_with_length(out, 0, addr, len)
 }
 
 /// Puts a range, as one of the family, in front of a buffer, and answers where it ends.
@@ -190,12 +186,12 @@ fn put_range(out: &mut [u8], family: AddressFamily, range: AddressRange) -> usiz
     ensures text { take result out.new ≡ ip_range_text family range }
     ensures end { result ≤ 81 }
 {
-    let end = put_ip(out, 0, shown(family, range.min()));
+    let end = put_ip(out, 0, shown_addr(family, range.min()));
     if look_alike(family, range.min(), range.max()) {
         return end;
     }
     let end = put(out, end, b'-');
-    put_ip(out, end, shown(family, range.max()))
+    put_ip(out, end, shown_addr(family, range.max()))
 }
 
 impl Prefix {

@@ -6,13 +6,10 @@ ghost use Rattle.rpki_prefix.specs.PrefixText.{FindsParts, ReadsPrefix, IsRelaxe
 use crate::error::ParsePrefixError;
 use crate::prefix::Prefix;
 use rpki_addr::addr::IpAddr;
-use rpki_addr::addr::print::{IP_ROOM, put, put_ip, put_octet, write_front};
+use rpki_addr::addr::print::{PREFIX_ROOM, put_with_length, write_front};
 use rpki_text::number::parse_u8;
 use std::fmt;
 use std::str::FromStr;
-
-/// The most bytes of a prefix: an address, a slash and a length.
-const ROOM: usize = IP_ROOM + 4;
 
 /// The address and the length round the first slash.
 fn read_parts(text: &str) -> Result<(IpAddr, u8), ParsePrefixError>
@@ -61,10 +58,8 @@ impl fmt::Display for Prefix {
     ghost output = { λ prefix. Some (prefix_text prefix) };
 
     fn fmt<W: fmt::Write>(&self, f: &mut fmt::Formatter<W>) -> fmt::Result {
-        let mut out = [0; ROOM];
-        let end = put_ip(&mut out, 0, self.addr());
-        let end = put(&mut out, end, b'/');
-        let end = put_octet(&mut out, end, self.len());
+        let mut out = [0; PREFIX_ROOM];
+        let end = put_with_length(&mut out, 0, self.addr(), self.len());
         write_front(&out, end, f)
     }
 }

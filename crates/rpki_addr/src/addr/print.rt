@@ -5,6 +5,7 @@ ghost use Rattle.std.specs.Prelude.{◌≡◌, ◌+◌, ◌*◌, ◌<◌, ◌≤
 ghost use Rattle.std.specs.Char.{digit_char};
 ghost use Rattle.std.specs.Fmt.{WritesOnOk};
 ghost use Rattle.std.specs.Net.Text.{hex, groups_text as std_groups_text, hex_groups_text, longest_zero_run};
+ghost use Rattle.rpki_text.specs.Cuts.{slash};
 ghost use Rattle.rpki_addr.specs.AddressText.{dotted};
 ghost use Rattle.rpki_addr.specs.PrintedAddress.{ipv4_text, ipv6_text, ip_text};
 
@@ -17,6 +18,9 @@ pub(crate) const IPV4_ROOM: usize = 15;
 
 /// The most bytes of a text of either family, and one for the colon behind a last group.
 pub const IP_ROOM: usize = 40;
+
+/// The most bytes of a prefix: an address, a slash and a length.
+pub const PREFIX_ROOM: usize = IP_ROOM + 4;
 
 /// Puts a byte.
 #[inline(always)]
@@ -219,6 +223,18 @@ pub fn put_ip(out: &mut [u8], at: usize, addr: IpAddr) -> usize
         IpAddr::V4(addr) => put_ipv4(out, at, addr.octets()),
         IpAddr::V6(addr) => put_ipv6(out, at, addr.to_bits()),
     }
+}
+
+/// Puts an address of either family, a slash and the length of a prefix.
+#[inline(always)]
+pub fn put_with_length(out: &mut [u8], at: usize, addr: IpAddr, len: u8) -> usize
+    requires { at + 44 ≤ length out.old }
+    ensures text { take result out.new ≡ take at out.old ++ ip_text addr ++ slash ∷ decimal len }
+    ensures end { result ≤ at + 44 }
+{
+    let end = put_ip(out, at, addr);
+    let end = put(out, end, b'/');
+    put_octet(out, end, len)
 }
 
 /// Writes what stands in a buffer before a place, at once.

@@ -25,6 +25,7 @@ ASN = 4
 PAYLOAD = 80  # family and address 32, length and greatest length up to 64, AS number up to 80
 ENTRY = 32  # of a table: an address, an AS number, two lengths, the family
 LINK = 2 * 4  # two numbers of 32 bits
+START = 4  # a number of 32 bits
 # Two counts and the allocator; of the list whether it is there, its place, length, room and allocator.
 OWNERS = 8 * WORD
 
@@ -213,10 +214,10 @@ def _sent(payloads: list[Payload]) -> set[Payload]:
 def _table(count: int) -> Rooms:
     """An entry and a link for each, and the starts of what has the same first bits: two families' and the end.
 
-    There are as many bits as leave one or two payloads to a start, one at least and twenty at most.
+    There are as many bits as leave two or three payloads to a start, one at least and twenty at most.
     """
-    bits = max(1, min(20, (count // 2).bit_length()))
-    return at_once(count, ENTRY) + at_once(count, LINK) + at_once(2 * 2**bits + 1, WORD)
+    bits = max(1, min(20, (count // 4).bit_length()))
+    return at_once(count, ENTRY) + at_once(count, LINK) + at_once(2 * 2**bits + 1, START)
 
 
 def _changes(text: str) -> Rooms:

@@ -7,7 +7,7 @@ ghost use Rattle.roa_origin.specs.Payloads.{CoversRoute, Payload};
 use crate::entry::Entry;
 use std::alloc::{AllocError, Allocator};
 
-/// How many payloads a table has at most, so that its links take half the room.
+/// How many payloads a table has at most, so that its links and starts take half the room.
 const MOST: usize = 0xffff_ffff;
 
 /// Where the payloads begin that have the prefix of one, and how many there are up to the nearest one before them that
@@ -80,7 +80,8 @@ fn next_link(payloads: &[Entry], links: &[Link], at: usize) -> Link
 /// The link of each payload. `AllocError` too where there are more than links have room for.
 pub(crate) fn links<A: Allocator>(alloc: A, payloads: &[Entry]) -> Result<Vec<Link, A>, AllocError>
     requires { IsInOrder payloads.now }
-    ensures { IfOk result (λ links. IsTable payloads.now links.items) }
+    ensures links { IfOk result (λ links. IsTable payloads.now links.items) }
+    ensures few { IfOk result (λ _. length payloads.now < 2 ^ 32) }
 {
     if payloads.len() > MOST {
         return Err(AllocError);

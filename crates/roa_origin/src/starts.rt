@@ -1,5 +1,5 @@
 //! Where a table's payloads stand whose addresses begin with the same bits: a search looks there first.
-ghost use Rattle.std.specs.Prelude.{◌<◌, ◌≤◌, IfOk, length, slice_index_or};
+ghost use Rattle.std.specs.Prelude.{◌^◌, ◌<◌, ◌≤◌, IfOk, length, slice_index_or};
 ghost use Rattle.std.specs.List.Sorted.{IsNonDecreasingBy};
 ghost use Rattle.roa_origin.specs.Links.{AreFamilyPrefixes};
 ghost use Rattle.roa_origin.specs.Payloads.{Payload};
@@ -9,14 +9,14 @@ ghost use Rattle.roa_origin.specs.Starts.{AreStarts, IsStart, first_bits};
 use crate::entry::Entry;
 use std::alloc::{AllocError, Allocator};
 
-/// How many first bits tell the starts of so many payloads apart: a start for each one or two of them, up to a million
-/// starts of a family.
+/// How many first bits tell the starts of so many payloads apart: a start for each two or three of them, up to a
+/// million starts of a family.
 pub(crate) fn bits_for(payloads: usize) -> u8
     ensures some { 1 ≤ result }
     ensures few { result ≤ 20 }
 {
     let mut bits = 1;
-    while bits < 20 && (payloads >> (bits + 1)) > 0 {
+    while bits < 20 && (payloads >> (bits + 2)) > 0 {
         bits += 1;
     }
     bits
@@ -45,9 +45,10 @@ pub(crate) fn starts<A: Allocator>(
     alloc: A,
     payloads: &[Entry],
     bits: u8,
-) -> Result<Vec<usize, A>, AllocError>
+) -> Result<Vec<u32, A>, AllocError>
     requires ordered { IsNonDecreasingBy payload_place payloads.now }
     requires prefixes { AreFamilyPrefixes payloads.now (length payloads.now) }
+    requires payloads { length payloads.now < 2 ^ 32 }
     requires some { 1 ≤ bits }
     requires few { bits ≤ 20 }
     ensures { IfOk result (λ starts. AreStarts bits payloads.now starts.items) }
@@ -57,7 +58,7 @@ pub(crate) fn starts<A: Allocator>(
     let mut at = 0;
     for number in 0..numbers {
         at = start_from(payloads, bits, number, at);
-        starts.push(at)?;
+        starts.push(at as u32)?;
     }
     Ok(starts)
 }

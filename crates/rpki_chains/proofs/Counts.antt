@@ -1,6 +1,6 @@
 -- How often the blocks of a chain were read: once each by a walk, and by a search that halves once for each binary
 -- digit.
-use Rattle.rpki_chains.proofs.Imports.{List, Option, add-one, ap, arith, if◌then◌else◌, is_some, length, ℕ, ◌*◌, ◌+◌, ◌-◌, ◌<◌, ◌^◌, ◌≡◌, ◌≤◌, mul-le-mul_right, pow-le-pow_right, two-pow-succ, cases_lt, HoldsBlock}
+use Rattle.rpki_chains.proofs.Imports.{List, Option, add-one, ap, arith, if◌then◌else◌, is_some, le_refl, length, ℕ, ◌*◌, ◌+◌, ◌-◌, ◌<◌, ◌^◌, ◌≡◌, ◌≤◌, mul-le, mul-le-mul_right, pow-le-pow_right, two-pow-succ, cases_lt, HoldsBlock}
 
 module _ {B I : Type 0} (f : B → ℕ × ℕ) (number : I → ℕ) (last : ℕ) where
   -- the blocks behind the first weren't read
@@ -20,7 +20,7 @@ Halved len size old count = (old ≤ count) × ((digits : ℕ) → len < 2 ^ dig
 
 -- a number that is left is one digit at least
 digit_left : (size steps digits : ℕ) → 0 < size → size * 2 ^ steps < 2 ^ digits → steps < digits
-digit_left size steps digits some less = grind (arith, cases_lt, mul-le-mul_right, pow-le-pow_right)
+digit_left size steps digits some less = grind (arith, cases_lt, mul-le, mul-le-mul_right, pow-le-pow_right)
 
 half_left : (size next steps digits : ℕ) → 2 * next ≤ size → size * 2 ^ steps < 2 ^ digits
     → next * 2 ^ (steps + 1) < 2 ^ digits
@@ -40,3 +40,10 @@ Halved-step len size next old count new (grows, before) some half is =
         rw steps (half_left size next (count - old) digits half (before digits fits).1),
       ),
     )
+
+-- one block more is sought
+pub sought_within : (i len digits old count new : ℕ) → i < len → count ≤ old + i * digits → new ≤ count + digits
+    → new ≤ old + len * digits
+sought_within i len digits old count new lt before more =
+    let all : (i + 1) * digits ≤ len * digits = mul-le (i + 1) digits len digits (omega arith) (le_refl digits) in
+    omega arith

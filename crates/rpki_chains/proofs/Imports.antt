@@ -6,6 +6,7 @@ pub use Rattle.std.proofs.lemmas.Bool.Decides.{nat_tests}
 pub use Rattle.std.proofs.lemmas.List.{drop_all, drop_more, get_or-set_other, get_or-take, get_or_append_left, get_or_default, get_or_push, length-append, length-drop, length-set, length-take-le, length_push, map-append, take_all, take_more, take_more_set}
 pub use Rattle.std.proofs.lemmas.List.Elements.{All-push, All-tail, All-take}
 pub use Rattle.std.proofs.lemmas.List.Sorted.{Contains-permutation, IsNonDecreasingBy-from_sort_by, IsPermutation-remove, IsPermutation-sym, length_permutation}
+pub use Rattle.std.proofs.lemmas.Nat.{mul-le}
 pub use Rattle.std.specs.List.Sorted.{IsNonDecreasingBy, IsPermutation}
 pub use Rattle.std.specs.Option.{option_copied, option_map}
 pub use Rattle.rpki_chains.specs.Fit.{IsFitIn}

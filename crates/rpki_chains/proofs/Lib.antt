@@ -13,6 +13,7 @@ mod Meets
 mod Merges
 mod Passing
 mod Searches
+mod Seeking
 pub mod Shortest
 mod Sides
 mod Steps

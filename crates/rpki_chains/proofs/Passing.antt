@@ -17,7 +17,7 @@ rest-begins (x ∷ ys) (suc k) y more e = let r = rest-begins ys k y more e in (
 
 module _ {B : Type 0} (f : B → ℕ × ℕ) (form : ℕ × ℕ → B) where
   -- the block at an index, or the end of the list
-  block_at : (xs : List B) (i : ℕ) → i ≤ length xs → (b : Option (ℕ × ℕ)) × IsAt f xs i b
+  pub block_at : (xs : List B) (i : ℕ) → i ≤ length xs → (b : Option (ℕ × ℕ)) × IsAt f xs i b
   block_at xs i le = ⊎_elim
       (λ (lt : i < length xs). let x = (element_at xs i lt).0 in (Some (f (get_or xs i x)), (lt, λ d. ap f (get_or_default xs i d x lt))))
       (λ (end : length xs ≤ i). (None, omega arith))

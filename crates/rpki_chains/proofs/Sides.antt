@@ -92,3 +92,21 @@ module _ {B : Type 0} (f : B → ℕ × ℕ) (form : ℕ × ℕ → B) where
       let l = ap (λ (z : B). (f z).0) e in
       let begins = low_at xs 0 b h at x in
       omega (arith, v.0)
+
+  -- a number that comes before the block at an index lies in an earlier block
+  pub lies_before : (xs : List B) (i : ℕ) (b : Option (ℕ × ℕ)) → IsChain f form xs → IsAt f xs i b → (n : ℕ)
+      → (c : Covers f xs n) → Before b n → c.0 < i
+  lies_before xs i None h at n c before = let e : i ≡ length xs = at in let lt = c.2 in omega arith
+  lies_before xs i (Some b) h at n (k, x, lt, e, v) before =
+      let l = ap (λ (z : B). (f z).0) e in
+      index_before xs i b h at k x lt (omega (arith, v.0))
+
+  -- and the other way round
+  pub before_of : (xs : List B) (i : ℕ) (b : Option (ℕ × ℕ)) → IsChain f form xs → IsAt f xs i b → (n : ℕ)
+      → (c : Covers f xs n) → c.0 < i → Before b n
+  before_of xs i None h at n c early = tt
+  before_of xs i (Some b) h at n (k, x, lt, e, v) early =
+      let u = ap (λ (z : B). (f z).1) e in
+      let a = h.apart k i x early at.0 in
+      let begins = low_at xs i b h at x in
+      omega (arith, v.1)

@@ -11,6 +11,7 @@ use crate::difference::{difference_counted, difference_from};
 use crate::membership::{contains_block, contains_item_counted, intersects_block};
 use crate::overhang::{Overhang, overhang_of};
 use crate::owned::OwnedChain;
+use crate::sought::{is_far_longer, sought_overhang};
 use crate::trim::trim_counted;
 use crate::union::union_counted;
 use rpki_text::memory::OrMemory;
@@ -121,13 +122,17 @@ impl<T: Block> Chain<'_, T> {
         self.overhang(other).is_none()
     }
 
-    /// Its first block that doesn't lie in the other, `None` where each does. This takes no memory.
+    /// Its first block that doesn't lie in the other, `None` where each does. This takes no memory. Where the other has
+    /// many more blocks, each of its own is sought there by a binary search.
     pub fn overhang(self, other: Chain<'_, T>) -> Option<Overhang<T::Item>>
         ensures { MatchOption result
             (IsInside T.bounds (chain_blocks self.entry) (chain_blocks other.entry))
             (IsOverhang T.bounds T.number T.first T.last
             (chain_blocks self.entry) (chain_blocks other.entry)) }
     {
+        if is_far_longer(other.len(), self.len()) {
+            return sought_overhang(&mut Counted::new(self), &mut Counted::new(other));
+        }
         overhang_of(self.blocks, other.blocks)
     }
 

@@ -20,6 +20,7 @@ mod overhang;
 pub mod owned;
 pub mod reads;
 pub mod shared;
+mod sought;
 mod tally;
 mod trim;
 mod union;

@@ -1,6 +1,6 @@
-//! Whether a chain has an item, or the items of a block.
-ghost use Rattle.std.specs.Prelude.{◌≡◌, ℕ, ◌+◌, ◌-◌, ◌*◌, ◌^◌, ◌<◌, ◌≤◌, ◌↔◌, length, IsTrue, MatchOption};
-ghost use Rattle.rpki_chains.specs.Sets.{IsWithin, Covers, IsRunFrom, numbers};
+//! Whether a chain has an item, or the items of a block: the first of its blocks that doesn't end before it is sought.
+ghost use Rattle.std.specs.Prelude.{◌≡◌, ℕ, ◌+◌, ◌-◌, ◌*◌, ◌^◌, ◌<◌, ◌≤◌, ◌↔◌, length, slice_index_or, IsTrue, IfSome, MatchOption};
+ghost use Rattle.rpki_chains.specs.Sets.{IsWithin, Covers, IsChain, IsRunFrom, HoldsBlock, numbers};
 
 use crate::block::Block;
 use crate::reads::Reads;
@@ -16,18 +16,26 @@ fn middle_of(low: usize, high: usize) -> usize
     low + (high - low) / 2
 }
 
-/// The bounds of the first block that doesn't end before an item, by a binary search. `None` where all end before it.
-/// It reads at most as many blocks as their number has binary digits, as do the questions that it serves.
-pub fn first_from<T: Block, R: Reads<T>>(chain: &mut R, item: T::Item) -> Option<(T::Item, T::Item)>
-    ensures block { MatchOption result
-        ((n : ℕ) → T.number item ≤ n → Covers T.bounds (R.blocks chain.old) n → ⊥)
-        (λ b. IsRunFrom (Covers T.bounds (R.blocks chain.old)) (T.number item)
-        (numbers T.number b)) }
+/// Moves a place on to the first block from there on that doesn't end before an item, by a binary search, and answers
+/// that block's bounds; to the end of the chain, and `None`, where all from there on end before it. It reads at most as
+/// many blocks as the number of those that are left has binary digits.
+pub fn seek<T: Block, R: Reads<T>>(
+    chain: &mut R,
+    at: &mut usize,
+    item: T::Item,
+) -> Option<(T::Item, T::Item)>
+    requires { at.old ≤ length (R.blocks chain.old) }
+    ensures onward { at.old ≤ at.new }
+    ensures block { HoldsBlock T.bounds T.number T.last (R.blocks chain.old) at.new result }
+    ensures passed { (k : ℕ) (d : T) → at.old ≤ k → k < at.new →
+        (T.bounds (slice_index_or (R.blocks chain.old) k d)).1 < T.number item }
+    ensures reaches { IfSome result (λ b. T.number item ≤ T.number b.1) }
+    ensures chain { IsChain T.bounds T.form (R.blocks chain.old) }
     ensures kept { R.blocks chain.new ≡ R.blocks chain.old }
-    ensures reads { (digits : ℕ) → length (R.blocks chain.old) < 2 ^ digits →
+    ensures reads { (digits : ℕ) → length (R.blocks chain.old) - at.old < 2 ^ digits →
         R.count chain.new ≤ R.count chain.old + digits }
 {
-    let mut low = 0;
+    let mut low = *at;
     let mut high = chain.len();
     let mut found = None;
     // The blocks before `low` end before the item. The one at `high` doesn't, and its bounds are in `found`, unless
@@ -43,7 +51,23 @@ pub fn first_from<T: Block, R: Reads<T>>(chain: &mut R, item: T::Item) -> Option
             found = Some((min, max));
         }
     }
+    *at = high;
     found
+}
+
+/// The bounds of the first block that doesn't end before an item. `None` where all end before it. It reads at most as
+/// many blocks as their number has binary digits, as do the questions that it serves.
+pub fn first_from<T: Block, R: Reads<T>>(chain: &mut R, item: T::Item) -> Option<(T::Item, T::Item)>
+    ensures block { MatchOption result
+        ((n : ℕ) → T.number item ≤ n → Covers T.bounds (R.blocks chain.old) n → ⊥)
+        (λ b. IsRunFrom (Covers T.bounds (R.blocks chain.old)) (T.number item)
+        (numbers T.number b)) }
+    ensures kept { R.blocks chain.new ≡ R.blocks chain.old }
+    ensures reads { (digits : ℕ) → length (R.blocks chain.old) < 2 ^ digits →
+        R.count chain.new ≤ R.count chain.old + digits }
+{
+    let mut at = 0;
+    seek(chain, &mut at, item)
 }
 
 /// Whether the chain has an item, as [`crate::chain::Chain::contains_item`] answers it. It reads at most as many blocks

@@ -1,59 +1,9 @@
--- The part that is searched halves, and what is found is the block behind it.
-use Rattle.rpki_chains.proofs.Imports.{ap, arith, length, ℕ, ◌-◌, ◌<◌, ◌∙◌, ◌≤◌, nat_tests}
-use Rattle.rpki_chains.proofs.Counts.{Halved-step}
-use Rattle.rpki_chains.proofs.Searches.{behind_all, first_found}
+-- The block that is sought from the first one on is the run, or there is none.
+use Rattle.rpki_chains.proofs.Imports.{arith}
+use Rattle.rpki_chains.proofs.Searches.{first_found}
 use Rattle.rpki_chains.proofs.membership.first_from.Goals as goal
-
-pub loop-low-preserved-then-lt : goal.loop-low-preserved-then-lt
-loop-low-preserved-then-lt g c =
-    let f = g.T.Block.bounds in
-    let inv = c.loop-low.invariant in
-    let middle = c.middle_of-middle.result in
-    let half = c.middle_of-middle.ensures in
-    let some = c.loop-low-test.true in
-    let within = inv.within in
-    let from_low = half.from_low in
-    let to_high = half.to_high in
-    let inside : middle < length (g.R.Reads.blocks c.args.chain.now) = omega arith in
-    let value = rw inv.kept at c.read-min.ensures.value in
-    let less : g.T.Block.number c.read-min.result.1 < g.T.Block.number c.args.item = grind (arith, nat_tests, g.met.T.Block.in_order, g.met.T.Item.Ord.matches_partial_cmp, c.if-lt.ensures) in
-    record {
-      halved = Halved-step _ (c.loop-low.high - c.loop-low.low) _ _ _ _ inv.halved (omega arith) half.halves_behind c.read-min.ensures.counted;
-      chain = inv.chain;
-      kept = c.read-min.ensures.kept ∙ inv.kept;
-      ordered = omega arith;
-      within = within;
-      below = λ k d le lt. behind_all f g.T.Block.form _ middle k _ d inv.chain inside (λ e. let v = ap (λ (p : ℕ × ℕ). p.1) (value e) in omega arith) (omega arith);
-      found = inv.found;
-      reaches = inv.reaches;
-    }
-
-pub loop-low-preserved : goal.loop-low-preserved
-loop-low-preserved g c =
-    let inv = c.loop-low.invariant in
-    let middle = c.middle_of-middle.result in
-    let half = c.middle_of-middle.ensures in
-    let some = c.loop-low-test.true in
-    let within = inv.within in
-    let from_low = half.from_low in
-    let to_high = half.to_high in
-    let inside : middle < length (g.R.Reads.blocks c.args.chain.now) = omega arith in
-    let value = rw inv.kept at c.read-min.ensures.value in
-    let reaches : g.T.Block.number c.args.item ≤ g.T.Block.number c.read-min.result.1 = grind (arith, nat_tests, g.met.T.Block.in_order, g.met.T.Item.Ord.matches_partial_cmp, c.if-lt.ensures) in
-    record {
-      halved = Halved-step _ (c.loop-low.high - c.loop-low.low) _ _ _ _ inv.halved (omega arith) half.halves c.read-min.ensures.counted;
-      chain = inv.chain;
-      kept = c.read-min.ensures.kept ∙ inv.kept;
-      ordered = from_low;
-      within = omega arith;
-      below = inv.below;
-      found = (inside, value, c.read-min.ensures.to_last);
-      reaches = reaches;
-    }
 
 pub returns-clause-block : goal.returns-clause-block
 returns-clause-block g c =
-    let inv = c.loop-low.invariant in
-    let ordered = inv.ordered in
-    let done = c.loop-low-test.false in
-    first_found g.T.Block.bounds g.T.Block.form (g.R.Reads.blocks c.args.chain.now) (g.T.Block.number c.args.item) c.loop-low.high (λ k d before lt. inv.below k d (omega arith) lt) g.T.Block.number g.T.Block.last c.loop-low.found inv.chain inv.found inv.reaches
+    let sought = c.seek.ensures in
+    first_found g.T.Block.bounds g.T.Block.form (g.R.Reads.blocks c.args.chain.now) (g.T.Block.number c.args.item) c.seek.new.at (λ k d before lt. sought.passed k d (omega arith) before) g.T.Block.number g.T.Block.last c.seek.result sought.chain sought.block sought.reaches

@@ -105,21 +105,23 @@ fn answer_lines<A: Allocator + Copy, L: Answers, W: Sink>(
         → BeginsAnswers (L.is_answer answers.now) (W.written writer.old) (W.written writer.new) text.now }
     ensures not_read { IsErrOf result RunError.Read → ⊥ }
 {
+    let mut told = String::new(alloc);
     let mut rest = text;
     while !rest.is_empty() {
         let (line, after) = cut_line(rest);
-        answer_line(alloc, answers, line, writer)?;
+        answer_line(alloc, answers, line, &mut told, writer)?;
         rest = after;
     }
     Ok(())
 }
 
-/// Makes the whole answer to a line, and then writes it.
+/// Makes the whole answer to a line in a text, in the place of what that had, and then writes it.
 #[tactic(auto, using(crate::proofs::RunLemmas::line_answered))]
 pub(crate) fn answer_line<A: Allocator + Copy, L: Answers, W: Sink>(
     alloc: A,
     answers: &L,
     line: &[u8],
+    text: &mut String<A>,
     writer: &mut W,
 ) -> Result<(), RunError>
     requires clear { W.mark writer.old ≡ false }
@@ -133,7 +135,7 @@ pub(crate) fn answer_line<A: Allocator + Copy, L: Answers, W: Sink>(
         line.now unwritten }
     ensures not_read { IsErrOf result RunError.Read → ⊥ }
 {
-    let mut text = answers.answer(alloc, line)?;
+    answers.answer(alloc, line, text)?;
     text.push('\n')?;
     write_all(writer, text.as_bytes()).map_err(|_| RunError::Write)
 }

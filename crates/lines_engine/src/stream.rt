@@ -87,6 +87,7 @@ fn answer_ended<A: Allocator + Copy, L: Answers, R: Source, W: Sink>(
         (BeginsAnswers (L.is_answer answers.now) (W.written writer.old) (W.written writer.new)) }
 {
     let mut part = Vec::new(alloc);
+    let mut told = String::new(alloc);
     let mut piece = [0u8; PIECE];
     let mut total: usize = 0;
     loop {
@@ -101,7 +102,14 @@ fn answer_ended<A: Allocator + Copy, L: Answers, R: Source, W: Sink>(
             Some(total) => total,
             None => return Err(RunError::Memory),
         };
-        answer_piece(alloc, answers, &mut part, &piece[..count], writer)?;
+        answer_piece(
+            alloc,
+            answers,
+            &mut part,
+            &piece[..count],
+            &mut told,
+            writer,
+        )?;
     }
 }
 
@@ -112,6 +120,7 @@ fn answer_piece<A: Allocator + Copy, L: Answers, W: Sink>(
     answers: &L,
     part: &mut Vec<u8, A>,
     piece: &[u8],
+    text: &mut String<A>,
     writer: &mut W,
 ) -> Result<(), RunError>
     requires clear { W.mark writer.old ≡ false }
@@ -133,7 +142,7 @@ fn answer_piece<A: Allocator + Copy, L: Answers, W: Sink>(
 {
     let mut rest = piece;
     while let Some((line, behind)) = cut_ended(rest) {
-        answer_joined(alloc, answers, part, line, writer)?;
+        answer_joined(alloc, answers, part, line, text, writer)?;
         rest = behind;
     }
     keep(part, rest)
@@ -145,6 +154,7 @@ fn answer_joined<A: Allocator + Copy, L: Answers, W: Sink>(
     answers: &L,
     part: &mut Vec<u8, A>,
     line: &[u8],
+    text: &mut String<A>,
     writer: &mut W,
 ) -> Result<(), RunError>
     requires clear { W.mark writer.old ≡ false }
@@ -159,10 +169,10 @@ fn answer_joined<A: Allocator + Copy, L: Answers, W: Sink>(
     ensures not_read { IsErrOf result RunError.Read → ⊥ }
 {
     if part.as_slice().is_empty() {
-        return answer_line(alloc, answers, line, writer);
+        return answer_line(alloc, answers, line, text, writer);
     }
     part.extend_from_slice(line)?;
-    answer_line(alloc, answers, part.as_slice(), writer)?;
+    answer_line(alloc, answers, part.as_slice(), text, writer)?;
     part.clear();
     Ok(())
 }
@@ -201,7 +211,8 @@ fn answer_last<A: Allocator + Copy, L: Answers, W: Sink>(
     if part.is_empty() {
         return Ok(());
     }
-    answer_line(alloc, answers, part, writer)
+    let mut told = String::new(alloc);
+    answer_line(alloc, answers, part, &mut told, writer)
 }
 
 /// The first line of a text without its end, and what stands behind that, if an end stands in the text.

@@ -1,5 +1,5 @@
 //! What is answered to the line of a route.
-ghost use Rattle.std.specs.Prelude.{IfOk};
+ghost use Rattle.std.specs.Prelude.{◌≡◌, [], OnOk};
 ghost use Rattle.std.specs.String.{string_bytes};
 ghost use Rattle.origin_lines.specs.Answers.{TellsRoute};
 
@@ -31,34 +31,40 @@ impl<B: Allocator> Answers for Routes<'_, B> {
 
     ghost is_answer = { λ routes line text. IsOriginAnswer routes.why routes.table.now line text };
 
-    fn answer<A: Allocator + Copy>(&self, alloc: A, line: &[u8]) -> Result<String<A>, AllocError> {
+    fn answer<A: Allocator + Copy>(
+        &self,
+        _alloc: A,
+        line: &[u8],
+        text: &mut String<A>,
+    ) -> Result<(), AllocError> {
+        text.clear();
         match read_route(line) {
             Ok(route) => {
                 let Route { prefix, origin } = route;
-                told(alloc, self.table, self.why, prefix, asked_asn(origin))
+                tell(text, self.table, self.why, prefix, asked_asn(origin))
             }
-            Err(fault) => format!(in alloc; "error: {fault}"),
+            Err(fault) => write!(text, "error: {fault}"),
         }
     }
 }
 
-/// What the payloads of a table say of the route to a prefix that an AS originates, and, where that is wanted, what
-/// explains it.
+/// Tells what the payloads of a table say of the route to a prefix that an AS originates, and, where that is wanted,
+/// what explains it. The text is empty before.
 #[tactic(auto, using(crate::proofs::AnswerLemmas::word_told, crate::proofs::AnswerLemmas::why_told))]
-fn told<A: Allocator + Copy, B: Allocator>(
-    alloc: A,
+fn tell<A: Allocator, B: Allocator>(
+    text: &mut String<A>,
     table: &OriginTable<B>,
     why: bool,
     route: Prefix,
     asn: Asn,
-) -> Result<String<A>, AllocError>
-    ensures { IfOk result (λ text. TellsRoute why table.now route asn (string_bytes text)) }
+) -> Result<(), AllocError>
+    requires { string_bytes text.old ≡ [] }
+    ensures { OnOk result (TellsRoute why table.now route asn (string_bytes text.new)) }
 {
     let outcome = outcome_of(table, route, asn);
-    let mut text = format!(in alloc; "{outcome}")?;
+    write!(text, "{outcome}")?;
     if !why {
-        return Ok(text);
+        return Ok(());
     }
-    push_why(&mut text, table, route, asn)?;
-    Ok(text)
+    push_why(text, table, route, asn)
 }

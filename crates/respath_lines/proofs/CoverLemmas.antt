@@ -1,18 +1,9 @@
 -- What `cover` shows.
-use Rattle.respath_lines.proofs.Common.{Bool, Err, List, MatchResult, Ok, Result, [], ap, append_assoc, arith, decimal, false, inl, inr, length, map, refl, subst, sym, true, ℕ, ◌++◌, ◌==◌, ◌∙◌, ◌∷◌, ◌≡◌, ◌≢◌, eqb-false, eqb-true, append-nil, flat_map_more, length-append, map-append, Drains, YieldsFirst, flat_map, AddressFamily, ip_from_str_error_text, FromStrError, HasBlocksFault, IfRefused, IsMemory, OrMemory, Memory, Refused, IsCoverIp, IsCoverText, cover_text, listed_text, prefix_with_length, ShowsResult}
-use Rattle.std.specs.Prelude.{IsErrAnd, codes}
+use Rattle.respath_lines.proofs.Common.{Bool, List, [], ap, append_assoc, arith, decimal, false, length, map, refl, sym, true, ℕ, ◌++◌, ◌==◌, ◌∙◌, ◌∷◌, ◌≡◌, ◌≢◌, eqb-false, eqb-true, append-nil, flat_map_more, length-append, map-append, Drains, YieldsFirst, flat_map, AddressFamily, cover_text, listed_text, prefix_with_length}
+use Rattle.std.specs.Prelude.{codes}
 use Rattle.rpki_text.specs.Cuts.{slash}
 use Rattle.rpki_addr.specs.Prefixes.{PrefixValue}
 use Rattle.rpki_ip.specs.PrintedText.{addr_text}
-
--- what is shown of the prefixes that cover a set, or of the fault of its list
-pub shows_cover : {S : Type 0} (bytes : S → List ℕ) (family : AddressFamily) (list : List ℕ)
-    (found : Result S (OrMemory FromStrError))
-    → MatchResult found (λ text. IsCoverText family list (bytes text)) (IfRefused (HasBlocksFault family list))
-    → (text : List ℕ) → ShowsResult bytes ip_from_str_error_text found text → IsCoverIp family list text
-shows_cover bytes family list (Ok printed) is text shows = inl (is.0, is.1, shows ∙ is.2)
-shows_cover bytes family list (Err (Refused fault)) is text shows = inr (fault, is, shows)
-shows_cover bytes family list (Err (Memory error)) is text shows = absurd shows
 
 -- ---- prefixes that are printed one by one
 
@@ -50,16 +41,3 @@ more_text false family ps p text made is some grown =
 pub drained : (all ps : List PrefixValue) → Drains (YieldsFirst (λ (left : List PrefixValue). left)) all ps → ps ≡ all
 drained all [] (left, (end, here, none)) = sym (here ∙ none.0)
 drained all (p ∷ ps) (left, (end, (next, first, more), none)) = ap (λ (xs : List PrefixValue). p ∷ xs) (drained next ps (left, (end, more, none))) ∙ sym first
-
--- a refusal for want of memory says nothing of the list
-pub wants_memory : {T E : Type 0} (P : T → Type 0) (Q : E → Type 0) (r : Result T (OrMemory E)) → IsErrAnd r IsMemory
-    → MatchResult r P (IfRefused Q)
-wants_memory P Q (Ok value) h = absurd h
-wants_memory P Q (Err (Refused fault)) h = absurd h
-wants_memory P Q (Err (Memory error)) h = tt
-
--- and any other is handed on
-pub handed_on : {T E : Type 0} (P : T → Type 0) (Q : E → Type 0) (refusal : OrMemory E) (r : Result T (OrMemory E))
-    → IsErrAnd r (λ e. e ≡ refusal) → IfRefused Q refusal → MatchResult r P (IfRefused Q)
-handed_on P Q refusal (Ok value) is h = absurd is
-handed_on P Q refusal (Err error) is h = subst (IfRefused Q) (sym is) h

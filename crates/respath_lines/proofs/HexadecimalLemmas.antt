@@ -1,5 +1,6 @@
 -- The octets that a text of digits writes, and the text that writes octets.
-use Rattle.respath_lines.proofs.Common.{Bool, Err, List, None, Ok, Option, Result, Some, [], ap, arith, inl, inr, length, nat_le, nat_lt, refl, slice_index, suc, sym, true, zero, ℕ, ◌%◌, ◌&&◌, ◌*◌, ◌+◌, ◌/◌, ◌<◌, ◌==◌, ◌∙◌, ◌∷◌, ◌≡◌, ◌≤◌, ◌⊎◌, and_parts, cases_lt, eqb-true, le-ltb, leb-true, lt-ltb, ltb-true, IsBytes, decode_pairs, encode_with, hex_digit_value, lower_digits, pair_value, hex_value, IsHexadecimal, IsPairOf, lower_hexadecimal}
+use Rattle.respath_lines.proofs.Common.{Bool, Err, List, None, Ok, Option, Result, Some, [], ap, arith, drop, get_or, inl, inr, length, nat_le, nat_lt, refl, slice_set, suc, sym, take, true, zero, ℕ, ◌%◌, ◌&&◌, ◌*◌, ◌+◌, ◌/◌, ◌<◌, ◌==◌, ◌∙◌, ◌∷◌, ◌≡◌, ◌≤◌, ◌⊎◌, and_parts, cases_lt, eqb-true, le-ltb, leb-true, lt-ltb, ltb-true, IsBytes, decode_pairs, hex_digit_value, pair_value, hex_value, IsHexadecimal, IsPairOf, lower_hexadecimal}
+use Rattle.std.proofs.lemmas.List.{drop-set, drop_all, drop_more, get_or-take, length-set, length-take-le, take-set-le, take-take, take_all}
 use Rattle.std.proofs.lemmas.Str.{digit_value-digit_char}
 use Rattle.std.specs.Char.{digit_value, digit_char}
 use Rattle.std.specs.Result.{result_unwrap_or}
@@ -58,22 +59,6 @@ no_digit c is =
           omega (arith, more)
     ]
 
--- whether each of the first places of the table holds the digit of that place
-abbrev table_agrees : ℕ → Bool
-table_agrees zero = true
-table_agrees (suc d) = slice_index lower_digits d == digit_char d && table_agrees d
-
-table_at : (n d : ℕ) → table_agrees n ≡ true → d < n → slice_index lower_digits d ≡ digit_char d
-table_at zero d all less = absurd (omega arith)
-table_at (suc n) d all less =
-    let parts = and_parts (slice_index lower_digits n == digit_char n) (table_agrees n) all in
-    elim (cases_lt d n) [
-      | inl below ↦ table_at n d parts.1 below
-      | inr top ↦
-          let e : d ≡ n = omega arith in
-          rw e (eqb-true (slice_index lower_digits n) (digit_char n) parts.0)
-    ]
-
 option_cases : (o : Option ℕ) → (o ≡ None) ⊎ ((v : ℕ) × (o ≡ Some v))
 option_cases None = inl refl
 option_cases (Some v) = inr (v, refl)
@@ -129,19 +114,40 @@ pairs_of i (high ∷ low ∷ text) (octet ∷ octets) writes =
 
 -- ---- whole texts
 
--- the digits of the lower-case table are those that std writes
-lower_digit : (d : ℕ) → d < 16 → slice_index lower_digits d ≡ digit_char d
-lower_digit d small = table_at 16 d refl small
+-- nothing is spread yet
+pub spread_none : (bytes : List ℕ) (count : ℕ) → length bytes ≡ 2 * count
+    → (take count bytes ≡ take count (take count bytes))
+    × (drop (2 * count) bytes ≡ lower_hexadecimal (drop count (take count bytes)))
+unfolding lower_hexadecimal
+spread_none bytes count twice =
+    let len = length-take-le count bytes (omega (arith, twice)) in (
+      sym (take_all count (take count bytes) (omega (arith, len))),
+      drop_all (2 * count) bytes (omega (arith, twice)) ∙ ap lower_hexadecimal (sym (drop_all count (take count bytes) (omega (arith, len)))),
+    )
 
-pub encode_lower_is : (octets : List ℕ) → IsBytes octets → encode_with lower_digits octets ≡ lower_hexadecimal octets
-unfolding encode_with lower_hexadecimal
-encode_lower_is [] bytes = refl
-encode_lower_is (octet ∷ octets) bytes =
-    let fits : octet < 256 = bytes 0 in
-    let high = lower_digit (octet / 16) (omega arith) in
-    let low = lower_digit (octet % 16) (omega arith) in
-    let rest = encode_lower_is octets (λ k. bytes (suc k)) in
-    rw (high, low, rest) refl
+-- the digits of one octet more are put behind the octets that are left
+pub spread_more : (bytes octets : List ℕ) (i left octet high low : ℕ) → left ≡ i + 1 → 2 * i + 1 < length bytes
+    → i < length octets → take left bytes ≡ take left octets
+    → drop (2 * left) bytes ≡ lower_hexadecimal (drop left octets) → octet ≡ get_or bytes i 0
+    → high ≡ digit_char (octet / 16) → low ≡ digit_char (octet % 16)
+    → (take i (slice_set (slice_set bytes (2 * i + 1) low) (2 * i) high) ≡ take i octets)
+    × (drop (2 * i) (slice_set (slice_set bytes (2 * i + 1) low) (2 * i) high) ≡ lower_hexadecimal (drop i octets))
+unfolding lower_hexadecimal
+spread_more bytes octets i left octet high low next fits small front behind read first second =
+    let len : length (slice_set bytes (2 * i + 1) low) ≡ length bytes = length-set bytes (2 * i + 1) low in
+    let begun : take (i + 1) bytes ≡ take (i + 1) octets = rw next at front in
+    let done : drop (2 * i + 1 + 1) bytes ≡ lower_hexadecimal (drop (i + 1) octets) =
+    ap (λ (n : ℕ). drop n bytes) (omega arith) ∙ (rw next at behind) in
+    let same : octet ≡ get_or octets i 0 =
+    read ∙ sym (get_or-take (i + 1) bytes i 0 (omega arith)) ∙ ap (λ (xs : List ℕ). get_or xs i 0) begun
+    ∙ get_or-take (i + 1) octets i 0 (omega arith) in
+    let digits : drop (2 * i) (slice_set (slice_set bytes (2 * i + 1) low) (2 * i) high) ≡ high ∷ low ∷ drop (2 * i + 1 + 1) bytes =
+    drop-set (slice_set bytes (2 * i + 1) low) (2 * i) high (omega (arith, len, fits))
+    ∙ ap (λ (xs : List ℕ). high ∷ xs) (drop-set bytes (2 * i + 1) low fits) in (
+      take-set-le i (slice_set bytes (2 * i + 1) low) (2 * i) high (omega arith) ∙ take-set-le i bytes (2 * i + 1) low (omega arith)
+          ∙ sym (take-take i (i + 1) bytes (omega arith)) ∙ ap (take i) begun ∙ take-take i (i + 1) octets (omega arith),
+      rw (digits, done, first, second, same, drop_more octets i 0 small) refl,
+    )
 
 -- a text of digits has an even number of them
 pub even_text : (text octets : List ℕ) → IsHexadecimal text octets → length text % 2 ≡ 0

@@ -1,19 +1,16 @@
 //! The command `cover`: a list of blocks becomes the shortest list of prefixes with the same addresses.
-ghost use Rattle.std.specs.Prelude.{◌≡◌, ◌≤◌, ◌++◌, ◌∷◌, [], List, length, take, codes, if◌then◌else◌, Some, IfOk, MatchResult, OnOk};
+ghost use Rattle.std.specs.Prelude.{◌≡◌, ◌≤◌, ◌++◌, ◌∷◌, [], List, length, take, codes, if◌then◌else◌, Some, OnOk};
 ghost use Rattle.std.specs.Iterator.{Drains, IsFinite};
 ghost use Rattle.std.specs.String.{string_bytes};
-ghost use Rattle.rpki_text.specs.Memory.{IfRefused};
 ghost use Rattle.rpki_addr.specs.Prefixes.{PrefixValue};
-ghost use Rattle.rpki_ip_block.specs.ListText.{HasBlocksFault};
-ghost use Rattle.respath_lines.specs.Cover.{IsCoverAnswer, IsCoverIp, IsCoverText, listed_text, cover_text};
+ghost use Rattle.respath_lines.specs.Cover.{IsCoverAnswer, IsCoverIp, listed_text, cover_text};
 
 use crate::kind::{Kind, kind_named};
-use crate::shown::{self, shown_text};
+use crate::shown::{tell, tell_fault};
 use rpki_addr::addr::print::{PREFIX_ROOM, put, put_with_length, write_front};
 use rpki_base::memory::OrMemory;
 use rpki_family::blocks::FamilyBlocks;
 use rpki_family::family::{Family, Ipv4Family, Ipv6Family};
-use rpki_ip::error::FromStrError;
 use rpki_ip::family::AddressFamily;
 use rpki_ip::prefix::Prefix;
 use rpki_ip::text::shown_addr;
@@ -25,53 +22,49 @@ pub(crate) fn cover<A: Allocator + Copy>(
     alloc: A,
     kind: &str,
     list: &str,
-) -> Result<String<A>, AllocError>
-    ensures { IfOk result (λ text. IsCoverAnswer kind.now list.now (string_bytes text)) }
+    answer: &mut String<A>,
+) -> Result<(), AllocError>
+    ensures { OnOk result (IsCoverAnswer kind.now list.now (string_bytes answer.new)) }
 {
     match kind_named(kind) {
-        Some(Kind::V4) => cover_ip::<Ipv4Family, A>(alloc, list),
-        Some(Kind::V6) => cover_ip::<Ipv6Family, A>(alloc, list),
-        Some(Kind::As) | None => String::from_str(alloc, "error: unknown kind"),
+        Some(Kind::V4) => cover_ip::<Ipv4Family, A>(alloc, list, answer),
+        Some(Kind::V6) => cover_ip::<Ipv6Family, A>(alloc, list, answer),
+        Some(Kind::As) | None => tell(answer, "error: unknown kind"),
     }
 }
 
-/// The prefixes that cover the set that a list of blocks of a family writes, printed, or the fault of the list.
-fn cover_ip<F: Family, A: Allocator + Copy>(alloc: A, list: &str) -> Result<String<A>, AllocError>
-    ensures { IfOk result (λ text. IsCoverIp F.FAMILY list.now (string_bytes text)) }
-{
-    shown_text(alloc, ip_text::<F, A>(alloc, list))
-}
-
-/// The same prefixes, printed. `Refused` with the fault of the list.
-fn ip_text<F: Family, A: Allocator + Copy>(
+/// Tells the prefixes that cover the set that a list of blocks of a family writes, or the fault of the list.
+fn cover_ip<F: Family, A: Allocator + Copy>(
     alloc: A,
     list: &str,
-) -> Result<String<A>, OrMemory<FromStrError>>
-    ensures { MatchResult result (λ text. IsCoverText F.FAMILY list.now (string_bytes text))
-        (IfRefused (HasBlocksFault F.FAMILY list.now)) }
+    answer: &mut String<A>,
+) -> Result<(), AllocError>
+    ensures { OnOk result (IsCoverIp F.FAMILY list.now (string_bytes answer.new)) }
 {
-    let set = FamilyBlocks::<F, A>::from_str(alloc, list)?;
-    let text = printed_prefixes(alloc, F::FAMILY, set.prefixes())?;
-    Ok(text)
+    match FamilyBlocks::<F, A>::from_str(alloc, list) {
+        Ok(set) => print_prefixes(answer, F::FAMILY, set.prefixes()),
+        Err(OrMemory::Refused(fault)) => tell_fault(answer, &fault),
+        Err(OrMemory::Memory(error)) => Err(error),
+    }
 }
 
-/// What is printed of prefixes of a family, joined by a comma and a space; nothing where there are none. Each is
+/// Tells what is printed of prefixes of a family, joined by a comma and a space; nothing where there are none. Each is
 /// printed as it comes, so that no list of them is kept.
-fn printed_prefixes<A: Allocator, I: Iterator<Item = Prefix>>(
-    alloc: A,
+fn print_prefixes<A: Allocator, I: Iterator<Item = Prefix>>(
+    answer: &mut String<A>,
     family: AddressFamily,
     prefixes: I,
-) -> Result<String<A>, AllocError>
+) -> Result<(), AllocError>
     requires can { I.can_next prefixes }
     requires ends { IsFinite (I.remaining prefixes) }
-    ensures { IfOk result (λ text. (ps : List PrefixValue) × Drains I.next_gives prefixes ps
-        × (string_bytes text ≡ cover_text family ps)) }
+    ensures { OnOk result ((ps : List PrefixValue) × Drains I.next_gives prefixes ps
+        × (string_bytes answer.new ≡ cover_text family ps)) }
 {
-    let mut text = String::with_capacity(alloc, shown::ROOM)?;
+    answer.clear();
     for prefix in prefixes {
-        append(&mut text, family, prefix)?;
+        append(answer, family, prefix)?;
     }
-    Ok(text)
+    Ok(())
 }
 
 /// The most bytes of a prefix among others: a comma, a space and those of the prefix.

@@ -1,5 +1,5 @@
 //! The command `der`: resources become their octets in DER, in hexadecimal.
-ghost use Rattle.std.specs.Prelude.{◌≡◌, IfOk, MatchResult};
+ghost use Rattle.std.specs.Prelude.{◌≡◌, [], OnOk, MatchResult};
 ghost use Rattle.std.specs.String.{string_bytes};
 ghost use Rattle.rpki_text.specs.Memory.{IfRefused};
 ghost use Rattle.rpki_as.specs.AsDer.{as_resources_octets};
@@ -8,6 +8,7 @@ ghost use Rattle.respath_lines.specs.Der.{HasIpResourcesFault, IsDerAnswer, IsDe
 
 use crate::hexadecimal::hexadecimal_of;
 use crate::kind::{Kind, kind_named};
+use crate::shown::{tell, tell_fault};
 use rpki_as::resources::AsResources;
 use rpki_base::memory::OrMemory;
 use rpki_ip::error::FromStrError;
@@ -15,61 +16,79 @@ use rpki_ip::family::AddressFamily;
 use rpki_ipres::blocks::IpBlocks;
 use rpki_ipres::resources::IpResources;
 use std::alloc::{AllocError, Allocator};
+use std::mem::replace;
 
 /// The answer to `der KIND LIST`.
 pub(crate) fn der<A: Allocator + Copy>(
     alloc: A,
     kind: &str,
     list: &str,
-) -> Result<String<A>, AllocError>
-    ensures { IfOk result (λ text. IsDerAnswer kind.now list.now (string_bytes text)) }
+    answer: &mut String<A>,
+) -> Result<(), AllocError>
+    ensures { OnOk result (IsDerAnswer kind.now list.now (string_bytes answer.new)) }
 {
     match kind_named(kind) {
-        Some(Kind::As) => der_as(alloc, list),
-        Some(Kind::V4) => der_ip(alloc, AddressFamily::Ipv4, list),
-        Some(Kind::V6) => der_ip(alloc, AddressFamily::Ipv6, list),
-        None => String::from_str(alloc, "error: unknown kind"),
+        Some(Kind::As) => der_as(alloc, list, answer),
+        Some(Kind::V4) => der_ip(alloc, AddressFamily::Ipv4, list, answer),
+        Some(Kind::V6) => der_ip(alloc, AddressFamily::Ipv6, list, answer),
+        None => tell(answer, "error: unknown kind"),
     }
 }
 
-/// The octets of the AS resources that a text writes, or the fault of the text.
-fn der_as<A: Allocator + Copy>(alloc: A, list: &str) -> Result<String<A>, AllocError>
-    ensures { IfOk result (λ text. IsDerAs list.now (string_bytes text)) }
+/// The room of an answer, which is left with none.
+fn room_of<A: Allocator>(alloc: A, answer: &mut String<A>) -> Vec<u8, A>
+    ensures { result.items ≡ [] }
+{
+    let mut room = replace(answer, String::new(alloc)).into_bytes();
+    room.clear();
+    room
+}
+
+/// Tells the octets of the AS resources that a text writes, or the fault of the text.
+fn der_as<A: Allocator + Copy>(
+    alloc: A,
+    list: &str,
+    answer: &mut String<A>,
+) -> Result<(), AllocError>
+    ensures { OnOk result (IsDerAs list.now (string_bytes answer.new)) }
 {
     match AsResources::from_str(alloc, list) {
-        Ok(resources) => as_octets(alloc, &resources),
-        Err(OrMemory::Refused(fault)) => format!(in alloc; "error: {fault}"),
+        Ok(resources) => tell_as(alloc, resources, answer),
+        Err(OrMemory::Refused(fault)) => tell_fault(answer, &fault),
         Err(OrMemory::Memory(error)) => Err(error),
     }
 }
 
-/// The octets of AS resources.
-fn as_octets<A: Allocator + Copy>(
+/// Tells the octets of AS resources, which are given back before the digits take their room.
+fn tell_as<A: Allocator + Copy>(
     alloc: A,
-    resources: &AsResources<A>,
-) -> Result<String<A>, AllocError>
-    ensures { IfOk result (λ text. string_bytes text
-        ≡ octets_text as_resources_octets resources.now) }
+    resources: AsResources<A>,
+    answer: &mut String<A>,
+) -> Result<(), AllocError>
+    ensures { OnOk result (string_bytes answer.new ≡ octets_text as_resources_octets resources) }
 {
     if resources.is_missing() {
-        return String::from_str(alloc, "missing");
+        return tell(answer, "missing");
     }
-    let mut octets = Vec::new(alloc);
+    let mut octets = room_of(alloc, answer);
     resources.encode(&mut octets)?;
-    hexadecimal_of(alloc, octets.as_slice())
+    drop(resources);
+    *answer = hexadecimal_of(octets)?;
+    Ok(())
 }
 
-/// The octets of the resources of a family that a text writes, or the fault of the text.
+/// Tells the octets of the resources of a family that a text writes, or the fault of the text.
 fn der_ip<A: Allocator + Copy>(
     alloc: A,
     family: AddressFamily,
     list: &str,
-) -> Result<String<A>, AllocError>
-    ensures { IfOk result (λ text. IsDerIp family list.now (string_bytes text)) }
+    answer: &mut String<A>,
+) -> Result<(), AllocError>
+    ensures { OnOk result (IsDerIp family list.now (string_bytes answer.new)) }
 {
     match ip_resources(alloc, family, list) {
-        Ok(resources) => ip_octets(alloc, family, &resources),
-        Err(OrMemory::Refused(fault)) => format!(in alloc; "error: {fault}"),
+        Ok(resources) => tell_ip(alloc, family, resources, answer),
+        Err(OrMemory::Refused(fault)) => tell_fault(answer, &fault),
         Err(OrMemory::Memory(error)) => Err(error),
     }
 }
@@ -102,23 +121,27 @@ fn listed<A: Allocator + Copy>(
     Ok(IpResources::blocks(set))
 }
 
-/// The octets of a list of families that has resources of this family alone.
-fn ip_octets<A: Allocator + Copy>(
+/// Tells the octets of a list of families that has resources of this family alone, which are given back before the
+/// digits take their room.
+fn tell_ip<A: Allocator + Copy>(
     alloc: A,
     family: AddressFamily,
-    resources: &IpResources<A>,
-) -> Result<String<A>, AllocError>
-    ensures { IfOk result (λ text. string_bytes text
-        ≡ octets_text (one_family_der family) resources.now) }
+    resources: IpResources<A>,
+    answer: &mut String<A>,
+) -> Result<(), AllocError>
+    ensures { OnOk result (string_bytes answer.new
+        ≡ octets_text (one_family_der family) resources) }
 {
     if resources.is_missing() {
-        return String::from_str(alloc, "missing");
+        return tell(answer, "missing");
     }
     let missing = IpResources::missing();
-    let mut octets = Vec::new(alloc);
+    let mut octets = room_of(alloc, answer);
     match family {
-        AddressFamily::Ipv4 => IpResources::encode_families(resources, &missing, &mut octets)?,
-        AddressFamily::Ipv6 => IpResources::encode_families(&missing, resources, &mut octets)?,
+        AddressFamily::Ipv4 => IpResources::encode_families(&resources, &missing, &mut octets)?,
+        AddressFamily::Ipv6 => IpResources::encode_families(&missing, &resources, &mut octets)?,
     }
-    hexadecimal_of(alloc, octets.as_slice())
+    drop(resources);
+    *answer = hexadecimal_of(octets)?;
+    Ok(())
 }

@@ -1,5 +1,6 @@
 //! Octets in hexadecimal, two digits an octet.
-ghost use Rattle.std.specs.Prelude.{◌≡◌, ◌*◌, ℕ, length, List, IfOk, IsTrue, IsFalse, MatchOption};
+ghost use Rattle.std.specs.Prelude.{◌≡◌, ◌*◌, ◌<◌, ℕ, length, List, take, IfOk, IsTrue, IsFalse, MatchOption};
+ghost use Rattle.std.specs.Char.{digit_char};
 ghost use Rattle.std.specs.String.{string_bytes};
 ghost use Rattle.rpki_addr.specs.AddressReading.{hex_value};
 ghost use Rattle.respath_lines.specs.Hexadecimal.{IsHexadecimal, IsPairOf, lower_hexadecimal};
@@ -76,9 +77,46 @@ pub(crate) fn octets_of<A: Allocator>(
     Ok(None)
 }
 
-/// The text that writes octets, in lower case.
-pub(crate) fn hexadecimal_of<A: Allocator>(alloc: A, octets: &[u8]) -> Result<String<A>, AllocError>
-    ensures { IfOk result (λ text. string_bytes text ≡ lower_hexadecimal octets.now) }
+/// The digits of the values below 16, in lower case.
+static LOWER_DIGITS: [u8; 16] = [
+    48, 49, 50, 51, 52, 53, 54, 55, 56, 57, 97, 98, 99, 100, 101, 102,
+];
+
+/// The digit of a value below 16, in lower case.
+#[inline(always)]
+fn digit_of(value: u8) -> u8
+    requires { value < 16 }
+    ensures { result ≡ digit_char value }
 {
-    hex::encode(alloc, octets)
+    LOWER_DIGITS[usize::from(value)]
+}
+
+/// Puts the digits of octets, which stand in front, in the place of all bytes: those of the last octet first, so that
+/// none is lost.
+fn spread(bytes: &mut [u8], count: usize)
+    requires { length bytes.old ≡ 2 * count }
+    ensures { bytes.new ≡ lower_hexadecimal (take count bytes.old) }
+{
+    let mut left = count;
+    while left > 0 {
+        left -= 1;
+        let octet = bytes[left];
+        bytes[2 * left + 1] = digit_of(octet % 16);
+        bytes[2 * left] = digit_of(octet / 16);
+    }
+}
+
+/// The text that writes octets, in lower case, made in their memory, with room for the end of a line.
+pub(crate) fn hexadecimal_of<A: Allocator>(mut octets: Vec<u8, A>) -> Result<String<A>, AllocError>
+    ensures { IfOk result (λ text. string_bytes text ≡ lower_hexadecimal octets.items) }
+{
+    let count = octets.len();
+    let Some(len) = count.checked_mul(2) else {
+        return Err(AllocError);
+    };
+    octets.reserve(count + 1)?;
+    octets.resize(len, 0)?;
+    spread(octets.as_mut_slice(), count);
+    // Digits are ASCII, so they are a text.
+    String::from_utf8(octets).map_err(|_| AllocError)
 }

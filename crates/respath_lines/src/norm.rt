@@ -1,10 +1,10 @@
 //! The command `norm`: a list of blocks becomes the one list of the same numbers.
-ghost use Rattle.std.specs.Prelude.{IfOk};
+ghost use Rattle.std.specs.Prelude.{OnOk};
 ghost use Rattle.std.specs.String.{string_bytes};
 ghost use Rattle.respath_lines.specs.Norm.{IsNormAnswer, IsNormAs, IsNormIp};
 
 use crate::kind::{Kind, kind_named};
-use crate::shown::shown;
+use crate::shown::{show, tell};
 use rpki_as::blocks::AsBlocks;
 use rpki_family::blocks::FamilyBlocks;
 use rpki_family::family::{Family, Ipv4Family, Ipv6Family};
@@ -15,27 +15,36 @@ pub(crate) fn norm<A: Allocator + Copy>(
     alloc: A,
     kind: &str,
     list: &str,
-) -> Result<String<A>, AllocError>
-    ensures { IfOk result (λ text. IsNormAnswer kind.now list.now (string_bytes text)) }
+    answer: &mut String<A>,
+) -> Result<(), AllocError>
+    ensures { OnOk result (IsNormAnswer kind.now list.now (string_bytes answer.new)) }
 {
     match kind_named(kind) {
-        Some(Kind::As) => norm_as(alloc, list),
-        Some(Kind::V4) => norm_ip::<Ipv4Family, A>(alloc, list),
-        Some(Kind::V6) => norm_ip::<Ipv6Family, A>(alloc, list),
-        None => String::from_str(alloc, "error: unknown kind"),
+        Some(Kind::As) => norm_as(alloc, list, answer),
+        Some(Kind::V4) => norm_ip::<Ipv4Family, A>(alloc, list, answer),
+        Some(Kind::V6) => norm_ip::<Ipv6Family, A>(alloc, list, answer),
+        None => tell(answer, "error: unknown kind"),
     }
 }
 
 /// The set that a list of AS blocks writes, printed, or the fault of the list.
-fn norm_as<A: Allocator + Copy>(alloc: A, list: &str) -> Result<String<A>, AllocError>
-    ensures { IfOk result (λ text. IsNormAs list.now (string_bytes text)) }
+fn norm_as<A: Allocator + Copy>(
+    alloc: A,
+    list: &str,
+    answer: &mut String<A>,
+) -> Result<(), AllocError>
+    ensures { OnOk result (IsNormAs list.now (string_bytes answer.new)) }
 {
-    shown(alloc, AsBlocks::from_str(alloc, list))
+    show(answer, AsBlocks::from_str(alloc, list))
 }
 
 /// The set that a list of blocks of a family writes, printed, or the fault of the list.
-fn norm_ip<F: Family, A: Allocator + Copy>(alloc: A, list: &str) -> Result<String<A>, AllocError>
-    ensures { IfOk result (λ text. IsNormIp F.FAMILY list.now (string_bytes text)) }
+fn norm_ip<F: Family, A: Allocator + Copy>(
+    alloc: A,
+    list: &str,
+    answer: &mut String<A>,
+) -> Result<(), AllocError>
+    ensures { OnOk result (IsNormIp F.FAMILY list.now (string_bytes answer.new)) }
 {
-    shown(alloc, FamilyBlocks::<F, A>::from_str(alloc, list))
+    show(answer, FamilyBlocks::<F, A>::from_str(alloc, list))
 }

@@ -1,12 +1,12 @@
 //! The command `path`: what the claims along a path leave of a root, or the first of them that is refused.
-ghost use Rattle.std.specs.Prelude.{◌≡◌, ℕ, List, Some, IfOk};
+ghost use Rattle.std.specs.Prelude.{◌≡◌, ℕ, List, Some, OnOk};
 ghost use Rattle.std.specs.String.{string_bytes};
 ghost use Rattle.respath_lines.specs.Path.{IsPathAnswer, IsPathAs, IsPathIp, ShowsLeft, part_fault_text, refusal_text};
 ghost use Rattle.respath_lines.specs.Shown.{error_line};
 
 use crate::kind::{Kind, kind_named};
 use crate::lists::{AsLists, IpLists};
-use crate::shown::printed;
+use crate::shown::{print, tell, tell_fault};
 use crate::steps::{PartFault, read_path};
 use rpki_base::memory::OrMemory;
 use rpki_chain::path::PathRefusal;
@@ -19,82 +19,92 @@ pub(crate) fn path<A: Allocator + Copy>(
     alloc: A,
     kind: &str,
     path: &str,
-) -> Result<String<A>, AllocError>
-    ensures { IfOk result (λ text. IsPathAnswer kind.now path.now (string_bytes text)) }
+    answer: &mut String<A>,
+) -> Result<(), AllocError>
+    ensures { OnOk result (IsPathAnswer kind.now path.now (string_bytes answer.new)) }
 {
     match kind_named(kind) {
-        Some(Kind::As) => path_as(alloc, path),
-        Some(Kind::V4) => path_ip::<Ipv4Family, A>(alloc, path),
-        Some(Kind::V6) => path_ip::<Ipv6Family, A>(alloc, path),
-        None => String::from_str(alloc, "error: unknown kind"),
+        Some(Kind::As) => path_as(alloc, path, answer),
+        Some(Kind::V4) => path_ip::<Ipv4Family, A>(alloc, path, answer),
+        Some(Kind::V6) => path_ip::<Ipv6Family, A>(alloc, path, answer),
+        None => tell(answer, "error: unknown kind"),
     }
 }
 
 /// What a path leaves of a set of AS numbers, its first refusal, or the fault of its first part that isn't read.
-fn path_as<A: Allocator + Copy>(alloc: A, path: &str) -> Result<String<A>, AllocError>
-    ensures { IfOk result (λ text. IsPathAs path.now (string_bytes text)) }
+fn path_as<A: Allocator + Copy>(
+    alloc: A,
+    path: &str,
+    answer: &mut String<A>,
+) -> Result<(), AllocError>
+    ensures { OnOk result (IsPathAs path.now (string_bytes answer.new)) }
 {
     match read_path(alloc, &AsLists, path) {
-        Ok((root, steps)) => told(alloc, root.verify_path(alloc, steps.as_slice())),
-        Err(OrMemory::Refused(fault)) => unread(alloc, fault),
+        Ok((root, steps)) => told(root.verify_path(alloc, steps.as_slice()), answer),
+        Err(OrMemory::Refused(fault)) => unread(fault, answer),
         Err(OrMemory::Memory(error)) => Err(error),
     }
 }
 
 /// What a path leaves of a set of addresses of a family, its first refusal, or the fault of its first part that isn't
 /// read.
-fn path_ip<F: Family, A: Allocator + Copy>(alloc: A, path: &str) -> Result<String<A>, AllocError>
-    ensures { IfOk result (λ text. IsPathIp F.FAMILY path.now (string_bytes text)) }
+fn path_ip<F: Family, A: Allocator + Copy>(
+    alloc: A,
+    path: &str,
+    answer: &mut String<A>,
+) -> Result<(), AllocError>
+    ensures { OnOk result (IsPathIp F.FAMILY path.now (string_bytes answer.new)) }
 {
     match read_path(alloc, &IpLists::<F>::new(), path) {
-        Ok((root, steps)) => told(alloc, root.verify_path(alloc, steps.as_slice())),
-        Err(OrMemory::Refused(fault)) => unread(alloc, fault),
+        Ok((root, steps)) => told(root.verify_path(alloc, steps.as_slice()), answer),
+        Err(OrMemory::Refused(fault)) => unread(fault, answer),
         Err(OrMemory::Memory(error)) => Err(error),
     }
 }
 
 /// What is printed of what a path leaves, or of its first refusal. `AllocError` where there was no memory for what it
 /// leaves, or there is none for the text.
-fn told<S: fmt::Display + Drop, F: fmt::Display + Drop, A: Allocator + Copy>(
-    alloc: A,
+fn told<S: fmt::Display + Drop, F: fmt::Display + Drop, A: Allocator>(
     left: Result<S, OrMemory<PathRefusal<F>>>,
-) -> Result<String<A>, AllocError>
+    answer: &mut String<A>,
+) -> Result<(), AllocError>
     // Whatever text each set and each fault prints, that is what is told.
     ensures { (list_text : S → List ℕ) → ((set : S) → S.output set ≡ Some (list_text set))
         → (excess_text : F → List ℕ) → ((fault : F) → F.output fault ≡ Some (excess_text fault))
-        → IfOk result (λ text. ShowsLeft list_text excess_text left (string_bytes text)) }
+        → OnOk result (ShowsLeft list_text excess_text left (string_bytes answer.new)) }
 {
     match left {
-        Ok(set) => printed(alloc, &set),
-        Err(OrMemory::Refused(refusal)) => refused(alloc, refusal),
+        Ok(set) => print(answer, &set),
+        Err(OrMemory::Refused(refusal)) => refused(refusal, answer),
         Err(OrMemory::Memory(error)) => Err(error),
     }
 }
 
 /// The text of a refusal: the place of the step that is refused, and why it is.
-fn refused<F: fmt::Display + Drop, A: Allocator + Copy>(
-    alloc: A,
+fn refused<F: fmt::Display + Drop, A: Allocator>(
     refusal: PathRefusal<F>,
-) -> Result<String<A>, AllocError>
+    answer: &mut String<A>,
+) -> Result<(), AllocError>
     // Whatever text each fault prints, that is what is told.
     ensures { (excess_text : F → List ℕ) → ((fault : F) → F.output fault ≡ Some (excess_text fault))
-        → IfOk result (λ text. string_bytes text ≡ refusal_text excess_text refusal) }
+        → OnOk result (string_bytes answer.new ≡ refusal_text excess_text refusal) }
 {
     let PathRefusal { step, fault } = refusal;
-    format!(in alloc; "refused at step {step}: {fault}")
+    answer.clear();
+    write!(answer, "refused at step {step}: {fault}")
 }
 
 /// The text of the fault of a part that isn't read.
-fn unread<E: fmt::Display + Drop, A: Allocator + Copy>(
-    alloc: A,
+fn unread<E: fmt::Display + Drop, A: Allocator>(
     fault: PartFault<E>,
-) -> Result<String<A>, AllocError>
+    answer: &mut String<A>,
+) -> Result<(), AllocError>
     // Whatever text each fault of a list prints, that is what is told.
     ensures { (fault_text : E → List ℕ) → ((fault : E) → E.output fault ≡ Some (fault_text fault))
-        → IfOk result (λ text. string_bytes text ≡ error_line (part_fault_text fault_text fault)) }
+        → OnOk result (string_bytes answer.new ≡ error_line (part_fault_text fault_text fault)) }
 {
     match fault {
-        PartFault::UnknownStep => String::from_str(alloc, "error: unknown step"),
-        PartFault::BadList(fault) => format!(in alloc; "error: {fault}"),
+        PartFault::UnknownStep => tell(answer, "error: unknown step"),
+        PartFault::BadList(fault) => tell_fault(answer, &fault),
     }
 }

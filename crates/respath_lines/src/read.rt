@@ -1,5 +1,5 @@
 //! The command `read`: octets in hexadecimal become the resources that they are in DER.
-ghost use Rattle.std.specs.Prelude.{IfOk, ◌≡◌, MatchResult};
+ghost use Rattle.std.specs.Prelude.{OnOk, ◌≡◌, MatchResult};
 ghost use Rattle.std.specs.String.{string_bytes};
 ghost use Rattle.rpki_der.specs.Views.{left};
 ghost use Rattle.rpki_text.specs.Memory.{IfRefused};
@@ -7,11 +7,12 @@ ghost use Rattle.rpki_as.specs.AsDer.{IsAsResources};
 ghost use Rattle.rpki_as.specs.AsDerReading.{as_choice_at};
 ghost use Rattle.rpki_base.specs.FamiliesDer.{of_family};
 ghost use Rattle.rpki_ipres.specs.ResourcesDer.{IsIpFamilies, ip_families_at};
+ghost use Rattle.rpki_ipres.specs.SetText.{set_text};
 ghost use Rattle.respath_lines.specs.Read.{HasFault, IsEnded, IsReadAnswer, IsReadAs, IsReadIp, ShowsFamily, family_text};
 
 use crate::hexadecimal::octets_of;
 use crate::kind::{Kind, kind_named};
-use crate::shown::shown;
+use crate::shown::{print, show, tell, tell_fault};
 use rpki_as::resources::AsResources;
 use rpki_base::memory::OrMemory;
 use rpki_der::{Cursor, DerError};
@@ -25,25 +26,30 @@ pub(crate) fn read<A: Allocator + Copy>(
     alloc: A,
     kind: &str,
     text: &str,
-) -> Result<String<A>, AllocError>
-    ensures { IfOk result (λ answer. IsReadAnswer kind.now text.now (string_bytes answer)) }
+    answer: &mut String<A>,
+) -> Result<(), AllocError>
+    ensures { OnOk result (IsReadAnswer kind.now text.now (string_bytes answer.new)) }
 {
     match kind_named(kind) {
-        Some(Kind::As) => read_as(alloc, text),
-        Some(Kind::V4) => read_ip(alloc, AddressFamily::Ipv4, text),
-        Some(Kind::V6) => read_ip(alloc, AddressFamily::Ipv6, text),
-        None => String::from_str(alloc, "error: unknown kind"),
+        Some(Kind::As) => read_as(alloc, text, answer),
+        Some(Kind::V4) => read_ip(alloc, AddressFamily::Ipv4, text, answer),
+        Some(Kind::V6) => read_ip(alloc, AddressFamily::Ipv6, text, answer),
+        None => tell(answer, "error: unknown kind"),
     }
 }
 
 /// The AS resources that octets are, printed, or why they are none.
-fn read_as<A: Allocator + Copy>(alloc: A, text: &str) -> Result<String<A>, AllocError>
-    ensures { IfOk result (λ answer. IsReadAs text.now (string_bytes answer)) }
+fn read_as<A: Allocator + Copy>(
+    alloc: A,
+    text: &str,
+    answer: &mut String<A>,
+) -> Result<(), AllocError>
+    ensures { OnOk result (IsReadAs text.now (string_bytes answer.new)) }
 {
     let Some(octets) = octets_of(alloc, text)? else {
-        return String::from_str(alloc, "error: bad hex");
+        return tell(answer, "error: bad hex");
     };
-    shown(alloc, as_resources_in(alloc, octets.as_slice()))
+    show(answer, as_resources_in(alloc, octets.as_slice()))
 }
 
 /// The AS resources that all these octets are. `Refused` with their first fault where they are none.
@@ -80,13 +86,14 @@ fn read_ip<A: Allocator + Copy>(
     alloc: A,
     family: AddressFamily,
     text: &str,
-) -> Result<String<A>, AllocError>
-    ensures { IfOk result (λ answer. IsReadIp family text.now (string_bytes answer)) }
+    answer: &mut String<A>,
+) -> Result<(), AllocError>
+    ensures { OnOk result (IsReadIp family text.now (string_bytes answer.new)) }
 {
     let Some(octets) = octets_of(alloc, text)? else {
-        return String::from_str(alloc, "error: bad hex");
+        return tell(answer, "error: bad hex");
     };
-    family_in(alloc, family, octets.as_slice())
+    family_in(alloc, family, octets.as_slice(), answer)
 }
 
 /// What the families that these octets are have of one family, printed, or why the octets are none.
@@ -94,12 +101,13 @@ fn family_in<A: Allocator + Copy>(
     alloc: A,
     family: AddressFamily,
     octets: &[u8],
-) -> Result<String<A>, AllocError>
-    ensures { IfOk result (λ answer. ShowsFamily family octets.now (string_bytes answer)) }
+    answer: &mut String<A>,
+) -> Result<(), AllocError>
+    ensures { OnOk result (ShowsFamily family octets.now (string_bytes answer.new)) }
 {
     match families_in(alloc, octets) {
-        Ok(families) => resources_text(alloc, family, resources_of(families, family)),
-        Err(OrMemory::Refused(fault)) => format!(in alloc; "error: {fault}"),
+        Ok(families) => print_resources(family, resources_of(families, family), answer),
+        Err(OrMemory::Refused(fault)) => tell_fault(answer, &fault),
         Err(OrMemory::Memory(error)) => Err(error),
     }
 }
@@ -130,25 +138,33 @@ fn families_in<A: Allocator + Copy>(
     ended(taken, cursor)
 }
 
-/// What is printed of the resources of a family.
-fn resources_text<A: Allocator + Copy>(
-    alloc: A,
+/// Tells what is printed of a set of addresses of a family.
+fn print_set<A: Allocator>(
+    answer: &mut String<A>,
+    family: AddressFamily,
+    set: &IpBlocks<A>,
+) -> Result<(), AllocError>
+    ensures { OnOk result (string_bytes answer.new ≡ set_text family set.now) }
+{
+    print(answer, &set.as_family(family))
+}
+
+/// Tells what is printed of the resources of a family.
+fn print_resources<A: Allocator>(
     family: AddressFamily,
     resources: Option<IpResources<A>>,
-) -> Result<String<A>, AllocError>
-    ensures { IfOk result (λ answer. string_bytes answer ≡ family_text family resources) }
+    answer: &mut String<A>,
+) -> Result<(), AllocError>
+    ensures { OnOk result (string_bytes answer.new ≡ family_text family resources) }
 {
     let Some(resources) = resources else {
-        return String::from_str(alloc, "missing");
+        return tell(answer, "missing");
     };
     if resources.is_missing() {
-        return String::from_str(alloc, "missing");
+        return tell(answer, "missing");
     }
     match IpBlocks::from_resources(resources) {
-        Ok(set) => {
-            let set = set.as_family(family);
-            format!(in alloc; "{set}")
-        }
-        Err(_) => String::from_str(alloc, "inherit"),
+        Ok(set) => print_set(answer, family, &set),
+        Err(_) => tell(answer, "inherit"),
     }
 }

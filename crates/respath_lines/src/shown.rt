@@ -1,60 +1,60 @@
-//! How an answer shows what a call gave.
-ghost use Rattle.std.specs.Prelude.{◌≡◌, ℕ, List, Some, IfOk};
+//! How an answer shows what a call gave. Each of these puts what it tells in the place of what the answer had.
+ghost use Rattle.std.specs.Prelude.{◌≡◌, ℕ, List, Some, OnOk};
 ghost use Rattle.std.specs.String.{string_bytes};
-ghost use Rattle.respath_lines.specs.Shown.{ShowsResult};
+ghost use Rattle.respath_lines.specs.Shown.{ShowsResult, error_line};
 
 use rpki_base::memory::OrMemory;
 use std::alloc::{AllocError, Allocator};
 use std::fmt;
 
-/// The bytes that an answer has room for from the start, so that a short one isn't moved as it grows.
-pub(crate) const ROOM: usize = 64;
-
-/// What is printed of a value.
-pub(crate) fn printed<T: fmt::Display, A: Allocator>(
-    alloc: A,
-    value: &T,
-) -> Result<String<A>, AllocError>
-    // Whatever text the value prints.
-    ensures { (value_text : List ℕ) → T.output value.now ≡ Some value_text
-        → IfOk result (λ text. string_bytes text ≡ value_text) }
+/// Tells a text.
+pub(crate) fn tell<A: Allocator>(answer: &mut String<A>, text: &str) -> Result<(), AllocError>
+    ensures { OnOk result (string_bytes answer.new ≡ text.now) }
 {
-    let mut text = String::with_capacity(alloc, ROOM)?;
-    write!(text, "{value}")?;
-    Ok(text)
+    answer.clear();
+    answer.push_str(text)
 }
 
-/// What is printed of the value, or of the fault behind `error: `. `AllocError` where there was no memory for the call,
-/// or there is none for the text.
-pub(crate) fn shown<T: fmt::Display + Drop, E: fmt::Display + Drop, A: Allocator + Copy>(
-    alloc: A,
+/// Tells what is printed of a value.
+pub(crate) fn print<T: fmt::Display, A: Allocator>(
+    answer: &mut String<A>,
+    value: &T,
+) -> Result<(), AllocError>
+    // Whatever text the value prints.
+    ensures { (value_text : List ℕ) → T.output value.now ≡ Some value_text
+        → OnOk result (string_bytes answer.new ≡ value_text) }
+{
+    answer.clear();
+    write!(answer, "{value}")
+}
+
+/// Tells what is printed of a fault, behind `error: `.
+pub(crate) fn tell_fault<E: fmt::Display, A: Allocator>(
+    answer: &mut String<A>,
+    fault: &E,
+) -> Result<(), AllocError>
+    // Whatever text the fault prints.
+    ensures { (fault_text : List ℕ) → E.output fault.now ≡ Some fault_text
+        → OnOk result (string_bytes answer.new ≡ error_line fault_text) }
+{
+    answer.clear();
+    write!(answer, "error: {fault}")
+}
+
+/// Tells what is printed of the value, or of the fault behind `error: `. `AllocError` where there was no memory for the
+/// call, or there is none for the text.
+pub(crate) fn show<T: fmt::Display + Drop, E: fmt::Display + Drop, A: Allocator>(
+    answer: &mut String<A>,
     found: Result<T, OrMemory<E>>,
-) -> Result<String<A>, AllocError>
+) -> Result<(), AllocError>
     // Whatever text each value and each fault prints, that is what the answer shows.
     ensures { (value_text : T → List ℕ) → ((value : T) → T.output value ≡ Some (value_text value))
         → (fault_text : E → List ℕ) → ((fault : E) → E.output fault ≡ Some (fault_text fault))
-        → IfOk result (λ text. ShowsResult value_text fault_text found (string_bytes text)) }
+        → OnOk result (ShowsResult value_text fault_text found (string_bytes answer.new)) }
 {
     match found {
-        Ok(value) => printed(alloc, &value),
-        Err(OrMemory::Refused(fault)) => format!(in alloc; "error: {fault}"),
-        Err(OrMemory::Memory(error)) => Err(error),
-    }
-}
-
-/// The text, or what is printed of the fault behind `error: `. `AllocError` where there was no memory for the call, or
-/// there is none for the fault.
-pub(crate) fn shown_text<E: fmt::Display + Drop, A: Allocator + Copy>(
-    alloc: A,
-    found: Result<String<A>, OrMemory<E>>,
-) -> Result<String<A>, AllocError>
-    // Whatever text each fault prints, that is what the answer shows.
-    ensures { (fault_text : E → List ℕ) → ((fault : E) → E.output fault ≡ Some (fault_text fault))
-        → IfOk result (λ text. ShowsResult string_bytes fault_text found (string_bytes text)) }
-{
-    match found {
-        Ok(text) => Ok(text),
-        Err(OrMemory::Refused(fault)) => format!(in alloc; "error: {fault}"),
+        Ok(value) => print(answer, &value),
+        Err(OrMemory::Refused(fault)) => tell_fault(answer, &fault),
         Err(OrMemory::Memory(error)) => Err(error),
     }
 }

@@ -19,7 +19,9 @@ pub fn answer_to_line<A: Allocator + Copy>(
         Some(payloads) => {
             let table = OriginTable::new(alloc, &payloads)?;
             let routes = Routes { table: &table, why };
-            routes.answer(alloc, line.as_bytes())
+            let mut text = String::new(alloc);
+            routes.answer(alloc, line.as_bytes(), &mut text)?;
+            Ok(text)
         }
         None => String::from_str(alloc, "no such payload"),
     }

@@ -45,7 +45,7 @@ fn each_request_is_refused_in_turn(rt: HostRuntime) {
             |refusing: &Refusing<Global>| outcome(refusing, file),
         );
         match refused {
-            Ok(requests) => assert!(rt; requests > 10, "{requests} requests"),
+            Ok(requests) => assert!(rt; requests > 5, "{requests} requests"),
             Err(number) => assert!(rt; false, "request {number}"),
         }
     }

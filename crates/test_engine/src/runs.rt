@@ -244,7 +244,7 @@ fn each_request_is_refused_in_turn(rt: HostRuntime) {
     for engine in &Engine::ALL {
         for row in &[LINES, WORKED] {
             match refused(rt.alloc(), *engine, row) {
-                Ok(requests) => assert!(rt; requests > 10, "{engine:?}, {requests} requests"),
+                Ok(requests) => assert!(rt; requests > 5, "{engine:?}, {requests} requests"),
                 Err(number) => assert!(rt; false, "{engine:?}, request {number}"),
             }
         }

@@ -1,4 +1,4 @@
-use Rattle.respath_lines.proofs.Common.{refl, IfOk-weaker, string_bytes, IsAsResources, as_choice_at, fault_text}
+use Rattle.respath_lines.proofs.Common.{refl, on_ok_weaker, string_bytes, IsAsResources, as_choice_at, fault_text}
 use Rattle.rpki_as.specs.ResourcesText.{as_resources_text}
 use Rattle.respath_lines.proofs.ReadLemmas.{shows_octets, shows_text}
 use Rattle.respath_lines.proofs.read.read_as.Goals as goal
@@ -7,7 +7,7 @@ pub returns : goal.returns
 returns g c =
     let octets = c.in-Some.octets.items in
     let is = rw c.as_slice.ensures.value at c.as_resources_in.ensures in
-    IfOk-weaker c.shown.result _ _
-    (λ answer shows. shows_text IsAsResources as_choice_at as_resources_text c.args.text.now octets (string_bytes answer) (rw c.in-Some.is at c.in_ok-octets.ensures)
-    (shows_octets IsAsResources as_choice_at as_resources_text octets c.as_resources_in.result is (string_bytes answer) shows))
-    (c.shown.ensures as_resources_text (λ claim. refl) fault_text (λ fault. refl))
+    on_ok_weaker c.show.result
+    (λ shows. shows_text IsAsResources as_choice_at as_resources_text c.args.text.now octets (string_bytes c.show.new.answer) (rw c.in-Some.is at c.in_ok-octets.ensures)
+    (shows_octets IsAsResources as_choice_at as_resources_text octets c.as_resources_in.result is (string_bytes c.show.new.answer) shows))
+    (c.show.ensures as_resources_text (λ claim. refl) fault_text (λ fault. refl))

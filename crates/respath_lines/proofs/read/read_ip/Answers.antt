@@ -1,4 +1,4 @@
-use Rattle.respath_lines.proofs.Common.{IfOk-weaker, string_bytes, IsIpFamilies, ip_families_at, family_text}
+use Rattle.respath_lines.proofs.Common.{on_ok_weaker, string_bytes, IsIpFamilies, ip_families_at, family_text}
 use Rattle.rpki_base.specs.FamiliesDer.{of_family}
 use Rattle.respath_lines.proofs.ReadLemmas.{shows_text}
 use Rattle.respath_lines.proofs.read.read_ip.Goals as goal
@@ -6,6 +6,6 @@ use Rattle.respath_lines.proofs.read.read_ip.Goals as goal
 pub returns : goal.returns
 returns g c =
     let shows = rw c.as_slice.ensures.value at c.family_in.ensures in
-    IfOk-weaker c.family_in.result _ _
-    (λ answer is. shows_text IsIpFamilies ip_families_at (λ found. family_text c.args.family (of_family c.args.family found)) c.args.text.now c.in-Some.octets.items (string_bytes answer) (rw c.in-Some.is at c.in_ok-octets.ensures) is)
+    on_ok_weaker c.family_in.result
+    (λ is. shows_text IsIpFamilies ip_families_at (λ found. family_text c.args.family (of_family c.args.family found)) c.args.text.now c.in-Some.octets.items (string_bytes c.family_in.new.answer) (rw c.in-Some.is at c.in_ok-octets.ensures) is)
     shows

@@ -1,8 +1,8 @@
 use Rattle.respath_lines.proofs.Common.{subst, Drains}
-use Rattle.respath_lines.proofs.cover.printed_prefixes.Goals as goal
+use Rattle.respath_lines.proofs.cover.print_prefixes.Goals as goal
 
 pub loop-prefix-init : goal.loop-prefix-init
-loop-prefix-init g c = rw c.into_iter-prefix-iterator.ensures.into_iter_gives (c.requires.can, c.requires.ends, c.in_ok-text.ensures.bytes)
+loop-prefix-init g c = rw c.into_iter-prefix-iterator.ensures.into_iter_gives (c.requires.can, c.requires.ends, c.clear.ensures.bytes)
 
 pub loop-prefix-preserved : goal.loop-prefix-preserved
 loop-prefix-preserved g c =

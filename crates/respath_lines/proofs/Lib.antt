@@ -1,3 +1,4 @@
+pub mod CommandLemmas
 pub mod Common
 pub mod CoverLemmas
 pub mod DerLemmas

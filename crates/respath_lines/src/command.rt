@@ -1,15 +1,30 @@
 //! How a line is cut into words.
 ghost use Rattle.std.specs.Prelude.{◌≡◌};
-ghost use Rattle.std.specs.List.{before_first, after_first};
+ghost use Rattle.std.specs.List.{before_first, after_first, position_or_len};
 ghost use Rattle.respath_lines.specs.Command.{is_space};
+
+/// Where the first space of a text stands, and its length where there is none. Words are short, so bytes are looked at
+/// one by one.
+fn first_space(text: &[u8]) -> usize
+    ensures { result ≡ position_or_len is_space text.now }
+{
+    let mut at = 0;
+    while at < text.len() && text[at] != b' ' {
+        at += 1;
+    }
+    at
+}
 
 /// What stands before the first space of a text and what stands behind it: nothing, where there is no space.
 pub(crate) fn cut_word(text: &str) -> (&str, &str)
     ensures word { result.0.now ≡ before_first is_space text.now }
     ensures rest { result.1.now ≡ after_first is_space text.now }
 {
-    match text.split_once(' ') {
-        Some((word, rest)) => (word, rest),
-        None => (text, ""),
+    let at = first_space(text.as_bytes());
+    if at >= text.len() {
+        return (text, "");
     }
+    let (word, _) = text.split_at(at);
+    let (_, rest) = text.split_at(at + 1);
+    (word, rest)
 }

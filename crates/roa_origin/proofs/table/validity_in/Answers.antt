@@ -5,16 +5,12 @@ use Rattle.roa_origin.proofs.Steps.{any_at, back_up_to, back_within, fewer_left,
 use Rattle.roa_origin.proofs.Walks.{later_free}
 use Rattle.roa_origin.proofs.table.validity_in.Goals as goal
 
-pub count_up_to-at-requires : goal.count_up_to-at-requires
-count_up_to-at-requires c = record { in_order = c.requires.table.in_order; is_prefix = c.requires.is_prefix; starts = c.requires.starts }
-
 pub loop-at-init : goal.loop-at-init
-loop-at-init c =
-    let at = c.count_up_to-at in (
-      at.ensures.within,
-      at.ensures.up_to,
-      later_free c.args.route.now.0.prefix c.args.route.now.1 c.args.payloads.now at.result c.requires.table.in_order c.requires.is_prefix at.ensures.later,
-    )
+loop-at-init c = (
+  c.requires.within,
+  c.requires.up_to,
+  later_free c.args.route.now.0.prefix c.args.route.now.1 c.args.payloads.now c.args.up_to c.requires.table.in_order c.requires.is_prefix c.requires.later,
+)
 
 pub loop-at-smaller : goal.loop-at-smaller
 loop-at-smaller c = fewer_left c.args.route.now.0.prefix c.requires.is_prefix c.args.payloads.now c.args.links.now c.requires.table c.loop-at.at c.loop-at.invariant.0 c.loop-at.invariant.1 c.loop-at-test.true

@@ -1,0 +1,30 @@
+-- Places between which a prefix is sought, by what stands in the middle.
+use Rattle.roa_origin.proofs.Common.{List, arith, get_or, subst, ℕ, ◌+◌, ◌<◌, ◌≤◌, get_or_default, IsNonDecreasingBy, FamilyPrefix, Payload, payload_place, place, length}
+use Rattle.roa_origin.specs.Links.{IsBetween}
+
+module _ (xs : List Payload) (from to m : ℕ) (p : FamilyPrefix) (d : Payload) (ordered : IsNonDecreasingBy payload_place xs)
+    (h : IsBetween xs from to p) (le : from ≤ m) (small : m < to) where
+  -- where that comes no later, the prefix is sought behind it
+  pub behind_middle : payload_place (get_or xs m d) ≤ place p → IsBetween xs (m + 1) to p
+  behind_middle before = record {
+    ordered = omega (arith, small);
+    within = h.within;
+    up_to = λ k e less.
+        let inside : m < length xs = omega (arith, small, h.within) in
+        let up = ordered k m e (omega (arith, less)) inside in
+        let here : payload_place (get_or xs m e) ≤ place p = subst (λ (y : Payload). payload_place y ≤ place p) (get_or_default xs m d e inside) before in
+        omega (arith, up, here);
+    later = h.later;
+  }
+
+  -- and where it comes later, before it
+  pub before_middle : place p < payload_place (get_or xs m d) → IsBetween xs from m p
+  before_middle after = record {
+    ordered = le;
+    within = omega (arith, small, h.within);
+    up_to = h.up_to;
+    later = λ k e from_m inside.
+        let up = ordered m k e from_m inside in
+        let here : place p < payload_place (get_or xs m e) = subst (λ (y : Payload). place p < payload_place y) (get_or_default xs m d e (omega (arith, from_m, inside))) after in
+        omega (arith, up, here);
+  }

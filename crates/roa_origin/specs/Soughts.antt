@@ -1,0 +1,18 @@
+-- Routes that are sought in a table.
+use Rattle.std.specs.Prelude.{ℕ, List}
+use Rattle.rpki_prefix.specs.Values.{FamilyPrefix, IsFamilyPrefix}
+use Rattle.roa_origin.specs.Links.{IsBetween, IsTable}
+use Rattle.roa_origin.specs.Payloads.{Payload}
+use Rattle.roa_origin.specs.declared.links.Link.{Link}
+
+-- payloads, and the route to a prefix that an AS originates, which is sought in them
+pub record SoughtRoute : Type 0 where
+  pub payloads : List Payload
+  pub route : FamilyPrefix
+  pub asn : ℕ
+
+-- a table, and the places between which a prefix is sought
+pub record IsSoughtBetween (xs : List Payload) (links : List Link) (from to : ℕ) (route : FamilyPrefix) : Type 0 where
+  pub table : IsTable xs links
+  pub is_prefix : IsFamilyPrefix route
+  pub between : IsBetween xs from to route

@@ -1,0 +1,119 @@
+//! A route that is sought in a table, step by step.
+ghost use Rattle.std.specs.Prelude.{◌≡◌, ◌≤◌, ◌↔◌, IsTrue, length, reverse};
+ghost use Rattle.std.specs.List.{filter};
+ghost use Rattle.rpki_prefix.specs.Values.{IsFamilyPrefix};
+ghost use Rattle.roa_origin.specs.Coverings.{covers_route};
+ghost use Rattle.roa_origin.specs.Links.{AreLater, AreUpTo, IsInOrder, IsTable};
+ghost use Rattle.roa_origin.specs.Starts.{AreStarts};
+ghost use Rattle.roa_origin.specs.Validities.{IsHeldBy, IsValidity};
+
+use crate::covering::Covering;
+use crate::entry::Entry;
+use crate::links::Link;
+use crate::table::{count_between, is_held_in, validity_in};
+use crate::validation::Validity;
+use std::marker::Model;
+
+/// A route that is sought in a table. Each step reads another place there. Whoever asks for many routes takes a step
+/// for some before the next step for the first of them, so that the reads of one don't wait for those of another.
+/// Contracts see the table's payloads, the route's prefix and its AS.
+#[derive(Drop)]
+pub struct Sought<'a> {
+    payloads: &'a [Entry],
+    links: &'a [Link],
+    from: usize,
+    to: usize,
+    route: Entry,
+}
+
+impl<'a> Model for Sought<'a> {
+    ghost use Rattle.roa_origin.specs.Soughts.{IsSoughtBetween, SoughtRoute};
+
+    ghost Value = { SoughtRoute };
+
+    ghost view = { λ s. record {
+      payloads = s.payloads.now;
+      route = s.route.0.prefix;
+      asn = s.route.1;
+    } };
+
+    ghost invariant = { λ s. IsSoughtBetween s.payloads.now s.links.now s.from s.to s.route.0.prefix };
+}
+
+impl<'a> Sought<'a> {
+    /// The first step: the starts tell between which places the route is sought.
+    pub(crate) fn of(
+        payloads: &'a [Entry],
+        links: &'a [Link],
+        starts: &[u32],
+        bits: u8,
+        route: Entry,
+    ) -> Sought<'a>
+        requires table { IsTable payloads.now links.now }
+        requires is_prefix { IsFamilyPrefix route.0.prefix }
+        requires starts { AreStarts bits payloads.now starts.now }
+        ensures payloads { result.payloads ≡ payloads.now }
+        ensures route { result.route ≡ route.0.prefix }
+        ensures asn { result.asn ≡ route.1 }
+    {
+        let number = route.first_bits(bits);
+        let from = starts[number] as usize;
+        let to = starts[number + 1] as usize;
+        Sought {
+            payloads,
+            links,
+            from,
+            to,
+            route,
+        }
+    }
+
+    /// The next step: a payload in the middle between the places halves what is between them.
+    pub fn come_nearer(&mut self)
+        ensures { self.new ≡ self.old }
+    {
+        if self.from == self.to {
+            return;
+        }
+        let middle = self.from + (self.to - self.from) / 2;
+        if self.payloads[middle].comes_by(&self.route) {
+            self.from = middle + 1;
+        } else {
+            self.to = middle;
+        }
+    }
+
+    /// How many payloads in the table's order come no later than the route's prefix.
+    pub(crate) fn count(&self) -> usize
+        ensures within { result ≤ length self.now.payloads }
+        ensures up_to { AreUpTo self.now.payloads result self.now.route }
+        ensures later { AreLater self.now.payloads result self.now.route }
+    {
+        count_between(self.payloads, self.from, self.to, &self.route)
+    }
+
+    /// The validity of the route by the payloads of the table.
+    pub fn validity(&self) -> Validity
+        ensures { IsValidity self.now.route self.now.asn self.now.payloads result }
+    {
+        validity_in(self.payloads, self.links, self.count(), &self.route)
+    }
+
+    /// Whether a payload of the table that covers the route has its AS, which isn't AS0.
+    pub fn is_held(&self) -> bool
+        ensures { IsTrue result ↔ IsHeldBy self.now.route self.now.asn self.now.payloads }
+    {
+        is_held_in(self.payloads, self.links, self.count(), &self.route)
+    }
+
+    /// The payloads of the table that cover the route, the last first.
+    pub(crate) fn covering(self) -> Covering<'a>
+        ensures covering { reverse result
+            ≡ filter (covers_route self.entry.route) self.entry.payloads }
+        ensures in_order { IsInOrder self.entry.payloads }
+        ensures is_prefix { IsFamilyPrefix self.entry.route }
+    {
+        let at = self.count();
+        Covering::from(self.payloads, self.links, at, self.route)
+    }
+}

@@ -1,3 +1,4 @@
+pub mod BesideLemmas
 pub mod Common
 pub mod OriginLemmas
 pub mod TableLemmas

@@ -12,6 +12,7 @@
 //! ```
 #![tactic(auto)]
 
+mod beside;
 pub mod change;
 pub mod family;
 pub mod handle;

@@ -4,6 +4,7 @@ ghost use Rattle.rpki_text.specs.Memory.{IfRefused};
 ghost use Rattle.route_calls.specs.Origins.{AreEach, AreNoOrigins, AreOrigins, IsFirstNone, IsOrigin, no_origins_place, no_origins_status, validity_number};
 ghost use Rattle.route_calls.specs.Routes.{IsNoPayload, IsNoRoute, IsPayload};
 
+use crate::beside::origins_beside;
 use crate::route::{Payload, Route, Unrouted};
 use crate::status;
 use roa_origin::{OriginTable, Validity};
@@ -53,7 +54,7 @@ impl NoOrigins {
 }
 
 /// The number of a validity, as routers tell it one another (RFC 8097, 2).
-fn number_of(validity: Validity) -> u8
+pub(crate) fn number_of(validity: Validity) -> u8
     ensures { result ≡ validity_number validity }
 {
     match validity {
@@ -92,6 +93,22 @@ fn origin_of(table: &OriginTable<Global>, route: &Route) -> Result<u8, Unrouted>
 /// The validity of each route of an array by a table, as numbers. `Refused` with the first that is none, `Memory` where
 /// there is no memory for the numbers.
 pub fn origins_in(
+    alloc: Global,
+    table: &OriginTable<Global>,
+    routes: &[Route],
+) -> Result<Vec<u8, Global>, OrMemory<FirstNone>>
+    ensures { MatchResult result
+        (λ octets. AreEach (IsOrigin table.now) routes.now octets.items)
+        (IfRefused (IsFirstNone (IsOrigin table.now) IsNoRoute routes.now)) }
+{
+    match origins_beside(alloc, table, routes)? {
+        Some(octets) => Ok(octets),
+        None => origins_in_turn(alloc, table, routes),
+    }
+}
+
+/// The same, one route after the other up to the first that is none.
+fn origins_in_turn(
     alloc: Global,
     table: &OriginTable<Global>,
     routes: &[Route],

@@ -1,5 +1,5 @@
 use Rattle.route_calls.proofs.Common.{take, AreEach, IsOrigin}
-use Rattle.route_calls.proofs.origin.origins_in.Given as goal
+use Rattle.route_calls.proofs.origin.origins_in_turn.Given as goal
 
 -- the validities so far are told
 abbrev pub invariant-loop-at : goal.invariant-loop-at

@@ -1,6 +1,6 @@
 use Rattle.route_calls.proofs.Common.{[], IsOrigin, Route}
 use Rattle.route_calls.proofs.OriginLemmas.{one_more}
-use Rattle.route_calls.proofs.origin.origins_in.Goals as goal
+use Rattle.route_calls.proofs.origin.origins_in_turn.Goals as goal
 
 -- what a place behind the end would have
 abbrev nothing : Route

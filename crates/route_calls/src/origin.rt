@@ -101,10 +101,13 @@ pub fn origins_in(
         (λ octets. AreEach (IsOrigin table.now) routes.now octets.items)
         (IfRefused (IsFirstNone (IsOrigin table.now) IsNoRoute routes.now)) }
 {
-    match origins_beside(alloc, table, routes)? {
-        Some(octets) => Ok(octets),
-        None => origins_in_turn(alloc, table, routes),
+    // What is sought beside others takes memory, which one route alone needn't.
+    if routes.len() > 1 {
+        if let Some(octets) = origins_beside(alloc, table, routes)? {
+            return Ok(octets);
+        }
     }
+    origins_in_turn(alloc, table, routes)
 }
 
 /// The same, one route after the other up to the first that is none.

@@ -9,8 +9,8 @@ use roa_origin::{OriginTable, Sought};
 use rpki_base::Asn;
 use std::alloc::{AllocError, Global};
 
-/// How many routes are sought beside each other.
-const BESIDE: usize = 16;
+/// How many routes are sought beside each other. Their list has less than a KiB, which malloc hands out again at once.
+const BESIDE: usize = 12;
 
 /// Takes the first step of each route of an array in a table. `false` where one is none.
 fn begin<'a>(

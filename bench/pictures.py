@@ -35,7 +35,7 @@ def picture(name: str, width: int, height: int, parts: list[str]) -> None:
 
 def ratios() -> None:
     """A bar for each ratio: below 1 ours takes less time."""
-    lines = [(row[0], float(row[-1])) for row in table("input and elements")]
+    lines = [(row[0], float(row[3])) for row in table("input ")]
     calls = [(row[0], float(row[-1])) for row in table("call")]
     left, top, unit, step = 210, 40, 190, 20
     parts = [text(10, 22, "Our time by that of the Rust crate 0.20.1: lines of the program, and calls over 100,000 blocks")]

@@ -1,14 +1,17 @@
 -- Routes that are sought beside each other, some after others.
-use Rattle.route_calls.proofs.Common.{List, [], ap, subst, ℕ, ◌++◌, ◌+◌, ◌∙◌, ◌∷◌, ◌≡◌, arith, take, AreEach, IsOrigin, Route}
+use Rattle.route_calls.proofs.Common.{List, [], ap, arith, get_or, length, subst, sym, take, ℕ, ◌++◌, ◌+◌, ◌<◌, ◌∙◌, ◌∷◌, ◌≡◌, Some, AreEach, IsFirstNone, IsOrigin, Route}
 use Rattle.std.specs.Prelude.{drop, slice_range}
 use Rattle.std.proofs.Math.Seq.{take-add}
+use Rattle.std.proofs.lemmas.List.{get_or-drop, get_or-take, length-drop, length-take, take-take}
 use Rattle.roa_origin.specs.Payloads.{Payload}
 use Rattle.roa_origin.specs.Soughts.{SoughtRoute}
 use Rattle.roa_origin.specs.Validities.{IsValidity}
-use Rattle.route_calls.specs.Soughts.{IsSoughtIn, TellsSought}
+use Rattle.route_calls.specs.Routes.{IsNoRoute}
+use Rattle.route_calls.specs.Soughts.{AreBegun, IsSoughtIn, TellsSought}
+use Rattle.route_calls.specs.declared.route.Unrouted.{Unrouted}
 
 -- what is had of one list and of another is had of both, one after the other
-pub joined : {X Y : Type 0} (R : X → Y → Type 0) (xs : List X) (ys : List Y) (zs : List X) (ws : List Y)
+joined : {X Y : Type 0} (R : X → Y → Type 0) (xs : List X) (ys : List Y) (zs : List X) (ws : List Y)
     → AreEach R xs ys → AreEach R zs ws → AreEach R (xs ++ zs) (ys ++ ws)
 joined R [] ys zs ws none each = rw none each
 joined R (x ∷ xs) ys zs ws (y, is, (rest, all, each)) more = (y, is, (rest ++ ws, ap (λ ts. ts ++ ws) all, joined R xs rest zs ws each more))
@@ -25,7 +28,7 @@ module _ (payloads : List Payload) where
     told = told;
   }
 
-  pub origins : (rs : List Route) (ss : List SoughtRoute) (octets : List ℕ) → AreEach (IsSoughtIn payloads) rs ss
+  origins : (rs : List Route) (ss : List SoughtRoute) (octets : List ℕ) → AreEach (IsSoughtIn payloads) rs ss
       → AreEach TellsSought ss octets → AreEach (IsOrigin payloads) rs octets
   origins [] ss octets none told = subst (λ (ts : List SoughtRoute). AreEach TellsSought ts octets) none told
   origins (r ∷ rs) ss octets (s, is, (rest, all, each)) told =
@@ -33,5 +36,36 @@ module _ (payloads : List Payload) where
       (octet, origin r s octet is one, (others, put, origins rs rest others each more))
 
 -- the first ones, and those from there up to another place
-pub up_to : {X : Type 0} (xs : List X) (at n : ℕ) → take (at + n) xs ≡ take at xs ++ slice_range xs at (at + n)
-up_to xs at n = take-add at n xs ∙ ap (λ k. take at xs ++ take k (drop at xs)) (omega arith)
+up_to : {X : Type 0} (xs : List X) (at n : ℕ) → take (at + n) xs ≡ take at xs ++ take n (drop at xs)
+up_to xs at n = take-add at n xs
+
+-- a piece of a list
+of_piece : {X : Type 0} (xs : List X) (at n : ℕ) → slice_range xs at (at + n) ≡ take n (drop at xs)
+of_piece xs at n = ap (λ k. take k (drop at xs)) (omega arith)
+
+module _ (payloads : List Payload) (routes : List Route) (at n : ℕ) (octets : List ℕ) (so_far : AreEach (IsOrigin payloads) (take at routes) octets) where
+  -- what is told of the first ones of a piece stands behind what was told before it
+  told_behind : (k : ℕ) (ss : List SoughtRoute) (told : List ℕ)
+      → AreEach (IsSoughtIn payloads) (take k (drop at routes)) ss → AreEach TellsSought ss told
+      → AreEach (IsOrigin payloads) (take (at + k) routes) (octets ++ told)
+  told_behind k ss told sought each =
+      subst (λ (rs : List Route). AreEach (IsOrigin payloads) rs (octets ++ told)) (sym (up_to routes at k)) (joined (IsOrigin payloads) (take at routes) octets (take k (drop at routes)) told so_far (origins payloads (take k (drop at routes)) ss told sought each))
+
+  -- so is what is told of all of it
+  pub all_told : (ss : List SoughtRoute) (told : List ℕ)
+      → AreEach (IsSoughtIn payloads) (slice_range routes at (at + n)) ss → AreEach TellsSought ss told
+      → AreEach (IsOrigin payloads) (take (at + n) routes) (octets ++ told)
+  all_told ss told sought each = told_behind n ss told (subst (λ (rs : List Route). AreEach (IsSoughtIn payloads) rs ss) (of_piece routes at n) sought) each
+
+  -- the first of a piece that is none is the first of all
+  pub first_none : (ss : List SoughtRoute) (told : List ℕ) (reason : Unrouted)
+      → AreBegun payloads (slice_range routes at (at + n)) ss (Some reason) → AreEach TellsSought ss told
+      → IsFirstNone (IsOrigin payloads) IsNoRoute routes (record { at = at + length ss; reason = reason })
+  first_none ss told reason begun each =
+      let k = length ss in
+      let (r, small, here, sought, none) = subst (λ (rs : List Route). AreBegun payloads rs ss (Some reason)) (of_piece routes at n) begun in
+      let below : k < n = omega (arith, small, length-take n (drop at routes)) in
+      let left : at + k < length routes = omega (arith, small, length-take n (drop at routes), length-drop at routes) in
+      let is : get_or routes (at + k) r ≡ r = sym (get_or-drop at routes k r) ∙ sym (get_or-take n (drop at routes) k r below) ∙ here in
+      let front = subst (λ (rs : List Route). AreEach (IsSoughtIn payloads) rs ss) (take-take k n (drop at routes) (omega (arith, below))) sought in
+      (r, left, is, (octets ++ told, told_behind k ss told front each, none))

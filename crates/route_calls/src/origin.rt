@@ -4,7 +4,7 @@ ghost use Rattle.rpki_text.specs.Memory.{IfRefused};
 ghost use Rattle.route_calls.specs.Origins.{AreEach, AreNoOrigins, AreOrigins, IsFirstNone, IsOrigin, no_origins_place, no_origins_status, validity_number};
 ghost use Rattle.route_calls.specs.Routes.{IsNoPayload, IsNoRoute, IsPayload};
 
-use crate::beside::origins_beside;
+use crate::beside::{BESIDE, begin, come_nearer, end};
 use crate::route::{Payload, Route, Unrouted};
 use crate::status;
 use roa_origin::{OriginTable, Validity};
@@ -82,16 +82,8 @@ pub fn payloads_of(
     Ok(read)
 }
 
-/// The validity of a route by a table, as a number.
-fn origin_of(table: &OriginTable<Global>, route: &Route) -> Result<u8, Unrouted>
-    ensures { MatchResult result (IsOrigin table.now route.now) (IsNoRoute route.now) }
-{
-    let prefix = route.prefix()?;
-    Ok(number_of(table.origin(prefix, Asn::from_u32(route.asn))))
-}
-
 /// The validity of each route of an array by a table, as numbers. `Refused` with the first that is none, `Memory` where
-/// there is no memory for the numbers.
+/// there is no memory for the numbers, or for what is sought beside each other.
 pub fn origins_in(
     alloc: Global,
     table: &OriginTable<Global>,
@@ -101,31 +93,20 @@ pub fn origins_in(
         (λ octets. AreEach (IsOrigin table.now) routes.now octets.items)
         (IfRefused (IsFirstNone (IsOrigin table.now) IsNoRoute routes.now)) }
 {
-    // What is sought beside others takes memory, which one route alone needn't.
-    if routes.len() > 1 {
-        if let Some(octets) = origins_beside(alloc, table, routes)? {
-            return Ok(octets);
-        }
-    }
-    origins_in_turn(alloc, table, routes)
-}
-
-/// The same, one route after the other up to the first that is none.
-fn origins_in_turn(
-    alloc: Global,
-    table: &OriginTable<Global>,
-    routes: &[Route],
-) -> Result<Vec<u8, Global>, OrMemory<FirstNone>>
-    ensures { MatchResult result
-        (λ octets. AreEach (IsOrigin table.now) routes.now octets.items)
-        (IfRefused (IsFirstNone (IsOrigin table.now) IsNoRoute routes.now)) }
-{
     let mut octets = Vec::with_capacity(alloc, routes.len())?;
-    for (at, route) in routes.iter().enumerate() {
-        match origin_of(table, route) {
-            Ok(octet) => octets.push(octet)?,
-            Err(reason) => return Err(OrMemory::Refused(FirstNone { at, reason })),
+    let mut sought = Vec::with_capacity(alloc, routes.len().min(BESIDE))?;
+    let mut at = 0;
+    while at < routes.len() {
+        let to = at + (routes.len() - at).min(BESIDE);
+        sought.clear();
+        let unrouted = begin(table, &routes[at..to], &mut sought)?;
+        come_nearer(&mut sought);
+        end(sought.as_slice(), &mut octets)?;
+        if let Some(reason) = unrouted {
+            let at = at + sought.len();
+            return Err(OrMemory::Refused(FirstNone { at, reason }));
         }
+        at = to;
     }
     Ok(octets)
 }

@@ -1,7 +1,7 @@
 -- The validities so far are told.
 use Rattle.route_calls.proofs.Common.{length, take, AreEach, IsOrigin}
 use Rattle.std.proofs.Common.{◌-◌, ◌≤◌}
-use Rattle.route_calls.proofs.beside.origins_beside.Given as goal
+use Rattle.route_calls.proofs.origin.origins_in.Given as goal
 
 abbrev pub invariant-loop-at : goal.invariant-loop-at
 invariant-loop-at l = (l.at ≤ length l.fn.routes) × AreEach (IsOrigin l.fn.table) (take l.at l.fn.routes) l.octets.items

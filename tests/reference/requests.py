@@ -101,15 +101,15 @@ USUAL_IP = re.compile(r" ?[0-9A-Fa-f:.]+([-/][0-9A-Fa-f:.]+)?")
 
 
 def _list_text(text: str, form: re.Pattern[str], size: int) -> Rooms:
-    """Elements of the usual form are read as they come; at the first other one, or behind the last, all is read anew,
-    when the list so far was given back."""
+    """Elements of the usual form are read as they come, and a space behind the last; at the first other one, or behind
+    the last, all is read anew, when the list so far was given back."""
     count = len(list(texts.elements(text)))
     usual, at = 0, 0
     while found := form.match(text, at):
         usual, at = usual + 1, found.end() + 1
         if text[found.end() : at] != ",":
             break
-    is_usual = usual == count and at > len(text)
+    is_usual = usual == count > 0 and text[at - 1 :] in ("", " ")
     return ([] if is_usual else grown(usual, size)) + shared(grown(count, size))
 
 

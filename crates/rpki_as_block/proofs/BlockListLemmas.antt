@@ -1,5 +1,5 @@
 -- Lists of AS blocks, read element by element from the front of what is left.
-use Rattle.rpki_as_block.proofs.Common.{List, None, Ok, Option, Some, [], ap, arith, drop, get_or, inl, inr, length, length-drop, refl, subst, sym, take, ℕ, ◌++◌, ◌+◌, ◌-◌, ◌<◌, ◌∙◌, ◌∷◌, ◌≡◌, ◌≤◌, ◌⊎◌, drop-length, append-nil, append_assoc, drop_more, length-take, take-append-drop, AreAsBlocksFrom, IsAfterSpace, IsAsBlockAt, IsAsBlockBetween, StandsAt, ReadsAsBlock, AsBlock}
+use Rattle.rpki_as_block.proofs.Common.{List, None, Ok, Option, Some, [], ap, arith, drop, get_or, inl, inr, length, length-drop, refl, subst, sym, take, ℕ, ◌++◌, ◌+◌, ◌-◌, ◌<◌, ◌∙◌, ◌∷◌, ◌≡◌, ◌≤◌, ◌⊎◌, drop-length, append-nil, append_assoc, drop_more, length-take, take-append-drop, AreAsBlocksFrom, IsAfterSpace, IsAsBlockAt, IsAsBlockBetween, IsEndAt, StandsAt, ReadsAsBlock, AsBlock}
 use Rattle.rpki_text.specs.Lists.{elements, HaveValues}
 use Rattle.rpki_text.proofs.ElementLemmas.{IsPartOf, elements_first, elements_last}
 use Rattle.rpki_text.proofs.PrintedLemmas.{IsElement}
@@ -33,7 +33,7 @@ end_of (Some found) = found.1
 
 -- what stands behind a block in a list of the usual form
 abbrev pub GoesOn : ℕ → List ℕ → List AsBlock → Type 0
-GoesOn end text more = ((end ≡ length text) × (more ≡ [])) ⊎ (StandsAt 44 end text × AreAsBlocksFrom (end + 1) text more)
+GoesOn end text more = (IsEndAt end text × (more ≡ [])) ⊎ (StandsAt 44 end text × AreAsBlocksFrom (end + 1) text more)
 
 -- a list of the usual form begins with a block of it
 pub first_block : (start first : ℕ) (text : List ℕ) (rest : List AsBlock) → IsAfterSpace start first text
@@ -44,13 +44,13 @@ first_block start first text (b ∷ more) after (place, end, there, block, on) =
 
 -- it goes on no further where neither the text's end nor a comma stands behind that block
 pub goes_no_further : (start first end : ℕ) (text : List ℕ) (b : AsBlock) (rest : List AsBlock)
-    → IsAfterSpace start first text → IsAlone first text b end → ¬ (end ≡ length text) → ¬ (get_or text end 0 ≡ 44)
+    → IsAfterSpace start first text → IsAlone first text b end → ¬ IsEndAt end text → ¬ (get_or text end 0 ≡ 44)
     → ¬ AreAsBlocksFrom start text rest
 goes_no_further start first end text b rest after alone not_last not_comma h =
     let (other, place, more, there, on) = first_block start first text rest after h in
     let is : end ≡ place = ap end_of (alone other place there) in
     elim on [
-      | inl k ↦ not_last (is ∙ k.0)
+      | inl k ↦ not_last (subst (λ e. IsEndAt e text) (sym is) k.0)
       | inr k ↦ not_comma (subst (λ e. get_or text e 0 ≡ 44) (sym is) k.0.1)
     ]
 
@@ -79,28 +79,36 @@ module _ (start first end : ℕ) (text : List ℕ) (b : AsBlock) (after : IsAfte
   value = reads_block _ (Ok b) h.block
 
   -- a list of the usual form goes on behind it
-  left_behind : end < length text → IsAlone first text b end
+  left_behind : ¬ IsEndAt end text → IsAlone first text b end
       → (other : AsBlock) × (place : ℕ) × (more : List AsBlock) × IsAsBlockAt first place text other
       × GoesOn place text more → (rest : List AsBlock) × AreAsBlocksFrom (end + 1) text rest
-  left_behind more alone h = grind (arith)
+  left_behind more alone (other, place, rest, there, on) =
+      let is : end ≡ place = ap end_of (alone other place there) in
+      elim on [
+        | inl k ↦ absurd (more (subst (λ e. IsEndAt e text) (sym is) k.0))
+        | inr k ↦ (rest, subst (λ e. AreAsBlocksFrom (e + 1) text rest) (sym is) k.1)
+      ]
 
   -- one that a comma follows leaves what is behind the comma, where each block of the usual form there is it
-  pub one_more : IsAlone first text b end → (blocks : List AsBlock) → IsSoFar start text blocks → end < length text
+  pub one_more : IsAlone first text b end → (blocks : List AsBlock) → IsSoFar start text blocks → ¬ IsEndAt end text
       → get_or text end 0 ≡ 44 → IsSoFar (end + 1) text (blocks ++ b ∷ [])
-  one_more alone blocks before more comma_is =
+  one_more alone blocks before not_end comma_is =
+      let more : end < length text = omega (arith, (λ (e : end ≡ length text). not_end (inl e)), h.within) in
       let shape : drop start text ≡ part.0 ++ 44 ∷ drop (end + 1) text = part.2 ∙ ap (λ t. part.0 ++ t) (drop_more text end 0 more ∙ ap (λ c. c ∷ drop (end + 1) text) comma_is) in
       let these : elements (drop start text) ≡ take (end - first) (drop first text) ∷ elements (drop (end + 1) text) = ap elements shape ∙ elements_first part.0 _ (drop (end + 1) text) part.1 is_element in
       record {
         within = omega (arith, more);
         completed = λ rest k. subst (Have (elements text)) (sym (append_assoc blocks (b ∷ []) rest)) (before.completed (b ∷ rest) (subst (λ t. Have t (b ∷ rest)) (sym these) (value, k)));
-        usual = λ all h. let (rest, k) = before.usual all h in left_behind more alone (first_block start first text rest after k);
+        usual = λ all h. let (rest, k) = before.usual all h in left_behind not_end alone (first_block start first text rest after k);
       }
 
-  -- and one that ends the text is the last
-  pub all_read : (blocks : List AsBlock) → IsSoFar start text blocks → end ≡ length text
+  -- and one that ends the text, but for a space, is the last
+  pub all_read : (blocks : List AsBlock) → IsSoFar start text blocks → IsEndAt end text
       → Have (elements text) (blocks ++ b ∷ [])
   all_read blocks before last =
-      let nothing : drop end text ≡ [] = ap (λ k. drop k text) last ∙ drop-length text in
-      let shape : drop start text ≡ part.0 = part.2 ∙ (ap (λ t. part.0 ++ t) nothing ∙ append-nil part.0) in
-      let these : elements (drop start text) ≡ take (end - first) (drop first text) ∷ [] = ap elements shape ∙ elements_last part.0 _ part.1 is_element in
+      let behind : (drop start text ≡ part.0) ⊎ (drop start text ≡ part.0 ++ 32 ∷ []) = elim last [
+        | inl none ↦ inl (part.2 ∙ (ap (λ t. part.0 ++ t) (ap (λ k. drop k text) none ∙ drop-length text) ∙ append-nil part.0))
+        | inr space ↦ inr (part.2 ∙ ap (λ t. part.0 ++ t) (drop_more text end 0 space.1.0 ∙ (ap (λ c. c ∷ drop (end + 1) text) space.1.1 ∙ ap (λ t. 32 ∷ t) (ap (λ k. drop k text) space.0 ∙ drop-length text))))
+      ] in
+      let these : elements (drop start text) ≡ take (end - first) (drop first text) ∷ [] = elements_last (drop start text) _ (part.0, part.1, behind) is_element in
       before.completed (b ∷ []) (subst (λ t. Have t (b ∷ [])) (sym these) (value, tt))

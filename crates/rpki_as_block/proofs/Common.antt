@@ -23,7 +23,7 @@ pub use Rattle.rpki_as_block.specs.AsDerModeLaws.{as_block_modal, next_block_mod
 pub use Rattle.rpki_as_block.specs.AsDerModes.{IsNextBlock, IsStrictBlock}
 pub use Rattle.rpki_as_block.specs.AsDerReading.{as_block_at, as_block_by, as_block_of, as_id_in, as_range_block_in, as_range_in, is_new_form, next_block_by, skip_block_at}
 unfoldable pub use Rattle.rpki_as_block.specs.AsDerReading.{range_of}
-pub use Rattle.rpki_as_block.specs.BlockPlaces.{AreAsBlocksFrom, IsAfterSpace, IsAsBlockAt, IsAsBlockBetween, StandsAt}
+pub use Rattle.rpki_as_block.specs.BlockPlaces.{AreAsBlocksFrom, IsAfterSpace, IsAsBlockAt, IsAsBlockBetween, IsEndAt, StandsAt}
 pub use Rattle.rpki_as_block.specs.BlockText.{HasAsBlockFault, IsAsBlockText, IsAsRangeBetween, NoRange, ReadsAsBlock, as_block_text}
 pub use Rattle.rpki_as_block.specs.Blocks.{as_bounds, new_as_block}
 pub use Rattle.rpki_as_block.specs.Numbers.{IsListOf, IsSizeOf, numbers_from, numbers_left}

@@ -31,10 +31,14 @@ abbrev pub IsAfterSpace : ℕ → ℕ → List ℕ → Type 0
 IsAfterSpace start after text =
     ((after ≡ start) × (¬ StandsAt 32 start text)) ⊎ ((after ≡ start + 1) × StandsAt 32 start text)
 
+-- the text ends at the place, or behind a space that stands there
+abbrev pub IsEndAt : ℕ → List ℕ → Type 0
+IsEndAt end text = (end ≡ length text) ⊎ ((end + 1 ≡ length text) × StandsAt 32 end text)
+
 -- From start to its end the text is a list of the usual form: blocks of the usual form, each with one space before it
--- or none, and a comma (44) between two.
+-- or none, a comma (44) between two, and one space behind the last or none.
 abbrev pub AreAsBlocksFrom : ℕ → List ℕ → List AsBlock → Type 0
 AreAsBlocksFrom start text [] = ⊥
 AreAsBlocksFrom start text (b ∷ more) =
     (first end : ℕ) × IsAfterSpace start first text × IsAsBlockAt first end text b
-    × (((end ≡ length text) × (more ≡ [])) ⊎ (StandsAt 44 end text × AreAsBlocksFrom (end + 1) text more))
+    × ((IsEndAt end text × (more ≡ [])) ⊎ (StandsAt 44 end text × AreAsBlocksFrom (end + 1) text more))

@@ -1,9 +1,9 @@
 //! Lists of AS blocks.
-ghost use Rattle.std.specs.Prelude.{◌≤◌, List, Ok, Err, IfOk, MatchOption, MatchResult, length};
+ghost use Rattle.std.specs.Prelude.{◌≤◌, ◌↔◌, IsTrue, List, Ok, Err, IfOk, MatchOption, MatchResult, length};
 ghost use Rattle.rpki_text.specs.Memory.{IfRefused};
 ghost use Rattle.rpki_text.specs.Lists.{elements, HaveValues, HasFirstFault};
 ghost use Rattle.rpki_as_block.specs.BlockText.{ReadsAsBlock};
-ghost use Rattle.rpki_as_block.specs.BlockPlaces.{AreAsBlocksFrom, IsAfterSpace};
+ghost use Rattle.rpki_as_block.specs.BlockPlaces.{AreAsBlocksFrom, IsAfterSpace, IsEndAt};
 ghost use Rattle.rpki_as_block.specs.declared.block.AsBlock.{AsBlock};
 
 use crate::block::AsBlock;
@@ -25,8 +25,16 @@ fn after_space(text: &[u8], start: usize) -> usize
     }
 }
 
-/// The blocks of a list whose elements all are of the usual form, each with one space before it or none. None where
-/// the text is no such list.
+/// Whether a list ends at the place, behind one space or none.
+fn is_end(text: &[u8], end: usize) -> bool
+    requires { end ≤ length text.now }
+    ensures { IsTrue result ↔ IsEndAt end text.now }
+{
+    after_space(text, end) == text.len()
+}
+
+/// The blocks of a list whose elements all are of the usual form, each with one space before it or none, and the last
+/// with one behind it or none. None where the text is no such list.
 fn usual_blocks<A: Allocator>(alloc: A, text: &[u8]) -> Result<Option<Vec<AsBlock, A>>, AllocError>
     ensures { IfOk result (λ found. MatchOption found ((blocks : List AsBlock) → ¬ AreAsBlocksFrom 0 text.now blocks)
         (λ blocks. HaveValues (λ t b. ReadsAsBlock t (Ok b)) (elements text.now) blocks.items)) }
@@ -39,7 +47,7 @@ fn usual_blocks<A: Allocator>(alloc: A, text: &[u8]) -> Result<Option<Vec<AsBloc
             return Ok(None);
         };
         blocks.push(block)?;
-        if end == text.len() {
+        if is_end(text, end) {
             return Ok(Some(blocks));
         }
         if text[end] != b',' {

@@ -1,6 +1,8 @@
 -- Lists of blocks, read element by element from the front of what is left.
 use Rattle.rpki_ip_block.proofs.Common.{List, [], ap, append-nil, append_assoc, arith, inl, inr, length, length-append, refl, subst, sym, ℕ, ◌++◌, ◌<◌, ◌∙◌, ◌∷◌, ◌≡◌, AddressFamily, IsElement, HaveValues, elements, IsBehindSpace, IsBlockAtFront, HasBlocks, IsElementText, IpBlock}
+use Rattle.std.proofs.Common.{◌⊎◌}
 use Rattle.rpki_text.proofs.ElementLemmas.{IsPartOf, elements_first, elements_last}
+use Rattle.rpki_ip_block.specs.BlockFronts.{IsSpaceOrNothing}
 
 -- blocks that what is left has complete those of the text
 abbrev pub IsSoFar : AddressFamily → List ℕ → List ℕ → List IpBlock → Type 0
@@ -26,12 +28,15 @@ module _ (family : AddressFamily) (left start : List ℕ) (b : IpBlock) (rest : 
       let these : elements left ≡ h.front ∷ elements more = ap elements shape ∙ elements_first part.0 h.front more part.1 is_element in
       subst (HasBlocks family text) (sym (append_assoc blocks (b ∷ []) others)) (so_far (b ∷ others) (subst (λ t. HaveValues (IsElementText family) t (b ∷ others)) (sym these) (h.block, has)))
 
-  -- and one that ends the text is the last
-  pub all_read : (text : List ℕ) (blocks : List IpBlock) → IsSoFar family text left blocks → rest ≡ []
+  -- and one that ends the text, but for a space, is the last
+  pub all_read : (text : List ℕ) (blocks : List IpBlock) → IsSoFar family text left blocks → IsSpaceOrNothing rest
       → HasBlocks family text (blocks ++ b ∷ [])
-  all_read text blocks so_far last =
-      let shape : left ≡ part.0 = part.2 ∙ (ap (λ t. part.0 ++ t) last ∙ append-nil part.0) in
-      let these : elements left ≡ h.front ∷ [] = ap elements shape ∙ elements_last part.0 h.front part.1 is_element in
+  all_read text blocks so_far end =
+      let behind : (left ≡ part.0) ⊎ (left ≡ part.0 ++ 32 ∷ []) = elim end [
+        | inl none ↦ inl (part.2 ∙ (ap (λ t. part.0 ++ t) none ∙ append-nil part.0))
+        | inr space ↦ inr (part.2 ∙ ap (λ t. part.0 ++ t) space)
+      ] in
+      let these : elements left ≡ h.front ∷ [] = elements_last left h.front (part.0, part.1, behind) is_element in
       so_far (b ∷ []) (subst (λ t. HaveValues (IsElementText family) t (b ∷ [])) (sym these) (h.block, tt))
 
   -- less is left behind it

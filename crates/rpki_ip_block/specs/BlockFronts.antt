@@ -1,5 +1,5 @@
 -- Texts that begin with an element of a list of blocks of addresses.
-use Rattle.std.specs.Prelude.{◌≡◌, ℕ, ◌<◌, ◌⊎◌, List, ◌∷◌, ◌++◌, length, Some}
+use Rattle.std.specs.Prelude.{◌≡◌, ℕ, ◌<◌, ◌⊎◌, List, [], ◌∷◌, ◌++◌, length, Some}
 use Rattle.std.specs.Int.{IsInRange}
 use Rattle.std.specs.List.{AllByRecursion}
 use Rattle.std.specs.Str.Parse.{AllDigits}
@@ -33,3 +33,7 @@ IsPrefixBehind first text (Range r) rest = ⊥
 -- rest stands behind a space (32) at the front of the text, or is the whole text
 abbrev pub IsBehindSpace : List ℕ → List ℕ → Type 0
 IsBehindSpace text rest = (rest ≡ text) ⊎ (text ≡ 32 ∷ rest)
+
+-- a space alone, or no byte
+abbrev pub IsSpaceOrNothing : List ℕ → Type 0
+IsSpaceOrNothing text = (text ≡ []) ⊎ (text ≡ 32 ∷ [])

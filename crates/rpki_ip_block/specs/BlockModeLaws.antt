@@ -1,6 +1,6 @@
 -- What the readings of blocks of addresses find in either mode. Readers of lists rest on it.
 use Rattle.std.proofs.Common.{◌≡◌, ℕ, Bool, true, List, Option, Ok, refl, sym, subst, arith, inl, inr}
-use Rattle.rpki_base.specs.DerReading.{SaysByTag, SaysPair}
+use Rattle.rpki_base.specs.DerReading.{SaysByTag}
 use Rattle.rpki_base.proofs.DerModes.{by_tag_tightens, tested_pair_check, tested_pair_tightens}
 use Rattle.rpki_base.proofs.DerReadings.{by_tag_reading, mapped_check}
 use Rattle.rpki_chains.specs.Beyond.{IsBeyond, is_beyond}
@@ -12,7 +12,6 @@ use Rattle.rpki_der.proofs.Readings.{same_reading}
 use Rattle.rpki_der.proofs.Steps.{IsCheck}
 use Rattle.rpki_ip.specs.PrefixDer.{IsStrictContent, prefix_at, prefix_by, prefix_in, prefix_in_by}
 use Rattle.rpki_ip.specs.RangeDer.{IsSpan, range_in, span_of}
-use Rattle.rpki_ip.specs.Ranges.{RangeValue}
 use Rattle.rpki_ip.proofs.DerModes.{IsStrictPrefix, content_tightens, prefix_modal, strict_content_check}
 use Rattle.rpki_ip.proofs.DerReadings.{span_again, span_says}
 use Rattle.rpki_ip_block.specs.BlockModes.{IsNextIpBlock, IsStrictIpBlock, SaysStrictRange}

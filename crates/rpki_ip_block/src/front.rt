@@ -1,7 +1,7 @@
 //! Blocks of the usual form at the front of a text, and lists of such blocks.
-ghost use Rattle.std.specs.Prelude.{◌≡◌, ◌∷◌, IfOk, IfSome};
+ghost use Rattle.std.specs.Prelude.{◌≡◌, ◌∷◌, IfOk, IfSome, IsTrue};
 ghost use Rattle.rpki_ip_block.specs.ListText.{HasBlocks};
-ghost use Rattle.rpki_ip_block.specs.BlockFronts.{IsBlockAtFront, IsRangeBehind, IsPrefixBehind, IsBehindSpace};
+ghost use Rattle.rpki_ip_block.specs.BlockFronts.{IsBlockAtFront, IsRangeBehind, IsPrefixBehind, IsBehindSpace, IsSpaceOrNothing};
 
 use crate::block::IpBlock;
 use rpki_base::addr::IpAddr;
@@ -69,8 +69,16 @@ fn behind_space(text: &[u8]) -> &[u8]
     }
 }
 
-/// The blocks of a list whose elements all are of the usual form, each with one space before it or none. None where
-/// an element is of another form, or is none.
+/// Whether a list ends here, behind one space or none.
+#[inline(always)]
+fn is_end(text: &[u8]) -> bool
+    ensures { IsTrue result → IsSpaceOrNothing text.now }
+{
+    matches!(text, [] | [b' '])
+}
+
+/// The blocks of a list whose elements all are of the usual form, each with one space before it or none, and the last
+/// with one behind it or none. None where an element is of another form, or is none.
 pub(crate) fn usual_blocks<A: Allocator>(
     alloc: A,
     family: AddressFamily,
@@ -86,7 +94,7 @@ pub(crate) fn usual_blocks<A: Allocator>(
             return Ok(None);
         };
         blocks.push(block)?;
-        if rest.is_empty() {
+        if is_end(rest) {
             return Ok(Some(blocks));
         }
         let Some(more) = behind(b',', rest) else {

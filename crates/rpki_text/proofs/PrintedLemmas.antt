@@ -55,6 +55,30 @@ pub trim_spaced : (bs : List ℕ) → AllByRecursion IsShown bs → trim (32 ∷
 unfolding trim_start
 trim_spaced bs h = rw (chars_ascii (32 ∷ bs) (lit< tt, shown_ascii bs h), skip_shown bs h, encodes_ascii bs (shown_ascii bs h)) (trim_end_shown bs h)
 
+-- a space behind them is ASCII too, and is dropped
+spaced_ascii : (bs : List ℕ) → AllByRecursion IsShown bs → AllByRecursion (λ b. b < 128) (bs ++ 32 ∷ [])
+spaced_ascii [] h = (lit< tt, tt)
+spaced_ascii (b ∷ bs) h = (omega (arith, h.0.1), spaced_ascii bs h.1)
+
+drop_spaced : (bs : List ℕ) → AllByRecursion IsShown bs → drop_trailing_whitespace (bs ++ 32 ∷ []) ≡ bs
+drop_spaced [] h = refl
+drop_spaced (b ∷ bs) h = rw (not_white b h.0, drop_spaced bs h.1)
+
+trim_end_spaced : (bs : List ℕ) → AllByRecursion IsShown bs → trim_end (bs ++ 32 ∷ []) ≡ bs
+unfolding trim_end
+trim_end_spaced bs h = rw (chars_ascii (bs ++ 32 ∷ []) (spaced_ascii bs h), drop_spaced bs h) (encodes_ascii bs (shown_ascii bs h))
+
+-- whether one stands before them or not
+pub trim_behind : (bs : List ℕ) → AllByRecursion IsShown bs → 0 < length bs → trim (bs ++ 32 ∷ []) ≡ bs
+unfolding trim_start
+trim_behind [] h some = absurd (omega (arith, some))
+trim_behind (b ∷ bs) h some = rw (chars_ascii (b ∷ bs ++ 32 ∷ []) (spaced_ascii (b ∷ bs) h), not_white b h.0, encodes_ascii (b ∷ bs ++ 32 ∷ []) (spaced_ascii (b ∷ bs) h)) (trim_end_spaced (b ∷ bs) h)
+
+pub trim_between : (bs : List ℕ) → AllByRecursion IsShown bs → 0 < length bs → trim (32 ∷ bs ++ 32 ∷ []) ≡ bs
+unfolding trim_start
+trim_between [] h some = absurd (omega (arith, some))
+trim_between (b ∷ bs) h some = rw (chars_ascii (32 ∷ b ∷ bs ++ 32 ∷ []) (lit< tt, spaced_ascii (b ∷ bs) h), not_white b h.0, encodes_ascii (b ∷ bs ++ 32 ∷ []) (spaced_ascii (b ∷ bs) h)) (trim_end_spaced (b ∷ bs) h)
+
 -- no comma is among them
 pub no_comma : (bs : List ℕ) → AllByRecursion IsShown bs → AllByRecursion (λ b. eqb b comma ≡ false) bs
 no_comma [] h = tt

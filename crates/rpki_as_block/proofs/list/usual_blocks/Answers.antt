@@ -1,15 +1,15 @@
 -- Each block completes those so far, and the last ends the list.
-use Rattle.rpki_as_block.proofs.Common.{arith, length, sym, ◌<◌, ◌∙◌}
+use Rattle.rpki_as_block.proofs.Common.{sym, ◌∙◌, IsEndAt}
 use Rattle.rpki_as_block.proofs.BlockListLemmas.{all_read, first_block, goes_no_further, one_more}
 use Rattle.rpki_as_block.proofs.list.usual_blocks.Goals as goal
 
-pub returns-then-end-text : goal.returns-then-end-text
-returns-then-end-text g c = rw c.in_ok-push.ensures.items (all_read _ _ _ _ _ c.after_space-first.ensures c.in-Some.ensures.found _ c.loop-block.invariant c.if-end-text.true)
+pub returns-then-is_end : goal.returns-then-is_end
+returns-then-is_end g c = rw c.in_ok-push.ensures.items (all_read _ _ _ _ _ c.after_space-first.ensures c.in-Some.ensures.found _ c.loop-block.invariant (c.is_end.ensures.0 c.if-is_end.true))
 
 pub loop-block-preserved : goal.loop-block-preserved
 loop-block-preserved g c =
-    let left : c.in-Some.end < length c.args.text.now = omega (arith, c.if-end-text.false, c.in-Some.ensures.found.within) in
-    rw c.in_ok-push.ensures.items (one_more _ _ _ _ _ c.after_space-first.ensures c.in-Some.ensures.found c.in-Some.ensures.each _ c.loop-block.invariant left c.if-text-end-ne44.false)
+    let not_end : ¬ IsEndAt c.in-Some.end c.args.text.now = λ end. let is = c.is_end.ensures.1 end in let no = c.if-is_end.false in absurd cc in
+    rw c.in_ok-push.ensures.items (one_more _ _ _ _ _ c.after_space-first.ensures c.in-Some.ensures.found c.in-Some.ensures.each _ c.loop-block.invariant not_end c.if-text-end-ne44.false)
 
 pub returns-in_default : goal.returns-in_default
 returns-in_default g c blocks h =
@@ -21,4 +21,5 @@ returns-in_default g c blocks h =
 pub returns-then-text-end-ne44 : goal.returns-then-text-end-ne44
 returns-then-text-end-ne44 g c blocks h =
     let (rest, left) = c.loop-block.invariant.usual blocks h in
-    goes_no_further _ _ _ _ _ rest c.after_space-first.ensures c.in-Some.ensures.each c.if-end-text.false c.if-text-end-ne44.true left
+    let not_end : ¬ IsEndAt c.in-Some.end c.args.text.now = λ end. let is = c.is_end.ensures.1 end in let no = c.if-is_end.false in absurd cc in
+    goes_no_further _ _ _ _ _ rest c.after_space-first.ensures c.in-Some.ensures.each not_end c.if-text-end-ne44.true left

@@ -1,5 +1,5 @@
 -- Between visible ASCII nothing is trimmed.
-use Rattle.rpki_text.proofs.Common.{arith, ◌-◌}
+use Rattle.rpki_text.proofs.Common.{arith}
 use Rattle.rpki_text.proofs.TrimLemmas.{trim_visible}
 use Rattle.rpki_text.proofs.list.trimmed.Goals as goal
 

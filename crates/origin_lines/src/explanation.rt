@@ -65,29 +65,15 @@ pub(crate) fn push_why<A: Allocator, B: Allocator>(
     ensures { OnOk result ((why : List ℕ) × TellsWhy route asn table.now why
         × (string_bytes text.new ≡ string_bytes text.old ++ why)) }
 {
-    see_prefix(route);
+    route.is_lawful();
     let mut last = None;
     for payload in table.covering(route) {
-        see_payload(&payload);
+        payload.0.is_lawful();
+        payload.1.is_lawful();
         push_next(text, route, asn, &last, &payload)?;
         last = Some(payload);
     }
     Ok(())
-}
-
-/// Reads a prefix, so that the proof sees that it is one.
-fn see_prefix(prefix: Prefix)
-    ensures { IsFamilyPrefix prefix }
-{
-    let _len = prefix.len();
-}
-
-/// Reads a payload, so that the proof sees that it is one.
-fn see_payload(payload: &(MaxLenPrefix, Asn))
-    ensures { IsLawfulPayload payload.now }
-{
-    let _number = payload.1.into_u32();
-    let _len = payload.0.prefix().len();
 }
 
 /// Appends to a text a payload that covers a route, and what stands against the route by it: nothing, where it is the

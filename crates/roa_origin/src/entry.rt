@@ -53,7 +53,7 @@ impl Entry {
         ensures payload { IsLawfulPayload payload }
     {
         let (prefix, asn) = payload;
-        let _number = asn.into_u32(); // read so that the proof sees its range
+        asn.is_lawful();
         let len = prefix.prefix().len();
         let max_len = prefix.max_len();
         match prefix.addr() {
@@ -80,7 +80,7 @@ impl Entry {
         ensures asn { result.1 ≡ asn }
         ensures prefix { IsFamilyPrefix route }
     {
-        let _bits = route.len(); // read so that the proof sees that it is a prefix
+        route.is_lawful();
         Entry::new((MaxLenPrefix::from(route), asn))
     }
 

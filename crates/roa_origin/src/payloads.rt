@@ -80,7 +80,7 @@ pub(crate) fn with_greatest_length(payload: &(MaxLenPrefix, Asn)) -> (MaxLenPref
     ensures { result ≡ as_sent payload.now }
 {
     let (prefix, asn) = *payload;
-    let _within = prefix.max_len(); // read so that the proof sees that it is a length of the prefix
+    prefix.is_lawful();
     let max_len = Some(prefix.resolved_max_len());
     (MaxLenPrefix::saturating_new(prefix.prefix(), max_len), asn)
 }

@@ -1,5 +1,5 @@
 //! Addresses of either family, as numbers of 128 bits.
-ghost use Rattle.std.specs.Prelude.{◌≡◌, ◌+◌, ◌-◌, ◌*◌, ◌/◌, ◌^◌};
+ghost use Rattle.std.specs.Prelude.{◌≡◌, ◌<◌, ◌+◌, ◌-◌, ◌*◌, ◌/◌, ◌^◌};
 ghost use Rattle.std.specs.Fmt.{WritesOnOk};
 ghost use Rattle.std.specs.Int.{to_be_bytes, w128};
 ghost use Rattle.rpki_addr.specs.PrintedAddress.{ipv4_text, ipv6_text};
@@ -65,6 +65,13 @@ impl Addr {
         ensures { ReadsIpv6Addr text.now result }
     {
         Ok(Addr::from_v6(Ipv6Addr::from_str(text)?))
+    }
+
+    /// Tells a proof that the number of the address has 128 bits, and does nothing.
+    pub fn is_lawful(self)
+        ensures { self < 2 ^ 128 }
+    {
+        let _number = self.0;
     }
 
     /// The number of the address.

@@ -148,7 +148,7 @@ impl Block for AsBlock {
 
     fn max(&self) -> Asn {
         let max = AsBlock::max(self);
-        let _number = max.into_u32(); // read so that the proof sees that the number has 32 bits
+        max.is_lawful();
         max
     }
 

@@ -110,7 +110,7 @@ impl Block for AsRange {
 
     fn max(&self) -> Asn {
         let max = self.max;
-        let _number = max.into_u32(); // read so that the proof sees that the number has 32 bits
+        max.is_lawful();
         max
     }
 

@@ -47,6 +47,13 @@ impl Asn {
         Asn(value)
     }
 
+    /// Tells a proof that the AS number has 32 bits, and does nothing.
+    pub fn is_lawful(self)
+        ensures { self < 2 ^ 32 }
+    {
+        let _number = self.0;
+    }
+
     /// The value of the AS number.
     pub fn into_u32(self) -> u32
         ensures { result ≡ self }

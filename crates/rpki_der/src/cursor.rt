@@ -22,7 +22,7 @@ pub struct Cursor<'a> {
 }
 
 impl<'a> Cursor<'a> {
-    ghost use Rattle.std.specs.Prelude.{◌≡◌, ◌==◌, true, false, length, option_map, slice_get, IfOk, IfSome};
+    ghost use Rattle.std.specs.Prelude.{◌≡◌, ◌<◌, ◌^◌, ◌==◌, true, false, length, option_map, slice_get, IfOk, IfSome};
     ghost use Rattle.rpki_der.specs.Der.{IsBitString, IsNull, IsOctetString, IsPadded, IsSequence, IsTlv, IsU32, Where};
     ghost use Rattle.rpki_der.specs.Reading.{Gives, bit_string_at, bit_string_by, ended, null_at, optional, tagged_at, u32_at, value_at};
     ghost use Rattle.rpki_der.specs.Views.{Lenient, NotCanonicalOr, ReadsValue, ReadsOptional, Strict, Takes, bit_string_of, is_strict, is_strict_in, left, tlv};
@@ -62,6 +62,13 @@ impl<'a> Cursor<'a> {
         ensures empty { result ≡ (length (left self.now) == 0) }
     {
         self.octets.is_empty()
+    }
+
+    /// Tells a proof that fewer than 2^64 octets are left, and does nothing.
+    pub fn is_lawful(&self)
+        ensures { length (left self.now) < 2 ^ 64 }
+    {
+        let _len = self.octets.len();
     }
 
     /// The octets that are left.

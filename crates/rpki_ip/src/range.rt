@@ -165,8 +165,7 @@ impl Block for AddressRange {
 
     fn max(&self) -> Addr {
         let max = AddressRange::max(self);
-        // Read for what it tells: that the number has 128 bits.
-        let _below = max.to_bits();
+        max.is_lawful();
         max
     }
 

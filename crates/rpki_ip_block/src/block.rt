@@ -37,7 +37,7 @@ impl IpBlock {
         ensures prefix { (p : PrefixValue) → IsPrefix 128 p → prefix_bounds p ≡ pair
             → result ≡ IpBlock.Prefix p }
     {
-        let _number = pair.1.to_bits(); // read so that the proof sees that the number has 128 bits
+        pair.1.is_lawful();
         match AddressRange::from_pair(pair).into_prefix() {
             Ok(prefix) => IpBlock::Prefix(prefix),
             Err(range) => IpBlock::Range(range),
@@ -75,7 +75,7 @@ impl IpBlock {
             IpBlock::Prefix(prefix) => prefix.max(),
             IpBlock::Range(range) => {
                 let max = AddressRange::max(range);
-                let _number = max.to_bits(); // read so that the proof sees that the number has 128 bits
+                max.is_lawful();
                 max
             }
         }
@@ -127,7 +127,7 @@ impl Block for IpBlock {
 
     fn max(&self) -> Addr {
         let max = IpBlock::max(self);
-        let _number = max.to_bits(); // read so that the proof sees that the number has 128 bits
+        max.is_lawful();
         max
     }
 

@@ -4,7 +4,7 @@ ghost use Rattle.std.proofs.Common.{rules};
 ghost use Rattle.std.specs.Cmp.{partial_order_from_own_ties};
 ghost use Rattle.std.specs.Cmp.Rules.{comparing};
 ghost use Rattle.std.specs.Ordering.{as_partial_cmp};
-ghost use Rattle.rpki_prefix.specs.MaxLen.{IsMaxLenOf, HasMaxLenError, saturated, resolved, max_len_cmp, max_len_text, ReadsMaxLen};
+ghost use Rattle.rpki_prefix.specs.MaxLen.{IsMaxLenOf, IsMaxLenPrefix, HasMaxLenError, saturated, resolved, max_len_cmp, max_len_text, ReadsMaxLen};
 ghost use Rattle.rpki_prefix.specs.OrderLaws.{max_len_ties};
 
 use crate::error::{MaxLenError, ParseMaxLenPrefixError};
@@ -92,6 +92,13 @@ impl MaxLenPrefix {
         ensures { result ≡ self.prefix.len }
     {
         self.prefix.len()
+    }
+
+    /// Tells a proof that the greatest length is one of the prefix, and does nothing.
+    pub fn is_lawful(self)
+        ensures { IsMaxLenPrefix self }
+    {
+        let _max_len = self.max_len;
     }
 
     /// The greatest length, if there is one.

@@ -161,6 +161,13 @@ impl Prefix {
         self.addr
     }
 
+    /// Tells a proof that the value is a prefix of its family, and does nothing.
+    pub fn is_lawful(self)
+        ensures { IsFamilyPrefix self }
+    {
+        let _len = self.len;
+    }
+
     /// How many bits the addresses have in common.
     pub fn len(self) -> u8
         ensures value { result ≡ self.len }

@@ -90,7 +90,7 @@ impl AsBlock {
         ensures read_back { (rest : List ℕ)
             → as_block_at (as_block_octets self.now ++ rest) ≡ Ok (self.now, rest) }
     {
-        let _number = AsBlock::max(self).into_u32(); // read so that the proof sees that the number has 32 bits
+        AsBlock::max(self).is_lawful();
         self.put(out)
     }
 }

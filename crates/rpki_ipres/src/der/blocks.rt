@@ -152,7 +152,7 @@ impl<A: Allocator> IpBlocks<A> {
         ensures mode { is_strict cursor.new ≡ is_strict cursor.old }
         ensures short { length (left cursor.old) < 2 ^ 64 }
     {
-        let _len = cursor.rest().len(); // read so that the proof sees that the octets are fewer than 2^64
+        cursor.is_lawful();
         let mut ahead = *cursor;
         let blocks = take_sequence_of(alloc, &IpBlockReader { family }, &mut ahead)?;
         let set = if cursor.is_strict() {

@@ -236,7 +236,7 @@ impl<A: Allocator> IpResources<A> {
         ensures mode { is_strict cursor.new ≡ is_strict cursor.old }
         ensures short { length (left cursor.old) < 2 ^ 64 }
     {
-        let _len = cursor.rest().len(); // read so that the proof sees that the octets are fewer than 2^64
+        cursor.is_lawful();
         let mut ahead = *cursor;
         let listed = take_listed(alloc, &IpBlockReader { family }, &mut ahead)?;
         let choice = make_sets(alloc, listed, cursor.is_strict())?;
@@ -260,7 +260,7 @@ impl<A: Allocator> IpResources<A> {
         ensures mode { is_strict cursor.new ≡ is_strict cursor.old }
         ensures short { length (left cursor.old) < 2 ^ 64 }
     {
-        let _len = cursor.rest().len(); // read so that the proof sees that the octets are fewer than 2^64
+        cursor.is_lawful();
         take_families(&IpResourcesReader { alloc }, cursor)
     }
 }

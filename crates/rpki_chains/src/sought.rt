@@ -1,5 +1,5 @@
 //! Where a chain leaves a much longer one: its blocks are sought there, one by one.
-ghost use Rattle.std.specs.Prelude.{◌≡◌, ℕ, ◌+◌, ◌-◌, ◌*◌, ◌^◌, ◌<◌, ◌≤◌, ◌↔◌, length, IsTrue, IfSome, MatchOption};
+ghost use Rattle.std.specs.Prelude.{◌≡◌, ℕ, ◌+◌, ◌*◌, ◌^◌, ◌<◌, ◌≤◌, ◌↔◌, length, IsTrue, MatchOption};
 ghost use Rattle.rpki_chains.specs.Sets.{IsInside};
 ghost use Rattle.rpki_chains.specs.Overhang.{IsOverhang};
 
@@ -9,7 +9,7 @@ use crate::overhang::Overhang;
 use crate::reads::Reads;
 
 /// Whether a chain is so much longer than another that a search in it for each block of the other, whatever it reads,
-/// reads less than a walk over it.
+/// reads no more than a walk over it.
 pub fn is_far_longer(many: usize, few: usize) -> bool
     ensures { IsTrue result ↔ (64 * few ≤ many) }
 {
@@ -30,10 +30,6 @@ pub fn sought_overhang<T: Block, X: Reads<T>, Y: Reads<T>>(
     ensures own_reads { X.count own.new ≤ X.count own.old + length (X.blocks own.old) }
     ensures other_reads { (digits : ℕ) → length (Y.blocks other.old) < 2 ^ digits →
         Y.count other.new ≤ Y.count other.old + length (X.blocks own.old) * digits }
-    // What comes behind the block at hand wasn't read.
-    ensures own_left { IfSome result (λ o. X.count own.new
-        + (length (X.blocks own.old) - (o.own_at + 1)) ≤
-        X.count own.old + length (X.blocks own.old)) }
 {
     // The length is asked for what its contract tells: that the blocks are a chain.
     let _other_len = other.len();

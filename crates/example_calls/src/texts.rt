@@ -15,7 +15,7 @@ pub fn printed_and_read<A: Allocator + Copy>(
 {
     let shown = set.as_v6();
     let text = format!(in alloc; "{shown}")?;
-    let _blocks = set.iter(); // read so that the proof sees that each number has 128 bits
+    set.is_lawful();
     match IpBlocks::from_str(alloc, text.as_str()) {
         Ok(read) => Ok(read),
         Err(OrMemory::Memory(error)) => Err(error),

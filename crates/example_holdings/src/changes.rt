@@ -32,8 +32,7 @@ fn between<A: Allocator + Copy>(
     ensures changes { IfOk result (AreChanges gets.now had.now) }
     ensures leads { IfOk result (λ changes. LeadsTo had.now changes gets.now) }
 {
-    // read so that the proof sees that each is a set of its kind
-    let (_asn, _ipv4, _ipv6) = (gets.asn(), gets.ipv4(), gets.ipv6());
+    gets.is_lawful();
     laws_of_changes();
     gets.difference(alloc, had)
 }

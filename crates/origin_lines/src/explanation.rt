@@ -1,8 +1,6 @@
 //! What explains the word for a route: the payloads that cover it.
 ghost use Rattle.std.specs.Prelude.{◌≡◌, ◌↔◌, ◌++◌, ℕ, List, IsTrue, OnOk};
 ghost use Rattle.std.specs.String.{string_bytes};
-ghost use Rattle.rpki_prefix.specs.Values.{IsFamilyPrefix};
-ghost use Rattle.roa_origin.specs.Payloads.{IsLawfulPayload};
 ghost use Rattle.roa_origin.specs.Tables.{as_sent};
 ghost use Rattle.origin_lines.specs.Explanations.{IsReason, IsSentAgain, TellsNext, TellsWhy, told_text};
 ghost use Rattle.origin_lines.specs.declared.explanation.Reason.{Reason};

@@ -153,6 +153,13 @@ impl<A: Allocator> AsBlocks<A> {
         count
     }
 
+    /// Tells a proof that the set is one of AS numbers, and does nothing.
+    pub fn is_lawful(&self)
+        ensures { IsAsSet self.now }
+    {
+        let _blocks = self.iter();
+    }
+
     /// The blocks of the set one by one, ascending: its runs, each an Id where it is one number, and else a Range.
     pub fn iter(&self) -> Iter<'_, AsBlock>
         ensures blocks { map as_bounds (iter_rest result) ≡ self.now }

@@ -94,13 +94,20 @@ impl<F: Family, A: Allocator> FamilyBlocks<F, A> {
         }
     }
 
+    /// Tells a proof that the set is one of addresses of the family, and does nothing.
+    pub fn is_lawful(&self)
+        ensures { IsFamilySet F.FAMILY self.now }
+    {
+        let _blocks = self.ip_blocks();
+    }
+
     /// The set as one of addresses of either family.
     pub fn ip_blocks(&self) -> &IpBlocks<A>
         ensures value { result.now ≡ self.now }
         ensures set { IsFamilySet F.FAMILY self.now }
         ensures whole { IsWholeIn F.FAMILY self.now }
     {
-        let _blocks = self.blocks.iter(); // read so that the proof sees that each number has 128 bits
+        self.blocks.is_lawful();
         &self.blocks
     }
 

@@ -127,6 +127,13 @@ impl<A: Allocator> IpBlocks<A> {
         self.set.is_empty()
     }
 
+    /// Tells a proof that the set is one of addresses, and does nothing.
+    pub fn is_lawful(&self)
+        ensures { IsIpSet self.now }
+    {
+        let _blocks = self.iter();
+    }
+
     /// The blocks of the set one by one, ascending: its runs, each a Prefix where it is one, and else a Range.
     pub fn iter(&self) -> Iter<'_, IpBlock>
         ensures blocks { map ip_bounds (iter_rest result) ≡ self.now }

@@ -87,15 +87,22 @@ impl<A: Allocator> ResourceSet<A> {
         ResourceSet::of_three(asn, ipv4, self.ipv6.clone())
     }
 
+    /// Tells a proof that there is a set of each kind, and does nothing.
+    pub fn is_lawful(&self)
+        ensures { IsTriple self.now }
+    {
+        self.asn.is_lawful();
+        self.ipv4.is_lawful();
+        self.ipv6.is_lawful();
+    }
+
     /// Whether there are no resources of any kind.
     pub fn is_empty(&self) -> bool
         ensures value { result ≡ is_no_triple self.now }
         ensures none { IsTrue result ↔ (self.now ≡ no_resources) }
         ensures kinds { IsTriple self.now }
     {
-        let _asn = self.asn(); // read, like those below, so that the proof sees what the numbers are
-        let _ipv4 = self.ipv4();
-        let _ipv6 = self.ipv6();
+        self.is_lawful();
         self.asn.is_empty() && self.ipv4.is_empty() && self.ipv6.is_empty()
     }
 
@@ -125,7 +132,7 @@ impl<A: Allocator> ResourceSet<A> {
         ensures value { result.now ≡ self.now.asn }
         ensures set { IsAsSet self.now.asn }
     {
-        let _blocks = self.asn.iter(); // read so that the proof sees that each number is one of an AS
+        self.asn.is_lawful();
         &self.asn
     }
 
@@ -134,7 +141,7 @@ impl<A: Allocator> ResourceSet<A> {
         ensures value { result.now ≡ self.now.ipv4 }
         ensures set { IsFamilySet Ipv4 self.now.ipv4 }
     {
-        let _blocks = self.ipv4.ip_blocks(); // read so that the proof sees that the addresses are whole
+        self.ipv4.is_lawful();
         &self.ipv4
     }
 
@@ -143,7 +150,7 @@ impl<A: Allocator> ResourceSet<A> {
         ensures value { result.now ≡ self.now.ipv6 }
         ensures set { IsFamilySet Ipv6 self.now.ipv6 }
     {
-        let _blocks = self.ipv6.ip_blocks(); // read so that the proof sees that each number has 128 bits
+        self.ipv6.is_lawful();
         &self.ipv6
     }
 

@@ -17,7 +17,7 @@ pub fn printed_and_read<A: Allocator + Copy>(
     ensures { IfOk result (λ read. read ≡ set.now) }
 {
     let text = format!(in alloc; "{set}")?;
-    let _blocks = set.iter();
+    set.is_lawful();
     match AsBlocks::from_str(alloc, text.as_str()) {
         Ok(read) => Ok(read),
         Err(OrMemory::Memory(error)) => Err(error),

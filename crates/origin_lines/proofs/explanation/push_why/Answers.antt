@@ -19,7 +19,7 @@ loop-payload-preserved g c =
     let cut : all ≡ done ++ x ∷ rest =
     sym c.into_iter-payload-iterator.ensures.into_iter_gives ∙ walked _ done c.loop-payload.payload-iterator c.loop-payload.yielded_by ∙ ap (λ left. done ++ left) c.in-Some.ensures.steps in (
       had.0 ++ next.0,
-      told_next c.args.route c.is_lawful.ensures c.args.asn c.args.table.now all done rest x (record { prefix = c.is_lawful-in-loop-payload.ensures; number = c.is_lawful-2.ensures }) covering.covering covering.longest_first covering.order cut
+      told_next c.args.route c.is_lawful.ensures c.args.asn c.args.table.now all done rest x (record { prefix = c.is_lawful-in-loop-payload.ensures; number = c.is_lawful-in-loop-payload-2.ensures }) covering.covering covering.longest_first covering.order cut
           c.loop-payload.last had.0 next.0 had.1 next.1,
       next.2 ∙ ap (λ t. t ++ next.0) had.2 ∙ append_assoc _ had.0 next.0,
     )

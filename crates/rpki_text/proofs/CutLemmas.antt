@@ -1,5 +1,6 @@
 -- On texts cut at a byte: a text without the byte isn't cut, and a text is cut in one way.
-use Rattle.rpki_text.proofs.Common.{List, [], arith, length, refl, subst, suc, ℕ, ◌++◌, ◌∷◌, ◌≡◌}
+use Rattle.rpki_text.proofs.Common.{List, [], ap, drop, sym, ◌∙◌, arith, length, refl, subst, suc, ℕ, ◌++◌, ◌∷◌, ◌≡◌}
+use Rattle.std.proofs.lemmas.List.{drop_at}
 use Rattle.rpki_text.specs.Cuts.{HasNo, IsCutAt, Around}
 
 byte_apart : (b : ℕ) (left right : List ℕ) → HasNo b (left ++ b ∷ right) → ⊥
@@ -31,7 +32,5 @@ around_at b text left right P cut h = grind (arith, one_cut)
 
 -- fronts of one length leave the same rest
 pub same_rest : (xs ys rest other : List ℕ) → length xs ≡ length ys → xs ++ rest ≡ ys ++ other → rest ≡ other
-same_rest [] [] rest other l e = e
-same_rest [] (y ∷ ys) rest other l e = absurd (omega (arith, l))
-same_rest (x ∷ xs) [] rest other l e = absurd (omega (arith, l))
-same_rest (x ∷ xs) (y ∷ ys) rest other l e = let tail : xs ++ rest ≡ ys ++ other = cc in same_rest xs ys rest other (omega (arith, l)) tail
+same_rest xs ys rest other l e =
+    sym (drop_at xs rest (length xs) refl) ∙ ap (λ t. drop (length xs) t) e ∙ drop_at ys other (length xs) (sym l)

@@ -26,7 +26,7 @@ module _ (base : ℕ) (some : 0 < base) where
   last_digits_below zero n = tt
   last_digits_below (suc k) n = below_push (last_digits base k (n / base)) (n % base) (last_digits_below k (n / base)) (mod_below n base some)
 
-  each_below : (xs : List ℕ) → AllByRecursion (λ x. x < base) xs → (k : ℕ) → get_or xs k 0 < base
+  pub each_below : (xs : List ℕ) → AllByRecursion (λ x. x < base) xs → (k : ℕ) → get_or xs k 0 < base
   each_below [] h k = some
   each_below (x ∷ xs) h k = let later = each_below xs h.1 in elim k as (λ j. get_or (x ∷ xs) j 0 < base) [ zero ↦ h.0 | suc j ↦ later j ]
 

@@ -1,5 +1,9 @@
 -- Texts of lists: their elements one by one, and their one list of values or first fault.
-use Rattle.rpki_text.proofs.Common.{Bool, List, MatchResult, Result, [], add-one, ap, arith, cond, drop, eqb, get_or, length, ltb, refl, subst, sym, take, true, ℕ, ◌++◌, ◌+◌, ◌<◌, ◌∙◌, ◌∷◌, ◌≡◌, drop-cons, lt-ltb, take-append-drop, slice_split, trim, HasFirstFault, HaveValues, comma, elements, kept, AnswersOrMemory}
+use Rattle.rpki_text.proofs.Common.{map, map-append, List, MatchResult, Result, [], ap, arith, drop, eqb, get_or, length, ltb, refl, subst, sym, take, true, ℕ, ◌++◌, ◌+◌, ◌<◌, ◌∙◌, ◌∷◌, ◌≡◌, lt-ltb, take-append-drop, slice_split, trim, HasFirstFault, HaveValues, comma, elements, kept, AnswersOrMemory}
+use Rattle.std.proofs.Common.{rules}
+use Rattle.std.proofs.lemmas.List.{drop_more}
+use Rattle.std.proofs.lemmas.List.Elements.{filter-append}
+use Rattle.std.specs.Prelude.{nat_lt}
 use Rattle.rpki_text.specs.declared.memory.OrMemory.{OrMemory}
 use Rattle.rpki_text.specs.Memory.{IfRefused}
 
@@ -15,30 +19,25 @@ module _ {A : Type 0} (Has : List ℕ → A → Type 0) where
       → HaveValues Has more others → HaveValues Has (texts ++ more) (values ++ others)
   HaveValues-append [] more [] others h k = k
   HaveValues-append (t ∷ texts) more (v ∷ values) others h k = (h.0, HaveValues-append texts more values others h.1 k)
-  HaveValues-append [] more (v ∷ values) others h k = absurd h
-  HaveValues-append (t ∷ texts) more [] others h k = absurd h
+  HaveValues-append texts more values others h k = absurd h
 
   -- texts have one list of values, if each has one value
   pub HaveValues-one : ((t : List ℕ) (a b : A) → Has t a → Has t b → a ≡ b)
       → (texts : List (List ℕ)) (values others : List A) → HaveValues Has texts values → HaveValues Has texts others
       → values ≡ others
   HaveValues-one one [] [] [] h k = refl
-  HaveValues-one one [] [] (w ∷ others) h k = absurd k
-  HaveValues-one one [] (v ∷ values) others h k = absurd h
-  HaveValues-one one (t ∷ texts) [] others h k = absurd h
-  HaveValues-one one (t ∷ texts) (v ∷ values) [] h k = absurd k
   HaveValues-one one (t ∷ texts) (v ∷ values) (w ∷ others) h k =
       let first = one t v w h.0 k.0 in
       let rest = HaveValues-one one texts values others h.1 k.1 in
       cc
+  HaveValues-one one texts values others h k = absurd (search rules)
 
   -- a text among others has a value too
   HaveValues-at : (front : List (List ℕ)) (bad : List ℕ) (rest : List (List ℕ)) (values : List A)
       → HaveValues Has (front ++ bad ∷ rest) values → (a : A) × Has bad a
-  HaveValues-at [] bad rest [] h = absurd h
   HaveValues-at [] bad rest (v ∷ values) h = (v, h.0)
-  HaveValues-at (t ∷ front) bad rest [] h = absurd h
   HaveValues-at (t ∷ front) bad rest (v ∷ values) h = HaveValues-at front bad rest values h.1
+  HaveValues-at front bad rest values h = absurd h
 
   module _ {E : Type 0} (Fails : List ℕ → E → Type 0) (apart : (t : List ℕ) (a : A) (e : E) → Has t a → Fails t e → ⊥) where
     -- not all have values where one has a fault
@@ -55,50 +54,37 @@ module _ {A : Type 0} (Has : List ℕ → A → Type 0) where
         → HaveValues Has others more_values → Fails bad d → Fails worse e → front ++ bad ∷ rest ≡ others ++ worse ∷ more
         → d ≡ e
     one_first_fault [] bad rest [] worse more values vs d e same h k f g is = let first : bad ≡ worse = cc in same worse d e (subst (λ t. Fails t d) first f) g
-    one_first_fault [] bad rest (t ∷ others) worse more values [] d e same h k f g is = absurd k
     one_first_fault [] bad rest (t ∷ others) worse more values (v ∷ vs) d e same h k f g is = let first : t ≡ bad = cc in absurd (apart bad v d (subst (λ t. Has t v) first k.0) f)
-    one_first_fault (t ∷ front) bad rest [] worse more [] vs d e same h k f g is = absurd h
     one_first_fault (t ∷ front) bad rest [] worse more (v ∷ values) vs d e same h k f g is = let first : t ≡ worse = cc in absurd (apart worse v e (subst (λ t. Has t v) first h.0) g)
-    one_first_fault (t ∷ front) bad rest (u ∷ others) worse more [] vs d e same h k f g is = absurd h
-    one_first_fault (t ∷ front) bad rest (u ∷ others) worse more (v ∷ values) [] d e same h k f g is = absurd k
     one_first_fault (t ∷ front) bad rest (u ∷ others) worse more (v ∷ values) (w ∷ vs) d e same h k f g is =
         let tail : front ++ bad ∷ rest ≡ others ++ worse ∷ more = cc in
         one_first_fault front bad rest others worse more values vs d e same h.1 k.1 f g tail
+    one_first_fault front bad rest others worse more values vs d e same h k f g is = absurd (search rules)
 
     -- so there is one first fault
     pub same_first_fault : ((t : List ℕ) (d e : E) → Fails t d → Fails t e → d ≡ e) → (texts : List (List ℕ)) (d e : E)
         → HasFirstFault Has Fails texts d → HasFirstFault Has Fails texts e → d ≡ e
     same_first_fault same texts d e f g = one_first_fault f.front f.bad f.rest g.front g.bad g.rest f.values g.values d e same f.before g.before f.fault g.fault (sym f.split ∙ g.split)
 
--- a first part that is kept or not, before two lists
-cond-append : (b : Bool) (t : List ℕ) (whole front back : List (List ℕ)) → whole ≡ front ++ back
-    → cond b (t ∷ whole) whole ≡ cond b (t ∷ front) front ++ back
-cond-append b t whole front back e = grind (arith)
-
 -- what is kept of two lists of parts
 pub kept-append : (xs ys : List (List ℕ)) → kept (xs ++ ys) ≡ kept xs ++ kept ys
-kept-append [] ys = refl
-kept-append (x ∷ xs) ys = cond-append (ltb 0 (length (trim x))) (trim x) (kept (xs ++ ys)) (kept xs) (kept ys) (kept-append xs ys)
+kept-append xs ys = rw (map-append trim xs ys) (filter-append (λ part. nat_lt 0 (length part)) (map trim xs) (map trim ys))
 
 -- a part that isn't white space alone is kept
 pub kept_one : (part : List ℕ) → (length (trim part) ≡ 0 → ⊥) → kept (part ∷ []) ≡ trim part ∷ []
 kept_one part some = let is : ltb 0 (length (trim part)) ≡ true = lt-ltb 0 (length (trim part)) (omega (arith, some)) in rw is
 
--- the parts, cut round one of them
-pub parts_at : (parts : List (List ℕ)) (i : ℕ) (d : List ℕ) → i < length parts
+-- a list, cut round one of its places
+pub parts_at : {X : Type 0} → (parts : List X) (i : ℕ) (d : X) → i < length parts
     → parts ≡ take i parts ++ get_or parts i d ∷ drop (i + 1) parts
-parts_at parts i d l = sym (take-append-drop i parts) ∙ ap (λ t. take i parts ++ t) (rw add-one (drop-cons parts i d l))
+parts_at parts i d l = sym (take-append-drop i parts) ∙ ap (λ t. take i parts ++ t) (drop_more parts i d l)
 
 -- what is kept of all parts, round one that is kept
 pub kept_at : (parts : List (List ℕ)) (i : ℕ) (part : List ℕ) → i < length parts → part ≡ get_or parts i part
     → (length (trim part) ≡ 0 → ⊥) → kept parts ≡ kept (take i parts) ++ trim part ∷ kept (drop (i + 1) parts)
 kept_at parts i part l is some =
-    ap kept (parts_at parts i part l)
-    ∙ kept-append (take i parts) (get_or parts i part ∷ drop (i + 1) parts)
-    ∙ ap (λ t. kept (take i parts) ++ t) (
-    ap (λ p. kept (p ∷ drop (i + 1) parts)) (sym is)
-    ∙ kept-append (part ∷ []) (drop (i + 1) parts)
-    ∙ ap (λ t. t ++ kept (drop (i + 1) parts)) (kept_one part some))
+    let own : parts ≡ take i parts ++ part ∷ drop (i + 1) parts = rw (← is) at (parts_at parts i part l) in
+    ap kept own ∙ rw (kept-append (take i parts) (part ∷ drop (i + 1) parts), lt-ltb 0 (length (trim part)) (omega (arith, some))) refl
 
 -- the elements, as defined
 pub elements_are : (text : List ℕ) → elements text ≡ kept (slice_split (λ b. eqb b comma) text)
@@ -133,9 +119,8 @@ module _ {A E : Type 0} (Gives Has : List ℕ → A → Type 0) (Refuses Fails :
   pub HaveValues-weaker : (texts : List (List ℕ)) (values : List A) → HaveValues Gives texts values
       → HaveValues Has texts values
   HaveValues-weaker [] [] h = tt
-  HaveValues-weaker [] (v ∷ values) h = absurd h
-  HaveValues-weaker (t ∷ texts) [] h = absurd h
   HaveValues-weaker (t ∷ texts) (v ∷ values) h = (has t v h.0, HaveValues-weaker texts values h.1)
+  HaveValues-weaker texts values h = absurd h
 
   -- of the first fault
   HasFirstFault-weaker : (texts : List (List ℕ)) (e : E) → HasFirstFault Gives Refuses texts e

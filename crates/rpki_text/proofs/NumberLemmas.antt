@@ -1,44 +1,19 @@
 -- Number texts: each has one value or one fault, and a scan from the left finds it.
-use Rattle.rpki_text.proofs.Common.{List, MatchResult, Result, [], add-one, ap, arith, drop, get_or, length, length-drop, refl, subst, sym, take, ℕ, ◌*◌, ◌++◌, ◌+◌, ◌-◌, ◌<◌, ◌^◌, ◌∙◌, ◌∷◌, ◌≡◌, ◌≢◌, ◌≤◌, ◌⊎◌, pow-le-pow_right, drop-cons, cases_lt, digits_value-lt, digits_value_more, get_or-drop, length-take, take-append-drop, take_more, digit_value_digit, digit_from_value, digit_value, IsInRange, AllDigits, digits_value, digits_value_after, without_leading_plus, AreDigitsBetween, DigitsFail, HasInvalidDigit, HasNumberFault, IsNumberText, IsValueUpTo, PassesLimit, StopsBelow, Answers}
+use Rattle.rpki_text.proofs.Common.{map, map-append, List, MatchResult, Result, [], ap, arith, drop, get_or, length, length-drop, refl, subst, sym, take, ℕ, ◌*◌, ◌++◌, ◌+◌, ◌-◌, ◌<◌, ◌^◌, ◌∙◌, ◌∷◌, ◌≡◌, ◌≢◌, ◌≤◌, ◌⊎◌, pow-le-pow_right, cases_lt, digits_value-lt, digits_value_more, get_or-drop, length-take, take-append-drop, digit_value_digit, digit_from_value, digit_value, IsInRange, AllDigits, digits_value, without_leading_plus, AreDigitsBetween, DigitsFail, HasInvalidDigit, HasNumberFault, IsNumberText, IsValueUpTo, PassesLimit, StopsBelow, Answers}
+use Rattle.std.proofs.NetLemmas.Numbers.{digit_count-append, digit_count_none}
+use Rattle.std.proofs.lemmas.Int.Digits.{digits_more, digits_value_is, number_after_append, number_after_ge}
+use Rattle.std.proofs.lemmas.List.{nil_from_length, take-append-le, take_at}
+use Rattle.std.specs.Int.Digits.{number_from_digits}
+use Rattle.std.specs.Net.Reader.{digit_count}
 use Rattle.rpki_text.specs.declared.number.ParseIntError.{ParseIntError}
 use Rattle.rpki_text.proofs.ReadingLemmas.{Answers-from_found}
 
--- digits and one digit more
-pub AllDigits-push : (xs : List ℕ) (c : ℕ) → AllDigits 10 xs → digit_value c < 10 → AllDigits 10 (xs ++ c ∷ [])
-AllDigits-push [] c h l = (l, tt)
-AllDigits-push (x ∷ xs) c h l = (h.0, AllDigits-push xs c h.1 l)
-
--- digits that follow never lessen the value
-value_after_grows : (m n : ℕ) (ds : List ℕ) → m ≤ n → m ≤ digits_value_after 10 n ds
-value_after_grows m n [] h = h
-value_after_grows m n (c ∷ cs) h = value_after_grows m (n * 10 + digit_value c) cs (omega arith)
-
--- digits in two parts
-value_after_append : (n : ℕ) (xs ys : List ℕ)
-    → digits_value_after 10 n (xs ++ ys) ≡ digits_value_after 10 (digits_value_after 10 n xs) ys
-value_after_append n [] ys = refl
-value_after_append n (x ∷ xs) ys = value_after_append (n * 10 + digit_value x) xs ys
-
 -- a beginning of digits writes no more than all of them
 value_front : (xs ys : List ℕ) → digits_value 10 xs ≤ digits_value 10 (xs ++ ys)
-value_front xs ys = rw (value_after_append 0 xs ys) (value_after_grows (digits_value 10 xs) (digits_value 10 xs) ys (omega arith))
-
--- two cuts of one list: the first front begins the second, or reaches past it
-data Meets (xs ys : List ℕ) (c : ℕ) : Type 0 where
-  begins : (more : List ℕ) → ys ≡ xs ++ more → Meets xs ys c
-  beyond : (more : List ℕ) → xs ≡ ys ++ c ∷ more → Meets xs ys c
-
--- one of the two is so
-meet : (xs zs ys ws : List ℕ) (c : ℕ) → xs ++ zs ≡ ys ++ c ∷ ws → Meets xs ys c
-meet [] zs ys ws c e = begins ys refl
-meet (x ∷ xs) zs [] ws c e = let same : x ≡ c = cc in beyond xs (ap (λ d. d ∷ xs) same)
-meet (x ∷ xs) zs (y ∷ ys) ws c e =
-    let same : x ≡ y = cc in
-    let rest : xs ++ zs ≡ ys ++ c ∷ ws = cc in
-    elim (meet xs zs ys ws c rest) [
-      | begins more f ↦ begins more (ap (λ d. d ∷ ys) (sym same) ∙ ap (λ l. x ∷ l) f)
-      | beyond more f ↦ beyond more (ap (λ d. d ∷ xs) same ∙ ap (λ l. y ∷ l) f)
-    ]
+value_front xs ys =
+    let front = map digit_value xs in
+    rw (digits_value_is 10 (xs ++ ys), digits_value_is 10 xs, map-append digit_value xs ys, number_after_append 10 0 front (map digit_value ys))
+    (number_after_ge 10 (number_from_digits 10 front) (map digit_value ys) (omega arith))
 
 -- all digits have no other byte among them
 no_digit_behind : (ys : List ℕ) (c : ℕ) (ws : List ℕ) → AllDigits 10 (ys ++ c ∷ ws) → 10 ≤ digit_value c → ⊥
@@ -46,8 +21,16 @@ no_digit_behind [] c ws h l = omega (arith, h.0)
 no_digit_behind (y ∷ ys) c ws h l = no_digit_behind ys c ws h.1 l
 
 -- digits that stop at or below the limit have no beginning above it
-pub StopsBelow-not_above : (limit : ℕ) (ds : List ℕ) → StopsBelow limit ds → PassesLimit limit ds → ⊥
-StopsBelow-not_above limit ds s p = grind (arith, meet, no_digit_behind, value_front)
+StopsBelow-not_above : (limit : ℕ) (ds : List ℕ) → StopsBelow limit ds → PassesLimit limit ds → ⊥
+StopsBelow-not_above limit ds s p =
+    let n = length p.front in
+    let count = digit_count-append 10 p.front p.rest p.all_digits in
+    let whole = digit_count-append 10 s.front (s.byte ∷ s.rest) s.value.all_digits in
+    let stops = digit_count_none 10 (s.byte ∷ s.rest) s.not_digit in
+    let short : n ≤ length s.front = omega (arith, count, whole, stops, ap (digit_count 10) (sym p.split ∙ s.split)) in
+    let same : p.front ≡ take n s.front = sym (take_at p.front p.rest n refl) ∙ ap (λ t. take n t) (sym p.split ∙ s.split) ∙ take-append-le n s.front (s.byte ∷ s.rest) short in
+    let most = rw (take-append-drop n s.front, ← same) at (value_front (take n s.front) (drop n s.front)) in
+    omega (arith, most, s.value.within, p.above)
 
 -- nor are all bytes digits then
 pub StopsBelow-no_numeral : (limit : ℕ) (ds : List ℕ) → StopsBelow limit ds → AllDigits 10 ds → ⊥
@@ -96,10 +79,6 @@ text_from_digits limit text r some more h = grind (arith, StopsBelow-no_numeral,
 pub value_of_other : (b : ℕ) → (b < 48) ⊎ (57 < b) → 10 ≤ digit_value b
 value_of_other b other = grind (arith, cases_lt, digit_from_value)
 
--- a list, cut round one of its places
-pub split_at : (xs : List ℕ) (i : ℕ) → i < length xs → xs ≡ take i xs ++ get_or xs i 0 ∷ drop (i + 1) xs
-split_at xs i l = sym (take-append-drop i xs) ∙ ap (λ t. take i xs ++ t) (rw add-one (drop-cons xs i 0 l))
-
 -- one more digit, which stands for n, behind digits of that value
 module _ (limit value n : ℕ) (ds : List ℕ) (i : ℕ) (here : i < length ds) (digit : IsInRange 48 57 (get_or ds i 0)) (is : n ≡ get_or ds i 0 - 48) (sofar : IsValueUpTo limit (take i ds) value) where
   -- the digit's value
@@ -107,8 +86,8 @@ module _ (limit value n : ℕ) (ds : List ℕ) (i : ℕ) (here : i < length ds) 
   digit_is = omega (arith, digit_value_digit (get_or ds i 0) digit)
 
   -- all are digits still
-  digits_more : AllDigits 10 (take (i + 1) ds)
-  digits_more = rw (take_more ds i 0 here) (AllDigits-push _ _ sofar.all_digits (omega (arith, digit_value_digit (get_or ds i 0) digit)))
+  all_more : AllDigits 10 (take (i + 1) ds)
+  all_more = digits_more 10 ds i here sofar.all_digits (omega (arith, digit_value_digit (get_or ds i 0) digit))
 
   -- their value
   value_is : digits_value 10 (take (i + 1) ds) ≡ value * 10 + n
@@ -116,7 +95,7 @@ module _ (limit value n : ℕ) (ds : List ℕ) (i : ℕ) (here : i < length ds) 
 
   -- where that is within the limit
   pub value_more : value * 10 + n ≤ limit → IsValueUpTo limit (take (i + 1) ds) (value * 10 + n)
-  value_more fits = record { all_digits = digits_more; value = value_is; within = fits }
+  value_more fits = record { all_digits = all_more; value = value_is; within = fits }
 
   -- and where it isn't
   pub value_passes : limit < value * 10 + n → PassesLimit limit ds
@@ -124,14 +103,9 @@ module _ (limit value n : ℕ) (ds : List ℕ) (i : ℕ) (here : i < length ds) 
     front = take (i + 1) ds;
     rest = drop (i + 1) ds;
     split = sym (take-append-drop (i + 1) ds);
-    all_digits = digits_more;
+    all_digits = all_more;
     above = rw value_is above;
   }
-
--- a text without bytes is empty
-pub no_text : (text : List ℕ) → length text ≡ 0 → text ≡ []
-no_text [] e = refl
-no_text (x ∷ xs) e = absurd (omega (arith, e))
 
 -- a plus with no digits behind it
 pub no_digits : (limit : ℕ) (text : List ℕ) → text ≢ [] → length (without_leading_plus text) ≡ 0
@@ -139,7 +113,7 @@ pub no_digits : (limit : ℕ) (text : List ℕ) → text ≢ [] → length (with
 no_digits limit text some none = record {
   some_text = some;
   no_number = λ n h. omega (arith, h.digits.0);
-  not_above = λ p. none_above limit (without_leading_plus text) (no_text _ none) p;
+  not_above = λ p. none_above limit (without_leading_plus text) (nil_from_length _ none) p;
 }
 
 -- fewer than ten digits write a number below 10 ^ 9

@@ -1,10 +1,11 @@
 -- No text, a plus alone, or what the digits give.
 use Rattle.rpki_text.proofs.Common.{ap, arith, length, sym, ◌<◌, ◌∙◌, ◌≡◌, eqb-false, eqb-true, without_leading_plus}
-use Rattle.rpki_text.proofs.NumberLemmas.{number_answers, text_from_digits, no_text, no_digits}
+use Rattle.rpki_text.proofs.NumberLemmas.{number_answers, text_from_digits, no_digits}
+use Rattle.std.proofs.lemmas.List.{nil_from_length}
 use Rattle.rpki_text.proofs.number.parse_up_to.Goals as goal
 
 pub returns-then-is_empty : goal.returns-then-is_empty
-returns-then-is_empty c = number_answers _ _ _ (no_text _ (eqb-true _ _ (sym c.is_empty.ensures ∙ c.if-is_empty.true)))
+returns-then-is_empty c = number_answers _ _ _ (nil_from_length _ (eqb-true _ _ (sym c.is_empty.ensures ∙ c.if-is_empty.true)))
 
 pub returns-then-is_empty-2 : goal.returns-then-is_empty-2
 returns-then-is_empty-2 c =

@@ -1,6 +1,7 @@
 -- One more digit adds to the value, passes the limit, or is no digit.
 use Rattle.rpki_text.proofs.Common.{arith, drop, get_or, refl, take, ◌+◌}
-use Rattle.rpki_text.proofs.NumberLemmas.{value_more, value_passes, value_of_other, split_at}
+use Rattle.rpki_text.proofs.NumberLemmas.{value_more, value_passes, value_of_other}
+use Rattle.rpki_text.proofs.ListLemmas.{parts_at}
 use Rattle.rpki_text.proofs.number.read_digits.Goals as goal
 
 pub returns-then-not-is_ascii_digit : goal.returns-then-not-is_ascii_digit
@@ -10,7 +11,7 @@ returns-then-not-is_ascii_digit c =
       front = take c.loop-byte.byte-index c.args.digits.now;
       byte = get_or c.args.digits.now c.loop-byte.byte-index 0;
       rest = drop (c.loop-byte.byte-index + 1) c.args.digits.now;
-      split = split_at _ _ c.loop-byte-test.true;
+      split = parts_at _ _ 0 c.loop-byte-test.true;
       value = record { all_digits = inv.all_digits; value = refl; within = omega (arith, inv.value, inv.within) };
       not_digit = value_of_other _ c.if-not-is_ascii_digit.ensures.cases;
     }

@@ -1,5 +1,5 @@
 -- A printed address has digits, the letters `a` to `f`, dots and colons, so neither a slash nor a dash nor a comma.
-use Rattle.rpki_addr.proofs.Common.{List, [], arith, codes, drop, get_or, inl, inr, lit<, lit≤, subst, suc, take, zero, ℕ, ◌++◌, ◌<◌, ◌^◌, ◌∷◌, ◌≡◌, ◌≢◌, ◌⊎◌, All-hex_groups_text, All-ipv4_text, IsDigitOrDot, AllSegments, AllSegments-drop, cond_both, All-append, All-from_recursion, All-weaker, IsInRange, All, bytes_eq, last_digit_below, groups_of, octets_of, ip_text, ipv4_text, ipv6_text, IpAddr}
+use Rattle.rpki_addr.proofs.Common.{rules, List, [], arith, codes, drop, get_or, inl, inr, lit<, subst, suc, take, zero, ℕ, ◌++◌, ◌<◌, ◌^◌, ◌∷◌, ◌≡◌, ◌≢◌, ◌⊎◌, All-hex_groups_text, All-ipv4_text, IsDigitOrDot, AllSegments, AllSegments-drop, cond_both, All-append, All-from_recursion, All-weaker, IsInRange, All, bytes_eq, last_digit_below, groups_of, octets_of, ip_text, ipv4_text, ipv6_text, IpAddr}
 use Rattle.std.specs.Net.Addr.{octets_of as net_octets_of}
 use Rattle.std.specs.Net.Text as std
 use Rattle.rpki_text.specs.Cuts.{HasNo, slash, dash}
@@ -25,14 +25,8 @@ octet_below (s ∷ xs) h (suc zero) = let l = h 0 in omega (arith, l)
 octet_below (s ∷ xs) h (suc (suc k)) = octet_below xs (λ j. h (suc j)) k
 
 -- the bytes in front of a mapped address
-colon_byte : IsAddressByte 58
-colon_byte = inr (inl (lit≤ tt, lit≤ tt))
-
-f_byte : IsAddressByte 102
-f_byte = inr (inr (lit≤ tt, lit≤ tt))
-
 mapped : All IsAddressByte (codes "::ffff:")
-mapped = All-from_recursion IsAddressByte (58 ∷ 58 ∷ 102 ∷ 102 ∷ 102 ∷ 102 ∷ 58 ∷ []) (colon_byte, (colon_byte, (f_byte, (f_byte, (f_byte, (f_byte, (colon_byte, tt)))))))
+mapped = All-from_recursion IsAddressByte (codes "::ffff:") (search rules)
 
 -- groups, printed
 group_bytes : (groups : List ℕ) → AllSegments groups → All IsAddressByte (std.ipv6_text groups)

@@ -1,67 +1,86 @@
--- Texts that begin with an address: what std's readers find at their front, and of which bytes an address is made.
-use Rattle.rpki_addr.proofs.Common.{List, None, Option, Some, ap, option_map, subst, sym, ℕ, ◌∙◌, ◌≡◌, read_ipv4_complete, read_ipv4_sound, read_ipv6_complete, read_ipv6_sound, same_parts, none-some, same_Some, read_ipv4, read_ipv6, from_groups, from_octets, with_number, with_octets, IsIpv4Text, IsIpv6Text}
+-- Texts that begin with an address or are one: what std's readers find in them, as the number of the address.
+use Rattle.rpki_addr.proofs.Common.{List, None, Some, [], ap, append-nil, arith, lit≤, option_map, refl, subst, sym, ℕ, ◌++◌, ◌∙◌, ◌≡◌, read_ipv4_complete, read_ipv4_sound, read_ipv6_complete, read_ipv6_sound, same_parts, none-some, same_Some, Read, read_ipv4, read_ipv6, whole_value, from_groups, from_octets, with_number, with_octets, IsIpv4Text, IsIpv6Text}
+use Rattle.std.proofs.lemmas.List.{nil_from_length}
 use Rattle.rpki_addr.specs.AddressFronts.{IsAtFront, EndsIpv4, EndsIpv6}
 use Rattle.rpki_addr.proofs.AddressLemmas.{IsDotted-ipv4, IsIpv4Text-dotted, IsColonHex-groups, IsGroupsText-colon_hex}
 
 -- what was read, as a number
-as_number : (f : List ℕ → ℕ) → Option (List ℕ × List ℕ) → Option (ℕ × List ℕ)
-as_number f r = option_map (λ (p : List ℕ × List ℕ). (f p.0, p.1)) r
+abbrev pub numbered_by : (List ℕ → ℕ) → Read (List ℕ) → Read ℕ
+numbered_by f r = option_map (λ (p : List ℕ × List ℕ). (f p.0, p.1)) r
 
--- a number that was read is that of what std's reader read
-seen_some : (f : List ℕ → ℕ) (r : Option (List ℕ × List ℕ)) (n : ℕ) (rest : List ℕ)
-    → ◌≡◌ {A = Option (ℕ × List ℕ)} (Some (n, rest)) (option_map (λ (p : List ℕ × List ℕ). (f p.0, p.1)) r)
-    → (o : List ℕ) × (r ≡ Some (o, rest)) × (f o ≡ n)
-seen_some f None n rest e = absurd (none-some (n, rest) (sym e))
-seen_some f (Some (o, left)) n rest e =
-    let same = same_Some (n, rest) (f o, left) e in
-    let left_is : left ≡ rest = sym (ap (λ (p : ℕ × List ℕ). p.1) same) in
-    (o, ap (λ (t : List ℕ). Some (o, t)) left_is, sym (ap (λ (p : ℕ × List ℕ). p.0) same))
+-- is that of what std's reader read
+pub seen_some : (f : List ℕ → ℕ) (r : Read (List ℕ)) (n : ℕ) (rest : List ℕ)
+    → ◌≡◌ {A = Read ℕ} (Some (n, rest)) (numbered_by f r) → (o : List ℕ) × (r ≡ Some (o, rest)) × (f o ≡ n)
+seen_some f r n rest e = grind (arith, none-some, same_parts)
 
-pub ipv4_found : (text : List ℕ) (n : ℕ) (rest : List ℕ)
-    → ◌≡◌ {A = Option (ℕ × List ℕ)} (Some (n, rest)) (option_map with_octets (read_ipv4 text))
-    → IsAtFront IsIpv4Text text n rest
-ipv4_found text n rest e =
-    let (o, read, value) = seen_some from_octets (read_ipv4 text) n rest e in
-    let (front, split, h) = read_ipv4_sound text o rest read in
-    record { front = front; split = split; writes = subst (IsIpv4Text front) value (IsDotted-ipv4 front o h) }
+-- what is read of a whole text
+whole_is : (r : Read ℕ) (n : ℕ) → Some n ≡ whole_value r → Some (n, []) ≡ r
+whole_is r n e = grind (arith, none-some, same_Some, nil_from_length)
 
-pub ipv6_found : (text : List ℕ) (n : ℕ) (rest : List ℕ)
-    → ◌≡◌ {A = Option (ℕ × List ℕ)} (Some (n, rest)) (option_map with_number (read_ipv6 text))
-    → IsAtFront IsIpv6Text text n rest
-ipv6_found text n rest e =
-    let (o, read, value) = seen_some from_groups (read_ipv6 text) n rest e in
-    let (front, split, h) = read_ipv6_sound text o rest read in
-    record { front = front; split = split; writes = record { groups = o; written = IsColonHex-groups front o h; value = value } }
+-- std's reader of a family reads what is written, and reads it where the text ends or goes on with no more of it
+pub record Reader (f : List ℕ → ℕ) (read : List ℕ → Read (List ℕ)) (Writes : List ℕ → ℕ → Type 0) (Ends : List ℕ → Type 0) : Type 0 where
+  sound : (text o rest : List ℕ) → read text ≡ Some (o, rest)
+      → (front : List ℕ) × (text ≡ front ++ rest) × Writes front (f o)
+  complete : (text : List ℕ) (n : ℕ) (rest : List ℕ) → Writes text n → Ends rest
+      → numbered_by f (read (text ++ rest)) ≡ Some (n, rest)
+  at_end : Ends []
 
--- and what stands there is read
-pub ipv4_read : (text : List ℕ) (n : ℕ) (rest : List ℕ) → IsAtFront IsIpv4Text text n rest → EndsIpv4 rest
-    → option_map with_octets (read_ipv4 text) ≡ Some (n, rest)
-ipv4_read text n rest h ends =
-    let read = read_ipv4_complete h.front h.writes.octets rest (IsIpv4Text-dotted h.front n h.writes) ends in
-    ap (λ t. option_map with_octets (read_ipv4 t)) h.split ∙ ap (option_map with_octets) read ∙ ap (λ (k : ℕ). Some (k, rest)) h.writes.value
+pub ipv4_reader : Reader from_octets read_ipv4 IsIpv4Text EndsIpv4
+ipv4_reader = record {
+  sound = λ text o rest e. let (front, split, h) = read_ipv4_sound text o rest e in (front, split, IsDotted-ipv4 front o h);
+  complete = λ text n rest h ends.
+      ap (option_map with_octets) (read_ipv4_complete text h.octets rest (IsIpv4Text-dotted text n h) ends) ∙ ap (λ (k : ℕ). Some (k, rest)) h.value;
+  at_end = lit≤ tt;
+}
 
-pub ipv6_read : (text : List ℕ) (n : ℕ) (rest : List ℕ) → IsAtFront IsIpv6Text text n rest → EndsIpv6 rest
-    → option_map with_number (read_ipv6 text) ≡ Some (n, rest)
-ipv6_read text n rest h ends =
-    let read = read_ipv6_complete h.front h.writes.groups rest (IsGroupsText-colon_hex h.front h.writes.groups h.writes.written) ((ends.no_digit, ends.no_dot), λ colon. absurd (ends.no_colon colon)) in
-    ap (λ t. option_map with_number (read_ipv6 t)) h.split ∙ ap (option_map with_number) read ∙ ap (λ (k : ℕ). Some (k, rest)) h.writes.value
+pub ipv6_reader : Reader from_groups read_ipv6 IsIpv6Text EndsIpv6
+ipv6_reader = record {
+  sound = λ text o rest e.
+      let (front, split, h) = read_ipv6_sound text o rest e in
+      (front, split, record { groups = o; written = IsColonHex-groups front o h; value = refl });
+  complete = λ text n rest h ends.
+      let read = read_ipv6_complete text h.groups rest (IsGroupsText-colon_hex text h.groups h.written) ((ends.no_digit, ends.no_dot), λ colon. absurd (ends.no_colon colon)) in
+      ap (option_map with_number) read ∙ ap (λ (k : ℕ). Some (k, rest)) h.value;
+  at_end = record { no_digit = lit≤ tt; no_dot = λ e. omega arith; no_colon = λ e. omega arith };
+}
 
--- so where nothing was read, nothing stands there
-pub ipv4_none : (text : List ℕ) → ◌≡◌ {A = Option (ℕ × List ℕ)} None (option_map with_octets (read_ipv4 text))
-    → (n : ℕ) (rest : List ℕ) → IsAtFront IsIpv4Text text n rest → EndsIpv4 rest → ⊥
-ipv4_none text none n rest h ends = none-some (n, rest) (none ∙ ipv4_read text n rest h ends)
+module _ {f : List ℕ → ℕ} {read : List ℕ → Read (List ℕ)} {Writes : List ℕ → ℕ → Type 0} {Ends : List ℕ → Type 0} (reader : Reader f read Writes Ends) where
+  -- what was found stands there
+  pub found : (text : List ℕ) (n : ℕ) (rest : List ℕ)
+      → ◌≡◌ {A = Read ℕ} (Some (n, rest)) (numbered_by f (read text)) → IsAtFront Writes text n rest
+  found text n rest e =
+      let (o, is, value) = seen_some f (read text) n rest e in
+      let (front, split, writes) = reader.sound text o rest is in
+      record { front = front; split = split; writes = subst (Writes front) value writes }
 
-pub ipv6_none : (text : List ℕ) → ◌≡◌ {A = Option (ℕ × List ℕ)} None (option_map with_number (read_ipv6 text))
-    → (n : ℕ) (rest : List ℕ) → IsAtFront IsIpv6Text text n rest → EndsIpv6 rest → ⊥
-ipv6_none text none n rest h ends = none-some (n, rest) (none ∙ ipv6_read text n rest h ends)
+  -- and what stands there is found
+  at_front : (text : List ℕ) (n : ℕ) (rest : List ℕ) → IsAtFront Writes text n rest → Ends rest
+      → numbered_by f (read text) ≡ Some (n, rest)
+  at_front text n rest h ends = rw h.split (reader.complete h.front n rest h.writes ends)
 
--- and what was read is it
-pub ipv4_one : (text : List ℕ) (m : ℕ) (left : List ℕ)
-    → ◌≡◌ {A = Option (ℕ × List ℕ)} (Some (m, left)) (option_map with_octets (read_ipv4 text)) → (n : ℕ) (rest : List ℕ)
-    → IsAtFront IsIpv4Text text n rest → EndsIpv4 rest → (m ≡ n) × (left ≡ rest)
-ipv4_one text m left read n rest h ends = same_parts m n left rest (read ∙ ipv4_read text n rest h ends)
+  -- so where nothing was found, nothing stands there
+  pub found_none : (text : List ℕ) → ◌≡◌ {A = Read ℕ} None (numbered_by f (read text)) → (n : ℕ) (rest : List ℕ)
+      → IsAtFront Writes text n rest → Ends rest → ⊥
+  found_none text none n rest h ends = none-some (n, rest) (none ∙ at_front text n rest h ends)
 
-pub ipv6_one : (text : List ℕ) (m : ℕ) (left : List ℕ)
-    → ◌≡◌ {A = Option (ℕ × List ℕ)} (Some (m, left)) (option_map with_number (read_ipv6 text)) → (n : ℕ) (rest : List ℕ)
-    → IsAtFront IsIpv6Text text n rest → EndsIpv6 rest → (m ≡ n) × (left ≡ rest)
-ipv6_one text m left read n rest h ends = same_parts m n left rest (read ∙ ipv6_read text n rest h ends)
+  -- and what was found is it
+  pub found_one : (text : List ℕ) (m : ℕ) (left : List ℕ)
+      → ◌≡◌ {A = Read ℕ} (Some (m, left)) (numbered_by f (read text)) → (n : ℕ) (rest : List ℕ)
+      → IsAtFront Writes text n rest → Ends rest → (m ≡ n) × (left ≡ rest)
+  found_one text m left is n rest h ends = same_parts m n left rest (is ∙ at_front text n rest h ends)
+
+  -- the same of a whole text
+  whole : (text : List ℕ) (n : ℕ) → Writes text n → numbered_by f (read text) ≡ Some (n, [])
+  whole text n h = rw append-nil at (reader.complete text n [] h reader.at_end)
+
+  pub whole_some : (text : List ℕ) (n : ℕ) → Some n ≡ whole_value (numbered_by f (read text)) → Writes text n
+  whole_some text n e =
+      let h = found text n [] (whole_is (numbered_by f (read text)) n e) in
+      subst (λ t. Writes t n) (sym (h.split ∙ append-nil h.front)) h.writes
+
+  pub whole_none : (text : List ℕ) → None ≡ whole_value (numbered_by f (read text)) → (n : ℕ) → Writes text n → ⊥
+  whole_none text e n h = none-some n (e ∙ ap whole_value (whole text n h))
+
+  -- a text writes one number at most
+  pub whole_one : (text : List ℕ) (m n : ℕ) → Writes text m → Writes text n → m ≡ n
+  whole_one text m n h k = (same_parts m n [] [] (sym (whole text m h) ∙ whole text n k)).0

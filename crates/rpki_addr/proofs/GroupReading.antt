@@ -1,19 +1,14 @@
 -- Groups as one number while they are read.
-use Rattle.rpki_addr.proofs.Common.{Bool, Bor, List, None, Some, [], ap, append-nil, append_assoc, ap₂, arith, cond, false, length, length-append, lit<, lit≤, nat_lt, ne_eqb, option_and_then, option_map, refl, replicate, subst, suc, sym, true, zero, ℕ, ◌%◌, ◌*◌, ◌++◌, ◌+◌, ◌-◌, ◌/◌, ◌<◌, ◌==◌, ◌^◌, ◌∙◌, ◌∷◌, ◌≡◌, ◌≢◌, ◌≤◌, add-mul, mul-le-mul_left, mul-one, mul_assoc, pow-le-pow_right, pow-succ', pow-zero, read_ipv4_sound, same_parts, ltb-true, nat_tests, number_after_append, number_push, length-replicate, mul-add-lt, pow-add, none-some, number_from_digits_after, segments_of, Read, Segments, after, read_byte, read_ipv4, read_ipv4_if, read_ipv6, read_segment, read_segments, read_separator, read_tail, below_power, next_below, from_groups, from_octets, numbered, with_number, with_octets, IsSoFar, parts}
+use Rattle.rpki_addr.proofs.Common.{Bool, Bor, List, None, Some, [], ap, append-nil, append_assoc, ap₂, arith, cond, false, length, length-append, lit<, lit≤, nat_lt, ne_eqb, option_and_then, option_map, refl, replicate, subst, suc, sym, true, zero, ℕ, ◌%◌, ◌*◌, ◌++◌, ◌+◌, ◌-◌, ◌/◌, ◌<◌, ◌==◌, ◌^◌, ◌∙◌, ◌∷◌, ◌≡◌, ◌≢◌, ◌≤◌, mul-le-mul_left, mul-one, mul_assoc, pow-le-pow_right, pow-succ', pow-zero, read_ipv4_sound, ltb-true, nat_tests, number_after_append, number_push, length-replicate, mul-add-lt, pow-add, none-some, number_from_digits_after, segments_of, Read, Segments, after, read_byte, read_ipv4, read_ipv4_if, read_ipv6, read_segment, read_segments, read_separator, read_tail, below_power, next_below, from_groups, from_octets, numbered, with_number, with_octets, IsSoFar, parts}
 use Rattle.rpki_addr.specs.declared.addr.read.Groups.{Groups}
+use Rattle.rpki_addr.proofs.AddressFronts.{seen_some}
 use Rattle.rpki_addr.proofs.AddressLemmas.{two_groups}
 
 -- groups behind others, as numbers
 number_after_is : (n : ℕ) (ys : List ℕ)
     → number_from_digits_after 0x10000 n ys ≡ n * 0x10000 ^ length ys + from_groups ys
 number_after_is n [] = omega (arith, ap (λ k. n * k) (pow-zero 0x10000), mul-one n)
-number_after_is n (y ∷ ys) =
-    let here = number_after_is (n * 0x10000 + y) ys in
-    let alone : from_groups (y ∷ ys) ≡ (0 * 0x10000 + y) * 0x10000 ^ length ys + from_groups ys = number_after_is (0 * 0x10000 + y) ys in
-    let split : (n * 0x10000 + y) * 0x10000 ^ length ys ≡ n * 0x10000 * 0x10000 ^ length ys + y * 0x10000 ^ length ys = add-mul (n * 0x10000) y (0x10000 ^ length ys) in
-    let first : n * 0x10000 * 0x10000 ^ length ys ≡ n * 0x10000 ^ (suc (length ys)) = mul_assoc n 0x10000 (0x10000 ^ length ys) ∙ ap (λ k. n * k) (sym (pow-succ' 0x10000 (length ys))) in
-    let plain : (0 * 0x10000 + y) * 0x10000 ^ length ys ≡ y * 0x10000 ^ length ys = ap (λ k. k * 0x10000 ^ length ys) (omega arith) in
-    omega (arith, here, alone, split, first, plain)
+number_after_is n (y ∷ ys) = rw pow-succ' (omega (arith, number_after_is (n * 0x10000 + y) ys, number_after_is (0 * 0x10000 + y) ys))
 
 zeros_front : (k : ℕ) (ys : List ℕ) → from_groups (replicate k 0 ++ ys) ≡ from_groups ys
 zeros_front zero ys = refl
@@ -36,25 +31,19 @@ pub elided_fits : (front back h t : ℕ) → front < 0x10000 ^ h → back < 0x10
     → front * 0x10000 ^ (8 - h) + back < 2 ^ 128
 elided_fits front back h t low high room =
     let up : 0x10000 ^ t ≤ 0x10000 ^ (8 - h) = pow-le-pow_right (lit≤ tt) (omega (arith, room)) in
-    let below = mul-add-lt front (0x10000 ^ (8 - h)) back (0x10000 ^ h) low (omega (arith, high, up)) in
     let eight : 8 - h + h ≡ 8 = omega (arith, room) in
-    let all : 0x10000 ^ (8 - h) * 0x10000 ^ h ≡ 0x10000 ^ 8 = sym (pow-add 0x10000 (8 - h) h) ∙ ap (λ k. 0x10000 ^ k) eight in
-    omega (arith, below, all)
+    let all = sym (pow-add 0x10000 (8 - h) h) ∙ ap (λ k. 0x10000 ^ k) eight in
+    omega (arith, all, mul-add-lt front (0x10000 ^ (8 - h)) back (0x10000 ^ h) low (omega (arith, high, up)))
 
--- one zero group more, and none
+-- one zero group more
 pub one_zero_more : (bits n : ℕ) → 0 < n → bits * 0x10000 * 0x10000 ^ (n - 1) ≡ bits * 0x10000 ^ n
 one_zero_more bits zero some = absurd (omega (arith, some))
 one_zero_more bits (suc m) some = grind (arith, mul_assoc, pow-succ')
 
-pub no_zero_more : (bits n : ℕ) → n ≤ 0 → bits ≡ bits * 0x10000 ^ n
-no_zero_more bits n none = grind (arith, mul-one, pow-zero)
-
 pub one_zero_fits : (bits n : ℕ) → 0 < n → bits * 0x10000 ^ n < 2 ^ 128 → bits * 0x10000 < 2 ^ 128
 one_zero_fits bits n some fits =
-    let one : 1 ≤ n = omega (arith, some) in
-    let up : 0x10000 ^ 1 ≤ 0x10000 ^ n = pow-le-pow_right (lit≤ tt) one in
-    let more : bits * 0x10000 ^ 1 ≤ bits * 0x10000 ^ n = mul-le-mul_left bits up in
-    omega (arith, more, fits)
+    let up : 0x10000 ^ 1 ≤ 0x10000 ^ n = pow-le-pow_right (lit≤ tt) some in
+    omega (arith, mul-le-mul_left bits up, fits)
 
 ipv4_if_some : (b : Bool) (text : List ℕ) (p : List ℕ × List ℕ) → read_ipv4_if b text ≡ Some p
     → (b ≡ true) × (read_ipv4 text ≡ Some p)
@@ -63,27 +52,20 @@ ipv4_if_some b text p e = grind (arith, none-some)
 number_two : (xs : List ℕ) (g h : ℕ) → from_groups (xs ++ g ∷ h ∷ []) ≡ (from_groups xs * 0x10000 + g) * 0x10000 + h
 number_two xs g h = ap from_groups (sym (append_assoc xs (g ∷ []) (h ∷ []))) ∙ number_push 0x10000 (xs ++ g ∷ []) h ∙ ap (λ k. k * 0x10000 + h) (number_push 0x10000 xs g)
 
--- a read that is seen through a view
-seen : (r : Read (List ℕ)) (n : ℕ) (rest : List ℕ) → Some (n, rest) ≡ option_map with_octets r
-    → (o : List ℕ) × (r ≡ Some (o, rest)) × (from_octets o ≡ n)
-seen r n rest e = grind (arith, none-some, same_parts)
-
 unseen : (r : Read (List ℕ)) → None ≡ option_map with_octets r → None ≡ r
 unseen r e = grind (arith, none-some)
 
 -- so an IPv4 text stands only where two groups have room
 pub ipv4_room : (b : Bool) (text : List ℕ) (n : ℕ) (rest : List ℕ)
     → Some (n, rest) ≡ option_map with_octets (read_ipv4_if b text) → b ≡ true
-ipv4_room b text n rest e = let (o, read, value) = seen (read_ipv4_if b text) n rest e in (ipv4_if_some b text (o, rest) read).0
+ipv4_room b text n rest e = let (o, read, value) = seen_some from_octets (read_ipv4_if b text) n rest e in (ipv4_if_some b text (o, rest) read).0
 
 -- two groups more
 two_more : (bits i g h : ℕ) → bits < 0x10000 ^ i → g < 0x10000 → h < 0x10000
     → (bits * 0x10000 + g) * 0x10000 + h < 0x10000 ^ (i + 2)
 two_more bits i g h small one two =
-    let first = next_below 0x10000 (lit< tt) i bits g small one in
-    let second = next_below 0x10000 (lit< tt) (i + 1) (bits * 0x10000 + g) h first two in
     let place : i + 1 + 1 ≡ i + 2 = omega arith in
-    subst (λ k. (bits * 0x10000 + g) * 0x10000 + h < 0x10000 ^ k) place second
+    rw place at (next_below 0x10000 (lit< tt) (i + 1) (bits * 0x10000 + g) h (next_below 0x10000 (lit< tt) i bits g small one) two)
 
 -- one group more fits, and two
 pub one_fits : (bits i v : ℕ) → i < 8 → bits < 0x10000 ^ i → v < 0x10000 → bits * 0x10000 + v < 2 ^ 128
@@ -92,29 +74,6 @@ one_fits bits i v within small value = omega (arith, below_power 0x10000 (lit< t
 pub two_fit : (bits i g h : ℕ) → i + 1 < 8 → bits < 0x10000 ^ i → g < 0x10000 → h < 0x10000
     → (bits * 0x10000 + g) * 0x10000 + h < 2 ^ 128
 two_fit bits i g h within small one two = one_fits (bits * 0x10000 + g) (i + 1) h within (next_below 0x10000 (lit< tt) i bits g small one) two
-
--- ---- what a reader with room for one group more finds at a text, by what stands there
-
-module _ (left : ℕ) (at_start : Bool) (text : List ℕ) where
-  ends_here : None ≡ read_separator at_start text → read_segments (suc left) at_start text ≡ ([], false, text)
-  unfolding read_segments
-  ends_here none = rw (← none) refl
-
-  module _ (behind : List ℕ) (colon : Some behind ≡ read_separator at_start text) where
-    dotted_here : (octets rest : List ℕ) → Some (octets, rest) ≡ read_ipv4_if (nat_lt 0 left) behind
-        → read_segments (suc left) at_start text ≡ (segments_of octets, true, rest)
-    unfolding read_segments
-    dotted_here octets rest dots = rw (← colon, ← dots) refl
-
-    module _ (no_dots : None ≡ read_ipv4_if (nat_lt 0 left) behind) where
-      nothing_here : None ≡ read_segment behind → read_segments (suc left) at_start text ≡ ([], false, text)
-      unfolding read_segments
-      nothing_here none = rw (← colon, ← no_dots, ← none) refl
-
-      group_here : (group : ℕ) (rest : List ℕ) → Some (group, rest) ≡ read_segment behind
-          → read_segments (suc left) at_start text ≡ after (group ∷ []) (read_segments left false rest)
-      unfolding read_segments
-      group_here group rest digits = rw (← colon, ← no_dots, ← digits) refl
 
 -- ---- how far a reader of groups has come
 
@@ -140,24 +99,19 @@ module _ (n : ℕ) (text : List ℕ) (groups : Groups) (unclosed : groups.closed
 
   module _ (less : groups.count < n) where
     -- so many groups have room behind the next one
-    left : ℕ
+    abbrev left : ℕ
     left = n - (groups.count + 1)
 
     one_left : n - groups.count ≡ suc left
-    unfolding left
     one_left = omega (arith, less)
 
     two_left : nat_lt (groups.count + 1) n ≡ nat_lt 0 left
-    unfolding left
     two_left = grind (arith, nat_tests)
-
-    found_here : (s : Segments) → read_segments (suc left) (groups.count == 0) groups.rest.now ≡ s → found ≡ s
-    unfolding found
-    found_here s is = rw one_left is
 
     pub no_colon : None ≡ read_separator (groups.count == 0) groups.rest.now
         → parts groups ≡ numbered (read_segments n true text)
-    no_colon none = all_read (found_here _ (ends_here left (groups.count == 0) groups.rest.now none))
+    unfolding found read_segments
+    no_colon none = all_read (rw (one_left, ← none) refl)
 
     module _ (behind : List ℕ) (colon : Some behind ≡ read_separator (groups.count == 0) groups.rest.now) where
       pub with_ipv4 : (low number : ℕ) (rest : Bor (List ℕ))
@@ -165,13 +119,15 @@ module _ (n : ℕ) (text : List ℕ) (groups : Groups) (unclosed : groups.closed
           → low < 2 ^ 32 → number ≡ low
           → IsSoFar n text
           (record { bits = groups.bits * 0x100000000 + number; count = groups.count + 2; closed = true; rest = rest })
+      unfolding found read_segments
       with_ipv4 low number rest e small is =
-          let (octets, read, value) = seen (read_ipv4_if (nat_lt (groups.count + 1) n) behind) low rest.now e in
+          let (octets, read, value) = seen_some from_octets (read_ipv4_if (nat_lt (groups.count + 1) n) behind) low rest.now e in
           let if_some = ipv4_if_some _ behind (octets, rest.now) read in
           let (spelled, split, dotted) = read_ipv4_sound behind octets rest.now if_some.1 in
           let two : segments_of octets ≡ (low / 0x10000) ∷ (low % 0x10000) ∷ [] = two_groups spelled octets low dotted value in
           let joined : (groups.bits * 0x10000 + low / 0x10000) * 0x10000 + low % 0x10000 ≡ groups.bits * 0x100000000 + number = omega (arith, is) in
-          let here = found_here _ (dotted_here left (groups.count == 0) groups.rest.now behind colon octets rest.now (subst (λ b. Some (octets, rest.now) ≡ read_ipv4_if b behind) two_left (sym read))) in
+          let dots = subst (λ b. read_ipv4_if b behind ≡ Some (octets, rest.now)) two_left read in
+          let here : found ≡ (segments_of octets, true, rest.now) = rw (one_left, ← colon, dots) refl in
           record {
             front = so_far.front ++ segments_of octets;
             read = opened ∙ ap (after so_far.front) here;
@@ -186,20 +142,24 @@ module _ (n : ℕ) (text : List ℕ) (groups : Groups) (unclosed : groups.closed
         no_dots = rw two_left at (unseen _ no_ipv4)
 
         pub no_more : None ≡ read_segment behind → parts groups ≡ numbered (read_segments n true text)
-        no_more none = all_read (found_here _ (nothing_here left (groups.count == 0) groups.rest.now behind colon no_dots none))
+        unfolding found read_segments
+        no_more none = all_read (rw (one_left, ← colon, ← no_dots, ← none) refl)
+
+        group_here : (group : ℕ) (rest : List ℕ) → Some (group, rest) ≡ read_segment behind
+            → found ≡ after (group ∷ []) (read_segments left false rest)
+        unfolding found read_segments
+        group_here group rest digits = rw (one_left, ← colon, ← no_dots, ← digits) refl
 
         pub with_group : (group number : ℕ) (rest : Bor (List ℕ)) → Some (group, rest.now) ≡ read_segment behind
             → group < 0x10000 → number ≡ group
             → IsSoFar n text
             (record { bits = groups.bits * 0x10000 + number; count = groups.count + 1; closed = false; rest = rest })
-        unfolding left
         with_group group number rest e small is =
-            let here = found_here _ (group_here left (groups.count == 0) groups.rest.now behind colon no_dots group rest.now e) in
             let further : (groups.count + 1 == 0) ≡ false = ne_eqb _ _ (omega arith) in
             let next = read_segments left false rest.now in
             rw is (record {
               front = so_far.front ++ group ∷ [];
-              read = opened ∙ ap (after so_far.front) here ∙ ap (λ (xs : List ℕ). (xs, next.1, next.2)) (sym (append_assoc so_far.front (group ∷ []) next.0)) ∙ rw further refl;
+              read = opened ∙ ap (after so_far.front) (group_here group rest.now e) ∙ ap (λ (xs : List ℕ). (xs, next.1, next.2)) (sym (append_assoc so_far.front (group ∷ []) next.0)) ∙ rw further refl;
               count = length-append so_far.front (group ∷ []) ∙ ap (λ k. k + 1) so_far.count;
               value = number_push 0x10000 so_far.front group ∙ ap (λ k. k * 0x10000 + group) so_far.value;
               small = next_below 0x10000 (lit< tt) groups.count groups.bits group so_far.small small;

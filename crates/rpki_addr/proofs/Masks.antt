@@ -1,13 +1,12 @@
 -- On masks, which clear or set the last bits of a number.
-use Rattle.rpki_addr.proofs.Common.{ap, arith, bit_and, bit_or, ℕ, ◌%◌, ◌*◌, ◌+◌, ◌-◌, ◌/◌, ◌<◌, ◌^◌, ◌∙◌, ◌≡◌, ◌≤◌, pow-le-pow_right, and_mask, pow_pos, shr_split}
+use Rattle.rpki_addr.proofs.Common.{ap, arith, bit_and, bit_or, ℕ, ◌%◌, ◌*◌, ◌+◌, ◌-◌, ◌/◌, ◌<◌, ◌^◌, ◌∙◌, ◌≡◌, ◌≤◌, and_mask, pow_pos}
 use Rattle.std.proofs.lemmas.Nat.Bits.{ones_shr, and_high_mask}
 use Rattle.std.specs.Int.Bits.{or_add_and}
 
 -- `n & !m` of w bits, where the last k bits of m are set and no other, clears the last k bits
 pub clear_host : (w k n m : ℕ) → k ≤ w → n < 2 ^ w → m + 1 ≡ 2 ^ k → bit_and n (2 ^ w - 1 - m) ≡ n / 2 ^ k * 2 ^ k
 clear_host w k n m within below mask =
-    let most : 2 ^ k ≤ 2 ^ w = pow-le-pow_right {n = 2} (omega arith) within in
-    let high : 2 ^ w - 1 - m ≡ 2 ^ w - 2 ^ k = omega (arith, mask, most) in
+    let high : 2 ^ w - 1 - m ≡ 2 ^ w - 2 ^ k = omega (arith, mask) in
     ap (λ x. bit_and n x) high ∙ and_high_mask w k within n below
 
 -- and `n | m` sets them
@@ -16,8 +15,7 @@ set_host k n m mask =
     let is : m ≡ 2 ^ k - 1 = omega (arith, mask) in
     let sum : bit_or n m + bit_and n m ≡ n + m = or_add_and n m in
     let low : bit_and n m ≡ n % 2 ^ k = ap (λ x. bit_and n x) is ∙ and_mask n k in
-    let parts : n / 2 ^ k * 2 ^ k + n % 2 ^ k ≡ n = shr_split n k in
-    omega (arith, sum, low, parts, mask)
+    omega (arith, sum, low, mask)
 
 -- the mask `MAX >> len` of w bits has its last w - len bits set
 pub host_ones : (w len : ℕ) → len ≤ w → (2 ^ w - 1) / 2 ^ len + 1 ≡ 2 ^ (w - len)

@@ -1,19 +1,6 @@
--- What a buffer has after several writes, and what the digits of an octet and of a group are.
-use Rattle.rpki_addr.proofs.Common.{List, [], ap, append_assoc, arith, codes, decimal, drop, le-leb, le-ltb, lt-ltb, refl, take, ℕ, ◌%◌, ◌++◌, ◌+◌, ◌/◌, ◌<◌, ◌∙◌, ◌∷◌, ◌≡◌, ◌≤◌, lt-leb, decimal_digit, decimal_step, digit_char, groups_text, hex, hex_groups_text, longest_zero_run, dotted}
+-- What a buffer has after several writes, and what the digits of an octet are.
+use Rattle.rpki_addr.proofs.Common.{List, [], ap, append_assoc, arith, codes, decimal, drop, le-ltb, lt-ltb, refl, take, ℕ, ◌%◌, ◌++◌, ◌+◌, ◌/◌, ◌<◌, ◌∙◌, ◌∷◌, ◌≡◌, ◌≤◌, decimal_digit, decimal_step, groups_text, hex_groups_text, longest_zero_run, dotted}
 use Rattle.rpki_addr.proofs.AddressLemmas.{dotted_is}
-
--- two, three and four bytes at the end
-pub two_at_end : (t₀ : List ℕ) {t₁ t₂ : List ℕ} (a b : ℕ) → t₁ ≡ t₀ ++ a ∷ [] → t₂ ≡ t₁ ++ b ∷ []
-    → t₂ ≡ t₀ ++ a ∷ b ∷ []
-two_at_end t₀ {t₁} {t₂} a b e f = f ∙ ap (λ t. t ++ b ∷ []) e ∙ append_assoc t₀ (a ∷ []) (b ∷ [])
-
-pub three_at_end : (t₀ : List ℕ) {t₁ t₂ t₃ : List ℕ} (a b c : ℕ) → t₁ ≡ t₀ ++ a ∷ [] → t₂ ≡ t₁ ++ b ∷ []
-    → t₃ ≡ t₂ ++ c ∷ [] → t₃ ≡ t₀ ++ a ∷ b ∷ c ∷ []
-three_at_end t₀ {t₁} {t₂} {t₃} a b c e f g = g ∙ ap (λ t. t ++ c ∷ []) (two_at_end t₀ a b e f) ∙ append_assoc t₀ (a ∷ b ∷ []) (c ∷ [])
-
-pub four_at_end : (t₀ : List ℕ) {t₁ t₂ t₃ t₄ : List ℕ} (a b c d : ℕ) → t₁ ≡ t₀ ++ a ∷ [] → t₂ ≡ t₁ ++ b ∷ []
-    → t₃ ≡ t₂ ++ c ∷ [] → t₄ ≡ t₃ ++ d ∷ [] → t₄ ≡ t₀ ++ a ∷ b ∷ c ∷ d ∷ []
-four_at_end t₀ {t₁} {t₂} {t₃} {t₄} a b c d e f g h = h ∙ ap (λ t. t ++ d ∷ []) (three_at_end t₀ a b c e f g) ∙ append_assoc t₀ (a ∷ b ∷ c ∷ []) (d ∷ [])
 
 -- a number of two digits, and of three
 pub decimal_two : (n : ℕ) → 10 ≤ n → n < 100 → decimal n ≡ (48 + n / 10) ∷ (48 + n % 10) ∷ []
@@ -24,26 +11,6 @@ decimal_three n low high =
     let first : n / 10 / 10 ≡ n / 100 = omega arith in
     let front : decimal (n / 10) ≡ (48 + n / 100) ∷ (48 + n / 10 % 10) ∷ [] = decimal_two (n / 10) (omega (arith, low)) (omega (arith, high)) ∙ ap (λ k. (48 + k) ∷ (48 + n / 10 % 10) ∷ []) first in
     decimal_step n (omega (arith, low)) (omega (arith, high)) ∙ ap (λ t. t ++ (48 + n % 10) ∷ []) front
-
--- a group of four digits, of three, of two and of one
-pub hex_four : (g : ℕ) → 0x1000 ≤ g
-    → hex g
-    ≡ digit_char (g / 0x1000) ∷ digit_char (g / 0x100 % 16) ∷ digit_char (g / 0x10 % 16) ∷ digit_char (g % 16) ∷ []
-unfolding hex
-hex_four g low = rw (le-leb 0x1000 g low) refl
-
-pub hex_three : (g : ℕ) → g < 0x1000 → 0x100 ≤ g
-    → hex g ≡ digit_char (g / 0x100 % 16) ∷ digit_char (g / 0x10 % 16) ∷ digit_char (g % 16) ∷ []
-unfolding hex
-hex_three g high low = rw (lt-leb 0x1000 g high, le-leb 0x100 g low) refl
-
-pub hex_two : (g : ℕ) → g < 0x100 → 0x10 ≤ g → hex g ≡ digit_char (g / 0x10 % 16) ∷ digit_char (g % 16) ∷ []
-unfolding hex
-hex_two g high low = rw (lt-leb 0x1000 g (omega (arith, high)), lt-leb 0x100 g high, le-leb 0x10 g low) refl
-
-pub hex_one : (g : ℕ) → g < 0x10 → hex g ≡ digit_char (g % 16) ∷ []
-unfolding hex
-hex_one g high = rw (lt-leb 0x1000 g (omega (arith, high)), lt-leb 0x100 g (omega (arith, high)), lt-leb 0x10 g high) refl
 
 -- four octets with a dot after each but the last
 pub dotted_at_end : (t₀ : List ℕ) {t₁ t₂ t₃ t₄ t₅ t₆ t₇ : List ℕ} (a b c d : ℕ) → t₁ ≡ t₀ ++ decimal a

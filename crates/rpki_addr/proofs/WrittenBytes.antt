@@ -1,5 +1,6 @@
 -- The bytes of which the text of an address is made.
-use Rattle.rpki_addr.proofs.Common.{Bool, List, [], ap, arith, codes, decimal, false, get_or, inl, inr, length, length-append, lit<, lit≤, refl, subst, suc, sym, true, zero, ℕ, ◌++◌, ◌<◌, ◌^◌, ◌∙◌, ◌∷◌, ◌≡◌, ◌⊎◌, All-ipv4_text, IsDigitOrDot, nat_tests, decimal_is_IsNumeral, All-append, All-from_recursion, All-nil, All-weaker, Contains-append_left, Contains-append_right, digit_value, IsInRange, All, AllByRecursion, Contains, segments_of, IsColonHex, IsDotted, IsGroupsAfter, AllDigits, IsIpv4Text, IsIpv6Text}
+use Rattle.rpki_addr.proofs.Common.{Bool, List, [], ap, arith, codes, decimal, false, inl, inr, length, length-append, lit<, lit≤, refl, subst, sym, true, ℕ, ◌++◌, ◌<◌, ◌∙◌, ◌∷◌, ◌≡◌, ◌⊎◌, All-ipv4_text, IsDigitOrDot, nat_tests, decimal_is_IsNumeral, All-append, All-from_recursion, All-nil, All-weaker, Contains-append_left, Contains-append_right, digit_value, IsInRange, All, AllByRecursion, Contains, segments_of, IsColonHex, IsDotted, IsGroupsAfter, AllDigits, IsIpv4Text, IsIpv6Text}
+use Rattle.rpki_text.proofs.DigitLemmas.{each_below}
 use Rattle.rpki_addr.proofs.AddressLemmas.{IsIpv4Text-dotted, IsGroupsText-colon_hex}
 
 -- a dot, a hexadecimal digit or a colon, among others, but no slash
@@ -7,15 +8,10 @@ abbrev pub IsWrittenByte : ℕ → Type 0
 IsWrittenByte b = (b ≡ 46) ⊎ IsInRange 48 102 b
 
 -- octets with dots between them
-octet_fits : (a b c d : ℕ) → a < 256 → b < 256 → c < 256 → d < 256 → (k : ℕ) → get_or (a ∷ b ∷ c ∷ d ∷ []) k 0 < 2 ^ 8
-octet_fits a b c d h i j l zero = h
-octet_fits a b c d h i j l (suc zero) = i
-octet_fits a b c d h i j l (suc (suc zero)) = j
-octet_fits a b c d h i j l (suc (suc (suc zero))) = l
-octet_fits a b c d h i j l (suc (suc (suc (suc k)))) = lit< tt
-
 dotted_written : (text octets : List ℕ) → IsDotted text octets → All IsDigitOrDot text
-dotted_written text octets h = subst (All IsDigitOrDot) (sym h.spelled) (All-ipv4_text (h.a ∷ h.b ∷ h.c ∷ h.d ∷ []) (octet_fits h.a h.b h.c h.d h.fit.0 h.fit.1 h.fit.2 h.fit.3))
+dotted_written text octets h =
+    let fit = each_below 256 (lit< tt) (h.a ∷ h.b ∷ h.c ∷ h.d ∷ []) (h.fit.0, (h.fit.1, (h.fit.2, (h.fit.3, tt)))) in
+    subst (All IsDigitOrDot) (sym h.spelled) (All-ipv4_text (h.a ∷ h.b ∷ h.c ∷ h.d ∷ []) fit)
 
 pub ipv4_written : (text : List ℕ) (n : ℕ) → IsIpv4Text text n → All IsDigitOrDot text
 ipv4_written text n h = dotted_written text h.octets (IsIpv4Text-dotted text n h)
@@ -75,13 +71,12 @@ before_second b rest s segments (inl (group, more, is, _, _)) = subst (λ t. Con
 before_second b rest s segments (inr (last, octets, here, is, _, _)) = subst (λ t. Contains t 58) (sym is) (0, omega arith, refl)
 
 full_colon : (text segments : List ℕ) → length segments ≡ 8 → IsGroupsAfter true [] text segments → Contains text 58
-full_colon text [] eight h = absurd (omega (arith, eight))
-full_colon text (s ∷ []) eight h = absurd (omega (arith, eight))
 full_colon text (s ∷ t ∷ segments) eight (inl (group, rest, is, digits, more)) =
     subst (λ t. Contains t 58) (sym is) (Contains-append_right group rest 58 (before_second true rest t segments more))
 full_colon text (s ∷ t ∷ segments) eight (inr (last, octets, here, is, dots, value)) =
     let two : length (s ∷ t ∷ segments) ≡ 2 = ap length value ∙ ap (λ o. length (segments_of o)) dots.value in
     absurd (omega (arith, two, eight))
+full_colon text segments eight h = absurd (omega (arith, eight))
 
 -- an IPv6 text has a colon
 pub ipv6_colon : (text : List ℕ) (n : ℕ) → IsIpv6Text text n → Contains text 58

@@ -1,6 +1,6 @@
 -- One group of zeros more fits.
 use Rattle.rpki_addr.proofs.Common.{arith, subst, sym, ℕ, ◌<◌, ◌^◌, ◌∙◌}
-use Rattle.rpki_addr.proofs.GroupReading.{one_zero_more, no_zero_more, one_zero_fits}
+use Rattle.rpki_addr.proofs.GroupReading.{one_zero_more, one_zero_fits}
 use Rattle.rpki_addr.proofs.addr.read.with_zeros.Goals as goal
 
 pub overflow_mul-all : goal.overflow_mul-all
@@ -10,6 +10,3 @@ overflow_mul-all c =
 
 pub loop-left-preserved : goal.loop-left-preserved
 loop-left-preserved c = one_zero_more c.loop-left.all c.loop-left.left c.loop-left-test.true ∙ c.loop-left.invariant
-
-pub returns : goal.returns
-returns c = no_zero_more c.loop-left.all c.loop-left.left c.loop-left-test.false ∙ c.loop-left.invariant

@@ -38,9 +38,6 @@ returns-in_default-take_group-clause-so_far c = λ text so_far.
     let none = c.in_default-take_group.ensures in
     no_more _ text _ c.if-self.false so_far less _ c.in-Some.ensures (ipv4_if_none _ _ (no_group _ (sym none))) none
 
-pub take_last_two-requires : goal.take_last_two-requires
-take_last_two-requires c = (c.in-Some-take_group.group, sym c.in-Some-take_group.ensures)
-
 pub overflow_mul-result-2 : goal.overflow_mul-result-2
 overflow_mul-result-2 c =
     let within : c.args.self.now.count < 8 = omega (arith, c.requires.within, c.requires.at_most, c.if-self-room.false) in

@@ -1,9 +1,9 @@
 -- The walk through a range finds its cover list.
-use Rattle.rpki_cover.proofs.Common.{List, [], ap, arith, inl, inr, leb, refl, subst, suc, zero, ℕ, ◌+◌, ◌-◌, ◌<◌, ◌^◌, ◌∷◌, ◌≡◌, ◌≤◌, ◌⊎◌, cases_Bool, cases_order, leb-false, leb-true, pow_below, pow_pos, IsIn, IsMaximal, IsParent, IsPrefix, LiesIn, PrefixValue, Ascends, cover_list, cover_list_upto, free_bits_upto}
-use Rattle.rpki_cover.proofs.Multiples.{multiple_mod, nested, Nested}
+use Rattle.rpki_cover.proofs.Common.{cases_lt, le-leb, lt-leb, List, [], ap, arith, inl, inr, refl, subst, suc, zero, ℕ, ◌+◌, ◌-◌, ◌<◌, ◌^◌, ◌∷◌, ◌≡◌, ◌≤◌, ◌⊎◌, cases_order, pow_below, pow_pos, IsIn, IsMaximal, IsPrefix, LiesIn, PrefixValue, Ascends, cover_list, cover_list_upto, free_bits_upto}
+use Rattle.rpki_cover.proofs.Multiples.{multiple_mod, nested}
 use Rattle.rpki_cover.proofs.Greatest.{Fits, IsGreatest, free_bits_upto_is}
 use Rattle.rpki_cover.proofs.Membership.{In, all_of}
-use Rattle.rpki_cover.proofs.Nesting.{InRange, Within, first_in, within_of, of_within, inside_of, multiple_at, no_straddle, parent_of}
+use Rattle.rpki_cover.proofs.Nesting.{InRange, Within, first_in, within_of, of_within, inside_of, maximal_weaker, multiple_at, no_straddle, parent_of}
 
 -- a list that is the cover list of S, and in which each prefix inside S finds its place
 pub record CoverOf (w : ℕ) (S : ℕ → Type 0) (ps : List PrefixValue) : Type 0 where
@@ -27,31 +27,21 @@ head_prefix w a k = record { first = a; len = w - k }
 module _ (w a b k : ℕ) (order : a ≤ b) (below : b < 2 ^ w) (g : IsGreatest w a b k) where
   -- how many numbers the head has
   size_is : 2 ^ (w - (w - k)) ≡ 2 ^ k
-  size_is = let h : k ≤ w = g.upto in let e : w - (w - k) ≡ k = omega arith in ap (λ i. 2 ^ i) e
+  size_is = let e : w - (w - k) ≡ k = omega arith in ap (λ i. 2 ^ i) e
 
   -- it is a prefix, inside the range, and its parent isn't
-  head_is_prefix : IsPrefix w (head_prefix w a k)
-  head_is_prefix = grind (arith, multiple_mod, pow_pos, size_is)
-
-  head_within : Within w (head_prefix w a k) a b
-  head_within = record { from = omega arith; upto = rw size_is g.fits.within }
-
-  head_greatest : (q : PrefixValue) → IsParent w q (head_prefix w a k) → LiesIn w (InRange a b) q → ⊥
-  head_greatest q parent i =
-      let v : Within w q a b = within_of w a b q i in
-      let from : a ≤ q.first = v.from in
-      let upto : q.first + 2 ^ (w - q.len) ≤ b + 1 = v.upto in
-      let c : IsIn w q a = parent.holds a (first_in w (head_prefix w a k)) in
-      let c' : q.first ≤ a = c.from in
-      let e : q.first ≡ a = omega arith in
-      let f : Fits a b (w - q.len) = record { aligned = rw e at (multiple_at w q parent.is_prefix); within = rw e at upto } in
-      let t : w - q.len ≤ k = g.greatest (w - q.len) (omega arith) f in
-      let s : w - k ≡ q.len + 1 = parent.shorter in
-      let u : k ≤ w = g.upto in
-      omega arith
-
   head_maximal : IsMaximal w (InRange a b) (head_prefix w a k)
-  head_maximal = record { is_prefix = head_is_prefix; inside = of_within w a b (head_prefix w a k) head_within; greatest = head_greatest }
+  head_maximal = record {
+    is_prefix = grind (arith, multiple_mod, pow_pos, size_is);
+    inside = of_within w a b (head_prefix w a k) (record { from = omega arith; upto = rw size_is g.fits.within });
+    greatest = λ q parent i.
+        let v = within_of w a b q i in
+        let c = parent.holds a (first_in w (head_prefix w a k)) in
+        let e : q.first ≡ a = omega arith in
+        let f : Fits a b (w - q.len) = record { aligned = rw e at (multiple_at w q parent.is_prefix); within = rw e at v.upto } in
+        let t = g.greatest (w - q.len) (omega arith) f in
+        omega arith;
+  }
 
   -- behind the head
   later : (p : PrefixValue) → Within w p a b → a + 2 ^ k ≤ p.first → Within w p (a + 2 ^ k) b
@@ -62,50 +52,33 @@ module _ (w a b k : ℕ) (order : a ≤ b) (below : b < 2 ^ w) (g : IsGreatest w
 
   -- what is maximal behind the head is maximal
   tail_maximal : (p : PrefixValue) → IsMaximal w (InRange (a + 2 ^ k) b) p → IsMaximal w (InRange a b) p
-  tail_maximal p m = record {
-    is_prefix = m.is_prefix;
-    inside = λ n i. sooner n (m.inside n i);
-    greatest = λ q parent i.
-        let v : Within w q a b = within_of w a b q i in
-        let vp : Within w p (a + 2 ^ k) b = within_of w (a + 2 ^ k) b p m.inside in
-        let c : IsIn w q p.first = parent.holds p.first (first_in w p) in
-        elim (no_straddle w a b k q g parent.is_prefix v) [
-          | inl s ↦ (let f : a + 2 ^ k ≤ p.first = vp.from in let u : p.first < q.first + 2 ^ (w - q.len) = c.upto in absurd (omega arith))
-          | inr r ↦ m.greatest q parent (of_within w (a + 2 ^ k) b q (later q v r))
-        ];
-  }
+  tail_maximal p m = maximal_weaker w _ _ p m (λ h n i. sooner n (h n i)) (λ q parent i.
+      let v = within_of w a b q i in
+      elim (no_straddle w a b k q g parent.is_prefix v) [
+        | inl s ↦ absurd (
+            let vp = within_of w (a + 2 ^ k) b p m.inside in
+            let c = parent.holds p.first (first_in w p) in omega arith)
+        | inr r ↦ of_within w (a + 2 ^ k) b q (later q v r)
+      ])
 
   -- a maximal prefix is the head, or is maximal behind it
   maximal_cases : (p : PrefixValue) → IsMaximal w (InRange a b) p
       → (head_prefix w a k ≡ p) ⊎ IsMaximal w (InRange (a + 2 ^ k) b) p
   maximal_cases p m =
       let v : Within w p a b = within_of w a b p m.inside in
-      let from : a ≤ p.first = v.from in
       let hp : 0 < 2 ^ (w - p.len) = pow_pos (w - p.len) in
-      let short : p.len ≤ w = m.is_prefix.short in
-      let ku : k ≤ w = g.upto in
       elim (no_straddle w a b k p g m.is_prefix v) [
-        | inr r ↦ inr (record {
-          is_prefix = m.is_prefix;
-          inside = of_within w (a + 2 ^ k) b p (later p v r);
-          greatest = λ q parent i. m.greatest q parent (λ n j. sooner n (i n j));
-        })
+        | inr r ↦ inr (maximal_weaker w _ _ p m (λ h. of_within w (a + 2 ^ k) b p (later p v r)) (λ q parent i n j. sooner n (i n j)))
         | inl s ↦ elim (cases_order (w - p.len) k) [
           | inl e ↦ inl (
-              let e' : 2 ^ (w - p.len) ≡ 2 ^ k = ap (λ i. 2 ^ i) e in
+              let e' = ap (λ i. 2 ^ i) e in
               same_prefix (head_prefix w a k) p (omega (arith, e')) (omega arith))
-          | inr (inr big) ↦ absurd (let x : 2 ^ k < 2 ^ (w - p.len) = pow_below k (w - p.len) big in omega arith)
+          | inr (inr big) ↦ absurd (omega (arith, pow_below k (w - p.len) big))
           | inr (inl small) ↦ absurd (
               let (q, parent, le) = parent_of w p m.is_prefix (omega arith) in
-              let c : IsIn w q p.first = parent.holds p.first (first_in w p) in
-              let cu : p.first < q.first + 2 ^ (w - q.len) = c.upto in
-              let sh : p.len ≡ q.len + 1 = parent.shorter in
-              let n : Nested a (2 ^ k) q.first (2 ^ (w - q.len)) =
-              nested (w - q.len) k a q.first (omega arith) g.fits.aligned (multiple_at w q parent.is_prefix) (omega arith) (omega arith) in
-              let nf : a ≤ q.first = n.from in
-              let nu : q.first + 2 ^ (w - q.len) ≤ a + 2 ^ k = n.upto in
-              let gw : a + 2 ^ k ≤ b + 1 = g.fits.within in
-              m.greatest q parent (of_within w a b q (record { from = nf; upto = omega arith })))
+              let c = parent.holds p.first (first_in w p) in
+              let n = nested (w - q.len) k a q.first (omega arith) g.fits.aligned (multiple_at w q parent.is_prefix) (omega arith) (omega arith) in
+              m.greatest q parent (of_within w a b q (record { from = n.from; upto = omega arith })))
         ]
       ]
 
@@ -114,8 +87,7 @@ module _ (w a b k : ℕ) (order : a ≤ b) (below : b < 2 ^ w) (g : IsGreatest w
       → CoverOf w (InRange a b) (head_prefix w a k ∷ ps)
   cover_step ps t = record {
     ascending = (
-      all_of (λ q. a + 2 ^ (w - (w - k)) ≤ q.first) ps (λ q i.
-          let v : Within w q (a + 2 ^ k) b = within_of w (a + 2 ^ k) b q (t.sound q i).inside in rw size_is v.from),
+      all_of (λ q. a + 2 ^ (w - (w - k)) ≤ q.first) ps (λ q i. rw size_is (within_of w (a + 2 ^ k) b q (t.sound q i).inside).from),
       t.ascending,
     );
     sound = λ p i. elim i [ inl e ↦ subst (λ (x : PrefixValue). IsMaximal w (InRange a b) x) e head_maximal | inr j ↦ tail_maximal p (t.sound p j) ];
@@ -131,16 +103,12 @@ module _ (w a b k : ℕ) (order : a ≤ b) (below : b < 2 ^ w) (g : IsGreatest w
 -- the cover_list list is the cover list
 cover_list_upto_covers : (n w a b : ℕ) → b < 2 ^ w → b + 1 ≤ a + n → CoverOf w (InRange a b) (cover_list_upto n w a b)
 cover_list_upto_covers zero w a b below h = cover_none w (InRange a b) (λ n i. omega (arith, i.0, i.1))
-cover_list_upto_covers (suc n) w a b below h =
-    elim (cases_Bool (leb a b)) [
-      | inr e ↦ rw e (let l : b < a = leb-false a b e in cover_none w (InRange a b) (λ n i. omega (arith, i.0, i.1)))
-      | inl e ↦ rw e (
-          let l : a ≤ b = leb-true a b e in
-          let k : ℕ = free_bits_upto w a b in
-          let p : 0 < 2 ^ free_bits_upto w a b = pow_pos (free_bits_upto w a b) in
-          cover_step w a b (free_bits_upto w a b) l below (free_bits_upto_is w a b l) _
-          (cover_list_upto_covers n w (a + 2 ^ free_bits_upto w a b) b below (omega arith)))
-    ]
+cover_list_upto_covers (suc n) w a b below h = elim (cases_lt b a) [
+  | inl l ↦ rw (lt-leb a b l) (cover_none w (InRange a b) (λ n i. omega (arith, i.0, i.1)))
+  | inr l ↦
+      let p = pow_pos (free_bits_upto w a b) in
+      rw (le-leb a b l) (cover_step w a b _ l below (free_bits_upto_is w a b l) _ (cover_list_upto_covers n w _ b below (omega arith)))
+]
 
 -- with as many steps as the range has numbers
 pub cover_list_covers : (w a b : ℕ) → b < 2 ^ w → CoverOf w (InRange a b) (cover_list w a b)

@@ -1,5 +1,5 @@
 -- The greatest block of 2 ^ k numbers at the beginning of a range.
-use Rattle.rpki_cover.proofs.Common.{Bool, arith, eqb, inl, inr, leb, suc, true, zero, ℕ, ◌%◌, ◌&&◌, ◌+◌, ◌^◌, ◌≡◌, ◌≤◌, and_from, and_parts, cases_Bool, cases_order, eq-eqb, eqb-true, le-leb, leb-true, pow_pos, free_bits, free_bits_upto}
+use Rattle.rpki_cover.proofs.Common.{arith, eqb, inl, inr, leb, suc, zero, ℕ, ◌%◌, ◌&&◌, ◌+◌, ◌^◌, ◌≡◌, ◌≤◌, and_from, and_parts, cases_Bool, cases_lt, eq-eqb, eqb-true, le-leb, leb-true, pow_pos, free_bits_upto}
 use Rattle.rpki_cover.proofs.Multiples.{IsMultiple, multiple_mod, mod_multiple}
 
 -- 2 ^ k numbers from a on are a block, which ends at b or before
@@ -21,34 +21,24 @@ free_bits_upto_is zero a b h = record {
   greatest = λ j l f. l;
 }
 free_bits_upto_is (suc w) a b h =
-    let test : Bool = eqb (a % 2 ^ suc w) 0 && leb (a + 2 ^ suc w) (b + 1) in
     let IH : IsGreatest w a b (free_bits_upto w a b) = free_bits_upto_is w a b h in
     elim (cases_Bool (eqb (a % 2 ^ suc w) 0 && leb (a + 2 ^ suc w) (b + 1))) [
-      | inl e ↦ rw e (
-          let both : (eqb (a % 2 ^ suc w) 0 ≡ true) × (leb (a + 2 ^ suc w) (b + 1) ≡ true) = and_parts (eqb (a % 2 ^ suc w) 0) (leb (a + 2 ^ suc w) (b + 1)) e in
-          record {
-            upto = omega arith;
-            fits = record { aligned = mod_multiple (suc w) a (eqb-true _ _ both.0); within = leb-true _ _ both.1 };
-            greatest = λ j l f. l;
-          })
+      | inl e ↦
+          let both = and_parts _ _ e in
+          let fits : Fits a b (suc w) = record { aligned = mod_multiple (suc w) a (eqb-true _ _ both.0); within = leb-true _ _ both.1 } in
+          rw e (record { upto = omega arith; fits = fits; greatest = λ j l f. l })
       | inr e ↦ rw e (record {
-        upto = (let u : free_bits_upto w a b ≤ w = IH.upto in omega arith);
+        upto = omega arith;
         fits = IH.fits;
-        greatest = λ j l f. elim (cases_order j (suc w)) [
-          | inl q ↦ absurd (
-              let f' : Fits a b (suc w) = rw q at f in
-              let t : (eqb (a % 2 ^ suc w) 0 && leb (a + 2 ^ suc w) (b + 1)) ≡ true =
-              and_from _ _ (eq-eqb _ _ (multiple_mod (2 ^ suc w) a (pow_pos (suc w)) f'.aligned)) (le-leb _ _ f'.within) in cc)
-          | inr (inl q) ↦ IH.greatest j (omega arith) f
-          | inr (inr q) ↦ absurd (omega arith)
+        greatest = λ j l f. elim (cases_lt j (suc w)) [
+          | inl q ↦ IH.greatest j (omega arith) f
+          | inr q ↦ absurd (
+              let s : j ≡ suc w = omega arith in
+              let f' : Fits a b (suc w) = rw s at f in
+              let t = and_from _ _ (eq-eqb _ _ (multiple_mod (2 ^ suc w) a (pow_pos (suc w)) f'.aligned)) (le-leb _ _ f'.within) in cc)
         ];
       })
     ]
-
--- whatever the width
-pub free_bits_is : (w a b : ℕ) → a ≤ b → IsGreatest w a b (free_bits w a b)
-unfolding free_bits
-free_bits_is w a b h = free_bits_upto_is w a b h
 
 -- there is one
 pub same_greatest : (w a b j k : ℕ) → IsGreatest w a b j → IsGreatest w a b k → j ≡ k

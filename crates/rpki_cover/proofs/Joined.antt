@@ -1,24 +1,16 @@
 -- The cover list of two sets with a gap between them.
-use Rattle.rpki_cover.proofs.Common.{List, [], arith, inl, inr, refl, ℕ, ◌++◌, ◌+◌, ◌-◌, ◌<◌, ◌^◌, ◌∷◌, ◌≤◌, ◌⊎◌, cases_lt, All-append, pow_pos, IsMaximal, LiesIn, PrefixValue, Ascends}
+use Rattle.rpki_cover.proofs.Common.{List, [], arith, inl, inr, refl, ℕ, ◌++◌, ◌+◌, ◌-◌, ◌<◌, ◌^◌, ◌∷◌, ◌≤◌, ◌⊎◌, cases_lt, All-append, pow_pos, LiesIn, PrefixValue, Ascends}
 use Rattle.rpki_cover.proofs.CoverList.{CoverOf}
 use Rattle.rpki_cover.proofs.Membership.{In, all_of, in_append_left, in_append_right, in_append_cases}
-use Rattle.rpki_cover.proofs.Nesting.{first_in}
+use Rattle.rpki_cover.proofs.Nesting.{first_in, maximal_weaker}
 
 -- the same numbers have the same cover list
 pub cover_same : (w : ℕ) (S T : ℕ → Type 0) (ps : List PrefixValue) → ((n : ℕ) → S n → T n) → ((n : ℕ) → T n → S n)
     → CoverOf w S ps → CoverOf w T ps
 cover_same w S T ps to from c = record {
   ascending = c.ascending;
-  sound = λ p i. let m : IsMaximal w S p = c.sound p i in record {
-    is_prefix = m.is_prefix;
-    inside = λ n h. to n (m.inside n h);
-    greatest = λ q parent h. m.greatest q parent (λ n k. from n (h n k));
-  };
-  complete = λ p m. c.complete p (record {
-    is_prefix = m.is_prefix;
-    inside = λ n h. from n (m.inside n h);
-    greatest = λ q parent h. m.greatest q parent (λ n k. to n (h n k));
-  });
+  sound = λ p i. maximal_weaker w S T p (c.sound p i) (λ h n k. to n (h n k)) (λ q parent h n k. from n (h n k));
+  complete = λ p m. c.complete p (maximal_weaker w T S p m (λ h n k. from n (h n k)) (λ q parent h n k. to n (h n k)));
   nests = λ q is i. c.nests q is (λ n h. from n (i n h));
 }
 
@@ -39,15 +31,14 @@ module _ (w m : ℕ) (S T : ℕ → Type 0) (low : (n : ℕ) → S n → n ≤ m
   one_side : (q : PrefixValue) → LiesIn w (λ n. S n ⊎ T n) q → LiesIn w S q ⊎ LiesIn w T q
   one_side q i =
       elim (cases_lt m q.first) [
-        | inl above ↦ inr (λ n h. elim (i n h) [ inl s ↦ absurd (let l : n ≤ m = low n s in let f : q.first ≤ n = h.from in omega arith) | inr t ↦ t ])
+        | inl above ↦ inr (λ n h. elim (i n h) [ inl s ↦ absurd (omega (arith, low n s)) | inr t ↦ t ])
         | inr below ↦ inl (λ n h. elim (i n h) [
           | inl s ↦ s
           | inr t ↦ absurd (
-              let l : m + 1 < n = high n t in
-              let u : n < q.first + 2 ^ (w - q.len) = h.upto in
+              let l = high n t in
               elim (i (m + 1) (record { from = omega arith; upto = omega arith })) [
-                | inl s ↦ (let x : m + 1 ≤ m = low (m + 1) s in omega arith)
-                | inr t' ↦ (let x : m + 1 < m + 1 = high (m + 1) t' in omega arith)
+                | inl s ↦ omega (arith, low (m + 1) s)
+                | inr t' ↦ omega (arith, high (m + 1) t')
               ])
         ])
       ]
@@ -63,26 +54,22 @@ module _ (w m : ℕ) (S T : ℕ → Type 0) (low : (n : ℕ) → S n → n ≤ m
         omega arith)
         (λ q i. let l : m + 1 < q.first = high _ ((d.sound q i).inside q.first (first_in w q)) in omega arith);
     sound = λ p i. elim (in_append_cases ps qs p i) [
-      | inl j ↦ (let x : IsMaximal w S p = c.sound p j in record {
-        is_prefix = x.is_prefix;
-        inside = λ n h. inl (x.inside n h);
-        greatest = λ q parent h. elim (one_side q h) [
-          | inl s ↦ x.greatest q parent s
-          | inr t ↦ (let a : p.first ≤ m = low _ (x.inside p.first (first_in w p)) in let b : m + 1 < p.first = high _ (t p.first (parent.holds p.first (first_in w p))) in omega arith)
-        ];
-      })
-      | inr j ↦ (let x : IsMaximal w T p = d.sound p j in record {
-        is_prefix = x.is_prefix;
-        inside = λ n h. inr (x.inside n h);
-        greatest = λ q parent h. elim (one_side q h) [
-          | inl s ↦ (let a : m + 1 < p.first = high _ (x.inside p.first (first_in w p)) in let b : p.first ≤ m = low _ (s p.first (parent.holds p.first (first_in w p))) in omega arith)
-          | inr t ↦ x.greatest q parent t
-        ];
-      })
+      | inl j ↦ maximal_weaker w S _ p (c.sound p j) (λ h n k. inl (h n k)) (λ q parent h. elim (one_side q h) [
+        | inl s ↦ s
+        | inr t ↦ (
+            let a = low _ ((c.sound p j).inside p.first (first_in w p)) in
+            let b = high _ (t p.first (parent.holds p.first (first_in w p))) in absurd (omega arith))
+      ])
+      | inr j ↦ maximal_weaker w T _ p (d.sound p j) (λ h n k. inr (h n k)) (λ q parent h. elim (one_side q h) [
+        | inl s ↦ (
+            let a = high _ ((d.sound p j).inside p.first (first_in w p)) in
+            let b = low _ (s p.first (parent.holds p.first (first_in w p))) in absurd (omega arith))
+        | inr t ↦ t
+      ])
     ];
     complete = λ p x. elim (one_side p x.inside) [
-      | inl s ↦ in_append_left ps qs p (c.complete p (record { is_prefix = x.is_prefix; inside = s; greatest = λ q parent h. x.greatest q parent (λ n k. inl (h n k)) }))
-      | inr t ↦ in_append_right ps qs p (d.complete p (record { is_prefix = x.is_prefix; inside = t; greatest = λ q parent h. x.greatest q parent (λ n k. inr (h n k)) }))
+      | inl s ↦ in_append_left ps qs p (c.complete p (maximal_weaker w _ S p x (λ _. s) (λ q parent h n k. inl (h n k))))
+      | inr t ↦ in_append_right ps qs p (d.complete p (maximal_weaker w _ T p x (λ _. t) (λ q parent h n k. inr (h n k))))
     ];
     nests = λ q is i. elim (one_side q i) [
       | inl s ↦ (let (p, j, h) = c.nests q is s in (p, in_append_left ps qs p j, h))

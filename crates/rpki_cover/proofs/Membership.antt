@@ -1,5 +1,8 @@
 -- Elements of lists, by recursion.
-use Rattle.rpki_cover.proofs.Common.{Bool, List, [], arith, false, inl, inr, length, suc, true, zero, ◌++◌, ◌<◌, ◌∷◌, ◌≡◌, ◌≤◌, ◌⊎◌, cases_Bool, All-contains, All-contains_itself, All-weaker, All, Contains, filter}
+use Rattle.rpki_cover.proofs.Common.{Bool, refl, List, [], arith, false, inl, inr, length, suc, true, zero, ◌++◌, ◌<◌, ◌∷◌, ◌≡◌, ◌⊎◌, cases_Bool, All-contains, All-contains_itself, All-weaker, All, Contains, filter}
+use Rattle.std.proofs.lemmas.List.Elements.{Contains-append_left, Contains-append_right, Contains-append_cases}
+use Rattle.std.proofs.lemmas.List.Filters.{length-filter_both}
+use Rattle.std.specs.Prelude.{not}
 
 -- x is an element of xs, by recursion on the list
 abbrev pub In : {X : Type 0} → List X → X → Type 0
@@ -26,31 +29,25 @@ at_all P xs a x i = All-contains P xs x a (of_in xs x i)
 
 -- elements of two lists one after the other
 pub in_append_left : {X : Type 0} → (xs ys : List X) (x : X) → In xs x → In (xs ++ ys) x
-in_append_left [] ys x i = absurd i
-in_append_left (z ∷ zs) ys x (inl e) = inl e
-in_append_left (z ∷ zs) ys x (inr i) = inr (in_append_left zs ys x i)
+in_append_left xs ys x i = in_of (xs ++ ys) x (Contains-append_left xs ys x (of_in xs x i))
 
 pub in_append_right : {X : Type 0} → (xs ys : List X) (x : X) → In ys x → In (xs ++ ys) x
-in_append_right [] ys x i = i
-in_append_right (z ∷ zs) ys x i = inr (in_append_right zs ys x i)
+in_append_right xs ys x i = in_of (xs ++ ys) x (Contains-append_right xs ys x (of_in ys x i))
 
 pub in_append_cases : {X : Type 0} → (xs ys : List X) (x : X) → In (xs ++ ys) x → In xs x ⊎ In ys x
-in_append_cases [] ys x i = inr i
-in_append_cases (z ∷ zs) ys x (inl e) = inl (inl e)
-in_append_cases (z ∷ zs) ys x (inr i) = elim (in_append_cases zs ys x i) [ inl j ↦ inl (inr j) | inr j ↦ inr j ]
+in_append_cases xs ys x i = elim (Contains-append_cases xs ys x (of_in (xs ++ ys) x i)) [
+  | inl h ↦ inl (in_of xs x h)
+  | inr h ↦ inr (in_of ys x h)
+]
 
 -- elements that pass a test
-module _ {X : Type 0} (test : X → Bool) where
-  pub in_filter : (xs : List X) (x : X) → In xs x → test x ≡ true → In (filter test xs) x
-  in_filter [] x i t = absurd i
-  in_filter (y ∷ ys) x (inl e) t = grind (arith)
-  in_filter (y ∷ ys) x (inr i) t = grind (arith, cases_Bool, in_filter ys x i t)
+pub in_filter : {X : Type 0} → (test : X → Bool) (xs : List X) (x : X) → In xs x → test x ≡ true → In (filter test xs) x
+in_filter test [] x i t = absurd i
+in_filter test (y ∷ ys) x (inl e) t = grind (arith)
+in_filter test (y ∷ ys) x (inr i) t = grind (arith, cases_Bool, in_filter test ys x i t)
 
-  pub length_filter_le : (xs : List X) → length (filter test xs) ≤ length xs
-  length_filter_le [] = omega arith
-  length_filter_le (y ∷ ys) = grind (arith, cases_Bool, length_filter_le ys)
-
-  pub filter_shrinks : (xs : List X) (x : X) → In xs x → test x ≡ false → length (filter test xs) < length xs
-  filter_shrinks [] x i t = absurd i
-  filter_shrinks (y ∷ ys) x (inl e) t = grind (arith, length_filter_le)
-  filter_shrinks (y ∷ ys) x (inr i) t = grind (arith, cases_Bool, filter_shrinks ys x i t)
+pub filter_shrinks : {X : Type 0} → (test : X → Bool) (xs : List X) (x : X) → In xs x → test x ≡ false
+    → length (filter test xs) < length xs
+filter_shrinks test xs x i t =
+    let (k, h, e) = of_in _ x (in_filter (λ x. not (test x)) xs x i (rw t)) in
+    omega (arith, length-filter_both test (λ x. not (test x)) (λ x. refl) xs)

@@ -1,5 +1,5 @@
 -- Multiples, and the greatest power of 2 of which a number is one.
-use Rattle.rpki_cover.proofs.Common.{ap, arith, inl, inr, refl, suc, sym, zero, ℕ, ◌%◌, ◌*◌, ◌+◌, ◌-◌, ◌/◌, ◌<◌, ◌^◌, ◌∙◌, ◌≡◌, ◌≤◌, mul-le-mul_right, mul-sub, two-pow-succ, cases_lt, div-add-mod', div-mul-add, mod-mul-add, pow-add, shr_split, count_trailing_zeros}
+use Rattle.rpki_cover.proofs.Common.{ap, arith, inl, inr, refl, suc, sym, zero, ℕ, ◌%◌, ◌*◌, ◌+◌, ◌-◌, ◌/◌, ◌<◌, ◌^◌, ◌∙◌, ◌≡◌, ◌≤◌, mul-le-mul_right, mul-sub, two-pow-succ, cases_lt, div-mul-add, mod-mul-add, pow-add, shr_split, count_trailing_zeros}
 use lib.Count.{under}
 
 -- a is a multiple of s
@@ -13,54 +13,33 @@ multiple_self s = record { times = 1; is = omega arith }
 
 -- the sum of two
 pub multiple_sum : (s a b : ℕ) → IsMultiple s a → IsMultiple s b → IsMultiple s (a + b)
-multiple_sum s a b m n = record {
-  times = m.times + n.times;
-  is = (let e : a ≡ m.times * s = m.is in let f : b ≡ n.times * s = n.is in omega arith);
-}
+multiple_sum s a b m n = record { times = m.times + n.times; is = omega arith }
 
 -- the difference of two
 pub multiple_diff : (s a b : ℕ) → IsMultiple s a → IsMultiple s b → IsMultiple s (b - a)
-multiple_diff s a b m n = record {
-  times = n.times - m.times;
-  is =
-      (let e : a ≡ m.times * s = m.is in
-      let f : b ≡ n.times * s = n.is in
-      let g : s * (n.times - m.times) ≡ s * n.times - s * m.times = mul-sub s n.times m.times in rw (e, f) (omega (arith, g)));
-}
-
--- one that isn't 0 is at least s
-pub multiple_least : (s a : ℕ) → IsMultiple s (a + 1) → s ≤ a + 1
-multiple_least s a m =
-    elim (cases_lt 0 m.times) [
-      | inl some ↦ (let k : 1 * s ≤ m.times * s = mul-le-mul_right s some in let e : a + 1 ≡ m.times * s = m.is in omega (arith, k, e))
-      | inr none ↦ absurd (let z : m.times ≡ 0 = omega (arith, none) in let e : a + 1 ≡ m.times * s = m.is in let f : a + 1 ≡ 0 * s = rw z at e in omega (arith, f))
-    ]
+multiple_diff s a b m n = record { times = n.times - m.times; is = omega (arith, mul-sub s n.times m.times) }
 
 -- one that is greater than another is greater by s at least
 pub multiple_gap : (s a b : ℕ) → IsMultiple s a → IsMultiple s b → a < b → a + s ≤ b
-multiple_gap s a b m n h =
-    elim (cases_lt m.times n.times) [
-      | inl l ↦ (let k : (m.times + 1) * s ≤ n.times * s = mul-le-mul_right s (omega arith) in
-          let e : a ≡ m.times * s = m.is in
-          let f : b ≡ n.times * s = n.is in omega arith)
-      | inr g ↦ (let k : n.times * s ≤ m.times * s = mul-le-mul_right s g in
-          let e : a ≡ m.times * s = m.is in
-          let f : b ≡ n.times * s = n.is in absurd (omega arith))
-    ]
+multiple_gap s a b m n h = elim (cases_lt m.times n.times) [
+  | inl l ↦ (let k : (m.times + 1) * s ≤ n.times * s = mul-le-mul_right s (omega arith) in omega arith)
+  | inr g ↦ (let k : n.times * s ≤ m.times * s = mul-le-mul_right s g in absurd (omega arith))
+]
 
 -- so is 0
 pub multiple_zero : (s : ℕ) → IsMultiple s 0
 multiple_zero s = record { times = 0; is = omega arith }
 
+-- one that isn't 0 is at least s
+pub multiple_least : (s a : ℕ) → IsMultiple s (a + 1) → s ≤ a + 1
+multiple_least s a m = omega (arith, multiple_gap s 0 (a + 1) (multiple_zero s) m (omega arith))
+
 -- a multiple of a power of 2 is one of each smaller power
 pub multiple_smaller : (j k a : ℕ) → j ≤ k → IsMultiple (2 ^ k) a → IsMultiple (2 ^ j) a
-multiple_smaller j k a h m = record {
-  times = m.times * 2 ^ (k - j);
-  is =
-      (let split : k ≡ (k - j) + j = omega (arith, h) in
-      let e : 2 ^ k ≡ 2 ^ (k - j) * 2 ^ j = ap (λ i. 2 ^ i) split ∙ pow-add 2 (k - j) j in
-      let f : a ≡ m.times * 2 ^ k = m.is in rw (f, e) (omega arith));
-}
+multiple_smaller j k a h m =
+    let split : k ≡ k - j + j = omega arith in
+    let power = ap (λ i. m.times * 2 ^ i) split ∙ ap (λ x. m.times * x) (pow-add 2 (k - j) j) in
+    record { times = m.times * 2 ^ (k - j); is = m.is ∙ power ∙ omega arith }
 
 -- nothing is left of one behind the division
 pub multiple_mod : (s a : ℕ) → 0 < s → IsMultiple s a → a % s ≡ 0
@@ -95,11 +74,7 @@ nested j k a b h m n p q =
 
 -- one digit more
 under_divides : (n t d : ℕ) → n % 2 ≡ d → IsMultiple (2 ^ t) (n / 2) → IsMultiple (2 ^ under d t) n
-under_divides n t zero z m =
-    let e : n / 2 * 2 + n % 2 ≡ n = div-add-mod' n 2 in
-    let f : n / 2 ≡ m.times * 2 ^ t = m.is in
-    let d : 2 ^ suc t ≡ 2 ^ t + 2 ^ t = two-pow-succ t in
-    record { times = m.times; is = rw d (omega (arith, e, f, z)) }
+under_divides n t zero z m = record { times = m.times; is = rw (two-pow-succ t) (omega (arith, z)) }
 under_divides n t (suc d) z m = record { times = n; is = omega arith }
 
 -- a number is a multiple of the power of 2 that its zeros at the end are
@@ -112,19 +87,12 @@ zeros_divide (suc w) n = under_divides n (count_trailing_zeros w (n / 2)) (n % 2
 under_greatest : (n t d j : ℕ) → n % 2 ≡ d → ((i : ℕ) → suc i ≡ j → IsMultiple (2 ^ i) (n / 2) → i ≤ t)
     → IsMultiple (2 ^ j) n → j ≤ under d t
 under_greatest n t d zero z f m = omega arith
-under_greatest n t zero (suc i) z f m =
-    let d : 2 ^ suc i ≡ 2 ^ i + 2 ^ i = two-pow-succ i in
-    let g : n ≡ m.times * 2 ^ suc i = m.is in
-    let k : i ≤ t = f i refl (record {
-      times = m.times;
-      is = (let g' : n ≡ m.times * 2 ^ i * 2 + 0 = rw d at g ∙ omega arith in ap (λ x. x / 2) g' ∙ div-mul-add (m.times * 2 ^ i) 2 0 (omega arith));
-    }) in omega arith
-under_greatest n t (suc d) (suc i) z f m =
-    let q : 2 ^ suc i ≡ 2 ^ i + 2 ^ i = two-pow-succ i in
-    let g : n ≡ m.times * 2 ^ suc i = m.is in
-    let g' : n ≡ m.times * (2 ^ i + 2 ^ i) = rw q at g in
-    let g'' : n ≡ m.times * 2 ^ i * 2 + 0 = g' ∙ omega arith in
-    let r : n % 2 ≡ 0 = ap (λ x. x % 2) g'' ∙ mod-mul-add (m.times * 2 ^ i) 2 0 (omega arith) in absurd (omega arith)
+under_greatest n t d (suc i) z f m =
+    let double : n ≡ m.times * 2 ^ i * 2 = m.is ∙ rw (two-pow-succ i) (omega arith) in
+    elim d as (λ d. n % 2 ≡ d → suc i ≤ under d t) [
+      | zero ↦ λ even. (let k = f i refl (record { times = m.times; is = omega (arith, double) }) in omega arith)
+      | suc d ↦ λ odd. absurd (omega (arith, double))
+    ] z
 
 -- and of no greater power of 2 up to 2 ^ w
 pub zeros_greatest : (w n j : ℕ) → j ≤ w → IsMultiple (2 ^ j) n → j ≤ count_trailing_zeros w n

@@ -1,5 +1,5 @@
 -- Prefixes inside ranges and inside one another.
-use Rattle.rpki_cover.proofs.Common.{arith, inl, inr, ℕ, ◌+◌, ◌-◌, ◌<◌, ◌^◌, ◌≡◌, ◌≤◌, ◌⊎◌, cases_lt, pow_pos, IsIn, IsParent, IsPrefix, LiesIn, PrefixValue}
+use Rattle.rpki_cover.proofs.Common.{IsMaximal, arith, inl, inr, ℕ, ◌+◌, ◌-◌, ◌<◌, ◌^◌, ◌≡◌, ◌≤◌, ◌⊎◌, cases_lt, pow_pos, IsIn, IsParent, IsPrefix, LiesIn, PrefixValue}
 use Rattle.rpki_cover.proofs.Greatest.{Fits, IsGreatest}
 use Rattle.rpki_cover.proofs.Multiples.{IsMultiple, mod_multiple, nested, Nested}
 use Rattle.rpki_addr.proofs.PrefixNumbers.{cleared_prefix, cleared_holds}
@@ -38,19 +38,16 @@ multiple_at w p is = mod_multiple (w - p.len) p.first is.aligned
 pub no_straddle : (w a b k : ℕ) (p : PrefixValue) → IsGreatest w a b k → IsPrefix w p → Within w p a b
     → (p.first + 2 ^ (w - p.len) ≤ a + 2 ^ k) ⊎ (a + 2 ^ k ≤ p.first)
 no_straddle w a b k p g is i =
-    let h : 0 < 2 ^ (w - p.len) = pow_pos (w - p.len) in
-    let h' : 0 < 2 ^ k = pow_pos k in
-    let from : a ≤ p.first = i.from in
-    let upto : p.first + 2 ^ (w - p.len) ≤ b + 1 = i.upto in
-    let m : IsMultiple (2 ^ (w - p.len)) p.first = multiple_at w p is in
+    let h = pow_pos (w - p.len) in
+    let m = multiple_at w p is in
     elim (cases_lt p.first (a + 2 ^ k)) [
       | inr r ↦ inr r
       | inl l ↦ elim (cases_lt k (w - p.len)) [
         | inr s ↦ inl (nested (w - p.len) k a p.first s g.fits.aligned m l (omega arith)).upto
         | inl s ↦ absurd (
             let n : Nested p.first (2 ^ (w - p.len)) a (2 ^ k) = nested k (w - p.len) p.first a (omega arith) m g.fits.aligned (omega arith) l in
-            let e : p.first ≡ a = (let u : p.first ≤ a = n.from in omega arith) in
-            let f : Fits a b (w - p.len) = record { aligned = rw e at m; within = rw e at upto } in
+            let e : p.first ≡ a = omega arith in
+            let f : Fits a b (w - p.len) = record { aligned = rw e at m; within = rw e at i.upto } in
             let t : w - p.len ≤ k = g.greatest (w - p.len) (omega arith) f in omega arith)
       ]
     ]
@@ -59,31 +56,34 @@ no_straddle w a b k p g is i =
 pub parent_of : (w : ℕ) (p : PrefixValue) → IsPrefix w p → 0 < p.len
     → (q : PrefixValue) × IsParent w q p × (q.first ≤ p.first)
 parent_of w p is pos =
-    let prefix : IsPrefix w (record { first = cleared w p.first (p.len - 1); len = p.len - 1 }) = cleared_prefix w p.first (p.len - 1) (omega (arith, is.short)) is.below in
-    let held : IsIn w (record { first = cleared w p.first (p.len - 1); len = p.len - 1 }) p.first = cleared_holds w p.first (p.len - 1) in
-    let some : 0 < 2 ^ (w - p.len) = pow_pos (w - p.len) in
-    let n : Nested (cleared w p.first (p.len - 1)) (2 ^ (w - (p.len - 1))) p.first (2 ^ (w - p.len)) =
-    nested (w - p.len) (w - (p.len - 1)) _ p.first (omega arith) (mod_multiple _ _ prefix.aligned) (multiple_at w p is) held.upto (omega (arith, held.from, some)) in (
-      record { first = cleared w p.first (p.len - 1); len = p.len - 1 },
-      record { is_prefix = prefix; shorter = omega arith; holds = inside_of w p (record { first = cleared w p.first (p.len - 1); len = p.len - 1 }) n.from n.upto },
-      held.from,
-    )
+    let q : PrefixValue = record { first = cleared w p.first (p.len - 1); len = p.len - 1 } in
+    let prefix : IsPrefix w q = cleared_prefix w p.first (p.len - 1) (omega (arith, is.short)) is.below in
+    let held : IsIn w q p.first = cleared_holds w p.first (p.len - 1) in
+    let some = pow_pos (w - p.len) in
+    let n = nested (w - p.len) (w - (p.len - 1)) _ p.first (omega arith) (mod_multiple _ _ prefix.aligned) (multiple_at w p is) held.upto (omega (arith, held.from, some)) in
+    (q, record { is_prefix = prefix; shorter = omega arith; holds = inside_of w p q n.from n.upto }, held.from)
 
 -- of two prefixes that share a number the longer lies in the shorter
+longer_inside : (w : ℕ) (p q : PrefixValue) → IsPrefix w p → IsPrefix w q → (n : ℕ) → IsIn w p n → IsIn w q n
+    → w - p.len ≤ w - q.len → LiesIn w (IsIn w q) p
+longer_inside w p q is_p is_q n in_p in_q fewer =
+    let k = nested (w - p.len) (w - q.len) q.first p.first fewer (multiple_at w q is_q) (multiple_at w p is_p) (omega arith) (omega arith) in
+    inside_of w p q k.from k.upto
+
 pub prefixes_nested : (w : ℕ) (p q : PrefixValue) → IsPrefix w p → IsPrefix w q → (n : ℕ) → IsIn w p n → IsIn w q n
     → LiesIn w (IsIn w p) q ⊎ LiesIn w (IsIn w q) p
 prefixes_nested w p q is_p is_q n in_p in_q = elim (cases_lt (w - p.len) (w - q.len)) [
-  | inl fewer ↦
-      let k : Nested q.first (2 ^ (w - q.len)) p.first (2 ^ (w - p.len)) =
-      nested (w - p.len) (w - q.len) q.first p.first (omega (arith, fewer)) (multiple_at w q is_q) (multiple_at w p is_p) (omega (arith, in_p.from, in_q.upto)) (omega (arith, in_q.from, in_p.upto)) in
-      inr (inside_of w p q k.from k.upto)
-  | inr more ↦
-      let k : Nested p.first (2 ^ (w - p.len)) q.first (2 ^ (w - q.len)) =
-      nested (w - q.len) (w - p.len) p.first q.first more (multiple_at w p is_p) (multiple_at w q is_q) (omega (arith, in_q.from, in_p.upto)) (omega (arith, in_p.from, in_q.upto)) in
-      inl (inside_of w q p k.from k.upto)
+  | inl fewer ↦ inr (longer_inside w p q is_p is_q n in_p in_q (omega arith))
+  | inr more ↦ inl (longer_inside w q p is_q is_p n in_q in_p more)
 ]
 
 -- where one lies in the other, they share its first number
 pub nested_share : (w : ℕ) (p q : PrefixValue) → LiesIn w (IsIn w p) q ⊎ LiesIn w (IsIn w q) p
     → (n : ℕ) × IsIn w p n × IsIn w q n
 nested_share w p q h = grind (arith, first_in)
+
+-- a maximal prefix inside one set is maximal inside another that has its numbers, if no parent is inside that one alone
+pub maximal_weaker : (w : ℕ) (S T : ℕ → Type 0) (p : PrefixValue) → IsMaximal w S p → (LiesIn w S p → LiesIn w T p)
+    → ((q : PrefixValue) → IsParent w q p → LiesIn w T q → LiesIn w S q) → IsMaximal w T p
+maximal_weaker w S T p m to from =
+    record { is_prefix = m.is_prefix; inside = to m.inside; greatest = λ q parent i. m.greatest q parent (from q parent i) }

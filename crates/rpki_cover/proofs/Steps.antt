@@ -1,5 +1,5 @@
 -- The walk that finds a cover list, step by step.
-use Rattle.rpki_cover.proofs.Common.{List, MatchOption, Option, [], ap, arith, inl, inr, leb, refl, suc, zero, ℕ, ◌+◌, ◌-◌, ◌<◌, ◌^◌, ◌∷◌, ◌≡◌, ◌≤◌, cases_Bool, le-leb, lt-leb, pow_pos, PrefixValue, cover_list, cover_list_upto, free_bits, free_bits_upto, left_cover}
+use Rattle.rpki_cover.proofs.Common.{MatchOption, Option, [], arith, refl, suc, zero, ℕ, ◌+◌, ◌-◌, ◌<◌, ◌^◌, ◌∷◌, ◌≡◌, ◌≤◌, le-leb, lt-leb, pow_pos, cover_list, cover_list_upto, free_bits, free_bits_upto, left_cover}
 use Rattle.rpki_cover.proofs.CoverList.{head_prefix}
 
 -- any count that is large enough gives one list
@@ -9,13 +9,7 @@ cover_list_fuel zero zero w a b h k = refl
 cover_list_fuel zero (suc m) w a b h k = rw (lt-leb a b (omega arith)) refl
 cover_list_fuel (suc n) zero w a b h k = rw (lt-leb a b (omega arith)) refl
 cover_list_fuel (suc n) (suc m) w a b h k =
-    elim (cases_Bool (leb a b)) [
-      | inr e ↦ rw e refl
-      | inl e ↦ rw e (
-          let p : 0 < 2 ^ free_bits_upto w a b = pow_pos (free_bits_upto w a b) in
-          ap (λ (ps : List PrefixValue). head_prefix w a (free_bits_upto w a b) ∷ ps)
-          (cover_list_fuel n m w (a + 2 ^ free_bits_upto w a b) b (omega arith) (omega arith)))
-    ]
+    grind (arith, le-leb, lt-leb, pow_pos, cover_list_fuel n m w (a + 2 ^ free_bits_upto w a b) b)
 
 -- nothing is left behind the end
 pub cover_list_end : (w a b : ℕ) → b < a → cover_list w a b ≡ []

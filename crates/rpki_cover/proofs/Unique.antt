@@ -1,22 +1,21 @@
 -- A set has one cover list.
-use Rattle.rpki_cover.proofs.Common.{List, [], arith, inl, inr, refl, subst, sym, ℕ, ◌+◌, ◌-◌, ◌<◌, ◌^◌, ◌∷◌, ◌≡◌, ◌≤◌, pow_pos, PrefixValue, Ascends, IsCoverList}
+use Rattle.rpki_cover.proofs.Common.{List, [], arith, inl, inr, refl, subst, sym, ℕ, ◌+◌, ◌-◌, ◌^◌, ◌∷◌, ◌≡◌, ◌≤◌, pow_pos, PrefixValue, Ascends, IsCoverList}
 use Rattle.rpki_cover.proofs.Membership.{In, in_of, of_in, at_all}
 
--- later prefixes begin later
-behind : (w : ℕ) (p q : PrefixValue) (ps : List PrefixValue) → Ascends w (p ∷ ps) → In ps q → p.first < q.first
-behind w p q ps a i =
-    let h : p.first + 2 ^ (w - p.len) ≤ q.first = at_all (λ q. p.first + 2 ^ (w - p.len) ≤ q.first) ps a.0 q i in
-    let k : 0 < 2 ^ (w - p.len) = pow_pos (w - p.len) in omega arith
+-- later prefixes begin behind an earlier one
+pub behind : (w : ℕ) (p q : PrefixValue) (ps : List PrefixValue) → Ascends w (p ∷ ps) → In ps q
+    → p.first + 2 ^ (w - p.len) ≤ q.first
+behind w p q ps a i = at_all (λ q. p.first + 2 ^ (w - p.len) ≤ q.first) ps a.0 q i
 
 -- the first prefixes are one
 same_heads : (w : ℕ) (p q : PrefixValue) (ps qs : List PrefixValue) → Ascends w (p ∷ ps) → Ascends w (q ∷ qs)
     → In (q ∷ qs) p → In (p ∷ ps) q → p ≡ q
-same_heads w p q ps qs a b h j = grind (arith, behind)
+same_heads w p q ps qs a b h j = grind (arith, behind, pow_pos)
 
 -- what is later in the one is later in the other
 in_tail : (w : ℕ) (p r : PrefixValue) (ps qs : List PrefixValue) → Ascends w (p ∷ ps) → In ps r → In (p ∷ qs) r
     → In qs r
-in_tail w p r ps qs a i h = grind (arith, behind)
+in_tail w p r ps qs a i h = grind (arith, behind, pow_pos)
 
 -- two ascending lists with the same members are one
 pub same_lists : (w : ℕ) (ps qs : List PrefixValue) → Ascends w ps → Ascends w qs

@@ -1,4 +1,4 @@
-use Rattle.rpki_cover.proofs.Common.{arith, ◌-◌}
+use Rattle.rpki_cover.proofs.Common.{arith}
 use Rattle.rpki_cover.proofs.FreeBits.{greatest_by}
 use Rattle.rpki_cover.proofs.cover.free_bits.Goals as goal
 

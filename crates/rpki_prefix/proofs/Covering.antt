@@ -35,11 +35,6 @@ begins_later w a b k l short longer ends = grind (arith, pow_below, pow_pos)
 pub not_before : (p q : FamilyPrefix) → p.len ≤ width p.addr → LiesRound p q → is_lt (prefix_cmp p q) ≡ false
 not_before p q short r = grind (arith, begins_later, bool_same, cases_order, nat_greater, nat_same, same_width)
 
--- what the tests of the family and of the least addresses say
-pub record BeginsRound (p q : FamilyPrefix) : Type 0 where
-  pub family : is_v6 p.addr ≡ is_v6 q.addr
-  pub from : address_number p.addr ≤ address_number q.addr
-
 -- the test of two families says that they are the same
 pub same_bool : (a b : Bool) → beq a b ≡ true → a ≡ b
 same_bool a b e = grind (arith)

@@ -6,6 +6,7 @@ use Rattle.std.specs.Str.Parse.{AllDigits}
 use Rattle.std.proofs.lemmas.Fmt.{decimal_is_IsNumeral}
 use Rattle.std.proofs.lemmas.List.Elements.{All-append, All-cons, All-from_recursion, All-weaker}
 use Rattle.std.proofs.lemmas.Str.Parse.{digit_from_value}
+use Rattle.rpki_text.specs.Cuts.{IsCutAt}
 use Rattle.rpki_addr.specs.PrintedAddress.{ip_text}
 use Rattle.rpki_prefix.specs.declared.error.MaxLenError.{MaxLenError}
 use Rattle.rpki_prefix.specs.declared.error.ParseMaxLenPrefixError.{ParseMaxLenPrefixError}
@@ -13,15 +14,13 @@ use Rattle.rpki_prefix.specs.declared.error.ParseMaxLenPrefixError.TheVariants.{
 use Rattle.rpki_prefix.proofs.HostBits.{few_bits}
 use Rattle.rpki_prefix.proofs.TextLemmas.{number_apart, same_number_fault, IsPrefixText-one, IsPrefixText-no_fault, HasPrefixTextFault-one, IsPrefixText-prefix_text}
 
--- a text has one prefix and one greatest length round its first dash
-record SameBoth (p q : FamilyPrefix) (m n : ℕ) : Type 0 where
-  prefix : p ≡ q
-  max : m ≡ n
-
-both_one : (text : List ℕ) (p q : FamilyPrefix) (m n : ℕ) → HasMaxLen text p m → HasMaxLen text q n → SameBoth p q m n
-both_one text p q m n h k =
+-- a text has one prefix and one greatest length round its first dash: what holds of some holds of others
+both_carry : (text : List ℕ) (P : FamilyPrefix → ℕ → Type 0) (p q : FamilyPrefix) (m n : ℕ) → HasMaxLen text p m
+    → HasMaxLen text q n → P p m → P q n
+both_carry text P p q m n h k is =
     let here = around_at dash text k.left k.right (λ l r. ArePrefixAndMax l r p m) k.cut h in
-    record { prefix = IsPrefixText-one k.left p q here.prefix_text k.holds.prefix_text; max = IsNumberText-one (2 ^ 8 - 1) k.right m n here.max_len_text k.holds.max_len_text }
+    let same = IsPrefixText-one k.left p q here.prefix_text k.holds.prefix_text in
+    subst (λ x. P x n) same (subst (P p) (IsNumberText-one (2 ^ 8 - 1) k.right m n here.max_len_text k.holds.max_len_text) is)
 
 -- a prefix and a greatest length
 abbrev paired : FamilyPrefix → Option ℕ → MaxLenValue
@@ -30,14 +29,10 @@ paired p m = record { prefix = p; max_len = m }
 -- a text writes one prefix and greatest length
 value_one : (text : List ℕ) (p q : FamilyPrefix) (m n : Option ℕ) → IsMaxLenTextOf text p m → IsMaxLenTextOf text q n
     → paired p m ≡ paired q n
-value_one text p q None None h k = let same = IsPrefixText-one text p q h.1 k.1 in λ i. record { prefix = same i; max_len = None }
+value_one text p q None None h k = ap (λ r. paired r None) (IsPrefixText-one text p q h.1 k.1)
 value_one text p q None (Some n) h k = absurd (none_around dash text _ h.0 k.0)
 value_one text p q (Some m) None h k = absurd (none_around dash text _ k.0 h.0)
-value_one text p q (Some m) (Some n) h k = let same = both_one text p q m n h.0 k.0 in λ i. record { prefix = same.prefix i; max_len = Some (same.max i) }
-
--- so it writes one value
-text_one : (text : List ℕ) (x y : MaxLenValue) → IsMaxLenText text x → IsMaxLenText text y → x ≡ y
-text_one text x y h k = value_one text x.prefix y.prefix x.max_len y.max_len h k
+value_one text p q (Some m) (Some n) h k = both_carry text (λ r l. paired p (Some m) ≡ paired r (Some l)) p q m n h.0 k.0 refl
 
 -- a greatest length of the prefix has no error
 max_apart : (p : FamilyPrefix) (n : ℕ) (f : MaxLenError) → IsMaxLenOf p (Some n) → HasMaxLenError p (Some n) f → ⊥
@@ -47,30 +42,6 @@ max_apart p n f h above = grind (arith)
 max_error_one : (p : FamilyPrefix) (n : ℕ) (f g : MaxLenError) → HasMaxLenError p (Some n) f
     → HasMaxLenError p (Some n) g → f ≡ g
 max_error_one p n f g h k = grind (arith)
-
--- a text that writes a prefix and a greatest length has no fault
-apart_of : (text : List ℕ) (p : FamilyPrefix) (m : Option ℕ) (e : ParseMaxLenPrefixError) → IsMaxLenTextOf text p m
-    → HasMaxLenTextFault text e → ⊥
-apart_of text p None (InvalidPrefix f) h (inl k) = IsPrefixText-no_fault text p f h.1 k.1
-apart_of text p None (InvalidPrefix f) h (inr k) = none_around dash text _ h.0 k
-apart_of text p None (InvalidMaxLenFormat f) h k = none_around dash text _ h.0 k
-apart_of text p None (InvalidMaxLenValue f) h (q, n, both, _) = none_around dash text _ h.0 both
-apart_of text p (Some m) (InvalidPrefix f) h (inl k) = none_around dash text _ k.0 h.0
-apart_of text p (Some m) (InvalidPrefix f) h (inr k) =
-    let here = around_at dash text k.left k.right (λ l r. ArePrefixAndMax l r p m) k.cut h.0 in
-    IsPrefixText-no_fault k.left p f here.prefix_text k.holds
-apart_of text p (Some m) (InvalidMaxLenFormat f) h k =
-    let here = around_at dash text k.left k.right (λ l r. ArePrefixAndMax l r p m) k.cut h.0 in
-    let (q, is, fault) = k.holds in
-    number_apart k.right m f here.max_len_text fault
-apart_of text p (Some m) (InvalidMaxLenValue f) h (q, n, both, fault) =
-    let same = both_one text q p n m both h.0 in
-    max_apart p m f h.1 (subst (λ r. HasMaxLenError r (Some m) f) same.prefix (subst (λ k. HasMaxLenError q (Some k) f) same.max fault))
-
--- so a text that writes a value has none
-text_apart : (text : List ℕ) (m : MaxLenValue) (e : ParseMaxLenPrefixError) → IsMaxLenText text m
-    → HasMaxLenTextFault text e → ⊥
-text_apart text m e h k = apart_of text m.prefix m.max_len e h k
 
 -- a prefix before the dash has no fault there
 faulty_prefix : (text : List ℕ) (f : ParsePrefixError) (P : List ℕ → Type 0) → HasMaxLenTextFault text (InvalidPrefix f)
@@ -93,6 +64,18 @@ number_and_fault text p n f h k =
     let (q, is, fault) = k.holds in
     number_apart k.right n f here.max_len_text fault
 
+-- a text that writes a prefix and a greatest length has no fault
+apart_of : (text : List ℕ) (p : FamilyPrefix) (m : Option ℕ) (e : ParseMaxLenPrefixError) → IsMaxLenTextOf text p m
+    → HasMaxLenTextFault text e → ⊥
+apart_of text p None (InvalidPrefix f) h (inl k) = IsPrefixText-no_fault text p f h.1 k.1
+apart_of text p None (InvalidPrefix f) h (inr k) = none_around dash text _ h.0 k
+apart_of text p None (InvalidMaxLenFormat f) h k = none_around dash text _ h.0 k
+apart_of text p None (InvalidMaxLenValue f) h (q, n, both, _) = none_around dash text _ h.0 both
+apart_of text p (Some m) (InvalidPrefix f) h k = faulty_prefix text f _ k (as_around text p m h.0)
+apart_of text p (Some m) (InvalidMaxLenFormat f) h k = number_and_fault text p m f h.0 k
+apart_of text p (Some m) (InvalidMaxLenValue f) h (q, n, both, fault) =
+    max_apart p m f h.1 (both_carry text (λ r k. HasMaxLenError r (Some k) f) q p n m both h.0 fault)
+
 -- a text has one fault
 fault_one : (text : List ℕ) (d e : ParseMaxLenPrefixError) → HasMaxLenTextFault text d → HasMaxLenTextFault text e
     → d ≡ e
@@ -112,8 +95,7 @@ fault_one text (InvalidMaxLenFormat f) (InvalidMaxLenValue g) h (p, n, both, _) 
 fault_one text (InvalidMaxLenValue f) (InvalidPrefix g) (p, n, both, _) k = absurd (faulty_prefix text g _ k (as_around text p n both))
 fault_one text (InvalidMaxLenValue f) (InvalidMaxLenFormat g) (p, n, both, _) k = absurd (number_and_fault text p n g both k)
 fault_one text (InvalidMaxLenValue f) (InvalidMaxLenValue g) (p, m, both, fault) (q, n, others, other) =
-    let same = both_one text p q m n both others in
-    ap InvalidMaxLenValue (max_error_one q n f g (subst (λ r. HasMaxLenError r (Some n) f) same.prefix (subst (λ k. HasMaxLenError p (Some k) f) same.max fault)) other)
+    ap InvalidMaxLenValue (max_error_one q n f g (both_carry text (λ r k. HasMaxLenError r (Some k) f) p q m n both others fault) other)
 
 -- a printed prefix has no dash
 no_dash_digits : (ds : List ℕ) → AllDigits 10 ds → AllByRecursion (λ b. b ≢ dash) ds
@@ -123,9 +105,8 @@ no_dash_digits (c ∷ cs) h = let range = digit_from_value c h.0 in ((λ e. let 
 -- nor has the prefix with its length
 prefix_no_dash : (p : FamilyPrefix) → IsFamilyPrefix p → HasNo dash (prefix_text p)
 prefix_no_dash p h =
-    let few = few_bits p.addr in
-    let short = h.short in
-    let digits : All (λ b. b ≢ dash) (decimal p.len) = All-from_recursion _ (decimal p.len) (no_dash_digits (decimal p.len) (decimal_is_IsNumeral p.len (omega (arith, short, few))).0.1) in
+    let numeral = decimal_is_IsNumeral p.len (omega (arith, h.short, few_bits p.addr)) in
+    let digits : All (λ b. b ≢ dash) (decimal p.len) = All-from_recursion _ (decimal p.len) (no_dash_digits (decimal p.len) numeral.0.1) in
     let all = All-append (λ b. b ≢ dash) (ip_text p.addr) (slash ∷ decimal p.len) (All-weaker IsAddressByte _ not_dash (ip_text p.addr) (ip_bytes p.addr)) (All-cons (λ b. b ≢ dash) slash (decimal p.len) (λ e. omega (arith, e)) digits) in
     λ k l. all k 0 l
 
@@ -135,19 +116,15 @@ written : (p : FamilyPrefix) (m : Option ℕ) → IsFamilyPrefix p → IsMaxLenO
 written p None h within = rw (append-nil (prefix_text p)) (prefix_no_dash p h, IsPrefixText-prefix_text p h)
 written p (Some n) h within =
     let few = few_bits p.addr in
-    let upto = within.1 in (
-      record {
-        left = prefix_text p;
-        right = decimal n;
-        cut = record { split = refl; first = prefix_no_dash p h };
-        holds = record { prefix_text = IsPrefixText-prefix_text p h; max_len_text = IsNumberText-decimal (2 ^ 8 - 1) n (omega (arith, upto, few)) (omega (arith, upto, few)) };
-      },
-      within,
-    )
+    let max = IsNumberText-decimal (2 ^ 8 - 1) n (omega (arith, within.1, few)) (omega (arith, within.1, few)) in
+    let cut : IsCutAt dash (prefix_text p ++ dash ∷ decimal n) (prefix_text p) (decimal n) = record { split = refl; first = prefix_no_dash p h } in
+    let both : ArePrefixAndMax _ _ p n = record { prefix_text = IsPrefixText-prefix_text p h; max_len_text = max } in
+    (record { left = prefix_text p; right = decimal n; cut = cut; holds = both }, within)
 
 -- what is found is the answer, and what is printed is read back
 pub reads_max_len : (text : List ℕ) (r : Result MaxLenValue ParseMaxLenPrefixError)
     → MatchResult r (IsMaxLenText text) (HasMaxLenTextFault text) → ReadsMaxLen text r
 reads_max_len text r found =
-    let exact = Answers-from_found r found (text_one text) (text_apart text) (fault_one text) in
+    let one = λ (x : MaxLenValue) (y : MaxLenValue). value_one text x.prefix y.prefix x.max_len y.max_len in
+    let exact = Answers-from_found r found one (λ x e. apart_of text x.prefix x.max_len e) (fault_one text) in
     record { exact = exact; reads_back = λ m h is. exact.each_value m (subst (λ t. IsMaxLenText t m) (sym is) (written m.prefix m.max_len h.0 h.1)) }

@@ -5,7 +5,7 @@ use Rattle.std.proofs.lemmas.Cmp.{tied_itself}
 use Rattle.std.specs.Cmp.{Equal-is, IsTotalOrder}
 use Rattle.std.specs.Cmp.Rules.{comparing}
 use Rattle.std.specs.Option.{option_eq}
-use Rattle.rpki_prefix.specs.OrderLaws.{IsSameAddress, prefix_ties, max_len_ties}
+use Rattle.rpki_prefix.specs.OrderLaws.{IsSameAddress, max_len_ties}
 
 pub prefix_total : IsTotalOrder prefix_cmp
 prefix_total = Prim.search (comparing, rules) depth 9
@@ -25,12 +25,6 @@ is_test = record { of_v4 = λ m n. refl; of_v6 = λ m n. refl; v4_v6 = λ m n. r
 
 same_prefix : (p q : FamilyPrefix) → (same_addr p.addr q.addr && eqb p.len q.len) ≡ true → p ≡ q
 same_prefix p q e = grind (arith, and_parts, eqb-true, same_addr-true)
-
-pub one_place : (p q : FamilyPrefix) → (prefix_cmp p q ≡ Equal) ↔ (p ≡ q)
-one_place p q = (
-  λ e. same_prefix p q (prefix_ties same_addr is_test p q ∙ (Equal-is (prefix_cmp p q)).1 e),
-  λ same. ap (λ (r : FamilyPrefix). prefix_cmp p r) (sym same) ∙ tied_itself prefix_total p,
-)
 
 pub max_len_total : IsTotalOrder max_len_cmp
 max_len_total = Prim.search (comparing, rules) depth 9

@@ -1,5 +1,7 @@
 -- A text writes one prefix, or has one fault; and what is printed of a prefix writes it.
-use Rattle.rpki_prefix.proofs.Common.{Err, List, MatchResult, Result, [], ap, arith, inl, inr, refl, subst, sym, ℕ, ◌-◌, ◌<◌, ◌^◌, ◌∙◌, ◌≡◌, ip_bytes, no_slash, IpAddr, around_at, none_around, IsNumberText-decimal, IsNumberText-one, Answers-from_found, Around, HasNo, slash, HasNumberFault, IsNumberText, AreParts, HasNoParts, HasParts, HasPrefixTextFault, HasRelaxedPrefixTextFault, HasTextFaultBy, IsPrefixText, IsRelaxedPrefixText, IsTextBy, ReadsPrefix, prefix_text, FamilyPrefix, HasPrefixError, HasRelaxedPrefixError, IsFamilyPrefix, IsPrefixOf, IsRelaxedPrefixOf, address_number, cleared_addr, width, ParsePrefixError}
+use Rattle.rpki_prefix.proofs.Common.{Err, Some, List, MatchResult, Result, [], ap, arith, inl, inr, refl, subst, sym, ℕ, ◌-◌, ◌<◌, ◌^◌, ◌∙◌, ◌≡◌, ip_bytes, no_slash, IpAddr, around_at, none_around, IsNumberText-decimal, IsNumberText-one, Answers-from_found, Around, HasNo, slash, HasNumberFault, IsNumberText, AreParts, HasNoParts, HasParts, HasPrefixTextFault, HasRelaxedPrefixTextFault, HasTextFaultBy, IsPrefixText, IsRelaxedPrefixText, IsTextBy, ReadsPrefix, prefix_text, FamilyPrefix, HasPrefixError, HasRelaxedPrefixError, IsFamilyPrefix, IsPrefixOf, IsRelaxedPrefixOf, address_number, cleared_addr, width, ParsePrefixError}
+use Rattle.std.proofs.Common.{Bor}
+use Rattle.std.proofs.lemmas.Str.Pattern.{IsSplitOnceResult, split_parts}
 use Rattle.rpki_addr.specs.AddressText.{IsIpText}
 use Rattle.rpki_text.specs.Reading.{Answers}
 use Rattle.rpki_addr.specs.ReadsAddress.{IsAddress}
@@ -9,6 +11,13 @@ use Rattle.rpki_text.proofs.NumberLemmas.{number_answers}
 use Rattle.rpki_prefix.proofs.HostBits.{few_bits}
 use Rattle.rpki_prefix.specs.declared.error.ParsePrefixError.TheVariants.{Empty, MissingLen, InvalidAddr, InvalidLen, InvalidPrefix}
 use Rattle.rpki_prefix.specs.declared.error.PrefixError.{PrefixError}
+
+-- what std's `split_once` found stands round the first of a byte
+pub around_split : (b : ℕ) (text : List ℕ) (left right : Bor (List ℕ)) (P : List ℕ → List ℕ → Type 0)
+    → IsSplitOnceResult b text (Some (left, right)) → b < 128 → P left.now right.now → Around b text P
+around_split b text left right P found small holds =
+    let parts = split_parts b text (Some (left, right)) found small in
+    record { left = left.now; right = right.now; cut = record { split = parts.0; first = parts.1 }; holds = holds }
 
 -- a number text has no fault, and any other has one
 pub number_apart : (text : List ℕ) (n : ℕ) (f : ParseIntError) → IsNumberText (2 ^ 8 - 1) text n
@@ -23,15 +32,13 @@ same_number_fault text f g h k = err_one (Err f) refl ((number_answers (2 ^ 8 - 
     err_one : (r : Result ℕ ParseIntError) → r ≡ Err f → r ≡ Err g → f ≡ g
     err_one r d e = cc
 
--- a text has one address and one length
-record SameParts (a b : IpAddr) (m n : ℕ) : Type 0 where
-  address : a ≡ b
-  length : m ≡ n
-
-parts_one : (text : List ℕ) (a b : IpAddr) (m n : ℕ) → HasParts text a m → HasParts text b n → SameParts a b m n
-parts_one text a b m n h k =
+-- a text has one address and one length: what holds of some holds of others
+parts_carry : (text : List ℕ) (P : IpAddr → ℕ → Type 0) (a b : IpAddr) (m n : ℕ) → HasParts text a m → HasParts text b n
+    → P a m → P b n
+parts_carry text P a b m n h k is =
     let here = around_at slash text k.left k.right (λ l r. AreParts l r a m) k.cut h in
-    record { address = IsIpText-one k.left a b here.addr_text k.holds.addr_text; length = IsNumberText-one (2 ^ 8 - 1) k.right m n here.len_text k.holds.len_text }
+    let same = IsIpText-one k.left a b here.addr_text k.holds.addr_text in
+    subst (λ x. P x n) same (subst (P a) (IsNumberText-one (2 ^ 8 - 1) k.right m n here.len_text k.holds.len_text) is)
 
 -- nothing has no slash
 empty_around : (text : List ℕ) (P : List ℕ → List ℕ → Type 0) → text ≡ [] → Around slash text P → ⊥
@@ -66,16 +73,14 @@ module _ (Rule : IpAddr → ℕ → FamilyPrefix → Type 0) (Fails : IpAddr →
     -- a text writes one prefix
     text_one : (text : List ℕ) (p q : FamilyPrefix) → IsTextBy Rule text p → IsTextBy Rule text q → p ≡ q
     text_one text p q h k =
-        let same = parts_one text h.addr k.addr h.len k.len h.parts k.parts in
-        rule_one k.addr k.len p q (subst (λ a. Rule a k.len p) same.address (subst (λ n. Rule h.addr n p) same.length h.prefix)) k.prefix
+        rule_one k.addr k.len p q (parts_carry text (λ a n. Rule a n p) _ _ _ _ h.parts k.parts h.prefix) k.prefix
 
     -- and has no fault then
     text_apart : (text : List ℕ) (p : FamilyPrefix) (e : ParsePrefixError) → IsTextBy Rule text p
         → HasTextFaultBy Fails text e → ⊥
     text_apart text p e h (inl k) = parts_apart text h.addr h.len e h.parts k
     text_apart text p e h (inr (a, n, f, parts, fault, _)) =
-        let same = parts_one text h.addr a h.len n h.parts parts in
-        apart a n p f (subst (λ b. Rule b n p) same.address (subst (λ m. Rule h.addr m p) same.length h.prefix)) fault
+        apart a n p f (parts_carry text (λ a n. Rule a n p) _ _ _ _ h.parts parts h.prefix) fault
 
     -- and else one fault
     fault_one : (text : List ℕ) (d e : ParsePrefixError) → HasTextFaultBy Fails text d → HasTextFaultBy Fails text e
@@ -84,8 +89,7 @@ module _ (Rule : IpAddr → ℕ → FamilyPrefix → Type 0) (Fails : IpAddr →
     fault_one text d e (inl h) (inr (a, n, f, parts, _, _)) = absurd (parts_apart text a n d parts h)
     fault_one text d e (inr (a, n, f, parts, _, _)) (inl k) = absurd (parts_apart text a n e parts k)
     fault_one text d e (inr (a, n, f, parts, h, u)) (inr (b, m, g, others, k, v)) =
-        let same = parts_one text a b n m parts others in
-        u ∙ ap InvalidPrefix (fails_one b m f g (subst (λ c. Fails c m f) same.address (subst (λ l. Fails a l f) same.length h)) k) ∙ sym v
+        u ∙ ap InvalidPrefix (fails_one b m f g (parts_carry text (λ a n. Fails a n f) _ _ _ _ parts others h) k) ∙ sym v
 
     -- so what is found is the answer
     answers_by : (text : List ℕ) (r : Result FamilyPrefix ParsePrefixError)
@@ -137,12 +141,6 @@ is_address v0 below = grind (arith)
 pub IsPrefixText-prefix_text : (p : FamilyPrefix) → IsFamilyPrefix p → IsPrefixText (prefix_text p) p
 IsPrefixText-prefix_text p h = grind (arith, IsIpText-ip_text, IsNumberText-decimal, few_bits, ip_bytes, is_address, no_slash)
 
--- what is found by the strict reader is the answer
-pub prefix_text_answers : (text : List ℕ) (r : Result FamilyPrefix ParsePrefixError)
-    → MatchResult r (IsPrefixText text) (HasPrefixTextFault text)
-    → Answers (IsPrefixText text) (HasPrefixTextFault text) r
-prefix_text_answers = answers_by IsPrefixOf HasPrefixError prefix_one prefix_apart error_one
-
 -- a text writes one prefix
 pub IsPrefixText-one : (text : List ℕ) (p q : FamilyPrefix) → IsPrefixText text p → IsPrefixText text q → p ≡ q
 IsPrefixText-one = text_one IsPrefixOf HasPrefixError prefix_one prefix_apart error_one
@@ -157,9 +155,9 @@ pub HasPrefixTextFault-one : (text : List ℕ) (d e : ParsePrefixError) → HasP
     → HasPrefixTextFault text e → d ≡ e
 HasPrefixTextFault-one = fault_one IsPrefixOf HasPrefixError prefix_one prefix_apart error_one
 
--- and what is printed is read back
+-- what is found by the strict reader is the answer, and what is printed is read back
 pub reads_prefix : (text : List ℕ) (r : Result FamilyPrefix ParsePrefixError)
     → MatchResult r (IsPrefixText text) (HasPrefixTextFault text) → ReadsPrefix text r
 reads_prefix text r found =
-    let exact = prefix_text_answers text r found in
+    let exact = answers_by IsPrefixOf HasPrefixError prefix_one prefix_apart error_one text r found in
     record { exact = exact; reads_back = λ p h is. exact.each_value p (subst (λ t. IsPrefixText t p) (sym is) (IsPrefixText-prefix_text p h)) }

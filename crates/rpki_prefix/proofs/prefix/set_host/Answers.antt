@@ -1,4 +1,4 @@
-use Rattle.rpki_prefix.proofs.Common.{arith, ◌-◌}
+use Rattle.rpki_prefix.proofs.Common.{arith}
 use Rattle.rpki_prefix.proofs.HostBits.{filled_by}
 use Rattle.rpki_prefix.proofs.prefix.set_host.Goals as goal
 

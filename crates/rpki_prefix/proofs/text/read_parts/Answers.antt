@@ -1,4 +1,5 @@
-use Rattle.rpki_prefix.proofs.Common.{None, Some, ap, length, lit<, sym, ◌∙◌, eqb-false, err_from_is_err_and, split_parts}
+use Rattle.rpki_prefix.proofs.Common.{None, ap, length, lit<, sym, ◌∙◌, eqb-false, err_from_is_err_and, split_parts}
+use Rattle.rpki_prefix.proofs.TextLemmas.{around_split}
 use Rattle.rpki_prefix.proofs.text.read_parts.Goals as goal
 
 pub returns-in_default : goal.returns-in_default
@@ -10,32 +11,15 @@ returns-in_default c =
 pub returns-in_err-addr : goal.returns-in_err-addr
 returns-in_err-addr c =
     let p = err_from_is_err_and c.from_residual.result c.from_residual.ensures.1 in
-    let parts = split_parts 47 c.args.text.now (Some (c.in-Some.addr, c.in-Some.len)) c.in-Some.ensures.cases (lit< tt) in
     let fault = c.in_err-addr.ensures.exact.found in
-    rw (p.1, p.2) (record {
-      left = c.in-Some.addr.now;
-      right = c.in-Some.len.now;
-      cut = record { split = parts.0; first = parts.1 };
-      holds = (fault.1, fault.0);
-    })
+    rw (p.1, p.2) (around_split 47 _ c.in-Some.addr c.in-Some.len _ c.in-Some.ensures.cases (lit< tt) (fault.1, fault.0))
 
 pub returns-in_err-len : goal.returns-in_err-len
 returns-in_err-len c =
     let p = err_from_is_err_and c.from_residual-in_err-len.result c.from_residual-in_err-len.ensures.1 in
-    let parts = split_parts 47 c.args.text.now (Some (c.in-Some.addr, c.in-Some.len)) c.in-Some.ensures.cases (lit< tt) in
-    rw (p.1, p.2) (record {
-      left = c.in-Some.addr.now;
-      right = c.in-Some.len.now;
-      cut = record { split = parts.0; first = parts.1 };
-      holds = (c.in_ok-addr.addr, c.in_ok-addr.ensures.exact.found, c.in_err-len.ensures.found);
-    })
+    rw (p.1, p.2) (around_split 47 _ c.in-Some.addr c.in-Some.len _ c.in-Some.ensures.cases (lit< tt)
+    (c.in_ok-addr.addr, c.in_ok-addr.ensures.exact.found, c.in_err-len.ensures.found))
 
 pub returns : goal.returns
-returns c =
-    let parts = split_parts 47 c.args.text.now (Some (c.in-Some.addr, c.in-Some.len)) c.in-Some.ensures.cases (lit< tt) in
-    record {
-      left = c.in-Some.addr.now;
-      right = c.in-Some.len.now;
-      cut = record { split = parts.0; first = parts.1 };
-      holds = record { addr_text = c.in_ok-addr.ensures.exact.found; len_text = c.in_ok-len.ensures.found };
-    }
+returns c = around_split 47 _ c.in-Some.addr c.in-Some.len _ c.in-Some.ensures.cases (lit< tt)
+    (record { addr_text = c.in_ok-addr.ensures.exact.found; len_text = c.in_ok-len.ensures.found })

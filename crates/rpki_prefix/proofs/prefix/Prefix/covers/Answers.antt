@@ -1,9 +1,11 @@
-use Rattle.rpki_prefix.proofs.Common.{IsTrue, ap, arith, leb, ◌∙◌, ◌≡◌, le-leb, leb-true, LiesRound, last_bits, address_number}
-use Rattle.rpki_prefix.proofs.Covering.{BeginsRound, covers_round, round_covers, not_before, same_bool, beq_same, bits_last}
+use Rattle.rpki_prefix.proofs.Common.{IsTrue, is_v6, ◌≤◌, ap, arith, leb, ◌∙◌, ◌≡◌, le-leb, leb-true, LiesRound, last_bits, address_number}
+use Rattle.rpki_prefix.proofs.Covering.{covers_round, round_covers, not_before, same_bool, beq_same, bits_last}
 use Rattle.rpki_prefix.proofs.prefix.Prefix.covers.Goals as goal
 
 -- where the first two tests are met
-begins : (c : goal.After-number-then-number-2) → BeginsRound c.args.self c.args.other
+begins : (c : goal.After-number-then-number-2)
+    → (is_v6 c.args.self.addr ≡ is_v6 c.args.other.addr)
+    × (address_number c.args.self.addr ≤ address_number c.args.other.addr)
 begins c = grind (arith, leb-true, same_bool)
 
 -- the third test

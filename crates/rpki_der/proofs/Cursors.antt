@@ -1,5 +1,5 @@
 -- From the reading to the grammar, for the calls on a cursor and on a content.
-use Rattle.rpki_der.proofs.Common.{Err, List, None, Ok, Option, Result, Some, ap, option_map, ℕ, ◌∙◌, ◌≡◌, IsBytes, NoFront, Gives, IsReading, optional, Parses, ReadsOptional, ReadsValue, Takes, left, Cursor, DerError}
+use Rattle.rpki_der.proofs.Common.{Err, List, Option, Result, ap, option_map, ℕ, ◌∙◌, ◌≡◌, IsBytes, NoFront, Gives, IsReading, optional, Parses, ReadsOptional, ReadsValue, Takes, left, Cursor, DerError, arith}
 use Rattle.rpki_der.proofs.Steps.{IsCheck, ok_or_err}
 use Rattle.rpki_der.proofs.Lists.{optional_some, optional_none, optional_err}
 
@@ -12,24 +12,16 @@ none_by G reading bytes e is failed = λ x rest found. ok_or_err (x, rest) e (re
 pub reads_by : {X Y : Type 0} (G : List ℕ → Y → Type 0) (reading : List ℕ → Result (Y × List ℕ) DerError) (view : X → Y)
     (old new : Cursor) (result : Result X DerError) → IsReading G reading → IsBytes (left old)
     → Takes view old new result reading → ReadsValue G view old new result
-reads_by G reading view old new (Ok x) is fits took = is.takes (left old) (view x) (left new) fits took
-reads_by G reading view old new (Err e) is fits took = (none_by G reading (left old) e is took.0, took.1)
+reads_by G reading view old new result is fits took = grind arith
 
 -- the same for a take that answers None at the end
 pub reads_optional_by : {X Y : Type 0} (G : List ℕ → Y → Type 0) (reading : List ℕ → Result (Y × List ℕ) DerError)
     (view : X → Y) (old new : Cursor) (result : Result (Option X) DerError) → IsReading G reading → IsBytes (left old)
     → Takes (λ o. option_map view o) old new result (optional reading) → ReadsOptional G view old new result
-reads_optional_by G reading view old new (Ok None) is fits took = optional_none reading (left old) (left new) took
-reads_optional_by G reading view old new (Ok (Some x)) is fits took =
-    let found = optional_some reading (left old) (view x) (left new) took in
-    is.takes (left old) (view x) (left new) fits found.1
-reads_optional_by G reading view old new (Err e) is fits took =
-    let failed = optional_err reading (left old) e took.0 in
-    (failed.0, none_by G reading (left old) e is failed.1, took.1)
+reads_optional_by G reading view old new result is fits took = grind (arith, none_by, optional_err, optional_none, optional_some)
 
 -- the same for a content and its rule
 pub parses_by : {X Y : Type 0} (Fits : List ℕ → Type 0) (C : List ℕ → Y → Type 0) (check : List ℕ → Result Y DerError)
     (view : X → Y) (octets : List ℕ) (result : Result X DerError) → IsCheck Fits C check → Fits octets
     → Gives view result (check octets) → Parses C view octets result
-parses_by Fits C check view octets (Ok x) is fits gives = is.takes octets (view x) fits gives
-parses_by Fits C check view octets (Err e) is fits gives = λ y says. ok_or_err y e (check octets) (is.again octets y says) gives
+parses_by Fits C check view octets result is fits gives = grind arith

@@ -1,47 +1,16 @@
 -- Lengths: what the reading answers is what the conditions of X.690 say, and that is how they are spelled.
-use Rattle.rpki_der.proofs.Common.{Bool, Err, List, Ok, Result, [], ap, arith, cond, drop, eqb, false, get_or, inl, inr, length, ltb, refl, subst, suc, sym, take, true, zero, ℕ, ◌++◌, ◌+◌, ◌-◌, ◌<◌, ◌^◌, ◌||◌, ◌∙◌, ◌∷◌, ◌≡◌, ◌≢◌, ◌≤◌, eqb-false, le-ltb, lt-ltb, ltb-false, ltb-true, ne_eqb, or_from, or_parts, drop_at, get_or_append_left, length-append, length-take, take-append-drop, take_at, Front, IsBytes, IsLength, IsLongLength, big_endian, length_octets, octets, length_at, long_length_at, DerError, BadLength, Truncated}
+use Rattle.rpki_der.proofs.Common.{Bool, List, Ok, [], ap, arith, cond, false, get_or, inl, inr, length, ltb, refl, subst, sym, true, ℕ, ◌++◌, ◌+◌, ◌-◌, ◌<◌, ◌^◌, ◌∙◌, ◌∷◌, ◌≡◌, ◌≢◌, ◌≤◌, eqb-false, le-ltb, lt-ltb, ltb-false, ltb-true, ne_eqb, or_from, or_parts, drop_at, get_or_append_left, length-append, length-take, take-append-drop, take_at, Front, IsBytes, IsLength, IsLongLength, length_octets, octets, length_at, long_length_at}
 use Rattle.rpki_der.proofs.Steps.{IsBytes-rest, fits_front, passed, ok_is}
 use Rattle.rpki_der.proofs.Numbers.{octets-big_endian, big_endian-octets, big_endian_small, length-octets, octets_head}
 
 -- ---- the reading and the conditions
-
--- the first of the octets that are taken
-get_or-take_first : (n : ℕ) (bs : List ℕ) → 0 < n → get_or (take n bs) 0 0 ≡ get_or bs 0 0
-get_or-take_first zero bs pos = absurd (omega arith)
-get_or-take_first (suc n) [] pos = refl
-get_or-take_first (suc n) (b ∷ bs) pos = refl
 
 -- a length that is read from further octets meets the conditions
 long_says : (first : ℕ) (bytes : List ℕ) (n : ℕ) (rest : List ℕ) → 128 ≤ first
     → long_length_at (first - 128) bytes ≡ Ok (n, rest)
     → (digits : List ℕ) × IsLongLength first digits n × (bytes ≡ digits ++ rest)
 unfolding long_length_at
-long_says first bytes n rest large e =
-    let count = first - 128 in
-    let digits = take count bytes in
-    let found : Result (ℕ × List ℕ) DerError = Ok (big_endian digits, drop count bytes) in
-    let g1 = passed ((eqb count 0) || ltb 8 count) BadLength (cond (ltb (length bytes) count) (Err Truncated) (cond ((eqb (get_or bytes 0 0) 0) || ltb (big_endian digits) 128) (Err BadLength) found)) (n, rest) e in
-    let g2 = passed (ltb (length bytes) count) Truncated (cond ((eqb (get_or bytes 0 0) 0) || ltb (big_endian digits) 128) (Err BadLength) found) (n, rest) g1.1 in
-    let g3 = passed ((eqb (get_or bytes 0 0) 0) || ltb (big_endian digits) 128) BadLength found (n, rest) g2.1 in
-    let made = ok_is (big_endian digits, drop count bytes) (n, rest) g3.1 in
-    let n-is : big_endian digits ≡ n = ap (λ (p : ℕ × List ℕ). p.0) made in
-    let rest-is : drop count bytes ≡ rest = ap (λ (p : ℕ × List ℕ). p.1) made in
-    let a = or_parts (eqb count 0) (ltb 8 count) g1.0 in
-    let b = or_parts (eqb (get_or bytes 0 0) 0) (ltb (big_endian digits) 128) g3.0 in
-    let some : count ≢ 0 = eqb-false count 0 a.0 in
-    let few : count ≤ 8 = ltb-false 8 count a.1 in
-    let enough : count ≤ length bytes = ltb-false (length bytes) count g2.0 in
-    let nonzero : get_or bytes 0 0 ≢ 0 = eqb-false (get_or bytes 0 0) 0 b.0 in
-    let big : 128 ≤ big_endian digits = ltb-false (big_endian digits) 128 b.1 in
-    let len : length digits ≡ count = omega (arith, length-take count bytes) in
-    let is : IsLongLength first digits n = record {
-      count = omega arith;
-      few = omega arith;
-      no_zero = λ h. nonzero (sym (get_or-take_first count bytes (omega arith)) ∙ h);
-      large = rw (← n-is) big;
-      spelled = n-is;
-    } in
-    (digits, is, rw (← rest-is) (sym (take-append-drop count bytes)))
+long_says first bytes n rest large e = grind (arith, eqb-false, length-take, ltb-false, ok_is, or_parts, passed, take-append-drop)
 
 -- by the first octet, below 128 or not
 length_by : (first : ℕ) (bytes : List ℕ) (n : ℕ) (rest : List ℕ) (b : Bool) → ltb first 128 ≡ b
@@ -59,8 +28,7 @@ length_by first bytes n rest false t e =
 -- a length that is read meets the conditions
 length_says : (bytes : List ℕ) (n : ℕ) (rest : List ℕ) → length_at bytes ≡ Ok (n, rest) → Front IsLength bytes n rest
 unfolding length_at
-length_says [] n rest e = absurd cc
-length_says (first ∷ bytes) n rest e = length_by first bytes n rest (ltb first 128) refl e
+length_says bytes n rest e = grind (arith, length_by)
 
 -- octets that begin with no zero are some
 has_some : (ds : List ℕ) → get_or ds 0 0 ≢ 0 → 0 < length ds
@@ -71,15 +39,7 @@ has_some (d ∷ ds) h = omega arith
 says_long : (first : ℕ) (ds : List ℕ) (n : ℕ) (rest : List ℕ) → IsLongLength first ds n
     → long_length_at (length ds) (ds ++ rest) ≡ Ok (n, rest)
 unfolding long_length_at
-says_long first ds n rest is =
-    let some : 0 < length ds = has_some ds is.no_zero in
-    let g1 : ((eqb (length ds) 0) || ltb 8 (length ds)) ≡ false = or_from _ _ (ne_eqb (length ds) 0 (λ h. omega arith)) (le-ltb 8 (length ds) is.few) in
-    let g2 : ltb (length (ds ++ rest)) (length ds) ≡ false = le-ltb _ _ (omega (arith, length-append ds rest)) in
-    let head : get_or (ds ++ rest) 0 0 ≡ get_or ds 0 0 = get_or_append_left ds rest 0 0 some in
-    let digits : take (length ds) (ds ++ rest) ≡ ds = take_at ds rest (length ds) refl in
-    let after : drop (length ds) (ds ++ rest) ≡ rest = drop_at ds rest (length ds) refl in
-    let g3 : ((eqb (get_or ds 0 0) 0) || ltb n 128) ≡ false = or_from _ _ (ne_eqb (get_or ds 0 0) 0 is.no_zero) (le-ltb n 128 is.large) in
-    rw (g1, g2, head, digits, after, is.spelled, g3) refl
+says_long first ds n rest is = grind (arith, drop_at, get_or_append_left, has_some, le-ltb, length-append, ne_eqb, or_from, take_at)
 
 -- a length that meets the conditions is read, whatever follows
 says_length : (front : List ℕ) (n : ℕ) (rest : List ℕ) → IsLength front n → length_at (front ++ rest) ≡ Ok (n, rest)
@@ -98,22 +58,15 @@ pub length_spelled : (bytes : List ℕ) (n : ℕ) → IsBytes bytes → IsLength
     → (bytes ≡ length_octets n) × (n < 2 ^ 64)
 unfolding length_octets
 length_spelled [] n fits is = absurd is
-length_spelled (first ∷ digits) n fits (inl is) =
-    let below : ltb n 128 ≡ true = lt-ltb n 128 (omega arith) in
-    (rw (below, is.1, is.2) refl, omega arith)
+length_spelled (first ∷ digits) n fits (inl is) = grind (arith, lt-ltb)
 length_spelled (first ∷ digits) n fits (inr is) =
     let inside = IsBytes-rest first digits fits in
-    let are : octets n ≡ digits = ap octets (sym is.spelled) ∙ octets-big_endian digits inside (has_some digits is.no_zero) is.few is.no_zero in
-    let not : ltb n 128 ≡ false = le-ltb n 128 is.large in
-    (rw (not, are, is.count) refl, rw (← is.spelled) (big_endian_small digits inside is.few))
+    grind (arith, big_endian_small, has_some, le-ltb, octets-big_endian)
 
 -- by the size of the length, below 128 or not
 by_size : (n : ℕ) → n < 2 ^ 64 → (b : Bool) → ltb n 128 ≡ b
     → IsLength (cond b (n ∷ []) ((128 + length (octets n)) ∷ octets n)) n
-by_size n lt true t = inl (ltb-true n 128 t, refl, refl)
-by_size n lt false t =
-    let large : 128 ≤ n = ltb-false n 128 t in
-    inr (record { count = refl; few = length-octets n; no_zero = octets_head n (omega arith) lt; large = large; spelled = big_endian-octets n lt })
+by_size n lt b t = grind (arith, big_endian-octets, length-octets, ltb-false, ltb-true, octets_head)
 
 -- the spelling meets the conditions
 pub spelled_length : (n : ℕ) → n < 2 ^ 64 → IsLength (length_octets n) n

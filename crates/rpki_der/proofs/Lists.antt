@@ -23,8 +23,7 @@ shorter G has bytes x rest found = let some = has found.0 x found.1 in omega (ar
 pub each-nil : {S X : Type 0} (next : S → X → S) (steps : ℕ) (reading : S → List ℕ → Result (X × List ℕ) DerError)
     (state : S) → each_from next steps reading state [] ≡ Ok []
 unfolding each_from
-each-nil next zero reading state = refl
-each-nil next (suc steps) reading state = refl
+each-nil next steps reading state = grind arith
 
 -- values that are read are those of the grammar
 pub each_takes : {S X : Type 0} (next : S → X → S) (G : S → List ℕ → X → Type 0)
@@ -39,8 +38,7 @@ each_takes next G reading is (suc steps) state (b ∷ bytes) xs fits e =
     let first = bind_ok (reading state (b ∷ bytes)) (λ x. each_from next steps reading (next state x.0) x.1 >>= λ xs. Ok (x.0 ∷ xs)) xs e in
     let others = bind_ok (each_from next steps reading (next state first.0.0) first.0.1) (λ xs. Ok (first.0.0 ∷ xs)) xs first.2 in
     let found = (is state).takes (b ∷ bytes) first.0.0 first.0.1 fits first.1 in
-    let after = each_takes next G reading is steps (next state first.0.0) first.0.1 others.0 (fits_rest (G state) (b ∷ bytes) first.0.0 first.0.1 found fits) others.1 in
-    subst (EachFrom next G state (b ∷ bytes)) (ok_is (first.0.0 ∷ others.0) xs others.2) (first.0.1, found, after)
+    grind (arith, fits_rest, ok_is, each_takes next G reading is steps (next state first.0.0) first.0.1 others.0 (fits_rest (G state) (b ∷ bytes) first.0.0 first.0.1 found fits) others.1)
 
 -- values of the grammar are read
 pub each_again : {S X : Type 0} (next : S → X → S) (G : S → List ℕ → X → Type 0)
@@ -57,8 +55,7 @@ each_again next G reading is has (x ∷ xs) (suc steps) state (b ∷ bytes) le a
     let some = has state all.1.0 x all.1.1 in
     let first : reading state (b ∷ bytes) ≡ Ok (x, all.0) = ap (reading state) all.1.2 ∙ (is state).again all.1.0 x all.0 all.1.1 in
     let fewer : length all.0 ≤ steps = omega (arith, length-append all.1.0 all.0, ap length all.1.2) in
-    let others : each_from next steps reading (next state x) all.0 ≡ Ok xs = each_again next G reading is has xs steps (next state x) all.0 fewer all.2 in
-    rw (first, others) refl
+    grind (arith, each_again next G reading is has xs steps (next state x) all.0 fewer all.2)
 
 -- ---- a loop over the values
 
@@ -74,8 +71,7 @@ pub record SoFar {S X : Type 0} (next : S → X → S) (reading : S → List ℕ
 -- one more value, put behind those read so far
 with_one : {X : Type 0} (front : List X) (x : X) (read : Result (List X) DerError)
     → with_front front (read >>= λ xs. Ok (x ∷ xs)) ≡ with_front (front ++ x ∷ []) read
-with_one front x (Ok xs) = ap (λ (ys : List _). Ok ys) (sym (append_assoc front (x ∷ []) xs))
-with_one front x (Err e) = refl
+with_one front x read = grind (arith, append_assoc)
 
 -- a turn, by the steps that are left
 more_by : {S X : Type 0} (next : S → X → S) (reading : S → List ℕ → Result (X × List ℕ) DerError) (front : List X)
@@ -101,16 +97,14 @@ loop_more next reading front state (b ∷ bytes) total x rest so read fewer = mo
 pub loop_ends : {S X : Type 0} (next : S → X → S) (reading : S → List ℕ → Result (X × List ℕ) DerError) (front : List X)
     (state : S) (bytes : List ℕ) (total : Result (List X) DerError) → SoFar next reading front state bytes total
     → bytes ≡ [] → total ≡ Ok front
-loop_ends next reading front state bytes total so none =
-    sym so.whole ∙ ap (λ (t : List ℕ). with_front front (each_from next so.steps reading state t)) none ∙ ap (with_front front) (each-nil next so.steps reading state) ∙ ap (λ (ys : List _). Ok ys) (append-nil front)
+loop_ends next reading front state bytes total so none = grind (arith, append-nil, each-nil)
 
 -- a turn that fails, by the steps that are left
 fails_by : {S X : Type 0} (next : S → X → S) (reading : S → List ℕ → Result (X × List ℕ) DerError) (front : List X)
     (state : S) (b : ℕ) (bytes : List ℕ) (e : DerError) (steps : ℕ) → length (b ∷ bytes) ≤ steps
     → reading state (b ∷ bytes) ≡ Err e → with_front front (each_from next steps reading state (b ∷ bytes)) ≡ Err e
 unfolding each_from
-fails_by next reading front state b bytes e zero enough read = absurd (omega arith)
-fails_by next reading front state b bytes e (suc steps) enough read = rw read refl
+fails_by next reading front state b bytes e steps enough read = grind arith
 
 -- a turn that fails is what the whole fails with
 pub loop_fails : {S X : Type 0} (next : S → X → S) (reading : S → List ℕ → Result (X × List ℕ) DerError)
@@ -131,34 +125,22 @@ as_some x = Ok (Some x.0, x.1)
 
 -- its fault is that of the reading
 pub some_err : {X : Type 0} (r : Result (X × List ℕ) DerError) (e : DerError) → (r >>= as_some) ≡ Err e → r ≡ Err e
-some_err (Ok x) e h = absurd cc
-some_err (Err d) e h = cc
+some_err r e h = grind arith
 
 -- Some is what the reading gives before the end
 pub optional_some : {X : Type 0} (reading : List ℕ → Result (X × List ℕ) DerError) (bytes : List ℕ) (x : X)
     (rest : List ℕ) → optional reading bytes ≡ Ok (Some x, rest) → (bytes ≢ []) × (reading bytes ≡ Ok (x, rest))
 unfolding optional
-optional_some reading [] x rest e = let h = ap (λ p. p.0) (ok_is (None, []) (Some x, rest) e) in absurd cc
-optional_some reading (b ∷ bytes) x rest e =
-    let a = bind_ok (reading (b ∷ bytes)) (λ y. Ok (Some y.0, y.1)) (Some x, rest) e in
-    let both = ok_is (Some a.0.0, a.0.1) (Some x, rest) a.2 in
-    let first : a.0.0 ≡ x = some_is a.0.0 x (ap (λ p. p.0) both) in
-    let second : a.0.1 ≡ rest = ap (λ p. p.1) both in
-    ((λ z. absurd cc), a.1 ∙ ap (λ y. Ok (y, a.0.1)) first ∙ ap (λ (t : List ℕ). Ok (x, t)) second)
+optional_some reading bytes x rest e = grind arith
 
 -- None is at the end, and nothing is left
 pub optional_none : {X : Type 0} (reading : List ℕ → Result (X × List ℕ) DerError) (bytes rest : List ℕ)
     → optional reading bytes ≡ Ok (None, rest) → (bytes ≡ []) × (rest ≡ [])
 unfolding optional
-optional_none reading [] rest e = (refl, ap (λ p. p.1) (sym (ok_is (None, []) (None, rest) e)))
-optional_none reading (b ∷ bytes) rest e =
-    let a = bind_ok (reading (b ∷ bytes)) (λ y. Ok (Some y.0, y.1)) (None, rest) e in
-    let h = ap (λ p. p.0) (ok_is (Some a.0.0, a.0.1) (None, rest) a.2) in
-    absurd cc
+optional_none reading bytes rest e = grind arith
 
 -- a fault is what the reading gives before the end
 pub optional_err : {X : Type 0} (reading : List ℕ → Result (X × List ℕ) DerError) (bytes : List ℕ) (e : DerError)
     → optional reading bytes ≡ Err e → (bytes ≢ []) × (reading bytes ≡ Err e)
 unfolding optional
-optional_err reading [] e h = absurd cc
-optional_err reading (b ∷ bytes) e h = ((λ z. absurd cc), some_err (reading (b ∷ bytes)) e h)
+optional_err reading bytes e h = grind arith

@@ -1,5 +1,5 @@
 -- Readings by the mode: leniently what is read without one, and strictly that or NotCanonical.
-use Rattle.rpki_der.proofs.Common.{Bool, Err, List, Ok, Option, Result, [], arith, cond, false, inl, inr, refl, subst, suc, sym, true, zero, ℕ, ◌%◌, ◌^◌, ◌∷◌, ◌≡◌, eq-eqb, eqb-true, Bits, HasNone, IsBitContent, IsBitString, IsPadded, NoFront, Refines, Where, bit_content, last_octet, Gives, IsModal, IsReading, Tightens, bit_string_at, bit_string_by, bits, bits_by, each_from, is_padded, optional, passing, refined, tagged_at, ◌>>=◌, Lenient, NotCanonicalInOr, NotCanonicalOr, Takes, content_octets, is_strict, is_strict_in, Cursor, DerError, NotCanonical}
+use Rattle.rpki_der.proofs.Common.{Bool, Err, List, Ok, Option, Result, [], arith, cond, false, inl, refl, subst, suc, sym, true, zero, ℕ, ◌%◌, ◌^◌, ◌∷◌, ◌≡◌, eq-eqb, eqb-true, Bits, IsBitContent, IsBitString, IsPadded, NoFront, Refines, Where, bit_content, last_octet, Gives, IsModal, IsReading, Tightens, bit_string_at, bit_string_by, bits, bits_by, each_from, is_padded, optional, passing, refined, tagged_at, ◌>>=◌, Lenient, NotCanonicalInOr, NotCanonicalOr, Takes, content_octets, is_strict, is_strict_in, Cursor, DerError, NotCanonical}
 use Rattle.std.specs.Prelude.{◌⊎◌}
 use Rattle.rpki_der.specs.declared.content.Content.{Content}
 use Rattle.rpki_der.proofs.Contents.{bits_check}
@@ -10,13 +10,9 @@ use Rattle.rpki_der.proofs.Steps.{IsCheck, bind_ok, ok_is, ok_or_err}
 
 -- ---- what is found
 
--- not both
-err_is : {A : Type 0} (d e : DerError) (r : Result A DerError) → r ≡ Err d → r ≡ Err e → d ≡ e
-err_is d e r p q = cc
-
 -- leniently the same is found
 pub same_found : {A : Type 0} (by found : Result A DerError) → Tightens false by found → by ≡ found
-same_found by found v2 = grind (arith)
+same_found by found v2 = grind arith
 
 -- what is Ok is found
 pub found_is : {A : Type 0} (strict : Bool) (by found : Result A DerError) (x : A) → Tightens strict by found
@@ -26,7 +22,7 @@ found_is strict by found x v4 ok = grind (arith, ok_or_err)
 -- a fault that isn't NotCanonical is found
 pub fault_is : {A : Type 0} (strict : Bool) (by found : Result A DerError) (e : DerError) → Tightens strict by found
     → by ≡ Err e → ((strict ≡ true) × (e ≡ NotCanonical)) ⊎ (found ≡ Err e)
-fault_is strict by found e v4 failed = grind (arith, err_is)
+fault_is strict by found e v4 failed = grind arith
 
 -- so leniently the readings are one
 pub lenient_is : {X : Type 0} (S : List ℕ → X → Type 0) (reading : List ℕ → Result (X × List ℕ) DerError)
@@ -35,22 +31,26 @@ lenient_is S reading by is = λ i bytes. same_found (by false bytes) (reading by
 
 -- ---- steps
 
+-- what is the same in both modes
+pub same_tightens : {A : Type 0} (strict : Bool) (found : Result A DerError) → Tightens strict found found
+same_tightens strict found = inl refl
+
 module _ {A B : Type 0} (strict : Bool) (by : Result A DerError) (found : Result A DerError) (f g : A → Result B DerError) where
   -- one step after another
   pub bind_tightens : Tightens strict by found → ((x : A) → Tightens strict (f x) (g x))
       → Tightens strict (by >>= f) (found >>= g)
-  bind_tightens v0 more = grind (arith)
+  bind_tightens v0 more = grind arith
 
 -- one of two by a condition
 pub cond_tightens : {X : Type 0} (strict b : Bool) (p q r s : Result X DerError) → Tightens strict p r
     → Tightens strict q s → Tightens strict (cond b p q) (cond b r s)
-cond_tightens strict v1 p q r s first second = grind (arith)
+cond_tightens strict v1 p q r s first second = grind arith
 
 -- a test that is made strictly alone
 pub passing_tightens : {X : Type 0} (strict : Bool) (test : X → Bool) (x : X)
     → Tightens strict (passing strict test x) (Ok x)
 unfolding passing
-passing_tightens v0 test x = grind (arith)
+passing_tightens v0 test x = grind arith
 
 -- behind what is found
 pub then_passing : {X : Type 0} (strict : Bool) (test : X → Bool) (r : Result X DerError)
@@ -81,13 +81,7 @@ unfolding each_from
 each_tightens strict next by reading one zero state [] = inl refl
 each_tightens strict next by reading one (suc steps) state [] = inl refl
 each_tightens strict next by reading one zero state (b ∷ bytes) = inl refl
-each_tightens strict next by reading one (suc steps) state (b ∷ bytes) =
-    bind_tightens strict (by state (b ∷ bytes)) (reading state (b ∷ bytes))
-    (λ x. each_from next steps by (next state x.0) x.1 >>= λ xs. Ok (x.0 ∷ xs))
-    (λ x. each_from next steps reading (next state x.0) x.1 >>= λ xs. Ok (x.0 ∷ xs))
-    (one state (b ∷ bytes))
-    (λ x. bind_tightens strict (each_from next steps by (next state x.0) x.1) (each_from next steps reading (next state x.0) x.1) (λ xs. Ok (x.0 ∷ xs)) (λ xs. Ok (x.0 ∷ xs))
-    (each_tightens strict next by reading one steps (next state x.0) x.1) (λ xs. inl refl))
+each_tightens strict next by reading one (suc steps) state (b ∷ bytes) = search (bind_tightens, same_tightens, one, each_tightens strict next by reading one steps)
 
 -- ---- what is found strictly
 
@@ -131,7 +125,7 @@ plain_modal G reading is = record { tight = is; tightens = λ strict bytes. inl 
 -- twice
 tightens_twice : {A : Type 0} (strict : Bool) (a b c : Result A DerError) → Tightens strict a b → Tightens strict b c
     → Tightens strict a c
-tightens_twice strict a b c v4 v5 = grind (arith)
+tightens_twice strict a b c v4 v5 = grind arith
 
 -- a test that is made strictly alone, of what a reading finds
 passing_tested : {X : Type 0} (strict : Bool) (test : X → Bool) (r : Result (X × List ℕ) DerError)
@@ -192,13 +186,7 @@ pub refused_in : {X Y : Type 0} (C : List ℕ → Y → Type 0) (check : List �
     (view : X → Y) (value : Content) (result : Result X DerError) → IsCheck (λ _. Unit {0}) C check
     → Tightens (is_strict_in value) by (check (content_octets value)) → Gives view result by
     → NotCanonicalInOr C value result
-refused_in C check by view value (Ok x) is tight gives = tt
-refused_in C check by view value (Err e) is tight gives = found (fault_is (is_strict_in value) by (check (content_octets value)) e tight gives)
-  where
-    found : ((is_strict_in value ≡ true) × (e ≡ NotCanonical)) ⊎ (check (content_octets value) ≡ Err e)
-        → ((is_strict_in value ≡ true) × (e ≡ NotCanonical)) ⊎ HasNone C (content_octets value)
-    found (inl not_canonical) = inl not_canonical
-    found (inr none) = inr (λ y says. ok_or_err y e (check (content_octets value)) (is.again (content_octets value) y says) none)
+refused_in C check by view value result is tight gives = grind arith
 
 -- ---- bit strings
 

@@ -48,8 +48,7 @@ without_zeros-zeros (suc n) ds = without_zeros-zeros n ds
 
 -- octets that begin with no zero stay
 without_zeros-head : (d : ℕ) (ds : List ℕ) → d ≢ 0 → without_zeros (d ∷ ds) ≡ d ∷ ds
-without_zeros-head zero ds h = absurd (h refl)
-without_zeros-head (suc d) ds h = refl
+without_zeros-head d ds h = grind arith
 
 -- no octet is added
 pub length-without_zeros : (ds : List ℕ) → length (without_zeros ds) ≤ length ds

@@ -1,5 +1,5 @@
 -- The readings find the values of their grammars, whatever follows them, and no others.
-use Rattle.rpki_der.proofs.Common.{Err, List, Ok, Result, [], ap, append_assoc, arith, cond, drop, eqb, false, length, ltb, refl, subst, sym, take, ℕ, ◌%◌, ◌++◌, ◌<◌, ◌^◌, ◌∙◌, ◌∷◌, ◌≡◌, ◌≢◌, ◌≤◌, eq-eqb, eqb-false, eqb-true, le-ltb, ltb-false, ne_eqb, append_cancel_right, drop_at, length-append, length-take, take-append-drop, take_at, Front, IsBitContent, IsBitString, IsBytes, IsNothing, IsNull, IsTag, IsTlv, IsU32, IsUnsigned, IsValue, OneFront, Refines, Tlv, header, length_octets, value, IsReading, bit_string_at, bits, length_at, nothing, null_at, refined, tagged_at, u32_at, unsigned, value_at, ◌>>=◌, DerError, BadTag, Truncated}
+use Rattle.rpki_der.proofs.Common.{Err, List, Ok, Result, [], ap, append_assoc, arith, cond, drop, eqb, length, ltb, refl, subst, sym, take, ℕ, ◌%◌, ◌++◌, ◌<◌, ◌^◌, ◌∙◌, ◌∷◌, ◌≡◌, ◌≢◌, ◌≤◌, eq-eqb, eqb-false, eqb-true, le-ltb, ltb-false, ne_eqb, append_cancel_right, drop_at, length-append, length-take, take-append-drop, take_at, Front, IsBitContent, IsBitString, IsBytes, IsNothing, IsNull, IsTag, IsTlv, IsU32, IsUnsigned, IsValue, OneFront, Refines, Tlv, header, length_octets, value, IsReading, bit_string_at, bits, length_at, nothing, null_at, refined, tagged_at, u32_at, unsigned, value_at, ◌>>=◌, DerError, BadTag, Truncated}
 use Rattle.rpki_der.proofs.Steps.{IsCheck, IsBytes-rest, fits_front, fits_back, bind_ok, passed, passed_true, ok_is}
 use Rattle.rpki_der.proofs.Contents.{unsigned_check, unsigned_spelled, spelled_unsigned, bits_check, nothing_check}
 use Rattle.rpki_der.proofs.Lengths.{length_takes, length_again}
@@ -15,12 +15,7 @@ value_front : (tag n : ℕ) (bytes after : List ℕ) (v : Tlv) (rest : List ℕ)
     → bytes ≡ length_octets n ++ after → n ≤ length after → cut tag n after ≡ (v, rest)
     → Front IsTlv (tag ∷ bytes) v rest
 unfolding header
-value_front tag n bytes after v rest low lt split enough made =
-    let content = take n after in
-    let len : length content ≡ n = omega (arith, length-take n after) in
-    let parts : length_octets n ++ content ++ drop n after ≡ bytes = append_assoc (length_octets n) content (drop n after) ∙ ap (λ (x : List ℕ). length_octets n ++ x) (take-append-drop n after) ∙ sym split in
-    let whole : tag ∷ bytes ≡ value tag content ++ drop n after = rw (len, parts) refl in
-    subst (λ (p : Tlv × List ℕ). Front IsTlv (tag ∷ bytes) p.0 p.1) made (value tag content, record { has_tag = low; short = omega arith; spelled = refl }, whole)
+value_front tag n bytes after v rest low lt split enough made = grind (arith, append_assoc, length-take, take-append-drop)
 
 -- a value that is read is spelled so
 value_takes : (bytes : List ℕ) (v : Tlv) (rest : List ℕ) → IsBytes bytes → value_at bytes ≡ Ok (v, rest)
@@ -42,12 +37,7 @@ value_takes (tag ∷ bytes) v rest fits e =
 value_again_spelled : (tag : ℕ) (content rest : List ℕ) → IsTag tag → length content < 2 ^ 64
     → value_at (value tag content ++ rest) ≡ Ok (record { tag = tag; content = content }, rest)
 unfolding value_at header
-value_again_spelled tag content rest low lt =
-    let is_low : eqb (tag % 32) 31 ≡ false = ne_eqb (tag % 32) 31 (λ h. omega arith) in
-    let regrouped : length_octets (length content) ++ content ++ rest ≡ length_octets (length content) ++ (content ++ rest) = append_assoc (length_octets (length content)) content rest in
-    let front : length_at (length_octets (length content) ++ content ++ rest) ≡ Ok (length content, content ++ rest) = ap length_at regrouped ∙ length_again (length content) (content ++ rest) lt in
-    let enough : ltb (length (content ++ rest)) (length content) ≡ false = le-ltb _ _ (omega (arith, length-append content rest)) in
-    rw (is_low, front, enough, take_at content rest (length content) refl, drop_at content rest (length content) refl) refl
+value_again_spelled tag content rest low lt = grind (arith, append_assoc, drop_at, le-ltb, length-append, length_again, ne_eqb, take_at)
 
 -- a value is read, whatever follows
 value_again : (front : List ℕ) (v : Tlv) (rest : List ℕ) → IsTlv front v → value_at (front ++ rest) ≡ Ok (v, rest)
@@ -62,8 +52,7 @@ pub one_front : {X : Type 0} (G : List ℕ → X → Type 0) (reading : List ℕ
     → IsReading G reading → OneFront G
 one_front G reading is a b x y r s p q e =
     let both = ok_is (x, r) (y, s) (sym (is.again a x r p) ∙ ap reading e ∙ is.again b y s q) in
-    let same : r ≡ s = ap (λ p. p.1) both in
-    (append_cancel_right a b s (ap (λ t. a ++ t) (sym same) ∙ e), ap (λ p. p.0) both, same)
+    grind (arith, append_cancel_right)
 
 -- ---- octets of the parts
 
@@ -96,8 +85,7 @@ tagged_takes tag bytes content rest fits e =
     let g = passed_true (eqb a.0.0.tag tag) BadTag (Ok (a.0.0.content, a.0.1)) (content, rest) a.2 in
     let made = ok_is (a.0.0.content, a.0.1) (content, rest) g.1 in
     let found = value_takes bytes a.0.0 a.0.1 fits a.1 in
-    let is : IsTagged tag found.0 a.0.0.content = subst (λ (t : ℕ). IsTagged t found.0 a.0.0.content) (eqb-true a.0.0.tag tag g.0) found.1 in
-    subst (λ (p : List ℕ × List ℕ). Front (IsTagged tag) bytes p.0 p.1) made (found.0, is, found.2)
+    grind (arith, eqb-true)
 
 -- a value of the tag is read, whatever follows
 tagged_again : (tag : ℕ) (front content rest : List ℕ) → IsTagged tag front content

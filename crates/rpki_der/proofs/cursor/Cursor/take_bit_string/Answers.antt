@@ -5,14 +5,11 @@ use Rattle.rpki_der.proofs.Cursors.{reads_by}
 use Rattle.rpki_der.proofs.Modes.{bit_string_modal, exact_by, refused_by}
 use Rattle.rpki_der.proofs.cursor.Cursor.take_bit_string.Goals as goal
 
-exact : goal.returns-clause-exact
-exact c = exact_by (Where IsBitString IsPadded) bit_string_at bit_string_by bit_string_of c.args.self.now c.next_bit_string.new.self c.next_bit_string.result bit_string_modal c.next_bit_string.ensures.by_mode
-
 pub returns-clause-exact : goal.returns-clause-exact
-returns-clause-exact c = exact c
+returns-clause-exact c = exact_by (Where IsBitString IsPadded) bit_string_at bit_string_by bit_string_of c.args.self.now c.next_bit_string.new.self c.next_bit_string.result bit_string_modal c.next_bit_string.ensures.by_mode
 
 pub returns-clause-reads : goal.returns-clause-reads
-returns-clause-reads c lenient = reads_by IsBitString bit_string_at bit_string_of c.args.self.now c.next_bit_string.new.self c.next_bit_string.result bit_string_reading c.args.self.now.bytes (exact c lenient)
+returns-clause-reads c lenient = reads_by IsBitString bit_string_at bit_string_of c.args.self.now c.next_bit_string.new.self c.next_bit_string.result bit_string_reading c.args.self.now.bytes (returns-clause-exact c lenient)
 
 pub returns-clause-strict : goal.returns-clause-strict
 returns-clause-strict c strict =

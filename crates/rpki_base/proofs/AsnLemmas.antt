@@ -1,5 +1,5 @@
 -- Texts of AS numbers: each writes one at most, and what is printed is read back.
-use Rattle.rpki_base.proofs.Common.{Err, List, Ok, [], ap, arith, codes, decimal, inl, inr, length, lit≤, refl, subst, suc, sym, take, ℕ, ◌++◌, ◌-◌, ◌<◌, ◌^◌, ◌∙◌, ◌∷◌, ◌≡◌, ◌≤◌, take-append_seam, cases_lt, decimal_is_IsNumeral, digit_from_value, without_leading_plus_none, IsInRange, AllByRecursion, str_to_ascii_lowercase, AllDigits, IsNumberText, IsAfterAs, IsAsAnd, IsAsnText, ReadsAsn, asn_text}
+use Rattle.rpki_base.proofs.Common.{Err, List, Ok, [], ap, arith, codes, decimal, inl, inr, length, lit≤, refl, subst, suc, sym, take, ℕ, ◌++◌, ◌-◌, ◌<◌, ◌^◌, ◌∙◌, ◌∷◌, ◌≡◌, ◌≤◌, take-append_seam, cases_lt, decimal_is_IsNumeral, digit_from_value, IsInRange, AllByRecursion, str_to_ascii_lowercase, AllDigits, IsNumberText, IsAfterAs, IsAsAnd, IsAsnText, ReadsAsn, asn_text}
 use Rattle.std.proofs.Common.{length-append}
 use Rattle.std.specs.Char.{to_ascii_lowercase}
 use Rattle.std.proofs.lemmas.Str.Ascii.{lowercase_is}
@@ -27,11 +27,7 @@ letter_is_no_digit b letter = grind (arith, cases_lt, lowercase_is)
 -- so no number text begins with it
 first_of_number : (b : ℕ) (more : List ℕ) (n : ℕ) → IsNumberText (2 ^ 32 - 1) (b ∷ more) n → to_ascii_lowercase b ≡ 97
     → ⊥
-first_of_number b more n h letter =
-    let high = letter_is_no_digit b letter in
-    let whole = without_leading_plus_none (b ∷ more) (λ e. omega (arith, e)) in
-    let digits : AllDigits 10 (b ∷ more) = subst (AllDigits 10) whole h.digits.1 in
-    omega (arith, (digit_from_value b digits.0).1)
+first_of_number b more n h letter = grind arith
 
 -- `as` begins with it
 as_letters_first : (letters rest : List ℕ) → str_to_ascii_lowercase letters ≡ codes "as"

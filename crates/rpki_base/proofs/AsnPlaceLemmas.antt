@@ -1,5 +1,5 @@
 -- AS numbers at a place among bytes: letters and digits behind them.
-use Rattle.rpki_base.proofs.Common.{List, Ok, [], ap, arith, codes, drop, get_or, inl, inr, length, length-drop, refl, subst, suc, sym, take, ℕ, ◌+◌, ◌-◌, ◌<◌, ◌^◌, ◌∙◌, ◌∷◌, ◌≡◌, ◌≤◌, ◌⊎◌, take-length, cases_lt, drop_more, get_or-drop, get_or-take, length-take, digit_at, digit_from_value, without_leading_plus_none, IsInRange, AllByRecursion, str_to_ascii_lowercase, AllDigits, digits_value, AreDigitsBetween, AreDigitsFrom, IsNumberText, IsAsnText, ReadsAsn}
+use Rattle.rpki_base.proofs.Common.{List, Ok, [], ap, arith, codes, drop, get_or, inl, inr, length, length-drop, subst, suc, sym, take, ℕ, ◌+◌, ◌-◌, ◌<◌, ◌^◌, ◌∙◌, ◌∷◌, ◌≡◌, ◌≤◌, ◌⊎◌, take-length, cases_lt, drop_more, get_or-drop, get_or-take, length-take, digit_at, digit_from_value, without_leading_plus_none, IsInRange, AllByRecursion, str_to_ascii_lowercase, AllDigits, digits_value, AreDigitsBetween, AreDigitsFrom, IsNumberText, IsAsnText, ReadsAsn}
 use Rattle.std.proofs.lemmas.Str.{digit_value_digit}
 use Rattle.rpki_base.specs.AsnPlaces.{HasLettersAt, IsAfterLetters, IsAsnAt, IsAsnBetween}
 use Rattle.rpki_base.proofs.AsnLemmas.{IsAsnText-one, IsAsnText-asn_text}
@@ -28,23 +28,12 @@ behind_letters : (start end : ℕ) (text : List ℕ) → start + 2 ≤ end → s
     ≡ get_or text start 0 ∷ get_or text (start + 1) 0 ∷ take (end - (start + 2)) (drop (start + 2) text)
 behind_letters start end text more within =
     let count : end - start ≡ suc (suc (end - (start + 2))) = omega (arith, more) in
-    let one = drop_more text start 0 (omega (arith, within)) in
-    let two = drop_more text (start + 1) 0 (omega (arith, within)) in
-    let place : start + 1 + 1 ≡ start + 2 = omega arith in
-    ap (λ k. take k (drop start text)) count
-    ∙ ap (take (suc (suc (end - (start + 2))))) (one ∙ ap (λ t. get_or text start 0 ∷ t) (two ∙ ap (λ k. get_or text (start + 1) 0 ∷ drop k text) place))
+    grind (arith, drop_more)
 
 -- digits, which nothing or letters go before
 number_between : (start end : ℕ) (text : List ℕ) (n : ℕ) → AreDigitsBetween start end text n → start < end → n < 2 ^ 32
     → IsAsnBetween start end text n
-number_between start end text n h some small =
-    let more : 0 < length (take (end - start) (drop start text)) = omega (arith, length-take (end - start) (drop start text), length-drop start text, some, h.within) in
-    record {
-      in_order = some;
-      within = h.within;
-      number = record { letters = []; digits = take (end - start) (drop start text); split = refl; prefix = inl refl; number = digits_are_number _ n more h.all_digits h.value small };
-      bytes = digits_are_bytes _ h.all_digits;
-    }
+number_between start end text n h some small = grind (arith, digits_are_bytes, digits_are_number, length-drop, length-take)
 
 letters_between : (start end : ℕ) (text : List ℕ) (n : ℕ) → HasLettersAt start text
     → AreDigitsBetween (start + 2) end text n → start + 2 < end → n < 2 ^ 32 → IsAsnBetween start end text n
@@ -82,12 +71,7 @@ no_further start end other text n m h k further =
     let all = take (other - start) (drop start text) in
     let here : end - start < length all = omega (arith, length-take (other - start) (drop start text), length-drop start text, further, h.digits.in_order, k.digits.within) in
     let digit = digit_at all (end - start) k.digits.all_digits here in
-    let same : get_or all (end - start) 0 ≡ get_or text end 0 = get_or-take (other - start) (drop start text) (end - start) 0 (omega (arith, further, h.digits.in_order)) ∙ (get_or-drop start text (end - start) 0 ∙ ap (λ i. get_or text i 0) (omega (arith, h.digits.in_order))) in
-    elim h.none_left [
-      | inl last ↦ omega (arith, last, further, k.digits.within)
-      | inr (inl ten) ↦ omega (arith, ten, further, k.digits.few)
-      | inr (inr other_byte) ↦ omega (arith, other_byte, digit_value_digit (get_or text end 0) (rw same at digit), rw same at digit)
-    ]
+    grind (arith, digit_value_digit, get_or-drop, get_or-take)
 
 -- so they end at one place
 same_end : (start end other : ℕ) (text : List ℕ) (n m : ℕ) → AreDigitsFrom start end text n

@@ -14,15 +14,15 @@ pub use Rattle.std.specs.Str.{str_to_ascii_lowercase}
 pub use Rattle.std.specs.Str.Parse.{AllDigits, digits_value}
 pub use Rattle.rpki_der.proofs.Cursors.{none_by, reads_by, reads_optional_by}
 pub use Rattle.rpki_der.proofs.Lists.{HasOctets, SoFar, as_some, each_again, each_takes, loop_ends, loop_fails, loop_more, optional_err, optional_none, optional_some, shorter, some_err, some_is, value_has_octets}
-pub use Rattle.rpki_der.proofs.Modes.{bind_tightens, cond_tightens, each_tightens, found_is, lenient_is, looked_tightens, passed_is, passes, passing_tightens, refused_at, same_found}
+pub use Rattle.rpki_der.proofs.Modes.{bind_tightens, cond_tightens, each_tightens, found_is, lenient_is, looked_tightens, passed_is, passes, passing_tightens, refused_at, same_found, same_tightens}
 pub use Rattle.rpki_der.proofs.Readings.{IsTagged, fits_content, fits_rest, one_front, refined_reading, same_reading, tagged_reading, u32_reading, value_reading}
 pub use Rattle.rpki_der.proofs.Steps.{IsCheck, bind_ok, ok_is, ok_or_err, passed, passed_true}
 pub use Rattle.rpki_der.proofs.Written.{u32_is, value_is}
 pub use Rattle.rpki_der.specs.Der.{Each, EachFrom, Front, IsBytes, IsSequence, IsTlv, IsValue, OneFront, Refines, Tlv, octets, sequence_value}
 unfoldable pub use Rattle.rpki_der.specs.Der.{header, length_octets}
-pub use Rattle.rpki_der.specs.Reading.{Gives, IsModal, IsReading, Tightens, bit_string_at, bit_string_by, each, ended, passing, ◌>>=◌}
-unfoldable pub use Rattle.rpki_der.specs.Reading.{bits, bits_by, each_from, length_at, long_length_at, nothing, optional, refined, tagged_at, unsigned, value_at}
-pub use Rattle.rpki_der.specs.Views.{Lenient, ReadsOptional, Takes, is_strict, left}
+pub use Rattle.rpki_der.specs.Reading.{Gives, IsModal, IsReading, Tightens, bit_string_at, bit_string_by, each, ended, ◌>>=◌}
+unfoldable pub use Rattle.rpki_der.specs.Reading.{bits, bits_by, each_from, length_at, long_length_at, nothing, optional, passing, refined, tagged_at, unsigned, value_at}
+pub use Rattle.rpki_der.specs.Views.{Lenient, ReadsOptional, Strict, Takes, is_strict, left}
 pub use Rattle.rpki_der.specs.declared.cursor.Cursor.{Cursor}
 pub use Rattle.rpki_der.specs.declared.error.DerError.{DerError}
 pub use Rattle.rpki_der.specs.declared.error.DerError.TheVariants.{BadFamily, BadTag, DuplicateFamily, NoFamily, NotCanonical, TrailingData}

@@ -1,5 +1,5 @@
 -- From the reading to the grammar, for calls that take memory, or that look at the tag first.
-use Rattle.rpki_base.proofs.Common.{Err, List, None, Ok, Option, Result, Some, ap, arith, length, sym, ℕ, ◌++◌, ◌<◌, ◌∙◌, ◌≡◌, length-append, none_by, reads_optional_by, as_some, some_err, some_is, ok_is, ok_or_err, IsBytes, Refines, IsReading, optional, ◌>>=◌, ReadsOptional, Takes, left, Cursor, DerError, OrMemory, if_tagged, ReadsOrMemory, ReadsTagged, TakesOrMemory, TakesSaidOrMemory}
+use Rattle.rpki_base.proofs.Common.{List, None, Ok, Option, Result, Some, ap, arith, length, ℕ, ◌++◌, ◌<◌, ◌∙◌, ◌≡◌, length-append, none_by, reads_optional_by, as_some, some_is, ok_is, ok_or_err, IsBytes, Refines, IsReading, optional, ◌>>=◌, ReadsOptional, Takes, left, Cursor, DerError, OrMemory, if_tagged, ReadsOrMemory, ReadsTagged, TakesOrMemory, TakesSaidOrMemory}
 
 -- a take that may want memory
 pub reads_or_memory_by : {X Y : Type 0} (G : List ℕ → Y → Type 0) (reading : List ℕ → Result (Y × List ℕ) DerError)
@@ -34,8 +34,7 @@ pub reads_tagged_by : {X : Type 0} (tag : ℕ) (G : List ℕ → X → Type 0) (
     (old new : Cursor) (result : Result (Option X) DerError) → IsReading G reading → IsBytes (left old)
     → Takes (λ o. o) old new result (if_tagged tag reading) → ReadsTagged tag G old new result
 unfolding if_tagged
-reads_tagged_by tag G reading old new result is fits =
-    grind (arith, as_some, none_by, none_ok, ok_is, some_err, some_ok)
+reads_tagged_by tag G reading old new result is fits = grind arith
 
 -- a take that answers what is said by what the reading gives
 pub reads_said_by : {X Y : Type 0} (G : List ℕ → Y → Type 0) (C : Y → X → Type 0)
@@ -51,21 +50,10 @@ unfolding optional
 optional_again reading bytes x rest some e = grind (arith)
 
 -- so such a take gives the value that stands there, and then stands behind it
-pub optional_back : {X : Type 0} (G : List ℕ → X → Type 0) (reading : List ℕ → Result (X × List ℕ) DerError)
-    (old new : Cursor) (result : Result (Option X) DerError) → IsReading G reading
-    → Takes (λ x. x) old new result (optional reading) → (front : List ℕ) (x : X) (rest : List ℕ) → 0 < length front
-    → G front x → left old ≡ front ++ rest → (result ≡ Ok (Some x)) × (left new ≡ rest)
-optional_back {X} G reading old new result is took front x rest some g at = by_result result took
-  where
-    longer : 0 < length (left old)
-    longer = omega (arith, some, ap (λ (t : List ℕ). length t) at, length-append front rest)
-
-    found : optional reading (left old) ≡ Ok (Some x, rest)
-    found = optional_again reading (left old) x rest longer (ap reading at ∙ is.again front x rest g)
-
-    by_result : (r : Result (Option X) DerError) → Takes (λ x. x) old new r (optional reading)
-        → (r ≡ Ok (Some x)) × (left new ≡ rest)
-    by_result (Ok o) took =
-        let both : (o, left new) ≡ (Some x, rest) = ok_is (o, left new) (Some x, rest) (sym took ∙ found) in
-        (ap (λ (p : Option X × List ℕ). Ok p.0) both, ap (λ (p : Option X × List ℕ). p.1) both)
-    by_result (Err e) took = absurd (ok_or_err (Some x, rest) e (optional reading (left old)) found took.0)
+pub optional_back : {X : Type 0} (reading : List ℕ → Result (X × List ℕ) DerError) (old new : Cursor)
+    (result : Result (Option X) DerError) → Takes (λ x. x) old new result (optional reading)
+    → (front rest : List ℕ) (x : X) → 0 < length front → left old ≡ front ++ rest
+    → reading (front ++ rest) ≡ Ok (x, rest) → (result ≡ Ok (Some x)) × (left new ≡ rest)
+optional_back reading old new result took front rest x some at read =
+    let found = optional_again reading (left old) x rest (omega (arith, some, ap (λ (t : List ℕ). length t) at, length-append front rest)) (ap reading at ∙ read) in
+    grind (arith, ok_is, ok_or_err)

@@ -1,6 +1,6 @@
 -- Which faults readings name: those of their layer and of the layers below it, whose numbers are no greater. So a fault
 -- of a layer is named exactly where that layer finds it.
-use Rattle.rpki_base.proofs.Common.{Bool, Err, List, Ok, Result, [], arith, cond, eqb, false, length, refl, subst, suc, sym, true, zero, ℕ, ◌<◌, ◌↔◌, ◌∷◌, ◌≡◌, ◌≢◌, ◌≤◌, eqb-true, ne_eqb, Tlv, bits, each_from, ended, length_at, long_length_at, nothing, refined, tagged_at, unsigned, value_at, ◌>>=◌, DerError, BadTag, BeginsWithTwo, BeginsWithValue, by_tag, enclosed_at, only, pair_in, values_from, values_of}
+use Rattle.rpki_base.proofs.Common.{Bool, Err, List, Ok, Result, [], arith, cond, eqb, false, length, refl, subst, suc, sym, true, zero, ℕ, ◌<◌, ◌↔◌, ◌∷◌, ◌≡◌, ◌≢◌, ◌≤◌, eqb-true, ne_eqb, Tlv, bits, each_from, ended, length_at, long_length_at, nothing, refined, tagged_at, unsigned, value_at, ◌>>=◌, DerError, BadTag, as_number_at, BeginsWithTwo, BeginsWithValue, by_tag, enclosed_at, only, pair_in, values_from, values_of}
 use Rattle.std.proofs.lemmas.List.{length-drop}
 use Rattle.rpki_der.specs.Faults.{fault_number}
 
@@ -44,16 +44,18 @@ pub tagged_names : (tag : ℕ) (bytes : List ℕ) → NamesTo 3 (tagged_at tag b
 unfolding tagged_at
 tagged_names tag bytes = search (arith, cond_names, bind_names, value_names)
 
+-- a header's faults, where more can follow
+pub header_names : (n tag : ℕ) → 3 ≤ n → (bytes : List ℕ) → NamesTo n (tagged_at tag bytes)
+header_names n tag more bytes = names_more 3 n (tagged_at tag bytes) more (tagged_names tag bytes)
+
 -- behind a value fewer octets are left
 length_shorter : (bytes : List ℕ) (len : ℕ × List ℕ) → length_at bytes ≡ Ok len → length len.1 ≤ length bytes
 unfolding length_at long_length_at
-length_shorter [] len is = absurd cc
-length_shorter (first ∷ bytes) len is = grind (arith, length-drop {A = ℕ})
+length_shorter bytes len is = grind (arith, length-drop)
 
 value_shorter : (bytes : List ℕ) (v : Tlv × List ℕ) → value_at bytes ≡ Ok v → length v.1 < length bytes
 unfolding value_at
-value_shorter [] v is = absurd cc
-value_shorter (tag ∷ bytes) v is = grind (arith, length-drop {A = ℕ}, length_shorter)
+value_shorter bytes v is = grind (arith, length-drop, length_shorter)
 
 pub tagged_shorter : (tag : ℕ) (bytes : List ℕ) (value : List ℕ × List ℕ) → tagged_at tag bytes ≡ Ok value
     → length value.1 < length bytes
@@ -64,10 +66,12 @@ pub unsigned_names : (content : List ℕ) → NamesTo 4 (unsigned content)
 unfolding unsigned
 unsigned_names content = search (arith, cond_names)
 
+pub number_names : (bytes : List ℕ) → NamesTo 4 (as_number_at bytes)
+number_names = refined_names 4 (tagged_at 2) unsigned (header_names 4 2 (omega arith)) unsigned_names
+
 pub bits_names : (content : List ℕ) → NamesTo 5 (bits content)
 unfolding bits
-bits_names [] = omega arith
-bits_names (unused ∷ octets) = search (arith, cond_names)
+bits_names content = grind arith
 
 pub nothing_names : (content : List ℕ) → NamesTo 6 (nothing content)
 unfolding nothing
@@ -91,7 +95,16 @@ pub pair_names : {X Y : Type 0} (n : ℕ) (reading : List ℕ → Result (X × L
 unfolding pair_in
 pair_names n reading check above reads checks content = search (arith, bind_names, names_more, ended_names, reads, checks)
 
-each_names : {S X : Type 0} (n : ℕ) (next : S → X → S) (reading : S → List ℕ → Result (X × List ℕ) DerError) → 1 ≤ n
+only_names : {X : Type 0} (n : ℕ) (reading : List ℕ → Result (X × List ℕ) DerError) → 7 ≤ n
+    → ((bytes : List ℕ) → NamesTo n (reading bytes)) → (content : List ℕ) → NamesTo n (only reading content)
+unfolding only
+only_names n reading above names content = search (arith, bind_names, names_more, ended_names, names)
+
+pub enclosed_names : {X : Type 0} (n tag : ℕ) (reading : List ℕ → Result (X × List ℕ) DerError) → 7 ≤ n
+    → ((bytes : List ℕ) → NamesTo n (reading bytes)) → (bytes : List ℕ) → NamesTo n (enclosed_at tag reading bytes)
+enclosed_names n tag reading above names = refined_names n (tagged_at tag) (only reading) (header_names n tag (omega arith)) (only_names n reading above names)
+
+pub each_names : {S X : Type 0} (n : ℕ) (next : S → X → S) (reading : S → List ℕ → Result (X × List ℕ) DerError) → 1 ≤ n
     → ((state : S) (bytes : List ℕ) → NamesTo n (reading state bytes)) → (steps : ℕ) (state : S) (bytes : List ℕ)
     → NamesTo n (each_from next steps reading state bytes)
 unfolding each_from
@@ -133,16 +146,16 @@ ended_fails y bytes e above = not_named 7 (ended bytes >>= λ end. Ok y) e (sear
 
 -- two values
 pub pair_fails : {X Y : Type 0} (reading : List ℕ → Result (X × List ℕ) DerError) (check : X → X → Result Y DerError)
-    (e : DerError) → 7 < fault_number e → ((bytes : List ℕ) → reading bytes ≡ Err e → ⊥) → (content : List ℕ)
-    → (pair_in reading check content ≡ Err e)
-    ↔ BeginsWithTwo reading (λ first second. check first second ≡ Err e) content
+    (C : X → X → Type 0) (e : DerError) → 7 < fault_number e → ((bytes : List ℕ) → reading bytes ≡ Err e → ⊥)
+    → ((first second : X) → (check first second ≡ Err e) ↔ C first second) → (content : List ℕ)
+    → (pair_in reading check content ≡ Err e) ↔ BeginsWithTwo reading C content
 unfolding pair_in
-pair_fails reading check e above never content = (
+pair_fails reading check C e above never same content = (
   (λ is.
       let a = bind_fails (reading content) _ e (never content) is in
       let b = bind_fails (reading a.0.1) _ e (never a.0.1) a.2 in
-      (a.0, b.0, a.1, b.1, first_fails (check a.0.0 b.0.0) _ e (λ y. ended_fails y b.0.1 e above) b.2)),
-  (λ (first, second, one, two, fails). rw (one, two, fails) refl),
+      (a.0, b.0, a.1, b.1, (same a.0.0 b.0.0).0 (first_fails (check a.0.0 b.0.0) _ e (λ y. ended_fails y b.0.1 e above) b.2))),
+  (λ (first, second, one, two, c). let fails = (same first.0 second.0).1 c in rw (one, two, fails) refl),
 )
 
 -- the one value of a content
@@ -152,20 +165,20 @@ unfolding only
 only_fails reading e above content = ((λ is. first_fails (reading content) _ e (λ x. ended_fails x.0 x.1 e above) is), (λ fails. rw fails refl))
 
 -- a content of a tag
-pub tagged_fails : {X : Type 0} (tag : ℕ) (check : List ℕ → Result X DerError) (e : DerError) → 3 < fault_number e
-    → (bytes : List ℕ)
-    → (refined (tagged_at tag) check bytes ≡ Err e) ↔ BeginsWithValue tag (λ content. check content ≡ Err e) bytes
+pub tagged_fails : {X : Type 0} (tag : ℕ) (check : List ℕ → Result X DerError) (P : List ℕ → Type 0) (e : DerError)
+    → 3 < fault_number e → ((content : List ℕ) → (check content ≡ Err e) ↔ P content) → (bytes : List ℕ)
+    → (refined (tagged_at tag) check bytes ≡ Err e) ↔ BeginsWithValue tag P bytes
 unfolding refined
-tagged_fails tag check e above bytes = grind (arith, bind_fails, mapped_fails, not_named, tagged_names)
+tagged_fails tag check P e above same bytes = grind (arith, bind_fails, mapped_fails, not_named, tagged_names, same)
 
 -- a value that encloses one
-pub enclosed_fails : {X : Type 0} (tag : ℕ) (reading : List ℕ → Result (X × List ℕ) DerError) (e : DerError)
-    → 7 < fault_number e → (bytes : List ℕ)
-    → (enclosed_at tag reading bytes ≡ Err e) ↔ BeginsWithValue tag (λ content. reading content ≡ Err e) bytes
-enclosed_fails tag reading e above bytes = (
-  (λ is. let a = (tagged_fails tag (only reading) e (omega arith) bytes).0 is in (a.0, a.1, (only_fails reading e above a.0.0).0 a.2)),
-  (λ (v, found, fails). (tagged_fails tag (only reading) e (omega arith) bytes).1 (v, found, (only_fails reading e above v.0).1 fails)),
-)
+pub enclosed_fails : {X : Type 0} (tag : ℕ) (reading : List ℕ → Result (X × List ℕ) DerError) (P : List ℕ → Type 0)
+    (e : DerError) → 7 < fault_number e → ((content : List ℕ) → (reading content ≡ Err e) ↔ P content)
+    → (bytes : List ℕ) → (enclosed_at tag reading bytes ≡ Err e) ↔ BeginsWithValue tag P bytes
+enclosed_fails tag reading P e above same = tagged_fails tag (only reading) P e (omega arith) (λ content. (
+  (λ is. (same content).0 ((only_fails reading e above content).0 is)),
+  (λ p. (only_fails reading e above content).1 ((same content).1 p)),
+))
 
 tagged_value : (tag : ℕ) (bytes : List ℕ) (v : List ℕ × List ℕ) → tagged_at tag bytes ≡ Ok v
     → value_at bytes ≡ Ok (record { tag = tag; content = v.0 }, v.1)
@@ -173,17 +186,19 @@ unfolding tagged_at
 tagged_value tag bytes v is = grind (arith, eqb-true)
 
 -- a SEQUENCE, where the fault isn't one of the other tag's content
-pub sequence_fails : {X : Type 0} (tag : ℕ) (one two : List ℕ → Result X DerError) (e : DerError) → tag ≢ 48
-    → 3 < fault_number e → ((content : List ℕ) → one content ≡ Err e → ⊥) → (bytes : List ℕ)
-    → (refined value_at (by_tag tag one two) bytes ≡ Err e) ↔ BeginsWithValue 48 (λ content. two content ≡ Err e) bytes
+pub sequence_fails : {X : Type 0} (tag : ℕ) (one two : List ℕ → Result X DerError) (P : List ℕ → Type 0) (e : DerError)
+    → tag ≢ 48 → 3 < fault_number e → ((content : List ℕ) → one content ≡ Err e → ⊥)
+    → ((content : List ℕ) → (two content ≡ Err e) ↔ P content) → (bytes : List ℕ)
+    → (refined value_at (by_tag tag one two) bytes ≡ Err e) ↔ BeginsWithValue 48 P bytes
 unfolding refined by_tag tagged_at
-sequence_fails {X} tag one two e apart above never bytes = (
+sequence_fails {X} tag one two P e apart above never same bytes = (
   (λ is.
       let a = bind_fails (value_at bytes) (λ v. by_tag tag one two v.0 >>= λ y. Ok (y, v.1)) e (not_named 3 (value_at bytes) e (value_names bytes) above) is in
       let b = by_tests a.0.0 (eqb a.0.0.tag tag) (eqb a.0.0.tag 48) ((mapped_fails (by_tag tag one two a.0.0) _ e).0 a.2) in
-      ((a.0.0.content, a.0.1), simp (a.1, b.0), b.1)),
-  (λ (content, found, fails).
+      ((a.0.0.content, a.0.1), simp (a.1, b.0), (same a.0.0.content).0 b.1)),
+  (λ (content, found, p).
       let other : eqb 48 tag ≡ false = ne_eqb 48 tag (λ t. apart (sym t)) in
+      let fails = (same content.0).1 p in
       rw (tagged_value 48 bytes content found, other, fails) refl),
 )
   where
@@ -201,11 +216,6 @@ unfolding values_from each_from
 no_values reading content = grind (arith)
 
 -- ---- the same of what is found
-
-pub begins_two : {X : Type 0} (reading : List ℕ → Result (X × List ℕ) DerError) (C D : X → X → Type 0)
-    → ((first second : X) → C first second → D first second) → (bytes : List ℕ) → BeginsWithTwo reading C bytes
-    → BeginsWithTwo reading D bytes
-begins_two reading C D says bytes (first, second, one, two, c) = (first, second, one, two, says first.0 second.0 c)
 
 pub begins_value : (tag : ℕ) (P Q : List ℕ → Type 0) → ((content : List ℕ) → P content → Q content) → (bytes : List ℕ)
     → BeginsWithValue tag P bytes → BeginsWithValue tag Q bytes

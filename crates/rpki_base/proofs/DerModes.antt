@@ -1,6 +1,7 @@
 -- Readings from readings by the mode, and calls that take memory.
-use Rattle.rpki_base.proofs.Common.{Bool, Err, List, Ok, Result, [], ap, arith, false, inl, length, refl, subst, suc, sym, true, zero, ℕ, ◌++◌, ◌∙◌, ◌∷◌, ◌≡◌, append-nil, length-append, MatchResult, HasOctets, bind_tightens, cond_tightens, each_tightens, found_is, lenient_is, looked_tightens, passed_is, passes, passing_tightens, refused_at, same_found, fits_rest, IsCheck, bind_ok, ok_is, ok_or_err, EachFrom, IsBytes, Refines, Tlv, IsModal, IsReading, Tightens, each_from, ended, passing, tagged_at, ◌>>=◌, Lenient, is_strict, left, Cursor, DerError, IsMemory, OrMemory, Memory, Refused, Encloses, IsSequenceFrom, SaysPair, by_tag, enclosed_at, only, pair_by, pair_in, sequence_from, values_from, values_of, NotCanonicalOrMemory, ReadsOrMemory, TakesOrMemory, TakesSaidOrMemory}
-use Rattle.rpki_base.proofs.DerReadings.{ended_is, enclosed_reading, sequence_reading, values_check}
+use Rattle.rpki_base.proofs.Common.{Bool, Err, List, Ok, Option, Result, Some, [], ap, arith, false, length, refl, subst, suc, true, zero, ℕ, ◌++◌, ◌<◌, ◌∙◌, ◌∷◌, ◌≡◌, ◌↔◌, length-append, MatchResult, HasOctets, bind_tightens, cond_tightens, each_tightens, found_is, lenient_is, looked_tightens, passed_is, passes, passing_tightens, refused_at, same_found, same_tightens, IsCheck, bind_ok, ok_is, ok_or_err, EachFrom, IsBytes, Refines, Tlv, IsModal, IsReading, Tightens, each_from, optional, passing, tagged_at, ◌>>=◌, Lenient, Strict, Takes, is_strict, left, Cursor, DerError, IsMemory, OrMemory, Memory, Refused, Encloses, IsSequenceFrom, SaysPair, by_tag, enclosed_at, only, pair_by, pair_in, sequence_from, values_from, values_of, NotCanonicalOrMemory, ReadsOrMemory, TakesOrMemory, TakesSaidOrMemory}
+use Rattle.rpki_base.proofs.DerCursors.{optional_back, reads_said_by}
+use Rattle.rpki_base.proofs.DerReadings.{enclosed_reading, pair_check, sequence_reading, values_check}
 
 -- ---- by the tag
 
@@ -16,43 +17,32 @@ by_tag_tightens strict tag one two first second tight also v = grind (arith, con
 
 -- two values that pass a test strictly
 module _ {X Y : Type 0} (S : List ℕ → X → Type 0) (C : X → X → Y → Type 0) (reading : List ℕ → Result (X × List ℕ) DerError) (check : X → X → Result Y DerError) (test : X → X → Bool) where
+  -- the test may as well be made before the end of the content
+  abbrev tested : X → X → Result Y DerError
+  tested first second = check first second >>= passing true (λ y. test first second)
+
+  tested_first : (content : List ℕ) (y : Y)
+      → (pair_by true reading check test content ≡ Ok y) ↔ (pair_in reading tested content ≡ Ok y)
+  unfolding pair_by pair_in passing
+  tested_first content y = grind arith
+
   -- what is read strictly
   pub tested_pair_check : IsReading S reading
       → ((first second : X) (y : Y) → check first second ≡ Ok y → C first second y)
       → ((first second : X) (y : Y) → C first second y → check first second ≡ Ok y)
       → IsCheck IsBytes (SaysPair S (λ first second y. C first second y × (test first second ≡ true)))
       (pair_by true reading check test)
-  unfolding pair_by
-  tested_pair_check is says back = record {
-    takes = λ content y fits e.
-        let then : X × List ℕ → X × List ℕ → Result Y DerError = λ first second. check first.0 second.0 >>= λ y. (ended second.1 >>= λ end. passing true (λ y. test first.0 second.0) y) in
-        let a = bind_ok (reading content) (λ first. reading first.1 >>= then first) y e in
-        let b = bind_ok (reading a.0.1) (then a.0) y a.2 in
-        let c = bind_ok (check a.0.0 b.0.0) (λ y. ended b.0.1 >>= λ end. passing true (λ y. test a.0.0 b.0.0) y) y b.2 in
-        let d = bind_ok (ended b.0.1) (λ end. passing true (λ y. test a.0.0 b.0.0) c.0) y c.2 in
-        let t = passed_is (λ y. test a.0.0 b.0.0) c.0 y d.2 in
-        let first = is.takes content a.0.0 a.0.1 fits a.1 in
-        let second = is.takes a.0.1 b.0.0 b.0.1 (fits_rest S content a.0.0 a.0.1 first fits) b.1 in
-        let last : S a.0.1 b.0.0 = subst (λ (t : List ℕ). S t b.0.0) (sym (second.2 ∙ ap (λ (t : List ℕ). second.0 ++ t) (ended_is b.0.1 d.0 d.1) ∙ append-nil second.0)) second.1 in
-        (a.0.0, b.0.0, (a.0.1, first, last), (subst (C a.0.0 b.0.0) t.1 (says a.0.0 b.0.0 c.0 c.1), t.0));
-    again = λ content y (a, b, both, (c, t)).
-        let first : reading content ≡ Ok (a, both.0) = ap reading both.1.2 ∙ is.again both.1.0 a both.0 both.1.1 in
-        let second : reading both.0 ≡ Ok (b, []) = ap reading (sym (append-nil both.0)) ∙ is.again both.0 b [] both.2 in
-        rw (first, second, back a b y c) (passes (λ y. test a b) y t);
-  }
+  tested_pair_check is says back =
+      let both = pair_check S (λ first second y. C first second y × (test first second ≡ true)) reading tested is
+      (λ first second y e. grind (arith, bind_ok, passed_is, says)) (λ first second y (c, t). grind (arith, passes, back)) in
+      record { takes = λ content y fits e. both.takes content y fits ((tested_first content y).0 e); again = λ content y found. (tested_first content y).1 (both.again content y found) }
 
   -- by the mode
   pub tested_pair_tightens : (strict : Bool) (by : List ℕ → Result (X × List ℕ) DerError)
       → ((bytes : List ℕ) → Tightens strict (by bytes) (reading bytes)) → (content : List ℕ)
       → Tightens strict (pair_by strict by check test content) (pair_in reading check content)
   unfolding pair_by pair_in
-  tested_pair_tightens strict by tight content =
-      let then : X × List ℕ → X × List ℕ → Result Y DerError = λ first second. check first.0 second.0 >>= λ y. (ended second.1 >>= λ end. passing strict (λ y. test first.0 second.0) y) in
-      let loose : X × List ℕ → X × List ℕ → Result Y DerError = λ first second. check first.0 second.0 >>= λ y. (ended second.1 >>= λ end. Ok y) in
-      bind_tightens strict (by content) (reading content) (λ first. by first.1 >>= then first) (λ first. reading first.1 >>= loose first) (tight content)
-      (λ first. bind_tightens strict (by first.1) (reading first.1) (then first) (loose first) (tight first.1)
-      (λ second. bind_tightens strict (check first.0 second.0) (check first.0 second.0) (λ y. ended second.1 >>= λ end. passing strict (λ y. test first.0 second.0) y) (λ y. ended second.1 >>= λ end. Ok y) (inl refl)
-      (λ y. bind_tightens strict (ended second.1) (ended second.1) (λ end. passing strict (λ y. test first.0 second.0) y) (λ end. Ok y) (inl refl) (λ end. passing_tightens strict (λ y. test first.0 second.0) y))))
+  tested_pair_tightens strict by tight content = search (bind_tightens, tight, passing_tightens, same_tightens)
 
 -- one value
 pub only_tightens : {X : Type 0} (strict : Bool) (by reading : List ℕ → Result (X × List ℕ) DerError)
@@ -160,37 +150,64 @@ pub refused_said_by : {X Y : Type 0} (G S : List ℕ → Y → Type 0) (C : Y �
     → TakesSaidOrMemory C old new result (by (is_strict old)) → NotCanonicalOrMemory (Refines G C) old result
 refused_said_by v0 v1 v2 reading by old new v7 is modal took = grind (arith, refused_at)
 
--- a take, by another name of the grammar
+-- a take, by another name of the grammar, which has to be one at the front of the octets alone
 pub reads_same : {X Y : Type 0} (G H : List ℕ → Y → Type 0) (view : X → Y) (old new : Cursor)
     (result : Result X (OrMemory DerError)) → ((bytes : List ℕ) (y : Y) → G bytes y → H bytes y)
-    → ((bytes : List ℕ) (y : Y) → H bytes y → G bytes y) → ReadsOrMemory G view old new result
-    → ReadsOrMemory H view old new result
+    → ((bytes : List ℕ) (y : Y) (rest : List ℕ) → left old ≡ bytes ++ rest → H bytes y → G bytes y)
+    → ReadsOrMemory G view old new result → ReadsOrMemory H view old new result
 reads_same G H view old new (Ok x) to from (front, is, split) = (front, to front (view x) is, split)
-reads_same G H view old new (Err (Refused e)) to from (none, kept) = ((λ y rest found. none y rest (found.0, from found.0 y found.1, found.2)), kept)
+reads_same G H view old new (Err (Refused e)) to from (none, kept) = ((λ y rest found. none y rest (found.0, from found.0 y rest found.2 found.1, found.2)), kept)
 reads_same G H view old new (Err (Memory e)) to from read = read
 
--- a take in either mode, where a value stands that is found strictly: it answers the one thing that the value says
+-- a take of what is found strictly, by another name of what that says
+pub canonical_said_by : {X Y : Type 0} (S : List ℕ → Y → Type 0) (C : Y → X → Type 0) (H : List ℕ → X → Type 0)
+    (reading : List ℕ → Result (Y × List ℕ) DerError) (by : Bool → List ℕ → Result (Y × List ℕ) DerError)
+    (old new : Cursor) (result : Result X (OrMemory DerError)) → IsModal S reading by
+    → ((bytes : List ℕ) (x : X) → Refines S C bytes x → H bytes x)
+    → ((bytes : List ℕ) (x : X) (rest : List ℕ) → left old ≡ bytes ++ rest → H bytes x → Refines S C bytes x)
+    → TakesSaidOrMemory C old new result (by (is_strict old)) → IsBytes (left old)
+    → Strict old (ReadsOrMemory H (λ x. x) old new result)
+canonical_said_by S C H reading by old new result modal to from took fits strict =
+    let read = reads_said_by S C (by true) old new result modal.tight fits (subst (λ mode. TakesSaidOrMemory C old new result (by mode)) strict took) in
+    reads_same (Refines S C) H (λ x. x) old new result to from read
+
+-- what is found strictly is found in either mode
+pub found_by : {X : Type 0} (S : List ℕ → X → Type 0) (reading : List ℕ → Result (X × List ℕ) DerError)
+    (by : Bool → List ℕ → Result (X × List ℕ) DerError) → IsModal S reading by
+    → (strict : Bool) (front : List ℕ) (x : X) (rest : List ℕ) → S front x → by strict (front ++ rest) ≡ Ok (x, rest)
+found_by S reading by modal true front x rest says = modal.tight.again front x rest says
+found_by S reading by modal false front x rest says =
+    same_found (by false (front ++ rest)) (reading (front ++ rest)) (modal.tightens false (front ++ rest))
+    ∙ found_is true (by true (front ++ rest)) (reading (front ++ rest)) (x, rest) (modal.tightens true (front ++ rest)) (modal.tight.again front x rest says)
+
+-- so a take in either mode, where such a value stands, gives it
+pub value_back_by : {X : Type 0} (S : List ℕ → X → Type 0) (reading : List ℕ → Result (X × List ℕ) DerError)
+    (by : Bool → List ℕ → Result (X × List ℕ) DerError) (old new : Cursor) (result : Result X DerError)
+    → IsModal S reading by → Takes (λ x. x) old new result (by (is_strict old)) → (front rest : List ℕ) (x : X)
+    → S front x → left old ≡ front ++ rest → (result ≡ Ok x) × (left new ≡ rest)
+value_back_by S reading by old new result modal took front rest x says at =
+    let found = ap (by (is_strict old)) at ∙ found_by S reading by modal (is_strict old) front x rest says in
+    grind (arith, ok_is, ok_or_err)
+
+-- a take that answers None at the end, of what is found leniently, and strictly of S
+pub optional_back_by : {X : Type 0} (G S : List ℕ → X → Type 0) (reading : List ℕ → Result (X × List ℕ) DerError)
+    (by : Bool → List ℕ → Result (X × List ℕ) DerError) (old new : Cursor) (result : Result (Option X) DerError)
+    → IsReading G reading → IsModal S reading by → Takes (λ x. x) old new result (optional (by (is_strict old)))
+    → (front rest : List ℕ) (x : X) → 0 < length front → G front x → (is_strict old ≡ true → S front x)
+    → left old ≡ front ++ rest → (result ≡ Ok (Some x)) × (left new ≡ rest)
+optional_back_by G S reading by old new result is modal took front rest x some g s at = optional_back (by (is_strict old)) old new result took front rest x some at (read (is_strict old) s)
+  where
+    read : (strict : Bool) → (strict ≡ true → S front x) → by strict (front ++ rest) ≡ Ok (x, rest)
+    read true s = modal.tight.again front x rest (s refl)
+    read false s = same_found (by false (front ++ rest)) (reading (front ++ rest)) (modal.tightens false (front ++ rest)) ∙ is.again front x rest g
+
+-- a take of the one thing that the value says
 pub takes_said_by : {X Y : Type 0} (S : List ℕ → Y → Type 0) (C : Y → X → Type 0)
     (reading : List ℕ → Result (Y × List ℕ) DerError) (by : Bool → List ℕ → Result (Y × List ℕ) DerError)
     (old new : Cursor) (result : Result X (OrMemory DerError)) → IsModal S reading by
     → ((y : Y) (a b : X) → C y a → C y b → a ≡ b) → TakesSaidOrMemory C old new result (by (is_strict old))
     → (front rest : List ℕ) (y : Y) (x : X) → S front y → C y x → left old ≡ front ++ rest
     → MatchResult result (λ read. (read ≡ x) × (left new ≡ rest)) IsMemory
-takes_said_by {X} {Y} S C reading by old new result modal one took front rest y x says tells at = decided result took
-  where
-    found : (strict : Bool) → by strict (front ++ rest) ≡ Ok (y, rest)
-    found true = modal.tight.again front y rest says
-    found false =
-        same_found (by false (front ++ rest)) (reading (front ++ rest)) (modal.tightens false (front ++ rest))
-        ∙ found_is true (by true (front ++ rest)) (reading (front ++ rest)) (y, rest) (modal.tightens true (front ++ rest)) (modal.tight.again front y rest says)
-
-    expected : by (is_strict old) (left old) ≡ Ok (y, rest)
-    expected = ap (by (is_strict old)) at ∙ found (is_strict old)
-
-    decided : (result : Result X (OrMemory DerError)) → TakesSaidOrMemory C old new result (by (is_strict old))
-        → MatchResult result (λ read. (read ≡ x) × (left new ≡ rest)) IsMemory
-    decided (Ok read) (z, here, tell) =
-        let both = ok_is (z, left new) (y, rest) (sym here ∙ expected) in
-        (one y read x (subst (λ y. C y read) (ap (λ p. p.0) both) tell) tells, ap (λ p. p.1) both)
-    decided (Err (Refused e)) (failed, kept) = absurd (ok_or_err (y, rest) e (by (is_strict old) (left old)) expected failed)
-    decided (Err (Memory e)) (failed, kept) = tt
+takes_said_by S C reading by old new result modal one took front rest y x says tells at =
+    let found = ap (by (is_strict old)) at ∙ found_by S reading by modal (is_strict old) front y rest says in
+    grind (arith, ok_is, ok_or_err, one)

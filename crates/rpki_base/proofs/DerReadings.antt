@@ -1,5 +1,5 @@
 -- Readings from readings: of one of two tags, of two values, of values that are passed over, and of sequences.
-use Rattle.rpki_base.proofs.Common.{Bool, Err, List, Ok, Result, [], ap, arith, cond, eqb, length, refl, subst, sym, ℕ, ◌++◌, ◌∙◌, ◌≡◌, ◌≢◌, eq-eqb, eqb-true, ne_eqb, append-nil, nil_from_length, HasOctets, each_again, each_takes, fits_content, fits_rest, one_front, refined_reading, tagged_reading, value_reading, IsCheck, bind_ok, ok_is, passed_true, EachFrom, IsBytes, IsSequence, IsTlv, IsValue, OneFront, Refines, Tlv, IsReading, ended, refined, tagged_at, value_at, ◌>>=◌, DerError, BadTag, TrailingData, Encloses, IsSequenceFrom, SaysByTag, SaysPair, Skips, by_tag, enclosed_at, only, pair_in, sequence_from, skipping, values_from}
+use Rattle.rpki_base.proofs.Common.{Bool, Err, List, Ok, Result, [], ap, arith, cond, eqb, length, refl, subst, sym, ℕ, ◌++◌, ◌∙◌, ◌≡◌, ◌≢◌, eq-eqb, eqb-true, ne_eqb, append-nil, nil_from_length, HasOctets, each_again, each_takes, fits_content, fits_rest, one_front, refined_reading, tagged_reading, value_reading, IsCheck, bind_ok, ok_is, passed_true, EachFrom, IsBytes, IsSequence, IsTlv, OneFront, Refines, Tlv, IsReading, ended, refined, tagged_at, value_at, ◌>>=◌, DerError, BadTag, TrailingData, Encloses, IsSequenceFrom, SaysByTag, SaysPair, Skips, by_tag, enclosed_at, only, pair_in, sequence_from, skipping, values_from}
 
 -- ---- passed over
 
@@ -64,8 +64,7 @@ only_check G reading is = record {
 pub enclosed_reading : {X : Type 0} (tag : ℕ) (G : List ℕ → X → Type 0)
     (reading : List ℕ → Result (X × List ℕ) DerError) → IsReading G reading
     → IsReading (Encloses tag G) (enclosed_at tag reading)
-enclosed_reading tag G reading is =
-    refined_reading (λ bytes content. IsValue bytes tag content) G IsBytes (tagged_at tag) (only reading) (tagged_reading tag) (λ front content h fits. fits_content front tag content h fits) (only_check G reading is)
+enclosed_reading tag G reading is = search (arith, fits_content, only_check, refined_reading, tagged_reading)
 
 -- two values that are read say what the grammar says
 pair_says : {X Y : Type 0} (G : List ℕ → X → Type 0) (C : X → X → Y → Type 0)
@@ -81,8 +80,7 @@ pair_says {X} {Y} G C reading check is says content y fits e =
     let d = bind_ok (ended b.0.1) (λ end. Ok c.0) y c.2 in
     let first = is.takes content a.0.0 a.0.1 fits a.1 in
     let second = is.takes a.0.1 b.0.0 b.0.1 (fits_rest G content a.0.0 a.0.1 first fits) b.1 in
-    let last : G a.0.1 b.0.0 = subst (λ (t : List ℕ). G t b.0.0) (sym (second.2 ∙ ap (λ (t : List ℕ). second.0 ++ t) (ended_is b.0.1 d.0 d.1) ∙ append-nil second.0)) second.1 in
-    (a.0.0, b.0.0, (a.0.1, first, last), subst (C a.0.0 b.0.0) (ok_is c.0 y d.2) (says a.0.0 b.0.0 c.0 c.1))
+    grind (arith, append-nil, ended_is, ok_is)
 
 -- what two values say is read
 pair_again : {X Y : Type 0} (G : List ℕ → X → Type 0) (C : X → X → Y → Type 0)

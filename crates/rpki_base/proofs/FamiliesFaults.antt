@@ -1,8 +1,9 @@
 -- Families are refused for none at all exactly where none are there, and for one that is there twice exactly where it
 -- stands behind members that were read, of which one has it.
-use Rattle.rpki_base.proofs.Common.{Bool, Err, List, Ok, Result, [], ap, arith, cond, false, inl, length, refl, suc, sym, true, zero, ℕ, ◌<◌, ◌↔◌, ◌∙◌, ◌∷◌, ◌≡◌, ◌≢◌, ◌≤◌, ne_eqb, bind_ok, ok_is, passed, ended, refined, tagged_at, ◌>>=◌, DerError, DuplicateFamily, NoFamily, BeginsEmpty, BeginsWithAll, BeginsWithValue, ByFamily, claims_among, families_at, families_in, member_at, member_in, members_by, members_in, none_found, seen, was_seen, with_claim, family_at, AddressFamily}
+use Rattle.rpki_base.proofs.Common.{Bool, Err, List, Ok, Result, [], ap, arith, cond, false, inl, length, refl, suc, sym, true, zero, ℕ, ◌<◌, ◌↔◌, ◌∙◌, ◌∷◌, ◌≡◌, ◌≢◌, ◌≤◌, ended, refined, tagged_at, ◌>>=◌, DerError, DuplicateFamily, NoFamily, BeginsEmpty, BeginsWithAll, BeginsWithValue, ByFamily, claims_among, families_at, families_in, member_at, member_in, members_by, seen, was_seen, with_claim, family_at, AddressFamily}
 use Rattle.std.specs.Prelude.{◌⊎◌}
-use Rattle.rpki_base.proofs.DerFaults.{NamesTo, begins_value, bind_fails, bind_names, cond_names, ended_names, names_more, not_named, refined_names, tagged_fails, tagged_names, tagged_shorter}
+use Rattle.rpki_base.proofs.DerFaults.{NamesTo, begins_value, bind_fails, bind_names, cond_names, each_names, header_names, names_more, not_named, refined_names, tagged_fails, tagged_shorter}
+use Rattle.rpki_base.proofs.FamiliesGathering.{behind, members_are}
 use Rattle.rpki_base.proofs.FamilyLemmas.{family_names}
 use Rattle.rpki_base.specs.FamiliesFaults.{BeginsAmong, BeginsWithRepeat, any_member_at}
 
@@ -11,28 +12,21 @@ module _ {X : Type 0} (claim_at : AddressFamily → List ℕ → Result (X × Li
   abbrev claim_of : AddressFamily → List ℕ → Result (AddressFamily × X) DerError
   claim_of family bytes = claim_at family bytes >>= λ claim. ended claim.1 >>= λ end. Ok (family, claim.0)
 
-  claim_names : (family : AddressFamily) (bytes : List ℕ) → NamesTo 11 (claim_of family bytes)
-  claim_names family bytes = grind (arith, bind_names, ended_names, names_more)
-
   abbrev behind_family : Bool × Bool → AddressFamily × List ℕ → Result (AddressFamily × X) DerError
   behind_family before family = cond (was_seen before family.0) (Err DuplicateFamily) (claim_of family.0 family.1)
 
   member_in_names : (before : Bool × Bool) (content : List ℕ) → NamesTo 12 (member_in claim_at before content)
   unfolding member_in
-  member_in_names before content = grind (arith, bind_names, claim_names, cond_names, family_names, names_more)
+  member_in_names before content = grind (arith, bind_names, cond_names, family_names, names_more)
 
   member_names : (before : Bool × Bool) (bytes : List ℕ) → NamesTo 12 (member_at claim_at before bytes)
-  member_names before = refined_names 12 (tagged_at 48) (member_in claim_at before) (λ bytes. names_more 3 12 (tagged_at 48 bytes) (omega arith) (tagged_names 48 bytes)) (member_in_names before)
+  member_names before = refined_names 12 (tagged_at 48) (member_in claim_at before) (header_names 12 48 (omega arith)) (member_in_names before)
 
   members_names : (steps : ℕ) (found : ByFamily X) (bytes : List ℕ)
       → NamesTo 12 (members_by (member_at claim_at) steps found bytes)
-  unfolding members_by
-  members_names zero found [] = tt
-  members_names (suc steps) found [] = tt
-  members_names zero found (b ∷ bytes) = omega arith
-  members_names (suc steps) found (b ∷ bytes) =
-      bind_names 12 (member_at claim_at (seen found) (b ∷ bytes)) (λ one. members_by (member_at claim_at) steps (with_claim found one.0.0 one.0.1) one.1) (member_names (seen found) (b ∷ bytes))
-      (λ one. members_names steps (with_claim found one.0.0 one.0.1) one.1)
+  members_names steps found bytes =
+      let names = each_names 12 behind (λ found. member_at claim_at (seen found)) (omega arith) (λ found. member_names (seen found)) steps found bytes in
+      rw (members_are (member_at claim_at) steps found bytes) (grind (arith, bind_names))
 
   families_in_names : (content : List ℕ) → NamesTo 13 (families_in claim_at content)
   unfolding families_in
@@ -40,34 +34,17 @@ module _ {X : Type 0} (claim_at : AddressFamily → List ℕ → Result (X × Li
 
   -- up to NoFamily
   pub families_names : (bytes : List ℕ) → NamesTo 13 (families_at claim_at bytes)
-  families_names = refined_names 13 (tagged_at 48) (families_in claim_at) (λ bytes. names_more 3 13 (tagged_at 48 bytes) (omega arith) (tagged_names 48 bytes)) families_in_names
+  families_names = refined_names 13 (tagged_at 48) (families_in claim_at) (header_names 13 48 (omega arith)) families_in_names
 
   -- ---- none at all
 
-  abbrev FailsEmpty : List ℕ → Type 0
-  FailsEmpty content = families_in claim_at content ≡ Err NoFamily
-
-  abbrev IsEmpty : List ℕ → Type 0
-  IsEmpty content = content ≡ []
-
-  -- where there are octets, members are read
-  some_families : (b : ℕ) (bytes : List ℕ)
-      → families_in claim_at (b ∷ bytes) ≡ members_in claim_at (length (b ∷ bytes)) none_found (b ∷ bytes)
+  empty_fails : (content : List ℕ) → (families_in claim_at content ≡ Err NoFamily) ↔ (content ≡ [])
   unfolding families_in
-  some_families b bytes = rw (ne_eqb (length (b ∷ bytes)) 0 (λ e. omega arith)) refl
-
-  empty_fails : (content : List ℕ) → FailsEmpty content → IsEmpty content
-  empty_fails [] is = refl
-  empty_fails (b ∷ bytes) is = absurd (not_named 12 (members_in claim_at (length (b ∷ bytes)) none_found (b ∷ bytes)) NoFamily (members_names (length (b ∷ bytes)) none_found (b ∷ bytes)) (omega arith) (sym (some_families b bytes) ∙ is))
-
-  fails_empty : (content : List ℕ) → IsEmpty content → FailsEmpty content
-  unfolding families_in
-  fails_empty v0 is = grind (arith)
+  empty_fails [] = grind arith
+  empty_fails (b ∷ bytes) = grind (arith, members_names, not_named)
 
   pub no_family : (bytes : List ℕ) → (families_at claim_at bytes ≡ Err NoFamily) ↔ BeginsEmpty bytes
-  no_family bytes =
-      let both = tagged_fails 48 (families_in claim_at) NoFamily (omega arith) bytes in
-      ((λ is. begins_value 48 FailsEmpty IsEmpty empty_fails bytes (both.0 is)), (λ found. both.1 (begins_value 48 IsEmpty FailsEmpty fails_empty bytes found)))
+  no_family = tagged_fails 48 (families_in claim_at) (λ content. content ≡ []) NoFamily (omega arith) empty_fails
 
   -- ---- a family twice
 
@@ -75,90 +52,30 @@ module _ {X : Type 0} (claim_at : AddressFamily → List ℕ → Result (X × Li
   abbrev BeginsSeen : Bool × Bool → List ℕ → Type 0
   BeginsSeen before content = (family : AddressFamily × List ℕ) × (family_at content ≡ Ok family) × (was_seen before family.0 ≡ true)
 
-  seen_by : (b : Bool) (r : Result (AddressFamily × X) DerError) → NamesTo 11 r
-      → cond b (Err DuplicateFamily) r ≡ Err DuplicateFamily → b ≡ true
-  seen_by v0 r few is = grind (arith, not_named)
-
-  seen_fails : (before : Bool × Bool) (content : List ℕ) → member_in claim_at before content ≡ Err DuplicateFamily
-      → BeginsSeen before content
+  seen_fails : (before : Bool × Bool) (content : List ℕ)
+      → (member_in claim_at before content ≡ Err DuplicateFamily) ↔ BeginsSeen before content
   unfolding member_in
-  seen_fails before content is = grind (arith, bind_fails, claim_names, family_names, not_named, seen_by)
+  seen_fails before content = grind (arith, bind_fails, family_names, not_named)
 
-  fails_seen : (before : Bool × Bool) (content : List ℕ) → BeginsSeen before content
-      → member_in claim_at before content ≡ Err DuplicateFamily
-  unfolding member_in
-  fails_seen before content (family, read, there) = rw (read, there) refl
+  member_fails : (before : Bool × Bool) (bytes : List ℕ)
+      → (member_at claim_at before bytes ≡ Err DuplicateFamily) ↔ BeginsWithValue 48 (BeginsSeen before) bytes
+  member_fails before = tagged_fails 48 (member_in claim_at before) (BeginsSeen before) DuplicateFamily (omega arith) (seen_fails before)
 
-  abbrev Fails : Bool × Bool → List ℕ → Type 0
-  Fails before content = member_in claim_at before content ≡ Err DuplicateFamily
-
-  member_fails : (before : Bool × Bool) (bytes : List ℕ) → member_at claim_at before bytes ≡ Err DuplicateFamily
-      → BeginsWithValue 48 (BeginsSeen before) bytes
-  member_fails before bytes is = begins_value 48 (Fails before) (BeginsSeen before) (seen_fails before) bytes ((tagged_fails 48 (member_in claim_at before) DuplicateFamily (omega arith) bytes).0 is)
-
-  fails_member : (before : Bool × Bool) (bytes : List ℕ) → BeginsWithValue 48 (BeginsSeen before) bytes
-      → member_at claim_at before bytes ≡ Err DuplicateFamily
-  fails_member before bytes found = (tagged_fails 48 (member_in claim_at before) DuplicateFamily (omega arith) bytes).1 (begins_value 48 (BeginsSeen before) (Fails before) (fails_seen before) bytes found)
-
-  -- the content of a member that is read, by its parts
-  record IsInside (before : Bool × Bool) (content : List ℕ) (member : AddressFamily × X) : Type 0 where
-    behind : List ℕ
-    family : family_at content ≡ Ok (member.0, behind)
-    new : was_seen before member.0 ≡ false
-    claim : claim_of member.0 behind ≡ Ok member
-
-  claim_family : (family : AddressFamily) (bytes : List ℕ) (member : AddressFamily × X)
-      → claim_of family bytes ≡ Ok member → family ≡ member.0
-  claim_family family bytes member is = grind (arith, bind_ok, ok_is)
-
-  behind_is : (before : Bool × Bool) (content : List ℕ) (family : AddressFamily) (behind : List ℕ)
-      (member : AddressFamily × X) → family_at content ≡ Ok (family, behind)
-      → behind_family before (family, behind) ≡ Ok member → IsInside before content member
-  behind_is before content family behind member read is = grind (arith, claim_family, passed)
-
-  inside_is : (before : Bool × Bool) (content : List ℕ) (member : AddressFamily × X)
-      → member_in claim_at before content ≡ Ok member → IsInside before content member
-  unfolding member_in
-  inside_is before content member is =
-      let f = bind_ok (family_at content) (behind_family before) member is in
-      behind_is before content f.0.0 f.0.1 member f.1 f.2
-
-  -- a member that is read
-  record IsRead (before : Bool × Bool) (bytes : List ℕ) (member : AddressFamily × X) (rest : List ℕ) : Type 0 where
-    content : List ℕ
-    enclosed : tagged_at 48 bytes ≡ Ok (content, rest)
-    inside : IsInside before content member
-
-  content_is : (before : Bool × Bool) (bytes content left : List ℕ) (found member : AddressFamily × X) (rest : List ℕ)
-      → tagged_at 48 bytes ≡ Ok (content, left) → member_in claim_at before content ≡ Ok found → found ≡ member
-      → left ≡ rest → IsRead before bytes member rest
-  content_is before bytes content left found member rest read is same also = grind (arith, inside_is)
-
-  read_is : (before : Bool × Bool) (bytes : List ℕ) (member : AddressFamily × X) (rest : List ℕ)
-      → member_at claim_at before bytes ≡ Ok (member, rest) → IsRead before bytes member rest
-  unfolding refined
-  read_is before bytes member rest is = grind (arith, bind_ok, content_is, ok_is)
-
-  -- where its family wasn't there before, it is read
-  is_read : (before after : Bool × Bool) (bytes : List ℕ) (member : AddressFamily × X) (rest : List ℕ)
-      → IsRead before bytes member rest → was_seen after member.0 ≡ false
-      → member_at claim_at after bytes ≡ Ok (member, rest)
+  -- a member that is read, behind others
+  member_behind : (before after : Bool × Bool) (bytes : List ℕ) (member : AddressFamily × X) (rest : List ℕ)
+      → member_at claim_at before bytes ≡ Ok (member, rest)
+      → member_at claim_at after bytes ≡ cond (was_seen after member.0) (Err DuplicateFamily) (Ok (member, rest))
   unfolding refined member_in
-  is_read before after bytes member rest is new = rw (is.enclosed, is.inside.family, new, is.inside.claim) refl
+  member_behind before after bytes member rest is = grind arith
 
-  -- and else it isn't
-  is_repeated : (before after : Bool × Bool) (bytes : List ℕ) (member : AddressFamily × X) (rest : List ℕ)
-      → IsRead before bytes member rest → was_seen after member.0 ≡ true
-      → member_at claim_at after bytes ≡ Err DuplicateFamily
-  is_repeated before after bytes member rest is there = fails_member after bytes ((is.content, rest), is.enclosed, ((member.0, is.inside.behind), is.inside.family, there))
-
-  -- behind a member fewer octets are left
+  -- behind it fewer octets are left
   member_shorter : (before : Bool × Bool) (bytes : List ℕ) (one : (AddressFamily × X) × List ℕ)
       → member_at claim_at before bytes ≡ Ok one → length one.1 < length bytes
-  member_shorter before bytes one is = let read = read_is before bytes one.0 one.1 is in tagged_shorter 48 bytes (read.content, one.1) read.enclosed
+  unfolding refined
+  member_shorter before bytes one is = grind (arith, tagged_shorter)
 
   none_seen : (family : AddressFamily) → was_seen (false, false) family ≡ false
-  none_seen v0 = grind (arith)
+  none_seen v0 = grind arith
 
   -- the family was there, or is that of one of the members
   abbrev IsThere : ByFamily X → List (AddressFamily × X) → AddressFamily → Type 0
@@ -168,12 +85,12 @@ module _ {X : Type 0} (claim_at : AddressFamily → List ℕ → Result (X × Li
   there_behind : (found : ByFamily X) (member : AddressFamily × X) (members : List (AddressFamily × X))
       (family : AddressFamily) → IsThere (with_claim found member.0 member.1) members family
       → IsThere found (member ∷ members) family
-  there_behind found v1 members v3 there = grind (arith)
+  there_behind found v1 members v3 there = grind arith
 
   there_before : (found : ByFamily X) (member : AddressFamily × X) (members : List (AddressFamily × X))
       (family : AddressFamily) → IsThere found (member ∷ members) family
       → IsThere (with_claim found member.0 member.1) members family
-  there_before found v1 members v3 there = grind (arith)
+  there_before found v1 members v3 there = grind arith
 
   abbrev BeginsThere : ByFamily X → List (AddressFamily × X) → List ℕ → Type 0
   BeginsThere found members content = (family : AddressFamily × List ℕ) × (family_at content ≡ Ok family) × IsThere found members family.0
@@ -198,7 +115,7 @@ module _ {X : Type 0} (claim_at : AddressFamily → List ℕ → Result (X × Li
           ≡ Err DuplicateFamily → Repeats found (b ∷ bytes)
       by_member again (Ok one) read fails =
           let more = again one fails in
-          let alone = is_read (seen found) (false, false) (b ∷ bytes) one.0 one.1 (read_is (seen found) (b ∷ bytes) one.0 one.1 read) (none_seen one.0.0) in (
+          let alone : member_at claim_at (false, false) (b ∷ bytes) ≡ Ok one = member_behind (seen found) (false, false) (b ∷ bytes) one.0 one.1 read ∙ ap (λ t. cond t (Err DuplicateFamily) (Ok one)) (none_seen one.0.0) in (
             one.0 ∷ more.0,
             more.1,
             (one.1, alone, more.2),
@@ -206,7 +123,7 @@ module _ {X : Type 0} (claim_at : AddressFamily → List ℕ → Result (X × Li
           )
       by_member again (Err d) read fails =
           let failed : member_at claim_at (seen found) (b ∷ bytes) ≡ Err DuplicateFamily = read ∙ cc in
-          ([], b ∷ bytes, refl, begins_value 48 (BeginsSeen (seen found)) (BeginsThere found []) (λ content (family, at, there). (family, at, inl there)) (b ∷ bytes) (member_fails (seen found) (b ∷ bytes) failed))
+          ([], b ∷ bytes, refl, begins_value 48 (BeginsSeen (seen found)) (BeginsThere found []) (λ content (family, at, there). (family, at, inl there)) (b ∷ bytes) ((member_fails (seen found) (b ∷ bytes)).0 failed))
 
   -- and there the reading stops; fewer octets are left behind a member, so the steps are enough
   fails_repeats : (steps : ℕ) (found : ByFamily X) (members : List (AddressFamily × X)) (bytes rest : List ℕ)
@@ -217,33 +134,28 @@ module _ {X : Type 0} (claim_at : AddressFamily → List ℕ → Result (X × Li
   fails_repeats steps found [] [] rest enough all there = absurd (let bytes : rest ≡ [] = sym all in let some = tagged_shorter 48 rest there.0 there.1 in omega (arith, some, ap length bytes))
   fails_repeats steps found (m ∷ ms) [] rest enough all there = absurd (let some = member_shorter (false, false) [] (m, all.0) all.1 in omega (arith, some))
   fails_repeats zero found members (b ∷ bytes) rest enough all there = absurd (omega (arith, enough))
-  fails_repeats (suc steps) found [] (b ∷ bytes) rest enough all there = grind (arith, begins_value, fails_member)
+  fails_repeats (suc steps) found [] (b ∷ bytes) rest enough all there = grind (arith, begins_value, member_fails)
   fails_repeats (suc steps) found (m ∷ ms) (b ∷ bytes) rest enough all there = by_family (λ fewer begins. fails_repeats steps (with_claim found m.0 m.1) ms all.0 rest fewer all.2 begins) (was_seen (seen found) m.0) refl
     where
-      alone : IsRead (false, false) (b ∷ bytes) m all.0
-      alone = read_is (false, false) (b ∷ bytes) m all.0 all.1
-
       by_family : (length all.0 ≤ steps → BeginsWithValue 48 (BeginsThere (with_claim found m.0 m.1) ms) rest
           → members_by (member_at claim_at) steps (with_claim found m.0 m.1) all.0 ≡ Err DuplicateFamily) → (t : Bool)
           → was_seen (seen found) m.0 ≡ t
           → (member_at claim_at (seen found) (b ∷ bytes) >>= λ one. members_by (member_at claim_at) steps
           (with_claim found one.0.0 one.0.1) one.1) ≡ Err DuplicateFamily
-      by_family again true was = let failed = is_repeated (false, false) (seen found) (b ∷ bytes) m all.0 alone was in rw failed refl
+      by_family again true was = rw (member_behind (false, false) (seen found) (b ∷ bytes) m all.0 all.1, was) refl
       by_family again false new =
-          let read = is_read (false, false) (seen found) (b ∷ bytes) m all.0 alone new in
           let fewer : length all.0 < length (b ∷ bytes) = member_shorter (false, false) (b ∷ bytes) (m, all.0) all.1 in
           let begins = begins_value 48 (BeginsThere found (m ∷ ms)) (BeginsThere (with_claim found m.0 m.1) ms) (λ content (family, at, there). (family, at, there_before found m ms family.0 there)) rest there in
           let more = again (omega (arith, fewer, enough)) begins in
-          rw (read, more) refl
+          rw (member_behind (false, false) (seen found) (b ∷ bytes) m all.0 all.1, new) more
 
-  abbrev FailsTwice : List ℕ → Type 0
-  FailsTwice content = families_in claim_at content ≡ Err DuplicateFamily
-
-  twice_fails : (content : List ℕ) → FailsTwice content → BeginsWithRepeat claim_at content
+  twice_fails : (content : List ℕ) → families_in claim_at content ≡ Err DuplicateFamily
+      → BeginsWithRepeat claim_at content
   unfolding families_in
-  twice_fails v0 is = grind (arith, begins_value, repeats, some_families)
+  twice_fails v0 is = grind (arith, begins_value, repeats)
 
-  fails_twice : (content : List ℕ) → BeginsWithRepeat claim_at content → FailsTwice content
+  fails_twice : (content : List ℕ) → BeginsWithRepeat claim_at content
+      → families_in claim_at content ≡ Err DuplicateFamily
   unfolding families_in
   fails_twice [] (members, rest, all, begins) = absurd (none_there members all begins)
     where
@@ -251,10 +163,8 @@ module _ {X : Type 0} (claim_at : AddressFamily → List ℕ → Result (X × Li
           → BeginsAmong members rest → ⊥
       none_there [] all begins = let some = tagged_shorter 48 rest begins.0 begins.1 in omega (arith, some, ap length (sym all))
       none_there (m ∷ ms) all begins = let some = member_shorter (false, false) [] (m, all.0) all.1 in omega (arith, some)
-  fails_twice (b ∷ bytes) (members, rest, all, begins) = grind (arith, begins_value, fails_repeats, some_families)
+  fails_twice (b ∷ bytes) (members, rest, all, begins) = grind (arith, begins_value, fails_repeats)
 
   pub family_twice : (bytes : List ℕ)
       → (families_at claim_at bytes ≡ Err DuplicateFamily) ↔ BeginsWithValue 48 (BeginsWithRepeat claim_at) bytes
-  family_twice bytes =
-      let both = tagged_fails 48 (families_in claim_at) DuplicateFamily (omega arith) bytes in
-      ((λ is. begins_value 48 FailsTwice (BeginsWithRepeat claim_at) twice_fails bytes (both.0 is)), (λ found. both.1 (begins_value 48 (BeginsWithRepeat claim_at) FailsTwice fails_twice bytes found)))
+  family_twice = tagged_fails 48 (families_in claim_at) (BeginsWithRepeat claim_at) DuplicateFamily (omega arith) (λ content. (twice_fails content, fails_twice content))

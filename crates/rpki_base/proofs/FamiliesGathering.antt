@@ -1,5 +1,5 @@
 -- Members to the end of the octets: what is found is what stands there, each family once.
-use Rattle.rpki_base.proofs.Common.{Bool, List, None, Ok, Option, Result, Some, [], ap, arith, eqb, false, length, refl, subst, suc, zero, ℕ, ◌++◌, ◌∙◌, ◌∷◌, ◌≡◌, ◌≢◌, ◌≤◌, ne_eqb, append-nil, length-append, AllByRecursion, IfSome, HasOctets, value_has_octets, fits_content, fits_rest, refined_reading, tagged_reading, bind_ok, ok_is, passed, Each, IsBytes, IsSequence, Refines, IsReading, tagged_at, DerError, ByFamily, IsFamilies, IsMember, SaysFamilies, claims_among, listed, of_family, families_at, families_in, member_at, members_by, members_in, none_found, seen, was_seen, with_claim, AddressFamily, Ipv4, Ipv6}
+use Rattle.rpki_base.proofs.Common.{Bool, List, None, Ok, Option, Result, Some, Err, [], ap, arith, cond, eqb, false, length, refl, subst, suc, zero, ℕ, ◌++◌, ◌∙◌, ◌∷◌, ◌≡◌, ◌≢◌, eqb-false, ne_eqb, append-nil, AllByRecursion, IfSome, HasOctets, each_again, each_takes, shorter, value_has_octets, fits_content, refined_reading, tagged_reading, bind_ok, ok_is, passed, IsCheck, Each, EachFrom, IsBytes, IsSequence, Refines, IsReading, tagged_at, DerError, NoFamily, each_from, ◌>>=◌, sym, ByFamily, IsFamilies, IsMember, SaysFamilies, claims_among, listed, of_family, families_at, families_in, member_at, members_by, none_found, seen, was_seen, with_claim, AddressFamily, Ipv4, Ipv6}
 use Rattle.rpki_base.proofs.FamiliesMembers.{SaysNew, member_reading}
 
 -- what was found before and what these members have is all
@@ -9,7 +9,7 @@ Adds before members fs = (family : AddressFamily) → listed (of_family family b
 module _ {X : Type 0} where
   -- a list of one at most tells what there is
   pub listed_is : (a b : Option X) → listed a ++ [] ≡ listed b → a ≡ b
-  listed_is v0 v1 e = grind (arith)
+  listed_is v0 v1 e = grind arith
 
   -- no members add nothing
   nothing_adds : (fs : ByFamily X) → Adds fs [] fs
@@ -22,25 +22,15 @@ module _ {X : Type 0} where
       let b : before.1 ≡ fs.1 = listed_is before.1 fs.1 (adds Ipv6) in
       λ i. (a i, b i)
 
-  -- a claim of IPv4, which had none
-  add_v4 : (v4 v6 : Option X) (x : X) (members : List (AddressFamily × X)) (fs : ByFamily X)
-      → was_seen (seen (v4, v6)) Ipv4 ≡ false → Adds (Some x, v6) members fs → Adds (v4, v6) ((Ipv4, x) ∷ members) fs
-  add_v4 v0 v6 x members fs new adds = grind (arith)
-
-  -- a claim of IPv6, which had none
-  add_v6 : (v4 v6 : Option X) (x : X) (members : List (AddressFamily × X)) (fs : ByFamily X)
-      → was_seen (seen (v4, v6)) Ipv6 ≡ false → Adds (v4, Some x) members fs → Adds (v4, v6) ((Ipv6, x) ∷ members) fs
-  add_v6 v4 v1 x members fs new adds = grind (arith)
-
   -- a claim that is new to its family
   pub add_one : (before : ByFamily X) (family : AddressFamily) (x : X) (members : List (AddressFamily × X))
       (fs : ByFamily X) → was_seen (seen before) family ≡ false → Adds (with_claim before family x) members fs
       → Adds before ((family, x) ∷ members) fs
-  add_one before v1 x members fs new adds = grind (arith, add_v4, add_v6)
+  add_one before v1 x members fs new adds = grind arith
 
   -- two claims are more than a family has
   too_many : (x y : X) (zs : List X) (o : Option X) → x ∷ y ∷ zs ≡ listed o → ⊥
-  too_many x y zs v3 e = grind (arith)
+  too_many x y zs v3 e = grind arith
 
   -- the claim is new to its family, and it and the others are all
   pub record One (before : ByFamily X) (family : AddressFamily) (x : X) (members : List (AddressFamily × X)) (fs : ByFamily X) : Type 0 where
@@ -65,73 +55,102 @@ module _ {X : Type 0} where
   one_more before Ipv4 x members fs adds = one_v4 before.0 before.1 x members fs adds
   one_more before Ipv6 x members fs adds = one_v6 before.0 before.1 x members fs adds
 
+-- what was found with a member more, and with members more
+abbrev pub behind : {X : Type 0} → ByFamily X → AddressFamily × X → ByFamily X
+behind found member = with_claim found member.0 member.1
+
+abbrev pub gather : {X : Type 0} → ByFamily X → List (AddressFamily × X) → ByFamily X
+gather found [] = found
+gather found (member ∷ members) = gather (behind found member) members
+
+-- members are values one after another, each in the state of what was found before, which are then gathered
+module _ {X : Type 0} (member : Bool × Bool → List ℕ → Result ((AddressFamily × X) × List ℕ) DerError) where
+  then_members : (steps : ℕ) (found : ByFamily X) (r : Result ((AddressFamily × X) × List ℕ) DerError)
+      → ((found : ByFamily X) (bytes : List ℕ)
+      → members_by member steps found bytes
+      ≡ (each_from behind steps (λ found. member (seen found)) found bytes >>= λ members. Ok (gather found members)))
+      → (r >>= λ m. members_by member steps (behind found m.0) m.1)
+      ≡ ((r >>= λ m. each_from behind steps (λ found. member (seen found)) (behind found m.0) m.1
+      >>= λ members. Ok (m.0 ∷ members)) >>= λ members. Ok (gather found members))
+  then_members steps found r same = grind arith
+
+  pub members_are : (steps : ℕ) (found : ByFamily X) (bytes : List ℕ)
+      → members_by member steps found bytes
+      ≡ (each_from behind steps (λ found. member (seen found)) found bytes >>= λ members. Ok (gather found members))
+  unfolding members_by each_from
+  members_are zero found [] = refl
+  members_are (suc steps) found [] = refl
+  members_are zero found (b ∷ bytes) = refl
+  members_are (suc steps) found (b ∷ bytes) = then_members steps found (member (seen found) (b ∷ bytes)) (members_are steps)
+
+  module _ (G : ByFamily X → List ℕ → AddressFamily × X → Type 0) (is : (found : ByFamily X) → IsReading (G found) (member (seen found))) (has : (found : ByFamily X) → HasOctets (G found)) where
+    -- members that are gathered, one at least
+    abbrev pub SaysMembers : List ℕ → ByFamily X → Type 0
+    SaysMembers content fs = (members : List (AddressFamily × X)) × EachFrom behind G none_found content members × (members ≢ []) × (gather none_found members ≡ fs)
+
+    members_say : (content : List ℕ) (fs : ByFamily X) → IsBytes content
+        → cond (eqb (length content) 0) (Err NoFamily) (members_by member (length content) none_found content) ≡ Ok fs
+        → SaysMembers content fs
+    members_say content fs fits e =
+        let g = passed (eqb (length content) 0) NoFamily (members_by member (length content) none_found content) fs e in
+        let m = bind_ok (each_from behind (length content) (λ found. member (seen found)) none_found content) (λ members. Ok (gather none_found members)) fs (sym (members_are (length content) none_found content) ∙ g.1) in
+        let all = each_takes behind G (λ found. member (seen found)) is (length content) none_found content m.0 fits m.1 in
+        (m.0, all, (λ none. eqb-false (length content) 0 g.0 (ap length (subst (EachFrom behind G none_found content) none all))), ok_is (gather none_found m.0) fs m.2)
+
+    members_again : (content : List ℕ) (fs : ByFamily X) → SaysMembers content fs
+        → cond (eqb (length content) 0) (Err NoFamily) (members_by member (length content) none_found content) ≡ Ok fs
+    members_again content fs ([], all, some, same) = absurd (some refl)
+    members_again content fs (m ∷ members, all, some, same) =
+        let fewer = shorter (G none_found) (has none_found) content m all.0 all.1 in
+        let test : eqb (length content) 0 ≡ false = ne_eqb (length content) 0 (λ z. omega (arith, fewer)) in
+        let read = each_again behind G (λ found. member (seen found)) is has (m ∷ members) (length content) none_found content (omega arith) all in
+        rw (test, members_are (length content) none_found content, read, same) refl
+
+    pub members_check : IsCheck IsBytes SaysMembers
+        (λ content. cond (eqb (length content) 0) (Err NoFamily)
+        (members_by member (length content) none_found content))
+    members_check = record { takes = members_say; again = members_again }
+
 module _ {X : Type 0} (G : AddressFamily → List ℕ → X → Type 0) where
   -- a member has an octet at least
   pub member_has_octets : (before : Bool × Bool) → HasOctets (Refines IsSequence (SaysNew G before))
   member_has_octets before front member is = value_has_octets front 48 is.0 is.1
 
-  -- octets that are left are those of a member
-  not_nil : (b : ℕ) (bytes : List ℕ) (members : List (AddressFamily × X)) → Each (IsMember G) (b ∷ bytes) members
-      → members ≢ []
-  not_nil b bytes v2 all = grind (arith)
+  -- members that are each new to those before them are members of which each family has one
+  abbrev New : ByFamily X → List ℕ → AddressFamily × X → Type 0
+  New before = Refines IsSequence (SaysNew G (seen before))
 
-module _ {X : Type 0} (G : AddressFamily → List ℕ → X → Type 0) (claim_at : AddressFamily → List ℕ → Result (X × List ℕ) DerError) (is : (family : AddressFamily) → IsReading (G family) (claim_at family)) where
-  -- members that are read stand there
-  members_say : (steps : ℕ) (before : ByFamily X) (bytes : List ℕ) (fs : ByFamily X) → IsBytes bytes
-      → members_in claim_at steps before bytes ≡ Ok fs
-      → (members : List (AddressFamily × X)) × Each (IsMember G) bytes members × Adds before members fs
-  unfolding members_by
-  members_say zero before [] fs fits e = ([], refl, subst (Adds before []) (ok_is before fs e) (nothing_adds before))
-  members_say (suc steps) before [] fs fits e = ([], refl, subst (Adds before []) (ok_is before fs e) (nothing_adds before))
-  members_say zero before (b ∷ bytes) fs fits e = absurd cc
-  members_say (suc steps) before (b ∷ bytes) fs fits e =
-      let m = bind_ok (member_at claim_at (seen before) (b ∷ bytes)) (λ m. members_in claim_at steps (with_claim before m.0.0 m.0.1) m.1) fs e in
-      let found = (member_reading G claim_at is (seen before)).takes (b ∷ bytes) m.0.0 m.0.1 fits m.1 in
-      let inside = fits_rest (Refines IsSequence (SaysNew G (seen before))) (b ∷ bytes) m.0.0 m.0.1 found fits in
-      let others = members_say steps (with_claim before m.0.0.0 m.0.0.1) m.0.1 fs inside m.2 in
-      (m.0.0 ∷ others.0, (m.0.1, (found.0, (found.1.0, found.1.1, found.1.2.0), found.2), others.1), add_one before m.0.0.0 m.0.0.1 others.0 fs found.1.2.1 others.2)
+  each_of_new : (members : List (AddressFamily × X)) (before : ByFamily X) (content : List ℕ) (fs : ByFamily X)
+      → EachFrom behind New before content members → gather before members ≡ fs
+      → Each (IsMember G) content members × Adds before members fs
+  each_of_new [] before content fs all same = (all, subst (Adds before []) same (nothing_adds before))
+  each_of_new (m ∷ members) before content fs (rest, (front, (inner, at, (says, new)), split), more) same = grind (arith, add_one, each_of_new members (behind before m) rest fs more same)
 
-  -- members that stand there are read
-  members_again : (members : List (AddressFamily × X)) (steps : ℕ) (before : ByFamily X) (bytes : List ℕ)
-      (fs : ByFamily X) → length bytes ≤ steps → Each (IsMember G) bytes members → Adds before members fs
-      → members_in claim_at steps before bytes ≡ Ok fs
-  unfolding members_by
-  members_again [] zero before [] fs le all adds = ap Ok (no_more before fs adds)
-  members_again [] (suc steps) before [] fs le all adds = ap Ok (no_more before fs adds)
-  members_again [] steps before (b ∷ bytes) fs le all adds = absurd cc
-  members_again (m ∷ members) steps before [] fs le all adds =
-      let some = value_has_octets all.1.0 48 all.1.1.0 all.1.1.1 in
-      absurd (omega (arith, some, length-append all.1.0 all.0, ap length all.1.2))
-  members_again (m ∷ members) zero before (b ∷ bytes) fs le all adds = absurd (omega arith)
-  members_again (m ∷ members) (suc steps) before (b ∷ bytes) fs le all adds =
-      let some = value_has_octets all.1.0 48 all.1.1.0 all.1.1.1 in
-      let both = one_more before m.0 m.1 members fs adds in
-      let first : member_at claim_at (seen before) (b ∷ bytes) ≡ Ok (m, all.0) =
-      ap (member_at claim_at (seen before)) all.1.2 ∙ (member_reading G claim_at is (seen before)).again all.1.0 m all.0 (all.1.1.0, all.1.1.1, (all.1.1.2, both.new)) in
-      let fewer : length all.0 ≤ steps = omega (arith, some, length-append all.1.0 all.0, ap length all.1.2) in
-      rw first (members_again members steps (with_claim before m.0 m.1) all.0 fs fewer all.2 both.adds)
-
-  -- families that are read are said by the content
-  families_say : (content : List ℕ) (fs : ByFamily X) → IsBytes content → families_in claim_at content ≡ Ok fs
-      → SaysFamilies G content fs
-  unfolding families_in
-  families_say v0 fs fits e = grind (arith, members_say, not_nil, passed)
-
-  -- families that the content says are read
-  families_again : (content : List ℕ) (fs : ByFamily X) → SaysFamilies G content fs
-      → families_in claim_at content ≡ Ok fs
-  unfolding families_in
-  families_again content fs ([], all, some, gathered) = absurd (some refl)
-  families_again content fs (m ∷ members, all, some, gathered) =
-      let has = value_has_octets all.1.0 48 all.1.1.0 all.1.1.1 in
-      let test : eqb (length content) 0 ≡ false = ne_eqb (length content) 0 (λ z. omega (arith, has, length-append all.1.0 all.0, ap length all.1.2)) in
-      rw test (members_again (m ∷ members) (length content) none_found content fs (omega arith) all (elim [ Ipv4 ↦ gathered Ipv4 | Ipv6 ↦ gathered Ipv6 ]))
+  new_of_each : (members : List (AddressFamily × X)) (before : ByFamily X) (content : List ℕ) (fs : ByFamily X)
+      → Each (IsMember G) content members → Adds before members fs
+      → EachFrom behind New before content members × (gather before members ≡ fs)
+  new_of_each [] before content fs all adds = (all, no_more before fs adds)
+  new_of_each (m ∷ members) before content fs (rest, (front, (inner, at, says), split), more) adds =
+      let one = one_more before m.0 m.1 members fs adds in
+      grind (arith, new_of_each members (behind before m) rest fs more one.adds)
 
   -- a SEQUENCE of families
-  pub families_reading : IsReading (IsFamilies G) (families_at claim_at)
-  families_reading =
+  pub families_reading : (claim_at : AddressFamily → List ℕ → Result (X × List ℕ) DerError)
+      → ((family : AddressFamily) → IsReading (G family) (claim_at family))
+      → IsReading (IsFamilies G) (families_at claim_at)
+  unfolding families_in
+  families_reading claim_at is =
+      let check = members_check (member_at claim_at) New (λ found. member_reading G claim_at is (seen found)) (λ found. member_has_octets (seen found)) in
       refined_reading IsSequence (SaysFamilies G) IsBytes (tagged_at 48) (families_in claim_at) (tagged_reading 48) (λ front content h fits. fits_content front 48 content h fits)
-      (record { takes = families_say; again = families_again })
+      (record {
+        takes = λ content fs fits e.
+            let found = check.takes content fs fits e in
+            let both = each_of_new found.0 none_found content fs found.1 found.3 in
+            (found.0, both.0, found.2, elim [ Ipv4 ↦ both.1 Ipv4 | Ipv6 ↦ both.1 Ipv6 ]);
+        again = λ content fs (members, all, some, gathered).
+            let both = new_of_each members none_found content fs all (elim [ Ipv4 ↦ gathered Ipv4 | Ipv6 ↦ gathered Ipv6 ]) in
+            check.again content fs (members, both.0, some, both.1);
+      })
 
 module _ {X : Type 0} (G : AddressFamily → List ℕ → X → Type 0) where
   -- some octets are this claim of the family
@@ -150,7 +169,7 @@ module _ {X : Type 0} (G : AddressFamily → List ℕ → X → Type 0) where
   -- and so does what they gather
   one_there : (family : AddressFamily) (o : Option X) → AllByRecursion (IsThere family) (listed o)
       → IfSome o (IsThere family)
-  one_there family v1 all = grind (arith)
+  one_there family v1 all = grind arith
 
   pub each_there : (family : AddressFamily) (bytes : List ℕ) (fs : ByFamily X) → IsFamilies G bytes fs
       → IfSome (of_family family fs) (IsThere family)

@@ -33,8 +33,7 @@ module _ {X Y : Type 0} (member_of : Bool × Bool → List ℕ → Result ((Addr
       → member_of (seen found) (b ∷ bytes) ≡ Ok (read, rest) → SaysClaim C read member
       → length rest < length (b ∷ bytes) → SoFar (with_claim found member.0 member.1) rest total
   unfolding members_by
-  more_by steps before found b bytes total read member rest says enough whole at claim fewer =
-      grind (arith, same_seen, with_says)
+  more_by steps before found b bytes total read member rest says enough whole at claim fewer = grind arith
 
   -- a turn that reads a member
   pub loop_more : (found : ByFamily X) (bytes : List ℕ) (total : Result (ByFamily Y) DerError)

@@ -1,5 +1,6 @@
--- A member that is read is one of a family that wasn't there before, and each such member is read.
-use Rattle.rpki_base.proofs.Common.{Bool, Err, List, Ok, Result, [], ap, cond, false, refl, subst, sym, ℕ, ◌++◌, ◌∙◌, ◌≡◌, append-nil, fits_content, fits_rest, refined_reading, tagged_reading, bind_ok, ok_is, passed, IsBytes, IsSequence, Refines, IsReading, ended, tagged_at, ◌>>=◌, DerError, DuplicateFamily, SaysMember, member_at, member_in, was_seen, IsFamilyDer, family_at, AddressFamily}
+-- A member that is read is one of a family that wasn't there before, and each such member is read; strictly, of those
+-- that stand in order.
+use Rattle.rpki_base.proofs.Common.{Bool, Err, List, Ok, Result, [], ap, arith, cond, false, refl, true, ◌↔◌, sym, ℕ, ◌∙◌, ◌≡◌, append-nil, fits_content, fits_rest, refined_reading, tagged_reading, bind_ok, ok_is, passed, IsBytes, IsSequence, Refines, IsReading, ended, passing, tagged_at, ◌>>=◌, DerError, DuplicateFamily, SaysMember, is_in_order, member_at, member_by, member_in, member_in_by, was_seen, IsFamilyDer, family_at, AddressFamily}
 use Rattle.rpki_base.proofs.DerReadings.{ended_is}
 use Rattle.rpki_base.proofs.FamilyLemmas.{family_reading}
 
@@ -7,6 +8,11 @@ use Rattle.rpki_base.proofs.FamilyLemmas.{family_reading}
 abbrev pub SaysNew : {X : Type 0} → (AddressFamily → List ℕ → X → Type 0) → Bool × Bool → List ℕ → AddressFamily × X
     → Type 0
 SaysNew G before content member = SaysMember G content member × (was_seen before member.0 ≡ false)
+
+-- and one that doesn't stand behind IPv6, if it is of IPv4
+abbrev pub SaysNext : {X : Type 0} → (AddressFamily → List ℕ → X → Type 0) → Bool × Bool → List ℕ → AddressFamily × X
+    → Type 0
+SaysNext G before content member = SaysNew G before content member × (is_in_order before member.0 ≡ true)
 
 module _ {X : Type 0} (G : AddressFamily → List ℕ → X → Type 0) (claim_at : AddressFamily → List ℕ → Result (X × List ℕ) DerError) (is : (family : AddressFamily) → IsReading (G family) (claim_at family)) where
   -- a member that is read is said by the content
@@ -22,8 +28,7 @@ module _ {X : Type 0} (G : AddressFamily → List ℕ → X → Type 0) (claim_a
       let z = bind_ok (ended c.0.1) (λ end. Ok (f.0.0, c.0.0)) member c.2 in
       let first = family_reading.takes content f.0.0 f.0.1 fits f.1 in
       let second = (is f.0.0).takes f.0.1 c.0.0 c.0.1 (fits_rest IsFamilyDer content f.0.0 f.0.1 first fits) c.1 in
-      let last : G f.0.0 f.0.1 c.0.0 = subst (λ (t : List ℕ). G f.0.0 t c.0.0) (sym (second.2 ∙ ap (λ (t : List ℕ). second.0 ++ t) (ended_is c.0.1 z.0 z.1) ∙ append-nil second.0)) second.1 in
-      subst (SaysNew G before content) (ok_is (f.0.0, c.0.0) member z.2) ((f.0.1, first, last), g.0)
+      grind (arith, append-nil, ended_is, ok_is)
 
   -- a member that the content says is read
   member_again : (before : Bool × Bool) (content : List ℕ) (member : AddressFamily × X)
@@ -40,3 +45,19 @@ module _ {X : Type 0} (G : AddressFamily → List ℕ → X → Type 0) (claim_a
   member_reading before =
       refined_reading IsSequence (SaysNew G before) IsBytes (tagged_at 48) (member_in claim_at before) (tagged_reading 48) (λ front content h fits. fits_content front 48 content h fits)
       (record { takes = member_says before; again = member_again before })
+
+  -- strictly, what stands in order is read, and nothing else
+  in_order : (before : Bool × Bool) (content : List ℕ) (member : AddressFamily × X)
+      → (member_in_by true claim_at before content ≡ Ok member)
+      ↔ ((member_in claim_at before content ≡ Ok member) × (is_in_order before member.0 ≡ true))
+  unfolding member_in member_in_by passing
+  in_order before content member = grind (arith, bind_ok, ok_is, passed)
+
+  pub next_reading : (before : Bool × Bool)
+      → IsReading (Refines IsSequence (SaysNext G before)) (member_by true claim_at before)
+  next_reading before =
+      refined_reading IsSequence (SaysNext G before) IsBytes (tagged_at 48) (member_in_by true claim_at before) (tagged_reading 48) (λ front content h fits. fits_content front 48 content h fits)
+      (record {
+        takes = λ content member fits e. let both = (in_order before content member).0 e in (member_says before content member fits both.0, both.1);
+        again = λ content member (new, ordered). (in_order before content member).1 (member_again before content member new, ordered);
+      })

@@ -1,47 +1,34 @@
 -- Families whose claims stand for others: what the families stand for is what they are with the
 -- claims that theirs stand for.
-use Rattle.rpki_base.proofs.Common.{Err, List, None, Ok, Option, Result, Some, [], ap, arith, refl, subst, sym, ℕ, ◌∙◌, ◌∷◌, ◌≡◌, ◌≢◌, Each, OneFront, Refines, IsReading, Cursor, DerError, OrMemory, Memory, Refused, ReadsOrMemory, AreGathered, ByFamily, IsFamilies, IsMember, SaysByFamily, SaysOption, claims_among, listed, families_at, AddressFamily, Ipv4, Ipv6}
+use Rattle.rpki_base.proofs.Common.{List, None, Option, Result, Some, [], ap, arith, refl, subst, sym, ℕ, ◌∙◌, ◌∷◌, ◌≡◌, ◌≢◌, Each, OneFront, Refines, IsReading, DerError, AreGathered, ByFamily, IsFamilies, IsMember, SaysByFamily, SaysOption, claims_among, listed, families_at, AddressFamily, Ipv4, Ipv6}
 use Rattle.rpki_base.proofs.DerReadings.{one_front_said}
 use Rattle.rpki_base.proofs.FamiliesGathering.{families_reading}
 
--- octets are of one grammar where they are of the other, so what is read of one is of the other
-pub reads_same : {X : Type 0} (G H : List ℕ → X → Type 0) (old new : Cursor) (result : Result X (OrMemory DerError))
-    → ((bytes : List ℕ) (x : X) → G bytes x → H bytes x) → ((bytes : List ℕ) (x : X) → H bytes x → G bytes x)
-    → ReadsOrMemory G (λ x. x) old new result → ReadsOrMemory H (λ x. x) old new result
-reads_same G H old new (Ok x) to from (front, is, at) = (front, to front x is, at)
-reads_same G H old new (Err (Refused e)) to from (none, kept) = ((λ x rest found. none x rest (found.0, from found.0 x found.1, found.2)), kept)
-reads_same G H old new (Err (Memory e)) to from (none, kept) = (tt, kept)
-
 -- the first of two lists that are one, and what follows it
 one_listed : {X : Type 0} (x : X) (xs : List X) (o : Option X) → x ∷ xs ≡ listed o → (o ≡ Some x) × (xs ≡ [])
-one_listed x xs v2 e = grind (arith)
+one_listed x xs v2 e = grind arith
 
 -- nothing is listed of nothing
 none_listed : {X : Type 0} (o : Option X) → [] ≡ listed o → o ≡ None
-none_listed v0 e = grind (arith)
+none_listed v0 e = grind arith
 
 module _ {X Y : Type 0} (C : Y → X → Type 0) where
   -- what something stands for is something
   says_some : (y : Y) (x : Option X) → SaysOption C (Some y) x → (z : X) × (x ≡ Some z) × C y z
-  says_some y v1 says = grind (arith)
+  says_some y v1 says = grind arith
 
   -- what nothing stands for is nothing
   says_none : (x : Option X) → SaysOption C None x → x ≡ None
-  says_none v0 says = grind (arith)
+  says_none v0 says = grind arith
 
   -- and the other way round
   none_says : (y : Option Y) → SaysOption C y None → y ≡ None
-  none_says v0 says = grind (arith)
-
-  -- what an option stands for is one thing, where what is in it does
-  one_option : ((y : Y) (a b : X) → C y a → C y b → a ≡ b) → (y : Option Y) (a b : Option X) → SaysOption C y a
-      → SaysOption C y b → a ≡ b
-  one_option one v1 a b says tells = grind (arith, says_none, says_some)
+  none_says v0 says = grind arith
 
   -- and so do families
   pub one_by_family : ((y : Y) (a b : X) → C y a → C y b → a ≡ b) → (found : ByFamily Y) (a b : ByFamily X)
       → SaysByFamily C found a → SaysByFamily C found b → a ≡ b
-  one_by_family one found a b says tells = grind (arith, one_option)
+  one_by_family one found a b says tells = grind arith
 
 module _ {X Y : Type 0} (G : AddressFamily → List ℕ → Y → Type 0) (C : Y → X → Type 0) where
   -- the claims of a family, as those that they stand for

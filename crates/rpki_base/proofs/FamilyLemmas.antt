@@ -1,6 +1,6 @@
 -- Families in DER: what is read, what is written, and which faults are named.
 use Rattle.rpki_base.proofs.Common.{Bool, Err, List, Ok, Result, [], ap, arith, cond, eqb, get_or, length, refl, subst, true, ℕ, ◌&&◌, ◌∙◌, ◌∷◌, ◌≡◌, and_parts, eqb-true, IsErrAnd, MatchResult, IsTagged, refined_reading, same_reading, tagged_reading, IsCheck, ok_is, ok_or_err, value_is, Refines, header, length_octets, Gives, IsReading, tagged_at, DerError, BadFamily, IsFamilyDer, SaysFamily, family_at, family_der, family_octets, family_of_octets, AddressFamily, Ipv4, Ipv6}
-use Rattle.rpki_base.proofs.DerFaults.{NamesTo, cond_names, names_more, refined_names, tagged_names}
+use Rattle.rpki_base.proofs.DerFaults.{NamesTo, cond_names, header_names, refined_names}
 
 -- ---- a fault under another name
 
@@ -73,6 +73,4 @@ unfolding family_of_octets
 family_of_names content = grind (arith, cond_names, two)
 
 pub family_names : (bytes : List ℕ) → NamesTo 9 (family_at bytes)
-family_names =
-    refined_names 9 (tagged_at 4) family_of_octets
-    (λ bytes. names_more 3 9 (tagged_at 4 bytes) (omega arith) (tagged_names 4 bytes)) family_of_names
+family_names = refined_names 9 (tagged_at 4) family_of_octets (header_names 9 4 (omega arith)) family_of_names

@@ -1,5 +1,5 @@
 -- Small sets: what the walks, a list and a search give.
-use Rattle.rpki_base.proofs.Common.{Contains, Err, IsTrue, List, Ok, Result, [], ap₂, arith, eqb, get_or, inl, inr, length, refl, suc, sym, zero, ℕ, ◌<◌, ◌↔◌, ◌∙◌, ◌∷◌, ◌≡◌, ◌≤◌, cases_lt, IsBinarySearchResult, IsPermutation, IsSorted, IsInBoth, IsInEither, IsInFirstAlone, IsInOne, IsSmallSet, IsSmallSetOf, any_side, only_both, only_left, only_one, walk, Wanted}
+use Rattle.rpki_base.proofs.Common.{Contains, Err, IsTrue, List, Ok, Result, [], arith, eqb, get_or, inl, inr, length, refl, suc, sym, zero, ℕ, ◌<◌, ◌↔◌, ◌∙◌, ◌∷◌, ◌≡◌, ◌≤◌, cases_lt, IsBinarySearchResult, IsPermutation, IsSorted, IsInBoth, IsInEither, IsInFirstAlone, IsInOne, IsSmallSet, IsSmallSetOf, any_side, only_both, only_left, only_one, walk, Wanted}
 use Rattle.std.specs.Ordering.{nat_cmp}
 use Rattle.std.specs.Result.{is_ok}
 use Rattle.std.specs.List.Retain.{IsFiltered, DiffersFromLast}
@@ -103,11 +103,7 @@ same_numbers (x ∷ xs) (y ∷ ys) h k same =
       | inl is ↦ sym is
       | inr there ↦ elim ((same y).1 (inl refl)) [ inl is ↦ is | inr here ↦ absurd (omega (arith, above_is y x ys k.0 there, above_is x y xs h.0 here)) ]
     ] in
-    let others : (n : ℕ) → Among n xs ↔ Among n ys = λ n. (
-      (λ a. elim ((same n).0 (inr a)) [ inl is ↦ absurd (omega (arith, above_is x n xs h.0 a, first, is)) | inr b ↦ b ]),
-      λ b. elim ((same n).1 (inr b)) [ inl is ↦ absurd (omega (arith, above_is y n ys k.0 b, first, is)) | inr a ↦ a ],
-    ) in
-    ap₂ (λ z zs. z ∷ zs) first (same_numbers xs ys h.1 k.1 others)
+    grind (arith, above_is, same_numbers xs ys h.1 k.1)
 
 pub one_set : (xs ys : List ℕ) → IsSmallSet xs → IsSmallSet ys → ((n : ℕ) → Contains xs n ↔ Contains ys n) → xs ≡ ys
 one_set xs ys h k same = same_numbers xs ys (Rises-from_increasing xs h) (Rises-from_increasing ys k) (λ n. (

@@ -60,24 +60,17 @@ IsStrictlyIncreasing-rises [] h k small = absurd (omega (arith, small))
 IsStrictlyIncreasing-rises (x ∷ xs) h zero small = first_above x xs h.0 (omega (arith, small))
 IsStrictlyIncreasing-rises (x ∷ xs) h (suc k) small = grind (arith, IsStrictlyIncreasing-rises xs h.1 k (omega (arith, small)))
 
--- a number before others, wanted or not
-kept_is : (b : Bool) (x n : ℕ) (zs : List ℕ) → Among n (kept_items b x zs) ↔ ((IsTrue b × (x ≡ n)) ⊎ Among n zs)
-kept_is v0 x n zs = grind (arith)
-
-all_kept_is : (b : Bool) (n : ℕ) (zs : List ℕ) → Among n (all_kept b zs) ↔ (IsTrue b × Among n zs)
-all_kept_is v0 n zs = grind (arith)
-
 above_kept : (b : Bool) (m x : ℕ) (zs : List ℕ) → m < x → Above m zs → Above m (kept_items b x zs)
-above_kept v0 m x zs less h = grind (arith)
+above_kept v0 m x zs less h = grind arith
 
 above_all_kept : (b : Bool) (m : ℕ) (zs : List ℕ) → Above m zs → Above m (all_kept b zs)
-above_all_kept v0 m zs h = grind (arith)
+above_all_kept v0 m zs h = grind arith
 
 rises_kept : (b : Bool) (x : ℕ) (zs : List ℕ) → Above x zs → Rises zs → Rises (kept_items b x zs)
-rises_kept v0 x zs h k = grind (arith)
+rises_kept v0 x zs h k = grind arith
 
 rises_all_kept : (b : Bool) (zs : List ℕ) → Rises zs → Rises (all_kept b zs)
-rises_all_kept v0 zs h = grind (arith)
+rises_all_kept v0 zs h = grind arith
 
 -- n is wanted, by the lists that it is among
 abbrev pub IsWanted : Wanted → List ℕ → List ℕ → ℕ → Type 0
@@ -89,23 +82,23 @@ IsWanted wanted xs ys n =
 -- one turn: the least number x is of the left list alone
 module _ (wanted : Wanted) (x n : ℕ) (xs ys zs : List ℕ) (before : Above x ys) (rest : Among n zs ↔ IsWanted wanted xs ys n) where
   left_turn : Among n (kept_items wanted.left x zs) ↔ IsWanted wanted (x ∷ xs) ys n
-  left_turn = grind (arith, above_is, kept_is)
+  left_turn = grind (arith, above_is)
 
 -- one turn: the least number y is of the right list alone
 module _ (wanted : Wanted) (y n : ℕ) (xs ys zs : List ℕ) (before : Above y xs) (rest : Among n zs ↔ IsWanted wanted xs ys n) where
   right_turn : Among n (kept_items wanted.right y zs) ↔ IsWanted wanted xs (y ∷ ys) n
-  right_turn = grind (arith, above_is, kept_is)
+  right_turn = grind (arith, above_is)
 
 -- one turn: both lists begin with it
 module _ (wanted : Wanted) (x y n : ℕ) (xs ys zs : List ℕ) (same : x ≡ y) (above_left : Above x xs) (above_right : Above y ys) (rest : Among n zs ↔ IsWanted wanted xs ys n) where
   both_turn : Among n (kept_items wanted.both x zs) ↔ IsWanted wanted (x ∷ xs) (y ∷ ys) n
-  both_turn = grind (arith, above_is, kept_is)
+  both_turn = grind (arith, above_is)
 
 -- a walk from x on, where `others` walks over what follows x and a list: it gives the wanted numbers
 module _ (wanted : Wanted) (x : ℕ) (xs : List ℕ) (others : List ℕ → List ℕ) (above : Above x xs) (others_are : (ys : List ℕ) → Rises ys → (n : ℕ) → Among n (others ys) ↔ IsWanted wanted xs ys n) where
   step_is : (ys : List ℕ) → Rises ys → (n : ℕ)
       → Among n (walk_step wanted x xs others ys) ↔ IsWanted wanted (x ∷ xs) ys n
-  step_is [] h n = grind (arith, all_kept_is)
+  step_is [] h n = grind arith
   step_is (y ∷ ys) h n = elim (cases_lt x y) [
     | inl less ↦ rw (lt-ltb x y less) (left_turn wanted x n xs (y ∷ ys) (others (y ∷ ys)) (less, above_more x y ys less h.0) (others_are (y ∷ ys) h n))
     | inr least ↦ elim (cases_lt y x) [
@@ -152,5 +145,5 @@ walk_rises wanted (x ∷ xs) ys h k = step_rises wanted x xs (walk wanted xs) h.
 
 pub walk_is : (wanted : Wanted) (xs ys : List ℕ) → Rises xs → Rises ys → (n : ℕ)
     → Among n (walk wanted xs ys) ↔ IsWanted wanted xs ys n
-walk_is wanted [] ys h k n = grind (arith, all_kept_is)
+walk_is wanted [] ys h k n = grind arith
 walk_is wanted (x ∷ xs) ys h k n = step_is wanted x xs (walk wanted xs) h.0 (λ others r m. walk_is wanted xs others h.1 r m) ys k n

@@ -1,18 +1,11 @@
 -- Lenient readings name lower faults, and strictly the look at the unused bits comes last.
-use Rattle.rpki_base.proofs.Common.{Err, List, arith, is_ok, true, ℕ, ◌≡◌, ◌≤◌, ok_or_err, bit_string_at, bit_string_by, bits, bits_by, refined, tagged_at, unsigned, value_at, NotCanonical, as_number_at, family_at}
-use Rattle.rpki_base.proofs.DerFaults.{NamesTo, bind_fails, bits_names, first_fails, names_more, not_named, refined_names, tagged_names, unsigned_names, value_names}
+use Rattle.rpki_base.proofs.Common.{Err, List, arith, is_ok, true, ℕ, ◌≡◌, ok_or_err, bit_string_at, bit_string_by, bits, bits_by, refined, tagged_at, value_at, NotCanonical, as_number_at, family_at}
+use Rattle.rpki_base.proofs.DerFaults.{NamesTo, bind_fails, bits_names, first_fails, header_names, not_named, number_names, refined_names, tagged_names, value_names}
 use Rattle.rpki_base.proofs.FamilyLemmas.{family_names}
 use Rattle.rpki_base.proofs.laws.not_canonical.Goals as goal
 
--- a header's faults, where more can follow
-header_names : (tag n : ℕ) (bytes : List ℕ) → 3 ≤ n → NamesTo n (tagged_at tag bytes)
-header_names tag n bytes more = names_more 3 n (tagged_at tag bytes) more (tagged_names tag bytes)
-
-number_names : (bytes : List ℕ) → NamesTo 4 (as_number_at bytes)
-number_names = refined_names 4 (tagged_at 2) unsigned (λ bytes. header_names 2 4 bytes (omega arith)) unsigned_names
-
 bit_string_names : (bytes : List ℕ) → NamesTo 5 (bit_string_at bytes)
-bit_string_names = refined_names 5 (tagged_at 3) bits (λ bytes. header_names 3 5 bytes (omega arith)) bits_names
+bit_string_names = refined_names 5 (tagged_at 3) bits (header_names 5 3 (omega arith)) bits_names
 
 bit_string_last : (bytes : List ℕ) → bit_string_by true bytes ≡ Err NotCanonical → is_ok (bit_string_at bytes) ≡ true
 unfolding refined bits_by

@@ -1,5 +1,5 @@
 -- What is written of sets of AS numbers, and that it is read back.
-use Rattle.rpki_as.proofs.Common.{List, None, Ok, Result, [], ap, arith, get_or, length, map, refl, subst, suc, sym, true, zero, ℕ, ◌*◌, ◌++◌, ◌+◌, ◌<◌, ◌^◌, ◌↔◌, ◌∙◌, ◌∷◌, ◌≡◌, ◌≤◌, cases_lt, eq-eqb, ne_eqb, length-append, recursion_from_All, flat_map-map, AllByRecursion, flat_map, block_numbers, block_spelled, block_written, length-content, length-number, IsAsBlock, as_block_octets, as_block_has_octets, as_block_reading, next_block_modal, IsNextBlock, IsStrictBlock, as_block_at, next_block_by, new_as_block_bounds, as_bounds, new_as_block, AsBlock, reads_said_by, exact_said_by, reads_same, refused_said_by, sequence_modal, takes_said_by, values_stateless, sequence_reading, IsSequenceFrom, IsSequenceOf, NotCanonicalOrMemory, ReadsOrMemory, TakesSaidOrMemory, IsWritten, set_spelled, spelled_set, taken_chain, IsRunsOf-unique, same_numbers, Holds, IsRunsOfBlocks, Runs, Covers, IsChain, one_front, length-header, IsBytes, OneFront, Refines, Spells, sequence_value, IsModal, IsReading, refined, tagged_at, Lenient, Strict, is_strict, left, Cursor, DerError, IsMemory, OrMemory, IsAsBlockSequence, as_run_octets, as_sequence_octets, as_set_octets, as_blocks_at, as_blocks_by, greatest_of_as_block, IsAsSet}
+use Rattle.rpki_as.proofs.Common.{List, None, Ok, Result, [], ap, arith, get_or, length, map, refl, subst, suc, sym, true, zero, ℕ, ◌*◌, ◌++◌, ◌+◌, ◌<◌, ◌^◌, ◌↔◌, ◌∙◌, ◌∷◌, ◌≡◌, ◌≤◌, cases_lt, eq-eqb, ne_eqb, length-append, recursion_from_All, flat_map-map, AllByRecursion, flat_map, block_numbers, block_spelled, block_written, length-content, length-number, IsAsBlock, as_block_octets, as_block_has_octets, as_block_reading, next_block_modal, IsNextBlock, IsStrictBlock, as_block_at, next_block_by, new_as_block_bounds, as_bounds, new_as_block, AsBlock, reads_said_by, canonical_said_by, exact_said_by, refused_said_by, sequence_modal, takes_said_by, values_stateless, sequence_reading, IsSequenceFrom, IsSequenceOf, NotCanonicalOrMemory, ReadsOrMemory, TakesSaidOrMemory, IsWritten, set_spelled, spelled_set, taken_chain, IsRunsOf-unique, same_numbers, Holds, IsRunsOfBlocks, Runs, Covers, IsChain, one_front, length-header, IsBytes, OneFront, Refines, Spells, sequence_value, IsModal, IsReading, refined, tagged_at, Lenient, Strict, is_strict, left, Cursor, DerError, IsMemory, OrMemory, IsAsBlockSequence, as_run_octets, as_sequence_octets, as_set_octets, as_blocks_at, as_blocks_by, greatest_of_as_block, IsAsSet}
 use Rattle.std.specs.Prelude.{MatchResult}
 use Rattle.rpki_chain.proofs.SetLemmas.{bounds_made, made_of_set}
 use Rattle.rpki_base.proofs.DerWriting.{sequence_written, written_alike}
@@ -49,9 +49,7 @@ run_count [] is = omega arith
 run_count (b ∷ set) is =
     let n = length set in
     let low = run_places (b ∷ set) is n b (omega arith) in
-    let ordered : (get_or (b ∷ set) n b).0 ≤ (get_or (b ∷ set) n b).1 = is.are_runs.ordered n b (omega arith) in
-    let below : (get_or (b ∷ set) n b).1 ≤ 4294967295 = is.below n b (omega arith) in
-    omega arith
+    grind arith
 
 -- a run has sixteen octets at most
 length-run : (b : ℕ × ℕ) → IsRun32 b → length (as_run_octets b) ≤ 16
@@ -160,10 +158,7 @@ module _ (old new : Cursor) (result : Result Runs (OrMemory DerError)) (took : T
   -- strictly, of the octets that are written of it
   pub reads_canonical_set : IsBytes (left old)
       → Strict old (ReadsOrMemory (Spells IsAsSet as_sequence_octets) (λ set. set) old new result)
-  reads_canonical_set fits strict =
-      let S = IsSequenceFrom greatest_of_as_block IsNextBlock None in
-      let read = reads_said_by S (IsRunsOfBlocks as_bounds) (as_blocks_by true) old new result blocks_modal.tight fits (subst (λ mode. TakesSaidOrMemory (IsRunsOfBlocks as_bounds) old new result (as_blocks_by mode)) strict took) in
-      reads_same (Refines S (IsRunsOfBlocks as_bounds)) (Spells IsAsSet as_sequence_octets) (λ set. set) old new result sequence_spelled spelled_sequence read
+  reads_canonical_set = canonical_said_by (IsSequenceFrom greatest_of_as_block IsNextBlock None) (IsRunsOfBlocks as_bounds) (Spells IsAsSet as_sequence_octets) as_blocks_at as_blocks_by old new result blocks_modal sequence_spelled (λ bytes set rest at. spelled_sequence bytes set) took
 
   -- else it is refused
   pub refused_set : NotCanonicalOrMemory IsAsBlockSequence old result

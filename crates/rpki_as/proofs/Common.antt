@@ -23,7 +23,7 @@ pub use Rattle.rpki_as_block.specs.declared.block.AsBlock.{AsBlock}
 pub use Rattle.rpki_as_block.specs.declared.block.AsBlock.TheVariants.{Id, Range}
 pub use Rattle.rpki_as_block.specs.declared.error.FromStrError.{FromStrError}
 pub use Rattle.rpki_base.proofs.DerCursors.{reads_said_by}
-pub use Rattle.rpki_base.proofs.DerModes.{enclosed_modal, exact_said_by, reads_same, refused_said_by, sequence_modal, strict_values_check, takes_said_by, values_stateless, values_tighten}
+pub use Rattle.rpki_base.proofs.DerModes.{canonical_said_by, enclosed_modal, exact_said_by, refused_said_by, sequence_modal, strict_values_check, takes_said_by, values_stateless, values_tighten}
 pub use Rattle.rpki_base.proofs.DerReadings.{enclosed_reading, one_front_said, sequence_reading, values_check}
 pub use Rattle.rpki_base.specs.DerReading.{Encloses, IsSequenceFrom, IsSequenceOf, enclosed_at, values_from, values_of}
 unfoldable pub use Rattle.rpki_base.specs.DerReading.{only}

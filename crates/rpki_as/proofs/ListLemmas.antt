@@ -1,8 +1,7 @@
 -- A text writes one set at most, or has one first fault; what is printed of a set writes it.
-use Rattle.rpki_as.proofs.Common.{List, MatchResult, Result, [], arith, lit≤, map, refl, subst, sym, ℕ, ◌++◌, ◌<◌, ◌^◌, ◌∷◌, ◌≡◌, ◌≤◌, All-head, All-tail, All, AllByRecursion, IsAsBlockText-block_text, IsAsBlockText-one, block_apart, same_block_fault, new_as_block_bounds, HasAsBlockFault, IsAsBlockText, as_block_text, as_bounds, new_as_block, AsBlock, Id, Range, FromStrError, IsRunsOf-unique, IsRunsOfBlocks-bounds, IsRunsOfBlocks, Runs, Covers, AnswersOrMemory-from_found, HaveValues-one, first_fault_apart, same_first_fault, HaveValues, elements, IfRefused, AnswersOrMemory, OrMemory, IsAsSet, HasAsListFault, IsAsListText, as_list_text}
+use Rattle.rpki_as.proofs.Common.{List, MatchResult, Result, [], arith, lit≤, map, refl, subst, sym, ℕ, ◌++◌, ◌<◌, ◌^◌, ◌∷◌, ◌≡◌, ◌≤◌, All-head, All-tail, All, AllByRecursion, IsAsBlockText-block_text, IsAsBlockText-one, block_apart, same_block_fault, HasAsBlockFault, IsAsBlockText, as_block_text, as_bounds, new_as_block, AsBlock, FromStrError, IsRunsOf-unique, IsRunsOfBlocks-bounds, IsRunsOfBlocks, Runs, Covers, AnswersOrMemory-from_found, HaveValues-one, first_fault_apart, same_first_fault, HaveValues, elements, IfRefused, AnswersOrMemory, OrMemory, IsAsSet, HasAsListFault, IsAsListText, as_list_text}
 use Rattle.std.specs.Int.{IsInRange}
 use Rattle.rpki_base.specs.AsnText.{asn_text}
-use Rattle.rpki_text.specs.Cuts.{dash}
 use Rattle.rpki_base.proofs.AsnLemmas.{asn_text_bytes}
 use Rattle.rpki_text.proofs.PrintedLemmas.{IsShown, IsElement, elements-joined}
 
@@ -37,11 +36,7 @@ asn_shown n small = number_shown (asn_text n) (asn_text_bytes n small)
 -- and so can what is printed of a block
 block_element : (b : AsBlock) → (as_bounds b).0 ≤ (as_bounds b).1 → (as_bounds b).1 < 2 ^ 32
     → IsElement (as_block_text b)
-block_element (Id n) ordered small = record { shown = asn_shown n small; some = omega arith }
-block_element (Range r) ordered small = record {
-  shown = shown-append (asn_text r.min) (dash ∷ asn_text r.max) (asn_shown r.min (omega arith)) ((lit≤ tt, lit≤ tt), asn_shown r.max small);
-  some = omega arith;
-}
+block_element b ordered small = grind (arith, asn_shown, lit≤, shown-append)
 
 -- the blocks of the runs are written by what is printed of them, which can stand in a list
 record AreBlocksOf (set : Runs) : Type 0 where
@@ -53,25 +48,11 @@ blocks_of : (set : Runs) → All (λ b. b.0 ≤ b.1) set → All (λ b. b.1 ≤ 
 blocks_of [] ordered below = record { bounds = refl; written = tt; shown = tt }
 blocks_of (b ∷ set) ordered below =
     let rest = blocks_of set (All-tail (λ (x : ℕ × ℕ). x.0 ≤ x.1) b set ordered) (All-tail (λ (x : ℕ × ℕ). x.1 ≤ 4294967295) b set below) in
-    let bounds = new_as_block_bounds b in
-    let in_order : (as_bounds (new_as_block b)).0 ≤ (as_bounds (new_as_block b)).1 = rw bounds (All-head (λ (x : ℕ × ℕ). x.0 ≤ x.1) b set ordered) in
-    let limit : (as_bounds (new_as_block b)).1 ≤ 4294967295 = rw bounds (All-head (λ (x : ℕ × ℕ). x.1 ≤ 4294967295) b set below) in
-    let small : (as_bounds (new_as_block b)).1 < 2 ^ 32 = omega arith in
-    let more_bounds = rest.bounds in
-    record {
-      bounds = cc;
-      written = (IsAsBlockText-block_text (new_as_block b) in_order small, rest.written);
-      shown = (block_element (new_as_block b) in_order small, rest.shown);
-    }
+    grind (arith, All-head, IsAsBlockText-block_text, block_element)
 
 -- what is printed of a set writes it
 pub IsAsListText-as_list_text : (text : List ℕ) (set : Runs) → IsAsSet set → text ≡ as_list_text set
     → IsAsListText text set
 IsAsListText-as_list_text text set is printed =
     let of = blocks_of set is.are_runs.ordered is.below in
-    let parts : elements text ≡ map as_block_text (map new_as_block set) = rw printed (elements-joined (map as_block_text (map new_as_block set)) of.shown) in
-    record {
-      blocks = map new_as_block set;
-      are_written = rw parts of.written;
-      covered = IsRunsOfBlocks-bounds as_bounds (map new_as_block set) set of.bounds is.are_runs;
-    }
+    grind (arith, IsRunsOfBlocks-bounds, elements-joined)

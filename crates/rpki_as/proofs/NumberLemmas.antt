@@ -36,18 +36,12 @@ IsListOf-append S U ms ns h k apart = record {
 
 -- the same numbers have the same list
 pub IsListOf-same : (S U : ℕ → Type 0) (ns : List ℕ) → ((n : ℕ) → S n ↔ U n) → IsListOf S ns → IsListOf U ns
-IsListOf-same S U ns same h = record {
-  members = λ n. (λ c. (same n).0 ((h.members n).0 c), λ u. (h.members n).1 ((same n).1 u));
-  ascending = h.ascending;
-}
+IsListOf-same S U ns same h = grind arith
 
 -- the numbers of runs, run by run
 pub IsListOf-runs : (runs : Runs) → All (λ b. b.0 ≤ b.1) runs → AllPairs (λ b c. b.1 + 1 < c.0) runs
     → IsListOf (Holds runs) (flat_map numbers_within runs)
-IsListOf-runs [] ordered apart = record {
-  members = λ n. (λ (i, small, here). absurd (omega arith), λ held. absurd (Covers-nil (λ b. b) n held));
-  ascending = λ i j d below small. absurd (omega arith);
-}
+IsListOf-runs [] ordered apart = grind (arith, Covers-nil)
 IsListOf-runs (b ∷ runs) ordered apart =
     let rest = IsListOf-runs runs (All-tail (λ (x : ℕ × ℕ). x.0 ≤ x.1) b runs ordered) (λ i j d below small. apart (suc i) (suc j) d (omega arith) (omega arith)) in
     IsListOf-same _ _ _ (λ n. (
@@ -61,10 +55,7 @@ IsListOf-runs (b ∷ runs) ordered apart =
 -- numbers that ascend are no fewer than their places
 at_least : (ns : List ℕ) (i d : ℕ) → AllPairs (λ m n. m < n) ns → i < length ns → i ≤ get_or ns i d
 at_least ns zero d ascending small = omega arith
-at_least ns (suc i) d ascending small =
-    let before = at_least ns i d ascending (omega arith) in
-    let step = ascending i (suc i) d (omega arith) small in
-    omega arith
+at_least ns (suc i) d ascending small = grind (arith, at_least ns i d ascending (omega arith))
 
 -- so a set of numbers below a limit has at most so many
 pub size_below : (limit : ℕ) (S : ℕ → Type 0) (k : ℕ) → IsSizeOf S k → ((n : ℕ) → S n → n < limit) → k ≤ limit

@@ -1,5 +1,5 @@
 -- What is written of AS resources is read back.
-use Rattle.rpki_as.proofs.Common.{List, None, Ok, Result, [], ap, arith, length, map, refl, subst, sym, true, ℕ, ◌++◌, ◌+◌, ◌^◌, ◌↔◌, ◌∙◌, ◌∷◌, ◌≡◌, ◌≢◌, ◌≤◌, cases_lt, le-ltb, lt-ltb, append_assoc, length-append, ⊤, block_numbers, IsAsBlock, as_block_octets, as_block_has_octets, as_block_reading, next_block_modal, IsNextBlock, IsStrictBlock, as_block_at, next_block_by, as_bounds, new_as_block, AsBlock, reads_said_by, enclosed_modal, exact_said_by, reads_same, refused_said_by, strict_values_check, takes_said_by, values_stateless, values_tighten, enclosed_reading, one_front_said, values_check, Encloses, IsSequenceFrom, IsSequenceOf, values_from, values_of, NotCanonicalOrMemory, ReadsOrMemory, TakesSaidOrMemory, listed_chain, no_numbers, lists_one, IsChoiceOf, choice_at, choice_octets, Claim, IsClaim, IsRunsOfBlocks, Runs, ResourcesChoice, Blocks, Inherit, Missing, IsChain, value_is, Each, EachFrom, IsBytes, OneFront, Refines, Spells, header, length_octets, sequence_value, value, IsModal, IsReading, Lenient, Strict, is_strict, left, Cursor, DerError, IsMemory, OrMemory, IsAsChoice, IsAsResources, IsPresentAsClaim, as_resources_octets, as_sequence_octets, as_choice_at, as_choice_by, greatest_of_as_block, IsAsSet}
+use Rattle.rpki_as.proofs.Common.{List, None, Ok, Result, [], ap, arith, length, map, refl, subst, sym, true, ℕ, ◌++◌, ◌+◌, ◌^◌, ◌↔◌, ◌∙◌, ◌∷◌, ◌≡◌, ◌≢◌, ◌≤◌, cases_lt, le-ltb, lt-ltb, append_assoc, length-append, ⊤, block_numbers, IsAsBlock, as_block_octets, as_block_has_octets, as_block_reading, next_block_modal, IsNextBlock, IsStrictBlock, as_block_at, next_block_by, as_bounds, new_as_block, AsBlock, reads_said_by, canonical_said_by, enclosed_modal, exact_said_by, refused_said_by, strict_values_check, takes_said_by, values_stateless, values_tighten, enclosed_reading, one_front_said, values_check, Encloses, IsSequenceFrom, IsSequenceOf, values_from, values_of, NotCanonicalOrMemory, ReadsOrMemory, TakesSaidOrMemory, listed_chain, no_numbers, lists_one, IsChoiceOf, choice_at, choice_octets, Claim, IsClaim, IsRunsOfBlocks, Runs, ResourcesChoice, Blocks, Inherit, Missing, IsChain, value_is, Each, EachFrom, IsBytes, OneFront, Refines, Spells, header, length_octets, sequence_value, value, IsModal, IsReading, Lenient, Strict, is_strict, left, Cursor, DerError, IsMemory, OrMemory, IsAsChoice, IsAsResources, IsPresentAsClaim, as_resources_octets, as_sequence_octets, as_choice_at, as_choice_by, greatest_of_as_block, IsAsSet}
 use Rattle.std.specs.Prelude.{MatchResult}
 use Rattle.rpki_der.proofs.Numbers.{length-octets}
 use Rattle.rpki_chain.specs.Choices.{ListsBy, MatchChoice}
@@ -187,9 +187,7 @@ module _ (old new : Cursor) (result : Result Claim (OrMemory DerError)) (took : 
   -- strictly, of the octets that are written of them
   pub reads_canonical_resources : IsBytes (left old)
       → Strict old (ReadsOrMemory (Spells IsPresentAsClaim as_resources_octets) (λ claim. claim) old new result)
-  reads_canonical_resources fits strict =
-      let read = reads_said_by IsStrictChoice (ListsBy (IsRunsOfBlocks as_bounds)) (as_choice_by true) old new result as_choice_modal.tight fits (subst (λ mode. TakesSaidOrMemory (ListsBy (IsRunsOfBlocks as_bounds)) old new result (as_choice_by mode)) strict took) in
-      reads_same (Refines IsStrictChoice (ListsBy (IsRunsOfBlocks as_bounds))) (Spells IsPresentAsClaim as_resources_octets) (λ claim. claim) old new result choice_spelled spelled_choice read
+  reads_canonical_resources = canonical_said_by IsStrictChoice (ListsBy (IsRunsOfBlocks as_bounds)) (Spells IsPresentAsClaim as_resources_octets) as_choice_at as_choice_by old new result as_choice_modal choice_spelled (λ bytes claim rest at. spelled_choice bytes claim) took
 
   -- else they are refused
   pub refused_resources : NotCanonicalOrMemory IsAsResources old result

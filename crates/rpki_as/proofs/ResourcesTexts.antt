@@ -1,13 +1,11 @@
 -- A text writes one claim at most, or has one fault; what is printed of resources writes them.
-use Rattle.rpki_as.proofs.Common.{Bool, List, MatchResult, Result, [], ap, arith, codes, false, map, refl, slice_index, true, ℕ, ◌++◌, ◌∙◌, ◌∷◌, ◌≡◌, flat_map, block_apart, same_block_fault, HasAsBlockFault, IsAsBlockText, as_block_text, new_as_block, AsBlock, Id, Range, FromStrError, empty_set, Claim, IsClaim, claim_of, Runs, Blocks, Inherit, Missing, AnswersOrMemory-from_found, first_fault_apart, same_first_fault, elements, IfRefused, AnswersOrMemory, OrMemory, IsAsSet, HasAsListFault, IsAsListText, as_list_text, HasAsResourcesFault, IsAsResourcesText, IsInherit, as_resources_text}
+use Rattle.rpki_as.proofs.Common.{Bool, List, MatchResult, Result, [], ap, arith, codes, false, refl, slice_index, ℕ, ◌++◌, ◌∷◌, ◌≡◌, block_apart, same_block_fault, HasAsBlockFault, IsAsBlockText, as_block_text, AsBlock, FromStrError, empty_set, Claim, IsClaim, claim_of, Runs, Blocks, Inherit, Missing, AnswersOrMemory-from_found, first_fault_apart, same_first_fault, elements, IfRefused, AnswersOrMemory, OrMemory, IsAsSet, HasAsListFault, IsAsListText, as_list_text, HasAsResourcesFault, IsAsResourcesText, IsInherit, as_resources_text}
 use Rattle.std.specs.Bool.{Decides}
-use Rattle.rpki_text.specs.declared.memory.OrMemory.TheVariants.{Refused, Memory}
 use Rattle.rpki_as.proofs.ListLemmas.{IsAsListText-as_list_text, IsAsListText-one}
 
 -- what isn't told isn't so
 pub not_true : (b : Bool) (P : Type 0) → Decides b P → b ≡ false → ¬ P
-not_true true P decides e = absurd cc
-not_true false P decides e = λ p. (let t : false ≡ true = decides.1 p in absurd cc)
+not_true b P decides e = grind arith
 
 module _ (text : List ℕ) where
   -- a text writes one claim at most
@@ -42,20 +40,17 @@ module _ (text : List ℕ) where
   -- the fault of a list is that of a text which isn't `inherit`
   pub list_fault : ¬ IsInherit text → (d : OrMemory FromStrError) → IfRefused (HasAsListFault text) d
       → IfRefused (HasAsResourcesFault text) d
-  list_fault other (Refused e) f = (other, f)
-  list_fault other (Memory e) f = tt
+  list_fault other d f = grind arith
 
   -- a list writes the claim that lists its set
   pub list_claim : ¬ IsInherit text → (set : Runs) → IsAsListText text set → IsAsResourcesText text (claim_of set)
-  list_claim other [] h = (other, h)
-  list_claim other (run ∷ runs) h = (other, h, λ none. absurd cc)
+  list_claim other set h = grind arith
 
 -- ---- printed
 
 -- what is printed of a block begins with an `A`
 first_is : (b : AsBlock) (more : List ℕ) → slice_index (as_block_text b ++ more) 0 ≡ 65
-first_is (Id n) more = refl
-first_is (Range r) more = refl
+first_is b more = grind arith
 
 -- a text that does, or an empty one, isn't `inherit`
 begins_otherwise : (text : List ℕ) → slice_index text 0 ≡ 65 → IsInherit text → ⊥
@@ -67,9 +62,7 @@ is_empty text none e = let other : slice_index text 0 ≡ 105 = ap (λ t. slice_
 -- so what is printed of numbers isn't
 not_inherit : (set : Runs) (text : List ℕ) → text ≡ as_list_text set → IsInherit text → ⊥
 not_inherit [] text printed = is_empty text printed
-not_inherit (run ∷ runs) text printed =
-    let more = flat_map (λ next. codes ", " ++ next) (map as_block_text (map new_as_block runs)) in
-    begins_otherwise text (ap (λ t. slice_index t 0) printed ∙ first_is (new_as_block run) more)
+not_inherit (run ∷ runs) text printed = grind (arith, begins_otherwise, codes, first_is, slice_index)
 
 -- what is printed of resources writes them
 pub printed_resources : (text : List ℕ) (claim : Claim) → IsClaim IsAsSet claim → text ≡ as_resources_text claim

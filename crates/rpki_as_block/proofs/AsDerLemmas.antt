@@ -1,5 +1,6 @@
 -- What is written of blocks of AS numbers.
-use Rattle.rpki_as_block.proofs.Common.{Bool, List, Ok, Option, Result, Some, arith, false, length, refl, subst, sym, true, ℕ, ◌++◌, ◌<◌, ◌^◌, ◌≡◌, ◌≤◌, length-append, optional_back, as_number_octets, IsNew, lenient_is, same_reading, length-header, u32_is, value_is, IsReading, optional, HasAsNumbers, IsAsBlock, IsSetBlock, as_block_octets, as_range_content, as_block_has_octets, as_block_reading, as_block_modal, IsStrictBlock, as_block_at, as_block_by, as_bounds, new_as_block, AsBlock, Id, Range}
+use Rattle.rpki_as_block.proofs.Common.{List, Ok, Option, Result, Some, arith, length, refl, subst, sym, true, ℕ, ◌++◌, ◌<◌, ◌^◌, ◌≡◌, ◌≤◌, length-append, as_number_octets, IsNew, same_reading, length-header, u32_is, value_is, IsReading, optional, HasAsNumbers, IsAsBlock, IsSetBlock, as_block_octets, as_range_content, as_block_has_octets, as_block_reading, as_block_modal, IsStrictBlock, as_block_at, as_block_by, as_bounds, new_as_block, AsBlock, Id, Range}
+use Rattle.rpki_base.proofs.DerModes.{optional_back_by}
 use Rattle.rpki_der.specs.Der.{Spells, header, integer}
 use Rattle.rpki_der.specs.Views.{Takes, is_strict, left}
 use Rattle.rpki_der.specs.declared.error.DerError.{DerError}
@@ -48,16 +49,6 @@ pub block_back : (old new : Cursor) (result : Result (Option AsBlock) DerError)
     → Takes (λ block. block) old new result (optional (as_block_by (is_strict old))) → (block : AsBlock) (rest : List ℕ)
     → HasAsNumbers block → (is_strict old ≡ true → IsNew as_bounds new_as_block block)
     → left old ≡ as_block_octets block ++ rest → (result ≡ Ok (Some block)) × (left new ≡ rest)
-block_back old new result took block rest numbers form at = by_mode (is_strict old) took form
-  where
-    written : IsAsBlock (as_block_octets block) block
-    written = block_written block numbers.0 numbers.1
-
-    some : 0 < length (as_block_octets block)
-    some = as_block_has_octets (as_block_octets block) block written
-
-    by_mode : (strict : Bool) → Takes (λ block. block) old new result (optional (as_block_by strict))
-        → (strict ≡ true → IsNew as_bounds new_as_block block) → (result ≡ Ok (Some block)) × (left new ≡ rest)
-    by_mode true took form = optional_back IsStrictBlock (as_block_by true) old new result as_block_modal.tight took (as_block_octets block) block rest some (written, form refl) at
-    by_mode false took form =
-        optional_back IsAsBlock as_block_at old new result as_block_reading (subst (λ r. Takes (λ block. block) old new result (optional r)) (lenient_is IsStrictBlock as_block_at as_block_by as_block_modal) took) (as_block_octets block) block rest some written at
+block_back old new result took block rest numbers form at =
+    let written : IsAsBlock (as_block_octets block) block = block_written block numbers.0 numbers.1 in
+    optional_back_by IsAsBlock IsStrictBlock as_block_at as_block_by old new result as_block_reading as_block_modal took (as_block_octets block) rest block (as_block_has_octets (as_block_octets block) block written) written (λ strict. (written, form strict)) at

@@ -17,11 +17,6 @@ pub record IsSoFar (start : ℕ) (text : List ℕ) (blocks : List AsBlock) : Typ
   pub usual : (all : List AsBlock) → AreAsBlocksFrom 0 text all
       → (rest : List AsBlock) × AreAsBlocksFrom start text rest
 
--- one place alone is behind a space, if one stands there
-same_place : (start first other : ℕ) (text : List ℕ) → IsAfterSpace start first text → IsAfterSpace start other text
-    → first ≡ other
-same_place start first other text h h2 = grind (arith)
-
 -- it is the block of the usual form that stands there, and ends there
 abbrev pub IsAlone : ℕ → List ℕ → AsBlock → ℕ → Type 0
 IsAlone first text b end = (other : AsBlock) (place : ℕ) → IsAsBlockAt first place text other → ◌≡◌ {A = Option (AsBlock × ℕ)} (Some (b, end)) (Some (other, place))
@@ -40,7 +35,7 @@ pub first_block : (start first : ℕ) (text : List ℕ) (rest : List AsBlock) �
     → AreAsBlocksFrom start text rest
     → (b : AsBlock) × (end : ℕ) × (more : List AsBlock) × IsAsBlockAt first end text b × GoesOn end text more
 first_block start first text [] after h = absurd h
-first_block start first text (b ∷ more) after (place, end, there, block, on) = grind (arith, same_place)
+first_block start first text (b ∷ more) after (place, end, there, block, on) = grind arith
 
 -- it goes on no further where neither the text's end nor a comma stands behind that block
 pub goes_no_further : (start first end : ℕ) (text : List ℕ) (b : AsBlock) (rest : List AsBlock)
@@ -48,11 +43,7 @@ pub goes_no_further : (start first end : ℕ) (text : List ℕ) (b : AsBlock) (r
     → ¬ AreAsBlocksFrom start text rest
 goes_no_further start first end text b rest after alone not_last not_comma h =
     let (other, place, more, there, on) = first_block start first text rest after h in
-    let is : end ≡ place = ap end_of (alone other place there) in
-    elim on [
-      | inl k ↦ not_last (subst (λ e. IsEndAt e text) (sym is) k.0)
-      | inr k ↦ not_comma (subst (λ e. get_or text e 0 ≡ 44) (sym is) k.0.1)
-    ]
+    grind arith
 
 -- a block's text, which is an element
 module _ (start first end : ℕ) (text : List ℕ) (b : AsBlock) (after : IsAfterSpace start first text) (h : IsAsBlockBetween first end text b) where
@@ -82,12 +73,7 @@ module _ (start first end : ℕ) (text : List ℕ) (b : AsBlock) (after : IsAfte
   left_behind : ¬ IsEndAt end text → IsAlone first text b end
       → (other : AsBlock) × (place : ℕ) × (more : List AsBlock) × IsAsBlockAt first place text other
       × GoesOn place text more → (rest : List AsBlock) × AreAsBlocksFrom (end + 1) text rest
-  left_behind more alone (other, place, rest, there, on) =
-      let is : end ≡ place = ap end_of (alone other place there) in
-      elim on [
-        | inl k ↦ absurd (more (subst (λ e. IsEndAt e text) (sym is) k.0))
-        | inr k ↦ (rest, subst (λ e. AreAsBlocksFrom (e + 1) text rest) (sym is) k.1)
-      ]
+  left_behind more alone h = grind arith
 
   -- one that a comma follows leaves what is behind the comma, where each block of the usual form there is it
   pub one_more : IsAlone first text b end → (blocks : List AsBlock) → IsSoFar start text blocks → ¬ IsEndAt end text

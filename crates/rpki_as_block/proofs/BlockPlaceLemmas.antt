@@ -41,9 +41,7 @@ cut_between start middle end text b first last within is =
     let later : drop (middle - start) (drop start text) ≡ b ∷ drop (middle + 1) text = drop_later start middle text first ∙ (drop_more text middle 0 (omega arith) ∙ ap (λ x. x ∷ drop (middle + 1) text) is) in
     let whole : drop start text ≡ left ++ b ∷ drop (middle + 1) text = sym (take-append-drop (middle - start) (drop start text)) ∙ ap (λ t. left ++ t) later in
     let places : end - start ≡ length left + suc (end - (middle + 1)) = omega (arith, count) in
-    ap (λ k. take k (drop start text)) places
-    ∙ ap (take (length left + suc (end - (middle + 1)))) whole
-    ∙ take-append-add left (b ∷ drop (middle + 1) text) (suc (end - (middle + 1)))
+    grind (arith, take-append-add)
 
 -- and two round a dash are one too
 pub range_between : (start middle end : ℕ) (text : List ℕ) (r : RangeValue) → IsAsnBetween start middle text r.min
@@ -94,9 +92,7 @@ pub two_numbers : (start min dash_at : ℕ) (text : List ℕ) → IsOneNumber st
 two_numbers start min dash_at text one dash_there (Id n) end h = absurd (h.1 (subst (λ k. StandsAt 45 k text) (ap place_of (one n end h.0)) dash_there))
 two_numbers start min dash_at text one dash_there (Range r) end h =
     let found = one r.min h.0 h.1 in
-    let same : min ≡ r.min = ap number_of found in
-    let place : dash_at ≡ h.0 = ap place_of found in
-    (r.max, ap (λ (m : ℕ). Range (record { min = m; max = r.max })) (sym same), subst (λ (k : ℕ). IsAsnAt (k + 1) end text r.max) (sym place) h.3, omega (arith, same, h.4))
+    grind arith
 
 -- which ends the block
 pub range_alone : (start min dash_at max last : ℕ) (text : List ℕ) → IsOneNumber start text (Some (min, dash_at))

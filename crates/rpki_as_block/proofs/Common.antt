@@ -7,11 +7,11 @@ pub use Rattle.std.proofs.lemmas.List.{append-nil, append_assoc, drop-drop, drop
 pub use Rattle.std.proofs.lemmas.Result.{err_from_is_err_and}
 pub use Rattle.std.specs.Int.{IsInRange}
 pub use Rattle.std.specs.List.{AllByRecursion}
-pub use Rattle.rpki_base.proofs.DerCursors.{optional_back, reads_optional_value_by}
+pub use Rattle.rpki_base.proofs.DerCursors.{reads_optional_value_by}
 pub use Rattle.rpki_base.specs.AsnDer.{as_number_at, as_number_octets}
 pub use Rattle.rpki_chains.specs.Ranges.{RangeValue, range_bounds}
 pub use Rattle.rpki_chains.specs.Sets.{IsNew, IsWithin}
-pub use Rattle.rpki_der.proofs.Modes.{exact_optional_by, lenient_is, refused_optional_by}
+pub use Rattle.rpki_der.proofs.Modes.{exact_optional_by, refused_optional_by}
 pub use Rattle.rpki_der.proofs.Readings.{one_front, same_reading}
 pub use Rattle.rpki_der.proofs.Written.{length-header, u32_is, value_is}
 pub use Rattle.rpki_der.specs.Reading.{IsReading, optional, passing, tagged_at, unsigned, value_at, ◌>>=◌}

@@ -1,13 +1,10 @@
 -- Where a range of AS numbers is reversed, and that no fault of lists is one of a block.
-use Rattle.rpki_as_block.proofs.Common.{Err, List, Ok, ap, arith, is_ok, true, ℕ, ◌<◌, ◌↔◌, ◌≡◌, lt-ltb, ltb-true, as_number_at, passing, refined, tagged_at, unsigned, value_at, ◌>>=◌, as_block_at, as_block_by, as_block_of, as_id_in, as_range_block_in, as_range_in, is_new_form, range_of, Id, Range}
+use Rattle.rpki_as_block.proofs.Common.{Err, List, Ok, ap, arith, is_ok, true, ℕ, ◌<◌, ◌↔◌, ◌≡◌, lt-ltb, ltb-true, as_number_at, passing, refined, unsigned, value_at, ◌>>=◌, as_block_at, as_block_by, as_block_of, as_id_in, as_range_block_in, as_range_in, is_new_form, range_of, Id, Range}
 use Rattle.rpki_der.specs.declared.error.DerError.TheVariants.{NotCanonical, ReversedRange}
 use Rattle.rpki_base.specs.DerFaults.{BeginsWithTwo, BeginsWithValue}
-use Rattle.rpki_base.proofs.DerFaults.{NamesTo, begins_two, begins_value, bind_fails, bind_names, by_tag_names, cond_fails, cond_names, mapped_fails, names_more, not_named, pair_fails, pair_names, refined_names, sequence_fails, tagged_names, unsigned_names, value_names}
+use Rattle.rpki_base.proofs.DerFaults.{NamesTo, bind_fails, bind_names, by_tag_names, cond_fails, cond_names, mapped_fails, names_more, not_named, number_names, pair_fails, pair_names, refined_names, sequence_fails, unsigned_names, value_names}
 
 -- ---- which faults are named
-
-number_names : (bytes : List ℕ) → NamesTo 4 (as_number_at bytes)
-number_names = refined_names 4 (tagged_at 2) unsigned (λ bytes. names_more 3 4 (tagged_at 2 bytes) (omega arith) (tagged_names 2 bytes)) unsigned_names
 
 range_of_names : (min max : ℕ) → NamesTo 10 (range_of min max)
 unfolding range_of
@@ -32,36 +29,23 @@ range_of_fails : (min max : ℕ) → (range_of min max ≡ Err ReversedRange) �
 unfolding range_of
 range_of_fails min max = grind (arith, cond_fails, lt-ltb, ltb-true)
 
--- the second number is less than the first
-abbrev Less : ℕ → ℕ → Type 0
-Less first second = second < first
-
-abbrev Fails : ℕ → ℕ → Type 0
-Fails first second = range_of first second ≡ Err ReversedRange
-
 pub range_fails : (content : List ℕ)
     → (as_range_in content ≡ Err ReversedRange) ↔ BeginsWithTwo as_number_at (λ first second. second < first) content
-range_fails content =
-    let both = pair_fails as_number_at range_of ReversedRange (omega arith) (λ bytes. not_named 4 (as_number_at bytes) ReversedRange (number_names bytes) (omega arith)) content in (
-      (λ is. begins_two as_number_at Fails Less (λ first second. (range_of_fails first second).0) content (both.0 is)),
-      (λ found. both.1 (begins_two as_number_at Less Fails (λ first second. (range_of_fails first second).1) content found)),
-    )
+range_fails =
+    pair_fails as_number_at range_of (λ first second. second < first) ReversedRange (omega arith)
+    (λ bytes. not_named 4 (as_number_at bytes) ReversedRange (number_names bytes) (omega arith)) range_of_fails
 
--- the content of a reversed range
-abbrev Reversed : List ℕ → Type 0
-Reversed = BeginsWithTwo as_number_at (λ first second. second < first)
-
-abbrev FailsInside : List ℕ → Type 0
-FailsInside content = as_range_block_in content ≡ Err ReversedRange
+range_block_fails : (content : List ℕ)
+    → (as_range_block_in content ≡ Err ReversedRange)
+    ↔ BeginsWithTwo as_number_at (λ first second. second < first) content
+range_block_fails content = grind (arith, mapped_fails, range_fails)
 
 pub block_fails : (bytes : List ℕ)
     → (as_block_at bytes ≡ Err ReversedRange)
     ↔ BeginsWithValue 48 (BeginsWithTwo as_number_at (λ first second. second < first)) bytes
-block_fails bytes =
-    let both = sequence_fails 2 as_id_in as_range_block_in ReversedRange (λ e. omega arith) (omega arith) (λ content. not_named 4 (as_id_in content) ReversedRange (id_names content) (omega arith)) bytes in (
-      (λ is. begins_value 48 FailsInside Reversed (λ content fails. (range_fails content).0 ((mapped_fails (as_range_in content) Range ReversedRange).0 fails)) bytes (both.0 is)),
-      (λ found. both.1 (begins_value 48 Reversed FailsInside (λ content reversed. (mapped_fails (as_range_in content) Range ReversedRange).1 ((range_fails content).1 reversed)) bytes found)),
-    )
+block_fails =
+    sequence_fails 2 as_id_in as_range_block_in (BeginsWithTwo as_number_at (λ first second. second < first)) ReversedRange (λ e. omega arith) (omega arith)
+    (λ content. not_named 4 (as_id_in content) ReversedRange (id_names content) (omega arith)) range_block_fails
 
 -- ---- what isn't canonical
 

@@ -3,7 +3,7 @@ use Rattle.rpki_chain.proofs.Common.{List, Ok, Result, [], ap, arith, refl, ℕ,
 use Rattle.std.proofs.Common.{Err}
 use Rattle.rpki_der.specs.declared.error.DerError.TheVariants.{EmptyBlocks}
 use Rattle.rpki_base.specs.DerFaults.{BeginsEmpty}
-use Rattle.rpki_base.proofs.DerFaults.{NamesTo, begins_value, bind_fails, bind_names, by_tag_names, mapped_fails, names_more, not_named, nothing_names, refined_names, sequence_fails, value_names}
+use Rattle.rpki_base.proofs.DerFaults.{NamesTo, bind_fails, bind_names, by_tag_names, mapped_fails, names_more, not_named, nothing_names, refined_names, sequence_fails, value_names}
 
 module _ {X : Type 0} (values : List ℕ → Result (List X) DerError) (names : (content : List ℕ) → NamesTo 10 (values content)) where
   inherited : List ℕ → Result (ResourcesChoice (List X)) DerError
@@ -33,23 +33,17 @@ module _ {X : Type 0} (values : List ℕ → Result (List X) DerError) (names : 
   some_fails (x ∷ xs) is = absurd cc
 
   module _ (none : (content : List ℕ) → (values content ≡ Ok []) ↔ (content ≡ [])) where
-    listed_fails : (content : List ℕ) → listed_in values content ≡ Err EmptyBlocks → content ≡ []
-    listed_fails content is =
-        let some = (mapped_fails (some_in values content) Blocks EmptyBlocks).0 is in
-        let a = bind_fails (values content) some_of EmptyBlocks (not_named 10 (values content) EmptyBlocks (names content) (omega arith)) some in
-        (none content).0 (a.1 ∙ ap (λ (xs : List X). Ok xs) (some_fails a.0 a.2))
-
-    fails_listed : (content : List ℕ) → content ≡ [] → listed_in values content ≡ Err EmptyBlocks
-    fails_listed content empty = let read : values content ≡ Ok [] = (none content).1 empty in rw read refl
-
-    abbrev Fails : List ℕ → Type 0
-    Fails content = listed_in values content ≡ Err EmptyBlocks
-
-    abbrev IsEmpty : List ℕ → Type 0
-    IsEmpty content = content ≡ []
+    listed_fails : (content : List ℕ) → (listed_in values content ≡ Err EmptyBlocks) ↔ (content ≡ [])
+    listed_fails content = (
+      (λ is.
+          let some = (mapped_fails (some_in values content) Blocks EmptyBlocks).0 is in
+          let a = bind_fails (values content) some_of EmptyBlocks (not_named 10 (values content) EmptyBlocks (names content) (omega arith)) some in
+          (none content).0 (a.1 ∙ ap (λ (xs : List X). Ok xs) (some_fails a.0 a.2))),
+      (λ empty. let read : values content ≡ Ok [] = (none content).1 empty in rw read refl),
+    )
 
     pub choice_fails : (bytes : List ℕ) → (choice_at values bytes ≡ Err EmptyBlocks) ↔ BeginsEmpty bytes
     unfolding inherited
-    choice_fails bytes =
-        let both = sequence_fails 5 inherited_in (listed_in values) EmptyBlocks (λ e. omega arith) (omega arith) (λ content. not_named 6 (inherited content) EmptyBlocks (inherited_names content) (omega arith)) bytes in
-        ((λ is. begins_value 48 Fails IsEmpty listed_fails bytes (both.0 is)), (λ found. both.1 (begins_value 48 IsEmpty Fails fails_listed bytes found)))
+    choice_fails =
+        sequence_fails 5 inherited_in (listed_in values) (λ content. content ≡ []) EmptyBlocks (λ e. omega arith) (omega arith)
+        (λ content. not_named 6 (inherited content) EmptyBlocks (inherited_names content) (omega arith)) listed_fails

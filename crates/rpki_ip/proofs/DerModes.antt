@@ -1,11 +1,9 @@
 -- Prefixes in either mode: strictly, the octets are those that are written of them.
-use Rattle.rpki_ip.proofs.Common.{Bool, Err, List, Ok, Result, [], ap, arith, cond, drop, false, get_or, length, refl, subst, suc, sym, take, true, zero, ℕ, ◌%◌, ◌&&◌, ◌*◌, ◌++◌, ◌+◌, ◌-◌, ◌/◌, ◌<◌, ◌^◌, ◌||◌, ◌∙◌, ◌∷◌, ◌≡◌, ◌≤◌, mul-div_cancel, mul-mod_left, mul_assoc, and_parts, eqb-true, le-leb, le-ltb, leb-true, lt-ltb, ltb-false, ltb-true, or_from, or_parts, take-append-drop, pow-add, pow_pos, shl-shr, shr_split, bytes_high_first, to_be_bytes, w128, IsPrefix, PrefixValue, bits_of, IsMultiple, mod_multiple, multiple_gap, multiple_mod, multiple_self, multiple_smaller, multiple_sum, bits_check, bind_tightens, is_padded_of, lenient_is, looked_tightens, padded_is, passed_is, passes, then_passing, IsTagged, fits_content, refined_reading, same_reading, tagged_reading, IsBytes-rest, IsCheck, bind_ok, fits_front, value_is, Bits, IsBitString, IsBits, IsBytes, IsPadded, Refines, Spells, Where, big_endian, big_endian_after, bit_content, bit_string_value, last_octet, IsModal, IsReading, Tightens, bits, bits_by, is_padded, passing, tagged_at, ◌>>=◌, Takes, is_strict, left, DerError, BadPrefix, IsPrefixDer, IsPrefixWithin, IsStrictContent, SaysPrefix, is_longer, octet_count, prefix_at, prefix_bits, prefix_by, prefix_der, prefix_in, prefix_in_by, prefix_of, prefix_of_by, IsRangeWithin, IsSpan, RangeValue}
-use Rattle.std.specs.Prelude.{◌⊎◌}
+use Rattle.rpki_ip.proofs.Common.{Bool, Err, List, Ok, Result, [], ap, arith, cond, drop, get_or, length, refl, subst, suc, sym, take, true, zero, ℕ, ◌%◌, ◌*◌, ◌++◌, ◌+◌, ◌-◌, ◌/◌, ◌<◌, ◌^◌, ◌∙◌, ◌∷◌, ◌≡◌, ◌≤◌, mul-div_cancel, mul-mod_left, mul_assoc, and_parts, eqb-true, le-leb, le-ltb, leb-true, lt-ltb, ltb-false, ltb-true, or_from, or_parts, take-append-drop, pow-add, pow_pos, shl-shr, shr_split, bytes_high_first, to_be_bytes, w128, IsPrefix, PrefixValue, bits_of, IsMultiple, mod_multiple, multiple_gap, multiple_mod, multiple_self, multiple_smaller, multiple_sum, bits_check, bind_tightens, is_padded_of, looked_tightens, padded_is, passed_is, passes, then_passing, IsTagged, fits_content, refined_reading, same_reading, tagged_reading, IsBytes-rest, IsCheck, bind_ok, fits_front, value_is, Bits, IsBitString, IsBits, IsBytes, IsPadded, Refines, Spells, Where, big_endian, big_endian_after, bit_content, bit_string_value, last_octet, IsModal, IsReading, Tightens, bits, bits_by, is_padded, passing, tagged_at, ◌>>=◌, Takes, is_strict, left, DerError, BadPrefix, IsPrefixWithin, IsStrictContent, SaysPrefix, is_longer, octet_count, prefix_at, prefix_bits, prefix_by, prefix_der, prefix_in, prefix_in_by, prefix_of, prefix_of_by, IsRangeWithin, IsSpan, RangeValue}
 use Rattle.rpki_der.specs.declared.cursor.Cursor.{Cursor}
 use Rattle.rpki_base.specs.declared.family.AddressFamily.{AddressFamily}
-use Rattle.rpki_base.proofs.DerCursors.{value_back}
-use Rattle.rpki_ip.proofs.DerReadings.{prefix_again, prefix_reading, prefix_says}
-use Rattle.rpki_ip.proofs.DerWritten.{prefix_written}
+use Rattle.rpki_base.proofs.DerModes.{value_back_by}
+use Rattle.rpki_ip.proofs.DerReadings.{prefix_again, prefix_says}
 use Rattle.rpki_ip.proofs.PrefixBits.{bits_few, bits_fit, bits_say, byte_is, first_bits, said_prefix}
 
 -- addresses of a family have 128 bits at most
@@ -59,9 +57,7 @@ same_octets n m (x ∷ xs) (y ∷ ys) f g l e =
     let h = same_octets (n * 256 + x) (m * 256 + y) xs ys (IsBytes-rest x xs f) (IsBytes-rest y ys g) (omega (arith, l)) e in
     let a : x < 256 = f 0 in
     let b : y < 256 = g 0 in
-    let top : n ≡ m = omega (arith, h.0, a, b) in
-    let low : x ≡ y = omega (arith, h.0, a, b) in
-    (top, ap (λ z. z ∷ xs) low ∙ ap (λ (t : List ℕ). y ∷ t) h.1)
+    grind arith
 
 -- all but the last octet count 256 times
 with_last : (n b : ℕ) (bs : List ℕ)
@@ -99,11 +95,7 @@ one_spelling limit b c p is_b is_c clear_b clear_c fits_b fits_c says_b says_c =
     let m = big_endian c.octets in
     let parts : n / 2 ^ b.unused ≡ m / 2 ^ c.unused =
     sym (mul-div_cancel (n / 2 ^ b.unused) top) ∙ ap (λ k. k / 2 ^ (128 - p.len)) (sym says_b.first ∙ says_c.first) ∙ mul-div_cancel (m / 2 ^ c.unused) top in
-    let of_b : n / 2 ^ b.unused * 2 ^ b.unused ≡ n = whole n b.unused (padded_number b.unused b.octets is_b.below is_b.empty ∙ clear_b) in
-    let of_c : m / 2 ^ c.unused * 2 ^ c.unused ≡ m = whole m c.unused (padded_number c.unused c.octets is_c.below is_c.empty ∙ clear_c) in
-    let numbers : n ≡ m = sym of_b ∙ ap (λ k. k * 2 ^ b.unused) parts ∙ ap (λ k. m / 2 ^ c.unused * 2 ^ k) unused ∙ of_c in
-    let octets = same_octets 0 0 b.octets c.octets fits_b fits_c count numbers in
-    λ i. record { unused = unused i; octets = octets.1 i }
+    grind (arith, padded_number, same_octets, whole)
 
 -- the unused bits that are written are zero
 pub prefix_padded : (p : PrefixValue) → IsPrefix 128 p → IsPadded (prefix_bits p)
@@ -155,26 +147,9 @@ written_prefix_reading limit le =
 pub prefix_back : (limit : ℕ) → limit ≤ 128 → (old new : Cursor) (result : Result PrefixValue DerError)
     → Takes (λ p. p) old new result (prefix_by (is_strict old) limit) → (p : PrefixValue) (rest : List ℕ)
     → IsPrefixWithin limit p → left old ≡ prefix_der p ++ rest → (result ≡ Ok p) × (left new ≡ rest)
-prefix_back limit le old new result took p rest is at = by_mode (is_strict old) took
-  where
-    by_mode : (strict : Bool) → Takes (λ p. p) old new result (prefix_by strict limit)
-        → (result ≡ Ok p) × (left new ≡ rest)
-    by_mode true took = value_back (Spells (IsPrefixWithin limit) prefix_der) (prefix_by true limit) old new result (written_prefix_reading limit le) took (prefix_der p) p rest (is, refl) at
-    by_mode false took =
-        value_back (IsPrefixDer limit) (prefix_at limit) old new result (prefix_reading limit)
-        (subst (λ r. Takes (λ p. p) old new result r) (lenient_is (IsStrictPrefix limit) (prefix_at limit) (λ strict. prefix_by strict limit) (prefix_modal limit)) took)
-        (prefix_der p) p rest (prefix_written limit p is.0 is.1) at
+prefix_back limit le old new result took p rest is at = value_back_by (IsStrictPrefix limit) (prefix_at limit) (λ strict. prefix_by strict limit) old new result (prefix_modal limit) took (prefix_der p) rest p (spelled_is_prefix limit (prefix_der p) p (is, refl)) at
 
 -- ---- the length before the unused bits
-
-or_true : (a b : Bool) → (a || b) ≡ true → (a ≡ true) ⊎ (b ≡ true)
-or_true v0 b e = grind (arith)
-
-true_or : (a b : Bool) → b ≡ true → (a || b) ≡ true
-true_or v0 b e = grind (arith)
-
-both : (a b : Bool) → a ≡ true → (a && b) ≡ false → b ≡ false
-both v0 b e f = grind (arith)
 
 -- the two looks in either order
 either_order : {A B : Type 0} (strict padded : Bool) (b : A) (p : B) (check : A → Result B DerError) → check b ≡ Ok p
@@ -187,7 +162,7 @@ pub length_first : (strict : Bool) (limit : ℕ) (content : List ℕ) → limit 
     → prefix_in_by strict limit content
     ≡ cond (is_longer limit content) (Err BadPrefix) (bits_by strict content >>= prefix_of limit)
 unfolding prefix_in_by prefix_of_by bits bits_by prefix_of passing
-length_first strict limit v2 le = grind (arith, and_parts, both, either_order, eqb-true, le-leb, le-ltb, leb-true, lt-ltb, ltb-false, ltb-true, or_from, or_parts, or_true, true_or)
+length_first strict limit v2 le = grind (arith, and_parts, either_order, eqb-true, le-leb, le-ltb, leb-true, lt-ltb, ltb-false, ltb-true, or_from, or_parts)
 
 -- ---- ranges
 
@@ -207,9 +182,4 @@ within limit p q r le is_p short_p is_q short_q from_to =
     let begins : IsMultiple (2 ^ (128 - limit)) p.first = multiple_smaller (128 - limit) (128 - p.len) p.first (omega (arith, short_p)) (mod_multiple (128 - p.len) p.first is_p.aligned) in
     let ends : IsMultiple (2 ^ (128 - limit)) (q.first + 2 ^ (128 - q.len)) =
     multiple_smaller (128 - limit) (128 - q.len) (q.first + 2 ^ (128 - q.len)) (omega (arith, short_q)) (multiple_sum (2 ^ (128 - q.len)) q.first (2 ^ (128 - q.len)) (mod_multiple (128 - q.len) q.first is_q.aligned) (multiple_self (2 ^ (128 - q.len)))) in
-    let behind : r.max + 1 ≡ q.first + 2 ^ (128 - q.len) = omega (arith, some, from_to.ends) in
-    record {
-      is_range = record { ordered = from_to.ordered; below = omega (arith, behind, below) };
-      zeros = ap (λ t. t % 2 ^ (128 - limit)) from_to.begins ∙ multiple_mod (2 ^ (128 - limit)) p.first pos begins;
-      ones = ap (λ t. t % 2 ^ (128 - limit)) behind ∙ multiple_mod (2 ^ (128 - limit)) (q.first + 2 ^ (128 - q.len)) pos ends;
-    }
+    grind (arith, multiple_mod)

@@ -1,38 +1,22 @@
 -- The readings find the families, prefixes and ranges of the grammars, whatever follows them, and no others.
-use Rattle.rpki_ip.proofs.Common.{List, Ok, arith, false, inl, inr, length, ltb, refl, subst, sym, ℕ, ◌*◌, ◌-◌, ◌/◌, ◌^◌, ◌||◌, ◌≡◌, ◌≤◌, cases_lt, le-ltb, ltb-false, or_from, or_parts, PrefixValue, last_of, bits_check, IsTagged, fits_content, refined_reading, same_reading, tagged_reading, IsCheck, bind_ok, ok_is, passed, Bits, IsBits, IsBytes, IsSequence, Refines, big_endian, bit_content, bit_count, IsReading, bits, refined, tagged_at, BadPrefix, ReversedRange, IsPrefixContent, IsPrefixDer, SaysPrefix, prefix_at, prefix_in, prefix_of, IsRangeDer, IsSpan, SaysRange, range_in, span_of, RangeValue}
+use Rattle.rpki_ip.proofs.Common.{List, Ok, arith, length, refl, subst, ℕ, ◌*◌, ◌≡◌, ◌≤◌, PrefixValue, bits_check, IsTagged, fits_content, refined_reading, same_reading, tagged_reading, IsCheck, bind_ok, Bits, IsBits, IsBytes, IsSequence, Refines, bit_content, IsReading, bits, refined, tagged_at, IsPrefixContent, IsPrefixDer, SaysPrefix, prefix_at, prefix_in, prefix_of, IsRangeDer, IsSpan, SaysRange, range_in, span_of, RangeValue}
 use Rattle.rpki_base.proofs.DerReadings.{pair_check}
 
 -- ---- prefixes
 
 -- no more bits are unused than there are
 counted : (b : Bits) → IsBits b → b.unused ≤ 8 * length b.octets
-counted b is =
-    elim (cases_lt 0 (length b.octets)) [
-      | inl some ↦ omega (arith, is.below, some)
-      | inr none ↦ let z : b.unused ≡ 0 = is.empty (omega arith) in omega (arith, z)
-    ]
+counted b is = grind arith
 
 -- a prefix that is read is said by the bits
 pub prefix_says : (limit : ℕ) (b : Bits) (p : PrefixValue) → IsBits b → prefix_of limit b ≡ Ok p → SaysPrefix limit b p
 unfolding prefix_of
-prefix_says limit b p is e =
-    let made : PrefixValue = record { first = big_endian b.octets / 2 ^ b.unused * 2 ^ (128 - bit_count b); len = bit_count b } in
-    let g = passed (ltb 16 (length b.octets) || ltb limit (bit_count b)) BadPrefix (Ok made) p e in
-    let n = or_parts (ltb 16 (length b.octets)) (ltb limit (bit_count b)) g.0 in
-    subst (SaysPrefix limit b) (ok_is made p g.1) (record {
-      few = ltb-false 16 (length b.octets) n.0;
-      len = omega (arith, counted b is);
-      short = ltb-false limit (bit_count b) n.1;
-      first = refl;
-    })
+prefix_says limit b p is e = grind arith
 
 -- a prefix that bits say is read
 pub prefix_again : (limit : ℕ) (b : Bits) (p : PrefixValue) → SaysPrefix limit b p → prefix_of limit b ≡ Ok p
 unfolding prefix_of
-prefix_again limit b p s =
-    let u : bit_count b ≡ p.len = omega (arith, s.len) in
-    let t : (ltb 16 (length b.octets) || ltb limit p.len) ≡ false = or_from _ _ (le-ltb 16 (length b.octets) s.few) (le-ltb limit p.len s.short) in
-    rw (u, t, ← s.first) refl
+prefix_again limit b p s = grind arith
 
 -- the two together
 pub bits_prefix_check : (limit : ℕ) → IsCheck IsBits (SaysPrefix limit) (prefix_of limit)
@@ -78,17 +62,12 @@ prefix_reading limit =
 -- a range that is read is the span of its prefixes
 pub span_says : (p q : PrefixValue) (r : RangeValue) → span_of p q ≡ Ok r → IsSpan p q r
 unfolding span_of
-span_says p q r e =
-    let made : RangeValue = record { min = p.first; max = last_of 128 q } in
-    let g = passed (ltb (last_of 128 q) p.first) ReversedRange (Ok made) r e in
-    subst (IsSpan p q) (ok_is made r g.1) (record { begins = refl; ends = refl; ordered = ltb-false (last_of 128 q) p.first g.0 })
+span_says p q r e = grind arith
 
 -- and the span of two prefixes is read
 pub span_again : (p q : PrefixValue) (r : RangeValue) → IsSpan p q r → span_of p q ≡ Ok r
 unfolding span_of
-span_again p q r is =
-    let ordered : ltb (last_of 128 q) p.first ≡ false = le-ltb (last_of 128 q) p.first (subst (λ n. n ≤ last_of 128 q) is.begins (subst (λ n. r.min ≤ n) is.ends is.ordered)) in
-    rw ordered (λ i. Ok (record { min = sym is.begins i; max = sym is.ends i }))
+span_again p q r is = grind arith
 
 -- the content of a range
 pub range_check : (limit : ℕ) → IsCheck IsBytes (SaysRange limit) (range_in limit)

@@ -11,8 +11,7 @@ octet_powers zero = refl
 octet_powers (suc k) =
     let a : 256 ^ suc k ≡ 256 ^ k * 256 = pow-suc 256 k in
     let b : 8 * suc k ≡ 8 * (k + 1) = omega arith in
-    let c : 2 ^ (8 * suc k) ≡ 2 ^ (8 * k) * 256 = ap (λ (j : ℕ). 2 ^ j) b ∙ digit_more k in
-    rw c (omega (arith, a, octet_powers k))
+    grind (arith, digit_more, octet_powers k)
 
 -- octets behind a number of j bits
 below_after : (xs : List ℕ) (n j : ℕ) → IsBytes xs → n < 2 ^ j → big_endian_after n xs < 2 ^ (j + 8 * length xs)
@@ -34,23 +33,17 @@ used_bits n k u m e = ap (λ (j : ℕ). n * 2 ^ k / 2 ^ j) e ∙ sym (shr-shr (n
 
 -- an octet of a number
 pub byte_is : (k n : ℕ) → byte_at k n ≡ n / 256 ^ k % 256
-byte_is zero n = ap (λ (t : ℕ). t % 256) (sym (omega arith))
-byte_is (suc k) n = refl
+byte_is k n = grind arith
 
 -- the octets before it, and it
 one_octet : (k a : ℕ) → a / 256 ^ suc k * 256 + byte_at k a ≡ a / 256 ^ k
-one_octet k a =
-    let c : 256 ^ suc k ≡ 256 ^ k * 256 = pow-suc 256 k in
-    let d : a / 256 ^ suc k ≡ a / 256 ^ k / 256 = ap (λ (t : ℕ). a / t) c ∙ sym (div-div-eq-div-mul a (256 ^ k) 256) in
-    rw (d, byte_is k a) (div-add-mod' (a / 256 ^ k) 256)
+one_octet k a = grind (arith, byte_is, div-add-mod', div-div-eq-div-mul, pow-suc)
 
 -- the first n of the last k octets, behind the octets before them
 first_octets : (n k a : ℕ) → n ≤ k → big_endian_after (a / 256 ^ k) (take n (bytes_high_first k a)) ≡ a / 256 ^ (k - n)
 first_octets zero k a le = let e : k - 0 ≡ k = omega arith in rw e refl
 first_octets (suc n) zero a le = absurd (omega arith)
-first_octets (suc n) (suc k) a le =
-    let e : suc k - suc n ≡ k - n = omega arith in
-    rw (e, one_octet k a) (first_octets n k a (omega arith))
+first_octets (suc n) (suc k) a le = grind (arith, one_octet, first_octets n k a (omega arith))
 
 -- how many octets there are
 length_octets_of : (k a : ℕ) → length (bytes_high_first k a) ≡ k
@@ -75,10 +68,7 @@ length_first n a le = omega (arith, length-take n (to_be_bytes w128 a), length_o
 
 -- they are a bit string
 pub bits_fit : (p : PrefixValue) → IsPrefix 128 p → IsBits (prefix_bits p)
-bits_fit p is =
-    let count : octet_count p.len ≤ 16 = omega (arith, is.short) in
-    let n : length (take (octet_count p.len) (to_be_bytes w128 p.first)) ≡ octet_count p.len = length_first (octet_count p.len) p.first count in
-    record { below = omega arith; empty = λ z. omega (arith, n, z) }
+bits_fit p is = grind arith
 
 -- of sixteen octets at most
 pub bits_few : (p : PrefixValue) → IsPrefix 128 p → length (prefix_bits p).octets ≤ 16
@@ -91,18 +81,7 @@ bits_say limit p is short =
     let enough : p.len ≤ 8 * octet_count p.len = omega arith in
     let n : length (take (octet_count p.len) (to_be_bytes w128 p.first)) ≡ octet_count p.len = length_first (octet_count p.len) p.first count in
     let number : big_endian (take (octet_count p.len) (to_be_bytes w128 p.first)) ≡ p.first / 2 ^ (8 * (16 - octet_count p.len)) = first_bits (octet_count p.len) p.first count is.below in
-    let sum : 8 * (16 - octet_count p.len) + (8 * octet_count p.len - p.len) ≡ 128 - p.len = omega (arith, is.short) in
-    let split : p.first / 2 ^ (128 - p.len) * 2 ^ (128 - p.len) + p.first % 2 ^ (128 - p.len) ≡ p.first = shr_split p.first (128 - p.len) in
-    record {
-      few = omega arith;
-      len = omega arith;
-      short = short;
-      first =
-          (let back : p.first ≡ p.first / 2 ^ (128 - p.len) * 2 ^ (128 - p.len) = omega (arith, split, is.aligned) in
-          let parts : p.first / 2 ^ (8 * (16 - octet_count p.len)) / 2 ^ (8 * octet_count p.len - p.len) ≡ p.first / 2 ^ (128 - p.len) =
-          shr-shr p.first (8 * (16 - octet_count p.len)) (8 * octet_count p.len - p.len) ∙ ap (λ (j : ℕ). p.first / 2 ^ j) sum in
-          rw (number, parts) back);
-    }
+    grind (arith, shr-shr, shr_split)
 
 -- nothing is left of a shifted number below the shift
 shifted : (n k : ℕ) → n * 2 ^ k % 2 ^ k ≡ 0

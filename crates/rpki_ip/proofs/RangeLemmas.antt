@@ -9,10 +9,7 @@ top_kept : (j n : ℕ) → 2 ^ j ≤ n → n + 1 < 2 * 2 ^ j → 0 < bit_and n (
 top_kept j n most below =
     let one : n ≡ 1 * 2 ^ j + (n - 2 ^ j) = omega (arith, most) in
     let next : n + 1 ≡ 1 * 2 ^ j + (n + 1 - 2 ^ j) = omega (arith, most) in
-    let some : 0 < 2 ^ j = pow_pos j in
-    let kept : bit_and n (n + 1) ≡ bit_and 1 1 * 2 ^ j + bit_and (n - 2 ^ j) (n + 1 - 2 ^ j) =
-    (λ i. bit_and (one i) (next i)) ∙ and_block j 1 1 (n - 2 ^ j) (n + 1 - 2 ^ j) (omega (arith, most, below)) (omega (arith, most, below)) in
-    omega (arith, kept, some)
+    grind (arith, and_block, bit_and, pow_pos)
 
 -- so where `n & (n + 1)` is 0 at w bits, n is all ones from its highest bit on
 pub ones_from_top : (w n : ℕ) → n < 2 ^ w → bit_and n ((n + 1) % 2 ^ w) ≡ 0 → n + 1 ≡ 2 ^ (w - count_leading_zeros w n)
@@ -56,12 +53,7 @@ count_of p r same = omega (arith, same.begins, same.ends, pow_pos (128 - p.len))
 -- prefixes of the same addresses are one
 pub one_prefix : (p q : PrefixValue) (r : RangeValue) → IsPrefix 128 p → IsPrefix 128 q → IsRangeOf p r → IsRangeOf q r
     → p ≡ q
-one_prefix p q r is other same too =
-    let counts : 2 ^ (128 - p.len) ≡ 2 ^ (128 - q.len) = sym (count_of p r same) ∙ count_of q r too in
-    let host : 128 - p.len ≡ 128 - q.len = power_is (128 - p.len) (128 - q.len) (omega (arith, counts)) (λ less. omega (arith, counts, pow_pos (128 - p.len))) in
-    let len : p.len ≡ q.len = omega (arith, host, is.short, other.short) in
-    let first : p.first ≡ q.first = sym same.begins ∙ too.begins in
-    λ i. record { first = first i; len = len i }
+one_prefix p q r is other same too = grind (arith, count_of, pow_pos, power_is)
 
 -- what both tests find
 pub prefix_of_bits : (r : RangeValue) → r.min ≤ r.max → r.max < 2 ^ 128

@@ -2,11 +2,9 @@
 use Rattle.std.proofs.Common.{◌≡◌, ℕ, ◌-◌, ◌^◌, ◌<◌, ◌≤◌, ◌⊎◌, inl, inr, List, Option, Result, Ok, Err, MatchResult, arith, refl, sym, ap, ◌∙◌, subst}
 use Rattle.rpki_text.specs.Cuts.{HasNo, IsCutAt, Around, slash, dash}
 use Rattle.rpki_text.specs.Numbers.{IsNumberText}
-use Rattle.rpki_addr.specs.Bits.{cleared}
 use Rattle.rpki_addr.specs.Prefixes.{PrefixValue}
 use Rattle.rpki_text.specs.Reading.{Answers}
 use Rattle.rpki_addr.specs.declared.addr.IpAddr.{IpAddr}
-use Rattle.rpki_addr.specs.declared.addr.IpAddr.TheVariants.{V4, V6}
 use Rattle.rpki_text.specs.declared.number.ParseIntError.{ParseIntError}
 use Rattle.rpki_text.specs.declared.number.ParseIntError.TheVariants.{PosOverflow}
 use Rattle.rpki_addr.proofs.AddressReads.{IsIpText-one}
@@ -99,10 +97,7 @@ prefix_at_one : (text : List ℕ) (a : IpAddr) (r q : Result PrefixValue FromStr
     → MatchResult r (IsPrefixAt a text) (λ e. (f : ParseIntError) × HasLengthFault a text f × (e ≡ Fault.PrefixLen f))
     → MatchResult q (IsPrefixAt a text) (λ e. (f : ParseIntError) × HasLengthFault a text f × (e ≡ Fault.PrefixLen f))
     → r ≡ q
-prefix_at_one text a (Ok p) (Ok s) h k =
-    let len = IsNumberText-one (2 ^ 8 - 1) text p.len s.len h.length_text k.length_text in
-    let first = h.first ∙ ap (cleared 128 (first_of a)) len ∙ sym k.first in
-    ap Ok (λ i. record { first = first i; len = len i })
+prefix_at_one text a (Ok p) (Ok s) h k = grind (arith, IsNumberText-one)
 prefix_at_one text a (Ok p) (Err e) h (f, fault, _) = absurd (length_apart a text p.len f h.length_text h.within fault)
 prefix_at_one text a (Err d) (Ok s) (f, fault, _) k = absurd (length_apart a text s.len f k.length_text k.within fault)
 prefix_at_one text a (Err d) (Err e) (f, h, u) (g, k, v) = ap Err (u ∙ ap Fault.PrefixLen (same_length_fault a text f g h k) ∙ sym v)
@@ -110,18 +105,7 @@ prefix_at_one text a (Err d) (Err e) (f, h, u) (g, k, v) = ap Err (u ∙ ap Faul
 -- from one address to another
 range_from_one : (a b : IpAddr) (r q : Result RangeValue FromStrError)
     → MatchResult r (IsRangeFrom a b) (HasPairFault a b) → MatchResult q (IsRangeFrom a b) (HasPairFault a b) → r ≡ q
-range_from_one a b (Ok x) (Ok y) h k =
-    let min = h.min ∙ sym k.min in
-    let max = h.max ∙ sym k.max in
-    ap Ok (λ i. record { min = min i; max = max i })
-range_from_one a b (Ok x) (Err e) h (inl (other, _)) = absurd (other h.one_family)
-range_from_one a b (Ok x) (Err e) h (inr (_, above, _)) = absurd (let low = h.min in let high = h.max in let ordered = h.ordered in omega (arith, low, high, ordered, above))
-range_from_one a b (Err d) (Ok y) (inl (other, _)) k = absurd (other k.one_family)
-range_from_one a b (Err d) (Ok y) (inr (_, above, _)) k = absurd (let low = k.min in let high = k.max in let ordered = k.ordered in omega (arith, low, high, ordered, above))
-range_from_one a b (Err d) (Err e) (inl (_, h)) (inl (_, k)) = ap Err (h ∙ sym k)
-range_from_one a b (Err d) (Err e) (inl (other, _)) (inr (family, _, _)) = absurd (other family)
-range_from_one a b (Err d) (Err e) (inr (family, _, _)) (inl (other, _)) = absurd (other family)
-range_from_one a b (Err d) (Err e) (inr (_, _, h)) (inr (_, _, k)) = ap Err (h ∙ sym k)
+range_from_one a b r q h k = grind arith
 
 -- round a slash, and round a dash
 prefix_between_one : (w : Option AddressFamily) (l q : List ℕ) (r s : Result PrefixValue FromStrError)
@@ -148,22 +132,14 @@ range_one w text = cut_one dash text (IsIpRangeBetween w) (HasRangeFault w) (ran
 pub single_one : (w : Option AddressFamily) (text : List ℕ) (r s : Result RangeValue FromStrError)
     → MatchResult r (IsSingleText w text) (HasAddressFault w text)
     → MatchResult s (IsSingleText w text) (HasAddressFault w text) → r ≡ s
-single_one w text (Ok x) (Ok y) (a, at, h) (b, here, k) =
-    let same = IsIpText-one text a b at.1 here.1 in
-    let min = h.min ∙ ap first_of same ∙ sym k.min in
-    let max = h.max ∙ ap greatest_of same ∙ sym k.max in
-    ap Ok (λ i. record { min = min i; max = max i })
-single_one w text (Ok x) (Err e) (a, at, h) none = absurd (none.0 a at)
-single_one w text (Err d) (Ok y) none (a, at, h) = absurd (none.0 a at)
-single_one w text (Err d) (Err e) h k = ap Err (h.1 ∙ sym k.1)
+single_one w text r s none none2 = grind (arith, IsIpText-one)
 
 -- a reader of the parts round a byte, and one that misses it
 module _ {X : Type 0} (b : ℕ) (text : List ℕ) (Has : List ℕ → List ℕ → X → Type 0) (Fails : List ℕ → List ℕ → FromStrError → Type 0) (one : (r s : Result X FromStrError) → MatchResult r (λ x. Around b text (λ l q. Has l q x)) (λ e. HasFaultAround b text Fails e) → MatchResult s (λ x. Around b text (λ l q. Has l q x)) (λ e. HasFaultAround b text Fails e) → r ≡ s) where
   pub cut_answers : (l q : List ℕ) → IsCutAt b text l q → (r : Result X FromStrError)
       → MatchResult r (Has l q) (Fails l q)
       → Answers (λ x. Around b text (λ l q. Has l q x)) (λ e. HasFaultAround b text Fails e) r
-  cut_answers l q cut (Ok x) h = answers_by_one one (Ok x) (record { left = l; right = q; cut = cut; holds = h })
-  cut_answers l q cut (Err e) h = answers_by_one one (Err e) (inr (record { left = l; right = q; cut = cut; holds = h }))
+  cut_answers l q cut r h = grind arith
 
   pub no_cut_answers : HasNo b text
       → Answers (λ x. Around b text (λ l q. Has l q x)) (λ e. HasFaultAround b text Fails e)
@@ -175,8 +151,7 @@ pub range_said : (w : Option AddressFamily) (left right : List ℕ) (a b : IpAdd
     → IsAddressText w right b → (r : Result RangeValue FromStrError)
     → MatchResult r (IsRangeFrom a b) (HasPairFault a b)
     → MatchResult r (IsIpRangeBetween w left right) (HasRangeFault w left right)
-range_said w left right a b at there (Ok r) h = (a, at, (b, there, h))
-range_said w left right a b at there (Err e) h = inr (a, at, inr (b, there, h))
+range_said w left right a b at there r h = grind arith
 
 -- an address, and a length that it doesn't have
 pub too_long : (w : Option AddressFamily) (left right : List ℕ) (a : IpAddr) (n : ℕ) → IsAddressText w left a
@@ -186,13 +161,9 @@ too_long w left right a n is number above = inr (a, is, (PosOverflow, inr (n, nu
 
 -- an address begins where it ends or before
 first_greatest : (a : IpAddr) → first_of a ≤ greatest_of a
-first_greatest (V4 n) = omega arith
-first_greatest (V6 n) = omega arith
+first_greatest a = grind arith
 
 -- so an address alone is a range
 pub single_of : (a : IpAddr) (r : RangeValue) (min max : ℕ) → r ≡ record { min = min; max = max } → min ≡ first_of a
     → max ≡ greatest_of a → IsRangeFrom a a r
-single_of a r min max is first last =
-    let low : r.min ≡ first_of a = ap (λ (x : RangeValue). x.min) is ∙ first in
-    let high : r.max ≡ greatest_of a = ap (λ (x : RangeValue). x.max) is ∙ last in
-    record { one_family = refl; min = low; max = high; ordered = rw (low, high) (first_greatest a) }
+single_of a r min max is first last = grind arith

@@ -1,5 +1,5 @@
 -- Strictly, the octets of a block are those that are written of it.
-use Rattle.rpki_ip_block.proofs.Common.{Bool, List, None, Option, Some, ap, arith, eqb, false, length, refl, subst, sym, true, ℕ, ◌&&◌, ◌++◌, ◌-◌, ◌<◌, ◌^◌, ◌∙◌, ◌≡◌, ◌≤◌, and_parts, eq-eqb, eqb-true, pow_pos, PrefixValue, last_of, fits_content, same_reading, IsBytes, Spells, sequence_value, IsReading, IsStrictPrefix, prefix_is_spelled, spelled_is_prefix, within, from_short, length_prefix, to_short, prefix_der, is_written_as, range_content, without_end_ones, without_end_zeros, RangeValue, range_bounds, IsSetIpBlock, ip_block_der, ip_block_modal, IsStrictIpBlock, ip_block_by, is_range, is_set_range, span, block_from, length_of, new_ip_block, IpBlock, Prefix, Range}
+use Rattle.rpki_ip_block.proofs.Common.{Bool, List, ap, arith, eqb, false, length, refl, subst, sym, true, ℕ, ◌&&◌, ◌++◌, ◌<◌, ◌^◌, ◌∙◌, ◌≡◌, ◌≤◌, and_parts, eq-eqb, eqb-true, pow_pos, PrefixValue, last_of, fits_content, same_reading, IsBytes, Spells, IsReading, IsStrictPrefix, prefix_is_spelled, spelled_is_prefix, within, from_short, length_prefix, to_short, prefix_der, is_written_as, range_content, without_end_ones, without_end_zeros, RangeValue, range_bounds, IsSetIpBlock, ip_block_der, ip_block_modal, IsStrictIpBlock, ip_block_by, is_range, is_set_range, span, new_ip_block, IpBlock, Prefix, Range}
 use Rattle.std.proofs.lemmas.List.{length-append}
 use Rattle.rpki_der.proofs.Steps.{fits_back, fits_front}
 use Rattle.rpki_der.proofs.Written.{value_is}
@@ -8,32 +8,14 @@ use Rattle.rpki_ip_block.proofs.FormLemmas.{new_prefix}
 
 -- ---- ranges
 
--- bounds that make a range are those of no prefix
-range_form : (b : ℕ × ℕ) → is_range (new_ip_block b) ≡ true → Range (record { min = b.0; max = b.1 }) ≡ new_ip_block b
-range_form b e = by_length (length_of b) e
-  where
-    by_length : (o : Option ℕ) → is_range (block_from b o) ≡ true
-        → Range (record { min = b.0; max = b.1 }) ≡ block_from b o
-    by_length None e = refl
-    by_length (Some len) e = absurd cc
-
 -- the prefixes that are written
 first_is : (p : PrefixValue) (r : RangeValue) → r.min ≡ p.first → p.len ≡ (without_end_zeros p.first).len
     → p ≡ without_end_zeros r.min
-first_is p r begins len =
-    let same : p.len ≡ (without_end_zeros r.min).len = len ∙ ap (λ a. (without_end_zeros a).len) (sym begins) in
-    λ i. record { first = sym begins i; len = same i }
+first_is p r begins len = grind arith
 
 second_is : (q : PrefixValue) (r : RangeValue) → r.max < 2 ^ 128 → r.max ≡ last_of 128 q
     → q.len ≡ (without_end_ones (last_of 128 q)).len → q ≡ without_end_ones r.max
-second_is q r below ends len =
-    let w = without_end_ones r.max in
-    let shortest = shortest_to_is r.max below in
-    let same : q.len ≡ w.len = len ∙ ap (λ a. (without_end_ones a).len) (sym ends) in
-    let count : 2 ^ (128 - q.len) ≡ 2 ^ (128 - w.len) = ap (λ k. 2 ^ (128 - k)) same in
-    let some : 0 < 2 ^ (128 - q.len) = pow_pos (128 - q.len) in
-    let first : q.first ≡ w.first = omega (arith, ends, shortest.ends, count, some) in
-    λ i. record { first = first i; len = same i }
+second_is q r below ends len = grind (arith, pow_pos, shortest_to_is)
 
 -- ---- blocks
 
@@ -54,9 +36,7 @@ set_block_is limit bytes (Range r) le fits (content, sequence, (p, q, (rest, fro
     let p-is : p ≡ without_end_zeros r.min = first_is p r from_to.begins (eqb-true _ _ lens.0) in
     let q-is : q ≡ without_end_ones r.max = second_is q r range.is_range.below from_to.ends (eqb-true _ _ lens.1) in
     let whole : content ≡ range_content r = front.2 ∙ ap (λ (t : List ℕ). t ++ rest) (one.1 ∙ ap prefix_der p-is) ∙ ap (λ (t : List ℕ). prefix_der (without_end_zeros r.min) ++ t) (two.1 ∙ ap prefix_der q-is) in
-    let bounds : range_bounds (span p q) ≡ range_bounds r = λ i. (sym from_to.begins i, sym from_to.ends i) in
-    let form : Range r ≡ new_ip_block (range_bounds r) = range_form (range_bounds r) (ap (λ b. is_range (new_ip_block b)) (sym bounds) ∙ parts.1) in
-    ((range, form), sequence.spelled ∙ ap sequence_value whole)
+    grind arith
 
 pub is_set_block : (limit : ℕ) (bytes : List ℕ) (block : IpBlock) → limit ≤ 128
     → Spells (IsSetIpBlock limit) ip_block_der bytes block → IsStrictIpBlock limit bytes block

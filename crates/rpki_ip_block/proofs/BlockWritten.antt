@@ -1,5 +1,6 @@
 -- What is written of a block is the block.
-use Rattle.rpki_ip_block.proofs.Common.{Bool, List, Ok, Option, Result, Some, arith, false, length, refl, subst, true, ℕ, ◌++◌, ◌+◌, ◌-◌, ◌<◌, ◌^◌, ◌≡◌, ◌≤◌, pow_pos, optional_back, bits_of, AddressFamily, Ipv4, Ipv6, lenient_is, optional, Takes, is_strict, left, bits_few_enough, few_bits, prefix_written, range_written, IsBlockWithin, IsIpBlockDer, ip_block_der, ip_block_modal, IsStrictIpBlock, ip_block_at, ip_block_by, ip_block_has_octets, ip_block_reading, ip_bounds, new_ip_block, IsBlockOf, IpBlock, Prefix, Range}
+use Rattle.rpki_ip_block.proofs.Common.{List, Ok, Option, Result, Some, arith, refl, true, ℕ, ◌++◌, ◌+◌, ◌-◌, ◌<◌, ◌^◌, ◌≡◌, ◌≤◌, pow_pos, bits_of, AddressFamily, Ipv4, Ipv6, optional, Takes, is_strict, left, bits_few_enough, few_bits, prefix_written, range_written, IsBlockWithin, IsIpBlockDer, ip_block_der, ip_block_modal, IsStrictIpBlock, ip_block_at, ip_block_by, ip_block_has_octets, ip_block_reading, ip_bounds, new_ip_block, IsBlockOf, IpBlock, Prefix, Range}
+use Rattle.rpki_base.proofs.DerModes.{optional_back_by}
 use Rattle.rpki_chains.specs.Sets.{IsNew}
 use Rattle.rpki_der.specs.declared.cursor.Cursor.{Cursor}
 use Rattle.rpki_der.specs.declared.error.DerError.{DerError}
@@ -32,24 +33,9 @@ pub taken_back : (family : AddressFamily) (old new : Cursor) (result : Result (O
     → (block : IpBlock) (rest : List ℕ) → IsBlockOf family block
     → (is_strict old ≡ true → IsNew ip_bounds new_ip_block block) → left old ≡ ip_block_der block ++ rest
     → (result ≡ Ok (Some block)) × (left new ≡ rest)
-taken_back family old new result took block rest is form at = by_mode (is_strict old) took form
-  where
-    within : IsBlockWithin (bits_of family) block
-    within = family_within family block is
-
-    written : IsIpBlockDer (bits_of family) (ip_block_der block) block
-    written = block_written (bits_of family) block (bits_few_enough family) within
-
-    some : 0 < length (ip_block_der block)
-    some = ip_block_has_octets (bits_of family) (ip_block_der block) block written
-
-    strictly : IsNew ip_bounds new_ip_block block → IsStrictIpBlock (bits_of family) (ip_block_der block) block
-    strictly new_form = is_set_block (bits_of family) (ip_block_der block) block (bits_few_enough family) ((within, new_form), refl)
-
-    by_mode : (strict : Bool) → Takes (λ block. block) old new result (optional (ip_block_by strict (bits_of family)))
-        → (strict ≡ true → IsNew ip_bounds new_ip_block block) → (result ≡ Ok (Some block)) × (left new ≡ rest)
-    by_mode true took form = optional_back (IsStrictIpBlock (bits_of family)) (ip_block_by true (bits_of family)) old new result (ip_block_modal (bits_of family)).tight took (ip_block_der block) block rest some (strictly (form refl)) at
-    by_mode false took form =
-        optional_back (IsIpBlockDer (bits_of family)) (ip_block_at (bits_of family)) old new result (ip_block_reading (bits_of family))
-        (subst (λ r. Takes (λ block. block) old new result (optional r)) (lenient_is (IsStrictIpBlock (bits_of family)) (ip_block_at (bits_of family)) (λ strict. ip_block_by strict (bits_of family)) (ip_block_modal (bits_of family))) took)
-        (ip_block_der block) block rest some written at
+taken_back family old new result took block rest is form at =
+    let limit = bits_of family in
+    let within = family_within family block is in
+    let written = block_written limit block (bits_few_enough family) within in
+    optional_back_by (IsIpBlockDer limit) (IsStrictIpBlock limit) (ip_block_at limit) (λ strict. ip_block_by strict limit) old new result (ip_block_reading limit) (ip_block_modal limit) took (ip_block_der block) rest block (ip_block_has_octets limit (ip_block_der block) block written) written
+    (λ strict. is_set_block limit (ip_block_der block) block (bits_few_enough family) ((within, form strict), refl)) at

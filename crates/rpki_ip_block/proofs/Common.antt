@@ -18,11 +18,11 @@ pub use Rattle.rpki_addr.specs.Prefixes.{IsPrefix, PrefixValue, last_of}
 pub use Rattle.rpki_addr.specs.PrintedAddress.{ip_text, ipv4_text, ipv6_text}
 pub use Rattle.rpki_addr.specs.declared.addr.IpAddr.{IpAddr}
 pub use Rattle.rpki_addr.specs.declared.addr.IpAddr.TheVariants.{V4, V6}
-pub use Rattle.rpki_base.proofs.DerCursors.{optional_back, reads_optional_value_by}
+pub use Rattle.rpki_base.proofs.DerCursors.{reads_optional_value_by}
 pub use Rattle.rpki_base.specs.Families.{bits_of, family_of}
 pub use Rattle.rpki_base.specs.declared.family.AddressFamily.{AddressFamily}
 pub use Rattle.rpki_base.specs.declared.family.AddressFamily.TheVariants.{Ipv4, Ipv6}
-pub use Rattle.rpki_der.proofs.Modes.{exact_optional_by, lenient_is, refused_optional_by}
+pub use Rattle.rpki_der.proofs.Modes.{exact_optional_by, refused_optional_by}
 pub use Rattle.rpki_der.proofs.Readings.{fits_content, one_front, same_reading}
 pub use Rattle.rpki_der.specs.Der.{Bits, Each, IsBytes, Spells, big_endian, sequence_value}
 pub use Rattle.rpki_der.specs.Reading.{IsReading, optional, value_at}

@@ -1,7 +1,7 @@
 -- Where a block of addresses is a reversed range, and that no fault of lists is one of a block.
 use Rattle.rpki_ip_block.proofs.Common.{Err, List, Ok, arith, ℕ, ◌<◌, ◌↔◌, ◌≡◌, last_of, value_at, prefix_at, prefix_in, range_in, ip_block_at, ip_block_of, prefix_block_in, range_block_in, Prefix, Range}
 use Rattle.rpki_base.specs.DerFaults.{BeginsWithTwo, BeginsWithValue}
-use Rattle.rpki_base.proofs.DerFaults.{NamesTo, begins_value, bind_names, by_tag_names, mapped_fails, names_more, not_named, refined_names, sequence_fails, value_names}
+use Rattle.rpki_base.proofs.DerFaults.{NamesTo, bind_names, by_tag_names, mapped_fails, names_more, not_named, refined_names, sequence_fails, value_names}
 use Rattle.rpki_der.specs.declared.error.DerError.TheVariants.{NotCanonical, ReversedRange}
 use Rattle.rpki_ip.proofs.DerFaults.{prefix_content_names, range_fails, range_names}
 
@@ -16,20 +16,17 @@ module _ (limit : ℕ) where
       (by_tag_names 10 3 (prefix_block_in limit) (range_block_in limit) (omega arith) (λ content. names_more 8 10 (prefix_block_in limit content) (omega arith) (prefix_block_names content))
       (λ content. bind_names 10 (range_in limit content) (λ r. Ok (Range r)) (range_names limit content) (λ r. tt)))
 
-  abbrev Reversed : List ℕ → Type 0
-  Reversed = BeginsWithTwo (prefix_at limit) (λ p q. last_of 128 q < p.first)
-
-  abbrev Fails : List ℕ → Type 0
-  Fails content = range_block_in limit content ≡ Err ReversedRange
+  range_block_fails : (content : List ℕ)
+      → (range_block_in limit content ≡ Err ReversedRange)
+      ↔ BeginsWithTwo (prefix_at limit) (λ p q. last_of 128 q < p.first) content
+  range_block_fails content = grind (arith, mapped_fails, range_fails)
 
   pub block_fails : (bytes : List ℕ)
       → (ip_block_at limit bytes ≡ Err ReversedRange)
       ↔ BeginsWithValue 48 (BeginsWithTwo (prefix_at limit) (λ p q. last_of 128 q < p.first)) bytes
-  block_fails bytes =
-      let both = sequence_fails 3 (prefix_block_in limit) (range_block_in limit) ReversedRange (λ e. omega (arith, e)) (omega arith) (λ content. not_named 8 (prefix_block_in limit content) ReversedRange (prefix_block_names content) (omega arith)) bytes in (
-        (λ is. begins_value 48 Fails Reversed (λ content fails. (range_fails limit content).0 ((mapped_fails (range_in limit content) Range ReversedRange).0 fails)) bytes (both.0 is)),
-        (λ found. both.1 (begins_value 48 Reversed Fails (λ content reversed. (mapped_fails (range_in limit content) Range ReversedRange).1 ((range_fails limit content).1 reversed)) bytes found)),
-      )
+  block_fails =
+      sequence_fails 3 (prefix_block_in limit) (range_block_in limit) (BeginsWithTwo (prefix_at limit) (λ p q. last_of 128 q < p.first)) ReversedRange (λ e. omega (arith, e)) (omega arith)
+      (λ content. not_named 8 (prefix_block_in limit content) ReversedRange (prefix_block_names content) (omega arith)) range_block_fails
 
   -- what isn't canonical is read leniently
   pub never_lenient : (bytes : List ℕ) → ip_block_at limit bytes ≡ Err NotCanonical → ⊥

@@ -1,42 +1,21 @@
 -- Which blocks are in new form, and prefixes of a family as prefixes of 128 bits.
-use Rattle.rpki_ip_block.proofs.Common.{Bool, None, Option, Some, ap, arith, false, inl, inr, refl, suc, sym, true, zero, ℕ, ◌%◌, ◌*◌, ◌+◌, ◌-◌, ◌/◌, ◌<◌, ◌^◌, ◌∙◌, ◌≡◌, ◌≤◌, mul-mod_left, mul_assoc, cases_order, eq-eqb, eqb-true, pow-add, pow_below, pow_pos, shr_split, if◌then◌else◌, cleared_first, first_of, cleared, IsPrefix, PrefixValue, IpAddr, V4, V6, IsRangeOf, RangeValue, range_bounds, FamilyPrefix, IsFamilyPrefix, block_from, has_length, length_of, length_upto, new_ip_block, prefix_bounds, IsBlock, Prefix, Range}
-use Rattle.std.specs.Prelude.{◌==◌}
-use Rattle.rpki_ip_block.specs.BlockFormLaws.{both_pass, bounds_of_length, found_length}
+use Rattle.rpki_ip_block.proofs.Common.{None, Option, Some, ap, arith, refl, suc, sym, true, zero, ℕ, ◌%◌, ◌*◌, ◌+◌, ◌-◌, ◌/◌, ◌<◌, ◌^◌, ◌∙◌, ◌≡◌, ◌≤◌, mul-mod_left, mul_assoc, cases_order, eq-eqb, pow-add, pow_below, pow_pos, shr_split, cleared_first, first_of, cleared, IsPrefix, PrefixValue, IpAddr, IsRangeOf, RangeValue, range_bounds, FamilyPrefix, IsFamilyPrefix, block_from, has_length, length_of, length_upto, new_ip_block, prefix_bounds, IsBlock, Prefix, Range}
+use Rattle.rpki_ip_block.specs.BlockFormLaws.{bounds_of_length, found_length}
 
 -- a prefix has its length
 has_own_length : (p : PrefixValue) → IsPrefix 128 p → has_length (prefix_bounds p) p.len ≡ true
 unfolding has_length
-has_own_length p is =
-    let some : 0 < 2 ^ (128 - p.len) = pow_pos (128 - p.len) in
-    let count : p.first + 2 ^ (128 - p.len) ≡ p.first + 2 ^ (128 - p.len) - 1 + 1 = omega (arith, some) in
-    rw (eq-eqb _ _ is.aligned) (eq-eqb _ _ count)
+has_own_length p is = grind (arith, eq-eqb, pow_pos)
 
 -- where no length is found, none up to the limit is had
 no_length : (n k : ℕ) (b : ℕ × ℕ) → k ≤ n → length_upto n b ≡ None → has_length b k ≡ true → ⊥
 unfolding length_upto
-no_length zero k b small none has =
-    let here : has_length b zero ≡ true = ap (has_length b) (let e : zero ≡ k = omega (arith, small) in e) ∙ has in
-    let some : Some zero ≡ None = ap (λ (t : Bool). if t then Some zero else None) (sym here) ∙ none in
-    cc
-no_length (suc n) k b small none has = by_test (has_length b (suc n)) refl (no_length n k b)
-  where
-    by_test : (t : Bool) → has_length b (suc n) ≡ t → (k ≤ n → length_upto n b ≡ None → has_length b k ≡ true → ⊥) → ⊥
-    by_test true here before =
-        let some : Some (suc n) ≡ None = ap (λ (t : Bool). if t then Some (suc n) else length_upto n b) (sym here) ∙ none in
-        cc
-    by_test false here before = elim (cases_order k (suc n)) [
-      | inl e ↦ (let z : true ≡ false = sym has ∙ ap (has_length b) e ∙ here in absurd cc)
-      | inr (inl less) ↦ before (omega (arith, less)) (ap (λ (t : Bool). if t then Some (suc n) else length_upto n b) (sym here) ∙ none) has
-      | inr (inr more) ↦ absurd (omega (arith, more, small))
-    ]
+no_length zero k b small none has = grind (arith)
+no_length (suc n) k b small none has = grind (arith, cases_order, no_length n k b)
 
 -- prefixes of two lengths up to 128 have not the same count of addresses
 one_length : (k l : ℕ) → k ≤ 128 → l ≤ 128 → 2 ^ (128 - k) ≡ 2 ^ (128 - l) → k ≡ l
-one_length k l short also same = elim (cases_order k l) [
-  | inl e ↦ e
-  | inr (inl less) ↦ absurd (let below = pow_below (128 - l) (128 - k) (omega (arith, less, also)) in omega (arith, below, same))
-  | inr (inr more) ↦ absurd (let below = pow_below (128 - k) (128 - l) (omega (arith, more, short)) in omega (arith, below, same))
-]
+one_length k l short also same = grind (arith, cases_order, pow_below)
 
 -- so it is the block of its bounds
 pub new_prefix : (p : PrefixValue) → IsPrefix 128 p → Prefix p ≡ new_ip_block (prefix_bounds p)
@@ -57,11 +36,7 @@ new_prefix p is = by_length (length_of (prefix_bounds p)) refl
 prefix_of_length : (b : ℕ × ℕ) (len : ℕ) → b.1 < 2 ^ 128 → len ≤ 128 → has_length b len ≡ true
     → IsPrefix 128 (record { first = b.0; len = len })
 unfolding has_length
-prefix_of_length b len below short has =
-    let parts = both_pass (b.0 % 2 ^ (128 - len) == 0) (b.0 + 2 ^ (128 - len) == b.1 + 1) has in
-    let some : 0 < 2 ^ (128 - len) = pow_pos (128 - len) in
-    let count : b.0 + 2 ^ (128 - len) ≡ b.1 + 1 = eqb-true _ _ parts.1 in
-    record { short = short; aligned = eqb-true _ _ parts.0; below = omega (arith, some, count, below) }
+prefix_of_length b len below short has = grind arith
 
 -- a range of no prefix is the block of its bounds
 pub new_range : (r : RangeValue) → r.max < 2 ^ 128 → ((p : PrefixValue) → IsPrefix 128 p → IsRangeOf p r → ⊥)
@@ -95,17 +70,12 @@ prefix_of_v4 n len is =
     let more : 128 - len ≡ (32 - len) + 96 = omega (arith, short) in
     let count : 2 ^ (128 - len) ≡ 2 ^ (32 - len) * 2 ^ 96 = ap (λ k. 2 ^ k) more ∙ pow-add 2 (32 - len) 96 in
     let same : n * 2 ^ 96 ≡ n / 2 ^ (32 - len) * 2 ^ (128 - len) = ap (λ m. m * 2 ^ 96) whole ∙ mul_assoc (n / 2 ^ (32 - len)) (2 ^ (32 - len)) (2 ^ 96) ∙ ap (λ m. n / 2 ^ (32 - len) * m) (sym count) in
-    record {
-      short = omega (arith, short);
-      aligned = ap (λ m. m % 2 ^ (128 - len)) same ∙ mul-mod_left (n / 2 ^ (32 - len)) (2 ^ (128 - len));
-      below = omega (arith, is.below);
-    }
+    grind (arith, mul-mod_left)
 
 -- so a prefix of either family is one of 128 bits
 prefix_of : (a : IpAddr) (len : ℕ) → IsFamilyPrefix (record { addr = a; len = len })
     → IsPrefix 128 (record { first = first_of a; len = len })
-prefix_of (V4 n) len is = prefix_of_v4 n len is
-prefix_of (V6 n) len is = is
+prefix_of a len is = grind (arith, prefix_of_v4)
 
 -- whose address has no bits behind its length
 pub family_prefix : (p : FamilyPrefix) → IsFamilyPrefix p → cleared 128 (first_of p.addr) p.len ≡ first_of p.addr

@@ -1,5 +1,5 @@
 -- Blocks at the front of a text: the addresses that write one, and what stands round them.
-use Rattle.rpki_ip_block.proofs.Common.{IfSome, List, None, Option, Some, [], ap, append_assoc, arith, inl, inr, length, length-append, lit<, lit≤, refl, sym, ℕ, ◌++◌, ◌<◌, ◌∙◌, ◌∷◌, ◌≡◌, ◌≢◌, IsDigitOrDot, All-append, All-cons, All-contains, All-from_recursion, All-weaker, Contains-append_left, recursion_from_All, digit_from_value, IsInRange, AllByRecursion, PrefixValue, IpAddr, V4, V6, AddressFamily, Ipv4, Ipv6, IsAddressText, IsPrefixAt, IsRangeFrom, WithAddress, RangeValue, HasNo, dash, slash, IsBlockAtFront, IsPrefixBehind, IsRangeBehind, IsForeign, IpBlock, Prefix, Range}
+use Rattle.rpki_ip_block.proofs.Common.{IfSome, List, None, Option, Some, [], ap, append_assoc, arith, inl, length, length-append, lit<, lit≤, refl, sym, ℕ, ◌++◌, ◌<◌, ◌∙◌, ◌∷◌, ◌≡◌, ◌≢◌, IsDigitOrDot, All-append, All-cons, All-contains, All-from_recursion, All-weaker, Contains-append_left, recursion_from_All, digit_from_value, IsInRange, AllByRecursion, PrefixValue, IpAddr, V4, V6, AddressFamily, Ipv4, Ipv6, IsAddressText, IsPrefixAt, IsRangeFrom, WithAddress, RangeValue, HasNo, dash, slash, IsBlockAtFront, IsPrefixBehind, IsRangeBehind, IsForeign, IpBlock, Prefix, Range}
 use Rattle.std.specs.Borrow.{Bor}
 use Rattle.std.specs.List.{All, Contains}
 use Rattle.std.specs.Str.Parse.{AllDigits}
@@ -44,38 +44,29 @@ record IsPlain (family : AddressFamily) (text : List ℕ) : Type 0 where
   own : OwnBytes family text
 
 ipv4_byte : (b : ℕ) → IsDigitOrDot b → IsWrittenByte b
-ipv4_byte b (inl h) = inr (h.0, omega (arith, h.1))
-ipv4_byte b (inr h) = inl h
+ipv4_byte b h = grind arith
 
 below_colon : (b : ℕ) → IsDigitOrDot b → b < 58
-below_colon b (inl h) = omega (arith, h.1)
-below_colon b (inr h) = omega (arith, h)
+below_colon b h = grind arith
 
 contains_some : (xs : List ℕ) (x : ℕ) → Contains xs x → 0 < length xs
 contains_some xs x h = omega (arith, h.1)
 
 plain : (family : AddressFamily) (text : List ℕ) (a : IpAddr) → IsAddressText (Some family) text a → IsPlain family text
-plain Ipv4 text (V4 n) h =
-    let bytes = ipv4_written text n h.1 in
-    record { some = ipv4_some text n h.1; written = All-weaker IsDigitOrDot IsWrittenByte ipv4_byte text bytes; own = All-weaker IsDigitOrDot (λ b. b < 58) below_colon text bytes }
+plain Ipv4 text (V4 n) h = search (arith, All-weaker, below_colon, ipv4_byte, ipv4_some, ipv4_written)
 plain Ipv4 text (V6 n) h = absurd (let other = h.0 in cc)
 plain Ipv6 text (V4 n) h = absurd (let other = h.0 in cc)
-plain Ipv6 text (V6 n) h =
-    let has = ipv6_colon text n h.1 in
-    record { some = contains_some text 58 has; written = ipv6_written text n h.1; own = has }
+plain Ipv6 text (V6 n) h = search (arith, contains_some, ipv6_colon, ipv6_written)
 
 -- no byte of an address is a slash, or a dash, and all are shown
 not_slash : (b : ℕ) → IsWrittenByte b → b ≢ slash
-not_slash b (inl h) e = omega (arith, h, e)
-not_slash b (inr h) e = omega (arith, h.0, e)
+not_slash b h e = grind arith
 
 not_dash : (b : ℕ) → IsWrittenByte b → b ≢ dash
-not_dash b (inl h) e = omega (arith, h, e)
-not_dash b (inr h) e = omega (arith, h.0, e)
+not_dash b h e = grind arith
 
 is_shown : (b : ℕ) → IsWrittenByte b → IsInRange 45 126 b
-is_shown b (inl h) = (omega (arith, h), omega (arith, h))
-is_shown b (inr h) = (omega (arith, h.0), omega (arith, h.1))
+is_shown b h = grind arith
 
 -- a text of which each byte is another has none
 has_no : (b : ℕ) (text : List ℕ) → All (λ c. c ≢ b) text → HasNo b text
@@ -106,13 +97,7 @@ pub single_front : (family : AddressFamily) (text : List ℕ) (a : IpAddr) (rest
     → IsBlockAtFront family text (Range r) rest
 single_front family text a rest r h is =
     let here = plain family h.front a h.writes in
-    record {
-      front = h.front;
-      split = h.split;
-      some = here.some;
-      block = (not_foreign family h.front here.own, (has_no slash h.front (no_slash h.front here.written), inr (no_dash h.front here.written, (a, h.writes, is))));
-      shown = recursion_from_All (IsInRange 45 126) h.front (shown h.front here.written);
-    }
+    grind (arith, has_no, no_dash, no_slash, not_foreign, recursion_from_All, shown)
 
 -- so are two round a dash
 range_front : (family : AddressFamily) (text : List ℕ) (a : IpAddr) (rest last : List ℕ) (r : RangeValue)

@@ -1,5 +1,5 @@
 -- A text of a list of blocks has one list of values or one first fault.
-use Rattle.rpki_ip_block.proofs.Common.{Bool, Err, IsTrue, List, MatchResult, Ok, Option, Result, Some, false, inl, inr, refl, subst, sym, true, ℕ, ◌↔◌, ◌∙◌, ◌≡◌, AddressFamily, FromStrError, HasFirstFault, HaveValues, elements, IfRefused, AnswersOrMemory, OrMemory, HasIpBlockFault, IsIpBlockText, HasBlocks, HasBlocksFault, HasElementFault, HasIpBlocks, HasIpBlocksFault, HasMismatch, IsElementText, IsFamilyOf, IsForeign, IpBlock}
+use Rattle.rpki_ip_block.proofs.Common.{Bool, Err, IsTrue, List, MatchResult, Ok, Option, Result, Some, false, inl, inr, refl, subst, sym, true, ℕ, ◌↔◌, ◌∙◌, ◌≡◌, AddressFamily, FromStrError, HasFirstFault, HaveValues, elements, IfRefused, AnswersOrMemory, OrMemory, HasIpBlockFault, IsIpBlockText, HasBlocks, HasBlocksFault, HasElementFault, HasIpBlocks, HasIpBlocksFault, HasMismatch, IsElementText, IsFamilyOf, IsForeign, IpBlock, arith}
 use Rattle.rpki_text.specs.declared.memory.OrMemory.TheVariants.{Refused, Memory}
 use Rattle.rpki_text.proofs.ListLemmas.{AnswersOrMemory-from_found, HaveValues-one, first_fault_apart, same_first_fault}
 use Rattle.rpki_ip_block.proofs.TextLemmas.{block_one}
@@ -61,26 +61,18 @@ pub family_answers : {V : Type 0} (view : V → List IpBlock) (family : AddressF
     (r : Result V (OrMemory FromStrError))
     → MatchResult r (λ v. HasBlocks family text (view v)) (IfRefused (HasBlocksFault family text))
     → AnswersOrMemory view (HasBlocks family text) (HasBlocksFault family text) r
-family_answers view family text r found = AnswersOrMemory-from_found view _ _
-    (same_blocks family text)
-    (first_fault_apart (IsElementText family) (HasElementFault family) (element_apart family) (elements text))
-    (same_first_fault (IsElementText family) (HasElementFault family) (element_apart family) (same_element_fault family) (elements text))
-    r found
+family_answers view family text r found = search (arith, AnswersOrMemory-from_found, element_apart, first_fault_apart, same_blocks, same_element_fault, same_first_fault)
 
 -- a list that tells no family has one
 pub same_family : (text : List ℕ) (f g : AddressFamily) → IsFamilyOf text f → IsFamilyOf text g → f ≡ g
-same_family text f g (inl h) (inl k) = h.1 ∙ sym k.1
-same_family text f g (inl h) (inr k) = absurd (k.0 h.0)
-same_family text f g (inr h) (inl k) = absurd (h.0 k.0)
-same_family text f g (inr h) (inr k) = h.1 ∙ sym k.1
+same_family text f g h h2 = grind arith
 
 mismatch_apart : (family : AddressFamily) (text : List ℕ) (a : IpBlock) (e : FromStrError)
     → IsIpBlockText (Some family) text a → HasMismatch family text e → ⊥
 mismatch_apart family text a e h k = k.0 a h
 
 pub same_ip_blocks : (text : List ℕ) (a b : List IpBlock) → HasIpBlocks text a → HasIpBlocks text b → a ≡ b
-same_ip_blocks text a b (f, is, h) (g, iz, k) =
-    HaveValues-one (IsIpBlockText (Some f)) (same_block (Some f)) (elements text) a b h (subst (λ w. HaveValues (IsIpBlockText (Some w)) (elements text) b) (same_family text g f iz is) k)
+same_ip_blocks text a b h h2 = grind (arith, HaveValues-one, same_block, same_family)
 
 ip_blocks_apart : (text : List ℕ) (a : List IpBlock) (e : FromStrError) → HasIpBlocks text a → HasIpBlocksFault text e
     → ⊥
@@ -88,8 +80,7 @@ ip_blocks_apart text a e (f, is, h) (g, iz, k) =
     first_fault_apart (IsIpBlockText (Some f)) (HasMismatch f) (mismatch_apart f) (elements text) a e h (subst (λ w. HasFirstFault (IsIpBlockText (Some w)) (HasMismatch w) (elements text) e) (same_family text g f iz is) k)
 
 same_ip_fault : (text : List ℕ) (d e : FromStrError) → HasIpBlocksFault text d → HasIpBlocksFault text e → d ≡ e
-same_ip_fault text d e (f, is, h) (g, iz, k) =
-    same_first_fault (IsIpBlockText (Some f)) (HasMismatch f) (mismatch_apart f) (λ t d e h k. h.1 ∙ sym k.1) (elements text) d e h (subst (λ w. HasFirstFault (IsIpBlockText (Some w)) (HasMismatch w) (elements text) e) (same_family text g f iz is) k)
+same_ip_fault text d e h h2 = grind arith
 
 pub ip_answers : {V : Type 0} (view : V → List IpBlock) (family : AddressFamily) (text : List ℕ)
     → IsFamilyOf text family → (r : Result V (OrMemory FromStrError))

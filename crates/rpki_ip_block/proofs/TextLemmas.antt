@@ -1,5 +1,5 @@
 -- A text of a block has one value or one fault at most, and each form is found by the byte that cuts the text.
-use Rattle.rpki_ip_block.proofs.Common.{Err, List, MatchResult, Ok, Option, Result, ap, inl, inr, refl, sym, ℕ, ◌∙◌, ◌≡◌, PrefixValue, AddressFamily, answers_by_one, prefix_one, range_one, single_one, HasAddressFault, HasIpPrefixTextFault, HasPrefixFault, HasRangeFault, HasRangeTextFault, IsIpPrefixText, IsIpRangeBetween, IsPrefixBetween, IsRangeText, IsSingleText, RangeValue, FromStrError, Around, HasNo, IsCutAt, dash, slash, Answers, HasIpBlockFault, IsIpBlockText, IpBlock, Prefix, Range}
+use Rattle.rpki_ip_block.proofs.Common.{Err, List, MatchResult, Ok, Option, Result, inl, inr, refl, ℕ, ◌≡◌, PrefixValue, AddressFamily, answers_by_one, prefix_one, range_one, single_one, HasAddressFault, HasIpPrefixTextFault, HasPrefixFault, HasRangeFault, HasRangeTextFault, IsIpPrefixText, IsIpRangeBetween, IsPrefixBetween, IsRangeText, IsSingleText, RangeValue, FromStrError, Around, HasNo, IsCutAt, dash, slash, Answers, HasIpBlockFault, IsIpBlockText, IpBlock, Prefix, Range, arith}
 use Rattle.rpki_text.proofs.CutLemmas.{none_around}
 
 -- the block of a prefix, and of a range
@@ -46,15 +46,7 @@ module _ (w : Option AddressFamily) (text : List ℕ) where
   formed (Err e) (inr (none, inr (apart, h))) = single none apart (Err e) h refl
 
   formed_one : (r s : Result IpBlock FromStrError) → Formed r → Formed s → r ≡ s
-  formed_one r s (prefix _ x h d) (prefix _ y k e) = d ∙ ap of_prefix (prefix_one w text x y h k) ∙ sym e
-  formed_one r s (prefix cut x h d) (range none _ y k e) = absurd (not_cut slash none cut)
-  formed_one r s (prefix cut x h d) (single none _ y k e) = absurd (not_cut slash none cut)
-  formed_one r s (range none _ x h d) (prefix cut y k e) = absurd (not_cut slash none cut)
-  formed_one r s (range _ _ x h d) (range _ _ y k e) = d ∙ ap of_range (range_one w text x y h k) ∙ sym e
-  formed_one r s (range _ cut x h d) (single _ none y k e) = absurd (not_cut dash none cut)
-  formed_one r s (single none _ x h d) (prefix cut y k e) = absurd (not_cut slash none cut)
-  formed_one r s (single _ none x h d) (range _ cut y k e) = absurd (not_cut dash none cut)
-  formed_one r s (single _ _ x h d) (single _ _ y k e) = d ∙ ap of_range (single_one w text x y h k) ∙ sym e
+  formed_one r s h h2 = grind (arith, not_cut, prefix_one, range_one, single_one)
 
   -- a text has one value or one fault at most
   pub block_one : (r s : Result IpBlock FromStrError) → Says r → Says s → r ≡ s

@@ -1,5 +1,5 @@
 -- What is read as blocks of IPv4, from texts and from octets, begins and ends with whole IPv4 addresses.
-use Rattle.rpki_ip_block.proofs.Common.{Err, List, Ok, Result, Some, [], ap, arith, inl, inr, subst, sym, ℕ, ◌%◌, ◌*◌, ◌+◌, ◌-◌, ◌/◌, ◌<◌, ◌^◌, ◌∙◌, ◌∷◌, ◌≡◌, ◌≤◌, add-mul, mul-mod_left, mul_assoc, All-cons, All-nil, pow-add, pow_pos, IfOk, first_of, cleared, PrefixValue, IpAddr, V4, V6, bits_of, family_of, AddressFamily, Ipv4, Ipv6, Bits, Each, big_endian, IsRangeFrom, SaysPrefix, RangeValue, range_bounds, FromStrError, FamilyPrefix, IsFamilyPrefix, width, HaveValues, elements, AnswersOrMemory, OrMemory, IsIpBlockDer, IsIpBlockText, ip_bounds, prefix_bounds, HasBlocks, HasBlocksFault, HasIpBlocks, IsElementText, IsFamilyOf, IpBlock, Prefix, Range}
+use Rattle.rpki_ip_block.proofs.Common.{Err, List, Ok, Result, Some, [], arith, subst, sym, ℕ, ◌*◌, ◌+◌, ◌-◌, ◌/◌, ◌^◌, ◌∷◌, ◌≡◌, ◌≤◌, add-mul, mul-mod_left, mul_assoc, All-cons, All-nil, pow-add, pow_pos, IfOk, first_of, cleared, PrefixValue, IpAddr, V4, V6, family_of, AddressFamily, Ipv4, Ipv6, Bits, Each, big_endian, SaysPrefix, FromStrError, FamilyPrefix, IsFamilyPrefix, width, HaveValues, elements, AnswersOrMemory, OrMemory, IsIpBlockDer, IsIpBlockText, ip_bounds, prefix_bounds, HasBlocks, HasBlocksFault, HasIpBlocks, IsElementText, IsFamilyOf, IpBlock}
 use Rattle.std.specs.List.{All}
 use Rattle.rpki_ip.specs.Whole.{HasWholeBounds}
 use Rattle.rpki_ip_block.proofs.FormLemmas.{family_prefix}
@@ -11,16 +11,7 @@ use Rattle.rpki_ip_block.proofs.ListLemmas.{same_family}
 whole_at : (p : PrefixValue) (m : ℕ) → p.len ≤ 32 → p.first ≡ m * 2 ^ (128 - p.len) → HasWholeBounds (prefix_bounds p)
 whole_at p m short first =
     let more : 128 - p.len ≡ (32 - p.len) + 96 = omega (arith, short) in
-    let count : 2 ^ (128 - p.len) ≡ 2 ^ (32 - p.len) * 2 ^ 96 = ap (λ k. 2 ^ k) more ∙ pow-add 2 (32 - p.len) 96 in
-    let some : 0 < 2 ^ (128 - p.len) = pow_pos (128 - p.len) in
-    let same : p.first ≡ m * 2 ^ (32 - p.len) * 2 ^ 96 =
-    first ∙ ap (λ k. m * k) count ∙ sym (mul_assoc m (2 ^ (32 - p.len)) (2 ^ 96)) in
-    let behind : p.first + 2 ^ (128 - p.len) - 1 + 1 ≡ m * 2 ^ (32 - p.len) * 2 ^ 96 + 2 ^ (32 - p.len) * 2 ^ 96 = omega (arith, same, count, some) in
-    record {
-      begins = ap (λ k. k % 2 ^ 96) same ∙ mul-mod_left (m * 2 ^ (32 - p.len)) (2 ^ 96);
-      ends = ap (λ k. k % 2 ^ 96) (behind ∙ sym (add-mul (m * 2 ^ (32 - p.len)) (2 ^ (32 - p.len)) (2 ^ 96)))
-          ∙ mul-mod_left (m * 2 ^ (32 - p.len) + 2 ^ (32 - p.len)) (2 ^ 96);
-    }
+    grind (arith, add-mul, mul-mod_left, mul_assoc, pow-add, pow_pos)
 
 whole_prefix : (p : PrefixValue) (n : ℕ) → p.len ≤ 32 → p.first ≡ cleared 128 n p.len → HasWholeBounds (prefix_bounds p)
 whole_prefix p n = whole_at p (n / 2 ^ (128 - p.len))
@@ -34,23 +25,9 @@ whole_family_prefix p is v4 = whole_prefix (record { first = first_of p.addr; le
     short (V4 n) le e = le
     short (V6 n) le e = absurd (let z : Ipv6 ≡ Ipv4 = e in cc)
 
--- and a range between IPv4 addresses
-whole_range : (r : RangeValue) (a b : IpAddr) → family_of a ≡ Ipv4 → family_of b ≡ Ipv4 → IsRangeFrom a b r
-    → HasWholeBounds (range_bounds r)
-whole_range r (V4 m) (V4 n) e f h =
-    let min : r.min ≡ m * 2 ^ 96 = h.min in
-    let max : r.max ≡ n * 2 ^ 96 + (2 ^ 96 - 1) = h.max in
-    record { begins = omega (arith, min); ends = omega (arith, max) }
-whole_range r (V4 m) (V6 n) e f h = absurd (let z : Ipv6 ≡ Ipv4 = f in cc)
-whole_range r (V6 m) b e f h = absurd (let z : Ipv6 ≡ Ipv4 = e in cc)
-
 -- so has a block that is read as one of IPv4
 pub whole_text : (text : List ℕ) (b : IpBlock) → IsIpBlockText (Some Ipv4) text b → HasWholeBounds (ip_bounds b)
-whole_text text (Prefix p) h =
-    let (a, is, at) = h.holds in
-    whole_prefix p (first_of a) (subst (λ family. p.len ≤ bits_of family) is.0 at.within) at.first
-whole_text text (Range r) (none, inl h) = let (a, is, (b, also, from)) = h.holds in whole_range r a b is.0 also.0 from
-whole_text text (Range r) (none, inr (no_dash, (a, is, from))) = whole_range r a a is.0 is.0 from
+whole_text text b h = grind (arith, whole_prefix)
 
 -- and each block of a list of IPv4
 pub whole_values : (Has : List ℕ → IpBlock → Type 0)
@@ -60,8 +37,7 @@ pub whole_values : (Has : List ℕ → IpBlock → Type 0)
 whole_values Has is_text [] [] h = All-nil (λ b. HasWholeBounds (ip_bounds b))
 whole_values Has is_text [] (b ∷ blocks) h = absurd h
 whole_values Has is_text (text ∷ texts) [] h = All-nil (λ b. HasWholeBounds (ip_bounds b))
-whole_values Has is_text (text ∷ texts) (b ∷ blocks) h =
-    All-cons (λ b. HasWholeBounds (ip_bounds b)) b blocks (whole_text text b (is_text text b h.0)) (whole_values Has is_text texts blocks h.1)
+whole_values Has is_text (text ∷ texts) (b ∷ blocks) h = grind (arith, All-cons, whole_text, whole_values Has is_text texts blocks h.1)
 
 -- of one that is told to be of IPv4
 pub whole_list : (text : List ℕ) (blocks : List IpBlock) → HasBlocks Ipv4 text blocks
@@ -88,14 +64,9 @@ whole_says : (b : Bits) (p : PrefixValue) → SaysPrefix 32 b p → HasWholeBoun
 whole_says b p says = whole_at p (big_endian b.octets / 2 ^ b.unused) says.short says.first
 
 whole_der : (bytes : List ℕ) (block : IpBlock) → IsIpBlockDer 32 bytes block → HasWholeBounds (ip_bounds block)
-whole_der bytes (Prefix p) (b, is, says) = whole_says b p says
-whole_der bytes (Range r) (content, is, (p, q, (rest, (front, (b, first, says), split), (c, second, tell)), span)) =
-    let low = whole_says b p says in
-    let high = whole_says c q tell in
-    record { begins = subst (λ n. n % 2 ^ 96 ≡ 0) (sym span.begins) low.begins; ends = subst (λ n. (n + 1) % 2 ^ 96 ≡ 0) (sym span.ends) high.ends }
+whole_der bytes block h = grind (arith, whole_says)
 
 pub whole_each : (bytes : List ℕ) (blocks : List IpBlock) → Each (IsIpBlockDer 32) bytes blocks
     → All (λ b. HasWholeBounds (ip_bounds b)) blocks
 whole_each bytes [] is = All-nil (λ b. HasWholeBounds (ip_bounds b))
-whole_each bytes (b ∷ blocks) (rest, (front, is, split), more) =
-    All-cons (λ b. HasWholeBounds (ip_bounds b)) b blocks (whole_der front b is) (whole_each rest blocks more)
+whole_each bytes (b ∷ blocks) (rest, (front, is, split), more) = grind (arith, All-cons, whole_der, whole_each rest blocks more)

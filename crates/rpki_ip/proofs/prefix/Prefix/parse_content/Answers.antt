@@ -4,16 +4,13 @@ use Rattle.rpki_ip.proofs.DerModes.{content_tightens, strict_content_check}
 use Rattle.rpki_ip.proofs.DerReadings.{prefix_check}
 use Rattle.rpki_ip.proofs.prefix.Prefix.parse_content.Goals as goal
 
-exact : goal.returns-clause-exact
-exact c lenient =
+pub returns-clause-exact : goal.returns-clause-exact
+returns-clause-exact c lenient =
     let octets = content_octets c.args.content.now in
     subst (Gives (λ p. p) c.of_content.result) (ap (λ mode. prefix_in_by mode 128 octets) lenient ∙ same_found (prefix_in_by false 128 octets) (prefix_in 128 octets) (content_tightens false 128 octets)) c.of_content.ensures.by_mode
 
-pub returns-clause-exact : goal.returns-clause-exact
-returns-clause-exact c = exact c
-
 pub returns-clause-reads : goal.returns-clause-reads
-returns-clause-reads c lenient = parses_by (λ _. Unit {0}) (IsPrefixContent 128) (prefix_in 128) (λ p. p) (content_octets c.args.content.now) c.of_content.result (prefix_check 128) tt (exact c lenient)
+returns-clause-reads c lenient = parses_by (λ _. Unit {0}) (IsPrefixContent 128) (prefix_in 128) (λ p. p) (content_octets c.args.content.now) c.of_content.result (prefix_check 128) tt (returns-clause-exact c lenient)
 
 pub returns-clause-strict : goal.returns-clause-strict
 returns-clause-strict c strict =

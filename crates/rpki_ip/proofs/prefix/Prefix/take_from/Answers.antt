@@ -4,14 +4,11 @@ use Rattle.rpki_ip.proofs.DerModes.{IsStrictPrefix, prefix_back, prefix_modal, w
 use Rattle.rpki_ip.proofs.DerReadings.{prefix_reading}
 use Rattle.rpki_ip.proofs.prefix.Prefix.take_from.Goals as goal
 
-exact : goal.returns-clause-exact
-exact c = exact_by (IsStrictPrefix 128) (prefix_at 128) (λ strict. prefix_by strict 128) (λ p. p) c.args.cursor.now c.next.new.cursor c.next.result (prefix_modal 128) c.next.ensures.by_mode
-
 pub returns-clause-exact : goal.returns-clause-exact
-returns-clause-exact c = exact c
+returns-clause-exact c = exact_by (IsStrictPrefix 128) (prefix_at 128) (λ strict. prefix_by strict 128) (λ p. p) c.args.cursor.now c.next.new.cursor c.next.result (prefix_modal 128) c.next.ensures.by_mode
 
 pub returns-clause-reads : goal.returns-clause-reads
-returns-clause-reads c lenient = reads_by (IsPrefixDer 128) (prefix_at 128) (λ p. p) c.args.cursor.now c.next.new.cursor c.next.result (prefix_reading 128) c.args.cursor.now.bytes (exact c lenient)
+returns-clause-reads c lenient = reads_by (IsPrefixDer 128) (prefix_at 128) (λ p. p) c.args.cursor.now c.next.new.cursor c.next.result (prefix_reading 128) c.args.cursor.now.bytes (returns-clause-exact c lenient)
 
 pub returns-clause-strict : goal.returns-clause-strict
 returns-clause-strict c strict =

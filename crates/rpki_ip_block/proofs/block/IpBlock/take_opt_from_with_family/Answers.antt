@@ -4,14 +4,11 @@ use Rattle.rpki_ip_block.proofs.BlockModes.{set_block_reading}
 use Rattle.rpki_ip_block.proofs.BlockWritten.{taken_back}
 use Rattle.rpki_ip_block.proofs.block.IpBlock.take_opt_from_with_family.Goals as goal
 
-exact : goal.returns-clause-exact
-exact c = exact_optional_by (IsStrictIpBlock (bits_of c.args.family)) (ip_block_at (bits_of c.args.family)) (λ strict. ip_block_by strict (bits_of c.args.family)) (λ block. block) c.args.cursor.now c.next_opt.new.cursor c.next_opt.result (ip_block_modal (bits_of c.args.family)) c.next_opt.ensures.by_mode
-
 pub returns-clause-exact : goal.returns-clause-exact
-returns-clause-exact c = exact c
+returns-clause-exact c = exact_optional_by (IsStrictIpBlock (bits_of c.args.family)) (ip_block_at (bits_of c.args.family)) (λ strict. ip_block_by strict (bits_of c.args.family)) (λ block. block) c.args.cursor.now c.next_opt.new.cursor c.next_opt.result (ip_block_modal (bits_of c.args.family)) c.next_opt.ensures.by_mode
 
 pub returns-clause-reads : goal.returns-clause-reads
-returns-clause-reads c lenient = reads_optional_value_by (IsIpBlockDer (bits_of c.args.family)) (ip_block_at (bits_of c.args.family)) c.args.cursor.now c.next_opt.new.cursor c.next_opt.result (ip_block_reading (bits_of c.args.family)) c.args.cursor.now.bytes (exact c lenient)
+returns-clause-reads c lenient = reads_optional_value_by (IsIpBlockDer (bits_of c.args.family)) (ip_block_at (bits_of c.args.family)) c.args.cursor.now c.next_opt.new.cursor c.next_opt.result (ip_block_reading (bits_of c.args.family)) c.args.cursor.now.bytes (returns-clause-exact c lenient)
 
 pub returns-clause-strict : goal.returns-clause-strict
 returns-clause-strict c strict =

@@ -9,10 +9,10 @@ pub use Rattle.std.specs.List.{All, AllByRecursion}
 pub use Rattle.std.specs.Prelude.{IfOk, IfSome, IsOk, MatchResult, OnOk, ⊤}
 pub use Rattle.std.specs.Vec.{vec_capacity}
 pub use Rattle.rpki_base.proofs.DerCursors.{reads_said_by}
-pub use Rattle.rpki_base.proofs.DerModes.{exact_said_by, refused_said_by, sequence_modal, takes_said_by, values_stateless}
+pub use Rattle.rpki_base.proofs.DerModes.{canonical_said_by, exact_said_by, reads_same, refused_said_by, sequence_modal, takes_said_by, values_stateless}
 pub use Rattle.rpki_base.proofs.DerWriting.{one_content, sequence_written, written_alike}
 pub use Rattle.rpki_base.proofs.FamiliesGathering.{IsThere, each_there, families_reading}
-pub use Rattle.rpki_base.proofs.FamiliesSaid.{one_by_family, one_families, reads_same, stands_for, stood_for}
+pub use Rattle.rpki_base.proofs.FamiliesSaid.{one_by_family, one_families, stands_for, stood_for}
 pub use Rattle.rpki_base.proofs.FamiliesWritten.{Writes, content_shorter, families_written}
 pub use Rattle.rpki_base.proofs.FamilyLemmas.{family_reading, family_written}
 pub use Rattle.rpki_base.specs.DerReading.{IsSequenceFrom, IsSequenceOf, values_of}

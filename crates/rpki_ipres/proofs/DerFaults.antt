@@ -2,7 +2,7 @@
 use Rattle.rpki_ipres.proofs.Common.{Err, List, arith, ℕ, ◌↔◌, ◌≡◌, values_of, bits_of, AddressFamily, tagged_at, ip_block_at, ip_blocks_at, IpBlock, ip_families_at, ip_resources_at}
 use Rattle.rpki_der.specs.declared.error.DerError.TheVariants.{DuplicateFamily, EmptyBlocks, NoFamily, NotCanonical}
 use Rattle.rpki_base.specs.DerFaults.{BeginsEmpty, BeginsWithValue}
-use Rattle.rpki_base.proofs.DerFaults.{NamesTo, names_more, no_values, not_named, refined_names, tagged_names, values_names}
+use Rattle.rpki_base.proofs.DerFaults.{NamesTo, header_names, no_values, not_named, refined_names, values_names}
 use Rattle.rpki_chain.proofs.ChoiceFaults.{choice_fails, choice_names}
 use Rattle.rpki_base.specs.FamiliesFaults.{BeginsWithRepeat}
 use Rattle.rpki_base.proofs.FamiliesFaults.{families_names, family_twice, no_family}
@@ -28,8 +28,7 @@ families_repeat = family_twice (λ family. ip_resources_at (bits_of family)) res
 -- ---- what isn't canonical
 
 sequence_names : (limit : ℕ) (bytes : List ℕ) → NamesTo 10 (ip_blocks_at limit bytes)
-sequence_names limit =
-    refined_names 10 (tagged_at 48) (values_of (ip_block_at limit)) (λ bytes. names_more 3 10 (tagged_at 48 bytes) (omega arith) (tagged_names 48 bytes)) (blocks_names limit)
+sequence_names limit = refined_names 10 (tagged_at 48) (values_of (ip_block_at limit)) (header_names 10 48 (omega arith)) (blocks_names limit)
 
 pub never_set : (limit : ℕ) (bytes : List ℕ) → ip_blocks_at limit bytes ≡ Err NotCanonical → ⊥
 never_set limit bytes = not_named 10 (ip_blocks_at limit bytes) NotCanonical (sequence_names limit bytes) (omega arith)

@@ -1,8 +1,8 @@
 -- Families of resources in either mode: strictly, the octets are those that are written of them.
-use Rattle.rpki_ipres.proofs.Common.{Err, List, None, Ok, Option, Result, Some, [], ap, arith, inl, inr, length, refl, subst, sym, true, ℕ, ◌++◌, ◌<◌, ◌^◌, ◌∙◌, ◌≡◌, ◌≢◌, append-nil, length-append, IfOk, IfSome, MatchResult, reads_said_by, refused_said_by, takes_said_by, families_reading, one_by_family, reads_same, stands_for, stood_for, content_shorter, family_written, IsSequenceOf, NotCanonicalOrMemory, ReadsOrMemory, TakesSaidOrMemory, bits_of, AreInOrder, ByFamily, IsFamilies, IsFamiliesInOrder, IsMember, SaysOption, families_der, member_der, option_der, family_der, AddressFamily, Ipv4, Ipv6, IsChoiceOf, Claim, ResourcesChoice, Missing, found_is, value_is, IsBytes, Refines, Spells, sequence_value, IsModal, Strict, is_strict, left, Cursor, DerError, bits_few_enough, IsIpBlockDer, IpBlock, IsMemory, OrMemory, Memory, Refused, ip_families_by, ip_resources_by, ArePresentClaims, IsFamilyClaim, IsPresentFamilyClaim, IsWholeClaim, if_present, IsIpFamilies, SaysClaimOf, SaysClaims, ip_families_at, ip_families_der, ip_resources_at, ip_resources_der, resources_reading}
+use Rattle.rpki_ipres.proofs.Common.{Err, List, None, Ok, Option, Result, Some, [], ap, arith, inl, inr, length, refl, subst, sym, ℕ, ◌++◌, ◌<◌, ◌^◌, ◌∙◌, ◌≡◌, ◌≢◌, append-nil, length-append, IfOk, IfSome, MatchResult, reads_said_by, canonical_said_by, reads_same, refused_said_by, takes_said_by, families_reading, one_by_family, stands_for, stood_for, content_shorter, family_written, IsSequenceOf, NotCanonicalOrMemory, ReadsOrMemory, TakesSaidOrMemory, bits_of, AreInOrder, ByFamily, IsFamilies, IsFamiliesInOrder, IsMember, SaysOption, families_der, member_der, option_der, family_der, AddressFamily, Ipv4, Ipv6, IsChoiceOf, Claim, ResourcesChoice, Missing, found_is, value_is, IsBytes, Refines, Spells, sequence_value, IsModal, Strict, is_strict, left, Cursor, DerError, bits_few_enough, IsIpBlockDer, IpBlock, IsMemory, OrMemory, Memory, Refused, ip_families_by, ip_resources_by, ArePresentClaims, IsFamilyClaim, IsPresentFamilyClaim, IsWholeClaim, if_present, IsIpFamilies, SaysClaimOf, SaysClaims, ip_families_at, ip_families_der, ip_resources_at, ip_resources_der, resources_reading}
 use Rattle.rpki_base.proofs.FamiliesModes.{families_modal}
 use Rattle.rpki_ipres.proofs.Modes.{IsWrittenChoice, claim_spelled, spelled_claim, written_modal}
-use Rattle.rpki_ipres.proofs.ResourcesWritten.{front_short, one_claim}
+use Rattle.rpki_ipres.proofs.ResourcesWritten.{front_short, none_present, one_claim}
 use Rattle.rpki_ipres.proofs.WholeReadings.{whole_families_when_taken}
 
 -- what strict cursors take of a family, and of families
@@ -78,30 +78,24 @@ spelled_families bytes fs short (are, spelled) = subst (λ (t : List ℕ). Refin
     by_cases None None are short = absurd (are.2 refl refl)
     by_cases (Some a) None are short =
         let member = member_der ip_resources_der Ipv4 a in
-        let small : length (member ++ []) < 2 ^ 64 = content_shorter (member ++ []) short in
+        let small = content_shorter (member ++ []) short in
         let one = spelled_member Ipv4 a are.0 (subst (λ (t : List ℕ). length t < 2 ^ 64) (append-nil member) small) in
-        ((Some one.0, None), (member ++ [], value_is 48 (member ++ []) (omega arith) small, subst (λ (t : List ℕ). IsMember S t (Ipv4, one.0)) (sym (append-nil member)) one.1), (one.2, tt))
+        ((Some one.0, None), (_, value_is 48 _ (omega arith) small, subst (λ (t : List ℕ). IsMember S t (Ipv4, one.0)) (sym (append-nil member)) one.1), (one.2, tt))
     by_cases None (Some b) are short =
-        let member = member_der ip_resources_der Ipv6 b in
-        let small : length member < 2 ^ 64 = content_shorter member short in
+        let small = content_shorter (member_der ip_resources_der Ipv6 b) short in
         let two = spelled_member Ipv6 b are.1 small in
-        ((None, Some two.0), (member, value_is 48 member (omega arith) small, two.1), (tt, two.2))
+        ((None, Some two.0), (_, value_is 48 _ (omega arith) small, two.1), (tt, two.2))
     by_cases (Some a) (Some b) are short =
-        let front = member_der ip_resources_der Ipv4 a in
-        let rest = member_der ip_resources_der Ipv6 b in
-        let small : length (front ++ rest) < 2 ^ 64 = content_shorter (front ++ rest) short in
-        let parts = length-append front rest in
+        let small = content_shorter (member_der ip_resources_der Ipv4 a ++ member_der ip_resources_der Ipv6 b) short in
+        let parts = length-append (member_der ip_resources_der Ipv4 a) (member_der ip_resources_der Ipv6 b) in
         let one = spelled_member Ipv4 a are.0 (omega (arith, small, parts)) in
         let two = spelled_member Ipv6 b are.1 (omega (arith, small, parts)) in
-        ((Some one.0, Some two.0), (front ++ rest, value_is 48 (front ++ rest) (omega arith) small, (rest, (front, one.1, refl), two.1)), (one.2, two.2))
+        ((Some one.0, Some two.0), (_, value_is 48 _ (omega arith) small, (_, (_, one.1, refl), two.1)), (one.2, two.2))
 
 -- claims that are there
 present_of : (family : AddressFamily) (claim : Claim) → IsFamilyClaim family claim
     → IfSome (if_present claim) (IsPresentFamilyClaim family)
 present_of family v1 is = grind (arith)
-
-none_missing : (claim : Claim) → if_present claim ≡ None → claim ≡ Missing
-none_missing v0 e = grind (arith)
 
 -- ---- takes
 
@@ -110,16 +104,9 @@ module _ (old new : Cursor) (result : Result (ByFamily Claim) (OrMemory DerError
   pub reads_canonical_families : IsBytes (left old) → length (left old) < 2 ^ 64
       → Strict old
       (ReadsOrMemory (Spells ArePresentClaims (families_der ip_resources_der)) (λ found. found) old new result)
-  reads_canonical_families fits short strict =
-      let strictly = subst (λ mode. TakesSaidOrMemory SaysClaims old new result (ip_families_by mode)) strict took in
-      same result (reads_said_by (IsFamiliesInOrder S) SaysClaims (ip_families_by true) old new result modal.tight fits strictly)
-    where
-      same : (result : Result (ByFamily Claim) (OrMemory DerError))
-          → ReadsOrMemory (Refines (IsFamiliesInOrder S) SaysClaims) (λ found. found) old new result
-          → ReadsOrMemory (Spells ArePresentClaims (families_der ip_resources_der)) (λ found. found) old new result
-      same (Ok fs) (front, is, split) = (front, families_spelled front fs is, split)
-      same (Err (Refused e)) (none, kept) = ((λ fs rest found. none fs rest (found.0, spelled_families found.0 fs (front_short (left old) found.0 rest short found.2) found.1, found.2)), kept)
-      same (Err (Memory e)) read = read
+  reads_canonical_families fits short =
+      canonical_said_by (IsFamiliesInOrder S) SaysClaims (Spells ArePresentClaims (families_der ip_resources_der)) ip_families_at ip_families_by old new result modal families_spelled
+      (λ bytes fs rest at. spelled_families bytes fs (front_short (left old) bytes rest short at)) took fits
 
   -- else it is refused
   pub refused_families : NotCanonicalOrMemory IsIpFamilies old result
@@ -141,7 +128,7 @@ module _ (old new : Cursor) (result : Result (ByFamily Claim) (OrMemory DerError
       → MatchResult result (λ read. (read ≡ (if_present v4, if_present v6)) × (left new ≡ rest)) IsMemory
   reads_back_families short v4 v6 rest first second some at =
       let fs : ByFamily Claim = (if_present v4, if_present v6) in
-      let are : ArePresentClaims fs = (present_of Ipv4 v4 first, present_of Ipv6 v6 second, λ none also. some (none_missing v4 none) (none_missing v6 also)) in
+      let are : ArePresentClaims fs = (present_of Ipv4 v4 first, present_of Ipv6 v6 second, λ none also. some (none_present v4 none) (none_present v6 also)) in
       let written = spelled_families (ip_families_der v4 v6) fs (front_short (left old) (ip_families_der v4 v6) rest short at) (are, refl) in
       takes_said_by (IsFamiliesInOrder S) SaysClaims ip_families_at ip_families_by old new result modal (one_by_family SaysClaimOf one_claim) took (ip_families_der v4 v6) rest written.0 fs written.1 written.2 at
 
@@ -153,4 +140,4 @@ whole_families_by old new (Err e) fits took = tt
 whole_families_by old new (Ok fs) fits (choices, read, says) =
     let found = found_is (is_strict old) (ip_families_by (is_strict old) (left old)) (ip_families_at (left old)) (choices, left new) (modal.tightens (is_strict old) (left old)) read in
     let reads = reads_said_by (IsFamilies G) SaysClaims ip_families_at old new (Ok fs) (families_reading G (λ family. ip_resources_at (bits_of family)) (λ family. resources_reading (bits_of family))) fits (choices, found, says) in
-    whole_families_when_taken old new (Ok fs) (reads_same (Refines (IsFamilies G) SaysClaims) IsIpFamilies old new (Ok fs) (stands_for G SaysClaimOf) (stood_for G SaysClaimOf) reads)
+    whole_families_when_taken old new (Ok fs) (reads_same (Refines (IsFamilies G) SaysClaims) IsIpFamilies (λ found. found) old new (Ok fs) (stands_for G SaysClaimOf) (λ bytes fs rest at. stood_for G SaysClaimOf bytes fs) reads)

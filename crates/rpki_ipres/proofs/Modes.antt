@@ -1,5 +1,5 @@
 -- Sets and resources of addresses in either mode: strictly, the octets are those that are written of them.
-use Rattle.rpki_ipres.proofs.Common.{Err, List, None, Ok, Option, Result, [], ap, arith, length, refl, subst, sym, true, ℕ, ◌++◌, ◌-◌, ◌<◌, ◌^◌, ◌∷◌, ◌≡◌, ◌≢◌, ◌≤◌, All-from_recursion, pow_pos, IfOk, MatchResult, ⊤, reads_said_by, exact_said_by, refused_said_by, sequence_modal, takes_said_by, values_stateless, content_shorter, IsSequenceFrom, IsSequenceOf, NotCanonicalOrMemory, ReadsOrMemory, TakesSaidOrMemory, octets_of_all, bits_of, AddressFamily, Ipv4, IsWritten, listed_chain, no_numbers, set_spelled, spelled_set, taken_chain, IsChoiceOf, Claim, Holds, IsRunsOfBlocks, Runs, ResourcesChoice, Blocks, Inherit, Missing, IsChain, found_is, tested_modal, value_is, EachFrom, Front, IsBytes, Refines, Spells, Where, IsModal, refined, tagged_at, Lenient, Strict, is_strict, left, Cursor, DerError, bits_few_enough, within, whole_set, HasWholeBounds, IsWhole, new_block_fits, IsBlockWithin, IsIpBlockDer, IsSetIpBlock, ip_block_der, new_ip_block_bounds, ip_block_at, ip_block_by, ip_blocks_at, next_ip_block_by, blocks_reading, ip_block_has_octets, ip_block_reading, ip_bounds, new_ip_block, IpBlock, Prefix, Range, IsMemory, OrMemory, Memory, Refused, greatest_of_ip_block, ip_blocks_by, ip_resources_by, IsFamilyClaim, IsPresentFamilyClaim, IsWholeClaim, IsIpResources, SaysClaimOf, ip_resources_at, ip_resources_der, resources_modal_of, resources_reading, IsIpBlockSequence, ip_run_der, ip_set_der, IsFamilySet, IsIpSet}
+use Rattle.rpki_ipres.proofs.Common.{Err, List, None, Ok, Option, Result, [], ap, arith, length, refl, subst, sym, true, ℕ, ◌++◌, ◌-◌, ◌<◌, ◌^◌, ◌∙◌, ◌∷◌, ◌≡◌, ◌≢◌, ◌≤◌, All-from_recursion, pow_pos, IfOk, MatchResult, ⊤, reads_said_by, canonical_said_by, exact_said_by, refused_said_by, sequence_modal, takes_said_by, values_stateless, content_shorter, IsSequenceFrom, IsSequenceOf, NotCanonicalOrMemory, ReadsOrMemory, TakesSaidOrMemory, octets_of_all, bits_of, AddressFamily, Ipv4, IsWritten, listed_chain, no_numbers, set_spelled, spelled_set, taken_chain, IsChoiceOf, Claim, Holds, IsRunsOfBlocks, Runs, ResourcesChoice, Blocks, Inherit, Missing, IsChain, found_is, tested_modal, value_is, EachFrom, IsBytes, Refines, Spells, Where, IsModal, refined, tagged_at, Lenient, Strict, is_strict, left, Cursor, DerError, bits_few_enough, within, whole_set, HasWholeBounds, IsWhole, new_block_fits, IsBlockWithin, IsIpBlockDer, IsSetIpBlock, ip_block_der, new_ip_block_bounds, ip_block_at, ip_block_by, ip_blocks_at, next_ip_block_by, blocks_reading, ip_block_has_octets, ip_block_reading, ip_bounds, new_ip_block, IpBlock, Prefix, Range, IsMemory, OrMemory, greatest_of_ip_block, ip_blocks_by, ip_resources_by, IsFamilyClaim, IsPresentFamilyClaim, IsWholeClaim, IsIpResources, SaysClaimOf, ip_resources_at, ip_resources_der, resources_modal_of, resources_reading, IsIpBlockSequence, ip_run_der, ip_set_der, IsFamilySet, IsIpSet}
 use Rattle.std.specs.Prelude.{All}
 use Rattle.rpki_chains.specs.Beyond.{IsBeyond, is_beyond}
 use Rattle.rpki_chain.specs.Choices.{MatchChoice}
@@ -94,14 +94,6 @@ module _ (family : AddressFamily) where
       let fit = All-from_recursion (IsRunWithin limit) set (family_runs family set is) in
       spelled_set ip_bounds new_ip_block ip_block_der 340282366920938463463374607431768211455 (IsRunWithin limit) (IsWrittenBlock limit) (written_blocks limit (bits_few_enough family)) bytes set short ((is_ip_set family set is, fit), spelled)
 
-  -- what stands at the front of octets that a length can tell
-  front_is : (bytes : List ℕ) (set : Runs) (rest : List ℕ) → length bytes < 2 ^ 64
-      → Front (Spells (IsFamilySet family) ip_set_der) bytes set rest
-      → Front
-      (Refines (IsSequenceFrom greatest_of_ip_block (IsNextWritten (bits_of family)) None) (IsRunsOfBlocks ip_bounds))
-      bytes set rest
-  front_is bytes set rest short v4 = grind (arith, content_short, spelled_sequence)
-
   module _ (old new : Cursor) (result : Result Runs (OrMemory DerError)) (took : TakesSaidOrMemory (IsRunsOfBlocks ip_bounds) old new result (ip_blocks_by (is_strict old) (bits_of family))) where
     -- a take that answers what the blocks say
     pub exact_set : Lenient old
@@ -118,20 +110,10 @@ module _ (family : AddressFamily) where
     -- strictly, of the octets that are written of it
     pub reads_canonical_set : IsBytes (left old) → length (left old) < 2 ^ 64
         → Strict old (ReadsOrMemory (Spells (IsFamilySet family) ip_set_der) (λ set. set) old new result)
-    reads_canonical_set fits short strict =
+    reads_canonical_set fits short =
         let limit = bits_of family in
-        let S = IsSequenceFrom greatest_of_ip_block (IsNextWritten limit) None in
-        let strictly = subst (λ mode. TakesSaidOrMemory (IsRunsOfBlocks ip_bounds) old new result (ip_blocks_by mode limit)) strict took in
-        same result (reads_said_by S (IsRunsOfBlocks ip_bounds) (ip_blocks_by true limit) old new result (blocks_modal limit (bits_few_enough family)).tight fits strictly)
-      where
-        same : (result : Result Runs (OrMemory DerError))
-            → ReadsOrMemory
-            (Refines (IsSequenceFrom greatest_of_ip_block (IsNextWritten (bits_of family)) None)
-            (IsRunsOfBlocks ip_bounds)) (λ set. set) old new result
-            → ReadsOrMemory (Spells (IsFamilySet family) ip_set_der) (λ set. set) old new result
-        same (Ok set) (front, is, split) = (front, sequence_spelled front set is, split)
-        same (Err (Refused e)) (none, kept) = ((λ set rest found. none set rest (front_is (left old) set rest short found)), kept)
-        same (Err (Memory e)) read = read
+        canonical_said_by (IsSequenceFrom greatest_of_ip_block (IsNextWritten limit) None) (IsRunsOfBlocks ip_bounds) (Spells (IsFamilySet family) ip_set_der) (ip_blocks_at limit) (λ strict. ip_blocks_by strict limit) old new result (blocks_modal limit (bits_few_enough family)) sequence_spelled
+        (λ bytes set rest at (is, spelled). spelled_sequence bytes set (content_short (left old) (octets_of_all ip_run_der set) rest short (at ∙ ap (λ (t : List ℕ). t ++ rest) spelled)) (is, spelled)) took fits
 
     -- else it is refused
     pub refused_set : NotCanonicalOrMemory (IsIpBlockSequence (bits_of family)) old result
@@ -235,17 +217,10 @@ module _ (family : AddressFamily) where
     pub reads_canonical_claim : IsBytes (left old) → length (left old) < 2 ^ 64
         → Strict old
         (ReadsOrMemory (Spells (IsPresentFamilyClaim family) ip_resources_der) (λ claim. claim) old new result)
-    reads_canonical_claim fits short strict =
+    reads_canonical_claim fits short =
         let limit = bits_of family in
-        let strictly = subst (λ mode. TakesSaidOrMemory SaysClaimOf old new result (ip_resources_by mode limit)) strict took in
-        same result (reads_said_by (IsWrittenChoice limit) SaysClaimOf (ip_resources_by true limit) old new result (written_modal limit (bits_few_enough family)).tight fits strictly)
-      where
-        same : (result : Result Claim (OrMemory DerError))
-            → ReadsOrMemory (Refines (IsWrittenChoice (bits_of family)) SaysClaimOf) (λ claim. claim) old new result
-            → ReadsOrMemory (Spells (IsPresentFamilyClaim family) ip_resources_der) (λ claim. claim) old new result
-        same (Ok claim) (front, is, split) = (front, claim_spelled front claim is, split)
-        same (Err (Refused e)) (none, kept) = ((λ claim rest found. none claim rest (found.0, spelled_claim found.0 claim (front_short (left old) found.0 rest short found.2) found.1, found.2)), kept)
-        same (Err (Memory e)) read = read
+        canonical_said_by (IsWrittenChoice limit) SaysClaimOf (Spells (IsPresentFamilyClaim family) ip_resources_der) (ip_resources_at limit) (λ strict. ip_resources_by strict limit) old new result (written_modal limit (bits_few_enough family)) claim_spelled
+        (λ bytes claim rest at. spelled_claim bytes claim (front_short (left old) bytes rest short at)) took fits
 
     pub refused_claim : NotCanonicalOrMemory (IsIpResources (bits_of family)) old result
     refused_claim =

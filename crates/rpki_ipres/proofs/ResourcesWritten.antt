@@ -1,6 +1,6 @@
 -- What is written of resources, alone and by families, stands for them, and octets stand for one
 -- claim at most.
-use Rattle.rpki_ipres.proofs.Common.{List, None, Option, Some, [], ap, arith, length, map, refl, subst, ℕ, ◌++◌, ◌+◌, ◌<◌, ◌^◌, ◌↔◌, ◌∷◌, ◌≡◌, ◌≢◌, append_cancel_left, length-append, IfSome, one_content, one_families, Writes, content_shorter, families_written, IsSequenceOf, octets_of_all, bits_of, option_der, family_der, AddressFamily, Ipv4, Ipv6, lists_one, same_numbers, IsChoiceOf, Claim, claim_of, IsRunsOfBlocks, Runs, ResourcesChoice, Blocks, Inherit, Missing, value_is, OneFront, header, IsIpBlockDer, ip_bounds, new_ip_block, IpBlock, IsFamilyClaim, IsIpClaim, if_present, IsIpFamilies, IsIpResources, SaysClaimOf, ip_families_der, ip_member_der, ip_resources_at, ip_resources_der, resources_reading, ip_family_der, ip_run_der, IsFamilySet}
+use Rattle.rpki_ipres.proofs.Common.{List, None, Option, Some, [], ap, arith, length, map, refl, subst, ℕ, ◌++◌, ◌<◌, ◌^◌, ◌↔◌, ◌∷◌, ◌≡◌, ◌≢◌, append_cancel_left, length-append, IfSome, one_content, one_families, Writes, content_shorter, families_written, IsSequenceOf, octets_of_all, bits_of, option_der, AddressFamily, Ipv4, Ipv6, lists_one, same_numbers, IsChoiceOf, Claim, claim_of, IsRunsOfBlocks, Runs, ResourcesChoice, Blocks, Inherit, Missing, value_is, OneFront, header, IsIpBlockDer, ip_bounds, new_ip_block, IpBlock, IsFamilyClaim, IsIpClaim, if_present, IsIpFamilies, IsIpResources, SaysClaimOf, ip_families_der, ip_member_der, ip_resources_at, ip_resources_der, resources_reading, ip_family_der, ip_run_der, IsFamilySet}
 use Rattle.rpki_base.proofs.DerReadings.{one_front_said}
 use Rattle.rpki_ipres.proofs.SetTextLemmas.{is_ip_set}
 use Rattle.rpki_ipres.proofs.SetWritten.{blocks_say, one_set, set_written, written_as_numbers}
@@ -26,8 +26,7 @@ some_blocks (run ∷ set) some = λ none. absurd cc
 
 -- a set of a family is claimed as one of it
 pub set_claimed : (family : AddressFamily) (set : Runs) → IsFamilySet family set → IsFamilyClaim family (claim_of set)
-set_claimed family [] is = tt
-set_claimed family (run ∷ set) is = (is, λ none. absurd cc)
+set_claimed family set is = grind arith
 
 -- what is written of resources of a family is the resources
 pub resources_written : (family : AddressFamily) (claim : Claim) → IsFamilyClaim family claim → claim ≢ Missing
@@ -48,52 +47,29 @@ present_written family Inherit is = resources_written family Inherit is (λ none
 present_written family (Blocks set) is = resources_written family (Blocks set) is (λ none. absurd cc)
 
 -- a claim that isn't there is missing
-none_present : (claim : Claim) → if_present claim ≡ None → claim ≡ Missing
-none_present Missing none = refl
-none_present Inherit none = absurd cc
-none_present (Blocks set) none = absurd cc
+pub none_present : (claim : Claim) → if_present claim ≡ None → claim ≡ Missing
+none_present claim none = grind arith
 
 -- what is written of families is the families
 pub claims_written : (v4 v6 : Claim) → IsFamilyClaim Ipv4 v4 → IsFamilyClaim Ipv6 v6 → (v4 ≡ Missing → v6 ≢ Missing)
     → length (ip_families_der v4 v6) < 2 ^ 64 → IsIpFamilies (ip_families_der v4 v6) (if_present v4, if_present v6)
-claims_written v4 v6 first second some short =
-    families_written (λ family. IsIpResources (bits_of family)) ip_resources_der (if_present v4, if_present v6) (present_written Ipv4 v4 first) (present_written Ipv6 v6 second)
-    (λ none also. some (none_present v4 none) (none_present v6 also)) short
+claims_written v4 v6 first second some short = search (arith, families_written, none_present, present_written)
 
 -- what stands at the front of octets is no longer than they are
 pub front_short : (bytes front rest : List ℕ) → length bytes < 2 ^ 64 → bytes ≡ front ++ rest → length front < 2 ^ 64
-front_short bytes front rest short at =
-    let whole : length bytes ≡ length (front ++ rest) = ap (λ (t : List ℕ). length t) at in
-    let parts : length (front ++ rest) ≡ length front + length rest = length-append front rest in
-    omega (arith, short, whole, parts)
+front_short bytes front rest short at = grind (arith, length-append)
 
 -- ---- written alike
 
--- a claim that is there
-some_claim : (a b : Claim) → Some a ≡ Some b → a ≡ b
-some_claim a b same = cc
-
 -- claims that are there alike are one
 same_present : (a b : Claim) → if_present a ≡ if_present b → a ≡ b
-same_present Missing Missing same = refl
-same_present Missing Inherit same = absurd cc
-same_present Missing (Blocks y) same = absurd cc
-same_present Inherit Missing same = absurd cc
-same_present Inherit Inherit same = refl
-same_present Inherit (Blocks y) same = some_claim Inherit (Blocks y) same
-same_present (Blocks x) Missing same = absurd cc
-same_present (Blocks x) Inherit same = some_claim (Blocks x) Inherit same
-same_present (Blocks x) (Blocks y) same = some_claim (Blocks x) (Blocks y) same
+same_present a b same = grind arith
 
 -- resources that are written alike are one
 resources_alike : (a b : Claim) → IsIpClaim a → IsIpClaim b → ip_resources_der a ≡ ip_resources_der b → a ≡ b
 unfolding header
-resources_alike Missing Missing is also same = refl
-resources_alike Missing Inherit is also same = absurd cc
-resources_alike Missing (Blocks y) is also same = absurd cc
-resources_alike Inherit Missing is also same = absurd cc
-resources_alike Inherit Inherit is also same = refl
-resources_alike Inherit (Blocks y) is also same = absurd cc
+resources_alike Missing b is also same = grind arith
+resources_alike Inherit b is also same = grind arith
 resources_alike (Blocks x) Missing is also same = absurd cc
 resources_alike (Blocks x) Inherit is also same = absurd cc
 resources_alike (Blocks x) (Blocks y) is also same =
@@ -111,15 +87,11 @@ unfolding header
 members_alike family None None one same = refl
 members_alike family None (Some y) one same = absurd cc
 members_alike family (Some x) None one same = absurd cc
-members_alike family (Some x) (Some y) one same =
-    let content = one_content (family_der family ++ ip_resources_der x) (family_der family ++ ip_resources_der y) same in
-    ap (λ (t : Claim). Some t) (one x y refl refl (append_cancel_left (family_der family) (ip_resources_der x) (ip_resources_der y) content))
+members_alike family (Some x) (Some y) one same = search (arith, append_cancel_left, one_content)
 
 -- the claim that is there is the claim
 present_is : (a x : Claim) → if_present a ≡ Some x → a ≡ x
-present_is Missing x there = absurd cc
-present_is Inherit x there = some_claim Inherit x there
-present_is (Blocks y) x there = some_claim (Blocks y) x there
+present_is a x there = grind arith
 
 pub members_as_claims : (family : AddressFamily) (a b : Claim) → IsIpClaim a → IsIpClaim b
     → (ip_member_der family a ≡ ip_member_der family b) ↔ (a ≡ b)
@@ -132,8 +104,7 @@ members_as_claims family a b is also = (
 -- a set behind its family is written as the resources that list it
 pub set_as_member : (family : AddressFamily) (set : Runs)
     → ip_family_der family set ≡ ip_member_der family (claim_of set)
-set_as_member family [] = refl
-set_as_member family (run ∷ set) = refl
+set_as_member family set = grind arith
 
 -- families that are written alike, in fewer octets than a length can tell, have the same resources
 pub families_as_claims : (v4 v6 w4 w6 : Claim) → IsFamilyClaim Ipv4 v4 → IsFamilyClaim Ipv6 v6

@@ -1,5 +1,5 @@
 -- What is written of sets of addresses, and that it is read back.
-use Rattle.rpki_ipres.proofs.Common.{List, [], ap, arith, eqb, false, length, map, subst, sym, ℕ, ◌++◌, ◌+◌, ◌-◌, ◌<◌, ◌^◌, ◌↔◌, ◌∙◌, ◌∷◌, ◌≡◌, ◌≤◌, length-append, recursion_from_All, pow_pos, AllByRecursion, one_content, sequence_written, written_alike, IsSequenceOf, octets_of_all, sequence_octets, bits_of, family_der, AddressFamily, Ipv4, Ipv6, IsRunsOf-unique, same_numbers, made_of_set, Holds, IsRunsOfBlocks, Runs, Covers, header, sequence_value, HasWholeBounds, new_block_fits, IsBlockWithin, IsIpBlockDer, ip_block_der, new_ip_block_bounds, ip_block_at, ip_block_has_octets, ip_block_reading, ip_bounds, new_ip_block, IsBlock, IpBlock, Prefix, Range, ip_family_der, ip_run_der, ip_set_der, IsFamilySet, IsIpSet}
+use Rattle.rpki_ipres.proofs.Common.{List, [], ap, arith, eqb, false, length, map, subst, sym, ℕ, ◌++◌, ◌<◌, ◌^◌, ◌↔◌, ◌∙◌, ◌∷◌, ◌≡◌, ◌≤◌, length-append, recursion_from_All, pow_pos, AllByRecursion, one_content, sequence_written, written_alike, IsSequenceOf, octets_of_all, sequence_octets, bits_of, family_der, AddressFamily, Ipv4, Ipv6, IsRunsOf-unique, same_numbers, made_of_set, Holds, IsRunsOfBlocks, Runs, Covers, sequence_value, HasWholeBounds, new_block_fits, IsBlockWithin, IsIpBlockDer, ip_block_der, new_ip_block_bounds, ip_block_at, ip_block_has_octets, ip_block_reading, ip_bounds, new_ip_block, IsBlock, IpBlock, ip_family_der, ip_run_der, ip_set_der, IsFamilySet, IsIpSet}
 use Rattle.std.proofs.lemmas.List.Folds.{flat_map-map}
 use Rattle.rpki_ip.specs.RangeDer.{IsRangeWithin}
 use Rattle.rpki_ip.proofs.DerWritten.{few_bits}
@@ -16,13 +16,7 @@ IsRunWithin limit run = IsRangeWithin limit (record { min = run.0; max = run.1 }
 -- the block of a run
 pub made_within : (limit : ℕ) (run : ℕ × ℕ) (block : IpBlock) → limit ≤ 128 → ip_bounds block ≡ run → IsBlock block
     → IsRunWithin limit run → IsBlockWithin limit block
-made_within limit run (Prefix p) le bounds fits is =
-    let some : 0 < 2 ^ (128 - p.len) = pow_pos (128 - p.len) in
-    let first : p.first ≡ run.0 = ap (λ (b : ℕ × ℕ). b.0) bounds in
-    let last : p.first + 2 ^ (128 - p.len) - 1 ≡ run.1 = ap (λ (b : ℕ × ℕ). b.1) bounds in
-    let ordered : run.0 ≤ run.1 = is.is_range.ordered in
-    (fits, few_bits limit p.len run.0 (run.1 + 1) le fits.short is.zeros is.ones (omega (arith, ordered)) (omega (arith, first, last, some)))
-made_within limit run (Range r) le bounds fits is = subst (λ (b : ℕ × ℕ). IsRangeWithin limit (record { min = b.0; max = b.1 })) (sym bounds) is
+made_within limit run block le bounds fits is = grind (arith, few_bits, pow_pos)
 
 -- what is written of it is the block of the run
 run_written : (limit : ℕ) (run : ℕ × ℕ) → limit ≤ 128 → IsRunWithin limit run
@@ -43,8 +37,7 @@ written_as_runs set = flat_map-map ip_block_der new_ip_block set
 pub family_written : (family : AddressFamily) (set : Runs) → eqb (length (map new_ip_block set)) 0 ≡ false
     → sequence_value (family_der family ++ sequence_octets ip_block_der (map new_ip_block set))
     ≡ ip_family_der family set
-family_written family [] some = absurd cc
-family_written family (run ∷ set) some = ap (λ (t : List ℕ). sequence_value (family_der family ++ sequence_value t)) (written_as_runs (run ∷ set))
+family_written family set some = grind (arith, written_as_runs)
 
 -- ---- the blocks of a set
 
@@ -65,8 +58,7 @@ pub family_runs : (family : AddressFamily) (set : Runs) → IsFamilySet family s
 family_runs Ipv4 set (is, whole) = recursion_from_All (IsRunWithin 32) set (λ k d small.
     let bounds : HasWholeBounds _ = whole_runs set is.are_runs whole k d small in
     record { is_range = record { ordered = is.are_runs.ordered k d small; below = (let most = is.below k d small in omega (arith, most)) }; zeros = bounds.begins; ones = bounds.ends })
-family_runs Ipv6 set is = recursion_from_All (IsRunWithin 128) set (λ k d small.
-    record { is_range = record { ordered = is.are_runs.ordered k d small; below = (let most = is.below k d small in omega (arith, most)) }; zeros = omega arith; ones = omega arith })
+family_runs Ipv6 set is = grind (arith, recursion_from_All)
 
 -- no family has more than 128 bits
 few_family : (family : AddressFamily) → bits_of family ≤ 128
@@ -76,11 +68,7 @@ few_family Ipv6 = omega arith
 -- a SEQUENCE that stands in octets is no longer than they are
 pub content_short : (bytes content rest : List ℕ) → length bytes < 2 ^ 64 → bytes ≡ sequence_value content ++ rest
     → length content < 2 ^ 64
-content_short bytes content rest short at =
-    let whole : length bytes ≡ length (sequence_value content ++ rest) = ap (λ (t : List ℕ). length t) at in
-    let parts : length (sequence_value content ++ rest) ≡ length (sequence_value content) + length rest = length-append (sequence_value content) rest in
-    let value : length (sequence_value content) ≡ length (header 48 (length content)) + length content = length-append (header 48 (length content)) content in
-    omega (arith, short, whole, parts, value)
+content_short bytes content rest short at = grind (arith, length-append)
 
 -- what is written of a set is a SEQUENCE of its blocks
 pub set_written : (family : AddressFamily) (set : Runs) → IsFamilySet family set

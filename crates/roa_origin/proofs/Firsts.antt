@@ -1,7 +1,7 @@
 -- The first bits of addresses: how many numbers they write, and that they follow the order of places.
-use Rattle.roa_origin.proofs.Common.{List, arith, get_or, inl, inr, length, lit≤, subst, sym, ℕ, ◌*◌, ◌+◌, ◌-◌, ◌/◌, ◌<◌, ◌^◌, ◌≡◌, ◌≤◌, cases_lt, le-div, pow_pos, shr_below, IpAddr, V4, V6, FamilyPrefix, IsFamilyPrefix, AreFamilyPrefixes, Payload, payload_place, place, AreStarts, IsStart, first_bits}
+use Rattle.roa_origin.proofs.Common.{List, arith, get_or, inl, inr, length, lit≤, subst, ℕ, ◌*◌, ◌+◌, ◌-◌, ◌/◌, ◌<◌, ◌^◌, ◌≤◌, cases_lt, le-div, pow_pos, shr_below, IpAddr, V4, V6, FamilyPrefix, IsFamilyPrefix, address_number, width, AreFamilyPrefixes, Payload, payload_place, place, IsStart, first_bits}
 use Rattle.std.proofs.Math.Nat.{div-mul-le_self, pow-le-pow_right}
-use Rattle.roa_origin.proofs.Nested.{below_256}
+use Rattle.roa_origin.proofs.Nested.{len_small}
 
 -- the first n of w bits write a number of n bits
 pub first_part : (w n x : ℕ) → n ≤ w → x < 2 ^ w → x / 2 ^ (w - n) < 2 ^ n
@@ -20,24 +20,15 @@ up k x y le =
 -- what comes no later has first bits that write no more
 pub first_up : (n : ℕ) (p q : FamilyPrefix) → n ≤ 20 → IsFamilyPrefix p → IsFamilyPrefix q → place p ≤ place q
     → first_bits n p ≤ first_bits n q
-first_up n p q few = of_addrs p.addr q.addr p.len q.len where
-  of_addrs : (a b : IpAddr) (k l : ℕ) → IsFamilyPrefix (record { addr = a; len = k })
-      → IsFamilyPrefix (record { addr = b; len = l })
-      → place (record { addr = a; len = k }) ≤ place (record { addr = b; len = l })
-      → first_bits n (record { addr = a; len = k }) ≤ first_bits n (record { addr = b; len = l })
-  of_addrs (V4 x) (V4 y) k l is is' le =
-      let more : x / 2 ^ (32 - n) ≤ y / 2 ^ (32 - n) = up (32 - n) x y (omega (arith, le, below_256 32 _ (omega arith) is, below_256 32 _ (omega arith) is')) in
-      omega (arith, more)
-  of_addrs (V6 x) (V6 y) k l is is' le =
-      let more : x / 2 ^ (128 - n) ≤ y / 2 ^ (128 - n) = up (128 - n) x y (omega (arith, le, below_256 128 _ (omega arith) is, below_256 128 _ (omega arith) is')) in
-      omega (arith, more)
-  of_addrs (V4 x) (V6 y) k l is is' le =
-      let small : x / 2 ^ (32 - n) < 2 ^ n = first_part 32 n x (omega (arith, few)) is.below in
-      omega (arith, small)
-  of_addrs (V6 x) (V4 y) k l is is' le =
-      let below : y < 2 ^ 32 = is'.below in
-      let short : l ≤ 32 = is'.short in
-      absurd (omega (arith, le, below, short))
+first_up n p q few is is' = of_addrs p.addr q.addr p.len q.len (len_small p is) (len_small q is') is.below is'.below
+  where
+    of_addrs : (a b : IpAddr) (k l : ℕ) → k < 256 → l < 256 → address_number a < 2 ^ width a
+        → address_number b < 2 ^ width b → place (record { addr = a; len = k }) ≤ place (record { addr = b; len = l })
+        → first_bits n (record { addr = a; len = k }) ≤ first_bits n (record { addr = b; len = l })
+    of_addrs (V4 x) (V4 y) k l short short' below below' le = omega (arith, up (32 - n) x y (omega arith))
+    of_addrs (V6 x) (V6 y) k l short short' below below' le = omega (arith, up (128 - n) x y (omega arith))
+    of_addrs (V4 x) (V6 y) k l short short' below below' le = omega (arith, first_part 32 n x (omega arith) below)
+    of_addrs (V6 x) (V4 y) k l short short' below below' le = absurd (omega arith)
 
 -- payloads before the start of a prefix's first bits come before the prefix
 pub before_start : (n : ℕ) (xs : List Payload) (p : FamilyPrefix) (start : ℕ) → n ≤ 20
@@ -59,8 +50,3 @@ after_start n xs p end few prefixes is at k d from small =
       | inl less ↦ less
       | inr more ↦ absurd (let up = first_up n (get_or xs k d).0.prefix p few (prefixes k d small) is more in omega (arith, up, at.from k d from small))
     ]
-
--- starts by another name of the payloads and of the starts
-pub same_starts : (n : ℕ) (xs ys : List Payload) (starts others : List ℕ) → xs ≡ ys → starts ≡ others
-    → AreStarts n ys others → AreStarts n xs starts
-same_starts n xs ys starts others e f h = subst (λ (zs : List Payload). AreStarts n zs starts) (sym e) (subst (λ (ks : List ℕ). AreStarts n ys ks) (sym f) h)

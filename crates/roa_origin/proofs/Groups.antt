@@ -1,5 +1,5 @@
 -- The payloads of one prefix, as a piece of a table.
-use Rattle.roa_origin.proofs.Common.{Any, List, arith, get_or, length, subst, sym, ℕ, ◌+◌, ◌-◌, ◌<◌, ◌∙◌, ◌≡◌, ◌≤◌, get_or-drop, get_or-take, get_or_default, length-take-le, slice_range, FamilyPrefix, IsGroup, IsInOrder, CoversRoute, IsLawfulPayload, Payload}
+use Rattle.roa_origin.proofs.Common.{Any, List, ap, arith, get_or, length, subst, sym, ℕ, ◌+◌, ◌-◌, ◌<◌, ◌∙◌, ◌≡◌, ◌≤◌, get_or-drop, get_or-take, get_or_default, length-take-le, slice_range, FamilyPrefix, IsGroup, IsInOrder, CoversRoute, IsLawfulPayload, Payload}
 use Rattle.std.proofs.lemmas.List.{length-drop}
 use Rattle.roa_origin.proofs.Places.{by_ranks}
 
@@ -7,6 +7,11 @@ use Rattle.roa_origin.proofs.Places.{by_ranks}
 pub in_piece : (xs : List Payload) (a b k : ℕ) (d : Payload) → k < b - a
     → get_or (slice_range xs a b) k d ≡ get_or xs (a + k) d
 in_piece xs a b k d small = get_or-take (b - a) _ k d small ∙ get_or-drop a xs k d
+
+pub piece_at : (xs : List Payload) (a b k : ℕ) (d : Payload) → a ≤ k → k < b
+    → get_or (slice_range xs a b) (k - a) d ≡ get_or xs k d
+piece_at xs a b k d from before =
+    in_piece xs a b (k - a) d (omega (arith, from, before)) ∙ ap (λ j. get_or xs j d) (let e : a + (k - a) ≡ k = omega (arith, from) in e)
 
 pub piece_length : (xs : List Payload) (a b : ℕ) → b ≤ length xs → length (slice_range xs a b) ≡ b - a
 piece_length xs a b inside = length-take-le (b - a) _ (let e = length-drop a xs in omega (arith, e, inside))
@@ -37,17 +42,12 @@ module _ (xs : List Payload) (order : IsInOrder xs) (route : FamilyPrefix) (a b 
 
   -- what some payload of it is, some payload of the table is
   pub any_in : (P : Payload → Type 0) → Any P (slice_range xs a b) → Any P xs
-  any_in P h =
-      let small : h.0 < length (slice_range xs a b) = h.2 in
-      let there = in_piece xs a b h.0 h.1 (omega (arith, small, wide)) in
-      (a + h.0, h.1, omega (arith, small, wide, within), sym there ∙ h.3, h.4)
+  any_in P h = grind (arith, in_piece, wide)
 
   -- and what none of it is, none is at those places
   pub none_in : (P : Payload → Type 0) → ¬ Any P (slice_range xs a b) → (k : ℕ) (d : Payload) → a ≤ k → k < b
       → ¬ P (get_or xs k d)
   none_in P none k d from before is_such =
       let y : Payload = get_or xs k d in
-      let e : a + (k - a) ≡ k = omega (arith, from) in
-      let inside : k < length xs = omega (arith, before, within) in
-      let there : get_or (slice_range xs a b) (k - a) y ≡ get_or xs k y = subst (λ j. get_or (slice_range xs a b) (k - a) y ≡ get_or xs j y) e (in_piece xs a b (k - a) y (omega (arith, from, before))) in
-      none (k - a, y, omega (arith, from, before, wide), there ∙ get_or_default xs k y d inside, is_such)
+      let there = piece_at xs a b k y from before ∙ get_or_default xs k y d (omega (arith, before, within)) in
+      none (k - a, y, omega (arith, from, before, wide), there, is_such)

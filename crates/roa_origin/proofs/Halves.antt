@@ -1,5 +1,5 @@
 -- Places between which a prefix is sought, by what stands in the middle.
-use Rattle.roa_origin.proofs.Common.{List, arith, get_or, subst, ℕ, ◌+◌, ◌<◌, ◌≤◌, get_or_default, IsNonDecreasingBy, FamilyPrefix, Payload, payload_place, place, length}
+use Rattle.roa_origin.proofs.Common.{List, arith, get_or, ℕ, ◌+◌, ◌<◌, ◌≤◌, get_or_default, IsNonDecreasingBy, FamilyPrefix, Payload, payload_place, place}
 use Rattle.roa_origin.specs.Links.{IsBetween}
 
 module _ (xs : List Payload) (from to m : ℕ) (p : FamilyPrefix) (d : Payload) (ordered : IsNonDecreasingBy payload_place xs)
@@ -9,11 +9,7 @@ module _ (xs : List Payload) (from to m : ℕ) (p : FamilyPrefix) (d : Payload) 
   behind_middle before = record {
     ordered = omega (arith, small);
     within = h.within;
-    up_to = λ k e less.
-        let inside : m < length xs = omega (arith, small, h.within) in
-        let up = ordered k m e (omega (arith, less)) inside in
-        let here : payload_place (get_or xs m e) ≤ place p = subst (λ (y : Payload). payload_place y ≤ place p) (get_or_default xs m d e inside) before in
-        omega (arith, up, here);
+    up_to = λ k e less. grind (arith, ordered k m e, get_or_default xs m d e, h.within);
     later = h.later;
   }
 
@@ -23,8 +19,5 @@ module _ (xs : List Payload) (from to m : ℕ) (p : FamilyPrefix) (d : Payload) 
     ordered = le;
     within = omega (arith, small, h.within);
     up_to = h.up_to;
-    later = λ k e from_m inside.
-        let up = ordered m k e from_m inside in
-        let here : place p < payload_place (get_or xs m e) = subst (λ (y : Payload). place p < payload_place y) (get_or_default xs m d e (omega (arith, from_m, inside))) after in
-        omega (arith, up, here);
+    later = λ k e from_m inside. grind (arith, ordered m k e, get_or_default xs m d e);
   }

@@ -22,8 +22,7 @@ module _ (Such : Payload → Type 0) (r : FamilyPrefix) (xs : List Payload) (suc
   -- before the first step
   pub begun : (n : ℕ) → n ≤ length xs → AreUpTo xs n r → ((d : Payload) → 0 < n → CoversRoute r (get_or xs (n - 1) d))
       → NoneCovers xs r n (length xs) → IsLeft Such r xs n
-  begun n within up_to last none =
-      record { within = within; up_to = up_to; last = last; none = λ k d from small is. none k d from small small (such_covers (get_or xs k d) is) }
+  begun n within up_to last none = grind (arith, last)
 
   -- behind the last step none is such
   pub ended : (n : ℕ) → n ≤ 0 → IsLeft Such r xs n → ¬ Any Such xs

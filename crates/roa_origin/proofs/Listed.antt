@@ -1,6 +1,7 @@
 -- What changes in order say of the list that they came in.
-use Rattle.roa_origin.proofs.Common.{All, Any, List, ap, arith, get_or, inl, inr, length, map, refl, subst, sym, take, ℕ, ◌*◌, ◌+◌, ◌<◌, ◌^◌, ◌∙◌, ◌≡◌, ◌≤◌, cases_lt, get_or-map, get_or-take, get_or_default, length-map, length-take, All-permutation, IsPermutation-map, IsPermutation-refl, IsPermutation-trans, IsNonDecreasingBy, IsPermutation, IsLawfulPayload, Payload, sent_place, as_sent, AreChangesOf, AreSorted, IsFirstPlace, IsLawfulChange, IsOf, IsOfBefore, IsSearched, IsSentIn, change_place, sent_change, Change}
+use Rattle.roa_origin.proofs.Common.{All, All-contains, Any, Contains, List, ap, arith, get_or, inl, inr, length, map, refl, subst, sym, take, ℕ, ◌<◌, ◌∙◌, ◌≡◌, ◌≤◌, cases_lt, get_or-map, get_or-take, get_or_default, length-map, length-take, All-permutation, IsPermutation-map, IsPermutation-refl, IsPermutation-trans, IsNonDecreasingBy, IsPermutation, IsLawfulPayload, Payload, sent_place, as_sent, AreChangesOf, AreSorted, IsFirstPlace, IsLawfulChange, IsOf, IsOfBefore, IsSearched, IsSentIn, change_place, sent_change, Change}
 use Rattle.roa_origin.proofs.Found.{any_moved}
+use Rattle.roa_origin.proofs.Places.{lower, upper}
 use Rattle.roa_origin.proofs.Sent.{same_sent, sent_same}
 
 -- ---- changes as they came
@@ -46,18 +47,24 @@ listed_moved xs cs ds moved are = record {
 
 -- ---- a payload among changes
 
+abbrev StandsIn : List Payload → Change → Type 0
+StandsIn xs change = (change.place < length xs) × ((d : Payload) → as_sent (get_or xs change.place d) ≡ change.entry)
+
 module _ (xs : List Payload) (cs : List Change) (are : AreChangesOf xs cs) (p : Payload) (is : IsLawfulPayload p) where
+  -- a change of the payload has its place
+  at : (c : Change) → Contains cs c → IsOf p c → (c.place < length xs) × (as_sent (get_or xs c.place p) ≡ as_sent p)
+  at c h of =
+      let stands = All-contains (StandsIn xs) cs c are.at_place h in
+      let lawful = All-contains IsLawfulChange cs c are.lawful h in
+      (stands.0, ap as_sent (stands.1 p) ∙ same_sent c.entry p lawful.payload is of)
+
   -- the list has a payload before a place where a change of it stands before
   pub sent_before : (n : ℕ) → Any (IsOfBefore p n) cs → IsSentIn (take n xs) p
   sent_before n (k, c, inside, there, is_of) =
-      let at = are.at_place k c inside in
+      let found = at c (k, inside, there) is_of.0 in
       let less : c.place < n = is_of.1 in
-      let place : c.place < length xs = subst (λ (b : Change). b.place < length xs) there at.0 in
-      let entry : as_sent (get_or xs c.place p) ≡ c.entry = subst (λ (b : Change). as_sent (get_or xs b.place p) ≡ b.entry) there (at.1 p) in
-      let lawful : IsLawfulChange c = subst IsLawfulChange there (are.lawful k c inside) in
       let q : Payload = get_or xs c.place p in
-      let sent : as_sent q ≡ as_sent p = ap as_sent entry ∙ same_sent c.entry p lawful.payload is is_of.0 in
-      (c.place, q, omega (arith, less, place, length-take n xs), get_or-take n xs c.place q less ∙ get_or_default xs c.place q p place, sent)
+      (c.place, q, omega (arith, less, found.0, length-take n xs), get_or-take n xs c.place q less ∙ get_or_default xs c.place q p found.0, found.1)
 
   pub change_before : (n : ℕ) → IsSentIn (take n xs) p → Any (IsOfBefore p n) cs
   change_before n (k, q, inside, there, same) =
@@ -69,27 +76,17 @@ module _ (xs : List Payload) (cs : List Change) (are : AreChangesOf xs cs) (p : 
 
   pub sent_in : Any (IsOf p) cs → IsSentIn xs p
   sent_in (k, c, inside, there, of) =
-      let at = are.at_place k c inside in
-      let place : c.place < length xs = subst (λ (b : Change). b.place < length xs) there at.0 in
-      let entry : as_sent (get_or xs c.place p) ≡ c.entry = subst (λ (b : Change). as_sent (get_or xs b.place p) ≡ b.entry) there (at.1 p) in
-      let lawful : IsLawfulChange c = subst IsLawfulChange there (are.lawful k c inside) in
-      let q : Payload = get_or xs c.place p in
-      (c.place, q, place, get_or_default xs c.place q p place, ap as_sent entry ∙ same_sent c.entry p lawful.payload is of)
+      let found = at c (k, inside, there) of in
+      (c.place, get_or xs c.place p, found.0, get_or_default xs c.place _ p found.0, found.1)
 
   pub change_of : IsSentIn xs p → Any (IsOf p) cs
-  change_of (k, q, inside, there, same) =
-      let found = are.each k q inside in
-      (found.0, found.1, found.2, found.3, ap sent_place found.4.0 ∙ sent_same (get_or xs k q) p (ap as_sent there ∙ same))
+  change_of (k, q, inside, there, same) = grind (arith, are.each k q inside, sent_same (get_or xs k q) p)
 
 -- ---- changes in order
 
-place_upper : (m n r s : ℕ) → s < 2 ^ 64 → m * 2 ^ 64 + r ≤ n * 2 ^ 64 + s → m ≤ n
-place_upper m n r s small le = omega (arith, small, le)
-
 -- by the order of their payloads
 pub by_payload : (cs : List Change) → AreSorted cs → IsNonDecreasingBy sent_change cs
-by_payload cs order i j d le small =
-    place_upper (sent_place (get_or cs i d).entry) (sent_place (get_or cs j d).entry) (get_or cs i d).place (get_or cs j d).place (order.lawful j d small).number (order.ordered i j d le small)
+by_payload cs order i j d le small = grind (arith, upper, order.lawful j d, order.ordered i j d)
 
 -- the first one of a payload has the least place
 pub first_of : (cs : List Change) (p : Payload) (at : ℕ) → AreSorted cs → IsSearched sent_change cs (sent_place p) at
@@ -100,9 +97,6 @@ first_of cs p at order searched inside x is of = record {
     | inl low ↦ absurd (let less = searched.before k d low small in omega (arith, less, same))
     | inr high ↦
         let up : change_place x ≤ change_place (get_or cs k d) = subst (λ (b : Change). change_place b ≤ change_place (get_or cs k d)) (get_or_default cs at d x inside ∙ is) (order.ordered at k d high small) in
-        second (sent_place x.entry) (sent_place (get_or cs k d).entry) x.place (get_or cs k d).place (of ∙ sym same) up
+        lower (sent_place x.entry) (sent_place (get_or cs k d).entry) x.place (get_or cs k d).place (of ∙ sym same) up
   ];
 }
-  where
-    second : (m n r s : ℕ) → m ≡ n → m * 2 ^ 64 + r ≤ n * 2 ^ 64 + s → r ≤ s
-    second m n r s e le = omega (arith, e, le)

@@ -1,6 +1,7 @@
 -- Two lists in order, merged by turns: each turn takes the next element of one of them, which comes no later than the
 -- next of the other.
-use Rattle.roa_origin.proofs.Common.{All, List, [], ap, append_assoc, arith, get_or, inl, inr, length, length-append, refl, subst, sym, ℕ, ◌++◌, ◌+◌, ◌-◌, ◌<◌, ◌∙◌, ◌∷◌, ◌≡◌, ◌≤◌, get_or-append_seam, get_or_default, All-cons, All-head, All-same, All-tail, IsNonDecreasingBy-push, IsPermutation-append_left, IsPermutation-cons, IsPermutation-middle, IsPermutation-sym, IsPermutation-to_front, IsPermutation-trans, IsNonDecreasingBy, IsPermutation, AreThose}
+use Rattle.roa_origin.proofs.Common.{All, List, [], ap, append_assoc, arith, get_or, inl, inr, length, length-append, refl, subst, sym, ℕ, ◌++◌, ◌+◌, ◌-◌, ◌<◌, ◌∙◌, ◌∷◌, ◌≡◌, ◌≤◌, get_or-append_seam, get_or_default, All-contains, Contains-get_or, IsNonDecreasingBy-push, IsPermutation-append_left, IsPermutation-cons, IsPermutation-middle, IsPermutation-sym, IsPermutation-to_front, IsPermutation-trans, IsNonDecreasingBy, IsPermutation, AreThose}
+use Rattle.roa_origin.proofs.Members.{those_are}
 
 -- a list in order whose last element comes no later than what is left of two lists from places on
 pub record IsMerged {X : Type 0} (f : X → ℕ) (xs ys : List X) (at come : ℕ) (list : List X) : Type 0 where
@@ -16,11 +17,7 @@ last_is list x d = ap (λ n. get_or (list ++ x ∷ []) n d) (let e : length (lis
 
 module _ {X : Type 0} (f : X → ℕ) where
   pub none_merged : (xs ys : List X) → IsMerged f xs ys 0 0 []
-  none_merged xs ys = record {
-    ordered = λ i j d le small. absurd (omega (arith, small));
-    ones = λ k d e from small some. absurd (omega (arith, some));
-    others = λ k d e from small some. absurd (omega (arith, some));
-  }
+  none_merged xs ys = grind (arith)
 
   pub turned : (xs ys : List X) (at come : ℕ) (list : List X) → IsMerged f xs ys at come list
       → IsMerged f ys xs come at list
@@ -29,11 +26,7 @@ module _ {X : Type 0} (f : X → ℕ) where
   -- an element is left out
   pub skipped : (xs ys : List X) (at come : ℕ) (list : List X) → IsMerged f xs ys at come list
       → IsMerged f xs ys (at + 1) come list
-  skipped xs ys at come list m = record {
-    ordered = m.ordered;
-    ones = λ k d e from small some. m.ones k d e (omega (arith, from)) small some;
-    others = m.others;
-  }
+  skipped xs ys at come list m = grind (arith)
 
   -- or is next
   pub taken : (xs ys : List X) (at come : ℕ) (list : List X) (x : X) → IsNonDecreasingBy f xs → IsNonDecreasingBy f ys
@@ -53,26 +46,18 @@ module _ {X : Type 0} (f : X → ℕ) where
 pub those_more : {X : Type 0} (P : X → Type 0) (xs ys : List X) (x : X) → P x → AreThose P xs ys
     → AreThose P (xs ++ x ∷ []) (ys ++ x ∷ [])
 those_more P [] ys x h e = inl (h, [], ap (λ zs. zs ++ x ∷ []) e, refl)
-those_more P (y ∷ xs) ys x h those = elim those [
-  | inl w ↦ inl (w.0, w.1 ++ x ∷ [], ap (λ zs. zs ++ x ∷ []) w.2, those_more P xs w.1 x h w.3)
-  | inr w ↦ inr (w.0, those_more P xs ys x h w.1)
-]
+those_more P (y ∷ xs) ys x h (inl w) = inl (w.0, w.1 ++ x ∷ [], ap (λ zs. zs ++ x ∷ []) w.2, those_more P xs w.1 x h w.3)
+those_more P (y ∷ xs) ys x h (inr w) = inr (w.0, those_more P xs ys x h w.1)
 
 pub those_without : {X : Type 0} (P : X → Type 0) (xs ys : List X) (x : X) → ¬ P x → AreThose P xs ys
     → AreThose P (xs ++ x ∷ []) ys
 those_without P [] ys x h e = inr (h, e)
-those_without P (y ∷ xs) ys x h those = elim those [
-  | inl w ↦ inl (w.0, w.1, w.2, those_without P xs w.1 x h w.3)
-  | inr w ↦ inr (w.0, those_without P xs ys x h w.1)
-]
+those_without P (y ∷ xs) ys x h (inl w) = inl (w.0, w.1, w.2, those_without P xs w.1 x h w.3)
+those_without P (y ∷ xs) ys x h (inr w) = inr (w.0, those_without P xs ys x h w.1)
 
 -- what all are, those are
 pub All-those : {X : Type 0} (P R : X → Type 0) (xs ys : List X) → AreThose P xs ys → All R xs → All R ys
-All-those P R [] ys e all = All-same R ys [] e all
-All-those P R (x ∷ xs) ys those all = elim those [
-  | inl w ↦ All-same R ys (x ∷ w.1) w.2 (All-cons R x w.1 (All-head R x xs all) (All-those P R xs w.1 w.3 (All-tail R x xs all)))
-  | inr w ↦ All-those P R xs ys w.1 (All-tail R x xs all)
-]
+All-those P R xs ys those all k d small = All-contains R xs (get_or ys k d) all (those_are P xs ys (get_or ys k d) those (Contains-get_or ys k d small)).1
 
 -- ---- what a list has in another order, and one element more
 

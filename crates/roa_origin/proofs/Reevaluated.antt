@@ -1,25 +1,15 @@
 -- The places of the routes gone through whose validity differs by two lists.
-use Rattle.roa_origin.proofs.Common.{AllPairs, Contains, List, [], arith, get_or, inl, inr, length, refl, subst, sym, ℕ, ◌++◌, ◌+◌, ◌<◌, ◌↔◌, ◌∙◌, ◌∷◌, ◌≡◌, ◌≢◌, ◌≤◌, cases_lt, get_or_default, Contains-append_left, Contains-get_or, Contains-push, Contains-push_cases, all_pairs_push, FamilyPrefix, Payload, IsValidity, Validity, Invalid, NotFound, Valid}
+use Rattle.roa_origin.proofs.Common.{AllPairs, Contains, List, [], arith, get_or, inl, inr, length, subst, ℕ, ◌++◌, ◌+◌, ◌<◌, ◌↔◌, ◌∙◌, ◌∷◌, ◌≡◌, ◌≢◌, ◌≤◌, cases_lt, get_or_default, Contains-append_left, Contains-get_or, Contains-push, Contains-push_cases, all_pairs_push, FamilyPrefix, Payload, IsValidity, Validity}
 use Rattle.roa_origin.specs.Reevaluations.{AreChanged, HasChanged, IsChangedAt}
 
 -- a list gives a route one validity
 pub one_validity : (route : FamilyPrefix) (asn : ℕ) (xs : List Payload) (v w : Validity) → IsValidity route asn xs v
     → IsValidity route asn xs w → v ≡ w
-one_validity route asn xs Valid w h k = sym (k.valid.1 (h.valid.0 refl))
-one_validity route asn xs Invalid w h k = sym (k.invalid.1 (h.invalid.0 refl))
-one_validity route asn xs NotFound w h k = sym (k.not_found.1 (h.not_found.0 refl))
+one_validity route asn xs v w h k = grind (arith)
 
 -- validities that don't differ are the same
 pub same_where_not_differing : (v w : Validity) → ¬ (v ≢ w) → v ≡ w
-same_where_not_differing Valid Valid not = refl
-same_where_not_differing Valid Invalid not = absurd (not (λ e. cc))
-same_where_not_differing Valid NotFound not = absurd (not (λ e. cc))
-same_where_not_differing Invalid Valid not = absurd (not (λ e. cc))
-same_where_not_differing Invalid Invalid not = refl
-same_where_not_differing Invalid NotFound not = absurd (not (λ e. cc))
-same_where_not_differing NotFound Valid not = absurd (not (λ e. cc))
-same_where_not_differing NotFound Invalid not = absurd (not (λ e. cc))
-same_where_not_differing NotFound NotFound not = refl
+same_where_not_differing v w not = grind (arith)
 
 module _ (old new : List Payload) (routes : List (FamilyPrefix × ℕ)) where
   -- of the first n routes
@@ -44,30 +34,15 @@ module _ (old new : List Payload) (routes : List (FamilyPrefix × ℕ)) where
     }
 
     pub none_more : ¬ IsChangedAt old new routes n → AreSoFar (n + 1) places
-    none_more not = record {
-      ascending = so_far.ascending;
-      members = λ k. (
-        (λ h. let before = (so_far.members k).0 h in (omega (arith, before.0), before.1)),
-        λ h. elim (cases_lt k n) [
-          | inl low ↦ (so_far.members k).1 (low, h.1)
-          | inr high ↦ absurd (not (subst (IsChangedAt old new routes) (let e : k ≡ n = omega (arith, h.0, high) in e) h.1))
-        ],
-      );
-    }
+    none_more not = record { ascending = so_far.ascending; members = λ k. grind (arith, cases_lt, so_far.members k) }
 
     pub all_of : length routes ≤ n → AreChanged old new routes places
-    all_of all = record {
-      ascending = so_far.ascending;
-      members = λ k. ((λ h. ((so_far.members k).0 h).1), λ h. (so_far.members k).1 (let inside : k < length routes = h.within in omega (arith, inside, all), h));
-    }
+    all_of all = record { ascending = so_far.ascending; members = λ k. grind (arith, so_far.members k) }
 
   -- two validities of the route at a place
   module _ (n : ℕ) (inside : n < length routes) (route : FamilyPrefix × ℕ) (is : get_or routes n route ≡ route) (v w : Validity) (was : IsValidity route.0 route.1 old v) (now : IsValidity route.0 route.1 new w) where
     pub differ : v ≢ w → IsChangedAt old new routes n
-    differ not = record {
-      within = inside;
-      changed = λ d. subst (λ (r : FamilyPrefix × ℕ). HasChanged old new r.0 r.1) (sym (get_or_default routes n d route inside ∙ is)) (record { before = v; after = w; was = was; is = now; differ = not });
-    }
+    differ not = grind (arith, get_or_default)
 
     pub tie : v ≡ w → ¬ IsChangedAt old new routes n
     tie same h =

@@ -1,7 +1,7 @@
 -- Payloads are the same as they are sent where a number of theirs is, which follows the table's order.
-use Rattle.roa_origin.proofs.Common.{List, None, Option, Some, ap, arith, get_or, length, refl, sym, ℕ, ◌*◌, ◌+◌, ◌<◌, ◌^◌, ◌∙◌, ◌≡◌, ◌≤◌, IsNonDecreasingBy, resolved, FamilyPrefix, IsLawfulPayload, Payload, longest, payload_place, rank, sent_place, sent_rank, table_place, told, as_sent, IsSearched, IsSentIn}
+use Rattle.roa_origin.proofs.Common.{List, ap, arith, get_or, length, ℕ, ◌*◌, ◌+◌, ◌<◌, ◌^◌, ◌≡◌, ◌≤◌, IsNonDecreasingBy, IsLawfulPayload, Payload, sent_place, sent_rank, table_place, told, as_sent, IsSearched, IsSentIn}
 use Rattle.roa_origin.proofs.Found.{found}
-use Rattle.roa_origin.proofs.Places.{longest_small, rank_small, same_prefix, told_small}
+use Rattle.roa_origin.proofs.Places.{longest_small, same_prefix, told_small}
 
 -- the number has 64 bits behind the place of the prefix
 pub sent_small : (p : Payload) → IsLawfulPayload p → sent_rank p < 2 ^ 64
@@ -15,51 +15,14 @@ second_same m n r s same e = omega (arith, same, e)
 
 pub same_sent : (p q : Payload) → IsLawfulPayload p → IsLawfulPayload q → sent_place p ≡ sent_place q
     → as_sent p ≡ as_sent q
-same_sent p q is is' e =
-    let places : payload_place p ≡ payload_place q = first_same (payload_place p) (payload_place q) (sent_rank p) (sent_rank q) (sent_small p is) (sent_small q is') e in
-    let ranks : sent_rank p ≡ sent_rank q = second_same (payload_place p) (payload_place q) (sent_rank p) (sent_rank q) places e in
-    let long = longest_small p is in
-    let long' = longest_small q is' in
-    let number : p.1 < 2 ^ 32 = is.number in
-    let number' : q.1 < 2 ^ 32 = is'.number in
-    let prefixes = same_prefix p.0.prefix q.0.prefix is.prefix.0 is'.prefix.0 places in
-    let lens : longest p ≡ longest q = omega (arith, ranks, long, long', number, number') in
-    let asns : p.1 ≡ q.1 = omega (arith, ranks, long, long', number, number') in
-    λ i. (record { prefix = prefixes i; max_len = Some (lens i) }, asns i)
-
--- a number of theirs tells payloads apart
-told_same : (p : FamilyPrefix) (m n : Option ℕ) → told m ≡ told n → resolved p m ≡ resolved p n → m ≡ n
-told_same p None None e f = refl
-told_same p (Some a) (Some b) e f = ap Some f
-told_same p None (Some b) e f = absurd (omega (arith, e))
-told_same p (Some a) None e f = absurd (omega (arith, e))
-
-pub same_payload : (p q : Payload) → IsLawfulPayload p → IsLawfulPayload q → table_place p ≡ table_place q → p ≡ q
-same_payload p q is is' e =
-    let places : payload_place p ≡ payload_place q = first_same (payload_place p) (payload_place q) (rank p) (rank q) (rank_small p is) (rank_small q is') e in
-    let ranks : rank p ≡ rank q = second_same (payload_place p) (payload_place q) (rank p) (rank q) places e in
-    let long = longest_small p is in
-    let long' = longest_small q is' in
-    let one = told_small p.0.max_len in
-    let one' = told_small q.0.max_len in
-    let number : p.1 < 2 ^ 32 = is.number in
-    let number' : q.1 < 2 ^ 32 = is'.number in
-    let prefixes = same_prefix p.0.prefix q.0.prefix is.prefix.0 is'.prefix.0 places in
-    let lens : longest p ≡ longest q = omega (arith, ranks, long, long', one, one', number, number') in
-    let tolds : told p.0.max_len ≡ told q.0.max_len = omega (arith, ranks, long, long', one, one', number, number') in
-    let asns : p.1 ≡ q.1 = omega (arith, ranks, long, long', one, one', number, number') in
-    let max_lens = told_same q.0.prefix p.0.max_len q.0.max_len tolds (ap (λ r. resolved r p.0.max_len) (sym prefixes) ∙ lens) in
-    λ i. (record { prefix = prefixes i; max_len = max_lens i }, asns i)
+same_sent p q is is' e = grind (arith, first_same, longest_small, same_prefix, second_same, sent_small)
 
 pub sent_same : (p q : Payload) → as_sent p ≡ as_sent q → sent_place p ≡ sent_place q
 sent_same p q e = ap sent_place e
 
 -- what comes no later comes no later as it is sent
 pub sent_up : (p q : Payload) → table_place p ≤ table_place q → sent_place p ≤ sent_place q
-sent_up p q le =
-    let one = told_small p.0.max_len in
-    let one' = told_small q.0.max_len in
-    omega (arith, le, one, one')
+sent_up p q le = grind (arith, told_small)
 
 pub by_sent : (xs : List Payload) → IsNonDecreasingBy table_place xs → IsNonDecreasingBy sent_place xs
 by_sent xs ranked i j d le small = sent_up (get_or xs i d) (get_or xs j d) (ranked i j d le small)

@@ -27,11 +27,7 @@ module _ (r : FamilyPrefix) (is_r : IsFamilyPrefix r) (xs : List Payload) (links
 
   step : (k : ℕ) (d : Payload) → k < length xs → link.back ≤ k
       → (n ≤ k) ⊎ (((link.first ≤ k) × (k < n)) ⊎ (¬ CoversPrefix (get_or xs k d).0.prefix r))
-  step k d small from = elim (seen_or_free xs n r table.in_order upto within is_r (n - 1) link (omega (arith, some)) linked k d small from) [
-    | inl seen ↦ inl (omega (arith, seen, some))
-    | inr (inl here) ↦ inr (inl (here.0, omega (arith, here.1, some)))
-    | inr (inr free) ↦ inr (inr free)
-  ]
+  step k d small from = grind (arith, seen_or_free xs n r table.in_order upto within is_r (n - 1) link (omega (arith, some)) linked k d small from)
 
   -- a payload that is read there is the last
   pub is_last : (x : Payload) → x ≡ get_or xs (n - 1) x → x ≡ last
@@ -88,8 +84,4 @@ module _ (r : FamilyPrefix) (is_r : IsFamilyPrefix r) (xs : List Payload) (links
   -- it doesn't cover the route
   pub step_free : (asn : ℕ) (v : Validity) → Tells r asn xs (λ k. n ≤ k) v → ¬ CoversRoute r last
       → Tells r asn xs (λ k. link.back ≤ k) v
-  step_free asn v t free = passed r asn xs (λ k. n ≤ k) (λ k. link.back ≤ k) v t (λ k d small from. elim (step k d small from) [
-    | inl seen ↦ inl seen
-    | inr (inl here) ↦ inr (λ h. free (subst (λ (p : FamilyPrefix). CoversPrefix p r) (has k d here.0 here.1) h))
-    | inr (inr none) ↦ inr none
-  ])
+  step_free asn v t free = grind (arith, has, passed, step)

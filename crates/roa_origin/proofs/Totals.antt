@@ -1,22 +1,22 @@
 -- The order of payloads is total, and payloads tie in it exactly where they are the same.
-use Rattle.roa_origin.proofs.Common.{Bool, IsTrue, false, inl, inr, refl, subst, true, ℕ, ◌&&◌, ◌==◌, ◌↔◌, ◌≡◌, ◌⊎◌, eq-eqb, eqb-true, IsTotalOrder, ranks, nat_cmp, ordering_then, Ordering, Equal, Greater, Less, MaxLenValue, max_len_cmp, Payload, payload_cmp}
+use Rattle.roa_origin.proofs.Common.{Bool, IsTrue, ap, subst, true, ℕ, ◌&&◌, ◌==◌, ◌↔◌, ◌≡◌, ◌≢◌, ◌⊎◌, eq-eqb, eqb-true, IsTotalOrder, ranks, nat_cmp, ordering_reverse, ordering_then, Ordering, Equal, Greater, Less, MaxLenValue, max_len_cmp, Payload, payload_cmp, arith}
 use Rattle.std.proofs.lemmas.Cmp.{by_ranked, nat_cmp_total, on_total, then_total, tied_itself}
 use Rattle.std.specs.Ordering.{is_eq, is_lt}
 
 pub total : IsTotalOrder max_len_cmp → IsTotalOrder payload_cmp
 total prefixes = then_total (on_total (λ p. p.0) prefixes) (on_total (λ p. p.1) nat_cmp_total)
 
+-- what is less isn't greater
+pub not_back : {X : Type 0} {R : X → X → Ordering} → IsTotalOrder R → (x y : X) → R x y ≡ Less → R y x ≢ Less
+not_back is_total x y less back = let turned = ap ordering_reverse back in let is = is_total.antisymm x y in cc
+
 -- which of the three two payloads are
 pub cases_ordering : (o : Ordering) → (o ≡ Less) ⊎ ((o ≡ Equal) ⊎ (o ≡ Greater))
-cases_ordering Less = inl refl
-cases_ordering Equal = inr (inl refl)
-cases_ordering Greater = inr (inr refl)
+cases_ordering o = grind (arith)
 
 -- two steps tie where both do
 both_equal : (o p : Ordering) → ordering_then o p ≡ Equal → (o ≡ Equal) × (p ≡ Equal)
-both_equal Less p e = cc
-both_equal Equal p e = (refl, e)
-both_equal Greater p e = cc
+both_equal o p e = grind (arith)
 
 pub nat_ties : (m n : ℕ) → nat_cmp m n ≡ Equal → m ≡ n
 nat_ties m n e = by_ranked _ _ _ (nat_cmp m n) (ranks m n) (λ f _. cc) (λ _ same. same) (λ f _. cc)
@@ -29,23 +29,15 @@ ties prefixes is_total p q = (
 )
 
 pub less_of : (o : Ordering) → is_lt o ≡ true → o ≡ Less
-less_of Less e = refl
-less_of Equal e = cc
-less_of Greater e = cc
+less_of o e = grind (arith)
 
 pub equal_of : (o : Ordering) → is_eq o ≡ true → o ≡ Equal
-equal_of Less e = cc
-equal_of Equal e = refl
-equal_of Greater e = cc
+equal_of o e = grind (arith)
 
 both_true : (a b : Bool) → IsTrue (a && b) → IsTrue a × IsTrue b
-both_true true b e = (refl, e)
-both_true false b e = cc
+both_true a b e = grind (arith)
 
 -- payloads are equal where they are the same
 pub equal_where_the_same : {eq : MaxLenValue → MaxLenValue → Bool} → ((m n : MaxLenValue) → IsTrue (eq m n) ↔ (m ≡ n))
     → (p q : Payload) → IsTrue (eq p.0 q.0 && (p.1 == q.1)) ↔ (p ≡ q)
-equal_where_the_same {eq} same p q = (
-  (λ e. let both = both_true (eq p.0 q.0) (p.1 == q.1) e in λ i. ((same p.0 q.0).0 both.0 i, eqb-true p.1 q.1 both.1 i)),
-  λ e. subst (λ (r : Payload). IsTrue (eq p.0 r.0 && (p.1 == r.1))) e (rw ((same p.0 p.0).1 refl, eq-eqb p.1 p.1 refl) refl),
-)
+equal_where_the_same same p q = grind (arith, both_true, eq-eqb, eqb-true)

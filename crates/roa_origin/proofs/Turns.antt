@@ -29,10 +29,7 @@ module _ {X : Type 0} (R : X → X → Ordering) (total : IsTotalOrder R) (ties 
 
     -- all before the place are less than x
     before : (k : ℕ) (d : X) → k < place → R (get_or other k d) x ≡ Less
-    before k d low = elim (cases_lt k from) [
-      | inl old ↦ subst (λ (y : X). R (get_or other k d) y ≡ Less) (sym turn.is) (turn.passed k at d x old (omega arith) turn.small)
-      | inr new ↦ turn.less k d new low
-    ]
+    before k d low = grind (arith, cases_lt)
 
     -- and than what stands behind x
     pub passed_more : (k l : ℕ) (d e : X) → k < place → at + 1 ≤ l → l < length one
@@ -44,11 +41,7 @@ module _ {X : Type 0} (R : X → X → Ordering) (total : IsTotalOrder R) (ties 
     there stands = (place, stands.0, stands.1)
 
     pub nowhere : ¬ ((place < length other) × (get_or other place x ≡ x)) → ¬ Contains other x
-    nowhere none (k, inside, same) = elim (cases_order k place) [
-      | inl equal ↦ none (omega (arith, equal, inside), subst (λ n. get_or other n x ≡ x) equal same)
-      | inr (inl low) ↦ not_itself (get_or other k x) x (before k x low) same
-      | inr (inr high) ↦ turn.not_less x (omega (arith, high, inside)) (subst (λ (y : X). R (get_or other place x) y ≡ Less) same (turn.others place k x high inside))
-    ]
+    nowhere none h = grind (arith, before, cases_order, not_itself)
 
     next : take (at + 1) one ≡ take at one ++ x ∷ []
     next = let e : at + 1 ≡ suc at = omega arith in rw e (take-suc one at x turn.small ∙ ap (λ (y : X). take at one ++ y ∷ []) (sym turn.is))

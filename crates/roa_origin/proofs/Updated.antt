@@ -1,10 +1,11 @@
 -- One walk along a table and the changes of it, turn by turn.
-use Rattle.roa_origin.proofs.Common.{All, Any, List, None, [], ap, append_assoc, arith, drop, get_or, inl, inr, length, length-drop, map, refl, subst, suc, sym, take, zero, ℕ, ◌++◌, ◌+◌, ◌-◌, ◌<◌, ◌∙◌, ◌∷◌, ◌≡◌, ◌≤◌, append-nil, get_or-drop, get_or-map, get_or_default, length-map, take_all, take_more, All-append, All-head, All-map, All-tail, All-permutation, IsPermutation-append_right, IsPermutation-refl, IsPermutation-trans, slice_range, IsNonDecreasingBy, IsPermutation, V4, AreThose, IsInOrder, IsLawfulPayload, Payload, sent_place, table_place, as_sent, AreChangesOf, AreSorted, IsMergedOf, IsOf, IsSearched, IsSentIn, IsUpdated, sent_change, Change}
+use Rattle.roa_origin.proofs.Common.{All, Any, List, [], ap, append_assoc, arith, drop, get_or, inl, inr, length, length-drop, map, refl, subst, suc, sym, take, zero, ℕ, ◌++◌, ◌+◌, ◌-◌, ◌<◌, ◌∙◌, ◌∷◌, ◌≡◌, ◌≤◌, append-nil, get_or-drop, get_or-map, get_or_default, length-map, take_all, take_more, All-append, All-head, All-map, All-tail, All-permutation, IsPermutation-append_right, IsPermutation-refl, IsPermutation-trans, slice_range, IsNonDecreasingBy, IsPermutation, AreThose, IsInOrder, IsLawfulPayload, Payload, sent_place, table_place, as_sent, AreChangesOf, AreSorted, IsMergedOf, IsOf, IsSearched, IsSentIn, IsUpdated, sent_change, Change}
 use Rattle.roa_origin.proofs.Found.{found}
 use Rattle.roa_origin.proofs.Listed.{by_payload, change_of, sent_in}
 use Rattle.roa_origin.proofs.Merges.{All-those, IsMerged, moved_last, moved_middle, none_merged, skipped, taken, those_more, those_without, turned}
 use Rattle.roa_origin.proofs.Places.{by_places}
 use Rattle.roa_origin.proofs.Sent.{as_told, by_sent}
+use Rattle.roa_origin.proofs.Walks.{nowhere}
 
 abbrev pub entry_of : Change → Payload
 entry_of c = c.entry
@@ -27,12 +28,8 @@ pub record IsSoFar (table : List Payload) (withdrawn announced : List Change) (a
   pub merged : IsMerged table_place table (map entry_of announced) at come list
 
 module _ (table : List Payload) (order : IsInOrder table) (withdrawn announced : List Change) (gone_order : AreSorted withdrawn) (come_order : AreSorted announced) where
-  entries : List Payload
-  entries = map entry_of announced
-
   -- what is announced is in a table's order, since each has its greatest length
-  up : IsNonDecreasingBy table_place entries
-  unfolding entries
+  up : IsNonDecreasingBy table_place (map entry_of announced)
   up i j d le small =
       let many = length-map announced entry_of in
       let c : Change = record { entry = d; place = 0 } in
@@ -41,27 +38,16 @@ module _ (table : List Payload) (order : IsInOrder table) (withdrawn announced :
       let one = come_order.lawful i c inside' in
       let other = come_order.lawful j c inside in
       let sent = as_told (get_or announced i c).entry (get_or announced j c).entry one.sent other.sent (by_payload announced come_order i j c le inside) in
-      subst (λ (p : Payload). table_place p ≤ table_place (get_or (map entry_of announced) j d)) (sym (get_or-map entry_of announced i c d inside'))
-      (subst (λ (p : Payload). table_place (get_or announced i c).entry ≤ table_place p) (sym (get_or-map entry_of announced j c d inside)) sent)
+      rw (get_or-map entry_of announced i c d inside', get_or-map entry_of announced j c d inside) sent
 
   pub start : IsSoFar table withdrawn announced 0 0 0 []
-  start = record {
-    at_within = omega arith;
-    gone_within = omega arith;
-    come_within = omega arith;
-    passed = λ k i d e small from inside. absurd (omega (arith, small));
-    kept = [];
-    stays = refl;
-    has = IsPermutation-refl [];
-    merged = none_merged table_place table (map entry_of announced);
-  }
+  start = grind (arith, IsPermutation-refl, none_merged)
 
   module _ (at gone come : ℕ) (list : List Payload) (so_far : IsSoFar table withdrawn announced at gone come list) where
     -- the next one is announced
     pub comes : (c : Change) → come < length announced → get_or announced come c ≡ c
         → ((e : Payload) → at < length table → table_place c.entry ≤ table_place (get_or table at e))
         → IsSoFar table withdrawn announced at gone (come + 1) (list ++ c.entry ∷ [])
-    unfolding entries
     comes c inside is le =
         let many = length-map announced entry_of in
         let within : come < length (map entry_of announced) = omega (arith, inside, many) in
@@ -81,20 +67,14 @@ module _ (table : List Payload) (order : IsInOrder table) (withdrawn announced :
         }
 
     -- the next one is of the table
-    module _ (p : Payload) (small : at < length table) (is : get_or table at p ≡ p) (place : ℕ) (within : place ≤ length withdrawn) (searched : IsSearched sent_change withdrawn (sent_place p) place) where
+    module _ (p : Payload) (small : at < length table) (is : get_or table at p ≡ p) where
       next : take (at + 1) table ≡ take at table ++ p ∷ []
       next = take_more table at p small ∙ ap (λ q. take at table ++ q ∷ []) is
 
-      passed_more : (k i : ℕ) (d : Change) (e : Payload) → k < place → at + 1 ≤ i → i < length table
-          → sent_place (get_or withdrawn k d).entry < sent_place (get_or table i e)
-      passed_more k i d e low from inside =
-          let less = searched.before k d low (omega (arith, low, within)) in
-          let more : sent_place p ≤ sent_place (get_or table i e) = subst (λ (q : Payload). sent_place q ≤ sent_place (get_or table i e)) (get_or_default table at e p small ∙ is) (by_sent table order.ranked at i e (omega (arith, from)) inside) in
-          omega (arith, less, more)
-
       -- the walk along the withdrawn gets there
-      pub advanced : IsSoFar table withdrawn announced at place come list
-      advanced = record {
+      pub advanced : (place : ℕ) → place ≤ length withdrawn → IsSearched sent_change withdrawn (sent_place p) place
+          → IsSoFar table withdrawn announced at place come list
+      advanced place within searched = record {
         at_within = so_far.at_within;
         gone_within = within;
         come_within = so_far.come_within;
@@ -109,15 +89,15 @@ module _ (table : List Payload) (order : IsInOrder table) (withdrawn announced :
       }
 
       -- and is withdrawn
-      pub goes : (place < length withdrawn) × ((d : Change) → IsOf p (get_or withdrawn place d))
-          → IsSoFar table withdrawn announced (at + 1) place come list
+      pub goes : (gone < length withdrawn) × ((d : Change) → IsOf p (get_or withdrawn gone d))
+          → IsSoFar table withdrawn announced (at + 1) gone come list
       goes there = record {
         at_within = omega (arith, small);
-        gone_within = within;
+        gone_within = so_far.gone_within;
         come_within = so_far.come_within;
-        passed = passed_more;
+        passed = λ k i d e low from. so_far.passed k i d e low (omega (arith, from));
         kept = so_far.kept;
-        stays = subst (λ ps. AreThose (Stays withdrawn) ps so_far.kept) (sym next) (those_without (Stays withdrawn) (take at table) so_far.kept p (λ none. none some) so_far.stays);
+        stays = rw next (those_without (Stays withdrawn) (take at table) so_far.kept p (λ none. none some) so_far.stays);
         has = so_far.has;
         merged = skipped table_place table (map entry_of announced) at come list so_far.merged;
       }
@@ -126,47 +106,42 @@ module _ (table : List Payload) (order : IsInOrder table) (withdrawn announced :
           c = record { entry = p; place = 0 }
 
           some : Any (IsOf p) withdrawn
-          some = (place, get_or withdrawn place c, there.0, get_or_default withdrawn place (get_or withdrawn place c) c there.0, there.1 c)
+          some = (gone, get_or withdrawn gone c, there.0, get_or_default withdrawn gone (get_or withdrawn gone c) c there.0, there.1 c)
 
       -- or stays
-      pub remains : ¬ ((place < length withdrawn) × ((d : Change) → IsOf p (get_or withdrawn place d)))
+      pub remains : IsSearched sent_change withdrawn (sent_place p) gone
+          → ¬ ((gone < length withdrawn) × ((d : Change) → IsOf p (get_or withdrawn gone d)))
           → ((c : Change) → come < length announced → table_place p ≤ table_place (get_or announced come c).entry)
-          → IsSoFar table withdrawn announced (at + 1) place come (list ++ p ∷ [])
-      unfolding entries
-      remains none le =
+          → IsSoFar table withdrawn announced (at + 1) gone come (list ++ p ∷ [])
+      remains searched none le =
           let many = length-map announced entry_of in
-          let stays : Stays withdrawn p = λ some. none (found sent_change withdrawn (sent_place p) place (by_payload withdrawn gone_order) searched some) in record {
+          let stays : Stays withdrawn p = λ some. none (found sent_change withdrawn (sent_place p) gone (by_payload withdrawn gone_order) searched some) in record {
             at_within = omega (arith, small);
-            gone_within = within;
+            gone_within = so_far.gone_within;
             come_within = so_far.come_within;
-            passed = passed_more;
+            passed = λ k i d e low from. so_far.passed k i d e low (omega (arith, from));
             kept = so_far.kept ++ p ∷ [];
-            stays = subst (λ ps. AreThose (Stays withdrawn) ps (so_far.kept ++ p ∷ [])) (sym next) (those_more (Stays withdrawn) (take at table) so_far.kept p stays so_far.stays);
+            stays = rw next (those_more (Stays withdrawn) (take at table) so_far.kept p stays so_far.stays);
             has = moved_middle so_far.kept (take come (map entry_of announced)) list p so_far.has;
             merged = taken table_place table (map entry_of announced) at come list p order.ranked up small is (λ inside.
                 let c : Change = record { entry = p; place = 0 } in
                 let there : come < length announced = omega (arith, inside, many) in
-                subst (λ (q : Payload). table_place p ≤ table_place q) (sym (get_or-map entry_of announced come c p there)) (le c there)) so_far.merged;
+                rw (get_or-map entry_of announced come c p there) (le c there)) so_far.merged;
           }
 
   -- a run of the table's payloads comes before the next that is withdrawn, and no later than the next announced
   module _ (at gone come end : ℕ) (list : List Payload) (so_far : IsSoFar table withdrawn announced at gone come list) (end_within : end ≤ length table)
       (before : (k : ℕ) (d : Payload) (e : Change) → k < end → gone < length withdrawn → sent_place (get_or table k d) < sent_change (get_or withdrawn gone e))
       (up_to : (k : ℕ) (d : Payload) (e : Change) → k < end → come < length announced → table_place (get_or table k d) ≤ table_place (get_or announced come e).entry) where
-    -- some payload, whichever
-    some : Payload
-    some = (record { prefix = record { addr = V4 0; len = 0 }; max_len = None }, 0)
-
     module _ (n : ℕ) (ps : List Payload) (far : IsSoFar table withdrawn announced (at + n) gone come ps) (short : at + n < end) where
-      p : Payload
-      p = get_or table (at + n) some
+      abbrev p : Payload
+      p = get_or table (at + n) nowhere
 
       small : at + n < length table
       small = omega (arith, short, end_within)
 
       is : get_or table (at + n) p ≡ p
-      unfolding p
-      is = get_or_default table (at + n) p some small
+      is = get_or_default table (at + n) p nowhere small
 
       less : (e : Change) → gone < length withdrawn → sent_place p < sent_change (get_or withdrawn gone e)
       less e there = subst (λ (q : Payload). sent_place q < sent_change (get_or withdrawn gone e)) is (before (at + n) p e short there)
@@ -184,22 +159,14 @@ module _ (table : List Payload) (order : IsInOrder table) (withdrawn announced :
       none h = (let c : Change = record { entry = p; place = 0 } in omega (arith, less c h.0, h.1 c))
 
       next_of_run : IsSoFar table withdrawn announced (at + n + 1) gone come (ps ++ p ∷ [])
-      next_of_run = remains (at + n) gone come ps far p small is gone far.gone_within searched none
-          (λ c there. subst (λ (q : Payload). table_place q ≤ table_place (get_or announced come c).entry) is (up_to (at + n) p c short there))
+      next_of_run = grind (arith, is, none, p, remains, searched, small)
 
       piece : ps ≡ list ++ take n (drop at table) → ps ++ p ∷ [] ≡ list ++ take (suc n) (drop at table)
-      piece e =
-          let inside : n < length (drop at table) = omega (arith, small, length-drop at table) in
-          let last : get_or (drop at table) n p ≡ p = get_or-drop at table n p ∙ is in
-          let more : take (suc n) (drop at table) ≡ take n (drop at table) ++ p ∷ [] =
-          ap (λ k. take k (drop at table)) (let f : suc n ≡ n + 1 = omega arith in f) ∙ take_more (drop at table) n p inside ∙ ap (λ q. take n (drop at table) ++ q ∷ []) last in
-          ap (λ qs. qs ++ p ∷ []) e ∙ append_assoc list (take n (drop at table)) (p ∷ []) ∙ ap (λ qs. list ++ qs) (sym more)
+      piece e = grind (arith, append_assoc, get_or-drop, is, length-drop, p, small, take_more)
 
     pub run_of : (n : ℕ) → at + n ≤ end
         → IsSoFar table withdrawn announced (at + n) gone come (list ++ take n (drop at table))
-    run_of zero short =
-        subst (λ k. IsSoFar table withdrawn announced k gone come (list ++ take 0 (drop at table))) (let e : at ≡ at + 0 = omega arith in e)
-        (subst (λ ps. IsSoFar table withdrawn announced at gone come ps) (sym (append-nil list)) so_far)
+    run_of zero short = grind (arith, append-nil)
     run_of (suc n) short =
         let ps : List Payload = list ++ take n (drop at table) in
         let shorter : at + n < end = omega (arith, short) in
@@ -217,11 +184,7 @@ module _ (table : List Payload) (order : IsInOrder table) (withdrawn announced :
     every = take_all come (map entry_of announced) (let many = length-map announced entry_of in omega (arith, many, each))
 
     pub merged_of : IsMergedOf table withdrawn announced list
-    merged_of = record {
-      kept = so_far.kept;
-      stays = subst (λ ps. AreThose (Stays withdrawn) ps so_far.kept) (take_all at table all) so_far.stays;
-      has = subst (λ ps. IsPermutation (so_far.kept ++ ps) list) every so_far.has;
-    }
+    merged_of = grind (arith, every, take_all)
 
     pub in_order : IsInOrder list
     in_order =
@@ -244,10 +207,7 @@ updated_by table xs ys ds cs next lawful gone come m = record {
     those_of : (ps kept : List Payload) → All IsLawfulPayload ps → AreThose (Stays ds) ps kept
         → AreThose (λ p. ¬ IsSentIn xs p) ps kept
     those_of [] kept all e = e
-    those_of (p ∷ ps) kept all those =
-        let is = All-head IsLawfulPayload p ps all in
-        let rest = All-tail IsLawfulPayload p ps all in
-        elim those [
-          | inl w ↦ inl ((λ has. w.0 (change_of xs ds gone p is has)), w.1, w.2, those_of ps w.1 rest w.3)
-          | inr w ↦ inr ((λ none. w.0 (λ some. none (sent_in xs ds gone p is some))), those_of ps kept rest w.1)
-        ]
+    those_of (p ∷ ps) kept all (inl w) =
+        inl ((λ has. w.0 (change_of xs ds gone p (All-head IsLawfulPayload p ps all) has)), w.1, w.2, those_of ps w.1 (All-tail IsLawfulPayload p ps all) w.3)
+    those_of (p ∷ ps) kept all (inr w) =
+        inr ((λ none. w.0 (λ some. none (sent_in xs ds gone p (All-head IsLawfulPayload p ps all) some))), those_of ps kept (All-tail IsLawfulPayload p ps all) w.1)

@@ -107,6 +107,7 @@ impl<'a> Sought<'a> {
     }
 
     /// The payloads of the table that cover the route, the last first.
+    #[tactic(auto, using(crate::proofs::Covered::all_before))]
     pub(crate) fn covering(self) -> Covering<'a>
         ensures covering { reverse result
             ≡ filter (covers_route self.entry.route) self.entry.payloads }

@@ -175,6 +175,7 @@ fn place_in(table: &[Entry], payload: &Entry) -> usize
 }
 
 /// Whether a table has a payload, as payloads are sent.
+#[tactic(auto, using(crate::proofs::Sent::sent_there, crate::proofs::Sent::same_sent))]
 fn has(table: &[Entry], payload: &Entry) -> bool
     requires { IsInOrder table.now }
     ensures { IsTrue result ↔ IsSentIn table.now payload.now }

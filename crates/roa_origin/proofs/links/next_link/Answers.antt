@@ -1,15 +1,7 @@
 -- A payload behind one of its prefix has its link, and the first of a prefix one of its own.
-use Rattle.roa_origin.proofs.Common.{ap, arith, false, get_or, length, refl, subst, sym, true, ◌-◌, ◌<◌, ◌∙◌, ◌≡◌, ◌≤◌, get_or_default, CoversPrefix, FamilyPrefix, IsFamilyPrefix, NoneCovers, Payload, payload_place}
-use Rattle.roa_origin.proofs.Walks.{link_again, link_new, prefix_of}
+use Rattle.roa_origin.proofs.Common.{ap, arith, false, get_or, length, refl, subst, sym, true, ◌-◌, ◌<◌, ◌∙◌, ◌≡◌, ◌≤◌, get_or_default, CoversPrefix, FamilyPrefix, NoneCovers, Payload, payload_place}
+use Rattle.roa_origin.proofs.Walks.{link_again, link_new}
 use Rattle.roa_origin.proofs.links.next_link.Goals as goal
-
-pub returns-then-at-eq0 : goal.returns-then-at-eq0
-returns-then-at-eq0 c d =
-    let xs = c.args.payloads.now in
-    link_new xs c.requires.in_order c.args.at d (record { first = 0; back = 0 }) c.requires.within (sym c.if-at-eq0.true) (omega arith)
-    (λ some. absurd (omega (arith, some, c.if-at-eq0.true)))
-    (λ k e from before small. absurd (omega (arith, before, c.if-at-eq0.true)))
-    (λ e some. absurd (omega (arith, some)))
 
 pub returns-then-has_prefix_of : goal.returns-then-has_prefix_of
 returns-then-has_prefix_of c d =
@@ -26,11 +18,6 @@ returns-then-has_prefix_of c d =
     ∙ c.has_prefix_of.ensures.0 c.if-has_prefix_of.true
     ∙ ap (λ (z : Payload). z.0.prefix) (c.index-payloads-at.is ∙ get_or_default xs at x d there) in
     link_again xs at d _ some there same (c.requires.linked (at - 1) d _ inside)
-
-pub nearest-back-requires-clause-is_prefix : goal.nearest-back-requires-clause-is_prefix
-nearest-back-requires-clause-is_prefix c =
-    let x : Payload = c.index-payloads-at.result in
-    subst (λ (z : Payload). IsFamilyPrefix z.0.prefix) (sym c.index-payloads-at.is) (prefix_of c.args.payloads.now c.requires.in_order c.args.at x c.requires.within)
 
 pub nearest-back-requires-clause-up_to : goal.nearest-back-requires-clause-up_to
 nearest-back-requires-clause-up_to c k d small =

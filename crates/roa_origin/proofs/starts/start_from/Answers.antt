@@ -1,5 +1,5 @@
 -- From the place on the first bits write no less, since at the place they don't.
-use Rattle.roa_origin.proofs.Common.{arith, get_or, subst, ◌∙◌, ◌≤◌, get_or_default, Payload, first_bits}
+use Rattle.roa_origin.proofs.Common.{arith, get_or, ◌≤◌, get_or_default, Payload, first_bits}
 use Rattle.roa_origin.proofs.Firsts.{first_up}
 use Rattle.roa_origin.proofs.starts.start_from.Goals as goal
 
@@ -13,8 +13,12 @@ returns-else-first_bits-number c =
     let here : number ≤ first_bits n x.0.prefix = omega (arith, c.first_bits.ensures.value, c.if-first_bits-number.false) in record {
       within = c.loop-at.invariant.0;
       before = c.loop-at.invariant.1;
-      from = λ k d from small.
-          let first : number ≤ first_bits n (get_or xs at d).0.prefix = subst (λ (y : Payload). number ≤ first_bits n y.0.prefix) (c.index-payloads-at.is ∙ get_or_default xs at x d c.loop-at-test.true) here in
-          let up = first_up n (get_or xs at d).0.prefix (get_or xs k d).0.prefix c.requires.few (c.requires.prefixes at d c.loop-at-test.true) (c.requires.prefixes k d small) (c.requires.ordered at k d from small) in
-          omega (arith, first, up);
+      from = λ k d from small. grind (
+        arith,
+        here,
+        c.index-payloads-at.is,
+        get_or_default xs at x d c.loop-at-test.true,
+        c.requires.ordered at k d from small,
+        first_up n (get_or xs at d).0.prefix (get_or xs k d).0.prefix c.requires.few (c.requires.prefixes at d c.loop-at-test.true) (c.requires.prefixes k d small),
+      );
     }

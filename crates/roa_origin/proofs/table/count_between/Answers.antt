@@ -1,6 +1,6 @@
 -- What comes no later than the prefix is what stands before the first place, and what the search parts behind it.
-use Rattle.roa_origin.proofs.Common.{List, arith, false, get_or, inl, inr, leb, length, rules, subst, sym, true, ℕ, ◌+◌, ◌-◌, ◌∙◌, ◌≡◌, ◌≤◌, cases_lt, le-leb, leb-true, IsPartitionPoint-from_clause, slice_range, IsNonDecreasingBy, IsPartitionPoint, IsPartitionedBy, Payload, payload_place, place}
-use Rattle.roa_origin.proofs.Groups.{in_piece, piece_length}
+use Rattle.roa_origin.proofs.Common.{List, arith, false, get_or, inl, inr, leb, length, rules, subst, sym, true, ℕ, ◌+◌, ◌-◌, ◌<◌, ◌≡◌, ◌≤◌, cases_lt, le-leb, leb-false, leb-true, IsPartitionPoint-from_clause, slice_range, IsNonDecreasingBy, IsPartitionPoint, IsPartitionedBy, Payload, payload_place, place}
+use Rattle.roa_origin.proofs.Groups.{in_piece, piece_at, piece_length}
 use Rattle.roa_origin.proofs.table.count_between.Goals as goal
 
 -- a piece of payloads in order is parted by the test
@@ -27,34 +27,25 @@ point c =
 pub returns-clause-up_to : goal.returns-clause-up_to
 returns-clause-up_to c k d small =
     let xs = c.args.payloads.now in
-    let p = c.args.route.now.0.prefix in
     let a = c.args.from in
     let b = c.args.to in
     let wide = piece_length xs a b c.requires.between.within in
     elim (cases_lt k a) [
       | inl before ↦ c.requires.between.up_to k d before
-      | inr after ↦ (
-          let there : get_or (slice_range xs a b) (k - a) d ≡ get_or xs k d =
-          subst (λ j. get_or (slice_range xs a b) (k - a) d ≡ get_or xs j d) (omega (arith, after)) (in_piece xs a b (k - a) d (omega (arith, after, small, wide, c.partition_point.ensures.bound))) in
-          subst (λ (y : Payload). payload_place y ≤ place p) there (leb-true _ (place p) ((point c).0 (k - a) d (omega arith) (omega (arith, after, small)))))
+      | inr after ↦
+          subst (λ (y : Payload). payload_place y ≤ payload_place c.args.route.now) (piece_at xs a b k d after (omega (arith, small, wide, c.partition_point.ensures.bound)))
+          (leb-true _ _ ((point c).0 (k - a) d (omega arith) (omega (arith, after, small))))
     ]
 
 pub returns-clause-later : goal.returns-clause-later
 returns-clause-later c k d from small =
     let xs = c.args.payloads.now in
-    let p = c.args.route.now.0.prefix in
     let a = c.args.from in
     let b = c.args.to in
     let wide = piece_length xs a b c.requires.between.within in
     elim (cases_lt k b) [
       | inr after ↦ c.requires.between.later k d after small
-      | inl before ↦ elim (cases_lt (place p) (payload_place (get_or xs k d))) [
-        | inl less ↦ less
-        | inr more ↦ absurd (
-            let there : get_or (slice_range xs a b) (k - a) d ≡ get_or xs k d =
-            subst (λ j. get_or (slice_range xs a b) (k - a) d ≡ get_or xs j d) (omega (arith, from)) (in_piece xs a b (k - a) d (omega (arith, from, before))) in
-            let yes : leb (payload_place (get_or (slice_range xs a b) (k - a) d)) (place p) ≡ true = le-leb _ (place p) (subst (λ (y : Payload). payload_place y ≤ place p) (sym there) more) in
-            let no = (point c).1 (k - a) d (omega (arith, from)) (omega (arith, from, before, wide)) in
-            let f : true ≡ false = sym yes ∙ no in cc)
-      ]
+      | inl before ↦
+          subst (λ (y : Payload). payload_place c.args.route.now < payload_place y) (piece_at xs a b k d (omega (arith, from)) before)
+          (leb-false _ _ ((point c).1 (k - a) d (omega (arith, from)) (omega (arith, from, before, wide))))
     ]

@@ -1,20 +1,8 @@
 -- Each step passes a prefix of whose payloads none has the AS.
-use Rattle.roa_origin.proofs.Common.{arith, false, inl, inr, refl, subst, sym, true, cases_lt, ◌∙◌, ◌≡◌, IsGroup, IsHeldBy}
-use Rattle.roa_origin.proofs.Left.{begun, ended, fewer_then, first_left, found, group_left, held, passed}
+use Rattle.roa_origin.proofs.Common.{arith, false, inl, inr, subst, sym, true, cases_lt, ◌∙◌, ◌≡◌, IsGroup, IsHeldBy}
+use Rattle.roa_origin.proofs.Left.{begun, fewer_then, first_left, group_left, held, passed}
 use Rattle.roa_origin.proofs.Walks.{later_covers_none}
 use Rattle.roa_origin.proofs.table.is_held_in.Goals as goal
-
-pub nearest-at-requires : goal.nearest-at-requires
-nearest-at-requires c =
-    let as_many = c.requires.table.as_many in
-    record {
-      in_order = c.requires.table.in_order;
-      is_prefix = c.requires.is_prefix;
-      up_to = c.requires.up_to;
-      linked = c.requires.table.linked;
-      within = omega (arith, c.requires.within, as_many);
-      as_many = omega (arith, as_many);
-    }
 
 pub loop-at-init : goal.loop-at-init
 loop-at-init c =
@@ -34,11 +22,6 @@ between-requires-clause-from c = first_left (held c.args.route.now.0.prefix c.ar
 pub has_holder-requires : goal.has_holder-requires
 has_holder-requires c = subst (IsGroup c.args.route.now.0.prefix) (sym c.between.ensures) (group_left (held c.args.route.now.0.prefix c.args.route.now.1) c.args.route.now.0.prefix c.args.payloads.now (λ y h. h.0) c.args.links.now c.requires.table c.requires.is_prefix c.loop-at.at c.loop-at-test.true c.loop-at.invariant)
 
-pub returns-then-has_holder : goal.returns-then-has_holder
-returns-then-has_holder c =
-    let here = subst (IsHeldBy c.args.route.now.0.prefix c.args.route.now.1) c.between.ensures (c.has_holder.ensures.0 c.if-has_holder.true) in
-    (λ t. found (held c.args.route.now.0.prefix c.args.route.now.1) c.args.route.now.0.prefix c.args.payloads.now (λ y h. h.0) c.args.links.now c.requires.table c.requires.is_prefix c.loop-at.at c.loop-at-test.true c.loop-at.invariant here, λ h. refl)
-
 pub loop-at-smaller : goal.loop-at-smaller
 loop-at-smaller c = fewer_then (held c.args.route.now.0.prefix c.args.route.now.1) c.args.route.now.0.prefix c.args.payloads.now (λ y h. h.0) c.args.links.now c.requires.table c.requires.is_prefix c.loop-at.at c.loop-at-test.true c.loop-at.invariant
 
@@ -46,9 +29,3 @@ pub loop-at-preserved : goal.loop-at-preserved
 loop-at-preserved c = passed (held c.args.route.now.0.prefix c.args.route.now.1) c.args.route.now.0.prefix c.args.payloads.now (λ y h. h.0) c.args.links.now c.requires.table c.requires.is_prefix c.loop-at.at c.loop-at-test.true c.loop-at.invariant (λ h.
     let is_true = c.has_holder.ensures.1 (subst (IsHeldBy c.args.route.now.0.prefix c.args.route.now.1) (sym c.between.ensures) h) in
     let f : true ≡ false = sym is_true ∙ c.if-has_holder.false in cc)
-
-pub returns : goal.returns
-returns c = (
-  λ t. absurd (let f : false ≡ true = t in cc),
-  λ h. absurd (ended (held c.args.route.now.0.prefix c.args.route.now.1) c.args.route.now.0.prefix c.args.payloads.now (λ y h. h.0) c.loop-at.at (omega (arith, c.loop-at-test.false)) c.loop-at.invariant h),
-)

@@ -1,6 +1,6 @@
 -- What covers the route stands on the walk along the links from the last payload that comes no later.
-use Rattle.roa_origin.proofs.Common.{arith, false, subst, sym, true, ◌∙◌, ◌≡◌, ◌≤◌, IsGroup, CoversRoute, Matches, IsMatched}
-use Rattle.roa_origin.proofs.Scans.{all_seen, matched}
+use Rattle.roa_origin.proofs.Common.{false, subst, sym, true, ◌∙◌, ◌≡◌, IsGroup, CoversRoute, Matches, IsMatched}
+use Rattle.roa_origin.proofs.Scans.{matched}
 use Rattle.roa_origin.proofs.Steps.{any_at, back_up_to, back_within, fewer_left, first_within, group_at, is_last, step_covered, step_free}
 use Rattle.roa_origin.proofs.Walks.{later_free}
 use Rattle.roa_origin.proofs.table.validity_in.Goals as goal
@@ -53,8 +53,3 @@ loop-at-preserved c =
       step_free c.args.route.now.0.prefix c.requires.is_prefix c.args.payloads.now c.args.links.now c.requires.table c.loop-at.at c.loop-at.invariant.0 c.loop-at.invariant.1 c.loop-at-test.true route.1 c.loop-at.validity c.loop-at.invariant.2
           (λ h. let is_true = c.covers.ensures.1 (subst (CoversRoute route.0.prefix) (sym same) h) in let f : true ≡ false = sym is_true ∙ c.if-covers.false in cc),
     )
-
-pub returns : goal.returns
-returns c =
-    all_seen c.args.route.now.0.prefix c.args.route.now.1 c.args.payloads.now (λ k. c.loop-at.at ≤ k) c.loop-at.validity c.loop-at.invariant.2
-    (λ k small. omega (arith, c.loop-at-test.false))

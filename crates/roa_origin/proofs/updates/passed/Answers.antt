@@ -1,5 +1,5 @@
 -- From the place on none comes earlier, since the first there doesn't.
-use Rattle.roa_origin.proofs.Common.{arith, false, get_or, inl, inr, subst, sym, true, ◌∙◌, ◌≡◌, ◌≤◌, cases_lt, lt-ltb, get_or_default, sent_place, sent_change, Change}
+use Rattle.roa_origin.proofs.Common.{ltb-false, arith, get_or, subst, sym, ◌∙◌, ◌≤◌, get_or_default, sent_place, sent_change, Change}
 use Rattle.roa_origin.proofs.Listed.{by_payload}
 use Rattle.roa_origin.proofs.updates.passed.Goals as goal
 
@@ -9,10 +9,7 @@ returns-else-is_sent_before-clause-searched c =
     let at = c.loop-at.at in
     let t = sent_place c.args.payload.now in
     let x : Change = get_or xs at c.index-changes-at.result in
-    let here : t ≤ sent_change x = elim (cases_lt (sent_change x) t) [
-      | inl less ↦ absurd (let f : true ≡ false = sym (lt-ltb (sent_change x) t less) ∙ sym c.is_sent_before.ensures ∙ c.if-is_sent_before.false in cc)
-      | inr more ↦ more
-    ] in record {
+    let here : t ≤ sent_change x = ltb-false (sent_change x) t (sym c.is_sent_before.ensures ∙ c.if-is_sent_before.false) in record {
       before = λ k d low inside. c.loop-at.invariant.1 k d low;
       from = λ k d from inside.
           let first : t ≤ sent_change (get_or xs at d) = subst (λ (y : Change). t ≤ sent_change y) (get_or_default xs at c.index-changes-at.result d c.loop-at-test.true) here in

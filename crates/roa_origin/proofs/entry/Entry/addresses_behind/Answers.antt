@@ -1,10 +1,7 @@
 -- A mask of the open bits is the number of addresses less one.
-use Rattle.roa_origin.proofs.Common.{ap, arith, refl, ◌-◌, ◌^◌, ◌∙◌, ◌≡◌, width, prefix_len}
+use Rattle.roa_origin.proofs.Common.{ap, arith, ◌-◌, ◌^◌, ◌∙◌, ◌≡◌, width, prefix_len}
 use Rattle.rpki_addr.proofs.Masks.{host_ones}
 use Rattle.roa_origin.proofs.entry.Entry.addresses_behind.Goals as goal
-
-pub returns-then-fixed : goal.returns-then-fixed
-returns-then-fixed c = (let none : width c.args.self.now.0.prefix.addr - prefix_len c.args.self.now ≡ 0 = omega (arith, c.fixed_bits-fixed.ensures, c.if-fixed.true) in rw none refl)
 
 pub returns-else-fixed : goal.returns-else-fixed
 returns-else-fixed c =

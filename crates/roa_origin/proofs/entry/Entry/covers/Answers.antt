@@ -1,13 +1,7 @@
 -- The numbers tell whether the one prefix lies in the other.
-use Rattle.roa_origin.proofs.Common.{false, rules, sym, true, ◌+◌, ◌-◌, ◌^◌, ◌∙◌, ◌≡◌, le-leb, leb-true, is_v6, width, addr_of}
+use Rattle.roa_origin.proofs.Common.{false, rules, true, ◌+◌, ◌-◌, ◌^◌, ◌≡◌, le-leb, leb-true, is_v6, width, addr_of}
 use Rattle.roa_origin.proofs.Numbers.{by_distance, family_of, no_earlier, no_shorter}
 use Rattle.roa_origin.proofs.entry.Entry.covers.Goals as goal
-
-pub returns-then-not-has_family_of : goal.returns-then-not-has_family_of
-returns-then-not-has_family_of c = (
-  λ t. absurd (let f : false ≡ true = t in cc),
-  λ h. absurd (let is_true = c.has_family_of.ensures.1 h.family in let f : true ≡ false = sym is_true ∙ c.if-not-has_family_of.true in cc),
-)
 
 pub returns-then-route-self : goal.returns-then-route-self
 returns-then-route-self c =

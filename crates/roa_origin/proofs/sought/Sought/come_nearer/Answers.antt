@@ -1,5 +1,5 @@
 -- The payload in the middle tells on which side of it the prefix is sought.
-use Rattle.roa_origin.proofs.Common.{arith, false, get_or, inl, inr, sym, true, ◌-◌, ◌+◌, ◌/◌, ◌<◌, ◌∙◌, ◌≡◌, cases_lt, payload_place, place}
+use Rattle.roa_origin.proofs.Common.{arith, get_or, ◌-◌, ◌+◌, ◌/◌, ◌<◌, payload_place, place}
 use Rattle.roa_origin.proofs.Halves.{before_middle, behind_middle}
 use Rattle.roa_origin.proofs.sought.Sought.come_nearer.Goals as goal
 
@@ -22,10 +22,7 @@ invariant_of-self-else-comes_by c =
     let some = c.if-self.false in
     let m = s.from + (s.to - s.from) / 2 in
     let y = get_or s.payloads.now m c.index-self-middle.result in
-    let after : place s.route.0.prefix < payload_place y = elim (cases_lt (place s.route.0.prefix) (payload_place y)) [
-      | inl less ↦ less
-      | inr more ↦ absurd (let is_true = c.comes_by.ensures.1 more in let f : true ≡ false = sym is_true ∙ c.if-comes_by.false in cc)
-    ] in
+    let after : place s.route.0.prefix < payload_place y = grind (arith, c.comes_by.ensures.1, c.if-comes_by.false) in
     record {
       table = h.table;
       is_prefix = h.is_prefix;

@@ -1,5 +1,5 @@
 -- The starts of a prefix's first bits, and of the next number, are places between which it is sought.
-use Rattle.roa_origin.proofs.Common.{arith, inl, inr, subst, ◌+◌, ◌≤◌, cases_lt, IsStart, first_bits}
+use Rattle.roa_origin.proofs.Common.{arith, subst, ◌+◌, ◌≤◌, IsStart, first_bits}
 use Rattle.std.specs.List.{slice_index}
 use Rattle.roa_origin.proofs.Firsts.{after_start, before_start}
 use Rattle.roa_origin.proofs.Walks.{prefix_of}
@@ -18,13 +18,7 @@ invariant_of-result c =
     let start : IsStart n xs (first_bits n p) a = subst (λ m. IsStart n xs m a) c.first_bits-number.ensures.value (c.requires.starts.each number (omega (arith, as_many, below))) in
     let end : IsStart n xs (first_bits n p + 1) b = subst (λ m. IsStart n xs (m + 1) b) c.first_bits-number.ensures.value (c.requires.starts.each (number + 1) (omega (arith, as_many, below))) in
     let prefixes = prefix_of xs c.requires.table.in_order in
-    let ordered : a ≤ b = elim (cases_lt b a) [
-      | inl less ↦ absurd (
-          let low = start.before b c.args.route less in
-          let high = end.from b c.args.route (omega arith) (omega (arith, less, start.within)) in
-          omega (arith, low, high))
-      | inr more ↦ more
-    ] in
+    let ordered : a ≤ b = grind (arith, start.before b c.args.route, end.from b c.args.route, start.within) in
     record {
       table = c.requires.table;
       is_prefix = c.requires.is_prefix;

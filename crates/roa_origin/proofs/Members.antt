@@ -1,0 +1,101 @@
+-- Members of lists: of what is mapped, of what a property picks out, and of two lists in one strict order.
+use Rattle.roa_origin.proofs.Common.{AllPairs, Any, Contains, List, [], ap, arith, inl, inr, map, refl, subst, suc, sym, ◌↔◌, ◌∙◌, ◌∷◌, ◌≡◌, ◌⊎◌, AreThose}
+
+module _ {X : Type 0} where
+  pub here : (x : X) (xs : List X) → Contains (x ∷ xs) x
+  here x xs = (0, omega arith, refl)
+
+  pub there : (x : X) (xs : List X) (y : X) → Contains xs y → Contains (x ∷ xs) y
+  there x xs y (k, small, is) = (suc k, omega (arith, small), is)
+
+  pub cons_cases : (x : X) (xs : List X) (y : X) → Contains (x ∷ xs) y → (x ≡ y) ⊎ Contains xs y
+  cons_cases x xs y h = grind (arith)
+
+  pub no_member : (x : X) → Contains [] x → ⊥
+  no_member x (k, small, is) = omega (arith, small)
+
+  -- some member has a property
+  pub any_of : (P : X → Type 0) (xs : List X) (x : X) → Contains xs x → P x → Any P xs
+  any_of P xs x h p = (h.0, x, h.1, h.2, p)
+
+  pub any_has : (P : X → Type 0) (xs : List X) → Any P xs → (x : X) × Contains xs x × P x
+  any_has P xs h = (h.1, (h.0, h.2, h.3), h.4)
+
+  -- those at which a property holds are the members at which it does
+  pub those_are : (P : X → Type 0) (xs ys : List X) (y : X) → AreThose P xs ys → Contains ys y → P y × Contains xs y
+  those_are P [] ys y those h = absurd (no_member y (subst (λ zs. Contains zs y) those h))
+  those_are P (x ∷ xs) ys y (inl (p, zs, cut, those)) h = elim (cons_cases x zs y (subst (λ us. Contains us y) cut h)) [
+    | inl e ↦ (subst P e p, subst (Contains (x ∷ xs)) e (here x xs))
+    | inr more ↦ (let found = those_are P xs zs y those more in (found.0, there x xs y found.1))
+  ]
+  those_are P (x ∷ xs) ys y (inr (not_one, those)) h = let found = those_are P xs ys y those h in (found.0, there x xs y found.1)
+
+  pub those_have : (P : X → Type 0) (xs ys : List X) (x : X) → AreThose P xs ys → Contains xs x → P x → Contains ys x
+  those_have P [] ys x those h p = absurd (no_member x h)
+  those_have P (z ∷ xs) ys x (inl (q, zs, cut, those)) h p = elim (cons_cases z xs x h) [
+    | inl e ↦ subst (λ us. Contains us x) (sym cut) (subst (Contains (z ∷ zs)) e (here z zs))
+    | inr more ↦ subst (λ us. Contains us x) (sym cut) (there z zs x (those_have P xs zs x those more p))
+  ]
+  those_have P (z ∷ xs) ys x (inr (not_one, those)) h p = elim (cons_cases z xs x h) [
+    | inl e ↦ absurd (not_one (subst P (sym e) p))
+    | inr more ↦ those_have P xs ys x those more p
+  ]
+
+  -- and are one list
+  pub those_one : (P : X → Type 0) (xs ys zs : List X) → AreThose P xs ys → AreThose P xs zs → ys ≡ zs
+  those_one P [] ys zs e f = e ∙ sym f
+  those_one P (x ∷ xs) ys zs (inl v) (inl w) = v.2 ∙ ap (λ us. x ∷ us) (those_one P xs v.1 w.1 v.3 w.3) ∙ sym w.2
+  those_one P (x ∷ xs) ys zs (inl v) (inr w) = absurd (w.0 v.0)
+  those_one P (x ∷ xs) ys zs (inr v) (inl w) = absurd (v.0 w.0)
+  those_one P (x ∷ xs) ys zs (inr v) (inr w) = those_one P xs ys zs v.1 w.1
+
+  -- lists in a strict order that have the same members are the same
+  module _ (Before : X → X → Type 0) (not_back : (x y : X) → Before x y → Before y x → ⊥) where
+    rest_ordered : (x : X) (xs : List X) → AllPairs Before (x ∷ xs) → AllPairs Before xs
+    rest_ordered x xs ordered i j d less small = ordered (suc i) (suc j) d (omega (arith, less)) (omega (arith, small))
+
+    first_before : (x : X) (xs : List X) (y : X) → AllPairs Before (x ∷ xs) → Contains xs y → Before x y
+    first_before x xs y ordered (k, small, is) = subst (Before x) is (ordered 0 (suc k) y (omega arith) (omega (arith, small)))
+
+    first_one : (x y : X) (xs ys : List X) → AllPairs Before (x ∷ xs) → AllPairs Before (y ∷ ys)
+        → ((p : X) → Contains (x ∷ xs) p ↔ Contains (y ∷ ys) p) → x ≡ y
+    first_one x y xs ys a b both = elim (cons_cases y ys x ((both x).0 (here x xs))) [
+      | inl e ↦ sym e
+      | inr after ↦ elim (cons_cases x xs y ((both y).1 (here y ys))) [
+        | inl e ↦ e
+        | inr later ↦ absurd (not_back x y (first_before x xs y a later) (first_before y ys x b after))
+      ]
+    ]
+
+    same_rest : (x y : X) (xs ys : List X) → x ≡ y → AllPairs Before (x ∷ xs) → (p : X)
+        → (Contains (x ∷ xs) p → Contains (y ∷ ys) p) → Contains xs p → Contains ys p
+    same_rest x y xs ys e a p on h = elim (cons_cases y ys p (on (there x xs p h))) [
+      | inl is ↦ absurd (let before = subst (Before x) (sym (e ∙ is)) (first_before x xs p a h) in not_back x x before before)
+      | inr more ↦ more
+    ]
+
+    pub same_list : (xs ys : List X) → AllPairs Before xs → AllPairs Before ys
+        → ((p : X) → Contains xs p ↔ Contains ys p) → xs ≡ ys
+    same_list [] [] a b both = refl
+    same_list [] (y ∷ ys) a b both = absurd (no_member y ((both y).1 (here y ys)))
+    same_list (x ∷ xs) [] a b both = absurd (no_member x ((both x).0 (here x xs)))
+    same_list (x ∷ xs) (y ∷ ys) a b both =
+        let e = first_one x y xs ys a b both in
+        let rest = same_list xs ys (rest_ordered x xs a) (rest_ordered y ys b)
+        (λ p. (same_rest x y xs ys e a p (both p).0, same_rest y x ys xs (sym e) b p (both p).1)) in
+        λ i. e i ∷ rest i
+
+module _ {X Y : Type 0} (f : X → Y) where
+  pub map_has : (xs : List X) (x : X) → Contains xs x → Contains (map f xs) (f x)
+  map_has [] x h = absurd (no_member x h)
+  map_has (z ∷ xs) x h = elim (cons_cases z xs x h) [
+    | inl e ↦ subst (λ u. Contains (f z ∷ map f xs) (f u)) e (here (f z) (map f xs))
+    | inr more ↦ there (f z) (map f xs) (f x) (map_has xs x more)
+  ]
+
+  pub map_from : (xs : List X) (y : Y) → Contains (map f xs) y → (x : X) × Contains xs x × (f x ≡ y)
+  map_from [] y h = absurd (no_member y h)
+  map_from (x ∷ xs) y h = elim (cons_cases (f x) (map f xs) y h) [
+    | inl e ↦ (x, here x xs, e)
+    | inr more ↦ (let found = map_from xs y more in (found.0, there x xs found.0 found.1, found.2))
+  ]

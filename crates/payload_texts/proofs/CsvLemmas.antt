@@ -71,8 +71,7 @@ rows_apart number columns (line ∷ lines) a fault (row, is, more, a_is, rows) (
 first_one : (number : ℕ) (columns : Columns) (lines : List (List ℕ)) (d e : FileFault)
     → HaveFirstFault number columns lines d → HaveFirstFault number columns lines e → d ≡ e
 first_one number columns [] d e h k = absurd h
-first_one number columns (line ∷ lines) d e (inl (wrong, has, d_is)) (inl (other, haz, e_is)) =
-    d_is ∙ ap (Line number) (row_fault_one columns line wrong other has haz) ∙ sym e_is
+first_one number columns (line ∷ lines) d e (inl (wrong, has, d_is)) (inl (other, haz, e_is)) = grind (arith, row_fault_one)
 first_one number columns (line ∷ lines) d e (inl (wrong, has, d_is)) (inr (row, is, later)) = absurd (row_apart columns line row wrong is has)
 first_one number columns (line ∷ lines) d e (inr (row, is, later)) (inl (wrong, has, e_is)) = absurd (row_apart columns line row wrong is has)
 first_one number columns (line ∷ lines) d e (inr (row, is, later)) (inr (other, iz, rest)) =

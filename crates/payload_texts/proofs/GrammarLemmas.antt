@@ -1,5 +1,5 @@
 -- Items and members of JSON's grammar, one after another. Where its turns are enough, more of them change nothing.
-use Rattle.payload_texts.proofs.Common.{List, None, Option, Some, ap, arith, length, refl, suc, sym, zero, ℕ, ◌-◌, ◌<◌, ◌∙◌, ◌≡◌, ◌≤◌, Takes, items_end, items_fail, items_more, left, left-parse_map, left_some, members_end, members_fail, members_more, members_no_key, read_key-shorter, skip_value-shorter, Items, Json, Members, Parse, after_end_array, item, items, member, members, no_items, no_members, parse_map, read_key, value, Token}
+use Rattle.payload_texts.proofs.Common.{List, None, Option, Some, ap, arith, length, refl, suc, sym, zero, ℕ, ◌-◌, ◌<◌, ◌∙◌, ◌≡◌, ◌≤◌, Takes, items_end, items_fail, items_more, left, left-parse_map, left_none, left_some, members_end, members_fail, members_more, members_no_key, read_key-shorter, skip_value-shorter, Items, Json, Members, Parse, after_end_array, item, items, member, members, no_items, no_members, parse_map, read_key, value, Token}
 
 module _ (p : Parse Json) (takes : Takes p) where
   item_turn : (n m : ℕ) (ts : List Token)
@@ -93,3 +93,6 @@ module _ (depth : ℕ) where
   left_member ts s r key e f =
       let j = left_some (value depth s) r f in
       ap left (a_member ts s r key j.0 e j.1) ∙ left-parse_map (member key j.0) (members_in r)
+
+-- what tells a reading of items or of members what is left
+pub ruleset steps = (bad_item, bad_key, bad_member, left_item, left_member, left_none, no_item, no_member, read_key-shorter)

@@ -32,22 +32,7 @@ module _ (value : Json) where
   item_apart x (Payload f) (a, p, m, h, is) (b, q, n, k, wrong) = fields_apart a p m x.0 x.1 f is (same_texts (λ a p m. HaveFault a p m f) a b p q m n h k wrong)
 
   item_fault_one : (d e : ItemFault) → HasItemFault value d → HasItemFault value e → d ≡ e
-  item_fault_one (Member Asn f) (Member Asn g) h k = ap (Member Asn) (member_fault_one Asn value f g h k)
-  item_fault_one (Member Asn f) (Member Prefix g) h ((a, is), _) = absurd (text_apart Asn value a f is h)
-  item_fault_one (Member Asn f) (Member MaxLength g) h ((a, is), _, _) = absurd (text_apart Asn value a f is h)
-  item_fault_one (Member Asn f) (Payload g) h (a, p, m, k, _) = absurd (text_apart Asn value a f k.asn h)
-  item_fault_one (Member Prefix f) (Member Asn g) ((a, is), _) k = absurd (text_apart Asn value a g is k)
-  item_fault_one (Member Prefix f) (Member Prefix g) (_, h) (_, k) = ap (Member Prefix) (member_fault_one Prefix value f g h k)
-  item_fault_one (Member Prefix f) (Member MaxLength g) (_, h) (_, (p, is), _) = absurd (text_apart Prefix value p f is h)
-  item_fault_one (Member Prefix f) (Payload g) (_, h) (a, p, m, k, _) = absurd (text_apart Prefix value p f k.prefix h)
-  item_fault_one (Member MaxLength f) (Member Asn g) ((a, is), _, _) k = absurd (text_apart Asn value a g is k)
-  item_fault_one (Member MaxLength f) (Member Prefix g) (_, (p, is), _) (_, k) = absurd (text_apart Prefix value p g is k)
-  item_fault_one (Member MaxLength f) (Member MaxLength g) (_, _, h) (_, _, k) = ap (Member MaxLength) (member_fault_one MaxLength value f g h k)
-  item_fault_one (Member MaxLength f) (Payload g) (_, _, h) (a, p, m, k, _) = absurd (text_apart MaxLength value m f k.max_length h)
-  item_fault_one (Payload f) (Member Asn g) (a, p, m, h, _) k = absurd (text_apart Asn value a g h.asn k)
-  item_fault_one (Payload f) (Member Prefix g) (a, p, m, h, _) (_, k) = absurd (text_apart Prefix value p g h.prefix k)
-  item_fault_one (Payload f) (Member MaxLength g) (a, p, m, h, _) (_, _, k) = absurd (text_apart MaxLength value m g h.max_length k)
-  item_fault_one (Payload f) (Payload g) (a, p, m, h, wrong) (b, q, n, k, other) = grind (arith, have_one, same_texts)
+  item_fault_one d e h k = grind (arith, have_one, member_fault_one, same_texts, text_apart)
 
 -- items write one list of payloads
 pub items_one : (items : Items) (a b : Payloads) → AreItems items a → AreItems items b → a ≡ b

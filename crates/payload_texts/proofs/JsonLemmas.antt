@@ -104,43 +104,39 @@ module _ (values : List Json) where
   roas_fault_one : (d e : FileFault) → HaveRoasFault values d → HaveRoasFault values e → d ≡ e
   roas_fault_one d e h k = grind (arith, array_one, wrong_apart, wrong_item_one, wrong_one)
 
+-- the values of `roas` write no payload, or have the fault
+abbrev AreWrong : List Json → FileFault → Type 0
+AreWrong values f = (WriteRoas values [] × (f ≡ NoPayload)) ⊎ HaveRoasFault values f
+
+wrong_ways : (values : List Json) (d e : FileFault) → AreWrong values d → AreWrong values e → d ≡ e
+wrong_ways values d e h k = grind (arith, roas_fault_one values d e, write_apart values [] d, write_apart values [] e)
+
 module _ (text : List ℕ) where
   -- the ways in which a text is wrong
-  faults : (f : FileFault) → HasJsonFault text f
-      → (((ms : Members) → ¬ IsJsonObject text ms) × (f ≡ NotObject))
-      ⊎ ((ms : Members) × IsJsonObject text ms
-      × ((WriteRoas (values_in roas ms) [] × (f ≡ NoPayload)) ⊎ HaveRoasFault (values_in roas ms) f))
+  abbrev IsWrong : FileFault → Type 0
+  IsWrong f = (((ms : Members) → ¬ IsJsonObject text ms) × (f ≡ NotObject))
+      ⊎ ((ms : Members) × IsJsonObject text ms × AreWrong (values_in roas ms) f)
+
+  faults : (f : FileFault) → HasJsonFault text f → IsWrong f
   faults f h = grind (arith)
 
   pub json_one : (a b : Payloads) → IsJsonFile text a → IsJsonFile text b → a ≡ b
   json_one a b ((ms, is, h), _) ((ns, iz, k), _) = write_one (values_in roas ms) a b h (subst (λ z. WriteRoas (values_in roas z) b) (object_one text ns ms iz is) k)
 
-  pub json_apart : (a : Payloads) (f : FileFault) → IsJsonFile text a → HasJsonFault text f → ⊥
-  json_apart a f ((ms, is, h), some) wrong = by_fault (faults f wrong) where
-    by_fault : (((ms : Members) → ¬ IsJsonObject text ms) × (f ≡ NotObject))
-        ⊎ ((ms : Members) × IsJsonObject text ms
-        × ((WriteRoas (values_in roas ms) [] × (f ≡ NoPayload)) ⊎ HaveRoasFault (values_in roas ms) f)) → ⊥
-    by_fault (inl k) = k.0 ms is
-    by_fault (inr (ns, iz, inl k)) = some (write_one (values_in roas ms) a [] h (subst (λ z. WriteRoas (values_in roas z) []) (object_one text ns ms iz is) k.0))
-    by_fault (inr (ns, iz, inr k)) = write_apart (values_in roas ms) a f h (subst (λ z. HaveRoasFault (values_in roas z) f) (object_one text ns ms iz is) k)
+  apart : (a : Payloads) (f : FileFault) → IsJsonFile text a → IsWrong f → ⊥
+  apart a f ((ms, is, h), some) (inl k) = k.0 ms is
+  apart a f ((ms, is, h), some) (inr (ns, iz, inl k)) = some (write_one (values_in roas ms) a [] h (subst (λ z. WriteRoas (values_in roas z) []) (object_one text ns ms iz is) k.0))
+  apart a f ((ms, is, h), some) (inr (ns, iz, inr k)) = write_apart (values_in roas ms) a f h (subst (λ z. HaveRoasFault (values_in roas z) f) (object_one text ns ms iz is) k)
 
-  roas_ways : (values : List Json) (d e : FileFault) → (WriteRoas values [] × (d ≡ NoPayload)) ⊎ HaveRoasFault values d
-      → (WriteRoas values [] × (e ≡ NoPayload)) ⊎ HaveRoasFault values e → d ≡ e
-  roas_ways values d e (inl h) (inl k) = h.1 ∙ sym k.1
-  roas_ways values d e (inl h) (inr k) = absurd (write_apart values [] e h.0 k)
-  roas_ways values d e (inr h) (inl k) = absurd (write_apart values [] d k.0 h)
-  roas_ways values d e (inr h) (inr k) = roas_fault_one values d e h k
+  pub json_apart : (a : Payloads) (f : FileFault) → IsJsonFile text a → HasJsonFault text f → ⊥
+  json_apart a f h wrong = apart a f h (faults f wrong)
+
+  one_way : (d e : FileFault) → IsWrong d → IsWrong e → d ≡ e
+  one_way d e (inl one) (inl other) = one.1 ∙ sym other.1
+  one_way d e (inl one) (inr (ns, iz, _)) = absurd (one.0 ns iz)
+  one_way d e (inr (ms, is, _)) (inl other) = absurd (other.0 ms is)
+  one_way d e (inr (ms, is, one)) (inr (ns, iz, other)) =
+      wrong_ways (values_in roas ms) d e one (subst (λ z. AreWrong (values_in roas z) e) (object_one text ns ms iz is) other)
 
   pub json_fault_one : (d e : FileFault) → HasJsonFault text d → HasJsonFault text e → d ≡ e
-  json_fault_one d e h k = by_faults (faults d h) (faults e k) where
-    by_faults : (((ms : Members) → ¬ IsJsonObject text ms) × (d ≡ NotObject))
-        ⊎ ((ms : Members) × IsJsonObject text ms
-        × ((WriteRoas (values_in roas ms) [] × (d ≡ NoPayload)) ⊎ HaveRoasFault (values_in roas ms) d))
-        → (((ms : Members) → ¬ IsJsonObject text ms) × (e ≡ NotObject))
-        ⊎ ((ms : Members) × IsJsonObject text ms
-        × ((WriteRoas (values_in roas ms) [] × (e ≡ NoPayload)) ⊎ HaveRoasFault (values_in roas ms) e)) → d ≡ e
-    by_faults (inl one) (inl other) = one.1 ∙ sym other.1
-    by_faults (inl one) (inr (ns, iz, _)) = absurd (one.0 ns iz)
-    by_faults (inr (ms, is, _)) (inl other) = absurd (other.0 ms is)
-    by_faults (inr (ms, is, one)) (inr (ns, iz, other)) =
-        roas_ways (values_in roas ms) d e one (subst (λ z. (WriteRoas (values_in roas z) [] × (e ≡ NoPayload)) ⊎ HaveRoasFault (values_in roas z) e) (object_one text ns ms iz is) other)
+  json_fault_one d e h k = one_way d e (faults d h) (faults e k)

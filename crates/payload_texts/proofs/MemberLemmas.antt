@@ -76,9 +76,7 @@ module _ {A : Type 0} (name : List ℕ) (ms : List (Bor (List ℕ) × Value A)) 
   -- a member more, of another name, and of this one
   pub found_over : bytes_eq m.0.now name ≡ false → IsFound (values_in name (members_view ms)) found
       → IsFound (values_in name (members_view (ms ++ m ∷ []))) found
-  found_over other h =
-      let added : if_named name m.0.now (value_view m.1) ≡ [] = ap (λ b. if b then value_view m.1 ∷ [] else []) other in
-      subst (λ z. IsFound z found) (sym (values_push name ms m ∙ ap (λ z. values_in name (members_view ms) ++ z) added ∙ append-nil (values_in name (members_view ms)))) h
+  found_over other h = grind (arith, append-nil, values_push)
 
   pub found_more : bytes_eq m.0.now name ≡ true
       → IsFound (values_in name (members_view ms) ++ value_view m.1 ∷ []) found

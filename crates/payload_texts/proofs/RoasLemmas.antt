@@ -1,5 +1,5 @@
 -- What the values of the member `roas` tell, one after another, and the items of one.
-use Rattle.payload_texts.proofs.Common.{Err, IfOk, List, None, Ok, Result, Some, Vec, [], ap, append-nil, append_assoc, arith, false, if◌then◌else◌, inl, inr, length, refl, subst, sym, true, ℕ, ◌++◌, ◌+◌, ◌-◌, ◌<◌, ◌∙◌, ◌∷◌, ◌≡◌, length-append, bytes_eq, left, left_none, left_some, value-begin_array, value-begin_object, Items, Json, Members, array, item, member, no_items, no_members, parse_map, Token, MaxLenValue, AreItems, HasItemFault, HaveWrongItem, IsItem, TellRoas, roas, values_in, FileFault, Item, Roas, ItemFault, Kind, Missing, Repeated}
+use Rattle.payload_texts.proofs.Common.{Err, IfOk, List, None, Ok, Result, Some, Vec, [], ap, append-nil, append_assoc, arith, false, if◌then◌else◌, inl, inr, length, refl, subst, sym, true, ℕ, ◌++◌, ◌+◌, ◌-◌, ◌<◌, ◌∙◌, ◌∷◌, ◌≡◌, length-append, bytes_eq, left, left_none, left_some, value-begin_array, value-begin_object, Items, Json, Members, array, item, member, no_items, parse_map, Token, MaxLenValue, AreItems, HasItemFault, HaveWrongItem, IsItem, TellRoas, roas, values_in, FileFault, Item, Roas, ItemFault, Kind, Missing, Repeated}
 use Rattle.payload_texts.proofs.GrammarLemmas.{a_member, an_item, items_in, members_in, no_item, no_member}
 use Rattle.json.specs.Json as json
 
@@ -83,60 +83,46 @@ not_named : (key : List ℕ) (value : Json) (ms : Members) → bytes_eq key roas
 not_named key value ms e = ap (λ b. if b then value ∷ values_in roas ms else values_in roas ms) e
 
 module _ {A : Type 0} (depth : ℕ) (first now s r : List Token) (key : List ℕ) (told : Result (Vec (MaxLenValue × ℕ) A) FileFault) (had : IsToldSo depth first now told) (is_key : json.read_key now ≡ Some (Some key, s)) where
+  -- a member more, whose value is told with those before it
+  more : (value : Json) (values : List Json) (next : Result (Vec (MaxLenValue × ℕ) A) FileFault) → TellRoas values next
+      → json.value depth s ≡ Some (value, r)
+      → ((ms : Members) → had.values ++ values_in roas (member key value ms) ≡ values ++ values_in roas ms)
+      → IsToldSo depth first r next
+  more value values next is read same =
+      let step = a_member depth now s r key value is_key read in
+      record {
+        values = values;
+        is_told = is;
+        ends = λ e. had.ends (step ∙ ap (parse_map (member key value)) e);
+        whole = λ ms rest e.
+            let h = had.whole (member key value ms) rest (step ∙ ap (parse_map (member key value)) e) in (h.0, h.1, h.2 ∙ same ms);
+      }
+
   -- a member of another name is passed over
   pub told_over : bytes_eq key roas ≡ false → left (json.value depth s) ≡ Some r → IsToldSo depth first r told
-  told_over other passed =
-      let j = left_some (json.value depth s) r passed in
-      let step = a_member depth now s r key j.0 is_key j.1 in
-      record {
-        values = had.values;
-        is_told = had.is_told;
-        ends = λ e. had.ends (step ∙ ap (parse_map (member key j.0)) e);
-        whole = λ ms rest e.
-            let h = had.whole (member key j.0 ms) rest (step ∙ ap (parse_map (member key j.0)) e) in
-            (h.0, h.1, h.2 ∙ ap (λ z. had.values ++ z) (not_named key j.0 ms other));
-      }
+  told_over other passed = grind (arith, left_some, more, not_named)
 
   -- the first of the name
   pub told_first : (next : Result (Vec (MaxLenValue × ℕ) A) FileFault) (value : Json) → bytes_eq key roas ≡ true
       → told ≡ Err (Roas Missing) → TellRoas (value ∷ []) next → json.value depth s ≡ Some (value, r)
       → IsToldSo depth first r next
-  told_first next value same missing is read =
-      let step = a_member depth now s r key value is_key read in
-      let none = told_missing had.values told had.is_told missing in
-      record {
-        values = value ∷ [];
-        is_told = is;
-        ends = λ e. had.ends (step ∙ ap (parse_map (member key value)) e);
-        whole = λ ms rest e.
-            let h = had.whole (member key value ms) rest (step ∙ ap (parse_map (member key value)) e) in
-            (h.0, h.1, h.2 ∙ ap (λ z. z ++ values_in roas (member key value ms)) none ∙ named key value ms same);
-      }
+  told_first next value same missing is read = grind (arith, more, named, told_missing)
 
   -- another one
   pub told_again : bytes_eq key roas ≡ true → (told ≡ Err (Roas Missing) → ⊥) → left (json.value depth s) ≡ Some r
       → IsToldSo {A = A} depth first r (Err (Roas Repeated))
   told_again same some passed =
       let j = left_some (json.value depth s) r passed in
-      let step = a_member depth now s r key j.0 is_key j.1 in
       let before = told_some had.values told had.is_told some in
-      record {
-        values = had.values ++ j.0 ∷ [];
-        is_told = omega (arith, before, length-append had.values (j.0 ∷ []));
-        ends = λ e. had.ends (step ∙ ap (parse_map (member key j.0)) e);
-        whole = λ ms rest e.
-            let h = had.whole (member key j.0 ms) rest (step ∙ ap (parse_map (member key j.0)) e) in
-            (h.0, h.1, h.2 ∙ ap (λ z. had.values ++ z) (named key j.0 ms same) ∙ sym (append_assoc had.values (j.0 ∷ []) (values_in roas ms)));
-      }
+      more j.0 (had.values ++ j.0 ∷ []) (Err (Roas Repeated)) (omega (arith, before, length-append had.values (j.0 ∷ []))) j.1
+      (λ ms. ap (λ z. had.values ++ z) (named key j.0 ms same) ∙ sym (append_assoc had.values (j.0 ∷ []) (values_in roas ms)))
 
 -- no member is left
 pub told_all : {A : Type 0} (depth : ℕ) (first now rest : List Token)
     (told : Result (Vec (MaxLenValue × ℕ) A) FileFault) → IsToldSo depth first now told
     → json.read_key now ≡ Some (None, rest)
     → (ms : Members) × TellRoas (values_in roas ms) told × (members_in depth first ≡ Some (ms, rest))
-told_all depth first now rest told had end =
-    let h = had.whole no_members rest (no_member depth now rest end) in
-    (h.0, subst (λ z. TellRoas z told) (sym (h.2 ∙ append-nil had.values)) had.is_told, h.1)
+told_all depth first now rest told had end = grind (arith, append-nil, no_member)
 
 -- ---- a value of the member, by its first token
 

@@ -1,5 +1,5 @@
 -- A line writes one thing alone, or has one fault.
-use Rattle.payload_texts.proofs.Common.{List, MatchResult, Result, Some, [], ap, arith, inl, inr, refl, subst, sym, ℕ, ◌-◌, ◌^◌, ◌∙◌, ◌≡◌, ◌≢◌, ◌⊎◌, IsUtf8, trim, HasMaxLenError, IsMaxLenOf, MaxLenValue, Answers, IsHeader, field, ArePayload, HasRowFault, HaveFault, IsBody, IsRow, Columns, PayloadFault, Row, Blank, Header, Payload}
+use Rattle.payload_texts.proofs.Common.{List, MatchResult, Result, Some, [], ap, arith, inl, inr, subst, sym, ℕ, ◌-◌, ◌^◌, ◌∙◌, ◌≡◌, ◌≢◌, ◌⊎◌, IsUtf8, trim, HasMaxLenError, IsMaxLenOf, MaxLenValue, Answers, IsHeader, field, ArePayload, HasRowFault, HaveFault, IsBody, IsRow, Columns, PayloadFault, Row, Blank, Header, Payload}
 use Rattle.rpki_text.proofs.ReadingLemmas.{Answers-from_found}
 use Rattle.rpki_base.proofs.AsnLemmas.{IsAsnText-one}
 use Rattle.rpki_text.proofs.NumberTexts.{IsNumberText-one}
@@ -44,14 +44,8 @@ module _ (a p m : List ℕ) where
   pub have_one : (d e : PayloadFault) → HaveFault a p m d → HaveFault a p m e → d ≡ e
   have_one NotUtf8 e h k = absurd h
   have_one d NotUtf8 h k = absurd k
-  have_one (Asn f) (Asn g) h k = refl
-  have_one (Asn f) (Prefix g) h ((n, is), _) = absurd (h n is)
-  have_one (Asn f) (MaxLenFormat g) h ((n, is), _, _) = absurd (h n is)
-  have_one (Asn f) (MaxLen g) h ((n, is), _) = absurd (h n is)
-  have_one (Prefix f) (Asn g) ((n, is), _) k = absurd (k n is)
-  have_one (Prefix f) (Prefix g) h k = ap Prefix (HasPrefixTextFault-one p f g h.1 k.1)
-  have_one (Prefix f) (MaxLenFormat g) (_, wrong) (_, (q, is), _) = absurd (IsPrefixText-no_fault p q f is wrong)
-  have_one (Prefix f) (MaxLen g) (_, wrong) (_, (q, n, is, _, _)) = absurd (IsPrefixText-no_fault p q f is wrong)
+  have_one (Asn f) e h k = search (arith)
+  have_one (Prefix f) e h k = search (arith, HasPrefixTextFault-one, IsPrefixText-no_fault)
   have_one (MaxLenFormat f) (Asn g) ((n, is), _, _) k = absurd (k n is)
   have_one (MaxLenFormat f) (Prefix g) (_, (q, is), _) (_, wrong) = absurd (IsPrefixText-no_fault p q g is wrong)
   have_one (MaxLenFormat f) (MaxLenFormat g) (_, _, wrong) (_, _, other) = ap MaxLenFormat (same_number_fault m f g wrong other)
@@ -82,12 +76,8 @@ module _ (columns : Columns) (line : List ℕ) where
   row_fault f body h = grind (arith)
 
   pub row_one : (x y : Row) → IsRow columns line x → IsRow columns line y → x ≡ y
-  row_one Blank Blank h k = refl
-  row_one Blank (Header b) h (_, some, _) = absurd (some h.1)
-  row_one Blank (Payload p) h (body, _) = absurd (body.some_text h.1)
-  row_one (Header a) Blank (_, some, _) k = absurd (some k.1)
-  row_one (Header a) (Header b) (_, _, h) (_, _, k) = ap Header (header_one line a b h k)
-  row_one (Header a) (Payload p) (_, _, h) (body, _) = absurd (body.no_header a h)
+  row_one Blank y h k = grind (arith)
+  row_one (Header a) y h k = grind (arith, header_one)
   row_one (Payload p) Blank (body, _) k = absurd (body.some_text k.1)
   row_one (Payload p) (Header b) (body, _) (_, _, k) = absurd (body.no_header b k)
   row_one (Payload p) (Payload q) (_, h) (_, k) =

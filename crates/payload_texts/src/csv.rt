@@ -13,7 +13,7 @@ use rpki_text::line::cut_line;
 use std::alloc::Allocator;
 
 /// The payloads of lines of fields, in their order, or what is wrong there.
-#[tactic(auto, using(crate::proofs::CsvLemmas::read_none, crate::proofs::CsvLemmas::read_more))]
+#[tactic(auto, using(crate::proofs::CsvLemmas::read_none, crate::proofs::CsvLemmas::read_more, crate::proofs::CsvLemmas::read_no_payload, crate::proofs::CsvLemmas::read_wrong))]
 pub(crate) fn read_csv<A: Allocator>(
     alloc: A,
     text: &[u8],

@@ -18,7 +18,7 @@ use std::alloc::Allocator;
 pub(crate) type Roas<A> = Result<Vec<(MaxLenPrefix, Asn), A>, FileFault>;
 
 /// What the members of an object tell of `roas`, up to the object's end.
-#[tactic(auto, using(crate::proofs::RoasLemmas::told_none))]
+#[tactic(auto, using(crate::proofs::GrammarLemmas::steps, crate::proofs::RoasLemmas::told_none, crate::proofs::RoasLemmas::told_again, crate::proofs::RoasLemmas::told_first, crate::proofs::RoasLemmas::told_over))]
 pub(crate) fn read_members<A: Allocator + Copy>(
     alloc: A,
     reader: &mut Reader<'_>,
@@ -52,6 +52,7 @@ fn is_missing<A: Allocator>(told: &Roas<A>) -> bool
 }
 
 /// What a value of `roas` tells.
+#[tactic(auto, using(crate::proofs::RoasLemmas::array_fails, crate::proofs::RoasLemmas::object_fails))]
 fn read_list<A: Allocator + Copy>(
     alloc: A,
     reader: &mut Reader<'_>,
@@ -78,7 +79,7 @@ fn read_list<A: Allocator + Copy>(
 }
 
 /// What the items of an array tell, up to the array's end.
-#[tactic(auto, using(crate::proofs::RoasLemmas::read_none))]
+#[tactic(auto, using(crate::proofs::GrammarLemmas::bad_item, crate::proofs::RoasLemmas::read_none))]
 fn read_items<A: Allocator + Copy>(
     alloc: A,
     reader: &mut Reader<'_>,
@@ -108,6 +109,7 @@ fn read_items<A: Allocator + Copy>(
 }
 
 /// Passes over items up to the end of their array.
+#[tactic(auto, using(crate::proofs::GrammarLemmas::steps))]
 fn skip_items(reader: &mut Reader<'_>, depth: usize) -> Result<(), Invalid>
     ensures read { MatchResult result (λ _. skip_items depth reader.old ≡ Some reader.new)
         (λ _. skip_items depth reader.old ≡ None) }
@@ -120,6 +122,7 @@ fn skip_items(reader: &mut Reader<'_>, depth: usize) -> Result<(), Invalid>
 }
 
 /// Passes over members up to the end of their object.
+#[tactic(auto, using(crate::proofs::GrammarLemmas::steps))]
 fn skip_members(reader: &mut Reader<'_>, depth: usize) -> Result<(), Invalid>
     ensures read { MatchResult result (λ _. skip_members depth reader.old ≡ Some reader.new)
         (λ _. skip_members depth reader.old ≡ None) }

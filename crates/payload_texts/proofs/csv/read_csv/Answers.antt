@@ -1,9 +1,6 @@
 use Rattle.payload_texts.proofs.Common.{arith, refl, eqb-false, eqb-true, nil_from_length, Header, Payload}
-use Rattle.payload_texts.proofs.CsvLemmas.{read_more, read_no_payload, read_over, read_some, read_wrong}
+use Rattle.payload_texts.proofs.CsvLemmas.{read_more, read_over, read_some}
 use Rattle.payload_texts.proofs.csv.read_csv.Goals as goal
-
-pub returns-in-Err : goal.returns-in-Err
-returns-in-Err g c = read_wrong _ _ c.cut_line.result.1.now c.cut_line.result.0.now _ _ _ c.loop-rest.invariant.read c.cut_line.ensures.first c.in-Err.fault c.in-Err.ensures.found
 
 -- a payload more
 pub loop-rest-preserved-in_ok-push-in-Ok-Payload :
@@ -25,10 +22,6 @@ loop-rest-preserved-in-Ok-Header g c =
       within = omega arith;
       read = read_over _ _ _ c.cut_line.result.0.now _ _ _ c.loop-rest.invariant.read c.cut_line.ensures.first (Header c.in-Ok-Header.next) refl (rw c.in-Ok-Header.field-0-is at c.in-Ok-Header.ensures.found);
     }
-
--- no line is left
-pub returns-then-is_empty : goal.returns-then-is_empty
-returns-then-is_empty g c = grind (arith, eqb-true, nil_from_length, read_no_payload)
 
 pub returns : goal.returns
 returns g c = grind (arith, eqb-false, eqb-true, nil_from_length, read_some)

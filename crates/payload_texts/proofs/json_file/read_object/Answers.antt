@@ -1,10 +1,7 @@
-use Rattle.payload_texts.proofs.Common.{None, arith, true, ◌≡◌, MatchBool-at_false, MatchBool-at_true, token_of}
+use Rattle.payload_texts.proofs.Common.{None, arith, true, ◌≡◌, MatchBool-at_true, token_of}
 use Rattle.payload_texts.proofs.GrammarLemmas.{members_in}
-use Rattle.payload_texts.proofs.JsonLemmas.{more_in, none_in, object_in, wrong_in}
+use Rattle.payload_texts.proofs.JsonLemmas.{more_in, wrong_in}
 use Rattle.payload_texts.proofs.json_file.read_object.Goals as goal
-
-pub returns-then-not-begins_object-clause-invalid : goal.returns-then-not-begins_object-clause-invalid
-returns-then-not-begins_object-clause-invalid g c invalid = grind (arith, MatchBool-at_false, none_in)
 
 pub returns-in_err-told-clause-invalid : goal.returns-in_err-told-clause-invalid
 returns-in_err-told-clause-invalid g c invalid =
@@ -17,6 +14,3 @@ returns-clause-invalid g c invalid =
     let yes : c.begins_object.result ≡ true = grind arith in
     let ms = c.in_ok-told.ensures.told in
     more_in c.args.text.now c.in_ok-reader.reader c.in_ok-reader.ensures.ok c.begins_object.new.reader _ _ (token_of c.in-Some.field-0) ms.0 (MatchBool-at_true _ _ yes c.begins_object.ensures) ms.2 c.in-Some.ensures.value
-
-pub returns-in-None-clause-told : goal.returns-in-None-clause-told
-returns-in-None-clause-told g c = grind (arith, MatchBool-at_true, object_in)

@@ -1,10 +1,7 @@
 use Rattle.payload_texts.proofs.Common.{None, [], ap, arith, length, ◌++◌, ◌<◌, ◌∙◌, ◌∷◌, ◌≡◌, left_none, after_end_array, item, parse_map, value_view}
-use Rattle.payload_texts.proofs.GrammarLemmas.{an_item, bad_item}
+use Rattle.payload_texts.proofs.GrammarLemmas.{an_item}
 use Rattle.payload_texts.proofs.RoasLemmas.{read_all, read_more, read_wrong}
 use Rattle.payload_texts.proofs.roas.read_items.Goals as goal
-
-pub returns-in_err-item-clause-invalid : goal.returns-in_err-item-clause-invalid
-returns-in_err-item-clause-invalid g c invalid = grind (arith, bad_item)
 
 pub returns-in_err-skip_items-in-Err-clause-invalid : goal.returns-in_err-skip_items-in-Err-clause-invalid
 returns-in_err-skip_items-in-Err-clause-invalid g c invalid =

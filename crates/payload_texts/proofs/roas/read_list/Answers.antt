@@ -1,5 +1,5 @@
 use Rattle.payload_texts.proofs.Common.{ap, arith, ◌∙◌, ◌∷◌, ◌≡◌, value_is, token_of, Token}
-use Rattle.payload_texts.proofs.RoasLemmas.{array_fails, array_read, object_fails, object_passed, scalar_passed}
+use Rattle.payload_texts.proofs.RoasLemmas.{array_read, object_passed, scalar_passed}
 use Rattle.payload_texts.proofs.roas.read_list.Goals as goal
 
 pub returns-in_err-token-clause-invalid : goal.returns-in_err-token-clause-invalid
@@ -10,13 +10,6 @@ returns-in-BeginArray-clause-told g c =
     let first : c.args.reader.now ≡ token_of c.in_ok-token.token ∷ c.next.new.self = grind arith in
     let opened : c.args.reader.now ≡ Token.begin_array ∷ c.next.new.self = first ∙ ap (λ k. token_of k ∷ c.next.new.self) c.in-BeginArray.is in
     array_read c.args.depth c.requires _ c.next.new.self _ c.read_items.result opened c.read_items.ensures.told
-
-pub returns-in-BeginArray-clause-invalid : goal.returns-in-BeginArray-clause-invalid
-returns-in-BeginArray-clause-invalid g c invalid = grind (arith, array_fails)
-
-pub returns-in_err-skip_members-in-BeginObject-clause-invalid :
-    goal.returns-in_err-skip_members-in-BeginObject-clause-invalid
-returns-in_err-skip_members-in-BeginObject-clause-invalid g c invalid = grind (arith, object_fails)
 
 pub returns-in_ok-skip_members-in-BeginObject-clause-told : goal.returns-in_ok-skip_members-in-BeginObject-clause-told
 returns-in_ok-skip_members-in-BeginObject-clause-told g c =

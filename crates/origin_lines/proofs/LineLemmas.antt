@@ -43,9 +43,7 @@ asn_apart text a h none = grind (arith)
 
 -- the last word of a path
 word_one : (word : List ℕ) (a b : Option ℕ) → IsWordOrigin word a → IsWordOrigin word b → a ≡ b
-word_one word None None h k = refl
-word_one word None (Some n) (inl e) k = absurd (k.0 e)
-word_one word None (Some n) (inr set) k = absurd (k.1 set)
+word_one word None b h k = grind (arith)
 word_one word (Some m) None h (inl e) = absurd (h.0 e)
 word_one word (Some m) None h (inr set) = absurd (h.1 set)
 word_one word (Some m) (Some n) h k = ap Some (IsAsnText-one word m n h.2 k.2)

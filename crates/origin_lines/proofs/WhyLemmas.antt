@@ -1,13 +1,13 @@
 -- The payloads that cover a route, told one after another.
-use Rattle.origin_lines.proofs.Common.{List, None, Option, Some, [], ap, append_assoc, arith, get_or, inl, inr, length, map, refl, reverse, subst, suc, sym, ℕ, ◌*◌, ◌++◌, ◌+◌, ◌-◌, ◌<◌, ◌^◌, ◌↔◌, ◌∙◌, ◌∷◌, ◌≡◌, ◌≢◌, ◌≤◌, ◌⊎◌, append-nil, get_or-reverse, get_or_at, length-append, length-reverse, map-append, AllPairs, Contains, IsNonDecreasingBy, AreThose, CoversRoute, IsLawfulPayload, Payload, prefix_len, as_sent, FamilyPrefix, IsFamilyPrefix, IsExplanation, IsReason, IsToldBefore, TellsEach, TellsNext, told_text, Reason}
+use Rattle.origin_lines.proofs.Common.{List, None, Option, Some, [], ap, append_assoc, arith, get_or, inl, inr, length, map, refl, reverse, subst, suc, sym, ℕ, ◌++◌, ◌+◌, ◌-◌, ◌<◌, ◌↔◌, ◌∙◌, ◌∷◌, ◌≡◌, ◌≢◌, ◌≤◌, ◌⊎◌, append-nil, get_or-reverse, get_or_at, length-append, length-reverse, map-append, AllPairs, Contains, IsNonDecreasingBy, AreThose, CoversRoute, IsLawfulPayload, Payload, prefix_len, as_sent, FamilyPrefix, IsFamilyPrefix, IsExplanation, IsReason, IsToldBefore, TellsEach, TellsNext, told_text, Reason}
 use Rattle.std.proofs.lemmas.Bool.{cases_lt}
 use Rattle.std.proofs.lemmas.List.Elements.{Contains-append_left, Contains-append_right, Contains-get_or, Contains-push, Contains-push_cases}
 use Rattle.std.proofs.lemmas.List.Quantifiers.{all_pairs_push}
 use Rattle.roa_origin.specs.Places.{table_place}
 use Rattle.roa_origin.proofs.Nested.{covers_between}
-use Rattle.roa_origin.proofs.Orders.{covers_place}
-use Rattle.roa_origin.proofs.Places.{by_ranks, no_earlier, rank_asn, rank_longest, rank_small, same_prefix}
-use Rattle.origin_lines.proofs.Members.{from_reverse, here, map_from, map_has, those_are, those_have, to_reverse}
+use Rattle.roa_origin.proofs.Places.{by_ranks, covers_place, no_earlier, rank_asn, rank_longest, rank_small, same_prefix, upper}
+use Rattle.roa_origin.proofs.Members.{here, map_from, map_has, those_are, those_have}
+use Rattle.origin_lines.proofs.Members.{from_reverse, to_reverse}
 
 -- ---- the order in which they are told
 
@@ -16,10 +16,6 @@ told_trans p q r h h2 = grind (arith)
 
 pub told_once : (p : Payload) → IsToldBefore p p → ⊥
 told_once p h = grind (arith)
-
--- the first of two numbers, by their order with a second of 64 bits each
-upper : (m n r s : ℕ) → s < 2 ^ 64 → m * 2 ^ 64 + r ≤ n * 2 ^ 64 + s → m ≤ n
-upper m n r s small le = omega (arith, small, le)
 
 -- of two payloads that cover a route, the one that a table has later is told before the other, or is the same as it is
 -- sent
@@ -30,8 +26,7 @@ module _ (route : FamilyPrefix) (is : IsFamilyPrefix route) (y x : Payload) (of_
   by_prefix same = grind (arith, by_ranks, cases_lt, rank_asn, rank_longest)
 
   pub told_or_same : prefix_len x ≤ prefix_len y → IsToldBefore y x ⊎ (as_sent y ≡ as_sent x)
-  told_or_same lens =
-      grind (arith, by_prefix, cases_lt, covers_between, covers_place, no_earlier, rank_small, same_prefix, upper)
+  told_or_same lens = grind (arith, by_prefix, cases_lt, covers_between, covers_place, no_earlier, rank_small, same_prefix, upper)
 
 -- ---- two that stand together in a list whose other end is the least
 
@@ -87,8 +82,7 @@ tells_push : (route : FamilyPrefix) (asn : ℕ) (told : List Payload) (text : Li
     → IsReason route asn p reason → TellsEach route asn told text
     → TellsEach route asn (told ++ p ∷ []) (text ++ told_text reason p)
 tells_push route asn [] text p reason is e = (reason, is, [], ap (λ t. t ++ told_text reason p) e ∙ sym (append-nil (told_text reason p)), refl)
-tells_push route asn (q ∷ told) text p reason is (r, of_q, more, e, rest) =
-    (r, of_q, more ++ told_text reason p, ap (λ t. t ++ told_text reason p) e ∙ append_assoc (told_text r q) more (told_text reason p), tells_push route asn told more p reason is rest)
+tells_push route asn (q ∷ told) text p reason is (r, of_q, more, e, rest) = grind (arith, append_assoc, tells_push route asn told more p reason is rest)
 
 module _ (route : FamilyPrefix) (asn : ℕ) (done : List Payload) (x : Payload) (lawful : IsLawfulPayload x) where
   more_sent : map as_sent (done ++ x ∷ []) ≡ map as_sent done ++ as_sent x ∷ []
@@ -205,9 +199,8 @@ module _ (route : FamilyPrefix) (is : IsFamilyPrefix route) (asn : ℕ) (table a
 
   pub told_next : (last : Option Payload) (why more : List ℕ) → IsToldSo route asn done last why
       → TellsNext route asn last x more → IsToldSo route asn (done ++ x ∷ []) (Some x) (why ++ more)
-  told_next None why more had (inl (again, e)) = absurd again
+  told_next None why more had k = grind (arith, told_more)
   told_next (Some y) why more had (inl (again, e)) = grind (arith, append-nil, told_same)
-  told_next None why more had (inr (other, (reason, against, e))) = grind (arith, told_more)
   told_next (Some y) why more had (inr (other, (reason, against, e))) =
       subst (λ t. IsToldSo route asn (done ++ x ∷ []) (Some x) (why ++ t)) (sym e)
       (told_more route asn done x lawful (Some y) why reason against

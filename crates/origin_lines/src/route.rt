@@ -31,6 +31,7 @@ pub struct Route {
 /// prefix and the seventh the path; where it is `TABLE_DUMP2_AP`, the path is the eighth, behind its identifier. The
 /// last word of the path is the origin. A path that is empty, or ends in a set of AS numbers as `{64496,64497}`, tells
 /// no origin (RFC 6811, 2).
+#[tactic(auto, using(crate::proofs::LineLemmas::route_answers))]
 pub fn read_route(line: &[u8]) -> Result<Route, RouteFault>
     ensures { Answers (IsRouteLine line.now) (HasRouteFault line.now) result }
 {
@@ -38,6 +39,7 @@ pub fn read_route(line: &[u8]) -> Result<Route, RouteFault>
 }
 
 /// The route that a line writes, or its fault.
+#[tactic(auto, using(crate::proofs::LineLemmas::text_found))]
 fn route_of(line: &[u8]) -> Result<Route, RouteFault>
     ensures { MatchResult result (IsRouteLine line.now) (HasRouteFault line.now) }
 {

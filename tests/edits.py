@@ -1,6 +1,6 @@
 #!/usr/bin/env python3
-"""edits.py [CRATE..]: tries the edits of the folders `must-fail/` and `edits/` of crates, which the prover has to
-refuse.
+"""edits.py [CRATE..] [CRATE/EDIT..]: tries the edits of the folders `must-fail/` and `edits/` of crates, which the
+prover has to refuse; of a crate with the names of edits behind it these alone.
 
 With no name it takes the crates whose code or edits changed since the commit that tests/edits.revision names, and those
 that stand on such code; with --all every crate. Each edit is tried as the kit tries it, in a copy, over what was proved
@@ -8,8 +8,8 @@ of the crate and of those below. It is refused at a goal, whose line is told, or
 what the edit took away, which says little; or it is still PROVED, or can't be applied: these two are faults. The last
 line is 'N refused, M not'; status 1 where one is not.
 
-With --write it then writes the commit into tests/edits.revision, where every edit that was to be tried was refused.
-RT_JOBS bounds how many crates are tried side by side."""
+With --write, which goes with no names, it then writes the commit into tests/edits.revision, where every edit that was
+to be tried was refused. It waits for an rt that works on one of these crates. RT_JOBS bounds how many crates are tried side by side."""
 
 import os
 import re
@@ -44,14 +44,25 @@ def touched(kit) -> tuple[set[str], set[str]]:
     return code | {crate for crate, part in parts if part in FOLDERS}, code
 
 
-def to_try(kit, crates, words: list[str]) -> list:
+def named(crate, names: list[str]) -> list[Path]:
+    """The edits of a crate that are named, or all where none of it is."""
+    stems = {it.partition("/")[2] for it in names if it.startswith(f"{crate.name}/")}
+    return [it for it in edits_of(crate) if it.stem in stems or not stems]
+
+
+def check_names(crates, names: list[str]) -> None:
+    """Ends where a name is that of no crate, or of no edit of its crate."""
+    known = {it.name for it in crates} | {f"{it.name}/{edit.stem}" for it in crates for edit in edits_of(it)}
+    if unknown := {*names} - known:
+        sys.exit(f"edits.py: there is no crate, or no edit of a crate, {', '.join(sorted(unknown))}")
+
+
+def to_try(kit, crates, words: list[str], names: list[str]) -> list:
     """The crates whose edits are to be tried."""
-    names = [it for it in words if not it.startswith("--")]
-    if unknown := {*names} - {it.name for it in crates}:
-        sys.exit(f"edits.py: crates.txt names no crate {', '.join(sorted(unknown))}")
     with_edits = [it for it in crates if edits_of(it)]
     if names or "--all" in words:
-        return [it for it in with_edits if it.name in names or not names]
+        wanted = {it.partition("/")[0] for it in names}
+        return [it for it in with_edits if it.name in wanted or not names]
     own, code = touched(kit)
     return [it for it in with_edits if it.name in own or code & {dep.name for dep in it.below()}]
 
@@ -147,9 +158,9 @@ def try_over(kit, crate, edits: list[Path], kept: str) -> list[tuple[bool, str]]
     return [it if is_sound and it[0] else must_fail(kit, crate, edit, None) for edit, it in zip(edits, tried)]
 
 
-def try_edits(kit, crate) -> int:
+def try_edits(kit, crate, names: list[str]) -> int:
     """Tries the edits of a copied crate and says what came of each; how many are refused."""
-    edits = sorted(edits_of(crate), key=lambda it: place(kit, crate, it))
+    edits = sorted(named(crate, names), key=lambda it: place(kit, crate, it))
     with tempfile.TemporaryDirectory(prefix="edits-") as kept:
         copy_kept(kit, crate, Path(kept))
         tried = try_over(kit, crate, edits, kept)
@@ -171,37 +182,43 @@ def task(kit, crate, call) -> tuple:
     return waits, crate.count(rb"\n"), kit.need(crate), when_proved
 
 
-def tasks_of(kit, crates: list, tried: list) -> dict:
+def tasks_of(kit, crates: list, tried: list, names: list[str]) -> dict:
     """What is to be done, lowest crates first: to prove what one of the tried stands on, and to try the edits."""
     tasks = {}
     for crate in sorted(crates, key=lambda it: len(it.below())):
         if any(crate in it.below() for it in tried):
             tasks[crate.name, "proof"] = task(kit, crate, lambda jobs, it=crate: built(kit, it, jobs))
         if crate in tried:
-            tasks[crate.name, "edits"] = task(kit, crate, lambda _, it=crate: try_edits(kit, it))
+            tasks[crate.name, "edits"] = task(kit, crate, lambda _, it=crate: try_edits(kit, it, names))
     return tasks
 
 
-def refused_of(kit, crates: list) -> int:
+def refused_of(kit, crates: list, names: list[str]) -> int:
     """Tries the edits of these crates, side by side as memory and processors allow; how many are refused."""
     os.environ.pop(kit.rtlib.ALLOW_C, None)
     kit.rtlib.guarded()
     needed = [*dict.fromkeys(it for crate in crates for it in [*crate.below(), crate])]
     with tempfile.TemporaryDirectory(prefix="edits-") as room:
         copies = copied(kit, needed, Path(room))
-        tasks = tasks_of(kit, [*copies.values()], [copies[it.name] for it in crates])
+        tasks = tasks_of(kit, [*copies.values()], [copies[it.name] for it in crates], names)
         given = kit.in_lanes(tasks)
     return sum(refused for (_, what), refused in given.items() if what == "edits")
 
 
 def main(words: list[str]) -> int:
+    if "--help" in words:
+        print(__doc__)
+        return 0
     kit = the_kit()
-    if "--write" in words and git("status", "--porcelain", "--", "crates", "crates.txt"):
-        sys.exit("edits.py: what is tried for tests/edits.revision is a commit: commit the crates first")
-    crates = to_try(kit, kit.rtlib.crates_below(str(TOP)), words)
+    names = [it for it in words if not it.startswith("--")]
+    if "--write" in words and (names or git("status", "--porcelain", "--", "crates", "crates.txt")):
+        sys.exit("edits.py: what is tried for tests/edits.revision is a commit, whole: commit the crates first")
+    every = kit.rtlib.crates_below(str(TOP))
+    check_names(every, names)
+    crates = to_try(kit, every, words, names)
     print(f"trying the edits of {len(crates)} crates: {' '.join(it.name for it in crates)}", flush=True)
-    refused = refused_of(kit, crates) if crates else 0
-    left = sum(len(edits_of(it)) for it in crates) - refused
+    refused = refused_of(kit, crates, names) if crates else 0
+    left = sum(len(named(it, names)) for it in crates) - refused
     if "--write" in words and not left:
         REVISION.write_text(git("rev-parse", "HEAD")[0] + "\n")
     print(f"{refused} refused, {left} not")

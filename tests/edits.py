@@ -9,7 +9,8 @@ what the edit took away, which says little; or it is still PROVED, or can't be a
 line is 'N refused, M not'; status 1 where one is not.
 
 With --write, which goes with no names, it then writes the commit into tests/edits.revision, where every edit that was
-to be tried was refused. It waits for an rt that works on one of these crates. RT_JOBS bounds how many crates are tried side by side."""
+to be tried was refused. It waits for an rt that works on one of these crates. RT_JOBS bounds how many crates are tried
+side by side."""
 
 import os
 import re
@@ -45,9 +46,9 @@ def touched(kit) -> tuple[set[str], set[str]]:
 
 
 def named(crate, names: list[str]) -> list[Path]:
-    """The edits of a crate that are named, or all where none of it is."""
-    stems = {it.partition("/")[2] for it in names if it.startswith(f"{crate.name}/")}
-    return [it for it in edits_of(crate) if it.stem in stems or not stems]
+    """The edits of a crate that are named; all of them where the crate is, or nothing."""
+    is_whole = not names or crate.name in names
+    return [it for it in edits_of(crate) if is_whole or f"{crate.name}/{it.stem}" in names]
 
 
 def check_names(crates, names: list[str]) -> None:

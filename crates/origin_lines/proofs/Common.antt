@@ -2,13 +2,13 @@
 pub use Rattle.std.proofs.Common.{Bool, Err, List, MatchResult, None, Ok, Option, Result, Some, [], ap, append_assoc, ap₂, arith, drop, eq-eqb, false, get_or, get_or-drop, inl, inr, length, length-drop, map, ne_eqb, not, refl, reverse, rules, subst, suc, sym, true, ℕ, ◌*◌, ◌++◌, ◌+◌, ◌-◌, ◌<◌, ◌^◌, ◌↔◌, ◌∙◌, ◌∷◌, ◌≡◌, ◌≢◌, ◌≤◌, ◌⊎◌}
 pub use Rattle.std.proofs.lemmas.List.{append-nil, get_or-reverse, get_or_at, length-append, length-reverse, map-append}
 pub use Rattle.std.proofs.lemmas.List.Sorted.{Contains-permutation, IsPermutation-map, IsPermutation-reverse, IsPermutation-sym}
-pub use Rattle.std.specs.List.{AllPairs, Any, Contains, after_first, after_last, before_first, position_or_len, suffix_len}
+pub use Rattle.std.specs.List.{AllPairs, Contains, after_first, after_last, before_first, position_or_len, suffix_len}
 pub use Rattle.std.specs.List.Sorted.{IsNonDecreasingBy, IsPermutation}
 pub use Rattle.std.specs.Prelude.{codes, slice_get}
 pub use Rattle.std.specs.Str.{IsUtf8, trim}
 pub use Rattle.std.specs.String.{string_bytes}
 pub use Rattle.roa_origin.specs.Coverings.{AreThose}
-pub use Rattle.roa_origin.specs.Payloads.{CoversRoute, HasAs, IsLawfulPayload, Payload, prefix_len}
+pub use Rattle.roa_origin.specs.Payloads.{CoversRoute, IsLawfulPayload, Payload, prefix_len}
 pub use Rattle.roa_origin.specs.Tables.{as_sent}
 pub use Rattle.rpki_prefix.specs.Values.{FamilyPrefix, IsFamilyPrefix}
 pub use Rattle.origin_lines.specs.Answers.{IsOriginAnswer, TellsIf, TellsRoute}

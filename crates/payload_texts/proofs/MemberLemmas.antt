@@ -1,5 +1,5 @@
 -- Members of an object, one after another; an item's member has one text, or one fault.
-use Rattle.payload_texts.proofs.Common.{Bool, List, None, Option, Result, Some, Vec, [], ap, append-nil, arith, false, if◌then◌else◌, length, refl, subst, sym, true, ℕ, ◌++◌, ◌<◌, ◌∙◌, ◌∷◌, ◌≡◌, length-append, bytes_eq, Json, array, boolean, null, number, object, string, members_view, value_view, AreWrong, HasMemberFault, HasText, IsFound, Writes, name_of, named_values, values_in, Kind, Missing}
+use Rattle.payload_texts.proofs.Common.{Bool, List, None, Option, Result, Some, Vec, [], ap, append-nil, arith, false, if◌then◌else◌, length, refl, subst, sym, true, ℕ, ◌++◌, ◌<◌, ◌∙◌, ◌∷◌, ◌≡◌, length-append, bytes_eq, Json, null, number, string, members_view, value_view, AreWrong, HasMemberFault, HasText, IsFound, Writes, name_of, named_values, values_in, Kind, Missing}
 use Rattle.std.specs.Borrow.{Bor}
 use Rattle.json.specs.Find.{as_number}
 use Rattle.json.specs.declared.value.Value.{Value, Object}
@@ -20,15 +20,6 @@ pub values_push : {A : Type 0} → (name : List ℕ) (ms : List (Bor (List ℕ) 
     ≡ values_in name (members_view ms) ++ if_named name m.0.now (value_view m.1)
 values_push name [] m = refl
 values_push name (n ∷ ms) m = grind (arith, one_before, values_push name ms m)
-
--- a number's text, and a string's
-abbrev json_text : Json → List ℕ
-json_text null = []
-json_text (boolean b) = []
-json_text (number s) = s
-json_text (string s) = s
-json_text (array js) = []
-json_text (object ms) = []
 
 abbrev IsThere : Option (List ℕ) → Type 0
 IsThere None = ⊥

@@ -2,12 +2,12 @@
 pub use Rattle.std.proofs.Common.{Bool, Err, List, MatchResult, None, Ok, Option, Result, Some, [], ap, append_assoc, arith, codes, decimal, drop, eqb, false, get_or, inl, inr, length, lit<, map, nat_le, nat_lt, refl, rules, slice_index, slice_set, subst, suc, sym, take, true, zero, ℕ, ◌%◌, ◌&&◌, ◌*◌, ◌++◌, ◌+◌, ◌-◌, ◌/◌, ◌<◌, ◌==◌, ◌∙◌, ◌∷◌, ◌≡◌, ◌≢◌, ◌≤◌, ◌⊎◌}
 pub use Rattle.std.proofs.lemmas.Bool.{and_parts, cases_lt, eqb-false, eqb-true, le-ltb, leb-true, lt-ltb, ltb-true, ne_eqb}
 pub use Rattle.std.proofs.lemmas.List.{append-nil, flat_map_more, length-append, map-append}
-pub use Rattle.std.proofs.lemmas.Result.{IfOk-weaker, err_from_is_err_and, on_ok_weaker}
+pub use Rattle.std.proofs.lemmas.Result.{err_from_is_err_and, on_ok_weaker}
 pub use Rattle.std.specs.Iterator.{Drains, YieldsFirst}
 pub use Rattle.std.specs.List.{All, after_first, before_first, flat_map, position_or_len}
 pub use Rattle.std.specs.String.{string_bytes}
 pub use Rattle.hex.proofs.Pairs.{decode_done, decode_err, decode_step, prepend}
-pub use Rattle.hex.specs.Hex.{IsBytes, hex_digit_value, lower_digits, pair_value}
+pub use Rattle.hex.specs.Hex.{IsBytes, hex_digit_value, pair_value}
 unfoldable pub use Rattle.hex.specs.Hex.{decode_pairs, encode_with}
 unfoldable pub use Rattle.rpki_addr.specs.AddressReading.{hex_value}
 pub use Rattle.rpki_as.specs.AsDer.{IsAsResources}
@@ -24,11 +24,11 @@ pub use Rattle.rpki_ip_block.specs.ListText.{HasBlocks, HasBlocksFault}
 pub use Rattle.rpki_ipres.specs.ResourcesDer.{IsIpFamilies, SaysClaims, ip_families_at}
 pub use Rattle.rpki_ipres.specs.SetText.{IsSetOf, overclaimed_ip_text, set_text}
 pub use Rattle.rpki_text.specs.Lists.{HasFirstFault, HaveValues}
-pub use Rattle.rpki_text.specs.Memory.{IfRefused, IsMemory}
+pub use Rattle.rpki_text.specs.Memory.{IfRefused}
 pub use Rattle.rpki_text.specs.Reading.{AnswersOrMemory}
 pub use Rattle.rpki_text.specs.declared.memory.OrMemory.{OrMemory}
 pub use Rattle.rpki_text.specs.declared.memory.OrMemory.TheVariants.{Memory, Refused}
-pub use Rattle.respath_lines.specs.Cover.{IsCoverIp, IsCoverText, cover_text, listed_text, prefix_with_length}
+pub use Rattle.respath_lines.specs.Cover.{cover_text, listed_text, prefix_with_length}
 pub use Rattle.respath_lines.specs.Hexadecimal.{IsPairOf}
 unfoldable pub use Rattle.respath_lines.specs.Hexadecimal.{IsHexadecimal, lower_hexadecimal}
 pub use Rattle.respath_lines.specs.Path.{ArePath, HasRootFault, HasStepFault, HavePathFault, IsStepText, ShowsLeft, ShowsPath, list_of, parts_of}

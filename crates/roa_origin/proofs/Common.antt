@@ -1,32 +1,32 @@
 -- What the proofs of this crate use of std, of the crates below and of its own definitions, passed on by one name.
 pub use Rattle.std.proofs.Common.{All, AllPairs, Any, Bool, Contains, IsTrue, List, None, Option, Some, [], ap, append_assoc, arith, cond, drop, false, get_or, inl, inr, is_eq, is_le, is_lt, leb, length, length-append, length-drop, lit≤, ltb, map, refl, reverse, rules, slice_index, slice_index_or, subst, suc, sym, take, true, zero, ℕ, ◌&&◌, ◌*◌, ◌++◌, ◌+◌, ◌-◌, ◌/◌, ◌<◌, ◌==◌, ◌^◌, ◌↔◌, ◌∙◌, ◌∷◌, ◌≡◌, ◌≢◌, ◌≤◌, ◌⊎◌}
 pub use Rattle.std.proofs.Math.Seq.{get_or-append_seam, take-suc}
-pub use Rattle.std.proofs.lemmas.Bool.{and_parts, cases_lt, cases_order, eq-eqb, eqb-true, le-leb, le-ltb, leb-false, leb-true, lt-leb, lt-ltb, ltb-false, ltb-true, ne_eqb}
+pub use Rattle.std.proofs.lemmas.Bool.{and_parts, cases_lt, cases_order, eq-eqb, eqb-true, le-leb, leb-false, leb-true, ltb-false, ltb-true}
 pub use Rattle.std.proofs.lemmas.List.{append-nil, get_or-drop, get_or-map, get_or-take, get_or_append_left, get_or_default, get_or_push, length-map, length-take, length-take-le, reverse-append, reverse-reverse, take_all, take_more}
-pub use Rattle.std.proofs.lemmas.List.Elements.{All-append, All-cons, All-contains, All-filter, All-from_recursion, All-head, All-map, All-same, All-tail, Contains-append_cases, Contains-append_left, Contains-append_right, Contains-get_or, Contains-push, Contains-push_cases, filter_more, filter_passes}
+pub use Rattle.std.proofs.lemmas.List.Elements.{All-append, All-contains, All-filter, All-from_recursion, All-head, All-map, All-tail, Contains-append_cases, Contains-append_left, Contains-append_right, Contains-get_or, Contains-push, Contains-push_cases, filter_more, filter_passes}
 pub use Rattle.std.proofs.lemmas.List.Kept.{AllPairs-cons, Contains-dedup, Contains-from_dedup, IsNonDecreasingBy-filter, IsStrictlySortedBy-dedup}
 pub use Rattle.std.proofs.lemmas.List.Quantifiers.{all_pairs_push}
 pub use Rattle.std.proofs.lemmas.List.Sorted.{All-permutation, Contains-permutation, IsNonDecreasingBy-from_sort_by, IsNonDecreasingBy-push, IsPartitionPoint-from_clause, IsPartitionedBy-leb, IsPartitionedBy-ltb, IsPermutation-append_left, IsPermutation-append_right, IsPermutation-cons, IsPermutation-map, IsPermutation-middle, IsPermutation-refl, IsPermutation-sym, IsPermutation-to_front, IsPermutation-trans}
 pub use Rattle.std.proofs.lemmas.Nat.{le-div, pow_below, pow_pos, shr_below}
-pub use Rattle.std.specs.Cmp.{Equal-is, IsEquivalence, IsTotalOrder, both_ways, ranks}
+pub use Rattle.std.specs.Cmp.{IsEquivalence, IsTotalOrder, ranks}
 pub use Rattle.std.specs.List.{filter, slice_range}
 pub use Rattle.std.specs.List.Sorted.{IsNonDecreasingBy, IsPartitionPoint, IsPartitionedBy, IsPermutation, IsSorted}
 unfoldable pub use Rattle.std.specs.List.Sorted.{IsStrictlySortedBy}
 pub use Rattle.std.specs.Ordering.{bool_cmp, eq_by_cmp, nat_cmp, ordering_reverse, ordering_then}
 pub use Rattle.std.specs.declared.cmp.Ordering.{Ordering}
 pub use Rattle.std.specs.declared.cmp.Ordering.TheVariants.{Equal, Greater, Less}
-pub use Rattle.rpki_addr.specs.Prefixes.{IsIn, IsPrefix, LiesIn, PrefixValue}
+pub use Rattle.rpki_addr.specs.Prefixes.{IsPrefix, PrefixValue}
 pub use Rattle.rpki_addr.specs.declared.addr.IpAddr.{IpAddr}
 pub use Rattle.rpki_addr.specs.declared.addr.IpAddr.TheVariants.{V4, V6}
-pub use Rattle.rpki_prefix.proofs.Covering.{beq_same, covers_round, round_covers, same_bool}
-pub use Rattle.rpki_prefix.specs.MaxLen.{IsMaxLenOf, MaxLenValue, max_len_cmp, resolved}
+pub use Rattle.rpki_prefix.proofs.Covering.{covers_round, round_covers}
+pub use Rattle.rpki_prefix.specs.MaxLen.{MaxLenValue, max_len_cmp}
 pub use Rattle.rpki_prefix.specs.Values.{CoversPrefix, FamilyPrefix, IsFamilyPrefix, address_number, interval, is_v6, width}
 pub use Rattle.roa_origin.specs.Coverings.{AreThose, IsWalk, covering_before, covers_route}
 pub use Rattle.roa_origin.specs.Entries.{addr_of}
 pub use Rattle.roa_origin.specs.Links.{AreFamilyPrefixes, AreLinks, AreUpTo, IsGroup, IsInOrder, IsLastOf, IsLink, IsTable, NoneCovers}
 pub use Rattle.roa_origin.specs.Payloads.{CoversRoute, HasAs, IsLawfulPayload, Matches, Payload, longest, prefix_len}
 pub use Rattle.roa_origin.specs.Places.{family_place, payload_place, place, rank, sent_place, sent_rank, table_place, told}
-pub use Rattle.roa_origin.specs.Starts.{AreStarts, IsStart, first_bits}
+pub use Rattle.roa_origin.specs.Starts.{IsStart, first_bits}
 pub use Rattle.roa_origin.specs.Tables.{IsAscending, as_sent, payload_cmp}
 pub use Rattle.roa_origin.specs.Updates.{AreChangesOf, AreSorted, IsDuplicateRecord, IsFirstPlace, IsLawfulChange, IsMergedOf, IsOf, IsOfBefore, IsSearched, IsSentIn, IsUnknownRecord, IsUpdated, change_place, sent_change}
 pub use Rattle.roa_origin.specs.Validities.{IsHeldBy, IsMatched, IsRouteCovered, IsValidity}

@@ -20,7 +20,6 @@ pub use Rattle.rpki_as_block.specs.BlockText.{HasAsBlockFault, IsAsBlockText, Re
 pub use Rattle.rpki_as_block.specs.Blocks.{as_bounds, new_as_block}
 pub use Rattle.rpki_as_block.specs.Numbers.{IsListOf, IsSizeOf, numbers_of, numbers_within}
 pub use Rattle.rpki_as_block.specs.declared.block.AsBlock.{AsBlock}
-pub use Rattle.rpki_as_block.specs.declared.block.AsBlock.TheVariants.{Id, Range}
 pub use Rattle.rpki_as_block.specs.declared.error.FromStrError.{FromStrError}
 pub use Rattle.rpki_base.proofs.DerCursors.{reads_said_by}
 pub use Rattle.rpki_base.proofs.DerModes.{canonical_said_by, enclosed_modal, exact_said_by, refused_said_by, sequence_modal, strict_values_check, takes_said_by, values_stateless, values_tighten}
@@ -41,7 +40,7 @@ pub use Rattle.rpki_der.proofs.Readings.{one_front}
 pub use Rattle.rpki_der.proofs.Written.{length-header, value_is}
 pub use Rattle.rpki_der.specs.Der.{Each, EachFrom, IsBytes, OneFront, Refines, Spells, sequence_value, value}
 unfoldable pub use Rattle.rpki_der.specs.Der.{header, length_octets}
-pub use Rattle.rpki_der.specs.Reading.{IsModal, IsReading, ended, tagged_at, ◌>>=◌}
+pub use Rattle.rpki_der.specs.Reading.{IsModal, IsReading, tagged_at}
 unfoldable pub use Rattle.rpki_der.specs.Reading.{refined}
 pub use Rattle.rpki_der.specs.Views.{Lenient, Strict, is_strict, left}
 pub use Rattle.rpki_der.specs.declared.cursor.Cursor.{Cursor}

@@ -1,5 +1,5 @@
 -- Lists of AS blocks, read element by element from the front of what is left.
-use Rattle.rpki_as_block.proofs.Common.{List, None, Ok, Option, Some, [], ap, arith, drop, get_or, inl, inr, length, length-drop, refl, subst, sym, take, ℕ, ◌++◌, ◌+◌, ◌-◌, ◌<◌, ◌∙◌, ◌∷◌, ◌≡◌, ◌≤◌, ◌⊎◌, drop-length, append-nil, append_assoc, drop_more, length-take, take-append-drop, AreAsBlocksFrom, IsAfterSpace, IsAsBlockAt, IsAsBlockBetween, IsEndAt, StandsAt, ReadsAsBlock, AsBlock}
+use Rattle.rpki_as_block.proofs.Common.{List, Ok, Option, Some, [], ap, arith, drop, get_or, inl, inr, length, length-drop, refl, subst, sym, take, ℕ, ◌++◌, ◌+◌, ◌-◌, ◌<◌, ◌∙◌, ◌∷◌, ◌≡◌, ◌≤◌, ◌⊎◌, drop-length, append-nil, append_assoc, drop_more, length-take, take-append-drop, AreAsBlocksFrom, IsAfterSpace, IsAsBlockAt, IsAsBlockBetween, IsEndAt, StandsAt, ReadsAsBlock, AsBlock}
 use Rattle.rpki_text.specs.Lists.{elements, HaveValues}
 use Rattle.rpki_text.proofs.ElementLemmas.{IsPartOf, elements_first, elements_last}
 use Rattle.rpki_text.proofs.PrintedLemmas.{IsElement}
@@ -20,11 +20,6 @@ pub record IsSoFar (start : ℕ) (text : List ℕ) (blocks : List AsBlock) : Typ
 -- it is the block of the usual form that stands there, and ends there
 abbrev pub IsAlone : ℕ → List ℕ → AsBlock → ℕ → Type 0
 IsAlone first text b end = (other : AsBlock) (place : ℕ) → IsAsBlockAt first place text other → ◌≡◌ {A = Option (AsBlock × ℕ)} (Some (b, end)) (Some (other, place))
-
--- its end
-abbrev end_of : Option (AsBlock × ℕ) → ℕ
-end_of None = 0
-end_of (Some found) = found.1
 
 -- what stands behind a block in a list of the usual form
 abbrev pub GoesOn : ℕ → List ℕ → List AsBlock → Type 0

@@ -14,7 +14,7 @@ pub use Rattle.rpki_chains.specs.Sets.{IsNew, IsWithin}
 pub use Rattle.rpki_der.proofs.Modes.{exact_optional_by, refused_optional_by}
 pub use Rattle.rpki_der.proofs.Readings.{one_front, same_reading}
 pub use Rattle.rpki_der.proofs.Written.{length-header, u32_is, value_is}
-pub use Rattle.rpki_der.specs.Reading.{IsReading, optional, passing, tagged_at, unsigned, value_at, ◌>>=◌}
+pub use Rattle.rpki_der.specs.Reading.{IsReading, optional, passing, unsigned, value_at, ◌>>=◌}
 unfoldable pub use Rattle.rpki_der.specs.Reading.{refined}
 pub use Rattle.rpki_text.specs.Cuts.{HasNo, dash}
 pub use Rattle.rpki_as_block.specs.AsDer.{HasAsNumbers, IsAsBlock, IsBlockInAnyOrder, IsSetBlock, as_block_octets, as_range_content}

@@ -1,8 +1,7 @@
 -- Texts of AS numbers: each writes one at most, and what is printed is read back.
-use Rattle.rpki_base.proofs.Common.{Err, List, Ok, [], ap, arith, codes, decimal, inl, inr, length, lit≤, refl, subst, suc, sym, take, ℕ, ◌++◌, ◌-◌, ◌<◌, ◌^◌, ◌∙◌, ◌∷◌, ◌≡◌, ◌≤◌, take-append_seam, cases_lt, decimal_is_IsNumeral, digit_from_value, IsInRange, AllByRecursion, str_to_ascii_lowercase, AllDigits, IsNumberText, IsAfterAs, IsAsAnd, IsAsnText, ReadsAsn, asn_text}
+use Rattle.rpki_base.proofs.Common.{Err, List, Ok, [], ap, arith, codes, decimal, inl, inr, length, lit≤, refl, subst, suc, sym, take, ℕ, ◌++◌, ◌-◌, ◌<◌, ◌^◌, ◌∙◌, ◌∷◌, ◌≡◌, ◌≤◌, take-append_seam, decimal_is_IsNumeral, digit_from_value, IsInRange, AllByRecursion, str_to_ascii_lowercase, AllDigits, IsNumberText, IsAfterAs, IsAsAnd, IsAsnText, ReadsAsn, asn_text}
 use Rattle.std.proofs.Common.{length-append}
 use Rattle.std.specs.Char.{to_ascii_lowercase}
-use Rattle.std.proofs.lemmas.Str.Ascii.{lowercase_is}
 use Rattle.rpki_base.specs.declared.asn.ParseAsnError.{ParseAsnError}
 use Rattle.rpki_text.proofs.CutLemmas.{same_rest}
 use Rattle.rpki_text.proofs.NumberTexts.{IsNumberText-one, IsNumberText-decimal}
@@ -20,11 +19,7 @@ IsAsAnd-length h = sym (length_lower h.letters) ∙ ap length h.lower
 pub IsAsAnd-rest : (text rest other : List ℕ) → IsAsAnd text rest → IsAsAnd text other → rest ≡ other
 IsAsAnd-rest text rest other h k = same_rest h.letters k.letters rest other (IsAsAnd-length h ∙ sym (IsAsAnd-length k)) (sym h.split ∙ k.split)
 
--- `a` in either case is no digit
-letter_is_no_digit : (b : ℕ) → to_ascii_lowercase b ≡ 97 → 58 ≤ b
-letter_is_no_digit b letter = grind (arith, cases_lt, lowercase_is)
-
--- so no number text begins with it
+-- no number text begins with `a` in either case
 first_of_number : (b : ℕ) (more : List ℕ) (n : ℕ) → IsNumberText (2 ^ 32 - 1) (b ∷ more) n → to_ascii_lowercase b ≡ 97
     → ⊥
 first_of_number b more n h letter = grind arith

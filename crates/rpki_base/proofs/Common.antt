@@ -13,12 +13,12 @@ pub use Rattle.std.specs.Prelude.{IfSome, IsErrAnd, MatchResult, is_some}
 pub use Rattle.std.specs.Str.{str_to_ascii_lowercase}
 pub use Rattle.std.specs.Str.Parse.{AllDigits, digits_value}
 pub use Rattle.rpki_der.proofs.Cursors.{none_by, reads_by, reads_optional_by}
-pub use Rattle.rpki_der.proofs.Lists.{HasOctets, SoFar, as_some, each_again, each_takes, loop_ends, loop_fails, loop_more, optional_err, optional_none, optional_some, shorter, some_err, some_is, value_has_octets}
+pub use Rattle.rpki_der.proofs.Lists.{HasOctets, SoFar, each_again, each_takes, loop_ends, loop_fails, loop_more, optional_err, optional_none, optional_some, shorter, value_has_octets}
 pub use Rattle.rpki_der.proofs.Modes.{bind_tightens, cond_tightens, each_tightens, found_is, lenient_is, looked_tightens, passed_is, passes, passing_tightens, refused_at, same_found, same_tightens}
 pub use Rattle.rpki_der.proofs.Readings.{IsTagged, fits_content, fits_rest, one_front, refined_reading, same_reading, tagged_reading, u32_reading, value_reading}
 pub use Rattle.rpki_der.proofs.Steps.{IsCheck, bind_ok, ok_is, ok_or_err, passed, passed_true}
 pub use Rattle.rpki_der.proofs.Written.{u32_is, value_is}
-pub use Rattle.rpki_der.specs.Der.{Each, EachFrom, Front, IsBytes, IsSequence, IsTlv, IsValue, OneFront, Refines, Tlv, octets, sequence_value}
+pub use Rattle.rpki_der.specs.Der.{Each, EachFrom, Front, IsBytes, IsSequence, IsTlv, OneFront, Refines, Tlv, octets, sequence_value}
 unfoldable pub use Rattle.rpki_der.specs.Der.{header, length_octets}
 pub use Rattle.rpki_der.specs.Reading.{Gives, IsModal, IsReading, Tightens, bit_string_at, bit_string_by, each, ended, ◌>>=◌}
 unfoldable pub use Rattle.rpki_der.specs.Reading.{bits, bits_by, each_from, length_at, long_length_at, nothing, optional, passing, refined, tagged_at, unsigned, value_at}
@@ -38,7 +38,7 @@ unfoldable pub use Rattle.rpki_base.specs.DerReading.{by_tag, if_tagged, only, p
 pub use Rattle.rpki_base.specs.DerViews.{GivesOrMemory, NotCanonicalOrMemory, ReadsOrMemory, ReadsTagged, TakesOrMemory, TakesSaidOrMemory}
 pub use Rattle.rpki_base.specs.DerWriting.{octets_of_all, sequence_octets}
 pub use Rattle.rpki_base.specs.FamiliesDer.{AreGathered, AreInOrder, ByFamily, IsFamilies, IsFamiliesInOrder, IsMember, SaysByFamily, SaysFamilies, SaysMember, SaysOption, claims_among, families_der, listed, member_der, of_family, option_der}
-pub use Rattle.rpki_base.specs.FamiliesReading.{SaysClaim, families_at, families_by, is_in_order, member_at, member_by, members_in, none_found, seen, was_seen, with_claim}
+pub use Rattle.rpki_base.specs.FamiliesReading.{SaysClaim, families_at, families_by, is_in_order, member_at, member_by, none_found, seen, was_seen, with_claim}
 unfoldable pub use Rattle.rpki_base.specs.FamiliesReading.{families_in, families_in_by, member_in, member_in_by, members_by}
 pub use Rattle.rpki_base.specs.FamilyDer.{IsFamilyDer, SaysFamily, family_at, family_der, family_octets}
 unfoldable pub use Rattle.rpki_base.specs.FamilyDer.{family_of_octets}

@@ -1,5 +1,5 @@
 -- From the reading to the grammar, for calls that take memory, or that look at the tag first.
-use Rattle.rpki_base.proofs.Common.{List, None, Ok, Option, Result, Some, ap, arith, length, ℕ, ◌++◌, ◌<◌, ◌∙◌, ◌≡◌, length-append, none_by, reads_optional_by, as_some, some_is, ok_is, ok_or_err, IsBytes, Refines, IsReading, optional, ◌>>=◌, ReadsOptional, Takes, left, Cursor, DerError, OrMemory, if_tagged, ReadsOrMemory, ReadsTagged, TakesOrMemory, TakesSaidOrMemory}
+use Rattle.rpki_base.proofs.Common.{List, Ok, Option, Result, Some, ap, arith, length, ℕ, ◌++◌, ◌<◌, ◌∙◌, ◌≡◌, length-append, none_by, reads_optional_by, ok_is, ok_or_err, IsBytes, Refines, IsReading, optional, ReadsOptional, Takes, left, Cursor, DerError, OrMemory, if_tagged, ReadsOrMemory, ReadsTagged, TakesOrMemory, TakesSaidOrMemory}
 
 -- a take that may want memory
 pub reads_or_memory_by : {X Y : Type 0} (G : List ℕ → Y → Type 0) (reading : List ℕ → Result (Y × List ℕ) DerError)
@@ -19,15 +19,6 @@ pub reads_optional_value_by : {X : Type 0} (G : List ℕ → X → Type 0) (read
     (old new : Cursor) (result : Result (Option X) DerError) → IsReading G reading → IsBytes (left old)
     → Takes (λ o. o) old new result (optional reading) → ReadsOptional G (λ x. x) old new result
 reads_optional_value_by G reading old new result is fits took = grind (arith, reads_optional_by)
-
--- Some is of what the reading gives
-some_ok : {X : Type 0} (r : Result (X × List ℕ) DerError) (x : X) (rest : List ℕ) → (r >>= as_some) ≡ Ok (Some x, rest)
-    → r ≡ Ok (x, rest)
-some_ok r x rest e = grind (arith, ok_is, some_is)
-
--- and None is never
-none_ok : {X : Type 0} (r : Result (X × List ℕ) DerError) (rest : List ℕ) → (r >>= as_some) ≡ Ok (None, rest) → ⊥
-none_ok r rest e = grind (arith, ok_is)
 
 -- a take of a value that is there if its tag is
 pub reads_tagged_by : {X : Type 0} (tag : ℕ) (G : List ℕ → X → Type 0) (reading : List ℕ → Result (X × List ℕ) DerError)

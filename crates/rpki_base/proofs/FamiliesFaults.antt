@@ -12,9 +12,6 @@ module _ {X : Type 0} (claim_at : AddressFamily → List ℕ → Result (X × Li
   abbrev claim_of : AddressFamily → List ℕ → Result (AddressFamily × X) DerError
   claim_of family bytes = claim_at family bytes >>= λ claim. ended claim.1 >>= λ end. Ok (family, claim.0)
 
-  abbrev behind_family : Bool × Bool → AddressFamily × List ℕ → Result (AddressFamily × X) DerError
-  behind_family before family = cond (was_seen before family.0) (Err DuplicateFamily) (claim_of family.0 family.1)
-
   member_in_names : (before : Bool × Bool) (content : List ℕ) → NamesTo 12 (member_in claim_at before content)
   unfolding member_in
   member_in_names before content = grind (arith, bind_names, cond_names, family_names, names_more)

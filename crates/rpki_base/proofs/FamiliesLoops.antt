@@ -12,11 +12,6 @@ module _ {X Y : Type 0} (C : Y → X → Type 0) where
   pub same_seen : (before : ByFamily Y) (found : ByFamily X) → SaysByFamily C before found → seen before ≡ seen found
   same_seen before found says = let a = both_some before.0 found.0 says.0 in let b = both_some before.1 found.1 says.1 in λ i. (a i, b i)
 
-  -- one claim more on both sides
-  pub with_says : (before : ByFamily Y) (found : ByFamily X) (family : AddressFamily) (y : Y) (x : X)
-      → SaysByFamily C before found → C y x → SaysByFamily C (with_claim before family y) (with_claim found family x)
-  with_says before found family y x says c = grind (arith)
-
 module _ {X Y : Type 0} (member_of : Bool × Bool → List ℕ → Result ((AddressFamily × Y) × List ℕ) DerError) (C : Y → X → Type 0) where
   -- what was found stands for what was read before, and this and what is left give the whole
   pub record SoFar (found : ByFamily X) (bytes : List ℕ) (total : Result (ByFamily Y) DerError) : Type 0 where

@@ -123,10 +123,6 @@ some_is x y e = cc
 abbrev pub as_some : {X : Type 0} → X × List ℕ → Result (Option X × List ℕ) DerError
 as_some x = Ok (Some x.0, x.1)
 
--- its fault is that of the reading
-pub some_err : {X : Type 0} (r : Result (X × List ℕ) DerError) (e : DerError) → (r >>= as_some) ≡ Err e → r ≡ Err e
-some_err r e h = grind arith
-
 -- Some is what the reading gives before the end
 pub optional_some : {X : Type 0} (reading : List ℕ → Result (X × List ℕ) DerError) (bytes : List ℕ) (x : X)
     (rest : List ℕ) → optional reading bytes ≡ Ok (Some x, rest) → (bytes ≢ []) × (reading bytes ≡ Ok (x, rest))

@@ -49,10 +49,6 @@ ok_is x y e = cc
 pub one_false : (a b : Bool) → (a && b) ≡ false → a ≡ true → b ≡ false
 one_false a b e p = grind (arith)
 
--- two tests of which the second fails
-pub and_false : (a b : Bool) → b ≡ false → (a && b) ≡ false
-and_false a b e = grind (arith)
-
 -- an answer isn't both
 pub ok_or_err : {A : Type 0} (x : A) (e : DerError) (r : Result A DerError) → r ≡ Ok x → r ≡ Err e → ⊥
 ok_or_err x e r p q = cc

@@ -21,11 +21,11 @@ pub use Rattle.rpki_cover.proofs.Widening.{whole_cover, widened_prefix}
 pub use Rattle.rpki_cover.specs.Covers.{IsShortestCover, widened}
 pub use Rattle.rpki_der.proofs.Contents.{bits_check}
 pub use Rattle.rpki_der.proofs.Cursors.{parses_by, reads_by}
-pub use Rattle.rpki_der.proofs.Modes.{bind_tightens, exact_by, is_padded_of, lenient_is, looked_tightens, padded_is, passed_is, passes, refused_by, refused_in, same_found, then_passing}
+pub use Rattle.rpki_der.proofs.Modes.{bind_tightens, exact_by, is_padded_of, looked_tightens, padded_is, passed_is, passes, refused_by, refused_in, same_found, then_passing}
 pub use Rattle.rpki_der.proofs.Readings.{IsTagged, fits_content, one_front, refined_reading, same_reading, tagged_reading}
-pub use Rattle.rpki_der.proofs.Steps.{IsBytes-rest, IsCheck, bind_ok, fits_front, ok_is, ok_or_err, passed}
+pub use Rattle.rpki_der.proofs.Steps.{IsBytes-rest, IsCheck, bind_ok, fits_front, ok_or_err}
 pub use Rattle.rpki_der.proofs.Written.{value_is}
-pub use Rattle.rpki_der.specs.Der.{Bits, IsBitString, IsBits, IsBytes, IsPadded, IsSequence, Refines, Spells, Where, big_endian, big_endian_after, bit_content, bit_count, bit_string_value, bits_with, last_octet}
+pub use Rattle.rpki_der.specs.Der.{Bits, IsBitString, IsBits, IsBytes, IsPadded, IsSequence, Refines, Spells, Where, big_endian, big_endian_after, bit_content, bit_string_value, bits_with, last_octet}
 unfoldable pub use Rattle.rpki_der.specs.Der.{header, length_octets}
 pub use Rattle.rpki_der.specs.Reading.{Gives, IsModal, IsReading, Tightens, is_padded, tagged_at, ◌>>=◌}
 unfoldable pub use Rattle.rpki_der.specs.Reading.{bits, bits_by, passing, refined}

@@ -159,11 +159,7 @@ pub too_long : (w : Option AddressFamily) (left right : List ℕ) (a : IpAddr) (
     → HasPrefixFault w left right (Fault.PrefixLen PosOverflow)
 too_long w left right a n is number above = inr (a, is, (PosOverflow, inr (n, number, above, refl), refl))
 
--- an address begins where it ends or before
-first_greatest : (a : IpAddr) → first_of a ≤ greatest_of a
-first_greatest a = grind arith
-
--- so an address alone is a range
+-- an address alone is a range
 pub single_of : (a : IpAddr) (r : RangeValue) (min max : ℕ) → r ≡ record { min = min; max = max } → min ≡ first_of a
     → max ≡ greatest_of a → IsRangeFrom a a r
 single_of a r min max is first last = grind arith

@@ -8,7 +8,7 @@ pub use Rattle.std.proofs.lemmas.Nat.{pow-add, pow_below, pow_pos, shr_split}
 pub use Rattle.std.proofs.lemmas.Str.Parse.{digit_at, digit_from_value}
 pub use Rattle.std.specs.Int.{IsInRange}
 pub use Rattle.std.specs.List.{AllByRecursion, flat_map}
-pub use Rattle.std.specs.Prelude.{IfOk, if◌then◌else◌}
+pub use Rattle.std.specs.Prelude.{IfOk}
 pub use Rattle.rpki_addr.proofs.AddressBytes.{IsAddressByte, ip_bytes, no_dash, no_slash, not_slash}
 pub use Rattle.rpki_addr.proofs.AddressReads.{IsIpText-ip_text, IsIpv6Text-ipv6_text}
 pub use Rattle.rpki_addr.proofs.PrefixNumbers.{cleared_first}
@@ -24,7 +24,7 @@ pub use Rattle.rpki_base.specs.declared.family.AddressFamily.{AddressFamily}
 pub use Rattle.rpki_base.specs.declared.family.AddressFamily.TheVariants.{Ipv4, Ipv6}
 pub use Rattle.rpki_der.proofs.Modes.{exact_optional_by, refused_optional_by}
 pub use Rattle.rpki_der.proofs.Readings.{fits_content, one_front, same_reading}
-pub use Rattle.rpki_der.specs.Der.{Bits, Each, IsBytes, Spells, big_endian, sequence_value}
+pub use Rattle.rpki_der.specs.Der.{Bits, Each, IsBytes, Spells, big_endian}
 pub use Rattle.rpki_der.specs.Reading.{IsReading, optional, value_at}
 pub use Rattle.rpki_der.specs.Views.{Takes, is_strict, left}
 pub use Rattle.rpki_ip.proofs.DerModes.{IsStrictPrefix, bits_few_enough, prefix_is_spelled, spelled_is_prefix, within}

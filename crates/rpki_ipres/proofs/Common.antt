@@ -35,7 +35,7 @@ pub use Rattle.rpki_chain.specs.declared.choice.ResourcesChoice.TheVariants.{Blo
 pub use Rattle.rpki_chains.specs.Sets.{Covers, IsChain, IsChainOf, IsRun}
 pub use Rattle.rpki_der.proofs.Modes.{found_is, tested_modal}
 pub use Rattle.rpki_der.proofs.Written.{value_is}
-pub use Rattle.rpki_der.specs.Der.{EachFrom, Front, IsBytes, OneFront, Refines, Spells, Where, sequence_value}
+pub use Rattle.rpki_der.specs.Der.{EachFrom, IsBytes, OneFront, Refines, Spells, Where, sequence_value}
 unfoldable pub use Rattle.rpki_der.specs.Der.{header}
 pub use Rattle.rpki_der.specs.Reading.{IsModal, refined, tagged_at}
 pub use Rattle.rpki_der.specs.Views.{Lenient, Strict, is_strict, left}

@@ -1,6 +1,6 @@
 //! Lists of many payloads and routes: one has each fourth IPv4 address from 0.0.0.0 on, the other the addresses two
 //! above.
-use roa_origin::{OriginTable, PayloadTable, changed};
+use roa_origin::{OriginTable, PayloadChanges, PayloadTable, changed};
 use rows_support::print;
 use rpki_base::Asn;
 use rpki_base::addr::{IpAddr, Ipv4Addr};
@@ -27,24 +27,93 @@ pub fn answer<A: Allocator + Copy>(
 }
 
 fn changes<A: Allocator + Copy>(alloc: A, count: u32) -> Result<String<A>, AllocError> {
-    let table = PayloadTable::new(alloc, &every_fourth(alloc, count, 0)?)?;
-    let next = PayloadTable::new(alloc, &every_fourth(alloc, count, 2)?)?;
-    let changes = table.changes_to(alloc, &next)?;
+    let table = payload_table(alloc, count, 0)?;
+    changes_from(alloc, &table, count)
+}
+
+fn changes_from<A: Allocator + Copy>(
+    alloc: A,
+    table: &PayloadTable<A>,
+    count: u32,
+) -> Result<String<A>, AllocError> {
+    let next = payload_table(alloc, count, 2)?;
+    changes_told(alloc, table.changes_to(alloc, &next))
+}
+
+fn changes_told<A: Allocator + Copy>(
+    alloc: A,
+    changes: Result<PayloadChanges<A>, AllocError>,
+) -> Result<String<A>, AllocError> {
+    let changes = changes?;
     let announced = changes.announced.as_slice().len();
     let withdrawn = changes.withdrawn.as_slice().len();
     format!(in alloc; "{announced} announced, {withdrawn} withdrawn")
 }
 
+fn payload_table<A: Allocator + Copy>(
+    alloc: A,
+    count: u32,
+    first: u32,
+) -> Result<PayloadTable<A>, AllocError> {
+    let payloads = every_fourth(alloc, count, first)?;
+    PayloadTable::new(alloc, &payloads)
+}
+
 fn changed_routes<A: Allocator + Copy>(alloc: A, count: u32) -> Result<String<A>, AllocError> {
     let payloads = every_fourth(alloc, count, 0)?;
-    let table = OriginTable::new(alloc, &payloads)?;
-    let next = OriginTable::new(alloc, &every_fourth(alloc, count, 2)?)?;
+    changed_from(alloc, &payloads, count)
+}
+
+fn changed_from<A: Allocator + Copy>(
+    alloc: A,
+    payloads: &[(MaxLenPrefix, Asn)],
+    count: u32,
+) -> Result<String<A>, AllocError> {
+    let table = OriginTable::new(alloc, payloads)?;
+    changed_by(alloc, &table, payloads, count)
+}
+
+/// How many routes of payloads have another validity by the table of the other addresses.
+fn changed_by<A: Allocator + Copy>(
+    alloc: A,
+    table: &OriginTable<A>,
+    payloads: &[(MaxLenPrefix, Asn)],
+    count: u32,
+) -> Result<String<A>, AllocError> {
+    let next = origin_table(alloc, count, 2)?;
+    changed_between(alloc, table, &next, payloads)
+}
+
+fn changed_between<A: Allocator + Copy>(
+    alloc: A,
+    table: &OriginTable<A>,
+    next: &OriginTable<A>,
+    payloads: &[(MaxLenPrefix, Asn)],
+) -> Result<String<A>, AllocError> {
+    let routes = routes_of(alloc, payloads)?;
+    let places = changed(alloc, table, next, &routes)?;
+    format!(in alloc; "{} changed", places.len())
+}
+
+fn origin_table<A: Allocator + Copy>(
+    alloc: A,
+    count: u32,
+    first: u32,
+) -> Result<OriginTable<A>, AllocError> {
+    let payloads = every_fourth(alloc, count, first)?;
+    OriginTable::new(alloc, &payloads)
+}
+
+/// The route of each payload.
+fn routes_of<A: Allocator + Copy>(
+    alloc: A,
+    payloads: &[(MaxLenPrefix, Asn)],
+) -> Result<Vec<(Prefix, Asn), A>, AllocError> {
     let mut routes = Vec::with_capacity(alloc, payloads.len())?;
-    for (prefix, asn) in payloads.iter() {
+    for (prefix, asn) in payloads {
         routes.push((prefix.prefix(), *asn))?;
     }
-    let places = changed(alloc, &table, &next, &routes)?;
-    format!(in alloc; "{} changed", places.len())
+    Ok(routes)
 }
 
 /// Payloads of single addresses, the AS numbers from 0 on.
@@ -55,11 +124,16 @@ pub fn every_fourth<A: Allocator + Copy>(
 ) -> Result<Vec<(MaxLenPrefix, Asn), A>, AllocError> {
     let mut payloads = Vec::with_capacity(alloc, count as usize)?;
     for at in 0..count {
-        let address = Ipv4Addr::from_bits(at.saturating_mul(4).saturating_add(first));
-        if let Ok(prefix) = Prefix::new(IpAddr::V4(address), 32) {
-            let payload = MaxLenPrefix::saturating_new(prefix, None);
-            payloads.push((payload, Asn::from_u32(at)))?;
+        if let Some(prefix) = fourth(at, first) {
+            payloads.push((prefix, Asn::from_u32(at)))?;
         }
     }
     Ok(payloads)
+}
+
+/// The address four times so far behind the first one.
+fn fourth(at: u32, first: u32) -> Option<MaxLenPrefix> {
+    let address = Ipv4Addr::from_bits(at.saturating_mul(4).saturating_add(first));
+    let prefix = Prefix::new(IpAddr::V4(address), 32).ok()?;
+    Some(MaxLenPrefix::saturating_new(prefix, None))
 }

@@ -23,6 +23,19 @@ pub fn answer(alloc: Global, operands: &str) -> Result<String, AllocError> {
     }
 }
 
+/// What was asked for since, if the call was made.
+fn told<T: Drop>(
+    alloc: Global,
+    counting: &Refusing,
+    before: Asked,
+    made: Result<T, AllocError>,
+) -> Result<String, AllocError> {
+    match made {
+        Ok(_) => before.since(alloc, counting),
+        Err(error) => Err(error),
+    }
+}
+
 /// `requests table PREFIX[-MAX] AS | ..` of a table that is asked for routes, `requests payloads ..` of a list that is
 /// sent to routers.
 fn of_list(
@@ -44,8 +57,12 @@ fn of_table(
     payloads: &[(MaxLenPrefix, Asn)],
 ) -> Result<String, AllocError> {
     let before = Asked::of(counting);
-    let _table = OriginTable::new(counting, payloads)?;
-    before.since(alloc, counting)
+    told(
+        alloc,
+        counting,
+        before,
+        OriginTable::new(counting, payloads),
+    )
 }
 
 /// `requests many N` of a table of N payloads.
@@ -62,34 +79,54 @@ fn of_payloads(
     payloads: &[(MaxLenPrefix, Asn)],
 ) -> Result<String, AllocError> {
     let before = Asked::of(counting);
-    let _table = PayloadTable::new(counting, payloads)?;
-    before.since(alloc, counting)
+    told(
+        alloc,
+        counting,
+        before,
+        PayloadTable::new(counting, payloads),
+    )
 }
 
 /// `requests changes LIST ; LIST` of what is sent from the one list to the other.
 fn of_lists(alloc: Global, counting: &Refusing, lists: &str) -> Result<String, AllocError> {
     let (list, next) = cut(lists, ';');
-    let list = entries::read::<(MaxLenPrefix, Asn), Global>(alloc, list)?;
-    match (
-        list,
-        entries::read::<(MaxLenPrefix, Asn), Global>(alloc, next)?,
-    ) {
-        (Some(list), Some(next)) => of_changes(alloc, counting, &list, &next),
-        _ => String::from_str(alloc, "no such payload"),
+    match entries::read::<(MaxLenPrefix, Asn), Global>(alloc, list)? {
+        Some(payloads) => changes_from(alloc, counting, &payloads, next),
+        None => String::from_str(alloc, "no such payload"),
+    }
+}
+
+fn changes_from(
+    alloc: Global,
+    counting: &Refusing,
+    payloads: &[(MaxLenPrefix, Asn)],
+    next: &str,
+) -> Result<String, AllocError> {
+    match entries::read::<(MaxLenPrefix, Asn), Global>(alloc, next)? {
+        Some(next) => of_changes(alloc, counting, payloads, &next),
+        None => String::from_str(alloc, "no such payload"),
     }
 }
 
 fn of_changes(
     alloc: Global,
     counting: &Refusing,
-    list: &[(MaxLenPrefix, Asn)],
+    payloads: &[(MaxLenPrefix, Asn)],
     next: &[(MaxLenPrefix, Asn)],
 ) -> Result<String, AllocError> {
-    let list = PayloadTable::new(counting, list)?;
+    let table = PayloadTable::new(counting, payloads)?;
+    changes_to(alloc, counting, &table, next)
+}
+
+fn changes_to<'a>(
+    alloc: Global,
+    counting: &'a Refusing,
+    table: &PayloadTable<&'a Refusing>,
+    next: &[(MaxLenPrefix, Asn)],
+) -> Result<String, AllocError> {
     let next = PayloadTable::new(counting, next)?;
     let before = Asked::of(counting);
-    let _changes = list.changes_to(counting, &next)?;
-    before.since(alloc, counting)
+    told(alloc, counting, before, table.changes_to(counting, &next))
 }
 
 /// `requests OPERATION A ; B ; C | D ; E ; F`, and `requests lists A ; B ; C` of the reading.
@@ -130,10 +167,9 @@ fn of_both<'a>(
 ) -> Result<String, AllocError> {
     let before = Asked::of(counting);
     match call {
-        "union" => set.union(counting, other).map(drop)?,
-        "intersection" => set.intersection(counting, other).map(drop)?,
-        "difference" => set.difference(counting, other).map(drop)?,
-        _ => return String::from_str(alloc, "no such call"),
+        "union" => told(alloc, counting, before, set.union(counting, other)),
+        "intersection" => told(alloc, counting, before, set.intersection(counting, other)),
+        "difference" => told(alloc, counting, before, set.difference(counting, other)),
+        _ => String::from_str(alloc, "no such call"),
     }
-    before.since(alloc, counting)
 }

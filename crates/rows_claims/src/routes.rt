@@ -145,13 +145,31 @@ fn changed_routes<A: Allocator + Copy>(
     routes: &[(Prefix, Asn)],
 ) -> Result<String<A>, AllocError> {
     let old = OriginTable::new(alloc, payloads)?;
+    changed_by(alloc, &old, next, routes)
+}
+
+fn changed_by<A: Allocator + Copy>(
+    alloc: A,
+    old: &OriginTable<A>,
+    next: &[(MaxLenPrefix, Asn)],
+    routes: &[(Prefix, Asn)],
+) -> Result<String<A>, AllocError> {
     let new = OriginTable::new(alloc, next)?;
-    let places = roa_origin::changed(alloc, &old, &new, routes)?;
-    told(alloc, places.as_slice())
+    told(alloc, roa_origin::changed(alloc, old, &new, routes))
+}
+
+fn told<A: Allocator + Copy>(
+    alloc: A,
+    places: Result<Vec<usize, A>, AllocError>,
+) -> Result<String<A>, AllocError> {
+    match places {
+        Ok(places) => told_of(alloc, &places),
+        Err(error) => Err(error),
+    }
 }
 
 /// The places, or that there is none.
-fn told<A: Allocator + Copy>(alloc: A, places: &[usize]) -> Result<String<A>, AllocError> {
+fn told_of<A: Allocator + Copy>(alloc: A, places: &[usize]) -> Result<String<A>, AllocError> {
     if places.is_empty() {
         return String::from_str(alloc, "none");
     }

@@ -34,11 +34,11 @@ fn of_kind<A: Allocator + Copy>(
     count: u32,
 ) -> Result<String<A>, AllocError> {
     match question {
-        "as" => as_union(alloc, count, &every_fourth_asn(alloc, count, 0)?),
-        "v6" => ip_union(alloc, count, &every_fourth_address(alloc, count, 0)?),
-        "families" => families(alloc, every_fourth_address(alloc, count, 0)?),
+        "as" => as_union(alloc, count),
+        "v6" => ip_union(alloc, count),
+        "families" => families(alloc, count),
         "cover" => cover(alloc, count),
-        "build" => built(alloc, &every_fourth_asn(alloc, count, 2)?),
+        "build" => built(alloc, count),
         _ => of_count(alloc, question, u64::from(count)),
     }
 }
@@ -136,28 +136,53 @@ fn every_fourth_asn<A: Allocator + Copy>(
     AsBlocks::from_blocks(alloc, &blocks)
 }
 
-/// How many numbers the union of a set and of the other has.
-fn as_union<A: Allocator + Copy>(
+/// How many numbers the union of the two sets has.
+fn as_union<A: Allocator + Copy>(alloc: A, count: u32) -> Result<String<A>, AllocError> {
+    let set = every_fourth_asn(alloc, count, 0)?;
+    union_with_others(alloc, &set, count)
+}
+
+fn union_with_others<A: Allocator + Copy>(
     alloc: A,
-    count: u32,
     set: &AsBlocks<A>,
+    count: u32,
 ) -> Result<String<A>, AllocError> {
     let others = every_fourth_asn(alloc, count, 2)?;
-    let size = set.union(alloc, &others)?.asn_count();
+    size_of(alloc, set.union(alloc, &others))
+}
+
+fn size_of<A: Allocator + Copy>(
+    alloc: A,
+    set: Result<AsBlocks<A>, AllocError>,
+) -> Result<String<A>, AllocError> {
+    let size = set?.asn_count();
     format!(in alloc; "{size} numbers")
 }
 
 /// How many numbers a builder's set has, of those of a set and of as many that are pushed before them one by one.
-fn built<A: Allocator + Copy>(alloc: A, others: &AsBlocks<A>) -> Result<String<A>, AllocError> {
-    let others = others.iter().as_slice();
+fn built<A: Allocator + Copy>(alloc: A, count: u32) -> Result<String<A>, AllocError> {
+    let others = every_fourth_asn(alloc, count, 2)?;
+    size_of(alloc, built_before(alloc, others.iter().as_slice()))
+}
+
+fn built_before<A: Allocator + Copy>(
+    alloc: A,
+    others: &[AsBlock],
+) -> Result<AsBlocks<A>, AllocError> {
     let mut builder = AsBlocksBuilder::new(alloc);
+    push_before(&mut builder, others)?;
+    builder.finalize()
+}
+
+fn push_before<A: Allocator + Copy>(
+    builder: &mut AsBlocksBuilder<A>,
+    others: &[AsBlock],
+) -> Result<(), AllocError> {
     for at in 0..others.len() as u64 {
         let number = u32::try_from(at.saturating_mul(4)).unwrap_or(u32::MAX);
         builder.push(AsBlock::Id(Asn::from_u32(number)))?;
     }
-    builder.extend_from(others)?;
-    let size = builder.finalize()?.asn_count();
-    format!(in alloc; "{size} numbers")
+    builder.extend_from(others)
 }
 
 fn every_fourth_address<A: Allocator + Copy>(
@@ -173,14 +198,26 @@ fn every_fourth_address<A: Allocator + Copy>(
     IpBlocks::from_blocks(alloc, &blocks)
 }
 
-/// How many blocks the union of a set and of the other has.
-fn ip_union<A: Allocator + Copy>(
+/// How many blocks the union of the two sets has.
+fn ip_union<A: Allocator + Copy>(alloc: A, count: u32) -> Result<String<A>, AllocError> {
+    let set = every_fourth_address(alloc, count, 0)?;
+    union_with_more(alloc, &set, count)
+}
+
+fn union_with_more<A: Allocator + Copy>(
     alloc: A,
-    count: u32,
     set: &IpBlocks<A>,
+    count: u32,
 ) -> Result<String<A>, AllocError> {
     let others = every_fourth_address(alloc, count, 2)?;
-    let len = set.union(alloc, &others)?.iter().count();
+    len_of(alloc, set.union(alloc, &others))
+}
+
+fn len_of<A: Allocator + Copy>(
+    alloc: A,
+    set: Result<IpBlocks<A>, AllocError>,
+) -> Result<String<A>, AllocError> {
+    let len = set?.iter().count();
     format!(in alloc; "{len} blocks")
 }
 
@@ -195,8 +232,9 @@ fn cover<A: Allocator + Copy>(alloc: A, count: u32) -> Result<String<A>, AllocEr
     format!(in alloc; "{len} octets")
 }
 
-/// How many octets write a set of IPv6.
-fn families<A: Allocator + Copy>(alloc: A, set: IpBlocks<A>) -> Result<String<A>, AllocError> {
+/// How many octets write the set of IPv6.
+fn families<A: Allocator + Copy>(alloc: A, count: u32) -> Result<String<A>, AllocError> {
+    let set = every_fourth_address(alloc, count, 0)?;
     encoded_len(alloc, &IpResources::blocks(set))
 }
 
@@ -209,6 +247,14 @@ fn encoded_len<A: Allocator + Copy>(
     }
     let mut output = print::output(alloc)?;
     let write = IpResources::encode_families(&IpResources::missing(), claim, &mut output);
-    let len = print::written(alloc, &output, write)?.len() / 2;
+    octets_of(alloc, print::written(alloc, &output, write))
+}
+
+/// How many octets these digits are.
+fn octets_of<A: Allocator + Copy>(
+    alloc: A,
+    digits: Result<String<A>, AllocError>,
+) -> Result<String<A>, AllocError> {
+    let len = digits?.len() / 2;
     format!(in alloc; "{len} octets")
 }

@@ -1,8 +1,8 @@
 -- What the proofs of this crate use of std, of the crates below and of its own definitions, passed on by one name.
-pub use Rattle.std.proofs.Common.{Bool, Err, List, MatchResult, None, Ok, Option, Result, Some, [], add-one, ap, arith, codes, cond, decimal, drop, eqb, false, get_or, length, length-append, length-drop, lit<, ltb, map, not, refl, subst, suc, sym, take, true, zero, ℕ, ◌%◌, ◌&&◌, ◌*◌, ◌++◌, ◌+◌, ◌-◌, ◌/◌, ◌<◌, ◌^◌, ◌∙◌, ◌∷◌, ◌≡◌, ◌≢◌, ◌≤◌, ◌⊎◌}
+pub use Rattle.std.proofs.Common.{Bool, Err, List, MatchResult, None, Ok, Option, Result, Some, [], add-one, ap, arith, codes, cond, decimal, drop, eqb, false, get_or, length, length-append, length-drop, lit<, ltb, map, refl, subst, suc, sym, take, true, zero, ℕ, ◌%◌, ◌&&◌, ◌*◌, ◌++◌, ◌+◌, ◌-◌, ◌/◌, ◌<◌, ◌^◌, ◌∙◌, ◌∷◌, ◌≡◌, ◌≢◌, ◌≤◌, ◌⊎◌}
 pub use Rattle.std.proofs.Math.Nat.{div-add-mod, mul_comm, pow-le-pow_right, pow-suc, pow-succ', pow-zero}
 pub use Rattle.std.proofs.Math.Seq.{get_or-append-add}
-pub use Rattle.std.proofs.lemmas.Bool.{cases_lt, eqb-false, eqb-true, false_from_ne_true, le-ltb, lt-ltb}
+pub use Rattle.std.proofs.lemmas.Bool.{cases_lt, eqb-false, false_from_ne_true, le-ltb, lt-ltb}
 pub use Rattle.std.proofs.lemmas.Bool.Decides.{nat_tests}
 pub use Rattle.std.proofs.lemmas.Int.Digits.{digits_value-lt, digits_value_more, number_push}
 pub use Rattle.std.proofs.lemmas.List.{append-nil, get_or-drop, length-take, map-append, take-append-drop, take_all, take_more}
@@ -18,5 +18,5 @@ unfoldable pub use Rattle.std.specs.Str.{trim_end, trim_start}
 pub use Rattle.std.specs.Str.Parse.{AllDigits, digits_value, without_leading_plus}
 pub use Rattle.rpki_text.specs.Lists.{HasFirstFault, HaveValues, comma, joined, kept}
 unfoldable pub use Rattle.rpki_text.specs.Lists.{elements}
-pub use Rattle.rpki_text.specs.Numbers.{AreDigitsBetween, DigitsFail, HasInvalidDigit, HasNumberFault, IsNumberText, IsValueUpTo, PassesLimit, StopsBelow}
+pub use Rattle.rpki_text.specs.Numbers.{AreDigitsBetween, DigitsFail, HasNumberFault, IsNumberText, IsValueUpTo, PassesLimit, StopsBelow}
 pub use Rattle.rpki_text.specs.Reading.{Answers, AnswersOrMemory}

@@ -2,6 +2,8 @@
 -- may stand one too.
 use Rattle.rpki_text.proofs.Common.{List, [], ap, arith, eqb, false, length, refl, ℕ, ◌++◌, ◌∙◌, ◌∷◌, ◌≡◌, ◌⊎◌, lt-ltb, All-from_recursion, slice_split_at, slice_split_none, AllByRecursion, trim, comma, elements, kept}
 use Rattle.std.proofs.Common.{inl, inr}
+use Rattle.std.proofs.lemmas.List.Elements.{All-push}
+use Rattle.std.specs.List.{All}
 use Rattle.rpki_text.proofs.ListLemmas.{elements_are}
 use Rattle.rpki_text.proofs.PrintedLemmas.{IsElement, trim_behind, trim_between, trim_shown, trim_spaced, no_comma}
 
@@ -33,25 +35,22 @@ elements_first part element rest p h =
 abbrev pub IsLastPartOf : List ℕ → List ℕ → Type 0
 IsLastPartOf last element = (part : List ℕ) × IsPartOf part element × ((last ≡ part) ⊎ (last ≡ part ++ 32 ∷ []))
 
-spaced_no_comma : (xs : List ℕ) → AllByRecursion (λ b. eqb b comma ≡ false) xs
-    → AllByRecursion (λ b. eqb b comma ≡ false) (xs ++ 32 ∷ [])
-spaced_no_comma [] h = (refl, tt)
-spaced_no_comma (x ∷ xs) h = (h.0, spaced_no_comma xs h.1)
-
 last_no_comma : (last element : List ℕ) → IsLastPartOf last element → IsElement element
-    → AllByRecursion (λ b. eqb b comma ≡ false) last
-last_no_comma last element (part, p, inl same) h = rw same (part_no_comma part element p h)
-last_no_comma last element (part, p, inr spaced) h = rw spaced (spaced_no_comma part (part_no_comma part element p h))
+    → All (λ b. eqb b comma ≡ false) last
+last_no_comma last element (part, p, end) h =
+    let none = All-from_recursion (λ b. eqb b comma ≡ false) part (part_no_comma part element p h) in
+    elim end [ inl same ↦ rw same none | inr more ↦ rw more (All-push (λ b. eqb b comma ≡ false) part 32 none refl) ]
 
 last_trims : (last element : List ℕ) → IsLastPartOf last element → IsElement element → trim last ≡ element
 last_trims last element (part, p, inl same) h = rw same (part_trims part element p h)
-last_trims last element (part, inl same, inr spaced) h = rw (spaced, same) (trim_behind element h.shown h.some)
-last_trims last element (part, inr before, inr spaced) h = rw (spaced, before) (trim_between element h.shown h.some)
+last_trims last [] (part, p, inr spaced) h = absurd (omega (arith, h.some))
+last_trims last (b ∷ bs) (part, inl same, inr spaced) h = rw (spaced, same) (trim_behind b bs 1 h.shown)
+last_trims last (b ∷ bs) (part, inr before, inr spaced) h = rw (spaced, before) (trim_between b bs 1 h.shown)
 
 -- one that ends the text is the only one
 pub elements_last : (last element : List ℕ) → IsLastPartOf last element → IsElement element
     → elements last ≡ element ∷ []
 elements_last last element p h =
     elements_are last
-    ∙ ap kept (slice_split_none (λ b. eqb b comma) last (All-from_recursion _ last (last_no_comma last element p h)))
+    ∙ ap kept (slice_split_none (λ b. eqb b comma) last (last_no_comma last element p h))
     ∙ rw (last_trims last element p h, lt-ltb 0 (length element) h.some) refl

@@ -1,6 +1,6 @@
 -- Texts of lists: their elements one by one, and their one list of values or first fault.
-use Rattle.rpki_text.proofs.Common.{map, map-append, List, MatchResult, Result, [], ap, arith, drop, eqb, get_or, length, ltb, refl, subst, sym, take, true, ℕ, ◌++◌, ◌+◌, ◌<◌, ◌∙◌, ◌∷◌, ◌≡◌, lt-ltb, take-append-drop, slice_split, trim, HasFirstFault, HaveValues, comma, elements, kept, AnswersOrMemory}
-use Rattle.std.proofs.Common.{rules}
+use Rattle.rpki_text.proofs.Common.{map, map-append, List, MatchResult, Result, [], ap, arith, drop, eqb, get_or, length, ltb, refl, sym, take, true, ℕ, ◌++◌, ◌+◌, ◌<◌, ◌∙◌, ◌∷◌, ◌≡◌, lt-ltb, take-append-drop, slice_split, trim, HasFirstFault, HaveValues, comma, elements, kept, AnswersOrMemory}
+use Rattle.std.proofs.Common.{inl, inr, rules, ◌⊎◌}
 use Rattle.std.proofs.lemmas.List.{drop_more}
 use Rattle.std.proofs.lemmas.List.Elements.{filter-append}
 use Rattle.std.specs.Prelude.{nat_lt}
@@ -32,39 +32,40 @@ module _ {A : Type 0} (Has : List ℕ → A → Type 0) where
       cc
   HaveValues-one one texts values others h k = absurd (search rules)
 
-  -- a text among others has a value too
-  HaveValues-at : (front : List (List ℕ)) (bad : List ℕ) (rest : List (List ℕ)) (values : List A)
-      → HaveValues Has (front ++ bad ∷ rest) values → (a : A) × Has bad a
-  HaveValues-at [] bad rest (v ∷ values) h = (v, h.0)
-  HaveValues-at (t ∷ front) bad rest (v ∷ values) h = HaveValues-at front bad rest values h.1
-  HaveValues-at front bad rest values h = absurd h
-
   module _ {E : Type 0} (Fails : List ℕ → E → Type 0) (apart : (t : List ℕ) (a : A) (e : E) → Has t a → Fails t e → ⊥) where
+    -- the same by recursion: a fault behind texts that have values
+    abbrev FaultBehind : List (List ℕ) → E → Type 0
+    FaultBehind [] e = ⊥
+    FaultBehind (t ∷ texts) e = Fails t e ⊎ (((a : A) × Has t a) × FaultBehind texts e)
+
+    fault_behind : (front : List (List ℕ)) (bad : List ℕ) (rest : List (List ℕ)) (values : List A) (e : E)
+        → HaveValues Has front values → Fails bad e → FaultBehind (front ++ bad ∷ rest) e
+    fault_behind [] bad rest values e h f = inl f
+    fault_behind (t ∷ front) bad rest [] e h f = absurd h
+    fault_behind (t ∷ front) bad rest (v ∷ values) e h f = inr ((v, h.0), fault_behind front bad rest values e h.1 f)
+
+    by_recursion : (texts : List (List ℕ)) (e : E) → HasFirstFault Has Fails texts e → FaultBehind texts e
+    by_recursion texts e f = rw f.split (fault_behind f.front f.bad f.rest f.values e f.before f.fault)
+
     -- not all have values where one has a fault
+    behind_apart : (texts : List (List ℕ)) (values : List A) (e : E) → HaveValues Has texts values
+        → FaultBehind texts e → ⊥
+    behind_apart [] values e h f = f
+    behind_apart (t ∷ texts) [] e h f = h
+    behind_apart (t ∷ texts) (v ∷ values) e h f = grind (arith, apart t v e h.0, behind_apart texts values e h.1)
+
     pub first_fault_apart : (texts : List (List ℕ)) (values : List A) (e : E) → HaveValues Has texts values
         → HasFirstFault Has Fails texts e → ⊥
-    first_fault_apart texts values e h f =
-        let at = HaveValues-at f.front f.bad f.rest values (subst (λ t. HaveValues Has t values) f.split h) in
-        apart f.bad at.0 e at.1 f.fault
+    first_fault_apart texts values e h f = behind_apart texts values e h (by_recursion texts e f)
 
-    -- two first faults of one list stand at one place
-    one_first_fault : (front : List (List ℕ)) (bad : List ℕ) (rest others : List (List ℕ)) (worse : List ℕ)
-        (more : List (List ℕ)) (values more_values : List A) (d e : E)
-        → ((t : List ℕ) (d e : E) → Fails t d → Fails t e → d ≡ e) → HaveValues Has front values
-        → HaveValues Has others more_values → Fails bad d → Fails worse e → front ++ bad ∷ rest ≡ others ++ worse ∷ more
-        → d ≡ e
-    one_first_fault [] bad rest [] worse more values vs d e same h k f g is = let first : bad ≡ worse = cc in same worse d e (subst (λ t. Fails t d) first f) g
-    one_first_fault [] bad rest (t ∷ others) worse more values (v ∷ vs) d e same h k f g is = let first : t ≡ bad = cc in absurd (apart bad v d (subst (λ t. Has t v) first k.0) f)
-    one_first_fault (t ∷ front) bad rest [] worse more (v ∷ values) vs d e same h k f g is = let first : t ≡ worse = cc in absurd (apart worse v e (subst (λ t. Has t v) first h.0) g)
-    one_first_fault (t ∷ front) bad rest (u ∷ others) worse more (v ∷ values) (w ∷ vs) d e same h k f g is =
-        let tail : front ++ bad ∷ rest ≡ others ++ worse ∷ more = cc in
-        one_first_fault front bad rest others worse more values vs d e same h.1 k.1 f g tail
-    one_first_fault front bad rest others worse more values vs d e same h k f g is = absurd (search rules)
-
-    -- so there is one first fault
+    -- and one is the first
     pub same_first_fault : ((t : List ℕ) (d e : E) → Fails t d → Fails t e → d ≡ e) → (texts : List (List ℕ)) (d e : E)
         → HasFirstFault Has Fails texts d → HasFirstFault Has Fails texts e → d ≡ e
-    same_first_fault same texts d e f g = one_first_fault f.front f.bad f.rest g.front g.bad g.rest f.values g.values d e same f.before g.before f.fault g.fault (sym f.split ∙ g.split)
+    same_first_fault same texts d e f g = one texts (by_recursion texts d f) (by_recursion texts e g)
+      where
+        one : (texts : List (List ℕ)) → FaultBehind texts d → FaultBehind texts e → d ≡ e
+        one [] f g = absurd f
+        one (t ∷ texts) f g = grind (arith, same t d e, apart t, one texts)
 
 -- what is kept of two lists of parts
 pub kept-append : (xs ys : List (List ℕ)) → kept (xs ++ ys) ≡ kept xs ++ kept ys

@@ -1,11 +1,12 @@
 -- Number texts: each has one value or one fault, and a scan from the left finds it.
-use Rattle.rpki_text.proofs.Common.{map, map-append, List, MatchResult, Result, [], ap, arith, drop, get_or, length, length-drop, refl, subst, sym, take, ℕ, ◌*◌, ◌++◌, ◌+◌, ◌-◌, ◌<◌, ◌^◌, ◌∙◌, ◌∷◌, ◌≡◌, ◌≢◌, ◌≤◌, ◌⊎◌, pow-le-pow_right, cases_lt, digits_value-lt, digits_value_more, get_or-drop, length-take, take-append-drop, digit_value_digit, digit_from_value, digit_value, IsInRange, AllDigits, digits_value, without_leading_plus, AreDigitsBetween, DigitsFail, HasInvalidDigit, HasNumberFault, IsNumberText, IsValueUpTo, PassesLimit, StopsBelow, Answers}
+use Rattle.rpki_text.proofs.Common.{Err, map, map-append, List, MatchResult, Result, [], ap, arith, drop, get_or, length, length-drop, refl, subst, sym, take, ℕ, ◌*◌, ◌++◌, ◌+◌, ◌-◌, ◌<◌, ◌^◌, ◌∙◌, ◌∷◌, ◌≡◌, ◌≢◌, ◌≤◌, ◌⊎◌, pow-le-pow_right, cases_lt, digits_value-lt, digits_value_more, get_or-drop, length-take, take-append-drop, digit_value_digit, digit_from_value, digit_value, IsInRange, AllDigits, digits_value, without_leading_plus, AreDigitsBetween, DigitsFail, HasNumberFault, IsNumberText, IsValueUpTo, PassesLimit, StopsBelow, Answers}
 use Rattle.std.proofs.NetLemmas.Numbers.{digit_count-append, digit_count_none}
 use Rattle.std.proofs.lemmas.Int.Digits.{digits_more, digits_value_is, number_after_append, number_after_ge}
 use Rattle.std.proofs.lemmas.List.{nil_from_length, take-append-le, take_at}
 use Rattle.std.specs.Int.Digits.{number_from_digits}
 use Rattle.std.specs.Net.Reader.{digit_count}
 use Rattle.rpki_text.specs.declared.number.ParseIntError.{ParseIntError}
+use Rattle.rpki_text.specs.declared.number.ParseIntError.TheVariants.{Empty, InvalidDigit}
 use Rattle.rpki_text.proofs.ReadingLemmas.{Answers-from_found}
 
 -- a beginning of digits writes no more than all of them
@@ -68,12 +69,26 @@ pub number_answers : (limit : ℕ) (text : List ℕ) (r : Result ℕ ParseIntErr
     → Answers (IsNumberText limit text) (HasNumberFault limit text) r
 number_answers limit text r found = Answers-from_found r found (λ a b h k. sym h.value ∙ k.value) (number_apart limit text) (same_fault limit text)
 
--- the text gives what the digits behind its plus give
-pub text_from_digits : (limit : ℕ) (text : List ℕ) (r : Result ℕ ParseIntError) → text ≢ []
-    → 0 < length (without_leading_plus text)
+-- so it is: no text, a plus alone, or what the digits behind it give
+pub no_text : (limit : ℕ) (text : List ℕ) → length text ≡ 0
+    → Answers (IsNumberText limit text) (HasNumberFault limit text) (Err Empty)
+no_text limit text none = number_answers limit text (Err Empty) (nil_from_length text none)
+
+pub plus_alone : (limit : ℕ) (text : List ℕ) → length text ≢ 0 → length (without_leading_plus text) ≡ 0
+    → Answers (IsNumberText limit text) (HasNumberFault limit text) (Err InvalidDigit)
+plus_alone limit text some none = number_answers limit text (Err InvalidDigit) (record {
+  some_text = λ e. some (ap length e);
+  no_number = λ n h. omega (arith, h.digits.0);
+  not_above = none_above limit (without_leading_plus text) (nil_from_length _ none);
+})
+
+pub from_digits : (limit : ℕ) (text : List ℕ) (r : Result ℕ ParseIntError) → length text ≢ 0
+    → length (without_leading_plus text) ≢ 0
     → MatchResult r (IsValueUpTo limit (without_leading_plus text)) (DigitsFail limit (without_leading_plus text))
-    → MatchResult r (IsNumberText limit text) (HasNumberFault limit text)
-text_from_digits limit text r some more h = grind (arith, StopsBelow-no_numeral, StopsBelow-not_above)
+    → Answers (IsNumberText limit text) (HasNumberFault limit text) r
+from_digits limit text r some more found =
+    let some_text : text ≢ [] = λ e. some (ap length e) in
+    number_answers limit text r (grind (arith, StopsBelow-no_numeral, StopsBelow-not_above))
 
 -- a byte outside `0` to `9` has no digit's value
 pub value_of_other : (b : ℕ) → (b < 48) ⊎ (57 < b) → 10 ≤ digit_value b
@@ -106,15 +121,6 @@ module _ (limit value n : ℕ) (ds : List ℕ) (i : ℕ) (here : i < length ds) 
     all_digits = all_more;
     above = rw value_is above;
   }
-
--- a plus with no digits behind it
-pub no_digits : (limit : ℕ) (text : List ℕ) → text ≢ [] → length (without_leading_plus text) ≡ 0
-    → HasInvalidDigit limit text
-no_digits limit text some none = record {
-  some_text = some;
-  no_number = λ n h. omega (arith, h.digits.0);
-  not_above = λ p. none_above limit (without_leading_plus text) (nil_from_length _ none) p;
-}
 
 -- fewer than ten digits write a number below 10 ^ 9
 pub few_below : (start end : ℕ) (text : List ℕ) (n : ℕ) → AreDigitsBetween start end text n → end - start < 10

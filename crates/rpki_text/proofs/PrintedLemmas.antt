@@ -1,5 +1,6 @@
 -- The elements of a printed list are the texts that were joined.
-use Rattle.rpki_text.proofs.Common.{List, [], ap, arith, codes, drop, eqb, false, get_or, length, lit<, map, refl, sym, take, ℕ, ◌++◌, ◌+◌, ◌-◌, ◌<◌, ◌∙◌, ◌∷◌, ◌≡◌, ◌≤◌, lt-ltb, nat_tests, append-nil, take_all, take_more, All-from_recursion, slice_split_at, slice_split_none, is_whitespace, IsInRange, AllByRecursion, flat_map, slice_split, drop_trailing_whitespace, skip_leading_whitespace, trim, trim_end, trim_start, comma, elements, joined, kept}
+use Rattle.rpki_text.proofs.Common.{suc, zero, List, [], ap, arith, codes, drop, eqb, false, get_or, length, lit<, map, refl, sym, take, ℕ, ◌++◌, ◌+◌, ◌-◌, ◌<◌, ◌∙◌, ◌∷◌, ◌≡◌, ◌≤◌, lt-ltb, nat_tests, append-nil, take_all, take_more, All-from_recursion, slice_split_at, slice_split_none, is_whitespace, IsInRange, AllByRecursion, flat_map, slice_split, drop_trailing_whitespace, trim, trim_end, trim_start, comma, elements, joined, kept}
+use Rattle.std.proofs.Common.{replicate}
 use Rattle.std.proofs.lemmas.List.{flat_map_more}
 use Rattle.std.proofs.lemmas.Str.{chars-IsAscii}
 use Rattle.std.proofs.lemmas.Str.Ascii.{IsAscii-cons, IsAscii-nil, encodes-IsAscii}
@@ -10,71 +11,54 @@ use Rattle.rpki_text.proofs.ListLemmas.{elements_are}
 abbrev pub IsShown : ℕ → Type 0
 IsShown b = IsInRange 45 126 b
 
--- visible bytes are ASCII
-shown_ascii : (bs : List ℕ) → AllByRecursion IsShown bs → IsAscii bs
-shown_ascii [] h = IsAscii-nil
-shown_ascii (b ∷ bs) h = IsAscii-cons b bs (omega (arith, h.0.1)) (shown_ascii bs h.1)
+-- visible bytes with spaces behind them are ASCII
+shown_ascii : (bs : List ℕ) (j : ℕ) → AllByRecursion IsShown bs → IsAscii (bs ++ replicate j 32)
+shown_ascii [] zero h = IsAscii-nil
+shown_ascii [] (suc j) h = IsAscii-cons 32 (replicate j 32) (lit< tt) (shown_ascii [] j h)
+shown_ascii (b ∷ bs) j h = IsAscii-cons b (bs ++ replicate j 32) (omega (arith, h.0.1)) (shown_ascii bs j h.1)
 
 -- and no white space
 not_white : (b : ℕ) → IsShown b → is_whitespace b ≡ false
 not_white b h = grind (arith, nat_tests)
 
--- so trimming takes nothing at the front
-skip_shown : (bs : List ℕ) → AllByRecursion IsShown bs → skip_leading_whitespace bs ≡ bs
-skip_shown [] h = refl
-skip_shown (b ∷ bs) h = rw (not_white b h.0)
+-- so trimming takes these spaces at the back
+drop_spaces : (bs : List ℕ) (j : ℕ) → AllByRecursion IsShown bs → drop_trailing_whitespace (bs ++ replicate j 32) ≡ bs
+drop_spaces [] zero h = refl
+drop_spaces [] (suc j) h = rw (drop_spaces [] j h) refl
+drop_spaces (b ∷ bs) j h = rw (not_white b h.0, drop_spaces bs j h.1)
 
--- nor at the back
-drop_shown : (bs : List ℕ) → AllByRecursion IsShown bs → drop_trailing_whitespace bs ≡ bs
-drop_shown [] h = refl
-drop_shown (b ∷ bs) h = rw (not_white b h.0, drop_shown bs h.1)
-
--- nor at the end of a text
-trim_end_shown : (bs : List ℕ) → AllByRecursion IsShown bs → trim_end bs ≡ bs
+trim_end_spaces : (bs : List ℕ) (j : ℕ) → AllByRecursion IsShown bs → trim_end (bs ++ replicate j 32) ≡ bs
 unfolding trim_end
-trim_end_shown bs h = rw (chars-IsAscii bs (shown_ascii bs h), drop_shown bs h) (encodes-IsAscii bs (shown_ascii bs h))
+trim_end_spaces bs j h =
+    let own : IsAscii bs = rw append-nil at (shown_ascii bs 0 h) in
+    rw (chars-IsAscii (bs ++ replicate j 32) (shown_ascii bs j h), drop_spaces bs j h) (encodes-IsAscii bs own)
 
--- nor from a text
+-- and one before them, if one stands there
+module _ (b : ℕ) (bs : List ℕ) (j : ℕ) (h : AllByRecursion IsShown (b ∷ bs)) where
+  pub trim_behind : trim (b ∷ bs ++ replicate j 32) ≡ b ∷ bs
+  unfolding trim_start
+  trim_behind =
+      let ascii = shown_ascii (b ∷ bs) j h in
+      rw (chars-IsAscii (b ∷ bs ++ replicate j 32) ascii, not_white b h.0)
+      (rw (encodes-IsAscii (b ∷ bs ++ replicate j 32) ascii) (trim_end_spaces (b ∷ bs) j h))
+
+  pub trim_between : trim (32 ∷ b ∷ bs ++ replicate j 32) ≡ b ∷ bs
+  unfolding trim_start
+  trim_between =
+      let ascii = shown_ascii (b ∷ bs) j h in
+      let spaced = IsAscii-cons 32 (b ∷ bs ++ replicate j 32) (lit< tt) ascii in
+      rw (chars-IsAscii (32 ∷ b ∷ bs ++ replicate j 32) spaced, not_white b h.0)
+      (rw (encodes-IsAscii (b ∷ bs ++ replicate j 32) ascii) (trim_end_spaces (b ∷ bs) j h))
+
 pub trim_shown : (bs : List ℕ) → AllByRecursion IsShown bs → trim bs ≡ bs
 unfolding trim_start
-trim_shown bs h =
-    rw (chars-IsAscii bs (shown_ascii bs h), skip_shown bs h, encodes-IsAscii bs (shown_ascii bs h)) (trim_end_shown bs h)
+trim_shown [] h = rw (chars-IsAscii [] IsAscii-nil) (trim_end_spaces [] 0 h)
+trim_shown (b ∷ bs) h = rw append-nil at (trim_behind b bs 0 h)
 
--- and takes a space before it
 pub trim_spaced : (bs : List ℕ) → AllByRecursion IsShown bs → trim (32 ∷ bs) ≡ bs
 unfolding trim_start
-trim_spaced bs h =
-    let ascii = shown_ascii bs h in
-    rw (chars-IsAscii (32 ∷ bs) (IsAscii-cons 32 bs (lit< tt) ascii), skip_shown bs h, encodes-IsAscii bs ascii) (trim_end_shown bs h)
-
--- a space behind them is ASCII too, and is dropped
-spaced_ascii : (bs : List ℕ) → AllByRecursion IsShown bs → IsAscii (bs ++ 32 ∷ [])
-spaced_ascii [] h = IsAscii-cons 32 [] (lit< tt) IsAscii-nil
-spaced_ascii (b ∷ bs) h = IsAscii-cons b (bs ++ 32 ∷ []) (omega (arith, h.0.1)) (spaced_ascii bs h.1)
-
-drop_spaced : (bs : List ℕ) → AllByRecursion IsShown bs → drop_trailing_whitespace (bs ++ 32 ∷ []) ≡ bs
-drop_spaced [] h = refl
-drop_spaced (b ∷ bs) h = rw (not_white b h.0, drop_spaced bs h.1)
-
-trim_end_spaced : (bs : List ℕ) → AllByRecursion IsShown bs → trim_end (bs ++ 32 ∷ []) ≡ bs
-unfolding trim_end
-trim_end_spaced bs h =
-    rw (chars-IsAscii (bs ++ 32 ∷ []) (spaced_ascii bs h), drop_spaced bs h) (encodes-IsAscii bs (shown_ascii bs h))
-
--- whether one stands before them or not
-pub trim_behind : (bs : List ℕ) → AllByRecursion IsShown bs → 0 < length bs → trim (bs ++ 32 ∷ []) ≡ bs
-unfolding trim_start
-trim_behind [] h some = absurd (omega (arith, some))
-trim_behind (b ∷ bs) h some =
-    let ascii = spaced_ascii (b ∷ bs) h in
-    rw (chars-IsAscii (b ∷ bs ++ 32 ∷ []) ascii, not_white b h.0, encodes-IsAscii (b ∷ bs ++ 32 ∷ []) ascii) (trim_end_spaced (b ∷ bs) h)
-
-pub trim_between : (bs : List ℕ) → AllByRecursion IsShown bs → 0 < length bs → trim (32 ∷ bs ++ 32 ∷ []) ≡ bs
-unfolding trim_start
-trim_between [] h some = absurd (omega (arith, some))
-trim_between (b ∷ bs) h some =
-    let ascii = spaced_ascii (b ∷ bs) h in
-    rw (chars-IsAscii (32 ∷ b ∷ bs ++ 32 ∷ []) (IsAscii-cons 32 (b ∷ bs ++ 32 ∷ []) (lit< tt) ascii), not_white b h.0, encodes-IsAscii (b ∷ bs ++ 32 ∷ []) ascii) (trim_end_spaced (b ∷ bs) h)
+trim_spaced [] h = rw (chars-IsAscii (32 ∷ []) (shown_ascii [] 1 h)) (trim_end_spaces [] 0 h)
+trim_spaced (b ∷ bs) h = rw append-nil at (trim_between b bs 0 h)
 
 -- no comma is among them
 pub no_comma : (bs : List ℕ) → AllByRecursion IsShown bs → AllByRecursion (λ b. eqb b comma ≡ false) bs

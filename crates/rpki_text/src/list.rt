@@ -31,6 +31,7 @@ pub trait ReadElement {
 }
 
 /// The text without the white space at both its ends. Where visible ASCII stands there, characters aren't looked at.
+#[tactic(auto, using(crate::proofs::TrimLemmas::trim_visible))]
 fn trimmed(text: &str) -> &str
     ensures { result.now ≡ trim text.now }
 {

@@ -75,6 +75,7 @@ fn few_behind(start: usize, len: usize) -> usize
 
 /// The value of the digits from a place on, all that stand there or the first ten, and the place behind them. Where
 /// none stands there they are 0 and the place itself.
+#[tactic(auto, using(crate::proofs::NumberLemmas::few_below))]
 pub fn digits_from(text: &[u8], start: usize) -> (u64, usize)
     requires { start ≤ length text.now }
     ensures { AreDigitsFrom start result.1 text.now result.0 }
@@ -95,6 +96,7 @@ pub fn digits_from(text: &[u8], start: usize) -> (u64, usize)
 
 /// The number that a decimal text writes, at most a limit that is below 2^32: as [`parse_u32`], whose faults it has for
 /// this limit.
+#[tactic(auto, using(crate::proofs::NumberLemmas::no_text, crate::proofs::NumberLemmas::plus_alone))]
 pub fn parse_up_to(limit: u64, text: &[u8]) -> Result<u64, ParseIntError>
     requires { limit < 2 ^ 32 }
     ensures { Answers (IsNumberText limit text.now) (HasNumberFault limit text.now) result }

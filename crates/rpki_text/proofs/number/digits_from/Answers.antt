@@ -1,13 +1,7 @@
--- Nine digits and one more fit, and one more digit adds to the value.
+-- One more digit adds to the value.
 use Rattle.rpki_text.proofs.Common.{arith, length, ◌-◌, ◌<◌}
-use Rattle.rpki_text.proofs.NumberLemmas.{few_below, digit_more}
+use Rattle.rpki_text.proofs.NumberLemmas.{digit_more}
 use Rattle.rpki_text.proofs.number.digits_from.Goals as goal
-
-pub overflow_mul-value : goal.overflow_mul-value
-overflow_mul-value c = grind (arith, few_below)
-
-pub overflow_add-value : goal.overflow_add-value
-overflow_add-value c = grind (arith, few_below)
 
 pub loop-end-preserved : goal.loop-end-preserved
 loop-end-preserved c =

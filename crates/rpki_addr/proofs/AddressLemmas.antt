@@ -1,5 +1,5 @@
 -- Texts of addresses: our grammar and that of std's readers are one.
-use Rattle.rpki_addr.proofs.Common.{Bool, IsTrue, List, [], ap, append_assoc, arith, codes, false, flat_map, inl, inr, length, refl, replicate, subst, sym, true, ℕ, ◌%◌, ◌++◌, ◌+◌, ◌-◌, ◌/◌, ◌∙◌, ◌∷◌, ◌≡◌, ◌⊎◌, AllBelowBase, segments_of, dotted_text, from_octets, AreGroups, AreGroupsAtEnd, IsGroupText, IsGroupsText, IsIpv4Text, dotted}
+use Rattle.rpki_addr.proofs.Common.{lit<, last_digit_below, length-last_digits, IsColonHex-ipv6_text, groups_of, ipv6_text, Bool, IsTrue, List, [], ap, append_assoc, arith, codes, false, flat_map, inl, inr, length, refl, replicate, subst, sym, true, ℕ, ◌%◌, ◌++◌, ◌+◌, ◌-◌, ◌/◌, ◌∙◌, ◌∷◌, ◌≡◌, ◌⊎◌, AllBelowBase, segments_of, dotted_text, from_octets, AreGroups, AreGroupsAtEnd, IsGroupText, IsGroupsText, IsIpv4Text, dotted}
 use Rattle.std.proofs.lemmas.List.{append-nil}
 use Rattle.std.specs.Net.Grammar as std
 use Rattle.rpki_text.specs.Lists.{joined_by, HaveValues}
@@ -9,7 +9,7 @@ pub dotted_is : (a b c d : ℕ) → dotted_text a b c d ≡ dotted (a ∷ b ∷ 
 dotted_is a b c d = simp (append_assoc, append-nil)
 
 -- an IPv4 text of ours is one of std's
-to_dotted : (text octets : List ℕ) → length octets ≡ 4 → AllBelowBase 256 octets → text ≡ dotted octets
+pub to_dotted : (text octets : List ℕ) → length octets ≡ 4 → AllBelowBase 256 octets → text ≡ dotted octets
     → std.IsDotted text octets
 to_dotted text (a ∷ b ∷ c ∷ d ∷ []) four small spelled = grind (arith, dotted_is)
 to_dotted text octets four small spelled = absurd (omega (arith, four))
@@ -110,18 +110,27 @@ front_groups text groups h = elim (from_std false [] text groups h) [
 end_groups : (text groups : List ℕ) → std.IsGroups true text groups → AreGroupsAtEnd text groups
 end_groups text groups h = elim (from_std true [] text groups h) [
   | inl (texts, spelled, each) ↦ inl (record { texts = texts; spelled = spelled ∙ sym (joined_led texts); each = each })
-  | inr (ok, (texts, front, last, n, spelled, each, ipv4, value)) ↦ inr (record {
-    texts = texts;
-    front = front;
-    last = last;
-    n = n;
-    spelled = spelled ∙ sym (joined_led (texts ++ last ∷ []));
-    each = each;
-    ipv4 = ipv4;
-    value = value;
-  })
+  | inr (ok, (texts, front, last, n, spelled, each, ipv4, value)) ↦
+      let own = spelled ∙ sym (joined_led (texts ++ last ∷ [])) in
+      inr (record {
+        texts = texts;
+        front = front;
+        last = last;
+        n = n;
+        spelled = own;
+        each = each;
+        ipv4 = ipv4;
+        value = value;
+      })
 ]
 
 -- an IPv6 text of std's is one of ours
 pub IsColonHex-groups : (text groups : List ℕ) → std.IsColonHex text groups → IsGroupsText text groups
 IsColonHex-groups text groups h = grind (arith, end_groups, front_groups)
+
+-- a printed IPv6 address is one of std's texts
+pub printed_colon_hex : (n : ℕ) → std.IsColonHex (ipv6_text n) (groups_of n)
+unfolding ipv6_text
+printed_colon_hex n =
+    let eight = length-last_digits 0x10000 (lit< tt) 8 n in
+    IsColonHex-ipv6_text (groups_of n) eight (last_digit_below 0x10000 (lit< tt) 8 n)

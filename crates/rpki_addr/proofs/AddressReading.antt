@@ -1,10 +1,10 @@
 -- Digits at the front of a text, as std's readers take them.
-use Rattle.rpki_addr.proofs.Common.{Bool, List, None, Some, [], ap, append_assoc, arith, cond, decimal, drop, drop_at, eq-eqb, false, true, get_or, inl, inr, le-ltb, length, length-append, length-take-le, lit<, lit≤, lt-ltb, nat_lt, ne_eqb, option_and_then, option_map, refl, sym, take, true≢false, ℕ, ◌&&◌, ◌*◌, ◌++◌, ◌+◌, ◌-◌, ◌<◌, ◌==◌, ◌^◌, ◌∙◌, ◌∷◌, ◌≡◌, ◌≢◌, ◌≤◌, pow-le-pow_right, read_ipv4_sound, cases_lt, nat_tests, decimal_is_IsNumeral, digits_value-lt, none-some, same_Some, digit_value, digit_count, read_ipv4, read_ipv4_if, read_number, read_octet, read_segment, AllDigits, digits_value, with_octets}
+use Rattle.rpki_addr.proofs.Common.{Bool, List, None, Some, [], ap, append_assoc, arith, cond, decimal, drop, drop_at, eq-eqb, false, true, get_or, inl, inr, le-ltb, length, length-take-le, lit<, lit≤, lt-ltb, nat_lt, ne_eqb, option_and_then, option_map, refl, sym, take, true≢false, ℕ, ◌&&◌, ◌*◌, ◌++◌, ◌+◌, ◌-◌, ◌<◌, ◌==◌, ◌^◌, ◌∙◌, ◌∷◌, ◌≡◌, ◌≢◌, ◌≤◌, pow-le-pow_right, read_ipv4_sound, cases_lt, nat_tests, decimal_is_IsNumeral, digits_value-lt, none-some, same_Some, digit_value, digit_count, read_ipv4, read_ipv4_if, read_number, read_octet, read_segment, AllDigits, digits_value, with_octets}
 use Rattle.std.proofs.lemmas.Bool.{and_from, and_left, and_right}
 use Rattle.std.proofs.lemmas.Fmt.{length-decimal-le}
 use Rattle.std.proofs.lemmas.Int.Digits.{digits_more, digits_value_more}
-use Rattle.std.proofs.lemmas.List.{get_or_at, take-append-drop, take_at, take_rest}
-use Rattle.std.proofs.NetLemmas.Numbers.{digit_count-append, read_number_empty, read_number_large_at, read_number_some_at}
+use Rattle.std.proofs.lemmas.List.{take-append-drop, take_rest}
+use Rattle.std.proofs.NetLemmas.Numbers.{digit_count-append, read_number_empty, read_number_large_at, read_number_some, read_number_some_at}
 
 -- the first k bytes of a text are digits, which write v
 pub record Digits (radix : ℕ) (s : List ℕ) (k v : ℕ) : Type 0 where
@@ -99,22 +99,20 @@ all_wider (d ∷ ds) all = (let small = all.0 in omega arith, all_wider ds all.1
 -- a group stands at the front of an IPv4 text, and a dot behind it
 group_before_dot : (text : List ℕ) (p : List ℕ × List ℕ) → read_ipv4 text ≡ Some p
     → (v : ℕ) × (rest : List ℕ) × (read_segment text ≡ Some (v, 46 ∷ rest))
+unfolding read_segment
 group_before_dot text p e =
     let (front, split, h) = read_ipv4_sound text p.0 p.1 e in
     let rest : List ℕ = decimal h.b ++ 46 ∷ (decimal h.c ++ 46 ∷ (decimal h.d ++ p.1)) in
     let spelled : front ++ p.1 ≡ decimal h.a ++ 46 ∷ rest = rw h.spelled (simp append_assoc) in
     let numeral = decimal_is_IsNumeral h.a (omega (arith, h.fit.0)) in
-    let few : length (decimal h.a) ≤ 4 = length-decimal-le 4 h.a (lit< tt) (omega (arith, h.fit.0)) (omega (arith, h.fit.0)) in
-    let front_is = take_at (decimal h.a) (46 ∷ rest) _ refl in
-    let digits : Digits 16 (decimal h.a ++ 46 ∷ rest) (length (decimal h.a)) (digits_value 16 (decimal h.a)) = record {
-      within = omega (arith, length-append (decimal h.a) (46 ∷ rest));
-      all = rw front_is (all_wider (decimal h.a) numeral.0.1);
-      value = rw front_is refl;
-    } in
-    let stop : 16 ≤ digit_value (get_or (decimal h.a ++ 46 ∷ rest) (length (decimal h.a)) 0) = rw (get_or_at (decimal h.a) 46 rest 0 _ refl) (lit≤ tt) in
-    let read = group_some (decimal h.a ++ 46 ∷ rest) _ _ digits numeral.0.0 few stop in
-    let left = take_rest (decimal h.a ++ 46 ∷ rest) (length (decimal h.a)) ∙ drop_at (decimal h.a) (46 ∷ rest) _ refl in
-    (_, rest, ap read_segment (split ∙ spelled) ∙ sym read ∙ ap (λ t. Some (digits_value 16 (decimal h.a), t)) left)
+    let few = length-decimal-le 4 h.a (lit< tt) (omega (arith, h.fit.0)) (omega (arith, h.fit.0)) in
+    let digits : AllDigits 16 (decimal h.a) = all_wider (decimal h.a) numeral.0.1 in
+    let below = digits_value-lt 16 (decimal h.a) digits in
+    let most : 16 ^ length (decimal h.a) ≤ 16 ^ 4 = pow-le-pow_right (lit≤ tt) few in
+    let fits : digits_value 16 (decimal h.a) ≤ 0xffff = omega (arith, below, most) in
+    let read = read_number_some 16 0xffff (decimal h.a) (46 ∷ rest) (numeral.0.0, digits) fits (lit≤ tt) in
+    let left = drop_at (decimal h.a) (46 ∷ rest) _ refl in
+    (digits_value 16 (decimal h.a), rest, ap read_segment (split ∙ spelled) ∙ rw (read, le-ltb 4 _ few, left) refl)
 
 -- so where no group stands, or no dot behind it, there is no IPv4 text
 pub no_group : (text : List ℕ) → read_segment text ≡ None → read_ipv4 text ≡ None
@@ -127,8 +125,10 @@ no_dot_behind text v rest group other = grind (arith, group_before_dot, same_Som
 -- and none is read, whether it fits or not
 pub ipv4_if_none : (fits : Bool) (text : List ℕ) → read_ipv4 text ≡ None
     → None ≡ option_map with_octets (read_ipv4_if fits text)
-ipv4_if_none v0 text none = grind (arith)
+ipv4_if_none fits text none = grind (arith)
 
--- a test that says no
-pub not_equal : (x y : ℕ) → (x == y) ≡ false → x ≢ y
-not_equal x y e is = true≢false (sym (eq-eqb x y is) ∙ e)
+-- so with no dot behind the group there is none
+pub no_last_two : (fits : Bool) (text behind : List ℕ) (v : ℕ) → read_segment text ≡ Some (v, behind)
+    → (get_or behind 0 0 == 46) ≡ false → None ≡ option_map with_octets (read_ipv4_if fits text)
+no_last_two fits text behind v group other =
+    ipv4_if_none fits text (no_dot_behind text v behind group (λ is. true≢false (sym (eq-eqb _ 46 is) ∙ other)))

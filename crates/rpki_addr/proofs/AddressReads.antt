@@ -1,11 +1,11 @@
 -- What the readers of addresses answer: a text writes one address at most, and a printed address is read back.
-use Rattle.rpki_addr.proofs.Common.{Result, List, Ok, arith, lit<, refl, sym, ℕ, ◌<◌, ◌^◌, ◌∙◌, ◌≡◌, IsDotted-not_colon_hex, IsColonHex-ipv6_text, last_digit_below, last_digits_below, length-last_digits, number-last_digits, groups_of, octets_of, IsIpText, IsIpv4Text, IsIpv6Text, ip_text, ipv4_text, ipv6_text, IsAddress, ReadsIp, ReadsIpv4, ReadsIpv6, IpAddr}
+use Rattle.rpki_addr.proofs.Common.{Result, List, Ok, arith, lit<, refl, sym, ℕ, ◌<◌, ◌^◌, ◌∙◌, ◌≡◌, IsDotted-not_colon_hex, last_digits_below, length-last_digits, number-last_digits, groups_of, octets_of, IsIpText, IsIpv4Text, IsIpv6Text, ip_text, ipv4_text, ipv6_text, IsAddress, ReadsIp, ReadsIpv4, ReadsIpv6, IpAddr}
 use Rattle.std.specs.Prelude.{MatchResult}
 use Rattle.rpki_addr.specs.declared.addr.AddrParseError.{AddrParseError}
 use Rattle.rpki_addr.proofs.AddressFronts.{ipv4_reader, ipv6_reader, whole_one}
 use Rattle.rpki_text.proofs.ReadingLemmas.{Answers-from_found}
 use Rattle.rpki_addr.specs.declared.addr.AddrParseError.TheVariants.{Ipv4, Ipv6}
-use Rattle.rpki_addr.proofs.AddressLemmas.{IsIpv4Text-dotted, IsGroupsText-colon_hex, IsColonHex-groups}
+use Rattle.rpki_addr.proofs.AddressLemmas.{IsIpv4Text-dotted, IsGroupsText-colon_hex, IsColonHex-groups, printed_colon_hex}
 
 -- a text writes one IPv4 address at most, and one IPv6 address
 pub IsIpv4Text-one : (text : List ℕ) (m n : ℕ) → IsIpv4Text text m → IsIpv4Text text n → m ≡ n
@@ -32,10 +32,9 @@ IsIpv4Text-ipv4_text n small = record {
 }
 
 pub IsIpv6Text-ipv6_text : (n : ℕ) → n < 2 ^ 128 → IsIpv6Text (ipv6_text n) n
-unfolding ipv6_text
 IsIpv6Text-ipv6_text n small = record {
   groups = groups_of n;
-  written = IsColonHex-groups _ (groups_of n) (IsColonHex-ipv6_text (groups_of n) (length-last_digits 0x10000 (lit< tt) 8 n) (last_digit_below 0x10000 (lit< tt) 8 n));
+  written = IsColonHex-groups _ (groups_of n) (printed_colon_hex n);
   value = number-last_digits 0x10000 (lit< tt) 8 n small;
 }
 

@@ -55,25 +55,29 @@ number_two xs g h = ap from_groups (sym (append_assoc xs (g ∷ []) (h ∷ [])))
 unseen : (r : Read (List ℕ)) → None ≡ option_map with_octets r → None ≡ r
 unseen r e = grind (arith, none-some)
 
--- so an IPv4 text stands only where two groups have room
-pub ipv4_room : (b : Bool) (text : List ℕ) (n : ℕ) (rest : List ℕ)
-    → Some (n, rest) ≡ option_map with_octets (read_ipv4_if b text) → b ≡ true
-ipv4_room b text n rest e = let (o, read, value) = seen_some from_octets (read_ipv4_if b text) n rest e in (ipv4_if_some b text (o, rest) read).0
-
--- two groups more
-two_more : (bits i g h : ℕ) → bits < 0x10000 ^ i → g < 0x10000 → h < 0x10000
-    → (bits * 0x10000 + g) * 0x10000 + h < 0x10000 ^ (i + 2)
-two_more bits i g h small one two =
-    let place : i + 1 + 1 ≡ i + 2 = omega arith in
-    rw place at (next_below 0x10000 (lit< tt) (i + 1) (bits * 0x10000 + g) h (next_below 0x10000 (lit< tt) i bits g small one) two)
-
 -- one group more fits, and two
-pub one_fits : (bits i v : ℕ) → i < 8 → bits < 0x10000 ^ i → v < 0x10000 → bits * 0x10000 + v < 2 ^ 128
-one_fits bits i v within small value = omega (arith, below_power 0x10000 (lit< tt) i 8 bits v within small value)
+pub one_fits : (bits count n v : ℕ) → count ≤ n → n ≤ 8 → count ≢ n → bits < 0x10000 ^ count → v < 0x10000
+    → bits * 0x10000 + v < 2 ^ 128
+one_fits bits count n v within most room small value =
+    omega (arith, below_power 0x10000 (lit< tt) count 8 bits v (omega arith) small value)
 
-pub two_fit : (bits i g h : ℕ) → i + 1 < 8 → bits < 0x10000 ^ i → g < 0x10000 → h < 0x10000
-    → (bits * 0x10000 + g) * 0x10000 + h < 2 ^ 128
-two_fit bits i g h within small one two = one_fits (bits * 0x10000 + g) (i + 1) h within (next_below 0x10000 (lit< tt) i bits g small one) two
+two_more : (bits count low : ℕ) → bits < 0x10000 ^ count → low < 2 ^ 32
+    → bits * 0x100000000 + low < 0x10000 ^ (count + 2)
+two_more bits count low small value =
+    let place : count + 1 + 1 ≡ count + 2 = omega arith in
+    let one = next_below 0x10000 (lit< tt) count bits (low / 0x10000) small (omega (arith, value)) in
+    let two = next_below 0x10000 (lit< tt) (count + 1) _ (low % 0x10000) one (omega arith) in
+    omega (arith, rw place at two)
+
+pub two_fit : (bits count n low : ℕ) (text rest : List ℕ)
+    → Some (low, rest) ≡ option_map with_octets (read_ipv4_if (nat_lt (count + 1) n) text) → n ≤ 8
+    → bits < 0x10000 ^ count → low < 2 ^ 32 → bits * 0x100000000 + low < 2 ^ 128
+two_fit bits count n low text rest read most small value =
+    let (octets, is, _) = seen_some from_octets (read_ipv4_if (nat_lt (count + 1) n) text) low rest read in
+    let room = ltb-true _ _ (ipv4_if_some _ text (octets, rest) is).0 in
+    let few : count + 2 ≤ 8 = omega (arith, room, most) in
+    let power : 0x10000 ^ (count + 2) ≤ 0x10000 ^ 8 = pow-le-pow_right (lit≤ tt) few in
+    omega (arith, power, two_more bits count low small value)
 
 -- ---- how far a reader of groups has come
 
@@ -97,13 +101,13 @@ module _ (n : ℕ) (text : List ℕ) (groups : Groups) (unclosed : groups.closed
   unfolding found read_segments
   no_room full = let none : n - groups.count ≡ 0 = omega (arith, full) in all_read (rw none refl)
 
-  module _ (less : groups.count < n) where
+  module _ (room : groups.count ≢ n) where
     -- so many groups have room behind the next one
     abbrev left : ℕ
     left = n - (groups.count + 1)
 
     one_left : n - groups.count ≡ suc left
-    one_left = omega (arith, less)
+    one_left = omega (arith, so_far.within, room)
 
     two_left : nat_lt (groups.count + 1) n ≡ nat_lt 0 left
     two_left = grind (arith, nat_tests)
@@ -125,16 +129,15 @@ module _ (n : ℕ) (text : List ℕ) (groups : Groups) (unclosed : groups.closed
           let if_some = ipv4_if_some _ behind (octets, rest.now) read in
           let (spelled, split, dotted) = read_ipv4_sound behind octets rest.now if_some.1 in
           let two : segments_of octets ≡ (low / 0x10000) ∷ (low % 0x10000) ∷ [] = two_groups spelled octets low dotted value in
-          let joined : (groups.bits * 0x10000 + low / 0x10000) * 0x10000 + low % 0x10000 ≡ groups.bits * 0x100000000 + number = omega (arith, is) in
           let dots = subst (λ b. read_ipv4_if b behind ≡ Some (octets, rest.now)) two_left read in
           let here : found ≡ (segments_of octets, true, rest.now) = rw (one_left, ← colon, dots) refl in
           record {
             front = so_far.front ++ segments_of octets;
             read = opened ∙ ap (after so_far.front) here;
             count = length-append so_far.front (segments_of octets) ∙ ap₂ (λ a l. a + length l) so_far.count two;
-            value = ap (λ l. from_groups (so_far.front ++ l)) two ∙ number_two so_far.front (low / 0x10000) (low % 0x10000) ∙ ap (λ k. (k * 0x10000 + low / 0x10000) * 0x10000 + low % 0x10000) so_far.value ∙ joined;
-            small = subst (λ k. k < 0x10000 ^ (groups.count + 2)) joined (two_more groups.bits groups.count (low / 0x10000) (low % 0x10000) so_far.small (omega (arith, small)) (omega arith));
-            within = (let room = ltb-true _ _ if_some.0 in omega (arith, room));
+            value = rw (two, is) (omega (arith, number_two so_far.front (low / 0x10000) (low % 0x10000), so_far.value));
+            small = rw is (two_more groups.bits groups.count low so_far.small small);
+            within = omega (arith, ltb-true _ _ if_some.0);
           }
 
       module _ (no_ipv4 : None ≡ option_map with_octets (read_ipv4_if (nat_lt (groups.count + 1) n) behind)) where
@@ -163,20 +166,10 @@ module _ (n : ℕ) (text : List ℕ) (groups : Groups) (unclosed : groups.closed
               count = length-append so_far.front (group ∷ []) ∙ ap (λ k. k + 1) so_far.count;
               value = number_push 0x10000 so_far.front group ∙ ap (λ k. k * 0x10000 + group) so_far.value;
               small = next_below 0x10000 (lit< tt) groups.count groups.bits group so_far.small small;
-              within = omega (arith, less);
+              within = omega (arith, so_far.within, room);
             })
 
--- eight groups
-pub ipv6_full : (text : List ℕ) (a h : ℕ) (b : Bool) (s : List ℕ) → (a, h, b, s) ≡ numbered (read_segments 8 true text)
-    → h ≡ 8 → Some (a, s) ≡ option_map with_number (read_ipv6 text)
-unfolding read_ipv6
-ipv6_full text a h b s e eight = grind (arith, found)
-
--- fewer, with an IPv4 text at the end
-pub ipv6_short : (text : List ℕ) (a h : ℕ) (b : Bool) (s : List ℕ) → (a, h, b, s) ≡ numbered (read_segments 8 true text)
-    → h ≢ 8 → b ≡ true → None ≡ option_map with_number (read_ipv6 text)
-unfolding read_ipv6
-ipv6_short text a h b s e other ends = grind (arith, found)
+-- ---- what std's reader finds, by the groups at the front of a text
 
 -- what is behind two colons
 tail_none : (head text : List ℕ) → None ≡ option_and_then (read_byte 58) (read_byte 58 text)
@@ -192,19 +185,29 @@ tail_some : (head text two : List ℕ) → Some two ≡ option_and_then (read_by
     )
 tail_some head text two e = grind (arith, none-some)
 
--- fewer, with no two colons behind them
-pub ipv6_no_colons : (text : List ℕ) (a h : ℕ) (b : Bool) (s : List ℕ)
-    → (a, h, b, s) ≡ numbered (read_segments 8 true text) → h ≢ 8 → b ≡ false
-    → None ≡ option_and_then (read_byte 58) (read_byte 58 s) → None ≡ option_map with_number (read_ipv6 text)
-unfolding read_ipv6
-ipv6_no_colons text a h b s e other plain none = grind (arith, found, tail_none)
+module _ (text : List ℕ) (front : Groups) (read : parts front ≡ numbered (read_segments 8 true text)) where
+  -- eight groups
+  pub ipv6_full : front.count ≡ 8 → Some (front.bits, front.rest.now) ≡ option_map with_number (read_ipv6 text)
+  unfolding read_ipv6
+  ipv6_full eight = grind (arith)
 
--- and with some
-pub ipv6_colons : (text : List ℕ) (a h : ℕ) (b : Bool) (s two : List ℕ) (c t : ℕ) (d : Bool) (rest : List ℕ)
-    → (a, h, b, s) ≡ numbered (read_segments 8 true text) → h ≤ 8 → h ≢ 8 → b ≡ false
-    → Some two ≡ option_and_then (read_byte 58) (read_byte 58 s)
-    → (c, t, d, rest) ≡ numbered (read_segments (7 - h) true two) → t ≤ 7 - h
-    → Some (a * 0x10000 ^ (8 - h) + c, rest) ≡ option_map with_number (read_ipv6 text)
-unfolding read_ipv6
-ipv6_colons text a h b s two c t d rest e within other plain some e₁ room =
-    grind (arith, found, number_elided, tail_some)
+  -- fewer, with an IPv4 text at the end
+  pub ipv6_short : front.count ≢ 8 → front.closed ≡ true → None ≡ option_map with_number (read_ipv6 text)
+  unfolding read_ipv6
+  ipv6_short other ends = grind (arith)
+
+  -- fewer, with no two colons behind them
+  pub ipv6_no_colons : front.count ≢ 8 → front.closed ≡ false
+      → None ≡ option_and_then (read_byte 58) (read_byte 58 front.rest.now)
+      → None ≡ option_map with_number (read_ipv6 text)
+  unfolding read_ipv6
+  ipv6_no_colons other plain none = grind (arith, tail_none)
+
+  -- and with some
+  pub ipv6_colons : (two : List ℕ) (back : Groups) → front.count ≤ 8 → front.count ≢ 8 → front.closed ≡ false
+      → Some two ≡ option_and_then (read_byte 58) (read_byte 58 front.rest.now)
+      → parts back ≡ numbered (read_segments (7 - front.count) true two) → back.count ≤ 7 - front.count
+      → Some (front.bits * 0x10000 ^ (8 - front.count) + back.bits, back.rest.now)
+      ≡ option_map with_number (read_ipv6 text)
+  unfolding read_ipv6
+  ipv6_colons two back within other plain some behind room = grind (arith, number_elided, tail_some)

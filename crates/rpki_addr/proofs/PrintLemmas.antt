@@ -18,11 +18,6 @@ pub dotted_at_end : (t₀ : List ℕ) {t₁ t₂ t₃ t₄ t₅ t₆ t₇ : List
     → t₇ ≡ t₆ ++ decimal d → t₇ ≡ t₀ ++ dotted (a ∷ b ∷ c ∷ d ∷ [])
 dotted_at_end t₀ a b c d e₁ e₂ e₃ e₄ e₅ e₆ e₇ = rw (e₇, e₆, e₅, e₄, e₃, e₂, e₁, ← dotted_is a b c d) (simp append_assoc)
 
--- groups, two colons, and groups
-pub shortened_at_end : (t₀ : List ℕ) {t₁ t₂ t₃ t₄ : List ℕ} (front back : List ℕ) → t₁ ≡ t₀ ++ front
-    → t₂ ≡ t₁ ++ 58 ∷ [] → t₃ ≡ t₂ ++ 58 ∷ [] → t₄ ≡ t₃ ++ back → t₄ ≡ t₀ ++ (front ++ codes "::" ++ back)
-shortened_at_end t₀ front back e₁ e₂ e₃ e₄ = rw (e₄, e₃, e₂, e₁) (simp append_assoc)
-
 -- the text of groups, by the length of their longest run of zeros
 pub hex_groups_plain : (groups : List ℕ) → (longest_zero_run groups).1 < 2 → hex_groups_text groups ≡ groups_text groups
 unfolding hex_groups_text

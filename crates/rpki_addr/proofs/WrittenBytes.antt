@@ -8,7 +8,7 @@ abbrev pub IsWrittenByte : ℕ → Type 0
 IsWrittenByte b = (b ≡ 46) ⊎ IsInRange 48 102 b
 
 -- octets with dots between them
-dotted_written : (text octets : List ℕ) → IsDotted text octets → All IsDigitOrDot text
+pub dotted_written : (text octets : List ℕ) → IsDotted text octets → All IsDigitOrDot text
 dotted_written text octets h =
     let fit = each_below 256 (lit< tt) (h.a ∷ h.b ∷ h.c ∷ h.d ∷ []) (h.fit.0, (h.fit.1, (h.fit.2, (h.fit.3, tt)))) in
     subst (All IsDigitOrDot) (sym h.spelled) (All-ipv4_text (h.a ∷ h.b ∷ h.c ∷ h.d ∷ []) fit)
@@ -27,7 +27,7 @@ pub ipv4_some : (text : List ℕ) (n : ℕ) → IsIpv4Text text n → 0 < length
 ipv4_some text n h = dotted_some text h.octets (IsIpv4Text-dotted text n h)
 
 -- these are among those of IPv6
-wider : (b : ℕ) → IsDigitOrDot b → IsWrittenByte b
+pub wider : (b : ℕ) → IsDigitOrDot b → IsWrittenByte b
 wider b (inl h) = inr (h.0, omega (arith, h.1))
 wider b (inr h) = inl h
 
@@ -55,7 +55,7 @@ groups_written b lead text (s ∷ segments) before (inl (group, rest, is, digits
 groups_written b lead text (s ∷ segments) before (inr (last, octets, here, is, dots, value)) =
     subst (All IsWrittenByte) (sym is) (All-append IsWrittenByte lead last before (All-weaker IsDigitOrDot IsWrittenByte wider last (dotted_written last octets dots)))
 
-colon_hex_written : (text segments : List ℕ) → IsColonHex text segments → All IsWrittenByte text
+pub colon_hex_written : (text segments : List ℕ) → IsColonHex text segments → All IsWrittenByte text
 colon_hex_written text segments (inl h) = groups_written true [] text segments (All-nil IsWrittenByte) h.0
 colon_hex_written text segments (inr h) =
     let front = All-append IsWrittenByte h.head_text (codes "::") (groups_written false [] h.head_text h.head (All-nil IsWrittenByte) h.head_groups) colons_written in

@@ -47,6 +47,7 @@ fn put_all(out: &mut [u8], at: usize, bytes: &[u8]) -> usize
 }
 
 /// Puts an octet in decimal.
+#[tactic(auto, using(crate::proofs::PrintLemmas::decimal_two, crate::proofs::PrintLemmas::decimal_three, std::proofs::lemmas::Fmt::decimal_digit, std::proofs::lemmas::Grind::common_steps))]
 pub fn put_octet(out: &mut [u8], at: usize, octet: u8) -> usize
     requires { at + 3 ≤ length out.old }
     ensures text { take result out.new ≡ take at out.old ++ decimal octet }
@@ -95,6 +96,7 @@ fn hex_digit(value: u16) -> u8
 }
 
 /// Puts a group in hexadecimal without leading zeros (RFC 5952, 4.1).
+#[tactic(auto, unfolding(std::specs::Net::Text::hex))]
 fn put_group(out: &mut [u8], at: usize, group: u16) -> usize
     requires { at + 4 ≤ length out.old }
     ensures text { take result out.new ≡ take at out.old ++ hex group }
@@ -175,6 +177,7 @@ fn longest_run(groups: &[u16]) -> ZeroRun
 }
 
 /// Puts groups, the longest run of two or more zeros as two colons (RFC 5952, 4.2).
+#[tactic(auto, using(crate::proofs::PrintLemmas::hex_groups_plain, crate::proofs::PrintLemmas::hex_groups_shortened, std::proofs::lemmas::Grind::common_steps))]
 fn put_shortened(out: &mut [u8], at: usize, groups: &[u16]) -> usize
     requires { at + 5 * length groups.now ≤ length out.old }
     ensures text { take result out.new ≡ take at out.old ++ hex_groups_text groups.now }
@@ -201,6 +204,7 @@ fn put_mapped(out: &mut [u8], at: usize, low: Ipv4Addr) -> usize
 }
 
 /// Puts the IPv6 address of these bits. An IPv4-mapped one ends in its IPv4 address (RFC 5952, 5).
+#[tactic(auto, using(crate::proofs::PrintedAddressLemmas::mapped_is, crate::proofs::PrintedAddressLemmas::unmapped_is, std::proofs::lemmas::Grind::common_steps))]
 pub(crate) fn put_ipv6(out: &mut [u8], at: usize, bits: u128) -> usize
     requires { at + 40 ≤ length out.old }
     ensures text { take result out.new ≡ take at out.old ++ ipv6_text bits }

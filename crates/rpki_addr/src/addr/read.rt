@@ -102,6 +102,7 @@ fn is_dot(text: &[u8], at: usize) -> bool
 /// Takes an IPv4 text where it may stand for two groups, so there must be room for both. A dot follows the group that
 /// such a text begins with.
 #[inline(always)]
+#[tactic(auto, using(crate::proofs::AddressReading::no_last_two))]
 fn take_last_two<'a>(text: &'a [u8], behind_group: &[u8], has_room: bool) -> Option<(u32, &'a [u8])>
     requires { (group : ℕ) × (Reader.read_segment text.now ≡ Some (group, behind_group.now)) }
     ensures { Reader.read_view (λ n. n) result

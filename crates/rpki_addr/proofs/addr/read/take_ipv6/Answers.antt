@@ -4,13 +4,20 @@ use Rattle.rpki_addr.proofs.GroupReading.{ipv6_full, ipv6_short, ipv6_no_colons,
 use Rattle.rpki_addr.proofs.addr.read.take_ipv6.Goals as goal
 
 pub returns-then-front-eq8 : goal.returns-then-front-eq8
-returns-then-front-eq8 c = ipv6_full c.args.text.now _ _ _ _ c.take_groups-front.ensures.value c.if-front-eq8.true
+returns-then-front-eq8 c =
+    let front = c.take_groups-front in
+    ipv6_full c.args.text.now front.result front.ensures.value c.if-front-eq8.true
 
 pub returns-then-front : goal.returns-then-front
-returns-then-front c = ipv6_short c.args.text.now _ _ _ _ c.take_groups-front.ensures.value c.if-front-eq8.false c.if-front.true
+returns-then-front c =
+    let front = c.take_groups-front in
+    ipv6_short c.args.text.now front.result front.ensures.value c.if-front-eq8.false c.if-front.true
 
 pub returns-in_default : goal.returns-in_default
-returns-in_default c = ipv6_no_colons c.args.text.now _ _ _ _ c.take_groups-front.ensures.value c.if-front-eq8.false c.if-front.false c.in_default.ensures
+returns-in_default c =
+    let front = c.take_groups-front in
+    ipv6_no_colons c.args.text.now front.result front.ensures.value c.if-front-eq8.false c.if-front.false
+    c.in_default.ensures
 
 pub with_zeros-requires : goal.with_zeros-requires
 with_zeros-requires c =
@@ -27,4 +34,6 @@ overflow_add-bits c =
 pub returns : goal.returns
 returns c =
     let front = c.take_groups-front in
-    rw c.with_zeros.ensures (ipv6_colons c.args.text.now _ _ _ _ _ _ _ _ _ front.ensures.value front.ensures.within c.if-front-eq8.false c.if-front.false c.in-Some.ensures c.take_groups-back.ensures.value c.take_groups-back.ensures.within)
+    let back = c.take_groups-back in
+    rw c.with_zeros.ensures (ipv6_colons c.args.text.now front.result front.ensures.value _ back.result
+    front.ensures.within c.if-front-eq8.false c.if-front.false c.in-Some.ensures back.ensures.value back.ensures.within)

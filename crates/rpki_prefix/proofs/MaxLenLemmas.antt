@@ -1,11 +1,9 @@
 -- A text writes one prefix with a greatest length or without, or has one fault; and what is printed writes what it was
 -- printed of.
-use Rattle.rpki_prefix.proofs.Common.{All, List, MatchResult, None, Option, Result, Some, [], ap, append-nil, arith, decimal, inl, inr, refl, subst, sym, ℕ, ◌++◌, ◌-◌, ◌^◌, ◌∷◌, ◌≡◌, ◌≢◌, IsAddressByte, ip_bytes, not_dash, around_at, none_around, IsNumberText-decimal, IsNumberText-one, Answers-from_found, Around, HasNo, dash, slash, HasNumberFault, IsNumberText, ArePrefixAndMax, HasMaxLen, HasMaxLenError, HasMaxLenTextFault, IsMaxLenOf, IsMaxLenText, IsMaxLenTextOf, MaxLenValue, ReadsMaxLen, max_text, HasPrefixTextFault, IsPrefixText, prefix_text, FamilyPrefix, IsFamilyPrefix, ParsePrefixError}
-use Rattle.std.specs.List.{AllByRecursion}
-use Rattle.std.specs.Str.Parse.{AllDigits}
+use Rattle.rpki_prefix.proofs.Common.{List, MatchResult, None, Option, Result, Some, ap, append-nil, arith, decimal, inl, inr, refl, subst, sym, ℕ, ◌++◌, ◌-◌, ◌^◌, ◌∷◌, ◌≡◌, ◌≢◌, IsAddressByte, ip_bytes, not_dash, around_at, none_around, IsNumberText-decimal, IsNumberText-one, Answers-from_found, Around, HasNo, dash, slash, HasNumberFault, IsNumberText, ArePrefixAndMax, HasMaxLen, HasMaxLenError, HasMaxLenTextFault, IsMaxLenOf, IsMaxLenText, IsMaxLenTextOf, MaxLenValue, ReadsMaxLen, max_text, HasPrefixTextFault, IsPrefixText, prefix_text, FamilyPrefix, IsFamilyPrefix, ParsePrefixError}
 use Rattle.std.proofs.lemmas.Fmt.{decimal_is_IsNumeral}
-use Rattle.std.proofs.lemmas.List.Elements.{All-append, All-cons, All-from_recursion, All-weaker}
-use Rattle.std.proofs.lemmas.Str.Parse.{digit_from_value}
+use Rattle.std.proofs.lemmas.List.Elements.{All-append, All-cons, All-from_get_or, All-weaker}
+use Rattle.std.proofs.lemmas.Str.Parse.{digit_at}
 use Rattle.rpki_text.specs.Cuts.{IsCutAt}
 use Rattle.rpki_addr.specs.PrintedAddress.{ip_text}
 use Rattle.rpki_prefix.specs.declared.error.MaxLenError.{MaxLenError}
@@ -98,17 +96,14 @@ fault_one text (InvalidMaxLenValue f) (InvalidMaxLenValue g) (p, m, both, fault)
     ap InvalidMaxLenValue (max_error_one q n f g (both_carry text (λ r k. HasMaxLenError r (Some k) f) p q m n both others fault) other)
 
 -- a printed prefix has no dash
-no_dash_digits : (ds : List ℕ) → AllDigits 10 ds → AllByRecursion (λ b. b ≢ dash) ds
-no_dash_digits [] h = tt
-no_dash_digits (c ∷ cs) h = let range = digit_from_value c h.0 in ((λ e. let low = range.0 in omega (arith, e, low)), no_dash_digits cs h.1)
-
--- nor has the prefix with its length
 prefix_no_dash : (p : FamilyPrefix) → IsFamilyPrefix p → HasNo dash (prefix_text p)
 prefix_no_dash p h =
     let numeral = decimal_is_IsNumeral p.len (omega (arith, h.short, few_bits p.addr)) in
-    let digits : All (λ b. b ≢ dash) (decimal p.len) = All-from_recursion _ (decimal p.len) (no_dash_digits (decimal p.len) numeral.0.1) in
-    let all = All-append (λ b. b ≢ dash) (ip_text p.addr) (slash ∷ decimal p.len) (All-weaker IsAddressByte _ not_dash (ip_text p.addr) (ip_bytes p.addr)) (All-cons (λ b. b ≢ dash) slash (decimal p.len) (λ e. omega (arith, e)) digits) in
-    λ k l. all k 0 l
+    let digits = All-from_get_or (λ b. b ≢ dash) (decimal p.len) 0
+    (λ i l e. omega (arith, digit_at (decimal p.len) i numeral.0.1 l, e)) in
+    let addr = All-weaker IsAddressByte (λ b. b ≢ dash) not_dash (ip_text p.addr) (ip_bytes p.addr) in
+    let len = All-cons (λ b. b ≢ dash) slash (decimal p.len) (λ e. omega (arith, e)) digits in
+    λ k l. All-append (λ b. b ≢ dash) (ip_text p.addr) (slash ∷ decimal p.len) addr len k 0 l
 
 -- what is printed of a value writes it
 written : (p : FamilyPrefix) (m : Option ℕ) → IsFamilyPrefix p → IsMaxLenOf p m

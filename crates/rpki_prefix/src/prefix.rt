@@ -65,6 +65,7 @@ fn clear_host(addr: &IpAddr, len: u8) -> IpAddr
 }
 
 /// The address with the bits after the first `len` set.
+#[tactic(auto, using(crate::proofs::HostBits::filled_by))]
 fn set_host(addr: &IpAddr, len: u8) -> IpAddr
     requires { len ≤ width addr.now }
     ensures { result ≡ filled_addr addr.now len }

@@ -1,39 +1,33 @@
 -- How many prefixes a cover list of a range has.
-use Rattle.rpki_cover.proofs.Common.{ap, arith, le-leb, ◌∙◌, inl, inr, length, suc, zero, ℕ, ◌%◌, ◌*◌, ◌+◌, ◌/◌, ◌<◌, ◌^◌, ◌≡◌, ◌≤◌, ◌⊎◌, pow-le-pow_right, two-pow-succ, cases_Bool, cases_eq, cases_lt, lt-leb, cover_list, cover_list_upto, free_bits_upto}
+use Rattle.rpki_cover.proofs.Common.{ap, arith, le-leb, inl, inr, length, suc, zero, ℕ, ◌%◌, ◌*◌, ◌+◌, ◌/◌, ◌<◌, ◌^◌, ◌≡◌, ◌≤◌, ◌⊎◌, pow_mono, two-pow-succ, cases_Bool, cases_eq, cases_lt, lt-leb, cover_list, cover_list_upto, free_bits_upto}
 use Rattle.rpki_cover.proofs.Multiples.{IsMultiple, multiple_gap, multiple_zero, multiple_self, multiple_sum, multiple_smaller}
 use Rattle.rpki_cover.proofs.Greatest.{IsGreatest, free_bits_upto_is}
 
 -- of two neighbouring multiples of a power of 2, one is a multiple of the next power
 multiple_double : (j a : ℕ) → IsMultiple (2 ^ j) a → IsMultiple (2 ^ suc j) a ⊎ IsMultiple (2 ^ suc j) (a + 2 ^ j)
 multiple_double j a m = rw (two-pow-succ j) (elim (cases_eq (m.times % 2) 0) [
-  | inl z ↦
-      let t : m.times ≡ m.times / 2 * 2 = omega (arith, z) in
-      inl (record { times = m.times / 2; is = m.is ∙ ap (λ x. x * 2 ^ j) t ∙ omega arith })
-  | inr o ↦
-      let t : m.times ≡ m.times / 2 * 2 + 1 = omega (arith, o) in
-      inr (record { times = m.times / 2 + 1; is = ap (λ x. x + 2 ^ j) (m.is ∙ ap (λ x. x * 2 ^ j) t) ∙ omega arith })
+  | inl even ↦
+      let half : m.times ≡ m.times / 2 * 2 = omega (arith, even) in
+      inl (record { times = m.times / 2; is = omega (arith, m.is, ap (λ x. x * 2 ^ j) half) })
+  | inr odd ↦
+      let half : m.times ≡ m.times / 2 * 2 + 1 = omega (arith, odd) in
+      inr (record { times = m.times / 2 + 1; is = omega (arith, m.is, ap (λ x. x * 2 ^ j) half) })
 ])
 
+-- twice the greatest block doesn't fit where a greater one would be aligned
+not_twice : {w a b j : ℕ} → IsGreatest w a b j → (k : ℕ) → j < k → k ≤ w → IsMultiple (2 ^ k) a
+    → b + 1 < a + 2 ^ j + 2 ^ j
+not_twice {w} {a} {b} {j} g k small within m =
+    let aligned = multiple_smaller (suc j) k a small m in
+    omega (arith, two-pow-succ j, g.greatest (suc j) (omega arith) (omega arith) aligned)
+
 pow_le : (i j : ℕ) → i ≤ j → 2 ^ i ≤ 2 ^ j
-pow_le i j h = pow-le-pow_right {n = 2} (omega arith) h
-
--- a block greater than the greatest doesn't fit where it is aligned
-no_fit : (w a b j k : ℕ) → IsGreatest w a b j → j < k → k ≤ w → IsMultiple (2 ^ k) a → b + 1 < a + 2 ^ k
-no_fit w a b j k g small within m = elim (cases_lt (b + 1) (a + 2 ^ k)) [
-  | inl x ↦ x
-  | inr x ↦ absurd (let y = g.greatest k within (record { aligned = m; within = x }) in omega arith)
-]
-
--- nor does twice the greatest
-not_twice : (w a b j k : ℕ) → IsGreatest w a b j → j < k → k ≤ w → IsMultiple (2 ^ k) a → b + 1 < a + 2 ^ j + 2 ^ j
-not_twice w a b j k g small within m =
-    omega (arith, two-pow-succ j, no_fit w a b j (suc j) g (omega arith) (omega arith) (multiple_smaller (suc j) k a (omega arith) m))
+pow_le i j h = pow_mono h
 
 -- a block that doesn't begin at 0, and behind which there are numbers of w bits, has at most a quarter of all
 bits_below : (w a j : ℕ) → 0 < a → IsMultiple (2 ^ j) a → a + 2 ^ j < 2 ^ w → suc j < w
 bits_below w a j pos m below =
-    let h = multiple_gap (2 ^ j) 0 a (multiple_zero (2 ^ j)) m pos in
-    elim (cases_lt (suc j) w) [ inl x ↦ x | inr x ↦ absurd (let y = pow_le w (suc j) x in omega (arith, two-pow-succ j)) ]
+    grind (arith, multiple_gap (2 ^ j) 0 a (multiple_zero _) m pos, cases_lt (suc j) w, pow_le w (suc j), two-pow-succ)
 
 -- no prefixes are in no numbers
 cover_list_none : (n w a b : ℕ) → b < a → length (cover_list_upto n w a b) ≡ 0
@@ -45,7 +39,7 @@ cover_list_step : (n w a b : ℕ) → a ≤ b
     × (length (cover_list_upto (suc n) w a b) ≡ suc (length (cover_list_upto n w (a + 2 ^ j) b)))
 cover_list_step n w a b l =
     let g = free_bits_upto_is w a b l in
-    (free_bits_upto w a b, g, multiple_sum _ a _ g.fits.aligned (multiple_self _), rw (le-leb a b l))
+    (free_bits_upto w a b, g, multiple_sum _ a _ g.aligned (multiple_self _), rw (le-leb a b l))
 
 -- where less than 2 ^ k numbers are left from a multiple of 2 ^ k on, at most k prefixes are
 cover_list_down : (n w a b k : ℕ) → k ≤ w → IsMultiple (2 ^ k) a → b + 1 < a + 2 ^ k
@@ -56,8 +50,8 @@ cover_list_down (suc n) w a b k kw m h = elim (cases_lt b a) [
   | inr l ↦
       let (j, g, next, long) = cover_list_step n w a b l in
       elim (cases_lt j k) [
-        | inl small ↦ omega (arith, long, cover_list_down n w (a + 2 ^ j) b j g.upto next (not_twice w a b j k g small kw m))
-        | inr large ↦ absurd (omega (arith, g.fits.within, pow_le k j large))
+        | inl small ↦ omega (arith, long, cover_list_down n w (a + 2 ^ j) b j g.upto next (not_twice g k small kw m))
+        | inr large ↦ absurd (omega (arith, g.within, pow_mono large))
       ]
 ]
 
@@ -72,13 +66,13 @@ cover_list_up (suc n) w a b k two kw pos below m = elim (cases_lt b a) [
       elim (cases_lt b (a + 2 ^ j)) [
         | inl none ↦ omega (arith, long, cover_list_none n w (a + 2 ^ j) b none)
         | inr more ↦
-            let high = bits_below w a j pos g.fits.aligned (omega arith) in
+            let high = bits_below w a j pos g.aligned (omega arith) in
+            let within : k ≤ w = omega arith in
             elim (cases_lt j k) [
-              | inl small ↦
-                  omega (arith, cover_list_down (suc n) w a b k (omega arith) m (no_fit w a b j k g small (omega arith) m))
-              | inr s ↦ elim (multiple_double j a g.fits.aligned) [
+              | inl small ↦ omega (arith, cover_list_down (suc n) w a b k within m (g.greatest k small within m))
+              | inr large ↦ elim (multiple_double j a g.aligned) [
                 | inl d ↦
-                    let short = not_twice w a b j (suc j) g (omega arith) (omega arith) d in
+                    let short = not_twice g (suc j) (omega arith) (omega arith) d in
                     omega (arith, long, cover_list_down n w (a + 2 ^ j) b j g.upto next short)
                 | inr d ↦ omega (arith, long, cover_list_up n w (a + 2 ^ j) b (suc j) two high (omega arith) below d)
               ]
@@ -89,4 +83,17 @@ cover_list_up (suc n) w a b k two kw pos below m = elim (cases_lt b a) [
 -- a cover list of a range has at most 2 (w - 1) prefixes: 254 at width 128, and 62 at width 32
 pub cover_list_few : (w a b : ℕ) → 2 ≤ w → b < 2 ^ w → length (cover_list w a b) + 2 ≤ 2 * w
 unfolding cover_list
-cover_list_few w a b two below = grind (arith, cases_Bool, cases_lt, cover_list_down, cover_list_none, cover_list_up, free_bits_upto_is, multiple_zero, pow_le)
+cover_list_few w a b two below =
+    let whole = λ (order : a ≤ b). (free_bits_upto_is w a b order).greatest w in
+    grind (
+      arith,
+      cases_Bool,
+      cases_lt,
+      cover_list_down,
+      cover_list_none,
+      cover_list_up,
+      free_bits_upto_is,
+      multiple_zero,
+      pow_le,
+      whole,
+    )

@@ -1,5 +1,5 @@
 -- Multiples, and the greatest power of 2 of which a number is one.
-use Rattle.rpki_cover.proofs.Common.{ap, arith, inl, inr, refl, suc, sym, zero, ℕ, ◌%◌, ◌*◌, ◌+◌, ◌-◌, ◌/◌, ◌<◌, ◌^◌, ◌∙◌, ◌≡◌, ◌≤◌, mul-le-mul_right, mul-sub, two-pow-succ, cases_lt, div-mul-add, mod-mul-add, pow-add, shr_split, count_trailing_zeros}
+use Rattle.rpki_cover.proofs.Common.{ap, arith, inl, inr, refl, suc, zero, ℕ, ◌%◌, ◌*◌, ◌+◌, ◌-◌, ◌/◌, ◌<◌, ◌^◌, ◌≡◌, ◌≤◌, div-add-mod', mul-le-mul_right, mul-mod_left, mul-sub, two-pow-succ, cases_lt, pow-add, shr_split, count_trailing_zeros}
 use lib.Count.{under}
 
 -- a is a multiple of s
@@ -37,13 +37,13 @@ multiple_least s a m = omega (arith, multiple_gap s 0 (a + 1) (multiple_zero s) 
 -- a multiple of a power of 2 is one of each smaller power
 pub multiple_smaller : (j k a : ℕ) → j ≤ k → IsMultiple (2 ^ k) a → IsMultiple (2 ^ j) a
 multiple_smaller j k a h m =
-    let split : k ≡ k - j + j = omega arith in
-    let power = ap (λ i. m.times * 2 ^ i) split ∙ ap (λ x. m.times * x) (pow-add 2 (k - j) j) in
-    record { times = m.times * 2 ^ (k - j); is = m.is ∙ power ∙ omega arith }
+    let split : k - j + j ≡ k = omega arith in
+    let power : 2 ^ k ≡ 2 ^ (k - j) * 2 ^ j = rw split at (pow-add 2 (k - j) j) in
+    record { times = m.times * 2 ^ (k - j); is = omega (arith, m.is, ap (λ x. m.times * x) power) }
 
 -- nothing is left of one behind the division
 pub multiple_mod : (s a : ℕ) → 0 < s → IsMultiple s a → a % s ≡ 0
-multiple_mod s a pos m = let e : a ≡ m.times * s + 0 = m.is ∙ omega arith in ap (λ x. x % s) e ∙ mod-mul-add m.times s 0 pos
+multiple_mod s a pos m = rw m.is (mul-mod_left m.times s)
 
 -- where nothing is left, it is one
 pub mod_multiple : (j a : ℕ) → a % 2 ^ j ≡ 0 → IsMultiple (2 ^ j) a
@@ -51,24 +51,7 @@ mod_multiple j a z = let e : a / 2 ^ j * 2 ^ j + a % 2 ^ j ≡ a = shr_split a j
 
 -- divided and multiplied again it is itself
 pub multiple_div : (s a : ℕ) → 0 < s → IsMultiple s a → a / s * s ≡ a
-multiple_div s a pos m = let e : a ≡ m.times * s + 0 = m.is ∙ omega arith in ap (λ x. x / s * s) e ∙ ap (λ x. x * s) (div-mul-add m.times s 0 pos) ∙ sym m.is
-
--- ---- blocks of 2 ^ k numbers from a multiple of 2 ^ k on
-
--- of two blocks that share a number, the smaller lies in the larger
-pub record Nested (a s b t : ℕ) : Type 0 where
-  pub from : a ≤ b
-  pub upto : b + t ≤ a + s
-
-pub nested : (j k a b : ℕ) → j ≤ k → IsMultiple (2 ^ k) a → IsMultiple (2 ^ j) b → b < a + 2 ^ k → a < b + 2 ^ j
-    → Nested a (2 ^ k) b (2 ^ j)
-nested j k a b h m n p q =
-    let m' : IsMultiple (2 ^ j) a = multiple_smaller j k a h m in
-    let e : IsMultiple (2 ^ j) (a + 2 ^ k) = multiple_smaller j k (a + 2 ^ k) h (multiple_sum (2 ^ k) a (2 ^ k) m (multiple_self (2 ^ k))) in
-    record {
-      from = elim (cases_lt b a) [ inl l ↦ (let g : b + 2 ^ j ≤ a = multiple_gap (2 ^ j) b a n m' l in absurd (omega arith)) | inr g ↦ g ];
-      upto = multiple_gap (2 ^ j) b (a + 2 ^ k) n e p;
-    }
+multiple_div s a pos m = omega (arith, div-add-mod' a s, multiple_mod s a pos m)
 
 -- ---- zeros at the end of a number
 
@@ -87,12 +70,9 @@ zeros_divide (suc w) n = under_divides n (count_trailing_zeros w (n / 2)) (n % 2
 under_greatest : (n t d j : ℕ) → n % 2 ≡ d → ((i : ℕ) → suc i ≡ j → IsMultiple (2 ^ i) (n / 2) → i ≤ t)
     → IsMultiple (2 ^ j) n → j ≤ under d t
 under_greatest n t d zero z f m = omega arith
-under_greatest n t d (suc i) z f m =
-    let double : n ≡ m.times * 2 ^ i * 2 = m.is ∙ rw (two-pow-succ i) (omega arith) in
-    elim d as (λ d. n % 2 ≡ d → suc i ≤ under d t) [
-      | zero ↦ λ even. (let k = f i refl (record { times = m.times; is = omega (arith, double) }) in omega arith)
-      | suc d ↦ λ odd. absurd (omega (arith, double))
-    ] z
+under_greatest n t zero (suc i) even f m =
+    let half = f i refl (record { times = m.times; is = omega (arith, rw two-pow-succ at m.is) }) in omega arith
+under_greatest n t (suc d) (suc i) odd f m = absurd (omega (arith, rw two-pow-succ at m.is))
 
 -- and of no greater power of 2 up to 2 ^ w
 pub zeros_greatest : (w n j : ℕ) → j ≤ w → IsMultiple (2 ^ j) n → j ≤ count_trailing_zeros w n

@@ -113,6 +113,7 @@ impl Iterator for Cover {
 
 /// How many bits aren't fixed in the greatest prefix that begins with `first` and ends with `last` or before: at most
 /// as many as `first` ends with zeros, and as the binary logarithm of how many numbers there are.
+#[tactic(auto, using(crate::proofs::FreeBits::greatest_by))]
 fn free_bits(width: u8, first: u128, last: u128) -> u8
     requires width { width ≤ 128 }
     requires order { first ≤ last }

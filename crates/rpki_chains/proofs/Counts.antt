@@ -1,6 +1,11 @@
 -- How often the blocks of a chain were read: once each by a walk, and by a search that halves once for each binary
 -- digit.
-use Rattle.rpki_chains.proofs.Imports.{List, Option, add-one, ap, arith, if◌then◌else◌, is_some, le_refl, length, ℕ, ◌*◌, ◌+◌, ◌-◌, ◌<◌, ◌^◌, ◌≡◌, ◌≤◌, mul-le, mul-le-mul_right, pow-le-pow_right, two-pow-succ, cases_lt, HoldsBlock}
+use Rattle.rpki_chains.proofs.Imports.{List, Option, add-one, ap, arith, if◌then◌else◌, is_some, le_refl, length, ℕ, ◌*◌, ◌+◌, ◌-◌, ◌<◌, ◌^◌, ◌∙◌, ◌≡◌, ◌≤◌, mul-le, mul-le-mul_right, pow-le-pow_right, two-pow-succ, cases_lt, HoldsBlock}
+
+-- a reader of `xs` is at i: its blocks are still these, and those behind i are left to be read
+pub record IsReader {B : Type 0} (xs now : List B) (i count most : ℕ) : Type 0 where
+  pub kept : now ≡ xs
+  pub reads : count + (length xs - (i + 1)) ≤ most
 
 module _ {B I : Type 0} (f : B → ℕ × ℕ) (number : I → ℕ) (last : ℕ) where
   -- the blocks behind the first weren't read
@@ -13,6 +18,17 @@ module _ {B I : Type 0} (f : B → ℕ × ℕ) (number : I → ℕ) (last : ℕ)
       → HoldsBlock f number last xs (at + 1) block → new ≡ count + (if is_some block then 1 else 0)
       → new + (length xs - (at + 1 + 1)) ≤ count + (length xs - (at + 1))
   read_next xs at block count new end is = grind (arith)
+
+  -- it has read the next block
+  pub reader_next : (xs now new : List B) (i : ℕ) (block : Option (I × I)) (count more most : ℕ)
+      → IsReader xs now i count most → HoldsBlock f number last now (i + 1) block → new ≡ now
+      → more ≡ count + (if is_some block then 1 else 0)
+      → IsReader xs new (i + 1) more most × HoldsBlock f number last xs (i + 1) block
+  reader_next xs now new i block count more most reader at kept is =
+      let here : HoldsBlock f number last xs (i + 1) block = rw reader.kept at at in
+      let less = read_next xs i block count more here is in
+      let before = reader.reads in
+      (record { kept = kept ∙ reader.kept; reads = omega arith }, here)
 
 -- each read halved what is searched, and so took one digit off
 abbrev pub Halved : ℕ → ℕ → ℕ → ℕ → Type 0

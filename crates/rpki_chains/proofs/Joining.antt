@@ -1,5 +1,5 @@
 -- A run behind a chain is made longer, or closed: then it is the last block of the chain.
-use Rattle.rpki_chains.proofs.Imports.{List, [], ap, arith, get_or, inl, inr, length, subst, sym, take, ℕ, ⊎_elim, ◌++◌, ◌+◌, ◌<◌, ◌↔◌, ◌∙◌, ◌∷◌, ◌≡◌, ◌≤◌, ◌⊎◌, take_more, All-push, IsBehind, IsHeld, Covers, IsChain, IsNew, IsWithin}
+use Rattle.rpki_chains.proofs.Imports.{List, [], ap, arith, get_or, inl, inr, length, subst, sym, take, ℕ, ⊎_elim, ◌++◌, ◌+◌, ◌<◌, ◌↔◌, ◌∙◌, ◌∷◌, ◌≡◌, ◌≤◌, ◌⊎◌, get_or_default, take_more, le_refl, All-push, IsNonDecreasingBy, IsBehind, IsHeld, Covers, IsChain, IsNew, IsWithin, numbers}
 use Rattle.rpki_chains.proofs.Chains.{IsChain-nil, IsChain-push, Covers-nil, Covers-push, Covers-push_as}
 
 -- a loop's step: what is held grows by the element at i
@@ -18,23 +18,80 @@ module _ {B : Type 0} (f : B → ℕ × ℕ) (form : ℕ × ℕ → B) (last : �
   pub first_run : (run : ℕ × ℕ) → run.0 ≤ run.1 → run.1 ≤ last → IsBehind f form last [] run
   first_run run ordered to = record { chain = IsChain-nil f form; ordered = ordered; to_last = to; apart = λ k d lt. absurd (omega arith) }
 
-  -- and they are what is held
-  pub first_held : {C : Type 0} (g : C → ℕ × ℕ) (zs : List C) (z : C) (run : ℕ × ℕ) → 0 < length zs → z ≡ get_or zs 0 z
-      → g z ≡ run → (n : ℕ) → IsHeld f [] run n ↔ Covers g (take 1 zs) n
-  first_held g zs z run lt is same n = grind (arith, Covers-nil, taken_more)
+  -- the blocks before `at` are joined: they are held, and where blocks ascend those to come begin no earlier than the
+  -- run
+  pub record Joined (zs : List B) (at : ℕ) (xs : List B) (run : ℕ × ℕ) : Type 0 where
+    pub at_hand : IsBehind f form last xs run
+    pub held : (n : ℕ) → IsHeld f xs run n ↔ Covers f (take at zs) n
+    pub behind : IsNonDecreasingBy (λ b. (f b).0) zs → (k : ℕ) (d : B) → at ≤ k → k < length zs
+        → run.0 ≤ (f (get_or zs k d)).0
+
+  -- the blocks behind one that ascend begin no earlier
+  none_earlier : (zs : List B) (at low : ℕ) (z : B) → at < length zs → z ≡ get_or zs at z → low ≤ (f z).0
+      → IsNonDecreasingBy (λ b. (f b).0) zs → (k : ℕ) (d : B) → at + 1 ≤ k → k < length zs → low ≤ (f (get_or zs k d)).0
+  none_earlier zs at low z lt is le ascends k d above within =
+      let begins : (f (get_or zs at d)).0 ≡ (f z).0 = ap (λ (x : B). (f x).0) (get_or_default zs at d z lt ∙ sym is) in
+      let rises = ascends at k d (omega arith) within in
+      omega arith
+
+  -- the first block is what is held, where it is the run
+  first_held : (zs : List B) (z : B) (run : ℕ × ℕ) → 0 < length zs → z ≡ get_or zs 0 z → f z ≡ run → (n : ℕ)
+      → IsHeld f [] run n ↔ Covers f (take 1 zs) n
+  first_held zs z run lt is same n = grind (arith, Covers-nil, taken_more)
+
+  -- at first the run is the first block
+  pub Joined-first : (zs : List B) (z : B) (run : ℕ × ℕ) → 0 < length zs → z ≡ get_or zs 0 z → run.0 ≡ (f z).0
+      → run.1 ≡ (f z).1 → run.0 ≤ run.1 → run.1 ≤ last → Joined zs 1 [] run
+  Joined-first zs z run lt is low high ordered to =
+      let same : f z ≡ run = λ i. (sym low i, sym high i) in
+      record {
+        at_hand = first_run run ordered to;
+        held = first_held zs z run lt is same;
+        behind = none_earlier zs 0 run.0 z lt is (omega arith);
+      }
+
+  -- the next one begins no earlier, where they ascend
+  pub Joined-rises : (zs : List B) (at : ℕ) (xs : List B) (run : ℕ × ℕ) (z : B) → Joined zs at xs run
+      → IsNonDecreasingBy (λ b. (f b).0) zs → at < length zs → z ≡ get_or zs at z → run.0 ≤ (f z).0
+  Joined-rises zs at xs run z joined ascends lt is =
+      let begins : (f z).0 ≡ (f (get_or zs at z)).0 = ap (λ (x : B). (f x).0) is in
+      let rises = joined.behind ascends at z (le_refl at) lt in
+      omega arith
+
+  -- and is taken in
+  pub Joined-next : (zs : List B) (at : ℕ) (xs new : List B) (z : B) (run next made : ℕ × ℕ) → Joined zs at xs run
+      → at < length zs → z ≡ get_or zs at z → next.0 ≡ (f z).0 → next.1 ≡ (f z).1 → IsBehind f form last new made
+      → made.0 ≤ next.0 → ((n : ℕ) → IsHeld f new made n ↔ (IsHeld f xs run n ⊎ IsWithin next n))
+      → Joined zs (at + 1) new made
+  Joined-next zs at xs new z run next made joined lt is low high behind begins held =
+      let same : next ≡ f z = λ i. (low i, high i) in
+      record {
+        at_hand = behind;
+        held = taken_more (IsHeld f xs run) (IsHeld f new made) f zs at z lt is
+            (subst (λ (b : ℕ × ℕ). (n : ℕ) → IsHeld f new made n ↔ (IsHeld f xs run n ⊎ IsWithin b n)) same held) joined.held;
+        behind = none_earlier zs at made.0 z lt is (omega arith);
+      }
+
+  -- the run is made longer
+  pub longer_run : {I : Type 0} (number : I → ℕ) (xs : List B) (longer run next : I × I)
+      → IsBehind f form last xs (numbers number run) → longer.0 ≡ run.0
+      → (number run.1 ≤ number longer.1) × ((longer.1 ≡ run.1) ⊎ (longer.1 ≡ next.1)) → number next.1 ≤ last
+      → IsBehind f form last xs (numbers number longer)
+  longer_run number xs longer run next h from to within =
+      let low = ap number from in
+      let o = h.ordered in
+      record {
+        chain = h.chain;
+        ordered = omega (arith, to.0);
+        to_last = ⊎_elim
+            (λ (e : longer.1 ≡ run.1). let high = ap number e in let t = h.to_last in omega arith)
+            (λ (e : longer.1 ≡ next.1). let high = ap number e in omega arith)
+            to.1;
+        apart = λ k d lt. (let far = h.apart k d lt in omega arith);
+      }
 
   module _ (xs : List B) (run : ℕ × ℕ) (h : IsBehind f form last xs run) where
-    -- the run is made longer
-    pub longer_run : (longer : ℕ × ℕ) → longer.0 ≡ run.0 → run.1 ≤ longer.1 → longer.1 ≤ last
-        → IsBehind f form last xs longer
-    longer_run longer from to to_last = record {
-      chain = h.chain;
-      ordered = (let o = h.ordered in omega arith);
-      to_last = to_last;
-      apart = λ k d lt. (let far = h.apart k d lt in omega arith);
-    }
-
-    -- and takes in the next bounds, where it is over both
+    -- a longer run takes in the next bounds, where it is over both
     pub longer_held : (longer next : ℕ × ℕ) (n : ℕ) → (IsWithin longer n ↔ (IsWithin run n ⊎ IsWithin next n))
         → IsHeld f xs longer n ↔ (IsHeld f xs run n ⊎ IsWithin next n)
     longer_held longer next n over = (

@@ -1,5 +1,5 @@
 -- The turns of the walk over what two chains have in common, as the code takes them.
-use Rattle.rpki_chains.proofs.Imports.{List, None, Option, Some, ap, arith, get_or, inl, inr, length, subst, sym, take, ℕ, ⊎_elim, ◌+◌, ◌<◌, ◌∙◌, ◌≡◌, ◌≤◌, ◌⊎◌, get_or-take, length-take-le, All-take, IsOverhang, Covers, IsChain, IsChainOf, numbers, Overhang}
+use Rattle.rpki_chains.proofs.Imports.{List, None, Option, Some, ap, arith, get_or, inl, inr, length, subst, sym, take, ℕ, ⊎_elim, ◌+◌, ◌<◌, ◌∙◌, ◌≡◌, ◌≤◌, ◌⊎◌, get_or-take, length-take-le, All-take, IsOverhang, Covers, HoldsBlock, IsChain, IsChainOf, numbers, Overhang}
 use Rattle.rpki_chains.specs.Common.{IsCommonPushed}
 use Rattle.rpki_chains.proofs.Sides.{IsAt, bounds_of, IsAt-from, ordered_at, index_before, low_at}
 use Rattle.rpki_chains.proofs.Chains.{IsChainOf-from}
@@ -21,28 +21,34 @@ module _ {B I : Type 0} (f : B → ℕ × ℕ) (form : ℕ × ℕ → B) (number
   meet-ordered xs ys out i j b c w = ordered_at f form xs i (numbers number b) w.own_chain w.own_at
 
   -- the one chain's block ends first: what both have of it is behind the chain, and the next block is at hand
-  pub meet-own_ends : (xs ys out made : List B) (i j : ℕ) (b c : I × I) (next : Option (I × I))
+  pub meet-own_ends : (last : ℕ) (xs ys out made : List B) (i j : ℕ) (b c : I × I) (next : Option (I × I))
       → Meet f form xs ys i (At (Some b)) j (At (Some c)) out
       → IsCommonPushed f form (numbers number b) (numbers number c) out made → number b.1 ≤ number c.1
-      → IsAt f xs (i + 1) (At next) → Meet f form xs ys (i + 1) (At next) j (At (Some c)) made
-  meet-own_ends xs ys out made i j b c next w pushed first after =
+      → HoldsBlock f number last xs (i + 1) next → Meet f form xs ys (i + 1) (At next) j (At (Some c)) made
+  meet-own_ends last xs ys out made i j b c next w pushed first after =
       let ordered = meet-ordered xs ys out i j b (At (Some c)) w in
+      let at = IsAt-from f number last xs (i + 1) next after in
       elim pushed [
         | inl (apart, same) ↦
             let less : number b.1 < number c.0 = ⊎_elim (λ (less : number b.1 < number c.0). less) (λ (less : number c.1 < number b.0). absurd (omega arith)) apart in
-            subst (λ zs. Meet f form xs ys (i + 1) (At next) j (At (Some c)) zs) (sym same) (Meet-before f form xs ys out i j (numbers number b) (numbers number c) (At next) w less after)
+            subst (λ zs. Meet f form xs ys (i + 1) (At next) j (At (Some c)) zs) (sym same)
+            (Meet-before f form xs ys out i j (numbers number b) (numbers number c) (At next) w less at)
         | inr (y, common, new, is) ↦
             let ends : (f y).1 ≡ number b.1 = ⊎_elim (λ (e : (f y).1 ≡ number b.1). e) (λ (e : (f y).1 ≡ number c.1). (let le = common.ends.0 in omega arith)) common.ends.2 in
-            subst (λ zs. Meet f form xs ys (i + 1) (At next) j (At (Some c)) zs) (sym is) (Meet-ends f form xs ys out i j (numbers number b) (numbers number c) (At next) y w common.begins.0 common.begins.1 common.begins.2 common.ordered ends first new after)
+            subst (λ zs. Meet f form xs ys (i + 1) (At next) j (At (Some c)) zs) (sym is)
+            (Meet-ends f form xs ys out i j (numbers number b) (numbers number c) (At next) y w common.begins.0
+            common.begins.1 common.begins.2 common.ordered ends first new at)
       ]
 
   -- the other chain's block ends first
-  pub meet-other_ends : (xs ys out made : List B) (i j : ℕ) (b c : I × I) (next : Option (I × I))
+  pub meet-other_ends : (last : ℕ) (xs ys out made : List B) (i j : ℕ) (b c : I × I) (next : Option (I × I))
       → Meet f form xs ys i (At (Some b)) j (At (Some c)) out
       → IsCommonPushed f form (numbers number c) (numbers number b) out made → number c.1 ≤ number b.1
-      → IsAt f ys (j + 1) (At next) → Meet f form xs ys i (At (Some b)) (j + 1) (At next) made
-  meet-other_ends xs ys out made i j b c next w pushed first after =
-      Meet-swap f form ys xs made (j + 1) i (At next) (At (Some b)) (meet-own_ends ys xs out made j i c b next (Meet-swap f form xs ys out i j (At (Some b)) (At (Some c)) w) pushed first after)
+      → HoldsBlock f number last ys (j + 1) next → Meet f form xs ys i (At (Some b)) (j + 1) (At next) made
+  meet-other_ends last xs ys out made i j b c next w pushed first after =
+      Meet-swap f form ys xs made (j + 1) i (At next) (At (Some b))
+      (meet-own_ends last ys xs out made j i c b next
+      (Meet-swap f form xs ys out i j (At (Some b)) (At (Some c)) w) pushed first after)
 
   -- where one chain has ended, all is there that both have
   pub meet-done : (xs ys out : List B) (i j : ℕ) (b c : Option (ℕ × ℕ)) → Meet f form xs ys i b j c out

@@ -1,7 +1,7 @@
 -- Each turn is done with one block and keeps the walk; at its end one chain has no block any more.
-use Rattle.rpki_chains.proofs.Imports.{None, Some, ap, arith, inl, inr, refl, subst, take, ◌+◌, ◌∙◌, ◌≤◌, le_refl, nat_tests, numbers}
-use Rattle.rpki_chains.proofs.Counts.{read_next}
-use Rattle.rpki_chains.proofs.Sides.{bounds_of, IsAt-from}
+use Rattle.rpki_chains.proofs.Imports.{None, Some, ap, arith, inl, inr, refl, subst, take, ◌+◌, ◌≤◌, le_refl, nat_tests, numbers}
+use Rattle.rpki_chains.proofs.Counts.{reader_next}
+use Rattle.rpki_chains.proofs.Sides.{bounds_of}
 use Rattle.rpki_chains.proofs.Meets.{Meet, Meet-swap}
 use Rattle.rpki_chains.proofs.MeetTurns.{Meet-start, meet-ordered, meet-own_ends, meet-other_ends, meet-done}
 use Rattle.rpki_chains.proofs.common.common_from.Goals as goal
@@ -28,13 +28,9 @@ loop-chain-init g c =
     let read = first.reads in
     let walk = Meet-start f form number g.T.Block.first g.T.Block.last xs ys overhang c.requires c.len-own_len.ensures.chain c.len-other_len.ensures.chain in
     record {
-      own_reads = omega arith;
-      other_reads = le_refl _;
+      own = record { kept = first.kept; reads = omega arith };
+      other = record { kept = refl; reads = le_refl _ };
       walk = rw first.value (subst (λ o. Meet f form xs ys overhang.own_at (Some (numbers number (overhang.min, overhang.max))) overhang.other_at (bounds_of number o) (take overhang.own_at xs)) c.in-Some.is walk);
-      own_bound = (let len = c.len-own_len.ensures.value in omega arith);
-      other_bound = (let len = c.len-other_len.ensures.value in omega arith);
-      own_kept = first.kept;
-      other_kept = refl;
     }
 
 pub push_common-requires-clause-ordered : goal.push_common-requires-clause-ordered
@@ -49,18 +45,14 @@ loop-chain-preserved-then-le g c =
     let inv = c.loop-chain.invariant in
     let read = c.in-Some-read_at.ensures in
     let next = c.in-Some-read_at.next in
-    let block = rw inv.own_kept at read.block in
-    let more = read_next f number last _ c.loop-chain.own_at (Some next) _ _ block read.counted in
-    let before = inv.own_reads in
+    let on = reader_next f number last _ _ _ c.loop-chain.own_at (Some next) _ _ _ inv.own read.block read.kept
+    read.counted in
     let first : number c.loop-chain.own_block.1 ≤ number c.loop-chain.other_block.1 = grind (arith, nat_tests, g.met.T.Block.in_order, g.met.T.Item.Ord.matches_partial_cmp, c.if-le.ensures) in
     record {
-      own_reads = omega arith;
-      other_reads = inv.other_reads;
-      walk = meet-own_ends f form number _ _ _ _ _ _ c.loop-chain.own_block c.loop-chain.other_block (Some next) inv.walk c.in_ok-push_common.ensures first (IsAt-from f number last _ (c.loop-chain.own_at + 1) (Some next) block);
-      own_bound = inv.own_bound;
-      other_bound = inv.other_bound;
-      own_kept = read.kept ∙ inv.own_kept;
-      other_kept = inv.other_kept;
+      own = on.0;
+      other = inv.other;
+      walk = meet-own_ends f form number g.T.Block.last _ _ _ _ _ _ c.loop-chain.own_block c.loop-chain.other_block
+          (Some next) inv.walk c.in_ok-push_common.ensures first on.1;
     }
 
 pub push_common-requires-else-le-clause-ordered : goal.push_common-requires-else-le-clause-ordered
@@ -75,18 +67,14 @@ loop-chain-preserved g c =
     let inv = c.loop-chain.invariant in
     let read = c.in-Some-read_at-2.ensures in
     let next = c.in-Some-read_at-2.next in
-    let block = rw inv.other_kept at read.block in
-    let more = read_next f number last _ c.loop-chain.other_at (Some next) _ _ block read.counted in
-    let before = inv.other_reads in
+    let on = reader_next f number last _ _ _ c.loop-chain.other_at (Some next) _ _ _ inv.other read.block read.kept
+    read.counted in
     let first : number c.loop-chain.other_block.1 ≤ number c.loop-chain.own_block.1 = grind (arith, nat_tests, g.met.T.Block.in_order, g.met.T.Item.Ord.matches_partial_cmp, c.if-le.ensures) in
     record {
-      own_reads = inv.own_reads;
-      other_reads = omega arith;
-      walk = meet-other_ends f form number _ _ _ _ _ _ c.loop-chain.own_block c.loop-chain.other_block (Some next) inv.walk c.in_ok-push_common-2.ensures first (IsAt-from f number last _ (c.loop-chain.other_at + 1) (Some next) block);
-      own_bound = inv.own_bound;
-      other_bound = inv.other_bound;
-      own_kept = inv.own_kept;
-      other_kept = read.kept ∙ inv.other_kept;
+      own = inv.own;
+      other = on.0;
+      walk = meet-other_ends f form number g.T.Block.last _ _ _ _ _ _ c.loop-chain.own_block c.loop-chain.other_block
+          (Some next) inv.walk c.in_ok-push_common-2.ensures first on.1;
     }
 
 pub from_vec_unchecked-requires-2 : goal.from_vec_unchecked-requires-2
@@ -100,13 +88,15 @@ from_vec_unchecked-requires-2 g c =
     elim c.if-le.branch [
       | then-le+in_ok-push_common+in_default-read_at w ↦
           let first : number own.1 ≤ number other.1 = grind (arith, nat_tests, g.met.T.Block.in_order, g.met.T.Item.Ord.matches_partial_cmp, w.if-le.ensures) in
-          let end = rw inv.own_kept at w.in_default-read_at.ensures.block in
-          let walk = meet-own_ends f form number _ _ _ _ _ _ own other None inv.walk w.in_ok-push_common.ensures first end in
+          let end = rw inv.own.kept at w.in_default-read_at.ensures.block in
+          let walk = meet-own_ends f form number g.T.Block.last _ _ _ _ _ _ own other None inv.walk
+          w.in_ok-push_common.ensures first end in
           rw w.chain-is walk.chain
       | else-le+in_ok-push_common-2+in_default-read_at-2 w ↦
           let first : number other.1 ≤ number own.1 = grind (arith, nat_tests, g.met.T.Block.in_order, g.met.T.Item.Ord.matches_partial_cmp, w.if-le.ensures) in
-          let end = rw inv.other_kept at w.in_default-read_at-2.ensures.block in
-          let walk = meet-other_ends f form number _ _ _ _ _ _ own other None inv.walk w.in_ok-push_common-2.ensures first end in
+          let end = rw inv.other.kept at w.in_default-read_at-2.ensures.block in
+          let walk = meet-other_ends f form number g.T.Block.last _ _ _ _ _ _ own other None inv.walk
+          w.in_ok-push_common-2.ensures first end in
           rw w.chain-is walk.chain
     ]
 
@@ -121,12 +111,14 @@ returns-clause-common g c =
     rw c.from_vec_unchecked-2.ensures (elim c.if-le.branch [
       | then-le+in_ok-push_common+in_default-read_at w ↦
           let first : number own.1 ≤ number other.1 = grind (arith, nat_tests, g.met.T.Block.in_order, g.met.T.Item.Ord.matches_partial_cmp, w.if-le.ensures) in
-          let end = rw inv.own_kept at w.in_default-read_at.ensures.block in
-          let walk = meet-own_ends f form number _ _ _ _ _ _ own other None inv.walk w.in_ok-push_common.ensures first end in
+          let end = rw inv.own.kept at w.in_default-read_at.ensures.block in
+          let walk = meet-own_ends f form number g.T.Block.last _ _ _ _ _ _ own other None inv.walk
+          w.in_ok-push_common.ensures first end in
           rw w.chain-is (meet-done f form number _ _ _ _ _ _ _ walk (inl refl))
       | else-le+in_ok-push_common-2+in_default-read_at-2 w ↦
           let first : number other.1 ≤ number own.1 = grind (arith, nat_tests, g.met.T.Block.in_order, g.met.T.Item.Ord.matches_partial_cmp, w.if-le.ensures) in
-          let end = rw inv.other_kept at w.in_default-read_at-2.ensures.block in
-          let walk = meet-other_ends f form number _ _ _ _ _ _ own other None inv.walk w.in_ok-push_common-2.ensures first end in
+          let end = rw inv.other.kept at w.in_default-read_at-2.ensures.block in
+          let walk = meet-other_ends f form number g.T.Block.last _ _ _ _ _ _ own other None inv.walk
+          w.in_ok-push_common-2.ensures first end in
           rw w.chain-is (meet-done f form number _ _ _ _ _ _ _ walk (inr refl))
     ])

@@ -1,5 +1,6 @@
 -- The blocks so far are what the chains have in common up to the blocks at hand.
-use Rattle.rpki_chains.proofs.Imports.{Some, length, ◌+◌, ◌-◌, ◌<◌, ◌^◌, ◌≡◌, ◌≤◌, numbers}
+use Rattle.rpki_chains.proofs.Imports.{Some, length, ◌+◌, ◌-◌, numbers}
+use Rattle.rpki_chains.proofs.Counts.{IsReader}
 use Rattle.rpki_chains.proofs.Meets.{Meet}
 use Rattle.rpki_chains.proofs.common.common_from.Given as goal
 
@@ -9,16 +10,12 @@ invariant-loop-chain g l =
     let xs = g.X.Reads.blocks l.fn.own in
     let ys = g.Y.Reads.blocks l.fn.other in
     record {
-      own_reads : g.X.Reads.count l.own + (length xs - (l.own_at + 1))
-          ≤ g.X.Reads.count l.fn.own + l.fn.overhang.own_at + (length xs - (l.fn.overhang.own_at + 1));
-      other_reads : g.Y.Reads.count l.other + (length ys - (l.other_at + 1))
-          ≤ g.Y.Reads.count l.fn.other + (length ys - (l.fn.overhang.other_at + 1));
+      own : IsReader xs (g.X.Reads.blocks l.own) l.own_at (g.X.Reads.count l.own)
+          (g.X.Reads.count l.fn.own + l.fn.overhang.own_at + (length xs - (l.fn.overhang.own_at + 1)));
+      other : IsReader ys (g.Y.Reads.blocks l.other) l.other_at (g.Y.Reads.count l.other)
+          (g.Y.Reads.count l.fn.other + (length ys - (l.fn.overhang.other_at + 1)));
       walk : Meet g.T.Block.bounds g.T.Block.form xs ys l.own_at (Some (numbers number l.own_block)) l.other_at
           (Some (numbers number l.other_block)) l.chain.items;
-      own_bound : length xs < 2 ^ 64;
-      other_bound : length ys < 2 ^ 64;
-      own_kept : g.X.Reads.blocks l.own ≡ xs;
-      other_kept : g.Y.Reads.blocks l.other ≡ ys;
     }
 
 abbrev pub decreases-loop-chain : goal.decreases-loop-chain

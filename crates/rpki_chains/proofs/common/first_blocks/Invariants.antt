@@ -1,5 +1,5 @@
 -- The blocks passed were made anew, and the chain is the same.
-use Rattle.rpki_chains.proofs.Imports.{length, take, ◌+◌, ◌≡◌, ◌≤◌, IsChain}
+use Rattle.rpki_chains.proofs.Imports.{take, ◌+◌, ◌≡◌, ◌≤◌}
 use Rattle.rpki_chains.proofs.common.first_blocks.Given as goal
 
 abbrev pub invariant-loop-at : goal.invariant-loop-at
@@ -7,6 +7,4 @@ invariant-loop-at g l = record {
   reads : g.X.Reads.count l.own ≤ g.X.Reads.count l.fn.own + l.at;
   made : l.chain.items ≡ take l.at (g.X.Reads.blocks l.fn.own);
   kept : g.X.Reads.blocks l.own ≡ g.X.Reads.blocks l.fn.own;
-  chain : IsChain g.T.Block.bounds g.T.Block.form (g.X.Reads.blocks l.fn.own);
-  bound : l.len ≤ length (g.X.Reads.blocks l.fn.own);
 }

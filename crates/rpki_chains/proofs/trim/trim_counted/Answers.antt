@@ -1,5 +1,5 @@
 -- What is refused is what the chains, which are still the same, have in common.
-use Rattle.rpki_chains.proofs.Imports.{arith, subst, Covers, IsChainOf}
+use Rattle.rpki_chains.proofs.Imports.{subst, Covers, IsChainOf}
 use Rattle.rpki_chains.proofs.FitTurns.{overhang-not_inside}
 use Rattle.rpki_chains.proofs.trim.trim_counted.Goals as goal
 
@@ -15,15 +15,6 @@ returns-in-Ok-clause-refused g c =
     let form = g.T.Block.form in
     subst (λ xs. IsChainOf f form (λ n. Covers f xs n × Covers f (g.Y.Reads.blocks c.args.other.now) n) c.in-Ok.chain) c.first_overhang.ensures.own_kept
     (subst (λ ys. IsChainOf f form (λ n. Covers f (g.X.Reads.blocks c.first_overhang.new.own) n × Covers f ys n) c.in-Ok.chain) c.first_overhang.ensures.other_kept c.in-Ok.ensures.common)
-
-pub returns-in-Ok-clause-reads : goal.returns-in-Ok-clause-reads
-returns-in-Ok-clause-reads g c = grind (arith)
-
-pub returns-in-Err-clause-reads : goal.returns-in-Err-clause-reads
-returns-in-Err-clause-reads g c = grind (arith)
-
-pub returns-in-None-clause-reads : goal.returns-in-None-clause-reads
-returns-in-None-clause-reads g c = grind (arith)
 
 pub returns-in-Ok-clause-few : goal.returns-in-Ok-clause-few
 returns-in-Ok-clause-few g c = rw (c.first_overhang.ensures.own_kept, c.first_overhang.ensures.other_kept) at c.in-Ok.ensures.few

@@ -1,21 +1,17 @@
 -- Each turn takes in the block at hand; at the end the run is closed, and nothing is left.
-use Rattle.rpki_chains.proofs.Imports.{Some, ap, arith, drop, refl, sym, ◌+◌, ◌∙◌, Covers, numbers}
-use Rattle.rpki_chains.proofs.Counts.{read_next}
+use Rattle.rpki_chains.proofs.Imports.{Some, ap, drop, inl, inr, le_refl, refl, sym, ⊎_elim, ◌+◌, ◌∙◌, Covers, numbers}
+use Rattle.rpki_chains.proofs.Counts.{reader_next}
 use Rattle.rpki_chains.proofs.Joining.{closed_run}
 use Rattle.rpki_chains.proofs.Merges.{Side-at, Side-ordered, Side-next, Covers-left, split-turn, closed_rest}
 use Rattle.rpki_chains.proofs.union.close_with.Goals as goal
 
 pub loop-chain-init : goal.loop-chain-init
 loop-chain-init g c =
-    let len = c.len-len.ensures.value in
-    let small = c.len-len.type_inv in
     record {
-      reads = omega arith;
+      rest = record { kept = refl; reads = le_refl _ };
       behind = c.requires.run;
       side = record { chain = c.len-len.ensures.chain; at = c.requires.block; later = c.requires.behind };
-      held = λ n. (λ h. h, λ h. h);
-      bound = omega arith;
-      kept = refl;
+      held = λ n. (⊎_elim inl (⊎_elim inr (λ no. absurd no)), ⊎_elim inl (λ r. inr (inl r)));
     }
 
 pub take_in-requires-clause-ordered : goal.take_in-requires-clause-ordered
@@ -32,17 +28,17 @@ loop-chain-preserved g c =
     let b = c.loop-chain.block in
     let inv = c.loop-chain.invariant in
     let read = c.in-Some.ensures in
-    let block = rw inv.kept at read.block in
     let step = c.in_ok-take_in.ensures in
-    let more = read_next f number last _ at (Some c.in-Some.next) _ _ block read.counted in
-    let before = inv.reads in
+    let on = reader_next f number last xs _ _ at (Some c.in-Some.next) _ _ _ inv.rest read.block read.kept
+    read.counted in
     record {
-      reads = omega arith;
+      rest = on.0;
       behind = step.run;
-      side = Side-next f form number last xs at b c.loop-chain.run inv.side c.in-Some.next c.take_in.new.run block step.behind;
-      held = split-turn _ _ (λ n. Covers f (drop at xs) n) (λ n. Covers f (drop (at + 1) xs) n) _ (numbers number b) (Covers-left f xs at (numbers number b) (Side-at f form number last xs at b c.loop-chain.run inv.side)) step.held inv.held;
-      bound = inv.bound;
-      kept = read.kept ∙ inv.kept;
+      side = Side-next f form number last xs at b c.loop-chain.run inv.side c.in-Some.next c.take_in.new.run on.1
+          step.behind;
+      held = split-turn _ _ (λ n. Covers f (drop at xs) n) (λ n. Covers f (drop (at + 1) xs) n) (λ n. ⊥) _
+          (numbers number b) (Covers-left f xs at (numbers number b)
+          (Side-at f form number last xs at b c.loop-chain.run inv.side)) step.held inv.held;
     }
 
 pub from_vec_unchecked-requires : goal.from_vec_unchecked-requires
@@ -61,6 +57,8 @@ returns-clause-chain g c =
     let b = c.loop-chain.block in
     let inv = c.loop-chain.invariant in
     let step = c.in_ok-take_in.ensures in
-    let end = rw inv.kept at c.in_default.ensures.block in
-    let split = split-turn _ _ (λ n. Covers f (drop at xs) n) (λ n. Covers f (drop (at + 1) xs) n) _ (numbers number b) (Covers-left f xs at (numbers number b) (Side-at f form number last xs at b c.loop-chain.run inv.side)) step.held inv.held in
+    let end = rw inv.rest.kept at c.in_default.ensures.block in
+    let split = split-turn _ _ (λ n. Covers f (drop at xs) n) (λ n. Covers f (drop (at + 1) xs) n) (λ n. ⊥) _
+    (numbers number b) (Covers-left f xs at (numbers number b)
+    (Side-at f form number last xs at b c.loop-chain.run inv.side)) step.held inv.held in
     rw (c.from_vec_unchecked.ensures, c.in_ok-push.ensures.items) (closed_rest f form last _ xs (at + 1) c.take_in.new.chain.items (numbers number c.take_in.new.run) end split step.run c.new.result c.new.ensures.bounds (c.new.ensures.value ∙ ap form (sym c.new.ensures.bounds)))

@@ -1,5 +1,6 @@
 -- The run at hand begins no later than the block at hand, and nothing is lost.
-use Rattle.rpki_chains.proofs.Imports.{drop, length, ◌+◌, ◌-◌, ◌<◌, ◌^◌, ◌≡◌, ◌≤◌, ◌⊎◌, IsBehind, IsHeld, Covers, numbers}
+use Rattle.rpki_chains.proofs.Imports.{drop, length, ◌+◌, ◌-◌, ◌⊎◌, IsBehind, IsHeld, Covers, numbers}
+use Rattle.rpki_chains.proofs.Counts.{IsReader}
 use Rattle.rpki_chains.proofs.Merges.{IsSplit, Side}
 use Rattle.rpki_chains.proofs.union.close_with.Given as goal
 
@@ -9,14 +10,12 @@ invariant-loop-chain g l =
     let number = g.T.Block.number in
     let xs = g.R.Reads.blocks l.fn.rest in
     record {
-      reads : g.R.Reads.count l.rest + (length xs - (l.at + 1))
-          ≤ g.R.Reads.count l.fn.rest + (length xs - (l.fn.at + 1));
+      rest : IsReader xs (g.R.Reads.blocks l.rest) l.at (g.R.Reads.count l.rest)
+          (g.R.Reads.count l.fn.rest + (length xs - (l.fn.at + 1)));
       behind : IsBehind f g.T.Block.form g.T.Block.last l.chain.items (numbers number l.run);
       side : Side f g.T.Block.form number g.T.Block.last xs l.at l.block l.run;
-      held : IsSplit (IsHeld f l.chain.items (numbers number l.run)) (λ n. Covers f (drop l.at xs) n)
+      held : IsSplit (IsHeld f l.chain.items (numbers number l.run)) (λ n. Covers f (drop l.at xs) n ⊎ ⊥)
           (λ n. IsHeld f l.fn.chain.items (numbers number l.fn.run) n ⊎ Covers f (drop l.fn.at xs) n);
-      bound : length xs < 2 ^ 64;
-      kept : g.R.Reads.blocks l.rest ≡ xs;
     }
 
 abbrev pub decreases-loop-chain : goal.decreases-loop-chain

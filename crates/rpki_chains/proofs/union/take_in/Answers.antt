@@ -1,19 +1,13 @@
 -- The run is made longer, or closed where the next bounds don't touch it.
-use Rattle.rpki_chains.proofs.Imports.{ap, arith, sym, ⊎_elim, ◌∙◌, ◌≡◌, ◌≤◌, numbers}
+use Rattle.rpki_chains.proofs.Imports.{ap, sym, ◌∙◌, numbers}
 use Rattle.rpki_chains.proofs.Joining.{longer_run, longer_held, next_run, held_next}
 use Rattle.rpki_chains.proofs.union.take_in.Goals as goal
 
 pub returns-in-Some-clause-run : goal.returns-in-Some-clause-run
 returns-in-Some-clause-run g c =
-    let number = g.T.Block.number in
-    let longer = c.in-Some.longer in
     let over = c.in-Some.ensures in
-    let behind = c.requires.run in
-    let to_last : number longer.1 ≤ g.T.Block.last = ⊎_elim
-    (λ (e : longer.1 ≡ c.args.run.now.1). let n = ap number e in let o = behind.to_last in omega arith)
-    (λ (e : longer.1 ≡ c.args.next.1). let n = ap number e in let o = c.requires.to_last in omega arith)
-    over.to.1 in
-    longer_run g.T.Block.bounds g.T.Block.form g.T.Block.last _ (numbers number c.args.run.now) behind (numbers number longer) (ap number over.from) over.to.0 to_last
+    longer_run g.T.Block.bounds g.T.Block.form g.T.Block.last g.T.Block.number _ c.in-Some.longer c.args.run.now
+    c.args.next c.requires.run over.from over.to c.requires.to_last
 
 pub returns-in-Some-clause-held : goal.returns-in-Some-clause-held
 returns-in-Some-clause-held g c n =

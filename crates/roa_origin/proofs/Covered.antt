@@ -1,18 +1,15 @@
 -- The payloads that cover a route, among the first of a table.
-use Rattle.roa_origin.proofs.Common.{Bool, List, None, [], ap, arith, cond, false, get_or, inl, inr, length, refl, reverse, suc, sym, take, true, zero, ℕ, ◌++◌, ◌+◌, ◌-◌, ◌<◌, ◌∙◌, ◌∷◌, ◌≡◌, ◌≤◌, ◌⊎◌, and_parts, cases_lt, eq-eqb, eqb-true, le-leb, leb-true, reverse-append, reverse-reverse, take_all, All-filter, filter_more, filter_passes, IsNonDecreasingBy-filter, filter, IsNonDecreasingBy, IpAddr, covers_round, round_covers, FamilyPrefix, IsFamilyPrefix, is_v6, width, AreThose, IsWalk, covering_before, covers_route, IsInOrder, IsLink, NoneCovers, CoversRoute, Payload, prefix_len, payload_place, place, Link}
+use Rattle.roa_origin.proofs.Common.{Bool, List, [], ap, arith, cond, false, get_or, length, refl, reverse, suc, true, zero, ℕ, ◌++◌, ◌+◌, ◌-◌, ◌<◌, ◌∙◌, ◌∷◌, ◌≡◌, ◌≤◌, ◌⊎◌, and_parts, eq-eqb, eqb-true, le-leb, leb-true, reverse-append, reverse-reverse, take_all, All-filter, filter_more, filter_passes, IsNonDecreasingBy-filter, filter, IsNonDecreasingBy, IpAddr, covers_round, round_covers, FamilyPrefix, IsFamilyPrefix, is_v6, width, AreThose, IsWalk, covering_before, covers_route, IsInOrder, IsLink, NoneCovers, CoversRoute, Payload, prefix_len, payload_place, place, Link}
 use Rattle.roa_origin.proofs.Nested.{covers_between, same_width}
 use Rattle.roa_origin.proofs.Places.{covers_len, covers_place}
-use Rattle.roa_origin.proofs.Walks.{later_covers_none, passes_none, prefix_of}
+use Rattle.roa_origin.proofs.Walks.{later_covers_none, nowhere, passes_none, prefix_of}
 
 -- addresses are of one family where they have as many bits
 same_family : (a b : IpAddr) → width a ≡ width b → is_v6 a ≡ is_v6 b
 same_family a b e = grind (arith)
 
 tells_covers : (route : FamilyPrefix) (x : Payload) → covers_route route x ≡ true → CoversRoute route x
-tells_covers route x e =
-    let parts = and_parts _ _ e in
-    let bounds = and_parts _ _ parts.1 in
-    covers_round x.0.prefix route (record { family = same_family _ _ (eqb-true _ _ parts.0); from = leb-true _ _ bounds.0; upto = leb-true _ _ bounds.1 })
+tells_covers route x e = covers_round x.0.prefix route (grind (arith, and_parts, eqb-true, leb-true, same_family))
 
 is_told : (route : FamilyPrefix) (x : Payload) → CoversRoute route x → covers_route route x ≡ true
 is_told route x c = grind (arith, eq-eqb, le-leb, round_covers, same_width)
@@ -22,8 +19,7 @@ not_told route x free = grind (arith, tells_covers)
 
 one_more : (route : FamilyPrefix) (x : Payload) (xs ys : List Payload) (t : Bool) → covers_route route x ≡ t
     → AreThose (CoversRoute route) xs ys → AreThose (CoversRoute route) (x ∷ xs) (cond t (x ∷ ys) ys)
-one_more route x xs ys true e those = inl (tells_covers route x e, ys, refl, those)
-one_more route x xs ys false e those = inr ((λ h. let f = is_told route x h in cc), those)
+one_more route x xs ys t e those = grind (arith, is_told, tells_covers)
 
 -- what the test picks out of a list are those that cover the route
 pub are_those : (route : FamilyPrefix) (xs : List Payload)
@@ -41,29 +37,22 @@ module _ (route : FamilyPrefix) (xs : List Payload) where
       ≡ cond (covers_route route (get_or xs k d)) (get_or xs k d ∷ covering_before route xs k)
       (covering_before route xs k)
   more k d small =
-      ap reverse (filter_more (covers_route route) xs k d small) ∙ reverse-append (filter (covers_route route) (take k xs)) _
-      ∙ picked (get_or xs k d) (covers_route route (get_or xs k d)) (covering_before route xs k)
+      let x = get_or xs k d in
+      rw (filter_more (covers_route route) xs k d small, reverse-append) (picked x (covers_route route x) _)
 
   -- places at which none covers the route give none
   free_step : (k : ℕ) (d : Payload) → k < length xs → ¬ CoversRoute route (get_or xs k d)
       → covering_before route xs (k + 1) ≡ covering_before route xs k
-  free_step k d small free = more k d small ∙ ap (λ b. cond b (get_or xs k d ∷ covering_before route xs k) (covering_before route xs k)) (not_told route (get_or xs k d) free)
+  free_step k d small free = rw (more k d small, not_told route (get_or xs k d) free)
 
-  -- some payload, whichever
-  some : Payload
-  some = (record { prefix = route; max_len = None }, 0)
-
-  pub none_between : (to from : ℕ) → from ≤ to → to ≤ length xs → NoneCovers xs route from to
+  pub none_between : (n to from : ℕ) → to ≡ from + n → to ≤ length xs → NoneCovers xs route from to
       → covering_before route xs to ≡ covering_before route xs from
-  none_between zero from low high none = (let e : 0 ≡ from = omega (arith, low) in ap (covering_before route xs) e)
-  none_between (suc k) from low high none = elim (cases_lt k from) [
-    | inl same ↦ (let e : suc k ≡ from = omega (arith, low, same) in ap (covering_before route xs) e)
-    | inr less ↦ (
-        let on : suc k ≡ k + 1 = omega arith in
-        let small : k < length xs = omega (arith, high) in
-        ap (covering_before route xs) on ∙ free_step k some small (none k some (omega (arith, less)) (omega arith) small)
-        ∙ none_between k from (omega (arith, less)) (omega (arith, high)) (λ j e from' before there. none j e from' (omega (arith, before)) there))
-  ]
+  none_between zero to from far high none = ap (covering_before route xs) (let e : to ≡ from = omega arith in e)
+  none_between (suc n) to from far high none =
+      let on : to ≡ from + n + 1 = omega (arith, far) in
+      let free = none (from + n) nowhere (omega arith) (omega arith) (omega arith) in
+      ap (covering_before route xs) on ∙ free_step (from + n) nowhere (omega arith) free
+      ∙ none_between n (from + n) from refl (omega arith) (λ k d low below. none k d low (omega arith))
 
   -- what comes later than the route doesn't cover it: those before it are all that do
   pub all_before : (n : ℕ) → IsInOrder xs → IsFamilyPrefix route → n ≤ length xs
@@ -71,8 +60,8 @@ module _ (route : FamilyPrefix) (xs : List Payload) where
       → reverse (covering_before route xs n) ≡ filter (covers_route route) xs
   all_before n order is high later =
       let none : NoneCovers xs route n (length xs) = λ k d from before small. later_covers_none route xs n order is later k d from small in
-      ap reverse (sym (none_between (length xs) n high (omega arith) none) ∙ ap (λ ys. reverse (filter (covers_route route) ys)) (take_all (length xs) xs (omega arith)))
-      ∙ reverse-reverse (filter (covers_route route) xs)
+      let all = none_between (length xs - n) (length xs) n (omega arith) (omega arith) none in
+      rw (← all, take_all (length xs) xs (omega arith), reverse-reverse)
 
 -- in order, those that cover a route go from the shortest prefix to the longest
 pub by_length : (route : FamilyPrefix) (xs : List Payload) → IsFamilyPrefix route → IsInOrder xs
@@ -95,33 +84,27 @@ module _ (xs : List Payload) (links : List Link) (n : ℕ) (route : FamilyPrefix
     (l : Link) (link : (d : Payload) → IsLink xs (at - 1) (get_or xs (at - 1) d) l)
     (left : ℕ) (goes : ((left ≡ at - 1) × (l.first < at - 1)) ⊎ ((left ≡ l.back) × (at - 1 ≤ l.first))) where
   before : left ≤ at - 1
-  before = elim goes [
-    | inl stays ↦ omega (arith, stays.0)
-    | inr leads ↦ (let it = link (record { prefix = route; max_len = None }, 0) in omega (arith, leads.0, it.back, it.first))
-  ]
+  before = grind (arith, link nowhere)
 
   pub walk_on : IsWalk xs links left route
   walk_on = grind (arith, before, some)
 
   between : NoneCovers xs route left (at - 1)
-  between k d from small there = elim goes [
-    | inl stays ↦ absurd (omega (arith, stays.0, from, small))
-    | inr leads ↦ passes_none xs n route walk.table.in_order walk.up_to walk.within walk.is_prefix (at - 1) l (omega (arith, some, back)) link
-        k d (omega (arith, leads.0, from)) (omega (arith, leads.1, small)) there
-  ]
+  between k d from small there =
+      let order = walk.table.in_order in
+      let passed = passes_none xs n route order walk.up_to walk.within walk.is_prefix (at - 1) l (omega arith) link in
+      grind (arith, passed k d)
 
   pub gives : (d : Payload) → CoversRoute route (get_or xs (at - 1) d) → NoneCovers xs route at n
       → covering_before route xs n ≡ get_or xs (at - 1) d ∷ covering_before route xs left
   gives d covers none =
-      let last : ℕ = at - 1 in
-      let x : Payload = get_or xs last d in
-      let there : last < length xs = omega (arith, some, back, walk.within) in
-      let on : at ≡ last + 1 = omega (arith, some) in
-      none_between route xs n at back walk.within none ∙ ap (covering_before route xs) on ∙ more route xs last d there
-      ∙ ap (λ t. cond t (x ∷ covering_before route xs last) (covering_before route xs last)) (is_told route x covers)
-      ∙ ap (λ ys. x ∷ ys) (none_between route xs last left before (omega (arith, there)) between)
+      let there : at - 1 < length xs = omega (arith, some, back, walk.within) in
+      let passed = none_between route xs (at - 1 - left) _ left (omega (arith, before)) (omega arith) between in
+      none_between route xs (n - at) n at (omega arith) walk.within none
+      ∙ ap (covering_before route xs) (let on : at ≡ at - 1 + 1 = omega arith in on)
+      ∙ rw (more route xs (at - 1) d there, is_told route (get_or xs (at - 1) d) covers, passed)
 
 -- and where there is none, nothing is left
 pub nothing_left : (xs : List Payload) (links : List Link) (n : ℕ) (route : FamilyPrefix) → IsWalk xs links n route
     → NoneCovers xs route 0 n → covering_before route xs n ≡ []
-nothing_left xs links n route walk none = none_between route xs n 0 (omega arith) walk.within none
+nothing_left xs links n route walk none = none_between route xs n n 0 (omega arith) walk.within none

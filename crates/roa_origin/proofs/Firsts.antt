@@ -1,5 +1,5 @@
 -- The first bits of addresses: how many numbers they write, and that they follow the order of places.
-use Rattle.roa_origin.proofs.Common.{List, arith, get_or, inl, inr, length, lit≤, subst, ℕ, ◌*◌, ◌+◌, ◌-◌, ◌/◌, ◌<◌, ◌^◌, ◌≤◌, cases_lt, le-div, pow_pos, shr_below, IpAddr, V4, V6, FamilyPrefix, IsFamilyPrefix, address_number, width, AreFamilyPrefixes, Payload, payload_place, place, IsStart, first_bits}
+use Rattle.roa_origin.proofs.Common.{List, arith, get_or, length, lit≤, subst, ℕ, ◌*◌, ◌+◌, ◌-◌, ◌/◌, ◌<◌, ◌^◌, ◌≤◌, le-div, pow_pos, shr_below, IpAddr, V4, V6, FamilyPrefix, IsFamilyPrefix, address_number, width, AreFamilyPrefixes, Payload, payload_place, place, IsStart, first_bits}
 use Rattle.std.proofs.Math.Nat.{div-mul-le_self, pow-le-pow_right}
 use Rattle.roa_origin.proofs.Nested.{len_small}
 
@@ -36,17 +36,13 @@ pub before_start : (n : ℕ) (xs : List Payload) (p : FamilyPrefix) (start : ℕ
     → k < start → payload_place (get_or xs k d) < place p
 before_start n xs p start few prefixes is at k d small =
     let there : k < length xs = omega (arith, small, at.within) in
-    elim (cases_lt (payload_place (get_or xs k d)) (place p)) [
-      | inl less ↦ less
-      | inr more ↦ absurd (let up = first_up n p (get_or xs k d).0.prefix few is (prefixes k d there) more in omega (arith, up, at.before k d small))
-    ]
+    let up = first_up n p (get_or xs k d).0.prefix few is (prefixes k d there) in
+    grind (arith, at.before k d small, up)
 
 -- payloads from the start of the next number on come after it
 pub after_start : (n : ℕ) (xs : List Payload) (p : FamilyPrefix) (end : ℕ) → n ≤ 20 → AreFamilyPrefixes xs (length xs)
     → IsFamilyPrefix p → IsStart n xs (first_bits n p + 1) end → (k : ℕ) (d : Payload) → end ≤ k → k < length xs
     → place p < payload_place (get_or xs k d)
 after_start n xs p end few prefixes is at k d from small =
-    elim (cases_lt (place p) (payload_place (get_or xs k d))) [
-      | inl less ↦ less
-      | inr more ↦ absurd (let up = first_up n (get_or xs k d).0.prefix p few (prefixes k d small) is more in omega (arith, up, at.from k d from small))
-    ]
+    let up = first_up n (get_or xs k d).0.prefix p few (prefixes k d small) is in
+    grind (arith, at.from k d from small, up)

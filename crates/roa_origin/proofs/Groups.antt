@@ -1,7 +1,7 @@
 -- The payloads of one prefix, as a piece of a table.
-use Rattle.roa_origin.proofs.Common.{Any, List, ap, arith, get_or, length, subst, sym, ℕ, ◌+◌, ◌-◌, ◌<◌, ◌∙◌, ◌≡◌, ◌≤◌, get_or-drop, get_or-take, get_or_default, length-take-le, slice_range, FamilyPrefix, IsGroup, IsInOrder, CoversRoute, IsLawfulPayload, Payload}
+use Rattle.roa_origin.proofs.Common.{All, Any, List, ap, arith, false, get_or, leb, length, sym, true, ℕ, ◌+◌, ◌-◌, ◌<◌, ◌∙◌, ◌≡◌, ◌≤◌, get_or-drop, get_or-take, get_or_default, length-take-le, le-leb, leb-false, leb-true, All-drop, All-take, IsNonDecreasingBy-drop, IsNonDecreasingBy-take, IsPartitionPoint, IsPartitionedBy, slice_range, FamilyPrefix, IsGroup, IsInOrder, IsLastOf, CoversRoute, IsLawfulPayload, Payload, table_place}
 use Rattle.std.proofs.lemmas.List.{length-drop}
-use Rattle.roa_origin.proofs.Places.{by_ranks}
+use Rattle.roa_origin.proofs.Places.{by_ranks, rank_asn, rank_longest}
 
 -- an element of a piece
 pub in_piece : (xs : List Payload) (a b k : ℕ) (d : Payload) → k < b - a
@@ -21,24 +21,23 @@ module _ (xs : List Payload) (order : IsInOrder xs) (route : FamilyPrefix) (a b 
   wide : length (slice_range xs a b) ≡ b - a
   wide = piece_length xs a b within
 
-  element : (P : Payload → Type 0) (k : ℕ) (d : Payload) → k < length (slice_range xs a b) → P (get_or xs (a + k) d)
-      → P (get_or (slice_range xs a b) k d)
-  element P k d small = subst P (sym (in_piece xs a b k d (omega (arith, small, wide))))
+  prefixes : All (λ (y : Payload). y.0.prefix ≡ p) (slice_range xs a b)
+  prefixes k d small = rw (in_piece xs a b k d (omega (arith, wide)))
+      (has (a + k) d (omega arith) (omega (arith, wide)))
 
   -- it is a group where the prefix covers the route
   pub group : ((payload : Payload) → payload.0.prefix ≡ p → CoversRoute route payload)
       → IsGroup route (slice_range xs a b)
-  group covers = record {
-    payloads = λ k d small. element IsLawfulPayload k d small (order.payloads (a + k) d (omega (arith, small, wide, within)));
-    covers = λ k d small. element (CoversRoute route) k d small (covers (get_or xs (a + k) d) (has (a + k) d (omega arith) (omega (arith, small, wide))));
-    ranked = λ i j d le small.
-        let first = in_piece xs a b i d (omega (arith, wide, le, small)) in
-        let last = in_piece xs a b j d (omega (arith, wide, small)) in
-        let one = has (a + i) d (omega arith) (omega (arith, small, le, wide)) in
-        let other = has (a + j) d (omega arith) (omega (arith, small, wide)) in
-        let up = order.ranked (a + i) (a + j) d (omega (arith, le)) (omega (arith, wide, small, within)) in
-        rw (first, last) (by_ranks (get_or xs (a + i) d) (get_or xs (a + j) d) (one ∙ sym other) up);
-  }
+  group covers =
+      let ys = slice_range xs a b in
+      let up = IsNonDecreasingBy-take table_place (b - a) _
+      (IsNonDecreasingBy-drop table_place a xs order.ranked) in record {
+        payloads = All-take IsLawfulPayload (b - a) _ (All-drop IsLawfulPayload a xs order.payloads);
+        covers = λ k d small. covers (get_or ys k d) (prefixes k d small);
+        ranked = λ i j d le small.
+            let same = prefixes i d (omega arith) ∙ sym (prefixes j d small) in
+            by_ranks (get_or ys i d) (get_or ys j d) same (up i j d le small);
+      }
 
   -- what some payload of it is, some payload of the table is
   pub any_in : (P : Payload → Type 0) → Any P (slice_range xs a b) → Any P xs
@@ -48,6 +47,25 @@ module _ (xs : List Payload) (order : IsInOrder xs) (route : FamilyPrefix) (a b 
   pub none_in : (P : Payload → Type 0) → ¬ Any P (slice_range xs a b) → (k : ℕ) (d : Payload) → a ≤ k → k < b
       → ¬ P (get_or xs k d)
   none_in P none k d from before is_such =
-      let y : Payload = get_or xs k d in
-      let there = piece_at xs a b k y from before ∙ get_or_default xs k y d (omega (arith, before, within)) in
-      none (k - a, y, omega (arith, from, before, wide), there, is_such)
+      let there = piece_at xs a b k _ from before ∙ get_or_default xs k _ d (omega (arith, before, within)) in
+      none (k - a, get_or xs k d, omega (arith, from, before, wide), there, is_such)
+
+-- ---- the payload to ask of a group: the last one whose AS number isn't below the route's
+
+module _ (route : FamilyPrefix) (xs : List Payload) (asn : ℕ) (group : IsGroup route xs) where
+  -- the payloads of a group are parted by the test
+  pub parted : IsPartitionedBy (λ (y : Payload). leb asn y.1) xs
+  parted i j d le small e =
+      let lawful = group.payloads i d in
+      grind (arith, le-leb, leb-true, rank_asn, group.payloads j d, group.ranked i j d)
+
+  -- what ranks no higher allows no longer route of its AS
+  pub last_of : (n : ℕ) → n ≤ length xs
+      → IsPartitionPoint (λ (y : Payload). leb asn y.1 ≡ true) (λ (y : Payload). leb asn y.1 ≡ false) xs n
+      → IsLastOf asn xs n
+  last_of n bound point k d small same =
+      let passes = point.0 (n - 1) d in
+      let fails = point.1 k d in
+      let one = group.payloads k d in
+      let other = group.payloads (n - 1) d in
+      grind (arith, leb-false, leb-true, rank_asn, rank_longest, group.ranked k (n - 1) d)

@@ -2,8 +2,9 @@
 use Rattle.roa_origin.proofs.Common.{List, arith, get_or, ℕ, ◌+◌, ◌<◌, ◌≤◌, get_or_default, IsNonDecreasingBy, FamilyPrefix, Payload, payload_place, place}
 use Rattle.roa_origin.specs.Links.{IsBetween}
 
-module _ (xs : List Payload) (from to m : ℕ) (p : FamilyPrefix) (d : Payload) (ordered : IsNonDecreasingBy payload_place xs)
-    (h : IsBetween xs from to p) (le : from ≤ m) (small : m < to) where
+module _ {xs : List Payload} {from to : ℕ} {p : FamilyPrefix} (h : IsBetween xs from to p)
+    (ordered : IsNonDecreasingBy payload_place xs) (m : ℕ) (d : Payload)
+    (le : from ≤ m) (small : m < to) where
   -- where that comes no later, the prefix is sought behind it
   pub behind_middle : payload_place (get_or xs m d) ≤ place p → IsBetween xs (m + 1) to p
   behind_middle before = record {

@@ -6,12 +6,9 @@ module _ (table announced withdrawn next : List Payload) (is : IsUpdated table a
   pub has_listed : (p : Payload) → Contains next p
       → (Contains table p × ¬ IsSentIn withdrawn p) ⊎ Contains (map as_sent announced) p
   has_listed p h =
-      grind (
-        arith,
-        Contains-append_cases is.kept (map as_sent announced) p,
-        those_are (λ q. ¬ IsSentIn withdrawn q) table is.kept p is.stays,
-        Contains-permutation next (is.kept ++ map as_sent announced) p (IsPermutation-sym (is.kept ++ map as_sent announced) next is.has) h,
-      )
+      let there = Contains-permutation next _ p (IsPermutation-sym _ next is.has) h in
+      let stays = those_are (λ q. ¬ IsSentIn withdrawn q) table is.kept p is.stays in
+      grind (arith, Contains-append_cases is.kept (map as_sent announced) p)
 
   pub lists : (p : Payload) → (Contains table p × ¬ IsSentIn withdrawn p) ⊎ Contains (map as_sent announced) p
       → Contains next p

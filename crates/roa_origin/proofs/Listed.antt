@@ -1,5 +1,5 @@
 -- What changes in order say of the list that they came in.
-use Rattle.roa_origin.proofs.Common.{All, All-contains, Any, Contains, List, ap, arith, get_or, inl, inr, length, map, refl, subst, sym, take, ℕ, ◌<◌, ◌∙◌, ◌≡◌, ◌≤◌, cases_lt, get_or-map, get_or-take, get_or_default, length-map, length-take, All-permutation, IsPermutation-map, IsPermutation-refl, IsPermutation-trans, IsNonDecreasingBy, IsPermutation, IsLawfulPayload, Payload, sent_place, as_sent, AreChangesOf, AreSorted, IsFirstPlace, IsLawfulChange, IsOf, IsOfBefore, IsSearched, IsSentIn, change_place, sent_change, Change}
+use Rattle.roa_origin.proofs.Common.{All, All-contains, Any, Contains, List, [], ap, arith, get_or, length, map, refl, sym, take, ℕ, ◌++◌, ◌+◌, ◌<◌, ◌∙◌, ◌∷◌, ◌≡◌, cases_lt, get_or-map, get_or-take, get_or_append_left, get_or_default, get_or_push, length-map, length-take, length_push, map-append, map_more, All-permutation, All-push, IsPermutation-map, IsPermutation-refl, IsPermutation-trans, IsNonDecreasingBy, IsPermutation, IsLawfulPayload, Payload, sent_place, as_sent, AreChangesOf, AreSorted, IsFirstPlace, IsLawfulChange, IsOf, IsOfBefore, IsSearched, IsSentIn, sent_change, Change}
 use Rattle.roa_origin.proofs.Found.{any_moved}
 use Rattle.roa_origin.proofs.Places.{lower, upper}
 use Rattle.roa_origin.proofs.Sent.{same_sent, sent_same}
@@ -24,16 +24,37 @@ module _ (xs : List Payload) (cs : List Change) (same : map entry_of cs ≡ map 
       → AreChangesOf xs cs
   listed lawful places = record {
     lawful = lawful;
-    entries = subst (λ ps. IsPermutation (map as_sent xs) ps) (sym same) (IsPermutation-refl (map as_sent xs));
+    entries = rw same (IsPermutation-refl (map as_sent xs));
     at_place = λ n d small.
-        let at : (get_or cs n d).place ≡ n = places n d small in
-        let inside : n < length xs = omega (arith, small, as_many) in
-        (omega (arith, at, inside), λ e. ap (λ k. as_sent (get_or xs k e)) at ∙ sym (entry_at n d e inside));
+        rw (places n d small) (omega (arith, as_many), λ e. sym (entry_at n d e (omega (arith, as_many))));
     each = λ n d small.
         let c = made d n in
         let inside : n < length cs = omega (arith, small, as_many) in
         (n, get_or cs n c, inside, get_or_default cs n (get_or cs n c) c inside, (entry_at n c d small, places n c inside));
   }
+
+-- the changes of the first n payloads, in their order
+pub record AreListed (xs : List Payload) (n : ℕ) (cs : List Change) : Type 0 where
+  pub same : map entry_of cs ≡ map as_sent (take n xs)
+  pub lawful : All IsLawfulChange cs
+  pub many : length cs ≡ n
+  pub places : (k : ℕ) (d : Change) → k < length cs → (get_or cs k d).place ≡ k
+
+-- and of one more
+pub one_listed : {xs : List Payload} {n : ℕ} {cs : List Change} → AreListed xs n cs → (x : Payload) (c : Change)
+    → n < length xs → x ≡ get_or xs n x → c.entry ≡ as_sent x → c.place ≡ n → IsLawfulChange c
+    → AreListed xs (n + 1) (cs ++ c ∷ [])
+one_listed {xs} {n} {cs} far x c small is entry place lawful = record {
+  same = rw (map-append, map_more as_sent xs n x small, far.same, entry, ← is);
+  lawful = All-push IsLawfulChange cs c far.lawful lawful;
+  many = length_push cs c ∙ ap (λ k. k + 1) far.many;
+  places = λ k d inside.
+      grind (arith, cases_lt k (length cs), far.places k d, get_or_append_left, get_or_push, length_push);
+}
+
+-- a change stands at the place of its payload
+abbrev StandsIn : List Payload → Change → Type 0
+StandsIn xs change = (change.place < length xs) × ((d : Payload) → as_sent (get_or xs change.place d) ≡ change.entry)
 
 -- in another order they are changes of the same list
 pub listed_moved : (xs : List Payload) (cs ds : List Change) → IsPermutation cs ds → AreChangesOf xs cs
@@ -41,14 +62,11 @@ pub listed_moved : (xs : List Payload) (cs ds : List Change) → IsPermutation c
 listed_moved xs cs ds moved are = record {
   lawful = All-permutation IsLawfulChange cs ds moved are.lawful;
   entries = IsPermutation-trans (map as_sent xs) (map entry_of cs) (map entry_of ds) are.entries (IsPermutation-map entry_of cs ds moved);
-  at_place = All-permutation (λ change. (change.place < length xs) × ((d : Payload) → as_sent (get_or xs change.place d) ≡ change.entry)) cs ds moved are.at_place;
+  at_place = All-permutation (StandsIn xs) cs ds moved are.at_place;
   each = λ n d small. any_moved (λ change. (change.entry ≡ as_sent (get_or xs n d)) × (change.place ≡ n)) cs ds moved (are.each n d small);
 }
 
 -- ---- a payload among changes
-
-abbrev StandsIn : List Payload → Change → Type 0
-StandsIn xs change = (change.place < length xs) × ((d : Payload) → as_sent (get_or xs change.place d) ≡ change.entry)
 
 module _ (xs : List Payload) (cs : List Change) (are : AreChangesOf xs cs) (p : Payload) (is : IsLawfulPayload p) where
   -- a change of the payload has its place
@@ -62,9 +80,8 @@ module _ (xs : List Payload) (cs : List Change) (are : AreChangesOf xs cs) (p : 
   pub sent_before : (n : ℕ) → Any (IsOfBefore p n) cs → IsSentIn (take n xs) p
   sent_before n (k, c, inside, there, is_of) =
       let found = at c (k, inside, there) is_of.0 in
-      let less : c.place < n = is_of.1 in
-      let q : Payload = get_or xs c.place p in
-      (c.place, q, omega (arith, less, found.0, length-take n xs), get_or-take n xs c.place q less ∙ get_or_default xs c.place q p found.0, found.1)
+      let is = get_or-take n xs c.place _ is_of.1 ∙ get_or_default xs c.place _ p found.0 in
+      (c.place, get_or xs c.place p, omega (arith, is_of.1, found.0, length-take n xs), is, found.1)
 
   pub change_before : (n : ℕ) → IsSentIn (take n xs) p → Any (IsOfBefore p n) cs
   change_before n (k, q, inside, there, same) =
@@ -93,10 +110,8 @@ pub first_of : (cs : List Change) (p : Payload) (at : ℕ) → AreSorted cs → 
     → at < length cs → (x : Change) → get_or cs at x ≡ x → IsOf p x → IsFirstPlace cs p x.place
 first_of cs p at order searched inside x is of = record {
   there = (at, x, inside, is, (of, refl));
-  first = λ k d small same. elim (cases_lt k at) [
-    | inl low ↦ absurd (let less = searched.before k d low small in omega (arith, less, same))
-    | inr high ↦
-        let up : change_place x ≤ change_place (get_or cs k d) = subst (λ (b : Change). change_place b ≤ change_place (get_or cs k d)) (get_or_default cs at d x inside ∙ is) (order.ordered at k d high small) in
-        lower (sent_place x.entry) (sent_place (get_or cs k d).entry) x.place (get_or cs k d).place (of ∙ sym same) up
-  ];
+  first = λ k d small same.
+      let up = lower (sent_place x.entry) (sent_change (get_or cs k d)) x.place (get_or cs k d).place (of ∙ sym same) in
+      let before = searched.before k d in
+      grind (arith, cases_lt k at, get_or_default cs at d x inside, order.ordered at k d);
 }

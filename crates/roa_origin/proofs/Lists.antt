@@ -1,5 +1,5 @@
 -- Lists in order: whether one has an element, and what is sorted and freed of duplicates.
-use Rattle.roa_origin.proofs.Common.{AllPairs, Bool, Contains, IsTrue, List, [], arith, inl, inr, refl, subst, ◌↔◌, ◌∷◌, ◌≡◌, ◌≢◌, ◌⊎◌, All-from_recursion, AllPairs-cons, Contains-dedup, Contains-from_dedup, IsStrictlySortedBy-dedup, Contains-permutation, IsPermutation-sym, IsEquivalence, IsTotalOrder, IsPermutation, IsSorted, IsStrictlySortedBy, eq_by_cmp, Ordering, Equal, Less}
+use Rattle.roa_origin.proofs.Common.{AllPairs, Bool, Contains, IsTrue, List, [], arith, inr, refl, ◌↔◌, ◌∷◌, ◌≡◌, ◌⊎◌, All-from_recursion, AllPairs-cons, Contains-dedup, Contains-from_dedup, IsStrictlySortedBy-dedup, Contains-permutation, IsPermutation-sym, IsEquivalence, IsTotalOrder, IsPermutation, IsSorted, IsStrictlySortedBy, eq_by_cmp, Ordering, Equal, Less}
 use Rattle.std.proofs.lemmas.List.Filters.{dedup_is}
 use Rattle.std.specs.List.Retain.{IsFiltered, DiffersFromLast}
 use Rattle.roa_origin.proofs.Members.{cons_cases, here, no_member, there}
@@ -10,21 +10,20 @@ pub nothing : {X : Type 0} (xs : List X) → ((x : X) → ¬ Contains xs x) → 
 nothing [] none = refl
 nothing (x ∷ xs) none = absurd (none x (here x xs))
 
+-- what stays of what had something, and what is new, is what has it next
+pub only_next : {Had Has New Gone Then : Type 0} → Had ⊎ ¬ Had → Has ⊎ ¬ Has → New ↔ (Has × ¬ Had)
+    → Gone ↔ (Had × ¬ Has) → Then ↔ ((Had × ¬ Gone) ⊎ New) → Then ↔ Has
+only_next had has new gone next = ((λ h. grind (arith, next.0 h)), λ h. next.1 (grind (arith)))
+
 module _ {X : Type 0} (R : X → X → Ordering) (total : IsTotalOrder R) (ties : (x y : X) → (R x y ≡ Equal) ↔ (x ≡ y)) where
   -- a list has an element or hasn't
-  not_first : (x : X) (xs : List X) (p : X) → R x p ≢ Equal → ¬ Contains xs p → ¬ Contains (x ∷ xs) p
-  not_first x xs p differ none h = elim (cons_cases x xs p h) [ inl e ↦ differ ((ties x p).1 e) | inr has ↦ none has ]
+  first_too : (x : X) (xs : List X) (p : X) → Contains xs p ⊎ ¬ Contains xs p
+      → Contains (x ∷ xs) p ⊎ ¬ Contains (x ∷ xs) p
+  first_too x xs p rest = grind (arith, cases_ordering (R x p), cons_cases x xs p, here x xs, there x xs p, ties x p)
 
   pub decide : (xs : List X) (p : X) → Contains xs p ⊎ ¬ Contains xs p
   decide [] p = inr (no_member p)
-  decide (x ∷ xs) p = elim (decide xs p) [
-    | inl has ↦ inl (there x xs p has)
-    | inr none ↦ elim (cases_ordering (R x p)) [
-      | inl less ↦ inr (not_first x xs p (λ tie. cc) none)
-      | inr (inl tie) ↦ inl (subst (λ (q : X). Contains (x ∷ xs) q) ((ties x p).0 tie) (here x xs))
-      | inr (inr more) ↦ inr (not_first x xs p (λ tie. cc) none)
-    ]
-  ]
+  decide (x ∷ xs) p = first_too x xs p (decide xs p)
 
   -- ---- sorted and freed of duplicates
 

@@ -23,23 +23,16 @@ module _ {X : Type 0} where
 
   -- those at which a property holds are the members at which it does
   pub those_are : (P : X → Type 0) (xs ys : List X) (y : X) → AreThose P xs ys → Contains ys y → P y × Contains xs y
-  those_are P [] ys y those h = absurd (no_member y (subst (λ zs. Contains zs y) those h))
-  those_are P (x ∷ xs) ys y (inl (p, zs, cut, those)) h = elim (cons_cases x zs y (subst (λ us. Contains us y) cut h)) [
-    | inl e ↦ (subst P e p, subst (Contains (x ∷ xs)) e (here x xs))
-    | inr more ↦ (let found = those_are P xs zs y those more in (found.0, there x xs y found.1))
-  ]
+  those_are P [] ys y those h = absurd (no_member y (rw those at h))
+  those_are P (x ∷ xs) ys y (inl (p, zs, cut, those)) h =
+      grind (arith, cons_cases x zs y, here x xs, there x xs y, those_are P xs zs y those)
   those_are P (x ∷ xs) ys y (inr (not_one, those)) h = let found = those_are P xs ys y those h in (found.0, there x xs y found.1)
 
   pub those_have : (P : X → Type 0) (xs ys : List X) (x : X) → AreThose P xs ys → Contains xs x → P x → Contains ys x
   those_have P [] ys x those h p = absurd (no_member x h)
-  those_have P (z ∷ xs) ys x (inl (q, zs, cut, those)) h p = elim (cons_cases z xs x h) [
-    | inl e ↦ subst (λ us. Contains us x) (sym cut) (subst (Contains (z ∷ zs)) e (here z zs))
-    | inr more ↦ subst (λ us. Contains us x) (sym cut) (there z zs x (those_have P xs zs x those more p))
-  ]
-  those_have P (z ∷ xs) ys x (inr (not_one, those)) h p = elim (cons_cases z xs x h) [
-    | inl e ↦ absurd (not_one (subst P (sym e) p))
-    | inr more ↦ those_have P xs ys x those more p
-  ]
+  those_have P (z ∷ xs) ys x (inl (q, zs, cut, those)) h p =
+      grind (arith, cons_cases z xs x h, here z zs, there z zs x, those_have P xs zs x those)
+  those_have P (z ∷ xs) ys x (inr (not_one, those)) h p = grind (arith, cons_cases z xs x h, those_have P xs ys x those)
 
   -- and are one list
   pub those_one : (P : X → Type 0) (xs ys zs : List X) → AreThose P xs ys → AreThose P xs zs → ys ≡ zs
@@ -59,20 +52,14 @@ module _ {X : Type 0} where
 
     first_one : (x y : X) (xs ys : List X) → AllPairs Before (x ∷ xs) → AllPairs Before (y ∷ ys)
         → ((p : X) → Contains (x ∷ xs) p ↔ Contains (y ∷ ys) p) → x ≡ y
-    first_one x y xs ys a b both = elim (cons_cases y ys x ((both x).0 (here x xs))) [
-      | inl e ↦ sym e
-      | inr after ↦ elim (cons_cases x xs y ((both y).1 (here y ys))) [
-        | inl e ↦ e
-        | inr later ↦ absurd (not_back x y (first_before x xs y a later) (first_before y ys x b after))
-      ]
-    ]
+    first_one x y xs ys a b both =
+        let later = first_before x xs y a in
+        let after = first_before y ys x b in
+        grind (arith, both x, both y, cons_cases x xs y, cons_cases y ys x, here x xs, here y ys, not_back x y)
 
     same_rest : (x y : X) (xs ys : List X) → x ≡ y → AllPairs Before (x ∷ xs) → (p : X)
         → (Contains (x ∷ xs) p → Contains (y ∷ ys) p) → Contains xs p → Contains ys p
-    same_rest x y xs ys e a p on h = elim (cons_cases y ys p (on (there x xs p h))) [
-      | inl is ↦ absurd (let before = subst (Before x) (sym (e ∙ is)) (first_before x xs p a h) in not_back x x before before)
-      | inr more ↦ more
-    ]
+    same_rest x y xs ys e a p on h = grind (arith, cons_cases y ys p, first_before x xs p a, not_back x x, there x xs p)
 
     pub same_list : (xs ys : List X) → AllPairs Before xs → AllPairs Before ys
         → ((p : X) → Contains xs p ↔ Contains ys p) → xs ≡ ys
@@ -88,10 +75,9 @@ module _ {X : Type 0} where
 module _ {X Y : Type 0} (f : X → Y) where
   pub map_has : (xs : List X) (x : X) → Contains xs x → Contains (map f xs) (f x)
   map_has [] x h = absurd (no_member x h)
-  map_has (z ∷ xs) x h = elim (cons_cases z xs x h) [
-    | inl e ↦ subst (λ u. Contains (f z ∷ map f xs) (f u)) e (here (f z) (map f xs))
-    | inr more ↦ there (f z) (map f xs) (f x) (map_has xs x more)
-  ]
+  map_has (z ∷ xs) x h =
+      let rest = map_has xs x in
+      grind (arith, cons_cases z xs x h, here (f z) (map f xs), rest, there (f z) (map f xs) (f x))
 
   pub map_from : (xs : List X) (y : Y) → Contains (map f xs) y → (x : X) × Contains xs x × (f x ≡ y)
   map_from [] y h = absurd (no_member y h)

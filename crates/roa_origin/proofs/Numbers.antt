@@ -32,7 +32,7 @@ pub by_distance : (u v : Bool) (x y k l behind : ℕ) → IsFamilyPrefix (made u
     → (y - x ≤ behind) ↔ CoversPrefix (made u x k) (made v y l)
 by_distance u v x y k l behind is is' e short from reach =
     let one = number_of u x in
-    let other = number_of v y in (
-      (λ near. covers_inside (made u x k) (made v y l) is is' (families u v x y e) (omega (arith, from)) (λ _. short) (omega (arith, near, reach))),
-      λ c. let inside = begins_inside (made u x k) (made v y l) c in omega (arith, inside, reach),
-    )
+    let other = number_of v y in
+    let same = families u v x y e in
+    let covers = covers_inside (made u x k) (made v y l) is is' in
+    ((λ near. grind (arith)), λ c. grind (arith, begins_inside (made u x k) (made v y l) c))

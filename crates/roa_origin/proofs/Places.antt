@@ -1,19 +1,15 @@
 -- What the numbers of a table's order say: a place tells the prefix, a rank the AS number and the greatest length.
-use Rattle.roa_origin.proofs.Common.{All, List, Option, ap, arith, get_or, inl, inr, sym, ℕ, ◌*◌, ◌+◌, ◌-◌, ◌<◌, ◌^◌, ◌≡◌, ◌≤◌, cases_lt, pow_below, pow_pos, IsNonDecreasingBy, IpAddr, round_covers, CoversPrefix, FamilyPrefix, IsFamilyPrefix, address_number, family_place, width, IsLawfulPayload, Payload, longest, payload_place, place, rank, table_place, told}
+use Rattle.roa_origin.proofs.Common.{All, Bool, List, Option, ap, arith, get_or, ℕ, ◌*◌, ◌+◌, ◌-◌, ◌<◌, ◌^◌, ◌≡◌, ◌≤◌, pow_below, pow_pos, IsNonDecreasingBy, bool_cmp, nat_cmp, ordering_then, IpAddr, round_covers, CoversPrefix, FamilyPrefix, IsFamilyPrefix, address_number, addr_of, family_place, width, IsLawfulPayload, Payload, longest, payload_place, place, rank, table_place, told}
+use Rattle.std.proofs.lemmas.Bool.Decides.{nat_tests}
 use Rattle.roa_origin.proofs.Nested.{len_small, number_small, same_place, same_width, width_small}
 
 -- what a prefix covers is no shorter
 pub covers_len : (p q : FamilyPrefix) → IsFamilyPrefix p → CoversPrefix p q → p.len ≤ q.len
 covers_len p q is c =
     let r = round_covers p q c in
-    let w : 2 ^ (width q.addr - q.len) ≡ 2 ^ (width p.addr - q.len) = ap (λ n. 2 ^ (n - q.len)) (sym (same_width p.addr q.addr r.family)) in
-    elim (cases_lt q.len p.len) [
-      | inr short ↦ omega (arith, short)
-      | inl longer ↦ (
-          let fits : p.len ≤ width p.addr = is.short in
-          let less : 2 ^ (width p.addr - p.len) < 2 ^ (width p.addr - q.len) = pow_below (width p.addr - p.len) (width p.addr - q.len) (omega (arith, longer, fits)) in
-          absurd (omega (arith, less, r.from, r.upto, w, pow_pos (width p.addr - p.len))))
-    ]
+    let same = same_width p.addr q.addr r.family in
+    let less = pow_below (width p.addr - p.len) (width p.addr - q.len) in
+    grind (arith, is.short, less, pow_pos (width p.addr - p.len), r.from, r.upto, same)
 
 same_addr : (a b : IpAddr) → family_place a ≡ family_place b → address_number a ≡ address_number b → a ≡ b
 same_addr a b e f = grind (arith)
@@ -64,3 +60,10 @@ by_places xs all ranked i j d le small =
 -- and those of one prefix in that of their ranks
 pub by_ranks : (p q : Payload) → p.0.prefix ≡ q.0.prefix → table_place p ≤ table_place q → rank p ≤ rank q
 by_ranks p q e = lower (payload_place p) (payload_place q) (rank p) (rank q) (ap place e)
+
+-- families, then addresses, then lengths compare as places
+pub fields_cmp : (u v : Bool) (x y k l : ℕ)
+    → IsFamilyPrefix (record { addr = addr_of u x; len = k }) → IsFamilyPrefix (record { addr = addr_of v y; len = l })
+    → ordering_then (ordering_then (bool_cmp u v) (nat_cmp x y)) (nat_cmp k l)
+    ≡ nat_cmp (place (record { addr = addr_of u x; len = k })) (place (record { addr = addr_of v y; len = l }))
+fields_cmp u v x y k l is is' = grind (arith, len_small, nat_tests, number_small)

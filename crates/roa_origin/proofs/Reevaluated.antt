@@ -1,5 +1,5 @@
 -- The places of the routes gone through whose validity differs by two lists.
-use Rattle.roa_origin.proofs.Common.{AllPairs, Contains, List, [], arith, get_or, inl, inr, length, subst, ℕ, ◌++◌, ◌+◌, ◌<◌, ◌↔◌, ◌∙◌, ◌∷◌, ◌≡◌, ◌≢◌, ◌≤◌, cases_lt, get_or_default, Contains-append_left, Contains-get_or, Contains-push, Contains-push_cases, all_pairs_push, FamilyPrefix, Payload, IsValidity, Validity}
+use Rattle.roa_origin.proofs.Common.{AllPairs, Contains, List, [], arith, get_or, length, subst, ℕ, ◌++◌, ◌+◌, ◌<◌, ◌↔◌, ◌∙◌, ◌∷◌, ◌≡◌, ◌≢◌, ◌≤◌, cases_lt, get_or_default, Contains-append_left, Contains-get_or, Contains-push, Contains-push_cases, all_pairs_push, FamilyPrefix, Payload, IsValidity, Validity}
 use Rattle.roa_origin.specs.Reevaluations.{AreChanged, HasChanged, IsChangedAt}
 
 -- a list gives a route one validity
@@ -22,14 +22,10 @@ module _ (old new : List Payload) (routes : List (FamilyPrefix × ℕ)) where
     one_more is = record {
       ascending = all_pairs_push (λ i j. i < j) places n so_far.ascending (λ k d inside. ((so_far.members (get_or places k d)).0 (Contains-get_or places k d inside)).0);
       members = λ k. (
-        (λ h. elim (Contains-push_cases places n k h) [
-          | inl old ↦ (let before = (so_far.members k).0 old in (omega (arith, before.0), before.1))
-          | inr e ↦ (omega (arith, e), subst (IsChangedAt old new routes) e is)
-        ]),
-        λ h. elim (cases_lt k n) [
-          | inl low ↦ Contains-append_left places (n ∷ []) k ((so_far.members k).1 (low, h.1))
-          | inr high ↦ subst (λ m. Contains (places ++ n ∷ []) m) (let e : n ≡ k = omega (arith, h.0, high) in e) (Contains-push places n)
-        ],
+        (λ h. grind (arith, Contains-push_cases places n k h, so_far.members k, is)),
+        λ h.
+            let before = Contains-append_left places (n ∷ []) k in
+            grind (arith, Contains-push places n, cases_lt k n, so_far.members k),
       );
     }
 

@@ -1,12 +1,12 @@
 -- One step of the walk along the links, from the first n payloads on: what it passes over, and what that tells of a
 -- route.
-use Rattle.roa_origin.proofs.Common.{Any, List, ap, arith, get_or, inl, inr, length, subst, sym, ℕ, ◌-◌, ◌<◌, ◌∙◌, ◌≡◌, ◌≤◌, ◌⊎◌, get_or_default, slice_range, CoversPrefix, FamilyPrefix, IsFamilyPrefix, AreUpTo, IsGroup, IsLink, IsTable, CoversRoute, Matches, Payload, IsMatched, Link, Validity, Invalid}
+use Rattle.roa_origin.proofs.Common.{Any, List, arith, get_or, length, ℕ, ◌-◌, ◌<◌, ◌∙◌, ◌≡◌, ◌≤◌, ◌⊎◌, get_or_default, slice_range, CoversPrefix, FamilyPrefix, IsGroup, IsLink, IsWalk, CoversRoute, HasAs, Matches, Payload, IsHeldBy, IsMatched, Link, Validity, Invalid}
 use Rattle.roa_origin.proofs.Groups.{any_in, group, none_in}
 use Rattle.roa_origin.proofs.Scans.{Tells, covered, passed}
-use Rattle.roa_origin.proofs.Walks.{fewer, has_prefix, no_link, nowhere, seen_or_free, steps}
+use Rattle.roa_origin.proofs.Walks.{fewer, no_link, nowhere, passes_none, steps}
 
-module _ (r : FamilyPrefix) (is_r : IsFamilyPrefix r) (xs : List Payload) (links : List Link) (table : IsTable xs links)
-    (n : ℕ) (within : n ≤ length xs) (upto : AreUpTo xs n r) (some : 0 < n) where
+module _ {xs : List Payload} {links : List Link} {n : ℕ} {r : FamilyPrefix}
+    (walk : IsWalk xs links n r) (some : 0 < n) where
   abbrev pub link : Link
   link = get_or links (n - 1) no_link
 
@@ -15,35 +15,34 @@ module _ (r : FamilyPrefix) (is_r : IsFamilyPrefix r) (xs : List Payload) (links
   last = get_or xs (n - 1) nowhere
 
   stands : n - 1 < length xs
-  stands = omega (arith, some, within)
+  stands = omega arith
 
   pub linked : (d : Payload) → IsLink xs (n - 1) (get_or xs (n - 1) d) link
-  linked d = table.linked (n - 1) d no_link (let as_many = table.as_many in omega (arith, stands, as_many))
+  linked d = walk.table.linked (n - 1) d no_link (omega arith)
 
   has : (k : ℕ) (d : Payload) → link.first ≤ k → k < n → (get_or xs k d).0.prefix ≡ last.0.prefix
-  has k d from before =
-      has_prefix xs n r table.in_order upto within is_r (n - 1) link (omega (arith, some)) linked k d from (omega (arith, before))
-      ∙ ap (λ (y : Payload). y.0.prefix) (get_or_default xs (n - 1) d nowhere stands)
+  has k d from before = (linked nowhere).one_prefix k d from (omega arith) (omega arith)
 
   step : (k : ℕ) (d : Payload) → k < length xs → link.back ≤ k
       → (n ≤ k) ⊎ (((link.first ≤ k) × (k < n)) ⊎ (¬ CoversPrefix (get_or xs k d).0.prefix r))
-  step k d small from = grind (arith, seen_or_free xs n r table.in_order upto within is_r (n - 1) link (omega (arith, some)) linked k d small from)
+  step k d small from =
+      let order = walk.table.in_order in
+      let passed = passes_none xs n r order walk.up_to walk.within walk.is_prefix (n - 1) link (omega arith) linked in
+      grind (arith, passed k d from)
 
   -- a payload that is read there is the last
   pub is_last : (x : Payload) → x ≡ get_or xs (n - 1) x → x ≡ last
   is_last x is = is ∙ get_or_default xs (n - 1) x nowhere stands
 
   pub first_within : link.first ≤ n
-  first_within = (let first = (linked nowhere).first in omega (arith, first, some))
+  first_within = omega (arith, linked nowhere)
 
   pub back_less : link.back < n
-  back_less = (let back = (linked nowhere).back in let first = (linked nowhere).first in omega (arith, back, first, some))
+  back_less = omega (arith, linked nowhere)
 
-  pub back_within : link.back ≤ length xs
-  back_within = omega (arith, back_less, within)
-
-  pub back_up_to : AreUpTo xs link.back r
-  back_up_to k d small = upto k d (omega (arith, small, back_less))
+  -- what is left is walked on
+  pub walk_back : IsWalk xs links link.back r
+  walk_back = (let less = back_less in grind (arith))
 
   -- it gets to a shorter prefix
   pub fewer_left : steps xs link.back < steps xs n
@@ -51,37 +50,55 @@ module _ (r : FamilyPrefix) (is_r : IsFamilyPrefix r) (xs : List Payload) (links
 
   -- those of the last one's prefix are a group where it covers the route
   pub group_at : CoversRoute r last → IsGroup r (slice_range xs link.first n)
-  group_at covers = group xs table.in_order r link.first n within last.0.prefix has (λ payload same. subst (λ (p : FamilyPrefix). CoversPrefix p r) (sym same) covers)
+  group_at covers = group xs walk.table.in_order r link.first n walk.within last.0.prefix has
+      (λ payload same. rw same covers)
 
   -- what some payload among them is, some payload of the table is
   pub any_at : (P : Payload → Type 0) → Any P (slice_range xs link.first n) → Any P xs
-  any_at = any_in xs table.in_order r link.first n within last.0.prefix has
+  any_at = any_in xs walk.table.in_order r link.first n walk.within last.0.prefix has
 
   none_at : (P : Payload → Type 0) → ¬ Any P (slice_range xs link.first n) → (k : ℕ) (d : Payload) → link.first ≤ k
       → k < n → ¬ P (get_or xs k d)
-  none_at = none_in xs table.in_order r link.first n within last.0.prefix has
+  none_at = none_in xs walk.table.in_order r link.first n walk.within last.0.prefix has
 
   -- what covers the route and none among them is, nor from n on, none behind the link is
   pub none_left : (P : Payload → Type 0) → ((y : Payload) → P y → CoversRoute r y)
       → ((k : ℕ) (d : Payload) → n ≤ k → k < length xs → ¬ P (get_or xs k d)) → ¬ Any P (slice_range xs link.first n)
       → (k : ℕ) (d : Payload) → link.back ≤ k → k < length xs → ¬ P (get_or xs k d)
-  none_left P covers so_far none k d from small is = elim (step k d small from) [
-    | inl seen ↦ so_far k d seen small is
-    | inr (inl here) ↦ none_at P none k d here.0 here.1 is
-    | inr (inr free) ↦ free (covers (get_or xs k d) is)
-  ]
+  none_left P covers so_far none k d from small is = grind (arith, covers, none_at P none k d, so_far k d, step k d)
 
   -- it covers the route, and none of its prefix matches
   pub step_covered : (asn : ℕ) (v : Validity) → Tells r asn xs (λ k. n ≤ k) v → CoversRoute r last
       → ¬ IsMatched r asn (slice_range xs link.first n) → Tells r asn xs (λ k. link.back ≤ k) Invalid
   step_covered asn v t covers none =
-      covered r asn xs (λ k. n ≤ k) (λ k. link.back ≤ k) v t (n - 1) last stands (get_or_default xs (n - 1) last nowhere stands) covers (λ k d small from. elim (step k d small from) [
-        | inl seen ↦ inl seen
-        | inr (inl here) ↦ inr (none_at (Matches r asn) none k d here.0 here.1)
-        | inr (inr free) ↦ inr (λ m. free m.covers)
-      ])
+      let is = get_or_default xs (n - 1) last nowhere stands in
+      covered r asn xs (λ k. n ≤ k) (λ k. link.back ≤ k) v t (n - 1) last stands is covers
+      (λ k d small from. grind (arith, none_at (Matches r asn) none k d, step k d small from))
 
   -- it doesn't cover the route
   pub step_free : (asn : ℕ) (v : Validity) → Tells r asn xs (λ k. n ≤ k) v → ¬ CoversRoute r last
       → Tells r asn xs (λ k. link.back ≤ k) v
   step_free asn v t free = grind (arith, has, passed, step)
+
+-- ---- from group to group of payloads that cover a route: none of those that the walk has passed has the route's AS
+
+-- what covers a prefix covers what that covers
+covers_through : (p q r : FamilyPrefix) → CoversPrefix p q → CoversPrefix q r → CoversPrefix p r
+covers_through p q r c d = record { family = c.family ∙ d.family; inside = λ n is. c.inside n (d.inside n is) }
+
+-- the first n payloads are left: the last of them covers the route, and none of the others both does and has its AS
+pub record IsLeft (r : FamilyPrefix) (asn : ℕ) (xs : List Payload) (links : List Link) (n : ℕ) : Type 0 where
+  pub walk : IsWalk xs links n r
+  pub last : (d : Payload) → 0 < n → CoversRoute r (get_or xs (n - 1) d)
+  pub none : (k : ℕ) (d : Payload) → n ≤ k → k < length xs
+      → ¬ (CoversRoute r (get_or xs k d) × HasAs asn (get_or xs k d))
+
+-- where none of the last one's prefix has the AS, its link tells what is left
+pub passed_group : {r : FamilyPrefix} {asn : ℕ} {xs : List Payload} {links : List Link} {n : ℕ}
+    (left : IsLeft r asn xs links n) (some : 0 < n) → ¬ IsHeldBy r asn (slice_range xs (link left.walk some).first n)
+    → IsLeft r asn xs links (link left.walk some).back
+passed_group {r} {asn} left some none = record {
+  walk = walk_back left.walk some;
+  last = λ d more. covers_through _ _ r ((linked left.walk some nowhere).covers d more) (left.last nowhere some);
+  none = none_left left.walk some (λ payload. CoversRoute r payload × HasAs asn payload) (λ y h. h.0) left.none none;
+}

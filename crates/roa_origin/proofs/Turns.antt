@@ -1,5 +1,5 @@
 -- Lists in order, and one walk along two of them.
-use Rattle.roa_origin.proofs.Common.{AllPairs, Contains, List, [], ap, arith, get_or, inl, inr, length, subst, suc, sym, take, ℕ, ◌++◌, ◌+◌, ◌<◌, ◌↔◌, ◌∙◌, ◌∷◌, ◌≡◌, ◌≢◌, ◌≤◌, take-suc, cases_lt, cases_order, get_or-take, get_or_default, length-take-le, Contains-append_left, Contains-push, Contains-push_cases, all_pairs_push, IsTotalOrder, Ordering, Equal, Less}
+use Rattle.roa_origin.proofs.Common.{AllPairs, Contains, List, [], ap, arith, get_or, length, subst, suc, sym, take, ℕ, ◌++◌, ◌+◌, ◌<◌, ◌↔◌, ◌∙◌, ◌∷◌, ◌≡◌, ◌≢◌, ◌≤◌, take-suc, cases_lt, cases_order, get_or-take, get_or_default, length-take-le, Contains-append_left, Contains-get_or, Contains-push, Contains-push_cases, all_pairs_push, IsTotalOrder, Ordering, Equal, Less}
 
 -- a turn of a walk along two lists: x stands next in the one; before the place of the other one all are less than x,
 -- and before the place that the walk came from all are less than what is left of the one
@@ -37,9 +37,6 @@ module _ {X : Type 0} (R : X → X → Ordering) (total : IsTotalOrder R) (ties 
     passed_more k l d e low more inside = total.trans (get_or other k d) x (get_or one l e) (before k d low) (later l e (omega (arith, more)) inside)
 
     -- the other list has x at the place, or nowhere
-    pub there : (place < length other) × (get_or other place x ≡ x) → Contains other x
-    there stands = (place, stands.0, stands.1)
-
     pub nowhere : ¬ ((place < length other) × (get_or other place x ≡ x)) → ¬ Contains other x
     nowhere none h = grind (arith, before, cases_order, not_itself)
 
@@ -50,41 +47,30 @@ module _ {X : Type 0} (R : X → X → Ordering) (total : IsTotalOrder R) (ties 
       -- x is kept
       pub kept : ¬ Contains other x → (p : X)
           → Contains (left ++ x ∷ []) p ↔ (Contains (take (at + 1) one) p × ¬ Contains other p)
-      kept none p =
-          rw next (
-            (λ h. elim (Contains-push_cases left x p h) [
-              | inl old ↦ (Contains-append_left (take at one) (x ∷ []) p ((so_far p).0 old).0, ((so_far p).0 old).1)
-              | inr e ↦ subst (λ (q : X). Contains (take at one ++ x ∷ []) q × ¬ Contains other q) e (Contains-push (take at one) x, none)
-            ]),
-            λ h. elim (Contains-push_cases (take at one) x p h.0) [
-              | inl old ↦ Contains-append_left left (x ∷ []) p ((so_far p).1 (old, h.1))
-              | inr e ↦ subst (λ (q : X). Contains (left ++ x ∷ []) q) e (Contains-push left x)
-            ],
-          )
+      kept none p = rw next (
+        (λ h.
+            let more = Contains-append_left (take at one) (x ∷ []) p in
+            grind (arith, so_far p, Contains-push_cases left x p h, Contains-push (take at one) x)),
+        λ h.
+            let more = Contains-append_left left (x ∷ []) p in
+            grind (arith, so_far p, Contains-push_cases (take at one) x p h.0, Contains-push left x),
+      )
 
       -- or left out
       pub dropped : Contains other x → (p : X) → Contains left p ↔ (Contains (take (at + 1) one) p × ¬ Contains other p)
-      dropped has p =
-          rw next (
-            (λ h. (Contains-append_left (take at one) (x ∷ []) p ((so_far p).0 h).0, ((so_far p).0 h).1)),
-            λ h. elim (Contains-push_cases (take at one) x p h.0) [
-              | inl old ↦ (so_far p).1 (old, h.1)
-              | inr e ↦ absurd (h.1 (subst (λ (q : X). Contains other q) e has))
-            ],
-          )
+      dropped has p = rw next (
+        (λ h. grind (arith, so_far p, Contains-append_left (take at one) (x ∷ []) p)),
+        λ h. grind (arith, has, so_far p, Contains-push_cases (take at one) x p h.0),
+      )
 
       -- what is kept stands before x
       pub ascending_more : Ascends left → Ascends (left ++ x ∷ [])
       ascending_more ordered = all_pairs_push (λ a b. R a b ≡ Less) left x ordered below
         where
           earlier : (y : X) → Contains (take at one) y → R y x ≡ Less
-          earlier y (k, inside, same) =
+          earlier y h =
               let long = length-take-le at one (omega (arith, turn.small)) in
-              let low : k < at = omega (arith, inside, long) in
-              let there = sym (get_or-take at one k y low) ∙ same in
-              subst (λ (z : X). R z x ≡ Less) there (subst (λ (z : X). R (get_or one k y) z ≡ Less) (get_or_default one at y x turn.small ∙ sym turn.is) (turn.ascends k at y low turn.small))
+              grind (arith, get_or-take at one h.0 y, get_or_default one at y x turn.small, turn.ascends h.0 at y)
 
           below : (k : ℕ) (d : X) → k < length left → R (get_or left k d) x ≡ Less
-          below k d inside =
-              let has : Contains left (get_or left k d) = (k, inside, get_or_default left k (get_or left k d) d inside) in
-              let front = ((so_far (get_or left k d)).0 has).0 in earlier (get_or left k d) front
+          below k d inside = earlier _ ((so_far (get_or left k d)).0 (Contains-get_or left k d inside)).0

@@ -1,14 +1,16 @@
 -- One walk along a table and the changes of it, turn by turn.
-use Rattle.roa_origin.proofs.Common.{All, Any, List, [], ap, append_assoc, arith, drop, get_or, inl, inr, length, length-drop, map, refl, subst, suc, sym, take, zero, ℕ, ◌++◌, ◌+◌, ◌-◌, ◌<◌, ◌∙◌, ◌∷◌, ◌≡◌, ◌≤◌, append-nil, get_or-drop, get_or-map, get_or_default, length-map, take_all, take_more, All-append, All-head, All-map, All-tail, All-permutation, IsPermutation-append_right, IsPermutation-refl, IsPermutation-trans, slice_range, IsNonDecreasingBy, IsPermutation, AreThose, IsInOrder, IsLawfulPayload, Payload, sent_place, table_place, as_sent, AreChangesOf, AreSorted, IsMergedOf, IsOf, IsSearched, IsSentIn, IsUpdated, sent_change, Change}
-use Rattle.roa_origin.proofs.Found.{found}
+use Rattle.roa_origin.proofs.Common.{All, Any, List, [], ap, append_assoc, arith, drop, get_or, inl, inr, length, length-drop, map, refl, suc, sym, take, zero, ℕ, ◌++◌, ◌+◌, ◌-◌, ◌<◌, ◌∙◌, ◌∷◌, ◌≡◌, ◌≤◌, take-suc, append-nil, cases_lt, get_or-drop, get_or_default, map_more, take_more, All-append, All-head, All-map, All-tail, All-take, All-permutation, IsPermutation-append_right, IsPermutation-trans, slice_range, IsNonDecreasingBy, IsPermutation, AreThose, IsInOrder, IsLawfulPayload, Payload, sent_place, table_place, AreChangesOf, AreSorted, IsMergedOf, IsOf, IsSearched, IsSentIn, IsUpdated, sent_change, Change}
 use Rattle.roa_origin.proofs.Listed.{by_payload, change_of, sent_in}
-use Rattle.roa_origin.proofs.Merges.{All-those, IsMerged, moved_last, moved_middle, none_merged, skipped, taken, those_more, those_without, turned}
+use Rattle.roa_origin.proofs.Merges.{All-those, IsMerged, moved_last, moved_middle, skipped, taken, those_more, those_without, turned}
 use Rattle.roa_origin.proofs.Places.{by_places}
 use Rattle.roa_origin.proofs.Sent.{as_told, by_sent}
 use Rattle.roa_origin.proofs.Walks.{nowhere}
 
 abbrev pub entry_of : Change → Payload
 entry_of c = c.entry
+
+abbrev pub come_place : Change → ℕ
+come_place c = table_place c.entry
 
 -- no change is of a payload
 abbrev pub Stays : List Change → Payload → Type 0
@@ -24,36 +26,26 @@ pub record IsSoFar (table : List Payload) (withdrawn announced : List Change) (a
       → sent_place (get_or withdrawn k d).entry < sent_place (get_or table i e)
   pub kept : List Payload
   pub stays : AreThose (Stays withdrawn) (take at table) kept
-  pub has : IsPermutation (kept ++ take come (map entry_of announced)) list
-  pub merged : IsMerged table_place table (map entry_of announced) at come list
+  pub has : IsPermutation (kept ++ map entry_of (take come announced)) list
+  pub merged : IsMerged table_place come_place table_place table announced at come list
 
-module _ (table : List Payload) (order : IsInOrder table) (withdrawn announced : List Change) (gone_order : AreSorted withdrawn) (come_order : AreSorted announced) where
+module _ {table : List Payload} {withdrawn announced : List Change} (order : IsInOrder table)
+    (gone_order : AreSorted withdrawn) (come_order : AreSorted announced) where
   -- what is announced is in a table's order, since each has its greatest length
-  up : IsNonDecreasingBy table_place (map entry_of announced)
+  up : IsNonDecreasingBy come_place announced
   up i j d le small =
-      let many = length-map announced entry_of in
-      let c : Change = record { entry = d; place = 0 } in
-      let inside : j < length announced = omega (arith, small, many) in
-      let inside' : i < length announced = omega (arith, le, inside) in
-      let one = come_order.lawful i c inside' in
-      let other = come_order.lawful j c inside in
-      let sent = as_told (get_or announced i c).entry (get_or announced j c).entry one.sent other.sent (by_payload announced come_order i j c le inside) in
-      rw (get_or-map entry_of announced i c d inside', get_or-map entry_of announced j c d inside) sent
+      let lawful = come_order.lawful in
+      as_told _ _ (lawful i d (omega arith)).sent (lawful j d small).sent
+      (by_payload announced come_order i j d le small)
 
-  pub start : IsSoFar table withdrawn announced 0 0 0 []
-  start = grind (arith, IsPermutation-refl, none_merged)
-
-  module _ (at gone come : ℕ) (list : List Payload) (so_far : IsSoFar table withdrawn announced at gone come list) where
+  module _ {at gone come : ℕ} {list : List Payload} (so_far : IsSoFar table withdrawn announced at gone come list) where
     -- the next one is announced
-    pub comes : (c : Change) → come < length announced → get_or announced come c ≡ c
-        → ((e : Payload) → at < length table → table_place c.entry ≤ table_place (get_or table at e))
-        → IsSoFar table withdrawn announced at gone (come + 1) (list ++ c.entry ∷ [])
-    comes c inside is le =
-        let many = length-map announced entry_of in
-        let within : come < length (map entry_of announced) = omega (arith, inside, many) in
-        let entry : get_or (map entry_of announced) come c.entry ≡ c.entry = get_or-map entry_of announced come c c.entry inside ∙ ap entry_of is in
-        let more : take (come + 1) (map entry_of announced) ≡ take come (map entry_of announced) ++ c.entry ∷ [] =
-        take_more (map entry_of announced) come c.entry within ∙ ap (λ p. take come (map entry_of announced) ++ p ∷ []) entry in
+    pub comes : (d : Change) → come < length announced
+        → ((e : Payload) → at < length table → come_place (get_or announced come d) ≤ table_place (get_or table at e))
+        → IsSoFar table withdrawn announced at gone (come + 1) (list ++ (get_or announced come d).entry ∷ [])
+    comes d inside le =
+        let c : Change = get_or announced come d in
+        let is = get_or_default announced come c d inside in
         record {
           at_within = so_far.at_within;
           gone_within = so_far.gone_within;
@@ -61,15 +53,17 @@ module _ (table : List Payload) (order : IsInOrder table) (withdrawn announced :
           passed = so_far.passed;
           kept = so_far.kept;
           stays = so_far.stays;
-          has = subst (λ ps. IsPermutation (so_far.kept ++ ps) (list ++ c.entry ∷ [])) (sym more) (moved_last so_far.kept (take come (map entry_of announced)) list c.entry so_far.has);
-          merged = turned table_place (map entry_of announced) table (come + 1) at (list ++ c.entry ∷ [])
-              (taken table_place (map entry_of announced) table come at list c.entry up order.ranked within entry (λ small. le c.entry small) (turned table_place table (map entry_of announced) at come list so_far.merged));
+          has = rw (map_more entry_of announced come d inside) (moved_last so_far.kept _ list c.entry so_far.has);
+          merged = turned (taken (turned so_far.merged) c c.entry refl up order.ranked inside is le);
         }
 
     -- the next one is of the table
-    module _ (p : Payload) (small : at < length table) (is : get_or table at p ≡ p) where
+    module _ (p : Payload) (small : at < length table) (is : p ≡ get_or table at p) where
+      here : (e : Payload) → get_or table at e ≡ p
+      here e = get_or_default table at e p small ∙ sym is
+
       next : take (at + 1) table ≡ take at table ++ p ∷ []
-      next = take_more table at p small ∙ ap (λ q. take at table ++ q ∷ []) is
+      next = take_more table at p small ∙ ap (λ q. take at table ++ q ∷ []) (sym is)
 
       -- the walk along the withdrawn gets there
       pub advanced : (place : ℕ) → place ≤ length withdrawn → IsSearched sent_change withdrawn (sent_place p) place
@@ -78,10 +72,8 @@ module _ (table : List Payload) (order : IsInOrder table) (withdrawn announced :
         at_within = so_far.at_within;
         gone_within = within;
         come_within = so_far.come_within;
-        passed = λ k i d e low from inside.
-            let less = searched.before k d low (omega (arith, low, within)) in
-            let more : sent_place p ≤ sent_place (get_or table i e) = subst (λ (q : Payload). sent_place q ≤ sent_place (get_or table i e)) (get_or_default table at e p small ∙ is) (by_sent table order.ranked at i e from inside) in
-            omega (arith, less, more);
+        passed = λ k i d e low from there.
+            let before = searched.before k d in grind (arith, by_sent table order.ranked at i e, here e);
         kept = so_far.kept;
         stays = so_far.stays;
         has = so_far.has;
@@ -99,109 +91,85 @@ module _ (table : List Payload) (order : IsInOrder table) (withdrawn announced :
         kept = so_far.kept;
         stays = rw next (those_without (Stays withdrawn) (take at table) so_far.kept p (λ none. none some) so_far.stays);
         has = so_far.has;
-        merged = skipped table_place table (map entry_of announced) at come list so_far.merged;
+        merged = skipped so_far.merged;
       }
         where
           c : Change
-          c = record { entry = p; place = 0 }
+          c = get_or withdrawn gone (record { entry = p; place = 0 })
 
           some : Any (IsOf p) withdrawn
-          some = (gone, get_or withdrawn gone c, there.0, get_or_default withdrawn gone (get_or withdrawn gone c) c there.0, there.1 c)
+          some = (gone, c, there.0, get_or_default withdrawn gone c _ there.0, there.1 _)
 
       -- or stays
-      pub remains : IsSearched sent_change withdrawn (sent_place p) gone
-          → ¬ ((gone < length withdrawn) × ((d : Change) → IsOf p (get_or withdrawn gone d)))
-          → ((c : Change) → come < length announced → table_place p ≤ table_place (get_or announced come c).entry)
+      pub remains : Stays withdrawn p
+          → ((c : Change) → come < length announced → table_place p ≤ come_place (get_or announced come c))
           → IsSoFar table withdrawn announced (at + 1) gone come (list ++ p ∷ [])
-      remains searched none le =
-          let many = length-map announced entry_of in
-          let stays : Stays withdrawn p = λ some. none (found sent_change withdrawn (sent_place p) gone (by_payload withdrawn gone_order) searched some) in record {
-            at_within = omega (arith, small);
-            gone_within = so_far.gone_within;
-            come_within = so_far.come_within;
-            passed = λ k i d e low from. so_far.passed k i d e low (omega (arith, from));
-            kept = so_far.kept ++ p ∷ [];
-            stays = rw next (those_more (Stays withdrawn) (take at table) so_far.kept p stays so_far.stays);
-            has = moved_middle so_far.kept (take come (map entry_of announced)) list p so_far.has;
-            merged = taken table_place table (map entry_of announced) at come list p order.ranked up small is (λ inside.
-                let c : Change = record { entry = p; place = 0 } in
-                let there : come < length announced = omega (arith, inside, many) in
-                rw (get_or-map entry_of announced come c p there) (le c there)) so_far.merged;
-          }
-
-  -- a run of the table's payloads comes before the next that is withdrawn, and no later than the next announced
-  module _ (at gone come end : ℕ) (list : List Payload) (so_far : IsSoFar table withdrawn announced at gone come list) (end_within : end ≤ length table)
-      (before : (k : ℕ) (d : Payload) (e : Change) → k < end → gone < length withdrawn → sent_place (get_or table k d) < sent_change (get_or withdrawn gone e))
-      (up_to : (k : ℕ) (d : Payload) (e : Change) → k < end → come < length announced → table_place (get_or table k d) ≤ table_place (get_or announced come e).entry) where
-    module _ (n : ℕ) (ps : List Payload) (far : IsSoFar table withdrawn announced (at + n) gone come ps) (short : at + n < end) where
-      abbrev p : Payload
-      p = get_or table (at + n) nowhere
-
-      small : at + n < length table
-      small = omega (arith, short, end_within)
-
-      is : get_or table (at + n) p ≡ p
-      is = get_or_default table (at + n) p nowhere small
-
-      less : (e : Change) → gone < length withdrawn → sent_place p < sent_change (get_or withdrawn gone e)
-      less e there = subst (λ (q : Payload). sent_place q < sent_change (get_or withdrawn gone e)) is (before (at + n) p e short there)
-
-      searched : IsSearched sent_change withdrawn (sent_place p) gone
-      searched = record {
-        before = λ k d low inside. subst (λ (q : Payload). sent_change (get_or withdrawn k d) < sent_place q) is (far.passed k (at + n) d p low (omega arith) small);
-        from = λ k d from inside.
-            let there : gone < length withdrawn = omega (arith, from, inside) in
-            let up = by_payload withdrawn gone_order gone k d from inside in
-            omega (arith, less d there, up);
+      remains stays le = record {
+        at_within = omega (arith, small);
+        gone_within = so_far.gone_within;
+        come_within = so_far.come_within;
+        passed = λ k i d e low from. so_far.passed k i d e low (omega (arith, from));
+        kept = so_far.kept ++ p ∷ [];
+        stays = rw next (those_more (Stays withdrawn) (take at table) so_far.kept p stays so_far.stays);
+        has = moved_middle so_far.kept (map entry_of (take come announced)) list p so_far.has;
+        merged = taken so_far.merged p p refl order.ranked up small (sym is) le;
       }
 
-      none : ¬ ((gone < length withdrawn) × ((d : Change) → IsOf p (get_or withdrawn gone d)))
-      none h = (let c : Change = record { entry = p; place = 0 } in omega (arith, less c h.0, h.1 c))
+  -- a run of the table's payloads comes before the next that is withdrawn, and no later than the next announced
+  module _ {at gone come end : ℕ} {list : List Payload} (so_far : IsSoFar table withdrawn announced at gone come list)
+      (end_within : end ≤ length table)
+      (before : (k : ℕ) (d : Payload) (e : Change) → k < end → gone < length withdrawn → sent_place (get_or table k d) < sent_change (get_or withdrawn gone e))
+      (up_to : (k : ℕ) (d : Payload) (e : Change) → k < end → come < length announced → table_place (get_or table k d) ≤ table_place (get_or announced come e).entry) where
+    module _ {k : ℕ} {ps : List Payload} (far : IsSoFar table withdrawn announced k gone come ps) (low : k < end) where
+      abbrev p : Payload
+      p = get_or table k nowhere
 
-      next_of_run : IsSoFar table withdrawn announced (at + n + 1) gone come (ps ++ p ∷ [])
-      next_of_run = grind (arith, is, none, p, remains, searched, small)
+      is : p ≡ get_or table k p
+      is = get_or_default table k nowhere p (omega arith)
 
-      piece : ps ≡ list ++ take n (drop at table) → ps ++ p ∷ [] ≡ list ++ take (suc n) (drop at table)
-      piece e = grind (arith, append_assoc, get_or-drop, is, length-drop, p, small, take_more)
+      -- what is passed of the withdrawn comes before it, and what is left behind it
+      stays : Stays withdrawn p
+      stays some =
+          let up = by_payload withdrawn gone_order gone some.0 some.1 in
+          grind (arith, is, cases_lt some.0 gone, far.passed some.0 k some.1 p, before k p some.1 low)
 
-    pub run_of : (n : ℕ) → at + n ≤ end
-        → IsSoFar table withdrawn announced (at + n) gone come (list ++ take n (drop at table))
-    run_of zero short = grind (arith, append-nil)
-    run_of (suc n) short =
-        let ps : List Payload = list ++ take n (drop at table) in
-        let shorter : at + n < end = omega (arith, short) in
-        let far = run_of n (omega (arith, short)) in
-        subst (λ k. IsSoFar table withdrawn announced k gone come (list ++ take (suc n) (drop at table))) (let e : at + n + 1 ≡ at + suc n = omega arith in e)
-        (subst (λ qs. IsSoFar table withdrawn announced (at + n + 1) gone come qs) (piece n ps far shorter refl) (next_of_run n ps far shorter))
+      next_of_run : IsSoFar table withdrawn announced (k + 1) gone come (ps ++ p ∷ [])
+      next_of_run = remains far p (omega arith) is stays (λ c there. rw is (up_to k p c low there))
+
+    run_of : (n k : ℕ) → k ≡ at + n → k ≤ end
+        → IsSoFar table withdrawn announced k gone come (list ++ take n (drop at table))
+    run_of zero k is short = (let same : k ≡ at = omega (arith, is) in rw (same, append-nil) so_far)
+    run_of (suc n) k is short =
+        let next : k ≡ at + n + 1 = omega (arith, is) in
+        let inside : n < length (drop at table) = (let many = length-drop at table in omega (arith, many)) in
+        let far = run_of n (at + n) refl (omega arith) in
+        rw (next, take-suc (drop at table) n nowhere inside, get_or-drop at table n nowhere, ← append_assoc list _ _)
+        (next_of_run far (omega arith))
 
     pub run : at ≤ end → IsSoFar table withdrawn announced end gone come (list ++ slice_range table at end)
-    run le = subst (λ k. IsSoFar table withdrawn announced k gone come (list ++ slice_range table at end)) (let e : at + (end - at) ≡ end = omega (arith, le) in e)
-        (run_of (end - at) (omega (arith, le)))
+    run le = run_of (end - at) end (omega arith) (omega arith)
 
-  -- at the end the list has all
-  module _ (at gone come : ℕ) (list : List Payload) (so_far : IsSoFar table withdrawn announced at gone come list) (all : length table ≤ at) (each : length announced ≤ come) where
-    every : take come (map entry_of announced) ≡ map entry_of announced
-    every = take_all come (map entry_of announced) (let many = length-map announced entry_of in omega (arith, many, each))
-
-    pub merged_of : IsMergedOf table withdrawn announced list
-    merged_of = grind (arith, every, take_all)
-
-    pub in_order : IsInOrder list
-    in_order =
-        let m = merged_of in
-        let kept : All IsLawfulPayload m.kept = All-those (Stays withdrawn) IsLawfulPayload table m.kept m.stays order.payloads in
-        let come : All IsLawfulPayload (map entry_of announced) = All-map IsLawfulPayload entry_of announced (λ k c inside. (come_order.lawful k c inside).payload) in
-        let payloads = All-permutation IsLawfulPayload (m.kept ++ map entry_of announced) list m.has (All-append IsLawfulPayload m.kept (map entry_of announced) kept come) in
-        record { payloads = payloads; ordered = by_places list payloads so_far.merged.ordered; ranked = so_far.merged.ordered }
+  -- the list is in order at the end
+  pub in_order : {at gone come : ℕ} {list : List Payload} → IsSoFar table withdrawn announced at gone come list
+      → IsInOrder list
+  in_order {at} {gone} {come} {list} so_far =
+      let Is = IsLawfulPayload in
+      let old = All-those (Stays withdrawn) Is (take at table) so_far.kept so_far.stays
+      (All-take Is at table order.payloads) in
+      let each = λ (k : ℕ) (c : Change) (inside : k < length announced). (come_order.lawful k c inside).payload in
+      let new = All-map Is entry_of (take come announced) (All-take (λ c. Is c.entry) come announced each) in
+      let payloads = All-permutation Is _ list so_far.has (All-append Is so_far.kept _ old new) in
+      let ranked = so_far.merged.ordered in
+      record { payloads = payloads; ordered = by_places list payloads ranked; ranked = ranked }
 
 -- ---- the lists that the changes came in
 
-pub updated_by : (table xs ys : List Payload) (ds cs : List Change) (next : List Payload) → All IsLawfulPayload table
-    → AreChangesOf xs ds → AreChangesOf ys cs → IsMergedOf table ds cs next → IsUpdated table ys xs next
-updated_by table xs ys ds cs next lawful gone come m = record {
+pub updated_by : {table xs ys next : List Payload} {ds cs : List Change} → IsMergedOf table ds cs next
+    → All IsLawfulPayload table → AreChangesOf xs ds → AreChangesOf ys cs → IsUpdated table ys xs next
+updated_by {table} {xs} {ys} {next} {ds} {cs} m lawful gone come = record {
   kept = m.kept;
   stays = those_of table m.kept lawful m.stays;
-  has = IsPermutation-trans (m.kept ++ map as_sent ys) (m.kept ++ map entry_of cs) next (IsPermutation-append_right m.kept (map as_sent ys) (map entry_of cs) come.entries) m.has;
+  has = IsPermutation-trans _ _ next (IsPermutation-append_right m.kept _ (map entry_of cs) come.entries) m.has;
 }
   where
     those_of : (ps kept : List Payload) → All IsLawfulPayload ps → AreThose (Stays ds) ps kept

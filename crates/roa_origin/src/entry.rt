@@ -160,7 +160,7 @@ impl Entry {
     }
 
     /// Compares the prefixes of payloads by a table's order.
-    #[tactic(auto, using(crate::proofs::Orders::fields_cmp))]
+    #[tactic(auto, using(crate::proofs::Places::fields_cmp))]
     fn cmp_prefix(&self, other: &Entry) -> Ordering
         ensures order { result ≡ nat_cmp (payload_place self.now) (payload_place other.now) }
         ensures payloads { IsLawfulPayload self.now × IsLawfulPayload other.now }

@@ -1,7 +1,7 @@
 -- The next payload is kept where the other list hasn't it.
 use Rattle.roa_origin.proofs.Common.{Contains, arith, subst, ◌↔◌, take_all, Payload, payload_cmp}
 use Rattle.roa_origin.proofs.Totals.{ties, total}
-use Rattle.roa_origin.proofs.Turns.{IsTurn, ascending_more, dropped, kept, nowhere, passed_more, there}
+use Rattle.roa_origin.proofs.Turns.{IsTurn, ascending_more, dropped, kept, nowhere, passed_more}
 use Rattle.roa_origin.proofs.changes.left_of.Goals.{then-not-stands_at+in_ok-push, else-not-stands_at}
 use Rattle.roa_origin.proofs.changes.left_of.Goals as goal
 
@@ -36,7 +36,8 @@ loop-payload-preserved g c =
             more,
           )
       | else-not-stands_at w ↦
-          let has = there payload_cmp is_total same one other left at _ _ x turn (c.stands_at.ensures.0 w.if-not-stands_at.false) in
+          let here = c.stands_at.ensures.0 w.if-not-stands_at.false in
+          let has : Contains other x = (c.not_less-at.result, here.0, here.1) in
           rw w.left-is (stands.within, told.1, dropped payload_cmp is_total same one other left at _ _ x turn told.2 has, more)
     ]
 

@@ -1,6 +1,6 @@
 -- The test parts the payloads of a group.
 use Rattle.roa_origin.proofs.Common.{false, leb, rules, true, ◌≡◌, IsPartitionPoint-from_clause, IsPartitionPoint, Payload}
-use Rattle.roa_origin.proofs.Lasts.{last_of, parted}
+use Rattle.roa_origin.proofs.Groups.{last_of, parted}
 use Rattle.roa_origin.proofs.table.count_asn_from.Goals as goal
 
 pub returns-clause-last : goal.returns-clause-last

@@ -1,10 +1,10 @@
 -- None that the walk has passed covers the route and has its AS.
-use Rattle.roa_origin.proofs.Left.{IsLeft, held}
+use Rattle.roa_origin.proofs.Steps.{IsLeft}
 use Rattle.roa_origin.proofs.Walks.{steps}
 use Rattle.roa_origin.proofs.table.is_held_in.Given as goal
 
 abbrev pub invariant-loop-at : goal.invariant-loop-at
-invariant-loop-at l = IsLeft (held l.route.0.prefix l.route.1) l.route.0.prefix l.payloads l.at
+invariant-loop-at l = IsLeft l.route.0.prefix l.route.1 l.payloads l.links l.at
 
 -- each turn gets to a shorter prefix
 abbrev pub decreases-loop-at : goal.decreases-loop-at

@@ -5,16 +5,10 @@ use Rattle.std.proofs.Math.Seq.{take-add}
 use Rattle.std.proofs.lemmas.List.{get_or-drop, get_or-take, length-drop, length-take, take-take}
 use Rattle.roa_origin.specs.Payloads.{Payload}
 use Rattle.roa_origin.specs.Soughts.{SoughtRoute}
-use Rattle.roa_origin.specs.Validities.{IsValidity}
+use Rattle.route_calls.proofs.OriginLemmas.{joined}
 use Rattle.route_calls.specs.Routes.{IsNoRoute}
 use Rattle.route_calls.specs.Soughts.{AreBegun, IsSoughtIn, TellsSought}
 use Rattle.route_calls.specs.declared.route.Unrouted.{Unrouted}
-
--- what is had of one list and of another is had of both, one after the other
-joined : {X Y : Type 0} (R : X → Y → Type 0) (xs : List X) (ys : List Y) (zs : List X) (ws : List Y)
-    → AreEach R xs ys → AreEach R zs ws → AreEach R (xs ++ zs) (ys ++ ws)
-joined R [] ys zs ws none each = rw none each
-joined R (x ∷ xs) ys zs ws (y, is, (rest, all, each)) more = (y, is, (rest ++ ws, ap (λ ts. ts ++ ws) all, joined R xs rest zs ws each more))
 
 module _ (payloads : List Payload) where
   -- what is told of the route as it is sought is told of the route
@@ -24,7 +18,7 @@ module _ (payloads : List Payload) where
     prefix = s.route;
     is_route = is.is_route;
     validity = validity;
-    is_validity = subst (λ (ps : List Payload). IsValidity s.route r.asn ps validity) is.payloads_are (subst (λ n. IsValidity s.route n s.payloads validity) is.asn so);
+    is_validity = rw (is.payloads_are, is.asn) at so;
     told = told;
   }
 
@@ -34,10 +28,6 @@ module _ (payloads : List Payload) where
   origins (r ∷ rs) ss octets (s, is, (rest, all, each)) told =
       let (octet, one, (others, put, more)) = subst (λ (ts : List SoughtRoute). AreEach TellsSought ts octets) all told in
       (octet, origin r s octet is one, (others, put, origins rs rest others each more))
-
--- the first ones, and those from there up to another place
-up_to : {X : Type 0} (xs : List X) (at n : ℕ) → take (at + n) xs ≡ take at xs ++ take n (drop at xs)
-up_to xs at n = take-add at n xs
 
 -- a piece of a list
 of_piece : {X : Type 0} (xs : List X) (at n : ℕ) → slice_range xs at (at + n) ≡ take n (drop at xs)
@@ -49,13 +39,15 @@ module _ (payloads : List Payload) (routes : List Route) (at n : ℕ) (octets : 
       → AreEach (IsSoughtIn payloads) (take k (drop at routes)) ss → AreEach TellsSought ss told
       → AreEach (IsOrigin payloads) (take (at + k) routes) (octets ++ told)
   told_behind k ss told sought each =
-      subst (λ (rs : List Route). AreEach (IsOrigin payloads) rs (octets ++ told)) (sym (up_to routes at k)) (joined (IsOrigin payloads) (take at routes) octets (take k (drop at routes)) told so_far (origins payloads (take k (drop at routes)) ss told sought each))
+      let more = origins payloads _ ss told sought each in
+      rw (take-add at k routes)
+      (joined (IsOrigin payloads) (take at routes) octets (take k (drop at routes)) told so_far more)
 
   -- so is what is told of all of it
   pub all_told : (ss : List SoughtRoute) (told : List ℕ)
       → AreEach (IsSoughtIn payloads) (slice_range routes at (at + n)) ss → AreEach TellsSought ss told
       → AreEach (IsOrigin payloads) (take (at + n) routes) (octets ++ told)
-  all_told ss told sought each = told_behind n ss told (subst (λ (rs : List Route). AreEach (IsSoughtIn payloads) rs ss) (of_piece routes at n) sought) each
+  all_told ss told sought each = told_behind n ss told (rw (of_piece routes at n) at sought) each
 
   -- the first of a piece that is none is the first of all
   pub first_none : (ss : List SoughtRoute) (told : List ℕ) (reason : Unrouted)
@@ -63,9 +55,9 @@ module _ (payloads : List Payload) (routes : List Route) (at n : ℕ) (octets : 
       → IsFirstNone (IsOrigin payloads) IsNoRoute routes (record { at = at + length ss; reason = reason })
   first_none ss told reason begun each =
       let k = length ss in
-      let (r, small, here, sought, none) = subst (λ (rs : List Route). AreBegun payloads rs ss (Some reason)) (of_piece routes at n) begun in
+      let (r, small, here, sought, none) = rw (of_piece routes at n) at begun in
       let below : k < n = omega (arith, small, length-take n (drop at routes)) in
       let left : at + k < length routes = omega (arith, small, length-take n (drop at routes), length-drop at routes) in
       let is : get_or routes (at + k) r ≡ r = sym (get_or-drop at routes k r) ∙ sym (get_or-take n (drop at routes) k r below) ∙ here in
-      let front = subst (λ (rs : List Route). AreEach (IsSoughtIn payloads) rs ss) (take-take k n (drop at routes) (omega (arith, below))) sought in
+      let front = rw (take-take k n (drop at routes) (omega (arith, below))) at sought in
       (r, left, is, (octets ++ told, told_behind k ss told front each, none))

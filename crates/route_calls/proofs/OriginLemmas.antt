@@ -1,7 +1,6 @@
 -- One element of an array after another; and validities in a table's order.
-use Rattle.route_calls.proofs.Common.{List, [], ap, arith, get_or, length, refl, subst, suc, sym, take, ℕ, ◌++◌, ◌+◌, ◌<◌, ◌∙◌, ◌∷◌, ◌≡◌, Err, MatchResult, Ok, Result, AreEach, IsFirstNone}
-use Rattle.std.proofs.lemmas.List.{get_or_default}
-use Rattle.std.proofs.Math.Seq.{take-suc}
+use Rattle.route_calls.proofs.Common.{List, [], ap, get_or, length, refl, take, ℕ, ◌++◌, ◌+◌, ◌<◌, ◌∷◌, ◌≡◌, Err, MatchResult, Ok, Result, AreEach, IsFirstNone}
+use Rattle.std.proofs.lemmas.List.{take_more}
 use Rattle.rpki_text.specs.Memory.{IfRefused}
 use Rattle.rpki_text.specs.declared.memory.OrMemory.{OrMemory}
 use Rattle.rpki_text.specs.declared.memory.OrMemory.TheVariants.{Refused, Memory}
@@ -9,19 +8,22 @@ use Rattle.route_calls.specs.declared.origin.FirstNone.{FirstNone}
 use Rattle.route_calls.specs.declared.route.Unrouted.{Unrouted}
 
 module _ {X Y : Type 0} (R : X → Y → Type 0) where
+  -- what is had of one list and of another is had of both, one after the other
+  pub joined : (xs : List X) (ys : List Y) (zs : List X) (ws : List Y) → AreEach R xs ys → AreEach R zs ws
+      → AreEach R (xs ++ zs) (ys ++ ws)
+  joined [] ys zs ws none each = rw none each
+  joined (x ∷ xs) ys zs ws (y, is, (rest, all, each)) more =
+      (y, is, (rest ++ ws, ap (λ ts. ts ++ ws) all, joined xs rest zs ws each more))
+
   pub append : (xs : List X) (ys : List Y) (x : X) (y : Y) → AreEach R xs ys → R x y
       → AreEach R (xs ++ x ∷ []) (ys ++ y ∷ [])
-  append [] ys x y none is = (y, is, ([], ap (λ (zs : List Y). zs ++ y ∷ []) none, refl))
-  append (z ∷ xs) ys x y (w, one, (rest, all, each)) is = (w, one, (rest ++ y ∷ [], ap (λ (zs : List Y). zs ++ y ∷ []) all, append xs rest x y each is))
+  append xs ys x y each is = joined xs ys (x ∷ []) (y ∷ []) each (y, is, ([], refl, refl))
 
   -- the element at a place is, and what is had of it is put behind the others
   pub one_more : (xs : List X) (ys all : List Y) (at : ℕ) (none : X) (y : Y) → at < length xs → all ≡ ys ++ y ∷ []
       → AreEach R (take at xs) ys → R (get_or xs at none) y → AreEach R (take (at + 1) xs) all
   one_more xs ys all at none y small put each is =
-      let x : X = get_or xs at none in
-      let e : at + 1 ≡ suc at = omega arith in
-      let more : take (at + 1) xs ≡ take at xs ++ x ∷ [] = rw e (take-suc xs at x small ∙ ap (λ (z : X). take at xs ++ z ∷ []) (sym (get_or_default xs at none x small))) in
-      rw put (subst (λ (zs : List X). AreEach R zs (ys ++ y ∷ [])) (sym more) (append (take at xs) ys x y each is))
+      rw (take_more xs at none small, put) (append (take at xs) ys _ y each is)
 
 -- what R says of each S says too: also of all before the first that is none
 module _ {X Y : Type 0} (R S : X → Y → Type 0) (so : (x : X) (y : Y) → R x y → S x y) where

@@ -1,9 +1,45 @@
 -- Steps of a run.
-use Rattle.lines_engine.proofs.Common.{List, None, Option, Some, [], ap, append-nil, append_assoc, arith, drop, length, refl, sym, take, ℕ, ◌++◌, ◌-◌, ◌∙◌, ◌∷◌, ◌≡◌, flat_map-append, Appends, Keeps, IfSome, lines_of, AnswersAll, AnswersFirst, BeginsAnswers, HasAnswered, HasAnsweredLine, HasWritten, as_line}
+use Rattle.lines_engine.proofs.Common.{List, None, Option, Some, [], append-nil, append_assoc, arith, drop, length, refl, take, ℕ, ◌++◌, ◌-◌, ◌∷◌, ◌≡◌, flat_map-append, Appends, Keeps, IfSome, lines_of, AnswersAll, AnswersFirst, BeginsAnswers, HasAnswered, HasAnsweredLine, HasWritten, as_line}
+use Rattle.std.specs.List.{AllZip}
 use Rattle.std.proofs.lemmas.List.{take-append-drop, length-drop}
-use Rattle.std.proofs.lemmas.List.Elements.{AllZip-push}
 use Rattle.std.proofs.Math.Seq.{take-length}
 use Rattle.lines_engine.proofs.KnownLemmas.{appends_nothing, appends_both, appends_kept}
+
+-- nothing is written yet
+pub written_none : (a : Option (List ℕ)) (bytes : List ℕ) → HasWritten a a bytes bytes
+written_none a bytes = record { written = []; bytes_are = refl; wrote = appends_nothing a }
+
+-- a call keeps what was written
+pub written_kept : (a b c : Option (List ℕ)) (all unwritten : List ℕ) → HasWritten a b all unwritten → Keeps b c
+    → HasWritten a c all unwritten
+written_kept a b c all unwritten had kept = grind (arith, appends_kept)
+
+-- of what is left some is written
+pub written_then : (a b c : Option (List ℕ)) (all bytes rest unwritten : List ℕ) → HasWritten a b all (bytes ++ rest)
+    → HasWritten b c bytes unwritten → HasWritten a c all (unwritten ++ rest)
+written_then a b c all bytes rest unwritten had more = record {
+  written = had.written ++ more.written;
+  bytes_are = simp (had.bytes_are, more.bytes_are, append_assoc);
+  wrote = appends_both a b c had.written more.written had.wrote more.wrote;
+}
+
+-- a beginning of the first of two texts is one of both
+pub written_first : (a b : Option (List ℕ)) (bytes more unwritten : List ℕ) → HasWritten a b bytes unwritten
+    → HasWritten a b (bytes ++ more) (unwritten ++ more)
+written_first a b bytes more unwritten had = record {
+  written = had.written;
+  bytes_are = simp (had.bytes_are, append_assoc);
+  wrote = had.wrote;
+}
+
+-- all of the first of two texts, and a beginning of the second
+pub written_both : (a b c : Option (List ℕ)) (bytes more unwritten : List ℕ) → HasWritten a b bytes []
+    → HasWritten b c more unwritten → HasWritten a c (bytes ++ more) unwritten
+written_both a b c bytes more unwritten had next = record {
+  written = had.written ++ next.written;
+  bytes_are = simp (had.bytes_are, next.bytes_are, append-nil, append_assoc);
+  wrote = appends_both a b c had.written next.written had.wrote next.wrote;
+}
 
 -- a write takes some of what is left, which a range from there on then is
 pub written_more : (a b c : Option (List ℕ)) (bytes rest : List ℕ) (count : ℕ) → HasWritten a b bytes rest
@@ -11,31 +47,47 @@ pub written_more : (a b c : Option (List ℕ)) (bytes rest : List ℕ) (count : 
 written_more a b c bytes rest count had wrote = record {
   written = had.written ++ take count rest;
   bytes_are =
-      let whole : take (length rest - count) (drop count rest) ≡ drop count rest = rw (← length-drop count rest) (take-length (drop count rest)) in
-      rw (whole) (had.bytes_are ∙ ap (λ (z : List ℕ). had.written ++ z) (sym (take-append-drop count rest)) ∙ sym (append_assoc had.written (take count rest) (drop count rest)));
+      rw (← length-drop count rest, take-length (drop count rest), append_assoc, take-append-drop) had.bytes_are;
   wrote = appends_both a b c had.written (take count rest) had.wrote wrote;
 }
 
 module _ (Is : List ℕ → List ℕ → Type 0) where
+  -- answers to the lines of two lists, one behind the other
+  AllZip-append : (xs ys zs ws : List (List ℕ)) → AllZip Is xs ys → AllZip Is zs ws → AllZip Is (xs ++ zs) (ys ++ ws)
+  AllZip-append [] [] zs ws first second = second
+  AllZip-append [] (y ∷ ys) zs ws first second = absurd first
+  AllZip-append (x ∷ xs) [] zs ws first second = absurd first
+  AllZip-append (x ∷ xs) (y ∷ ys) zs ws first second = (first.0, AllZip-append xs ys zs ws first.1 second)
+
+  -- some lines are answered, and then some of the others
+  pub answered_then : (a b c : Option (List ℕ)) (lines others rest : List (List ℕ)) (unwritten : List ℕ)
+      → HasAnswered Is a b lines others [] → HasAnswered Is b c others rest unwritten
+      → HasAnswered Is a c lines rest unwritten
+  answered_then a b c lines others rest unwritten had more = record {
+    answered = had.answered ++ more.answered;
+    texts = had.texts ++ more.texts;
+    lines_are = simp (had.lines_are, more.lines_are, append_assoc);
+    are_answers = AllZip-append had.answered had.texts more.answered more.texts had.are_answers more.are_answers;
+    wrote = rw flat_map-append (written_both a b c _ _ unwritten had.wrote more.wrote);
+  }
+
+  -- one line is answered
+  pub answered_one : (a b : Option (List ℕ)) (line : List ℕ) (rest : List (List ℕ)) (unwritten : List ℕ)
+      → HasAnsweredLine Is a b line unwritten → HasAnswered Is a b (line ∷ rest) rest unwritten
+  answered_one a b line rest unwritten more = record {
+    answered = line ∷ [];
+    texts = more.text ∷ [];
+    lines_are = refl;
+    are_answers = (more.is_answer, tt);
+    wrote = rw append-nil more.wrote;
+  }
+
   -- the first of the lines that are left is answered
   pub answered_more : (a b c : Option (List ℕ)) (lines : List (List ℕ)) (line : List ℕ) (rest : List (List ℕ))
       (unwritten : List ℕ) → HasAnswered Is a b lines (line ∷ rest) [] → HasAnsweredLine Is b c line unwritten
       → HasAnswered Is a c lines rest unwritten
-  answered_more a b c lines line rest unwritten had more = record {
-    answered = had.answered ++ line ∷ [];
-    texts = had.texts ++ more.text ∷ [];
-    lines_are = had.lines_are ∙ sym (append_assoc had.answered (line ∷ []) rest);
-    are_answers = AllZip-push Is had.answered had.texts line more.text had.are_answers more.is_answer;
-    wrote = record {
-      written = had.wrote.written ++ more.wrote.written;
-      bytes_are =
-          flat_map-append as_line had.texts (more.text ∷ [])
-          ∙ ap (λ (z : List ℕ). z ++ (as_line more.text ++ [])) (had.wrote.bytes_are ∙ append-nil had.wrote.written)
-          ∙ ap (λ (z : List ℕ). had.wrote.written ++ z) (append-nil (as_line more.text) ∙ more.wrote.bytes_are)
-          ∙ sym (append_assoc had.wrote.written more.wrote.written unwritten);
-      wrote = appends_both a b c had.wrote.written more.wrote.written had.wrote.wrote more.wrote.wrote;
-    };
-  }
+  answered_more a b c lines line rest unwritten had more =
+      answered_then a b c lines (line ∷ rest) rest unwritten had (answered_one b c line rest unwritten more)
 
   -- a call keeps what was written
   pub answered_kept : (a b c : Option (List ℕ)) (lines rest : List (List ℕ)) (unwritten : List ℕ)
@@ -54,7 +106,7 @@ module _ (Is : List ℕ → List ℕ → Type 0) where
     texts = [];
     lines_are = refl;
     are_answers = tt;
-    wrote = record { written = []; bytes_are = refl; wrote = appends_nothing a };
+    wrote = written_none a [];
   }
 
   -- nothing was written of any input's answers

@@ -1,20 +1,20 @@
 -- Steps of a run that answers as it reads.
-use Rattle.lines_engine.proofs.Common.{Bool, List, None, Option, Some, [], ap, append-nil, append_assoc, arith, cond, eqb, false, length, length-append, refl, suc, sym, true, zero, ℕ, ◌++◌, ◌<◌, ◌∙◌, ◌∷◌, ◌≡◌, ◌≢◌, flat_map-append, Consumes, Keeps, IfErr, IfSome, IsErrOf, Ok, OnOk, Result, HasNo, IsCutAt, lines_of, AnswersAll, AnswersBut, AnswersFirst, AnswersSomeOf, BeginsAnswers, BeginsAnswersOf, HasAnswered, HasAnsweredLine, as_line}
+use Rattle.lines_engine.proofs.Common.{List, None, Option, Some, [], ap, append_assoc, arith, length, length-append, refl, suc, zero, ℕ, ◌++◌, ◌<◌, ◌∷◌, ◌≡◌, ◌≢◌, Consumes, Keeps, IfErr, IfSome, IsErrOf, Ok, OnOk, Result, HasNo, IsCutAt, lines_of, AnswersAll, AnswersBut, AnswersFirst, AnswersSomeOf, BeginsAnswers, BeginsAnswersOf, HasAnswered, HasAnsweredLine}
 use Rattle.std.specs.Prelude.{Err}
-use Rattle.std.specs.List.{AllZip, flat_map, onto_first}
 use Rattle.std.proofs.lemmas.Bool.{eqb-true}
-use Rattle.lines_engine.proofs.KnownLemmas.{appends_both}
-use Rattle.lines_engine.proofs.RunLemmas.{answered_kept, answered_more, answered_none}
+use Rattle.lines_engine.proofs.RunLemmas.{answered_kept, answered_more, answered_none, answered_one, answered_then}
+
+-- a byte that is no end stands in front of the first line
+line_on : (b : ℕ) (text line : List ℕ) (others : List (List ℕ)) → b ≢ 10 → lines_of text ≡ line ∷ others
+    → lines_of (b ∷ text) ≡ (b ∷ line) ∷ others
+line_on b text line others none are = grind (arith, eqb-true)
 
 -- a text without an end, and then one
 pub lines-ended : (line behind : List ℕ) → HasNo 10 line → lines_of (line ++ 10 ∷ behind) ≡ line ∷ lines_of behind
 lines-ended [] behind none = refl
-lines-ended (b ∷ line) behind none = by_test (eqb b 10) refl (lines-ended line behind (λ k small. none (suc k) (omega arith))) where
-  by_test : (test : Bool) → eqb b 10 ≡ test → lines_of (line ++ 10 ∷ behind) ≡ line ∷ lines_of behind
-      → cond test ([] ∷ lines_of (line ++ 10 ∷ behind)) (onto_first b (lines_of (line ++ 10 ∷ behind)))
-      ≡ (b ∷ line) ∷ lines_of behind
-  by_test true is others = absurd (none 0 (omega arith) (eqb-true b 10 is))
-  by_test false is others = rw others refl
+lines-ended (b ∷ line) behind none =
+    line_on b (line ++ 10 ∷ behind) line (lines_of behind) (none 0 (omega arith))
+    (lines-ended line behind (λ k small. none (suc k) (omega arith)))
 
 -- a text has a line where it has a byte
 pub lines-some : (text : List ℕ) → 0 < length text → lines_of text ≢ []
@@ -24,15 +24,10 @@ lines-some (b ∷ text) some none = grind (arith)
 -- a text with a byte and no end is one line
 pub lines-unended : (text : List ℕ) → HasNo 10 text → 0 < length text → lines_of text ≡ text ∷ []
 lines-unended [] none some = absurd (omega arith)
-lines-unended (b ∷ []) none some = by_test (eqb b 10) refl where
-  by_test : (test : Bool) → eqb b 10 ≡ test → cond test ([] ∷ []) ((b ∷ []) ∷ []) ≡ (b ∷ []) ∷ []
-  by_test true is = absurd (none 0 (omega arith) (eqb-true b 10 is))
-  by_test false is = refl
-lines-unended (b ∷ d ∷ text) none some = by_test (eqb b 10) refl (lines-unended (d ∷ text) (λ k small. none (suc k) (omega arith)) (omega arith)) where
-  by_test : (test : Bool) → eqb b 10 ≡ test → lines_of (d ∷ text) ≡ (d ∷ text) ∷ []
-      → cond test ([] ∷ lines_of (d ∷ text)) (onto_first b (lines_of (d ∷ text))) ≡ (b ∷ d ∷ text) ∷ []
-  by_test true is others = absurd (none 0 (omega arith) (eqb-true b 10 is))
-  by_test false is others = rw others refl
+lines-unended (b ∷ []) none some = grind (arith, eqb-true, none 0)
+lines-unended (b ∷ d ∷ text) none some =
+    line_on b (d ∷ text) (d ∷ text) [] (none 0 (omega arith))
+    (lines-unended (d ∷ text) (λ k small. none (suc k) (omega arith)) (omega arith))
 
 -- texts without an end make one
 pub none_both : (text others : List ℕ) → HasNo 10 text → HasNo 10 others → HasNo 10 (text ++ others)
@@ -52,37 +47,6 @@ pub other_of : {X E Q : Type 0} (r : Result X E) (e : E) → IsErrOf r e → IfE
 other_of r e is says = grind (arith)
 
 module _ (Is : List ℕ → List ℕ → Type 0) where
-  AllZip-append : (xs ys zs ws : List (List ℕ)) → AllZip Is xs ys → AllZip Is zs ws → AllZip Is (xs ++ zs) (ys ++ ws)
-  AllZip-append [] [] zs ws first second = second
-  AllZip-append [] (y ∷ ys) zs ws first second = absurd first
-  AllZip-append (x ∷ xs) [] zs ws first second = absurd first
-  AllZip-append (x ∷ xs) (y ∷ ys) zs ws first second = (first.0, AllZip-append xs ys zs ws first.1 second)
-
-  -- some lines are answered, and then some of the others
-  pub answered_then : (a b c : Option (List ℕ)) (lines others rest : List (List ℕ)) (unwritten : List ℕ)
-      → HasAnswered Is a b lines others [] → HasAnswered Is b c others rest unwritten
-      → HasAnswered Is a c lines rest unwritten
-  answered_then a b c lines others rest unwritten had more = record {
-    answered = had.answered ++ more.answered;
-    texts = had.texts ++ more.texts;
-    lines_are = had.lines_are ∙ ap (λ (z : List (List ℕ)). had.answered ++ z) more.lines_are ∙ sym (append_assoc had.answered more.answered rest);
-    are_answers = AllZip-append had.answered had.texts more.answered more.texts had.are_answers more.are_answers;
-    wrote = record {
-      written = had.wrote.written ++ more.wrote.written;
-      bytes_are =
-          flat_map-append as_line had.texts more.texts
-          ∙ ap (λ (z : List ℕ). z ++ flat_map as_line more.texts) (had.wrote.bytes_are ∙ append-nil had.wrote.written)
-          ∙ ap (λ (z : List ℕ). had.wrote.written ++ z) more.wrote.bytes_are
-          ∙ sym (append_assoc had.wrote.written more.wrote.written unwritten);
-      wrote = appends_both a b c had.wrote.written more.wrote.written had.wrote.wrote more.wrote.wrote;
-    };
-  }
-
-  -- one line is answered
-  pub answered_one : (a b : Option (List ℕ)) (line : List ℕ) (rest : List (List ℕ)) (unwritten : List ℕ)
-      → HasAnsweredLine Is a b line unwritten → HasAnswered Is a b (line ∷ rest) rest unwritten
-  answered_one a b line rest unwritten more = answered_more Is a a b (line ∷ rest) line rest unwritten (answered_none Is a (line ∷ rest)) more
-
   -- a line that ends in a piece is answered
   pub piece_more : (a b c : Option (List ℕ)) (lines : List (List ℕ)) (part piece line behind more unwritten : List ℕ)
       → HasNo 10 part → IsCutAt 10 piece line behind → HasAnswered Is a b lines (lines_of (part ++ (piece ++ more))) []
@@ -104,14 +68,14 @@ module _ (Is : List ℕ → List ℕ → Type 0) where
   -- not all of these others were answered
   pub then_some : (a b c : Option (List ℕ)) (input : List ℕ) (others : List (List ℕ))
       → HasAnswered Is a b (lines_of input) others [] → AnswersSomeOf Is b c others → AnswersFirst Is a c input
-  then_some a b c input others had some = (some.0, answered_then a b c (lines_of input) others some.0 [] had some.2, λ none. absurd (some.1 none))
+  then_some a b c input others had some = (some.0, answered_then Is a b c (lines_of input) others some.0 [] had some.2, λ none. absurd (some.1 none))
 
   -- some of them were, and a beginning written
   pub then_begun : (a b c : Option (List ℕ)) (input : List ℕ) (others : List (List ℕ))
       → HasAnswered Is a b (lines_of input) others [] → BeginsAnswersOf Is b c others → BeginsAnswers Is a c input
-  then_begun a b c input others had begun = (begun.0, (begun.1.0, answered_then a b c (lines_of input) others begun.0 begun.1.0 had begun.1.1))
+  then_begun a b c input others had begun = (begun.0, (begun.1.0, answered_then Is a b c (lines_of input) others begun.0 begun.1.0 had begun.1.1))
 
-  -- a piece was read, and not all of it answered
+  -- a piece was read, and not all of it answered, or a beginning of its answers written
   pub but_some : (a b c input left next : Option (List ℕ)) (part piece : List ℕ) → AnswersBut Is a b input left part
       → Consumes left next piece → ((more : List ℕ) → AnswersSomeOf Is b c (lines_of (part ++ (piece ++ more))))
       → IfSome input (AnswersFirst Is a c)
@@ -130,17 +94,21 @@ module _ (Is : List ℕ → List ℕ → Type 0) where
   but_begun a b c (Some input) (Some left) (Some next) part piece had read each =
       then_begun a b c input (lines_of (part ++ (piece ++ next))) (rw read at had) (each next)
 
-  -- nothing was answered of a piece with a byte
-  pub none_answered : (a : Option (List ℕ)) (part piece : List ℕ) → 0 < length piece → (more : List ℕ)
-      → AnswersSomeOf Is a a (lines_of (part ++ (piece ++ more)))
-  none_answered a part piece some more =
-      let long : 0 < length (part ++ (piece ++ more)) = omega (arith, length-append part (piece ++ more), length-append piece more) in
-      (lines_of (part ++ (piece ++ more)), lines-some (part ++ (piece ++ more)) long, answered_none Is a (lines_of (part ++ (piece ++ more))))
+  -- not all is answered where a byte is left
+  pub some_left : (a b : Option (List ℕ)) (lines : List (List ℕ)) (part rest more : List ℕ) → 0 < length rest
+      → HasAnswered Is a b lines (lines_of (part ++ (rest ++ more))) [] → AnswersSomeOf Is a b lines
+  some_left a b lines part rest more some had =
+      let long : 0 < length (part ++ (rest ++ more)) = omega (arith, length-append part (rest ++ more), length-append rest more) in
+      (lines_of (part ++ (rest ++ more)), lines-some (part ++ (rest ++ more)) long, had)
 
   -- a piece with a byte was read, and none of it answered
   pub but_unanswered : (a b input left next : Option (List ℕ)) (part piece : List ℕ) → AnswersBut Is a b input left part
       → Consumes left next piece → 0 < length piece → IfSome input (AnswersFirst Is a b)
-  but_unanswered a b input left next part piece had read some = grind (arith, but_some, none_answered)
+  but_unanswered a b input left next part piece had read some =
+      but_some a b b input left next part piece had read (λ more.
+      let lines = lines_of (part ++ (piece ++ more)) in
+      some_left b b lines part piece more some (answered_none Is b lines)
+      )
 
   -- the last line is answered
   pub line_last : {X E : Type 0} (r : Result X E) (a b : Option (List ℕ)) (part : List ℕ) → HasNo 10 part
@@ -158,22 +126,14 @@ module _ (Is : List ℕ → List ℕ → Type 0) where
 
   pub last_part : (a b : Option (List ℕ)) (part unwritten : List ℕ) → HasNo 10 part → 0 < length part
       → HasAnsweredLine Is a b part unwritten → BeginsAnswersOf Is a b (lines_of part)
-  last_part a b part unwritten none some one = rw (lines-unended part none some) ([], (unwritten, answered_one a b part [] unwritten one))
-
-  -- of a piece no more is answered than its lines before a rest with a byte
-  pub rest_some : (a b : Option (List ℕ)) (lines : List (List ℕ)) (part rest more : List ℕ) → 0 < length rest
-      → HasAnswered Is a b lines (lines_of (part ++ (rest ++ more))) [] → AnswersSomeOf Is a b lines
-  rest_some a b lines part rest more some had =
-      let long : 0 < length (part ++ (rest ++ more)) = omega (arith, length-append part (rest ++ more), length-append rest more) in
-      (lines_of (part ++ (rest ++ more)), lines-some (part ++ (rest ++ more)) long, had)
+  last_part a b part unwritten none some one = rw (lines-unended part none some) ([], (unwritten, answered_one Is a b part [] unwritten one))
 
   -- a line that ends in a piece isn't answered, or a beginning of its answer is written
   pub joined_some : (a b : Option (List ℕ)) (lines : List (List ℕ)) (part piece line behind more : List ℕ)
-      → HasNo 10 part → IsCutAt 10 piece line behind → HasAnswered Is a b lines (lines_of (part ++ (piece ++ more))) []
+      → IsCutAt 10 piece line behind → HasAnswered Is a b lines (lines_of (part ++ (piece ++ more))) []
       → AnswersSomeOf Is a b lines
-  joined_some a b lines part piece line behind more none cut had =
-      let some : (part ++ line) ∷ lines_of (behind ++ more) ≢ [] = λ e. cc in
-      ((part ++ line) ∷ lines_of (behind ++ more), some, rw (lines-joined part piece line behind more none cut) at had)
+  joined_some a b lines part piece line behind more cut had =
+      some_left a b lines part piece more (omega (arith, ap length cut.split, length-append line (10 ∷ behind))) had
 
   pub joined_part : (a b c : Option (List ℕ)) (lines : List (List ℕ)) (part piece line behind more unwritten : List ℕ)
       → HasNo 10 part → IsCutAt 10 piece line behind → HasAnswered Is a b lines (lines_of (part ++ (piece ++ more))) []
@@ -206,4 +166,4 @@ module _ (Is : List ℕ → List ℕ → Type 0) where
       → HasAnswered Is b c (lines_of part) [] [] → Keeps c d → IfSome input (BeginsAnswers Is a d)
   last_unflushed a b c d None part had all kept = tt
   last_unflushed a b c d (Some bytes) part had all kept =
-      ([], ([], answered_kept Is a c d (lines_of bytes) [] [] (answered_then a b c (lines_of bytes) (lines_of part) [] [] had all) kept))
+      ([], ([], answered_kept Is a c d (lines_of bytes) [] [] (answered_then Is a b c (lines_of bytes) (lines_of part) [] [] had all) kept))

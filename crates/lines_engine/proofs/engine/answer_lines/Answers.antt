@@ -1,4 +1,4 @@
-use Rattle.lines_engine.proofs.Common.{Err, ap, arith, refl, sym, lines_of}
+use Rattle.lines_engine.proofs.Common.{Err, ap, arith, sym, lines_of}
 use Rattle.lines_engine.proofs.RunLemmas.{answered_none, answered_more}
 use Rattle.lines_engine.proofs.engine.answer_lines.Goals as goal
 
@@ -14,4 +14,4 @@ pub loop-rest-preserved : goal.loop-rest-preserved
 loop-rest-preserved g c = grind (arith, answered_more)
 
 pub loop-rest-init : goal.loop-rest-init
-loop-rest-init g c = record { unmarked = refl; answered = answered_none (g.L.Answers.is_answer c.args.answers.now) _ _ }
+loop-rest-init g c = grind (arith, answered_none)

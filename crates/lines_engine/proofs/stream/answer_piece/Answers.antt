@@ -1,6 +1,6 @@
 use Rattle.lines_engine.proofs.Common.{Err, ap, arith, sym}
 use Rattle.lines_engine.proofs.RunLemmas.{answered_none}
-use Rattle.lines_engine.proofs.StreamLemmas.{joined_part, joined_some, other_of, piece_more, rest_some}
+use Rattle.lines_engine.proofs.StreamLemmas.{joined_part, joined_some, other_of, piece_more, some_left}
 use Rattle.lines_engine.proofs.stream.answer_piece.Goals as goal
 
 pub loop-line-init : goal.loop-line-init
@@ -11,7 +11,7 @@ pub returns-in_err-answer_joined-clause-some_answered : goal.returns-in_err-answ
 returns-in_err-answer_joined-clause-some_answered g c is more =
     let same = rw is at c.from_residual.ensures.1 in
     let kept = c.in_err-answer_joined.ensures.memory (ap Err (sym same)) in
-    rw kept (joined_some (g.L.Answers.is_answer c.args.answers.now) _ _ _ c.loop-line.part.items c.loop-line.rest.now c.in-Some.line.now c.in-Some.behind.now more c.loop-line.invariant.unended c.in-Some.ensures (c.loop-line.invariant.answered more))
+    rw kept (joined_some (g.L.Answers.is_answer c.args.answers.now) _ _ _ c.loop-line.part.items c.loop-line.rest.now c.in-Some.line.now c.in-Some.behind.now more c.in-Some.ensures (c.loop-line.invariant.answered more))
 
 -- a beginning of its answer was written
 pub returns-in_err-answer_joined-clause-some_written : goal.returns-in_err-answer_joined-clause-some_written
@@ -26,4 +26,4 @@ loop-line-preserved g c = grind (arith, piece_more)
 -- the rest was not kept
 pub returns-clause-some_answered : goal.returns-clause-some_answered
 returns-clause-some_answered g c is more =
-    rest_some (g.L.Answers.is_answer c.args.answers.now) _ _ _ c.loop-line.part.items c.loop-line.rest.now more (other_of c.keep.result _ is c.keep.ensures.memory) (c.loop-line.invariant.answered more)
+    some_left (g.L.Answers.is_answer c.args.answers.now) _ _ _ c.loop-line.part.items c.loop-line.rest.now more (other_of c.keep.result _ is c.keep.ensures.memory) (c.loop-line.invariant.answered more)

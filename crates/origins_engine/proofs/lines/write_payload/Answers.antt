@@ -1,5 +1,6 @@
-use Rattle.origins_engine.proofs.LineLemmas.{none_written}
+use Rattle.lines_engine.proofs.RunLemmas.{written_none}
+use Rattle.origins_engine.proofs.LineLemmas.{on_err}
 use Rattle.origins_engine.proofs.lines.write_payload.Goals as goal
 
 pub returns-in_err-line-clause-some_written : goal.returns-in_err-line-clause-some_written
-returns-in_err-line-clause-some_written g c = none_written c.from_residual.result _ _
+returns-in_err-line-clause-some_written g c = on_err c.from_residual.result (_, written_none _ _)

@@ -1,5 +1,7 @@
 use Rattle.origins_engine.proofs.Common.{[], inr}
-use Rattle.origins_engine.proofs.LineLemmas.{told_between, told_flushed, written_kept}
+use Rattle.std.proofs.lemmas.Result.{on_ok_weaker}
+use Rattle.lines_engine.proofs.RunLemmas.{written_kept}
+use Rattle.origins_engine.proofs.LineLemmas.{told_between}
 use Rattle.origins_engine.proofs.tables.tell_between.Goals as goal
 
 -- a beginning of the changes was written
@@ -16,8 +18,10 @@ returns-in_err-write_both-clause-some_written g c is =
 
 pub returns-clause-told : goal.returns-clause-told
 returns-clause-told g c =
-    told_flushed c.flush_all.result _ _ _ _ c.in_ok-changes.ensures.withdrawn c.in_ok-changes.ensures.announced _ _ _
-    c.in_ok-write_both.ensures.written c.flush_all.ensures.kept
+    let kept = written_kept _ _ _ _ [] c.in_ok-write_both.ensures.written c.flush_all.ensures.kept in
+    on_ok_weaker c.flush_all.result
+    (λ flushed. told_between _ _ _ _ c.in_ok-changes.ensures.withdrawn c.in_ok-changes.ensures.announced _ _ [] kept)
+    c.flush_all.ensures.unmarked
 
 -- all was written, and then the flush failed
 pub returns-clause-some_written : goal.returns-clause-some_written

@@ -1,5 +1,5 @@
 -- What was told of the list, the file writes.
-use Rattle.origins_engine.proofs.Common.{Err, [], ap, arith, length, rules, subst, ◌≡◌, common_steps, TellsTable}
+use Rattle.origins_engine.proofs.Common.{Err, ap, arith, length, rules, ◌≡◌, common_steps}
 use Rattle.lines_engine.specs.declared.error.RunError.TheVariants as RunError
 use Rattle.origins_engine.proofs.AnswerLemmas.{by_file}
 use Rattle.origins_engine.proofs.tables.write_table.Goals as goal
@@ -7,20 +7,11 @@ use Rattle.origins_engine.proofs.tables.write_table.Goals as goal
 pub returns-in-Ok-tell_table-clause-told : goal.returns-in-Ok-tell_table-clause-told
 returns-in-Ok-tell_table-clause-told g c =
     let count : c.len.result ≡ length c.in-Ok.listed.items = first_of (search rules, grind (arith, common_steps)) in
-    by_file (g.P.Source.left c.args.payloads.now) _ c.in-Ok.listed.items c.in-Ok.ensures.payloads (
-      count,
-      subst
-          (λ xs. TellsTable c.args.of (g.W.Sink.written c.args.writer.now) (g.W.Sink.written c.tell_table.new.writer) [] xs)
-          c.as_slice.ensures.value c.in-Ok-tell_table.ensures.told,
-    )
+    by_file (g.P.Source.left c.args.payloads.now) _ c.in-Ok.listed.items c.in-Ok.ensures.payloads
+    (count, rw c.as_slice.ensures.value at c.in-Ok-tell_table.ensures.told)
 
 pub returns-clause-some_written : goal.returns-clause-some_written
 returns-clause-some_written g c is =
     let same : c.in-Err-tell_table.error ≡ RunError.Write = cc in
-    let part = c.in-Err-tell_table.ensures.some_written (ap Err same) in
-    by_file (g.P.Source.left c.args.payloads.now) _ c.in-Ok.listed.items c.in-Ok.ensures.payloads (
-      part.0,
-      subst
-          (λ xs. TellsTable c.args.of (g.W.Sink.written c.args.writer.now) (g.W.Sink.written c.tell_table.new.writer) part.0 xs)
-          c.as_slice.ensures.value part.1,
-    )
+    by_file (g.P.Source.left c.args.payloads.now) _ c.in-Ok.listed.items c.in-Ok.ensures.payloads
+    (rw c.as_slice.ensures.value at (c.in-Err-tell_table.ensures.some_written (ap Err same)))

@@ -1,5 +1,5 @@
 -- What the proofs of this crate use of std, of the crates below and of its own definitions, passed on by one name.
-pub use Rattle.std.proofs.Common.{Bool, Err, IfOk, List, MatchResult, None, Ok, Option, Result, Some, Vec, [], ap, append-nil, append_assoc, arith, false, if◌then◌else◌, inl, inr, length, option_and_then, refl, subst, suc, sym, take, true, zero, ℕ, ◌++◌, ◌+◌, ◌-◌, ◌<◌, ◌^◌, ◌∙◌, ◌∷◌, ◌≡◌, ◌≢◌, ◌≤◌, ◌⊎◌}
+pub use Rattle.std.proofs.Common.{Bool, Err, IfOk, List, MatchResult, None, Ok, Option, Result, Some, Vec, [], ap, append-nil, append_assoc, arith, false, if◌then◌else◌, inl, inr, length, refl, subst, suc, sym, take, true, zero, ℕ, ◌++◌, ◌+◌, ◌-◌, ◌<◌, ◌^◌, ◌∙◌, ◌∷◌, ◌≡◌, ◌≢◌, ◌≤◌, ◌⊎◌}
 pub use Rattle.std.proofs.lemmas.Bool.{MatchBool-at_true, eqb-false, eqb-true}
 pub use Rattle.std.proofs.lemmas.List.{length-append, nil_from_length, take_more}
 pub use Rattle.std.specs.List.{after_first, before_first}
@@ -7,7 +7,7 @@ pub use Rattle.std.specs.Str.{IsUtf8, bytes_eq, trim}
 pub use denote.Shadow.{shadow}
 pub use denote.Text.{Utf8}
 pub use Rattle.json.proofs.Grammar.{Takes, items_end, items_fail, items_more, left, left-parse_map, left_none, left_some, members_end, members_fail, members_more, members_no_key, read_key-shorter, skip_value-shorter, value-begin_array, value-begin_object, value_is}
-pub use Rattle.json.specs.Json.{Items, Json, Members, Parse, after_end_array, array, boolean, document, if_last, item, items, member, members, no_items, no_members, null, number, object, parse_map, read_key, string, value, value_with}
+pub use Rattle.json.specs.Json.{Items, Json, Members, Parse, after_end_array, array, document, item, items, member, members, no_items, no_members, object, parse_map, read_key, value}
 pub use Rattle.json.specs.Reads.{token_of}
 pub use Rattle.json.specs.Token.{Token}
 pub use Rattle.json.specs.Value.{members_view, value_view}
@@ -16,12 +16,12 @@ pub use Rattle.rpki_text.specs.Reading.{Answers, AnswersOrMemory}
 pub use Rattle.payload_texts.specs.Columns.{IsColumn, IsHeader, Names, usual}
 pub use Rattle.payload_texts.specs.Fields.{behind, field, is_comma, unquoted}
 pub use Rattle.payload_texts.specs.Items.{AreItems, HasItemFault, HasTexts, HaveWrongItem, IsItem}
-pub use Rattle.payload_texts.specs.JsonFiles.{HasJsonFault, HaveRoasFault, IsJsonFile, IsJsonObject, TellRoas, WriteRoas, roas}
+pub use Rattle.payload_texts.specs.JsonFiles.{HasJsonFault, IsJsonFile, TellRoas, roas}
 pub use Rattle.payload_texts.specs.Members.{AreWrong, HasMemberFault, HasText, IsFound, Writes, name_of, named_values, values_in}
 pub use Rattle.payload_texts.specs.Rows.{ArePayload, HasRowFault, HaveFault, IsBody, IsRow}
 pub use Rattle.payload_texts.specs.declared.columns.Columns.{Columns}
 pub use Rattle.payload_texts.specs.declared.fault.FileFault.{FileFault}
-pub use Rattle.payload_texts.specs.declared.fault.FileFault.TheVariants.{Item, Line, NoPayload, NotObject, Roas}
+pub use Rattle.payload_texts.specs.declared.fault.FileFault.TheVariants.{Item, Line, NoPayload, Roas}
 pub use Rattle.payload_texts.specs.declared.fault.ItemFault.{ItemFault}
 pub use Rattle.payload_texts.specs.declared.fault.MemberFault.TheVariants.{Kind, Missing, Repeated}
 pub use Rattle.payload_texts.specs.declared.fault.PayloadFault.{PayloadFault}

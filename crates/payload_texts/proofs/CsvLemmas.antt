@@ -1,5 +1,5 @@
 -- The lines of a file, read one after another; a file writes one list of payloads, or has one fault.
-use Rattle.payload_texts.proofs.Common.{List, [], ap, append-nil, append_assoc, arith, inl, inr, refl, subst, sym, ℕ, ◌++◌, ◌+◌, ◌∙◌, ◌∷◌, ◌≡◌, ◌≢◌, MaxLenValue, usual, HasRowFault, IsRow, Columns, FileFault, Line, NoPayload, PayloadFault, Row}
+use Rattle.payload_texts.proofs.Common.{List, [], append-nil, append_assoc, arith, inl, inr, refl, subst, sym, ℕ, ◌++◌, ◌+◌, ◌∙◌, ◌∷◌, ◌≡◌, ◌≢◌, MaxLenValue, usual, HasRowFault, IsRow, Columns, FileFault, Line, NoPayload, PayloadFault, Row}
 use Rattle.rpki_text.specs.Lines.{lines_of}
 use Rattle.payload_texts.specs.Csv.{AreRows, HaveFirstFault, HasCsvFault, IsCsvFile, columns_after, payloads_of}
 use Rattle.payload_texts.proofs.RowLemmas.{row_apart, row_fault_one, row_one}
@@ -47,16 +47,13 @@ read_some text rest number columns payloads had end some = (read_all text rest n
 
 pub read_no_payload : (text rest : List ℕ) (number : ℕ) (columns : Columns) (payloads : List (MaxLenValue × ℕ))
     → IsReadSo text rest number columns payloads → rest ≡ [] → payloads ≡ [] → HasCsvFault text NoPayload
-read_no_payload text rest number columns payloads had end none = subst (AreRows usual (lines_of text)) none (read_all text rest number columns payloads had end)
+read_no_payload text rest number columns payloads had end none = grind (arith, read_all)
 
 -- lines write one list of payloads
 rows_one : (columns : Columns) (lines : List (List ℕ)) (a b : List (MaxLenValue × ℕ)) → AreRows columns lines a
     → AreRows columns lines b → a ≡ b
 rows_one columns [] a b h k = h ∙ sym k
-rows_one columns (line ∷ lines) a b (row, is, more, a_is, rows) (other, iz, others, b_is, rest) =
-    let same = row_one columns line row other is iz in
-    let tail = rows_one (columns_after columns row) lines more others rows (subst (λ z. AreRows (columns_after columns z) lines others) (sym same) rest) in
-    a_is ∙ ap (λ z. payloads_of row ++ z) tail ∙ ap (λ z. payloads_of z ++ others) same ∙ sym b_is
+rows_one columns (line ∷ lines) a b h k = grind (arith, row_one, rows_one (columns_after columns h.0) lines)
 
 -- lines that write payloads have no fault
 rows_apart : (number : ℕ) (columns : Columns) (lines : List (List ℕ)) (a : List (MaxLenValue × ℕ)) (fault : FileFault)
@@ -71,12 +68,8 @@ rows_apart number columns (line ∷ lines) a fault (row, is, more, a_is, rows) (
 first_one : (number : ℕ) (columns : Columns) (lines : List (List ℕ)) (d e : FileFault)
     → HaveFirstFault number columns lines d → HaveFirstFault number columns lines e → d ≡ e
 first_one number columns [] d e h k = absurd h
-first_one number columns (line ∷ lines) d e (inl (wrong, has, d_is)) (inl (other, haz, e_is)) = grind (arith, row_fault_one)
-first_one number columns (line ∷ lines) d e (inl (wrong, has, d_is)) (inr (row, is, later)) = absurd (row_apart columns line row wrong is has)
-first_one number columns (line ∷ lines) d e (inr (row, is, later)) (inl (wrong, has, e_is)) = absurd (row_apart columns line row wrong is has)
-first_one number columns (line ∷ lines) d e (inr (row, is, later)) (inr (other, iz, rest)) =
-    let same = row_one columns line row other is iz in
-    first_one (number + 1) (columns_after columns row) lines d e later (subst (λ z. HaveFirstFault (number + 1) (columns_after columns z) lines e) (sym same) rest)
+first_one number columns (line ∷ lines) d e h k =
+    grind (arith, row_apart, row_fault_one, row_one, λ (next : Columns). first_one (number + 1) next lines)
 
 -- so a file writes one list, and then has no fault, or has one
 pub csv_one : (text : List ℕ) (a b : List (MaxLenValue × ℕ)) → IsCsvFile text a → IsCsvFile text b → a ≡ b

@@ -1,7 +1,7 @@
 -- Members of an object, one after another; an item's member has one text, or one fault.
-use Rattle.payload_texts.proofs.Common.{Bool, List, None, Option, Result, Some, Vec, [], ap, append-nil, arith, false, if◌then◌else◌, length, refl, subst, sym, true, ℕ, ◌++◌, ◌<◌, ◌∙◌, ◌∷◌, ◌≡◌, length-append, bytes_eq, Json, null, number, string, members_view, value_view, AreWrong, HasMemberFault, HasText, IsFound, Writes, name_of, named_values, values_in, Kind, Missing}
+use Rattle.payload_texts.proofs.Common.{Bool, List, Result, Vec, [], ap, append-nil, arith, false, if◌then◌else◌, length, refl, true, ℕ, ◌++◌, ◌<◌, ◌∙◌, ◌∷◌, ◌≡◌, length-append, bytes_eq, Json, members_view, value_view, AreWrong, HasMemberFault, HasText, IsFound, Writes, name_of, named_values, values_in, Kind, Missing, take, take_more, ◌+◌}
 use Rattle.std.specs.Borrow.{Bor}
-use Rattle.json.specs.Find.{as_number}
+use Rattle.std.proofs.Common.{get_or}
 use Rattle.json.specs.declared.value.Value.{Value, Object}
 use Rattle.json.proofs.Trees.{view-Object}
 use Rattle.payload_texts.specs.declared.fault.MemberFault.{MemberFault}
@@ -21,20 +21,9 @@ pub values_push : {A : Type 0} → (name : List ℕ) (ms : List (Bor (List ℕ) 
 values_push name [] m = refl
 values_push name (n ∷ ms) m = grind (arith, one_before, values_push name ms m)
 
-abbrev IsThere : Option (List ℕ) → Type 0
-IsThere None = ⊥
-IsThere (Some s) = Unit {0}
-
-number_or_string : (s t : List ℕ) → number s ≡ string t → ⊥
-number_or_string s t e = subst (λ j. IsThere (as_number j)) e tt
-
 -- a value has one text
 writes_one : (part : Member) (a b : List ℕ) (value : Json) → Writes part a value → Writes part b value → a ≡ b
-writes_one part a b value h k = grind (arith, number_or_string)
-
-abbrev the_value : List Json → Json
-the_value [] = null
-the_value (value ∷ values) = value
+writes_one part a b value h k = grind (arith)
 
 -- values are one of a kind, or wrong in one way
 pub wrong_apart : (IsKind : Json → Type 0) (values : List Json) (value : Json) (fault : MemberFault)
@@ -47,10 +36,10 @@ wrong_one IsKind values d e h k = grind (arith)
 
 module _ (part : Member) (item : Json) where
   pub text_one : (a b : List ℕ) → HasText part item a → HasText part item b → a ≡ b
-  text_one a b (v, is, writes) (w, iz, wrote) = writes_one part a b w (subst (Writes part a) (ap the_value (sym is ∙ iz)) writes) wrote
+  text_one a b h k = grind (arith, writes_one)
 
   pub text_apart : (a : List ℕ) (fault : MemberFault) → HasText part item a → HasMemberFault part item fault → ⊥
-  text_apart a fault (v, is, writes) wrong = wrong_apart (λ value. (text : List ℕ) × Writes part text value) (named_values (name_of part) item) v fault is (a, writes) wrong
+  text_apart a fault h wrong = grind (arith, wrong_apart)
 
   pub member_fault_one : (d e : MemberFault) → HasMemberFault part item d → HasMemberFault part item e → d ≡ e
   member_fault_one d e h k = wrong_one (λ value. (text : List ℕ) × Writes part text value) (named_values (name_of part) item) d e h k
@@ -63,25 +52,27 @@ more_wrong values value fault h some = grind (arith, length-append)
 pub two_values : (values : List Json) (first value : Json) → values ≡ first ∷ [] → 1 < length (values ++ value ∷ [])
 two_values values first value one = omega (arith, ap length one, length-append values (value ∷ []))
 
-module _ {A : Type 0} (name : List ℕ) (ms : List (Bor (List ℕ) × Value A)) (m : Bor (List ℕ) × Value A) (found : Result (Bor (Value A)) MemberFault) where
-  -- a member more, of another name, and of this one
-  pub found_over : bytes_eq m.0.now name ≡ false → IsFound (values_in name (members_view ms)) found
-      → IsFound (values_in name (members_view (ms ++ m ∷ []))) found
-  found_over other h = grind (arith, append-nil, values_push)
+-- the next member of an object
+module _ {A : Type 0} (name : List ℕ) (all : List (Bor (List ℕ) × Value A)) (i : ℕ) (m : Bor (List ℕ) × Value A)
+    (less : i < length all) (is : m ≡ get_or all i m) (found : Result (Bor (Value A)) MemberFault) where
+  values_more : values_in name (members_view (take (i + 1) all))
+      ≡ values_in name (members_view (take i all)) ++ if_named name m.0.now (value_view m.1)
+  values_more = rw (take_more all i m less, ← is) (values_push name (take i all) m)
+
+  -- of another name, and of this one
+  pub found_over : bytes_eq m.0.now name ≡ false → IsFound (values_in name (members_view (take i all))) found
+      → IsFound (values_in name (members_view (take (i + 1) all))) found
+  found_over other h = grind (arith, append-nil, values_more)
 
   pub found_more : bytes_eq m.0.now name ≡ true
-      → IsFound (values_in name (members_view ms) ++ value_view m.1 ∷ []) found
-      → IsFound (values_in name (members_view (ms ++ m ∷ []))) found
-  found_more same h = grind (arith, values_push)
+      → IsFound (values_in name (members_view (take i all)) ++ value_view m.1 ∷ []) found
+      → IsFound (values_in name (members_view (take (i + 1) all))) found
+  found_more same h = grind (arith, values_more)
 
 -- an item's members are those of its object
-members_seen : {A : Type 0} (name : List ℕ) (item : Value A) (v : Vec (Bor (List ℕ) × Value A) A) → item ≡ Object v
-    → named_values name (value_view item) ≡ values_in name (members_view v.items)
-members_seen name item v is = ap (λ z. named_values name (value_view z)) is ∙ ap (named_values name) (view-Object v)
-
 module _ {A : Type 0} (part : Member) (item : Value A) (v : Vec (Bor (List ℕ) × Value A) A) (name : List ℕ) (is : item ≡ Object v) (is_name : name ≡ name_of part) where
   seen : named_values (name_of part) (value_view item) ≡ values_in name (members_view v.items)
-  seen = members_seen (name_of part) item v is ∙ ap (λ n. values_in n (members_view v.items)) (sym is_name)
+  seen = grind (arith, view-Object)
 
   pub kind_wrong : (value : Json) → values_in name (members_view v.items) ≡ value ∷ []
       → ((text : List ℕ) → ¬ Writes part text value) → HasMemberFault part (value_view item) Kind

@@ -1,5 +1,5 @@
 -- What the values of the member `roas` tell, one after another, and the items of one.
-use Rattle.payload_texts.proofs.Common.{Err, IfOk, List, None, Ok, Result, Some, Vec, [], ap, append-nil, append_assoc, arith, false, if◌then◌else◌, inl, inr, length, refl, subst, sym, true, ℕ, ◌++◌, ◌+◌, ◌-◌, ◌<◌, ◌∙◌, ◌∷◌, ◌≡◌, length-append, bytes_eq, left, left_none, left_some, value-begin_array, value-begin_object, Items, Json, Members, array, item, member, no_items, parse_map, Token, MaxLenValue, AreItems, HasItemFault, HaveWrongItem, IsItem, TellRoas, roas, values_in, FileFault, Item, Roas, ItemFault, Kind, Missing, Repeated}
+use Rattle.payload_texts.proofs.Common.{Err, IfOk, List, None, Ok, Result, Some, Vec, [], ap, append-nil, append_assoc, arith, false, inl, inr, length, refl, subst, sym, true, ℕ, ◌++◌, ◌+◌, ◌-◌, ◌<◌, ◌∙◌, ◌∷◌, ◌≡◌, length-append, bytes_eq, left, left_none, left_some, value-begin_array, value-begin_object, Items, Json, Members, array, item, member, no_items, parse_map, Token, MaxLenValue, AreItems, HasItemFault, HaveWrongItem, IsItem, TellRoas, roas, values_in, FileFault, Item, Roas, ItemFault, Kind, Missing, Repeated}
 use Rattle.payload_texts.proofs.GrammarLemmas.{a_member, an_item, items_in, members_in, no_item, no_member}
 use Rattle.json.specs.Json as json
 
@@ -65,23 +65,6 @@ pub record IsToldSo {A : Type 0} (depth : ℕ) (first now : List Token) (told : 
 pub told_none : {A : Type 0} (depth : ℕ) (first : List Token) → IsToldSo {A = A} depth first first (Err (Roas Missing))
 told_none depth first = record { values = []; is_told = refl; ends = λ e. e; whole = λ ms rest e. (ms, e, refl) }
 
--- a value was there before, unless that is told
-told_some : {A : Type 0} (values : List Json) (told : Result (Vec (MaxLenValue × ℕ) A) FileFault) → TellRoas values told
-    → (told ≡ Err (Roas Missing) → ⊥) → 0 < length values
-told_some values told h some = grind (arith)
-
-told_missing : {A : Type 0} (values : List Json) (told : Result (Vec (MaxLenValue × ℕ) A) FileFault)
-    → TellRoas values told → told ≡ Err (Roas Missing) → values ≡ []
-told_missing values told h is = subst (TellRoas values) is h
-
-named : (key : List ℕ) (value : Json) (ms : Members) → bytes_eq key roas ≡ true
-    → values_in roas (member key value ms) ≡ value ∷ values_in roas ms
-named key value ms e = ap (λ b. if b then value ∷ values_in roas ms else values_in roas ms) e
-
-not_named : (key : List ℕ) (value : Json) (ms : Members) → bytes_eq key roas ≡ false
-    → values_in roas (member key value ms) ≡ values_in roas ms
-not_named key value ms e = ap (λ b. if b then value ∷ values_in roas ms else values_in roas ms) e
-
 module _ {A : Type 0} (depth : ℕ) (first now s r : List Token) (key : List ℕ) (told : Result (Vec (MaxLenValue × ℕ) A) FileFault) (had : IsToldSo depth first now told) (is_key : json.read_key now ≡ Some (Some key, s)) where
   -- a member more, whose value is told with those before it
   more : (value : Json) (values : List Json) (next : Result (Vec (MaxLenValue × ℕ) A) FileFault) → TellRoas values next
@@ -100,22 +83,21 @@ module _ {A : Type 0} (depth : ℕ) (first now s r : List Token) (key : List ℕ
 
   -- a member of another name is passed over
   pub told_over : bytes_eq key roas ≡ false → left (json.value depth s) ≡ Some r → IsToldSo depth first r told
-  told_over other passed = grind (arith, left_some, more, not_named)
+  told_over other passed = grind (arith, left_some, more)
 
   -- the first of the name
   pub told_first : (next : Result (Vec (MaxLenValue × ℕ) A) FileFault) (value : Json) → bytes_eq key roas ≡ true
       → told ≡ Err (Roas Missing) → TellRoas (value ∷ []) next → json.value depth s ≡ Some (value, r)
       → IsToldSo depth first r next
-  told_first next value same missing is read = grind (arith, more, named, told_missing)
+  told_first next value same missing is read = grind (arith, more)
 
   -- another one
   pub told_again : bytes_eq key roas ≡ true → (told ≡ Err (Roas Missing) → ⊥) → left (json.value depth s) ≡ Some r
       → IsToldSo {A = A} depth first r (Err (Roas Repeated))
   told_again same some passed =
       let j = left_some (json.value depth s) r passed in
-      let before = told_some had.values told had.is_told some in
-      more j.0 (had.values ++ j.0 ∷ []) (Err (Roas Repeated)) (omega (arith, before, length-append had.values (j.0 ∷ []))) j.1
-      (λ ms. ap (λ z. had.values ++ z) (named key j.0 ms same) ∙ sym (append_assoc had.values (j.0 ∷ []) (values_in roas ms)))
+      more j.0 (had.values ++ j.0 ∷ []) (Err (Roas Repeated)) (grind (arith, length-append)) j.1
+      (λ ms. grind (arith, append_assoc))
 
 -- no member is left
 pub told_all : {A : Type 0} (depth : ℕ) (first now rest : List Token)
@@ -126,17 +108,6 @@ told_all depth first now rest told had end = grind (arith, append-nil, no_member
 
 -- ---- a value of the member, by its first token
 
-abbrev IsNoArray : Json → Type 0
-IsNoArray json.null = Unit {0}
-IsNoArray (json.boolean b) = Unit {0}
-IsNoArray (json.number s) = Unit {0}
-IsNoArray (json.string s) = Unit {0}
-IsNoArray (array js) = ⊥
-IsNoArray (json.object ms) = Unit {0}
-
-no_array : (j : Json) → ((items : Items) × (j ≡ array items)) → IsNoArray j → ⊥
-no_array j (items, is) h = subst IsNoArray is h
-
 module _ (depth : ℕ) (some : 0 < depth) (first r : List Token) where
   pub array_read : {A E : Type 0} (new : List Token) (told : Result (Result (Vec (MaxLenValue × ℕ) A) FileFault) E)
       → first ≡ Token.begin_array ∷ r
@@ -145,7 +116,7 @@ module _ (depth : ℕ) (some : 0 < depth) (first r : List Token) where
   array_read new told opens h = grind (arith, value-begin_array)
 
   pub array_fails : first ≡ Token.begin_array ∷ r → items_in (depth - 1) r ≡ None → json.value depth first ≡ None
-  array_fails opens none = ap (json.value depth) opens ∙ value-begin_array depth r some ∙ ap (parse_map array) none
+  array_fails opens none = grind (arith, value-begin_array)
 
   pub object_passed : (A : Type 0) (new : List Token) → first ≡ Token.begin_object ∷ r
       → left (members_in (depth - 1) r) ≡ Some new
@@ -153,13 +124,13 @@ module _ (depth : ℕ) (some : 0 < depth) (first r : List Token) where
   object_passed A new opens passed =
       let ms = left_some (members_in (depth - 1) r) new passed in (
         json.object ms.0,
-        (json.object ms.0, refl, λ h. no_array (json.object ms.0) h tt),
+        (json.object ms.0, refl, λ h. cc (h.1)),
         ap (json.value depth) opens ∙ value-begin_object depth r some ∙ ap (parse_map json.object) ms.1,
       )
 
   pub object_fails : first ≡ Token.begin_object ∷ r → left (members_in (depth - 1) r) ≡ None
       → json.value depth first ≡ None
-  object_fails opens none = ap (json.value depth) opens ∙ value-begin_object depth r some ∙ ap (parse_map json.object) (left_none (members_in (depth - 1) r) none)
+  object_fails opens none = grind (arith, value-begin_object, left_none)
 
 -- the value of a token that opens nothing
 abbrev pub json_of : Token → Json
@@ -174,10 +145,7 @@ json_of (Token.boolean b) = json.boolean b
 json_of Token.null = json.null
 json_of Token.bad = json.null
 
-no_array_of : (t : Token) → IsNoArray (json_of t)
-no_array_of t = grind (arith)
-
 pub scalar_passed : (A : Type 0) (depth : ℕ) (first r : List Token) (t : Token)
     → json.value depth first ≡ Some (json_of t, r)
     → (j : Json) × TellRoas {A = A} (j ∷ []) (Err (Roas Kind)) × (json.value depth first ≡ Some (j, r))
-scalar_passed A depth first r t is = (json_of t, (json_of t, refl, λ h. no_array (json_of t) h (no_array_of t)), is)
+scalar_passed A depth first r t is = grind (arith)

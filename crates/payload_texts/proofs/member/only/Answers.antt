@@ -1,23 +1,16 @@
-use Rattle.payload_texts.proofs.Common.{[], ap, arith, false, sym, take, true, ◌++◌, ◌+◌, ◌∙◌, ◌∷◌, ◌≡◌, take_more, bytes_eq, members_view, values_in}
+use Rattle.payload_texts.proofs.Common.{arith}
 use Rattle.payload_texts.proofs.MemberLemmas.{found_more, found_over}
 use Rattle.payload_texts.proofs.member.only.Goals as goal
 
 -- a member of another name
 pub loop-member-preserved-then-ne : goal.loop-member-preserved-then-ne
 loop-member-preserved-then-ne g c =
-    let xs = c.deref-member-items.result.now in
-    let i = c.loop-member.member-index in
-    let m = c.member-item.result in
-    let front : take (i + 1) xs ≡ take i xs ++ m ∷ [] = take_more xs i m (omega arith) ∙ ap (λ y. take i xs ++ y ∷ []) (sym c.member-item.is) in
-    let other : bytes_eq m.0.now c.args.name.now ≡ false = grind arith in
-    rw front (found_over c.args.name.now (take i xs) m c.loop-member.found other c.loop-member.invariant)
+    found_over c.args.name.now c.deref-member-items.result.now c.loop-member.member-index c.member-item.result
+    (omega arith) c.member-item.is c.loop-member.found (grind arith) c.loop-member.invariant
 
 -- and one of this name
 pub loop-member-preserved : goal.loop-member-preserved
 loop-member-preserved g c =
-    let xs = c.deref-member-items.result.now in
-    let i = c.loop-member.member-index in
-    let m = c.member-item.result in
-    let front : take (i + 1) xs ≡ take i xs ++ m ∷ [] = take_more xs i m (omega arith) ∙ ap (λ y. take i xs ++ y ∷ []) (sym c.member-item.is) in
-    let same : bytes_eq m.0.now c.args.name.now ≡ true = grind arith in
-    rw front (found_more c.args.name.now (take i xs) m c.another-found.result same (c.another-found.ensures (values_in c.args.name.now (members_view (take i xs))) c.loop-member.invariant))
+    found_more c.args.name.now c.deref-member-items.result.now c.loop-member.member-index c.member-item.result
+    (omega arith) c.member-item.is c.another-found.result (grind arith)
+    (c.another-found.ensures _ c.loop-member.invariant)

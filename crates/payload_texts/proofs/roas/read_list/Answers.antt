@@ -1,4 +1,4 @@
-use Rattle.payload_texts.proofs.Common.{ap, arith, ◌∙◌, ◌∷◌, ◌≡◌, value_is, token_of, Token}
+use Rattle.payload_texts.proofs.Common.{arith, ◌∷◌, ◌≡◌, value_is, token_of, Token}
 use Rattle.payload_texts.proofs.RoasLemmas.{array_read, object_passed, scalar_passed}
 use Rattle.payload_texts.proofs.roas.read_list.Goals as goal
 
@@ -7,14 +7,12 @@ returns-in_err-token-clause-invalid g c invalid = grind (arith, value_is)
 
 pub returns-in-BeginArray-clause-told : goal.returns-in-BeginArray-clause-told
 returns-in-BeginArray-clause-told g c =
-    let first : c.args.reader.now ≡ token_of c.in_ok-token.token ∷ c.next.new.self = grind arith in
-    let opened : c.args.reader.now ≡ Token.begin_array ∷ c.next.new.self = first ∙ ap (λ k. token_of k ∷ c.next.new.self) c.in-BeginArray.is in
+    let opened : c.args.reader.now ≡ Token.begin_array ∷ c.next.new.self = grind arith in
     array_read c.args.depth c.requires _ c.next.new.self _ c.read_items.result opened c.read_items.ensures.told
 
 pub returns-in_ok-skip_members-in-BeginObject-clause-told : goal.returns-in_ok-skip_members-in-BeginObject-clause-told
 returns-in_ok-skip_members-in-BeginObject-clause-told g c =
-    let first : c.args.reader.now ≡ token_of c.in_ok-token.token ∷ c.next.new.self = grind arith in
-    let opened : c.args.reader.now ≡ Token.begin_object ∷ c.next.new.self = first ∙ ap (λ k. token_of k ∷ c.next.new.self) c.in-BeginObject.is in
+    let opened : c.args.reader.now ≡ Token.begin_object ∷ c.next.new.self = grind arith in
     object_passed c.args.depth c.requires _ c.next.new.self g.row.A.Denot _ opened c.in_ok-skip_members-in-BeginObject.ensures.read
 
 pub returns-in-String-clause-told : goal.returns-in-String-clause-told

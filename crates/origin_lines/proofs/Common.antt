@@ -1,6 +1,6 @@
 -- What the proofs of this crate use of std, of the crates below and of its own definitions, passed on by one name.
-pub use Rattle.std.proofs.Common.{Bool, Err, List, MatchResult, None, Ok, Option, Result, Some, [], ap, append_assoc, ap₂, arith, drop, eq-eqb, false, get_or, get_or-drop, inl, inr, length, length-drop, map, ne_eqb, not, refl, reverse, rules, subst, suc, sym, true, ℕ, ◌*◌, ◌++◌, ◌+◌, ◌-◌, ◌<◌, ◌^◌, ◌↔◌, ◌∙◌, ◌∷◌, ◌≡◌, ◌≢◌, ◌≤◌, ◌⊎◌}
-pub use Rattle.std.proofs.lemmas.List.{append-nil, get_or-reverse, get_or_at, length-append, length-reverse, map-append}
+pub use Rattle.std.proofs.Common.{Bool, Err, List, MatchResult, None, Ok, Option, Result, Some, [], ap, append_assoc, arith, drop, eq-eqb, false, get_or, get_or-drop, inl, inr, length, length-drop, map, ne_eqb, not, refl, reverse, subst, sym, true, ℕ, ◌++◌, ◌+◌, ◌-◌, ◌<◌, ◌↔◌, ◌∙◌, ◌∷◌, ◌≡◌, ◌≢◌, ◌≤◌, ◌⊎◌}
+pub use Rattle.std.proofs.lemmas.List.{append-nil, length-append, map-append}
 pub use Rattle.std.proofs.lemmas.List.Sorted.{Contains-permutation, IsPermutation-map, IsPermutation-reverse, IsPermutation-sym}
 pub use Rattle.std.specs.List.{AllPairs, Contains, after_first, after_last, before_first, position_or_len, suffix_len}
 pub use Rattle.std.specs.List.Sorted.{IsNonDecreasingBy, IsPermutation}

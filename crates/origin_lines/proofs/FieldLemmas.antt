@@ -13,7 +13,7 @@ cut_some text field behind some one more = grind (arith, slice_split_first)
 
 -- and one without is one field
 pub cut_none : (text : List ℕ) → position_or_len is_bar text ≡ length text → fields_of text ≡ text ∷ []
-cut_none text none = slice_split_none is_bar text (λ k d small. fails_before_first is_bar text k d (omega (arith, none, small)))
+cut_none text none = grind (arith, fails_before_first, slice_split_none)
 
 -- the fields behind the first one
 pub field_next : (text field behind : List ℕ) (n : ℕ) → fields_of text ≡ field ∷ fields_of behind → 0 < n

@@ -56,10 +56,10 @@ word_apart word (Some n) h wrong = wrong.2 n h.2
 -- ---- the fields of a dump's line
 
 field_one : (n : ℕ) (line x y : List ℕ) → IsFieldAt n line x → IsFieldAt n line y → x ≡ y
-field_one n line x y h k = let e : Some x ≡ Some y = sym h ∙ k in cc
+field_one n line x y h k = cc
 
 field_apart : (n : ℕ) (line x : List ℕ) → IsFieldAt n line x → IsNoFieldAt n line → ⊥
-field_apart n line x h none = let e : Some x ≡ None = sym h ∙ none in cc
+field_apart n line x h none = cc
 
 place_one : (line : List ℕ) (m n : ℕ) → IsPathPlace line m → IsPathPlace line n → m ≡ n
 place_one line m n h h2 = grind (arith, field_one)

@@ -1,6 +1,8 @@
 -- The payloads that cover a route, told one after another.
-use Rattle.origin_lines.proofs.Common.{List, None, Option, Some, [], ap, append_assoc, arith, get_or, inl, inr, length, map, refl, reverse, subst, suc, sym, ℕ, ◌++◌, ◌+◌, ◌-◌, ◌<◌, ◌↔◌, ◌∙◌, ◌∷◌, ◌≡◌, ◌≢◌, ◌≤◌, ◌⊎◌, append-nil, get_or-reverse, get_or_at, length-append, length-reverse, map-append, AllPairs, Contains, IsNonDecreasingBy, AreThose, CoversRoute, IsLawfulPayload, Payload, prefix_len, as_sent, FamilyPrefix, IsFamilyPrefix, IsExplanation, IsReason, IsToldBefore, TellsEach, TellsNext, told_text, Reason}
+use Rattle.origin_lines.proofs.Common.{List, None, Option, Some, [], ap, append_assoc, arith, get_or, inl, inr, length, map, refl, reverse, subst, sym, ℕ, ◌++◌, ◌+◌, ◌-◌, ◌↔◌, ◌∙◌, ◌∷◌, ◌≡◌, ◌≢◌, ◌≤◌, ◌⊎◌, append-nil, length-append, map-append, AllPairs, Contains, IsNonDecreasingBy, AreThose, CoversRoute, IsLawfulPayload, Payload, prefix_len, as_sent, FamilyPrefix, IsFamilyPrefix, IsExplanation, IsReason, IsToldBefore, TellsEach, TellsNext, told_text, Reason}
 use Rattle.std.proofs.lemmas.Bool.{cases_lt}
+use Rattle.std.proofs.lemmas.Grind.{reverse_onto}
+use Rattle.std.proofs.lemmas.List.{get_or-append-add, reverse-append}
 use Rattle.std.proofs.lemmas.List.Elements.{Contains-append_left, Contains-append_right, Contains-get_or, Contains-push, Contains-push_cases}
 use Rattle.std.proofs.lemmas.List.Quantifiers.{all_pairs_push}
 use Rattle.roa_origin.specs.Places.{table_place}
@@ -30,29 +32,41 @@ module _ (route : FamilyPrefix) (is : IsFamilyPrefix route) (y x : Payload) (of_
 
 -- ---- two that stand together in a list whose other end is the least
 
-at_reverse : (f : Payload → ℕ) (all : List Payload) (i j : ℕ) (d : Payload) → IsNonDecreasingBy f (reverse all) → i ≤ j
-    → j < length all → f (get_or all j d) ≤ f (get_or all i d)
-at_reverse f all i j d ordered le small =
-    let n = length all in
-    let long = length-reverse all in
-    let first : f (get_or (reverse all) (n - 1 - j) d) ≤ f (get_or (reverse all) (n - 1 - i) d) = ordered (n - 1 - j) (n - 1 - i) d (omega (arith, le, small)) (omega (arith, le, small, long)) in
-    let back_j : n - 1 - (n - 1 - j) ≡ j = omega (arith, small) in
-    let back_i : n - 1 - (n - 1 - i) ≡ i = omega (arith, small, le) in
-    let at_j : get_or (reverse all) (n - 1 - j) d ≡ get_or all j d = get_or-reverse all (n - 1 - j) d (omega (arith, small)) ∙ ap (λ k. get_or all k d) back_j in
-    let at_i : get_or (reverse all) (n - 1 - i) d ≡ get_or all i d = get_or-reverse all (n - 1 - i) d (omega (arith, small, le)) ∙ ap (λ k. get_or all k d) back_i in
-    subst (λ (z : Payload). f (get_or all j d) ≤ f z) at_i (subst (λ (z : Payload). f z ≤ f (get_or (reverse all) (n - 1 - i) d)) at_j first)
-
 pub adjacent : (f : Payload → ℕ) (all done front rest : List Payload) (y x : Payload)
     → IsNonDecreasingBy f (reverse all) → all ≡ done ++ x ∷ rest → done ≡ front ++ y ∷ [] → f x ≤ f y
 adjacent f all done front rest y x ordered cut ends =
-    let m = length front in
-    let one_more : length done ≡ m + 1 = ap length ends ∙ length-append front (y ∷ []) in
-    let whole : all ≡ front ++ y ∷ (x ∷ rest) = cut ∙ ap (λ zs. zs ++ x ∷ rest) ends ∙ append_assoc front (y ∷ []) (x ∷ rest) in
-    let long : length all ≡ length done + suc (length rest) = ap length cut ∙ length-append done (x ∷ rest) in
-    let at_x : get_or all (m + 1) y ≡ x = ap (λ zs. get_or zs (m + 1) y) cut ∙ get_or_at done x rest y (m + 1) one_more in
-    let at_y : get_or all m y ≡ y = ap (λ zs. get_or zs m y) whole ∙ get_or_at front y (x ∷ rest) y m refl in
-    let le = at_reverse f all m (m + 1) y ordered (omega arith) (omega (arith, one_more, long)) in
-    subst (λ (z : Payload). f x ≤ f z) at_y (subst (λ (z : Payload). f z ≤ f (get_or all m y)) at_x le)
+    let behind = reverse rest in
+    let before = reverse front in
+    let whole : all ≡ front ++ y ∷ x ∷ rest =
+    cut ∙ ap (λ zs. zs ++ x ∷ rest) ends ∙ append_assoc front (y ∷ []) (x ∷ rest) in
+    let back : reverse all ≡ behind ++ x ∷ y ∷ before =
+    ap reverse whole ∙ reverse-append front (y ∷ x ∷ rest) ∙ ap (λ zs. zs ++ before) (reverse_onto rest x (y ∷ []))
+    ∙ append_assoc behind (x ∷ y ∷ []) before in
+    let long = length-append behind (x ∷ y ∷ before) in
+    let le = (rw back at ordered) (length behind + 0) (length behind + 1) y (omega arith) (omega (arith, long)) in
+    rw (get_or-append-add behind (x ∷ y ∷ before) 0 y, get_or-append-add behind (x ∷ y ∷ before) 1 y) at le
+
+-- ---- one more behind those of a list
+
+-- the members are those before, and it
+pushed : (xs : List Payload) (x p : Payload) → Contains (xs ++ x ∷ []) p ↔ (Contains xs p ⊎ (x ≡ p))
+pushed xs x p = (
+  Contains-push_cases xs x p,
+  λ h. elim h [
+    | inl there ↦ Contains-append_left xs (x ∷ []) p there
+    | inr e ↦ subst (Contains (xs ++ x ∷ [])) e (Contains-push xs x)
+  ],
+)
+
+-- behind two lists with the same members
+same_pushed : (xs ys : List Payload) (x p : Payload) → (Contains xs p ↔ Contains ys p)
+    → (Contains (xs ++ x ∷ []) p ↔ Contains (ys ++ x ∷ []) p)
+same_pushed xs ys x p same = grind (arith, pushed xs x p, pushed ys x p)
+
+-- or behind one of them that has it already
+again_pushed : (xs ys : List Payload) (x p : Payload) → ((q : Payload) → Contains xs q ↔ Contains ys q) → Contains ys x
+    → (Contains xs p ↔ Contains (ys ++ x ∷ []) p)
+again_pushed xs ys x p same there = grind (arith, pushed ys x p, same p)
 
 -- ---- what is told so far
 
@@ -94,21 +108,16 @@ module _ (route : FamilyPrefix) (asn : ℕ) (done : List Payload) (x : Payload) 
   told_same y text same had = record {
     told = had.told;
     ordered = had.ordered;
-    members = λ p. (
-      λ h. subst (λ zs. Contains zs p) (sym more_sent) (Contains-append_left (map as_sent done) (as_sent x ∷ []) p ((had.members p).0 h)),
-      λ h. again p (Contains-push_cases (map as_sent done) (as_sent x) p (subst (λ zs. Contains zs p) more_sent h)),
-    );
+    members = λ p. rw more_sent (again_pushed had.told (map as_sent done) (as_sent x) p had.members was);
     tells = had.tells;
     up_to = λ q h. moved q (had.up_to q h);
     at_end = ((done, refl), lawful);
   }
     where
-      was : Contains (map as_sent done) (as_sent y)
-      was = map_has as_sent done y (subst (λ zs. Contains zs y) (sym had.at_end.0.1) (Contains-push had.at_end.0.0 y))
-
-      again : (p : Payload) → Contains (map as_sent done) p ⊎ (as_sent x ≡ p) → Contains had.told p
-      again p (inl h) = (had.members p).1 h
-      again p (inr e) = (had.members p).1 (subst (Contains (map as_sent done)) (same ∙ e) was)
+      was : Contains (map as_sent done) (as_sent x)
+      was =
+          let last : Contains done y = rw had.at_end.0.1 (Contains-push had.at_end.0.0 y) in
+          rw (← same) (map_has as_sent done y last)
 
       moved : (q : Payload) → IsToldBefore q y ⊎ (q ≡ as_sent y) → IsToldBefore q x ⊎ (q ≡ as_sent x)
       moved q (inl h) = inl (let there : IsToldBefore q (as_sent y) = h in subst (IsToldBefore q) same there)
@@ -125,10 +134,7 @@ module _ (route : FamilyPrefix) (asn : ℕ) (done : List Payload) (x : Payload) 
   told_more last text reason is next had = record {
     told = had.told ++ as_sent x ∷ [];
     ordered = all_pairs_push IsToldBefore had.told (as_sent x) had.ordered (λ k d small. before last next had.up_to (get_or had.told k d) (Contains-get_or had.told k d small));
-    members = λ p. (
-      λ h. subst (λ zs. Contains zs p) (sym more_sent) (on p (Contains-push_cases had.told (as_sent x) p h)),
-      λ h. back p (Contains-push_cases (map as_sent done) (as_sent x) p (subst (λ zs. Contains zs p) more_sent h)),
-    );
+    members = λ p. rw more_sent (same_pushed had.told (map as_sent done) (as_sent x) p (had.members p));
     tells = tells_push route asn had.told text (as_sent x) reason (reason_sent reason is) had.tells;
     up_to = λ q h. upto q (Contains-push_cases had.told (as_sent x) q h);
     at_end = ((done, refl), lawful);
@@ -141,14 +147,6 @@ module _ (route : FamilyPrefix) (asn : ℕ) (done : List Payload) (x : Payload) 
         | inl less ↦ told_trans q y x less (after y refl)
         | inr e ↦ subst (λ z. IsToldBefore z x) (sym e) (after y refl)
       ]
-
-      on : (p : Payload) → Contains had.told p ⊎ (as_sent x ≡ p) → Contains (map as_sent done ++ as_sent x ∷ []) p
-      on p (inl h) = Contains-append_left (map as_sent done) (as_sent x ∷ []) p ((had.members p).0 h)
-      on p (inr e) = subst (Contains (map as_sent done ++ as_sent x ∷ [])) e (Contains-push (map as_sent done) (as_sent x))
-
-      back : (p : Payload) → Contains (map as_sent done) p ⊎ (as_sent x ≡ p) → Contains (had.told ++ as_sent x ∷ []) p
-      back p (inl h) = Contains-append_left had.told (as_sent x ∷ []) p ((had.members p).1 h)
-      back p (inr e) = subst (Contains (had.told ++ as_sent x ∷ [])) e (Contains-push had.told (as_sent x))
 
       upto : (q : Payload) → Contains had.told q ⊎ (as_sent x ≡ q) → IsToldBefore q x ⊎ (q ≡ as_sent x)
       upto q (inl h) = inl (before last next had.up_to q h)

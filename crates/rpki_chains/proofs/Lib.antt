@@ -6,14 +6,12 @@ mod CutTurns
 mod Cutting
 pub mod FitTurns
 pub mod Imports
-mod Insides
 mod Joining
 mod MeetTurns
 mod Meets
 mod Merges
 mod Passing
 mod Searches
-mod Seeking
 pub mod Shortest
 mod Sides
 mod Steps

@@ -1,7 +1,7 @@
 -- The first run that doesn't end before a number: a search finds it, and it tells what is covered from there on.
-use Rattle.rpki_chains.proofs.Imports.{IfSome, List, MatchOption, None, Option, Some, ap, arith, get_or, length, subst, ℕ, ⊎_elim, ◌<◌, ◌↔◌, ◌≡◌, ◌≤◌, le_refl, cases_lt, Covers, HoldsBlock, IsChain, IsRun, IsRunFrom, IsWithin, numbers}
-use Rattle.rpki_chains.proofs.Chains.{element_at, ascends, IsChainOf-itself}
-use Rattle.rpki_chains.proofs.Sides.{IsAt}
+use Rattle.rpki_chains.proofs.Imports.{IfSome, List, MatchOption, None, Option, Some, arith, get_or, length, subst, ℕ, ◌<◌, ◌↔◌, ◌≡◌, ◌≤◌, le_refl, cases_lt, Covers, HoldsBlock, IsChain, IsRun, IsRunFrom, IsWithin, numbers}
+use Rattle.rpki_chains.proofs.Chains.{element_at, IsChainOf-itself}
+use Rattle.rpki_chains.proofs.Sides.{IsAt, lies_before}
 
 module _ {B : Type 0} (f : B → ℕ × ℕ) (form : ℕ × ℕ → B) where
   -- a number behind one block is behind all earlier ones
@@ -9,34 +9,26 @@ module _ {B : Type 0} (f : B → ℕ × ℕ) (form : ℕ × ℕ → B) where
       → ((e : B) → (f (get_or xs i e)).1 < n) → k ≤ i → (f (get_or xs k d)).1 < n
   behind_all xs i k n d h lt high le = grind (arith, cases_lt)
 
-module _ {B : Type 0} (f : B → ℕ × ℕ) (form : ℕ × ℕ → B) (xs : List B) (n at : ℕ) (below : (k : ℕ) (d : B) → k < at → k < length xs → (f (get_or xs k d)).1 < n) where
-  -- all blocks end before n
-  pub none_from : length xs ≤ at → (m : ℕ) → n ≤ m → Covers f xs m → ⊥
-  none_from all m from h = grind (arith)
-
-  -- all before the one at hand do
-  pub IsRunFrom-found : (b : ℕ × ℕ) → IsChain f form xs → IsAt f xs at (Some b) → n ≤ b.1 → IsRunFrom (Covers f xs) n b
+module _ {B : Type 0} (f : B → ℕ × ℕ) (form : ℕ × ℕ → B) (xs : List B) (n at : ℕ)
+    (below : (k : ℕ) (d : B) → k < at → k < length xs → (f (get_or xs k d)).1 < n) where
+  -- the first block that doesn't is the run
+  IsRunFrom-found : (b : ℕ × ℕ) → IsChain f form xs → IsAt f xs at (Some b) → n ≤ b.1 → IsRunFrom (Covers f xs) n b
   IsRunFrom-found b h here reaches = record {
-    run = (let x = (element_at xs at here.0).0 in subst (IsRun (Covers f xs)) (here.1 x) ((IsChainOf-itself f form xs h).runs at x here.0));
+    run = (
+        let x = (element_at xs at here.0).0 in
+        subst (IsRun (Covers f xs)) (here.1 x) ((IsChainOf-itself f form xs h).runs at x here.0));
     reaches = reaches;
-    first = λ m from less (k, x, lt, e, w). ⊎_elim
-        (λ (before : k < at). let short = below k x before lt in let high = ap (λ (y : B). (f y).1) e in omega (arith, w.1))
-        (λ (later : at ≤ k).
-        let up = ascends f form xs h at k x later lt in
-        let low = ap (λ (y : B). (f y).0) e in
-        let begins = ap (λ (p : ℕ × ℕ). p.0) (here.1 x) in
-        omega (arith, w.0))
-        (cases_lt k at);
+    first = λ m from less c. (let early = lies_before f form xs at (Some b) h here m c less in grind (arith));
   }
 
-  -- so the search finds that run, or that there is none
+  -- so a search finds that run, or that there is none
   pub first_found : {I : Type 0} (number : I → ℕ) (last : ℕ) (found : Option (I × I)) → IsChain f form xs
       → HoldsBlock f number last xs at found → IfSome found (λ b. n ≤ number b.1)
       → MatchOption found ((m : ℕ) → n ≤ m → Covers f xs m → ⊥) (λ b. IsRunFrom (Covers f xs) n (numbers number b))
-  first_found number last None h here reaches = none_from (omega (arith, here))
+  first_found number last None h here reaches = grind (arith)
   first_found number last (Some b) h here reaches = IsRunFrom-found (numbers number b) h (here.0, here.1) reaches
 
-module _ (S : ℕ → Type 0) (n : ℕ) (b : ℕ × ℕ) (h : IsRunFrom S n b) where
+module _ {S : ℕ → Type 0} {n : ℕ} {b : ℕ × ℕ} (h : IsRunFrom S n b) where
   -- it has n, or nothing does
   pub has_number : b.0 ≤ n ↔ S n
   has_number = grind (arith, cases_lt, le_refl)

@@ -1,9 +1,15 @@
 -- The first block of a chain leaves the empty one.
-use Rattle.rpki_chains.proofs.Imports.{ap, sym, ◌∙◌, option_copied}
-use Rattle.rpki_chains.proofs.FitTurns.{first_leaves}
+use Rattle.rpki_chains.proofs.Imports.{None, ap, refl, sym, ◌∙◌, option_copied}
+use Rattle.rpki_chains.proofs.Chains.{IsChain-nil}
+use Rattle.rpki_chains.proofs.FitTurns.{leaves, passed_start}
+use Rattle.rpki_chains.proofs.Passing.{first_held}
 use Rattle.rpki_chains.proofs.overhang.first_of.Goals as goal
 
 pub returns : goal.returns
 returns g c =
-    let bounds = c.bounds-min.ensures in
-    first_leaves g.T.Block.bounds g.T.Block.form g.T.Block.number g.T.Block.first g.T.Block.last c.args.own.now c.in_ok-first.field-0.now c.bounds-min.result c.requires (sym c.first.ensures.value ∙ ap option_copied c.in_ok-first.was) bounds.min bounds.max bounds.from_first bounds.to_last
+    let f = g.T.Block.bounds in
+    let number = g.T.Block.number in
+    let read = c.bounds-min.ensures in
+    let is = sym c.first.ensures.value ∙ ap option_copied c.in_ok-first.was in
+    let own = first_held f number g.T.Block.last _ _ c.bounds-min.result is read.min read.max read.to_last in
+    leaves (passed_start c.requires (IsChain-nil f g.T.Block.form)) number _ _ own None refl _ read.from_first tt

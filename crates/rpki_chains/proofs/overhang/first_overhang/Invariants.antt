@@ -1,6 +1,6 @@
 -- What the walk has passed of the one chain lies in the other.
-use Rattle.rpki_chains.proofs.Imports.{Some, length, ◌+◌, ◌-◌, ◌<◌, ◌^◌, ◌≡◌, ◌≤◌, HoldsBlock, numbers}
-use Rattle.rpki_chains.proofs.Insides.{Inside}
+use Rattle.rpki_chains.proofs.Imports.{Some, length, ◌+◌, ◌-◌, ◌<◌, ◌^◌, ◌≡◌, ◌≤◌, HoldsBlock}
+use Rattle.rpki_chains.proofs.FitTurns.{Passed}
 use Rattle.rpki_chains.proofs.overhang.first_overhang.Given as goal
 
 abbrev pub invariant-loop-other_at : goal.invariant-loop-other_at
@@ -9,8 +9,8 @@ invariant-loop-other_at g l = record {
       ≤ g.X.Reads.count l.fn.own + length (g.X.Reads.blocks l.fn.own);
   other_reads : g.Y.Reads.count l.other + (length (g.Y.Reads.blocks l.fn.other) - (l.other_at + 1))
       ≤ g.Y.Reads.count l.fn.other + length (g.Y.Reads.blocks l.fn.other);
-  walk : Inside g.T.Block.bounds g.T.Block.form (g.X.Reads.blocks l.fn.own) (g.Y.Reads.blocks l.fn.other) l.own_at
-      (Some (numbers g.T.Block.number l.own_block)) l.other_at (Some (numbers g.T.Block.number l.other_block));
+  walk : Passed g.T.Block.bounds g.T.Block.form (g.X.Reads.blocks l.fn.own) (g.Y.Reads.blocks l.fn.other) l.own_at
+      l.other_at;
   own_block : HoldsBlock g.T.Block.bounds g.T.Block.number g.T.Block.last (g.X.Reads.blocks l.fn.own) l.own_at
       (Some l.own_block);
   from_first : g.T.Block.first ≤ g.T.Block.number l.own_block.0;

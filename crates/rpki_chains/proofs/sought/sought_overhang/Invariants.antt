@@ -1,6 +1,6 @@
 -- What was passed of the one chain lies in the other, in which each of its blocks was sought.
 use Rattle.rpki_chains.proofs.Imports.{length, ℕ, ◌*◌, ◌+◌, ◌<◌, ◌^◌, ◌≡◌, ◌≤◌}
-use Rattle.rpki_chains.proofs.Seeking.{Sought}
+use Rattle.rpki_chains.proofs.FitTurns.{Passed}
 use Rattle.rpki_chains.proofs.sought.sought_overhang.Given as goal
 
 abbrev pub invariant-loop-own_at : goal.invariant-loop-own_at
@@ -12,7 +12,7 @@ invariant-loop-own_at g l =
       other_reads : (digits : ℕ) → length ys < 2 ^ digits
           → g.Y.Reads.count l.other ≤ g.Y.Reads.count l.fn.other + l.own_at * digits;
       within : l.other_at ≤ length ys;
-      walk : Sought g.T.Block.bounds g.T.Block.form xs ys l.own_at l.other_at;
+      walk : Passed g.T.Block.bounds g.T.Block.form xs ys l.own_at l.other_at;
       own_kept : g.X.Reads.blocks l.own ≡ xs;
       other_kept : g.Y.Reads.blocks l.other ≡ ys;
     }

@@ -1,12 +1,12 @@
 -- What the proofs of this crate use of std, of the crates below and of its own definitions, passed on by one name.
-pub use Rattle.std.proofs.Common.{Bool, Err, List, MatchResult, None, Ok, Option, Result, Some, Vec, [], ap, arith, codes, false, get_or, inl, inr, length, lit≤, map, refl, slice_index, subst, suc, sym, take, true, vec_len, zero, ℕ, ⊎_elim, ◌*◌, ◌++◌, ◌+◌, ◌-◌, ◌<◌, ◌^◌, ◌↔◌, ◌∙◌, ◌∷◌, ◌≡◌, ◌≢◌, ◌≤◌, ◌⊎◌}
+pub use Rattle.std.proofs.Common.{Bool, Err, List, MatchResult, None, Ok, Option, Result, Some, Vec, [], ap, arith, codes, false, get_or, inl, inr, length, lit≤, map, refl, slice_index, subst, suc, sym, take, vec_len, zero, ℕ, ⊎_elim, ◌*◌, ◌++◌, ◌+◌, ◌-◌, ◌<◌, ◌^◌, ◌↔◌, ◌∙◌, ◌∷◌, ◌≡◌, ◌≢◌, ◌≤◌, ◌⊎◌}
 pub use Rattle.std.proofs.lemmas.Bool.{cases_lt, eq-eqb, le-ltb, lt-ltb, ne_eqb}
 pub use Rattle.std.proofs.lemmas.List.{append-nil, append_assoc, get_or-append_right, get_or_append_left, length-append, take_all, take_more}
 pub use Rattle.std.proofs.lemmas.List.Elements.{All-head, All-tail, Contains-append_cases, Contains-append_left, Contains-append_right, Contains-get_or, recursion_from_All}
 pub use Rattle.std.proofs.lemmas.List.Folds.{flat_map-map, length-flat_map-take}
 pub use Rattle.std.proofs.lemmas.Result.{err_from_is_err_and}
 pub use Rattle.std.specs.List.{All, AllByRecursion, AllPairs, Contains, flat_map}
-pub use Rattle.std.specs.Prelude.{IsOk, OnOk, ⊤}
+pub use Rattle.std.specs.Prelude.{IsOk, OnOk}
 pub use Rattle.rpki_as_block.proofs.AsDerLemmas.{block_numbers, block_spelled, block_written, length-content, length-number}
 pub use Rattle.rpki_as_block.proofs.BlockLemmas.{IsAsBlockText-block_text, IsAsBlockText-one, block_apart, same_block_fault}
 pub use Rattle.rpki_as_block.proofs.NumberLemmas.{IsListOf-numbers_within, length-numbers_within, makes_progress}
@@ -15,20 +15,17 @@ pub use Rattle.rpki_as_block.specs.AsDerLaws.{as_block_has_octets, as_block_read
 pub use Rattle.rpki_as_block.specs.AsDerModeLaws.{next_block_modal}
 pub use Rattle.rpki_as_block.specs.AsDerModes.{IsNextBlock, IsStrictBlock}
 pub use Rattle.rpki_as_block.specs.AsDerReading.{as_block_at, next_block_by, skip_block_at}
-pub use Rattle.rpki_as_block.specs.BlockFormLaws.{new_as_block_bounds}
 pub use Rattle.rpki_as_block.specs.BlockText.{HasAsBlockFault, IsAsBlockText, ReadsAsBlock, as_block_text}
 pub use Rattle.rpki_as_block.specs.Blocks.{as_bounds, new_as_block}
 pub use Rattle.rpki_as_block.specs.Numbers.{IsListOf, IsSizeOf, numbers_of, numbers_within}
 pub use Rattle.rpki_as_block.specs.declared.block.AsBlock.{AsBlock}
 pub use Rattle.rpki_as_block.specs.declared.error.FromStrError.{FromStrError}
-pub use Rattle.rpki_base.proofs.DerCursors.{reads_said_by}
-pub use Rattle.rpki_base.proofs.DerModes.{canonical_said_by, enclosed_modal, exact_said_by, refused_said_by, sequence_modal, strict_values_check, takes_said_by, values_stateless, values_tighten}
-pub use Rattle.rpki_base.proofs.DerReadings.{enclosed_reading, one_front_said, sequence_reading, values_check}
-pub use Rattle.rpki_base.specs.DerReading.{Encloses, IsSequenceFrom, IsSequenceOf, enclosed_at, values_from, values_of}
+pub use Rattle.rpki_base.proofs.SaidInModes.{IsSaidInModes, IsTakenInModes, one_said, said_alike, taken_said, written_said}
+pub use Rattle.rpki_base.specs.DerReading.{Encloses, IsSequenceFrom, IsSequenceOf, enclosed_at, values_of}
 unfoldable pub use Rattle.rpki_base.specs.DerReading.{only}
-pub use Rattle.rpki_base.specs.DerViews.{NotCanonicalOrMemory, ReadsOrMemory, TakesSaidOrMemory}
-pub use Rattle.rpki_chain.proofs.Ascending.{IsWritten, listed_are, listed_chain, no_numbers, set_spelled, spelled_set, taken_chain}
-pub use Rattle.rpki_chain.proofs.ClaimLemmas.{claims_decide, empty_set, lists_one}
+pub use Rattle.rpki_base.specs.DerViews.{TakesSaidOrMemory}
+pub use Rattle.rpki_chain.proofs.Ascending.{IsWritten, listed_are}
+pub use Rattle.rpki_chain.proofs.ClaimLemmas.{claims_decide, empty_set}
 pub use Rattle.rpki_chain.proofs.RunLists.{IsRunsOf-unique, IsRunsOfBlocks-bounds, same_numbers}
 pub use Rattle.rpki_chain.specs.ChoiceDer.{IsChoiceOf, choice_at, choice_octets}
 pub use Rattle.rpki_chain.specs.Claims.{Claim, IsClaim, claim_of}
@@ -37,17 +34,17 @@ pub use Rattle.rpki_chain.specs.declared.choice.ResourcesChoice.{ResourcesChoice
 pub use Rattle.rpki_chain.specs.declared.choice.ResourcesChoice.TheVariants.{Blocks, Inherit, Missing}
 pub use Rattle.rpki_chains.specs.Sets.{Covers, IsChain, IsWithin}
 pub use Rattle.rpki_der.proofs.Readings.{one_front}
-pub use Rattle.rpki_der.proofs.Written.{length-header, value_is}
-pub use Rattle.rpki_der.specs.Der.{Each, EachFrom, IsBytes, OneFront, Refines, Spells, sequence_value, value}
+pub use Rattle.rpki_der.proofs.Written.{length-header}
+pub use Rattle.rpki_der.specs.Der.{IsBytes, OneFront, sequence_value, value}
 unfoldable pub use Rattle.rpki_der.specs.Der.{header, length_octets}
-pub use Rattle.rpki_der.specs.Reading.{IsModal, IsReading, tagged_at}
+pub use Rattle.rpki_der.specs.Reading.{tagged_at}
 unfoldable pub use Rattle.rpki_der.specs.Reading.{refined}
-pub use Rattle.rpki_der.specs.Views.{Lenient, Strict, is_strict, left}
+pub use Rattle.rpki_der.specs.Views.{is_strict, left}
 pub use Rattle.rpki_der.specs.declared.cursor.Cursor.{Cursor}
 pub use Rattle.rpki_der.specs.declared.error.DerError.{DerError}
 pub use Rattle.rpki_text.proofs.ListLemmas.{AnswersOrMemory-from_found, HaveValues-one, first_fault_apart, found_weaker, same_first_fault}
 pub use Rattle.rpki_text.specs.Lists.{HaveValues, elements}
-pub use Rattle.rpki_text.specs.Memory.{IfRefused, IsMemory}
+pub use Rattle.rpki_text.specs.Memory.{IfRefused}
 pub use Rattle.rpki_text.specs.Reading.{AnswersOrMemory}
 pub use Rattle.rpki_text.specs.declared.memory.OrMemory.{OrMemory}
 pub use Rattle.rpki_as.specs.AsDer.{IsAsBlockSequence, IsAsChoice, IsAsResources, IsPresentAsClaim, as_resources_octets, as_run_octets, as_sequence_octets, as_set_octets}

@@ -9,12 +9,14 @@ pub mod DerReadings
 pub mod DerWriting
 pub mod FamiliesFaults
 pub mod FamiliesGathering
+pub mod FamiliesInModes
 pub mod FamiliesLoops
 pub mod FamiliesMembers
 pub mod FamiliesModes
 pub mod FamiliesSaid
 pub mod FamiliesWritten
 pub mod FamilyLemmas
+pub mod SaidInModes
 pub mod SmallSetLemmas
 pub mod WalkLemmas
 pub mod WalkSizes

@@ -10,16 +10,13 @@ use Rattle.rpki_chain.proofs.SetLemmas.{IsBlockSet-from_chain, blocks_made, made
 
 -- what is beyond what is beyond
 beyond_more : (before : Option ℕ) (a b n : ℕ) → IsBeyond before a → a ≤ b → b + 1 < n → IsBeyond before n
-beyond_more None a b n first ordered second = tt
-beyond_more (Some greatest) a b n first ordered second = omega (arith, first, ordered, second)
+beyond_more before a b n first ordered second = grind arith
 
 -- what is listed in such lists as were read is as what was read
 pub listed_are : {X Y : Type 0} (items : Y → List X) (P : List X → Type 0) (read : ResourcesChoice (List X))
     (listed : ResourcesChoice Y) → ListsBy (λ xs l. items l ≡ xs) read listed → MatchChoice read ⊤ ⊤ P
     → MatchChoice listed ⊤ ⊤ (λ l. P (items l))
-listed_are items P Missing listed e is = subst (λ l. MatchChoice l ⊤ ⊤ (λ m. P (items m))) (sym e) tt
-listed_are items P Inherit listed e is = subst (λ l. MatchChoice l ⊤ ⊤ (λ m. P (items m))) (sym e) tt
-listed_are items P (Blocks xs) listed (l, same, e) is = subst (λ m. MatchChoice m ⊤ ⊤ (λ k. P (items k))) (sym e) (subst P (sym same) is)
+listed_are items P read listed e is = grind arith
 
 -- the runs of no blocks
 pub no_numbers : {B : Type 0} (f : B → ℕ × ℕ) (set : Runs) → IsRunsOfBlocks f [] set → set ≡ []

@@ -1,5 +1,5 @@
 -- The reading of resources finds what the grammar says, and nothing else.
-use Rattle.rpki_chain.proofs.Common.{Bool, List, Ok, Result, Some, [], ap, arith, get_or, inl, inr, refl, slice_get, subst, sym, true, ℕ, ◌∙◌, ◌∷◌, ◌≡◌, ◌≢◌, ◌≤◌, SaysByTag, Covers-nil, Covers-head, Covers, IsBytes, IsNothing, IsSequence, IsTlv, IsValue, Refines, IsModal, IsReading, Tightens, nothing, value_at, DerError, IsChoiceOf, choice_at, choice_in, inherited_in, listed_in, some_in, some_of, Holds, IsRunsOfBlocks, Runs, ResourcesChoice, Blocks, Inherit, Missing}
+use Rattle.rpki_chain.proofs.Common.{Bool, List, Ok, Result, Some, [], ap, arith, get_or, inl, inr, refl, slice_get, subst, sym, true, ℕ, ◌∷◌, ◌≡◌, ◌≢◌, ◌≤◌, SaysByTag, Covers-nil, Covers-head, IsBytes, IsNothing, IsSequence, IsTlv, IsValue, Refines, IsModal, IsReading, Tightens, nothing, value_at, DerError, IsChoiceOf, choice_at, choice_in, inherited_in, listed_in, some_in, some_of, IsRunsOfBlocks, Runs, ResourcesChoice, Blocks, Inherit, Missing}
 use Rattle.rpki_der.proofs.Contents.{nothing_check}
 use Rattle.rpki_der.proofs.Modes.{bind_tightens, looked_tightens}
 use Rattle.rpki_der.proofs.Readings.{same_reading}
@@ -11,10 +11,8 @@ use Rattle.rpki_base.proofs.DerReadings.{by_tag_reading, mapped_check}
 pub has_numbers : {B : Type 0} (f : B → ℕ × ℕ) (xs : List B) (x : B) (set : Runs) → slice_get xs 0 ≡ Some x
     → (f x).0 ≤ (f x).1 → IsRunsOfBlocks f xs set → set ≢ []
 has_numbers f [] x set at ordered is none = absurd cc
-has_numbers {B} f (y ∷ ys) x set at ordered is none =
-    let first : y ≡ x = cc in
-    let covered : Covers f (y ∷ ys) (f y).0 = Covers-head f y ys (f y).0 (omega arith, subst (λ (z : B). (f z).0 ≤ (f z).1) (sym first) ordered) in
-    Covers-nil (λ b. b) (f y).0 (subst (λ (runs : Runs). Holds runs (f y).0) none ((is.members (f y).0).1 covered))
+has_numbers f (y ∷ ys) x set at ordered is none =
+    grind (arith, Covers-head f y ys (f y).0, Covers-nil (λ b. b) (f y).0, (is.members (f y).0).1)
 
 -- the first of some values is the one at index 0
 pub first_of_some : {B : Type 0} (xs : List B) (x : B) → xs ≢ [] → x ≡ get_or xs 0 x → slice_get xs 0 ≡ Some x
@@ -34,22 +32,14 @@ module _ {X : Type 0} (Says : List ℕ → List X → Type 0) (values : List ℕ
 
   -- one value at least
   some_says : (xs ys : List X) → some_of xs ≡ Ok ys → (xs ≡ ys) × (ys ≢ [])
-  some_says [] ys e = absurd cc
-  some_says (x ∷ xs) ys e = let same : x ∷ xs ≡ ys = cc in (same, λ none. (let no : x ∷ xs ≡ [] = same ∙ none in absurd cc))
+  some_says xs ys e = grind arith
 
   some_again : (xs : List X) → xs ≢ [] → some_of xs ≡ Ok xs
-  some_again [] some = absurd (some refl)
-  some_again (x ∷ xs) some = refl
+  some_again xs some = grind arith
 
   some_check : IsCheck IsBytes SaysSome (some_in values)
   unfolding SaysSome
-  some_check = record {
-    takes = λ content xs fits e.
-        let a = bind_ok (values content) some_of xs e in
-        let b = some_says a.0 xs a.2 in
-        (subst (Says content) b.0 (check.takes content a.0 fits a.1), b.1);
-    again = λ content xs (says, some). rw (check.again content xs says) (some_again xs some);
-  }
+  some_check = grind (arith, bind_ok, some_again, some_says)
 
   nothing_is : IsCheck IsBytes IsNothing nothing
   nothing_is = record { takes = λ content u fits e. nothing_check.takes content u tt e; again = nothing_check.again }
@@ -82,17 +72,19 @@ module _ {X : Type 0} (Says : List ℕ → List X → Type 0) (values : List ℕ
       (mapped_check IsBytes SaysSome (some_in values) Blocks some_check))
 
 -- the same by the mode
+listed_tightens : {X : Type 0} (values : List ℕ → Result (List X) DerError)
+    (by : Bool → List ℕ → Result (List X) DerError)
+    → ((strict : Bool) (content : List ℕ) → Tightens strict (by strict content) (values content)) → (strict : Bool)
+    (content : List ℕ) → Tightens strict (listed_in (by strict) content) (listed_in values content)
+listed_tightens values by tight strict content = grind (arith, bind_tightens)
+
 pub choice_modal : {X : Type 0} (Says : List ℕ → List X → Type 0) (values : List ℕ → Result (List X) DerError)
     (by : Bool → List ℕ → Result (List X) DerError) → IsCheck IsBytes Says (by true)
     → ((strict : Bool) (content : List ℕ) → Tightens strict (by strict content) (values content))
     → IsModal (IsChoiceOf (Refines IsSequence Says)) (choice_at values) (λ strict. choice_at (by strict))
-choice_modal {X} Says values by check tight = record {
+choice_modal Says values by check tight = record {
   tight = choice_reading Says (by true) check;
-  tightens = λ strict bytes. looked_tightens strict value_at (choice_in (by strict)) (choice_in values) (λ v. by_tag_tightens strict 5 inherited_in (listed_in (by strict)) inherited_in (listed_in values) (λ content. inl refl) (listed strict) v) bytes;
+  tightens = λ strict bytes. looked_tightens strict value_at (choice_in (by strict)) (choice_in values) (λ v.
+      by_tag_tightens strict 5 inherited_in (listed_in (by strict)) inherited_in (listed_in values)
+      (λ content. inl refl) (listed_tightens values by tight strict) v) bytes;
 }
-  where
-    listed : (strict : Bool) (content : List ℕ)
-        → Tightens strict (listed_in (by strict) content) (listed_in values content)
-    listed strict content =
-        bind_tightens strict (some_in (by strict) content) (some_in values content) (λ xs. Ok (Blocks xs)) (λ xs. Ok (Blocks xs))
-        (bind_tightens strict (by strict content) (values content) some_of some_of (tight strict content) (λ xs. inl refl)) (λ xs. inl refl)

@@ -11,12 +11,10 @@ Leaves-decided Missing n = inr (λ l. l)
 Leaves-decided Inherit n = inl tt
 Leaves-decided (Blocks runs) n = Holds-decided runs n
 
--- a call that wants memory answers that it isn't so, and tells nothing else
-pub wants_memory : {X E : Type 0} (C : Type 0) (Q : E → Type 0) (r : Result X (OrMemory E)) → (C → ⊥)
-    → IsErrAnd r IsMemory → (IsOk r ↔ C) × IfErr r (IfRefused Q)
-wants_memory C Q (Ok x) none h = absurd h
-wants_memory C Q (Err (Refused e)) none h = absurd h
-wants_memory C Q (Err (Memory e)) none h = ((λ ok. absurd (false≢true ok), λ c. absurd (none c)), tt)
+-- a call that wants memory refuses
+pub wants_memory : {X E : Type 0} (r : Result X (OrMemory E)) → IsErrAnd r IsMemory → IsOk r → ⊥
+wants_memory (Ok x) h ok = absurd h
+wants_memory (Err e) h ok = absurd (false≢true ok)
 
 module _ (set : Runs) (issuer : Claim) where
   -- a missing claim covers the empty set alone

@@ -1,5 +1,5 @@
 -- What one claim leaves, and by what it exceeds: each of its outcomes, and that there is one.
-use Rattle.rpki_chain.proofs.Common.{[], refl, subst, sym, ℕ, ⊎_elim, ◌∷◌, ◌≡◌, ◌≢◌, ◌≤◌, le_refl, All-head, Err, IsErrAnd, MatchResult, Covers-nil, Covers-head, IfRefused, IsMemory, OrMemory, Memory, Refused, Claim, IsDifference, IsIntersection, Exceeds, IsExcess, IsIssued, Leaves, Lists, Holds, IsRunsOf, Runs, Blocks, Inherit, Overclaim, Refuse, Trim}
+use Rattle.rpki_chain.proofs.Common.{[], arith, refl, subst, sym, ℕ, ◌∷◌, ◌≡◌, ◌≢◌, ◌≤◌, le_refl, All-head, Err, IsErrAnd, MatchResult, Covers-nil, Covers-head, IfRefused, IsMemory, OrMemory, Memory, Refused, Claim, IsDifference, IsIntersection, Exceeds, IsExcess, IsIssued, Leaves, Lists, Holds, IsRunsOf, Runs, Blocks, Inherit, Overclaim, Refuse, Trim}
 use Rattle.std.specs.Prelude.{Result, Ok}
 use Rattle.rpki_chain.proofs.RunLists.{Holds-decided, IsRunsOf-same, IsRunsOf-unique}
 
@@ -29,38 +29,27 @@ some_held S (b ∷ runs) h some =
 
 -- where nothing is left of a difference, the one set lies in the other
 pub inside_by_none : (a b rest : Runs) → IsDifference a b rest → rest ≡ [] → (n : ℕ) → Holds a n → Holds b n
-inside_by_none a b rest h none n held = ⊎_elim
-    (λ (other : Holds b n). other)
-    (λ (outside : Holds b n → ⊥). absurd (none_held rest n none ((h.members n).1 (held, outside))))
-    (Holds-decided b n)
+inside_by_none a b rest h none n held = grind (arith, Holds-decided b n, none_held rest n none, (h.members n).1)
 
 -- a claim that lists no number exceeds nothing
 pub not_exceeded : (S : ℕ → Type 0) (claim : Claim) (mode : Overclaim) (n : ℕ) → (Lists claim n → ⊥)
     → Exceeds S claim mode n → ⊥
-not_exceeded S claim Refuse n none e = none e.0
-not_exceeded S claim Trim n none e = e
+not_exceeded S claim mode n none e = grind arith
 
 -- nor does one that lists numbers of the issuer
 not_exceeded_inside : (S : ℕ → Type 0) (claim : Claim) (mode : Overclaim) (n : ℕ) → (Lists claim n → S n)
     → Exceeds S claim mode n → ⊥
-not_exceeded_inside S claim Refuse n inside e = e.1 (inside e.0)
-not_exceeded_inside S claim Trim n inside e = e
+not_exceeded_inside S claim mode n inside e = grind arith
 
 module _ (set : Runs) (claim : Claim) (mode : Overclaim) where
   pub issued-inherit : (issued : Runs) → claim ≡ Inherit → issued ≡ set → IsRunsOf (Holds set) set
       → IsIssued (Holds set) claim mode issued
-  issued-inherit issued is same runs = subst (λ (c : Claim). IsIssued (Holds set) c mode issued) (sym is) (record {
-    runs = subst (λ (r : Runs). IsRunsOf (λ n. Holds set n × Leaves Inherit n) r) (sym same) (IsRunsOf-same set _ _ (λ n. (λ held. (held, tt), λ x. x.0)) runs);
-    accepted = λ n. not_exceeded (Holds set) Inherit mode n (λ none. none);
-  })
+  issued-inherit issued is same runs = grind (arith, not_exceeded)
 
   module _ (listed : Runs) (is : claim ≡ Blocks listed) where
     pub issued-inside : (issued : Runs) → ((n : ℕ) → Holds listed n → Holds set n) → issued ≡ listed
         → IsRunsOf (Holds listed) listed → IsIssued (Holds set) claim mode issued
-    issued-inside issued inside same runs = subst (λ (c : Claim). IsIssued (Holds set) c mode issued) (sym is) (record {
-      runs = subst (λ (r : Runs). IsRunsOf (λ n. Holds set n × Holds listed n) r) (sym same) (IsRunsOf-same listed _ _ (λ n. (λ held. (inside n held, held), λ x. x.1)) runs);
-      accepted = λ n. not_exceeded_inside (Holds set) (Blocks listed) mode n (inside n);
-    })
+    issued-inside issued inside same runs = grind (arith, IsRunsOf-same, not_exceeded_inside)
 
     pub issued-trim : (issued : Runs) → mode ≡ Trim → IsIntersection listed set issued
         → IsIssued (Holds set) claim mode issued

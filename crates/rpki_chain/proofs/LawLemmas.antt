@@ -1,5 +1,5 @@
 -- Sets with the same numbers are one list of runs, and a set that has a number is not empty.
-use Rattle.rpki_chain.proofs.Common.{[], refl, ℕ, ◌↔◌, ◌∷◌, ◌≡◌, ◌≤◌, le_refl, All-head, Covers-head, IsRunsOf, Runs}
+use Rattle.rpki_chain.proofs.Common.{[], arith, refl, ℕ, ◌↔◌, ◌∷◌, ◌≡◌, All-head, Covers-head, IsRunsOf, Runs}
 use Rattle.rpki_chain.proofs.RunLists.{IsRunsOf-same, IsRunsOf-unique}
 
 -- sets with the same numbers are one
@@ -10,5 +10,4 @@ one_set S U a b h k same = IsRunsOf-unique U a b (IsRunsOf-same a S U same h) k
 pub empty_set : (S : ℕ → Type 0) (a : Runs) → IsRunsOf S a → ((n : ℕ) → S n → ⊥) → a ≡ []
 empty_set S [] h none = refl
 empty_set S (b ∷ runs) h none =
-    let ordered : b.0 ≤ b.1 = All-head (λ (x : ℕ × ℕ). x.0 ≤ x.1) b runs h.ordered in
-    absurd (none b.0 ((h.members b.0).0 (Covers-head (λ x. x) b runs b.0 (le_refl b.0, ordered))))
+    absurd (grind (arith, All-head, Covers-head (λ x. x) b runs b.0, (h.members b.0).0, none b.0))

@@ -1,5 +1,6 @@
 -- Lemmas on runs, claims and paths.
 pub mod Ascending
+pub mod BlocksInModes
 pub mod ChoiceFaults
 pub mod ChoiceReadings
 pub mod ClaimLemmas

@@ -1,5 +1,5 @@
 -- A path of one step, and what holds of what a path leaves.
-use Rattle.rpki_chain.proofs.Common.{List, [], ap, arith, get_or, inl, inr, length, refl, subst, suc, sym, take, zero, ℕ, ⊎_elim, ◌<◌, ◌↔◌, ◌∙◌, ◌∷◌, ◌≡◌, ◌⊎◌, get_or_default, All-cons, All-contains, All-contains_itself, All-head, All-nil, All-tail, All-weaker, Contains, Claim, Exceeds, ExceedsAt, IsExcess, IsFirstRefusal, IsIssued, IsLeft, IsPathResult, Leaves, Lists, one_step, Holds, Runs, Overclaim, Refuse, Trim, Step}
+use Rattle.rpki_chain.proofs.Common.{List, [], arith, get_or, inl, inr, length, subst, suc, sym, take, zero, ℕ, ⊎_elim, ◌<◌, ◌↔◌, ◌∷◌, ◌≡◌, ◌⊎◌, get_or_default, All-cons, All-contains, All-contains_itself, All-head, All-nil, All-tail, All-weaker, Contains, Claim, Exceeds, ExceedsAt, IsExcess, IsFirstRefusal, IsIssued, IsLeft, IsPathResult, Leaves, Lists, one_step, Holds, Runs, Overclaim, Refuse, Trim, Step}
 use Rattle.std.specs.List.{All}
 use Rattle.rpki_chain.proofs.Covered.{Leaves-decided}
 use Rattle.rpki_chain.proofs.LawLemmas.{one_set}
@@ -12,11 +12,7 @@ module _ (S : ℕ → Type 0) (claim : Claim) (mode : Overclaim) where
   all_one n leaves (suc k) d lt = absurd (omega arith)
 
   exceeds_first : (n : ℕ) → Exceeds S claim mode n ↔ ExceedsAt (λ c. c) S (one_step claim mode) 0 n
-  exceeds_first n = (
-    λ e. (record { claim = claim; mode = mode }, omega arith, refl, Exceeds-same S (IsLeft (λ c. c) S []) claim mode n (λ r. r.0) e),
-    λ at. Exceeds-same (IsLeft (λ c. c) S []) S claim mode n (λ s. (s, λ k d lt. absurd (omega arith)))
-        (ExceedsAt-step (λ c. c) S (one_step claim mode) 0 (record { claim = claim; mode = mode }) (omega arith) refl n at),
-  )
+  exceeds_first n = grind (arith, Exceeds-same, ExceedsAt-step)
 
   left_by_one : (n : ℕ) → (S n × Leaves claim n) ↔ IsLeft (λ c. c) S (one_step claim mode) n
   left_by_one n = (
@@ -77,13 +73,13 @@ module _ {X : Type 0} (P : X → Type 0) (decide : (x : X) → P x ⊎ (P x → 
 -- whether a path leaves a number is decided
 pub IsLeft-decided : (root : Runs) (steps : List (Step Claim)) (n : ℕ)
     → IsLeft (λ c. c) (Holds root) steps n ⊎ (IsLeft (λ c. c) (Holds root) steps n → ⊥)
-IsLeft-decided root steps n = ⊎_elim
-    (λ held. ⊎_elim
-    (λ all. inl (held, all))
-    (λ not_all. inr (λ both. not_all both.1))
-    (all_decided (λ (s : Step Claim). Leaves s.claim n) (λ s. Leaves-decided s.claim n) steps))
-    (λ outside. inr (λ both. outside both.0))
-    (Holds-decided root n)
+IsLeft-decided root steps n =
+    grind (
+      arith,
+      Holds-decided root n,
+      all_decided (λ (s : Step Claim). Leaves s.claim n)
+          (λ s. Leaves-decided s.claim n) steps,
+    )
 
 exceeds_refused : (S : ℕ → Type 0) (claim : Claim) (mode : Overclaim) (n : ℕ) → mode ≡ Refuse → Lists claim n
     → (S n → ⊥) → Exceeds S claim mode n
@@ -104,9 +100,7 @@ inside_issuer root set steps at step h lt is refuse n listed = ⊎_elim
 -- no step in mode Trim is refused
 pub not_trimmed : (root : Runs) (steps : List (Step Claim)) (at n : ℕ) (step : Step Claim) → get_or steps at step ≡ step
     → step.mode ≡ Trim → ExceedsAt (λ c. c) (Holds root) steps at n → ⊥
-not_trimmed root steps at n step there trim (s, lt, is, e) =
-    let same : s ≡ step = sym is ∙ get_or_default steps at s step lt ∙ there in
-    exceeds_trimmed (IsLeft (λ c. c) (Holds root) (take at steps)) s.claim s.mode n (ap (λ (x : Step Claim). x.mode) same ∙ trim) e
+not_trimmed root steps at n step there trim e = grind (arith, exceeds_trimmed, get_or_default)
 
 -- what holds of each element of a list holds of those of a list with the same elements
 all_alike : {X : Type 0} (P : X → Type 0) (xs ys : List X) → ((x : X) → Contains ys x → Contains xs x) → All P xs

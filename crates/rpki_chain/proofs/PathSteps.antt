@@ -26,9 +26,7 @@ module _ {R : Type 0} (claim : R → Claim) (S : ℕ → Type 0) (steps : List (
   -- the step at a place is one
   pub ExceedsAt-step : (at : ℕ) (step : Step R) → at < length steps → step ≡ get_or steps at step → (n : ℕ)
       → ExceedsAt claim S steps at n → Exceeds (IsLeft claim S (take at steps)) (claim step.claim) step.mode n
-  ExceedsAt-step at step lt is n (other, within, here, e) =
-      let same : other ≡ step = sym here ∙ get_or_default steps at other step lt ∙ sym is in
-      subst (λ (s : Step R). Exceeds (IsLeft claim S (take at steps)) (claim s.claim) s.mode n) same e
+  ExceedsAt-step at step lt is n e = grind (arith, get_or_default)
 
   module _ (at : ℕ) (step : Step R) (lt : at < length steps) (is : step ≡ get_or steps at step) (left : Runs) (result : IsRunsOf (IsLeft claim S (take at steps)) left) where
     pub Exceeds-left : (n : ℕ) → Exceeds (Holds left) (claim step.claim) step.mode n ↔ ExceedsAt claim S steps at n
@@ -64,7 +62,7 @@ module _ {R : Type 0} (claim : R → Claim) (S : ℕ → Type 0) (steps : List (
     }
 
   pub path-begins : (left root : Runs) → left ≡ root → IsRunsOf S root → IsRunsOf (IsLeft claim S []) left
-  path-begins left root same h = subst (IsRunsOf (IsLeft claim S [])) (sym same) (IsRunsOf-same root _ _ (λ n. (λ s. (s, λ k d lt. absurd (omega arith)), λ r. r.0)) h)
+  path-begins left root same h = grind (arith, IsRunsOf-same)
 
   pub path-done : (left : Runs) (at : ℕ) → length steps ≤ at → IsRunsOf (IsLeft claim S (take at steps)) left
       → ((k n : ℕ) → k < at → ExceedsAt claim S steps k n → ⊥) → IsPathResult claim S steps left
@@ -86,15 +84,13 @@ module _ {R : Type 0} (claim : R → Claim) (S : ℕ → Type 0) (steps : List (
       → q.step < r.step → ⊥
   not_before q r h k below = let (n, e) = some_held (ExceedsAt claim S steps q.step) q.fault h.excess h.some in k.first q.step n below e
 
+  one_place : (q r : PathRefusal Runs) → IsFirstRefusal claim S steps q → IsFirstRefusal claim S steps r
+      → q.step ≡ r.step
+  one_place q r h k = grind (arith, not_before q r h k, not_before r q k h, cases_lt)
+
   pub one_refusal : (q r : PathRefusal Runs) → IsFirstRefusal claim S steps q → IsFirstRefusal claim S steps r → q ≡ r
   one_refusal q r h k =
-      let same : q.step ≡ r.step = ⊎_elim
-      (λ (below : q.step < r.step). absurd (not_before q r h k below))
-      (λ (from : r.step ≤ q.step). ⊎_elim
-      (λ (above : r.step < q.step). absurd (not_before r q k h above))
-      (λ (to : q.step ≤ r.step). omega arith)
-      (cases_lt r.step q.step))
-      (cases_lt q.step r.step) in
+      let same = one_place q r h k in
       let excess = subst (λ (at : ℕ). IsRunsOf (ExceedsAt claim S steps at) q.fault) same h.excess in
       let faults = IsRunsOf-unique (ExceedsAt claim S steps r.step) q.fault r.fault excess k.excess in
       λ i. record { step = same i; fault = faults i }

@@ -16,13 +16,15 @@ module _ {B : Type 0} (f : B → ℕ × ℕ) where
   -- whether a list covers a number is decided
   pub Covers-decided : (xs : List B) (n : ℕ) → Covers f xs n ⊎ (Covers f xs n → ⊥)
   Covers-decided [] n = inr (Covers-nil f n)
-  Covers-decided (x ∷ xs) n = ⊎_elim
-      (λ w. inl (Covers-head f x xs n w))
-      (λ not_here. ⊎_elim
-      (λ c. inl (Covers-tail f x xs n c))
-      (λ not_there. inr (λ c. ⊎_elim not_here not_there (Covers-cons_cases f x xs n c)))
-      (Covers-decided xs n))
-      (is_decided (f x) n)
+  Covers-decided (x ∷ xs) n =
+      grind (
+        arith,
+        Covers-head f x xs n,
+        Covers-tail f x xs n,
+        Covers-cons_cases f x xs n,
+        is_decided (f x) n,
+        Covers-decided xs n,
+      )
 
   -- the bounds of blocks hold what the blocks cover
   pub Holds-map : (xs : List B) (n : ℕ) → Holds (map f xs) n ↔ Covers f xs n

@@ -1,5 +1,5 @@
 -- Chains of blocks, and the sets that they are.
-use Rattle.rpki_chain.proofs.Common.{IfOk, List, Result, [], ap, arith, get_or, inl, length, map, refl, subst, sym, ℕ, ⊎_elim, ◌+◌, ◌-◌, ◌<◌, ◌↔◌, ◌∷◌, ◌≡◌, ◌≤◌, ◌⊎◌, cases_lt, All-map, All-tail, IfOk-weaker, Decides, All, Covers-nil, is_same_pair, same_runs, Covers, IsChain, IsInside, IsNew, IsBlockChain, IsBlockSet, Holds, IsRunsOf, IsRunsOfBlocks, Runs}
+use Rattle.rpki_chain.proofs.Common.{IfOk, IsOk, List, Result, [], ap, arith, get_or, inl, length, map, refl, subst, sym, ℕ, ⊎_elim, ◌-◌, ◌<◌, ◌↔◌, ◌∷◌, ◌≡◌, ◌≤◌, ◌⊎◌, All-head, All-map, All-tail, IfOk-weaker, Decides, All, Covers-nil, is_same_pair, same_runs, Covers, IsChain, IsInside, IsNew, IsBlockChain, IsBlockSet, Holds, IsRunsOf, IsRunsOfBlocks, Runs}
 use Rattle.std.specs.Cmp.Lexicographic.{pointwise_decides}
 use Rattle.std.proofs.lemmas.Grind.{common_steps}
 use Rattle.rpki_chains.specs.Overhang.{IsOverhang}
@@ -45,12 +45,15 @@ module _ {B : Type 0} (f : B → ℕ × ℕ) where
     λ inside. h.1 (λ n covered. (Holds-map f other n).0 (inside n ((Holds-map f own n).1 covered))),
   )
 
-  -- and a block that leaves the other is one of no subset
-  pub not_inside_set : {I : Type 0} (form : ℕ × ℕ → B) (number : I → ℕ) (first last : ℕ) (own other : List B)
-      (o : Overhang I) → IsOverhang f number first last own other o
-      → ((n : ℕ) → Holds (map f own) n → Holds (map f other) n) → ⊥
-  not_inside_set form number first last own other o leaves inside =
-      overhang-not_inside f form number first last own other o leaves (λ n covered. (Holds-map f other n).0 (inside n ((Holds-map f own n).1 covered)))
+  -- so where a block leaves the other, a call that is right for subsets alone is right to refuse
+  pub refused_for : {I X E : Type 0} {number : I → ℕ} {first last : ℕ} {own other : List B} {o : Overhang I}
+      {a b : Runs} (form : ℕ × ℕ → B) → IsOverhang f number first last own other o → map f own ≡ a → map f other ≡ b
+      → (r : Result X E) → (IsOk r → ⊥) → IsOk r ↔ ((n : ℕ) → Holds a n → Holds b n)
+  refused_for {I} {X} {E} {number} {first} {last} {own} {other} {o} form leaves one two r refuses = (
+    λ ok. absurd (refuses ok),
+    λ inside. absurd (overhang-not_inside f form number first last own other o leaves
+        (λ n covered. (Holds-map f other n).0 ((rw (← one, ← two) at inside) n ((Holds-map f own n).1 covered)))),
+  )
 
   -- what is made of the chain of S is the set S
   pub made : {E : Type 0} (r : Result Runs E) (S : ℕ → Type 0) (blocks : List B) → IsRunsOf S (map f blocks)
@@ -61,9 +64,7 @@ module _ {B : Type 0} (f : B → ℕ × ℕ) where
   pub blocks_made : (form : ℕ × ℕ → B) (xs : List B) → All (IsNew f form) xs → map form (map f xs) ≡ xs
   blocks_made form [] new = refl
   blocks_made form (x ∷ xs) new =
-      let first : x ≡ form (f x) = new 0 x (omega arith) in
-      let rest = blocks_made form xs (All-tail (IsNew f form) x xs new) in
-      cc
+      grind (arith, All-head, All-tail, blocks_made form xs (All-tail (IsNew f form) x xs new))
 
   -- and the blocks that are made of the runs of a set have these runs for their bounds
   pub bounds_made : (form : ℕ × ℕ → B) (first last : ℕ)
@@ -91,31 +92,14 @@ module _ {B : Type 0} (f : B → ℕ × ℕ) where
         → ((d : B) → 0 < length blocks
         → (first ≤ (f (get_or blocks 0 d)).0) × ((f (get_or blocks (length blocks - 1) d)).1 ≤ last))
         → IsBlockChain f form first last blocks
-    IsBlockChain-from_ends blocks chain ends = record {
-      chain = chain;
-      above = λ k d small.
-          let start = (ends d (omega arith)).0 in
-          ⊎_elim
-          (λ (after : 0 < k).
-          let far : (f (get_or blocks 0 d)).1 + 1 < (f (get_or blocks k d)).0 = chain.apart 0 k d after small in
-          let ordered : (f (get_or blocks 0 d)).0 ≤ (f (get_or blocks 0 d)).1 = chain.ordered 0 d (omega arith) in
-          omega arith)
-          (λ (at : k ≤ 0).
-          let same : k ≡ 0 = omega arith in
-          rw same start)
-          (cases_lt 0 k);
-      below = λ k d small.
-          let end = (ends d (omega arith)).1 in
-          ⊎_elim
-          (λ (before : k < length blocks - 1).
-          let far : (f (get_or blocks k d)).1 + 1 < (f (get_or blocks (length blocks - 1) d)).0 = chain.apart k (length blocks - 1) d before (omega arith) in
-          let ordered : (f (get_or blocks (length blocks - 1) d)).0 ≤ (f (get_or blocks (length blocks - 1) d)).1 = chain.ordered (length blocks - 1) d (omega arith) in
-          omega arith)
-          (λ (at : length blocks - 1 ≤ k).
-          let same : k ≡ length blocks - 1 = omega arith in
-          rw same end)
-          (cases_lt k (length blocks - 1));
-    }
+    IsBlockChain-from_ends blocks chain ends = record { chain = chain; above = above; below = below }
+      where
+        above : All (λ x. first ≤ (f x).0) blocks
+        above k d small = grind (arith, chain.apart 0 k d, chain.ordered 0 d, ends d)
+
+        below : All (λ x. (f x).1 ≤ last) blocks
+        below k d small =
+            grind (arith, chain.apart k (length blocks - 1) d, chain.ordered (length blocks - 1) d, ends d)
 
     -- a chain is a set
     pub IsBlockSet-from_chain : (blocks : List B) → IsBlockChain f form first last blocks

@@ -1,44 +1,41 @@
 -- What the proofs of this crate use of std, of the crates below and of its own definitions, passed on by one name.
-pub use Rattle.std.proofs.Common.{Err, List, None, Ok, Option, Result, Some, Vec, [], ap, arith, eqb, false, get_or, inl, inr, length, map, refl, subst, sym, take, true, vec_len, ℕ, ⊎_elim, ◌%◌, ◌++◌, ◌+◌, ◌-◌, ◌<◌, ◌^◌, ◌↔◌, ◌∙◌, ◌∷◌, ◌≡◌, ◌≢◌, ◌≤◌}
+pub use Rattle.std.proofs.Common.{Err, List, None, Ok, Option, Result, Some, Vec, [], ap, arith, eqb, false, get_or, inl, inr, length, map, refl, subst, sym, take, true, ℕ, ⊎_elim, ◌%◌, ◌++◌, ◌+◌, ◌-◌, ◌<◌, ◌^◌, ◌↔◌, ◌∙◌, ◌∷◌, ◌≡◌, ◌≢◌, ◌≤◌}
 pub use Rattle.std.proofs.lemmas.Bool.{cases_order}
-pub use Rattle.std.proofs.lemmas.List.{append-nil, append_assoc, append_cancel_left, get_or-map, get_or_default, length-append, length-map}
+pub use Rattle.std.proofs.lemmas.List.{append_assoc, append_cancel_left, get_or-map, get_or_default, length-append, length-map}
 pub use Rattle.std.proofs.lemmas.List.Elements.{All-from_recursion, All-map, All-take, recursion_from_All}
 pub use Rattle.std.proofs.lemmas.Nat.{pow_pos}
 pub use Rattle.std.proofs.lemmas.Result.{err_from_is_err_and}
 pub use Rattle.std.specs.List.{All, AllByRecursion}
-pub use Rattle.std.specs.Prelude.{IfOk, IfSome, IsOk, MatchResult, OnOk, ⊤}
-pub use Rattle.std.specs.Vec.{vec_capacity}
-pub use Rattle.rpki_base.proofs.DerCursors.{reads_said_by}
-pub use Rattle.rpki_base.proofs.DerModes.{canonical_said_by, exact_said_by, reads_same, refused_said_by, sequence_modal, takes_said_by, values_stateless}
-pub use Rattle.rpki_base.proofs.DerWriting.{one_content, sequence_written, written_alike}
-pub use Rattle.rpki_base.proofs.FamiliesGathering.{IsThere, each_there, families_reading}
-pub use Rattle.rpki_base.proofs.FamiliesSaid.{one_by_family, one_families, stands_for, stood_for}
-pub use Rattle.rpki_base.proofs.FamiliesWritten.{Writes, content_shorter, families_written}
+pub use Rattle.std.specs.Prelude.{IfSome}
+pub use Rattle.rpki_base.proofs.DerWriting.{one_content, written_alike}
+pub use Rattle.rpki_base.proofs.FamiliesGathering.{IsThere, each_there}
+pub use Rattle.rpki_base.proofs.FamiliesSaid.{one_families, stands_for, stood_for}
+pub use Rattle.rpki_base.proofs.SaidInModes.{IsSaidInModes, IsTakenInModes, front_short, taken_said, written_said}
 pub use Rattle.rpki_base.proofs.FamilyLemmas.{family_reading, family_written}
 pub use Rattle.rpki_base.specs.DerReading.{IsSequenceFrom, IsSequenceOf, values_of}
-pub use Rattle.rpki_base.specs.DerViews.{NotCanonicalOrMemory, ReadsOrMemory, TakesSaidOrMemory}
+pub use Rattle.rpki_base.specs.DerViews.{NotCanonicalOrMemory, TakesSaidOrMemory}
 pub use Rattle.rpki_base.specs.DerWriting.{octets_of_all, sequence_octets}
 pub use Rattle.rpki_base.specs.Families.{bits_of}
-pub use Rattle.rpki_base.specs.FamiliesDer.{AreInOrder, ByFamily, IsFamilies, IsFamiliesInOrder, IsMember, SaysOption, families_der, member_der, option_der}
+pub use Rattle.rpki_base.specs.FamiliesDer.{ByFamily, IsFamilies, IsFamiliesInOrder, families_der, option_der}
 pub use Rattle.rpki_base.specs.FamilyDer.{IsFamilyDer, family_at, family_der}
 pub use Rattle.rpki_base.specs.declared.family.AddressFamily.{AddressFamily}
 pub use Rattle.rpki_base.specs.declared.family.AddressFamily.TheVariants.{Ipv4, Ipv6}
-pub use Rattle.rpki_chain.proofs.Ascending.{IsWritten, listed_are, listed_chain, no_numbers, set_spelled, spelled_set, taken_chain}
+pub use Rattle.rpki_chain.proofs.Ascending.{IsWritten, listed_are}
 pub use Rattle.rpki_chain.proofs.ClaimLemmas.{claims_decide, lists_one}
 pub use Rattle.rpki_chain.proofs.RunLists.{IsRunsOf-unique, IsRunsOfBlocks-bounds, same_numbers}
-pub use Rattle.rpki_chain.proofs.SetLemmas.{bounds_made, made_of_set}
+pub use Rattle.rpki_chain.proofs.SetLemmas.{bounds_made}
 pub use Rattle.rpki_chain.specs.ChoiceDer.{IsChoiceOf}
 pub use Rattle.rpki_chain.specs.Claims.{Claim, claim_of}
 pub use Rattle.rpki_chain.specs.Runs.{Holds, IsRunsOf, IsRunsOfBlocks, Runs}
 pub use Rattle.rpki_chain.specs.declared.choice.ResourcesChoice.{ResourcesChoice}
 pub use Rattle.rpki_chain.specs.declared.choice.ResourcesChoice.TheVariants.{Blocks, Inherit, Missing}
 pub use Rattle.rpki_chains.specs.Sets.{Covers, IsChain, IsChainOf, IsRun}
-pub use Rattle.rpki_der.proofs.Modes.{found_is, tested_modal}
+pub use Rattle.rpki_der.proofs.Modes.{tested_modal}
 pub use Rattle.rpki_der.proofs.Written.{value_is}
-pub use Rattle.rpki_der.specs.Der.{EachFrom, IsBytes, OneFront, Refines, Spells, Where, sequence_value}
+pub use Rattle.rpki_der.specs.Der.{IsBytes, OneFront, Refines, Spells, Where, sequence_value}
 unfoldable pub use Rattle.rpki_der.specs.Der.{header}
-pub use Rattle.rpki_der.specs.Reading.{IsModal, refined, tagged_at}
-pub use Rattle.rpki_der.specs.Views.{Lenient, Strict, is_strict, left}
+pub use Rattle.rpki_der.specs.Reading.{IsModal, tagged_at}
+pub use Rattle.rpki_der.specs.Views.{is_strict, left}
 pub use Rattle.rpki_der.specs.declared.cursor.Cursor.{Cursor}
 pub use Rattle.rpki_der.specs.declared.error.DerError.{DerError}
 pub use Rattle.rpki_ip.proofs.DerModes.{bits_few_enough, within}
@@ -55,12 +52,11 @@ pub use Rattle.rpki_ip_block.specs.ListText.{HasBlocks, HasBlocksFault, HasIpBlo
 pub use Rattle.rpki_ip_block.specs.PrintedBlocks.{IsBlock, IsBlockOf}
 pub use Rattle.rpki_ip_block.specs.declared.block.IpBlock.{IpBlock}
 pub use Rattle.rpki_ip_block.specs.declared.block.IpBlock.TheVariants.{Prefix, Range}
-pub use Rattle.rpki_text.specs.Memory.{IsMemory}
 pub use Rattle.rpki_text.specs.declared.memory.OrMemory.{OrMemory}
 pub use Rattle.rpki_text.specs.declared.memory.OrMemory.TheVariants.{Memory, Refused}
 pub use Rattle.rpki_ipres.specs.Modes.{greatest_of_ip_block, ip_blocks_by, ip_families_by, ip_resources_by}
 pub use Rattle.rpki_ipres.specs.Resources.{ArePresentClaims, IsFamilyClaim, IsIpClaim, IsPresentFamilyClaim, IsWholeClaim, if_present}
 pub use Rattle.rpki_ipres.specs.ResourcesDer.{IsIpFamilies, IsIpResources, SaysClaimOf, SaysClaims, ip_content_der, ip_families_at, ip_families_der, ip_member_der, ip_resources_at, ip_resources_der}
-pub use Rattle.rpki_ipres.specs.ResourcesReadingLaws.{resources_modal_of, resources_reading}
+pub use Rattle.rpki_ipres.specs.ResourcesReadingLaws.{resources_reading}
 pub use Rattle.rpki_ipres.specs.SetDer.{IsIpBlockSequence, IsIpFamily, ip_family_der, ip_run_der, ip_set_der}
 pub use Rattle.rpki_ipres.specs.SetText.{IsFamilySet, IsIpSet, IsSetOf, set_text}

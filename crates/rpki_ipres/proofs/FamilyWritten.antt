@@ -1,30 +1,29 @@
 -- What is written of sets, alone and behind their family, stands for them, and octets stand for one set at most.
-use Rattle.rpki_ipres.proofs.Common.{List, [], ap, arith, length, refl, subst, sym, ℕ, ◌++◌, ◌+◌, ◌<◌, ◌^◌, ◌↔◌, ◌∙◌, ◌∷◌, ◌≡◌, ◌≢◌, append_assoc, append_cancel_left, length-append, one_content, family_reading, family_written, IsSequenceOf, bits_of, IsFamilyDer, family_at, family_der, AddressFamily, same_numbers, Holds, IsRunsOfBlocks, Runs, value_is, OneFront, header, sequence_value, tagged_at, IsIpBlockDer, ip_blocks_at, blocks_reading, ip_bounds, IpBlock, IsIpBlockSequence, IsIpFamily, ip_family_der, ip_set_der, IsFamilySet}
+use Rattle.rpki_ipres.proofs.Common.{List, [], ap, arith, length, refl, subst, sym, ℕ, ◌++◌, ◌+◌, ◌<◌, ◌^◌, ◌↔◌, ◌∙◌, ◌∷◌, ◌≡◌, ◌≢◌, append_assoc, append_cancel_left, length-append, one_content, written_said, family_reading, family_written, IsSequenceOf, bits_of, IsFamilyDer, family_at, family_der, AddressFamily, same_numbers, Holds, IsRunsOfBlocks, Runs, value_is, OneFront, header, sequence_value, tagged_at, IsIpBlockDer, ip_blocks_at, blocks_reading, ip_bounds, IsIpBlockSequence, IsIpFamily, ip_family_der, ip_set_der, IsFamilySet}
 use Rattle.rpki_der.proofs.Readings.{IsTagged, one_front, tagged_reading}
+use Rattle.rpki_base.proofs.DerReadings.{one_front_said}
+use Rattle.rpki_base.proofs.FamiliesWritten.{content_shorter}
+use Rattle.rpki_ipres.proofs.Modes.{set_in_modes}
 use Rattle.rpki_ipres.proofs.SetTextLemmas.{is_ip_set}
-use Rattle.rpki_ipres.proofs.SetWritten.{blocks_say, one_set, set_written, written_as_numbers}
+use Rattle.rpki_ipres.proofs.SetWritten.{one_set, written_as_numbers}
 
 -- what is appended of two behind the header of a SEQUENCE
 pub two_written : (old one two : List ℕ) (n : ℕ) → n ≡ length one + length two
     → old ++ header 48 n ++ one ++ two ≡ old ++ sequence_value (one ++ two)
 two_written old one two n long = grind (arith, append_assoc, length-append)
 
--- a SEQUENCE is longer than what is in it
-content_shorter : (content : List ℕ) → length (sequence_value content) < 2 ^ 64 → length content < 2 ^ 64
-content_shorter content short = grind (arith, length-append)
-
 -- ---- sets alone
 
 -- what is written of a set of a family is a SEQUENCE of blocks of the family, which stands for the set
 pub sequence_says : (family : AddressFamily) (set : Runs) → IsFamilySet family set → length (ip_set_der set) < 2 ^ 64
     → IsIpBlockSequence (bits_of family) (ip_set_der set) set
-sequence_says family set is short = search (arith, blocks_say, content_shorter, is_ip_set, set_written)
+sequence_says family set is short = written_said (set_in_modes family) set is short
 
 -- octets begin with at most one SEQUENCE of blocks, which stands for one set
 pub one_sequence : (limit : ℕ) → OneFront (IsIpBlockSequence limit)
-one_sequence limit a b x y r s (xs, is, says) (ys, also, tell) same =
-    let one = one_front (IsSequenceOf (IsIpBlockDer limit)) (ip_blocks_at limit) (blocks_reading limit) a b xs ys r s is also same in
-    (one.0, one_set ys x y (subst (λ (t : List IpBlock). IsRunsOfBlocks ip_bounds t x) one.1 says) tell, one.2)
+one_sequence limit =
+    one_front_said (IsSequenceOf (IsIpBlockDer limit)) (IsRunsOfBlocks ip_bounds) (ip_blocks_at limit)
+    (blocks_reading limit) one_set
 
 -- ---- sets behind their family
 

@@ -1,9 +1,10 @@
 -- What is written of resources, alone and by families, stands for them, and octets stand for one
 -- claim at most.
-use Rattle.rpki_ipres.proofs.Common.{List, None, Option, Some, [], ap, arith, length, map, refl, subst, ℕ, ◌++◌, ◌<◌, ◌^◌, ◌↔◌, ◌∷◌, ◌≡◌, ◌≢◌, append_cancel_left, length-append, IfSome, one_content, one_families, Writes, content_shorter, families_written, IsSequenceOf, octets_of_all, bits_of, option_der, AddressFamily, Ipv4, Ipv6, lists_one, same_numbers, IsChoiceOf, Claim, claim_of, IsRunsOfBlocks, Runs, ResourcesChoice, Blocks, Inherit, Missing, value_is, OneFront, header, IsIpBlockDer, ip_bounds, new_ip_block, IpBlock, IsFamilyClaim, IsIpClaim, if_present, IsIpFamilies, IsIpResources, SaysClaimOf, ip_families_der, ip_member_der, ip_resources_at, ip_resources_der, resources_reading, ip_family_der, ip_run_der, IsFamilySet}
+use Rattle.rpki_ipres.proofs.Common.{List, None, Option, Some, [], ap, arith, length, refl, subst, ℕ, ◌++◌, ◌<◌, ◌^◌, ◌↔◌, ◌≡◌, ◌≢◌, append_cancel_left, one_content, one_families, stands_for, written_said, IsSequenceOf, bits_of, ByFamily, option_der, AddressFamily, Ipv4, Ipv6, lists_one, same_numbers, IsChoiceOf, Claim, claim_of, IsRunsOfBlocks, Runs, ResourcesChoice, Blocks, Inherit, Missing, OneFront, header, IsIpBlockDer, ip_bounds, IpBlock, IsFamilyClaim, IsIpClaim, if_present, IsIpFamilies, IsIpResources, SaysClaimOf, ip_families_der, ip_member_der, ip_resources_at, ip_resources_der, resources_reading, ip_family_der}
 use Rattle.rpki_base.proofs.DerReadings.{one_front_said}
-use Rattle.rpki_ipres.proofs.SetTextLemmas.{is_ip_set}
-use Rattle.rpki_ipres.proofs.SetWritten.{blocks_say, one_set, set_written, written_as_numbers}
+use Rattle.rpki_ipres.proofs.FamilyModes.{G, are_present, families_in_modes}
+use Rattle.rpki_ipres.proofs.Modes.{claim_in_modes}
+use Rattle.rpki_ipres.proofs.SetWritten.{one_set, written_as_numbers}
 
 -- the blocks that were read are of one claim at most
 pub one_claim : (choice : ResourcesChoice (List IpBlock)) (a b : Claim) → SaysClaimOf choice a → SaysClaimOf choice b
@@ -19,45 +20,18 @@ pub one_of_families : OneFront IsIpFamilies
 one_of_families =
     one_families (λ family. IsChoiceOf (IsSequenceOf (IsIpBlockDer (bits_of family)))) SaysClaimOf (λ family. ip_resources_at (bits_of family)) (λ family. resources_reading (bits_of family)) one_claim
 
--- runs have blocks
-some_blocks : (set : Runs) → set ≢ [] → map new_ip_block set ≢ []
-some_blocks [] some = absurd (some refl)
-some_blocks (run ∷ set) some = λ none. absurd cc
-
--- a set of a family is claimed as one of it
-pub set_claimed : (family : AddressFamily) (set : Runs) → IsFamilySet family set → IsFamilyClaim family (claim_of set)
-set_claimed family set is = grind arith
-
 -- what is written of resources of a family is the resources
 pub resources_written : (family : AddressFamily) (claim : Claim) → IsFamilyClaim family claim → claim ≢ Missing
     → length (ip_resources_der claim) < 2 ^ 64 → IsIpResources (bits_of family) (ip_resources_der claim) claim
-resources_written family Missing is some short = absurd (some refl)
-resources_written family Inherit is some short = (Inherit, value_is 5 [] (omega arith) (omega arith), refl)
-resources_written family (Blocks set) (is, some) present short = (
-  Blocks (map new_ip_block set),
-  (set_written family set is (content_shorter (octets_of_all ip_run_der set) short), some_blocks set some),
-  (set, blocks_say set (is_ip_set family set is), refl),
-)
-
--- the same of a claim that may be missing
-present_written : (family : AddressFamily) (claim : Claim) → IsFamilyClaim family claim
-    → IfSome (if_present claim) (Writes (λ family. IsIpResources (bits_of family)) ip_resources_der family)
-present_written family Missing is = tt
-present_written family Inherit is = resources_written family Inherit is (λ none. absurd cc)
-present_written family (Blocks set) is = resources_written family (Blocks set) is (λ none. absurd cc)
-
--- a claim that isn't there is missing
-pub none_present : (claim : Claim) → if_present claim ≡ None → claim ≡ Missing
-none_present claim none = grind arith
+resources_written family claim is some = written_said (claim_in_modes family) claim (is, some)
 
 -- what is written of families is the families
 pub claims_written : (v4 v6 : Claim) → IsFamilyClaim Ipv4 v4 → IsFamilyClaim Ipv6 v6 → (v4 ≡ Missing → v6 ≢ Missing)
     → length (ip_families_der v4 v6) < 2 ^ 64 → IsIpFamilies (ip_families_der v4 v6) (if_present v4, if_present v6)
-claims_written v4 v6 first second some short = search (arith, families_written, none_present, present_written)
-
--- what stands at the front of octets is no longer than they are
-pub front_short : (bytes front rest : List ℕ) → length bytes < 2 ^ 64 → bytes ≡ front ++ rest → length front < 2 ^ 64
-front_short bytes front rest short at = grind (arith, length-append)
+claims_written v4 v6 first second some short =
+    let fs : ByFamily Claim = (if_present v4, if_present v6) in
+    stands_for G SaysClaimOf (ip_families_der v4 v6) fs
+    (written_said families_in_modes fs (are_present v4 v6 first second some) short)
 
 -- ---- written alike
 

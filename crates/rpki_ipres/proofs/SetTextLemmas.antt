@@ -48,8 +48,7 @@ blocks_of_family Ipv4 set (is, whole) = λ k d small. (blocks_fit set is k d sma
 
 -- a set of the family is a set of addresses
 pub is_ip_set : (family : AddressFamily) (set : Runs) → IsFamilySet family set → IsIpSet set
-is_ip_set Ipv4 set is = is.0
-is_ip_set Ipv6 set is = is
+is_ip_set family set is = grind arith
 
 -- so the set that was read from blocks with their bounds is that set
 pub read_as : (family : AddressFamily) (xs : List IpBlock) (set read : Runs) → IsFamilySet family set

@@ -1,5 +1,5 @@
 -- What is written of sets of addresses, and that it is read back.
-use Rattle.rpki_ipres.proofs.Common.{List, [], ap, arith, eqb, false, length, map, subst, sym, ℕ, ◌++◌, ◌<◌, ◌^◌, ◌↔◌, ◌∙◌, ◌∷◌, ◌≡◌, ◌≤◌, length-append, recursion_from_All, pow_pos, AllByRecursion, one_content, sequence_written, written_alike, IsSequenceOf, octets_of_all, sequence_octets, bits_of, family_der, AddressFamily, Ipv4, Ipv6, IsRunsOf-unique, same_numbers, made_of_set, Holds, IsRunsOfBlocks, Runs, Covers, sequence_value, HasWholeBounds, new_block_fits, IsBlockWithin, IsIpBlockDer, ip_block_der, new_ip_block_bounds, ip_block_at, ip_block_has_octets, ip_block_reading, ip_bounds, new_ip_block, IsBlock, IpBlock, ip_family_der, ip_run_der, ip_set_der, IsFamilySet, IsIpSet}
+use Rattle.rpki_ipres.proofs.Common.{List, [], ap, arith, eqb, false, length, map, refl, subst, sym, ℕ, ◌++◌, ◌↔◌, ◌∙◌, ◌∷◌, ◌≡◌, ◌≤◌, recursion_from_All, pow_pos, AllByRecursion, one_content, written_alike, octets_of_all, sequence_octets, bits_of, family_der, AddressFamily, Ipv4, Ipv6, IsRunsOf-unique, same_numbers, Holds, IsRunsOfBlocks, Runs, Covers, sequence_value, HasWholeBounds, new_block_fits, IsBlockWithin, IsIpBlockDer, ip_block_der, new_ip_block_bounds, ip_block_at, ip_block_has_octets, ip_block_reading, ip_bounds, new_ip_block, IsBlock, IpBlock, ip_family_der, ip_run_der, ip_set_der, IsFamilySet, IsIpSet}
 use Rattle.std.proofs.lemmas.List.Folds.{flat_map-map}
 use Rattle.rpki_ip.specs.RangeDer.{IsRangeWithin}
 use Rattle.rpki_ip.proofs.DerWritten.{few_bits}
@@ -30,27 +30,20 @@ runs_written limit [] le all = tt
 runs_written limit (run ∷ set) le all = (run_written limit run le all.0, runs_written limit set le all.1)
 
 -- what is written of the blocks of runs is what is written of the runs
-pub written_as_runs : (set : Runs) → octets_of_all ip_block_der (map new_ip_block set) ≡ octets_of_all ip_run_der set
-written_as_runs set = flat_map-map ip_block_der new_ip_block set
+pub written_as_runs : (set : Runs) (blocks : List IpBlock) → blocks ≡ map new_ip_block set
+    → octets_of_all ip_block_der blocks ≡ octets_of_all ip_run_der set
+written_as_runs set blocks made = ap (octets_of_all ip_block_der) made ∙ flat_map-map ip_block_der new_ip_block set
 
 -- with the family before them, where there are some
-pub family_written : (family : AddressFamily) (set : Runs) → eqb (length (map new_ip_block set)) 0 ≡ false
-    → sequence_value (family_der family ++ sequence_octets ip_block_der (map new_ip_block set))
-    ≡ ip_family_der family set
-family_written family set some = grind (arith, written_as_runs)
-
--- ---- the blocks of a set
-
--- they stand for the set
-pub blocks_say : (set : Runs) → IsIpSet set → IsRunsOfBlocks ip_bounds (map new_ip_block set) set
-blocks_say = made_of_set ip_bounds new_ip_block 0 340282366920938463463374607431768211455 (λ b from ordered to. new_ip_block_bounds b)
+pub family_written : (family : AddressFamily) (set : Runs) (blocks : List IpBlock) → blocks ≡ map new_ip_block set
+    → eqb (length blocks) 0 ≡ false
+    → sequence_value (family_der family ++ sequence_octets ip_block_der blocks) ≡ ip_family_der family set
+family_written family set blocks made some = grind (arith, written_as_runs)
 
 -- blocks stand for one set
 pub one_set : (blocks : List IpBlock) (a b : Runs) → IsRunsOfBlocks ip_bounds blocks a
     → IsRunsOfBlocks ip_bounds blocks b → a ≡ b
 one_set blocks a b = IsRunsOf-unique (Covers ip_bounds blocks) a b
-
--- ---- sequences
 
 -- the runs of a set of a family need no more bits than the family's addresses
 pub family_runs : (family : AddressFamily) (set : Runs) → IsFamilySet family set
@@ -59,26 +52,6 @@ family_runs Ipv4 set (is, whole) = recursion_from_All (IsRunWithin 32) set (λ k
     let bounds : HasWholeBounds _ = whole_runs set is.are_runs whole k d small in
     record { is_range = record { ordered = is.are_runs.ordered k d small; below = (let most = is.below k d small in omega (arith, most)) }; zeros = bounds.begins; ones = bounds.ends })
 family_runs Ipv6 set is = grind (arith, recursion_from_All)
-
--- no family has more than 128 bits
-few_family : (family : AddressFamily) → bits_of family ≤ 128
-few_family Ipv4 = omega arith
-few_family Ipv6 = omega arith
-
--- a SEQUENCE that stands in octets is no longer than they are
-pub content_short : (bytes content rest : List ℕ) → length bytes < 2 ^ 64 → bytes ≡ sequence_value content ++ rest
-    → length content < 2 ^ 64
-content_short bytes content rest short at = grind (arith, length-append)
-
--- what is written of a set is a SEQUENCE of its blocks
-pub set_written : (family : AddressFamily) (set : Runs) → IsFamilySet family set
-    → length (octets_of_all ip_run_der set) < 2 ^ 64
-    → IsSequenceOf (IsIpBlockDer (bits_of family)) (ip_set_der set) (map new_ip_block set)
-set_written family set is short =
-    let octets : octets_of_all ip_block_der (map new_ip_block set) ≡ octets_of_all ip_run_der set = written_as_runs set in
-    let all = runs_written (bits_of family) set (few_family family) (family_runs family set is) in
-    let written = sequence_written (IsIpBlockDer (bits_of family)) ip_block_der (map new_ip_block set) all (subst (λ (t : List ℕ). length t < 2 ^ 64) (sym octets) short) in
-    subst (λ (t : List ℕ). IsSequenceOf (IsIpBlockDer (bits_of family)) (sequence_value t) (map new_ip_block set)) octets written
 
 -- sets that are written alike have the same addresses, and sets of the same addresses are written alike
 pub written_as_numbers : (a b : Runs) → IsIpSet a → IsIpSet b
@@ -89,7 +62,7 @@ written_as_numbers a b is also = (
       let all = runs_written 128 a (omega arith) (family_runs Ipv6 a is) in
       let more = runs_written 128 b (omega arith) (family_runs Ipv6 b also) in
       let blocks = written_alike (IsIpBlockDer 128) ip_block_der (ip_block_at 128) (ip_block_reading 128) (ip_block_has_octets 128) (map new_ip_block a) (map new_ip_block b) all more
-      (written_as_runs a ∙ content ∙ sym (written_as_runs b)) in
+      (written_as_runs a _ refl ∙ content ∙ sym (written_as_runs b _ refl)) in
       let one : a ≡ b = sym (blocks_bounds a is) ∙ ap (λ (t : List IpBlock). map ip_bounds t) blocks ∙ blocks_bounds b also in
       (subst (λ (t : Runs). Holds t n) one, subst (λ (t : Runs). Holds t n) (sym one))
       ),

@@ -1,5 +1,5 @@
 -- Where a set and the claims on it consist of whole IPv4 addresses, so does what they leave, and what is too much.
-use Rattle.rpki_ipres.proofs.Common.{List, subst, sym, take, ℕ, All-take, All, Ipv4, Claim, Holds, IsRunsOf, Runs, Blocks, Inherit, Missing, IsWhole, IsFamilyClaim, IsIpClaim, IsWholeClaim}
+use Rattle.rpki_ipres.proofs.Common.{List, arith, subst, sym, take, ℕ, All-take, All, Ipv4, Claim, Holds, IsRunsOf, Runs, IsWhole, IsFamilyClaim, IsIpClaim, IsWholeClaim}
 use Rattle.rpki_chain.specs.Paths.{Lists, Leaves, Exceeds, IsIssued, IsExcess, IsUncovered, IsLeft, IsPathResult, IsFirstRefusal}
 use Rattle.rpki_chain.specs.declared.path.Overclaim.{Overclaim}
 use Rattle.rpki_chain.specs.declared.path.Overclaim.TheVariants.{Refuse, Trim}
@@ -8,14 +8,10 @@ use Rattle.rpki_chain.specs.declared.path.Step.{Step}
 
 -- what a whole claim lists, and what it leaves, is whole
 whole_lists : (claim : Claim) → IsWholeClaim claim → IsWhole (Lists claim)
-whole_lists Missing whole m n same l = l
-whole_lists Inherit whole m n same l = l
-whole_lists (Blocks runs) whole m n same l = whole m n same l
+whole_lists claim whole m n same l = grind arith
 
 pub whole_leaves : (claim : Claim) → IsWholeClaim claim → IsWhole (Leaves claim)
-whole_leaves Missing whole m n same l = l
-whole_leaves Inherit whole m n same l = l
-whole_leaves (Blocks runs) whole m n same l = whole m n same l
+whole_leaves claim whole m n same l = grind arith
 
 -- and so is that by which it is too much
 pub whole_exceeds : (S : ℕ → Type 0) (claim : Claim) (mode : Overclaim) → IsWhole S → IsWholeClaim claim
@@ -63,11 +59,7 @@ whole_refusal set steps refusal own whole h = whole_members _ refusal.fault h.ex
 
 -- whole claims on addresses are those of IPv4
 pub v4_is_whole : (claim : Claim) → IsFamilyClaim Ipv4 claim → IsWholeClaim claim
-v4_is_whole Missing is = tt
-v4_is_whole Inherit is = tt
-v4_is_whole (Blocks runs) is = is.0.1
+v4_is_whole claim is = grind arith
 
 pub whole_is_v4 : (claim : Claim) → IsIpClaim claim → IsWholeClaim claim → IsFamilyClaim Ipv4 claim
-whole_is_v4 Missing is whole = tt
-whole_is_v4 Inherit is whole = tt
-whole_is_v4 (Blocks runs) (is, some) whole = ((is, whole), some)
+whole_is_v4 claim is whole = grind arith

@@ -1,26 +1,22 @@
 -- Which sets consist of whole IPv4 addresses, by their runs.
-use Rattle.rpki_ipres.proofs.Common.{List, ap, arith, get_or, inl, inr, length, map, refl, subst, sym, ℕ, ◌%◌, ◌+◌, ◌-◌, ◌<◌, ◌^◌, ◌∙◌, ◌≡◌, ◌≤◌, cases_order, get_or-map, length-map, All-map, Holds, IsRunsOf, Runs, IsChainOf, IsRun, whole_set, HasWholeBounds, IsWhole, ip_bounds, IpBlock}
+use Rattle.rpki_ipres.proofs.Common.{List, ap, arith, get_or, length, map, refl, subst, sym, ℕ, ◌%◌, ◌+◌, ◌-◌, ◌<◌, ◌^◌, ◌∙◌, ◌≡◌, ◌≤◌, cases_order, get_or-map, length-map, All-map, Holds, IsRunsOf, Runs, IsChainOf, IsRun, whole_set, HasWholeBounds, IsWhole, ip_bounds, IpBlock}
 use Rattle.std.specs.Prelude.{All}
-use Rattle.std.proofs.Math.Nat.{le_refl}
 use Rattle.rpki_chains.proofs.Chains.{IsChainOf-from}
 
 -- a run of a whole set has whole bounds
 whole_run : (S : ℕ → Type 0) (b : ℕ × ℕ) → IsRun S b → IsWhole S → HasWholeBounds b
 whole_run S b run whole =
-    let least : S b.0 = run.inside b.0 (le_refl b.0, run.ordered) in
-    let greatest : S b.1 = run.inside b.1 (run.ordered, le_refl b.1) in
-    record {
-      begins = elim (cases_order (b.0 % 2 ^ 96) 0) [
-        | inl e ↦ e
-        | inr (inl less) ↦ absurd (omega (arith, less))
-        | inr (inr more) ↦ absurd (run.starts (b.0 - 1) (omega (arith, more)) (whole b.0 (b.0 - 1) (omega (arith, more)) least))
-      ];
-      ends = elim (cases_order ((b.1 + 1) % 2 ^ 96) 0) [
-        | inl e ↦ e
-        | inr (inl less) ↦ absurd (omega (arith, less))
-        | inr (inr more) ↦ absurd (run.ends (whole b.1 (b.1 + 1) (omega (arith, more)) greatest))
-      ];
-    }
+    grind (
+      arith,
+      run.inside b.0,
+      run.inside b.1,
+      run.starts (b.0 - 1),
+      whole b.0 (b.0 - 1),
+      run.ends,
+      whole b.1 (b.1 + 1),
+      cases_order (b.0 % 2 ^ 96) 0,
+      cases_order ((b.1 + 1) % 2 ^ 96) 0,
+    )
 
 -- so all runs of a whole set have
 pub whole_runs : (runs : Runs) → IsRunsOf (Holds runs) runs → IsWhole (Holds runs) → All HasWholeBounds runs

@@ -1,18 +1,16 @@
 -- What the reading gives is the value of the grammar of the mode, and it gives what was written.
-use Rattle.rpki_as.proofs.AsDerLemmas.{exact_set, reads_back_set, reads_canonical_set, reads_set, refused_set}
+use Rattle.rpki_as.proofs.AsDerLemmas.{set_taken}
 use Rattle.rpki_as.proofs.blocks.AsBlocks.take_from.Goals as goal
 
-pub returns-clause-exact : goal.returns-clause-exact
-returns-clause-exact g c = exact_set c.args.cursor.now c.next_set.new.cursor c.next_set.result c.next_set.ensures.by_mode
-
-pub returns-clause-reads : goal.returns-clause-reads
-returns-clause-reads g c = reads_set c.args.cursor.now c.next_set.new.cursor c.next_set.result c.next_set.ensures.by_mode c.args.cursor.now.bytes
-
-pub returns-clause-reads_back : goal.returns-clause-reads_back
-returns-clause-reads_back g c = reads_back_set c.args.cursor.now c.next_set.new.cursor c.next_set.result c.next_set.ensures.by_mode
-
-pub returns-clause-strict : goal.returns-clause-strict
-returns-clause-strict g c = reads_canonical_set c.args.cursor.now c.next_set.new.cursor c.next_set.result c.next_set.ensures.by_mode c.args.cursor.now.bytes
-
-pub returns-clause-refused : goal.returns-clause-refused
-returns-clause-refused g c = refused_set c.args.cursor.now c.next_set.new.cursor c.next_set.result c.next_set.ensures.by_mode
+pub returns : goal.returns
+returns g c =
+    let taken = set_taken c.args.cursor.now c.next_set.new.cursor c.next_set.result c.args.cursor.now.bytes c.next_set.ensures.by_mode in
+    record {
+      reads = taken.reads;
+      exact = taken.exact;
+      reads_back = taken.reads_back;
+      strict = taken.strict;
+      refused = taken.refused;
+      by_mode = c.next_set.ensures.by_mode;
+      mode = c.next_set.ensures.mode;
+    }

@@ -1,7 +1,9 @@
 -- Each value is taken, and each that encloses it ends behind it; what a strict cursor gave is the runs of its set as
 -- they stand.
 use Rattle.rpki_as.proofs.Common.{refl, sym, ◌∙◌, as_bounds, new_as_block, only, listed_are, IsChain, refined}
-use Rattle.rpki_as.proofs.ResourcesDer.{chain_listed, claim_of_listed}
+use Rattle.rpki_chain.proofs.BlocksInModes.{chain_listed}
+use Rattle.rpki_as.proofs.AsDerLemmas.{blocks}
+use Rattle.rpki_as.proofs.ResourcesDer.{claim_of_listed}
 use Rattle.rpki_as.proofs.resources.AsResources.next_resources.Goals as goal
 
 pub make_sets-requires-clause-chain : goal.make_sets-requires-clause-chain
@@ -9,7 +11,7 @@ make_sets-requires-clause-chain g c strict =
     let said = c.in_ok-listed.ensures.by_mode in
     let tagged = c.in_ok-tagged.tagged in
     let mode = c.in_ok-tagged.ensures.hands_on_mode ∙ c.in_ok-inside.ensures.hands_on_mode ∙ sym c.is_strict.ensures.mode ∙ strict in
-    listed_are (λ blocks. blocks.items) (IsChain as_bounds new_as_block) said.0 c.in_ok-listed.listed said.2 (chain_listed tagged said.0 _ tagged.bytes mode said.1)
+    listed_are (λ blocks. blocks.items) (IsChain as_bounds new_as_block) said.0 c.in_ok-listed.listed said.2 (chain_listed blocks tagged said.0 _ tagged.bytes mode said.1)
 
 pub returns-clause-by_mode : goal.returns-clause-by_mode
 unfolding only refined

@@ -1,8 +1,8 @@
 -- A block that leaves the other set shows that not all lie in it, and from it on the excess is what they differ by.
-use Rattle.rpki_chain.proofs.Common.{refl, subst, sym, ℕ, IsDifference, Holds, Runs}
+use Rattle.rpki_chain.proofs.Common.{refl, subst, sym, ℕ, Err, false≢true, IsDifference, Runs}
 use Rattle.rpki_chain.proofs.Covered.{wants_memory}
 use Rattle.rpki_chain.proofs.RunLists.{IsRunsOf-difference, Holds-map}
-use Rattle.rpki_chain.proofs.SetLemmas.{not_inside_set}
+use Rattle.rpki_chain.proofs.SetLemmas.{refused_for}
 use Rattle.rpki_chain.proofs.set.BlockSet.covered_by.Goals as goal
 
 pub returns-in_default-clause-ok : goal.returns-in_default-clause-ok
@@ -11,21 +11,19 @@ returns-in_default-clause-ok g c = rw (← c.as_chain-own.ensures.blocks, ← c.
 
 pub returns-in_err-excess-clause-ok : goal.returns-in_err-excess-clause-ok
 returns-in_err-excess-clause-ok g c =
-    let over : ((n : ℕ) → Holds c.args.self.now n → Holds c.args.other.now n) → ⊥ =
-    rw (← c.as_chain-own.ensures.blocks, ← c.as_chain-others.ensures.blocks) (not_inside_set g.T.Block.bounds g.T.Block.form g.T.Block.number g.T.Block.first g.T.Block.last _ _ c.in-Some.overhang c.in-Some.ensures) in
-    (wants_memory _ (λ set. IsDifference c.args.self.now c.args.other.now set) c.from_residual.result over c.from_residual.ensures.1).0
+    refused_for g.T.Block.bounds g.T.Block.form c.in-Some.ensures c.as_chain-own.ensures.blocks
+    c.as_chain-others.ensures.blocks c.from_residual.result (wants_memory _ c.from_residual.ensures.1)
 
 pub returns-in_err-from_owned-clause-ok : goal.returns-in_err-from_owned-clause-ok
 returns-in_err-from_owned-clause-ok g c =
-    let over : ((n : ℕ) → Holds c.args.self.now n → Holds c.args.other.now n) → ⊥ =
-    rw (← c.as_chain-own.ensures.blocks, ← c.as_chain-others.ensures.blocks) (not_inside_set g.T.Block.bounds g.T.Block.form g.T.Block.number g.T.Block.first g.T.Block.last _ _ c.in-Some.overhang c.in-Some.ensures) in
-    (wants_memory _ (λ set. IsDifference c.args.self.now c.args.other.now set) c.from_residual-in_err-from_owned.result over c.from_residual-in_err-from_owned.ensures.1).0
+    refused_for g.T.Block.bounds g.T.Block.form c.in-Some.ensures c.as_chain-own.ensures.blocks
+    c.as_chain-others.ensures.blocks c.from_residual-in_err-from_owned.result
+    (wants_memory _ c.from_residual-in_err-from_owned.ensures.1)
 
 pub returns-clause-ok : goal.returns-clause-ok
 returns-clause-ok g c =
-    let over : ((n : ℕ) → Holds c.args.self.now n → Holds c.args.other.now n) → ⊥ =
-    rw (← c.as_chain-own.ensures.blocks, ← c.as_chain-others.ensures.blocks) (not_inside_set g.T.Block.bounds g.T.Block.form g.T.Block.number g.T.Block.first g.T.Block.last _ _ c.in-Some.overhang c.in-Some.ensures) in
-    (λ ok. absurd cc, λ all. absurd (over all))
+    refused_for g.T.Block.bounds {X = Unit {0}} {E = ℕ} g.T.Block.form c.in-Some.ensures c.as_chain-own.ensures.blocks
+    c.as_chain-others.ensures.blocks (Err 0) false≢true
 
 pub returns-clause-refused : goal.returns-clause-refused
 returns-clause-refused g c =

@@ -1,21 +1,21 @@
 -- What the reading gives is the value of the grammar of the mode, and it gives what was written.
-use Rattle.rpki_ipres.proofs.Modes.{exact_set, reads_back_set, reads_canonical_set, reads_set, refused_set, whole_by}
+use Rattle.std.proofs.lemmas.Result.{IfOk-weaker}
+use Rattle.rpki_ipres.proofs.Modes.{set_taken}
+use Rattle.rpki_ipres.proofs.WholeReadings.{whole_sequence}
 use Rattle.rpki_ipres.proofs.blocks.IpBlocks.take_from_with_family.Goals as goal
 
-pub returns-clause-exact : goal.returns-clause-exact
-returns-clause-exact g c = exact_set c.args.family c.args.cursor.now c.next_set.new.cursor c.next_set.result c.next_set.ensures.by_mode
-
-pub returns-clause-reads : goal.returns-clause-reads
-returns-clause-reads g c = reads_set c.args.family c.args.cursor.now c.next_set.new.cursor c.next_set.result c.next_set.ensures.by_mode c.args.cursor.now.bytes
-
-pub returns-clause-reads_back : goal.returns-clause-reads_back
-returns-clause-reads_back g c = reads_back_set c.args.family c.args.cursor.now c.next_set.new.cursor c.next_set.result c.next_set.ensures.by_mode c.next_set.ensures.short
-
-pub returns-clause-strict : goal.returns-clause-strict
-returns-clause-strict g c = reads_canonical_set c.args.family c.args.cursor.now c.next_set.new.cursor c.next_set.result c.next_set.ensures.by_mode c.args.cursor.now.bytes c.next_set.ensures.short
-
-pub returns-clause-refused : goal.returns-clause-refused
-returns-clause-refused g c = refused_set c.args.family c.args.cursor.now c.next_set.new.cursor c.next_set.result c.next_set.ensures.by_mode
-
-pub returns-clause-whole : goal.returns-clause-whole
-returns-clause-whole g c = whole_by c.args.family c.args.cursor.now c.next_set.new.cursor c.next_set.result c.args.cursor.now.bytes c.next_set.ensures.by_mode
+pub returns : goal.returns
+returns g c =
+    let taken = set_taken c.args.family c.args.cursor.now c.next_set.new.cursor c.next_set.result
+    c.args.cursor.now.bytes c.next_set.ensures.short c.next_set.ensures.by_mode in
+    record {
+      reads = taken.reads;
+      exact = taken.exact;
+      whole = IfOk-weaker c.next_set.result _ _
+          (λ set (front, says, split). whole_sequence c.args.family front set says) taken.stands;
+      reads_back = taken.reads_back;
+      strict = taken.strict;
+      refused = taken.refused;
+      by_mode = c.next_set.ensures.by_mode;
+      mode = c.next_set.ensures.mode;
+    }

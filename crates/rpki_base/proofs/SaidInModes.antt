@@ -1,0 +1,114 @@
+-- Takes in either mode that answer what is said by what was found. Strictly, that is what is written of the answer.
+use Rattle.rpki_base.proofs.Common.{Bool, Err, List, Ok, Result, [], ap, arith, length, subst, sym, true, ℕ, ◌++◌, ◌<◌, ◌^◌, ◌∙◌, ◌≡◌, length-append, HasOctets, MatchResult, found_is, value_is, IsBytes, OneFront, Refines, header, IsModal, IsReading, Lenient, Strict, is_strict, left, Cursor, DerError, IsMemory, OrMemory, Encloses, IsSequenceFrom, enclosed_at, sequence_from, values_of, NotCanonicalOrMemory, ReadsOrMemory, TakesSaidOrMemory}
+use Rattle.std.specs.Prelude.{IfOk}
+use Rattle.rpki_der.specs.Der.{Front, IsTag, Spells, value}
+use Rattle.rpki_der.specs.Reading.{refined, tagged_at}
+use Rattle.rpki_base.proofs.DerCursors.{reads_said_by}
+use Rattle.rpki_base.proofs.DerModes.{canonical_said_by, enclosed_modal, exact_said_by, refused_said_by, sequence_modal, takes_said_by, values_stateless}
+use Rattle.rpki_base.proofs.DerReadings.{enclosed_reading, one_front_said}
+
+-- Leniently values of G are found, strictly those of S, which are values of G too. A value says one thing at most by C,
+-- and what is said strictly is what P holds of; the octets are then those that are written of it.
+pub record IsSaidInModes {X Y : Type 0} (G S : List ℕ → Y → Type 0) (C : Y → X → Type 0) (P : X → Type 0) (octets : X → List ℕ) (reading : List ℕ → Result (Y × List ℕ) DerError) (by : Bool → List ℕ → Result (Y × List ℕ) DerError) : Type 0 where
+  pub lenient : IsReading G reading
+  pub modal : IsModal S reading by
+  pub looser : (bytes : List ℕ) (y : Y) → S bytes y → G bytes y
+  pub one : (y : Y) (a b : X) → C y a → C y b → a ≡ b
+  pub spelled : (bytes : List ℕ) (y : Y) (x : X) → S bytes y → C y x → Spells P octets bytes x
+  pub says : (x : X) → P x → length (octets x) < 2 ^ 64 → Refines S C (octets x) x
+
+-- what is promised of a take
+pub record IsTakenInModes {X Y : Type 0} (G : List ℕ → Y → Type 0) (C : Y → X → Type 0) (P : X → Type 0) (octets : X → List ℕ) (reading : List ℕ → Result (Y × List ℕ) DerError) (old new : Cursor) (result : Result X (OrMemory DerError)) : Type 0 where
+  pub exact : Lenient old (TakesSaidOrMemory C old new result reading)
+  pub reads : Lenient old (ReadsOrMemory (Refines G C) (λ x. x) old new result)
+  pub strict : Strict old (ReadsOrMemory (Spells P octets) (λ x. x) old new result)
+  pub refused : NotCanonicalOrMemory (Refines G C) old result
+  pub reads_back : (x : X) (rest : List ℕ) → P x → left old ≡ octets x ++ rest
+      → MatchResult result (λ read. (read ≡ x) × (left new ≡ rest)) IsMemory
+  pub stands : IfOk result (λ x. Front (Refines G C) (left old) x (left new))
+
+-- what stands at the front of octets is no longer than they are
+pub front_short : (bytes front rest : List ℕ) → length bytes < 2 ^ 64 → bytes ≡ front ++ rest → length front < 2 ^ 64
+front_short bytes front rest short at = grind (arith, length-append)
+
+module _ {X Y : Type 0} {G S : List ℕ → Y → Type 0} {C : Y → X → Type 0} {P : X → Type 0} {octets : X → List ℕ} {reading : List ℕ → Result (Y × List ℕ) DerError} {by : Bool → List ℕ → Result (Y × List ℕ) DerError} (is : IsSaidInModes G S C P octets reading by) where
+  -- octets begin with at most one thing that is said
+  pub one_said : OneFront (Refines G C)
+  one_said = one_front_said G C reading is.lenient is.one
+
+  -- what is written, in fewer octets than a length can tell, is a value that says it
+  pub written_said : (x : X) → P x → length (octets x) < 2 ^ 64 → Refines G C (octets x) x
+  written_said x p short = let found = is.says x p short in (found.0, is.looser (octets x) found.0 found.1, found.2)
+
+  -- so what is written alike is one
+  pub said_alike : (a b : X) → P a → P b → length (octets a) < 2 ^ 64 → octets a ≡ octets b → a ≡ b
+  said_alike a b p q short same =
+      let also = subst (λ (t : List ℕ). length t < 2 ^ 64) same short in
+      (one_said (octets a) (octets b) a b [] [] (written_said a p short) (written_said b q also)
+      (ap (λ (t : List ℕ). t ++ []) same)).1
+
+  -- what is answered stands at the front in either mode
+  stands_in_modes : (old new : Cursor) (result : Result X (OrMemory DerError)) → IsBytes (left old)
+      → TakesSaidOrMemory C old new result (by (is_strict old))
+      → IfOk result (λ x. Front (Refines G C) (left old) x (left new))
+  stands_in_modes old new (Err e) fits took = tt
+  stands_in_modes old new (Ok x) fits (y, read, says) =
+      let found = found_is (is_strict old) (by (is_strict old) (left old)) (reading (left old)) (y, left new)
+      (is.modal.tightens (is_strict old) (left old)) read in
+      reads_said_by G C reading old new (Ok x) is.lenient fits (y, found, says)
+
+  -- a take whose octets a length can tell
+  pub taken_said : (old new : Cursor) (result : Result X (OrMemory DerError)) → IsBytes (left old)
+      → ((x : X) (rest : List ℕ) → P x → left old ≡ octets x ++ rest → length (octets x) < 2 ^ 64)
+      → TakesSaidOrMemory C old new result (by (is_strict old)) → IsTakenInModes G C P octets reading old new result
+  taken_said old new result fits short took =
+      let exact = exact_said_by S C reading by old new result is.modal took in
+      record {
+        exact = exact;
+        reads = λ lenient. reads_said_by G C reading old new result is.lenient fits (exact lenient);
+        strict = canonical_said_by S C (Spells P octets) reading by old new result is.modal
+            (λ bytes x (y, s, c). is.spelled bytes y x s c)
+            (λ bytes x rest at (p, e). subst (λ (t : List ℕ). Refines S C t x) (sym e)
+            (is.says x p (short x rest p (at ∙ ap (λ (t : List ℕ). t ++ rest) e)))) took fits;
+        refused = refused_said_by G S C reading by old new result is.lenient is.modal took;
+        reads_back = λ x rest p at. (
+            let says = is.says x p (short x rest p at) in
+            takes_said_by S C reading by old new result is.modal is.one took (octets x) rest says.0 x says.1 says.2 at);
+        stands = stands_in_modes old new result fits took;
+      }
+
+  -- what a strict cursor found
+  pub strictly_found : (old : Cursor) (y : Y) (rest : List ℕ) → IsBytes (left old) → is_strict old ≡ true
+      → by (is_strict old) (left old) ≡ Ok (y, rest) → Front S (left old) y rest
+  strictly_found old y rest fits strict read =
+      is.modal.tight.takes (left old) y rest fits (subst (λ mode. by mode (left old) ≡ Ok (y, rest)) strict read)
+
+  -- a value is shorter than one that encloses it
+  pub enclosed_said : (tag : ℕ) → IsTag tag
+      → IsSaidInModes (Encloses tag G) (Encloses tag S) C P (λ x. value tag (octets x)) (enclosed_at tag reading)
+      (λ strict. enclosed_at tag (by strict))
+  enclosed_said tag names = record {
+    lenient = enclosed_reading tag G reading is.lenient;
+    modal = enclosed_modal tag S reading by is.modal;
+    looser = λ bytes y (content, at, s). (content, at, is.looser content y s);
+    one = is.one;
+    spelled = λ bytes y x (content, at, s) c. (
+        let found = is.spelled content y x s c in (found.0, at.spelled ∙ ap (value tag) found.1));
+    says = λ x p short. (
+        let parts = length-append (header tag (length (octets x))) (octets x) in
+        let small : length (octets x) < 2 ^ 64 = omega (arith, short, parts) in
+        let found = is.says x p small in
+        (found.0, (octets x, value_is tag (octets x) names small, found.1), found.2));
+  }
+
+-- a SEQUENCE of values that depend on those before them strictly alone
+pub ordered_modal : {T X : Type 0} (next : T → X → T) (G : List ℕ → X → Type 0) (S : T → List ℕ → X → Type 0)
+    (reading : List ℕ → Result (X × List ℕ) DerError) (by : Bool → T → List ℕ → Result (X × List ℕ) DerError)
+    → IsReading G reading → HasOctets G → ((state : T) → IsModal (S state) reading (λ strict. by strict state))
+    → (state : T)
+    → IsModal (IsSequenceFrom next S state) (refined (tagged_at 48) (values_of reading))
+    (λ strict. sequence_from next (by strict) state)
+ordered_modal next G S reading by is has modal state =
+    subst (λ values. IsModal (IsSequenceFrom next S state) (refined (tagged_at 48) values)
+    (λ strict. sequence_from next (by strict) state)) (values_stateless next reading state)
+    (sequence_modal next (λ state. G) S (λ state. reading) by (λ state. is) (λ state. has) modal state)

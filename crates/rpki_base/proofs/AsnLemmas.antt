@@ -70,21 +70,7 @@ IsAsnText-asn_text n small = record {
   number = IsNumberText-decimal (2 ^ 32 - 1) n (omega arith) (omega arith);
 }
 
--- where a number stands behind the optional `as`, it is the answer
-pub reads_ok : (text rest : List ℕ) (n : ℕ) → IsAfterAs text rest → IsNumberText (2 ^ 32 - 1) rest n
-    → ReadsAsn text (Ok n)
-reads_ok text rest n after h =
-    let each : (m : ℕ) → IsAsnText text m → Ok n ≡ Ok m = λ m k. ap Ok (IsNumberText-one _ rest n m h (from_text text rest m after k)) in
-    record {
-      exact = record {
-        found = to_text text rest n after h;
-        each_value = each;
-        each_fault = λ e none. absurd (none n (to_text text rest n after h));
-      };
-      reads_back = λ m small e. each m (rw e (IsAsnText-asn_text m small));
-    }
-
--- and where none does, the fault is
+-- where no number stands behind the optional `as`, the fault is the answer
 pub reads_err : (text rest : List ℕ) (e : ParseAsnError) → IsAfterAs text rest
     → ((n : ℕ) → ¬ IsNumberText (2 ^ 32 - 1) rest n) → ReadsAsn text (Err e)
 reads_err text rest e after none =
@@ -129,11 +115,31 @@ IsAsnText-one text m n h k = elim h.prefix [
   ]
 ]
 
--- digits are among the bytes `0` to `Z`
-digits_are_bytes : (ds : List ℕ) → AllDigits 10 ds → AllByRecursion (IsInRange 48 90) ds
-digits_are_bytes [] h = tt
-digits_are_bytes (c ∷ cs) h = let range = digit_from_value c h.0 in ((range.0, omega arith), digits_are_bytes cs h.1)
+-- digits are among the bytes from `0` on
+pub digits_are_bytes : (most : ℕ) → 57 ≤ most → (ds : List ℕ) → AllDigits 10 ds → AllByRecursion (IsInRange 48 most) ds
+digits_are_bytes most enough [] h = tt
+digits_are_bytes most enough (c ∷ cs) h =
+    let range = digit_from_value c h.0 in
+    ((range.0, omega (arith, range.1)), digits_are_bytes most enough cs h.1)
 
 -- and so is all that is printed of an AS number
 pub asn_text_bytes : (n : ℕ) → n < 2 ^ 32 → AllByRecursion (IsInRange 48 90) (asn_text n)
-asn_text_bytes n small = ((lit≤ tt, lit≤ tt), ((lit≤ tt, lit≤ tt), digits_are_bytes (decimal n) (decimal_is_IsNumeral n (omega arith)).0.1))
+asn_text_bytes n small =
+    let digits = digits_are_bytes 90 (omega arith) (decimal n) (decimal_is_IsNumeral n (omega arith)).0.1 in
+    ((lit≤ tt, lit≤ tt), ((lit≤ tt, lit≤ tt), digits))
+
+-- a number that the text has is the answer
+pub reads_number : (text : List ℕ) (n : ℕ) → IsAsnText text n → ReadsAsn text (Ok n)
+reads_number text n h = record {
+  exact = record {
+    found = h;
+    each_value = λ m k. ap Ok (IsAsnText-one text n m h k);
+    each_fault = λ e none. absurd (none n h);
+  };
+  reads_back = λ m small e. ap Ok (IsAsnText-one text n m h (rw e (IsAsnText-asn_text m small)));
+}
+
+-- and so is one that stands behind the optional `as`
+pub reads_ok : (text rest : List ℕ) (n : ℕ) → IsAfterAs text rest → IsNumberText (2 ^ 32 - 1) rest n
+    → ReadsAsn text (Ok n)
+reads_ok text rest n after h = reads_number text n (to_text text rest n after h)

@@ -1,13 +1,8 @@
 -- AS numbers at a place among bytes: letters and digits behind them.
-use Rattle.rpki_base.proofs.Common.{List, Ok, [], ap, arith, codes, drop, get_or, inl, inr, length, length-drop, subst, suc, sym, take, ℕ, ◌+◌, ◌-◌, ◌<◌, ◌^◌, ◌∙◌, ◌∷◌, ◌≡◌, ◌≤◌, ◌⊎◌, take-length, cases_lt, drop_more, get_or-drop, get_or-take, length-take, digit_at, digit_from_value, without_leading_plus_none, IsInRange, AllByRecursion, str_to_ascii_lowercase, AllDigits, digits_value, AreDigitsBetween, AreDigitsFrom, IsNumberText, IsAsnText, ReadsAsn}
+use Rattle.rpki_base.proofs.Common.{List, Ok, [], ap, arith, codes, drop, get_or, inl, inr, length, length-drop, subst, suc, take, ℕ, ◌+◌, ◌-◌, ◌<◌, ◌^◌, ◌∙◌, ◌∷◌, ◌≡◌, ◌≤◌, ◌⊎◌, take-length, cases_lt, drop_more, get_or-drop, get_or-take, length-take, digit_at, without_leading_plus_none, IsInRange, AllByRecursion, str_to_ascii_lowercase, AllDigits, digits_value, AreDigitsBetween, AreDigitsFrom, IsNumberText, IsAsnText, ReadsAsn}
 use Rattle.std.proofs.lemmas.Str.{digit_value_digit}
 use Rattle.rpki_base.specs.AsnPlaces.{HasLettersAt, IsAfterLetters, IsAsnAt, IsAsnBetween}
-use Rattle.rpki_base.proofs.AsnLemmas.{IsAsnText-one, IsAsnText-asn_text}
-
--- digits are among the bytes `0` to `z`
-digits_are_bytes : (ds : List ℕ) → AllDigits 10 ds → AllByRecursion (IsInRange 48 122) ds
-digits_are_bytes [] h = tt
-digits_are_bytes (c ∷ cs) h = let range = digit_from_value c h.0 in ((range.0, omega (arith, range.1)), digits_are_bytes cs h.1)
+use Rattle.rpki_base.proofs.AsnLemmas.{digits_are_bytes, reads_number}
 
 -- digits are a number text
 digits_are_number : (ds : List ℕ) (n : ℕ) → 0 < length ds → AllDigits 10 ds → digits_value 10 ds ≡ n → n < 2 ^ 32
@@ -50,7 +45,7 @@ letters_between start end text n letters h some small =
         prefix = inr (letters_are _ _ letters.first letters.second);
         number = digits_are_number _ n more h.all_digits h.value small;
       };
-      bytes = rw shape (letter_bytes _ _ _ letters.first letters.second (digits_are_bytes _ h.all_digits));
+      bytes = rw shape (letter_bytes _ _ _ letters.first letters.second (digits_are_bytes 122 (omega arith) _ h.all_digits));
     }
 
 -- a number of the usual form is one of its text
@@ -81,9 +76,7 @@ same_end start end other text n m h k = grind (arith, cases_lt, no_further)
 -- and write one number
 same_value : (start end other : ℕ) (text : List ℕ) (n m : ℕ) → AreDigitsFrom start end text n
     → AreDigitsFrom start other text m → n ≡ m
-same_value start end other text n m h k =
-    let there : AreDigitsFrom start end text m = subst (λ e. AreDigitsFrom start e text m) (sym (same_end start end other text n m h k)) k in
-    sym h.digits.value ∙ there.digits.value
+same_value start end other text n m h k = grind (arith, same_end start end other text n m h k)
 
 -- the digits behind the letters are those of each number that stands there
 pub digits_of : (start after end : ℕ) (text : List ℕ) (v : ℕ) → IsAfterLetters start after text
@@ -94,18 +87,7 @@ digits_of start after end text v letters digits n other h =
     let there : AreDigitsFrom after other text n = subst (λ a. AreDigitsFrom a other text n) place h.digits in
     (same_value after end other text v n digits there, same_end after end other text v n digits there, place)
 
--- a number that the text has is the answer
-pub reads_number : (text : List ℕ) (n : ℕ) → IsAsnText text n → ReadsAsn text (Ok n)
-reads_number text n h = record {
-  exact = record {
-    found = h;
-    each_value = λ m k. ap Ok (IsAsnText-one text n m h k);
-    each_fault = λ e none. absurd (none n h);
-  };
-  reads_back = λ m small e. ap Ok (IsAsnText-one text n m h (rw e (IsAsnText-asn_text m small)));
-}
-
--- and so is one that takes the whole text
+-- a number that takes the whole text is the answer
 pub reads_whole : (text bytes : List ℕ) (n end : ℕ) → bytes ≡ text → IsAsnBetween 0 end bytes n → end ≡ length bytes
     → ReadsAsn text (Ok n)
 reads_whole text bytes n end same h all =

@@ -17,6 +17,7 @@ pub use Rattle.rpki_der.proofs.Lists.{HasOctets, SoFar, each_again, each_takes, 
 pub use Rattle.rpki_der.proofs.Modes.{bind_tightens, cond_tightens, each_tightens, found_is, lenient_is, looked_tightens, passed_is, passes, passing_tightens, refused_at, same_found, same_tightens}
 pub use Rattle.rpki_der.proofs.Readings.{IsTagged, fits_content, fits_rest, one_front, refined_reading, same_reading, tagged_reading, u32_reading, value_reading}
 pub use Rattle.rpki_der.proofs.Steps.{IsCheck, bind_ok, ok_is, ok_or_err, passed, passed_true}
+pub use Rattle.rpki_der.proofs.Words.{Grammar, Reading}
 pub use Rattle.rpki_der.proofs.Written.{u32_is, value_is}
 pub use Rattle.rpki_der.specs.Der.{Each, EachFrom, Front, IsBytes, IsSequence, IsTlv, OneFront, Refines, Tlv, octets, sequence_value}
 unfoldable pub use Rattle.rpki_der.specs.Der.{header, length_octets}
@@ -37,7 +38,7 @@ pub use Rattle.rpki_base.specs.DerReading.{Encloses, IsSequenceFrom, IsSequenceO
 unfoldable pub use Rattle.rpki_base.specs.DerReading.{by_tag, if_tagged, only, pair_by, pair_in, values_from}
 pub use Rattle.rpki_base.specs.DerViews.{GivesOrMemory, NotCanonicalOrMemory, ReadsOrMemory, ReadsTagged, TakesOrMemory, TakesSaidOrMemory}
 pub use Rattle.rpki_base.specs.DerWriting.{octets_of_all, sequence_octets}
-pub use Rattle.rpki_base.specs.FamiliesDer.{AreGathered, AreInOrder, ByFamily, IsFamilies, IsFamiliesInOrder, IsMember, SaysByFamily, SaysFamilies, SaysMember, SaysOption, claims_among, families_der, listed, member_der, of_family, option_der}
+pub use Rattle.rpki_base.specs.FamiliesDer.{AreInOrder, ByFamily, IsFamilies, IsFamiliesInOrder, IsMember, SaysByFamily, SaysFamilies, SaysMember, SaysOption, claims_among, families_der, listed, member_der, of_family, option_der}
 pub use Rattle.rpki_base.specs.FamiliesReading.{SaysClaim, families_at, families_by, is_in_order, member_at, member_by, none_found, seen, was_seen, with_claim}
 unfoldable pub use Rattle.rpki_base.specs.FamiliesReading.{families_in, families_in_by, member_in, member_in_by, members_by}
 pub use Rattle.rpki_base.specs.FamilyDer.{IsFamilyDer, SaysFamily, family_at, family_der, family_octets}

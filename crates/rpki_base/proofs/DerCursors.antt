@@ -1,50 +1,47 @@
 -- From the reading to the grammar, for calls that take memory, or that look at the tag first.
-use Rattle.rpki_base.proofs.Common.{List, Ok, Option, Result, Some, ap, arith, length, ℕ, ◌++◌, ◌<◌, ◌∙◌, ◌≡◌, length-append, none_by, reads_optional_by, ok_is, ok_or_err, IsBytes, Refines, IsReading, optional, ReadsOptional, Takes, left, Cursor, DerError, OrMemory, if_tagged, ReadsOrMemory, ReadsTagged, TakesOrMemory, TakesSaidOrMemory}
+use Rattle.rpki_base.proofs.Common.{List, Ok, Option, Result, Some, ap, arith, length, ℕ, ◌++◌, ◌<◌, ◌∙◌, ◌≡◌, length-append, none_by, reads_optional_by, ok_is, ok_or_err, IsBytes, Refines, IsReading, optional, ReadsOptional, Takes, left, Cursor, DerError, OrMemory, if_tagged, ReadsOrMemory, ReadsTagged, TakesOrMemory, TakesSaidOrMemory, Grammar, Reading}
 
 -- a take that may want memory
-pub reads_or_memory_by : {X Y : Type 0} (G : List ℕ → Y → Type 0) (reading : List ℕ → Result (Y × List ℕ) DerError)
-    (view : X → Y) (old new : Cursor) (result : Result X (OrMemory DerError)) → IsReading G reading → IsBytes (left old)
+pub reads_or_memory_by : {X Y : Type 0} (G : Grammar Y) (reading : Reading Y) (view : X → Y) (old new : Cursor)
+    (result : Result X (OrMemory DerError)) → IsReading G reading → IsBytes (left old)
     → TakesOrMemory view old new result reading → ReadsOrMemory G view old new result
 reads_or_memory_by G reading view old new result is fits took = grind (arith, none_by)
 
 -- a take of what is written
-pub value_back : {X : Type 0} (G : List ℕ → X → Type 0) (reading : List ℕ → Result (X × List ℕ) DerError)
-    (old new : Cursor) (result : Result X DerError) → IsReading G reading → Takes (λ x. x) old new result reading
-    → (front : List ℕ) (x : X) (rest : List ℕ) → G front x → left old ≡ front ++ rest
-    → (result ≡ Ok x) × (left new ≡ rest)
+pub value_back : {X : Type 0} (G : Grammar X) (reading : Reading X) (old new : Cursor) (result : Result X DerError)
+    → IsReading G reading → Takes (λ x. x) old new result reading → (front : List ℕ) (x : X) (rest : List ℕ) → G front x
+    → left old ≡ front ++ rest → (result ≡ Ok x) × (left new ≡ rest)
 value_back G reading old new result is took front x rest g at = grind (arith, ok_is, ok_or_err)
 
 -- a take that answers None at the end, of values as they are
-pub reads_optional_value_by : {X : Type 0} (G : List ℕ → X → Type 0) (reading : List ℕ → Result (X × List ℕ) DerError)
-    (old new : Cursor) (result : Result (Option X) DerError) → IsReading G reading → IsBytes (left old)
+pub reads_optional_value_by : {X : Type 0} (G : Grammar X) (reading : Reading X) (old new : Cursor)
+    (result : Result (Option X) DerError) → IsReading G reading → IsBytes (left old)
     → Takes (λ o. o) old new result (optional reading) → ReadsOptional G (λ x. x) old new result
 reads_optional_value_by G reading old new result is fits took = grind (arith, reads_optional_by)
 
 -- a take of a value that is there if its tag is
-pub reads_tagged_by : {X : Type 0} (tag : ℕ) (G : List ℕ → X → Type 0) (reading : List ℕ → Result (X × List ℕ) DerError)
-    (old new : Cursor) (result : Result (Option X) DerError) → IsReading G reading → IsBytes (left old)
+pub reads_tagged_by : {X : Type 0} (tag : ℕ) (G : Grammar X) (reading : Reading X) (old new : Cursor)
+    (result : Result (Option X) DerError) → IsReading G reading → IsBytes (left old)
     → Takes (λ o. o) old new result (if_tagged tag reading) → ReadsTagged tag G old new result
 unfolding if_tagged
 reads_tagged_by tag G reading old new result is fits = grind arith
 
 -- a take that answers what is said by what the reading gives
-pub reads_said_by : {X Y : Type 0} (G : List ℕ → Y → Type 0) (C : Y → X → Type 0)
-    (reading : List ℕ → Result (Y × List ℕ) DerError) (old new : Cursor) (result : Result X (OrMemory DerError))
-    → IsReading G reading → IsBytes (left old) → TakesSaidOrMemory C old new result reading
-    → ReadsOrMemory (Refines G C) (λ x. x) old new result
+pub reads_said_by : {X Y : Type 0} (G : Grammar Y) (C : Y → X → Type 0) (reading : Reading Y) (old new : Cursor)
+    (result : Result X (OrMemory DerError)) → IsReading G reading → IsBytes (left old)
+    → TakesSaidOrMemory C old new result reading → ReadsOrMemory (Refines G C) (λ x. x) old new result
 reads_said_by G C reading old new result is fits h = grind (arith, none_by)
 
 -- what a reading finds, a take finds that answers None at the end
-optional_again : {X : Type 0} (reading : List ℕ → Result (X × List ℕ) DerError) (bytes : List ℕ) (x : X) (rest : List ℕ)
-    → 0 < length bytes → reading bytes ≡ Ok (x, rest) → optional reading bytes ≡ Ok (Some x, rest)
+optional_again : {X : Type 0} (reading : Reading X) (bytes : List ℕ) (x : X) (rest : List ℕ) → 0 < length bytes
+    → reading bytes ≡ Ok (x, rest) → optional reading bytes ≡ Ok (Some x, rest)
 unfolding optional
 optional_again reading bytes x rest some e = grind (arith)
 
 -- so such a take gives the value that stands there, and then stands behind it
-pub optional_back : {X : Type 0} (reading : List ℕ → Result (X × List ℕ) DerError) (old new : Cursor)
-    (result : Result (Option X) DerError) → Takes (λ x. x) old new result (optional reading)
-    → (front rest : List ℕ) (x : X) → 0 < length front → left old ≡ front ++ rest
-    → reading (front ++ rest) ≡ Ok (x, rest) → (result ≡ Ok (Some x)) × (left new ≡ rest)
+pub optional_back : {X : Type 0} (reading : Reading X) (old new : Cursor) (result : Result (Option X) DerError)
+    → Takes (λ x. x) old new result (optional reading) → (front rest : List ℕ) (x : X) → 0 < length front
+    → left old ≡ front ++ rest → reading (front ++ rest) ≡ Ok (x, rest) → (result ≡ Ok (Some x)) × (left new ≡ rest)
 optional_back reading old new result took front rest x some at read =
     let found = optional_again reading (left old) x rest (omega (arith, some, ap (λ (t : List ℕ). length t) at, length-append front rest)) (ap reading at ∙ read) in
     grind (arith, ok_is, ok_or_err)

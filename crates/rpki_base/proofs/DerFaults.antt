@@ -1,6 +1,6 @@
 -- Which faults readings name: those of their layer and of the layers below it, whose numbers are no greater. So a fault
 -- of a layer is named exactly where that layer finds it.
-use Rattle.rpki_base.proofs.Common.{Bool, Err, List, Ok, Result, [], arith, cond, eqb, false, length, refl, subst, suc, sym, true, zero, ℕ, ◌<◌, ◌↔◌, ◌∷◌, ◌≡◌, ◌≢◌, ◌≤◌, eqb-true, ne_eqb, Tlv, bits, each_from, ended, length_at, long_length_at, nothing, refined, tagged_at, unsigned, value_at, ◌>>=◌, DerError, BadTag, as_number_at, BeginsWithTwo, BeginsWithValue, by_tag, enclosed_at, only, pair_in, values_from, values_of}
+use Rattle.rpki_base.proofs.Common.{Bool, Err, List, Ok, Result, [], arith, cond, eqb, false, length, refl, subst, suc, sym, true, zero, ℕ, ◌<◌, ◌↔◌, ◌∷◌, ◌≡◌, ◌≢◌, ◌≤◌, eqb-true, ne_eqb, Tlv, bits, each_from, ended, length_at, long_length_at, nothing, refined, tagged_at, unsigned, value_at, ◌>>=◌, DerError, BadTag, as_number_at, BeginsWithTwo, BeginsWithValue, by_tag, enclosed_at, only, pair_in, values_from, values_of, Reading}
 use Rattle.std.proofs.lemmas.List.{length-drop}
 use Rattle.rpki_der.specs.Faults.{fault_number}
 
@@ -28,9 +28,9 @@ pub cond_names : {A : Type 0} (n : ℕ) (b : Bool) (p q : Result A DerError) →
     → NamesTo n (cond b p q)
 cond_names n b p q first second = grind arith
 
-pub refined_names : {X Y : Type 0} (n : ℕ) (reading : List ℕ → Result (X × List ℕ) DerError)
-    (check : X → Result Y DerError) → ((bytes : List ℕ) → NamesTo n (reading bytes)) → ((x : X) → NamesTo n (check x))
-    → (bytes : List ℕ) → NamesTo n (refined reading check bytes)
+pub refined_names : {X Y : Type 0} (n : ℕ) (reading : Reading X) (check : X → Result Y DerError)
+    → ((bytes : List ℕ) → NamesTo n (reading bytes)) → ((x : X) → NamesTo n (check x)) → (bytes : List ℕ)
+    → NamesTo n (refined reading check bytes)
 unfolding refined
 refined_names n reading check first second bytes = search (bind_names, first, second)
 
@@ -88,23 +88,22 @@ pub by_tag_names : {X : Type 0} (n tag : ℕ) (one two : List ℕ → Result X D
 unfolding by_tag
 by_tag_names n tag one two above first second v = search (arith, cond_names, first, second)
 
-pub pair_names : {X Y : Type 0} (n : ℕ) (reading : List ℕ → Result (X × List ℕ) DerError)
-    (check : X → X → Result Y DerError) → 7 ≤ n → ((bytes : List ℕ) → NamesTo n (reading bytes))
-    → ((first second : X) → NamesTo n (check first second)) → (content : List ℕ)
-    → NamesTo n (pair_in reading check content)
+pub pair_names : {X Y : Type 0} (n : ℕ) (reading : Reading X) (check : X → X → Result Y DerError) → 7 ≤ n
+    → ((bytes : List ℕ) → NamesTo n (reading bytes)) → ((first second : X) → NamesTo n (check first second))
+    → (content : List ℕ) → NamesTo n (pair_in reading check content)
 unfolding pair_in
 pair_names n reading check above reads checks content = search (arith, bind_names, names_more, ended_names, reads, checks)
 
-only_names : {X : Type 0} (n : ℕ) (reading : List ℕ → Result (X × List ℕ) DerError) → 7 ≤ n
-    → ((bytes : List ℕ) → NamesTo n (reading bytes)) → (content : List ℕ) → NamesTo n (only reading content)
+only_names : {X : Type 0} (n : ℕ) (reading : Reading X) → 7 ≤ n → ((bytes : List ℕ) → NamesTo n (reading bytes))
+    → (content : List ℕ) → NamesTo n (only reading content)
 unfolding only
 only_names n reading above names content = search (arith, bind_names, names_more, ended_names, names)
 
-pub enclosed_names : {X : Type 0} (n tag : ℕ) (reading : List ℕ → Result (X × List ℕ) DerError) → 7 ≤ n
+pub enclosed_names : {X : Type 0} (n tag : ℕ) (reading : Reading X) → 7 ≤ n
     → ((bytes : List ℕ) → NamesTo n (reading bytes)) → (bytes : List ℕ) → NamesTo n (enclosed_at tag reading bytes)
 enclosed_names n tag reading above names = refined_names n (tagged_at tag) (only reading) (header_names n tag (omega arith)) (only_names n reading above names)
 
-pub each_names : {S X : Type 0} (n : ℕ) (next : S → X → S) (reading : S → List ℕ → Result (X × List ℕ) DerError) → 1 ≤ n
+pub each_names : {S X : Type 0} (n : ℕ) (next : S → X → S) (reading : S → Reading X) → 1 ≤ n
     → ((state : S) (bytes : List ℕ) → NamesTo n (reading state bytes)) → (steps : ℕ) (state : S) (bytes : List ℕ)
     → NamesTo n (each_from next steps reading state bytes)
 unfolding each_from
@@ -112,8 +111,8 @@ each_names n next reading above reads steps state [] = tt
 each_names n next reading above reads zero state (b ∷ bytes) = above
 each_names n next reading above reads (suc steps) state (b ∷ bytes) = search (bind_names, reads, each_names n next reading above reads steps)
 
-pub values_names : {X : Type 0} (n : ℕ) (reading : List ℕ → Result (X × List ℕ) DerError) → 1 ≤ n
-    → ((bytes : List ℕ) → NamesTo n (reading bytes)) → (content : List ℕ) → NamesTo n (values_of reading content)
+pub values_names : {X : Type 0} (n : ℕ) (reading : Reading X) → 1 ≤ n → ((bytes : List ℕ) → NamesTo n (reading bytes))
+    → (content : List ℕ) → NamesTo n (values_of reading content)
 unfolding values_from
 values_names n reading above reads content = search (each_names)
 
@@ -145,8 +144,8 @@ ended_fails : {A : Type 0} (y : A) (bytes : List ℕ) (e : DerError) → 7 < fau
 ended_fails y bytes e above = not_named 7 (ended bytes >>= λ end. Ok y) e (search (bind_names, ended_names)) above
 
 -- two values
-pub pair_fails : {X Y : Type 0} (reading : List ℕ → Result (X × List ℕ) DerError) (check : X → X → Result Y DerError)
-    (C : X → X → Type 0) (e : DerError) → 7 < fault_number e → ((bytes : List ℕ) → reading bytes ≡ Err e → ⊥)
+pub pair_fails : {X Y : Type 0} (reading : Reading X) (check : X → X → Result Y DerError) (C : X → X → Type 0)
+    (e : DerError) → 7 < fault_number e → ((bytes : List ℕ) → reading bytes ≡ Err e → ⊥)
     → ((first second : X) → (check first second ≡ Err e) ↔ C first second) → (content : List ℕ)
     → (pair_in reading check content ≡ Err e) ↔ BeginsWithTwo reading C content
 unfolding pair_in
@@ -159,8 +158,8 @@ pair_fails reading check C e above never same content = (
 )
 
 -- the one value of a content
-pub only_fails : {X : Type 0} (reading : List ℕ → Result (X × List ℕ) DerError) (e : DerError) → 7 < fault_number e
-    → (content : List ℕ) → (only reading content ≡ Err e) ↔ (reading content ≡ Err e)
+pub only_fails : {X : Type 0} (reading : Reading X) (e : DerError) → 7 < fault_number e → (content : List ℕ)
+    → (only reading content ≡ Err e) ↔ (reading content ≡ Err e)
 unfolding only
 only_fails reading e above content = ((λ is. first_fails (reading content) _ e (λ x. ended_fails x.0 x.1 e above) is), (λ fails. rw fails refl))
 
@@ -172,9 +171,9 @@ unfolding refined
 tagged_fails tag check P e above same bytes = grind (arith, bind_fails, mapped_fails, not_named, tagged_names, same)
 
 -- a value that encloses one
-pub enclosed_fails : {X : Type 0} (tag : ℕ) (reading : List ℕ → Result (X × List ℕ) DerError) (P : List ℕ → Type 0)
-    (e : DerError) → 7 < fault_number e → ((content : List ℕ) → (reading content ≡ Err e) ↔ P content)
-    → (bytes : List ℕ) → (enclosed_at tag reading bytes ≡ Err e) ↔ BeginsWithValue tag P bytes
+pub enclosed_fails : {X : Type 0} (tag : ℕ) (reading : Reading X) (P : List ℕ → Type 0) (e : DerError)
+    → 7 < fault_number e → ((content : List ℕ) → (reading content ≡ Err e) ↔ P content) → (bytes : List ℕ)
+    → (enclosed_at tag reading bytes ≡ Err e) ↔ BeginsWithValue tag P bytes
 enclosed_fails tag reading P e above same = tagged_fails tag (only reading) P e (omega arith) (λ content. (
   (λ is. (same content).0 ((only_fails reading e above content).0 is)),
   (λ p. (only_fails reading e above content).1 ((same content).1 p)),
@@ -210,7 +209,7 @@ sequence_fails {X} tag one two P e apart above never same bytes = (
 -- ---- values one after another
 
 -- none are there exactly where the content is empty
-pub no_values : {X : Type 0} (reading : List ℕ → Result (X × List ℕ) DerError) (content : List ℕ)
+pub no_values : {X : Type 0} (reading : Reading X) (content : List ℕ)
     → (values_of reading content ≡ Ok []) ↔ (content ≡ [])
 unfolding values_from each_from
 no_values reading content = grind (arith)

@@ -1,5 +1,5 @@
 -- Readings from readings by the mode, and calls that take memory.
-use Rattle.rpki_base.proofs.Common.{Bool, Err, List, Ok, Option, Result, Some, [], ap, arith, false, length, refl, subst, suc, true, zero, ℕ, ◌++◌, ◌<◌, ◌∙◌, ◌∷◌, ◌≡◌, ◌↔◌, length-append, MatchResult, HasOctets, bind_tightens, cond_tightens, each_tightens, found_is, lenient_is, looked_tightens, passed_is, passes, passing_tightens, refused_at, same_found, same_tightens, IsCheck, bind_ok, ok_is, ok_or_err, EachFrom, IsBytes, Refines, Tlv, IsModal, IsReading, Tightens, each_from, optional, passing, tagged_at, ◌>>=◌, Lenient, Strict, Takes, is_strict, left, Cursor, DerError, IsMemory, OrMemory, Memory, Refused, Encloses, IsSequenceFrom, SaysPair, by_tag, enclosed_at, only, pair_by, pair_in, sequence_from, values_from, values_of, NotCanonicalOrMemory, ReadsOrMemory, TakesOrMemory, TakesSaidOrMemory}
+use Rattle.rpki_base.proofs.Common.{Bool, Err, List, Ok, Option, Result, Some, [], arith, false, length, refl, subst, suc, true, zero, ℕ, ◌++◌, ◌<◌, ◌∷◌, ◌≡◌, ◌↔◌, MatchResult, HasOctets, bind_tightens, cond_tightens, each, each_tightens, found_is, lenient_is, looked_tightens, passed_is, passes, passing_tightens, refused_at, same_found, shorter, same_tightens, IsCheck, bind_ok, ok_is, ok_or_err, EachFrom, IsBytes, Refines, Tlv, IsModal, IsReading, Tightens, each_from, optional, passing, tagged_at, ◌>>=◌, Lenient, Strict, Takes, is_strict, left, Cursor, DerError, IsMemory, OrMemory, Memory, Refused, Encloses, IsSequenceFrom, SaysPair, by_tag, enclosed_at, only, pair_by, pair_in, sequence_from, values_from, values_of, NotCanonicalOrMemory, ReadsOrMemory, TakesOrMemory, TakesSaidOrMemory, Grammar, Reading}
 use Rattle.rpki_base.proofs.DerCursors.{optional_back, reads_said_by}
 use Rattle.rpki_base.proofs.DerReadings.{enclosed_reading, pair_check, sequence_reading, values_check}
 
@@ -16,7 +16,7 @@ by_tag_tightens strict tag one two first second tight also v = grind (arith, con
 -- ---- in a content
 
 -- two values that pass a test strictly
-module _ {X Y : Type 0} (S : List ℕ → X → Type 0) (C : X → X → Y → Type 0) (reading : List ℕ → Result (X × List ℕ) DerError) (check : X → X → Result Y DerError) (test : X → X → Bool) where
+module _ {X Y : Type 0} (S : Grammar X) (C : X → X → Y → Type 0) (reading : Reading X) (check : X → X → Result Y DerError) (test : X → X → Bool) where
   -- the test may as well be made before the end of the content
   abbrev tested : X → X → Result Y DerError
   tested first second = check first second >>= passing true (λ y. test first second)
@@ -38,23 +38,22 @@ module _ {X Y : Type 0} (S : List ℕ → X → Type 0) (C : X → X → Y → T
       record { takes = λ content y fits e. both.takes content y fits ((tested_first content y).0 e); again = λ content y found. (tested_first content y).1 (both.again content y found) }
 
   -- by the mode
-  pub tested_pair_tightens : (strict : Bool) (by : List ℕ → Result (X × List ℕ) DerError)
+  pub tested_pair_tightens : (strict : Bool) (by : Reading X)
       → ((bytes : List ℕ) → Tightens strict (by bytes) (reading bytes)) → (content : List ℕ)
       → Tightens strict (pair_by strict by check test content) (pair_in reading check content)
   unfolding pair_by pair_in
   tested_pair_tightens strict by tight content = search (bind_tightens, tight, passing_tightens, same_tightens)
 
 -- one value
-pub only_tightens : {X : Type 0} (strict : Bool) (by reading : List ℕ → Result (X × List ℕ) DerError)
+pub only_tightens : {X : Type 0} (strict : Bool) (by reading : Reading X)
     → ((bytes : List ℕ) → Tightens strict (by bytes) (reading bytes)) → (content : List ℕ)
     → Tightens strict (only by content) (only reading content)
 unfolding only
 only_tightens strict by reading tight content = grind (arith, bind_tightens)
 
 -- and a value that encloses one
-pub enclosed_modal : {X : Type 0} (tag : ℕ) (S : List ℕ → X → Type 0) (reading : List ℕ → Result (X × List ℕ) DerError)
-    (by : Bool → List ℕ → Result (X × List ℕ) DerError) → IsModal S reading by
-    → IsModal (Encloses tag S) (enclosed_at tag reading) (λ strict. enclosed_at tag (by strict))
+pub enclosed_modal : {X : Type 0} (tag : ℕ) (S : Grammar X) (reading : Reading X) (by : Bool → Reading X)
+    → IsModal S reading by → IsModal (Encloses tag S) (enclosed_at tag reading) (λ strict. enclosed_at tag (by strict))
 enclosed_modal tag S reading by is = record {
   tight = enclosed_reading tag S (by true) is.tight;
   tightens = λ strict bytes. looked_tightens strict (tagged_at tag) (only (by strict)) (only reading) (only_tightens strict (by strict) reading (is.tightens strict)) bytes;
@@ -62,44 +61,30 @@ enclosed_modal tag S reading by is = record {
 
 -- ---- sequences
 
--- values that don't depend on a state may be read from any
-then_stateless : {S T X : Type 0} (next : S → X → S) (more : T → X → T)
-    (reading : List ℕ → Result (X × List ℕ) DerError) (steps : ℕ)
-    → ((s : S) (t : T) (bytes : List ℕ)
-    → each_from next steps (λ s. reading) s bytes ≡ each_from more steps (λ t. reading) t bytes)
-    → (s : S) (t : T) (r : Result (X × List ℕ) DerError)
-    → (r >>= λ x. each_from next steps (λ s. reading) (next s x.0) x.1 >>= λ xs. Ok (x.0 ∷ xs))
-    ≡ (r >>= λ x. each_from more steps (λ t. reading) (more t x.0) x.1 >>= λ xs. Ok (x.0 ∷ xs))
-then_stateless next more reading steps same s t v7 = grind (arith)
-
-each_stateless : {S T X : Type 0} (next : S → X → S) (more : T → X → T)
-    (reading : List ℕ → Result (X × List ℕ) DerError) (steps : ℕ) (s : S) (t : T) (bytes : List ℕ)
-    → each_from next steps (λ s. reading) s bytes ≡ each_from more steps (λ t. reading) t bytes
+-- values that don't depend on a state are read from any as from none
+each_stateless : {S X : Type 0} (next : S → X → S) (reading : Reading X) (steps : ℕ) (s : S) (bytes : List ℕ)
+    → each_from next steps (λ s. reading) s bytes ≡ each steps reading bytes
 unfolding each_from
-each_stateless next more reading zero s t [] = refl
-each_stateless next more reading (suc steps) s t [] = refl
-each_stateless next more reading zero s t (b ∷ bytes) = refl
-each_stateless next more reading (suc steps) s t (b ∷ bytes) = then_stateless next more reading steps (each_stateless next more reading steps) s t (reading (b ∷ bytes))
+each_stateless next reading zero s bytes = grind arith
+each_stateless next reading (suc steps) s [] = refl
+each_stateless next reading (suc steps) s (b ∷ bytes) = simp (each_stateless next reading steps)
 
-pub values_stateless : {S X : Type 0} (next : S → X → S) (reading : List ℕ → Result (X × List ℕ) DerError) (s : S)
+pub values_stateless : {S X : Type 0} (next : S → X → S) (reading : Reading X) (s : S)
     → values_from next (λ s. reading) s ≡ values_of reading
 unfolding values_from
-values_stateless next reading s = λ i content. each_stateless next (λ (state : Unit {0}) x. state) reading (length content) s tt content i
+values_stateless next reading s = λ i content. each_stateless next reading (length content) s content i
 
 -- a value that is found strictly has an octet where those have that are found leniently
-pub strict_has_octets : {X : Type 0} (G S : List ℕ → X → Type 0) (reading : List ℕ → Result (X × List ℕ) DerError)
-    (by : Bool → List ℕ → Result (X × List ℕ) DerError) → IsReading G reading → HasOctets G → IsModal S reading by
-    → HasOctets S
+pub strict_has_octets : {X : Type 0} (G S : Grammar X) (reading : Reading X) (by : Bool → Reading X)
+    → IsReading G reading → HasOctets G → IsModal S reading by → HasOctets S
 strict_has_octets G S reading by is has modal (b ∷ front) x says = omega arith
 strict_has_octets G S reading by is has modal [] x says =
-    let found : reading [] ≡ Ok (x, []) = found_is true (by true []) (reading []) (x, []) (modal.tightens true []) (modal.tight.again [] x [] says) in
-    let front = is.takes [] x [] (λ i. omega arith) found in
-    let some = has front.0 x front.1 in
-    omega (arith, some, ap length front.2, length-append front.0 [])
+    let read = modal.tight.again [] x [] says in
+    let found = found_is true (by true []) (reading []) (x, []) (modal.tightens true []) read in
+    absurd (omega (arith, shorter G has [] x [] (is.takes [] x [] (λ i. omega arith) found)))
 
 -- all values of a content
-pub values_tighten : {S X : Type 0} (strict : Bool) (next : S → X → S)
-    (by reading : S → List ℕ → Result (X × List ℕ) DerError)
+pub values_tighten : {S X : Type 0} (strict : Bool) (next : S → X → S) (by reading : S → Reading X)
     → ((state : S) (bytes : List ℕ) → Tightens strict (by state bytes) (reading state bytes))
     → (state : S) (content : List ℕ)
     → Tightens strict (values_from next by state content) (values_from next reading state content)
@@ -107,18 +92,18 @@ unfolding values_from
 values_tighten strict next by reading tight state content = each_tightens strict next by reading tight (length content) state content
 
 -- strictly
-pub strict_values_check : {S X : Type 0} (next : S → X → S) (G H : S → List ℕ → X → Type 0)
-    (reading : S → List ℕ → Result (X × List ℕ) DerError) (by : Bool → S → List ℕ → Result (X × List ℕ) DerError)
-    → ((state : S) → IsReading (G state) (reading state)) → ((state : S) → HasOctets (G state))
+pub strict_values_check : {S X : Type 0} (next : S → X → S) (G H : S → Grammar X) (reading : S → Reading X)
+    (by : Bool → S → Reading X) → ((state : S) → IsReading (G state) (reading state))
+    → ((state : S) → HasOctets (G state))
     → ((state : S) → IsModal (H state) (reading state) (λ strict. by strict state)) → (state : S)
     → IsCheck IsBytes (EachFrom next H state) (values_from next (by true) state)
 strict_values_check next G H reading by is has modal state =
     values_check next H (by true) (λ state. (modal state).tight) (λ state. strict_has_octets (G state) (H state) (reading state) (λ strict. by strict state) (is state) (has state) (modal state)) state
 
 -- a SEQUENCE of values
-pub sequence_modal : {S X : Type 0} (next : S → X → S) (G H : S → List ℕ → X → Type 0)
-    (reading : S → List ℕ → Result (X × List ℕ) DerError) (by : Bool → S → List ℕ → Result (X × List ℕ) DerError)
-    → ((state : S) → IsReading (G state) (reading state)) → ((state : S) → HasOctets (G state))
+pub sequence_modal : {S X : Type 0} (next : S → X → S) (G H : S → Grammar X) (reading : S → Reading X)
+    (by : Bool → S → Reading X) → ((state : S) → IsReading (G state) (reading state))
+    → ((state : S) → HasOctets (G state))
     → ((state : S) → IsModal (H state) (reading state) (λ strict. by strict state)) → (state : S)
     → IsModal (IsSequenceFrom next H state) (sequence_from next reading state)
     (λ strict. sequence_from next (by strict) state)
@@ -130,28 +115,26 @@ sequence_modal next G H reading by is has modal state = record {
 -- ---- calls that take memory
 
 -- a take from a cursor that isn't strict
-pub exact_or_memory_by : {X Y : Type 0} (S : List ℕ → Y → Type 0) (reading : List ℕ → Result (Y × List ℕ) DerError)
-    (by : Bool → List ℕ → Result (Y × List ℕ) DerError) (view : X → Y) (old new : Cursor)
-    (result : Result X (OrMemory DerError)) → IsModal S reading by
+pub exact_or_memory_by : {X Y : Type 0} (S : Grammar Y) (reading : Reading Y) (by : Bool → Reading Y) (view : X → Y)
+    (old new : Cursor) (result : Result X (OrMemory DerError)) → IsModal S reading by
     → TakesOrMemory view old new result (by (is_strict old)) → Lenient old (TakesOrMemory view old new result reading)
 exact_or_memory_by v0 reading by view old new result modal took lenient = grind (arith, lenient_is)
 
 -- one that answers what is said by what the reading gives
-pub exact_said_by : {X Y : Type 0} (S : List ℕ → Y → Type 0) (C : Y → X → Type 0)
-    (reading : List ℕ → Result (Y × List ℕ) DerError) (by : Bool → List ℕ → Result (Y × List ℕ) DerError)
+pub exact_said_by : {X Y : Type 0} (S : Grammar Y) (C : Y → X → Type 0) (reading : Reading Y) (by : Bool → Reading Y)
     (old new : Cursor) (result : Result X (OrMemory DerError)) → IsModal S reading by
     → TakesSaidOrMemory C old new result (by (is_strict old)) → Lenient old (TakesSaidOrMemory C old new result reading)
 exact_said_by v0 v1 reading by old new result modal took lenient = grind (arith, lenient_is)
 
 -- a take that answers what is said by what the reading gives
-pub refused_said_by : {X Y : Type 0} (G S : List ℕ → Y → Type 0) (C : Y → X → Type 0)
-    (reading : List ℕ → Result (Y × List ℕ) DerError) (by : Bool → List ℕ → Result (Y × List ℕ) DerError)
-    (old new : Cursor) (result : Result X (OrMemory DerError)) → IsReading G reading → IsModal S reading by
-    → TakesSaidOrMemory C old new result (by (is_strict old)) → NotCanonicalOrMemory (Refines G C) old result
+pub refused_said_by : {X Y : Type 0} (G S : Grammar Y) (C : Y → X → Type 0) (reading : Reading Y)
+    (by : Bool → Reading Y) (old new : Cursor) (result : Result X (OrMemory DerError)) → IsReading G reading
+    → IsModal S reading by → TakesSaidOrMemory C old new result (by (is_strict old))
+    → NotCanonicalOrMemory (Refines G C) old result
 refused_said_by v0 v1 v2 reading by old new v7 is modal took = grind (arith, refused_at)
 
 -- a take, by another name of the grammar, which has to be one at the front of the octets alone
-pub reads_same : {X Y : Type 0} (G H : List ℕ → Y → Type 0) (view : X → Y) (old new : Cursor)
+pub reads_same : {X Y : Type 0} (G H : Grammar Y) (view : X → Y) (old new : Cursor)
     (result : Result X (OrMemory DerError)) → ((bytes : List ℕ) (y : Y) → G bytes y → H bytes y)
     → ((bytes : List ℕ) (y : Y) (rest : List ℕ) → left old ≡ bytes ++ rest → H bytes y → G bytes y)
     → ReadsOrMemory G view old new result → ReadsOrMemory H view old new result
@@ -160,9 +143,8 @@ reads_same G H view old new (Err (Refused e)) to from (none, kept) = ((λ y rest
 reads_same G H view old new (Err (Memory e)) to from read = read
 
 -- a take of what is found strictly, by another name of what that says
-pub canonical_said_by : {X Y : Type 0} (S : List ℕ → Y → Type 0) (C : Y → X → Type 0) (H : List ℕ → X → Type 0)
-    (reading : List ℕ → Result (Y × List ℕ) DerError) (by : Bool → List ℕ → Result (Y × List ℕ) DerError)
-    (old new : Cursor) (result : Result X (OrMemory DerError)) → IsModal S reading by
+pub canonical_said_by : {X Y : Type 0} (S : Grammar Y) (C : Y → X → Type 0) (H : Grammar X) (reading : Reading Y)
+    (by : Bool → Reading Y) (old new : Cursor) (result : Result X (OrMemory DerError)) → IsModal S reading by
     → ((bytes : List ℕ) (x : X) → Refines S C bytes x → H bytes x)
     → ((bytes : List ℕ) (x : X) (rest : List ℕ) → left old ≡ bytes ++ rest → H bytes x → Refines S C bytes x)
     → TakesSaidOrMemory C old new result (by (is_strict old)) → IsBytes (left old)
@@ -172,42 +154,36 @@ canonical_said_by S C H reading by old new result modal to from took fits strict
     reads_same (Refines S C) H (λ x. x) old new result to from read
 
 -- what is found strictly is found in either mode
-pub found_by : {X : Type 0} (S : List ℕ → X → Type 0) (reading : List ℕ → Result (X × List ℕ) DerError)
-    (by : Bool → List ℕ → Result (X × List ℕ) DerError) → IsModal S reading by
+pub found_by : {X : Type 0} (S : Grammar X) (reading : Reading X) (by : Bool → Reading X) → IsModal S reading by
     → (strict : Bool) (front : List ℕ) (x : X) (rest : List ℕ) → S front x → by strict (front ++ rest) ≡ Ok (x, rest)
 found_by S reading by modal true front x rest says = modal.tight.again front x rest says
 found_by S reading by modal false front x rest says =
-    same_found (by false (front ++ rest)) (reading (front ++ rest)) (modal.tightens false (front ++ rest))
-    ∙ found_is true (by true (front ++ rest)) (reading (front ++ rest)) (x, rest) (modal.tightens true (front ++ rest)) (modal.tight.again front x rest says)
+    grind (arith, modal.tightens, same_found, found_is, modal.tight.again front x rest says)
 
 -- so a take in either mode, where such a value stands, gives it
-pub value_back_by : {X : Type 0} (S : List ℕ → X → Type 0) (reading : List ℕ → Result (X × List ℕ) DerError)
-    (by : Bool → List ℕ → Result (X × List ℕ) DerError) (old new : Cursor) (result : Result X DerError)
-    → IsModal S reading by → Takes (λ x. x) old new result (by (is_strict old)) → (front rest : List ℕ) (x : X)
-    → S front x → left old ≡ front ++ rest → (result ≡ Ok x) × (left new ≡ rest)
+pub value_back_by : {X : Type 0} (S : Grammar X) (reading : Reading X) (by : Bool → Reading X) (old new : Cursor)
+    (result : Result X DerError) → IsModal S reading by → Takes (λ x. x) old new result (by (is_strict old))
+    → (front rest : List ℕ) (x : X) → S front x → left old ≡ front ++ rest → (result ≡ Ok x) × (left new ≡ rest)
 value_back_by S reading by old new result modal took front rest x says at =
-    let found = ap (by (is_strict old)) at ∙ found_by S reading by modal (is_strict old) front x rest says in
-    grind (arith, ok_is, ok_or_err)
+    grind (arith, ok_is, ok_or_err, found_by S reading by modal (is_strict old) front x rest says)
 
 -- a take that answers None at the end, of what is found leniently, and strictly of S
-pub optional_back_by : {X : Type 0} (G S : List ℕ → X → Type 0) (reading : List ℕ → Result (X × List ℕ) DerError)
-    (by : Bool → List ℕ → Result (X × List ℕ) DerError) (old new : Cursor) (result : Result (Option X) DerError)
-    → IsReading G reading → IsModal S reading by → Takes (λ x. x) old new result (optional (by (is_strict old)))
-    → (front rest : List ℕ) (x : X) → 0 < length front → G front x → (is_strict old ≡ true → S front x)
-    → left old ≡ front ++ rest → (result ≡ Ok (Some x)) × (left new ≡ rest)
+pub optional_back_by : {X : Type 0} (G S : Grammar X) (reading : Reading X) (by : Bool → Reading X) (old new : Cursor)
+    (result : Result (Option X) DerError) → IsReading G reading → IsModal S reading by
+    → Takes (λ x. x) old new result (optional (by (is_strict old))) → (front rest : List ℕ) (x : X) → 0 < length front
+    → G front x → (is_strict old ≡ true → S front x) → left old ≡ front ++ rest
+    → (result ≡ Ok (Some x)) × (left new ≡ rest)
 optional_back_by G S reading by old new result is modal took front rest x some g s at = optional_back (by (is_strict old)) old new result took front rest x some at (read (is_strict old) s)
   where
     read : (strict : Bool) → (strict ≡ true → S front x) → by strict (front ++ rest) ≡ Ok (x, rest)
     read true s = modal.tight.again front x rest (s refl)
-    read false s = same_found (by false (front ++ rest)) (reading (front ++ rest)) (modal.tightens false (front ++ rest)) ∙ is.again front x rest g
+    read false s = grind (arith, modal.tightens, same_found, is.again front x rest g)
 
 -- a take of the one thing that the value says
-pub takes_said_by : {X Y : Type 0} (S : List ℕ → Y → Type 0) (C : Y → X → Type 0)
-    (reading : List ℕ → Result (Y × List ℕ) DerError) (by : Bool → List ℕ → Result (Y × List ℕ) DerError)
+pub takes_said_by : {X Y : Type 0} (S : Grammar Y) (C : Y → X → Type 0) (reading : Reading Y) (by : Bool → Reading Y)
     (old new : Cursor) (result : Result X (OrMemory DerError)) → IsModal S reading by
     → ((y : Y) (a b : X) → C y a → C y b → a ≡ b) → TakesSaidOrMemory C old new result (by (is_strict old))
     → (front rest : List ℕ) (y : Y) (x : X) → S front y → C y x → left old ≡ front ++ rest
     → MatchResult result (λ read. (read ≡ x) × (left new ≡ rest)) IsMemory
 takes_said_by S C reading by old new result modal one took front rest y x says tells at =
-    let found = ap (by (is_strict old)) at ∙ found_by S reading by modal (is_strict old) front y rest says in
-    grind (arith, ok_is, ok_or_err, one)
+    grind (arith, ok_is, ok_or_err, one, found_by S reading by modal (is_strict old) front y rest says)

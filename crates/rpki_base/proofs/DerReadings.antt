@@ -1,11 +1,11 @@
 -- Readings from readings: of one of two tags, of two values, of values that are passed over, and of sequences.
-use Rattle.rpki_base.proofs.Common.{Bool, Err, List, Ok, Result, [], ap, arith, cond, eqb, length, refl, subst, sym, ℕ, ◌++◌, ◌∙◌, ◌≡◌, ◌≢◌, eq-eqb, eqb-true, ne_eqb, append-nil, nil_from_length, HasOctets, each_again, each_takes, fits_content, fits_rest, one_front, refined_reading, tagged_reading, value_reading, IsCheck, bind_ok, ok_is, passed_true, EachFrom, IsBytes, IsSequence, IsTlv, OneFront, Refines, Tlv, IsReading, ended, refined, tagged_at, value_at, ◌>>=◌, DerError, BadTag, TrailingData, Encloses, IsSequenceFrom, SaysByTag, SaysPair, Skips, by_tag, enclosed_at, only, pair_in, sequence_from, skipping, values_from}
+use Rattle.rpki_base.proofs.Common.{Bool, Err, List, Ok, Result, [], ap, arith, cond, eqb, length, refl, subst, sym, ℕ, ◌++◌, ◌∙◌, ◌≡◌, ◌≢◌, eq-eqb, eqb-true, ne_eqb, append-nil, nil_from_length, HasOctets, each_again, each_takes, fits_content, fits_rest, one_front, refined_reading, tagged_reading, value_reading, IsCheck, bind_ok, ok_is, passed_true, EachFrom, IsBytes, IsSequence, IsTlv, OneFront, Refines, Tlv, IsReading, ended, refined, tagged_at, value_at, ◌>>=◌, DerError, BadTag, TrailingData, Encloses, IsSequenceFrom, SaysByTag, SaysPair, Skips, by_tag, enclosed_at, only, pair_in, sequence_from, skipping, values_from, Grammar, Reading}
 
 -- ---- passed over
 
 -- a value that is passed over is one of the grammar
-pub skips_reading : {X : Type 0} (G : List ℕ → X → Type 0) (reading : List ℕ → Result (X × List ℕ) DerError)
-    → IsReading G reading → IsReading (Skips G) (skipping reading)
+pub skips_reading : {X : Type 0} (G : Grammar X) (reading : Reading X) → IsReading G reading
+    → IsReading (Skips G) (skipping reading)
 skips_reading G reading is = refined_reading G (λ x u. Unit {0}) (λ x. Unit {0}) reading (λ x. Ok tt) is (λ front x g fits. tt) (record { takes = λ x u fits e. tt; again = λ x u c. refl })
 
 -- ---- named
@@ -18,22 +18,22 @@ mapped_check Fits C check f is = grind (arith, bind_ok, ok_is)
 -- ---- one of two tags
 
 -- what a value says by its tag
-by_tag_says : {X : Type 0} (tag : ℕ) (One Two : List ℕ → X → Type 0) (one two : List ℕ → Result X DerError)
+by_tag_says : {X : Type 0} (tag : ℕ) (One Two : Grammar X) (one two : List ℕ → Result X DerError)
     → IsCheck IsBytes One one → IsCheck IsBytes Two two → (v : Tlv) (x : X) → IsBytes v.content → (first second : Bool)
     → eqb v.tag tag ≡ first → eqb v.tag 48 ≡ second
     → cond first (one v.content) (cond second (two v.content) (Err BadTag)) ≡ Ok x → SaysByTag tag One Two v x
 by_tag_says tag One Two one two is also v x fits first second t s e = grind (arith, eqb-true)
 
 -- the two together
-by_tag_check : {X : Type 0} (tag : ℕ) (One Two : List ℕ → X → Type 0) (one two : List ℕ → Result X DerError) → tag ≢ 48
+by_tag_check : {X : Type 0} (tag : ℕ) (One Two : Grammar X) (one two : List ℕ → Result X DerError) → tag ≢ 48
     → IsCheck IsBytes One one → IsCheck IsBytes Two two
     → IsCheck (λ v. IsBytes v.content) (SaysByTag tag One Two) (by_tag tag one two)
 unfolding by_tag
 by_tag_check tag One Two one two apart is also = grind (arith, by_tag_says, eq-eqb, ne_eqb)
 
 -- a value of a tag, or a SEQUENCE, each by its rule for the content
-pub by_tag_reading : {X : Type 0} (tag : ℕ) (One Two : List ℕ → X → Type 0) (one two : List ℕ → Result X DerError)
-    → tag ≢ 48 → IsCheck IsBytes One one → IsCheck IsBytes Two two
+pub by_tag_reading : {X : Type 0} (tag : ℕ) (One Two : Grammar X) (one two : List ℕ → Result X DerError) → tag ≢ 48
+    → IsCheck IsBytes One one → IsCheck IsBytes Two two
     → IsReading (Refines IsTlv (SaysByTag tag One Two)) (refined value_at (by_tag tag one two))
 by_tag_reading tag One Two one two apart is also =
     refined_reading IsTlv (SaysByTag tag One Two) (λ v. IsBytes v.content) value_at (by_tag tag one two) value_reading (λ front v h fits. fits_content front v.tag v.content h fits) (by_tag_check tag One Two one two apart is also)
@@ -45,8 +45,8 @@ pub ended_is : (bytes : List ℕ) (u : Unit {0}) → ended bytes ≡ Ok u → by
 ended_is bytes u e = nil_from_length bytes (eqb-true (length bytes) 0 (passed_true (eqb (length bytes) 0) TrailingData (Ok tt) u e).0)
 
 -- the one value of a content
-pub only_check : {X : Type 0} (G : List ℕ → X → Type 0) (reading : List ℕ → Result (X × List ℕ) DerError)
-    → IsReading G reading → IsCheck IsBytes G (only reading)
+pub only_check : {X : Type 0} (G : Grammar X) (reading : Reading X) → IsReading G reading
+    → IsCheck IsBytes G (only reading)
 unfolding only
 only_check G reading is = record {
   takes = λ content x fits e.
@@ -61,14 +61,13 @@ only_check G reading is = record {
 }
 
 -- and a value that encloses one
-pub enclosed_reading : {X : Type 0} (tag : ℕ) (G : List ℕ → X → Type 0)
-    (reading : List ℕ → Result (X × List ℕ) DerError) → IsReading G reading
+pub enclosed_reading : {X : Type 0} (tag : ℕ) (G : Grammar X) (reading : Reading X) → IsReading G reading
     → IsReading (Encloses tag G) (enclosed_at tag reading)
 enclosed_reading tag G reading is = search (arith, fits_content, only_check, refined_reading, tagged_reading)
 
 -- two values that are read say what the grammar says
-pair_says : {X Y : Type 0} (G : List ℕ → X → Type 0) (C : X → X → Y → Type 0)
-    (reading : List ℕ → Result (X × List ℕ) DerError) (check : X → X → Result Y DerError) → IsReading G reading
+pair_says : {X Y : Type 0} (G : Grammar X) (C : X → X → Y → Type 0) (reading : Reading X)
+    (check : X → X → Result Y DerError) → IsReading G reading
     → ((first second : X) (y : Y) → check first second ≡ Ok y → C first second y) → (content : List ℕ) (y : Y)
     → IsBytes content → pair_in reading check content ≡ Ok y → SaysPair G C content y
 unfolding pair_in
@@ -83,8 +82,8 @@ pair_says {X} {Y} G C reading check is says content y fits e =
     grind (arith, append-nil, ended_is, ok_is)
 
 -- what two values say is read
-pair_again : {X Y : Type 0} (G : List ℕ → X → Type 0) (C : X → X → Y → Type 0)
-    (reading : List ℕ → Result (X × List ℕ) DerError) (check : X → X → Result Y DerError) → IsReading G reading
+pair_again : {X Y : Type 0} (G : Grammar X) (C : X → X → Y → Type 0) (reading : Reading X)
+    (check : X → X → Result Y DerError) → IsReading G reading
     → ((first second : X) (y : Y) → C first second y → check first second ≡ Ok y) → (content : List ℕ) (y : Y)
     → SaysPair G C content y → pair_in reading check content ≡ Ok y
 unfolding pair_in
@@ -94,8 +93,8 @@ pair_again G C reading check is says content y (a, b, both, c) =
     rw (first, second, says a b y c) refl
 
 -- the two together
-pub pair_check : {X Y : Type 0} (G : List ℕ → X → Type 0) (C : X → X → Y → Type 0)
-    (reading : List ℕ → Result (X × List ℕ) DerError) (check : X → X → Result Y DerError) → IsReading G reading
+pub pair_check : {X Y : Type 0} (G : Grammar X) (C : X → X → Y → Type 0) (reading : Reading X)
+    (check : X → X → Result Y DerError) → IsReading G reading
     → ((first second : X) (y : Y) → check first second ≡ Ok y → C first second y)
     → ((first second : X) (y : Y) → C first second y → check first second ≡ Ok y)
     → IsCheck IsBytes (SaysPair G C) (pair_in reading check)
@@ -104,17 +103,15 @@ pair_check G C reading check is says back = record { takes = pair_says G C readi
 -- ---- sequences
 
 -- all values of a content
-pub values_check : {S X : Type 0} (next : S → X → S) (G : S → List ℕ → X → Type 0)
-    (reading : S → List ℕ → Result (X × List ℕ) DerError) → ((state : S) → IsReading (G state) (reading state))
-    → ((state : S) → HasOctets (G state)) → (state : S)
+pub values_check : {S X : Type 0} (next : S → X → S) (G : S → Grammar X) (reading : S → Reading X)
+    → ((state : S) → IsReading (G state) (reading state)) → ((state : S) → HasOctets (G state)) → (state : S)
     → IsCheck IsBytes (EachFrom next G state) (values_from next reading state)
 unfolding values_from
 values_check next G reading is has state = grind (arith, each_again, each_takes)
 
 -- a SEQUENCE of values
-pub sequence_reading : {S X : Type 0} (next : S → X → S) (G : S → List ℕ → X → Type 0)
-    (reading : S → List ℕ → Result (X × List ℕ) DerError) → ((state : S) → IsReading (G state) (reading state))
-    → ((state : S) → HasOctets (G state)) → (state : S)
+pub sequence_reading : {S X : Type 0} (next : S → X → S) (G : S → Grammar X) (reading : S → Reading X)
+    → ((state : S) → IsReading (G state) (reading state)) → ((state : S) → HasOctets (G state)) → (state : S)
     → IsReading (IsSequenceFrom next G state) (sequence_from next reading state)
 sequence_reading next G reading is has state =
     refined_reading IsSequence (EachFrom next G state) IsBytes (tagged_at 48) (values_from next reading state) (tagged_reading 48) (λ front content h fits. fits_content front 48 content h fits) (values_check next G reading is has state)
@@ -122,8 +119,7 @@ sequence_reading next G reading is has state =
 -- ---- what values say
 
 -- octets begin with at most one thing that is said, where a value says one thing at most
-pub one_front_said : {X Y : Type 0} (G : List ℕ → X → Type 0) (C : X → Y → Type 0)
-    (reading : List ℕ → Result (X × List ℕ) DerError) → IsReading G reading
+pub one_front_said : {X Y : Type 0} (G : Grammar X) (C : X → Y → Type 0) (reading : Reading X) → IsReading G reading
     → ((x : X) (a b : Y) → C x a → C x b → a ≡ b) → OneFront (Refines G C)
 one_front_said {X} G C reading is one a b x y r s (u, grammar, says) (v, also, tells) same =
     let front = one_front G reading is a b u v r s grammar also same in

@@ -1,5 +1,5 @@
 -- Lists that are written: they are values of the grammar, and no two lists are written alike, also in a SEQUENCE.
-use Rattle.rpki_base.proofs.Common.{Bool, List, Ok, Result, [], ap, arith, cond, drop, inl, inr, length, ltb, refl, sym, ℕ, ◌++◌, ◌+◌, ◌<◌, ◌^◌, ◌∙◌, ◌∷◌, ◌≡◌, ◌≤◌, ◌⊎◌, cases_lt, drop_at, AllByRecursion, HasOctets, each_again, ok_is, value_is, Each, header, length_octets, octets, sequence_value, IsReading, each, DerError, IsSequenceOf, octets_of_all, sequence_octets}
+use Rattle.rpki_base.proofs.Common.{Bool, List, Ok, [], ap, arith, cond, drop, inl, inr, length, ltb, refl, sym, ℕ, ◌++◌, ◌+◌, ◌<◌, ◌^◌, ◌∙◌, ◌∷◌, ◌≡◌, ◌≤◌, ◌⊎◌, cases_lt, drop_at, AllByRecursion, HasOctets, each_again, ok_is, value_is, Each, header, length_octets, octets, sequence_value, IsReading, each, IsSequenceOf, octets_of_all, sequence_octets, Grammar, Reading}
 use Rattle.std.proofs.lemmas.Bool.{le-ltb, lt-ltb}
 
 -- the first of lists that are one
@@ -10,7 +10,7 @@ head_of a b xs ys e = cc
 tail_of : (a b : ℕ) (xs ys : List ℕ) → a ∷ xs ≡ b ∷ ys → xs ≡ ys
 tail_of a b xs ys e = cc
 
-module _ {X : Type 0} (G : List ℕ → X → Type 0) (octets : X → List ℕ) where
+module _ {X : Type 0} (G : Grammar X) (octets : X → List ℕ) where
   -- values that are written one after another are such values
   pub each_written : (xs : List X) → AllByRecursion (λ x. G (octets x) x) xs → Each G (octets_of_all octets xs) xs
   each_written [] all = refl
@@ -22,8 +22,8 @@ module _ {X : Type 0} (G : List ℕ → X → Type 0) (octets : X → List ℕ) 
   sequence_written xs all short = (octets_of_all octets xs, value_is 48 (octets_of_all octets xs) (omega arith) short, each_written xs all)
 
   -- lists that are written alike are one
-  pub written_alike : (reading : List ℕ → Result (X × List ℕ) DerError) → IsReading G reading → HasOctets G
-      → (xs ys : List X) → AllByRecursion (λ x. G (octets x) x) xs → AllByRecursion (λ x. G (octets x) x) ys
+  pub written_alike : (reading : Reading X) → IsReading G reading → HasOctets G → (xs ys : List X)
+      → AllByRecursion (λ x. G (octets x) x) xs → AllByRecursion (λ x. G (octets x) x) ys
       → octets_of_all octets xs ≡ octets_of_all octets ys → xs ≡ ys
   written_alike reading is has xs ys all also same =
       let next : Unit {0} → X → Unit {0} = λ state x. state in

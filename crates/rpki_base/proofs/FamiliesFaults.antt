@@ -1,13 +1,13 @@
 -- Families are refused for none at all exactly where none are there, and for one that is there twice exactly where it
 -- stands behind members that were read, of which one has it.
-use Rattle.rpki_base.proofs.Common.{Bool, Err, List, Ok, Result, [], ap, arith, cond, false, inl, length, refl, suc, sym, true, zero, ℕ, ◌<◌, ◌↔◌, ◌∙◌, ◌∷◌, ◌≡◌, ◌≢◌, ◌≤◌, ended, refined, tagged_at, ◌>>=◌, DerError, DuplicateFamily, NoFamily, BeginsEmpty, BeginsWithAll, BeginsWithValue, ByFamily, claims_among, families_at, families_in, member_at, member_in, members_by, seen, was_seen, with_claim, family_at, AddressFamily}
+use Rattle.rpki_base.proofs.Common.{Bool, Err, List, Ok, Result, [], ap, arith, cond, false, inl, length, refl, suc, sym, true, zero, ℕ, ◌<◌, ◌↔◌, ◌∙◌, ◌∷◌, ◌≡◌, ◌≢◌, ◌≤◌, ended, refined, tagged_at, ◌>>=◌, DerError, DuplicateFamily, NoFamily, BeginsEmpty, BeginsWithAll, BeginsWithValue, ByFamily, claims_among, families_at, families_in, member_at, member_in, members_by, seen, was_seen, with_claim, family_at, AddressFamily, Reading}
 use Rattle.std.specs.Prelude.{◌⊎◌}
 use Rattle.rpki_base.proofs.DerFaults.{NamesTo, begins_value, bind_fails, bind_names, cond_names, each_names, header_names, names_more, not_named, refined_names, tagged_fails, tagged_shorter}
 use Rattle.rpki_base.proofs.FamiliesGathering.{behind, members_are}
 use Rattle.rpki_base.proofs.FamilyLemmas.{family_names}
 use Rattle.rpki_base.specs.FamiliesFaults.{BeginsAmong, BeginsWithRepeat, any_member_at}
 
-module _ {X : Type 0} (claim_at : AddressFamily → List ℕ → Result (X × List ℕ) DerError) (names : (family : AddressFamily) (bytes : List ℕ) → NamesTo 11 (claim_at family bytes)) where
+module _ {X : Type 0} (claim_at : AddressFamily → Reading X) (names : (family : AddressFamily) (bytes : List ℕ) → NamesTo 11 (claim_at family bytes)) where
   -- what is read of a member behind its family
   abbrev claim_of : AddressFamily → List ℕ → Result (AddressFamily × X) DerError
   claim_of family bytes = claim_at family bytes >>= λ claim. ended claim.1 >>= λ end. Ok (family, claim.0)

@@ -1,5 +1,5 @@
 -- Members to the end of the octets: what is found is what stands there, each family once.
-use Rattle.rpki_base.proofs.Common.{Bool, List, None, Ok, Option, Result, Some, Err, [], ap, arith, cond, eqb, false, length, refl, subst, suc, zero, ℕ, ◌++◌, ◌∙◌, ◌∷◌, ◌≡◌, ◌≢◌, eqb-false, ne_eqb, append-nil, AllByRecursion, IfSome, HasOctets, each_again, each_takes, shorter, value_has_octets, fits_content, refined_reading, tagged_reading, bind_ok, ok_is, passed, IsCheck, Each, EachFrom, IsBytes, IsSequence, Refines, IsReading, tagged_at, DerError, NoFamily, each_from, ◌>>=◌, sym, ByFamily, IsFamilies, IsMember, SaysFamilies, claims_among, listed, of_family, families_at, families_in, member_at, members_by, none_found, seen, was_seen, with_claim, AddressFamily, Ipv4, Ipv6}
+use Rattle.rpki_base.proofs.Common.{Bool, List, Ok, Option, Result, Err, [], ap, arith, cond, eqb, false, length, refl, subst, suc, zero, ℕ, ◌++◌, ◌∙◌, ◌∷◌, ◌≡◌, ◌≢◌, eqb-false, ne_eqb, append-nil, AllByRecursion, IfSome, HasOctets, each_again, each_takes, shorter, value_has_octets, fits_content, refined_reading, tagged_reading, bind_ok, ok_is, passed, IsCheck, Each, EachFrom, IsBytes, IsSequence, Refines, IsReading, tagged_at, DerError, NoFamily, each_from, ◌>>=◌, sym, ByFamily, IsFamilies, IsMember, SaysFamilies, claims_among, listed, of_family, families_at, families_in, member_at, members_by, none_found, seen, was_seen, with_claim, AddressFamily, Ipv4, Ipv6, Grammar, Reading}
 use Rattle.rpki_base.proofs.FamiliesMembers.{SaysNew, member_reading}
 
 -- what was found before and what these members have is all
@@ -37,23 +37,10 @@ module _ {X : Type 0} where
     pub new : was_seen (seen before) family ≡ false
     pub adds : Adds (with_claim before family x) members fs
 
-  -- the first member is of IPv4
-  one_v4 : (v4 v6 : Option X) (x : X) (members : List (AddressFamily × X)) (fs : ByFamily X)
-      → Adds (v4, v6) ((Ipv4, x) ∷ members) fs → One (v4, v6) Ipv4 x members fs
-  one_v4 None v6 x members fs adds = record { new = refl; adds = elim [ Ipv4 ↦ adds Ipv4 | Ipv6 ↦ adds Ipv6 ] }
-  one_v4 (Some y) v6 x members fs adds = absurd (too_many y x (claims_among Ipv4 members) fs.0 (adds Ipv4))
-
-  -- or of IPv6
-  one_v6 : (v4 v6 : Option X) (x : X) (members : List (AddressFamily × X)) (fs : ByFamily X)
-      → Adds (v4, v6) ((Ipv6, x) ∷ members) fs → One (v4, v6) Ipv6 x members fs
-  one_v6 v4 None x members fs adds = record { new = refl; adds = elim [ Ipv4 ↦ adds Ipv4 | Ipv6 ↦ adds Ipv6 ] }
-  one_v6 v4 (Some y) x members fs adds = absurd (too_many y x (claims_among Ipv6 members) fs.1 (adds Ipv6))
-
   -- the first member of those that are left
   pub one_more : (before : ByFamily X) (family : AddressFamily) (x : X) (members : List (AddressFamily × X))
       (fs : ByFamily X) → Adds before ((family, x) ∷ members) fs → One before family x members fs
-  one_more before Ipv4 x members fs adds = one_v4 before.0 before.1 x members fs adds
-  one_more before Ipv6 x members fs adds = one_v6 before.0 before.1 x members fs adds
+  one_more before family x members fs adds = grind (arith, too_many, adds Ipv4, adds Ipv6)
 
 -- what was found with a member more, and with members more
 abbrev pub behind : {X : Type 0} → ByFamily X → AddressFamily × X → ByFamily X
@@ -63,27 +50,22 @@ abbrev pub gather : {X : Type 0} → ByFamily X → List (AddressFamily × X) �
 gather found [] = found
 gather found (member ∷ members) = gather (behind found member) members
 
--- members are values one after another, each in the state of what was found before, which are then gathered
-module _ {X : Type 0} (member : Bool × Bool → List ℕ → Result ((AddressFamily × X) × List ℕ) DerError) where
-  then_members : (steps : ℕ) (found : ByFamily X) (r : Result ((AddressFamily × X) × List ℕ) DerError)
-      → ((found : ByFamily X) (bytes : List ℕ)
-      → members_by member steps found bytes
-      ≡ (each_from behind steps (λ found. member (seen found)) found bytes >>= λ members. Ok (gather found members)))
-      → (r >>= λ m. members_by member steps (behind found m.0) m.1)
-      ≡ ((r >>= λ m. each_from behind steps (λ found. member (seen found)) (behind found m.0) m.1
-      >>= λ members. Ok (m.0 ∷ members)) >>= λ members. Ok (gather found members))
-  then_members steps found r same = grind arith
+-- two steps behind another are one
+bind_twice : {A B Z : Type 0} (r : Result A DerError) (f : A → Result B DerError) (g : B → Result Z DerError)
+    → ((r >>= f) >>= g) ≡ (r >>= λ x. f x >>= g)
+bind_twice r f g = grind arith
 
+-- members are values one after another, each in the state of what was found before, which are then gathered
+module _ {X : Type 0} (member : Bool × Bool → Reading (AddressFamily × X)) where
   pub members_are : (steps : ℕ) (found : ByFamily X) (bytes : List ℕ)
       → members_by member steps found bytes
       ≡ (each_from behind steps (λ found. member (seen found)) found bytes >>= λ members. Ok (gather found members))
   unfolding members_by each_from
-  members_are zero found [] = refl
+  members_are zero found bytes = grind arith
   members_are (suc steps) found [] = refl
-  members_are zero found (b ∷ bytes) = refl
-  members_are (suc steps) found (b ∷ bytes) = then_members steps found (member (seen found) (b ∷ bytes)) (members_are steps)
+  members_are (suc steps) found (b ∷ bytes) = simp (members_are steps, bind_twice)
 
-  module _ (G : ByFamily X → List ℕ → AddressFamily × X → Type 0) (is : (found : ByFamily X) → IsReading (G found) (member (seen found))) (has : (found : ByFamily X) → HasOctets (G found)) where
+  module _ (G : ByFamily X → Grammar (AddressFamily × X)) (is : (found : ByFamily X) → IsReading (G found) (member (seen found))) (has : (found : ByFamily X) → HasOctets (G found)) where
     -- members that are gathered, one at least
     abbrev pub SaysMembers : List ℕ → ByFamily X → Type 0
     SaysMembers content fs = (members : List (AddressFamily × X)) × EachFrom behind G none_found content members × (members ≢ []) × (gather none_found members ≡ fs)
@@ -111,13 +93,13 @@ module _ {X : Type 0} (member : Bool × Bool → List ℕ → Result ((AddressFa
         (members_by member (length content) none_found content))
     members_check = record { takes = members_say; again = members_again }
 
-module _ {X : Type 0} (G : AddressFamily → List ℕ → X → Type 0) where
+module _ {X : Type 0} (G : AddressFamily → Grammar X) where
   -- a member has an octet at least
   pub member_has_octets : (before : Bool × Bool) → HasOctets (Refines IsSequence (SaysNew G before))
   member_has_octets before front member is = value_has_octets front 48 is.0 is.1
 
   -- members that are each new to those before them are members of which each family has one
-  abbrev New : ByFamily X → List ℕ → AddressFamily × X → Type 0
+  abbrev New : ByFamily X → Grammar (AddressFamily × X)
   New before = Refines IsSequence (SaysNew G (seen before))
 
   each_of_new : (members : List (AddressFamily × X)) (before : ByFamily X) (content : List ℕ) (fs : ByFamily X)
@@ -135,7 +117,7 @@ module _ {X : Type 0} (G : AddressFamily → List ℕ → X → Type 0) where
       grind (arith, new_of_each members (behind before m) rest fs more one.adds)
 
   -- a SEQUENCE of families
-  pub families_reading : (claim_at : AddressFamily → List ℕ → Result (X × List ℕ) DerError)
+  pub families_reading : (claim_at : AddressFamily → Reading X)
       → ((family : AddressFamily) → IsReading (G family) (claim_at family))
       → IsReading (IsFamilies G) (families_at claim_at)
   unfolding families_in
@@ -152,7 +134,7 @@ module _ {X : Type 0} (G : AddressFamily → List ℕ → X → Type 0) where
             check.again content fs (members, both.0, some, both.1);
       })
 
-module _ {X : Type 0} (G : AddressFamily → List ℕ → X → Type 0) where
+module _ {X : Type 0} (G : AddressFamily → Grammar X) where
   -- some octets are this claim of the family
   abbrev pub IsThere : AddressFamily → X → Type 0
   IsThere family x = (bytes : List ℕ) × G family bytes x

@@ -1,5 +1,5 @@
 -- The loop over the members: what was found, and what is left, give the whole.
-use Rattle.rpki_base.proofs.Common.{Bool, Err, List, Ok, Option, Result, [], ap, arith, length, refl, sym, ℕ, ◌<◌, ◌∙◌, ◌∷◌, ◌≡◌, ◌≢◌, ◌≤◌, is_some, shorter, IsBytes, IsSequence, Refines, IsReading, DerError, IfRefused, OrMemory, Memory, Refused, ByFamily, SaysByFamily, SaysOption, SaysClaim, member_at, members_by, seen, with_claim, AddressFamily}
+use Rattle.rpki_base.proofs.Common.{Bool, Err, List, Ok, Option, Result, [], ap, arith, length, refl, sym, ℕ, ◌<◌, ◌∙◌, ◌∷◌, ◌≡◌, ◌≢◌, ◌≤◌, is_some, shorter, IsBytes, IsSequence, Refines, IsReading, DerError, IfRefused, OrMemory, Memory, Refused, ByFamily, SaysByFamily, SaysOption, SaysClaim, member_at, members_by, seen, with_claim, AddressFamily, Grammar, Reading}
 use Rattle.rpki_base.proofs.FamiliesGathering.{member_has_octets}
 use Rattle.rpki_base.proofs.FamiliesMembers.{SaysNew, member_reading}
 
@@ -12,7 +12,7 @@ module _ {X Y : Type 0} (C : Y → X → Type 0) where
   pub same_seen : (before : ByFamily Y) (found : ByFamily X) → SaysByFamily C before found → seen before ≡ seen found
   same_seen before found says = let a = both_some before.0 found.0 says.0 in let b = both_some before.1 found.1 says.1 in λ i. (a i, b i)
 
-module _ {X Y : Type 0} (member_of : Bool × Bool → List ℕ → Result ((AddressFamily × Y) × List ℕ) DerError) (C : Y → X → Type 0) where
+module _ {X Y : Type 0} (member_of : Bool × Bool → Reading (AddressFamily × Y)) (C : Y → X → Type 0) where
   -- what was found stands for what was read before, and this and what is left give the whole
   pub record SoFar (found : ByFamily X) (bytes : List ℕ) (total : Result (ByFamily Y) DerError) : Type 0 where
     pub before : ByFamily Y
@@ -69,7 +69,7 @@ module _ {X Y : Type 0} (member_of : Bool × Bool → List ℕ → Result ((Addr
   loop_fails_or_memory found bytes total (Refused d) so some read = loop_fails found bytes total d so some read
   loop_fails_or_memory found bytes total (Memory a) so some read = tt
 
-module _ {X Y : Type 0} (G : AddressFamily → List ℕ → Y → Type 0) (claim_at : AddressFamily → List ℕ → Result (Y × List ℕ) DerError) (is : (family : AddressFamily) → IsReading (G family) (claim_at family)) where
+module _ {X Y : Type 0} (G : AddressFamily → Grammar Y) (claim_at : AddressFamily → Reading Y) (is : (family : AddressFamily) → IsReading (G family) (claim_at family)) where
   -- behind a member fewer octets are left
   pub fewer_left : (found : ByFamily X) (bytes : List ℕ) (read : AddressFamily × Y) (rest : List ℕ) → IsBytes bytes
       → member_at claim_at (seen found) bytes ≡ Ok (read, rest) → length rest < length bytes

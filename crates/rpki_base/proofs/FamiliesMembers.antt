@@ -1,20 +1,18 @@
 -- A member that is read is one of a family that wasn't there before, and each such member is read; strictly, of those
 -- that stand in order.
-use Rattle.rpki_base.proofs.Common.{Bool, Err, List, Ok, Result, [], ap, arith, cond, false, refl, true, ◌↔◌, sym, ℕ, ◌∙◌, ◌≡◌, append-nil, fits_content, fits_rest, refined_reading, tagged_reading, bind_ok, ok_is, passed, IsBytes, IsSequence, Refines, IsReading, ended, passing, tagged_at, ◌>>=◌, DerError, DuplicateFamily, SaysMember, is_in_order, member_at, member_by, member_in, member_in_by, was_seen, IsFamilyDer, family_at, AddressFamily}
+use Rattle.rpki_base.proofs.Common.{Bool, Err, List, Ok, Result, [], ap, arith, cond, false, refl, true, ◌↔◌, sym, ℕ, ◌∙◌, ◌≡◌, append-nil, fits_content, fits_rest, refined_reading, tagged_reading, bind_ok, ok_is, passed, IsBytes, IsSequence, Refines, IsReading, ended, passing, tagged_at, ◌>>=◌, DerError, DuplicateFamily, SaysMember, is_in_order, member_at, member_by, member_in, member_in_by, was_seen, IsFamilyDer, family_at, AddressFamily, Grammar, Reading}
 use Rattle.rpki_base.proofs.DerReadings.{ended_is}
 use Rattle.rpki_base.proofs.FamilyLemmas.{family_reading}
 
 -- a member of a family that wasn't there before
-abbrev pub SaysNew : {X : Type 0} → (AddressFamily → List ℕ → X → Type 0) → Bool × Bool → List ℕ → AddressFamily × X
-    → Type 0
+abbrev pub SaysNew : {X : Type 0} → (AddressFamily → Grammar X) → Bool × Bool → Grammar (AddressFamily × X)
 SaysNew G before content member = SaysMember G content member × (was_seen before member.0 ≡ false)
 
 -- and one that doesn't stand behind IPv6, if it is of IPv4
-abbrev pub SaysNext : {X : Type 0} → (AddressFamily → List ℕ → X → Type 0) → Bool × Bool → List ℕ → AddressFamily × X
-    → Type 0
+abbrev pub SaysNext : {X : Type 0} → (AddressFamily → Grammar X) → Bool × Bool → Grammar (AddressFamily × X)
 SaysNext G before content member = SaysNew G before content member × (is_in_order before member.0 ≡ true)
 
-module _ {X : Type 0} (G : AddressFamily → List ℕ → X → Type 0) (claim_at : AddressFamily → List ℕ → Result (X × List ℕ) DerError) (is : (family : AddressFamily) → IsReading (G family) (claim_at family)) where
+module _ {X : Type 0} (G : AddressFamily → Grammar X) (claim_at : AddressFamily → Reading X) (is : (family : AddressFamily) → IsReading (G family) (claim_at family)) where
   -- a member that is read is said by the content
   member_says : (before : Bool × Bool) (content : List ℕ) (member : AddressFamily × X) → IsBytes content
       → member_in claim_at before content ≡ Ok member → SaysNew G before content member

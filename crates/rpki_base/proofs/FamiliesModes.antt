@@ -1,9 +1,9 @@
 -- Families in either mode.
-use Rattle.rpki_base.proofs.Common.{Bool, List, None, Option, Result, Some, [], ap, arith, false, length, refl, subst, sym, true, ℕ, ◌++◌, ◌∙◌, ◌∷◌, ◌≡◌, ◌≢◌, append-nil, value_has_octets, bind_tightens, cond_tightens, each_tightens, looked_tightens, passing_tightens, same_found, fits_content, refined_reading, tagged_reading, EachFrom, Front, IsBytes, IsSequence, Refines, IsModal, Tightens, tagged_at, Lenient, is_strict, Cursor, DerError, OrMemory, TakesSaidOrMemory, AreInOrder, ByFamily, IsFamiliesInOrder, IsMember, families_at, families_by, families_in, families_in_by, member_at, member_by, member_in, member_in_by, none_found, seen, AddressFamily, Ipv4, Ipv6}
+use Rattle.rpki_base.proofs.Common.{Bool, List, None, Option, Result, Some, [], ap, arith, false, length, refl, subst, sym, true, ℕ, ◌++◌, ◌∙◌, ◌∷◌, ◌≡◌, ◌≢◌, append-nil, value_has_octets, bind_tightens, cond_tightens, each_tightens, looked_tightens, passing_tightens, same_found, fits_content, refined_reading, tagged_reading, EachFrom, Front, IsBytes, IsSequence, Refines, IsModal, Tightens, tagged_at, Lenient, is_strict, Cursor, DerError, OrMemory, TakesSaidOrMemory, AreInOrder, ByFamily, IsFamiliesInOrder, IsMember, families_at, families_by, families_in, families_in_by, member_at, member_by, member_in, member_in_by, none_found, seen, AddressFamily, Ipv4, Ipv6, Grammar, Reading}
 use Rattle.rpki_base.proofs.FamiliesGathering.{behind, gather, members_are, members_check}
 use Rattle.rpki_base.proofs.FamiliesMembers.{SaysNext, next_reading}
 
-module _ {X : Type 0} (strict : Bool) (by claim_at : AddressFamily → List ℕ → Result (X × List ℕ) DerError) (tight : (family : AddressFamily) (bytes : List ℕ) → Tightens strict (by family bytes) (claim_at family bytes)) where
+module _ {X : Type 0} (strict : Bool) (by claim_at : AddressFamily → Reading X) (tight : (family : AddressFamily) (bytes : List ℕ) → Tightens strict (by family bytes) (claim_at family bytes)) where
   -- the content of a member
   member_in_tightens : (before : Bool × Bool) (content : List ℕ)
       → Tightens strict (member_in_by strict by before content) (member_in claim_at before content)
@@ -28,10 +28,8 @@ module _ {X : Type 0} (strict : Bool) (by claim_at : AddressFamily → List ℕ 
   families_tighten bytes = looked_tightens strict (tagged_at 48) (families_in_by strict by) (families_in claim_at) families_in_tighten bytes
 
 -- a take from a cursor that isn't strict
-pub exact_families : {X Y : Type 0} (C : ByFamily Y → X → Type 0)
-    (claim_at : AddressFamily → List ℕ → Result (Y × List ℕ) DerError)
-    (by : Bool → AddressFamily → List ℕ → Result (Y × List ℕ) DerError) (old new : Cursor)
-    (result : Result X (OrMemory DerError))
+pub exact_families : {X Y : Type 0} (C : ByFamily Y → X → Type 0) (claim_at : AddressFamily → Reading Y)
+    (by : Bool → AddressFamily → Reading Y) (old new : Cursor) (result : Result X (OrMemory DerError))
     → ((family : AddressFamily) (bytes : List ℕ) → Tightens false (by false family bytes) (claim_at family bytes))
     → TakesSaidOrMemory C old new result (families_by (is_strict old) (by (is_strict old)))
     → Lenient old (TakesSaidOrMemory C old new result (families_at claim_at))
@@ -39,8 +37,8 @@ exact_families v0 claim_at by old new result tight took lenient = grind (arith, 
 
 -- ---- strictly
 
-module _ {X : Type 0} (S : AddressFamily → List ℕ → X → Type 0) where
-  abbrev Next : ByFamily X → List ℕ → AddressFamily × X → Type 0
+module _ {X : Type 0} (S : AddressFamily → Grammar X) where
+  abbrev Next : ByFamily X → Grammar (AddressFamily × X)
   Next before = Refines IsSequence (SaysNext S (seen before))
 
   -- what ends behind a member is that member
@@ -74,9 +72,8 @@ module _ {X : Type 0} (S : AddressFamily → List ℕ → X → Type 0) where
   )
 
 -- a SEQUENCE of families
-pub families_modal : {X : Type 0} (S : AddressFamily → List ℕ → X → Type 0)
-    (reading : AddressFamily → List ℕ → Result (X × List ℕ) DerError)
-    (by : Bool → AddressFamily → List ℕ → Result (X × List ℕ) DerError)
+pub families_modal : {X : Type 0} (S : AddressFamily → Grammar X) (reading : AddressFamily → Reading X)
+    (by : Bool → AddressFamily → Reading X)
     → ((family : AddressFamily) → IsModal (S family) (reading family) (λ strict. by strict family))
     → IsModal (IsFamiliesInOrder S) (families_at reading) (λ strict. families_by strict (by strict))
 unfolding families_in_by

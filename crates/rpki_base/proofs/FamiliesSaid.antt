@@ -1,139 +1,93 @@
 -- Families whose claims stand for others: what the families stand for is what they are with the
 -- claims that theirs stand for.
-use Rattle.rpki_base.proofs.Common.{List, None, Option, Result, Some, [], ap, arith, refl, subst, sym, ℕ, ◌∙◌, ◌∷◌, ◌≡◌, ◌≢◌, Each, OneFront, Refines, IsReading, DerError, AreGathered, ByFamily, IsFamilies, IsMember, SaysByFamily, SaysOption, claims_among, listed, families_at, AddressFamily, Ipv4, Ipv6}
+use Rattle.rpki_base.proofs.Common.{List, None, Option, Some, [], arith, refl, ℕ, ◌∷◌, ◌≡◌, ◌≢◌, Each, OneFront, Refines, IsReading, ByFamily, IsFamilies, IsMember, SaysByFamily, SaysOption, claims_among, listed, families_at, AddressFamily, Ipv4, Ipv6, Grammar, Reading}
 use Rattle.rpki_base.proofs.DerReadings.{one_front_said}
 use Rattle.rpki_base.proofs.FamiliesGathering.{families_reading}
 
--- the first of two lists that are one, and what follows it
-one_listed : {X : Type 0} (x : X) (xs : List X) (o : Option X) → x ∷ xs ≡ listed o → (o ≡ Some x) × (xs ≡ [])
-one_listed x xs v2 e = grind arith
-
--- nothing is listed of nothing
-none_listed : {X : Type 0} (o : Option X) → [] ≡ listed o → o ≡ None
-none_listed v0 e = grind arith
-
 module _ {X Y : Type 0} (C : Y → X → Type 0) where
-  -- what something stands for is something
-  says_some : (y : Y) (x : Option X) → SaysOption C (Some y) x → (z : X) × (x ≡ Some z) × C y z
-  says_some y v1 says = grind arith
-
-  -- what nothing stands for is nothing
-  says_none : (x : Option X) → SaysOption C None x → x ≡ None
-  says_none v0 says = grind arith
-
-  -- and the other way round
-  none_says : (y : Option Y) → SaysOption C y None → y ≡ None
-  none_says v0 says = grind arith
-
-  -- and so do families
+  -- families stand for at most one, where claims do
   pub one_by_family : ((y : Y) (a b : X) → C y a → C y b → a ≡ b) → (found : ByFamily Y) (a b : ByFamily X)
       → SaysByFamily C found a → SaysByFamily C found b → a ≡ b
   one_by_family one found a b says tells = grind arith
 
-module _ {X Y : Type 0} (G : AddressFamily → List ℕ → Y → Type 0) (C : Y → X → Type 0) where
+  -- the claims of a list stand for those of the other, one by one
+  abbrev Say : List Y → List X → Type 0
+  Say [] [] = Unit {0}
+  Say [] (x ∷ xs) = ⊥
+  Say (y ∷ ys) [] = ⊥
+  Say (y ∷ ys) (x ∷ xs) = C y x × Say ys xs
+
+  -- so what stands for something does as a list of one
+  says_listed : (o : Option Y) (x : Option X) → SaysOption C o x → Say (listed o) (listed x)
+  says_listed o x says = grind arith
+
+  -- and claims that stand for one at most are one at most
+  listed_says : (ys : List Y) (x : Option X) → Say ys (listed x) → (o : Option Y) × (ys ≡ listed o) × SaysOption C o x
+  listed_says [] None says = (None, refl, tt)
+  listed_says [] (Some x) says = absurd says
+  listed_says (y ∷ ys) None says = absurd says
+  listed_says (y ∷ []) (Some x) says = (Some y, refl, says.0)
+  listed_says (y ∷ z ∷ ys) (Some x) says = absurd says.1
+
+module _ {X Y : Type 0} (G : AddressFamily → Grammar Y) (C : Y → X → Type 0) where
   -- the claims of a family, as those that they stand for
-  abbrev Stands : AddressFamily → List ℕ → X → Type 0
+  abbrev Stands : AddressFamily → Grammar X
   Stands family = Refines (G family) C
 
-  -- members with what their claims stand for; where there were some, there are some
-  record Told (content : List ℕ) (before : List (AddressFamily × Y)) (fs : ByFamily X) : Type 0 where
-    pub members : List (AddressFamily × X)
-    pub all : Each (IsMember Stands) content members
-    pub gathered : AreGathered members fs
-    pub some : before ≢ [] → members ≢ []
-
-  -- what members and what they gather stand for
-  told : (members : List (AddressFamily × Y)) (content : List ℕ) (y4 y6 : Option Y) (x4 x6 : Option X)
-      → Each (IsMember G) content members → AreGathered members (y4, y6) → SaysOption C y4 x4 → SaysOption C y6 x6
-      → Told content members (x4, x6)
-  told [] content y4 y6 x4 x6 all gathered v4 v6 =
-      let a : x4 ≡ None = says_none C x4 (subst (λ y. SaysOption C y x4) (none_listed y4 (gathered Ipv4)) v4) in
-      let b : x6 ≡ None = says_none C x6 (subst (λ y. SaysOption C y x6) (none_listed y6 (gathered Ipv6)) v6) in
-      record { members = []; all = all; gathered = elim [ Ipv4 ↦ ap listed (sym a) | Ipv6 ↦ ap listed (sym b) ]; some = λ some. absurd (some refl) }
-  told ((Ipv4, y) ∷ members) content y4 y6 x4 x6 (rest, (front, (inner, is, (after, first, claim)), at), all) gathered v4 v6 =
-      let one = one_listed y (claims_among Ipv4 members) y4 (gathered Ipv4) in
-      let x = says_some C y x4 (subst (λ y. SaysOption C y x4) one.0 v4) in
-      let others = told members rest None y6 None x6 all (elim [ Ipv4 ↦ one.1 | Ipv6 ↦ gathered Ipv6 ]) tt v6 in record {
-        members = (Ipv4, x.0) ∷ others.members;
-        all = (rest, (front, (inner, is, (after, first, (y, claim, x.2))), at), others.all);
-        gathered = elim [ Ipv4 ↦ ap (λ (t : List X). x.0 ∷ t) (others.gathered Ipv4) ∙ ap listed (sym x.1) | Ipv6 ↦ others.gathered Ipv6 ];
-        some = λ some none. absurd cc;
-      }
-  told ((Ipv6, y) ∷ members) content y4 y6 x4 x6 (rest, (front, (inner, is, (after, first, claim)), at), all) gathered v4 v6 =
-      let one = one_listed y (claims_among Ipv6 members) y6 (gathered Ipv6) in
-      let x = says_some C y x6 (subst (λ y. SaysOption C y x6) one.0 v6) in
-      let others = told members rest y4 None x4 None all (elim [ Ipv4 ↦ gathered Ipv4 | Ipv6 ↦ one.1 ]) v4 tt in record {
-        members = (Ipv6, x.0) ∷ others.members;
-        all = (rest, (front, (inner, is, (after, first, (y, claim, x.2))), at), others.all);
-        gathered = elim [ Ipv4 ↦ others.gathered Ipv4 | Ipv6 ↦ ap (λ (t : List X). x.0 ∷ t) (others.gathered Ipv6) ∙ ap listed (sym x.1) ];
-        some = λ some none. absurd cc;
-      }
+  -- members with the claims that theirs stand for; where there were some, there are some
+  told : (members : List (AddressFamily × Y)) (content : List ℕ) (v4 v6 : List X) → Each (IsMember G) content members
+      → Say C (claims_among Ipv4 members) v4 → Say C (claims_among Ipv6 members) v6
+      → (others : List (AddressFamily × X)) × Each (IsMember Stands) content others × (claims_among Ipv4 others ≡ v4)
+      × (claims_among Ipv6 others ≡ v6) × (members ≢ [] → others ≢ [])
+  told [] content [] [] all first second = ([], all, refl, refl, λ some. absurd (some refl))
+  told [] content (x ∷ v4) v6 all first second = absurd first
+  told [] content [] (x ∷ v6) all first second = absurd second
+  told ((Ipv4, y) ∷ members) content [] v6 all first second = absurd first
+  told ((Ipv6, y) ∷ members) content v4 [] all first second = absurd second
+  told ((Ipv4, y) ∷ members) content (x ∷ v4) v6 (rest, (front, (inner, is, (after, at, claim)), cut), all) one other =
+      let more = told members rest v4 v6 all one.1 other in
+      let member : IsMember Stands front (Ipv4, x) = (inner, is, (after, at, (y, claim, one.0))) in
+      ((Ipv4, x) ∷ more.0, (rest, (front, member, cut), more.1), cc, more.3, λ some none. absurd cc)
+  told ((Ipv6, y) ∷ members) content v4 (x ∷ v6) (rest, (front, (inner, is, (after, at, claim)), cut), all) one other =
+      let more = told members rest v4 v6 all one other.1 in
+      let member : IsMember Stands front (Ipv6, x) = (inner, is, (after, at, (y, claim, other.0))) in
+      ((Ipv6, x) ∷ more.0, (rest, (front, member, cut), more.1), more.2, cc, λ some none. absurd cc)
 
   -- families that stand for others are families with those claims
   pub stands_for : (bytes : List ℕ) (fs : ByFamily X) → Refines (IsFamilies G) (SaysByFamily C) bytes fs
       → IsFamilies Stands bytes fs
   stands_for bytes fs (found, (content, is, (members, all, some, gathered)), says) =
-      let t = told members content found.0 found.1 fs.0 fs.1 all gathered says.0 says.1 in
-      (content, is, (t.members, t.all, t.some some, t.gathered))
+      let v4 = says_listed C found.0 fs.0 says.0 in
+      let v6 = says_listed C found.1 fs.1 says.1 in
+      let t = told members content (listed fs.0) (listed fs.1) all (rw (gathered Ipv4) v4) (rw (gathered Ipv6) v6) in
+      (content, is, (t.0, t.1, t.4 some, elim [ Ipv4 ↦ t.2 | Ipv6 ↦ t.3 ]))
 
-  -- what members stand for, each by its claim
-  record Found (content : List ℕ) (after : List (AddressFamily × X)) (fs : ByFamily X) : Type 0 where
-    pub members : List (AddressFamily × Y)
-    pub v4 : Option Y
-    pub v6 : Option Y
-    pub all : Each (IsMember G) content members
-    pub gathered : AreGathered members (v4, v6)
-    pub says : SaysByFamily C (v4, v6) fs
-    pub some : after ≢ [] → members ≢ []
-
-  -- members whose claims stand for these
-  found : (members : List (AddressFamily × X)) (content : List ℕ) (x4 x6 : Option X)
-      → Each (IsMember Stands) content members → AreGathered members (x4, x6) → Found content members (x4, x6)
-  found [] content x4 x6 all gathered =
-      let a : x4 ≡ None = none_listed x4 (gathered Ipv4) in
-      let b : x6 ≡ None = none_listed x6 (gathered Ipv6) in record {
-        members = [];
-        v4 = None;
-        v6 = None;
-        all = all;
-        gathered = elim [ Ipv4 ↦ refl | Ipv6 ↦ refl ];
-        says = (subst (λ x. SaysOption C None x) (sym a) tt, subst (λ x. SaysOption C None x) (sym b) tt);
-        some = λ some. absurd (some refl);
-      }
-  found ((Ipv4, x) ∷ members) content x4 x6 (rest, (front, (inner, is, (after, first, (y, claim, says))), at), all) gathered =
-      let one = one_listed x (claims_among Ipv4 members) x4 (gathered Ipv4) in
-      let others = found members rest None x6 all (elim [ Ipv4 ↦ one.1 | Ipv6 ↦ gathered Ipv6 ]) in
-      let none : others.v4 ≡ None = none_says C others.v4 others.says.0 in record {
-        members = (Ipv4, y) ∷ others.members;
-        v4 = Some y;
-        v6 = others.v6;
-        all = (rest, (front, (inner, is, (after, first, claim)), at), others.all);
-        gathered = elim [ Ipv4 ↦ ap (λ (t : List Y). y ∷ t) (others.gathered Ipv4 ∙ ap listed none) | Ipv6 ↦ others.gathered Ipv6 ];
-        says = (subst (λ o. SaysOption C (Some y) o) (sym one.0) says, others.says.1);
-        some = λ some none. absurd cc;
-      }
-  found ((Ipv6, x) ∷ members) content x4 x6 (rest, (front, (inner, is, (after, first, (y, claim, says))), at), all) gathered =
-      let one = one_listed x (claims_among Ipv6 members) x6 (gathered Ipv6) in
-      let others = found members rest x4 None all (elim [ Ipv4 ↦ gathered Ipv4 | Ipv6 ↦ one.1 ]) in
-      let none : others.v6 ≡ None = none_says C others.v6 others.says.1 in record {
-        members = (Ipv6, y) ∷ others.members;
-        v4 = others.v4;
-        v6 = Some y;
-        all = (rest, (front, (inner, is, (after, first, claim)), at), others.all);
-        gathered = elim [ Ipv4 ↦ others.gathered Ipv4 | Ipv6 ↦ ap (λ (t : List Y). y ∷ t) (others.gathered Ipv6 ∙ ap listed none) ];
-        says = (others.says.0, subst (λ o. SaysOption C (Some y) o) (sym one.0) says);
-        some = λ some none. absurd cc;
-      }
+  -- members whose claims stand for those of these
+  found : (others : List (AddressFamily × X)) (content : List ℕ) → Each (IsMember Stands) content others
+      → (members : List (AddressFamily × Y)) × Each (IsMember G) content members
+      × Say C (claims_among Ipv4 members) (claims_among Ipv4 others)
+      × Say C (claims_among Ipv6 members) (claims_among Ipv6 others) × (others ≢ [] → members ≢ [])
+  found [] content all = ([], all, tt, tt, λ some. absurd (some refl))
+  found ((Ipv4, x) ∷ others) content (rest, (front, (inner, is, (after, at, (y, claim, says))), split), all) =
+      let more = found others rest all in
+      let member : IsMember G front (Ipv4, y) = (inner, is, (after, at, claim)) in
+      ((Ipv4, y) ∷ more.0, (rest, (front, member, split), more.1), (says, more.2), more.3, λ some none. absurd cc)
+  found ((Ipv6, x) ∷ others) content (rest, (front, (inner, is, (after, at, (y, claim, says))), split), all) =
+      let more = found others rest all in
+      let member : IsMember G front (Ipv6, y) = (inner, is, (after, at, claim)) in
+      ((Ipv6, y) ∷ more.0, (rest, (front, member, split), more.1), more.2, (says, more.3), λ some none. absurd cc)
 
   -- and families with claims that others stand for are what those families stand for
   pub stood_for : (bytes : List ℕ) (fs : ByFamily X) → IsFamilies Stands bytes fs
       → Refines (IsFamilies G) (SaysByFamily C) bytes fs
-  stood_for bytes fs (content, is, (members, all, some, gathered)) =
-      let t = found members content fs.0 fs.1 all gathered in
-      ((t.v4, t.v6), (content, is, (t.members, t.all, t.some some, t.gathered)), t.says)
+  stood_for bytes fs (content, is, (others, all, some, gathered)) =
+      let t = found others content all in
+      let v4 = listed_says C (claims_among Ipv4 t.0) fs.0 (rw (gathered Ipv4) at t.2) in
+      let v6 = listed_says C (claims_among Ipv6 t.0) fs.1 (rw (gathered Ipv6) at t.3) in
+      ((v4.0, v6.0), (content, is, (t.0, t.1, t.4 some, elim [ Ipv4 ↦ v4.1 | Ipv6 ↦ v6.1 ])), (v4.2, v6.2))
 
   -- octets begin with at most one SEQUENCE of families, which have one claim each
-  pub one_families : (claim_at : AddressFamily → List ℕ → Result (Y × List ℕ) DerError)
+  pub one_families : (claim_at : AddressFamily → Reading Y)
       → ((family : AddressFamily) → IsReading (G family) (claim_at family))
       → ((y : Y) (a b : X) → C y a → C y b → a ≡ b) → OneFront (IsFamilies Stands)
   one_families claim_at reading one a b x y r s is also =

@@ -1,12 +1,12 @@
 -- What is written of families, each with its claim, is a SEQUENCE of them.
-use Rattle.rpki_base.proofs.Common.{List, None, Option, Some, [], arith, length, refl, sym, ℕ, ◌++◌, ◌<◌, ◌^◌, ◌∷◌, ◌≡◌, ◌≢◌, append-nil, length-append, IfSome, value_is, sequence_value, ByFamily, IsFamilies, IsMember, SaysFamilies, families_der, member_der, option_der, AddressFamily, Ipv4, Ipv6}
+use Rattle.rpki_base.proofs.Common.{List, None, Option, Some, [], arith, length, refl, sym, ℕ, ◌++◌, ◌<◌, ◌^◌, ◌∷◌, ◌≡◌, ◌≢◌, append-nil, length-append, IfSome, value_is, sequence_value, ByFamily, IsFamilies, IsMember, SaysFamilies, families_der, member_der, option_der, AddressFamily, Ipv4, Ipv6, Grammar}
 use Rattle.rpki_base.proofs.FamilyLemmas.{family_written}
 
 -- a SEQUENCE is longer than what is in it
 pub content_shorter : (content : List ℕ) → length (sequence_value content) < 2 ^ 64 → length content < 2 ^ 64
 content_shorter content short = grind (arith, length-append)
 
-module _ {X : Type 0} (G : AddressFamily → List ℕ → X → Type 0) (octets : X → List ℕ) where
+module _ {X : Type 0} (G : AddressFamily → Grammar X) (octets : X → List ℕ) where
   -- what is written of a claim, in fewer octets than a length can tell, is the claim
   abbrev pub Writes : AddressFamily → X → Type 0
   Writes family x = length (octets x) < 2 ^ 64 → G family (octets x) x

@@ -19,5 +19,4 @@ pub mod FamilyLemmas
 pub mod SaidInModes
 pub mod SmallSetLemmas
 pub mod WalkLemmas
-pub mod WalkSizes
 pub mod WritingLemmas

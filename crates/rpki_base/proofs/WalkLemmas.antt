@@ -1,5 +1,5 @@
 -- A walk over two ascending lists gives the wanted numbers of both, ascending.
-use Rattle.rpki_base.proofs.Common.{Bool, Contains, IsTrue, List, [], add-one, arith, get_or, inl, inr, le-ltb, length, lt-ltb, subst, suc, zero, ℕ, ◌<◌, ◌↔◌, ◌∷◌, ◌≡◌, ◌⊎◌, cases_eq, cases_lt, AllByRecursion, IsStrictlyIncreasing, all_kept, kept_items, walk, walk_step, Wanted}
+use Rattle.rpki_base.proofs.Common.{Contains, IsTrue, List, [], add-one, arith, false, get_or, inl, inr, le-ltb, length, lt-ltb, suc, zero, ℕ, ◌+◌, ◌<◌, ◌↔◌, ◌∷◌, ◌≡◌, ◌≤◌, ◌⊎◌, cases_eq, AllByRecursion, IsStrictlyIncreasing, all_kept, kept_items, walk, walk_step, Wanted}
 
 -- n is one of the numbers
 abbrev pub Among : ℕ → List ℕ → Type 0
@@ -60,17 +60,28 @@ IsStrictlyIncreasing-rises [] h k small = absurd (omega (arith, small))
 IsStrictlyIncreasing-rises (x ∷ xs) h zero small = first_above x xs h.0 (omega (arith, small))
 IsStrictlyIncreasing-rises (x ∷ xs) h (suc k) small = grind (arith, IsStrictlyIncreasing-rises xs h.1 k (omega (arith, small)))
 
-above_kept : (b : Bool) (m x : ℕ) (zs : List ℕ) → m < x → Above m zs → Above m (kept_items b x zs)
-above_kept v0 m x zs less h = grind arith
+-- ---- a walk
 
-above_all_kept : (b : Bool) (m : ℕ) (zs : List ℕ) → Above m zs → Above m (all_kept b zs)
-above_all_kept v0 m zs h = grind arith
+-- P holds of two lists and what a walk over them gives: where one list is at its end, and with each turn
+record Turns (wanted : Wanted) (P : List ℕ → List ℕ → List ℕ → Type 0) : Type 0 where
+  all_left : (x : ℕ) (xs : List ℕ) → P (x ∷ xs) [] (all_kept wanted.left (x ∷ xs))
+  all_right : (ys : List ℕ) → P [] ys (all_kept wanted.right ys)
+  left : (x y : ℕ) (xs ys zs : List ℕ) → x < y → P xs (y ∷ ys) zs → P (x ∷ xs) (y ∷ ys) (kept_items wanted.left x zs)
+  right : (x y : ℕ) (xs ys zs : List ℕ) → y < x → P (x ∷ xs) ys zs → P (x ∷ xs) (y ∷ ys) (kept_items wanted.right y zs)
+  both : (x y : ℕ) (xs ys zs : List ℕ) → x ≡ y → P xs ys zs → P (x ∷ xs) (y ∷ ys) (kept_items wanted.both x zs)
 
-rises_kept : (b : Bool) (x : ℕ) (zs : List ℕ) → Above x zs → Rises zs → Rises (kept_items b x zs)
-rises_kept v0 x zs h k = grind arith
+module _ (wanted : Wanted) (P : List ℕ → List ℕ → List ℕ → Type 0) (turns : Turns wanted P) where
+  -- a walk from x on, where `others` walks over what follows x and a list
+  step_has : (x : ℕ) (xs : List ℕ) (others : List ℕ → List ℕ) → ((ys : List ℕ) → P xs ys (others ys)) → (ys : List ℕ)
+      → P (x ∷ xs) ys (walk_step wanted x xs others ys)
+  step_has x xs others have [] = turns.all_left x xs
+  step_has x xs others have (y ∷ ys) =
+      grind (arith, le-ltb, lt-ltb, turns.left, turns.right, turns.both, step_has x xs others have ys)
 
-rises_all_kept : (b : Bool) (zs : List ℕ) → Rises zs → Rises (all_kept b zs)
-rises_all_kept v0 zs h = grind arith
+  -- so it holds of every walk
+  walk_has : (xs ys : List ℕ) → P xs ys (walk wanted xs ys)
+  walk_has [] ys = turns.all_right ys
+  walk_has (x ∷ xs) ys = step_has x xs (walk wanted xs) (walk_has xs) ys
 
 -- n is wanted, by the lists that it is among
 abbrev pub IsWanted : Wanted → List ℕ → List ℕ → ℕ → Type 0
@@ -79,71 +90,18 @@ IsWanted wanted xs ys n =
     ⊎ ((IsTrue wanted.both × Among n xs × Among n ys)
     ⊎ (IsTrue wanted.right × (¬ Among n xs) × Among n ys))
 
--- one turn: the least number x is of the left list alone
-module _ (wanted : Wanted) (x n : ℕ) (xs ys zs : List ℕ) (before : Above x ys) (rest : Among n zs ↔ IsWanted wanted xs ys n) where
-  left_turn : Among n (kept_items wanted.left x zs) ↔ IsWanted wanted (x ∷ xs) ys n
-  left_turn = grind (arith, above_is)
+-- What a walk gives of two lists: of rising ones the wanted numbers, which rise; none that isn't above what is below
+-- both lists; and no more than both have, or than the one has, where none of the other alone is wanted.
+pub record IsWalk (wanted : Wanted) (xs ys zs : List ℕ) : Type 0 where
+  pub above : (m : ℕ) → Above m xs → Above m ys → Above m zs
+  pub rises : Rises xs → Rises ys → Rises zs
+  pub among : Rises xs → Rises ys → (n : ℕ) → Among n zs ↔ IsWanted wanted xs ys n
+  pub few : length zs ≤ length xs + length ys
+  pub few_of_left : wanted.right ≡ false → length zs ≤ length xs
+  pub few_of_right : wanted.left ≡ false → length zs ≤ length ys
 
--- one turn: the least number y is of the right list alone
-module _ (wanted : Wanted) (y n : ℕ) (xs ys zs : List ℕ) (before : Above y xs) (rest : Among n zs ↔ IsWanted wanted xs ys n) where
-  right_turn : Among n (kept_items wanted.right y zs) ↔ IsWanted wanted xs (y ∷ ys) n
-  right_turn = grind (arith, above_is)
+turns_are : (wanted : Wanted) → Turns wanted (IsWalk wanted)
+turns_are wanted = grind (arith, above_is, above_more)
 
--- one turn: both lists begin with it
-module _ (wanted : Wanted) (x y n : ℕ) (xs ys zs : List ℕ) (same : x ≡ y) (above_left : Above x xs) (above_right : Above y ys) (rest : Among n zs ↔ IsWanted wanted xs ys n) where
-  both_turn : Among n (kept_items wanted.both x zs) ↔ IsWanted wanted (x ∷ xs) (y ∷ ys) n
-  both_turn = grind (arith, above_is)
-
--- a walk from x on, where `others` walks over what follows x and a list: it gives the wanted numbers
-module _ (wanted : Wanted) (x : ℕ) (xs : List ℕ) (others : List ℕ → List ℕ) (above : Above x xs) (others_are : (ys : List ℕ) → Rises ys → (n : ℕ) → Among n (others ys) ↔ IsWanted wanted xs ys n) where
-  step_is : (ys : List ℕ) → Rises ys → (n : ℕ)
-      → Among n (walk_step wanted x xs others ys) ↔ IsWanted wanted (x ∷ xs) ys n
-  step_is [] h n = grind arith
-  step_is (y ∷ ys) h n = elim (cases_lt x y) [
-    | inl less ↦ rw (lt-ltb x y less) (left_turn wanted x n xs (y ∷ ys) (others (y ∷ ys)) (less, above_more x y ys less h.0) (others_are (y ∷ ys) h n))
-    | inr least ↦ elim (cases_lt y x) [
-      | inl more ↦ rw (le-ltb x y least, lt-ltb y x more) (right_turn wanted y n (x ∷ xs) ys (walk_step wanted x xs others ys) (more, above_more y x xs more above) (step_is ys h.1 n))
-      | inr most ↦ rw (le-ltb x y least, le-ltb y x most) (both_turn wanted x y n xs ys (others ys) (omega (arith, least, most)) above h.0 (others_are ys h.1 n))
-    ]
-  ]
-
--- it stays above what is below both lists
-module _ (wanted : Wanted) (x : ℕ) (xs : List ℕ) (others : List ℕ → List ℕ) (others_above : (m : ℕ) (ys : List ℕ) → Above m xs → Above m ys → Above m (others ys)) where
-  step_above : (m : ℕ) (ys : List ℕ) → m < x → Above m xs → Above m ys → Above m (walk_step wanted x xs others ys)
-  step_above m [] less h k = above_all_kept wanted.left m (x ∷ xs) (less, h)
-  step_above m (y ∷ ys) less h k = elim (cases_lt x y) [
-    | inl before ↦ rw (lt-ltb x y before) (above_kept wanted.left m x (others (y ∷ ys)) less (others_above m (y ∷ ys) h k))
-    | inr least ↦ elim (cases_lt y x) [
-      | inl more ↦ rw (le-ltb x y least, lt-ltb y x more) (above_kept wanted.right m y (walk_step wanted x xs others ys) k.0 (step_above m ys less h k.1))
-      | inr most ↦ rw (le-ltb x y least, le-ltb y x most) (above_kept wanted.both m x (others ys) less (others_above m ys h k.1))
-    ]
-  ]
-
--- and it rises
-module _ (wanted : Wanted) (x : ℕ) (xs : List ℕ) (others : List ℕ → List ℕ) (above : Above x xs) (others_above : (m : ℕ) (ys : List ℕ) → Above m xs → Above m ys → Above m (others ys)) (others_rise : (ys : List ℕ) → Rises ys → Rises (others ys)) where
-  step_rises : Rises xs → (ys : List ℕ) → Rises ys → Rises (walk_step wanted x xs others ys)
-  step_rises r [] h = rises_all_kept wanted.left (x ∷ xs) (above, r)
-  step_rises r (y ∷ ys) h = elim (cases_lt x y) [
-    | inl before ↦ rw (lt-ltb x y before) (rises_kept wanted.left x (others (y ∷ ys)) (others_above x (y ∷ ys) above (before, above_more x y ys before h.0)) (others_rise (y ∷ ys) h))
-    | inr least ↦ elim (cases_lt y x) [
-      | inl more ↦ rw (le-ltb x y least, lt-ltb y x more) (rises_kept wanted.right y (walk_step wanted x xs others ys) (step_above wanted x xs others others_above y ys more (above_more y x xs more above) h.0) (step_rises r ys h.1))
-      | inr most ↦ (
-          let same : y ≡ x = omega (arith, least, most) in
-          rw (le-ltb x y least, le-ltb y x most) (rises_kept wanted.both x (others ys) (others_above x ys above (subst (λ m. Above m ys) same h.0)) (others_rise ys h.1)))
-    ]
-  ]
-
--- a walk gives the wanted numbers, ascending
-walk_above : (wanted : Wanted) (xs : List ℕ) (m : ℕ) (ys : List ℕ) → Above m xs → Above m ys
-    → Above m (walk wanted xs ys)
-walk_above wanted [] m ys h k = above_all_kept wanted.right m ys k
-walk_above wanted (x ∷ xs) m ys h k = step_above wanted x xs (walk wanted xs) (walk_above wanted xs) m ys h.0 h.1 k
-
-pub walk_rises : (wanted : Wanted) (xs ys : List ℕ) → Rises xs → Rises ys → Rises (walk wanted xs ys)
-walk_rises wanted [] ys h k = rises_all_kept wanted.right ys k
-walk_rises wanted (x ∷ xs) ys h k = step_rises wanted x xs (walk wanted xs) h.0 (walk_above wanted xs) (λ others r. walk_rises wanted xs others h.1 r) h.1 ys k
-
-pub walk_is : (wanted : Wanted) (xs ys : List ℕ) → Rises xs → Rises ys → (n : ℕ)
-    → Among n (walk wanted xs ys) ↔ IsWanted wanted xs ys n
-walk_is wanted [] ys h k n = grind arith
-walk_is wanted (x ∷ xs) ys h k n = step_is wanted x xs (walk wanted xs) h.0 (λ others r m. walk_is wanted xs others h.1 r m) ys k n
+pub walk_is : (wanted : Wanted) (xs ys : List ℕ) → IsWalk wanted xs ys (walk wanted xs ys)
+walk_is wanted = walk_has wanted (IsWalk wanted) (turns_are wanted)

@@ -101,6 +101,7 @@ impl<A: Allocator> SmallAsnSet<A> {
     }
 
     /// The AS numbers that are in this set and not in the other.
+    #[tactic(auto, using(crate::proofs::WalkLemmas::walk_is))]
     pub fn difference<'a>(&'a self, other: &'a SmallAsnSet<A>) -> SmallSetDifference<'a>
         ensures set { IsSmallSetOf (IsInFirstAlone self.now other.now) result }
         ensures few { length result ≤ length self.now }
@@ -110,6 +111,7 @@ impl<A: Allocator> SmallAsnSet<A> {
     }
 
     /// The AS numbers that are in exactly one of the sets.
+    #[tactic(auto, using(crate::proofs::WalkLemmas::walk_is))]
     pub fn symmetric_difference<'a>(
         &'a self,
         other: &'a SmallAsnSet<A>,
@@ -122,6 +124,7 @@ impl<A: Allocator> SmallAsnSet<A> {
     }
 
     /// The AS numbers that are in both sets.
+    #[tactic(auto, using(crate::proofs::WalkLemmas::walk_is))]
     pub fn intersection<'a>(&'a self, other: &'a SmallAsnSet<A>) -> SmallSetIntersection<'a>
         ensures set { IsSmallSetOf (IsInBoth self.now other.now) result }
         ensures few { length result ≤ length self.now }
@@ -132,6 +135,7 @@ impl<A: Allocator> SmallAsnSet<A> {
     }
 
     /// The AS numbers that are in one of the sets, or in both.
+    #[tactic(auto, using(crate::proofs::WalkLemmas::walk_is))]
     pub fn union<'a>(&'a self, other: &'a SmallAsnSet<A>) -> SmallSetUnion<'a>
         ensures set { IsSmallSetOf (IsInEither self.now other.now) result }
         ensures few { length result ≤ length self.now + length other.now }

@@ -11,3 +11,4 @@ pub use Rattle.rpki_der.specs.Views.{Lenient, NotCanonicalInOr, NotCanonicalOr, 
 pub use Rattle.rpki_der.specs.declared.cursor.Cursor.{Cursor}
 pub use Rattle.rpki_der.specs.declared.error.DerError.{DerError}
 pub use Rattle.rpki_der.specs.declared.error.DerError.TheVariants.{BadTag, NotCanonical, Truncated}
+pub use Rattle.rpki_der.proofs.Words.{Grammar, Reading}

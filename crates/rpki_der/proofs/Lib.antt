@@ -1,3 +1,4 @@
+pub mod Words
 pub mod Common
 pub mod Steps
 pub mod Numbers

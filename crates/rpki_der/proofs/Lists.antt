@@ -1,10 +1,10 @@
 -- Values one after another to the end of the octets, each read in the state that the values before it led to.
-use Rattle.rpki_der.proofs.Common.{Err, List, None, Ok, Option, Result, Some, [], ap, append_assoc, arith, length, refl, subst, suc, sym, zero, ℕ, ◌++◌, ◌<◌, ◌∙◌, ◌∷◌, ◌≡◌, ◌≢◌, ◌≤◌, append-nil, length-append, EachFrom, Front, IsBytes, IsValue, header, IsReading, each_from, optional, ◌>>=◌, DerError}
+use Rattle.rpki_der.proofs.Common.{Err, List, None, Ok, Option, Result, Some, [], ap, append_assoc, arith, length, refl, subst, suc, sym, zero, ℕ, ◌++◌, ◌<◌, ◌∙◌, ◌∷◌, ◌≡◌, ◌≢◌, ◌≤◌, append-nil, length-append, EachFrom, Front, IsBytes, IsValue, header, IsReading, each_from, optional, ◌>>=◌, DerError, Grammar, Reading}
 use Rattle.rpki_der.proofs.Steps.{bind_ok, ok_is}
 use Rattle.rpki_der.proofs.Readings.{fits_rest}
 
 -- a value has an octet
-abbrev pub HasOctets : {X : Type 0} → (List ℕ → X → Type 0) → Type 0
+abbrev pub HasOctets : {X : Type 0} → Grammar X → Type 0
 HasOctets {X} G = (front : List ℕ) (x : X) → G front x → 0 < length front
 
 -- the tag octet is one
@@ -13,23 +13,22 @@ unfolding header
 value_has_octets bytes tag content is = rw is.spelled (omega arith)
 
 -- behind a value fewer octets are left
-pub shorter : {X : Type 0} (G : List ℕ → X → Type 0) → HasOctets G → (bytes : List ℕ) (x : X) (rest : List ℕ)
+pub shorter : {X : Type 0} (G : Grammar X) → HasOctets G → (bytes : List ℕ) (x : X) (rest : List ℕ)
     → Front G bytes x rest → length rest < length bytes
 shorter G has bytes x rest found = let some = has found.0 x found.1 in omega (arith, length-append found.0 rest, ap length found.2)
 
 -- ---- the reading and the grammar
 
 -- at the end nothing more is read
-pub each-nil : {S X : Type 0} (next : S → X → S) (steps : ℕ) (reading : S → List ℕ → Result (X × List ℕ) DerError)
-    (state : S) → each_from next steps reading state [] ≡ Ok []
+pub each-nil : {S X : Type 0} (next : S → X → S) (steps : ℕ) (reading : S → Reading X) (state : S)
+    → each_from next steps reading state [] ≡ Ok []
 unfolding each_from
 each-nil next steps reading state = grind arith
 
 -- values that are read are those of the grammar
-pub each_takes : {S X : Type 0} (next : S → X → S) (G : S → List ℕ → X → Type 0)
-    (reading : S → List ℕ → Result (X × List ℕ) DerError) → ((state : S) → IsReading (G state) (reading state))
-    → (steps : ℕ) (state : S) (bytes : List ℕ) (xs : List X) → IsBytes bytes
-    → each_from next steps reading state bytes ≡ Ok xs → EachFrom next G state bytes xs
+pub each_takes : {S X : Type 0} (next : S → X → S) (G : S → Grammar X) (reading : S → Reading X)
+    → ((state : S) → IsReading (G state) (reading state)) → (steps : ℕ) (state : S) (bytes : List ℕ) (xs : List X)
+    → IsBytes bytes → each_from next steps reading state bytes ≡ Ok xs → EachFrom next G state bytes xs
 unfolding each_from
 each_takes next G reading is zero state [] xs fits e = subst (EachFrom next G state []) (ok_is [] xs e) refl
 each_takes next G reading is (suc steps) state [] xs fits e = subst (EachFrom next G state []) (ok_is [] xs e) refl
@@ -41,10 +40,10 @@ each_takes next G reading is (suc steps) state (b ∷ bytes) xs fits e =
     grind (arith, fits_rest, ok_is, each_takes next G reading is steps (next state first.0.0) first.0.1 others.0 (fits_rest (G state) (b ∷ bytes) first.0.0 first.0.1 found fits) others.1)
 
 -- values of the grammar are read
-pub each_again : {S X : Type 0} (next : S → X → S) (G : S → List ℕ → X → Type 0)
-    (reading : S → List ℕ → Result (X × List ℕ) DerError) → ((state : S) → IsReading (G state) (reading state))
-    → ((state : S) → HasOctets (G state)) → (xs : List X) (steps : ℕ) (state : S) (bytes : List ℕ)
-    → length bytes ≤ steps → EachFrom next G state bytes xs → each_from next steps reading state bytes ≡ Ok xs
+pub each_again : {S X : Type 0} (next : S → X → S) (G : S → Grammar X) (reading : S → Reading X)
+    → ((state : S) → IsReading (G state) (reading state)) → ((state : S) → HasOctets (G state))
+    → (xs : List X) (steps : ℕ) (state : S) (bytes : List ℕ) → length bytes ≤ steps → EachFrom next G state bytes xs
+    → each_from next steps reading state bytes ≡ Ok xs
 unfolding each_from
 each_again next G reading is has [] steps state bytes le all = ap (each_from next steps reading state) all ∙ each-nil next steps reading state
 each_again next G reading is has (x ∷ xs) steps state [] le all =
@@ -74,9 +73,9 @@ with_one : {X : Type 0} (front : List X) (x : X) (read : Result (List X) DerErro
 with_one front x read = grind (arith, append_assoc)
 
 -- a turn, by the steps that are left
-more_by : {S X : Type 0} (next : S → X → S) (reading : S → List ℕ → Result (X × List ℕ) DerError) (front : List X)
-    (state : S) (b : ℕ) (bytes : List ℕ) (total : Result (List X) DerError) (x : X) (rest : List ℕ) (steps : ℕ)
-    → length (b ∷ bytes) ≤ steps → with_front front (each_from next steps reading state (b ∷ bytes)) ≡ total
+more_by : {S X : Type 0} (next : S → X → S) (reading : S → Reading X) (front : List X) (state : S) (b : ℕ)
+    (bytes : List ℕ) (total : Result (List X) DerError) (x : X) (rest : List ℕ) (steps : ℕ) → length (b ∷ bytes) ≤ steps
+    → with_front front (each_from next steps reading state (b ∷ bytes)) ≡ total
     → reading state (b ∷ bytes) ≡ Ok (x, rest) → length rest < length (b ∷ bytes)
     → SoFar next reading (front ++ x ∷ []) (next state x) rest total
 unfolding each_from
@@ -86,30 +85,30 @@ more_by next reading front state b bytes total x rest (suc steps) enough whole r
     record { steps = steps; enough = omega arith; whole = sym (one ∙ with_one front x (each_from next steps reading (next state x) rest)) ∙ whole }
 
 -- a turn that reads a value
-pub loop_more : {S X : Type 0} (next : S → X → S) (reading : S → List ℕ → Result (X × List ℕ) DerError) (front : List X)
-    (state : S) (bytes : List ℕ) (total : Result (List X) DerError) (x : X) (rest : List ℕ)
+pub loop_more : {S X : Type 0} (next : S → X → S) (reading : S → Reading X) (front : List X) (state : S)
+    (bytes : List ℕ) (total : Result (List X) DerError) (x : X) (rest : List ℕ)
     → SoFar next reading front state bytes total → reading state bytes ≡ Ok (x, rest) → length rest < length bytes
     → SoFar next reading (front ++ x ∷ []) (next state x) rest total
 loop_more next reading front state [] total x rest so read fewer = absurd (omega arith)
 loop_more next reading front state (b ∷ bytes) total x rest so read fewer = more_by next reading front state b bytes total x rest so.steps so.enough so.whole read fewer
 
 -- at the end of the octets the values read so far are all
-pub loop_ends : {S X : Type 0} (next : S → X → S) (reading : S → List ℕ → Result (X × List ℕ) DerError) (front : List X)
-    (state : S) (bytes : List ℕ) (total : Result (List X) DerError) → SoFar next reading front state bytes total
-    → bytes ≡ [] → total ≡ Ok front
+pub loop_ends : {S X : Type 0} (next : S → X → S) (reading : S → Reading X) (front : List X) (state : S)
+    (bytes : List ℕ) (total : Result (List X) DerError) → SoFar next reading front state bytes total → bytes ≡ []
+    → total ≡ Ok front
 loop_ends next reading front state bytes total so none = grind (arith, append-nil, each-nil)
 
 -- a turn that fails, by the steps that are left
-fails_by : {S X : Type 0} (next : S → X → S) (reading : S → List ℕ → Result (X × List ℕ) DerError) (front : List X)
-    (state : S) (b : ℕ) (bytes : List ℕ) (e : DerError) (steps : ℕ) → length (b ∷ bytes) ≤ steps
-    → reading state (b ∷ bytes) ≡ Err e → with_front front (each_from next steps reading state (b ∷ bytes)) ≡ Err e
+fails_by : {S X : Type 0} (next : S → X → S) (reading : S → Reading X) (front : List X) (state : S) (b : ℕ)
+    (bytes : List ℕ) (e : DerError) (steps : ℕ) → length (b ∷ bytes) ≤ steps → reading state (b ∷ bytes) ≡ Err e
+    → with_front front (each_from next steps reading state (b ∷ bytes)) ≡ Err e
 unfolding each_from
 fails_by next reading front state b bytes e steps enough read = grind arith
 
 -- a turn that fails is what the whole fails with
-pub loop_fails : {S X : Type 0} (next : S → X → S) (reading : S → List ℕ → Result (X × List ℕ) DerError)
-    (front : List X) (state : S) (bytes : List ℕ) (total : Result (List X) DerError) (e : DerError)
-    → SoFar next reading front state bytes total → bytes ≢ [] → reading state bytes ≡ Err e → total ≡ Err e
+pub loop_fails : {S X : Type 0} (next : S → X → S) (reading : S → Reading X) (front : List X) (state : S)
+    (bytes : List ℕ) (total : Result (List X) DerError) (e : DerError) → SoFar next reading front state bytes total
+    → bytes ≢ [] → reading state bytes ≡ Err e → total ≡ Err e
 loop_fails next reading front state [] total e so some read = absurd (some refl)
 loop_fails next reading front state (b ∷ bytes) total e so some read = sym so.whole ∙ fails_by next reading front state b bytes e so.steps so.enough read
 
@@ -124,19 +123,19 @@ abbrev pub as_some : {X : Type 0} → X × List ℕ → Result (Option X × List
 as_some x = Ok (Some x.0, x.1)
 
 -- Some is what the reading gives before the end
-pub optional_some : {X : Type 0} (reading : List ℕ → Result (X × List ℕ) DerError) (bytes : List ℕ) (x : X)
-    (rest : List ℕ) → optional reading bytes ≡ Ok (Some x, rest) → (bytes ≢ []) × (reading bytes ≡ Ok (x, rest))
+pub optional_some : {X : Type 0} (reading : Reading X) (bytes : List ℕ) (x : X) (rest : List ℕ)
+    → optional reading bytes ≡ Ok (Some x, rest) → (bytes ≢ []) × (reading bytes ≡ Ok (x, rest))
 unfolding optional
 optional_some reading bytes x rest e = grind arith
 
 -- None is at the end, and nothing is left
-pub optional_none : {X : Type 0} (reading : List ℕ → Result (X × List ℕ) DerError) (bytes rest : List ℕ)
-    → optional reading bytes ≡ Ok (None, rest) → (bytes ≡ []) × (rest ≡ [])
+pub optional_none : {X : Type 0} (reading : Reading X) (bytes rest : List ℕ) → optional reading bytes ≡ Ok (None, rest)
+    → (bytes ≡ []) × (rest ≡ [])
 unfolding optional
 optional_none reading bytes rest e = grind arith
 
 -- a fault is what the reading gives before the end
-pub optional_err : {X : Type 0} (reading : List ℕ → Result (X × List ℕ) DerError) (bytes : List ℕ) (e : DerError)
-    → optional reading bytes ≡ Err e → (bytes ≢ []) × (reading bytes ≡ Err e)
+pub optional_err : {X : Type 0} (reading : Reading X) (bytes : List ℕ) (e : DerError) → optional reading bytes ≡ Err e
+    → (bytes ≢ []) × (reading bytes ≡ Err e)
 unfolding optional
 optional_err reading bytes e h = grind arith

@@ -1,5 +1,5 @@
 -- Readings by the mode: leniently what is read without one, and strictly that or NotCanonical.
-use Rattle.rpki_der.proofs.Common.{Bool, Err, List, Ok, Option, Result, [], arith, cond, false, inl, refl, subst, suc, sym, true, zero, ℕ, ◌%◌, ◌^◌, ◌∷◌, ◌≡◌, eq-eqb, eqb-true, Bits, IsBitContent, IsBitString, IsPadded, NoFront, Refines, Where, bit_content, last_octet, Gives, IsModal, IsReading, Tightens, bit_string_at, bit_string_by, bits, bits_by, each_from, is_padded, optional, passing, refined, tagged_at, ◌>>=◌, Lenient, NotCanonicalInOr, NotCanonicalOr, Takes, content_octets, is_strict, is_strict_in, Cursor, DerError, NotCanonical}
+use Rattle.rpki_der.proofs.Common.{Bool, Err, List, Ok, Option, Result, [], arith, cond, false, inl, refl, subst, suc, sym, true, zero, ℕ, ◌%◌, ◌^◌, ◌∷◌, ◌≡◌, eq-eqb, eqb-true, Bits, IsBitContent, IsBitString, IsPadded, NoFront, Refines, Where, bit_content, last_octet, Gives, IsModal, IsReading, Tightens, bit_string_at, bit_string_by, bits, bits_by, each_from, is_padded, optional, passing, refined, tagged_at, ◌>>=◌, Lenient, NotCanonicalInOr, NotCanonicalOr, Takes, content_octets, is_strict, is_strict_in, Cursor, DerError, NotCanonical, Grammar, Reading}
 use Rattle.std.specs.Prelude.{◌⊎◌}
 use Rattle.rpki_der.specs.declared.content.Content.{Content}
 use Rattle.rpki_der.proofs.Contents.{bits_check}
@@ -25,8 +25,8 @@ pub fault_is : {A : Type 0} (strict : Bool) (by found : Result A DerError) (e : 
 fault_is strict by found e v4 failed = grind arith
 
 -- so leniently the readings are one
-pub lenient_is : {X : Type 0} (S : List ℕ → X → Type 0) (reading : List ℕ → Result (X × List ℕ) DerError)
-    (by : Bool → List ℕ → Result (X × List ℕ) DerError) → IsModal S reading by → by false ≡ reading
+pub lenient_is : {X : Type 0} (S : Grammar X) (reading : Reading X) (by : Bool → Reading X) → IsModal S reading by
+    → by false ≡ reading
 lenient_is S reading by is = λ i bytes. same_found (by false bytes) (reading bytes) (is.tightens false bytes) i
 
 -- ---- steps
@@ -58,22 +58,20 @@ pub then_passing : {X : Type 0} (strict : Bool) (test : X → Bool) (r : Result 
 then_passing strict test v2 = grind (arith, passing_tightens)
 
 -- what is looked at once more
-pub refined_tightens : {X Y : Type 0} (strict : Bool) (by reading : List ℕ → Result (X × List ℕ) DerError)
-    (look check : X → Result Y DerError) → ((bytes : List ℕ) → Tightens strict (by bytes) (reading bytes))
-    → ((x : X) → Tightens strict (look x) (check x)) → (bytes : List ℕ)
-    → Tightens strict (refined by look bytes) (refined reading check bytes)
+pub refined_tightens : {X Y : Type 0} (strict : Bool) (by reading : Reading X) (look check : X → Result Y DerError)
+    → ((bytes : List ℕ) → Tightens strict (by bytes) (reading bytes)) → ((x : X) → Tightens strict (look x) (check x))
+    → (bytes : List ℕ) → Tightens strict (refined by look bytes) (refined reading check bytes)
 unfolding refined
 refined_tightens strict by reading look check first second bytes = grind (arith, bind_tightens)
 
 -- a look at what a reading finds that is the same in both modes
-pub looked_tightens : {X Y : Type 0} (strict : Bool) (reading : List ℕ → Result (X × List ℕ) DerError)
-    (look check : X → Result Y DerError) → ((x : X) → Tightens strict (look x) (check x)) → (bytes : List ℕ)
+pub looked_tightens : {X Y : Type 0} (strict : Bool) (reading : Reading X) (look check : X → Result Y DerError)
+    → ((x : X) → Tightens strict (look x) (check x)) → (bytes : List ℕ)
     → Tightens strict (refined reading look bytes) (refined reading check bytes)
 looked_tightens strict reading look check second bytes = refined_tightens strict reading reading look check (λ bytes. inl refl) second bytes
 
 -- values one after another
-pub each_tightens : {S X : Type 0} (strict : Bool) (next : S → X → S)
-    (by reading : S → List ℕ → Result (X × List ℕ) DerError)
+pub each_tightens : {S X : Type 0} (strict : Bool) (next : S → X → S) (by reading : S → Reading X)
     → ((state : S) (bytes : List ℕ) → Tightens strict (by state bytes) (reading state bytes))
     → (steps : ℕ) (state : S) (bytes : List ℕ)
     → Tightens strict (each_from next steps by state bytes) (each_from next steps reading state bytes)
@@ -102,9 +100,8 @@ pub passing_check : {X Y : Type 0} (Fits : X → Type 0) (C : X → Y → Type 0
 passing_check v0 v1 v2 check test is says back = grind (arith, bind_ok, passed_is, passes)
 
 -- what a reading finds, of that what passes a test
-pub passing_reading : {X : Type 0} (G : List ℕ → X → Type 0) (P : X → Type 0)
-    (reading : List ℕ → Result (X × List ℕ) DerError) (test : X → Bool) → IsReading G reading
-    → ((x : X) → test x ≡ true → P x) → ((x : X) → P x → test x ≡ true)
+pub passing_reading : {X : Type 0} (G : Grammar X) (P : X → Type 0) (reading : Reading X) (test : X → Bool)
+    → IsReading G reading → ((x : X) → test x ≡ true → P x) → ((x : X) → P x → test x ≡ true)
     → IsReading (Where G P) (refined reading (passing true test))
 passing_reading {X} G P reading test is says back =
     same_reading (Refines G Passes) (Where G P) (refined reading (passing true test))
@@ -118,8 +115,8 @@ passing_reading {X} G P reading test is says back =
     Passes x y = (x ≡ y) × P y
 
 -- one that doesn't look at the mode
-pub plain_modal : {X : Type 0} (G : List ℕ → X → Type 0) (reading : List ℕ → Result (X × List ℕ) DerError)
-    → IsReading G reading → IsModal G reading (λ strict. reading)
+pub plain_modal : {X : Type 0} (G : Grammar X) (reading : Reading X) → IsReading G reading
+    → IsModal G reading (λ strict. reading)
 plain_modal G reading is = record { tight = is; tightens = λ strict bytes. inl refl }
 
 -- twice
@@ -133,8 +130,7 @@ passing_tested : {X : Type 0} (strict : Bool) (test : X → Bool) (r : Result (X
 passing_tested strict test v2 = grind (arith, bind_tightens, passing_tightens)
 
 -- one whose finds pass a test strictly
-pub tested_modal : {X : Type 0} (S : List ℕ → X → Type 0) (P : X → Type 0)
-    (reading : List ℕ → Result (X × List ℕ) DerError) (by : Bool → List ℕ → Result (X × List ℕ) DerError)
+pub tested_modal : {X : Type 0} (S : Grammar X) (P : X → Type 0) (reading : Reading X) (by : Bool → Reading X)
     (test : X → Bool) → IsModal S reading by → ((x : X) → test x ≡ true → P x) → ((x : X) → P x → test x ≡ true)
     → IsModal (Where S P) reading (λ strict. refined (by strict) (passing strict test))
 unfolding refined
@@ -146,43 +142,39 @@ tested_modal S P reading by test is says back = record {
 -- ---- calls on a cursor
 
 -- a take from a cursor that isn't strict
-pub exact_by : {X Y : Type 0} (S : List ℕ → Y → Type 0) (reading : List ℕ → Result (Y × List ℕ) DerError)
-    (by : Bool → List ℕ → Result (Y × List ℕ) DerError) (view : X → Y) (old new : Cursor) (result : Result X DerError)
-    → IsModal S reading by → Takes view old new result (by (is_strict old))
-    → Lenient old (Takes view old new result reading)
+pub exact_by : {X Y : Type 0} (S : Grammar Y) (reading : Reading Y) (by : Bool → Reading Y) (view : X → Y)
+    (old new : Cursor) (result : Result X DerError) → IsModal S reading by
+    → Takes view old new result (by (is_strict old)) → Lenient old (Takes view old new result reading)
 exact_by v0 reading by view old new result modal took lenient = grind (arith, lenient_is)
 
 -- one that answers None at the end
-pub exact_optional_by : {X Y : Type 0} (S : List ℕ → Y → Type 0) (reading : List ℕ → Result (Y × List ℕ) DerError)
-    (by : Bool → List ℕ → Result (Y × List ℕ) DerError) (view : X → Option Y) (old new : Cursor)
-    (result : Result X DerError) → IsModal S reading by → Takes view old new result (optional (by (is_strict old)))
+pub exact_optional_by : {X Y : Type 0} (S : Grammar Y) (reading : Reading Y) (by : Bool → Reading Y)
+    (view : X → Option Y) (old new : Cursor) (result : Result X DerError) → IsModal S reading by
+    → Takes view old new result (optional (by (is_strict old)))
     → Lenient old (Takes view old new result (optional reading))
 exact_optional_by S reading by view old new result modal took lenient =
     subst (λ r. Takes view old new result (optional r)) (lenient_is S reading by modal) (subst (λ mode. Takes view old new result (optional (by mode))) lenient took)
 
 -- a fault of a reading by the mode
-pub refused_at : {X : Type 0} (G S : List ℕ → X → Type 0) (reading : List ℕ → Result (X × List ℕ) DerError)
-    (by : Bool → List ℕ → Result (X × List ℕ) DerError) → IsReading G reading → IsModal S reading by
-    → (strict : Bool) (bytes : List ℕ) (e : DerError) → by strict bytes ≡ Err e
+pub refused_at : {X : Type 0} (G S : Grammar X) (reading : Reading X) (by : Bool → Reading X) → IsReading G reading
+    → IsModal S reading by → (strict : Bool) (bytes : List ℕ) (e : DerError) → by strict bytes ≡ Err e
     → ((strict ≡ true) × (e ≡ NotCanonical)) ⊎ NoFront G bytes
 refused_at v0 v1 reading by is modal strict bytes e failed = grind (arith, fault_is, none_by)
 
 -- a take
-pub refused_by : {X Y : Type 0} (G S : List ℕ → Y → Type 0) (reading : List ℕ → Result (Y × List ℕ) DerError)
-    (by : Bool → List ℕ → Result (Y × List ℕ) DerError) (view : X → Y) (old new : Cursor) (result : Result X DerError)
-    → IsReading G reading → IsModal S reading by → Takes view old new result (by (is_strict old))
-    → NotCanonicalOr G old result
+pub refused_by : {X Y : Type 0} (G S : Grammar Y) (reading : Reading Y) (by : Bool → Reading Y) (view : X → Y)
+    (old new : Cursor) (result : Result X DerError) → IsReading G reading → IsModal S reading by
+    → Takes view old new result (by (is_strict old)) → NotCanonicalOr G old result
 refused_by v0 v1 reading by view old new v7 is modal took = grind (arith, refused_at)
 
 -- a take that answers None at the end
-pub refused_optional_by : {X Y : Type 0} (G S : List ℕ → Y → Type 0) (reading : List ℕ → Result (Y × List ℕ) DerError)
-    (by : Bool → List ℕ → Result (Y × List ℕ) DerError) (view : X → Option Y) (old new : Cursor)
-    (result : Result X DerError) → IsReading G reading → IsModal S reading by
+pub refused_optional_by : {X Y : Type 0} (G S : Grammar Y) (reading : Reading Y) (by : Bool → Reading Y)
+    (view : X → Option Y) (old new : Cursor) (result : Result X DerError) → IsReading G reading → IsModal S reading by
     → Takes view old new result (optional (by (is_strict old))) → NotCanonicalOr G old result
 refused_optional_by v0 v1 reading by view old new v7 is modal took = grind (arith, optional_err, refused_at)
 
 -- a content
-pub refused_in : {X Y : Type 0} (C : List ℕ → Y → Type 0) (check : List ℕ → Result Y DerError) (by : Result Y DerError)
+pub refused_in : {X Y : Type 0} (C : Grammar Y) (check : List ℕ → Result Y DerError) (by : Result Y DerError)
     (view : X → Y) (value : Content) (result : Result X DerError) → IsCheck (λ _. Unit {0}) C check
     → Tightens (is_strict_in value) by (check (content_octets value)) → Gives view result by
     → NotCanonicalInOr C value result

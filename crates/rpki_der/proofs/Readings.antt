@@ -1,5 +1,5 @@
 -- The readings find the values of their grammars, whatever follows them, and no others.
-use Rattle.rpki_der.proofs.Common.{Err, List, Ok, Result, [], ap, append_assoc, arith, cond, drop, eqb, length, ltb, refl, subst, sym, take, ℕ, ◌%◌, ◌++◌, ◌<◌, ◌^◌, ◌∙◌, ◌∷◌, ◌≡◌, ◌≢◌, ◌≤◌, eq-eqb, eqb-false, eqb-true, le-ltb, ltb-false, ne_eqb, append_cancel_right, drop_at, length-append, length-take, take-append-drop, take_at, Front, IsBitContent, IsBitString, IsBytes, IsNothing, IsNull, IsTag, IsTlv, IsU32, IsUnsigned, IsValue, OneFront, Refines, Tlv, header, length_octets, value, IsReading, bit_string_at, bits, length_at, nothing, null_at, refined, tagged_at, u32_at, unsigned, value_at, ◌>>=◌, DerError, BadTag, Truncated}
+use Rattle.rpki_der.proofs.Common.{Err, List, Ok, Result, [], ap, append_assoc, arith, cond, drop, eqb, length, ltb, refl, subst, sym, take, ℕ, ◌%◌, ◌++◌, ◌<◌, ◌^◌, ◌∙◌, ◌∷◌, ◌≡◌, ◌≢◌, ◌≤◌, eq-eqb, eqb-false, eqb-true, le-ltb, ltb-false, ne_eqb, append_cancel_right, drop_at, length-append, length-take, take-append-drop, take_at, Front, IsBitContent, IsBitString, IsBytes, IsNothing, IsNull, IsTag, IsTlv, IsU32, IsUnsigned, IsValue, OneFront, Refines, Tlv, header, length_octets, value, IsReading, bit_string_at, bits, length_at, nothing, null_at, refined, tagged_at, u32_at, unsigned, value_at, ◌>>=◌, DerError, BadTag, Truncated, Grammar, Reading}
 use Rattle.rpki_der.proofs.Steps.{IsCheck, IsBytes-rest, fits_front, fits_back, bind_ok, passed, passed_true, ok_is}
 use Rattle.rpki_der.proofs.Contents.{unsigned_check, unsigned_spelled, spelled_unsigned, bits_check, nothing_check}
 use Rattle.rpki_der.proofs.Lengths.{length_takes, length_again}
@@ -48,8 +48,7 @@ pub value_reading : IsReading IsTlv value_at
 value_reading = record { takes = value_takes; again = value_again }
 
 -- octets begin with at most one value of a grammar that has a reading
-pub one_front : {X : Type 0} (G : List ℕ → X → Type 0) (reading : List ℕ → Result (X × List ℕ) DerError)
-    → IsReading G reading → OneFront G
+pub one_front : {X : Type 0} (G : Grammar X) (reading : Reading X) → IsReading G reading → OneFront G
 one_front G reading is a b x y r s p q e =
     let both = ok_is (x, r) (y, s) (sym (is.again a x r p) ∙ ap reading e ∙ is.again b y s q) in
     grind (arith, append_cancel_right)
@@ -62,13 +61,13 @@ pub fits_content : (bytes : List ℕ) (tag : ℕ) (content : List ℕ) → IsVal
 fits_content bytes tag content is h = fits_back (header tag (length content)) content (subst IsBytes is.spelled h)
 
 -- a value at the front of octets is octets
-pub fits_value : {X : Type 0} (G : List ℕ → X → Type 0) (bytes : List ℕ) (x : X) (rest : List ℕ)
-    (found : Front G bytes x rest) → IsBytes bytes → IsBytes found.0
+pub fits_value : {X : Type 0} (G : Grammar X) (bytes : List ℕ) (x : X) (rest : List ℕ) (found : Front G bytes x rest)
+    → IsBytes bytes → IsBytes found.0
 fits_value G bytes x rest found h = fits_front found.0 rest (subst IsBytes found.2 h)
 
 -- what follows it is octets
-pub fits_rest : {X : Type 0} (G : List ℕ → X → Type 0) (bytes : List ℕ) (x : X) (rest : List ℕ)
-    (found : Front G bytes x rest) → IsBytes bytes → IsBytes rest
+pub fits_rest : {X : Type 0} (G : Grammar X) (bytes : List ℕ) (x : X) (rest : List ℕ) (found : Front G bytes x rest)
+    → IsBytes bytes → IsBytes rest
 fits_rest G bytes x rest found h = fits_back found.0 rest (subst IsBytes found.2 h)
 
 -- ---- values of one tag
@@ -100,8 +99,8 @@ tagged_reading tag = record { takes = tagged_takes tag; again = tagged_again tag
 -- ---- values looked at once more
 
 -- what is read and passes the second look is in the refined grammar
-refined_takes : {X Y : Type 0} (G : List ℕ → X → Type 0) (C : X → Y → Type 0) (Fits : X → Type 0)
-    (reading : List ℕ → Result (X × List ℕ) DerError) (check : X → Result Y DerError) → IsReading G reading
+refined_takes : {X Y : Type 0} (G : Grammar X) (C : X → Y → Type 0) (Fits : X → Type 0) (reading : Reading X)
+    (check : X → Result Y DerError) → IsReading G reading
     → ((front : List ℕ) (x : X) → G front x → IsBytes front → Fits x) → IsCheck Fits C check
     → (bytes : List ℕ) (y : Y) (rest : List ℕ) → IsBytes bytes → refined reading check bytes ≡ Ok (y, rest)
     → Front (Refines G C) bytes y rest
@@ -115,22 +114,22 @@ refined_takes G C Fits reading check is inside says bytes y rest fits e =
     subst (λ p. Front (Refines G C) bytes p.0 p.1) made (found.0, (a.0.0, found.1, c), found.2)
 
 -- what is in the refined grammar is read and passes
-refined_again : {X Y : Type 0} (G : List ℕ → X → Type 0) (C : X → Y → Type 0) (Fits : X → Type 0)
-    (reading : List ℕ → Result (X × List ℕ) DerError) (check : X → Result Y DerError) → IsReading G reading
-    → IsCheck Fits C check → (front : List ℕ) (y : Y) (rest : List ℕ) → Refines G C front y
+refined_again : {X Y : Type 0} (G : Grammar X) (C : X → Y → Type 0) (Fits : X → Type 0) (reading : Reading X)
+    (check : X → Result Y DerError) → IsReading G reading → IsCheck Fits C check
+    → (front : List ℕ) (y : Y) (rest : List ℕ) → Refines G C front y
     → refined reading check (front ++ rest) ≡ Ok (y, rest)
 unfolding refined
 refined_again G C Fits reading check is says front y rest r = rw (is.again front r.0 rest r.1, says.again r.0 y r.2) refl
 
 -- the two together
-pub refined_reading : {X Y : Type 0} (G : List ℕ → X → Type 0) (C : X → Y → Type 0) (Fits : X → Type 0)
-    (reading : List ℕ → Result (X × List ℕ) DerError) (check : X → Result Y DerError) → IsReading G reading
+pub refined_reading : {X Y : Type 0} (G : Grammar X) (C : X → Y → Type 0) (Fits : X → Type 0) (reading : Reading X)
+    (check : X → Result Y DerError) → IsReading G reading
     → ((front : List ℕ) (x : X) → G front x → IsBytes front → Fits x) → IsCheck Fits C check
     → IsReading (Refines G C) (refined reading check)
 refined_reading G C Fits reading check is inside says = record { takes = refined_takes G C Fits reading check is inside says; again = refined_again G C Fits reading check is says }
 
 -- two grammars of the same values have the same readings
-pub same_reading : {X : Type 0} (G H : List ℕ → X → Type 0) (reading : List ℕ → Result (X × List ℕ) DerError)
+pub same_reading : {X : Type 0} (G H : Grammar X) (reading : Reading X)
     → ((bytes : List ℕ) (x : X) → IsBytes bytes → G bytes x → H bytes x)
     → ((bytes : List ℕ) (x : X) → H bytes x → G bytes x) → IsReading G reading → IsReading H reading
 same_reading G H reading to from is = record {
@@ -139,7 +138,7 @@ same_reading G H reading to from is = record {
 }
 
 -- the content of a tag, by a rule that asks nothing of the octets
-content_reading : {Y : Type 0} (tag : ℕ) (C : List ℕ → Y → Type 0) (check : List ℕ → Result Y DerError)
+content_reading : {Y : Type 0} (tag : ℕ) (C : Grammar Y) (check : List ℕ → Result Y DerError)
     → IsCheck (λ _. Unit {0}) C check → IsReading (Refines (IsTagged tag) C) (refined (tagged_at tag) check)
 content_reading tag C check says = refined_reading (IsTagged tag) C (λ _. Unit {0}) (tagged_at tag) check (tagged_reading tag) (λ front x is fits. tt) says
 

@@ -1,20 +1,10 @@
 -- The walk gives what is in both sets.
-use Rattle.rpki_base.proofs.Common.{arith, subst, ◌∙◌, IsSmallSet}
+use Rattle.rpki_base.proofs.Common.{subst, IsSmallSet}
 use Rattle.rpki_base.proofs.SmallSetLemmas.{intersection_is}
-use Rattle.rpki_base.proofs.WalkSizes.{intersection_few, intersection_few_of_other}
 use Rattle.rpki_base.proofs.small_set.SmallAsnSet.intersection.Goals as goal
 
 pub returns-clause-set : goal.returns-clause-set
 returns-clause-set g c =
-    let left = c.as_slice.ensures.value ∙ c.self.view_is in
-    let right = c.as_slice-2.ensures.value ∙ c.other.view_is in
-    intersection_is _ _ c.new.result (subst IsSmallSet c.self.view_is c.self.invariant) (subst IsSmallSet c.other.view_is c.other.invariant) (rw (left, right) at c.new.ensures)
-
-pub returns-clause-few : goal.returns-clause-few
-returns-clause-few g c = grind (arith, intersection_few)
-
-pub returns-clause-few_of_other : goal.returns-clause-few_of_other
-returns-clause-few_of_other g c = grind (arith, intersection_few_of_other)
-
-pub returns-clause-fits : goal.returns-clause-fits
-returns-clause-fits g c = grind (arith, intersection_few)
+    let left = subst IsSmallSet c.self.view_is c.self.invariant in
+    let right = subst IsSmallSet c.other.view_is c.other.invariant in
+    intersection_is _ _ left right _ cc

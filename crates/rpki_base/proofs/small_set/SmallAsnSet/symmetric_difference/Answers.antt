@@ -1,17 +1,10 @@
 -- The walk gives what is in one set alone.
-use Rattle.rpki_base.proofs.Common.{arith, subst, ◌∙◌, IsSmallSet}
+use Rattle.rpki_base.proofs.Common.{subst, IsSmallSet}
 use Rattle.rpki_base.proofs.SmallSetLemmas.{symmetric_difference_is}
-use Rattle.rpki_base.proofs.WalkSizes.{symmetric_difference_few}
 use Rattle.rpki_base.proofs.small_set.SmallAsnSet.symmetric_difference.Goals as goal
 
 pub returns-clause-set : goal.returns-clause-set
 returns-clause-set g c =
-    let left = c.as_slice.ensures.value ∙ c.self.view_is in
-    let right = c.as_slice-2.ensures.value ∙ c.other.view_is in
-    symmetric_difference_is _ _ c.new.result (subst IsSmallSet c.self.view_is c.self.invariant) (subst IsSmallSet c.other.view_is c.other.invariant) (rw (left, right) at c.new.ensures)
-
-pub returns-clause-few : goal.returns-clause-few
-returns-clause-few g c = grind (arith, symmetric_difference_few)
-
-pub returns-clause-fits : goal.returns-clause-fits
-returns-clause-fits g c = grind (arith, symmetric_difference_few)
+    let left = subst IsSmallSet c.self.view_is c.self.invariant in
+    let right = subst IsSmallSet c.other.view_is c.other.invariant in
+    symmetric_difference_is _ _ left right _ cc

@@ -34,10 +34,10 @@ pub use Rattle.rpki_text.specs.declared.memory.OrMemory.TheVariants.{Memory, Ref
 pub use Rattle.rpki_base.specs.AsnDer.{IsAsNumber, as_number_at, as_number_octets}
 pub use Rattle.rpki_base.specs.AsnText.{IsAfterAs, IsAsAnd, IsAsnText, ReadsAsn, asn_text}
 pub use Rattle.rpki_base.specs.DerFaults.{BeginsEmpty, BeginsWithAll, BeginsWithTwo, BeginsWithValue}
-pub use Rattle.rpki_base.specs.DerReading.{Encloses, IsSequenceFrom, IsSequenceOf, SaysByTag, SaysPair, Skips, enclosed_at, sequence_from, skipping, values_of}
+pub use Rattle.rpki_base.specs.DerReading.{Encloses, IsSequenceFrom, SaysByTag, SaysPair, Skips, enclosed_at, sequence_from, skipping, values_of}
 unfoldable pub use Rattle.rpki_base.specs.DerReading.{by_tag, if_tagged, only, pair_by, pair_in, values_from}
 pub use Rattle.rpki_base.specs.DerViews.{GivesOrMemory, NotCanonicalOrMemory, ReadsOrMemory, ReadsTagged, TakesOrMemory, TakesSaidOrMemory}
-pub use Rattle.rpki_base.specs.DerWriting.{octets_of_all, sequence_octets}
+pub use Rattle.rpki_base.specs.DerWriting.{octets_of_all}
 pub use Rattle.rpki_base.specs.FamiliesDer.{AreInOrder, ByFamily, IsFamilies, IsFamiliesInOrder, IsMember, SaysByFamily, SaysFamilies, SaysMember, SaysOption, claims_among, families_der, listed, member_der, of_family, option_der}
 pub use Rattle.rpki_base.specs.FamiliesReading.{SaysClaim, families_at, families_by, is_in_order, member_at, member_by, none_found, seen, was_seen, with_claim}
 unfoldable pub use Rattle.rpki_base.specs.FamiliesReading.{families_in, families_in_by, member_in, member_in_by, members_by}

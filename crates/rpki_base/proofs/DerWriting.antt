@@ -1,5 +1,5 @@
 -- Lists that are written: they are values of the grammar, and no two lists are written alike, also in a SEQUENCE.
-use Rattle.rpki_base.proofs.Common.{Bool, List, Ok, [], ap, arith, cond, drop, inl, inr, length, ltb, refl, sym, ℕ, ◌++◌, ◌+◌, ◌<◌, ◌^◌, ◌∙◌, ◌∷◌, ◌≡◌, ◌≤◌, ◌⊎◌, cases_lt, drop_at, AllByRecursion, HasOctets, each_again, ok_is, value_is, Each, header, length_octets, octets, sequence_value, IsReading, each, IsSequenceOf, octets_of_all, sequence_octets, Grammar, Reading}
+use Rattle.rpki_base.proofs.Common.{Bool, List, Ok, [], ap, arith, cond, drop, inl, inr, length, ltb, refl, sym, ℕ, ◌++◌, ◌+◌, ◌<◌, ◌^◌, ◌∙◌, ◌∷◌, ◌≡◌, ◌≤◌, ◌⊎◌, cases_lt, drop_at, length-append, AllByRecursion, HasOctets, each_again, ok_is, Each, header, length_octets, octets, sequence_value, IsReading, each, octets_of_all, Grammar, Reading}
 use Rattle.std.proofs.lemmas.Bool.{le-ltb, lt-ltb}
 
 -- the first of lists that are one
@@ -10,16 +10,15 @@ head_of a b xs ys e = cc
 tail_of : (a b : ℕ) (xs ys : List ℕ) → a ∷ xs ≡ b ∷ ys → xs ≡ ys
 tail_of a b xs ys e = cc
 
+-- a SEQUENCE is longer than what is in it
+pub content_shorter : (content : List ℕ) → length (sequence_value content) < 2 ^ 64 → length content < 2 ^ 64
+content_shorter content short = grind (arith, length-append)
+
 module _ {X : Type 0} (G : Grammar X) (octets : X → List ℕ) where
   -- values that are written one after another are such values
   pub each_written : (xs : List X) → AllByRecursion (λ x. G (octets x) x) xs → Each G (octets_of_all octets xs) xs
   each_written [] all = refl
   each_written (x ∷ xs) all = (octets_of_all octets xs, (octets x, all.0, refl), each_written xs all.1)
-
-  -- and in one SEQUENCE they are a SEQUENCE of them
-  pub sequence_written : (xs : List X) → AllByRecursion (λ x. G (octets x) x) xs
-      → length (octets_of_all octets xs) < 2 ^ 64 → IsSequenceOf G (sequence_octets octets xs) xs
-  sequence_written xs all short = (octets_of_all octets xs, value_is 48 (octets_of_all octets xs) (omega arith) short, each_written xs all)
 
   -- lists that are written alike are one
   pub written_alike : (reading : Reading X) → IsReading G reading → HasOctets G → (xs ys : List X)

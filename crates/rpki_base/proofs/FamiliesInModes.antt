@@ -3,7 +3,7 @@ use Rattle.rpki_base.proofs.Common.{Bool, List, None, Option, Result, Some, [], 
 use Rattle.rpki_base.proofs.FamiliesGathering.{families_reading}
 use Rattle.rpki_base.proofs.FamiliesModes.{families_modal}
 use Rattle.rpki_base.proofs.FamiliesSaid.{one_by_family}
-use Rattle.rpki_base.proofs.FamiliesWritten.{content_shorter}
+use Rattle.rpki_base.proofs.DerWriting.{content_shorter}
 use Rattle.rpki_base.proofs.FamilyLemmas.{family_written}
 use Rattle.rpki_base.proofs.SaidInModes.{IsSaidInModes}
 

@@ -14,7 +14,6 @@ pub mod FamiliesLoops
 pub mod FamiliesMembers
 pub mod FamiliesModes
 pub mod FamiliesSaid
-pub mod FamiliesWritten
 pub mod FamilyLemmas
 pub mod SaidInModes
 pub mod SmallSetLemmas

@@ -10,7 +10,7 @@ use Rattle.rpki_base.specs.DerReading.{IsSequenceOf, sequence_from, values_from,
 use Rattle.rpki_base.specs.DerWriting.{sequence_octets}
 use Rattle.rpki_base.proofs.DerModes.{strict_values_check, values_stateless, values_tighten}
 use Rattle.rpki_base.proofs.DerReadings.{sequence_reading, values_check}
-use Rattle.rpki_base.proofs.FamiliesWritten.{content_shorter}
+use Rattle.rpki_base.proofs.DerWriting.{content_shorter}
 use Rattle.rpki_base.proofs.SaidInModes.{IsSaidInModes, ordered_modal, strictly_found}
 use Rattle.rpki_chains.specs.Beyond.{IsBeyond}
 use Rattle.rpki_chain.specs.ChoiceDer.{choice_octets}

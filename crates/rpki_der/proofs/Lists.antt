@@ -114,10 +114,6 @@ loop_fails next reading front state (b ∷ bytes) total e so some read = sym so.
 
 -- ---- what an optional reading says
 
--- Some of two values
-pub some_is : {X : Type 0} (x y : X) → Some x ≡ Some y → x ≡ y
-some_is x y e = cc
-
 -- what an optional reading makes of a value
 abbrev pub as_some : {X : Type 0} → X × List ℕ → Result (Option X × List ℕ) DerError
 as_some x = Ok (Some x.0, x.1)

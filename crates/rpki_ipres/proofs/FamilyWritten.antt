@@ -2,7 +2,7 @@
 use Rattle.rpki_ipres.proofs.Common.{List, [], ap, arith, length, refl, subst, sym, ℕ, ◌++◌, ◌+◌, ◌<◌, ◌^◌, ◌↔◌, ◌∙◌, ◌∷◌, ◌≡◌, ◌≢◌, append_assoc, append_cancel_left, length-append, one_content, written_said, family_reading, family_written, IsSequenceOf, bits_of, IsFamilyDer, family_at, family_der, AddressFamily, same_numbers, Holds, IsRunsOfBlocks, Runs, value_is, OneFront, header, sequence_value, tagged_at, IsIpBlockDer, ip_blocks_at, blocks_reading, ip_bounds, IsIpBlockSequence, IsIpFamily, ip_family_der, ip_set_der, IsFamilySet}
 use Rattle.rpki_der.proofs.Readings.{IsTagged, one_front, tagged_reading}
 use Rattle.rpki_base.proofs.DerReadings.{one_front_said}
-use Rattle.rpki_base.proofs.FamiliesWritten.{content_shorter}
+use Rattle.rpki_base.proofs.DerWriting.{content_shorter}
 use Rattle.rpki_ipres.proofs.Modes.{set_in_modes}
 use Rattle.rpki_ipres.proofs.SetTextLemmas.{is_ip_set}
 use Rattle.rpki_ipres.proofs.SetWritten.{one_set, written_as_numbers}

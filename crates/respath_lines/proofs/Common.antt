@@ -1,14 +1,13 @@
 -- What the proofs of this crate use of std, of the crates below and of its own definitions, passed on by one name.
-pub use Rattle.std.proofs.Common.{Bool, Err, List, MatchResult, None, Ok, Option, Result, Some, [], ap, append_assoc, arith, codes, decimal, drop, eqb, false, get_or, inl, inr, length, lit<, map, nat_le, nat_lt, refl, rules, slice_index, slice_set, subst, suc, sym, take, true, zero, ℕ, ◌%◌, ◌&&◌, ◌*◌, ◌++◌, ◌+◌, ◌-◌, ◌/◌, ◌<◌, ◌==◌, ◌∙◌, ◌∷◌, ◌≡◌, ◌≢◌, ◌≤◌, ◌⊎◌}
-pub use Rattle.std.proofs.lemmas.Bool.{and_parts, cases_lt, eqb-false, eqb-true, le-ltb, leb-true, lt-ltb, ltb-true, ne_eqb}
+pub use Rattle.std.proofs.Common.{Bool, Err, List, MatchResult, Ok, Result, [], ap, append_assoc, arith, codes, decimal, drop, eqb, false, get_or, inl, inr, length, lit<, map, refl, rules, slice_set, subst, suc, sym, take, true, zero, ℕ, ◌%◌, ◌*◌, ◌++◌, ◌+◌, ◌-◌, ◌/◌, ◌<◌, ◌==◌, ◌∙◌, ◌∷◌, ◌≡◌, ◌≢◌, ◌≤◌, ◌⊎◌}
+pub use Rattle.std.proofs.lemmas.Bool.{eqb-false, eqb-true, ne_eqb}
+pub use Rattle.std.proofs.lemmas.Grind.{common_steps}
 pub use Rattle.std.proofs.lemmas.List.{append-nil, flat_map_more, length-append, map-append}
 pub use Rattle.std.proofs.lemmas.Result.{err_from_is_err_and, on_ok_weaker}
 pub use Rattle.std.specs.Iterator.{Drains, YieldsFirst}
 pub use Rattle.std.specs.List.{All, after_first, before_first, flat_map, position_or_len}
 pub use Rattle.std.specs.String.{string_bytes}
-pub use Rattle.hex.proofs.Pairs.{decode_done, decode_err, decode_step, prepend}
-pub use Rattle.hex.specs.Hex.{IsBytes, hex_digit_value, pair_value}
-unfoldable pub use Rattle.hex.specs.Hex.{decode_pairs, encode_with}
+pub use Rattle.hex.specs.Hex.{IsBytes}
 unfoldable pub use Rattle.rpki_addr.specs.AddressReading.{hex_value}
 pub use Rattle.rpki_as.specs.AsDer.{IsAsResources}
 pub use Rattle.rpki_as.specs.AsDerReading.{as_choice_at}

@@ -1,116 +1,89 @@
 -- The octets that a text of digits writes, and the text that writes octets.
-use Rattle.respath_lines.proofs.Common.{Bool, Err, List, None, Ok, Option, Result, Some, [], ap, arith, drop, get_or, inl, inr, length, nat_le, nat_lt, refl, slice_set, suc, sym, take, true, zero, ℕ, ◌%◌, ◌&&◌, ◌*◌, ◌+◌, ◌/◌, ◌<◌, ◌==◌, ◌∙◌, ◌∷◌, ◌≡◌, ◌≤◌, ◌⊎◌, and_parts, cases_lt, eqb-true, le-ltb, leb-true, lt-ltb, ltb-true, IsBytes, decode_pairs, hex_digit_value, pair_value, hex_value, IsHexadecimal, IsPairOf, lower_hexadecimal}
+use Rattle.respath_lines.proofs.Common.{List, [], ap, arith, drop, get_or, length, refl, slice_set, suc, sym, take, zero, ℕ, ◌%◌, ◌*◌, ◌+◌, ◌-◌, ◌/◌, ◌<◌, ◌∙◌, ◌∷◌, ◌≡◌, ◌≤◌, ◌⊎◌, common_steps, IsBytes, hex_value, IsHexadecimal, IsPairOf, lower_hexadecimal}
+use Rattle.std.proofs.lemmas.Bool.Decides.{nat_tests}
 use Rattle.std.proofs.lemmas.List.{drop-set, drop_all, drop_more, get_or-take, length-set, length-take-le, take-set-le, take-take, take_all}
 use Rattle.std.proofs.lemmas.Str.{digit_value-digit_char}
 use Rattle.std.specs.Char.{digit_value, digit_char}
-use Rattle.std.specs.Result.{result_unwrap_or}
-use Rattle.hex.specs.declared.error.FromHexError.{FromHexError}
-use Rattle.hex.specs.declared.error.FromHexError.TheVariants.{InvalidHexCharacter}
 
--- whether a digit has this value, among those below 16
-abbrev has_value : ℕ → Option ℕ → Bool
-has_value value (Some v) = value == v && nat_lt v 16
-has_value value None = nat_le 16 value
+-- what the table says of a digit, and of any other byte
+pub value_is : (byte : ℕ)
+    → ((hex_value byte < 16) × (digit_value byte ≡ hex_value byte)) ⊎ ((hex_value byte ≡ 16) × (16 ≤ digit_value byte))
+unfolding hex_value
+value_is byte = grind (arith, nat_tests)
 
--- whether each of the first characters has the same value as a digit of sixteen and as one of all digits and letters
-abbrev agree : ℕ → Bool
-agree zero = true
-agree (suc c) = has_value (digit_value c) (hex_digit_value c) && agree c
+-- where each two digits write the octet at their place, the text writes the octets
+pub pairs_write : (text octets : List ℕ) → length text ≡ 2 * length octets
+    → ((k i j : ℕ) → i ≡ 2 * k → j ≡ 2 * k + 1 → k < length octets
+    → IsPairOf (get_or text i 0) (get_or text j 0) (get_or octets k 0)) → IsHexadecimal text octets
+unfolding IsHexadecimal
+pairs_write [] [] twice pairs = tt
+pairs_write [] (octet ∷ octets) twice pairs = absurd (omega (arith, twice))
+pairs_write (high ∷ []) octets twice pairs = absurd (omega (arith, twice))
+pairs_write (high ∷ low ∷ text) [] twice pairs = absurd (omega (arith, twice))
+pairs_write (high ∷ low ∷ text) (octet ∷ octets) twice pairs = (
+  pairs 0 0 1 refl refl (omega arith),
+  pairs_write text octets (omega (arith, twice)) (λ k i j even odd small.
+      pairs (suc k) (suc (suc i)) (suc (suc j)) (omega arith) (omega arith) (omega arith)),
+)
 
-agree-at : (n c : ℕ) → agree n ≡ true → c < n → has_value (digit_value c) (hex_digit_value c) ≡ true
-agree-at zero c all less = absurd (omega arith)
-agree-at (suc n) c all less =
-    let parts = and_parts (has_value (digit_value n) (hex_digit_value n)) (agree n) all in
-    elim (cases_lt c n) [
-      | inl below ↦ agree-at n c parts.1 below
-      | inr top ↦
-          let e : c ≡ n = omega arith in
-          rw e parts.0
-    ]
+-- and where it writes octets, each two digits do
+pub pair_at : (text octets : List ℕ) (k i j : ℕ) → IsHexadecimal text octets → i ≡ 2 * k → j ≡ 2 * k + 1
+    → j < length text → IsPairOf (get_or text i 0) (get_or text j 0) (get_or octets k 0)
+unfolding IsHexadecimal
+pair_at [] octets k i j writes even odd less = absurd (omega (arith, less))
+pair_at (high ∷ []) octets k i j writes even odd less = absurd writes
+pair_at (high ∷ low ∷ text) [] k i j writes even odd less = absurd writes
+pair_at (high ∷ low ∷ text) (octet ∷ octets) zero i j writes even odd less =
+    let first : i ≡ 0 = omega arith in
+    let second : j ≡ 1 = omega arith in
+    rw (first, second) writes.0
+pair_at (high ∷ low ∷ text) (octet ∷ octets) (suc k) i j writes even odd less =
+    let first : i ≡ suc (suc (i - 2)) = omega arith in
+    let second : j ≡ suc (suc (j - 2)) = omega arith in
+    let rest = pair_at text octets k (i - 2) (j - 2) writes.1 (omega arith) (omega arith) (omega (arith, less)) in
+    rw (first, second) rest
 
-first_agree : agree 104 ≡ true
-first_agree = refl
+-- one octet more is put at its place, of whatever holds of each two digits and their octet
+pub pairs_more : (P : ℕ → ℕ → ℕ → Type 0) (text octets : List ℕ) (at octet k i j : ℕ) → at < length octets
+    → P (get_or text (2 * at) 0) (get_or text (2 * at + 1) 0) octet
+    → ((k i j : ℕ) → i ≡ 2 * k → j ≡ 2 * k + 1 → k < at → P (get_or text i 0) (get_or text j 0) (get_or octets k 0))
+    → i ≡ 2 * k → j ≡ 2 * k + 1 → k < at + 1
+    → P (get_or text i 0) (get_or text j 0) (get_or (slice_set octets at octet) k 0)
+pairs_more P text octets at octet k i j inside pair before even odd small = grind (arith, common_steps)
 
-past_value : (c : ℕ) → 103 < c → 16 < digit_value c
-past_value c past = grind (arith)
+-- a text writes one list of octets at most
+pub one_octets : (text a b : List ℕ) → IsHexadecimal text a → IsHexadecimal text b → a ≡ b
+unfolding IsHexadecimal
+one_octets [] [] [] writes also = refl
+one_octets [] [] (octet ∷ b) writes also = absurd also
+one_octets [] (octet ∷ a) b writes also = absurd writes
+one_octets (high ∷ []) a b writes also = absurd writes
+one_octets (high ∷ low ∷ text) [] b writes also = absurd writes
+one_octets (high ∷ low ∷ text) (octet ∷ a) [] writes also = absurd also
+one_octets (high ∷ low ∷ text) (octet ∷ a) (other ∷ b) writes also =
+    rw (writes.0.value, also.0.value, one_octets text a b writes.1 also.1) refl
 
-past_hex : (c : ℕ) → 103 < c → hex_digit_value c ≡ None
-past_hex c past = grind (arith)
+-- a text of digits has an even number of them
+pub even_text : (text octets : List ℕ) → IsHexadecimal text octets → length text % 2 ≡ 0
+unfolding IsHexadecimal
+even_text [] octets writes = refl
+even_text (high ∷ []) octets writes = absurd writes
+even_text (high ∷ low ∷ text) [] writes = absurd writes
+even_text (high ∷ low ∷ text) (octet ∷ octets) writes =
+    let rest = even_text text octets writes.1 in
+    omega (arith, rest)
 
--- the value of a digit is the one that it has among all digits and letters
-some_digit : (c v : ℕ) → hex_digit_value c ≡ Some v → (digit_value c ≡ v) × (v < 16)
-some_digit c v is =
-    elim (cases_lt c 104) [
-      | inl small ↦
-          let both : has_value (digit_value c) (Some v) ≡ true = rw is at (agree-at 104 c first_agree small) in
-          let parts = and_parts (digit_value c == v) (nat_lt v 16) both in
-          (eqb-true (digit_value c) v parts.0, ltb-true v 16 parts.1)
-      | inr past ↦ cc (sym is ∙ past_hex c (omega arith))
-    ]
-
-no_digit : (c : ℕ) → hex_digit_value c ≡ None → 16 ≤ digit_value c
-no_digit c is =
-    elim (cases_lt c 104) [
-      | inl small ↦
-          let past : has_value (digit_value c) None ≡ true = rw is at (agree-at 104 c first_agree small) in
-          leb-true 16 (digit_value c) past
-      | inr past ↦
-          let more = past_value c (omega arith) in
-          omega (arith, more)
-    ]
-
-option_cases : (o : Option ℕ) → (o ≡ None) ⊎ ((v : ℕ) × (o ≡ Some v))
-option_cases None = inl refl
-option_cases (Some v) = inr (v, refl)
-
-result_cases : (r : Result (List ℕ) FromHexError) → ((v : List ℕ) × (r ≡ Ok v)) ⊎ ((e : FromHexError) × (r ≡ Err e))
-result_cases (Ok v) = inl (v, refl)
-result_cases (Err e) = inr (e, refl)
-
--- a digit whose value is below 16 is one of sixteen
-digit_of : (c : ℕ) → digit_value c < 16 → hex_digit_value c ≡ Some (digit_value c)
-digit_of c small =
-    elim (option_cases (hex_digit_value c)) [
-      | inl none ↦
-          let more = no_digit c none in
-          absurd (omega (arith, more, small))
-      | inr some ↦ some.1 ∙ ap Some (sym (some_digit c some.0 some.1).0)
-    ]
-
--- what pairs of digits are read as is what they write
-pub pairs_write : (i : ℕ) (text octets : List ℕ) → decode_pairs i text ≡ Ok octets → IsHexadecimal text octets
-unfolding decode_pairs IsHexadecimal
-pairs_write i [] octets is = rw (← ap (λ (r : Result (List ℕ) FromHexError). result_unwrap_or r []) is) tt
-pairs_write i (high ∷ []) octets is = cc is
-pairs_write i (high ∷ low ∷ text) octets is =
-    elim (option_cases (hex_digit_value high)) [
-      | inl none ↦ cc (rw none at is)
-      | inr some ↦ elim (option_cases (hex_digit_value low)) [
-        | inl none ↦ cc (rw (some.1, none) at is)
-        | inr other ↦ elim (result_cases (decode_pairs (i + 2) text)) [
-          | inl read ↦
-              let all : Ok ((some.0 * 16 + other.0) ∷ read.0) ≡ Ok octets = rw (some.1, other.1, read.1) at is in
-              let e : (some.0 * 16 + other.0) ∷ read.0 ≡ octets = ap (λ (r : Result (List ℕ) FromHexError). result_unwrap_or r []) all in
-              let first = some_digit high some.0 some.1 in
-              let second = some_digit low other.0 other.1 in
-              rw (← e) (record { high_digit = rw first.0 first.1; low_digit = rw second.0 second.1; value = rw (first.0, second.0) refl }, pairs_write (i + 2) text read.0 read.1)
-          | inr fault ↦ cc (rw (some.1, other.1, fault.1) at is)
-        ]
-      ]
-    ]
-
--- what writes octets is pairs of digits that are read
-pub pairs_of : (i : ℕ) (text octets : List ℕ) → IsHexadecimal text octets → decode_pairs i text ≡ Ok octets
-unfolding decode_pairs IsHexadecimal
-pairs_of i [] [] writes = refl
-pairs_of i [] (octet ∷ octets) writes = absurd writes
-pairs_of i (high ∷ []) octets writes = absurd writes
-pairs_of i (high ∷ low ∷ text) [] writes = absurd writes
-pairs_of i (high ∷ low ∷ text) (octet ∷ octets) writes =
-    let first = digit_of high writes.0.high_digit in
-    let second = digit_of low writes.0.low_digit in
-    let rest = pairs_of (i + 2) text octets writes.1 in
-    rw (first, second, rest, writes.0.value) refl
+-- what octets are written as writes them
+pub lower_writes : (octets : List ℕ) → IsBytes octets → IsHexadecimal (lower_hexadecimal octets) octets
+unfolding IsHexadecimal lower_hexadecimal
+lower_writes [] bytes = tt
+lower_writes (octet ∷ octets) bytes =
+    let fits : octet < 256 = bytes 0 in
+    let high = digit_value-digit_char (octet / 16) (omega arith) in
+    let low = digit_value-digit_char (octet % 16) (omega arith) in
+    let pair : IsPairOf (digit_char (octet / 16)) (digit_char (octet % 16)) octet =
+    record { high_digit = omega (arith, high); low_digit = omega (arith, low); value = omega (arith, high, low) } in
+    (pair, lower_writes octets (λ k. bytes (suc k)))
 
 -- ---- whole texts
 
@@ -119,11 +92,16 @@ pub spread_none : (bytes : List ℕ) (count : ℕ) → length bytes ≡ 2 * coun
     → (take count bytes ≡ take count (take count bytes))
     × (drop (2 * count) bytes ≡ lower_hexadecimal (drop count (take count bytes)))
 unfolding lower_hexadecimal
-spread_none bytes count twice =
-    let len = length-take-le count bytes (omega (arith, twice)) in (
-      sym (take_all count (take count bytes) (omega (arith, len))),
-      drop_all (2 * count) bytes (omega (arith, twice)) ∙ ap lower_hexadecimal (sym (drop_all count (take count bytes) (omega (arith, len)))),
-    )
+spread_none bytes count twice = grind (arith, drop_all, take_all, length-take-le)
+
+-- one octet less is left in front
+less_left : (bytes octets : List ℕ) (i : ℕ) → take (i + 1) bytes ≡ take (i + 1) octets
+    → (take i bytes ≡ take i octets) × (get_or bytes i 0 ≡ get_or octets i 0)
+less_left bytes octets i same = (
+  sym (take-take i (i + 1) bytes (omega arith)) ∙ ap (take i) same ∙ take-take i (i + 1) octets (omega arith),
+  sym (get_or-take (i + 1) bytes i 0 (omega arith)) ∙ ap (λ (xs : List ℕ). get_or xs i 0) same
+      ∙ get_or-take (i + 1) octets i 0 (omega arith),
+)
 
 -- the digits of one octet more are put behind the octets that are left
 pub spread_more : (bytes octets : List ℕ) (i left octet high low : ℕ) → left ≡ i + 1 → 2 * i + 1 < length bytes
@@ -134,103 +112,12 @@ pub spread_more : (bytes octets : List ℕ) (i left octet high low : ℕ) → le
     × (drop (2 * i) (slice_set (slice_set bytes (2 * i + 1) low) (2 * i) high) ≡ lower_hexadecimal (drop i octets))
 unfolding lower_hexadecimal
 spread_more bytes octets i left octet high low next fits small front behind read first second =
-    let len : length (slice_set bytes (2 * i + 1) low) ≡ length bytes = length-set bytes (2 * i + 1) low in
-    let begun : take (i + 1) bytes ≡ take (i + 1) octets = rw next at front in
-    let done : drop (2 * i + 1 + 1) bytes ≡ lower_hexadecimal (drop (i + 1) octets) =
-    ap (λ (n : ℕ). drop n bytes) (omega arith) ∙ (rw next at behind) in
-    let same : octet ≡ get_or octets i 0 =
-    read ∙ sym (get_or-take (i + 1) bytes i 0 (omega arith)) ∙ ap (λ (xs : List ℕ). get_or xs i 0) begun
-    ∙ get_or-take (i + 1) octets i 0 (omega arith) in
-    let digits : drop (2 * i) (slice_set (slice_set bytes (2 * i + 1) low) (2 * i) high) ≡ high ∷ low ∷ drop (2 * i + 1 + 1) bytes =
-    drop-set (slice_set bytes (2 * i + 1) low) (2 * i) high (omega (arith, len, fits))
-    ∙ ap (λ (xs : List ℕ). high ∷ xs) (drop-set bytes (2 * i + 1) low fits) in (
-      take-set-le i (slice_set bytes (2 * i + 1) low) (2 * i) high (omega arith) ∙ take-set-le i bytes (2 * i + 1) low (omega arith)
-          ∙ sym (take-take i (i + 1) bytes (omega arith)) ∙ ap (take i) begun ∙ take-take i (i + 1) octets (omega arith),
-      rw (digits, done, first, second, same, drop_more octets i 0 small) refl,
+    let same = less_left bytes octets i (rw next at front) in
+    let two_more : 2 * left ≡ 2 * i + 1 + 1 = omega arith in
+    let done = rw (two_more, next) at behind in
+    let put_low = slice_set bytes (2 * i + 1) low in
+    let low_put = drop-set bytes (2 * i + 1) low fits in
+    let put_high = drop-set put_low (2 * i) high (omega (arith, fits, length-set bytes (2 * i + 1) low)) in (
+      take-set-le i put_low (2 * i) high (omega arith) ∙ take-set-le i bytes (2 * i + 1) low (omega arith) ∙ same.0,
+      rw (put_high, low_put, done, drop_more octets i 0 small, first, second, read, same.1) refl,
     )
-
--- a text of digits has an even number of them
-pub even_text : (text octets : List ℕ) → IsHexadecimal text octets → length text % 2 ≡ 0
-unfolding IsHexadecimal
-even_text [] [] writes = refl
-even_text [] (octet ∷ octets) writes = absurd writes
-even_text (high ∷ []) octets writes = absurd writes
-even_text (high ∷ low ∷ text) [] writes = absurd writes
-even_text (high ∷ low ∷ text) (octet ∷ octets) writes =
-    let rest = even_text text octets writes.1 in
-    omega (arith, rest)
-
--- what the table says of a digit, and of any other byte
-value_by : (byte v : ℕ) → v ≡ hex_value byte → (v < 16 → digit_value byte ≡ v) × (16 ≤ v → 16 ≤ digit_value byte)
-unfolding hex_value
-value_by byte v is =
-    elim (cases_lt (digit_value byte) 16) [
-      | inl small ↦
-          let e : v ≡ digit_value byte = is ∙ rw (lt-ltb (digit_value byte) 16 small) refl in
-          (λ less. sym e, λ more. absurd (omega (arith, e, more, small)))
-      | inr past ↦
-          let e : v ≡ 16 = is ∙ rw (le-ltb (digit_value byte) 16 (omega (arith, past))) refl in
-          (λ less. absurd (omega (arith, e, less)), λ more. omega (arith, past))
-    ]
-
--- two digits write an octet
-pub pair_is : (high low h l : ℕ) → h ≡ hex_value high → l ≡ hex_value low → h ≤ 15 → l ≤ 15
-    → IsPairOf high low (h * 16 + l)
-pair_is high low h l first second small also =
-    let e = (value_by high h first).0 (omega (arith, small)) in
-    let f = (value_by low l second).0 (omega (arith, also)) in
-    record { high_digit = omega (arith, e, small); low_digit = omega (arith, f, also); value = rw (e, f) refl }
-
--- and no other two bytes do
-pub no_high : (high low h octet : ℕ) → h ≡ hex_value high → 15 < h → ¬ IsPairOf high low octet
-no_high high low h octet first past pair =
-    let more = (value_by high h first).1 (omega (arith, past)) in
-    absurd (omega (arith, more, pair.high_digit))
-
-pub no_low : (high low l octet : ℕ) → l ≡ hex_value low → 15 < l → ¬ IsPairOf high low octet
-no_low high low l octet second past pair =
-    let more = (value_by low l second).1 (omega (arith, past)) in
-    absurd (omega (arith, more, pair.low_digit))
-
--- a pair that writes an octet is read as it
-pub pair_reads : (high low octet i : ℕ) → IsPairOf high low octet → pair_value high low i ≡ Ok octet
-pair_reads high low octet i pair =
-    let first = digit_of high pair.high_digit in
-    let second = digit_of low pair.low_digit in
-    rw (first, second, pair.value) refl
-
--- and one that writes none is refused
-pub pair_fails : (high low i : ℕ) → ((octet : ℕ) → ¬ IsPairOf high low octet)
-    → (e : FromHexError) × (pair_value high low i ≡ Err e)
-pair_fails high low i none =
-    elim (option_cases (hex_digit_value high)) [
-      | inl bad ↦ (InvalidHexCharacter high i, rw bad refl)
-      | inr some ↦ elim (option_cases (hex_digit_value low)) [
-        | inl bad ↦ (InvalidHexCharacter low (i + 1), rw (some.1, bad) refl)
-        | inr other ↦
-            let first = some_digit high some.0 some.1 in
-            let second = some_digit low other.0 other.1 in
-            absurd (none (some.0 * 16 + other.0) (record { high_digit = rw first.0 first.1; low_digit = rw second.0 second.1; value = rw (first.0, second.0) refl }))
-      ]
-    ]
-
--- where pairs are refused, the text writes no octets
-pub refused_writes_none : (text : List ℕ) (e : FromHexError) → decode_pairs 0 text ≡ Err e → (octets : List ℕ)
-    → ¬ IsHexadecimal text octets
-refused_writes_none text e is octets writes = cc (sym is ∙ pairs_of 0 text octets writes)
-
--- a text writes one list of octets at most
-pub one_octets : (text a b : List ℕ) → IsHexadecimal text a → IsHexadecimal text b → a ≡ b
-one_octets text a b writes also =
-    let same : Ok a ≡ Ok b = sym (pairs_of 0 text a writes) ∙ pairs_of 0 text b also in
-    ap (λ (r : Result (List ℕ) FromHexError). result_unwrap_or r []) same
-
--- what octets are written as writes them
-pub lower_writes : (octets : List ℕ) → IsBytes octets → IsHexadecimal (lower_hexadecimal octets) octets
-unfolding IsHexadecimal lower_hexadecimal
-lower_writes [] bytes = tt
-lower_writes (octet ∷ octets) bytes =
-    let fits : octet < 256 = bytes 0 in
-    let high = digit_value-digit_char (octet / 16) (omega arith) in
-    let low = digit_value-digit_char (octet % 16) (omega arith) in
-    (record { high_digit = omega (arith, high); low_digit = omega (arith, low); value = omega (arith, high, low) }, lower_writes octets (λ k. bytes (suc k)))

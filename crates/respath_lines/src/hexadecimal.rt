@@ -32,6 +32,7 @@ fn value_of(byte: u8) -> u8
 
 /// The octet that two digits write; None where one of them is no digit.
 #[inline(always)]
+#[tactic(auto, using(crate::proofs::HexadecimalLemmas::value_is))]
 fn octet_of(high: u8, low: u8) -> Option<u8>
     ensures { MatchOption result ((octet : ℕ) → ¬ IsPairOf high low octet) (IsPairOf high low) }
 {

@@ -16,7 +16,7 @@ pub claim_of_listed : {Y : Type 0} (items : Y → List AsBlock) (read : Resource
     (listed : ResourcesChoice Y) (claim : Claim) → ListsBy (λ xs l. items l ≡ xs) read listed
     → ListsBy (λ l set. IsRunsOfBlocks as_bounds (items l) set) listed claim
     → ListsBy (IsRunsOfBlocks as_bounds) read claim
-claim_of_listed items v1 listed claim e of = grind (arith)
+claim_of_listed items read listed claim e of = grind (arith)
 
 -- ---- in either mode
 

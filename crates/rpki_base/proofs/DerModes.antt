@@ -118,20 +118,20 @@ sequence_modal next G H reading by is has modal state = record {
 pub exact_or_memory_by : {X Y : Type 0} (S : Grammar Y) (reading : Reading Y) (by : Bool → Reading Y) (view : X → Y)
     (old new : Cursor) (result : Result X (OrMemory DerError)) → IsModal S reading by
     → TakesOrMemory view old new result (by (is_strict old)) → Lenient old (TakesOrMemory view old new result reading)
-exact_or_memory_by v0 reading by view old new result modal took lenient = grind (arith, lenient_is)
+exact_or_memory_by S reading by view old new result modal took lenient = grind (arith, lenient_is)
 
 -- one that answers what is said by what the reading gives
 pub exact_said_by : {X Y : Type 0} (S : Grammar Y) (C : Y → X → Type 0) (reading : Reading Y) (by : Bool → Reading Y)
     (old new : Cursor) (result : Result X (OrMemory DerError)) → IsModal S reading by
     → TakesSaidOrMemory C old new result (by (is_strict old)) → Lenient old (TakesSaidOrMemory C old new result reading)
-exact_said_by v0 v1 reading by old new result modal took lenient = grind (arith, lenient_is)
+exact_said_by S C reading by old new result modal took lenient = grind (arith, lenient_is)
 
 -- a take that answers what is said by what the reading gives
 pub refused_said_by : {X Y : Type 0} (G S : Grammar Y) (C : Y → X → Type 0) (reading : Reading Y)
     (by : Bool → Reading Y) (old new : Cursor) (result : Result X (OrMemory DerError)) → IsReading G reading
     → IsModal S reading by → TakesSaidOrMemory C old new result (by (is_strict old))
     → NotCanonicalOrMemory (Refines G C) old result
-refused_said_by v0 v1 v2 reading by old new v7 is modal took = grind (arith, refused_at)
+refused_said_by G S C reading by old new result is modal took = grind (arith, refused_at)
 
 -- a take, by another name of the grammar, which has to be one at the front of the octets alone
 pub reads_same : {X Y : Type 0} (G H : Grammar Y) (view : X → Y) (old new : Cursor)

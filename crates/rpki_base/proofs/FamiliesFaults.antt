@@ -72,7 +72,7 @@ module _ {X : Type 0} (claim_at : AddressFamily → Reading X) (names : (family 
   member_shorter before bytes one is = grind (arith, tagged_shorter)
 
   none_seen : (family : AddressFamily) → was_seen (false, false) family ≡ false
-  none_seen v0 = grind arith
+  none_seen family = grind arith
 
   -- the family was there, or is that of one of the members
   abbrev IsThere : ByFamily X → List (AddressFamily × X) → AddressFamily → Type 0
@@ -82,12 +82,12 @@ module _ {X : Type 0} (claim_at : AddressFamily → Reading X) (names : (family 
   there_behind : (found : ByFamily X) (member : AddressFamily × X) (members : List (AddressFamily × X))
       (family : AddressFamily) → IsThere (with_claim found member.0 member.1) members family
       → IsThere found (member ∷ members) family
-  there_behind found v1 members v3 there = grind arith
+  there_behind found member members family there = grind arith
 
   there_before : (found : ByFamily X) (member : AddressFamily × X) (members : List (AddressFamily × X))
       (family : AddressFamily) → IsThere found (member ∷ members) family
       → IsThere (with_claim found member.0 member.1) members family
-  there_before found v1 members v3 there = grind arith
+  there_before found member members family there = grind arith
 
   abbrev BeginsThere : ByFamily X → List (AddressFamily × X) → List ℕ → Type 0
   BeginsThere found members content = (family : AddressFamily × List ℕ) × (family_at content ≡ Ok family) × IsThere found members family.0
@@ -149,7 +149,7 @@ module _ {X : Type 0} (claim_at : AddressFamily → Reading X) (names : (family 
   twice_fails : (content : List ℕ) → families_in claim_at content ≡ Err DuplicateFamily
       → BeginsWithRepeat claim_at content
   unfolding families_in
-  twice_fails v0 is = grind (arith, begins_value, repeats)
+  twice_fails content is = grind (arith, begins_value, repeats)
 
   fails_twice : (content : List ℕ) → BeginsWithRepeat claim_at content
       → families_in claim_at content ≡ Err DuplicateFamily

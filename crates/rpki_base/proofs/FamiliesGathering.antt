@@ -9,7 +9,7 @@ Adds before members fs = (family : AddressFamily) → listed (of_family family b
 module _ {X : Type 0} where
   -- a list of one at most tells what there is
   pub listed_is : (a b : Option X) → listed a ++ [] ≡ listed b → a ≡ b
-  listed_is v0 v1 e = grind arith
+  listed_is a b e = grind arith
 
   -- no members add nothing
   nothing_adds : (fs : ByFamily X) → Adds fs [] fs
@@ -26,11 +26,11 @@ module _ {X : Type 0} where
   pub add_one : (before : ByFamily X) (family : AddressFamily) (x : X) (members : List (AddressFamily × X))
       (fs : ByFamily X) → was_seen (seen before) family ≡ false → Adds (with_claim before family x) members fs
       → Adds before ((family, x) ∷ members) fs
-  add_one before v1 x members fs new adds = grind arith
+  add_one before family x members fs new adds = grind arith
 
   -- two claims are more than a family has
   too_many : (x y : X) (zs : List X) (o : Option X) → x ∷ y ∷ zs ≡ listed o → ⊥
-  too_many x y zs v3 e = grind arith
+  too_many x y zs o e = grind arith
 
   -- the claim is new to its family, and it and the others are all
   pub record One (before : ByFamily X) (family : AddressFamily) (x : X) (members : List (AddressFamily × X)) (fs : ByFamily X) : Type 0 where
@@ -151,7 +151,7 @@ module _ {X : Type 0} (G : AddressFamily → Grammar X) where
   -- and so does what they gather
   one_there : (family : AddressFamily) (o : Option X) → AllByRecursion (IsThere family) (listed o)
       → IfSome o (IsThere family)
-  one_there family v1 all = grind arith
+  one_there family o all = grind arith
 
   pub each_there : (family : AddressFamily) (bytes : List ℕ) (fs : ByFamily X) → IsFamilies G bytes fs
       → IfSome (of_family family fs) (IsThere family)

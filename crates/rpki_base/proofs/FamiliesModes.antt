@@ -33,7 +33,7 @@ pub exact_families : {X Y : Type 0} (C : ByFamily Y → X → Type 0) (claim_at 
     → ((family : AddressFamily) (bytes : List ℕ) → Tightens false (by false family bytes) (claim_at family bytes))
     → TakesSaidOrMemory C old new result (families_by (is_strict old) (by (is_strict old)))
     → Lenient old (TakesSaidOrMemory C old new result (families_at claim_at))
-exact_families v0 claim_at by old new result tight took lenient = grind (arith, families_tighten, same_found)
+exact_families C claim_at by old new result tight took lenient = grind (arith, families_tighten, same_found)
 
 -- ---- strictly
 

@@ -55,7 +55,7 @@ module _ {B : Type 0} (f : B → ℕ × ℕ) where
 
 -- the runs of a set are those of any set with the same numbers
 pub IsRunsOf-same : (xs : Runs) (S U : ℕ → Type 0) → ((n : ℕ) → S n ↔ U n) → IsRunsOf S xs → IsRunsOf U xs
-IsRunsOf-same xs v1 v2 same h = grind (arith)
+IsRunsOf-same xs S U same h = grind (arith)
 
 -- runs are a chain of blocks that are their own bounds
 is_chain : (S : ℕ → Type 0) (xs : Runs) → IsRunsOf S xs → IsChain (λ b. b) (λ b. b) xs

@@ -75,7 +75,7 @@ integer-end n lt = grind (arith, drop_at, high_zero, length-append)
 -- a bit string that is read meets the conditions
 bits_say : (content : List ℕ) (b : Bits) → bits content ≡ Ok b → IsBitContent content b
 unfolding bits
-bits_say v0 b e = grind (arith, ltb-false, ok_is, or_parts, passed)
+bits_say content b e = grind (arith, ltb-false, ok_is, or_parts, passed)
 
 -- a bit string that meets the conditions is read
 say_bits : (content : List ℕ) (b : Bits) → IsBitContent content b → bits content ≡ Ok b
@@ -89,7 +89,7 @@ bits_check = record { takes = λ content b fits e. bits_say content b e; again =
 -- a NULL that is read has no octet
 nothing_says : (content : List ℕ) (u : Unit {0}) → nothing content ≡ Ok u → content ≡ []
 unfolding nothing
-nothing_says v0 u e = grind arith
+nothing_says content u e = grind arith
 
 -- no octets are read as a NULL
 says_nothing : (content : List ℕ) (u : Unit {0}) → content ≡ [] → nothing content ≡ Ok u

@@ -12,17 +12,17 @@ use Rattle.rpki_der.proofs.Steps.{IsCheck, bind_ok, ok_is, ok_or_err}
 
 -- leniently the same is found
 pub same_found : {A : Type 0} (by found : Result A DerError) → Tightens false by found → by ≡ found
-same_found by found v2 = grind arith
+same_found by found tight = grind arith
 
 -- what is Ok is found
 pub found_is : {A : Type 0} (strict : Bool) (by found : Result A DerError) (x : A) → Tightens strict by found
     → by ≡ Ok x → found ≡ Ok x
-found_is strict by found x v4 ok = grind (arith, ok_or_err)
+found_is strict by found x tight ok = grind (arith, ok_or_err)
 
 -- a fault that isn't NotCanonical is found
 pub fault_is : {A : Type 0} (strict : Bool) (by found : Result A DerError) (e : DerError) → Tightens strict by found
     → by ≡ Err e → ((strict ≡ true) × (e ≡ NotCanonical)) ⊎ (found ≡ Err e)
-fault_is strict by found e v4 failed = grind arith
+fault_is strict by found e tight failed = grind arith
 
 -- so leniently the readings are one
 pub lenient_is : {X : Type 0} (S : Grammar X) (reading : Reading X) (by : Bool → Reading X) → IsModal S reading by
@@ -39,23 +39,23 @@ module _ {A B : Type 0} (strict : Bool) (by : Result A DerError) (found : Result
   -- one step after another
   pub bind_tightens : Tightens strict by found → ((x : A) → Tightens strict (f x) (g x))
       → Tightens strict (by >>= f) (found >>= g)
-  bind_tightens v0 more = grind arith
+  bind_tightens tight more = grind arith
 
 -- one of two by a condition
 pub cond_tightens : {X : Type 0} (strict b : Bool) (p q r s : Result X DerError) → Tightens strict p r
     → Tightens strict q s → Tightens strict (cond b p q) (cond b r s)
-cond_tightens strict v1 p q r s first second = grind arith
+cond_tightens strict b p q r s first second = grind arith
 
 -- a test that is made strictly alone
 pub passing_tightens : {X : Type 0} (strict : Bool) (test : X → Bool) (x : X)
     → Tightens strict (passing strict test x) (Ok x)
 unfolding passing
-passing_tightens v0 test x = grind arith
+passing_tightens strict test x = grind arith
 
 -- behind what is found
 pub then_passing : {X : Type 0} (strict : Bool) (test : X → Bool) (r : Result X DerError)
     → Tightens strict (r >>= passing strict test) r
-then_passing strict test v2 = grind (arith, passing_tightens)
+then_passing strict test r = grind (arith, passing_tightens)
 
 -- what is looked at once more
 pub refined_tightens : {X Y : Type 0} (strict : Bool) (by reading : Reading X) (look check : X → Result Y DerError)
@@ -97,7 +97,7 @@ passes test x e = rw e refl
 pub passing_check : {X Y : Type 0} (Fits : X → Type 0) (C : X → Y → Type 0) (P : Y → Type 0)
     (check : X → Result Y DerError) (test : Y → Bool) → IsCheck Fits C check → ((y : Y) → test y ≡ true → P y)
     → ((y : Y) → P y → test y ≡ true) → IsCheck Fits (λ x y. C x y × P y) (λ x. check x >>= passing true test)
-passing_check v0 v1 v2 check test is says back = grind (arith, bind_ok, passed_is, passes)
+passing_check Fits C P check test is says back = grind (arith, bind_ok, passed_is, passes)
 
 -- what a reading finds, of that what passes a test
 pub passing_reading : {X : Type 0} (G : Grammar X) (P : X → Type 0) (reading : Reading X) (test : X → Bool)
@@ -122,12 +122,12 @@ plain_modal G reading is = record { tight = is; tightens = λ strict bytes. inl 
 -- twice
 tightens_twice : {A : Type 0} (strict : Bool) (a b c : Result A DerError) → Tightens strict a b → Tightens strict b c
     → Tightens strict a c
-tightens_twice strict a b c v4 v5 = grind arith
+tightens_twice strict a b c first second = grind arith
 
 -- a test that is made strictly alone, of what a reading finds
 passing_tested : {X : Type 0} (strict : Bool) (test : X → Bool) (r : Result (X × List ℕ) DerError)
     → Tightens strict (r >>= λ x. passing strict test x.0 >>= λ y. Ok (y, x.1)) r
-passing_tested strict test v2 = grind (arith, bind_tightens, passing_tightens)
+passing_tested strict test r = grind (arith, bind_tightens, passing_tightens)
 
 -- one whose finds pass a test strictly
 pub tested_modal : {X : Type 0} (S : Grammar X) (P : X → Type 0) (reading : Reading X) (by : Bool → Reading X)
@@ -145,7 +145,7 @@ tested_modal S P reading by test is says back = record {
 pub exact_by : {X Y : Type 0} (S : Grammar Y) (reading : Reading Y) (by : Bool → Reading Y) (view : X → Y)
     (old new : Cursor) (result : Result X DerError) → IsModal S reading by
     → Takes view old new result (by (is_strict old)) → Lenient old (Takes view old new result reading)
-exact_by v0 reading by view old new result modal took lenient = grind (arith, lenient_is)
+exact_by S reading by view old new result modal took lenient = grind (arith, lenient_is)
 
 -- one that answers None at the end
 pub exact_optional_by : {X Y : Type 0} (S : Grammar Y) (reading : Reading Y) (by : Bool → Reading Y)
@@ -159,19 +159,19 @@ exact_optional_by S reading by view old new result modal took lenient =
 pub refused_at : {X : Type 0} (G S : Grammar X) (reading : Reading X) (by : Bool → Reading X) → IsReading G reading
     → IsModal S reading by → (strict : Bool) (bytes : List ℕ) (e : DerError) → by strict bytes ≡ Err e
     → ((strict ≡ true) × (e ≡ NotCanonical)) ⊎ NoFront G bytes
-refused_at v0 v1 reading by is modal strict bytes e failed = grind (arith, fault_is, none_by)
+refused_at G S reading by is modal strict bytes e failed = grind (arith, fault_is, none_by)
 
 -- a take
 pub refused_by : {X Y : Type 0} (G S : Grammar Y) (reading : Reading Y) (by : Bool → Reading Y) (view : X → Y)
     (old new : Cursor) (result : Result X DerError) → IsReading G reading → IsModal S reading by
     → Takes view old new result (by (is_strict old)) → NotCanonicalOr G old result
-refused_by v0 v1 reading by view old new v7 is modal took = grind (arith, refused_at)
+refused_by G S reading by view old new result is modal took = grind (arith, refused_at)
 
 -- a take that answers None at the end
 pub refused_optional_by : {X Y : Type 0} (G S : Grammar Y) (reading : Reading Y) (by : Bool → Reading Y)
     (view : X → Option Y) (old new : Cursor) (result : Result X DerError) → IsReading G reading → IsModal S reading by
     → Takes view old new result (optional (by (is_strict old))) → NotCanonicalOr G old result
-refused_optional_by v0 v1 reading by view old new v7 is modal took = grind (arith, optional_err, refused_at)
+refused_optional_by G S reading by view old new result is modal took = grind (arith, optional_err, refused_at)
 
 -- a content
 pub refused_in : {X Y : Type 0} (C : Grammar Y) (check : List ℕ → Result Y DerError) (by : Result Y DerError)

@@ -8,7 +8,7 @@ use Rattle.rpki_ip.proofs.PrefixBits.{bits_few, bits_fit, bits_say, byte_is, fir
 
 -- addresses of a family have 128 bits at most
 pub bits_few_enough : (family : AddressFamily) → bits_of family ≤ 128
-bits_few_enough v0 = grind (arith)
+bits_few_enough family = grind (arith)
 
 -- ---- the reading
 
@@ -136,7 +136,7 @@ prefix_is_spelled limit bytes p le fits (b, ((counted, is), padded), says) =
 
 pub spelled_is_prefix : (limit : ℕ) (bytes : List ℕ) (p : PrefixValue)
     → Spells (IsPrefixWithin limit) prefix_der bytes p → IsStrictPrefix limit bytes p
-spelled_is_prefix limit bytes p v3 = grind (arith, bits_few, bits_fit, bits_say, prefix_padded, value_is)
+spelled_is_prefix limit bytes p is = grind (arith, bits_few, bits_fit, bits_say, prefix_padded, value_is)
 
 pub written_prefix_reading : (limit : ℕ) → limit ≤ 128
     → IsReading (Spells (IsPrefixWithin limit) prefix_der) (prefix_by true limit)
@@ -162,7 +162,7 @@ pub length_first : (strict : Bool) (limit : ℕ) (content : List ℕ) → limit 
     → prefix_in_by strict limit content
     ≡ cond (is_longer limit content) (Err BadPrefix) (bits_by strict content >>= prefix_of limit)
 unfolding prefix_in_by prefix_of_by bits bits_by prefix_of passing
-length_first strict limit v2 le = grind (arith, and_parts, either_order, eqb-true, le-leb, le-ltb, leb-true, lt-ltb, ltb-false, ltb-true, or_from, or_parts)
+length_first strict limit content le = grind (arith, and_parts, either_order, eqb-true, le-leb, le-ltb, leb-true, lt-ltb, ltb-false, ltb-true, or_from, or_parts)
 
 -- ---- ranges
 

@@ -26,7 +26,7 @@ module _ (family : AddressFamily) (a : IpAddr) (is : IsAddressText (Some family)
 
 -- the address of a family is of that family
 of_family : (family : AddressFamily) (bits : ℕ) → family_of (as_ip family bits) ≡ family
-of_family v0 bits = grind arith
+of_family family bits = grind arith
 
 -- and its text writes it
 is_written : (family : AddressFamily) (bits : ℕ) → IsAddress (as_ip family bits)
@@ -45,19 +45,19 @@ record Ends (family : AddressFamily) (n : ℕ) : Type 0 where
 
 -- so the least number of a block of the family
 begins_of : (family : AddressFamily) (b : IpBlock) → IsBlockOf family b → Begins family (ip_bounds b).0
-begins_of v0 v1 v2 = grind arith
+begins_of family b is = grind arith
 
 -- and the greatest of a range
 ends_of : (family : AddressFamily) (r : RangeValue) → IsBlockOf family (Range r) → Ends family r.max
-ends_of v0 r v2 = grind arith
+ends_of family r is = grind arith
 
 -- both are in order
 range_ordered : (family : AddressFamily) (r : RangeValue) → IsBlockOf family (Range r) → r.min ≤ r.max
-range_ordered v0 r is = grind arith
+range_ordered family r is = grind arith
 
 -- the prefix of a block
 pub prefix_of : (family : AddressFamily) (p : PrefixValue) → IsBlockOf family (Prefix p) → IsPrefix 128 p
-prefix_of v0 p is = grind arith
+prefix_of family p is = grind arith
 
 -- a prefix of whole IPv4 addresses has at most 32 bits
 short_prefix : (family : AddressFamily) (p : PrefixValue) → IsBlockOf family (Prefix p) → p.len ≤ bits_of family
@@ -76,7 +76,7 @@ short_prefix Ipv4 p (is, whole) = elim (cases_lt 32 p.len) [
 -- a prefix of the greatest length is one address
 last_single : (family : AddressFamily) (p : PrefixValue) → p.len ≡ bits_of family → Begins family p.first
     → greatest_of (as_ip family (shown_bits family p.first)) ≡ last_of 128 p
-last_single v0 p e begins = grind arith
+last_single family p e begins = grind arith
 
 -- a block that the text writes, with the bounds of b
 pub record WritesBoundsOf (family : AddressFamily) (text : List ℕ) (b : IpBlock) : Type 0 where
@@ -134,7 +134,7 @@ block_back family text r exact b h is = grind (arith, written_of)
 -- a block of one family that the text writes is one of either
 either_family : (family : AddressFamily) (text : List ℕ) (b : IpBlock) → IsIpBlockText (Some family) text b
     → IsIpBlockText None text b
-either_family family text v2 h = grind arith
+either_family family text b h = grind arith
 
 -- so a reader of either family reads both back
 pub reads_block : (text : List ℕ) (r : Result IpBlock FromStrError)

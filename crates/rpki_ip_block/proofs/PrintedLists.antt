@@ -69,7 +69,7 @@ ipv4_text_dot n = dotted_dot (octets_of n) (length-last_digits 0x100 (lit< tt) 4
 
 -- the least number of a block
 first_below : (family : AddressFamily) (b : IpBlock) → IsBlockOf family b → (ip_bounds b).0 < 2 ^ 128
-first_below v0 v1 is = grind (arith)
+first_below family b is = grind (arith)
 
 -- so a byte of each address of a family stands in what is printed of a block
 block_byte : (family : AddressFamily) (byte : ℕ) → ((n : ℕ) → n < 2 ^ 128 → HasByte byte (addr_text family n))
@@ -101,7 +101,7 @@ module _ (P : ℕ → Type 0) (slash_too : P slash) (dash_too : P dash) (digits_
 
 -- they are visible, so a printed block can stand in a list
 shown_byte : (b : ℕ) → IsAddressByte b → IsShown b
-shown_byte b v1 = grind (arith)
+shown_byte b is = grind (arith)
 
 shown_digit : (b : ℕ) → IsInRange 48 57 b → IsShown b
 shown_digit b h = let low = h.0 in let high = h.1 in (omega (arith, low), omega (arith, high))
@@ -151,7 +151,7 @@ list_no_colon (b ∷ bs) is = no_colon (block_list_text Ipv4 (b ∷ bs)) (All-ap
 
 -- so a printed block isn't taken for one of the other family
 not_foreign : (family : AddressFamily) (b : IpBlock) → IsBlockOf family b → ¬ IsForeign family (ip_block_text family b)
-not_foreign v0 b is = grind (arith, block_colon, no_colon, small_block)
+not_foreign family b is = grind (arith, block_colon, no_colon, small_block)
 
 -- blocks that the texts write, with the bounds of bs
 pub record WritesAll (Has : List ℕ → IpBlock → Type 0) (texts : List (List ℕ)) (bs : List IpBlock) : Type 0 where
@@ -213,7 +213,7 @@ module _ {V : Type 0} (view : V → List IpBlock) (text : List ℕ) (r : Result 
   of_values : (bs values : List IpBlock) → map ip_bounds values ≡ map ip_bounds bs
       → (r : Result V (OrMemory FromStrError)) → MatchResult r (λ v. view v ≡ values) IsMemory
       → MatchResult r (λ v. map ip_bounds (view v) ≡ map ip_bounds bs) IsMemory
-  of_values bs values same v3 h = grind (arith)
+  of_values bs values same r h = grind (arith)
 
   pub family_list_back : (family : AddressFamily)
       → AnswersOrMemory view (HasBlocks family text) (HasBlocksFault family text) r → (bs : List IpBlock)

@@ -62,7 +62,7 @@ no_addr_and_addr text F g h k = let (a, is, fault) = k.holds in (around_at slash
 
 -- a text without them has one fault
 no_parts_one : (text : List ℕ) (d e : ParsePrefixError) → HasNoParts text d → HasNoParts text e → d ≡ e
-no_parts_one text v1 v2 h k = grind (arith, around_at, empty_around, no_addr_and_addr, none_around, same_number_fault)
+no_parts_one text d e h k = grind (arith, around_at, empty_around, no_addr_and_addr, none_around, same_number_fault)
 
 -- what is read by a rule that gives one prefix or one error
 module _ (Rule : IpAddr → ℕ → FamilyPrefix → Type 0) (Fails : IpAddr → ℕ → PrefixError → Type 0)
@@ -103,11 +103,11 @@ prefix_one a n p q h k = λ i. record { addr = (h.same_addr ∙ sym k.same_addr)
 
 -- a prefix and an error exclude each other
 prefix_apart : (a : IpAddr) (n : ℕ) (p : FamilyPrefix) (f : PrefixError) → IsPrefixOf a n p → HasPrefixError a n f → ⊥
-prefix_apart a n p v3 h above = grind (arith)
+prefix_apart a n p f h above = grind (arith)
 
 -- there is one error
 error_one : (a : IpAddr) (n : ℕ) (f g : PrefixError) → HasPrefixError a n f → HasPrefixError a n g → f ≡ g
-error_one a n v2 v3 h k = grind (arith)
+error_one a n f g h k = grind (arith)
 
 -- the same where host bits are cleared
 relaxed_one : (a : IpAddr) (n : ℕ) (p q : FamilyPrefix) → IsRelaxedPrefixOf a n p → IsRelaxedPrefixOf a n q → p ≡ q
@@ -115,17 +115,17 @@ relaxed_one a n p q h k = λ i. record { addr = (h.same_bits ∙ sym k.same_bits
 
 -- clearing bits leaves the family
 same_width : (a : IpAddr) (n : ℕ) → width (cleared_addr a n) ≡ width a
-same_width v0 n = grind (arith)
+same_width a n = grind (arith)
 
 -- a prefix and an error exclude each other
 relaxed_apart : (a : IpAddr) (n : ℕ) (p : FamilyPrefix) (f : PrefixError) → IsRelaxedPrefixOf a n p
     → HasRelaxedPrefixError a n f → ⊥
-relaxed_apart a n p v3 h above = grind (arith, same_width)
+relaxed_apart a n p f h above = grind (arith, same_width)
 
 -- there is one error
 relaxed_error_one : (a : IpAddr) (n : ℕ) (f g : PrefixError) → HasRelaxedPrefixError a n f → HasRelaxedPrefixError a n g
     → f ≡ g
-relaxed_error_one a n v2 v3 h k = grind (arith)
+relaxed_error_one a n f g h k = grind (arith)
 
 -- what is found by the relaxed reader is the answer
 pub reads_relaxed : (text : List ℕ) (r : Result FamilyPrefix ParsePrefixError)
@@ -135,7 +135,7 @@ reads_relaxed = answers_by IsRelaxedPrefixOf HasRelaxedPrefixError relaxed_one r
 
 -- what is printed
 is_address : (a : IpAddr) → address_number a < 2 ^ width a → IsAddress a
-is_address v0 below = grind (arith)
+is_address a below = grind (arith)
 
 -- what is printed of a prefix writes it
 pub IsPrefixText-prefix_text : (p : FamilyPrefix) → IsFamilyPrefix p → IsPrefixText (prefix_text p) p

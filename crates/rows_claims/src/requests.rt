@@ -23,19 +23,6 @@ pub fn answer(alloc: Global, operands: &str) -> Result<String, AllocError> {
     }
 }
 
-/// What was asked for since, if the call was made.
-fn told<T: Drop>(
-    alloc: Global,
-    counting: &Refusing,
-    before: Asked,
-    made: Result<T, AllocError>,
-) -> Result<String, AllocError> {
-    match made {
-        Ok(_) => before.since(alloc, counting),
-        Err(error) => Err(error),
-    }
-}
-
 /// `requests table PREFIX[-MAX] AS | ..` of a table that is asked for routes, `requests payloads ..` of a list that is
 /// sent to routers.
 fn of_list(
@@ -57,12 +44,7 @@ fn of_table(
     payloads: &[(MaxLenPrefix, Asn)],
 ) -> Result<String, AllocError> {
     let before = Asked::of(counting);
-    told(
-        alloc,
-        counting,
-        before,
-        OriginTable::new(counting, payloads),
-    )
+    before.told(alloc, counting, OriginTable::new(counting, payloads))
 }
 
 /// `requests many N` of a table of N payloads.
@@ -79,12 +61,7 @@ fn of_payloads(
     payloads: &[(MaxLenPrefix, Asn)],
 ) -> Result<String, AllocError> {
     let before = Asked::of(counting);
-    told(
-        alloc,
-        counting,
-        before,
-        PayloadTable::new(counting, payloads),
-    )
+    before.told(alloc, counting, PayloadTable::new(counting, payloads))
 }
 
 /// `requests changes LIST ; LIST` of what is sent from the one list to the other.
@@ -126,7 +103,7 @@ fn changes_to<'a>(
 ) -> Result<String, AllocError> {
     let next = PayloadTable::new(counting, next)?;
     let before = Asked::of(counting);
-    told(alloc, counting, before, table.changes_to(counting, &next))
+    before.told(alloc, counting, table.changes_to(counting, &next))
 }
 
 /// `requests OPERATION A ; B ; C | D ; E ; F`, and `requests lists A ; B ; C` of the reading.
@@ -167,9 +144,9 @@ fn of_both<'a>(
 ) -> Result<String, AllocError> {
     let before = Asked::of(counting);
     match call {
-        "union" => told(alloc, counting, before, set.union(counting, other)),
-        "intersection" => told(alloc, counting, before, set.intersection(counting, other)),
-        "difference" => told(alloc, counting, before, set.difference(counting, other)),
+        "union" => before.told(alloc, counting, set.union(counting, other)),
+        "intersection" => before.told(alloc, counting, set.intersection(counting, other)),
+        "difference" => before.told(alloc, counting, set.difference(counting, other)),
         _ => String::from_str(alloc, "no such call"),
     }
 }

@@ -24,4 +24,17 @@ impl Asked {
         let octets = counting.octets().saturating_sub(self.octets);
         format!(in alloc; "requests {requests}, octets {octets}")
     }
+
+    /// The same, where the call was made that has ended since then.
+    pub fn told<T: Drop>(
+        self,
+        alloc: Global,
+        counting: &Refusing,
+        made: Result<T, AllocError>,
+    ) -> Result<String, AllocError> {
+        match made {
+            Ok(_) => self.since(alloc, counting),
+            Err(error) => Err(error),
+        }
+    }
 }

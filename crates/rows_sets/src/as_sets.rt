@@ -1,7 +1,7 @@
 //! What sets of AS numbers answer.
-use crate::lists::Lists;
 use crate::question::{Operation, Question};
-use crate::small_sets::numbers;
+use rows_chains::lists::Lists;
+use rows_chains::small_sets::numbers;
 use rows_support::kept::kept;
 use rows_support::print::{self, cut};
 use rpki_as::block::AsBlock;

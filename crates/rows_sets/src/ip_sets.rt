@@ -1,6 +1,6 @@
 //! What sets of addresses of one family answer.
-use crate::lists::Lists;
 use crate::question::{Operation, Question};
+use rows_chains::lists::Lists;
 use rows_support::kept::kept;
 use rows_support::print::{self, cut};
 use rpki_base::memory::OrMemory;

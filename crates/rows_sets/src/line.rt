@@ -1,6 +1,7 @@
 //! The answer to a line, by its command.
 use crate::question::Question;
-use crate::{as_sets, chains, ip_sets, long, small_sets};
+use crate::{as_sets, ip_sets, long};
+use rows_chains::{chains, small_sets};
 use rows_support::print::cut;
 use rows_support::refusals::Call;
 use rpki_ip::family::AddressFamily;

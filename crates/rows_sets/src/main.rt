@@ -5,15 +5,11 @@
 #![tactic(auto)]
 
 mod as_sets;
-mod chains;
 mod ip_sets;
 mod line;
-mod lists;
 mod long;
-mod pairs;
 mod question;
 mod requests;
-mod small_sets;
 
 use line::Line;
 use rows_support::print::cut;

@@ -2,7 +2,7 @@
 mod as_sets;
 mod ip_sets;
 
-use crate::lists::Lists;
+use rows_chains::lists::Lists;
 use rows_support::print::{self, cut};
 use rows_support::requests::Asked;
 use rpki_base::asn::Asn;
@@ -25,19 +25,6 @@ pub fn answer(alloc: Global, operands: &str) -> Result<String, AllocError> {
     }
 }
 
-/// What was asked for since, if the call was made.
-fn told<T: Drop>(
-    alloc: Global,
-    counting: &Refusing,
-    before: Asked,
-    made: Result<T, AllocError>,
-) -> Result<String, AllocError> {
-    match made {
-        Ok(_) => before.since(alloc, counting),
-        Err(error) => Err(error),
-    }
-}
-
 // ---- addresses of one family
 
 fn of_v4(alloc: Global, counting: &Refusing, list: &str) -> Result<String, AllocError> {
@@ -53,12 +40,7 @@ fn v4_of_blocks(
     blocks: &[Ipv4Block],
 ) -> Result<String, AllocError> {
     let before = Asked::of(counting);
-    told(
-        alloc,
-        counting,
-        before,
-        Ipv4Blocks::from_blocks(counting, blocks),
-    )
+    before.told(alloc, counting, Ipv4Blocks::from_blocks(counting, blocks))
 }
 
 // ---- small sets
@@ -95,5 +77,5 @@ fn small_copy<'a>(
     set: &SmallAsnSet<&'a Refusing>,
 ) -> Result<String, AllocError> {
     let before = Asked::of(counting);
-    told(alloc, counting, before, set.clone(counting))
+    before.told(alloc, counting, set.clone(counting))
 }

@@ -1,6 +1,5 @@
 //! How much memory the calls that make sets of addresses ask for.
-use super::told;
-use crate::lists::Lists;
+use rows_chains::lists::Lists;
 use rows_support::print;
 use rows_support::requests::Asked;
 use rpki_chain::path::Overclaim;
@@ -28,12 +27,7 @@ pub fn answer(
 
 fn text(alloc: Global, counting: &Refusing, list: &str) -> Result<String, AllocError> {
     let before = Asked::of(counting);
-    told(
-        alloc,
-        counting,
-        before,
-        Ok(IpBlocks::from_str(counting, list)),
-    )
+    before.told(alloc, counting, Ok(IpBlocks::from_str(counting, list)))
 }
 
 fn of_blocks(
@@ -45,14 +39,9 @@ fn of_blocks(
 ) -> Result<String, AllocError> {
     let before = Asked::of(counting);
     match call {
-        "from_blocks" => told(
-            alloc,
-            counting,
-            before,
-            IpBlocks::from_blocks(counting, blocks),
-        ),
-        "from_vec" => told(alloc, counting, before, from_vec(counting, blocks)),
-        "build" => told(alloc, counting, before, built(counting, blocks, more)),
+        "from_blocks" => before.told(alloc, counting, IpBlocks::from_blocks(counting, blocks)),
+        "from_vec" => before.told(alloc, counting, from_vec(counting, blocks)),
+        "build" => before.told(alloc, counting, built(counting, blocks, more)),
         _ => with(
             alloc,
             counting,
@@ -134,10 +123,10 @@ fn of_sets<'a>(
 ) -> Result<String, AllocError> {
     let before = Asked::of(counting);
     match call {
-        "union" => told(alloc, counting, before, set.union(counting, other)),
-        "intersection" => told(alloc, counting, before, set.intersection(counting, other)),
-        "difference" => told(alloc, counting, before, set.difference(counting, other)),
-        "assign" => told(alloc, counting, before, assigned(counting, set, other)),
+        "union" => before.told(alloc, counting, set.union(counting, other)),
+        "intersection" => before.told(alloc, counting, set.intersection(counting, other)),
+        "difference" => before.told(alloc, counting, set.difference(counting, other)),
+        "assign" => before.told(alloc, counting, assigned(counting, set, other)),
         "refuse" => path(alloc, counting, Overclaim::Refuse, set, other),
         "trim" => path(alloc, counting, Overclaim::Trim, set, other),
         _ => of_set(alloc, counting, call, set),
@@ -152,9 +141,9 @@ fn of_set<'a>(
 ) -> Result<String, AllocError> {
     let before = Asked::of(counting);
     match call {
-        "all" => told(alloc, counting, before, IpBlocks::all(counting)),
-        "copy" => told(alloc, counting, before, set.clone()),
-        "octets" => told(alloc, counting, before, octets(counting, set)),
+        "all" => before.told(alloc, counting, IpBlocks::all(counting)),
+        "copy" => before.told(alloc, counting, set.clone()),
+        "octets" => before.told(alloc, counting, octets(counting, set)),
         _ => String::from_str(alloc, "no such call"),
     }
 }
@@ -188,12 +177,7 @@ fn path<'a>(
 ) -> Result<String, AllocError> {
     let steps = steps(anchor, claimed, mode)?;
     let before = Asked::of(counting);
-    told(
-        alloc,
-        counting,
-        before,
-        Ok(anchor.verify_path(counting, &steps)),
-    )
+    before.told(alloc, counting, Ok(anchor.verify_path(counting, &steps)))
 }
 
 fn steps<'a>(

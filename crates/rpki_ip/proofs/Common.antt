@@ -1,21 +1,20 @@
 -- What the proofs of this crate use of std, of the crates below and of its own definitions, passed on by one name.
-pub use Rattle.std.proofs.Common.{Bool, Err, IsTrue, List, None, Ok, Result, Some, [], ap, append_assoc, arith, bit_and, cond, drop, false, get_or, inl, inr, is_ok, length, length-drop, lit<, ltb, map, refl, replicate, rules, subst, suc, sym, take, true, zero, ℕ, ◌%◌, ◌&&◌, ◌*◌, ◌++◌, ◌+◌, ◌-◌, ◌/◌, ◌<◌, ◌^◌, ◌||◌, ◌↔◌, ◌∙◌, ◌∷◌, ◌≡◌, ◌≤◌}
+pub use Rattle.std.proofs.Common.{Bool, Err, IsTrue, List, None, Ok, Result, Some, [], ap, append_assoc, arith, bit_and, cond, drop, false, get_or, inl, inr, is_ok, length, length-drop, lit<, ltb, map, refl, replicate, rules, subst, suc, sym, take, true, zero, ℕ, ◌%◌, ◌*◌, ◌++◌, ◌+◌, ◌-◌, ◌/◌, ◌<◌, ◌^◌, ◌↔◌, ◌∙◌, ◌∷◌, ◌≡◌, ◌≤◌}
 pub use Rattle.std.proofs.Math.Nat.{div-div-eq-div-mul, mod-eq_of_lt, mod_self, mul-div_cancel, mul-mod_left, mul_assoc, pow-le-pow_right, pow-suc, two-pow-succ}
 pub use Rattle.std.proofs.lemmas.Bool.{and_parts, cases_lt, cases_order, eqb-true, le-leb, le-ltb, leb-true, lt-ltb, ltb-false, ltb-true, or_from, or_parts}
 pub use Rattle.std.proofs.lemmas.List.{drop-replicate, length-append, length-take, take-append-drop}
-pub use Rattle.std.proofs.lemmas.List.Elements.{All-head, All-tail}
-pub use Rattle.std.proofs.lemmas.Nat.{and_block, and_comm, and_mask, div-add-mod', div-mul-add, leading_length, mod_low, pow-add, pow_below, pow_pos, shl-shr, shl_below, shr-shr, shr_below, shr_split, trailing_le}
+pub use Rattle.std.proofs.lemmas.List.Elements.{All-head}
+pub use Rattle.std.proofs.lemmas.Nat.{and_block, and_comm, and_mask, div-add-mod', div-mul-add, leading_length, pow-add, pow_below, pow_pos, shl-shr, shl_below, shr-shr, shr_below, shr_split, trailing_le}
 pub use Rattle.std.proofs.lemmas.Str.Pattern.{split_parts}
 pub use Rattle.std.specs.Int.{bit_not, byte_at, bytes_high_first, from_be_bytes, to_be_bytes, trailing_ones, trailing_zeros, w128}
 pub use Rattle.std.specs.Int.Count.{count_leading_zeros, count_trailing_zeros}
-pub use Rattle.std.specs.List.{All}
 pub use Rattle.rpki_addr.proofs.PrefixNumbers.{cleared_first, power_is}
 pub use Rattle.rpki_addr.specs.Bits.{cleared}
 pub use Rattle.rpki_addr.specs.Prefixes.{IsPrefix, PrefixValue, last_of}
 pub use Rattle.rpki_base.proofs.FamilyLemmas.{family_reading, family_written, renamed}
 pub use Rattle.rpki_base.specs.Families.{bits_of, family_of}
 pub use Rattle.rpki_chains.specs.Sets.{IsWithin}
-pub use Rattle.rpki_cover.proofs.Multiples.{IsMultiple, mod_multiple, multiple_diff, multiple_div, multiple_gap, multiple_least, multiple_mod, multiple_self, multiple_smaller, multiple_sum, zeros_divide, zeros_greatest}
+pub use Rattle.rpki_cover.proofs.Multiples.{IsMultiple, mod_multiple, multiple_diff, multiple_gap, multiple_least, multiple_mod, multiple_self, multiple_smaller, multiple_sum, zeros_divide, zeros_greatest}
 pub use Rattle.rpki_cover.proofs.Shortest.{cover_prefixes}
 pub use Rattle.rpki_cover.proofs.Widening.{whole_cover, widened_prefix}
 pub use Rattle.rpki_cover.specs.Covers.{IsShortestCover, widened}

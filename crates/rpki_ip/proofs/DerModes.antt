@@ -1,9 +1,13 @@
 -- Prefixes in either mode: strictly, the octets are those that are written of them.
-use Rattle.rpki_ip.proofs.Common.{Bool, Err, List, Ok, Result, [], ap, arith, cond, drop, get_or, length, refl, subst, suc, sym, take, true, zero, ℕ, ◌%◌, ◌*◌, ◌++◌, ◌+◌, ◌-◌, ◌/◌, ◌<◌, ◌^◌, ◌∙◌, ◌∷◌, ◌≡◌, ◌≤◌, mul-div_cancel, mul-mod_left, mul_assoc, and_parts, eqb-true, le-leb, le-ltb, leb-true, lt-ltb, ltb-false, ltb-true, or_from, or_parts, take-append-drop, pow-add, pow_pos, shl-shr, shr_split, bytes_high_first, to_be_bytes, w128, IsPrefix, PrefixValue, bits_of, IsMultiple, mod_multiple, multiple_gap, multiple_mod, multiple_self, multiple_smaller, multiple_sum, bits_check, bind_tightens, is_padded_of, looked_tightens, padded_is, passed_is, passes, then_passing, IsTagged, fits_content, refined_reading, same_reading, tagged_reading, IsBytes-rest, IsCheck, bind_ok, fits_front, value_is, Bits, IsBitString, IsBits, IsBytes, IsPadded, Refines, Spells, Where, big_endian, big_endian_after, bit_content, bit_string_value, last_octet, IsModal, IsReading, Tightens, bits, bits_by, is_padded, passing, tagged_at, ◌>>=◌, Takes, is_strict, left, DerError, BadPrefix, IsPrefixWithin, IsStrictContent, SaysPrefix, is_longer, octet_count, prefix_at, prefix_bits, prefix_by, prefix_der, prefix_in, prefix_in_by, prefix_of, prefix_of_by, IsRangeWithin, IsSpan, RangeValue}
+use Rattle.rpki_ip.proofs.Common.{Bool, Err, List, Ok, Result, [], ap, arith, cond, drop, get_or, length, refl, subst, suc, sym, take, true, zero, ℕ, ◌%◌, ◌*◌, ◌++◌, ◌+◌, ◌-◌, ◌/◌, ◌<◌, ◌^◌, ◌∙◌, ◌∷◌, ◌≡◌, ◌≤◌, mul-div_cancel, mul_assoc, and_parts, eqb-true, le-leb, le-ltb, leb-true, lt-ltb, ltb-false, ltb-true, or_from, or_parts, take-append-drop, pow-add, pow_pos, shr_split, bytes_high_first, to_be_bytes, w128, IsPrefix, PrefixValue, bits_of, IsMultiple, mod_multiple, multiple_gap, multiple_mod, multiple_self, multiple_smaller, multiple_sum, bits_check, bind_tightens, is_padded_of, looked_tightens, padded_is, passed_is, passes, then_passing, IsTagged, fits_content, refined_reading, same_reading, tagged_reading, IsBytes-rest, IsCheck, bind_ok, fits_front, value_is, Bits, IsBitString, IsBits, IsBytes, IsPadded, Refines, Spells, Where, big_endian, big_endian_after, bit_content, bit_string_value, last_octet, IsModal, IsReading, Tightens, bits, bits_by, is_padded, passing, tagged_at, ◌>>=◌, Takes, is_strict, left, DerError, BadPrefix, IsPrefixWithin, IsStrictContent, SaysPrefix, is_longer, octet_count, prefix_at, prefix_bits, prefix_by, prefix_der, prefix_in, prefix_in_by, prefix_of, prefix_of_by, IsRangeWithin, IsSpan, RangeValue, false, exact_by, parses_by, reads_by, refused_by, refused_in, same_found, Gives, content_octets, is_strict_in, IsPrefixContent, IsPrefixDer}
+use Rattle.std.proofs.Math.Nat.{mul-add-mod_self_right, zero-div}
+use Rattle.std.proofs.lemmas.Nat.{field_of}
 use Rattle.rpki_der.specs.declared.cursor.Cursor.{Cursor}
 use Rattle.rpki_base.specs.declared.family.AddressFamily.{AddressFamily}
 use Rattle.rpki_base.proofs.DerModes.{value_back_by}
-use Rattle.rpki_ip.proofs.DerReadings.{prefix_again, prefix_says}
+use Rattle.rpki_ip.proofs.DerReadings.{bits_prefix_check, prefix_check, prefix_reading}
+use Rattle.rpki_der.specs.declared.content.Content.{Content}
+use Rattle.rpki_der.specs.Views.{Lenient, LenientIn, NotCanonicalInOr, NotCanonicalOr, Parses, ReadsValue, Strict, StrictIn}
 use Rattle.rpki_ip.proofs.PrefixBits.{bits_few, bits_fit, bits_say, byte_is, first_bits, said_prefix}
 
 -- addresses of a family have 128 bits at most
@@ -25,8 +29,10 @@ strict_content_check limit = record {
       let b = bind_ok (prefix_of limit a.0) (passing true (λ p. is_padded a.0)) p a.2 in
       let c = passed_is (λ p. is_padded a.0) b.0 p b.2 in
       let is = bits_check.takes content a.0 tt a.1 in
-      (a.0, (is, padded_is a.0 c.0), prefix_says limit a.0 p is.counted (b.1 ∙ ap (λ q. Ok q) c.1));
-  again = λ content p (b, (is, padded), says). rw (bits_check.again content b is, prefix_again limit b p says) (passes (λ p. is_padded b) p (is_padded_of b padded));
+      (a.0, (is, padded_is a.0 c.0), (bits_prefix_check limit).takes a.0 p is.counted (b.1 ∙ ap (λ q. Ok q) c.1));
+  again =
+      λ content p (b, (is, padded), says). rw (bits_check.again content b is, (bits_prefix_check limit).again b p says)
+      (passes (λ p. is_padded b) p (is_padded_of b padded));
 }
 
 pub content_tightens : (strict : Bool) (limit : ℕ) (content : List ℕ)
@@ -67,15 +73,11 @@ with_last n b (c ∷ bs) = grind (arith, with_last (n * 256 + b) c bs)
 
 -- the last bits of a number are those of its last octet
 low_bits : (u q l : ℕ) → u < 8 → (q * 256 + l) % 2 ^ u ≡ l % 2 ^ u
-low_bits zero q l lt = omega arith
-low_bits (suc zero) q l lt = omega arith
-low_bits (suc (suc zero)) q l lt = omega arith
-low_bits (suc (suc (suc zero))) q l lt = omega arith
-low_bits (suc (suc (suc (suc zero)))) q l lt = omega arith
-low_bits (suc (suc (suc (suc (suc zero))))) q l lt = omega arith
-low_bits (suc (suc (suc (suc (suc (suc zero)))))) q l lt = omega arith
-low_bits (suc (suc (suc (suc (suc (suc (suc zero))))))) q l lt = omega arith
-low_bits (suc (suc (suc (suc (suc (suc (suc (suc u)))))))) q l lt = absurd (omega (arith, lt))
+low_bits u q l lt =
+    let eight : 8 ≡ (8 - u) + u = omega arith in
+    let octets : q * 256 ≡ q * 2 ^ (8 - u) * 2 ^ u = ap (λ k. q * 2 ^ k) eight ∙ ap (λ n. q * n) (pow-add 2 (8 - u) u)
+    ∙ sym (mul_assoc q (2 ^ (8 - u)) (2 ^ u)) in
+    ap (λ n. (n + l) % 2 ^ u) octets ∙ mul-add-mod_self_right (q * 2 ^ (8 - u)) (2 ^ u) l
 
 padded_number : (u : ℕ) (bs : List ℕ) → u < 8 → (length bs ≡ 0 → u ≡ 0) → big_endian bs % 2 ^ u ≡ last_octet bs % 2 ^ u
 padded_number u [] lt none = refl
@@ -102,16 +104,13 @@ pub prefix_padded : (p : PrefixValue) → IsPrefix 128 p → IsPadded (prefix_bi
 prefix_padded p is =
     let fit = bits_fit p is in
     let b = prefix_bits p in
-    let count : octet_count p.len ≤ 16 = omega (arith, is.short) in
     let behind = 8 * (16 - octet_count p.len) in
-    let number : big_endian b.octets ≡ p.first / 2 ^ behind = first_bits (octet_count p.len) p.first count is.below in
+    let number : big_endian b.octets ≡ p.first / 2 ^ behind = first_bits (octet_count p.len) p.first
+    (omega (arith, is.short)) is.below in
     let sum : b.unused + behind ≡ 128 - p.len = omega (arith, is.short) in
-    let k = p.first / 2 ^ (128 - p.len) in
-    let back : k * 2 ^ (128 - p.len) ≡ p.first = whole p.first (128 - p.len) is.aligned in
-    let power : 2 ^ (128 - p.len) ≡ 2 ^ b.unused * 2 ^ behind = ap (λ j. 2 ^ j) (sym sum) ∙ pow-add 2 b.unused behind in
-    let split : p.first ≡ k * 2 ^ b.unused * 2 ^ behind = sym back ∙ ap (λ t. k * t) power ∙ sym (mul_assoc k (2 ^ b.unused) (2 ^ behind)) in
-    let shifted : p.first / 2 ^ behind ≡ k * 2 ^ b.unused = ap (λ t. t / 2 ^ behind) split ∙ shl-shr (k * 2 ^ b.unused) behind in
-    sym (padded_number b.unused b.octets fit.below fit.empty) ∙ ap (λ t. t % 2 ^ b.unused) (number ∙ shifted) ∙ mul-mod_left k (2 ^ b.unused)
+    let none : p.first % 2 ^ (b.unused + behind) ≡ 0 = ap (λ k. p.first % 2 ^ k) sum ∙ is.aligned in
+    sym (padded_number b.unused b.octets fit.below fit.empty) ∙ ap (λ t. t % 2 ^ b.unused) number
+    ∙ sym (field_of p.first b.unused behind) ∙ ap (λ t. t / 2 ^ behind) none ∙ zero-div (2 ^ behind)
 
 -- and they are octets
 bytes_fit : (k a : ℕ) → IsBytes (bytes_high_first k a)
@@ -143,11 +142,59 @@ pub written_prefix_reading : (limit : ℕ) → limit ≤ 128
 written_prefix_reading limit le =
     same_reading (IsStrictPrefix limit) (Spells (IsPrefixWithin limit) prefix_der) (prefix_by true limit) (λ bytes p fits is. prefix_is_spelled limit bytes p le fits is) (spelled_is_prefix limit) (prefix_modal limit).tight
 
--- what was written of a prefix is read as the prefix
-pub prefix_back : (limit : ℕ) → limit ≤ 128 → (old new : Cursor) (result : Result PrefixValue DerError)
-    → Takes (λ p. p) old new result (prefix_by (is_strict old) limit) → (p : PrefixValue) (rest : List ℕ)
-    → IsPrefixWithin limit p → left old ≡ prefix_der p ++ rest → (result ≡ Ok p) × (left new ≡ rest)
-prefix_back limit le old new result took p rest is at = value_back_by (IsStrictPrefix limit) (prefix_at limit) (λ strict. prefix_by strict limit) old new result (prefix_modal limit) took (prefix_der p) rest p (spelled_is_prefix limit (prefix_der p) p (is, refl)) at
+-- ---- what is promised of a take, and of a content
+
+module _ (limit : ℕ) (le : limit ≤ 128) (old new : Cursor) (result : Result PrefixValue DerError) (took : Takes (λ p. p) old new result (prefix_by (is_strict old) limit)) where
+  pub taken_exact : Lenient old (Takes (λ p. p) old new result (prefix_at limit))
+  taken_exact =
+      exact_by (IsStrictPrefix limit) (prefix_at limit) (λ strict. prefix_by strict limit) (λ p. p) old new result
+      (prefix_modal limit) took
+
+  pub taken_reads : Lenient old (ReadsValue (IsPrefixDer limit) (λ p. p) old new result)
+  taken_reads lenient =
+      reads_by (IsPrefixDer limit) (prefix_at limit) (λ p. p) old new result (prefix_reading limit) old.bytes
+      (taken_exact lenient)
+
+  pub taken_strict : Strict old (ReadsValue (Spells (IsPrefixWithin limit) prefix_der) (λ p. p) old new result)
+  taken_strict strict =
+      reads_by (Spells (IsPrefixWithin limit) prefix_der) (prefix_by true limit) (λ p. p) old new result
+      (written_prefix_reading limit le) old.bytes
+      (subst (λ mode. Takes (λ p. p) old new result (prefix_by mode limit)) strict took)
+
+  pub taken_refused : NotCanonicalOr (IsPrefixDer limit) old result
+  taken_refused =
+      refused_by (IsPrefixDer limit) (IsStrictPrefix limit) (prefix_at limit) (λ strict. prefix_by strict limit)
+      (λ p. p) old new result (prefix_reading limit) (prefix_modal limit) took
+
+  pub taken_back : (p : PrefixValue) (rest : List ℕ) → IsPrefixWithin limit p → left old ≡ prefix_der p ++ rest
+      → (result ≡ Ok p) × (left new ≡ rest)
+  taken_back p rest is at =
+      value_back_by (IsStrictPrefix limit) (prefix_at limit) (λ strict. prefix_by strict limit) old new result
+      (prefix_modal limit) took (prefix_der p) rest p (spelled_is_prefix limit (prefix_der p) p (is, refl)) at
+
+module _ (limit : ℕ) (value : Content) (result : Result PrefixValue DerError) (gives : Gives (λ p. p) result (prefix_in_by (is_strict_in value) limit (content_octets value))) where
+  pub said_exact : LenientIn value (Gives (λ p. p) result (prefix_in limit (content_octets value)))
+  said_exact lenient =
+      subst (Gives (λ p. p) result) (same_found (prefix_in_by false limit (content_octets value))
+      (prefix_in limit (content_octets value)) (content_tightens false limit (content_octets value)))
+      (subst (λ mode. Gives (λ p. p) result (prefix_in_by mode limit (content_octets value))) lenient gives)
+
+  pub said_reads : LenientIn value (Parses (IsPrefixContent limit) (λ p. p) (content_octets value) result)
+  said_reads lenient =
+      parses_by (λ _. Unit {0}) (IsPrefixContent limit) (prefix_in limit) (λ p. p) (content_octets value) result
+      (prefix_check limit) tt (said_exact lenient)
+
+  pub said_strict : StrictIn value (Parses (IsStrictContent limit) (λ p. p) (content_octets value) result)
+  said_strict strict =
+      parses_by (λ _. Unit {0}) (IsStrictContent limit) (prefix_in_by true limit) (λ p. p) (content_octets value) result
+      (strict_content_check limit) tt
+      (subst (λ mode. Gives (λ p. p) result (prefix_in_by mode limit (content_octets value))) strict gives)
+
+  pub said_refused : NotCanonicalInOr (IsPrefixContent limit) value result
+  said_refused =
+      refused_in (IsPrefixContent limit) (prefix_in limit) (prefix_in_by (is_strict_in value) limit
+      (content_octets value)) (λ p. p) value result (prefix_check limit)
+      (content_tightens (is_strict_in value) limit (content_octets value)) gives
 
 -- ---- the length before the unused bits
 
@@ -169,8 +216,8 @@ length_first strict limit content le = grind (arith, and_parts, either_order, eq
 -- a prefix has addresses of 128 bits alone
 last_below : (q : PrefixValue) → IsPrefix 128 q → q.first + 2 ^ (128 - q.len) ≤ 2 ^ 128
 last_below q is =
-    let all : IsMultiple (2 ^ 128) (2 ^ 128) = multiple_self (2 ^ 128) in
-    multiple_gap (2 ^ (128 - q.len)) q.first (2 ^ 128) (mod_multiple (128 - q.len) q.first is.aligned) (multiple_smaller (128 - q.len) 128 (2 ^ 128) (omega arith) all) is.below
+    multiple_gap (2 ^ (128 - q.len)) q.first (2 ^ 128) (mod_multiple (128 - q.len) q.first is.aligned)
+    (multiple_smaller (128 - q.len) 128 (2 ^ 128) (omega arith) (multiple_self (2 ^ 128))) is.below
 
 -- the range from one prefix of limit bits to another
 pub within : (limit : ℕ) (p q : PrefixValue) (r : RangeValue) → limit ≤ 128 → IsPrefix 128 p → p.len ≤ limit

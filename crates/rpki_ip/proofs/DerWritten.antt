@@ -1,5 +1,6 @@
 -- What is written is in the grammars, and how long it is.
-use Rattle.rpki_ip.proofs.Common.{List, ap, append_assoc, arith, inl, inr, length, ltb, refl, subst, sym, true, ℕ, ◌%◌, ◌++◌, ◌+◌, ◌-◌, ◌<◌, ◌^◌, ◌∙◌, ◌∷◌, ◌≡◌, ◌≤◌, cases_lt, lt-ltb, length-append, pow_below, pow_pos, IsPrefix, PrefixValue, IsMultiple, mod_multiple, multiple_diff, multiple_least, multiple_mod, multiple_self, value_is, bit_string_value, header, length_octets, IsPrefixDer, prefix_bits, prefix_der, IsRangeDer, IsRangeWithin, range_content, range_der, without_end_ones, without_end_zeros, RangeValue}
+use Rattle.rpki_ip.proofs.Common.{List, append_assoc, arith, inl, inr, length, ltb, refl, sym, true, ℕ, ◌%◌, ◌++◌, ◌+◌, ◌-◌, ◌<◌, ◌^◌, ◌∷◌, ◌≡◌, ◌≤◌, cases_lt, lt-ltb, length-append, pow_below, pow_pos, IsPrefix, PrefixValue, IsMultiple, mod_multiple, multiple_diff, multiple_gap, multiple_least, multiple_mod, multiple_self, value_is, bit_string_value, header, length_octets, IsPrefixDer, prefix_bits, prefix_der, IsRangeDer, IsRangeWithin, range_content, range_der, without_end_ones, without_end_zeros, RangeValue, IsSequence, Refines, IsSpan, IsPrefixWithin}
+use Rattle.rpki_base.specs.DerReading.{SaysPair}
 use Rattle.rpki_ip.proofs.PrefixBits.{bits_few, bits_fit, bits_say}
 use Rattle.rpki_ip.proofs.Shortest.{shortest_from_is, shortest_to_is}
 
@@ -20,9 +21,7 @@ length_prefix p is = length_bit_string _ _ (bits_few p is)
 -- what was appended in three parts
 pub joined : (old first front back first' front' back' b c d : List ℕ) → b ≡ old ++ first → c ≡ b ++ front
     → d ≡ c ++ back → first ≡ first' → front ≡ front' → back ≡ back' → d ≡ old ++ (first' ++ (front' ++ back'))
-joined old first front back first' front' back' b c d eb ec ed e1 e2 e3 =
-    ed ∙ ap (λ t. t ++ back) (ec ∙ ap (λ t. t ++ front) eb) ∙ append_assoc (old ++ first) front back ∙ append_assoc old first (front ++ back)
-    ∙ ap (λ t. old ++ (t ++ (front ++ back))) e1 ∙ ap (λ t. old ++ (first' ++ (t ++ back))) e2 ∙ ap (λ t. old ++ (first' ++ (front' ++ t))) e3
+joined old first front back first' front' back' b c d eb ec ed e1 e2 e3 = grind (arith, append_assoc)
 
 -- ---- values
 
@@ -46,10 +45,14 @@ to_short limit a le lt z =
     (record { short = le; aligned = multiple_mod (2 ^ (128 - limit)) (a + 1 - 2 ^ (128 - limit)) pos (multiple_diff (2 ^ (128 - limit)) (2 ^ (128 - limit)) (a + 1) (multiple_self _) m); below = omega arith })
     (omega arith)
 
--- the SEQUENCE of a range
-pub range_written : (limit : ℕ) (r : RangeValue) → limit ≤ 128 → IsRangeWithin limit r
-    → IsRangeDer limit (range_der r) r
-range_written limit r le is =
+-- a range is the SEQUENCE of the prefixes that are written of it, by each grammar of prefixes that has what is written
+pub range_spelled : (limit : ℕ) (r : RangeValue) → limit ≤ 128 → IsRangeWithin limit r
+    → (G : List ℕ → PrefixValue → Type 0) → ((p : PrefixValue) → IsPrefixWithin limit p → G (prefix_der p) p)
+    → (C : PrefixValue → PrefixValue → RangeValue → Type 0)
+    → (IsSpan (without_end_zeros r.min) (without_end_ones r.max) r → C (without_end_zeros r.min)
+    (without_end_ones r.max) r)
+    → Refines IsSequence (SaysPair G C) (range_der r) r
+range_spelled limit r le is G written C says =
     let low : r.min < 2 ^ 128 = omega (arith, is.is_range.ordered, is.is_range.below) in
     let p = shortest_from_is r.min low in
     let q = shortest_to_is r.max is.is_range.below in
@@ -63,10 +66,20 @@ range_written limit r le is =
       (
         without_end_zeros r.min,
         without_end_ones r.max,
-        (second, (first, prefix_written limit (without_end_zeros r.min) p.is_prefix (from_short limit r.min le low is.zeros), refl), prefix_written limit (without_end_ones r.max) q.is_prefix (to_short limit r.max le is.is_range.below is.ones)),
-        record { begins = refl; ends = sym q.ends; ordered = is.is_range.ordered },
+        (
+          second,
+          (first, written (without_end_zeros r.min) (p.is_prefix, from_short limit r.min le low is.zeros), refl),
+          written (without_end_ones r.max) (q.is_prefix, to_short limit r.max le is.is_range.below is.ones),
+        ),
+        says (record { begins = refl; ends = sym q.ends; ordered = is.is_range.ordered }),
       ),
     )
+
+pub range_written : (limit : ℕ) (r : RangeValue) → limit ≤ 128 → IsRangeWithin limit r
+    → IsRangeDer limit (range_der r) r
+range_written limit r le is =
+    range_spelled limit r le is (IsPrefixDer limit) (λ p (is, short). prefix_written limit p is short) IsSpan
+    (λ span. span)
 
 -- ---- limits
 
@@ -76,9 +89,8 @@ pub few_bits : (limit len first next : ℕ) → limit ≤ 128 → len ≤ 128 �
 few_bits limit len first next le short low high some count = elim (cases_lt limit len) [
   | inr enough ↦ enough
   | inl long ↦ absurd (
-      let apart : IsMultiple (2 ^ (128 - limit)) (next - first) = multiple_diff (2 ^ (128 - limit)) first next (mod_multiple (128 - limit) first low) (mod_multiple (128 - limit) next high) in
-      let e : next - first ≡ (next - first - 1) + 1 = omega (arith, some) in
-      let least : 2 ^ (128 - limit) ≤ (next - first - 1) + 1 = multiple_least (2 ^ (128 - limit)) (next - first - 1) (subst (λ n. IsMultiple (2 ^ (128 - limit)) n) e apart) in
+      let gap : first + 2 ^ (128 - limit) ≤ next = multiple_gap (2 ^ (128 - limit)) first next
+      (mod_multiple (128 - limit) first low) (mod_multiple (128 - limit) next high) some in
       let below : 2 ^ (128 - len) < 2 ^ (128 - limit) = pow_below (128 - len) (128 - limit) (omega (arith, long, short)) in
-      omega (arith, below, least, count, some))
+      omega (arith, below, gap, count))
 ]

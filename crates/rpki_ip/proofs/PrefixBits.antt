@@ -1,7 +1,6 @@
 -- The bits of a prefix, as octets and as a number.
-use Rattle.rpki_ip.proofs.Common.{List, [], ap, arith, drop, length, refl, replicate, suc, sym, take, zero, ℕ, ◌%◌, ◌*◌, ◌++◌, ◌+◌, ◌-◌, ◌/◌, ◌<◌, ◌^◌, ◌∙◌, ◌∷◌, ◌≡◌, ◌≤◌, div-div-eq-div-mul, pow-suc, drop-replicate, length-take, div-add-mod', mod_low, pow-add, pow_pos, shl-shr, shl_below, shr-shr, shr_below, shr_split, byte_at, bytes_high_first, from_be_bytes, to_be_bytes, w128, IsPrefix, PrefixValue, IsBytes-rest, Bits, IsBits, IsBytes, big_endian, big_endian_after, SaysPrefix, octet_count, prefix_bits}
+use Rattle.rpki_ip.proofs.Common.{mul-mod_left, List, [], ap, arith, drop, length, refl, replicate, suc, sym, take, zero, ℕ, ◌%◌, ◌*◌, ◌++◌, ◌+◌, ◌-◌, ◌/◌, ◌<◌, ◌^◌, ◌∙◌, ◌∷◌, ◌≡◌, ◌≤◌, div-div-eq-div-mul, pow-suc, drop-replicate, length-take, div-add-mod', pow-add, shl-shr, shl_below, shr-shr, shr_below, shr_split, byte_at, bytes_high_first, from_be_bytes, to_be_bytes, w128, IsPrefix, PrefixValue, IsBytes-rest, Bits, IsBits, IsBytes, big_endian, big_endian_after, SaysPrefix, octet_count, prefix_bits}
 use borrow.Rule.Slice.PartMut.{put_mid}
-use Rattle.rpki_der.proofs.Numbers.{digit_more}
 
 -- ---- the number that octets spell
 
@@ -9,9 +8,8 @@ use Rattle.rpki_der.proofs.Numbers.{digit_more}
 octet_powers : (k : ℕ) → 256 ^ k ≡ 2 ^ (8 * k)
 octet_powers zero = refl
 octet_powers (suc k) =
-    let a : 256 ^ suc k ≡ 256 ^ k * 256 = pow-suc 256 k in
-    let b : 8 * suc k ≡ 8 * (k + 1) = omega arith in
-    grind (arith, digit_more, octet_powers k)
+    let more : 8 * suc k ≡ 8 * k + 8 = omega arith in
+    pow-suc 256 k ∙ ap (λ n. n * 256) (octet_powers k) ∙ sym (ap (λ n. 2 ^ n) more ∙ pow-add 2 (8 * k) 8)
 
 -- octets behind a number of j bits
 below_after : (xs : List ℕ) (n j : ℕ) → IsBytes xs → n < 2 ^ j → big_endian_after n xs < 2 ^ (j + 8 * length xs)
@@ -50,15 +48,12 @@ length_octets_of : (k a : ℕ) → length (bytes_high_first k a) ≡ k
 length_octets_of zero a = refl
 length_octets_of (suc k) a = ap suc (length_octets_of k a)
 
--- sixteen octets are enough
-none_above : (a : ℕ) → a < 2 ^ 128 → a / 256 ^ 16 ≡ 0
-none_above a lt = omega arith
-
 -- the first n octets of an address spell its first bits
 pub first_bits : (n a : ℕ) → n ≤ 16 → a < 2 ^ 128 → big_endian (take n (to_be_bytes w128 a)) ≡ a / 2 ^ (8 * (16 - n))
 first_bits n a le lt =
-    let z : a / 256 ^ 16 ≡ 0 = none_above a lt in
-    ap (λ (t : ℕ). big_endian_after t (take n (bytes_high_first 16 a))) (sym z) ∙ first_octets n 16 a le ∙ ap (λ (t : ℕ). a / t) (octet_powers (16 - n))
+    let none : 0 ≡ a / 256 ^ 16 = omega arith in
+    ap (λ (t : ℕ). big_endian_after t (take n (bytes_high_first 16 a))) none ∙ first_octets n 16 a le
+    ∙ ap (λ (t : ℕ). a / t) (octet_powers (16 - n))
 
 -- these are n
 pub length_first : (n a : ℕ) → n ≤ 16 → length (take n (to_be_bytes w128 a)) ≡ n
@@ -83,16 +78,12 @@ bits_say limit p is short =
     let number : big_endian (take (octet_count p.len) (to_be_bytes w128 p.first)) ≡ p.first / 2 ^ (8 * (16 - octet_count p.len)) = first_bits (octet_count p.len) p.first count is.below in
     grind (arith, shr-shr, shr_split)
 
--- nothing is left of a shifted number below the shift
-shifted : (n k : ℕ) → n * 2 ^ k % 2 ^ k ≡ 0
-shifted n k = let e : n * 2 ^ k ≡ n * 2 ^ k + 0 = omega arith in ap (λ t. t % 2 ^ k) e ∙ mod_low n k 0 (pow_pos k)
-
 -- what bits say is a prefix
 pub said_prefix : (limit : ℕ) (b : Bits) (p : PrefixValue) → limit ≤ 128 → IsBytes b.octets → SaysPrefix limit b p
     → IsPrefix 128 p
 said_prefix limit b p le fits s = record {
   short = omega (arith, s.short, le);
-  aligned = rw s.first (shifted (big_endian b.octets / 2 ^ b.unused) (128 - p.len));
+  aligned = rw s.first (mul-mod_left (big_endian b.octets / 2 ^ b.unused) (2 ^ (128 - p.len)));
   below =
       (let n : big_endian b.octets < 2 ^ (8 * length b.octets) = big_endian_below b.octets fits in
       let e : 8 * length b.octets ≡ p.len + b.unused = omega (arith, s.len) in

@@ -1,5 +1,5 @@
 -- The shortest prefixes that begin or end with an address.
-use Rattle.rpki_ip.proofs.Common.{ap, arith, refl, sym, ℕ, ◌*◌, ◌+◌, ◌-◌, ◌/◌, ◌<◌, ◌^◌, ◌∙◌, ◌≡◌, ◌≤◌, div-mul-add, pow_pos, trailing_le, bit_not, trailing_ones, trailing_zeros, w128, count_trailing_zeros, cleared, IsMultiple, mod_multiple, multiple_diff, multiple_div, multiple_least, multiple_mod, multiple_self, multiple_smaller, multiple_sum, zeros_divide, zeros_greatest, IsShortestFrom, IsShortestTo, without_end_ones, without_end_zeros}
+use Rattle.rpki_ip.proofs.Common.{cleared_first, IsPrefix, PrefixValue, last_of, ap, arith, refl, sym, ℕ, ◌*◌, ◌+◌, ◌-◌, ◌<◌, ◌^◌, ◌∙◌, ◌≡◌, ◌≤◌, div-mul-add, pow_pos, trailing_le, bit_not, trailing_ones, trailing_zeros, w128, count_trailing_zeros, cleared, IsMultiple, mod_multiple, multiple_diff, multiple_least, multiple_mod, multiple_self, multiple_smaller, multiple_sum, zeros_divide, zeros_greatest, IsShortestFrom, IsShortestTo, without_end_ones, without_end_zeros}
 
 -- ---- a first address
 
@@ -18,25 +18,22 @@ shortest_from_is a lt =
     }
 
 -- clearing the bits behind it changes nothing
-pub cleared_from : (a : ℕ) → cleared 128 a (128 - trailing_zeros w128 a) ≡ a
-cleared_from a =
-    let few : count_trailing_zeros 128 a ≤ 128 = trailing_le 128 a in
-    let back : 128 - (128 - count_trailing_zeros 128 a) ≡ count_trailing_zeros 128 a = omega arith in
-    rw back (multiple_div (2 ^ count_trailing_zeros 128 a) a (pow_pos _) (zeros_divide 128 a))
+pub cleared_from : (a : ℕ) → a < 2 ^ 128 → cleared 128 a (128 - trailing_zeros w128 a) ≡ a
+cleared_from a lt = cleared_first 128 (without_end_zeros a) (shortest_from_is a lt).is_prefix
 
 -- ---- a last address
 
--- a power of 2 that divides what is left above an address divides the number behind it
-ends : (w k a : ℕ) → k ≤ w → a < 2 ^ w → IsMultiple (2 ^ k) (2 ^ w - 1 - a) → IsMultiple (2 ^ k) (a + 1)
-ends w k a le lt m = let e : a + 1 ≡ 2 ^ w - (2 ^ w - 1 - a) = omega arith in rw e (multiple_diff (2 ^ k) (2 ^ w - 1 - a) (2 ^ w) m (multiple_smaller k w (2 ^ w) le (multiple_self (2 ^ w))))
-
--- and the other way round
-ends_again : (w k a : ℕ) → k ≤ w → a < 2 ^ w → IsMultiple (2 ^ k) (a + 1) → IsMultiple (2 ^ k) (2 ^ w - 1 - a)
-ends_again w k a le lt m = let e : 2 ^ w - 1 - a ≡ 2 ^ w - (a + 1) = omega arith in rw e (multiple_diff (2 ^ k) (a + 1) (2 ^ w) m (multiple_smaller k w (2 ^ w) le (multiple_self (2 ^ w))))
+-- a power of 2 that divides what is left up to a greater one divides the rest
+rest_multiple : (w k a b : ℕ) → k ≤ w → a + b ≡ 2 ^ w → IsMultiple (2 ^ k) a → IsMultiple (2 ^ k) b
+rest_multiple w k a b le sum m =
+    let e : b ≡ 2 ^ w - a = omega (arith, sum) in rw e (multiple_diff (2 ^ k) a (2 ^ w) m
+    (multiple_smaller k w (2 ^ w) le (multiple_self (2 ^ w))))
 
 -- the number behind an address is a multiple of the power of 2 that its ones at the end are
 ones_end : (a : ℕ) → a < 2 ^ 128 → IsMultiple (2 ^ trailing_ones w128 a) (a + 1)
-ones_end a lt = ends 128 (trailing_ones w128 a) a (trailing_le 128 (bit_not w128 a)) lt (zeros_divide 128 (bit_not w128 a))
+ones_end a lt =
+    rest_multiple 128 (trailing_ones w128 a) (bit_not w128 a) (a + 1) (trailing_le 128 (bit_not w128 a)) (omega arith)
+    (zeros_divide 128 (bit_not w128 a))
 
 -- an address without the ones at its end is the shortest prefix that ends with it
 pub shortest_to_is : (a : ℕ) → a < 2 ^ 128 → IsShortestTo a (without_end_ones a)
@@ -58,18 +55,22 @@ shortest_to_is a lt =
           let z : IsMultiple (2 ^ (128 - q.len)) (q.first + 2 ^ (128 - q.len)) = multiple_sum _ _ _ (mod_multiple (128 - q.len) q.first is.aligned) (multiple_self _) in
           let next : q.first + 2 ^ (128 - q.len) ≡ a + 1 = omega (arith, e, some) in
           let n : IsMultiple (2 ^ (128 - q.len)) (a + 1) = rw (← next) z in
-          let j : 128 - q.len ≤ trailing_ones w128 a = zeros_greatest 128 (bit_not w128 a) (128 - q.len) (omega arith) (ends_again 128 (128 - q.len) a (omega arith) lt n) in
+          let j : 128 - q.len ≤ trailing_ones w128 a = zeros_greatest 128 (bit_not w128 a) (128 - q.len) (omega arith)
+          (rest_multiple 128 (128 - q.len) (a + 1) (bit_not w128 a) (omega arith) (omega arith) n) in
           omega (arith, is.short);
     }
 
--- clearing the bits behind it clears these ones
+-- clearing the bits of a prefix's last number that are behind its length gives the first
+cleared_last : (p : PrefixValue) → IsPrefix 128 p → cleared 128 (last_of 128 p) p.len ≡ p.first
+cleared_last p is =
+    let m = mod_multiple (128 - p.len) p.first is.aligned in
+    let count : 0 < 2 ^ (128 - p.len) = pow_pos (128 - p.len) in
+    let e : last_of 128 p ≡ m.times * 2 ^ (128 - p.len) + (2 ^ (128 - p.len) - 1) = omega (arith, m.is, count) in
+    ap (λ n. cleared 128 n p.len) e ∙ ap (λ n. n * 2 ^ (128 - p.len))
+    (div-mul-add m.times (2 ^ (128 - p.len)) (2 ^ (128 - p.len) - 1) (omega (arith, count))) ∙ sym m.is
+
+-- so clearing the bits behind it clears these ones
 pub cleared_to : (a : ℕ) → a < 2 ^ 128 → cleared 128 a (128 - trailing_ones w128 a) ≡ a + 1 - 2 ^ trailing_ones w128 a
 cleared_to a lt =
-    let few : trailing_ones w128 a ≤ 128 = trailing_le 128 (bit_not w128 a) in
-    let back : 128 - (128 - trailing_ones w128 a) ≡ trailing_ones w128 a = omega arith in
-    let m : IsMultiple (2 ^ trailing_ones w128 a) (a + 1) = ones_end a lt in
-    let pos : 0 < 2 ^ trailing_ones w128 a = pow_pos (trailing_ones w128 a) in
-    let enough : 2 ^ trailing_ones w128 a ≤ a + 1 = multiple_least (2 ^ trailing_ones w128 a) a m in
-    let d : IsMultiple (2 ^ trailing_ones w128 a) (a + 1 - 2 ^ trailing_ones w128 a) = multiple_diff (2 ^ trailing_ones w128 a) (2 ^ trailing_ones w128 a) (a + 1) (multiple_self _) m in
-    let e : a ≡ d.times * 2 ^ trailing_ones w128 a + (2 ^ trailing_ones w128 a - 1) = (let f : a + 1 - 2 ^ trailing_ones w128 a ≡ d.times * 2 ^ trailing_ones w128 a = d.is in omega arith) in
-    rw back (ap (λ x. x / 2 ^ trailing_ones w128 a * 2 ^ trailing_ones w128 a) e ∙ ap (λ x. x * 2 ^ trailing_ones w128 a) (div-mul-add d.times (2 ^ trailing_ones w128 a) (2 ^ trailing_ones w128 a - 1) (omega arith)) ∙ sym d.is)
+    let to = shortest_to_is a lt in
+    ap (λ n. cleared 128 n (128 - trailing_ones w128 a)) (sym to.ends) ∙ cleared_last (without_end_ones a) to.is_prefix

@@ -47,37 +47,27 @@ module _ {X : Type 0} (w : Option AddressFamily) (text : List ℕ) (Has : IpAddr
 
 -- the stage that cuts a text, or misses the byte to cut at
 module _ {X : Type 0} (b : ℕ) (text : List ℕ) (Has : List ℕ → List ℕ → X → Type 0) (Fails : List ℕ → List ℕ → FromStrError → Type 0) (one : (l q : List ℕ) (r s : Result X FromStrError) → MatchResult r (Has l q) (Fails l q) → MatchResult s (Has l q) (Fails l q) → r ≡ s) where
-  -- the two parts
-  IsCut : List ℕ × List ℕ → Type 0
-  IsCut parts = IsCutAt b text parts.0 parts.1
-
-  same_cut : (c d : List ℕ × List ℕ) → IsCut c → IsCut d → c ≡ d
-  unfolding IsCut
-  same_cut c d h k =
-      let same = around_at b text d.0 d.1 (λ l q. (c.0 ≡ l) × (c.1 ≡ q)) k (record { left = c.0; right = c.1; cut = h; holds = (refl, refl) }) in
-      λ i. (same.0 i, same.1 i)
-
   Says : Result X FromStrError → Type 0
   Says r = MatchResult r (λ x. Around b text (λ l q. Has l q x)) (λ e. HasFaultAround b text Fails e)
 
-  Staged : Result X FromStrError → Type 0
-  Staged r = MatchResult r (λ x. (c : List ℕ × List ℕ) × IsCut c × Has c.0 c.1 x) (λ e. (HasNo b text × (e ≡ Fault.MissingSeparator)) ⊎ ((c : List ℕ × List ℕ) × IsCut c × Fails c.0 c.1 e))
+  -- what is so of the text is so of each cut of it
+  at_cut : (l q : List ℕ) → IsCutAt b text l q → (r : Result X FromStrError) → Says r
+      → MatchResult r (Has l q) (Fails l q)
+  unfolding Says
+  at_cut l q cut (Ok x) h = around_at b text l q (λ l q. Has l q x) cut h
+  at_cut l q cut (Err e) (inl (none, _)) = absurd (HasNo-no_cut b text l q none cut)
+  at_cut l q cut (Err e) (inr h) = around_at b text l q (λ l q. Fails l q e) cut h
 
-  staged : (r : Result X FromStrError) → Says r → Staged r
-  unfolding Says Staged IsCut
-  staged (Ok x) h = ((h.left, h.right), h.cut, h.holds)
-  staged (Err e) (inl none) = inl none
-  staged (Err e) (inr h) = inr ((h.left, h.right), h.cut, h.holds)
-
-  pub cut_one : (r q : Result X FromStrError)
+  pub cut_one : (r s : Result X FromStrError)
       → MatchResult r (λ x. Around b text (λ l q. Has l q x)) (λ e. HasFaultAround b text Fails e)
-      → MatchResult q (λ x. Around b text (λ l q. Has l q x)) (λ e. HasFaultAround b text Fails e) → r ≡ q
-  unfolding Says Staged IsCut
-  cut_one r q h k = stage_one IsCut (λ e. HasNo b text × (e ≡ Fault.MissingSeparator)) same_cut (λ c e cut none. HasNo-no_cut b text c.0 c.1 none.0 cut) (λ d e m n. m.1 ∙ sym n.1) (λ c. Has c.0 c.1) (λ c. Fails c.0 c.1) (λ c. one c.0 c.1) r q (staged r h) (staged q k)
-
--- one fault, of a value that has two
-err_one : {A E : Type 0} (d e : E) (r : Result A E) → r ≡ Err d → r ≡ Err e → d ≡ e
-err_one d e r h k = cc
+      → MatchResult s (λ x. Around b text (λ l q. Has l q x)) (λ e. HasFaultAround b text Fails e) → r ≡ s
+  unfolding Says
+  cut_one (Ok x) s h k = one h.left h.right (Ok x) s h.holds (at_cut h.left h.right h.cut s k)
+  cut_one (Err d) (Ok y) h k = sym (one k.left k.right (Ok y) (Err d) k.holds (at_cut k.left k.right k.cut (Err d) h))
+  cut_one (Err d) (Err e) (inl (_, m)) (inl (_, n)) = ap Err (m ∙ sym n)
+  cut_one (Err d) (Err e) (inl h) (inr k) =
+      sym (one k.left k.right (Err e) (Err d) k.holds (at_cut k.left k.right k.cut (Err d) (inl h)))
+  cut_one (Err d) (Err e) (inr h) k = one h.left h.right (Err d) (Err e) h.holds (at_cut h.left h.right h.cut (Err e) k)
 
 -- a length that the family has, and the fault of any other
 length_apart : (a : IpAddr) (text : List ℕ) (n : ℕ) (f : ParseIntError) → IsNumberText (2 ^ 8 - 1) text n
@@ -87,7 +77,7 @@ length_apart a text n f h small (inr (m, is, above, _)) = let e = IsNumberText-o
 
 same_length_fault : (a : IpAddr) (text : List ℕ) (f g : ParseIntError) → HasLengthFault a text f
     → HasLengthFault a text g → f ≡ g
-same_length_fault a text f g (inl h) (inl k) = err_one f g (Err f) refl ((number_answers (2 ^ 8 - 1) text (Err f) h).each_fault g k)
+same_length_fault a text f g (inl h) (inl k) = let e = (number_answers (2 ^ 8 - 1) text (Err f) h).each_fault g k in cc
 same_length_fault a text f g (inl h) (inr (m, is, _, _)) = let e = (number_answers (2 ^ 8 - 1) text (Err f) h).each_value m is in cc
 same_length_fault a text f g (inr (m, is, _, _)) (inl k) = let e = (number_answers (2 ^ 8 - 1) text (Err g) k).each_value m is in cc
 same_length_fault a text f g (inr (_, _, _, d)) (inr (_, _, _, e)) = d ∙ sym e

@@ -4,12 +4,7 @@ use Rattle.rpki_ip.specs.Whole.{IsWhole, HasWholeBounds}
 
 -- between the first number of an address and the last one of an address lie whole addresses
 pub whole_set : (b : ℕ × ℕ) → HasWholeBounds b → IsWhole (IsWithin b)
-whole_set b whole m n same h =
-    let begins = whole.begins in
-    let ends = whole.ends in
-    let low = h.0 in
-    let high = h.1 in
-    (omega (arith, begins, ends, same, low, high), omega (arith, begins, ends, same, low, high))
+whole_set b whole m n same h = (omega (arith, h.0, h.1), omega (arith, h.0, h.1))
 
 -- and between no others
 pub whole_bounds : (b : ℕ × ℕ) → b.0 ≤ b.1 → IsWhole (IsWithin b) → HasWholeBounds b

@@ -102,6 +102,7 @@ impl AddressRange {
     /// The length of the prefix of exactly the range's addresses, `None` where there is none. The bits behind those
     /// that a prefix's addresses begin with are clear in its least address and set in its greatest: so their difference
     /// is all of them.
+    #[tactic(auto, using(crate::proofs::RangeLemmas::bits_of_prefix))]
     fn prefix_len(&self) -> Option<u8>
         ensures some { IfSome result (λ len. IsPrefix 128
             (record { first = self.now.min; len = len })

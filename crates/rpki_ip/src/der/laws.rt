@@ -28,6 +28,7 @@ pub fn written()
 {}
 
 /// What bits say is a prefix.
+#[tactic(auto, using(crate::proofs::PrefixBits::said_prefix))]
 pub fn is_prefix()
     ensures { (limit : ℕ) (b : Bits) (p : PrefixValue) → limit ≤ 128 → IsBytes b.octets
         → SaysPrefix limit b p → IsPrefix 128 p }
@@ -35,6 +36,7 @@ pub fn is_prefix()
 
 /// An address without the zeros at its end is the shortest prefix that begins with it, and without the ones at its end
 /// the shortest that ends with it.
+#[tactic(auto, using(crate::proofs::Shortest::shortest_from_is, crate::proofs::Shortest::shortest_to_is))]
 pub fn shortest()
     ensures zeros { (a : ℕ) → a < 2 ^ 128 → IsShortestFrom a (without_end_zeros a) }
     ensures ones { (a : ℕ) → a < 2 ^ 128 → IsShortestTo a (without_end_ones a) }
@@ -42,6 +44,7 @@ pub fn shortest()
 
 /// A range is reversed exactly where its content begins with two prefixes of which the second ends before the first
 /// begins, whatever stands behind them.
+#[tactic(auto, using(crate::proofs::DerFaults::range_fails))]
 pub fn reversed()
     ensures { (limit : ℕ) (content : List ℕ) → (range_in limit content ≡ Err ReversedRange)
         ↔ BeginsWithTwo (prefix_at limit) (λ p q. last_of 128 q < p.first) content }
@@ -49,6 +52,7 @@ pub fn reversed()
 
 /// Octets are refused as not canonical by a strict cursor alone; as a prefix only where a lenient one finds a prefix:
 /// each other fault of it, as `BadPrefix` for too many bits, comes first.
+#[tactic(auto, using(crate::proofs::DerFaults::never_prefix, crate::proofs::DerFaults::never_range, crate::proofs::DerFaults::prefix_last))]
 pub fn not_canonical()
     ensures prefix { (limit : ℕ) (bytes : List ℕ) → prefix_at limit bytes ≢ Err NotCanonical }
     ensures range { (limit : ℕ) (content : List ℕ) → range_in limit content ≢ Err NotCanonical }

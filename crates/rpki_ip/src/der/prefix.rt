@@ -36,6 +36,7 @@ impl Prefix {
     ///
     /// The faults are those of [`Cursor::take_bit_string`], and `BadPrefix` for more than sixteen octets, which from a
     /// strict cursor comes before `NotCanonical` for an unused bit that is set.
+    #[tactic(auto, using(crate::proofs::DerModes::taken_exact, crate::proofs::DerModes::taken_reads, crate::proofs::DerModes::taken_strict, crate::proofs::DerModes::taken_refused))]
     pub fn take_from(cursor: &mut Cursor<'_>) -> Result<Prefix, DerError>
         ensures reads { Lenient cursor.old
             (ReadsValue (IsPrefixDer 128) (λ p. p) cursor.old cursor.new result) }
@@ -58,6 +59,7 @@ impl Prefix {
 
     /// Takes the BIT STRING of a prefix of the family as `take_from` does. `BadPrefix` also for a prefix that is longer
     /// than the family's addresses.
+    #[tactic(auto, using(crate::proofs::DerModes::taken_exact, crate::proofs::DerModes::taken_reads, crate::proofs::DerModes::taken_strict, crate::proofs::DerModes::taken_refused, crate::proofs::DerModes::bits_few_enough))]
     pub fn take_from_with_family(
         cursor: &mut Cursor<'_>,
         family: AddressFamily,
@@ -86,6 +88,7 @@ impl Prefix {
     ///
     /// `BadBitString` for any other content, `BadPrefix` for more than sixteen octets; of a strict cursor's content
     /// also `NotCanonical` where an unused bit is set.
+    #[tactic(auto, using(crate::proofs::DerModes::said_exact, crate::proofs::DerModes::said_reads, crate::proofs::DerModes::said_strict, crate::proofs::DerModes::said_refused))]
     pub fn parse_content(content: &Content<'_>) -> Result<Prefix, DerError>
         ensures reads { LenientIn content.now
             (Parses (IsPrefixContent 128) (λ p. p) (content_octets content.now) result) }
@@ -105,6 +108,7 @@ impl Prefix {
     ///
     /// `BadBitString` for any other content, `BadPrefix` for more than sixteen octets and for a prefix that is longer
     /// than the family's addresses; `NotCanonical` as in `parse_content`.
+    #[tactic(auto, using(crate::proofs::DerModes::said_exact, crate::proofs::DerModes::said_reads, crate::proofs::DerModes::said_strict, crate::proofs::DerModes::said_refused))]
     pub fn parse_content_with_family(
         content: &Content<'_>,
         family: AddressFamily,
@@ -127,6 +131,7 @@ impl Prefix {
     }
 
     /// How many octets `encode` appends.
+    #[tactic(auto, using(crate::proofs::DerWritten::length_prefix))]
     pub fn encoded_len(&self) -> usize
         ensures len { result ≡ length (prefix_der self.now) }
         ensures short { result < 20 }
@@ -189,7 +194,7 @@ impl Prefix {
     ghost use Rattle.rpki_ip.specs.PrefixDer.{prefix_by, prefix_in_by, prefix_of};
 
     // The prefix of the bits, of at most `limit` bits.
-    #[tactic(auto, unfolding(crate::specs::PrefixDer::prefix_of))]
+    #[tactic(auto, using(crate::proofs::PrefixBits::used_bits), unfolding(crate::specs::PrefixDer::prefix_of))]
     fn of_bits(bits: &BitString<'_>, limit: u8) -> Result<Prefix, DerError>
         requires { limit ≤ 128 }
         ensures exact { Gives (λ p. p) result (prefix_of limit (bit_string_of bits.now)) }
@@ -202,6 +207,7 @@ impl Prefix {
     }
 
     // The length is looked at before the unused bits are.
+    #[tactic(auto, using(crate::proofs::DerModes::length_first))]
     fn of_content(content: &Content<'_>, limit: u8) -> Result<Prefix, DerError>
         requires { limit ≤ 128 }
         ensures by_mode { Gives (λ p. p) result

@@ -76,6 +76,7 @@ impl AddressRange {
 }
 
 // The shortest prefix that begins with an address.
+#[tactic(auto, using(crate::proofs::Shortest::cleared_from, crate::proofs::Shortest::shortest_from_is))]
 fn shortest_from(min: Addr) -> Prefix
     ensures value { result ≡ without_end_zeros min }
     ensures shortest { IsShortestFrom min result }
@@ -84,6 +85,7 @@ fn shortest_from(min: Addr) -> Prefix
 }
 
 // The shortest prefix that ends with an address.
+#[tactic(auto, using(crate::proofs::Shortest::cleared_to, crate::proofs::Shortest::shortest_to_is))]
 fn shortest_to(max: Addr) -> Prefix
     ensures value { result ≡ without_end_ones max }
     ensures shortest { IsShortestTo max result }

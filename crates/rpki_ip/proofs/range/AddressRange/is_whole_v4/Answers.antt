@@ -2,14 +2,12 @@ use Rattle.rpki_ip.proofs.Common.{rules, range_bounds}
 use Rattle.rpki_ip.proofs.WholeLemmas.{whole_test}
 use Rattle.rpki_ip.proofs.range.AddressRange.is_whole_v4.Goals as goal
 
-pub returns-then-eq-clause-bounds : goal.returns-then-eq-clause-bounds
-returns-then-eq-clause-bounds c = search rules
-
-pub returns-else-eq-clause-bounds : goal.returns-else-eq-clause-bounds
-returns-else-eq-clause-bounds c = search rules
-
 pub returns-then-eq-clause-set : goal.returns-then-eq-clause-set
-returns-then-eq-clause-set c = whole_test (range_bounds c.args.self.now) c.eq-then-eq.result (rw (← c.self.view_is) c.self.invariant.ordered) (returns-then-eq-clause-bounds c)
+returns-then-eq-clause-set c =
+    whole_test (range_bounds c.args.self.now) c.eq-then-eq.result (rw (← c.self.view_is) c.self.invariant.ordered)
+    (search rules)
 
 pub returns-else-eq-clause-set : goal.returns-else-eq-clause-set
-returns-else-eq-clause-set c = whole_test (range_bounds c.args.self.now) c.eq.result (rw (← c.self.view_is) c.self.invariant.ordered) (returns-else-eq-clause-bounds c)
+returns-else-eq-clause-set c =
+    whole_test (range_bounds c.args.self.now) c.eq.result (rw (← c.self.view_is) c.self.invariant.ordered)
+    (search rules)

@@ -8,9 +8,8 @@ last c = c.from-2.ensures ∙ c.to_bits-2.ensures ∙ c.to_v4-max.ensures ∙ ap
 short : (c : goal.After-new)
     → IsShortestCover 32 (IsWithin (c.args.self.min / 2 ^ 96, c.args.self.max / 2 ^ 96)) c.new.result
 short c =
-    let min : c.from.result ≡ c.args.self.min / 2 ^ 96 = c.from.ensures ∙ c.to_bits.ensures ∙ c.to_v4-min.ensures ∙ ap (λ n. n / 2 ^ 96) c.min.ensures.value in
-    let max : c.from-2.result ≡ c.args.self.max / 2 ^ 96 = last c in
-    range_of 32 _ _ _ _ c.new.result min max c.new.ensures.cover
+    let min = c.from.ensures ∙ c.to_bits.ensures ∙ c.to_v4-min.ensures ∙ ap (λ n. n / 2 ^ 96) c.min.ensures.value in
+    range_of 32 _ _ _ _ c.new.result min (last c) c.new.ensures.cover
 
 pub returns-clause-cover : goal.returns-clause-cover
 returns-clause-cover c = record { short = c.new.result; lists = (short c).list; widens = refl }

@@ -1,9 +1,10 @@
 -- Strictly, the octets of a block are those that are written of it.
-use Rattle.rpki_ip_block.proofs.Common.{Bool, List, ap, arith, eqb, false, length, refl, subst, sym, true, ℕ, ◌&&◌, ◌++◌, ◌<◌, ◌^◌, ◌∙◌, ◌≡◌, ◌≤◌, and_parts, eq-eqb, eqb-true, pow_pos, PrefixValue, last_of, fits_content, same_reading, IsBytes, Spells, IsReading, IsStrictPrefix, prefix_is_spelled, spelled_is_prefix, within, from_short, length_prefix, to_short, prefix_der, is_written_as, range_content, without_end_ones, without_end_zeros, RangeValue, range_bounds, IsSetIpBlock, ip_block_der, ip_block_modal, IsStrictIpBlock, ip_block_by, is_range, is_set_range, span, new_ip_block, IpBlock, Prefix, Range}
-use Rattle.std.proofs.lemmas.List.{length-append}
+use Rattle.rpki_ip_block.proofs.Common.{List, ap, arith, eqb, refl, subst, sym, true, ℕ, ◌++◌, ◌<◌, ◌^◌, ◌∙◌, ◌≡◌, ◌≤◌, and_parts, eq-eqb, eqb-true, pow_pos, PrefixValue, last_of, fits_content, same_reading, IsBytes, Spells, IsReading, IsStrictPrefix, prefix_is_spelled, spelled_is_prefix, within, prefix_der, is_written_as, range_content, without_end_ones, without_end_zeros, RangeValue, range_bounds, IsSetIpBlock, ip_block_der, ip_block_modal, IsStrictIpBlock, ip_block_by, is_range, is_set_range, span, new_ip_block, IpBlock, Prefix, Range}
+use Rattle.std.proofs.lemmas.Bool.{and_from}
 use Rattle.rpki_der.proofs.Steps.{fits_back, fits_front}
-use Rattle.rpki_der.proofs.Written.{value_is}
-use Rattle.rpki_ip.proofs.Shortest.{shortest_from_is, shortest_to_is}
+use Rattle.rpki_ip.proofs.Shortest.{shortest_to_is}
+use Rattle.rpki_ip.proofs.DerWritten.{range_spelled}
+use Rattle.rpki_ip.specs.RangeDer.{IsSpan}
 use Rattle.rpki_ip_block.proofs.FormLemmas.{new_prefix}
 
 -- ---- ranges
@@ -38,32 +39,25 @@ set_block_is limit bytes (Range r) le fits (content, sequence, (p, q, (rest, fro
     let whole : content ≡ range_content r = front.2 ∙ ap (λ (t : List ℕ). t ++ rest) (one.1 ∙ ap prefix_der p-is) ∙ ap (λ (t : List ℕ). prefix_der (without_end_zeros r.min) ++ t) (two.1 ∙ ap prefix_der q-is) in
     grind arith
 
+-- and what is written of one is what they take
+set_range : (r : RangeValue) → r.max ≡ last_of 128 (without_end_ones r.max) → Range r ≡ new_ip_block (range_bounds r)
+    → is_set_range (without_end_zeros r.min) (without_end_ones r.max) ≡ true
+set_range r ends form =
+    let p = without_end_zeros r.min in
+    let q = without_end_ones r.max in
+    let bounds : range_bounds r ≡ range_bounds (span p q) = λ i. (r.min, ends i) in
+    let len : eqb q.len (without_end_ones (last_of 128 q)).len ≡ true = eq-eqb _ _
+    (ap (λ a. (without_end_ones a).len) ends) in
+    and_from _ _ (and_from _ _ (eq-eqb p.len p.len refl) len) (ap is_range (sym (form ∙ ap new_ip_block bounds)))
+
 pub is_set_block : (limit : ℕ) (bytes : List ℕ) (block : IpBlock) → limit ≤ 128
     → Spells (IsSetIpBlock limit) ip_block_der bytes block → IsStrictIpBlock limit bytes block
 is_set_block limit bytes (Prefix p) le ((is, form), spelled) = spelled_is_prefix limit bytes p (is, spelled)
 is_set_block limit bytes (Range r) le ((is, form), spelled) =
-    let low : r.min < 2 ^ 128 = omega (arith, is.is_range.ordered, is.is_range.below) in
-    let p = without_end_zeros r.min in
-    let q = without_end_ones r.max in
-    let from = shortest_from_is r.min low in
-    let to = shortest_to_is r.max is.is_range.below in
-    let a : length (prefix_der p) < 20 = length_prefix p from.is_prefix in
-    let b : length (prefix_der q) < 20 = length_prefix q to.is_prefix in
-    let short : length (prefix_der p ++ prefix_der q) < 2 ^ 64 = omega (arith, a, b, length-append (prefix_der p) (prefix_der q)) in
-    let one : IsStrictPrefix limit (prefix_der p) p = spelled_is_prefix limit (prefix_der p) p ((from.is_prefix, from_short limit r.min le low is.zeros), refl) in
-    let two : IsStrictPrefix limit (prefix_der q) q = spelled_is_prefix limit (prefix_der q) q ((to.is_prefix, to_short limit r.max le is.is_range.below is.ones), refl) in
-    let bounds : range_bounds (span p q) ≡ range_bounds r = λ i. (r.min, to.ends i) in
-    let len : eqb q.len (without_end_ones (last_of 128 q)).len ≡ true = eq-eqb _ _ (ap (λ a. (without_end_ones a).len) (sym to.ends)) in
-    let test : is_set_range p q ≡ true = both_true _ _ (both_true _ _ (eq-eqb p.len p.len refl) len) (ap (λ c. is_range (new_ip_block c)) bounds ∙ ap is_range (sym form)) in
-    subst (λ (t : List ℕ). IsStrictIpBlock limit t (Range r)) (sym spelled) (
-      range_content r,
-      value_is 48 (range_content r) (omega arith) short,
-      (p, q, (prefix_der q, (prefix_der p, one, refl), two), (record { begins = refl; ends = sym to.ends; ordered = is.is_range.ordered }, test)),
-    )
-  where
-    both_true : (a b : Bool) → a ≡ true → b ≡ true → (a && b) ≡ true
-    both_true true b e f = f
-    both_true false b e f = absurd cc
+    subst (λ (t : List ℕ). IsStrictIpBlock limit t (Range r)) (sym spelled)
+    (range_spelled limit r le is (IsStrictPrefix limit) (λ p is. spelled_is_prefix limit (prefix_der p) p (is, refl))
+    (λ p q r. IsSpan p q r × (is_set_range p q ≡ true))
+    (λ to. (to, set_range r to.ends form)))
 
 pub set_block_reading : (limit : ℕ) → limit ≤ 128
     → IsReading (Spells (IsSetIpBlock limit) ip_block_der) (ip_block_by true limit)

@@ -1,21 +1,21 @@
 -- What the proofs of this crate use of std, of the crates below and of its own definitions, passed on by one name.
-pub use Rattle.std.proofs.Common.{All, Bool, Contains, Err, IfSome, IsTrue, List, MatchResult, None, Ok, Option, Result, Some, Vec, [], ap, append-nil, append_assoc, arith, codes, decimal, eqb, false, inl, inr, length, length-append, lit<, lit≤, map, refl, subst, suc, sym, true, zero, ℕ, ◌%◌, ◌&&◌, ◌*◌, ◌++◌, ◌+◌, ◌-◌, ◌/◌, ◌<◌, ◌==◌, ◌^◌, ◌↔◌, ◌∙◌, ◌∷◌, ◌≡◌, ◌≢◌, ◌≤◌}
+pub use Rattle.std.proofs.Common.{All, Bool, Contains, Err, IfSome, IsTrue, List, MatchResult, None, Ok, Option, Result, Some, Vec, [], ap, append-nil, append_assoc, arith, codes, decimal, eqb, false, inl, inr, length, length-append, lit<, lit≤, map, refl, subst, suc, sym, true, zero, ℕ, ◌%◌, ◌*◌, ◌++◌, ◌+◌, ◌-◌, ◌/◌, ◌<◌, ◌^◌, ◌↔◌, ◌∙◌, ◌∷◌, ◌≡◌, ◌≢◌, ◌≤◌}
 pub use Rattle.std.proofs.Math.Nat.{add-mul, mul-mod_left, mul_assoc, pow-le-pow_right}
-pub use Rattle.std.proofs.NetLemmas.Alphabet.{All-ipv4_text, IsDigitOrDot}
-pub use Rattle.std.proofs.lemmas.Bool.{and_parts, cases_eq, cases_lt, cases_order, cond_both, eq-eqb, eqb-true, ne_eqb}
-pub use Rattle.std.proofs.lemmas.List.Elements.{All-append, All-cons, All-contains, All-from_get_or, All-from_recursion, All-head, All-nil, All-tail, All-weaker, Contains-append_left, recursion_from_All}
-pub use Rattle.std.proofs.lemmas.Nat.{pow-add, pow_below, pow_pos, shr_split}
-pub use Rattle.std.proofs.lemmas.Str.Parse.{digit_at, digit_from_value}
+pub use Rattle.std.proofs.NetLemmas.Alphabet.{IsDigitOrDot}
+pub use Rattle.std.proofs.lemmas.Bool.{and_parts, cases_eq, cases_lt, cases_order, eq-eqb, eqb-true, ne_eqb}
+pub use Rattle.std.proofs.lemmas.List.Elements.{All-append, All-cons, All-contains, All-from_recursion, All-head, All-nil, All-tail, All-weaker, Contains-append_left, recursion_from_All}
+pub use Rattle.std.proofs.lemmas.Nat.{pow-add, pow_below, pow_pos}
+pub use Rattle.std.proofs.lemmas.Str.Parse.{digit_from_value}
 pub use Rattle.std.specs.Int.{IsInRange}
 pub use Rattle.std.specs.List.{AllByRecursion, flat_map}
 pub use Rattle.std.specs.Prelude.{IfOk}
-pub use Rattle.rpki_addr.proofs.AddressBytes.{IsAddressByte, ip_bytes, no_dash, no_slash, not_slash}
-pub use Rattle.rpki_addr.proofs.AddressReads.{IsIpText-ip_text, IsIpv6Text-ipv6_text}
+pub use Rattle.rpki_addr.proofs.AddressBytes.{no_dash, no_slash, not_slash}
+pub use Rattle.rpki_addr.proofs.AddressReads.{IsIpText-ip_text}
 pub use Rattle.rpki_addr.proofs.PrefixNumbers.{cleared_first}
 pub use Rattle.rpki_addr.specs.AddrText.{first_of, greatest_of}
 pub use Rattle.rpki_addr.specs.Bits.{cleared}
 pub use Rattle.rpki_addr.specs.Prefixes.{IsPrefix, PrefixValue, last_of}
-pub use Rattle.rpki_addr.specs.PrintedAddress.{ip_text, ipv4_text, ipv6_text}
+pub use Rattle.rpki_addr.specs.PrintedAddress.{ip_text}
 pub use Rattle.rpki_addr.specs.declared.addr.IpAddr.{IpAddr}
 pub use Rattle.rpki_addr.specs.declared.addr.IpAddr.TheVariants.{V4, V6}
 pub use Rattle.rpki_base.proofs.DerCursors.{reads_optional_value_by}
@@ -28,18 +28,18 @@ pub use Rattle.rpki_der.specs.Der.{Bits, Each, IsBytes, Spells, big_endian}
 pub use Rattle.rpki_der.specs.Reading.{IsReading, optional, value_at}
 pub use Rattle.rpki_der.specs.Views.{Takes, is_strict, left}
 pub use Rattle.rpki_ip.proofs.DerModes.{IsStrictPrefix, bits_few_enough, prefix_is_spelled, spelled_is_prefix, within}
-pub use Rattle.rpki_ip.proofs.DerWritten.{few_bits, from_short, length_prefix, prefix_written, range_written, to_short}
+pub use Rattle.rpki_ip.proofs.DerWritten.{few_bits, prefix_written, range_written}
 pub use Rattle.rpki_ip.proofs.TextLemmas.{answers_by_one, prefix_one, range_one, single_of, single_one}
-pub use Rattle.rpki_ip.specs.BlockText.{HasAddressFault, HasIpPrefixTextFault, HasPrefixFault, HasRangeFault, HasRangeTextFault, IsAddressText, IsIpPrefixText, IsIpRangeBetween, IsPrefixAt, IsPrefixBetween, IsRangeFrom, IsRangeText, IsSingleText, WithAddress}
+pub use Rattle.rpki_ip.specs.BlockText.{HasAddressFault, HasIpPrefixTextFault, HasPrefixFault, HasRangeFault, HasRangeTextFault, IsAddressText, IsIpPrefixText, IsIpRangeBetween, IsPrefixAt, IsPrefixBetween, IsRangeFrom, IsRangeText, IsSingleText}
 pub use Rattle.rpki_ip.specs.PrefixDer.{SaysPrefix, prefix_at, prefix_der, prefix_in}
-pub use Rattle.rpki_ip.specs.PrintedText.{addr_text, as_ip, shown_bits}
+pub use Rattle.rpki_ip.specs.PrintedText.{as_ip, shown_bits}
 pub use Rattle.rpki_ip.specs.RangeDer.{is_written_as, range_content, range_in, without_end_ones, without_end_zeros}
 pub use Rattle.rpki_ip.specs.Ranges.{IsRangeOf, RangeValue, range_bounds}
 pub use Rattle.rpki_ip.specs.declared.error.FromStrError.{FromStrError}
 pub use Rattle.rpki_prefix.specs.Values.{FamilyPrefix, IsFamilyPrefix, width}
-pub use Rattle.rpki_text.proofs.PrintedLemmas.{IsElement, IsShown, elements-joined}
+pub use Rattle.rpki_text.proofs.PrintedLemmas.{IsElement, elements-joined}
 pub use Rattle.rpki_text.specs.Cuts.{Around, HasNo, IsCutAt, dash, slash}
-pub use Rattle.rpki_text.specs.Lists.{HasFirstFault, HaveValues, elements, joined_by}
+pub use Rattle.rpki_text.specs.Lists.{HasFirstFault, HaveValues, elements}
 pub use Rattle.rpki_text.specs.Memory.{IfRefused, IsMemory}
 pub use Rattle.rpki_text.specs.Reading.{Answers, AnswersOrMemory}
 pub use Rattle.rpki_text.specs.declared.memory.OrMemory.{OrMemory}
@@ -52,7 +52,7 @@ pub use Rattle.rpki_ip_block.specs.BlockReadingLaws.{ip_block_has_octets, ip_blo
 pub use Rattle.rpki_ip_block.specs.BlockText.{HasIpBlockFault, IsIpBlockText}
 pub use Rattle.rpki_ip_block.specs.Blocks.{block_from, ip_bounds, new_ip_block, prefix_bounds}
 unfoldable pub use Rattle.rpki_ip_block.specs.Blocks.{has_length, length_of, length_upto}
-pub use Rattle.rpki_ip_block.specs.ListText.{HasBlocks, HasBlocksFault, HasElementFault, HasIpBlocks, HasIpBlocksFault, HasMismatch, IsElementText, IsFamilyOf, IsForeign, colon, dot}
+pub use Rattle.rpki_ip_block.specs.ListText.{HasBlocks, HasBlocksFault, HasElementFault, HasIpBlocks, HasIpBlocksFault, HasMismatch, IsElementText, IsFamilyOf, IsForeign, colon}
 pub use Rattle.rpki_ip_block.specs.PrintedBlocks.{IsBlock, IsBlockOf, ReadsIpBlock, block_list_text, ip_block_text}
 pub use Rattle.rpki_ip_block.specs.declared.block.IpBlock.{IpBlock}
 pub use Rattle.rpki_ip_block.specs.declared.block.IpBlock.TheVariants.{Prefix, Range}

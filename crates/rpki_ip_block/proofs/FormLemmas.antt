@@ -1,5 +1,6 @@
 -- Which blocks are in new form, and prefixes of a family as prefixes of 128 bits.
-use Rattle.rpki_ip_block.proofs.Common.{None, Option, Some, ap, arith, refl, suc, sym, true, zero, ℕ, ◌%◌, ◌*◌, ◌+◌, ◌-◌, ◌/◌, ◌<◌, ◌^◌, ◌∙◌, ◌≡◌, ◌≤◌, mul-mod_left, mul_assoc, cases_order, eq-eqb, pow-add, pow_below, pow_pos, shr_split, cleared_first, first_of, cleared, IsPrefix, PrefixValue, IpAddr, IsRangeOf, RangeValue, range_bounds, FamilyPrefix, IsFamilyPrefix, block_from, has_length, length_of, length_upto, new_ip_block, prefix_bounds, IsBlock, Prefix, Range}
+use Rattle.rpki_ip_block.proofs.Common.{None, Option, Some, ap, arith, refl, suc, sym, true, zero, ℕ, ◌*◌, ◌+◌, ◌-◌, ◌<◌, ◌^◌, ◌≡◌, ◌≤◌, cases_order, eq-eqb, pow_below, pow_pos, cleared_first, first_of, cleared, IsPrefix, PrefixValue, IpAddr, IsRangeOf, RangeValue, range_bounds, FamilyPrefix, IsFamilyPrefix, block_from, has_length, length_of, length_upto, new_ip_block, prefix_bounds, IsBlock, Prefix, Range}
+use Rattle.rpki_ip.proofs.Common.{widened_prefix}
 use Rattle.rpki_ip_block.specs.BlockFormLaws.{bounds_of_length, found_length}
 
 -- a prefix has its length
@@ -27,9 +28,9 @@ new_prefix p is = by_length (length_of (prefix_bounds p)) refl
     by_length (Some len) e =
         let (short, has) = found_length 128 (prefix_bounds p) len e in
         let last : p.first + 2 ^ (128 - len) - 1 ≡ p.first + 2 ^ (128 - p.len) - 1 = ap (λ (b : ℕ × ℕ). b.1) (bounds_of_length (prefix_bounds p) len has) in
-        let some : 0 < 2 ^ (128 - p.len) = pow_pos (128 - p.len) in
-        let also_some : 0 < 2 ^ (128 - len) = pow_pos (128 - len) in
-        let same : p.len ≡ len = one_length p.len len is.short short (omega (arith, last, some, also_some)) in
+        let count : 2 ^ (128 - p.len) ≡ 2 ^ (128 - len) =
+        omega (arith, last, pow_pos (128 - p.len), pow_pos (128 - len)) in
+        let same = one_length p.len len is.short short count in
         λ i. Prefix (record { first = p.first; len = same i })
 
 -- bounds with a length begin a prefix of that length
@@ -63,14 +64,7 @@ new_block_fits b ordered below = by_length (length_of b) refl
 -- a prefix of IPv4 is one of 128 bits, with 96 zeros behind its address
 prefix_of_v4 : (n len : ℕ) → IsPrefix 32 (record { first = n; len = len })
     → IsPrefix 128 (record { first = n * 2 ^ 96; len = len })
-prefix_of_v4 n len is =
-    let short : len ≤ 32 = is.short in
-    let all : n / 2 ^ (32 - len) * 2 ^ (32 - len) + n % 2 ^ (32 - len) ≡ n = shr_split n (32 - len) in
-    let whole : n ≡ n / 2 ^ (32 - len) * 2 ^ (32 - len) = omega (arith, all, is.aligned) in
-    let more : 128 - len ≡ (32 - len) + 96 = omega (arith, short) in
-    let count : 2 ^ (128 - len) ≡ 2 ^ (32 - len) * 2 ^ 96 = ap (λ k. 2 ^ k) more ∙ pow-add 2 (32 - len) 96 in
-    let same : n * 2 ^ 96 ≡ n / 2 ^ (32 - len) * 2 ^ (128 - len) = ap (λ m. m * 2 ^ 96) whole ∙ mul_assoc (n / 2 ^ (32 - len)) (2 ^ (32 - len)) (2 ^ 96) ∙ ap (λ m. n / 2 ^ (32 - len) * m) (sym count) in
-    grind (arith, mul-mod_left)
+prefix_of_v4 n len = widened_prefix (record { first = n; len = len })
 
 -- so a prefix of either family is one of 128 bits
 prefix_of : (a : IpAddr) (len : ℕ) → IsFamilyPrefix (record { addr = a; len = len })

@@ -1,5 +1,5 @@
 -- Lists of blocks, read element by element from the front of what is left.
-use Rattle.rpki_ip_block.proofs.Common.{List, [], ap, append-nil, append_assoc, arith, inl, inr, length, length-append, refl, subst, sym, ℕ, ◌++◌, ◌<◌, ◌∙◌, ◌∷◌, ◌≡◌, AddressFamily, IsElement, HaveValues, elements, IsBehindSpace, IsBlockAtFront, HasBlocks, IsElementText, IpBlock}
+use Rattle.rpki_ip_block.proofs.Common.{List, [], ap, append-nil, append_assoc, inl, inr, refl, subst, sym, ℕ, ◌++◌, ◌∙◌, ◌∷◌, ◌≡◌, AddressFamily, IsElement, HaveValues, elements, IsBehindSpace, IsBlockAtFront, HasBlocks, IsElementText, IpBlock}
 use Rattle.std.proofs.Common.{◌⊎◌}
 use Rattle.rpki_text.proofs.ElementLemmas.{IsPartOf, elements_first, elements_last}
 use Rattle.rpki_ip_block.specs.BlockFronts.{IsSpaceOrNothing}
@@ -38,7 +38,3 @@ module _ (family : AddressFamily) (left start : List ℕ) (b : IpBlock) (rest : 
       ] in
       let these : elements left ≡ h.front ∷ [] = elements_last left h.front (part.0, part.1, behind) is_element in
       so_far (b ∷ []) (subst (λ t. HaveValues (IsElementText family) t (b ∷ [])) (sym these) (h.block, tt))
-
-  -- less is left behind it
-  pub shorter : (more : List ℕ) → rest ≡ 44 ∷ more → length more < length left
-  shorter more comma = omega (arith, ap length part.2, length-append part.0 rest, ap length comma)

@@ -1,6 +1,5 @@
 -- A text of a list of blocks has one list of values or one first fault.
-use Rattle.rpki_ip_block.proofs.Common.{Bool, Err, IsTrue, List, MatchResult, Ok, Option, Result, Some, false, inl, inr, refl, subst, sym, true, ℕ, ◌↔◌, ◌∙◌, ◌≡◌, AddressFamily, FromStrError, HasFirstFault, HaveValues, elements, IfRefused, AnswersOrMemory, OrMemory, HasIpBlockFault, IsIpBlockText, HasBlocks, HasBlocksFault, HasElementFault, HasIpBlocks, HasIpBlocksFault, HasMismatch, IsElementText, IsFamilyOf, IsForeign, IpBlock, arith}
-use Rattle.rpki_text.specs.declared.memory.OrMemory.TheVariants.{Refused, Memory}
+use Rattle.rpki_ip_block.proofs.Common.{Bool, Err, IsTrue, List, MatchResult, Ok, Option, Result, Some, false, inl, inr, subst, sym, true, ℕ, ◌↔◌, ◌∙◌, ◌≡◌, AddressFamily, FromStrError, HasFirstFault, HaveValues, elements, IfRefused, AnswersOrMemory, OrMemory, HasIpBlockFault, IsIpBlockText, HasBlocks, HasBlocksFault, HasElementFault, HasIpBlocks, HasIpBlocksFault, HasMismatch, IsElementText, IsFamilyOf, IsForeign, IpBlock, arith}
 use Rattle.rpki_text.proofs.ListLemmas.{AnswersOrMemory-from_found, HaveValues-one, first_fault_apart, same_first_fault}
 use Rattle.rpki_ip_block.proofs.TextLemmas.{block_one}
 
@@ -9,30 +8,19 @@ pub element_found : (family : AddressFamily) (text : List ℕ) (r : Result IpBlo
     → (IsTrue test ↔ IsForeign family text) → test ≡ false
     → MatchResult r (IsIpBlockText (Some family) text) (HasIpBlockFault (Some family) text)
     → MatchResult r (IsElementText family text) (HasElementFault family text)
-element_found family text r test same is h = own r (λ foreign. let z : test ≡ true = same.1 foreign in cc) h
-  where
-    own : (r : Result IpBlock FromStrError) → ¬ IsForeign family text
-        → MatchResult r (IsIpBlockText (Some family) text) (HasIpBlockFault (Some family) text)
-        → MatchResult r (IsElementText family text) (HasElementFault family text)
-    own (Ok b) none h = (none, h)
-    own (Err e) none h = inr (none, h)
+element_found family text (Ok b) test same is h = ((λ foreign. let yes : test ≡ true = same.1 foreign in cc), h)
+element_found family text (Err e) test same is h = inr ((λ foreign. let yes : test ≡ true = same.1 foreign in cc), h)
 
 -- what is one answer at most, value by value and fault by fault
 module _ {A E : Type 0} (Has : A → Type 0) (Fails : E → Type 0) (one : (r s : Result A E) → MatchResult r Has Fails → MatchResult s Has Fails → r ≡ s) where
-  ok_one : (a b : A) (r : Result A E) → r ≡ Ok a → r ≡ Ok b → a ≡ b
-  ok_one a b r h k = cc
-
-  err_one : (d e : E) (r : Result A E) → r ≡ Err d → r ≡ Err e → d ≡ e
-  err_one d e r h k = cc
-
   pub same_value : (a b : A) → Has a → Has b → a ≡ b
-  same_value a b h k = ok_one a b (Ok a) refl (one (Ok a) (Ok b) h k)
+  same_value a b h k = let is = one (Ok a) (Ok b) h k in cc
 
   pub value_apart : (a : A) (e : E) → Has a → Fails e → ⊥
   value_apart a e h k = let is = one (Ok a) (Err e) h k in cc
 
   pub same_fault : (d e : E) → Fails d → Fails e → d ≡ e
-  same_fault d e h k = err_one d e (Err d) refl (one (Err d) (Err e) h k)
+  same_fault d e h k = let is = one (Err d) (Err e) h k in cc
 
 -- so a text has one block at most, or one fault
 same_block : (w : Option AddressFamily) (text : List ℕ) (a b : IpBlock) → IsIpBlockText w text a
@@ -67,17 +55,15 @@ family_answers view family text r found = search (arith, AnswersOrMemory-from_fo
 pub same_family : (text : List ℕ) (f g : AddressFamily) → IsFamilyOf text f → IsFamilyOf text g → f ≡ g
 same_family text f g h h2 = grind arith
 
-mismatch_apart : (family : AddressFamily) (text : List ℕ) (a : IpBlock) (e : FromStrError)
-    → IsIpBlockText (Some family) text a → HasMismatch family text e → ⊥
-mismatch_apart family text a e h k = k.0 a h
-
 pub same_ip_blocks : (text : List ℕ) (a b : List IpBlock) → HasIpBlocks text a → HasIpBlocks text b → a ≡ b
 same_ip_blocks text a b h h2 = grind (arith, HaveValues-one, same_block, same_family)
 
 ip_blocks_apart : (text : List ℕ) (a : List IpBlock) (e : FromStrError) → HasIpBlocks text a → HasIpBlocksFault text e
     → ⊥
 ip_blocks_apart text a e (f, is, h) (g, iz, k) =
-    first_fault_apart (IsIpBlockText (Some f)) (HasMismatch f) (mismatch_apart f) (elements text) a e h (subst (λ w. HasFirstFault (IsIpBlockText (Some w)) (HasMismatch w) (elements text) e) (same_family text g f iz is) k)
+    first_fault_apart (IsIpBlockText (Some f)) (HasMismatch f) (λ text a e h k. k.0 a h) (elements text) a e h
+    (subst (λ w. HasFirstFault (IsIpBlockText (Some w)) (HasMismatch w) (elements text) e) (same_family text g f iz is)
+    k)
 
 same_ip_fault : (text : List ℕ) (d e : FromStrError) → HasIpBlocksFault text d → HasIpBlocksFault text e → d ≡ e
 same_ip_fault text d e h h2 = grind arith
@@ -87,12 +73,6 @@ pub ip_answers : {V : Type 0} (view : V → List IpBlock) (family : AddressFamil
     → MatchResult r (λ v. HaveValues (IsIpBlockText (Some family)) (elements text) (view v))
     (IfRefused (HasFirstFault (IsIpBlockText (Some family)) (HasMismatch family) (elements text)))
     → AnswersOrMemory view (HasIpBlocks text) (HasIpBlocksFault text) r
-ip_answers view family text is r found = AnswersOrMemory-from_found view _ _ (same_ip_blocks text) (ip_blocks_apart text) (same_ip_fault text) r (told r found)
-  where
-    told : (r : Result _ (OrMemory FromStrError))
-        → MatchResult r (λ v. HaveValues (IsIpBlockText (Some family)) (elements text) (view v))
-        (IfRefused (HasFirstFault (IsIpBlockText (Some family)) (HasMismatch family) (elements text)))
-        → MatchResult r (λ v. HasIpBlocks text (view v)) (IfRefused (HasIpBlocksFault text))
-    told (Ok v) h = (family, is, h)
-    told (Err (Refused e)) h = (family, is, h)
-    told (Err (Memory e)) h = tt
+ip_answers view family text is r found =
+    AnswersOrMemory-from_found view (HasIpBlocks text) (HasIpBlocksFault text) (same_ip_blocks text)
+    (ip_blocks_apart text) (same_ip_fault text) r (grind arith)

@@ -1,28 +1,9 @@
 -- What is printed of a block is a text of a block with its bounds.
-use Rattle.rpki_ip_block.proofs.Common.{All, List, MatchResult, None, Result, Some, ap, arith, decimal, inl, inr, lit<, refl, sym, ℕ, ◌%◌, ◌++◌, ◌+◌, ◌-◌, ◌<◌, ◌^◌, ◌∙◌, ◌∷◌, ◌≡◌, ◌≢◌, ◌≤◌, pow-le-pow_right, cases_eq, cases_lt, eq-eqb, ne_eqb, All-append, All-cons, All-weaker, pow_pos, IsAddressByte, ip_bytes, no_dash, no_slash, not_slash, IsIpText-ip_text, cleared_first, first_of, greatest_of, cleared, IsPrefix, PrefixValue, last_of, ip_text, IpAddr, bits_of, family_of, AddressFamily, Ipv4, Ipv6, single_of, IsAddressText, IsRangeFrom, as_ip, shown_bits, RangeValue, FromStrError, HasNo, dash, slash, Answers, HasIpBlockFault, IsIpBlockText, ip_bounds, IsBlockOf, ReadsIpBlock, ip_block_text, IpBlock, Prefix, Range}
+use Rattle.rpki_ip_block.proofs.Common.{List, MatchResult, None, Result, Some, ap, arith, decimal, inl, inr, lit<, refl, sym, ℕ, ◌-◌, ◌^◌, ◌∙◌, ◌≡◌, ◌≤◌, pow-le-pow_right, cases_eq, cases_lt, eq-eqb, ne_eqb, pow_pos, IsIpText-ip_text, cleared_first, first_of, greatest_of, cleared, IsPrefix, PrefixValue, last_of, ip_text, bits_of, family_of, AddressFamily, Ipv4, Ipv6, single_of, IsAddressText, as_ip, shown_bits, RangeValue, FromStrError, Answers, HasIpBlockFault, IsIpBlockText, ip_bounds, IsBlockOf, ReadsIpBlock, ip_block_text, IpBlock, Prefix, Range}
 use Rattle.rpki_addr.specs.ReadsAddress.{IsAddress}
 use Rattle.rpki_text.proofs.NumberTexts.{IsNumberText-decimal}
-
--- two addresses with a dash between them have no slash
-no_slash_between : (left right : List ℕ) → All IsAddressByte left → All IsAddressByte right
-    → HasNo slash (left ++ dash ∷ right)
-no_slash_between left right h k =
-    let all = All-append (λ b. b ≢ slash) left (dash ∷ right) (All-weaker IsAddressByte _ not_slash left h) (All-cons (λ b. b ≢ slash) dash right (λ e. omega (arith, e)) (All-weaker IsAddressByte _ not_slash right k)) in
-    λ i l. all i 0 l
-
--- printed addresses in each form
-module _ (family : AddressFamily) (a : IpAddr) (is : IsAddressText (Some family) (ip_text a) a) where
-  shown_prefix : (p : PrefixValue) → p.len ≤ bits_of (family_of a) → p.len ≤ 128
-      → p.first ≡ cleared 128 (first_of a) p.len
-      → IsIpBlockText (Some family) (ip_text a ++ slash ∷ decimal p.len) (Prefix p)
-  shown_prefix p fits small first = grind (arith, IsNumberText-decimal, ip_bytes, no_slash)
-
-  shown_single : (r : RangeValue) → IsRangeFrom a a r → IsIpBlockText (Some family) (ip_text a) (Range r)
-  shown_single r from = (no_slash (ip_text a) (ip_bytes a), inr (no_dash (ip_text a) (ip_bytes a), (a, is, from)))
-
-  shown_range : (b : IpAddr) (r : RangeValue) → IsAddressText (Some family) (ip_text b) b → IsRangeFrom a b r
-      → IsIpBlockText (Some family) (ip_text a ++ dash ∷ ip_text b) (Range r)
-  shown_range b r iz from = grind (arith, ip_bytes, no_dash, no_slash_between)
+use Rattle.std.proofs.lemmas.Fmt.{decimal_is_IsNumeral}
+use Rattle.rpki_ip_block.proofs.FrontLemmas.{IsPlainBlock, plain_prefix, plain_range, plain_single}
 
 -- the address of a family is of that family
 of_family : (family : AddressFamily) (bits : ℕ) → family_of (as_ip family bits) ≡ family
@@ -64,12 +45,9 @@ short_prefix : (family : AddressFamily) (p : PrefixValue) → IsBlockOf family (
 short_prefix Ipv6 p is = is.short
 short_prefix Ipv4 p (is, whole) = elim (cases_lt 32 p.len) [
   | inl long ↦ absurd (
-      let some : 0 < 2 ^ (128 - p.len) = pow_pos (128 - p.len) in
       let few : 128 - p.len ≤ 95 = omega (arith, long) in
       let up : 2 ^ (128 - p.len) ≤ 2 ^ 95 = pow-le-pow_right (lit< tt) few in
-      let begins : p.first % 2 ^ 96 ≡ 0 = whole.begins in
-      let ends : (p.first + 2 ^ (128 - p.len) - 1 + 1) % 2 ^ 96 ≡ 0 = whole.ends in
-      omega (arith, some, up, begins, ends))
+      omega (arith, pow_pos (128 - p.len), up, whole.begins, whole.ends))
   | inr short ↦ short
 ]
 
@@ -81,7 +59,7 @@ last_single family p e begins = grind arith
 -- a block that the text writes, with the bounds of b
 pub record WritesBoundsOf (family : AddressFamily) (text : List ℕ) (b : IpBlock) : Type 0 where
   pub block : IpBlock
-  pub written : IsIpBlockText (Some family) text block
+  pub plain : IsPlainBlock family text block
   pub bounds : ip_bounds block ≡ ip_bounds b
 
 -- what is printed of a block writes its bounds
@@ -95,12 +73,18 @@ written_of family (Prefix p) h =
     elim (cases_eq p.len (bits_of family)) [
       | inl e ↦ rw (eq-eqb p.len (bits_of family) e) (record {
         block = Range (record { min = first_of a; max = greatest_of a });
-        written = shown_single family a is _ (single_of a _ _ _ refl refl refl);
+        plain = plain_single family (ip_text a) a _ is (single_of a _ _ _ refl refl refl);
         bounds = (let last = last_single family p e begins in let first = begins.is in λ i. (sym first i, last i));
       })
       | inr n ↦ rw (ne_eqb p.len (bits_of family) n) (record {
         block = Prefix p;
-        written = shown_prefix family a is p (rw (of_family family (shown_bits family p.first)) (short_prefix family p h)) prefix.short (sym (cleared_first 128 p prefix) ∙ ap (λ x. cleared 128 x p.len) begins.is);
+        plain =
+            plain_prefix family (ip_text a) (decimal p.len) a p is
+            (decimal_is_IsNumeral p.len (omega (arith, prefix.short))).0.1 (record {
+              length_text = IsNumberText-decimal 255 p.len (omega (arith, prefix.short)) (omega (arith, prefix.short));
+              within = rw (of_family family (shown_bits family p.first)) (short_prefix family p h);
+              first = sym (cleared_first 128 p prefix) ∙ ap (λ x. cleared 128 x p.len) begins.is;
+            });
         bounds = refl;
       })
     ]
@@ -115,12 +99,22 @@ written_of family (Range r) h =
     elim (cases_eq (shown_bits family r.min) (shown_bits family r.max)) [
       | inl e ↦ rw (eq-eqb (shown_bits family r.min) (shown_bits family r.max) e) (record {
         block = Range r;
-        written = shown_single family a is r (record { one_family = refl; min = begins.is; max = ends.is ∙ ap (λ bits. greatest_of (as_ip family bits)) (sym e); ordered = ordered });
+        plain = plain_single family (ip_text a) a r is (record {
+          one_family = refl;
+          min = begins.is;
+          max = ends.is ∙ ap (λ bits. greatest_of (as_ip family bits)) (sym e);
+          ordered = ordered;
+        });
         bounds = refl;
       })
       | inr n ↦ rw (ne_eqb (shown_bits family r.min) (shown_bits family r.max) n) (record {
         block = Range r;
-        written = shown_range family a is b r iz (record { one_family = of_family family (shown_bits family r.min) ∙ sym (of_family family (shown_bits family r.max)); min = begins.is; max = ends.is; ordered = ordered });
+        plain = plain_range family (ip_text a) (ip_text b) a b r is iz (record {
+          one_family = of_family family (shown_bits family r.min) ∙ sym (of_family family (shown_bits family r.max));
+          min = begins.is;
+          max = ends.is;
+          ordered = ordered;
+        });
         bounds = refl;
       })
     ]

@@ -36,6 +36,7 @@ impl IpBlock {
     /// those of [`Prefix::take_from`]. The content of a SEQUENCE has those of its two prefixes, `ReversedRange` where
     /// the least address is above the greatest, and then `TrailingData` for octets that are left in it. From a strict
     /// cursor also `NotCanonical` where the octets aren't those that are written of a block that sets have.
+    #[tactic(auto, using(crate::proofs::BlockWritten::taken_exact, crate::proofs::BlockWritten::taken_reads, crate::proofs::BlockWritten::taken_strict, crate::proofs::BlockWritten::taken_refused))]
     pub fn take_opt_from(cursor: &mut Cursor<'_>) -> Result<Option<IpBlock>, DerError>
         ensures reads { Lenient cursor.old
             (ReadsOptional (IsIpBlockDer 128) (λ block. block) cursor.old cursor.new result) }
@@ -61,6 +62,7 @@ impl IpBlock {
 
     /// Takes a block of the family as `take_opt_from` does. `BadPrefix` also for a prefix that is longer than the
     /// family's addresses, by itself and in a SEQUENCE.
+    #[tactic(auto, using(crate::proofs::BlockWritten::taken_exact, crate::proofs::BlockWritten::taken_reads, crate::proofs::BlockWritten::taken_strict, crate::proofs::BlockWritten::taken_refused, rpki_ip::proofs::DerModes::bits_few_enough))]
     pub fn take_opt_from_with_family(
         cursor: &mut Cursor<'_>,
         family: AddressFamily,

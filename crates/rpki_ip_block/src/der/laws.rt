@@ -15,6 +15,7 @@ pub fn one_block()
 {}
 
 /// The octets that `encode` appends are the block, where its bounds need no more bits than the limit.
+#[tactic(auto, using(crate::proofs::BlockWritten::block_written))]
 pub fn written()
     ensures { (limit : ℕ) (block : IpBlock) → limit ≤ 128 → IsBlockWithin limit block
         → IsIpBlockDer limit (ip_block_der block) block }
@@ -22,6 +23,7 @@ pub fn written()
 
 /// A block is a reversed range exactly where it is a SEQUENCE that begins with two prefixes of which the second ends
 /// before the first begins, whatever stands behind them.
+#[tactic(auto, using(crate::proofs::DerFaults::block_fails))]
 pub fn reversed()
     ensures { (limit : ℕ) (bytes : List ℕ) → (ip_block_at limit bytes ≡ Err ReversedRange)
         ↔ BeginsWithValue 48 (BeginsWithTwo (prefix_at limit) (λ p q. last_of 128 q < p.first))
@@ -29,6 +31,7 @@ pub fn reversed()
 {}
 
 /// Octets are refused as not canonical by a strict cursor alone.
+#[tactic(auto, using(crate::proofs::DerFaults::never_lenient))]
 pub fn not_canonical()
     ensures { (limit : ℕ) (bytes : List ℕ) → ip_block_at limit bytes ≢ Err NotCanonical }
 {}

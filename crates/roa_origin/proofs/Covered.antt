@@ -2,7 +2,7 @@
 use Rattle.roa_origin.proofs.Common.{Bool, List, [], ap, arith, cond, false, get_or, length, refl, reverse, suc, true, zero, ℕ, ◌++◌, ◌+◌, ◌-◌, ◌<◌, ◌∙◌, ◌∷◌, ◌≡◌, ◌≤◌, ◌⊎◌, and_parts, eq-eqb, eqb-true, le-leb, leb-true, reverse-append, reverse-reverse, take_all, All-filter, filter_more, filter_passes, IsNonDecreasingBy-filter, filter, IsNonDecreasingBy, IpAddr, covers_round, round_covers, FamilyPrefix, IsFamilyPrefix, is_v6, width, AreThose, IsWalk, covering_before, covers_route, IsInOrder, IsLink, NoneCovers, CoversRoute, Payload, prefix_len, payload_place, place, Link}
 use Rattle.roa_origin.proofs.Nested.{covers_between, same_width}
 use Rattle.roa_origin.proofs.Places.{covers_len, covers_place}
-use Rattle.roa_origin.proofs.Walks.{later_covers_none, nowhere, passes_none, prefix_of}
+use Rattle.roa_origin.proofs.Walks.{later_covers_none, no_link, nowhere, passes_none, prefix_of}
 
 -- addresses are of one family where they have as many bits
 same_family : (a b : IpAddr) → width a ≡ width b → is_v6 a ≡ is_v6 b
@@ -50,9 +50,7 @@ module _ (route : FamilyPrefix) (xs : List Payload) where
   none_between zero to from far high none = ap (covering_before route xs) (let e : to ≡ from = omega arith in e)
   none_between (suc n) to from far high none =
       let on : to ≡ from + n + 1 = omega (arith, far) in
-      let free = none (from + n) nowhere (omega arith) (omega arith) (omega arith) in
-      ap (covering_before route xs) on ∙ free_step (from + n) nowhere (omega arith) free
-      ∙ none_between n (from + n) from refl (omega arith) (λ k d low below. none k d low (omega arith))
+      rw on (grind (arith, free_step (from + n) nowhere, none (from + n) nowhere, none_between n (from + n) from))
 
   -- what comes later than the route doesn't cover it: those before it are all that do
   pub all_before : (n : ℕ) → IsInOrder xs → IsFamilyPrefix route → n ≤ length xs
@@ -68,21 +66,22 @@ pub by_length : (route : FamilyPrefix) (xs : List Payload) → IsFamilyPrefix ro
     → IsNonDecreasingBy prefix_len (filter (covers_route route) xs)
 by_length route xs is order i j d before inside =
     let ys : List Payload = filter (covers_route route) xs in
-    let p : Payload = get_or ys i d in
-    let q : Payload = get_or ys j d in
     let there : i < length ys = omega (arith, before, inside) in
     let are = All-filter (covers_route route) (λ x. IsFamilyPrefix x.0.prefix) xs (prefix_of xs order) in
-    let covers = filter_passes (covers_route route) xs in
-    let of_p : CoversRoute route p = tells_covers route p (covers i d there) in
-    let of_q : CoversRoute route q = tells_covers route q (covers j d inside) in
-    let places : payload_place p ≤ payload_place q = IsNonDecreasingBy-filter payload_place (covers_route route) xs order.ordered i j d before inside in
-    covers_len p.0.prefix q.0.prefix (are i d there)
-    (covers_between p.0.prefix q.0.prefix route (are i d there) (are j d inside) is places (covers_place q.0.prefix route (are j d inside) of_q) of_p)
+    let passes = filter_passes (covers_route route) xs in
+    let covers = λ (k : ℕ) (small : k < length ys). tells_covers route (get_or ys k d) (passes k d small) in
+    let places = IsNonDecreasingBy-filter payload_place (covers_route route) xs order.ordered i j d before inside in
+    let one = covers i there in
+    let other = covers j inside in
+    grind (arith, are i d there, are j d inside, covers_between, covers_len, covers_place)
 
 -- the walk's next step: the nearest payload that covers the route; what is left is what its link leaves
-module _ (xs : List Payload) (links : List Link) (n : ℕ) (route : FamilyPrefix) (walk : IsWalk xs links n route) (at : ℕ) (some : 0 < at) (back : at ≤ n)
-    (l : Link) (link : (d : Payload) → IsLink xs (at - 1) (get_or xs (at - 1) d) l)
-    (left : ℕ) (goes : ((left ≡ at - 1) × (l.first < at - 1)) ⊎ ((left ≡ l.back) × (at - 1 ≤ l.first))) where
+module _ {xs : List Payload} {links : List Link} {n : ℕ} {route : FamilyPrefix} (walk : IsWalk xs links n route)
+    {at left : ℕ} {l : Link} (some : 0 < at) (back : at ≤ n) (is : l ≡ get_or links (at - 1) no_link)
+    (goes : ((left ≡ at - 1) × (l.first < at - 1)) ⊎ ((left ≡ l.back) × (at - 1 ≤ l.first))) where
+  link : (d : Payload) → IsLink xs (at - 1) (get_or xs (at - 1) d) l
+  link d = rw is (walk.table.linked (at - 1) d no_link (omega (arith, some, back, walk.within, walk.table.as_many)))
+
   before : left ≤ at - 1
   before = grind (arith, link nowhere)
 
@@ -105,6 +104,6 @@ module _ (xs : List Payload) (links : List Link) (n : ℕ) (route : FamilyPrefix
       ∙ rw (more route xs (at - 1) d there, is_told route (get_or xs (at - 1) d) covers, passed)
 
 -- and where there is none, nothing is left
-pub nothing_left : (xs : List Payload) (links : List Link) (n : ℕ) (route : FamilyPrefix) → IsWalk xs links n route
+pub nothing_left : {xs : List Payload} {links : List Link} {n : ℕ} {route : FamilyPrefix} → IsWalk xs links n route
     → NoneCovers xs route 0 n → covering_before route xs n ≡ []
-nothing_left xs links n route walk none = none_between route xs n n 0 (omega arith) walk.within none
+nothing_left {xs} {links} {n} {route} walk none = none_between route xs n n 0 (omega arith) walk.within none

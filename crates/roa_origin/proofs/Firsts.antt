@@ -1,7 +1,10 @@
 -- The first bits of addresses: how many numbers they write, and that they follow the order of places.
-use Rattle.roa_origin.proofs.Common.{List, arith, get_or, length, lit≤, subst, ℕ, ◌*◌, ◌+◌, ◌-◌, ◌/◌, ◌<◌, ◌^◌, ◌≤◌, le-div, pow_pos, shr_below, IpAddr, V4, V6, FamilyPrefix, IsFamilyPrefix, address_number, width, AreFamilyPrefixes, Payload, payload_place, place, IsStart, first_bits}
+use Rattle.roa_origin.proofs.Common.{List, arith, get_or, lit≤, slice_index, subst, ℕ, ◌*◌, ◌+◌, ◌-◌, ◌/◌, ◌<◌, ◌^◌, ◌≡◌, ◌≤◌, le-div, pow_pos, shr_below, IpAddr, V4, V6, FamilyPrefix, IsFamilyPrefix, address_number, width, IsInOrder, Payload, place, first_bits}
 use Rattle.std.proofs.Math.Nat.{div-mul-le_self, pow-le-pow_right}
 use Rattle.roa_origin.proofs.Nested.{len_small}
+use Rattle.roa_origin.proofs.Walks.{nowhere, prefix_of}
+use Rattle.roa_origin.specs.Links.{IsBetween}
+use Rattle.roa_origin.specs.Starts.{AreStarts}
 
 -- the first n of w bits write a number of n bits
 pub first_part : (w n x : ℕ) → n ≤ w → x < 2 ^ w → x / 2 ^ (w - n) < 2 ^ n
@@ -30,19 +33,21 @@ first_up n p q few is is' = of_addrs p.addr q.addr p.len q.len (len_small p is) 
     of_addrs (V4 x) (V6 y) k l short short' below below' le = omega (arith, first_part 32 n x (omega arith) below)
     of_addrs (V6 x) (V4 y) k l short short' below below' le = absurd (omega arith)
 
--- payloads before the start of a prefix's first bits come before the prefix
-pub before_start : (n : ℕ) (xs : List Payload) (p : FamilyPrefix) (start : ℕ) → n ≤ 20
-    → AreFamilyPrefixes xs (length xs) → IsFamilyPrefix p → IsStart n xs (first_bits n p) start → (k : ℕ) (d : Payload)
-    → k < start → payload_place (get_or xs k d) < place p
-before_start n xs p start few prefixes is at k d small =
-    let there : k < length xs = omega (arith, small, at.within) in
-    let up = first_up n p (get_or xs k d).0.prefix few is (prefixes k d there) in
-    grind (arith, at.before k d small, up)
-
--- payloads from the start of the next number on come after it
-pub after_start : (n : ℕ) (xs : List Payload) (p : FamilyPrefix) (end : ℕ) → n ≤ 20 → AreFamilyPrefixes xs (length xs)
-    → IsFamilyPrefix p → IsStart n xs (first_bits n p + 1) end → (k : ℕ) (d : Payload) → end ≤ k → k < length xs
-    → place p < payload_place (get_or xs k d)
-after_start n xs p end few prefixes is at k d from small =
-    let up = first_up n (get_or xs k d).0.prefix p few (prefixes k d small) is in
-    grind (arith, at.from k d from small, up)
+-- a prefix is sought between the start of its first bits and that of the next number
+pub between_starts : (n : ℕ) (xs : List Payload) (starts : List ℕ) (p : FamilyPrefix) (number : ℕ)
+    → AreStarts n xs starts → IsInOrder xs → IsFamilyPrefix p → number ≡ first_bits n p → number < 2 * 2 ^ n
+    → IsBetween xs (slice_index starts number) (slice_index starts (number + 1)) p
+between_starts n xs starts p number are order is same below =
+    let to = slice_index starts (number + 1) in
+    let start = are.each number (omega (arith, are.as_many, below)) in
+    let end = are.each (number + 1) (omega (arith, are.as_many, below)) in
+    record {
+      ordered = grind (arith, start.before to nowhere, end.from to nowhere, start.within);
+      within = end.within;
+      up_to = λ k d small.
+          let lawful = prefix_of xs order k d (omega (arith, small, start.within)) in
+          grind (arith, first_up n p (get_or xs k d).0.prefix are.few is lawful, start.before k d small);
+      later = λ k d from small.
+          let lawful = prefix_of xs order k d small in
+          grind (arith, end.from k d from small, first_up n (get_or xs k d).0.prefix p are.few lawful is);
+    }

@@ -46,9 +46,7 @@ module _ (xs : List Payload) (order : IsInOrder xs) (route : FamilyPrefix) (a b 
   -- and what none of it is, none is at those places
   pub none_in : (P : Payload → Type 0) → ¬ Any P (slice_range xs a b) → (k : ℕ) (d : Payload) → a ≤ k → k < b
       → ¬ P (get_or xs k d)
-  none_in P none k d from before is_such =
-      let there = piece_at xs a b k _ from before ∙ get_or_default xs k _ d (omega (arith, before, within)) in
-      none (k - a, get_or xs k d, omega (arith, from, before, wide), there, is_such)
+  none_in P none k d from before is_such = grind (arith, get_or_default xs k, piece_at xs a b k, wide)
 
 -- ---- the payload to ask of a group: the last one whose AS number isn't below the route's
 

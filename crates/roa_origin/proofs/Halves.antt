@@ -7,18 +7,8 @@ module _ {xs : List Payload} {from to : ℕ} {p : FamilyPrefix} (h : IsBetween x
     (le : from ≤ m) (small : m < to) where
   -- where that comes no later, the prefix is sought behind it
   pub behind_middle : payload_place (get_or xs m d) ≤ place p → IsBetween xs (m + 1) to p
-  behind_middle before = record {
-    ordered = omega (arith, small);
-    within = h.within;
-    up_to = λ k e less. grind (arith, ordered k m e, get_or_default xs m d e, h.within);
-    later = h.later;
-  }
+  behind_middle before = grind (arith, get_or_default xs m d, h.later, h.within, λ (k : ℕ). ordered k m)
 
   -- and where it comes later, before it
   pub before_middle : place p < payload_place (get_or xs m d) → IsBetween xs from m p
-  before_middle after = record {
-    ordered = le;
-    within = omega (arith, small, h.within);
-    up_to = h.up_to;
-    later = λ k e from_m inside. grind (arith, ordered m k e, get_or_default xs m d e);
-  }
+  before_middle after = grind (arith, get_or_default xs m d, h.up_to, h.within, ordered m)

@@ -1,6 +1,6 @@
 -- What changes in order say of the list that they came in.
-use Rattle.roa_origin.proofs.Common.{All, All-contains, Any, Contains, List, [], ap, arith, get_or, length, map, refl, sym, take, ℕ, ◌++◌, ◌+◌, ◌<◌, ◌∙◌, ◌∷◌, ◌≡◌, cases_lt, get_or-map, get_or-take, get_or_append_left, get_or_default, get_or_push, length-map, length-take, length_push, map-append, map_more, All-permutation, All-push, IsPermutation-map, IsPermutation-refl, IsPermutation-trans, IsNonDecreasingBy, IsPermutation, IsLawfulPayload, Payload, sent_place, as_sent, AreChangesOf, AreSorted, IsFirstPlace, IsLawfulChange, IsOf, IsOfBefore, IsSearched, IsSentIn, sent_change, Change}
-use Rattle.roa_origin.proofs.Found.{any_moved}
+use Rattle.roa_origin.proofs.Common.{All, All-contains, Any, Contains, List, [], ap, arith, get_or, length, map, refl, sym, take, take_all, ℕ, ◌++◌, ◌+◌, ◌<◌, ◌∙◌, ◌∷◌, ◌≡◌, ◌≤◌, cases_lt, get_or-map, get_or-take, get_or_append_left, get_or_default, get_or_push, length-map, length-take, length_push, map-append, map_more, All-permutation, All-push, IsPermutation-map, IsPermutation-refl, IsPermutation-trans, IsNonDecreasingBy, IsPermutation, IsLawfulPayload, Payload, sent_place, as_sent, AreChangesOf, AreSorted, IsFirstPlace, IsLawfulChange, IsOf, IsOfBefore, IsSearched, IsSentIn, sent_change, Change}
+use Rattle.roa_origin.proofs.Found.{any_moved, found}
 use Rattle.roa_origin.proofs.Places.{lower, upper}
 use Rattle.roa_origin.proofs.Sent.{same_sent, sent_same}
 
@@ -9,36 +9,33 @@ use Rattle.roa_origin.proofs.Sent.{same_sent, sent_same}
 abbrev entry_of : Change → Payload
 entry_of c = c.entry
 
-made : Payload → ℕ → Change
-made p n = record { entry = p; place = n }
-
--- those of payloads gone through
-module _ (xs : List Payload) (cs : List Change) (same : map entry_of cs ≡ map as_sent xs) where
-  as_many : length cs ≡ length xs
-  as_many = sym (length-map cs entry_of) ∙ ap length same ∙ length-map xs as_sent
-
-  entry_at : (n : ℕ) (d : Change) (e : Payload) → n < length xs → (get_or cs n d).entry ≡ as_sent (get_or xs n e)
-  entry_at n d e small = sym (get_or-map entry_of cs n d e (omega (arith, small, as_many))) ∙ ap (λ ps. get_or ps n e) same ∙ get_or-map as_sent xs n e e small
-
-  pub listed : All IsLawfulChange cs → ((n : ℕ) (d : Change) → n < length cs → (get_or cs n d).place ≡ n)
-      → AreChangesOf xs cs
-  listed lawful places = record {
-    lawful = lawful;
-    entries = rw same (IsPermutation-refl (map as_sent xs));
-    at_place = λ n d small.
-        rw (places n d small) (omega (arith, as_many), λ e. sym (entry_at n d e (omega (arith, as_many))));
-    each = λ n d small.
-        let c = made d n in
-        let inside : n < length cs = omega (arith, small, as_many) in
-        (n, get_or cs n c, inside, get_or_default cs n (get_or cs n c) c inside, (entry_at n c d small, places n c inside));
-  }
-
 -- the changes of the first n payloads, in their order
 pub record AreListed (xs : List Payload) (n : ℕ) (cs : List Change) : Type 0 where
   pub same : map entry_of cs ≡ map as_sent (take n xs)
   pub lawful : All IsLawfulChange cs
   pub many : length cs ≡ n
   pub places : (k : ℕ) (d : Change) → k < length cs → (get_or cs k d).place ≡ k
+
+-- and of all
+pub listed : {xs : List Payload} {n : ℕ} {cs : List Change} → AreListed xs n cs → length xs ≤ n → AreChangesOf xs cs
+listed {xs} {n} {cs} far all = record {
+  lawful = far.lawful;
+  entries = rw same (IsPermutation-refl (map as_sent xs));
+  at_place = λ k d small. rw (far.places k d small) (omega (arith, as_many), λ e. sym (entry_at k d e small));
+  each = λ k d small.
+      let c : Change = record { entry = d; place = k } in
+      let inside : k < length cs = omega (arith, small, as_many) in
+      (k, get_or cs k c, inside, get_or_default cs k _ c inside, (entry_at k c d inside, far.places k c inside));
+}
+  where
+    same : map entry_of cs ≡ map as_sent xs
+    same = far.same ∙ ap (map as_sent) (take_all n xs all)
+
+    as_many : length cs ≡ length xs
+    as_many = sym (length-map cs entry_of) ∙ ap length same ∙ length-map xs as_sent
+
+    entry_at : (k : ℕ) (d : Change) (e : Payload) → k < length cs → (get_or cs k d).entry ≡ as_sent (get_or xs k e)
+    entry_at k d e small = grind (arith, as_many, get_or-map as_sent xs k e e, get_or-map entry_of cs k d e, same)
 
 -- and of one more
 pub one_listed : {xs : List Payload} {n : ℕ} {cs : List Change} → AreListed xs n cs → (x : Payload) (c : Change)
@@ -47,7 +44,7 @@ pub one_listed : {xs : List Payload} {n : ℕ} {cs : List Change} → AreListed 
 one_listed {xs} {n} {cs} far x c small is entry place lawful = record {
   same = rw (map-append, map_more as_sent xs n x small, far.same, entry, ← is);
   lawful = All-push IsLawfulChange cs c far.lawful lawful;
-  many = length_push cs c ∙ ap (λ k. k + 1) far.many;
+  many = omega (arith, far.many, length_push cs c);
   places = λ k d inside.
       grind (arith, cases_lt k (length cs), far.places k d, get_or_append_left, get_or_push, length_push);
 }
@@ -61,7 +58,7 @@ pub listed_moved : (xs : List Payload) (cs ds : List Change) → IsPermutation c
     → AreChangesOf xs ds
 listed_moved xs cs ds moved are = record {
   lawful = All-permutation IsLawfulChange cs ds moved are.lawful;
-  entries = IsPermutation-trans (map as_sent xs) (map entry_of cs) (map entry_of ds) are.entries (IsPermutation-map entry_of cs ds moved);
+  entries = IsPermutation-trans _ _ (map entry_of ds) are.entries (IsPermutation-map entry_of cs ds moved);
   at_place = All-permutation (StandsIn xs) cs ds moved are.at_place;
   each = λ n d small. any_moved (λ change. (change.entry ≡ as_sent (get_or xs n d)) × (change.place ≡ n)) cs ds moved (are.each n d small);
 }
@@ -85,11 +82,7 @@ module _ (xs : List Payload) (cs : List Change) (are : AreChangesOf xs cs) (p : 
 
   pub change_before : (n : ℕ) → IsSentIn (take n xs) p → Any (IsOfBefore p n) cs
   change_before n (k, q, inside, there, same) =
-      let small : k < n = omega (arith, inside, length-take n xs) in
-      let within : k < length xs = omega (arith, inside, length-take n xs) in
-      let found = are.each k q within in
-      let of : IsOf p found.1 = ap sent_place found.4.0 ∙ sent_same (get_or xs k q) p (ap as_sent (sym (get_or-take n xs k q small) ∙ there) ∙ same) in
-      (found.0, found.1, found.2, found.3, (of, omega (arith, found.4.1, small)))
+      grind (arith, are.each k q, get_or-take n xs k q, length-take n xs, sent_same (get_or xs k q) p)
 
   pub sent_in : Any (IsOf p) cs → IsSentIn xs p
   sent_in (k, c, inside, there, of) =
@@ -106,12 +99,20 @@ pub by_payload : (cs : List Change) → AreSorted cs → IsNonDecreasingBy sent_
 by_payload cs order i j d le small = grind (arith, upper, order.lawful j d, order.ordered i j d)
 
 -- the first one of a payload has the least place
-pub first_of : (cs : List Change) (p : Payload) (at : ℕ) → AreSorted cs → IsSearched sent_change cs (sent_place p) at
-    → at < length cs → (x : Change) → get_or cs at x ≡ x → IsOf p x → IsFirstPlace cs p x.place
-first_of cs p at order searched inside x is of = record {
-  there = (at, x, inside, is, (of, refl));
+pub first_of : (cs : List Change) (p : Payload) (at : ℕ) (x : Change) → AreSorted cs
+    → IsSearched sent_change cs (sent_place p) at → at < length cs → x ≡ get_or cs at x
+    → ((d : Change) → IsOf p (get_or cs at d)) → IsFirstPlace cs p x.place
+first_of cs p at x order searched inside is of = record {
+  there = (at, x, inside, sym is, (rw (← is) at (of x), refl));
   first = λ k d small same.
-      let up = lower (sent_place x.entry) (sent_change (get_or cs k d)) x.place (get_or cs k d).place (of ∙ sym same) in
+      let up = lower (sent_place x.entry) (sent_change (get_or cs k d)) x.place (get_or cs k d).place in
       let before = searched.before k d in
-      grind (arith, cases_lt k at, get_or_default cs at d x inside, order.ordered at k d);
+      grind (arith, cases_lt k at, get_or_default cs at d x inside, of x, order.ordered at k d);
 }
+
+-- and where a search finds none, none is of it
+pub none_of : (cs : List Change) (p : Payload) (at : ℕ) → AreSorted cs → IsSearched sent_change cs (sent_place p) at
+    → ¬ ((at < length cs) × ((d : Change) → IsOf p (get_or cs at d))) → All (λ change. ¬ IsOf p change) cs
+none_of cs p at order searched not k d small of =
+    let there = get_or_default cs k (get_or cs k d) d small in
+    not (found sent_change cs (sent_place p) at (by_payload cs order) searched (k, get_or cs k d, small, there, of))

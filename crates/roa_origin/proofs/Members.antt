@@ -1,5 +1,5 @@
 -- Members of lists: of what is mapped, of what a property picks out, and of two lists in one strict order.
-use Rattle.roa_origin.proofs.Common.{AllPairs, Any, Contains, List, [], ap, arith, inl, inr, map, refl, subst, suc, sym, ◌↔◌, ◌∙◌, ◌∷◌, ◌≡◌, ◌⊎◌, AreThose}
+use Rattle.roa_origin.proofs.Common.{AllPairs, Contains, Contains-get_or, List, [], ap, arith, get_or-map, inl, inr, length, length-map, map, refl, ◌<◌, subst, suc, sym, ◌↔◌, ◌∙◌, ◌∷◌, ◌≡◌, ◌⊎◌, AreThose}
 
 module _ {X : Type 0} where
   pub here : (x : X) (xs : List X) → Contains (x ∷ xs) x
@@ -14,19 +14,11 @@ module _ {X : Type 0} where
   pub no_member : (x : X) → Contains [] x → ⊥
   no_member x (k, small, is) = omega (arith, small)
 
-  -- some member has a property
-  pub any_of : (P : X → Type 0) (xs : List X) (x : X) → Contains xs x → P x → Any P xs
-  any_of P xs x h p = (h.0, x, h.1, h.2, p)
-
-  pub any_has : (P : X → Type 0) (xs : List X) → Any P xs → (x : X) × Contains xs x × P x
-  any_has P xs h = (h.1, (h.0, h.2, h.3), h.4)
-
   -- those at which a property holds are the members at which it does
   pub those_are : (P : X → Type 0) (xs ys : List X) (y : X) → AreThose P xs ys → Contains ys y → P y × Contains xs y
   those_are P [] ys y those h = absurd (no_member y (rw those at h))
-  those_are P (x ∷ xs) ys y (inl (p, zs, cut, those)) h =
-      grind (arith, cons_cases x zs y, here x xs, there x xs y, those_are P xs zs y those)
-  those_are P (x ∷ xs) ys y (inr (not_one, those)) h = let found = those_are P xs ys y those h in (found.0, there x xs y found.1)
+  those_are P (x ∷ xs) ys y those h =
+      grind (arith, cons_cases, here x xs, there x xs y, λ (zs : List X). those_are P xs zs y)
 
   pub those_have : (P : X → Type 0) (xs ys : List X) (x : X) → AreThose P xs ys → Contains xs x → P x → Contains ys x
   those_have P [] ys x those h p = absurd (no_member x h)
@@ -37,10 +29,7 @@ module _ {X : Type 0} where
   -- and are one list
   pub those_one : (P : X → Type 0) (xs ys zs : List X) → AreThose P xs ys → AreThose P xs zs → ys ≡ zs
   those_one P [] ys zs e f = e ∙ sym f
-  those_one P (x ∷ xs) ys zs (inl v) (inl w) = v.2 ∙ ap (λ us. x ∷ us) (those_one P xs v.1 w.1 v.3 w.3) ∙ sym w.2
-  those_one P (x ∷ xs) ys zs (inl v) (inr w) = absurd (w.0 v.0)
-  those_one P (x ∷ xs) ys zs (inr v) (inl w) = absurd (v.0 w.0)
-  those_one P (x ∷ xs) ys zs (inr v) (inr w) = those_one P xs ys zs v.1 w.1
+  those_one P (x ∷ xs) ys zs e f = grind (arith, those_one P xs)
 
   -- lists in a strict order that have the same members are the same
   module _ (Before : X → X → Type 0) (not_back : (x y : X) → Before x y → Before y x → ⊥) where
@@ -74,14 +63,10 @@ module _ {X : Type 0} where
 
 module _ {X Y : Type 0} (f : X → Y) where
   pub map_has : (xs : List X) (x : X) → Contains xs x → Contains (map f xs) (f x)
-  map_has [] x h = absurd (no_member x h)
-  map_has (z ∷ xs) x h =
-      let rest = map_has xs x in
-      grind (arith, cons_cases z xs x h, here (f z) (map f xs), rest, there (f z) (map f xs) (f x))
+  map_has xs x (k, small, is) = (k, omega (arith, small, length-map xs f), get_or-map f xs k x (f x) small ∙ ap f is)
 
   pub map_from : (xs : List X) (y : Y) → Contains (map f xs) y → (x : X) × Contains xs x × (f x ≡ y)
   map_from [] y h = absurd (no_member y h)
-  map_from (x ∷ xs) y h = elim (cons_cases (f x) (map f xs) y h) [
-    | inl e ↦ (x, here x xs, e)
-    | inr more ↦ (let found = map_from xs y more in (found.0, there x xs found.0 found.1, found.2))
-  ]
+  map_from (x ∷ xs) y (k, small, is) =
+      let inside : k < length (x ∷ xs) = omega (arith, small, length-map (x ∷ xs) f) in
+      (_, Contains-get_or (x ∷ xs) k x inside, sym (get_or-map f (x ∷ xs) k x y inside) ∙ is)

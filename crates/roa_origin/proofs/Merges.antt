@@ -1,6 +1,6 @@
 -- Two lists in order, merged by turns: each turn takes the next element of one of them, which comes no later than the
 -- next of the other.
-use Rattle.roa_origin.proofs.Common.{All, List, [], ap, append_assoc, arith, get_or, inl, inr, length, length-append, refl, ℕ, ◌++◌, ◌+◌, ◌-◌, ◌<◌, ◌∙◌, ◌∷◌, ◌≡◌, ◌≤◌, get_or-append_seam, get_or_default, All-contains, Contains-get_or, IsNonDecreasingBy-push, IsPermutation-append_left, IsPermutation-middle, IsPermutation-push_more, IsPermutation-sym, IsNonDecreasingBy, IsPermutation, AreThose}
+use Rattle.roa_origin.proofs.Common.{All, List, [], ap, append_assoc, arith, get_or, inl, inr, length, refl, ℕ, ◌++◌, ◌+◌, ◌-◌, ◌<◌, ◌∷◌, ◌≡◌, ◌≤◌, get_or_default, get_or_push, length_push, All-contains, Contains-get_or, IsNonDecreasingBy-push, IsPermutation-append_left, IsPermutation-middle, IsPermutation-push_more, IsPermutation-sym, IsNonDecreasingBy, IsPermutation, AreThose}
 use Rattle.roa_origin.proofs.Members.{those_are}
 
 -- a list in order whose last element comes no later than what is left of two lists from places on
@@ -14,7 +14,7 @@ pub record IsMerged {X Y Z : Type 0} (f : X → ℕ) (g : Y → ℕ) (h : Z → 
 
 -- the last element of a list that one was put behind
 last_is : {X : Type 0} (list : List X) (x d : X) → get_or (list ++ x ∷ []) (length (list ++ x ∷ []) - 1) d ≡ x
-last_is list x d = ap (λ n. get_or (list ++ x ∷ []) n d) (let e : length (list ++ x ∷ []) - 1 ≡ length list = omega (arith, length-append list (x ∷ [])) in e) ∙ get_or-append_seam list x [] d
+last_is list x d = get_or_push list x d _ (omega (arith, length_push list x))
 
 module _ {X Y Z : Type 0} {f : X → ℕ} {g : Y → ℕ} {h : Z → ℕ} {xs : List X} {ys : List Y} {at come : ℕ} {list : List Z}
     (m : IsMerged f g h xs ys at come list) where
@@ -29,25 +29,21 @@ module _ {X Y Z : Type 0} {f : X → ℕ} {g : Y → ℕ} {h : Z → ℕ} {xs : 
   pub taken : (x : X) (z : Z) → f x ≡ h z → IsNonDecreasingBy f xs → IsNonDecreasingBy g ys → at < length xs
       → get_or xs at x ≡ x → ((e : Y) → come < length ys → h z ≤ g (get_or ys come e))
       → IsMerged f g h xs ys (at + 1) come (list ++ z ∷ [])
-  taken x z same up up' inside is le = record {
-    ordered = IsNonDecreasingBy-push h list z m.ordered (λ d some. grind (arith, is, same, m.ones at d x));
-    ones = λ k d e from small some. rw (last_is list z d) (grind (arith, get_or_default xs at e x inside, up at k e));
-    others = λ k d e from small some. rw (last_is list z d) (grind (arith, le e, up' come k e));
-  }
+  taken x z same up up' inside is le =
+      let ordered = IsNonDecreasingBy-push h list z m.ordered (λ d some. grind (arith, is, same, m.ones at d x)) in
+      grind (arith, get_or_default, last_is, up at, up' come)
 
 -- ---- what is kept of a list
 
 pub those_more : {X : Type 0} (P : X → Type 0) (xs ys : List X) (x : X) → P x → AreThose P xs ys
     → AreThose P (xs ++ x ∷ []) (ys ++ x ∷ [])
 those_more P [] ys x h e = inl (h, [], ap (λ zs. zs ++ x ∷ []) e, refl)
-those_more P (y ∷ xs) ys x h (inl w) = inl (w.0, w.1 ++ x ∷ [], ap (λ zs. zs ++ x ∷ []) w.2, those_more P xs w.1 x h w.3)
-those_more P (y ∷ xs) ys x h (inr w) = inr (w.0, those_more P xs ys x h w.1)
+those_more P (y ∷ xs) ys x h e = grind (arith, those_more P xs)
 
 pub those_without : {X : Type 0} (P : X → Type 0) (xs ys : List X) (x : X) → ¬ P x → AreThose P xs ys
     → AreThose P (xs ++ x ∷ []) ys
 those_without P [] ys x h e = inr (h, e)
-those_without P (y ∷ xs) ys x h (inl w) = inl (w.0, w.1, w.2, those_without P xs w.1 x h w.3)
-those_without P (y ∷ xs) ys x h (inr w) = inr (w.0, those_without P xs ys x h w.1)
+those_without P (y ∷ xs) ys x h e = grind (arith, those_without P xs)
 
 -- what all are, those are
 pub All-those : {X : Type 0} (P R : X → Type 0) (xs ys : List X) → AreThose P xs ys → All R xs → All R ys

@@ -6,10 +6,8 @@ use Rattle.roa_origin.proofs.Nested.{len_small, number_small, same_place, same_w
 -- what a prefix covers is no shorter
 pub covers_len : (p q : FamilyPrefix) → IsFamilyPrefix p → CoversPrefix p q → p.len ≤ q.len
 covers_len p q is c =
-    let r = round_covers p q c in
-    let same = same_width p.addr q.addr r.family in
     let less = pow_below (width p.addr - p.len) (width p.addr - q.len) in
-    grind (arith, is.short, less, pow_pos (width p.addr - p.len), r.from, r.upto, same)
+    grind (arith, is.short, less, pow_pos, round_covers, same_width)
 
 same_addr : (a b : IpAddr) → family_place a ≡ family_place b → address_number a ≡ address_number b → a ≡ b
 same_addr a b e f = grind (arith)

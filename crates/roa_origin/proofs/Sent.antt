@@ -10,12 +10,9 @@ sent_small p is = (let long = longest_small p is in omega (arith, long))
 first_same : (m n r s : ℕ) → r < 2 ^ 64 → s < 2 ^ 64 → m * 2 ^ 64 + r ≡ n * 2 ^ 64 + s → m ≡ n
 first_same m n r s small small' e = omega (arith, small, small', e)
 
-second_same : (m n r s : ℕ) → m ≡ n → m * 2 ^ 64 + r ≡ n * 2 ^ 64 + s → r ≡ s
-second_same m n r s same e = omega (arith, same, e)
-
 pub same_sent : (p q : Payload) → IsLawfulPayload p → IsLawfulPayload q → sent_place p ≡ sent_place q
     → as_sent p ≡ as_sent q
-same_sent p q is is' e = grind (arith, first_same, longest_small, same_prefix, second_same, sent_small)
+same_sent p q is is' e = grind (arith, first_same, longest_small, same_prefix, sent_small)
 
 pub sent_same : (p q : Payload) → as_sent p ≡ as_sent q → sent_place p ≡ sent_place q
 sent_same p q e = ap sent_place e

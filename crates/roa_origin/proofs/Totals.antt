@@ -1,6 +1,7 @@
 -- The order of payloads is total, and payloads tie in it exactly where they are the same.
-use Rattle.roa_origin.proofs.Common.{Bool, IsTrue, ap, subst, true, ℕ, ◌&&◌, ◌==◌, ◌↔◌, ◌≡◌, ◌≢◌, ◌⊎◌, eq-eqb, eqb-true, IsTotalOrder, ranks, nat_cmp, ordering_reverse, ordering_then, Ordering, Equal, Greater, Less, MaxLenValue, max_len_cmp, Payload, payload_cmp, arith}
-use Rattle.std.proofs.lemmas.Cmp.{by_ranked, nat_cmp_total, on_total, then_total, tied_itself}
+use Rattle.roa_origin.proofs.Common.{Bool, IsTrue, ap, subst, true, ◌&&◌, ◌==◌, ◌↔◌, ◌≡◌, ◌≢◌, ◌⊎◌, eq-eqb, eqb-true, IsTotalOrder, nat_cmp, ordering_reverse, Ordering, Equal, Greater, Less, MaxLenValue, max_len_cmp, Payload, payload_cmp, arith}
+use Rattle.std.proofs.lemmas.Cmp.{nat_cmp_total, on_total, then_total, tied_itself}
+use Rattle.std.proofs.lemmas.Map.Lookups.{exact_pairs, exact_unsigned}
 use Rattle.std.specs.Ordering.{is_eq, is_lt}
 
 pub total : IsTotalOrder max_len_cmp → IsTotalOrder payload_cmp
@@ -14,17 +15,10 @@ not_back is_total x y less back = let turned = ap ordering_reverse back in let i
 pub cases_ordering : (o : Ordering) → (o ≡ Less) ⊎ ((o ≡ Equal) ⊎ (o ≡ Greater))
 cases_ordering o = grind (arith)
 
--- two steps tie where both do
-both_equal : (o p : Ordering) → ordering_then o p ≡ Equal → (o ≡ Equal) × (p ≡ Equal)
-both_equal o p e = grind (arith)
-
-pub nat_ties : (m n : ℕ) → nat_cmp m n ≡ Equal → m ≡ n
-nat_ties m n e = by_ranked _ _ _ (nat_cmp m n) (ranks m n) (λ f _. cc) (λ _ same. same) (λ f _. cc)
-
 pub ties : ((m n : MaxLenValue) → (max_len_cmp m n ≡ Equal) ↔ (m ≡ n)) → IsTotalOrder payload_cmp → (p q : Payload)
     → (payload_cmp p q ≡ Equal) ↔ (p ≡ q)
 ties prefixes is_total p q = (
-  (λ e. let both = both_equal (max_len_cmp p.0 q.0) (nat_cmp p.1 q.1) e in λ i. ((prefixes p.0 q.0).0 both.0 i, nat_ties p.1 q.1 both.1 i)),
+  exact_pairs max_len_cmp nat_cmp (λ m n. (prefixes m n).0) exact_unsigned p q,
   λ e. subst (λ (r : Payload). payload_cmp p r ≡ Equal) e (tied_itself is_total p),
 )
 

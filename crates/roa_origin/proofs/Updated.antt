@@ -1,22 +1,39 @@
 -- One walk along a table and the changes of it, turn by turn.
-use Rattle.roa_origin.proofs.Common.{All, Any, List, [], ap, append_assoc, arith, drop, get_or, inl, inr, length, length-drop, map, refl, suc, sym, take, zero, ℕ, ◌++◌, ◌+◌, ◌-◌, ◌<◌, ◌∙◌, ◌∷◌, ◌≡◌, ◌≤◌, take-suc, append-nil, cases_lt, get_or-drop, get_or_default, map_more, take_more, All-append, All-head, All-map, All-tail, All-take, All-permutation, IsPermutation-append_right, IsPermutation-trans, slice_range, IsNonDecreasingBy, IsPermutation, AreThose, IsInOrder, IsLawfulPayload, Payload, sent_place, table_place, AreChangesOf, AreSorted, IsMergedOf, IsOf, IsSearched, IsSentIn, IsUpdated, sent_change, Change}
+use Rattle.roa_origin.proofs.Common.{All, Any, List, [], ap, append_assoc, arith, drop, get_or, inl, inr, length, length-drop, map, refl, suc, sym, take, zero, ℕ, ◌++◌, ◌+◌, ◌-◌, ◌<◌, ◌∙◌, ◌∷◌, ◌≡◌, ◌≤◌, take-suc, append-nil, map-append, cases_lt, get_or-drop, get_or_default, take_more, All-append, All-head, All-map, All-tail, All-take, All-permutation, IsPermutation-append_right, IsPermutation-trans, slice_range, IsNonDecreasingBy, AreThose, IsInOrder, IsLawfulPayload, Payload, sent_place, table_place, AreChangesOf, AreSorted, IsMergedOf, IsOf, IsSearched, IsSentIn, IsUpdated, sent_change, Change}
 use Rattle.roa_origin.proofs.Listed.{by_payload, change_of, sent_in}
 use Rattle.roa_origin.proofs.Merges.{All-those, IsMerged, moved_last, moved_middle, skipped, taken, those_more, those_without, turned}
 use Rattle.roa_origin.proofs.Places.{by_places}
 use Rattle.roa_origin.proofs.Sent.{as_told, by_sent}
 use Rattle.roa_origin.proofs.Walks.{nowhere}
 
-abbrev pub entry_of : Change → Payload
-entry_of c = c.entry
-
 abbrev pub come_place : Change → ℕ
 come_place c = table_place c.entry
 
--- no change is of a payload
-abbrev pub Stays : List Change → Payload → Type 0
-Stays changes p = ¬ Any (IsOf p) changes
+-- ---- what is kept, and what is announced: of one payload more
 
--- the walk stands at places of the table, of the withdrawn and of the announced; the list has what is kept of the
+module _ {xs : List Payload} {ds cs : List Change} {list : List Payload} (m : IsMergedOf xs ds cs list) where
+  announced_more : (c : Change) → IsMergedOf xs ds (cs ++ c ∷ []) (list ++ c.entry ∷ [])
+  announced_more c = record {
+    kept = m.kept;
+    stays = m.stays;
+    has = rw map-append (moved_last m.kept _ list c.entry m.has);
+  }
+
+  kept_more : (p : Payload) → ¬ Any (IsOf p) ds → IsMergedOf (xs ++ p ∷ []) ds cs (list ++ p ∷ [])
+  kept_more p stays = record {
+    kept = m.kept ++ p ∷ [];
+    stays = those_more _ xs m.kept p stays m.stays;
+    has = moved_middle m.kept _ list p m.has;
+  }
+
+  gone_more : (p : Payload) → Any (IsOf p) ds → IsMergedOf (xs ++ p ∷ []) ds cs list
+  gone_more p gone = record {
+    kept = m.kept;
+    stays = those_without _ xs m.kept p (λ none. none gone) m.stays;
+    has = m.has;
+  }
+
+-- the walk stands at places of the table, of the withdrawn and of the announced: the list has what is kept of the
 -- table's payloads before, and what is announced before
 pub record IsSoFar (table : List Payload) (withdrawn announced : List Change) (at gone come : ℕ) (list : List Payload) : Type 0 where
   pub at_within : at ≤ length table
@@ -24,9 +41,7 @@ pub record IsSoFar (table : List Payload) (withdrawn announced : List Change) (a
   pub come_within : come ≤ length announced
   pub passed : (k i : ℕ) (d : Change) (e : Payload) → k < gone → at ≤ i → i < length table
       → sent_place (get_or withdrawn k d).entry < sent_place (get_or table i e)
-  pub kept : List Payload
-  pub stays : AreThose (Stays withdrawn) (take at table) kept
-  pub has : IsPermutation (kept ++ map entry_of (take come announced)) list
+  pub listed : IsMergedOf (take at table) withdrawn (take come announced) list
   pub merged : IsMerged table_place come_place table_place table announced at come list
 
 module _ {table : List Payload} {withdrawn announced : List Change} (order : IsInOrder table)
@@ -46,16 +61,10 @@ module _ {table : List Payload} {withdrawn announced : List Change} (order : IsI
     comes d inside le =
         let c : Change = get_or announced come d in
         let is = get_or_default announced come c d inside in
-        record {
-          at_within = so_far.at_within;
-          gone_within = so_far.gone_within;
-          come_within = omega (arith, inside);
-          passed = so_far.passed;
-          kept = so_far.kept;
-          stays = so_far.stays;
-          has = rw (map_more entry_of announced come d inside) (moved_last so_far.kept _ list c.entry so_far.has);
-          merged = turned (taken (turned so_far.merged) c c.entry refl up order.ranked inside is le);
-        }
+        let listed : IsMergedOf (take at table) withdrawn (take (come + 1) announced) (list ++ c.entry ∷ []) =
+        rw (take_more announced come d inside) (announced_more so_far.listed c) in
+        let merged = turned (taken (turned so_far.merged) c c.entry refl up order.ranked inside is le) in
+        grind (arith, so_far.passed)
 
     -- the next one is of the table
     module _ (p : Payload) (small : at < length table) (is : p ≡ get_or table at p) where
@@ -68,73 +77,43 @@ module _ {table : List Payload} {withdrawn announced : List Change} (order : IsI
       -- the walk along the withdrawn gets there
       pub advanced : (place : ℕ) → place ≤ length withdrawn → IsSearched sent_change withdrawn (sent_place p) place
           → IsSoFar table withdrawn announced at place come list
-      advanced place within searched = record {
-        at_within = so_far.at_within;
-        gone_within = within;
-        come_within = so_far.come_within;
-        passed = λ k i d e low from there.
-            let before = searched.before k d in grind (arith, by_sent table order.ranked at i e, here e);
-        kept = so_far.kept;
-        stays = so_far.stays;
-        has = so_far.has;
-        merged = so_far.merged;
-      }
+      advanced place within searched = grind (arith, by_sent table order.ranked at, here, searched.before)
 
       -- and is withdrawn
       pub goes : (gone < length withdrawn) × ((d : Change) → IsOf p (get_or withdrawn gone d))
           → IsSoFar table withdrawn announced (at + 1) gone come list
-      goes there = record {
-        at_within = omega (arith, small);
-        gone_within = so_far.gone_within;
-        come_within = so_far.come_within;
-        passed = λ k i d e low from. so_far.passed k i d e low (omega (arith, from));
-        kept = so_far.kept;
-        stays = rw next (those_without (Stays withdrawn) (take at table) so_far.kept p (λ none. none some) so_far.stays);
-        has = so_far.has;
-        merged = skipped so_far.merged;
-      }
-        where
-          c : Change
-          c = get_or withdrawn gone (record { entry = p; place = 0 })
-
-          some : Any (IsOf p) withdrawn
-          some = (gone, c, there.0, get_or_default withdrawn gone c _ there.0, there.1 _)
+      goes (within, of) =
+          let c : Change = get_or withdrawn gone (record { entry = p; place = 0 }) in
+          let listed : IsMergedOf (take (at + 1) table) withdrawn (take come announced) list =
+          rw next (gone_more so_far.listed p (gone, c, within, get_or_default withdrawn gone c _ within, of _)) in
+          let merged = skipped so_far.merged in
+          grind (arith, so_far.passed)
 
       -- or stays
-      pub remains : Stays withdrawn p
+      pub remains : ¬ Any (IsOf p) withdrawn
           → ((c : Change) → come < length announced → table_place p ≤ come_place (get_or announced come c))
           → IsSoFar table withdrawn announced (at + 1) gone come (list ++ p ∷ [])
-      remains stays le = record {
-        at_within = omega (arith, small);
-        gone_within = so_far.gone_within;
-        come_within = so_far.come_within;
-        passed = λ k i d e low from. so_far.passed k i d e low (omega (arith, from));
-        kept = so_far.kept ++ p ∷ [];
-        stays = rw next (those_more (Stays withdrawn) (take at table) so_far.kept p stays so_far.stays);
-        has = moved_middle so_far.kept (map entry_of (take come announced)) list p so_far.has;
-        merged = taken so_far.merged p p refl order.ranked up small (sym is) le;
-      }
+      remains stays le =
+          let listed : IsMergedOf (take (at + 1) table) withdrawn (take come announced) (list ++ p ∷ []) =
+          rw next (kept_more so_far.listed p stays) in
+          let merged = taken so_far.merged p p refl order.ranked up small (sym is) le in
+          grind (arith, so_far.passed)
 
   -- a run of the table's payloads comes before the next that is withdrawn, and no later than the next announced
   module _ {at gone come end : ℕ} {list : List Payload} (so_far : IsSoFar table withdrawn announced at gone come list)
       (end_within : end ≤ length table)
       (before : (k : ℕ) (d : Payload) (e : Change) → k < end → gone < length withdrawn → sent_place (get_or table k d) < sent_change (get_or withdrawn gone e))
       (up_to : (k : ℕ) (d : Payload) (e : Change) → k < end → come < length announced → table_place (get_or table k d) ≤ table_place (get_or announced come e).entry) where
-    module _ {k : ℕ} {ps : List Payload} (far : IsSoFar table withdrawn announced k gone come ps) (low : k < end) where
-      abbrev p : Payload
-      p = get_or table k nowhere
-
-      is : p ≡ get_or table k p
-      is = get_or_default table k nowhere p (omega arith)
-
-      -- what is passed of the withdrawn comes before it, and what is left behind it
-      stays : Stays withdrawn p
-      stays some =
-          let up = by_payload withdrawn gone_order gone some.0 some.1 in
-          grind (arith, is, cases_lt some.0 gone, far.passed some.0 k some.1 p, before k p some.1 low)
-
-      next_of_run : IsSoFar table withdrawn announced (k + 1) gone come (ps ++ p ∷ [])
-      next_of_run = remains far p (omega arith) is stays (λ c there. rw is (up_to k p c low there))
+    next_of_run : {k : ℕ} {ps : List Payload} → IsSoFar table withdrawn announced k gone come ps → k < end
+        → IsSoFar table withdrawn announced (k + 1) gone come (ps ++ get_or table k nowhere ∷ [])
+    next_of_run {k} far low =
+        let p : Payload = get_or table k nowhere in
+        let is = get_or_default table k nowhere p (omega arith) in
+        -- what is passed of the withdrawn comes before it, and what is left behind it
+        let stays : ¬ Any (IsOf p) withdrawn = λ some.
+        let up = by_payload withdrawn gone_order gone some.0 some.1 in
+        grind (arith, is, cases_lt some.0 gone, far.passed some.0 k some.1 p, before k p some.1 low) in
+        remains far p (omega arith) is stays (λ c there. rw is (up_to k p c low there))
 
     run_of : (n k : ℕ) → k ≡ at + n → k ≤ end
         → IsSoFar table withdrawn announced k gone come (list ++ take n (drop at table))
@@ -154,28 +133,32 @@ module _ {table : List Payload} {withdrawn announced : List Change} (order : IsI
       → IsInOrder list
   in_order {at} {gone} {come} {list} so_far =
       let Is = IsLawfulPayload in
-      let old = All-those (Stays withdrawn) Is (take at table) so_far.kept so_far.stays
-      (All-take Is at table order.payloads) in
+      let l = so_far.listed in
+      let old = All-those _ Is (take at table) l.kept l.stays (All-take Is at table order.payloads) in
       let each = λ (k : ℕ) (c : Change) (inside : k < length announced). (come_order.lawful k c inside).payload in
-      let new = All-map Is entry_of (take come announced) (All-take (λ c. Is c.entry) come announced each) in
-      let payloads = All-permutation Is _ list so_far.has (All-append Is so_far.kept _ old new) in
+      let new = All-map Is (λ c. c.entry) (take come announced) (All-take (λ c. Is c.entry) come announced each) in
+      let payloads = All-permutation Is _ list l.has (All-append Is l.kept _ old new) in
       let ranked = so_far.merged.ordered in
       record { payloads = payloads; ordered = by_places list payloads ranked; ranked = ranked }
 
 -- ---- the lists that the changes came in
 
+those_of : {xs : List Payload} {ds : List Change} → AreChangesOf xs ds → (ps kept : List Payload)
+    → All IsLawfulPayload ps → AreThose (λ p. ¬ Any (IsOf p) ds) ps kept → AreThose (λ p. ¬ IsSentIn xs p) ps kept
+those_of gone [] kept all e = e
+those_of {xs} {ds} gone (p ∷ ps) kept all (inl (stays, rest, is, those)) =
+    let lawful = All-head IsLawfulPayload p ps all in
+    let more = those_of gone ps rest (All-tail IsLawfulPayload p ps all) those in
+    inl ((λ has. stays (change_of xs ds gone p lawful has)), rest, is, more)
+those_of {xs} {ds} gone (p ∷ ps) kept all (inr (goes, those)) =
+    let lawful = All-head IsLawfulPayload p ps all in
+    let more = those_of gone ps kept (All-tail IsLawfulPayload p ps all) those in
+    inr ((λ none. goes (λ some. none (sent_in xs ds gone p lawful some))), more)
+
 pub updated_by : {table xs ys next : List Payload} {ds cs : List Change} → IsMergedOf table ds cs next
     → All IsLawfulPayload table → AreChangesOf xs ds → AreChangesOf ys cs → IsUpdated table ys xs next
 updated_by {table} {xs} {ys} {next} {ds} {cs} m lawful gone come = record {
   kept = m.kept;
-  stays = those_of table m.kept lawful m.stays;
-  has = IsPermutation-trans _ _ next (IsPermutation-append_right m.kept _ (map entry_of cs) come.entries) m.has;
+  stays = those_of gone table m.kept lawful m.stays;
+  has = IsPermutation-trans _ _ next (IsPermutation-append_right m.kept _ (map (λ c. c.entry) cs) come.entries) m.has;
 }
-  where
-    those_of : (ps kept : List Payload) → All IsLawfulPayload ps → AreThose (Stays ds) ps kept
-        → AreThose (λ p. ¬ IsSentIn xs p) ps kept
-    those_of [] kept all e = e
-    those_of (p ∷ ps) kept all (inl w) =
-        inl ((λ has. w.0 (change_of xs ds gone p (All-head IsLawfulPayload p ps all) has)), w.1, w.2, those_of ps w.1 (All-tail IsLawfulPayload p ps all) w.3)
-    those_of (p ∷ ps) kept all (inr w) =
-        inr ((λ none. w.0 (λ some. none (sent_in xs ds gone p (All-head IsLawfulPayload p ps all) some))), those_of ps kept (All-tail IsLawfulPayload p ps all) w.1)

@@ -93,6 +93,7 @@ fn not_less(payloads: &[(MaxLenPrefix, Asn)], from: usize, payload: &(MaxLenPref
 }
 
 /// Whether the payload stands at a place of a list.
+#[tactic(auto, using(crate::proofs::Totals::equal_of, crate::proofs::Totals::ties, crate::proofs::Totals::total))]
 fn stands_at(payloads: &[(MaxLenPrefix, Asn)], at: usize, payload: &(MaxLenPrefix, Asn)) -> bool
     ensures { IsTrue result ↔ ((at < length payloads.now)
         × (slice_index_or payloads.now at payload.now ≡ payload.now)) }

@@ -57,6 +57,7 @@ impl Iterator for Covering<'_> {
 
     ghost remaining = { item_count (λ payloads. payloads) };
 
+    #[tactic(auto, using(crate::proofs::Covered::nothing_left))]
     fn next(&mut self) -> Option<(MaxLenPrefix, Asn)> {
         let at = nearest(self.payloads, self.links, self.at, &self.route);
         if at == 0 {

@@ -232,6 +232,7 @@ impl Entry {
     }
 
     /// The number that the first bits of the prefix's address write, those of IPv6 after those of IPv4.
+    #[tactic(auto, using(crate::proofs::Firsts::few_numbers, crate::proofs::Firsts::first_part))]
     pub(crate) fn first_bits(&self, count: u8) -> usize
         requires some { 1 ≤ count }
         requires few { count ≤ 20 }

@@ -62,6 +62,7 @@ impl<A: Allocator> PayloadTable<A> {
 }
 
 /// The payloads as they are sent. `AllocError` where there is no memory for them.
+#[tactic(auto, using(std::proofs::lemmas::Grind::common_steps))]
 fn sent<A: Allocator>(
     alloc: A,
     payloads: &[(MaxLenPrefix, Asn)],

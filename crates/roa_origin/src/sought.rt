@@ -42,6 +42,7 @@ impl<'a> Model for Sought<'a> {
 
 impl<'a> Sought<'a> {
     /// The first step: the starts tell between which places the route is sought.
+    #[tactic(auto, using(crate::proofs::Firsts::between_starts))]
     pub(crate) fn of(
         payloads: &'a [Entry],
         links: &'a [Link],

@@ -69,6 +69,7 @@ fn cmp_numbers(one: usize, other: usize) -> Ordering
 }
 
 /// The changes of a list of payloads, in its order.
+#[tactic(auto, using(crate::proofs::Listed::one_listed))]
 fn listed_changes<A: Allocator>(
     alloc: A,
     payloads: &[(MaxLenPrefix, Asn)],
@@ -130,6 +131,7 @@ fn place_of(changes: &[Change], payload: &Entry) -> usize
 }
 
 /// The least place at which a list has a payload, by its changes.
+#[tactic(auto, using(crate::proofs::Listed::first_of, crate::proofs::Listed::none_of))]
 fn first_place(changes: &[Change], payload: &Entry) -> Option<usize>
     requires { AreSorted changes.now }
     ensures { MatchOption result (All (λ change. ¬ IsOf payload.now change) changes.now)

@@ -1,7 +1,7 @@
 -- Each step passes a prefix of whose payloads none has the AS.
 use Rattle.roa_origin.proofs.Common.{arith, cases_lt}
-use Rattle.roa_origin.proofs.Steps.{fewer_left, first_within, group_at, passed_group}
-use Rattle.roa_origin.proofs.Walks.{later_covers_none, nowhere}
+use Rattle.roa_origin.proofs.Steps.{fewer_left, first_within, left_group, passed_group}
+use Rattle.roa_origin.proofs.Walks.{later_covers_none}
 use Rattle.roa_origin.proofs.table.is_held_in.Goals as goal
 
 pub loop-at-init : goal.loop-at-init
@@ -24,9 +24,7 @@ pub between-requires-clause-from : goal.between-requires-clause-from
 between-requires-clause-from c = first_within c.loop-at.invariant.walk c.loop-at-test.true
 
 pub has_holder-requires : goal.has_holder-requires
-has_holder-requires c =
-    let left = c.loop-at.invariant in
-    rw c.between.ensures (group_at left.walk c.loop-at-test.true (left.last nowhere c.loop-at-test.true))
+has_holder-requires c = rw c.between.ensures (left_group c.loop-at.invariant c.loop-at-test.true)
 
 pub loop-at-smaller : goal.loop-at-smaller
 loop-at-smaller c = fewer_left c.loop-at.invariant.walk c.loop-at-test.true

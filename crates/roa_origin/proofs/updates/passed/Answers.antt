@@ -8,9 +8,6 @@ returns-else-is_sent_before-clause-searched c =
     let xs = c.args.changes.now in
     let at = c.loop-at.at in
     let x = c.index-changes-at.result in
-    let not_less = ltb-false (sent_change (get_or xs at x)) (sent_place c.args.payload.now) (cc) in record {
-      before = λ k d low inside. c.loop-at.invariant.1 k d low;
-      from = λ k d from inside.
-          let up = by_payload xs c.requires.in_order at k d from inside in
-          grind (arith, not_less, get_or_default xs at x d c.loop-at-test.true, up);
-    }
+    let not_less = ltb-false (sent_change (get_or xs at x)) (sent_place c.args.payload.now) (cc) in
+    let there = c.loop-at-test.true in
+    grind (arith, by_payload xs c.requires.in_order at, c.loop-at.invariant, get_or_default xs at x)

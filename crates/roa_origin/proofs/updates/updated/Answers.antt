@@ -37,8 +37,6 @@ returns-clause-in_order g c = in_order c.requires.table c.requires.withdrawn c.r
 
 pub returns-clause-updated : goal.returns-clause-updated
 returns-clause-updated g c =
-    let far = c.loop-at.invariant in record {
-      kept = far.kept;
-      stays = rw (take_all c.loop-at.at c.args.table.now c.if-at-table.false) at far.stays;
-      has = rw (take_all c.loop-at.come c.args.announced.now c.if-come-announced.false) at far.has;
-    }
+    let table = take_all c.loop-at.at c.args.table.now c.if-at-table.false in
+    let announced = take_all c.loop-at.come c.args.announced.now c.if-come-announced.false in
+    rw (table, announced) at c.loop-at.invariant.listed

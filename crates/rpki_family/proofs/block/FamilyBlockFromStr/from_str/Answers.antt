@@ -1,5 +1,6 @@
-use Rattle.rpki_family.proofs.FamilyLemmas.{text_in}
+use Rattle.rpki_family.proofs.Common.{arith}
+use Rattle.rpki_ip_block.proofs.WholeReadings.{whole_text}
 use Rattle.rpki_family.proofs.block.FamilyBlockFromStr.from_str.Goals as goal
 
 pub of-requires : goal.of-requires
-of-requires g c = text_in g.F.Family.FAMILY c.args.text.now c.in-Ok.block (rw c.FAMILY.ensures at c.in-Ok.ensures.exact.found)
+of-requires g c = grind (arith, whole_text c.args.text.now c.in-Ok.block)

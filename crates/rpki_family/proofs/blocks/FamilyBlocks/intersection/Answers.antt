@@ -1,5 +1,6 @@
-use Rattle.rpki_family.proofs.FamilyLemmas.{intersection_in}
+use Rattle.rpki_family.proofs.Common.{arith}
+use Rattle.rpki_ipres.proofs.WholeSets.{whole_intersection}
 use Rattle.rpki_family.proofs.blocks.FamilyBlocks.intersection.Goals as goal
 
 pub of-requires : goal.of-requires
-of-requires g c = intersection_in g.F.Family.FAMILY _ _ _ c.self.invariant c.other.invariant c.in_ok-blocks.ensures
+of-requires g c = grind (arith, whole_intersection c.self.inside.blocks c.other.inside.blocks c.in_ok-blocks.blocks)

@@ -1,10 +1,10 @@
 use Rattle.rpki_family.proofs.Common.{refl, subst, sym, ◌∙◌, ◌≡◌, IsWithin, IsShortestCover, range_bounds, ip_bounds, blocks_cover}
-use Rattle.rpki_family.proofs.CoverLemmas.{set_step, block_below, same_bounds, makes_progress}
+use Rattle.rpki_family.proofs.CoverLemmas.{set_step, block_below, makes_progress}
 use Rattle.rpki_family.proofs.prefixes.SetPrefixesIterator.next.Given as given
 use Rattle.rpki_family.proofs.prefixes.SetPrefixesIterator.next.Goals as goal
 
 same : (g : given.Over) (c : goal.After-next-3 g) → range_bounds c.new.result ≡ ip_bounds c.in-Some-next.block.now
-same g c = same_bounds _ c.new.result c.min.result c.max.result c.new.ensures c.min.ensures.value c.max.ensures.value
+same g c = rw (c.new.ensures, c.min.ensures.value, c.max.ensures.value) refl
 
 covered : (g : given.Over) (c : goal.After-next-3 g)
     → IsShortestCover 128 (IsWithin (ip_bounds c.in-Some-next.block.now)) c.to_v6_prefixes-self-inside.result

@@ -1,24 +1,16 @@
 -- What claims list.
-use Rattle.rpki_resources.proofs.Common.{Err, Ok, Result, [], ap, false, subst, sym, true, ◌∙◌, ◌≡◌, MatchResult, Holds, Runs, Covers-nil, IsMemory, OrMemory, ListsRuns}
+use Rattle.rpki_resources.proofs.Common.{Ok, Result, [], arith, false, subst, sym, true, ◌≡◌, MatchResult, Holds, Runs, Covers-nil, IsMemory, OrMemory, ListsRuns}
 use Rattle.rpki_chain.specs.Choices.{IsRefused, MatchChoice}
 use Rattle.rpki_chain.specs.Claims.{Claim}
 use Rattle.rpki_chain.specs.declared.choice.ResourcesChoice.TheVariants.{Missing, Inherit, Blocks}
 use Rattle.rpki_ip.specs.Whole.{IsWhole}
 use Rattle.rpki_ipres.specs.Resources.{IsWholeClaim}
 
--- the set of an answer, if there is one
-abbrev set_in : {E : Type 0} → Result Runs E → Runs
-set_in (Ok set) = set
-set_in (Err e) = []
-
 -- what a claim gives as a set is what it lists; q is the answer that hands it on
 pub lists : {D E : Type 0} (claim : Claim) (r : Result Runs (OrMemory E)) (set : Runs) (q : Result Runs D)
     → MatchChoice claim (r ≡ Ok []) (IsRefused r) (λ listed. MatchResult r (λ (s : Runs). s ≡ listed) IsMemory)
     → q ≡ Ok set → MatchResult r (λ (s : Runs). q ≡ Ok s) (λ _. false ≡ true) → ListsRuns claim set
-lists Missing (Ok s) set q h is same = ap set_in (sym is ∙ same) ∙ ap set_in h
-lists Inherit (Ok s) set q h is same = absurd h
-lists (Blocks listed) (Ok s) set q h is same = ap set_in (sym is ∙ same) ∙ h
-lists claim (Err e) set q h is same = absurd (let t : false ≡ true = same in cc)
+lists claim r set q h is same = grind (arith)
 
 -- a set that a claim of whole addresses lists consists of whole ones
 pub lists_whole : (claim : Claim) (set : Runs) → ListsRuns claim set → IsWholeClaim claim → IsWhole (Holds set)

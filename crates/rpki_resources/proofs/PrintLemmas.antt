@@ -1,12 +1,9 @@
 -- What is printed of a kind, by whether its list is empty.
-use Rattle.rpki_resources.proofs.Common.{Bool, IsTrue, List, [], false, refl, true, ℕ, ◌++◌, ◌↔◌, ◌∷◌, ◌≡◌, if◌then◌else◌, Runs, kind_text, is_none}
+use Rattle.rpki_resources.proofs.Common.{Bool, IsTrue, List, [], arith, refl, ℕ, ◌++◌, ◌↔◌, ◌≡◌, if◌then◌else◌, Runs, kind_text, is_none}
 
 -- whether a set is empty is what its list tells
 none_is : (b : Bool) (set : Runs) → IsTrue b ↔ (set ≡ []) → b ≡ is_none set
-none_is true [] h = refl
-none_is false [] h = h.1 refl
-none_is true (run ∷ runs) h = absurd (let e : run ∷ runs ≡ [] = h.0 refl in cc)
-none_is false (run ∷ runs) h = refl
+none_is b set h = grind (arith)
 
 pub kind_is : (kind : List ℕ) (text : Runs → List ℕ) (b : Bool) (x y set : Runs) → IsTrue b ↔ (x ≡ []) → x ≡ set
     → y ≡ set → (if b then [] else kind ++ text y) ≡ kind_text kind text set

@@ -1,5 +1,5 @@
 -- Three lists that are read one after another.
-use Rattle.rpki_resources.proofs.Common.{Err, List, Ok, Result, ap, ℕ, ◌≡◌, HasAsListFault, IsAsListText, Runs, IsMemory, OrMemory, HasIpv4ListFault, HasIpv6ListFault, IsIpv4ListText, IsIpv6ListText, IsTripleText, Triple, Asn, Ipv4, Ipv6}
+use Rattle.rpki_resources.proofs.Common.{Err, List, Ok, Result, ap, arith, ℕ, ◌≡◌, HasAsListFault, IsAsListText, Runs, IsMemory, OrMemory, HasIpv4ListFault, HasIpv6ListFault, IsIpv4ListText, IsIpv6ListText, IsTripleText, Triple, Asn, Ipv4, Ipv6}
 use Rattle.std.specs.declared.alloc.AllocError.{AllocError}
 use Rattle.rpki_text.specs.Reading.{AnswersOrMemory}
 use Rattle.rpki_text.specs.declared.memory.OrMemory.TheVariants.{Refused, Memory}
@@ -23,8 +23,7 @@ OfAll a b c = AnswersOrMemory (λ (set : Triple). set) (IsTripleText a b c) (Has
 
 -- the refusal of a list for want of memory is one of all three
 pub wants_memory : {E : Type 0} (kind : E → FromStrError) (d : OrMemory E) → IsMemory d → IsMemory (refusal_of kind d)
-wants_memory kind (Refused fault) h = h
-wants_memory kind (Memory error) h = tt
+wants_memory kind d h = grind (arith)
 
 module _ (a b c : List ℕ) where
   -- where memory is wanting nothing is said of the lists

@@ -1,5 +1,5 @@
 -- The octets that a text of digits writes, and the text that writes octets.
-use Rattle.respath_lines.proofs.Common.{List, [], ap, arith, drop, get_or, length, refl, slice_set, suc, sym, take, zero, ℕ, ◌%◌, ◌*◌, ◌+◌, ◌-◌, ◌/◌, ◌<◌, ◌∙◌, ◌∷◌, ◌≡◌, ◌≤◌, ◌⊎◌, common_steps, IsBytes, hex_value, IsHexadecimal, IsPairOf, lower_hexadecimal}
+use Rattle.respath_lines.proofs.Common.{List, [], arith, drop, get_or, length, refl, rules, slice_set, suc, take, zero, ℕ, ◌%◌, ◌*◌, ◌+◌, ◌-◌, ◌/◌, ◌<◌, ◌∙◌, ◌∷◌, ◌≡◌, ◌≤◌, ◌⊎◌, common_steps, IsBytes, hex_value, IsHexadecimal, IsPairOf, lower_hexadecimal}
 use Rattle.std.proofs.lemmas.Bool.Decides.{nat_tests}
 use Rattle.std.proofs.lemmas.List.{drop-set, drop_all, drop_more, get_or-take, length-set, length-take-le, take-set-le, take-take, take_all}
 use Rattle.std.proofs.lemmas.Str.{digit_value-digit_char}
@@ -17,22 +17,17 @@ pub pairs_write : (text octets : List ℕ) → length text ≡ 2 * length octets
     → IsPairOf (get_or text i 0) (get_or text j 0) (get_or octets k 0)) → IsHexadecimal text octets
 unfolding IsHexadecimal
 pairs_write [] [] twice pairs = tt
-pairs_write [] (octet ∷ octets) twice pairs = absurd (omega (arith, twice))
-pairs_write (high ∷ []) octets twice pairs = absurd (omega (arith, twice))
-pairs_write (high ∷ low ∷ text) [] twice pairs = absurd (omega (arith, twice))
 pairs_write (high ∷ low ∷ text) (octet ∷ octets) twice pairs = (
   pairs 0 0 1 refl refl (omega arith),
   pairs_write text octets (omega (arith, twice)) (λ k i j even odd small.
       pairs (suc k) (suc (suc i)) (suc (suc j)) (omega arith) (omega arith) (omega arith)),
 )
+pairs_write text octets twice pairs = absurd (omega (arith, twice))
 
 -- and where it writes octets, each two digits do
 pub pair_at : (text octets : List ℕ) (k i j : ℕ) → IsHexadecimal text octets → i ≡ 2 * k → j ≡ 2 * k + 1
     → j < length text → IsPairOf (get_or text i 0) (get_or text j 0) (get_or octets k 0)
 unfolding IsHexadecimal
-pair_at [] octets k i j writes even odd less = absurd (omega (arith, less))
-pair_at (high ∷ []) octets k i j writes even odd less = absurd writes
-pair_at (high ∷ low ∷ text) [] k i j writes even odd less = absurd writes
 pair_at (high ∷ low ∷ text) (octet ∷ octets) zero i j writes even odd less =
     let first : i ≡ 0 = omega arith in
     let second : j ≡ 1 = omega arith in
@@ -42,6 +37,7 @@ pair_at (high ∷ low ∷ text) (octet ∷ octets) (suc k) i j writes even odd l
     let second : j ≡ suc (suc (j - 2)) = omega arith in
     let rest = pair_at text octets k (i - 2) (j - 2) writes.1 (omega arith) (omega arith) (omega (arith, less)) in
     rw (first, second) rest
+pair_at text octets k i j writes even odd less = absurd (search (rules, arith))
 
 -- one octet more is put at its place, of whatever holds of each two digits and their octet
 pub pairs_more : (P : ℕ → ℕ → ℕ → Type 0) (text octets : List ℕ) (at octet k i j : ℕ) → at < length octets
@@ -55,23 +51,16 @@ pairs_more P text octets at octet k i j inside pair before even odd small = grin
 pub one_octets : (text a b : List ℕ) → IsHexadecimal text a → IsHexadecimal text b → a ≡ b
 unfolding IsHexadecimal
 one_octets [] [] [] writes also = refl
-one_octets [] [] (octet ∷ b) writes also = absurd also
-one_octets [] (octet ∷ a) b writes also = absurd writes
-one_octets (high ∷ []) a b writes also = absurd writes
-one_octets (high ∷ low ∷ text) [] b writes also = absurd writes
-one_octets (high ∷ low ∷ text) (octet ∷ a) [] writes also = absurd also
 one_octets (high ∷ low ∷ text) (octet ∷ a) (other ∷ b) writes also =
     rw (writes.0.value, also.0.value, one_octets text a b writes.1 also.1) refl
+one_octets text a b writes also = absurd (search rules)
 
 -- a text of digits has an even number of them
 pub even_text : (text octets : List ℕ) → IsHexadecimal text octets → length text % 2 ≡ 0
 unfolding IsHexadecimal
 even_text [] octets writes = refl
-even_text (high ∷ []) octets writes = absurd writes
-even_text (high ∷ low ∷ text) [] writes = absurd writes
-even_text (high ∷ low ∷ text) (octet ∷ octets) writes =
-    let rest = even_text text octets writes.1 in
-    omega (arith, rest)
+even_text (high ∷ low ∷ text) (octet ∷ octets) writes = omega (arith, even_text text octets writes.1)
+even_text text octets writes = absurd writes
 
 -- what octets are written as writes them
 pub lower_writes : (octets : List ℕ) → IsBytes octets → IsHexadecimal (lower_hexadecimal octets) octets
@@ -98,9 +87,8 @@ spread_none bytes count twice = grind (arith, drop_all, take_all, length-take-le
 less_left : (bytes octets : List ℕ) (i : ℕ) → take (i + 1) bytes ≡ take (i + 1) octets
     → (take i bytes ≡ take i octets) × (get_or bytes i 0 ≡ get_or octets i 0)
 less_left bytes octets i same = (
-  sym (take-take i (i + 1) bytes (omega arith)) ∙ ap (take i) same ∙ take-take i (i + 1) octets (omega arith),
-  sym (get_or-take (i + 1) bytes i 0 (omega arith)) ∙ ap (λ (xs : List ℕ). get_or xs i 0) same
-      ∙ get_or-take (i + 1) octets i 0 (omega arith),
+  cc (take-take i (i + 1) bytes (omega arith), take-take i (i + 1) octets (omega arith)),
+  cc (get_or-take (i + 1) bytes i 0 (omega arith), get_or-take (i + 1) octets i 0 (omega arith)),
 )
 
 -- the digits of one octet more are put behind the octets that are left

@@ -1,9 +1,9 @@
 -- The parts of a path, and what is read of them.
-use Rattle.respath_lines.proofs.Common.{Err, List, Ok, Result, [], ap, arith, drop, eqb, get_or, inl, inr, length, subst, sym, take, ℕ, ◌++◌, ◌+◌, ◌<◌, ◌∙◌, ◌∷◌, ◌≡◌, All, after_first, before_first, position_or_len, AddressFamily, Claim, claim_of, Holds, Runs, HasBlocks, IsSetOf, HasFirstFault, HaveValues, IfRefused, AnswersOrMemory, OrMemory, Memory, Refused, ArePath, HasRootFault, HasStepFault, HavePathFault, IsStepText, ShowsLeft, ShowsPath, list_of, parts_of}
+use Rattle.respath_lines.proofs.Common.{List, Result, [], ap, arith, drop, eqb, get_or, inl, inr, length, subst, sym, take, ℕ, ◌++◌, ◌+◌, ◌<◌, ◌∙◌, ◌∷◌, ◌≡◌, All, after_first, before_first, position_or_len, AddressFamily, Claim, claim_of, Holds, Runs, HasBlocks, IsSetOf, HasFirstFault, HaveValues, IfRefused, AnswersOrMemory, OrMemory, Memory, Refused, ArePath, HasRootFault, HasStepFault, HavePathFault, IsStepText, ShowsLeft, ShowsPath, list_of, parts_of}
 use Rattle.std.proofs.lemmas.List.Elements.{All-nil, All-cons}
 use Rattle.std.proofs.lemmas.List.Splits.{slice_split_none, slice_split_first}
 use Rattle.std.proofs.lemmas.List.Sums.{fails_before_first}
-use Rattle.rpki_text.proofs.ListLemmas.{HaveValues-append, parts_at}
+use Rattle.rpki_text.proofs.ListLemmas.{parts_at}
 use Rattle.rpki_chain.specs.Paths.{IsPathResult, IsFirstRefusal}
 use Rattle.rpki_chain.specs.declared.path.PathRefusal.{PathRefusal}
 use Rattle.rpki_chain.specs.declared.path.Step.{Step}
@@ -27,11 +27,6 @@ pub first_part : (text list rest : List ℕ)
 first_part text list rest (front, back, some) = slice_split_first (λ b. eqb b 124) text 0 some ∙ (λ i. sym front i ∷ parts_of (sym back i))
 
 module _ {A : Type 0} (Has : List ℕ → A → Type 0) where
-  -- one more part that is read
-  pub more_values : (parts : List (List ℕ)) (part : List ℕ) (values : List A) (value : A) → HaveValues Has parts values
-      → Has part value → HaveValues Has (parts ++ part ∷ []) (values ++ value ∷ [])
-  more_values parts part values value before here = HaveValues-append Has parts (part ∷ []) values (value ∷ []) before (here, tt)
-
   -- a part is the first that is refused, where the parts before it are read
   pub first_refused : {E : Type 0} (Fails : List ℕ → E → Type 0) (parts : List (List ℕ)) (at : ℕ) (part : List ℕ)
       (values : List A) (refusal : OrMemory E) → (at < length parts) × (part ≡ get_or parts at part)
@@ -52,15 +47,13 @@ module _ {R E : Type 0} (claim : R → Claim) (Writes : List ℕ → Runs → Ty
   -- the first part of a path is refused
   pub refused_root : (refusal : OrMemory (PartFault E)) → IfRefused (HasRootFault Fails list) refusal
       → IfRefused (HavePathFault Fails claim Writes parts) refusal
-  refused_root (Refused fault) fails = rw are (inl fails)
-  refused_root (Memory error) fails = tt
+  refused_root refusal fails = grind (arith)
 
   -- or a later one, where the first one is read
   pub refused_step : (root : Runs) → Writes list root → (refusal : OrMemory (PartFault E))
       → IfRefused (HasFirstFault (IsStepText claim Writes) (HasStepFault Fails) others) refusal
       → IfRefused (HavePathFault Fails claim Writes parts) refusal
-  refused_step root writes (Refused fault) fails = rw are (inr (root, writes, fails))
-  refused_step root writes (Memory error) fails = tt
+  refused_step root writes refusal fails = grind (arith)
 
 -- ---- what is told of what a path leaves
 
@@ -70,9 +63,7 @@ pub shows_path : (list_text excess_text : Runs → List ℕ) (root : Runs) (step
     → AnswersOrMemory (λ set. set) (IsPathResult (λ claim. claim) (Holds root) steps)
     (IsFirstRefusal (λ claim. claim) (Holds root) steps) left → (text : List ℕ)
     → ShowsLeft list_text excess_text left text → ShowsPath list_text excess_text root steps text
-shows_path list_text excess_text root steps (Ok set) is text shows = inl (set, is.found, shows)
-shows_path list_text excess_text root steps (Err (Refused refusal)) is text shows = inr (refusal, is.found, shows)
-shows_path list_text excess_text root steps (Err (Memory error)) is text shows = absurd shows
+shows_path list_text excess_text root steps left is text shows = grind (arith)
 
 -- ---- addresses
 
@@ -81,8 +72,7 @@ whole_listed : (list : List ℕ) (set : Runs) → IsSetOf (HasBlocks Ipv4 list) 
 whole_listed list set is = whole_cover is.blocks set (whole_list list is.blocks is.are_written) is.covered
 
 whole_claim_of : (set : Runs) → IsWhole (Holds set) → IsWholeClaim (claim_of set)
-whole_claim_of [] whole = tt
-whole_claim_of (run ∷ runs) whole = whole
+whole_claim_of set whole = grind (arith)
 
 whole_step : (part : List ℕ) (step : Step Claim) → IsStepText (λ c. c) (λ list. IsSetOf (HasBlocks Ipv4 list)) part step
     → IsWholeClaim step.claim
@@ -93,9 +83,8 @@ whole_step part step (inr (inr (mode, set, writes, same))) = subst IsWholeClaim 
 whole_steps : (parts : List (List ℕ)) (steps : List (Step Claim))
     → HaveValues (IsStepText (λ c. c) (λ list. IsSetOf (HasBlocks Ipv4 list))) parts steps
     → All (λ (s : Step Claim). IsWholeClaim s.claim) steps
-whole_steps [] [] have = All-nil (λ (s : Step Claim). IsWholeClaim s.claim)
+whole_steps parts [] have = All-nil (λ (s : Step Claim). IsWholeClaim s.claim)
 whole_steps [] (step ∷ steps) have = absurd have
-whole_steps (part ∷ parts) [] have = absurd have
 whole_steps (part ∷ parts) (step ∷ steps) have = All-cons (λ (s : Step Claim). IsWholeClaim s.claim) step steps (whole_step part step have.0) (whole_steps parts steps have.1)
 
 -- so what a path claims of a family is of the family

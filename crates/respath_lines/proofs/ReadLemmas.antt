@@ -1,7 +1,6 @@
 -- What a take at the front of octets, and then their end, tell of all of them.
-use Rattle.respath_lines.proofs.Common.{Err, List, MatchResult, Ok, Result, [], arith, inl, inr, length, refl, subst, ℕ, ◌∷◌, ◌≡◌, ◌≢◌, ne_eqb, fault_text, IfRefused, OrMemory, Memory, Refused, IsHexadecimal, HasFault, IsEnded, ShowsHexadecimal, ShowsOctets, ShowsResult}
+use Rattle.respath_lines.proofs.Common.{Err, List, MatchResult, Ok, Result, [], arith, length, refl, subst, ℕ, ◌∷◌, ◌≡◌, ◌≢◌, ne_eqb, fault_text, IfRefused, OrMemory, Memory, Refused, IsHexadecimal, HasFault, IsEnded, ShowsHexadecimal, ShowsOctets, ShowsResult}
 use Rattle.rpki_der.specs.Der.{OneFront}
-use Rattle.rpki_der.specs.Reading.{ended}
 use Rattle.rpki_der.specs.FrontLaws.{none_where_more, none_where_no_front, whole_value}
 use Rattle.rpki_der.specs.Views.{left}
 use Rattle.rpki_der.specs.declared.cursor.Cursor.{Cursor}
@@ -11,35 +10,27 @@ use Rattle.rpki_base.specs.DerReading.{only}
 use Rattle.rpki_base.specs.DerViews.{ReadsOrMemory, TakesSaidOrMemory}
 use Rattle.respath_lines.proofs.HexadecimalLemmas.{one_octets}
 
--- octets that are left are a fault
-ended_more : (b : ℕ) (rest : List ℕ) → ended (b ∷ rest) ≡ Err TrailingData
-ended_more b rest = rw (ne_eqb (length (b ∷ rest)) 0 (λ e. omega (arith, e))) refl
-
 module _ {X Y : Type 0} (G : List ℕ → X → Type 0) (reading : List ℕ → Result (Y × List ℕ) DerError) where
-  -- the fault of a take is that of all octets
-  only_refused : (octets : List ℕ) (fault : DerError) → reading octets ≡ Err fault → only reading octets ≡ Err fault
-  unfolding only
-  only_refused octets fault e = rw e refl
-
-  -- and what is left behind a value is one
+  -- what is left behind a value is a fault of all octets
   only_more : (octets rest : List ℕ) (y : Y) → reading octets ≡ Ok (y, rest) → rest ≢ []
       → only reading octets ≡ Err TrailingData
   unfolding only
   only_more octets [] y e some = absurd (some refl)
-  only_more octets (b ∷ rest) y e some = rw (e, ended_more b rest) refl
+  only_more octets (b ∷ rest) y e some = rw (e, ne_eqb (length (b ∷ rest)) 0 (λ none. omega (arith, none))) refl
 
   -- a take and the end behind it
   pub ended_take : (C : Y → X → Type 0) → OneFront G → (old new : Cursor) (taken : Result X (OrMemory DerError))
       → ReadsOrMemory G (λ x. x) old new taken → TakesSaidOrMemory C old new taken reading
       → (answer : Result X (OrMemory DerError)) → IsEnded taken (left new) answer
       → MatchResult answer (G (left old)) (IfRefused (HasFault G reading (left old)))
+  unfolding only
   ended_take C one old new (Ok x) reads took (Ok y) (same, nothing) =
       rw same (whole_value G (left old) x (rw nothing at reads))
   ended_take C one old new (Ok x) reads took (Err (Refused fault)) (more, trailing) =
       rw trailing (none_where_more G (left old) one x (left new) reads more, only_more (left old) (left new) took.0 took.1 more)
   ended_take C one old new (Ok x) reads took (Err (Memory error)) impossible = absurd impossible
   ended_take C one old new (Err (Refused fault)) reads took answer is =
-      rw is (none_where_no_front G (left old) reads.0, only_refused (left old) fault took.0)
+      rw is (none_where_no_front G (left old) reads.0, rw took.0 refl)
   ended_take C one old new (Err (Memory error)) reads took answer is = rw is tt
 
   module _ (value_text : X → List ℕ) where
@@ -47,9 +38,7 @@ module _ {X Y : Type 0} (G : List ℕ → X → Type 0) (reading : List ℕ → 
     pub shows_octets : (octets : List ℕ) (found : Result X (OrMemory DerError))
         → MatchResult found (G octets) (IfRefused (HasFault G reading octets)) → (answer : List ℕ)
         → ShowsResult value_text fault_text found answer → ShowsOctets G reading value_text octets answer
-    shows_octets octets (Ok x) is answer shows = inl (x, is, shows)
-    shows_octets octets (Err (Refused fault)) none answer shows = inr (fault, none, shows)
-    shows_octets octets (Err (Memory error)) is answer shows = absurd shows
+    shows_octets octets found is answer shows = grind (arith)
 
     -- what is shown of the octets that a text writes is what is shown of the text
     pub shows_text : (text octets answer : List ℕ) → IsHexadecimal text octets

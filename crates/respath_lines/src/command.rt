@@ -16,6 +16,7 @@ fn first_space(text: &[u8]) -> usize
 }
 
 /// What stands before the first space of a text and what stands behind it: nothing, where there is no space.
+#[tactic(auto, using(crate::proofs::CommandLemmas::cut_before, crate::proofs::CommandLemmas::cut_behind))]
 pub(crate) fn cut_word(text: &str) -> (&str, &str)
     ensures word { result.0.now ≡ before_first is_space text.now }
     ensures rest { result.1.now ≡ after_first is_space text.now }

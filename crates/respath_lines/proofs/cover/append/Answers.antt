@@ -1,4 +1,4 @@
-use Rattle.respath_lines.proofs.Common.{length, rules, ◌==◌, ◌≡◌, on_ok_weaker, string_bytes}
+use Rattle.respath_lines.proofs.Common.{length, rules, ◌==◌, ◌≡◌, string_bytes}
 use Rattle.respath_lines.proofs.CoverLemmas.{more_text}
 use Rattle.respath_lines.proofs.cover.append.Goals as goal
 
@@ -7,4 +7,4 @@ returns g c ps is =
     -- a string is as long as its bytes
     let len = c.args.text.now.bytes.ok.0 in
     let first : c.is_empty-is_first.result ≡ (length (string_bytes c.args.text.now) == 0) = search (rules, c.is_empty-is_first.ensures, len) in
-    on_ok_weaker c.write.result (more_text c.is_empty-is_first.result c.args.family ps c.args.prefix _ _ is first) c.write.ensures.bytes
+    rw (first, is, more_text c.args.family ps c.args.prefix) at c.write.ensures.bytes

@@ -1,13 +1,14 @@
-use Rattle.respath_lines.proofs.Common.{length, lit<, map, map-append, HasStepFault, IsStepText, parts_of}
+use Rattle.respath_lines.proofs.Common.{[], ◌∷◌, length, lit<, map, map-append, HasStepFault, IsStepText, parts_of}
 use Rattle.std.proofs.lemmas.Iterator.Splits.{YieldsList-from_str_split}
 use Rattle.std.proofs.lemmas.Iterator.Consumers.{YieldsList-turn, YieldsList-end, YieldsList-so_far, YieldsList-at}
-use Rattle.respath_lines.proofs.PathLemmas.{first_refused, more_values}
+use Rattle.rpki_text.proofs.ListLemmas.{HaveValues-append}
+use Rattle.respath_lines.proofs.PathLemmas.{first_refused}
 use Rattle.respath_lines.proofs.steps.read_steps.Goals as goal
 
 -- one more step
 pub loop-part-preserved : goal.loop-part-preserved
 loop-part-preserved g c =
-    rw (map-append, c.in_ok-push-in-Ok.ensures.items) (more_values (IsStepText g.L.Lists.claim (g.L.Lists.writes c.args.lists.now)) (map (λ p. p.now) c.loop-part.yielded) c.in-Some.part.now _ _ c.loop-part.invariant c.in-Ok.ensures)
+    rw (map-append, c.in_ok-push-in-Ok.ensures.items) (HaveValues-append (IsStepText g.L.Lists.claim (g.L.Lists.writes c.args.lists.now)) (map (λ p. p.now) c.loop-part.yielded) (c.in-Some.part.now ∷ []) _ _ c.loop-part.invariant (c.in-Ok.ensures, tt))
 
 pub returns-in-Err : goal.returns-in-Err
 returns-in-Err g c =

@@ -1,5 +1,5 @@
 -- What the proofs of this crate use of std, of the crates below and of its own definitions, passed on by one name.
-pub use Rattle.std.proofs.Common.{Bool, Err, IfOk, IsErr, List, MatchResult, None, Ok, Option, Result, Some, [], ap, arith, get_or, inr, length, option_map, refl, rules, subst, suc, sym, take, ℕ, ◌++◌, ◌+◌, ◌<◌, ◌∙◌, ◌∷◌, ◌≡◌, ◌≢◌}
+pub use Rattle.std.proofs.Common.{Bool, Err, IfOk, IsErr, List, MatchResult, None, Ok, Option, Result, Some, [], ap, arith, get_or, inr, length, option_map, refl, rules, subst, sym, take, ℕ, ◌++◌, ◌+◌, ◌<◌, ◌∙◌, ◌∷◌, ◌≡◌, ◌≢◌}
 pub use Rattle.std.proofs.lemmas.List.{append-nil, get_or_default, take_all}
 pub use Rattle.std.specs.Prelude.{IfSome, ◌^◌}
 pub use Rattle.rpki_base.specs.FamiliesDer.{ByFamily, families_der}
@@ -7,7 +7,7 @@ pub use Rattle.rpki_base.specs.declared.family.AddressFamily.{AddressFamily}
 pub use Rattle.rpki_base.specs.declared.family.AddressFamily.TheVariants.{Ipv4, Ipv6}
 pub use Rattle.rpki_chain.specs.Claims.{Claim}
 pub use Rattle.rpki_chain.specs.Runs.{Holds, IsRunsOfBlocks, Runs}
-pub use Rattle.rpki_chain.specs.declared.choice.ResourcesChoice.TheVariants.{Blocks, Inherit, Missing}
+pub use Rattle.rpki_chain.specs.declared.choice.ResourcesChoice.TheVariants.{Missing}
 pub use Rattle.rpki_der.specs.Reading.{ended}
 pub use Rattle.rpki_der.specs.declared.error.DerError.{DerError}
 pub use Rattle.rpki_ipres.specs.Resources.{ArePresentClaims, IsFamilyClaim, IsPresentFamilyClaim, if_present}

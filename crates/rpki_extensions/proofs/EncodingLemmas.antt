@@ -1,5 +1,5 @@
 -- What a take in either mode, and then the end of the octets, tell of all of them.
-use Rattle.rpki_extensions.proofs.Common.{Bool, Err, List, None, Ok, Option, Result, Some, [], ap, refl, subst, sym, ℕ, ◌++◌, ◌∙◌, ◌≡◌, ◌≢◌, append-nil, IfSome, ByFamily, families_der, AddressFamily, Ipv4, Ipv6, Claim, Blocks, Inherit, Missing, ended, DerError, ArePresentClaims, IsFamilyClaim, IsPresentFamilyClaim, if_present, ip_families_der, ip_resources_der, IfRefused, OrMemory, Memory, Refused, claim_or_missing, IsSaidIn, is_canonical, Encoding, Any, Canonical}
+use Rattle.rpki_extensions.proofs.Common.{Bool, Err, List, None, Ok, arith, Option, Result, [], ap, refl, subst, sym, ℕ, ◌++◌, ◌∙◌, ◌≡◌, ◌≢◌, append-nil, IfSome, ByFamily, families_der, AddressFamily, Ipv4, Ipv6, Claim, Missing, ended, DerError, ArePresentClaims, IsFamilyClaim, IsPresentFamilyClaim, if_present, ip_families_der, ip_resources_der, IfRefused, OrMemory, Memory, Refused, claim_or_missing, IsSaidIn, is_canonical, Encoding, Any, Canonical}
 use Rattle.rpki_der.specs.declared.cursor.Cursor.{Cursor}
 use Rattle.rpki_der.specs.Der.{Front, HasNone, OneFront, Spells}
 use Rattle.rpki_der.specs.FrontLaws.{none_where_more, none_where_no_front, whole_value}
@@ -79,20 +79,15 @@ module _ {X Y : Type 0} (encoding : Encoding) (G : List ℕ → X → Type 0) (P
 -- a claim that is there is present
 present_again : (family : AddressFamily) (found : Option Claim) → IfSome found (IsPresentFamilyClaim family)
     → if_present (claim_or_missing found) ≡ found
-present_again family None is = refl
-present_again family (Some Missing) is = absurd (is.1 refl)
-present_again family (Some Inherit) is = refl
-present_again family (Some (Blocks set)) is = refl
+present_again family found is = grind (arith)
 
 of_family : (family : AddressFamily) (found : Option Claim) → IfSome found (IsPresentFamilyClaim family)
     → IsFamilyClaim family (claim_or_missing found)
-of_family family None is = tt
-of_family family (Some claim) is = is.0
+of_family family found is = grind (arith)
 
 none_of : (family : AddressFamily) (found : Option Claim) → IfSome found (IsPresentFamilyClaim family)
     → claim_or_missing found ≡ Missing → found ≡ None
-none_of family None is e = refl
-none_of family (Some claim) is e = absurd (is.1 e)
+none_of family found is e = grind (arith)
 
 -- what a call says of octets that are written of two claims, of which one at least isn't missing, said of families
 pub families_again : (old new : Cursor) (x : ByFamily Claim)

@@ -1,5 +1,5 @@
 -- What a take at the front of octets, and then their end, tell of all of them.
-use Rattle.rpki_extensions.proofs.Common.{Err, IsErr, List, MatchResult, Ok, Result, [], arith, length, refl, subst, sym, ℕ, ◌∷◌, ◌≡◌, ◌≢◌, ended, DerError, IfRefused, OrMemory}
+use Rattle.rpki_extensions.proofs.Common.{Err, IsErr, List, MatchResult, Ok, Result, [], arith, length, refl, ℕ, ◌∷◌, ◌≡◌, ◌≢◌, ended, DerError, IfRefused, OrMemory}
 use Rattle.std.proofs.lemmas.Bool.{ne_eqb}
 use Rattle.std.specs.Result.{IsErrAnd}
 
@@ -18,5 +18,4 @@ something_left (octet ∷ octets) fault e = λ n. cc
 -- what is passed on is said of the answer
 pub passed_on : {X E : Type 0} (Q : X → Type 0) (P : E → Type 0) (e : OrMemory E) (answer : Result X (OrMemory E))
     → IsErr answer × IsErrAnd answer (λ (f : OrMemory E). f ≡ e) → IfRefused P e → MatchResult answer Q (IfRefused P)
-passed_on Q P e (Err f) passed h = subst (IfRefused P) (sym passed.1) h
-passed_on Q P e (Ok x) passed h = let never = passed.0 in cc
+passed_on Q P e answer passed h = grind (arith)

@@ -1,5 +1,5 @@
 -- What claims leave of an issuer's resources, and that it lies in them.
-use Rattle.rpki_extensions.proofs.Common.{Err, MatchResult, Ok, Result, inr, ℕ, Claim, Holds, Runs, HasEachOf, Triple, IfRefused, OrMemory, Memory, Refused, AreClaims, IsIssuedOfEach, IsNotIssuedOfEach, IsUnverified, IsVerified, Extensions}
+use Rattle.rpki_extensions.proofs.Common.{Ok, Err, MatchResult, Result, arith, ℕ, Claim, Holds, Runs, HasEachOf, Triple, IfRefused, OrMemory, AreClaims, IsIssuedOfEach, IsNotIssuedOfEach, IsUnverified, IsVerified, Extensions}
 use Rattle.rpki_chain.specs.Paths.{IsIssued}
 use Rattle.rpki_chain.specs.declared.path.Overclaim.{Overclaim}
 use Rattle.rpki_extensions.specs.declared.error.Unverified.{Unverified}
@@ -10,9 +10,7 @@ pub of_claims : {A : Type 0} (issuer : Triple) (certificate : Extensions) (asn v
     → MatchResult answer (IsIssuedOfEach issuer asn v4 v6 certificate.mode)
     (IfRefused (IsNotIssuedOfEach issuer asn v4 v6 certificate.mode))
     → MatchResult answer (IsVerified issuer certificate) (IfRefused (IsUnverified issuer certificate))
-of_claims issuer certificate asn v4 v6 (Ok set) are issued = (asn, v4, v6, are, issued)
-of_claims issuer certificate asn v4 v6 (Err (Refused reason)) are not = inr (asn, v4, v6, are, not)
-of_claims issuer certificate asn v4 v6 (Err (Memory error)) are none = tt
+of_claims issuer certificate asn v4 v6 answer are issued = grind (arith)
 
 -- what is left of an issuer's numbers lies in them
 left : (issuer set : Runs) (claim : Claim) (mode : Overclaim) → IsIssued (Holds issuer) claim mode set → (n : ℕ)

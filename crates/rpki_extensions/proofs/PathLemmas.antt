@@ -1,12 +1,7 @@
 -- One certificate of a path after another.
-use Rattle.rpki_extensions.proofs.Common.{List, [], ap, arith, get_or, length, refl, subst, suc, sym, take, ℕ, ◌++◌, ◌+◌, ◌<◌, ◌∙◌, ◌∷◌, ◌≡◌, get_or_default, Holds, HasEachOf, Triple, IsVerified, IsVerifiedPath, Extensions}
-use Rattle.std.proofs.Math.Seq.{take-suc}
+use Rattle.rpki_extensions.proofs.Common.{List, [], get_or, length, refl, subst, take, ℕ, ◌++◌, ◌+◌, ◌<◌, ◌∷◌, HasEachOf, Triple, IsVerified, IsVerifiedPath, Extensions}
+use Rattle.std.proofs.lemmas.List.{take_more}
 use Rattle.rpki_extensions.proofs.IssuedLemmas.{inside}
-
--- the certificate at a place, whatever one behind the end would be
-pub same-place : (certificates : List Extensions) (at : ℕ) (none : Extensions) → at < length certificates
-    → get_or certificates at none ≡ get_or certificates at (get_or certificates at none)
-same-place certificates at none small = get_or_default certificates at none (get_or certificates at none) small
 
 -- one certificate more
 append : (before : List Extensions) (anchor issuer set : Triple) (certificate : Extensions)
@@ -15,23 +10,16 @@ append : (before : List Extensions) (anchor issuer set : Triple) (certificate : 
 append [] anchor issuer set certificate same is = (set, subst (λ t. IsVerified t certificate set) same is, refl)
 append (first ∷ before) anchor issuer set certificate (next, one, path) is = (next, one, append before next issuer set certificate path is)
 
-pub path-more : (certificates : List Extensions) (at : ℕ) (anchor issuer set : Triple) (certificate : Extensions)
-    → at < length certificates → certificate ≡ get_or certificates at certificate
-    → IsVerifiedPath anchor (take at certificates) issuer → IsVerified issuer certificate set
-    → IsVerifiedPath anchor (take (at + 1) certificates) set
-path-more certificates at anchor issuer set certificate small here path is =
-    let e : at + 1 ≡ suc at = omega arith in
-    let more : take (at + 1) certificates ≡ take at certificates ++ certificate ∷ [] = rw e (take-suc certificates at certificate small ∙ ap (λ (c : Extensions). take at certificates ++ c ∷ []) (sym here)) in
-    subst (λ (cs : List Extensions). IsVerifiedPath anchor cs set) (sym more) (append (take at certificates) anchor issuer set certificate path is)
+pub path-more : (certificates : List Extensions) (at : ℕ) (none : Extensions) (anchor issuer set : Triple)
+    → at < length certificates → IsVerifiedPath anchor (take at certificates) issuer
+    → IsVerified issuer (get_or certificates at none) set → IsVerifiedPath anchor (take (at + 1) certificates) set
+path-more certificates at none anchor issuer set small path is =
+    rw (take_more certificates at none small) (append (take at certificates) anchor issuer set (get_or certificates at none) path is)
 
 -- what is left lies in the anchor's
 pub path-inside : (certificates : List Extensions) (anchor set : Triple) → IsVerifiedPath anchor certificates set
     → HasEachOf anchor set
-path-inside [] anchor set same = record {
-  asn = λ n h. subst (λ (t : Triple). Holds t.asn n) same h;
-  ipv4 = λ n h. subst (λ (t : Triple). Holds t.ipv4 n) same h;
-  ipv6 = λ n h. subst (λ (t : Triple). Holds t.ipv6 n) same h;
-}
+path-inside [] anchor set same = rw same (record { asn = λ n h. h; ipv4 = λ n h. h; ipv6 = λ n h. h })
 path-inside (certificate ∷ certificates) anchor set (next, is, path) =
     let first = inside anchor next certificate is in
     let others = path-inside certificates next set path in record {

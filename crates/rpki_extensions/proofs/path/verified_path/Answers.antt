@@ -1,16 +1,14 @@
-use Rattle.rpki_extensions.proofs.Common.{None, arith, get_or, subst, sym, take_all, IsVerifiedPath, Any, Extensions}
-use Rattle.rpki_extensions.proofs.PathLemmas.{path-inside, path-more, same-place}
+use Rattle.rpki_extensions.proofs.Common.{None, arith, get_or, get_or_default, take_all, Any, Extensions}
+use Rattle.rpki_extensions.proofs.PathLemmas.{path-inside, path-more}
 use Rattle.rpki_chain.specs.declared.path.Overclaim.TheVariants.{Refuse}
 use Rattle.rpki_extensions.proofs.path.verified_path.Goals as goal
 
 pub returns-clause-path : goal.returns-clause-path
-returns-clause-path g c =
-    subst (λ cs. IsVerifiedPath c.args.anchor.now cs c.loop-at.issuer) (take_all c.loop-at.at c.args.certificates.now (omega (arith, c.loop-at-test.false))) c.loop-at.invariant
+returns-clause-path g c = rw (take_all c.loop-at.at c.args.certificates.now (omega (arith, c.loop-at-test.false))) at c.loop-at.invariant
 
 pub returns-clause-inside : goal.returns-clause-inside
 returns-clause-inside g c =
-    path-inside c.args.certificates.now c.args.anchor.now c.loop-at.issuer
-    (subst (λ cs. IsVerifiedPath c.args.anchor.now cs c.loop-at.issuer) (take_all c.loop-at.at c.args.certificates.now (omega (arith, c.loop-at-test.false))) c.loop-at.invariant)
+    path-inside c.args.certificates.now c.args.anchor.now c.loop-at.issuer (rw (take_all c.loop-at.at c.args.certificates.now (omega (arith, c.loop-at-test.false))) at c.loop-at.invariant)
 
 -- what a place behind the end would have
 abbrev nothing : Extensions
@@ -18,11 +16,10 @@ nothing = record { numbers = None; addresses = None; encoding = Any; mode = Refu
 
 pub loop-at-preserved : goal.loop-at-preserved
 loop-at-preserved g c =
-    path-more c.args.certificates.now c.loop-at.at c.args.anchor.now c.loop-at.issuer c.in-Ok.set (get_or c.args.certificates.now c.loop-at.at nothing) c.loop-at-test.true
-    (same-place c.args.certificates.now c.loop-at.at nothing c.loop-at-test.true) c.loop-at.invariant c.in-Ok.ensures.verified
+    path-more c.args.certificates.now c.loop-at.at nothing c.args.anchor.now c.loop-at.issuer c.in-Ok.set c.loop-at-test.true c.loop-at.invariant c.in-Ok.ensures.verified
 
 pub returns-in-Err-Refused-clause-path : goal.returns-in-Err-Refused-clause-path
 returns-in-Err-Refused-clause-path g c =
     let told = rw c.in-Err-Refused.field-0-is at c.in-Err-Refused.ensures.verified in
     rw c.in-Err-Refused.reason-is
-    (get_or c.args.certificates.now c.loop-at.at nothing, c.loop-at-test.true, sym (same-place c.args.certificates.now c.loop-at.at nothing c.loop-at-test.true), (c.loop-at.issuer, c.loop-at.invariant, told))
+    (get_or c.args.certificates.now c.loop-at.at nothing, c.loop-at-test.true, get_or_default c.args.certificates.now c.loop-at.at _ nothing c.loop-at-test.true, (c.loop-at.issuer, c.loop-at.invariant, told))

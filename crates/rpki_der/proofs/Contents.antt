@@ -1,23 +1,16 @@
 -- Contents: what the reading answers is what the conditions of X.690 say, and that is how they are spelled.
-use Rattle.rpki_der.proofs.Common.{List, Ok, [], ap, arith, drop, length, refl, subst, suc, sym, zero, ℕ, ◌-◌, ◌<◌, ◌^◌, ◌∙◌, ◌∷◌, ◌≡◌, ◌≤◌, cases_lt, eqb-false, le-ltb, leb-false, lt-leb, lt-ltb, ltb-false, ltb-true, ne_eqb, or_from, or_parts, drop_at, length-append, bytes_high_first, to_be_bytes, w64, Bits, IsBitContent, IsBytes, IsNothing, IsUnsigned, big_endian, integer, octets, with_sign, bits, nothing, unsigned}
+use Rattle.rpki_der.proofs.Common.{List, [], ap, arith, drop, length, refl, subst, suc, sym, zero, ℕ, ◌-◌, ◌<◌, ◌^◌, ◌∙◌, ◌∷◌, ◌≡◌, ◌≤◌, cases_lt, eqb-false, le-ltb, leb-false, lt-leb, lt-ltb, ltb-false, ltb-true, ne_eqb, or_from, or_parts, drop_at, length-append, bytes_high_first, to_be_bytes, w64, IsBitContent, IsBytes, IsNothing, IsUnsigned, big_endian, integer, octets, with_sign, bits, nothing, unsigned}
 use Rattle.rpki_der.proofs.Steps.{IsCheck, IsBytes-rest, passed, passed_true, ok_is, one_false}
 use Rattle.rpki_der.proofs.Numbers.{octets-big_endian, big_endian-octets, octets-zero, octets_head, length-without_zeros}
 
 -- ---- an integer: the reading and the conditions
 
--- a number that is read meets the conditions
-unsigned_says : (content : List ℕ) (n : ℕ) → unsigned content ≡ Ok n → IsUnsigned content n
-unfolding unsigned
-unsigned_says content n e = grind (arith, eqb-false, leb-false, lt-ltb, ltb-false, ltb-true, ok_is, one_false, or_parts, passed, passed_true)
-
--- a number that meets the conditions is read
-says_unsigned : (content : List ℕ) (n : ℕ) → IsUnsigned content n → unsigned content ≡ Ok n
-unfolding unsigned
-says_unsigned content n is = grind (arith, le-ltb, lt-leb, lt-ltb, ne_eqb, or_from)
-
--- the two together
 pub unsigned_check : IsCheck (λ _. Unit {0}) IsUnsigned unsigned
-unsigned_check = record { takes = λ content n fits e. unsigned_says content n e; again = says_unsigned }
+unfolding unsigned
+unsigned_check = record {
+  takes = λ content n fits e. grind (arith, eqb-false, leb-false, lt-ltb, ltb-false, ltb-true, ok_is, one_false, or_parts, passed, passed_true);
+  again = λ content n is. grind (arith, le-ltb, lt-leb, lt-ltb, ne_eqb, or_from);
+}
 
 -- ---- an integer: the conditions and the spelling
 
@@ -70,32 +63,17 @@ pub integer-end : (n : ℕ) → n < 2 ^ 32 → drop (8 - length (integer n)) (to
 unfolding integer octets
 integer-end n lt = grind (arith, drop_at, high_zero, length-append)
 
+pub ruleset integer_octets = (integer-end)
+
 -- ---- bit strings and NULL
 
--- a bit string that is read meets the conditions
-bits_say : (content : List ℕ) (b : Bits) → bits content ≡ Ok b → IsBitContent content b
-unfolding bits
-bits_say content b e = grind (arith, ltb-false, ok_is, or_parts, passed)
-
--- a bit string that meets the conditions is read
-say_bits : (content : List ℕ) (b : Bits) → IsBitContent content b → bits content ≡ Ok b
-unfolding bits
-say_bits content b is = grind (arith, le-ltb)
-
--- the two together
 pub bits_check : IsCheck (λ _. Unit {0}) IsBitContent bits
-bits_check = record { takes = λ content b fits e. bits_say content b e; again = say_bits }
+unfolding bits
+bits_check = record {
+  takes = λ content b fits e. grind (arith, ltb-false, ok_is, or_parts, passed);
+  again = λ content b is. grind (arith, le-ltb);
+}
 
--- a NULL that is read has no octet
-nothing_says : (content : List ℕ) (u : Unit {0}) → nothing content ≡ Ok u → content ≡ []
-unfolding nothing
-nothing_says content u e = grind arith
-
--- no octets are read as a NULL
-says_nothing : (content : List ℕ) (u : Unit {0}) → content ≡ [] → nothing content ≡ Ok u
-unfolding nothing
-says_nothing content u is = rw is refl
-
--- the two together
 pub nothing_check : IsCheck (λ _. Unit {0}) IsNothing nothing
-nothing_check = record { takes = λ content u fits e. nothing_says content u e; again = says_nothing }
+unfolding nothing
+nothing_check = record { takes = λ content u fits e. grind arith; again = λ content u is. rw is refl }

@@ -18,9 +18,7 @@ length_by : (first : ℕ) (bytes : List ℕ) (n : ℕ) (rest : List ℕ) (b : Bo
     → Front IsLength (first ∷ bytes) n rest
 length_by first bytes n rest true t e =
     let made = ok_is (first, bytes) (n, rest) e in
-    let n-is : first ≡ n = ap (λ (p : ℕ × List ℕ). p.0) made in
-    let rest-is : bytes ≡ rest = ap (λ (p : ℕ × List ℕ). p.1) made in
-    (first ∷ [], inl (ltb-true first 128 t, sym n-is, refl), ap (λ (x : List ℕ). first ∷ x) rest-is)
+    (first ∷ [], inl (ltb-true first 128 t, sym (ap (λ (p : ℕ × List ℕ). p.0) made), refl), ap (λ (p : ℕ × List ℕ). first ∷ p.1) made)
 length_by first bytes n rest false t e =
     let long = long_says first bytes n rest (ltb-false first 128 t) e in
     (first ∷ long.0, inr long.1, ap (λ (x : List ℕ). first ∷ x) long.2)

@@ -1,5 +1,5 @@
 -- Values one after another to the end of the octets, each read in the state that the values before it led to.
-use Rattle.rpki_der.proofs.Common.{Err, List, None, Ok, Option, Result, Some, [], ap, append_assoc, arith, length, refl, subst, suc, sym, zero, ℕ, ◌++◌, ◌<◌, ◌∙◌, ◌∷◌, ◌≡◌, ◌≢◌, ◌≤◌, append-nil, length-append, EachFrom, Front, IsBytes, IsValue, header, IsReading, each_from, optional, ◌>>=◌, DerError, Grammar, Reading}
+use Rattle.rpki_der.proofs.Common.{Err, List, None, Ok, Result, Some, [], ap, append_assoc, arith, length, refl, subst, suc, sym, zero, ℕ, ◌++◌, ◌<◌, ◌∙◌, ◌∷◌, ◌≡◌, ◌≢◌, ◌≤◌, ◌-◌, append-nil, length-append, EachFrom, Front, IsBytes, IsValue, header, IsReading, each_from, optional, ◌>>=◌, DerError, Grammar, Reading}
 use Rattle.rpki_der.proofs.Steps.{bind_ok, ok_is}
 use Rattle.rpki_der.proofs.Readings.{fits_rest}
 
@@ -72,17 +72,15 @@ with_one : {X : Type 0} (front : List X) (x : X) (read : Result (List X) DerErro
     → with_front front (read >>= λ xs. Ok (x ∷ xs)) ≡ with_front (front ++ x ∷ []) read
 with_one front x read = grind (arith, append_assoc)
 
--- a turn, by the steps that are left
-more_by : {S X : Type 0} (next : S → X → S) (reading : S → Reading X) (front : List X) (state : S) (b : ℕ)
-    (bytes : List ℕ) (total : Result (List X) DerError) (x : X) (rest : List ℕ) (steps : ℕ) → length (b ∷ bytes) ≤ steps
-    → with_front front (each_from next steps reading state (b ∷ bytes)) ≡ total
-    → reading state (b ∷ bytes) ≡ Ok (x, rest) → length rest < length (b ∷ bytes)
-    → SoFar next reading (front ++ x ∷ []) (next state x) rest total
+-- the first value, and those behind it
+each-cons : {S X : Type 0} (next : S → X → S) (steps : ℕ) (reading : S → Reading X) (state : S) (b : ℕ) (bytes : List ℕ)
+    → length (b ∷ bytes) ≤ steps
+    → each_from next steps reading state (b ∷ bytes)
+    ≡ (reading state (b ∷ bytes) >>= λ x. each_from next (steps - 1) reading (next state x.0) x.1 >>= λ xs. Ok
+    (x.0 ∷ xs))
 unfolding each_from
-more_by next reading front state b bytes total x rest zero enough whole read fewer = absurd (omega arith)
-more_by next reading front state b bytes total x rest (suc steps) enough whole read fewer =
-    let one : with_front front (each_from next (suc steps) reading state (b ∷ bytes)) ≡ with_front front (each_from next steps reading (next state x) rest >>= λ xs. Ok (x ∷ xs)) = rw read refl in
-    record { steps = steps; enough = omega arith; whole = sym (one ∙ with_one front x (each_from next steps reading (next state x) rest)) ∙ whole }
+each-cons next zero reading state b bytes enough = absurd (omega arith)
+each-cons next (suc steps) reading state b bytes enough = let less : suc steps - 1 ≡ steps = omega arith in rw less refl
 
 -- a turn that reads a value
 pub loop_more : {S X : Type 0} (next : S → X → S) (reading : S → Reading X) (front : List X) (state : S)
@@ -90,7 +88,13 @@ pub loop_more : {S X : Type 0} (next : S → X → S) (reading : S → Reading X
     → SoFar next reading front state bytes total → reading state bytes ≡ Ok (x, rest) → length rest < length bytes
     → SoFar next reading (front ++ x ∷ []) (next state x) rest total
 loop_more next reading front state [] total x rest so read fewer = absurd (omega arith)
-loop_more next reading front state (b ∷ bytes) total x rest so read fewer = more_by next reading front state b bytes total x rest so.steps so.enough so.whole read fewer
+loop_more next reading front state (b ∷ bytes) total x rest so read fewer = record {
+  steps = so.steps - 1;
+  enough = omega (arith, so.enough, fewer);
+  whole =
+      sym (with_one front x (each_from next (so.steps - 1) reading (next state x) rest))
+      ∙ rw (each-cons next so.steps reading state b bytes so.enough, read) at so.whole;
+}
 
 -- at the end of the octets the values read so far are all
 pub loop_ends : {S X : Type 0} (next : S → X → S) (reading : S → Reading X) (front : List X) (state : S)
@@ -98,25 +102,15 @@ pub loop_ends : {S X : Type 0} (next : S → X → S) (reading : S → Reading X
     → total ≡ Ok front
 loop_ends next reading front state bytes total so none = grind (arith, append-nil, each-nil)
 
--- a turn that fails, by the steps that are left
-fails_by : {S X : Type 0} (next : S → X → S) (reading : S → Reading X) (front : List X) (state : S) (b : ℕ)
-    (bytes : List ℕ) (e : DerError) (steps : ℕ) → length (b ∷ bytes) ≤ steps → reading state (b ∷ bytes) ≡ Err e
-    → with_front front (each_from next steps reading state (b ∷ bytes)) ≡ Err e
-unfolding each_from
-fails_by next reading front state b bytes e steps enough read = grind arith
-
 -- a turn that fails is what the whole fails with
 pub loop_fails : {S X : Type 0} (next : S → X → S) (reading : S → Reading X) (front : List X) (state : S)
     (bytes : List ℕ) (total : Result (List X) DerError) (e : DerError) → SoFar next reading front state bytes total
     → bytes ≢ [] → reading state bytes ≡ Err e → total ≡ Err e
 loop_fails next reading front state [] total e so some read = absurd (some refl)
-loop_fails next reading front state (b ∷ bytes) total e so some read = sym so.whole ∙ fails_by next reading front state b bytes e so.steps so.enough read
+loop_fails next reading front state (b ∷ bytes) total e so some read =
+    sym (rw (each-cons next so.steps reading state b bytes so.enough, read) at so.whole)
 
 -- ---- what an optional reading says
-
--- what an optional reading makes of a value
-abbrev pub as_some : {X : Type 0} → X × List ℕ → Result (Option X × List ℕ) DerError
-as_some x = Ok (Some x.0, x.1)
 
 -- Some is what the reading gives before the end
 pub optional_some : {X : Type 0} (reading : Reading X) (bytes : List ℕ) (x : X) (rest : List ℕ)

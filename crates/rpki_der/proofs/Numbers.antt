@@ -1,5 +1,7 @@
 -- Numbers and the octets that spell them.
 use Rattle.rpki_der.proofs.Common.{List, [], ap, arith, get_or, length, refl, replicate, suc, sym, take, zero, ℕ, ◌*◌, ◌++◌, ◌+◌, ◌-◌, ◌<◌, ◌^◌, ◌∙◌, ◌∷◌, ◌≡◌, ◌≢◌, ◌≤◌, length-append, length-replicate, from_be_bytes, to_be_bytes, w64, IsBytes, big_endian, big_endian_after, octets, without_zeros}
+use Rattle.std.proofs.Common.{lit≤}
+use Rattle.std.proofs.Math.Nat.{pow-le-pow_right}
 use Rattle.std.proofs.lemmas.Nat.{be_bytes_8, from_be_bytes-to_be_bytes_8, pow-add}
 use Rattle.rpki_der.proofs.Steps.{IsBytes-zeros}
 
@@ -19,6 +21,10 @@ big_endian_more ds i lt = let e : i + 1 ≡ suc i = omega arith in rw e (more_af
 -- it is eight bits
 pub digit_more : (i : ℕ) → 2 ^ (8 * (i + 1)) ≡ 2 ^ (8 * i) * 256
 digit_more i = let e : 8 * (i + 1) ≡ 8 * i + 8 = omega arith in ap (λ k. 2 ^ k) e ∙ pow-add 2 (8 * i) 8
+
+-- so seven octets have 56 at most
+pub digits_fit : (i : ℕ) → i < 8 → 2 ^ (8 * i) ≤ 2 ^ 56
+digits_fit i few = pow-le-pow_right {n = 2} (lit≤ tt) {i = 8 * i} {j = 56} (omega (arith, few))
 
 -- ---- digits behind zeros, eight in all
 
@@ -79,22 +85,17 @@ pub big_endian-octets : (n : ℕ) → n < 2 ^ 64 → big_endian (octets n) ≡ n
 unfolding octets
 big_endian-octets n lt = big_endian-without_zeros (to_be_bytes w64 n) ∙ eight_octets n lt
 
--- the same where the first octet is in sight
-octets-first : (d : ℕ) (ds : List ℕ) → IsBytes (d ∷ ds) → suc (length ds) ≤ 8 → d ≢ 0
-    → octets (big_endian (d ∷ ds)) ≡ d ∷ ds
+-- octets that don't begin with zero are the fewest of their number
+pub octets-big_endian : (ds : List ℕ) → IsBytes ds → 0 < length ds → length ds ≤ 8 → get_or ds 0 0 ≢ 0
+    → octets (big_endian ds) ≡ ds
 unfolding octets
-octets-first d ds fits le nonzero =
+octets-big_endian [] fits some le nonzero = absurd (omega arith)
+octets-big_endian (d ∷ ds) fits some le nonzero =
     let m = 8 - suc (length ds) in
     let whole : List ℕ = replicate m 0 ++ d ∷ ds in
     let len : length whole ≡ 8 = omega (arith, length-append (replicate m 0) (d ∷ ds), length-replicate {A = ℕ} m 0) in
     let same : from_be_bytes w64 whole ≡ big_endian (d ∷ ds) = from_be_bytes-padded (d ∷ ds) le in
     ap without_zeros (be_bytes_8 whole (big_endian (d ∷ ds)) len (IsBytes-zeros m (d ∷ ds) fits) (sym same)) ∙ without_zeros-zeros m (d ∷ ds) ∙ without_zeros-head d ds nonzero
-
--- octets that don't begin with zero are the fewest of their number
-pub octets-big_endian : (ds : List ℕ) → IsBytes ds → 0 < length ds → length ds ≤ 8 → get_or ds 0 0 ≢ 0
-    → octets (big_endian ds) ≡ ds
-octets-big_endian [] fits some le nonzero = absurd (omega arith)
-octets-big_endian (d ∷ ds) fits some le nonzero = octets-first d ds fits le nonzero
 
 -- eight octets spell a number below 2 ^ 64
 eight : (bs : List ℕ) → IsBytes bs → from_be_bytes w64 bs < 2 ^ 64
@@ -114,17 +115,8 @@ pub octets-zero : octets 0 ≡ []
 unfolding octets
 octets-zero = refl
 
--- a number above 0 has an octet, and its first isn't zero
-pub octets_are : (n : ℕ) → 0 < n → n < 2 ^ 64 → (octets n ≡ []) → ⊥
-octets_are n pos lt e =
-    let z : 0 ≡ n = ap big_endian (sym e) ∙ big_endian-octets n lt in
-    omega arith
-
--- by the octets, if there are some
-head_of : (n : ℕ) → (octets n ≡ [] → ⊥) → get_or (octets n) 0 0 ≢ 0
-unfolding octets
-head_of n h = head_or_nil (to_be_bytes w64 n) h
-
 -- the first octet of a number above 0 is no zero
 pub octets_head : (n : ℕ) → 0 < n → n < 2 ^ 64 → get_or (octets n) 0 0 ≢ 0
-octets_head n pos lt = head_of n (octets_are n pos lt)
+unfolding octets
+octets_head n pos lt =
+    head_or_nil (to_be_bytes w64 n) (λ none. let same : 0 ≡ n = ap big_endian (sym none) ∙ big_endian-octets n lt in omega (arith, same, pos))

@@ -1,6 +1,6 @@
 -- The readings find the values of their grammars, whatever follows them, and no others.
-use Rattle.rpki_der.proofs.Common.{Err, List, Ok, Result, [], ap, append_assoc, arith, cond, drop, eqb, length, ltb, refl, subst, sym, take, ℕ, ◌%◌, ◌++◌, ◌<◌, ◌^◌, ◌∙◌, ◌∷◌, ◌≡◌, ◌≢◌, ◌≤◌, eq-eqb, eqb-false, eqb-true, le-ltb, ltb-false, ne_eqb, append_cancel_right, drop_at, length-append, length-take, take-append-drop, take_at, Front, IsBitContent, IsBitString, IsBytes, IsNothing, IsNull, IsTag, IsTlv, IsU32, IsUnsigned, IsValue, OneFront, Refines, Tlv, header, length_octets, value, IsReading, bit_string_at, bits, length_at, nothing, null_at, refined, tagged_at, u32_at, unsigned, value_at, ◌>>=◌, DerError, BadTag, Truncated, Grammar, Reading}
-use Rattle.rpki_der.proofs.Steps.{IsCheck, IsBytes-rest, fits_front, fits_back, bind_ok, passed, passed_true, ok_is}
+use Rattle.rpki_der.proofs.Common.{IsOctetString, IsSequence, Err, List, Ok, Result, [], ap, append_assoc, arith, cond, drop, eqb, length, ltb, refl, subst, sym, take, ℕ, ◌%◌, ◌++◌, ◌<◌, ◌^◌, ◌∙◌, ◌∷◌, ◌≡◌, ◌≢◌, ◌≤◌, eq-eqb, eqb-false, eqb-true, le-ltb, ltb-false, ne_eqb, append_cancel_right, drop_at, length-append, length-take, take-append-drop, take_at, Front, IsBitContent, IsBitString, IsBytes, IsNothing, IsNull, IsTag, IsTlv, IsU32, IsUnsigned, IsValue, OneFront, Refines, Tlv, header, length_octets, value, IsReading, bit_string_at, bits, length_at, nothing, null_at, refined, tagged_at, u32_at, unsigned, value_at, ◌>>=◌, DerError, BadTag, Truncated, Grammar, Reading}
+use Rattle.rpki_der.proofs.Steps.{IsCheck, IsBytes-rest, fits_front, fits_back, bind_ok, passed, ok_is}
 use Rattle.rpki_der.proofs.Contents.{unsigned_check, unsigned_spelled, spelled_unsigned, bits_check, nothing_check}
 use Rattle.rpki_der.proofs.Lengths.{length_takes, length_again}
 
@@ -75,58 +75,40 @@ fits_rest G bytes x rest found h = fits_back found.0 rest (subst IsBytes found.2
 abbrev pub IsTagged : ℕ → List ℕ → List ℕ → Type 0
 IsTagged tag bytes content = IsValue bytes tag content
 
--- a value of one tag that is read is one
-tagged_takes : (tag : ℕ) (bytes content rest : List ℕ) → IsBytes bytes → tagged_at tag bytes ≡ Ok (content, rest)
-    → Front (IsTagged tag) bytes content rest
-unfolding tagged_at
-tagged_takes tag bytes content rest fits e =
-    let a = bind_ok (value_at bytes) (λ v. cond (eqb v.0.tag tag) (Ok (v.0.content, v.1)) (Err BadTag)) (content, rest) e in
-    let g = passed_true (eqb a.0.0.tag tag) BadTag (Ok (a.0.0.content, a.0.1)) (content, rest) a.2 in
-    let made = ok_is (a.0.0.content, a.0.1) (content, rest) g.1 in
-    let found = value_takes bytes a.0.0 a.0.1 fits a.1 in
-    grind (arith, eqb-true)
-
--- a value of the tag is read, whatever follows
-tagged_again : (tag : ℕ) (front content rest : List ℕ) → IsTagged tag front content
-    → tagged_at tag (front ++ rest) ≡ Ok (content, rest)
-unfolding tagged_at
-tagged_again tag front content rest is = rw (value_again front (record { tag = tag; content = content }) rest is, eq-eqb tag tag refl) refl
-
--- the two together
 pub tagged_reading : (tag : ℕ) → IsReading (IsTagged tag) (tagged_at tag)
-tagged_reading tag = record { takes = tagged_takes tag; again = tagged_again tag }
+unfolding tagged_at
+tagged_reading tag = record {
+  takes = λ bytes content rest fits e. (
+      let a = bind_ok (value_at bytes) (λ v. cond (eqb v.0.tag tag) (Ok (v.0.content, v.1)) (Err BadTag)) (content, rest) e in
+      let found = value_takes bytes a.0.0 a.0.1 fits a.1 in
+      grind (arith, eqb-true));
+  again = λ front content rest is. rw (value_again front (record { tag = tag; content = content }) rest is, eq-eqb tag tag refl) refl;
+}
+
+-- an OCTET STRING, and a SEQUENCE
+pub octet_string_reading : IsReading IsOctetString (tagged_at 4)
+octet_string_reading = tagged_reading 4
+
+pub sequence_reading : IsReading IsSequence (tagged_at 48)
+sequence_reading = tagged_reading 48
 
 -- ---- values looked at once more
 
--- what is read and passes the second look is in the refined grammar
-refined_takes : {X Y : Type 0} (G : Grammar X) (C : X → Y → Type 0) (Fits : X → Type 0) (reading : Reading X)
-    (check : X → Result Y DerError) → IsReading G reading
-    → ((front : List ℕ) (x : X) → G front x → IsBytes front → Fits x) → IsCheck Fits C check
-    → (bytes : List ℕ) (y : Y) (rest : List ℕ) → IsBytes bytes → refined reading check bytes ≡ Ok (y, rest)
-    → Front (Refines G C) bytes y rest
-unfolding refined
-refined_takes G C Fits reading check is inside says bytes y rest fits e =
-    let a = bind_ok (reading bytes) (λ x. check x.0 >>= λ y. Ok (y, x.1)) (y, rest) e in
-    let b = bind_ok (check a.0.0) (λ y. Ok (y, a.0.1)) (y, rest) a.2 in
-    let made = ok_is (b.0, a.0.1) (y, rest) b.2 in
-    let found = is.takes bytes a.0.0 a.0.1 fits a.1 in
-    let c = says.takes a.0.0 b.0 (inside found.0 a.0.0 found.1 (fits_value G bytes a.0.0 a.0.1 found fits)) b.1 in
-    subst (λ p. Front (Refines G C) bytes p.0 p.1) made (found.0, (a.0.0, found.1, c), found.2)
-
--- what is in the refined grammar is read and passes
-refined_again : {X Y : Type 0} (G : Grammar X) (C : X → Y → Type 0) (Fits : X → Type 0) (reading : Reading X)
-    (check : X → Result Y DerError) → IsReading G reading → IsCheck Fits C check
-    → (front : List ℕ) (y : Y) (rest : List ℕ) → Refines G C front y
-    → refined reading check (front ++ rest) ≡ Ok (y, rest)
-unfolding refined
-refined_again G C Fits reading check is says front y rest r = rw (is.again front r.0 rest r.1, says.again r.0 y r.2) refl
-
--- the two together
+-- what is read and passes the second look
 pub refined_reading : {X Y : Type 0} (G : Grammar X) (C : X → Y → Type 0) (Fits : X → Type 0) (reading : Reading X)
     (check : X → Result Y DerError) → IsReading G reading
     → ((front : List ℕ) (x : X) → G front x → IsBytes front → Fits x) → IsCheck Fits C check
     → IsReading (Refines G C) (refined reading check)
-refined_reading G C Fits reading check is inside says = record { takes = refined_takes G C Fits reading check is inside says; again = refined_again G C Fits reading check is says }
+unfolding refined
+refined_reading G C Fits reading check is inside says = record {
+  takes = λ bytes y rest fits e. (
+      let a = bind_ok (reading bytes) (λ x. check x.0 >>= λ y. Ok (y, x.1)) (y, rest) e in
+      let b = bind_ok (check a.0.0) (λ y. Ok (y, a.0.1)) (y, rest) a.2 in
+      let found = is.takes bytes a.0.0 a.0.1 fits a.1 in
+      let c = says.takes a.0.0 b.0 (inside found.0 a.0.0 found.1 (fits_value G bytes a.0.0 a.0.1 found fits)) b.1 in
+      subst (λ p. Front (Refines G C) bytes p.0 p.1) (ok_is (b.0, a.0.1) (y, rest) b.2) (found.0, (a.0.0, found.1, c), found.2));
+  again = λ front y rest r. rw (is.again front r.0 rest r.1, says.again r.0 y r.2) refl;
+}
 
 -- two grammars of the same values have the same readings
 pub same_reading : {X : Type 0} (G H : Grammar X) (reading : Reading X)

@@ -21,6 +21,9 @@ pub length-header : (tag n : ℕ) → n < 128 → length (header tag n) ≡ 2
 unfolding header length_octets
 length-header tag n lt = rw (lt-ltb n 128 lt) (omega arith)
 
+-- so an INTEGER of 32 bits has seven octets at most
+pub ruleset short_integer = (length-header, length-integer)
+
 -- a tag, a length that meets the conditions, and as many octets, are a value
 pub value_spelled : (tag : ℕ) (len content : List ℕ) → IsTag tag → IsBytes len → IsLength len (length content)
     → IsValue (tag ∷ (len ++ content)) tag content

@@ -55,6 +55,7 @@ impl<'a> Content<'a> {
     }
 
     /// The content as an INTEGER (X.690, 8.3) from 0 to 4294967295, else `BadInteger`.
+    #[tactic(auto, using(crate::proofs::Contents::unsigned_check))]
     pub fn to_u32(&self) -> Result<u32, DerError>
         ensures reads { Parses IsUnsigned (λ n. n) (content_octets self.now) result }
         ensures exact { Gives (λ n. n) result (unsigned (content_octets self.now)) }
@@ -64,6 +65,7 @@ impl<'a> Content<'a> {
 
     /// The content as a BIT STRING (X.690, 8.6.2), else `BadBitString`. Of a strict cursor's content, `NotCanonical`
     /// where an unused bit is set.
+    #[tactic(auto, using(crate::proofs::Contents::bits_check, crate::proofs::Modes::padded_check, crate::proofs::Modes::bits_tighten, crate::proofs::Cursors::parses_by))]
     pub fn to_bit_string(&self) -> Result<BitString<'a>, DerError>
         ensures reads { LenientIn self.now
             (Parses IsBitContent bit_string_of (content_octets self.now) result) }
@@ -87,6 +89,7 @@ impl<'a> Content<'a> {
     }
 
     /// The content as a NULL (X.690, 8.8), which has no octet, else `BadNull`.
+    #[tactic(auto, unfolding(crate::specs::Reading::nothing))]
     pub fn to_null(&self) -> Result<(), DerError>
         ensures reads { Parses IsNothing (λ u. u) (content_octets self.now) result }
         ensures exact { Gives (λ u. u) result (nothing (content_octets self.now)) }

@@ -89,6 +89,7 @@ impl<'a> Cursor<'a> {
     ///
     /// `Truncated` where octets are missing, `BadTag` where the low five bits of the tag octet are
     /// all ones, `BadLength` where the length is indefinite or isn't in the fewest octets.
+    #[tactic(auto, using(crate::proofs::Readings::value_reading))]
     pub fn take_value(&mut self) -> Result<Content<'a>, DerError>
         ensures reads { ReadsValue IsTlv tlv self.old self.new result }
         ensures exact { Takes tlv self.old self.new result value_at }
@@ -99,6 +100,7 @@ impl<'a> Cursor<'a> {
     }
 
     /// Takes a value of any tag as `take_value` does; None at the end, and there alone.
+    #[tactic(auto, using(crate::proofs::Readings::value_reading, crate::proofs::Lists::optional_some, crate::proofs::Lists::optional_none, crate::proofs::Lists::optional_err, crate::proofs::Cursors::none_by))]
     pub fn take_opt_value(&mut self) -> Result<Option<Content<'a>>, DerError>
         ensures reads { ReadsOptional IsTlv tlv self.old self.new result }
         ensures exact { Takes (λ o. option_map tlv o) self.old self.new result (optional value_at) }
@@ -112,6 +114,7 @@ impl<'a> Cursor<'a> {
     /// Takes a SEQUENCE (X.690, 8.9) and answers a cursor over its content.
     ///
     /// The faults are those of `take_value`; `BadTag` also where another value stands there.
+    #[tactic(auto, using(crate::proofs::Readings::sequence_reading))]
     pub fn take_sequence(&mut self) -> Result<Cursor<'a>, DerError>
         ensures reads { ReadsValue IsSequence left self.old self.new result }
         ensures exact { Takes left self.old self.new result (tagged_at 48) }
@@ -125,6 +128,7 @@ impl<'a> Cursor<'a> {
     ///
     /// The faults are those of `take_value`; `BadTag` also where another value stands there, and
     /// `BadInteger` for any other content.
+    #[tactic(auto, using(crate::proofs::Readings::u32_reading))]
     pub fn take_u32(&mut self) -> Result<u32, DerError>
         ensures reads { ReadsValue IsU32 (λ n. n) self.old self.new result }
         ensures exact { Takes (λ n. n) self.old self.new result u32_at }
@@ -139,6 +143,7 @@ impl<'a> Cursor<'a> {
     /// The faults are those of `take_value`; `BadTag` also where another value stands there,
     /// `BadBitString` for any other content, and from a strict cursor `NotCanonical` where an unused
     /// bit is set.
+    #[tactic(auto, using(crate::proofs::Modes::bit_string_modal, crate::proofs::Readings::bit_string_reading, crate::proofs::Cursors::none_by))]
     pub fn take_bit_string(&mut self) -> Result<BitString<'a>, DerError>
         ensures reads { Lenient self.old
             (ReadsValue IsBitString bit_string_of self.old self.new result) }
@@ -158,6 +163,7 @@ impl<'a> Cursor<'a> {
     /// Takes an OCTET STRING (X.690, 8.7).
     ///
     /// The faults are those of `take_value`; `BadTag` also where another value stands there.
+    #[tactic(auto, using(crate::proofs::Readings::octet_string_reading))]
     pub fn take_octets(&mut self) -> Result<&'a [u8], DerError>
         ensures reads { ReadsValue IsOctetString (λ o. o.now) self.old self.new result }
         ensures exact { Takes (λ o. o.now) self.old self.new result (tagged_at 4) }
@@ -170,6 +176,7 @@ impl<'a> Cursor<'a> {
     ///
     /// The faults are those of `take_value`; `BadTag` also where another value stands there, and
     /// `BadNull` where it has content.
+    #[tactic(auto, using(crate::proofs::Readings::null_reading, crate::proofs::Cursors::reads_by))]
     pub fn take_null(&mut self) -> Result<(), DerError>
         ensures reads { ReadsValue IsNull (λ u. u) self.old self.new result }
         ensures exact { Takes (λ u. u) self.old self.new result null_at }

@@ -28,6 +28,7 @@ pub fn one_value()
 {}
 
 /// The octets that the writers append are values.
+#[tactic(auto, using(crate::proofs::Written::value_is, crate::proofs::Written::u32_is, crate::proofs::Written::bit_string_is))]
 pub fn written()
     ensures number { (n : ℕ) → n < 2 ^ 32 → IsU32 (u32_value n) n }
     ensures bit_string { (b : Bits) → IsBits b → length b.octets < 2 ^ 63
@@ -39,6 +40,7 @@ pub fn written()
 {}
 
 /// What is written is read back, whatever follows it.
+#[tactic(auto, using(crate::proofs::Readings::u32_reading, crate::proofs::Readings::bit_string_reading, crate::proofs::Readings::octet_string_reading, crate::proofs::Readings::sequence_reading, crate::proofs::Written::value_is, crate::proofs::Written::u32_is, crate::proofs::Written::bit_string_is))]
 pub fn read_back()
     ensures number { (n : ℕ) (rest : List ℕ) → n < 2 ^ 32
         → u32_at (u32_value n ++ rest) ≡ Ok (n, rest) }

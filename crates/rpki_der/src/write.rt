@@ -128,6 +128,7 @@ fn integer_len(number: u32) -> usize
 }
 
 /// How many octets `put_u32` appends: at most 7.
+#[tactic(auto, using(crate::proofs::Written::short_integer))]
 pub fn u32_len(number: u32) -> usize
     ensures len { result ≡ length (u32_value number) }
     ensures short { result ≤ 7 }
@@ -149,6 +150,7 @@ pub fn put_u32<A: Allocator>(out: &mut Vec<u8, A>, number: u32) -> Result<(), Al
 }
 
 /// Appends what `put_u32` does, where there is room for it.
+#[tactic(auto, using(crate::proofs::Contents::integer_octets, std::proofs::lemmas::Grind::common_steps))]
 pub fn append_u32<A: Allocator>(out: &mut Vec<u8, A>, number: u32)
     requires room { vec_len out.old + length (u32_value number) ≤ vec_capacity out.old }
     ensures items { out.new.items ≡ out.old.items ++ u32_value number }

@@ -111,13 +111,12 @@ end_groups : (text groups : List ℕ) → std.IsGroups true text groups → AreG
 end_groups text groups h = elim (from_std true [] text groups h) [
   | inl (texts, spelled, each) ↦ inl (record { texts = texts; spelled = spelled ∙ sym (joined_led texts); each = each })
   | inr (ok, (texts, front, last, n, spelled, each, ipv4, value)) ↦
-      let own = spelled ∙ sym (joined_led (texts ++ last ∷ [])) in
       inr (record {
         texts = texts;
         front = front;
         last = last;
         n = n;
-        spelled = own;
+        spelled = spelled ∙ sym (joined_led (texts ++ last ∷ []));
         each = each;
         ipv4 = ipv4;
         value = value;

@@ -1,6 +1,6 @@
 -- What the proofs of this crate use of std, of the crates below and of its own definitions, passed on by one name.
 pub use Rattle.std.proofs.Common.{Bool, Bor, Err, IsTrue, List, None, Ok, Result, Some, [], ap, append-nil, append_assoc, ap₂, arith, bit_and, bit_or, codes, cond, decimal, drop, drop_at, eq-eqb, false, flat_map, get_or, inl, inr, le-ltb, length, length-append, length-take-le, lit<, lit≤, lt-ltb, map, nat_eq, nat_lt, ne_eqb, option_and_then, option_map, refl, replicate, rules, subst, suc, sym, take, true, true≢false, zero, ℕ, ◌%◌, ◌&&◌, ◌*◌, ◌++◌, ◌+◌, ◌-◌, ◌/◌, ◌<◌, ◌==◌, ◌^◌, ◌∙◌, ◌∷◌, ◌≡◌, ◌≢◌, ◌≤◌, ◌⊎◌}
-pub use Rattle.std.proofs.Math.Nat.{div-div-eq-div-mul, mul-le-mul_left, mul-one, mul_assoc, pow-le-pow_right, pow-succ', pow-zero, two-pow-succ}
+pub use Rattle.std.proofs.Math.Nat.{div-div-eq-div-mul, mul-one, mul_assoc, pow-le-pow_right, pow-succ', pow-zero, two-pow-succ}
 pub use Rattle.std.proofs.NetLemmas.Alphabet.{All-ipv4_text, IsDigitOrDot}
 pub use Rattle.std.proofs.NetLemmas.Ipv4.{read_ipv4_complete, read_ipv4_sound}
 pub use Rattle.std.proofs.NetLemmas.Ipv6.{IsDotted-not_colon_hex, read_ipv6_complete, read_ipv6_sound}
@@ -21,7 +21,7 @@ pub use Rattle.std.specs.Int.Digits.{AllBelowBase, number_from_digits_after}
 pub use Rattle.std.specs.List.{All, AllByRecursion, Contains}
 pub use Rattle.std.specs.Net.Addr.{segments_of}
 pub use Rattle.std.specs.Net.Grammar.{IsColonHex, IsDotted, IsGroupsAfter}
-pub use Rattle.std.specs.Net.Reader.{Read, Segments, after, digit_count, read_byte, read_ipv4, read_ipv4_if, read_separator, read_tail, whole_value}
+pub use Rattle.std.specs.Net.Reader.{Read, Segments, after, digit_count, read_ipv4, read_ipv4_if, read_separator, whole_value}
 unfoldable pub use Rattle.std.specs.Net.Reader.{read_ipv6, read_number, read_octet, read_segment, read_segments}
 pub use Rattle.std.specs.Net.Text.{dotted_text, groups_text, longest_zero_run, zero_run}
 unfoldable pub use Rattle.std.specs.Net.Text.{hex, hex_groups_text}

@@ -1,5 +1,5 @@
 -- Groups as one number while they are read.
-use Rattle.rpki_addr.proofs.Common.{Bool, Bor, List, None, Some, [], ap, append-nil, append_assoc, ap₂, arith, cond, false, length, length-append, lit<, lit≤, nat_lt, ne_eqb, option_and_then, option_map, refl, replicate, subst, suc, sym, true, zero, ℕ, ◌%◌, ◌*◌, ◌++◌, ◌+◌, ◌-◌, ◌/◌, ◌<◌, ◌==◌, ◌^◌, ◌∙◌, ◌∷◌, ◌≡◌, ◌≢◌, ◌≤◌, mul-le-mul_left, mul-one, mul_assoc, pow-le-pow_right, pow-succ', pow-zero, read_ipv4_sound, ltb-true, nat_tests, number_after_append, number_push, length-replicate, mul-add-lt, pow-add, none-some, number_from_digits_after, segments_of, Read, Segments, after, read_byte, read_ipv4, read_ipv4_if, read_ipv6, read_segment, read_segments, read_separator, read_tail, below_power, next_below, from_groups, from_octets, numbered, with_number, with_octets, IsSoFar, parts}
+use Rattle.rpki_addr.proofs.Common.{Bool, Bor, List, None, Some, [], ap, append-nil, append_assoc, ap₂, arith, cond, false, length, length-append, lit<, lit≤, nat_lt, ne_eqb, option_map, refl, replicate, subst, suc, sym, true, zero, ℕ, ◌%◌, ◌*◌, ◌++◌, ◌+◌, ◌-◌, ◌/◌, ◌<◌, ◌==◌, ◌^◌, ◌∙◌, ◌∷◌, ◌≡◌, ◌≢◌, ◌≤◌, mul-one, mul_assoc, pow-le-pow_right, pow-succ', pow-zero, read_ipv4_sound, ltb-true, nat_tests, number_after_append, number_push, length-replicate, mul-add-lt, pow-add, none-some, number_from_digits_after, segments_of, Read, Segments, after, read_ipv4, read_ipv4_if, read_segment, read_segments, read_separator, below_power, next_below, from_groups, from_octets, numbered, with_octets, IsSoFar, parts}
 use Rattle.rpki_addr.specs.declared.addr.read.Groups.{Groups}
 use Rattle.rpki_addr.proofs.AddressFronts.{seen_some}
 use Rattle.rpki_addr.proofs.AddressLemmas.{two_groups}
@@ -15,7 +15,7 @@ zeros_front zero ys = refl
 zeros_front (suc k) ys = zeros_front k ys
 
 -- the groups of a text with two colons
-number_elided : (front back : List ℕ) → length front + length back ≤ 8
+pub number_elided : (front back : List ℕ) → length front + length back ≤ 8
     → from_groups (front ++ replicate (8 - length front - length back) 0 ++ back)
     ≡ from_groups front * 0x10000 ^ (8 - length front) + from_groups back
 number_elided front back room =
@@ -27,23 +27,23 @@ number_elided front back room =
     ∙ ap₂ (λ k n. from_groups front * 0x10000 ^ k + n) long (zeros_front gap back)
 
 -- what fits behind so many groups
-pub elided_fits : (front back h t : ℕ) → front < 0x10000 ^ h → back < 0x10000 ^ t → h + t ≤ 8
-    → front * 0x10000 ^ (8 - h) + back < 2 ^ 128
-elided_fits front back h t low high room =
-    let up : 0x10000 ^ t ≤ 0x10000 ^ (8 - h) = pow-le-pow_right (lit≤ tt) (omega (arith, room)) in
-    let eight : 8 - h + h ≡ 8 = omega (arith, room) in
-    let all = sym (pow-add 0x10000 (8 - h) h) ∙ ap (λ k. 0x10000 ^ k) eight in
-    omega (arith, all, mul-add-lt front (0x10000 ^ (8 - h)) back (0x10000 ^ h) low (omega (arith, high, up)))
+pub elided_fits : (front back : Groups) → front.bits < 0x10000 ^ front.count → back.bits < 0x10000 ^ back.count
+    → front.count + back.count ≤ 8 → front.bits * 0x10000 ^ (8 - front.count) + back.bits < 2 ^ 128
+elided_fits front back low high room =
+    let up : 0x10000 ^ back.count ≤ 0x10000 ^ (8 - front.count) = pow-le-pow_right (lit≤ tt) (omega (arith, room)) in
+    let eight : 8 - front.count + front.count ≡ 8 = omega (arith, room) in
+    let all = sym (pow-add 0x10000 (8 - front.count) front.count) ∙ ap (λ k. 0x10000 ^ k) eight in
+    omega (arith, all, mul-add-lt front.bits (0x10000 ^ (8 - front.count)) back.bits (0x10000 ^ front.count) low (omega (arith, high, up)))
 
 -- one zero group more
 pub one_zero_more : (bits n : ℕ) → 0 < n → bits * 0x10000 * 0x10000 ^ (n - 1) ≡ bits * 0x10000 ^ n
 one_zero_more bits zero some = absurd (omega (arith, some))
 one_zero_more bits (suc m) some = grind (arith, mul_assoc, pow-succ')
 
-pub one_zero_fits : (bits n : ℕ) → 0 < n → bits * 0x10000 ^ n < 2 ^ 128 → bits * 0x10000 < 2 ^ 128
-one_zero_fits bits n some fits =
+pub power_less : (n : ℕ) → 0 < n → 0x10000 ≤ 0x10000 ^ n
+power_less n some =
     let up : 0x10000 ^ 1 ≤ 0x10000 ^ n = pow-le-pow_right (lit≤ tt) some in
-    omega (arith, mul-le-mul_left bits up, fits)
+    omega (arith, up)
 
 ipv4_if_some : (b : Bool) (text : List ℕ) (p : List ℕ × List ℕ) → read_ipv4_if b text ≡ Some p
     → (b ≡ true) × (read_ipv4 text ≡ Some p)
@@ -55,12 +55,6 @@ number_two xs g h = ap from_groups (sym (append_assoc xs (g ∷ []) (h ∷ [])))
 unseen : (r : Read (List ℕ)) → None ≡ option_map with_octets r → None ≡ r
 unseen r e = grind (arith, none-some)
 
--- one group more fits, and two
-pub one_fits : (bits count n v : ℕ) → count ≤ n → n ≤ 8 → count ≢ n → bits < 0x10000 ^ count → v < 0x10000
-    → bits * 0x10000 + v < 2 ^ 128
-one_fits bits count n v within most room small value =
-    omega (arith, below_power 0x10000 (lit< tt) count 8 bits v (omega arith) small value)
-
 two_more : (bits count low : ℕ) → bits < 0x10000 ^ count → low < 2 ^ 32
     → bits * 0x100000000 + low < 0x10000 ^ (count + 2)
 two_more bits count low small value =
@@ -69,15 +63,17 @@ two_more bits count low small value =
     let two = next_below 0x10000 (lit< tt) (count + 1) _ (low % 0x10000) one (omega arith) in
     omega (arith, rw place at two)
 
-pub two_fit : (bits count n low : ℕ) (text rest : List ℕ)
-    → Some (low, rest) ≡ option_map with_octets (read_ipv4_if (nat_lt (count + 1) n) text) → n ≤ 8
-    → bits < 0x10000 ^ count → low < 2 ^ 32 → bits * 0x100000000 + low < 2 ^ 128
-two_fit bits count n low text rest read most small value =
-    let (octets, is, _) = seen_some from_octets (read_ipv4_if (nat_lt (count + 1) n) text) low rest read in
-    let room = ltb-true _ _ (ipv4_if_some _ text (octets, rest) is).0 in
-    let few : count + 2 ≤ 8 = omega (arith, room, most) in
-    let power : 0x10000 ^ (count + 2) ≤ 0x10000 ^ 8 = pow-le-pow_right (lit≤ tt) few in
-    omega (arith, power, two_more bits count low small value)
+-- so one group more fits, and two
+pub one_fits : (groups : Groups) → groups.bits < 0x10000 ^ groups.count → groups.count < 8
+    → groups.bits * 0x10000 + 0xffff < 2 ^ 128
+one_fits groups small few =
+    omega (arith, below_power 0x10000 (lit< tt) groups.count 8 groups.bits 0xffff few small (lit< tt))
+
+pub two_fit : (groups : Groups) → groups.bits < 0x10000 ^ groups.count → groups.count + 2 ≤ 8
+    → groups.bits * 0x100000000 + 0xffffffff < 2 ^ 128
+two_fit groups small few =
+    let power : 0x10000 ^ (groups.count + 2) ≤ 0x10000 ^ 8 = pow-le-pow_right (lit≤ tt) few in
+    omega (arith, power, two_more groups.bits groups.count 0xffffffff small (lit< tt))
 
 -- ---- how far a reader of groups has come
 
@@ -168,46 +164,3 @@ module _ (n : ℕ) (text : List ℕ) (groups : Groups) (unclosed : groups.closed
               small = next_below 0x10000 (lit< tt) groups.count groups.bits group so_far.small small;
               within = omega (arith, so_far.within, room);
             })
-
--- ---- what std's reader finds, by the groups at the front of a text
-
--- what is behind two colons
-tail_none : (head text : List ℕ) → None ≡ option_and_then (read_byte 58) (read_byte 58 text)
-    → read_tail head text ≡ None
-tail_none head text e = grind (arith)
-
-tail_some : (head text two : List ℕ) → Some two ≡ option_and_then (read_byte 58) (read_byte 58 text)
-    → read_tail head text
-    ≡ Some (
-      head ++ replicate (8 - length head - length (read_segments (7 - length head) true two).0) 0
-          ++ (read_segments (7 - length head) true two).0,
-      (read_segments (7 - length head) true two).2,
-    )
-tail_some head text two e = grind (arith, none-some)
-
-module _ (text : List ℕ) (front : Groups) (read : parts front ≡ numbered (read_segments 8 true text)) where
-  -- eight groups
-  pub ipv6_full : front.count ≡ 8 → Some (front.bits, front.rest.now) ≡ option_map with_number (read_ipv6 text)
-  unfolding read_ipv6
-  ipv6_full eight = grind (arith)
-
-  -- fewer, with an IPv4 text at the end
-  pub ipv6_short : front.count ≢ 8 → front.closed ≡ true → None ≡ option_map with_number (read_ipv6 text)
-  unfolding read_ipv6
-  ipv6_short other ends = grind (arith)
-
-  -- fewer, with no two colons behind them
-  pub ipv6_no_colons : front.count ≢ 8 → front.closed ≡ false
-      → None ≡ option_and_then (read_byte 58) (read_byte 58 front.rest.now)
-      → None ≡ option_map with_number (read_ipv6 text)
-  unfolding read_ipv6
-  ipv6_no_colons other plain none = grind (arith, tail_none)
-
-  -- and with some
-  pub ipv6_colons : (two : List ℕ) (back : Groups) → front.count ≤ 8 → front.count ≢ 8 → front.closed ≡ false
-      → Some two ≡ option_and_then (read_byte 58) (read_byte 58 front.rest.now)
-      → parts back ≡ numbered (read_segments (7 - front.count) true two) → back.count ≤ 7 - front.count
-      → Some (front.bits * 0x10000 ^ (8 - front.count) + back.bits, back.rest.now)
-      ≡ option_map with_number (read_ipv6 text)
-  unfolding read_ipv6
-  ipv6_colons two back within other plain some behind room = grind (arith, number_elided, tail_some)

@@ -1,5 +1,5 @@
 -- What a buffer has after several writes, and what the digits of an octet are.
-use Rattle.rpki_addr.proofs.Common.{List, [], ap, append_assoc, arith, codes, decimal, drop, le-ltb, lt-ltb, refl, take, ℕ, ◌%◌, ◌++◌, ◌+◌, ◌/◌, ◌<◌, ◌∙◌, ◌∷◌, ◌≡◌, ◌≤◌, decimal_digit, decimal_step, groups_text, hex_groups_text, longest_zero_run, dotted}
+use Rattle.rpki_addr.proofs.Common.{length, get_or, sym, dotted_text, List, [], ap, arith, codes, decimal, drop, le-ltb, lt-ltb, refl, take, ℕ, ◌%◌, ◌++◌, ◌+◌, ◌/◌, ◌<◌, ◌∙◌, ◌∷◌, ◌≡◌, ◌≤◌, decimal_digit, decimal_step, groups_text, hex_groups_text, longest_zero_run, dotted}
 use Rattle.rpki_addr.proofs.AddressLemmas.{dotted_is}
 
 -- a number of two digits, and of three
@@ -13,10 +13,10 @@ decimal_three n low high =
     decimal_step n (omega (arith, low)) (omega (arith, high)) ∙ ap (λ t. t ++ (48 + n % 10) ∷ []) front
 
 -- four octets with a dot after each but the last
-pub dotted_at_end : (t₀ : List ℕ) {t₁ t₂ t₃ t₄ t₅ t₆ t₇ : List ℕ} (a b c d : ℕ) → t₁ ≡ t₀ ++ decimal a
-    → t₂ ≡ t₁ ++ 46 ∷ [] → t₃ ≡ t₂ ++ decimal b → t₄ ≡ t₃ ++ 46 ∷ [] → t₅ ≡ t₄ ++ decimal c → t₆ ≡ t₅ ++ 46 ∷ []
-    → t₇ ≡ t₆ ++ decimal d → t₇ ≡ t₀ ++ dotted (a ∷ b ∷ c ∷ d ∷ [])
-dotted_at_end t₀ a b c d e₁ e₂ e₃ e₄ e₅ e₆ e₇ = rw (e₇, e₆, e₅, e₄, e₃, e₂, e₁, ← dotted_is a b c d) (simp append_assoc)
+pub dotted_octets : (octets : List ℕ) → length octets ≡ 4
+    → dotted octets ≡ dotted_text (get_or octets 0 0) (get_or octets 1 0) (get_or octets 2 0) (get_or octets 3 0)
+dotted_octets (a ∷ b ∷ c ∷ d ∷ []) four = sym (dotted_is a b c d)
+dotted_octets octets four = absurd (omega (arith, four))
 
 -- the text of groups, by the length of their longest run of zeros
 pub hex_groups_plain : (groups : List ℕ) → (longest_zero_run groups).1 < 2 → hex_groups_text groups ≡ groups_text groups

@@ -103,6 +103,7 @@ impl Addr {
     }
 
     /// The least address with the same first `len` bits: the others are cleared. From 128 on it is the address itself.
+    #[tactic(auto, using(crate::proofs::Masks::least_by))]
     pub fn to_min(self, len: u8) -> Addr
         ensures { result ≡ cleared 128 self len }
     {
@@ -114,6 +115,7 @@ impl Addr {
     }
 
     /// The greatest address with the same first `len` bits: the others are set. From 128 on it is the address itself.
+    #[tactic(auto, using(crate::proofs::Masks::greatest_by, crate::proofs::Masks::greatest_fits))]
     pub fn to_max(self, len: u8) -> Addr
         ensures { result + 1 ≡ cleared 128 self len + 2 ^ (128 - len) }
     {

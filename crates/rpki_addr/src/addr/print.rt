@@ -66,6 +66,7 @@ pub fn put_octet(out: &mut [u8], at: usize, octet: u8) -> usize
 }
 
 /// Puts four octets in decimal with dots between them.
+#[tactic(auto, using(crate::proofs::PrintLemmas::dotted_octets, std::proofs::lemmas::Grind::common_steps))]
 pub(crate) fn put_ipv4(out: &mut [u8], at: usize, octets: [u8; 4]) -> usize
     requires { at + 15 ≤ length out.old }
     ensures text { take result out.new ≡ take at out.old ++ dotted octets }

@@ -24,6 +24,7 @@ fn decimal_at(text: &[u8], at: usize) -> u8
 
 /// Takes a decimal of 0 to 255 without leading zeros.
 #[inline(always)]
+#[tactic(auto, using(crate::proofs::AddressReading::octet_read))]
 fn take_octet(text: &[u8]) -> Option<(u8, &[u8])>
     ensures { Reader.read_view (λ n. n) result ≡ Reader.read_octet text.now }
 {
@@ -157,6 +158,7 @@ fn hex_at(text: &[u8], at: usize) -> u8
 
 /// Takes a group: one to four hexadecimal digits.
 #[inline(always)]
+#[tactic(auto, using(crate::proofs::AddressReading::group_read))]
 fn take_group(text: &[u8]) -> Option<(u16, &[u8])>
     ensures { Reader.read_view (λ n. n) result ≡ Reader.read_segment text.now }
 {
@@ -212,6 +214,7 @@ impl<'a> Groups<'a> {
 
     /// The groups and the next one, or the next two by an IPv4 text; None where none follows, or none has room.
     #[inline(always)]
+    #[tactic(auto, using(crate::proofs::GroupReading::one_fits, crate::proofs::GroupReading::two_fit))]
     fn longer(&self, room: usize) -> Option<Groups<'a>>
         requires within { self.now.count ≤ room }
         requires small { self.now.bits < 0x10000 ^ self.now.count }
@@ -279,6 +282,7 @@ fn behind_colons(text: &[u8]) -> Option<&[u8]>
 }
 
 /// The number of groups that so many zero groups follow.
+#[tactic(auto, using(crate::proofs::GroupReading::one_zero_more, crate::proofs::GroupReading::power_less))]
 fn with_zeros(bits: u128, count: usize) -> u128
     requires { bits * 0x10000 ^ count < 2 ^ 128 }
     ensures { result ≡ bits * 0x10000 ^ count }
@@ -293,6 +297,7 @@ fn with_zeros(bits: u128, count: usize) -> u128
 }
 
 /// Takes an IPv6 text, as the number of its address.
+#[tactic(auto, using(crate::proofs::GroupReading::number_elided, crate::proofs::GroupReading::elided_fits), unfolding(std::specs::Net::Reader::read_ipv6))]
 pub(super) fn take_ipv6(text: &[u8]) -> Option<(u128, &[u8])>
     ensures { Reader.read_view (λ n. n) result
         ≡ option_map with_number (Reader.read_ipv6 text.now) }

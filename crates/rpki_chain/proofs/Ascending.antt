@@ -1,12 +1,13 @@
 -- Blocks that strict cursors take one after another: they are a chain, and the octets are what is written of their set.
-use Rattle.rpki_chain.proofs.Common.{List, None, Option, Some, [], ap, arith, length, map, refl, subst, suc, sym, ℕ, ◌++◌, ◌+◌, ◌<◌, ◌^◌, ◌∙◌, ◌∷◌, ◌≡◌, ◌≤◌, All-cons, All-map, All-nil, All-tail, All, AllPairs, ⊤, IsSequenceFrom, Covers-nil, IsChain-nil, Covers-head, Covers, IsChain, IsNew, EachFrom, IsValue, Refines, Spells, Where, sequence_value, IsBlockChain, IsBlockSet, IsChoiceOf, ListsBy, MatchChoice, IsRunsOfBlocks, Runs, ResourcesChoice, Blocks, Inherit, Missing}
+use Rattle.rpki_chain.proofs.Common.{List, None, Option, Some, [], ap, arith, length, map, refl, subst, suc, sym, ℕ, ◌++◌, ◌+◌, ◌<◌, ◌^◌, ◌∙◌, ◌∷◌, ◌≡◌, ◌≤◌, All-cons, All-map, All-nil, All-tail, All, AllPairs, ⊤, IsSequenceFrom, Covers-nil, IsChain-nil, Covers, IsChain, IsNew, EachFrom, Refines, Spells, Where, sequence_value, IsBlockChain, IsBlockSet, IsChoiceOf, ListsBy, MatchChoice, IsRunsOfBlocks, Runs, ResourcesChoice, Blocks, Inherit, Missing}
 use Rattle.std.proofs.lemmas.List.Folds.{flat_map-map}
 use Rattle.std.proofs.lemmas.List.Kept.{AllPairs-cons}
 use Rattle.rpki_chains.specs.Beyond.{IsBeyond}
 use Rattle.rpki_der.proofs.Written.{value_is}
 use Rattle.rpki_base.specs.DerWriting.{octets_of_all, sequence_octets}
+use Rattle.rpki_chain.proofs.LawLemmas.{empty_set}
 use Rattle.rpki_chain.proofs.RunLists.{IsRunsOf-unique, IsRunsOfBlocks-bounds}
-use Rattle.rpki_chain.proofs.SetLemmas.{IsBlockSet-from_chain, blocks_made, made_of_set}
+use Rattle.rpki_chain.proofs.SetLemmas.{IsBlockSet-from_chain, made_again, made_of_set}
 
 -- what is beyond what is beyond
 beyond_more : (before : Option ℕ) (a b n : ℕ) → IsBeyond before a → a ≤ b → b + 1 < n → IsBeyond before n
@@ -20,8 +21,7 @@ listed_are items P read listed e is = grind arith
 
 -- the runs of no blocks
 pub no_numbers : {B : Type 0} (f : B → ℕ × ℕ) (set : Runs) → IsRunsOfBlocks f [] set → set ≡ []
-no_numbers f [] is = refl
-no_numbers f (b ∷ set) is = absurd (Covers-nil f b.0 ((is.members b.0).0 (Covers-head (λ c. c) b set b.0 (omega arith, is.ordered 0 b (omega arith)))))
+no_numbers f set is = empty_set (Covers f []) set is (Covers-nil f)
 
 -- what is written of a block that sets have; Fits says what else is known of its bounds
 pub record IsWritten {B : Type 0} (f : B → ℕ × ℕ) (form : ℕ × ℕ → B) (octets : B → List ℕ) (last : ℕ) (Fits : ℕ × ℕ → Type 0) (G : List ℕ → B → Type 0) : Type 0 where
@@ -82,18 +82,19 @@ module _ {B : Type 0} (f : B → ℕ × ℕ) (form : ℕ × ℕ → B) (octets :
   listed_chain bytes (Blocks xs) ((content, at, each), some) = taken_chain None content xs each
 
   -- what is written of runs is taken as their blocks
-  taken : (before : Option ℕ) (set : Runs) → All (λ b. b.0 ≤ b.1) set → All (λ b. b.1 ≤ last) set → All Fits set
+  taken : (before : Option ℕ) (set : Runs) → All (λ b. (b.0 ≤ b.1) × (b.1 ≤ last) × Fits b) set
       → AllPairs (λ b c. b.1 + 1 < c.0) set → All (λ b. IsBeyond before b.0) set
       → EachFrom Next Behind before (octets_of_all (λ b. octets (form b)) set) (map form set)
-  taken before [] ordered below fit apart beyond = refl
-  taken before (b ∷ set) ordered below fit apart beyond =
-      let in_order = ordered 0 b (omega arith) in
-      let to = below 0 b (omega arith) in
+  taken before [] each apart beyond = refl
+  taken before (b ∷ set) each apart beyond =
+      let (in_order, to, fits) = each 0 b (omega arith) in
       let same : f (form b) ≡ b = is.form_bounds b in_order to in
-      let first : IsBeyond before (f (form b)).0 = subst (λ (c : ℕ × ℕ). IsBeyond before c.0) (sym same) (beyond 0 b (omega arith)) in
-      let then = taken (Some b.1) set (All-tail (λ (c : ℕ × ℕ). c.0 ≤ c.1) b set ordered) (All-tail (λ (c : ℕ × ℕ). c.1 ≤ last) b set below) (All-tail Fits b set fit) (λ i j d lt within. apart (suc i) (suc j) d (omega arith) (omega arith)) (λ k d small. apart 0 (suc k) d (omega arith) (omega arith)) in
+      let first : IsBeyond before (f (form b)).0 = rw same (beyond 0 b (omega arith)) in
+      let then = taken (Some b.1) set (All-tail (λ (c : ℕ × ℕ). (c.0 ≤ c.1) × (c.1 ≤ last) × Fits c) b set each)
+      (λ i j d lt within. apart (suc i) (suc j) d (omega arith) (omega arith))
+      (λ k d small. apart 0 (suc k) d (omega arith) (omega arith)) in
       let octets_then = octets_of_all (λ c. octets (form c)) set in
-      (octets_then, (octets (form b), (is.written b in_order to (fit 0 b (omega arith)), first), refl), subst (λ (c : ℕ × ℕ). EachFrom Next Behind (Some c.1) octets_then (map form set)) (sym same) then)
+      (octets_then, (octets (form b), (is.written b in_order to fits, first), refl), rw same then)
 
   -- a set whose runs fit
   abbrev pub IsFitting : Runs → Type 0
@@ -109,7 +110,7 @@ module _ {B : Type 0} (f : B → ℕ × ℕ) (form : ℕ × ℕ → B) (octets :
       let own : IsBlockSet 0 last runs = IsBlockSet-from_chain f form 0 last xs are.chain in
       let covered : IsRunsOfBlocks f xs runs = IsRunsOfBlocks-bounds f xs runs refl own.are_runs in
       let same : runs ≡ set = IsRunsOf-unique (Covers f xs) runs set covered says in
-      let made : map form runs ≡ xs = blocks_made f form xs are.chain.chain.new_form in
+      let made : map form runs ≡ xs = made_again f form xs are.chain.chain.new_form in
       let written : octets_of_all octets xs ≡ octets_of_all (λ b. octets (form b)) runs = ap (octets_of_all octets) (sym made) ∙ flat_map-map octets form runs in
       let whole : content ≡ octets_of_all (λ b. octets (form b)) set = are.spelled ∙ written ∙ ap (octets_of_all (λ b. octets (form b))) same in
       (subst IsFitting same (own, All-map Fits f xs are.fit), at.spelled ∙ ap sequence_value whole)
@@ -119,8 +120,10 @@ module _ {B : Type 0} (f : B → ℕ × ℕ) (form : ℕ × ℕ → B) (octets :
       → Spells IsFitting (sequence_octets (λ b. octets (form b))) bytes set
       → Refines (IsSequenceFrom Next Behind None) (IsRunsOfBlocks f) bytes set
   spelled_set bytes set short ((own, fit), spelled) =
-      let content = octets_of_all (λ b. octets (form b)) set in (
+      let content = octets_of_all (λ b. octets (form b)) set in
+      let each : All (λ b. (b.0 ≤ b.1) × (b.1 ≤ last) × Fits b) set = λ k d lt.
+      (own.are_runs.ordered k d lt, own.below k d lt, fit k d lt) in (
         map form set,
-        (content, subst (λ (t : List ℕ). IsValue t 48 content) (sym spelled) (value_is 48 content (omega arith) short), taken None set own.are_runs.ordered own.below fit own.are_runs.apart (λ k d small. tt)),
+        (content, rw spelled (value_is 48 content (omega arith) short), taken None set each own.are_runs.apart (λ k d lt. tt)),
         made_of_set f form 0 last (λ b from. is.form_bounds b) set own,
       )

@@ -89,7 +89,7 @@ module _ {B : Type 0} {f : B → ℕ × ℕ} {form : ℕ × ℕ → B} {octets :
       has_numbers f (x ∷ xs) x set refl (is.written.ordered front x w) says
 
   some_blocks : (xs : List B) (set : Runs) → IsRunsOfBlocks f xs set → set ≢ [] → xs ≢ []
-  some_blocks xs set says some none = some (no_numbers f set (subst (λ (t : List B). IsRunsOfBlocks f t set) none says))
+  some_blocks xs set says some none = some (no_numbers f set (rw none at says))
 
   choice_spelled : (bytes : List ℕ) (choice : ResourcesChoice (List B)) (claim : Claim)
       → IsChoiceOf (IsSequenceFrom Next Behind None) bytes choice → ListsBy (IsRunsOfBlocks f) choice claim

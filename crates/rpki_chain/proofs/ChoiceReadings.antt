@@ -1,5 +1,5 @@
 -- The reading of resources finds what the grammar says, and nothing else.
-use Rattle.rpki_chain.proofs.Common.{Bool, List, Ok, Result, Some, [], ap, arith, get_or, inl, inr, refl, slice_get, subst, sym, true, ℕ, ◌∷◌, ◌≡◌, ◌≢◌, ◌≤◌, SaysByTag, Covers-nil, Covers-head, IsBytes, IsNothing, IsSequence, IsTlv, IsValue, Refines, IsModal, IsReading, Tightens, nothing, value_at, DerError, IsChoiceOf, choice_at, choice_in, inherited_in, listed_in, some_in, some_of, IsRunsOfBlocks, Runs, ResourcesChoice, Blocks, Inherit, Missing}
+use Rattle.rpki_chain.proofs.Common.{Bool, List, Ok, Result, Some, [], ap, arith, get_or, inl, inr, refl, slice_get, sym, true, ℕ, ◌∷◌, ◌≡◌, ◌≢◌, ◌≤◌, SaysByTag, Covers-nil, Covers-head, IsBytes, IsNothing, IsSequence, IsTlv, Refines, IsModal, IsReading, Tightens, nothing, value_at, DerError, IsChoiceOf, choice_at, choice_in, inherited_in, listed_in, some_in, some_of, IsRunsOfBlocks, Runs, ResourcesChoice, Blocks, Inherit, Missing}
 use Rattle.rpki_der.proofs.Contents.{nothing_check}
 use Rattle.rpki_der.proofs.Modes.{bind_tightens, looked_tightens}
 use Rattle.rpki_der.proofs.Readings.{same_reading}
@@ -50,10 +50,7 @@ module _ {X : Type 0} (Says : List ℕ → List X → Type 0) (values : List ℕ
   to : (bytes : List ℕ) (choice : ResourcesChoice (List X)) → IsBytes bytes
       → Refines IsTlv (SaysByTag 5 SaysInherit SaysListed) bytes choice → IsChoiceOf Sequences bytes choice
   unfolding Sequences SaysInherit SaysListed SaysSome
-  to bytes choice fits (v, is, inl (t, (u, none, e))) =
-      subst (IsChoiceOf Sequences bytes) (sym e) (subst (λ (content : List ℕ). IsValue bytes 5 content) none (subst (λ (tag : ℕ). IsValue bytes tag v.content) t is))
-  to bytes choice fits (v, is, inr (t, (xs, (says, some), e))) =
-      subst (IsChoiceOf Sequences bytes) (sym e) ((v.content, subst (λ (tag : ℕ). IsValue bytes tag v.content) t is, says), some)
+  to bytes choice fits found = grind arith
 
   from : (bytes : List ℕ) (choice : ResourcesChoice (List X)) → IsChoiceOf Sequences bytes choice
       → Refines IsTlv (SaysByTag 5 SaysInherit SaysListed) bytes choice

@@ -1,5 +1,5 @@
 -- What the proofs of this crate use of std, of the crates below and of its own definitions, passed on by one name.
-pub use Rattle.std.proofs.Common.{Bool, IfOk, List, None, Ok, Option, Result, Some, [], ap, arith, get_or, inl, inr, length, map, option_map, refl, rules, slice_get, subst, suc, sym, take, true, vec_len, zero, ℕ, ⊎_elim, ◌++◌, ◌+◌, ◌-◌, ◌<◌, ◌^◌, ◌↔◌, ◌∙◌, ◌∷◌, ◌≡◌, ◌≢◌, ◌≤◌, ◌⊎◌}
+pub use Rattle.std.proofs.Common.{Bool, IfOk, List, None, Ok, Option, Result, Some, [], ap, arith, get_or, inl, inr, length, map, option_map, refl, rules, slice_get, subst, suc, sym, take, true, vec_len, ℕ, ⊎_elim, ◌++◌, ◌+◌, ◌-◌, ◌<◌, ◌^◌, ◌↔◌, ◌∙◌, ◌∷◌, ◌≡◌, ◌≢◌, ◌≤◌, ◌⊎◌}
 pub use Rattle.std.proofs.Math.Nat.{le_refl}
 pub use Rattle.std.proofs.lemmas.Bool.{cases_lt, false≢true}
 pub use Rattle.std.proofs.lemmas.List.{append_assoc, get_or-map, get_or-take, get_or_default, length-map, length-take-le, map-append, take_all}
@@ -9,7 +9,7 @@ pub use Rattle.std.specs.Bool.{Decides}
 pub use Rattle.std.specs.Prelude.{All, AllPairs, Contains, Err, IfErr, IsErrAnd, IsOk, MatchResult, ⊤}
 pub use Rattle.rpki_base.specs.DerReading.{IsSequenceFrom, SaysByTag}
 unfoldable pub use Rattle.rpki_base.specs.DerReading.{by_tag}
-pub use Rattle.rpki_chains.proofs.Chains.{Covers-nil, IsChain-from, IsChain-nil, IsChainOf-from, IsChainOf-itself}
+pub use Rattle.rpki_chains.proofs.Chains.{Covers-nil, IsChain-from, IsChain-nil, IsChainOf-itself}
 pub use Rattle.rpki_chains.proofs.Unique.{Covers-cons_cases, Covers-head, Covers-tail, IsChain-unique}
 pub use Rattle.rpki_chains.specs.Equality.{is_same_pair, same_runs}
 pub use Rattle.rpki_chains.specs.Sets.{Covers, IsChain, IsChainOf, IsInside, IsNew, IsWithin}
@@ -23,7 +23,7 @@ pub use Rattle.rpki_text.specs.declared.memory.OrMemory.TheVariants.{Memory, Ref
 pub use Rattle.rpki_chain.specs.BlockSets.{IsBlockChain, IsBlockSet}
 pub use Rattle.rpki_chain.specs.ChoiceDer.{IsChoiceOf, choice_at, choice_in, inherited_in, listed_in, some_in, some_of}
 pub use Rattle.rpki_chain.specs.Choices.{ListsBy, MatchChoice}
-pub use Rattle.rpki_chain.specs.Claims.{Claim, blocks_so_far, claim_by}
+pub use Rattle.rpki_chain.specs.Claims.{Claim, blocks_so_far}
 pub use Rattle.rpki_chain.specs.Operations.{IsDifference, IsIntersection}
 pub use Rattle.rpki_chain.specs.Paths.{Exceeds, ExceedsAt, IsCovered, IsExcess, IsFirstRefusal, IsIssued, IsLeft, IsPathResult, IsUncovered, Leaves, Lists, one_step}
 pub use Rattle.rpki_chain.specs.Runs.{Holds, IsRunsOf, IsRunsOfBlocks, Runs}

@@ -1,6 +1,6 @@
 -- Sets with the same numbers are one list of runs, and a set that has a number is not empty.
-use Rattle.rpki_chain.proofs.Common.{[], arith, refl, ℕ, ◌↔◌, ◌∷◌, ◌≡◌, All-head, Covers-head, IsRunsOf, Runs}
-use Rattle.rpki_chain.proofs.RunLists.{IsRunsOf-same, IsRunsOf-unique}
+use Rattle.rpki_chain.proofs.Common.{[], arith, refl, ℕ, ◌↔◌, ◌∷◌, ◌≡◌, All-head, Covers-nil, Covers-head, IsDifference, Holds, IsRunsOf, Runs}
+use Rattle.rpki_chain.proofs.RunLists.{Holds-decided, IsRunsOf-same, IsRunsOf-unique}
 
 -- sets with the same numbers are one
 pub one_set : (S U : ℕ → Type 0) (a b : Runs) → IsRunsOf S a → IsRunsOf U b → ((n : ℕ) → S n ↔ U n) → a ≡ b
@@ -11,3 +11,10 @@ pub empty_set : (S : ℕ → Type 0) (a : Runs) → IsRunsOf S a → ((n : ℕ) 
 empty_set S [] h none = refl
 empty_set S (b ∷ runs) h none =
     absurd (grind (arith, All-head, Covers-head (λ x. x) b runs b.0, (h.members b.0).0, none b.0))
+
+-- where nothing is left of a difference, the one set lies in the other, and where it does, nothing is left
+pub inside_where_none : (a b rest : Runs) → IsDifference a b rest → (rest ≡ []) ↔ ((n : ℕ) → Holds a n → Holds b n)
+inside_where_none a b rest h = (
+  λ none n held. grind (arith, Holds-decided b n, Covers-nil (λ x. x) n, (h.members n).1),
+  λ inside. empty_set _ rest h (λ n (held, outside). outside (inside n held)),
+)

@@ -1,5 +1,5 @@
 -- A path of one step, and what holds of what a path leaves.
-use Rattle.rpki_chain.proofs.Common.{List, [], arith, get_or, inl, inr, length, subst, suc, sym, take, zero, ℕ, ⊎_elim, ◌<◌, ◌↔◌, ◌∷◌, ◌≡◌, ◌⊎◌, get_or_default, All-cons, All-contains, All-contains_itself, All-head, All-nil, All-tail, All-weaker, Contains, Claim, Exceeds, ExceedsAt, IsExcess, IsFirstRefusal, IsIssued, IsLeft, IsPathResult, Leaves, Lists, one_step, Holds, Runs, Overclaim, Refuse, Trim, Step}
+use Rattle.rpki_chain.proofs.Common.{List, [], arith, get_or, inl, inr, length, subst, take, ℕ, ⊎_elim, ◌<◌, ◌↔◌, ◌∷◌, ◌≡◌, ◌⊎◌, get_or_default, All-cons, All-contains, All-contains_itself, All-head, All-nil, All-tail, All-weaker, Contains, Claim, Exceeds, ExceedsAt, IsExcess, IsFirstRefusal, IsIssued, IsLeft, IsPathResult, Leaves, Lists, one_step, Holds, Runs, Overclaim, Refuse, Trim, Step}
 use Rattle.std.specs.List.{All}
 use Rattle.rpki_chain.proofs.Covered.{Leaves-decided}
 use Rattle.rpki_chain.proofs.LawLemmas.{one_set}
@@ -7,16 +7,12 @@ use Rattle.rpki_chain.proofs.PathSteps.{Exceeds-same, ExceedsAt-step}
 use Rattle.rpki_chain.proofs.RunLists.{Holds-decided, IsRunsOf-same}
 
 module _ (S : ℕ → Type 0) (claim : Claim) (mode : Overclaim) where
-  all_one : (n : ℕ) → Leaves claim n → All (λ (s : Step Claim). Leaves s.claim n) (one_step claim mode)
-  all_one n leaves zero d lt = leaves
-  all_one n leaves (suc k) d lt = absurd (omega arith)
-
   exceeds_first : (n : ℕ) → Exceeds S claim mode n ↔ ExceedsAt (λ c. c) S (one_step claim mode) 0 n
   exceeds_first n = grind (arith, Exceeds-same, ExceedsAt-step)
 
   left_by_one : (n : ℕ) → (S n × Leaves claim n) ↔ IsLeft (λ c. c) S (one_step claim mode) n
   left_by_one n = (
-    λ (s, leaves). (s, all_one n leaves),
+    λ (s, leaves). (s, All-cons (λ (step : Step Claim). Leaves step.claim n) _ [] leaves (All-nil _)),
     λ (s, all). (s, all 0 (record { claim = claim; mode = mode }) (omega arith)),
   )
 
@@ -53,10 +49,8 @@ module _ (S : ℕ → Type 0) (claim : Claim) (mode : Overclaim) where
 -- what is trimmed once lies in the claim
 pub trimmed_twice : (root once twice : Runs) (claim : Claim) → IsIssued (Holds root) claim Trim once
     → IsIssued (Holds once) claim Trim twice → twice ≡ once
-trimmed_twice root once twice claim h k = one_set _ _ twice once k.runs h.runs (λ n. (
-  λ (held, leaves). (h.runs.members n).0 held,
-  λ (held, leaves). ((h.runs.members n).1 (held, leaves), leaves),
-))
+trimmed_twice root once twice claim h k =
+    one_set _ _ twice once k.runs h.runs (λ n. grind (arith, h.runs.members n))
 
 module _ {X : Type 0} (P : X → Type 0) (decide : (x : X) → P x ⊎ (P x → ⊥)) where
   -- whether something holds of each element is decided
@@ -81,26 +75,17 @@ IsLeft-decided root steps n =
           (λ s. Leaves-decided s.claim n) steps,
     )
 
-exceeds_refused : (S : ℕ → Type 0) (claim : Claim) (mode : Overclaim) (n : ℕ) → mode ≡ Refuse → Lists claim n
-    → (S n → ⊥) → Exceeds S claim mode n
-exceeds_refused S claim mode n refuse listed outside = subst (λ (m : Overclaim). Exceeds S claim m n) (sym refuse) (listed, outside)
-
-exceeds_trimmed : (S : ℕ → Type 0) (claim : Claim) (mode : Overclaim) (n : ℕ) → mode ≡ Trim → Exceeds S claim mode n → ⊥
-exceeds_trimmed S claim mode n trim e = subst (λ (m : Overclaim). Exceeds S claim m n) trim e
-
 -- what is accepted in mode Refuse lies in what the steps before it leave
 pub inside_issuer : (root set : Runs) (steps : List (Step Claim)) (at : ℕ) (step : Step Claim)
     → IsPathResult (λ c. c) (Holds root) steps set → at < length steps → get_or steps at step ≡ step
     → step.mode ≡ Refuse → (n : ℕ) → Lists step.claim n → IsLeft (λ c. c) (Holds root) (take at steps) n
-inside_issuer root set steps at step h lt is refuse n listed = ⊎_elim
-    (λ (left : IsLeft (λ c. c) (Holds root) (take at steps) n). left)
-    (λ outside. absurd (h.accepted at n (step, lt, is, exceeds_refused (IsLeft (λ c. c) (Holds root) (take at steps)) step.claim step.mode n refuse listed outside)))
-    (IsLeft-decided root (take at steps) n)
+inside_issuer root set steps at step h lt is refuse n listed =
+    grind (arith, IsLeft-decided root (take at steps) n, h.accepted at n)
 
 -- no step in mode Trim is refused
 pub not_trimmed : (root : Runs) (steps : List (Step Claim)) (at n : ℕ) (step : Step Claim) → get_or steps at step ≡ step
     → step.mode ≡ Trim → ExceedsAt (λ c. c) (Holds root) steps at n → ⊥
-not_trimmed root steps at n step there trim e = grind (arith, exceeds_trimmed, get_or_default)
+not_trimmed root steps at n step there trim e = grind (arith, get_or_default)
 
 -- what holds of each element of a list holds of those of a list with the same elements
 all_alike : {X : Type 0} (P : X → Type 0) (xs ys : List X) → ((x : X) → Contains ys x → Contains xs x) → All P xs

@@ -1,16 +1,12 @@
 -- Runs of sets: those of a chain, and that a set has one list of them.
-use Rattle.rpki_chain.proofs.Common.{List, [], ap, arith, get_or, inl, inr, length, map, refl, subst, suc, sym, take, ℕ, ⊎_elim, ◌++◌, ◌+◌, ◌<◌, ◌↔◌, ◌∙◌, ◌∷◌, ◌≡◌, ◌≤◌, ◌⊎◌, cases_lt, append_assoc, get_or-map, length-map, map-append, All-map, Covers-nil, IsChain-from, IsChainOf-from, Covers-cons_cases, Covers-head, Covers-tail, IsChain-unique, Covers, IsChain, IsChainOf, IsWithin, Holds, IsRunsOf, IsRunsOfBlocks, Runs}
-use Rattle.std.proofs.Math.Seq.{take-suc}
+use Rattle.rpki_chain.proofs.Common.{List, [], arith, get_or, inl, inr, length, map, refl, sym, take, ℕ, ⊎_elim, ◌++◌, ◌+◌, ◌<◌, ◌↔◌, ◌∷◌, ◌≡◌, ◌≤◌, ◌⊎◌, cases_lt, append_assoc, get_or-map, length-map, map-append, All-map, Covers-nil, IsChain-from, IsChainOf-itself, Covers-cons_cases, Covers-head, Covers-tail, IsChain-unique, Covers, IsChain, IsChainOf, IsWithin, Holds, IsRunsOf, IsRunsOfBlocks, Runs}
+use Rattle.std.proofs.lemmas.List.{map-id, map_more}
+use Rattle.rpki_chains.proofs.Chains.{element_at}
 use Rattle.rpki_chains.proofs.Sorts.{Covers-map}
 
 -- whether a number lies within bounds is decided
 is_decided : (b : ℕ × ℕ) (n : ℕ) → IsWithin b n ⊎ (IsWithin b n → ⊥)
 is_decided b n = grind (arith, cases_lt)
-
--- a map that changes nothing
-map-itself : (xs : Runs) → map (λ b. b) xs ≡ xs
-map-itself [] = refl
-map-itself (x ∷ xs) = ap (λ zs. x ∷ zs) (map-itself xs)
 
 module _ {B : Type 0} (f : B → ℕ × ℕ) where
   -- whether a list covers a number is decided
@@ -29,8 +25,8 @@ module _ {B : Type 0} (f : B → ℕ × ℕ) where
   -- the bounds of blocks hold what the blocks cover
   pub Holds-map : (xs : List B) (n : ℕ) → Holds (map f xs) n ↔ Covers f xs n
   Holds-map xs n = (
-    Covers-map (λ b. b) f (map f xs) xs n (map-itself (map f xs)),
-    Covers-map f (λ b. b) xs (map f xs) n (sym (map-itself (map f xs))),
+    Covers-map (λ b. b) f (map f xs) xs n (map-id (map f xs)),
+    Covers-map f (λ b. b) xs (map f xs) n (sym (map-id (map f xs))),
   )
 
   module _ (form : ℕ × ℕ → B) where
@@ -43,15 +39,10 @@ module _ {B : Type 0} (f : B → ℕ × ℕ) where
           ordered = All-map (λ b. b.0 ≤ b.1) f xs chain.ordered;
           apart = λ i j b below lt.
               let long = length-map xs f in
-              let d = block_at xs j (omega arith) in
-              let here : get_or (map f xs) i b ≡ f (get_or xs i d) = get_or-map f xs i d b (omega arith) in
-              let there : get_or (map f xs) j b ≡ f (get_or xs j d) = get_or-map f xs j d b (omega arith) in
-              rw (here, there) (chain.apart i j d below (omega arith));
+              let (d, is) = element_at xs j (omega arith) in
+              rw (get_or-map f xs i d b (omega arith), get_or-map f xs j d b (omega arith))
+              (chain.apart i j d below (omega arith));
         }
-      where
-        block_at : (ys : List B) (k : ℕ) → k < length ys → B
-        block_at [] k lt = absurd (omega arith)
-        block_at (y ∷ ys) k lt = y
 
 -- the runs of a set are those of any set with the same numbers
 pub IsRunsOf-same : (xs : Runs) (S U : ℕ → Type 0) → ((n : ℕ) → S n ↔ U n) → IsRunsOf S xs → IsRunsOf U xs
@@ -70,42 +61,36 @@ IsRunsOf-unique S xs ys hx hy =
 -- blocks whose bounds are the runs of a set cover that set
 pub IsRunsOfBlocks-bounds : {B : Type 0} (f : B → ℕ × ℕ) (xs : List B) (set : Runs) → map f xs ≡ set
     → IsRunsOf (Holds set) set → IsRunsOfBlocks f xs set
-IsRunsOfBlocks-bounds f xs set same = IsRunsOf-same set (Holds set) (Covers f xs) (λ n. (
-  λ h. (Holds-map f xs n).0 (subst (λ runs. Holds runs n) (sym same) h),
-  λ c. subst (λ runs. Holds runs n) same ((Holds-map f xs n).1 c),
-))
+IsRunsOfBlocks-bounds f xs set same = IsRunsOf-same set (Holds set) (Covers f xs) (λ n. rw (← same) (Holds-map f xs n))
 
 -- the bounds of a chain's blocks are the runs of what they hold
-pub IsRunsOf-itself : {B : Type 0} (f : B → ℕ × ℕ) (form : ℕ × ℕ → B) (xs ys : List B) → IsChain f form xs → xs ≡ ys
-    → IsRunsOf (Holds (map f ys)) (map f xs)
-IsRunsOf-itself {B} f form xs ys h same =
-    let runs = IsRunsOf-from_chain f form (Covers f xs) xs (IsChainOf-from f form xs (Covers f xs) h (λ n. (λ c. c, λ c. c))) in
-    subst (λ (zs : List B). IsRunsOf (Holds (map f zs)) (map f xs)) same (IsRunsOf-same (map f xs) _ _ (λ n. ((Holds-map f xs n).1, (Holds-map f xs n).0)) runs)
+pub IsRunsOf-itself : {B : Type 0} (f : B → ℕ × ℕ) (form : ℕ × ℕ → B) (xs : List B) → IsChain f form xs
+    → IsRunsOf (Holds (map f xs)) (map f xs)
+IsRunsOf-itself f form xs h =
+    IsRunsOf-same (map f xs) _ _ (λ n. grind (arith, Holds-map f xs n))
+    (IsRunsOf-from_chain f form _ xs (IsChainOf-itself f form xs h))
 
 module _ {B : Type 0} (f : B → ℕ × ℕ) (form : ℕ × ℕ → B) (xs some others : List B) where
   -- the runs of what two chains have in common
   pub IsRunsOf-intersection : IsChainOf f form (λ n. Covers f some n × Covers f others n) xs
       → IsRunsOf (λ n. Holds (map f some) n × Holds (map f others) n) (map f xs)
-  IsRunsOf-intersection h = IsRunsOf-same (map f xs) _ _ (λ n. (
-    λ (a, b). ((Holds-map f some n).1 a, (Holds-map f others n).1 b),
-    λ (a, b). ((Holds-map f some n).0 a, (Holds-map f others n).0 b),
-  )) (IsRunsOf-from_chain f form _ xs h)
+  IsRunsOf-intersection h =
+      IsRunsOf-same (map f xs) _ _ (λ n. grind (arith, Holds-map f some n, Holds-map f others n))
+      (IsRunsOf-from_chain f form _ xs h)
 
   -- the runs of what one chain has and the other has not
   pub IsRunsOf-difference : IsChainOf f form (λ n. Covers f some n × (Covers f others n → ⊥)) xs
       → IsRunsOf (λ n. Holds (map f some) n × (Holds (map f others) n → ⊥)) (map f xs)
-  IsRunsOf-difference h = IsRunsOf-same (map f xs) _ _ (λ n. (
-    λ (a, b). ((Holds-map f some n).1 a, λ c. b ((Holds-map f others n).0 c)),
-    λ (a, b). ((Holds-map f some n).0 a, λ c. b ((Holds-map f others n).1 c)),
-  )) (IsRunsOf-from_chain f form _ xs h)
+  IsRunsOf-difference h =
+      IsRunsOf-same (map f xs) _ _ (λ n. grind (arith, Holds-map f some n, Holds-map f others n))
+      (IsRunsOf-from_chain f form _ xs h)
 
   -- the runs of what one chain or the other has
   pub IsRunsOf-union : IsChainOf f form (λ n. Covers f some n ⊎ Covers f others n) xs
       → IsRunsOf (λ n. Holds (map f some) n ⊎ Holds (map f others) n) (map f xs)
-  IsRunsOf-union h = IsRunsOf-same (map f xs) _ _ (λ n. (
-    ⊎_elim (λ a. inl ((Holds-map f some n).1 a)) (λ b. inr ((Holds-map f others n).1 b)),
-    ⊎_elim (λ a. inl ((Holds-map f some n).0 a)) (λ b. inr ((Holds-map f others n).0 b)),
-  )) (IsRunsOf-from_chain f form _ xs h)
+  IsRunsOf-union h =
+      IsRunsOf-same (map f xs) _ _ (λ n. grind (arith, Holds-map f some n, Holds-map f others n))
+      (IsRunsOf-from_chain f form _ xs h)
 
 -- the runs of one set or another are those of the other or the one
 pub IsRunsOf-swap : (S U : ℕ → Type 0) (xs : Runs) → IsRunsOf (λ n. S n ⊎ U n) xs → IsRunsOf (λ n. U n ⊎ S n) xs
@@ -118,7 +103,7 @@ Holds-decided = Covers-decided (λ b. b)
 -- lists of runs that hold the same numbers are the same
 pub same_numbers : (a b : Runs) → IsRunsOf (Holds a) a → IsRunsOf (Holds b) b → ((n : ℕ) → Holds a n ↔ Holds b n)
     → a ≡ b
-same_numbers a b ha hb same = IsRunsOf-unique (Holds a) a b ha (IsRunsOf-same b (Holds b) (Holds a) (λ n. ((same n).1, (same n).0)) hb)
+same_numbers a b ha hb same = IsRunsOf-unique (Holds b) a b (IsRunsOf-same a (Holds a) (Holds b) same ha) hb
 
 -- ---- what a builder has
 
@@ -127,7 +112,5 @@ pub added_next : {T : Type 0} (f : T → ℕ × ℕ) (before : Runs) (made block
     → map f made ≡ before ++ map f (take i blocks) → i < length blocks → next ≡ get_or blocks i next → f new ≡ f next
     → map f (made ++ new ∷ []) ≡ before ++ map f (take (i + 1) blocks)
 added_next f before made blocks i next new added lt is same =
-    let one : i + 1 ≡ suc i = omega arith in
-    map-append f made (new ∷ []) ∙ ap (λ xs. xs ++ f new ∷ []) added ∙ append_assoc before (map f (take i blocks)) (f new ∷ [])
-    ∙ ap (λ x. before ++ (map f (take i blocks) ++ x ∷ [])) (same ∙ ap f is)
-    ∙ ap (λ xs. before ++ xs) (sym (ap (map f) (ap (λ k. take k blocks) one ∙ take-suc blocks i next lt) ∙ map-append f (take i blocks) (get_or blocks i next ∷ [])))
+    rw (map-append f made (new ∷ []), added, map_more f blocks i next lt, same, ← is)
+    (append_assoc before (map f (take i blocks)) (f next ∷ []))

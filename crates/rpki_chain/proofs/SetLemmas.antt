@@ -1,5 +1,5 @@
 -- Chains of blocks, and the sets that they are.
-use Rattle.rpki_chain.proofs.Common.{IfOk, IsOk, List, Result, [], ap, arith, get_or, inl, length, map, refl, subst, sym, ℕ, ⊎_elim, ◌-◌, ◌<◌, ◌↔◌, ◌∷◌, ◌≡◌, ◌≤◌, ◌⊎◌, All-head, All-map, All-tail, IfOk-weaker, Decides, All, Covers-nil, is_same_pair, same_runs, Covers, IsChain, IsInside, IsNew, IsBlockChain, IsBlockSet, Holds, IsRunsOf, IsRunsOfBlocks, Runs}
+use Rattle.rpki_chain.proofs.Common.{IfOk, IsOk, List, Result, [], arith, get_or, length, map, refl, sym, ℕ, ◌-◌, ◌<◌, ◌↔◌, ◌∷◌, ◌≡◌, ◌≤◌, ◌⊎◌, All-head, All-map, All-tail, Decides, All, Covers-nil, is_same_pair, same_runs, Covers, IsChain, IsInside, IsBlockChain, IsBlockSet, Holds, IsRunsOf, IsRunsOfBlocks, Runs}
 use Rattle.std.specs.Cmp.Lexicographic.{pointwise_decides}
 use Rattle.std.proofs.lemmas.Grind.{common_steps}
 use Rattle.rpki_chains.specs.Overhang.{IsOverhang}
@@ -9,18 +9,19 @@ use Rattle.rpki_chain.proofs.RunLists.{IsRunsOf-itself, IsRunsOf-same, IsRunsOfB
 
 -- whether two sets are the same is what the comparison of their bounds tells
 pub same_runs_decides : (a b : Runs) → Decides (same_runs a b) (a ≡ b)
-same_runs_decides a b = pointwise_decides {E = is_same_pair} is_same_pair_decides a b
-  where
-    is_same_pair_decides : (a b : ℕ × ℕ) → Decides (is_same_pair a b) (a ≡ b)
-    is_same_pair_decides a b = (
-      λ t. (let low : a.0 ≡ b.0 = grind (arith, common_steps) in let high : a.1 ≡ b.1 = grind (arith, common_steps) in λ i. (low i, high i)),
-      λ e. (let low = ap (λ (p : ℕ × ℕ). p.0) e in let high = ap (λ (p : ℕ × ℕ). p.1) e in grind (arith, common_steps)),
-    )
+same_runs_decides a b = pointwise_decides {E = is_same_pair} (λ p q. grind (arith, common_steps)) a b
+
+-- what is made again of what each is seen as is the same
+pub made_again : {X Y : Type 0} (see : X → Y) (make : Y → X) (xs : List X) → All (λ x. x ≡ make (see x)) xs
+    → map make (map see xs) ≡ xs
+made_again see make [] same = refl
+made_again see make (x ∷ xs) same =
+    grind (arith, All-head, All-tail, made_again see make xs (All-tail (λ y. y ≡ make (see y)) x xs same))
 
 module _ {B : Type 0} (f : B → ℕ × ℕ) where
   -- a chain covers a number exactly where its set holds it
   pub held_by_set : (P : Type 0) (blocks : List B) (n : ℕ) → P ↔ Covers f blocks n → P ↔ Holds (map f blocks) n
-  held_by_set P blocks n h = (λ p. (Holds-map f blocks n).1 (h.0 p), λ held. h.1 ((Holds-map f blocks n).0 held))
+  held_by_set P blocks n h = grind (arith, Holds-map f blocks n)
 
   -- and each of some numbers, or one of them
   pub all_held_by_set : (P : Type 0) (S : ℕ → Type 0) (blocks : List B) → P ↔ ((n : ℕ) → S n → Covers f blocks n)
@@ -58,27 +59,14 @@ module _ {B : Type 0} (f : B → ℕ × ℕ) where
   -- what is made of the chain of S is the set S
   pub made : {E : Type 0} (r : Result Runs E) (S : ℕ → Type 0) (blocks : List B) → IsRunsOf S (map f blocks)
       → IfOk r (λ set. set ≡ map f blocks) → IfOk r (IsRunsOf S)
-  made r S blocks runs h = IfOk-weaker r _ _ (λ set same. subst (IsRunsOf S) (sym same) runs) h
+  made r S blocks runs h = grind arith
 
-  -- blocks in new form are those that are made of their bounds
-  pub blocks_made : (form : ℕ × ℕ → B) (xs : List B) → All (IsNew f form) xs → map form (map f xs) ≡ xs
-  blocks_made form [] new = refl
-  blocks_made form (x ∷ xs) new =
-      grind (arith, All-head, All-tail, blocks_made form xs (All-tail (IsNew f form) x xs new))
-
-  -- and the blocks that are made of the runs of a set have these runs for their bounds
+  -- the blocks that are made of the runs of a set have these runs for their bounds
   pub bounds_made : (form : ℕ × ℕ → B) (first last : ℕ)
       → ((b : ℕ × ℕ) → first ≤ b.0 → b.0 ≤ b.1 → b.1 ≤ last → f (form b) ≡ b) → (set : Runs) → IsBlockSet first last set
       → map f (map form set) ≡ set
-  bounds_made form first last law set is = by_each set is.above is.are_runs.ordered is.below
-    where
-      by_each : (set : Runs) → All (λ b. first ≤ b.0) set → All (λ b. b.0 ≤ b.1) set → All (λ b. b.1 ≤ last) set
-          → map f (map form set) ≡ set
-      by_each [] above ordered below = refl
-      by_each (b ∷ set) above ordered below =
-          let same = law b (above 0 b (omega arith)) (ordered 0 b (omega arith)) (below 0 b (omega arith)) in
-          let rest = by_each set (All-tail (λ (x : ℕ × ℕ). first ≤ x.0) b set above) (All-tail (λ (x : ℕ × ℕ). x.0 ≤ x.1) b set ordered) (All-tail (λ (x : ℕ × ℕ). x.1 ≤ last) b set below) in
-          cc
+  bounds_made form first last law set is =
+      made_again form f set (λ k d lt. sym (law _ (is.above k d lt) (is.are_runs.ordered k d lt) (is.below k d lt)))
 
   -- so they stand for the set
   pub made_of_set : (form : ℕ × ℕ → B) (first last : ℕ)
@@ -92,20 +80,19 @@ module _ {B : Type 0} (f : B → ℕ × ℕ) where
         → ((d : B) → 0 < length blocks
         → (first ≤ (f (get_or blocks 0 d)).0) × ((f (get_or blocks (length blocks - 1) d)).1 ≤ last))
         → IsBlockChain f form first last blocks
-    IsBlockChain-from_ends blocks chain ends = record { chain = chain; above = above; below = below }
-      where
-        above : All (λ x. first ≤ (f x).0) blocks
-        above k d small = grind (arith, chain.apart 0 k d, chain.ordered 0 d, ends d)
-
-        below : All (λ x. (f x).1 ≤ last) blocks
-        below k d small =
-            grind (arith, chain.apart k (length blocks - 1) d, chain.ordered (length blocks - 1) d, ends d)
+    IsBlockChain-from_ends blocks chain ends =
+        let end = length blocks - 1 in
+        record {
+          chain = chain;
+          above = λ k d small. grind (arith, chain.apart 0 k d, chain.ordered 0 d, ends d);
+          below = λ k d small. grind (arith, chain.apart k end d, chain.ordered end d, ends d);
+        }
 
     -- a chain is a set
     pub IsBlockSet-from_chain : (blocks : List B) → IsBlockChain f form first last blocks
         → IsBlockSet first last (map f blocks)
     IsBlockSet-from_chain blocks h = record {
-      are_runs = IsRunsOf-itself f form blocks blocks h.chain refl;
+      are_runs = IsRunsOf-itself f form blocks h.chain;
       above = All-map (λ (b : ℕ × ℕ). first ≤ b.0) f blocks h.above;
       below = All-map (λ (b : ℕ × ℕ). b.1 ≤ last) f blocks h.below;
     }
@@ -113,15 +100,13 @@ module _ {B : Type 0} (f : B → ℕ × ℕ) where
     -- a chain inside another is what they have in common
     pub IsRunsOf-inside : (own other : List B) → IsBlockChain f form first last own → IsInside f own other
         → IsRunsOf (λ n. Holds (map f own) n × Holds (map f other) n) (map f own)
-    IsRunsOf-inside own other h inside = IsRunsOf-same (map f own) _ _ (λ n. (
-      λ held. (held, (Holds-map f other n).1 (inside n ((Holds-map f own n).0 held))),
-      λ (held, also). held,
-    )) (IsBlockSet-from_chain own h).are_runs
+    IsRunsOf-inside own other h inside =
+        IsRunsOf-same (map f own) _ _ (λ n. grind (arith, Holds-map f own n, Holds-map f other n, inside n))
+        (IsRunsOf-itself f form own h.chain)
 
     -- a chain is its union with one of no blocks
     pub IsRunsOf-with_none : (own other : List B) → IsBlockChain f form first last own → other ≡ []
         → IsRunsOf (λ n. Holds (map f own) n ⊎ Holds (map f other) n) (map f own)
-    IsRunsOf-with_none own other h none = IsRunsOf-same (map f own) _ _ (λ n. (
-      inl,
-      ⊎_elim (λ held. held) (λ held. absurd (Covers-nil f n (subst (λ xs. Covers f xs n) none ((Holds-map f other n).0 held)))),
-    )) (IsBlockSet-from_chain own h).are_runs
+    IsRunsOf-with_none own other h none =
+        IsRunsOf-same (map f own) _ _ (λ n. rw none (grind (arith, Covers-nil (λ b. b) n)))
+        (IsRunsOf-itself f form own h.chain)

@@ -72,6 +72,7 @@ impl<T: Block, A: Allocator> BlockSet<T, A> {
 }
 
 /// What a claim leaves of a set, or the excess. A set that is left as it is gets one owner more, and isn't copied.
+#[tactic(auto, using(crate::proofs::Issued::issued_inherit, crate::proofs::Issued::wants_memory))]
 fn issued_by<T: Block, A: Allocator + Copy>(
     set: &BlockSet<T, A>,
     alloc: A,

@@ -1,5 +1,5 @@
-use Rattle.rpki_chain.proofs.Common.{refl, ℕ, false≢true, Holds, Blocks}
-use Rattle.rpki_chain.proofs.Issued.{issued-inside, issued-trim, excess-refused, handed_on}
+use Rattle.rpki_chain.proofs.Common.{refl, ℕ, false≢true, Holds}
+use Rattle.rpki_chain.proofs.Issued.{issued_inside, issued_trim, excess_refused, handed_on}
 use Rattle.rpki_chain.proofs.verify.listed_by.Goals as goal
 use Rattle.rpki_chain.proofs.verify.listed_by.Goals.{in-Refuse+in_ok-covered_by-in-Refuse, in-Trim+in_default}
 
@@ -7,10 +7,13 @@ pub returns-in_err-covered_by-in-Refuse : goal.returns-in_err-covered_by-in-Refu
 returns-in_err-covered_by-in-Refuse g c =
     let refusal = c.in_err-covered_by-in-Refuse in
     handed_on _ _ refusal.field-0.0 c.from_residual.result c.from_residual.ensures.1
-    (excess-refused c.args.set.now (Blocks c.args.listed.now) c.args.mode c.args.listed.now refl refusal.field-0.0 c.in-Refuse.is refusal.ensures.refused (λ inside. false≢true (refusal.ensures.ok.1 inside)))
+    (excess_refused c.args.set.now c.args.mode c.args.listed.now refusal.field-0.0 c.in-Refuse.is
+    refusal.ensures.refused (λ inside. false≢true (refusal.ensures.ok.1 inside)))
 
 pub returns-in-Refused : goal.returns-in-Refused
-returns-in-Refused g c = issued-trim c.args.set.now (Blocks c.args.listed.now) c.args.mode c.args.listed.now refl c.in-Refused.common c.in-Trim.is (rw c.in-Refused.is at c.in-Err.ensures.refused)
+returns-in-Refused g c =
+    issued_trim c.args.set.now c.args.mode c.args.listed.now c.in-Refused.common c.in-Trim.is
+    (rw c.in-Refused.is at c.in-Err.ensures.refused)
 
 pub returns : goal.returns
 returns g c =
@@ -18,4 +21,5 @@ returns g c =
       | in-Refuse+in_ok-covered_by-in-Refuse w ↦ w.in_ok-covered_by-in-Refuse.ensures.ok.0 refl
       | in-Trim+in_default w ↦ w.in_default.ensures.ok.0 refl
     ] in
-    issued-inside c.args.set.now (Blocks c.args.listed.now) c.args.mode c.args.listed.now refl _ inside c.in_ok-shared.ensures.same c.in_ok-shared.ensures.runs
+    let one = c.in_ok-shared.ensures in
+    issued_inside c.args.set.now c.args.mode c.args.listed.now _ inside one.same one.runs

@@ -1,5 +1,5 @@
 -- A block that leaves the other set shows that not all lie in it, and from it on the excess is what they differ by.
-use Rattle.rpki_chain.proofs.Common.{refl, subst, sym, ℕ, Err, false≢true, IsDifference, Runs}
+use Rattle.rpki_chain.proofs.Common.{refl, ℕ, Err, false≢true}
 use Rattle.rpki_chain.proofs.Covered.{wants_memory}
 use Rattle.rpki_chain.proofs.RunLists.{IsRunsOf-difference, Holds-map}
 use Rattle.rpki_chain.proofs.SetLemmas.{refused_for}
@@ -27,5 +27,5 @@ returns-clause-ok g c =
 
 pub returns-clause-refused : goal.returns-clause-refused
 returns-clause-refused g c =
-    let runs = IsRunsOf-difference g.T.Block.bounds g.T.Block.form _ _ _ c.in_ok-excess.ensures in
-    subst (λ (set : Runs). IsDifference c.args.self.now c.args.other.now set) (sym c.in_ok-from_owned.ensures) (rw (← c.as_chain-own.ensures.blocks, ← c.as_chain-others.ensures.blocks) runs)
+    rw (c.in_ok-from_owned.ensures, ← c.as_chain-own.ensures.blocks, ← c.as_chain-others.ensures.blocks)
+    (IsRunsOf-difference g.T.Block.bounds g.T.Block.form _ _ _ c.in_ok-excess.ensures)

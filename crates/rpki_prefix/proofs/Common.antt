@@ -1,5 +1,5 @@
 -- What the proofs of this crate use of std, of the crates below and of its own definitions, passed on by one name.
-pub use Rattle.std.proofs.Common.{Bool, Err, IsTrue, List, MatchResult, None, Ok, Option, Result, Some, [], ap, append-nil, ap₂, arith, bit_and, bit_or, decimal, eqb, false, inl, inr, leb, length, lit<, refl, rules, subst, sym, true, ℕ, ◌&&◌, ◌++◌, ◌+◌, ◌-◌, ◌<◌, ◌^◌, ◌↔◌, ◌∙◌, ◌∷◌, ◌≡◌, ◌≢◌, ◌≤◌}
+pub use Rattle.std.proofs.Common.{Bool, Err, List, MatchResult, None, Ok, Option, Result, Some, [], ap, append-nil, arith, bit_and, bit_or, decimal, eqb, false, inl, inr, length, lit<, refl, rules, subst, sym, true, ℕ, ◌&&◌, ◌++◌, ◌+◌, ◌-◌, ◌<◌, ◌^◌, ◌↔◌, ◌∙◌, ◌∷◌, ◌≡◌, ◌≢◌, ◌≤◌}
 pub use Rattle.std.proofs.lemmas.Bool.{and_parts, cases_order, eq-eqb, eqb-false, eqb-true, le-leb, le-ltb, leb-true, ne_eqb}
 pub use Rattle.std.proofs.lemmas.Result.{err_from_is_err_and}
 pub use Rattle.std.proofs.lemmas.Str.Pattern.{split_parts}

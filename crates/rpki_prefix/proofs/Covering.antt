@@ -1,5 +1,5 @@
 -- A prefix covers another exactly where its bounds lie round the other's, and then it isn't before it.
-use Rattle.rpki_prefix.proofs.Common.{Bool, arith, false, refl, true, ℕ, ◌+◌, ◌-◌, ◌<◌, ◌^◌, ◌≡◌, ◌≤◌, cases_order, eq-eqb, le-ltb, ne_eqb, bool_cmp, is_lt, nat_cmp, Equal, Greater, IpAddr, LiesRound, last_bits, prefix_cmp, CoversPrefix, FamilyPrefix, address_number, is_v6, last_addr, width}
+use Rattle.rpki_prefix.proofs.Common.{Bool, arith, false, refl, true, ℕ, ◌+◌, ◌-◌, ◌<◌, ◌^◌, ◌≡◌, ◌≤◌, cases_order, eq-eqb, le-leb, le-ltb, leb-true, ne_eqb, bool_cmp, is_lt, nat_cmp, Equal, Greater, IpAddr, LiesRound, last_bits, prefix_cmp, CoversPrefix, FamilyPrefix, address_number, is_v6, last_addr, width}
 use Rattle.std.proofs.lemmas.Nat.{pow_pos, pow_below}
 use mathlib.Core.Bool.{beq}
 
@@ -46,3 +46,6 @@ beq_same a b e = grind (arith)
 -- the number of the greatest address
 pub bits_last : (p : FamilyPrefix) → address_number (last_addr p) ≡ last_bits p
 bits_last p = grind (arith)
+
+-- what tells whether a prefix covers another
+pub ruleset covering = (beq_same, bits_last, covers_round, le-leb, leb-true, not_before, round_covers, same_bool)

@@ -1,6 +1,6 @@
 -- The orders of prefixes, without and with greatest lengths, are total, and what stands at one place in them is the
 -- same.
-use Rattle.rpki_prefix.proofs.Common.{Bool, Option, ap, ap₂, arith, eqb, false, refl, rules, sym, true, ℕ, ◌&&◌, ◌↔◌, ◌∙◌, ◌≡◌, and_parts, eqb-true, is_eq, Equal, IpAddr, V4, V6, MaxLenValue, max_len_cmp, prefix_cmp, FamilyPrefix}
+use Rattle.rpki_prefix.proofs.Common.{Bool, Option, ap, arith, eqb, false, refl, rules, sym, true, ℕ, ◌&&◌, ◌↔◌, ◌∙◌, ◌≡◌, and_parts, eqb-true, is_eq, Equal, IpAddr, V4, V6, MaxLenValue, max_len_cmp, prefix_cmp, FamilyPrefix}
 use Rattle.std.proofs.lemmas.Cmp.{tied_itself}
 use Rattle.std.specs.Cmp.{Equal-is, IsTotalOrder}
 use Rattle.std.specs.Cmp.Rules.{comparing}
@@ -38,9 +38,7 @@ max_len_tied m n e =
     (same_addr m.prefix.addr n.prefix.addr && eqb m.prefix.len n.prefix.len)
     (option_eq eqb m.max_len n.max_len)
     (max_len_ties same_addr is_test m n ∙ e) in
-    ap₂ (λ (p : FamilyPrefix) (k : Option ℕ). let value : MaxLenValue = record { prefix = p; max_len = k } in value)
-    (same_prefix m.prefix n.prefix both.0)
-    (option_same m.max_len n.max_len both.1)
+    λ i. record { prefix = same_prefix m.prefix n.prefix both.0 i; max_len = option_same m.max_len n.max_len both.1 i }
 
 pub max_len_one_place : (m n : MaxLenValue) → (max_len_cmp m n ≡ Equal) ↔ (m ≡ n)
 max_len_one_place m n = (

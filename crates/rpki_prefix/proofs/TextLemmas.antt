@@ -1,5 +1,5 @@
 -- A text writes one prefix, or has one fault; and what is printed of a prefix writes it.
-use Rattle.rpki_prefix.proofs.Common.{Err, Some, List, MatchResult, Result, [], ap, arith, inl, inr, refl, subst, sym, ℕ, ◌-◌, ◌<◌, ◌^◌, ◌∙◌, ◌≡◌, ip_bytes, no_slash, IpAddr, around_at, none_around, IsNumberText-decimal, IsNumberText-one, Answers-from_found, Around, HasNo, slash, HasNumberFault, IsNumberText, AreParts, HasNoParts, HasParts, HasPrefixTextFault, HasRelaxedPrefixTextFault, HasTextFaultBy, IsPrefixText, IsRelaxedPrefixText, IsTextBy, ReadsPrefix, prefix_text, FamilyPrefix, HasPrefixError, HasRelaxedPrefixError, IsFamilyPrefix, IsPrefixOf, IsRelaxedPrefixOf, address_number, cleared_addr, width, ParsePrefixError}
+use Rattle.rpki_prefix.proofs.Common.{Err, Some, List, MatchResult, Result, [], ap, arith, inl, inr, subst, sym, ℕ, ◌-◌, ◌<◌, ◌^◌, ◌∙◌, ◌≡◌, ip_bytes, no_slash, IpAddr, around_at, none_around, IsNumberText-decimal, IsNumberText-one, Answers-from_found, Around, HasNo, slash, HasNumberFault, IsNumberText, AreParts, HasNoParts, HasParts, HasPrefixTextFault, HasRelaxedPrefixTextFault, HasTextFaultBy, IsPrefixText, IsRelaxedPrefixText, IsTextBy, ReadsPrefix, prefix_text, FamilyPrefix, HasPrefixError, HasRelaxedPrefixError, IsFamilyPrefix, IsPrefixOf, IsRelaxedPrefixOf, address_number, cleared_addr, width, ParsePrefixError}
 use Rattle.std.proofs.Common.{Bor}
 use Rattle.std.proofs.lemmas.Str.Pattern.{IsSplitOnceResult, split_parts}
 use Rattle.rpki_addr.specs.AddressText.{IsIpText}
@@ -27,10 +27,7 @@ number_apart text n f h k = let e = (number_answers (2 ^ 8 - 1) text (Err f) k).
 -- and one alone
 pub same_number_fault : (text : List ℕ) (f g : ParseIntError) → HasNumberFault (2 ^ 8 - 1) text f
     → HasNumberFault (2 ^ 8 - 1) text g → f ≡ g
-same_number_fault text f g h k = err_one (Err f) refl ((number_answers (2 ^ 8 - 1) text (Err f) h).each_fault g k)
-  where
-    err_one : (r : Result ℕ ParseIntError) → r ≡ Err f → r ≡ Err g → f ≡ g
-    err_one r d e = cc
+same_number_fault text f g h k = let e = (number_answers (2 ^ 8 - 1) text (Err f) h).each_fault g k in cc
 
 -- a text has one address and one length: what holds of some holds of others
 parts_carry : (text : List ℕ) (P : IpAddr → ℕ → Type 0) (a b : IpAddr) (m n : ℕ) → HasParts text a m → HasParts text b n
@@ -99,7 +96,7 @@ module _ (Rule : IpAddr → ℕ → FamilyPrefix → Type 0) (Fails : IpAddr →
 
 -- of an address and a length there is one prefix, or one reason that there is none
 prefix_one : (a : IpAddr) (n : ℕ) (p q : FamilyPrefix) → IsPrefixOf a n p → IsPrefixOf a n q → p ≡ q
-prefix_one a n p q h k = λ i. record { addr = (h.same_addr ∙ sym k.same_addr) i; len = (h.same_len ∙ sym k.same_len) i }
+prefix_one a n p q h k = grind arith
 
 -- a prefix and an error exclude each other
 prefix_apart : (a : IpAddr) (n : ℕ) (p : FamilyPrefix) (f : PrefixError) → IsPrefixOf a n p → HasPrefixError a n f → ⊥
@@ -111,7 +108,7 @@ error_one a n f g h k = grind (arith)
 
 -- the same where host bits are cleared
 relaxed_one : (a : IpAddr) (n : ℕ) (p q : FamilyPrefix) → IsRelaxedPrefixOf a n p → IsRelaxedPrefixOf a n q → p ≡ q
-relaxed_one a n p q h k = λ i. record { addr = (h.same_bits ∙ sym k.same_bits) i; len = (h.same_len ∙ sym k.same_len) i }
+relaxed_one a n p q h k = grind arith
 
 -- clearing bits leaves the family
 same_width : (a : IpAddr) (n : ℕ) → width (cleared_addr a n) ≡ width a

@@ -19,6 +19,7 @@ pub fn equal_where_the_same()
 
 /// The order of prefixes is total, and prefixes stand at one place in it exactly where they are the same; and so with
 /// greatest lengths.
+#[tactic(auto, using(crate::proofs::OrderLemmas::max_len_one_place, crate::proofs::OrderLemmas::max_len_total, crate::proofs::OrderLemmas::prefix_total))]
 pub fn total_order()
     ensures total { IsTotalOrder ⟦<Prefix as Ord>⟧.cmp }
     ensures ties { (p q : FamilyPrefix) → (⟦<Prefix as Ord>⟧.cmp p q ≡ Equal) ↔ (p ≡ q) }

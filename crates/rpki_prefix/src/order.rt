@@ -18,6 +18,7 @@ impl Prefix {
     /// Are both prefixes of one family, and is each address of the other one of this one's?
     ///
     /// A prefix isn't before what it covers in the order of prefixes.
+    #[tactic(auto, using(crate::proofs::Covering::covering))]
     pub fn covers(self, other: Prefix) -> bool
         ensures value { IsTrue result ↔ CoversPrefix self other }
         ensures order { IsTrue result → is_lt (prefix_cmp self other) ≡ false }

@@ -109,6 +109,7 @@ impl Prefix {
     /// The prefix of the first bits of an address, whose host bits are cleared.
     ///
     /// A length above the family's is refused as [`PrefixError::LenOverflow`], and nothing else.
+    #[tactic(auto, using(crate::proofs::HostBits::relaxed_prefix))]
     pub fn new_relaxed(addr: IpAddr, len: u8) -> Result<Prefix, PrefixError>
         ensures { MatchResult result (IsRelaxedPrefixOf addr len) (HasRelaxedPrefixError addr len) }
     {

@@ -1,5 +1,5 @@
 -- What the proofs of this crate use of std, of the crates below and of its own definitions, passed on by one name.
-pub use Rattle.std.proofs.Common.{Bool, Err, List, MatchResult, None, Ok, Option, Result, Some, [], add-one, ap, arith, codes, cond, decimal, drop, eqb, false, get_or, length, length-append, length-drop, lit<, ltb, map, refl, subst, suc, sym, take, true, zero, ℕ, ◌%◌, ◌&&◌, ◌*◌, ◌++◌, ◌+◌, ◌-◌, ◌/◌, ◌<◌, ◌^◌, ◌∙◌, ◌∷◌, ◌≡◌, ◌≢◌, ◌≤◌, ◌⊎◌}
+pub use Rattle.std.proofs.Common.{Bool, Err, List, MatchResult, None, Ok, Option, Result, Some, [], add-one, ap, arith, codes, cond, decimal, drop, eqb, false, get_or, length, length-append, length-drop, lit<, map, refl, subst, suc, sym, take, true, zero, ℕ, ◌%◌, ◌&&◌, ◌*◌, ◌++◌, ◌+◌, ◌-◌, ◌/◌, ◌<◌, ◌^◌, ◌∙◌, ◌∷◌, ◌≡◌, ◌≢◌, ◌≤◌, ◌⊎◌}
 pub use Rattle.std.proofs.Math.Nat.{div-add-mod, mul_comm, pow-le-pow_right, pow-suc, pow-succ', pow-zero}
 pub use Rattle.std.proofs.Math.Seq.{get_or-append-add}
 pub use Rattle.std.proofs.lemmas.Bool.{cases_lt, eqb-false, false_from_ne_true, le-ltb, lt-ltb}

@@ -17,13 +17,11 @@ none_around b text P none h = HasNo-no_cut b text h.left h.right none h.cut
 one_cut : (b : ℕ) (left right before after : List ℕ) → HasNo b left → HasNo b before
     → left ++ b ∷ right ≡ before ++ b ∷ after → (left ≡ before) × (right ≡ after)
 one_cut b [] right [] after h k e = let same : right ≡ after = cc in (refl, same)
-one_cut b [] right (y ∷ before) after h k e = let same : y ≡ b = cc in absurd (k 0 (omega arith) same)
-one_cut b (x ∷ left) right [] after h k e = let same : x ≡ b = cc in absurd (h 0 (omega arith) same)
+one_cut b [] right (y ∷ before) after h k e = grind (arith, k 0)
+one_cut b (x ∷ left) right [] after h k e = grind (arith, h 0)
 one_cut b (x ∷ left) right (y ∷ before) after h k e =
-    let same : x ≡ y = cc in
-    let tail : left ++ b ∷ right ≡ before ++ b ∷ after = cc in
-    let rest = one_cut b left right before after (λ i small. h (suc i) (omega arith)) (λ i small. k (suc i) (omega arith)) tail in
-    ((let front = rest.0 in cc), rest.1)
+    let rest = one_cut b left right before after (λ i small. h (suc i) (omega arith)) (λ i small. k (suc i) (omega arith)) in
+    grind (arith, rest)
 
 -- what stands round the first b of a text holds of every cut at it
 pub around_at : (b : ℕ) (text left right : List ℕ) (P : List ℕ → List ℕ → Type 0) → IsCutAt b text left right

@@ -1,10 +1,10 @@
 -- The elements of a list whose first one stands at its front, with one space before it or none; behind the last one
 -- may stand one too.
-use Rattle.rpki_text.proofs.Common.{List, [], ap, arith, eqb, false, length, refl, ℕ, ◌++◌, ◌∙◌, ◌∷◌, ◌≡◌, ◌⊎◌, lt-ltb, All-from_recursion, slice_split_at, slice_split_none, AllByRecursion, trim, comma, elements, kept}
+use Rattle.rpki_text.proofs.Common.{List, [], arith, eqb, false, ℕ, ◌++◌, ◌∷◌, ◌≡◌, ◌⊎◌, All-from_recursion, slice_split_at, slice_split_none, AllByRecursion, trim, comma, elements}
 use Rattle.std.proofs.Common.{inl, inr}
 use Rattle.std.proofs.lemmas.List.Elements.{All-push}
 use Rattle.std.specs.List.{All}
-use Rattle.rpki_text.proofs.ListLemmas.{elements_are}
+use Rattle.rpki_text.proofs.ListLemmas.{elements_are, kept_first}
 use Rattle.rpki_text.proofs.PrintedLemmas.{IsElement, trim_behind, trim_between, trim_shown, trim_spaced, no_comma}
 
 -- the part is the element, or this behind a space
@@ -20,16 +20,11 @@ part_no_comma part element h h2 = grind (arith, no_comma)
 part_trims : (part element : List ℕ) → IsPartOf part element → IsElement element → trim part ≡ element
 part_trims part element h h2 = grind (arith, trim_shown, trim_spaced)
 
--- so it is kept
-part_kept : (part element : List ℕ) (parts : List (List ℕ)) → IsPartOf part element → IsElement element
-    → kept (part ∷ parts) ≡ element ∷ kept parts
-part_kept part element parts p h = rw (part_trims part element p h, lt-ltb 0 (length element) h.some) refl
-
 -- an element before a comma is the first
 pub elements_first : (part element rest : List ℕ) → IsPartOf part element → IsElement element
     → elements (part ++ 44 ∷ rest) ≡ element ∷ elements rest
 elements_first part element rest p h =
-    grind (arith, All-from_recursion, elements_are, part_kept, part_no_comma, slice_split_at)
+    grind (arith, All-from_recursion, elements_are, kept_first, part_no_comma, part_trims, slice_split_at)
 
 -- what ends a text is a part, or a part before a space
 abbrev pub IsLastPartOf : List ℕ → List ℕ → Type 0
@@ -38,8 +33,7 @@ IsLastPartOf last element = (part : List ℕ) × IsPartOf part element × ((last
 last_no_comma : (last element : List ℕ) → IsLastPartOf last element → IsElement element
     → All (λ b. eqb b comma ≡ false) last
 last_no_comma last element (part, p, end) h =
-    let none = All-from_recursion (λ b. eqb b comma ≡ false) part (part_no_comma part element p h) in
-    elim end [ inl same ↦ rw same none | inr more ↦ rw more (All-push (λ b. eqb b comma ≡ false) part 32 none refl) ]
+    grind (arith, All-from_recursion, All-push (λ b. eqb b comma ≡ false) part 32, part_no_comma part element p h)
 
 last_trims : (last element : List ℕ) → IsLastPartOf last element → IsElement element → trim last ≡ element
 last_trims last element (part, p, inl same) h = rw same (part_trims part element p h)
@@ -51,6 +45,4 @@ last_trims last (b ∷ bs) (part, inr before, inr spaced) h = rw (spaced, before
 pub elements_last : (last element : List ℕ) → IsLastPartOf last element → IsElement element
     → elements last ≡ element ∷ []
 elements_last last element p h =
-    elements_are last
-    ∙ ap kept (slice_split_none (λ b. eqb b comma) last (last_no_comma last element p h))
-    ∙ rw (last_trims last element p h, lt-ltb 0 (length element) h.some) refl
+    grind (arith, elements_are, kept_first, last_no_comma, last_trims, slice_split_none (λ b. eqb b comma) last)

@@ -1,5 +1,5 @@
 -- Texts of lists: their elements one by one, and their one list of values or first fault.
-use Rattle.rpki_text.proofs.Common.{map, map-append, List, MatchResult, Result, [], ap, arith, drop, eqb, get_or, length, ltb, refl, sym, take, true, ℕ, ◌++◌, ◌+◌, ◌<◌, ◌∙◌, ◌∷◌, ◌≡◌, lt-ltb, take-append-drop, slice_split, trim, HasFirstFault, HaveValues, comma, elements, kept, AnswersOrMemory}
+use Rattle.rpki_text.proofs.Common.{map, map-append, List, MatchResult, Result, [], ap, arith, drop, eqb, get_or, length, refl, sym, take, ℕ, ◌++◌, ◌+◌, ◌<◌, ◌∙◌, ◌∷◌, ◌≡◌, lt-ltb, take-append-drop, slice_split, trim, HasFirstFault, HaveValues, comma, elements, kept, AnswersOrMemory}
 use Rattle.std.proofs.Common.{inl, inr, rules, ◌⊎◌}
 use Rattle.std.proofs.lemmas.List.{drop_more}
 use Rattle.std.proofs.lemmas.List.Elements.{filter-append}
@@ -27,9 +27,7 @@ module _ {A : Type 0} (Has : List ℕ → A → Type 0) where
       → values ≡ others
   HaveValues-one one [] [] [] h k = refl
   HaveValues-one one (t ∷ texts) (v ∷ values) (w ∷ others) h k =
-      let first = one t v w h.0 k.0 in
-      let rest = HaveValues-one one texts values others h.1 k.1 in
-      cc
+      grind (arith, one t v w h.0 k.0, HaveValues-one one texts values others h.1 k.1)
   HaveValues-one one texts values others h k = absurd (search rules)
 
   module _ {E : Type 0} (Fails : List ℕ → E → Type 0) (apart : (t : List ℕ) (a : A) (e : E) → Has t a → Fails t e → ⊥) where
@@ -71,9 +69,10 @@ module _ {A : Type 0} (Has : List ℕ → A → Type 0) where
 pub kept-append : (xs ys : List (List ℕ)) → kept (xs ++ ys) ≡ kept xs ++ kept ys
 kept-append xs ys = rw (map-append trim xs ys) (filter-append (λ part. nat_lt 0 (length part)) (map trim xs) (map trim ys))
 
--- a part that isn't white space alone is kept
-pub kept_one : (part : List ℕ) → (length (trim part) ≡ 0 → ⊥) → kept (part ∷ []) ≡ trim part ∷ []
-kept_one part some = let is : ltb 0 (length (trim part)) ≡ true = lt-ltb 0 (length (trim part)) (omega (arith, some)) in rw is
+-- a part is kept as what is left of it without white space, if something is
+pub kept_first : (part text : List ℕ) (parts : List (List ℕ)) → trim part ≡ text → 0 < length text
+    → kept (part ∷ parts) ≡ text ∷ kept parts
+kept_first part text parts trimmed some = rw (trimmed, lt-ltb 0 (length text) some) refl
 
 -- a list, cut round one of its places
 pub parts_at : {X : Type 0} → (parts : List X) (i : ℕ) (d : X) → i < length parts
@@ -112,7 +111,7 @@ fault_at Has Fails text i part values e at some before fault = record {
 pub values_more : {A : Type 0} (Has : List ℕ → A → Type 0) (parts : List (List ℕ)) (part : List ℕ) (values : List A)
     (value : A) → HaveValues Has (kept parts) values → (length (trim part) ≡ 0 → ⊥) → Has (trim part) value
     → HaveValues Has (kept (parts ++ part ∷ [])) (values ++ value ∷ [])
-values_more Has parts part values value h some here = grind (arith, HaveValues-append, kept-append, kept_one)
+values_more Has parts part values value h some here = grind (arith, HaveValues-append, kept-append, kept_first)
 
 -- what an element's reader says, in words that follow from it
 module _ {A E : Type 0} (Gives Has : List ℕ → A → Type 0) (Refuses Fails : List ℕ → E → Type 0) (has : (t : List ℕ) (a : A) → Gives t a → Has t a) (fails : (t : List ℕ) (e : E) → Refuses t e → Fails t e) where

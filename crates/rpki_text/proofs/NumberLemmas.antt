@@ -7,6 +7,7 @@ use Rattle.std.specs.Int.Digits.{number_from_digits}
 use Rattle.std.specs.Net.Reader.{digit_count}
 use Rattle.rpki_text.specs.declared.number.ParseIntError.{ParseIntError}
 use Rattle.rpki_text.specs.declared.number.ParseIntError.TheVariants.{Empty, InvalidDigit}
+use Rattle.rpki_text.proofs.ListLemmas.{parts_at}
 use Rattle.rpki_text.proofs.ReadingLemmas.{Answers-from_found}
 
 -- a beginning of digits writes no more than all of them
@@ -44,14 +45,7 @@ IsNumberText-not_above limit n text h p = grind (arith, value_front)
 
 -- no digits pass no limit
 none_above : (limit : ℕ) (ds : List ℕ) → ds ≡ [] → PassesLimit limit ds → ⊥
-none_above limit ds e p =
-    let bound = value_front p.front p.rest in
-    let whole : digits_value 10 (p.front ++ p.rest) ≡ 0 = ap (digits_value 10) (sym p.split ∙ e) in
-    omega (arith, p.above, bound, whole)
-
--- nor does the empty text
-empty_not_above : (limit : ℕ) (text : List ℕ) → text ≡ [] → PassesLimit limit (without_leading_plus text) → ⊥
-empty_not_above limit text e p = none_above limit (without_leading_plus text) (ap without_leading_plus e) p
+none_above limit ds e p = grind (arith, value_front p.front p.rest)
 
 -- no text has both a value and a fault
 number_apart : (limit : ℕ) (text : List ℕ) (n : ℕ) (e : ParseIntError) → IsNumberText limit text n
@@ -61,7 +55,7 @@ number_apart limit text n e h f = grind (arith, IsNumberText-not_above)
 -- a text has one fault at most
 same_fault : (limit : ℕ) (text : List ℕ) (d e : ParseIntError) → HasNumberFault limit text d
     → HasNumberFault limit text e → d ≡ e
-same_fault limit text d e f g = grind (arith, empty_not_above)
+same_fault limit text d e f g = grind (arith, none_above limit (without_leading_plus text))
 
 -- so a right answer is the only one
 pub number_answers : (limit : ℕ) (text : List ℕ) (r : Result ℕ ParseIntError)
@@ -93,6 +87,18 @@ from_digits limit text r some more found =
 -- a byte outside `0` to `9` has no digit's value
 pub value_of_other : (b : ℕ) → (b < 48) ⊎ (57 < b) → 10 ≤ digit_value b
 value_of_other b other = grind (arith, cases_lt, digit_from_value)
+
+-- so digits that write at most the limit stop before it
+pub stops_at : (limit value : ℕ) (ds : List ℕ) (i : ℕ) → i < length ds → (get_or ds i 0 < 48) ⊎ (57 < get_or ds i 0)
+    → IsValueUpTo limit (take i ds) value → StopsBelow limit ds
+stops_at limit value ds i here other sofar = record {
+  front = take i ds;
+  byte = get_or ds i 0;
+  rest = drop (i + 1) ds;
+  split = parts_at ds i 0 here;
+  value = record { all_digits = sofar.all_digits; value = refl; within = omega (arith, sofar.value, sofar.within) };
+  not_digit = value_of_other (get_or ds i 0) other;
+}
 
 -- one more digit, which stands for n, behind digits of that value
 module _ (limit value n : ℕ) (ds : List ℕ) (i : ℕ) (here : i < length ds) (digit : IsInRange 48 57 (get_or ds i 0)) (is : n ≡ get_or ds i 0 - 48) (sofar : IsValueUpTo limit (take i ds) value) where
@@ -126,10 +132,10 @@ module _ (limit value n : ℕ) (ds : List ℕ) (i : ℕ) (here : i < length ds) 
 pub few_below : (start end : ℕ) (text : List ℕ) (n : ℕ) → AreDigitsBetween start end text n → end - start < 10
     → n < 10 ^ 9
 few_below start end text n h few =
-    let below = digits_value-lt 10 (take (end - start) (drop start text)) h.all_digits in
-    let short : length (take (end - start) (drop start text)) ≤ 9 = omega (arith, length-take (end - start) (drop start text)) in
-    let up : 10 ^ length (take (end - start) (drop start text)) ≤ 10 ^ 9 = pow-le-pow_right (omega arith) short in
-    omega (arith, below, up, h.value)
+    let digits = take (end - start) (drop start text) in
+    let short : length digits ≤ 9 = omega (arith, length-take (end - start) (drop start text)) in
+    let up : 10 ^ length digits ≤ 10 ^ 9 = pow-le-pow_right (omega arith) short in
+    omega (arith, digits_value-lt 10 digits h.all_digits, up, h.value)
 
 -- one digit more, which stands for n
 pub digit_more : (start end : ℕ) (text : List ℕ) (value n : ℕ) → AreDigitsBetween start end text value

@@ -1,11 +1,11 @@
 -- The elements of a printed list are the texts that were joined.
-use Rattle.rpki_text.proofs.Common.{suc, zero, List, [], ap, arith, codes, drop, eqb, false, get_or, length, lit<, map, refl, sym, take, ℕ, ◌++◌, ◌+◌, ◌-◌, ◌<◌, ◌∙◌, ◌∷◌, ◌≡◌, ◌≤◌, lt-ltb, nat_tests, append-nil, take_all, take_more, All-from_recursion, slice_split_at, slice_split_none, is_whitespace, IsInRange, AllByRecursion, flat_map, slice_split, drop_trailing_whitespace, trim, trim_end, trim_start, comma, elements, joined, kept}
+use Rattle.rpki_text.proofs.Common.{suc, zero, List, [], ap, arith, codes, drop, eqb, false, get_or, length, lit<, map, refl, sym, take, ℕ, ◌++◌, ◌+◌, ◌-◌, ◌<◌, ◌∙◌, ◌∷◌, ◌≡◌, ◌≤◌, nat_tests, append-nil, take_all, take_more, All-from_recursion, slice_split_at, slice_split_none, is_whitespace, IsInRange, AllByRecursion, flat_map, slice_split, drop_trailing_whitespace, trim, trim_end, trim_start, comma, elements, joined, kept}
 use Rattle.std.proofs.Common.{replicate}
 use Rattle.std.proofs.lemmas.List.{flat_map_more}
 use Rattle.std.proofs.lemmas.Str.{chars-IsAscii}
 use Rattle.std.proofs.lemmas.Str.Ascii.{IsAscii-cons, IsAscii-nil, encodes-IsAscii}
 use Rattle.std.specs.Str.{IsAscii}
-use Rattle.rpki_text.proofs.ListLemmas.{elements_are}
+use Rattle.rpki_text.proofs.ListLemmas.{elements_are, kept_first}
 
 -- visible ASCII from `-` on, so neither a comma nor white space
 abbrev pub IsShown : ℕ → Type 0
@@ -83,7 +83,7 @@ parts_of text (next ∷ more) h k =
 -- an element is kept with a space before it
 kept_spaced : (texts : List (List ℕ)) → AllByRecursion IsElement texts → kept (map (λ next. 32 ∷ next) texts) ≡ texts
 kept_spaced [] h = refl
-kept_spaced (t ∷ texts) h = rw (trim_spaced t h.0.shown, lt-ltb 0 (length t) h.0.some, kept_spaced texts h.1)
+kept_spaced (t ∷ texts) h = rw (kept_first (32 ∷ t) t _ (trim_spaced t h.0.shown) h.0.some, kept_spaced texts h.1)
 
 -- the elements of joined texts are those texts
 pub elements-joined : (texts : List (List ℕ)) → AllByRecursion IsElement texts → elements (joined texts) ≡ texts
@@ -91,7 +91,7 @@ elements-joined [] h = elements_are [] ∙ (rw (trim_shown [] tt))
 elements-joined (t ∷ texts) h =
     elements_are (joined (t ∷ texts))
     ∙ ap kept (parts_of t texts (no_comma t h.0.shown) h.1)
-    ∙ (rw (trim_shown t h.0.shown, lt-ltb 0 (length t) h.0.some, kept_spaced texts h.1))
+    ∙ (rw (kept_first t t _ (trim_shown t h.0.shown) h.0.some, kept_spaced texts h.1))
 
 -- what is written behind the first item
 more_shown : {A : Type 0} (show : A → List ℕ) (xs : List A)

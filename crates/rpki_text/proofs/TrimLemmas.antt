@@ -40,11 +40,10 @@ unfolding trim_start trim_end
 trim_visible text u some first last =
     let own : chars text ≡ u.0 = ap chars (sym u.1.1) ∙ chars-encodes u.0 u.1.0 in
     let there : 0 < length u.0 = nonempty u.0 (omega (arith, some, ap length u.1.1)) in
-    let front = no_white_start u.0 (omega (arith, some, ap length u.1.1)) (subst (λ t. IsInRange 33 126 (get_or t 0 0)) (sym u.1.1) first) in
-    let back = no_white_end u.0 there (subst (λ t. IsInRange 33 126 (get_or t (length t - 1) 0)) (sym u.1.1) last) in
-    let start : encode_utf8_all (skip_leading_whitespace (chars text)) ≡ text = ap (λ l. encode_utf8_all (skip_leading_whitespace l)) own ∙ (ap encode_utf8_all front ∙ u.1.1) in
-    let end : encode_utf8_all (drop_trailing_whitespace (chars text)) ≡ text = ap (λ l. encode_utf8_all (drop_trailing_whitespace l)) own ∙ (ap encode_utf8_all back ∙ u.1.1) in
-    sym (ap (λ t. encode_utf8_all (drop_trailing_whitespace (chars t))) start ∙ end)
+    let front = no_white_start u.0 (omega (arith, some, ap length u.1.1)) (rw u.1.1 first) in
+    let back = no_white_end u.0 there (rw u.1.1 last) in
+    let same = u.1.1 in
+    cc
   where
     nonempty : (cs : List ℕ) → 0 < length (encode_utf8_all cs) → 0 < length cs
     nonempty [] h = absurd (omega (arith, h))

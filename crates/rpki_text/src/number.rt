@@ -44,6 +44,7 @@ fn after_plus(text: &[u8]) -> &[u8]
 }
 
 /// The value of digits, 0 where there are none.
+#[tactic(auto, using(crate::proofs::NumberLemmas::stops_at, crate::proofs::NumberLemmas::value_passes))]
 fn read_digits(limit: u64, digits: &[u8]) -> Result<u64, ParseIntError>
     requires { limit < 2 ^ 32 }
     ensures { MatchResult result (IsValueUpTo limit digits.now) (DigitsFail limit digits.now) }

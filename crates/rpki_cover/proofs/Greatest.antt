@@ -1,5 +1,5 @@
 -- The greatest block of 2 ^ k numbers at the beginning of a range.
-use Rattle.rpki_cover.proofs.Common.{arith, eqb, false, inl, inr, leb, suc, zero, ℕ, ◌%◌, ◌&&◌, ◌+◌, ◌<◌, ◌^◌, ◌≡◌, ◌≤◌, and_from, and_parts, cases_Bool, cases_lt, cases_order, eq-eqb, eqb-true, le-leb, leb-true, pow_pos, free_bits_upto}
+use Rattle.rpki_cover.proofs.Common.{arith, eqb, false, inl, inr, leb, suc, zero, ℕ, ◌%◌, ◌&&◌, ◌+◌, ◌<◌, ◌^◌, ◌≡◌, ◌≤◌, and_parts, cases_Bool, cases_lt, cases_order, eq-eqb, eqb-true, le-leb, leb-true, pow_pos, free_bits_upto}
 use Rattle.rpki_cover.proofs.Multiples.{IsMultiple, multiple_mod, mod_multiple}
 
 -- the 2 ^ k numbers from a on are a block, which ends at b or before, and no greater one up to 2 ^ w does
@@ -12,10 +12,7 @@ pub record IsGreatest (w a b k : ℕ) : Type 0 where
 -- a block that the definition's test refuses ends behind b
 refused : (a b k : ℕ) → (eqb (a % 2 ^ k) 0 && leb (a + 2 ^ k) (b + 1)) ≡ false → IsMultiple (2 ^ k) a
     → b + 1 < a + 2 ^ k
-refused a b k e m = elim (cases_lt (b + 1) (a + 2 ^ k)) [
-  | inl ends_behind ↦ ends_behind
-  | inr fits ↦ absurd (let t = and_from _ _ (eq-eqb _ _ (multiple_mod (2 ^ k) a (pow_pos k) m)) (le-leb _ _ fits) in cc)
-]
+refused a b k e m = grind (arith, cases_lt, eq-eqb, le-leb, multiple_mod (2 ^ k) a (pow_pos k) m)
 
 -- the definition finds it
 pub free_bits_upto_is : (w a b : ℕ) → a ≤ b → IsGreatest w a b (free_bits_upto w a b)
@@ -40,10 +37,7 @@ free_bits_upto_is (suc w) a b h =
         upto = omega arith;
         aligned = IH.aligned;
         within = IH.within;
-        greatest = λ j more less m. elim (cases_order j (suc w)) [
-          | inl same ↦ rw same (refused a b (suc w) e (rw same at m))
-          | inr other ↦ IH.greatest j more (omega arith) m
-        ];
+        greatest = λ j more less m. grind (arith, cases_order j (suc w), refused a b (suc w) e, IH.greatest j more);
       })
     ]
 

@@ -47,7 +47,7 @@ multiple_mod s a pos m = rw m.is (mul-mod_left m.times s)
 
 -- where nothing is left, it is one
 pub mod_multiple : (j a : ℕ) → a % 2 ^ j ≡ 0 → IsMultiple (2 ^ j) a
-mod_multiple j a z = let e : a / 2 ^ j * 2 ^ j + a % 2 ^ j ≡ a = shr_split a j in record { times = a / 2 ^ j; is = omega (arith, e, z) }
+mod_multiple j a z = record { times = a / 2 ^ j; is = omega (arith, shr_split a j, z) }
 
 -- divided and multiplied again it is itself
 pub multiple_div : (s a : ℕ) → 0 < s → IsMultiple s a → a / s * s ≡ a

@@ -1,5 +1,5 @@
 -- Prefixes inside ranges and inside one another.
-use Rattle.rpki_cover.proofs.Common.{arith, inl, inr, ℕ, ◌+◌, ◌-◌, ◌<◌, ◌^◌, ◌≤◌, ◌⊎◌, cases_lt, pow_pos, IsIn, IsParent, IsPrefix, LiesIn, PrefixValue}
+use Rattle.rpki_cover.proofs.Common.{arith, ℕ, ◌+◌, ◌-◌, ◌<◌, ◌^◌, ◌≤◌, ◌⊎◌, cases_lt, pow_pos, IsIn, IsParent, IsPrefix, LiesIn, PrefixValue}
 use Rattle.rpki_cover.proofs.Multiples.{IsMultiple, mod_multiple, multiple_gap, multiple_self, multiple_smaller, multiple_sum}
 use Rattle.rpki_addr.proofs.PrefixNumbers.{cleared_prefix, cleared_holds}
 use Rattle.rpki_addr.specs.Bits.{cleared}
@@ -41,16 +41,14 @@ longer_inside {w} {p} {q} is_p is_q n in_p in_q shorter m in_m =
     let before = multiple_gap _ p.first q.first at (multiple_smaller (w - p.len) (w - q.len) _ (omega arith) begins) in
     let behind = multiple_gap _ p.first _ at (multiple_smaller (w - p.len) (w - q.len) _ (omega arith) ends) in
     record {
-      from = elim (cases_lt p.first q.first) [ inl l ↦ absurd (omega (arith, before l)) | inr g ↦ omega arith ];
+      from = grind (arith, before, cases_lt p.first q.first);
       upto = omega (arith, behind (omega arith));
     }
 
 pub prefixes_nested : (w : ℕ) (p q : PrefixValue) → IsPrefix w p → IsPrefix w q → (n : ℕ) → IsIn w p n → IsIn w q n
     → LiesIn w (IsIn w p) q ⊎ LiesIn w (IsIn w q) p
-prefixes_nested w p q is_p is_q n in_p in_q = elim (cases_lt p.len q.len) [
-  | inl shorter ↦ inl (longer_inside is_q is_p n in_q in_p (omega arith))
-  | inr longer ↦ inr (longer_inside is_p is_q n in_p in_q longer)
-]
+prefixes_nested w p q is_p is_q n in_p in_q =
+    grind (arith, cases_lt p.len q.len, longer_inside is_p is_q n in_p in_q, longer_inside is_q is_p n in_q in_p)
 
 -- where one lies in the other, they share its first number
 pub nested_share : (w : ℕ) (p q : PrefixValue) → LiesIn w (IsIn w p) q ⊎ LiesIn w (IsIn w q) p

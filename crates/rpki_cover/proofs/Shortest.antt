@@ -62,7 +62,7 @@ module _ (w : ℕ) (S : ℕ → Type 0) (ps : List PrefixValue) (c : CoverOf w S
             let (r, j, h) = c.nests q parent.is_prefix within in
             let both = h p.first (parent.holds p.first (first_in w p)) in
             let e : r ≡ p = same_by_number w ps r p p.first c.ascending j i both (first_in w p) in
-            let held : LiesIn w (IsIn w p) q = subst (λ (x : PrefixValue). LiesIn w (IsIn w x) q) e h in
+            let held : LiesIn w (IsIn w p) q = rw e at h in
             omega (arith, held q.first (first_in w q), held _ (last_in w q), pow_below (w - p.len) (w - q.len));
       }
 
@@ -99,8 +99,7 @@ module _ (w : ℕ) (S : ℕ → Type 0) (ps : List PrefixValue) (c : CoverOf w S
       let (q, j, h) = (union p.first).0 ((sound p i).inside p.first (first_in w p)) in
       let (r, k, l) = c.nests q (All-contains (IsPrefix w) qs q are j) (λ n k. (union n).1 (q, j, k)) in
       let e : r ≡ p = same_by_number w ps r p p.first c.ascending k i (l p.first h) (first_in w p) in
-      let starts = subst (λ (x : PrefixValue). IsIn w x q.first) e (l q.first (first_in w q)) in
-      record { by_ = q; there = j; starts = starts })
+      record { by_ = q; there = j; starts = rw e at (l q.first (first_in w q)) })
 
   pub shortest_cover_from : IsShortestCover w S ps
   shortest_cover_from = record {

@@ -1,5 +1,5 @@
 -- Cover lists of IPv4 addresses, at width 32 and as prefixes of addresses of 128 bits.
-use Rattle.rpki_cover.proofs.Common.{List, ap, arith, inl, inr, map, refl, subst, suc, sym, zero, ℕ, ◌%◌, ◌*◌, ◌+◌, ◌-◌, ◌/◌, ◌<◌, ◌^◌, ◌∙◌, ◌≡◌, ◌≤◌, cases_lt, le-leb, lt-leb, pow-add, pow_pos, IsPrefix, PrefixValue, IsCoverList, IsShortestCover, widened, cover_list, cover_list_upto, free_bits_upto}
+use Rattle.rpki_cover.proofs.Common.{List, ap, arith, inl, inr, map, refl, suc, zero, ℕ, ◌%◌, ◌*◌, ◌+◌, ◌-◌, ◌/◌, ◌<◌, ◌^◌, ◌∙◌, ◌≡◌, ◌≤◌, cases_lt, le-leb, lt-leb, pow-add, pow_pos, IsPrefix, PrefixValue, IsCoverList, IsShortestCover, widened, cover_list, cover_list_upto, free_bits_upto}
 use Rattle.rpki_cover.proofs.Greatest.{free_bits_upto_is, same_greatest}
 use Rattle.rpki_cover.proofs.Multiples.{IsMultiple, multiple_mod, mod_multiple}
 use Rattle.rpki_cover.proofs.Nesting.{InRange}
@@ -61,22 +61,18 @@ module _ (w v : ℕ) (wider : w ≡ v + 96) where
       let n = last_v4 b + 1 - a * 2 ^ 96 in
       wide_upto n a b ∙ ap (map widened) (cover_list_fuel n (b + 1 - a) v a b (omega arith) (omega arith))
 
--- the cover list of IPv4 addresses, with 96 bits behind each, is that of these addresses
-cover_list_wide : (a b : ℕ) → cover_list 128 (a * 2 ^ 96) (last_v4 b) ≡ map widened (cover_list 32 a b)
-cover_list_wide = wide_at 128 32 refl
-
--- the same of a range of whole IPv4 addresses
+-- the cover list of a range of whole IPv4 addresses is that of these addresses, with 96 bits behind each
 pub whole_list : (min max : ℕ) → min % 2 ^ 96 ≡ 0 → (max + 1) % 2 ^ 96 ≡ 0
     → cover_list 128 min max ≡ map widened (cover_list 32 (min / 2 ^ 96) (max / 2 ^ 96))
 whole_list min max begins ends =
     let low : min ≡ min / 2 ^ 96 * 2 ^ 96 = omega (arith, begins) in
     let high : max ≡ last_v4 (max / 2 ^ 96) = omega (arith, ends) in
-    ap (λ x. cover_list 128 x max) low ∙ ap (λ x. cover_list 128 (min / 2 ^ 96 * 2 ^ 96) x) high ∙ cover_list_wide (min / 2 ^ 96) (max / 2 ^ 96)
+    let wide = wide_at 128 32 refl (min / 2 ^ 96) (max / 2 ^ 96) in
+    cc
 
 -- the cover list at width 32 of the first 32 bits of a range of whole IPv4 addresses is the range's shortest cover
 pub whole_cover : (min max : ℕ) (ps : List PrefixValue) → min % 2 ^ 96 ≡ 0 → (max + 1) % 2 ^ 96 ≡ 0 → max < 2 ^ 128
     → IsCoverList 32 (InRange (min / 2 ^ 96) (max / 2 ^ 96)) ps → IsShortestCover 128 (InRange min max) (map widened ps)
 whole_cover min max ps begins ends below is =
     let narrow = range_cover 32 (min / 2 ^ 96) (max / 2 ^ 96) (omega (arith, below)) in
-    let same : cover_list 128 min max ≡ map widened ps = whole_list min max begins ends ∙ ap (map widened) (sym (narrow.only ps is)) in
-    subst (IsShortestCover 128 (InRange min max)) same (range_cover 128 min max below)
+    rw (narrow.only ps is, ← whole_list min max begins ends) (range_cover 128 min max below)

@@ -65,6 +65,7 @@ impl Model for Cover {
 
 impl Cover {
     /// The cover list of the numbers from `first` to `last`, which have at most `width` bits.
+    #[tactic(auto, using(crate::proofs::Counting::cover_list_few, crate::proofs::Shortest::range_cover))]
     pub fn new(width: u8, first: u128, last: u128) -> Cover
         requires width { width ≤ 128 }
         requires order { first ≤ last }
@@ -98,6 +99,7 @@ impl Iterator for Cover {
 
     ghost remaining = { item_count (λ prefixes. prefixes) };
 
+    #[tactic(auto, using(crate::proofs::Steps::left_next))]
     fn next(&mut self) -> Option<NumberPrefix> {
         let Some((first, last)) = self.left else {
             return None;

@@ -26,20 +26,14 @@ written_then a b c all bytes rest unwritten had more = record {
 -- a beginning of the first of two texts is one of both
 pub written_first : (a b : Option (List ℕ)) (bytes more unwritten : List ℕ) → HasWritten a b bytes unwritten
     → HasWritten a b (bytes ++ more) (unwritten ++ more)
-written_first a b bytes more unwritten had = record {
-  written = had.written;
-  bytes_are = simp (had.bytes_are, append_assoc);
-  wrote = had.wrote;
-}
+written_first a b bytes more unwritten had = grind (arith, append_assoc)
 
 -- all of the first of two texts, and a beginning of the second
 pub written_both : (a b c : Option (List ℕ)) (bytes more unwritten : List ℕ) → HasWritten a b bytes []
     → HasWritten b c more unwritten → HasWritten a c (bytes ++ more) unwritten
-written_both a b c bytes more unwritten had next = record {
-  written = had.written ++ next.written;
-  bytes_are = simp (had.bytes_are, next.bytes_are, append-nil, append_assoc);
-  wrote = appends_both a b c had.written next.written had.wrote next.wrote;
-}
+written_both a b c bytes more unwritten had next =
+    let first = written_first a b bytes more [] had in
+    rw append-nil at (written_then a b c (bytes ++ more) more [] unwritten (rw append-nil first) next)
 
 -- a write takes some of what is left, which a range from there on then is
 pub written_more : (a b c : Option (List ℕ)) (bytes rest : List ℕ) (count : ℕ) → HasWritten a b bytes rest

@@ -1,7 +1,7 @@
 -- Steps of a run that answers as it reads.
 use Rattle.lines_engine.proofs.Common.{List, None, Option, Some, [], ap, append_assoc, arith, length, length-append, refl, suc, zero, ℕ, ◌++◌, ◌<◌, ◌∷◌, ◌≡◌, ◌≢◌, Consumes, Keeps, IfErr, IfSome, IsErrOf, Ok, OnOk, Result, HasNo, IsCutAt, lines_of, AnswersAll, AnswersBut, AnswersFirst, AnswersSomeOf, BeginsAnswers, BeginsAnswersOf, HasAnswered, HasAnsweredLine}
-use Rattle.std.specs.Prelude.{Err}
 use Rattle.std.proofs.lemmas.Bool.{eqb-true}
+use Rattle.std.proofs.lemmas.Option.{IfSome_then}
 use Rattle.lines_engine.proofs.RunLemmas.{answered_kept, answered_more, answered_none, answered_one, answered_then}
 
 -- a byte that is no end stands in front of the first line
@@ -52,7 +52,7 @@ module _ (Is : List ℕ → List ℕ → Type 0) where
       → HasNo 10 part → IsCutAt 10 piece line behind → HasAnswered Is a b lines (lines_of (part ++ (piece ++ more))) []
       → HasAnsweredLine Is b c (part ++ line) unwritten → HasAnswered Is a c lines (lines_of (behind ++ more)) unwritten
   piece_more a b c lines part piece line behind more unwritten none cut had one =
-      answered_more Is a b c lines (part ++ line) (lines_of (behind ++ more)) unwritten (rw (lines-joined part piece line behind more none cut) at had) one
+      answered_more Is a b c lines _ _ unwritten (rw (lines-joined part piece line behind more none cut) at had) one
 
   -- nothing is read
   pub but_none : (a input : Option (List ℕ)) → AnswersBut Is a a input input []
@@ -68,12 +68,14 @@ module _ (Is : List ℕ → List ℕ → Type 0) where
   -- not all of these others were answered
   pub then_some : (a b c : Option (List ℕ)) (input : List ℕ) (others : List (List ℕ))
       → HasAnswered Is a b (lines_of input) others [] → AnswersSomeOf Is b c others → AnswersFirst Is a c input
-  then_some a b c input others had some = (some.0, answered_then Is a b c (lines_of input) others some.0 [] had some.2, λ none. absurd (some.1 none))
+  then_some a b c input others had some =
+      (some.0, answered_then Is a b c _ _ _ _ had some.2, λ none. absurd (some.1 none))
 
   -- some of them were, and a beginning written
   pub then_begun : (a b c : Option (List ℕ)) (input : List ℕ) (others : List (List ℕ))
       → HasAnswered Is a b (lines_of input) others [] → BeginsAnswersOf Is b c others → BeginsAnswers Is a c input
-  then_begun a b c input others had begun = (begun.0, (begun.1.0, answered_then Is a b c (lines_of input) others begun.0 begun.1.0 had begun.1.1))
+  then_begun a b c input others had begun =
+      (begun.0, (begun.1.0, answered_then Is a b c _ _ _ _ had begun.1.1))
 
   -- a piece was read, and not all of it answered, or a beginning of its answers written
   pub but_some : (a b c input left next : Option (List ℕ)) (part piece : List ℕ) → AnswersBut Is a b input left part
@@ -105,10 +107,8 @@ module _ (Is : List ℕ → List ℕ → Type 0) where
   pub but_unanswered : (a b input left next : Option (List ℕ)) (part piece : List ℕ) → AnswersBut Is a b input left part
       → Consumes left next piece → 0 < length piece → IfSome input (AnswersFirst Is a b)
   but_unanswered a b input left next part piece had read some =
-      but_some a b b input left next part piece had read (λ more.
-      let lines = lines_of (part ++ (piece ++ more)) in
-      some_left b b lines part piece more some (answered_none Is b lines)
-      )
+      but_some a b b input left next part piece had read
+      (λ more. some_left b b _ part piece more some (answered_none Is b _))
 
   -- the last line is answered
   pub line_last : {X E : Type 0} (r : Result X E) (a b : Option (List ℕ)) (part : List ℕ) → HasNo 10 part
@@ -126,7 +126,8 @@ module _ (Is : List ℕ → List ℕ → Type 0) where
 
   pub last_part : (a b : Option (List ℕ)) (part unwritten : List ℕ) → HasNo 10 part → 0 < length part
       → HasAnsweredLine Is a b part unwritten → BeginsAnswersOf Is a b (lines_of part)
-  last_part a b part unwritten none some one = rw (lines-unended part none some) ([], (unwritten, answered_one Is a b part [] unwritten one))
+  last_part a b part unwritten none some one =
+      rw (lines-unended part none some) ([], (unwritten, answered_one Is a b part [] unwritten one))
 
   -- a line that ends in a piece isn't answered, or a beginning of its answer is written
   pub joined_some : (a b : Option (List ℕ)) (lines : List (List ℕ)) (part piece line behind more : List ℕ)
@@ -139,31 +140,29 @@ module _ (Is : List ℕ → List ℕ → Type 0) where
       → HasNo 10 part → IsCutAt 10 piece line behind → HasAnswered Is a b lines (lines_of (part ++ (piece ++ more))) []
       → HasAnsweredLine Is b c (part ++ line) unwritten → BeginsAnswersOf Is a c lines
   joined_part a b c lines part piece line behind more unwritten none cut had one =
-      (lines_of (behind ++ more), (unwritten, piece_more a b c lines part piece line behind more unwritten none cut had one))
+      (lines_of (behind ++ more), (unwritten, piece_more a b c _ _ _ _ _ _ _ none cut had one))
 
   -- the last line is answered, not all of it, or all
   pub last_some : (a b c input : Option (List ℕ)) (part : List ℕ)
       → IfSome input (λ bytes. HasAnswered Is a b (lines_of bytes) (lines_of part) [])
       → AnswersSomeOf Is b c (lines_of part) → IfSome input (AnswersFirst Is a c)
-  last_some a b c None part had some = tt
-  last_some a b c (Some bytes) part had some = then_some a b c bytes (lines_of part) had some
+  last_some a b c input part had some =
+      IfSome_then input had (λ bytes first. then_some a b c bytes (lines_of part) first some)
 
   pub last_begun : (a b c input : Option (List ℕ)) (part : List ℕ)
       → IfSome input (λ bytes. HasAnswered Is a b (lines_of bytes) (lines_of part) [])
       → BeginsAnswersOf Is b c (lines_of part) → IfSome input (BeginsAnswers Is a c)
-  last_begun a b c None part had begun = tt
-  last_begun a b c (Some bytes) part had begun = then_begun a b c bytes (lines_of part) had begun
+  last_begun a b c input part had begun =
+      IfSome_then input had (λ bytes first. then_begun a b c bytes (lines_of part) first begun)
 
   pub last_all : {X E : Type 0} (r : Result X E) (a b c d input : Option (List ℕ)) (part : List ℕ)
       → IfSome input (λ bytes. HasAnswered Is a b (lines_of bytes) (lines_of part) [])
       → HasAnswered Is b c (lines_of part) [] [] → Keeps c d → OnOk r (IfSome input (AnswersAll Is a d))
-  last_all (Err e) a b c d input part had all kept = tt
-  last_all (Ok x) a b c d None part had all kept = tt
   last_all (Ok x) a b c d (Some bytes) part had all kept = grind (arith, answered_kept, answered_then)
+  last_all r a b c d input part had all kept = grind (arith)
 
   pub last_unflushed : (a b c d input : Option (List ℕ)) (part : List ℕ)
       → IfSome input (λ bytes. HasAnswered Is a b (lines_of bytes) (lines_of part) [])
       → HasAnswered Is b c (lines_of part) [] [] → Keeps c d → IfSome input (BeginsAnswers Is a d)
-  last_unflushed a b c d None part had all kept = tt
-  last_unflushed a b c d (Some bytes) part had all kept =
-      ([], ([], answered_kept Is a c d (lines_of bytes) [] [] (answered_then Is a b c (lines_of bytes) (lines_of part) [] [] had all) kept))
+  last_unflushed a b c d input part had all kept =
+      last_begun a b d input part had ([], ([], answered_kept Is b c d (lines_of part) [] [] all kept))

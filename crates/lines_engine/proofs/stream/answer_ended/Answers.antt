@@ -17,7 +17,7 @@ pub returns-in_err-answer_piece-clause-some_written : goal.returns-in_err-answer
 returns-in_err-answer_piece-clause-some_written g c is =
     let same = rw is at c.from_residual.ensures.1 in
     let begun = c.in_err-answer_piece.ensures.some_written (ap Err (sym same)) in
-    but_begun (g.L.Answers.is_answer c.args.answers.now) _ _ _ _ _ _ _ _ c.loop-count.invariant.answered c.in-Ok.ensures.bytes.0 begun
+    but_begun _ _ _ _ _ _ _ _ _ c.loop-count.invariant.answered c.in-Ok.ensures.bytes.0 begun
 
 -- the input has too many bytes: a piece with a byte was not answered
 pub returns-in-None-clause-some_answered : goal.returns-in-None-clause-some_answered

@@ -11,10 +11,10 @@ returns-clause-answered g c = grind (arith, common_steps, line_last)
 pub returns-clause-some_answered : goal.returns-clause-some_answered
 returns-clause-some_answered g c is =
     let some : 0 < length c.args.part.now = grind (arith, common_steps) in
-    rw (c.answer_line.ensures.memory is) (last_none (g.L.Answers.is_answer c.args.answers.now) _ _ some)
+    rw (c.answer_line.ensures.memory is) (last_none _ _ _ some)
 
 pub returns-clause-some_written : goal.returns-clause-some_written
 returns-clause-some_written g c is =
     let some : 0 < length c.args.part.now = grind (arith, common_steps) in
     let part = c.answer_line.ensures.some_written is in
-    last_part (g.L.Answers.is_answer c.args.answers.now) _ _ _ part.0 c.requires.unended some part.1
+    last_part _ _ _ _ part.0 c.requires.unended some part.1

@@ -11,14 +11,16 @@ pub returns-in_err-answer_joined-clause-some_answered : goal.returns-in_err-answ
 returns-in_err-answer_joined-clause-some_answered g c is more =
     let same = rw is at c.from_residual.ensures.1 in
     let kept = c.in_err-answer_joined.ensures.memory (ap Err (sym same)) in
-    rw kept (joined_some (g.L.Answers.is_answer c.args.answers.now) _ _ _ c.loop-line.part.items c.loop-line.rest.now c.in-Some.line.now c.in-Some.behind.now more c.in-Some.ensures (c.loop-line.invariant.answered more))
+    let had = c.loop-line.invariant.answered more in
+    rw kept (joined_some _ _ _ _ c.loop-line.part.items _ _ _ more c.in-Some.ensures had)
 
 -- a beginning of its answer was written
 pub returns-in_err-answer_joined-clause-some_written : goal.returns-in_err-answer_joined-clause-some_written
 returns-in_err-answer_joined-clause-some_written g c is more =
     let same = rw is at c.from_residual.ensures.1 in
     let part = c.in_err-answer_joined.ensures.some_written (ap Err (sym same)) in
-    joined_part (g.L.Answers.is_answer c.args.answers.now) _ _ _ _ c.loop-line.part.items c.loop-line.rest.now c.in-Some.line.now c.in-Some.behind.now more part.0 c.loop-line.invariant.unended c.in-Some.ensures (c.loop-line.invariant.answered more) part.1
+    joined_part _ _ _ _ _ _ _ _ _ _ _ c.loop-line.invariant.unended c.in-Some.ensures
+    (c.loop-line.invariant.answered more) part.1
 
 pub loop-line-preserved : goal.loop-line-preserved
 loop-line-preserved g c = grind (arith, piece_more)
@@ -26,4 +28,5 @@ loop-line-preserved g c = grind (arith, piece_more)
 -- the rest was not kept
 pub returns-clause-some_answered : goal.returns-clause-some_answered
 returns-clause-some_answered g c is more =
-    some_left (g.L.Answers.is_answer c.args.answers.now) _ _ _ c.loop-line.part.items c.loop-line.rest.now more (other_of c.keep.result _ is c.keep.ensures.memory) (c.loop-line.invariant.answered more)
+    let some = other_of c.keep.result _ is c.keep.ensures.memory in
+    some_left _ _ _ _ c.loop-line.part.items _ more some (c.loop-line.invariant.answered more)

@@ -13,7 +13,7 @@ length_lower (x ∷ xs) = ap suc (length_lower xs)
 
 -- `as` is two bytes
 IsAsAnd-length : {text rest : List ℕ} (h : IsAsAnd text rest) → length h.letters ≡ 2
-IsAsAnd-length h = sym (length_lower h.letters) ∙ ap length h.lower
+IsAsAnd-length h = grind (arith, length_lower)
 
 -- what follows it is one text
 pub IsAsAnd-rest : (text rest other : List ℕ) → IsAsAnd text rest → IsAsAnd text other → rest ≡ other
@@ -28,37 +28,39 @@ first_of_number b more n h letter = grind arith
 as_letters_first : (letters rest : List ℕ) → str_to_ascii_lowercase letters ≡ codes "as"
     → (b : ℕ) × (more : List ℕ) × (letters ++ rest ≡ b ∷ more) × (to_ascii_lowercase b ≡ 97)
 as_letters_first [] rest e = absurd (omega (arith, ap length e))
-as_letters_first (b ∷ letters) rest e = let first : to_ascii_lowercase b ≡ 97 = cc in (b, letters ++ rest, refl, first)
+as_letters_first (b ∷ letters) rest e = (b, letters ++ rest, refl, cc)
 
 -- so a text that begins with `as` is no number text
 IsAsAnd-no_number : (text rest : List ℕ) (n : ℕ) → IsAsAnd text rest → IsNumberText (2 ^ 32 - 1) text n → ⊥
 IsAsAnd-no_number text rest n h k =
-    let first = as_letters_first h.letters rest h.lower in
-    first_of_number first.0 first.1 n (subst (λ t. IsNumberText (2 ^ 32 - 1) t n) (h.split ∙ first.2) k) first.3
+    let (b, more, split, letter) = as_letters_first h.letters rest h.lower in
+    first_of_number b more n (subst (λ t. IsNumberText (2 ^ 32 - 1) t n) (h.split ∙ split) k) letter
 
 -- a number behind `as` is the text's
 to_text : (text rest : List ℕ) (n : ℕ) → IsAfterAs text rest → IsNumberText (2 ^ 32 - 1) rest n → IsAsnText text n
 to_text text rest n h k = grind (arith)
 
--- an AS number text with letters begins with them
-as_and : (text : List ℕ) (n : ℕ) (k : IsAsnText text n) → str_to_ascii_lowercase k.letters ≡ codes "as"
-    → IsAsAnd text k.digits
-as_and text n k lower = record { letters = k.letters; split = k.split; lower = lower }
+-- what follows the optional `as` is one text
+IsAfterAs-one : (text rest other : List ℕ) → IsAfterAs text rest → IsAfterAs text other → rest ≡ other
+IsAfterAs-one text rest other (inl h) (inl k) = IsAsAnd-rest text rest other h k
+IsAfterAs-one text rest other (inl h) (inr k) = absurd (k.1 rest h)
+IsAfterAs-one text rest other (inr h) (inl k) = absurd (h.1 other k)
+IsAfterAs-one text rest other (inr h) (inr k) = h.0 ∙ sym k.0
 
--- and without letters it is a number text
-whole_text : (text : List ℕ) (n : ℕ) (k : IsAsnText text n) → k.letters ≡ [] → IsNumberText (2 ^ 32 - 1) text n
-whole_text text n k none = subst (λ t. IsNumberText (2 ^ 32 - 1) t n) (sym (k.split ∙ ap (λ l. l ++ k.digits) none)) k.number
+-- and the digits of an AS number text are what follows it
+digits_after : (text : List ℕ) (n : ℕ) (k : IsAsnText text n) → IsAfterAs text k.digits
+digits_after text n k = elim k.prefix [
+  | inl none ↦
+      let whole : k.digits ≡ text = sym (k.split ∙ ap (λ l. l ++ k.digits) none) in
+      let number = subst (λ t. IsNumberText (2 ^ 32 - 1) t n) whole k.number in
+      inr (whole, λ other h. IsAsAnd-no_number text other n h number)
+  | inr lower ↦ inl (record { letters = k.letters; split = k.split; lower = lower })
+]
 
--- the text's number stands behind `as`
+-- so its number stands there
 from_text : (text rest : List ℕ) (n : ℕ) → IsAfterAs text rest → IsAsnText text n → IsNumberText (2 ^ 32 - 1) rest n
-from_text text rest n (inl h) k = elim k.prefix [
-  | inl none ↦ absurd (IsAsAnd-no_number text rest n h (whole_text text n k none))
-  | inr lower ↦ subst (λ t. IsNumberText (2 ^ 32 - 1) t n) (IsAsAnd-rest text k.digits rest (as_and text n k lower) h) k.number
-]
-from_text text rest n (inr h) k = elim k.prefix [
-  | inl none ↦ subst (λ t. IsNumberText (2 ^ 32 - 1) t n) (sym h.0) (whole_text text n k none)
-  | inr lower ↦ absurd (h.1 k.digits (as_and text n k lower))
-]
+from_text text rest n after k =
+    subst (λ t. IsNumberText (2 ^ 32 - 1) t n) (IsAfterAs-one text k.digits rest (digits_after text n k) after) k.number
 
 -- what is printed of an AS number writes it
 pub IsAsnText-asn_text : (n : ℕ) → n < 2 ^ 32 → IsAsnText (asn_text n) n
@@ -93,34 +95,20 @@ pub no_letters : (text : List ℕ) → ¬ (str_to_ascii_lowercase (take 2 text) 
 no_letters text other_letters = inr (
   refl,
   λ other h. other_letters (
-      let front : take 2 text ≡ h.letters = ap (take 2) h.split ∙ take_front h.letters other (IsAsAnd-length h) in
-      ap str_to_ascii_lowercase front ∙ h.lower),
+      let two = ap (λ n. take n text) (sym (IsAsAnd-length h)) in
+      let front = ap (take (length h.letters)) h.split ∙ take-append_seam h.letters other in
+      ap str_to_ascii_lowercase (two ∙ front) ∙ h.lower),
 )
-  where
-    take_front : (xs ys : List ℕ) → length xs ≡ 2 → take 2 (xs ++ ys) ≡ xs
-    take_front xs ys e = ap (λ n. take n (xs ++ ys)) (sym e) ∙ take-append_seam xs ys
 
 -- a text writes at most one AS number
 pub IsAsnText-one : (text : List ℕ) (m n : ℕ) → IsAsnText text m → IsAsnText text n → m ≡ n
-IsAsnText-one text m n h k = elim h.prefix [
-  | inl none ↦ elim k.prefix [
-    | inl nothing ↦ IsNumberText-one _ text m n (whole_text text m h none) (whole_text text n k nothing)
-    | inr lower ↦ absurd (IsAsAnd-no_number text k.digits m (as_and text n k lower) (whole_text text m h none))
-  ]
-  | inr lower ↦ elim k.prefix [
-    | inl nothing ↦ absurd (IsAsAnd-no_number text h.digits n (as_and text m h lower) (whole_text text n k nothing))
-    | inr small ↦ IsNumberText-one _ k.digits m n
-        (subst (λ t. IsNumberText (2 ^ 32 - 1) t m) (IsAsAnd-rest text h.digits k.digits (as_and text m h lower) (as_and text n k small)) h.number)
-        k.number
-  ]
-]
+IsAsnText-one text m n h k =
+    IsNumberText-one _ h.digits m n h.number (from_text text h.digits n (digits_after text m h) k)
 
 -- digits are among the bytes from `0` on
 pub digits_are_bytes : (most : ℕ) → 57 ≤ most → (ds : List ℕ) → AllDigits 10 ds → AllByRecursion (IsInRange 48 most) ds
 digits_are_bytes most enough [] h = tt
-digits_are_bytes most enough (c ∷ cs) h =
-    let range = digit_from_value c h.0 in
-    ((range.0, omega (arith, range.1)), digits_are_bytes most enough cs h.1)
+digits_are_bytes most enough (c ∷ cs) h = grind (arith, digit_from_value, digits_are_bytes most enough cs h.1)
 
 -- and so is all that is printed of an AS number
 pub asn_text_bytes : (n : ℕ) → n < 2 ^ 32 → AllByRecursion (IsInRange 48 90) (asn_text n)

@@ -1,5 +1,5 @@
 -- What the proofs of this crate use of std, of the crates below and of its own definitions, passed on by one name.
-pub use Rattle.std.proofs.Common.{Bool, Contains, Err, IsTrue, List, None, Ok, Option, Result, Some, [], add-one, ap, append_assoc, ap₂, arith, codes, cond, decimal, drop, eqb, false, get_or, inl, inr, is_ok, le-ltb, length, length-drop, lit≤, lt-ltb, ltb, refl, set, subst, suc, sym, take, true, vec_len, zero, ℕ, ◌&&◌, ◌++◌, ◌+◌, ◌-◌, ◌<◌, ◌^◌, ◌↔◌, ◌∙◌, ◌∷◌, ◌≡◌, ◌≢◌, ◌≤◌, ◌⊎◌}
+pub use Rattle.std.proofs.Common.{Bool, Contains, Err, IsTrue, List, None, Ok, Option, Result, Some, [], add-one, ap, append_assoc, arith, codes, cond, decimal, drop, eqb, false, get_or, inl, inr, is_ok, le-ltb, length, length-drop, lit≤, lt-ltb, refl, set, subst, suc, sym, take, true, vec_len, zero, ℕ, ◌&&◌, ◌++◌, ◌+◌, ◌-◌, ◌<◌, ◌^◌, ◌↔◌, ◌∙◌, ◌∷◌, ◌≡◌, ◌≢◌, ◌≤◌, ◌⊎◌}
 pub use Rattle.std.proofs.Math.Seq.{take-append_seam, take-length}
 pub use Rattle.std.proofs.lemmas.Bool.{and_parts, cases_eq, cases_lt, eq-eqb, eqb-false, eqb-true, ne_eqb}
 pub use Rattle.std.proofs.lemmas.Fmt.{decimal_is_IsNumeral, length-decimal-le}
@@ -16,9 +16,9 @@ pub use Rattle.rpki_der.proofs.Cursors.{none_by, reads_by, reads_optional_by}
 pub use Rattle.rpki_der.proofs.Lists.{HasOctets, SoFar, each_again, each_takes, loop_ends, loop_fails, loop_more, optional_err, optional_none, optional_some, shorter, value_has_octets}
 pub use Rattle.rpki_der.proofs.Modes.{bind_tightens, cond_tightens, each_tightens, found_is, lenient_is, looked_tightens, passed_is, passes, passing_tightens, refused_at, same_found, same_tightens}
 pub use Rattle.rpki_der.proofs.Readings.{IsTagged, fits_content, fits_rest, one_front, refined_reading, same_reading, tagged_reading, u32_reading, value_reading}
-pub use Rattle.rpki_der.proofs.Steps.{IsCheck, bind_ok, ok_is, ok_or_err, passed, passed_true}
+pub use Rattle.rpki_der.proofs.Steps.{IsCheck, bind_ok, ok_is, ok_or_err, passed}
 pub use Rattle.rpki_der.proofs.Words.{Grammar, Reading}
-pub use Rattle.rpki_der.proofs.Written.{u32_is, value_is}
+pub use Rattle.rpki_der.proofs.Written.{value_is}
 pub use Rattle.rpki_der.specs.Der.{Each, EachFrom, Front, IsBytes, IsSequence, IsTlv, OneFront, Refines, Tlv, octets, sequence_value}
 unfoldable pub use Rattle.rpki_der.specs.Der.{header, length_octets}
 pub use Rattle.rpki_der.specs.Reading.{Gives, IsModal, IsReading, Tightens, bit_string_at, bit_string_by, each, ended, ◌>>=◌}
@@ -26,17 +26,17 @@ unfoldable pub use Rattle.rpki_der.specs.Reading.{bits, bits_by, each_from, leng
 pub use Rattle.rpki_der.specs.Views.{Lenient, ReadsOptional, Strict, Takes, is_strict, left}
 pub use Rattle.rpki_der.specs.declared.cursor.Cursor.{Cursor}
 pub use Rattle.rpki_der.specs.declared.error.DerError.{DerError}
-pub use Rattle.rpki_der.specs.declared.error.DerError.TheVariants.{BadFamily, BadTag, DuplicateFamily, NoFamily, NotCanonical, TrailingData}
+pub use Rattle.rpki_der.specs.declared.error.DerError.TheVariants.{BadTag, DuplicateFamily, NoFamily, NotCanonical}
 pub use Rattle.rpki_text.specs.Memory.{IfRefused, IsMemory}
 pub use Rattle.rpki_text.specs.Numbers.{AreDigitsBetween, AreDigitsFrom, IsNumberText}
 pub use Rattle.rpki_text.specs.declared.memory.OrMemory.{OrMemory}
 pub use Rattle.rpki_text.specs.declared.memory.OrMemory.TheVariants.{Memory, Refused}
-pub use Rattle.rpki_base.specs.AsnDer.{IsAsNumber, as_number_at, as_number_octets}
+pub use Rattle.rpki_base.specs.AsnDer.{IsAsNumber, as_number_at}
 pub use Rattle.rpki_base.specs.AsnText.{IsAfterAs, IsAsAnd, IsAsnText, ReadsAsn, asn_text}
 pub use Rattle.rpki_base.specs.DerFaults.{BeginsEmpty, BeginsWithAll, BeginsWithTwo, BeginsWithValue}
 pub use Rattle.rpki_base.specs.DerReading.{Encloses, IsSequenceFrom, SaysByTag, SaysPair, Skips, enclosed_at, sequence_from, skipping, values_of}
 unfoldable pub use Rattle.rpki_base.specs.DerReading.{by_tag, if_tagged, only, pair_by, pair_in, values_from}
-pub use Rattle.rpki_base.specs.DerViews.{GivesOrMemory, NotCanonicalOrMemory, ReadsOrMemory, ReadsTagged, TakesOrMemory, TakesSaidOrMemory}
+pub use Rattle.rpki_base.specs.DerViews.{NotCanonicalOrMemory, ReadsOrMemory, ReadsTagged, TakesOrMemory, TakesSaidOrMemory}
 pub use Rattle.rpki_base.specs.DerWriting.{octets_of_all}
 pub use Rattle.rpki_base.specs.FamiliesDer.{AreInOrder, ByFamily, IsFamilies, IsFamiliesInOrder, IsMember, SaysByFamily, SaysFamilies, SaysMember, SaysOption, claims_among, families_der, listed, member_der, of_family, option_der}
 pub use Rattle.rpki_base.specs.FamiliesReading.{SaysClaim, families_at, families_by, is_in_order, member_at, member_by, none_found, seen, was_seen, with_claim}

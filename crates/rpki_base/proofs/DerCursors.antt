@@ -1,5 +1,5 @@
 -- From the reading to the grammar, for calls that take memory, or that look at the tag first.
-use Rattle.rpki_base.proofs.Common.{List, Ok, Option, Result, Some, ap, arith, length, ℕ, ◌++◌, ◌<◌, ◌∙◌, ◌≡◌, length-append, none_by, reads_optional_by, ok_is, ok_or_err, IsBytes, Refines, IsReading, optional, ReadsOptional, Takes, left, Cursor, DerError, OrMemory, if_tagged, ReadsOrMemory, ReadsTagged, TakesOrMemory, TakesSaidOrMemory, Grammar, Reading}
+use Rattle.rpki_base.proofs.Common.{List, Ok, Option, Result, Some, arith, length, ℕ, ◌++◌, ◌<◌, ◌≡◌, length-append, none_by, reads_optional_by, ok_is, ok_or_err, IsBytes, Refines, IsReading, optional, ReadsOptional, Takes, left, Cursor, DerError, OrMemory, if_tagged, ReadsOrMemory, ReadsTagged, TakesOrMemory, TakesSaidOrMemory, Grammar, Reading}
 
 -- a take that may want memory
 pub reads_or_memory_by : {X Y : Type 0} (G : Grammar Y) (reading : Reading Y) (view : X → Y) (old new : Cursor)
@@ -43,5 +43,4 @@ pub optional_back : {X : Type 0} (reading : Reading X) (old new : Cursor) (resul
     → Takes (λ x. x) old new result (optional reading) → (front rest : List ℕ) (x : X) → 0 < length front
     → left old ≡ front ++ rest → reading (front ++ rest) ≡ Ok (x, rest) → (result ≡ Ok (Some x)) × (left new ≡ rest)
 optional_back reading old new result took front rest x some at read =
-    let found = optional_again reading (left old) x rest (omega (arith, some, ap (λ (t : List ℕ). length t) at, length-append front rest)) (ap reading at ∙ read) in
-    grind (arith, ok_is, ok_or_err)
+    grind (arith, length-append, ok_is, ok_or_err, optional_again)

@@ -136,7 +136,7 @@ cond_fails b x d e r ok is = grind arith
 -- the fault of what is named otherwise
 pub mapped_fails : {A B : Type 0} (r : Result A DerError) (f : A → B) (e : DerError)
     → ((r >>= λ x. Ok (f x)) ≡ Err e) ↔ (r ≡ Err e)
-mapped_fails r f e = grind (arith)
+mapped_fails r f e = grind arith
 
 -- the end of a content isn't looked at before what is found in it
 ended_fails : {A : Type 0} (y : A) (bytes : List ℕ) (e : DerError) → 7 < fault_number e
@@ -161,7 +161,7 @@ pair_fails reading check C e above never same content = (
 pub only_fails : {X : Type 0} (reading : Reading X) (e : DerError) → 7 < fault_number e → (content : List ℕ)
     → (only reading content ≡ Err e) ↔ (reading content ≡ Err e)
 unfolding only
-only_fails reading e above content = ((λ is. first_fails (reading content) _ e (λ x. ended_fails x.0 x.1 e above) is), (λ fails. rw fails refl))
+only_fails reading e above content = grind (arith, ended_fails, first_fails)
 
 -- a content of a tag
 pub tagged_fails : {X : Type 0} (tag : ℕ) (check : List ℕ → Result X DerError) (P : List ℕ → Type 0) (e : DerError)

@@ -1,5 +1,5 @@
 -- Readings from readings by the mode, and calls that take memory.
-use Rattle.rpki_base.proofs.Common.{Bool, Err, List, Ok, Option, Result, Some, [], arith, false, length, refl, subst, suc, true, zero, ℕ, ◌++◌, ◌<◌, ◌∷◌, ◌≡◌, ◌↔◌, MatchResult, HasOctets, bind_tightens, cond_tightens, each, each_tightens, found_is, lenient_is, looked_tightens, passed_is, passes, passing_tightens, refused_at, same_found, shorter, same_tightens, IsCheck, bind_ok, ok_is, ok_or_err, EachFrom, IsBytes, Refines, Tlv, IsModal, IsReading, Tightens, each_from, optional, passing, tagged_at, ◌>>=◌, Lenient, Strict, Takes, is_strict, left, Cursor, DerError, IsMemory, OrMemory, Memory, Refused, Encloses, IsSequenceFrom, SaysPair, by_tag, enclosed_at, only, pair_by, pair_in, sequence_from, values_from, values_of, NotCanonicalOrMemory, ReadsOrMemory, TakesOrMemory, TakesSaidOrMemory, Grammar, Reading}
+use Rattle.rpki_base.proofs.Common.{Bool, Err, List, Ok, Option, Result, Some, [], arith, false, length, refl, suc, true, zero, ℕ, ◌++◌, ◌<◌, ◌∷◌, ◌≡◌, ◌↔◌, MatchResult, HasOctets, bind_tightens, cond_tightens, each, each_tightens, found_is, lenient_is, looked_tightens, passed_is, passes, passing_tightens, refused_at, same_found, shorter, same_tightens, IsCheck, bind_ok, ok_is, ok_or_err, EachFrom, IsBytes, Refines, Tlv, IsModal, IsReading, Tightens, each_from, optional, passing, tagged_at, ◌>>=◌, Lenient, Strict, Takes, is_strict, left, Cursor, DerError, IsMemory, OrMemory, Memory, Refused, Encloses, IsSequenceFrom, SaysPair, by_tag, enclosed_at, only, pair_by, pair_in, sequence_from, values_from, values_of, NotCanonicalOrMemory, ReadsOrMemory, TakesOrMemory, TakesSaidOrMemory, Grammar, Reading}
 use Rattle.rpki_base.proofs.DerCursors.{optional_back, reads_said_by}
 use Rattle.rpki_base.proofs.DerReadings.{enclosed_reading, pair_check, sequence_reading, values_check}
 
@@ -150,14 +150,12 @@ pub canonical_said_by : {X Y : Type 0} (S : Grammar Y) (C : Y → X → Type 0) 
     → TakesSaidOrMemory C old new result (by (is_strict old)) → IsBytes (left old)
     → Strict old (ReadsOrMemory H (λ x. x) old new result)
 canonical_said_by S C H reading by old new result modal to from took fits strict =
-    let read = reads_said_by S C (by true) old new result modal.tight fits (subst (λ mode. TakesSaidOrMemory C old new result (by mode)) strict took) in
-    reads_same (Refines S C) H (λ x. x) old new result to from read
+    grind (arith, reads_said_by, reads_same)
 
 -- what is found strictly is found in either mode
 pub found_by : {X : Type 0} (S : Grammar X) (reading : Reading X) (by : Bool → Reading X) → IsModal S reading by
     → (strict : Bool) (front : List ℕ) (x : X) (rest : List ℕ) → S front x → by strict (front ++ rest) ≡ Ok (x, rest)
-found_by S reading by modal true front x rest says = modal.tight.again front x rest says
-found_by S reading by modal false front x rest says =
+found_by S reading by modal strict front x rest says =
     grind (arith, modal.tightens, same_found, found_is, modal.tight.again front x rest says)
 
 -- so a take in either mode, where such a value stands, gives it

@@ -1,14 +1,6 @@
 -- Lists that are written: they are values of the grammar, and no two lists are written alike, also in a SEQUENCE.
-use Rattle.rpki_base.proofs.Common.{Bool, List, Ok, [], ap, arith, cond, drop, inl, inr, length, ltb, refl, sym, ℕ, ◌++◌, ◌+◌, ◌<◌, ◌^◌, ◌∙◌, ◌∷◌, ◌≡◌, ◌≤◌, ◌⊎◌, cases_lt, drop_at, length-append, AllByRecursion, HasOctets, each_again, ok_is, Each, header, length_octets, octets, sequence_value, IsReading, each, octets_of_all, Grammar, Reading}
+use Rattle.rpki_base.proofs.Common.{List, Ok, [], ap, arith, length, refl, sym, ℕ, ◌++◌, ◌<◌, ◌^◌, ◌∙◌, ◌∷◌, ◌≡◌, cases_lt, drop_at, length-append, AllByRecursion, HasOctets, each_again, ok_is, Each, header, length_octets, octets, sequence_value, IsReading, each, octets_of_all, Grammar, Reading}
 use Rattle.std.proofs.lemmas.Bool.{le-ltb, lt-ltb}
-
--- the first of lists that are one
-head_of : (a b : ℕ) (xs ys : List ℕ) → a ∷ xs ≡ b ∷ ys → a ≡ b
-head_of a b xs ys e = cc
-
--- and what follows it
-tail_of : (a b : ℕ) (xs ys : List ℕ) → a ∷ xs ≡ b ∷ ys → xs ≡ ys
-tail_of a b xs ys e = cc
 
 -- a SEQUENCE is longer than what is in it
 pub content_shorter : (content : List ℕ) → length (sequence_value content) < 2 ^ 64 → length content < 2 ^ 64
@@ -34,22 +26,12 @@ module _ {X : Type 0} (G : Grammar X) (octets : X → List ℕ) where
 -- what follows the octets of a length is known by them, since the first tells how many others there are
 after_length : (m n : ℕ) (xs ys : List ℕ) → length_octets m ++ xs ≡ length_octets n ++ ys → xs ≡ ys
 unfolding length_octets
-after_length m n xs ys = by_order (cases_lt m 128) (cases_lt n 128)
-  where
-    spelled : ℕ → Bool → List ℕ
-    spelled k short = cond short (k ∷ []) ((128 + length (octets k)) ∷ octets k)
-
-    by_order : (m < 128) ⊎ (128 ≤ m) → (n < 128) ⊎ (128 ≤ n) → spelled m (ltb m 128) ++ xs ≡ spelled n (ltb n 128) ++ ys
-        → xs ≡ ys
-    by_order (inl a) (inl b) = rw (lt-ltb m 128 a, lt-ltb n 128 b) (λ e. tail_of m n xs ys e)
-    by_order (inl a) (inr b) = rw (lt-ltb m 128 a, le-ltb n 128 b) (λ e. absurd (let h : m ≡ 128 + length (octets n) = head_of m (128 + length (octets n)) xs (octets n ++ ys) e in omega (arith, h, a)))
-    by_order (inr a) (inl b) = rw (le-ltb m 128 a, lt-ltb n 128 b) (λ e. absurd (let h : 128 + length (octets m) ≡ n = head_of (128 + length (octets m)) n (octets m ++ xs) ys e in omega (arith, h, b)))
-    by_order (inr a) (inr b) = rw (le-ltb m 128 a, le-ltb n 128 b) (λ e.
-        let h : 128 + length (octets m) ≡ 128 + length (octets n) = head_of (128 + length (octets m)) (128 + length (octets n)) (octets m ++ xs) (octets n ++ ys) e in
-        let t = tail_of (128 + length (octets m)) (128 + length (octets n)) (octets m ++ xs) (octets n ++ ys) e in
-        sym (drop_at (octets m) xs (length (octets m)) refl) ∙ ap (λ (ts : List ℕ). drop (length (octets m)) ts) t ∙ drop_at (octets n) ys (length (octets m)) (omega (arith, h)))
+after_length m n xs ys e =
+    let first = drop_at (octets m) xs (length (octets m)) refl in
+    let second = drop_at (octets n) ys (length (octets m)) in
+    grind (arith, cases_lt m 128, cases_lt n 128, le-ltb, lt-ltb, first, second)
 
 -- SEQUENCEs that are written alike have one content
 pub one_content : (xs ys : List ℕ) → sequence_value xs ≡ sequence_value ys → xs ≡ ys
 unfolding header
-one_content xs ys same = after_length (length xs) (length ys) xs ys (tail_of 48 48 (length_octets (length xs) ++ xs) (length_octets (length ys) ++ ys) same)
+one_content xs ys same = after_length (length xs) (length ys) xs ys cc

@@ -1,11 +1,11 @@
 -- Families are refused for none at all exactly where none are there, and for one that is there twice exactly where it
 -- stands behind members that were read, of which one has it.
-use Rattle.rpki_base.proofs.Common.{Bool, Err, List, Ok, Result, [], ap, arith, cond, false, inl, length, refl, suc, sym, true, zero, ℕ, ◌<◌, ◌↔◌, ◌∙◌, ◌∷◌, ◌≡◌, ◌≢◌, ◌≤◌, ended, refined, tagged_at, ◌>>=◌, DerError, DuplicateFamily, NoFamily, BeginsEmpty, BeginsWithAll, BeginsWithValue, ByFamily, claims_among, families_at, families_in, member_at, member_in, members_by, seen, was_seen, with_claim, family_at, AddressFamily, Reading}
+use Rattle.rpki_base.proofs.Common.{Bool, Err, List, Ok, Result, [], ap, arith, cond, false, inl, inr, length, refl, suc, sym, true, zero, ℕ, ◌<◌, ◌↔◌, ◌∷◌, ◌≡◌, ◌≢◌, ◌≤◌, ended, refined, tagged_at, ◌>>=◌, DerError, DuplicateFamily, NoFamily, BeginsEmpty, BeginsWithAll, BeginsWithValue, ByFamily, claims_among, families_at, families_in, member_at, member_in, members_by, seen, was_seen, family_at, AddressFamily, Reading}
 use Rattle.std.specs.Prelude.{◌⊎◌}
 use Rattle.rpki_base.proofs.DerFaults.{NamesTo, begins_value, bind_fails, bind_names, cond_names, each_names, header_names, names_more, not_named, refined_names, tagged_fails, tagged_shorter}
 use Rattle.rpki_base.proofs.FamiliesGathering.{behind, members_are}
 use Rattle.rpki_base.proofs.FamilyLemmas.{family_names}
-use Rattle.rpki_base.specs.FamiliesFaults.{BeginsAmong, BeginsWithRepeat, any_member_at}
+use Rattle.rpki_base.specs.FamiliesFaults.{BeginsWithRepeat, any_member_at}
 
 module _ {X : Type 0} (claim_at : AddressFamily → Reading X) (names : (family : AddressFamily) (bytes : List ℕ) → NamesTo 11 (claim_at family bytes)) where
   -- what is read of a member behind its family
@@ -71,8 +71,11 @@ module _ {X : Type 0} (claim_at : AddressFamily → Reading X) (names : (family 
   unfolding refined
   member_shorter before bytes one is = grind (arith, tagged_shorter)
 
-  none_seen : (family : AddressFamily) → was_seen (false, false) family ≡ false
-  none_seen family = grind arith
+  -- and it is one whatever stood before it
+  member_alone : (before : Bool × Bool) (bytes : List ℕ) (one : (AddressFamily × X) × List ℕ)
+      → member_at claim_at before bytes ≡ Ok one → any_member_at claim_at bytes ≡ Ok one
+  unfolding refined member_in
+  member_alone before bytes one is = grind arith
 
   -- the family was there, or is that of one of the members
   abbrev IsThere : ByFamily X → List (AddressFamily × X) → AddressFamily → Type 0
@@ -80,14 +83,8 @@ module _ {X : Type 0} (claim_at : AddressFamily → Reading X) (names : (family 
 
   -- one member more
   there_behind : (found : ByFamily X) (member : AddressFamily × X) (members : List (AddressFamily × X))
-      (family : AddressFamily) → IsThere (with_claim found member.0 member.1) members family
-      → IsThere found (member ∷ members) family
-  there_behind found member members family there = grind arith
-
-  there_before : (found : ByFamily X) (member : AddressFamily × X) (members : List (AddressFamily × X))
-      (family : AddressFamily) → IsThere found (member ∷ members) family
-      → IsThere (with_claim found member.0 member.1) members family
-  there_before found member members family there = grind arith
+      (family : AddressFamily) → IsThere (behind found member) members family ↔ IsThere found (member ∷ members) family
+  there_behind found member members family = grind arith
 
   abbrev BeginsThere : ByFamily X → List (AddressFamily × X) → List ℕ → Type 0
   BeginsThere found members content = (family : AddressFamily × List ℕ) × (family_at content ≡ Ok family) × IsThere found members family.0
@@ -95,32 +92,37 @@ module _ {X : Type 0} (claim_at : AddressFamily → Reading X) (names : (family 
   abbrev Repeats : ByFamily X → List ℕ → Type 0
   Repeats found bytes = (members : List (AddressFamily × X)) × (rest : List ℕ) × BeginsWithAll (any_member_at claim_at) bytes members rest × BeginsWithValue 48 (BeginsThere found members) rest
 
+  -- a fault of two steps is that of the one or of the other
+  bind_err : {A B : Type 0} (r : Result A DerError) (f : A → Result B DerError) (e : DerError) → (r >>= f) ≡ Err e
+      → (r ≡ Err e) ⊎ ((x : A) × (r ≡ Ok x) × (f x ≡ Err e))
+  bind_err (Ok x) f e is = inr (x, refl, is)
+  bind_err (Err d) f e is = inl (grind arith)
+
   -- a refusal is that of the first member whose family was there
   repeats : (steps : ℕ) (found : ByFamily X) (bytes : List ℕ)
       → members_by (member_at claim_at) steps found bytes ≡ Err DuplicateFamily → Repeats found bytes
   unfolding members_by
-  repeats zero found [] is = absurd cc
+  repeats zero found bytes is = absurd (grind arith)
   repeats (suc steps) found [] is = absurd cc
-  repeats zero found (b ∷ bytes) is = absurd cc
-  repeats (suc steps) found (b ∷ bytes) is = by_member (λ one fails. repeats steps (with_claim found one.0.0 one.0.1) one.1 fails) (member_at claim_at (seen found) (b ∷ bytes)) refl is
-    where
-      by_member : ((one : (AddressFamily × X) × List ℕ)
-          → members_by (member_at claim_at) steps (with_claim found one.0.0 one.0.1) one.1 ≡ Err DuplicateFamily
-          → Repeats (with_claim found one.0.0 one.0.1) one.1) → (r : Result ((AddressFamily × X) × List ℕ) DerError)
-          → member_at claim_at (seen found) (b ∷ bytes) ≡ r
-          → (r >>= λ one. members_by (member_at claim_at) steps (with_claim found one.0.0 one.0.1) one.1)
-          ≡ Err DuplicateFamily → Repeats found (b ∷ bytes)
-      by_member again (Ok one) read fails =
-          let more = again one fails in
-          let alone : member_at claim_at (false, false) (b ∷ bytes) ≡ Ok one = member_behind (seen found) (false, false) (b ∷ bytes) one.0 one.1 read ∙ ap (λ t. cond t (Err DuplicateFamily) (Ok one)) (none_seen one.0.0) in (
-            one.0 ∷ more.0,
-            more.1,
-            (one.1, alone, more.2),
-            begins_value 48 (BeginsThere (with_claim found one.0.0 one.0.1) more.0) (BeginsThere found (one.0 ∷ more.0)) (λ content (family, at, there). (family, at, there_behind found one.0 more.0 family.0 there)) more.1 more.3,
-          )
-      by_member again (Err d) read fails =
-          let failed : member_at claim_at (seen found) (b ∷ bytes) ≡ Err DuplicateFamily = read ∙ cc in
-          ([], b ∷ bytes, refl, begins_value 48 (BeginsSeen (seen found)) (BeginsThere found []) (λ content (family, at, there). (family, at, inl there)) (b ∷ bytes) ((member_fails (seen found) (b ∷ bytes)).0 failed))
+  repeats (suc steps) found (b ∷ bytes) is = elim (bind_err (member_at claim_at (seen found) (b ∷ bytes)) _ _ is) [
+    | inl failed ↦
+        let begins = (member_fails (seen found) (b ∷ bytes)).0 failed in (
+          [],
+          b ∷ bytes,
+          refl,
+          begins_value 48 (BeginsSeen (seen found)) (BeginsThere found [])
+              (λ content (family, at, there). (family, at, inl there)) (b ∷ bytes) begins,
+        )
+    | inr (one, read, fails) ↦
+        let more = repeats steps (behind found one.0) one.1 fails in (
+          one.0 ∷ more.0,
+          more.1,
+          (one.1, member_alone (seen found) (b ∷ bytes) one read, more.2),
+          begins_value 48 (BeginsThere (behind found one.0) more.0) (BeginsThere found (one.0 ∷ more.0))
+              (λ content (family, at, there). (family, at, (there_behind found one.0 more.0 family.0).0 there))
+              more.1 more.3,
+        )
+  ]
 
   -- and there the reading stops; fewer octets are left behind a member, so the steps are enough
   fails_repeats : (steps : ℕ) (found : ByFamily X) (members : List (AddressFamily × X)) (bytes rest : List ℕ)
@@ -128,23 +130,18 @@ module _ {X : Type 0} (claim_at : AddressFamily → Reading X) (names : (family 
       → BeginsWithValue 48 (BeginsThere found members) rest
       → members_by (member_at claim_at) steps found bytes ≡ Err DuplicateFamily
   unfolding members_by
-  fails_repeats steps found [] [] rest enough all there = absurd (let bytes : rest ≡ [] = sym all in let some = tagged_shorter 48 rest there.0 there.1 in omega (arith, some, ap length bytes))
+  fails_repeats steps found [] [] rest enough all there =
+      absurd (let some = tagged_shorter 48 rest there.0 there.1 in omega (arith, some, ap length (sym all)))
   fails_repeats steps found (m ∷ ms) [] rest enough all there = absurd (let some = member_shorter (false, false) [] (m, all.0) all.1 in omega (arith, some))
   fails_repeats zero found members (b ∷ bytes) rest enough all there = absurd (omega (arith, enough))
   fails_repeats (suc steps) found [] (b ∷ bytes) rest enough all there = grind (arith, begins_value, member_fails)
-  fails_repeats (suc steps) found (m ∷ ms) (b ∷ bytes) rest enough all there = by_family (λ fewer begins. fails_repeats steps (with_claim found m.0 m.1) ms all.0 rest fewer all.2 begins) (was_seen (seen found) m.0) refl
-    where
-      by_family : (length all.0 ≤ steps → BeginsWithValue 48 (BeginsThere (with_claim found m.0 m.1) ms) rest
-          → members_by (member_at claim_at) steps (with_claim found m.0 m.1) all.0 ≡ Err DuplicateFamily) → (t : Bool)
-          → was_seen (seen found) m.0 ≡ t
-          → (member_at claim_at (seen found) (b ∷ bytes) >>= λ one. members_by (member_at claim_at) steps
-          (with_claim found one.0.0 one.0.1) one.1) ≡ Err DuplicateFamily
-      by_family again true was = rw (member_behind (false, false) (seen found) (b ∷ bytes) m all.0 all.1, was) refl
-      by_family again false new =
-          let fewer : length all.0 < length (b ∷ bytes) = member_shorter (false, false) (b ∷ bytes) (m, all.0) all.1 in
-          let begins = begins_value 48 (BeginsThere found (m ∷ ms)) (BeginsThere (with_claim found m.0 m.1) ms) (λ content (family, at, there). (family, at, there_before found m ms family.0 there)) rest there in
-          let more = again (omega (arith, fewer, enough)) begins in
-          rw (member_behind (false, false) (seen found) (b ∷ bytes) m all.0 all.1, new) more
+  fails_repeats (suc steps) found (m ∷ ms) (b ∷ bytes) rest enough all there =
+      let same = member_behind (false, false) (seen found) (b ∷ bytes) m all.0 all.1 in
+      let fewer = member_shorter (false, false) (b ∷ bytes) (m, all.0) all.1 in
+      let begins = begins_value 48 (BeginsThere found (m ∷ ms)) (BeginsThere (behind found m) ms)
+      (λ content (family, at, there). (family, at, (there_behind found m ms family.0).1 there)) rest there in
+      let more = fails_repeats steps (behind found m) ms all.0 rest (omega (arith, fewer, enough)) all.2 begins in
+      rw same (grind (arith, more))
 
   twice_fails : (content : List ℕ) → families_in claim_at content ≡ Err DuplicateFamily
       → BeginsWithRepeat claim_at content
@@ -153,14 +150,8 @@ module _ {X : Type 0} (claim_at : AddressFamily → Reading X) (names : (family 
 
   fails_twice : (content : List ℕ) → BeginsWithRepeat claim_at content
       → families_in claim_at content ≡ Err DuplicateFamily
-  unfolding families_in
-  fails_twice [] (members, rest, all, begins) = absurd (none_there members all begins)
-    where
-      none_there : (members : List (AddressFamily × X)) → BeginsWithAll (any_member_at claim_at) [] members rest
-          → BeginsAmong members rest → ⊥
-      none_there [] all begins = let some = tagged_shorter 48 rest begins.0 begins.1 in omega (arith, some, ap length (sym all))
-      none_there (m ∷ ms) all begins = let some = member_shorter (false, false) [] (m, all.0) all.1 in omega (arith, some)
-  fails_twice (b ∷ bytes) (members, rest, all, begins) = grind (arith, begins_value, fails_repeats)
+  unfolding families_in members_by
+  fails_twice content repeat = grind (arith, begins_value, fails_repeats)
 
   pub family_twice : (bytes : List ℕ)
       → (families_at claim_at bytes ≡ Err DuplicateFamily) ↔ BeginsWithValue 48 (BeginsWithRepeat claim_at) bytes

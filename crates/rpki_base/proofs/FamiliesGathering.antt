@@ -1,5 +1,5 @@
 -- Members to the end of the octets: what is found is what stands there, each family once.
-use Rattle.rpki_base.proofs.Common.{Bool, List, Ok, Option, Result, Err, [], ap, arith, cond, eqb, false, length, refl, subst, suc, zero, ℕ, ◌++◌, ◌∙◌, ◌∷◌, ◌≡◌, ◌≢◌, eqb-false, ne_eqb, append-nil, AllByRecursion, IfSome, HasOctets, each_again, each_takes, shorter, value_has_octets, fits_content, refined_reading, tagged_reading, bind_ok, ok_is, passed, IsCheck, Each, EachFrom, IsBytes, IsSequence, Refines, IsReading, tagged_at, DerError, NoFamily, each_from, ◌>>=◌, sym, ByFamily, IsFamilies, IsMember, SaysFamilies, claims_among, listed, of_family, families_at, families_in, member_at, members_by, none_found, seen, was_seen, with_claim, AddressFamily, Ipv4, Ipv6, Grammar, Reading}
+use Rattle.rpki_base.proofs.Common.{Bool, List, Ok, Option, Result, Err, [], ap, arith, cond, eqb, false, length, refl, subst, suc, zero, ℕ, ◌++◌, ◌∙◌, ◌↔◌, ◌∷◌, ◌≡◌, ◌≢◌, eqb-false, ne_eqb, append-nil, AllByRecursion, IfSome, HasOctets, each_again, each_takes, shorter, value_has_octets, fits_content, refined_reading, tagged_reading, bind_ok, ok_is, passed, IsCheck, Each, EachFrom, IsBytes, IsSequence, Refines, IsReading, tagged_at, DerError, NoFamily, each_from, ◌>>=◌, sym, ByFamily, IsFamilies, IsMember, SaysFamilies, claims_among, listed, of_family, families_at, families_in, member_at, members_by, none_found, seen, was_seen, with_claim, AddressFamily, Ipv4, Ipv6, Grammar, Reading}
 use Rattle.rpki_base.proofs.FamiliesMembers.{SaysNew, member_reading}
 
 -- what was found before and what these members have is all
@@ -7,40 +7,19 @@ abbrev pub Adds : {X : Type 0} → ByFamily X → List (AddressFamily × X) → 
 Adds before members fs = (family : AddressFamily) → listed (of_family family before) ++ claims_among family members ≡ listed (of_family family fs)
 
 module _ {X : Type 0} where
-  -- a list of one at most tells what there is
-  pub listed_is : (a b : Option X) → listed a ++ [] ≡ listed b → a ≡ b
-  listed_is a b e = grind arith
-
   -- no members add nothing
   nothing_adds : (fs : ByFamily X) → Adds fs [] fs
   nothing_adds fs = λ family. append-nil (listed (of_family family fs))
 
   -- and nothing more is all
   no_more : (before fs : ByFamily X) → Adds before [] fs → before ≡ fs
-  no_more before fs adds =
-      let a : before.0 ≡ fs.0 = listed_is before.0 fs.0 (adds Ipv4) in
-      let b : before.1 ≡ fs.1 = listed_is before.1 fs.1 (adds Ipv6) in
-      λ i. (a i, b i)
+  no_more before fs adds = grind (arith, adds Ipv4, adds Ipv6)
 
-  -- a claim that is new to its family
-  pub add_one : (before : ByFamily X) (family : AddressFamily) (x : X) (members : List (AddressFamily × X))
-      (fs : ByFamily X) → was_seen (seen before) family ≡ false → Adds (with_claim before family x) members fs
-      → Adds before ((family, x) ∷ members) fs
-  add_one before family x members fs new adds = grind arith
-
-  -- two claims are more than a family has
-  too_many : (x y : X) (zs : List X) (o : Option X) → x ∷ y ∷ zs ≡ listed o → ⊥
-  too_many x y zs o e = grind arith
-
-  -- the claim is new to its family, and it and the others are all
-  pub record One (before : ByFamily X) (family : AddressFamily) (x : X) (members : List (AddressFamily × X)) (fs : ByFamily X) : Type 0 where
-    pub new : was_seen (seen before) family ≡ false
-    pub adds : Adds (with_claim before family x) members fs
-
-  -- the first member of those that are left
-  pub one_more : (before : ByFamily X) (family : AddressFamily) (x : X) (members : List (AddressFamily × X))
-      (fs : ByFamily X) → Adds before ((family, x) ∷ members) fs → One before family x members fs
-  one_more before family x members fs adds = grind (arith, too_many, adds Ipv4, adds Ipv6)
+  -- a claim more, which is new to its family
+  one_more : (before : ByFamily X) (family : AddressFamily) (x : X) (members : List (AddressFamily × X))
+      (fs : ByFamily X) → Adds before ((family, x) ∷ members) fs
+      ↔ ((was_seen (seen before) family ≡ false) × Adds (with_claim before family x) members fs)
+  one_more before family x members fs = ((λ adds. grind (arith, adds Ipv4, adds Ipv6)), λ (new, adds). grind arith)
 
 -- what was found with a member more, and with members more
 abbrev pub behind : {X : Type 0} → ByFamily X → AddressFamily × X → ByFamily X
@@ -106,15 +85,16 @@ module _ {X : Type 0} (G : AddressFamily → Grammar X) where
       → EachFrom behind New before content members → gather before members ≡ fs
       → Each (IsMember G) content members × Adds before members fs
   each_of_new [] before content fs all same = (all, subst (Adds before []) same (nothing_adds before))
-  each_of_new (m ∷ members) before content fs (rest, (front, (inner, at, (says, new)), split), more) same = grind (arith, add_one, each_of_new members (behind before m) rest fs more same)
+  each_of_new (m ∷ members) before content fs (rest, (front, (inner, at, (says, new)), split), more) same =
+      grind (arith, one_more before m.0 m.1 members fs, each_of_new members (behind before m) rest fs more same)
 
   new_of_each : (members : List (AddressFamily × X)) (before : ByFamily X) (content : List ℕ) (fs : ByFamily X)
       → Each (IsMember G) content members → Adds before members fs
       → EachFrom behind New before content members × (gather before members ≡ fs)
   new_of_each [] before content fs all adds = (all, no_more before fs adds)
   new_of_each (m ∷ members) before content fs (rest, (front, (inner, at, says), split), more) adds =
-      let one = one_more before m.0 m.1 members fs adds in
-      grind (arith, new_of_each members (behind before m) rest fs more one.adds)
+      let one = (one_more before m.0 m.1 members fs).0 adds in
+      grind (arith, new_of_each members (behind before m) rest fs more one.1)
 
   -- a SEQUENCE of families
   pub families_reading : (claim_at : AddressFamily → Reading X)
@@ -143,10 +123,7 @@ module _ {X : Type 0} (G : AddressFamily → Grammar X) where
   claims_there : (family : AddressFamily) (members : List (AddressFamily × X)) (content : List ℕ)
       → Each (IsMember G) content members → AllByRecursion (IsThere family) (claims_among family members)
   claims_there family [] content all = tt
-  claims_there Ipv4 ((Ipv4, x) ∷ members) content (rest, (front, (inner, is, (after, first, claim)), at), all) = ((after, claim), claims_there Ipv4 members rest all)
-  claims_there Ipv4 ((Ipv6, x) ∷ members) content (rest, found, all) = claims_there Ipv4 members rest all
-  claims_there Ipv6 ((Ipv4, x) ∷ members) content (rest, found, all) = claims_there Ipv6 members rest all
-  claims_there Ipv6 ((Ipv6, x) ∷ members) content (rest, (front, (inner, is, (after, first, claim)), at), all) = ((after, claim), claims_there Ipv6 members rest all)
+  claims_there family (m ∷ members) content (rest, found, all) = grind (arith, claims_there family members rest all)
 
   -- and so does what they gather
   one_there : (family : AddressFamily) (o : Option X) → AllByRecursion (IsThere family) (listed o)

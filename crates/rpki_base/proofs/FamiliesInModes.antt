@@ -1,5 +1,5 @@
 -- Families of which each claim says something, in either mode: strictly, the octets are those that are written of them.
-use Rattle.rpki_base.proofs.Common.{Bool, List, None, Option, Result, Some, [], ap, arith, length, refl, subst, sym, ℕ, ◌++◌, ◌<◌, ◌^◌, ◌∙◌, ◌∷◌, ◌≡◌, ◌≢◌, append-nil, length-append, IfSome, value_is, sequence_value, DerError, AreInOrder, ByFamily, IsFamilies, IsFamiliesInOrder, IsMember, SaysByFamily, SaysFamilies, SaysOption, families_at, families_by, families_der, family_der, member_der, option_der, AddressFamily, Ipv4, Ipv6}
+use Rattle.rpki_base.proofs.Common.{Bool, List, None, Option, Result, Some, [], ap, arith, length, refl, sym, ℕ, ◌++◌, ◌<◌, ◌^◌, ◌∙◌, ◌∷◌, ◌≡◌, ◌≢◌, append-nil, length-append, IfSome, value_is, sequence_value, DerError, AreInOrder, ByFamily, IsFamilies, IsFamiliesInOrder, IsMember, SaysByFamily, SaysFamilies, SaysOption, families_at, families_by, families_der, member_der, none_found, option_der, with_claim, AddressFamily, Ipv4, Ipv6}
 use Rattle.rpki_base.proofs.FamiliesGathering.{families_reading}
 use Rattle.rpki_base.proofs.FamiliesModes.{families_modal}
 use Rattle.rpki_base.proofs.FamiliesSaid.{one_by_family}
@@ -16,54 +16,23 @@ module _ {X Y : Type 0} (G S : AddressFamily → List ℕ → Y → Type 0) (C :
 
   member_spelled : (family : AddressFamily) (bytes : List ℕ) (y : Y) (x : X) → IsMember S bytes (family, y) → C y x
       → P family x × (bytes ≡ member_der octets family x)
-  member_spelled family bytes y x (content, at, (rest, (front, name, split), found)) says =
-      let spelled = (is family).spelled rest y x found says in
-      let whole = split ∙ ap (λ (t : List ℕ). t ++ rest) name.spelled
-      ∙ ap (λ (t : List ℕ). family_der family ++ t) spelled.1 in
-      (spelled.0, at.spelled ∙ ap sequence_value whole)
+  member_spelled family bytes y x member says = grind (arith, (is family).spelled)
 
   member_says : (family : AddressFamily) (x : X) → P family x → length (member_der octets family x) < 2 ^ 64
       → (y : Y) × IsMember S (member_der octets family x) (family, y) × C y x
   member_says family x p short =
-      let content = family_der family ++ octets x in
-      let small : length content < 2 ^ 64 = content_shorter content short in
-      let found = (is family).says x p (omega (arith, small, length-append (family_der family) (octets x))) in (
-        found.0,
-        (
-          content,
-          value_is 48 content (omega arith) small,
-          (octets x, (family_der family, family_written family, refl), found.1),
-        ),
-        found.2,
-      )
+      grind (arith, content_shorter, family_written, length-append, value_is, (is family).says x p)
 
   member_looser : (family : AddressFamily) (bytes : List ℕ) (y : Y) → IsMember S bytes (family, y)
       → IsMember G bytes (family, y)
-  member_looser family bytes y (content, at, (rest, name, found)) =
-      (content, at, (rest, name, (is family).looser rest y found))
+  member_looser family bytes y says = grind (arith, (is family).looser)
 
   -- ---- in order
 
   in_order_spelled : (content : List ℕ) (y4 y6 : Option Y) (x4 x6 : Option X) → AreInOrder S content y4 y6
       → SaysOption C y4 x4 → SaysOption C y6 x6
       → ArePresent (x4, x6) × (content ≡ option_der octets Ipv4 x4 ++ option_der octets Ipv6 x6)
-  in_order_spelled content None None x4 x6 are first second = absurd are
-  in_order_spelled content (Some y) y6 None x6 are first second = absurd first
-  in_order_spelled content y4 (Some y) x4 None are first second = absurd second
-  in_order_spelled content None y6 (Some x) x6 are first second = absurd first
-  in_order_spelled content y4 None x4 (Some x) are first second = absurd second
-  in_order_spelled content (Some y) None (Some x) None are first second =
-      let one = member_spelled Ipv4 content y x are first in
-      ((one.0, tt, (λ e. absurd cc)), one.1 ∙ sym (append-nil _))
-  in_order_spelled content None (Some y) None (Some x) are first second =
-      let one = member_spelled Ipv6 content y x are second in
-      ((tt, one.0, (λ none e. absurd cc)), one.1)
-  in_order_spelled content (Some y) (Some z) (Some x) (Some w) (rest, (front, found, split), last) first second =
-      let one = member_spelled Ipv4 front y x found first in
-      let other = member_spelled Ipv6 rest z w last second in (
-        (one.0, other.0, (λ e. absurd cc)),
-        split ∙ ap (λ (t : List ℕ). t ++ rest) one.1 ∙ ap (λ (t : List ℕ). member_der octets Ipv4 x ++ t) other.1,
-      )
+  in_order_spelled content y4 y6 x4 x6 are first second = grind (arith, append-nil, member_spelled)
 
   in_order_says : (x4 x6 : Option X) → ArePresent (x4, x6)
       → length (option_der octets Ipv4 x4 ++ option_der octets Ipv6 x6) < 2 ^ 64
@@ -71,9 +40,8 @@ module _ {X Y : Type 0} (G S : AddressFamily → List ℕ → Y → Type 0) (C :
       × SaysByFamily C ys (x4, x6)
   in_order_says None None are small = absurd (are.2 refl refl)
   in_order_says (Some x) None are small =
-      let whole = append-nil (member_der octets Ipv4 x) in
-      let one = member_says Ipv4 x are.0 (subst (λ (t : List ℕ). length t < 2 ^ 64) whole small) in
-      ((Some one.0, None), subst (λ (t : List ℕ). IsMember S t (Ipv4, one.0)) (sym whole) one.1, (one.2, tt))
+      let one = member_says Ipv4 x are.0 (rw append-nil at small) in
+      ((Some one.0, None), rw append-nil one.1, (one.2, tt))
   in_order_says None (Some x) are small =
       let one = member_says Ipv6 x are.1 small in ((None, Some one.0), one.1, (tt, one.2))
   in_order_says (Some x) (Some w) are small =
@@ -82,20 +50,20 @@ module _ {X Y : Type 0} (G S : AddressFamily → List ℕ → Y → Type 0) (C :
       let other = member_says Ipv6 w are.1 (omega (arith, small, parts)) in
       ((Some one.0, Some other.0), (_, (_, one.1, refl), other.1), (one.2, other.2))
 
+  -- one member, and nothing behind it
+  alone : (content : List ℕ) (family : AddressFamily) (y : Y) → IsMember S content (family, y)
+      → SaysFamilies G content (with_claim none_found family y)
+  alone content family y are = (
+    (family, y) ∷ [],
+    ([], (content, member_looser family content y are, sym (append-nil content)), refl),
+    (λ none. absurd cc),
+    λ other. grind arith,
+  )
+
   in_order_looser : (content : List ℕ) (y4 y6 : Option Y) → AreInOrder S content y4 y6 → SaysFamilies G content (y4, y6)
   in_order_looser content None None are = absurd are
-  in_order_looser content (Some y) None are = (
-    (Ipv4, y) ∷ [],
-    ([], (content, member_looser Ipv4 content y are, sym (append-nil content)), refl),
-    (λ none. absurd cc),
-    elim [ Ipv4 ↦ refl | Ipv6 ↦ refl ],
-  )
-  in_order_looser content None (Some y) are = (
-    (Ipv6, y) ∷ [],
-    ([], (content, member_looser Ipv6 content y are, sym (append-nil content)), refl),
-    (λ none. absurd cc),
-    elim [ Ipv4 ↦ refl | Ipv6 ↦ refl ],
-  )
+  in_order_looser content (Some y) None are = alone content Ipv4 y are
+  in_order_looser content None (Some y) are = alone content Ipv6 y are
   in_order_looser content (Some y) (Some z) (rest, (front, first, split), last) = (
     (Ipv4, y) ∷ (Ipv6, z) ∷ [],
     (

@@ -21,32 +21,20 @@ module _ {X Y : Type 0} (member_of : Bool × Bool → Reading (AddressFamily × 
     pub enough : length bytes ≤ steps
     pub whole : members_by member_of steps before bytes ≡ total
 
-  -- a turn, by the steps that are left
-  more_by : (steps : ℕ) (before : ByFamily Y) (found : ByFamily X) (b : ℕ) (bytes : List ℕ)
-      (total : Result (ByFamily Y) DerError) (read : AddressFamily × Y) (member : AddressFamily × X) (rest : List ℕ)
-      → SaysByFamily C before found → length (b ∷ bytes) ≤ steps → members_by member_of steps before (b ∷ bytes) ≡ total
-      → member_of (seen found) (b ∷ bytes) ≡ Ok (read, rest) → SaysClaim C read member
-      → length rest < length (b ∷ bytes) → SoFar (with_claim found member.0 member.1) rest total
-  unfolding members_by
-  more_by steps before found b bytes total read member rest says enough whole at claim fewer = grind arith
-
   -- a turn that reads a member
   pub loop_more : (found : ByFamily X) (bytes : List ℕ) (total : Result (ByFamily Y) DerError)
       (read : AddressFamily × Y) (member : AddressFamily × X) (rest : List ℕ) → SoFar found bytes total
       → member_of (seen found) bytes ≡ Ok (read, rest) → SaysClaim C read member → length rest < length bytes
       → SoFar (with_claim found member.0 member.1) rest total
-  loop_more found [] total read member rest so at claim fewer = absurd (omega arith)
-  loop_more found (b ∷ bytes) total read member rest so at claim fewer = more_by so.steps so.before found b bytes total read member rest so.says so.enough so.whole at claim fewer
-
-  -- at the end nothing more is read
-  ends_by : (steps : ℕ) (before : ByFamily Y) → members_by member_of steps before [] ≡ Ok before
   unfolding members_by
-  ends_by steps before = grind (arith)
+  loop_more found [] total read member rest so at claim fewer = absurd (omega arith)
+  loop_more found (b ∷ bytes) total read member rest so at claim fewer = grind arith
 
   -- at the end of the octets what was found is all
   pub loop_ends : (found : ByFamily X) (bytes : List ℕ) (total : Result (ByFamily Y) DerError) → SoFar found bytes total
       → bytes ≡ [] → (all : ByFamily Y) × (total ≡ Ok all) × SaysByFamily C all found
-  loop_ends found bytes total so none = (so.before, sym so.whole ∙ ap (members_by member_of so.steps so.before) none ∙ ends_by so.steps so.before, so.says)
+  unfolding members_by
+  loop_ends found bytes total so none = grind arith
 
   -- a turn that fails, by the steps that are left
   fails_by : (steps : ℕ) (before : ByFamily Y) (b : ℕ) (bytes : List ℕ) (e : DerError) → length (b ∷ bytes) ≤ steps

@@ -1,6 +1,6 @@
 -- A member that is read is one of a family that wasn't there before, and each such member is read; strictly, of those
 -- that stand in order.
-use Rattle.rpki_base.proofs.Common.{Bool, Err, List, Ok, Result, [], ap, arith, cond, false, refl, true, ◌↔◌, sym, ℕ, ◌∙◌, ◌≡◌, append-nil, fits_content, fits_rest, refined_reading, tagged_reading, bind_ok, ok_is, passed, IsBytes, IsSequence, Refines, IsReading, ended, passing, tagged_at, ◌>>=◌, DerError, DuplicateFamily, SaysMember, is_in_order, member_at, member_by, member_in, member_in_by, was_seen, IsFamilyDer, family_at, AddressFamily, Grammar, Reading}
+use Rattle.rpki_base.proofs.Common.{Bool, List, Ok, [], ap, arith, false, refl, true, ◌↔◌, sym, ℕ, ◌∙◌, ◌≡◌, append-nil, fits_content, fits_rest, refined_reading, tagged_reading, bind_ok, ok_is, passed, IsBytes, IsSequence, Refines, IsReading, ended, passing, tagged_at, SaysMember, is_in_order, member_at, member_by, member_in, member_in_by, was_seen, IsFamilyDer, family_at, AddressFamily, Grammar, Reading}
 use Rattle.rpki_base.proofs.DerReadings.{ended_is}
 use Rattle.rpki_base.proofs.FamilyLemmas.{family_reading}
 
@@ -18,12 +18,10 @@ module _ {X : Type 0} (G : AddressFamily → Grammar X) (claim_at : AddressFamil
       → member_in claim_at before content ≡ Ok member → SaysNew G before content member
   unfolding member_in
   member_says before content member fits e =
-      let finish : AddressFamily → X × List ℕ → Result (AddressFamily × X) DerError = λ family claim. ended claim.1 >>= λ end. Ok (family, claim.0) in
-      let after : AddressFamily × List ℕ → Result (AddressFamily × X) DerError = λ family. cond (was_seen before family.0) (Err DuplicateFamily) (claim_at family.0 family.1 >>= finish family.0) in
-      let f = bind_ok (family_at content) after member e in
-      let g = passed (was_seen before f.0.0) DuplicateFamily (claim_at f.0.0 f.0.1 >>= finish f.0.0) member f.2 in
-      let c = bind_ok (claim_at f.0.0 f.0.1) (finish f.0.0) member g.1 in
-      let z = bind_ok (ended c.0.1) (λ end. Ok (f.0.0, c.0.0)) member c.2 in
+      let f = bind_ok (family_at content) _ member e in
+      let g = passed (was_seen before f.0.0) _ _ member f.2 in
+      let c = bind_ok (claim_at f.0.0 f.0.1) _ member g.1 in
+      let z = bind_ok (ended c.0.1) _ member c.2 in
       let first = family_reading.takes content f.0.0 f.0.1 fits f.1 in
       let second = (is f.0.0).takes f.0.1 c.0.0 c.0.1 (fits_rest IsFamilyDer content f.0.0 f.0.1 first fits) c.1 in
       grind (arith, append-nil, ended_is, ok_is)

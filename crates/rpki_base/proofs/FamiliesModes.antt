@@ -1,5 +1,5 @@
 -- Families in either mode.
-use Rattle.rpki_base.proofs.Common.{Bool, List, None, Option, Result, Some, [], ap, arith, false, length, refl, subst, sym, true, ℕ, ◌++◌, ◌∙◌, ◌∷◌, ◌≡◌, ◌≢◌, append-nil, value_has_octets, bind_tightens, cond_tightens, each_tightens, looked_tightens, passing_tightens, same_found, fits_content, refined_reading, tagged_reading, EachFrom, Front, IsBytes, IsSequence, Refines, IsModal, Tightens, tagged_at, Lenient, is_strict, Cursor, DerError, OrMemory, TakesSaidOrMemory, AreInOrder, ByFamily, IsFamiliesInOrder, IsMember, families_at, families_by, families_in, families_in_by, member_at, member_by, member_in, member_in_by, none_found, seen, AddressFamily, Ipv4, Ipv6, Grammar, Reading}
+use Rattle.rpki_base.proofs.Common.{Bool, List, None, Option, Result, Some, [], arith, false, length, refl, subst, sym, true, ℕ, ◌∷◌, ◌≡◌, ◌≢◌, append-nil, value_has_octets, bind_tightens, cond_tightens, each_tightens, looked_tightens, passing_tightens, same_found, fits_content, refined_reading, tagged_reading, EachFrom, Front, IsBytes, IsSequence, Refines, IsModal, Tightens, tagged_at, Lenient, is_strict, Cursor, DerError, OrMemory, TakesSaidOrMemory, AreInOrder, ByFamily, IsFamiliesInOrder, IsMember, families_at, families_by, families_in, families_in_by, member_at, member_by, member_in, member_in_by, none_found, seen, AddressFamily, Ipv4, Ipv6, Grammar, Reading}
 use Rattle.rpki_base.proofs.FamiliesGathering.{behind, gather, members_are, members_check}
 use Rattle.rpki_base.proofs.FamiliesMembers.{SaysNext, next_reading}
 
@@ -44,14 +44,13 @@ module _ {X : Type 0} (S : AddressFamily → Grammar X) where
   -- what ends behind a member is that member
   last_is : (before : ByFamily X) (bytes : List ℕ) (member : AddressFamily × X) (rest : List ℕ) → rest ≡ []
       → Front (Next before) bytes member rest → IsMember S bytes member
-  last_is before bytes member rest none (front, (content, at, says), split) = subst (λ (t : List ℕ). IsMember S t member) (sym (split ∙ ap (λ (t : List ℕ). front ++ t) none ∙ append-nil front)) (content, at, says.0.0)
+  last_is before bytes member rest none at = grind (arith, append-nil)
 
   -- members, of which none stands behind IPv6, and none behind IPv4 but of IPv6
   in_order : (members : List (AddressFamily × X)) (content : List ℕ) → EachFrom behind Next none_found content members
       → members ≢ [] → AreInOrder S content (gather none_found members).0 (gather none_found members).1
   in_order [] content all some = absurd (some refl)
-  in_order ((Ipv4, x) ∷ []) content (rest, found, none) some = last_is none_found content (Ipv4, x) rest none found
-  in_order ((Ipv6, y) ∷ []) content (rest, found, none) some = last_is none_found content (Ipv6, y) rest none found
+  in_order (m ∷ []) content (rest, found, none) some = grind (arith, last_is none_found content m rest none found)
   in_order ((Ipv4, x) ∷ (Ipv6, y) ∷ []) content (rest, (front, (inner, at, says), split), (after, found, none)) some = (rest, (front, (inner, at, says.0.0), split), last_is (Some x, None) rest (Ipv6, y) after none found)
   in_order ((Ipv4, x) ∷ (Ipv4, z) ∷ members) content all some = absurd (let new = all.2.1.1.2.0.1 in cc)
   in_order ((Ipv4, x) ∷ (Ipv6, y) ∷ m ∷ members) content all some = absurd (grind arith)

@@ -39,9 +39,7 @@ module _ {X Y : Type 0} (G : AddressFamily → Grammar Y) (C : Y → X → Type 
       → Say C (claims_among Ipv4 members) v4 → Say C (claims_among Ipv6 members) v6
       → (others : List (AddressFamily × X)) × Each (IsMember Stands) content others × (claims_among Ipv4 others ≡ v4)
       × (claims_among Ipv6 others ≡ v6) × (members ≢ [] → others ≢ [])
-  told [] content [] [] all first second = ([], all, refl, refl, λ some. absurd (some refl))
-  told [] content (x ∷ v4) v6 all first second = absurd first
-  told [] content [] (x ∷ v6) all first second = absurd second
+  told [] content v4 v6 all first second = ([], all, grind arith, grind arith, λ some. absurd (some refl))
   told ((Ipv4, y) ∷ members) content [] v6 all first second = absurd first
   told ((Ipv6, y) ∷ members) content v4 [] all first second = absurd second
   told ((Ipv4, y) ∷ members) content (x ∷ v4) v6 (rest, (front, (inner, is, (after, at, claim)), cut), all) one other =
@@ -68,14 +66,10 @@ module _ {X Y : Type 0} (G : AddressFamily → Grammar Y) (C : Y → X → Type 
       × Say C (claims_among Ipv4 members) (claims_among Ipv4 others)
       × Say C (claims_among Ipv6 members) (claims_among Ipv6 others) × (others ≢ [] → members ≢ [])
   found [] content all = ([], all, tt, tt, λ some. absurd (some refl))
-  found ((Ipv4, x) ∷ others) content (rest, (front, (inner, is, (after, at, (y, claim, says))), split), all) =
+  found ((family, x) ∷ others) content (rest, (front, (inner, is, (after, at, (y, claim, says))), split), all) =
       let more = found others rest all in
-      let member : IsMember G front (Ipv4, y) = (inner, is, (after, at, claim)) in
-      ((Ipv4, y) ∷ more.0, (rest, (front, member, split), more.1), (says, more.2), more.3, λ some none. absurd cc)
-  found ((Ipv6, x) ∷ others) content (rest, (front, (inner, is, (after, at, (y, claim, says))), split), all) =
-      let more = found others rest all in
-      let member : IsMember G front (Ipv6, y) = (inner, is, (after, at, claim)) in
-      ((Ipv6, y) ∷ more.0, (rest, (front, member, split), more.1), more.2, (says, more.3), λ some none. absurd cc)
+      let member : IsMember G front (family, y) = (inner, is, (after, at, claim)) in
+      ((family, y) ∷ more.0, (rest, (front, member, split), more.1), grind arith, grind arith, λ some none. absurd cc)
 
   -- and families with claims that others stand for are what those families stand for
   pub stood_for : (bytes : List ℕ) (fs : ByFamily X) → IsFamilies Stands bytes fs

@@ -1,5 +1,5 @@
 -- Families in DER: what is read, what is written, and which faults are named.
-use Rattle.rpki_base.proofs.Common.{Bool, Err, List, Ok, Result, [], ap, arith, cond, eqb, get_or, length, refl, subst, true, ℕ, ◌&&◌, ◌∙◌, ◌∷◌, ◌≡◌, and_parts, eqb-true, IsErrAnd, MatchResult, IsTagged, refined_reading, same_reading, tagged_reading, IsCheck, ok_is, ok_or_err, value_is, Refines, header, length_octets, Gives, IsReading, tagged_at, DerError, BadFamily, IsFamilyDer, SaysFamily, family_at, family_der, family_octets, family_of_octets, AddressFamily, Ipv4, Ipv6}
+use Rattle.rpki_base.proofs.Common.{List, Ok, Result, [], ap, arith, eqb, get_or, length, true, ℕ, ◌&&◌, ◌∙◌, ◌∷◌, ◌≡◌, and_parts, eqb-true, IsErrAnd, MatchResult, IsTagged, refined_reading, same_reading, tagged_reading, IsCheck, ok_is, ok_or_err, value_is, Refines, header, length_octets, Gives, IsReading, tagged_at, DerError, IsFamilyDer, SaysFamily, family_at, family_der, family_octets, family_of_octets, AddressFamily}
 use Rattle.rpki_base.proofs.DerFaults.{NamesTo, cond_names, header_names, refined_names}
 
 -- ---- a fault under another name
@@ -28,17 +28,10 @@ are_two : (content : List ℕ) (b : ℕ)
     → content ≡ 0 ∷ b ∷ []
 are_two content b e = grind (arith, and_parts, eqb-true, two)
 
--- a family by its tests
-family_by : (content : List ℕ) (f : AddressFamily) (one other : Bool)
-    → ((eqb (length content) 2) && (eqb (get_or content 0 0) 0) && (eqb (get_or content 1 0) 1)) ≡ one
-    → ((eqb (length content) 2) && (eqb (get_or content 0 0) 0) && (eqb (get_or content 1 0) 2)) ≡ other
-    → cond one (Ok Ipv4) (cond other (Ok Ipv6) (Err BadFamily)) ≡ Ok f → SaysFamily content f
-family_by content f one other t s e = grind (arith, are_two, ok_is)
-
 -- a family that is read is said
 family_says : (content : List ℕ) (f : AddressFamily) → family_of_octets content ≡ Ok f → SaysFamily content f
 unfolding family_of_octets
-family_says content f e = family_by content f _ _ refl refl e
+family_says content f e = grind (arith, are_two, ok_is)
 
 -- the octets of a family are read
 family_back : (f : AddressFamily) → family_of_octets (family_octets f) ≡ Ok f
@@ -53,8 +46,7 @@ family_check = grind (arith, family_back, family_says)
 pub family_reading : IsReading IsFamilyDer family_at
 family_reading =
     same_reading (Refines (IsTagged 4) SaysFamily) IsFamilyDer family_at
-    (λ bytes f fits is. subst (IsTagged 4 bytes) is.2 is.1)
-    (λ bytes f is. (family_octets f, is, refl))
+    (λ bytes f fits is. grind arith) (λ bytes f is. grind arith)
     (refined_reading (IsTagged 4) SaysFamily (λ _. Unit {0}) (tagged_at 4) family_of_octets
     (tagged_reading 4) (λ front content is fits. tt) family_check)
 

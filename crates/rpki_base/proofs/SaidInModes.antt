@@ -1,5 +1,5 @@
 -- Takes in either mode that answer what is said by what was found. Strictly, that is what is written of the answer.
-use Rattle.rpki_base.proofs.Common.{Bool, Err, List, Ok, Result, [], ap, arith, length, subst, sym, true, ℕ, ◌++◌, ◌<◌, ◌^◌, ◌∙◌, ◌≡◌, length-append, HasOctets, MatchResult, found_is, value_is, IsBytes, OneFront, Refines, header, IsModal, IsReading, Lenient, Strict, is_strict, left, Cursor, DerError, IsMemory, OrMemory, Encloses, IsSequenceFrom, enclosed_at, sequence_from, values_of, NotCanonicalOrMemory, ReadsOrMemory, TakesSaidOrMemory}
+use Rattle.rpki_base.proofs.Common.{Bool, List, Ok, Result, [], ap, arith, length, subst, sym, true, ℕ, ◌++◌, ◌<◌, ◌^◌, ◌∙◌, ◌≡◌, length-append, HasOctets, MatchResult, found_is, value_is, IsBytes, OneFront, Refines, IsModal, IsReading, Lenient, Strict, is_strict, left, Cursor, DerError, IsMemory, OrMemory, Encloses, IsSequenceFrom, enclosed_at, sequence_from, values_of, NotCanonicalOrMemory, ReadsOrMemory, TakesSaidOrMemory}
 use Rattle.std.specs.Prelude.{IfOk}
 use Rattle.rpki_der.specs.Der.{Front, IsTag, Spells, value}
 use Rattle.rpki_der.specs.Reading.{refined, tagged_at}
@@ -38,24 +38,17 @@ module _ {X Y : Type 0} {G S : List ℕ → Y → Type 0} {C : Y → X → Type 
 
   -- what is written, in fewer octets than a length can tell, is a value that says it
   pub written_said : (x : X) → P x → length (octets x) < 2 ^ 64 → Refines G C (octets x) x
-  written_said x p short = let found = is.says x p short in (found.0, is.looser (octets x) found.0 found.1, found.2)
+  written_said x p short = grind (arith, is.looser, is.says)
 
   -- so what is written alike is one
   pub said_alike : (a b : X) → P a → P b → length (octets a) < 2 ^ 64 → octets a ≡ octets b → a ≡ b
-  said_alike a b p q short same =
-      let also = subst (λ (t : List ℕ). length t < 2 ^ 64) same short in
-      (one_said (octets a) (octets b) a b [] [] (written_said a p short) (written_said b q also)
-      (ap (λ (t : List ℕ). t ++ []) same)).1
+  said_alike a b p q short same = grind (arith, one_said (octets a) (octets b) a b [] [], written_said)
 
   -- what is answered stands at the front in either mode
   stands_in_modes : (old new : Cursor) (result : Result X (OrMemory DerError)) → IsBytes (left old)
       → TakesSaidOrMemory C old new result (by (is_strict old))
       → IfOk result (λ x. Front (Refines G C) (left old) x (left new))
-  stands_in_modes old new (Err e) fits took = tt
-  stands_in_modes old new (Ok x) fits (y, read, says) =
-      let found = found_is (is_strict old) (by (is_strict old) (left old)) (reading (left old)) (y, left new)
-      (is.modal.tightens (is_strict old) (left old)) read in
-      reads_said_by G C reading old new (Ok x) is.lenient fits (y, found, says)
+  stands_in_modes old new result fits took = grind (arith, found_is, is.modal.tightens, is.lenient.takes)
 
   -- a take whose octets a length can tell
   pub taken_said : (old new : Cursor) (result : Result X (OrMemory DerError)) → IsBytes (left old)
@@ -90,15 +83,10 @@ module _ {X Y : Type 0} {G S : List ℕ → Y → Type 0} {C : Y → X → Type 
   enclosed_said tag names = record {
     lenient = enclosed_reading tag G reading is.lenient;
     modal = enclosed_modal tag S reading by is.modal;
-    looser = λ bytes y (content, at, s). (content, at, is.looser content y s);
+    looser = λ bytes y s. grind (arith, is.looser);
     one = is.one;
-    spelled = λ bytes y x (content, at, s) c. (
-        let found = is.spelled content y x s c in (found.0, at.spelled ∙ ap (value tag) found.1));
-    says = λ x p short. (
-        let parts = length-append (header tag (length (octets x))) (octets x) in
-        let small : length (octets x) < 2 ^ 64 = omega (arith, short, parts) in
-        let found = is.says x p small in
-        (found.0, (octets x, value_is tag (octets x) names small, found.1), found.2));
+    spelled = λ bytes y x s c. grind (arith, is.spelled);
+    says = λ x p short. grind (arith, is.says, length-append, value_is);
   }
 
 -- a SEQUENCE of values that depend on those before them strictly alone

@@ -1,5 +1,5 @@
 -- Small sets: what the walks, a list and a search give.
-use Rattle.rpki_base.proofs.Common.{Contains, Err, IsTrue, List, Ok, Result, [], arith, eqb, get_or, length, refl, sym, ℕ, ◌<◌, ◌↔◌, ◌∙◌, ◌∷◌, ◌≡◌, ◌≢◌, ◌≤◌, cases_lt, IsBinarySearchResult, IsPermutation, IsSorted, IsInBoth, IsInEither, IsInFirstAlone, IsInOne, IsSmallSet, IsSmallSetOf, any_side, only_both, only_left, only_one, walk, Wanted}
+use Rattle.rpki_base.proofs.Common.{Contains, Err, IsTrue, List, Ok, Result, [], arith, eqb, get_or, length, refl, ℕ, ◌<◌, ◌↔◌, ◌∙◌, ◌∷◌, ◌≡◌, ◌≤◌, cases_lt, IsBinarySearchResult, IsPermutation, IsSorted, IsInBoth, IsInEither, IsInFirstAlone, IsInOne, IsSmallSet, IsSmallSetOf, any_side, only_both, only_left, only_one, walk, Wanted}
 use Rattle.std.proofs.lemmas.List.{get_or_default}
 use Rattle.std.specs.Ordering.{nat_cmp}
 use Rattle.std.specs.Result.{is_ok}
@@ -54,11 +54,7 @@ search_is xs n (Ok i) small h =
     ((λ _. (i, found.0, get_or_default xs i n 0 found.0 ∙ found.1)), λ _. refl)
 search_is xs n (Err i) small h =
     let missed = searched xs n (Err i) h (not_falling xs small) in
-    ((λ never. cc), λ (k, here, is). absurd (none missed k here (sym (get_or_default xs k n 0 here) ∙ is)))
-  where
-    none : ((i ≤ length xs) × ((k : ℕ) → k < i → get_or xs k 0 < n)
-        × ((k : ℕ) → i ≤ k → k < length xs → n < get_or xs k 0)) → (k : ℕ) → k < length xs → get_or xs k 0 ≢ n
-    none missed k here is = grind (arith, cases_lt k i)
+    ((λ never. cc), λ (k, here, is). absurd (grind (arith, cases_lt k i, get_or_default xs k n 0 here)))
 
 -- ascending lists of the same numbers are one
 same_numbers : (xs ys : List ℕ) → Rises xs → Rises ys → ((n : ℕ) → Among n xs ↔ Among n ys) → xs ≡ ys

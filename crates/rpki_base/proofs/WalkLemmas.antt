@@ -1,5 +1,5 @@
 -- A walk over two ascending lists gives the wanted numbers of both, ascending.
-use Rattle.rpki_base.proofs.Common.{Contains, IsTrue, List, [], add-one, arith, false, get_or, inl, inr, le-ltb, length, lt-ltb, suc, zero, ℕ, ◌+◌, ◌<◌, ◌↔◌, ◌∷◌, ◌≡◌, ◌≤◌, ◌⊎◌, cases_eq, AllByRecursion, IsStrictlyIncreasing, all_kept, kept_items, walk, walk_step, Wanted}
+use Rattle.rpki_base.proofs.Common.{Contains, IsTrue, List, [], add-one, arith, false, inl, inr, le-ltb, length, lt-ltb, suc, zero, ℕ, ◌+◌, ◌<◌, ◌↔◌, ◌∷◌, ◌≡◌, ◌≤◌, ◌⊎◌, cases_eq, AllByRecursion, IsStrictlyIncreasing, all_kept, kept_items, walk, walk_step, Wanted}
 
 -- n is one of the numbers
 abbrev pub Among : ℕ → List ℕ → Type 0
@@ -8,7 +8,7 @@ Among n (x ∷ xs) = (x ≡ n) ⊎ Among n xs
 
 -- the same by its place
 pub to_among : (n : ℕ) (xs : List ℕ) → Contains xs n → Among n xs
-to_among n [] (k, small, is) = absurd (omega (arith, small))
+to_among n [] h = grind arith
 to_among n (x ∷ xs) (zero, small, is) = inl is
 to_among n (x ∷ xs) (suc k, small, is) = inr (to_among n xs (k, omega (arith, small), is))
 
@@ -37,28 +37,24 @@ above_more m n (x ∷ xs) less h = (omega (arith, less, h.0), above_more m n xs 
 
 pub above_is : (m n : ℕ) (xs : List ℕ) → Above m xs → Among n xs → m < n
 above_is m n [] h k = absurd k
-above_is m n (x ∷ xs) h (inl is) = omega (arith, h.0, is)
-above_is m n (x ∷ xs) h (inr k) = above_is m n xs h.1 k
+above_is m n (x ∷ xs) h k = grind (arith, above_is m n xs)
 
 -- the same by places: each number is below the next
-above_first : (m : ℕ) (xs : List ℕ) → Rises xs → (0 < length xs → m < get_or xs 0 0) → Above m xs
-above_first m [] h first = tt
-above_first m (x ∷ xs) h first = let less : m < x = first (omega arith) in (less, above_more m x xs less h.0)
-
 pub Rises-from_increasing : (xs : List ℕ) → IsStrictlyIncreasing xs → Rises xs
 Rises-from_increasing [] h = tt
-Rises-from_increasing (x ∷ xs) h =
-    let later = Rises-from_increasing xs (λ k small. (let next = h (suc k) (omega (arith, small)) in rw add-one (rw add-one at next))) in
-    (above_first x xs later (λ some. h 0 (omega arith)), later)
-
-first_above : (m : ℕ) (xs : List ℕ) → Above m xs → 0 < length xs → m < get_or xs 0 0
-first_above m [] h some = absurd (omega (arith, some))
-first_above m (x ∷ xs) h some = h.0
+Rises-from_increasing (x ∷ []) h = (tt, tt)
+Rises-from_increasing (x ∷ y ∷ xs) h =
+    let later = Rises-from_increasing (y ∷ xs)
+    (λ k small. (let next = h (suc k) (omega (arith, small)) in rw add-one (rw add-one at next))) in
+    let less : x < y = h 0 (omega arith) in
+    ((less, above_more x y xs less later.0), later)
 
 pub IsStrictlyIncreasing-rises : (xs : List ℕ) → Rises xs → IsStrictlyIncreasing xs
 IsStrictlyIncreasing-rises [] h k small = absurd (omega (arith, small))
-IsStrictlyIncreasing-rises (x ∷ xs) h zero small = first_above x xs h.0 (omega (arith, small))
-IsStrictlyIncreasing-rises (x ∷ xs) h (suc k) small = grind (arith, IsStrictlyIncreasing-rises xs h.1 k (omega (arith, small)))
+IsStrictlyIncreasing-rises (x ∷ []) h k small = absurd (omega (arith, small))
+IsStrictlyIncreasing-rises (x ∷ y ∷ xs) h zero small = h.0.0
+IsStrictlyIncreasing-rises (x ∷ y ∷ xs) h (suc k) small =
+    grind (arith, IsStrictlyIncreasing-rises (y ∷ xs) h.1 k (omega (arith, small)))
 
 -- ---- a walk
 

@@ -109,6 +109,7 @@ impl fmt::Display for ParseAsnError {
 impl Error for ParseAsnError {}
 
 /// What follows `as`, in any case of letters, if that stands first.
+#[tactic(auto, using(crate::proofs::AsnLemmas::too_short, crate::proofs::AsnLemmas::no_letters))]
 fn after_as(text: &[u8]) -> &[u8]
     ensures { IsAfterAs text.now result.now }
 {

@@ -37,6 +37,7 @@ pub fn equal_small_sets<A: Allocator>()
 {}
 
 /// Small sets of the same numbers are one list, so they are equal, and hash and compare alike.
+#[tactic(auto, using(crate::proofs::SmallSetLemmas::one_set))]
 pub fn one_small_set()
     ensures { (a b : List ℕ) → IsSmallSet a → IsSmallSet b
         → ((n : ℕ) → (Contains a n) ↔ (Contains b n)) → a ≡ b }

@@ -16,6 +16,7 @@ impl Asn {
     /// Takes an AS number.
     ///
     /// The faults are those of [`Cursor::take_u32`].
+    #[tactic(auto, using(rpki_der::proofs::Readings::u32_reading, rpki_der::proofs::Written::u32_is))]
     #[inline]
     pub fn take_from(cursor: &mut Cursor<'_>) -> Result<Asn, DerError>
         ensures reads { ReadsValue IsAsNumber (λ n. n) cursor.old cursor.new result }
@@ -75,6 +76,7 @@ impl Asn {
     }
 
     /// Appends the AS number. `AllocError` where there is no memory for it; then the octets stay as they were.
+    #[tactic(auto, using(rpki_der::proofs::Readings::u32_reading, rpki_der::proofs::Written::u32_is))]
     pub fn encode<A: Allocator>(&self, out: &mut Vec<u8, A>) -> Result<(), AllocError>
         ensures ok { OnOk result (out.new.items ≡ out.old.items ++ as_number_octets self.now) }
         ensures err { OnErr result (out.new.items ≡ out.old.items) }

@@ -15,6 +15,7 @@ const ROOM: usize = 12;
 const RANGE_ROOM: usize = 25;
 
 /// Puts the text of an AS number before `end`, and answers where it begins.
+#[tactic(auto, using(crate::proofs::AsnPrinting::ten_digits, crate::proofs::AsnPrinting::letters_before))]
 #[inline(always)]
 fn put_before(out: &mut [u8], end: usize, asn: Asn) -> usize
     requires { (12 ≤ end) × (end ≤ length out.old) }

@@ -58,6 +58,7 @@ impl AddressFamily {
     }
 
     /// How many octets `encode` appends.
+    #[tactic(auto, using(crate::proofs::FamilyLemmas::length_family))]
     pub fn encoded_len(&self) -> usize
         ensures len { result ≡ length (family_der self.now) }
         ensures short { result ≡ 4 }

@@ -15,6 +15,9 @@ length-number n lt = let few = length-integer n lt in omega (arith, few, length-
 pub length-content : (b : ℕ × ℕ) → b.0 ≤ b.1 → b.1 < 2 ^ 32 → length (as_range_content b) ≤ 14
 length-content b ordered lt = omega (arith, length-number b.0 (omega arith), length-number b.1 lt, length-append (as_number_octets b.0) (as_number_octets b.1))
 
+-- how long a header is
+pub ruleset header_lengths = (length-header)
+
 -- what is written of a block is the block
 pub block_written : (x : AsBlock) → (as_bounds x).0 ≤ (as_bounds x).1 → (as_bounds x).1 < 2 ^ 32
     → IsAsBlock (as_block_octets x) x
@@ -33,6 +36,11 @@ block_spelled bytes x is = grind (arith)
 pub block_numbers : (bytes : List ℕ) (x : AsBlock) → IsAsBlock bytes x
     → ((as_bounds x).0 ≤ (as_bounds x).1) × ((as_bounds x).1 < 2 ^ 32)
 block_numbers bytes x is = grind (arith)
+
+-- and it is read again, whatever follows it
+pub read_again : (x : AsBlock) (rest : List ℕ) → HasAsNumbers x
+    → as_block_at (as_block_octets x ++ rest) ≡ Ok (x, rest)
+read_again x rest numbers = as_block_reading.again (as_block_octets x) x rest (block_written x numbers.0 numbers.1)
 
 -- strictly, these octets are found, of the blocks that sets have
 pub set_block_is : (bytes : List ℕ) (x : AsBlock) → IsStrictBlock bytes x → Spells IsSetBlock as_block_octets bytes x

@@ -1,8 +1,13 @@
 -- A text writes one block at most, or has one fault; what is printed of a block writes it.
-use Rattle.rpki_as_block.proofs.Common.{Err, List, MatchResult, Ok, Result, [], ap, arith, get_or, length, refl, subst, suc, sym, zero, ℕ, ◌<◌, ◌^◌, ◌∷◌, ◌≡◌, ◌≤◌, IsInRange, AllByRecursion, range_bounds, HasNo, dash, HasAsBlockFault, IsAsBlockText, IsAsRangeBetween, NoRange, ReadsAsBlock, as_block_text, as_bounds, AsBlock, Id, Range}
+use Rattle.rpki_as_block.proofs.Common.{List, MatchResult, None, Some, lit<, Result, ap, arith, refl, ℕ, ◌<◌, ◌^◌, ◌≡◌, ◌≤◌, IsInRange, AllByRecursion, range_bounds, HasNo, dash, HasAsBlockFault, IsAsBlockText, IsAsRangeBetween, NoRange, ReadsAsBlock, as_block_text, as_bounds, AsBlock, Id, Range}
+use Rattle.std.proofs.lemmas.List.Elements.{All-from_recursion}
+use Rattle.std.proofs.lemmas.Str.Pattern.{IsSplitOnceResult, split_parts}
+use Rattle.std.specs.Borrow.{Bor}
 use Rattle.rpki_base.specs.AsnText.{asn_text}
+use Rattle.rpki_text.specs.Cuts.{Around}
 use Rattle.rpki_base.proofs.AsnLemmas.{IsAsnText-asn_text, IsAsnText-one, asn_text_bytes}
 use Rattle.rpki_text.proofs.CutLemmas.{none_around, around_at}
+use Rattle.rpki_text.proofs.ReadingLemmas.{Answers-from_found}
 use Rattle.rpki_as_block.specs.declared.error.FromStrError.{FromStrError}
 use Rattle.rpki_as_block.specs.declared.error.FromStrError.TheVariants.{BadAsn, BadRange, BadBlocks}
 
@@ -30,26 +35,23 @@ block_apart text (Range r) BadBlocks h f = absurd f
 pub same_block_fault : (text : List ℕ) (d e : FromStrError) → HasAsBlockFault text d → HasAsBlockFault text e → d ≡ e
 same_block_fault text d e f g = grind (arith, none_around)
 
--- what is printed of a number has no dash
-no_dash : (bs : List ℕ) → AllByRecursion (IsInRange 48 90) bs → HasNo dash bs
-no_dash bs h i small e = omega (arith, (byte_at bs i h small).0, e)
-  where
-    byte_at : (bs : List ℕ) (i : ℕ) → AllByRecursion (IsInRange 48 90) bs → i < length bs
-        → IsInRange 48 90 (get_or bs i 0)
-    byte_at [] i h small = absurd (omega arith)
-    byte_at (b ∷ bs) zero h small = h.0
-    byte_at (b ∷ bs) (suc i) h small = byte_at bs i h.1 (omega arith)
+-- digits and letters aren't dashes
+pub no_dash : (last : ℕ) (bs : List ℕ) → AllByRecursion (IsInRange 48 last) bs → HasNo dash bs
+no_dash last bs h i small e =
+    let byte = All-from_recursion (IsInRange 48 last) bs h i 0 small in
+    omega (arith, byte.0, e)
 
 -- what is printed of a block writes it
 pub IsAsBlockText-block_text : (b : AsBlock) → (as_bounds b).0 ≤ (as_bounds b).1 → (as_bounds b).1 < 2 ^ 32
     → IsAsBlockText (as_block_text b) b
-IsAsBlockText-block_text (Id n) ordered small = (no_dash (asn_text n) (asn_text_bytes n small), IsAsnText-asn_text n small)
+IsAsBlockText-block_text (Id n) ordered small =
+    (no_dash 90 (asn_text n) (asn_text_bytes n small), IsAsnText-asn_text n small)
 IsAsBlockText-block_text (Range r) ordered small =
     let low : r.min < 2 ^ 32 = omega arith in
     record {
       left = asn_text r.min;
       right = asn_text r.max;
-      cut = record { split = refl; first = no_dash (asn_text r.min) (asn_text_bytes r.min low) };
+      cut = record { split = refl; first = no_dash 90 (asn_text r.min) (asn_text_bytes r.min low) };
       holds = record {
         min_text = IsAsnText-asn_text r.min low;
         max_text = IsAsnText-asn_text r.max small;
@@ -60,19 +62,20 @@ IsAsBlockText-block_text (Range r) ordered small =
 -- a reader that finds what the text has meets the whole contract
 pub reads_block : (text : List ℕ) (r : Result AsBlock FromStrError)
     → MatchResult r (IsAsBlockText text) (HasAsBlockFault text) → ReadsAsBlock text r
-reads_block text (Ok b) found = record {
-  exact = record {
-    found = found;
-    each_value = λ a h. ap Ok (IsAsBlockText-one text b a found h);
-    each_fault = λ e f. absurd (block_apart text b e found f);
-  };
-  reads_back = λ a ordered small is. ap Ok (IsAsBlockText-one text b a found (subst (λ t. IsAsBlockText t a) (sym is) (IsAsBlockText-block_text a ordered small)));
-}
-reads_block text (Err d) found = record {
-  exact = record {
-    found = found;
-    each_value = λ a h. absurd (block_apart text a d h found);
-    each_fault = λ e f. ap Err (same_block_fault text d e found f);
-  };
-  reads_back = λ a ordered small is. absurd (block_apart text a d (subst (λ t. IsAsBlockText t a) (sym is) (IsAsBlockText-block_text a ordered small)) found);
-}
+reads_block text r found =
+    let exact = Answers-from_found r found (IsAsBlockText-one text) (block_apart text) (same_block_fault text) in
+    record {
+      exact = exact;
+      reads_back = λ b ordered small printed. exact.each_value b
+          (rw printed (IsAsBlockText-block_text b ordered small));
+    }
+
+-- a text is cut at no dash where it has none, and else at its first
+pub no_cut : (text : List ℕ) → IsSplitOnceResult dash text None → HasNo dash text
+no_cut text cases = split_parts dash text None cases (lit< tt)
+
+pub around_split : (text : List ℕ) (left right : Bor (List ℕ)) (P : List ℕ → List ℕ → Type 0)
+    → IsSplitOnceResult dash text (Some (left, right)) → P left.now right.now → Around dash text P
+around_split text left right P cases holds =
+    let (split, first) = split_parts dash text (Some (left, right)) cases (lit< tt) in
+    record { left = left.now; right = right.now; cut = record { split = split; first = first }; holds = holds }

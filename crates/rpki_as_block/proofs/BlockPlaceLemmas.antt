@@ -1,29 +1,30 @@
 -- AS blocks at a place among bytes: one number, or two round a dash.
-use Rattle.rpki_as_block.proofs.Common.{List, None, Ok, Option, Some, [], ap, arith, drop, get_or, length, length-drop, subst, suc, sym, take, zero, ℕ, ◌++◌, ◌+◌, ◌-◌, ◌<◌, ◌∙◌, ◌∷◌, ◌≡◌, ◌≤◌, take-append-add, take-length, drop-drop, drop_more, length-take, take-append-drop, IsInRange, AllByRecursion, RangeValue, HasNo, dash, IsAsBlockAt, IsAsBlockBetween, StandsAt, IsAsBlockText, ReadsAsBlock, AsBlock, Id, Range}
+use Rattle.rpki_as_block.proofs.Common.{List, Ok, Option, Some, [], ap, arith, drop, get_or, length, length-drop, subst, suc, sym, take, ℕ, ◌++◌, ◌+◌, ◌-◌, ◌<◌, ◌∙◌, ◌∷◌, ◌≡◌, ◌≤◌, take-append-add, take-length, drop-drop, drop_more, length-take, take-append-drop, IsInRange, AllByRecursion, RangeValue, IsAsBlockAt, IsAsBlockBetween, StandsAt, IsAsBlockText, ReadsAsBlock, AsBlock, Id, Range}
 use Rattle.rpki_base.specs.AsnPlaces.{IsAsnAt, IsAsnBetween}
-use Rattle.rpki_as_block.proofs.BlockLemmas.{reads_block}
+use Rattle.rpki_text.proofs.PrintedLemmas.{IsShown}
+use Rattle.rpki_as_block.proofs.BlockLemmas.{no_dash, reads_block}
 
--- letters and digits aren't dashes
-no_dash : (bs : List ℕ) → AllByRecursion (IsInRange 48 122) bs → HasNo dash bs
-no_dash [] h i small e = absurd (omega arith)
-no_dash (b ∷ bs) h zero small e = omega (arith, h.0.0, e)
-no_dash (b ∷ bs) h (suc i) small e = no_dash bs h.1 i (omega arith) e
+-- digits and letters can stand in a list
+pub shown : (last : ℕ) (bs : List ℕ) → last ≤ 126 → AllByRecursion (IsInRange 48 last) bs
+    → AllByRecursion (IsInRange 45 126) bs
+shown last [] le h = tt
+shown last (b ∷ bs) le h = ((omega (arith, h.0.0), omega (arith, h.0.1, le)), shown last bs le h.1)
 
--- and are among the bytes from the dash on
-shown : (bs : List ℕ) → AllByRecursion (IsInRange 48 122) bs → AllByRecursion (IsInRange 45 126) bs
-shown [] h = tt
-shown (b ∷ bs) h = ((omega (arith, h.0.0), omega (arith, h.0.1)), shown bs h.1)
+-- and so can two such texts
+pub shown-append : (xs ys : List ℕ) → AllByRecursion IsShown xs → AllByRecursion IsShown ys
+    → AllByRecursion IsShown (xs ++ ys)
+shown-append [] ys h k = k
+shown-append (x ∷ xs) ys h k = (h.0, shown-append xs ys h.1 k)
 
--- as are two such texts with the dash between them
 shown_both : (xs ys : List ℕ) → AllByRecursion (IsInRange 48 122) xs → AllByRecursion (IsInRange 48 122) ys
     → AllByRecursion (IsInRange 45 126) (xs ++ 45 ∷ ys)
-shown_both [] ys h k = ((omega arith, omega arith), shown ys k)
-shown_both (x ∷ xs) ys h k = ((omega (arith, h.0.0), omega (arith, h.0.1)), shown_both xs ys h.1 k)
+shown_both xs ys h k =
+    shown-append xs (45 ∷ ys) (shown 122 xs (omega arith) h) ((omega arith, omega arith), shown 122 ys (omega arith) k)
 
 -- one number is a block
 pub id_between : (start end : ℕ) (text : List ℕ) (n : ℕ) → IsAsnBetween start end text n
     → IsAsBlockBetween start end text (Id n)
-id_between start end text n h = grind (arith, no_dash, shown)
+id_between start end text n h = grind (arith, no_dash 122, shown 122)
 
 -- the rest behind a place is that behind a later one
 pub drop_later : {A : Type 0} (start end : ℕ) (xs : List A) → start ≤ end
@@ -47,27 +48,8 @@ cut_between start middle end text b first last within is =
 pub range_between : (start middle end : ℕ) (text : List ℕ) (r : RangeValue) → IsAsnBetween start middle text r.min
     → get_or text middle 0 ≡ 45 → IsAsnBetween (middle + 1) end text r.max → r.min ≤ r.max
     → IsAsBlockBetween start end text (Range r)
-range_between start middle end text r h dash_is k ordered = grind (arith, cut_between, no_dash, shown, shown_both)
-
--- the number and the place of what is found
-abbrev number_of : Option (ℕ × ℕ) → ℕ
-number_of None = 0
-number_of (Some found) = found.0
-
-abbrev place_of : Option (ℕ × ℕ) → ℕ
-place_of None = 0
-place_of (Some found) = found.1
-
-abbrev id_found : Option (ℕ × ℕ) → Option (AsBlock × ℕ)
-id_found None = None
-id_found (Some found) = Some (Id found.0, found.1)
-
-abbrev range_found : ℕ → Option (ℕ × ℕ) → Option (AsBlock × ℕ)
-range_found min None = None
-range_found min (Some found) = Some (Range (record { min = min; max = found.0 }), found.1)
-
-abbrev found_to : ℕ → AsBlock → Option (AsBlock × ℕ)
-found_to end b = Some (b, end)
+range_between start middle end text r h dash_is k ordered =
+    grind (arith, cut_between, no_dash 122, shown 122, shown_both)
 
 -- what is found at a place is the number of the usual form there
 abbrev pub IsOneNumber : ℕ → List ℕ → Option (ℕ × ℕ) → Type 0
@@ -82,35 +64,26 @@ first_number start end text b h = grind (arith)
 pub id_alone : (start min dash_at : ℕ) (text : List ℕ) → IsOneNumber start text (Some (min, dash_at))
     → ¬ StandsAt 45 dash_at text → (b : AsBlock) (end : ℕ) → IsAsBlockAt start end text b
     → ◌≡◌ {A = Option (AsBlock × ℕ)} (Some (Id min, dash_at)) (Some (b, end))
-id_alone start min dash_at text one alone (Id n) end h = ap id_found (one n end h.0)
-id_alone start min dash_at text one alone (Range r) end h = absurd (alone (subst (λ k. StandsAt 45 k text) (sym (ap place_of (one r.min h.0 h.1))) h.2))
+id_alone start min dash_at text one alone (Id n) end h = let found = one n end h.0 in grind arith
+id_alone start min dash_at text one alone (Range r) end h = let found = one r.min h.0 h.1 in grind arith
 
 -- with one, a second number follows
 pub two_numbers : (start min dash_at : ℕ) (text : List ℕ) → IsOneNumber start text (Some (min, dash_at))
     → StandsAt 45 dash_at text → (b : AsBlock) (end : ℕ) → IsAsBlockAt start end text b
     → (max : ℕ) × (b ≡ Range (record { min = min; max = max })) × IsAsnAt (dash_at + 1) end text max × (min ≤ max)
-two_numbers start min dash_at text one dash_there (Id n) end h = absurd (h.1 (subst (λ k. StandsAt 45 k text) (ap place_of (one n end h.0)) dash_there))
-two_numbers start min dash_at text one dash_there (Range r) end h =
-    let found = one r.min h.0 h.1 in
-    grind arith
+two_numbers start min dash_at text one dash_there (Id n) end h = let found = one n end h.0 in grind arith
+two_numbers start min dash_at text one dash_there (Range r) end h = let found = one r.min h.0 h.1 in grind arith
 
--- which ends the block
+-- which ends the block, and is not less than the first
 pub range_alone : (start min dash_at max last : ℕ) (text : List ℕ) → IsOneNumber start text (Some (min, dash_at))
     → StandsAt 45 dash_at text → IsOneNumber (dash_at + 1) text (Some (max, last)) → (b : AsBlock) (end : ℕ)
     → IsAsBlockAt start end text b
     → ◌≡◌ {A = Option (AsBlock × ℕ)} (Some (Range (record { min = min; max = max }), last)) (Some (b, end))
+    × (min ≤ max)
 range_alone start min dash_at max last text one dash_there two b end h =
     let (other, is, there, ordered) = two_numbers start min dash_at text one dash_there b end h in
-    ap (range_found min) (two other end there) ∙ ap (found_to end) (sym is)
-
--- and is not less than the first
-pub in_order_there : (start min dash_at max last : ℕ) (text : List ℕ) → IsOneNumber start text (Some (min, dash_at))
-    → StandsAt 45 dash_at text → IsOneNumber (dash_at + 1) text (Some (max, last)) → (b : AsBlock) (end : ℕ)
-    → IsAsBlockAt start end text b → min ≤ max
-in_order_there start min dash_at max last text one dash_there two b end h =
-    let (other, is, there, ordered) = two_numbers start min dash_at text one dash_there b end h in
-    let same : max ≡ other = ap number_of (two other end there) in
-    omega (arith, same, ordered)
+    let found = two other end there in
+    grind arith
 
 -- a block that takes the whole text is the answer
 pub reads_whole : (text bytes : List ℕ) (b : AsBlock) (end : ℕ) → bytes ≡ text → IsAsBlockBetween 0 end bytes b

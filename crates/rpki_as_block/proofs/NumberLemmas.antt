@@ -36,18 +36,18 @@ unfolding numbers_within
 length-numbers_within b = length-numbers_from (b.1 + 1 - b.0) b.0
 
 -- the first of them, and the others
-pub numbers_within-cons : (a b : ℕ) → a < b → numbers_within (a, b) ≡ a ∷ numbers_within (a + 1, b)
+pub numbers_first : (a b : ℕ) → a < b → numbers_within (a, b) ≡ a ∷ numbers_within (a + 1, b)
 unfolding numbers_within
-numbers_within-cons a b below = grind (arith)
+numbers_first a b below = grind (arith)
 
 -- one number
-pub numbers_within-one : (a b : ℕ) → a ≡ b → numbers_within (a, b) ≡ a ∷ []
+pub numbers_single : (a b : ℕ) → a ≡ b → numbers_within (a, b) ≡ a ∷ []
 unfolding numbers_within
-numbers_within-one a b same = grind (arith)
+numbers_single a b same = grind (arith)
 
 -- an interval has as many numbers as there are from the one bound to the other
-pub IsSizeOf-within : (b : ℕ × ℕ) (k : ℕ) → k + b.0 ≡ b.1 + 1 → IsSizeOf (IsWithin b) k
-IsSizeOf-within b k is = record {
+pub interval_size : (b : ℕ × ℕ) (k : ℕ) → k + b.0 ≡ b.1 + 1 → IsSizeOf (IsWithin b) k
+interval_size b k is = record {
   list = numbers_within b;
   is_list = IsListOf-numbers_within b;
   size = length-numbers_within b ∙ omega arith;

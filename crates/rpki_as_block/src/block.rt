@@ -59,6 +59,7 @@ impl AsBlock {
     }
 
     /// How many numbers the block has, which is 1 to 2^32.
+    #[tactic(auto, using(crate::proofs::NumberLemmas::interval_size))]
     pub fn asn_count(self) -> u64
         ensures from_bounds { result + (as_bounds self).0 ≡ (as_bounds self).1 + 1 }
         ensures size { IsSizeOf (IsWithin (as_bounds self)) result }

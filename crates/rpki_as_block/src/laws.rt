@@ -22,12 +22,14 @@ pub fn one_block()
 {}
 
 /// The octets that `encode` appends are the block.
+#[tactic(auto, using(crate::proofs::AsDerLemmas::block_written))]
 pub fn written()
     ensures { (block : AsBlock) → HasAsNumbers block → IsAsBlock (as_block_octets block) block }
 {}
 
 /// A range is reversed exactly where it begins with two numbers of which the second is less than the first, whatever
 /// stands behind them, and a block exactly where it is a SEQUENCE that begins so.
+#[tactic(auto, using(crate::proofs::DerFaults::block_fails, crate::proofs::DerFaults::range_fails))]
 pub fn reversed()
     ensures range { (content : List ℕ) → (as_range_in content ≡ Err ReversedRange)
         ↔ BeginsWithTwo as_number_at (λ first second. second < first) content }
@@ -37,6 +39,7 @@ pub fn reversed()
 
 /// Octets are refused as not canonical by a strict cursor alone, and there only where a lenient one finds a block: each
 /// other fault of a block comes first.
+#[tactic(auto, using(crate::proofs::DerFaults::comes_last, crate::proofs::DerFaults::never_lenient))]
 pub fn not_canonical()
     ensures lenient { (bytes : List ℕ) → as_block_at bytes ≢ Err NotCanonical }
     ensures last { (bytes : List ℕ) → as_block_by true bytes ≡ Err NotCanonical

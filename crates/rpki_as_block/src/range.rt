@@ -65,6 +65,7 @@ impl AsRange {
     }
 
     /// How many numbers the range has, which is 1 to 2^32.
+    #[tactic(auto, using(crate::proofs::NumberLemmas::interval_size))]
     pub fn asn_count(self) -> u64
         ensures from_bounds { result + self.min ≡ self.max + 1 }
         ensures size { IsSizeOf (IsWithin (range_bounds self)) result }

@@ -30,6 +30,7 @@ impl AsBlock {
     /// The faults are those of [`Cursor::take_value`] and `BadInteger`; `BadTag` also where neither an INTEGER nor a
     /// SEQUENCE stands there, `ReversedRange` where the first number of a range is above the second, and `TrailingData`
     /// where more than two numbers are in it. From a strict cursor also `NotCanonical` for a range of one number.
+    #[tactic(auto, using(crate::proofs::AsDerLemmas::block_back, crate::proofs::AsDerLemmas::set_block_reading, rpki_base::proofs::DerCursors::reads_optional_value_by))]
     pub fn take_opt_from(cursor: &mut Cursor<'_>) -> Result<Option<AsBlock>, DerError>
         ensures reads { Lenient cursor.old
             (ReadsOptional IsAsBlock (λ block. block) cursor.old cursor.new result) }
@@ -55,6 +56,7 @@ impl AsBlock {
 
     /// Passes over the next block; None at the end, and there alone. The faults are those of `take_opt_from` without
     /// `ReversedRange`: the numbers of a range may be in any order.
+    #[tactic(auto, using(crate::specs::AsDerLaws::skip_reading, rpki_base::proofs::DerCursors::reads_optional_value_by))]
     pub fn skip_opt_in(cursor: &mut Cursor<'_>) -> Result<Option<()>, DerError>
         ensures reads { ReadsOptional IsBlockInAnyOrder (λ u. u) cursor.old cursor.new result }
         ensures exact { Takes (λ u. u) cursor.old cursor.new result (optional skip_block_at) }
@@ -64,6 +66,7 @@ impl AsBlock {
     }
 
     /// How many octets `encode` appends: at most 16.
+    #[tactic(auto, using(crate::proofs::AsDerLemmas::header_lengths))]
     pub fn encoded_len(&self) -> usize
         ensures len { result ≡ length (as_block_octets self.now) }
         ensures short { result ≤ 16 }
@@ -79,6 +82,7 @@ impl AsBlock {
 
     /// Appends the block in its own form. `AllocError` where there is no memory for it; then the octets stay as they
     /// were.
+    #[tactic(auto, using(crate::proofs::AsDerLemmas::read_again))]
     pub fn encode<A: Allocator>(&self, out: &mut Vec<u8, A>) -> Result<(), AllocError>
         ensures ok { OnOk result (out.new.items ≡ out.old.items ++ as_block_octets self.now) }
         ensures err { OnErr result (out.new.items ≡ out.old.items) }
@@ -269,7 +273,7 @@ impl AsBlock {
 }
 
 /// The range in the content of a SEQUENCE.
-#[tactic(auto, unfolding(rpki_base::specs::DerReading::pair_in))]
+#[tactic(auto, unfolding(rpki_base::specs::DerReading::pair_in, crate::specs::AsDerReading::range_of), using(std::proofs::lemmas::Bool::Decides::nat_tests, std::proofs::lemmas::Grind::common_steps, std::proofs::lemmas::Result::err_from_is_err_and))]
 fn range_within(content: Cursor<'_>) -> Result<AsRange, DerError>
     ensures exact { Gives (λ range. range) result (as_range_in (left content.entry)) }
 {

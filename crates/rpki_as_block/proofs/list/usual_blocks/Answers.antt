@@ -1,5 +1,6 @@
 -- Each block completes those so far, and the last ends the list.
-use Rattle.rpki_as_block.proofs.Common.{sym, ◌∙◌, IsEndAt}
+use Rattle.std.proofs.lemmas.Bool.Decides.{not_from_Decides}
+use Rattle.rpki_as_block.proofs.Common.{sym, ◌∙◌}
 use Rattle.rpki_as_block.proofs.BlockListLemmas.{all_read, first_block, goes_no_further, one_more}
 use Rattle.rpki_as_block.proofs.list.usual_blocks.Goals as goal
 
@@ -8,7 +9,7 @@ returns-then-is_end g c = rw c.in_ok-push.ensures.items (all_read _ _ _ _ _ c.af
 
 pub loop-block-preserved : goal.loop-block-preserved
 loop-block-preserved g c =
-    let not_end : ¬ IsEndAt c.in-Some.end c.args.text.now = λ end. let is = c.is_end.ensures.1 end in let no = c.if-is_end.false in absurd cc in
+    let not_end = not_from_Decides c.is_end.result c.is_end.ensures c.if-is_end.false in
     rw c.in_ok-push.ensures.items (one_more _ _ _ _ _ c.after_space-first.ensures c.in-Some.ensures.found c.in-Some.ensures.each _ c.loop-block.invariant not_end c.if-text-end-ne44.false)
 
 pub returns-in_default : goal.returns-in_default
@@ -21,5 +22,5 @@ returns-in_default g c blocks h =
 pub returns-then-text-end-ne44 : goal.returns-then-text-end-ne44
 returns-then-text-end-ne44 g c blocks h =
     let (rest, left) = c.loop-block.invariant.usual blocks h in
-    let not_end : ¬ IsEndAt c.in-Some.end c.args.text.now = λ end. let is = c.is_end.ensures.1 end in let no = c.if-is_end.false in absurd cc in
+    let not_end = not_from_Decides c.is_end.result c.is_end.ensures c.if-is_end.false in
     goes_no_further _ _ _ _ _ rest c.after_space-first.ensures c.in-Some.ensures.each not_end c.if-text-end-ne44.true left

@@ -1,6 +1,6 @@
 -- One number is a block, and two round a dash where they are in order.
 use Rattle.rpki_as_block.proofs.Common.{arith, sym, ◌<◌, ◌∙◌, ◌≤◌, nat_tests, StandsAt}
-use Rattle.rpki_as_block.proofs.BlockPlaceLemmas.{first_number, id_alone, id_between, in_order_there, range_alone, range_between, two_numbers}
+use Rattle.rpki_as_block.proofs.BlockPlaceLemmas.{first_number, id_alone, id_between, range_alone, range_between, two_numbers}
 use Rattle.rpki_as_block.proofs.place.block_at.Goals as goal
 use Rattle.rpki_as_block.proofs.place.block_at.Goals.{then-dash-text-via-then-dash-text, then-dash-text-via-else-dash-text+then-text-dash-ne45}
 
@@ -39,9 +39,13 @@ returns-then-gt-clause-each c b end h =
     let dash_there : StandsAt 45 c.in_ok-min.dash c.args.text.now = (omega (arith, c.if-dash-text.false, c.in_ok-min.ensures.number.within), c.if-text-dash-ne45.false) in
     let above = sym c.gt.ensures ∙ c.if-gt.true in
     let turned : c.in_ok-max.max < c.in_ok-min.min = grind (arith, nat_tests) in
-    absurd (omega (arith, turned, in_order_there _ _ _ _ _ _ c.in_ok-min.ensures.each dash_there c.in_ok-max.ensures.each b end h))
+    absurd (omega (
+      arith,
+      turned,
+      (range_alone _ _ _ _ _ _ c.in_ok-min.ensures.each dash_there c.in_ok-max.ensures.each b end h).1,
+    ))
 
 pub returns-clause-each : goal.returns-clause-each
 returns-clause-each c b end h =
     let dash_there : StandsAt 45 c.in_ok-min.dash c.args.text.now = (omega (arith, c.if-dash-text.false, c.in_ok-min.ensures.number.within), c.if-text-dash-ne45.false) in
-    rw c.new.ensures (range_alone _ _ _ _ _ _ c.in_ok-min.ensures.each dash_there c.in_ok-max.ensures.each b end h)
+    rw c.new.ensures ((range_alone _ _ _ _ _ _ c.in_ok-min.ensures.each dash_there c.in_ok-max.ensures.each b end h).0)

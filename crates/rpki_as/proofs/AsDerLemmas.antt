@@ -1,7 +1,9 @@
 -- What is written of sets of AS numbers, and what is taken of them in either mode.
-use Rattle.rpki_as.proofs.Common.{List, None, Result, [], ap, arith, get_or, length, map, subst, suc, sym, zero, ℕ, ◌*◌, ◌+◌, ◌<◌, ◌^◌, ◌↔◌, ◌∷◌, ◌≡◌, ◌≤◌, cases_lt, eq-eqb, le-ltb, lt-ltb, ne_eqb, length-append, recursion_from_All, flat_map-map, AllByRecursion, flat_map, block_numbers, block_spelled, block_written, length-content, length-number, IsAsBlock, as_block_octets, as_block_has_octets, as_block_reading, next_block_modal, IsNextBlock, IsStrictBlock, as_block_at, next_block_by, as_bounds, new_as_block, IsSaidInModes, IsTakenInModes, one_said, said_alike, taken_said, written_said, IsSequenceFrom, IsSequenceOf, TakesSaidOrMemory, IsWritten, same_numbers, Holds, IsRunsOfBlocks, Runs, length-header, IsBytes, OneFront, header, length_octets, sequence_value, value, is_strict, left, Cursor, DerError, OrMemory, IsAsBlockSequence, as_run_octets, as_sequence_octets, as_set_octets, as_blocks_at, as_blocks_by, greatest_of_as_block, IsAsSet}
+use Rattle.rpki_as.proofs.Common.{AsBlock, ◌∙◌, List, None, Result, [], ap, arith, get_or, length, map, suc, zero, ℕ, ◌*◌, ◌+◌, ◌<◌, ◌^◌, ◌↔◌, ◌∷◌, ◌≡◌, ◌≤◌, cases_lt, eq-eqb, le-ltb, lt-ltb, ne_eqb, length-append, recursion_from_All, flat_map-map, AllByRecursion, block_numbers, block_spelled, block_written, length-content, length-number, IsAsBlock, as_block_octets, as_block_has_octets, as_block_reading, next_block_modal, IsNextBlock, IsStrictBlock, as_block_at, next_block_by, as_bounds, new_as_block, IsSaidInModes, IsTakenInModes, one_said, said_alike, taken_said, written_said, IsSequenceFrom, IsSequenceOf, TakesSaidOrMemory, IsWritten, Holds, IsRunsOfBlocks, Runs, length-header, IsBytes, OneFront, header, length_octets, sequence_value, value, is_strict, left, Cursor, DerError, OrMemory, IsAsBlockSequence, as_run_octets, as_sequence_octets, as_set_octets, as_blocks_at, as_blocks_by, greatest_of_as_block, IsAsSet}
 use Rattle.rpki_chain.proofs.BlocksInModes.{AreBlocksInModes, set_said}
 use Rattle.rpki_der.proofs.Numbers.{length-octets}
+use Rattle.rpki_base.specs.DerWriting.{octets_of_all}
+use Rattle.rpki_as.proofs.ListLemmas.{alike_as_numbers}
 
 -- ---- how long the blocks of a set are
 
@@ -14,8 +16,9 @@ unfolding IsRun32
 runs_32 set is = recursion_from_All IsRun32 set (λ k d small. (is.are_runs.ordered k d small, (let le = is.below k d small in omega arith)))
 
 -- what is written of the blocks of runs is what is written of the set
-pub blocks_octets : (set : Runs) → flat_map as_block_octets (map new_as_block set) ≡ as_set_octets set
-blocks_octets set = flat_map-map as_block_octets new_as_block set
+pub blocks_octets : (set : Runs) (made : List AsBlock) → made ≡ map new_as_block set
+    → octets_of_all as_block_octets made ≡ as_set_octets set
+blocks_octets set made same = ap (octets_of_all as_block_octets) same ∙ flat_map-map as_block_octets new_as_block set
 
 -- each run begins two above the one before
 run_places : (set : Runs) → IsAsSet set → (k : ℕ) (d : ℕ × ℕ) → k < length set → k + k ≤ (get_or set k d).0
@@ -92,13 +95,9 @@ one_sequence = one_said set_in_modes
 -- sets that are written alike have the same numbers, and sets of the same numbers are written alike
 pub written_as_numbers : (a b : Runs) → IsAsSet a → IsAsSet b
     → (as_set_octets a ≡ as_set_octets b) ↔ ((n : ℕ) → Holds a n ↔ Holds b n)
-written_as_numbers a b is also = (
-  λ same n. (
-      let one = said_alike set_in_modes a b is also (set_short a is) (ap sequence_value same) in
-      (subst (λ (t : Runs). Holds t n) one, subst (λ (t : Runs). Holds t n) (sym one))
-      ),
-  λ same. ap as_set_octets (same_numbers a b is.are_runs also.are_runs same),
-)
+written_as_numbers a b is also =
+    alike_as_numbers as_set_octets a b is also
+    (λ same. said_alike set_in_modes a b is also (set_short a is) (ap sequence_value same))
 
 -- what a take of a set promises
 pub set_taken : (old new : Cursor) (result : Result Runs (OrMemory DerError)) → IsBytes (left old)

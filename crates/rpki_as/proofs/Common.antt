@@ -1,12 +1,11 @@
 -- What the proofs of this crate use of std, of the crates below and of its own definitions, passed on by one name.
-pub use Rattle.std.proofs.Common.{Bool, Err, List, MatchResult, None, Ok, Option, Result, Some, Vec, [], ap, arith, codes, false, get_or, inl, inr, length, lit≤, map, refl, slice_index, subst, suc, sym, take, vec_len, zero, ℕ, ⊎_elim, ◌*◌, ◌++◌, ◌+◌, ◌-◌, ◌<◌, ◌^◌, ◌↔◌, ◌∙◌, ◌∷◌, ◌≡◌, ◌≢◌, ◌≤◌, ◌⊎◌}
+pub use Rattle.std.proofs.Common.{Bool, Err, List, MatchResult, None, Ok, Option, Result, Some, Vec, [], ap, arith, codes, false, get_or, inl, inr, length, lit≤, map, refl, slice_index, subst, suc, sym, take, zero, ℕ, ⊎_elim, ◌*◌, ◌++◌, ◌+◌, ◌-◌, ◌<◌, ◌^◌, ◌↔◌, ◌∙◌, ◌∷◌, ◌≡◌, ◌≢◌, ◌≤◌, ◌⊎◌}
 pub use Rattle.std.proofs.lemmas.Bool.{cases_lt, eq-eqb, le-ltb, lt-ltb, ne_eqb}
-pub use Rattle.std.proofs.lemmas.List.{append-nil, append_assoc, get_or-append_right, get_or_append_left, length-append, take_all, take_more}
+pub use Rattle.std.proofs.lemmas.List.{append_assoc, get_or-append_right, get_or_append_left, length-append, take_all}
 pub use Rattle.std.proofs.lemmas.List.Elements.{All-head, All-tail, Contains-append_cases, Contains-append_left, Contains-append_right, Contains-get_or, recursion_from_All}
 pub use Rattle.std.proofs.lemmas.List.Folds.{flat_map-map, length-flat_map-take}
 pub use Rattle.std.proofs.lemmas.Result.{err_from_is_err_and}
-pub use Rattle.std.specs.List.{All, AllByRecursion, AllPairs, Contains, flat_map}
-pub use Rattle.std.specs.Prelude.{IsOk, OnOk}
+pub use Rattle.std.specs.List.{All, AllByRecursion, AllPairs, flat_map}
 pub use Rattle.rpki_as_block.proofs.AsDerLemmas.{block_numbers, block_spelled, block_written, length-content, length-number}
 pub use Rattle.rpki_as_block.proofs.BlockLemmas.{IsAsBlockText-block_text, IsAsBlockText-one, block_apart, same_block_fault}
 pub use Rattle.rpki_as_block.proofs.NumberLemmas.{IsListOf-numbers_within, length-numbers_within, makes_progress}

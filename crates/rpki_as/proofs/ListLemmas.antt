@@ -1,13 +1,13 @@
 -- A text writes one set at most, or has one first fault; what is printed of a set writes it.
-use Rattle.rpki_as.proofs.Common.{List, MatchResult, Result, [], arith, lit≤, map, refl, subst, sym, ℕ, ◌++◌, ◌<◌, ◌^◌, ◌∷◌, ◌≡◌, ◌≤◌, All-head, All-tail, All, AllByRecursion, IsAsBlockText-block_text, IsAsBlockText-one, block_apart, same_block_fault, HasAsBlockFault, IsAsBlockText, as_block_text, as_bounds, new_as_block, AsBlock, FromStrError, IsRunsOf-unique, IsRunsOfBlocks-bounds, IsRunsOfBlocks, Runs, Covers, AnswersOrMemory-from_found, HaveValues-one, first_fault_apart, same_first_fault, HaveValues, elements, IfRefused, AnswersOrMemory, OrMemory, IsAsSet, HasAsListFault, IsAsListText, as_list_text}
-use Rattle.std.specs.Int.{IsInRange}
+use Rattle.rpki_as.proofs.Common.{ap, ◌↔◌, same_numbers, Holds, List, MatchResult, Result, [], arith, lit≤, map, refl, subst, sym, ℕ, ◌<◌, ◌^◌, ◌∷◌, ◌≡◌, ◌≤◌, All-head, All-tail, All, AllByRecursion, IsAsBlockText-block_text, IsAsBlockText-one, block_apart, same_block_fault, HasAsBlockFault, IsAsBlockText, as_block_text, as_bounds, new_as_block, AsBlock, FromStrError, IsRunsOf-unique, IsRunsOfBlocks-bounds, IsRunsOfBlocks, Runs, Covers, AnswersOrMemory-from_found, HaveValues-one, first_fault_apart, same_first_fault, HaveValues, elements, IfRefused, AnswersOrMemory, OrMemory, IsAsSet, HasAsListFault, IsAsListText, as_list_text}
 use Rattle.rpki_base.specs.AsnText.{asn_text}
 use Rattle.rpki_base.proofs.AsnLemmas.{asn_text_bytes}
+use Rattle.rpki_as_block.proofs.BlockPlaceLemmas.{shown, shown-append}
 use Rattle.rpki_text.proofs.PrintedLemmas.{IsShown, IsElement, elements-joined}
 
 -- a text writes one set at most
-pub IsAsListText-one : (text : List ℕ) (a b : Runs) → IsAsListText text a → IsAsListText text b → a ≡ b
-IsAsListText-one text a b h k =
+pub one_list : (text : List ℕ) (a b : Runs) → IsAsListText text a → IsAsListText text b → a ≡ b
+one_list text a b h k =
     let same = HaveValues-one IsAsBlockText IsAsBlockText-one (elements text) h.blocks k.blocks h.are_written k.are_written in
     IsRunsOf-unique (Covers as_bounds h.blocks) a b h.covered (subst (λ blocks. IsRunsOfBlocks as_bounds blocks b) (sym same) k.covered)
 
@@ -16,22 +16,13 @@ pub list_answers : {V : Type 0} (view : V → Runs) (text : List ℕ) (r : Resul
     → MatchResult r (λ v. IsAsListText text (view v)) (IfRefused (HasAsListFault text))
     → AnswersOrMemory view (IsAsListText text) (HasAsListFault text) r
 list_answers view text r found =
-    AnswersOrMemory-from_found view (IsAsListText text) (HasAsListFault text) (IsAsListText-one text)
+    AnswersOrMemory-from_found view (IsAsListText text) (HasAsListFault text) (one_list text)
     (λ set e h. first_fault_apart IsAsBlockText HasAsBlockFault block_apart (elements text) h.blocks e h.are_written)
     (same_first_fault IsAsBlockText HasAsBlockFault block_apart same_block_fault (elements text)) r found
 
 -- what is printed of a number can stand in a list
-number_shown : (bs : List ℕ) → AllByRecursion (IsInRange 48 90) bs → AllByRecursion IsShown bs
-number_shown [] h = tt
-number_shown (b ∷ bs) h = ((omega (arith, h.0.0), omega (arith, h.0.1)), number_shown bs h.1)
-
-shown-append : (xs ys : List ℕ) → AllByRecursion IsShown xs → AllByRecursion IsShown ys
-    → AllByRecursion IsShown (xs ++ ys)
-shown-append [] ys h k = k
-shown-append (x ∷ xs) ys h k = (h.0, shown-append xs ys h.1 k)
-
 asn_shown : (n : ℕ) → n < 2 ^ 32 → AllByRecursion IsShown (asn_text n)
-asn_shown n small = number_shown (asn_text n) (asn_text_bytes n small)
+asn_shown n small = shown 90 (asn_text n) (lit≤ tt) (asn_text_bytes n small)
 
 -- and so can what is printed of a block
 block_element : (b : AsBlock) → (as_bounds b).0 ≤ (as_bounds b).1 → (as_bounds b).1 < 2 ^ 32
@@ -51,8 +42,22 @@ blocks_of (b ∷ set) ordered below =
     grind (arith, All-head, IsAsBlockText-block_text, block_element)
 
 -- what is printed of a set writes it
-pub IsAsListText-as_list_text : (text : List ℕ) (set : Runs) → IsAsSet set → text ≡ as_list_text set
+pub list_says : (text : List ℕ) (set : Runs) → IsAsSet set → text ≡ as_list_text set
     → IsAsListText text set
-IsAsListText-as_list_text text set is printed =
+list_says text set is printed =
     let of = blocks_of set is.are_runs.ordered is.below in
     grind (arith, IsRunsOfBlocks-bounds, elements-joined)
+
+-- what is made of sets of numbers is alike exactly where they have the same numbers, if it tells the set
+pub alike_as_numbers : (made : Runs → List ℕ) (a b : Runs) → IsAsSet a → IsAsSet b → (made a ≡ made b → a ≡ b)
+    → (made a ≡ made b) ↔ ((n : ℕ) → Holds a n ↔ Holds b n)
+alike_as_numbers made a b is also one = (
+  λ alike n. subst (λ (set : Runs). Holds a n ↔ Holds set n) (one alike) (λ held. held, λ held. held),
+  λ same. ap made (same_numbers a b is.are_runs also.are_runs same),
+)
+
+-- and so they print alike
+pub printed_as_numbers : (a b : Runs) → IsAsSet a → IsAsSet b
+    → (as_list_text a ≡ as_list_text b) ↔ ((n : ℕ) → Holds a n ↔ Holds b n)
+printed_as_numbers a b is also = alike_as_numbers as_list_text a b is also (λ alike.
+    one_list (as_list_text a) a b (list_says _ a is refl) (list_says _ b also alike))

@@ -1,7 +1,7 @@
 -- A text writes one claim at most, or has one fault; what is printed of resources writes them.
-use Rattle.rpki_as.proofs.Common.{Bool, List, MatchResult, Result, [], ap, arith, codes, false, refl, slice_index, ℕ, ◌++◌, ◌∷◌, ◌≡◌, block_apart, same_block_fault, HasAsBlockFault, IsAsBlockText, as_block_text, AsBlock, FromStrError, empty_set, Claim, IsClaim, claim_of, Runs, Blocks, Inherit, Missing, AnswersOrMemory-from_found, first_fault_apart, same_first_fault, elements, IfRefused, AnswersOrMemory, OrMemory, IsAsSet, HasAsListFault, IsAsListText, as_list_text, HasAsResourcesFault, IsAsResourcesText, IsInherit, as_resources_text}
+use Rattle.rpki_as.proofs.Common.{refl, Bool, List, MatchResult, Result, [], ap, arith, codes, false, slice_index, ℕ, ◌++◌, ◌∷◌, ◌≡◌, block_apart, same_block_fault, HasAsBlockFault, IsAsBlockText, as_block_text, AsBlock, FromStrError, empty_set, Claim, IsClaim, claim_of, Runs, Blocks, Inherit, Missing, AnswersOrMemory-from_found, first_fault_apart, same_first_fault, elements, IfRefused, AnswersOrMemory, OrMemory, IsAsSet, HasAsListFault, IsAsListText, as_list_text, HasAsResourcesFault, IsAsResourcesText, IsInherit, as_resources_text}
 use Rattle.std.specs.Bool.{Decides}
-use Rattle.rpki_as.proofs.ListLemmas.{IsAsListText-as_list_text, IsAsListText-one}
+use Rattle.rpki_as.proofs.ListLemmas.{list_says, one_list}
 
 -- what isn't told isn't so
 pub not_true : (b : Bool) (P : Type 0) → Decides b P → b ≡ false → ¬ P
@@ -12,13 +12,13 @@ module _ (text : List ℕ) where
   pub one_claim : (a b : Claim) → IsAsResourcesText text a → IsAsResourcesText text b → a ≡ b
   one_claim Missing Missing h k = refl
   one_claim Missing Inherit h k = absurd (h.0 k)
-  one_claim Missing (Blocks y) h k = absurd (k.2 (IsAsListText-one text y [] k.1 h.1))
+  one_claim Missing (Blocks y) h k = absurd (k.2 (one_list text y [] k.1 h.1))
   one_claim Inherit Missing h k = absurd (k.0 h)
   one_claim Inherit Inherit h k = refl
   one_claim Inherit (Blocks y) h k = absurd (k.0 h)
-  one_claim (Blocks x) Missing h k = absurd (h.2 (IsAsListText-one text x [] h.1 k.1))
+  one_claim (Blocks x) Missing h k = absurd (h.2 (one_list text x [] h.1 k.1))
   one_claim (Blocks x) Inherit h k = absurd (h.0 k)
-  one_claim (Blocks x) (Blocks y) h k = ap (λ (runs : Runs). Blocks runs) (IsAsListText-one text x y h.1 k.1)
+  one_claim (Blocks x) (Blocks y) h k = ap (λ (runs : Runs). Blocks runs) (one_list text x y h.1 k.1)
 
   -- and has no fault then
   list_apart : (set : Runs) (e : FromStrError) → IsAsListText text set → HasAsListFault text e → ⊥
@@ -67,6 +67,7 @@ not_inherit (run ∷ runs) text printed = grind (arith, begins_otherwise, codes,
 -- what is printed of resources writes them
 pub printed_resources : (text : List ℕ) (claim : Claim) → IsClaim IsAsSet claim → text ≡ as_resources_text claim
     → IsAsResourcesText text claim
-printed_resources text Missing is printed = (not_inherit [] text printed, IsAsListText-as_list_text text [] (empty_set 0 4294967295) printed)
+printed_resources text Missing is printed =
+    (not_inherit [] text printed, list_says text [] (empty_set 0 4294967295) printed)
 printed_resources text Inherit is printed = printed
-printed_resources text (Blocks set) is printed = (not_inherit set text printed, IsAsListText-as_list_text text set is.0 printed, is.1)
+printed_resources text (Blocks set) is printed = (not_inherit set text printed, list_says text set is.0 printed, is.1)

@@ -40,12 +40,14 @@ pub fn written_resources()
 
 /// Resources are refused for a list of no blocks exactly where the SEQUENCE of blocks is empty, whatever stands behind
 /// it.
+#[tactic(auto, using(crate::proofs::DerFaults::empty_blocks))]
 pub fn empty_blocks()
     ensures { (bytes : List ℕ) → (as_choice_at bytes ≡ Err EmptyBlocks)
         ↔ BeginsWithValue 48 (BeginsWithValue 160 BeginsEmpty) bytes }
 {}
 
 /// Octets are refused as not canonical by a strict cursor alone.
+#[tactic(auto, using(crate::proofs::DerFaults::never_blocks, crate::proofs::DerFaults::never_resources))]
 pub fn not_canonical()
     ensures sequence { (bytes : List ℕ) → as_blocks_at bytes ≢ Err NotCanonical }
     ensures resources { (bytes : List ℕ) → as_choice_at bytes ≢ Err NotCanonical }

@@ -1,5 +1,5 @@
 use Rattle.rpki_as.proofs.Common.{Err, Ok, Vec, err_from_is_err_and, HasAsBlockFault, IsAsBlockText, ReadsAsBlock, AsBlock, found_weaker, elements}
-use Rattle.rpki_as.proofs.ListLemmas.{list_answers, IsAsListText-as_list_text}
+use Rattle.rpki_as.proofs.ListLemmas.{list_answers, list_says}
 use Rattle.rpki_as.proofs.blocks.AsBlocks.from_str.Goals as goal
 
 pub returns-in_err-blocks-clause-exact : goal.returns-in_err-blocks-clause-exact
@@ -10,7 +10,7 @@ returns-in_err-blocks-clause-exact g c =
 
 pub returns-in_err-blocks-clause-reads_back : goal.returns-in_err-blocks-clause-reads_back
 returns-in_err-blocks-clause-reads_back g c =
-    λ set is printed. (returns-in_err-blocks-clause-exact g c).each_value set (IsAsListText-as_list_text c.args.text.now set is printed)
+    λ set is printed. (returns-in_err-blocks-clause-exact g c).each_value set (list_says c.args.text.now set is printed)
 
 pub returns-clause-exact : goal.returns-clause-exact
 returns-clause-exact g c =
@@ -23,4 +23,4 @@ returns-clause-exact g c =
 
 pub returns-clause-reads_back : goal.returns-clause-reads_back
 returns-clause-reads_back g c =
-    λ set is printed. (returns-clause-exact g c).each_value set (IsAsListText-as_list_text c.args.text.now set is printed)
+    λ set is printed. (returns-clause-exact g c).each_value set (list_says c.args.text.now set is printed)

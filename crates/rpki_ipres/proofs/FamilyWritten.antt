@@ -1,11 +1,11 @@
 -- What is written of sets, alone and behind their family, stands for them, and octets stand for one set at most.
-use Rattle.rpki_ipres.proofs.Common.{List, [], ap, arith, length, refl, subst, sym, ℕ, ◌++◌, ◌+◌, ◌<◌, ◌^◌, ◌↔◌, ◌∙◌, ◌∷◌, ◌≡◌, ◌≢◌, append_assoc, append_cancel_left, length-append, one_content, written_said, family_reading, family_written, IsSequenceOf, bits_of, IsFamilyDer, family_at, family_der, AddressFamily, same_numbers, Holds, IsRunsOfBlocks, Runs, value_is, OneFront, header, sequence_value, tagged_at, IsIpBlockDer, ip_blocks_at, blocks_reading, ip_bounds, IsIpBlockSequence, IsIpFamily, ip_family_der, ip_set_der, IsFamilySet}
+use Rattle.rpki_ipres.proofs.Common.{List, [], ap, arith, length, refl, subst, sym, ℕ, ◌++◌, ◌+◌, ◌<◌, ◌^◌, ◌↔◌, ◌∙◌, ◌∷◌, ◌≡◌, ◌≢◌, append_assoc, append_cancel_left, length-append, one_content, written_said, family_reading, family_written, IsSequenceOf, bits_of, IsFamilyDer, family_at, family_der, AddressFamily, Holds, IsRunsOfBlocks, Runs, value_is, OneFront, header, sequence_value, tagged_at, IsIpBlockDer, ip_blocks_at, blocks_reading, ip_bounds, IsIpBlockSequence, IsIpFamily, ip_family_der, ip_set_der, IsFamilySet, IsIpSet}
 use Rattle.rpki_der.proofs.Readings.{IsTagged, one_front, tagged_reading}
 use Rattle.rpki_base.proofs.DerReadings.{one_front_said}
 use Rattle.rpki_base.proofs.DerWriting.{content_shorter}
 use Rattle.rpki_ipres.proofs.Modes.{set_in_modes}
-use Rattle.rpki_ipres.proofs.SetTextLemmas.{is_ip_set}
-use Rattle.rpki_ipres.proofs.SetWritten.{one_set, written_as_numbers}
+use Rattle.rpki_ipres.proofs.SetTextLemmas.{alike_as_numbers, is_ip_set}
+use Rattle.rpki_ipres.proofs.SetWritten.{one_set, set_alike}
 
 -- what is appended of two behind the header of a SEQUENCE
 pub two_written : (old one two : List ℕ) (n : ℕ) → n ≡ length one + length two
@@ -57,16 +57,14 @@ one_family a b x y r s (content, is, (rest, (front, first, split), says)) (other
 pub family_as_numbers : (family : AddressFamily) (a b : Runs) → IsFamilySet family a → IsFamilySet family b
     → (ip_family_der family a ≡ ip_family_der family b) ↔ ((n : ℕ) → Holds a n ↔ Holds b n)
 unfolding header
-family_as_numbers family a b is also = (
-  one_set_of a b is also,
-  λ same. ap (ip_family_der family) (same_numbers a b (is_ip_set family a is).are_runs (is_ip_set family b also).are_runs same),
-)
+family_as_numbers family a b is also =
+    alike_as_numbers (ip_family_der family) a b (is_ip_set family a is) (is_ip_set family b also)
+    (one_set_of a b (is_ip_set family a is) (is_ip_set family b also))
   where
-    one_set_of : (a b : Runs) → IsFamilySet family a → IsFamilySet family b
-        → ip_family_der family a ≡ ip_family_der family b → (n : ℕ) → Holds a n ↔ Holds b n
-    one_set_of [] [] is also same = λ n. (λ h. h, λ h. h)
+    one_set_of : (a b : Runs) → IsIpSet a → IsIpSet b → ip_family_der family a ≡ ip_family_der family b → a ≡ b
+    one_set_of [] [] is also same = refl
     one_set_of [] (run ∷ b) is also same = absurd cc
     one_set_of (run ∷ a) [] is also same = absurd cc
     one_set_of (run ∷ a) (next ∷ b) is also same =
-        let content = one_content (family_der family ++ ip_set_der (run ∷ a)) (family_der family ++ ip_set_der (next ∷ b)) same in
-        (written_as_numbers (run ∷ a) (next ∷ b) (is_ip_set family (run ∷ a) is) (is_ip_set family (next ∷ b) also)).0 (append_cancel_left (family_der family) (ip_set_der (run ∷ a)) (ip_set_der (next ∷ b)) content)
+        set_alike (run ∷ a) (next ∷ b) is also
+        (append_cancel_left (family_der family) (ip_set_der (run ∷ a)) (ip_set_der (next ∷ b)) (one_content _ _ same))

@@ -1,9 +1,9 @@
 -- What is printed of a set is a list text with that set, a list text has one set at most, and so sets of the same
 -- addresses alone print alike.
-use Rattle.rpki_ipres.proofs.Common.{List, ap, map, refl, subst, sym, ℕ, ◌↔◌, ◌∙◌, ◌≡◌, AddressFamily, IsRunsOf-unique, IsRunsOfBlocks-bounds, same_numbers, Holds, IsRunsOfBlocks, Runs, Covers, ip_bounds, new_ip_block, HasBlocks, HasIpBlocks, IpBlock, IsFamilySet, IsIpSet, IsSetOf, set_text}
+use Rattle.rpki_ipres.proofs.Common.{List, map, refl, subst, ℕ, ◌↔◌, ◌∙◌, ◌≡◌, AddressFamily, IsRunsOf-unique, IsRunsOfBlocks-bounds, Holds, IsRunsOfBlocks, Runs, Covers, ip_bounds, new_ip_block, HasBlocks, HasIpBlocks, IpBlock, IsFamilySet, IsIpSet, IsSetOf, set_text}
 use Rattle.rpki_ip_block.proofs.ListLemmas.{same_blocks, same_ip_blocks}
 use Rattle.rpki_ip_block.proofs.PrintedLists.{family_list, list_told}
-use Rattle.rpki_ipres.proofs.SetTextLemmas.{blocks_bounds, blocks_of_family, is_ip_set}
+use Rattle.rpki_ipres.proofs.SetTextLemmas.{alike_as_numbers, blocks_bounds, blocks_of_family, is_ip_set}
 
 module _ (Has : List IpBlock → Type 0) where
   -- blocks with the bounds of a set's are those of the set
@@ -42,11 +42,8 @@ one_either_set text = one_set (HasIpBlocks text) (same_ip_blocks text)
 -- sets of a family
 pub printed_as_numbers : (family : AddressFamily) (a b : Runs) → IsFamilySet family a → IsFamilySet family b
     → (set_text family a ≡ set_text family b) ↔ ((n : ℕ) → Holds a n ↔ Holds b n)
-printed_as_numbers family a b is also = (
-  λ printed n. (
-      let written = subst (λ text. IsSetOf (HasBlocks family text) a) printed (family_written family a is) in
-      let same : a ≡ b = one_family_set family (set_text family b) a b written (family_written family b also) in
-      (subst (λ (set : Runs). Holds set n) same, subst (λ (set : Runs). Holds set n) (sym same))
-      ),
-  λ same. ap (set_text family) (same_numbers a b (is_ip_set family a is).are_runs (is_ip_set family b also).are_runs same),
-)
+printed_as_numbers family a b is also =
+    alike_as_numbers (set_text family) a b (is_ip_set family a is) (is_ip_set family b also) (λ printed.
+    one_family_set family (set_text family b) a b
+    (subst (λ text. IsSetOf (HasBlocks family text) a) printed (family_written family a is))
+    (family_written family b also))

@@ -1,10 +1,10 @@
 -- What is written of resources, alone and by families, stands for them, and octets stand for one
 -- claim at most.
-use Rattle.rpki_ipres.proofs.Common.{List, None, Option, Some, [], ap, arith, length, refl, subst, ℕ, ◌++◌, ◌<◌, ◌^◌, ◌↔◌, ◌≡◌, ◌≢◌, append_cancel_left, one_content, one_families, stands_for, written_said, IsSequenceOf, bits_of, ByFamily, option_der, AddressFamily, Ipv4, Ipv6, lists_one, same_numbers, IsChoiceOf, Claim, claim_of, IsRunsOfBlocks, Runs, ResourcesChoice, Blocks, Inherit, Missing, OneFront, header, IsIpBlockDer, ip_bounds, IpBlock, IsFamilyClaim, IsIpClaim, if_present, IsIpFamilies, IsIpResources, SaysClaimOf, ip_families_der, ip_member_der, ip_resources_at, ip_resources_der, resources_reading, ip_family_der}
+use Rattle.rpki_ipres.proofs.Common.{Blocks, Inherit, List, None, Option, Some, [], ap, arith, length, refl, subst, ℕ, ◌++◌, ◌<◌, ◌^◌, ◌↔◌, ◌≡◌, ◌≢◌, append_cancel_left, one_content, one_families, stands_for, written_said, IsSequenceOf, bits_of, ByFamily, option_der, AddressFamily, Ipv4, Ipv6, lists_one, IsChoiceOf, Claim, claim_of, IsRunsOfBlocks, Runs, ResourcesChoice, Missing, OneFront, header, IsIpBlockDer, ip_bounds, IpBlock, IsFamilyClaim, IsIpClaim, if_present, IsIpFamilies, IsIpResources, SaysClaimOf, ip_families_der, ip_member_der, ip_resources_at, ip_resources_der, resources_reading, ip_family_der}
 use Rattle.rpki_base.proofs.DerReadings.{one_front_said}
 use Rattle.rpki_ipres.proofs.FamilyModes.{G, are_present, families_in_modes}
 use Rattle.rpki_ipres.proofs.Modes.{claim_in_modes}
-use Rattle.rpki_ipres.proofs.SetWritten.{one_set, written_as_numbers}
+use Rattle.rpki_ipres.proofs.SetWritten.{one_set, set_alike}
 
 -- the blocks that were read are of one claim at most
 pub one_claim : (choice : ResourcesChoice (List IpBlock)) (a b : Claim) → SaysClaimOf choice a → SaysClaimOf choice b
@@ -46,8 +46,7 @@ resources_alike Missing b is also same = grind arith
 resources_alike Inherit b is also same = grind arith
 resources_alike (Blocks x) Missing is also same = absurd cc
 resources_alike (Blocks x) Inherit is also same = absurd cc
-resources_alike (Blocks x) (Blocks y) is also same =
-    ap (λ (t : Runs). Blocks t) (same_numbers x y is.0.are_runs also.0.are_runs ((written_as_numbers x y is.0 also.0).0 same))
+resources_alike (Blocks x) (Blocks y) is also same = ap (λ (t : Runs). Blocks t) (set_alike x y is.0 also.0 same)
 
 pub resources_as_claims : (a b : Claim) → IsIpClaim a → IsIpClaim b
     → (ip_resources_der a ≡ ip_resources_der b) ↔ (a ≡ b)

@@ -1,5 +1,5 @@
 -- A list writes one set at most, or has one fault, and what is printed of a set is read as that set.
-use Rattle.rpki_ipres.proofs.Common.{Err, List, Ok, arith, get_or, map, subst, sym, ◌∙◌, ◌≡◌, ◌≤◌, All-map, All, AddressFamily, Ipv4, Ipv6, IsRunsOf-unique, IsRunsOfBlocks-bounds, bounds_made, IsRunsOfBlocks, Runs, Covers, HasWholeBounds, new_block_fits, new_ip_block_bounds, ip_bounds, new_ip_block, IsBlockOf, IpBlock, OrMemory, IsFamilySet, IsIpSet, IsSetOf}
+use Rattle.rpki_ipres.proofs.Common.{ap, ℕ, ◌↔◌, same_numbers, Holds, Err, List, Ok, arith, get_or, map, subst, sym, ◌∙◌, ◌≡◌, ◌≤◌, All-map, All, AddressFamily, Ipv4, Ipv6, IsRunsOf-unique, IsRunsOfBlocks-bounds, bounds_made, IsRunsOfBlocks, Runs, Covers, HasWholeBounds, new_block_fits, new_ip_block_bounds, ip_bounds, new_ip_block, IsBlockOf, IpBlock, OrMemory, IsFamilySet, IsIpSet, IsSetOf}
 use Rattle.rpki_text.specs.Reading.{AnswersOrMemory}
 use Rattle.rpki_ipres.proofs.WholeLemmas.{whole_runs}
 
@@ -24,12 +24,6 @@ module _ {V E : Type 0} (view : V → List IpBlock) (Has : List IpBlock → Type
 pub blocks_bounds : (set : Runs) → IsIpSet set → map ip_bounds (map new_ip_block set) ≡ set
 blocks_bounds = bounds_made ip_bounds new_ip_block 0 340282366920938463463374607431768211455 (λ b from ordered to. new_ip_block_bounds b)
 
--- the set of blocks with the bounds of runs is that of the runs
-set_of_bounds : (xs : List IpBlock) (set read : Runs) → IsIpSet set
-    → map ip_bounds xs ≡ map ip_bounds (map new_ip_block set) → IsRunsOfBlocks ip_bounds xs read → read ≡ set
-set_of_bounds xs set read is bounds covered =
-    IsRunsOf-unique (Covers ip_bounds xs) read set covered (IsRunsOfBlocks-bounds ip_bounds xs set (bounds ∙ blocks_bounds set is) is.are_runs)
-
 -- the blocks of a set of addresses are blocks of addresses
 blocks_fit : (set : Runs) → IsIpSet set → All (IsBlockOf Ipv6) (map new_ip_block set)
 blocks_fit set is = All-map (IsBlockOf Ipv6) new_ip_block set (λ k d small.
@@ -53,4 +47,15 @@ is_ip_set family set is = grind arith
 -- so the set that was read from blocks with their bounds is that set
 pub read_as : (family : AddressFamily) (xs : List IpBlock) (set read : Runs) → IsFamilySet family set
     → map ip_bounds xs ≡ map ip_bounds (map new_ip_block set) → IsRunsOfBlocks ip_bounds xs read → read ≡ set
-read_as family xs set read is = set_of_bounds xs set read (is_ip_set family set is)
+read_as family xs set read is bounds covered =
+    let own = is_ip_set family set is in
+    IsRunsOf-unique (Covers ip_bounds xs) read set covered
+    (IsRunsOfBlocks-bounds ip_bounds xs set (bounds ∙ blocks_bounds set own) own.are_runs)
+
+-- what is made of sets is alike exactly where they have the same addresses, if it tells the set
+pub alike_as_numbers : (made : Runs → List ℕ) (a b : Runs) → IsIpSet a → IsIpSet b → (made a ≡ made b → a ≡ b)
+    → (made a ≡ made b) ↔ ((n : ℕ) → Holds a n ↔ Holds b n)
+alike_as_numbers made a b is also one = (
+  λ alike n. subst (λ (set : Runs). Holds a n ↔ Holds set n) (one alike) (λ held. held, λ held. held),
+  λ same. ap made (same_numbers a b is.are_runs also.are_runs same),
+)

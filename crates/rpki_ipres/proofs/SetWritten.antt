@@ -1,10 +1,10 @@
 -- What is written of sets of addresses, and that it is read back.
-use Rattle.rpki_ipres.proofs.Common.{List, [], ap, arith, eqb, false, length, map, refl, subst, sym, ℕ, ◌++◌, ◌↔◌, ◌∙◌, ◌∷◌, ◌≡◌, ◌≤◌, recursion_from_All, pow_pos, AllByRecursion, one_content, written_alike, octets_of_all, sequence_octets, bits_of, family_der, AddressFamily, Ipv4, Ipv6, IsRunsOf-unique, same_numbers, Holds, IsRunsOfBlocks, Runs, Covers, sequence_value, HasWholeBounds, new_block_fits, IsBlockWithin, IsIpBlockDer, ip_block_der, new_ip_block_bounds, ip_block_at, ip_block_has_octets, ip_block_reading, ip_bounds, new_ip_block, IsBlock, IpBlock, ip_family_der, ip_run_der, ip_set_der, IsFamilySet, IsIpSet}
+use Rattle.rpki_ipres.proofs.Common.{List, [], ap, arith, eqb, false, length, map, refl, sym, ℕ, ◌++◌, ◌↔◌, ◌∙◌, ◌∷◌, ◌≡◌, ◌≤◌, recursion_from_All, pow_pos, AllByRecursion, one_content, written_alike, octets_of_all, sequence_octets, bits_of, family_der, AddressFamily, Ipv4, Ipv6, IsRunsOf-unique, Holds, IsRunsOfBlocks, Runs, Covers, sequence_value, HasWholeBounds, new_block_fits, IsBlockWithin, IsIpBlockDer, ip_block_der, new_ip_block_bounds, ip_block_at, ip_block_has_octets, ip_block_reading, ip_bounds, new_ip_block, IsBlock, IpBlock, ip_family_der, ip_run_der, ip_set_der, IsFamilySet, IsIpSet}
 use Rattle.std.proofs.lemmas.List.Folds.{flat_map-map}
 use Rattle.rpki_ip.specs.RangeDer.{IsRangeWithin}
 use Rattle.rpki_ip.proofs.DerWritten.{few_bits}
 use Rattle.rpki_ip_block.proofs.BlockWritten.{block_written}
-use Rattle.rpki_ipres.proofs.SetTextLemmas.{blocks_bounds}
+use Rattle.rpki_ipres.proofs.SetTextLemmas.{alike_as_numbers, blocks_bounds}
 use Rattle.rpki_ipres.proofs.WholeLemmas.{whole_runs}
 
 -- ---- runs and their blocks
@@ -53,18 +53,19 @@ family_runs Ipv4 set (is, whole) = recursion_from_All (IsRunWithin 32) set (λ k
     record { is_range = record { ordered = is.are_runs.ordered k d small; below = (let most = is.below k d small in omega (arith, most)) }; zeros = bounds.begins; ones = bounds.ends })
 family_runs Ipv6 set is = grind (arith, recursion_from_All)
 
--- sets that are written alike have the same addresses, and sets of the same addresses are written alike
+-- sets that are written alike are one
+pub set_alike : (a b : Runs) → IsIpSet a → IsIpSet b → ip_set_der a ≡ ip_set_der b → a ≡ b
+set_alike a b is also same =
+    let content : octets_of_all ip_run_der a ≡ octets_of_all ip_run_der b = one_content (octets_of_all ip_run_der a)
+    (octets_of_all ip_run_der b) same in
+    let all = runs_written 128 a (omega arith) (family_runs Ipv6 a is) in
+    let more = runs_written 128 b (omega arith) (family_runs Ipv6 b also) in
+    let blocks = written_alike (IsIpBlockDer 128) ip_block_der (ip_block_at 128) (ip_block_reading 128)
+    (ip_block_has_octets 128) (map new_ip_block a) (map new_ip_block b) all more
+    (written_as_runs a _ refl ∙ content ∙ sym (written_as_runs b _ refl)) in
+    sym (blocks_bounds a is) ∙ ap (λ (t : List IpBlock). map ip_bounds t) blocks ∙ blocks_bounds b also
+
+-- so they have the same addresses, and sets of the same addresses are written alike
 pub written_as_numbers : (a b : Runs) → IsIpSet a → IsIpSet b
     → (ip_set_der a ≡ ip_set_der b) ↔ ((n : ℕ) → Holds a n ↔ Holds b n)
-written_as_numbers a b is also = (
-  λ same n. (
-      let content : octets_of_all ip_run_der a ≡ octets_of_all ip_run_der b = one_content (octets_of_all ip_run_der a) (octets_of_all ip_run_der b) same in
-      let all = runs_written 128 a (omega arith) (family_runs Ipv6 a is) in
-      let more = runs_written 128 b (omega arith) (family_runs Ipv6 b also) in
-      let blocks = written_alike (IsIpBlockDer 128) ip_block_der (ip_block_at 128) (ip_block_reading 128) (ip_block_has_octets 128) (map new_ip_block a) (map new_ip_block b) all more
-      (written_as_runs a _ refl ∙ content ∙ sym (written_as_runs b _ refl)) in
-      let one : a ≡ b = sym (blocks_bounds a is) ∙ ap (λ (t : List IpBlock). map ip_bounds t) blocks ∙ blocks_bounds b also in
-      (subst (λ (t : Runs). Holds t n) one, subst (λ (t : Runs). Holds t n) (sym one))
-      ),
-  λ same. ap ip_set_der (same_numbers a b is.are_runs also.are_runs same),
-)
+written_as_numbers a b is also = alike_as_numbers ip_set_der a b is also (set_alike a b is also)

@@ -1,5 +1,5 @@
 -- Where a set and the claims on it consist of whole IPv4 addresses, so does what they leave, and what is too much.
-use Rattle.rpki_ipres.proofs.Common.{List, arith, subst, sym, take, ℕ, All-take, All, Ipv4, Claim, Holds, IsRunsOf, Runs, IsWhole, IsFamilyClaim, IsIpClaim, IsWholeClaim}
+use Rattle.rpki_ipres.proofs.Common.{List, arith, subst, sym, take, ℕ, All-take, All, Claim, Holds, IsRunsOf, Runs, IsWhole, IsWholeClaim}
 use Rattle.rpki_chain.specs.Paths.{Lists, Leaves, Exceeds, IsIssued, IsExcess, IsUncovered, IsLeft, IsPathResult, IsFirstRefusal}
 use Rattle.rpki_chain.specs.declared.path.Overclaim.{Overclaim}
 use Rattle.rpki_chain.specs.declared.path.Overclaim.TheVariants.{Refuse, Trim}
@@ -56,10 +56,3 @@ whole_refusal set steps refusal own whole h = whole_members _ refusal.fault h.ex
       (whole_left set (take refusal.step steps) own (All-take (λ (s : Step Claim). IsWholeClaim s.claim) refusal.step steps whole))
       (subst (λ (s : Step Claim). IsWholeClaim s.claim) is (whole refusal.step step lt)) m n same e,
 ))
-
--- whole claims on addresses are those of IPv4
-pub v4_is_whole : (claim : Claim) → IsFamilyClaim Ipv4 claim → IsWholeClaim claim
-v4_is_whole claim is = grind arith
-
-pub whole_is_v4 : (claim : Claim) → IsIpClaim claim → IsWholeClaim claim → IsFamilyClaim Ipv4 claim
-whole_is_v4 claim is whole = grind arith

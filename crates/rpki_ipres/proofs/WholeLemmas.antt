@@ -1,5 +1,6 @@
 -- Which sets consist of whole IPv4 addresses, by their runs.
-use Rattle.rpki_ipres.proofs.Common.{List, ap, arith, get_or, length, map, refl, subst, sym, ℕ, ◌%◌, ◌+◌, ◌-◌, ◌<◌, ◌^◌, ◌∙◌, ◌≡◌, ◌≤◌, cases_order, get_or-map, length-map, All-map, Holds, IsRunsOf, Runs, IsChainOf, IsRun, whole_set, HasWholeBounds, IsWhole, ip_bounds, IpBlock}
+use Rattle.rpki_ipres.proofs.Common.{take, List, ap, arith, get_or, length, map, refl, subst, sym, ℕ, ◌%◌, ◌+◌, ◌-◌, ◌<◌, ◌^◌, ◌∙◌, ◌≡◌, ◌≤◌, cases_order, get_or-map, length-map, All-map, Holds, IsRunsOf, Runs, IsChainOf, IsRun, whole_set, HasWholeBounds, IsWhole, ip_bounds, IpBlock}
+use Rattle.std.proofs.lemmas.List.{take_all}
 use Rattle.std.specs.Prelude.{All}
 use Rattle.rpki_chains.proofs.Chains.{IsChainOf-from}
 
@@ -41,7 +42,9 @@ whole_block blocks runs i x bounds h small here whole =
     subst HasWholeBounds (at ∙ ap ip_bounds (sym here)) (all i (ip_bounds x) (omega (arith, long, small)))
 
 -- and blocks that all have are a whole set
-pub blocks_whole : (blocks : List IpBlock) (runs : Runs) (n : ℕ) → map ip_bounds blocks ≡ runs → length blocks ≤ n
-    → ((k : ℕ) (d : IpBlock) → k < n → HasWholeBounds (ip_bounds (get_or blocks k d))) → IsWhole (Holds runs)
-blocks_whole blocks runs n bounds end each =
-    runs_whole runs (subst (All HasWholeBounds) bounds (All-map HasWholeBounds ip_bounds blocks (λ k d small. each k d (omega (arith, end, small)))))
+pub blocks_whole : (blocks : List IpBlock) (runs : Runs) (i : ℕ) → map ip_bounds blocks ≡ runs → length blocks ≤ i
+    → All (λ block. HasWholeBounds (ip_bounds block)) (take i blocks) → IsWhole (Holds runs)
+blocks_whole blocks runs i bounds end all =
+    runs_whole runs (subst (All HasWholeBounds) bounds
+    (All-map HasWholeBounds ip_bounds blocks
+    (subst (All (λ block. HasWholeBounds (ip_bounds block))) (take_all i blocks end) all)))

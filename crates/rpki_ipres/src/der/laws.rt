@@ -30,6 +30,7 @@ pub fn one_value()
 
 /// What is written of a set of a family, of fewer than 2^64 octets, is a SEQUENCE of the family's blocks that stands
 /// for the set. What is written of a set that isn't empty and of its family stands for both.
+#[tactic(auto, using(crate::proofs::FamilyWritten::family_says, crate::proofs::FamilyWritten::sequence_says))]
 pub fn written_sets()
     ensures sequence { (family : _) (set : Runs) → IsFamilySet family set →
         length (ip_set_der set) < 2 ^ 64 → IsIpBlockSequence (bits_of family) (ip_set_der set) set }
@@ -49,6 +50,7 @@ pub fn canonical()
 
 /// What is written of resources of a family that aren't missing, of fewer than 2^64 octets, is the resources. What is
 /// written of families, of which one at least isn't missing, is the families that aren't.
+#[tactic(auto, using(crate::proofs::ResourcesWritten::claims_written, crate::proofs::ResourcesWritten::resources_written))]
 pub fn written_resources()
     ensures resources { (family : _) (claim : Claim) → IsFamilyClaim family claim
         → claim ≢ Missing →
@@ -64,6 +66,7 @@ pub fn written_resources()
 /// written as the resources that list it. So each is read back by
 /// [`IpResources::take_families_from`](crate::resources::IpResources::take_families_from). A caller that appends the
 /// members one by one needs a proof file: that its octets are those of the law is a sum of lists which only it knows.
+#[tactic(auto, using(crate::proofs::ResourcesWritten::set_as_member))]
 pub fn members()
     ensures families { (v4 v6 : Claim) →
         ip_families_der v4 v6 ≡ sequence_value (ip_member_der Ipv4 v4 ++ ip_member_der Ipv6 v6) }
@@ -73,6 +76,7 @@ pub fn members()
 
 /// Resources are written alike exactly where they are one claim, alone and behind one family. Families, of which one at
 /// least isn't missing, are written alike in fewer than 2^64 octets exactly where both have the same claim.
+#[tactic(auto, using(crate::proofs::ResourcesWritten::families_as_claims, crate::proofs::ResourcesWritten::members_as_claims, crate::proofs::ResourcesWritten::resources_as_claims))]
 pub fn canonical_resources()
     ensures resources { (a b : Claim) → IsIpClaim a → IsIpClaim b
         → (ip_resources_der a ≡ ip_resources_der b) ↔ (a ≡ b) }
@@ -89,6 +93,7 @@ pub fn canonical_resources()
 /// SEQUENCE of blocks is empty, and families for none exactly where theirs is. They are refused for a family that
 /// stands there twice exactly where members that are read are followed by a SEQUENCE that begins with the family of one
 /// of them.
+#[tactic(auto, using(crate::proofs::DerFaults::empty_blocks, crate::proofs::DerFaults::families_empty, crate::proofs::DerFaults::families_repeat))]
 pub fn faults()
     ensures empty_blocks { (limit : ℕ) (bytes : List ℕ) →
         (ip_resources_at limit bytes ≡ Err EmptyBlocks) ↔ BeginsEmpty bytes }
@@ -99,6 +104,7 @@ pub fn faults()
 {}
 
 /// Octets are refused as not canonical by a strict cursor alone.
+#[tactic(auto, using(crate::proofs::DerFaults::never_families, crate::proofs::DerFaults::never_resources, crate::proofs::DerFaults::never_set))]
 pub fn not_canonical()
     ensures set { (limit : ℕ) (bytes : List ℕ) → ip_blocks_at limit bytes ≢ Err NotCanonical }
     ensures resources { (limit : ℕ) (bytes : List ℕ) →

@@ -1,18 +1,13 @@
-use Rattle.rpki_ipres.proofs.Common.{ap, arith, false, get_or, inl, inr, refl, subst, sym, true, ◌∙◌, ◌≡◌, cases_order, get_or_default, HasWholeBounds, ip_bounds}
+use Rattle.std.proofs.lemmas.List.Elements.{All-more}
+use Rattle.rpki_ipres.proofs.Common.{arith, false, refl, subst, sym, true, ◌∙◌, ◌≡◌, HasWholeBounds, ip_bounds}
 use Rattle.rpki_ipres.proofs.WholeLemmas.{whole_block, blocks_whole}
 use Rattle.rpki_ipres.proofs.blocks.IpBlocks.is_whole_v4.Goals as goal
 
 pub loop-block-preserved : goal.loop-block-preserved
-loop-block-preserved g c = λ k d before.
-    let blocks = c.as_slice-blocks.result.now in
+loop-block-preserved g c =
     let whole = c.is_whole_v4.ensures.0 c.if-not-is_whole_v4.false in
-    elim (cases_order k c.loop-block.block-index) [
-      | inl e ↦ (
-          let here : c.block-item.result ≡ get_or blocks k d = c.block-item.is ∙ get_or_default blocks c.loop-block.block-index c.block-item.result d c.loop-block-test.true ∙ ap (λ i. get_or blocks i d) (sym e) in
-          subst (λ x. HasWholeBounds (ip_bounds x)) here whole)
-      | inr (inl less) ↦ c.loop-block.invariant k d less
-      | inr (inr more) ↦ absurd (omega (arith, more, before))
-    ]
+    All-more (λ x. HasWholeBounds (ip_bounds x)) _ _ c.block-item.result c.loop-block-test.true c.loop-block.invariant
+    (subst (λ x. HasWholeBounds (ip_bounds x)) c.block-item.is whole)
 
 pub returns-then-not-is_whole_v4 : goal.returns-then-not-is_whole_v4
 returns-then-not-is_whole_v4 g c =

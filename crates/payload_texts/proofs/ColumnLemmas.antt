@@ -1,7 +1,8 @@
 -- The columns that a line names.
-use Rattle.payload_texts.proofs.Common.{Bool, List, [], ap, arith, false, refl, subst, suc, sym, true, ℕ, ◌+◌, ◌-◌, ◌<◌, ◌∙◌, ◌≡◌, after_first, IsColumn, IsHeader, Names, field, is_comma, Columns}
+use Rattle.payload_texts.proofs.Common.{List, [], ap, arith, inl, inr, subst, suc, sym, ℕ, ◌+◌, ◌-◌, ◌<◌, ◌∙◌, ◌≡◌, after_first, IsColumn, IsHeader, Names, field, is_comma, Columns}
+use borrow.Author.Count.{below_more}
 use borrow.Author.Tests.{ltb-true, ltb-false}
-use Rattle.std.specs.Prelude.{nat_lt}
+use Rattle.std.proofs.lemmas.Bool.{cases_lt}
 use Rattle.payload_texts.specs.declared.columns.Column.{Column}
 use Rattle.payload_texts.proofs.FieldLemmas.{field_empty}
 
@@ -31,15 +32,8 @@ looked_more column line rest commas had other = record {
   same = λ n.
       let one_more : commas + 1 + n ≡ commas + suc n = omega arith in
       ap (λ m. field m line) one_more ∙ had.same (suc n);
-  none = λ m below. by_test m below (nat_lt m commas) refl;
+  none = below_more (λ m. ¬ Names column (field m line)) commas had.none (λ named. other (subst (Names column) (here column line rest commas had) named));
 }
-  where
-    by_test : (m : ℕ) → m < commas + 1 → (test : Bool) → nat_lt m commas ≡ test → ¬ Names column (field m line)
-    by_test m below true is = had.none m (ltb-true _ _ is)
-    by_test m below false is =
-        let above = ltb-false _ _ is in
-        let last : m ≡ commas = omega (arith, below, above) in
-        λ named. other (subst (Names column) (ap (λ n. field n line) last ∙ here column line rest commas had) named)
 
 -- one field more, which is
 pub looked_found : (column : Column) (line rest : List ℕ) (commas : ℕ) → AreLooked column line rest commas
@@ -49,14 +43,13 @@ looked_found column line rest commas had named = grind (arith, here)
 -- nothing is left
 pub looked_all : (column : Column) (line rest : List ℕ) (commas : ℕ) → AreLooked column line rest commas → rest ≡ []
     → (n : ℕ) → ¬ Names column (field n line)
-looked_all column line rest commas had end n = by_test (nat_lt n commas) refl where
-  by_test : (test : Bool) → nat_lt n commas ≡ test → ¬ Names column (field n line)
-  by_test true is = had.none n (ltb-true _ _ is)
-  by_test false is =
-      let above = ltb-false _ _ is in
-      let left : n ≡ commas + (n - commas) = omega (arith, above) in
-      let empty : field n line ≡ [] = ap (λ m. field m line) left ∙ had.same (n - commas) ∙ ap (field (n - commas)) end ∙ field_empty (n - commas) in
-      λ named. no_name column (subst (Names column) empty named)
+looked_all column line rest commas had end n named = elim (cases_lt n commas) [
+  | inl below ↦ had.none n below named
+  | inr above ↦
+      let left : commas + (n - commas) ≡ n = omega (arith, above) in
+      let empty : field n line ≡ [] = ap (λ m. field m line) (sym left) ∙ had.same (n - commas) ∙ ap (field (n - commas)) end ∙ field_empty (n - commas) in
+      no_name column (subst (Names column) empty named)
+]
 
 -- a line has one column of a name
 pub column_one : (column : Column) (line : List ℕ) (m n : ℕ) → IsColumn column line m → IsColumn column line n → m ≡ n

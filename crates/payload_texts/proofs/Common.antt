@@ -2,6 +2,7 @@
 pub use Rattle.std.proofs.Common.{Bool, Err, IfOk, List, MatchResult, None, Ok, Option, Result, Some, Vec, [], ap, append-nil, append_assoc, arith, false, if◌then◌else◌, inl, inr, length, refl, subst, suc, sym, take, true, zero, ℕ, ◌++◌, ◌+◌, ◌-◌, ◌<◌, ◌^◌, ◌∙◌, ◌∷◌, ◌≡◌, ◌≢◌, ◌≤◌, ◌⊎◌}
 pub use Rattle.std.proofs.lemmas.Bool.{MatchBool-at_true, eqb-false, eqb-true}
 pub use Rattle.std.proofs.lemmas.List.{length-append, nil_from_length, take_more}
+pub use Rattle.std.specs.Option.{option_and_then}
 pub use Rattle.std.specs.List.{after_first, before_first}
 pub use Rattle.std.specs.Str.{IsUtf8, bytes_eq, trim}
 pub use denote.Shadow.{shadow}

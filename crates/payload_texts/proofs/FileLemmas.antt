@@ -1,8 +1,8 @@
 -- A file in either form writes one list of payloads, or has one fault.
-use Rattle.payload_texts.proofs.Common.{Err, List, MatchResult, Ok, Result, arith, inl, inr, ℕ, ◌≡◌, MaxLenValue, AnswersOrMemory, FileFault}
+use Rattle.payload_texts.proofs.Common.{List, MatchResult, Result, arith, inl, inr, ℕ, ◌≡◌, MaxLenValue, AnswersOrMemory, FileFault}
 use Rattle.rpki_text.specs.Memory.{IfRefused}
 use Rattle.rpki_text.specs.declared.memory.OrMemory.{OrMemory}
-use Rattle.rpki_text.specs.declared.memory.OrMemory.TheVariants.{Refused, Memory}
+use Rattle.rpki_text.proofs.ListLemmas.{AnswersOrMemory-from_found}
 use Rattle.payload_texts.specs.Files.{HasFileFault, IsPayloadFile}
 use Rattle.payload_texts.proofs.CsvLemmas.{csv_apart, csv_fault_one, csv_one}
 use Rattle.payload_texts.proofs.JsonLemmas.{json_apart, json_fault_one, json_one}
@@ -23,10 +23,8 @@ module _ (text : List ℕ) where
   file_fault_one : (d e : FileFault) → HasFileFault text d → HasFileFault text e → d ≡ e
   file_fault_one d e h h2 = grind (arith, csv_fault_one, json_fault_one)
 
--- so what is found decides the answer
-pub file_answers : {V : Type 0} (view : V → List (MaxLenValue × ℕ)) (text : List ℕ) (r : Result V (OrMemory FileFault))
-    → MatchResult r (λ v. IsPayloadFile text (view v)) (IfRefused (HasFileFault text))
-    → AnswersOrMemory view (IsPayloadFile text) (HasFileFault text) r
-file_answers view text (Ok v) found = record { found = found; each_value = λ a h. file_one text (view v) a found h; each_fault = λ e h. file_apart text (view v) e found h }
-file_answers view text (Err (Refused d)) found = record { found = found; each_value = λ a h. file_apart text a d h found; each_fault = λ e h. file_fault_one text d e found h }
-file_answers view text (Err (Memory m)) found = record { found = found; each_value = λ a h. tt; each_fault = λ e h. tt }
+  -- so what is found decides the answer
+  pub file_answers : {V : Type 0} (view : V → List (MaxLenValue × ℕ)) (r : Result V (OrMemory FileFault))
+      → MatchResult r (λ v. IsPayloadFile text (view v)) (IfRefused (HasFileFault text))
+      → AnswersOrMemory view (IsPayloadFile text) (HasFileFault text) r
+  file_answers view r found = AnswersOrMemory-from_found view (IsPayloadFile text) (HasFileFault text) file_one file_apart file_fault_one r found

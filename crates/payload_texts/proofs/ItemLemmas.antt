@@ -5,7 +5,7 @@ use Rattle.payload_texts.specs.declared.fault.ItemFault.TheVariants.{Member, Pay
 use Rattle.payload_texts.proofs.MemberLemmas.{member_fault_one, text_apart, text_one}
 use Rattle.payload_texts.proofs.RowLemmas.{asn_one, fields_apart, have_one, prefix_one}
 
-abbrev Payloads : Type 0
+abbrev pub Payloads : Type 0
 Payloads = List (MaxLenValue × ℕ)
 
 module _ (value : Json) where

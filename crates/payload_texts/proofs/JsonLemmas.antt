@@ -2,11 +2,8 @@
 use Rattle.payload_texts.proofs.Common.{List, None, Some, [], arith, ℕ, ◌∷◌, ◌≡◌, ◌≢◌, value-begin_object, value_is, Members, document, object, Token, MaxLenValue, HasJsonFault, IsJsonFile, FileFault}
 use Rattle.json.specs.Lex.{tokens}
 use Rattle.payload_texts.proofs.GrammarLemmas.{members_in}
-use Rattle.payload_texts.proofs.ItemLemmas.{items_apart, items_one, wrong_item_one}
+use Rattle.payload_texts.proofs.ItemLemmas.{Payloads, items_apart, items_one, wrong_item_one}
 use Rattle.payload_texts.proofs.MemberLemmas.{wrong_apart, wrong_one}
-
-abbrev Payloads : Type 0
-Payloads = List (MaxLenValue × ℕ)
 
 module _ (text : List ℕ) (ts : List Token) (are : ts ≡ tokens text) where
   -- no object begins

@@ -54,26 +54,23 @@ two_values values first value one = omega (arith, ap length one, length-append v
 
 -- the next member of an object
 module _ {A : Type 0} (name : List ℕ) (all : List (Bor (List ℕ) × Value A)) (i : ℕ) (m : Bor (List ℕ) × Value A)
-    (less : i < length all) (is : m ≡ get_or all i m) (found : Result (Bor (Value A)) MemberFault) where
+    (less : i < length all) (is : m ≡ get_or all i m) where
   values_more : values_in name (members_view (take (i + 1) all))
       ≡ values_in name (members_view (take i all)) ++ if_named name m.0.now (value_view m.1)
   values_more = rw (take_more all i m less, ← is) (values_push name (take i all) m)
 
   -- of another name, and of this one
-  pub found_over : bytes_eq m.0.now name ≡ false → IsFound (values_in name (members_view (take i all))) found
-      → IsFound (values_in name (members_view (take (i + 1) all))) found
-  found_over other h = grind (arith, append-nil, values_more)
+  pub other_named : bytes_eq m.0.now name ≡ false
+      → values_in name (members_view (take (i + 1) all)) ≡ values_in name (members_view (take i all))
+  other_named other = grind (arith, append-nil, values_more)
 
-  pub found_more : bytes_eq m.0.now name ≡ true
-      → IsFound (values_in name (members_view (take i all)) ++ value_view m.1 ∷ []) found
-      → IsFound (values_in name (members_view (take (i + 1) all))) found
-  found_more same h = grind (arith, values_more)
+  pub one_named : bytes_eq m.0.now name ≡ true
+      → values_in name (members_view (take (i + 1) all))
+      ≡ values_in name (members_view (take i all)) ++ value_view m.1 ∷ []
+  one_named same = grind (arith, values_more)
 
--- an item's members are those of its object
-module _ {A : Type 0} (part : Member) (item : Value A) (v : Vec (Bor (List ℕ) × Value A) A) (name : List ℕ) (is : item ≡ Object v) (is_name : name ≡ name_of part) where
-  seen : named_values (name_of part) (value_view item) ≡ values_in name (members_view v.items)
-  seen = grind (arith, view-Object)
-
-  pub kind_wrong : (value : Json) → values_in name (members_view v.items) ≡ value ∷ []
-      → ((text : List ℕ) → ¬ Writes part text value) → HasMemberFault part (value_view item) Kind
-  kind_wrong value one none = (value, seen ∙ one, λ h. none h.0 h.1)
+-- an item's members are those of its object, whose one value is of another kind
+pub kind_wrong : {A : Type 0} (part : Member) (item : Value A) (v : Vec (Bor (List ℕ) × Value A) A) (name : List ℕ)
+    (value : Json) → item ≡ Object v → name ≡ name_of part → values_in name (members_view v.items) ≡ value ∷ []
+    → ((text : List ℕ) → ¬ Writes part text value) → HasMemberFault part (value_view item) Kind
+kind_wrong part item v name value is is_name one none = (value, grind (arith, view-Object), λ h. none h.0 h.1)

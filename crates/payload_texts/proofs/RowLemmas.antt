@@ -76,14 +76,11 @@ module _ (columns : Columns) (line : List ℕ) where
   row_fault f body h = grind (arith)
 
   pub row_one : (x y : Row) → IsRow columns line x → IsRow columns line y → x ≡ y
-  row_one Blank y h k = grind (arith)
-  row_one (Header a) y h k = grind (arith, header_one)
-  row_one (Payload p) Blank (body, _) k = absurd (body.some_text k.1)
-  row_one (Payload p) (Header b) (body, _) (_, _, k) = absurd (body.no_header b k)
   row_one (Payload p) (Payload q) (_, h) (_, k) =
       let prefix = prefix_one _ _ _ p.0 q.0 p.1 q.1 h k in
       let asn = asn_one _ _ _ p.0 q.0 p.1 q.1 h k in
       λ i. Payload (prefix i, asn i)
+  row_one x y h k = grind (arith, header_one)
 
   utf8_of : (x : Row) → IsRow columns line x → IsUtf8 line
   utf8_of Blank h = h.0

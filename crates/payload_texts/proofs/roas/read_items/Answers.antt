@@ -1,15 +1,12 @@
-use Rattle.payload_texts.proofs.Common.{None, [], ap, arith, length, ◌++◌, ◌<◌, ◌∙◌, ◌∷◌, ◌≡◌, left_none, after_end_array, item, parse_map, value_view}
-use Rattle.payload_texts.proofs.GrammarLemmas.{an_item}
-use Rattle.payload_texts.proofs.RoasLemmas.{read_all, read_more, read_wrong}
+use Rattle.payload_texts.proofs.Common.{None, [], arith, length, ◌++◌, ◌<◌, ◌∷◌, ◌≡◌, after_end_array, value_view}
+use Rattle.payload_texts.proofs.RoasLemmas.{read_all, read_bad, read_more, read_wrong}
 use Rattle.payload_texts.proofs.roas.read_items.Goals as goal
 
 pub returns-in_err-skip_items-in-Err-clause-invalid : goal.returns-in_err-skip_items-in-Err-clause-invalid
 returns-in_err-skip_items-in-Err-clause-invalid g c invalid =
     let l = c.loop-alloc in
-    let v = value_view c.in_ok-item.item in
     let going : (after_end_array l.reader ≡ None) × (c.take_end_array.new.self ≡ l.reader) = grind arith in
-    let step = an_item c.args.depth l.reader c.read.new.reader v going.0 (rw (← going.1) c.in_ok-item.ensures.ok) in
-    l.invariant.read.ends (step ∙ ap (parse_map (item v)) (left_none _ c.in_err-skip_items-in-Err.ensures.read))
+    read_bad c.args.depth _ l.reader c.read.new.reader (value_view c.in_ok-item.item) l.payloads.items l.invariant.read going.0 (rw (← going.1) c.in_ok-item.ensures.ok) c.in_err-skip_items-in-Err.ensures.read
 
 -- the first item that is wrong
 pub returns-in-Err-clause-told : goal.returns-in-Err-clause-told

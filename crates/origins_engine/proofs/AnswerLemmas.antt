@@ -5,38 +5,38 @@ use Rattle.std.specs.List.Sorted.{IsPermutation}
 use Rattle.std.proofs.lemmas.List.Sorted.{IsPermutation-sym}
 use Rattle.origin_lines.proofs.OrderLemmas.{any_order}
 
--- where each answer of the one kind is one of the other
-module _ (Is As : List ℕ → List ℕ → Type 0) (turn : (line text : List ℕ) → Is line text → As line text) where
-  AllZip-as : (lines texts : List (List ℕ)) → AllZip Is lines texts → AllZip As lines texts
-  AllZip-as [] [] each = tt
-  AllZip-as (line ∷ lines) (text ∷ texts) each = (turn line text each.0, AllZip-as lines texts each.1)
-  AllZip-as [] (text ∷ texts) each = absurd each
-  AllZip-as (line ∷ lines) [] each = absurd each
-
-  answered-as : (old new : Option (List ℕ)) (lines rest : List (List ℕ)) (unwritten : List ℕ)
-      → HasAnswered Is old new lines rest unwritten → HasAnswered As old new lines rest unwritten
-  answered-as old new lines rest unwritten had = grind (arith, AllZip-as)
-
-  pub all-as : {X E : Type 0} (r : Result X E) (input old new : Option (List ℕ))
-      → OnOk r (IfSome input (AnswersAll Is old new)) → OnOk r (IfSome input (AnswersAll As old new))
-  all-as r input old new had = grind (arith, answered-as)
-
-  pub first-as : (input old new : Option (List ℕ)) → IfSome input (AnswersFirst Is old new)
-      → IfSome input (AnswersFirst As old new)
-  first-as input old new had = grind (arith, answered-as)
-
-  pub begins-as : (input old new : Option (List ℕ)) → IfSome input (BeginsAnswers Is old new)
-      → IfSome input (BeginsAnswers As old new)
-  begins-as input old new had = grind (arith, answered-as)
-
-  pub ended-as : (old new input left : Option (List ℕ)) → AnswersEnded Is old new input left
-      → AnswersEnded As old new input left
-  ended-as old new input left had = grind (arith, answered-as)
-
 -- a table has the payloads of a list in another order
-pub turned : (why : Bool) (listed table : List Payload) → IsPermutation listed table → (line text : List ℕ)
-    → IsOriginAnswer why table line text → IsOriginAnswer why listed line text
-turned why listed table moved line text = any_order why table listed line text (IsPermutation-sym listed table moved)
+module _ (why : Bool) (listed table : List Payload) (moved : IsPermutation listed table) where
+  each_turned : (lines texts : List (List ℕ)) → AllZip (IsOriginAnswer why table) lines texts
+      → AllZip (IsOriginAnswer why listed) lines texts
+  each_turned [] [] each = tt
+  each_turned (line ∷ lines) (text ∷ texts) each = (any_order why table listed line text (IsPermutation-sym listed table moved) each.0, each_turned lines texts each.1)
+  each_turned lines texts each = absurd each
+
+  answered_turned : (old new : Option (List ℕ)) (lines rest : List (List ℕ)) (unwritten : List ℕ)
+      → HasAnswered (IsOriginAnswer why table) old new lines rest unwritten
+      → HasAnswered (IsOriginAnswer why listed) old new lines rest unwritten
+  answered_turned old new lines rest unwritten had = grind (arith, each_turned)
+
+  pub all_turned : {X E : Type 0} (r : Result X E) (input old new : Option (List ℕ))
+      → OnOk r (IfSome input (AnswersAll (IsOriginAnswer why table) old new))
+      → OnOk r (IfSome input (AnswersAll (IsOriginAnswer why listed) old new))
+  all_turned r input old new had = grind (arith, answered_turned)
+
+  pub first_turned : (input old new : Option (List ℕ))
+      → IfSome input (AnswersFirst (IsOriginAnswer why table) old new)
+      → IfSome input (AnswersFirst (IsOriginAnswer why listed) old new)
+  first_turned input old new had = grind (arith, answered_turned)
+
+  pub begins_turned : (input old new : Option (List ℕ))
+      → IfSome input (BeginsAnswers (IsOriginAnswer why table) old new)
+      → IfSome input (BeginsAnswers (IsOriginAnswer why listed) old new)
+  begins_turned input old new had = grind (arith, answered_turned)
+
+  pub ended_turned : (old new input left : Option (List ℕ))
+      → AnswersEnded (IsOriginAnswer why table) old new input left
+      → AnswersEnded (IsOriginAnswer why listed) old new input left
+  ended_turned old new input left had = grind (arith, answered_turned)
 
 -- a file's payloads
 pub by_file : (file : Option (List ℕ)) (P : List Payload → Type 0) (listed : List Payload)

@@ -1,5 +1,5 @@
 -- What is seen of octets when one more comes.
-use Rattle.origins_engine.proofs.Common.{Bool, List, [], arith, get_or, length, length-append, refl, ℕ, ◌++◌, ◌+◌, ◌-◌, ◌<◌, ◌∷◌, ◌≡◌, ◌≤◌, ◌⊎◌, IsTrue, ◌↔◌, BeginsLine, HasFound, IsSeen, IsSought}
+use Rattle.origins_engine.proofs.Common.{Bool, List, [], arith, get_or, length, length-append, refl, ℕ, ◌++◌, ◌+◌, ◌<◌, ◌∷◌, ◌≡◌, ◌≤◌, ◌⊎◌, IsTrue, ◌↔◌, BeginsLine, HasFound, IsSeen, IsSought}
 use Rattle.std.proofs.lemmas.Bool.{cases_lt}
 use Rattle.std.proofs.lemmas.List.{get_or_append_left, get_or_push}
 use Rattle.origins_engine.specs.declared.check.Seen.{Seen}

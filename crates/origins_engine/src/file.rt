@@ -15,6 +15,7 @@ use rpki_prefix::MaxLenPrefix;
 use std::alloc::Allocator;
 
 /// Reads the whole file, and then its payloads, in its order, each as often as it stands there.
+#[tactic(auto, using(crate::proofs::AnswerLemmas::of_bytes))]
 pub fn read_file<A: Allocator + Copy, P: Source>(
     alloc: A,
     file: &mut P,

@@ -23,6 +23,7 @@ use std::alloc::Allocator;
 
 /// Reads all payloads, and then answers each line of routes as it is read, in order, with one line; with `why` behind
 /// the word each payload that covers the route. Answers how many payloads were read.
+#[tactic(auto, using(crate::proofs::AnswerLemmas::by_file))]
 pub fn answer_routes<A: Allocator + Copy, P: Source, R: Source, W: Sink>(
     alloc: A,
     payloads: &mut P,
@@ -84,6 +85,7 @@ pub fn answer_routes<A: Allocator + Copy, P: Source, R: Source, W: Sink>(
 }
 
 /// Answers each line of routes by a list of payloads, as it is read.
+#[tactic(auto, using(lines_engine::proofs::RunLemmas::unanswered))]
 fn answer_by<A: Allocator + Copy, R: Source, W: Sink>(
     alloc: A,
     listed: &[(MaxLenPrefix, Asn)],

@@ -185,6 +185,7 @@ fn tell_changes<A: Allocator + Copy, W: Sink>(
 }
 
 /// Writes what changes from one table to the next.
+#[tactic(auto, using(lines_engine::proofs::RunLemmas::written_kept, crate::proofs::LineLemmas::told_between))]
 fn tell_between<A: Allocator + Copy, W: Sink>(
     alloc: A,
     old: &PayloadTable<A>,

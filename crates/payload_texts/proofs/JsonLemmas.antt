@@ -1,5 +1,5 @@
 -- A text of JSON is one object or none; what it writes is one list of payloads, or one fault.
-use Rattle.payload_texts.proofs.Common.{List, None, Some, [], arith, ℕ, ◌∷◌, ◌≡◌, ◌≢◌, value-begin_object, value_is, Members, document, object, Token, MaxLenValue, HasJsonFault, IsJsonFile, FileFault}
+use Rattle.payload_texts.proofs.Common.{List, None, Some, [], arith, ℕ, ◌∷◌, ◌≡◌, ◌≢◌, value-begin_object, value_is, Members, document, object, Token, HasJsonFault, IsJsonFile, FileFault}
 use Rattle.json.specs.Lex.{tokens}
 use Rattle.payload_texts.proofs.GrammarLemmas.{members_in}
 use Rattle.payload_texts.proofs.ItemLemmas.{Payloads, items_apart, items_one, wrong_item_one}

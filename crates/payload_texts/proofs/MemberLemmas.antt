@@ -1,5 +1,5 @@
 -- Members of an object, one after another; an item's member has one text, or one fault.
-use Rattle.payload_texts.proofs.Common.{Bool, List, Result, Vec, [], ap, append-nil, arith, false, if◌then◌else◌, length, refl, true, ℕ, ◌++◌, ◌<◌, ◌∙◌, ◌∷◌, ◌≡◌, length-append, bytes_eq, Json, members_view, value_view, AreWrong, HasMemberFault, HasText, IsFound, Writes, name_of, named_values, values_in, Kind, Missing, take, take_more, ◌+◌}
+use Rattle.payload_texts.proofs.Common.{Bool, List, Vec, [], ap, append-nil, arith, false, if◌then◌else◌, length, refl, true, ℕ, ◌++◌, ◌<◌, ◌∷◌, ◌≡◌, length-append, bytes_eq, Json, members_view, value_view, AreWrong, HasMemberFault, HasText, Writes, name_of, named_values, values_in, Kind, Missing, take, take_more, ◌+◌}
 use Rattle.std.specs.Borrow.{Bor}
 use Rattle.std.proofs.Common.{get_or}
 use Rattle.json.specs.declared.value.Value.{Value, Object}

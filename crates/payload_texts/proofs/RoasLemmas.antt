@@ -1,5 +1,5 @@
 -- What the values of the member `roas` tell, one after another, and the items of one.
-use Rattle.payload_texts.proofs.Common.{Err, IfOk, List, None, Ok, Result, Some, Vec, [], ap, append-nil, append_assoc, arith, false, inl, inr, length, refl, subst, sym, true, ℕ, ◌++◌, ◌+◌, ◌-◌, ◌<◌, ◌∙◌, ◌∷◌, ◌≡◌, length-append, bytes_eq, items_end, left, left_none, left_some, members_end, value-begin_array, value-begin_object, Items, Json, Members, array, item, member, no_items, no_members, parse_map, Token, MaxLenValue, AreItems, HasItemFault, HaveWrongItem, IsItem, TellRoas, roas, values_in, FileFault, Item, Roas, ItemFault, Kind, Missing, Repeated}
+use Rattle.payload_texts.proofs.Common.{Err, IfOk, List, None, Ok, Result, Some, Vec, [], ap, append-nil, append_assoc, arith, false, inl, inr, length, refl, true, ℕ, ◌++◌, ◌+◌, ◌-◌, ◌<◌, ◌∙◌, ◌∷◌, ◌≡◌, length-append, bytes_eq, items_end, left, left_none, left_some, members_end, value-begin_array, value-begin_object, Items, Json, Members, array, item, member, no_items, no_members, parse_map, Token, MaxLenValue, AreItems, HasItemFault, HaveWrongItem, IsItem, TellRoas, roas, values_in, FileFault, Item, Roas, ItemFault, Kind, Missing, Repeated}
 use Rattle.payload_texts.proofs.GrammarLemmas.{a_member, an_item, front_more, front_none, items_in, members_in}
 use Rattle.payload_texts.proofs.ItemLemmas.{Payloads}
 use Rattle.json.specs.Json as json

@@ -13,7 +13,7 @@ pub use Rattle.rpki_chains.proofs.Chains.{Covers-nil, IsChain-from, IsChain-nil,
 pub use Rattle.rpki_chains.proofs.Unique.{Covers-cons_cases, Covers-head, Covers-tail, IsChain-unique}
 pub use Rattle.rpki_chains.specs.Equality.{is_same_pair, same_runs}
 pub use Rattle.rpki_chains.specs.Sets.{Covers, IsChain, IsChainOf, IsInside, IsNew, IsWithin}
-pub use Rattle.rpki_der.specs.Der.{EachFrom, IsBytes, IsNothing, IsSequence, IsTlv, IsValue, Refines, Spells, Where, sequence_value}
+pub use Rattle.rpki_der.specs.Der.{EachFrom, IsBytes, IsNothing, IsSequence, IsTlv, Refines, Spells, Where, sequence_value}
 pub use Rattle.rpki_der.specs.Reading.{IsModal, IsReading, Tightens, nothing, value_at}
 pub use Rattle.rpki_der.specs.declared.error.DerError.{DerError}
 pub use Rattle.rpki_text.proofs.ListLemmas.{AnswersOrMemory-from_found}

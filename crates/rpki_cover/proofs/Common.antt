@@ -4,7 +4,7 @@ pub use Rattle.std.proofs.Math.Nat.{mul-le-mul_right, mul-mod_left, mul-sub, two
 pub use Rattle.std.proofs.Math.Pow.{pow_mono}
 pub use Rattle.std.proofs.lemmas.Bool.{and_parts, cases_Bool, cases_eq, cases_lt, cases_order, eq-eqb, eqb-true, le-leb, leb-true, lt-leb}
 pub use Rattle.std.proofs.lemmas.List.Elements.{All-append, All-cons, All-contains, All-tail, Contains-get_or}
-pub use Rattle.std.proofs.lemmas.Nat.{div-add-mod', pow-add, pow_below, pow_pos, shr_split}
+pub use Rattle.std.proofs.lemmas.Nat.{pow-add, pow_below, pow_pos, shr_split}
 unfoldable pub use Rattle.std.specs.Int.Count.{count_trailing_zeros}
 pub use Rattle.std.specs.List.{All, Contains, filter}
 pub use Rattle.rpki_addr.specs.Prefixes.{IsIn, IsMaximal, IsParent, IsPrefix, LiesIn, PrefixValue}

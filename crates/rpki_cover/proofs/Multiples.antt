@@ -1,5 +1,5 @@
 -- Multiples, and the greatest power of 2 of which a number is one.
-use Rattle.rpki_cover.proofs.Common.{ap, arith, inl, inr, refl, suc, zero, ℕ, ◌%◌, ◌*◌, ◌+◌, ◌-◌, ◌/◌, ◌<◌, ◌^◌, ◌≡◌, ◌≤◌, div-add-mod', mul-le-mul_right, mul-mod_left, mul-sub, two-pow-succ, cases_lt, pow-add, shr_split, count_trailing_zeros}
+use Rattle.rpki_cover.proofs.Common.{ap, arith, inl, inr, refl, suc, zero, ℕ, ◌%◌, ◌*◌, ◌+◌, ◌-◌, ◌/◌, ◌<◌, ◌^◌, ◌≡◌, ◌≤◌, mul-le-mul_right, mul-mod_left, mul-sub, two-pow-succ, cases_lt, pow-add, shr_split, count_trailing_zeros}
 use lib.Count.{under}
 
 -- a is a multiple of s
@@ -48,10 +48,6 @@ multiple_mod s a pos m = rw m.is (mul-mod_left m.times s)
 -- where nothing is left, it is one
 pub mod_multiple : (j a : ℕ) → a % 2 ^ j ≡ 0 → IsMultiple (2 ^ j) a
 mod_multiple j a z = record { times = a / 2 ^ j; is = omega (arith, shr_split a j, z) }
-
--- divided and multiplied again it is itself
-pub multiple_div : (s a : ℕ) → 0 < s → IsMultiple s a → a / s * s ≡ a
-multiple_div s a pos m = omega (arith, div-add-mod' a s, multiple_mod s a pos m)
 
 -- ---- zeros at the end of a number
 

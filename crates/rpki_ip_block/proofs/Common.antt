@@ -1,5 +1,5 @@
 -- What the proofs of this crate use of std, of the crates below and of its own definitions, passed on by one name.
-pub use Rattle.std.proofs.Common.{All, Bool, Contains, Err, IfSome, IsTrue, List, MatchResult, None, Ok, Option, Result, Some, Vec, [], ap, append-nil, append_assoc, arith, codes, decimal, eqb, false, inl, inr, length, length-append, lit<, lit≤, map, refl, subst, suc, sym, true, zero, ℕ, ◌%◌, ◌*◌, ◌++◌, ◌+◌, ◌-◌, ◌/◌, ◌<◌, ◌^◌, ◌↔◌, ◌∙◌, ◌∷◌, ◌≡◌, ◌≢◌, ◌≤◌}
+pub use Rattle.std.proofs.Common.{All, Bool, Contains, Err, IfSome, IsTrue, List, MatchResult, None, Ok, Option, Result, Some, Vec, [], ap, append-nil, append_assoc, arith, codes, decimal, eqb, false, inl, inr, length, length-append, lit<, lit≤, map, refl, subst, suc, sym, true, zero, ℕ, ◌*◌, ◌++◌, ◌+◌, ◌-◌, ◌/◌, ◌<◌, ◌^◌, ◌↔◌, ◌∙◌, ◌∷◌, ◌≡◌, ◌≢◌, ◌≤◌}
 pub use Rattle.std.proofs.Math.Nat.{add-mul, mul-mod_left, mul_assoc, pow-le-pow_right}
 pub use Rattle.std.proofs.NetLemmas.Alphabet.{IsDigitOrDot}
 pub use Rattle.std.proofs.lemmas.Bool.{and_parts, cases_eq, cases_lt, cases_order, eq-eqb, eqb-true, ne_eqb}
@@ -30,7 +30,7 @@ pub use Rattle.rpki_der.specs.Views.{Takes, is_strict, left}
 pub use Rattle.rpki_ip.proofs.DerModes.{IsStrictPrefix, bits_few_enough, prefix_is_spelled, spelled_is_prefix, within}
 pub use Rattle.rpki_ip.proofs.DerWritten.{few_bits, prefix_written, range_written}
 pub use Rattle.rpki_ip.proofs.TextLemmas.{answers_by_one, prefix_one, range_one, single_of, single_one}
-pub use Rattle.rpki_ip.specs.BlockText.{HasAddressFault, HasIpPrefixTextFault, HasPrefixFault, HasRangeFault, HasRangeTextFault, IsAddressText, IsIpPrefixText, IsIpRangeBetween, IsPrefixAt, IsPrefixBetween, IsRangeFrom, IsRangeText, IsSingleText}
+pub use Rattle.rpki_ip.specs.BlockText.{HasAddressFault, HasIpPrefixTextFault, HasRangeTextFault, IsAddressText, IsIpPrefixText, IsPrefixAt, IsRangeFrom, IsRangeText, IsSingleText}
 pub use Rattle.rpki_ip.specs.PrefixDer.{SaysPrefix, prefix_at, prefix_der, prefix_in}
 pub use Rattle.rpki_ip.specs.PrintedText.{as_ip, shown_bits}
 pub use Rattle.rpki_ip.specs.RangeDer.{is_written_as, range_content, range_in, without_end_ones, without_end_zeros}
@@ -38,7 +38,7 @@ pub use Rattle.rpki_ip.specs.Ranges.{IsRangeOf, RangeValue, range_bounds}
 pub use Rattle.rpki_ip.specs.declared.error.FromStrError.{FromStrError}
 pub use Rattle.rpki_prefix.specs.Values.{FamilyPrefix, IsFamilyPrefix, width}
 pub use Rattle.rpki_text.proofs.PrintedLemmas.{IsElement, elements-joined}
-pub use Rattle.rpki_text.specs.Cuts.{Around, HasNo, IsCutAt, dash, slash}
+pub use Rattle.rpki_text.specs.Cuts.{HasNo, dash, slash}
 pub use Rattle.rpki_text.specs.Lists.{HasFirstFault, HaveValues, elements}
 pub use Rattle.rpki_text.specs.Memory.{IfRefused, IsMemory}
 pub use Rattle.rpki_text.specs.Reading.{Answers, AnswersOrMemory}

@@ -1,6 +1,6 @@
 -- How a dump's line is cut: at each bar, and its path at the last space.
-use Rattle.origin_lines.proofs.Common.{List, None, Some, [], ap, arith, drop, eq-eqb, get_or, get_or-drop, length, length-drop, ne_eqb, not, true, ℕ, ◌+◌, ◌-◌, ◌<◌, ◌∙◌, ◌∷◌, ◌≡◌, ◌≢◌, ◌≤◌, after_first, after_last, before_first, position_or_len, suffix_len, codes, slice_get, IsFieldAt, IsNoDump, IsNoFieldAt, fields_of, is_bar, is_gap}
-use Rattle.std.specs.Str.Pattern.{RFindsChar}
+use Rattle.origin_lines.proofs.Common.{List, None, Some, [], ap, arith, drop, eq-eqb, get_or, get_or-drop, length, length-drop, ne_eqb, not, ℕ, ◌+◌, ◌-◌, ◌<◌, ◌∙◌, ◌∷◌, ◌≡◌, ◌≢◌, ◌≤◌, after_first, after_last, before_first, position_or_len, suffix_len, codes, slice_get, IsFieldAt, IsNoDump, IsNoFieldAt, fields_of, is_bar, is_gap}
+use Rattle.std.specs.Str.Pattern.{RFindsChar, SplitsAroundMatch}
 use Rattle.std.proofs.lemmas.List.Sums.{fails_before_first, suffix_len_is}
 use Rattle.std.proofs.lemmas.List.Splits.{slice_split_first, slice_split_none}
 use Rattle.std.proofs.lemmas.Str.{len_utf8_ascii}
@@ -38,28 +38,26 @@ no_place line none n h = grind (arith)
 
 -- ---- the last word of a path
 
--- what is found from the end is the last space
-pub last_some : (text word : List ℕ) (i j : ℕ) → RFindsChar 32 text (Some (i, j)) → word ≡ drop j text → j ≤ length text
+-- it begins behind the last space, or where the text does
+last_from : (text : List ℕ) (n : ℕ) → n ≤ length text
+    → ((k : ℕ) → n ≤ k → k < length text → get_or text k 0 ≢ 32) → (0 < n → get_or text (n - 1) 0 ≡ 32)
+    → drop n text ≡ after_last is_gap text
+last_from text n within later at =
+    let behind : suffix_len (λ b. not (is_gap b)) text ≡ length text - n = suffix_len_is (λ b. not (is_gap b)) text n 0 within (λ k from small. ap not (ne_eqb (get_or text k 0) 32 (later k from small))) (λ some. ap not (eq-eqb _ 32 (at some))) in
+    let all : n ≡ length text - suffix_len (λ b. not (is_gap b)) text = omega (arith, behind) in
+    ap (λ m. drop m text) all
+
+pub last_some : (text front word : List ℕ) → SplitsAroundMatch (RFindsChar 32) text front word
     → word ≡ after_last is_gap text
-last_some text word i j found is within =
+last_some text front word (i, j, found, _, is, _, _, long) =
     let low : 32 < 128 = omega arith in
-    let next : j ≡ i + 1 = omega (arith, found.1.ends, len_utf8_ascii 32 low) in
-    let before : j - 1 ≡ i = omega (arith, next) in
-    let at : get_or text (j - 1) 0 ≡ 32 = ap (λ n. get_or text n 0) before ∙ found.1.byte low in
-    let later : (k : ℕ) → j ≤ k → k < length text → not (is_gap (get_or text k 0)) ≡ true = λ k from small.
+    let before : j - 1 ≡ i = omega (arith, found.1.ends, len_utf8_ascii 32 low) in
+    let later : (k : ℕ) → j ≤ k → k < length text → get_or text k 0 ≢ 32 = λ k from small e.
     let back : j + (k - j) ≡ k = omega (arith, from) in
     let other = NoCharPasses-char 32 (drop j text) (k - j) found.0 low (omega (arith, length-drop j text, from, small)) in
-    ap not (ne_eqb (get_or text k 0) 32 (λ e. other (get_or-drop j text (k - j) 0 ∙ ap (λ n. get_or text n 0) back ∙ e))) in
-    let behind : suffix_len (λ b. not (is_gap b)) text ≡ length text - j = suffix_len_is (λ b. not (is_gap b)) text j 0 within later (λ some. ap not (eq-eqb _ 32 at)) in
-    let all : j ≡ length text - suffix_len (λ b. not (is_gap b)) text = omega (arith, behind, within) in
-    is ∙ ap (λ n. drop n text) all
+    other (get_or-drop j text (k - j) 0 ∙ ap (λ n. get_or text n 0) back ∙ e) in
+    is ∙ last_from text j (omega (arith, long)) later (λ some. ap (λ n. get_or text n 0) before ∙ found.1.byte low)
 
--- and where none is, the text is one word
 pub last_none : (text : List ℕ) → RFindsChar 32 text None → text ≡ after_last is_gap text
 last_none text none =
-    let low : 32 < 128 = omega arith in
-    let other : (k : ℕ) → 0 ≤ k → k < length text → not (is_gap (get_or text k 0)) ≡ true = λ k from small.
-    ap not (ne_eqb (get_or text k 0) 32 (NoCharPasses-char 32 text k none low small)) in
-    let behind : suffix_len (λ b. not (is_gap b)) text ≡ length text - 0 = suffix_len_is (λ b. not (is_gap b)) text 0 0 (omega arith) other (λ some. absurd (omega (arith, some))) in
-    let all : 0 ≡ length text - suffix_len (λ b. not (is_gap b)) text = omega (arith, behind) in
-    ap (λ n. drop n text) all
+    last_from text 0 (omega arith) (λ k from small. NoCharPasses-char 32 text k none (omega arith) small) (λ some. absurd (omega (arith, some)))

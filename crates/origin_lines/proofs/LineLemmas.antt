@@ -1,5 +1,5 @@
 -- A line writes one route alone, or has one fault.
-use Rattle.origin_lines.proofs.Common.{Err, List, MatchResult, None, Ok, Option, Result, Some, ap, arith, inl, inr, refl, subst, sym, ℕ, ◌∙◌, ◌≡◌, ◌⊎◌, IsUtf8, trim, AreRouteWords, HasDumpFault, HasFaultBy, HasLineFault, HasRouteFault, HasWordFault, HaveWordsFault, IsAsnOrigin, IsDumpRoute, IsFieldAt, IsLineOf, IsNoAsnText, IsNoFieldAt, IsPathPlace, IsRouteBy, IsRouteLine, IsWordOrigin, last_word, origin_word, prefix_word, Route}
+use Rattle.origin_lines.proofs.Common.{Err, List, MatchResult, Ok, Option, Result, Some, ap, arith, inl, inr, refl, subst, sym, ℕ, ◌∙◌, ◌≡◌, ◌⊎◌, IsUtf8, trim, AreRouteWords, HasDumpFault, HasFaultBy, HasLineFault, HasRouteFault, HasWordFault, HaveWordsFault, IsAsnOrigin, IsDumpRoute, IsFieldAt, IsLineOf, IsNoAsnText, IsNoFieldAt, IsPathPlace, IsRouteBy, IsRouteLine, IsWordOrigin, last_word, origin_word, prefix_word, Route}
 use Rattle.rpki_text.specs.Reading.{Answers}
 use Rattle.rpki_text.proofs.ReadingLemmas.{Answers-from_found}
 use Rattle.rpki_base.proofs.AsnLemmas.{IsAsnText-one}
@@ -7,22 +7,21 @@ use Rattle.rpki_prefix.proofs.TextLemmas.{IsPrefixText-one, IsPrefixText-no_faul
 use Rattle.origin_lines.specs.declared.fault.RouteFault.{RouteFault}
 use Rattle.origin_lines.specs.declared.fault.RouteFault.TheVariants.{NotUtf8, TooFewFields, Prefix, Asn}
 
--- where what is said of the origin holds of one at most, and of none that there is a fault of
-module _ (Origin : Option ℕ → Type 0) (NoOrigin : Type 0) (one : (a b : Option ℕ) → Origin a → Origin b → a ≡ b) (apart : (a : Option ℕ) → Origin a → NoOrigin → ⊥)
-    (text : List ℕ) where
-  by_one : (a b : Route) → IsRouteBy Origin text a → IsRouteBy Origin text b → a ≡ b
+-- where what a word says of the origin holds of one at most, and of none that there is a fault of
+module _ (Origin : List ℕ → Option ℕ → Type 0) (NoOrigin : List ℕ → Type 0) (one : (word : List ℕ) (a b : Option ℕ) → Origin word a → Origin word b → a ≡ b) (apart : (word : List ℕ) (a : Option ℕ) → Origin word a → NoOrigin word → ⊥)
+    (word text : List ℕ) where
+  by_one : (a b : Route) → IsRouteBy (Origin word) text a → IsRouteBy (Origin word) text b → a ≡ b
   by_one a b h k =
       let prefix = IsPrefixText-one text a.prefix b.prefix h.prefix k.prefix in
-      let origin = one a.origin b.origin h.origin k.origin in
+      let origin = one word a.origin b.origin h.origin k.origin in
       λ i. record { prefix = prefix i; origin = origin i }
 
-  by_apart : (a : Route) (f : RouteFault) → IsRouteBy Origin text a → HasFaultBy NoOrigin text f → ⊥
-  by_apart a NotUtf8 h wrong = wrong
-  by_apart a TooFewFields h wrong = wrong
+  by_apart : (a : Route) (f : RouteFault) → IsRouteBy (Origin word) text a → HasFaultBy (NoOrigin word) text f → ⊥
   by_apart a (Prefix f) h wrong = IsPrefixText-no_fault text a.prefix f h.prefix wrong
-  by_apart a (Asn f) h wrong = apart a.origin h.origin wrong.1
+  by_apart a (Asn f) h wrong = apart word a.origin h.origin wrong.1
+  by_apart a f h wrong = absurd wrong
 
-  by_fault : (d e : RouteFault) → HasFaultBy NoOrigin text d → HasFaultBy NoOrigin text e → d ≡ e
+  by_fault : (d e : RouteFault) → HasFaultBy (NoOrigin word) text d → HasFaultBy (NoOrigin word) text e → d ≡ e
   by_fault NotUtf8 e h k = absurd h
   by_fault TooFewFields e h k = absurd h
   by_fault (Prefix f) NotUtf8 h k = absurd k
@@ -43,15 +42,12 @@ asn_apart text a h none = grind (arith)
 
 -- the last word of a path
 word_one : (word : List ℕ) (a b : Option ℕ) → IsWordOrigin word a → IsWordOrigin word b → a ≡ b
-word_one word None b h k = grind (arith)
-word_one word (Some m) None h (inl e) = absurd (h.0 e)
-word_one word (Some m) None h (inr set) = absurd (h.1 set)
 word_one word (Some m) (Some n) h k = ap Some (IsAsnText-one word m n h.2 k.2)
+word_one word a b h k = grind (arith)
 
 word_apart : (word : List ℕ) (a : Option ℕ) → IsWordOrigin word a → HasWordFault word → ⊥
-word_apart word None (inl e) wrong = wrong.0 e
-word_apart word None (inr set) wrong = wrong.1 set
 word_apart word (Some n) h wrong = wrong.2 n h.2
+word_apart word a h wrong = grind (arith)
 
 -- ---- the fields of a dump's line
 
@@ -72,26 +68,24 @@ module _ (n : ℕ) (line : List ℕ) where
 
   dump_one : (a b : Route) → IsDumpRoute n line a → IsDumpRoute n line b → a ≡ b
   dump_one a b (p, q, at, h) (r, s, there, k) =
-      by_one (IsWordOrigin (last_word q)) (HasWordFault (last_word q)) (word_one (last_word q)) (word_apart (last_word q)) p a b h
+      by_one IsWordOrigin HasWordFault word_one word_apart (last_word q) p a b h
       (moved (λ x y. IsRouteBy (IsWordOrigin (last_word y)) x b) p q r s at.prefix_is at.path_is there.prefix_is there.path_is k)
 
-  dump_apart : (a : Route) (f : RouteFault) → IsDumpRoute n line a → HasDumpFault n line f → ⊥
-  dump_apart a f (p, q, at, h) (inl (inl none, _)) = field_apart 5 line p at.prefix_is none
-  dump_apart a f (p, q, at, h) (inl (inr none, _)) = field_apart n line q at.path_is none
-  dump_apart a f (p, q, at, h) (inr (r, s, there, wrong)) =
-      by_apart (IsWordOrigin (last_word q)) (HasWordFault (last_word q)) (word_one (last_word q)) (word_apart (last_word q)) p a f h
-      (moved (λ x y. HasFaultBy (HasWordFault (last_word y)) x f) p q r s at.prefix_is at.path_is there.prefix_is there.path_is wrong)
+  missing : (p q : List ℕ) → IsFieldAt 5 line p → IsFieldAt n line q → (IsNoFieldAt 5 line ⊎ IsNoFieldAt n line) → ⊥
+  missing p q at at' h = grind (arith, field_apart)
 
-  missing : (f : RouteFault) (p q : List ℕ) → IsFieldAt 5 line p → IsFieldAt n line q
-      → (IsNoFieldAt 5 line ⊎ IsNoFieldAt n line) → ⊥
-  missing f p q at at' h = grind (arith, field_apart)
+  dump_apart : (a : Route) (f : RouteFault) → IsDumpRoute n line a → HasDumpFault n line f → ⊥
+  dump_apart a f (p, q, at, h) (inl k) = missing p q at.prefix_is at.path_is k.0
+  dump_apart a f (p, q, at, h) (inr (r, s, there, wrong)) =
+      by_apart IsWordOrigin HasWordFault word_one word_apart (last_word q) p a f h
+      (moved (λ x y. HasFaultBy (HasWordFault (last_word y)) x f) p q r s at.prefix_is at.path_is there.prefix_is there.path_is wrong)
 
   dump_fault : (d e : RouteFault) → HasDumpFault n line d → HasDumpFault n line e → d ≡ e
   dump_fault d e (inl h) (inl k) = h.1 ∙ sym k.1
-  dump_fault d e (inl h) (inr (r, s, there, wrong)) = absurd (missing e r s there.prefix_is there.path_is h.0)
-  dump_fault d e (inr (p, q, at, wrong)) (inl k) = absurd (missing d p q at.prefix_is at.path_is k.0)
+  dump_fault d e (inl h) (inr (r, s, there, wrong)) = absurd (missing r s there.prefix_is there.path_is h.0)
+  dump_fault d e (inr (p, q, at, wrong)) (inl k) = absurd (missing p q at.prefix_is at.path_is k.0)
   dump_fault d e (inr (p, q, at, wrong)) (inr (r, s, there, other)) =
-      by_fault (IsWordOrigin (last_word q)) (HasWordFault (last_word q)) (word_one (last_word q)) (word_apart (last_word q)) p d e wrong
+      by_fault IsWordOrigin HasWordFault word_one word_apart (last_word q) p d e wrong
       (moved (λ x y. HasFaultBy (HasWordFault (last_word y)) x e) p q r s at.prefix_is at.path_is there.prefix_is there.path_is other)
 
 -- ---- any line
@@ -99,7 +93,7 @@ module _ (n : ℕ) (line : List ℕ) where
 module _ (line : List ℕ) where
   line_one : (a b : Route) → IsLineOf line a → IsLineOf line b → a ≡ b
   line_one a b (inl h) (inl k) =
-      by_one (IsAsnOrigin (origin_word line)) (IsNoAsnText (origin_word line)) (asn_one (origin_word line)) (asn_apart (origin_word line)) (prefix_word line) a b h.1 k.1
+      by_one IsAsnOrigin IsNoAsnText asn_one asn_apart (origin_word line) (prefix_word line) a b h.1 k.1
   line_one a b (inl h) (inr (n, place, _)) = absurd (h.0 n place)
   line_one a b (inr (n, place, _)) (inl k) = absurd (k.0 n place)
   line_one a b (inr (m, place, h)) (inr (n, other, k)) =
@@ -107,7 +101,7 @@ module _ (line : List ℕ) where
 
   line_apart : (a : Route) (f : RouteFault) → IsLineOf line a → HasLineFault line f → ⊥
   line_apart a f (inl h) (inl k) =
-      by_apart (IsAsnOrigin (origin_word line)) (IsNoAsnText (origin_word line)) (asn_one (origin_word line)) (asn_apart (origin_word line)) (prefix_word line) a f h.1 k.1
+      by_apart IsAsnOrigin IsNoAsnText asn_one asn_apart (origin_word line) (prefix_word line) a f h.1 k.1
   line_apart a f (inl h) (inr (n, place, _)) = h.0 n place
   line_apart a f (inr (n, place, _)) (inl k) = k.0 n place
   line_apart a f (inr (m, place, h)) (inr (n, other, k)) =
@@ -115,7 +109,7 @@ module _ (line : List ℕ) where
 
   line_fault : (d e : RouteFault) → HasLineFault line d → HasLineFault line e → d ≡ e
   line_fault d e (inl h) (inl k) =
-      by_fault (IsAsnOrigin (origin_word line)) (IsNoAsnText (origin_word line)) (asn_one (origin_word line)) (asn_apart (origin_word line)) (prefix_word line) d e h.1 k.1
+      by_fault IsAsnOrigin IsNoAsnText asn_one asn_apart (origin_word line) (prefix_word line) d e h.1 k.1
   line_fault d e (inl h) (inr (n, place, _)) = absurd (h.0 n place)
   line_fault d e (inr (n, place, _)) (inl k) = absurd (k.0 n place)
   line_fault d e (inr (m, place, h)) (inr (n, other, k)) =

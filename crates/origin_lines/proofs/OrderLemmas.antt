@@ -7,7 +7,7 @@ use Rattle.roa_origin.proofs.Reevaluated.{one_validity}
 use Rattle.roa_origin.proofs.Scans.{same_validity}
 use Rattle.origin_lines.specs.declared.outcome.Outcome.TheVariants.{Valid, InvalidLength, InvalidAs, NotFound}
 use Rattle.origin_lines.proofs.LineLemmas.{route_apart, route_fault, route_one}
-use Rattle.origin_lines.proofs.WhyLemmas.{told_once, told_trans}
+use Rattle.origin_lines.proofs.WhyLemmas.{not_back}
 
 -- ---- payloads in another order
 
@@ -51,10 +51,6 @@ outcome_one route asn xs a b h k =
       one_validity route asn xs Validities.Valid Validities.NotFound,
       one_validity route asn xs Validities.Invalid Validities.NotFound,
     )
-
--- what is told before another isn't told behind it
-not_back : (p q : Payload) → IsToldBefore p q → IsToldBefore q p → ⊥
-not_back p q h k = told_once p (told_trans p q p h k)
 
 explained_one : (route : FamilyPrefix) (payloads told other : List Payload) → IsExplanation route payloads told
     → IsExplanation route payloads other → told ≡ other

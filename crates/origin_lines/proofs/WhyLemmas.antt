@@ -1,5 +1,5 @@
 -- The payloads that cover a route, told one after another.
-use Rattle.origin_lines.proofs.Common.{List, None, Option, Some, [], ap, append_assoc, arith, get_or, inl, inr, length, map, refl, reverse, subst, sym, ℕ, ◌++◌, ◌+◌, ◌-◌, ◌↔◌, ◌∙◌, ◌∷◌, ◌≡◌, ◌≢◌, ◌≤◌, ◌⊎◌, append-nil, length-append, map-append, AllPairs, Contains, IsNonDecreasingBy, AreThose, CoversRoute, IsLawfulPayload, Payload, prefix_len, as_sent, FamilyPrefix, IsFamilyPrefix, IsExplanation, IsReason, IsToldBefore, TellsEach, TellsNext, told_text, Reason}
+use Rattle.origin_lines.proofs.Common.{List, None, Option, Some, [], ap, append_assoc, arith, get_or, inl, inr, length, map, refl, reverse, subst, sym, ℕ, ◌++◌, ◌+◌, ◌↔◌, ◌∙◌, ◌∷◌, ◌≡◌, ◌≢◌, ◌≤◌, ◌⊎◌, append-nil, length-append, map-append, AllPairs, Contains, IsNonDecreasingBy, AreThose, CoversRoute, IsLawfulPayload, Payload, prefix_len, as_sent, FamilyPrefix, IsFamilyPrefix, IsExplanation, IsReason, IsToldBefore, TellsEach, TellsNext, told_text, Reason}
 use Rattle.std.proofs.lemmas.Bool.{cases_lt}
 use Rattle.std.proofs.lemmas.Grind.{reverse_onto}
 use Rattle.std.proofs.lemmas.List.{get_or-append-add, reverse-append}
@@ -13,11 +13,12 @@ use Rattle.origin_lines.proofs.Members.{from_reverse, to_reverse}
 
 -- ---- the order in which they are told
 
-pub told_trans : (p q r : Payload) → IsToldBefore p q → IsToldBefore q r → IsToldBefore p r
+told_trans : (p q r : Payload) → IsToldBefore p q → IsToldBefore q r → IsToldBefore p r
 told_trans p q r h h2 = grind (arith)
 
-pub told_once : (p : Payload) → IsToldBefore p p → ⊥
-told_once p h = grind (arith)
+-- what is told before another isn't told behind it
+pub not_back : (p q : Payload) → IsToldBefore p q → IsToldBefore q p → ⊥
+not_back p q h k = grind (arith)
 
 -- of two payloads that cover a route, the one that a table has later is told before the other, or is the same as it is
 -- sent

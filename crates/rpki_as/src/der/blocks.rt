@@ -54,6 +54,7 @@ impl<A: Allocator> AsBlocks<A> {
     /// Appends the blocks of the set, ascending: its runs, each as an AS number where it is one, and else as the
     /// SEQUENCE of its bounds. Nothing stands round them. `AllocError` where there is no memory for all of them; then
     /// the octets stay as they were.
+    #[tactic(auto, using(crate::proofs::AsDerLemmas::blocks_octets))]
     pub fn encode<B: Allocator>(&self, out: &mut Vec<u8, B>) -> Result<(), AllocError>
         ensures ok { OnOk result (out.new.items ≡ out.old.items ++ as_set_octets self.now) }
         ensures err { OnErr result (out.new.items ≡ out.old.items) }

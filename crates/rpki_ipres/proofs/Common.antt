@@ -56,7 +56,7 @@ pub use Rattle.rpki_text.specs.declared.memory.OrMemory.{OrMemory}
 pub use Rattle.rpki_text.specs.declared.memory.OrMemory.TheVariants.{Memory, Refused}
 pub use Rattle.rpki_ipres.specs.Modes.{greatest_of_ip_block, ip_blocks_by, ip_families_by, ip_resources_by}
 pub use Rattle.rpki_ipres.specs.Resources.{ArePresentClaims, IsFamilyClaim, IsIpClaim, IsPresentFamilyClaim, IsWholeClaim, if_present}
-pub use Rattle.rpki_ipres.specs.ResourcesDer.{IsIpFamilies, IsIpResources, SaysClaimOf, SaysClaims, ip_content_der, ip_families_at, ip_families_der, ip_member_der, ip_resources_at, ip_resources_der}
+pub use Rattle.rpki_ipres.specs.ResourcesDer.{IsIpFamilies, IsIpResources, SaysClaimOf, SaysClaims, ip_families_at, ip_families_der, ip_member_der, ip_resources_at, ip_resources_der}
 pub use Rattle.rpki_ipres.specs.ResourcesReadingLaws.{resources_reading}
 pub use Rattle.rpki_ipres.specs.SetDer.{IsIpBlockSequence, IsIpFamily, ip_family_der, ip_run_der, ip_set_der}
 pub use Rattle.rpki_ipres.specs.SetText.{IsFamilySet, IsIpSet, IsSetOf, set_text}

@@ -148,6 +148,7 @@ impl<A: Allocator> IpResources<A> {
     }
 
     /// The blocks that are listed, ascending.
+    #[tactic(auto, using(crate::proofs::SetWritten::written_as_runs))]
     pub(crate) fn as_choice(&self) -> ResourcesChoice<&[IpBlock]>
         ensures octets { choice_octets (λ blocks. sequence_octets ip_block_der blocks.now) result
             ≡ ip_resources_der self.now }

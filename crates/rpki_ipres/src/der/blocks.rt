@@ -103,6 +103,7 @@ impl<A: Allocator> IpBlocks<A> {
     /// Appends the SEQUENCE of the set's runs, ascending: each as a prefix where its addresses are those of one, and
     /// else as the SEQUENCE of its bounds. `AllocError` where there is no memory for all of it; then the octets stay as
     /// they were.
+    #[tactic(auto, using(crate::proofs::SetWritten::written_as_runs))]
     pub fn encode<B: Allocator>(&self, out: &mut Vec<u8, B>) -> Result<(), AllocError>
         ensures ok { OnOk result (out.new.items ≡ out.old.items ++ ip_set_der self.now) }
         ensures err { OnErr result (out.new.items ≡ out.old.items) }
@@ -120,6 +121,7 @@ impl<A: Allocator> IpBlocks<A> {
     /// A set that is one of the family is read back, from IPv4 if it consists of whole IPv4 addresses. Off those, what
     /// is written for IPv4 has prefixes and bounds of more than 32 bits, which readers of IPv4 refuse. `AllocError`
     /// where there is no memory for all of it; then the octets stay as they were.
+    #[tactic(auto, using(crate::proofs::SetWritten::family_written))]
     pub fn encode_family<B: Allocator>(
         &self,
         family: AddressFamily,

@@ -160,6 +160,16 @@ impl Block for AsBlock {
     fn previous(item: Asn) -> Option<Asn> {
         <AsRange as Block>::previous(item)
     }
+
+    fn bounds(&self) -> (Asn, Asn) {
+        match self {
+            AsBlock::Id(asn) => {
+                asn.is_lawful();
+                (*asn, *asn)
+            }
+            AsBlock::Range(range) => range.bounds(),
+        }
+    }
 }
 
 /// Blocks are equal where their bounds are, whatever their forms.

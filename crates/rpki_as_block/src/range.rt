@@ -122,6 +122,11 @@ impl Block for AsRange {
     fn previous(item: Asn) -> Option<Asn> {
         item.into_u32().checked_sub(1).map(Asn::from_u32)
     }
+
+    fn bounds(&self) -> (Asn, Asn) {
+        self.max.is_lawful();
+        (self.min, self.max)
+    }
 }
 
 /// Prints both numbers, also where they are the same, as `AS3-AS5`.

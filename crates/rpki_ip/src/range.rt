@@ -161,13 +161,11 @@ impl Block for AddressRange {
     }
 
     fn min(&self) -> Addr {
-        AddressRange::min(self)
+        self.min
     }
 
     fn max(&self) -> Addr {
-        let max = AddressRange::max(self);
-        max.is_lawful();
-        max
+        self.max
     }
 
     fn next(item: Addr) -> Option<Addr> {
@@ -176,5 +174,9 @@ impl Block for AddressRange {
 
     fn previous(item: Addr) -> Option<Addr> {
         item.to_bits().checked_sub(1).map(Addr::from_bits)
+    }
+
+    fn bounds(&self) -> (Addr, Addr) {
+        (self.min, self.max)
     }
 }

@@ -73,11 +73,7 @@ impl IpBlock {
     {
         match self {
             IpBlock::Prefix(prefix) => prefix.max(),
-            IpBlock::Range(range) => {
-                let max = AddressRange::max(range);
-                max.is_lawful();
-                max
-            }
+            IpBlock::Range(range) => Block::max(range),
         }
     }
 
@@ -126,9 +122,7 @@ impl Block for IpBlock {
     }
 
     fn max(&self) -> Addr {
-        let max = IpBlock::max(self);
-        max.is_lawful();
-        max
+        IpBlock::max(self)
     }
 
     fn next(item: Addr) -> Option<Addr> {
@@ -137,6 +131,13 @@ impl Block for IpBlock {
 
     fn previous(item: Addr) -> Option<Addr> {
         <AddressRange as Block>::previous(item)
+    }
+
+    fn bounds(&self) -> (Addr, Addr) {
+        match self {
+            IpBlock::Prefix(prefix) => prefix.range(),
+            IpBlock::Range(range) => range.bounds(),
+        }
     }
 }
 

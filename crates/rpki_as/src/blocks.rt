@@ -157,7 +157,7 @@ impl<A: Allocator> AsBlocks<A> {
     pub fn is_lawful(&self)
         ensures { IsAsSet self.now }
     {
-        let _blocks = self.iter();
+        self.set.is_lawful();
     }
 
     /// The blocks of the set one by one, ascending: its runs, each an Id where it is one number, and else a Range.

@@ -103,6 +103,13 @@ impl<T: Block, A: Allocator> BlockSet<T, A> {
         Ok(BlockSet { chain })
     }
 
+    /// Tells a proof that the set is one of items of the kind, and does nothing.
+    pub fn is_lawful(&self)
+        ensures { IsBlockSet T.first T.last self.now }
+    {
+        let _chain = &self.chain;
+    }
+
     /// The chain of the set: its runs, each in the form that `new` gives.
     pub fn as_chain(&self) -> Chain<'_, T>
         ensures blocks { map T.bounds (chain_blocks result) ≡ self.now }

@@ -131,7 +131,7 @@ impl<A: Allocator> IpBlocks<A> {
     pub fn is_lawful(&self)
         ensures { IsIpSet self.now }
     {
-        let _blocks = self.iter();
+        self.set.is_lawful();
     }
 
     /// The blocks of the set one by one, ascending: its runs, each a Prefix where it is one, and else a Range.

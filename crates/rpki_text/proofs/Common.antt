@@ -12,7 +12,7 @@ pub use Rattle.std.proofs.lemmas.Str.{char_from_byte, chars-encodes, digit_value
 pub use Rattle.std.proofs.lemmas.Str.Parse.{digit_at, digit_from_value, without_leading_plus_none}
 pub use Rattle.std.specs.Char.{digit_value, encode_utf8, is_whitespace}
 pub use Rattle.std.specs.Int.{IsInRange}
-pub use Rattle.std.specs.List.{AllByRecursion, flat_map, position, position_or_len, slice_split}
+pub use Rattle.std.specs.List.{AllByRecursion, flat_map, position, slice_split}
 pub use Rattle.std.specs.Str.{IsUtf8, chars, drop_trailing_whitespace, encode_utf8_all, skip_leading_whitespace, trim}
 unfoldable pub use Rattle.std.specs.Str.{trim_end, trim_start}
 pub use Rattle.std.specs.Str.Parse.{AllDigits, digits_value, without_leading_plus}

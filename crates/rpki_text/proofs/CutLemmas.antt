@@ -1,5 +1,5 @@
 -- On texts cut at a byte: a text without the byte isn't cut, and a text is cut in one way.
-use Rattle.rpki_text.proofs.Common.{List, [], ap, drop, sym, ◌∙◌, arith, length, refl, subst, suc, ℕ, ◌++◌, ◌∷◌, ◌≡◌}
+use Rattle.rpki_text.proofs.Common.{List, [], arith, length, refl, subst, suc, ℕ, ◌++◌, ◌∷◌, ◌≡◌}
 use Rattle.std.proofs.lemmas.List.{drop_at}
 use Rattle.rpki_text.specs.Cuts.{HasNo, IsCutAt, Around}
 
@@ -20,8 +20,9 @@ one_cut b [] right [] after h k e = let same : right ≡ after = cc in (refl, sa
 one_cut b [] right (y ∷ before) after h k e = grind (arith, k 0)
 one_cut b (x ∷ left) right [] after h k e = grind (arith, h 0)
 one_cut b (x ∷ left) right (y ∷ before) after h k e =
-    let rest = one_cut b left right before after (λ i small. h (suc i) (omega arith)) (λ i small. k (suc i) (omega arith)) in
-    grind (arith, rest)
+    let no : HasNo b left = λ i less. h (suc i) (omega arith) in
+    let nor : HasNo b before = λ i less. k (suc i) (omega arith) in
+    grind (arith, one_cut b left right before after no nor)
 
 -- what stands round the first b of a text holds of every cut at it
 pub around_at : (b : ℕ) (text left right : List ℕ) (P : List ℕ → List ℕ → Type 0) → IsCutAt b text left right
@@ -30,5 +31,4 @@ around_at b text left right P cut h = grind (arith, one_cut)
 
 -- fronts of one length leave the same rest
 pub same_rest : (xs ys rest other : List ℕ) → length xs ≡ length ys → xs ++ rest ≡ ys ++ other → rest ≡ other
-same_rest xs ys rest other l e =
-    sym (drop_at xs rest (length xs) refl) ∙ ap (λ t. drop (length xs) t) e ∙ drop_at ys other (length xs) (sym l)
+same_rest xs ys rest other l e = grind (arith, drop_at xs rest (length xs), drop_at ys other (length xs))

@@ -1,5 +1,5 @@
 -- On numbers as digits.
-use Rattle.rpki_text.proofs.Common.{List, [], add-one, arith, get_or, length, length-append, refl, suc, zero, ℕ, ◌%◌, ◌*◌, ◌++◌, ◌+◌, ◌/◌, ◌<◌, ◌^◌, ◌∙◌, ◌∷◌, ◌≡◌, ◌≤◌, div-add-mod, mul_comm, pow-le-pow_right, pow-suc, pow-succ', pow-zero, number_push, AllByRecursion}
+use Rattle.rpki_text.proofs.Common.{List, [], add-one, arith, get_or, length, length-append, refl, suc, zero, ℕ, ◌%◌, ◌*◌, ◌++◌, ◌+◌, ◌/◌, ◌<◌, ◌^◌, ◌∷◌, ◌≡◌, ◌≤◌, div-add-mod, mul_comm, pow-le-pow_right, pow-suc, pow-succ', pow-zero, number_push, AllByRecursion}
 use Rattle.std.specs.Int.Digits.{number_from_digits}
 use Rattle.std.proofs.lemmas.Nat.{div_below, mod_below, mul-add-lt}
 use Rattle.rpki_text.specs.Digits.{last_digits}
@@ -9,13 +9,12 @@ module _ (base : ℕ) (some : 0 < base) where
   pub number-last_digits : (k n : ℕ) → n < base ^ k → number_from_digits base (last_digits base k n) ≡ n
   number-last_digits zero n below = omega (arith, below, pow-zero base)
   number-last_digits (suc k) n below =
-      let rest : n / base < base ^ k = div_below n base (base ^ k) some (rw pow-suc at below) in
-      number_push base (last_digits base k (n / base)) (n % base)
-      ∙ (rw (number-last_digits k (n / base) rest, mul_comm (n / base) base) (div-add-mod n base))
+      let rest = number-last_digits k (n / base) (div_below n base (base ^ k) some (rw pow-suc at below)) in
+      grind (arith, number_push, rest, mul_comm, div-add-mod)
 
   pub length-last_digits : (k n : ℕ) → length (last_digits base k n) ≡ k
   length-last_digits zero n = refl
-  length-last_digits (suc k) n = omega (arith, length-append (last_digits base k (n / base)) ((n % base) ∷ []), length-last_digits k (n / base))
+  length-last_digits (suc k) n = grind (arith, length-append, length-last_digits k)
 
   below_push : (xs : List ℕ) (d : ℕ) → AllByRecursion (λ x. x < base) xs → d < base
       → AllByRecursion (λ x. x < base) (xs ++ d ∷ [])
@@ -24,11 +23,12 @@ module _ (base : ℕ) (some : 0 < base) where
 
   pub last_digits_below : (k n : ℕ) → AllByRecursion (λ x. x < base) (last_digits base k n)
   last_digits_below zero n = tt
-  last_digits_below (suc k) n = below_push (last_digits base k (n / base)) (n % base) (last_digits_below k (n / base)) (mod_below n base some)
+  last_digits_below (suc k) n =
+      below_push (last_digits base k (n / base)) (n % base) (last_digits_below k (n / base)) (mod_below n base some)
 
   pub each_below : (xs : List ℕ) → AllByRecursion (λ x. x < base) xs → (k : ℕ) → get_or xs k 0 < base
   each_below [] h k = some
-  each_below (x ∷ xs) h k = let later = each_below xs h.1 in elim k as (λ j. get_or (x ∷ xs) j 0 < base) [ zero ↦ h.0 | suc j ↦ later j ]
+  each_below (x ∷ xs) h k = grind (arith, each_below xs h.1)
 
   pub last_digit_below : (k n i : ℕ) → get_or (last_digits base k n) i 0 < base
   last_digit_below k n i = each_below (last_digits base k n) (last_digits_below k n) i
@@ -39,6 +39,5 @@ module _ (base : ℕ) (some : 0 < base) where
 
   pub below_power : (i k v d : ℕ) → i < k → v < base ^ i → d < base → v * base + d < base ^ k
   below_power i k v d less h l =
-      let step = next_below i v d h l in
       let up : base ^ (i + 1) ≤ base ^ k = pow-le-pow_right some (omega arith) in
-      omega (arith, step, up)
+      omega (arith, next_below i v d h l, up)

@@ -1,6 +1,6 @@
 -- Texts of lists: their elements one by one, and their one list of values or first fault.
 use Rattle.rpki_text.proofs.Common.{map, map-append, List, MatchResult, Result, [], ap, arith, drop, eqb, get_or, length, refl, sym, take, ℕ, ◌++◌, ◌+◌, ◌<◌, ◌∙◌, ◌∷◌, ◌≡◌, lt-ltb, take-append-drop, slice_split, trim, HasFirstFault, HaveValues, comma, elements, kept, AnswersOrMemory}
-use Rattle.std.proofs.Common.{inl, inr, rules, ◌⊎◌}
+use Rattle.std.proofs.Common.{inl, inr, ◌⊎◌}
 use Rattle.std.proofs.lemmas.List.{drop_more}
 use Rattle.std.proofs.lemmas.List.Elements.{filter-append}
 use Rattle.std.specs.Prelude.{nat_lt}
@@ -8,7 +8,9 @@ use Rattle.rpki_text.specs.declared.memory.OrMemory.{OrMemory}
 use Rattle.rpki_text.specs.Memory.{IfRefused}
 
 -- an answer that is right decides a reader that may want memory, where there is one value or one fault at most
-module _ {A V E : Type 0} (view : V → A) (Has : A → Type 0) (Fails : E → Type 0) (one : (a b : A) → Has a → Has b → a ≡ b) (apart : (a : A) (e : E) → Has a → Fails e → ⊥) (same : (d e : E) → Fails d → Fails e → d ≡ e) where
+module _ {A V E : Type 0} (view : V → A) (Has : A → Type 0) (Fails : E → Type 0)
+    (one : (a b : A) → Has a → Has b → a ≡ b) (apart : (a : A) (e : E) → Has a → Fails e → ⊥)
+    (same : (d e : E) → Fails d → Fails e → d ≡ e) where
   pub AnswersOrMemory-from_found : (r : Result V (OrMemory E)) → MatchResult r (λ v. Has (view v)) (IfRefused Fails)
       → AnswersOrMemory view Has Fails r
   AnswersOrMemory-from_found r found = grind (arith)
@@ -17,20 +19,19 @@ module _ {A : Type 0} (Has : List ℕ → A → Type 0) where
   -- two lists in a row
   pub HaveValues-append : (texts more : List (List ℕ)) (values others : List A) → HaveValues Has texts values
       → HaveValues Has more others → HaveValues Has (texts ++ more) (values ++ others)
-  HaveValues-append [] more [] others h k = k
-  HaveValues-append (t ∷ texts) more (v ∷ values) others h k = (h.0, HaveValues-append texts more values others h.1 k)
-  HaveValues-append texts more values others h k = absurd h
+  HaveValues-append [] more values others h k = grind (arith)
+  HaveValues-append (t ∷ texts) more values others h k =
+      grind (arith, λ (vs : List A). HaveValues-append texts more vs others)
 
   -- texts have one list of values, if each has one value
   pub HaveValues-one : ((t : List ℕ) (a b : A) → Has t a → Has t b → a ≡ b)
       → (texts : List (List ℕ)) (values others : List A) → HaveValues Has texts values → HaveValues Has texts others
       → values ≡ others
-  HaveValues-one one [] [] [] h k = refl
-  HaveValues-one one (t ∷ texts) (v ∷ values) (w ∷ others) h k =
-      grind (arith, one t v w h.0 k.0, HaveValues-one one texts values others h.1 k.1)
-  HaveValues-one one texts values others h k = absurd (search rules)
+  HaveValues-one one [] values others h k = grind (arith)
+  HaveValues-one one (t ∷ texts) values others h k = grind (arith, one t, HaveValues-one one texts)
 
-  module _ {E : Type 0} (Fails : List ℕ → E → Type 0) (apart : (t : List ℕ) (a : A) (e : E) → Has t a → Fails t e → ⊥) where
+  module _ {E : Type 0} (Fails : List ℕ → E → Type 0)
+      (apart : (t : List ℕ) (a : A) (e : E) → Has t a → Fails t e → ⊥) where
     -- the same by recursion: a fault behind texts that have values
     abbrev FaultBehind : List (List ℕ) → E → Type 0
     FaultBehind [] e = ⊥
@@ -49,8 +50,7 @@ module _ {A : Type 0} (Has : List ℕ → A → Type 0) where
     behind_apart : (texts : List (List ℕ)) (values : List A) (e : E) → HaveValues Has texts values
         → FaultBehind texts e → ⊥
     behind_apart [] values e h f = f
-    behind_apart (t ∷ texts) [] e h f = h
-    behind_apart (t ∷ texts) (v ∷ values) e h f = grind (arith, apart t v e h.0, behind_apart texts values e h.1)
+    behind_apart (t ∷ texts) values e h f = grind (arith, apart t, λ (vs : List A). behind_apart texts vs e)
 
     pub first_fault_apart : (texts : List (List ℕ)) (values : List A) (e : E) → HaveValues Has texts values
         → HasFirstFault Has Fails texts e → ⊥
@@ -67,7 +67,8 @@ module _ {A : Type 0} (Has : List ℕ → A → Type 0) where
 
 -- what is kept of two lists of parts
 pub kept-append : (xs ys : List (List ℕ)) → kept (xs ++ ys) ≡ kept xs ++ kept ys
-kept-append xs ys = rw (map-append trim xs ys) (filter-append (λ part. nat_lt 0 (length part)) (map trim xs) (map trim ys))
+kept-append xs ys =
+    rw (map-append trim xs ys) (filter-append (λ part. nat_lt 0 (length part)) (map trim xs) (map trim ys))
 
 -- a part is kept as what is left of it without white space, if something is
 pub kept_first : (part text : List ℕ) (parts : List (List ℕ)) → trim part ≡ text → 0 < length text
@@ -82,9 +83,7 @@ parts_at parts i d l = sym (take-append-drop i parts) ∙ ap (λ t. take i parts
 -- what is kept of all parts, round one that is kept
 pub kept_at : (parts : List (List ℕ)) (i : ℕ) (part : List ℕ) → i < length parts → part ≡ get_or parts i part
     → (length (trim part) ≡ 0 → ⊥) → kept parts ≡ kept (take i parts) ++ trim part ∷ kept (drop (i + 1) parts)
-kept_at parts i part l is some =
-    let own : parts ≡ take i parts ++ part ∷ drop (i + 1) parts = rw (← is) at (parts_at parts i part l) in
-    ap kept own ∙ rw (kept-append (take i parts) (part ∷ drop (i + 1) parts), lt-ltb 0 (length (trim part)) (omega (arith, some))) refl
+kept_at parts i part l is some = grind (arith, kept-append, kept_first, parts_at parts i part)
 
 -- the elements, as defined
 pub elements_are : (text : List ℕ) → elements text ≡ kept (slice_split (λ b. eqb b comma) text)
@@ -114,21 +113,16 @@ pub values_more : {A : Type 0} (Has : List ℕ → A → Type 0) (parts : List (
 values_more Has parts part values value h some here = grind (arith, HaveValues-append, kept-append, kept_first)
 
 -- what an element's reader says, in words that follow from it
-module _ {A E : Type 0} (Gives Has : List ℕ → A → Type 0) (Refuses Fails : List ℕ → E → Type 0) (has : (t : List ℕ) (a : A) → Gives t a → Has t a) (fails : (t : List ℕ) (e : E) → Refuses t e → Fails t e) where
+module _ {A E : Type 0} (Gives Has : List ℕ → A → Type 0) (Refuses Fails : List ℕ → E → Type 0)
+    (has : (t : List ℕ) (a : A) → Gives t a → Has t a) (fails : (t : List ℕ) (e : E) → Refuses t e → Fails t e) where
   -- of all values
   pub HaveValues-weaker : (texts : List (List ℕ)) (values : List A) → HaveValues Gives texts values
       → HaveValues Has texts values
-  HaveValues-weaker [] [] h = tt
-  HaveValues-weaker (t ∷ texts) (v ∷ values) h = (has t v h.0, HaveValues-weaker texts values h.1)
-  HaveValues-weaker texts values h = absurd h
-
-  -- of the first fault
-  HasFirstFault-weaker : (texts : List (List ℕ)) (e : E) → HasFirstFault Gives Refuses texts e
-      → HasFirstFault Has Fails texts e
-  HasFirstFault-weaker texts e f = record { front = f.front; bad = f.bad; rest = f.rest; split = f.split; values = f.values; before = HaveValues-weaker f.front f.values f.before; fault = fails f.bad e f.fault }
+  HaveValues-weaker [] values h = grind (arith)
+  HaveValues-weaker (t ∷ texts) values h = grind (arith, has t, HaveValues-weaker texts)
 
   -- and of the answer
   pub found_weaker : {V : Type 0} (view : V → List A) (texts : List (List ℕ)) (r : Result V (OrMemory E))
       → MatchResult r (λ v. HaveValues Gives texts (view v)) (IfRefused (HasFirstFault Gives Refuses texts))
       → MatchResult r (λ v. HaveValues Has texts (view v)) (IfRefused (HasFirstFault Has Fails texts))
-  found_weaker view texts r h = grind (arith, HasFirstFault-weaker, HaveValues-weaker)
+  found_weaker view texts r h = grind (arith, fails, HaveValues-weaker)

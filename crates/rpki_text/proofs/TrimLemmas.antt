@@ -1,5 +1,5 @@
 -- A text between visible ASCII has no white space at its ends.
-use Rattle.rpki_text.proofs.Common.{Bool, List, [], ap, arith, cond, eqb, false, get_or, length, length-append, refl, subst, sym, ℕ, ◌&&◌, ◌++◌, ◌+◌, ◌-◌, ◌<◌, ◌∙◌, ◌∷◌, ◌≡◌, get_or-append-add, nat_tests, append-nil, char_from_byte, chars-encodes, inside_one, len_utf8_bounds, length-encode, encode_utf8, is_whitespace, IsInRange, IsUtf8, chars, drop_trailing_whitespace, encode_utf8_all, skip_leading_whitespace, trim, trim_end, trim_start}
+use Rattle.rpki_text.proofs.Common.{Bool, List, [], ap, arith, cond, eqb, false, get_or, length, length-append, refl, sym, ℕ, ◌&&◌, ◌++◌, ◌+◌, ◌-◌, ◌<◌, ◌∙◌, ◌∷◌, ◌≡◌, get_or-append-add, nat_tests, append-nil, char_from_byte, chars-encodes, inside_one, len_utf8_bounds, length-encode, encode_utf8, is_whitespace, IsInRange, IsUtf8, chars, drop_trailing_whitespace, encode_utf8_all, skip_leading_whitespace, trim, trim_end, trim_start}
 
 -- a visible byte is no white space
 dark : (c : ℕ) → IsInRange 33 126 c → is_whitespace c ≡ false
@@ -22,10 +22,12 @@ no_white_end (c ∷ []) some h = grind (arith, append-nil, dark, inside_one, som
 no_white_end (c ∷ d ∷ more) some h =
     let front = encode_utf8 c in
     let back = encode_utf8_all (d ∷ more) in
-    let long : 0 < length back = omega (arith, some_bytes d, length-append (encode_utf8 d) (encode_utf8_all more)) in
-    let place : length (front ++ back) - 1 ≡ length front + (length back - 1) = omega (arith, long, length-append front back) in
-    let byte : get_or (front ++ back) (length (front ++ back) - 1) 0 ≡ get_or back (length back - 1) 0 = ap (λ k. get_or (front ++ back) k 0) place ∙ get_or-append-add front back (length back - 1) 0 in
-    stays (is_whitespace c) c (drop_trailing_whitespace (d ∷ more)) (d ∷ more) (no_white_end (d ∷ more) (omega arith) (subst (IsInRange 33 126) byte h)) (omega arith)
+    let long : 0 < length back =
+    omega (arith, some_bytes d, length-append (encode_utf8 d) (encode_utf8_all more)) in
+    let place : length (front ++ back) - 1 ≡ length front + (length back - 1) =
+    omega (arith, long, length-append front back) in
+    let last = rw (place, get_or-append-add front back (length back - 1) 0) at h in
+    stays (is_whitespace c) c _ (d ∷ more) (no_white_end (d ∷ more) (omega arith) last) (omega arith)
 
 -- nor do those whose first byte is visible begin with it
 no_white_start : (cs : List ℕ) → 0 < length (encode_utf8_all cs) → IsInRange 33 126 (get_or (encode_utf8_all cs) 0 0)

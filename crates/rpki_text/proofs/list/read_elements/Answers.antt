@@ -11,16 +11,23 @@ loop-part-preserved g c = grind (arith, eqb-false, map-append, values_more)
 
 pub returns-in-Err : goal.returns-in-Err
 returns-in-Err g c =
-    let road = YieldsList-at c.into_iter-part-iterator.ensures.into_iter_gives (YieldsList-from_str_split 44 c.args.text.now (lit< tt) c.split-part-items.ensures.text c.split-part-items.ensures.has_more c.split-part-items.ensures.pattern) in
-    let here = YieldsList-turn road c.loop-part.yielded _ c.loop-part.yielded_by _ _ c.in-Some.part c.in-Some.is c.next.ensures.steps in
+    let split = c.split-part-items.ensures in
+    let parts = YieldsList-from_str_split 44 c.args.text.now (lit< tt) split.text split.has_more split.pattern in
+    let road = YieldsList-at c.into_iter-part-iterator.ensures.into_iter_gives parts in
+    let turn = YieldsList-turn road c.loop-part.yielded _ c.loop-part.yielded_by in
+    let here = turn _ _ c.in-Some.part c.in-Some.is c.next.ensures.steps in
     let sofar = YieldsList-so_far road c.loop-part.yielded _ c.loop-part.yielded_by in
     let some = eqb-false (length c.trimmed-element.result.now) 0 (sym c.is_empty.ensures ∙ c.if-is_empty.false) in
     let fault = rw c.trimmed-element.ensures at c.in-Err.ensures in
     let before = rw sofar at c.loop-part.invariant in
-    fault_at (g.R.ReadElement.has c.args.reader.now) (g.R.ReadElement.fails c.args.reader.now) c.args.text.now (length c.loop-part.yielded) c.in-Some.part.now c.loop-part.values.items c.in-Err.fault here (rw c.trimmed-element.ensures at some) before fault
+    fault_at (g.R.ReadElement.has c.args.reader.now) (g.R.ReadElement.fails c.args.reader.now) c.args.text.now
+    (length c.loop-part.yielded) c.in-Some.part.now c.loop-part.values.items c.in-Err.fault here
+    (rw c.trimmed-element.ensures at some) before fault
 
 pub returns : goal.returns
 returns g c =
-    let road = YieldsList-at c.into_iter-part-iterator.ensures.into_iter_gives (YieldsList-from_str_split 44 c.args.text.now (lit< tt) c.split-part-items.ensures.text c.split-part-items.ensures.has_more c.split-part-items.ensures.pattern) in
+    let split = c.split-part-items.ensures in
+    let parts = YieldsList-from_str_split 44 c.args.text.now (lit< tt) split.text split.has_more split.pattern in
+    let road = YieldsList-at c.into_iter-part-iterator.ensures.into_iter_gives parts in
     let all = YieldsList-end road c.loop-part.yielded _ c.loop-part.yielded_by _ _ c.in-None.is c.next.ensures.steps in
     rw (elements_are c.args.text.now, ← all.0) c.loop-part.invariant

@@ -7,7 +7,7 @@ use Rattle.lines_engine.proofs.KnownLemmas.{appends_nothing, appends_both, appen
 
 -- nothing is written yet
 pub written_none : (a : Option (List ℕ)) (bytes : List ℕ) → HasWritten a a bytes bytes
-written_none a bytes = record { written = []; bytes_are = refl; wrote = appends_nothing a }
+written_none a bytes = grind (arith, appends_nothing)
 
 -- a call keeps what was written
 pub written_kept : (a b c : Option (List ℕ)) (all unwritten : List ℕ) → HasWritten a b all unwritten → Keeps b c
@@ -17,11 +17,7 @@ written_kept a b c all unwritten had kept = grind (arith, appends_kept)
 -- of what is left some is written
 pub written_then : (a b c : Option (List ℕ)) (all bytes rest unwritten : List ℕ) → HasWritten a b all (bytes ++ rest)
     → HasWritten b c bytes unwritten → HasWritten a c all (unwritten ++ rest)
-written_then a b c all bytes rest unwritten had more = record {
-  written = had.written ++ more.written;
-  bytes_are = simp (had.bytes_are, more.bytes_are, append_assoc);
-  wrote = appends_both a b c had.written more.written had.wrote more.wrote;
-}
+written_then a b c all bytes rest unwritten had more = grind (arith, append_assoc, appends_both)
 
 -- a beginning of the first of two texts is one of both
 pub written_first : (a b : Option (List ℕ)) (bytes more unwritten : List ℕ) → HasWritten a b bytes unwritten
@@ -31,9 +27,7 @@ written_first a b bytes more unwritten had = grind (arith, append_assoc)
 -- all of the first of two texts, and a beginning of the second
 pub written_both : (a b c : Option (List ℕ)) (bytes more unwritten : List ℕ) → HasWritten a b bytes []
     → HasWritten b c more unwritten → HasWritten a c (bytes ++ more) unwritten
-written_both a b c bytes more unwritten had next =
-    let first = written_first a b bytes more [] had in
-    rw append-nil at (written_then a b c (bytes ++ more) more [] unwritten (rw append-nil first) next)
+written_both a b c bytes more unwritten had next = grind (arith, append-nil, append_assoc, appends_both)
 
 -- a write takes some of what is left, which a range from there on then is
 pub written_more : (a b c : Option (List ℕ)) (bytes rest : List ℕ) (count : ℕ) → HasWritten a b bytes rest
@@ -49,21 +43,15 @@ module _ (Is : List ℕ → List ℕ → Type 0) where
   -- answers to the lines of two lists, one behind the other
   AllZip-append : (xs ys zs ws : List (List ℕ)) → AllZip Is xs ys → AllZip Is zs ws → AllZip Is (xs ++ zs) (ys ++ ws)
   AllZip-append [] [] zs ws first second = second
-  AllZip-append [] (y ∷ ys) zs ws first second = absurd first
-  AllZip-append (x ∷ xs) [] zs ws first second = absurd first
   AllZip-append (x ∷ xs) (y ∷ ys) zs ws first second = (first.0, AllZip-append xs ys zs ws first.1 second)
+  AllZip-append xs ys zs ws first second = absurd first
 
   -- some lines are answered, and then some of the others
   pub answered_then : (a b c : Option (List ℕ)) (lines others rest : List (List ℕ)) (unwritten : List ℕ)
       → HasAnswered Is a b lines others [] → HasAnswered Is b c others rest unwritten
       → HasAnswered Is a c lines rest unwritten
-  answered_then a b c lines others rest unwritten had more = record {
-    answered = had.answered ++ more.answered;
-    texts = had.texts ++ more.texts;
-    lines_are = simp (had.lines_are, more.lines_are, append_assoc);
-    are_answers = AllZip-append had.answered had.texts more.answered more.texts had.are_answers more.are_answers;
-    wrote = rw flat_map-append (written_both a b c _ _ unwritten had.wrote more.wrote);
-  }
+  answered_then a b c lines others rest unwritten had more =
+      grind (arith, AllZip-append, append_assoc, flat_map-append, written_both)
 
   -- one line is answered
   pub answered_one : (a b : Option (List ℕ)) (line : List ℕ) (rest : List (List ℕ)) (unwritten : List ℕ)
@@ -80,8 +68,7 @@ module _ (Is : List ℕ → List ℕ → Type 0) where
   pub answered_more : (a b c : Option (List ℕ)) (lines : List (List ℕ)) (line : List ℕ) (rest : List (List ℕ))
       (unwritten : List ℕ) → HasAnswered Is a b lines (line ∷ rest) [] → HasAnsweredLine Is b c line unwritten
       → HasAnswered Is a c lines rest unwritten
-  answered_more a b c lines line rest unwritten had more =
-      answered_then a b c lines (line ∷ rest) rest unwritten had (answered_one b c line rest unwritten more)
+  answered_more a b c lines line rest unwritten had more = grind (arith, answered_one, answered_then)
 
   -- a call keeps what was written
   pub answered_kept : (a b c : Option (List ℕ)) (lines rest : List (List ℕ)) (unwritten : List ℕ)
@@ -91,7 +78,7 @@ module _ (Is : List ℕ → List ℕ → Type 0) where
   -- an answer was made, and some of it written
   pub line_answered : (a b : Option (List ℕ)) (line text bytes unwritten : List ℕ) → Is line text → bytes ≡ as_line text
       → HasWritten a b bytes unwritten → HasAnsweredLine Is a b line unwritten
-  line_answered a b line text bytes unwritten is_answer is wrote = record { text = text; is_answer = is_answer; wrote = rw is at wrote }
+  line_answered a b line text bytes unwritten is_answer is wrote = grind (arith)
 
   -- nothing is answered yet
   pub answered_none : (a : Option (List ℕ)) (lines : List (List ℕ)) → HasAnswered Is a a lines lines []

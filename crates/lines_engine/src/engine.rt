@@ -17,6 +17,7 @@ pub(crate) const PIECE: usize = 64 * 1024;
 ///
 /// [`RunError::Read`] and [`RunError::Write`] are answered where a call of the device failed, or a write took
 /// nothing; [`RunError::Memory`] where a request for memory was refused.
+#[tactic(auto, using(crate::proofs::RunLemmas::unanswered, crate::proofs::RunLemmas::unflushed))]
 pub fn run<A: Allocator + Copy, L: Answers, R: Source, W: Sink>(
     alloc: A,
     answers: &L,
@@ -141,6 +142,7 @@ pub(crate) fn answer_line<A: Allocator + Copy, L: Answers, W: Sink>(
 }
 
 /// Writes a whole piece. No call is tried again: [`DeviceFault`] where one failed, or took nothing.
+#[tactic(auto, using(std::proofs::lemmas::Grind::common_steps, crate::proofs::RunLemmas::written_more))]
 pub fn write_all<W: Sink>(writer: &mut W, piece: &[u8]) -> Result<(), DeviceFault>
     requires clear { W.mark writer.old ≡ false }
     ensures unmarked { OnOk result (W.mark writer.new ≡ W.mark writer.old) }

@@ -60,6 +60,7 @@ pub fn answer_as_read<A: Allocator + Copy, L: Answers, R: Source, W: Sink>(
 }
 
 /// Reads until nothing is left, and answers each line that is ended. What stands behind the last end is left.
+#[tactic(auto, using(crate::proofs::StreamLemmas::but_begun, crate::proofs::StreamLemmas::but_more, crate::proofs::StreamLemmas::but_none, crate::proofs::StreamLemmas::but_some))]
 fn answer_ended<A: Allocator + Copy, L: Answers, R: Source, W: Sink>(
     alloc: A,
     answers: &L,
@@ -189,6 +190,7 @@ fn keep<A: Allocator>(part: &mut Vec<u8, A>, rest: &[u8]) -> Result<(), RunError
 }
 
 /// Answers the last line, whose end is missing, if there is one.
+#[tactic(auto, using(std::proofs::lemmas::Grind::common_steps, crate::proofs::StreamLemmas::line_last, crate::proofs::StreamLemmas::none_last))]
 fn answer_last<A: Allocator + Copy, L: Answers, W: Sink>(
     alloc: A,
     answers: &L,

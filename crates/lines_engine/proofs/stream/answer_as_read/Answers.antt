@@ -7,22 +7,26 @@ pub returns-in_err-answer_last-clause-some_answered : goal.returns-in_err-answer
 returns-in_err-answer_last-clause-some_answered g c is =
     let same = rw is at c.from_residual-in_err-answer_last.ensures.1 in
     let some = rw c.deref.ensures.value at (c.in_err-answer_last.ensures.some_answered (ap Err (sym same))) in
-    last_some (g.L.Answers.is_answer c.args.answers.now) _ _ _ _ c.in_ok-part.part.items c.in_ok-part.ensures.answered some
+    last_some (g.L.Answers.is_answer c.args.answers.now) _ _ _ c.in_ok-part.part.items c.in_ok-part.ensures.answered _
+    some
 
 -- a beginning of its answer was written
 pub returns-in_err-answer_last-clause-some_written : goal.returns-in_err-answer_last-clause-some_written
 returns-in_err-answer_last-clause-some_written g c is =
     let same = rw is at c.from_residual-in_err-answer_last.ensures.1 in
     let begun = rw c.deref.ensures.value at (c.in_err-answer_last.ensures.some_written (ap Err (sym same))) in
-    last_begun (g.L.Answers.is_answer c.args.answers.now) _ _ _ _ c.in_ok-part.part.items c.in_ok-part.ensures.answered begun
+    last_begun (g.L.Answers.is_answer c.args.answers.now) _ _ _ c.in_ok-part.part.items c.in_ok-part.ensures.answered _
+    begun
 
 pub returns-clause-answered : goal.returns-clause-answered
 returns-clause-answered g c =
     let all = rw c.deref.ensures.value at c.in_ok-answer_last.ensures.answered in
-    last_all (g.L.Answers.is_answer c.args.answers.now) c.flush_all.result _ _ _ _ _ c.in_ok-part.part.items c.in_ok-part.ensures.answered all c.flush_all.ensures.kept
+    last_all (g.L.Answers.is_answer c.args.answers.now) _ _ _ c.in_ok-part.part.items c.in_ok-part.ensures.answered
+    c.flush_all.result _ _ all c.flush_all.ensures.kept
 
 -- all was written, and then the flush failed
 pub returns-clause-some_written : goal.returns-clause-some_written
 returns-clause-some_written g c is =
     let all = rw c.deref.ensures.value at c.in_ok-answer_last.ensures.answered in
-    last_unflushed (g.L.Answers.is_answer c.args.answers.now) _ _ _ _ _ c.in_ok-part.part.items c.in_ok-part.ensures.answered all c.flush_all.ensures.kept
+    last_unflushed (g.L.Answers.is_answer c.args.answers.now) _ _ _ c.in_ok-part.part.items
+    c.in_ok-part.ensures.answered _ _ all c.flush_all.ensures.kept

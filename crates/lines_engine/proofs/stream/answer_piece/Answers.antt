@@ -1,6 +1,6 @@
 use Rattle.lines_engine.proofs.Common.{Err, ap, arith, sym}
 use Rattle.lines_engine.proofs.RunLemmas.{answered_none}
-use Rattle.lines_engine.proofs.StreamLemmas.{joined_part, joined_some, other_of, piece_more, some_left}
+use Rattle.lines_engine.proofs.StreamLemmas.{joined_some, other_of, piece_more, some_left}
 use Rattle.lines_engine.proofs.stream.answer_piece.Goals as goal
 
 pub loop-line-init : goal.loop-line-init
@@ -19,8 +19,8 @@ pub returns-in_err-answer_joined-clause-some_written : goal.returns-in_err-answe
 returns-in_err-answer_joined-clause-some_written g c is more =
     let same = rw is at c.from_residual.ensures.1 in
     let part = c.in_err-answer_joined.ensures.some_written (ap Err (sym same)) in
-    joined_part _ _ _ _ _ _ _ _ _ _ _ c.loop-line.invariant.unended c.in-Some.ensures
-    (c.loop-line.invariant.answered more) part.1
+    let more = piece_more _ _ _ _ _ _ _ _ _ c.in-Some.ensures (c.loop-line.invariant.answered more) in
+    (_, (part.0, more _ part.0 c.loop-line.invariant.unended part.1))
 
 pub loop-line-preserved : goal.loop-line-preserved
 loop-line-preserved g c = grind (arith, piece_more)

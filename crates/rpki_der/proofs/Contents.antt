@@ -1,5 +1,5 @@
 -- Contents: what the reading answers is what the conditions of X.690 say, and that is how they are spelled.
-use Rattle.rpki_der.proofs.Common.{List, [], ap, arith, drop, length, refl, subst, suc, sym, zero, ℕ, ◌-◌, ◌<◌, ◌^◌, ◌∙◌, ◌∷◌, ◌≡◌, ◌≤◌, cases_lt, eqb-false, le-ltb, leb-false, lt-leb, lt-ltb, ltb-false, ltb-true, ne_eqb, or_from, or_parts, drop_at, length-append, bytes_high_first, to_be_bytes, w64, IsBitContent, IsBytes, IsNothing, IsUnsigned, big_endian, integer, octets, with_sign, bits, nothing, unsigned}
+use Rattle.rpki_der.proofs.Common.{List, [], arith, drop, length, refl, suc, zero, ℕ, ◌-◌, ◌<◌, ◌^◌, ◌∷◌, ◌≡◌, ◌≤◌, cases_lt, eqb-false, le-ltb, leb-false, lt-leb, lt-ltb, ltb-false, ltb-true, ne_eqb, or_from, or_parts, drop_at, length-append, bytes_high_first, to_be_bytes, w64, IsBitContent, IsBytes, IsNothing, IsUnsigned, big_endian, integer, octets, with_sign, bits, nothing, unsigned}
 use Rattle.rpki_der.proofs.Steps.{IsCheck, IsBytes-rest, passed, passed_true, ok_is, one_false}
 use Rattle.rpki_der.proofs.Numbers.{octets-big_endian, big_endian-octets, octets-zero, octets_head, length-without_zeros}
 
@@ -8,7 +8,8 @@ use Rattle.rpki_der.proofs.Numbers.{octets-big_endian, big_endian-octets, octets
 pub unsigned_check : IsCheck (λ _. Unit {0}) IsUnsigned unsigned
 unfolding unsigned
 unsigned_check = record {
-  takes = λ content n fits e. grind (arith, eqb-false, leb-false, lt-ltb, ltb-false, ltb-true, ok_is, one_false, or_parts, passed, passed_true);
+  takes = λ content n fits e.
+      grind (arith, eqb-false, leb-false, lt-ltb, ltb-false, ltb-true, ok_is, one_false, or_parts, passed, passed_true);
   again = λ content n is. grind (arith, le-ltb, lt-leb, lt-ltb, ne_eqb, or_from);
 }
 
@@ -21,16 +22,12 @@ unfolding integer
 spelled_of [] fits is = absurd (omega (arith, is.some))
 spelled_of (zero ∷ []) fits is = rw octets-zero refl
 spelled_of (zero ∷ b ∷ bs) fits is =
-    let high : 128 ≤ b = is.minimal (omega arith) refl in
-    let same : octets (big_endian (b ∷ bs)) ≡ b ∷ bs = octets-big_endian (b ∷ bs) (IsBytes-rest 0 (b ∷ bs) fits) (omega arith) (omega (arith, is.few)) (λ h. omega arith) in
-    grind (arith, le-ltb)
-spelled_of (suc b ∷ bs) fits is =
-    let same : octets (big_endian (suc b ∷ bs)) ≡ suc b ∷ bs = octets-big_endian (suc b ∷ bs) fits (omega arith) (omega (arith, is.few)) (λ h. omega arith) in
-    grind (arith, lt-ltb)
+    let inside = IsBytes-rest 0 (b ∷ bs) fits in grind (arith, le-ltb, octets-big_endian (b ∷ bs))
+spelled_of (suc b ∷ bs) fits is = grind (arith, lt-ltb, octets-big_endian (suc b ∷ bs))
 
 -- the conditions leave one spelling
 pub unsigned_spelled : (content : List ℕ) (n : ℕ) → IsBytes content → IsUnsigned content n → content ≡ integer n
-unsigned_spelled content n fits is = spelled_of content fits (subst (IsUnsigned content) (sym is.spelled) is) ∙ ap integer is.spelled
+unsigned_spelled content n fits is = grind (arith, spelled_of)
 
 -- the four high octets of a number of 32 bits are zero
 high_zero : (n : ℕ) → n < 2 ^ 32 → to_be_bytes w64 n ≡ 0 ∷ 0 ∷ 0 ∷ 0 ∷ bytes_high_first 4 n
@@ -43,11 +40,9 @@ length-octets_32 n lt = rw (high_zero n lt) (length-without_zeros (bytes_high_fi
 
 -- the same for a number, which may have no octets
 says_spelled : (n : ℕ) (ds : List ℕ) → n < 2 ^ 32 → octets n ≡ ds → IsUnsigned (with_sign ds) n
-says_spelled n [] lt is = record { some = omega arith; few = omega arith; sign = omega arith; minimal = λ p q. absurd (omega arith); spelled = sym (ap big_endian is) ∙ big_endian-octets n (omega arith); limit = lt }
+says_spelled n [] lt is = grind (arith, big_endian-octets n)
 says_spelled n (d ∷ ds) lt is =
-    let few : length (d ∷ ds) ≤ 4 = omega (arith, length-octets_32 n lt, ap length is) in
-    let back : big_endian (d ∷ ds) ≡ n = sym (ap big_endian is) ∙ big_endian-octets n (omega arith) in
-    grind (arith, cases_lt, octets-zero, octets_head)
+    grind (arith, cases_lt, octets-zero, octets_head, length-octets_32 n, big_endian-octets n)
 
 -- the spelling meets the conditions
 pub spelled_unsigned : (n : ℕ) → n < 2 ^ 32 → IsUnsigned (integer n) n

@@ -1,6 +1,6 @@
 -- Values one after another to the end of the octets, each read in the state that the values before it led to.
-use Rattle.rpki_der.proofs.Common.{Err, List, None, Ok, Result, Some, [], ap, append_assoc, arith, length, refl, subst, suc, sym, zero, ℕ, ◌++◌, ◌<◌, ◌∙◌, ◌∷◌, ◌≡◌, ◌≢◌, ◌≤◌, ◌-◌, append-nil, length-append, EachFrom, Front, IsBytes, IsValue, header, IsReading, each_from, optional, ◌>>=◌, DerError, Grammar, Reading}
-use Rattle.rpki_der.proofs.Steps.{bind_ok, ok_is}
+use Rattle.rpki_der.proofs.Common.{Err, List, None, Ok, Result, Some, [], ap, append_assoc, arith, length, refl, suc, zero, ℕ, ◌++◌, ◌<◌, ◌∙◌, ◌∷◌, ◌≡◌, ◌≢◌, ◌≤◌, ◌-◌, append-nil, length-append, EachFrom, Front, IsBytes, IsValue, header, IsReading, each_from, optional, ◌>>=◌, DerError, Grammar, Reading}
+use Rattle.rpki_der.proofs.Steps.{bind_ok}
 use Rattle.rpki_der.proofs.Readings.{fits_rest}
 
 -- a value has an octet
@@ -15,7 +15,7 @@ value_has_octets bytes tag content is = rw is.spelled (omega arith)
 -- behind a value fewer octets are left
 pub shorter : {X : Type 0} (G : Grammar X) → HasOctets G → (bytes : List ℕ) (x : X) (rest : List ℕ)
     → Front G bytes x rest → length rest < length bytes
-shorter G has bytes x rest found = let some = has found.0 x found.1 in omega (arith, length-append found.0 rest, ap length found.2)
+shorter G has bytes x rest found = grind (arith, length-append)
 
 -- ---- the reading and the grammar
 
@@ -30,14 +30,14 @@ pub each_takes : {S X : Type 0} (next : S → X → S) (G : S → Grammar X) (re
     → ((state : S) → IsReading (G state) (reading state)) → (steps : ℕ) (state : S) (bytes : List ℕ) (xs : List X)
     → IsBytes bytes → each_from next steps reading state bytes ≡ Ok xs → EachFrom next G state bytes xs
 unfolding each_from
-each_takes next G reading is zero state [] xs fits e = subst (EachFrom next G state []) (ok_is [] xs e) refl
-each_takes next G reading is (suc steps) state [] xs fits e = subst (EachFrom next G state []) (ok_is [] xs e) refl
+each_takes next G reading is steps state [] xs fits e = grind arith
 each_takes next G reading is zero state (b ∷ bytes) xs fits e = absurd cc
 each_takes next G reading is (suc steps) state (b ∷ bytes) xs fits e =
-    let first = bind_ok (reading state (b ∷ bytes)) (λ x. each_from next steps reading (next state x.0) x.1 >>= λ xs. Ok (x.0 ∷ xs)) xs e in
-    let others = bind_ok (each_from next steps reading (next state first.0.0) first.0.1) (λ xs. Ok (first.0.0 ∷ xs)) xs first.2 in
-    let found = (is state).takes (b ∷ bytes) first.0.0 first.0.1 fits first.1 in
-    grind (arith, fits_rest, ok_is, each_takes next G reading is steps (next state first.0.0) first.0.1 others.0 (fits_rest (G state) (b ∷ bytes) first.0.0 first.0.1 found fits) others.1)
+    let (one, read, more) = bind_ok (reading state (b ∷ bytes)) _ xs e in
+    let (others, found, same) = bind_ok (each_from next steps reading (next state one.0) one.1) _ xs more in
+    let front = (is state).takes (b ∷ bytes) one.0 one.1 fits read in
+    let inside = fits_rest (G state) (b ∷ bytes) one.0 one.1 front fits in
+    grind (arith, each_takes next G reading is steps (next state one.0) one.1 others)
 
 -- values of the grammar are read
 pub each_again : {S X : Type 0} (next : S → X → S) (G : S → Grammar X) (reading : S → Reading X)
@@ -45,16 +45,15 @@ pub each_again : {S X : Type 0} (next : S → X → S) (G : S → Grammar X) (re
     → (xs : List X) (steps : ℕ) (state : S) (bytes : List ℕ) → length bytes ≤ steps → EachFrom next G state bytes xs
     → each_from next steps reading state bytes ≡ Ok xs
 unfolding each_from
-each_again next G reading is has [] steps state bytes le all = ap (each_from next steps reading state) all ∙ each-nil next steps reading state
+each_again next G reading is has [] steps state bytes le all =
+    ap (each_from next steps reading state) all ∙ each-nil next steps reading state
 each_again next G reading is has (x ∷ xs) steps state [] le all =
-    let some = has state all.1.0 x all.1.1 in
-    absurd (omega (arith, length-append all.1.0 all.0, ap length all.1.2))
+    absurd (omega (arith, shorter (G state) (has state) [] x all.0 all.1))
 each_again next G reading is has (x ∷ xs) zero state (b ∷ bytes) le all = absurd (omega arith)
 each_again next G reading is has (x ∷ xs) (suc steps) state (b ∷ bytes) le all =
-    let some = has state all.1.0 x all.1.1 in
-    let first : reading state (b ∷ bytes) ≡ Ok (x, all.0) = ap (reading state) all.1.2 ∙ (is state).again all.1.0 x all.0 all.1.1 in
-    let fewer : length all.0 ≤ steps = omega (arith, length-append all.1.0 all.0, ap length all.1.2) in
-    grind (arith, each_again next G reading is has xs steps (next state x) all.0 fewer all.2)
+    let fewer = shorter (G state) (has state) (b ∷ bytes) x all.0 all.1 in
+    let read = (is state).again all.1.0 x all.0 all.1.1 in
+    grind (arith, each_again next G reading is has xs steps (next state x) all.0 (omega arith) all.2)
 
 -- ---- a loop over the values
 
@@ -62,15 +61,11 @@ abbrev pub with_front : {X : Type 0} → List X → Result (List X) DerError →
 with_front front read = read >>= λ xs. Ok (front ++ xs)
 
 -- what was read, and what is left in the state after it, give the whole
-pub record SoFar {S X : Type 0} (next : S → X → S) (reading : S → List ℕ → Result (X × List ℕ) DerError) (front : List X) (state : S) (bytes : List ℕ) (total : Result (List X) DerError) : Type 0 where
+pub record SoFar {S X : Type 0} (next : S → X → S) (reading : S → List ℕ → Result (X × List ℕ) DerError)
+    (front : List X) (state : S) (bytes : List ℕ) (total : Result (List X) DerError) : Type 0 where
   pub steps : ℕ
   pub enough : length bytes ≤ steps
   pub whole : with_front front (each_from next steps reading state bytes) ≡ total
-
--- one more value, put behind those read so far
-with_one : {X : Type 0} (front : List X) (x : X) (read : Result (List X) DerError)
-    → with_front front (read >>= λ xs. Ok (x ∷ xs)) ≡ with_front (front ++ x ∷ []) read
-with_one front x read = grind (arith, append_assoc)
 
 -- the first value, and those behind it
 each-cons : {S X : Type 0} (next : S → X → S) (steps : ℕ) (reading : S → Reading X) (state : S) (b : ℕ) (bytes : List ℕ)
@@ -80,7 +75,8 @@ each-cons : {S X : Type 0} (next : S → X → S) (steps : ℕ) (reading : S →
     (x.0 ∷ xs))
 unfolding each_from
 each-cons next zero reading state b bytes enough = absurd (omega arith)
-each-cons next (suc steps) reading state b bytes enough = let less : suc steps - 1 ≡ steps = omega arith in rw less refl
+each-cons next (suc steps) reading state b bytes enough =
+    let less : suc steps - 1 ≡ steps = omega arith in rw less refl
 
 -- a turn that reads a value
 pub loop_more : {S X : Type 0} (next : S → X → S) (reading : S → Reading X) (front : List X) (state : S)
@@ -91,9 +87,7 @@ loop_more next reading front state [] total x rest so read fewer = absurd (omega
 loop_more next reading front state (b ∷ bytes) total x rest so read fewer = record {
   steps = so.steps - 1;
   enough = omega (arith, so.enough, fewer);
-  whole =
-      sym (with_one front x (each_from next (so.steps - 1) reading (next state x) rest))
-      ∙ rw (each-cons next so.steps reading state b bytes so.enough, read) at so.whole;
+  whole = grind (arith, append_assoc, each-cons);
 }
 
 -- at the end of the octets the values read so far are all
@@ -107,8 +101,7 @@ pub loop_fails : {S X : Type 0} (next : S → X → S) (reading : S → Reading 
     (bytes : List ℕ) (total : Result (List X) DerError) (e : DerError) → SoFar next reading front state bytes total
     → bytes ≢ [] → reading state bytes ≡ Err e → total ≡ Err e
 loop_fails next reading front state [] total e so some read = absurd (some refl)
-loop_fails next reading front state (b ∷ bytes) total e so some read =
-    sym (rw (each-cons next so.steps reading state b bytes so.enough, read) at so.whole)
+loop_fails next reading front state (b ∷ bytes) total e so some read = grind (arith, each-cons)
 
 -- ---- what an optional reading says
 

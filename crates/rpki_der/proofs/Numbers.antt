@@ -76,14 +76,12 @@ head_or_nil (suc d ∷ ds) h e = absurd (omega arith)
 
 -- ---- the octets of a number
 
--- eight octets of a number spell it
-eight_octets : (n : ℕ) → n < 2 ^ 64 → big_endian (to_be_bytes w64 n) ≡ n
-eight_octets n lt = sym (from_be_bytes-padded (to_be_bytes w64 n) (omega arith)) ∙ from_be_bytes-to_be_bytes_8 n lt
-
 -- the fewest octets of a number spell it
 pub big_endian-octets : (n : ℕ) → n < 2 ^ 64 → big_endian (octets n) ≡ n
 unfolding octets
-big_endian-octets n lt = big_endian-without_zeros (to_be_bytes w64 n) ∙ eight_octets n lt
+big_endian-octets n lt =
+    let same = from_be_bytes-padded (to_be_bytes w64 n) (omega arith) in
+    big_endian-without_zeros (to_be_bytes w64 n) ∙ sym same ∙ from_be_bytes-to_be_bytes_8 n lt
 
 -- octets that don't begin with zero are the fewest of their number
 pub octets-big_endian : (ds : List ℕ) → IsBytes ds → 0 < length ds → length ds ≤ 8 → get_or ds 0 0 ≢ 0
@@ -92,10 +90,11 @@ unfolding octets
 octets-big_endian [] fits some le nonzero = absurd (omega arith)
 octets-big_endian (d ∷ ds) fits some le nonzero =
     let m = 8 - suc (length ds) in
-    let whole : List ℕ = replicate m 0 ++ d ∷ ds in
-    let len : length whole ≡ 8 = omega (arith, length-append (replicate m 0) (d ∷ ds), length-replicate {A = ℕ} m 0) in
-    let same : from_be_bytes w64 whole ≡ big_endian (d ∷ ds) = from_be_bytes-padded (d ∷ ds) le in
-    ap without_zeros (be_bytes_8 whole (big_endian (d ∷ ds)) len (IsBytes-zeros m (d ∷ ds) fits) (sym same)) ∙ without_zeros-zeros m (d ∷ ds) ∙ without_zeros-head d ds nonzero
+    let len : length (padded (d ∷ ds)) ≡ 8 =
+    omega (arith, length-append (replicate m 0) (d ∷ ds), length-replicate {A = ℕ} m 0) in
+    let number = sym (from_be_bytes-padded (d ∷ ds) le) in
+    let same = be_bytes_8 (padded (d ∷ ds)) (big_endian (d ∷ ds)) len (IsBytes-zeros m (d ∷ ds) fits) number in
+    grind (arith, without_zeros-zeros m (d ∷ ds), without_zeros-head)
 
 -- eight octets spell a number below 2 ^ 64
 eight : (bs : List ℕ) → IsBytes bs → from_be_bytes w64 bs < 2 ^ 64
@@ -103,7 +102,8 @@ eight bs h = omega (arith, h 0, h 1, h 2, h 3, h 4, h 5, h 6, h 7)
 
 -- at most eight octets spell a number below 2 ^ 64
 pub big_endian_small : (ds : List ℕ) → IsBytes ds → length ds ≤ 8 → big_endian ds < 2 ^ 64
-big_endian_small ds fits le = rw (← from_be_bytes-padded ds le) (eight (padded ds) (IsBytes-zeros (8 - length ds) ds fits))
+big_endian_small ds fits le =
+    grind (arith, from_be_bytes-padded ds le, eight (padded ds), IsBytes-zeros (8 - length ds) ds)
 
 -- a number below 2 ^ 64 has eight octets at most
 pub length-octets : (n : ℕ) → length (octets n) ≤ 8
@@ -119,4 +119,4 @@ octets-zero = refl
 pub octets_head : (n : ℕ) → 0 < n → n < 2 ^ 64 → get_or (octets n) 0 0 ≢ 0
 unfolding octets
 octets_head n pos lt =
-    head_or_nil (to_be_bytes w64 n) (λ none. let same : 0 ≡ n = ap big_endian (sym none) ∙ big_endian-octets n lt in omega (arith, same, pos))
+    let back = big_endian-octets n lt in head_or_nil (to_be_bytes w64 n) (λ none. grind arith)

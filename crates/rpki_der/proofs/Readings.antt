@@ -1,5 +1,5 @@
 -- The readings find the values of their grammars, whatever follows them, and no others.
-use Rattle.rpki_der.proofs.Common.{IsOctetString, IsSequence, Err, List, Ok, Result, [], ap, append_assoc, arith, cond, drop, eqb, length, ltb, refl, subst, sym, take, ℕ, ◌%◌, ◌++◌, ◌<◌, ◌^◌, ◌∙◌, ◌∷◌, ◌≡◌, ◌≢◌, ◌≤◌, eq-eqb, eqb-false, eqb-true, le-ltb, ltb-false, ne_eqb, append_cancel_right, drop_at, length-append, length-take, take-append-drop, take_at, Front, IsBitContent, IsBitString, IsBytes, IsNothing, IsNull, IsTag, IsTlv, IsU32, IsUnsigned, IsValue, OneFront, Refines, Tlv, header, length_octets, value, IsReading, bit_string_at, bits, length_at, nothing, null_at, refined, tagged_at, u32_at, unsigned, value_at, ◌>>=◌, DerError, BadTag, Truncated, Grammar, Reading}
+use Rattle.rpki_der.proofs.Common.{IsOctetString, IsSequence, List, Ok, Result, [], ap, append_assoc, arith, drop, eqb, length, ltb, refl, subst, sym, take, ℕ, ◌%◌, ◌++◌, ◌<◌, ◌^◌, ◌∙◌, ◌∷◌, ◌≡◌, ◌≢◌, ◌≤◌, eq-eqb, eqb-false, eqb-true, le-ltb, ltb-false, ne_eqb, append_cancel_right, drop_at, length-append, length-take, take-append-drop, take_at, Front, IsBitContent, IsBitString, IsBytes, IsNothing, IsNull, IsTag, IsTlv, IsU32, IsUnsigned, IsValue, OneFront, Refines, Tlv, header, length_octets, value, IsReading, bit_string_at, bits, length_at, nothing, null_at, refined, tagged_at, u32_at, unsigned, value_at, DerError, BadTag, Truncated, Grammar, Reading}
 use Rattle.rpki_der.proofs.Steps.{IsCheck, IsBytes-rest, fits_front, fits_back, bind_ok, passed, ok_is}
 use Rattle.rpki_der.proofs.Contents.{unsigned_check, unsigned_spelled, spelled_unsigned, bits_check, nothing_check}
 use Rattle.rpki_der.proofs.Lengths.{length_takes, length_again}
@@ -15,7 +15,8 @@ value_front : (tag n : ℕ) (bytes after : List ℕ) (v : Tlv) (rest : List ℕ)
     → bytes ≡ length_octets n ++ after → n ≤ length after → cut tag n after ≡ (v, rest)
     → Front IsTlv (tag ∷ bytes) v rest
 unfolding header
-value_front tag n bytes after v rest low lt split enough made = grind (arith, append_assoc, length-take, take-append-drop)
+value_front tag n bytes after v rest low lt split enough made =
+    grind (arith, append_assoc, length-take, take-append-drop)
 
 -- a value that is read is spelled so
 value_takes : (bytes : List ℕ) (v : Tlv) (rest : List ℕ) → IsBytes bytes → value_at bytes ≡ Ok (v, rest)
@@ -23,25 +24,24 @@ value_takes : (bytes : List ℕ) (v : Tlv) (rest : List ℕ) → IsBytes bytes �
 unfolding value_at
 value_takes [] v rest fits e = absurd cc
 value_takes (tag ∷ bytes) v rest fits e =
-    let finds : ℕ × List ℕ → Result (Tlv × List ℕ) DerError = λ len. cond (ltb (length len.1) len.0) (Err Truncated) (Ok (cut tag len.0 len.1)) in
-    let g1 = passed (eqb (tag % 32) 31) BadTag (length_at bytes >>= finds) (v, rest) e in
-    let len = bind_ok (length_at bytes) finds (v, rest) g1.1 in
-    let n = len.0.0 in
-    let after = len.0.1 in
-    let g2 = passed (ltb (length after) n) Truncated (Ok (cut tag n after)) (v, rest) len.2 in
-    let long = length_takes bytes n after (IsBytes-rest tag bytes fits) len.1 in
-    let apart : tag % 32 ≢ 31 = eqb-false (tag % 32) 31 g1.0 in
-    value_front tag n bytes after v rest (omega arith) long.1 long.0 (ltb-false (length after) n g2.0) (ok_is (cut tag n after) (v, rest) g2.1)
+    let (apart, found) = passed (eqb (tag % 32) 31) BadTag _ (v, rest) e in
+    let ((n, after), read, more) = bind_ok (length_at bytes) _ (v, rest) found in
+    let (enough, made) = passed (ltb (length after) n) Truncated _ (v, rest) more in
+    let (split, short) = length_takes bytes n after (IsBytes-rest tag bytes fits) read in
+    let low : tag % 32 ≢ 31 = eqb-false (tag % 32) 31 apart in
+    let all = ltb-false (length after) n enough in
+    value_front tag n bytes after v rest (omega arith) short split all (ok_is (cut tag n after) (v, rest) made)
 
 -- the octets of a tag and a content are read as them
 value_again_spelled : (tag : ℕ) (content rest : List ℕ) → IsTag tag → length content < 2 ^ 64
     → value_at (value tag content ++ rest) ≡ Ok (record { tag = tag; content = content }, rest)
 unfolding value_at header
-value_again_spelled tag content rest low lt = grind (arith, append_assoc, drop_at, le-ltb, length-append, length_again, ne_eqb, take_at)
+value_again_spelled tag content rest low lt =
+    grind (arith, append_assoc, drop_at, le-ltb, length-append, length_again, ne_eqb, take_at)
 
 -- a value is read, whatever follows
 value_again : (front : List ℕ) (v : Tlv) (rest : List ℕ) → IsTlv front v → value_at (front ++ rest) ≡ Ok (v, rest)
-value_again front v rest is = ap (λ (x : List ℕ). value_at (x ++ rest)) is.spelled ∙ value_again_spelled v.tag v.content rest is.has_tag is.short
+value_again front v rest is = rw is.spelled (value_again_spelled v.tag v.content rest is.has_tag is.short)
 
 -- the two together
 pub value_reading : IsReading IsTlv value_at
@@ -79,10 +79,11 @@ pub tagged_reading : (tag : ℕ) → IsReading (IsTagged tag) (tagged_at tag)
 unfolding tagged_at
 tagged_reading tag = record {
   takes = λ bytes content rest fits e. (
-      let a = bind_ok (value_at bytes) (λ v. cond (eqb v.0.tag tag) (Ok (v.0.content, v.1)) (Err BadTag)) (content, rest) e in
-      let found = value_takes bytes a.0.0 a.0.1 fits a.1 in
+      let (v, read, more) = bind_ok (value_at bytes) _ (content, rest) e in
+      let found = value_takes bytes v.0 v.1 fits read in
       grind (arith, eqb-true));
-  again = λ front content rest is. rw (value_again front (record { tag = tag; content = content }) rest is, eq-eqb tag tag refl) refl;
+  again = λ front content rest is.
+      grind (arith, eq-eqb, value_again front (record { tag = tag; content = content }) rest);
 }
 
 -- an OCTET STRING, and a SEQUENCE
@@ -102,12 +103,11 @@ pub refined_reading : {X Y : Type 0} (G : Grammar X) (C : X → Y → Type 0) (F
 unfolding refined
 refined_reading G C Fits reading check is inside says = record {
   takes = λ bytes y rest fits e. (
-      let a = bind_ok (reading bytes) (λ x. check x.0 >>= λ y. Ok (y, x.1)) (y, rest) e in
-      let b = bind_ok (check a.0.0) (λ y. Ok (y, a.0.1)) (y, rest) a.2 in
-      let found = is.takes bytes a.0.0 a.0.1 fits a.1 in
-      let c = says.takes a.0.0 b.0 (inside found.0 a.0.0 found.1 (fits_value G bytes a.0.0 a.0.1 found fits)) b.1 in
-      subst (λ p. Front (Refines G C) bytes p.0 p.1) (ok_is (b.0, a.0.1) (y, rest) b.2) (found.0, (a.0.0, found.1, c), found.2));
-  again = λ front y rest r. rw (is.again front r.0 rest r.1, says.again r.0 y r.2) refl;
+      let (x, read, more) = bind_ok (reading bytes) _ (y, rest) e in
+      let found = is.takes bytes x.0 x.1 fits read in
+      let at = inside found.0 x.0 found.1 (fits_value G bytes x.0 x.1 found fits) in
+      grind (arith, bind_ok, ok_is, says.takes x.0));
+  again = λ front y rest r. grind (arith, is.again front r.0 rest r.1, says.again r.0 y r.2);
 }
 
 -- two grammars of the same values have the same readings
@@ -115,30 +115,34 @@ pub same_reading : {X : Type 0} (G H : Grammar X) (reading : Reading X)
     → ((bytes : List ℕ) (x : X) → IsBytes bytes → G bytes x → H bytes x)
     → ((bytes : List ℕ) (x : X) → H bytes x → G bytes x) → IsReading G reading → IsReading H reading
 same_reading G H reading to from is = record {
-  takes = λ bytes x rest fits e. let found = is.takes bytes x rest fits e in (found.0, to found.0 x (fits_value G bytes x rest found fits) found.1, found.2);
+  takes = λ bytes x rest fits e.
+      let found = is.takes bytes x rest fits e in
+      (found.0, to found.0 x (fits_value G bytes x rest found fits) found.1, found.2);
   again = λ front x rest h. is.again front x rest (from front x h);
 }
 
 -- the content of a tag, by a rule that asks nothing of the octets
 content_reading : {Y : Type 0} (tag : ℕ) (C : Grammar Y) (check : List ℕ → Result Y DerError)
     → IsCheck (λ _. Unit {0}) C check → IsReading (Refines (IsTagged tag) C) (refined (tagged_at tag) check)
-content_reading tag C check says = refined_reading (IsTagged tag) C (λ _. Unit {0}) (tagged_at tag) check (tagged_reading tag) (λ front x is fits. tt) says
+content_reading tag C check says =
+    refined_reading (IsTagged tag) C (λ _. Unit {0}) _ check (tagged_reading tag) (λ front x is fits. tt) says
 
--- a content by the conditions is the content as it is spelled
-u32_to : (bytes : List ℕ) (n : ℕ) → IsBytes bytes → Refines (IsTagged 2) IsUnsigned bytes n → IsU32 bytes n
-u32_to bytes n fits is = (is.2.limit, subst (IsTagged 2 bytes) (unsigned_spelled is.0 n (fits_content bytes 2 is.0 is.1 fits) is.2) is.1)
-
--- an INTEGER of 32 bits
+-- an INTEGER of 32 bits, whose content by the conditions is the content as it is spelled
 pub u32_reading : IsReading IsU32 u32_at
-u32_reading = same_reading (Refines (IsTagged 2) IsUnsigned) IsU32 u32_at u32_to (λ bytes n is. (_, is.1, spelled_unsigned n is.0)) (content_reading 2 IsUnsigned unsigned unsigned_check)
+u32_reading =
+    same_reading (Refines (IsTagged 2) IsUnsigned) IsU32 u32_at
+    (λ bytes n fits (content, is, says). (
+    let inside = fits_content bytes 2 content is fits in grind (arith, unsigned_spelled content n inside says)))
+    (λ bytes n is. (_, is.1, spelled_unsigned n is.0)) (content_reading 2 IsUnsigned unsigned unsigned_check)
 
 -- a BIT STRING
 pub bit_string_reading : IsReading IsBitString bit_string_at
 bit_string_reading =
-    same_reading (Refines (IsTagged 3) IsBitContent) IsBitString bit_string_at
-    (λ bytes b fits is. (is.2.counted, subst (IsTagged 3 bytes) is.2.spelled is.1)) (λ bytes b is. (_, is.1, record { counted = is.0; spelled = refl })) (content_reading 3 IsBitContent bits bits_check)
+    same_reading (Refines (IsTagged 3) IsBitContent) IsBitString bit_string_at (λ bytes b fits is. grind arith)
+    (λ bytes b is. grind arith) (content_reading 3 IsBitContent bits bits_check)
 
 -- a NULL
 pub null_reading : IsReading IsNull null_at
 null_reading =
-    same_reading (Refines (IsTagged 5) IsNothing) IsNull null_at (λ bytes u fits is. subst (IsTagged 5 bytes) is.2 is.1) (λ bytes u is. ([], is, refl)) (content_reading 5 IsNothing nothing nothing_check)
+    same_reading (Refines (IsTagged 5) IsNothing) IsNull null_at (λ bytes u fits is. grind arith)
+    (λ bytes u is. ([], is, refl)) (content_reading 5 IsNothing nothing nothing_check)

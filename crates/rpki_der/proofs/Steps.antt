@@ -5,14 +5,10 @@ use Rattle.rpki_der.proofs.Common.{Bool, Err, List, Ok, Result, arith, cond, fal
 pub IsBytes-rest : (b : ℕ) (bytes : List ℕ) → IsBytes (b ∷ bytes) → IsBytes bytes
 IsBytes-rest b bytes h i = h (suc i)
 
--- a zero is an octet
-pub IsBytes-zero : (bytes : List ℕ) → IsBytes bytes → IsBytes (0 ∷ bytes)
-IsBytes-zero bytes h h2 = grind (arith)
-
 -- zeros are octets
 pub IsBytes-zeros : (n : ℕ) (bytes : List ℕ) → IsBytes bytes → IsBytes (replicate n 0 ++ bytes)
 IsBytes-zeros zero bytes h = h
-IsBytes-zeros (suc n) bytes h = IsBytes-zero (replicate n 0 ++ bytes) (IsBytes-zeros n bytes h)
+IsBytes-zeros (suc n) bytes h = grind (arith, IsBytes-zeros n bytes h)
 
 -- the octets of the parts
 pub fits_front : (a b : List ℕ) → IsBytes (a ++ b) → IsBytes a
@@ -54,6 +50,7 @@ pub ok_or_err : {A : Type 0} (x : A) (e : DerError) (r : Result A DerError) → 
 ok_or_err x e r p q = cc
 
 -- a second look at what was read finds what C says
-pub record IsCheck {X Y : Type 0} (Fits : X → Type 0) (C : X → Y → Type 0) (check : X → Result Y DerError) : Type 0 where
+pub record IsCheck {X Y : Type 0} (Fits : X → Type 0) (C : X → Y → Type 0) (check : X → Result Y DerError)
+    : Type 0 where
   pub takes : (x : X) (y : Y) → Fits x → check x ≡ Ok y → C x y
   pub again : (x : X) (y : Y) → C x y → check x ≡ Ok y

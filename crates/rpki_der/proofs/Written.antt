@@ -34,4 +34,5 @@ value_spelled tag len content has_tag fits is = grind (arith, length_spelled)
 pub spelled_value : (bytes : List ℕ) (tag : ℕ) (content : List ℕ) → IsValue bytes tag content
     → (len : List ℕ) × IsLength len (length content) × (bytes ≡ tag ∷ (len ++ content))
 unfolding header
-spelled_value bytes tag content is = (length_octets (length content), spelled_length (length content) is.short, is.spelled)
+spelled_value bytes tag content is =
+    (length_octets (length content), spelled_length (length content) is.short, is.spelled)

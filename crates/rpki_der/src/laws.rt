@@ -55,6 +55,7 @@ pub fn read_back()
 
 /// Values, lengths and integers are spelled as the conditions of X.690 (8.1.2, 8.1.3, 8.3 and 10.1)
 /// say, and in no other way.
+#[tactic(auto, using(crate::proofs::Written::value_spelled, crate::proofs::Written::spelled_value, crate::proofs::Contents::unsigned_spelled, crate::proofs::Lengths::length_spelled, crate::proofs::Lengths::spelled_length))]
 pub fn spelled()
     ensures value { (tag : ℕ) (len content : List ℕ) → IsTag tag → IsBytes len
         → IsLength len (length content) → IsValue (tag ∷ (len ++ content)) tag content }

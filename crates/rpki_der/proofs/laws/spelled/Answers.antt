@@ -1,8 +1,6 @@
--- Values, integers and lengths.
-use Rattle.rpki_der.proofs.Contents.{unsigned_spelled, spelled_unsigned}
-use Rattle.rpki_der.proofs.Lengths.{length_spelled, spelled_length}
-use Rattle.rpki_der.proofs.Written.{value_spelled, spelled_value}
+-- The spelling of an integer meets its conditions; the others are found.
+use Rattle.rpki_der.proofs.Contents.{spelled_unsigned}
 use Rattle.rpki_der.proofs.laws.spelled.Goals as goal
 
-pub returns : goal.returns
-returns c = record { value = value_spelled; value_again = spelled_value; integer = unsigned_spelled; integer_again = spelled_unsigned; len = length_spelled; len_again = spelled_length }
+pub returns-clause-integer_again : goal.returns-clause-integer_again
+returns-clause-integer_again c = spelled_unsigned

@@ -1,5 +1,5 @@
 -- Texts of addresses: our grammar and that of std's readers are one.
-use Rattle.rpki_addr.proofs.Common.{lit<, last_digit_below, length-last_digits, IsColonHex-ipv6_text, groups_of, ipv6_text, Bool, IsTrue, List, [], ap, append_assoc, arith, codes, false, flat_map, inl, inr, length, refl, replicate, subst, sym, true, ℕ, ◌%◌, ◌++◌, ◌+◌, ◌-◌, ◌/◌, ◌∙◌, ◌∷◌, ◌≡◌, ◌⊎◌, AllBelowBase, segments_of, dotted_text, from_octets, AreGroups, AreGroupsAtEnd, IsGroupText, IsGroupsText, IsIpv4Text, dotted}
+use Rattle.rpki_addr.proofs.Common.{get_or, lit<, last_digit_below, length-last_digits, IsColonHex-ipv6_text, groups_of, ipv6_text, Bool, IsTrue, List, [], ap, append_assoc, arith, codes, false, flat_map, inl, inr, length, refl, sym, true, ℕ, ◌%◌, ◌++◌, ◌+◌, ◌-◌, ◌/◌, ◌<◌, ◌∙◌, ◌∷◌, ◌≡◌, ◌⊎◌, AllBelowBase, segments_of, dotted_text, from_octets, AreGroups, AreGroupsAtEnd, IsGroupText, IsGroupsText, IsIpv4Text, dotted}
 use Rattle.std.proofs.lemmas.List.{append-nil}
 use Rattle.std.specs.Net.Grammar as std
 use Rattle.rpki_text.specs.Lists.{joined_by, HaveValues}
@@ -7,6 +7,11 @@ use Rattle.rpki_text.specs.Lists.{joined_by, HaveValues}
 -- four decimals with dots between them, as std writes them
 pub dotted_is : (a b c d : ℕ) → dotted_text a b c d ≡ dotted (a ∷ b ∷ c ∷ d ∷ [])
 dotted_is a b c d = simp (append_assoc, append-nil)
+
+pub dotted_octets : (octets : List ℕ) → length octets ≡ 4
+    → dotted octets ≡ dotted_text (get_or octets 0 0) (get_or octets 1 0) (get_or octets 2 0) (get_or octets 3 0)
+dotted_octets (a ∷ b ∷ c ∷ d ∷ []) four = sym (dotted_is a b c d)
+dotted_octets octets four = absurd (omega (arith, four))
 
 -- an IPv4 text of ours is one of std's
 pub to_dotted : (text octets : List ℕ) → length octets ≡ 4 → AllBelowBase 256 octets → text ≡ dotted octets
@@ -43,12 +48,11 @@ joined_led (t ∷ texts) = ap (λ r. t ++ r) (colons_led texts)
 groups_led : (b : Bool) (lead : List ℕ) (texts : List (List ℕ)) (groups : List ℕ) → HaveValues IsGroupText texts groups
     → std.IsGroupsAfter b lead (led lead texts) groups
 groups_led b lead [] [] h = refl
-groups_led b lead (t ∷ texts) (g ∷ groups) h =
-    inl (t, led (codes ":") texts, refl, ((h.0.digits, h.0.value), h.0.few), groups_led b (codes ":") texts groups h.1)
+groups_led b lead (t ∷ texts) (g ∷ groups) h = grind (arith, groups_led b (codes ":") texts groups h.1)
 groups_led b lead texts groups h = absurd h
 
 pub AreGroups-std : (b : Bool) (text groups : List ℕ) → AreGroups text groups → std.IsGroups b text groups
-AreGroups-std b text groups h = subst (λ t. std.IsGroups b t groups) (sym (h.spelled ∙ joined_led h.texts)) (groups_led b [] h.texts groups h.each)
+AreGroups-std b text groups h = rw (h.spelled, joined_led) (groups_led b [] h.texts groups h.each)
 
 -- the same with an IPv4 text at the end
 ipv4_led : (lead : List ℕ) (texts : List (List ℕ)) (front last : List ℕ) (n : ℕ) → HaveValues IsGroupText texts front
@@ -57,28 +61,20 @@ ipv4_led : (lead : List ℕ) (texts : List (List ℕ)) (front last : List ℕ) (
 ipv4_led lead [] [] last n h k =
     let dots = IsIpv4Text-dotted last n k in
     inr (last, k.octets, refl, append-nil (lead ++ last), dots, sym (two_groups last k.octets n dots k.value))
-ipv4_led lead (t ∷ texts) (g ∷ front) last n h k =
-    inl (t, led (codes ":") (texts ++ last ∷ []), refl, ((h.0.digits, h.0.value), h.0.few), ipv4_led (codes ":") texts front last n h.1 k)
+ipv4_led lead (t ∷ texts) (g ∷ front) last n h k = grind (arith, ipv4_led (codes ":") texts front last n h.1 k)
 ipv4_led lead texts front last n h k = absurd h
 
 pub AreGroupsAtEnd-std : (text groups : List ℕ) → AreGroupsAtEnd text groups → std.IsGroups true text groups
-AreGroupsAtEnd-std text groups (inl h) = AreGroups-std true text groups h
-AreGroupsAtEnd-std text groups (inr h) = rw (h.spelled, joined_led, h.value) (ipv4_led [] h.texts h.front h.last h.n h.each h.ipv4)
+AreGroupsAtEnd-std text groups h = grind (arith, AreGroups-std, ipv4_led, joined_led)
 
 -- an IPv6 text of ours is one of std's
 pub IsGroupsText-colon_hex : (text groups : List ℕ) → IsGroupsText text groups → std.IsColonHex text groups
 IsGroupsText-colon_hex text groups (inl (h, eight)) = inl (AreGroupsAtEnd-std text groups h, eight)
-IsGroupsText-colon_hex text groups (inr h) = inr (record {
-  head_text = h.front_text;
-  tail_text = h.back_text;
-  head = h.front;
-  tail = h.back;
-  spelled = h.spelled;
-  head_groups = AreGroups-std false h.front_text h.front h.front_groups;
-  tail_groups = AreGroupsAtEnd-std h.back_text h.back h.back_groups;
-  room = omega (arith, h.at_most_seven);
-  value = (let between : 8 - (length h.front + length h.back) ≡ 8 - length h.front - length h.back = omega arith in h.value ∙ ap (λ k. h.front ++ replicate k 0 ++ h.back) between);
-})
+IsGroupsText-colon_hex text groups (inr h) =
+    let between : 8 - (length h.front + length h.back) ≡ 8 - length h.front - length h.back = omega arith in
+    let value = rw between at h.value in
+    let room : length h.front + length h.back < 8 = omega (arith, h.at_most_seven) in
+    inr (search (AreGroups-std, AreGroupsAtEnd-std, h.spelled, value, room))
 
 -- groups of std's are groups of ours, an IPv4 text at the end or not
 abbrev Led : Bool → List ℕ → List ℕ → List ℕ → Type 0
@@ -94,34 +90,20 @@ from_std b lead text [] h = inl ([], h, tt)
 from_std b lead text (g ∷ groups) (inl (group, rest, is, digits, more)) =
     let first : IsGroupText group g = record { digits = digits.0.0; few = digits.1; value = digits.0.1 } in
     elim (from_std b (codes ":") rest groups more) [
-      | inl (texts, spelled, each) ↦ inl (group ∷ texts, is ∙ ap (λ r. lead ++ group ++ r) spelled, (first, each))
+      | inl (texts, spelled, each) ↦ inl (group ∷ texts, rw spelled at is, (first, each))
       | inr (ok, (texts, front, last, n, spelled, each, ipv4, value)) ↦
-          inr (ok, (group ∷ texts, g ∷ front, last, n, is ∙ ap (λ r. lead ++ group ++ r) spelled, (first, each), ipv4, ap (λ gs. g ∷ gs) value))
+          inr (ok, (group ∷ texts, g ∷ front, last, n, rw spelled at is, (first, each), ipv4, ap (λ gs. g ∷ gs) value))
     ]
 from_std b lead text (g ∷ groups) (inr (last, octets, here, is, dots, value)) =
-    inr (here, ([], [], last, from_octets octets, is ∙ sym (append-nil (lead ++ last)), tt, IsDotted-ipv4 last octets dots, value ∙ two_groups last octets _ dots refl))
+    let ours = IsDotted-ipv4 last octets dots in
+    let spelled = is ∙ sym (append-nil (lead ++ last)) in
+    inr (here, ([], [], last, from_octets octets, spelled, tt, ours, value ∙ two_groups last octets _ dots refl))
 
 front_groups : (text groups : List ℕ) → std.IsGroups false text groups → AreGroups text groups
-front_groups text groups h = elim (from_std false [] text groups h) [
-  | inl (texts, spelled, each) ↦ record { texts = texts; spelled = spelled ∙ sym (joined_led texts); each = each }
-  | inr (never, more) ↦ cc
-]
+front_groups text groups h = grind (arith, from_std, joined_led)
 
 end_groups : (text groups : List ℕ) → std.IsGroups true text groups → AreGroupsAtEnd text groups
-end_groups text groups h = elim (from_std true [] text groups h) [
-  | inl (texts, spelled, each) ↦ inl (record { texts = texts; spelled = spelled ∙ sym (joined_led texts); each = each })
-  | inr (ok, (texts, front, last, n, spelled, each, ipv4, value)) ↦
-      inr (record {
-        texts = texts;
-        front = front;
-        last = last;
-        n = n;
-        spelled = spelled ∙ sym (joined_led (texts ++ last ∷ []));
-        each = each;
-        ipv4 = ipv4;
-        value = value;
-      })
-]
+end_groups text groups h = grind (arith, from_std, joined_led)
 
 -- an IPv6 text of std's is one of ours
 pub IsColonHex-groups : (text groups : List ℕ) → std.IsColonHex text groups → IsGroupsText text groups

@@ -1,6 +1,5 @@
 -- Digits at the front of a text, as std's readers take them.
-use Rattle.rpki_addr.proofs.Common.{suc, zero, Bool, List, None, Some, [], ap, append_assoc, arith, cond, decimal, drop, drop_at, eq-eqb, false, true, get_or, inl, inr, le-ltb, length, length-take-le, lit<, lit≤, lt-ltb, nat_lt, ne_eqb, option_and_then, option_map, refl, sym, take, true≢false, ℕ, ◌&&◌, ◌*◌, ◌++◌, ◌+◌, ◌-◌, ◌<◌, ◌==◌, ◌^◌, ◌∙◌, ◌∷◌, ◌≡◌, ◌≢◌, ◌≤◌, pow-le-pow_right, read_ipv4_sound, cases_lt, nat_tests, decimal_is_IsNumeral, digits_value-lt, none-some, same_Some, digit_value, digit_count, read_ipv4, read_ipv4_if, read_number, read_octet, read_segment, AllDigits, digits_value, with_octets}
-use Rattle.std.proofs.lemmas.Bool.{and_from, and_left, and_right}
+use Rattle.rpki_addr.proofs.Common.{suc, zero, Bool, List, None, Some, [], ap, append_assoc, arith, decimal, drop, drop_at, false, get_or, length, length-take-le, lit<, lit≤, option_map, refl, subst, take, ℕ, ◌*◌, ◌++◌, ◌+◌, ◌-◌, ◌<◌, ◌==◌, ◌∙◌, ◌∷◌, ◌≡◌, ◌≢◌, ◌≤◌, pow-le-pow_right, read_ipv4_sound, cases_lt, nat_tests, decimal_is_IsNumeral, digits_value-lt, none-some, same_Some, digit_value, digit_count, Read, read_ipv4, read_ipv4_if, read_number, read_octet, read_segment, AllDigits, digits_value, with_octets}
 use Rattle.std.proofs.lemmas.Fmt.{length-decimal-le}
 use Rattle.std.proofs.lemmas.Int.Digits.{digits_more, digits_value_more}
 use Rattle.std.proofs.lemmas.List.{get_or_past, take-append-drop, take_rest}
@@ -16,18 +15,24 @@ abbrev written : ℕ → List ℕ → ℕ → ℕ
 written radix s zero = 0
 written radix s (suc k) = written radix s k * radix + digit_value (get_or s k 0)
 
+-- so the first k bytes are digits that write n
+abbrev AreWritten : ℕ → List ℕ → ℕ → ℕ → Type 0
+AreWritten radix s k n = (k ≤ length s) × AllDigits radix (take k s) × (digits_value radix (take k s) ≡ n)
+
 digits_are : (radix : ℕ) (s : List ℕ) (k : ℕ) → radix ≤ 36 → AreDigits radix s k
-    → (k ≤ length s) × AllDigits radix (take k s) × (digits_value radix (take k s) ≡ written radix s k)
+    → AreWritten radix s k (written radix s k)
 digits_are radix s zero most all = (omega arith, tt, refl)
 digits_are radix s (suc k) most (before, small) =
     let (within, digits, value) = digits_are radix s k most before in
-    let here : k < length s = elim (cases_lt k (length s)) [
-      | inl less ↦ less
-      | inr past ↦ absurd (let none = rw (get_or_past s k 0 past) at small in omega (arith, most, none))
-    ] in
+    let here : k < length s = grind (arith, get_or_past, cases_lt) in
     let place : k + 1 ≡ suc k = omega arith in
-    let more : (k + 1 ≤ length s) × AllDigits radix (take (k + 1) s) × (digits_value radix (take (k + 1) s) ≡ written radix s k * radix + digit_value (get_or s k 0)) = (omega (arith, here), digits_more radix s k here digits small, digits_value_more radix s k here ∙ rw value refl) in
-    rw place at more
+    let number = digits_value_more radix s k here ∙ ap (λ n. n * radix + digit_value (get_or s k 0)) value in
+    subst (λ i. AreWritten radix s i (written radix s (suc k))) place
+    (omega (arith, here), digits_more radix s k here digits small, number)
+
+-- these k digits are read, and what is behind them is left
+abbrev Reads : (List ℕ → Read ℕ) → ℕ → List ℕ → ℕ → Type 0
+Reads read radix s k = read s ≡ Some (written radix s k, take (length s - k) (drop k s))
 
 -- no digit, no octet
 pub octet_none : (s : List ℕ) → 10 ≤ digit_value (get_or s 0 0) → None ≡ read_octet s
@@ -36,35 +41,28 @@ octet_none s stop = rw (read_number_empty 10 255 s stop) refl
 
 -- digits with no leading zero, up to 255
 octet_some : (s : List ℕ) (k : ℕ) → 0 < k → AreDigits 10 s k → 10 ≤ digit_value (get_or s k 0)
-    → (1 < k → digit_value (get_or s 0 0) ≢ 0) → written 10 s k ≤ 255
-    → read_octet s ≡ Some (written 10 s k, take (length s - k) (drop k s))
+    → (1 < k → digit_value (get_or s 0 0) ≢ 0) → written 10 s k ≤ 255 → Reads read_octet 10 s k
 unfolding read_octet
 octet_some s k some all stop other fits =
     let (within, digits, value) = digits_are 10 s k (lit≤ tt) all in
-    let alone : (nat_lt 1 k && (get_or s 0 0 == 48)) ≡ false = elim (cases_lt 1 k) [
-      | inl more ↦ and_right _ _ (ne_eqb (get_or s 0 0) 48 (λ is. other more (rw is refl)))
-      | inr one ↦ and_left _ _ (le-ltb 1 k one)
-    ] in
-    rw (take_rest s k, read_number_some_at 10 255 s k some within digits (omega (arith, value, fits)) stop, alone, value) refl
+    let read = read_number_some_at 10 255 s k some within digits (omega (arith, value, fits)) stop in
+    grind (arith, take_rest, read, nat_tests, other)
 
-pub octet_one : (s : List ℕ) → AreDigits 10 s 1 → 10 ≤ digit_value (get_or s 1 0)
-    → read_octet s ≡ Some (written 10 s 1, take (length s - 1) (drop 1 s))
+pub octet_one : (s : List ℕ) → AreDigits 10 s 1 → 10 ≤ digit_value (get_or s 1 0) → Reads read_octet 10 s 1
 octet_one s all stop = octet_some s 1 (lit< tt) all stop (λ more. omega arith) (omega (arith, all.1))
 
 pub octet_two : (s : List ℕ) → AreDigits 10 s 2 → 10 ≤ digit_value (get_or s 2 0) → digit_value (get_or s 0 0) ≢ 0
-    → read_octet s ≡ Some (written 10 s 2, take (length s - 2) (drop 2 s))
+    → Reads read_octet 10 s 2
 octet_two s all stop other = octet_some s 2 (lit< tt) all stop (λ more. other) (omega (arith, all.0.1, all.1))
 
 pub octet_three : (s : List ℕ) → AreDigits 10 s 3 → 10 ≤ digit_value (get_or s 3 0) → digit_value (get_or s 0 0) ≢ 0
-    → written 10 s 3 ≤ 255 → read_octet s ≡ Some (written 10 s 3, take (length s - 3) (drop 3 s))
+    → written 10 s 3 ≤ 255 → Reads read_octet 10 s 3
 octet_three s all stop other fits = octet_some s 3 (lit< tt) all stop (λ more. other) fits
 
 -- above 255
 large : (s : List ℕ) (k : ℕ) → AreDigits 10 s k → 255 < written 10 s k → None ≡ read_octet s
 unfolding read_octet
-large s k all over =
-    let (within, digits, value) = digits_are 10 s k (lit≤ tt) all in
-    rw (read_number_large_at 10 255 s k (lit≤ tt) digits (omega (arith, value, over))) refl
+large s k all over = grind (arith, digits_are, read_number_large_at)
 
 pub octet_large : (s : List ℕ) → AreDigits 10 s 3 → 255 < written 10 s 3 → None ≡ read_octet s
 octet_large s all over = large s 3 all over
@@ -75,23 +73,13 @@ octet_long s all other = large s 4 all (omega (arith, other))
 digits_counted : (radix : ℕ) (s : List ℕ) (k : ℕ) → radix ≤ 36 → AreDigits radix s k → k ≤ digit_count radix s
 digits_counted radix s k most all =
     let (within, digits, value) = digits_are radix s k most all in
-    omega (arith, length-take-le k s within, rw take-append-drop at (digit_count-append radix (take k s) (drop k s) digits))
-
--- where a test refuses a number, nothing is read
-refused : (test : ℕ × ℕ → Bool) (b : Bool) (n : ℕ × ℕ) (s : List ℕ) → test n ≡ true
-    → None
-    ≡ option_and_then {U = ℕ × List ℕ} (λ (n : ℕ × ℕ). cond (test n) None (Some (n.0, drop n.1 s)))
-    (cond b (Some n) None)
-refused test true n s e = rw e refl
-refused test false n s e = refl
+    let count = rw take-append-drop at (digit_count-append radix (take k s) (drop k s) digits) in
+    omega (arith, length-take-le k s within, count)
 
 -- a zero before another digit
 pub octet_zero : (s : List ℕ) → AreDigits 10 s 2 → digit_value (get_or s 0 0) ≡ 0 → None ≡ read_octet s
 unfolding read_octet read_number
-octet_zero s all first =
-    let zero_digit : get_or s 0 0 ≡ 48 = grind (arith, nat_tests) in
-    let more = lt-ltb 1 _ (digits_counted 10 s 2 (lit≤ tt) all) in
-    refused (λ n. nat_lt 1 n.1 && (get_or s 0 0 == 48)) _ _ s (and_from _ _ more (eq-eqb _ 48 zero_digit))
+octet_zero s all first = grind (arith, digits_counted 10 s 2 (lit≤ tt) all, nat_tests)
 
 -- what is read of an octet
 pub ruleset octet_read = (octet_none, octet_one, octet_two, octet_three, octet_large, octet_long, octet_zero)
@@ -102,36 +90,34 @@ unfolding read_segment
 group_none s stop = rw (read_number_empty 16 0xffff s stop) refl
 
 -- one to four of them
+group_fits : (ds : List ℕ) → AllDigits 16 ds → length ds ≤ 4 → digits_value 16 ds ≤ 0xffff
+group_fits ds digits few = grind (arith, digits_value-lt, pow-le-pow_right)
+
 group_some : (s : List ℕ) (k : ℕ) → 0 < k → k ≤ 4 → AreDigits 16 s k → 16 ≤ digit_value (get_or s k 0)
-    → read_segment s ≡ Some (written 16 s k, take (length s - k) (drop k s))
+    → Reads read_segment 16 s k
 unfolding read_segment
 group_some s k some few all stop =
     let (within, digits, value) = digits_are 16 s k (lit≤ tt) all in
-    let below = digits_value-lt 16 (take k s) digits in
-    let short : length (take k s) ≤ 4 = omega (arith, length-take-le k s within, few) in
-    let most : 16 ^ length (take k s) ≤ 16 ^ 4 = pow-le-pow_right (lit≤ tt) short in
-    rw (take_rest s k, read_number_some_at 16 0xffff s k some within digits (omega (arith, below, most)) stop, le-ltb 4 k few, value) refl
+    let fits = group_fits (take k s) digits (omega (arith, length-take-le k s within, few)) in
+    let read = read_number_some_at 16 0xffff s k some within digits fits stop in
+    grind (arith, take_rest, read, nat_tests)
 
-pub group_one : (s : List ℕ) → AreDigits 16 s 1 → 16 ≤ digit_value (get_or s 1 0)
-    → read_segment s ≡ Some (written 16 s 1, take (length s - 1) (drop 1 s))
+pub group_one : (s : List ℕ) → AreDigits 16 s 1 → 16 ≤ digit_value (get_or s 1 0) → Reads read_segment 16 s 1
 group_one s all stop = group_some s 1 (lit< tt) (lit≤ tt) all stop
 
-pub group_two : (s : List ℕ) → AreDigits 16 s 2 → 16 ≤ digit_value (get_or s 2 0)
-    → read_segment s ≡ Some (written 16 s 2, take (length s - 2) (drop 2 s))
+pub group_two : (s : List ℕ) → AreDigits 16 s 2 → 16 ≤ digit_value (get_or s 2 0) → Reads read_segment 16 s 2
 group_two s all stop = group_some s 2 (lit< tt) (lit≤ tt) all stop
 
-pub group_three : (s : List ℕ) → AreDigits 16 s 3 → 16 ≤ digit_value (get_or s 3 0)
-    → read_segment s ≡ Some (written 16 s 3, take (length s - 3) (drop 3 s))
+pub group_three : (s : List ℕ) → AreDigits 16 s 3 → 16 ≤ digit_value (get_or s 3 0) → Reads read_segment 16 s 3
 group_three s all stop = group_some s 3 (lit< tt) (lit≤ tt) all stop
 
-pub group_four : (s : List ℕ) → AreDigits 16 s 4 → 16 ≤ digit_value (get_or s 4 0)
-    → read_segment s ≡ Some (written 16 s 4, take (length s - 4) (drop 4 s))
+pub group_four : (s : List ℕ) → AreDigits 16 s 4 → 16 ≤ digit_value (get_or s 4 0) → Reads read_segment 16 s 4
 group_four s all stop = group_some s 4 (lit< tt) (lit≤ tt) all stop
 
 -- five or more
 pub group_long : (s : List ℕ) → AreDigits 16 s 5 → None ≡ read_segment s
 unfolding read_segment read_number
-group_long s all = refused (λ n. nat_lt 4 n.1) _ _ s (lt-ltb 4 _ (digits_counted 16 s 5 (lit≤ tt) all))
+group_long s all = grind (arith, digits_counted 16 s 5 (lit≤ tt) all, nat_tests)
 
 -- what is read of a group
 pub ruleset group_read = (group_none, group_one, group_two, group_three, group_four, group_long)
@@ -151,29 +137,16 @@ group_before_dot text p e =
     let spelled : front ++ p.1 ≡ decimal h.a ++ 46 ∷ rest = rw h.spelled (simp append_assoc) in
     let numeral = decimal_is_IsNumeral h.a (omega (arith, h.fit.0)) in
     let few = length-decimal-le 4 h.a (lit< tt) (omega (arith, h.fit.0)) (omega (arith, h.fit.0)) in
-    let digits : AllDigits 16 (decimal h.a) = all_wider (decimal h.a) numeral.0.1 in
-    let below = digits_value-lt 16 (decimal h.a) digits in
-    let most : 16 ^ length (decimal h.a) ≤ 16 ^ 4 = pow-le-pow_right (lit≤ tt) few in
-    let fits : digits_value 16 (decimal h.a) ≤ 0xffff = omega (arith, below, most) in
+    let digits = all_wider (decimal h.a) numeral.0.1 in
+    let fits = group_fits (decimal h.a) digits few in
     let read = read_number_some 16 0xffff (decimal h.a) (46 ∷ rest) (numeral.0.0, digits) fits (lit≤ tt) in
-    let left = drop_at (decimal h.a) (46 ∷ rest) _ refl in
-    (digits_value 16 (decimal h.a), rest, ap read_segment (split ∙ spelled) ∙ rw (read, le-ltb 4 _ few, left) refl)
+    (digits_value 16 (decimal h.a), rest, grind (arith, split, spelled, read, few, drop_at, nat_tests))
 
--- so where no group stands, or no dot behind it, there is no IPv4 text
-pub no_group : (text : List ℕ) → read_segment text ≡ None → read_ipv4 text ≡ None
-no_group text none = grind (arith, group_before_dot, none-some)
-
-pub no_dot_behind : (text : List ℕ) (v : ℕ) (rest : List ℕ) → read_segment text ≡ Some (v, rest) → get_or rest 0 0 ≢ 46
-    → read_ipv4 text ≡ None
-no_dot_behind text v rest group other = grind (arith, group_before_dot, same_Some)
-
--- and none is read, whether it fits or not
-pub ipv4_if_none : (fits : Bool) (text : List ℕ) → read_ipv4 text ≡ None
+-- so where no group stands, or no dot behind it, there is no IPv4 text, whether it fits or not
+pub no_group : (fits : Bool) (text : List ℕ) → None ≡ read_segment text
     → None ≡ option_map with_octets (read_ipv4_if fits text)
-ipv4_if_none fits text none = grind (arith)
+no_group fits text none = grind (arith, group_before_dot, none-some)
 
--- so with no dot behind the group there is none
 pub no_last_two : (fits : Bool) (text behind : List ℕ) (v : ℕ) → read_segment text ≡ Some (v, behind)
     → (get_or behind 0 0 == 46) ≡ false → None ≡ option_map with_octets (read_ipv4_if fits text)
-no_last_two fits text behind v group other =
-    ipv4_if_none fits text (no_dot_behind text v behind group (λ is. true≢false (sym (eq-eqb _ 46 is) ∙ other)))
+no_last_two fits text behind v group other = grind (arith, group_before_dot, same_Some)

@@ -1,35 +1,35 @@
 -- What the proofs of this crate use of std, of the crates below and of its own definitions, passed on by one name.
-pub use Rattle.std.proofs.Common.{Bool, Bor, Err, IsTrue, List, None, Ok, Result, Some, [], ap, append-nil, append_assoc, ap₂, arith, bit_and, bit_or, codes, cond, decimal, drop, drop_at, eq-eqb, false, flat_map, get_or, inl, inr, le-ltb, length, length-append, length-take-le, lit<, lit≤, lt-ltb, map, nat_eq, nat_lt, ne_eqb, option_and_then, option_map, refl, replicate, rules, subst, suc, sym, take, true, true≢false, zero, ℕ, ◌%◌, ◌&&◌, ◌*◌, ◌++◌, ◌+◌, ◌-◌, ◌/◌, ◌<◌, ◌==◌, ◌^◌, ◌∙◌, ◌∷◌, ◌≡◌, ◌≢◌, ◌≤◌, ◌⊎◌}
+pub use Rattle.std.proofs.Common.{Bool, Bor, Err, IsTrue, List, None, Ok, Result, Some, [], ap, append-nil, append_assoc, ap₂, arith, bit_and, bit_or, codes, decimal, drop, drop_at, false, flat_map, get_or, inl, inr, le-ltb, length, length-append, length-take-le, lit<, lit≤, lt-ltb, map, nat_eq, nat_lt, option_map, refl, replicate, rules, subst, suc, sym, take, true, zero, ℕ, ◌%◌, ◌&&◌, ◌*◌, ◌++◌, ◌+◌, ◌-◌, ◌/◌, ◌<◌, ◌==◌, ◌^◌, ◌∙◌, ◌∷◌, ◌≡◌, ◌≢◌, ◌≤◌, ◌⊎◌}
 pub use Rattle.std.proofs.Math.Nat.{div-div-eq-div-mul, mul-one, mul_assoc, pow-le-pow_right, pow-succ', pow-zero, two-pow-succ}
 pub use Rattle.std.proofs.NetLemmas.Alphabet.{All-ipv4_text, IsDigitOrDot}
 pub use Rattle.std.proofs.NetLemmas.Ipv4.{read_ipv4_complete, read_ipv4_sound}
 pub use Rattle.std.proofs.NetLemmas.Ipv6.{IsDotted-not_colon_hex, read_ipv6_complete, read_ipv6_sound}
 pub use Rattle.std.proofs.NetLemmas.Options.{same_parts}
 pub use Rattle.std.proofs.NetLemmas.Texts.{AllSegments, AllSegments-drop, IsColonHex-ipv6_text}
-pub use Rattle.std.proofs.lemmas.Bool.{and_parts, cases_eq, cases_lt, cases_order, cond_both, eqb-true, lt-leb, ltb-true}
+pub use Rattle.std.proofs.lemmas.Bool.{and_parts, cases_eq, cases_lt, cases_order, cond_both, eqb-true, lt-leb}
 pub use Rattle.std.proofs.lemmas.Bool.Decides.{nat_tests}
-pub use Rattle.std.proofs.lemmas.Fmt.{decimal_digit, decimal_is_IsNumeral, decimal_step}
+pub use Rattle.std.proofs.lemmas.Fmt.{decimal_is_IsNumeral}
 pub use Rattle.std.proofs.lemmas.Int.Digits.{digits_value-lt, number_after_append, number_push}
 pub use Rattle.std.proofs.lemmas.List.{append_cancel_left, length-replicate}
 pub use Rattle.std.proofs.lemmas.List.Elements.{All-append, All-from_recursion, All-nil, All-weaker, Contains-append_left, Contains-append_right}
-pub use Rattle.std.proofs.lemmas.Nat.{and_mask, div_below, mod-mul-add, mod_below, mul-add-lt, or_lt, pow-add, pow_below, pow_pos, shr_le, shr_split}
+pub use Rattle.std.proofs.lemmas.Nat.{and_mask, div_below, mod_below, mul-add-lt, or_lt, pow-add, pow_below, pow_pos, shr_le, shr_split}
 pub use Rattle.std.proofs.lemmas.Option.{none-some, same_Some}
 pub use Rattle.std.proofs.lemmas.Result.{err_from_is_err_and}
 pub use Rattle.std.specs.Char.{digit_value}
 pub use Rattle.std.specs.Int.{IsInRange}
 pub use Rattle.std.specs.Int.Digits.{AllBelowBase, number_from_digits_after}
-pub use Rattle.std.specs.List.{All, AllByRecursion, Contains}
+pub use Rattle.std.specs.List.{All, Contains}
 pub use Rattle.std.specs.Net.Addr.{segments_of}
 pub use Rattle.std.specs.Net.Grammar.{IsColonHex, IsDotted, IsGroupsAfter}
-pub use Rattle.std.specs.Net.Reader.{Read, Segments, after, digit_count, read_ipv4, read_ipv4_if, read_separator, whole_value}
+pub use Rattle.std.specs.Net.Reader.{Read, digit_count, read_ipv4, read_ipv4_if, read_separator, whole_value}
 unfoldable pub use Rattle.std.specs.Net.Reader.{read_ipv6, read_number, read_octet, read_segment, read_segments}
 pub use Rattle.std.specs.Net.Text.{dotted_text, groups_text, longest_zero_run, zero_run}
 unfoldable pub use Rattle.std.specs.Net.Text.{hex, hex_groups_text}
 pub use Rattle.std.specs.Str.Parse.{AllDigits, digits_value}
 pub use Rattle.rpki_text.proofs.DigitLemmas.{below_power, last_digit_below, last_digits_below, length-last_digits, next_below, number-last_digits}
-pub use Rattle.rpki_text.specs.Digits.{from_groups, from_octets, groups_of, last_digits, octets_of}
+pub use Rattle.rpki_text.specs.Digits.{from_groups, from_octets, groups_of, octets_of}
 pub use Rattle.rpki_addr.specs.AddrText.{IsFirstOf}
-pub use Rattle.rpki_addr.specs.AddressReading.{numbered, with_number, with_octets}
+pub use Rattle.rpki_addr.specs.AddressReading.{numbered, with_octets}
 unfoldable pub use Rattle.rpki_addr.specs.AddressReading.{hex_value}
 pub use Rattle.rpki_addr.specs.AddressText.{AreGroups, AreGroupsAtEnd, IsGroupText, IsGroupsText, IsIpText, IsIpv4Text, IsIpv6Text, dotted}
 pub use Rattle.rpki_addr.specs.GroupsRead.{IsSoFar, parts}

@@ -9,7 +9,6 @@ pub mod Common
 pub mod GroupReading
 pub mod Masks
 pub mod PrefixNumbers
-pub mod PrintLemmas
 pub mod PrintedAddressLemmas
 pub mod Tables
 pub mod WrittenBytes

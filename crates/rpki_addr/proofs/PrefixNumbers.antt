@@ -1,5 +1,6 @@
 -- On the numbers of prefixes.
-use Rattle.rpki_addr.proofs.Common.{arith, ℕ, ◌*◌, ◌+◌, ◌-◌, ◌/◌, ◌<◌, ◌^◌, ◌≡◌, ◌≤◌, pow-le-pow_right, two-pow-succ, cases_order, mod-mul-add, mod_below, pow_below, pow_pos, shr_split}
+use Rattle.rpki_addr.proofs.Common.{arith, ℕ, ◌*◌, ◌<◌, ◌^◌, ◌≡◌, ◌≤◌, pow-le-pow_right, two-pow-succ, cases_order, mod_below, pow_below, pow_pos, shr_split}
+use Rattle.std.proofs.Math.Nat.{mul-mod_left}
 use Rattle.rpki_addr.specs.Bits.{cleared}
 use Rattle.rpki_addr.specs.Prefixes.{PrefixValue, IsPrefix, IsIn}
 
@@ -13,9 +14,7 @@ power_is h k low high = grind (arith, cases_order, pow-le-pow_right, pow_below, 
 
 -- clearing the bits behind a length gives a prefix of that length
 pub cleared_prefix : (w n len : ℕ) → len ≤ w → n < 2 ^ w → IsPrefix w (record { first = cleared w n len; len = len })
-cleared_prefix w n len short below =
-    let some : 0 < 2 ^ (w - len) = pow_pos (w - len) in
-    record { short = short; aligned = (let e : n / 2 ^ (w - len) * 2 ^ (w - len) + 0 ≡ n / 2 ^ (w - len) * 2 ^ (w - len) = omega arith in rw e at (mod-mul-add (n / 2 ^ (w - len)) (2 ^ (w - len)) 0 some)); below = omega (arith, below) }
+cleared_prefix w n len short below = grind (arith, mul-mod_left, pow_pos)
 
 -- which holds the number
 pub cleared_holds : (w n len : ℕ) → IsIn w (record { first = cleared w n len; len = len }) n

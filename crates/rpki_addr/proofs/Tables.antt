@@ -12,4 +12,7 @@ unfolding agrees_below
 agrees_at table f zero h b less = absurd (omega (arith, less))
 agrees_at table f (suc n) h b less =
     let both = and_parts _ _ h in
-    elim (cases_eq b n) [ inl same ↦ rw same (eqb-true _ _ both.0) | inr other ↦ agrees_at table f n both.1 b (omega (arith, less, other)) ]
+    elim (cases_eq b n) [
+      | inl same ↦ rw same (eqb-true _ _ both.0)
+      | inr other ↦ agrees_at table f n both.1 b (omega (arith, less, other))
+    ]

@@ -7,6 +7,7 @@ use super::read::{take_ipv4, take_ipv6};
 use super::{Ipv4Addr, Ipv6Addr};
 
 /// The IPv4 address whose text stands at the front of a text, and what stands behind that.
+#[tactic(auto, using(crate::proofs::AddressFronts::ipv4_reader, crate::proofs::AddressFronts::found))]
 pub fn ipv4_front(text: &[u8]) -> Option<(Ipv4Addr, &[u8])>
     ensures found { IfSome result (λ found. IsAtFront IsIpv4Text text.now found.0 found.1.now) }
     // One that no digit follows is found.
@@ -20,6 +21,7 @@ pub fn ipv4_front(text: &[u8]) -> Option<(Ipv4Addr, &[u8])>
 }
 
 /// The IPv6 address whose text stands at the front of a text, and what stands behind that.
+#[tactic(auto, using(crate::proofs::AddressFronts::ipv6_reader, crate::proofs::AddressFronts::found))]
 pub fn ipv6_front(text: &[u8]) -> Option<(Ipv6Addr, &[u8])>
     ensures found { IfSome result (λ found. IsAtFront IsIpv6Text text.now found.0 found.1.now) }
     // One that neither a hexadecimal digit nor a dot nor a colon follows is found.

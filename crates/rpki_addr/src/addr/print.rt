@@ -47,7 +47,7 @@ fn put_all(out: &mut [u8], at: usize, bytes: &[u8]) -> usize
 }
 
 /// Puts an octet in decimal.
-#[tactic(auto, using(crate::proofs::PrintLemmas::decimal_two, crate::proofs::PrintLemmas::decimal_three, std::proofs::lemmas::Fmt::decimal_digit, std::proofs::lemmas::Grind::common_steps))]
+#[tactic(auto, using(std::proofs::lemmas::Fmt::decimal_step, std::proofs::lemmas::Fmt::decimal_digit, std::proofs::lemmas::Grind::common_steps))]
 pub fn put_octet(out: &mut [u8], at: usize, octet: u8) -> usize
     requires { at + 3 ≤ length out.old }
     ensures text { take result out.new ≡ take at out.old ++ decimal octet }
@@ -66,7 +66,7 @@ pub fn put_octet(out: &mut [u8], at: usize, octet: u8) -> usize
 }
 
 /// Puts four octets in decimal with dots between them.
-#[tactic(auto, using(crate::proofs::PrintLemmas::dotted_octets, std::proofs::lemmas::Grind::common_steps))]
+#[tactic(auto, using(crate::proofs::AddressLemmas::dotted_octets, std::proofs::lemmas::Grind::common_steps))]
 pub(crate) fn put_ipv4(out: &mut [u8], at: usize, octets: [u8; 4]) -> usize
     requires { at + 15 ≤ length out.old }
     ensures text { take result out.new ≡ take at out.old ++ dotted octets }
@@ -178,7 +178,7 @@ fn longest_run(groups: &[u16]) -> ZeroRun
 }
 
 /// Puts groups, the longest run of two or more zeros as two colons (RFC 5952, 4.2).
-#[tactic(auto, using(crate::proofs::PrintLemmas::hex_groups_plain, crate::proofs::PrintLemmas::hex_groups_shortened, std::proofs::lemmas::Grind::common_steps))]
+#[tactic(auto, using(std::proofs::lemmas::Bool::Decides::nat_tests, std::proofs::lemmas::Grind::common_steps), unfolding(std::specs::Net::Text::hex_groups_text))]
 fn put_shortened(out: &mut [u8], at: usize, groups: &[u16]) -> usize
     requires { at + 5 * length groups.now ≤ length out.old }
     ensures text { take result out.new ≡ take at out.old ++ hex_groups_text groups.now }

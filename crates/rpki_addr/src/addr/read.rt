@@ -214,7 +214,7 @@ impl<'a> Groups<'a> {
 
     /// The groups and the next one, or the next two by an IPv4 text; None where none follows, or none has room.
     #[inline(always)]
-    #[tactic(auto, using(crate::proofs::GroupReading::one_fits, crate::proofs::GroupReading::two_fit))]
+    #[tactic(auto, using(crate::proofs::GroupReading::one_fits, crate::proofs::GroupReading::two_fit, crate::proofs::GroupReading::with_ipv4, crate::proofs::GroupReading::with_group))]
     fn longer(&self, room: usize) -> Option<Groups<'a>>
         requires within { self.now.count ≤ room }
         requires small { self.now.bits < 0x10000 ^ self.now.count }

@@ -1,6 +1,5 @@
 -- The address that is read, or none.
 use Rattle.rpki_addr.proofs.Common.{Err, Ok, refl, rules, ◌≡◌}
-use Rattle.rpki_addr.proofs.AddressFronts.{ipv4_reader, whole_some, whole_none}
 use Rattle.rpki_addr.proofs.AddressReads.{reads_ipv4}
 use Rattle.rpki_addr.specs.declared.addr.AddrParseError.TheVariants.{Ipv4}
 use Rattle.rpki_addr.proofs.addr.text.Ipv4AddrFromStr.from_str.Goals as goal
@@ -8,9 +7,9 @@ use Rattle.rpki_addr.proofs.addr.text.Ipv4AddrFromStr.from_str.Goals as goal
 pub returns-in-Some : goal.returns-in-Some
 returns-in-Some c =
     let bytes : c.as_bytes.result.now ≡ c.args.text.now = search rules in
-    reads_ipv4 c.args.text.now (Ok _) (whole_some ipv4_reader c.args.text.now _ (rw bytes at c.in-Some.ensures))
+    reads_ipv4 c.args.text.now (Ok _) (rw bytes at c.in-Some.ensures)
 
 pub returns-in-None : goal.returns-in-None
 returns-in-None c =
     let bytes : c.as_bytes.result.now ≡ c.args.text.now = search rules in
-    reads_ipv4 c.args.text.now (Err Ipv4) (refl, whole_none ipv4_reader c.args.text.now (rw bytes at c.in-None.ensures))
+    reads_ipv4 c.args.text.now (Err Ipv4) (refl, rw bytes at c.in-None.ensures)

@@ -17,7 +17,8 @@ IsAsAnd-length h = grind (arith, length_lower)
 
 -- what follows it is one text
 pub IsAsAnd-rest : (text rest other : List ℕ) → IsAsAnd text rest → IsAsAnd text other → rest ≡ other
-IsAsAnd-rest text rest other h k = same_rest h.letters k.letters rest other (IsAsAnd-length h ∙ sym (IsAsAnd-length k)) (sym h.split ∙ k.split)
+IsAsAnd-rest text rest other h k =
+    grind (arith, same_rest h.letters k.letters rest other, IsAsAnd-length h, IsAsAnd-length k)
 
 -- no number text begins with `a` in either case
 first_of_number : (b : ℕ) (more : List ℕ) (n : ℕ) → IsNumberText (2 ^ 32 - 1) (b ∷ more) n → to_ascii_lowercase b ≡ 97
@@ -34,11 +35,7 @@ as_letters_first (b ∷ letters) rest e = (b, letters ++ rest, refl, cc)
 IsAsAnd-no_number : (text rest : List ℕ) (n : ℕ) → IsAsAnd text rest → IsNumberText (2 ^ 32 - 1) text n → ⊥
 IsAsAnd-no_number text rest n h k =
     let (b, more, split, letter) = as_letters_first h.letters rest h.lower in
-    first_of_number b more n (subst (λ t. IsNumberText (2 ^ 32 - 1) t n) (h.split ∙ split) k) letter
-
--- a number behind `as` is the text's
-to_text : (text rest : List ℕ) (n : ℕ) → IsAfterAs text rest → IsNumberText (2 ^ 32 - 1) rest n → IsAsnText text n
-to_text text rest n h k = grind (arith)
+    grind (arith, first_of_number)
 
 -- what follows the optional `as` is one text
 IsAfterAs-one : (text rest other : List ℕ) → IsAfterAs text rest → IsAfterAs text other → rest ≡ other
@@ -59,8 +56,7 @@ digits_after text n k = elim k.prefix [
 
 -- so its number stands there
 from_text : (text rest : List ℕ) (n : ℕ) → IsAfterAs text rest → IsAsnText text n → IsNumberText (2 ^ 32 - 1) rest n
-from_text text rest n after k =
-    subst (λ t. IsNumberText (2 ^ 32 - 1) t n) (IsAfterAs-one text k.digits rest (digits_after text n k) after) k.number
+from_text text rest n after k = grind (arith, digits_after text n k, IsAfterAs-one text k.digits rest)
 
 -- what is printed of an AS number writes it
 pub IsAsnText-asn_text : (n : ℕ) → n < 2 ^ 32 → IsAsnText (asn_text n) n
@@ -88,16 +84,15 @@ reads_err text rest e after none =
 
 -- a text of fewer than two bytes doesn't begin with `as`
 pub too_short : (text : List ℕ) → length text < 2 → IsAfterAs text text
-too_short text short = inr (refl, λ other h. omega (arith, IsAsAnd-length h, ap length h.split, length-append h.letters other))
+too_short text short = inr (refl, λ other h. grind (arith, IsAsAnd-length h, length-append))
 
 -- nor does one whose first two bytes are others
 pub no_letters : (text : List ℕ) → ¬ (str_to_ascii_lowercase (take 2 text) ≡ codes "as") → IsAfterAs text text
 no_letters text other_letters = inr (
   refl,
-  λ other h. other_letters (
-      let two = ap (λ n. take n text) (sym (IsAsAnd-length h)) in
-      let front = ap (take (length h.letters)) h.split ∙ take-append_seam h.letters other in
-      ap str_to_ascii_lowercase (two ∙ front) ∙ h.lower),
+  λ other h.
+      let front = take-append_seam h.letters other in
+      other_letters (rw (h.split, ← IsAsAnd-length h, front) h.lower),
 )
 
 -- a text writes at most one AS number
@@ -130,4 +125,4 @@ reads_number text n h = record {
 -- and so is one that stands behind the optional `as`
 pub reads_ok : (text rest : List ℕ) (n : ℕ) → IsAfterAs text rest → IsNumberText (2 ^ 32 - 1) rest n
     → ReadsAsn text (Ok n)
-reads_ok text rest n after h = reads_number text n (to_text text rest n after h)
+reads_ok text rest n after h = reads_number text n (grind arith)

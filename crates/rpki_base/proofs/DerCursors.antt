@@ -1,17 +1,11 @@
 -- From the reading to the grammar, for calls that take memory, or that look at the tag first.
-use Rattle.rpki_base.proofs.Common.{List, Ok, Option, Result, Some, arith, length, ℕ, ◌++◌, ◌<◌, ◌≡◌, length-append, none_by, reads_optional_by, ok_is, ok_or_err, IsBytes, Refines, IsReading, optional, ReadsOptional, Takes, left, Cursor, DerError, OrMemory, if_tagged, ReadsOrMemory, ReadsTagged, TakesOrMemory, TakesSaidOrMemory, Grammar, Reading}
+use Rattle.rpki_base.proofs.Common.{List, Ok, Option, Result, Some, arith, length, ℕ, ◌++◌, ◌<◌, ◌≡◌, none_by, reads_optional_by, IsBytes, Refines, IsReading, optional, ReadsOptional, Takes, left, Cursor, DerError, OrMemory, if_tagged, ReadsOrMemory, ReadsTagged, TakesOrMemory, TakesSaidOrMemory, Grammar, Reading, ◌∷◌, []}
 
 -- a take that may want memory
 pub reads_or_memory_by : {X Y : Type 0} (G : Grammar Y) (reading : Reading Y) (view : X → Y) (old new : Cursor)
     (result : Result X (OrMemory DerError)) → IsReading G reading → IsBytes (left old)
     → TakesOrMemory view old new result reading → ReadsOrMemory G view old new result
 reads_or_memory_by G reading view old new result is fits took = grind (arith, none_by)
-
--- a take of what is written
-pub value_back : {X : Type 0} (G : Grammar X) (reading : Reading X) (old new : Cursor) (result : Result X DerError)
-    → IsReading G reading → Takes (λ x. x) old new result reading → (front : List ℕ) (x : X) (rest : List ℕ) → G front x
-    → left old ≡ front ++ rest → (result ≡ Ok x) × (left new ≡ rest)
-value_back G reading old new result is took front x rest g at = grind (arith, ok_is, ok_or_err)
 
 -- a take that answers None at the end, of values as they are
 pub reads_optional_value_by : {X : Type 0} (G : Grammar X) (reading : Reading X) (old new : Cursor)
@@ -32,15 +26,10 @@ pub reads_said_by : {X Y : Type 0} (G : Grammar Y) (C : Y → X → Type 0) (rea
     → TakesSaidOrMemory C old new result reading → ReadsOrMemory (Refines G C) (λ x. x) old new result
 reads_said_by G C reading old new result is fits h = grind (arith, none_by)
 
--- what a reading finds, a take finds that answers None at the end
-optional_again : {X : Type 0} (reading : Reading X) (bytes : List ℕ) (x : X) (rest : List ℕ) → 0 < length bytes
-    → reading bytes ≡ Ok (x, rest) → optional reading bytes ≡ Ok (Some x, rest)
-unfolding optional
-optional_again reading bytes x rest some e = grind (arith)
-
--- so such a take gives the value that stands there, and then stands behind it
+-- one that answers None at the end gives the value that stands there, and then stands behind it
 pub optional_back : {X : Type 0} (reading : Reading X) (old new : Cursor) (result : Result (Option X) DerError)
     → Takes (λ x. x) old new result (optional reading) → (front rest : List ℕ) (x : X) → 0 < length front
     → left old ≡ front ++ rest → reading (front ++ rest) ≡ Ok (x, rest) → (result ≡ Ok (Some x)) × (left new ≡ rest)
-optional_back reading old new result took front rest x some at read =
-    grind (arith, length-append, ok_is, ok_or_err, optional_again)
+unfolding optional
+optional_back reading old new result took [] rest x some at read = absurd (omega arith)
+optional_back reading old new result took (b ∷ front) rest x some at read = grind arith

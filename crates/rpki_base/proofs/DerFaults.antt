@@ -1,6 +1,7 @@
 -- Which faults readings name: those of their layer and of the layers below it, whose numbers are no greater. So a fault
 -- of a layer is named exactly where that layer finds it.
-use Rattle.rpki_base.proofs.Common.{Bool, Err, List, Ok, Result, [], arith, cond, eqb, false, length, refl, subst, suc, sym, true, zero, ℕ, ◌<◌, ◌↔◌, ◌∷◌, ◌≡◌, ◌≢◌, ◌≤◌, eqb-true, ne_eqb, Tlv, bits, each_from, ended, length_at, long_length_at, nothing, refined, tagged_at, unsigned, value_at, ◌>>=◌, DerError, BadTag, as_number_at, BeginsWithTwo, BeginsWithValue, by_tag, enclosed_at, only, pair_in, values_from, values_of, Reading}
+use Rattle.rpki_base.proofs.Common.{Bool, Err, List, Ok, Result, [], arith, cond, length, subst, suc, true, zero, ℕ, ◌<◌, ◌↔◌, ◌∷◌, ◌≡◌, ◌≢◌, ◌≤◌, eqb-true, ne_eqb, Tlv, bits, each_from, ended, length_at, long_length_at, nothing, refined, tagged_at, unsigned, value_at, ◌>>=◌, DerError, as_number_at, BeginsWithTwo, BeginsWithValue, by_tag, enclosed_at, only, pair_in, values_from, values_of, Reading, eq-eqb}
+use Rattle.std.specs.Prelude.{◌⊎◌}
 use Rattle.std.proofs.lemmas.List.{length-drop}
 use Rattle.rpki_der.specs.Faults.{fault_number}
 
@@ -49,18 +50,16 @@ pub header_names : (n tag : ℕ) → 3 ≤ n → (bytes : List ℕ) → NamesTo 
 header_names n tag more bytes = names_more 3 n (tagged_at tag bytes) more (tagged_names tag bytes)
 
 -- behind a value fewer octets are left
-length_shorter : (bytes : List ℕ) (len : ℕ × List ℕ) → length_at bytes ≡ Ok len → length len.1 ≤ length bytes
-unfolding length_at long_length_at
-length_shorter bytes len is = grind (arith, length-drop)
-
-value_shorter : (bytes : List ℕ) (v : Tlv × List ℕ) → value_at bytes ≡ Ok v → length v.1 < length bytes
-unfolding value_at
-value_shorter bytes v is = grind (arith, length-drop, length_shorter)
-
 pub tagged_shorter : (tag : ℕ) (bytes : List ℕ) (value : List ℕ × List ℕ) → tagged_at tag bytes ≡ Ok value
     → length value.1 < length bytes
-unfolding tagged_at
-tagged_shorter tag bytes value is = grind (arith, value_shorter)
+unfolding tagged_at value_at length_at long_length_at
+tagged_shorter tag bytes value is = grind (arith, length-drop)
+
+-- also behind one whose content was looked at
+pub looked_shorter : {X : Type 0} (tag : ℕ) (check : List ℕ → Result X DerError) (bytes : List ℕ) (x : X × List ℕ)
+    → refined (tagged_at tag) check bytes ≡ Ok x → length x.1 < length bytes
+unfolding refined
+looked_shorter tag check bytes x is = grind (arith, tagged_shorter)
 
 pub unsigned_names : (content : List ℕ) → NamesTo 4 (unsigned content)
 unfolding unsigned
@@ -92,16 +91,14 @@ pub pair_names : {X Y : Type 0} (n : ℕ) (reading : Reading X) (check : X → X
     → ((bytes : List ℕ) → NamesTo n (reading bytes)) → ((first second : X) → NamesTo n (check first second))
     → (content : List ℕ) → NamesTo n (pair_in reading check content)
 unfolding pair_in
-pair_names n reading check above reads checks content = search (arith, bind_names, names_more, ended_names, reads, checks)
-
-only_names : {X : Type 0} (n : ℕ) (reading : Reading X) → 7 ≤ n → ((bytes : List ℕ) → NamesTo n (reading bytes))
-    → (content : List ℕ) → NamesTo n (only reading content)
-unfolding only
-only_names n reading above names content = search (arith, bind_names, names_more, ended_names, names)
+pair_names n reading check above reads checks content =
+    search (arith, bind_names, names_more, ended_names, reads, checks)
 
 pub enclosed_names : {X : Type 0} (n tag : ℕ) (reading : Reading X) → 7 ≤ n
     → ((bytes : List ℕ) → NamesTo n (reading bytes)) → (bytes : List ℕ) → NamesTo n (enclosed_at tag reading bytes)
-enclosed_names n tag reading above names = refined_names n (tagged_at tag) (only reading) (header_names n tag (omega arith)) (only_names n reading above names)
+unfolding refined only
+enclosed_names n tag reading above names bytes =
+    search (arith, header_names, bind_names, names_more, ended_names, names)
 
 pub each_names : {S X : Type 0} (n : ℕ) (next : S → X → S) (reading : S → Reading X) → 1 ≤ n
     → ((state : S) (bytes : List ℕ) → NamesTo n (reading state bytes)) → (steps : ℕ) (state : S) (bytes : List ℕ)
@@ -109,7 +106,8 @@ pub each_names : {S X : Type 0} (n : ℕ) (next : S → X → S) (reading : S �
 unfolding each_from
 each_names n next reading above reads steps state [] = tt
 each_names n next reading above reads zero state (b ∷ bytes) = above
-each_names n next reading above reads (suc steps) state (b ∷ bytes) = search (bind_names, reads, each_names n next reading above reads steps)
+each_names n next reading above reads (suc steps) state (b ∷ bytes) =
+    search (bind_names, reads, each_names n next reading above reads steps)
 
 pub values_names : {X : Type 0} (n : ℕ) (reading : Reading X) → 1 ≤ n → ((bytes : List ℕ) → NamesTo n (reading bytes))
     → (content : List ℕ) → NamesTo n (values_of reading content)
@@ -122,6 +120,11 @@ values_names n reading above reads content = search (each_names)
 pub bind_fails : {A B : Type 0} (r : Result A DerError) (f : A → Result B DerError) (e : DerError) → (r ≡ Err e → ⊥)
     → (r >>= f) ≡ Err e → (x : A) × (r ≡ Ok x) × (f x ≡ Err e)
 bind_fails r f e never is = grind (arith, never)
+
+-- a fault of two steps is that of the one or of the other
+pub bind_err : {A B : Type 0} (r : Result A DerError) (f : A → Result B DerError) (e : DerError) → (r >>= f) ≡ Err e
+    → (r ≡ Err e) ⊎ ((x : A) × (r ≡ Ok x) × (f x ≡ Err e))
+bind_err r f e is = grind arith
 
 -- the steps behind can't name it, so this one does
 pub first_fails : {A B : Type 0} (r : Result A DerError) (f : A → Result B DerError) (e : DerError)
@@ -151,17 +154,11 @@ pub pair_fails : {X Y : Type 0} (reading : Reading X) (check : X → X → Resul
 unfolding pair_in
 pair_fails reading check C e above never same content = (
   (λ is.
-      let a = bind_fails (reading content) _ e (never content) is in
-      let b = bind_fails (reading a.0.1) _ e (never a.0.1) a.2 in
-      (a.0, b.0, a.1, b.1, (same a.0.0 b.0.0).0 (first_fails (check a.0.0 b.0.0) _ e (λ y. ended_fails y b.0.1 e above) b.2))),
-  (λ (first, second, one, two, c). let fails = (same first.0 second.0).1 c in rw (one, two, fails) refl),
+      let (a, read, more) = bind_fails (reading content) _ e (never content) is in
+      let (b, also, fails) = bind_fails (reading a.1) _ e (never a.1) more in
+      (a, b, read, also, grind (arith, same a.0 b.0, first_fails, ended_fails))),
+  λ (first, second, one, two, c). grind (arith, same first.0 second.0),
 )
-
--- the one value of a content
-pub only_fails : {X : Type 0} (reading : Reading X) (e : DerError) → 7 < fault_number e → (content : List ℕ)
-    → (only reading content ≡ Err e) ↔ (reading content ≡ Err e)
-unfolding only
-only_fails reading e above content = grind (arith, ended_fails, first_fails)
 
 -- a content of a tag
 pub tagged_fails : {X : Type 0} (tag : ℕ) (check : List ℕ → Result X DerError) (P : List ℕ → Type 0) (e : DerError)
@@ -174,37 +171,30 @@ tagged_fails tag check P e above same bytes = grind (arith, bind_fails, mapped_f
 pub enclosed_fails : {X : Type 0} (tag : ℕ) (reading : Reading X) (P : List ℕ → Type 0) (e : DerError)
     → 7 < fault_number e → ((content : List ℕ) → (reading content ≡ Err e) ↔ P content) → (bytes : List ℕ)
     → (enclosed_at tag reading bytes ≡ Err e) ↔ BeginsWithValue tag P bytes
-enclosed_fails tag reading P e above same = tagged_fails tag (only reading) P e (omega arith) (λ content. (
-  (λ is. (same content).0 ((only_fails reading e above content).0 is)),
-  (λ p. (only_fails reading e above content).1 ((same content).1 p)),
-))
+unfolding only
+enclosed_fails tag reading P e above same =
+    tagged_fails tag _ P e (omega arith) (λ content. grind (arith, ended_fails, first_fails, same content))
 
-tagged_value : (tag : ℕ) (bytes : List ℕ) (v : List ℕ × List ℕ) → tagged_at tag bytes ≡ Ok v
-    → value_at bytes ≡ Ok (record { tag = tag; content = v.0 }, v.1)
-unfolding tagged_at
-tagged_value tag bytes v is = grind (arith, eqb-true)
+-- a value of two tags, where the fault isn't one of the other tag's content
+by_tag_fails : {X : Type 0} (tag : ℕ) (one two : List ℕ → Result X DerError) (e : DerError) (v : Tlv) → tag ≢ 48
+    → 3 < fault_number e → ((content : List ℕ) → one content ≡ Err e → ⊥)
+    → (by_tag tag one two v ≡ Err e) ↔ ((v.tag ≡ 48) × (two v.content ≡ Err e))
+unfolding by_tag
+by_tag_fails tag one two e v apart above never = grind (arith, never, eq-eqb, eqb-true, ne_eqb)
 
--- a SEQUENCE, where the fault isn't one of the other tag's content
+-- so it is one of a SEQUENCE
 pub sequence_fails : {X : Type 0} (tag : ℕ) (one two : List ℕ → Result X DerError) (P : List ℕ → Type 0) (e : DerError)
     → tag ≢ 48 → 3 < fault_number e → ((content : List ℕ) → one content ≡ Err e → ⊥)
     → ((content : List ℕ) → (two content ≡ Err e) ↔ P content) → (bytes : List ℕ)
     → (refined value_at (by_tag tag one two) bytes ≡ Err e) ↔ BeginsWithValue 48 P bytes
-unfolding refined by_tag tagged_at
-sequence_fails {X} tag one two P e apart above never same bytes = (
+unfolding refined tagged_at
+sequence_fails tag one two P e apart above never same bytes = (
   (λ is.
-      let a = bind_fails (value_at bytes) (λ v. by_tag tag one two v.0 >>= λ y. Ok (y, v.1)) e (not_named 3 (value_at bytes) e (value_names bytes) above) is in
-      let b = by_tests a.0.0 (eqb a.0.0.tag tag) (eqb a.0.0.tag 48) ((mapped_fails (by_tag tag one two a.0.0) _ e).0 a.2) in
-      ((a.0.0.content, a.0.1), simp (a.1, b.0), (same a.0.0.content).0 b.1)),
-  (λ (content, found, p).
-      let other : eqb 48 tag ≡ false = ne_eqb 48 tag (λ t. apart (sym t)) in
-      let fails = (same content.0).1 p in
-      rw (tagged_value 48 bytes content found, other, fails) refl),
+      let (v, read, fails) = bind_fails (value_at bytes) _ e (not_named 3 _ e (value_names bytes) above) is in
+      let by_tag = (by_tag_fails tag one two e v.0 apart above never).0 ((mapped_fails _ _ e).0 fails) in
+      ((v.0.content, v.1), grind (arith, eq-eqb), grind (arith, same v.0.content))),
+  λ (content, found, p). grind (arith, eqb-true, eq-eqb, same content.0, by_tag_fails tag one two e),
 )
-  where
-    by_tests : (v : Tlv) (first second : Bool)
-        → cond first (one v.content) (cond second (two v.content) (Err BadTag)) ≡ Err e
-        → (second ≡ true) × (two v.content ≡ Err e)
-    by_tests v first second is = grind (arith, never)
 
 -- ---- values one after another
 
@@ -219,3 +209,7 @@ no_values reading content = grind (arith)
 pub begins_value : (tag : ℕ) (P Q : List ℕ → Type 0) → ((content : List ℕ) → P content → Q content) → (bytes : List ℕ)
     → BeginsWithValue tag P bytes → BeginsWithValue tag Q bytes
 begins_value tag P Q says bytes (v, found, p) = (v, found, says v.0 p)
+
+-- ---- what values and BIT STRINGs name
+
+pub ruleset value_faults = (bind_fails, bits_names, first_fails, not_named, number_names, tagged_names, value_names)

@@ -1,7 +1,7 @@
 -- Readings from readings by the mode, and calls that take memory.
-use Rattle.rpki_base.proofs.Common.{Bool, Err, List, Ok, Option, Result, Some, [], arith, false, length, refl, suc, true, zero, ℕ, ◌++◌, ◌<◌, ◌∷◌, ◌≡◌, ◌↔◌, MatchResult, HasOctets, bind_tightens, cond_tightens, each, each_tightens, found_is, lenient_is, looked_tightens, passed_is, passes, passing_tightens, refused_at, same_found, shorter, same_tightens, IsCheck, bind_ok, ok_is, ok_or_err, EachFrom, IsBytes, Refines, Tlv, IsModal, IsReading, Tightens, each_from, optional, passing, tagged_at, ◌>>=◌, Lenient, Strict, Takes, is_strict, left, Cursor, DerError, IsMemory, OrMemory, Memory, Refused, Encloses, IsSequenceFrom, SaysPair, by_tag, enclosed_at, only, pair_by, pair_in, sequence_from, values_from, values_of, NotCanonicalOrMemory, ReadsOrMemory, TakesOrMemory, TakesSaidOrMemory, Grammar, Reading}
-use Rattle.rpki_base.proofs.DerCursors.{optional_back, reads_said_by}
-use Rattle.rpki_base.proofs.DerReadings.{enclosed_reading, pair_check, sequence_reading, values_check}
+use Rattle.rpki_base.proofs.Common.{Bool, Err, List, Ok, Option, Result, Some, [], arith, length, refl, suc, true, zero, ℕ, ◌++◌, ◌<◌, ◌∷◌, ◌≡◌, ◌↔◌, HasOctets, bind_tightens, cond_tightens, each, each_tightens, found_is, looked_tightens, passed_is, passes, passing_tightens, same_found, shorter, same_tightens, IsCheck, bind_ok, ok_is, ok_or_err, EachFrom, IsBytes, Tlv, IsModal, IsReading, Tightens, each_from, optional, passing, tagged_at, ◌>>=◌, Takes, is_strict, left, Cursor, DerError, OrMemory, Memory, Refused, Encloses, IsSequenceFrom, SaysPair, by_tag, enclosed_at, only, pair_by, pair_in, sequence_from, values_from, values_of, ReadsOrMemory, Grammar, Reading}
+use Rattle.rpki_base.proofs.DerCursors.{optional_back}
+use Rattle.rpki_base.proofs.DerReadings.{content_reading, enclosed_reading, pair_check, values_check}
 
 -- ---- by the tag
 
@@ -16,7 +16,8 @@ by_tag_tightens strict tag one two first second tight also v = grind (arith, con
 -- ---- in a content
 
 -- two values that pass a test strictly
-module _ {X Y : Type 0} (S : Grammar X) (C : X → X → Y → Type 0) (reading : Reading X) (check : X → X → Result Y DerError) (test : X → X → Bool) where
+module _ {X Y : Type 0} (S : Grammar X) (C : X → X → Y → Type 0) (reading : Reading X)
+    (check : X → X → Result Y DerError) (test : X → X → Bool) where
   -- the test may as well be made before the end of the content
   abbrev tested : X → X → Result Y DerError
   tested first second = check first second >>= passing true (λ y. test first second)
@@ -34,8 +35,12 @@ module _ {X Y : Type 0} (S : Grammar X) (C : X → X → Y → Type 0) (reading 
       (pair_by true reading check test)
   tested_pair_check is says back =
       let both = pair_check S (λ first second y. C first second y × (test first second ≡ true)) reading tested is
-      (λ first second y e. grind (arith, bind_ok, passed_is, says)) (λ first second y (c, t). grind (arith, passes, back)) in
-      record { takes = λ content y fits e. both.takes content y fits ((tested_first content y).0 e); again = λ content y found. (tested_first content y).1 (both.again content y found) }
+      (λ first second y e. grind (arith, bind_ok, passed_is, says))
+      (λ first second y (c, t). grind (arith, passes, back)) in
+      record {
+        takes = λ content y fits e. both.takes content y fits ((tested_first content y).0 e);
+        again = λ content y found. grind (arith, tested_first content y, both.again content y found);
+      }
 
   -- by the mode
   pub tested_pair_tightens : (strict : Bool) (by : Reading X)
@@ -44,19 +49,13 @@ module _ {X Y : Type 0} (S : Grammar X) (C : X → X → Y → Type 0) (reading 
   unfolding pair_by pair_in
   tested_pair_tightens strict by tight content = search (bind_tightens, tight, passing_tightens, same_tightens)
 
--- one value
-pub only_tightens : {X : Type 0} (strict : Bool) (by reading : Reading X)
-    → ((bytes : List ℕ) → Tightens strict (by bytes) (reading bytes)) → (content : List ℕ)
-    → Tightens strict (only by content) (only reading content)
-unfolding only
-only_tightens strict by reading tight content = grind (arith, bind_tightens)
-
--- and a value that encloses one
+-- a value that encloses one
 pub enclosed_modal : {X : Type 0} (tag : ℕ) (S : Grammar X) (reading : Reading X) (by : Bool → Reading X)
     → IsModal S reading by → IsModal (Encloses tag S) (enclosed_at tag reading) (λ strict. enclosed_at tag (by strict))
+unfolding only
 enclosed_modal tag S reading by is = record {
   tight = enclosed_reading tag S (by true) is.tight;
-  tightens = λ strict bytes. looked_tightens strict (tagged_at tag) (only (by strict)) (only reading) (only_tightens strict (by strict) reading (is.tightens strict)) bytes;
+  tightens = λ strict bytes. search (looked_tightens, bind_tightens, same_tightens, is.tightens);
 }
 
 -- ---- sequences
@@ -80,8 +79,7 @@ pub strict_has_octets : {X : Type 0} (G S : Grammar X) (reading : Reading X) (by
 strict_has_octets G S reading by is has modal (b ∷ front) x says = omega arith
 strict_has_octets G S reading by is has modal [] x says =
     let read = modal.tight.again [] x [] says in
-    let found = found_is true (by true []) (reading []) (x, []) (modal.tightens true []) read in
-    absurd (omega (arith, shorter G has [] x [] (is.takes [] x [] (λ i. omega arith) found)))
+    absurd (grind (arith, found_is, modal.tightens, read, shorter G has [] x [], is.takes [] x []))
 
 -- all values of a content
 pub values_tighten : {S X : Type 0} (strict : Bool) (next : S → X → S) (by reading : S → Reading X)
@@ -89,49 +87,27 @@ pub values_tighten : {S X : Type 0} (strict : Bool) (next : S → X → S) (by r
     → (state : S) (content : List ℕ)
     → Tightens strict (values_from next by state content) (values_from next reading state content)
 unfolding values_from
-values_tighten strict next by reading tight state content = each_tightens strict next by reading tight (length content) state content
+values_tighten strict next by reading tight state content = search (each_tightens)
 
--- strictly
-pub strict_values_check : {S X : Type 0} (next : S → X → S) (G H : S → Grammar X) (reading : S → Reading X)
-    (by : Bool → S → Reading X) → ((state : S) → IsReading (G state) (reading state))
-    → ((state : S) → HasOctets (G state))
-    → ((state : S) → IsModal (H state) (reading state) (λ strict. by strict state)) → (state : S)
-    → IsCheck IsBytes (EachFrom next H state) (values_from next (by true) state)
-strict_values_check next G H reading by is has modal state =
-    values_check next H (by true) (λ state. (modal state).tight) (λ state. strict_has_octets (G state) (H state) (reading state) (λ strict. by strict state) (is state) (has state) (modal state)) state
+module _ {S X : Type 0} (next : S → X → S) (G H : S → Grammar X) (reading : S → Reading X) (by : Bool → S → Reading X)
+    (is : (state : S) → IsReading (G state) (reading state)) (has : (state : S) → HasOctets (G state))
+    (modal : (state : S) → IsModal (H state) (reading state) (λ strict. by strict state)) (state : S) where
+  -- strictly
+  pub strict_values_check : IsCheck IsBytes (EachFrom next H state) (values_from next (by true) state)
+  strict_values_check =
+      values_check next H (by true) (λ state. (modal state).tight)
+      (λ state. strict_has_octets (G state) (H state) _ _ (is state) (has state) (modal state)) state
 
--- a SEQUENCE of values
-pub sequence_modal : {S X : Type 0} (next : S → X → S) (G H : S → Grammar X) (reading : S → Reading X)
-    (by : Bool → S → Reading X) → ((state : S) → IsReading (G state) (reading state))
-    → ((state : S) → HasOctets (G state))
-    → ((state : S) → IsModal (H state) (reading state) (λ strict. by strict state)) → (state : S)
-    → IsModal (IsSequenceFrom next H state) (sequence_from next reading state)
-    (λ strict. sequence_from next (by strict) state)
-sequence_modal next G H reading by is has modal state = record {
-  tight = sequence_reading next H (by true) (λ state. (modal state).tight) (λ state. strict_has_octets (G state) (H state) (reading state) (λ strict. by strict state) (is state) (has state) (modal state)) state;
-  tightens = λ strict bytes. looked_tightens strict (tagged_at 48) (values_from next (by strict) state) (values_from next reading state) (values_tighten strict next (by strict) reading (λ state. (modal state).tightens strict) state) bytes;
-}
+  -- a SEQUENCE of values
+  pub sequence_modal : IsModal (IsSequenceFrom next H state) (sequence_from next reading state)
+      (λ strict. sequence_from next (by strict) state)
+  sequence_modal = record {
+    tight = content_reading 48 (EachFrom next H state) (values_from next (by true) state) strict_values_check;
+    tightens = λ strict. looked_tightens strict (tagged_at 48) _ _
+        (values_tighten strict next (by strict) reading (λ state. (modal state).tightens strict) state);
+  }
 
 -- ---- calls that take memory
-
--- a take from a cursor that isn't strict
-pub exact_or_memory_by : {X Y : Type 0} (S : Grammar Y) (reading : Reading Y) (by : Bool → Reading Y) (view : X → Y)
-    (old new : Cursor) (result : Result X (OrMemory DerError)) → IsModal S reading by
-    → TakesOrMemory view old new result (by (is_strict old)) → Lenient old (TakesOrMemory view old new result reading)
-exact_or_memory_by S reading by view old new result modal took lenient = grind (arith, lenient_is)
-
--- one that answers what is said by what the reading gives
-pub exact_said_by : {X Y : Type 0} (S : Grammar Y) (C : Y → X → Type 0) (reading : Reading Y) (by : Bool → Reading Y)
-    (old new : Cursor) (result : Result X (OrMemory DerError)) → IsModal S reading by
-    → TakesSaidOrMemory C old new result (by (is_strict old)) → Lenient old (TakesSaidOrMemory C old new result reading)
-exact_said_by S C reading by old new result modal took lenient = grind (arith, lenient_is)
-
--- a take that answers what is said by what the reading gives
-pub refused_said_by : {X Y : Type 0} (G S : Grammar Y) (C : Y → X → Type 0) (reading : Reading Y)
-    (by : Bool → Reading Y) (old new : Cursor) (result : Result X (OrMemory DerError)) → IsReading G reading
-    → IsModal S reading by → TakesSaidOrMemory C old new result (by (is_strict old))
-    → NotCanonicalOrMemory (Refines G C) old result
-refused_said_by G S C reading by old new result is modal took = grind (arith, refused_at)
 
 -- a take, by another name of the grammar, which has to be one at the front of the octets alone
 pub reads_same : {X Y : Type 0} (G H : Grammar Y) (view : X → Y) (old new : Cursor)
@@ -139,18 +115,9 @@ pub reads_same : {X Y : Type 0} (G H : Grammar Y) (view : X → Y) (old new : Cu
     → ((bytes : List ℕ) (y : Y) (rest : List ℕ) → left old ≡ bytes ++ rest → H bytes y → G bytes y)
     → ReadsOrMemory G view old new result → ReadsOrMemory H view old new result
 reads_same G H view old new (Ok x) to from (front, is, split) = (front, to front (view x) is, split)
-reads_same G H view old new (Err (Refused e)) to from (none, kept) = ((λ y rest found. none y rest (found.0, from found.0 y rest found.2 found.1, found.2)), kept)
+reads_same G H view old new (Err (Refused e)) to from (none, kept) =
+    ((λ y rest (front, is, split). none y rest (front, from front y rest split is, split)), kept)
 reads_same G H view old new (Err (Memory e)) to from read = read
-
--- a take of what is found strictly, by another name of what that says
-pub canonical_said_by : {X Y : Type 0} (S : Grammar Y) (C : Y → X → Type 0) (H : Grammar X) (reading : Reading Y)
-    (by : Bool → Reading Y) (old new : Cursor) (result : Result X (OrMemory DerError)) → IsModal S reading by
-    → ((bytes : List ℕ) (x : X) → Refines S C bytes x → H bytes x)
-    → ((bytes : List ℕ) (x : X) (rest : List ℕ) → left old ≡ bytes ++ rest → H bytes x → Refines S C bytes x)
-    → TakesSaidOrMemory C old new result (by (is_strict old)) → IsBytes (left old)
-    → Strict old (ReadsOrMemory H (λ x. x) old new result)
-canonical_said_by S C H reading by old new result modal to from took fits strict =
-    grind (arith, reads_said_by, reads_same)
 
 -- what is found strictly is found in either mode
 pub found_by : {X : Type 0} (S : Grammar X) (reading : Reading X) (by : Bool → Reading X) → IsModal S reading by
@@ -171,17 +138,5 @@ pub optional_back_by : {X : Type 0} (G S : Grammar X) (reading : Reading X) (by 
     → Takes (λ x. x) old new result (optional (by (is_strict old))) → (front rest : List ℕ) (x : X) → 0 < length front
     → G front x → (is_strict old ≡ true → S front x) → left old ≡ front ++ rest
     → (result ≡ Ok (Some x)) × (left new ≡ rest)
-optional_back_by G S reading by old new result is modal took front rest x some g s at = optional_back (by (is_strict old)) old new result took front rest x some at (read (is_strict old) s)
-  where
-    read : (strict : Bool) → (strict ≡ true → S front x) → by strict (front ++ rest) ≡ Ok (x, rest)
-    read true s = modal.tight.again front x rest (s refl)
-    read false s = grind (arith, modal.tightens, same_found, is.again front x rest g)
-
--- a take of the one thing that the value says
-pub takes_said_by : {X Y : Type 0} (S : Grammar Y) (C : Y → X → Type 0) (reading : Reading Y) (by : Bool → Reading Y)
-    (old new : Cursor) (result : Result X (OrMemory DerError)) → IsModal S reading by
-    → ((y : Y) (a b : X) → C y a → C y b → a ≡ b) → TakesSaidOrMemory C old new result (by (is_strict old))
-    → (front rest : List ℕ) (y : Y) (x : X) → S front y → C y x → left old ≡ front ++ rest
-    → MatchResult result (λ read. (read ≡ x) × (left new ≡ rest)) IsMemory
-takes_said_by S C reading by old new result modal one took front rest y x says tells at =
-    grind (arith, ok_is, ok_or_err, one, found_by S reading by modal (is_strict old) front y rest says)
+optional_back_by G S reading by old new result is modal took front rest x some g s at =
+    grind (arith, optional_back, modal.tightens, is.again front x rest g, modal.tight.again front x rest)

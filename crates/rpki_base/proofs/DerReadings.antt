@@ -1,14 +1,28 @@
 -- Readings from readings: of one of two tags, of two values, of values that are passed over, and of sequences.
-use Rattle.rpki_base.proofs.Common.{List, Ok, Result, [], ap, arith, refl, subst, sym, ℕ, ◌∙◌, ◌≡◌, ◌≢◌, eq-eqb, eqb-true, ne_eqb, append-nil, nil_from_length, HasOctets, each_again, each_takes, fits_content, fits_rest, one_front, refined_reading, tagged_reading, value_reading, IsCheck, bind_ok, ok_is, EachFrom, IsBytes, IsSequence, IsTlv, OneFront, Refines, IsReading, ended, refined, tagged_at, value_at, ◌>>=◌, DerError, Encloses, IsSequenceFrom, SaysByTag, SaysPair, Skips, by_tag, enclosed_at, only, pair_in, sequence_from, skipping, values_from, Grammar, Reading}
+use Rattle.rpki_base.proofs.Common.{List, Ok, Result, [], arith, ℕ, ◌≡◌, ◌≢◌, eq-eqb, eqb-true, ne_eqb, append-nil, nil_from_length, HasOctets, each_again, each_takes, fits_content, fits_rest, one_front, refined_reading, tagged_reading, value_reading, IsCheck, IsTagged, ◌↔◌, bind_ok, ok_is, EachFrom, IsBytes, IsTlv, OneFront, Refines, IsReading, ended, refined, tagged_at, value_at, ◌>>=◌, DerError, Encloses, IsSequenceFrom, SaysByTag, SaysPair, Skips, by_tag, enclosed_at, only, pair_in, sequence_from, skipping, values_from, Grammar, Reading, IsAsNumber, as_number_at, u32_reading}
 
 -- ---- passed over
 
 -- a value that is passed over is one of the grammar
 pub skips_reading : {X : Type 0} (G : Grammar X) (reading : Reading X) → IsReading G reading
     → IsReading (Skips G) (skipping reading)
-skips_reading G reading is = refined_reading G (λ x u. Unit {0}) (λ x. Unit {0}) reading (λ x. Ok tt) is (λ front x g fits. tt) (record { takes = λ x u fits e. tt; again = λ x u c. refl })
+skips_reading G reading is =
+    refined_reading G _ (λ x. Unit {0}) reading (λ x. Ok tt) is (λ front x g fits. tt) (grind arith)
 
--- ---- named
+pub number_skipped : IsReading (Skips IsAsNumber) (skipping as_number_at)
+number_skipped = skips_reading IsAsNumber as_number_at u32_reading
+
+-- ---- contents
+
+-- a value of a tag, by the rule for its content
+pub content_reading : {X : Type 0} (tag : ℕ) (C : Grammar X) (check : List ℕ → Result X DerError)
+    → IsCheck IsBytes C check → IsReading (Refines (IsTagged tag) C) (refined (tagged_at tag) check)
+content_reading tag C check says = search (arith, fits_content, refined_reading, tagged_reading)
+
+-- what a rule finds, under another name
+pub same_check : {X Y : Type 0} (Fits : X → Type 0) (C D : X → Y → Type 0) (check : X → Result Y DerError)
+    → ((x : X) (y : Y) → C x y ↔ D x y) → IsCheck Fits C check → IsCheck Fits D check
+same_check Fits C D check same is = grind (arith, same)
 
 -- what a content says, under another name
 pub mapped_check : {W X Y : Type 0} (Fits : W → Type 0) (C : W → X → Type 0) (check : W → Result X DerError) (f : X → Y)
@@ -17,77 +31,50 @@ mapped_check Fits C check f is = grind (arith, bind_ok, ok_is)
 
 -- ---- one of two tags
 
--- what a value says by its tag
-by_tag_check : {X : Type 0} (tag : ℕ) (One Two : Grammar X) (one two : List ℕ → Result X DerError) → tag ≢ 48
-    → IsCheck IsBytes One one → IsCheck IsBytes Two two
-    → IsCheck (λ v. IsBytes v.content) (SaysByTag tag One Two) (by_tag tag one two)
-unfolding by_tag
-by_tag_check tag One Two one two apart is also = grind (arith, eq-eqb, eqb-true, ne_eqb)
-
 -- a value of a tag, or a SEQUENCE, each by its rule for the content
 pub by_tag_reading : {X : Type 0} (tag : ℕ) (One Two : Grammar X) (one two : List ℕ → Result X DerError) → tag ≢ 48
     → IsCheck IsBytes One one → IsCheck IsBytes Two two
     → IsReading (Refines IsTlv (SaysByTag tag One Two)) (refined value_at (by_tag tag one two))
+unfolding by_tag
 by_tag_reading tag One Two one two apart is also =
-    refined_reading IsTlv (SaysByTag tag One Two) (λ v. IsBytes v.content) value_at (by_tag tag one two) value_reading (λ front v h fits. fits_content front v.tag v.content h fits) (by_tag_check tag One Two one two apart is also)
+    refined_reading IsTlv _ (λ v. IsBytes v.content) value_at _ value_reading
+    (λ front v h. fits_content front v.tag v.content h) (grind (arith, eq-eqb, eqb-true, ne_eqb))
 
--- ---- two values in a content
+-- ---- one value in a content, and two
 
 -- at the end nothing is left
 pub ended_is : (bytes : List ℕ) (u : Unit {0}) → ended bytes ≡ Ok u → bytes ≡ []
 ended_is bytes u e = grind (arith, eqb-true, nil_from_length)
 
--- the one value of a content
-pub only_check : {X : Type 0} (G : Grammar X) (reading : Reading X) → IsReading G reading
-    → IsCheck IsBytes G (only reading)
-unfolding only
-only_check G reading is = record {
-  takes = λ content x fits e.
-      let a = bind_ok (reading content) _ x e in
-      let b = bind_ok (ended a.0.1) _ x a.2 in
-      let found = is.takes content a.0.0 a.0.1 fits a.1 in
-      grind (arith, append-nil, ended_is, ok_is);
-  again = λ content x says.
-      let read : reading content ≡ Ok (x, []) = ap reading (sym (append-nil content)) ∙ is.again content x [] says in
-      rw read refl;
-}
-
--- and a value that encloses one
+-- a value that encloses one
 pub enclosed_reading : {X : Type 0} (tag : ℕ) (G : Grammar X) (reading : Reading X) → IsReading G reading
     → IsReading (Encloses tag G) (enclosed_at tag reading)
-enclosed_reading tag G reading is = search (arith, fits_content, only_check, refined_reading, tagged_reading)
+unfolding only
+enclosed_reading tag G reading is = content_reading tag G _ (record {
+  takes = λ content x fits e.
+      let ((y, rest), read, more) = bind_ok (reading content) _ x e in
+      let found = is.takes content y rest fits read in
+      grind (arith, append-nil, ended_is, ok_is, bind_ok);
+  again = λ content x says. grind (arith, append-nil, is.again content x [] says);
+})
 
--- two values that are read say what the grammar says
-pair_says : {X Y : Type 0} (G : Grammar X) (C : X → X → Y → Type 0) (reading : Reading X)
-    (check : X → X → Result Y DerError) → IsReading G reading
-    → ((first second : X) (y : Y) → check first second ≡ Ok y → C first second y) → (content : List ℕ) (y : Y)
-    → IsBytes content → pair_in reading check content ≡ Ok y → SaysPair G C content y
-unfolding pair_in
-pair_says G C reading check is says content y fits e =
-    let a = bind_ok (reading content) _ y e in
-    let b = bind_ok (reading a.0.1) _ y a.2 in
-    let c = bind_ok (check a.0.0 b.0.0) _ y b.2 in
-    let d = bind_ok (ended b.0.1) _ y c.2 in
-    let first = is.takes content a.0.0 a.0.1 fits a.1 in
-    let second = is.takes a.0.1 b.0.0 b.0.1 (fits_rest G content a.0.0 a.0.1 first fits) b.1 in
-    grind (arith, append-nil, ended_is, ok_is)
-
--- what two values say is read
-pair_again : {X Y : Type 0} (G : Grammar X) (C : X → X → Y → Type 0) (reading : Reading X)
-    (check : X → X → Result Y DerError) → IsReading G reading
-    → ((first second : X) (y : Y) → C first second y → check first second ≡ Ok y) → (content : List ℕ) (y : Y)
-    → SaysPair G C content y → pair_in reading check content ≡ Ok y
-unfolding pair_in
-pair_again G C reading check is says content y (a, b, (rest, first, second), c) =
-    grind (arith, append-nil, is.again _ a rest first.1, is.again rest b [] second, says)
-
--- the two together
+-- two values say what the check finds of them
 pub pair_check : {X Y : Type 0} (G : Grammar X) (C : X → X → Y → Type 0) (reading : Reading X)
     (check : X → X → Result Y DerError) → IsReading G reading
     → ((first second : X) (y : Y) → check first second ≡ Ok y → C first second y)
     → ((first second : X) (y : Y) → C first second y → check first second ≡ Ok y)
     → IsCheck IsBytes (SaysPair G C) (pair_in reading check)
-pair_check G C reading check is says back = record { takes = pair_says G C reading check is says; again = pair_again G C reading check is back }
+unfolding pair_in
+pair_check G C reading check is says back = record {
+  takes = λ content y fits e.
+      let ((a, behind), read, more) = bind_ok (reading content) _ y e in
+      let ((b, end), also, checked) = bind_ok (reading behind) _ y more in
+      let first = is.takes content a behind fits read in
+      let second = is.takes behind b end (fits_rest G content a behind first fits) also in
+      grind (arith, append-nil, ended_is, says);
+  again = λ content y (a, b, (rest, first, second), c).
+      grind (arith, append-nil, is.again _ a rest first.1, is.again rest b [] second, back);
+}
 
 -- ---- sequences
 
@@ -103,13 +90,12 @@ pub sequence_reading : {S X : Type 0} (next : S → X → S) (G : S → Grammar 
     → ((state : S) → IsReading (G state) (reading state)) → ((state : S) → HasOctets (G state)) → (state : S)
     → IsReading (IsSequenceFrom next G state) (sequence_from next reading state)
 sequence_reading next G reading is has state =
-    refined_reading IsSequence (EachFrom next G state) IsBytes (tagged_at 48) (values_from next reading state) (tagged_reading 48) (λ front content h fits. fits_content front 48 content h fits) (values_check next G reading is has state)
+    content_reading 48 (EachFrom next G state) _ (values_check next G reading is has state)
 
 -- ---- what values say
 
 -- octets begin with at most one thing that is said, where a value says one thing at most
 pub one_front_said : {X Y : Type 0} (G : Grammar X) (C : X → Y → Type 0) (reading : Reading X) → IsReading G reading
     → ((x : X) (a b : Y) → C x a → C x b → a ≡ b) → OneFront (Refines G C)
-one_front_said {X} G C reading is one a b x y r s (u, grammar, says) (v, also, tells) same =
-    let front = one_front G reading is a b u v r s grammar also same in
-    (front.0, one v x y (subst (λ (w : X). C w x) front.1 says) tells, front.2)
+one_front_said G C reading is one a b x y r s (u, grammar, says) (v, also, tells) same =
+    grind (arith, one_front G reading is a b u v r s grammar also same, one v x y)

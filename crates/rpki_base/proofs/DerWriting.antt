@@ -1,5 +1,5 @@
 -- Lists that are written: they are values of the grammar, and no two lists are written alike, also in a SEQUENCE.
-use Rattle.rpki_base.proofs.Common.{List, Ok, [], ap, arith, length, refl, sym, ℕ, ◌++◌, ◌<◌, ◌^◌, ◌∙◌, ◌∷◌, ◌≡◌, cases_lt, drop_at, length-append, AllByRecursion, HasOctets, each_again, ok_is, Each, header, length_octets, octets, sequence_value, IsReading, each, octets_of_all, Grammar, Reading}
+use Rattle.rpki_base.proofs.Common.{List, [], arith, length, refl, ℕ, ◌++◌, ◌<◌, ◌^◌, ◌∷◌, ◌≡◌, cases_lt, drop_at, length-append, AllByRecursion, HasOctets, each_again, Each, header, length_octets, octets, sequence_value, IsReading, octets_of_all, Grammar, Reading}
 use Rattle.std.proofs.lemmas.Bool.{le-ltb, lt-ltb}
 
 -- a SEQUENCE is longer than what is in it
@@ -18,10 +18,11 @@ module _ {X : Type 0} (G : Grammar X) (octets : X → List ℕ) where
       → octets_of_all octets xs ≡ octets_of_all octets ys → xs ≡ ys
   written_alike reading is has xs ys all also same =
       let next : Unit {0} → X → Unit {0} = λ state x. state in
+      let again = each_again next (λ _. G) (λ _. reading) (λ _. is) (λ _. has) in
       let steps = length (octets_of_all octets xs) in
-      let first : each steps reading (octets_of_all octets xs) ≡ Ok xs = each_again next (λ _. G) (λ _. reading) (λ _. is) (λ _. has) xs steps tt (octets_of_all octets xs) (omega arith) (each_written xs all) in
-      let second : each steps reading (octets_of_all octets ys) ≡ Ok ys = each_again next (λ _. G) (λ _. reading) (λ _. is) (λ _. has) ys steps tt (octets_of_all octets ys) (let e = ap (λ (t : List ℕ). length t) same in omega arith) (each_written ys also) in
-      ok_is xs ys (sym first ∙ ap (each steps reading) same ∙ second)
+      let first = again xs steps tt (octets_of_all octets xs) (omega arith) (each_written xs all) in
+      let second = again ys steps tt (octets_of_all octets xs) (omega arith) (rw same (each_written ys also)) in
+      cc
 
 -- what follows the octets of a length is known by them, since the first tells how many others there are
 after_length : (m n : ℕ) (xs ys : List ℕ) → length_octets m ++ xs ≡ length_octets n ++ ys → xs ≡ ys

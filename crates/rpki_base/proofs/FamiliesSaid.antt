@@ -1,6 +1,6 @@
 -- Families whose claims stand for others: what the families stand for is what they are with the
 -- claims that theirs stand for.
-use Rattle.rpki_base.proofs.Common.{List, None, Option, Some, [], arith, refl, ℕ, ◌∷◌, ◌≡◌, ◌≢◌, Each, OneFront, Refines, IsReading, ByFamily, IsFamilies, IsMember, SaysByFamily, SaysOption, claims_among, listed, families_at, AddressFamily, Ipv4, Ipv6, Grammar, Reading}
+use Rattle.rpki_base.proofs.Common.{List, None, Option, Some, [], arith, refl, ℕ, ◌∷◌, ◌≡◌, ◌≢◌, Each, OneFront, Refines, IsReading, ByFamily, IsFamilies, IsMember, SaysByFamily, SaysOption, claims_among, listed, AddressFamily, Ipv4, Ipv6, Grammar, Reading}
 use Rattle.rpki_base.proofs.DerReadings.{one_front_said}
 use Rattle.rpki_base.proofs.FamiliesGathering.{families_reading}
 
@@ -39,17 +39,15 @@ module _ {X Y : Type 0} (G : AddressFamily → Grammar Y) (C : Y → X → Type 
       → Say C (claims_among Ipv4 members) v4 → Say C (claims_among Ipv6 members) v6
       → (others : List (AddressFamily × X)) × Each (IsMember Stands) content others × (claims_among Ipv4 others ≡ v4)
       × (claims_among Ipv6 others ≡ v6) × (members ≢ [] → others ≢ [])
-  told [] content v4 v6 all first second = ([], all, grind arith, grind arith, λ some. absurd (some refl))
+  told [] content v4 v6 all first second = ([], all, grind arith, grind arith, grind arith)
   told ((Ipv4, y) ∷ members) content [] v6 all first second = absurd first
   told ((Ipv6, y) ∷ members) content v4 [] all first second = absurd second
-  told ((Ipv4, y) ∷ members) content (x ∷ v4) v6 (rest, (front, (inner, is, (after, at, claim)), cut), all) one other =
-      let more = told members rest v4 v6 all one.1 other in
-      let member : IsMember Stands front (Ipv4, x) = (inner, is, (after, at, (y, claim, one.0))) in
-      ((Ipv4, x) ∷ more.0, (rest, (front, member, cut), more.1), cc, more.3, λ some none. absurd cc)
-  told ((Ipv6, y) ∷ members) content v4 (x ∷ v6) (rest, (front, (inner, is, (after, at, claim)), cut), all) one other =
-      let more = told members rest v4 v6 all one other.1 in
-      let member : IsMember Stands front (Ipv6, x) = (inner, is, (after, at, (y, claim, other.0))) in
-      ((Ipv6, x) ∷ more.0, (rest, (front, member, cut), more.1), more.2, cc, λ some none. absurd cc)
+  told ((Ipv4, y) ∷ members) content (x ∷ v4) v6 (rest, found, all) one other =
+      let (others, each, first, second, some) = told members rest v4 v6 all one.1 other in
+      ((Ipv4, x) ∷ others, grind arith, cc, second, grind arith)
+  told ((Ipv6, y) ∷ members) content v4 (x ∷ v6) (rest, found, all) one other =
+      let (others, each, first, second, some) = told members rest v4 v6 all one other.1 in
+      ((Ipv6, x) ∷ others, grind arith, first, cc, grind arith)
 
   -- families that stand for others are families with those claims
   pub stands_for : (bytes : List ℕ) (fs : ByFamily X) → Refines (IsFamilies G) (SaysByFamily C) bytes fs
@@ -65,11 +63,10 @@ module _ {X Y : Type 0} (G : AddressFamily → Grammar Y) (C : Y → X → Type 
       → (members : List (AddressFamily × Y)) × Each (IsMember G) content members
       × Say C (claims_among Ipv4 members) (claims_among Ipv4 others)
       × Say C (claims_among Ipv6 members) (claims_among Ipv6 others) × (others ≢ [] → members ≢ [])
-  found [] content all = ([], all, tt, tt, λ some. absurd (some refl))
+  found [] content all = ([], all, tt, tt, grind arith)
   found ((family, x) ∷ others) content (rest, (front, (inner, is, (after, at, (y, claim, says))), split), all) =
-      let more = found others rest all in
-      let member : IsMember G front (family, y) = (inner, is, (after, at, claim)) in
-      ((family, y) ∷ more.0, (rest, (front, member, split), more.1), grind arith, grind arith, λ some none. absurd cc)
+      let (members, each, first, second, some) = found others rest all in
+      ((family, y) ∷ members, grind arith, grind arith, grind arith, grind arith)
 
   -- and families with claims that others stand for are what those families stand for
   pub stood_for : (bytes : List ℕ) (fs : ByFamily X) → IsFamilies Stands bytes fs
@@ -85,4 +82,5 @@ module _ {X Y : Type 0} (G : AddressFamily → Grammar Y) (C : Y → X → Type 
       → ((family : AddressFamily) → IsReading (G family) (claim_at family))
       → ((y : Y) (a b : X) → C y a → C y b → a ≡ b) → OneFront (IsFamilies Stands)
   one_families claim_at reading one a b x y r s is also =
-      one_front_said (IsFamilies G) (SaysByFamily C) (families_at claim_at) (families_reading G claim_at reading) (one_by_family C one) a b x y r s (stood_for a x is) (stood_for b y also)
+      let of_found = one_front_said (IsFamilies G) (SaysByFamily C) _ (families_reading G claim_at reading) in
+      of_found (one_by_family C one) a b x y r s (stood_for a x is) (stood_for b y also)

@@ -1,15 +1,17 @@
 -- Takes in either mode that answer what is said by what was found. Strictly, that is what is written of the answer.
-use Rattle.rpki_base.proofs.Common.{Bool, List, Ok, Result, [], ap, arith, length, subst, sym, true, ℕ, ◌++◌, ◌<◌, ◌^◌, ◌∙◌, ◌≡◌, length-append, HasOctets, MatchResult, found_is, value_is, IsBytes, OneFront, Refines, IsModal, IsReading, Lenient, Strict, is_strict, left, Cursor, DerError, IsMemory, OrMemory, Encloses, IsSequenceFrom, enclosed_at, sequence_from, values_of, NotCanonicalOrMemory, ReadsOrMemory, TakesSaidOrMemory}
+use Rattle.rpki_base.proofs.Common.{Bool, List, Ok, Result, [], arith, length, true, ℕ, ◌++◌, ◌<◌, ◌^◌, ◌≡◌, length-append, HasOctets, MatchResult, found_is, value_is, IsBytes, OneFront, Refines, IsModal, IsReading, Lenient, Strict, is_strict, left, Cursor, DerError, IsMemory, OrMemory, Encloses, IsSequenceFrom, enclosed_at, sequence_from, values_of, NotCanonicalOrMemory, ReadsOrMemory, TakesSaidOrMemory, lenient_is, refused_at, ok_is, ok_or_err}
 use Rattle.std.specs.Prelude.{IfOk}
 use Rattle.rpki_der.specs.Der.{Front, IsTag, Spells, value}
 use Rattle.rpki_der.specs.Reading.{refined, tagged_at}
 use Rattle.rpki_base.proofs.DerCursors.{reads_said_by}
-use Rattle.rpki_base.proofs.DerModes.{canonical_said_by, enclosed_modal, exact_said_by, refused_said_by, sequence_modal, takes_said_by, values_stateless}
+use Rattle.rpki_base.proofs.DerModes.{enclosed_modal, found_by, sequence_modal, values_stateless}
 use Rattle.rpki_base.proofs.DerReadings.{enclosed_reading, one_front_said}
 
 -- Leniently values of G are found, strictly those of S, which are values of G too. A value says one thing at most by C,
 -- and what is said strictly is what P holds of; the octets are then those that are written of it.
-pub record IsSaidInModes {X Y : Type 0} (G S : List ℕ → Y → Type 0) (C : Y → X → Type 0) (P : X → Type 0) (octets : X → List ℕ) (reading : List ℕ → Result (Y × List ℕ) DerError) (by : Bool → List ℕ → Result (Y × List ℕ) DerError) : Type 0 where
+pub record IsSaidInModes {X Y : Type 0} (G S : List ℕ → Y → Type 0) (C : Y → X → Type 0) (P : X → Type 0)
+    (octets : X → List ℕ) (reading : List ℕ → Result (Y × List ℕ) DerError)
+    (by : Bool → List ℕ → Result (Y × List ℕ) DerError) : Type 0 where
   pub lenient : IsReading G reading
   pub modal : IsModal S reading by
   pub looser : (bytes : List ℕ) (y : Y) → S bytes y → G bytes y
@@ -18,7 +20,9 @@ pub record IsSaidInModes {X Y : Type 0} (G S : List ℕ → Y → Type 0) (C : Y
   pub says : (x : X) → P x → length (octets x) < 2 ^ 64 → Refines S C (octets x) x
 
 -- what is promised of a take
-pub record IsTakenInModes {X Y : Type 0} (G : List ℕ → Y → Type 0) (C : Y → X → Type 0) (P : X → Type 0) (octets : X → List ℕ) (reading : List ℕ → Result (Y × List ℕ) DerError) (old new : Cursor) (result : Result X (OrMemory DerError)) : Type 0 where
+pub record IsTakenInModes {X Y : Type 0} (G : List ℕ → Y → Type 0) (C : Y → X → Type 0) (P : X → Type 0)
+    (octets : X → List ℕ) (reading : List ℕ → Result (Y × List ℕ) DerError) (old new : Cursor)
+    (result : Result X (OrMemory DerError)) : Type 0 where
   pub exact : Lenient old (TakesSaidOrMemory C old new result reading)
   pub reads : Lenient old (ReadsOrMemory (Refines G C) (λ x. x) old new result)
   pub strict : Strict old (ReadsOrMemory (Spells P octets) (λ x. x) old new result)
@@ -31,7 +35,9 @@ pub record IsTakenInModes {X Y : Type 0} (G : List ℕ → Y → Type 0) (C : Y 
 pub front_short : (bytes front rest : List ℕ) → length bytes < 2 ^ 64 → bytes ≡ front ++ rest → length front < 2 ^ 64
 front_short bytes front rest short at = grind (arith, length-append)
 
-module _ {X Y : Type 0} {G S : List ℕ → Y → Type 0} {C : Y → X → Type 0} {P : X → Type 0} {octets : X → List ℕ} {reading : List ℕ → Result (Y × List ℕ) DerError} {by : Bool → List ℕ → Result (Y × List ℕ) DerError} (is : IsSaidInModes G S C P octets reading by) where
+module _ {X Y : Type 0} {G S : List ℕ → Y → Type 0} {C : Y → X → Type 0} {P : X → Type 0} {octets : X → List ℕ}
+    {reading : List ℕ → Result (Y × List ℕ) DerError} {by : Bool → List ℕ → Result (Y × List ℕ) DerError}
+    (is : IsSaidInModes G S C P octets reading by) where
   -- octets begin with at most one thing that is said
   pub one_said : OneFront (Refines G C)
   one_said = one_front_said G C reading is.lenient is.one
@@ -44,50 +50,34 @@ module _ {X Y : Type 0} {G S : List ℕ → Y → Type 0} {C : Y → X → Type 
   pub said_alike : (a b : X) → P a → P b → length (octets a) < 2 ^ 64 → octets a ≡ octets b → a ≡ b
   said_alike a b p q short same = grind (arith, one_said (octets a) (octets b) a b [] [], written_said)
 
-  -- what is answered stands at the front in either mode
-  stands_in_modes : (old new : Cursor) (result : Result X (OrMemory DerError)) → IsBytes (left old)
-      → TakesSaidOrMemory C old new result (by (is_strict old))
-      → IfOk result (λ x. Front (Refines G C) (left old) x (left new))
-  stands_in_modes old new result fits took = grind (arith, found_is, is.modal.tightens, is.lenient.takes)
-
   -- a take whose octets a length can tell
   pub taken_said : (old new : Cursor) (result : Result X (OrMemory DerError)) → IsBytes (left old)
       → ((x : X) (rest : List ℕ) → P x → left old ≡ octets x ++ rest → length (octets x) < 2 ^ 64)
       → TakesSaidOrMemory C old new result (by (is_strict old)) → IsTakenInModes G C P octets reading old new result
-  taken_said old new result fits short took =
-      let exact = exact_said_by S C reading by old new result is.modal took in
-      record {
-        exact = exact;
-        reads = λ lenient. reads_said_by G C reading old new result is.lenient fits (exact lenient);
-        strict = canonical_said_by S C (Spells P octets) reading by old new result is.modal
-            (λ bytes x (y, s, c). is.spelled bytes y x s c)
-            (λ bytes x rest at (p, e). subst (λ (t : List ℕ). Refines S C t x) (sym e)
-            (is.says x p (short x rest p (at ∙ ap (λ (t : List ℕ). t ++ rest) e)))) took fits;
-        refused = refused_said_by G S C reading by old new result is.lenient is.modal took;
-        reads_back = λ x rest p at. (
-            let says = is.says x p (short x rest p at) in
-            takes_said_by S C reading by old new result is.modal is.one took (octets x) rest says.0 x says.1 says.2 at);
-        stands = stands_in_modes old new result fits took;
-      }
+  taken_said old new result fits short took = record {
+    exact = λ lenient. grind (arith, lenient_is S reading by is.modal);
+    reads = λ lenient. grind (arith, lenient_is S reading by is.modal, reads_said_by);
+    strict = λ strict. grind (arith, reads_said_by, is.modal.tight, is.spelled);
+    refused = grind (arith, refused_at);
+    reads_back = λ x rest p at.
+        let found = found_by S reading by is.modal (is_strict old) (octets x) in
+        grind (arith, ok_is, ok_or_err, is.one, found, is.says x p (short x rest p at));
+    stands = grind (arith, found_is, is.modal.tightens, is.lenient.takes);
+  }
 
   -- what a strict cursor found
   pub strictly_found : (old : Cursor) (y : Y) (rest : List ℕ) → IsBytes (left old) → is_strict old ≡ true
       → by (is_strict old) (left old) ≡ Ok (y, rest) → Front S (left old) y rest
-  strictly_found old y rest fits strict read =
-      is.modal.tight.takes (left old) y rest fits (subst (λ mode. by mode (left old) ≡ Ok (y, rest)) strict read)
+  strictly_found old y rest fits strict read = grind (arith, is.modal.tight.takes)
 
   -- a value is shorter than one that encloses it
   pub enclosed_said : (tag : ℕ) → IsTag tag
       → IsSaidInModes (Encloses tag G) (Encloses tag S) C P (λ x. value tag (octets x)) (enclosed_at tag reading)
       (λ strict. enclosed_at tag (by strict))
-  enclosed_said tag names = record {
-    lenient = enclosed_reading tag G reading is.lenient;
-    modal = enclosed_modal tag S reading by is.modal;
-    looser = λ bytes y s. grind (arith, is.looser);
-    one = is.one;
-    spelled = λ bytes y x s c. grind (arith, is.spelled);
-    says = λ x p short. grind (arith, is.says, length-append, value_is);
-  }
+  enclosed_said tag names =
+      let lenient = enclosed_reading tag G reading is.lenient in
+      let modal = enclosed_modal tag S reading by is.modal in
+      grind (arith, is.looser, is.spelled, is.says, length-append, value_is)
 
 -- a SEQUENCE of values that depend on those before them strictly alone
 pub ordered_modal : {T X : Type 0} (next : T → X → T) (G : List ℕ → X → Type 0) (S : T → List ℕ → X → Type 0)
@@ -97,6 +87,5 @@ pub ordered_modal : {T X : Type 0} (next : T → X → T) (G : List ℕ → X �
     → IsModal (IsSequenceFrom next S state) (refined (tagged_at 48) (values_of reading))
     (λ strict. sequence_from next (by strict) state)
 ordered_modal next G S reading by is has modal state =
-    subst (λ values. IsModal (IsSequenceFrom next S state) (refined (tagged_at 48) values)
-    (λ strict. sequence_from next (by strict) state)) (values_stateless next reading state)
+    rw (← values_stateless next reading state)
     (sequence_modal next (λ state. G) S (λ state. reading) by (λ state. is) (λ state. has) modal state)

@@ -1,5 +1,5 @@
 -- Small sets: what the walks, a list and a search give.
-use Rattle.rpki_base.proofs.Common.{Contains, Err, IsTrue, List, Ok, Result, [], arith, eqb, get_or, length, refl, ℕ, ◌<◌, ◌↔◌, ◌∙◌, ◌∷◌, ◌≡◌, ◌≤◌, cases_lt, IsBinarySearchResult, IsPermutation, IsSorted, IsInBoth, IsInEither, IsInFirstAlone, IsInOne, IsSmallSet, IsSmallSetOf, any_side, only_both, only_left, only_one, walk, Wanted}
+use Rattle.rpki_base.proofs.Common.{Contains, Err, IsTrue, List, Ok, Result, [], arith, eqb, get_or, length, refl, ℕ, ◌<◌, ◌↔◌, ◌∷◌, ◌≡◌, ◌≤◌, cases_lt, IsBinarySearchResult, IsPermutation, IsSorted, IsInBoth, IsInEither, IsInFirstAlone, IsInOne, IsSmallSet, IsSmallSetOf, any_side, only_both, only_left, only_one, walk, Wanted}
 use Rattle.std.proofs.lemmas.List.{get_or_default}
 use Rattle.std.specs.Ordering.{nat_cmp}
 use Rattle.std.specs.Result.{is_ok}
@@ -32,15 +32,15 @@ module _ (xs ys : List ℕ) (left : IsSmallSet xs) (right : IsSmallSet ys) where
 -- a list that was sorted and freed of repeats is the set of its numbers
 pub from_list_is : (list sorted left : List ℕ) → IsPermutation list sorted → IsSorted nat_cmp sorted
     → IsFiltered (DiffersFromLast eqb) [] sorted left → IsSmallSetOf (Contains list) left
-from_list_is list sorted left moved ascends filtered = rw (dedup_is eqb sorted left filtered) (record {
-  ascending = IsStrictlyIncreasing-dedup sorted ascends;
-  members = λ n. (
-    (λ h.
-        let back = IsPermutation-sym list sorted moved in
-        Contains-permutation sorted list n back (Contains-from_dedup eqb sorted n h)),
-    λ h. Contains-dedup_nat sorted n (Contains-permutation list sorted n moved h),
-  );
-})
+from_list_is list sorted left moved ascends filtered =
+    let back = IsPermutation-sym list sorted moved in
+    rw (dedup_is eqb sorted left filtered) (record {
+      ascending = IsStrictlyIncreasing-dedup sorted ascends;
+      members = λ n. (
+        (λ h. Contains-permutation sorted list n back (Contains-from_dedup eqb sorted n h)),
+        λ h. Contains-dedup_nat sorted n (Contains-permutation list sorted n moved h),
+      );
+    })
 
 -- the numbers of a set don't fall
 not_falling : (xs : List ℕ) → IsSmallSet xs → (i j : ℕ) → i ≤ j → j < length xs → get_or xs i 0 ≤ get_or xs j 0
@@ -50,8 +50,7 @@ not_falling xs small i j le inside = grind (arith, AllPairs-from_increasing xs s
 pub search_is : (xs : List ℕ) (n : ℕ) (r : Result ℕ ℕ) → IsSmallSet xs → IsBinarySearchResult (λ y. nat_cmp y n) xs r
     → IsTrue (is_ok r) ↔ Contains xs n
 search_is xs n (Ok i) small h =
-    let found = searched xs n (Ok i) h (not_falling xs small) in
-    ((λ _. (i, found.0, get_or_default xs i n 0 found.0 ∙ found.1)), λ _. refl)
+    let found = searched xs n (Ok i) h (not_falling xs small) in grind (arith, get_or_default xs i n 0 found.0)
 search_is xs n (Err i) small h =
     let missed = searched xs n (Err i) h (not_falling xs small) in
     ((λ never. cc), λ (k, here, is). absurd (grind (arith, cases_lt k i, get_or_default xs k n 0 here)))
@@ -64,7 +63,6 @@ same_numbers (x ∷ xs) [] h k same = grind (arith, same x)
 same_numbers (x ∷ xs) (y ∷ ys) h k same = grind (arith, same x, same y, above_is, same_numbers xs ys h.1 k.1)
 
 pub one_set : (xs ys : List ℕ) → IsSmallSet xs → IsSmallSet ys → ((n : ℕ) → Contains xs n ↔ Contains ys n) → xs ≡ ys
-one_set xs ys h k same = same_numbers xs ys (Rises-from_increasing xs h) (Rises-from_increasing ys k) (λ n. (
-  (λ a. to_among n ys ((same n).0 (from_among n xs a))),
-  λ b. to_among n xs ((same n).1 (from_among n ys b)),
-))
+one_set xs ys h k same =
+    same_numbers xs ys (Rises-from_increasing xs h) (Rises-from_increasing ys k)
+    (λ n. grind (arith, to_among, from_among, same n))

@@ -1,5 +1,5 @@
 -- A walk over two ascending lists gives the wanted numbers of both, ascending.
-use Rattle.rpki_base.proofs.Common.{Contains, IsTrue, List, [], add-one, arith, false, inl, inr, le-ltb, length, lt-ltb, suc, zero, ℕ, ◌+◌, ◌<◌, ◌↔◌, ◌∷◌, ◌≡◌, ◌≤◌, ◌⊎◌, cases_eq, AllByRecursion, IsStrictlyIncreasing, all_kept, kept_items, walk, walk_step, Wanted}
+use Rattle.rpki_base.proofs.Common.{Contains, IsTrue, List, [], add-one, arith, false, inl, inr, le-ltb, length, lt-ltb, suc, ℕ, ◌+◌, ◌<◌, ◌↔◌, ◌∷◌, ◌≡◌, ◌≤◌, ◌⊎◌, cases_eq, AllByRecursion, IsStrictlyIncreasing, all_kept, kept_items, walk, walk_step, Wanted}
 
 -- n is one of the numbers
 abbrev pub Among : ℕ → List ℕ → Type 0
@@ -9,8 +9,7 @@ Among n (x ∷ xs) = (x ≡ n) ⊎ Among n xs
 -- the same by its place
 pub to_among : (n : ℕ) (xs : List ℕ) → Contains xs n → Among n xs
 to_among n [] h = grind arith
-to_among n (x ∷ xs) (zero, small, is) = inl is
-to_among n (x ∷ xs) (suc k, small, is) = inr (to_among n xs (k, omega (arith, small), is))
+to_among n (x ∷ xs) h = grind (arith, to_among n xs)
 
 pub from_among : (n : ℕ) (xs : List ℕ) → Among n xs → Contains xs n
 from_among n [] h = absurd h
@@ -47,14 +46,12 @@ Rises-from_increasing (x ∷ y ∷ xs) h =
     let later = Rises-from_increasing (y ∷ xs)
     (λ k small. (let next = h (suc k) (omega (arith, small)) in rw add-one (rw add-one at next))) in
     let less : x < y = h 0 (omega arith) in
-    ((less, above_more x y xs less later.0), later)
+    grind (arith, above_more)
 
 pub IsStrictlyIncreasing-rises : (xs : List ℕ) → Rises xs → IsStrictlyIncreasing xs
 IsStrictlyIncreasing-rises [] h k small = absurd (omega (arith, small))
 IsStrictlyIncreasing-rises (x ∷ []) h k small = absurd (omega (arith, small))
-IsStrictlyIncreasing-rises (x ∷ y ∷ xs) h zero small = h.0.0
-IsStrictlyIncreasing-rises (x ∷ y ∷ xs) h (suc k) small =
-    grind (arith, IsStrictlyIncreasing-rises (y ∷ xs) h.1 k (omega (arith, small)))
+IsStrictlyIncreasing-rises (x ∷ y ∷ xs) h k small = grind (arith, add-one, IsStrictlyIncreasing-rises (y ∷ xs) h.1)
 
 -- ---- a walk
 
@@ -96,8 +93,5 @@ pub record IsWalk (wanted : Wanted) (xs ys zs : List ℕ) : Type 0 where
   pub few_of_left : wanted.right ≡ false → length zs ≤ length xs
   pub few_of_right : wanted.left ≡ false → length zs ≤ length ys
 
-turns_are : (wanted : Wanted) → Turns wanted (IsWalk wanted)
-turns_are wanted = grind (arith, above_is, above_more)
-
 pub walk_is : (wanted : Wanted) (xs ys : List ℕ) → IsWalk wanted xs ys (walk wanted xs ys)
-walk_is wanted = walk_has wanted (IsWalk wanted) (turns_are wanted)
+walk_is wanted = walk_has wanted (IsWalk wanted) (grind (arith, above_is, above_more))

@@ -46,6 +46,7 @@ pub fn one_small_set()
 /// Octets are refused as not canonical by a strict cursor alone, and never as a value of any tag, an AS number or a
 /// family, which are read alike in both modes. As a BIT STRING a strict cursor refuses them so only where a lenient one
 /// finds it: each other fault of it comes first.
+#[tactic(auto, using(crate::proofs::DerFaults::value_faults, crate::proofs::FamilyLemmas::family_names, rpki_der::proofs::Steps::ok_or_err), unfolding(rpki_der::specs::Reading::refined, rpki_der::specs::Reading::bits_by))]
 pub fn not_canonical()
     ensures value { (bytes : List ℕ) → value_at bytes ≢ Err NotCanonical }
     ensures number { (bytes : List ℕ) → as_number_at bytes ≢ Err NotCanonical }

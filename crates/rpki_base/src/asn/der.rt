@@ -32,6 +32,7 @@ impl Asn {
 
     /// Takes an AS number as `take_from` does where the next octet is the tag of an INTEGER; None where it isn't, and
     /// at the end.
+    #[tactic(auto, using(crate::proofs::DerCursors::reads_tagged_by, rpki_der::proofs::Readings::u32_reading))]
     pub fn take_opt_from(cursor: &mut Cursor<'_>) -> Result<Option<Asn>, DerError>
         ensures reads { ReadsTagged 2 IsAsNumber cursor.old cursor.new result }
         ensures exact { Takes (λ n. n) cursor.old cursor.new result (if_tagged 2 as_number_at) }
@@ -41,6 +42,7 @@ impl Asn {
     }
 
     /// Passes over an AS number, with the faults of `take_from`.
+    #[tactic(auto, using(rpki_der::proofs::Cursors::reads_by, crate::proofs::DerReadings::number_skipped))]
     pub fn skip_in(cursor: &mut Cursor<'_>) -> Result<(), DerError>
         ensures reads { ReadsValue (Skips IsAsNumber) (λ u. u) cursor.old cursor.new result }
         ensures exact { Takes (λ u. u) cursor.old cursor.new result (skipping as_number_at) }

@@ -25,6 +25,7 @@ impl AddressFamily {
     ///
     /// The faults are those of [`Cursor::take_value`]; `BadTag` also where another value stands there, and `BadFamily`
     /// where its octets name no family.
+    #[tactic(auto, using(rpki_der::proofs::Cursors::reads_by, crate::proofs::FamilyLemmas::family_reading, crate::proofs::FamilyLemmas::family_again))]
     pub fn take_from(cursor: &mut Cursor<'_>) -> Result<AddressFamily, DerError>
         ensures reads { ReadsValue IsFamilyDer (λ f. f) cursor.old cursor.new result }
         ensures exact { Takes (λ f. f) cursor.old cursor.new result family_at }
@@ -39,6 +40,7 @@ impl AddressFamily {
 
     /// Takes a family as `take_from` does where the next octet is the tag of an OCTET STRING; None where it isn't, and
     /// at the end.
+    #[tactic(auto, using(crate::proofs::DerCursors::reads_tagged_by, crate::proofs::FamilyLemmas::family_reading))]
     pub fn take_opt_from(cursor: &mut Cursor<'_>) -> Result<Option<AddressFamily>, DerError>
         ensures reads { ReadsTagged 4 IsFamilyDer cursor.old cursor.new result }
         ensures exact { Takes (λ f. f) cursor.old cursor.new result (if_tagged 4 family_at) }
@@ -48,6 +50,7 @@ impl AddressFamily {
     }
 
     /// Passes over what `take_opt_from` takes, with the same faults.
+    #[tactic(auto, using(crate::proofs::DerCursors::reads_tagged_by, crate::proofs::FamilyLemmas::family_skipped))]
     pub fn skip_opt_in(cursor: &mut Cursor<'_>) -> Result<Option<()>, DerError>
         ensures reads { ReadsTagged 4 (Skips IsFamilyDer) cursor.old cursor.new result }
         ensures exact { Takes (λ u. u) cursor.old cursor.new result
@@ -68,6 +71,7 @@ impl AddressFamily {
 
     /// Appends the OCTET STRING of the family. `AllocError` where there is no memory for it; then the octets stay as
     /// they were.
+    #[tactic(auto, using(crate::proofs::FamilyLemmas::family_again))]
     pub fn encode<A: Allocator>(&self, out: &mut Vec<u8, A>) -> Result<(), AllocError>
         ensures ok { OnOk result (out.new.items ≡ out.old.items ++ family_der self.now) }
         ensures err { OnErr result (out.new.items ≡ out.old.items) }

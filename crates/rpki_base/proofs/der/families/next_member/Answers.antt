@@ -6,4 +6,5 @@ pub returns-clause-by_mode : goal.returns-clause-by_mode
 unfolding refined
 returns-clause-by_mode g c =
     let member = c.in_ok-member.ensures.by_mode in
-    (member.0, rw (c.in_ok-take_sequence.ensures.exact, ← c.in_ok-take_sequence.ensures.hands_on_mode, member.1) refl, member.2)
+    let exact = c.in_ok-take_sequence.ensures.exact in
+    (member.0, rw (exact, ← c.in_ok-take_sequence.ensures.hands_on_mode, member.1) refl, member.2)

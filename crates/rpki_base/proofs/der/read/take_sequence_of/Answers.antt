@@ -1,17 +1,17 @@
 -- What the reading gives is the value of the grammar.
+use Rattle.rpki_base.proofs.Common.{arith, lenient_is}
 use Rattle.rpki_base.proofs.DerCursors.{reads_or_memory_by}
-use Rattle.rpki_base.proofs.DerModes.{exact_or_memory_by, sequence_modal}
+use Rattle.rpki_base.proofs.DerModes.{sequence_modal}
 use Rattle.rpki_base.proofs.DerReadings.{sequence_reading}
 use Rattle.rpki_base.proofs.der.read.take_sequence_of.Goals as goal
 
 pub returns-clause-exact : goal.returns-clause-exact
-returns-clause-exact g c =
+returns-clause-exact g c lenient =
     let law = g.met.R.ReadNext in
     let reader = c.args.reader.now in
     let modal = sequence_modal (g.R.ReadNext.after reader) _ _ _ _ (law.is_reading reader) (law.has_octets reader)
     (law.is_modal reader) (g.R.ReadNext.first reader) in
-    exact_or_memory_by _ _ _ (λ values. values.items) c.args.cursor.now c.next_sequence.new.cursor
-    c.next_sequence.result modal c.next_sequence.ensures.by_mode
+    grind (arith, lenient_is _ _ _ modal)
 
 pub returns-clause-reads : goal.returns-clause-reads
 returns-clause-reads g c lenient =
@@ -19,5 +19,5 @@ returns-clause-reads g c lenient =
     let reader = c.args.reader.now in
     let is = sequence_reading (g.R.ReadNext.after reader) _ _ (law.is_reading reader) (law.has_octets reader)
     (g.R.ReadNext.first reader) in
-    reads_or_memory_by _ _ (λ values. values.items) c.args.cursor.now c.next_sequence.new.cursor
-    c.next_sequence.result is c.args.cursor.now.bytes (returns-clause-exact g c lenient)
+    reads_or_memory_by _ _ (λ values. values.items) c.args.cursor.now _ _ is c.args.cursor.now.bytes
+    (returns-clause-exact g c lenient)

@@ -4,24 +4,23 @@ use Rattle.rpki_base.proofs.WritingLemmas.{written_more, left_more}
 use Rattle.rpki_base.proofs.der.write.append_all.Goals as goal
 
 pub loop-value-init : goal.loop-value-init
-loop-value-init g c = record { written = sym (append-nil c.args.out.now.items); room = c.requires.room; capacity = omega arith }
+loop-value-init g c =
+    record { written = sym (append-nil c.args.out.now.items); room = c.requires.room; capacity = omega arith }
 
 pub append-requires : goal.append-requires
 append-requires g c =
-    let left = left_more g.V.Encode.octets c.args.values.now c.loop-value.value-index c.value-item.result c.loop-value-test.true c.value-item.is in
+    let left = left_more g.V.Encode.octets _ _ _ c.loop-value-test.true c.value-item.is in
     record { room = omega (arith, left, c.loop-value.invariant.room) }
 
 pub loop-value-preserved : goal.loop-value-preserved
 loop-value-preserved g c =
     let turn = c.loop-value in
     let octets = g.V.Encode.octets in
-    let values = c.args.values.now in
-    let item = c.value-item.result in
     let appended = c.append.ensures.items in
-    let left = left_more octets values turn.value-index item c.loop-value-test.true c.value-item.is in
-    let longer = ap (λ os. length os) appended ∙ length-append turn.out.items (octets item) in
+    let left = left_more octets _ _ _ c.loop-value-test.true c.value-item.is in
+    let longer = ap (λ os. length os) appended ∙ length-append turn.out.items (octets c.value-item.result) in
     record {
-      written = written_more octets values turn.value-index item c.loop-value-test.true c.value-item.is c.args.out.now.items turn.out.items c.append.new.out.items turn.invariant.written appended;
+      written = written_more octets _ _ _ c.loop-value-test.true c.value-item.is _ _ _ turn.invariant.written appended;
       room = omega (arith, left, longer, turn.invariant.room, c.append.ensures.capacity);
       capacity = omega (arith, turn.invariant.capacity, c.append.ensures.capacity);
     }

@@ -7,4 +7,5 @@ pub returns : goal.returns
 returns g c =
     let items = c.as_slice.ensures.value ∙ c.self.view_is in
     let found = rw items at c.binary_search.ensures.position in
-    rw c.is_ok.ensures.value (search_is c.args.self.now c.args.asn c.binary_search.result (subst IsSmallSet c.self.view_is c.self.invariant) found)
+    let ascending = subst IsSmallSet c.self.view_is c.self.invariant in
+    rw c.is_ok.ensures.value (search_is _ _ _ ascending found)

@@ -5,6 +5,5 @@ use Rattle.rpki_base.proofs.small_set.SmallAsnSet.symmetric_difference.Goals as 
 
 pub returns-clause-set : goal.returns-clause-set
 returns-clause-set g c =
-    let left = subst IsSmallSet c.self.view_is c.self.invariant in
-    let right = subst IsSmallSet c.other.view_is c.other.invariant in
-    symmetric_difference_is _ _ left right _ cc
+    symmetric_difference_is _ _ (subst IsSmallSet c.self.view_is c.self.invariant)
+    (subst IsSmallSet c.other.view_is c.other.invariant) _ cc

@@ -5,6 +5,5 @@ use Rattle.rpki_base.proofs.small_set.SmallAsnSet.union.Goals as goal
 
 pub returns-clause-set : goal.returns-clause-set
 returns-clause-set g c =
-    let left = subst IsSmallSet c.self.view_is c.self.invariant in
-    let right = subst IsSmallSet c.other.view_is c.other.invariant in
-    union_is _ _ left right _ cc
+    union_is _ _ (subst IsSmallSet c.self.view_is c.self.invariant)
+    (subst IsSmallSet c.other.view_is c.other.invariant) _ cc

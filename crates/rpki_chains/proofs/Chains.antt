@@ -1,5 +1,5 @@
 -- Lists of blocks that ascend and neither overlap nor touch, and what they cover.
-use Rattle.rpki_chains.proofs.Imports.{List, [], arith, get_or, length, refl, subst, suc, sym, zero, ℕ, ◌++◌, ◌+◌, ◌-◌, ◌<◌, ◌↔◌, ◌∙◌, ◌∷◌, ◌≡◌, ◌≤◌, ◌⊎◌, le_refl, cases_lt, get_or_append_left, get_or_default, get_or_push, length_push, All-push, Covers, IsChain, IsChainOf, IsNew, IsRun, IsWithin}
+use Rattle.rpki_chains.proofs.Imports.{List, [], arith, get_or, length, refl, suc, sym, zero, ℕ, ◌++◌, ◌+◌, ◌-◌, ◌<◌, ◌↔◌, ◌∙◌, ◌∷◌, ◌≡◌, ◌≤◌, ◌⊎◌, le_refl, cases_lt, get_or_append_left, get_or_default, get_or_push, length_push, All-push, Covers, IsChain, IsChainOf, IsNew, IsRun, IsWithin}
 use Rattle.std.proofs.lemmas.List.Quantifiers.{all_pairs_push}
 
 -- the element at an index
@@ -22,12 +22,6 @@ module _ {B : Type 0} (f : B → ℕ × ℕ) where
   -- the block at an index covers its numbers
   pub Covers-at : (xs : List B) (k n : ℕ) (d : B) → k < length xs → IsWithin (f (get_or xs k d)) n → Covers f xs n
   Covers-at xs k n d lt w = (k, get_or xs k d, lt, get_or_default xs k _ d lt, w)
-
-  -- and what is covered lies in some block, read with any default
-  covered_at : (xs : List B) (n : ℕ) (d : B) → Covers f xs n
-      → (k : ℕ) × (k < length xs) × IsWithin (f (get_or xs k d)) n
-  covered_at xs n d (k, x, lt, e, w) =
-      (k, lt, subst (λ (y : B). IsWithin (f y) n) (sym e ∙ get_or_default xs k x d lt) w)
 
   -- one block more covers its numbers more
   pub Covers-push : (xs : List B) (y : B) (n : ℕ) → Covers f (xs ++ y ∷ []) n ↔ (Covers f xs n ⊎ IsWithin (f y) n)
@@ -60,38 +54,28 @@ module _ {B : Type 0} (f : B → ℕ × ℕ) where
     ascends xs h i k d le lt = grind (arith, cases_lt)
 
     -- a number in a block, or next to it, lies in no other block
-    alone : (xs : List B) (k j n : ℕ) (d : B) → IsChain f form xs → k < length xs → (f (get_or xs k d)).0 ≤ n + 1
-        → n ≤ (f (get_or xs k d)).1 + 1 → j < length xs → IsWithin (f (get_or xs j d)) n
-        → IsWithin (f (get_or xs k d)) n
-    alone xs k j n d h lt low high within w = grind (arith, cases_lt)
+    own_block : (xs : List B) (k n : ℕ) (d : B) → IsChain f form xs → k < length xs → Covers f xs n
+        → (f (get_or xs k d)).0 ≤ n + 1 → n ≤ (f (get_or xs k d)).1 + 1 → IsWithin (f (get_or xs k d)) n
+    own_block xs k n d h lt c low high =
+        let is : c.1 ≡ get_or xs c.0 d = sym c.3 ∙ get_or_default xs c.0 c.1 d c.2 in
+        grind (arith, cases_lt)
 
     -- a set that has the chain's numbers has the chain's blocks for its runs
     pub IsChainOf-from : (xs : List B) (S : ℕ → Type 0) → IsChain f form xs → ((n : ℕ) → Covers f xs n ↔ S n)
         → IsChainOf f form S xs
     IsChainOf-from xs S h same =
-        let own : (k n : ℕ) (d : B) → k < length xs → (f (get_or xs k d)).0 ≤ n + 1 → n ≤ (f (get_or xs k d)).1 + 1
-        → S n → IsWithin (f (get_or xs k d)) n =
-        λ k n d lt low high s.
-        let c = covered_at xs n d ((same n).1 s) in
-        alone xs k c.0 n d h lt low high c.1 c.2 in
-        let run : (k : ℕ) (d : B) → k < length xs → IsRun S (f (get_or xs k d)) = λ k d lt. (
-        let o = h.ordered k d lt in
-        record {
-          ordered = o;
+        let run : (k : ℕ) (d : B) → k < length xs → IsRun S (f (get_or xs k d)) = λ k d lt. record {
+          ordered = h.ordered k d lt;
           inside = λ n w. (same n).0 (Covers-at xs k n d lt w);
-          starts = λ n next s. (let w = own k n d lt (omega arith) (omega arith) s in omega arith);
-          ends = λ s. (let w = own k _ d lt (omega arith) (omega arith) s in omega arith);
-        }) in
+          starts = λ n next s. grind (arith, h.ordered k d, own_block xs k n d h lt ((same n).1 s));
+          ends = λ s. (let c = (same _).1 s in grind (arith, h.ordered k d, own_block xs k _ d h lt c));
+        } in
         record {
           runs = run;
           every_run = λ b other. (
               let c : Covers f xs b.0 = (same b.0).1 (other.inside b.0 (le_refl b.0, other.ordered)) in
-              let here : IsRun S (f c.1) = subst (λ (y : B). IsRun S (f y)) c.3 (run c.0 c.1 c.2) in
-              (c.0, c.1, c.2, c.3, same_run S b (f c.1) other here c.4));
-          ascending = λ i j d below lt. (
-              let gap = h.apart i j d below lt in
-              let ordered = h.ordered i d (omega arith) in
-              omega arith);
+              (c.0, c.1, c.2, c.3, same_run S b (f c.1) other (rw (← c.3) (run c.0 c.1 c.2)) c.4));
+          ascending = λ i j d below lt. grind (arith, h.apart i j d, h.ordered i d);
           new_form = h.new_form;
           covers = same;
         }
@@ -107,7 +91,14 @@ module _ {B : Type 0} (f : B → ℕ × ℕ) where
       apart = λ i j d below lt.
           let one : IsRun S (f (get_or xs i d)) = h.runs i d (omega arith) in
           let later : IsRun S (f (get_or xs j d)) = h.runs j d lt in
-          let ascends = h.ascending i j d below lt in
-          grind (arith, cases_lt, later.starts ((f (get_or xs j d)).0 - 1));
+          grind (arith, cases_lt, h.ascending i j d below lt, later.starts ((f (get_or xs j d)).0 - 1));
       new_form = h.new_form;
     }
+
+    -- and is the chain of any other set with the same numbers
+    pub chain_of_same : (S All : ℕ → Type 0) → ((n : ℕ) → S n ↔ All n) → (xs : List B) → IsChainOf f form S xs
+        → IsChainOf f form All xs
+    chain_of_same S All same xs h = IsChainOf-from xs All (IsChain-from xs S h) (λ n.
+        let all = same n in
+        let covers = h.covers n in
+        (λ c. all.0 (covers.0 c), λ a. covers.1 (all.1 a)))

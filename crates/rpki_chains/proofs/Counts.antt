@@ -1,6 +1,6 @@
 -- How often the blocks of a chain were read: once each by a walk, and by a search that halves once for each binary
 -- digit.
-use Rattle.rpki_chains.proofs.Imports.{List, Option, add-one, ap, arith, if◌then◌else◌, is_some, le_refl, length, ℕ, ◌*◌, ◌+◌, ◌-◌, ◌<◌, ◌^◌, ◌∙◌, ◌≡◌, ◌≤◌, mul-le, mul-le-mul_right, pow-le-pow_right, two-pow-succ, cases_lt, HoldsBlock}
+use Rattle.rpki_chains.proofs.Imports.{List, Option, add-one, arith, if◌then◌else◌, is_some, length, ℕ, ◌*◌, ◌+◌, ◌-◌, ◌<◌, ◌^◌, ◌∙◌, ◌≡◌, ◌≤◌, mul-le, mul-le-mul_right, pow-le-pow_right, two-pow-succ, cases_lt, HoldsBlock}
 
 -- a reader of `xs` is at i: its blocks are still these, and those behind i are left to be read
 pub record IsReader {B : Type 0} (xs now : List B) (i count most : ℕ) : Type 0 where
@@ -8,17 +8,6 @@ pub record IsReader {B : Type 0} (xs now : List B) (i count most : ℕ) : Type 0
   pub reads : count + (length xs - (i + 1)) ≤ most
 
 module _ {B I : Type 0} (f : B → ℕ × ℕ) (number : I → ℕ) (last : ℕ) where
-  -- the blocks behind the first weren't read
-  pub read_first : (xs : List B) (block : Option (I × I)) (count new : ℕ) → HoldsBlock f number last xs 0 block
-      → new ≡ count + (if is_some block then 1 else 0) → new + (length xs - (0 + 1)) ≤ count + length xs
-  read_first xs block count new end is = grind (arith)
-
-  -- nor those behind the next
-  pub read_next : (xs : List B) (at : ℕ) (block : Option (I × I)) (count new : ℕ)
-      → HoldsBlock f number last xs (at + 1) block → new ≡ count + (if is_some block then 1 else 0)
-      → new + (length xs - (at + 1 + 1)) ≤ count + (length xs - (at + 1))
-  read_next xs at block count new end is = grind (arith)
-
   -- it has read the next block
   pub reader_next : (xs now new : List B) (i : ℕ) (block : Option (I × I)) (count more most : ℕ)
       → IsReader xs now i count most → HoldsBlock f number last now (i + 1) block → new ≡ now
@@ -26,13 +15,13 @@ module _ {B I : Type 0} (f : B → ℕ × ℕ) (number : I → ℕ) (last : ℕ)
       → IsReader xs new (i + 1) more most × HoldsBlock f number last xs (i + 1) block
   reader_next xs now new i block count more most reader at kept is =
       let here : HoldsBlock f number last xs (i + 1) block = rw reader.kept at at in
-      let less = read_next xs i block count more here is in
-      let before = reader.reads in
-      (record { kept = kept ∙ reader.kept; reads = omega arith }, here)
+      (record { kept = kept ∙ reader.kept; reads = grind (arith) }, here)
 
 -- each read halved what is searched, and so took one digit off
 abbrev pub Halved : ℕ → ℕ → ℕ → ℕ → Type 0
-Halved len size old count = (old ≤ count) × ((digits : ℕ) → len < 2 ^ digits → (count ≤ old + digits) × (size * 2 ^ (count - old) < 2 ^ digits))
+Halved len size old count =
+    (old ≤ count) × ((digits : ℕ) → len < 2 ^ digits
+    → (count ≤ old + digits) × (size * 2 ^ (count - old) < 2 ^ digits))
 
 -- a number that is left is one digit at least
 digit_left : (size steps digits : ℕ) → 0 < size → size * 2 ^ steps < 2 ^ digits → steps < digits
@@ -41,10 +30,8 @@ digit_left size steps digits some less = grind (arith, cases_lt, mul-le, mul-le-
 half_left : (size next steps digits : ℕ) → 2 * next ≤ size → size * 2 ^ steps < 2 ^ digits
     → next * 2 ^ (steps + 1) < 2 ^ digits
 half_left size next steps digits half less =
-    let double : 2 ^ (steps + 1) ≡ 2 ^ steps + 2 ^ steps = rw add-one (two-pow-succ steps) in
-    let whole : (2 * next) * 2 ^ steps ≤ size * 2 ^ steps = mul-le-mul_right (2 ^ steps) half in
-    let twice : next * 2 ^ (steps + 1) ≡ next * (2 ^ steps + 2 ^ steps) = ap (λ p. next * p) double in
-    omega arith
+    let whole = mul-le-mul_right (2 ^ steps) half in
+    rw (add-one, two-pow-succ) (omega arith)
 
 pub Halved-step : (len size next old count new : ℕ) → Halved len size old count → 0 < size → 2 * next ≤ size
     → new ≡ count + 1 → Halved len next old new
@@ -52,7 +39,7 @@ Halved-step len size next old count new (grows, before) some half is =
     let steps : new - old ≡ (count - old) + 1 = omega arith in (
       omega arith,
       λ digits fits. (
-        (let left = digit_left size (count - old) digits some (before digits fits).1 in omega arith),
+        omega (arith, digit_left size (count - old) digits some (before digits fits).1),
         rw steps (half_left size next (count - old) digits half (before digits fits).1),
       ),
     )
@@ -61,5 +48,4 @@ Halved-step len size next old count new (grows, before) some half is =
 pub sought_within : (i len digits old count new : ℕ) → i < len → count ≤ old + i * digits → new ≤ count + digits
     → new ≤ old + len * digits
 sought_within i len digits old count new lt before more =
-    let all : (i + 1) * digits ≤ len * digits = mul-le (i + 1) digits len digits (omega arith) (le_refl digits) in
-    omega arith
+    omega (arith, mul-le-mul_right {m = i + 1} {n = len} digits (omega arith))

@@ -1,9 +1,9 @@
 -- A walk over two chains that finds the first block of the one that doesn't lie in the other.
-use Rattle.rpki_chains.proofs.Imports.{Bool, IsTrue, List, MatchOption, None, Option, Some, ap, arith, get_or, is_some, length, not, subst, sym, ℕ, ⊎_elim, ◌+◌, ◌<◌, ◌↔◌, ◌∙◌, ◌≡◌, ◌≤◌, cases_lt, nat_tests, Before, Covers, HoldsBlock, IsChain, IsFitIn, IsInside, IsOverhang, IsWithin, Overhang, numbers}
+use Rattle.rpki_chains.proofs.Imports.{Bool, IsTrue, List, MatchOption, None, Option, Some, arith, drop, get_or, is_some, length, not, refl, subst, ℕ, ⊎_elim, ◌+◌, ◌-◌, ◌<◌, ◌↔◌, ◌∷◌, ◌≡◌, ◌≤◌, ◌⊎◌, cases_lt, drop_more, get_or_default, nat_tests, Before, Covers, HoldsBlock, IsChain, IsFitIn, IsInside, IsOverhang, IsWithin, Overhang, numbers}
 use Rattle.std.specs.Prelude.{⊤}
 use Rattle.rpki_chains.specs.declared.overhang.Fit.TheVariants as fit
-use Rattle.rpki_chains.proofs.Chains.{Covers-at, IsChainOf-itself, element_at}
-use Rattle.rpki_chains.proofs.Sides.{IsAt, IsAt-from, bounds_of, covers_at, high_at, lies_before, low_at, ordered_at}
+use Rattle.rpki_chains.proofs.Chains.{Covers-at, element_at}
+use Rattle.rpki_chains.proofs.Sides.{IsAt, IsAt-from, bounds_of, covers_at, lies_before, ordered_at}
 
 -- what lies in the first i blocks of xs lies in ys too, whose first j blocks end before the next block of xs begins
 pub record Passed {B : Type 0} (f : B → ℕ × ℕ) (form : ℕ × ℕ → B) (xs ys : List B) (i j : ℕ) : Type 0 where
@@ -17,22 +17,11 @@ pub passed_start : {B : Type 0} {f : B → ℕ × ℕ} {form : ℕ × ℕ → B}
     → IsChain f form ys → Passed f form xs ys 0 0
 passed_start own other = grind (arith)
 
--- a block doesn't lie in a chain that has no block left, or one at hand that it isn't inside, if none before reaches it
-outside : {B I : Type 0} (f : B → ℕ × ℕ) (form : ℕ × ℕ → B) (number : I → ℕ) (ys : List B) (j : ℕ) (b : I × I)
-    (c : Option (I × I)) → IsChain f form ys → IsAt f ys j (bounds_of number c) → number b.0 ≤ number b.1
-    → ((n : ℕ) → Covers f ys n → Before (bounds_of number c) n → n < number b.0)
-    → MatchOption c ⊤ (λ d. IsFitIn number b d fit.Beyond)
-    → ((n : ℕ) → IsWithin (numbers number b) n → Covers f ys n) → ⊥
-outside f form number ys j b None h at ordered before beyond all =
-    let less = before (number b.0) (all (number b.0) (omega arith, ordered)) tt in omega arith
-outside f form number ys j b (Some d) h at ordered before (meets, way) all = ⊎_elim
-    (λ early. let less = before (number b.0) (all (number b.0) (omega arith, ordered)) early in omega arith)
-    (λ (late : number d.1 < number b.1).
-    let x = (element_at ys j at.0).0 in
-    let covered : Covers f ys (number d.1 + 1) = all (number d.1 + 1) (omega arith, omega arith) in
-    ((IsChainOf-itself f form ys h).runs j x at.0).ends
-    (subst (λ m. Covers f ys (m + 1)) (sym (high_at f form ys j (numbers number d) h at x)) covered))
-    way
+-- the number behind a block at hand lies in no block
+behind_it : {B I : Type 0} (f : B → ℕ × ℕ) (form : ℕ × ℕ → B) (number : I → ℕ) (last : ℕ) (ys : List B) (j : ℕ)
+    (c : Option (I × I)) → IsChain f form ys → HoldsBlock f number last ys j c
+    → MatchOption c ⊤ (λ d. Covers f ys (number d.1 + 1) → ⊥)
+behind_it f form number last ys j c h at = grind (arith, cases_lt)
 
 module _ {B : Type 0} {f : B → ℕ × ℕ} {form : ℕ × ℕ → B} {xs ys : List B} {i j : ℕ} (w : Passed f form xs ys i j) where
   -- all of xs was passed
@@ -40,9 +29,6 @@ module _ {B : Type 0} {f : B → ℕ × ℕ} {form : ℕ × ℕ → B} {xs ys : 
   passed_all end n c = let lt = c.2 in w.inside n c (omega arith)
 
   module _ {I : Type 0} (number : I → ℕ) (last : ℕ) (b : I × I) (own : HoldsBlock f number last xs i (Some b)) where
-    at_hand : IsAt f xs i (Some (numbers number b))
-    at_hand = (own.0, own.1)
-
     -- the other's blocks up to a place end before the next block
     pub passed_skip : (at : ℕ) → ((k : ℕ) (d : B) → j ≤ k → k < at → (f (get_or ys k d)).1 < number b.0)
         → Passed f form xs ys i at
@@ -55,53 +41,81 @@ module _ {B : Type 0} {f : B → ℕ × ℕ} {form : ℕ × ℕ → B} {xs ys : 
 
       -- the next block lies in the other's
       pub passed_fit : IsFitIn number b c fit.Inside → Passed f form xs ys (i + 1) j
-      passed_fit fits = record {
-        own_chain = w.own_chain;
-        other_chain = w.other_chain;
-        inside = λ n d lt. ⊎_elim
-            (λ (early : d.0 < i). w.inside n d early)
-            (λ (late : i ≤ d.0).
-            let same : d.0 ≡ i = omega arith in
-            let here : get_or xs i d.1 ≡ d.1 = subst (λ (k : ℕ). get_or xs k d.1 ≡ d.1) same d.3 in
-            let bounds = ap f (sym here) ∙ own.1 d.1 in
-            let from = ap (λ (p : ℕ × ℕ). p.0) bounds in
-            let to = ap (λ (p : ℕ × ℕ). p.1) bounds in
-            let within = d.4 in
-            covers_at f form ys j (numbers number c) w.other_chain (other.0, other.1) n (omega arith) (omega arith))
-            (cases_lt d.0 i);
-        passed = λ k x y lt has. (
-            let before = w.passed k x y lt own.0 in
-            let gap = w.own_chain.apart i (i + 1) x (omega arith) has in
-            let ordered = w.own_chain.ordered i x own.0 in
-            omega arith);
-      }
+      passed_fit fits =
+          let inside : (n : ℕ) (d : Covers f xs n) → d.0 < i + 1 → Covers f ys n = λ n d lt.
+          let way : (d.0 < i) ⊎ IsWithin (numbers number c) n = grind (arith, cases_lt) in
+          ⊎_elim (w.inside n d)
+          (λ v. covers_at f form ys j (numbers number c) w.other_chain (other.0, other.1) n v.0 v.1) way in
+          grind (arith, w.own_chain.apart i (i + 1))
 
     module _ (c : Option (I × I)) (other : HoldsBlock f number last ys j c) where
-      held : IsAt f ys j (bounds_of number c)
-      held = IsAt-from f number last ys j c other
-
       before_it : (n : ℕ) → Covers f ys n → Before (bounds_of number c) n → n < number b.0
-      before_it n d early =
-          let low = low_at f form xs i (numbers number b) w.own_chain at_hand d.1 in
-          let early_at = lies_before f form ys j (bounds_of number c) w.other_chain held n d early in
-          let less = w.passed d.0 d.1 d.1 early_at own.0 in
-          let high = ap (λ (y : B). (f y).1) d.3 in
-          let within = d.4 in
-          omega arith
+      before_it n d early = grind (arith, cases_lt, IsAt-from f number last ys j c other, w.passed d.0 d.1 d.1)
 
       -- the next block doesn't lie in the other chain, of which no block is left, or one that it isn't inside
       pub leaves : (first : ℕ) → first ≤ number b.0 → MatchOption c ⊤ (λ d. IsFitIn number b d fit.Beyond)
           → IsOverhang f number first last xs ys (record { own_at = i; min = b.0; max = b.1; other_at = j; other = c })
-      leaves first from beyond = record {
-        own_block = own;
-        other_block = other;
-        from_first = from;
-        inside = λ n d less. w.inside n d
-            (lies_before f form xs i (Some (numbers number b)) w.own_chain at_hand n d less);
-        passed = before_it;
-        outside = outside f form number ys j b c w.other_chain held
-            (ordered_at f form xs i (numbers number b) w.own_chain at_hand) before_it beyond;
-      }
+      leaves first from beyond =
+          let at : IsAt f xs i (Some (numbers number b)) = (own.0, own.1) in
+          let ordered = ordered_at f form xs i (numbers number b) w.own_chain at in
+          let behind = behind_it f form number last ys j c w.other_chain other in
+          record {
+            own_block = own;
+            other_block = other;
+            from_first = from;
+            inside = λ n d less. w.inside n d
+                (lies_before f form xs i (Some (numbers number b)) w.own_chain at n d less);
+            passed = before_it;
+            outside = λ all. grind (arith, all (number b.0), before_it (number b.0), all, behind);
+          }
+
+-- the block that was read of a list is at hand
+pub held_at : {B I : Type 0} (f : B → ℕ × ℕ) (number : I → ℕ) (last : ℕ) (xs : List B) (i : ℕ) (x : B) (b : I × I)
+    → i < length xs → x ≡ get_or xs i x → number b.0 ≡ (f x).0 → number b.1 ≡ (f x).1 → number b.1 ≤ last
+    → HoldsBlock f number last xs i (Some b)
+held_at f number last xs i x b lt is low high to = grind (arith, get_or_default)
+
+-- the walk over two lists holds a block of the other one, and has the rest behind it still to come
+pub record Passing {B I : Type 0} (f : B → ℕ × ℕ) (form : ℕ × ℕ → B) (number : I → ℕ) (last : ℕ) (xs ys : List B)
+    (i : ℕ) (c : I × I) (rest : List B) : Type 0 where
+  pub more : length rest < length ys
+  pub behind : drop (length ys - length rest) ys ≡ rest
+  pub held : HoldsBlock f number last ys (length ys - length rest - 1) (Some c)
+  pub walk : Passed f form xs ys i (length ys - length rest - 1)
+
+-- at first that is the first block
+pub passing_start : {B I : Type 0} {f : B → ℕ × ℕ} {form : ℕ × ℕ → B} {number : I → ℕ} {last : ℕ} {xs ys rest : List B}
+    {y : B} {c : I × I} → IsChain f form xs → IsChain f form ys → ys ≡ y ∷ rest → number c.0 ≡ (f y).0
+    → number c.1 ≡ (f y).1 → number c.1 ≤ last → Passing f form number last xs ys 0 c rest
+passing_start own other is low high to =
+    let walk = passed_start own other in
+    grind (arith)
+
+module _ {B I : Type 0} {f : B → ℕ × ℕ} {form : ℕ × ℕ → B} {number : I → ℕ} {last : ℕ} {xs ys : List B} {i : ℕ}
+    {c : I × I} {rest : List B} (w : Passing f form number last xs ys i c rest) (b : I × I)
+    (own : HoldsBlock f number last xs i (Some b)) where
+  -- the held block ends before the next one of xs, and the one behind it is held
+  pub passing_skip : (y : B) (d : I × I) (more : List B) → number c.1 < number b.0 → rest ≡ y ∷ more
+      → number d.0 ≡ (f y).0 → number d.1 ≡ (f y).1 → number d.1 ≤ last → Passing f form number last xs ys i d more
+  passing_skip y d more less next low high to =
+      let walk = passed_next w.walk number last b own c w.held less in
+      grind (arith, drop_more ys (length ys - length rest) y, get_or_default)
+
+  -- it has the next one of xs
+  pub passing_fit : IsFitIn number b c fit.Inside → Passing f form number last xs ys (i + 1) c rest
+  passing_fit fits =
+      let walk = passed_fit w.walk number last b own c w.held fits in
+      grind (arith)
+
+  -- it ends before that, and none comes behind: the block leaves the other chain
+  pub passing_end : (first : ℕ) → first ≤ number b.0 → number c.1 < number b.0 → length rest ≡ 0
+      → IsOverhang f number first last xs ys
+      (record { own_at = i; min = b.0; max = b.1; other_at = length ys; other = None })
+  passing_end first from less none =
+      let more = w.more in
+      let end : length ys - length rest - 1 + 1 ≡ length ys = omega arith in
+      let walk = subst (Passed f form xs ys i) end (passed_next w.walk number last b own c w.held less) in
+      leaves walk number last b own None refl first from tt
 
 module _ {B I : Type 0} (f : B → ℕ × ℕ) (form : ℕ × ℕ → B) (number : I → ℕ) (first last : ℕ) (xs ys : List B) where
   -- then not all of the chain lies in the other

@@ -2,15 +2,13 @@
 pub mod Beyond
 pub mod Chains
 mod Counts
-mod CutTurns
 mod Cutting
 pub mod FitTurns
+mod Gathering
 pub mod Imports
 mod Joining
-mod MeetTurns
 mod Meets
 mod Merges
-mod Passing
 mod Searches
 pub mod Shortest
 mod Sides

@@ -1,102 +1,105 @@
--- A walk over two chains that gives what they have in common.
-use Rattle.rpki_chains.proofs.Imports.{List, None, Option, Some, [], arith, get_or, inl, inr, length, subst, sym, ℕ, ⊎_elim, ◌++◌, ◌+◌, ◌<◌, ◌↔◌, ◌∷◌, ◌≡◌, ◌≤◌, ◌⊎◌, cases_lt, length_push, Before, Covers, IsChain, IsNew}
-use Rattle.rpki_chains.proofs.Chains.{Covers-push, Covers-at, IsChain-push}
-use Rattle.rpki_chains.proofs.Sides.{IsAt, ordered_at, covers_at, up_to, before_next, gap_before}
+-- A walk over two chains that gathers what they have in common.
+use Rattle.rpki_chains.proofs.Imports.{List, None, Option, Some, arith, inl, inr, length, take, ℕ, ◌+◌, ◌<◌, ◌↔◌, ◌≡◌, ◌≤◌, ◌⊎◌, cases_lt, get_or-take, length-take-le, length_push, All-take, Before, Covers, HoldsBlock, IsChain, IsChainOf, IsOverhang, Overhang, numbers}
+use Rattle.rpki_chains.specs.Common.{IsCommonPushed}
+use Rattle.rpki_chains.proofs.Gathering.{IsGathered, gathered_all, gathered_as, gathered_push}
+use Rattle.rpki_chains.proofs.Sides.{IsAt, IsAt-from, before_next, bounds_of, covers_at, gap_before, lies_before, low_at, ordered_at, up_to}
 
-module _ {B : Type 0} (f : B → ℕ × ℕ) (form : ℕ × ℕ → B) where
-  -- `out` is what the chains have in common before one of the blocks at hand
-  pub record Meet (xs ys : List B) (i : ℕ) (b : Option (ℕ × ℕ)) (j : ℕ) (c : Option (ℕ × ℕ)) (out : List B) : Type 0 where
-    pub own_chain : IsChain f form xs
-    pub other_chain : IsChain f form ys
-    pub own_at : IsAt f xs i b
-    pub other_at : IsAt f ys j c
-    pub chain : IsChain f form out
-    pub covers : (n : ℕ) → Covers f out n ↔ (Covers f xs n × Covers f ys n × (Before b n ⊎ Before c n))
-    pub few : length out ≤ i + j
+-- `out` is what the chains have in common before one of the blocks at hand
+pub record Meet {B I : Type 0} (f : B → ℕ × ℕ) (form : ℕ × ℕ → B) (number : I → ℕ) (last : ℕ) (xs ys : List B)
+    (i : ℕ) (b : Option (I × I)) (j : ℕ) (c : Option (I × I)) (out : List B) : Type 0 where
+  pub own_chain : IsChain f form xs
+  pub other_chain : IsChain f form ys
+  pub own_at : HoldsBlock f number last xs i b
+  pub other_at : HoldsBlock f number last ys j c
+  pub common : IsGathered f form (λ n. Covers f xs n × Covers f ys n)
+      (λ n. Before (bounds_of number b) n ⊎ Before (bounds_of number c) n) out
+  pub few : length out ≤ i + j
+
+-- the blocks of a chain before the one at hand cover what comes before it
+Covers-take : {B : Type 0} (f : B → ℕ × ℕ) (form : ℕ × ℕ → B) (xs : List B) (i : ℕ) (b : ℕ × ℕ) → IsChain f form xs
+    → IsAt f xs i (Some b) → (n : ℕ) → Covers f (take i xs) n ↔ (Covers f xs n × (n < b.0))
+Covers-take f form xs i b h at n =
+    let len = length-take-le i xs (omega (arith, at.0)) in
+    grind (arith, get_or-take, lies_before f form xs i (Some b) h at n, low_at f form xs i b h at)
+
+module _ {B I : Type 0} {f : B → ℕ × ℕ} {form : ℕ × ℕ → B} {number : I → ℕ} {last : ℕ} where
+  -- what came before an overhang is what the chains have in common there
+  pub meet_start : {first : ℕ} {xs ys : List B} {o : Overhang I} → IsOverhang f number first last xs ys o
+      → IsChain f form xs → IsChain f form ys
+      → Meet f form number last xs ys o.own_at (Some (o.min, o.max)) o.other_at o.other (take o.own_at xs)
+  meet_start {xs = xs} {ys} {o} h hx hy =
+      let at : IsAt f xs o.own_at (Some (numbers number (o.min, o.max))) = (h.own_block.0, h.own_block.1) in
+      let len = length-take-le o.own_at xs (omega (arith, at.0)) in
+      let common : IsGathered f form (λ n. Covers f xs n × Covers f ys n)
+      (λ n. (n < number o.min) ⊎ Before (bounds_of number o.other) n) (take o.own_at xs) = record {
+        chain = grind (arith, All-take, get_or-take);
+        covers = λ n. grind (arith, Covers-take f form xs o.own_at _ hx at n, h.inside n, h.passed n);
+      } in
+      grind (arith)
 
   -- the chains may change places
-  pub Meet-swap : (xs ys out : List B) (i j : ℕ) (b c : Option (ℕ × ℕ)) → Meet xs ys i b j c out
-      → Meet ys xs j c i b out
-  Meet-swap xs ys out i j b c w = record {
-    own_chain = w.other_chain;
-    other_chain = w.own_chain;
-    own_at = w.other_at;
-    other_at = w.own_at;
-    chain = w.chain;
-    covers = λ n. (λ h. (let facts = (w.covers n).0 h in (facts.1, facts.0, ⊎_elim inr inl facts.2)), λ (y, x, way). (w.covers n).1 (x, y, ⊎_elim inr inl way));
-    few = (let l = w.few in omega arith);
-  }
+  pub meet_swap : {xs ys out : List B} {i j : ℕ} {b c : Option (I × I)} → Meet f form number last xs ys i b j c out
+      → Meet f form number last ys xs j c i b out
+  meet_swap {xs} {ys} {out} {b = b} {c = c} w =
+      let common : IsGathered f form (λ n. Covers f ys n × Covers f xs n)
+      (λ n. Before (bounds_of number c) n ⊎ Before (bounds_of number b) n) out =
+      record { chain = w.common.chain; covers = λ n. grind (arith, w.common.covers n) } in
+      grind (arith)
 
-  -- the one block ends before the other begins
-  pub Meet-before : (xs ys out : List B) (i j : ℕ) (b c : ℕ × ℕ) (next : Option (ℕ × ℕ))
-      → Meet xs ys i (Some b) j (Some c) out → b.1 < c.0 → IsAt f xs (i + 1) next
-      → Meet xs ys (i + 1) next j (Some c) out
-  Meet-before xs ys out i j b c next w less after = record {
-    own_chain = w.own_chain;
-    other_chain = w.other_chain;
-    own_at = after;
-    other_at = w.other_at;
-    chain = w.chain;
-    covers = λ n. (
-      λ h. (
-          let facts = (w.covers n).0 h in
-          let ordered = ordered_at f form xs i b w.own_chain w.own_at in
-          (facts.0, facts.1, ⊎_elim (λ (early : n < b.0). inl (before_next f form xs i b w.own_chain w.own_at next after n (omega arith))) inr facts.2)),
-      λ (x, y, way). (w.covers n).1 (x, y, ⊎_elim (λ before. inr (let le = up_to f form xs i b w.own_chain w.own_at next after n x before in omega arith)) inr way),
-    );
-    few = (let l = w.few in omega arith);
-  }
+  -- where one chain has ended, all is there that both have
+  pub meet_done : {xs ys out : List B} {i j : ℕ} {b c : Option (I × I)} → Meet f form number last xs ys i b j c out
+      → (b ≡ None) ⊎ (c ≡ None) → IsChainOf f form (λ n. Covers f xs n × Covers f ys n) out
+  meet_done w ended = gathered_all w.common (λ n s. grind (arith))
 
-  -- the blocks meet, and the one ends first
-  pub Meet-ends : (xs ys out : List B) (i j : ℕ) (b c : ℕ × ℕ) (next : Option (ℕ × ℕ)) (y : B)
-      → Meet xs ys i (Some b) j (Some c) out → b.0 ≤ (f y).0 → c.0 ≤ (f y).0 → ((f y).0 ≡ b.0) ⊎ ((f y).0 ≡ c.0)
-      → (f y).0 ≤ (f y).1 → (f y).1 ≡ b.1 → b.1 ≤ c.1 → IsNew f form y → IsAt f xs (i + 1) next
-      → Meet xs ys (i + 1) next j (Some c) (out ++ y ∷ [])
-  Meet-ends xs ys out i j b c next y w own_low other_low which ordered ends first new after = record {
-    own_chain = w.own_chain;
-    other_chain = w.other_chain;
-    own_at = after;
-    other_at = w.other_at;
-    chain = IsChain-push f form out y w.chain ordered new (λ at d end. (
-        let lt : at < length out = omega arith in
-        let o = w.chain.ordered at d lt in
-        let n = (f (get_or out at d)).1 in
-        let covered : Covers f out n = Covers-at f out at n d lt (omega arith, omega arith) in
-        let facts = (w.covers n).0 covered in
-        ⊎_elim
-        (λ (early : n < b.0). let g = gap_before f form xs i b w.own_chain w.own_at n facts.0 early in omega arith)
-        (λ (early : n < c.0). let g = gap_before f form ys j c w.other_chain w.other_at n facts.1 early in omega arith)
-        facts.2));
-    covers = λ n. (let push = Covers-push f out y n in (
-      λ h. ⊎_elim
-          (λ old. let facts = (w.covers n).0 old in
-          (facts.0, facts.1, ⊎_elim (λ (early : n < b.0). inl (before_next f form xs i b w.own_chain w.own_at next after n (omega arith))) inr facts.2))
-          (λ v.
-          let from = v.0 in
-          let to = v.1 in (
-            covers_at f form xs i b w.own_chain w.own_at n (omega arith) (omega arith),
-            covers_at f form ys j c w.other_chain w.other_at n (omega arith) (omega arith),
-            inl (before_next f form xs i b w.own_chain w.own_at next after n (omega arith)),
-          ))
-          (push.0 h),
-      λ (x, z, way). push.1 (⊎_elim
-          (λ (early : n < (f y).0). inl ((w.covers n).1 (x, z, ⊎_elim (λ (same : (f y).0 ≡ b.0). inl (omega arith)) (λ (same : (f y).0 ≡ c.0). inr (omega arith)) which)))
-          (λ (from : (f y).0 ≤ n). inr (
-            from,
-            ⊎_elim
-                (λ before. let le = up_to f form xs i b w.own_chain w.own_at next after n x before in omega arith)
-                (λ (early : n < c.0). absurd (omega arith))
-                way,
-          ))
-          (cases_lt n (f y).0)),
-    ));
-    few = (let l = w.few in let more = length_push out y in omega arith);
-  }
+  module _ {xs ys out : List B} {i j : ℕ} {b c : I × I}
+      (w : Meet f form number last xs ys i (Some b) j (Some c) out) where
+    own_is : IsAt f xs i (Some (numbers number b))
+    own_is = (w.own_at.0, w.own_at.1)
 
-  -- nothing is left on one side
-  pub Meet-end : (xs ys out : List B) (i j : ℕ) (b c : Option (ℕ × ℕ)) → Meet xs ys i b j c out
-      → (b ≡ None) ⊎ (c ≡ None) → (n : ℕ) → Covers f out n ↔ (Covers f xs n × Covers f ys n)
-  Meet-end xs ys out i j b c w none n = (
-    λ h. (let facts = (w.covers n).0 h in (facts.0, facts.1)),
-    λ (x, y). (w.covers n).1 (x, y, ⊎_elim (λ (e : b ≡ None). inl (subst (λ o. Before o n) (sym e) tt)) (λ (e : c ≡ None). inr (subst (λ o. Before o n) (sym e) tt)) none),
-  )
+    other_is : IsAt f ys j (Some (numbers number c))
+    other_is = (w.other_at.0, w.other_at.1)
+
+    -- the block at hand is ordered
+    pub meet_ordered : number b.0 ≤ number b.1
+    meet_ordered = ordered_at f form xs i (numbers number b) w.own_chain own_is
+
+    -- both chains have a gap before theirs
+    meet_gap : (m : ℕ) → number b.0 ≤ m → number c.0 ≤ m → (n : ℕ) → Covers f out n → n + 1 < m
+    meet_gap m own other n t =
+        let s = (w.common.covers n).0 t in
+        let own_gap = gap_before f form xs i (numbers number b) w.own_chain own_is n s.0.0 in
+        let other_gap = gap_before f form ys j (numbers number c) w.other_chain other_is n s.0.1 in
+        grind (arith)
+
+    -- the one chain's block ends first: what both have of it is behind the chain, and the next block is at hand
+    pub meet_own_ends : {made : List B} (next : Option (I × I))
+        → IsCommonPushed f form (numbers number b) (numbers number c) out made → number b.1 ≤ number c.1
+        → HoldsBlock f number last xs (i + 1) next → Meet f form number last xs ys (i + 1) next j (Some c) made
+    meet_own_ends {made} next pushed first after =
+        let at = IsAt-from f number last xs (i + 1) next after in
+        let ordered = meet_ordered in
+        let reached = up_to f form xs i (numbers number b) w.own_chain own_is (bounds_of number next) at in
+        let passed = before_next f form xs i (numbers number b) w.own_chain own_is (bounds_of number next) at in
+        let own_covers = covers_at f form xs i (numbers number b) w.own_chain own_is in
+        let other_covers = covers_at f form ys j (numbers number c) w.other_chain other_is in
+        let before = λ (n : ℕ). Before (bounds_of number next) n ⊎ (n < number c.0) in
+        let both : IsGathered f form (λ n. Covers f xs n × Covers f ys n) before made × (length made ≤ length out + 1) =
+        elim pushed [
+          | inl (apart, same) ↦
+              rw same (gathered_as w.common before (λ n s. grind (arith, reached n s.0, passed n)), omega arith)
+          | inr (y, common, new, is) ↦ rw is (
+            gathered_push w.common before y new common.ordered
+                (meet_gap (f y).0 common.begins.0 common.begins.1)
+                (λ n v. grind (arith, own_covers n, other_covers n))
+                (λ n s. grind (arith, cases_lt, reached n s.0, passed n)),
+            omega (arith, length_push out y),
+          )
+        ] in
+        grind (arith)
+
+  -- the same, where the other chain's block does
+  pub meet_other_ends : {xs ys out made : List B} {i j : ℕ} {b c : I × I} (next : Option (I × I))
+      → Meet f form number last xs ys i (Some b) j (Some c) out
+      → IsCommonPushed f form (numbers number c) (numbers number b) out made → number c.1 ≤ number b.1
+      → HoldsBlock f number last ys (j + 1) next → Meet f form number last xs ys i (Some b) (j + 1) next made
+  meet_other_ends next w pushed first after = meet_swap (meet_own_ends (meet_swap w) next pushed first after)

@@ -1,189 +1,184 @@
 -- Walks that take the block that begins first into the run at hand: what is held, and the blocks that are left.
-use Rattle.rpki_chains.proofs.Imports.{List, Some, [], arith, drop, get_or, inl, inr, length, subst, sym, ℕ, ⊎_elim, ◌++◌, ◌+◌, ◌<◌, ◌↔◌, ◌∷◌, ◌≡◌, ◌≤◌, ◌⊎◌, drop_all, drop_more, length-append, IsBehind, IsHeld, Covers, HoldsBlock, IsChain, IsChainOf, IsNew, IsWithin, numbers}
-use Rattle.rpki_chains.proofs.Chains.{Covers-nil, element_at, IsChainOf-from, IsChain-from}
-use Rattle.rpki_chains.proofs.Joining.{first_run, closed_run, held_closed}
+use Rattle.rpki_chains.proofs.Imports.{List, Some, None, [], arith, drop, get_or, inl, inr, le_refl, length, refl, ℕ, ⊎_elim, ◌++◌, ◌+◌, ◌-◌, ◌↔◌, ◌∷◌, ◌≡◌, ◌≤◌, ◌⊎◌, drop_all, drop_more, length-append, IsBehind, IsHeld, Covers, HoldsBlock, IsChain, IsChainOf, IsWithin, numbers}
+use Rattle.std.proofs.Common.{IfOk, Result}
+use Rattle.rpki_chains.proofs.Chains.{Covers-nil, Covers-push_as, element_at, IsChainOf-from, IsChain-from, chain_of_same}
+use Rattle.rpki_chains.proofs.Counts.{IsReader, reader_next}
+use Rattle.rpki_chains.proofs.Joining.{Turn, first_run, closed_run}
 use Rattle.rpki_chains.proofs.Sides.{IsAt, ordered_at, covers_at, before_next}
 use Rattle.rpki_chains.proofs.Shortest.{IsChain-shortest}
-use Rattle.rpki_chains.proofs.Unique.{Covers-head, Covers-tail, Covers-cons_cases}
-
--- what is held and what is left to come are together all
-abbrev pub IsSplit : (ℕ → Type 0) → (ℕ → Type 0) → (ℕ → Type 0) → Type 0
-IsSplit Held Left All = (n : ℕ) → (Held n ⊎ Left n) ↔ All n
-
--- what is left is of two lists, which may change places
-split-swap : (Held S U All : ℕ → Type 0) → IsSplit Held (λ n. S n ⊎ U n) All → IsSplit Held (λ n. U n ⊎ S n) All
-split-swap Held S U All h n = grind (arith)
+use Rattle.rpki_chains.proofs.Unique.{Covers-cons, Covers-head, Covers-tail, Covers-cons_cases}
+use Rattle.std.proofs.lemmas.Result.{IfOk-weaker}
 
 -- a turn moves the block at hand from what is left to what is held
-pub split-turn : (Held New Left Next S All : ℕ → Type 0) (b : ℕ × ℕ)
-    → ((n : ℕ) → Left n ↔ (IsWithin b n ⊎ Next n)) → ((n : ℕ) → New n ↔ (Held n ⊎ IsWithin b n))
-    → IsSplit Held (λ n. Left n ⊎ S n) All → IsSplit New (λ n. Next n ⊎ S n) All
-split-turn Held New Left Next S All b left step before n =
-    let at = left n in let more = step n in let held = before n in (
-      ⊎_elim (λ h. held.0 (⊎_elim inl (λ w. inr (inl (at.1 (inl w)))) (more.0 h)))
-          (⊎_elim (λ r. held.0 (inr (inl (at.1 (inr r))))) (λ s. held.0 (inr (inr s)))),
-      λ a. ⊎_elim (λ h. inl (more.1 (inl h)))
-          (⊎_elim (λ l. ⊎_elim (λ w. inl (more.1 (inr w))) (λ r. inr (inl r)) (at.0 l)) (λ s. inr (inr s))) (held.1 a),
-    )
+moved : {All Held New Left Next Block Rest : Type 0} → ((Held ⊎ (Left ⊎ Rest)) ↔ All) → (New ↔ (Held ⊎ Block))
+    → (Left ↔ (Block ⊎ Next)) → (New ⊎ (Next ⊎ Rest)) ↔ All
+moved all new left = grind (arith)
+
+-- what is left of two lists may change places
+swapped : {All Held One Other : Type 0} → ((Held ⊎ (One ⊎ Other)) ↔ All) → (Held ⊎ (Other ⊎ One)) ↔ All
+swapped all = grind (arith)
+
+-- two sets with the numbers of a third have the same
+same_both : {A B C : Type 0} → (A ↔ B) → (C ↔ B) → A ↔ C
+same_both one other = grind (arith)
 
 module _ {B : Type 0} (f : B → ℕ × ℕ) where
   -- the blocks that are left are the one at hand and those behind it
-  pub Covers-left : (xs : List B) (i : ℕ) (b : ℕ × ℕ) → IsAt f xs i (Some b) → (n : ℕ)
+  Covers-left : (xs : List B) (i : ℕ) (b : ℕ × ℕ) → IsAt f xs i (Some b) → (n : ℕ)
       → Covers f (drop i xs) n ↔ (IsWithin b n ⊎ Covers f (drop (i + 1) xs) n)
   Covers-left xs i b at n =
       let x = (element_at xs i at.0).0 in
-      let y = get_or xs i x in
-      let is = drop_more xs i x at.0 in (
-        λ c. ⊎_elim (λ w. inl (subst (λ (p : ℕ × ℕ). IsWithin p n) (at.1 x) w)) inr (Covers-cons_cases f y (drop (i + 1) xs) n (subst (λ us. Covers f us n) is c)),
-        λ h. subst (λ us. Covers f us n) (sym is) (⊎_elim (λ w. Covers-head f y (drop (i + 1) xs) n (subst (λ (p : ℕ × ℕ). IsWithin p n) (sym (at.1 x)) w)) (Covers-tail f y (drop (i + 1) xs) n) h),
-      )
+      rw (drop_more xs i x at.0, ← at.1 x) (Covers-cons f (get_or xs i x) (drop (i + 1) xs) n)
 
   -- none is left at the end
   pub none_left : (xs : List B) (i n : ℕ) → i ≡ length xs → Covers f (drop i xs) n → ⊥
-  none_left xs i n end c = Covers-nil f n (subst (λ us. Covers f us n) (drop_all i xs (omega arith)) c)
+  none_left xs i n end c = Covers-nil f n (rw (drop_all i xs (omega arith)) at c)
+
+  -- what a first run holds is of a set that has its numbers
+  held_first : (run : ℕ × ℕ) (All : ℕ → Type 0) (n : ℕ) → (IsWithin run n → All n) → (IsHeld f [] run n ⊎ All n) ↔ All n
+  held_first run All n within = (⊎_elim (⊎_elim (λ no. absurd (Covers-nil f n no)) within) (λ all. all), inr)
 
   -- what two lists cover
-  pub Covers-append : (xs ys : List B) (n : ℕ) → Covers f (xs ++ ys) n ↔ (Covers f xs n ⊎ Covers f ys n)
-  Covers-append [] ys n = (inr, ⊎_elim (λ c. absurd (Covers-nil f n c)) (λ c. c))
+  Covers-append : (xs ys : List B) (n : ℕ) → Covers f (xs ++ ys) n ↔ (Covers f xs n ⊎ Covers f ys n)
+  Covers-append [] ys n = grind (arith, Covers-nil)
   Covers-append (x ∷ xs) ys n = grind (arith, Covers-cons_cases, Covers-head, Covers-tail, Covers-append xs ys n)
 
-module _ {B : Type 0} (f : B → ℕ × ℕ) (form : ℕ × ℕ → B) where
-  -- where nothing is left the run is closed, and the chain is that of all
-  pub closed_rest : (last : ℕ) (All : ℕ → Type 0) (xs : List B) (i : ℕ) (out : List B) (run : ℕ × ℕ) → i ≡ length xs
-      → IsSplit (IsHeld f out run) (λ n. Covers f (drop i xs) n ⊎ ⊥) All → IsBehind f form last out run → (y : B)
-      → f y ≡ run → IsNew f form y → IsChainOf f form All (out ++ y ∷ [])
-  closed_rest last All xs i out run end split behind y is new =
-      let closed = held_closed f form last out run behind y is new in
-      IsChainOf-from f form (out ++ y ∷ []) All (closed_run f form last out run behind y is new) (λ n. (
-        λ c. (split n).0 (inl ((closed n).0 c)),
-        λ all. (closed n).1 (⊎_elim (λ h. h) (⊎_elim (λ c. absurd (none_left f xs i n end c)) (λ no. absurd no))
-            ((split n).1 all)),
-      ))
-
   -- no chain of a union has more blocks than both lists
-  pub union_few : (xs ys out : List B) → IsChainOf f form (λ n. Covers f xs n ⊎ Covers f ys n) out
-      → length out ≤ length xs + length ys
-  union_few xs ys out h =
+  pub union_few : (form : ℕ × ℕ → B) {E : Type 0} (xs ys : List B) (r : Result (List B) E)
+      → IfOk r (IsChainOf f form (λ n. Covers f xs n ⊎ Covers f ys n))
+      → IfOk r (λ out. length out ≤ length xs + length ys)
+  union_few form xs ys r = IfOk-weaker r _ _ (λ out h.
       let both = length-append xs ys in
-      let chain = IsChain-from f form out (λ n. Covers f xs n ⊎ Covers f ys n) h in
-      let short = IsChain-shortest f form out (xs ++ ys) chain (λ n. (let append = Covers-append f xs ys n in (λ c. (h.covers n).1 (append.0 c), λ c. append.1 ((h.covers n).0 c)))) in
-      omega arith
+      let short = IsChain-shortest f form out (xs ++ ys) (IsChain-from f form out _ h)
+      (λ n. same_both (Covers-append xs ys n) (h.covers n)) in
+      omega arith)
 
-  module _ {I : Type 0} (number : I → ℕ) (last : ℕ) where
-    -- one side of a walk: the block at its index is at hand, and doesn't begin before the run
-    pub record Side (xs : List B) (i : ℕ) (b run : I × I) : Type 0 where
-      pub chain : IsChain f form xs
-      pub at : HoldsBlock f number last xs i (Some b)
-      pub later : number run.0 ≤ number b.0
+-- a walk over a list that joins its blocks, with what is left elsewhere: the run at hand begins no later than the block
+-- at hand, all is held or left, and the blocks behind the one at hand are left to be read
+pub record Walk {B I : Type 0} (f : B → ℕ × ℕ) (form : ℕ × ℕ → B) (number : I → ℕ) (last : ℕ) (All Rest : ℕ → Type 0)
+    (xs now : List B) (i count most : ℕ) (b run : I × I) (out : List B) : Type 0 where
+  pub behind : IsBehind f form last out (numbers number run)
+  pub chain : IsChain f form xs
+  pub at : HoldsBlock f number last xs i (Some b)
+  pub ordered : number b.0 ≤ number b.1
+  pub later : number run.0 ≤ number b.0
+  pub held : (n : ℕ) → (IsHeld f out (numbers number run) n ⊎ (Covers f (drop i xs) n ⊎ Rest n)) ↔ All n
+  pub reader : IsReader xs now i count most
 
-    module _ (xs : List B) (i : ℕ) (b run : I × I) (side : Side xs i b run) where
-      pub Side-at : IsAt f xs i (Some (numbers number b))
-      Side-at = (side.at.0, side.at.1)
+module _ {B I : Type 0} {f : B → ℕ × ℕ} {form : ℕ × ℕ → B} {number : I → ℕ} {last : ℕ} where
+  -- it begins at any block
+  walk_from : {All Rest : ℕ → Type 0} {xs now : List B} {i count most : ℕ} {b run : I × I} {out : List B}
+      → IsBehind f form last out (numbers number run) → IsChain f form xs → HoldsBlock f number last xs i (Some b)
+      → number run.0 ≤ number b.0
+      → ((n : ℕ) → (IsHeld f out (numbers number run) n ⊎ (Covers f (drop i xs) n ⊎ Rest n)) ↔ All n)
+      → IsReader xs now i count most → Walk f form number last All Rest xs now i count most b run out
+  walk_from {xs = xs} {i = i} {b = b} behind chain at later held reader = record {
+    behind = behind;
+    chain = chain;
+    at = at;
+    ordered = ordered_at f form xs i (numbers number b) chain (at.0, at.1);
+    later = later;
+    held = held;
+    reader = reader;
+  }
 
-      -- the block at hand is ordered
-      pub Side-ordered : number b.0 ≤ number b.1
-      Side-ordered = ordered_at f form xs i (numbers number b) side.chain Side-at
+  -- with nothing left elsewhere, of what is held and left then
+  pub walk_alone : {xs : List B} {i : ℕ} (count : ℕ) {b run : I × I} {out : List B}
+      → IsBehind f form last out (numbers number run) → IsChain f form xs → HoldsBlock f number last xs i (Some b)
+      → number run.0 ≤ number b.0
+      → Walk f form number last (λ n. IsHeld f out (numbers number run) n ⊎ Covers f (drop i xs) n) (λ _. ⊥) xs xs i
+      count (count + (length xs - (i + 1))) b run out
+  walk_alone count behind chain at later =
+      walk_from behind chain at later (λ n. (⊎_elim inl (⊎_elim inr (λ no. absurd no)), ⊎_elim inl (λ l. inr (inl l))))
+      record { kept = refl; reads = le_refl _ }
 
-      -- after a turn of this side
-      pub Side-next : (next new : I × I) → HoldsBlock f number last xs (i + 1) (Some next) → number new.0 ≤ number b.0
-          → Side xs (i + 1) next new
-      Side-next next new at before = record {
-        chain = side.chain;
-        at = at;
-        later = (
-            let ordered = Side-ordered in
-            let less : number new.0 < number next.0 = before_next f form xs i (numbers number b) side.chain Side-at
-            (Some (numbers number next)) (at.0, at.1) (number new.0) (omega arith) in
-            omega arith);
-      }
+  module _ {All Rest : ℕ → Type 0} {xs now : List B} {i count most : ℕ} {b run made : I × I} {out new : List B}
+      (w : Walk f form number last All Rest xs now i count most b run out)
+      (turn : Turn f form last out (numbers number run) (numbers number b) new (numbers number made)) where
+    -- the block at hand is held then, and the next one is at hand
+    pub walk_turn : (after : List B) (next : I × I) (more : ℕ) → HoldsBlock f number last now (i + 1) (Some next)
+        → after ≡ now → more ≡ count + 1 → Walk f form number last All Rest xs after (i + 1) more most next made new
+    walk_turn after next more at kept read =
+        let here : IsAt f xs i (Some (numbers number b)) = (w.at.0, w.at.1) in
+        let on = reader_next f number last xs now after i (Some next) count more most w.reader at kept read in
+        let there : IsAt f xs (i + 1) (Some (numbers number next)) = (on.1.0, on.1.1) in
+        let less = before_next f form xs i (numbers number b) w.chain here (Some (numbers number next)) there in
+        walk_from turn.behind w.chain on.1 (omega (arith, less (number made.0) (omega arith)))
+        (λ n. moved (w.held n) (turn.held n) (Covers-left f xs i (numbers number b) here n)) on.0
 
-    -- a walk over both lists: the run at hand begins no later than the blocks at hand, and nothing is lost
-    pub record Merge (All : ℕ → Type 0) (xs ys : List B) (i : ℕ) (b : I × I) (j : ℕ) (d : I × I) (out : List B)
-        (run : I × I) : Type 0 where
-      pub behind : IsBehind f form last out (numbers number run)
-      pub own_side : Side xs i b run
-      pub other_side : Side ys j d run
-      pub held : IsSplit (IsHeld f out (numbers number run)) (λ n. Covers f (drop i xs) n ⊎ Covers f (drop j ys) n) All
+    -- a block of another list that begins no earlier stays at hand
+    pub walk_waits : {ys ynow : List B} {j ycount ymost : ℕ} {d : I × I}
+        → Walk f form number last All (λ n. Covers f (drop i xs) n) ys ynow j ycount ymost d run out
+        → number b.0 ≤ number d.0
+        → Walk f form number last All (λ n. Covers f (drop (i + 1) xs) n) ys ynow j ycount ymost d made new
+    walk_waits other first =
+        walk_from turn.behind other.chain other.at (omega arith)
+        (λ n. swapped (moved (swapped (other.held n)) (turn.held n)
+        (Covers-left f xs i (numbers number b) (w.at.0, w.at.1) n))) other.reader
 
-    -- the lists may change places
-    pub Merge-swap : (All : ℕ → Type 0) (xs ys : List B) (i : ℕ) (b : I × I) (j : ℕ) (d : I × I) (out : List B)
-        (run : I × I) → Merge All xs ys i b j d out run → Merge All ys xs j d i b out run
-    Merge-swap All xs ys i b j d out run w =
-        record {
-          behind = w.behind;
-          own_side = w.other_side;
-          other_side = w.own_side;
-          held = split-swap _
-              (λ n. Covers f (drop i xs) n) (λ n. Covers f (drop j ys) n) All w.held;
-        }
+    -- where none is left, what is held and left elsewhere is all
+    walk_end : HoldsBlock f number last now (i + 1) None → (n : ℕ)
+        → (IsHeld f new (numbers number made) n ⊎ Rest n) ↔ All n
+    walk_end end n =
+        let none = none_left f xs (i + 1) n (let kept = w.reader.kept in grind (arith)) in
+        let all = moved (w.held n) (turn.held n) (Covers-left f xs i (numbers number b) (w.at.0, w.at.1) n) in
+        grind (arith)
 
-    module _ (All : ℕ → Type 0) (xs ys : List B) (i : ℕ) (b : I × I) (j : ℕ) (d : I × I) (out new : List B)
-        (run made : I × I) (w : Merge All xs ys i b j d out run)
-        (step : (n : ℕ) → IsHeld f new (numbers number made) n ↔
-        (IsHeld f out (numbers number run) n ⊎ IsWithin (numbers number b) n)) where
-      -- the block of the one list is taken in
-      taken : IsSplit (IsHeld f new (numbers number made))
-          (λ n. Covers f (drop (i + 1) xs) n ⊎ Covers f (drop j ys) n) All
-      taken = split-turn (IsHeld f out (numbers number run)) (IsHeld f new (numbers number made))
-          (λ n. Covers f (drop i xs) n) (λ n. Covers f (drop (i + 1) xs) n) (λ n. Covers f (drop j ys) n) All
-          (numbers number b) (Covers-left f xs i (numbers number b) (Side-at xs i b run w.own_side)) step w.held
+    -- so the chain of these is that of all
+    pub walks_end : HoldsBlock f number last now (i + 1) None → {E : Type 0} (r : Result (List B) E)
+        → IfOk r (IsChainOf f form (λ n. IsHeld f new (numbers number made) n ⊎ Rest n)) → IfOk r (IsChainOf f form All)
+    walks_end end r = IfOk-weaker r _ _ (chain_of_same f form _ _ (walk_end end))
 
-      -- it begins no later than that of the other, and the next one is at hand
-      pub Merge-turn : (next : I × I) → number b.0 ≤ number d.0 → IsBehind f form last new (numbers number made)
-          → number made.0 ≤ number b.0 → HoldsBlock f number last xs (i + 1) (Some next)
-          → Merge All xs ys (i + 1) next j d new made
-      Merge-turn next first behind begins at = record {
-        behind = behind;
-        own_side = Side-next xs i b run w.own_side next made at begins;
-        other_side = record { chain = w.other_side.chain; at = w.other_side.at; later = omega arith };
-        held = taken;
-      }
+    -- and where nothing is left elsewhere the run is closed, and is the last of the chain of all
+    pub walk_closed : HoldsBlock f number last now (i + 1) None → ((n : ℕ) → Rest n → ⊥) → {y : B}
+        → f y ≡ numbers number made → y ≡ form (numbers number made) → IsChainOf f form All (new ++ y ∷ [])
+    walk_closed end none is value =
+        IsChainOf-from f form _ _ (closed_run turn.behind is value) (λ n.
+        let nothing = none n in
+        let all = walk_end end n in
+        let closed = Covers-push_as f new _ _ is n in
+        (λ c. all.0 (inl (closed.0 c)), λ a. closed.1 (⊎_elim (λ h. h) (λ r. absurd (nothing r)) (all.1 a))))
 
-      -- none is left there: the chain of what is held and of what is left of the other list is that of all
-      pub Merge-end : i + 1 ≡ length xs → (chain : List B)
-          → IsChainOf f form (λ n. IsHeld f new (numbers number made) n ⊎ Covers f (drop j ys) n) chain
-          → IsChainOf f form All chain
-      Merge-end end chain h = IsChainOf-from f form chain All (IsChain-from f form chain _ h) (λ n. (
-        λ c. (taken n).0 (⊎_elim inl (λ s. inr (inr s)) ((h.covers n).0 c)),
-        λ all. (h.covers n).1 (⊎_elim inl (⊎_elim (λ c. absurd (none_left f xs (i + 1) n end c)) inr)
-            ((taken n).1 all)),
-      ))
+module _ {B I : Type 0} {f : B → ℕ × ℕ} {form : ℕ × ℕ → B} (number : I → ℕ) {last : ℕ} where
+  -- the first block of a list is a run behind no blocks, of each set that has the numbers of the list
+  pub first_block : {xs : List B} {b : I × I} → IsChain f form xs → HoldsBlock f number last xs 0 (Some b)
+      → (All : ℕ → Type 0) → ((n : ℕ) → Covers f xs n → All n)
+      → IsBehind f form last [] (numbers number b) × ((n : ℕ) → IsWithin (numbers number b) n → All n)
+  first_block {xs} {b} chain at All of = (
+    first_run (ordered_at f form xs 0 (numbers number b) chain (at.0, at.1)) at.2,
+    λ n w. of n (covers_at f form xs 0 (numbers number b) chain (at.0, at.1) n w.0 w.1),
+  )
 
-    module _ (xs : List B) (b : I × I) (chain : IsChain f form xs) (at : HoldsBlock f number last xs 0 (Some b)) where
-      first_at : IsAt f xs 0 (Some (numbers number b))
-      first_at = (at.0, at.1)
+  -- where the other list has no block, the chain of it and of the list is that of all
+  pub alone_first : {xs : List B} {b : I × I} → IsChain f form xs → HoldsBlock f number last xs 0 (Some b)
+      → {E : Type 0} (now : List B) (All : ℕ → Type 0) → ((n : ℕ) → All n ↔ Covers f xs n) → now ≡ xs
+      → (r : Result (List B) E) → IfOk r (IsChainOf f form (λ n. IsHeld f [] (numbers number b) n ⊎ Covers f now n))
+      → IfOk r (IsChainOf f form All)
+  alone_first {xs} {b} chain at now All all kept r h =
+      let first = first_block chain at (Covers f xs) (λ n c. c) in
+      IfOk-weaker r _ _ (chain_of_same f form _ All
+      (λ n. same_both (held_first f (numbers number b) (Covers f xs) n (first.1 n)) (all n))) (rw kept at h)
 
-      -- the first block is a run behind no blocks
-      pub first_behind : IsBehind f form last [] (numbers number b)
-      first_behind =
-          first_run f form last (numbers number b) (ordered_at f form xs 0 (numbers number b) chain first_at) at.2
-
-      -- what it holds and what is left is all of the list, and so all where the other list has no block
-      pub alone_first : (All : ℕ → Type 0) → ((n : ℕ) → Covers f xs n ↔ All n) → (out : List B)
-          → IsChainOf f form (λ n. IsHeld f [] (numbers number b) n ⊎ Covers f xs n) out → IsChainOf f form All out
-      alone_first All same out h = IsChainOf-from f form out All (IsChain-from f form out _ h) (λ n. (
-        λ c. (same n).0 (⊎_elim (⊎_elim (λ none. absurd (Covers-nil f n none))
-            (λ w. covers_at f form xs 0 (numbers number b) chain first_at n w.0 w.1)) (λ s. s) ((h.covers n).0 c)),
-        λ all. (h.covers n).1 (inr ((same n).1 all)),
-      ))
-
-    -- at first the run is the block that begins first
-    pub Merge-start : (xs ys : List B) (b d run : I × I) → IsChain f form xs → IsChain f form ys
-        → HoldsBlock f number last xs 0 (Some b) → HoldsBlock f number last ys 0 (Some d) → number run.0 ≤ number b.0
-        → number run.0 ≤ number d.0 → (run ≡ b) ⊎ (run ≡ d)
-        → Merge (λ n. Covers f xs n ⊎ Covers f ys n) xs ys 0 b 0 d [] run
-    Merge-start xs ys b d run hx hy own other begins begins_other one = record {
-      behind = ⊎_elim (λ (e : run ≡ b). rw e (first_behind xs b hx own))
-          (λ (e : run ≡ d). rw e (first_behind ys d hy other)) one;
-      own_side = record { chain = hx; at = own; later = begins };
-      other_side = record { chain = hy; at = other; later = begins_other };
-      held = λ n. (
-        ⊎_elim (⊎_elim (λ c. absurd (Covers-nil f n c)) (λ w. ⊎_elim
-            (λ (e : run ≡ b). inl (let v : IsWithin (numbers number b) n = rw e at w in covers_at f form xs 0
-            (numbers number b) hx (own.0, own.1) n v.0 v.1))
-            (λ (e : run ≡ d). inr (let v : IsWithin (numbers number d) n = rw e at w in covers_at f form ys 0
-            (numbers number d) hy (other.0, other.1) n v.0 v.1))
-            one)) (λ r. r),
-        inr,
-      );
-    }
+module _ {B I : Type 0} {f : B → ℕ × ℕ} {form : ℕ × ℕ → B} {number : I → ℕ} {last : ℕ} where
+  -- walks over two lists begin with the block that begins first
+  pub walks_start : {xs ys : List B} {b d run : I × I} → IsChain f form xs → IsChain f form ys
+      → HoldsBlock f number last xs 0 (Some b) → HoldsBlock f number last ys 0 (Some d) → number run.0 ≤ number b.0
+      → number run.0 ≤ number d.0 → (run ≡ b) ⊎ (run ≡ d)
+      → (now other_now : List B) (old count other_old other_count : ℕ) → now ≡ xs → other_now ≡ ys → count ≡ old + 1
+      → other_count ≡ other_old + 1
+      → Walk f form number last (λ n. Covers f xs n ⊎ Covers f ys n) (λ n. Covers f ys n) xs now 0 count
+      (old + length xs) b run []
+      × Walk f form number last (λ n. Covers f xs n ⊎ Covers f ys n) (λ n. Covers f xs n) ys other_now 0 other_count
+      (other_old + length ys) d run []
+  walks_start {xs} {ys} {b} {d} {run} hx hy own other begins other_begins one now other_now old count other_old
+      other_count kept other_kept read other_read =
+      let All : ℕ → Type 0 = λ n. Covers f xs n ⊎ Covers f ys n in
+      let first : IsBehind f form last [] (numbers number run) × ((n : ℕ) → IsWithin (numbers number run) n → All n) =
+      ⊎_elim
+      (λ (e : run ≡ b). rw e (first_block number hx own All (λ n. inl)))
+      (λ (e : run ≡ d). rw e (first_block number hy other All (λ n. inr))) one in
+      let held = λ (n : ℕ). held_first f (numbers number run) All n (first.1 n) in (
+        walk_from first.0 hx own begins held record { kept = kept; reads = omega arith },
+        walk_from first.0 hy other other_begins (λ n. swapped (held n))
+            record { kept = other_kept; reads = omega arith },
+      )

@@ -1,9 +1,9 @@
 -- No list of blocks with the same cover is shorter than a chain.
-use Rattle.rpki_chains.proofs.Imports.{List, [], arith, get_or, length, suc, sym, ℕ, ⊎_elim, ◌+◌, ◌<◌, ◌↔◌, ◌∷◌, ◌≤◌, IsPermutation-remove, IsPermutation-sym, length_permutation, IsPermutation, Covers, IsChain}
+use Rattle.rpki_chains.proofs.Imports.{List, [], arith, get_or, le_refl, length, inl, inr, suc, sym, ℕ, ⊎_elim, ◌+◌, ◌<◌, ◌↔◌, ◌∷◌, ◌≤◌, IsPermutation-remove, length_permutation, IsPermutation, Covers, IsChain, IsWithin, ◌⊎◌}
 use Rattle.std.specs.List.{remove}
 use Rattle.rpki_chains.proofs.Chains.{Covers-at, IsChainOf-itself}
 use Rattle.rpki_chains.proofs.Sorts.{Covers-permutation}
-use Rattle.rpki_chains.proofs.Unique.{Covers-head, Covers-tail, Covers-cons_cases, IsChain-tail}
+use Rattle.rpki_chains.proofs.Unique.{Covers-cons, IsChain-tail}
 
 module _ {B : Type 0} (f : B → ℕ × ℕ) (form : ℕ × ℕ → B) where
   -- each block of the chain needs one of its own
@@ -16,18 +16,18 @@ module _ {B : Type 0} (f : B → ℕ × ℕ) (form : ℕ × ℕ → B) where
       let y = c.1 in
       let zs = remove ys c.0 in
       let moved : IsPermutation ys (y ∷ zs) = IsPermutation-remove ys c.0 y c.2 (sym c.3) in
-      let back = IsPermutation-sym ys (y ∷ zs) moved in
       let len = length_permutation ys (y ∷ zs) moved in
-      let o : (f x).0 ≤ (f x).1 = h.ordered 0 x (omega arith) in
+      let both : (n : ℕ) → Covers f ys n ↔ (IsWithin (f y) n ⊎ Covers f zs n) = λ n.
+      let same = Covers-permutation f ys (y ∷ zs) n moved in
+      let cons = Covers-cons f y zs n in
+      (λ a. cons.0 (same.0 a), λ b. same.1 (cons.1 b)) in
       let rest = needs_own xs zs (IsChain-tail f form x xs h)
-      (λ k d lt. ⊎_elim
-      (λ w.
+      (λ k d lt. ⊎_elim (λ w.
       let far : (f x).1 + 1 < (f (get_or xs k d)).0 = h.apart 0 (suc k) d (omega arith) (omega arith) in
-      let near = c.4 in
-      absurd (gaps 0 x (omega arith) (Covers-permutation f (y ∷ zs) ys ((f x).1 + 1) back (Covers-head f y zs ((f x).1 + 1) (omega (arith, near.0), omega (arith, w.1))))))
-      (λ r. r)
-      (Covers-cons_cases f y zs (f (get_or xs k d)).0 (Covers-permutation f ys (y ∷ zs) (f (get_or xs k d)).0 moved (lows (suc k) d (omega arith)))))
-      (λ k d lt covered. gaps (suc k) d (omega arith) (Covers-permutation f (y ∷ zs) ys ((f (get_or xs k d)).1 + 1) back (Covers-tail f y zs ((f (get_or xs k d)).1 + 1) covered))) in
+      let near : (f y).0 ≤ (f x).1 + 1 = omega (arith, c.4, h.ordered 0 x) in
+      absurd (gaps 0 x (omega arith) ((both _).1 (inl (near, omega (arith, w.1))))))
+      (λ r. r) ((both _).0 (lows (suc k) d (omega arith))))
+      (λ k d lt covered. gaps (suc k) d (omega arith) ((both _).1 (inr covered))) in
       omega arith
 
   -- so none with the chain's cover is shorter
@@ -36,5 +36,5 @@ module _ {B : Type 0} (f : B → ℕ × ℕ) (form : ℕ × ℕ → B) where
   IsChain-shortest xs ys h same =
       let runs = (IsChainOf-itself f form xs h).runs in
       needs_own xs ys h
-      (λ k d lt. (let o = h.ordered k d lt in (same (f (get_or xs k d)).0).1 (Covers-at f xs k (f (get_or xs k d)).0 d lt (omega arith, omega arith))))
-      (λ k d lt covered. (runs k d lt).ends ((same ((f (get_or xs k d)).1 + 1)).0 covered))
+      (λ k d lt. (same _).1 (Covers-at f xs k _ d lt (le_refl _, h.ordered k d lt)))
+      (λ k d lt covered. (runs k d lt).ends ((same _).0 covered))

@@ -25,17 +25,10 @@ module _ {B : Type 0} (f : B → ℕ × ℕ) (form : ℕ × ℕ → B) where
     high_at d = ap (λ (p : ℕ × ℕ). p.1) (at.1 d)
 
     pub ordered_at : b.0 ≤ b.1
-    ordered_at =
-        let x = (element_at xs i at.0).0 in
-        let ordered = h.ordered i x at.0 in
-        let low = low_at x in
-        let high = high_at x in
-        omega arith
+    ordered_at = let x = (element_at xs i at.0).0 in grind (arith, h.ordered i x, at.1 x)
 
     pub covers_at : (n : ℕ) → b.0 ≤ n → n ≤ b.1 → Covers f xs n
-    covers_at n from to =
-        let x = (element_at xs i at.0).0 in
-        Covers-at f xs i n x at.0 (rw (at.1 x) (from, to))
+    covers_at n from to = let x = (element_at xs i at.0).0 in Covers-at f xs i n x at.0 (rw (at.1 x) (from, to))
 
     -- which block a number is in
     pub index_before : (k : ℕ) (x : B) → k < length xs → (f (get_or xs k x)).0 < b.0 → k < i
@@ -49,24 +42,16 @@ module _ {B : Type 0} (f : B → ℕ × ℕ) (form : ℕ × ℕ → B) where
   pub lies_before : (xs : List B) (i : ℕ) (b : Option (ℕ × ℕ)) → IsChain f form xs → IsAt f xs i b → (n : ℕ)
       → (c : Covers f xs n) → Before b n → c.0 < i
   lies_before xs i None h at n c before = grind (arith)
-  lies_before xs i (Some b) h at n c before =
-      let low = ap (λ (y : B). (f y).0) c.3 in
-      let within = c.4 in
-      index_before xs i b h at c.0 c.1 c.2 (omega arith)
+  lies_before xs i (Some b) h at n c before = index_before xs i b h at c.0 c.1 c.2 (grind (arith))
 
   module _ (xs : List B) (i : ℕ) (b : ℕ × ℕ) (h : IsChain f form xs) (at : IsAt f xs i (Some b)) where
     -- what comes before the next block ends with this one
     pub up_to : (next : Option (ℕ × ℕ)) → IsAt f xs (i + 1) next → (n : ℕ) → Covers f xs n → Before next n → n ≤ b.1
-    up_to next after n c before =
-        let early = lies_before xs (i + 1) next h after n c before in
-        grind (arith, cases_lt, high_at)
+    up_to next after n c before = grind (arith, cases_lt, high_at, lies_before xs (i + 1) next h after n c before)
 
     -- and the other way round
     pub before_next : (next : Option (ℕ × ℕ)) → IsAt f xs (i + 1) next → (n : ℕ) → n ≤ b.1 → Before next n
     before_next None after n le = tt
     before_next (Some c) after n le =
         let x = (element_at xs i at.0).0 in
-        let gap = h.apart i (i + 1) x (omega arith) after.0 in
-        let high = high_at xs i b h at x in
-        let low = low_at xs (i + 1) c h after x in
-        omega arith
+        grind (arith, h.apart i (i + 1) x, at.1 x, after.1 x)

@@ -122,7 +122,6 @@ pub fn difference_counted<T: Block, A: Allocator, X: Reads<T>, Y: Reads<T>>(
 
 /// The same, where the first overhang is known: nothing before it is left, and a walk goes on from there. Each turn is
 /// done with one block, and keeps one piece at most.
-#[tactic(auto, using(crate::proofs::CutTurns::turn_skip, crate::proofs::CutTurns::turn_keep, crate::proofs::CutTurns::turn_drop, crate::proofs::CutTurns::turn_advance, crate::proofs::CutTurns::turn_split))]
 pub fn difference_from<T: Block, A: Allocator, X: Reads<T>, Y: Reads<T>>(
     alloc: A,
     own: &mut X,

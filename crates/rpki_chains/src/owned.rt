@@ -61,6 +61,7 @@ impl<T: Block, A: Allocator> OwnedChain<T, A> {
     }
 
     /// The chain of blocks that are a chain already. An empty vector is given back to its allocator.
+    #[tactic(auto, using(std::proofs::lemmas::Bool::Decides::nat_tests))]
     pub fn from_vec_unchecked(blocks: Vec<T, A>) -> Self
         requires { IsChain T.bounds T.form blocks.items }
         ensures { result ≡ blocks.items }

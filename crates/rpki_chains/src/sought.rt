@@ -19,6 +19,7 @@ pub fn is_far_longer(many: usize, few: usize) -> bool
 /// Finds the first block that doesn't lie in the other chain. Each is sought there, by a binary search behind the place
 /// of the one before it: so of the other chain it reads, for each, at most as many blocks as their number has binary
 /// digits.
+#[tactic(auto, using(crate::proofs::Counts::sought_within))]
 pub fn sought_overhang<T: Block, X: Reads<T>, Y: Reads<T>>(
     own: &mut X,
     other: &mut Y,

@@ -8,7 +8,6 @@ invariant-loop-at g l =
     let old = l.fn.blocks.items in
     record {
       passed : l.closed < l.at;
-      within : l.at ≤ length old;
       as_many : length l.blocks.items ≡ length old;
       to_come : (k : ℕ) (d : _) → l.at ≤ k → get_or l.blocks.items k d ≡ get_or old k d;
       joined : Joined g.T.Block.bounds g.T.Block.form g.T.Block.last old l.at (take l.closed l.blocks.items)

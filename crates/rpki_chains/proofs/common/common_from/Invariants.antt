@@ -1,12 +1,11 @@
 -- The blocks so far are what the chains have in common up to the blocks at hand.
-use Rattle.rpki_chains.proofs.Imports.{Some, length, ◌+◌, ◌-◌, numbers}
+use Rattle.rpki_chains.proofs.Imports.{Some, length, ◌+◌, ◌-◌}
 use Rattle.rpki_chains.proofs.Counts.{IsReader}
 use Rattle.rpki_chains.proofs.Meets.{Meet}
 use Rattle.rpki_chains.proofs.common.common_from.Given as goal
 
 abbrev pub invariant-loop-chain : goal.invariant-loop-chain
 invariant-loop-chain g l =
-    let number = g.T.Block.number in
     let xs = g.X.Reads.blocks l.fn.own in
     let ys = g.Y.Reads.blocks l.fn.other in
     record {
@@ -14,9 +13,10 @@ invariant-loop-chain g l =
           (g.X.Reads.count l.fn.own + l.fn.overhang.own_at + (length xs - (l.fn.overhang.own_at + 1)));
       other : IsReader ys (g.Y.Reads.blocks l.other) l.other_at (g.Y.Reads.count l.other)
           (g.Y.Reads.count l.fn.other + (length ys - (l.fn.overhang.other_at + 1)));
-      walk : Meet g.T.Block.bounds g.T.Block.form xs ys l.own_at (Some (numbers number l.own_block)) l.other_at
-          (Some (numbers number l.other_block)) l.chain.items;
+      walk : Meet g.T.Block.bounds g.T.Block.form g.T.Block.number g.T.Block.last xs ys l.own_at (Some l.own_block)
+          l.other_at (Some l.other_block) l.chain.items;
     }
 
 abbrev pub decreases-loop-chain : goal.decreases-loop-chain
-decreases-loop-chain g l = (length (g.X.Reads.blocks l.fn.own) - l.own_at) + (length (g.Y.Reads.blocks l.fn.other) - l.other_at)
+decreases-loop-chain g l =
+    (length (g.X.Reads.blocks l.fn.own) - l.own_at) + (length (g.Y.Reads.blocks l.fn.other) - l.other_at)

@@ -1,15 +1,14 @@
 -- Where no block leaves the other chain nothing is left, and else what a walk finds from there on.
-use Rattle.rpki_chains.proofs.Imports.{[], Covers}
+use Rattle.rpki_chains.proofs.Imports.{[]}
 use Rattle.rpki_chains.proofs.Chains.{Covers-nil, IsChain-nil, IsChainOf-from}
 use Rattle.rpki_chains.proofs.difference.difference_counted.Goals as goal
 
 pub returns-in-None-clause-difference : goal.returns-in-None-clause-difference
 returns-in-None-clause-difference g c =
     let f = g.T.Block.bounds in
-    let form = g.T.Block.form in
-    let xs = g.X.Reads.blocks c.args.own.now in
-    let ys = g.Y.Reads.blocks c.args.other.now in
-    rw c.empty.ensures (IsChainOf-from f form [] (λ n. Covers f xs n × (Covers f ys n → ⊥)) (IsChain-nil f form) (λ n. (λ none. absurd (Covers-nil f n none), λ (own, not). absurd (not (c.in-None.ensures.value n own)))))
+    rw c.empty.ensures (IsChainOf-from f g.T.Block.form [] _ (IsChain-nil f g.T.Block.form)
+    (λ n. (λ none. absurd (Covers-nil f n none), λ (own, not). absurd (not (c.in-None.ensures.value n own)))))
 
 pub returns-in-Some-clause-difference : goal.returns-in-Some-clause-difference
-returns-in-Some-clause-difference g c = rw (← c.first_overhang.ensures.own_kept, ← c.first_overhang.ensures.other_kept) c.difference_from.ensures.difference
+returns-in-Some-clause-difference g c =
+    rw (← c.first_overhang.ensures.own_kept, ← c.first_overhang.ensures.other_kept) c.difference_from.ensures.difference

@@ -1,13 +1,11 @@
 -- The pieces so far are what the walk has decided, no more of them than blocks that it is done with.
-use Rattle.rpki_chains.proofs.Imports.{length, ◌+◌, ◌-◌, ◌≤◌, option_map, numbers}
-use Rattle.std.specs.Option.{IfSome}
+use Rattle.rpki_chains.proofs.Imports.{length, ◌+◌, ◌-◌}
 use Rattle.rpki_chains.proofs.Counts.{IsReader}
 use Rattle.rpki_chains.proofs.Cutting.{Walk}
 use Rattle.rpki_chains.proofs.difference.difference_from.Given as goal
 
 abbrev pub invariant-loop-other_at : goal.invariant-loop-other_at
 invariant-loop-other_at g l =
-    let number = g.T.Block.number in
     let xs = g.X.Reads.blocks l.fn.own in
     let ys = g.Y.Reads.blocks l.fn.other in
     record {
@@ -15,11 +13,10 @@ invariant-loop-other_at g l =
           (g.X.Reads.count l.fn.own + (length xs - (l.fn.overhang.own_at + 1)));
       other : IsReader ys (g.Y.Reads.blocks l.other) l.other_at (g.Y.Reads.count l.other)
           (g.Y.Reads.count l.fn.other + (length ys - (l.fn.overhang.other_at + 1)));
-      walk : Walk g.T.Block.bounds g.T.Block.form xs ys l.own_at (option_map (numbers number) l.rest) l.other_at
-          (option_map (numbers number) l.cut) l.chain.items;
-      few : length l.chain.items ≤ l.own_at + l.other_at;
-      valid : IfSome l.rest (λ b. (g.T.Block.first ≤ number b.0) × (number b.1 ≤ g.T.Block.last));
+      walk : Walk g.T.Block.bounds g.T.Block.form g.T.Block.number g.T.Block.first g.T.Block.last xs ys l.own_at
+          l.rest l.other_at l.cut l.chain.items;
     }
 
 abbrev pub decreases-loop-other_at : goal.decreases-loop-other_at
-decreases-loop-other_at g l = (length (g.X.Reads.blocks l.fn.own) - l.own_at) + (length (g.Y.Reads.blocks l.fn.other) - l.other_at)
+decreases-loop-other_at g l =
+    (length (g.X.Reads.blocks l.fn.own) - l.own_at) + (length (g.Y.Reads.blocks l.fn.other) - l.other_at)

@@ -6,4 +6,5 @@ use Rattle.rpki_chains.proofs.membership.first_from.Goals as goal
 pub returns-clause-block : goal.returns-clause-block
 returns-clause-block g c =
     let sought = c.seek.ensures in
-    first_found g.T.Block.bounds g.T.Block.form (g.R.Reads.blocks c.args.chain.now) (g.T.Block.number c.args.item) c.seek.new.at (λ k d before lt. sought.passed k d (omega arith) before) g.T.Block.number g.T.Block.last c.seek.result sought.chain sought.block sought.reaches
+    first_found g.T.Block.bounds g.T.Block.form _ _ _ (λ k d before lt. sought.passed k d (omega arith) before)
+    g.T.Block.number g.T.Block.last _ sought.chain sought.block sought.reaches

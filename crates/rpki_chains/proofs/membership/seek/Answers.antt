@@ -1,5 +1,5 @@
 -- The part that is searched halves, and what is found is the block behind it.
-use Rattle.rpki_chains.proofs.Imports.{ap, arith, ℕ, ◌-◌, ◌<◌, ◌∙◌, nat_tests}
+use Rattle.rpki_chains.proofs.Imports.{arith, ◌<◌, ◌∙◌, nat_tests}
 use Rattle.rpki_chains.proofs.Counts.{Halved-step}
 use Rattle.rpki_chains.proofs.Searches.{behind_all}
 use Rattle.rpki_chains.proofs.membership.seek.Goals as goal
@@ -8,20 +8,17 @@ pub loop-low-preserved-then-lt : goal.loop-low-preserved-then-lt
 loop-low-preserved-then-lt g c =
     let inv = c.loop-low.invariant in
     let half = c.middle_of-middle.ensures in
-    let size = c.loop-low.high - c.loop-low.low in
     let read = c.read-min.ensures in
     let value = rw inv.kept at read.value in
     let less : g.T.Block.number c.read-min.result.1 < g.T.Block.number c.args.item =
     grind (arith, nat_tests, g.met.T.Block.in_order, g.met.T.Item.Ord.matches_partial_cmp, c.if-lt.ensures) in
     record {
-      halved = Halved-step _ size _ _ _ _ inv.halved (omega arith) half.halves_behind read.counted;
+      halved = Halved-step _ _ _ _ _ _ inv.halved (omega arith) half.halves_behind read.counted;
       chain = inv.chain;
       kept = read.kept ∙ inv.kept;
-      onward = omega arith;
       ordered = omega arith;
-      within = inv.within;
       below = λ k d from before. behind_all g.T.Block.bounds g.T.Block.form _ c.middle_of-middle.result k _ d inv.chain
-          (omega arith) (λ e. let high = ap (λ (p : ℕ × ℕ). p.1) (value e) in omega arith) (omega arith);
+          (omega arith) (λ e. grind (arith, value e)) (omega arith);
       found = inv.found;
       reaches = inv.reaches;
     }
@@ -30,19 +27,13 @@ pub loop-low-preserved : goal.loop-low-preserved
 loop-low-preserved g c =
     let inv = c.loop-low.invariant in
     let half = c.middle_of-middle.ensures in
-    let size = c.loop-low.high - c.loop-low.low in
     let read = c.read-min.ensures in
     record {
-      halved = Halved-step _ size _ _ _ _ inv.halved (omega arith) half.halves read.counted;
+      halved = Halved-step _ _ _ _ _ _ inv.halved (omega arith) half.halves read.counted;
       chain = inv.chain;
       kept = read.kept ∙ inv.kept;
-      onward = inv.onward;
-      ordered = half.from_low;
-      within = omega arith;
+      ordered = omega arith;
       below = inv.below;
       found = (omega arith, rw inv.kept at read.value, read.to_last);
       reaches = grind (arith, nat_tests, g.met.T.Block.in_order, g.met.T.Item.Ord.matches_partial_cmp, c.if-lt.ensures);
     }
-
-pub returns-clause-passed : goal.returns-clause-passed
-returns-clause-passed g c k d from before = c.loop-low.invariant.below k d from (omega arith)

@@ -9,9 +9,7 @@ invariant-loop-low g l = record {
       (g.R.Reads.count l.chain);
   chain : IsChain g.T.Block.bounds g.T.Block.form (g.R.Reads.blocks l.fn.chain);
   kept : g.R.Reads.blocks l.chain ≡ g.R.Reads.blocks l.fn.chain;
-  onward : l.fn.at ≤ l.low;
-  ordered : l.low ≤ l.high;
-  within : l.high ≤ length (g.R.Reads.blocks l.fn.chain);
+  ordered : (l.fn.at ≤ l.low) × (l.low ≤ l.high) × (l.high ≤ length (g.R.Reads.blocks l.fn.chain));
   below : (k : ℕ) (d : _) → l.fn.at ≤ k → k < l.low
       → (g.T.Block.bounds (get_or (g.R.Reads.blocks l.fn.chain) k d)).1 < g.T.Block.number l.item;
   found : HoldsBlock g.T.Block.bounds g.T.Block.number g.T.Block.last (g.R.Reads.blocks l.fn.chain) l.high l.found;

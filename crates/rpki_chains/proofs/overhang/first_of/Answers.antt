@@ -1,8 +1,8 @@
 -- The first block of a chain leaves the empty one.
 use Rattle.rpki_chains.proofs.Imports.{None, ap, refl, sym, ◌∙◌, option_copied}
+use Rattle.std.proofs.lemmas.Option.{get_or_from_slice_get, slice_get_within}
 use Rattle.rpki_chains.proofs.Chains.{IsChain-nil}
-use Rattle.rpki_chains.proofs.FitTurns.{leaves, passed_start}
-use Rattle.rpki_chains.proofs.Passing.{first_held}
+use Rattle.rpki_chains.proofs.FitTurns.{held_at, leaves, passed_start}
 use Rattle.rpki_chains.proofs.overhang.first_of.Goals as goal
 
 pub returns : goal.returns
@@ -11,5 +11,6 @@ returns g c =
     let number = g.T.Block.number in
     let read = c.bounds-min.ensures in
     let is = sym c.first.ensures.value ∙ ap option_copied c.in_ok-first.was in
-    let own = first_held f number g.T.Block.last _ _ c.bounds-min.result is read.min read.max read.to_last in
+    let own = held_at f number g.T.Block.last _ 0 _ c.bounds-min.result (slice_get_within _ 0 _ is)
+    (sym (get_or_from_slice_get _ 0 _ _ is)) read.min read.max read.to_last in
     leaves (passed_start c.requires (IsChain-nil f g.T.Block.form)) number _ _ own None refl _ read.from_first tt

@@ -17,28 +17,28 @@ loop-other_at-init g c =
 pub returns-in_default-read_at-2-clause-value : goal.returns-in_default-read_at-2-clause-value
 returns-in_default-read_at-2-clause-value g c =
     let inv = c.loop-other_at.invariant in
-    let end = rw inv.other_kept at c.in_default-read_at-2.ensures.block in
+    let end = rw inv.other.kept at c.in_default-read_at-2.ensures.block in
     let walk = passed_next inv.walk g.T.Block.number _ _ inv.own_block _ inv.other_block c.in-Skip.ensures in
     leaves walk g.T.Block.number _ _ inv.own_block None end _ inv.from_first tt
 
 pub loop-other_at-preserved-in-Skip : goal.loop-other_at-preserved-in-Skip
 loop-other_at-preserved-in-Skip g c =
     let inv = c.loop-other_at.invariant in
-    let next = rw inv.other_kept at c.in-Some-read_at-2.ensures.block in
+    let next = rw inv.other.kept at c.in-Some-read_at-2.ensures.block in
     let walk = passed_next inv.walk g.T.Block.number _ _ inv.own_block _ inv.other_block c.in-Skip.ensures in
     grind (arith)
 
 pub returns-in_default-read_at-3-clause-value : goal.returns-in_default-read_at-3-clause-value
 returns-in_default-read_at-3-clause-value g c =
     let inv = c.loop-other_at.invariant in
-    let end = rw inv.own_kept at c.in_default-read_at-3.ensures.block in
+    let end = rw inv.own.kept at c.in_default-read_at-3.ensures.block in
     let walk = passed_fit inv.walk g.T.Block.number _ _ inv.own_block _ inv.other_block c.in-Inside.ensures in
     passed_all walk (omega (arith, end))
 
 pub loop-other_at-preserved : goal.loop-other_at-preserved
 loop-other_at-preserved g c =
     let inv = c.loop-other_at.invariant in
-    let next = rw inv.own_kept at c.in-Some-read_at-3.ensures.block in
+    let next = rw inv.own.kept at c.in-Some-read_at-3.ensures.block in
     let walk = passed_fit inv.walk g.T.Block.number _ _ inv.own_block _ inv.other_block c.in-Inside.ensures in
     grind (arith)
 

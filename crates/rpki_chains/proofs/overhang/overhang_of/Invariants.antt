@@ -1,6 +1,6 @@
 -- What was passed of the one chain lies in the other; a turn within takes a block off the rest of the other.
 use Rattle.rpki_chains.proofs.Imports.{Some, length, HoldsBlock}
-use Rattle.rpki_chains.proofs.Passing.{Passing}
+use Rattle.rpki_chains.proofs.FitTurns.{Passing}
 use Rattle.rpki_chains.proofs.overhang.overhang_of.Given as goal
 
 abbrev pub invariant-loop-held : goal.invariant-loop-held

@@ -1,18 +1,8 @@
 -- Each turn seeks one block: it lies in what is found, or leaves the other chain.
-use Rattle.rpki_chains.proofs.Imports.{None, Some, arith, refl, ◌∙◌, nat_tests, HoldsBlock}
+use Rattle.rpki_chains.proofs.Imports.{None, Some, arith, ◌∙◌, nat_tests, HoldsBlock}
 use Rattle.rpki_chains.proofs.Counts.{sought_within}
-use Rattle.rpki_chains.proofs.FitTurns.{leaves, passed_all, passed_fit, passed_skip, passed_start}
+use Rattle.rpki_chains.proofs.FitTurns.{leaves, passed_all, passed_fit, passed_skip}
 use Rattle.rpki_chains.proofs.sought.sought_overhang.Goals as goal
-
-pub loop-own_at-init : goal.loop-own_at-init
-loop-own_at-init g c = record {
-  own_reads = omega arith;
-  other_reads = λ digits fits. omega arith;
-  within = omega arith;
-  walk = passed_start c.len-own_at-end.ensures.chain c.len-other_len.ensures.chain;
-  own_kept = refl;
-  other_kept = refl;
-}
 
 pub returns-in_default-clause-value : goal.returns-in_default-clause-value
 returns-in_default-clause-value g c =
@@ -20,16 +10,9 @@ returns-in_default-clause-value g c =
     let read = c.read-min.ensures in
     let own : HoldsBlock g.T.Block.bounds g.T.Block.number _ (g.X.Reads.blocks c.args.own.now) _
     (Some c.read-min.result) = (omega arith, rw inv.own_kept at read.value, read.to_last) in
-    let passed = rw inv.other_kept at c.in_default.ensures.passed in
-    let walk = passed_skip inv.walk g.T.Block.number _ _ own c.seek.new.at passed in
+    let walk = passed_skip inv.walk g.T.Block.number _ _ own c.seek.new.at
+    (rw inv.other_kept at c.in_default.ensures.passed) in
     leaves walk g.T.Block.number _ _ own None (rw inv.other_kept at c.in_default.ensures.block) _ read.from_first tt
-
-pub returns-in_default-clause-other_reads : goal.returns-in_default-clause-other_reads
-returns-in_default-clause-other_reads g c digits fits =
-    let inv = c.loop-own_at.invariant in
-    let reads = rw inv.other_kept at c.in_default.ensures.reads in
-    sought_within c.loop-own_at.own_at _ digits _ _ _ (omega arith) (inv.other_reads digits fits)
-    (reads digits (omega arith))
 
 pub returns-then-lt-clause-value : goal.returns-then-lt-clause-value
 returns-then-lt-clause-value g c =
@@ -37,20 +20,12 @@ returns-then-lt-clause-value g c =
     let read = c.read-min.ensures in
     let own : HoldsBlock g.T.Block.bounds g.T.Block.number _ (g.X.Reads.blocks c.args.own.now) _
     (Some c.read-min.result) = (omega arith, rw inv.own_kept at read.value, read.to_last) in
-    let other = rw inv.other_kept at c.in-Some.ensures.block in
-    let passed = rw inv.other_kept at c.in-Some.ensures.passed in
-    let walk = passed_skip inv.walk g.T.Block.number _ _ own c.seek.new.at passed in
+    let walk = passed_skip inv.walk g.T.Block.number _ _ own c.seek.new.at
+    (rw inv.other_kept at c.in-Some.ensures.passed) in
     let order = g.met.T.Block.in_order in
     let same = g.met.T.Item.Ord.matches_partial_cmp in
-    leaves walk g.T.Block.number _ _ own (Some c.in-Some.held) other _ read.from_first
-    (grind (arith, nat_tests, order, same, c.then-lt.branch, c.in-Some.ensures.reaches))
-
-pub returns-then-lt-clause-other_reads : goal.returns-then-lt-clause-other_reads
-returns-then-lt-clause-other_reads g c digits fits =
-    let inv = c.loop-own_at.invariant in
-    let reads = rw inv.other_kept at c.in-Some.ensures.reads in
-    sought_within c.loop-own_at.own_at _ digits _ _ _ (omega arith) (inv.other_reads digits fits)
-    (reads digits (omega arith))
+    leaves walk g.T.Block.number _ _ own (Some c.in-Some.held) (rw inv.other_kept at c.in-Some.ensures.block) _
+    read.from_first (grind (arith, nat_tests, order, same, c.then-lt.branch, c.in-Some.ensures.reaches))
 
 pub loop-own_at-preserved : goal.loop-own_at-preserved
 loop-own_at-preserved g c =
@@ -60,8 +35,8 @@ loop-own_at-preserved g c =
     (Some c.read-min.result) = (omega arith, rw inv.own_kept at read.value, read.to_last) in
     let other = rw inv.other_kept at c.in-Some.ensures.block in
     let reads = rw inv.other_kept at c.in-Some.ensures.reads in
-    let passed = rw inv.other_kept at c.in-Some.ensures.passed in
-    let walk = passed_skip inv.walk g.T.Block.number _ _ own c.seek.new.at passed in
+    let walk = passed_skip inv.walk g.T.Block.number _ _ own c.seek.new.at
+    (rw inv.other_kept at c.in-Some.ensures.passed) in
     let order = g.met.T.Block.in_order in
     let same = g.met.T.Item.Ord.matches_partial_cmp in
     record {
@@ -76,5 +51,4 @@ loop-own_at-preserved g c =
     }
 
 pub returns-clause-value : goal.returns-clause-value
-returns-clause-value g c =
-    passed_all c.loop-own_at.invariant.walk (omega arith)
+returns-clause-value g c = passed_all c.loop-own_at.invariant.walk (omega arith)

@@ -1,7 +1,6 @@
 -- The run at hand begins no later than the block at hand, and nothing is lost.
-use Rattle.rpki_chains.proofs.Imports.{drop, length, ◌+◌, ◌-◌, ◌⊎◌, IsBehind, IsHeld, Covers, numbers}
-use Rattle.rpki_chains.proofs.Counts.{IsReader}
-use Rattle.rpki_chains.proofs.Merges.{IsSplit, Side}
+use Rattle.rpki_chains.proofs.Imports.{drop, length, ◌+◌, ◌-◌, ◌⊎◌, IsHeld, Covers, numbers}
+use Rattle.rpki_chains.proofs.Merges.{Walk}
 use Rattle.rpki_chains.proofs.union.close_with.Given as goal
 
 abbrev pub invariant-loop-chain : goal.invariant-loop-chain
@@ -9,14 +8,10 @@ invariant-loop-chain g l =
     let f = g.T.Block.bounds in
     let number = g.T.Block.number in
     let xs = g.R.Reads.blocks l.fn.rest in
-    record {
-      rest : IsReader xs (g.R.Reads.blocks l.rest) l.at (g.R.Reads.count l.rest)
-          (g.R.Reads.count l.fn.rest + (length xs - (l.fn.at + 1)));
-      behind : IsBehind f g.T.Block.form g.T.Block.last l.chain.items (numbers number l.run);
-      side : Side f g.T.Block.form number g.T.Block.last xs l.at l.block l.run;
-      held : IsSplit (IsHeld f l.chain.items (numbers number l.run)) (λ n. Covers f (drop l.at xs) n ⊎ ⊥)
-          (λ n. IsHeld f l.fn.chain.items (numbers number l.fn.run) n ⊎ Covers f (drop l.fn.at xs) n);
-    }
+    Walk f g.T.Block.form number g.T.Block.last
+    (λ n. IsHeld f l.fn.chain.items (numbers number l.fn.run) n ⊎ Covers f (drop l.fn.at xs) n) (λ _. ⊥) xs
+    (g.R.Reads.blocks l.rest) l.at (g.R.Reads.count l.rest) (g.R.Reads.count l.fn.rest + (length xs - (l.fn.at + 1)))
+    l.block l.run l.chain.items
 
 abbrev pub decreases-loop-chain : goal.decreases-loop-chain
 decreases-loop-chain g l = length (g.R.Reads.blocks l.fn.rest) - l.at

@@ -1,27 +1,17 @@
 -- The run is made longer, or closed where the next bounds don't touch it.
-use Rattle.rpki_chains.proofs.Imports.{ap, sym, ◌∙◌, numbers}
-use Rattle.rpki_chains.proofs.Joining.{longer_run, longer_held, next_run, held_next}
+use Rattle.rpki_chains.proofs.Imports.{numbers}
+use Rattle.rpki_chains.proofs.Joining.{longer_turn, closed_turn}
 use Rattle.rpki_chains.proofs.union.take_in.Goals as goal
 
-pub returns-in-Some-clause-run : goal.returns-in-Some-clause-run
-returns-in-Some-clause-run g c =
+pub returns-in-Some : goal.returns-in-Some
+returns-in-Some g c =
     let over = c.in-Some.ensures in
-    longer_run g.T.Block.bounds g.T.Block.form g.T.Block.last g.T.Block.number _ c.in-Some.longer c.args.run.now
-    c.args.next c.requires.run over.from over.to c.requires.to_last
+    let turn = longer_turn g.T.Block.number _ c.in-Some.longer c.args.run.now c.args.next c.requires.run
+    c.requires.behind c.requires.to_last over.from over.to over.over in
+    record { run = turn.behind; behind = turn.begins; held = turn.held }
 
-pub returns-in-Some-clause-held : goal.returns-in-Some-clause-held
-returns-in-Some-clause-held g c n =
-    let number = g.T.Block.number in
-    longer_held g.T.Block.bounds g.T.Block.form g.T.Block.last _ (numbers number c.args.run.now) c.requires.run (numbers number c.in-Some.longer) (numbers number c.args.next) n (c.in-Some.ensures.over n)
-
-pub returns-clause-run : goal.returns-clause-run
-returns-clause-run g c =
-    let form = g.T.Block.form in
-    let number = g.T.Block.number in
-    rw c.in_ok-push.ensures.items (next_run g.T.Block.bounds form g.T.Block.last c.args.chain.now.items (numbers number c.args.run.now) c.requires.run c.new.result c.new.ensures.bounds (c.new.ensures.value ∙ ap form (sym c.new.ensures.bounds)) (numbers number c.args.next) c.requires.ordered c.requires.to_last c.in_default.ensures.apart)
-
-pub returns-clause-held : goal.returns-clause-held
-returns-clause-held g c =
-    let form = g.T.Block.form in
-    let number = g.T.Block.number in
-    rw c.in_ok-push.ensures.items (held_next g.T.Block.bounds form g.T.Block.last c.args.chain.now.items (numbers number c.args.run.now) c.requires.run c.new.result c.new.ensures.bounds (c.new.ensures.value ∙ ap form (sym c.new.ensures.bounds)) (numbers number c.args.next))
+pub returns : goal.returns
+returns g c =
+    let turn = closed_turn c.requires.run c.new.ensures.bounds c.new.ensures.value
+    (numbers g.T.Block.number c.args.next) c.requires.ordered c.requires.to_last c.in_default.ensures.apart in
+    rw c.in_ok-push.ensures.items record { run = turn.behind; behind = turn.begins; held = turn.held }

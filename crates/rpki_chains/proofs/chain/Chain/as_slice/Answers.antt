@@ -8,7 +8,9 @@ pub returns-clause-chain : goal.returns-clause-chain
 returns-clause-chain g c = IsChainOf-itself g.T.Block.bounds g.T.Block.form _ c.args.self.is_chain
 
 pub returns-clause-only : goal.returns-clause-only
-returns-clause-only g c blocks chain = IsChain-unique g.T.Block.bounds g.T.Block.form blocks _ (IsChain-from g.T.Block.bounds g.T.Block.form blocks _ chain) c.args.self.is_chain chain.covers
+returns-clause-only g c blocks chain =
+    IsChain-unique g.T.Block.bounds g.T.Block.form blocks _ (IsChain-from _ g.T.Block.form blocks _ chain)
+    c.args.self.is_chain chain.covers
 
 pub returns-clause-shortest : goal.returns-clause-shortest
-returns-clause-shortest g c blocks same = IsChain-shortest g.T.Block.bounds g.T.Block.form _ blocks c.args.self.is_chain same
+returns-clause-shortest g c blocks = IsChain-shortest g.T.Block.bounds g.T.Block.form _ blocks c.args.self.is_chain

@@ -1,7 +1,8 @@
 -- What was joined is the chain of what the blocks covered.
-use Rattle.rpki_chains.proofs.Imports.{Covers}
 use Rattle.rpki_chains.proofs.Chains.{IsChainOf-from}
 use Rattle.rpki_chains.proofs.owned.OwnedChain.from_vec.Goals as goal
 
 pub returns : goal.returns
-returns g c = rw c.from_vec_unchecked.ensures (IsChainOf-from g.T.Block.bounds g.T.Block.form _ (Covers g.T.Block.bounds c.args.blocks.items) c.join.ensures.chain c.join.ensures.covers)
+returns g c =
+    rw c.from_vec_unchecked.ensures
+    (IsChainOf-from g.T.Block.bounds g.T.Block.form _ _ c.join.ensures.chain c.join.ensures.covers)

@@ -1,5 +1,5 @@
 -- Blocks that strict cursors take one after another: they are a chain, and the octets are what is written of their set.
-use Rattle.rpki_chain.proofs.Common.{List, None, Option, Some, [], ap, arith, length, map, refl, subst, suc, sym, ℕ, ◌++◌, ◌+◌, ◌<◌, ◌^◌, ◌∙◌, ◌∷◌, ◌≡◌, ◌≤◌, All-cons, All-map, All-nil, All-tail, All, AllPairs, ⊤, IsSequenceFrom, Covers-nil, IsChain-nil, Covers, IsChain, IsNew, EachFrom, Refines, Spells, Where, sequence_value, IsBlockChain, IsBlockSet, IsChoiceOf, ListsBy, MatchChoice, IsRunsOfBlocks, Runs, ResourcesChoice, Blocks, Inherit, Missing}
+use Rattle.rpki_chain.proofs.Common.{List, None, Option, Some, [], ap, arith, length, map, refl, subst, suc, sym, ℕ, ◌+◌, ◌<◌, ◌^◌, ◌∙◌, ◌∷◌, ◌≡◌, ◌≤◌, All-cons, All-map, All-nil, All, AllPairs, ⊤, IsSequenceFrom, Covers-nil, IsChain-nil, Covers, IsChain, IsNew, EachFrom, Refines, Spells, Where, sequence_value, IsBlockChain, IsBlockSet, IsChoiceOf, ListsBy, MatchChoice, IsRunsOfBlocks, Runs, ResourcesChoice}
 use Rattle.std.proofs.lemmas.List.Folds.{flat_map-map}
 use Rattle.std.proofs.lemmas.List.Kept.{AllPairs-cons}
 use Rattle.rpki_chains.specs.Beyond.{IsBeyond}
@@ -8,10 +8,6 @@ use Rattle.rpki_base.specs.DerWriting.{octets_of_all, sequence_octets}
 use Rattle.rpki_chain.proofs.LawLemmas.{empty_set}
 use Rattle.rpki_chain.proofs.RunLists.{IsRunsOf-unique, IsRunsOfBlocks-bounds}
 use Rattle.rpki_chain.proofs.SetLemmas.{IsBlockSet-from_chain, made_again, made_of_set}
-
--- what is beyond what is beyond
-beyond_more : (before : Option ℕ) (a b n : ℕ) → IsBeyond before a → a ≤ b → b + 1 < n → IsBeyond before n
-beyond_more before a b n first ordered second = grind arith
 
 -- what is listed in such lists as were read is as what was read
 pub listed_are : {X Y : Type 0} (items : Y → List X) (P : List X → Type 0) (read : ResourcesChoice (List X))
@@ -24,7 +20,8 @@ pub no_numbers : {B : Type 0} (f : B → ℕ × ℕ) (set : Runs) → IsRunsOfBl
 no_numbers f set is = empty_set (Covers f []) set is (Covers-nil f)
 
 -- what is written of a block that sets have; Fits says what else is known of its bounds
-pub record IsWritten {B : Type 0} (f : B → ℕ × ℕ) (form : ℕ × ℕ → B) (octets : B → List ℕ) (last : ℕ) (Fits : ℕ × ℕ → Type 0) (G : List ℕ → B → Type 0) : Type 0 where
+pub record IsWritten {B : Type 0} (f : B → ℕ × ℕ) (form : ℕ × ℕ → B) (octets : B → List ℕ) (last : ℕ)
+    (Fits : ℕ × ℕ → Type 0) (G : List ℕ → B → Type 0) : Type 0 where
   pub spelled : (bytes : List ℕ) (x : B) → G bytes x → bytes ≡ octets x
   pub ordered : (bytes : List ℕ) (x : B) → G bytes x → (f x).0 ≤ (f x).1
   pub below : (bytes : List ℕ) (x : B) → G bytes x → (f x).1 ≤ last
@@ -33,7 +30,8 @@ pub record IsWritten {B : Type 0} (f : B → ℕ × ℕ) (form : ℕ × ℕ → 
   pub written : (b : ℕ × ℕ) → b.0 ≤ b.1 → b.1 ≤ last → Fits b → G (octets (form b)) (form b)
   pub form_bounds : (b : ℕ × ℕ) → b.0 ≤ b.1 → b.1 ≤ last → f (form b) ≡ b
 
-module _ {B : Type 0} (f : B → ℕ × ℕ) (form : ℕ × ℕ → B) (octets : B → List ℕ) (last : ℕ) (Fits : ℕ × ℕ → Type 0) (G : List ℕ → B → Type 0) (is : IsWritten f form octets last Fits G) where
+module _ {B : Type 0} (f : B → ℕ × ℕ) (form : ℕ × ℕ → B) (octets : B → List ℕ) (last : ℕ) (Fits : ℕ × ℕ → Type 0)
+    (G : List ℕ → B → Type 0) (is : IsWritten f form octets last Fits G) where
   -- the greatest number of the block before
   abbrev Next : Option ℕ → B → Option ℕ
   Next before x = Some (f x).1
@@ -51,24 +49,9 @@ module _ {B : Type 0} (f : B → ℕ × ℕ) (form : ℕ × ℕ → B) (octets :
 
   are_taken : (before : Option ℕ) (bytes : List ℕ) (xs : List B) → EachFrom Next Behind before bytes xs
       → AreTaken before bytes xs
-  are_taken before bytes [] none = record { chain = record { chain = IsChain-nil f form; above = All-nil _; below = All-nil _ }; fit = All-nil _; beyond = All-nil _; spelled = none }
+  are_taken before bytes [] none = grind (arith, IsChain-nil, All-nil)
   are_taken before bytes (x ∷ xs) (rest, (front, (g, first), split), more) =
-      let then = are_taken (Some (f x).1) rest xs more in
-      let in_order = is.ordered front x g in
-      record {
-        chain = record {
-          chain = record {
-            ordered = All-cons (λ y. (f y).0 ≤ (f y).1) x xs in_order then.chain.chain.ordered;
-            apart = AllPairs-cons (λ y z. (f y).1 + 1 < (f z).0) x xs then.beyond then.chain.chain.apart;
-            new_form = All-cons (IsNew f form) x xs (is.new_form front x g) then.chain.chain.new_form;
-          };
-          above = λ k d small. omega arith;
-          below = All-cons (λ y. (f y).1 ≤ last) x xs (is.below front x g) then.chain.below;
-        };
-        fit = All-cons (λ y. Fits (f y)) x xs (is.fits front x g) then.fit;
-        beyond = All-cons (λ y. IsBeyond before (f y).0) x xs first (λ k d small. beyond_more before (f x).0 (f x).1 _ first in_order (then.beyond k d small));
-        spelled = split ∙ ap (λ (t : List ℕ). t ++ rest) (is.spelled front x g) ∙ ap (λ (t : List ℕ). octets x ++ t) then.spelled;
-      }
+      grind (arith, All-cons, AllPairs-cons, are_taken (Some (f x).1) rest xs more)
 
   -- so they are a chain, and so is what resources list
   pub taken_chain : (before : Option ℕ) (bytes : List ℕ) (xs : List B) → EachFrom Next Behind before bytes xs
@@ -77,9 +60,7 @@ module _ {B : Type 0} (f : B → ℕ × ℕ) (form : ℕ × ℕ → B) (octets :
 
   pub listed_chain : (bytes : List ℕ) (choice : ResourcesChoice (List B))
       → IsChoiceOf (IsSequenceFrom Next Behind None) bytes choice → MatchChoice choice ⊤ ⊤ (IsChain f form)
-  listed_chain bytes Missing is = tt
-  listed_chain bytes Inherit is = tt
-  listed_chain bytes (Blocks xs) ((content, at, each), some) = taken_chain None content xs each
+  listed_chain bytes choice is = grind (arith, taken_chain)
 
   -- what is written of runs is taken as their blocks
   taken : (before : Option ℕ) (set : Runs) → All (λ b. (b.0 ≤ b.1) × (b.1 ≤ last) × Fits b) set
@@ -87,14 +68,10 @@ module _ {B : Type 0} (f : B → ℕ × ℕ) (form : ℕ × ℕ → B) (octets :
       → EachFrom Next Behind before (octets_of_all (λ b. octets (form b)) set) (map form set)
   taken before [] each apart beyond = refl
   taken before (b ∷ set) each apart beyond =
-      let (in_order, to, fits) = each 0 b (omega arith) in
-      let same : f (form b) ≡ b = is.form_bounds b in_order to in
-      let first : IsBeyond before (f (form b)).0 = rw same (beyond 0 b (omega arith)) in
-      let then = taken (Some b.1) set (All-tail (λ (c : ℕ × ℕ). (c.0 ≤ c.1) × (c.1 ≤ last) × Fits c) b set each)
+      let then = taken (Some b.1) set (λ k d small. each (suc k) d (omega arith))
       (λ i j d lt within. apart (suc i) (suc j) d (omega arith) (omega arith))
       (λ k d small. apart 0 (suc k) d (omega arith) (omega arith)) in
-      let octets_then = octets_of_all (λ c. octets (form c)) set in
-      (octets_then, (octets (form b), (is.written b in_order to fits, first), refl), rw same then)
+      grind (arith, each 0 b, beyond 0 b, is.form_bounds b, is.written b, then)
 
   -- a set whose runs fit
   abbrev pub IsFitting : Runs → Type 0
@@ -106,13 +83,11 @@ module _ {B : Type 0} (f : B → ℕ × ℕ) (form : ℕ × ℕ → B) (octets :
       → Spells IsFitting (sequence_octets (λ b. octets (form b))) bytes set
   set_spelled bytes set (xs, (content, at, each), says) =
       let are = are_taken None content xs each in
-      let runs : Runs = map f xs in
-      let own : IsBlockSet 0 last runs = IsBlockSet-from_chain f form 0 last xs are.chain in
-      let covered : IsRunsOfBlocks f xs runs = IsRunsOfBlocks-bounds f xs runs refl own.are_runs in
-      let same : runs ≡ set = IsRunsOf-unique (Covers f xs) runs set covered says in
-      let made : map form runs ≡ xs = made_again f form xs are.chain.chain.new_form in
-      let written : octets_of_all octets xs ≡ octets_of_all (λ b. octets (form b)) runs = ap (octets_of_all octets) (sym made) ∙ flat_map-map octets form runs in
-      let whole : content ≡ octets_of_all (λ b. octets (form b)) set = are.spelled ∙ written ∙ ap (octets_of_all (λ b. octets (form b))) same in
+      let own : IsBlockSet 0 last (map f xs) = IsBlockSet-from_chain are.chain refl in
+      let covered = IsRunsOfBlocks-bounds f xs (map f xs) refl own.are_runs in
+      let same : map f xs ≡ set = IsRunsOf-unique (Covers f xs) (map f xs) set covered says in
+      let made : xs ≡ map form set = rw (← same) (sym (made_again f form xs are.chain.chain.new_form)) in
+      let whole = are.spelled ∙ ap (octets_of_all octets) made ∙ flat_map-map octets form set in
       (subst IsFitting same (own, All-map Fits f xs are.fit), at.spelled ∙ ap sequence_value whole)
 
   -- and what is written of a set, if it isn't too long, is such a SEQUENCE
@@ -121,9 +96,9 @@ module _ {B : Type 0} (f : B → ℕ × ℕ) (form : ℕ × ℕ → B) (octets :
       → Refines (IsSequenceFrom Next Behind None) (IsRunsOfBlocks f) bytes set
   spelled_set bytes set short ((own, fit), spelled) =
       let content = octets_of_all (λ b. octets (form b)) set in
-      let each : All (λ b. (b.0 ≤ b.1) × (b.1 ≤ last) × Fits b) set = λ k d lt.
-      (own.are_runs.ordered k d lt, own.below k d lt, fit k d lt) in (
+      let blocks = taken None set (grind (arith, own.are_runs.ordered, own.below, fit)) own.are_runs.apart
+      (λ k d lt. tt) in (
         map form set,
-        (content, rw spelled (value_is 48 content (omega arith) short), taken None set each own.are_runs.apart (λ k d lt. tt)),
+        (content, rw spelled (value_is 48 content (omega arith) short), blocks),
         made_of_set f form 0 last (λ b from. is.form_bounds b) set own,
       )

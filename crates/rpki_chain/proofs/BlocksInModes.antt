@@ -1,5 +1,5 @@
 -- Sets and resources of blocks in either mode: strictly, the octets are those that are written of them.
-use Rattle.rpki_chain.proofs.Common.{Bool, List, None, Ok, Option, Result, Some, [], arith, length, refl, subst, true, ℕ, ◌<◌, ◌^◌, ◌∷◌, ◌≡◌, ◌≢◌, All, ⊤, IsSequenceFrom, Covers, IsChain, EachFrom, IsBytes, Where, IsModal, IsReading, DerError, IsBlockSet, IsChoiceOf, ListsBy, MatchChoice, Claim, IsRunsOfBlocks, Runs, ResourcesChoice, Blocks, Inherit, Missing, choice_at}
+use Rattle.rpki_chain.proofs.Common.{Bool, List, None, Ok, Option, Result, Some, [], arith, length, refl, true, ℕ, ◌<◌, ◌^◌, ◌∷◌, ◌≡◌, ◌≢◌, All, ⊤, IsSequenceFrom, Covers, IsChain, EachFrom, IsBytes, Where, IsModal, IsReading, DerError, IsBlockSet, IsChoiceOf, ListsBy, MatchChoice, Claim, IsRunsOfBlocks, Runs, ResourcesChoice, Blocks, Inherit, Missing, choice_at}
 use Rattle.rpki_der.proofs.Lists.{HasOctets}
 use Rattle.rpki_der.proofs.Written.{value_is}
 use Rattle.rpki_der.specs.Der.{Each}
@@ -21,7 +21,10 @@ use Rattle.rpki_chain.proofs.ClaimLemmas.{lists_one}
 use Rattle.rpki_chain.proofs.RunLists.{IsRunsOf-unique}
 
 -- Leniently blocks of G are found, strictly those of W, each behind the one before. P holds of the sets of such blocks.
-pub record AreBlocksInModes {B : Type 0} (f : B → ℕ × ℕ) (form : ℕ × ℕ → B) (octets : B → List ℕ) (last : ℕ) (Fits : ℕ × ℕ → Type 0) (P : Runs → Type 0) (G W : List ℕ → B → Type 0) (reading : List ℕ → Result (B × List ℕ) DerError) (by : Bool → Option ℕ → List ℕ → Result (B × List ℕ) DerError) : Type 0 where
+pub record AreBlocksInModes {B : Type 0} (f : B → ℕ × ℕ) (form : ℕ × ℕ → B) (octets : B → List ℕ) (last : ℕ)
+    (Fits : ℕ × ℕ → Type 0) (P : Runs → Type 0) (G W : List ℕ → B → Type 0)
+    (reading : List ℕ → Result (B × List ℕ) DerError)
+    (by : Bool → Option ℕ → List ℕ → Result (B × List ℕ) DerError) : Type 0 where
   pub lenient : IsReading G reading
   pub has_octets : HasOctets G
   pub modal : (before : Option ℕ)
@@ -31,7 +34,10 @@ pub record AreBlocksInModes {B : Type 0} (f : B → ℕ × ℕ) (form : ℕ × �
   pub fitting : (set : Runs) → IsBlockSet 0 last set → All Fits set → P set
   pub fits : (set : Runs) → P set → IsBlockSet 0 last set × All Fits set
 
-module _ {B : Type 0} {f : B → ℕ × ℕ} {form : ℕ × ℕ → B} {octets : B → List ℕ} {last : ℕ} {Fits : ℕ × ℕ → Type 0} {P : Runs → Type 0} {G W : List ℕ → B → Type 0} {reading : List ℕ → Result (B × List ℕ) DerError} {by : Bool → Option ℕ → List ℕ → Result (B × List ℕ) DerError} (is : AreBlocksInModes f form octets last Fits P G W reading by) where
+module _ {B : Type 0} {f : B → ℕ × ℕ} {form : ℕ × ℕ → B} {octets : B → List ℕ} {last : ℕ} {Fits : ℕ × ℕ → Type 0}
+    {P : Runs → Type 0} {G W : List ℕ → B → Type 0} {reading : List ℕ → Result (B × List ℕ) DerError}
+    {by : Bool → Option ℕ → List ℕ → Result (B × List ℕ) DerError}
+    (is : AreBlocksInModes f form octets last Fits P G W reading by) where
   -- the greatest number of the block before, and a block behind it
   abbrev Next : Option ℕ → B → Option ℕ
   Next before x = Some (f x).1
@@ -71,9 +77,7 @@ module _ {B : Type 0} {f : B → ℕ × ℕ} {form : ℕ × ℕ → B} {octets :
   -- strictly, its blocks are a chain
   pub chain_read : (old : Cursor) (xs : List B) (rest : List ℕ) → IsBytes (left old) → is_strict old ≡ true
       → sequence_from Next (by (is_strict old)) None (left old) ≡ Ok (xs, rest) → IsChain f form xs
-  chain_read old xs rest fits strict read =
-      let found = strictly_found set_said old xs rest fits strict read in
-      taken_chain f form octets last Fits W is.written None found.1.0 xs found.1.2
+  chain_read old xs rest fits strict read = grind (arith, set_said, strictly_found, taken_chain)
 
   -- ---- resources
 
@@ -86,7 +90,7 @@ module _ {B : Type 0} {f : B → ℕ × ℕ} {form : ℕ × ℕ → B} {octets :
       → IsRunsOfBlocks f xs set → set ≢ []
   some_numbers content [] set each some says = absurd (some refl)
   some_numbers content (x ∷ xs) set (rest, (front, (w, beyond), split), more) some says =
-      has_numbers f (x ∷ xs) x set refl (is.written.ordered front x w) says
+      has_numbers f (x ∷ xs) x set some refl (is.written.ordered front x w) says
 
   some_blocks : (xs : List B) (set : Runs) → IsRunsOfBlocks f xs set → set ≢ [] → xs ≢ []
   some_blocks xs set says some none = some (no_numbers f set (rw none at says))
@@ -110,20 +114,14 @@ module _ {B : Type 0} {f : B → ℕ × ℕ} {form : ℕ × ℕ → B} {octets :
       let found = set_said.says set p short in
       (Blocks found.0, (found.1, some_blocks found.0 set found.2 some), (set, found.2, refl))
 
-  choice_looser : (bytes : List ℕ) (choice : ResourcesChoice (List B))
-      → IsChoiceOf (IsSequenceFrom Next Behind None) bytes choice → IsChoiceOf (IsSequenceOf G) bytes choice
-  choice_looser bytes choice found = grind (arith, set_said.looser)
-
   choice_modes : IsModal (IsChoiceOf (IsSequenceFrom Next Behind None)) (choice_at (values_of reading))
       (λ strict. choice_at (values_from Next (by strict) None))
   choice_modes =
-      subst (λ values. IsModal (IsChoiceOf (IsSequenceFrom Next Behind None)) (choice_at values)
-      (λ strict. choice_at (values_from Next (by strict) None))) (values_stateless Next reading None)
+      let strictly = strict_values_check Next (λ before. G) Behind (λ before. reading) by (λ before. is.lenient)
+      (λ before. is.has_octets) is.modal None in
+      rw (← values_stateless Next reading None)
       (choice_modal (EachFrom Next Behind None) (values_from Next (λ before. reading) None)
-      (λ strict. values_from Next (by strict) None)
-      (strict_values_check Next (λ before. G) Behind (λ before. reading) by (λ before. is.lenient)
-      (λ before. is.has_octets) is.modal None)
-      (λ strict.
+      (λ strict. values_from Next (by strict) None) strictly (λ strict.
       values_tighten strict Next (by strict) (λ before. reading) (λ before. (is.modal before).tightens strict) None))
 
   -- a NULL, or such a SEQUENCE of one block at least, stands for one claim
@@ -135,7 +133,7 @@ module _ {B : Type 0} {f : B → ℕ × ℕ} {form : ℕ × ℕ → B} {octets :
         (values_check (λ (state : Unit {0}) (x : B). state) (λ state. G) (λ state. reading) (λ state. is.lenient)
         (λ state. is.has_octets) tt);
     modal = choice_modes;
-    looser = choice_looser;
+    looser = λ bytes choice found. grind (arith, set_said.looser);
     one = lists_one (IsRunsOfBlocks f) (λ xs a b. IsRunsOf-unique (Covers f xs) a b);
     spelled = choice_spelled;
     says = λ claim (p, present). choice_says claim p present;

@@ -1,5 +1,5 @@
 -- The reading of resources finds what the grammar says, and nothing else.
-use Rattle.rpki_chain.proofs.Common.{Bool, List, Ok, Result, Some, [], ap, arith, get_or, inl, inr, refl, slice_get, sym, true, ℕ, ◌∷◌, ◌≡◌, ◌≢◌, ◌≤◌, SaysByTag, Covers-nil, Covers-head, IsBytes, IsNothing, IsSequence, IsTlv, Refines, IsModal, IsReading, Tightens, nothing, value_at, DerError, IsChoiceOf, choice_at, choice_in, inherited_in, listed_in, some_in, some_of, IsRunsOfBlocks, Runs, ResourcesChoice, Blocks, Inherit, Missing}
+use Rattle.rpki_chain.proofs.Common.{Bool, List, Result, [], arith, get_or, inl, inr, refl, true, ℕ, ◌∷◌, ◌≡◌, ◌≢◌, ◌≤◌, SaysByTag, Covers-nil, Covers-head, IsBytes, IsNothing, IsSequence, IsTlv, Refines, IsModal, IsReading, Tightens, nothing, value_at, DerError, IsChoiceOf, choice_at, choice_in, inherited_in, listed_in, some_in, IsRunsOfBlocks, Runs, ResourcesChoice, Blocks, Inherit, Missing}
 use Rattle.rpki_der.proofs.Contents.{nothing_check}
 use Rattle.rpki_der.proofs.Modes.{bind_tightens, looked_tightens}
 use Rattle.rpki_der.proofs.Readings.{same_reading}
@@ -8,73 +8,48 @@ use Rattle.rpki_base.proofs.DerModes.{by_tag_tightens}
 use Rattle.rpki_base.proofs.DerReadings.{by_tag_reading, mapped_check}
 
 -- blocks of which the first has a number have numbers
-pub has_numbers : {B : Type 0} (f : B → ℕ × ℕ) (xs : List B) (x : B) (set : Runs) → slice_get xs 0 ≡ Some x
+pub has_numbers : {B : Type 0} (f : B → ℕ × ℕ) (xs : List B) (x : B) (set : Runs) → xs ≢ [] → x ≡ get_or xs 0 x
     → (f x).0 ≤ (f x).1 → IsRunsOfBlocks f xs set → set ≢ []
-has_numbers f [] x set at ordered is none = absurd cc
-has_numbers f (y ∷ ys) x set at ordered is none =
+has_numbers f [] x set some at ordered is none = some refl
+has_numbers f (y ∷ ys) x set some at ordered is none =
     grind (arith, Covers-head f y ys (f y).0, Covers-nil (λ b. b) (f y).0, (is.members (f y).0).1)
 
--- the first of some values is the one at index 0
-pub first_of_some : {B : Type 0} (xs : List B) (x : B) → xs ≢ [] → x ≡ get_or xs 0 x → slice_get xs 0 ≡ Some x
-first_of_some [] x some at = absurd (some refl)
-first_of_some (y ∷ ys) x some at = ap Some (sym at)
-
-module _ {X : Type 0} (Says : List ℕ → List X → Type 0) (values : List ℕ → Result (List X) DerError) (check : IsCheck IsBytes Says values) where
+module _ {X : Type 0} (Says : List ℕ → List X → Type 0) (values : List ℕ → Result (List X) DerError)
+    (check : IsCheck IsBytes Says values) where
   -- a content that says inherited resources, and one that says listed ones
-  SaysInherit : List ℕ → ResourcesChoice (List X) → Type 0
+  abbrev SaysInherit : List ℕ → ResourcesChoice (List X) → Type 0
   SaysInherit content choice = (u : Unit {0}) × IsNothing content u × (choice ≡ Inherit)
 
-  SaysSome : List ℕ → List X → Type 0
+  abbrev SaysSome : List ℕ → List X → Type 0
   SaysSome content xs = Says content xs × (xs ≢ [])
 
-  SaysListed : List ℕ → ResourcesChoice (List X) → Type 0
+  abbrev SaysListed : List ℕ → ResourcesChoice (List X) → Type 0
   SaysListed content choice = (xs : List X) × SaysSome content xs × (choice ≡ Blocks xs)
 
   -- one value at least
-  some_says : (xs ys : List X) → some_of xs ≡ Ok ys → (xs ≡ ys) × (ys ≢ [])
-  some_says xs ys e = grind arith
-
-  some_again : (xs : List X) → xs ≢ [] → some_of xs ≡ Ok xs
-  some_again xs some = grind arith
-
   some_check : IsCheck IsBytes SaysSome (some_in values)
-  unfolding SaysSome
-  some_check = grind (arith, bind_ok, some_again, some_says)
+  some_check = grind (arith, bind_ok)
 
   nothing_is : IsCheck IsBytes IsNothing nothing
   nothing_is = record { takes = λ content u fits e. nothing_check.takes content u tt e; again = nothing_check.again }
 
-  Sequences : List ℕ → List X → Type 0
-  Sequences = Refines IsSequence Says
-
-  to : (bytes : List ℕ) (choice : ResourcesChoice (List X)) → IsBytes bytes
-      → Refines IsTlv (SaysByTag 5 SaysInherit SaysListed) bytes choice → IsChoiceOf Sequences bytes choice
-  unfolding Sequences SaysInherit SaysListed SaysSome
-  to bytes choice fits found = grind arith
-
-  from : (bytes : List ℕ) (choice : ResourcesChoice (List X)) → IsChoiceOf Sequences bytes choice
+  from : (bytes : List ℕ) (choice : ResourcesChoice (List X)) → IsChoiceOf (Refines IsSequence Says) bytes choice
       → Refines IsTlv (SaysByTag 5 SaysInherit SaysListed) bytes choice
-  unfolding Sequences SaysInherit SaysListed SaysSome
   from bytes Missing is = absurd is
   from bytes Inherit is = (record { tag = 5; content = [] }, is, inl (refl, (tt, refl, refl)))
-  from bytes (Blocks xs) ((content, is, says), some) = (record { tag = 48; content = content }, is, inr (refl, (xs, (says, some), refl)))
+  from bytes (Blocks xs) ((content, is, says), some) =
+      (record { tag = 48; content = content }, is, inr (refl, (xs, (says, some), refl)))
 
   -- resources whose blocks are the values of a content
   pub choice_reading : IsReading (IsChoiceOf (Refines IsSequence Says)) (choice_at values)
-  unfolding Sequences SaysInherit SaysListed SaysSome
   choice_reading =
-      same_reading (Refines IsTlv (SaysByTag 5 SaysInherit SaysListed)) (IsChoiceOf Sequences) (choice_at values) to from
+      same_reading (Refines IsTlv (SaysByTag 5 SaysInherit SaysListed)) (IsChoiceOf (Refines IsSequence Says))
+      (choice_at values) (λ bytes choice fits found. grind arith) from
       (by_tag_reading 5 SaysInherit SaysListed inherited_in (listed_in values) (λ e. omega arith)
       (mapped_check IsBytes IsNothing nothing (λ u. Inherit) nothing_is)
       (mapped_check IsBytes SaysSome (some_in values) Blocks some_check))
 
 -- the same by the mode
-listed_tightens : {X : Type 0} (values : List ℕ → Result (List X) DerError)
-    (by : Bool → List ℕ → Result (List X) DerError)
-    → ((strict : Bool) (content : List ℕ) → Tightens strict (by strict content) (values content)) → (strict : Bool)
-    (content : List ℕ) → Tightens strict (listed_in (by strict) content) (listed_in values content)
-listed_tightens values by tight strict content = grind (arith, bind_tightens)
-
 pub choice_modal : {X : Type 0} (Says : List ℕ → List X → Type 0) (values : List ℕ → Result (List X) DerError)
     (by : Bool → List ℕ → Result (List X) DerError) → IsCheck IsBytes Says (by true)
     → ((strict : Bool) (content : List ℕ) → Tightens strict (by strict content) (values content))
@@ -83,5 +58,5 @@ choice_modal Says values by check tight = record {
   tight = choice_reading Says (by true) check;
   tightens = λ strict bytes. looked_tightens strict value_at (choice_in (by strict)) (choice_in values) (λ v.
       by_tag_tightens strict 5 inherited_in (listed_in (by strict)) inherited_in (listed_in values)
-      (λ content. inl refl) (listed_tightens values by tight strict) v) bytes;
+      (λ content. inl refl) (λ content. grind (arith, bind_tightens, tight strict content)) v) bytes;
 }

@@ -1,5 +1,5 @@
 -- What the proofs of this crate use of std, of the crates below and of its own definitions, passed on by one name.
-pub use Rattle.std.proofs.Common.{Bool, IfOk, List, None, Ok, Option, Result, Some, [], ap, arith, get_or, inl, inr, length, map, option_map, refl, rules, slice_get, subst, suc, sym, take, true, vec_len, ℕ, ⊎_elim, ◌++◌, ◌+◌, ◌-◌, ◌<◌, ◌^◌, ◌↔◌, ◌∙◌, ◌∷◌, ◌≡◌, ◌≢◌, ◌≤◌, ◌⊎◌}
+pub use Rattle.std.proofs.Common.{Bool, IfOk, List, None, Ok, Option, Result, Some, [], ap, arith, get_or, inl, inr, length, map, option_map, refl, rules, subst, suc, sym, take, true, vec_len, ℕ, ◌++◌, ◌+◌, ◌-◌, ◌<◌, ◌^◌, ◌↔◌, ◌∙◌, ◌∷◌, ◌≡◌, ◌≢◌, ◌≤◌, ◌⊎◌}
 pub use Rattle.std.proofs.Math.Nat.{le_refl}
 pub use Rattle.std.proofs.lemmas.Bool.{cases_lt, false≢true}
 pub use Rattle.std.proofs.lemmas.List.{append_assoc, get_or-map, get_or-take, get_or_default, length-map, length-take-le, map-append, take_all}
@@ -21,7 +21,7 @@ pub use Rattle.rpki_text.specs.Memory.{IfRefused, IsMemory}
 pub use Rattle.rpki_text.specs.declared.memory.OrMemory.{OrMemory}
 pub use Rattle.rpki_text.specs.declared.memory.OrMemory.TheVariants.{Memory, Refused}
 pub use Rattle.rpki_chain.specs.BlockSets.{IsBlockChain, IsBlockSet}
-pub use Rattle.rpki_chain.specs.ChoiceDer.{IsChoiceOf, choice_at, choice_in, inherited_in, listed_in, some_in, some_of}
+pub use Rattle.rpki_chain.specs.ChoiceDer.{IsChoiceOf, choice_at, choice_in, inherited_in, listed_in, some_in}
 pub use Rattle.rpki_chain.specs.Choices.{ListsBy, MatchChoice}
 pub use Rattle.rpki_chain.specs.Claims.{Claim, blocks_so_far}
 pub use Rattle.rpki_chain.specs.Operations.{IsDifference, IsIntersection}

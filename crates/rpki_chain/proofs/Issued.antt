@@ -1,5 +1,5 @@
 -- What one claim leaves, and by what it exceeds: each of its outcomes, and that there is one.
-use Rattle.rpki_chain.proofs.Common.{[], arith, refl, ℕ, ◌∷◌, ◌≡◌, ◌≢◌, ◌≤◌, le_refl, All-head, IsErrAnd, MatchResult, Covers-nil, Covers-head, AnswersOrMemory-from_found, IfRefused, IsMemory, OrMemory, Memory, Refused, Claim, IsDifference, IsIntersection, Exceeds, IsExcess, IsIssued, Leaves, Lists, Holds, IsRunsOf, Runs, Blocks, Inherit, Overclaim, Refuse, Trim}
+use Rattle.rpki_chain.proofs.Common.{[], arith, refl, ℕ, ◌∷◌, ◌≡◌, ◌≢◌, ◌≤◌, le_refl, All-head, IsErrAnd, MatchResult, Covers-nil, Covers-head, AnswersOrMemory-from_found, IfRefused, IsMemory, OrMemory, Memory, Refused, Claim, IsDifference, IsIntersection, Exceeds, IsExcess, IsIssued, Leaves, Holds, IsRunsOf, Runs, Blocks, Inherit, Overclaim, Refuse, Trim}
 use Rattle.std.specs.Prelude.{Result}
 use Rattle.rpki_text.specs.Reading.{AnswersOrMemory}
 use Rattle.rpki_chain.proofs.LawLemmas.{inside_where_none}
@@ -26,20 +26,15 @@ some_held S (b ∷ runs) h some =
     let ordered : b.0 ≤ b.1 = All-head (λ (x : ℕ × ℕ). x.0 ≤ x.1) b runs h.ordered in
     (b.0, (h.members b.0).0 (Covers-head (λ x. x) b runs b.0 (le_refl b.0, ordered)))
 
--- a claim that lists numbers of the issuer alone, or none, exceeds nothing
-not_exceeded : (S : ℕ → Type 0) (claim : Claim) (mode : Overclaim) (n : ℕ) → (Lists claim n → S n)
-    → Exceeds S claim mode n → ⊥
-not_exceeded S claim mode n inside e = grind arith
-
 module _ (set : Runs) (mode : Overclaim) where
   pub issued_inherit : (issued : Runs) → issued ≡ set → IsRunsOf (Holds set) set
       → IsIssued (Holds set) Inherit mode issued
-  issued_inherit issued same runs = grind (arith, not_exceeded)
+  issued_inherit issued same runs = grind arith
 
   module _ (listed : Runs) where
     pub issued_inside : (issued : Runs) → ((n : ℕ) → Holds listed n → Holds set n) → issued ≡ listed
         → IsRunsOf (Holds listed) listed → IsIssued (Holds set) (Blocks listed) mode issued
-    issued_inside issued inside same runs = grind (arith, IsRunsOf-same, not_exceeded)
+    issued_inside issued inside same runs = grind (arith, IsRunsOf-same)
 
     pub issued_trim : (issued : Runs) → mode ≡ Trim → IsIntersection listed set issued
         → IsIssued (Holds set) (Blocks listed) mode issued

@@ -1,5 +1,5 @@
 -- One step of a path after another, and that a path has one result or one first refusal.
-use Rattle.rpki_chain.proofs.Common.{List, Result, arith, get_or, length, subst, sym, take, ℕ, ◌+◌, ◌<◌, ◌↔◌, ◌≡◌, ◌≤◌, cases_lt, get_or-take, get_or_default, length-take-le, take_all, All-more, AnswersOrMemory-from_found, IfRefused, MatchResult, OrMemory, Claim, Exceeds, ExceedsAt, IsExcess, IsFirstRefusal, IsIssued, IsLeft, IsPathResult, Leaves, Holds, IsRunsOf, Runs, Overclaim, Refuse, Trim, Step}
+use Rattle.rpki_chain.proofs.Common.{List, Result, arith, get_or, length, subst, sym, take, ℕ, ◌+◌, ◌<◌, ◌↔◌, ◌≡◌, ◌≤◌, cases_lt, get_or-take, get_or_default, length-take-le, take_all, All-more, AnswersOrMemory-from_found, IfRefused, MatchResult, OrMemory, Claim, Exceeds, ExceedsAt, IsExcess, IsFirstRefusal, IsIssued, IsLeft, IsPathResult, Leaves, Holds, IsRunsOf, Runs, Overclaim, Step}
 use Rattle.std.proofs.Common.{below_more}
 use Rattle.rpki_text.specs.Reading.{AnswersOrMemory}
 use Rattle.rpki_chain.specs.declared.path.PathRefusal.{PathRefusal}
@@ -8,8 +8,7 @@ use Rattle.rpki_chain.proofs.RunLists.{IsRunsOf-same, IsRunsOf-unique}
 
 pub Exceeds-same : (S U : ℕ → Type 0) (claim : Claim) (mode : Overclaim) (n : ℕ) → (U n → S n) → Exceeds S claim mode n
     → Exceeds U claim mode n
-Exceeds-same S U claim Refuse n same (listed, outside) = (listed, λ u. outside (same u))
-Exceeds-same S U claim Trim n same e = e
+Exceeds-same S U claim mode n same e = grind arith
 
 module _ {R : Type 0} (claim : R → Claim) (S : ℕ → Type 0) (steps : List (Step R)) where
   pub IsLeft-more : (at : ℕ) (step : Step R) → at < length steps → step ≡ get_or steps at step → (n : ℕ)
@@ -28,10 +27,7 @@ module _ {R : Type 0} (claim : R → Claim) (S : ℕ → Type 0) (steps : List (
     pub accepted : (k : ℕ) → k < at → (n : ℕ) → ExceedsAt claim S steps k n → ⊥
 
   pub none_passed : (left root : Runs) → left ≡ root → IsRunsOf S root → IsPassed 0 left
-  none_passed left root same h = record {
-    runs = grind (arith, IsRunsOf-same);
-    accepted = λ k below. absurd (omega arith);
-  }
+  none_passed left root same h = grind (arith, IsRunsOf-same)
 
   -- one step more, whose claim was seen
   module _ (at : ℕ) (left : Runs) (passed : IsPassed at left) (step : Step R) (lt : at < length steps)
@@ -58,11 +54,7 @@ module _ {R : Type 0} (claim : R → Claim) (S : ℕ → Type 0) (steps : List (
           → IsFirstRefusal claim S steps (record { step = at; fault = excess })
       step_refused excess h =
           let refuses = rw same at h in
-          record {
-            excess = IsRunsOf-same excess _ _ exceeds refuses.runs;
-            some = refuses.some;
-            first = λ k n below. passed.accepted k below n;
-          }
+          search (IsRunsOf-same excess _ _ exceeds refuses.runs, refuses.some, passed.accepted)
 
   pub all_passed : (at : ℕ) (left : Runs) → length steps ≤ at → IsPassed at left → IsPathResult claim S steps left
   all_passed at left all passed = record {

@@ -1,5 +1,6 @@
 -- Runs of sets: those of a chain, and that a set has one list of them.
-use Rattle.rpki_chain.proofs.Common.{List, [], arith, get_or, inl, inr, length, map, refl, sym, take, ℕ, ⊎_elim, ◌++◌, ◌+◌, ◌<◌, ◌↔◌, ◌∷◌, ◌≡◌, ◌≤◌, ◌⊎◌, cases_lt, append_assoc, get_or-map, length-map, map-append, All-map, Covers-nil, IsChain-from, IsChainOf-itself, Covers-cons_cases, Covers-head, Covers-tail, IsChain-unique, Covers, IsChain, IsChainOf, IsWithin, Holds, IsRunsOf, IsRunsOfBlocks, Runs}
+use Rattle.rpki_chain.proofs.Common.{List, [], arith, get_or, inr, length, map, sym, take, ℕ, ◌++◌, ◌+◌, ◌<◌, ◌↔◌, ◌∷◌, ◌≡◌, ◌≤◌, ◌⊎◌, cases_lt, append_assoc, get_or-map, length-map, map-append, All-map, Covers-nil, IsChain-from, IsChainOf-itself, Covers-cons_cases, Covers-head, Covers-tail, IsChain-unique, Covers, IsChain, IsChainOf, IsDifference, IsInside, IsIntersection, IsWithin, Holds, IsRunsOf, IsRunsOfBlocks, Runs}
+use Rattle.rpki_chain.specs.Operations.{IsUnion}
 use Rattle.std.proofs.lemmas.List.{map-id, map_more}
 use Rattle.rpki_chains.proofs.Chains.{element_at}
 use Rattle.rpki_chains.proofs.Sorts.{Covers-map}
@@ -13,14 +14,7 @@ module _ {B : Type 0} (f : B → ℕ × ℕ) where
   pub Covers-decided : (xs : List B) (n : ℕ) → Covers f xs n ⊎ (Covers f xs n → ⊥)
   Covers-decided [] n = inr (Covers-nil f n)
   Covers-decided (x ∷ xs) n =
-      grind (
-        arith,
-        Covers-head f x xs n,
-        Covers-tail f x xs n,
-        Covers-cons_cases f x xs n,
-        is_decided (f x) n,
-        Covers-decided xs n,
-      )
+      grind (arith, Covers-head, Covers-tail, Covers-cons_cases, is_decided (f x) n, Covers-decided xs n)
 
   -- the bounds of blocks hold what the blocks cover
   pub Holds-map : (xs : List B) (n : ℕ) → Holds (map f xs) n ↔ Covers f xs n
@@ -29,34 +23,32 @@ module _ {B : Type 0} (f : B → ℕ × ℕ) where
     Covers-map f (λ b. b) xs (map f xs) n (sym (map-id (map f xs))),
   )
 
-  module _ (form : ℕ × ℕ → B) where
-    -- the blocks of the chain of S are its runs
-    pub IsRunsOf-from_chain : (S : ℕ → Type 0) (xs : List B) → IsChainOf f form S xs → IsRunsOf S (map f xs)
-    IsRunsOf-from_chain S xs h =
-        let chain = IsChain-from f form xs S h in
-        record {
-          members = λ n. (λ c. (h.covers n).0 ((Holds-map xs n).0 c), λ s. (Holds-map xs n).1 ((h.covers n).1 s));
-          ordered = All-map (λ b. b.0 ≤ b.1) f xs chain.ordered;
-          apart = λ i j b below lt.
-              let long = length-map xs f in
-              let (d, is) = element_at xs j (omega arith) in
-              rw (get_or-map f xs i d b (omega arith), get_or-map f xs j d b (omega arith))
-              (chain.apart i j d below (omega arith));
-        }
+  -- the blocks of the chain of S are its runs
+  pub IsRunsOf-from_chain : {form : ℕ × ℕ → B} {S : ℕ → Type 0} {xs : List B} → IsChainOf f form S xs
+      → IsRunsOf S (map f xs)
+  IsRunsOf-from_chain {form} {S} {xs} h =
+      let chain = IsChain-from f form xs S h in
+      record {
+        members = λ n. grind (arith, h.covers n, Holds-map xs n);
+        ordered = All-map (λ b. b.0 ≤ b.1) f xs chain.ordered;
+        apart = λ i j b below lt.
+            let long = length-map xs f in
+            let (d, is) = element_at xs j (omega arith) in
+            rw (get_or-map f xs i d b (omega arith), get_or-map f xs j d b (omega arith))
+            (chain.apart i j d below (omega arith));
+      }
 
 -- the runs of a set are those of any set with the same numbers
 pub IsRunsOf-same : (xs : Runs) (S U : ℕ → Type 0) → ((n : ℕ) → S n ↔ U n) → IsRunsOf S xs → IsRunsOf U xs
 IsRunsOf-same xs S U same h = grind (arith)
 
--- runs are a chain of blocks that are their own bounds
-is_chain : (S : ℕ → Type 0) (xs : Runs) → IsRunsOf S xs → IsChain (λ b. b) (λ b. b) xs
-is_chain S xs h = record { ordered = h.ordered; apart = h.apart; new_form = λ k d lt. refl }
+pub IsRunsOf-iff : (xs : Runs) (S U : ℕ → Type 0) → ((n : ℕ) → S n ↔ U n) → IsRunsOf S xs ↔ IsRunsOf U xs
+IsRunsOf-iff xs S U same = grind arith
 
 -- a set has one list of runs
 pub IsRunsOf-unique : (S : ℕ → Type 0) (xs ys : Runs) → IsRunsOf S xs → IsRunsOf S ys → xs ≡ ys
 IsRunsOf-unique S xs ys hx hy =
-    IsChain-unique (λ b. b) (λ b. b) xs ys (is_chain S xs hx) (is_chain S ys hy) (λ n.
-    (λ c. (hy.members n).1 ((hx.members n).0 c), λ c. (hx.members n).1 ((hy.members n).0 c)))
+    IsChain-unique (λ b. b) (λ b. b) xs ys (grind arith) (grind arith) (λ n. grind (arith, hx.members n, hy.members n))
 
 -- blocks whose bounds are the runs of a set cover that set
 pub IsRunsOfBlocks-bounds : {B : Type 0} (f : B → ℕ × ℕ) (xs : List B) (set : Runs) → map f xs ≡ set
@@ -68,33 +60,31 @@ pub IsRunsOf-itself : {B : Type 0} (f : B → ℕ × ℕ) (form : ℕ × ℕ →
     → IsRunsOf (Holds (map f xs)) (map f xs)
 IsRunsOf-itself f form xs h =
     IsRunsOf-same (map f xs) _ _ (λ n. grind (arith, Holds-map f xs n))
-    (IsRunsOf-from_chain f form _ xs (IsChainOf-itself f form xs h))
+    (IsRunsOf-from_chain f (IsChainOf-itself f form xs h))
 
-module _ {B : Type 0} (f : B → ℕ × ℕ) (form : ℕ × ℕ → B) (xs some others : List B) where
-  -- the runs of what two chains have in common
-  pub IsRunsOf-intersection : IsChainOf f form (λ n. Covers f some n × Covers f others n) xs
-      → IsRunsOf (λ n. Holds (map f some) n × Holds (map f others) n) (map f xs)
-  IsRunsOf-intersection h =
-      IsRunsOf-same (map f xs) _ _ (λ n. grind (arith, Holds-map f some n, Holds-map f others n))
-      (IsRunsOf-from_chain f form _ xs h)
+-- the chains of two sets, and one that is made of both
+module _ {B : Type 0} {f : B → ℕ × ℕ} (some others : List B) {a b : Runs} (one : map f some ≡ a)
+    (two : map f others ≡ b) where
+  -- where the one lies in the other, so does its set
+  pub inside_set : IsInside f some others → (n : ℕ) → Holds a n → Holds b n
+  inside_set inside n held = grind (arith, inside n, Holds-map f some n, Holds-map f others n)
 
-  -- the runs of what one chain has and the other has not
-  pub IsRunsOf-difference : IsChainOf f form (λ n. Covers f some n × (Covers f others n → ⊥)) xs
-      → IsRunsOf (λ n. Holds (map f some) n × (Holds (map f others) n → ⊥)) (map f xs)
-  IsRunsOf-difference h =
-      IsRunsOf-same (map f xs) _ _ (λ n. grind (arith, Holds-map f some n, Holds-map f others n))
-      (IsRunsOf-from_chain f form _ xs h)
+  module _ {form : ℕ × ℕ → B} {xs : List B} where
+    -- the runs of what both have, of what the one has and the other has not, and of what one or the other has
+    pub common_runs : IsChainOf f form (λ n. Covers f some n × Covers f others n) xs → IsIntersection a b (map f xs)
+    common_runs h =
+        IsRunsOf-same (map f xs) _ _ (λ n. grind (arith, Holds-map f some n, Holds-map f others n))
+        (IsRunsOf-from_chain f h)
 
-  -- the runs of what one chain or the other has
-  pub IsRunsOf-union : IsChainOf f form (λ n. Covers f some n ⊎ Covers f others n) xs
-      → IsRunsOf (λ n. Holds (map f some) n ⊎ Holds (map f others) n) (map f xs)
-  IsRunsOf-union h =
-      IsRunsOf-same (map f xs) _ _ (λ n. grind (arith, Holds-map f some n, Holds-map f others n))
-      (IsRunsOf-from_chain f form _ xs h)
+    pub excess_runs : IsChainOf f form (λ n. Covers f some n × (Covers f others n → ⊥)) xs → IsDifference a b (map f xs)
+    excess_runs h =
+        IsRunsOf-same (map f xs) _ _ (λ n. grind (arith, Holds-map f some n, Holds-map f others n))
+        (IsRunsOf-from_chain f h)
 
--- the runs of one set or another are those of the other or the one
-pub IsRunsOf-swap : (S U : ℕ → Type 0) (xs : Runs) → IsRunsOf (λ n. S n ⊎ U n) xs → IsRunsOf (λ n. U n ⊎ S n) xs
-IsRunsOf-swap S U xs h = IsRunsOf-same xs _ _ (λ n. (⊎_elim inr inl, ⊎_elim inr inl)) h
+    pub joint_runs : IsChainOf f form (λ n. Covers f some n ⊎ Covers f others n) xs → IsUnion a b (map f xs)
+    joint_runs h =
+        IsRunsOf-same (map f xs) _ _ (λ n. grind (arith, Holds-map f some n, Holds-map f others n))
+        (IsRunsOf-from_chain f h)
 
 -- whether runs hold a number is decided
 pub Holds-decided : (runs : Runs) (n : ℕ) → Holds runs n ⊎ (Holds runs n → ⊥)
@@ -111,6 +101,4 @@ same_numbers a b ha hb same = IsRunsOf-unique (Holds b) a b (IsRunsOf-same a (Ho
 pub added_next : {T : Type 0} (f : T → ℕ × ℕ) (before : Runs) (made blocks : List T) (i : ℕ) (next new : T)
     → map f made ≡ before ++ map f (take i blocks) → i < length blocks → next ≡ get_or blocks i next → f new ≡ f next
     → map f (made ++ new ∷ []) ≡ before ++ map f (take (i + 1) blocks)
-added_next f before made blocks i next new added lt is same =
-    rw (map-append f made (new ∷ []), added, map_more f blocks i next lt, same, ← is)
-    (append_assoc before (map f (take i blocks)) (f next ∷ []))
+added_next f before made blocks i next new added lt is same = grind (arith, append_assoc, map-append, map_more)

@@ -136,6 +136,7 @@ fn shared<T: Block, A: Allocator>(set: &BlockSet<T, A>) -> Result<BlockSet<T, A>
 }
 
 /// What a path leaves of a root, or its first refusal.
+#[tactic(auto, using(crate::proofs::PathSteps::none_passed))]
 fn left_by<T: Block, A: Allocator + Copy, R: Claims<T, A>>(
     root: &BlockSet<T, A>,
     alloc: A,

@@ -1,10 +1,6 @@
 use Rattle.rpki_chain.proofs.Common.{arith}
-use Rattle.rpki_chain.proofs.PathSteps.{all_passed, more_passed, none_passed, step_refused}
+use Rattle.rpki_chain.proofs.PathSteps.{all_passed, more_passed, step_refused}
 use Rattle.rpki_chain.proofs.verify.left_by.Goals as goal
-
-pub loop-at-init : goal.loop-at-init
-loop-at-init g c =
-    none_passed g.R.Claims.claim _ c.args.steps.now _ _ c.in_ok-left.ensures.same c.in_ok-left.ensures.runs
 
 pub returns-in-Err-Refused : goal.returns-in-Err-Refused
 returns-in-Err-Refused g c =

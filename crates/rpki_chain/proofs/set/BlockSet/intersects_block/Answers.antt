@@ -1,5 +1,5 @@
-use Rattle.rpki_chain.proofs.SetLemmas.{some_held_by_set}
+use Rattle.rpki_chain.proofs.RunLists.{Holds-map}
 use Rattle.rpki_chain.proofs.set.BlockSet.intersects_block.Goals as goal
 
 pub returns : goal.returns
-returns g c = rw (← c.as_chain.ensures.blocks) (some_held_by_set g.T.Block.bounds _ _ _ c.intersects_block.ensures)
+returns g c = simp (← c.as_chain.ensures.blocks, Holds-map) c.intersects_block.ensures

@@ -4,7 +4,7 @@ use Rattle.std.proofs.lemmas.List.Elements.{All-from_recursion}
 use Rattle.std.proofs.lemmas.Str.Pattern.{IsSplitOnceResult, split_parts}
 use Rattle.std.specs.Borrow.{Bor}
 use Rattle.rpki_base.specs.AsnText.{asn_text}
-use Rattle.rpki_text.specs.Cuts.{Around}
+use Rattle.rpki_text.specs.Cuts.{Around, IsCutAt}
 use Rattle.rpki_base.proofs.AsnLemmas.{IsAsnText-asn_text, IsAsnText-one, asn_text_bytes}
 use Rattle.rpki_text.proofs.CutLemmas.{none_around, around_at}
 use Rattle.rpki_text.proofs.ReadingLemmas.{Answers-from_found}
@@ -17,7 +17,7 @@ IsAsBlockText-one text (Id m) (Id n) h k = ap Id (IsAsnText-one text m n h.1 k.1
 IsAsBlockText-one text (Id m) (Range s) h k = absurd (none_around dash text _ h.0 k)
 IsAsBlockText-one text (Range r) (Id n) h k = absurd (none_around dash text _ k.0 h)
 IsAsBlockText-one text (Range r) (Range s) h k =
-    let same = around_at dash text h.left h.right (λ left right. IsAsRangeBetween left right (range_bounds s)) h.cut k in
+    let same = around_at dash text h.left h.right (λ l q. IsAsRangeBetween l q (range_bounds s)) h.cut k in
     let min = IsAsnText-one h.left r.min s.min h.holds.min_text same.min_text in
     let max = IsAsnText-one h.right r.max s.max h.holds.max_text same.max_text in
     λ i. Range (record { min = min i; max = max i })
@@ -48,27 +48,19 @@ IsAsBlockText-block_text (Id n) ordered small =
     (no_dash 90 (asn_text n) (asn_text_bytes n small), IsAsnText-asn_text n small)
 IsAsBlockText-block_text (Range r) ordered small =
     let low : r.min < 2 ^ 32 = omega arith in
-    record {
-      left = asn_text r.min;
-      right = asn_text r.max;
-      cut = record { split = refl; first = no_dash 90 (asn_text r.min) (asn_text_bytes r.min low) };
-      holds = record {
-        min_text = IsAsnText-asn_text r.min low;
-        max_text = IsAsnText-asn_text r.max small;
-        in_order = ordered;
-      };
-    }
+    let bare = no_dash 90 (asn_text r.min) (asn_text_bytes r.min low) in
+    let min = IsAsnText-asn_text r.min low in
+    let max = IsAsnText-asn_text r.max small in
+    let cut : IsCutAt dash (as_block_text (Range r)) (asn_text r.min) (asn_text r.max) =
+    record { split = refl; first = bare } in
+    record { left = asn_text r.min; right = asn_text r.max; cut = cut; holds = grind arith }
 
 -- a reader that finds what the text has meets the whole contract
 pub reads_block : (text : List ℕ) (r : Result AsBlock FromStrError)
     → MatchResult r (IsAsBlockText text) (HasAsBlockFault text) → ReadsAsBlock text r
 reads_block text r found =
     let exact = Answers-from_found r found (IsAsBlockText-one text) (block_apart text) (same_block_fault text) in
-    record {
-      exact = exact;
-      reads_back = λ b ordered small printed. exact.each_value b
-          (rw printed (IsAsBlockText-block_text b ordered small));
-    }
+    record { exact = exact; reads_back = λ b le lt is. exact.each_value b (rw is (IsAsBlockText-block_text b le lt)) }
 
 -- a text is cut at no dash where it has none, and else at its first
 pub no_cut : (text : List ℕ) → IsSplitOnceResult dash text None → HasNo dash text

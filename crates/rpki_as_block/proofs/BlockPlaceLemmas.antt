@@ -1,5 +1,5 @@
 -- AS blocks at a place among bytes: one number, or two round a dash.
-use Rattle.rpki_as_block.proofs.Common.{List, Ok, Option, Some, [], ap, arith, drop, get_or, length, length-drop, subst, suc, sym, take, ℕ, ◌++◌, ◌+◌, ◌-◌, ◌<◌, ◌∙◌, ◌∷◌, ◌≡◌, ◌≤◌, take-append-add, take-length, drop-drop, drop_more, length-take, take-append-drop, IsInRange, AllByRecursion, RangeValue, IsAsBlockAt, IsAsBlockBetween, StandsAt, IsAsBlockText, ReadsAsBlock, AsBlock, Id, Range}
+use Rattle.rpki_as_block.proofs.Common.{List, Ok, Option, Some, [], ap, arith, drop, get_or, length, length-drop, subst, suc, take, ℕ, ◌++◌, ◌+◌, ◌-◌, ◌<◌, ◌∙◌, ◌∷◌, ◌≡◌, ◌≤◌, take-append-add, take-length, drop-drop, drop_more, length-take, take-append-drop, IsInRange, AllByRecursion, RangeValue, IsAsBlockAt, IsAsBlockBetween, StandsAt, IsAsBlockText, ReadsAsBlock, AsBlock, Id, Range}
 use Rattle.rpki_base.specs.AsnPlaces.{IsAsnAt, IsAsnBetween}
 use Rattle.rpki_text.proofs.PrintedLemmas.{IsShown}
 use Rattle.rpki_as_block.proofs.BlockLemmas.{no_dash, reads_block}
@@ -38,9 +38,9 @@ cut_between : (start middle end : ℕ) (text : List ℕ) (b : ℕ) → start ≤
     ≡ take (middle - start) (drop start text) ++ b ∷ take (end - (middle + 1)) (drop (middle + 1) text)
 cut_between start middle end text b first last within is =
     let left = take (middle - start) (drop start text) in
-    let count : length left ≡ middle - start = omega (arith, length-take (middle - start) (drop start text), length-drop start text) in
-    let later : drop (middle - start) (drop start text) ≡ b ∷ drop (middle + 1) text = drop_later start middle text first ∙ (drop_more text middle 0 (omega arith) ∙ ap (λ x. x ∷ drop (middle + 1) text) is) in
-    let whole : drop start text ≡ left ++ b ∷ drop (middle + 1) text = sym (take-append-drop (middle - start) (drop start text)) ∙ ap (λ t. left ++ t) later in
+    let count : length left ≡ middle - start = omega (arith, length-take {A = ℕ}, length-drop {A = ℕ}) in
+    let later = drop_later start middle text first ∙ drop_more text middle 0 (omega arith) in
+    let whole = take-append-drop (middle - start) (drop start text) in
     let places : end - start ≡ length left + suc (end - (middle + 1)) = omega (arith, count) in
     grind (arith, take-append-add)
 
@@ -89,5 +89,6 @@ range_alone start min dash_at max last text one dash_there two b end h =
 pub reads_whole : (text bytes : List ℕ) (b : AsBlock) (end : ℕ) → bytes ≡ text → IsAsBlockBetween 0 end bytes b
     → end ≡ length bytes → ReadsAsBlock text (Ok b)
 reads_whole text bytes b end same h all =
-    let whole : take (end - 0) (drop 0 bytes) ≡ text = ap (λ k. take k bytes) (omega (arith, all)) ∙ (take-length bytes ∙ same) in
+    let whole : take (end - 0) (drop 0 bytes) ≡ text =
+    ap (λ k. take k bytes) (omega (arith, all)) ∙ (take-length bytes ∙ same) in
     reads_block text (Ok b) (subst (λ t. IsAsBlockText t b) whole h.block)

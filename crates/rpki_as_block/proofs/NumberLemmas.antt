@@ -21,13 +21,10 @@ IsListOf-numbers_within b =
     let long = length-numbers_from count b.0 in
     record {
       members = λ n. (
-        λ (i, small, here). (let at = get_or-numbers_from count b.0 i n (omega arith) in (omega arith, omega arith)),
+        λ h. grind (arith, get_or-numbers_from),
         λ (low, high). (n - b.0, omega arith, get_or-numbers_from count b.0 (n - b.0) n (omega arith) ∙ omega arith),
       );
-      ascending = λ i j d below small.
-          let here = get_or-numbers_from count b.0 i d (omega arith) in
-          let there = get_or-numbers_from count b.0 j d (omega arith) in
-          omega arith;
+      ascending = λ i j d below small. grind (arith, get_or-numbers_from);
     }
 
 -- how many they are

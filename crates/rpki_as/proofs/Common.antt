@@ -8,7 +8,7 @@ pub use Rattle.std.proofs.lemmas.Result.{err_from_is_err_and}
 pub use Rattle.std.specs.List.{All, AllByRecursion, AllPairs, flat_map}
 pub use Rattle.rpki_as_block.proofs.AsDerLemmas.{block_numbers, block_spelled, block_written, length-content, length-number}
 pub use Rattle.rpki_as_block.proofs.BlockLemmas.{IsAsBlockText-block_text, IsAsBlockText-one, block_apart, same_block_fault}
-pub use Rattle.rpki_as_block.proofs.NumberLemmas.{IsListOf-numbers_within, length-numbers_within, makes_progress}
+pub use Rattle.rpki_as_block.proofs.NumberLemmas.{IsListOf-numbers_within, length-numbers_within}
 pub use Rattle.rpki_as_block.specs.AsDer.{IsAsBlock, IsBlockInAnyOrder, as_block_octets}
 pub use Rattle.rpki_as_block.specs.AsDerLaws.{as_block_has_octets, as_block_reading, skip_reading}
 pub use Rattle.rpki_as_block.specs.AsDerModeLaws.{next_block_modal}
@@ -19,14 +19,14 @@ pub use Rattle.rpki_as_block.specs.Blocks.{as_bounds, new_as_block}
 pub use Rattle.rpki_as_block.specs.Numbers.{IsListOf, IsSizeOf, numbers_of, numbers_within}
 pub use Rattle.rpki_as_block.specs.declared.block.AsBlock.{AsBlock}
 pub use Rattle.rpki_as_block.specs.declared.error.FromStrError.{FromStrError}
-pub use Rattle.rpki_base.proofs.SaidInModes.{IsSaidInModes, IsTakenInModes, one_said, said_alike, taken_said, written_said}
+pub use Rattle.rpki_base.proofs.SaidInModes.{IsSaidInModes, enclosed_said, one_said, said_alike, taken_said, written_said}
 pub use Rattle.rpki_base.specs.DerReading.{Encloses, IsSequenceFrom, IsSequenceOf, enclosed_at, values_of}
 unfoldable pub use Rattle.rpki_base.specs.DerReading.{only}
-pub use Rattle.rpki_base.specs.DerViews.{TakesSaidOrMemory}
-pub use Rattle.rpki_chain.proofs.Ascending.{IsWritten, listed_are}
+pub use Rattle.rpki_chain.proofs.Ascending.{listed_are}
+pub use Rattle.rpki_chain.proofs.BlocksInModes.{AreBlocksInModes, choice_said, set_said}
 pub use Rattle.rpki_chain.proofs.ClaimLemmas.{claims_decide, empty_set}
 pub use Rattle.rpki_chain.proofs.RunLists.{IsRunsOf-unique, IsRunsOfBlocks-bounds, same_numbers}
-pub use Rattle.rpki_chain.specs.ChoiceDer.{IsChoiceOf, choice_at, choice_octets}
+pub use Rattle.rpki_chain.specs.ChoiceDer.{IsChoiceOf, choice_at}
 pub use Rattle.rpki_chain.specs.Claims.{Claim, IsClaim, claim_of}
 pub use Rattle.rpki_chain.specs.Runs.{Holds, IsRunsOfBlocks, Runs}
 pub use Rattle.rpki_chain.specs.declared.choice.ResourcesChoice.{ResourcesChoice}
@@ -34,19 +34,18 @@ pub use Rattle.rpki_chain.specs.declared.choice.ResourcesChoice.TheVariants.{Blo
 pub use Rattle.rpki_chains.specs.Sets.{Covers, IsChain, IsWithin}
 pub use Rattle.rpki_der.proofs.Readings.{one_front}
 pub use Rattle.rpki_der.proofs.Written.{length-header}
-pub use Rattle.rpki_der.specs.Der.{IsBytes, OneFront, sequence_value, value}
+pub use Rattle.rpki_der.specs.Der.{OneFront, sequence_value, value}
 unfoldable pub use Rattle.rpki_der.specs.Der.{header, length_octets}
 pub use Rattle.rpki_der.specs.Reading.{tagged_at}
 unfoldable pub use Rattle.rpki_der.specs.Reading.{refined}
-pub use Rattle.rpki_der.specs.Views.{is_strict, left}
-pub use Rattle.rpki_der.specs.declared.cursor.Cursor.{Cursor}
 pub use Rattle.rpki_der.specs.declared.error.DerError.{DerError}
 pub use Rattle.rpki_text.proofs.ListLemmas.{AnswersOrMemory-from_found, HaveValues-one, first_fault_apart, found_weaker, same_first_fault}
+pub use Rattle.rpki_text.proofs.PrintedLemmas.{IsElement, elements-joined, written_more}
 pub use Rattle.rpki_text.specs.Lists.{HaveValues, elements}
 pub use Rattle.rpki_text.specs.Memory.{IfRefused}
 pub use Rattle.rpki_text.specs.Reading.{AnswersOrMemory}
 pub use Rattle.rpki_text.specs.declared.memory.OrMemory.{OrMemory}
-pub use Rattle.rpki_as.specs.AsDer.{IsAsBlockSequence, IsAsChoice, IsAsResources, IsPresentAsClaim, as_resources_octets, as_run_octets, as_sequence_octets, as_set_octets}
+pub use Rattle.rpki_as.specs.AsDer.{IsAsChoice, IsAsResources, IsPresentAsClaim, as_resources_octets, as_run_octets, as_sequence_octets, as_set_octets}
 pub use Rattle.rpki_as.specs.AsDerReading.{as_blocks_at, as_blocks_by, as_choice_at, as_choice_by, greatest_of_as_block}
 pub use Rattle.rpki_as.specs.Blocks.{IsAsSet}
 pub use Rattle.rpki_as.specs.ListText.{HasAsListFault, IsAsListText, as_list_text}

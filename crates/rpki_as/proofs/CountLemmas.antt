@@ -1,6 +1,5 @@
 -- The numbers of the blocks of a set, and how many they are.
-use Rattle.rpki_as.proofs.Common.{flat_map, sym, take_all, Runs, List, ap, arith, get_or, length, map, subst, take, ℕ, ◌+◌, ◌<◌, ◌^◌, ◌∙◌, ◌≡◌, ◌≤◌, length-append, flat_map-map, length-flat_map-take, length-numbers_within, as_bounds, IsListOf, IsSizeOf, numbers_of, numbers_within, AsBlock, Holds, IsAsSet}
-use Rattle.rpki_text.proofs.PrintedLemmas.{written_more}
+use Rattle.rpki_as.proofs.Common.{flat_map, sym, take_all, Runs, List, ap, arith, get_or, length, map, subst, take, ℕ, ◌+◌, ◌<◌, ◌^◌, ◌∙◌, ◌≡◌, ◌≤◌, length-append, flat_map-map, length-flat_map-take, length-numbers_within, as_bounds, IsListOf, IsSizeOf, numbers_of, numbers_within, AsBlock, Holds, IsAsSet, written_more}
 use Rattle.rpki_as.proofs.NumberLemmas.{runs_listed, size_below}
 
 -- the numbers of the blocks, block by block, are those of the set
@@ -26,8 +25,7 @@ pub count_step : (blocks : List AsBlock) (i count k : ℕ) (x : AsBlock) → i <
     → count + k ≡ length (numbers_of (take (i + 1) blocks))
 count_step blocks i count k x small here so_far is =
     let more = ap length (written_more (λ (y : AsBlock). numbers_within (as_bounds y)) blocks i x small here) in
-    let long = length-numbers_within (as_bounds x) in
-    omega (arith, more, length-append (numbers_of (take i blocks)) (numbers_within (as_bounds x)))
+    grind (arith, length-append, length-numbers_within, more)
 
 -- and all of them are no more than there are AS numbers
 pub count_fits : (blocks : List AsBlock) (runs : Runs) (i count k : ℕ) (x : AsBlock) → map as_bounds blocks ≡ runs

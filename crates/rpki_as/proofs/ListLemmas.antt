@@ -1,15 +1,14 @@
 -- A text writes one set at most, or has one first fault; what is printed of a set writes it.
-use Rattle.rpki_as.proofs.Common.{ap, ◌↔◌, same_numbers, Holds, List, MatchResult, Result, [], arith, lit≤, map, refl, subst, sym, ℕ, ◌<◌, ◌^◌, ◌∷◌, ◌≡◌, ◌≤◌, All-head, All-tail, All, AllByRecursion, IsAsBlockText-block_text, IsAsBlockText-one, block_apart, same_block_fault, HasAsBlockFault, IsAsBlockText, as_block_text, as_bounds, new_as_block, AsBlock, FromStrError, IsRunsOf-unique, IsRunsOfBlocks-bounds, IsRunsOfBlocks, Runs, Covers, AnswersOrMemory-from_found, HaveValues-one, first_fault_apart, same_first_fault, HaveValues, elements, IfRefused, AnswersOrMemory, OrMemory, IsAsSet, HasAsListFault, IsAsListText, as_list_text}
-use Rattle.rpki_base.specs.AsnText.{asn_text}
+use Rattle.rpki_as.proofs.Common.{ap, ◌↔◌, same_numbers, Holds, List, MatchResult, Result, [], arith, lit≤, map, refl, subst, ℕ, ◌<◌, ◌^◌, ◌∷◌, ◌≡◌, ◌≤◌, All-head, All-tail, All, AllByRecursion, IsAsBlockText-block_text, IsAsBlockText-one, block_apart, same_block_fault, HasAsBlockFault, IsAsBlockText, as_block_text, as_bounds, new_as_block, AsBlock, FromStrError, IsRunsOf-unique, IsRunsOfBlocks-bounds, Runs, Covers, AnswersOrMemory-from_found, HaveValues-one, first_fault_apart, same_first_fault, HaveValues, elements, IfRefused, AnswersOrMemory, OrMemory, IsAsSet, HasAsListFault, IsAsListText, as_list_text, IsElement, elements-joined}
 use Rattle.rpki_base.proofs.AsnLemmas.{asn_text_bytes}
 use Rattle.rpki_as_block.proofs.BlockPlaceLemmas.{shown, shown-append}
-use Rattle.rpki_text.proofs.PrintedLemmas.{IsShown, IsElement, elements-joined}
 
 -- a text writes one set at most
 pub one_list : (text : List ℕ) (a b : Runs) → IsAsListText text a → IsAsListText text b → a ≡ b
 one_list text a b h k =
-    let same = HaveValues-one IsAsBlockText IsAsBlockText-one (elements text) h.blocks k.blocks h.are_written k.are_written in
-    IsRunsOf-unique (Covers as_bounds h.blocks) a b h.covered (subst (λ blocks. IsRunsOfBlocks as_bounds blocks b) (sym same) k.covered)
+    let same = HaveValues-one IsAsBlockText IsAsBlockText-one (elements text) h.blocks k.blocks in
+    IsRunsOf-unique (Covers as_bounds h.blocks) a b h.covered
+    (rw (← same h.are_written k.are_written) at k.covered)
 
 -- a reader that finds what the text has meets the whole contract
 pub list_answers : {V : Type 0} (view : V → Runs) (text : List ℕ) (r : Result V (OrMemory FromStrError))
@@ -20,14 +19,10 @@ list_answers view text r found =
     (λ set e h. first_fault_apart IsAsBlockText HasAsBlockFault block_apart (elements text) h.blocks e h.are_written)
     (same_first_fault IsAsBlockText HasAsBlockFault block_apart same_block_fault (elements text)) r found
 
--- what is printed of a number can stand in a list
-asn_shown : (n : ℕ) → n < 2 ^ 32 → AllByRecursion IsShown (asn_text n)
-asn_shown n small = shown 90 (asn_text n) (lit≤ tt) (asn_text_bytes n small)
-
--- and so can what is printed of a block
+-- what is printed of a block can stand in a list
 block_element : (b : AsBlock) → (as_bounds b).0 ≤ (as_bounds b).1 → (as_bounds b).1 < 2 ^ 32
     → IsElement (as_block_text b)
-block_element b ordered small = grind (arith, asn_shown, lit≤, shown-append)
+block_element b ordered small = grind (arith, asn_text_bytes, lit≤, shown 90, shown-append)
 
 -- the blocks of the runs are written by what is printed of them, which can stand in a list
 record AreBlocksOf (set : Runs) : Type 0 where
@@ -38,7 +33,8 @@ record AreBlocksOf (set : Runs) : Type 0 where
 blocks_of : (set : Runs) → All (λ b. b.0 ≤ b.1) set → All (λ b. b.1 ≤ 4294967295) set → AreBlocksOf set
 blocks_of [] ordered below = record { bounds = refl; written = tt; shown = tt }
 blocks_of (b ∷ set) ordered below =
-    let rest = blocks_of set (All-tail (λ (x : ℕ × ℕ). x.0 ≤ x.1) b set ordered) (All-tail (λ (x : ℕ × ℕ). x.1 ≤ 4294967295) b set below) in
+    let rest = blocks_of set (All-tail (λ (x : ℕ × ℕ). x.0 ≤ x.1) b set ordered)
+    (All-tail (λ (x : ℕ × ℕ). x.1 ≤ 4294967295) b set below) in
     grind (arith, All-head, IsAsBlockText-block_text, block_element)
 
 -- what is printed of a set writes it
@@ -55,9 +51,3 @@ alike_as_numbers made a b is also one = (
   λ alike n. subst (λ (set : Runs). Holds a n ↔ Holds set n) (one alike) (λ held. held, λ held. held),
   λ same. ap made (same_numbers a b is.are_runs also.are_runs same),
 )
-
--- and so they print alike
-pub printed_as_numbers : (a b : Runs) → IsAsSet a → IsAsSet b
-    → (as_list_text a ≡ as_list_text b) ↔ ((n : ℕ) → Holds a n ↔ Holds b n)
-printed_as_numbers a b is also = alike_as_numbers as_list_text a b is also (λ alike.
-    one_list (as_list_text a) a b (list_says _ a is refl) (list_says _ b also alike))

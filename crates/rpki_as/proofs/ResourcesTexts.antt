@@ -22,7 +22,8 @@ module _ (text : List ℕ) where
 
   -- and has no fault then
   list_apart : (set : Runs) (e : FromStrError) → IsAsListText text set → HasAsListFault text e → ⊥
-  list_apart set e h f = first_fault_apart IsAsBlockText HasAsBlockFault block_apart (elements text) h.blocks e h.are_written f
+  list_apart set e h f =
+      first_fault_apart IsAsBlockText HasAsBlockFault block_apart (elements text) h.blocks e h.are_written f
 
   claim_apart : (a : Claim) (e : FromStrError) → IsAsResourcesText text a → HasAsResourcesFault text e → ⊥
   claim_apart Missing e h f = list_apart [] e h.1 f.1
@@ -34,8 +35,9 @@ module _ (text : List ℕ) where
       → MatchResult r (IsAsResourcesText text) (IfRefused (HasAsResourcesFault text))
       → AnswersOrMemory (λ claim. claim) (IsAsResourcesText text) (HasAsResourcesFault text) r
   resources_answers r found =
-      AnswersOrMemory-from_found (λ (claim : Claim). claim) (IsAsResourcesText text) (HasAsResourcesFault text) one_claim claim_apart
-      (λ d e f g. same_first_fault IsAsBlockText HasAsBlockFault block_apart same_block_fault (elements text) d e f.1 g.1) r found
+      AnswersOrMemory-from_found (λ (claim : Claim). claim) (IsAsResourcesText text) (HasAsResourcesFault text)
+      one_claim claim_apart (λ d e f g.
+      same_first_fault IsAsBlockText HasAsBlockFault block_apart same_block_fault (elements text) d e f.1 g.1) r found
 
   -- the fault of a list is that of a text which isn't `inherit`
   pub list_fault : ¬ IsInherit text → (d : OrMemory FromStrError) → IfRefused (HasAsListFault text) d
@@ -52,17 +54,10 @@ module _ (text : List ℕ) where
 first_is : (b : AsBlock) (more : List ℕ) → slice_index (as_block_text b ++ more) 0 ≡ 65
 first_is b more = grind arith
 
--- a text that does, or an empty one, isn't `inherit`
-begins_otherwise : (text : List ℕ) → slice_index text 0 ≡ 65 → IsInherit text → ⊥
-begins_otherwise text first e = let other : slice_index text 0 ≡ 105 = ap (λ t. slice_index t 0) e in omega (arith, first, other)
-
-is_empty : (text : List ℕ) → text ≡ [] → IsInherit text → ⊥
-is_empty text none e = let other : slice_index text 0 ≡ 105 = ap (λ t. slice_index t 0) e in let zero : slice_index text 0 ≡ 0 = ap (λ t. slice_index t 0) none in omega (arith, zero, other)
-
--- so what is printed of numbers isn't
+-- so what is printed of numbers isn't `inherit`
 not_inherit : (set : Runs) (text : List ℕ) → text ≡ as_list_text set → IsInherit text → ⊥
-not_inherit [] text printed = is_empty text printed
-not_inherit (run ∷ runs) text printed = grind (arith, begins_otherwise, codes, first_is, slice_index)
+not_inherit [] text printed = grind (arith, codes)
+not_inherit (run ∷ runs) text printed = grind (arith, codes, first_is, slice_index)
 
 -- what is printed of resources writes them
 pub printed_resources : (text : List ℕ) (claim : Claim) → IsClaim IsAsSet claim → text ≡ as_resources_text claim

@@ -142,6 +142,7 @@ impl<A: Allocator> AsBlocks<A> {
     }
 
     /// How many numbers the set has, which is 0 to 2^32.
+    #[tactic(auto, using(crate::proofs::CountLemmas::numbers_counted))]
     pub fn asn_count(&self) -> u64
         ensures { IsSizeOf (Holds self.now) result }
     {

@@ -132,6 +132,7 @@ impl<A: Allocator> AsResources<A> {
     }
 
     /// The blocks that are listed, each a run in the form that `new` gives.
+    #[tactic(auto, using(crate::proofs::AsDerLemmas::blocks_octets))]
     pub(crate) fn as_choice(&self) -> ResourcesChoice<&[AsBlock]>
         ensures octets { choice_octets (λ blocks. sequence_octets as_block_octets blocks.now) result
             ≡ choice_octets as_sequence_octets self.now }

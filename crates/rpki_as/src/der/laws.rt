@@ -47,7 +47,7 @@ pub fn empty_blocks()
 {}
 
 /// Octets are refused as not canonical by a strict cursor alone.
-#[tactic(auto, using(crate::proofs::DerFaults::never_blocks, crate::proofs::DerFaults::never_resources))]
+#[tactic(auto, using(crate::proofs::DerFaults::blocks_names, crate::proofs::DerFaults::resources_names))]
 pub fn not_canonical()
     ensures sequence { (bytes : List ℕ) → as_blocks_at bytes ≢ Err NotCanonical }
     ensures resources { (bytes : List ℕ) → as_choice_at bytes ≢ Err NotCanonical }

@@ -1,5 +1,5 @@
 use Rattle.rpki_as.proofs.Common.{arith, ◌+◌, ◌^◌, ◌≤◌}
-use Rattle.rpki_as.proofs.CountLemmas.{count_fits, count_step, numbers_counted}
+use Rattle.rpki_as.proofs.CountLemmas.{count_fits, count_step}
 use Rattle.rpki_as.proofs.blocks.AsBlocks.asn_count.Goals as goal
 
 pub overflow_add-count : goal.overflow_add-count
@@ -13,8 +13,3 @@ pub loop-block-preserved : goal.loop-block-preserved
 loop-block-preserved g c =
     count_step _ _ _ _ _ c.loop-block-test.true c.block-item.is c.loop-block.invariant
     c.asn_count-count.ensures.from_bounds
-
-pub returns : goal.returns
-returns g c = rw (← c.self.view_is)
-    (numbers_counted _ _ c.loop-block.block-index _ c.as_slice-blocks.ensures.blocks c.as_slice-blocks.ensures.set
-    (omega (arith, c.loop-block-test.false)) c.loop-block.invariant)

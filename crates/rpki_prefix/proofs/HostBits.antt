@@ -4,9 +4,9 @@ use Rattle.rpki_addr.specs.Bits.{cleared}
 use Rattle.rpki_addr.proofs.PrefixNumbers.{cleared_prefix, cleared_holds}
 
 -- what `n & !m` is, where the host bits of m are set
-pub cleared_by : (w n len m r : ℕ) → n < 2 ^ w → m + 1 ≡ 2 ^ (w - len) → r ≡ bit_and n (2 ^ w - 1 - m)
+pub cleared_by : (w n len m k r : ℕ) → n < 2 ^ w → m + 1 ≡ 2 ^ (w - len) → k ≡ 2 ^ w - 1 - m → r ≡ bit_and n k
     → r ≡ cleared w n len
-cleared_by w n len m r below mask is = is ∙ clear_host w (w - len) n m (omega arith) below mask
+cleared_by w n len m k r below mask flip is = is ∙ (rw flip (clear_host w (w - len) n m (omega arith) below mask))
 
 -- and what `n | m` is
 pub filled_by : (w n len m r : ℕ) → m + 1 ≡ 2 ^ (w - len) → r ≡ bit_or n m → r ≡ cleared w n len + 2 ^ (w - len) - 1

@@ -1,8 +1,8 @@
 -- What the proofs of this crate use of std, of the crates below and of its own definitions, passed on by one name.
-pub use Rattle.std.proofs.Common.{Bool, List, MatchOption, Option, [], ap, arith, eqb, false, inl, inr, leb, length, map, min, refl, subst, suc, true, zero, ℕ, ◌%◌, ◌&&◌, ◌*◌, ◌++◌, ◌+◌, ◌-◌, ◌/◌, ◌<◌, ◌^◌, ◌∙◌, ◌∷◌, ◌≡◌, ◌≤◌, ◌⊎◌}
+pub use Rattle.std.proofs.Common.{Bool, List, MatchOption, Option, [], ap, arith, false, inl, inr, leb, length, map, min, refl, subst, suc, true, zero, ℕ, ◌%◌, ◌*◌, ◌++◌, ◌+◌, ◌-◌, ◌/◌, ◌<◌, ◌^◌, ◌∙◌, ◌∷◌, ◌≡◌, ◌≤◌, ◌⊎◌}
 pub use Rattle.std.proofs.Math.Nat.{mul-le-mul_right, mul-mod_left, mul-sub, two-pow-succ}
 pub use Rattle.std.proofs.Math.Pow.{pow_mono}
-pub use Rattle.std.proofs.lemmas.Bool.{and_parts, cases_Bool, cases_eq, cases_lt, cases_order, eq-eqb, eqb-true, le-leb, leb-true, lt-leb}
+pub use Rattle.std.proofs.lemmas.Bool.{cases_Bool, cases_eq, cases_lt, cases_order, le-leb, lt-leb}
 pub use Rattle.std.proofs.lemmas.List.Elements.{All-append, All-cons, All-contains, All-tail, Contains-get_or}
 pub use Rattle.std.proofs.lemmas.Nat.{pow-add, pow_below, pow_pos, shr_split}
 unfoldable pub use Rattle.std.specs.Int.Count.{count_trailing_zeros}

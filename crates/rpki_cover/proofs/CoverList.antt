@@ -35,14 +35,11 @@ module _ (w a b k : ℕ) (order : a ≤ b) (below : b < 2 ^ w) (g : IsGreatest w
 
   -- a prefix inside the range that begins in the head is no greater: a greater one would begin where the head does
   no_greater : (q : PrefixValue) → IsPrefix w q → Within w q a b → q.first < a + 2 ^ k → w - q.len ≤ k
-  no_greater q is v front = elim (cases_lt k (w - q.len)) [
-    | inl greater ↦
-        let both = in_head q.first v.from front in
-        let held = longer_inside head_is is q.first both (first_in w q) (omega arith) a (first_in w _) in
-        let e : q.first ≡ a = omega arith in
-        absurd (omega (arith, g.greatest (w - q.len) greater (omega arith) (rw e at (multiple_at w q is))))
-    | inr small ↦ small
-  ]
+  no_greater q is v front =
+      let both = in_head q.first v.from front in
+      let held = longer_inside head_is is q.first both (first_in w q) in
+      let at = multiple_at w q is in
+      grind (arith, cases_lt k (w - q.len), held, first_in w (head_prefix w a k), g.greatest (w - q.len), at)
 
   -- so the head and the cover list of what is behind it are the cover list
   pub cover_step : (ps : List PrefixValue) → CoverOf w (InRange (a + 2 ^ k) b) ps

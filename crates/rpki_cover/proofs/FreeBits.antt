@@ -10,12 +10,7 @@ unfolding free_bits
 greatest_by w a b t f ww order below tt low high =
     let zeros : IsMultiple (2 ^ t) a = rw tt (zeros_divide 128 a) in
     let fitting : 2 ^ min (min t f) w ≤ 2 ^ f = pow_mono (omega arith) in
-    same_greatest w a b (min (min t f) w) (free_bits w a b) (record {
-      upto = omega arith;
-      aligned = multiple_smaller (min (min t f) w) t a (omega arith) zeros;
-      within = omega (arith, fitting, low);
-      greatest = λ j more less m.
-          let aligned : j ≤ t = rw tt (zeros_greatest 128 a j (omega arith) m) in
-          let twice : 2 ^ suc f ≤ 2 ^ j = pow_mono (omega arith) in
-          omega (arith, twice, high (omega arith));
-    }) (free_bits_upto_is w a b order)
+    let twice : (j : ℕ) → suc f ≤ j → 2 ^ suc f ≤ 2 ^ j = λ j more. pow_mono more in
+    same_greatest w a b (min (min t f) w) (free_bits w a b)
+    (grind (arith, multiple_smaller (min (min t f) w) t a (omega arith) zeros, fitting, zeros_greatest 128 a, twice))
+    (free_bits_upto_is w a b order)

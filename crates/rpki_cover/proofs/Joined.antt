@@ -7,12 +7,7 @@ use Rattle.rpki_cover.proofs.Nesting.{first_in, last_in}
 -- the same numbers have the same cover list
 pub cover_same : (w : ℕ) (S T : ℕ → Type 0) (ps : List PrefixValue) → ((n : ℕ) → S n → T n) → ((n : ℕ) → T n → S n)
     → CoverOf w S ps → CoverOf w T ps
-cover_same w S T ps to from c = record {
-  ascending = c.ascending;
-  prefixes = c.prefixes;
-  inside = λ k p l n h. to n (c.inside k p l n h);
-  nests = λ q is i. c.nests q is (λ n h. from n (i n h));
-}
+cover_same w S T ps to from c = grind (arith, c.inside, c.nests)
 
 -- of two ascending lists, one ends where the other begins, or before
 ascends_append : (w m : ℕ) (ps qs : List PrefixValue) → Ascends w ps → Ascends w qs
@@ -29,10 +24,7 @@ ascends_append w m (p ∷ ps) qs a b ends begins =
 module _ (w m : ℕ) (S T : ℕ → Type 0) (low : (n : ℕ) → S n → n ≤ m) (high : (n : ℕ) → T n → m + 1 < n) where
   -- a prefix inside both together lies in one of them
   one_side : (q : PrefixValue) → LiesIn w (λ n. S n ⊎ T n) q → LiesIn w S q ⊎ LiesIn w T q
-  one_side q i = elim (cases_lt m q.first) [
-    | inl above ↦ inr (λ n h. grind (arith, i n h, low n))
-    | inr below ↦ inl (λ n h. grind (arith, i n h, high n, i (m + 1), low (m + 1), high (m + 1)))
-  ]
+  one_side q i = grind (arith, cases_lt m q.first, i, low, high, i (m + 1))
 
   -- so the cover lists are that of both, one after the other
   pub cover_joined : (ps qs : List PrefixValue) → CoverOf w S ps → CoverOf w T qs

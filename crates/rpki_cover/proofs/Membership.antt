@@ -1,12 +1,11 @@
 -- Elements of lists.
-use Rattle.rpki_cover.proofs.Common.{Bool, refl, List, [], ap, arith, false, inl, inr, length, suc, true, zero, ◌<◌, ◌∙◌, ◌∷◌, ◌≡◌, ◌⊎◌, cases_Bool, Contains, filter}
+use Rattle.rpki_cover.proofs.Common.{Bool, refl, List, [], ap, arith, false, length, suc, true, zero, ◌<◌, ◌∙◌, ◌∷◌, ◌≡◌, ◌⊎◌, cases_Bool, Contains, filter}
 use Rattle.std.proofs.lemmas.List.Filters.{length-filter_both}
 use Rattle.std.specs.Prelude.{not}
 
 -- an element is the first or a later one
 pub contains_cases : {X : Type 0} → (y : X) (ys : List X) (x : X) → Contains (y ∷ ys) x → (y ≡ x) ⊎ Contains ys x
-contains_cases y ys x (zero, h, e) = inl e
-contains_cases y ys x (suc k, h, e) = inr (k, omega (arith, h), e)
+contains_cases y ys x there = grind arith
 
 pub contains_later : {X : Type 0} → (y : X) (ys : List X) (x : X) → Contains ys x → Contains (y ∷ ys) x
 contains_later y ys x (k, h, e) = (suc k, omega (arith, h), e)
@@ -18,10 +17,7 @@ contains_filter test [] x (k, h, e) t = absurd (omega (arith, h))
 contains_filter test (y ∷ ys) x (zero, h, e) t = rw (ap test e ∙ t) (0, omega arith, e)
 contains_filter test (y ∷ ys) x (suc k, h, e) t =
     let later = contains_filter test ys x (k, omega (arith, h), e) t in
-    elim (cases_Bool (test y)) [
-      | inl kept ↦ rw kept (contains_later y (filter test ys) x later)
-      | inr left_out ↦ rw left_out later
-    ]
+    grind (arith, cases_Bool (test y), contains_later y (filter test ys) x later)
 
 pub filter_shrinks : {X : Type 0} → (test : X → Bool) (xs : List X) (x : X) → Contains xs x → test x ≡ false
     → length (filter test xs) < length xs

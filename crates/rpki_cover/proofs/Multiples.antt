@@ -1,5 +1,5 @@
 -- Multiples, and the greatest power of 2 of which a number is one.
-use Rattle.rpki_cover.proofs.Common.{ap, arith, inl, inr, refl, suc, zero, ℕ, ◌%◌, ◌*◌, ◌+◌, ◌-◌, ◌/◌, ◌<◌, ◌^◌, ◌≡◌, ◌≤◌, mul-le-mul_right, mul-mod_left, mul-sub, two-pow-succ, cases_lt, pow-add, shr_split, count_trailing_zeros}
+use Rattle.rpki_cover.proofs.Common.{arith, inl, inr, refl, suc, zero, ℕ, ◌%◌, ◌*◌, ◌+◌, ◌-◌, ◌/◌, ◌<◌, ◌^◌, ◌≡◌, ◌≤◌, mul-le-mul_right, mul-mod_left, mul-sub, two-pow-succ, cases_lt, pow-add, shr_split, count_trailing_zeros}
 use lib.Count.{under}
 
 -- a is a multiple of s
@@ -36,10 +36,7 @@ multiple_least s a m = omega (arith, multiple_gap s 0 (a + 1) (multiple_zero s) 
 
 -- a multiple of a power of 2 is one of each smaller power
 pub multiple_smaller : (j k a : ℕ) → j ≤ k → IsMultiple (2 ^ k) a → IsMultiple (2 ^ j) a
-multiple_smaller j k a h m =
-    let split : k - j + j ≡ k = omega arith in
-    let power : 2 ^ k ≡ 2 ^ (k - j) * 2 ^ j = rw split at (pow-add 2 (k - j) j) in
-    record { times = m.times * 2 ^ (k - j); is = omega (arith, m.is, ap (λ x. m.times * x) power) }
+multiple_smaller j k a h m = record { times = m.times * 2 ^ (k - j); is = grind (arith, pow-add 2 (k - j) j) }
 
 -- nothing is left of one behind the division
 pub multiple_mod : (s a : ℕ) → 0 < s → IsMultiple s a → a % s ≡ 0
@@ -74,4 +71,6 @@ under_greatest n t (suc d) (suc i) odd f m = absurd (omega (arith, rw two-pow-su
 pub zeros_greatest : (w n j : ℕ) → j ≤ w → IsMultiple (2 ^ j) n → j ≤ count_trailing_zeros w n
 unfolding count_trailing_zeros
 zeros_greatest zero n j h m = h
-zeros_greatest (suc w) n j h m = under_greatest n (count_trailing_zeros w (n / 2)) (n % 2) j refl (λ i e k. zeros_greatest w (n / 2) i (omega arith) k) m
+zeros_greatest (suc w) n j h m =
+    under_greatest n (count_trailing_zeros w (n / 2)) (n % 2) j refl
+    (λ i e k. zeros_greatest w (n / 2) i (omega arith) k) m

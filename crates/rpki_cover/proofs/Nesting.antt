@@ -35,15 +35,12 @@ multiple_at w p is = mod_multiple (w - p.len) p.first is.aligned
 pub longer_inside : {w : ℕ} {p q : PrefixValue} → IsPrefix w p → IsPrefix w q → (n : ℕ) → IsIn w p n → IsIn w q n
     → q.len ≤ p.len → LiesIn w (IsIn w q) p
 longer_inside {w} {p} {q} is_p is_q n in_p in_q shorter m in_m =
-    let begins : IsMultiple (2 ^ (w - q.len)) q.first = multiple_at w q is_q in
-    let ends : IsMultiple (2 ^ (w - q.len)) (q.first + 2 ^ (w - q.len)) = multiple_sum _ _ _ begins (multiple_self _) in
-    let at : IsMultiple (2 ^ (w - p.len)) p.first = multiple_at w p is_p in
-    let before = multiple_gap _ p.first q.first at (multiple_smaller (w - p.len) (w - q.len) _ (omega arith) begins) in
-    let behind = multiple_gap _ p.first _ at (multiple_smaller (w - p.len) (w - q.len) _ (omega arith) ends) in
-    record {
-      from = grind (arith, before, cases_lt p.first q.first);
-      upto = omega (arith, behind (omega arith));
-    }
+    let begins = multiple_at w q is_q in
+    let at = multiple_at w p is_p in
+    let smaller = multiple_smaller (w - p.len) (w - q.len) in
+    let before = multiple_gap _ p.first q.first at (smaller _ (omega arith) begins) in
+    let behind = multiple_gap _ p.first _ at (smaller _ (omega arith) (multiple_sum _ _ _ begins (multiple_self _))) in
+    grind (arith, before, behind, cases_lt p.first q.first)
 
 pub prefixes_nested : (w : ℕ) (p q : PrefixValue) → IsPrefix w p → IsPrefix w q → (n : ℕ) → IsIn w p n → IsIn w q n
     → LiesIn w (IsIn w p) q ⊎ LiesIn w (IsIn w q) p

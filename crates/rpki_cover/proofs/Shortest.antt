@@ -32,15 +32,13 @@ pub same_by_number : (w : ℕ) (ps : List PrefixValue) (p q : PrefixValue) (n : 
     → Contains ps q → IsIn w p n → IsIn w q n → p ≡ q
 same_by_number w [] p q n asc i j in_p in_q = absurd (omega (arith, i.1))
 same_by_number w (r ∷ rs) p q n asc i j in_p in_q =
-    grind (arith, behind, contains_cases r rs p i, contains_cases r rs q j, same_by_number w rs p q n asc.1)
+    grind (arith, behind, contains_cases, same_by_number w rs p q n asc.1)
 
 -- two prefixes that lie in each other are one
 same_numbers : (w : ℕ) (p q : PrefixValue) → IsPrefix w p → IsPrefix w q → LiesIn w (IsIn w p) q → LiesIn w (IsIn w q) p
     → p ≡ q
 same_numbers w p q is_p is_q i j =
-    let below = pow_below (w - p.len) (w - q.len) in
-    let above = pow_below (w - q.len) (w - p.len) in
-    grind (arith, i _ (first_in w q), i _ (last_in w q), j _ (first_in w p), j _ (last_in w p), below, above)
+    grind (arith, i _ (first_in w q), i _ (last_in w q), j _ (first_in w p), j _ (last_in w p), pow_below)
 
 -- the prefix of one number
 pub single : (w n : ℕ) → n < 2 ^ w → IsPrefix w (record { first = n; len = w })
@@ -48,7 +46,7 @@ single w n h = grind (arith, multiple_mod)
 
 -- has no other number
 only_one : (w n m : ℕ) → IsIn w (record { first = n; len = w }) m → n ≡ m
-only_one w n m i = let e : w - w ≡ 0 = omega arith in omega (arith, rw e at i.upto, i.from)
+only_one w n m i = grind arith
 
 module _ (w : ℕ) (S : ℕ → Type 0) (ps : List PrefixValue) (c : CoverOf w S ps) (small : (n : ℕ) → S n → n < 2 ^ w) where
   -- the prefixes are maximal: a parent would lie in one of them, which shares a number with its child
@@ -61,9 +59,8 @@ module _ (w : ℕ) (S : ℕ → Type 0) (ps : List PrefixValue) (c : CoverOf w S
         greatest = λ q parent within.
             let (r, j, h) = c.nests q parent.is_prefix within in
             let both = h p.first (parent.holds p.first (first_in w p)) in
-            let e : r ≡ p = same_by_number w ps r p p.first c.ascending j i both (first_in w p) in
-            let held : LiesIn w (IsIn w p) q = rw e at h in
-            omega (arith, held q.first (first_in w q), held _ (last_in w q), pow_below (w - p.len) (w - q.len));
+            let e = same_by_number w ps r p p.first c.ascending j i both (first_in w p) in
+            grind (arith, e, h q.first (first_in w q), h _ (last_in w q), pow_below (w - p.len) (w - q.len));
       }
 
   -- and a maximal prefix is one of them: its parent doesn't lie in the one in which it lies
@@ -88,9 +85,8 @@ module _ (w : ℕ) (S : ℕ → Type 0) (ps : List PrefixValue) (c : CoverOf w S
   union_from : HasUnion w S ps
   union_from n = (
     (λ s.
-        let one : PrefixValue = record { first = n; len = w } in
-        let (p, i, h) = c.nests one (single w n (small n s)) (λ m i. subst S (only_one w n m i) s) in
-        (p, i, h n (first_in w one))),
+        let (p, i, h) = c.nests _ (single w n (small n s)) (λ m i. subst S (only_one w n m i) s) in
+        (p, i, h n (first_in w (record { first = n; len = w })))),
     (λ (p, i, h). All-contains (LiesIn w S) ps p c.inside i n h),
   )
 
@@ -102,12 +98,7 @@ module _ (w : ℕ) (S : ℕ → Type 0) (ps : List PrefixValue) (c : CoverOf w S
       record { by_ = q; there = j; starts = rw e at (l q.first (first_in w q)) })
 
   pub shortest_cover_from : IsShortestCover w S ps
-  shortest_cover_from = record {
-    list = list_from;
-    union = union_from;
-    shortest = shortest_from;
-    only = λ qs d. one_cover_list w S qs ps d list_from;
-  }
+  shortest_cover_from = search (arith, list_from, one_cover_list, shortest_from, union_from)
 
 -- the shortest cover of a range
 pub range_cover : (w a b : ℕ) → b < 2 ^ w → IsShortestCover w (InRange a b) (cover_list w a b)

@@ -1,5 +1,5 @@
 -- Cover lists of IPv4 addresses, at width 32 and as prefixes of addresses of 128 bits.
-use Rattle.rpki_cover.proofs.Common.{List, ap, arith, inl, inr, map, refl, suc, zero, ℕ, ◌%◌, ◌*◌, ◌+◌, ◌-◌, ◌/◌, ◌<◌, ◌^◌, ◌∙◌, ◌≡◌, ◌≤◌, cases_lt, le-leb, lt-leb, pow-add, pow_pos, IsPrefix, PrefixValue, IsCoverList, IsShortestCover, widened, cover_list, cover_list_upto, free_bits_upto}
+use Rattle.rpki_cover.proofs.Common.{List, arith, map, refl, suc, zero, ℕ, ◌%◌, ◌*◌, ◌+◌, ◌-◌, ◌/◌, ◌<◌, ◌^◌, ◌≡◌, ◌≤◌, cases_lt, le-leb, lt-leb, pow-add, pow_pos, IsPrefix, PrefixValue, IsCoverList, IsShortestCover, widened, cover_list, cover_list_upto, free_bits_upto}
 use Rattle.rpki_cover.proofs.Greatest.{free_bits_upto_is, same_greatest}
 use Rattle.rpki_cover.proofs.Multiples.{IsMultiple, multiple_mod, mod_multiple}
 use Rattle.rpki_cover.proofs.Nesting.{InRange}
@@ -20,13 +20,8 @@ narrow_multiple k a m = record { times = m.times; is = omega (arith, rw (pow-add
 -- a prefix of IPv4 addresses is one of addresses of 128 bits
 pub widened_prefix : (p : PrefixValue) → IsPrefix 32 p → IsPrefix 128 (widened p)
 widened_prefix p is =
-    let more : 128 - p.len ≡ (32 - p.len) + 96 = omega (arith, is.short) in
     let wide = wide_multiple (32 - p.len) p.first (mod_multiple (32 - p.len) p.first is.aligned) in
-    record {
-      short = omega (arith, is.short);
-      aligned = multiple_mod (2 ^ (128 - p.len)) (p.first * 2 ^ 96) (pow_pos (128 - p.len)) (rw more wide);
-      below = omega (arith, is.below);
-    }
+    grind (arith, wide, multiple_mod, pow_pos)
 
 -- the widths are variables, since `free_bits_upto` unfolds at a numeral
 module _ (w v : ℕ) (wider : w ≡ v + 96) where
@@ -38,28 +33,17 @@ module _ (w v : ℕ) (wider : w ≡ v + 96) where
         aligned = wide_multiple _ a g.aligned;
         within = omega (arith, pow-add 2 (free_bits_upto v a b) 96);
         greatest = λ j more less m.
-            let split : j ≡ j - 96 + 96 = omega arith in
-            let next = g.greatest (j - 96) (omega arith) (omega arith) (narrow_multiple (j - 96) a (rw split at m)) in
-            rw split (omega (arith, next, pow-add 2 (j - 96) 96));
+            grind (arith, g.greatest (j - 96), narrow_multiple (j - 96) a, pow-add 2 (j - 96) 96);
       })
 
   wide_upto : (n a b : ℕ) → cover_list_upto n w (a * 2 ^ 96) (last_v4 b) ≡ map widened (cover_list_upto n v a b)
   wide_upto zero a b = refl
-  wide_upto (suc n) a b = elim (cases_lt b a) [
-    | inl none ↦ rw (lt-leb a b none, lt-leb (a * 2 ^ 96) (last_v4 b) (omega arith)) refl
-    | inr some ↦
-        let k = free_bits_upto v a b in
-        let next : a * 2 ^ 96 + 2 ^ (k + 96) ≡ (a + 2 ^ k) * 2 ^ 96 = omega (arith, pow-add 2 k 96) in
-        let len : w - (k + 96) ≡ v - k = omega arith in
-        let wide_some = le-leb (a * 2 ^ 96) (last_v4 b) (omega arith) in
-        rw (le-leb a b some, wide_some, wide_bits a b some, next, len, wide_upto n (a + 2 ^ k) b)
-  ]
+  wide_upto (suc n) a b =
+      grind (arith, wide_bits a b, pow-add, le-leb, lt-leb, cases_lt b a, wide_upto n (a + 2 ^ free_bits_upto v a b) b)
 
   wide_at : (a b : ℕ) → cover_list w (a * 2 ^ 96) (last_v4 b) ≡ map widened (cover_list v a b)
   unfolding cover_list
-  wide_at a b =
-      let n = last_v4 b + 1 - a * 2 ^ 96 in
-      wide_upto n a b ∙ ap (map widened) (cover_list_fuel n (b + 1 - a) v a b (omega arith) (omega arith))
+  wide_at a b = grind (arith, cover_list_fuel, wide_upto)
 
 -- the cover list of a range of whole IPv4 addresses is that of these addresses, with 96 bits behind each
 pub whole_list : (min max : ℕ) → min % 2 ^ 96 ≡ 0 → (max + 1) % 2 ^ 96 ≡ 0

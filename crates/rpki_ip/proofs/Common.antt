@@ -1,10 +1,10 @@
 -- What the proofs of this crate use of std, of the crates below and of its own definitions, passed on by one name.
-pub use Rattle.std.proofs.Common.{Bool, Err, IsTrue, List, None, Ok, Result, Some, [], ap, append_assoc, arith, bit_and, cond, drop, false, get_or, inl, inr, is_ok, length, length-drop, lit<, ltb, map, refl, replicate, rules, subst, suc, sym, take, true, zero, ℕ, ◌%◌, ◌*◌, ◌++◌, ◌+◌, ◌-◌, ◌/◌, ◌<◌, ◌^◌, ◌↔◌, ◌∙◌, ◌∷◌, ◌≡◌, ◌≤◌}
-pub use Rattle.std.proofs.Math.Nat.{div-div-eq-div-mul, mod-eq_of_lt, mod_self, mul-div_cancel, mul-mod_left, mul_assoc, pow-le-pow_right, pow-suc, two-pow-succ}
+pub use Rattle.std.proofs.Common.{Bool, Err, IsTrue, List, None, Ok, Result, Some, [], ap, append_assoc, arith, bit_and, cond, drop, get_or, inl, inr, is_ok, length, length-drop, lit<, map, refl, replicate, rules, subst, suc, sym, take, true, zero, ℕ, ◌%◌, ◌*◌, ◌++◌, ◌+◌, ◌-◌, ◌/◌, ◌<◌, ◌^◌, ◌↔◌, ◌∙◌, ◌∷◌, ◌≡◌, ◌≤◌}
+pub use Rattle.std.proofs.Math.Nat.{div-div-eq-div-mul, mod-eq_of_lt, mod_self, mul-add-mod_self_right, mul-div_cancel, mul-mod_left, mul_assoc, pow-le-pow_right, pow-suc, two-pow-succ, zero-div}
 pub use Rattle.std.proofs.lemmas.Bool.{and_parts, cases_lt, cases_order, eqb-true, le-leb, le-ltb, leb-true, lt-ltb, ltb-false, ltb-true, or_from, or_parts}
 pub use Rattle.std.proofs.lemmas.List.{drop-replicate, length-append, length-take, take-append-drop}
-pub use Rattle.std.proofs.lemmas.List.Elements.{All-head}
-pub use Rattle.std.proofs.lemmas.Nat.{and_block, and_comm, and_mask, div-add-mod', div-mul-add, leading_length, pow-add, pow_below, pow_pos, shl-shr, shl_below, shr-shr, shr_below, shr_split, trailing_le}
+pub use Rattle.std.proofs.lemmas.List.Elements.{All-head, All-rest}
+pub use Rattle.std.proofs.lemmas.Nat.{and_block, and_comm, and_mask, div-add-mod', div-mul-add, field_of, leading_length, pow-add, pow_below, pow_pos, shl-shr, shl_below, shr-shr, shr_below, shr_split, trailing_le}
 pub use Rattle.std.proofs.lemmas.Str.Pattern.{split_parts}
 pub use Rattle.std.specs.Int.{bit_not, byte_at, bytes_high_first, from_be_bytes, to_be_bytes, trailing_ones, trailing_zeros, w128}
 pub use Rattle.std.specs.Int.Count.{count_leading_zeros, count_trailing_zeros}
@@ -28,7 +28,7 @@ pub use Rattle.rpki_der.specs.Der.{Bits, IsBitString, IsBits, IsBytes, IsPadded,
 unfoldable pub use Rattle.rpki_der.specs.Der.{header, length_octets}
 pub use Rattle.rpki_der.specs.Reading.{Gives, IsModal, IsReading, Tightens, is_padded, tagged_at, ◌>>=◌}
 unfoldable pub use Rattle.rpki_der.specs.Reading.{bits, bits_by, passing, refined}
-pub use Rattle.rpki_der.specs.Views.{Takes, bit_string_of, content_octets, is_strict, is_strict_in, left}
+pub use Rattle.rpki_der.specs.Views.{Lenient, LenientIn, NotCanonicalInOr, NotCanonicalOr, Parses, ReadsValue, Strict, StrictIn, Takes, bit_string_of, content_octets, is_strict, is_strict_in, left}
 pub use Rattle.rpki_der.specs.declared.error.DerError.{DerError}
 pub use Rattle.rpki_der.specs.declared.error.DerError.TheVariants.{BadPrefix, NotCanonical, ReversedRange}
 pub use Rattle.rpki_text.specs.Cuts.{dash, slash}

@@ -1,5 +1,5 @@
 -- Where a range of addresses is reversed, and which faults families, prefixes and ranges have.
-use Rattle.rpki_ip.proofs.Common.{Err, List, arith, is_ok, true, ℕ, ◌<◌, ◌↔◌, ◌≡◌, lt-ltb, ltb-true, PrefixValue, last_of, ok_or_err, Bits, bits, refined, tagged_at, NotCanonical, ReversedRange, prefix_at, prefix_by, prefix_in, prefix_in_by, prefix_of, prefix_of_by, range_in, span_of}
+use Rattle.rpki_ip.proofs.Common.{Err, List, arith, is_ok, true, ℕ, ◌<◌, ◌↔◌, ◌≡◌, lt-ltb, ltb-true, last_of, ok_or_err, Bits, bits, refined, tagged_at, NotCanonical, ReversedRange, prefix_at, prefix_by, prefix_in, prefix_in_by, prefix_of, prefix_of_by, range_in, span_of}
 use Rattle.rpki_base.specs.DerFaults.{BeginsWithTwo}
 use Rattle.rpki_base.proofs.DerFaults.{NamesTo, bind_names, bits_names, cond_fails, cond_names, header_names, names_more, not_named, pair_fails, pair_names, refined_names, tagged_names, bind_fails, first_fails}
 
@@ -12,41 +12,32 @@ module _ (limit : ℕ) where
 
   pub prefix_content_names : (content : List ℕ) → NamesTo 8 (prefix_in limit content)
   unfolding prefix_in
-  prefix_content_names content = bind_names 8 (bits content) (prefix_of limit) (names_more 5 8 (bits content) (omega arith) (bits_names content)) prefix_of_names
+  prefix_content_names content =
+      bind_names 8 (bits content) _ (names_more 5 8 _ (omega arith) (bits_names content)) prefix_of_names
 
-  prefix_names : (bytes : List ℕ) → NamesTo 8 (prefix_at limit bytes)
+  pub prefix_names : (bytes : List ℕ) → NamesTo 8 (prefix_at limit bytes)
   prefix_names = refined_names 8 (tagged_at 3) (prefix_in limit) (header_names 8 3 (omega arith)) prefix_content_names
 
-  span_names : (p q : PrefixValue) → NamesTo 10 (span_of p q)
-  unfolding span_of
-  span_names p q = grind (arith, cond_names)
-
   pub range_names : (content : List ℕ) → NamesTo 10 (range_in limit content)
-  range_names = pair_names 10 (prefix_at limit) span_of (omega arith) (λ bytes. names_more 8 10 (prefix_at limit bytes) (omega arith) (prefix_names bytes)) span_names
+  unfolding span_of
+  range_names =
+      pair_names 10 _ span_of (omega arith) (λ bytes. names_more 8 10 _ (omega arith) (prefix_names bytes))
+      (λ p q. grind (arith, cond_names))
 
   -- ---- where a range is reversed
-
-  span_fails : (p q : PrefixValue) → (span_of p q ≡ Err ReversedRange) ↔ (last_of 128 q < p.first)
-  unfolding span_of
-  span_fails p q = grind (arith, cond_fails, lt-ltb, ltb-true)
 
   pub range_fails : (content : List ℕ)
       → (range_in limit content ≡ Err ReversedRange)
       ↔ BeginsWithTwo (prefix_at limit) (λ p q. last_of 128 q < p.first) content
+  unfolding span_of
   range_fails =
       pair_fails (prefix_at limit) span_of (λ p q. last_of 128 q < p.first) ReversedRange (omega arith)
-      (λ bytes. not_named 8 (prefix_at limit bytes) ReversedRange (prefix_names bytes) (omega arith)) span_fails
-
-  -- ---- what isn't canonical
-
-  pub never_prefix : (bytes : List ℕ) → prefix_at limit bytes ≡ Err NotCanonical → ⊥
-  never_prefix bytes = not_named 8 (prefix_at limit bytes) NotCanonical (prefix_names bytes) (omega arith)
-
-  pub never_range : (content : List ℕ) → range_in limit content ≡ Err NotCanonical → ⊥
-  never_range content = not_named 10 (range_in limit content) NotCanonical (range_names content) (omega arith)
+      (λ bytes. not_named 8 (prefix_at limit bytes) ReversedRange (prefix_names bytes) (omega arith))
+      (λ p q. grind (arith, cond_fails, lt-ltb, ltb-true))
 
   -- the steps of the reading that come before the look at the unused bits
   pub prefix_last : (bytes : List ℕ) → prefix_by true limit bytes ≡ Err NotCanonical
       → is_ok (prefix_at limit bytes) ≡ true
   unfolding refined prefix_in prefix_in_by prefix_of_by
-  prefix_last bytes is = grind (arith, bind_fails, bits_names, first_fails, not_named, ok_or_err, prefix_of_names, tagged_names)
+  prefix_last bytes is =
+      grind (arith, bind_fails, bits_names, first_fails, not_named, ok_or_err, prefix_of_names, tagged_names)

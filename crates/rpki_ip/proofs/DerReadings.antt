@@ -1,5 +1,5 @@
 -- The readings find the families, prefixes and ranges of the grammars, whatever follows them, and no others.
-use Rattle.rpki_ip.proofs.Common.{Ok, arith, refl, subst, ℕ, ◌≡◌, PrefixValue, bits_check, IsTagged, fits_content, refined_reading, same_reading, tagged_reading, IsCheck, bind_ok, IsBits, IsBytes, IsSequence, Refines, bit_content, IsReading, bits, refined, tagged_at, IsPrefixContent, IsPrefixDer, SaysPrefix, prefix_at, prefix_in, prefix_of, IsRangeDer, IsSpan, SaysRange, range_in, span_of, RangeValue}
+use Rattle.rpki_ip.proofs.Common.{Ok, arith, ℕ, ◌≡◌, PrefixValue, bits_check, IsTagged, fits_content, refined_reading, same_reading, tagged_reading, IsCheck, bind_ok, IsBits, IsBytes, IsSequence, Refines, IsReading, refined, tagged_at, IsPrefixContent, IsPrefixDer, SaysPrefix, prefix_at, prefix_in, prefix_of, IsRangeDer, IsSpan, SaysRange, range_in, span_of, RangeValue}
 use Rattle.rpki_base.proofs.DerReadings.{pair_check}
 
 -- ---- prefixes
@@ -13,10 +13,7 @@ bits_prefix_check limit = record { takes = λ b p is e. grind arith; again = λ 
 pub prefix_check : (limit : ℕ) → IsCheck (λ _. Unit {0}) (IsPrefixContent limit) (prefix_in limit)
 unfolding prefix_in
 prefix_check limit = record {
-  takes = λ content p fits e.
-      let (b, found, said) = bind_ok (bits content) (prefix_of limit) p e in
-      let is = bits_check.takes content b tt found in
-      (b, is, (bits_prefix_check limit).takes b p is.counted said);
+  takes = λ content p fits e. grind (arith, bind_ok, bits_check.takes, (bits_prefix_check limit).takes);
   again = λ content p (b, is, says). rw (bits_check.again content b is) ((bits_prefix_check limit).again b p says);
 }
 
@@ -24,11 +21,9 @@ prefix_check limit = record {
 pub prefix_reading : (limit : ℕ) → IsReading (IsPrefixDer limit) (prefix_at limit)
 prefix_reading limit =
     same_reading (Refines (IsTagged 3) (IsPrefixContent limit)) (IsPrefixDer limit) (prefix_at limit)
-    (λ bytes p fits (content, is, (b, says, prefix)).
-    (b, (says.counted, subst (IsTagged 3 bytes) says.spelled is), prefix))
-    (λ bytes p (b, (counted, is), prefix).
-    (bit_content b, is, (b, record { counted = counted; spelled = refl }, prefix)))
-    (refined_reading (IsTagged 3) (IsPrefixContent limit) (λ _. Unit {0}) (tagged_at 3) (prefix_in limit) (tagged_reading 3) (λ front content is fits. tt) (prefix_check limit))
+    (λ bytes p fits is. grind arith) (λ bytes p is. grind arith)
+    (refined_reading (IsTagged 3) (IsPrefixContent limit) (λ _. Unit {0}) (tagged_at 3) (prefix_in limit)
+    (tagged_reading 3) (λ front content is fits. tt) (prefix_check limit))
 
 -- ---- ranges
 
@@ -44,8 +39,11 @@ span_again p q r is = grind arith
 
 -- the content of a range
 pub range_check : (limit : ℕ) → IsCheck IsBytes (SaysRange limit) (range_in limit)
-range_check limit = pair_check (IsPrefixDer limit) IsSpan (prefix_at limit) span_of (prefix_reading limit) span_says span_again
+range_check limit =
+    pair_check (IsPrefixDer limit) IsSpan (prefix_at limit) span_of (prefix_reading limit) span_says span_again
 
 -- the SEQUENCE of a range
 pub range_reading : (limit : ℕ) → IsReading (IsRangeDer limit) (refined (tagged_at 48) (range_in limit))
-range_reading limit = refined_reading IsSequence (SaysRange limit) IsBytes (tagged_at 48) (range_in limit) (tagged_reading 48) (λ front content is fits. fits_content front 48 content is fits) (range_check limit)
+range_reading limit =
+    refined_reading IsSequence (SaysRange limit) IsBytes (tagged_at 48) (range_in limit) (tagged_reading 48)
+    (λ front content is fits. fits_content front 48 content is fits) (range_check limit)

@@ -1,5 +1,5 @@
 -- A length in digits at the front of a text.
-use Rattle.rpki_ip.proofs.Common.{List, ap, arith, drop, length, length-drop, refl, sym, take, ℕ, ◌++◌, ◌-◌, ◌<◌, ◌∙◌, ◌≡◌, ◌≤◌, length-take, take-append-drop, cleared, PrefixValue, bits_of, family_of, IsPrefixAt}
+use Rattle.rpki_ip.proofs.Common.{List, arith, drop, length, length-drop, refl, take, ℕ, ◌-◌, ◌<◌, ◌≡◌, ◌≤◌, length-take, take-append-drop, cleared, PrefixValue, bits_of, family_of, IsPrefixAt}
 use Rattle.std.specs.Str.Parse.{AllDigits, digits_value}
 use Rattle.std.proofs.lemmas.Str.Parse.{without_leading_plus_none, digit_at}
 use Rattle.rpki_text.specs.Numbers.{IsNumberText, AreDigitsFrom}
@@ -11,9 +11,7 @@ use Rattle.rpki_addr.specs.declared.addr.IpAddr.{IpAddr}
 digits_are_number : (limit : ℕ) (ds : List ℕ) (n : ℕ) → 0 < length ds → AllDigits 10 ds → digits_value 10 ds ≡ n
     → n ≤ limit → IsNumberText limit ds n
 digits_are_number limit ds n some all value small =
-    let first = digit_at ds 0 all some in
-    let whole = without_leading_plus_none ds (λ e. omega (arith, e, first.0)) in
-    record { digits = rw whole (some, all); value = rw whole value; within = small }
+    grind (arith, digit_at ds 0 all some, without_leading_plus_none)
 
 -- so digits at the front are a length, where the family has it
 pub prefix_at : (first : IpAddr) (text : List ℕ) (n end : ℕ) (p : PrefixValue) → AreDigitsFrom 0 end text n
@@ -21,10 +19,12 @@ pub prefix_at : (first : IpAddr) (text : List ℕ) (n end : ℕ) (p : PrefixValu
     → p ≡ record { first = cleared 128 (first_of first) n; len = n }
     → IsAtFront (λ t p. AllDigits 10 t × IsPrefixAt first t p) text p (drop end text)
 prefix_at first text n end p h some small most is =
-    let count : length (take (end - 0) (drop 0 text)) ≡ end = omega (arith, length-take (end - 0) (drop 0 text), length-drop 0 text, h.digits.within) in
-    let number = digits_are_number 255 (take (end - 0) (drop 0 text)) n (omega (arith, count, some)) h.digits.all_digits h.digits.value (omega (arith, small, most)) in
+    let digits = take (end - 0) (drop 0 text) in
+    let count : length digits ≡ end = omega (arith, length-take {A = ℕ}, length-drop 0 text, h.digits.within) in
+    let ten = h.digits.all_digits in
+    let number = digits_are_number 255 digits n (omega (arith, count, some)) ten h.digits.value (omega arith) in
     record {
-      front = take (end - 0) (drop 0 text);
-      split = sym (take-append-drop (end - 0) text) ∙ ap (λ k. take (end - 0) text ++ drop k text) (omega arith);
-      writes = (h.digits.all_digits, rw is (record { length_text = number; within = small; first = refl }));
+      front = digits;
+      split = grind (arith, take-append-drop (end - 0) text);
+      writes = (ten, rw is (record { length_text = number; within = small; first = refl }));
     }

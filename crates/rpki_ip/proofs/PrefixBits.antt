@@ -1,5 +1,5 @@
 -- The bits of a prefix, as octets and as a number.
-use Rattle.rpki_ip.proofs.Common.{mul-mod_left, List, [], ap, arith, drop, length, refl, replicate, suc, sym, take, zero, ℕ, ◌%◌, ◌*◌, ◌++◌, ◌+◌, ◌-◌, ◌/◌, ◌<◌, ◌^◌, ◌∙◌, ◌∷◌, ◌≡◌, ◌≤◌, div-div-eq-div-mul, pow-suc, drop-replicate, length-take, div-add-mod', pow-add, shl-shr, shl_below, shr-shr, shr_below, shr_split, byte_at, bytes_high_first, from_be_bytes, to_be_bytes, w128, IsPrefix, PrefixValue, IsBytes-rest, Bits, IsBits, IsBytes, big_endian, big_endian_after, SaysPrefix, octet_count, prefix_bits}
+use Rattle.rpki_ip.proofs.Common.{subst, mul-mod_left, List, [], ap, arith, drop, length, refl, replicate, suc, take, zero, ℕ, ◌%◌, ◌*◌, ◌++◌, ◌+◌, ◌-◌, ◌/◌, ◌<◌, ◌^◌, ◌∙◌, ◌∷◌, ◌≡◌, ◌≤◌, div-div-eq-div-mul, pow-suc, drop-replicate, length-take, div-add-mod', pow-add, shl-shr, shl_below, shr-shr, shr_below, shr_split, byte_at, bytes_high_first, from_be_bytes, to_be_bytes, w128, IsPrefix, PrefixValue, IsBytes-rest, Bits, IsBits, IsBytes, big_endian, big_endian_after, SaysPrefix, octet_count, prefix_bits}
 use borrow.Rule.Slice.PartMut.{put_mid}
 
 -- ---- the number that octets spell
@@ -7,25 +7,23 @@ use borrow.Rule.Slice.PartMut.{put_mid}
 -- an octet is eight bits
 octet_powers : (k : ℕ) → 256 ^ k ≡ 2 ^ (8 * k)
 octet_powers zero = refl
-octet_powers (suc k) =
-    let more : 8 * suc k ≡ 8 * k + 8 = omega arith in
-    pow-suc 256 k ∙ ap (λ n. n * 256) (octet_powers k) ∙ sym (ap (λ n. 2 ^ n) more ∙ pow-add 2 (8 * k) 8)
+octet_powers (suc k) = grind (arith, octet_powers k, pow-add 2 8 (8 * k), pow-suc)
 
 -- octets behind a number of j bits
 below_after : (xs : List ℕ) (n j : ℕ) → IsBytes xs → n < 2 ^ j → big_endian_after n xs < 2 ^ (j + 8 * length xs)
-below_after [] n j fits lt = let e : j + 8 * length {A = ℕ} [] ≡ j = omega arith in rw e lt
+below_after [] n j fits lt = grind arith
 below_after (x ∷ xs) n j fits lt =
-    let e : j + 8 * suc (length xs) ≡ (j + 8) + 8 * length xs = omega arith in
-    let p : 2 ^ (j + 8) ≡ 2 ^ j * 256 = pow-add 2 j 8 in
-    rw e (below_after xs (n * 256 + x) (j + 8) (IsBytes-rest x xs fits) (rw p (omega (arith, lt, fits 0))))
+    let digit : 2 ^ (j + 8) ≡ 2 ^ j * 256 = pow-add 2 j 8 in
+    let more = below_after xs (n * 256 + x) (j + 8) (IsBytes-rest x xs fits) (omega (arith, fits 0)) in
+    subst (λ k. big_endian_after (n * 256 + x) xs < 2 ^ k) (omega arith) more
 
 -- octets spell a number of their bits
 pub big_endian_below : (xs : List ℕ) → IsBytes xs → big_endian xs < 2 ^ (8 * length xs)
-big_endian_below xs fits = let z : 0 + 8 * length xs ≡ 8 * length xs = omega arith in rw z at (below_after xs 0 0 fits (omega arith))
+big_endian_below xs fits = subst (λ k. big_endian xs < 2 ^ k) (omega arith) (below_after xs 0 0 fits (omega arith))
 
 -- bits with zeros behind them, of which only those stay that are used
 pub used_bits : (n k u m : ℕ) → m ≡ k + u → n * 2 ^ k / 2 ^ m ≡ n / 2 ^ u
-used_bits n k u m e = ap (λ (j : ℕ). n * 2 ^ k / 2 ^ j) e ∙ sym (shr-shr (n * 2 ^ k) k u) ∙ ap (λ (t : ℕ). t / 2 ^ u) (shl-shr n k)
+used_bits n k u m e = rw (e, ← shr-shr (n * 2 ^ k) k u, shl-shr n k) refl
 
 -- ---- the first octets of a number
 
@@ -39,14 +37,9 @@ one_octet k a = grind (arith, byte_is, div-add-mod', div-div-eq-div-mul, pow-suc
 
 -- the first n of the last k octets, behind the octets before them
 first_octets : (n k a : ℕ) → n ≤ k → big_endian_after (a / 256 ^ k) (take n (bytes_high_first k a)) ≡ a / 256 ^ (k - n)
-first_octets zero k a le = let e : k - 0 ≡ k = omega arith in rw e refl
+first_octets zero k a le = grind arith
 first_octets (suc n) zero a le = absurd (omega arith)
 first_octets (suc n) (suc k) a le = grind (arith, one_octet, first_octets n k a (omega arith))
-
--- how many octets there are
-length_octets_of : (k a : ℕ) → length (bytes_high_first k a) ≡ k
-length_octets_of zero a = refl
-length_octets_of (suc k) a = ap suc (length_octets_of k a)
 
 -- the first n octets of an address spell its first bits
 pub first_bits : (n a : ℕ) → n ≤ 16 → a < 2 ^ 128 → big_endian (take n (to_be_bytes w128 a)) ≡ a / 2 ^ (8 * (16 - n))
@@ -57,7 +50,7 @@ first_bits n a le lt =
 
 -- these are n
 pub length_first : (n a : ℕ) → n ≤ 16 → length (take n (to_be_bytes w128 a)) ≡ n
-length_first n a le = omega (arith, length-take n (to_be_bytes w128 a), length_octets_of 16 a)
+length_first n a le = omega (arith, length-take n (to_be_bytes w128 a))
 
 -- ---- the bits of a prefix
 
@@ -73,9 +66,8 @@ bits_few p is = omega (arith, is.short, length_first (octet_count p.len) p.first
 pub bits_say : (limit : ℕ) (p : PrefixValue) → IsPrefix 128 p → p.len ≤ limit → SaysPrefix limit (prefix_bits p) p
 bits_say limit p is short =
     let count : octet_count p.len ≤ 16 = omega (arith, is.short) in
-    let enough : p.len ≤ 8 * octet_count p.len = omega arith in
-    let n : length (take (octet_count p.len) (to_be_bytes w128 p.first)) ≡ octet_count p.len = length_first (octet_count p.len) p.first count in
-    let number : big_endian (take (octet_count p.len) (to_be_bytes w128 p.first)) ≡ p.first / 2 ^ (8 * (16 - octet_count p.len)) = first_bits (octet_count p.len) p.first count is.below in
+    let long = length_first (octet_count p.len) p.first count in
+    let number = first_bits (octet_count p.len) p.first count is.below in
     grind (arith, shr-shr, shr_split)
 
 -- what bits say is a prefix
@@ -85,11 +77,10 @@ said_prefix limit b p le fits s = record {
   short = omega (arith, s.short, le);
   aligned = rw s.first (mul-mod_left (big_endian b.octets / 2 ^ b.unused) (2 ^ (128 - p.len)));
   below =
-      (let n : big_endian b.octets < 2 ^ (8 * length b.octets) = big_endian_below b.octets fits in
-      let e : 8 * length b.octets ≡ p.len + b.unused = omega (arith, s.len) in
-      let k : big_endian b.octets / 2 ^ b.unused < 2 ^ p.len = shr_below (big_endian b.octets) p.len b.unused (rw e at n) in
-      let m : big_endian b.octets / 2 ^ b.unused * 2 ^ (128 - p.len) < 2 ^ (p.len + (128 - p.len)) = shl_below (big_endian b.octets / 2 ^ b.unused) p.len (128 - p.len) k in
-      let w : p.len + (128 - p.len) ≡ 128 = omega (arith, s.short, le) in rw s.first (rw w at m));
+      (let bits : 8 * length b.octets ≡ p.len + b.unused = omega arith in
+      let kept = shr_below (big_endian b.octets) p.len b.unused (rw bits at (big_endian_below b.octets fits)) in
+      let all : p.len + (128 - p.len) ≡ 128 = omega (arith, s.short, le) in
+      rw s.first (rw all at (shl_below (big_endian b.octets / 2 ^ b.unused) p.len (128 - p.len) kept)));
 }
 
 -- ---- octets with zeros behind them
@@ -118,7 +109,7 @@ from_be_bytes-padded (a ∷ b ∷ c ∷ d ∷ e ∷ f ∷ g ∷ h ∷ i ∷ j �
 from_be_bytes-padded (a ∷ b ∷ c ∷ d ∷ e ∷ f ∷ g ∷ h ∷ i ∷ j ∷ k ∷ l ∷ m ∷ n ∷ []) le = omega arith
 from_be_bytes-padded (a ∷ b ∷ c ∷ d ∷ e ∷ f ∷ g ∷ h ∷ i ∷ j ∷ k ∷ l ∷ m ∷ n ∷ o ∷ []) le = omega arith
 from_be_bytes-padded (a ∷ b ∷ c ∷ d ∷ e ∷ f ∷ g ∷ h ∷ i ∷ j ∷ k ∷ l ∷ m ∷ n ∷ o ∷ p ∷ []) le = omega arith
-from_be_bytes-padded (a ∷ b ∷ c ∷ d ∷ e ∷ f ∷ g ∷ h ∷ i ∷ j ∷ k ∷ l ∷ m ∷ n ∷ o ∷ p ∷ q ∷ octets) le = absurd (omega arith)
+from_be_bytes-padded (a ∷ b ∷ c ∷ d ∷ e ∷ f ∷ g ∷ h ∷ i ∷ j ∷ k ∷ l ∷ m ∷ n ∷ o ∷ p ∷ q ∷ xs) le = absurd (omega arith)
 
 -- sixteen zeros, with octets written over the first of them
 pub number_before : (octets written : List ℕ) → length octets ≤ 16 → written ≡ octets
@@ -126,5 +117,5 @@ pub number_before : (octets written : List ℕ) → length octets ≤ 16 → wri
     (put_mid 0 (length octets) (0 ∷ 0 ∷ 0 ∷ 0 ∷ 0 ∷ 0 ∷ 0 ∷ 0 ∷ 0 ∷ 0 ∷ 0 ∷ 0 ∷ 0 ∷ 0 ∷ 0 ∷ 0 ∷ []) written)
     ≡ big_endian octets * 2 ^ (128 - 8 * length octets)
 number_before octets written le e =
-    let behind : drop (length octets) (replicate {A = ℕ} 16 0) ≡ replicate (16 - length octets) 0 = drop-replicate (length octets) 16 0 in
+    let behind : drop (length octets) (replicate {A = ℕ} 16 0) ≡ _ = drop-replicate (length octets) 16 0 in
     rw (e, behind) (from_be_bytes-padded octets le)

@@ -1,5 +1,5 @@
 -- On the prefix of a range's addresses.
-use Rattle.rpki_ip.proofs.Common.{ap, arith, bit_and, inl, inr, refl, suc, sym, zero, ℕ, ◌%◌, ◌*◌, ◌+◌, ◌-◌, ◌<◌, ◌^◌, ◌∙◌, ◌≡◌, ◌≤◌, mod-eq_of_lt, mod_self, pow-le-pow_right, two-pow-succ, cases_order, and_block, and_comm, and_mask, leading_length, pow_below, pow_pos, count_leading_zeros, power_is, IsPrefix, PrefixValue, IsRangeOf, RangeValue}
+use Rattle.rpki_ip.proofs.Common.{ap, arith, bit_and, inl, inr, suc, zero, ℕ, ◌%◌, ◌*◌, ◌+◌, ◌-◌, ◌<◌, ◌^◌, ◌∙◌, ◌≡◌, ◌≤◌, mod-eq_of_lt, mod_self, pow-le-pow_right, two-pow-succ, cases_order, and_block, and_comm, and_mask, leading_length, pow_below, pow_pos, count_leading_zeros, power_is, IsPrefix, PrefixValue, IsRangeOf, RangeValue}
 use Rattle.std.specs.Int.Bits.{and_zero_r}
 
 -- ---- the bits behind a prefix
@@ -62,13 +62,9 @@ pub prefix_of_bits : (r : RangeValue) → r.min ≤ r.max → r.max < 2 ^ 128
     × IsRangeOf p r
 prefix_of_bits r ordered below ones clear =
     let t = leading_length 128 (r.max - r.min) (omega (arith, below)) in
-    let short : count_leading_zeros 128 (r.max - r.min) ≤ 128 = omega (arith, t.1) in
-    let k = 128 - count_leading_zeros 128 (r.max - r.min) in
-    let count : r.max - r.min + 1 ≡ 2 ^ k = ones_from_top 128 (r.max - r.min) (omega (arith, below)) ones in
-    let host : r.max - r.min ≡ 2 ^ k - 1 = omega (arith, count) in (
-      record { short = short; aligned = sym (and_mask r.min k) ∙ ap (λ x. bit_and r.min x) (sym host) ∙ clear; below = omega (arith, ordered, below) },
-      record { begins = refl; ends = omega (arith, count, ordered) },
-    )
+    let count = ones_from_top 128 (r.max - r.min) (omega (arith, below)) ones in
+    let mask = and_mask r.min (128 - count_leading_zeros 128 (r.max - r.min)) in
+    grind arith
 
 -- where one of them fails, no prefix has the addresses
 pub bits_of_prefix : (p : PrefixValue) (r : RangeValue) → IsPrefix 128 p → IsRangeOf p r

@@ -56,6 +56,7 @@ fn read_address(wanted: Option<AddressFamily>, text: &str) -> Result<IpAddr, Add
 
 /// The prefix that an address and a length write, in the family that is wanted or in either. The bits behind the length
 /// are cleared. The fault is [`FromStrError::Addr`], and then [`FromStrError::PrefixLen`].
+#[tactic(auto, using(crate::proofs::TextLemmas::too_long))]
 pub fn prefix_between(
     wanted: Option<AddressFamily>,
     left: &str,

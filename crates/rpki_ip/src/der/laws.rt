@@ -52,7 +52,7 @@ pub fn reversed()
 
 /// Octets are refused as not canonical by a strict cursor alone; as a prefix only where a lenient one finds a prefix:
 /// each other fault of it, as `BadPrefix` for too many bits, comes first.
-#[tactic(auto, using(crate::proofs::DerFaults::never_prefix, crate::proofs::DerFaults::never_range, crate::proofs::DerFaults::prefix_last))]
+#[tactic(auto, using(crate::proofs::DerFaults::prefix_names, crate::proofs::DerFaults::range_names, crate::proofs::DerFaults::prefix_last))]
 pub fn not_canonical()
     ensures prefix { (limit : ℕ) (bytes : List ℕ) → prefix_at limit bytes ≢ Err NotCanonical }
     ensures range { (limit : ℕ) (content : List ℕ) → range_in limit content ≢ Err NotCanonical }

@@ -1,5 +1,4 @@
-use Rattle.std.proofs.lemmas.List.Elements.{All-rest}
-use Rattle.rpki_ip.proofs.Common.{ap, map, sym, ◌∙◌, ◌∷◌, ◌≡◌, All-head, IsPrefix, widened}
+use Rattle.rpki_ip.proofs.Common.{ap, map, sym, ◌∙◌, ◌∷◌, ◌≡◌, All-head, IsPrefix, widened, All-rest}
 use Rattle.rpki_ip.proofs.CoverLemmas.{widened_made}
 use Rattle.rpki_ip.proofs.cover.V4PrefixesIterator.next.Goals as goal
 

@@ -1,5 +1,4 @@
-use Rattle.std.proofs.lemmas.List.Elements.{All-rest}
-use Rattle.rpki_ip.proofs.Common.{IsPrefix}
+use Rattle.rpki_ip.proofs.Common.{IsPrefix, All-rest}
 use Rattle.rpki_ip.proofs.cover.V6PrefixesIterator.next.Goals as goal
 
 pub invariant_of-self-2 : goal.invariant_of-self-2

@@ -1,8 +1,8 @@
 -- What the proofs of this crate use of std, of the crates below and of its own definitions, passed on by one name.
 pub use Rattle.std.proofs.Common.{All, Bool, Contains, Err, IfSome, IsTrue, List, MatchResult, None, Ok, Option, Result, Some, Vec, [], ap, append-nil, append_assoc, arith, codes, decimal, eqb, false, inl, inr, length, length-append, lit<, lit≤, map, refl, subst, suc, sym, true, zero, ℕ, ◌*◌, ◌++◌, ◌+◌, ◌-◌, ◌/◌, ◌<◌, ◌^◌, ◌↔◌, ◌∙◌, ◌∷◌, ◌≡◌, ◌≢◌, ◌≤◌}
-pub use Rattle.std.proofs.Math.Nat.{add-mul, mul-mod_left, mul_assoc, pow-le-pow_right}
+pub use Rattle.std.proofs.Math.Nat.{add-mul, mul-mod_left, mul_assoc}
 pub use Rattle.std.proofs.NetLemmas.Alphabet.{IsDigitOrDot}
-pub use Rattle.std.proofs.lemmas.Bool.{and_parts, cases_eq, cases_lt, cases_order, eq-eqb, eqb-true, ne_eqb}
+pub use Rattle.std.proofs.lemmas.Bool.{and_from, and_parts, cases_eq, cases_order, eq-eqb, eqb-true, ne_eqb}
 pub use Rattle.std.proofs.lemmas.List.Elements.{All-append, All-cons, All-contains, All-from_recursion, All-head, All-nil, All-tail, All-weaker, Contains-append_left, recursion_from_All}
 pub use Rattle.std.proofs.lemmas.Nat.{pow-add, pow_below, pow_pos}
 pub use Rattle.std.proofs.lemmas.Str.Parse.{digit_from_value}
@@ -24,21 +24,21 @@ pub use Rattle.rpki_base.specs.declared.family.AddressFamily.{AddressFamily}
 pub use Rattle.rpki_base.specs.declared.family.AddressFamily.TheVariants.{Ipv4, Ipv6}
 pub use Rattle.rpki_der.proofs.Modes.{exact_optional_by, refused_optional_by}
 pub use Rattle.rpki_der.proofs.Readings.{fits_content, one_front, same_reading}
-pub use Rattle.rpki_der.specs.Der.{Bits, Each, IsBytes, Spells, big_endian}
+pub use Rattle.rpki_der.specs.Der.{Each, IsBytes, Spells}
 pub use Rattle.rpki_der.specs.Reading.{IsReading, optional, value_at}
-pub use Rattle.rpki_der.specs.Views.{Takes, is_strict, left}
+pub use Rattle.rpki_der.specs.Views.{Lenient, NotCanonicalOr, ReadsOptional, Strict, Takes, is_strict, left}
 pub use Rattle.rpki_ip.proofs.DerModes.{IsStrictPrefix, bits_few_enough, prefix_is_spelled, spelled_is_prefix, within}
-pub use Rattle.rpki_ip.proofs.DerWritten.{few_bits, prefix_written, range_written}
+pub use Rattle.rpki_ip.proofs.DerWritten.{few_bits, prefix_written, range_spelled, range_written}
 pub use Rattle.rpki_ip.proofs.TextLemmas.{answers_by_one, prefix_one, range_one, single_of, single_one}
 pub use Rattle.rpki_ip.specs.BlockText.{HasAddressFault, HasIpPrefixTextFault, HasRangeTextFault, IsAddressText, IsIpPrefixText, IsPrefixAt, IsRangeFrom, IsRangeText, IsSingleText}
-pub use Rattle.rpki_ip.specs.PrefixDer.{SaysPrefix, prefix_at, prefix_der, prefix_in}
+pub use Rattle.rpki_ip.specs.PrefixDer.{prefix_at, prefix_der, prefix_in}
 pub use Rattle.rpki_ip.specs.PrintedText.{as_ip, shown_bits}
-pub use Rattle.rpki_ip.specs.RangeDer.{is_written_as, range_content, range_in, without_end_ones, without_end_zeros}
+pub use Rattle.rpki_ip.specs.RangeDer.{IsSpan, is_written_as, range_content, range_in, without_end_ones, without_end_zeros}
 pub use Rattle.rpki_ip.specs.Ranges.{IsRangeOf, RangeValue, range_bounds}
 pub use Rattle.rpki_ip.specs.declared.error.FromStrError.{FromStrError}
-pub use Rattle.rpki_prefix.specs.Values.{FamilyPrefix, IsFamilyPrefix, width}
+pub use Rattle.rpki_prefix.specs.Values.{FamilyPrefix, IsFamilyPrefix}
 pub use Rattle.rpki_text.proofs.PrintedLemmas.{IsElement, elements-joined}
-pub use Rattle.rpki_text.specs.Cuts.{HasNo, dash, slash}
+pub use Rattle.rpki_text.specs.Cuts.{Around, HasNo, IsCutAt, dash, slash}
 pub use Rattle.rpki_text.specs.Lists.{HasFirstFault, HaveValues, elements}
 pub use Rattle.rpki_text.specs.Memory.{IfRefused, IsMemory}
 pub use Rattle.rpki_text.specs.Reading.{Answers, AnswersOrMemory}

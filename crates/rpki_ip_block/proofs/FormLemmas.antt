@@ -1,12 +1,7 @@
 -- Which blocks are in new form, and prefixes of a family as prefixes of 128 bits.
-use Rattle.rpki_ip_block.proofs.Common.{None, Option, Some, ap, arith, refl, suc, sym, true, zero, ℕ, ◌*◌, ◌+◌, ◌-◌, ◌<◌, ◌^◌, ◌≡◌, ◌≤◌, cases_order, eq-eqb, pow_below, pow_pos, cleared_first, first_of, cleared, IsPrefix, PrefixValue, IpAddr, IsRangeOf, RangeValue, range_bounds, FamilyPrefix, IsFamilyPrefix, block_from, has_length, length_of, length_upto, new_ip_block, prefix_bounds, IsBlock, Prefix, Range}
+use Rattle.rpki_ip_block.proofs.Common.{V4, V6, None, Option, Some, arith, refl, suc, true, zero, ℕ, ◌<◌, ◌^◌, ◌≡◌, ◌≤◌, cases_order, eq-eqb, pow_below, pow_pos, cleared_first, first_of, cleared, IsPrefix, PrefixValue, IpAddr, IsRangeOf, RangeValue, range_bounds, FamilyPrefix, IsFamilyPrefix, block_from, has_length, length_of, length_upto, new_ip_block, prefix_bounds, IsBlock, Prefix, Range}
 use Rattle.rpki_ip.proofs.Common.{widened_prefix}
 use Rattle.rpki_ip_block.specs.BlockFormLaws.{bounds_of_length, found_length}
-
--- a prefix has its length
-has_own_length : (p : PrefixValue) → IsPrefix 128 p → has_length (prefix_bounds p) p.len ≡ true
-unfolding has_length
-has_own_length p is = grind (arith, eq-eqb, pow_pos)
 
 -- where no length is found, none up to the limit is had
 no_length : (n k : ℕ) (b : ℕ × ℕ) → k ≤ n → length_upto n b ≡ None → has_length b k ≡ true → ⊥
@@ -14,24 +9,16 @@ unfolding length_upto
 no_length zero k b small none has = grind (arith)
 no_length (suc n) k b small none has = grind (arith, cases_order, no_length n k b)
 
--- prefixes of two lengths up to 128 have not the same count of addresses
-one_length : (k l : ℕ) → k ≤ 128 → l ≤ 128 → 2 ^ (128 - k) ≡ 2 ^ (128 - l) → k ≡ l
-one_length k l short also same = grind (arith, cases_order, pow_below)
-
 -- so it is the block of its bounds
 pub new_prefix : (p : PrefixValue) → IsPrefix 128 p → Prefix p ≡ new_ip_block (prefix_bounds p)
 unfolding length_of has_length
 new_prefix p is = by_length (length_of (prefix_bounds p)) refl
   where
     by_length : (o : Option ℕ) → length_of (prefix_bounds p) ≡ o → Prefix p ≡ block_from (prefix_bounds p) o
-    by_length None e = absurd (no_length 128 p.len (prefix_bounds p) is.short e (has_own_length p is))
+    by_length None e = absurd (no_length 128 p.len (prefix_bounds p) is.short e (grind (arith, eq-eqb, pow_pos)))
     by_length (Some len) e =
         let (short, has) = found_length 128 (prefix_bounds p) len e in
-        let last : p.first + 2 ^ (128 - len) - 1 ≡ p.first + 2 ^ (128 - p.len) - 1 = ap (λ (b : ℕ × ℕ). b.1) (bounds_of_length (prefix_bounds p) len has) in
-        let count : 2 ^ (128 - p.len) ≡ 2 ^ (128 - len) =
-        omega (arith, last, pow_pos (128 - p.len), pow_pos (128 - len)) in
-        let same = one_length p.len len is.short short count in
-        λ i. Prefix (record { first = p.first; len = same i })
+        grind (arith, bounds_of_length (prefix_bounds p) len has, cases_order p.len len, pow_below, pow_pos)
 
 -- bounds with a length begin a prefix of that length
 prefix_of_length : (b : ℕ × ℕ) (len : ℕ) → b.1 < 2 ^ 128 → len ≤ 128 → has_length b len ≡ true
@@ -49,27 +36,20 @@ new_range r below no_prefix = by_length (length_of (range_bounds r)) refl
     by_length None e = refl
     by_length (Some len) e =
         let (short, has) = found_length 128 (range_bounds r) len e in
-        let last : prefix_bounds (record { first = r.min; len = len }) ≡ range_bounds r = bounds_of_length (range_bounds r) len has in
-        absurd (no_prefix (record { first = r.min; len = len }) (prefix_of_length (range_bounds r) len below short has) (record { begins = refl; ends = sym (ap (λ (b : ℕ × ℕ). b.1) last) }))
+        let p : PrefixValue = record { first = r.min; len = len } in
+        absurd (no_prefix p (prefix_of_length (range_bounds r) len below short has)
+        (grind (arith, bounds_of_length (range_bounds r) len has)))
 
 -- a block that is made of the bounds of addresses is one of addresses
 pub new_block_fits : (b : ℕ × ℕ) → b.0 ≤ b.1 → b.1 < 2 ^ 128 → IsBlock (new_ip_block b)
 unfolding length_of
-new_block_fits b ordered below = by_length (length_of b) refl
-  where
-    by_length : (o : Option ℕ) → length_of b ≡ o → IsBlock (block_from b o)
-    by_length None e = record { ordered = ordered; below = below }
-    by_length (Some len) e = let (short, has) = found_length 128 b len e in prefix_of_length b len below short has
+new_block_fits b ordered below = grind (arith, found_length, prefix_of_length)
 
--- a prefix of IPv4 is one of 128 bits, with 96 zeros behind its address
-prefix_of_v4 : (n len : ℕ) → IsPrefix 32 (record { first = n; len = len })
-    → IsPrefix 128 (record { first = n * 2 ^ 96; len = len })
-prefix_of_v4 n len = widened_prefix (record { first = n; len = len })
-
--- so a prefix of either family is one of 128 bits
+-- a prefix of either family is one of 128 bits, in IPv4 with 96 zeros behind its address
 prefix_of : (a : IpAddr) (len : ℕ) → IsFamilyPrefix (record { addr = a; len = len })
     → IsPrefix 128 (record { first = first_of a; len = len })
-prefix_of a len is = grind (arith, prefix_of_v4)
+prefix_of (V4 n) len is = widened_prefix (record { first = n; len = len }) (grind arith)
+prefix_of (V6 n) len is = grind arith
 
 -- whose address has no bits behind its length
 pub family_prefix : (p : FamilyPrefix) → IsFamilyPrefix p → cleared 128 (first_of p.addr) p.len ≡ first_of p.addr

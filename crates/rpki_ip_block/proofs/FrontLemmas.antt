@@ -1,7 +1,6 @@
 -- Blocks at the front of a text: the addresses that write one, and what stands round them.
-use Rattle.rpki_ip_block.proofs.Common.{IfSome, List, None, Option, Some, [], ap, append_assoc, arith, inl, inr, length, length-append, lit<, lit≤, refl, subst, sym, ℕ, ◌++◌, ◌<◌, ◌∙◌, ◌∷◌, ◌≡◌, ◌≢◌, ◌≤◌, All-append, All-cons, All-contains, All-from_recursion, All-weaker, Contains-append_left, recursion_from_All, digit_from_value, IsDigitOrDot, IsInRange, AllByRecursion, PrefixValue, IpAddr, V4, V6, AddressFamily, Ipv4, Ipv6, IsAddressText, IsIpBlockText, IsPrefixAt, IsRangeFrom, RangeValue, HasNo, dash, slash, no_dash, no_slash, not_slash, IsBlockAtFront, IsPrefixBehind, IsRangeBehind, IsForeign, IpBlock, Prefix, Range}
+use Rattle.rpki_ip_block.proofs.Common.{IfSome, List, None, Option, Some, [], append_assoc, arith, inl, length, length-append, lit<, lit≤, refl, subst, ℕ, ◌++◌, ◌<◌, ◌∷◌, ◌≡◌, ◌≢◌, ◌≤◌, All-append, All-cons, All-contains, All-from_recursion, All-weaker, Contains-append_left, recursion_from_All, digit_from_value, IsDigitOrDot, IsInRange, AllByRecursion, PrefixValue, IpAddr, V4, V6, AddressFamily, Ipv4, Ipv6, IsAddressText, IsIpBlockText, IsPrefixAt, IsRangeFrom, RangeValue, HasNo, dash, slash, no_dash, no_slash, not_slash, IsBlockAtFront, IsPrefixBehind, IsRangeBehind, IsForeign, IpBlock, Prefix, Range, Around, IsCutAt, All, Contains}
 use Rattle.std.specs.Borrow.{Bor}
-use Rattle.std.specs.List.{All, Contains}
 use Rattle.std.specs.Str.Parse.{AllDigits}
 use Rattle.rpki_addr.specs.AddressFronts.{IsAtFront}
 use Rattle.rpki_addr.proofs.WrittenBytes.{IsWrittenByte, ipv4_written, ipv4_some, ipv6_written, ipv6_colon, wider}
@@ -17,8 +16,7 @@ not_foreign Ipv6 text h foreign = foreign.1 h
 
 own_and_more : (family : AddressFamily) (xs : List ℕ) (b : ℕ) (ys : List ℕ) → OwnBytes family xs → b < 58
     → (family ≡ Ipv4 → All (λ c. c < 58) ys) → OwnBytes family (xs ++ b ∷ ys)
-own_and_more Ipv4 xs b ys own low more =
-    All-append (λ c. c < 58) xs (b ∷ ys) own (All-cons (λ c. c < 58) b ys low (more refl))
+own_and_more Ipv4 xs b ys own low more = search (arith, All-append, All-cons, more refl)
 own_and_more Ipv6 xs b ys own low more = Contains-append_left xs (b ∷ ys) 58 own
 
 -- the text of an address of a family, by its bytes
@@ -40,23 +38,20 @@ plain Ipv6 text (V4 n) h = absurd (let other = h.0 in cc)
 plain Ipv6 text (V6 n) h = search (arith, contains_some, ipv6_colon, ipv6_written)
 
 -- its bytes are shown, and two with a dash between them have no slash
-is_shown : (b : ℕ) → IsWrittenByte b → IsInRange 45 126 b
-is_shown b h = grind arith
-
 all_shown : (text : List ℕ) → All IsWrittenByte text → All (IsInRange 45 126) text
-all_shown text h = All-weaker IsWrittenByte (IsInRange 45 126) is_shown text h
+all_shown text h = All-weaker IsWrittenByte (IsInRange 45 126) (λ b byte. grind arith) text h
 
 no_slash_between : (left right : List ℕ) → All IsWrittenByte left → All IsWrittenByte right
     → HasNo slash (left ++ dash ∷ right)
-no_slash_between left right h k =
+no_slash_between left right h k i l =
     let all = All-append (λ b. b ≢ slash) left (dash ∷ right) (All-weaker IsWrittenByte _ not_slash left h)
     (All-cons (λ b. b ≢ slash) dash right (λ e. omega (arith, e)) (All-weaker IsWrittenByte _ not_slash right k)) in
-    λ i l. all i 0 l
+    all i 0 l
 
 -- digits
 digits_written : (ds : List ℕ) → AllDigits 10 ds → AllByRecursion (IsInRange 48 57) ds
 digits_written [] h = tt
-digits_written (c ∷ cs) h = let range = digit_from_value c h.0 in ((range.0, omega (arith, range.1)), digits_written cs h.1)
+digits_written (c ∷ cs) h = (grind (arith, digit_from_value c h.0), digits_written cs h.1)
 
 -- ---- the texts of blocks
 
@@ -77,21 +72,21 @@ plain_pair family xs b ys block here high low seen more writes = record {
   writes = writes;
   shown =
       recursion_from_All (IsInRange 45 126) (xs ++ b ∷ ys) (All-append (IsInRange 45 126) xs (b ∷ ys)
-      (all_shown xs here.written)
-      (All-cons (IsInRange 45 126) b ys (high, omega (arith, low)) seen));
+      (all_shown xs here.written) (All-cons (IsInRange 45 126) b ys (high, omega (arith, low)) seen));
 }
+
+-- what stands round the first of a byte
+around_here : (b : ℕ) (xs ys : List ℕ) (P : List ℕ → List ℕ → Type 0) → HasNo b xs → P xs ys
+    → Around b (xs ++ b ∷ ys) P
+around_here b xs ys P none holds =
+    let cut : IsCutAt b (xs ++ b ∷ ys) xs ys = record { split = refl; first = none } in
+    record { left = xs; right = ys; cut = cut; holds = holds }
 
 -- one address
 pub plain_single : (family : AddressFamily) (text : List ℕ) (a : IpAddr) (r : RangeValue)
     → IsAddressText (Some family) text a → IsRangeFrom a a r → IsPlainBlock family text (Range r)
 plain_single family text a r at is =
-    let here = plain family text a at in
-    record {
-      some = here.some;
-      own = here.own;
-      writes = (no_slash text here.written, inr (no_dash text here.written, (a, at, is)));
-      shown = recursion_from_All (IsInRange 45 126) text (all_shown text here.written);
-    }
+    grind (arith, all_shown, no_dash, no_slash, plain family text a at, recursion_from_All (IsInRange 45 126) text)
 
 -- two round a dash
 pub plain_range : (family : AddressFamily) (xs ys : List ℕ) (a b : IpAddr) (r : RangeValue)
@@ -100,16 +95,10 @@ pub plain_range : (family : AddressFamily) (xs ys : List ℕ) (a b : IpAddr) (r 
 plain_range family xs ys a b r at to is =
     let here = plain family xs a at in
     let there = plain family ys b to in
+    let bare = no_slash_between xs ys here.written there.written in
     plain_pair family xs dash ys (Range r) here (lit≤ tt) (lit< tt) (all_shown ys there.written)
-    (λ v4. subst (λ f. OwnBytes f ys) v4 there.own) (
-      no_slash_between xs ys here.written there.written,
-      inl (record {
-        left = xs;
-        right = ys;
-        cut = record { split = refl; first = no_dash xs here.written };
-        holds = (a, at, (b, to, is));
-      }),
-    )
+    (λ v4. subst (λ f. OwnBytes f ys) v4 there.own)
+    (bare, inl (around_here dash xs ys _ (no_dash xs here.written) (a, at, (b, to, is))))
 
 -- one and a length round a slash
 pub plain_prefix : (family : AddressFamily) (xs ys : List ℕ) (a : IpAddr) (p : PrefixValue)
@@ -121,29 +110,13 @@ plain_prefix family xs ys a p at digits is =
     plain_pair family xs slash ys (Prefix p) here (lit≤ tt) (lit< tt)
     (All-weaker (IsInRange 48 57) (IsInRange 45 126) (λ b h. (omega (arith, h.0), omega (arith, h.1))) ys all)
     (λ v4. All-weaker (IsInRange 48 57) (λ b. b < 58) (λ b h. omega (arith, h.1)) ys all)
-    (record {
-      left = xs;
-      right = ys;
-      cut = record { split = refl; first = no_slash xs here.written };
-      holds = (a, at, is);
-    })
+    (around_here slash xs ys _ (no_slash xs here.written) (a, at, is))
 
 -- ---- at the front of a text
 
 at_front : (family : AddressFamily) (text front : List ℕ) (block : IpBlock) (rest : List ℕ)
     → IsPlainBlock family front block → text ≡ front ++ rest → IsBlockAtFront family text block rest
-at_front family text front block rest is split = record {
-  front = front;
-  split = split;
-  some = is.some;
-  block = (not_foreign family front is.own, is.writes);
-  shown = is.shown;
-}
-
--- two texts round a byte, and what stands behind them
-pair_split : (text xs rest last ys left : List ℕ) (b : ℕ) → text ≡ xs ++ rest → rest ≡ b ∷ last → last ≡ ys ++ left
-    → text ≡ (xs ++ b ∷ ys) ++ left
-pair_split text xs rest last ys left b h is k = h ∙ ap (λ t. xs ++ t) (is ∙ ap (λ t. b ∷ t) k) ∙ sym (append_assoc xs (b ∷ ys) left)
+at_front family text front block rest is split = grind (arith, not_foreign)
 
 -- one address is a block
 pub single_front : (family : AddressFamily) (text : List ℕ) (a : IpAddr) (rest : List ℕ) (r : RangeValue)
@@ -161,7 +134,7 @@ range_found family text a rest last None h is k = tt
 range_found family text a rest last (Some (Range r, left)) h is k =
     at_front family text (h.front ++ dash ∷ k.front) (Range r) left.now
     (plain_range family h.front k.front a k.writes.0 r h.writes k.writes.1 k.writes.2)
-    (pair_split text h.front rest last k.front left.now dash h.split is k.split)
+    (grind (arith, append_assoc, h.split, k.split))
 range_found family text a rest last (Some (Prefix p, left)) h is k = absurd k
 
 pub prefix_found : (family : AddressFamily) (text : List ℕ) (a : IpAddr) (rest len : List ℕ)
@@ -171,5 +144,5 @@ prefix_found family text a rest len None h is k = tt
 prefix_found family text a rest len (Some (Prefix p, left)) h is k =
     at_front family text (h.front ++ slash ∷ k.front) (Prefix p) left.now
     (plain_prefix family h.front k.front a p h.writes k.writes.0 k.writes.1)
-    (pair_split text h.front rest len k.front left.now slash h.split is k.split)
+    (grind (arith, append_assoc, h.split, k.split))
 prefix_found family text a rest len (Some (Range r, left)) h is k = absurd k

@@ -1,5 +1,5 @@
 -- A text of a list of blocks has one list of values or one first fault.
-use Rattle.rpki_ip_block.proofs.Common.{Bool, Err, IsTrue, List, MatchResult, Ok, Option, Result, Some, false, inl, inr, subst, sym, true, ℕ, ◌↔◌, ◌∙◌, ◌≡◌, AddressFamily, FromStrError, HasFirstFault, HaveValues, elements, IfRefused, AnswersOrMemory, OrMemory, HasIpBlockFault, IsIpBlockText, HasBlocks, HasBlocksFault, HasElementFault, HasIpBlocks, HasIpBlocksFault, HasMismatch, IsElementText, IsFamilyOf, IsForeign, IpBlock, arith}
+use Rattle.rpki_ip_block.proofs.Common.{Bool, Err, IsTrue, List, MatchResult, Ok, Option, Result, Some, false, inl, inr, sym, true, ℕ, ◌↔◌, ◌∙◌, ◌≡◌, AddressFamily, FromStrError, HasFirstFault, HaveValues, elements, IfRefused, AnswersOrMemory, OrMemory, HasIpBlockFault, IsIpBlockText, HasBlocks, HasBlocksFault, HasElementFault, HasIpBlocks, HasIpBlocksFault, HasMismatch, IsElementText, IsFamilyOf, IsForeign, IpBlock, arith}
 use Rattle.rpki_text.proofs.ListLemmas.{AnswersOrMemory-from_found, HaveValues-one, first_fault_apart, same_first_fault}
 use Rattle.rpki_ip_block.proofs.TextLemmas.{block_one}
 
@@ -11,45 +11,39 @@ pub element_found : (family : AddressFamily) (text : List ℕ) (r : Result IpBlo
 element_found family text (Ok b) test same is h = ((λ foreign. let yes : test ≡ true = same.1 foreign in cc), h)
 element_found family text (Err e) test same is h = inr ((λ foreign. let yes : test ≡ true = same.1 foreign in cc), h)
 
--- what is one answer at most, value by value and fault by fault
-module _ {A E : Type 0} (Has : A → Type 0) (Fails : E → Type 0) (one : (r s : Result A E) → MatchResult r Has Fails → MatchResult s Has Fails → r ≡ s) where
-  pub same_value : (a b : A) → Has a → Has b → a ≡ b
-  same_value a b h k = let is = one (Ok a) (Ok b) h k in cc
-
-  pub value_apart : (a : A) (e : E) → Has a → Fails e → ⊥
-  value_apart a e h k = let is = one (Ok a) (Err e) h k in cc
-
-  pub same_fault : (d e : E) → Fails d → Fails e → d ≡ e
-  same_fault d e h k = let is = one (Err d) (Err e) h k in cc
-
--- so a text has one block at most, or one fault
+-- a text has one block at most, or one fault
 same_block : (w : Option AddressFamily) (text : List ℕ) (a b : IpBlock) → IsIpBlockText w text a
     → IsIpBlockText w text b → a ≡ b
-same_block w text = same_value (IsIpBlockText w text) (HasIpBlockFault w text) (block_one w text)
+same_block w text a b h k = let is = block_one w text (Ok a) (Ok b) h k in cc
 
 element_apart : (family : AddressFamily) (text : List ℕ) (a : IpBlock) (e : FromStrError) → IsElementText family text a
     → HasElementFault family text e → ⊥
 element_apart family text a e h (inl k) = h.0 k.0
-element_apart family text a e h (inr k) = value_apart (IsIpBlockText (Some family) text) (HasIpBlockFault (Some family) text) (block_one (Some family) text) a e h.1 k.1
+element_apart family text a e h (inr k) = let is = block_one (Some family) text (Ok a) (Err e) h.1 k.1 in cc
 
 same_element_fault : (family : AddressFamily) (text : List ℕ) (d e : FromStrError) → HasElementFault family text d
     → HasElementFault family text e → d ≡ e
 same_element_fault family text d e (inl h) (inl k) = h.1 ∙ sym k.1
 same_element_fault family text d e (inl h) (inr k) = absurd (k.0 h.0)
 same_element_fault family text d e (inr h) (inl k) = absurd (h.0 k.0)
-same_element_fault family text d e (inr h) (inr k) = same_fault (IsIpBlockText (Some family) text) (HasIpBlockFault (Some family) text) (block_one (Some family) text) d e h.1 k.1
+same_element_fault family text d e (inr h) (inr k) =
+    let is = block_one (Some family) text (Err d) (Err e) h.1 k.1 in cc
+
+ruleset one_element = (element_apart, same_element_fault)
 
 -- a list of one family writes one list of blocks at most
 pub same_blocks : (family : AddressFamily) (text : List ℕ) (a b : List IpBlock) → HasBlocks family text a
     → HasBlocks family text b → a ≡ b
-same_blocks family text = HaveValues-one (IsElementText family) (λ t a b h k. same_block (Some family) t a b h.1 k.1) (elements text)
+same_blocks family text =
+    HaveValues-one (IsElementText family) (λ t a b h k. same_block (Some family) t a b h.1 k.1) (elements text)
 
 -- or has one fault
 pub family_answers : {V : Type 0} (view : V → List IpBlock) (family : AddressFamily) (text : List ℕ)
     (r : Result V (OrMemory FromStrError))
     → MatchResult r (λ v. HasBlocks family text (view v)) (IfRefused (HasBlocksFault family text))
     → AnswersOrMemory view (HasBlocks family text) (HasBlocksFault family text) r
-family_answers view family text r found = search (arith, AnswersOrMemory-from_found, element_apart, first_fault_apart, same_blocks, same_element_fault, same_first_fault)
+family_answers view family text r found =
+    search (arith, AnswersOrMemory-from_found, first_fault_apart, one_element, same_blocks, same_first_fault)
 
 -- a list that tells no family has one
 pub same_family : (text : List ℕ) (f g : AddressFamily) → IsFamilyOf text f → IsFamilyOf text g → f ≡ g
@@ -62,11 +56,7 @@ ip_blocks_apart : (text : List ℕ) (a : List IpBlock) (e : FromStrError) → Ha
     → ⊥
 ip_blocks_apart text a e (f, is, h) (g, iz, k) =
     first_fault_apart (IsIpBlockText (Some f)) (HasMismatch f) (λ text a e h k. k.0 a h) (elements text) a e h
-    (subst (λ w. HasFirstFault (IsIpBlockText (Some w)) (HasMismatch w) (elements text) e) (same_family text g f iz is)
-    k)
-
-same_ip_fault : (text : List ℕ) (d e : FromStrError) → HasIpBlocksFault text d → HasIpBlocksFault text e → d ≡ e
-same_ip_fault text d e h h2 = grind arith
+    (rw (same_family text g f iz is) at k)
 
 pub ip_answers : {V : Type 0} (view : V → List IpBlock) (family : AddressFamily) (text : List ℕ)
     → IsFamilyOf text family → (r : Result V (OrMemory FromStrError))
@@ -75,4 +65,4 @@ pub ip_answers : {V : Type 0} (view : V → List IpBlock) (family : AddressFamil
     → AnswersOrMemory view (HasIpBlocks text) (HasIpBlocksFault text) r
 ip_answers view family text is r found =
     AnswersOrMemory-from_found view (HasIpBlocks text) (HasIpBlocksFault text) (same_ip_blocks text)
-    (ip_blocks_apart text) (same_ip_fault text) r (grind arith)
+    (ip_blocks_apart text) (λ d e h k. grind arith) r (grind arith)

@@ -1,12 +1,7 @@
 -- What is printed of a list of blocks is read as blocks of their bounds.
-use Rattle.rpki_ip_block.proofs.Common.{All, Contains, List, MatchResult, Result, Some, [], arith, codes, inl, inr, lit<, map, refl, sym, subst, ℕ, ◌++◌, ◌<◌, ◌∷◌, ◌≡◌, All-append, All-cons, All-head, All-nil, All-tail, Contains-append_left, AllByRecursion, flat_map, AddressFamily, Ipv4, Ipv6, FromStrError, IsElement, elements-joined, HaveValues, elements, IsMemory, AnswersOrMemory, OrMemory, IsIpBlockText, ip_bounds, HasBlocks, HasBlocksFault, HasIpBlocks, HasIpBlocksFault, IsElementText, IsFamilyOf, colon, IsBlockOf, block_list_text, ip_block_text, IpBlock}
+use Rattle.rpki_ip_block.proofs.Common.{All, List, MatchResult, Result, Some, [], arith, codes, inl, inr, lit<, map, refl, ℕ, ◌++◌, ◌<◌, ◌∷◌, ◌≡◌, All-append, All-cons, All-head, All-nil, All-tail, Contains-append_left, AllByRecursion, flat_map, AddressFamily, Ipv4, Ipv6, FromStrError, IsElement, elements-joined, HaveValues, elements, IsMemory, AnswersOrMemory, OrMemory, IsIpBlockText, ip_bounds, HasBlocks, HasBlocksFault, HasIpBlocks, HasIpBlocksFault, IsElementText, IsFamilyOf, colon, IsBlockOf, block_list_text, ip_block_text, IpBlock}
 use Rattle.rpki_ip_block.proofs.FrontLemmas.{IsPlainBlock, not_foreign}
 use Rattle.rpki_ip_block.proofs.PrintedLemmas.{written_of}
-
--- a printed block is an element
-block_element : (family : AddressFamily) (b : IpBlock) → IsBlockOf family b → IsElement (ip_block_text family b)
-block_element family b is =
-    let plain = (written_of family b is).plain in record { shown = plain.shown; some = plain.some }
 
 -- what is printed behind the first block of a list
 abbrev behind : AddressFamily → List IpBlock → List ℕ
@@ -33,28 +28,31 @@ pub record WritesAll (Has : List ℕ → IpBlock → Type 0) (texts : List (List
   pub have : HaveValues Has texts values
   pub bounds : map ip_bounds values ≡ map ip_bounds bs
 
-module _ (family : AddressFamily) (Has : List ℕ → IpBlock → Type 0) (own : (text : List ℕ) (b : IpBlock) → IsPlainBlock family text b → Has text b) where
+module _ (family : AddressFamily) (Has : List ℕ → IpBlock → Type 0)
+    (own : (text : List ℕ) (b : IpBlock) → IsPlainBlock family text b → Has text b) where
   all_written : (bs : List IpBlock) → All (IsBlockOf family) bs → WritesAll Has (map (ip_block_text family) bs) bs
   all_written [] is = record { values = []; have = tt; bounds = refl }
   all_written (b ∷ bs) is =
       let first = written_of family b (All-head (IsBlockOf family) b bs is) in
       let rest = all_written bs (All-tail (IsBlockOf family) b bs is) in
-      let one = first.bounds in
-      let more = rest.bounds in
       record {
         values = first.block ∷ rest.values;
         have = (own (ip_block_text family b) first.block first.plain, rest.have);
-        bounds = cc;
+        bounds = cc (first.bounds, rest.bounds);
       }
 
   all_elements : (bs : List IpBlock) → All (IsBlockOf family) bs
       → AllByRecursion IsElement (map (ip_block_text family) bs)
   all_elements [] is = tt
-  all_elements (b ∷ bs) is = (block_element family b (All-head (IsBlockOf family) b bs is), all_elements bs (All-tail (IsBlockOf family) b bs is))
+  all_elements (b ∷ bs) is =
+      let plain = (written_of family b (All-head (IsBlockOf family) b bs is)).plain in
+      let more = all_elements bs (All-tail (IsBlockOf family) b bs is) in
+      (record { shown = plain.shown; some = plain.some }, more)
 
   list_written : (text : List ℕ) (bs : List IpBlock) → All (IsBlockOf family) bs → text ≡ block_list_text family bs
       → WritesAll Has (elements text) bs
-  list_written text bs is printed = rw (printed, elements-joined (map (ip_block_text family) bs) (all_elements bs is)) (all_written bs is)
+  list_written text bs is printed =
+      rw (printed, elements-joined (map (ip_block_text family) bs) (all_elements bs is)) (all_written bs is)
 
 -- what is printed of blocks is a list of their family
 pub family_list : (family : AddressFamily) (text : List ℕ) (bs : List IpBlock) → All (IsBlockOf family) bs
@@ -72,12 +70,7 @@ told_v4 : (text : List ℕ) (bs : List IpBlock) → All (IsBlockOf Ipv4) bs → 
     → WritesList text bs
 told_v4 text bs is printed = record {
   family = Ipv4;
-  is =
-      inr (
-        subst (λ t. ¬ Contains t colon) (sym printed) (not_foreign Ipv4 (block_list_text Ipv4 bs)
-            (small_list bs is)),
-        refl,
-      );
+  is = inr (rw printed (not_foreign Ipv4 (block_list_text Ipv4 bs) (small_list bs is)), refl);
   writes = list_written Ipv4 (IsIpBlockText (Some Ipv4)) (λ text b plain. plain.writes) text bs is printed;
 }
 
@@ -85,31 +78,23 @@ pub list_told : (family : AddressFamily) (text : List ℕ) (bs : List IpBlock) �
     → text ≡ block_list_text family bs → WritesList text bs
 list_told Ipv4 text bs is printed = told_v4 text bs is printed
 list_told Ipv6 text [] is printed = told_v4 text [] (All-nil (IsBlockOf Ipv4)) printed
-list_told Ipv6 text (b ∷ bs) is printed = record {
-  family = Ipv6;
-  is =
-      inl (
-        subst (λ t. Contains t colon) (sym printed) (Contains-append_left (ip_block_text Ipv6 b) (behind Ipv6 bs) colon
-            (written_of Ipv6 b (All-head (IsBlockOf Ipv6) b bs is)).plain.own),
-        refl,
-      );
-  writes = list_written Ipv6 (IsIpBlockText (Some Ipv6)) (λ text b plain. plain.writes) text (b ∷ bs) is printed;
-}
+list_told Ipv6 text (b ∷ bs) is printed =
+    let own = (written_of Ipv6 b (All-head (IsBlockOf Ipv6) b bs is)).plain.own in
+    record {
+      family = Ipv6;
+      is = inl (rw printed (Contains-append_left (ip_block_text Ipv6 b) (behind Ipv6 bs) colon own), refl);
+      writes = list_written Ipv6 (IsIpBlockText (Some Ipv6)) (λ text b plain. plain.writes) text (b ∷ bs) is printed;
+    }
 
 -- so a reader that answers what a text writes reads it back
 module _ {V : Type 0} (view : V → List IpBlock) (text : List ℕ) (r : Result V (OrMemory FromStrError)) where
-  of_values : (bs values : List IpBlock) → map ip_bounds values ≡ map ip_bounds bs
-      → (r : Result V (OrMemory FromStrError)) → MatchResult r (λ v. view v ≡ values) IsMemory
-      → MatchResult r (λ v. map ip_bounds (view v) ≡ map ip_bounds bs) IsMemory
-  of_values bs values same r h = grind (arith)
-
   pub family_list_back : (family : AddressFamily)
       → AnswersOrMemory view (HasBlocks family text) (HasBlocksFault family text) r → (bs : List IpBlock)
       → All (IsBlockOf family) bs → text ≡ block_list_text family bs
       → MatchResult r (λ v. map ip_bounds (view v) ≡ map ip_bounds bs) IsMemory
   family_list_back family exact bs is printed =
       let all = family_list family text bs is printed in
-      of_values bs all.values all.bounds r (exact.each_value all.values all.have)
+      grind (arith, all.bounds, exact.each_value all.values all.have)
 
   pub ip_list_back : AnswersOrMemory view (HasIpBlocks text) (HasIpBlocksFault text) r
       → (family : AddressFamily) (bs : List IpBlock) → All (IsBlockOf family) bs → text ≡ block_list_text family bs
@@ -117,4 +102,4 @@ module _ {V : Type 0} (view : V → List IpBlock) (text : List ℕ) (r : Result 
   ip_list_back exact family bs is printed =
       let told = list_told family text bs is printed in
       let all = told.writes in
-      of_values bs all.values all.bounds r (exact.each_value all.values (told.family, told.is, all.have))
+      grind (arith, all.bounds, exact.each_value all.values (told.family, told.is, all.have))

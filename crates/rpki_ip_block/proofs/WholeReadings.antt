@@ -1,6 +1,5 @@
 -- What is read as blocks of IPv4, from texts and from octets, begins and ends with whole IPv4 addresses.
-use Rattle.rpki_ip_block.proofs.Common.{Err, List, Ok, Result, Some, [], arith, subst, sym, ℕ, ◌*◌, ◌+◌, ◌-◌, ◌/◌, ◌^◌, ◌∷◌, ◌≡◌, ◌≤◌, add-mul, mul-mod_left, mul_assoc, All-cons, All-nil, pow-add, pow_pos, IfOk, first_of, cleared, PrefixValue, IpAddr, V4, V6, family_of, AddressFamily, Ipv4, Ipv6, Bits, Each, big_endian, SaysPrefix, FromStrError, FamilyPrefix, IsFamilyPrefix, width, HaveValues, elements, AnswersOrMemory, OrMemory, IsIpBlockDer, IsIpBlockText, ip_bounds, prefix_bounds, HasBlocks, HasBlocksFault, HasIpBlocks, IsElementText, IsFamilyOf, IpBlock}
-use Rattle.std.specs.List.{All}
+use Rattle.rpki_ip_block.proofs.Common.{Err, List, Ok, Result, Some, [], arith, sym, ℕ, ◌*◌, ◌+◌, ◌-◌, ◌/◌, ◌^◌, ◌∷◌, ◌≡◌, ◌≤◌, add-mul, mul-mod_left, mul_assoc, All-cons, All-nil, pow-add, pow_pos, IfOk, first_of, cleared, PrefixValue, family_of, AddressFamily, Ipv4, Each, FromStrError, FamilyPrefix, IsFamilyPrefix, HaveValues, elements, AnswersOrMemory, OrMemory, IsIpBlockDer, IsIpBlockText, ip_bounds, prefix_bounds, HasBlocks, HasBlocksFault, HasIpBlocks, IsElementText, IsFamilyOf, IpBlock, All}
 use Rattle.rpki_ip.specs.Whole.{HasWholeBounds}
 use Rattle.rpki_ip_block.proofs.FormLemmas.{family_prefix}
 use Rattle.rpki_ip_block.proofs.ListLemmas.{same_family}
@@ -19,11 +18,9 @@ whole_prefix p n = whole_at p (n / 2 ^ (128 - p.len))
 -- so has the block of an IPv4 prefix
 pub whole_family_prefix : (p : FamilyPrefix) → IsFamilyPrefix p → family_of p.addr ≡ Ipv4
     → HasWholeBounds (prefix_bounds (record { first = first_of p.addr; len = p.len }))
-whole_family_prefix p is v4 = whole_prefix (record { first = first_of p.addr; len = p.len }) (first_of p.addr) (short p.addr is.short v4) (sym (family_prefix p is))
-  where
-    short : (a : IpAddr) → p.len ≤ width a → family_of a ≡ Ipv4 → p.len ≤ 32
-    short (V4 n) le e = le
-    short (V6 n) le e = absurd (let z : Ipv6 ≡ Ipv4 = e in cc)
+whole_family_prefix p is v4 =
+    whole_prefix (record { first = first_of p.addr; len = p.len }) (first_of p.addr) (grind arith)
+    (sym (family_prefix p is))
 
 -- so has a block that is read as one of IPv4
 pub whole_text : (text : List ℕ) (b : IpBlock) → IsIpBlockText (Some Ipv4) text b → HasWholeBounds (ip_bounds b)
@@ -37,7 +34,8 @@ pub whole_values : (Has : List ℕ → IpBlock → Type 0)
 whole_values Has is_text [] [] h = All-nil (λ b. HasWholeBounds (ip_bounds b))
 whole_values Has is_text [] (b ∷ blocks) h = absurd h
 whole_values Has is_text (text ∷ texts) [] h = All-nil (λ b. HasWholeBounds (ip_bounds b))
-whole_values Has is_text (text ∷ texts) (b ∷ blocks) h = grind (arith, All-cons, whole_text, whole_values Has is_text texts blocks h.1)
+whole_values Has is_text (text ∷ texts) (b ∷ blocks) h =
+    grind (arith, All-cons, whole_text, whole_values Has is_text texts blocks h.1)
 
 -- of one that is told to be of IPv4
 pub whole_list : (text : List ℕ) (blocks : List IpBlock) → HasBlocks Ipv4 text blocks
@@ -48,25 +46,24 @@ whole_list text = whole_values (IsElementText Ipv4) (λ t b h. h.1) (elements te
 pub whole_untold_list : (text : List ℕ) (blocks : List IpBlock) → IsFamilyOf text Ipv4 → HasIpBlocks text blocks
     → All (λ b. HasWholeBounds (ip_bounds b)) blocks
 whole_untold_list text blocks v4 (family, told, have) =
-    whole_values (IsIpBlockText (Some Ipv4)) (λ t b h. h) (elements text) blocks (subst (λ f. HaveValues (IsIpBlockText (Some f)) (elements text) blocks) (same_family text family Ipv4 told v4) have)
+    let same = same_family text family Ipv4 told v4 in
+    whole_values (IsIpBlockText (Some Ipv4)) (λ t b h. h) (elements text) blocks (rw same at have)
 
 -- so the reader of lists answers such blocks
 pub whole_family_list : {V : Type 0} (view : V → List IpBlock) (family : AddressFamily) (text : List ℕ)
     (r : Result V (OrMemory FromStrError)) → AnswersOrMemory view (HasBlocks family text) (HasBlocksFault family text) r
     → IfOk r (λ v. family ≡ Ipv4 → All (λ b. HasWholeBounds (ip_bounds b)) (view v))
-whole_family_list view family text (Ok v) exact = λ v4. whole_list text (view v) (subst (λ f. HasBlocks f text (view v)) v4 exact.found)
+whole_family_list view family text (Ok v) exact = λ v4. whole_list text (view v) (rw v4 at exact.found)
 whole_family_list view family text (Err e) exact = tt
 
 -- ---- octets
 
 -- what octets say with at most 32 bits has whole bounds
-whole_says : (b : Bits) (p : PrefixValue) → SaysPrefix 32 b p → HasWholeBounds (prefix_bounds p)
-whole_says b p says = whole_at p (big_endian b.octets / 2 ^ b.unused) says.short says.first
-
 whole_der : (bytes : List ℕ) (block : IpBlock) → IsIpBlockDer 32 bytes block → HasWholeBounds (ip_bounds block)
-whole_der bytes block h = grind (arith, whole_says)
+whole_der bytes block h = grind (arith, whole_at)
 
 pub whole_each : (bytes : List ℕ) (blocks : List IpBlock) → Each (IsIpBlockDer 32) bytes blocks
     → All (λ b. HasWholeBounds (ip_bounds b)) blocks
 whole_each bytes [] is = All-nil (λ b. HasWholeBounds (ip_bounds b))
-whole_each bytes (b ∷ blocks) (rest, (front, is, split), more) = grind (arith, All-cons, whole_der, whole_each rest blocks more)
+whole_each bytes (b ∷ blocks) (rest, (front, is, split), more) =
+    grind (arith, All-cons, whole_der, whole_each rest blocks more)

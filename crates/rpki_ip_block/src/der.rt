@@ -105,6 +105,7 @@ impl IpBlock {
     /// Appends the block in its own form: a Prefix as a BIT STRING, a Range as the SEQUENCE of its least address
     /// without all the zero bits at its end and its greatest without all the one bits at its end. `AllocError` where
     /// there is no memory for it; then the octets stay as they were.
+    #[tactic(auto, using(crate::proofs::BlockWritten::block_back))]
     pub fn encode<A: Allocator>(&self, out: &mut Vec<u8, A>) -> Result<(), AllocError>
         ensures ok { OnOk result (out.new.items ≡ out.old.items ++ ip_block_der self.now) }
         ensures err { OnErr result (out.new.items ≡ out.old.items) }

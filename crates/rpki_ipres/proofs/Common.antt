@@ -1,26 +1,27 @@
 -- What the proofs of this crate use of std, of the crates below and of its own definitions, passed on by one name.
-pub use Rattle.std.proofs.Common.{Err, List, None, Ok, Option, Result, Some, Vec, [], ap, arith, eqb, false, get_or, inl, inr, length, map, refl, subst, sym, take, true, ℕ, ⊎_elim, ◌%◌, ◌++◌, ◌+◌, ◌-◌, ◌<◌, ◌^◌, ◌↔◌, ◌∙◌, ◌∷◌, ◌≡◌, ◌≢◌, ◌≤◌}
+pub use Rattle.std.proofs.Common.{Err, List, None, Ok, Option, Result, Some, [], ap, arith, eqb, false, get_or, inl, inr, length, map, refl, subst, sym, take, true, ℕ, ⊎_elim, ◌%◌, ◌++◌, ◌+◌, ◌-◌, ◌<◌, ◌^◌, ◌↔◌, ◌∙◌, ◌∷◌, ◌≡◌, ◌≢◌, ◌≤◌}
 pub use Rattle.std.proofs.lemmas.Bool.{cases_order}
 pub use Rattle.std.proofs.lemmas.List.{append_assoc, append_cancel_left, get_or-map, length-append, length-map}
 pub use Rattle.std.proofs.lemmas.List.Elements.{All-from_recursion, All-map, All-take, recursion_from_All}
 pub use Rattle.std.proofs.lemmas.Nat.{pow_pos}
-pub use Rattle.std.proofs.lemmas.Result.{err_from_is_err_and}
+pub use Rattle.std.proofs.lemmas.Result.{IfOk-weaker, err_from_is_err_and}
 pub use Rattle.std.specs.List.{All, AllByRecursion}
-pub use Rattle.std.specs.Prelude.{IfSome}
-pub use Rattle.rpki_base.proofs.DerWriting.{one_content, written_alike}
+pub use Rattle.std.specs.Prelude.{IfOk, IfSome}
+pub use Rattle.rpki_base.proofs.DerReadings.{one_front_said}
+pub use Rattle.rpki_base.proofs.DerWriting.{content_shorter, one_content, written_alike}
 pub use Rattle.rpki_base.proofs.FamiliesGathering.{IsThere, each_there}
 pub use Rattle.rpki_base.proofs.FamiliesSaid.{one_families, stands_for, stood_for}
-pub use Rattle.rpki_base.proofs.SaidInModes.{IsSaidInModes, IsTakenInModes, front_short, taken_said, written_said}
+pub use Rattle.rpki_base.proofs.SaidInModes.{IsSaidInModes, front_short, taken_said, written_said}
 pub use Rattle.rpki_base.proofs.FamilyLemmas.{family_reading, family_written}
 pub use Rattle.rpki_base.specs.DerReading.{IsSequenceFrom, IsSequenceOf, values_of}
-pub use Rattle.rpki_base.specs.DerViews.{NotCanonicalOrMemory, TakesSaidOrMemory}
+pub use Rattle.rpki_base.specs.DerViews.{NotCanonicalOrMemory}
 pub use Rattle.rpki_base.specs.DerWriting.{octets_of_all, sequence_octets}
 pub use Rattle.rpki_base.specs.Families.{bits_of}
 pub use Rattle.rpki_base.specs.FamiliesDer.{ByFamily, IsFamilies, IsFamiliesInOrder, families_der, option_der}
 pub use Rattle.rpki_base.specs.FamilyDer.{IsFamilyDer, family_at, family_der}
 pub use Rattle.rpki_base.specs.declared.family.AddressFamily.{AddressFamily}
 pub use Rattle.rpki_base.specs.declared.family.AddressFamily.TheVariants.{Ipv4, Ipv6}
-pub use Rattle.rpki_chain.proofs.Ascending.{IsWritten, listed_are}
+pub use Rattle.rpki_chain.proofs.Ascending.{listed_are}
 pub use Rattle.rpki_chain.proofs.ClaimLemmas.{claims_decide, lists_one}
 pub use Rattle.rpki_chain.proofs.RunLists.{IsRunsOf-unique, IsRunsOfBlocks-bounds, same_numbers}
 pub use Rattle.rpki_chain.proofs.SetLemmas.{bounds_made}
@@ -32,23 +33,24 @@ pub use Rattle.rpki_chain.specs.declared.choice.ResourcesChoice.TheVariants.{Blo
 pub use Rattle.rpki_chains.specs.Sets.{Covers, IsChain, IsChainOf, IsRun}
 pub use Rattle.rpki_der.proofs.Modes.{tested_modal}
 pub use Rattle.rpki_der.proofs.Written.{value_is}
-pub use Rattle.rpki_der.specs.Der.{IsBytes, OneFront, Refines, Spells, Where, sequence_value}
+pub use Rattle.rpki_der.specs.Der.{OneFront, Refines, Spells, Where, sequence_value}
 unfoldable pub use Rattle.rpki_der.specs.Der.{header}
-pub use Rattle.rpki_der.specs.Reading.{IsModal, tagged_at}
-pub use Rattle.rpki_der.specs.Views.{is_strict, left}
+pub use Rattle.rpki_der.specs.Reading.{tagged_at}
 pub use Rattle.rpki_der.specs.declared.cursor.Cursor.{Cursor}
 pub use Rattle.rpki_der.specs.declared.error.DerError.{DerError}
 pub use Rattle.rpki_ip.proofs.DerModes.{bits_few_enough, within}
 pub use Rattle.rpki_ip.proofs.WholeLemmas.{whole_set}
 pub use Rattle.rpki_ip.specs.Whole.{HasWholeBounds, IsWhole}
+pub use Rattle.rpki_ip_block.proofs.BlockWritten.{block_written}
 pub use Rattle.rpki_ip_block.proofs.FormLemmas.{new_block_fits}
+pub use Rattle.rpki_ip_block.proofs.ListLemmas.{same_blocks, same_ip_blocks}
 pub use Rattle.rpki_ip_block.proofs.WholeReadings.{whole_each, whole_untold_list}
 pub use Rattle.rpki_ip_block.specs.BlockDer.{IsBlockWithin, IsIpBlockDer, IsSetIpBlock, ip_block_der}
 pub use Rattle.rpki_ip_block.specs.BlockFormLaws.{new_ip_block_bounds}
 pub use Rattle.rpki_ip_block.specs.BlockReading.{ip_block_at, ip_block_by, ip_blocks_at, next_ip_block_by}
 pub use Rattle.rpki_ip_block.specs.BlockReadingLaws.{blocks_reading, ip_block_has_octets, ip_block_reading}
 pub use Rattle.rpki_ip_block.specs.Blocks.{ip_bounds, new_ip_block}
-pub use Rattle.rpki_ip_block.specs.ListText.{HasBlocks, HasBlocksFault, HasIpBlocks, HasIpBlocksFault}
+pub use Rattle.rpki_ip_block.specs.ListText.{HasBlocks, HasIpBlocks}
 pub use Rattle.rpki_ip_block.specs.PrintedBlocks.{IsBlock, IsBlockOf}
 pub use Rattle.rpki_ip_block.specs.declared.block.IpBlock.{IpBlock}
 pub use Rattle.rpki_ip_block.specs.declared.block.IpBlock.TheVariants.{Prefix, Range}

@@ -1,8 +1,6 @@
 -- What is written of sets, alone and behind their family, stands for them, and octets stand for one set at most.
-use Rattle.rpki_ipres.proofs.Common.{List, [], ap, arith, length, refl, subst, sym, ℕ, ◌++◌, ◌+◌, ◌<◌, ◌^◌, ◌↔◌, ◌∙◌, ◌∷◌, ◌≡◌, ◌≢◌, append_assoc, append_cancel_left, length-append, one_content, written_said, family_reading, family_written, IsSequenceOf, bits_of, IsFamilyDer, family_at, family_der, AddressFamily, Holds, IsRunsOfBlocks, Runs, value_is, OneFront, header, sequence_value, tagged_at, IsIpBlockDer, ip_blocks_at, blocks_reading, ip_bounds, IsIpBlockSequence, IsIpFamily, ip_family_der, ip_set_der, IsFamilySet, IsIpSet}
+use Rattle.rpki_ipres.proofs.Common.{List, [], ap, arith, length, refl, subst, sym, ℕ, ◌++◌, ◌+◌, ◌<◌, ◌^◌, ◌↔◌, ◌∙◌, ◌∷◌, ◌≡◌, ◌≢◌, append_assoc, append_cancel_left, length-append, one_content, written_said, family_reading, family_written, IsSequenceOf, bits_of, IsFamilyDer, family_at, family_der, AddressFamily, Holds, IsRunsOfBlocks, Runs, value_is, OneFront, header, sequence_value, tagged_at, IsIpBlockDer, ip_blocks_at, blocks_reading, ip_bounds, IsIpBlockSequence, IsIpFamily, ip_family_der, ip_set_der, IsFamilySet, IsIpSet, one_front_said, content_shorter}
 use Rattle.rpki_der.proofs.Readings.{IsTagged, one_front, tagged_reading}
-use Rattle.rpki_base.proofs.DerReadings.{one_front_said}
-use Rattle.rpki_base.proofs.DerWriting.{content_shorter}
 use Rattle.rpki_ipres.proofs.Modes.{set_in_modes}
 use Rattle.rpki_ipres.proofs.SetTextLemmas.{alike_as_numbers, is_ip_set}
 use Rattle.rpki_ipres.proofs.SetWritten.{one_set, set_alike}
@@ -34,22 +32,18 @@ family_says family [] is some short = absurd (some refl)
 family_says family (run ∷ set) is some short =
     let content : List ℕ = family_der family ++ ip_set_der (run ∷ set) in
     let small : length content < 2 ^ 64 = content_shorter content short in
-    let parts : length content ≡ length (family_der family) + length (ip_set_der (run ∷ set)) = length-append (family_der family) (ip_set_der (run ∷ set)) in (
-      content,
-      value_is 48 content (omega arith) small,
-      (
-        ip_set_der (run ∷ set),
-        (family_der family, family_written family, refl),
-        sequence_says family (run ∷ set) is (omega (arith, small, parts)),
-      ),
-    )
+    let parts = length-append (family_der family) (ip_set_der (run ∷ set)) in
+    let says = sequence_says family (run ∷ set) is (omega (arith, small, parts)) in
+    let spelled = value_is 48 content (omega arith) small in
+    (content, spelled, (ip_set_der (run ∷ set), (family_der family, family_written family, refl), says))
 
 -- octets begin with at most one such value, which stands for one family and one set
 pub one_family : OneFront IsIpFamily
-one_family a b x y r s (content, is, (rest, (front, first, split), says)) (other, also, (more, (back, second, parts), tell)) same =
-    let whole = one_front (IsTagged 48) (tagged_at 48) (tagged_reading 48) a b content other r s is also same in
-    let family = one_front IsFamilyDer family_at family_reading front back x.0 y.0 rest more first second (sym split ∙ whole.1 ∙ parts) in
-    let own : IsIpBlockSequence (bits_of y.0) rest x.1 = subst (λ (f : AddressFamily). IsIpBlockSequence (bits_of f) rest x.1) family.1 says in
+one_family a b x y r s (body, is, (rest, (head, one, split), says)) (other, also, (more, (back, two, parts), tell)) e =
+    let whole = one_front (IsTagged 48) (tagged_at 48) (tagged_reading 48) a b body other r s is also e in
+    let family = one_front IsFamilyDer family_at family_reading head back x.0 y.0 rest more one two
+    (sym split ∙ whole.1 ∙ parts) in
+    let own = subst (λ (f : AddressFamily). IsIpBlockSequence (bits_of f) rest x.1) family.1 says in
     let set = one_sequence (bits_of y.0) rest more x.1 y.1 [] [] own tell (ap (λ (t : List ℕ). t ++ []) family.2) in
     (whole.0, (λ i. (family.1 i, set.1 i)), whole.2)
 

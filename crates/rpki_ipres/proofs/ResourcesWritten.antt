@@ -1,7 +1,6 @@
 -- What is written of resources, alone and by families, stands for them, and octets stand for one
 -- claim at most.
-use Rattle.rpki_ipres.proofs.Common.{Blocks, Inherit, List, None, Option, Some, [], ap, arith, length, refl, subst, ℕ, ◌++◌, ◌<◌, ◌^◌, ◌↔◌, ◌≡◌, ◌≢◌, append_cancel_left, one_content, one_families, stands_for, written_said, IsSequenceOf, bits_of, ByFamily, option_der, AddressFamily, Ipv4, Ipv6, lists_one, IsChoiceOf, Claim, claim_of, IsRunsOfBlocks, Runs, ResourcesChoice, Missing, OneFront, header, IsIpBlockDer, ip_bounds, IpBlock, IsFamilyClaim, IsIpClaim, if_present, IsIpFamilies, IsIpResources, SaysClaimOf, ip_families_der, ip_member_der, ip_resources_at, ip_resources_der, resources_reading, ip_family_der}
-use Rattle.rpki_base.proofs.DerReadings.{one_front_said}
+use Rattle.rpki_ipres.proofs.Common.{IfSome, Blocks, Inherit, List, None, Option, Some, [], ap, arith, length, refl, ℕ, ◌++◌, ◌<◌, ◌^◌, ◌↔◌, ◌≡◌, ◌≢◌, append_cancel_left, one_content, one_families, stands_for, written_said, IsSequenceOf, bits_of, ByFamily, option_der, AddressFamily, Ipv4, Ipv6, lists_one, IsChoiceOf, Claim, claim_of, IsRunsOfBlocks, Runs, ResourcesChoice, Missing, OneFront, header, IsIpBlockDer, ip_bounds, IpBlock, IsFamilyClaim, IsIpClaim, if_present, IsIpFamilies, IsIpResources, SaysClaimOf, ip_families_der, ip_member_der, ip_resources_at, ip_resources_der, resources_reading, ip_family_der, one_front_said}
 use Rattle.rpki_ipres.proofs.FamilyModes.{G, are_present, families_in_modes}
 use Rattle.rpki_ipres.proofs.Modes.{claim_in_modes}
 use Rattle.rpki_ipres.proofs.SetWritten.{one_set, set_alike}
@@ -13,12 +12,13 @@ one_claim = lists_one (IsRunsOfBlocks ip_bounds) one_set
 
 -- octets begin with the resources of at most one claim
 pub one_resources : (limit : ℕ) → OneFront (IsIpResources limit)
-one_resources limit = one_front_said (IsChoiceOf (IsSequenceOf (IsIpBlockDer limit))) SaysClaimOf (ip_resources_at limit) (resources_reading limit) one_claim
+one_resources limit = one_front_said _ SaysClaimOf (ip_resources_at limit) (resources_reading limit) one_claim
 
 -- and with at most one SEQUENCE of families, which have one claim each
 pub one_of_families : OneFront IsIpFamilies
 one_of_families =
-    one_families (λ family. IsChoiceOf (IsSequenceOf (IsIpBlockDer (bits_of family)))) SaysClaimOf (λ family. ip_resources_at (bits_of family)) (λ family. resources_reading (bits_of family)) one_claim
+    one_families (λ family. IsChoiceOf (IsSequenceOf (IsIpBlockDer (bits_of family)))) SaysClaimOf
+    (λ family. ip_resources_at (bits_of family)) (λ family. resources_reading (bits_of family)) one_claim
 
 -- what is written of resources of a family is the resources
 pub resources_written : (family : AddressFamily) (claim : Claim) → IsFamilyClaim family claim → claim ≢ Missing
@@ -53,26 +53,19 @@ pub resources_as_claims : (a b : Claim) → IsIpClaim a → IsIpClaim b
 resources_as_claims a b is also = (resources_alike a b is also, ap ip_resources_der)
 
 -- and so are those that are written alike behind one family
-members_alike : (family : AddressFamily) (a b : Option Claim)
-    → ((x y : Claim) → a ≡ Some x → b ≡ Some y → ip_resources_der x ≡ ip_resources_der y → x ≡ y)
+members_alike : (family : AddressFamily) (a b : Option Claim) → IfSome a IsIpClaim → IfSome b IsIpClaim
     → option_der ip_resources_der family a ≡ option_der ip_resources_der family b → a ≡ b
 unfolding header
-members_alike family None None one same = refl
-members_alike family None (Some y) one same = absurd cc
-members_alike family (Some x) None one same = absurd cc
-members_alike family (Some x) (Some y) one same = search (arith, append_cancel_left, one_content)
-
--- the claim that is there is the claim
-present_is : (a x : Claim) → if_present a ≡ Some x → a ≡ x
-present_is a x there = grind arith
+members_alike family None None is also same = refl
+members_alike family None (Some y) is also same = absurd cc
+members_alike family (Some x) None is also same = absurd cc
+members_alike family (Some x) (Some y) is also same = search (arith, append_cancel_left, one_content, resources_alike)
 
 pub members_as_claims : (family : AddressFamily) (a b : Claim) → IsIpClaim a → IsIpClaim b
     → (ip_member_der family a ≡ ip_member_der family b) ↔ (a ≡ b)
-members_as_claims family a b is also = (
-  λ same. same_present a b (members_alike family (if_present a) (if_present b) (λ x y first second alike.
-      resources_alike x y (subst IsIpClaim (present_is a x first) is) (subst IsIpClaim (present_is b y second) also) alike) same),
-  ap (ip_member_der family),
-)
+members_as_claims family a b is also =
+    let alike = members_alike family (if_present a) (if_present b) (grind arith) (grind arith) in
+    (λ same. same_present a b (alike same), ap (ip_member_der family))
 
 -- a set behind its family is written as the resources that list it
 pub set_as_member : (family : AddressFamily) (set : Runs)
@@ -87,8 +80,8 @@ pub families_as_claims : (v4 v6 w4 w6 : Claim) → IsFamilyClaim Ipv4 v4 → IsF
 families_as_claims v4 v6 w4 w6 first second some third fourth more short = (
   λ same. (
       let is = claims_written v4 v6 first second some short in
-      let also = claims_written w4 w6 third fourth more (subst (λ (t : List ℕ). length t < 2 ^ 64) same short) in
-      let one = one_of_families (ip_families_der v4 v6) (ip_families_der w4 w6) (if_present v4, if_present v6) (if_present w4, if_present w6) [] [] is also (ap (λ (t : List ℕ). t ++ []) same) in
+      let also = claims_written w4 w6 third fourth more (rw same at short) in
+      let one = one_of_families _ _ _ _ [] [] is also (ap (λ (t : List ℕ). t ++ []) same) in
       (same_present v4 w4 (ap (λ p. p.0) one.1), same_present v6 w6 (ap (λ p. p.1) one.1))
       ),
   λ same. λ i. ip_families_der (same.0 i) (same.1 i),

@@ -1,9 +1,8 @@
 -- What is written of sets of addresses, and that it is read back.
-use Rattle.rpki_ipres.proofs.Common.{List, [], ap, arith, eqb, false, length, map, refl, sym, ℕ, ◌++◌, ◌↔◌, ◌∙◌, ◌∷◌, ◌≡◌, ◌≤◌, recursion_from_All, pow_pos, AllByRecursion, one_content, written_alike, octets_of_all, sequence_octets, bits_of, family_der, AddressFamily, Ipv4, Ipv6, IsRunsOf-unique, Holds, IsRunsOfBlocks, Runs, Covers, sequence_value, HasWholeBounds, new_block_fits, IsBlockWithin, IsIpBlockDer, ip_block_der, new_ip_block_bounds, ip_block_at, ip_block_has_octets, ip_block_reading, ip_bounds, new_ip_block, IsBlock, IpBlock, ip_family_der, ip_run_der, ip_set_der, IsFamilySet, IsIpSet}
+use Rattle.rpki_ipres.proofs.Common.{List, [], ap, arith, eqb, false, length, map, refl, sym, ℕ, ◌++◌, ◌↔◌, ◌∙◌, ◌∷◌, ◌≡◌, ◌≤◌, recursion_from_All, pow_pos, AllByRecursion, one_content, written_alike, octets_of_all, sequence_octets, bits_of, family_der, AddressFamily, Ipv4, Ipv6, IsRunsOf-unique, Holds, IsRunsOfBlocks, Runs, Covers, sequence_value, new_block_fits, IsBlockWithin, IsIpBlockDer, ip_block_der, new_ip_block_bounds, ip_block_at, ip_block_has_octets, ip_block_reading, ip_bounds, new_ip_block, IsBlock, IpBlock, ip_family_der, ip_run_der, ip_set_der, IsFamilySet, IsIpSet, block_written}
 use Rattle.std.proofs.lemmas.List.Folds.{flat_map-map}
 use Rattle.rpki_ip.specs.RangeDer.{IsRangeWithin}
 use Rattle.rpki_ip.proofs.DerWritten.{few_bits}
-use Rattle.rpki_ip_block.proofs.BlockWritten.{block_written}
 use Rattle.rpki_ipres.proofs.SetTextLemmas.{alike_as_numbers, blocks_bounds}
 use Rattle.rpki_ipres.proofs.WholeLemmas.{whole_runs}
 
@@ -18,16 +17,12 @@ pub made_within : (limit : ℕ) (run : ℕ × ℕ) (block : IpBlock) → limit �
     → IsRunWithin limit run → IsBlockWithin limit block
 made_within limit run block le bounds fits is = grind (arith, few_bits, pow_pos)
 
--- what is written of it is the block of the run
-run_written : (limit : ℕ) (run : ℕ × ℕ) → limit ≤ 128 → IsRunWithin limit run
-    → IsIpBlockDer limit (ip_run_der run) (new_ip_block run)
-run_written limit run le is = block_written limit (new_ip_block run) le (made_within limit run (new_ip_block run) le (new_ip_block_bounds run) (new_block_fits run is.is_range.ordered is.is_range.below) is)
-
--- the same of all runs
+-- what is written of runs is their blocks
 runs_written : (limit : ℕ) (set : Runs) → limit ≤ 128 → AllByRecursion (IsRunWithin limit) set
     → AllByRecursion (λ x. IsIpBlockDer limit (ip_block_der x) x) (map new_ip_block set)
 runs_written limit [] le all = tt
-runs_written limit (run ∷ set) le all = (run_written limit run le all.0, runs_written limit set le all.1)
+runs_written limit (run ∷ set) le all =
+    (grind (arith, block_written, made_within, new_block_fits, new_ip_block_bounds), runs_written limit set le all.1)
 
 -- what is written of the blocks of runs is what is written of the runs
 pub written_as_runs : (set : Runs) (blocks : List IpBlock) → blocks ≡ map new_ip_block set
@@ -49,8 +44,7 @@ one_set blocks a b = IsRunsOf-unique (Covers ip_bounds blocks) a b
 pub family_runs : (family : AddressFamily) (set : Runs) → IsFamilySet family set
     → AllByRecursion (IsRunWithin (bits_of family)) set
 family_runs Ipv4 set (is, whole) = recursion_from_All (IsRunWithin 32) set (λ k d small.
-    let bounds : HasWholeBounds _ = whole_runs set is.are_runs whole k d small in
-    record { is_range = record { ordered = is.are_runs.ordered k d small; below = (let most = is.below k d small in omega (arith, most)) }; zeros = bounds.begins; ones = bounds.ends })
+    grind (arith, is.are_runs.ordered k d small, is.below k d small, whole_runs set is.are_runs whole k d small))
 family_runs Ipv6 set is = grind (arith, recursion_from_All)
 
 -- sets that are written alike are one

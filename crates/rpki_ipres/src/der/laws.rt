@@ -104,7 +104,7 @@ pub fn faults()
 {}
 
 /// Octets are refused as not canonical by a strict cursor alone.
-#[tactic(auto, using(crate::proofs::DerFaults::never_families, crate::proofs::DerFaults::never_resources, crate::proofs::DerFaults::never_set))]
+#[tactic(auto, using(crate::proofs::DerFaults::all_names, crate::proofs::DerFaults::resources_names, crate::proofs::DerFaults::sequence_names))]
 pub fn not_canonical()
     ensures set { (limit : ℕ) (bytes : List ℕ) → ip_blocks_at limit bytes ≢ Err NotCanonical }
     ensures resources { (limit : ℕ) (bytes : List ℕ) →

@@ -192,6 +192,7 @@ impl<A: Allocator> IpResources<A> {
     /// Appends the SEQUENCE of the families that have resources, IPv4 first, each as `encode_family` appends it. One of
     /// them at least isn't missing. `AllocError` where there is no memory for all of it; then the octets stay as they
     /// were.
+    #[tactic(auto, using(crate::proofs::FamilyWritten::two_written))]
     pub fn encode_families<B: Allocator>(
         v4: &IpResources<A>,
         v6: &IpResources<A>,

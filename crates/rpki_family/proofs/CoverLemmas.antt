@@ -1,5 +1,5 @@
 -- Covers of sets of addresses: those of their runs, one after the other.
-use Rattle.rpki_family.proofs.Common.{List, None, Option, Some, [], ap, arith, inl, inr, length, map, refl, subst, ℕ, ◌*◌, ◌++◌, ◌-◌, ◌/◌, ◌<◌, ◌^◌, ◌↔◌, ◌∷◌, ◌≡◌, ◌≤◌, ◌⊎◌, map-append, All-head, All-map, All-tail, All, Holds, Runs, IsWithin, IsShortestCover, IsV4CoverList, widened, HasWholeBounds, IsWhole, ip_bounds, IpBlock, IsIpSet, Ipv4Of, runs_cover}
+use Rattle.rpki_family.proofs.Common.{List, Option, [], arith, inl, inr, map, refl, ℕ, ◌*◌, ◌++◌, ◌-◌, ◌/◌, ◌<◌, ◌^◌, ◌↔◌, ◌∷◌, ◌≡◌, ◌≤◌, ◌⊎◌, map-append, All-head, All-map, All-tail, All, Holds, Runs, IsWithin, IsShortestCover, IsV4CoverList, widened, HasWholeBounds, IsWhole, ip_bounds, IpBlock, IsIpSet, Ipv4Of, runs_cover}
 use Rattle.std.specs.Iterator.{YieldsFirst, MakesProgress, item_count}
 use Rattle.std.proofs.lemmas.List.{get_or-map, length-map}
 use Rattle.std.proofs.lemmas.Nat.{pow_pos}
@@ -25,10 +25,7 @@ abbrev AreRuns : ℕ → Runs → Type 0
 AreRuns w runs = IsChain (λ b. b) (λ b. b) runs × All (λ b. b.1 < 2 ^ w) runs
 
 ip_runs : (set : Runs) → IsIpSet set → AreRuns 128 set
-ip_runs set is = (
-  record { ordered = is.are_runs.ordered; apart = is.are_runs.apart; new_form = λ k d small. refl },
-  λ k d small. (let most = is.below k d small in omega (arith, most)),
-)
+ip_runs set is = grind (arith)
 
 -- the cover lists of the runs are that of the set
 runs_covered : (w : ℕ) (runs : Runs) → AreRuns w runs → CoverOf w (Holds runs) (runs_cover w runs)
@@ -43,8 +40,7 @@ runs_covered w (r ∷ rs) (chain, below) =
 
 -- whose numbers have w bits
 runs_below : (w : ℕ) (runs : Runs) → AreRuns w runs → (n : ℕ) → Holds runs n → n < 2 ^ w
-runs_below w runs are n (k, b, small, here, within) =
-    omega (arith, are.1 k b small, ap (λ (x : ℕ × ℕ). x.1) here, within.1)
+runs_below w runs are n (k, b, small, here, within) = grind (arith, are.1 k b small)
 
 -- so they are the set's shortest cover
 pub set_covered : (set : Runs) → IsIpSet set → IsShortestCover 128 (Holds set) (runs_cover 128 set)
@@ -76,38 +72,31 @@ narrow_runs runs whole (chain, below) = (
 
 -- an address is in a run exactly where its least number is
 narrow_within : (b : ℕ × ℕ) (a : ℕ) → HasWholeBounds b → IsWithin (narrowed b) a ↔ IsWithin b (a * 2 ^ 96)
-narrow_within b a whole = (
-  λ h. (omega (arith, whole.begins, h.0), omega (arith, whole.ends, h.1)),
-  λ h. (omega (arith, whole.begins, h.0), omega (arith, whole.ends, h.1)),
-)
+narrow_within b a whole = grind (arith, whole.begins, whole.ends)
 
 narrow_holds : (runs : Runs) → All HasWholeBounds runs → (a : ℕ) → Holds (map narrowed runs) a ↔ Ipv4Of runs a
-narrow_holds runs whole a = (
-  (λ h. let (k, b, small, here, within) = (Holds-map narrowed runs a).0 h in (k, b, small, here, (narrow_within b a (subst HasWholeBounds here (whole k b small))).0 within)),
-  (λ (k, b, small, here, within). (Holds-map narrowed runs a).1 (k, b, small, here, (narrow_within b a (subst HasWholeBounds here (whole k b small))).1 within)),
-)
+narrow_holds runs whole a = grind (arith, Holds-map narrowed runs a, narrow_within)
 
 -- the cover lists at both widths are one
 narrow_cover : (runs : Runs) → All HasWholeBounds runs
     → runs_cover 128 runs ≡ map widened (runs_cover 32 (map narrowed runs))
 narrow_cover [] whole = refl
 narrow_cover (r ∷ rs) whole =
-    let here : HasWholeBounds r = All-head HasWholeBounds r rs whole in
-    rw (whole_list r.0 r.1 here.begins here.ends, narrow_cover rs (All-tail HasWholeBounds r rs whole), map-append)
+    let here = All-head HasWholeBounds r rs whole in
+    let rest = narrow_cover rs (All-tail HasWholeBounds r rs whole) in
+    grind (arith, whole_list r.0 r.1 here.begins here.ends, map-append, rest)
 
 -- so the shortest cover of a set of whole addresses is also that of its IPv4 addresses
 pub v4_covered : (set : Runs) → IsIpSet set → IsWhole (Holds set) → IsV4CoverList (Ipv4Of set) (runs_cover 128 set)
 v4_covered set is whole =
     let bounds = whole_runs set is.are_runs whole in
-    let short = map narrowed set in
     let runs = narrow_runs set bounds (ip_runs set is) in
     let holds = narrow_holds set bounds in
-    let cover = cover_same 32 (Holds short) (Ipv4Of set) (runs_cover 32 short) (λ a. (holds a).0) (λ a. (holds a).1) (runs_covered 32 short runs) in
-    record {
-      short = runs_cover 32 short;
-      lists = (shortest_cover_from 32 (Ipv4Of set) (runs_cover 32 short) cover (λ a h. runs_below 32 short runs a ((holds a).1 h))).list;
-      widens = narrow_cover set bounds;
-    }
+    let covered = runs_covered 32 (map narrowed set) runs in
+    let cover = cover_same 32 _ (Ipv4Of set) _ (λ a. (holds a).0) (λ a. (holds a).1) covered in
+    let below = λ (a : ℕ) (h : Ipv4Of set a). runs_below 32 (map narrowed set) runs a ((holds a).1 h) in
+    let shortest = shortest_cover_from 32 (Ipv4Of set) _ cover below in
+    record { short = _; lists = shortest.list; widens = narrow_cover set bounds }
 
 -- ---- the iterators
 
@@ -115,7 +104,8 @@ v4_covered set is whole =
 pub block_below : (b : IpBlock) → IsBlock b → (ip_bounds b).1 < 2 ^ 128
 block_below (Prefix p) is =
     let all = multiple_smaller (128 - p.len) 128 (2 ^ 128) (omega arith) (multiple_self (2 ^ 128)) in
-    let fits = multiple_gap (2 ^ (128 - p.len)) p.first (2 ^ 128) (mod_multiple (128 - p.len) p.first is.aligned) all is.below in
+    let whole = mod_multiple (128 - p.len) p.first is.aligned in
+    let fits = multiple_gap (2 ^ (128 - p.len)) p.first (2 ^ 128) whole all is.below in
     omega (arith, fits, pow_pos (128 - p.len))
 block_below (Range r) is = is.below
 
@@ -124,12 +114,11 @@ pub set_step : (o : Option PrefixValue) (old current new rest : List PrefixValue
     → b.1 < 2 ^ 128 → IsShortestCover 128 (IsWithin b) current
     → YieldsFirst (λ (ps : List PrefixValue). ps) current o new → old ≡ cover_list 128 b.0 b.1 ++ rest
     → YieldsFirst (λ (ps : List PrefixValue). ps) old o (new ++ rest)
-set_step None old current new rest b order below is none e =
+set_step o old current new rest b order below is first e =
+    let same = is.only (cover_list 128 b.0 b.1) (range_cover 128 b.0 b.1 below).list in
     -- the cover list of a range has a prefix
-    let (p, (k, small, here), inside) = (is.union b.0).0 (omega arith, order) in
-    absurd (omega (arith, small, ap length none.0))
-set_step (Some p) old current new rest b order below is first e =
-    rw (e, is.only (cover_list 128 b.0 b.1) (range_cover 128 b.0 b.1 below).list, first)
+    let some = (is.union b.0).0 (omega arith, order) in
+    grind (arith, same, some)
 
 -- an iterator that yields the first of its prefixes gets on
 pub makes_progress : (can : List PrefixValue → Type 0) → ((ps : List PrefixValue) → can ps)

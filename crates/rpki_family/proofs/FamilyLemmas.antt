@@ -1,5 +1,5 @@
 -- What is of a family: by cases, IPv4 where addresses are whole, and IPv6 where there is nothing to show.
-use Rattle.rpki_family.proofs.Common.{List, map, subst, sym, ◌≡◌, All, arith, family_of, Holds, IsRunsOfBlocks, Runs, HasWholeBounds, ip_bounds, new_ip_block, prefix_bounds, IpBlock, IsFamilySet, IsIpSet, HasBoundsIn, IsCoverListIn, runs_cover}
+use Rattle.rpki_family.proofs.Common.{List, map, ◌≡◌, All, arith, family_of, Holds, IsRunsOfBlocks, Runs, ip_bounds, new_ip_block, prefix_bounds, IpBlock, IsFamilySet, IsIpSet, HasBoundsIn, IsCoverListIn, runs_cover}
 use Rattle.rpki_base.specs.declared.family.AddressFamily.{AddressFamily}
 use Rattle.rpki_base.specs.declared.family.AddressFamily.TheVariants.{Ipv4, Ipv6}
 use Rattle.rpki_chain.specs.Claims.{Claim}
@@ -27,7 +27,7 @@ cover_in family blocks set whole is = grind (arith, whole_cover blocks set)
 -- the blocks of a set of a family
 pub blocks_in : (family : AddressFamily) (xs : List IpBlock) (set : Runs) → xs ≡ map new_ip_block set
     → IsFamilySet family set → All (λ b. HasBoundsIn family (ip_bounds b)) xs
-blocks_in Ipv4 xs set made is = subst (All (λ b. HasWholeBounds (ip_bounds b))) (sym made) (λ k d small. (blocks_of_family Ipv4 set is k d small).1)
+blocks_in Ipv4 xs set made is = rw made (λ k d small. (blocks_of_family Ipv4 set is k d small).1)
 blocks_in Ipv6 xs set made is = λ k d small. tt
 
 -- a set's shortest cover

@@ -52,6 +52,7 @@ impl<F: Family> FamilyBlock<F> {
     }
 
     /// The addresses of a prefix, or None where the prefix is of the other family.
+    #[tactic(auto, using(crate::proofs::FamilyLemmas::prefix_in))]
     pub fn from_prefix(prefix: FamilyPrefix) -> Option<FamilyBlock<F>>
         ensures { IsPrefixBlock F.FAMILY prefix result }
     {
@@ -156,6 +157,7 @@ impl<F: Family> FromStr for FamilyBlock<F> {
 
     ghost from_str_gives = { ReadsFamilyBlock F.FAMILY };
 
+    #[tactic(auto, using(rpki_ip_block::proofs::WholeReadings::whole_text))]
     fn from_str(text: &str) -> Result<FamilyBlock<F>, FromStrError> {
         match read_block(F::FAMILY, text) {
             Ok(block) => Ok(FamilyBlock::of(block)),

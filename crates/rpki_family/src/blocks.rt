@@ -102,6 +102,7 @@ impl<F: Family, A: Allocator> FamilyBlocks<F, A> {
     }
 
     /// The set as one of addresses of either family.
+    #[tactic(auto, using(crate::proofs::FamilyLemmas::is_family_set))]
     pub fn ip_blocks(&self) -> &IpBlocks<A>
         ensures value { result.now ≡ self.now }
         ensures set { IsFamilySet F.FAMILY self.now }
@@ -145,6 +146,7 @@ impl<F: Family, A: Allocator> FamilyBlocks<F, A> {
     }
 
     /// The blocks of the set one by one, ascending: its runs, each a prefix where it is one, and else a range.
+    #[tactic(auto, using(crate::proofs::FamilyLemmas::blocks_in))]
     pub fn iter(&self) -> BlockIter<'_, FamilyBlock<F>>
         ensures blocks { map ip_bounds result ≡ self.now }
         ensures made { result ≡ map new_ip_block self.now }

@@ -66,6 +66,7 @@ impl<F: Family> Iterator for SetPrefixes<'_, F> {
 impl<F: Family, A: Allocator> FamilyBlocks<F, A> {
     /// The shortest list of prefixes that covers the set, ascending: all prefixes inside it that have length 0 or whose
     /// parent, which is one bit shorter, isn't inside. In IPv4 their lengths are at most 32.
+    #[tactic(auto, using(crate::proofs::CoverLemmas::set_covered, crate::proofs::FamilyLemmas::covered_in))]
     pub fn prefixes(&self) -> SetPrefixes<'_, F>
         ensures cover { IsShortestCover 128 (Holds self.now) result }
         ensures v4 { IsCoverListIn F.FAMILY self.now result }

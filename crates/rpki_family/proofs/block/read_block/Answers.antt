@@ -1,9 +1,9 @@
-use Rattle.rpki_family.proofs.Common.{subst, sym}
-use Rattle.rpki_family.specs.FamilyText.{ReadsFamilyBlock}
 use Rattle.rpki_family.proofs.block.read_block.Goals as goal
 
 pub returns-in-Ipv4 : goal.returns-in-Ipv4
-returns-in-Ipv4 c = subst (λ f. ReadsFamilyBlock f c.args.text.now c.from_v4_str.result) (sym c.in-Ipv4.is) (record { exact = c.from_v4_str.ensures.exact; reads_back = c.from_v4_str.ensures.reads_back })
+returns-in-Ipv4 c =
+    rw c.in-Ipv4.is (record { exact = c.from_v4_str.ensures.exact; reads_back = c.from_v4_str.ensures.reads_back })
 
 pub returns-in-Ipv6 : goal.returns-in-Ipv6
-returns-in-Ipv6 c = subst (λ f. ReadsFamilyBlock f c.args.text.now c.from_v6_str.result) (sym c.in-Ipv6.is) (record { exact = c.from_v6_str.ensures.exact; reads_back = c.from_v6_str.ensures.reads_back })
+returns-in-Ipv6 c =
+    rw c.in-Ipv6.is (record { exact = c.from_v6_str.ensures.exact; reads_back = c.from_v6_str.ensures.reads_back })

@@ -36,5 +36,5 @@ nothing a = grind (arith)
 
 pub none_where_same : (a b rest : Triple) → IsDifferenceOf a b rest → a ≡ b → rest ≡ no_resources
 none_where_same a b rest h same =
-    let no_rest : IsDifferenceOf a a no_resources = record { asn = nothing a.asn; ipv4 = nothing a.ipv4; ipv6 = nothing a.ipv6 } in
-    one_difference a b rest no_resources h (rw (← same) no_rest)
+    one_difference a b rest no_resources h
+    (rw same (record { asn = nothing b.asn; ipv4 = nothing b.ipv4; ipv6 = nothing b.ipv6 }))

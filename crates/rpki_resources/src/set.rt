@@ -216,6 +216,7 @@ impl<A: Allocator> ResourceSet<A> {
     }
 
     /// The set of what one or the other has. `AllocError` where there is no memory for it.
+    #[tactic(auto, using(crate::proofs::MadeLemmas::made))]
     pub fn union(&self, alloc: A, other: &ResourceSet<A>) -> Result<ResourceSet<A>, AllocError>
     where
         A: Copy,
@@ -227,6 +228,7 @@ impl<A: Allocator> ResourceSet<A> {
     }
 
     /// The set of what both have. `AllocError` where there is no memory for it.
+    #[tactic(auto, using(crate::proofs::MadeLemmas::made))]
     pub fn intersection(
         &self,
         alloc: A,
@@ -242,6 +244,7 @@ impl<A: Allocator> ResourceSet<A> {
     }
 
     /// The set of what this one has and the other hasn't. `AllocError` where there is no memory for it.
+    #[tactic(auto, using(crate::proofs::MadeLemmas::made))]
     pub fn minus(&self, alloc: A, other: &ResourceSet<A>) -> Result<ResourceSet<A>, AllocError>
     where
         A: Copy,

@@ -5,9 +5,9 @@ use Rattle.rpki_resources.proofs.laws.laws_of_changes.Goals as goal
 
 pub returns-clause-restores : goal.returns-clause-restores
 returns-clause-restores c = λ a b d kept set is h left u. λ i. record {
-  asn = restored a.asn b.asn d.added.asn d.removed.asn kept.asn set.asn is.asn.are_runs h.added.asn h.removed.asn left.asn u.asn i;
-  ipv4 = restored a.ipv4 b.ipv4 d.added.ipv4 d.removed.ipv4 kept.ipv4 set.ipv4 is.ipv4.0.are_runs h.added.ipv4 h.removed.ipv4 left.ipv4 u.ipv4 i;
-  ipv6 = restored a.ipv6 b.ipv6 d.added.ipv6 d.removed.ipv6 kept.ipv6 set.ipv6 is.ipv6.are_runs h.added.ipv6 h.removed.ipv6 left.ipv6 u.ipv6 i;
+  asn = restored a.asn b.asn _ _ _ _ is.asn.are_runs h.added.asn h.removed.asn left.asn u.asn i;
+  ipv4 = restored a.ipv4 b.ipv4 _ _ _ _ is.ipv4.0.are_runs h.added.ipv4 h.removed.ipv4 left.ipv4 u.ipv4 i;
+  ipv6 = restored a.ipv6 b.ipv6 _ _ _ _ is.ipv6.are_runs h.added.ipv6 h.removed.ipv6 left.ipv6 u.ipv6 i;
 }
 
 pub returns-clause-exchanged : goal.returns-clause-exchanged
@@ -21,9 +21,9 @@ returns-clause-none c = λ a b d is also h. (
   λ none.
       let same = subst (λ (e : Changes). AreChanges a b e) none h in
       λ i. record {
-        asn = same_where_none a.asn b.asn is.asn.are_runs also.asn.are_runs same.added.asn same.removed.asn i;
-        ipv4 = same_where_none a.ipv4 b.ipv4 is.ipv4.0.are_runs also.ipv4.0.are_runs same.added.ipv4 same.removed.ipv4 i;
-        ipv6 = same_where_none a.ipv6 b.ipv6 is.ipv6.are_runs also.ipv6.are_runs same.added.ipv6 same.removed.ipv6 i;
+        asn = same_where_none _ _ is.asn.are_runs also.asn.are_runs same.added.asn same.removed.asn i;
+        ipv4 = same_where_none _ _ is.ipv4.0.are_runs also.ipv4.0.are_runs same.added.ipv4 same.removed.ipv4 i;
+        ipv6 = same_where_none _ _ is.ipv6.are_runs also.ipv6.are_runs same.added.ipv6 same.removed.ipv6 i;
       },
   λ same. λ i. record {
     added = none_where_same a b d.added h.added same i;

@@ -1,5 +1,5 @@
 -- One certificate of a path after another.
-use Rattle.rpki_extensions.proofs.Common.{List, [], get_or, length, refl, subst, take, ℕ, ◌++◌, ◌+◌, ◌<◌, ◌∷◌, HasEachOf, Triple, IsVerified, IsVerifiedPath, Extensions}
+use Rattle.rpki_extensions.proofs.Common.{List, [], arith, get_or, length, refl, take, ℕ, ◌++◌, ◌+◌, ◌<◌, ◌∷◌, HasEachOf, Triple, IsVerified, IsVerifiedPath, Extensions}
 use Rattle.std.proofs.lemmas.List.{take_more}
 use Rattle.rpki_extensions.proofs.IssuedLemmas.{inside}
 
@@ -7,23 +7,20 @@ use Rattle.rpki_extensions.proofs.IssuedLemmas.{inside}
 append : (before : List Extensions) (anchor issuer set : Triple) (certificate : Extensions)
     → IsVerifiedPath anchor before issuer → IsVerified issuer certificate set
     → IsVerifiedPath anchor (before ++ certificate ∷ []) set
-append [] anchor issuer set certificate same is = (set, subst (λ t. IsVerified t certificate set) same is, refl)
-append (first ∷ before) anchor issuer set certificate (next, one, path) is = (next, one, append before next issuer set certificate path is)
+append [] anchor issuer set certificate same is = (set, rw (← same) is, refl)
+append (first ∷ before) anchor issuer set certificate (next, one, path) is =
+    (next, one, append before next issuer set certificate path is)
 
 pub path-more : (certificates : List Extensions) (at : ℕ) (none : Extensions) (anchor issuer set : Triple)
     → at < length certificates → IsVerifiedPath anchor (take at certificates) issuer
     → IsVerified issuer (get_or certificates at none) set → IsVerifiedPath anchor (take (at + 1) certificates) set
 path-more certificates at none anchor issuer set small path is =
-    rw (take_more certificates at none small) (append (take at certificates) anchor issuer set (get_or certificates at none) path is)
+    rw (take_more certificates at none small)
+    (append (take at certificates) anchor issuer set (get_or certificates at none) path is)
 
 -- what is left lies in the anchor's
 pub path-inside : (certificates : List Extensions) (anchor set : Triple) → IsVerifiedPath anchor certificates set
     → HasEachOf anchor set
-path-inside [] anchor set same = rw same (record { asn = λ n h. h; ipv4 = λ n h. h; ipv6 = λ n h. h })
+path-inside [] anchor set same = grind (arith)
 path-inside (certificate ∷ certificates) anchor set (next, is, path) =
-    let first = inside anchor next certificate is in
-    let others = path-inside certificates next set path in record {
-      asn = λ n h. first.asn n (others.asn n h);
-      ipv4 = λ n h. first.ipv4 n (others.ipv4 n h);
-      ipv6 = λ n h. first.ipv6 n (others.ipv6 n h);
-    }
+    grind (arith, inside anchor next certificate is, path-inside certificates next set path)

@@ -4,11 +4,12 @@ use Rattle.rpki_chain.specs.declared.path.Overclaim.TheVariants.{Refuse}
 use Rattle.rpki_extensions.proofs.path.verified_path.Goals as goal
 
 pub returns-clause-path : goal.returns-clause-path
-returns-clause-path g c = rw (take_all c.loop-at.at c.args.certificates.now (omega (arith, c.loop-at-test.false))) at c.loop-at.invariant
+returns-clause-path g c =
+    rw (take_all c.loop-at.at c.args.certificates.now (omega (arith, c.loop-at-test.false))) at c.loop-at.invariant
 
 pub returns-clause-inside : goal.returns-clause-inside
 returns-clause-inside g c =
-    path-inside c.args.certificates.now c.args.anchor.now c.loop-at.issuer (rw (take_all c.loop-at.at c.args.certificates.now (omega (arith, c.loop-at-test.false))) at c.loop-at.invariant)
+    path-inside c.args.certificates.now c.args.anchor.now c.loop-at.issuer (returns-clause-path g c)
 
 -- what a place behind the end would have
 abbrev nothing : Extensions
@@ -16,10 +17,15 @@ nothing = record { numbers = None; addresses = None; encoding = Any; mode = Refu
 
 pub loop-at-preserved : goal.loop-at-preserved
 loop-at-preserved g c =
-    path-more c.args.certificates.now c.loop-at.at nothing c.args.anchor.now c.loop-at.issuer c.in-Ok.set c.loop-at-test.true c.loop-at.invariant c.in-Ok.ensures.verified
+    let turn = c.loop-at in
+    path-more c.args.certificates.now turn.at nothing c.args.anchor.now turn.issuer c.in-Ok.set c.loop-at-test.true
+    turn.invariant c.in-Ok.ensures.verified
 
 pub returns-in-Err-Refused-clause-path : goal.returns-in-Err-Refused-clause-path
 returns-in-Err-Refused-clause-path g c =
     let told = rw c.in-Err-Refused.field-0-is at c.in-Err-Refused.ensures.verified in
+    let all = c.args.certificates.now in
+    let at = c.loop-at.at in
+    let small = c.loop-at-test.true in
     rw c.in-Err-Refused.reason-is
-    (get_or c.args.certificates.now c.loop-at.at nothing, c.loop-at-test.true, get_or_default c.args.certificates.now c.loop-at.at _ nothing c.loop-at-test.true, (c.loop-at.issuer, c.loop-at.invariant, told))
+    (get_or all at nothing, small, get_or_default all at _ nothing small, (c.loop-at.issuer, c.loop-at.invariant, told))

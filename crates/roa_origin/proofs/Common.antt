@@ -1,31 +1,32 @@
 -- What the proofs of this crate use of std, of the crates below and of its own definitions, passed on by one name.
-pub use Rattle.std.proofs.Common.{All, AllPairs, Any, Bool, Contains, IsTrue, List, None, Option, Some, [], ap, append_assoc, arith, cond, drop, false, get_or, inl, inr, is_eq, is_le, is_lt, leb, length, length-append, length-drop, lit≤, ltb, map, refl, reverse, rules, slice_index, slice_index_or, subst, suc, sym, take, true, zero, ℕ, ◌&&◌, ◌*◌, ◌++◌, ◌+◌, ◌-◌, ◌/◌, ◌<◌, ◌==◌, ◌^◌, ◌↔◌, ◌∙◌, ◌∷◌, ◌≡◌, ◌≢◌, ◌≤◌, ◌⊎◌}
+pub use Rattle.std.proofs.Common.{All, AllPairs, Any, Bool, Contains, IsTrue, List, None, Option, [], ap, append_assoc, arith, drop, false, get_or, inl, inr, leb, length, length-append, length-drop, lit≤, ltb, map, refl, reverse, rules, slice_index, slice_index_or, subst, suc, sym, take, true, zero, ℕ, ◌&&◌, ◌*◌, ◌++◌, ◌+◌, ◌-◌, ◌/◌, ◌<◌, ◌==◌, ◌^◌, ◌↔◌, ◌∙◌, ◌∷◌, ◌≡◌, ◌≢◌, ◌≤◌, ◌⊎◌}
 pub use Rattle.std.proofs.Math.Seq.{take-suc}
 pub use Rattle.std.proofs.lemmas.Bool.{and_parts, cases_lt, cases_order, eq-eqb, eqb-true, le-leb, leb-false, leb-true, ltb-false, ltb-true}
 pub use Rattle.std.proofs.lemmas.List.{append-nil, get_or-drop, get_or-map, get_or-take, get_or_append_left, get_or_default, get_or_push, length-map, length-take, length-take-le, length_push, map-append, map_more, reverse-append, reverse-reverse, take_all, take_more}
-pub use Rattle.std.proofs.lemmas.List.Elements.{All-append, All-contains, All-drop, All-filter, All-from_recursion, All-head, All-map, All-push, All-tail, All-take, Contains-append_cases, Contains-append_left, Contains-append_right, Contains-get_or, Contains-push, Contains-push_cases, filter_more, filter_passes}
+pub use Rattle.std.proofs.lemmas.List.Elements.{All-append, All-contains, All-drop, All-filter, All-head, All-map, All-push, All-tail, All-take, Contains-append_cases, Contains-append_left, Contains-append_right, Contains-get_or, Contains-push, Contains-push_cases, filter_more, filter_passes}
 pub use Rattle.std.proofs.lemmas.List.Kept.{AllPairs-cons, Contains-dedup, Contains-from_dedup, IsNonDecreasingBy-filter, IsStrictlySortedBy-dedup}
 pub use Rattle.std.proofs.lemmas.List.Quantifiers.{all_pairs_push}
 pub use Rattle.std.proofs.lemmas.List.Sorted.{All-permutation, Contains-permutation, IsNonDecreasingBy-drop, IsNonDecreasingBy-from_sort_by, IsNonDecreasingBy-push, IsNonDecreasingBy-take, IsPartitionPoint-from_clause, IsPartitionedBy-leb, IsPartitionedBy-ltb, IsPermutation-append_left, IsPermutation-append_right, IsPermutation-map, IsPermutation-middle, IsPermutation-push_more, IsPermutation-refl, IsPermutation-sym, IsPermutation-trans}
 pub use Rattle.std.proofs.lemmas.Nat.{le-div, pow_below, pow_pos, shr_below}
 pub use Rattle.std.specs.Cmp.{IsEquivalence, IsTotalOrder}
+pub use Rattle.std.specs.Fn.{Mut}
 pub use Rattle.std.specs.List.{filter, slice_range}
 pub use Rattle.std.specs.List.Sorted.{IsNonDecreasingBy, IsPartitionPoint, IsPartitionedBy, IsPermutation, IsSorted}
-unfoldable pub use Rattle.std.specs.List.Sorted.{IsStrictlySortedBy}
 pub use Rattle.std.specs.Ordering.{bool_cmp, eq_by_cmp, nat_cmp, ordering_reverse, ordering_then}
 pub use Rattle.std.specs.declared.cmp.Ordering.{Ordering}
 pub use Rattle.std.specs.declared.cmp.Ordering.TheVariants.{Equal, Greater, Less}
+pub use denote.Ref.{Bor}
 pub use Rattle.rpki_addr.specs.Prefixes.{IsPrefix, PrefixValue}
 pub use Rattle.rpki_addr.specs.declared.addr.IpAddr.{IpAddr}
-pub use Rattle.rpki_addr.specs.declared.addr.IpAddr.TheVariants.{V4, V6}
+pub use Rattle.rpki_addr.specs.declared.addr.IpAddr.TheVariants.{V4}
 pub use Rattle.rpki_prefix.proofs.Covering.{covers_round, round_covers}
 pub use Rattle.rpki_prefix.specs.MaxLen.{MaxLenValue, max_len_cmp}
 pub use Rattle.rpki_prefix.specs.Values.{CoversPrefix, FamilyPrefix, IsFamilyPrefix, address_number, interval, is_v6, width}
 pub use Rattle.roa_origin.specs.Coverings.{AreThose, IsWalk, covering_before, covers_route}
 pub use Rattle.roa_origin.specs.Entries.{addr_of}
-pub use Rattle.roa_origin.specs.Links.{AreLinks, AreUpTo, IsGroup, IsInOrder, IsLastOf, IsLink, NoneCovers}
+pub use Rattle.roa_origin.specs.Links.{AreLater, AreLinks, AreUpTo, IsGroup, IsInOrder, IsLastOf, IsLink, NoneCovers}
 pub use Rattle.roa_origin.specs.Payloads.{CoversRoute, HasAs, IsLawfulPayload, Matches, Payload, longest, prefix_len}
-pub use Rattle.roa_origin.specs.Places.{family_place, payload_place, place, rank, sent_place, sent_rank, table_place, told}
+pub use Rattle.roa_origin.specs.Places.{family_place, payload_place, place, rank, sent_place, table_place, told}
 pub use Rattle.roa_origin.specs.Starts.{IsStart, first_bits}
 pub use Rattle.roa_origin.specs.Tables.{as_sent, payload_cmp}
 pub use Rattle.roa_origin.specs.Updates.{AreChangesOf, AreSorted, IsDuplicateRecord, IsFirstPlace, IsLawfulChange, IsMergedOf, IsOf, IsOfBefore, IsSearched, IsSentIn, IsUnknownRecord, IsUpdated, change_place, sent_change}

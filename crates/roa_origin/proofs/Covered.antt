@@ -1,50 +1,36 @@
 -- The payloads that cover a route, among the first of a table.
-use Rattle.roa_origin.proofs.Common.{Bool, List, [], ap, arith, cond, false, get_or, length, refl, reverse, suc, true, zero, ℕ, ◌++◌, ◌+◌, ◌-◌, ◌<◌, ◌∙◌, ◌∷◌, ◌≡◌, ◌≤◌, ◌⊎◌, and_parts, eq-eqb, eqb-true, le-leb, leb-true, reverse-append, reverse-reverse, take_all, All-filter, filter_more, filter_passes, IsNonDecreasingBy-filter, filter, IsNonDecreasingBy, IpAddr, covers_round, round_covers, FamilyPrefix, IsFamilyPrefix, is_v6, width, AreThose, IsWalk, covering_before, covers_route, IsInOrder, IsLink, NoneCovers, CoversRoute, Payload, prefix_len, payload_place, place, Link}
+use Rattle.roa_origin.proofs.Common.{List, [], ap, arith, false, get_or, length, refl, reverse, suc, true, zero, ℕ, ◌+◌, ◌-◌, ◌<◌, ◌↔◌, ◌∙◌, ◌∷◌, ◌≡◌, ◌≤◌, ◌⊎◌, and_parts, eq-eqb, eqb-true, le-leb, leb-true, append-nil, reverse-append, reverse-reverse, take_all, All-filter, filter_more, filter_passes, IsNonDecreasingBy-filter, filter, IsNonDecreasingBy, covers_round, round_covers, FamilyPrefix, IsFamilyPrefix, AreThose, IsWalk, covering_before, covers_route, AreLater, IsInOrder, IsLink, NoneCovers, CoversRoute, Payload, prefix_len, payload_place, Link}
 use Rattle.roa_origin.proofs.Nested.{covers_between, same_width}
 use Rattle.roa_origin.proofs.Places.{covers_len, covers_place}
 use Rattle.roa_origin.proofs.Walks.{later_covers_none, no_link, nowhere, passes_none, prefix_of}
 
--- addresses are of one family where they have as many bits
-same_family : (a b : IpAddr) → width a ≡ width b → is_v6 a ≡ is_v6 b
-same_family a b e = grind (arith)
-
-tells_covers : (route : FamilyPrefix) (x : Payload) → covers_route route x ≡ true → CoversRoute route x
-tells_covers route x e = covers_round x.0.prefix route (grind (arith, and_parts, eqb-true, leb-true, same_family))
-
-is_told : (route : FamilyPrefix) (x : Payload) → CoversRoute route x → covers_route route x ≡ true
-is_told route x c = grind (arith, eq-eqb, le-leb, round_covers, same_width)
-
-not_told : (route : FamilyPrefix) (x : Payload) → ¬ CoversRoute route x → covers_route route x ≡ false
-not_told route x free = grind (arith, tells_covers)
-
-one_more : (route : FamilyPrefix) (x : Payload) (xs ys : List Payload) (t : Bool) → covers_route route x ≡ t
-    → AreThose (CoversRoute route) xs ys → AreThose (CoversRoute route) (x ∷ xs) (cond t (x ∷ ys) ys)
-one_more route x xs ys t e those = grind (arith, is_told, tells_covers)
+-- the test tells whether the payload covers the route
+tells : (route : FamilyPrefix) (x : Payload) → (covers_route route x ≡ true) ↔ CoversRoute route x
+tells route x = (
+  (λ e. covers_round x.0.prefix route (grind (arith, and_parts, eqb-true, leb-true))),
+  λ c. grind (arith, eq-eqb, le-leb, round_covers, same_width),
+)
 
 -- what the test picks out of a list are those that cover the route
 pub are_those : (route : FamilyPrefix) (xs : List Payload)
     → AreThose (CoversRoute route) xs (filter (covers_route route) xs)
 are_those route [] = refl
-are_those route (x ∷ xs) = one_more route x xs (filter (covers_route route) xs) (covers_route route x) refl (are_those route xs)
-
--- one payload more is the first of them, or none
-picked : (y : Payload) (s : Bool) (ys : List Payload) → reverse (cond s (y ∷ []) []) ++ ys ≡ cond s (y ∷ ys) ys
-picked y s ys = grind (arith)
+are_those route (x ∷ xs) = grind (arith, tells route x, are_those route xs)
 
 module _ (route : FamilyPrefix) (xs : List Payload) where
-  more : (k : ℕ) (d : Payload) → k < length xs
-      → covering_before route xs (k + 1)
-      ≡ cond (covers_route route (get_or xs k d)) (get_or xs k d ∷ covering_before route xs k)
-      (covering_before route xs k)
-  more k d small =
-      let x = get_or xs k d in
-      rw (filter_more (covers_route route) xs k d small, reverse-append) (picked x (covers_route route x) _)
+  -- one payload more is the first of them, or none
+  covers_step : (k : ℕ) (d : Payload) → k < length xs → CoversRoute route (get_or xs k d)
+      → covering_before route xs (k + 1) ≡ get_or xs k d ∷ covering_before route xs k
+  covers_step k d small covers =
+      rw (filter_more (covers_route route) xs k d small, (tells route (get_or xs k d)).1 covers, reverse-append) refl
 
-  -- places at which none covers the route give none
   free_step : (k : ℕ) (d : Payload) → k < length xs → ¬ CoversRoute route (get_or xs k d)
       → covering_before route xs (k + 1) ≡ covering_before route xs k
-  free_step k d small free = rw (more k d small, not_told route (get_or xs k d) free)
+  free_step k d small free =
+      let fails : covers_route route (get_or xs k d) ≡ false = grind (arith, tells) in
+      rw (filter_more (covers_route route) xs k d small, fails, append-nil) refl
 
+  -- places at which none covers the route give none
   pub none_between : (n to from : ℕ) → to ≡ from + n → to ≤ length xs → NoneCovers xs route from to
       → covering_before route xs to ≡ covering_before route xs from
   none_between zero to from far high none = ap (covering_before route xs) (let e : to ≡ from = omega arith in e)
@@ -53,11 +39,10 @@ module _ (route : FamilyPrefix) (xs : List Payload) where
       rw on (grind (arith, free_step (from + n) nowhere, none (from + n) nowhere, none_between n (from + n) from))
 
   -- what comes later than the route doesn't cover it: those before it are all that do
-  pub all_before : (n : ℕ) → IsInOrder xs → IsFamilyPrefix route → n ≤ length xs
-      → ((k : ℕ) (d : Payload) → n ≤ k → k < length xs → place route < payload_place (get_or xs k d))
+  pub all_before : (n : ℕ) → IsInOrder xs → IsFamilyPrefix route → n ≤ length xs → AreLater xs n route
       → reverse (covering_before route xs n) ≡ filter (covers_route route) xs
   all_before n order is high later =
-      let none : NoneCovers xs route n (length xs) = λ k d from before small. later_covers_none route xs n order is later k d from small in
+      let none = later_covers_none route xs n order is later in
       let all = none_between (length xs - n) (length xs) n (omega arith) (omega arith) none in
       rw (← all, take_all (length xs) xs (omega arith), reverse-reverse)
 
@@ -65,15 +50,10 @@ module _ (route : FamilyPrefix) (xs : List Payload) where
 pub by_length : (route : FamilyPrefix) (xs : List Payload) → IsFamilyPrefix route → IsInOrder xs
     → IsNonDecreasingBy prefix_len (filter (covers_route route) xs)
 by_length route xs is order i j d before inside =
-    let ys : List Payload = filter (covers_route route) xs in
-    let there : i < length ys = omega (arith, before, inside) in
     let are = All-filter (covers_route route) (λ x. IsFamilyPrefix x.0.prefix) xs (prefix_of xs order) in
     let passes = filter_passes (covers_route route) xs in
-    let covers = λ (k : ℕ) (small : k < length ys). tells_covers route (get_or ys k d) (passes k d small) in
     let places = IsNonDecreasingBy-filter payload_place (covers_route route) xs order.ordered i j d before inside in
-    let one = covers i there in
-    let other = covers j inside in
-    grind (arith, are i d there, are j d inside, covers_between, covers_len, covers_place)
+    grind (arith, passes i d, passes j d, are i d, are j d, covers_between, covers_len, covers_place, tells)
 
 -- the walk's next step: the nearest payload that covers the route; what is left is what its link leaves
 module _ {xs : List Payload} {links : List Link} {n : ℕ} {route : FamilyPrefix} (walk : IsWalk xs links n route)
@@ -101,7 +81,7 @@ module _ {xs : List Payload} {links : List Link} {n : ℕ} {route : FamilyPrefix
       let passed = none_between route xs (at - 1 - left) _ left (omega (arith, before)) (omega arith) between in
       none_between route xs (n - at) n at (omega arith) walk.within none
       ∙ ap (covering_before route xs) (let on : at ≡ at - 1 + 1 = omega arith in on)
-      ∙ rw (more route xs (at - 1) d there, is_told route (get_or xs (at - 1) d) covers, passed)
+      ∙ rw (covers_step route xs (at - 1) d there covers, passed)
 
 -- and where there is none, nothing is left
 pub nothing_left : {xs : List Payload} {links : List Link} {n : ℕ} {route : FamilyPrefix} → IsWalk xs links n route

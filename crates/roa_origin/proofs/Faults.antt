@@ -1,10 +1,16 @@
 -- The first place that is at fault, and what changes in order say of a place.
-use Rattle.roa_origin.proofs.Common.{Any, List, arith, get_or, length, sym, ℕ, ◌+◌, ◌<◌, ◌∙◌, ◌≡◌, ◌⊎◌, cases_lt, get_or_default, IsLawfulPayload, Payload, AreChangesOf, IsDuplicateRecord, IsOf, IsOfBefore, IsSentIn, IsUnknownRecord, Change}
-use Rattle.roa_origin.proofs.Listed.{change_before, change_of, sent_before, sent_in}
+use Rattle.roa_origin.proofs.Common.{Any, Bool, IsTrue, List, arith, false, get_or, inl, inr, length, sym, true, ℕ, ◌+◌, ◌<◌, ◌↔◌, ◌∙◌, ◌≡◌, ◌⊎◌, cases_lt, get_or_default, IsLawfulPayload, Payload, AreChangesOf, IsDuplicateRecord, IsOf, IsOfBefore, IsSentIn, IsUnknownRecord, Change}
+use Rattle.roa_origin.specs.Updates.{IsFirst}
+use Rattle.roa_origin.proofs.Listed.{is_sent, sent_before}
 
--- what holds at no place before one and not there holds at no place up to it
-pub none_more : (P : ℕ → Type 0) (n : ℕ) → ((k : ℕ) → k < n → ¬ P k) → ¬ P n → (k : ℕ) → k < n + 1 → ¬ P k
-none_more P n none not k small h = grind (arith, cases_lt)
+-- a test of the place n tells whether P holds there, and P holds at none before: so n is the first, or P holds at none
+-- up to n
+pub tested : {P : ℕ → Type 0} {Q : Type 0} {r : Bool} (n : ℕ) → IsTrue r ↔ Q → Q ↔ P n → ((k : ℕ) → k < n → ¬ P k)
+    → (r ≡ true → IsFirst P n) × (r ≡ false → (k : ℕ) → k < n + 1 → ¬ P k)
+tested n test is none = (
+  (λ yes. record { here = is.0 (test.0 yes); none = none }),
+  λ no k small h. grind (arith, cases_lt k n, none k, test, is),
+)
 
 -- the payload read at a place, and the changes of the list
 module _ {xs : List Payload} {cs : List Change} (are : AreChangesOf xs cs) {p : Payload} (lawful : IsLawfulPayload p)
@@ -13,24 +19,25 @@ module _ {xs : List Payload} {cs : List Change} (are : AreChangesOf xs cs) {p : 
   here d = get_or_default xs n d p inside ∙ sym is
 
   module _ {table : List Payload} where
-    pub unknown : (¬ IsSentIn table p) ⊎ Any (IsOfBefore p n) cs → IsUnknownRecord table xs n
-    unknown h = record { within = inside; unknown = λ d. rw (here d) (grind (arith, sent_before xs cs are p lawful n)) }
+    pub unknown : ((¬ IsSentIn table p) ⊎ Any (IsOfBefore p n) cs) ↔ IsUnknownRecord table xs n
+    unknown = (
+      (λ h. record { within = inside; unknown = λ d. rw (here d) (grind (arith, sent_before xs cs are p lawful n)) }),
+      λ h. grind (arith, here p, h.unknown p, sent_before xs cs are p lawful n),
+    )
 
-    pub not_unknown : ¬ ((¬ IsSentIn table p) ⊎ Any (IsOfBefore p n) cs) → ¬ IsUnknownRecord table xs n
-    not_unknown not h = grind (arith, here p, h.unknown p, change_before xs cs are p lawful n)
-
-    module _ {gone : List Payload} {ds : List Change} (these : AreChangesOf gone ds) where
-      pub duplicate : (IsSentIn table p × ¬ Any (IsOf p) ds) ⊎ Any (IsOfBefore p n) cs
-          → IsDuplicateRecord table xs gone n
-      duplicate h = record {
+    pub duplicate : {gone : List Payload} {ds : List Change} → AreChangesOf gone ds
+        → ((IsSentIn table p × ¬ Any (IsOf p) ds) ⊎ Any (IsOfBefore p n) cs) ↔ IsDuplicateRecord table xs gone n
+    duplicate {gone} {ds} these = (
+      (λ h. record {
         within = inside;
         duplicate = λ d.
-            let withdrawn = change_of gone ds these p lawful in
+            let withdrawn = (is_sent gone ds these p lawful).1 in
             rw (here d) (grind (arith, sent_before xs cs are p lawful n));
-      }
-
-      pub not_duplicate : ¬ ((IsSentIn table p × ¬ Any (IsOf p) ds) ⊎ Any (IsOfBefore p n) cs)
-          → ¬ IsDuplicateRecord table xs gone n
-      not_duplicate not h =
-          let withdrawn = sent_in gone ds these p lawful in
-          grind (arith, here p, h.duplicate p, change_before xs cs are p lawful n)
+      }),
+      λ h.
+          let told = rw (here p) at (h.duplicate p) in
+          elim told [
+            | inl new ↦ inl (new.0, λ change. new.1 ((is_sent gone ds these p lawful).0 change))
+            | inr again ↦ inr ((sent_before xs cs are p lawful n).1 again)
+          ],
+    )

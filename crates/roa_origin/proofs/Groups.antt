@@ -1,69 +1,59 @@
 -- The payloads of one prefix, as a piece of a table.
-use Rattle.roa_origin.proofs.Common.{All, Any, List, ap, arith, false, get_or, leb, length, sym, true, ℕ, ◌+◌, ◌-◌, ◌<◌, ◌∙◌, ◌≡◌, ◌≤◌, get_or-drop, get_or-take, get_or_default, length-take-le, le-leb, leb-false, leb-true, All-drop, All-take, IsNonDecreasingBy-drop, IsNonDecreasingBy-take, IsPartitionPoint, IsPartitionedBy, slice_range, FamilyPrefix, IsGroup, IsInOrder, IsLastOf, CoversRoute, IsLawfulPayload, Payload, table_place}
-use Rattle.std.proofs.lemmas.List.{length-drop}
+use Rattle.roa_origin.proofs.Common.{Any, Bool, List, arith, get_or, leb, length, length-drop, ℕ, ◌+◌, ◌-◌, ◌<◌, ◌∙◌, ◌≡◌, ◌≤◌, le-leb, leb-false, leb-true, get_or-drop, get_or-take, get_or_default, length-take-le, All-drop, All-take, IsNonDecreasingBy-drop, IsNonDecreasingBy-take, IsPartitionPoint-from_clause, Mut, slice_range, IsPartitionedBy, Bor, CoversPrefix, FamilyPrefix, IsGroup, IsInOrder, IsLastOf, IsLawfulPayload, Payload, table_place}
+use Rattle.roa_origin.proofs.Found.{Parts, Tests}
 use Rattle.roa_origin.proofs.Places.{by_ranks, rank_asn, rank_longest}
+use Rattle.roa_origin.specs.Links.{AllHave}
 
--- an element of a piece
-pub in_piece : (xs : List Payload) (a b k : ℕ) (d : Payload) → k < b - a
-    → get_or (slice_range xs a b) k d ≡ get_or xs (a + k) d
-in_piece xs a b k d small = get_or-take (b - a) _ k d small ∙ get_or-drop a xs k d
+module _ (xs : List Payload) (a b : ℕ) where
+  -- an element of a piece
+  pub in_piece : (k : ℕ) (d : Payload) → k < b - a → get_or (slice_range xs a b) k d ≡ get_or xs (a + k) d
+  in_piece k d small = get_or-take (b - a) _ k d small ∙ get_or-drop a xs k d
 
-pub piece_at : (xs : List Payload) (a b k : ℕ) (d : Payload) → a ≤ k → k < b
-    → get_or (slice_range xs a b) (k - a) d ≡ get_or xs k d
-piece_at xs a b k d from before =
-    in_piece xs a b (k - a) d (omega (arith, from, before)) ∙ ap (λ j. get_or xs j d) (let e : a + (k - a) ≡ k = omega (arith, from) in e)
+  pub piece_at : (k : ℕ) (d : Payload) → a ≤ k → k < b → get_or (slice_range xs a b) (k - a) d ≡ get_or xs k d
+  piece_at k d from before = grind (arith, in_piece (k - a) d)
 
-pub piece_length : (xs : List Payload) (a b : ℕ) → b ≤ length xs → length (slice_range xs a b) ≡ b - a
-piece_length xs a b inside = length-take-le (b - a) _ (let e = length-drop a xs in omega (arith, e, inside))
+  module _ (within : b ≤ length xs) where
+    pub piece_length : length (slice_range xs a b) ≡ b - a
+    piece_length = length-take-le (b - a) _ (let e = length-drop a xs in omega (arith, e, within))
 
-module _ (xs : List Payload) (order : IsInOrder xs) (route : FamilyPrefix) (a b : ℕ) (within : b ≤ length xs) (p : FamilyPrefix)
-    (has : (k : ℕ) (d : Payload) → a ≤ k → k < b → (get_or xs k d).0.prefix ≡ p) where
-  wide : length (slice_range xs a b) ≡ b - a
-  wide = piece_length xs a b within
+    -- what some payload of it is, some payload of the list is
+    pub any_in : (P : Payload → Type 0) → Any P (slice_range xs a b) → Any P xs
+    any_in P h = grind (arith, in_piece, piece_length)
 
-  prefixes : All (λ (y : Payload). y.0.prefix ≡ p) (slice_range xs a b)
-  prefixes k d small = rw (in_piece xs a b k d (omega (arith, wide)))
-      (has (a + k) d (omega arith) (omega (arith, wide)))
+    -- and what none of it is, none is at those places
+    pub none_in : (P : Payload → Type 0) → ¬ Any P (slice_range xs a b) → (k : ℕ) (d : Payload) → a ≤ k → k < b
+        → ¬ P (get_or xs k d)
+    none_in P none k d from before is_such = grind (arith, get_or_default xs k, piece_at k, piece_length)
 
-  -- it is a group where the prefix covers the route
-  pub group : ((payload : Payload) → payload.0.prefix ≡ p → CoversRoute route payload)
-      → IsGroup route (slice_range xs a b)
-  group covers =
-      let ys = slice_range xs a b in
-      let up = IsNonDecreasingBy-take table_place (b - a) _
-      (IsNonDecreasingBy-drop table_place a xs order.ranked) in record {
-        payloads = All-take IsLawfulPayload (b - a) _ (All-drop IsLawfulPayload a xs order.payloads);
-        covers = λ k d small. covers (get_or ys k d) (prefixes k d small);
-        ranked = λ i j d le small.
-            let same = prefixes i d (omega arith) ∙ sym (prefixes j d small) in
-            by_ranks (get_or ys i d) (get_or ys j d) same (up i j d le small);
-      }
-
-  -- what some payload of it is, some payload of the table is
-  pub any_in : (P : Payload → Type 0) → Any P (slice_range xs a b) → Any P xs
-  any_in P h = grind (arith, in_piece, wide)
-
-  -- and what none of it is, none is at those places
-  pub none_in : (P : Payload → Type 0) → ¬ Any P (slice_range xs a b) → (k : ℕ) (d : Payload) → a ≤ k → k < b
-      → ¬ P (get_or xs k d)
-  none_in P none k d from before is_such = grind (arith, get_or_default xs k, piece_at xs a b k, wide)
+    -- it is a group where all have a prefix that covers the route
+    pub group : (route p : FamilyPrefix) → IsInOrder xs → AllHave xs p a b → CoversPrefix p route
+        → IsGroup route (slice_range xs a b)
+    group route p order has covers =
+        let behind = IsNonDecreasingBy-drop table_place a xs order.ranked in
+        let up = IsNonDecreasingBy-take table_place (b - a) _ behind in record {
+          payloads = All-take IsLawfulPayload (b - a) _ (All-drop IsLawfulPayload a xs order.payloads);
+          covers = λ k d small. rw (prefix k d small) covers;
+          ranked = λ i j d le small. grind (arith, by_ranks, prefix i d, prefix j d small, up i j d le small);
+        }
+      where
+        prefix : (k : ℕ) (d : Payload) → k < length (slice_range xs a b)
+            → (get_or (slice_range xs a b) k d).0.prefix ≡ p
+        prefix k d small = grind (arith, piece_length, in_piece k d, has (a + k) d)
 
 -- ---- the payload to ask of a group: the last one whose AS number isn't below the route's
 
 module _ (route : FamilyPrefix) (xs : List Payload) (asn : ℕ) (group : IsGroup route xs) where
   -- the payloads of a group are parted by the test
-  pub parted : IsPartitionedBy (λ (y : Payload). leb asn y.1) xs
+  parted : IsPartitionedBy (λ (y : Payload). leb asn y.1) xs
   parted i j d le small e =
-      let lawful = group.payloads i d in
-      grind (arith, le-leb, leb-true, rank_asn, group.payloads j d, group.ranked i j d)
+      grind (arith, le-leb, leb-true, rank_asn, group.payloads i d, group.payloads j d, group.ranked i j d)
 
   -- what ranks no higher allows no longer route of its AS
-  pub last_of : (n : ℕ) → n ≤ length xs
-      → IsPartitionPoint (λ (y : Payload). leb asn y.1 ≡ true) (λ (y : Payload). leb asn y.1 ≡ false) xs n
-      → IsLastOf asn xs n
-  last_of n bound point k d small same =
-      let passes = point.0 (n - 1) d in
-      let fails = point.1 k d in
+  pub last_of : {F : Type 0} {g : Mut F (Bor Payload × Unit {0}) Bool} {c : F} (n : ℕ) → n ≤ length xs → Parts g c xs n
+      → Tests g c (λ y. leb asn y.1) → IsLastOf asn xs n
+  last_of n bound parts tests k d small same =
+      let point = IsPartitionPoint-from_clause (λ (y : Payload). leb asn y.1) xs n parts parted tests in
       let one = group.payloads k d in
       let other = group.payloads (n - 1) d in
-      grind (arith, leb-false, leb-true, rank_asn, rank_longest, group.ranked k (n - 1) d)
+      let up = group.ranked k (n - 1) d in
+      grind (arith, leb-false, leb-true, rank_asn, rank_longest, point.0 (n - 1) d, point.1 k d)

@@ -1,12 +1,12 @@
 -- What changes in order say of the list that they came in.
-use Rattle.roa_origin.proofs.Common.{All, All-contains, Any, Contains, List, [], ap, arith, get_or, length, map, refl, sym, take, take_all, ℕ, ◌++◌, ◌+◌, ◌<◌, ◌∙◌, ◌∷◌, ◌≡◌, ◌≤◌, cases_lt, get_or-map, get_or-take, get_or_append_left, get_or_default, get_or_push, length-map, length-take, length_push, map-append, map_more, All-permutation, All-push, IsPermutation-map, IsPermutation-refl, IsPermutation-trans, IsNonDecreasingBy, IsPermutation, IsLawfulPayload, Payload, sent_place, as_sent, AreChangesOf, AreSorted, IsFirstPlace, IsLawfulChange, IsOf, IsOfBefore, IsSearched, IsSentIn, sent_change, Change}
+use Rattle.roa_origin.proofs.Common.{All, Any, Contains, List, [], ap, arith, get_or, length, map, sym, take, ℕ, ◌++◌, ◌+◌, ◌<◌, ◌↔◌, ◌∙◌, ◌∷◌, ◌≡◌, ◌≤◌, cases_lt, get_or-map, get_or-take, get_or_append_left, get_or_default, get_or_push, length-map, length-take, length_push, map-append, map_more, take_all, All-contains, All-push, All-permutation, IsPermutation-map, IsPermutation-refl, IsPermutation-trans, IsNonDecreasingBy, IsPermutation, IsLawfulPayload, Payload, sent_place, as_sent, AreChangesOf, AreSorted, IsFirstPlace, IsLawfulChange, IsOf, IsOfBefore, IsSearched, IsSentIn, sent_change, Change}
 use Rattle.roa_origin.proofs.Found.{any_moved, found}
 use Rattle.roa_origin.proofs.Places.{lower, upper}
 use Rattle.roa_origin.proofs.Sent.{same_sent, sent_same}
 
 -- ---- changes as they came
 
-abbrev entry_of : Change → Payload
+abbrev pub entry_of : Change → Payload
 entry_of c = c.entry
 
 -- the changes of the first n payloads, in their order
@@ -21,11 +21,11 @@ pub listed : {xs : List Payload} {n : ℕ} {cs : List Change} → AreListed xs n
 listed {xs} {n} {cs} far all = record {
   lawful = far.lawful;
   entries = rw same (IsPermutation-refl (map as_sent xs));
-  at_place = λ k d small. rw (far.places k d small) (omega (arith, as_many), λ e. sym (entry_at k d e small));
+  at_place = λ k d small. grind (arith, as_many, entry_at k d, far.places k d small);
   each = λ k d small.
-      let c : Change = record { entry = d; place = k } in
+      let c : Change = get_or cs k (record { entry = d; place = k }) in
       let inside : k < length cs = omega (arith, small, as_many) in
-      (k, get_or cs k c, inside, get_or_default cs k _ c inside, (entry_at k c d inside, far.places k c inside));
+      (k, c, inside, get_or_default cs k c _ inside, (entry_at k _ d inside, far.places k _ inside));
 }
   where
     same : map entry_of cs ≡ map as_sent xs
@@ -60,7 +60,7 @@ listed_moved xs cs ds moved are = record {
   lawful = All-permutation IsLawfulChange cs ds moved are.lawful;
   entries = IsPermutation-trans _ _ (map entry_of ds) are.entries (IsPermutation-map entry_of cs ds moved);
   at_place = All-permutation (StandsIn xs) cs ds moved are.at_place;
-  each = λ n d small. any_moved (λ change. (change.entry ≡ as_sent (get_or xs n d)) × (change.place ≡ n)) cs ds moved (are.each n d small);
+  each = λ n d small. any_moved _ cs ds moved (are.each n d small);
 }
 
 -- ---- a payload among changes
@@ -71,26 +71,27 @@ module _ (xs : List Payload) (cs : List Change) (are : AreChangesOf xs cs) (p : 
   at c h of =
       let stands = All-contains (StandsIn xs) cs c are.at_place h in
       let lawful = All-contains IsLawfulChange cs c are.lawful h in
-      (stands.0, ap as_sent (stands.1 p) ∙ same_sent c.entry p lawful.payload is of)
+      grind (arith, same_sent c.entry p lawful.payload is of)
 
   -- the list has a payload before a place where a change of it stands before
-  pub sent_before : (n : ℕ) → Any (IsOfBefore p n) cs → IsSentIn (take n xs) p
-  sent_before n (k, c, inside, there, is_of) =
-      let found = at c (k, inside, there) is_of.0 in
-      let is = get_or-take n xs c.place _ is_of.1 ∙ get_or_default xs c.place _ p found.0 in
-      (c.place, get_or xs c.place p, omega (arith, is_of.1, found.0, length-take n xs), is, found.1)
+  pub sent_before : (n : ℕ) → Any (IsOfBefore p n) cs ↔ IsSentIn (take n xs) p
+  sent_before n = (
+    (λ h.
+        let (k, c, inside, there, is_of) = h in
+        let found = at c (k, inside, there) is_of.0 in
+        let is = get_or-take n xs c.place _ is_of.1 ∙ get_or_default xs c.place _ p found.0 in
+        (c.place, get_or xs c.place p, omega (arith, is_of.1, found.0, length-take n xs), is, found.1)),
+    λ h. grind (arith, are.each h.0 h.1, get_or-take n xs h.0 h.1, length-take n xs, sent_same (get_or xs h.0 h.1) p),
+  )
 
-  pub change_before : (n : ℕ) → IsSentIn (take n xs) p → Any (IsOfBefore p n) cs
-  change_before n (k, q, inside, there, same) =
-      grind (arith, are.each k q, get_or-take n xs k q, length-take n xs, sent_same (get_or xs k q) p)
-
-  pub sent_in : Any (IsOf p) cs → IsSentIn xs p
-  sent_in (k, c, inside, there, of) =
-      let found = at c (k, inside, there) of in
-      (c.place, get_or xs c.place p, found.0, get_or_default xs c.place _ p found.0, found.1)
-
-  pub change_of : IsSentIn xs p → Any (IsOf p) cs
-  change_of (k, q, inside, there, same) = grind (arith, are.each k q inside, sent_same (get_or xs k q) p)
+  pub is_sent : Any (IsOf p) cs ↔ IsSentIn xs p
+  is_sent = (
+    (λ h.
+        let (k, c, inside, there, of) = h in
+        let found = at c (k, inside, there) of in
+        (c.place, get_or xs c.place p, found.0, get_or_default xs c.place _ p found.0, found.1)),
+    λ h. grind (arith, are.each h.0 h.1 h.2, sent_same (get_or xs h.0 h.1) p),
+  )
 
 -- ---- changes in order
 
@@ -102,13 +103,10 @@ by_payload cs order i j d le small = grind (arith, upper, order.lawful j d, orde
 pub first_of : (cs : List Change) (p : Payload) (at : ℕ) (x : Change) → AreSorted cs
     → IsSearched sent_change cs (sent_place p) at → at < length cs → x ≡ get_or cs at x
     → ((d : Change) → IsOf p (get_or cs at d)) → IsFirstPlace cs p x.place
-first_of cs p at x order searched inside is of = record {
-  there = (at, x, inside, sym is, (rw (← is) at (of x), refl));
-  first = λ k d small same.
-      let up = lower (sent_place x.entry) (sent_change (get_or cs k d)) x.place (get_or cs k d).place in
-      let before = searched.before k d in
-      grind (arith, cases_lt k at, get_or_default cs at d x inside, of x, order.ordered at k d);
-}
+first_of cs p at x order searched inside is of =
+    let up = λ (k : ℕ) (d : Change).
+    lower (sent_place x.entry) (sent_change (get_or cs k d)) x.place (get_or cs k d).place in
+    grind (arith, cases_lt, get_or_default cs at, of x, order.ordered at, searched.before)
 
 -- and where a search finds none, none is of it
 pub none_of : (cs : List Change) (p : Payload) (at : ℕ) → AreSorted cs → IsSearched sent_change cs (sent_place p) at

@@ -1,6 +1,7 @@
 -- Lists in order: whether one has an element, and what is sorted and freed of duplicates.
-use Rattle.roa_origin.proofs.Common.{AllPairs, Bool, Contains, IsTrue, List, [], arith, inr, refl, ◌↔◌, ◌∷◌, ◌≡◌, ◌⊎◌, All-from_recursion, AllPairs-cons, Contains-dedup, Contains-from_dedup, IsStrictlySortedBy-dedup, Contains-permutation, IsPermutation-sym, IsEquivalence, IsTotalOrder, IsPermutation, IsSorted, IsStrictlySortedBy, eq_by_cmp, Ordering, Equal, Less}
+use Rattle.roa_origin.proofs.Common.{AllPairs, Bool, Contains, IsTrue, List, [], arith, inr, refl, ◌↔◌, ◌∷◌, ◌≡◌, ◌⊎◌, Contains-dedup, Contains-from_dedup, IsStrictlySortedBy-dedup, Contains-permutation, IsPermutation-sym, IsEquivalence, IsTotalOrder, IsPermutation, IsSorted, eq_by_cmp, Ordering, Equal, Less}
 use Rattle.std.proofs.lemmas.List.Filters.{dedup_is}
+use Rattle.std.proofs.lemmas.Map.Keys.{Less-from_sorted}
 use Rattle.std.specs.List.Retain.{IsFiltered, DiffersFromLast}
 use Rattle.roa_origin.proofs.Members.{cons_cases, here, no_member, there}
 use Rattle.roa_origin.proofs.Totals.{cases_ordering}
@@ -15,40 +16,33 @@ pub only_next : {Had Has New Gone Then : Type 0} → Had ⊎ ¬ Had → Has ⊎ 
     → Gone ↔ (Had × ¬ Has) → Then ↔ ((Had × ¬ Gone) ⊎ New) → Then ↔ Has
 only_next had has new gone next = ((λ h. grind (arith, next.0 h)), λ h. next.1 (grind (arith)))
 
-module _ {X : Type 0} (R : X → X → Ordering) (total : IsTotalOrder R) (ties : (x y : X) → (R x y ≡ Equal) ↔ (x ≡ y)) where
+module _ {X : Type 0} (R : X → X → Ordering) (total : IsTotalOrder R)
+    (ties : (x y : X) → (R x y ≡ Equal) ↔ (x ≡ y)) where
   -- a list has an element or hasn't
-  first_too : (x : X) (xs : List X) (p : X) → Contains xs p ⊎ ¬ Contains xs p
-      → Contains (x ∷ xs) p ⊎ ¬ Contains (x ∷ xs) p
-  first_too x xs p rest = grind (arith, cases_ordering (R x p), cons_cases x xs p, here x xs, there x xs p, ties x p)
-
   pub decide : (xs : List X) (p : X) → Contains xs p ⊎ ¬ Contains xs p
   decide [] p = inr (no_member p)
-  decide (x ∷ xs) p = first_too x xs p (decide xs p)
+  decide (x ∷ xs) p =
+      grind (arith, cases_ordering (R x p), cons_cases x xs p, here x xs, there x xs p, ties x p, decide xs p)
 
   -- ---- sorted and freed of duplicates
 
-  pairs : (xs : List X) → IsStrictlySortedBy R xs → AllPairs (λ x y. R x y ≡ Less) xs
-  unfolding IsStrictlySortedBy
-  pairs [] s = λ i j d below inside. absurd (omega (arith, inside))
-  pairs (x ∷ xs) s = AllPairs-cons (λ a b. R a b ≡ Less) x xs (All-from_recursion (λ b. R x b ≡ Less) xs s.0) (pairs xs s.1)
-
   module _ (equal : X → X → Bool) (same : (x y : X) → IsTrue (equal x y) ↔ (x ≡ y)) where
-    equivalence : IsEquivalence equal
-    equivalence = grind (arith)
-
     decided : (x y : X) → equal x y ≡ eq_by_cmp R x y
     decided x y = grind (arith)
 
     -- what is left is in order, each once
     pub ascending : (sorted left : List X) → IsSorted R sorted → IsFiltered (DiffersFromLast equal) [] sorted left
         → AllPairs (λ x y. R x y ≡ Less) left
-    ascending sorted left ascends filtered = rw (dedup_is equal sorted left filtered) (pairs _ (IsStrictlySortedBy-dedup total decided sorted ascends))
+    ascending sorted left ascends filtered i j d less small =
+        let strict = IsStrictlySortedBy-dedup total decided sorted ascends in
+        Less-from_sorted R left i j d (rw (dedup_is equal sorted left filtered) strict) less small
 
     -- and has the elements of the list
     pub members : (list sorted left : List X) → IsPermutation list sorted
         → IsFiltered (DiffersFromLast equal) [] sorted left → (p : X) → Contains left p ↔ Contains list p
     members list sorted left moved filtered p =
-        rw (dedup_is equal sorted left filtered) (
-          (λ h. Contains-permutation sorted list p (IsPermutation-sym list sorted moved) (Contains-from_dedup equal sorted p h)),
-          λ h. Contains-dedup equivalence (λ x y e. (same x y).0 e) sorted p (Contains-permutation list sorted p moved h),
-        )
+        let equivalence : IsEquivalence equal = grind (arith) in
+        let on = Contains-permutation list sorted p moved in
+        let back = Contains-permutation sorted list p (IsPermutation-sym list sorted moved) in
+        let there = Contains-dedup equivalence (λ x y e. (same x y).0 e) sorted p in
+        rw (dedup_is equal sorted left filtered) ((λ h. back (Contains-from_dedup equal sorted p h)), λ h. there (on h))

@@ -1,6 +1,6 @@
 -- Two lists in order, merged by turns: each turn takes the next element of one of them, which comes no later than the
 -- next of the other.
-use Rattle.roa_origin.proofs.Common.{All, List, [], ap, append_assoc, arith, get_or, inl, inr, length, refl, ℕ, ◌++◌, ◌+◌, ◌-◌, ◌<◌, ◌∷◌, ◌≡◌, ◌≤◌, get_or_default, get_or_push, length_push, All-contains, Contains-get_or, IsNonDecreasingBy-push, IsPermutation-append_left, IsPermutation-middle, IsPermutation-push_more, IsPermutation-sym, IsNonDecreasingBy, IsPermutation, AreThose}
+use Rattle.roa_origin.proofs.Common.{All, List, [], ap, append_assoc, arith, get_or, inl, inr, length, refl, take, ℕ, ◌++◌, ◌+◌, ◌-◌, ◌<◌, ◌∷◌, ◌≡◌, ◌≤◌, get_or_default, get_or_push, length_push, take_more, All-contains, Contains-get_or, IsNonDecreasingBy-push, IsPermutation-append_left, IsPermutation-middle, IsPermutation-push_more, IsPermutation-sym, IsNonDecreasingBy, IsPermutation, AreThose}
 use Rattle.roa_origin.proofs.Members.{those_are}
 
 -- a list in order whose last element comes no later than what is left of two lists from places on
@@ -35,19 +35,21 @@ module _ {X Y Z : Type 0} {f : X → ℕ} {g : Y → ℕ} {h : Z → ℕ} {xs : 
 
 -- ---- what is kept of a list
 
-pub those_more : {X : Type 0} (P : X → Type 0) (xs ys : List X) (x : X) → P x → AreThose P xs ys
-    → AreThose P (xs ++ x ∷ []) (ys ++ x ∷ [])
-those_more P [] ys x h e = inl (h, [], ap (λ zs. zs ++ x ∷ []) e, refl)
-those_more P (y ∷ xs) ys x h e = grind (arith, those_more P xs)
+module _ {X : Type 0} (P : X → Type 0) where
+  those_next : (xs ys : List X) (x : X) → AreThose P xs ys
+      → (P x → AreThose P (xs ++ x ∷ []) (ys ++ x ∷ [])) × (¬ P x → AreThose P (xs ++ x ∷ []) ys)
+  those_next [] ys x e = ((λ h. inl (h, [], ap (λ zs. zs ++ x ∷ []) e, refl)), λ h. inr (h, e))
+  those_next (y ∷ xs) ys x e = ((λ h. grind (arith, those_next xs)), λ h. grind (arith, those_next xs))
 
-pub those_without : {X : Type 0} (P : X → Type 0) (xs ys : List X) (x : X) → ¬ P x → AreThose P xs ys
-    → AreThose P (xs ++ x ∷ []) ys
-those_without P [] ys x h e = inr (h, e)
-those_without P (y ∷ xs) ys x h e = grind (arith, those_without P xs)
+  -- of a list up to a place: the element there stays, or goes
+  pub stays_at : (xs ys : List X) (at : ℕ) (x : X) → at < length xs → x ≡ get_or xs at x → AreThose P (take at xs) ys
+      → (P x → AreThose P (take (at + 1) xs) (ys ++ x ∷ [])) × (¬ P x → AreThose P (take (at + 1) xs) ys)
+  stays_at xs ys at x small is so_far = rw (take_more xs at x small, ← is) (those_next _ ys x so_far)
 
 -- what all are, those are
 pub All-those : {X : Type 0} (P R : X → Type 0) (xs ys : List X) → AreThose P xs ys → All R xs → All R ys
-All-those P R xs ys those all k d small = All-contains R xs (get_or ys k d) all (those_are P xs ys (get_or ys k d) those (Contains-get_or ys k d small)).1
+All-those P R xs ys those all k d small =
+    All-contains R xs _ all (those_are P xs ys _ those (Contains-get_or ys k d small)).1
 
 -- ---- what a list has in another order, and one element more
 

@@ -1,13 +1,12 @@
 -- What the numbers of a table's order say: a place tells the prefix, a rank the AS number and the greatest length.
-use Rattle.roa_origin.proofs.Common.{All, Bool, List, Option, ap, arith, get_or, ℕ, ◌*◌, ◌+◌, ◌-◌, ◌<◌, ◌^◌, ◌≡◌, ◌≤◌, pow_below, pow_pos, IsNonDecreasingBy, bool_cmp, nat_cmp, ordering_then, IpAddr, round_covers, CoversPrefix, FamilyPrefix, IsFamilyPrefix, address_number, addr_of, family_place, width, IsLawfulPayload, Payload, longest, payload_place, place, rank, table_place, told}
+use Rattle.roa_origin.proofs.Common.{All, Bool, List, Option, ap, arith, get_or, ℕ, ◌*◌, ◌+◌, ◌-◌, ◌<◌, ◌^◌, ◌≡◌, ◌≤◌, pow_below, pow_pos, IsNonDecreasingBy, bool_cmp, nat_cmp, ordering_then, IpAddr, round_covers, CoversPrefix, FamilyPrefix, IsFamilyPrefix, address_number, width, addr_of, IsLawfulPayload, Payload, longest, family_place, payload_place, place, rank, table_place, told}
 use Rattle.std.proofs.lemmas.Bool.Decides.{nat_tests}
 use Rattle.roa_origin.proofs.Nested.{len_small, number_small, same_place, same_width, width_small}
 
 -- what a prefix covers is no shorter
 pub covers_len : (p q : FamilyPrefix) → IsFamilyPrefix p → CoversPrefix p q → p.len ≤ q.len
 covers_len p q is c =
-    let less = pow_below (width p.addr - p.len) (width p.addr - q.len) in
-    grind (arith, is.short, less, pow_pos, round_covers, same_width)
+    grind (arith, is.short, pow_below (width p.addr - p.len) (width p.addr - q.len), pow_pos, round_covers, same_width)
 
 same_addr : (a b : IpAddr) → family_place a ≡ family_place b → address_number a ≡ address_number b → a ≡ b
 same_addr a b e f = grind (arith)
@@ -53,7 +52,7 @@ lower m n r s e le = omega (arith, e, le)
 pub by_places : (xs : List Payload) → All IsLawfulPayload xs → IsNonDecreasingBy table_place xs
     → IsNonDecreasingBy payload_place xs
 by_places xs all ranked i j d le small =
-    upper (payload_place (get_or xs i d)) (payload_place (get_or xs j d)) (rank (get_or xs i d)) (rank (get_or xs j d)) (rank_small (get_or xs j d) (all j d small)) (ranked i j d le small)
+    omega (arith, rank_small (get_or xs j d) (all j d small), ranked i j d le small)
 
 -- and those of one prefix in that of their ranks
 pub by_ranks : (p q : Payload) → p.0.prefix ≡ q.0.prefix → table_place p ≤ table_place q → rank p ≤ rank q

@@ -15,8 +15,7 @@ module _ {old new : List Payload} {routes : List (FamilyPrefix × ℕ)} where
     (λ not. grind (arith, get_or_default)),
     λ h same.
         let c : HasChanged old new route.0 route.1 = rw (← is) at (h.changed route) in
-        let before = one_validity route.0 route.1 old c.before v c.was was in
-        c.differ (before ∙ same ∙ one_validity route.0 route.1 new w c.after now c.is),
+        c.differ (one_validity _ _ old c.before v c.was was ∙ same ∙ one_validity _ _ new w c.after now c.is),
   )
 
 -- of the first n routes
@@ -28,12 +27,12 @@ module _ {old new : List Payload} {routes : List (FamilyPrefix × ℕ)} {n : ℕ
     (so_far : AreSoFar old new routes n places) where
   pub one_more : IsChangedAt old new routes n → AreSoFar old new routes (n + 1) (places ++ n ∷ [])
   one_more is = record {
-    ascending = all_pairs_push (λ i j. i < j) places n so_far.ascending (λ k d inside. ((so_far.members (get_or places k d)).0 (Contains-get_or places k d inside)).0);
+    ascending = all_pairs_push (λ i j. i < j) places n so_far.ascending
+        (λ k d inside. ((so_far.members _).0 (Contains-get_or places k d inside)).0);
     members = λ k. (
       (λ h. grind (arith, Contains-push_cases places n k h, so_far.members k, is)),
       λ h.
-          let before = Contains-append_left places (n ∷ []) k in
-          grind (arith, Contains-push places n, cases_lt k n, so_far.members k),
+          grind (arith, Contains-append_left places (n ∷ []) k, Contains-push places n, cases_lt k n, so_far.members k),
     );
   }
 

@@ -1,5 +1,5 @@
 -- The order of payloads is total, and payloads tie in it exactly where they are the same.
-use Rattle.roa_origin.proofs.Common.{Bool, IsTrue, ap, subst, true, ◌&&◌, ◌==◌, ◌↔◌, ◌≡◌, ◌≢◌, ◌⊎◌, eq-eqb, eqb-true, IsTotalOrder, nat_cmp, ordering_reverse, Ordering, Equal, Greater, Less, MaxLenValue, max_len_cmp, Payload, payload_cmp, arith}
+use Rattle.roa_origin.proofs.Common.{Bool, IsTrue, ap, arith, subst, true, ◌&&◌, ◌==◌, ◌↔◌, ◌≡◌, ◌≢◌, ◌⊎◌, and_parts, eq-eqb, eqb-true, IsTotalOrder, nat_cmp, ordering_reverse, Ordering, Equal, Greater, Less, MaxLenValue, max_len_cmp, Payload, payload_cmp}
 use Rattle.std.proofs.lemmas.Cmp.{nat_cmp_total, on_total, then_total, tied_itself}
 use Rattle.std.proofs.lemmas.Map.Lookups.{exact_pairs, exact_unsigned}
 use Rattle.std.specs.Ordering.{is_eq, is_lt}
@@ -28,10 +28,7 @@ less_of o e = grind (arith)
 pub equal_of : (o : Ordering) → is_eq o ≡ true → o ≡ Equal
 equal_of o e = grind (arith)
 
-both_true : (a b : Bool) → IsTrue (a && b) → IsTrue a × IsTrue b
-both_true a b e = grind (arith)
-
 -- payloads are equal where they are the same
 pub equal_where_the_same : {eq : MaxLenValue → MaxLenValue → Bool} → ((m n : MaxLenValue) → IsTrue (eq m n) ↔ (m ≡ n))
     → (p q : Payload) → IsTrue (eq p.0 q.0 && (p.1 == q.1)) ↔ (p ≡ q)
-equal_where_the_same same p q = grind (arith, both_true, eq-eqb, eqb-true)
+equal_where_the_same same p q = grind (arith, and_parts, eq-eqb, eqb-true)

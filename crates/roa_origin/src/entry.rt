@@ -269,6 +269,7 @@ impl Entry {
     }
 
     /// Whether the payload covers a route (RFC 6811, 2).
+    #[tactic(auto, using(crate::proofs::Nested::starts_by, crate::proofs::Places::covers_len))]
     pub(crate) fn covers(&self, route: &Entry) -> bool
         ensures { IsTrue result ↔ CoversRoute route.now.0.prefix self.now }
     {

@@ -1,7 +1,8 @@
 -- The next payload is kept where the other list hasn't it.
-use Rattle.roa_origin.proofs.Common.{arith, take_all, payload_cmp}
+use Rattle.roa_origin.proofs.Common.{arith, ◌≡◌, take_all, Less, payload_cmp}
+use Rattle.roa_origin.proofs.Members.{those_are, those_have, those_ordered}
 use Rattle.roa_origin.proofs.Totals.{ties, total}
-use Rattle.roa_origin.proofs.Turns.{IsTurn, dropped, kept}
+use Rattle.roa_origin.proofs.Turns.{turned}
 use Rattle.roa_origin.proofs.changes.left_of.Goals.{then-not-stands_at+in_ok-push, else-not-stands_at}
 use Rattle.roa_origin.proofs.changes.left_of.Goals as goal
 
@@ -9,29 +10,21 @@ pub loop-payload-preserved : goal.loop-payload-preserved
 loop-payload-preserved g c =
     let is_total = total c.total_order.ensures.max_len_total in
     let same = ties c.total_order.ensures.max_len_ties is_total in
-    let l = c.loop-payload in
-    let so_far = l.invariant in
-    let at = c.not_less-at in
-    let x = c.payload-item in
-    let turn : IsTurn payload_cmp c.args.one.now c.args.other.now l.payload-index l.at at.result x.result = record {
-      small = c.loop-payload-test.true;
-      is = x.is;
-      ascends = c.requires.one;
-      others = c.requires.other;
-      within = at.ensures.within;
-      less = at.ensures.less;
-      not_less = at.ensures.not_less;
-    } in
+    let at = c.not_less-at.ensures in
+    let turn = turned is_total same c.loop-payload.invariant c.requires.one c.requires.other c.loop-payload-test.true
+    c.payload-item.is at.within at.less at.not_less in
     elim c.if-not-stands_at.branch [
       | then-not-stands_at+in_ok-push w ↦
-          rw (w.left-is, w.in_ok-push.ensures.items)
-          (kept is_total same so_far turn (grind (arith, w.if-not-stands_at.true)))
-      | else-not-stands_at w ↦
-          rw w.left-is (dropped is_total same so_far turn (c.stands_at.ensures.0 w.if-not-stands_at.false))
+          rw (w.left-is, w.in_ok-push.ensures.items) (turn.0 (grind (arith, w.if-not-stands_at.true)))
+      | else-not-stands_at w ↦ rw w.left-is (turn.1 (c.stands_at.ensures.0 w.if-not-stands_at.false))
     ]
 
 pub returns : goal.returns
 returns g c =
-    let so_far = c.loop-payload.invariant in
-    let all = take_all c.loop-payload.payload-index c.args.one.now (omega (arith, c.loop-payload-test.false)) in
-    record { ascending = so_far.ascending; members = rw all at so_far.members }
+    let one = c.args.one.now in
+    let all = take_all c.loop-payload.payload-index one (omega (arith, c.loop-payload-test.false)) in
+    let stays = rw all at c.loop-payload.invariant.stays in
+    let are = those_are _ one c.loop-payload.left.items in record {
+      ascending = those_ordered _ (λ p q. payload_cmp p q ≡ Less) one _ stays c.requires.one;
+      members = λ p. ((λ h. let is = are p stays h in (is.1, is.0)), λ h. those_have _ one _ p stays h.0 h.1);
+    }

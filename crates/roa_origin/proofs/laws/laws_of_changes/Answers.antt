@@ -1,5 +1,5 @@
 -- What is left and what is announced are the payloads of the next table.
-use Rattle.roa_origin.proofs.Common.{Less, payload_cmp, ◌≡◌}
+use Rattle.roa_origin.proofs.Common.{◌≡◌, Less, payload_cmp}
 use Rattle.roa_origin.proofs.Lists.{decide, nothing, only_next}
 use Rattle.roa_origin.proofs.Members.{same_list}
 use Rattle.roa_origin.proofs.Totals.{not_back, ties, total}

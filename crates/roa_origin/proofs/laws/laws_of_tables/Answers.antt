@@ -1,11 +1,12 @@
 -- Payloads in order have one order.
-use Rattle.roa_origin.proofs.Common.{Less, payload_cmp, ◌≡◌}
+use Rattle.roa_origin.proofs.Common.{◌≡◌, Less, payload_cmp}
 use Rattle.roa_origin.proofs.Members.{same_list}
 use Rattle.roa_origin.proofs.Totals.{not_back, total}
 use Rattle.roa_origin.proofs.laws.laws_of_tables.Goals as goal
 
 pub returns-clause-members : goal.returns-clause-members
-returns-clause-members c = same_list (λ p q. payload_cmp p q ≡ Less) (not_back (total c.total_order.ensures.max_len_total))
+returns-clause-members c =
+    same_list (λ p q. payload_cmp p q ≡ Less) (not_back (total c.total_order.ensures.max_len_total))
 
 pub returns-clause-one : goal.returns-clause-one
 returns-clause-one c payloads table other one two =

@@ -1,11 +1,7 @@
 -- A validity is told by what it stands for.
 use Rattle.roa_origin.proofs.Common.{IsPermutation-sym}
-use Rattle.roa_origin.proofs.Reevaluated.{one_validity}
 use Rattle.roa_origin.proofs.Scans.{same_validity}
 use Rattle.roa_origin.proofs.laws.laws_of_validities.Goals as goal
-
-pub returns-clause-one : goal.returns-clause-one
-returns-clause-one c = one_validity
 
 pub returns-clause-any_order : goal.returns-clause-any_order
 returns-clause-any_order c route asn xs ys v moved =

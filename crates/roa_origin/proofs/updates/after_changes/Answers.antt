@@ -14,8 +14,3 @@ returns-clause-faults g c =
       known = c.in_default.ensures;
       fresh = c.in_default-first_duplicate.ensures c.args.withdrawn.now (rw c.as_slice-2.ensures.value gone);
     }
-
-pub returns-in-Some-first_duplicate-clause-faults : goal.returns-in-Some-first_duplicate-clause-faults
-returns-in-Some-first_duplicate-clause-faults g c =
-    let gone = c.in_ok-gone.ensures.changes in
-    (c.in_default.ensures, c.in-Some-first_duplicate.ensures c.args.withdrawn.now (rw c.as_slice-2.ensures.value gone))

@@ -3,4 +3,6 @@ use Rattle.roa_origin.proofs.Common.{List, ℕ, ◌<◌, Payload, AreChangesOf, 
 use Rattle.roa_origin.proofs.updates.first_duplicate.Given as goal
 
 abbrev pub invariant-loop-place : goal.invariant-loop-place
-invariant-loop-place l = (gone : List Payload) → AreChangesOf gone l.withdrawn → (n : ℕ) → n < l.place → ¬ IsDuplicateRecord l.table l.announced gone n
+invariant-loop-place l =
+    (gone : List Payload) → AreChangesOf gone l.withdrawn → (n : ℕ) → n < l.place
+    → ¬ IsDuplicateRecord l.table l.announced gone n

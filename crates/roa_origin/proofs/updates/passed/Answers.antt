@@ -1,5 +1,5 @@
 -- From the place on none comes earlier, since the first there doesn't.
-use Rattle.roa_origin.proofs.Common.{ltb-false, arith, get_or, get_or_default, sent_place, sent_change}
+use Rattle.roa_origin.proofs.Common.{arith, get_or, ltb-false, get_or_default, sent_place, sent_change}
 use Rattle.roa_origin.proofs.Listed.{by_payload}
 use Rattle.roa_origin.proofs.updates.passed.Goals as goal
 
@@ -9,5 +9,5 @@ returns-else-is_sent_before-clause-searched c =
     let at = c.loop-at.at in
     let x = c.index-changes-at.result in
     let not_less = ltb-false (sent_change (get_or xs at x)) (sent_place c.args.payload.now) (cc) in
-    let there = c.loop-at-test.true in
-    grind (arith, by_payload xs c.requires.in_order at, c.loop-at.invariant, get_or_default xs at x)
+    let up = by_payload xs c.requires.in_order at in
+    grind (arith, up, c.loop-at.invariant, c.loop-at-test.true, get_or_default xs at x)

@@ -6,4 +6,6 @@ use Rattle.roa_origin.proofs.updates.run_end.Goals as goal
 pub returns-clause-some : goal.returns-clause-some
 returns-clause-some c =
     let e : Change = record { entry = nowhere; place = 0 } in
-    grind (arith, c.end_before-before.ensures.from c.args.at nowhere e, c.end_up_to-up_to.ensures.later c.args.at nowhere e, c.requires.before nowhere e, c.requires.up_to nowhere e, c.min.ensures)
+    let before = c.end_before-before.ensures.from c.args.at nowhere e in
+    let up_to = c.end_up_to-up_to.ensures.later c.args.at nowhere e in
+    grind (arith, before, up_to, c.requires.before nowhere e, c.requires.up_to nowhere e, c.min.ensures)

@@ -4,7 +4,8 @@ use Rattle.roa_origin.proofs.updates.sort_changes.Goals as goal
 
 pub returns-clause-in_order : goal.returns-clause-in_order
 returns-clause-in_order g c =
-    let xs = c.sort_unstable_by.new.self.items in record {
-      lawful = All-permutation IsLawfulChange c.args.changes.now.items xs c.sort_unstable_by.ensures.permutation c.requires;
-      ordered = IsNonDecreasingBy-from_sort_by change_place xs c.sort_unstable_by.ensures.sorted (λ a r q k. search rules);
+    let xs = c.sort_unstable_by.new.self.items in
+    let is = c.sort_unstable_by.ensures in record {
+      lawful = All-permutation IsLawfulChange c.args.changes.now.items xs is.permutation c.requires;
+      ordered = IsNonDecreasingBy-from_sort_by change_place xs is.sorted (λ a r q k. search rules);
     }

@@ -17,4 +17,6 @@ returns-clause-steps c =
     ∙ gives c.self.invariant (some c) near.back refl c.left-self-inside.ensures x (near.found x (some c)) near.none)
 
 pub returns-clause-goes : goal.returns-clause-goes
-returns-clause-goes c = (let shorter = ap length (returns-clause-steps c) in record { on = λ _. (tt, tt, omega arith); keeps = tt; rests = λ _. tt })
+returns-clause-goes c =
+    let shorter = ap length (returns-clause-steps c) in
+    record { on = λ _. (tt, tt, omega arith); keeps = tt; rests = λ _. tt }

@@ -6,5 +6,6 @@ use Rattle.roa_origin.proofs.entry.Entry.addresses_behind.Goals as goal
 pub returns-else-fixed : goal.returns-else-fixed
 returns-else-fixed c =
     let fixed = c.fixed_bits-fixed.result in
-    let left : 128 - fixed ≡ width c.args.self.now.0.prefix.addr - prefix_len c.args.self.now = omega (arith, c.fixed_bits-fixed.ensures) in
-    host_ones 128 fixed (omega (arith, c.fixed_bits-fixed.ensures)) ∙ ap (λ k. 2 ^ k) left
+    let is = c.fixed_bits-fixed.ensures in
+    let left : 128 - fixed ≡ width c.args.self.now.0.prefix.addr - prefix_len c.args.self.now = omega (arith, is) in
+    host_ones 128 fixed (omega (arith, is)) ∙ ap (λ k. 2 ^ k) left

@@ -2,18 +2,19 @@
 use Rattle.roa_origin.proofs.Common.{payload_cmp}
 use Rattle.roa_origin.proofs.Lists.{ascending, members}
 use Rattle.roa_origin.proofs.Totals.{equal_where_the_same, ties, total}
+use Rattle.roa_origin.specs.Tables.{IsTableOf}
 use Rattle.roa_origin.proofs.payloads.PayloadTable.new.Given as given
 use Rattle.roa_origin.proofs.payloads.PayloadTable.new.Goals as goal
-use Rattle.roa_origin.specs.Tables.{IsTableOf}
 
 table : (g : given.Over) (c : goal.After-dedup g) → IsTableOf c.args.payloads.now c.dedup.new.self.items
 table g c =
     let is_total = total c.total_order.ensures.max_len_total in
     let same = ties c.total_order.ensures.max_len_ties is_total in
     let equal = equal_where_the_same c.equal_where_the_same.ensures.max_len in
-    record {
-      ascending = ascending payload_cmp is_total same _ equal _ _ c.sort_unstable.ensures.sorted c.dedup.ensures.filtered;
-      members = members payload_cmp is_total same _ equal _ _ _ (rw c.in_ok-table.ensures at c.sort_unstable.ensures.permutation) c.dedup.ensures.filtered;
+    let moved = rw c.in_ok-table.ensures at c.sort_unstable.ensures.permutation in
+    let filtered = c.dedup.ensures.filtered in record {
+      ascending = ascending payload_cmp is_total same _ equal _ _ c.sort_unstable.ensures.sorted filtered;
+      members = members payload_cmp is_total same _ equal _ _ _ moved filtered;
     }
 
 pub invariant_of-result : goal.invariant_of-result

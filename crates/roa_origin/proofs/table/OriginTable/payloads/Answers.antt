@@ -1,6 +1,5 @@
 -- A table is in order.
-use Rattle.roa_origin.proofs.Common.{List, subst, sym, ◌∙◌, IsNonDecreasingBy, Payload, table_place}
 use Rattle.roa_origin.proofs.table.OriginTable.payloads.Goals as goal
 
 pub returns-clause-order : goal.returns-clause-order
-returns-clause-order g c = subst (λ (ps : List Payload). IsNonDecreasingBy table_place ps) (sym (c.of.ensures ∙ c.as_slice.ensures.value)) c.self.invariant.0.in_order.ranked
+returns-clause-order g c = rw (c.of.ensures, c.as_slice.ensures.value) c.self.invariant.0.in_order.ranked

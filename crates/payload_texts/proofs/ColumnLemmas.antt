@@ -1,8 +1,6 @@
 -- The columns that a line names.
-use Rattle.payload_texts.proofs.Common.{List, [], ap, arith, inl, inr, subst, suc, sym, ℕ, ◌+◌, ◌-◌, ◌<◌, ◌∙◌, ◌≡◌, after_first, IsColumn, IsHeader, Names, field, is_comma, Columns}
-use borrow.Author.Count.{below_more}
+use Rattle.payload_texts.proofs.Common.{List, [], arith, suc, ℕ, ◌+◌, ◌-◌, ◌<◌, ◌≡◌, after_first, IsColumn, IsHeader, Names, field, is_comma, Columns}
 use borrow.Author.Tests.{ltb-true, ltb-false}
-use Rattle.std.proofs.lemmas.Bool.{cases_lt}
 use Rattle.payload_texts.specs.declared.columns.Column.{Column}
 use Rattle.payload_texts.proofs.FieldLemmas.{field_empty}
 
@@ -18,38 +16,24 @@ pub record AreLooked (column : Column) (line rest : List ℕ) (commas : ℕ) : T
 pub looked_none : (column : Column) (line : List ℕ) → AreLooked column line line 0
 looked_none column line = grind (arith)
 
--- the next field is the first of the rest
-here : (column : Column) (line rest : List ℕ) (commas : ℕ) → AreLooked column line rest commas
-    → field commas line ≡ field 0 rest
-here column line rest commas had =
-    let none_more : commas + 0 ≡ commas = omega arith in
-    ap (λ n. field n line) (sym none_more) ∙ had.same 0
-
 -- one field more, which isn't the column's name
 pub looked_more : (column : Column) (line rest : List ℕ) (commas : ℕ) → AreLooked column line rest commas
     → ¬ Names column (field 0 rest) → AreLooked column line (after_first is_comma rest) (commas + 1)
 looked_more column line rest commas had other = record {
-  same = λ n.
-      let one_more : commas + 1 + n ≡ commas + suc n = omega arith in
-      ap (λ m. field m line) one_more ∙ had.same (suc n);
-  none = below_more (λ m. ¬ Names column (field m line)) commas had.none (λ named. other (subst (Names column) (here column line rest commas had) named));
+  same = λ n. grind (arith, had.same (suc n));
+  none = λ m less named. grind (arith, had.same 0, had.none m);
 }
 
 -- one field more, which is
 pub looked_found : (column : Column) (line rest : List ℕ) (commas : ℕ) → AreLooked column line rest commas
     → Names column (field 0 rest) → IsColumn column line commas
-looked_found column line rest commas had named = grind (arith, here)
+looked_found column line rest commas had named = grind (arith, had.same 0)
 
 -- nothing is left
 pub looked_all : (column : Column) (line rest : List ℕ) (commas : ℕ) → AreLooked column line rest commas → rest ≡ []
     → (n : ℕ) → ¬ Names column (field n line)
-looked_all column line rest commas had end n named = elim (cases_lt n commas) [
-  | inl below ↦ had.none n below named
-  | inr above ↦
-      let left : commas + (n - commas) ≡ n = omega (arith, above) in
-      let empty : field n line ≡ [] = ap (λ m. field m line) (sym left) ∙ had.same (n - commas) ∙ ap (field (n - commas)) end ∙ field_empty (n - commas) in
-      no_name column (subst (Names column) empty named)
-]
+looked_all column line rest commas had end n named =
+    grind (arith, no_name, field_empty, had.none n, had.same (n - commas))
 
 -- a line has one column of a name
 pub column_one : (column : Column) (line : List ℕ) (m n : ℕ) → IsColumn column line m → IsColumn column line n → m ≡ n

@@ -1,5 +1,5 @@
 -- What the proofs of this crate use of std, of the crates below and of its own definitions, passed on by one name.
-pub use Rattle.std.proofs.Common.{Bool, Err, IfOk, List, MatchResult, None, Ok, Option, Result, Some, Vec, [], ap, append-nil, append_assoc, arith, false, if◌then◌else◌, inl, inr, length, refl, subst, suc, sym, take, true, zero, ℕ, ◌++◌, ◌+◌, ◌-◌, ◌<◌, ◌^◌, ◌∙◌, ◌∷◌, ◌≡◌, ◌≢◌, ◌≤◌, ◌⊎◌}
+pub use Rattle.std.proofs.Common.{Err, IfOk, List, MatchResult, None, Ok, Option, Result, Some, Vec, [], ap, append-nil, append_assoc, arith, false, if◌then◌else◌, inl, inr, length, refl, suc, sym, take, true, zero, ℕ, ◌++◌, ◌+◌, ◌-◌, ◌<◌, ◌^◌, ◌∙◌, ◌∷◌, ◌≡◌, ◌≢◌, ◌≤◌, ◌⊎◌}
 pub use Rattle.std.proofs.lemmas.Bool.{MatchBool-at_true, eqb-false, eqb-true}
 pub use Rattle.std.proofs.lemmas.List.{length-append, nil_from_length, take_more}
 pub use Rattle.std.specs.Option.{option_and_then}
@@ -18,7 +18,7 @@ pub use Rattle.payload_texts.specs.Columns.{IsColumn, IsHeader, Names, usual}
 pub use Rattle.payload_texts.specs.Fields.{behind, field, is_comma, unquoted}
 pub use Rattle.payload_texts.specs.Items.{AreItems, HasItemFault, HasTexts, HaveWrongItem, IsItem}
 pub use Rattle.payload_texts.specs.JsonFiles.{HasJsonFault, IsJsonFile, TellRoas, roas}
-pub use Rattle.payload_texts.specs.Members.{AreWrong, HasMemberFault, HasText, IsFound, Writes, name_of, named_values, values_in}
+pub use Rattle.payload_texts.specs.Members.{AreWrong, HasMemberFault, HasText, IsFound, values_in}
 pub use Rattle.payload_texts.specs.Rows.{ArePayload, HasRowFault, HaveFault, IsBody, IsRow}
 pub use Rattle.payload_texts.specs.declared.columns.Columns.{Columns}
 pub use Rattle.payload_texts.specs.declared.fault.FileFault.{FileFault}
@@ -27,4 +27,4 @@ pub use Rattle.payload_texts.specs.declared.fault.ItemFault.{ItemFault}
 pub use Rattle.payload_texts.specs.declared.fault.MemberFault.TheVariants.{Kind, Missing, Repeated}
 pub use Rattle.payload_texts.specs.declared.fault.PayloadFault.{PayloadFault}
 pub use Rattle.payload_texts.specs.declared.row.Row.{Row}
-pub use Rattle.payload_texts.specs.declared.row.Row.TheVariants.{Blank, Header, Payload}
+pub use Rattle.payload_texts.specs.declared.row.Row.TheVariants.{Header, Payload}

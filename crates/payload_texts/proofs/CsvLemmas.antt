@@ -1,13 +1,14 @@
 -- The lines of a file, read one after another; a file writes one list of payloads, or has one fault.
-use Rattle.payload_texts.proofs.Common.{List, [], append-nil, append_assoc, arith, inl, inr, refl, subst, sym, ℕ, ◌++◌, ◌+◌, ◌∙◌, ◌∷◌, ◌≡◌, ◌≢◌, MaxLenValue, usual, HasRowFault, IsRow, Columns, FileFault, Line, NoPayload, PayloadFault, Row}
+use Rattle.payload_texts.proofs.Common.{List, [], append-nil, append_assoc, arith, inl, inr, refl, sym, ℕ, ◌++◌, ◌+◌, ◌∙◌, ◌∷◌, ◌≡◌, ◌≢◌, usual, HasRowFault, IsRow, Columns, FileFault, Line, NoPayload, PayloadFault, Row}
 use Rattle.rpki_text.specs.Lines.{lines_of}
 use Rattle.payload_texts.specs.Csv.{AreRows, HaveFirstFault, HasCsvFault, IsCsvFile, columns_after, payloads_of}
+use Rattle.payload_texts.proofs.ItemLemmas.{Payloads}
 use Rattle.payload_texts.proofs.RowLemmas.{row_apart, row_fault_one, row_one}
 
 -- What the rest of a text writes behind the payloads before it, the text writes; what is wrong there first is so in the
 -- text.
-pub record IsReadSo (text rest : List ℕ) (number : ℕ) (columns : Columns) (payloads : List (MaxLenValue × ℕ)) : Type 0 where
-  pub values : (more : List (MaxLenValue × ℕ)) → AreRows columns (lines_of rest) more
+pub record IsReadSo (text rest : List ℕ) (number : ℕ) (columns : Columns) (payloads : Payloads) : Type 0 where
+  pub values : (more : Payloads) → AreRows columns (lines_of rest) more
       → AreRows usual (lines_of text) (payloads ++ more)
   pub faults : (fault : FileFault) → HaveFirstFault (number + 1) columns (lines_of rest) fault
       → HaveFirstFault 1 usual (lines_of text) fault
@@ -16,14 +17,15 @@ pub record IsReadSo (text rest : List ℕ) (number : ℕ) (columns : Columns) (p
 pub read_none : (text : List ℕ) → IsReadSo text text 0 usual []
 read_none text = record { values = λ more rows. rows; faults = λ fault wrong. wrong }
 
-module _ (text rest after line : List ℕ) (number : ℕ) (columns : Columns) (payloads : List (MaxLenValue × ℕ)) (had : IsReadSo text rest number columns payloads) (first : lines_of rest ≡ line ∷ lines_of after) where
+module _ (text rest after line : List ℕ) (number : ℕ) (columns : Columns) (payloads : Payloads)
+    (had : IsReadSo text rest number columns payloads) (first : lines_of rest ≡ line ∷ lines_of after) where
   -- one line more
   pub read_more : (row : Row) → IsRow columns line row
       → IsReadSo text after (number + 1) (columns_after columns row) (payloads ++ payloads_of row)
   read_more row is = record {
-    values = λ more rows. subst (AreRows usual (lines_of text)) (sym (append_assoc payloads (payloads_of row) more))
-        (had.values (payloads_of row ++ more) (subst (λ lines. AreRows columns lines (payloads_of row ++ more)) (sym first) (row, is, more, refl, rows)));
-    faults = λ fault wrong. had.faults fault (subst (λ lines. HaveFirstFault (number + 1) columns lines fault) (sym first) (inr (row, is, wrong)));
+    values = λ more rows.
+        rw append_assoc (had.values (payloads_of row ++ more) (rw first (row, is, more, refl, rows)));
+    faults = λ fault wrong. had.faults fault (rw first (inr (row, is, wrong)));
   }
 
   -- which writes no payload
@@ -33,36 +35,35 @@ module _ (text rest after line : List ℕ) (number : ℕ) (columns : Columns) (p
 
   -- the next line is wrong
   pub read_wrong : (wrong : PayloadFault) → HasRowFault columns line wrong → HasCsvFault text (Line (number + 1) wrong)
-  read_wrong wrong has = had.faults (Line (number + 1) wrong) (subst (λ lines. HaveFirstFault (number + 1) columns lines (Line (number + 1) wrong)) (sym first) (inl (wrong, has, refl)))
+  read_wrong wrong has = had.faults (Line (number + 1) wrong) (rw first (inl (wrong, has, refl)))
 
 -- nothing is left
-read_all : (text rest : List ℕ) (number : ℕ) (columns : Columns) (payloads : List (MaxLenValue × ℕ))
-    → IsReadSo text rest number columns payloads → rest ≡ [] → AreRows usual (lines_of text) payloads
-read_all text rest number columns payloads had end =
-    subst (AreRows usual (lines_of text)) (append-nil payloads) (had.values [] (subst (λ z. AreRows columns (lines_of z) []) (sym end) refl))
+module _ (text rest : List ℕ) (number : ℕ) (columns : Columns) (payloads : Payloads)
+    (had : IsReadSo text rest number columns payloads) (end : rest ≡ []) where
+  read_all : AreRows usual (lines_of text) payloads
+  read_all = rw append-nil at (had.values [] (rw end refl))
 
-pub read_some : (text rest : List ℕ) (number : ℕ) (columns : Columns) (payloads : List (MaxLenValue × ℕ))
-    → IsReadSo text rest number columns payloads → rest ≡ [] → payloads ≢ [] → IsCsvFile text payloads
-read_some text rest number columns payloads had end some = (read_all text rest number columns payloads had end, some)
+  pub read_some : payloads ≢ [] → IsCsvFile text payloads
+  read_some some = (read_all, some)
 
-pub read_no_payload : (text rest : List ℕ) (number : ℕ) (columns : Columns) (payloads : List (MaxLenValue × ℕ))
-    → IsReadSo text rest number columns payloads → rest ≡ [] → payloads ≡ [] → HasCsvFault text NoPayload
-read_no_payload text rest number columns payloads had end none = grind (arith, read_all)
+  pub read_no_payload : payloads ≡ [] → HasCsvFault text NoPayload
+  read_no_payload none = rw none at read_all
 
 -- lines write one list of payloads
-rows_one : (columns : Columns) (lines : List (List ℕ)) (a b : List (MaxLenValue × ℕ)) → AreRows columns lines a
+rows_one : (columns : Columns) (lines : List (List ℕ)) (a b : Payloads) → AreRows columns lines a
     → AreRows columns lines b → a ≡ b
 rows_one columns [] a b h k = h ∙ sym k
 rows_one columns (line ∷ lines) a b h k = grind (arith, row_one, rows_one (columns_after columns h.0) lines)
 
 -- lines that write payloads have no fault
-rows_apart : (number : ℕ) (columns : Columns) (lines : List (List ℕ)) (a : List (MaxLenValue × ℕ)) (fault : FileFault)
+rows_apart : (number : ℕ) (columns : Columns) (lines : List (List ℕ)) (a : Payloads) (fault : FileFault)
     → AreRows columns lines a → HaveFirstFault number columns lines fault → ⊥
 rows_apart number columns [] a fault h wrong = wrong
-rows_apart number columns (line ∷ lines) a fault (row, is, more, a_is, rows) (inl (wrong, has, _)) = row_apart columns line row wrong is has
+rows_apart number columns (line ∷ lines) a fault (row, is, more, a_is, rows) (inl (wrong, has, _)) =
+    row_apart columns line row wrong is has
 rows_apart number columns (line ∷ lines) a fault (row, is, more, a_is, rows) (inr (other, iz, later)) =
     let same = row_one columns line row other is iz in
-    rows_apart (number + 1) (columns_after columns row) lines more fault rows (subst (λ z. HaveFirstFault (number + 1) (columns_after columns z) lines fault) (sym same) later)
+    rows_apart (number + 1) (columns_after columns row) lines more fault rows (rw same later)
 
 -- lines have one first fault
 first_one : (number : ℕ) (columns : Columns) (lines : List (List ℕ)) (d e : FileFault)
@@ -72,11 +73,10 @@ first_one number columns (line ∷ lines) d e h k =
     grind (arith, row_apart, row_fault_one, row_one, λ (next : Columns). first_one (number + 1) next lines)
 
 -- so a file writes one list, and then has no fault, or has one
-pub csv_one : (text : List ℕ) (a b : List (MaxLenValue × ℕ)) → IsCsvFile text a → IsCsvFile text b → a ≡ b
+pub csv_one : (text : List ℕ) (a b : Payloads) → IsCsvFile text a → IsCsvFile text b → a ≡ b
 csv_one text a b h k = rows_one usual (lines_of text) a b h.0 k.0
 
-pub csv_apart : (text : List ℕ) (a : List (MaxLenValue × ℕ)) (fault : FileFault) → IsCsvFile text a
-    → HasCsvFault text fault → ⊥
+pub csv_apart : (text : List ℕ) (a : Payloads) (fault : FileFault) → IsCsvFile text a → HasCsvFault text fault → ⊥
 csv_apart text a fault h k = grind (arith, rows_apart, rows_one)
 
 pub csv_fault_one : (text : List ℕ) (d e : FileFault) → HasCsvFault text d → HasCsvFault text e → d ≡ e

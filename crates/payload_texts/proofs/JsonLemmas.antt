@@ -10,19 +10,19 @@ module _ (text : List ℕ) (ts : List Token) (are : ts ≡ tokens text) where
   pub none_in : ((r : List Token) → ts ≢ Token.begin_object ∷ r) → (ms : Members) → document text ≢ Some (object ms)
   none_in none ms e = grind (arith, value_is)
 
-  -- its members are wrong, or something follows
-  pub wrong_in : (r : List Token) → ts ≡ Token.begin_object ∷ r → members_in 127 r ≡ None → (ms : Members)
-      → document text ≢ Some (object ms)
-  wrong_in r opens wrong ms e = grind (arith, value-begin_object)
+  module _ (r : List Token) (opens : ts ≡ Token.begin_object ∷ r) where
+    -- its members are wrong, or something follows
+    pub wrong_in : members_in 127 r ≡ None → (ms : Members) → document text ≢ Some (object ms)
+    wrong_in wrong ms e = grind (arith, value-begin_object)
 
-  pub more_in : (r rest now : List Token) (t : Token) (all : Members) → ts ≡ Token.begin_object ∷ r
-      → members_in 127 r ≡ Some (all, now) → now ≡ t ∷ rest → (ms : Members) → document text ≢ Some (object ms)
-  more_in r rest now t all opens read more ms e = grind (arith, value-begin_object)
+    pub more_in : (rest now : List Token) (t : Token) (all : Members) → members_in 127 r ≡ Some (all, now)
+        → now ≡ t ∷ rest → (ms : Members) → document text ≢ Some (object ms)
+    more_in rest now t all read more ms e = grind (arith, value-begin_object)
 
-  -- the members, and then the end
-  pub object_in : (r now : List Token) (ms : Members) → ts ≡ Token.begin_object ∷ r → members_in 127 r ≡ Some (ms, now)
-      → now ≡ [] → document text ≡ Some (object ms)
-  object_in r now ms opens read end = grind (arith, value-begin_object)
+    -- the members, and then the end
+    pub object_in : (now : List Token) (ms : Members) → members_in 127 r ≡ Some (ms, now) → now ≡ []
+        → document text ≡ Some (object ms)
+    object_in now ms read end = grind (arith, value-begin_object)
 
 -- ---- the text's object is one, so it writes one list, and then has no fault, or has one
 

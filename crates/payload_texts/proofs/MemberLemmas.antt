@@ -1,9 +1,8 @@
 -- Members of an object, one after another; an item's member has one text, or one fault.
-use Rattle.payload_texts.proofs.Common.{Bool, List, Vec, [], ap, append-nil, arith, false, if◌then◌else◌, length, refl, true, ℕ, ◌++◌, ◌<◌, ◌∷◌, ◌≡◌, length-append, bytes_eq, Json, members_view, value_view, AreWrong, HasMemberFault, HasText, Writes, name_of, named_values, values_in, Kind, Missing, take, take_more, ◌+◌}
+use Rattle.payload_texts.proofs.Common.{List, [], append-nil, arith, false, if◌then◌else◌, length, refl, true, ℕ, ◌++◌, ◌<◌, ◌∷◌, ◌≡◌, length-append, bytes_eq, Json, members_view, value_view, AreWrong, HasMemberFault, HasText, values_in, Missing, take, take_more, ◌+◌}
 use Rattle.std.specs.Borrow.{Bor}
 use Rattle.std.proofs.Common.{get_or}
-use Rattle.json.specs.declared.value.Value.{Value, Object}
-use Rattle.json.proofs.Trees.{view-Object}
+use Rattle.json.specs.declared.value.Value.{Value}
 use Rattle.payload_texts.specs.declared.fault.MemberFault.{MemberFault}
 use Rattle.payload_texts.specs.declared.member.Member.{Member}
 
@@ -11,19 +10,11 @@ use Rattle.payload_texts.specs.declared.member.Member.{Member}
 abbrev pub if_named : List ℕ → List ℕ → Json → List Json
 if_named name key value = if bytes_eq key name then value ∷ [] else []
 
-one_before : (b : Bool) (value : Json) (more last : List Json)
-    → (if b then value ∷ (more ++ last) else more ++ last) ≡ (if b then value ∷ more else more) ++ last
-one_before b value more last = grind (arith)
-
 pub values_push : {A : Type 0} → (name : List ℕ) (ms : List (Bor (List ℕ) × Value A)) (m : Bor (List ℕ) × Value A)
     → values_in name (members_view (ms ++ m ∷ []))
     ≡ values_in name (members_view ms) ++ if_named name m.0.now (value_view m.1)
 values_push name [] m = refl
-values_push name (n ∷ ms) m = grind (arith, one_before, values_push name ms m)
-
--- a value has one text
-writes_one : (part : Member) (a b : List ℕ) (value : Json) → Writes part a value → Writes part b value → a ≡ b
-writes_one part a b value h k = grind (arith)
+values_push name (n ∷ ms) m = grind (arith, values_push name ms m)
 
 -- values are one of a kind, or wrong in one way
 pub wrong_apart : (IsKind : Json → Type 0) (values : List Json) (value : Json) (fault : MemberFault)
@@ -36,13 +27,13 @@ wrong_one IsKind values d e h k = grind (arith)
 
 module _ (part : Member) (item : Json) where
   pub text_one : (a b : List ℕ) → HasText part item a → HasText part item b → a ≡ b
-  text_one a b h k = grind (arith, writes_one)
+  text_one a b h k = grind (arith)
 
   pub text_apart : (a : List ℕ) (fault : MemberFault) → HasText part item a → HasMemberFault part item fault → ⊥
-  text_apart a fault h wrong = grind (arith, wrong_apart)
+  text_apart a fault h wrong = grind (arith)
 
   pub member_fault_one : (d e : MemberFault) → HasMemberFault part item d → HasMemberFault part item e → d ≡ e
-  member_fault_one d e h k = wrong_one (λ value. (text : List ℕ) × Writes part text value) (named_values (name_of part) item) d e h k
+  member_fault_one d e h k = grind (arith)
 
 -- with one value more it stays wrong, unless none was there
 pub more_wrong : (values : List Json) (value : Json) (fault : MemberFault) → AreWrong (λ value. Unit {0}) values fault
@@ -50,27 +41,18 @@ pub more_wrong : (values : List Json) (value : Json) (fault : MemberFault) → A
 more_wrong values value fault h some = grind (arith, length-append)
 
 pub two_values : (values : List Json) (first value : Json) → values ≡ first ∷ [] → 1 < length (values ++ value ∷ [])
-two_values values first value one = omega (arith, ap length one, length-append values (value ∷ []))
+two_values values first value one = grind (arith)
 
 -- the next member of an object
 module _ {A : Type 0} (name : List ℕ) (all : List (Bor (List ℕ) × Value A)) (i : ℕ) (m : Bor (List ℕ) × Value A)
     (less : i < length all) (is : m ≡ get_or all i m) where
-  values_more : values_in name (members_view (take (i + 1) all))
-      ≡ values_in name (members_view (take i all)) ++ if_named name m.0.now (value_view m.1)
-  values_more = rw (take_more all i m less, ← is) (values_push name (take i all) m)
-
   -- of another name, and of this one
   pub other_named : bytes_eq m.0.now name ≡ false
       → values_in name (members_view (take (i + 1) all)) ≡ values_in name (members_view (take i all))
-  other_named other = grind (arith, append-nil, values_more)
+  other_named other =
+      rw (take_more all i m less, ← is, values_push name (take i all) m, other) (append-nil _)
 
   pub one_named : bytes_eq m.0.now name ≡ true
       → values_in name (members_view (take (i + 1) all))
       ≡ values_in name (members_view (take i all)) ++ value_view m.1 ∷ []
-  one_named same = grind (arith, values_more)
-
--- an item's members are those of its object, whose one value is of another kind
-pub kind_wrong : {A : Type 0} (part : Member) (item : Value A) (v : Vec (Bor (List ℕ) × Value A) A) (name : List ℕ)
-    (value : Json) → item ≡ Object v → name ≡ name_of part → values_in name (members_view v.items) ≡ value ∷ []
-    → ((text : List ℕ) → ¬ Writes part text value) → HasMemberFault part (value_view item) Kind
-kind_wrong part item v name value is is_name one none = (value, grind (arith, view-Object), λ h. none h.0 h.1)
+  one_named same = rw (take_more all i m less, ← is, values_push name (take i all) m, same) refl

@@ -1,34 +1,42 @@
 -- What the values of the member `roas` tell, one after another, and the items of one.
 use Rattle.payload_texts.proofs.Common.{Err, IfOk, List, None, Ok, Result, Some, Vec, [], ap, append-nil, append_assoc, arith, false, inl, inr, length, refl, true, ℕ, ◌++◌, ◌+◌, ◌-◌, ◌<◌, ◌∙◌, ◌∷◌, ◌≡◌, length-append, bytes_eq, items_end, left, left_none, left_some, members_end, value-begin_array, value-begin_object, Items, Json, Members, array, item, member, no_items, no_members, parse_map, Token, MaxLenValue, AreItems, HasItemFault, HaveWrongItem, IsItem, TellRoas, roas, values_in, FileFault, Item, Roas, ItemFault, Kind, Missing, Repeated}
-use Rattle.payload_texts.proofs.GrammarLemmas.{a_member, an_item, front_more, front_none, items_in, members_in}
+use Rattle.payload_texts.proofs.GrammarLemmas.{a_member, an_item, items_in, members_in}
 use Rattle.payload_texts.proofs.ItemLemmas.{Payloads}
 use Rattle.json.specs.Json as json
 
--- The items from `now` on, up to the end of their array, are the last ones of those from `first` on, behind a front;
--- the payloads are those of the front.
+-- What the items from `now` on, up to the end of their array, write behind the payloads, those from `first` on write.
 pub record AreReadSo (depth : ℕ) (first now : List Token) (payloads : Payloads) : Type 0 where
-  pub front : Items → Items
-  pub same : items_in depth first ≡ parse_map front (items_in depth now)
-  pub values : (items : Items) (more : Payloads) → AreItems items more → AreItems (front items) (payloads ++ more)
-  pub faults : (items : Items) (fault : FileFault) → HaveWrongItem (length payloads + 1) items fault
-      → HaveWrongItem 1 (front items) fault
+  pub fails : items_in depth now ≡ None → items_in depth first ≡ None
+  pub reads : (items : Items) (rest : List Token) → items_in depth now ≡ Some (items, rest)
+      → (all : Items) × (items_in depth first ≡ Some (all, rest))
+      × ((more : Payloads) → AreItems items more → AreItems all (payloads ++ more))
+      × ((fault : FileFault) → HaveWrongItem (length payloads + 1) items fault → HaveWrongItem 1 all fault)
 
 pub read_none : (depth : ℕ) (first : List Token) → AreReadSo depth first first []
-read_none depth first = record { front = λ items. items; same = front_none (items_in depth first); values = λ items more are. are; faults = λ items fault wrong. wrong }
+read_none depth first = record {
+  fails = λ none. none;
+  reads = λ items rest read. (items, read, λ more are. are, λ fault wrong. wrong);
+}
 
-module _ (depth : ℕ) (first now r : List Token) (value : Json) (payloads : Payloads) (had : AreReadSo depth first now payloads) (going : json.after_end_array now ≡ None) (next : json.value depth now ≡ Some (value, r)) where
-  one_more : items_in depth first ≡ parse_map (λ items. had.front (item value items)) (items_in depth r)
-  one_more =
-      had.same ∙ ap (parse_map had.front) (an_item depth now r value going next) ∙ front_more had.front (item value) (items_in depth r)
+module _ (depth : ℕ) (first now taken r : List Token) (value : Json) (payloads : Payloads)
+    (had : AreReadSo depth first now payloads) (next : json.value depth taken ≡ Some (value, r))
+    (going : (json.after_end_array now ≡ None) × (taken ≡ now)) where
+  one_more : items_in depth now ≡ parse_map (item value) (items_in depth r)
+  one_more = an_item depth now r value going.0 (rw going.1 at next)
 
   -- one item more
   pub read_more : (payload : MaxLenValue × ℕ) → IsItem value payload
       → AreReadSo depth first r (payloads ++ payload ∷ [])
   read_more payload is = record {
-    front = λ items. had.front (item value items);
-    same = one_more;
-    values = λ items more are. rw append_assoc (had.values (item value items) (payload ∷ more) (payload, is, more, refl, are));
-    faults = λ items fault wrong. had.faults (item value items) fault (inr (payload, is, rw length-append at wrong));
+    fails = λ none. had.fails (one_more ∙ ap (parse_map (item value)) none);
+    reads = λ items rest read.
+        let behind = one_more ∙ ap (parse_map (item value)) read in
+        let (all, whole, are, wrong) = had.reads (item value items) rest behind in (
+          all,
+          whole,
+          λ more these. rw append_assoc (are (payload ∷ more) (payload, is, more, refl, these)),
+          λ fault later. wrong fault (inr (payload, is, rw length-append at later)),
+        );
   }
 
   -- the next item is wrong, and the others are passed over
@@ -38,53 +46,59 @@ module _ (depth : ℕ) (first now r : List Token) (value : Json) (payloads : Pay
       × (items_in depth first ≡ Some (js, rest))
   read_wrong A wrong rest has passed =
       let js = left_some (items_in depth r) rest passed in
-      let all = had.front (item value js.0) in
-      let at = had.faults (item value js.0) (Item (length payloads + 1) wrong) (inl (wrong, has, refl)) in
-      (all, (all, refl, at), one_more ∙ ap (parse_map (λ items. had.front (item value items))) js.1)
+      let (all, whole, _, faults) = had.reads (item value js.0) rest (one_more ∙ ap (parse_map (item value)) js.1) in
+      (all, (all, refl, faults (Item (length payloads + 1) wrong) (inl (wrong, has, refl))), whole)
 
   -- or aren't
   pub read_bad : left (items_in depth r) ≡ None → items_in depth first ≡ None
-  read_bad failed = one_more ∙ ap (parse_map (λ items. had.front (item value items))) (left_none (items_in depth r) failed)
-
--- the items that are left are wrong
-pub read_fails : (depth : ℕ) (first now : List Token) (payloads : Payloads) → AreReadSo depth first now payloads
-    → items_in depth now ≡ None → items_in depth first ≡ None
-read_fails depth first now payloads had failed = had.same ∙ ap (parse_map had.front) failed
+  read_bad failed = had.fails (one_more ∙ ap (parse_map (item value)) (left_none (items_in depth r) failed))
 
 -- no item is left
 pub read_all : {A : Type 0} (depth : ℕ) (first now rest : List Token) (v : Vec (MaxLenValue × ℕ) A)
     → AreReadSo depth first now v.items → json.after_end_array now ≡ Some rest
     → (js : Items) × TellRoas {A = A} (array js ∷ []) (Ok v) × (items_in depth first ≡ Some (js, rest))
 read_all depth first now rest v had end =
-    let all = had.front no_items in
     let ends = items_end (json.value depth) (length now) now rest (omega arith) end in
-    (all, (all, refl, rw append-nil at (had.values no_items [] refl)), had.same ∙ ap (parse_map had.front) ends)
+    let (all, whole, are, _) = had.reads no_items rest ends in
+    (all, (all, refl, rw append-nil at (are [] refl)), whole)
 
--- The members from `now` on, up to the end of their object, are the last ones of those from `first` on, behind a front;
--- what is told is told of the front.
-pub record IsToldSo {A : Type 0} (depth : ℕ) (first now : List Token) (told : Result (Vec (MaxLenValue × ℕ) A) FileFault) : Type 0 where
+-- What the members from `now` on, up to the end of their object, add to what is told, those from `first` on tell.
+pub record IsToldSo {A : Type 0} (depth : ℕ) (first now : List Token)
+    (told : Result (Vec (MaxLenValue × ℕ) A) FileFault) : Type 0 where
   pub values : List Json
   pub is_told : TellRoas values told
-  pub front : Members → Members
-  pub same : members_in depth first ≡ parse_map front (members_in depth now)
-  pub named : (ms : Members) → values_in roas (front ms) ≡ values ++ values_in roas ms
+  pub fails : members_in depth now ≡ None → members_in depth first ≡ None
+  pub reads : (ms : Members) (rest : List Token) → members_in depth now ≡ Some (ms, rest)
+      → (all : Members) × (members_in depth first ≡ Some (all, rest))
+      × (values_in roas all ≡ values ++ values_in roas ms)
 
 pub told_none : {A : Type 0} (depth : ℕ) (first : List Token) → IsToldSo {A = A} depth first first (Err (Roas Missing))
-told_none depth first = record { values = []; is_told = refl; front = λ ms. ms; same = front_none (members_in depth first); named = λ ms. refl }
+told_none depth first = record {
+  values = [];
+  is_told = refl;
+  fails = λ none. none;
+  reads = λ ms rest read. (ms, read, refl);
+}
 
-module _ {A : Type 0} (depth : ℕ) (first now s r : List Token) (key : List ℕ) (told : Result (Vec (MaxLenValue × ℕ) A) FileFault) (had : IsToldSo depth first now told) (is_key : json.read_key now ≡ Some (Some key, s)) where
+module _ {A : Type 0} (depth : ℕ) (first now s r : List Token) (key : List ℕ)
+    (told : Result (Vec (MaxLenValue × ℕ) A) FileFault) (had : IsToldSo depth first now told)
+    (is_key : json.read_key now ≡ Some (Some key, s)) where
   -- a member more, whose value is told with those before it
   more : (value : Json) (values : List Json) (next : Result (Vec (MaxLenValue × ℕ) A) FileFault) → TellRoas values next
       → json.value depth s ≡ Some (value, r)
       → ((ms : Members) → had.values ++ values_in roas (member key value ms) ≡ values ++ values_in roas ms)
       → IsToldSo depth first r next
-  more value values next is read same = record {
-    values = values;
-    is_told = is;
-    front = λ ms. had.front (member key value ms);
-    same = had.same ∙ ap (parse_map had.front) (a_member depth now s r key value is_key read) ∙ front_more had.front (member key value) (members_in depth r);
-    named = λ ms. had.named (member key value ms) ∙ same ms;
-  }
+  more value values next is read same =
+      let one_more = a_member depth now s r key value is_key read in
+      record {
+        values = values;
+        is_told = is;
+        fails = λ none. had.fails (one_more ∙ ap (parse_map (member key value)) none);
+        reads = λ ms rest behind.
+            let (all, whole, named) =
+            had.reads (member key value ms) rest (one_more ∙ ap (parse_map (member key value)) behind) in
+            (all, whole, named ∙ same ms);
+      }
 
   -- a member of another name is passed over
   pub told_over : bytes_eq key roas ≡ false → left (json.value depth s) ≡ Some r → IsToldSo depth first r told
@@ -104,11 +118,6 @@ module _ {A : Type 0} (depth : ℕ) (first now s r : List Token) (key : List ℕ
       more j.0 (had.values ++ j.0 ∷ []) (Err (Roas Repeated)) (grind (arith, length-append)) j.1
       (λ ms. grind (arith, append_assoc))
 
--- the members that are left are wrong
-pub told_fails : {A : Type 0} (depth : ℕ) (first now : List Token) (told : Result (Vec (MaxLenValue × ℕ) A) FileFault)
-    → IsToldSo depth first now told → members_in depth now ≡ None → members_in depth first ≡ None
-told_fails depth first now told had failed = had.same ∙ ap (parse_map had.front) failed
-
 -- no member is left
 pub told_all : {A : Type 0} (depth : ℕ) (first now rest : List Token)
     (told : Result (Vec (MaxLenValue × ℕ) A) FileFault) → IsToldSo depth first now told
@@ -116,7 +125,8 @@ pub told_all : {A : Type 0} (depth : ℕ) (first now rest : List Token)
     → (ms : Members) × TellRoas (values_in roas ms) told × (members_in depth first ≡ Some (ms, rest))
 told_all depth first now rest told had end =
     let ends = members_end (json.value depth) (length now) now rest (omega arith) end in
-    (had.front no_members, rw (had.named no_members, append-nil) had.is_told, had.same ∙ ap (parse_map had.front) ends)
+    let (all, whole, named) = had.reads no_members rest ends in
+    (all, rw (named, append-nil) had.is_told, whole)
 
 -- ---- a value of the member, by its first token
 

@@ -1,5 +1,5 @@
 -- A line writes one thing alone, or has one fault.
-use Rattle.payload_texts.proofs.Common.{List, MatchResult, Result, Some, [], ap, arith, inl, inr, subst, sym, ℕ, ◌-◌, ◌^◌, ◌∙◌, ◌≡◌, ◌≢◌, ◌⊎◌, IsUtf8, trim, HasMaxLenError, IsMaxLenOf, MaxLenValue, Answers, IsHeader, field, ArePayload, HasRowFault, HaveFault, IsBody, IsRow, Columns, PayloadFault, Row, Blank, Header, Payload}
+use Rattle.payload_texts.proofs.Common.{List, MatchResult, Result, Some, [], ap, arith, ℕ, ◌-◌, ◌^◌, ◌≡◌, ◌≢◌, ◌⊎◌, IsUtf8, trim, HasMaxLenError, IsMaxLenOf, MaxLenValue, Answers, IsHeader, field, ArePayload, HasRowFault, HaveFault, IsBody, IsRow, Columns, PayloadFault, Row, Payload}
 use Rattle.rpki_text.proofs.ReadingLemmas.{Answers-from_found}
 use Rattle.rpki_base.proofs.AsnLemmas.{IsAsnText-one}
 use Rattle.rpki_text.proofs.NumberTexts.{IsNumberText-one}
@@ -18,27 +18,21 @@ max_error_one : (p : FamilyPrefix) (n : ℕ) (f g : MaxLenError) → HasMaxLenEr
 max_error_one p n f g h k = grind (arith)
 
 module _ (a p m : List ℕ) where
-  -- three texts write one prefix and one AS number
-  pub prefix_one : (x y : MaxLenValue) (j k : ℕ) → ArePayload a p m x j → ArePayload a p m y k → x ≡ y
-  prefix_one x y j k h i =
-      let same = IsPrefixText-one p x.prefix y.prefix h.prefix_is i.prefix_is in
-      let len = IsNumberText-one (2 ^ 8 - 1) m h.len i.len h.len_is i.len_is in
-      let max = h.max_len ∙ ap Some len ∙ sym i.max_len in
-      λ t. record { prefix = same t; max_len = max t }
-
-  pub asn_one : (x y : MaxLenValue) (j k : ℕ) → ArePayload a p m x j → ArePayload a p m y k → j ≡ k
-  asn_one x y j k h i = IsAsnText-one a j k h.asn_is i.asn_is
+  -- three texts write one payload
+  pub payload_one : (x y : MaxLenValue × ℕ) → ArePayload a p m x.0 x.1 → ArePayload a p m y.0 y.1 → x ≡ y
+  payload_one x y h k =
+      let prefix = IsPrefixText-one p x.0.prefix y.0.prefix h.prefix_is k.prefix_is in
+      let len = IsNumberText-one (2 ^ 8 - 1) m h.len k.len h.len_is k.len_is in
+      grind (arith, prefix, len, IsAsnText-one a x.1 y.1 h.asn_is k.asn_is)
 
   -- and then have no fault
   pub fields_apart : (x : MaxLenValue) (j : ℕ) (f : PayloadFault) → ArePayload a p m x j → HaveFault a p m f → ⊥
-  fields_apart x j NotUtf8 h wrong = wrong
-  fields_apart x j (Asn f) h wrong = wrong j h.asn_is
-  fields_apart x j (Prefix f) h wrong = IsPrefixText-no_fault p x.prefix f h.prefix_is wrong.1
   fields_apart x j (MaxLenFormat f) h (_, _, wrong) = number_apart m h.len f h.len_is wrong
   fields_apart x j (MaxLen f) h (_, (q, n, prefix, number, wrong)) =
-      let same = IsPrefixText-one p q x.prefix prefix h.prefix_is in
-      let len = IsNumberText-one (2 ^ 8 - 1) m n h.len number h.len_is in
-      max_apart x.prefix h.len f h.within (subst (λ z. HasMaxLenError z (Some h.len) f) same (subst (λ z. HasMaxLenError q (Some z) f) len wrong))
+      let same = IsPrefixText-one p x.prefix q h.prefix_is prefix in
+      let len = IsNumberText-one (2 ^ 8 - 1) m h.len n h.len_is number in
+      max_apart q n f (rw (same, len) at h.within) wrong
+  fields_apart x j f h wrong = search (arith, IsPrefixText-no_fault)
 
   -- three texts have one fault
   pub have_one : (d e : PayloadFault) → HaveFault a p m d → HaveFault a p m e → d ≡ e
@@ -46,17 +40,16 @@ module _ (a p m : List ℕ) where
   have_one d NotUtf8 h k = absurd k
   have_one (Asn f) e h k = search (arith)
   have_one (Prefix f) e h k = search (arith, HasPrefixTextFault-one, IsPrefixText-no_fault)
-  have_one (MaxLenFormat f) (Asn g) ((n, is), _, _) k = absurd (k n is)
-  have_one (MaxLenFormat f) (Prefix g) (_, (q, is), _) (_, wrong) = absurd (IsPrefixText-no_fault p q g is wrong)
-  have_one (MaxLenFormat f) (MaxLenFormat g) (_, _, wrong) (_, _, other) = ap MaxLenFormat (same_number_fault m f g wrong other)
+  have_one (MaxLenFormat f) (MaxLenFormat g) (_, _, wrong) (_, _, other) =
+      ap MaxLenFormat (same_number_fault m f g wrong other)
   have_one (MaxLenFormat f) (MaxLen g) (_, _, wrong) (_, (q, n, _, is, _)) = absurd (number_apart m n f is wrong)
-  have_one (MaxLen f) (Asn g) ((n, is), _) k = absurd (k n is)
-  have_one (MaxLen f) (Prefix g) (_, (q, n, is, _, _)) (_, wrong) = absurd (IsPrefixText-no_fault p q g is wrong)
+  have_one (MaxLenFormat f) e h k = search (arith, IsPrefixText-no_fault)
   have_one (MaxLen f) (MaxLenFormat g) (_, (q, n, _, is, _)) (_, _, wrong) = absurd (number_apart m n g is wrong)
   have_one (MaxLen f) (MaxLen g) (_, (q, n, prefix, number, wrong)) (_, (r, k, prefixed, numbered, other)) =
       let same = IsPrefixText-one p q r prefix prefixed in
       let len = IsNumberText-one (2 ^ 8 - 1) m n k number numbered in
-      ap MaxLen (max_error_one r k f g (subst (λ z. HasMaxLenError z (Some k) f) same (subst (λ z. HasMaxLenError q (Some z) f) len wrong)) other)
+      ap MaxLen (max_error_one r k f g (rw (same, len) at wrong) other)
+  have_one (MaxLen f) e h k = search (arith, IsPrefixText-no_fault)
 
 -- a line that is to write a payload
 pub body_of : (line : List ℕ) → IsUtf8 line → trim line ≢ [] → ((next : Columns) → ¬ IsHeader line next) → IsBody line
@@ -76,27 +69,15 @@ module _ (columns : Columns) (line : List ℕ) where
   row_fault f body h = grind (arith)
 
   pub row_one : (x y : Row) → IsRow columns line x → IsRow columns line y → x ≡ y
-  row_one (Payload p) (Payload q) (_, h) (_, k) =
-      let prefix = prefix_one _ _ _ p.0 q.0 p.1 q.1 h k in
-      let asn = asn_one _ _ _ p.0 q.0 p.1 q.1 h k in
-      λ i. Payload (prefix i, asn i)
+  row_one (Payload p) (Payload q) (_, h) (_, k) = ap Payload (payload_one _ _ _ p q h k)
   row_one x y h k = grind (arith, header_one)
 
-  utf8_of : (x : Row) → IsRow columns line x → IsUtf8 line
-  utf8_of Blank h = h.0
-  utf8_of (Header next) h = h.0
-  utf8_of (Payload p) h = h.0.utf8
-
   body_apart : (x : Row) (f : PayloadFault) → IsRow columns line x → IsBody line → Fails f → ⊥
-  body_apart Blank f h body wrong = body.some_text h.1
-  body_apart (Header next) f (_, _, h) body wrong = body.no_header next h
   body_apart (Payload p) f (_, h) body wrong = fields_apart _ _ _ p.0 p.1 f h wrong
+  body_apart x f h body wrong = grind (arith)
 
   pub row_apart : (x : Row) (f : PayloadFault) → IsRow columns line x → HasRowFault columns line f → ⊥
-  row_apart x f h wrong = by_fault (faults f wrong) where
-    by_fault : ((¬ IsUtf8 line) × (f ≡ NotUtf8)) ⊎ (IsBody line × Fails f) → ⊥
-    by_fault (inl bad) = bad.0 (utf8_of x h)
-    by_fault (inr k) = body_apart x f h k.0 k.1
+  row_apart x f h wrong = grind (arith, faults f wrong, body_apart x f h)
 
   pub row_fault_one : (d e : PayloadFault) → HasRowFault columns line d → HasRowFault columns line e → d ≡ e
   row_fault_one d e h k = grind (arith, faults, have_one)

@@ -18,7 +18,7 @@ use std::alloc::Allocator;
 pub(crate) type Roas<A> = Result<Vec<(MaxLenPrefix, Asn), A>, FileFault>;
 
 /// What the members of an object tell of `roas`, up to the object's end.
-#[tactic(auto, using(crate::proofs::GrammarLemmas::steps, crate::proofs::RoasLemmas::told_none, crate::proofs::RoasLemmas::told_fails, crate::proofs::RoasLemmas::told_again, crate::proofs::RoasLemmas::told_first, crate::proofs::RoasLemmas::told_over))]
+#[tactic(auto, using(crate::proofs::GrammarLemmas::steps, crate::proofs::RoasLemmas::told_none, crate::proofs::RoasLemmas::told_again, crate::proofs::RoasLemmas::told_first, crate::proofs::RoasLemmas::told_over))]
 pub(crate) fn read_members<A: Allocator + Copy>(
     alloc: A,
     reader: &mut Reader<'_>,
@@ -79,7 +79,7 @@ fn read_list<A: Allocator + Copy>(
 }
 
 /// What the items of an array tell, up to the array's end.
-#[tactic(auto, using(json::proofs::Grammar::items_fail, crate::proofs::RoasLemmas::read_none, crate::proofs::RoasLemmas::read_fails))]
+#[tactic(auto, using(json::proofs::Grammar::items_fail, crate::proofs::RoasLemmas::read_none))]
 fn read_items<A: Allocator + Copy>(
     alloc: A,
     reader: &mut Reader<'_>,

@@ -10,7 +10,9 @@ loop-rest-preserved-in_ok-push-in-Ok-Payload g c =
     let shorter = c.cut_line.ensures.shorter in
     record {
       within = omega arith;
-      read = rw (c.in_ok-push-in-Ok-Payload.ensures.items) (read_more _ _ _ c.cut_line.result.0.now _ _ _ c.loop-rest.invariant.read c.cut_line.ensures.first (Payload c.in-Ok-Payload.payload) (rw c.in-Ok-Payload.field-0-is at c.in-Ok-Payload.ensures.found));
+      read = rw (c.in_ok-push-in-Ok-Payload.ensures.items)
+          (read_more _ _ _ c.cut_line.result.0.now _ _ _ c.loop-rest.invariant.read c.cut_line.ensures.first
+          (Payload c.in-Ok-Payload.payload) (rw c.in-Ok-Payload.field-0-is at c.in-Ok-Payload.ensures.found));
     }
 
 -- other columns
@@ -20,7 +22,8 @@ loop-rest-preserved-in-Ok-Header g c =
     let shorter = c.cut_line.ensures.shorter in
     record {
       within = omega arith;
-      read = read_over _ _ _ c.cut_line.result.0.now _ _ _ c.loop-rest.invariant.read c.cut_line.ensures.first (Header c.in-Ok-Header.next) refl (rw c.in-Ok-Header.field-0-is at c.in-Ok-Header.ensures.found);
+      read = read_over _ _ _ c.cut_line.result.0.now _ _ _ c.loop-rest.invariant.read c.cut_line.ensures.first
+          (Header c.in-Ok-Header.next) refl (rw c.in-Ok-Header.field-0-is at c.in-Ok-Header.ensures.found);
     }
 
 pub returns : goal.returns

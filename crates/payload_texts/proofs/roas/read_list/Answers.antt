@@ -13,12 +13,14 @@ returns-in-BeginArray-clause-told g c =
 pub returns-in_ok-skip_members-in-BeginObject-clause-told : goal.returns-in_ok-skip_members-in-BeginObject-clause-told
 returns-in_ok-skip_members-in-BeginObject-clause-told g c =
     let opened : c.args.reader.now ≡ Token.begin_object ∷ c.next.new.self = grind arith in
-    object_passed c.args.depth c.requires _ c.next.new.self g.row.A.Denot _ opened c.in_ok-skip_members-in-BeginObject.ensures.read
+    object_passed c.args.depth c.requires _ c.next.new.self g.row.A.Denot _ opened
+    c.in_ok-skip_members-in-BeginObject.ensures.read
 
 pub returns-in-String-clause-told : goal.returns-in-String-clause-told
 returns-in-String-clause-told g c =
     let first : c.args.reader.now ≡ token_of c.in_ok-token.token ∷ c.next.new.self = grind arith in
-    scalar_passed g.row.A.Denot c.args.depth _ c.next.new.self (token_of c.in_ok-token.token) (rw (value_is c.args.depth c.args.reader.now, first) (grind arith))
+    scalar_passed g.row.A.Denot c.args.depth _ c.next.new.self (token_of c.in_ok-token.token)
+    (rw (value_is c.args.depth c.args.reader.now, first) (grind arith))
 
 pub returns-in-EndObject-clause-invalid : goal.returns-in-EndObject-clause-invalid
 returns-in-EndObject-clause-invalid g c invalid = grind (arith, value_is)

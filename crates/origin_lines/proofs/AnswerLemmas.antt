@@ -1,5 +1,5 @@
 -- What is told of a route.
-use Rattle.origin_lines.proofs.Common.{Bool, List, arith, false, inl, subst, true, ℕ, ◌++◌, ◌≡◌, append-nil, Payload, FamilyPrefix, IsOriginAnswer, TellsRoute, TellsWhy, IsOutcomeOf, asked_asn, outcome_text, IsRouteLine, Outcome, Route}
+use Rattle.origin_lines.proofs.Common.{Bool, List, arith, false, inl, true, ℕ, ◌++◌, ◌≡◌, append-nil, Payload, FamilyPrefix, IsOriginAnswer, TellsRoute, TellsWhy, IsOutcomeOf, asked_asn, outcome_text, IsRouteLine, Outcome, Route}
 
 -- the word alone
 pub word_told : (why : Bool) (payloads : List Payload) (route : FamilyPrefix) (asn : ℕ) (outcome : Outcome)
@@ -17,5 +17,4 @@ why_told why payloads route asn outcome word behind text wanted is says tells mo
 pub route_answered : (why : Bool) (payloads : List Payload) (line text : List ℕ) (route : Route) (prefix : FamilyPrefix)
     (asn : ℕ) → IsRouteLine line route → prefix ≡ route.prefix → asn ≡ asked_asn route.origin
     → TellsRoute why payloads prefix asn text → IsOriginAnswer why payloads line text
-route_answered why payloads line text route prefix asn is one other tells =
-    inl (route, is, subst (λ n. TellsRoute why payloads route.prefix n text) other (subst (λ p. TellsRoute why payloads p asn text) one tells))
+route_answered why payloads line text route prefix asn is one other tells = inl (route, is, rw (one, other) at tells)

@@ -1,5 +1,5 @@
 -- How a dump's line is cut: at each bar, and its path at the last space.
-use Rattle.origin_lines.proofs.Common.{List, None, Some, [], ap, arith, drop, eq-eqb, get_or, get_or-drop, length, length-drop, ne_eqb, not, ℕ, ◌+◌, ◌-◌, ◌<◌, ◌∙◌, ◌∷◌, ◌≡◌, ◌≢◌, ◌≤◌, after_first, after_last, before_first, position_or_len, suffix_len, codes, slice_get, IsFieldAt, IsNoDump, IsNoFieldAt, fields_of, is_bar, is_gap}
+use Rattle.origin_lines.proofs.Common.{List, None, Some, [], ap, arith, drop, eq-eqb, get_or, get_or-drop, length, length-drop, ne_eqb, not, ℕ, ◌-◌, ◌<◌, ◌∙◌, ◌∷◌, ◌≡◌, ◌≢◌, ◌≤◌, after_first, after_last, before_first, position_or_len, suffix_len, codes, slice_get, IsFieldAt, IsNoDump, IsNoFieldAt, fields_of, is_bar, is_gap}
 use Rattle.std.specs.Str.Pattern.{RFindsChar, SplitsAroundMatch}
 use Rattle.std.proofs.lemmas.List.Sums.{fails_before_first, suffix_len_is}
 use Rattle.std.proofs.lemmas.List.Splits.{slice_split_first, slice_split_none}
@@ -43,7 +43,10 @@ last_from : (text : List ℕ) (n : ℕ) → n ≤ length text
     → ((k : ℕ) → n ≤ k → k < length text → get_or text k 0 ≢ 32) → (0 < n → get_or text (n - 1) 0 ≡ 32)
     → drop n text ≡ after_last is_gap text
 last_from text n within later at =
-    let behind : suffix_len (λ b. not (is_gap b)) text ≡ length text - n = suffix_len_is (λ b. not (is_gap b)) text n 0 within (λ k from small. ap not (ne_eqb (get_or text k 0) 32 (later k from small))) (λ some. ap not (eq-eqb _ 32 (at some))) in
+    let behind : suffix_len (λ b. not (is_gap b)) text ≡ length text - n =
+    suffix_len_is (λ b. not (is_gap b)) text n 0 within
+    (λ k from small. ap not (ne_eqb (get_or text k 0) 32 (later k from small)))
+    (λ some. ap not (eq-eqb _ 32 (at some))) in
     let all : n ≡ length text - suffix_len (λ b. not (is_gap b)) text = omega (arith, behind) in
     ap (λ m. drop m text) all
 
@@ -51,13 +54,13 @@ pub last_some : (text front word : List ℕ) → SplitsAroundMatch (RFindsChar 3
     → word ≡ after_last is_gap text
 last_some text front word (i, j, found, _, is, _, _, long) =
     let low : 32 < 128 = omega arith in
-    let before : j - 1 ≡ i = omega (arith, found.1.ends, len_utf8_ascii 32 low) in
     let later : (k : ℕ) → j ≤ k → k < length text → get_or text k 0 ≢ 32 = λ k from small e.
-    let back : j + (k - j) ≡ k = omega (arith, from) in
-    let other = NoCharPasses-char 32 (drop j text) (k - j) found.0 low (omega (arith, length-drop j text, from, small)) in
-    other (get_or-drop j text (k - j) 0 ∙ ap (λ n. get_or text n 0) back ∙ e) in
-    is ∙ last_from text j (omega (arith, long)) later (λ some. ap (λ n. get_or text n 0) before ∙ found.1.byte low)
+    let other = NoCharPasses-char 32 (drop j text) (k - j) found.0 low in
+    grind (arith, other, get_or-drop j text (k - j) 0, length-drop) in
+    let gap : get_or text (j - 1) 0 ≡ 32 = grind (arith, found.1.ends, found.1.byte low, len_utf8_ascii 32 low) in
+    is ∙ last_from text j (omega (arith, long)) later (λ some. gap)
 
 pub last_none : (text : List ℕ) → RFindsChar 32 text None → text ≡ after_last is_gap text
 last_none text none =
-    last_from text 0 (omega arith) (λ k from small. NoCharPasses-char 32 text k none (omega arith) small) (λ some. absurd (omega (arith, some)))
+    last_from text 0 (omega arith) (λ k from small. NoCharPasses-char 32 text k none (omega arith) small)
+    (λ some. absurd (omega (arith, some)))

@@ -7,7 +7,8 @@ module _ {X : Type 0} where
   to_reverse xs x h = Contains-permutation xs (reverse xs) x (IsPermutation-reverse xs) h
 
   pub from_reverse : (xs : List X) (x : X) → Contains (reverse xs) x → Contains xs x
-  from_reverse xs x h = Contains-permutation (reverse xs) xs x (IsPermutation-sym xs (reverse xs) (IsPermutation-reverse xs)) h
+  from_reverse xs x h =
+      Contains-permutation (reverse xs) xs x (IsPermutation-sym xs (reverse xs) (IsPermutation-reverse xs)) h
 
   -- what an iterator has given and what is left are its list
   pub walked : (all given left : List X) → Yields (YieldsFirst (λ (xs : List X). xs)) all given left

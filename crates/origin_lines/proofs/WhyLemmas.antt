@@ -1,5 +1,5 @@
 -- The payloads that cover a route, told one after another.
-use Rattle.origin_lines.proofs.Common.{List, None, Option, Some, [], ap, append_assoc, arith, get_or, inl, inr, length, map, refl, reverse, subst, sym, ℕ, ◌++◌, ◌+◌, ◌↔◌, ◌∙◌, ◌∷◌, ◌≡◌, ◌≢◌, ◌≤◌, ◌⊎◌, append-nil, length-append, map-append, AllPairs, Contains, IsNonDecreasingBy, AreThose, CoversRoute, IsLawfulPayload, Payload, prefix_len, as_sent, FamilyPrefix, IsFamilyPrefix, IsExplanation, IsReason, IsToldBefore, TellsEach, TellsNext, told_text, Reason}
+use Rattle.origin_lines.proofs.Common.{List, None, Option, Some, [], append_assoc, arith, get_or, inl, inr, length, map, refl, reverse, sym, ℕ, ◌++◌, ◌+◌, ◌↔◌, ◌∷◌, ◌≡◌, ◌≢◌, ◌≤◌, ◌⊎◌, append-nil, length-append, map-append, AllPairs, Contains, IsNonDecreasingBy, AreThose, CoversRoute, IsLawfulPayload, Payload, prefix_len, as_sent, FamilyPrefix, IsFamilyPrefix, IsExplanation, IsReason, IsToldBefore, TellsEach, TellsNext, told_text, Reason}
 use Rattle.std.proofs.lemmas.Bool.{cases_lt}
 use Rattle.std.proofs.lemmas.Grind.{reverse_onto}
 use Rattle.std.proofs.lemmas.List.{get_or-append-add, reverse-append}
@@ -13,51 +13,40 @@ use Rattle.origin_lines.proofs.Members.{from_reverse, to_reverse}
 
 -- ---- the order in which they are told
 
-told_trans : (p q r : Payload) → IsToldBefore p q → IsToldBefore q r → IsToldBefore p r
-told_trans p q r h h2 = grind (arith)
-
 -- what is told before another isn't told behind it
 pub not_back : (p q : Payload) → IsToldBefore p q → IsToldBefore q p → ⊥
 not_back p q h k = grind (arith)
 
 -- of two payloads that cover a route, the one that a table has later is told before the other, or is the same as it is
 -- sent
-module _ (route : FamilyPrefix) (is : IsFamilyPrefix route) (y x : Payload) (of_y : IsLawfulPayload y) (of_x : IsLawfulPayload x)
-    (covers_y : CoversRoute route y) (covers_x : CoversRoute route x) (places : table_place x ≤ table_place y) where
+module _ (route : FamilyPrefix) (is : IsFamilyPrefix route) (y x : Payload) (of_y : IsLawfulPayload y)
+    (of_x : IsLawfulPayload x) (covers_y : CoversRoute route y) (covers_x : CoversRoute route x)
+    (places : table_place x ≤ table_place y) where
   -- of one prefix
   by_prefix : x.0.prefix ≡ y.0.prefix → IsToldBefore y x ⊎ (as_sent y ≡ as_sent x)
   by_prefix same = grind (arith, by_ranks, cases_lt, rank_asn, rank_longest)
 
   pub told_or_same : prefix_len x ≤ prefix_len y → IsToldBefore y x ⊎ (as_sent y ≡ as_sent x)
-  told_or_same lens = grind (arith, by_prefix, cases_lt, covers_between, covers_place, no_earlier, rank_small, same_prefix, upper)
+  told_or_same lens =
+      grind (arith, by_prefix, cases_lt, covers_between, covers_place, no_earlier, rank_small, same_prefix, upper)
 
 -- ---- two that stand together in a list whose other end is the least
 
 pub adjacent : (f : Payload → ℕ) (all done front rest : List Payload) (y x : Payload)
     → IsNonDecreasingBy f (reverse all) → all ≡ done ++ x ∷ rest → done ≡ front ++ y ∷ [] → f x ≤ f y
 adjacent f all done front rest y x ordered cut ends =
-    let behind = reverse rest in
-    let before = reverse front in
-    let whole : all ≡ front ++ y ∷ x ∷ rest =
-    cut ∙ ap (λ zs. zs ++ x ∷ rest) ends ∙ append_assoc front (y ∷ []) (x ∷ rest) in
-    let back : reverse all ≡ behind ++ x ∷ y ∷ before =
-    ap reverse whole ∙ reverse-append front (y ∷ x ∷ rest) ∙ ap (λ zs. zs ++ before) (reverse_onto rest x (y ∷ []))
-    ∙ append_assoc behind (x ∷ y ∷ []) before in
-    let long = length-append behind (x ∷ y ∷ before) in
-    let le = (rw back at ordered) (length behind + 0) (length behind + 1) y (omega arith) (omega (arith, long)) in
-    rw (get_or-append-add behind (x ∷ y ∷ before) 0 y, get_or-append-add behind (x ∷ y ∷ before) 1 y) at le
+    let turned = x ∷ y ∷ reverse front in
+    let back : reverse all ≡ reverse rest ++ turned = grind (arith, append_assoc, reverse-append, reverse_onto) in
+    let place = length (reverse rest) in
+    let long = length-append (reverse rest) turned in
+    let le = (rw back at ordered) (place + 0) (place + 1) y (omega arith) (omega (arith, long)) in
+    rw (get_or-append-add (reverse rest) turned 0 y, get_or-append-add (reverse rest) turned 1 y) at le
 
 -- ---- one more behind those of a list
 
 -- the members are those before, and it
 pushed : (xs : List Payload) (x p : Payload) → Contains (xs ++ x ∷ []) p ↔ (Contains xs p ⊎ (x ≡ p))
-pushed xs x p = (
-  Contains-push_cases xs x p,
-  λ h. elim h [
-    | inl there ↦ Contains-append_left xs (x ∷ []) p there
-    | inr e ↦ subst (Contains (xs ++ x ∷ [])) e (Contains-push xs x)
-  ],
-)
+pushed xs x p = grind (arith, Contains-push_cases xs x p, Contains-append_left xs (x ∷ []) p, Contains-push xs x)
 
 -- behind two lists with the same members
 same_pushed : (xs ys : List Payload) (x p : Payload) → (Contains xs p ↔ Contains ys p)
@@ -81,13 +70,19 @@ abbrev IsUpTo : Option Payload → List Payload → Type 0
 IsUpTo None told = told ≡ []
 IsUpTo (Some y) told = (q : Payload) → Contains told q → IsToldBefore q y ⊎ (q ≡ as_sent y)
 
-pub record IsToldSo (route : FamilyPrefix) (asn : ℕ) (done : List Payload) (last : Option Payload) (text : List ℕ) : Type 0 where
+pub record IsToldSo (route : FamilyPrefix) (asn : ℕ) (done : List Payload) (last : Option Payload) (text : List ℕ)
+    : Type 0 where
   pub told : List Payload
   pub ordered : AllPairs IsToldBefore told
   pub members : (p : Payload) → Contains told p ↔ Contains (map as_sent done) p
   pub tells : TellsEach route asn told text
   pub up_to : IsUpTo last told
   pub at_end : IsLastOf last done
+
+-- so it is told before the next payload, if the last one is
+before : (last : Option Payload) (told : List Payload) (x : Payload) → IsUpTo last told
+    → ((y : Payload) → last ≡ Some y → IsToldBefore y x) → (q : Payload) → Contains told q → IsToldBefore q x
+before last told x up_to next q h = grind (arith)
 
 pub told_none : (route : FamilyPrefix) (asn : ℕ) → IsToldSo route asn [] None []
 told_none route asn = grind (arith)
@@ -96,8 +91,9 @@ told_none route asn = grind (arith)
 tells_push : (route : FamilyPrefix) (asn : ℕ) (told : List Payload) (text : List ℕ) (p : Payload) (reason : Reason)
     → IsReason route asn p reason → TellsEach route asn told text
     → TellsEach route asn (told ++ p ∷ []) (text ++ told_text reason p)
-tells_push route asn [] text p reason is e = (reason, is, [], ap (λ t. t ++ told_text reason p) e ∙ sym (append-nil (told_text reason p)), refl)
-tells_push route asn (q ∷ told) text p reason is (r, of_q, more, e, rest) = grind (arith, append_assoc, tells_push route asn told more p reason is rest)
+tells_push route asn [] text p reason is e = grind (arith, append-nil)
+tells_push route asn (q ∷ told) text p reason is (r, of_q, more, e, rest) =
+    grind (arith, append_assoc, tells_push route asn told more p reason is rest)
 
 module _ (route : FamilyPrefix) (asn : ℕ) (done : List Payload) (x : Payload) (lawful : IsLawfulPayload x) where
   more_sent : map as_sent (done ++ x ∷ []) ≡ map as_sent done ++ as_sent x ∷ []
@@ -111,18 +107,12 @@ module _ (route : FamilyPrefix) (asn : ℕ) (done : List Payload) (x : Payload) 
     ordered = had.ordered;
     members = λ p. rw more_sent (again_pushed had.told (map as_sent done) (as_sent x) p had.members was);
     tells = had.tells;
-    up_to = λ q h. moved q (had.up_to q h);
+    up_to = λ q h. grind (arith, had.up_to q h);
     at_end = ((done, refl), lawful);
   }
     where
       was : Contains (map as_sent done) (as_sent x)
-      was =
-          let last : Contains done y = rw had.at_end.0.1 (Contains-push had.at_end.0.0 y) in
-          rw (← same) (map_has as_sent done y last)
-
-      moved : (q : Payload) → IsToldBefore q y ⊎ (q ≡ as_sent y) → IsToldBefore q x ⊎ (q ≡ as_sent x)
-      moved q (inl h) = inl (let there : IsToldBefore q (as_sent y) = h in subst (IsToldBefore q) same there)
-      moved q (inr e) = inr (e ∙ same)
+      was = rw (← same) (map_has as_sent done y (rw had.at_end.0.1 (Contains-push had.at_end.0.0 y)))
 
   -- a payload as it is sent has the same against it
   reason_sent : (reason : Reason) → IsReason route asn x reason → IsReason route asn (as_sent x) reason
@@ -132,26 +122,35 @@ module _ (route : FamilyPrefix) (asn : ℕ) (done : List Payload) (x : Payload) 
   pub told_more : (last : Option Payload) (text : List ℕ) (reason : Reason) → IsReason route asn x reason
       → ((y : Payload) → last ≡ Some y → IsToldBefore y x) → IsToldSo route asn done last text
       → IsToldSo route asn (done ++ x ∷ []) (Some x) (text ++ told_text reason x)
-  told_more last text reason is next had = record {
-    told = had.told ++ as_sent x ∷ [];
-    ordered = all_pairs_push IsToldBefore had.told (as_sent x) had.ordered (λ k d small. before last next had.up_to (get_or had.told k d) (Contains-get_or had.told k d small));
-    members = λ p. rw more_sent (same_pushed had.told (map as_sent done) (as_sent x) p (had.members p));
-    tells = tells_push route asn had.told text (as_sent x) reason (reason_sent reason is) had.tells;
-    up_to = λ q h. upto q (Contains-push_cases had.told (as_sent x) q h);
-    at_end = ((done, refl), lawful);
-  }
-    where
-      before : (l : Option Payload) → ((y : Payload) → l ≡ Some y → IsToldBefore y x) → IsUpTo l had.told
-          → (q : Payload) → Contains had.told q → IsToldBefore q x
-      before None after none q h = absurd (let no : Contains [] q = subst (λ zs. Contains zs q) none h in let small = no.1 in omega (arith, small))
-      before (Some y) after upto q h = elim (upto q h) [
-        | inl less ↦ told_trans q y x less (after y refl)
-        | inr e ↦ subst (λ z. IsToldBefore z x) (sym e) (after y refl)
-      ]
+  told_more last text reason is next had =
+      let earlier = before last had.told x had.up_to next in
+      record {
+        told = had.told ++ as_sent x ∷ [];
+        ordered = all_pairs_push IsToldBefore had.told (as_sent x) had.ordered
+            (λ k d small. earlier (get_or had.told k d) (Contains-get_or had.told k d small));
+        members = λ p. rw more_sent (same_pushed had.told (map as_sent done) (as_sent x) p (had.members p));
+        tells = tells_push route asn had.told text (as_sent x) reason (reason_sent reason is) had.tells;
+        up_to = λ q h. elim (Contains-push_cases had.told (as_sent x) q h) [
+          | inl there ↦ inl (earlier q there)
+          | inr e ↦ inr (sym e)
+        ];
+        at_end = ((done, refl), lawful);
+      }
 
-      upto : (q : Payload) → Contains had.told q ⊎ (as_sent x ≡ q) → IsToldBefore q x ⊎ (q ≡ as_sent x)
-      upto q (inl h) = inl (before last next had.up_to q h)
-      upto q (inr e) = inr (sym e)
+-- of a table those that cover a route, as they are sent, are all that were given
+module _ (route : FamilyPrefix) (table all : List Payload) (those : AreThose (CoversRoute route) table (reverse all))
+    (p : Payload) where
+  sent_on : Contains (map as_sent all) p → CoversRoute route p × Contains (map as_sent table) p
+  sent_on h =
+      let (x, inside, e) = map_from as_sent all p h in
+      let both = those_are (CoversRoute route) table (reverse all) x those (to_reverse all x inside) in
+      grind (arith, both, map_has as_sent table x)
+
+  sent_back : CoversRoute route p → Contains (map as_sent table) p → Contains (map as_sent all) p
+  sent_back covers h =
+      let (x, inside, e) = map_from as_sent table p h in
+      let there = those_have (CoversRoute route) table (reverse all) x those inside in
+      grind (arith, there, from_reverse all x, map_has as_sent all x)
 
 -- when all are done, what is told explains the route
 pub all_told : (route : FamilyPrefix) (asn : ℕ) (table all : List Payload) (last : Option Payload) (text : List ℕ)
@@ -159,48 +158,30 @@ pub all_told : (route : FamilyPrefix) (asn : ℕ) (table all : List Payload) (la
     → IsExplanation route table had.told
 all_told route asn table all last text those had = record {
   ordered = had.ordered;
-  members = λ p. (λ h. on p (map_from as_sent all p ((had.members p).0 h)), λ h. (had.members p).1 (back p h.0 (map_from as_sent table p h.1)));
+  members = λ p. grind (arith, had.members p, sent_on route table all those p, sent_back route table all those p);
 }
-  where
-    on : (p : Payload) → (x : Payload) × Contains all x × (as_sent x ≡ p)
-        → CoversRoute route p × Contains (map as_sent table) p
-    on p (x, h, e) =
-        let found = those_are (CoversRoute route) table (reverse all) x those (to_reverse all x h) in
-        let covers : CoversRoute route (as_sent x) = found.0 in
-        (subst (CoversRoute route) e covers, subst (Contains (map as_sent table)) e (map_has as_sent table x found.1))
-
-    back : (p : Payload) → CoversRoute route p → (x : Payload) × Contains table x × (as_sent x ≡ p)
-        → Contains (map as_sent all) p
-    back p covers (x, h, e) =
-        let covered : CoversRoute route (as_sent x) = subst (CoversRoute route) (sym e) covers in
-        subst (Contains (map as_sent all)) e (map_has as_sent all x (from_reverse all x (those_have (CoversRoute route) table (reverse all) x those h covered)))
 
 -- the next payload of those that cover a route
-module _ (route : FamilyPrefix) (is : IsFamilyPrefix route) (asn : ℕ) (table all done rest : List Payload) (x : Payload) (lawful : IsLawfulPayload x)
-    (those : AreThose (CoversRoute route) table (reverse all)) (lens : IsNonDecreasingBy prefix_len (reverse all)) (places : IsNonDecreasingBy table_place (reverse all))
+module _ (route : FamilyPrefix) (is : IsFamilyPrefix route) (asn : ℕ) (table all done rest : List Payload) (x : Payload)
+    (lawful : IsLawfulPayload x) (those : AreThose (CoversRoute route) table (reverse all))
+    (lens : IsNonDecreasingBy prefix_len (reverse all)) (places : IsNonDecreasingBy table_place (reverse all))
     (cut : all ≡ done ++ x ∷ rest) where
-  covers_x : CoversRoute route x
-  covers_x =
-      let inside : Contains all x = subst (λ zs. Contains zs x) (sym cut) (Contains-append_right done (x ∷ rest) x (here x rest)) in
-      (those_are (CoversRoute route) table (reverse all) x those (to_reverse all x inside)).0
+  covers : (y : Payload) → Contains (done ++ x ∷ rest) y → CoversRoute route y
+  covers y h = (those_are (CoversRoute route) table (reverse all) y those (to_reverse all y (rw cut h))).0
 
   -- behind another it isn't told before it
   behind : (y : Payload) → IsLastOf (Some y) done → as_sent y ≢ as_sent x → IsToldBefore y x
-  behind y ends other =
-      let before : Contains done y = subst (λ zs. Contains zs y) (sym ends.0.1) (Contains-push ends.0.0 y) in
-      let inside : Contains all y = subst (λ zs. Contains zs y) (sym cut) (Contains-append_left done (x ∷ rest) y before) in
-      let covers_y = (those_are (CoversRoute route) table (reverse all) y those (to_reverse all y inside)).0 in
-      elim (told_or_same route is y x ends.1 lawful covers_y covers_x (adjacent table_place all done ends.0.0 rest y x places cut ends.0.1)
-      (adjacent prefix_len all done ends.0.0 rest y x lens cut ends.0.1)) [
-        | inl less ↦ less
-        | inr same ↦ absurd (other same)
-      ]
+  behind y ((front, ends), of_y) other =
+      let covers_x = covers x (Contains-append_right done (x ∷ rest) x (here x rest)) in
+      let covers_y = covers y (Contains-append_left done (x ∷ rest) y (rw ends (Contains-push front y))) in
+      let far = adjacent table_place all done front rest y x places cut ends in
+      let long = adjacent prefix_len all done front rest y x lens cut ends in
+      grind (arith, told_or_same route is y x of_y lawful covers_y covers_x far long)
 
   pub told_next : (last : Option Payload) (why more : List ℕ) → IsToldSo route asn done last why
       → TellsNext route asn last x more → IsToldSo route asn (done ++ x ∷ []) (Some x) (why ++ more)
   told_next None why more had k = grind (arith, told_more)
   told_next (Some y) why more had (inl (again, e)) = grind (arith, append-nil, told_same)
   told_next (Some y) why more had (inr (other, (reason, against, e))) =
-      subst (λ t. IsToldSo route asn (done ++ x ∷ []) (Some x) (why ++ t)) (sym e)
-      (told_more route asn done x lawful (Some y) why reason against
-      (λ z f. let same : y ≡ z = cc in subst (λ u. IsToldBefore u x) same (behind y had.at_end other)) had)
+      let next = behind y had.at_end other in
+      rw e (told_more route asn done x lawful (Some y) why reason against (λ z f. grind (arith, next)) had)

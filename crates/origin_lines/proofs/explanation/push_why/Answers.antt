@@ -16,11 +16,14 @@ loop-payload-preserved g c =
     let rest : List Payload = c.next.new.self in
     let had = c.loop-payload.invariant in
     let next = c.in_ok-push_next.ensures in
+    let given = walked _ done c.loop-payload.payload-iterator c.loop-payload.yielded_by in
     let cut : all ≡ done ++ x ∷ rest =
-    sym c.into_iter-payload-iterator.ensures.into_iter_gives ∙ walked _ done c.loop-payload.payload-iterator c.loop-payload.yielded_by ∙ ap (λ left. done ++ left) c.in-Some.ensures.steps in (
+    sym c.into_iter-payload-iterator.ensures.into_iter_gives ∙ given
+    ∙ ap (λ left. done ++ left) c.in-Some.ensures.steps in (
       had.0 ++ next.0,
-      told_next c.args.route c.is_lawful.ensures c.args.asn c.args.table.now all done rest x (record { prefix = c.is_lawful-in-loop-payload.ensures; number = c.is_lawful-in-loop-payload-2.ensures }) covering.covering covering.longest_first covering.order cut
-          c.loop-payload.last had.0 next.0 had.1 next.1,
+      told_next c.args.route c.is_lawful.ensures c.args.asn c.args.table.now all done rest x
+          (record { prefix = c.is_lawful-in-loop-payload.ensures; number = c.is_lawful-in-loop-payload-2.ensures })
+          covering.covering covering.longest_first covering.order cut c.loop-payload.last had.0 next.0 had.1 next.1,
       next.2 ∙ ap (λ t. t ++ next.0) had.2 ∙ append_assoc _ had.0 next.0,
     )
 
@@ -29,7 +32,11 @@ returns g c =
     let all : List Payload = c.covering-payload-items.result in
     let done : List Payload = c.loop-payload.yielded in
     let had = c.loop-payload.invariant in
+    let given = walked _ done c.loop-payload.payload-iterator c.loop-payload.yielded_by in
     let whole : done ≡ all =
-    sym (sym c.into_iter-payload-iterator.ensures.into_iter_gives ∙ walked _ done c.loop-payload.payload-iterator c.loop-payload.yielded_by ∙ ap (λ left. done ++ left) c.in-None.ensures.steps.0 ∙ append-nil done) in
+    sym (ap (λ left. done ++ left) c.in-None.ensures.steps.0 ∙ append-nil done) ∙ sym given
+    ∙ c.into_iter-payload-iterator.ensures.into_iter_gives in
     let told = subst (λ ys. IsToldSo c.args.route c.args.asn ys c.loop-payload.last had.0) whole had.1 in
-    (had.0, (told.told, all_told c.args.route c.args.asn c.args.table.now all c.loop-payload.last had.0 c.covering-payload-items.ensures.covering told, told.tells), had.2)
+    let those = c.covering-payload-items.ensures.covering in
+    let explains = all_told c.args.route c.args.asn c.args.table.now all c.loop-payload.last had.0 those told in
+    (had.0, (told.told, explains, told.tells), had.2)

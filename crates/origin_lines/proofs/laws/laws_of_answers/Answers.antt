@@ -7,4 +7,5 @@ returns-clause-one c = answer_one
 
 pub returns-clause-any_order : goal.returns-clause-any_order
 returns-clause-any_order c why payloads others line text moved =
-    (any_order why payloads others line text moved, any_order why others payloads line text (IsPermutation-sym payloads others moved))
+    let back = IsPermutation-sym payloads others moved in
+    (any_order why payloads others line text moved, any_order why others payloads line text back)

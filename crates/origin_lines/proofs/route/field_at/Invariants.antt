@@ -5,7 +5,8 @@ use denote.Text.{Utf8}
 use Rattle.origin_lines.proofs.route.field_at.Given as goal
 
 abbrev pub invariant-loop-left : goal.invariant-loop-left
-invariant-loop-left l = (slice_get (fields_of l.rest) l.left ≡ slice_get (fields_of l.line) l.place) × shadow (Utf8 l.rest)
+invariant-loop-left l =
+    (slice_get (fields_of l.rest) l.left ≡ slice_get (fields_of l.line) l.place) × shadow (Utf8 l.rest)
 
 abbrev pub decreases-loop-left : goal.decreases-loop-left
 decreases-loop-left l = l.left

@@ -6,5 +6,5 @@ use Rattle.origin_lines.proofs.answers.RoutesAnswers.answer.Goals as goal
 pub returns-in-Ok : goal.returns-in-Ok
 returns-in-Ok g c =
     on_ok_weaker c.tell.result
-    (route_answered c.args.self.now.why c.args.self.now.table.now c.args.line.now (string_bytes c.tell.new.text) c.in-Ok.route c.in-Ok.route.prefix c.asked_asn.result c.in-Ok.ensures.found refl
-    c.asked_asn.ensures) c.tell.ensures
+    (route_answered c.args.self.now.why c.args.self.now.table.now c.args.line.now (string_bytes c.tell.new.text)
+    c.in-Ok.route c.in-Ok.route.prefix c.asked_asn.result c.in-Ok.ensures.found refl c.asked_asn.ensures) c.tell.ensures

@@ -10,7 +10,9 @@ module _ (why : Bool) (listed table : List Payload) (moved : IsPermutation liste
   each_turned : (lines texts : List (List ℕ)) → AllZip (IsOriginAnswer why table) lines texts
       → AllZip (IsOriginAnswer why listed) lines texts
   each_turned [] [] each = tt
-  each_turned (line ∷ lines) (text ∷ texts) each = (any_order why table listed line text (IsPermutation-sym listed table moved) each.0, each_turned lines texts each.1)
+  each_turned (line ∷ lines) (text ∷ texts) each =
+      let one = any_order why table listed line text (IsPermutation-sym listed table moved) each.0 in
+      (one, each_turned lines texts each.1)
   each_turned lines texts each = absurd each
 
   answered_turned : (old new : Option (List ℕ)) (lines rest : List (List ℕ)) (unwritten : List ℕ)

@@ -1,5 +1,5 @@
 -- What the proofs of this crate use of std, of the crates below and of its own definitions, passed on by one name.
-pub use Rattle.std.proofs.Common.{Bool, Err, List, Option, [], ap, arith, get_or, length, length-append, refl, rules, take, ℕ, ◌++◌, ◌+◌, ◌-◌, ◌<◌, ◌∙◌, ◌∷◌, ◌≡◌, ◌≤◌, ◌⊎◌}
+pub use Rattle.std.proofs.Common.{Bool, Err, List, Option, [], ap, arith, length, length-append, rules, take, ℕ, ◌++◌, ◌∙◌, ◌∷◌, ◌≡◌, ◌≤◌, ◌⊎◌}
 pub use Rattle.std.proofs.lemmas.Grind.{common_steps}
 pub use Rattle.std.specs.Prelude.{IfSome, IsTrue, Ok, OnErr, OnOk, Result, ◌↔◌}
 pub use Rattle.lines_engine.specs.Run.{AnswersAll, AnswersEnded, AnswersFirst, BeginsAnswers, HasAnswered, HasWritten}

@@ -11,7 +11,7 @@ pub use Rattle.hex.specs.Hex.{IsBytes}
 unfoldable pub use Rattle.rpki_addr.specs.AddressReading.{hex_value}
 pub use Rattle.rpki_as.specs.AsDer.{IsAsResources}
 pub use Rattle.rpki_as.specs.AsDerReading.{as_choice_at}
-pub use Rattle.rpki_as.specs.ListText.{HasAsListFault, IsAsListText, as_list_text}
+pub use Rattle.rpki_as.specs.ListText.{as_list_text}
 pub use Rattle.rpki_as_block.specs.Faults.{as_from_str_error_text}
 pub use Rattle.rpki_base.specs.declared.family.AddressFamily.{AddressFamily}
 pub use Rattle.rpki_chain.specs.Claims.{Claim, claim_of}
@@ -32,4 +32,4 @@ pub use Rattle.respath_lines.specs.Hexadecimal.{IsPairOf}
 unfoldable pub use Rattle.respath_lines.specs.Hexadecimal.{IsHexadecimal, lower_hexadecimal}
 pub use Rattle.respath_lines.specs.Path.{ArePath, HasRootFault, HasStepFault, HavePathFault, IsStepText, ShowsLeft, ShowsPath, list_of, parts_of}
 pub use Rattle.respath_lines.specs.Read.{HasFault, IsEnded, ShowsHexadecimal, ShowsOctets, family_text}
-pub use Rattle.respath_lines.specs.Shown.{ShowsResult, ShowsValueOrFault}
+pub use Rattle.respath_lines.specs.Shown.{ShowsResult}

@@ -1,5 +1,5 @@
 -- What `cover` shows.
-use Rattle.respath_lines.proofs.Common.{List, [], ap, arith, decimal, false, length, map, sym, ℕ, ◌++◌, ◌==◌, ◌∙◌, ◌∷◌, ◌≡◌, ne_eqb, append-nil, flat_map_more, length-append, map-append, Drains, YieldsFirst, flat_map, AddressFamily, cover_text, listed_text, prefix_with_length}
+use Rattle.respath_lines.proofs.Common.{List, [], ap, arith, decimal, false, length, map, refl, sym, ℕ, ◌++◌, ◌==◌, ◌∙◌, ◌∷◌, ◌≡◌, append-nil, flat_map_more, length-append, map-append, Drains, YieldsFirst, flat_map, AddressFamily, cover_text, listed_text, prefix_with_length}
 use Rattle.std.specs.Prelude.{codes}
 use Rattle.rpki_text.specs.Cuts.{slash}
 use Rattle.rpki_addr.specs.Prefixes.{PrefixValue}
@@ -9,7 +9,7 @@ use Rattle.rpki_ip.specs.PrintedText.{addr_text}
 
 -- a text in front of another is some
 some_text : (addr rest more : List ℕ) → (length ((addr ++ slash ∷ rest) ++ more) == 0) ≡ false
-some_text addr rest more = ne_eqb _ 0 (λ none. omega (arith, none, length-append (addr ++ slash ∷ rest) more, length-append addr (slash ∷ rest)))
+some_text addr rest more = grind (arith, length-append {A = ℕ})
 
 -- the text of one more prefix, by what is written of the one that is appended
 pub more_text : (family : AddressFamily) (ps : List PrefixValue) (p : PrefixValue)
@@ -26,4 +26,5 @@ more_text family (q ∷ ps) p =
 -- what an iterator gives to its end is its list
 pub drained : (all ps : List PrefixValue) → Drains (YieldsFirst (λ (left : List PrefixValue). left)) all ps → ps ≡ all
 drained all [] (left, (end, here, none)) = sym (here ∙ none.0)
-drained all (p ∷ ps) (left, (end, (next, first, more), none)) = ap (λ (xs : List PrefixValue). p ∷ xs) (drained next ps (left, (end, more, none))) ∙ sym first
+drained all (p ∷ ps) (left, (end, (next, first, more), none)) =
+    rw (first, drained next ps (left, (end, more, none))) refl

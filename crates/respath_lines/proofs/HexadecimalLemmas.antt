@@ -1,7 +1,7 @@
 -- The octets that a text of digits writes, and the text that writes octets.
-use Rattle.respath_lines.proofs.Common.{List, [], arith, drop, get_or, length, refl, rules, slice_set, suc, take, zero, ℕ, ◌%◌, ◌*◌, ◌+◌, ◌-◌, ◌/◌, ◌<◌, ◌∙◌, ◌∷◌, ◌≡◌, ◌≤◌, ◌⊎◌, common_steps, IsBytes, hex_value, IsHexadecimal, IsPairOf, lower_hexadecimal}
+use Rattle.respath_lines.proofs.Common.{List, [], arith, drop, get_or, length, refl, rules, slice_set, suc, take, zero, ℕ, ◌%◌, ◌*◌, ◌+◌, ◌-◌, ◌/◌, ◌<◌, ◌∷◌, ◌≡◌, ◌≤◌, ◌⊎◌, common_steps, IsBytes, hex_value, IsHexadecimal, IsPairOf, lower_hexadecimal}
 use Rattle.std.proofs.lemmas.Bool.Decides.{nat_tests}
-use Rattle.std.proofs.lemmas.List.{drop-set, drop_all, drop_more, get_or-take, length-set, length-take-le, take-set-le, take-take, take_all}
+use Rattle.std.proofs.lemmas.List.{drop-set, drop_all, drop_more, get_or-take, length-take-le, take-set-le, take-take, take_all}
 use Rattle.std.proofs.lemmas.Str.{digit_value-digit_char}
 use Rattle.std.specs.Char.{digit_value, digit_char}
 
@@ -28,15 +28,9 @@ pairs_write text octets twice pairs = absurd (omega (arith, twice))
 pub pair_at : (text octets : List ℕ) (k i j : ℕ) → IsHexadecimal text octets → i ≡ 2 * k → j ≡ 2 * k + 1
     → j < length text → IsPairOf (get_or text i 0) (get_or text j 0) (get_or octets k 0)
 unfolding IsHexadecimal
-pair_at (high ∷ low ∷ text) (octet ∷ octets) zero i j writes even odd less =
-    let first : i ≡ 0 = omega arith in
-    let second : j ≡ 1 = omega arith in
-    rw (first, second) writes.0
-pair_at (high ∷ low ∷ text) (octet ∷ octets) (suc k) i j writes even odd less =
-    let first : i ≡ suc (suc (i - 2)) = omega arith in
-    let second : j ≡ suc (suc (j - 2)) = omega arith in
-    let rest = pair_at text octets k (i - 2) (j - 2) writes.1 (omega arith) (omega arith) (omega (arith, less)) in
-    rw (first, second) rest
+pair_at (high ∷ low ∷ text) (octet ∷ octets) zero i j writes even odd less = rw (even, odd) writes.0
+pair_at (high ∷ low ∷ text) (octet ∷ octets) (suc k) (suc (suc i)) (suc (suc j)) writes even odd less =
+    pair_at text octets k i j writes.1 (omega arith) (omega arith) (omega (arith, less))
 pair_at text octets k i j writes even odd less = absurd (search (rules, arith))
 
 -- one octet more is put at its place, of whatever holds of each two digits and their octet
@@ -50,10 +44,8 @@ pairs_more P text octets at octet k i j inside pair before even odd small = grin
 -- a text writes one list of octets at most
 pub one_octets : (text a b : List ℕ) → IsHexadecimal text a → IsHexadecimal text b → a ≡ b
 unfolding IsHexadecimal
-one_octets [] [] [] writes also = refl
-one_octets (high ∷ low ∷ text) (octet ∷ a) (other ∷ b) writes also =
-    rw (writes.0.value, also.0.value, one_octets text a b writes.1 also.1) refl
-one_octets text a b writes also = absurd (search rules)
+one_octets (high ∷ low ∷ text) (octet ∷ a) (other ∷ b) writes also = grind (arith, one_octets text a b)
+one_octets text a b writes also = search rules
 
 -- a text of digits has an even number of them
 pub even_text : (text octets : List ℕ) → IsHexadecimal text octets → length text % 2 ≡ 0
@@ -67,12 +59,7 @@ pub lower_writes : (octets : List ℕ) → IsBytes octets → IsHexadecimal (low
 unfolding IsHexadecimal lower_hexadecimal
 lower_writes [] bytes = tt
 lower_writes (octet ∷ octets) bytes =
-    let fits : octet < 256 = bytes 0 in
-    let high = digit_value-digit_char (octet / 16) (omega arith) in
-    let low = digit_value-digit_char (octet % 16) (omega arith) in
-    let pair : IsPairOf (digit_char (octet / 16)) (digit_char (octet % 16)) octet =
-    record { high_digit = omega (arith, high); low_digit = omega (arith, low); value = omega (arith, high, low) } in
-    (pair, lower_writes octets (λ k. bytes (suc k)))
+    grind (arith, bytes 0, digit_value-digit_char, lower_writes octets (λ k. bytes (suc k)))
 
 -- ---- whole texts
 
@@ -101,11 +88,4 @@ pub spread_more : (bytes octets : List ℕ) (i left octet high low : ℕ) → le
 unfolding lower_hexadecimal
 spread_more bytes octets i left octet high low next fits small front behind read first second =
     let same = less_left bytes octets i (rw next at front) in
-    let two_more : 2 * left ≡ 2 * i + 1 + 1 = omega arith in
-    let done = rw (two_more, next) at behind in
-    let put_low = slice_set bytes (2 * i + 1) low in
-    let low_put = drop-set bytes (2 * i + 1) low fits in
-    let put_high = drop-set put_low (2 * i) high (omega (arith, fits, length-set bytes (2 * i + 1) low)) in (
-      take-set-le i put_low (2 * i) high (omega arith) ∙ take-set-le i bytes (2 * i + 1) low (omega arith) ∙ same.0,
-      rw (put_high, low_put, done, drop_more octets i 0 small, first, second, read, same.1) refl,
-    )
+    grind (arith, common_steps, same, drop_more octets i 0 small, take-set-le, drop-set)

@@ -5,4 +5,3 @@ pub mod DerLemmas
 pub mod HexadecimalLemmas
 pub mod PathLemmas
 pub mod ReadLemmas
-pub mod ShownLemmas

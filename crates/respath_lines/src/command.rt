@@ -5,6 +5,7 @@ ghost use Rattle.respath_lines.specs.Command.{is_space};
 
 /// Where the first space of a text stands, and its length where there is none. Words are short, so bytes are looked at
 /// one by one.
+#[tactic(auto, using(std::proofs::lemmas::List::Sums::position_or_len_is))]
 fn first_space(text: &[u8]) -> usize
     ensures { result ≡ position_or_len is_space text.now }
 {

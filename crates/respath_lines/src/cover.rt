@@ -117,6 +117,7 @@ impl fmt::Display for Listed {
 }
 
 /// Appends a prefix to those that are printed, behind a comma and a space where one stands before it.
+#[tactic(auto, using(crate::proofs::CoverLemmas::more_text))]
 fn append<A: Allocator>(
     text: &mut String<A>,
     family: AddressFamily,

@@ -94,6 +94,7 @@ fn der_ip<A: Allocator + Copy>(
 }
 
 /// The resources of a family that a text writes: inherited ones for `inherit`, and else those of the list.
+#[tactic(auto, using(crate::proofs::DerLemmas::listed_resources, rpki_as::proofs::ResourcesTexts::not_true))]
 fn ip_resources<A: Allocator + Copy>(
     alloc: A,
     family: AddressFamily,

@@ -59,6 +59,7 @@ fn put_octets(digits: &[u8], octets: &mut [u8]) -> bool
 }
 
 /// The octets that a text writes, with digits of either case; None where it writes none.
+#[tactic(auto, using(crate::proofs::HexadecimalLemmas::even_text))]
 pub(crate) fn octets_of<A: Allocator>(
     alloc: A,
     text: &str,

@@ -8,17 +8,29 @@ use Rattle.respath_lines.proofs.steps.read_steps.Goals as goal
 -- one more step
 pub loop-part-preserved : goal.loop-part-preserved
 loop-part-preserved g c =
-    rw (map-append, c.in_ok-push-in-Ok.ensures.items) (HaveValues-append (IsStepText g.L.Lists.claim (g.L.Lists.writes c.args.lists.now)) (map (λ p. p.now) c.loop-part.yielded) (c.in-Some.part.now ∷ []) _ _ c.loop-part.invariant (c.in-Ok.ensures, tt))
+    let step = IsStepText g.L.Lists.claim (g.L.Lists.writes c.args.lists.now) in
+    rw (map-append, c.in_ok-push-in-Ok.ensures.items)
+    (HaveValues-append step (map (λ p. p.now) c.loop-part.yielded) (c.in-Some.part.now ∷ []) _ _ c.loop-part.invariant
+    (c.in-Ok.ensures, tt))
 
 pub returns-in-Err : goal.returns-in-Err
 returns-in-Err g c =
-    let road = YieldsList-at c.into_iter-part-iterator.ensures.into_iter_gives (YieldsList-from_str_split 124 c.args.text.now (lit< tt) c.split-part-items.ensures.text c.split-part-items.ensures.has_more c.split-part-items.ensures.pattern) in
-    let here = YieldsList-turn road c.loop-part.yielded _ c.loop-part.yielded_by _ _ c.in-Some.part c.in-Some.is c.next.ensures.steps in
-    let before = rw (YieldsList-so_far road c.loop-part.yielded _ c.loop-part.yielded_by) at c.loop-part.invariant in
-    first_refused (IsStepText g.L.Lists.claim (g.L.Lists.writes c.args.lists.now)) (HasStepFault (g.L.Lists.fails c.args.lists.now)) (parts_of c.args.text.now) (length c.loop-part.yielded) c.in-Some.part.now c.loop-part.steps.items c.in-Err.fault here before c.in-Err.ensures
+    let split = c.split-part-items.ensures in
+    let items = YieldsList-from_str_split 124 c.args.text.now (lit< tt) split.text split.has_more split.pattern in
+    let road = YieldsList-at c.into_iter-part-iterator.ensures.into_iter_gives items in
+    let so_far = c.loop-part.yielded in
+    let by = c.loop-part.yielded_by in
+    let here = YieldsList-turn road so_far _ by _ _ c.in-Some.part c.in-Some.is c.next.ensures.steps in
+    let before = rw (YieldsList-so_far road so_far _ by) at c.loop-part.invariant in
+    let step = IsStepText g.L.Lists.claim (g.L.Lists.writes c.args.lists.now) in
+    let fails = HasStepFault (g.L.Lists.fails c.args.lists.now) in
+    first_refused step fails (parts_of c.args.text.now) (length so_far) c.in-Some.part.now c.loop-part.steps.items
+    c.in-Err.fault here before c.in-Err.ensures
 
 pub returns : goal.returns
 returns g c =
-    let road = YieldsList-at c.into_iter-part-iterator.ensures.into_iter_gives (YieldsList-from_str_split 124 c.args.text.now (lit< tt) c.split-part-items.ensures.text c.split-part-items.ensures.has_more c.split-part-items.ensures.pattern) in
+    let split = c.split-part-items.ensures in
+    let items = YieldsList-from_str_split 124 c.args.text.now (lit< tt) split.text split.has_more split.pattern in
+    let road = YieldsList-at c.into_iter-part-iterator.ensures.into_iter_gives items in
     let all = YieldsList-end road c.loop-part.yielded _ c.loop-part.yielded_by _ _ c.in-None.is c.next.ensures.steps in
     rw (← all.0) c.loop-part.invariant

@@ -1,5 +1,5 @@
 -- What the proofs of this crate use of std, of the crates below and of its own definitions, passed on by one name.
-pub use Rattle.std.proofs.Common.{List, [], ap, append_assoc, arith, get_or, length, lit<, map, refl, subst, suc, sym, take, ℕ, ◌++◌, ◌+◌, ◌<◌, ◌∙◌, ◌∷◌, ◌≡◌}
+pub use Rattle.std.proofs.Common.{List, [], ap, append_assoc, arith, get_or, length, lit<, map, refl, subst, sym, take, ℕ, ◌++◌, ◌+◌, ◌<◌, ◌∙◌, ◌∷◌, ◌≡◌}
 pub use Rattle.std.proofs.VecSteps.Shapes.{after}
 pub use Rattle.std.proofs.alloc.Calls.{Goes-blank, handle_tells}
 pub use Rattle.std.proofs.option.Made.{Some-of, none_of}

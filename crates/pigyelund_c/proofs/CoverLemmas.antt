@@ -1,5 +1,5 @@
 -- Prefixes that are written one after the other.
-use Rattle.std.proofs.Common.{◌≡◌, ℕ, List, [], ◌∷◌, ◌++◌, ap, ◌∙◌, sym, append_assoc}
+use Rattle.std.proofs.Common.{◌≡◌, ℕ, List, [], ◌∷◌, ◌++◌, append_assoc}
 use Rattle.std.proofs.lemmas.List.{append-nil}
 use Rattle.rpki_addr.specs.Prefixes.{PrefixValue}
 use Rattle.rpki_chain.specs.Runs.{Runs, Holds}
@@ -11,8 +11,7 @@ use Rattle.pigyelund_c.specs.Covers.{AreCoverOctets, cover_octets, prefix_octets
 pub behind : (old address bytes more all : List ℕ) (len last : ℕ) → bytes ≡ address → last ≡ len → more ≡ old ++ bytes
     → all ≡ more ++ last ∷ [] → all ≡ old ++ (address ++ len ∷ [])
 behind old address bytes more all len last same also put pushed =
-    pushed ∙ ap (λ (xs : List ℕ). xs ++ last ∷ []) put ∙ append_assoc old bytes (last ∷ [])
-    ∙ ap (λ (ys : List ℕ). old ++ ys) (ap (λ (bs : List ℕ). bs ++ last ∷ []) same ∙ ap (λ (n : ℕ). address ++ n ∷ []) also)
+    rw (pushed, put, same, also) (append_assoc old address (len ∷ []))
 
 -- one more prefix: the octets so far, with those of the ones that are left, are still all
 pub one_more : (family : AddressFamily) (done more : List ℕ) (left rest all : List PrefixValue) (p : PrefixValue)
@@ -20,12 +19,11 @@ pub one_more : (family : AddressFamily) (done more : List ℕ) (left rest all : 
     → done ++ cover_octets family left ≡ cover_octets family all
     → more ++ cover_octets family rest ≡ cover_octets family all
 one_more family done more left rest all p grown next so_far =
-    ap (λ (xs : List ℕ). xs ++ cover_octets family rest) grown ∙ append_assoc done (prefix_octets family p) (cover_octets family rest)
-    ∙ sym (ap (λ (ps : List PrefixValue). done ++ cover_octets family ps) next) ∙ so_far
+    rw (grown, ← so_far, next) (append_assoc done (prefix_octets family p) (cover_octets family rest))
 
 -- where none is left, those so far are all
 pub all_done : (family : AddressFamily) (set : Runs) (done : List ℕ) (left all made : List PrefixValue) → left ≡ []
     → done ++ cover_octets family left ≡ cover_octets family all → all ≡ made → IsShortestCover 128 (Holds set) made
     → AreCoverOctets family set done
 all_done family set done left all made none so_far same is =
-    (made, is, sym (append-nil done) ∙ ap (λ (ps : List PrefixValue). done ++ cover_octets family ps) (sym none) ∙ so_far ∙ ap (cover_octets family) same)
+    (made, is, rw (none, same, append-nil done) at so_far)

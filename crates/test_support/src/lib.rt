@@ -80,6 +80,7 @@ impl<A: Allocator> Refusing<A> {
     }
 
     /// Whether some request so far was refused. A run after which this is false met no refusal.
+    #[tactic(auto, using(crate::proofs::Counts::refuses_some))]
     pub fn has_refused(&self) -> bool
         ensures { IsTrue result → RefusesSome (plan_of self.now) }
     {

@@ -26,6 +26,7 @@ impl Plan {
     }
 
     /// How many of the first `asked` requests are refused.
+    #[tactic(auto, using(crate::proofs::Counts::among_none, crate::proofs::Counts::among_only, crate::proofs::Counts::among_all))]
     pub fn refused_among(self, asked: u64) -> u64
         ensures { result ≡ refused_among self asked }
     {

@@ -1,12 +1,10 @@
 -- What the proofs of this crate use of std, of the crates below and of its own definitions, passed on by one name.
-pub use Rattle.std.proofs.Common.{Bool, Contains, IsTrue, List, [], ap, arith, false, get_or, inl, inr, length, refl, rules, subst, suc, sym, take, true, ℕ, ⊎_elim, ◌++◌, ◌+◌, ◌<◌, ◌↔◌, ◌∙◌, ◌∷◌, ◌≡◌, ◌≤◌}
+pub use Rattle.std.proofs.Common.{Bool, Contains, IsTrue, List, [], ap, arith, false, get_or, length, refl, rules, subst, sym, take, true, ℕ, ◌++◌, ◌+◌, ◌<◌, ◌↔◌, ◌∙◌, ◌∷◌, ◌≡◌, ◌≤◌}
 pub use Rattle.std.proofs.lemmas.List.{append-nil, length_push, nil_from_length, take_all}
 pub use Rattle.std.proofs.lemmas.Result.{IfOk-weaker}
 pub use Rattle.std.specs.Slice.Iter.{iter_rest}
 pub use Rattle.roa_origin.specs.Coverings.{AreThose}
-pub use Rattle.rpki_as.specs.AsDer.{as_resources_octets, as_set_octets}
-pub use Rattle.rpki_chain.specs.Runs.{Holds, IsRunsOfBlocks, Runs}
+pub use Rattle.rpki_chain.specs.Runs.{IsRunsOfBlocks, Runs}
 pub use Rattle.rpki_prefix.specs.Values.{CoversPrefix, FamilyPrefix}
 pub use Rattle.rpki_text.specs.Memory.{IsMemory}
-pub use Rattle.example_calls.specs.Certificates.{IsLeftInEach}
-pub use Rattle.example_calls.specs.Routes.{IsCountOfInvalid, IsInvalid, Route}
+pub use Rattle.example_calls.specs.Routes.{IsCountOfInvalid, IsInvalid}

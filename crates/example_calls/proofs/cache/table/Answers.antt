@@ -3,8 +3,12 @@ use Rattle.example_calls.proofs.TableLemmas.{ascending, members}
 use Rattle.example_calls.proofs.cache.table.Goals as goal
 
 pub returns-clause-ascending : goal.returns-clause-ascending
-returns-clause-ascending g c = ascending _ c.equal_where_the_same.ensures.prefix c.total_order.ensures.total c.total_order.ensures.ties _ _ c.sort_unstable.ensures.sorted c.dedup.ensures.filtered
+returns-clause-ascending g c =
+    let order = c.total_order.ensures in
+    ascending _ c.equal_where_the_same.ensures.prefix order.total order.ties _ _ c.sort_unstable.ensures.sorted
+    c.dedup.ensures.filtered
 
 pub returns-clause-members : goal.returns-clause-members
 returns-clause-members g c =
-    members _ c.equal_where_the_same.ensures.prefix _ _ _ (rw c.in_ok-table.ensures.items at c.sort_unstable.ensures.permutation) c.dedup.ensures.filtered
+    let moved = rw c.in_ok-table.ensures.items at c.sort_unstable.ensures.permutation in
+    members _ c.equal_where_the_same.ensures.prefix _ _ _ moved c.dedup.ensures.filtered

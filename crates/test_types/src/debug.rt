@@ -26,6 +26,7 @@ use rpki_ip::range::AddressRange;
 use rpki_ipres::block::IpBlock;
 use rpki_ipres::blocks::IpBlocks;
 use rpki_ipres::builder::IpBlocksBuilder;
+use rpki_ipres::overclaim::OverclaimedIpResources;
 use rpki_ipres::resources::{InheritedIpResources, IpResources};
 use rpki_prefix::error::{MaxLenError, ParseMaxLenPrefixError, ParsePrefixError, PrefixError};
 use rpki_prefix::max_len::MaxLenPrefix;
@@ -136,34 +137,45 @@ fn debug_of_blocks_of_addresses(rt: HostRuntime) -> Result<(), Fail> {
     Ok(())
 }
 
-/// Of sets, claims and faults of AS 7: the set, what a claim has of it, its fault, and chains of its block.
-fn shows_as(alloc: Global, set: AsBlocks) -> Result<bool, AllocError> {
-    let is_set = shows(alloc, &set, "{Id(Asn(7))}")?;
-    let is_fault = match set.verify_covered(alloc, &AsResources::missing()) {
-        Err(OrMemory::Refused(fault)) => shows(alloc, &fault, "{Id(Asn(7))}")?,
-        _ => false,
-    };
-    let is_claim = shows(alloc, &AsResources::blocks(set), "Blocks({Id(Asn(7))})")?;
-    Ok(is_set && is_fault && is_claim)
+/// What is said of a set by a claim that has none of it.
+fn shows_excess(alloc: Global, set: &AsBlocks) -> Result<bool, AllocError> {
+    match set.verify_covered(alloc, &AsResources::missing()) {
+        Err(OrMemory::Refused(fault)) => shows(alloc, &fault, "{Id(Asn(7))}"),
+        _ => Ok(false),
+    }
 }
 
-fn shows_chains(alloc: Global, blocks: &[AsBlock]) -> Result<bool, AllocError> {
+fn shows_claim(alloc: Global, set: AsBlocks) -> Result<bool, AllocError> {
+    shows(alloc, &AsResources::blocks(set), "Blocks({Id(Asn(7))})")
+}
+
+fn shows_owned(alloc: Global, blocks: &[AsBlock]) -> Result<bool, AllocError> {
     let owned = OwnedChain::from_blocks(alloc, blocks)?;
-    let shared = SharedChain::from_blocks(alloc, blocks)?;
     let is_chain = shows(alloc, &owned.as_chain(), "Chain([Id(Asn(7))])")?;
-    let is_owned = shows(alloc, &owned, "OwnedChain([Id(Asn(7))])")?;
-    Ok(is_chain && is_owned && shows(alloc, &shared, "SharedChain([Id(Asn(7))])")?)
+    Ok(is_chain && shows(alloc, &owned, "OwnedChain([Id(Asn(7))])")?)
+}
+
+fn shows_shared(alloc: Global, blocks: &[AsBlock]) -> Result<bool, AllocError> {
+    let shared = SharedChain::from_blocks(alloc, blocks)?;
+    shows(alloc, &shared, "SharedChain([Id(Asn(7))])")
 }
 
 #[test]
 fn debug_of_as_sets(rt: HostRuntime) -> Result<(), Fail> {
     let alloc = rt.alloc();
+    let set = AsBlocks::from_blocks(alloc, &[AsBlock::Id(Asn::from_u32(7))])?;
+    holds(&rt, shows(alloc, &set, "{Id(Asn(7))}")?);
+    holds(&rt, shows_excess(alloc, &set)?);
+    holds(&rt, shows_claim(alloc, set)?);
+    Ok(())
+}
+
+#[test]
+fn debug_of_as_chains(rt: HostRuntime) -> Result<(), Fail> {
+    let alloc = rt.alloc();
     let blocks = [AsBlock::Id(Asn::from_u32(7))];
-    holds(
-        &rt,
-        shows_as(alloc, AsBlocks::from_blocks(alloc, &blocks)?)?,
-    );
-    holds(&rt, shows_chains(alloc, &blocks)?);
+    holds(&rt, shows_owned(alloc, &blocks)?);
+    holds(&rt, shows_shared(alloc, &blocks)?);
     holds(&rt, shows_small(alloc, &[Asn::from_u32(7)])?);
     holds(
         &rt,
@@ -180,22 +192,23 @@ fn shows_small(alloc: Global, list: &[Asn]) -> Result<bool, AllocError> {
     shows(alloc, &SmallAsnSet::from_list(alloc, list)?, "{Asn(7)}")
 }
 
-#[test]
-fn debug_of_claims(rt: HostRuntime) -> Result<(), Fail> {
-    let alloc = rt.alloc();
+fn shows_step(alloc: Global) -> Result<bool, AllocError> {
     let step: AsStep = AsStep {
         claim: AsResources::missing(),
         mode: Overclaim::Refuse,
     };
+    shows(alloc, &step, "Step { claim: Missing, mode: Refuse }")
+}
+
+#[test]
+fn debug_of_claims(rt: HostRuntime) -> Result<(), Fail> {
+    let alloc = rt.alloc();
     let refusal = PathRefusal {
         step: 1,
         fault: InheritedAsResources,
     };
     let asn = SetFromStrError::Asn(AsFromStrError::BadAsn);
-    holds(
-        &rt,
-        shows(alloc, &step, "Step { claim: Missing, mode: Refuse }")?,
-    );
+    holds(&rt, shows_step(alloc)?);
     holds(
         &rt,
         shows(
@@ -213,30 +226,59 @@ fn debug_of_claims(rt: HostRuntime) -> Result<(), Fail> {
     Ok(())
 }
 
-/// Of all IPv6 addresses: the set, in a family, a fault of it, a claim.
-fn shows_ip(alloc: Global, set: IpBlocks) -> Result<bool, AllocError> {
-    let all = "{Prefix(Prefix { addr: Addr(0), len: 0 })}";
+const ALL: &str = "{Prefix(Prefix { addr: Addr(0), len: 0 })}";
+
+fn shows_in_v6(alloc: Global, set: &IpBlocks) -> Result<bool, AllocError> {
     let of_v6 =
         "IpBlocksForFamily { family: Ipv6, blocks: {Prefix(Prefix { addr: Addr(0), len: 0 })} }";
-    let is_set = shows(alloc, &set, all)? && shows(alloc, &set.as_v6(), of_v6)?;
-    let is_fault = match set.verify_covered(alloc, &IpResources::missing()) {
-        Err(OrMemory::Refused(fault)) => {
-            shows(alloc, &fault, all)? && shows(alloc, &fault.v6(), all)?
-        }
-        _ => false,
-    };
+    shows(alloc, &set.as_v6(), of_v6)
+}
+
+/// What is said of a set by a claim that has none of it, as it is and in IPv6.
+fn shows_all_beyond(alloc: Global, set: &IpBlocks) -> Result<bool, AllocError> {
+    match set.verify_covered(alloc, &IpResources::missing()) {
+        Err(OrMemory::Refused(fault)) => shows_fault(alloc, fault),
+        _ => Ok(false),
+    }
+}
+
+fn shows_fault(alloc: Global, fault: OverclaimedIpResources) -> Result<bool, AllocError> {
+    let is_fault = shows(alloc, &fault, ALL)?;
+    let is_in_v6 = shows(alloc, &fault.v6(), ALL)?;
+    Ok(is_fault && is_in_v6)
+}
+
+fn shows_inherit(alloc: Global) -> Result<bool, AllocError> {
     let inherited: IpResources = IpResources::inherit();
-    Ok(is_set && is_fault && shows(alloc, &inherited, "Inherit")?)
+    shows(alloc, &inherited, "Inherit")
 }
 
 #[test]
 fn debug_of_ip_sets(rt: HostRuntime) -> Result<(), Fail> {
     let alloc = rt.alloc();
+    let set = IpBlocks::all(alloc)?;
+    holds(&rt, shows(alloc, &set, ALL)?);
+    holds(&rt, shows_in_v6(alloc, &set)?);
+    holds(&rt, shows_all_beyond(alloc, &set)?);
+    Ok(())
+}
+
+fn shows_all_v4(alloc: Global) -> Result<bool, AllocError> {
     let v4 = "{Ipv4Block { block: Prefix(Prefix { addr: Addr(0), len: 0 }) }}";
+    shows(alloc, &Ipv4Blocks::all(alloc)?, v4)
+}
+
+fn shows_all_v6(alloc: Global) -> Result<bool, AllocError> {
     let v6 = "{Ipv6Block { block: Prefix(Prefix { addr: Addr(0), len: 0 }) }}";
-    holds(&rt, shows_ip(alloc, IpBlocks::all(alloc)?)?);
-    holds(&rt, shows(alloc, &Ipv4Blocks::all(alloc)?, v4)?);
-    holds(&rt, shows(alloc, &Ipv6Blocks::all(alloc)?, v6)?);
+    shows(alloc, &Ipv6Blocks::all(alloc)?, v6)
+}
+
+#[test]
+fn debug_of_sets_of_a_family(rt: HostRuntime) -> Result<(), Fail> {
+    let alloc = rt.alloc();
+    holds(&rt, shows_all_v4(alloc)?);
+    holds(&rt, shows_all_v6(alloc)?);
+    holds(&rt, shows_inherit(alloc)?);
     holds(
         &rt,
         shows(
@@ -248,17 +290,28 @@ fn debug_of_ip_sets(rt: HostRuntime) -> Result<(), Fail> {
     Ok(())
 }
 
-/// What the empty set has beyond itself.
+/// What a set has beyond itself.
 fn shows_changes(alloc: Global, set: &ResourceSet) -> Result<bool, AllocError> {
-    let empty = "ResourceSet { asn: {}, ipv4: {}, ipv6: {} }";
     let changes = "ResourceDiff { added: ResourceSet { asn: {}, ipv4: {}, ipv6: {} }, \
         removed: ResourceSet { asn: {}, ipv4: {}, ipv6: {} } }";
-    Ok(shows(alloc, set, empty)? && shows(alloc, &set.difference(alloc, set)?, changes)?)
+    let none = set.difference(alloc, set)?;
+    shows(alloc, &none, changes)
+}
+
+fn shows_no_changes(alloc: Global) -> Result<bool, AllocError> {
+    let empty: ResourceSet = ResourceSet::empty();
+    shows_changes(alloc, &empty)
+}
+
+fn shows_empty(alloc: Global) -> Result<bool, AllocError> {
+    let empty: ResourceSet = ResourceSet::empty();
+    shows(alloc, &empty, "ResourceSet { asn: {}, ipv4: {}, ipv6: {} }")
 }
 
 #[test]
 fn debug_of_sets_of_three_kinds(rt: HostRuntime) -> Result<(), Fail> {
-    let empty: ResourceSet = ResourceSet::empty();
-    holds(&rt, shows_changes(rt.alloc(), &empty)?);
+    let alloc = rt.alloc();
+    holds(&rt, shows_empty(alloc)?);
+    holds(&rt, shows_no_changes(alloc)?);
     Ok(())
 }

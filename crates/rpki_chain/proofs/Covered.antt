@@ -1,5 +1,5 @@
 -- What an issuer's claim leaves out of a set.
-use Rattle.rpki_chain.proofs.Common.{[], arith, inl, inr, ℕ, ◌↔◌, ◌≡◌, ◌⊎◌, false≢true, Err, IfErr, IsErrAnd, IsOk, IfRefused, IsMemory, OrMemory, Memory, Refused, Claim, IsDifference, IsCovered, IsUncovered, Leaves, Holds, IsRunsOf, Runs, Blocks, Inherit, Missing}
+use Rattle.rpki_chain.proofs.Common.{[], inl, inr, ℕ, ◌↔◌, ◌≡◌, ◌⊎◌, false≢true, Err, IfErr, IsOk, IfRefused, OrMemory, Memory, Refused, Claim, IsDifference, IsCovered, IsUncovered, Leaves, Holds, IsRunsOf, Runs, Blocks, Inherit, Missing}
 use Rattle.std.specs.Prelude.{Result, Ok}
 use Rattle.rpki_chain.proofs.Issued.{none_held}
 use Rattle.rpki_chain.proofs.LawLemmas.{empty_set, inside_where_none}
@@ -10,10 +10,6 @@ pub Leaves-decided : (claim : Claim) (n : ℕ) → Leaves claim n ⊎ (Leaves cl
 Leaves-decided Missing n = inr (λ l. l)
 Leaves-decided Inherit n = inl tt
 Leaves-decided (Blocks runs) n = Holds-decided runs n
-
--- a call that wants memory refuses
-pub wants_memory : {X E : Type 0} (r : Result X (OrMemory E)) → IsErrAnd r IsMemory → IsOk r → ⊥
-wants_memory r h ok = grind arith
 
 module _ (set : Runs) where
   -- a missing claim covers the empty set alone

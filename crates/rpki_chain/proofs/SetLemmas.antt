@@ -1,5 +1,6 @@
 -- Chains of blocks, and the sets that they are.
-use Rattle.rpki_chain.proofs.Common.{IfOk, IsOk, List, Result, [], arith, get_or, length, map, refl, sym, ℕ, ◌-◌, ◌<◌, ◌↔◌, ◌∷◌, ◌≡◌, ◌≤◌, All-head, All-map, All-tail, Decides, All, Covers-nil, is_same_pair, same_runs, IsChain, IsInside, IsBlockChain, IsBlockSet, IsIntersection, Holds, IsRunsOf, IsRunsOfBlocks, Runs}
+use Rattle.rpki_chain.proofs.Common.{IfOk, IfRefused, List, OrMemory, Memory, Refused, Result, [], arith, get_or, length, map, refl, sym, ℕ, ◌-◌, ◌<◌, ◌↔◌, ◌∷◌, ◌≡◌, ◌≤◌, All-head, All-map, All-tail, Decides, All, Covers-nil, is_same_pair, same_runs, IsChain, IsInside, IsBlockChain, IsBlockSet, IsIntersection, Holds, IsRunsOf, IsRunsOfBlocks, Runs}
+use Rattle.std.specs.Prelude.{IsOkAnd, Ok, Err}
 use Rattle.std.specs.Cmp.Lexicographic.{pointwise_decides}
 use Rattle.std.proofs.lemmas.Grind.{common_steps}
 use Rattle.rpki_chains.specs.Overhang.{IsOverhang}
@@ -29,15 +30,22 @@ pub numbers_told : (P : Type 0) (a b : Runs) → IsRunsOf (Holds a) a → IsRuns
     → P ↔ ((n : ℕ) → Holds a n ↔ Holds b n)
 numbers_told P a b ha hb told = grind (arith, same_numbers)
 
--- where a block leaves the other set, a call that is right for subsets alone is right to refuse
-pub refused_for : {B I : Type 0} {f : B → ℕ × ℕ} {number : I → ℕ} {first last : ℕ} {own other : List B}
+-- where a block leaves the other set, not all numbers of the one are in the other
+pub leaves_some : {B I : Type 0} {f : B → ℕ × ℕ} {number : I → ℕ} {first last : ℕ} {own other : List B}
     {o : Overhang I} {a b : Runs} (form : ℕ × ℕ → B) → IsOverhang f number first last own other o → map f own ≡ a
-    → map f other ≡ b → {X E : Type 0} (r : Result X E) → (IsOk r → ⊥) → IsOk r ↔ ((n : ℕ) → Holds a n → Holds b n)
-refused_for {B} {I} {f} {number} {first} {last} {own} {other} {o} form leaves one two r refuses = (
-  λ ok. absurd (refuses ok),
-  λ inside. absurd (overhang-not_inside f form number first last own other o leaves
-      (λ n covered. (Holds-map f other n).0 ((rw (← one, ← two) at inside) n ((Holds-map f own n).1 covered)))),
-)
+    → map f other ≡ b → ((n : ℕ) → Holds a n → Holds b n) → ⊥
+leaves_some {B} {I} {f} {number} {first} {last} {own} {other} {o} form leaves one two inside =
+    overhang-not_inside f form number first last own other o leaves
+    (λ n covered. (Holds-map f other n).0 ((rw (← one, ← two) at inside) n ((Holds-map f own n).1 covered)))
+
+-- what is right of the runs of each chain is right of the set that is refused with one
+pub refused_says : {B E : Type 0} {f : B → ℕ × ℕ} {Q : List B → Type 0} (P : Runs → Type 0)
+    (chain : Result (List B) E) (refused : OrMemory Runs)
+    → IfRefused (λ set. IsOkAnd chain (λ xs. set ≡ map f xs)) refused → IfOk chain Q
+    → ((xs : List B) → Q xs → P (map f xs)) → IfRefused P refused
+refused_says P (Ok xs) (Refused set) is chain says = rw is (says xs chain)
+refused_says P (Err e) (Refused set) is chain says = absurd is
+refused_says P chain (Memory e) is made says = tt
 
 module _ {B : Type 0} (f : B → ℕ × ℕ) where
   -- the blocks that are made of the runs of a set have these runs for their bounds

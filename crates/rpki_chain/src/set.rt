@@ -1,5 +1,5 @@
 //! Sets of the items of a kind.
-ghost use Rattle.std.specs.Prelude.{◌≡◌, ℕ, ◌↔◌, [], ◌∷◌, IsTrue, IsOk, IfOk, IfErr, OnOk, OnErr, map};
+ghost use Rattle.std.specs.Prelude.{◌≡◌, ℕ, ◌↔◌, [], ◌∷◌, IsTrue, IsOk, IfOk, IsOkAnd, IfErr, OnOk, OnErr, map};
 ghost use Rattle.std.specs.Slice.Iter.{iter_rest};
 ghost use Rattle.rpki_chain.specs.BlockSets.{IsBlockChain, IsBlockSet};
 ghost use Rattle.rpki_chains.specs.Equality.{same_runs};
@@ -226,11 +226,13 @@ impl<T: Block, A: Allocator> BlockSet<T, A> {
     {
         let own = self.as_chain();
         let others = other.as_chain();
-        let Some(overhang) = own.overhang(others) else {
-            return Ok(());
-        };
-        let excess = own.difference_from(alloc, others, overhang)?;
-        Err(OrMemory::Refused(Self::from_owned(alloc, excess)?))
+        match own.overhang(others) {
+            None => Ok(()),
+            Some(overhang) => Err(Self::refused_with(
+                alloc,
+                own.difference_from(alloc, others, overhang),
+            )),
+        }
     }
 
     /// `Ok` where the other has each item, with no memory taken. Else `Refused` with the items that both have, or
@@ -247,11 +249,26 @@ impl<T: Block, A: Allocator> BlockSet<T, A> {
     {
         let own = self.as_chain();
         let others = other.as_chain();
-        let Some(overhang) = own.overhang(others) else {
-            return Ok(());
-        };
-        let common = own.common_from(alloc, others, overhang)?;
-        Err(OrMemory::Refused(Self::from_owned(alloc, common)?))
+        match own.overhang(others) {
+            None => Ok(()),
+            Some(overhang) => Err(Self::refused_with(
+                alloc,
+                own.common_from(alloc, others, overhang),
+            )),
+        }
+    }
+
+    /// `Refused` with the set of a chain, or `Memory` where there was none for the chain or is none for the set.
+    fn refused_with(
+        alloc: A,
+        chain: Result<OwnedChain<T, A>, AllocError>,
+    ) -> OrMemory<BlockSet<T, A>>
+        ensures { IfRefused (λ set. IsOkAnd chain (λ chain. set ≡ map T.bounds chain)) result }
+    {
+        match chain.and_then(|chain| Self::from_owned(alloc, chain)) {
+            Ok(set) => OrMemory::Refused(set),
+            Err(error) => OrMemory::Memory(error),
+        }
     }
 
     /// The set of the items that one or the other has. `AllocError` where there is no memory for it.

@@ -1,8 +1,7 @@
 -- Lists of AS blocks, read element by element from the front of what is left.
 use Rattle.rpki_as_block.proofs.Common.{List, Ok, Option, Some, [], ap, arith, drop, get_or, inl, inr, length, length-drop, refl, subst, sym, take, ℕ, ◌++◌, ◌+◌, ◌-◌, ◌<◌, ◌∙◌, ◌∷◌, ◌≡◌, ◌≤◌, ◌⊎◌, drop-length, append-nil, append_assoc, drop_more, length-take, take-append-drop, AreAsBlocksFrom, IsAfterSpace, IsAsBlockAt, IsAsBlockBetween, IsEndAt, StandsAt, ReadsAsBlock, AsBlock}
 use Rattle.rpki_text.specs.Lists.{elements, HaveValues}
-use Rattle.rpki_text.proofs.ElementLemmas.{IsPartOf, elements_first, elements_last}
-use Rattle.rpki_text.proofs.PrintedLemmas.{IsElement}
+use Rattle.rpki_text.proofs.PrintedLemmas.{IsElement, IsPartOf, elements_first, elements_last}
 use Rattle.rpki_as_block.proofs.BlockLemmas.{reads_block}
 use Rattle.rpki_as_block.proofs.BlockPlaceLemmas.{drop_later}
 

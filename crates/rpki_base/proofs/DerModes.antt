@@ -1,7 +1,7 @@
 -- Readings from readings by the mode, and calls that take memory.
-use Rattle.rpki_base.proofs.Common.{Bool, Err, List, Ok, Option, Result, Some, [], arith, length, refl, suc, true, zero, ℕ, ◌++◌, ◌<◌, ◌∷◌, ◌≡◌, ◌↔◌, HasOctets, bind_tightens, cond_tightens, each, each_tightens, found_is, looked_tightens, passed_is, passes, passing_tightens, same_found, shorter, same_tightens, IsCheck, bind_ok, ok_is, ok_or_err, EachFrom, IsBytes, Tlv, IsModal, IsReading, Tightens, each_from, optional, passing, tagged_at, ◌>>=◌, Takes, is_strict, left, Cursor, DerError, OrMemory, Memory, Refused, Encloses, IsSequenceFrom, SaysPair, by_tag, enclosed_at, only, pair_by, pair_in, sequence_from, values_from, values_of, ReadsOrMemory, Grammar, Reading}
+use Rattle.rpki_base.proofs.Common.{content_reading, Bool, Err, List, Ok, Option, Result, Some, [], arith, length, refl, suc, true, zero, ℕ, ◌++◌, ◌<◌, ◌∷◌, ◌≡◌, ◌↔◌, HasOctets, bind_tightens, cond_tightens, each, each_tightens, found_is, looked_tightens, passed_is, passes, passing_tightens, same_found, shorter, same_tightens, IsCheck, bind_ok, ok_is, ok_or_err, EachFrom, IsBytes, Tlv, IsModal, IsReading, Tightens, each_from, optional, passing, tagged_at, ◌>>=◌, Takes, is_strict, left, Cursor, DerError, OrMemory, Memory, Refused, Encloses, IsSequenceFrom, SaysPair, by_tag, enclosed_at, only, pair_by, pair_in, sequence_from, values_from, values_of, ReadsOrMemory, Grammar, Reading}
 use Rattle.rpki_base.proofs.DerCursors.{optional_back}
-use Rattle.rpki_base.proofs.DerReadings.{content_reading, enclosed_reading, pair_check, values_check}
+use Rattle.rpki_base.proofs.DerReadings.{enclosed_reading, pair_check, values_check}
 
 -- ---- by the tag
 

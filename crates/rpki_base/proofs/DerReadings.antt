@@ -1,5 +1,5 @@
 -- Readings from readings: of one of two tags, of two values, of values that are passed over, and of sequences.
-use Rattle.rpki_base.proofs.Common.{List, Ok, Result, [], arith, ℕ, ◌≡◌, ◌≢◌, eq-eqb, eqb-true, ne_eqb, append-nil, nil_from_length, HasOctets, each_again, each_takes, fits_content, fits_rest, one_front, refined_reading, tagged_reading, value_reading, IsCheck, IsTagged, ◌↔◌, bind_ok, ok_is, EachFrom, IsBytes, IsTlv, OneFront, Refines, IsReading, ended, refined, tagged_at, value_at, ◌>>=◌, DerError, Encloses, IsSequenceFrom, SaysByTag, SaysPair, Skips, by_tag, enclosed_at, only, pair_in, sequence_from, skipping, values_from, Grammar, Reading, IsAsNumber, as_number_at, u32_reading}
+use Rattle.rpki_base.proofs.Common.{List, Ok, Result, [], arith, ℕ, ◌≡◌, ◌≢◌, eq-eqb, eqb-true, ne_eqb, append-nil, nil_from_length, HasOctets, each_again, each_takes, fits_content, fits_rest, one_front, refined_reading, content_reading, value_reading, IsCheck, ◌↔◌, bind_ok, ok_is, EachFrom, IsBytes, IsTlv, OneFront, Refines, IsReading, ended, refined, value_at, ◌>>=◌, DerError, Encloses, IsSequenceFrom, SaysByTag, SaysPair, Skips, by_tag, enclosed_at, only, pair_in, sequence_from, skipping, values_from, Grammar, Reading, IsAsNumber, as_number_at, u32_reading}
 
 -- ---- passed over
 
@@ -13,11 +13,6 @@ pub number_skipped : IsReading (Skips IsAsNumber) (skipping as_number_at)
 number_skipped = skips_reading IsAsNumber as_number_at u32_reading
 
 -- ---- contents
-
--- a value of a tag, by the rule for its content
-pub content_reading : {X : Type 0} (tag : ℕ) (C : Grammar X) (check : List ℕ → Result X DerError)
-    → IsCheck IsBytes C check → IsReading (Refines (IsTagged tag) C) (refined (tagged_at tag) check)
-content_reading tag C check says = search (arith, fits_content, refined_reading, tagged_reading)
 
 -- what a rule finds, under another name
 pub same_check : {X Y : Type 0} (Fits : X → Type 0) (C D : X → Y → Type 0) (check : X → Result Y DerError)

@@ -1,7 +1,7 @@
 -- Members to the end of the octets: what is found is what stands there, each family once.
-use Rattle.rpki_base.proofs.Common.{Bool, List, Ok, Option, Result, Err, [], arith, cond, eqb, false, length, refl, suc, zero, ℕ, ◌++◌, ◌∙◌, ◌↔◌, ◌∷◌, ◌≡◌, ◌≢◌, append-nil, IfSome, HasOctets, each_again, each_takes, value_has_octets, bind_ok, ok_is, passed, IsCheck, Each, EachFrom, IsBytes, IsSequence, Refines, IsReading, DerError, NoFamily, each_from, ◌>>=◌, sym, ByFamily, IsFamilies, IsMember, SaysFamilies, claims_among, listed, of_family, families_at, families_in, member_at, members_by, none_found, seen, was_seen, with_claim, AddressFamily, Ipv4, Ipv6, Grammar, Reading, nil_from_length}
+use Rattle.rpki_base.proofs.Common.{content_reading, Bool, List, Ok, Option, Result, Err, [], arith, cond, eqb, false, length, refl, suc, zero, ℕ, ◌++◌, ◌∙◌, ◌↔◌, ◌∷◌, ◌≡◌, ◌≢◌, append-nil, IfSome, HasOctets, each_again, each_takes, value_has_octets, bind_ok, ok_is, passed, IsCheck, Each, EachFrom, IsBytes, IsSequence, Refines, IsReading, DerError, NoFamily, each_from, ◌>>=◌, sym, ByFamily, IsFamilies, IsMember, SaysFamilies, claims_among, listed, of_family, families_at, families_in, member_at, members_by, none_found, seen, was_seen, with_claim, AddressFamily, Ipv4, Ipv6, Grammar, Reading, nil_from_length}
 use Rattle.rpki_der.proofs.Lists.{each-nil}
-use Rattle.rpki_base.proofs.DerReadings.{content_reading, same_check}
+use Rattle.rpki_base.proofs.DerReadings.{same_check}
 use Rattle.rpki_base.proofs.FamiliesMembers.{SaysNew, member_reading}
 
 -- what was found before and what these members have is all

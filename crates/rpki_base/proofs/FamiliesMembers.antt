@@ -1,7 +1,7 @@
 -- A member that is read is one of a family that wasn't there before, and each such member is read; strictly, of those
 -- that stand in order.
-use Rattle.rpki_base.proofs.Common.{Bool, List, Ok, [], arith, false, true, ◌↔◌, ℕ, ◌≡◌, append-nil, fits_rest, bind_ok, ok_is, passed, IsBytes, IsSequence, Refines, IsReading, passing, SaysMember, is_in_order, member_at, member_by, member_in, member_in_by, was_seen, IsFamilyDer, family_at, AddressFamily, Grammar, Reading, IsCheck}
-use Rattle.rpki_base.proofs.DerReadings.{content_reading, ended_is}
+use Rattle.rpki_base.proofs.Common.{content_reading, Bool, List, Ok, [], arith, false, true, ◌↔◌, ℕ, ◌≡◌, append-nil, fits_rest, bind_ok, ok_is, passed, IsBytes, IsSequence, Refines, IsReading, passing, SaysMember, is_in_order, member_at, member_by, member_in, member_in_by, was_seen, IsFamilyDer, family_at, AddressFamily, Grammar, Reading, IsCheck}
+use Rattle.rpki_base.proofs.DerReadings.{ended_is}
 use Rattle.rpki_base.proofs.FamilyLemmas.{family_reading}
 
 -- a member of a family that wasn't there before

@@ -1,7 +1,6 @@
 -- Families in either mode.
-use Rattle.rpki_base.proofs.Common.{Bool, List, None, Option, Some, [], arith, refl, true, ℕ, ◌∷◌, ◌≡◌, ◌≢◌, append-nil, value_has_octets, bind_tightens, cond_tightens, each_tightens, looked_tightens, passing_tightens, same_tightens, EachFrom, IsSequence, Refines, IsModal, Tightens, AreInOrder, ByFamily, IsFamiliesInOrder, families_at, families_by, families_in, families_in_by, member_at, member_by, member_in, member_in_by, none_found, seen, AddressFamily, Ipv4, Ipv6, Grammar, Reading, tagged_at}
+use Rattle.rpki_base.proofs.Common.{content_reading, Bool, List, None, Option, Some, [], arith, refl, true, ℕ, ◌∷◌, ◌≡◌, ◌≢◌, append-nil, value_has_octets, bind_tightens, cond_tightens, each_tightens, looked_tightens, passing_tightens, same_tightens, EachFrom, IsSequence, Refines, IsModal, Tightens, AreInOrder, ByFamily, IsFamiliesInOrder, families_at, families_by, families_in, families_in_by, member_at, member_by, member_in, member_in_by, none_found, seen, AddressFamily, Ipv4, Ipv6, Grammar, Reading, tagged_at}
 use Rattle.rpki_base.proofs.FamiliesGathering.{behind, gather, members_are, members_check}
-use Rattle.rpki_base.proofs.DerReadings.{content_reading}
 use Rattle.rpki_base.proofs.FamiliesMembers.{SaysNext, next_reading}
 
 module _ {X : Type 0} (strict : Bool) (by claim_at : AddressFamily → Reading X)

@@ -1,6 +1,6 @@
 -- Families in DER: what is read, what is written, and which faults are named.
-use Rattle.rpki_base.proofs.Common.{List, Ok, Result, [], arith, get_or, length, ℕ, ◌∷◌, ◌≡◌, and_parts, eqb-true, IsErrAnd, MatchResult, IsTagged, same_reading, IsCheck, ok_is, ok_or_err, value_is, Refines, header, length_octets, Gives, IsReading, tagged_at, DerError, IsFamilyDer, SaysFamily, family_at, family_der, family_of_octets, AddressFamily, Skips, skipping, ◌++◌}
-use Rattle.rpki_base.proofs.DerReadings.{content_reading, skips_reading}
+use Rattle.rpki_base.proofs.Common.{content_reading, List, Ok, Result, [], arith, get_or, length, ℕ, ◌∷◌, ◌≡◌, and_parts, eqb-true, IsErrAnd, MatchResult, IsTagged, same_reading, IsCheck, ok_is, ok_or_err, value_is, Refines, header, length_octets, Gives, IsReading, tagged_at, DerError, IsFamilyDer, SaysFamily, family_at, family_der, family_of_octets, AddressFamily, Skips, skipping, ◌++◌}
+use Rattle.rpki_base.proofs.DerReadings.{skips_reading}
 use Rattle.rpki_base.proofs.DerFaults.{NamesTo, cond_names, header_names, refined_names}
 
 -- ---- a fault under another name

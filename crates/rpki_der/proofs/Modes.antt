@@ -1,11 +1,11 @@
 -- Readings by the mode: leniently what is read without one, and strictly that or NotCanonical.
-use Rattle.rpki_der.proofs.Common.{Bool, Err, List, Ok, Option, Result, [], arith, cond, false, inl, refl, suc, true, zero, ℕ, ◌%◌, ◌^◌, ◌∷◌, ◌≡◌, eq-eqb, eqb-true, Bits, IsBitContent, IsBitString, IsPadded, NoFront, Refines, Where, last_octet, Gives, IsModal, IsReading, Tightens, bit_string_at, bit_string_by, bits, bits_by, each_from, is_padded, optional, passing, refined, tagged_at, ◌>>=◌, Lenient, NotCanonicalInOr, NotCanonicalOr, Takes, content_octets, is_strict, is_strict_in, Cursor, DerError, NotCanonical, Grammar, Reading}
+use Rattle.rpki_der.proofs.Common.{Bool, Err, List, Ok, Option, Result, [], arith, cond, false, inl, refl, suc, true, zero, ℕ, ◌%◌, ◌^◌, ◌∷◌, ◌≡◌, eq-eqb, eqb-true, Bits, IsBitContent, IsBitString, IsPadded, NoFront, Refines, Where, last_octet, Gives, IsModal, IsReading, Tightens, bit_string_at, bit_string_by, bits, bits_by, each_from, is_padded, optional, passing, refined, ◌>>=◌, Lenient, NotCanonicalInOr, NotCanonicalOr, Takes, content_octets, is_strict, is_strict_in, Cursor, DerError, NotCanonical, Grammar, Reading}
 use Rattle.std.specs.Prelude.{◌⊎◌}
 use Rattle.rpki_der.specs.declared.content.Content.{Content}
 use Rattle.rpki_der.proofs.Contents.{bits_check}
 use Rattle.rpki_der.proofs.Cursors.{none_by}
 use Rattle.rpki_der.proofs.Lists.{optional_err}
-use Rattle.rpki_der.proofs.Readings.{IsTagged, refined_reading, same_reading, tagged_reading}
+use Rattle.rpki_der.proofs.Readings.{IsTagged, content_reading, on_bytes, same_reading}
 use Rattle.rpki_der.proofs.Steps.{IsCheck, bind_ok, ok_is, ok_or_err}
 
 -- ---- what is found
@@ -172,7 +172,6 @@ bit_string_modal = record {
   tight =
       same_reading (Refines (IsTagged 3) (Where IsBitContent IsPadded)) (Where IsBitString IsPadded) _
       (λ bytes b fits is. grind arith) (λ bytes b is. grind arith)
-      (refined_reading (IsTagged 3) _ (λ _. Unit {0}) (tagged_at 3) (bits_by true) (tagged_reading 3)
-      (λ front content is fits. tt) padded_check);
+      (content_reading 3 _ (bits_by true) (on_bytes padded_check));
   tightens = λ strict bytes. search (looked_tightens, bits_tighten);
 }

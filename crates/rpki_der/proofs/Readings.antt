@@ -121,11 +121,17 @@ same_reading G H reading to from is = record {
   again = λ front x rest h. is.again front x rest (from front x h);
 }
 
--- the content of a tag, by a rule that asks nothing of the octets
-content_reading : {Y : Type 0} (tag : ℕ) (C : Grammar Y) (check : List ℕ → Result Y DerError)
-    → IsCheck (λ _. Unit {0}) C check → IsReading (Refines (IsTagged tag) C) (refined (tagged_at tag) check)
+-- a value of a tag, by the rule for its content
+pub content_reading : {Y : Type 0} (tag : ℕ) (C : Grammar Y) (check : List ℕ → Result Y DerError)
+    → IsCheck IsBytes C check → IsReading (Refines (IsTagged tag) C) (refined (tagged_at tag) check)
 content_reading tag C check says =
-    refined_reading (IsTagged tag) C (λ _. Unit {0}) _ check (tagged_reading tag) (λ front x is fits. tt) says
+    refined_reading (IsTagged tag) C IsBytes _ check (tagged_reading tag)
+    (λ front content is fits. fits_content front tag content is fits) says
+
+-- a rule that asks nothing of the octets is one
+pub on_bytes : {Y : Type 0} {C : Grammar Y} {check : List ℕ → Result Y DerError} → IsCheck (λ _. Unit {0}) C check
+    → IsCheck IsBytes C check
+on_bytes is = record { takes = λ content y fits. is.takes content y tt; again = is.again }
 
 -- an INTEGER of 32 bits, whose content by the conditions is the content as it is spelled
 pub u32_reading : IsReading IsU32 u32_at
@@ -133,16 +139,16 @@ u32_reading =
     same_reading (Refines (IsTagged 2) IsUnsigned) IsU32 u32_at
     (λ bytes n fits (content, is, says). (
     let inside = fits_content bytes 2 content is fits in grind (arith, unsigned_spelled content n inside says)))
-    (λ bytes n is. (_, is.1, spelled_unsigned n is.0)) (content_reading 2 IsUnsigned unsigned unsigned_check)
+    (λ bytes n is. (_, is.1, spelled_unsigned n is.0)) (content_reading 2 IsUnsigned unsigned (on_bytes unsigned_check))
 
 -- a BIT STRING
 pub bit_string_reading : IsReading IsBitString bit_string_at
 bit_string_reading =
     same_reading (Refines (IsTagged 3) IsBitContent) IsBitString bit_string_at (λ bytes b fits is. grind arith)
-    (λ bytes b is. grind arith) (content_reading 3 IsBitContent bits bits_check)
+    (λ bytes b is. grind arith) (content_reading 3 IsBitContent bits (on_bytes bits_check))
 
 -- a NULL
 pub null_reading : IsReading IsNull null_at
 null_reading =
     same_reading (Refines (IsTagged 5) IsNothing) IsNull null_at (λ bytes u fits is. grind arith)
-    (λ bytes u is. ([], is, refl)) (content_reading 5 IsNothing nothing nothing_check)
+    (λ bytes u is. ([], is, refl)) (content_reading 5 IsNothing nothing (on_bytes nothing_check))

@@ -21,7 +21,7 @@ pub use Rattle.rpki_cover.specs.Covers.{IsShortestCover, widened}
 pub use Rattle.rpki_der.proofs.Contents.{bits_check}
 pub use Rattle.rpki_der.proofs.Cursors.{parses_by, reads_by}
 pub use Rattle.rpki_der.proofs.Modes.{bind_tightens, exact_by, is_padded_of, looked_tightens, padded_is, passed_is, passes, refused_by, refused_in, same_found, then_passing}
-pub use Rattle.rpki_der.proofs.Readings.{IsTagged, fits_content, one_front, refined_reading, same_reading, tagged_reading}
+pub use Rattle.rpki_der.proofs.Readings.{IsTagged, content_reading, fits_content, on_bytes, one_front, same_reading}
 pub use Rattle.rpki_der.proofs.Steps.{IsBytes-rest, IsCheck, bind_ok, fits_front, ok_or_err}
 pub use Rattle.rpki_der.proofs.Written.{value_is}
 pub use Rattle.rpki_der.specs.Der.{Bits, IsBitString, IsBits, IsBytes, IsPadded, IsSequence, Refines, Spells, Where, big_endian, big_endian_after, bit_content, bit_string_value, bits_with, last_octet}

@@ -1,5 +1,5 @@
 -- Prefixes in either mode: strictly, the octets are those that are written of them.
-use Rattle.rpki_ip.proofs.Common.{Bool, Err, List, Ok, Result, [], ap, arith, cond, drop, get_or, length, refl, subst, suc, sym, true, zero, ℕ, ◌%◌, ◌*◌, ◌++◌, ◌+◌, ◌-◌, ◌/◌, ◌<◌, ◌^◌, ◌∙◌, ◌∷◌, ◌≡◌, ◌≤◌, mul-div_cancel, mul_assoc, and_parts, eqb-true, le-leb, le-ltb, leb-true, lt-ltb, ltb-false, ltb-true, or_from, or_parts, take-append-drop, pow-add, pow_pos, shr_split, bytes_high_first, to_be_bytes, w128, IsPrefix, PrefixValue, bits_of, mod_multiple, multiple_gap, multiple_mod, multiple_self, multiple_smaller, multiple_sum, bits_check, bind_tightens, is_padded_of, looked_tightens, padded_is, passed_is, passes, then_passing, IsTagged, fits_content, refined_reading, same_reading, tagged_reading, IsBytes-rest, IsCheck, bind_ok, fits_front, value_is, Bits, IsBitString, IsBits, IsBytes, IsPadded, Refines, Spells, Where, big_endian, big_endian_after, bit_content, bit_string_value, last_octet, IsModal, IsReading, Tightens, bits, bits_by, is_padded, passing, tagged_at, ◌>>=◌, Takes, is_strict, left, DerError, BadPrefix, IsPrefixWithin, IsStrictContent, SaysPrefix, is_longer, octet_count, prefix_at, prefix_bits, prefix_by, prefix_der, prefix_in, prefix_in_by, prefix_of, prefix_of_by, IsRangeWithin, IsSpan, RangeValue, exact_by, parses_by, reads_by, refused_by, refused_in, same_found, Gives, content_octets, is_strict_in, IsPrefixContent, IsPrefixDer, Lenient, LenientIn, NotCanonicalInOr, NotCanonicalOr, Parses, ReadsValue, Strict, StrictIn, mul-add-mod_self_right, zero-div, field_of}
+use Rattle.rpki_ip.proofs.Common.{Bool, Err, List, Ok, Result, [], ap, arith, cond, drop, get_or, length, refl, subst, suc, sym, true, zero, ℕ, ◌%◌, ◌*◌, ◌++◌, ◌+◌, ◌-◌, ◌/◌, ◌<◌, ◌^◌, ◌∙◌, ◌∷◌, ◌≡◌, ◌≤◌, mul-div_cancel, mul_assoc, and_parts, eqb-true, le-leb, le-ltb, leb-true, lt-ltb, ltb-false, ltb-true, or_from, or_parts, take-append-drop, pow-add, pow_pos, shr_split, bytes_high_first, to_be_bytes, w128, IsPrefix, PrefixValue, bits_of, mod_multiple, multiple_gap, multiple_mod, multiple_self, multiple_smaller, multiple_sum, bits_check, bind_tightens, is_padded_of, looked_tightens, padded_is, passed_is, passes, then_passing, IsTagged, content_reading, fits_content, on_bytes, same_reading, IsBytes-rest, IsCheck, bind_ok, fits_front, value_is, Bits, IsBitString, IsBits, IsBytes, IsPadded, Refines, Spells, Where, big_endian, big_endian_after, bit_content, bit_string_value, last_octet, IsModal, IsReading, Tightens, bits, bits_by, is_padded, passing, ◌>>=◌, Takes, is_strict, left, DerError, BadPrefix, IsPrefixWithin, IsStrictContent, SaysPrefix, is_longer, octet_count, prefix_at, prefix_bits, prefix_by, prefix_der, prefix_in, prefix_in_by, prefix_of, prefix_of_by, IsRangeWithin, IsSpan, RangeValue, exact_by, parses_by, reads_by, refused_by, refused_in, same_found, Gives, content_octets, is_strict_in, IsPrefixContent, IsPrefixDer, Lenient, LenientIn, NotCanonicalInOr, NotCanonicalOr, Parses, ReadsValue, Strict, StrictIn, mul-add-mod_self_right, zero-div, field_of}
 use Rattle.rpki_der.specs.declared.cursor.Cursor.{Cursor}
 use Rattle.rpki_base.specs.declared.family.AddressFamily.{AddressFamily}
 use Rattle.rpki_base.proofs.DerModes.{value_back_by}
@@ -39,8 +39,7 @@ prefix_modal limit = record {
   tight =
       same_reading (Refines (IsTagged 3) (IsStrictContent limit)) (IsStrictPrefix limit) (prefix_by true limit)
       (λ bytes p fits is. grind arith) (λ bytes p is. grind arith)
-      (refined_reading (IsTagged 3) (IsStrictContent limit) (λ _. Unit {0}) (tagged_at 3) (prefix_in_by true limit)
-      (tagged_reading 3) (λ front content is fits. tt) (strict_content_check limit));
+      (content_reading 3 (IsStrictContent limit) (prefix_in_by true limit) (on_bytes (strict_content_check limit)));
   tightens = λ strict.
       looked_tightens strict _ (prefix_in_by strict limit) (prefix_in limit) (content_tightens strict limit);
 }

@@ -1,5 +1,5 @@
 -- The readings find the families, prefixes and ranges of the grammars, whatever follows them, and no others.
-use Rattle.rpki_ip.proofs.Common.{Ok, arith, ℕ, ◌≡◌, PrefixValue, bits_check, IsTagged, fits_content, refined_reading, same_reading, tagged_reading, IsCheck, bind_ok, IsBits, IsBytes, IsSequence, Refines, IsReading, refined, tagged_at, IsPrefixContent, IsPrefixDer, SaysPrefix, prefix_at, prefix_in, prefix_of, IsRangeDer, IsSpan, SaysRange, range_in, span_of, RangeValue}
+use Rattle.rpki_ip.proofs.Common.{Ok, arith, ℕ, ◌≡◌, PrefixValue, bits_check, IsTagged, content_reading, on_bytes, same_reading, IsCheck, bind_ok, IsBits, IsBytes, Refines, IsReading, refined, tagged_at, IsPrefixContent, IsPrefixDer, SaysPrefix, prefix_at, prefix_in, prefix_of, IsRangeDer, IsSpan, SaysRange, range_in, span_of, RangeValue}
 use Rattle.rpki_base.proofs.DerReadings.{pair_check}
 
 -- ---- prefixes
@@ -22,8 +22,7 @@ pub prefix_reading : (limit : ℕ) → IsReading (IsPrefixDer limit) (prefix_at 
 prefix_reading limit =
     same_reading (Refines (IsTagged 3) (IsPrefixContent limit)) (IsPrefixDer limit) (prefix_at limit)
     (λ bytes p fits is. grind arith) (λ bytes p is. grind arith)
-    (refined_reading (IsTagged 3) (IsPrefixContent limit) (λ _. Unit {0}) (tagged_at 3) (prefix_in limit)
-    (tagged_reading 3) (λ front content is fits. tt) (prefix_check limit))
+    (content_reading 3 (IsPrefixContent limit) (prefix_in limit) (on_bytes (prefix_check limit)))
 
 -- ---- ranges
 
@@ -44,6 +43,4 @@ range_check limit =
 
 -- the SEQUENCE of a range
 pub range_reading : (limit : ℕ) → IsReading (IsRangeDer limit) (refined (tagged_at 48) (range_in limit))
-range_reading limit =
-    refined_reading IsSequence (SaysRange limit) IsBytes (tagged_at 48) (range_in limit) (tagged_reading 48)
-    (λ front content is fits. fits_content front 48 content is fits) (range_check limit)
+range_reading limit = content_reading 48 (SaysRange limit) (range_in limit) (range_check limit)

@@ -1,7 +1,7 @@
 -- Lists of blocks, read element by element from the front of what is left.
 use Rattle.rpki_ip_block.proofs.Common.{List, [], ap, append-nil, append_assoc, inl, inr, refl, subst, sym, ℕ, ◌++◌, ◌∙◌, ◌∷◌, ◌≡◌, AddressFamily, IsElement, HaveValues, elements, IsBehindSpace, IsBlockAtFront, HasBlocks, IsElementText, IpBlock}
 use Rattle.std.proofs.Common.{◌⊎◌}
-use Rattle.rpki_text.proofs.ElementLemmas.{IsPartOf, elements_first, elements_last}
+use Rattle.rpki_text.proofs.PrintedLemmas.{IsPartOf, elements_first, elements_last}
 use Rattle.rpki_ip_block.specs.BlockFronts.{IsSpaceOrNothing}
 
 -- blocks that what is left has complete those of the text

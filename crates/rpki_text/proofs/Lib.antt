@@ -2,7 +2,6 @@
 pub mod Common
 pub mod CutLemmas
 pub mod DigitLemmas
-pub mod ElementLemmas
 pub mod LineLemmas
 pub mod ListLemmas
 pub mod NumberLemmas

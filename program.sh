@@ -92,12 +92,43 @@ end_copy() {
     rm -rf "${copies:?}/$1"
 }
 
+# The crates that can be proved now, those that are being proved among them: all below them are proved.
+open_crates() {
+    needed_lines | while read -r crate below; do
+        [ ! -e "$marks/$crate" ] || continue
+        for one in $below; do
+            [ -e "$marks/$one" ] || continue 2
+        done
+        echo "$crate"
+    done
+}
+
+# The bytes of the sources of crates.
+bytes_of() {
+    for crate; do
+        find "$top/crates/$crate" -name out -prune -o -type f -exec cat {} +
+    done | wc -c
+}
+
+# The processors for a crate: its share by its sources among those that can be proved now, and at least one. Several
+# take up to half of their time more than one would, so that crates side by side have one each, and one alone has all.
+jobs_for() {
+    own_bytes=$(bytes_of "$1")
+    # shellcheck disable=SC2046 # names of crates
+    open_bytes=$(bytes_of $(open_crates))
+    [ "$open_bytes" -gt "$own_bytes" ] || open_bytes=$((own_bytes + 1)) # alone, or no marks: another one failed
+    jobs=$((($(nproc) * own_bytes + open_bytes / 2) / open_bytes))
+    [ "$jobs" -gt 0 ] || jobs=1
+    echo "$jobs"
+}
+
 # Proves and builds a library in its copy, and the program where it stands.
 prove_in_place() {
     if [ "$1" = "$started" ]; then
         run_rt "$top/crates/$1" run -- --version
     else
-        make_copy "$1" && run_rt "$copies/$1/crates/$1" lib
+        jobs=$(jobs_for "$1")
+        make_copy "$1" && run_rt "$copies/$1/crates/$1" lib --jobs "$jobs"
     fi
 }
 

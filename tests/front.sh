@@ -21,8 +21,8 @@ ln -s "$copy/respath" "$files/link"
 chmod -R go+rX "$files"
 
 # The tools of the script, and no rt
-for tool in sh awk cat cp cut date dirname find grep head id ls mkdir mktemp mv readlink rm sed setsid sha256sum sleep \
-    tail tar tee touch tr wc; do
+for tool in sh awk cat cp cut date dirname find grep head id ls mkdir mktemp mv nproc readlink rm sed setsid \
+    sha256sum sleep tail tar tee touch tr wc; do
     ln -s "$(command -v "$tool")" "$copy/tools/$tool"
 done
 

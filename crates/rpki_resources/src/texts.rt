@@ -1,5 +1,5 @@
 //! Texts of sets of resources and of what differs between two of them.
-ghost use Rattle.std.specs.Prelude.{◌≡◌, ℕ, List, [], ◌++◌, Some, MatchResult, if◌then◌else◌};
+ghost use Rattle.std.specs.Prelude.{◌≡◌, ℕ, List, [], ◌++◌, codes, Some, MatchResult, if◌then◌else◌};
 ghost use Rattle.std.specs.Fmt.{WritesOnOk};
 ghost use Rattle.rpki_text.specs.Memory.{IsMemory};
 ghost use Rattle.rpki_text.specs.Reading.{AnswersOrMemory};
@@ -126,6 +126,20 @@ fn fmt_change<A: Allocator, W: fmt::Write>(
     fmt_kind(" ipv6: ", set.ipv6().is_empty(), set.ipv6(), f)
 }
 
+/// Writes what is added and what is removed, with a space between them.
+fn fmt_both<A: Allocator, W: fmt::Write>(
+    added: &ResourceSet<A>,
+    removed: &ResourceSet<A>,
+    f: &mut fmt::Formatter<W>,
+) -> fmt::Result
+    ensures { WritesOnOk W.write_str_gives f.old result (change_text (codes "Added:") added.now
+        ++ codes " " ++ change_text (codes "Removed:") removed.now) f.new }
+{
+    fmt_change("Added:", added, f)?;
+    f.write_str(" ")?;
+    fmt_change("Removed:", removed, f)
+}
+
 /// Prints what is added and what is removed, each where there is anything of it.
 impl<A: Allocator> fmt::Display for ResourceDiff<A> {
     ghost output = { λ diff. Some (changes_text diff) };
@@ -137,11 +151,7 @@ impl<A: Allocator> fmt::Display for ResourceDiff<A> {
             (true, true) => f.write_str("<no changes in resources>"),
             (true, false) => fmt_change("Removed:", removed, f),
             (false, true) => fmt_change("Added:", added, f),
-            (false, false) => {
-                fmt_change("Added:", added, f)?;
-                f.write_str(" ")?;
-                fmt_change("Removed:", removed, f)
-            }
+            (false, false) => fmt_both(added, removed, f),
         }
     }
 }

@@ -1,6 +1,8 @@
 -- One certificate of a path after another.
-use Rattle.rpki_extensions.proofs.Common.{List, [], arith, get_or, length, refl, take, ℕ, ◌++◌, ◌+◌, ◌<◌, ◌∷◌, HasEachOf, Triple, IsVerified, IsVerifiedPath, Extensions}
+use Rattle.rpki_extensions.proofs.Common.{List, [], arith, get_or, get_or_default, length, refl, take, ℕ, ◌++◌, ◌+◌, ◌<◌, ◌∷◌, ◌≡◌, HasEachOf, Triple, IfRefused, OrMemory, Memory, Refused, IsUnverified, IsVerified, IsVerifiedPath, Extensions}
 use Rattle.std.proofs.lemmas.List.{take_more}
+use Rattle.rpki_extensions.specs.Paths.{IsFirstUnverified}
+use Rattle.rpki_extensions.specs.declared.error.UnverifiedCertificate.{UnverifiedCertificate}
 use Rattle.rpki_extensions.proofs.IssuedLemmas.{inside}
 
 -- one certificate more
@@ -24,3 +26,17 @@ pub path-inside : (certificates : List Extensions) (anchor set : Triple) → IsV
 path-inside [] anchor set same = grind (arith)
 path-inside (certificate ∷ certificates) anchor set (next, is, path) =
     grind (arith, inside anchor next certificate is, path-inside certificates next set path)
+
+-- where the certificate at a place isn't verified by what the ones before it leave, the path is refused there
+pub path-refused : {A : Type 0} (certificates : List Extensions) (at : ℕ) (none : Extensions) (anchor issuer : Triple)
+    → at < length certificates → IsVerifiedPath anchor (take at certificates) issuer
+    → (error : OrMemory (UnverifiedCertificate A))
+    → IfRefused (λ r. (r.step ≡ at) × IsUnverified issuer (get_or certificates at none) r.reason) error
+    → IfRefused (IsFirstUnverified anchor certificates) error
+path-refused certificates at none anchor issuer small path (Refused r) (same, told) = rw same (
+  get_or certificates at none,
+  small,
+  get_or_default certificates at _ none small,
+  (issuer, path, told),
+)
+path-refused certificates at none anchor issuer small path (Memory e) is = tt

@@ -1,7 +1,8 @@
 //! A path of certificates, from a trust anchor down.
-ghost use Rattle.std.specs.Prelude.{IfOk, MatchResult};
+ghost use Rattle.std.specs.Prelude.{◌≡◌, IfOk, MatchResult};
 ghost use Rattle.rpki_text.specs.Memory.{IfRefused};
 ghost use Rattle.rpki_resources.specs.Triples.{HasEachOf};
+ghost use Rattle.rpki_extensions.specs.Issued.{IsUnverified, IsVerified};
 ghost use Rattle.rpki_extensions.specs.Below.{IsLeftBelow, IsRefusedBelow, LiesInAnchor};
 ghost use Rattle.rpki_extensions.specs.Paths.{IsFirstUnverified, IsVerifiedPath};
 
@@ -27,15 +28,32 @@ pub fn verified_path<A: Allocator + Copy>(
 {
     let mut issuer = anchor.clone()?;
     for (at, certificate) in certificates.iter().enumerate() {
-        match verified_octets(alloc, &issuer, certificate) {
+        match verified_at(alloc, &issuer, at, certificate) {
             Ok(set) => issuer = set,
-            Err(OrMemory::Refused(reason)) => {
-                return Err(OrMemory::Refused(UnverifiedCertificate { step: at, reason }));
-            }
-            Err(OrMemory::Memory(error)) => return Err(OrMemory::Memory(error)),
+            Err(error) => return Err(error),
         }
     }
     Ok(issuer)
+}
+
+/// What a certificate leaves of its issuer's resources. `Refused` with its place on the path and the reason.
+fn verified_at<A: Allocator + Copy>(
+    alloc: A,
+    issuer: &ResourceSet<A>,
+    step: usize,
+    certificate: &Extensions<'_>,
+) -> Result<ResourceSet<A>, OrMemory<UnverifiedCertificate<A>>>
+    ensures { MatchResult result (IsVerified issuer.now certificate.now)
+        (IfRefused (λ refusal. (refusal.step ≡ step)
+        × IsUnverified issuer.now certificate.now refusal.reason)) }
+{
+    match verified_octets(alloc, issuer, certificate) {
+        Ok(set) => Ok(set),
+        Err(OrMemory::Refused(reason)) => {
+            Err(OrMemory::Refused(UnverifiedCertificate { step, reason }))
+        }
+        Err(OrMemory::Memory(error)) => Err(OrMemory::Memory(error)),
+    }
 }
 
 /// What the certificates on a path leave of what a trust anchor lists: each is verified by what the ones before it

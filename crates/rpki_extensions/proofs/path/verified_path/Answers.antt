@@ -1,5 +1,5 @@
-use Rattle.rpki_extensions.proofs.Common.{None, arith, get_or, get_or_default, take_all, Any, Extensions}
-use Rattle.rpki_extensions.proofs.PathLemmas.{path-inside, path-more}
+use Rattle.rpki_extensions.proofs.Common.{None, arith, take_all, Any, Extensions}
+use Rattle.rpki_extensions.proofs.PathLemmas.{path-inside, path-more, path-refused}
 use Rattle.rpki_chain.specs.declared.path.Overclaim.TheVariants.{Refuse}
 use Rattle.rpki_extensions.proofs.path.verified_path.Goals as goal
 
@@ -19,13 +19,10 @@ pub loop-at-preserved : goal.loop-at-preserved
 loop-at-preserved g c =
     let turn = c.loop-at in
     path-more c.args.certificates.now turn.at nothing c.args.anchor.now turn.issuer c.in-Ok.set c.loop-at-test.true
-    turn.invariant c.in-Ok.ensures.verified
+    turn.invariant c.in-Ok.ensures
 
-pub returns-in-Err-Refused-clause-path : goal.returns-in-Err-Refused-clause-path
-returns-in-Err-Refused-clause-path g c =
-    let told = rw c.in-Err-Refused.field-0-is at c.in-Err-Refused.ensures.verified in
-    let all = c.args.certificates.now in
-    let at = c.loop-at.at in
-    let small = c.loop-at-test.true in
-    rw c.in-Err-Refused.reason-is
-    (get_or all at nothing, small, get_or_default all at _ nothing small, (c.loop-at.issuer, c.loop-at.invariant, told))
+pub returns-in-Err-clause-path : goal.returns-in-Err-clause-path
+returns-in-Err-clause-path g c =
+    let turn = c.loop-at in
+    path-refused c.args.certificates.now turn.at nothing c.args.anchor.now turn.issuer c.loop-at-test.true
+    turn.invariant c.in-Err.error c.in-Err.ensures

@@ -102,3 +102,8 @@ module _ {B : Type 0} (f : B → ℕ × ℕ) where
         let all = same n in
         let covers = h.covers n in
         (λ c. all.0 (covers.0 c), λ a. covers.1 (all.1 a)))
+
+    -- no blocks are the chain of a set with no numbers
+    pub IsChainOf-nil : (S : ℕ → Type 0) → ((n : ℕ) → S n → ⊥) → IsChainOf f form S []
+    IsChainOf-nil S none =
+        IsChainOf-from [] S IsChain-nil (λ n. (λ c. absurd (Covers-nil n c), λ s. absurd (none n s)))

@@ -12,3 +12,4 @@ pub mod Owned
 pub mod Ranges
 pub mod Sets
 pub mod View
+pub mod Walks

@@ -1,7 +1,8 @@
 //! The numbers that one chain or another has.
-ghost use Rattle.std.specs.Prelude.{◌≡◌, ℕ, ◌+◌, ◌-◌, ◌≤◌, ◌↔◌, ◌⊎◌, length, drop, IfOk, OnOk};
+ghost use Rattle.std.specs.Prelude.{◌≡◌, ℕ, ◌+◌, ◌-◌, ◌≤◌, ◌↔◌, ◌⊎◌, [], length, drop, IfOk, OnOk};
 ghost use Rattle.rpki_chains.specs.Joining.{IsHeld, IsBehind};
 ghost use Rattle.rpki_chains.specs.Sets.{IsWithin, Covers, IsChainOf, HoldsBlock, numbers};
+ghost use Rattle.rpki_chains.specs.Walks.{IsAtHand, IsReadOn};
 
 use crate::block::Block;
 use crate::build::run_over;
@@ -100,15 +101,35 @@ pub fn union_counted<T: Block, A: Allocator, X: Reads<T>, Y: Reads<T>>(
 {
     // No more blocks than both have can come out, so the memory is taken once.
     let mut chain = Vec::with_capacity(alloc, own.len().saturating_add(other.len()))?;
-    let Some(mut own_block) = read_at(own, 0) else {
+    let Some(own_block) = read_at(own, 0) else {
         let Some(block) = read_at(other, 0) else {
             return Ok(OwnedChain::empty());
         };
         return close_with(chain, block, other, 0, block);
     };
-    let Some(mut other_block) = read_at(other, 0) else {
+    let Some(other_block) = read_at(other, 0) else {
         return close_with(chain, own_block, own, 0, own_block);
     };
+    union_behind(chain, own, own_block, other, other_block)
+}
+
+/// The chain of the numbers that one chain or the other has, where the first block of each was read. The blocks behind
+/// these are read once each.
+fn union_behind<T: Block, A: Allocator, X: Reads<T>, Y: Reads<T>>(
+    mut chain: Vec<T, A>,
+    own: &mut X,
+    mut own_block: (T::Item, T::Item),
+    other: &mut Y,
+    mut other_block: (T::Item, T::Item),
+) -> Result<OwnedChain<T, A>, AllocError>
+    requires empty { chain.items ≡ [] }
+    requires own { IsAtHand T.bounds T.form T.number T.last (X.blocks own.old) 0 own_block }
+    requires other { IsAtHand T.bounds T.form T.number T.last (Y.blocks other.old) 0 other_block }
+    ensures union { IfOk result (IsChainOf T.bounds T.form (λ n.
+        Covers T.bounds (X.blocks own.old) n ⊎ Covers T.bounds (Y.blocks other.old) n)) }
+    ensures own { IsReadOn (X.blocks own.old) (X.blocks own.new) 0 (X.count own.old) (X.count own.new) }
+    ensures other { IsReadOn (Y.blocks other.old) (Y.blocks other.new) 0 (Y.count other.old) (Y.count other.new) }
+{
     let mut own_at = 0;
     let mut other_at = 0;
     // A run is at hand, which begins no later than the blocks at hand; all blocks of `chain` end before it and don't

@@ -1,13 +1,11 @@
 -- Where no block leaves the other chain nothing is left, and else what a walk finds from there on.
-use Rattle.rpki_chains.proofs.Imports.{[]}
-use Rattle.rpki_chains.proofs.Chains.{Covers-nil, IsChain-nil, IsChainOf-from}
+use Rattle.rpki_chains.proofs.Chains.{IsChainOf-nil}
 use Rattle.rpki_chains.proofs.difference.difference_counted.Goals as goal
 
 pub returns-in-None-clause-difference : goal.returns-in-None-clause-difference
 returns-in-None-clause-difference g c =
-    let f = g.T.Block.bounds in
-    rw c.empty.ensures (IsChainOf-from f g.T.Block.form [] _ (IsChain-nil f g.T.Block.form)
-    (λ n. (λ none. absurd (Covers-nil f n none), λ (own, not). absurd (not (c.in-None.ensures.value n own)))))
+    rw c.empty.ensures
+    (IsChainOf-nil g.T.Block.bounds g.T.Block.form _ (λ n (own, not). not (c.in-None.ensures.value n own)))
 
 pub returns-in-Some-clause-difference : goal.returns-in-Some-clause-difference
 returns-in-Some-clause-difference g c =

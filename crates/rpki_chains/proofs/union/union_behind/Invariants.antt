@@ -1,7 +1,7 @@
 -- The run at hand begins no later than the blocks at hand, and nothing is lost.
 use Rattle.rpki_chains.proofs.Imports.{drop, length, ◌+◌, ◌-◌, ◌⊎◌, Covers}
 use Rattle.rpki_chains.proofs.Merges.{Walk}
-use Rattle.rpki_chains.proofs.union.union_counted.Given as goal
+use Rattle.rpki_chains.proofs.union.union_behind.Given as goal
 
 abbrev pub invariant-loop-chain : goal.invariant-loop-chain
 invariant-loop-chain g l =
@@ -13,10 +13,10 @@ invariant-loop-chain g l =
     let ys = g.Y.Reads.blocks l.fn.other in
     record {
       own : Walk f form number last (λ n. Covers f xs n ⊎ Covers f ys n) (λ n. Covers f (drop l.other_at ys) n) xs
-          (g.X.Reads.blocks l.own) l.own_at (g.X.Reads.count l.own) (g.X.Reads.count l.fn.own + length xs) l.own_block
-          l.run l.chain.items;
+          (g.X.Reads.blocks l.own) l.own_at (g.X.Reads.count l.own) (g.X.Reads.count l.fn.own + (length xs - 1))
+          l.own_block l.run l.chain.items;
       other : Walk f form number last (λ n. Covers f xs n ⊎ Covers f ys n) (λ n. Covers f (drop l.own_at xs) n) ys
-          (g.Y.Reads.blocks l.other) l.other_at (g.Y.Reads.count l.other) (g.Y.Reads.count l.fn.other + length ys)
+          (g.Y.Reads.blocks l.other) l.other_at (g.Y.Reads.count l.other) (g.Y.Reads.count l.fn.other + (length ys - 1))
           l.other_block l.run l.chain.items;
     }
 

@@ -51,6 +51,15 @@ module _ {B I : Type 0} {f : B → ℕ × ℕ} {form : ℕ × ℕ → B} {number
       → (b ≡ None) ⊎ (c ≡ None) → IsChainOf f form (λ n. Covers f xs n × Covers f ys n) out
   meet_done w ended = gathered_all w.common (λ n s. grind (arith))
 
+  -- in no more blocks than both have
+  pub meet_ended : {xs ys out : List B} {i j : ℕ} {b c : Option (I × I)} → Meet f form number last xs ys i b j c out
+      → (b ≡ None) ⊎ (c ≡ None)
+      → IsChainOf f form (λ n. Covers f xs n × Covers f ys n) out × (length out ≤ length xs + length ys)
+  meet_ended {b = b} {c = c} w ended =
+      let own = IsAt-from f number last _ _ b w.own_at in
+      let other = IsAt-from f number last _ _ c w.other_at in
+      (meet_done w ended, grind (arith, w.few))
+
   module _ {xs ys out : List B} {i j : ℕ} {b c : I × I}
       (w : Meet f form number last xs ys i (Some b) j (Some c) out) where
     own_is : IsAt f xs i (Some (numbers number b))

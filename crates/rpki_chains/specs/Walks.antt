@@ -3,7 +3,8 @@ use Rattle.std.specs.Prelude.{◌≡◌, ℕ, ◌+◌, ◌-◌, ◌^◌, ◌<◌
 use Rattle.rpki_chains.specs.Sets.{IsChain, HoldsBlock}
 
 -- the block at an index of a chain is at hand
-pub record IsAtHand {B I : Type 0} (bounds : B → ℕ × ℕ) (form : ℕ × ℕ → B) (number : I → ℕ) (last : ℕ) (xs : List B) (at : ℕ) (b : I × I) : Type 0 where
+pub record IsAtHand {B I : Type 0} (bounds : B → ℕ × ℕ) (form : ℕ × ℕ → B) (number : I → ℕ) (last : ℕ) (xs : List B)
+    (at : ℕ) (b : I × I) : Type 0 where
   pub chain : IsChain bounds form xs
   pub block : HoldsBlock bounds number last xs at (Some b)
   pub bound : length xs < 2 ^ 64

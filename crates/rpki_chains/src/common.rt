@@ -1,8 +1,9 @@
 //! The numbers that two chains have in common.
-ghost use Rattle.std.specs.Prelude.{◌≡◌, ◌+◌, ◌-◌, ◌≤◌, ◌⊎◌, length, take, IfOk, OnOk};
-ghost use Rattle.rpki_chains.specs.Sets.{Covers, IsChainOf, numbers};
+ghost use Rattle.std.specs.Prelude.{◌≡◌, ◌+◌, ◌-◌, ◌^◌, ◌<◌, ◌≤◌, ◌⊎◌, Some, length, take, IfOk, OnOk};
+ghost use Rattle.rpki_chains.specs.Sets.{Covers, IsChain, IsChainOf, numbers};
 ghost use Rattle.rpki_chains.specs.Common.{IsCommonPushed};
 ghost use Rattle.rpki_chains.specs.Overhang.{IsOverhang};
+ghost use Rattle.rpki_chains.specs.Walks.{IsReadOn};
 
 use crate::block::Block;
 use crate::overhang::Overhang;
@@ -87,30 +88,74 @@ pub fn common_from<T: Block, A: Allocator, X: Reads<T>, Y: Reads<T>>(
     let _own_len = own.len();
     let _other_len = other.len();
     let Overhang {
-        mut own_at,
+        own_at,
         min,
         max,
-        mut other_at,
+        other_at,
         other: other_block,
     } = overhang;
     let mut chain = first_blocks(alloc, own, own_at)?;
-    let Some(mut other_block) = other_block else {
+    let Some(other_block) = other_block else {
         return Ok(OwnedChain::from_vec_unchecked(chain));
     };
-    let mut own_block = (min, max);
+    push_behind(
+        &mut chain,
+        own,
+        own_at,
+        (min, max),
+        other,
+        other_at,
+        other_block,
+    )?;
+    Ok(OwnedChain::from_vec_unchecked(chain))
+}
+
+/// Puts what two chains have in common from the first overhang on behind the blocks before it, where the other chain
+/// has a block left.
+fn push_behind<T: Block, A: Allocator, X: Reads<T>, Y: Reads<T>>(
+    chain: &mut Vec<T, A>,
+    own: &mut X,
+    mut own_at: usize,
+    mut own_block: (T::Item, T::Item),
+    other: &mut Y,
+    mut other_at: usize,
+    mut other_block: (T::Item, T::Item),
+) -> Result<(), AllocError>
+    requires overhang { IsOverhang T.bounds T.number T.first T.last
+        (X.blocks own.old) (Y.blocks other.old) (record {
+          own_at = own_at;
+          min = own_block.0;
+          max = own_block.1;
+          other_at = other_at;
+          other = Some other_block;
+        }) }
+    requires before { chain.old.items ≡ take own_at (X.blocks own.old) }
+    requires own { IsChain T.bounds T.form (X.blocks own.old) ×
+        (length (X.blocks own.old) < 2 ^ 64) }
+    requires other { IsChain T.bounds T.form (Y.blocks other.old) ×
+        (length (Y.blocks other.old) < 2 ^ 64) }
+    ensures common { OnOk result (IsChainOf T.bounds T.form (λ n.
+        Covers T.bounds (X.blocks own.old) n × Covers T.bounds (Y.blocks other.old) n)
+        chain.new.items × (length chain.new.items ≤
+        length (X.blocks own.old) + length (Y.blocks other.old))) }
+    ensures own { IsReadOn (X.blocks own.old) (X.blocks own.new) own_at
+        (X.count own.old) (X.count own.new) }
+    ensures other { IsReadOn (Y.blocks other.old) (Y.blocks other.new) other_at
+        (Y.count other.old) (Y.count other.new) }
+{
     // `chain` has what both have before one of the blocks at hand. A turn is done with the block that ends first: what
     // the other one has of it is pushed, and nothing that comes later in either chain can reach it. So each turn passes
     // a block, and the walk ends where one chain has none left.
     loop {
         if own_block.1 <= other_block.1 {
-            push_common(&mut chain, own_block, other_block)?;
+            push_common(chain, own_block, other_block)?;
             own_at += 1;
             let Some(next) = read_at(own, own_at) else {
                 break;
             };
             own_block = next;
         } else {
-            push_common(&mut chain, other_block, own_block)?;
+            push_common(chain, other_block, own_block)?;
             other_at += 1;
             let Some(next) = read_at(other, other_at) else {
                 break;
@@ -118,5 +163,5 @@ pub fn common_from<T: Block, A: Allocator, X: Reads<T>, Y: Reads<T>>(
             other_block = next;
         }
     }
-    Ok(OwnedChain::from_vec_unchecked(chain))
+    Ok(())
 }

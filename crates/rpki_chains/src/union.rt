@@ -127,8 +127,10 @@ fn union_behind<T: Block, A: Allocator, X: Reads<T>, Y: Reads<T>>(
     requires other { IsAtHand T.bounds T.form T.number T.last (Y.blocks other.old) 0 other_block }
     ensures union { IfOk result (IsChainOf T.bounds T.form (λ n.
         Covers T.bounds (X.blocks own.old) n ⊎ Covers T.bounds (Y.blocks other.old) n)) }
-    ensures own { IsReadOn (X.blocks own.old) (X.blocks own.new) 0 (X.count own.old) (X.count own.new) }
-    ensures other { IsReadOn (Y.blocks other.old) (Y.blocks other.new) 0 (Y.count other.old) (Y.count other.new) }
+    ensures own { IsReadOn (X.blocks own.old) (X.blocks own.new) 0
+        (X.count own.old) (X.count own.new) }
+    ensures other { IsReadOn (Y.blocks other.old) (Y.blocks other.new) 0
+        (Y.count other.old) (Y.count other.new) }
 {
     let mut own_at = 0;
     let mut other_at = 0;

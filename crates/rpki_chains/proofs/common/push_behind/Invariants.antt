@@ -2,7 +2,7 @@
 use Rattle.rpki_chains.proofs.Imports.{Some, length, ◌+◌, ◌-◌}
 use Rattle.rpki_chains.proofs.Counts.{IsReader}
 use Rattle.rpki_chains.proofs.Meets.{Meet}
-use Rattle.rpki_chains.proofs.common.common_from.Given as goal
+use Rattle.rpki_chains.proofs.common.push_behind.Given as goal
 
 abbrev pub invariant-loop-chain : goal.invariant-loop-chain
 invariant-loop-chain g l =
@@ -10,9 +10,9 @@ invariant-loop-chain g l =
     let ys = g.Y.Reads.blocks l.fn.other in
     record {
       own : IsReader xs (g.X.Reads.blocks l.own) l.own_at (g.X.Reads.count l.own)
-          (g.X.Reads.count l.fn.own + l.fn.overhang.own_at + (length xs - (l.fn.overhang.own_at + 1)));
+          (g.X.Reads.count l.fn.own + (length xs - (l.fn.own_at + 1)));
       other : IsReader ys (g.Y.Reads.blocks l.other) l.other_at (g.Y.Reads.count l.other)
-          (g.Y.Reads.count l.fn.other + (length ys - (l.fn.overhang.other_at + 1)));
+          (g.Y.Reads.count l.fn.other + (length ys - (l.fn.other_at + 1)));
       walk : Meet g.T.Block.bounds g.T.Block.form g.T.Block.number g.T.Block.last xs ys l.own_at (Some l.own_block)
           l.other_at (Some l.other_block) l.chain.items;
     }

@@ -1,5 +1,5 @@
 -- Lists of blocks, read element by element from the front of what is left.
-use Rattle.rpki_ip_block.proofs.Common.{List, [], ap, append-nil, append_assoc, inl, inr, refl, subst, sym, ℕ, ◌++◌, ◌∙◌, ◌∷◌, ◌≡◌, AddressFamily, IsElement, HaveValues, elements, IsBehindSpace, IsBlockAtFront, HasBlocks, IsElementText, IpBlock}
+use Rattle.rpki_ip_block.proofs.Common.{List, [], ap, append-nil, append_assoc, arith, inl, inr, length, length-append, refl, subst, sym, ℕ, ◌++◌, ◌<◌, ◌∙◌, ◌∷◌, ◌≡◌, AddressFamily, IsElement, HaveValues, elements, IsBehindSpace, IsBlockAtFront, HasBlocks, IsElementText, IpBlock}
 use Rattle.std.proofs.Common.{◌⊎◌}
 use Rattle.rpki_text.proofs.PrintedLemmas.{IsPartOf, elements_first, elements_last}
 use Rattle.rpki_ip_block.specs.BlockFronts.{IsSpaceOrNothing}
@@ -27,6 +27,11 @@ module _ (family : AddressFamily) (left start : List ℕ) (b : IpBlock) (rest : 
       let shape : left ≡ part.0 ++ 44 ∷ more = part.2 ∙ ap (λ t. part.0 ++ t) comma in
       let these : elements left ≡ h.front ∷ elements more = ap elements shape ∙ elements_first part.0 h.front more part.1 is_element in
       subst (HasBlocks family text) (sym (append_assoc blocks (b ∷ []) others)) (so_far (b ∷ others) (subst (λ t. HaveValues (IsElementText family) t (b ∷ others)) (sym these) (h.block, has)))
+
+  -- which is less
+  pub less_left : (more : List ℕ) → rest ≡ 44 ∷ more → length more < length left
+  less_left more comma =
+      omega (arith, ap length (part.2 ∙ ap (λ t. part.0 ++ t) comma), length-append part.0 (44 ∷ more))
 
   -- and one that ends the text, but for a space, is the last
   pub all_read : (text : List ℕ) (blocks : List IpBlock) → IsSoFar family text left blocks → IsSpaceOrNothing rest

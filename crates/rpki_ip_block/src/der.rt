@@ -1,8 +1,9 @@
 //! Blocks of addresses in DER: a prefix, or a SEQUENCE of two (RFC 3779, 2.2.3.7).
-ghost use Rattle.std.specs.Prelude.{◌≡◌};
+ghost use Rattle.std.specs.Prelude.{◌≡◌, IfOk};
 ghost use Rattle.rpki_der.specs.Reading.{Gives};
 ghost use Rattle.rpki_der.specs.Views.{is_strict, left};
 ghost use Rattle.rpki_base.specs.Families.{bits_of};
+ghost use Rattle.rpki_ip.specs.RangeDer.{span_of};
 ghost use Rattle.rpki_ip_block.specs.BlockReading.{is_set_range, range_in_by, span};
 
 pub mod laws;
@@ -240,7 +241,7 @@ impl IpBlock {
 }
 
 /// The range in the content of a SEQUENCE.
-#[tactic(auto, unfolding(rpki_base::specs::DerReading::pair_by, rpki_ip::specs::RangeDer::span_of, rpki_der::specs::Reading::passing))]
+#[tactic(auto, unfolding(rpki_base::specs::DerReading::pair_by, rpki_der::specs::Reading::passing))]
 fn range_within(content: Cursor<'_>, family: AddressFamily) -> Result<AddressRange, DerError>
     ensures by_mode { Gives (λ range. range) result
         (range_in_by (is_strict content.entry) (bits_of family) (left content.entry)) }
@@ -248,15 +249,24 @@ fn range_within(content: Cursor<'_>, family: AddressFamily) -> Result<AddressRan
     let mut inside = content;
     let first = Prefix::take_from_with_family(&mut inside, family)?;
     let second = Prefix::take_from_with_family(&mut inside, family)?;
-    if first.min() > second.max() {
-        return Err(DerError::ReversedRange);
-    }
+    let range = range_of(&first, &second)?;
     inside.finish()?;
-    let range = AddressRange::new(first.min(), second.max());
     if content.is_strict() && !is_set_range(&range, &first, &second) {
         return Err(DerError::NotCanonical);
     }
     Ok(range)
+}
+
+/// The range from the one prefix to the other.
+#[tactic(auto, unfolding(rpki_ip::specs::RangeDer::span_of))]
+fn range_of(first: &Prefix, second: &Prefix) -> Result<AddressRange, DerError>
+    ensures exact { Gives (λ range. range) result (span_of first.now second.now) }
+    ensures span { IfOk result (λ range. range ≡ span first.now second.now) }
+{
+    if first.min() > second.max() {
+        return Err(DerError::ReversedRange);
+    }
+    Ok(AddressRange::new(first.min(), second.max()))
 }
 
 /// Whether the range, from the one prefix to the other, is written by them, and is no prefix.

@@ -1,5 +1,5 @@
 -- Each block completes those so far, and the last ends the list.
-use Rattle.rpki_ip_block.proofs.ListFronts.{all_read, one_more}
+use Rattle.rpki_ip_block.proofs.ListFronts.{all_read, less_left, one_more}
 use Rattle.rpki_ip_block.proofs.front.usual_blocks.Goals as goal
 
 pub returns-then-is_end : goal.returns-then-is_end
@@ -7,3 +7,6 @@ returns-then-is_end g c = rw c.in_ok-push.ensures.items (all_read _ _ _ _ _ c.be
 
 pub loop-block-preserved : goal.loop-block-preserved
 loop-block-preserved g c = rw c.in_ok-push.ensures.items (one_more _ _ _ _ _ c.behind_space.ensures c.in-Some.ensures _ _ _ c.loop-block.invariant c.in-Some-behind.ensures)
+
+pub loop-block-smaller : goal.loop-block-smaller
+loop-block-smaller g c = less_left _ _ _ _ _ c.behind_space.ensures c.in-Some.ensures _ c.in-Some-behind.ensures

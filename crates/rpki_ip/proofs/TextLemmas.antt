@@ -13,7 +13,7 @@ use Rattle.rpki_text.proofs.CutLemmas.{HasNo-no_cut, around_at, none_around}
 use Rattle.rpki_text.proofs.NumberLemmas.{number_answers}
 pub use Rattle.rpki_text.proofs.ReadingLemmas.{answers_by_one}
 use Rattle.rpki_addr.specs.AddrText.{first_of, greatest_of}
-use Rattle.rpki_ip.specs.BlockText.{IsAddressText, HasAddressFault, IsPrefixBetween, HasPrefixFault, IsRangeFrom, HasPairFault, IsIpRangeBetween, HasRangeFault, IsSingleText, IsIpPrefixText, HasIpPrefixTextFault, IsRangeText, HasRangeTextFault, HasFaultAround}
+use Rattle.rpki_ip.specs.BlockText.{IsAddressText, HasAddressFault, IsPrefixBetween, HasPrefixFault, IsRangeFrom, IsIpRangeBetween, HasRangeFault, IsSingleText, IsIpPrefixText, HasIpPrefixTextFault, IsRangeText, HasRangeTextFault, HasFaultAround}
 use Rattle.rpki_base.specs.Families.{bits_of, family_of}
 use Rattle.rpki_ip.specs.Ranges.{RangeValue}
 use Rattle.rpki_ip.specs.declared.error.FromStrError.{FromStrError}
@@ -80,13 +80,6 @@ pub single_one : (w : Option AddressFamily) (text : List ℕ) (r s : Result Rang
     → MatchResult r (IsSingleText w text) (HasAddressFault w text)
     → MatchResult s (IsSingleText w text) (HasAddressFault w text) → r ≡ s
 single_one w text r s h k = grind (arith, IsIpText-one)
-
--- what is so of two addresses is so of their texts
-pub range_said : (w : Option AddressFamily) (left right : List ℕ) (a b : IpAddr) → IsAddressText w left a
-    → IsAddressText w right b → (r : Result RangeValue FromStrError)
-    → MatchResult r (IsRangeFrom a b) (HasPairFault a b)
-    → MatchResult r (IsIpRangeBetween w left right) (HasRangeFault w left right)
-range_said w left right a b at there r h = grind arith
 
 -- an address, and a length that it doesn't have
 pub too_long : (w : Option AddressFamily) (left right : List ℕ) (a : IpAddr) (n : ℕ) → IsAddressText w left a

@@ -78,7 +78,6 @@ pub fn prefix_between(
 /// The fault is the first of these: [`FromStrError::Addr`] of the first address and of the second,
 /// [`FromStrError::FamilyMismatch`] where they are of two families, and [`FromStrError::BadRange`] where the first is
 /// above the second.
-#[tactic(auto, using(crate::proofs::TextLemmas::range_said))]
 pub fn range_between(
     wanted: Option<AddressFamily>,
     left: &str,

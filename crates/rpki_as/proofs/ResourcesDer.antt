@@ -1,13 +1,7 @@
 -- What is written of AS resources, and what is taken of them in either mode.
-use Rattle.rpki_as.proofs.Common.{List, None, arith, length, ℕ, ◌++◌, ◌+◌, ◌<◌, ◌^◌, ◌≡◌, append_assoc, length-append, IsNextBlock, as_bounds, AsBlock, IsSaidInModes, one_said, Encloses, IsSequenceFrom, IsChoiceOf, Claim, IsClaim, IsRunsOfBlocks, ResourcesChoice, OneFront, header, value, IsAsChoice, IsAsResources, IsPresentAsClaim, as_resources_octets, as_choice_at, as_choice_by, greatest_of_as_block, IsAsSet, enclosed_said, choice_said}
+use Rattle.rpki_as.proofs.Common.{List, None, arith, length, ◌<◌, ◌^◌, ◌≡◌, IsNextBlock, as_bounds, AsBlock, IsSaidInModes, one_said, Encloses, IsSequenceFrom, IsChoiceOf, Claim, IsClaim, IsRunsOfBlocks, ResourcesChoice, OneFront, IsAsChoice, IsAsResources, IsPresentAsClaim, as_resources_octets, as_choice_at, as_choice_by, greatest_of_as_block, IsAsSet, enclosed_said, choice_said}
 use Rattle.rpki_chain.specs.Choices.{ListsBy}
 use Rattle.rpki_as.proofs.AsDerLemmas.{blocks, length-value, set_octets_few}
-
--- what is appended of a value in two headers
-pub enclosed_twice : (old inner : List ℕ)
-    → old ++ header 48 (length (header 160 (length inner)) + length inner) ++ header 160 (length inner) ++ inner
-    ≡ old ++ value 48 (value 160 inner)
-enclosed_twice old inner = grind (arith, append_assoc, length-append)
 
 -- the claim of the blocks that stand in such lists as were read is what was read
 pub claim_of_listed : {Y : Type 0} (items : Y → List AsBlock) (read : ResourcesChoice (List AsBlock))

@@ -68,7 +68,6 @@ impl<A: Allocator> AsResources<A> {
     /// are listed, ascending, each as an AS number where it is one, and else as the SEQUENCE of its bounds. Round that
     /// stand a tag and a SEQUENCE. `AllocError` where there is no memory for all of it; then the octets stay as they
     /// were.
-    #[tactic(auto, using(crate::proofs::ResourcesDer::enclosed_twice))]
     pub fn encode<B: Allocator>(&self, out: &mut Vec<u8, B>) -> Result<(), AllocError>
         requires { self.now ≢ Missing }
         ensures ok { OnOk result (out.new.items ≡ out.old.items ++ as_resources_octets self.now) }

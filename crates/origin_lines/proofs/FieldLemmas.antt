@@ -1,5 +1,5 @@
 -- How a dump's line is cut: at each bar, and its path at the last space.
-use Rattle.origin_lines.proofs.Common.{List, None, Some, [], ap, arith, drop, eq-eqb, get_or, get_or-drop, length, length-drop, ne_eqb, not, ℕ, ◌-◌, ◌<◌, ◌∙◌, ◌∷◌, ◌≡◌, ◌≢◌, ◌≤◌, after_first, after_last, before_first, position_or_len, suffix_len, codes, slice_get, IsFieldAt, IsNoDump, IsNoFieldAt, fields_of, is_bar, is_gap}
+use Rattle.origin_lines.proofs.Common.{List, None, Some, [], ap, arith, drop, eq-eqb, get_or, get_or-drop, length, length-drop, ne_eqb, not, ℕ, ◌-◌, ◌<◌, ◌∙◌, ◌∷◌, ◌≡◌, ◌≢◌, ◌≤◌, after_first, after_last, before_first, position_or_len, suffix_len, slice_get, fields_of, is_bar, is_gap}
 use Rattle.std.specs.Str.Pattern.{RFindsChar, SplitsAroundMatch}
 use Rattle.std.proofs.lemmas.List.Sums.{fails_before_first, suffix_len_is}
 use Rattle.std.proofs.lemmas.List.Splits.{slice_split_first, slice_split_none}
@@ -27,14 +27,6 @@ field_none text n cut some = grind (arith)
 pub field_first : (text field : List ℕ) (fields : List (List ℕ)) → fields_of text ≡ field ∷ fields
     → slice_get (fields_of text) 0 ≡ Some field
 field_first text field fields cut = ap (λ all. slice_get all 0) cut
-
--- a line that begins otherwise is none of a dump
-pub other_place : (line kind : List ℕ) → IsFieldAt 0 line kind → kind ≢ codes "TABLE_DUMP2"
-    → kind ≢ codes "TABLE_DUMP2_AP" → IsNoDump line
-other_place line kind is not_one nor_other n h = grind (arith)
-
-pub no_place : (line : List ℕ) → IsNoFieldAt 0 line → IsNoDump line
-no_place line none n h = grind (arith)
 
 -- ---- the last word of a path
 

@@ -5,7 +5,7 @@ use Rattle.roa_origin.proofs.Found.{any_moved}
 use Rattle.roa_origin.proofs.Members.{same_list}
 use Rattle.roa_origin.proofs.Reevaluated.{one_validity}
 use Rattle.roa_origin.proofs.Scans.{same_validity}
-use Rattle.origin_lines.specs.declared.outcome.Outcome.TheVariants.{Valid, InvalidAs, NotFound}
+use Rattle.origin_lines.specs.declared.outcome.Outcome.TheVariants.{InvalidAs}
 use Rattle.origin_lines.proofs.LineLemmas.{route_decided}
 use Rattle.origin_lines.proofs.WhyLemmas.{not_back}
 

@@ -45,18 +45,31 @@ adjacent f all done front rest y x ordered cut ends =
 -- ---- one more behind those of a list
 
 -- the members are those before, and it
-pushed : (xs : List Payload) (x p : Payload) → Contains (xs ++ x ∷ []) p ↔ (Contains xs p ⊎ (x ≡ p))
-pushed xs x p = grind (arith, Contains-push_cases xs x p, Contains-append_left xs (x ∷ []) p, Contains-push xs x)
+over_pushed : (xs ys : List Payload) (x p : Payload) → (Contains xs p → Contains (ys ++ x ∷ []) p)
+    → Contains (xs ++ x ∷ []) p → Contains (ys ++ x ∷ []) p
+over_pushed xs ys x p over h = elim (Contains-push_cases xs x p h) [
+  | inl there ↦ over there
+  | inr e ↦ rw (← e) (Contains-push ys x)
+]
 
 -- behind two lists with the same members
 same_pushed : (xs ys : List Payload) (x p : Payload) → (Contains xs p ↔ Contains ys p)
     → (Contains (xs ++ x ∷ []) p ↔ Contains (ys ++ x ∷ []) p)
-same_pushed xs ys x p same = grind (arith, pushed xs x p, pushed ys x p)
+same_pushed xs ys x p same = (
+  over_pushed xs ys x p (λ h. Contains-append_left ys (x ∷ []) p (same.0 h)),
+  over_pushed ys xs x p (λ h. Contains-append_left xs (x ∷ []) p (same.1 h)),
+)
 
 -- or behind one of them that has it already
 again_pushed : (xs ys : List Payload) (x p : Payload) → ((q : Payload) → Contains xs q ↔ Contains ys q) → Contains ys x
     → (Contains xs p ↔ Contains (ys ++ x ∷ []) p)
-again_pushed xs ys x p same there = grind (arith, pushed ys x p, same p)
+again_pushed xs ys x p same there = (
+  λ h. Contains-append_left ys (x ∷ []) p ((same p).0 h),
+  λ h. elim (Contains-push_cases ys x p h) [
+    | inl had ↦ (same p).1 had
+    | inr e ↦ rw (← e) ((same x).1 there)
+  ],
+)
 
 -- ---- what is told so far
 

@@ -50,7 +50,6 @@ impl<B: Allocator> Answers for Routes<'_, B> {
 
 /// Tells what the payloads of a table say of the route to a prefix that an AS originates, and, where that is wanted,
 /// what explains it. The text is empty before.
-#[tactic(auto, using(crate::proofs::AnswerLemmas::word_told, crate::proofs::AnswerLemmas::why_told))]
 fn tell<A: Allocator, B: Allocator>(
     text: &mut String<A>,
     table: &OriginTable<B>,

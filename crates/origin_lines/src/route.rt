@@ -60,7 +60,6 @@ fn read_text(text: &str) -> Result<Route, RouteFault>
 }
 
 /// Behind how many fields of a line its path stands, if it is one of a dump.
-#[tactic(auto, using(crate::proofs::FieldLemmas::no_place, crate::proofs::FieldLemmas::other_place))]
 fn path_place(line: &str) -> Option<usize>
     ensures { MatchOption result (IsNoDump line.now) (IsPathPlace line.now) }
 {

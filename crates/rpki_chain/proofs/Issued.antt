@@ -1,16 +1,11 @@
 -- What one claim leaves, and by what it exceeds: each of its outcomes, and that there is one.
-use Rattle.rpki_chain.proofs.Common.{[], arith, refl, ℕ, ◌∷◌, ◌≡◌, ◌≢◌, ◌≤◌, le_refl, All-head, IsErrAnd, MatchResult, Covers-nil, Covers-head, AnswersOrMemory-from_found, IfRefused, IsMemory, OrMemory, Memory, Refused, Claim, IsDifference, IsIntersection, Exceeds, IsExcess, IsIssued, Leaves, Holds, IsRunsOf, Runs, Blocks, Inherit, Overclaim, Refuse, Trim}
+use Rattle.rpki_chain.proofs.Common.{[], arith, refl, ℕ, ◌∷◌, ◌≡◌, ◌≢◌, ◌≤◌, le_refl, All-head, IsErrAnd, MatchResult, Covers-nil, Covers-head, AnswersOrMemory-from_found, IfRefused, OrMemory, Memory, Refused, Claim, IsDifference, IsIntersection, Exceeds, IsExcess, IsIssued, Leaves, Holds, IsRunsOf, Runs, Blocks, Overclaim, Refuse, Trim}
 use Rattle.std.specs.Prelude.{Result}
 use Rattle.rpki_text.specs.Reading.{AnswersOrMemory}
 use Rattle.rpki_chain.proofs.LawLemmas.{inside_where_none}
 use Rattle.rpki_chain.proofs.RunLists.{IsRunsOf-same, IsRunsOf-unique}
 
--- a call that wants memory answers neither
-pub wants_memory : {X E : Type 0} (P : X → Type 0) (Q : E → Type 0) (r : Result X (OrMemory E)) → IsErrAnd r IsMemory
-    → MatchResult r P (IfRefused Q)
-wants_memory P Q r h = grind arith
-
--- and a refusal is handed on as it is
+-- a refusal is handed on as it is
 pub handed_on : {T E : Type 0} (P : T → Type 0) (Q : E → Type 0) (refusal : OrMemory E) (r : Result T (OrMemory E))
     → IsErrAnd r (λ e. e ≡ refusal) → IfRefused Q refusal → MatchResult r P (IfRefused Q)
 handed_on P Q refusal r is h = grind arith
@@ -27,10 +22,6 @@ some_held S (b ∷ runs) h some =
     (b.0, (h.members b.0).0 (Covers-head (λ x. x) b runs b.0 (le_refl b.0, ordered)))
 
 module _ (set : Runs) (mode : Overclaim) where
-  pub issued_inherit : (issued : Runs) → issued ≡ set → IsRunsOf (Holds set) set
-      → IsIssued (Holds set) Inherit mode issued
-  issued_inherit issued same runs = grind arith
-
   module _ (listed : Runs) where
     pub issued_inside : (issued : Runs) → ((n : ℕ) → Holds listed n → Holds set n) → issued ≡ listed
         → IsRunsOf (Holds listed) listed → IsIssued (Holds set) (Blocks listed) mode issued

@@ -45,7 +45,6 @@ impl<T: Block, A: Allocator> BlockSetBuilder<T, A> {
 
     /// Adds several blocks. `AllocError` where there is no memory for them; then the builder has the blocks that it
     /// had.
-    #[tactic(auto, using(crate::proofs::RunLists::added_next))]
     pub fn extend_from(&mut self, blocks: &[T]) -> Result<(), AllocError>
         ensures ok { OnOk result (self.new ≡ self.old ++ map T.bounds blocks.now) }
         ensures err { OnErr result (self.new ≡ self.old) }

@@ -72,7 +72,6 @@ impl<T: Block, A: Allocator> BlockSet<T, A> {
 }
 
 /// What a claim leaves of a set, or the excess. A set that is left as it is gets one owner more, and isn't copied.
-#[tactic(auto, using(crate::proofs::Issued::issued_inherit, crate::proofs::Issued::wants_memory))]
 fn issued_by<T: Block, A: Allocator + Copy>(
     set: &BlockSet<T, A>,
     alloc: A,
@@ -136,7 +135,6 @@ fn shared<T: Block, A: Allocator>(set: &BlockSet<T, A>) -> Result<BlockSet<T, A>
 }
 
 /// What a path leaves of a root, or its first refusal.
-#[tactic(auto, using(crate::proofs::PathSteps::none_passed))]
 fn left_by<T: Block, A: Allocator + Copy, R: Claims<T, A>>(
     root: &BlockSet<T, A>,
     alloc: A,

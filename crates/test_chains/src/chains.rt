@@ -147,8 +147,12 @@ fn chains(rt: HostRuntime) {
 // ---- calls that take no memory
 
 /// Whether a chain lies in another, by both calls.
-fn is_trimmed(refusing: &Refusing, own: Chain<'_, AsBlock>, other: Chain<'_, AsBlock>) -> bool {
-    matches!(own.trim(refusing, other), Ok(())) && own.is_encompassed(other)
+fn is_trimmed<A: Allocator + Copy>(
+    alloc: A,
+    own: Chain<'_, AsBlock>,
+    other: Chain<'_, AsBlock>,
+) -> bool {
+    matches!(own.trim(alloc, other), Ok(())) && own.is_encompassed(other)
 }
 
 /// Whether a chain lies in the chain of the numbers 0 to 17 and 19 to 50.
@@ -174,7 +178,7 @@ fn a_trim_that_is_ok_takes_no_memory(rt: HostRuntime) {
 }
 
 /// Whether a chain is made of blocks with no request.
-fn is_made_of(refusing: &Refusing, blocks: Vec<AsBlock, &Refusing>) -> bool {
+fn is_made_of<A: Allocator>(refusing: &Refusing, blocks: Vec<AsBlock, A>) -> bool {
     let asked = refusing.asked();
     let chain = OwnedChain::from_vec(blocks);
     is_chain(chain.as_chain()) && refusing.asked() == asked
@@ -193,8 +197,8 @@ fn a_chain_is_made_in_the_memory_of_its_blocks(rt: HostRuntime) {
     holds(&rt, is_made_in_place(&refusing));
 }
 
-fn shares_nothing(refusing: &Refusing) -> bool {
-    match SharedChain::<AsBlock, &Refusing>::from_owned(refusing, OwnedChain::empty()) {
+fn shares_nothing<A: Allocator + Copy>(alloc: A) -> bool {
+    match SharedChain::<AsBlock, A>::from_owned(alloc, OwnedChain::empty()) {
         Ok(shared) => is_shared(&shared),
         Err(_) => false,
     }
@@ -207,8 +211,8 @@ fn sharing_the_empty_chain_takes_no_memory(rt: HostRuntime) {
     holds(&rt, refusing.asked() == 0);
 }
 
-fn is_refused(refusing: &Refusing) -> bool {
-    matches!(SharedChain::from_blocks(refusing, &[block(1, 4)]), Err(_))
+fn is_refused<A: Allocator + Copy>(alloc: A) -> bool {
+    matches!(SharedChain::from_blocks(alloc, &[block(1, 4)]), Err(_))
 }
 
 #[test]

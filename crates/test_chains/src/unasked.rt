@@ -72,7 +72,7 @@ fn parts_answer<A: Allocator>(set: &ResourceSet<A>) -> bool {
     as_set_answers(set.asn()) && v4_set_answers(set.ipv4()) && v6_set_answers(set.ipv6())
 }
 
-fn asks_nothing(refusing: &Refusing, set: &ResourceSet<&Refusing>) -> bool {
+fn asks_nothing<A: Allocator>(refusing: &Refusing, set: &ResourceSet<A>) -> bool {
     let asked = refusing.asked();
     set_answers(set) && parts_answer(set) && refusing.asked() == asked
 }
@@ -80,8 +80,8 @@ fn asks_nothing(refusing: &Refusing, set: &ResourceSet<&Refusing>) -> bool {
 type Made<T> = Result<T, OrMemory<FromStrError>>;
 
 /// The set that is asked.
-fn set_of_all_kinds<'a>(refusing: &'a Refusing) -> Made<ResourceSet<&'a Refusing>> {
-    ResourceSet::from_strs(refusing, "AS1, AS3-AS5", "10.0.0.0/8, 12.0.0.0", "::1-::2")
+fn set_of_all_kinds<A: Allocator + Copy>(alloc: A) -> Made<ResourceSet<A>> {
+    ResourceSet::from_strs(alloc, "AS1, AS3-AS5", "10.0.0.0/8, 12.0.0.0", "::1-::2")
 }
 
 fn questions(refusing: &Refusing) -> bool {
@@ -92,10 +92,10 @@ fn questions(refusing: &Refusing) -> bool {
 }
 
 /// Printing into a text that has room.
-fn is_printed_again(
+fn is_printed_again<A: Allocator>(
     refusing: &Refusing,
-    set: &ResourceSet<&Refusing>,
-    text: &mut String<&Refusing>,
+    set: &ResourceSet<A>,
+    text: &mut String<A>,
 ) -> bool {
     let (asked, len) = (refusing.asked(), text.len());
     text.clear();
@@ -110,11 +110,7 @@ fn is_printed<'a>(refusing: &'a Refusing, set: &ResourceSet<&'a Refusing>) -> bo
     }
 }
 
-fn has_room<'a>(
-    refusing: &'a Refusing,
-    set: &ResourceSet<&'a Refusing>,
-    mut text: String<&'a Refusing>,
-) -> bool {
+fn has_room<A: Allocator>(refusing: &Refusing, set: &ResourceSet<A>, mut text: String<A>) -> bool {
     is_printed_again(refusing, set, &mut text)
 }
 
@@ -134,7 +130,7 @@ fn questions_and_printing(rt: HostRuntime) {
 
 // ---- what is made of sets that are given away
 
-fn is_as_set_again<'a>(refusing: &'a Refusing, set: AsBlocks<&'a Refusing>) -> bool {
+fn is_as_set_again<A: Allocator>(refusing: &Refusing, set: AsBlocks<A>) -> bool {
     let asked = refusing.asked();
     match AsBlocks::from_resources(AsResources::blocks(set)) {
         Ok(set) => set.asn_count() == 4 && refusing.asked() == asked,
@@ -142,20 +138,20 @@ fn is_as_set_again<'a>(refusing: &'a Refusing, set: AsBlocks<&'a Refusing>) -> b
     }
 }
 
-fn is_counted<'a>(refusing: &'a Refusing, set: AsBlocks<&'a Refusing>) -> bool {
+fn is_counted<A: Allocator>(refusing: &Refusing, set: AsBlocks<A>) -> bool {
     let asked = refusing.asked();
-    let size = ResourcesChoice::Blocks(set).map_blocks(|set: AsBlocks<&Refusing>| set.asn_count());
+    let size = ResourcesChoice::Blocks(set).map_blocks(|set: AsBlocks<A>| set.asn_count());
     size == ResourcesChoice::Blocks(4) && refusing.asked() == asked
 }
 
 /// Takes all kinds out of a set.
-fn clear(set: &mut ResourceSet<&Refusing>) {
+fn clear<A: Allocator>(set: &mut ResourceSet<A>) {
     set.set_asn(AsBlocks::empty());
     set.set_ipv4(Ipv4Blocks::empty());
     set.set_ipv6(Ipv6Blocks::empty());
 }
 
-fn is_cleared<'a>(refusing: &'a Refusing, asn: AsBlocks<&'a Refusing>) -> bool {
+fn is_cleared<A: Allocator>(refusing: &Refusing, asn: AsBlocks<A>) -> bool {
     let asked = refusing.asked();
     let mut set = ResourceSet::new(asn, Ipv4Blocks::empty(), Ipv6Blocks::empty());
     clear(&mut set);
@@ -175,7 +171,7 @@ enum Given {
 
 const GIVEN: [Given; 3] = [Given::Again, Given::Counted, Given::Cleared];
 
-fn is_given<'a>(refusing: &'a Refusing, given: Given, set: AsBlocks<&'a Refusing>) -> bool {
+fn is_given<A: Allocator>(refusing: &Refusing, given: Given, set: AsBlocks<A>) -> bool {
     match given {
         Given::Again => is_as_set_again(refusing, set),
         Given::Counted => is_counted(refusing, set),
@@ -191,12 +187,12 @@ fn as_set_is_given(refusing: &Refusing, given: Given) -> bool {
 }
 
 /// Whether a set of IPv6 has two blocks.
-fn is_of_two<'a>(refusing: &'a Refusing, set: IpBlocks<&'a Refusing>) -> bool {
+fn is_of_two<A: Allocator>(refusing: &Refusing, set: IpBlocks<A>) -> bool {
     let asked = refusing.asked();
     Ipv6Blocks::from_ip_blocks(set).iter().count() == 2 && refusing.asked() == asked
 }
 
-fn is_ip_set_again<'a>(refusing: &'a Refusing, claim: IpResources<&'a Refusing>) -> bool {
+fn is_ip_set_again<A: Allocator>(refusing: &Refusing, claim: IpResources<A>) -> bool {
     let asked = refusing.asked();
     match IpBlocks::from_resources(claim) {
         Ok(set) => refusing.asked() == asked && is_of_two(refusing, set),
@@ -204,7 +200,7 @@ fn is_ip_set_again<'a>(refusing: &'a Refusing, claim: IpResources<&'a Refusing>)
     }
 }
 
-fn is_ip_claim<'a>(refusing: &'a Refusing, set: IpBlocks<&'a Refusing>) -> bool {
+fn is_ip_claim<A: Allocator>(refusing: &Refusing, set: IpBlocks<A>) -> bool {
     let asked = refusing.asked();
     let claim = IpResources::blocks(set);
     refusing.asked() == asked && is_ip_set_again(refusing, claim)
@@ -218,7 +214,7 @@ fn addresses_again(refusing: &Refusing) -> bool {
 }
 
 /// Whether an excess is told as one of IPv4 without a request.
-fn is_of_v4<'a>(refusing: &'a Refusing, fault: OverclaimedIpResources<&'a Refusing>) -> bool {
+fn is_of_v4<A: Allocator>(refusing: &Refusing, fault: OverclaimedIpResources<A>) -> bool {
     if !fault.excess().is_whole_v4() {
         return false;
     }
@@ -228,15 +224,15 @@ fn is_of_v4<'a>(refusing: &'a Refusing, fault: OverclaimedIpResources<&'a Refusi
 }
 
 /// Whether an excess is told as one of IPv6 without a request.
-fn is_of_v6<'a>(refusing: &'a Refusing, fault: OverclaimedIpResources<&'a Refusing>) -> bool {
+fn is_of_v6<A: Allocator>(refusing: &Refusing, fault: OverclaimedIpResources<A>) -> bool {
     let asked = refusing.asked();
     let _fault = fault.v6();
     refusing.asked() == asked
 }
 
-fn is_of_family<'a>(
-    refusing: &'a Refusing,
-    fault: OverclaimedIpResources<&'a Refusing>,
+fn is_of_family<A: Allocator>(
+    refusing: &Refusing,
+    fault: OverclaimedIpResources<A>,
     v4: bool,
 ) -> bool {
     if v4 {
@@ -333,18 +329,22 @@ fn empty_sets<A: Allocator>(_: A) -> bool {
         && Ipv4Blocks::<A>::default().is_empty()
 }
 
+fn is_empty_set<A: Allocator>(set: &ResourceSet<A>) -> bool {
+    *set == ResourceSet::empty()
+}
+
 fn empty_sets_of_all_kinds<A: Allocator>(_: A) -> bool {
-    ResourceSet::<A>::default() == ResourceSet::empty()
+    is_empty_set(&ResourceSet::<A>::default())
 }
 
 /// Takes what is made, and drops it.
 fn is_made<T: Drop>(_: T) {}
 
-fn new_builders(refusing: &Refusing) {
-    is_made(AsBlocksBuilder::new(refusing));
-    is_made(AsResourcesBuilder::new(refusing));
-    is_made(IpBlocksBuilder::new(refusing));
-    is_made(IpResourcesBuilder::new(refusing));
+fn new_builders<A: Allocator + Copy>(alloc: A) {
+    is_made(AsBlocksBuilder::new(alloc));
+    is_made(AsResourcesBuilder::new(alloc));
+    is_made(IpBlocksBuilder::new(alloc));
+    is_made(IpResourcesBuilder::new(alloc));
 }
 
 #[test]

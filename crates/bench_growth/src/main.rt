@@ -21,7 +21,7 @@ mod measure;
 mod origins;
 mod worst;
 
-use measure::{measure_der, measure_modes, measure_operations};
+use measure::{Measured, measure_der, measure_modes, measure_operations};
 use rpki_as::blocks::AsBlocks;
 use rpki_ipres::blocks::IpBlocks;
 use std::{env, io};
@@ -30,12 +30,17 @@ use worst::Lengths;
 fn main(rt: HostRuntime) -> io::Result<()> {
     let mut asked = Asked::Sets;
     for word in env::args(&rt)?.skip(1) {
-        asked = match word.as_str().parse::<usize>() {
-            Ok(count) => measure_asked(&rt, asked, count)?,
-            Err(_) => Asked::named(word.as_str()),
-        };
+        asked = asked_next(&rt, asked, word.as_str())?;
     }
     Ok(())
+}
+
+/// Measures what a word asks for where it is a number, and tells what the next number is.
+fn asked_next(rt: &HostRuntime, asked: Asked, word: &str) -> io::Result<Asked> {
+    match word.parse::<usize>() {
+        Ok(count) => measure_asked(rt, asked, count),
+        Err(_) => Ok(Asked::named(word)),
+    }
 }
 
 /// What the next number is.
@@ -82,10 +87,16 @@ fn measure_asked(rt: &HostRuntime, asked: Asked, count: usize) -> io::Result<Ask
 }
 
 fn measure_count(rt: &HostRuntime, count: usize) -> io::Result<()> {
-    measure_operations::<AsBlocks>(rt, "", count)?;
-    measure_operations::<IpBlocks>(rt, "ip-", count)?;
-    measure_der::<AsBlocks>(rt, "as-", count)?;
-    measure_der::<IpBlocks>(rt, "ip-", count)?;
-    measure_modes::<AsBlocks>(rt, "as-", count)?;
-    measure_modes::<IpBlocks>(rt, "ip-", count)
+    let asn = Measured {
+        rt,
+        kind: "as-",
+        count,
+    };
+    let ip = Measured { kind: "ip-", ..asn };
+    measure_operations::<AsBlocks>(Measured { kind: "", ..asn })?;
+    measure_operations::<IpBlocks>(ip)?;
+    measure_der::<AsBlocks>(asn)?;
+    measure_der::<IpBlocks>(ip)?;
+    measure_modes::<AsBlocks>(asn)?;
+    measure_modes::<IpBlocks>(ip)
 }

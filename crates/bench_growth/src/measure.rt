@@ -38,6 +38,30 @@ pub trait Set: Sized + Drop {
     fn append(&self, octets: &mut Vec<u8>) -> Result<(), AllocError>;
 }
 
+/// What is measured: calls of sets of so many blocks of a kind, which stands before the names of the calls.
+#[derive(Clone, Copy)]
+pub struct Measured<'a> {
+    pub rt: &'a HostRuntime,
+    pub kind: &'a str,
+    pub count: usize,
+}
+
+impl Measured<'_> {
+    /// Prints how long a call took since the start, and how much it gave.
+    fn tell(self, name: &str, start: Instant, given: usize, unit: &str) -> io::Result<()> {
+        self.tell_time(name, start)?;
+        println!(self.rt;
+            "{}{name} at {} blocks: {given} {unit}",
+            self.kind, self.count
+        )
+    }
+
+    fn tell_time(self, name: &str, start: Instant) -> io::Result<()> {
+        let micros = start.elapsed(self.rt)?.as_micros();
+        eprintln!(self.rt; "{}{name} {} {micros}", self.kind, self.count)
+    }
+}
+
 /// A call that makes a set of two.
 enum Call {
     Union,
@@ -65,34 +89,31 @@ impl Call {
     }
 }
 
-/// Builds two sets, the first of a list that it times, and times what they give. The kind stands before the names of
-/// calls.
-pub fn measure_operations<S: Set>(rt: &HostRuntime, kind: &str, count: usize) -> io::Result<()> {
-    let blocks = S::blocks(rt.alloc(), count, false)?;
-    let one: S = measure_building(rt, kind, &blocks)?;
-    measure_with_other(rt, kind, count, &one)
+/// Builds two sets, the first of a list that it times, and times what they give.
+pub fn measure_operations<S: Set>(run: Measured<'_>) -> io::Result<()> {
+    let blocks = S::blocks(run.rt.alloc(), run.count, false)?;
+    let one: S = measure_building(run, &blocks)?;
+    measure_with_other(run, &one)
 }
 
 /// How long it takes to make a set of blocks that ascend.
-fn measure_building<S: Set>(rt: &HostRuntime, kind: &str, blocks: &[S::Block]) -> io::Result<S> {
-    let start = Instant::now(rt)?;
-    let set = S::from_blocks(rt.alloc(), blocks)?;
-    tell(rt, kind, "from_blocks", blocks.len(), start)?;
-    report(rt, kind, "from_blocks", blocks.len(), set.count(), "blocks")?;
+fn measure_building<S: Set>(run: Measured<'_>, blocks: &[S::Block]) -> io::Result<S> {
+    let start = Instant::now(run.rt)?;
+    let set = S::from_blocks(run.rt.alloc(), blocks)?;
+    run.tell("from_blocks", start, set.count(), "blocks")?;
     Ok(set)
 }
 
-fn measure_with_other<S: Set>(
-    rt: &HostRuntime,
-    kind: &str,
-    count: usize,
-    one: &S,
-) -> io::Result<()> {
-    let other: S = other_set(rt.alloc(), count)?;
+fn measure_with_other<S: Set>(run: Measured<'_>, one: &S) -> io::Result<()> {
+    let other: S = other_set(run.rt.alloc(), run.count)?;
+    measure_calls(run, one, &other)
+}
+
+fn measure_calls<S: Set>(run: Measured<'_>, one: &S, other: &S) -> io::Result<()> {
     for call in &CALLS {
-        measure_call(rt, kind, count, call, one, &other)?;
+        measure_call(run, call, one, other)?;
     }
-    measure_contains(rt, kind, count, one, &other)
+    measure_contains(run, one, other)
 }
 
 fn other_set<S: Set>(alloc: Global, count: usize) -> Result<S, AllocError> {
@@ -101,47 +122,44 @@ fn other_set<S: Set>(alloc: Global, count: usize) -> Result<S, AllocError> {
 }
 
 /// How long it takes to make a set of two.
-fn measure_call<S: Set>(
-    rt: &HostRuntime,
-    kind: &str,
-    count: usize,
-    call: &Call,
-    one: &S,
-    other: &S,
-) -> io::Result<()> {
-    let start = Instant::now(rt)?;
-    let set = call.of(rt.alloc(), one, other)?;
-    tell(rt, kind, call.name(), count, start)?;
-    report(rt, kind, call.name(), count, set.count(), "blocks")
+fn measure_call<S: Set>(run: Measured<'_>, call: &Call, one: &S, other: &S) -> io::Result<()> {
+    let start = Instant::now(run.rt)?;
+    let set = call.of(run.rt.alloc(), one, other)?;
+    run.tell(call.name(), start, set.count(), "blocks")
 }
 
 /// How long it takes to find that the union of two sets contains the one.
-fn measure_contains<S: Set>(
-    rt: &HostRuntime,
-    kind: &str,
-    count: usize,
-    one: &S,
-    other: &S,
-) -> io::Result<()> {
-    let union = one.union(rt.alloc(), other)?;
-    let start = Instant::now(rt)?;
+fn measure_contains<S: Set>(run: Measured<'_>, one: &S, other: &S) -> io::Result<()> {
+    let union = one.union(run.rt.alloc(), other)?;
+    measure_contained(run, one, &union)
+}
+
+fn measure_contained<S: Set>(run: Measured<'_>, one: &S, union: &S) -> io::Result<()> {
+    let start = Instant::now(run.rt)?;
     let contained = union.contains(one);
-    tell(rt, kind, "contains", count, start)?;
-    report(rt, kind, "contains", count, usize::from(contained), "set")
+    run.tell("contains", start, usize::from(contained), "set")
 }
 
 /// Reads blocks from a SEQUENCE in which they don't ascend, and writes their set.
-pub fn measure_der<S: Set>(rt: &HostRuntime, kind: &str, count: usize) -> io::Result<()> {
-    let octets = octets::<S>(rt.alloc(), count)?;
-    let set: S = measure_reading(rt, kind, ("take_from", count), Cursor::new(&octets))?;
-    measure_writing(rt, kind, count, &set)
+pub fn measure_der<S: Set>(run: Measured<'_>) -> io::Result<()> {
+    let octets = octets::<S>(run.rt.alloc(), run.count)?;
+    measure_octets::<S>(run, &octets)
+}
+
+fn measure_octets<S: Set>(run: Measured<'_>, octets: &[u8]) -> io::Result<()> {
+    let set: S = measure_reading(run, "take_from", Cursor::new(octets))?;
+    measure_writing(run, &set)
 }
 
 /// Reads canonical octets, once leniently and once strictly.
-pub fn measure_modes<S: Set>(rt: &HostRuntime, kind: &str, count: usize) -> io::Result<()> {
-    let octets = canonical::<S>(rt.alloc(), count)?;
-    let _: S = measure_reading(rt, kind, ("lenient", count), Cursor::new(&octets))?;
-    let _: S = measure_reading(rt, kind, ("strict", count), Cursor::new_strict(&octets))?;
+pub fn measure_modes<S: Set>(run: Measured<'_>) -> io::Result<()> {
+    let octets = canonical::<S>(run.rt.alloc(), run.count)?;
+    measure_in_modes::<S>(run, &octets)
+}
+
+fn measure_in_modes<S: Set>(run: Measured<'_>, octets: &[u8]) -> io::Result<()> {
+    let _: S = measure_reading(run, "lenient", Cursor::new(octets))?;
+    let _: S = measure_reading(run, "strict", Cursor::new_strict(octets))?;
     Ok(())
 }
 
@@ -180,16 +198,10 @@ fn behind(at: usize, count: usize) -> usize {
     at.wrapping_add(STRIDE).checked_rem(count).unwrap_or(0)
 }
 
-fn measure_reading<S: Set>(
-    rt: &HostRuntime,
-    kind: &str,
-    (name, count): (&str, usize),
-    cursor: Cursor<'_>,
-) -> io::Result<S> {
-    let start = Instant::now(rt)?;
-    let set: S = taken(rt.alloc(), cursor)?;
-    tell(rt, kind, name, count, start)?;
-    report(rt, kind, name, count, set.count(), "blocks")?;
+fn measure_reading<S: Set>(run: Measured<'_>, name: &str, cursor: Cursor<'_>) -> io::Result<S> {
+    let start = Instant::now(run.rt)?;
+    let set: S = taken(run.rt.alloc(), cursor)?;
+    run.tell(name, start, set.count(), "blocks")?;
     Ok(set)
 }
 
@@ -201,28 +213,9 @@ fn taken<S: Set>(alloc: Global, cursor: Cursor<'_>) -> io::Result<S> {
     }
 }
 
-fn measure_writing<S: Set>(rt: &HostRuntime, kind: &str, count: usize, set: &S) -> io::Result<()> {
-    let mut octets = Vec::new(rt.alloc());
-    let start = Instant::now(rt)?;
+fn measure_writing<S: Set>(run: Measured<'_>, set: &S) -> io::Result<()> {
+    let mut octets = Vec::new(run.rt.alloc());
+    let start = Instant::now(run.rt)?;
     set.append(&mut octets)?;
-    tell(rt, kind, "encode", count, start)?;
-    report(rt, kind, "encode", count, octets.len(), "octets")
-}
-
-/// Prints how much a call gave.
-fn report(
-    rt: &HostRuntime,
-    kind: &str,
-    name: &str,
-    count: usize,
-    given: usize,
-    unit: &str,
-) -> io::Result<()> {
-    println!(rt; "{kind}{name} at {count} blocks: {given} {unit}")
-}
-
-/// Prints how long a call took since the start.
-fn tell(rt: &HostRuntime, kind: &str, name: &str, count: usize, start: Instant) -> io::Result<()> {
-    let micros = start.elapsed(rt)?.as_micros();
-    eprintln!(rt; "{kind}{name} {count} {micros}")
+    run.tell("encode", start, octets.len(), "octets")
 }

@@ -17,17 +17,40 @@ pub fn measure(rt: &HostRuntime, payloads: usize, routes: usize) -> io::Result<(
     let mut numbers = Numbers::after(SEED);
     let listed = made_routes::payloads(rt.alloc(), &mut numbers, payloads)?;
     let asked = made_routes::routes(rt.alloc(), &mut numbers, &listed, routes)?;
+    measure_table(rt, &mut numbers, &listed, &asked)
+}
+
+fn measure_table(
+    rt: &HostRuntime,
+    numbers: &mut Numbers,
+    listed: &[(MaxLenPrefix, Asn)],
+    asked: &[(Prefix, Asn)],
+) -> io::Result<()> {
+    let table = measure_building(rt, listed)?;
+    measure_routes(rt, &table, asked)?;
+    measure_changes(rt, &table, numbers, listed)
+}
+
+fn measure_building(rt: &HostRuntime, listed: &[(MaxLenPrefix, Asn)]) -> io::Result<OriginTable> {
     let start = Instant::now(rt)?;
-    let table = OriginTable::new(rt.alloc(), &listed)?;
+    let table = OriginTable::new(rt.alloc(), listed)?;
     tell(rt, "payloads", listed.len(), start)?;
-    measure_routes(rt, &table, &asked)?;
-    let announced = made_routes::payloads(rt.alloc(), &mut numbers, CHANGED)?;
-    let withdrawn = listed.as_slice().get(..CHANGED).unwrap_or(&[]);
-    measure_changes(rt, &table, &announced, withdrawn)
+    Ok(table)
+}
+
+/// Announces payloads to the table, and withdraws the first of those that it was made of.
+fn measure_changes(
+    rt: &HostRuntime,
+    table: &OriginTable,
+    numbers: &mut Numbers,
+    listed: &[(MaxLenPrefix, Asn)],
+) -> io::Result<()> {
+    let announced = made_routes::payloads(rt.alloc(), numbers, CHANGED)?;
+    measure_next(rt, table, &announced, listed.get(..CHANGED).unwrap_or(&[]))
 }
 
 /// Makes the next table of changes.
-fn measure_changes(
+fn measure_next(
     rt: &HostRuntime,
     table: &OriginTable,
     announced: &[(MaxLenPrefix, Asn)],

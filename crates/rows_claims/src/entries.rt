@@ -38,14 +38,23 @@ impl Entry for (Prefix, Asn) {
 pub fn read<T: Entry, A: Allocator>(alloc: A, list: &str) -> Result<Option<Vec<T, A>>, AllocError> {
     let mut entries = Vec::new(alloc);
     for text in list.split('|') {
-        let text = text.trim();
-        if text.is_empty() {
-            continue;
-        }
-        match T::read(text) {
-            Some(entry) => entries.push(entry)?,
-            None => return Ok(None),
+        if !push_read(&mut entries, text.trim())? {
+            return Ok(None);
         }
     }
     Ok(Some(entries))
+}
+
+/// Pushes the entry that a text writes, or none where it is empty. False where it writes no entry.
+fn push_read<T: Entry, A: Allocator>(
+    entries: &mut Vec<T, A>,
+    text: &str,
+) -> Result<bool, AllocError> {
+    match T::read(text) {
+        Some(entry) => {
+            entries.push(entry)?;
+            Ok(true)
+        }
+        None => Ok(text.is_empty()),
+    }
 }

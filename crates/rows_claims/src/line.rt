@@ -21,16 +21,26 @@ impl Call for Line<'_> {
             "triple" => triples::answer(alloc, kind, operands),
             "set" => triples::set(alloc, rest),
             "diff" => triples::difference(alloc, rest),
-            "origin" => routes::answer(alloc, rest),
-            "changes" => routes::changes(alloc, rest),
-            "changed" => routes::changed(alloc, rest),
             "long" => long::answer(alloc, kind, operands),
-            "outside" => outside::answer(alloc, rest),
-            "route" => route_lines::answer_to_line(alloc, rest, false),
-            "why" => route_lines::answer_to_line(alloc, rest, true),
-            "payloads" => payloads::of_text(alloc, rest),
-            "octets" => payloads::of_octets(alloc, rest),
-            _ => String::from_str(alloc, "no such command"),
+            _ => answer_of_payloads(alloc, command, rest),
         }
+    }
+}
+
+fn answer_of_payloads<A: Allocator + Copy>(
+    alloc: A,
+    command: &str,
+    rest: &str,
+) -> Result<String<A>, AllocError> {
+    match command {
+        "origin" => routes::answer(alloc, rest),
+        "changes" => routes::changes(alloc, rest),
+        "changed" => routes::changed(alloc, rest),
+        "outside" => outside::answer(alloc, rest),
+        "route" => route_lines::answer_to_line(alloc, rest, false),
+        "why" => route_lines::answer_to_line(alloc, rest, true),
+        "payloads" => payloads::of_text(alloc, rest),
+        "octets" => payloads::of_octets(alloc, rest),
+        _ => String::from_str(alloc, "no such command"),
     }
 }

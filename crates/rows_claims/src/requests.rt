@@ -5,10 +5,11 @@ use roa_origin::{OriginTable, PayloadTable};
 use rows_support::print::{cut, error, refused};
 use rows_support::requests::Asked;
 use rpki_base::Asn;
+use rpki_base::memory::OrMemory;
 use rpki_base::number::parse_u32;
 use rpki_prefix::MaxLenPrefix;
-use rpki_resources::repository::resources::set::ResourceSet;
-use std::alloc::{AllocError, Global};
+use rpki_resources::repository::resources::set::{FromStrError, ResourceSet};
+use std::alloc::{AllocError, Allocator, Global};
 use test_support::{Plan, Refusing};
 
 /// The answer to `requests CALL ..`. What a call makes is held until it has ended.
@@ -115,38 +116,65 @@ fn of_triples(
 ) -> Result<String, AllocError> {
     let (left, right) = cut(operands, '|');
     let before = Asked::of(counting);
-    match triples::read(counting, left) {
-        Ok(_) if call == "lists" => before.since(alloc, counting),
-        Ok(set) => of_left(alloc, counting, call, &set, right),
+    match call {
+        "lists" => of_reading(alloc, counting, before, triples::read(counting, left)),
+        _ => of_sets(alloc, counting, counting, call, (left, right)),
+    }
+}
+
+fn of_reading<T: Drop>(
+    alloc: Global,
+    counting: &Refusing,
+    before: Asked,
+    read: Result<T, OrMemory<FromStrError>>,
+) -> Result<String, AllocError> {
+    match read {
+        Ok(_) => before.since(alloc, counting),
         Err(error) => refused(alloc, error),
     }
 }
 
-fn of_left<'a>(
+/// Of two sets, whose own allocator is the one that counts.
+fn of_sets<A: Allocator + Copy>(
     alloc: Global,
-    counting: &'a Refusing,
+    counting: &Refusing,
+    own: A,
     call: &str,
-    set: &ResourceSet<&'a Refusing>,
+    (left, right): (&str, &str),
+) -> Result<String, AllocError> {
+    match triples::read(own, left) {
+        Ok(set) => of_left(alloc, counting, own, call, &set, right),
+        Err(error) => refused(alloc, error),
+    }
+}
+
+fn of_left<A: Allocator + Copy>(
+    alloc: Global,
+    counting: &Refusing,
+    own: A,
+    call: &str,
+    set: &ResourceSet<A>,
     lists: &str,
 ) -> Result<String, AllocError> {
-    match triples::read(counting, lists) {
-        Ok(other) => of_both(alloc, counting, call, set, &other),
+    match triples::read(own, lists) {
+        Ok(other) => of_both(alloc, counting, own, call, set, &other),
         Err(error) => refused(alloc, error),
     }
 }
 
-fn of_both<'a>(
+fn of_both<A: Allocator + Copy>(
     alloc: Global,
-    counting: &'a Refusing,
+    counting: &Refusing,
+    own: A,
     call: &str,
-    set: &ResourceSet<&'a Refusing>,
-    other: &ResourceSet<&'a Refusing>,
+    set: &ResourceSet<A>,
+    other: &ResourceSet<A>,
 ) -> Result<String, AllocError> {
     let before = Asked::of(counting);
     match call {
-        "union" => before.told(alloc, counting, set.union(counting, other)),
-        "intersection" => before.told(alloc, counting, set.intersection(counting, other)),
-        "difference" => before.told(alloc, counting, set.difference(counting, other)),
+        "union" => before.told(alloc, counting, set.union(own, other)),
+        "intersection" => before.told(alloc, counting, set.intersection(own, other)),
+        "difference" => before.told(alloc, counting, set.difference(own, other)),
         _ => String::from_str(alloc, "no such call"),
     }
 }

@@ -16,13 +16,27 @@ pub fn answer_to_line<A: Allocator + Copy>(
 ) -> Result<String<A>, AllocError> {
     let (list, line) = cut(operands, ';');
     match entries::read::<(MaxLenPrefix, Asn), A>(alloc, list)? {
-        Some(payloads) => {
-            let table = OriginTable::new(alloc, &payloads)?;
-            let routes = Routes { table: &table, why };
-            let mut text = String::new(alloc);
-            routes.answer(alloc, line.as_bytes(), &mut text)?;
-            Ok(text)
-        }
+        Some(payloads) => by_payloads(alloc, &payloads, line, why),
         None => String::from_str(alloc, "no such payload"),
     }
+}
+
+fn by_payloads<A: Allocator + Copy>(
+    alloc: A,
+    payloads: &[(MaxLenPrefix, Asn)],
+    line: &str,
+    why: bool,
+) -> Result<String<A>, AllocError> {
+    let table = OriginTable::new(alloc, payloads)?;
+    by_routes(alloc, &Routes { table: &table, why }, line)
+}
+
+fn by_routes<A: Allocator + Copy>(
+    alloc: A,
+    routes: &Routes<'_, A>,
+    line: &str,
+) -> Result<String<A>, AllocError> {
+    let mut text = String::new(alloc);
+    routes.answer(alloc, line.as_bytes(), &mut text)?;
+    Ok(text)
 }

@@ -96,10 +96,8 @@ fn changed_table<A: Allocator + Copy>(
 fn listed<A: Allocator + Copy>(alloc: A, table: &OriginTable<A>) -> Result<String<A>, AllocError> {
     let mut text = String::new(alloc);
     for (prefix, asn) in table.payloads() {
-        if !text.is_empty() {
-            text.push_str(" | ")?;
-        }
-        write!(text, "{prefix} {asn}")?;
+        print::append(&mut text, " | ", prefix)?;
+        print::append(&mut text, " ", asn)?;
     }
     Ok(text)
 }
@@ -175,10 +173,7 @@ fn told_of<A: Allocator + Copy>(alloc: A, places: &[usize]) -> Result<String<A>,
     }
     let mut text = String::new(alloc);
     for place in places {
-        if !text.is_empty() {
-            text.push_str(" ")?;
-        }
-        write!(text, "{place}")?;
+        print::append(&mut text, " ", *place)?;
     }
     Ok(text)
 }

@@ -8,7 +8,7 @@ use rpki_as::builder::AsBlocksBuilder;
 use rpki_as::resources::AsResources;
 use rpki_as::verify::AsStep;
 use rpki_chain::path::Overclaim;
-use std::alloc::{AllocError, Global};
+use std::alloc::{AllocError, Allocator, Global};
 use test_support::Refusing;
 
 /// The answer to `requests as CALL A` and `requests as CALL A|B`.
@@ -52,26 +52,23 @@ fn of_blocks(
     }
 }
 
-fn from_vec<'a>(
-    counting: &'a Refusing,
-    blocks: &[AsBlock],
-) -> Result<AsBlocks<&'a Refusing>, AllocError> {
-    AsBlocks::from_vec(counting, blocks.to_vec(counting)?)
+fn from_vec<A: Allocator + Copy>(alloc: A, blocks: &[AsBlock]) -> Result<AsBlocks<A>, AllocError> {
+    AsBlocks::from_vec(alloc, blocks.to_vec(alloc)?)
 }
 
-fn built<'a>(
-    counting: &'a Refusing,
+fn built<A: Allocator + Copy>(
+    alloc: A,
     blocks: &[AsBlock],
     more: &[AsBlock],
-) -> Result<AsBlocks<&'a Refusing>, AllocError> {
-    let mut builder = AsBlocksBuilder::new(counting);
+) -> Result<AsBlocks<A>, AllocError> {
+    let mut builder = AsBlocksBuilder::new(alloc);
     push(&mut builder, blocks, more)?;
     builder.finalize()
 }
 
 /// Pushes blocks one by one, and more at once.
-fn push(
-    builder: &mut AsBlocksBuilder<&Refusing>,
+fn push<A: Allocator + Copy>(
+    builder: &mut AsBlocksBuilder<A>,
     blocks: &[AsBlock],
     more: &[AsBlock],
 ) -> Result<(), AllocError> {
@@ -123,46 +120,46 @@ fn of_sets<'a>(
 ) -> Result<String, AllocError> {
     let before = Asked::of(counting);
     match call {
-        "union" => before.told(alloc, counting, set.union(counting, other)),
-        "intersection" => before.told(alloc, counting, set.intersection(counting, other)),
-        "difference" => before.told(alloc, counting, set.difference(counting, other)),
-        "assign" => before.told(alloc, counting, assigned(counting, set, other)),
+        "octets" => before.told(alloc, counting, octets(counting, set)),
         "refuse" => path(alloc, counting, Overclaim::Refuse, set, other),
         "trim" => path(alloc, counting, Overclaim::Trim, set, other),
-        _ => of_set(alloc, counting, call, set),
+        _ => match made(counting, call, set, other) {
+            Some(made) => before.told(alloc, counting, made),
+            None => String::from_str(alloc, "no such call"),
+        },
     }
 }
 
-fn of_set<'a>(
-    alloc: Global,
-    counting: &'a Refusing,
+/// The set that a call makes, or None where there is no such call.
+fn made<A: Allocator + Copy>(
+    alloc: A,
     call: &str,
-    set: &AsBlocks<&'a Refusing>,
-) -> Result<String, AllocError> {
-    let before = Asked::of(counting);
+    set: &AsBlocks<A>,
+    other: &AsBlocks<A>,
+) -> Option<Result<AsBlocks<A>, AllocError>> {
     match call {
-        "all" => before.told(alloc, counting, AsBlocks::all(counting)),
-        "copy" => before.told(alloc, counting, set.clone()),
-        "octets" => before.told(alloc, counting, octets(counting, set)),
-        _ => String::from_str(alloc, "no such call"),
+        "union" => Some(set.union(alloc, other)),
+        "intersection" => Some(set.intersection(alloc, other)),
+        "difference" => Some(set.difference(alloc, other)),
+        "assign" => Some(assigned(alloc, set, other)),
+        "all" => Some(AsBlocks::all(alloc)),
+        "copy" => Some(set.clone()),
+        _ => None,
     }
 }
 
-fn assigned<'a>(
-    counting: &'a Refusing,
-    set: &AsBlocks<&'a Refusing>,
-    other: &AsBlocks<&'a Refusing>,
-) -> Result<AsBlocks<&'a Refusing>, AllocError> {
+fn assigned<A: Allocator + Copy>(
+    alloc: A,
+    set: &AsBlocks<A>,
+    other: &AsBlocks<A>,
+) -> Result<AsBlocks<A>, AllocError> {
     let mut common = set.clone()?;
-    common.intersection_assign(counting, other)?;
+    common.intersection_assign(alloc, other)?;
     Ok(common)
 }
 
-fn octets<'a>(
-    counting: &'a Refusing,
-    set: &AsBlocks<&Refusing>,
-) -> Result<Vec<u8, &'a Refusing>, AllocError> {
-    let mut octets = Vec::new(counting);
+fn octets<A: Allocator + Copy>(alloc: A, set: &AsBlocks<A>) -> Result<Vec<u8, A>, AllocError> {
+    let mut octets = Vec::new(alloc);
     set.encode(&mut octets)?;
     Ok(octets)
 }
@@ -180,20 +177,17 @@ fn path<'a>(
     before.told(alloc, counting, Ok(anchor.verify_path(counting, &steps)))
 }
 
-fn steps<'a>(
-    anchor: &AsBlocks<&'a Refusing>,
-    claimed: &AsBlocks<&'a Refusing>,
+fn steps<A: Allocator>(
+    anchor: &AsBlocks<A>,
+    claimed: &AsBlocks<A>,
     mode: Overclaim,
-) -> Result<[AsStep<&'a Refusing>; 2], AllocError> {
+) -> Result<[AsStep<A>; 2], AllocError> {
     let first = step(anchor, mode)?;
     let second = step(claimed, mode)?;
     Ok([first, second])
 }
 
-fn step<'a>(
-    set: &AsBlocks<&'a Refusing>,
-    mode: Overclaim,
-) -> Result<AsStep<&'a Refusing>, AllocError> {
+fn step<A: Allocator>(set: &AsBlocks<A>, mode: Overclaim) -> Result<AsStep<A>, AllocError> {
     let claim = AsResources::blocks(set.clone()?);
     Ok(AsStep { claim, mode })
 }

@@ -20,31 +20,7 @@ pub fn set<A: Allocator + Copy>(alloc: A, lists: &str) -> Result<String<A>, Allo
 
 /// The answer to `diff A ; B ; C | D ; E ; F`.
 pub fn difference<A: Allocator + Copy>(alloc: A, operands: &str) -> Result<String<A>, AllocError> {
-    let (left, right) = cut(operands, '|');
-    match read(alloc, left) {
-        Ok(set) => from_lists(alloc, &set, right),
-        Err(error) => refused(alloc, error),
-    }
-}
-
-/// How a set differs from the one that three lists write.
-fn from_lists<A: Allocator + Copy>(
-    alloc: A,
-    set: &ResourceSet<A>,
-    lists: &str,
-) -> Result<String<A>, AllocError> {
-    match read(alloc, lists) {
-        Ok(other) => of_sets(alloc, set, &other),
-        Err(error) => refused(alloc, error),
-    }
-}
-
-fn of_sets<A: Allocator + Copy>(
-    alloc: A,
-    set: &ResourceSet<A>,
-    other: &ResourceSet<A>,
-) -> Result<String<A>, AllocError> {
-    value(alloc, set.difference(alloc, other)?)
+    of_operands(alloc, Operation::Difference, operands)
 }
 
 /// The set that three lists write.
@@ -62,6 +38,8 @@ pub fn read<A: Allocator + Copy>(
 enum Operation {
     Union,
     Intersection,
+    /// How they differ.
+    Difference,
     /// What the first set has beyond the second.
     Added,
     /// A copy of how they differ.
@@ -166,31 +144,35 @@ fn given<A: Allocator + Copy>(
     match operation {
         Operation::Union => made(alloc, set.union(alloc, other)),
         Operation::Intersection => made(alloc, set.intersection(alloc, other)),
-        Operation::Added => added(alloc, set.difference(alloc, other)),
-        Operation::Changes => changes(alloc, set.difference(alloc, other)),
+        Operation::Difference => made(alloc, set.difference(alloc, other)),
+        Operation::Added | Operation::Changes => {
+            changes(alloc, operation, set.difference(alloc, other))
+        }
         Operation::Copy => made(alloc, set.clone()),
         Operation::Claims => of_claims(alloc, set),
         Operation::All => made(alloc, ResourceSet::all(alloc)),
     }
 }
 
-fn added<A: Allocator + Copy>(
+fn changes<A: Allocator + Copy>(
     alloc: A,
+    operation: Operation,
     changes: Result<ResourceDiff<A>, AllocError>,
 ) -> Result<String<A>, AllocError> {
     match changes {
-        Ok(changes) => made(alloc, changes.added().clone()),
+        Ok(changes) => copy_of(alloc, operation, &changes),
         Err(error) => Err(error),
     }
 }
 
-fn changes<A: Allocator + Copy>(
+fn copy_of<A: Allocator + Copy>(
     alloc: A,
-    changes: Result<ResourceDiff<A>, AllocError>,
+    operation: Operation,
+    changes: &ResourceDiff<A>,
 ) -> Result<String<A>, AllocError> {
-    match changes {
-        Ok(changes) => made(alloc, changes.clone()),
-        Err(error) => Err(error),
+    match operation {
+        Operation::Added => made(alloc, changes.added().clone()),
+        _ => made(alloc, changes.clone()),
     }
 }
 

@@ -1,6 +1,6 @@
 -- What the proofs of this crate use of std, of the crates below and of its own definitions, passed on by one name.
-pub use Rattle.std.proofs.Common.{Err, IfOk, List, MatchResult, None, Ok, Option, Result, Some, Vec, [], ap, append-nil, append_assoc, arith, false, if◌then◌else◌, inl, inr, length, refl, suc, sym, take, true, zero, ℕ, ◌++◌, ◌+◌, ◌-◌, ◌<◌, ◌^◌, ◌∙◌, ◌∷◌, ◌≡◌, ◌≢◌, ◌≤◌, ◌⊎◌}
-pub use Rattle.std.proofs.lemmas.Bool.{MatchBool-at_true, eqb-false, eqb-true}
+pub use Rattle.std.proofs.Common.{Err, IfOk, IsTrue, List, MatchResult, None, Ok, Option, Result, Some, Vec, [], ap, append-nil, append_assoc, arith, false, if◌then◌else◌, inl, inr, length, not, refl, suc, sym, take, true, zero, ℕ, ◌++◌, ◌+◌, ◌-◌, ◌<◌, ◌^◌, ◌∙◌, ◌∷◌, ◌≡◌, ◌≢◌, ◌≤◌, ◌↔◌, ◌⊎◌}
+pub use Rattle.std.proofs.lemmas.Bool.{eqb-false, eqb-true}
 pub use Rattle.std.proofs.lemmas.List.{length-append, nil_from_length, take_more}
 pub use Rattle.std.specs.Option.{option_and_then}
 pub use Rattle.std.specs.List.{after_first, before_first}

@@ -1,5 +1,5 @@
 -- Members of an object, one after another; an item's member has one text, or one fault.
-use Rattle.payload_texts.proofs.Common.{List, [], append-nil, arith, false, if◌then◌else◌, length, refl, true, ℕ, ◌++◌, ◌<◌, ◌∷◌, ◌≡◌, length-append, bytes_eq, Json, members_view, value_view, AreWrong, HasMemberFault, HasText, values_in, Missing, take, take_more, ◌+◌}
+use Rattle.payload_texts.proofs.Common.{List, [], append-nil, arith, false, if◌then◌else◌, length, not, refl, true, ℕ, ◌++◌, ◌<◌, ◌∷◌, ◌≡◌, length-append, bytes_eq, Json, members_view, value_view, AreWrong, HasMemberFault, HasText, values_in, Missing, take, take_more, ◌+◌}
 use Rattle.std.specs.Borrow.{Bor}
 use Rattle.std.proofs.Common.{get_or}
 use Rattle.json.specs.declared.value.Value.{Value}
@@ -47,12 +47,15 @@ two_values values first value one = grind (arith)
 module _ {A : Type 0} (name : List ℕ) (all : List (Bor (List ℕ) × Value A)) (i : ℕ) (m : Bor (List ℕ) × Value A)
     (less : i < length all) (is : m ≡ get_or all i m) where
   -- of another name, and of this one
-  pub other_named : bytes_eq m.0.now name ≡ false
+  pub other_named : true ≡ not (bytes_eq m.0.now name)
       → values_in name (members_view (take (i + 1) all)) ≡ values_in name (members_view (take i all))
   other_named other =
-      rw (take_more all i m less, ← is, values_push name (take i all) m, other) (append-nil _)
+      let no : bytes_eq m.0.now name ≡ false = grind arith in
+      rw (take_more all i m less, ← is, values_push name (take i all) m, no) (append-nil _)
 
-  pub one_named : bytes_eq m.0.now name ≡ true
+  pub one_named : false ≡ not (bytes_eq m.0.now name)
       → values_in name (members_view (take (i + 1) all))
       ≡ values_in name (members_view (take i all)) ++ value_view m.1 ∷ []
-  one_named same = rw (take_more all i m less, ← is, values_push name (take i all) m, same) refl
+  one_named same =
+      let yes : bytes_eq m.0.now name ≡ true = grind arith in
+      rw (take_more all i m less, ← is, values_push name (take i all) m, yes) refl

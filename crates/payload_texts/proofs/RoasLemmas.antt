@@ -1,5 +1,5 @@
 -- What the values of the member `roas` tell, one after another, and the items of one.
-use Rattle.payload_texts.proofs.Common.{Err, IfOk, List, None, Ok, Result, Some, Vec, [], ap, append-nil, append_assoc, arith, false, inl, inr, length, refl, true, ℕ, ◌++◌, ◌+◌, ◌-◌, ◌<◌, ◌∙◌, ◌∷◌, ◌≡◌, length-append, bytes_eq, items_end, left, left_none, left_some, members_end, value-begin_array, value-begin_object, Items, Json, Members, array, item, member, no_items, no_members, parse_map, Token, MaxLenValue, AreItems, HasItemFault, HaveWrongItem, IsItem, TellRoas, roas, values_in, FileFault, Item, Roas, ItemFault, Kind, Missing, Repeated}
+use Rattle.payload_texts.proofs.Common.{Err, IfOk, IsTrue, List, None, Ok, Result, Some, Vec, [], ap, append-nil, append_assoc, arith, false, inr, length, not, refl, true, ℕ, ◌++◌, ◌+◌, ◌-◌, ◌<◌, ◌∙◌, ◌∷◌, ◌≡◌, ◌↔◌, length-append, bytes_eq, items_end, left, left_none, left_some, members_end, value-begin_array, value-begin_object, Items, Json, Members, array, item, member, no_items, no_members, parse_map, Token, MaxLenValue, AreItems, HasItemFault, HaveWrongItem, IsItem, TellRoas, roas, values_in, FileFault, Item, Roas, ItemFault, Kind, Missing, Repeated}
 use Rattle.payload_texts.proofs.GrammarLemmas.{a_member, an_item, items_in, members_in}
 use Rattle.payload_texts.proofs.ItemLemmas.{Payloads}
 use Rattle.json.specs.Json as json
@@ -11,12 +11,6 @@ pub record AreReadSo (depth : ℕ) (first now : List Token) (payloads : Payloads
       → (all : Items) × (items_in depth first ≡ Some (all, rest))
       × ((more : Payloads) → AreItems items more → AreItems all (payloads ++ more))
       × ((fault : FileFault) → HaveWrongItem (length payloads + 1) items fault → HaveWrongItem 1 all fault)
-
-pub read_none : (depth : ℕ) (first : List Token) → AreReadSo depth first first []
-read_none depth first = record {
-  fails = λ none. none;
-  reads = λ items rest read. (items, read, λ more are. are, λ fault wrong. wrong);
-}
 
 module _ (depth : ℕ) (first now taken r : List Token) (value : Json) (payloads : Payloads)
     (had : AreReadSo depth first now payloads) (next : json.value depth taken ≡ Some (value, r))
@@ -30,8 +24,8 @@ module _ (depth : ℕ) (first now taken r : List Token) (value : Json) (payloads
   read_more payload is = record {
     fails = λ none. had.fails (one_more ∙ ap (parse_map (item value)) none);
     reads = λ items rest read.
-        let behind = one_more ∙ ap (parse_map (item value)) read in
-        let (all, whole, are, wrong) = had.reads (item value items) rest behind in (
+        let (all, whole, are, wrong) =
+        had.reads (item value items) rest (one_more ∙ ap (parse_map (item value)) read) in (
           all,
           whole,
           λ more these. rw append_assoc (are (payload ∷ more) (payload, is, more, refl, these)),
@@ -44,10 +38,7 @@ module _ (depth : ℕ) (first now taken r : List Token) (value : Json) (payloads
       → left (items_in depth r) ≡ Some rest
       → (js : Items) × TellRoas {A = A} (array js ∷ []) (Err (Item (length payloads + 1) wrong))
       × (items_in depth first ≡ Some (js, rest))
-  read_wrong A wrong rest has passed =
-      let js = left_some (items_in depth r) rest passed in
-      let (all, whole, _, faults) = had.reads (item value js.0) rest (one_more ∙ ap (parse_map (item value)) js.1) in
-      (all, (all, refl, faults (Item (length payloads + 1) wrong) (inl (wrong, has, refl))), whole)
+  read_wrong A wrong rest has passed = grind (arith, item, items_in, left_some, one_more, parse_map)
 
   -- or aren't
   pub read_bad : left (items_in depth r) ≡ None → items_in depth first ≡ None
@@ -58,8 +49,8 @@ pub read_all : {A : Type 0} (depth : ℕ) (first now rest : List Token) (v : Vec
     → AreReadSo depth first now v.items → json.after_end_array now ≡ Some rest
     → (js : Items) × TellRoas {A = A} (array js ∷ []) (Ok v) × (items_in depth first ≡ Some (js, rest))
 read_all depth first now rest v had end =
-    let ends = items_end (json.value depth) (length now) now rest (omega arith) end in
-    let (all, whole, are, _) = had.reads no_items rest ends in
+    let (all, whole, are, _) =
+    had.reads no_items rest (items_end (json.value depth) (length now) now rest (omega arith) end) in
     (all, (all, refl, rw append-nil at (are [] refl)), whole)
 
 -- What the members from `now` on, up to the end of their object, add to what is told, those from `first` on tell.
@@ -72,61 +63,43 @@ pub record IsToldSo {A : Type 0} (depth : ℕ) (first now : List Token)
       → (all : Members) × (members_in depth first ≡ Some (all, rest))
       × (values_in roas all ≡ values ++ values_in roas ms)
 
-pub told_none : {A : Type 0} (depth : ℕ) (first : List Token) → IsToldSo {A = A} depth first first (Err (Roas Missing))
-told_none depth first = record {
-  values = [];
-  is_told = refl;
-  fails = λ none. none;
-  reads = λ ms rest read. (ms, read, refl);
-}
+-- a member more, whose value is told with those before it
+pub told_more : {A : Type 0} (depth : ℕ) (first now s r : List Token) (key : List ℕ)
+    (told next : Result (Vec (MaxLenValue × ℕ) A) FileFault) (had : IsToldSo depth first now told)
+    → json.read_key now ≡ Some (Some key, s)
+    → (j : Json) × (json.value depth s ≡ Some (j, r))
+    × TellRoas (had.values ++ values_in roas (member key j no_members)) next → IsToldSo depth first r next
+told_more depth first now s r key told next had is_key (j, read, is) =
+    let one_more = a_member depth now s r key j is_key read in
+    record {
+      values = had.values ++ values_in roas (member key j no_members);
+      is_told = is;
+      fails = λ none. had.fails (one_more ∙ ap (parse_map (member key j)) none);
+      reads = λ ms rest behind.
+          let (all, whole, named) = had.reads (member key j ms) rest (one_more ∙ ap (parse_map (member key j)) behind) in
+          (all, whole, named ∙ grind (arith, append_assoc, append-nil));
+    }
 
-module _ {A : Type 0} (depth : ℕ) (first now s r : List Token) (key : List ℕ)
-    (told : Result (Vec (MaxLenValue × ℕ) A) FileFault) (had : IsToldSo depth first now told)
-    (is_key : json.read_key now ≡ Some (Some key, s)) where
-  -- a member more, whose value is told with those before it
-  more : (value : Json) (values : List Json) (next : Result (Vec (MaxLenValue × ℕ) A) FileFault) → TellRoas values next
-      → json.value depth s ≡ Some (value, r)
-      → ((ms : Members) → had.values ++ values_in roas (member key value ms) ≡ values ++ values_in roas ms)
-      → IsToldSo depth first r next
-  more value values next is read same =
-      let one_more = a_member depth now s r key value is_key read in
-      record {
-        values = values;
-        is_told = is;
-        fails = λ none. had.fails (one_more ∙ ap (parse_map (member key value)) none);
-        reads = λ ms rest behind.
-            let (all, whole, named) =
-            had.reads (member key value ms) rest (one_more ∙ ap (parse_map (member key value)) behind) in
-            (all, whole, named ∙ same ms);
-      }
-
+module _ {A : Type 0} (depth : ℕ) (s r : List Token) (key : List ℕ) (values : List Json)
+    (told : Result (Vec (MaxLenValue × ℕ) A) FileFault) (tells : TellRoas values told)
+    (passed : left (json.value depth s) ≡ Some r) where
   -- a member of another name is passed over
-  pub told_over : bytes_eq key roas ≡ false → left (json.value depth s) ≡ Some r → IsToldSo depth first r told
-  told_over other passed = grind (arith, left_some, more)
+  pub told_over : true ≡ not (bytes_eq key roas) → (j : Json) × (json.value depth s ≡ Some (j, r))
+      × TellRoas (values ++ values_in roas (member key j no_members)) told
+  told_over other = grind (arith, left_some, append-nil)
 
-  -- the first of the name
-  pub told_first : (next : Result (Vec (MaxLenValue × ℕ) A) FileFault) (value : Json) → bytes_eq key roas ≡ true
-      → told ≡ Err (Roas Missing) → TellRoas (value ∷ []) next → json.value depth s ≡ Some (value, r)
-      → IsToldSo depth first r next
-  told_first next value same missing is read = grind (arith, more)
-
-  -- another one
-  pub told_again : bytes_eq key roas ≡ true → (told ≡ Err (Roas Missing) → ⊥) → left (json.value depth s) ≡ Some r
-      → IsToldSo {A = A} depth first r (Err (Roas Repeated))
-  told_again same some passed =
-      let j = left_some (json.value depth s) r passed in
-      more j.0 (had.values ++ j.0 ∷ []) (Err (Roas Repeated)) (grind (arith, length-append)) j.1
-      (λ ms. grind (arith, append_assoc))
+  -- one more of the name
+  pub told_again : false ≡ not (bytes_eq key roas) → (IsTrue false ↔ (told ≡ Err (Roas Missing)))
+      → (j : Json) × (json.value depth s ≡ Some (j, r))
+      × TellRoas {A = A} (values ++ values_in roas (member key j no_members)) (Err (Roas Repeated))
+  told_again same some = grind (arith, left_some, length-append)
 
 -- no member is left
 pub told_all : {A : Type 0} (depth : ℕ) (first now rest : List Token)
     (told : Result (Vec (MaxLenValue × ℕ) A) FileFault) → IsToldSo depth first now told
     → json.read_key now ≡ Some (None, rest)
     → (ms : Members) × TellRoas (values_in roas ms) told × (members_in depth first ≡ Some (ms, rest))
-told_all depth first now rest told had end =
-    let ends = members_end (json.value depth) (length now) now rest (omega arith) end in
-    let (all, whole, named) = had.reads no_members rest ends in
-    (all, rw (named, append-nil) had.is_told, whole)
+told_all depth first now rest told had end = grind (arith, append-nil, members_end, no_members)
 
 -- ---- a value of the member, by its first token
 

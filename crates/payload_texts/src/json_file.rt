@@ -39,7 +39,6 @@ pub(crate) fn read_json<A: Allocator + Copy>(
 }
 
 /// What an object tells of `roas`.
-#[tactic(auto, using(crate::proofs::JsonLemmas::none_in, crate::proofs::JsonLemmas::object_in))]
 fn read_object<A: Allocator + Copy>(alloc: A, text: &str) -> Result<Roas<A>, Error>
     ensures told { IfOk result (λ told. (ms : Members)
         × (document text.now ≡ Some (object ms)) × TellRoas (values_in roas ms) told) }

@@ -61,7 +61,6 @@ impl fmt::Display for Member {
 }
 
 /// The value of the one member of this name.
-#[tactic(auto, using(crate::proofs::MemberLemmas::other_named, crate::proofs::MemberLemmas::one_named))]
 fn only<'v, 'a, A: Allocator>(
     members: &'v Vec<(&'a str, Value<'a, A>), A>,
     name: &str,

@@ -1,6 +1,6 @@
 //! The list of payloads in a file of JSON.
-ghost use Rattle.std.specs.Prelude.{◌≡◌, ◌<◌, ◌↔◌, [], ◌∷◌, IfOk, IsTrue, MatchResult, OnOk, Some, None, Err, length};
-ghost use Rattle.json.specs.Json.{Json, Items, Members, array, value, items, members};
+ghost use Rattle.std.specs.Prelude.{◌≡◌, ◌<◌, ◌↔◌, List, [], ◌∷◌, ◌++◌, IfOk, IsTrue, MatchResult, OnOk, Some, None, Err, length};
+ghost use Rattle.json.specs.Json.{Json, Items, Members, array, value, items, member, members, no_members};
 ghost use Rattle.payload_texts.specs.declared.fault.FileFault.TheVariants.{Roas};
 ghost use Rattle.payload_texts.specs.declared.fault.MemberFault.TheVariants.{Missing};
 ghost use Rattle.json.specs.Reads.{skip_items, skip_members};
@@ -18,7 +18,6 @@ use std::alloc::Allocator;
 pub(crate) type Roas<A> = Result<Vec<(MaxLenPrefix, Asn), A>, FileFault>;
 
 /// What the members of an object tell of `roas`, up to the object's end.
-#[tactic(auto, using(crate::proofs::GrammarLemmas::steps, crate::proofs::RoasLemmas::told_none, crate::proofs::RoasLemmas::told_again, crate::proofs::RoasLemmas::told_first, crate::proofs::RoasLemmas::told_over))]
 pub(crate) fn read_members<A: Allocator + Copy>(
     alloc: A,
     reader: &mut Reader<'_>,
@@ -32,16 +31,35 @@ pub(crate) fn read_members<A: Allocator + Copy>(
 {
     let mut told = Err(FileFault::Roas(MemberFault::Missing));
     while let Some(key) = reader.next_key()? {
-        if key != "roas" {
-            reader.skip_value(depth)?;
-        } else if is_missing(&told) {
-            told = read_list(alloc, reader, depth)?;
-        } else {
-            reader.skip_value(depth)?;
-            told = Err(FileFault::Roas(MemberFault::Repeated));
-        }
+        told = read_member(alloc, reader, depth, key, told)?;
     }
     Ok(told)
+}
+
+/// What is told with one member more, whose value follows.
+fn read_member<A: Allocator + Copy>(
+    alloc: A,
+    reader: &mut Reader<'_>,
+    depth: usize,
+    key: &str,
+    told: Roas<A>,
+) -> Result<Roas<A>, Error>
+    requires { 0 < depth }
+    ensures tells { (values : List Json) → TellRoas values told
+        → IfOk result (λ told. (j : Json) × (value depth reader.old ≡ Some (j, reader.new))
+        × TellRoas (values ++ values_in roas (member key.now j no_members)) told) }
+    ensures invalid { result ≡ Err Error.Invalid → value depth reader.old ≡ None }
+    ensures shorter { OnOk result (length reader.new < length reader.old) }
+{
+    if key != "roas" {
+        reader.skip_value(depth)?;
+        Ok(told)
+    } else if is_missing(&told) {
+        read_list(alloc, reader, depth)
+    } else {
+        reader.skip_value(depth)?;
+        Ok(Err(FileFault::Roas(MemberFault::Repeated)))
+    }
 }
 
 /// Whether no member `roas` was read yet.
@@ -79,7 +97,6 @@ fn read_list<A: Allocator + Copy>(
 }
 
 /// What the items of an array tell, up to the array's end.
-#[tactic(auto, using(json::proofs::Grammar::items_fail, crate::proofs::RoasLemmas::read_none))]
 fn read_items<A: Allocator + Copy>(
     alloc: A,
     reader: &mut Reader<'_>,

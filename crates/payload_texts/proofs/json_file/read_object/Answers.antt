@@ -1,19 +1,24 @@
-use Rattle.payload_texts.proofs.Common.{None, arith, true, ◌≡◌, MatchBool-at_true, token_of}
-use Rattle.payload_texts.proofs.GrammarLemmas.{members_in}
-use Rattle.payload_texts.proofs.JsonLemmas.{more_in, wrong_in}
+use Rattle.payload_texts.proofs.Common.{arith, token_of}
+use Rattle.payload_texts.proofs.JsonLemmas.{more_in, none_in, object_in, wrong_in}
 use Rattle.payload_texts.proofs.json_file.read_object.Goals as goal
+
+pub returns-then-not-begins_object-clause-invalid : goal.returns-then-not-begins_object-clause-invalid
+returns-then-not-begins_object-clause-invalid g c invalid =
+    none_in _ _ c.in_ok-reader.ensures.ok c.if-not-begins_object.ensures
 
 pub returns-in_err-told-clause-invalid : goal.returns-in_err-told-clause-invalid
 returns-in_err-told-clause-invalid g c invalid =
-    let yes : c.begins_object.result ≡ true = grind arith in
-    let failed : members_in 127 c.begins_object.new.reader ≡ None = grind arith in
-    wrong_in c.args.text.now c.in_ok-reader.reader c.in_ok-reader.ensures.ok c.begins_object.new.reader
-    (MatchBool-at_true _ _ yes c.begins_object.ensures) failed
+    wrong_in _ _ c.in_ok-reader.ensures.ok _ c.if-not-begins_object.ensures
+    (c.in_err-told.ensures.invalid (grind arith))
+
+pub returns-in-None-clause-told : goal.returns-in-None-clause-told
+returns-in-None-clause-told g c =
+    let (ms, tells, read) = c.in_ok-told.ensures.told in
+    let opens = c.if-not-begins_object.ensures in
+    (ms, object_in _ _ c.in_ok-reader.ensures.ok _ opens _ ms read c.in-None.ensures.value.0, tells)
 
 pub returns-clause-invalid : goal.returns-clause-invalid
 returns-clause-invalid g c invalid =
-    let yes : c.begins_object.result ≡ true = grind arith in
-    let ms = c.in_ok-told.ensures.told in
-    more_in c.args.text.now c.in_ok-reader.reader c.in_ok-reader.ensures.ok c.begins_object.new.reader
-    (MatchBool-at_true _ _ yes c.begins_object.ensures) _ _ (token_of c.in-Some.field-0) ms.0 ms.2
+    let (ms, _, read) = c.in_ok-told.ensures.told in
+    more_in _ _ c.in_ok-reader.ensures.ok _ c.if-not-begins_object.ensures _ _ (token_of c.in-Some.field-0) ms read
     c.in-Some.ensures.value

@@ -1,10 +1,18 @@
-use Rattle.payload_texts.proofs.Common.{[], arith, length, ◌++◌, ◌∷◌, ◌≡◌}
+use Rattle.payload_texts.proofs.Common.{[], arith, items_fail, length, ◌++◌, ◌∷◌, ◌≡◌}
 use Rattle.payload_texts.proofs.RoasLemmas.{read_all, read_bad, read_more, read_wrong}
 use Rattle.payload_texts.proofs.roas.read_items.Goals as goal
 
+pub loop-alloc-init : goal.loop-alloc-init
+loop-alloc-init g c = record { read = rw c.new-payloads.ensures.items (grind arith); within = omega arith }
+
+pub returns-in_err-item-clause-invalid : goal.returns-in_err-item-clause-invalid
+returns-in_err-item-clause-invalid g c invalid =
+    let (going, same) = c.loop-alloc-test.ensures in
+    c.loop-alloc.invariant.read.fails (items_fail _ _ _ going (rw same at c.in_err-item.ensures.invalid (grind arith)))
+
 pub returns-in_err-skip_items-in-Err-clause-invalid : goal.returns-in_err-skip_items-in-Err-clause-invalid
 returns-in_err-skip_items-in-Err-clause-invalid g c invalid =
-    read_bad _ _ _ _ _ _ _ c.loop-alloc.invariant.read c.in_ok-item.ensures.ok (grind arith)
+    read_bad _ _ _ _ _ _ _ c.loop-alloc.invariant.read c.in_ok-item.ensures.ok c.loop-alloc-test.ensures
     c.in_err-skip_items-in-Err.ensures.read
 
 -- the first item that is wrong
@@ -12,18 +20,16 @@ pub returns-in-Err-clause-told : goal.returns-in-Err-clause-told
 returns-in-Err-clause-told g c =
     let len : c.len-place.result ≡ length c.loop-alloc.payloads.items = grind arith in
     rw len
-    (read_wrong _ _ _ _ _ _ _ c.loop-alloc.invariant.read c.in_ok-item.ensures.ok (grind arith) g.row.A.Denot
+    (read_wrong _ _ _ _ _ _ _ c.loop-alloc.invariant.read c.in_ok-item.ensures.ok c.loop-alloc-test.ensures g.row.A.Denot
     c.in-Err.fault c.skip_items.new.reader c.in-Err.ensures c.in_ok-skip_items-in-Err.ensures.read)
 
 -- a payload more
 pub loop-alloc-preserved-else-is_err-2 : goal.loop-alloc-preserved-else-is_err-2
 loop-alloc-preserved-else-is_err-2 g c =
-    let more = read_more _ _ _ _ _ _ _ c.loop-alloc.invariant.read c.in_ok-item.ensures.ok (grind arith) in
+    let more = read_more _ _ _ _ _ _ _ c.loop-alloc.invariant.read c.in_ok-item.ensures.ok c.loop-alloc-test.ensures in
     let pushed : c.push.new.self.items ≡ c.loop-alloc.payloads.items ++ c.in-Ok.payload ∷ [] = grind arith in
     record { read = rw pushed (more c.in-Ok.payload c.in-Ok.ensures); within = grind arith }
 
 -- no item is left
 pub returns-clause-told : goal.returns-clause-told
-returns-clause-told g c =
-    let l = c.loop-alloc in
-    read_all c.args.depth _ l.reader c.take_end_array.new.self l.payloads l.invariant.read (grind arith)
+returns-clause-told g c = read_all _ _ _ _ c.loop-alloc.payloads c.loop-alloc.invariant.read c.loop-alloc-test.ensures

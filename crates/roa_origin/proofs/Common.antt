@@ -2,7 +2,8 @@
 pub use Rattle.std.proofs.Common.{All, AllPairs, Any, Bool, Contains, IsTrue, List, None, Option, [], ap, append_assoc, arith, drop, false, get_or, inl, inr, leb, length, length-append, length-drop, lit≤, ltb, map, refl, reverse, rules, slice_index, slice_index_or, subst, suc, sym, take, true, zero, ℕ, ◌&&◌, ◌*◌, ◌++◌, ◌+◌, ◌-◌, ◌/◌, ◌<◌, ◌==◌, ◌^◌, ◌↔◌, ◌∙◌, ◌∷◌, ◌≡◌, ◌≢◌, ◌≤◌, ◌⊎◌}
 pub use Rattle.std.proofs.Math.Seq.{take-suc}
 pub use Rattle.std.proofs.lemmas.Bool.{and_parts, cases_lt, cases_order, eq-eqb, eqb-true, le-leb, leb-false, leb-true, ltb-false, ltb-true}
-pub use Rattle.std.proofs.lemmas.List.{append-nil, get_or-drop, get_or-map, get_or-take, get_or_append_left, get_or_default, get_or_push, length-map, length-take, length-take-le, length_push, map-append, map_more, reverse-append, reverse-reverse, take_all, take_more}
+pub use Rattle.std.proofs.lemmas.Grind.{common_steps}
+pub use Rattle.std.proofs.lemmas.List.{append-nil, get_or-drop, get_or-map, get_or-take, get_or_append_left, get_or_default, get_or_push, length-map, length-take, length-take-le, length_push, map-append, reverse-append, reverse-reverse, take_all, take_more}
 pub use Rattle.std.proofs.lemmas.List.Elements.{All-append, All-contains, All-drop, All-filter, All-head, All-map, All-push, All-tail, All-take, Contains-append_cases, Contains-append_left, Contains-append_right, Contains-get_or, Contains-push, Contains-push_cases, filter_more, filter_passes}
 pub use Rattle.std.proofs.lemmas.List.Kept.{AllPairs-cons, Contains-dedup, Contains-from_dedup, IsNonDecreasingBy-filter, IsStrictlySortedBy-dedup}
 pub use Rattle.std.proofs.lemmas.List.Quantifiers.{all_pairs_push}

@@ -1,6 +1,6 @@
 -- The first bits of addresses: how many numbers they write, and that they follow the order of places. So a prefix is
 -- sought between two places.
-use Rattle.roa_origin.proofs.Common.{List, arith, get_or, lit≤, slice_index, subst, ℕ, ◌*◌, ◌+◌, ◌-◌, ◌/◌, ◌<◌, ◌^◌, ◌≡◌, ◌≤◌, get_or_default, le-div, pow_pos, shr_below, FamilyPrefix, IsFamilyPrefix, address_number, width, IsInOrder, Payload, payload_place, place, first_bits, Link}
+use Rattle.roa_origin.proofs.Common.{List, [], arith, get_or, length, lit≤, slice_index, subst, ℕ, ◌*◌, ◌+◌, ◌-◌, ◌/◌, ◌<◌, ◌^◌, ◌≡◌, ◌≤◌, ◌++◌, ◌∷◌, common_steps, get_or_default, le-div, pow_pos, shr_below, FamilyPrefix, IsFamilyPrefix, address_number, width, IsInOrder, Payload, payload_place, place, IsStart, first_bits, Link}
 use Rattle.std.proofs.Math.Nat.{div-mul-le_self, pow-le-pow_right}
 use Rattle.roa_origin.proofs.Nested.{len_small}
 use Rattle.roa_origin.proofs.Walks.{nowhere, prefix_of}
@@ -27,6 +27,12 @@ first_up n p q few is is' le =
     let same = up (width p.addr - n) (address_number p.addr) (address_number q.addr) in
     let part = first_part (width p.addr) n (address_number p.addr) in
     grind (arith, same, part, len_small p is, len_small q is', is.below, is'.below)
+
+-- the start of one number more
+pub starts_more : (n : ℕ) (xs : List Payload) (starts : List ℕ) (number at : ℕ) → length starts ≡ number
+    → ((k : ℕ) → k < number → IsStart n xs k (slice_index starts k)) → IsStart n xs number at → (k : ℕ)
+    → k < number + 1 → IsStart n xs k (slice_index (starts ++ at ∷ []) k)
+starts_more n xs starts number at len each is k small = grind (arith, common_steps)
 
 -- a prefix is sought between the start of its first bits and that of the next number
 pub between_starts : (n : ℕ) (xs : List Payload) (starts : List ℕ) (p : FamilyPrefix) (number : ℕ)

@@ -1,5 +1,5 @@
 -- What changes in order say of the list that they came in.
-use Rattle.roa_origin.proofs.Common.{All, Any, Contains, List, [], ap, arith, get_or, length, map, sym, take, ℕ, ◌++◌, ◌+◌, ◌<◌, ◌↔◌, ◌∙◌, ◌∷◌, ◌≡◌, ◌≤◌, cases_lt, get_or-map, get_or-take, get_or_append_left, get_or_default, get_or_push, length-map, length-take, length_push, map-append, map_more, take_all, All-contains, All-push, All-permutation, IsPermutation-map, IsPermutation-refl, IsPermutation-trans, IsNonDecreasingBy, IsPermutation, IsLawfulPayload, Payload, sent_place, as_sent, AreChangesOf, AreSorted, IsFirstPlace, IsLawfulChange, IsOf, IsOfBefore, IsSearched, IsSentIn, sent_change, Change}
+use Rattle.roa_origin.proofs.Common.{All, Any, Contains, List, [], ap, arith, get_or, length, map, sym, take, ℕ, ◌++◌, ◌+◌, ◌<◌, ◌↔◌, ◌∙◌, ◌∷◌, ◌≡◌, ◌≤◌, common_steps, cases_lt, get_or-map, get_or-take, get_or_default, length-map, length-take, take_all, All-contains, All-permutation, IsPermutation-map, IsPermutation-refl, IsPermutation-trans, IsNonDecreasingBy, IsPermutation, IsLawfulPayload, Payload, sent_place, as_sent, AreChangesOf, AreSorted, IsFirstPlace, IsLawfulChange, IsOf, IsOfBefore, IsSearched, IsSentIn, sent_change, Change}
 use Rattle.roa_origin.proofs.Found.{any_moved, found}
 use Rattle.roa_origin.proofs.Places.{lower, upper}
 use Rattle.roa_origin.proofs.Sent.{same_sent, sent_same}
@@ -41,13 +41,7 @@ listed {xs} {n} {cs} far all = record {
 pub one_listed : {xs : List Payload} {n : ℕ} {cs : List Change} → AreListed xs n cs → (x : Payload) (c : Change)
     → n < length xs → x ≡ get_or xs n x → c.entry ≡ as_sent x → c.place ≡ n → IsLawfulChange c
     → AreListed xs (n + 1) (cs ++ c ∷ [])
-one_listed {xs} {n} {cs} far x c small is entry place lawful = record {
-  same = rw (map-append, map_more as_sent xs n x small, far.same, entry, ← is);
-  lawful = All-push IsLawfulChange cs c far.lawful lawful;
-  many = omega (arith, far.many, length_push cs c);
-  places = λ k d inside.
-      grind (arith, cases_lt k (length cs), far.places k d, get_or_append_left, get_or_push, length_push);
-}
+one_listed {xs} {n} {cs} far x c small is entry place lawful = grind (arith, common_steps)
 
 -- a change stands at the place of its payload
 abbrev StandsIn : List Payload → Change → Type 0

@@ -62,5 +62,4 @@ moved_last kept some list x moved = rw (← append_assoc kept some (x ∷ [])) (
 pub moved_middle : {X : Type 0} (kept some list : List X) (x : X) → IsPermutation (kept ++ some) list
     → IsPermutation ((kept ++ x ∷ []) ++ some) (list ++ x ∷ [])
 moved_middle kept some list x moved =
-    let front = IsPermutation-sym (kept ++ x ∷ some) (x ∷ (kept ++ some)) (IsPermutation-middle kept x some) in
-    rw append_assoc (IsPermutation-sym _ _ (IsPermutation-push_more list _ _ x (IsPermutation-sym _ _ moved) front))
+    grind (arith, IsPermutation-middle, IsPermutation-push_more, IsPermutation-sym, append_assoc)

@@ -68,8 +68,7 @@ module _ {table : List Payload} {withdrawn announced : List Change} {at gone com
         let next = stays_at (λ q. ¬ Any (IsOf q) withdrawn) table m.kept at p small is m.stays in
         let listed : IsMergedOf (take (at + 1) table) withdrawn (take come announced) list =
         record { kept = m.kept; stays = next.1 (λ none. none there); has = m.has } in
-        let merged = skipped so_far.merged in
-        grind (arith, so_far.passed)
+        grind (arith, so_far.passed, skipped so_far.merged)
 
     -- or stays
     pub remains : ¬ Any (IsOf p) withdrawn
@@ -81,8 +80,7 @@ module _ {table : List Payload} {withdrawn announced : List Change} {at gone com
         let next = stays_at (λ q. ¬ Any (IsOf q) withdrawn) table m.kept at p small is m.stays in
         let listed : IsMergedOf (take (at + 1) table) withdrawn (take come announced) (list ++ p ∷ []) =
         record { kept = m.kept ++ p ∷ []; stays = next.0 stays; has = moved_middle m.kept _ list p m.has } in
-        let merged = taken so_far.merged p p refl so_far.order.ranked ups small (sym is) le in
-        grind (arith, so_far.passed)
+        grind (arith, so_far.passed, taken so_far.merged p p refl so_far.order.ranked ups small (sym is) le)
 
   -- the list is in order at the end
   pub in_order : IsInOrder list
@@ -92,9 +90,8 @@ module _ {table : List Payload} {withdrawn announced : List Change} {at gone com
       let each = λ (k : ℕ) (c : Change) (small : k < length announced). (so_far.come_order.lawful k c small).payload in
       let old = All-those _ IsLawfulPayload _ l.kept l.stays all in
       let new = All-map IsLawfulPayload entry_of _ (All-take (λ c. IsLawfulPayload c.entry) come announced each) in
-      let payloads = All-permutation IsLawfulPayload _ list l.has (All-append IsLawfulPayload l.kept _ old new) in
-      let ranked = so_far.merged.ordered in
-      record { payloads = payloads; ordered = by_places list payloads ranked; ranked = ranked }
+      let these = All-permutation IsLawfulPayload _ list l.has (All-append IsLawfulPayload l.kept _ old new) in
+      record { payloads = these; ordered = by_places list these so_far.merged.ordered; ranked = so_far.merged.ordered }
 
 -- a run of the table's payloads comes before the next that is withdrawn, and no later than the next announced
 module _ {table : List Payload} {withdrawn announced : List Change} {at gone come end : ℕ} {list : List Payload}

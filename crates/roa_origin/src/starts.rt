@@ -41,7 +41,6 @@ fn start_from(payloads: &[Entry], bits: u8, number: usize, from: usize) -> usize
 }
 
 /// The starts of all numbers that the first bits of an address write, and the end. One walk along the payloads.
-#[tactic(auto, using(std::proofs::lemmas::Grind::common_steps))]
 pub(crate) fn starts<A: Allocator>(
     alloc: A,
     payloads: &[Entry],

@@ -69,7 +69,6 @@ fn cmp_numbers(one: usize, other: usize) -> Ordering
 }
 
 /// The changes of a list of payloads, in its order.
-#[tactic(auto, using(crate::proofs::Listed::one_listed))]
 fn listed_changes<A: Allocator>(
     alloc: A,
     payloads: &[(MaxLenPrefix, Asn)],

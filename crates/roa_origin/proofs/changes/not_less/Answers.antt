@@ -5,7 +5,6 @@ use Rattle.roa_origin.proofs.changes.not_less.Goals as goal
 
 pub loop-at-preserved : goal.loop-at-preserved
 loop-at-preserved c =
-    let xs = c.args.payloads.now in
     let at = c.loop-at.at in
     let x : Payload = c.index-payloads-at.result in
     let here : payload_cmp x c.args.payload.now ≡ Less = less_of _ (cc) in
@@ -16,6 +15,6 @@ loop-at-preserved c =
         | inl old ↦ c.loop-at.invariant.2 k d from old
         | inr new ↦ (
             let same : k ≡ at = omega (arith, low, new) in
-            rw (same, ← get_or_default xs at x d there, ← c.index-payloads-at.is) here)
+            rw (same, ← get_or_default c.args.payloads.now at x d there, ← c.index-payloads-at.is) here)
       ],
     )

@@ -6,8 +6,8 @@ use Rattle.roa_origin.proofs.links.nearest.Goals as goal
 pub loop-at-smaller : goal.loop-at-smaller
 loop-at-smaller c =
     let at = c.loop-at.at in
-    let far = c.loop-at.invariant.0 in
-    let inside : at - 1 < length c.args.links.now = omega (arith, c.loop-at-test.true, far, c.requires.within) in
+    let inside : at - 1 < length c.args.links.now =
+    omega (arith, c.loop-at-test.true, c.loop-at.invariant.0, c.requires.within) in
     fewer c.args.payloads.now at _ c.loop-at-test.true (λ d. (c.requires.linked (at - 1) d _ inside).shorter d)
 
 pub loop-at-preserved : goal.loop-at-preserved

@@ -11,8 +11,8 @@ loop-place-preserved g c =
     elim c.if-differ.branch [
       | then-differ+in_ok-push e ↦
           rw (e.places-is, e.in_ok-push.ensures.items)
-          (one_more c.loop-place.invariant (grind (arith, e.if-differ.true)))
-      | else-differ e ↦ rw e.places-is (none_more c.loop-place.invariant (grind (arith, e.if-differ.false)))
+          (one_more c.loop-place.invariant (here.0 (c.differ.ensures.0 e.if-differ.true)))
+      | else-differ e ↦ rw e.places-is (none_more c.loop-place.invariant (λ is. cc (c.differ.ensures.1 (here.1 is))))
     ]
 
 pub returns : goal.returns

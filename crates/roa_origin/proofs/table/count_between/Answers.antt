@@ -15,18 +15,15 @@ counted c =
 
 pub returns-clause-up_to : goal.returns-clause-up_to
 returns-clause-up_to c k d small =
-    let xs = c.args.payloads.now in
     let a = c.args.from in
-    let wide = piece_length xs a c.args.to c.requires.between.within in
+    let wide = piece_length _ a c.args.to c.requires.between.within in
     let at = (counted c).before (k - a) d in
     let front = c.requires.between.up_to k d in
-    grind (arith, c.partition_point.ensures.bound, cases_lt k a, piece_at xs a c.args.to k d)
+    grind (arith, c.partition_point.ensures.bound, cases_lt k a, piece_at c.args.payloads.now a c.args.to k d)
 
 pub returns-clause-later : goal.returns-clause-later
 returns-clause-later c k d from small =
-    let xs = c.args.payloads.now in
     let a = c.args.from in
-    let wide = piece_length xs a c.args.to c.requires.between.within in
+    let wide = piece_length _ a c.args.to c.requires.between.within in
     let at = (counted c).from (k - a) d in
-    let rest = c.requires.between.later k d in
-    grind (arith, cases_lt k c.args.to, piece_at xs a c.args.to k d)
+    grind (arith, cases_lt k c.args.to, piece_at c.args.payloads.now a c.args.to k d, c.requires.between.later k d)

@@ -14,7 +14,6 @@ returns c =
     let behind = c.addresses_behind in
     let reach : behind.result + 1 ≡ 2 ^ (width p.addr - p.len) = rw (← c.self.view_is) at behind.ensures in
     let both = by_distance p q behind.result c.self.invariant.0 c.route.invariant.0 family c.if-route-self.false in
-    let one = number_of e.is_v6 e.bits in
-    let other = number_of f.is_v6 f.bits in
+    let numbers = number_of f.is_v6 f.bits in
     rw (← c.self.view_is, ← c.route.view_is)
-    (grind (arith, both, reach, c.if-route-self-2.false, le-leb, leb-true))
+    (grind (arith, both, reach, c.if-route-self-2.false, le-leb, leb-true, number_of e.is_v6 e.bits))

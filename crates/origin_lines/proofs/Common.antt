@@ -4,7 +4,7 @@ pub use Rattle.std.proofs.lemmas.List.{append-nil, length-append, map-append}
 pub use Rattle.std.proofs.lemmas.List.Sorted.{Contains-permutation, IsPermutation-map, IsPermutation-reverse, IsPermutation-sym}
 pub use Rattle.std.specs.List.{AllPairs, Contains, after_first, after_last, before_first, position_or_len, suffix_len}
 pub use Rattle.std.specs.List.Sorted.{IsNonDecreasingBy, IsPermutation}
-pub use Rattle.std.specs.Prelude.{codes, slice_get}
+pub use Rattle.std.specs.Prelude.{slice_get}
 pub use Rattle.std.specs.Str.{IsUtf8, trim}
 pub use Rattle.std.specs.String.{string_bytes}
 pub use Rattle.roa_origin.specs.Coverings.{AreThose}
@@ -12,9 +12,9 @@ pub use Rattle.roa_origin.specs.Payloads.{CoversRoute, IsLawfulPayload, Payload,
 pub use Rattle.roa_origin.specs.Tables.{as_sent}
 pub use Rattle.rpki_prefix.specs.Values.{FamilyPrefix, IsFamilyPrefix}
 pub use Rattle.origin_lines.specs.Answers.{IsOriginAnswer, TellsIf, TellsRoute}
-pub use Rattle.origin_lines.specs.Explanations.{IsExplanation, IsReason, IsToldBefore, TellsEach, TellsNext, TellsWhy, told_text}
+pub use Rattle.origin_lines.specs.Explanations.{IsExplanation, IsReason, IsToldBefore, TellsEach, TellsNext, told_text}
 pub use Rattle.origin_lines.specs.Outcomes.{IsOutcomeOf, asked_asn, outcome_text}
-pub use Rattle.origin_lines.specs.Routes.{AreRouteWords, HasDumpFault, HasFaultBy, HasLineFault, HasRouteFault, HasWordFault, HaveWordsFault, IsAsnOrigin, IsDumpRoute, IsFieldAt, IsLineOf, IsNoAsnText, IsNoDump, IsNoFieldAt, IsPathPlace, IsRouteBy, IsRouteLine, IsWordOrigin, fields_of, is_bar, last_word, origin_word, prefix_word, route_fault_text}
+pub use Rattle.origin_lines.specs.Routes.{AreRouteWords, HasDumpFault, HasFaultBy, HasLineFault, HasRouteFault, HasWordFault, HaveWordsFault, IsAsnOrigin, IsDumpRoute, IsFieldAt, IsLineOf, IsNoAsnText, IsNoFieldAt, IsPathPlace, IsRouteBy, IsRouteLine, IsWordOrigin, fields_of, is_bar, last_word, origin_word, prefix_word, route_fault_text}
 pub use Rattle.origin_lines.specs.Words.{fault_line, is_gap}
 pub use Rattle.origin_lines.specs.declared.explanation.Reason.{Reason}
 pub use Rattle.origin_lines.specs.declared.outcome.Outcome.{Outcome}

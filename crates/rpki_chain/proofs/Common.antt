@@ -17,7 +17,7 @@ pub use Rattle.rpki_der.specs.Der.{EachFrom, IsBytes, IsNothing, IsSequence, IsT
 pub use Rattle.rpki_der.specs.Reading.{IsModal, IsReading, Tightens, nothing, value_at}
 pub use Rattle.rpki_der.specs.declared.error.DerError.{DerError}
 pub use Rattle.rpki_text.proofs.ListLemmas.{AnswersOrMemory-from_found}
-pub use Rattle.rpki_text.specs.Memory.{IfRefused, IsMemory}
+pub use Rattle.rpki_text.specs.Memory.{IfRefused}
 pub use Rattle.rpki_text.specs.declared.memory.OrMemory.{OrMemory}
 pub use Rattle.rpki_text.specs.declared.memory.OrMemory.TheVariants.{Memory, Refused}
 pub use Rattle.rpki_chain.specs.BlockSets.{IsBlockChain, IsBlockSet}

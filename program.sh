@@ -110,8 +110,9 @@ bytes_of() {
     done | wc -c
 }
 
-# The processors for a crate: its share by its sources among those that can be proved now, and at least one. Several
-# take up to half of their time more than one would, so that crates side by side have one each, and one alone has all.
+# The jobs for a crate: its share of the processors, by its sources, among the crates that can be proved now; from one
+# to four. Four jobs take half more time of the processors than one, so crates side by side have one each where they
+# can; and each job may take 1.5 GB of memory.
 jobs_for() {
     own_bytes=$(bytes_of "$1")
     # shellcheck disable=SC2046 # names of crates
@@ -119,6 +120,7 @@ jobs_for() {
     [ "$open_bytes" -gt "$own_bytes" ] || open_bytes=$((own_bytes + 1)) # alone, or no marks: another one failed
     jobs=$((($(nproc) * own_bytes + open_bytes / 2) / open_bytes))
     [ "$jobs" -gt 0 ] || jobs=1
+    [ "$jobs" -le 4 ] || jobs=4
     echo "$jobs"
 }
 

@@ -115,9 +115,11 @@ fn of_triples(
     operands: &str,
 ) -> Result<String, AllocError> {
     let (left, right) = cut(operands, '|');
-    let before = Asked::of(counting);
     match call {
-        "lists" => of_reading(alloc, counting, before, triples::read(counting, left)),
+        "lists" => {
+            let before = Asked::of(counting);
+            of_reading(alloc, counting, before, triples::read(counting, left))
+        }
         _ => of_sets(alloc, counting, counting, call, (left, right)),
     }
 }

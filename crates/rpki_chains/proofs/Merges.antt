@@ -3,7 +3,6 @@ use Rattle.rpki_chains.proofs.Imports.{List, Some, None, [], arith, drop, get_or
 use Rattle.std.proofs.Common.{IfOk, Result}
 use Rattle.rpki_chains.proofs.Chains.{Covers-nil, Covers-push_as, element_at, IsChainOf-from, IsChain-from, chain_of_same}
 use Rattle.rpki_chains.proofs.Counts.{IsReader, reader_next}
-use Rattle.rpki_chains.specs.Walks.{IsAtHand}
 use Rattle.rpki_chains.proofs.Joining.{Turn, first_run, closed_run}
 use Rattle.rpki_chains.proofs.Sides.{IsAt, ordered_at, covers_at, before_next}
 use Rattle.rpki_chains.proofs.Shortest.{IsChain-shortest}
@@ -162,21 +161,21 @@ module _ {B I : Type 0} {f : B → ℕ × ℕ} {form : ℕ × ℕ → B} (number
 
 module _ {B I : Type 0} {f : B → ℕ × ℕ} {form : ℕ × ℕ → B} {number : I → ℕ} {last : ℕ} where
   -- walks over two lists begin with the block that begins first
-  pub walks_start : {xs ys : List B} {b d run : I × I} → IsAtHand f form number last xs 0 b
-      → IsAtHand f form number last ys 0 d → number run.0 ≤ number b.0 → number run.0 ≤ number d.0
+  pub walks_start : {xs ys : List B} {b d run : I × I} → IsChain f form xs → IsChain f form ys
+      → HoldsBlock f number last xs 0 (Some b) → HoldsBlock f number last ys 0 (Some d) → number run.0 ≤ number b.0 → number run.0 ≤ number d.0
       → (run ≡ b) ⊎ (run ≡ d) → (count other_count : ℕ)
       → Walk f form number last (λ n. Covers f xs n ⊎ Covers f ys n) (λ n. Covers f ys n) xs xs 0 count
       (count + (length xs - 1)) b run []
       × Walk f form number last (λ n. Covers f xs n ⊎ Covers f ys n) (λ n. Covers f xs n) ys ys 0 other_count
       (other_count + (length ys - 1)) d run []
-  walks_start {xs} {ys} {b} {d} {run} own other begins other_begins one count other_count =
+  walks_start {xs} {ys} {b} {d} {run} chain other_chain at other_at begins other_begins one count other_count =
       let All : ℕ → Type 0 = λ n. Covers f xs n ⊎ Covers f ys n in
       let first : IsBehind f form last [] (numbers number run) × ((n : ℕ) → IsWithin (numbers number run) n → All n) =
       ⊎_elim
-      (λ (e : run ≡ b). rw e (first_block number own.chain own.block All (λ n. inl)))
-      (λ (e : run ≡ d). rw e (first_block number other.chain other.block All (λ n. inr))) one in
+      (λ (e : run ≡ b). rw e (first_block number chain at All (λ n. inl)))
+      (λ (e : run ≡ d). rw e (first_block number other_chain other_at All (λ n. inr))) one in
       let held = λ (n : ℕ). held_first f (numbers number run) All n (first.1 n) in (
-        walk_from first.0 own.chain own.block begins held (record { kept = refl; reads = le_refl _ }),
-        walk_from first.0 other.chain other.block other_begins (λ n. swapped (held n))
+        walk_from first.0 chain at begins held (record { kept = refl; reads = le_refl _ }),
+        walk_from first.0 other_chain other_at other_begins (λ n. swapped (held n))
             (record { kept = refl; reads = le_refl _ }),
       )

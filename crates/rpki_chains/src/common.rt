@@ -1,6 +1,6 @@
 //! The numbers that two chains have in common.
-ghost use Rattle.std.specs.Prelude.{◌≡◌, ◌+◌, ◌-◌, ◌^◌, ◌<◌, ◌≤◌, ◌⊎◌, Some, length, take, IfOk, OnOk};
-ghost use Rattle.rpki_chains.specs.Sets.{Covers, IsChain, IsChainOf, numbers};
+ghost use Rattle.std.specs.Prelude.{◌≡◌, ◌+◌, ◌-◌, ◌≤◌, ◌⊎◌, Some, length, take, IfOk, OnOk};
+ghost use Rattle.rpki_chains.specs.Sets.{Covers, IsChainOf, numbers};
 ghost use Rattle.rpki_chains.specs.Common.{IsCommonPushed};
 ghost use Rattle.rpki_chains.specs.Overhang.{IsOverhang};
 ghost use Rattle.rpki_chains.specs.Walks.{IsReadOn};
@@ -130,10 +130,6 @@ fn push_behind<T: Block, A: Allocator, X: Reads<T>, Y: Reads<T>>(
           other = Some other_block;
         }) }
     requires before { chain.old.items ≡ take own_at (X.blocks own.old) }
-    requires own { IsChain T.bounds T.form (X.blocks own.old) ×
-        (length (X.blocks own.old) < 2 ^ 64) }
-    requires other { IsChain T.bounds T.form (Y.blocks other.old) ×
-        (length (Y.blocks other.old) < 2 ^ 64) }
     ensures common { OnOk result (IsChainOf T.bounds T.form (λ n.
         Covers T.bounds (X.blocks own.old) n × Covers T.bounds (Y.blocks other.old) n)
         chain.new.items × (length chain.new.items ≤
@@ -143,6 +139,9 @@ fn push_behind<T: Block, A: Allocator, X: Reads<T>, Y: Reads<T>>(
     ensures other { IsReadOn (Y.blocks other.old) (Y.blocks other.new) other_at
         (Y.count other.old) (Y.count other.new) }
 {
+    // Asked for what they tell: that the blocks are a chain, of fewer than 2^64 blocks.
+    let _own_len = own.len();
+    let _other_len = other.len();
     // `chain` has what both have before one of the blocks at hand. A turn is done with the block that ends first: what
     // the other one has of it is pushed, and nothing that comes later in either chain can reach it. So each turn passes
     // a block, and the walk ends where one chain has none left.

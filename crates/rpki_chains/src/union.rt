@@ -1,8 +1,8 @@
 //! The numbers that one chain or another has.
-ghost use Rattle.std.specs.Prelude.{◌≡◌, ℕ, ◌+◌, ◌-◌, ◌≤◌, ◌↔◌, ◌⊎◌, [], length, drop, IfOk, OnOk};
+ghost use Rattle.std.specs.Prelude.{◌≡◌, ℕ, ◌+◌, ◌≤◌, ◌↔◌, ◌⊎◌, [], Some, length, drop, IfOk, OnOk};
 ghost use Rattle.rpki_chains.specs.Joining.{IsHeld, IsBehind};
 ghost use Rattle.rpki_chains.specs.Sets.{IsWithin, Covers, IsChainOf, HoldsBlock, numbers};
-ghost use Rattle.rpki_chains.specs.Walks.{IsAtHand, IsReadOn};
+ghost use Rattle.rpki_chains.specs.Walks.{IsReadOn};
 
 use crate::block::Block;
 use crate::build::run_over;
@@ -63,9 +63,8 @@ fn close_with<T: Block, A: Allocator, R: Reads<T>>(
     ensures chain { IfOk result (IsChainOf T.bounds T.form (λ n.
         IsHeld T.bounds chain.items (numbers T.number run) n ⊎
         Covers T.bounds (drop at (R.blocks rest.old)) n)) }
-    ensures kept { R.blocks rest.new ≡ R.blocks rest.old }
-    ensures reads { R.count rest.new ≤
-        R.count rest.old + (length (R.blocks rest.old) - (at + 1)) }
+    ensures rest { IsReadOn (R.blocks rest.old) (R.blocks rest.new) at
+        (R.count rest.old) (R.count rest.new) }
 {
     // The length is asked for what its contract tells: that the blocks are a chain, of fewer than 2^64 blocks.
     let _len = rest.len();
@@ -123,8 +122,8 @@ fn union_behind<T: Block, A: Allocator, X: Reads<T>, Y: Reads<T>>(
     mut other_block: (T::Item, T::Item),
 ) -> Result<OwnedChain<T, A>, AllocError>
     requires empty { chain.items ≡ [] }
-    requires own { IsAtHand T.bounds T.form T.number T.last (X.blocks own.old) 0 own_block }
-    requires other { IsAtHand T.bounds T.form T.number T.last (Y.blocks other.old) 0 other_block }
+    requires own { HoldsBlock T.bounds T.number T.last (X.blocks own.old) 0 (Some own_block) }
+    requires other { HoldsBlock T.bounds T.number T.last (Y.blocks other.old) 0 (Some other_block) }
     ensures union { IfOk result (IsChainOf T.bounds T.form (λ n.
         Covers T.bounds (X.blocks own.old) n ⊎ Covers T.bounds (Y.blocks other.old) n)) }
     ensures own { IsReadOn (X.blocks own.old) (X.blocks own.new) 0
@@ -132,6 +131,9 @@ fn union_behind<T: Block, A: Allocator, X: Reads<T>, Y: Reads<T>>(
     ensures other { IsReadOn (Y.blocks other.old) (Y.blocks other.new) 0
         (Y.count other.old) (Y.count other.new) }
 {
+    // Asked for what they tell, as in `close_with`.
+    let _own_len = own.len();
+    let _other_len = other.len();
     let mut own_at = 0;
     let mut other_at = 0;
     // A run is at hand, which begins no later than the blocks at hand; all blocks of `chain` end before it and don't

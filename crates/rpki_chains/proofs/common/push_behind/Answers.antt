@@ -7,7 +7,7 @@ use Rattle.rpki_chains.proofs.common.push_behind.Goals as goal
 pub loop-chain-init : goal.loop-chain-init
 loop-chain-init g c =
     let req = c.requires in
-    let walk = meet_start req.overhang req.own.0 req.other.0 in
+    let walk = meet_start req.overhang c.len-own_len.ensures.chain c.len-other_len.ensures.chain in
     record {
       own = record { kept = refl; reads = le_refl _ };
       other = record { kept = refl; reads = le_refl _ };

@@ -6,7 +6,8 @@ use Rattle.rpki_chains.proofs.union.union_behind.Goals as goal
 pub loop-chain-init : goal.loop-chain-init
 loop-chain-init g c =
     let first = c.earlier-run.ensures in
-    let start = walks_start c.requires.own c.requires.other first.begins first.begins_other first.one _ _ in
+    let start = walks_start c.len-own_len.ensures.chain c.len-other_len.ensures.chain c.requires.own
+    c.requires.other first.begins first.begins_other first.one _ _ in
     rw c.requires.empty record { own = start.0; other = start.1 }
 
 pub returns-in_default-clause-union : goal.returns-in_default-clause-union

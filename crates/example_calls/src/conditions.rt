@@ -1,6 +1,6 @@
 //! Conditions of calls, each met by a comparison or by a call that tests it.
 ghost use Rattle.std.specs.Prelude.{◌≡◌, ◌≢◌, ◌+◌, ◌≤◌, ◌<◌, ◌++◌, ◌⊎◌, IsOk, IfOk, OnOk, OnErr, MatchOption};
-ghost use Rattle.rpki_chains.specs.Ranges.{range_bounds};
+ghost use Rattle.rpki_block.specs.Ranges.{range_bounds};
 ghost use Rattle.rpki_chain.specs.Runs.{Holds};
 ghost use Rattle.rpki_chain.specs.declared.choice.ResourcesChoice.TheVariants.{Missing};
 ghost use Rattle.rpki_as.specs.AsDer.{as_resources_octets};

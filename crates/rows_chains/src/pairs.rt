@@ -13,7 +13,7 @@ pub struct Pair {
 
 impl Model for Pair {
     ghost use Rattle.std.specs.Prelude.{◌≤◌};
-    ghost use Rattle.rpki_chains.specs.Ranges.{RangeValue};
+    ghost use Rattle.rpki_block.specs.Ranges.{RangeValue};
 
     ghost Value = { RangeValue };
 
@@ -26,7 +26,7 @@ impl Model for Pair {
 
 impl Block for Pair {
     ghost use Rattle.std.specs.Prelude.{refl};
-    ghost use Rattle.rpki_chains.specs.Ranges.{range_bounds, new_range};
+    ghost use Rattle.rpki_block.specs.Ranges.{range_bounds, new_range};
 
     type Item = u64;
 

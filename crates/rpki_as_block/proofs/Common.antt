@@ -7,8 +7,8 @@ pub use Rattle.std.proofs.lemmas.List.{append-nil, append_assoc, drop-drop, drop
 pub use Rattle.std.specs.Int.{IsInRange}
 pub use Rattle.std.specs.List.{AllByRecursion}
 pub use Rattle.rpki_base.specs.AsnDer.{as_number_at, as_number_octets}
-pub use Rattle.rpki_chains.specs.Ranges.{RangeValue, range_bounds}
-pub use Rattle.rpki_chains.specs.Sets.{IsNew, IsWithin}
+pub use Rattle.rpki_block.specs.Ranges.{RangeValue, range_bounds}
+pub use Rattle.rpki_block.specs.Bounds.{IsNew, IsWithin}
 pub use Rattle.rpki_der.proofs.Modes.{exact_optional_by}
 pub use Rattle.rpki_der.proofs.Readings.{one_front, same_reading}
 pub use Rattle.rpki_der.proofs.Written.{length-header, u32_is, value_is}

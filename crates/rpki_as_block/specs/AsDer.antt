@@ -1,7 +1,7 @@
 -- Blocks of AS numbers in DER (RFC 3779, 3.2.3.5 to 3.2.3.9).
 use Rattle.std.specs.Prelude.{◌⊎◌, ℕ, ◌≤◌, ◌<◌, ◌^◌, List, ◌++◌}
-use Rattle.rpki_chains.specs.Ranges.{RangeValue, range_bounds}
-use Rattle.rpki_chains.specs.Sets.{IsNew}
+use Rattle.rpki_block.specs.Ranges.{RangeValue, range_bounds}
+use Rattle.rpki_block.specs.Bounds.{IsNew}
 use Rattle.rpki_der.specs.Der.{Both, IsSequence, sequence_value}
 use Rattle.rpki_base.specs.AsnDer.{IsAsNumber, as_number_octets}
 use Rattle.rpki_as_block.specs.Blocks.{as_bounds, new_as_block}

@@ -1,7 +1,7 @@
 -- The readings of blocks of AS numbers find what the grammar says, and nothing else. Readers of lists rest on it.
 use Rattle.std.proofs.Common.{◌≡◌, ℕ, ◌≤◌, ltb, List, Result, Ok, Err, refl, sym, ap, subst, ◌∙◌, arith, inl, inr}
 use Rattle.std.proofs.lemmas.Bool.{ltb-false, le-ltb}
-use Rattle.rpki_chains.specs.Ranges.{RangeValue}
+use Rattle.rpki_block.specs.Ranges.{RangeValue}
 use Rattle.rpki_der.specs.declared.error.DerError.{DerError}
 use Rattle.rpki_der.specs.declared.error.DerError.TheVariants.{ReversedRange}
 use Rattle.rpki_der.specs.Der.{IsBytes, IsTlv, IsUnsigned, IsValue, Refines, integer}

@@ -1,9 +1,9 @@
 -- What the readings of blocks of AS numbers find in either mode. Readers of lists rest on it.
 use Rattle.std.proofs.Common.{◌≡◌, ℕ, Bool, true, false, not, eqb, cond, Option, refl, sym, ap}
 use Rattle.std.proofs.lemmas.Bool.{eq-eqb}
-use Rattle.rpki_chains.specs.Beyond.{IsBeyond, is_beyond}
-use Rattle.rpki_chains.specs.Sets.{IsNew}
-use Rattle.rpki_chains.proofs.Beyond.{beyond_is, is_beyond_of}
+use Rattle.rpki_block.specs.Beyond.{IsBeyond, is_beyond}
+use Rattle.rpki_block.specs.Bounds.{IsNew}
+use Rattle.rpki_block.proofs.Beyond.{beyond_is, is_beyond_of}
 use Rattle.rpki_der.specs.Reading.{IsModal}
 use Rattle.rpki_der.proofs.Modes.{plain_modal, tested_modal}
 use Rattle.rpki_as_block.specs.AsDer.{IsAsBlock}

@@ -1,7 +1,7 @@
 -- What strict cursors take of blocks of AS numbers.
 use Rattle.std.specs.Prelude.{ℕ, List, Option}
-use Rattle.rpki_chains.specs.Beyond.{IsBeyond}
-use Rattle.rpki_chains.specs.Sets.{IsNew}
+use Rattle.rpki_block.specs.Beyond.{IsBeyond}
+use Rattle.rpki_block.specs.Bounds.{IsNew}
 use Rattle.rpki_der.specs.Der.{Where}
 use Rattle.rpki_as_block.specs.AsDer.{IsAsBlock}
 use Rattle.rpki_as_block.specs.Blocks.{as_bounds, new_as_block}

@@ -1,7 +1,7 @@
 -- Reading blocks of AS numbers from left to right, with the first fault that is met.
 use Rattle.std.specs.Prelude.{ℕ, Bool, true, not, nat_lt, ◌==◌, if◌then◌else◌, List, Option, Result, Ok, Err}
-use Rattle.rpki_chains.specs.Beyond.{is_beyond}
-use Rattle.rpki_chains.specs.Ranges.{RangeValue}
+use Rattle.rpki_block.specs.Beyond.{is_beyond}
+use Rattle.rpki_block.specs.Ranges.{RangeValue}
 use Rattle.rpki_der.specs.declared.error.DerError.{DerError}
 use Rattle.rpki_der.specs.declared.error.DerError.TheVariants.{ReversedRange}
 use Rattle.rpki_der.specs.Der.{Tlv}

@@ -3,7 +3,7 @@ use Rattle.std.specs.Prelude.{◌≡◌, ℕ, ◌≤◌, ◌<◌, ◌^◌, List,
 use Rattle.rpki_base.specs.AsnText.{IsAsnText, asn_text}
 use Rattle.rpki_text.specs.Cuts.{HasNo, Around, dash}
 use Rattle.rpki_text.specs.Reading.{Answers}
-use Rattle.rpki_chains.specs.Ranges.{RangeValue, range_bounds}
+use Rattle.rpki_block.specs.Ranges.{RangeValue, range_bounds}
 use Rattle.rpki_as_block.specs.Blocks.{as_bounds}
 use Rattle.rpki_as_block.specs.declared.block.AsBlock.{AsBlock}
 use Rattle.rpki_as_block.specs.declared.block.AsBlock.TheVariants.{Id, Range}

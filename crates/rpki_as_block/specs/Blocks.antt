@@ -1,6 +1,6 @@
 -- Blocks of AS numbers (RFC 3779, 3.2.3.5 to 3.2.3.8): their bounds and their form.
 use Rattle.std.specs.Prelude.{ℕ, ◌==◌, if◌then◌else◌}
-use Rattle.rpki_chains.specs.Ranges.{range_bounds, new_range}
+use Rattle.rpki_block.specs.Ranges.{range_bounds, new_range}
 use Rattle.rpki_as_block.specs.declared.block.AsBlock.{AsBlock}
 use Rattle.rpki_as_block.specs.declared.block.AsBlock.TheVariants.{Id, Range}
 

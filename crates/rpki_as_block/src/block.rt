@@ -2,7 +2,7 @@
 use crate::iter::AsBlockIter;
 use crate::range::AsRange;
 use rpki_base::asn::Asn;
-use rpki_chains::block::Block;
+use rpki_block::block::Block;
 
 /// One AS number, or the numbers of a range (RFC 3779, 3.2.3.5).
 #[derive(Clone, Copy, Debug)]
@@ -15,7 +15,7 @@ pub enum AsBlock {
 
 impl AsBlock {
     ghost use Rattle.std.specs.Prelude.{◌≡◌, ◌+◌, ◌≤◌, ◌↔◌, IsTrue};
-    ghost use Rattle.rpki_chains.specs.Sets.{IsWithin};
+    ghost use Rattle.rpki_block.specs.Bounds.{IsWithin};
     ghost use Rattle.rpki_as_block.specs.Blocks.{as_bounds, new_as_block};
     ghost use Rattle.rpki_as_block.specs.Numbers.{IsListOf, IsSizeOf, numbers_within};
 
@@ -175,8 +175,8 @@ impl Block for AsBlock {
 /// Blocks are equal where their bounds are, whatever their forms.
 impl PartialEq for AsBlock {
     ghost use Rattle.std.specs.Prelude.{◌≡◌, ◌↔◌, IsTrue};
-    ghost use Rattle.rpki_chains.specs.Equality.{have_same_bounds};
-    ghost use Rattle.rpki_chains.specs.EqualityLaws.{blocks_per};
+    ghost use Rattle.rpki_block.specs.Equality.{have_same_bounds};
+    ghost use Rattle.rpki_block.specs.EqualityLaws.{blocks_per};
     ghost use Rattle.rpki_as_block.specs.Blocks.{as_bounds};
 
     ghost eq = { have_same_bounds as_bounds };
@@ -192,7 +192,7 @@ impl PartialEq for AsBlock {
 }
 
 impl Eq for AsBlock {
-    ghost use Rattle.rpki_chains.specs.EqualityLaws.{blocks_equiv};
+    ghost use Rattle.rpki_block.specs.EqualityLaws.{blocks_equiv};
     ghost use Rattle.rpki_as_block.specs.Blocks.{as_bounds};
 
     ghost laws = { blocks_equiv as_bounds };
@@ -222,7 +222,7 @@ impl From<AsRange> for AsBlock {
 
 /// The numbers one by one, ascending.
 impl IntoIterator for AsBlock {
-    ghost use Rattle.rpki_chains.specs.Sets.{IsWithin};
+    ghost use Rattle.rpki_block.specs.Bounds.{IsWithin};
     ghost use Rattle.rpki_as_block.specs.Blocks.{as_bounds};
     ghost use Rattle.rpki_as_block.specs.Numbers.{IsListOf};
 

@@ -4,7 +4,7 @@ ghost use Rattle.std.specs.Iterator.{YieldsFirst, item_count};
 
 use crate::range::AsRange;
 use rpki_base::asn::Asn;
-use rpki_chains::block::Block;
+use rpki_block::block::Block;
 use std::marker::Model;
 
 /// The numbers of a block that are left. Contracts see it as their list.
@@ -23,7 +23,7 @@ impl Model for AsBlockIter {
 }
 
 impl AsBlockIter {
-    ghost use Rattle.rpki_chains.specs.Ranges.{range_bounds};
+    ghost use Rattle.rpki_block.specs.Ranges.{range_bounds};
     ghost use Rattle.rpki_as_block.specs.Numbers.{numbers_within};
 
     /// The numbers of a range.

@@ -1,6 +1,6 @@
 //! What holds of ranges, and of the octets of blocks, each law as the contract of a function that does nothing.
 ghost use Rattle.std.specs.Prelude.{◌≡◌, ◌≢◌, ◌↔◌, ◌<◌, ℕ, List, Err, true, IsOk, IsTrue};
-ghost use Rattle.rpki_chains.specs.Ranges.{RangeValue};
+ghost use Rattle.rpki_block.specs.Ranges.{RangeValue};
 ghost use Rattle.rpki_der.specs.Der.{OneFront};
 ghost use Rattle.rpki_der.specs.declared.error.DerError.TheVariants.{NotCanonical, ReversedRange};
 ghost use Rattle.rpki_base.specs.AsnDer.{as_number_at};

@@ -3,7 +3,7 @@ ghost use Rattle.std.specs.Prelude.{◌≡◌, ◌≤◌};
 
 use rpki_base::asn::Asn;
 use rpki_base::asn::print::fmt_asn_range;
-use rpki_chains::block::Block;
+use rpki_block::block::Block;
 use std::fmt;
 use std::marker::Model;
 
@@ -16,7 +16,7 @@ pub struct AsRange {
 
 impl Model for AsRange {
     ghost use Rattle.std.specs.Prelude.{◌≤◌};
-    ghost use Rattle.rpki_chains.specs.Ranges.{RangeValue};
+    ghost use Rattle.rpki_block.specs.Ranges.{RangeValue};
 
     ghost Value = { RangeValue };
 
@@ -29,8 +29,8 @@ impl Model for AsRange {
 
 impl AsRange {
     ghost use Rattle.std.specs.Prelude.{◌+◌};
-    ghost use Rattle.rpki_chains.specs.Sets.{IsWithin};
-    ghost use Rattle.rpki_chains.specs.Ranges.{range_bounds};
+    ghost use Rattle.rpki_block.specs.Bounds.{IsWithin};
+    ghost use Rattle.rpki_block.specs.Ranges.{range_bounds};
     ghost use Rattle.rpki_as_block.specs.Numbers.{IsSizeOf};
 
     /// The range from the least number to the greatest, which isn't below it.
@@ -77,7 +77,7 @@ impl AsRange {
 /// As a block, it has one form.
 impl Block for AsRange {
     ghost use Rattle.std.specs.Prelude.{refl};
-    ghost use Rattle.rpki_chains.specs.Ranges.{range_bounds, new_range};
+    ghost use Rattle.rpki_block.specs.Ranges.{range_bounds, new_range};
 
     type Item = Asn;
 

@@ -1,6 +1,6 @@
 //! Texts of AS blocks.
 ghost use Rattle.std.specs.Prelude.{Some, MatchOption};
-ghost use Rattle.rpki_chains.specs.Ranges.{range_bounds};
+ghost use Rattle.rpki_block.specs.Ranges.{range_bounds};
 ghost use Rattle.rpki_as_block.specs.BlockText.{ReadsAsBlock, as_block_text, IsAsRangeBetween, NoRange};
 
 use crate::block::AsBlock;

@@ -2,7 +2,7 @@
 use Rattle.rpki_chain.proofs.Common.{List, None, Option, Some, [], ap, arith, length, map, refl, subst, suc, sym, ℕ, ◌+◌, ◌<◌, ◌^◌, ◌∙◌, ◌∷◌, ◌≡◌, ◌≤◌, All-cons, All-map, All-nil, All, AllPairs, ⊤, IsSequenceFrom, Covers-nil, IsChain-nil, Covers, IsChain, IsNew, EachFrom, Refines, Spells, Where, sequence_value, IsBlockChain, IsBlockSet, IsChoiceOf, ListsBy, MatchChoice, IsRunsOfBlocks, Runs, ResourcesChoice}
 use Rattle.std.proofs.lemmas.List.Folds.{flat_map-map}
 use Rattle.std.proofs.lemmas.List.Kept.{AllPairs-cons}
-use Rattle.rpki_chains.specs.Beyond.{IsBeyond}
+use Rattle.rpki_block.specs.Beyond.{IsBeyond}
 use Rattle.rpki_der.proofs.Written.{value_is}
 use Rattle.rpki_base.specs.DerWriting.{octets_of_all, sequence_octets}
 use Rattle.rpki_chain.proofs.LawLemmas.{empty_set}

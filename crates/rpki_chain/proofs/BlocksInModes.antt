@@ -12,7 +12,7 @@ use Rattle.rpki_base.proofs.DerModes.{strict_values_check, values_stateless, val
 use Rattle.rpki_base.proofs.DerReadings.{sequence_reading, values_check}
 use Rattle.rpki_base.proofs.DerWriting.{content_shorter}
 use Rattle.rpki_base.proofs.SaidInModes.{IsSaidInModes, ordered_modal, strictly_found}
-use Rattle.rpki_chains.specs.Beyond.{IsBeyond}
+use Rattle.rpki_block.specs.Beyond.{IsBeyond}
 use Rattle.rpki_chain.specs.ChoiceDer.{choice_octets}
 use Rattle.rpki_chain.specs.Claims.{IsClaim}
 use Rattle.rpki_chain.proofs.Ascending.{IsWritten, listed_chain, no_numbers, set_spelled, spelled_set, taken_chain}

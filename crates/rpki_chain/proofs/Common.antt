@@ -9,9 +9,10 @@ pub use Rattle.std.specs.Bool.{Decides}
 pub use Rattle.std.specs.Prelude.{All, AllPairs, Contains, Err, IfErr, IsErrAnd, IsOk, MatchResult, ⊤}
 pub use Rattle.rpki_base.specs.DerReading.{IsSequenceFrom, SaysByTag}
 unfoldable pub use Rattle.rpki_base.specs.DerReading.{by_tag}
+pub use Rattle.rpki_block.specs.Equality.{is_same_pair}
 pub use Rattle.rpki_chains.proofs.Chains.{Covers-nil, IsChain-from, IsChain-nil, IsChainOf-itself}
 pub use Rattle.rpki_chains.proofs.Unique.{Covers-cons_cases, Covers-head, Covers-tail, IsChain-unique}
-pub use Rattle.rpki_chains.specs.Equality.{is_same_pair, same_runs}
+pub use Rattle.rpki_chains.specs.Equality.{same_runs}
 pub use Rattle.rpki_chains.specs.Sets.{Covers, IsChain, IsChainOf, IsInside, IsNew, IsWithin}
 pub use Rattle.rpki_der.specs.Der.{EachFrom, IsBytes, IsNothing, IsSequence, IsTlv, Refines, Spells, Where, sequence_value}
 pub use Rattle.rpki_der.specs.Reading.{IsModal, IsReading, Tightens, nothing, value_at}

@@ -1,5 +1,4 @@
 -- Lemmas on chains, runs and sorted bounds.
-pub mod Beyond
 pub mod Chains
 mod Counts
 mod Cutting

@@ -162,8 +162,8 @@ module _ {B I : Type 0} {f : B → ℕ × ℕ} {form : ℕ × ℕ → B} (number
 module _ {B I : Type 0} {f : B → ℕ × ℕ} {form : ℕ × ℕ → B} {number : I → ℕ} {last : ℕ} where
   -- walks over two lists begin with the block that begins first
   pub walks_start : {xs ys : List B} {b d run : I × I} → IsChain f form xs → IsChain f form ys
-      → HoldsBlock f number last xs 0 (Some b) → HoldsBlock f number last ys 0 (Some d) → number run.0 ≤ number b.0 → number run.0 ≤ number d.0
-      → (run ≡ b) ⊎ (run ≡ d) → (count other_count : ℕ)
+      → HoldsBlock f number last xs 0 (Some b) → HoldsBlock f number last ys 0 (Some d) → number run.0 ≤ number b.0
+      → number run.0 ≤ number d.0 → (run ≡ b) ⊎ (run ≡ d) → (count other_count : ℕ)
       → Walk f form number last (λ n. Covers f xs n ⊎ Covers f ys n) (λ n. Covers f ys n) xs xs 0 count
       (count + (length xs - 1)) b run []
       × Walk f form number last (λ n. Covers f xs n ⊎ Covers f ys n) (λ n. Covers f xs n) ys ys 0 other_count

@@ -1,5 +1,4 @@
 -- Definitions: sets and their runs, and what the contracts see of a chain.
-pub mod Beyond
 pub mod ChainLaws
 pub mod Common
 pub mod Cut
@@ -9,7 +8,6 @@ pub mod Fit
 pub mod Joining
 pub mod Overhang
 pub mod Owned
-pub mod Ranges
 pub mod Sets
 pub mod View
 pub mod Walks

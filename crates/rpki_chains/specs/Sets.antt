@@ -2,14 +2,7 @@
 -- and 3.2.3.4: blocks are sorted, don't overlap, and are combined where they are contiguous).
 -- `bounds` gives the least and the greatest number of a block.
 use Rattle.std.specs.Prelude.{◌≡◌, ℕ, ◌+◌, ◌<◌, ◌≤◌, ◌↔◌, List, Option, MatchOption, length, slice_index_or, All, Any, AllPairs}
-
--- n is none below the least and none above the greatest number
-abbrev pub IsWithin : ℕ × ℕ → ℕ → Type 0
-IsWithin b n = (b.0 ≤ n) × (n ≤ b.1)
-
--- the bounds have a number in common, or touch
-abbrev pub IsBeside : ℕ × ℕ → ℕ × ℕ → Type 0
-IsBeside b c = (b.0 ≤ c.1 + 1) × (c.0 ≤ b.1 + 1)
+pub use Rattle.rpki_block.specs.Bounds.{IsBeside, IsNew, IsWithin}
 
 -- n lies in some block of the list
 abbrev pub Covers : {B : Type 0} → (B → ℕ × ℕ) → List B → ℕ → Type 0
@@ -18,10 +11,6 @@ Covers bounds xs n = Any (λ x. IsWithin (bounds x) n) xs
 -- each number that the one list covers is covered by the other
 abbrev pub IsInside : {B : Type 0} → (B → ℕ × ℕ) → List B → List B → Type 0
 IsInside bounds xs ys = (n : ℕ) → Covers bounds xs n → Covers bounds ys n
-
--- the block is in new form: the one that `form` makes of its bounds
-abbrev pub IsNew : {B : Type 0} → (B → ℕ × ℕ) → (ℕ × ℕ → B) → B → Type 0
-IsNew bounds form x = x ≡ form (bounds x)
 
 -- a run of S: all numbers from b.0 to b.1 are in S, and neither the one before them nor the one after them is
 pub record IsRun (S : ℕ → Type 0) (b : ℕ × ℕ) : Type 0 where

@@ -3,8 +3,8 @@ ghost use Rattle.std.specs.Prelude.{◌≡◌, ℕ, ◌↔◌, [], IsTrue, IfOk}
 ghost use Rattle.std.specs.List.Sorted.{IsNonDecreasingBy};
 ghost use Rattle.rpki_chains.specs.Sets.{Covers, IsChain};
 
-use crate::block::Block;
 use crate::union::take_in;
+use rpki_block::block::Block;
 use std::alloc::{AllocError, Allocator};
 
 /// Makes an empty vector the chain of the numbers that the blocks cover, and answers that it did. It answers `false`

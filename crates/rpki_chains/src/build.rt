@@ -4,7 +4,7 @@ ghost use Rattle.std.specs.List.Sorted.{IsNonDecreasingBy};
 ghost use Rattle.std.specs.Ordering.{nat_cmp};
 ghost use Rattle.rpki_chains.specs.Sets.{IsWithin, Covers, IsChain, numbers};
 
-use crate::block::Block;
+use rpki_block::block::Block;
 use std::alloc::Allocator;
 use std::cmp::Ordering;
 

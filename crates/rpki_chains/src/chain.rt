@@ -4,7 +4,6 @@ ghost use Rattle.std.specs.Coded.{Coded-set};
 ghost use Rattle.rpki_chains.specs.Sets.{IsChain};
 ghost use Rattle.rpki_chains.specs.ChainLaws.{IsChain-prop};
 
-use crate::block::Block;
 use crate::common::common_from;
 use crate::counted::Counted;
 use crate::difference::{difference_counted, difference_from};
@@ -14,6 +13,7 @@ use crate::owned::OwnedChain;
 use crate::sought::{is_far_longer, sought_overhang};
 use crate::trim::trim_counted;
 use crate::union::union_counted;
+use rpki_block::block::Block;
 use rpki_text::memory::OrMemory;
 use std::alloc::{AllocError, Allocator};
 use std::fmt;

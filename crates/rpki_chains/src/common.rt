@@ -5,10 +5,10 @@ ghost use Rattle.rpki_chains.specs.Common.{IsCommonPushed};
 ghost use Rattle.rpki_chains.specs.Overhang.{IsOverhang};
 ghost use Rattle.rpki_chains.specs.Walks.{IsReadOn};
 
-use crate::block::Block;
 use crate::overhang::Overhang;
 use crate::owned::OwnedChain;
 use crate::reads::{Reads, read_at};
+use rpki_block::block::Block;
 use std::alloc::{AllocError, Allocator};
 
 /// The one of two items that comes later.

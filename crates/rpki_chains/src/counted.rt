@@ -2,10 +2,10 @@
 ghost use Rattle.std.specs.Prelude.{◌≡◌};
 ghost use Rattle.rpki_chains.specs.View.{chain_blocks, counted_blocks, reads_of};
 
-use crate::block::Block;
 use crate::chain::Chain;
 use crate::reads::Reads;
 use crate::tally::Tally;
+use rpki_block::block::Block;
 use std::fmt;
 
 /// A view of a chain whose reads are counted. The count is seen by contracts alone: it takes no bytes.

@@ -4,10 +4,10 @@ ghost use Rattle.rpki_chains.specs.Sets.{Covers, IsChainOf};
 ghost use Rattle.rpki_chains.specs.Cut.{IsCut, IsCutBy};
 ghost use Rattle.rpki_chains.specs.Overhang.{IsOverhang};
 
-use crate::block::Block;
 use crate::overhang::{Overhang, first_overhang};
 use crate::owned::OwnedChain;
 use crate::reads::{Reads, read_at};
+use rpki_block::block::Block;
 use std::alloc::{AllocError, Allocator};
 
 /// What becomes of the rest of a block at the next block that is taken out, the cut.

@@ -9,7 +9,6 @@
 #![tactic(auto)]
 
 mod ascending;
-pub mod block;
 mod build;
 pub mod chain;
 mod common;
@@ -25,8 +24,10 @@ mod tally;
 mod trim;
 mod union;
 
+/// Blocks, whose trait stands in a crate of its own below this one.
 pub use difference::difference_counted;
 pub use membership::contains_item_counted;
 pub use overhang::Overhang;
+pub use rpki_block::block;
 pub use trim::trim_counted;
 pub use union::union_counted;

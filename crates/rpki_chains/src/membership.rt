@@ -2,8 +2,8 @@
 ghost use Rattle.std.specs.Prelude.{◌≡◌, ℕ, ◌+◌, ◌-◌, ◌*◌, ◌^◌, ◌<◌, ◌≤◌, ◌↔◌, length, slice_index_or, IsTrue, IfSome, MatchOption};
 ghost use Rattle.rpki_chains.specs.Sets.{IsWithin, Covers, IsChain, IsRunFrom, HoldsBlock, numbers};
 
-use crate::block::Block;
 use crate::reads::Reads;
+use rpki_block::block::Block;
 
 /// The index in the middle of some, which leaves at most half of them on each side.
 fn middle_of(low: usize, high: usize) -> usize

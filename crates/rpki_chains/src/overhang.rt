@@ -4,8 +4,8 @@ ghost use Rattle.rpki_chains.specs.Sets.{IsInside, IsChain};
 ghost use Rattle.rpki_chains.specs.Fit.{IsFitIn};
 ghost use Rattle.rpki_chains.specs.Overhang.{IsOverhang};
 
-use crate::block::Block;
 use crate::reads::{Reads, read_at};
+use rpki_block::block::Block;
 
 /// How the next block of a chain stands to that of another.
 pub enum Fit {

@@ -7,9 +7,9 @@ ghost use Rattle.rpki_chains.specs.Owned.{owned_blocks, IsOwned};
 ghost use Rattle.rpki_chains.specs.View.{chain_blocks};
 
 use crate::ascending::join_ascending_into;
-use crate::block::Block;
 use crate::build::join;
 use crate::chain::Chain;
+use rpki_block::block::Block;
 use std::alloc::{AllocError, Allocator, Global};
 use std::fmt;
 use std::marker::Model;

@@ -3,7 +3,7 @@
 ghost use Rattle.std.specs.Prelude.{◌≡◌, ℕ, ◌+◌, ◌^◌, ◌<◌, ◌≤◌, List, length, slice_index_or, IfSome, is_some, if◌then◌else◌};
 ghost use Rattle.rpki_chains.specs.Sets.{IsChain, HoldsBlock, numbers};
 
-use crate::block::Block;
+use rpki_block::block::Block;
 
 /// A chain with a count of the reads of its blocks.
 ///

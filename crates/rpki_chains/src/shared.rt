@@ -6,9 +6,9 @@ ghost use Rattle.rpki_chains.specs.Sets.{Covers, IsChainOf};
 ghost use Rattle.rpki_chains.specs.Owned.{shared_blocks, IsShared};
 ghost use Rattle.rpki_chains.specs.View.{chain_blocks};
 
-use crate::block::Block;
 use crate::chain::Chain;
 use crate::owned::OwnedChain;
+use rpki_block::block::Block;
 use std::alloc::{AllocError, Allocator, Global};
 use std::fmt;
 use std::marker::Model;

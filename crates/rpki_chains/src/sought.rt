@@ -3,10 +3,10 @@ ghost use Rattle.std.specs.Prelude.{◌≡◌, ℕ, ◌+◌, ◌*◌, ◌^◌, �
 ghost use Rattle.rpki_chains.specs.Sets.{IsInside};
 ghost use Rattle.rpki_chains.specs.Overhang.{IsOverhang};
 
-use crate::block::Block;
 use crate::membership::seek;
 use crate::overhang::Overhang;
 use crate::reads::Reads;
+use rpki_block::block::Block;
 
 /// Whether a chain is so much longer than another that a search in it for each block of the other, whatever it reads,
 /// reads no more than a walk over it.

@@ -3,11 +3,11 @@ ghost use Rattle.std.specs.Prelude.{◌≡◌, ◌+◌, ◌*◌, ◌≤◌, ◌�
 ghost use Rattle.rpki_text.specs.Memory.{IfRefused};
 ghost use Rattle.rpki_chains.specs.Sets.{Covers, IsInside, IsChainOf};
 
-use crate::block::Block;
 use crate::common::common_from;
 use crate::overhang::first_overhang;
 use crate::owned::OwnedChain;
 use crate::reads::Reads;
+use rpki_block::block::Block;
 use rpki_text::memory::OrMemory;
 use std::alloc::{AllocError, Allocator};
 

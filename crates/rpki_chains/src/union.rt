@@ -4,10 +4,10 @@ ghost use Rattle.rpki_chains.specs.Joining.{IsHeld, IsBehind};
 ghost use Rattle.rpki_chains.specs.Sets.{IsWithin, Covers, IsChainOf, HoldsBlock, numbers};
 ghost use Rattle.rpki_chains.specs.Walks.{IsReadOn};
 
-use crate::block::Block;
 use crate::build::run_over;
 use crate::owned::OwnedChain;
 use crate::reads::{Reads, read_at};
+use rpki_block::block::Block;
 use std::alloc::{AllocError, Allocator};
 
 /// Takes the next bounds into the run at hand: where they overlap or touch, it becomes the run over both. Else it is

@@ -1,7 +1,7 @@
 //! Blocks of addresses of one family.
 ghost use Rattle.std.specs.Prelude.{◌≡◌, ◌↔◌, IsTrue, Some};
-ghost use Rattle.rpki_chains.specs.Equality.{have_same_bounds};
-ghost use Rattle.rpki_chains.specs.EqualityLaws.{blocks_per, blocks_equiv};
+ghost use Rattle.rpki_block.specs.Equality.{have_same_bounds};
+ghost use Rattle.rpki_block.specs.EqualityLaws.{blocks_per, blocks_equiv};
 ghost use Rattle.rpki_ip_block.specs.Blocks.{ip_bounds};
 ghost use Rattle.rpki_ip_block.specs.PrintedBlocks.{ip_block_text};
 ghost use Rattle.rpki_ip_block.specs.declared.block.IpBlock.TheVariants.{Prefix};

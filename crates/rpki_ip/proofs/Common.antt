@@ -13,7 +13,7 @@ pub use Rattle.rpki_addr.specs.Bits.{cleared}
 pub use Rattle.rpki_addr.specs.Prefixes.{IsPrefix, PrefixValue, last_of}
 pub use Rattle.rpki_base.proofs.FamilyLemmas.{family_reading, family_written, renamed}
 pub use Rattle.rpki_base.specs.Families.{bits_of, family_of}
-pub use Rattle.rpki_chains.specs.Sets.{IsWithin}
+pub use Rattle.rpki_block.specs.Bounds.{IsWithin}
 pub use Rattle.rpki_cover.proofs.Multiples.{IsMultiple, mod_multiple, multiple_diff, multiple_gap, multiple_least, multiple_mod, multiple_self, multiple_smaller, multiple_sum, zeros_divide, zeros_greatest}
 pub use Rattle.rpki_cover.proofs.Shortest.{cover_prefixes}
 pub use Rattle.rpki_cover.proofs.Widening.{whole_cover, widened_prefix}

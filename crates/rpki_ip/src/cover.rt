@@ -1,7 +1,7 @@
 //! The shortest covers of ranges of addresses by prefixes.
 ghost use Rattle.std.specs.Prelude.{◌≡◌, ◌/◌, ◌^◌, ◌≤◌, [], length};
 ghost use Rattle.std.specs.Iterator.{YieldsFirst, item_count};
-ghost use Rattle.rpki_chains.specs.Sets.{IsWithin};
+ghost use Rattle.rpki_block.specs.Bounds.{IsWithin};
 ghost use Rattle.rpki_cover.specs.Covers.{IsShortestCover, IsV4CoverList};
 ghost use Rattle.rpki_ip.specs.Ranges.{range_bounds};
 ghost use Rattle.rpki_ip.specs.Whole.{HasWholeBounds};

@@ -1,13 +1,13 @@
 //! Ranges of addresses.
 ghost use Rattle.std.specs.Prelude.{◌≡◌, ◌≤◌, ◌↔◌, IsTrue, Ok, IfOk, IfErr, IfSome, IfNone};
 ghost use Rattle.rpki_addr.specs.Prefixes.{PrefixValue, IsPrefix};
-ghost use Rattle.rpki_chains.specs.Sets.{IsWithin};
+ghost use Rattle.rpki_block.specs.Bounds.{IsWithin};
 ghost use Rattle.rpki_ip.specs.Ranges.{IsRangeOf, range_bounds};
 ghost use Rattle.rpki_ip.specs.Whole.{IsWhole, HasWholeBounds};
 
 use crate::prefix::Prefix;
 use rpki_addr::bits::Addr;
-use rpki_chains::block::Block;
+use rpki_block::block::Block;
 use std::marker::Model;
 
 /// The addresses from a least one to a greatest one, which may be the same (RFC 3779, 2.2.3.9).
@@ -132,7 +132,7 @@ impl From<Prefix> for AddressRange {
 /// Ranges are blocks of the numbers 0 to 2^128 - 1, with one form.
 impl Block for AddressRange {
     ghost use Rattle.std.specs.Prelude.{refl};
-    ghost use Rattle.rpki_chains.specs.Ranges.{range_bounds, new_range};
+    ghost use Rattle.rpki_block.specs.Ranges.{range_bounds, new_range};
 
     type Item = Addr;
 

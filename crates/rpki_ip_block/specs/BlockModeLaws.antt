@@ -3,8 +3,8 @@ use Rattle.std.proofs.Common.{◌≡◌, ℕ, Bool, true, List, Option, Ok, refl
 use Rattle.rpki_base.specs.DerReading.{SaysByTag}
 use Rattle.rpki_base.proofs.DerModes.{by_tag_tightens, tested_pair_check, tested_pair_tightens}
 use Rattle.rpki_base.proofs.DerReadings.{by_tag_reading, mapped_check}
-use Rattle.rpki_chains.specs.Beyond.{IsBeyond, is_beyond}
-use Rattle.rpki_chains.proofs.Beyond.{beyond_is, is_beyond_of}
+use Rattle.rpki_block.specs.Beyond.{IsBeyond, is_beyond}
+use Rattle.rpki_block.proofs.Beyond.{beyond_is, is_beyond_of}
 use Rattle.rpki_der.specs.Der.{IsBytes, IsTlv, IsValue, Refines, bit_content}
 use Rattle.rpki_der.specs.Reading.{IsModal, Tightens, value_at}
 use Rattle.rpki_der.proofs.Modes.{bind_tightens, looked_tightens, tested_modal}

@@ -2,7 +2,7 @@
 use Rattle.std.specs.Prelude.{ℕ, Bool, true, false, ◌&&◌, List, Option, Result, Ok}
 use Rattle.rpki_base.specs.DerReading.{by_tag, pair_by, sequence_of}
 use Rattle.rpki_addr.specs.Prefixes.{PrefixValue, last_of}
-use Rattle.rpki_chains.specs.Beyond.{is_beyond}
+use Rattle.rpki_block.specs.Beyond.{is_beyond}
 use Rattle.rpki_der.specs.declared.error.DerError.{DerError}
 use Rattle.rpki_der.specs.Der.{Tlv}
 use Rattle.rpki_der.specs.Reading.{◌>>=◌, passing, refined, value_at}

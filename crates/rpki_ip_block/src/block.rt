@@ -1,5 +1,5 @@
 //! Blocks of addresses.
-use rpki_chains::block::Block;
+use rpki_block::block::Block;
 use rpki_ip::addr::Addr;
 use rpki_ip::prefix::Prefix;
 use rpki_ip::range::AddressRange;
@@ -145,8 +145,8 @@ impl Block for IpBlock {
 impl PartialEq for IpBlock {
     ghost use Rattle.std.specs.Prelude.{◌≡◌, ◌↔◌, IsTrue};
     ghost use Rattle.rpki_ip_block.specs.Blocks.{ip_bounds};
-    ghost use Rattle.rpki_chains.specs.Equality.{have_same_bounds};
-    ghost use Rattle.rpki_chains.specs.EqualityLaws.{blocks_per};
+    ghost use Rattle.rpki_block.specs.Equality.{have_same_bounds};
+    ghost use Rattle.rpki_block.specs.EqualityLaws.{blocks_per};
 
     ghost eq = { have_same_bounds ip_bounds };
 
@@ -161,7 +161,7 @@ impl PartialEq for IpBlock {
 }
 
 impl Eq for IpBlock {
-    ghost use Rattle.rpki_chains.specs.EqualityLaws.{blocks_equiv};
+    ghost use Rattle.rpki_block.specs.EqualityLaws.{blocks_equiv};
     ghost use Rattle.rpki_ip_block.specs.Blocks.{ip_bounds};
 
     ghost laws = { blocks_equiv ip_bounds };

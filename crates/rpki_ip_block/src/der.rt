@@ -20,7 +20,7 @@ use std::alloc::{AllocError, Allocator};
 impl IpBlock {
     ghost use Rattle.std.specs.Prelude.{◌≡◌, ℕ, List, Ok, Some, true, ◌≤◌, ◌<◌, ◌+◌, ◌++◌, length, vec_len, OnOk, OnErr, IsOk};
     ghost use Rattle.std.specs.Vec.{vec_capacity};
-    ghost use Rattle.rpki_chains.specs.Sets.{IsNew};
+    ghost use Rattle.rpki_block.specs.Bounds.{IsNew};
     ghost use Rattle.rpki_der.specs.Der.{Spells};
     ghost use Rattle.rpki_der.specs.Reading.{optional};
     ghost use Rattle.rpki_der.specs.Views.{Lenient, NotCanonicalOr, ReadsOptional, Strict, Takes, is_strict, left};
@@ -145,7 +145,7 @@ impl Encode for IpBlock {
 
 // The readings behind the calls.
 impl IpBlock {
-    ghost use Rattle.rpki_chains.specs.Beyond.{is_beyond};
+    ghost use Rattle.rpki_block.specs.Beyond.{is_beyond};
     ghost use Rattle.rpki_der.specs.Reading.{Gives, optional};
     ghost use Rattle.rpki_der.specs.Views.{Takes, is_strict, is_strict_in, tlv};
     ghost use Rattle.rpki_base.specs.Families.{bits_of};

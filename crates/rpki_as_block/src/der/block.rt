@@ -1,11 +1,11 @@
 //! Blocks of AS numbers in DER: an INTEGER, or a SEQUENCE of two (RFC 3779, 3.2.3.5 and 3.2.3.8).
 ghost use Rattle.std.specs.Prelude.{◌≡◌, ◌≤◌, length};
-ghost use Rattle.rpki_chains.specs.Beyond.{is_beyond};
+ghost use Rattle.rpki_block.specs.Beyond.{is_beyond};
 ghost use Rattle.rpki_der.specs.Reading.{Gives};
 ghost use Rattle.rpki_der.specs.Views.{left, tlv};
 ghost use Rattle.rpki_as_block.specs.AsDer.{as_range_content};
 ghost use Rattle.rpki_as_block.specs.AsDerReading.{as_block_of, as_range_in, skip_block_of, skip_pair};
-ghost use Rattle.rpki_chains.specs.Ranges.{range_bounds};
+ghost use Rattle.rpki_block.specs.Ranges.{range_bounds};
 
 use crate::block::AsBlock;
 use crate::range::AsRange;
@@ -17,7 +17,7 @@ use std::alloc::{AllocError, Allocator};
 impl AsBlock {
     ghost use Rattle.std.specs.Prelude.{◌≡◌, ℕ, List, Ok, Some, true, ◌≤◌, ◌+◌, ◌++◌, length, vec_len, OnOk, OnErr, IsOk};
     ghost use Rattle.std.specs.Vec.{vec_capacity};
-    ghost use Rattle.rpki_chains.specs.Sets.{IsNew};
+    ghost use Rattle.rpki_block.specs.Bounds.{IsNew};
     ghost use Rattle.rpki_der.specs.Der.{Spells};
     ghost use Rattle.rpki_der.specs.Reading.{optional};
     ghost use Rattle.rpki_der.specs.Views.{Lenient, NotCanonicalOr, ReadsOptional, Strict, Takes, is_strict, left};
@@ -104,7 +104,7 @@ impl AsBlock {
     ghost use Rattle.std.specs.Prelude.{◌≡◌, ◌≤◌, ◌+◌, ◌++◌, length, vec_len, OnOk, OnErr, IsOk};
     ghost use Rattle.std.specs.Vec.{vec_capacity};
     ghost use Rattle.rpki_as_block.specs.AsDer.{as_block_octets};
-    ghost use Rattle.rpki_chains.specs.Beyond.{is_beyond};
+    ghost use Rattle.rpki_block.specs.Beyond.{is_beyond};
     ghost use Rattle.rpki_as_block.specs.Blocks.{as_bounds};
     ghost use Rattle.rpki_der.specs.Reading.{Gives, optional};
     ghost use Rattle.rpki_der.specs.Views.{Takes, is_strict, tlv};

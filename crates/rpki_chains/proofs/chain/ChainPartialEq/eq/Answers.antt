@@ -2,7 +2,7 @@
 use Rattle.rpki_chains.proofs.Imports.{ap, arith, map, nat_tests, ℕ, ◌≡◌}
 use Rattle.std.specs.Bool.{Decides, one_answer}
 use Rattle.std.specs.Cmp.Lexicographic.{pointwise_decides}
-use Rattle.rpki_chains.specs.Equality.{is_same_pair}
+use Rattle.rpki_block.specs.Equality.{is_same_pair}
 use Rattle.rpki_chains.proofs.Sorts.{same_cover}
 use Rattle.rpki_chains.proofs.Unique.{IsChain-unique}
 use Rattle.rpki_chains.proofs.chain.ChainPartialEq.eq.Goals as goal

@@ -1,6 +1,7 @@
 -- Blocks meet where neither ends before the other begins.
-use Rattle.rpki_chains.proofs.Imports.{IsTrue, arith, max, ◌≤◌, nat_tests}
-use Rattle.rpki_chains.proofs.block.Block.intersects.Goals as goal
+use Rattle.std.proofs.Common.{IsTrue, arith, max, ◌≤◌}
+use Rattle.std.proofs.lemmas.Bool.Decides.{nat_tests}
+use Rattle.rpki_block.proofs.block.Block.intersects.Goals as goal
 
 pub returns-then-le : goal.returns-then-le
 returns-then-le g c =

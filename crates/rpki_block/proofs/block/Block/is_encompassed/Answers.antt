@@ -1,6 +1,7 @@
 -- A block lies in another where its ends do.
-use Rattle.rpki_chains.proofs.Imports.{arith, nat_tests}
-use Rattle.rpki_chains.proofs.block.Block.is_encompassed.Goals as goal
+use Rattle.std.proofs.Common.{arith}
+use Rattle.std.proofs.lemmas.Bool.Decides.{nat_tests}
+use Rattle.rpki_block.proofs.block.Block.is_encompassed.Goals as goal
 
 pub returns-then-le : goal.returns-then-le
 returns-then-le g c = grind (arith, nat_tests, g.met.Self.Block.in_order, g.met.Self.Item.Ord.matches_partial_cmp)

@@ -1,7 +1,9 @@
 -- Blocks that are not apart lie together between the lesser minimum and the greater maximum.
-use Rattle.rpki_chains.proofs.Imports.{arith, max, ℕ, ◌+◌, ◌↔◌, ◌≡◌, ◌≤◌, ◌⊎◌, cases_lt, nat_tests, IsWithin}
-use Rattle.std.proofs.Common.{min}
-use Rattle.rpki_chains.proofs.block.Block.sum.Goals as goal
+use Rattle.std.proofs.Common.{arith, max, ℕ, ◌+◌, ◌↔◌, ◌≡◌, ◌≤◌, ◌⊎◌, min}
+use Rattle.std.proofs.lemmas.Bool.{cases_lt}
+use Rattle.std.proofs.lemmas.Bool.Decides.{nat_tests}
+use Rattle.rpki_block.specs.Bounds.{IsWithin}
+use Rattle.rpki_block.proofs.block.Block.sum.Goals as goal
 
 -- between the lesser minimum and the greater maximum of two blocks that overlap or touch lie their numbers alone
 over_both : (s b d : ℕ × ℕ) → s.0 ≡ min b.0 d.0 → s.1 ≡ max b.1 d.1 → d.0 ≤ b.1 + 1 → b.0 ≤ d.1 + 1 → (n : ℕ)

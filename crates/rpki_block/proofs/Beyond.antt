@@ -1,6 +1,7 @@
 -- The test of where a block may begin says so.
-use Rattle.rpki_chains.proofs.Imports.{Option, arith, true, ℕ, ◌≡◌, lt-ltb, ltb-true}
-use Rattle.rpki_chains.specs.Beyond.{IsBeyond, is_beyond}
+use Rattle.std.proofs.Common.{Option, arith, true, ℕ, ◌≡◌}
+use Rattle.std.proofs.lemmas.Bool.{lt-ltb, ltb-true}
+use Rattle.rpki_block.specs.Beyond.{IsBeyond, is_beyond}
 
 pub beyond_is : (before : Option ℕ) (n : ℕ) → is_beyond before n ≡ true → IsBeyond before n
 beyond_is before n e = grind (arith, ltb-true)

@@ -1,0 +1,138 @@
+//! A block of resources: a range of items of one kind.
+ghost use Rattle.std.specs.Prelude.{◌≡◌, ℕ, ◌+◌, ◌<◌, ◌≤◌, ◌↔◌, ◌⊎◌, IsTrue, MatchOption, IfSome, IfNone, min, max};
+ghost use Rattle.std.specs.Ordering.{nat_cmp};
+ghost use Rattle.rpki_block.specs.Bounds.{IsWithin, IsBeside, IsNew};
+
+/// A range of items, from a minimum to a maximum with all between them (RFC 3779, sections 2 and 3).
+///
+/// An item stands for a whole number, and items compare as their numbers. The items of a kind stand for all whole
+/// numbers from the kind's first to its last. A type whose values have several forms, such as a single number and a
+/// range, is lawful as long as `new` always gives the same form for the same bounds.
+pub trait Block: Drop {
+    /// What a block is a range of.
+    type Item: Copy + Eq + Ord;
+
+    /// The number of the kind's first item.
+    ghost first: { ℕ };
+
+    /// The number of the kind's last item.
+    ghost last: { ℕ };
+
+    /// The number that an item stands for.
+    ghost number: { Self.Item → ℕ };
+
+    /// The item that stands for a number.
+    ghost item_at: { ℕ → Self.Item };
+
+    /// The numbers of the minimum and of the maximum.
+    ghost bounds: { Self → ℕ × ℕ };
+
+    /// The block of given bounds, in the form that `new` gives.
+    ghost form: { ℕ × ℕ → Self };
+
+    /// The block from `min` to `max`, which must not be below `min`.
+    fn new(min: Self::Item, max: Self::Item) -> Self
+        requires { number min ≤ number max }
+        ensures bounds { bounds result ≡ (number min, number max) }
+        ensures value { result ≡ form (number min, number max) };
+
+    /// The smallest item. It is never above the largest.
+    fn min(&self) -> Self::Item
+        ensures value { number result ≡ (bounds self.now).0 }
+        ensures from_first { first ≤ number result }
+        ensures ordered { (bounds self.now).0 ≤ (bounds self.now).1 };
+
+    /// The largest item.
+    fn max(&self) -> Self::Item
+        ensures value { number result ≡ (bounds self.now).1 }
+        ensures to_last { number result ≤ last }
+        ensures ordered { (bounds self.now).0 ≤ (bounds self.now).1 };
+
+    /// The item that comes next; `None` for the kind's last item alone.
+    fn next(item: Self::Item) -> Option<Self::Item>
+        ensures { MatchOption result (number item ≡ last)
+            (λ next. (number item < last) × (number next ≡ number item + 1)) };
+
+    /// The item that comes before; `None` for the kind's first item alone.
+    fn previous(item: Self::Item) -> Option<Self::Item>
+        ensures { MatchOption result (number item ≡ first)
+            (λ previous. (first < number item) × (number previous + 1 ≡ number item)) };
+
+    /// The smallest and the largest item.
+    fn bounds(&self) -> (Self::Item, Self::Item)
+        ensures min { number result.0 ≡ (bounds self.now).0 }
+        ensures max { number result.1 ≡ (bounds self.now).1 }
+        ensures from_first { first ≤ number result.0 }
+        ensures ordered { number result.0 ≤ number result.1 }
+        ensures to_last { number result.1 ≤ last }
+    {
+        (self.min(), self.max())
+    }
+
+    /// Whether an item lies in the block.
+    fn contains(&self, item: Self::Item) -> bool
+        ensures { IsTrue result ↔ IsWithin (bounds self.now) (number item) }
+    {
+        self.min() <= item && self.max() >= item
+    }
+
+    /// Whether the blocks have an item in common.
+    fn intersects(&self, other: &Self) -> bool
+        ensures { IsTrue result ↔
+            ((n : ℕ) × IsWithin (bounds self.now) n × IsWithin (bounds other.now) n) }
+    {
+        self.min() <= other.max() && self.max() >= other.min()
+    }
+
+    /// Whether each item of the block lies in the other.
+    fn is_encompassed(&self, other: &Self) -> bool
+        ensures { IsTrue result ↔
+            ((n : ℕ) → IsWithin (bounds self.now) n → IsWithin (bounds other.now) n) }
+    {
+        other.min() <= self.min() && other.max() >= self.max()
+    }
+
+    /// The block over both where they overlap or touch, `None` where they are apart.
+    fn sum(&self, other: &Self) -> Option<Self>
+        ensures over { IfSome result (λ sum. (n : ℕ) → IsWithin (bounds sum) n ↔
+            (IsWithin (bounds self.now) n ⊎ IsWithin (bounds other.now) n)) }
+        ensures new_form { IfSome result (IsNew bounds form) }
+        ensures apart { IfNone result (IsBeside (bounds self.now) (bounds other.now) → ⊥) }
+    {
+        let (min, max) = self.bounds();
+        let (low, high) = other.bounds();
+        if let Some(next) = Self::next(max) {
+            if next < low {
+                return None;
+            }
+        }
+        if let Some(next) = Self::next(high) {
+            if next < min {
+                return None;
+            }
+        }
+        let first = if min <= low { min } else { low };
+        let last = if max <= high { high } else { max };
+        Some(Self::new(first, last))
+    }
+
+    /// Whether the blocks have the same bounds, in whatever form they are.
+    fn is_equivalent(&self, other: &Self) -> bool
+        ensures { IsTrue result ↔ (bounds self.now ≡ bounds other.now) }
+    {
+        self.min() == other.min() && self.max() == other.max()
+    }
+
+    /// Items compare as their numbers.
+    ghost in_order: { (x y : Self.Item) → Self.Item.cmp x y ≡ nat_cmp (number x) (number y) };
+
+    /// Each number from the first to the last has an item.
+    ghost no_gaps: { (n : ℕ) → first ≤ n → n ≤ last → number (item_at n) ≡ n };
+
+    /// An item is known by its number.
+    ghost one_item: { (x y : Self.Item) → number x ≡ number y → x ≡ y };
+
+    /// The block of given bounds has these bounds.
+    ghost form_bounds: { (b : ℕ × ℕ) → first ≤ b.0 → b.0 ≤ b.1 → b.1 ≤ last →
+        bounds (form b) ≡ b };
+}

@@ -2,7 +2,7 @@
 ghost use Rattle.std.specs.Prelude.{IfOk};
 ghost use Rattle.rpki_chain.specs.Runs.{Holds};
 ghost use Rattle.rpki_cover.specs.Covers.{IsShortestCover, IsV4CoverList};
-ghost use Rattle.rpki_family.specs.SetCovers.{Ipv4Of};
+ghost use Rattle.rpki_family.specs.Families.{Ipv4Of};
 
 use rpki_resources::repository::resources::{Ipv4Blocks, Ipv6Blocks, Prefix};
 use std::alloc::{AllocError, Allocator};

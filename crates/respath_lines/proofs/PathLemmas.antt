@@ -1,18 +1,11 @@
 -- The parts of a path, and what is read of them.
-use Rattle.respath_lines.proofs.Common.{List, Result, [], ap, arith, drop, eqb, get_or, inl, inr, length, subst, sym, take, ℕ, ◌++◌, ◌+◌, ◌<◌, ◌∙◌, ◌∷◌, ◌≡◌, All, after_first, before_first, position_or_len, AddressFamily, Claim, claim_of, Holds, Runs, HasBlocks, IsSetOf, HasFirstFault, HaveValues, IfRefused, AnswersOrMemory, OrMemory, Memory, Refused, ArePath, HasRootFault, HasStepFault, HavePathFault, IsStepText, ShowsLeft, ShowsPath, list_of, parts_of}
-use Rattle.std.proofs.lemmas.List.Elements.{All-nil, All-cons}
+use Rattle.respath_lines.proofs.Common.{List, Result, [], ap, arith, drop, eqb, get_or, length, sym, take, ℕ, ◌++◌, ◌+◌, ◌<◌, ◌∙◌, ◌∷◌, ◌≡◌, after_first, before_first, position_or_len, Claim, Holds, Runs, HasFirstFault, HaveValues, IfRefused, AnswersOrMemory, OrMemory, Memory, Refused, HasRootFault, HasStepFault, HavePathFault, IsStepText, ShowsLeft, ShowsPath, parts_of}
 use Rattle.std.proofs.lemmas.List.Splits.{slice_split_none, slice_split_first}
 use Rattle.std.proofs.lemmas.List.Sums.{fails_before_first}
 use Rattle.rpki_text.proofs.ListLemmas.{parts_at}
 use Rattle.rpki_chain.specs.Paths.{IsPathResult, IsFirstRefusal}
 use Rattle.rpki_chain.specs.declared.path.PathRefusal.{PathRefusal}
 use Rattle.rpki_chain.specs.declared.path.Step.{Step}
-use Rattle.rpki_ip.specs.Whole.{IsWhole}
-use Rattle.rpki_base.specs.declared.family.AddressFamily.TheVariants.{Ipv4, Ipv6}
-use Rattle.rpki_ipres.specs.Families.{IsClaimIn}
-use Rattle.rpki_ipres.specs.Resources.{IsWholeClaim}
-use Rattle.rpki_ip_block.proofs.WholeReadings.{whole_list}
-use Rattle.rpki_ipres.proofs.WholeReadings.{whole_cover}
 use Rattle.respath_lines.specs.declared.steps.PartFault.{PartFault}
 
 -- a text without a bar is one part
@@ -64,33 +57,3 @@ pub shows_path : (list_text excess_text : Runs → List ℕ) (root : Runs) (step
     (IsFirstRefusal (λ claim. claim) (Holds root) steps) left → (text : List ℕ)
     → ShowsLeft list_text excess_text left text → ShowsPath list_text excess_text root steps text
 shows_path list_text excess_text root steps left is text shows = grind (arith)
-
--- ---- addresses
-
--- the set that a list of IPv4 blocks writes consists of whole addresses
-whole_listed : (list : List ℕ) (set : Runs) → IsSetOf (HasBlocks Ipv4 list) set → IsWhole (Holds set)
-whole_listed list set is = whole_cover is.blocks set (whole_list list is.blocks is.are_written) is.covered
-
-whole_claim_of : (set : Runs) → IsWhole (Holds set) → IsWholeClaim (claim_of set)
-whole_claim_of set whole = grind (arith)
-
-whole_step : (part : List ℕ) (step : Step Claim) → IsStepText (λ c. c) (λ list. IsSetOf (HasBlocks Ipv4 list)) part step
-    → IsWholeClaim step.claim
-whole_step part step (inl inherits) = subst IsWholeClaim (sym inherits.1) tt
-whole_step part step (inr (inl misses)) = subst IsWholeClaim (sym misses.1) tt
-whole_step part step (inr (inr (mode, set, writes, same))) = subst IsWholeClaim (sym same) (whole_claim_of set (whole_listed (list_of part) set writes))
-
-whole_steps : (parts : List (List ℕ)) (steps : List (Step Claim))
-    → HaveValues (IsStepText (λ c. c) (λ list. IsSetOf (HasBlocks Ipv4 list))) parts steps
-    → All (λ (s : Step Claim). IsWholeClaim s.claim) steps
-whole_steps parts [] have = All-nil (λ (s : Step Claim). IsWholeClaim s.claim)
-whole_steps [] (step ∷ steps) have = absurd have
-whole_steps (part ∷ parts) (step ∷ steps) have = All-cons (λ (s : Step Claim). IsWholeClaim s.claim) step steps (whole_step part step have.0) (whole_steps parts steps have.1)
-
--- so what a path claims of a family is of the family
-pub path_in : (family : AddressFamily) (parts : List (List ℕ)) (root : Runs) (steps : List (Step Claim))
-    → ArePath (λ c. c) (λ list. IsSetOf (HasBlocks family list)) parts root steps
-    → All (λ (s : Step Claim). IsClaimIn family s.claim) steps
-path_in Ipv4 [] root steps are = absurd are
-path_in Ipv4 (list ∷ parts) root steps are = whole_steps parts steps are.1
-path_in Ipv6 parts root steps are = λ k d small. tt

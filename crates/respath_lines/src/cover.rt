@@ -9,11 +9,10 @@ use crate::kind::{Kind, kind_named};
 use crate::shown::{tell, tell_fault};
 use rpki_addr::addr::print::{PREFIX_ROOM, put, put_with_length, write_front};
 use rpki_base::memory::OrMemory;
-use rpki_family::blocks::FamilyBlocks;
-use rpki_family::family::{Family, Ipv4Family, Ipv6Family};
 use rpki_ip::family::AddressFamily;
 use rpki_ip::prefix::Prefix;
 use rpki_ip::text::shown_addr;
+use rpki_ipres::blocks::IpBlocks;
 use std::alloc::{AllocError, Allocator};
 use std::fmt;
 
@@ -27,22 +26,23 @@ pub(crate) fn cover<A: Allocator + Copy>(
     ensures { OnOk result (IsCoverAnswer kind.now list.now (string_bytes answer.new)) }
 {
     match kind_named(kind) {
-        Some(Kind::V4) => cover_ip::<Ipv4Family, A>(alloc, list, answer),
-        Some(Kind::V6) => cover_ip::<Ipv6Family, A>(alloc, list, answer),
+        Some(Kind::V4) => cover_ip(alloc, AddressFamily::Ipv4, list, answer),
+        Some(Kind::V6) => cover_ip(alloc, AddressFamily::Ipv6, list, answer),
         Some(Kind::As) | None => tell(answer, "error: unknown kind"),
     }
 }
 
 /// Tells the prefixes that cover the set that a list of blocks of a family writes, or the fault of the list.
-fn cover_ip<F: Family, A: Allocator + Copy>(
+fn cover_ip<A: Allocator + Copy>(
     alloc: A,
+    family: AddressFamily,
     list: &str,
     answer: &mut String<A>,
 ) -> Result<(), AllocError>
-    ensures { OnOk result (IsCoverIp F.FAMILY list.now (string_bytes answer.new)) }
+    ensures { OnOk result (IsCoverIp family list.now (string_bytes answer.new)) }
 {
-    match FamilyBlocks::<F, A>::from_str(alloc, list) {
-        Ok(set) => print_prefixes(answer, F::FAMILY, set.prefixes()),
+    match IpBlocks::from_family_str(alloc, family, list) {
+        Ok(set) => print_prefixes(answer, family, set.prefixes()),
         Err(OrMemory::Refused(fault)) => tell_fault(answer, &fault),
         Err(OrMemory::Memory(error)) => Err(error),
     }

@@ -12,12 +12,11 @@ use rpki_as::blocks::AsBlocks;
 use rpki_as::error::FromStrError as AsFromStrError;
 use rpki_as::resources::AsResources;
 use rpki_base::memory::OrMemory;
-use rpki_family::blocks::FamilyBlocks;
-use rpki_family::family::Family;
 use rpki_ip::error::FromStrError;
+use rpki_ip::family::AddressFamily;
+use rpki_ipres::blocks::IpBlocks;
 use rpki_ipres::resources::IpResources;
 use std::alloc::Allocator;
-use std::marker::PhantomData;
 
 /// Reads the lists of a kind of resources, and makes claims of them.
 pub(crate) trait Lists<A: Allocator> {
@@ -97,41 +96,32 @@ impl<A: Allocator + Copy> Lists<A> for AsLists {
 }
 
 /// Lists of blocks of addresses of a family.
-#[derive(Drop)]
-pub(crate) struct IpLists<F> {
-    family: PhantomData<F>,
+#[derive(Clone, Copy)]
+pub(crate) struct IpLists {
+    pub(crate) family: AddressFamily,
 }
 
-impl<F: Family> IpLists<F> {
-    /// The reader of such lists.
-    pub(crate) fn new() -> IpLists<F> {
-        IpLists {
-            family: PhantomData,
-        }
-    }
-}
-
-impl<F: Family, A: Allocator + Copy> Lists<A> for IpLists<F> {
-    type Set = FamilyBlocks<F, A>;
+impl<A: Allocator + Copy> Lists<A> for IpLists {
+    type Set = IpBlocks<A>;
 
     type Fault = FromStrError;
 
     type Resources = IpResources<A>;
 
-    ghost writes = { λ _ list. IsSetOf (HasBlocks F.FAMILY list) };
+    ghost writes = { λ lists list. IsSetOf (HasBlocks lists.family list) };
 
-    ghost fails = { λ _. HasBlocksFault F.FAMILY };
+    ghost fails = { λ lists. HasBlocksFault lists.family };
 
     ghost runs = { λ set. set };
 
     ghost claim = { λ claim. claim };
 
-    fn read(&self, alloc: A, list: &str) -> Result<FamilyBlocks<F, A>, OrMemory<FromStrError>> {
-        FamilyBlocks::from_str(alloc, list)
+    fn read(&self, alloc: A, list: &str) -> Result<IpBlocks<A>, OrMemory<FromStrError>> {
+        IpBlocks::from_family_str(alloc, self.family, list)
     }
 
-    fn listed(set: FamilyBlocks<F, A>) -> IpResources<A> {
-        IpResources::blocks(set.into_ip_blocks())
+    fn listed(set: IpBlocks<A>) -> IpResources<A> {
+        IpResources::blocks(set)
     }
 
     fn missing() -> IpResources<A> {

@@ -4,10 +4,11 @@ ghost use Rattle.std.specs.String.{string_bytes};
 ghost use Rattle.respath_lines.specs.Norm.{IsNormAnswer, IsNormAs, IsNormIp};
 
 use crate::kind::{Kind, kind_named};
-use crate::shown::{show, tell};
+use crate::shown::{print_set, show, tell, tell_fault};
 use rpki_as::blocks::AsBlocks;
-use rpki_family::blocks::FamilyBlocks;
-use rpki_family::family::{Family, Ipv4Family, Ipv6Family};
+use rpki_base::memory::OrMemory;
+use rpki_ip::family::AddressFamily;
+use rpki_ipres::blocks::IpBlocks;
 use std::alloc::{AllocError, Allocator};
 
 /// The answer to `norm KIND LIST`.
@@ -21,8 +22,8 @@ pub(crate) fn norm<A: Allocator + Copy>(
 {
     match kind_named(kind) {
         Some(Kind::As) => norm_as(alloc, list, answer),
-        Some(Kind::V4) => norm_ip::<Ipv4Family, A>(alloc, list, answer),
-        Some(Kind::V6) => norm_ip::<Ipv6Family, A>(alloc, list, answer),
+        Some(Kind::V4) => norm_ip(alloc, AddressFamily::Ipv4, list, answer),
+        Some(Kind::V6) => norm_ip(alloc, AddressFamily::Ipv6, list, answer),
         None => tell(answer, "error: unknown kind"),
     }
 }
@@ -39,12 +40,17 @@ fn norm_as<A: Allocator + Copy>(
 }
 
 /// The set that a list of blocks of a family writes, printed, or the fault of the list.
-fn norm_ip<F: Family, A: Allocator + Copy>(
+fn norm_ip<A: Allocator + Copy>(
     alloc: A,
+    family: AddressFamily,
     list: &str,
     answer: &mut String<A>,
 ) -> Result<(), AllocError>
-    ensures { OnOk result (IsNormIp F.FAMILY list.now (string_bytes answer.new)) }
+    ensures { OnOk result (IsNormIp family list.now (string_bytes answer.new)) }
 {
-    show(answer, FamilyBlocks::<F, A>::from_str(alloc, list))
+    match IpBlocks::from_family_str(alloc, family, list) {
+        Ok(set) => print_set(answer, family, &set),
+        Err(OrMemory::Refused(fault)) => tell_fault(answer, &fault),
+        Err(OrMemory::Memory(error)) => Err(error),
+    }
 }

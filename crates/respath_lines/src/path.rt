@@ -1,16 +1,23 @@
 //! The command `path`: what the claims along a path leave of a root, or the first of them that is refused.
 ghost use Rattle.std.specs.Prelude.{◌≡◌, ℕ, List, Some, OnOk};
 ghost use Rattle.std.specs.String.{string_bytes};
+ghost use Rattle.rpki_as.specs.Faults.{overclaimed_as_text};
+ghost use Rattle.rpki_as.specs.ListText.{as_list_text};
+ghost use Rattle.rpki_ipres.specs.SetText.{overclaimed_ip_text, set_text};
 ghost use Rattle.respath_lines.specs.Path.{IsPathAnswer, IsPathAs, IsPathIp, ShowsLeft, part_fault_text, refusal_text};
 ghost use Rattle.respath_lines.specs.Shown.{error_line};
 
 use crate::kind::{Kind, kind_named};
 use crate::lists::{AsLists, IpLists};
-use crate::shown::{print, tell, tell_fault};
+use crate::shown::{print, print_set, tell, tell_fault};
 use crate::steps::{PartFault, read_path};
+use rpki_as::blocks::AsBlocks;
+use rpki_as::verify::OverclaimedAsResources;
 use rpki_base::memory::OrMemory;
 use rpki_chain::path::PathRefusal;
-use rpki_family::family::{Family, Ipv4Family, Ipv6Family};
+use rpki_ip::family::AddressFamily;
+use rpki_ipres::blocks::IpBlocks;
+use rpki_ipres::overclaim::OverclaimedIpResources;
 use std::alloc::{AllocError, Allocator};
 use std::fmt;
 
@@ -25,8 +32,8 @@ pub(crate) fn path<A: Allocator + Copy>(
 {
     match kind_named(kind) {
         Some(Kind::As) => path_as(alloc, path, answer),
-        Some(Kind::V4) => path_ip::<Ipv4Family, A>(alloc, path, answer),
-        Some(Kind::V6) => path_ip::<Ipv6Family, A>(alloc, path, answer),
+        Some(Kind::V4) => path_ip(alloc, AddressFamily::Ipv4, path, answer),
+        Some(Kind::V6) => path_ip(alloc, AddressFamily::Ipv6, path, answer),
         None => tell(answer, "error: unknown kind"),
     }
 }
@@ -40,7 +47,7 @@ fn path_as<A: Allocator + Copy>(
     ensures { OnOk result (IsPathAs path.now (string_bytes answer.new)) }
 {
     match read_path(alloc, &AsLists, path) {
-        Ok((root, steps)) => told(root.verify_path(alloc, steps.as_slice()), answer),
+        Ok((root, steps)) => told_as(root.verify_path(alloc, steps.as_slice()), answer),
         Err(OrMemory::Refused(fault)) => unread(fault, answer),
         Err(OrMemory::Memory(error)) => Err(error),
     }
@@ -48,34 +55,51 @@ fn path_as<A: Allocator + Copy>(
 
 /// What a path leaves of a set of addresses of a family, its first refusal, or the fault of its first part that isn't
 /// read.
-fn path_ip<F: Family, A: Allocator + Copy>(
+fn path_ip<A: Allocator + Copy>(
     alloc: A,
+    family: AddressFamily,
     path: &str,
     answer: &mut String<A>,
 ) -> Result<(), AllocError>
-    ensures { OnOk result (IsPathIp F.FAMILY path.now (string_bytes answer.new)) }
+    ensures { OnOk result (IsPathIp family path.now (string_bytes answer.new)) }
 {
-    match read_path(alloc, &IpLists::<F>::new(), path) {
-        Ok((root, steps)) => told(root.verify_path(alloc, steps.as_slice()), answer),
+    match read_path(alloc, &IpLists { family }, path) {
+        Ok((root, steps)) => told_ip(family, root.verify_path(alloc, steps.as_slice()), answer),
         Err(OrMemory::Refused(fault)) => unread(fault, answer),
         Err(OrMemory::Memory(error)) => Err(error),
     }
 }
 
-/// What is printed of what a path leaves, or of its first refusal. `AllocError` where there was no memory for what it
-/// leaves, or there is none for the text.
-fn told<S: fmt::Display + Drop, F: fmt::Display + Drop, A: Allocator>(
-    left: Result<S, OrMemory<PathRefusal<F>>>,
+/// What is printed of what a path leaves of AS numbers, or of its first refusal. `AllocError` where there was no memory
+/// for what it leaves, or there is none for the text.
+fn told_as<A: Allocator>(
+    left: Result<AsBlocks<A>, OrMemory<PathRefusal<OverclaimedAsResources<A>>>>,
     answer: &mut String<A>,
 ) -> Result<(), AllocError>
-    // Whatever text each set and each fault prints, that is what is told.
-    ensures { (list_text : S → List ℕ) → ((set : S) → S.output set ≡ Some (list_text set))
-        → (excess_text : F → List ℕ) → ((fault : F) → F.output fault ≡ Some (excess_text fault))
-        → OnOk result (ShowsLeft list_text excess_text left (string_bytes answer.new)) }
+    ensures { OnOk result (ShowsLeft as_list_text overclaimed_as_text left (string_bytes answer.new)) }
 {
     match left {
         Ok(set) => print(answer, &set),
         Err(OrMemory::Refused(refusal)) => refused(refusal, answer),
+        Err(OrMemory::Memory(error)) => Err(error),
+    }
+}
+
+/// The same of addresses, which are printed as those of a family.
+fn told_ip<A: Allocator>(
+    family: AddressFamily,
+    left: Result<IpBlocks<A>, OrMemory<PathRefusal<OverclaimedIpResources<A>>>>,
+    answer: &mut String<A>,
+) -> Result<(), AllocError>
+    ensures { OnOk result (ShowsLeft (set_text family) (overclaimed_ip_text family) left
+        (string_bytes answer.new)) }
+{
+    match left {
+        Ok(set) => print_set(answer, family, &set),
+        Err(OrMemory::Refused(PathRefusal { step, fault })) => {
+            let fault = fault.as_family(family);
+            refused(PathRefusal { step, fault }, answer)
+        }
         Err(OrMemory::Memory(error)) => Err(error),
     }
 }

@@ -7,12 +7,11 @@ ghost use Rattle.rpki_as.specs.AsDer.{IsAsResources};
 ghost use Rattle.rpki_as.specs.AsDerReading.{as_choice_at};
 ghost use Rattle.rpki_base.specs.FamiliesDer.{of_family};
 ghost use Rattle.rpki_ipres.specs.ResourcesDer.{IsIpFamilies, ip_families_at};
-ghost use Rattle.rpki_ipres.specs.SetText.{set_text};
 ghost use Rattle.respath_lines.specs.Read.{HasFault, IsEnded, IsReadAnswer, IsReadAs, IsReadIp, ShowsFamily, family_text};
 
 use crate::hexadecimal::octets_of;
 use crate::kind::{Kind, kind_named};
-use crate::shown::{print, show, tell, tell_fault};
+use crate::shown::{print_set, show, tell, tell_fault};
 use rpki_as::resources::AsResources;
 use rpki_base::memory::OrMemory;
 use rpki_der::{Cursor, DerError};
@@ -136,17 +135,6 @@ fn families_in<A: Allocator + Copy>(
     let mut cursor = Cursor::new(octets);
     let taken = IpResources::take_families_from(alloc, &mut cursor);
     ended(taken, cursor)
-}
-
-/// Tells what is printed of a set of addresses of a family.
-fn print_set<A: Allocator>(
-    answer: &mut String<A>,
-    family: AddressFamily,
-    set: &IpBlocks<A>,
-) -> Result<(), AllocError>
-    ensures { OnOk result (string_bytes answer.new ≡ set_text family set.now) }
-{
-    print(answer, &set.as_family(family))
 }
 
 /// Tells what is printed of the resources of a family.

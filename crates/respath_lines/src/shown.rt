@@ -1,9 +1,12 @@
 //! How an answer shows what a call gave. Each of these puts what it tells in the place of what the answer had.
 ghost use Rattle.std.specs.Prelude.{◌≡◌, ℕ, List, Some, OnOk};
 ghost use Rattle.std.specs.String.{string_bytes};
+ghost use Rattle.rpki_ipres.specs.SetText.{set_text};
 ghost use Rattle.respath_lines.specs.Shown.{ShowsResult, error_line};
 
 use rpki_base::memory::OrMemory;
+use rpki_ip::family::AddressFamily;
+use rpki_ipres::blocks::IpBlocks;
 use std::alloc::{AllocError, Allocator};
 use std::fmt;
 
@@ -26,6 +29,17 @@ pub(crate) fn print<T: fmt::Display, A: Allocator>(
 {
     answer.clear();
     write!(answer, "{value}")
+}
+
+/// Tells what is printed of a set of addresses of a family.
+pub(crate) fn print_set<A: Allocator>(
+    answer: &mut String<A>,
+    family: AddressFamily,
+    set: &IpBlocks<A>,
+) -> Result<(), AllocError>
+    ensures { OnOk result (string_bytes answer.new ≡ set_text family set.now) }
+{
+    print(answer, &set.as_family(family))
 }
 
 /// Tells what is printed of a fault, behind `error: `.

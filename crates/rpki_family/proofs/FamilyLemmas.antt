@@ -1,5 +1,5 @@
 -- What is of a family: by cases, IPv4 where addresses are whole, and IPv6 where there is nothing to show.
-use Rattle.rpki_family.proofs.Common.{List, map, ◌≡◌, All, arith, family_of, Holds, IsRunsOfBlocks, Runs, ip_bounds, new_ip_block, prefix_bounds, IpBlock, IsFamilySet, IsIpSet, HasBoundsIn, IsCoverListIn, runs_cover}
+use Rattle.rpki_family.proofs.Common.{List, map, ◌≡◌, All, arith, family_of, Holds, IsRunsOfBlocks, Runs, ip_bounds, new_ip_block, prefix_bounds, IpBlock, IsFamilySet, IsIpSet, HasBoundsIn, IsCoverListIn, IsShortestCover}
 use Rattle.rpki_base.specs.declared.family.AddressFamily.{AddressFamily}
 use Rattle.rpki_base.specs.declared.family.AddressFamily.TheVariants.{Ipv4, Ipv6}
 use Rattle.rpki_chain.specs.Claims.{Claim}
@@ -7,6 +7,7 @@ use Rattle.rpki_chain.specs.Paths.{IsUncovered}
 use Rattle.rpki_family.proofs.CoverLemmas.{v4_covered}
 use Rattle.rpki_prefix.specs.Values.{FamilyPrefix, IsFamilyPrefix}
 use Rattle.rpki_addr.specs.AddrText.{first_of}
+use Rattle.rpki_addr.specs.Prefixes.{PrefixValue}
 use Rattle.rpki_ip_block.proofs.WholeReadings.{whole_family_prefix}
 use Rattle.rpki_ipres.proofs.SetTextLemmas.{blocks_of_family}
 use Rattle.rpki_ipres.proofs.WholeReadings.{whole_cover}
@@ -31,9 +32,9 @@ blocks_in Ipv4 xs set made is = rw made (λ k d small. (blocks_of_family Ipv4 se
 blocks_in Ipv6 xs set made is = λ k d small. tt
 
 -- a set's shortest cover
-pub covered_in : (family : AddressFamily) (set : Runs) → IsIpSet set → IsWholeIn family set
-    → IsCoverListIn family set (runs_cover 128 set)
-covered_in family set is whole = grind (arith, v4_covered set)
+pub covered_in : (family : AddressFamily) (set : Runs) (ps : List PrefixValue) → IsIpSet set → IsWholeIn family set
+    → IsShortestCover 128 (Holds set) ps → IsCoverListIn family set ps
+covered_in family set ps is whole shortest = grind (arith, v4_covered set ps)
 
 -- what an issuer's claim doesn't have of a set of the family
 pub uncovered_in : (family : AddressFamily) (set excess : Runs) (issuer : Claim)

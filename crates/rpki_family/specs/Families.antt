@@ -1,17 +1,20 @@
 -- What is of a family: all bounds in IPv6, and in IPv4 whole ones; and covers by its own addresses.
-use Rattle.std.specs.Prelude.{ℕ, List, ⊤}
+use Rattle.std.specs.Prelude.{ℕ, ◌*◌, ◌^◌, List, ⊤}
 use Rattle.rpki_addr.specs.Prefixes.{PrefixValue}
-use Rattle.rpki_chain.specs.Runs.{Runs}
+use Rattle.rpki_chain.specs.Runs.{Runs, Holds}
 use Rattle.rpki_cover.specs.Covers.{IsV4CoverList}
 use Rattle.rpki_ip.specs.Whole.{HasWholeBounds}
 use Rattle.rpki_base.specs.declared.family.AddressFamily.{AddressFamily}
 use Rattle.rpki_base.specs.declared.family.AddressFamily.TheVariants.{Ipv4, Ipv6}
-use Rattle.rpki_family.specs.SetCovers.{Ipv4Of}
 
 -- the bounds are those of a block of the family
 abbrev pub HasBoundsIn : AddressFamily → ℕ × ℕ → Type 0
 HasBoundsIn Ipv4 b = HasWholeBounds b
 HasBoundsIn Ipv6 b = ⊤
+
+-- the IPv4 addresses of a set of whole ones
+abbrev pub Ipv4Of : Runs → ℕ → Type 0
+Ipv4Of set a = Holds set (a * 2 ^ 96)
 
 -- the prefixes are those that cover a set of the family by its own addresses
 abbrev pub IsCoverListIn : AddressFamily → Runs → List PrefixValue → Type 0

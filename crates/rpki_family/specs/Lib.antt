@@ -1,4 +1,3 @@
 pub mod Families
 pub mod FamilyText
 pub mod PrefixBlocks
-pub mod SetCovers

@@ -1,4 +1,5 @@
 pub mod Common
+pub mod CoverLemmas
 pub mod DerFaults
 pub mod FamilyModes
 pub mod FamilyWritten

@@ -15,6 +15,7 @@ pub mod der;
 pub mod family;
 pub mod laws;
 pub mod overclaim;
+pub mod prefixes;
 pub mod resources;
 pub mod verify;
 
@@ -23,9 +24,10 @@ pub use blocks::IpBlocks;
 pub use builder::{IpBlocksBuilder, IpResourcesBuilder};
 pub use family::IpBlocksForFamily;
 pub use overclaim::{
-    OverclaimedFamilyResources, OverclaimedIpResources, OverclaimedIpv4Resources,
-    OverclaimedIpv6Resources,
+    OverclaimedFamilyResources, OverclaimedForFamily, OverclaimedIpResources,
+    OverclaimedIpv4Resources, OverclaimedIpv6Resources,
 };
+pub use prefixes::SetPrefixes;
 pub use resources::{InheritedIpResources, IpResources};
 pub use text::{DisplayV4Block, DisplayV6Block};
 pub use verify::IpStep;

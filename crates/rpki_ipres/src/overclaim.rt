@@ -40,6 +40,16 @@ impl<A: Allocator> OverclaimedIpResources<A> {
         &self.excess
     }
 
+    /// The fault, to be displayed as one of the family.
+    pub fn as_family(&self, family: AddressFamily) -> OverclaimedForFamily<'_, A>
+        ensures { result ≡ (family, self.now) }
+    {
+        OverclaimedForFamily {
+            family,
+            excess: &self.excess,
+        }
+    }
+
     /// The same fault; its addresses have one owner more. `AllocError` where std refuses that owner.
     pub fn clone(&self) -> Result<OverclaimedIpResources<A>, AllocError>
         ensures { IfOk result (λ fault. fault ≡ self.now) }
@@ -108,6 +118,48 @@ impl<A: Allocator> PartialEq for OverclaimedIpResources<A> {
 
 impl<A: Allocator> Eq for OverclaimedIpResources<A> {
     ghost laws = { runs_equiv };
+}
+
+/// A fault of claims of addresses that is displayed as one of a family.
+///
+/// Contracts see it as the family and the runs of what is claimed too much.
+#[derive(Drop)]
+pub struct OverclaimedForFamily<'a, A: Allocator = Global> {
+    family: AddressFamily,
+    excess: &'a IpBlocks<A>,
+}
+
+impl<'a, A: Allocator> Model for OverclaimedForFamily<'a, A> {
+    ghost use Rattle.rpki_chain.specs.Runs.{Runs};
+    ghost use Rattle.rpki_base.specs.declared.family.AddressFamily.{AddressFamily};
+
+    ghost Value = { AddressFamily × Runs };
+
+    ghost view = { λ d. (d.family, d.excess.now) };
+}
+
+impl<'a, A: Allocator> fmt::Debug for OverclaimedForFamily<'a, A> {
+    fn fmt<W: fmt::Write>(&self, f: &mut fmt::Formatter<W>) -> fmt::Result {
+        f.debug_struct("OverclaimedForFamily")
+            .field("family", &self.family)
+            .field("excess", self.excess)
+            .finish()
+    }
+}
+
+/// Prints the blocks of the excess as those of the family, ascending, joined by a comma and a space, after a text of
+/// what it is.
+impl<'a, A: Allocator> fmt::Display for OverclaimedForFamily<'a, A> {
+    ghost output = { λ d. Some (overclaimed_ip_text d.0 d.1) };
+
+    fn fmt<W: fmt::Write>(&self, f: &mut fmt::Formatter<W>) -> fmt::Result {
+        let what = match self.family {
+            AddressFamily::Ipv4 => "overclaimed IPv4 resources: ",
+            AddressFamily::Ipv6 => "overclaimed IPv6 resources: ",
+        };
+        f.write_str(what)?;
+        fmt::Display::fmt(&self.excess.as_family(self.family), f)
+    }
 }
 
 /// Addresses of a family are claimed that the issuer doesn't have.
@@ -181,18 +233,16 @@ impl<F: Family, A: Allocator> Eq for OverclaimedFamilyResources<F, A> {
     ghost laws = { runs_equiv };
 }
 
-/// Prints the blocks of the excess as those of its family, ascending, joined by a comma and a space, after a text of
-/// what it is.
+/// Prints the excess as [`OverclaimedForFamily`] does.
 impl<F: Family, A: Allocator> fmt::Display for OverclaimedFamilyResources<F, A> {
     ghost output = { λ excess. Some (overclaimed_ip_text F.FAMILY excess) };
 
     fn fmt<W: fmt::Write>(&self, f: &mut fmt::Formatter<W>) -> fmt::Result {
-        let what = match F::FAMILY {
-            AddressFamily::Ipv4 => "overclaimed IPv4 resources: ",
-            AddressFamily::Ipv6 => "overclaimed IPv6 resources: ",
+        let fault = OverclaimedForFamily {
+            family: F::FAMILY,
+            excess: &self.excess,
         };
-        f.write_str(what)?;
-        fmt::Display::fmt(&self.excess.as_family(F::FAMILY), f)
+        fmt::Display::fmt(&fault, f)
     }
 }
 

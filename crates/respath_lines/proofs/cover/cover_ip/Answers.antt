@@ -1,4 +1,4 @@
-use Rattle.respath_lines.proofs.Common.{arith, inl, refl, subst, sym, on_ok_weaker, ip_from_str_error_text, Holds}
+use Rattle.respath_lines.proofs.Common.{arith, inl, refl, subst, sym, on_ok_weaker, Holds}
 use Rattle.rpki_cover.specs.Covers.{IsShortestCover}
 use Rattle.respath_lines.proofs.CoverLemmas.{drained}
 use Rattle.respath_lines.proofs.cover.cover_ip.Goals as goal
@@ -8,10 +8,9 @@ returns-in-Ok g c =
     let set = c.in-Ok.set in
     on_ok_weaker c.print_prefixes.result
     (λ printed.
-    let cover = subst (IsShortestCover 128 (Holds set)) (sym (drained _ _ printed.1)) c.prefixes.ensures.cover in
-    inl (printed.0, (set, c.in-Ok.ensures.exact.found, cover), rw c.FAMILY.ensures at printed.2))
+    let cover = subst (IsShortestCover 128 (Holds set)) (sym (drained _ _ printed.1)) c.prefixes.ensures in
+    inl (printed.0, (set, c.in-Ok.ensures.exact.found, cover), printed.2))
     c.print_prefixes.ensures
 
 pub returns-in-Err-Refused : goal.returns-in-Err-Refused
-returns-in-Err-Refused g c =
-    grind (arith, c.tell_fault.ensures (ip_from_str_error_text c.in-Err-Refused.fault) refl)
+returns-in-Err-Refused g c = grind (arith, c.tell_fault.ensures _ refl)

@@ -1,12 +1,9 @@
-use Rattle.respath_lines.proofs.Common.{arith, inr, refl, on_ok_weaker, as_list_text, as_from_str_error_text}
-use Rattle.rpki_as.specs.Faults.{overclaimed_as_text}
+use Rattle.respath_lines.proofs.Common.{arith, inr, refl, on_ok_weaker, as_from_str_error_text}
 use Rattle.respath_lines.proofs.PathLemmas.{shows_path}
 use Rattle.respath_lines.proofs.path.path_as.Goals as goal
 
 pub returns-in-Ok : goal.returns-in-Ok
-returns-in-Ok g c =
-    let told = c.told.ensures as_list_text (λ set. refl) overclaimed_as_text (λ fault. refl) in
-    grind (arith, shows_path, c.as_slice.ensures.value, told)
+returns-in-Ok g c = grind (arith, shows_path, c.as_slice.ensures.value, c.told_as.ensures)
 
 pub returns-in-Err-Refused : goal.returns-in-Err-Refused
 returns-in-Err-Refused g c =

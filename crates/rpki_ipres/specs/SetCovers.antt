@@ -1,8 +1,8 @@
 -- Covers of sets of addresses.
-use Rattle.std.specs.Prelude.{ℕ, ◌*◌, ◌^◌, List, map}
+use Rattle.std.specs.Prelude.{ℕ, List, map}
 use Rattle.std.specs.List.{flat_map}
 use Rattle.rpki_addr.specs.Prefixes.{PrefixValue}
-use Rattle.rpki_chain.specs.Runs.{Runs, Holds}
+use Rattle.rpki_chain.specs.Runs.{Runs}
 use Rattle.rpki_cover.specs.Walk.{cover_list}
 use Rattle.rpki_ip_block.specs.Blocks.{ip_bounds}
 use Rattle.rpki_ip_block.specs.declared.block.IpBlock.{IpBlock}
@@ -14,7 +14,3 @@ runs_cover w runs = flat_map (λ b. cover_list w b.0 b.1) runs
 -- and those of blocks of addresses
 abbrev pub blocks_cover : List IpBlock → List PrefixValue
 blocks_cover blocks = runs_cover 128 (map ip_bounds blocks)
-
--- the IPv4 addresses of a set of whole ones
-abbrev pub Ipv4Of : Runs → ℕ → Type 0
-Ipv4Of set a = Holds set (a * 2 ^ 96)

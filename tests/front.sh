@@ -115,12 +115,16 @@ fi
 chmod u+w "$copy/crates/rpki_text/out"
 
 # Proving: what fails is shown, a crate comes behind those that it stands on, and the program is noted.
-prover "a-kit logic 12" 'echo proving; exit 1'
+# The two crates that stand on none begin side by side, in either order.
+prover "a-kit logic 12" 'sleep 1; echo proving; exit 1'
 said=$(run "$copy/respath")
-expect "a proof that fails" 1 "$built_first
-respath: proving rpki_text (0 of N)
+expect "a proof that fails" 1 "proving
 proving
-respath: the program was not built" $? "$(echo "$said" | sed 's/ of [0-9]* are proved, after 0 min)/ of N)/')"
+respath: proving rpki_block (0 of N)
+respath: proving rpki_text (0 of N)
+$built_first
+respath: the program was not built" $? \
+    "$(echo "$said" | sed 's/ of [0-9]* are proved, after [0-9]* min)/ of N)/' | LC_ALL=C sort)"
 # shellcheck disable=SC2016 # the prover's own words
 prover "the-kit logic 12" 'echo "$1 ${PWD##*/}" >>"${0%/*}/../asked"
 for crate in $(sed "/^#/d; s/[ :].*//" ../../crates.txt); do

@@ -103,42 +103,25 @@ open_crates() {
     done
 }
 
-# The longest way from each crate up to the program, by the bytes of the sources on it, its own among them: a line for
-# each. By this it is told how long the program still takes.
-find_ways() {
-    needed_lines | while read -r crate below; do
-        bytes=$(find "$top/crates/$crate" -name out -prune -o -type f -exec cat {} + | wc -c)
-        echo "$crate $bytes $below"
-    done | awk '
-        {
-            name[NR] = $1
-            way[$1] = $2
-            for (one = 3; one <= NF; one++) above[$one] = above[$one] " " $1
-        }
-        END {
-            for (at = NR; at > 0; at--) {
-                longest = 0
-                words = split(above[name[at]], word)
-                for (one = 1; one <= words; one++) if (way[word[one]] > longest) longest = way[word[one]]
-                way[name[at]] += longest
-                print name[at], way[name[at]]
-            }
-        }'
+# The bytes of the sources of crates.
+bytes_of() {
+    for crate; do
+        find "$top/crates/$crate" -name out -prune -o -type f -exec cat {} +
+    done | wc -c
 }
 
-# The jobs for a crate. Those of the crates that can be proved now whose ways are the longest, or seven tenths as long,
-# share the processors; each other one takes one job, since two or more take more time of the processors. They are at
-# most four: each may take 1.5 GB of memory.
+# The jobs for a crate: its share of the processors, by its sources, among the crates that can be proved now; from one
+# to four. Four jobs take half more time of the processors than one, so crates side by side have one each where they
+# can; and each job may take 1.5 GB of memory.
 jobs_for() {
-    open_crates | awk -v crate="$1" -v processors="$(nproc)" '
-        NR == FNR { way[$1] = $2; next }
-        { open[$1]; if (way[$1] > longest) longest = way[$1] }
-        END {
-            for (one in open) if (10 * way[one] >= 7 * longest) sharing[one]
-            for (one in sharing) count++
-            jobs = crate in sharing ? int((processors + count - 1) / count) : 1
-            print (jobs > 4 ? 4 : jobs)
-        }' "$ways" -
+    own_bytes=$(bytes_of "$1")
+    # shellcheck disable=SC2046 # names of crates
+    open_bytes=$(bytes_of $(open_crates))
+    [ "$open_bytes" -gt "$own_bytes" ] || open_bytes=$((own_bytes + 1)) # alone, or no marks: another one failed
+    jobs=$((($(nproc) * own_bytes + open_bytes / 2) / open_bytes))
+    [ "$jobs" -gt 0 ] || jobs=1
+    [ "$jobs" -le 4 ] || jobs=4
+    echo "$jobs"
 }
 
 # Proves and builds a library in its copy, and the program where it stands.
@@ -211,8 +194,7 @@ build() {
     work=$(mktemp -d) || exit 1
     marks=$work/marks
     copies=$work/copies
-    ways=$work/ways
-    mkdir "$marks" "$copies" && find_ways >"$ways" || exit 1
+    mkdir "$marks" "$copies" || exit 1
     running=
     ending=
     trap 'ending=130' INT

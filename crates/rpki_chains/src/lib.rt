@@ -24,10 +24,11 @@ mod tally;
 mod trim;
 mod union;
 
-/// Blocks, whose trait stands in a crate of its own below this one.
 pub use difference::difference_counted;
 pub use membership::contains_item_counted;
 pub use overhang::Overhang;
-pub use rpki_block::block;
 pub use trim::trim_counted;
 pub use union::union_counted;
+
+/// Blocks, whose trait stands in a crate of its own below this one.
+pub use rpki_block::block;

@@ -41,6 +41,15 @@ impl Prefix {
         }
     }
 
+    /// The prefix of an address and a length, which are one as they stand.
+    pub(crate) fn from_parts_unchecked(addr: Addr, len: u8) -> Prefix
+        requires { IsPrefix 128 (record { first = addr; len = len }) }
+        ensures value { result ≡ record { first = addr; len = len } }
+        ensures prefix { IsPrefix 128 result }
+    {
+        Prefix { addr, len }
+    }
+
     /// All addresses: the prefix of length 0.
     pub fn all() -> Prefix
         ensures { result ≡ record { first = 0; len = 0 } }

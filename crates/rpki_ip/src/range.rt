@@ -2,7 +2,7 @@
 ghost use Rattle.std.specs.Prelude.{◌≡◌, ◌≤◌, ◌↔◌, IsTrue, Ok, IfOk, IfErr, IfSome, IfNone};
 ghost use Rattle.rpki_addr.specs.Prefixes.{PrefixValue, IsPrefix};
 ghost use Rattle.rpki_block.specs.Bounds.{IsWithin};
-ghost use Rattle.rpki_ip.specs.Ranges.{IsRangeOf, range_bounds};
+ghost use Rattle.rpki_ip.specs.Ranges.{IsRange, IsRangeOf, range_bounds};
 ghost use Rattle.rpki_ip.specs.Whole.{IsWhole, HasWholeBounds};
 
 use crate::prefix::Prefix;
@@ -92,9 +92,10 @@ impl AddressRange {
         ensures prefix { IfOk result (λ p. IsPrefix 128 p × IsRangeOf p self) }
         ensures found { (p : PrefixValue) → IsPrefix 128 p → IsRangeOf p self → result ≡ Ok p }
         ensures none { IfErr result (λ range. range ≡ self) }
+        ensures range { IsRange self }
     {
         match self.prefix_len() {
-            Some(len) => Ok(Prefix::new(self.min, len)),
+            Some(len) => Ok(Prefix::from_parts_unchecked(self.min, len)),
             None => Err(self),
         }
     }

@@ -37,7 +37,6 @@ impl IpBlock {
         ensures prefix { (p : PrefixValue) → IsPrefix 128 p → prefix_bounds p ≡ pair
             → result ≡ IpBlock.Prefix p }
     {
-        pair.1.is_lawful();
         match AddressRange::from_pair(pair).into_prefix() {
             Ok(prefix) => IpBlock::Prefix(prefix),
             Err(range) => IpBlock::Range(range),

@@ -5,5 +5,5 @@ use Rattle.rpki_ip.proofs.range.AddressRange.into_prefix.Goals as goal
 
 pub returns-in-Some-clause-found : goal.returns-in-Some-clause-found
 returns-in-Some-clause-found c p is same =
-    let found : IsRangeOf c.new.result c.args.self = search rules in
-    ap Ok (one_prefix c.new.result p c.args.self c.new.ensures.prefix is found same)
+    let found : IsRangeOf c.from_parts_unchecked.result c.args.self = search rules in
+    ap Ok (one_prefix c.from_parts_unchecked.result p c.args.self c.from_parts_unchecked.ensures.prefix is found same)

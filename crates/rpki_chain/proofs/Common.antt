@@ -13,7 +13,7 @@ pub use Rattle.rpki_block.specs.Equality.{is_same_pair}
 pub use Rattle.rpki_chains.proofs.Chains.{Covers-nil, IsChain-from, IsChain-nil, IsChainOf-itself}
 pub use Rattle.rpki_chains.proofs.Unique.{Covers-cons_cases, Covers-head, Covers-tail, IsChain-unique}
 pub use Rattle.rpki_chains.specs.Equality.{same_runs}
-pub use Rattle.rpki_chains.specs.Sets.{Covers, IsChain, IsChainOf, IsInside, IsNew, IsWithin}
+pub use Rattle.rpki_chains.specs.Sets.{Covers, IsChain, IsChainOf, IsInside, IsNew, IsOfKind, IsWithin}
 pub use Rattle.rpki_der.specs.Der.{EachFrom, IsBytes, IsNothing, IsSequence, IsTlv, Refines, Spells, Where, sequence_value}
 pub use Rattle.rpki_der.specs.Reading.{IsModal, IsReading, Tightens, nothing, value_at}
 pub use Rattle.rpki_der.specs.declared.error.DerError.{DerError}

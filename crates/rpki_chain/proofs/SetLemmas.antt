@@ -1,5 +1,5 @@
 -- Chains of blocks, and the sets that they are.
-use Rattle.rpki_chain.proofs.Common.{IfOk, IfRefused, List, OrMemory, Memory, Refused, Result, [], arith, get_or, length, map, refl, sym, ℕ, ◌-◌, ◌<◌, ◌↔◌, ◌∷◌, ◌≡◌, ◌≤◌, All-head, All-map, All-tail, Decides, All, Covers-nil, is_same_pair, same_runs, IsChain, IsInside, IsBlockChain, IsBlockSet, IsIntersection, Holds, IsRunsOf, IsRunsOfBlocks, Runs}
+use Rattle.rpki_chain.proofs.Common.{IfOk, IfRefused, List, OrMemory, Memory, Refused, Result, [], arith, get_or, length, map, refl, sym, ℕ, ◌-◌, ◌<◌, ◌↔◌, ◌∷◌, ◌≡◌, ◌≤◌, All-head, All-map, All-tail, Decides, All, Covers, Covers-nil, IsChain-from, is_same_pair, le_refl, same_runs, IsChain, IsChainOf, IsInside, IsOfKind, IsBlockChain, IsBlockSet, IsIntersection, Holds, IsRunsOf, IsRunsOfBlocks, Runs}
 use Rattle.std.specs.Prelude.{IsOkAnd, Ok, Err}
 use Rattle.std.specs.Cmp.Lexicographic.{pointwise_decides}
 use Rattle.std.proofs.lemmas.Grind.{common_steps}
@@ -46,6 +46,28 @@ pub refused_says : {B E : Type 0} {f : B → ℕ × ℕ} {Q : List B → Type 0}
 refused_says P (Ok xs) (Refused set) is chain says = rw is (says xs chain)
 refused_says P (Err e) (Refused set) is chain says = absurd is
 refused_says P chain (Memory e) is made says = tt
+
+module _ {B : Type 0} {f : B → ℕ × ℕ} {form : ℕ × ℕ → B} {first last : ℕ} {xs : List B} where
+  -- the chain of numbers of the kind is one of blocks of the kind
+  pub IsBlockChain-of_kind : {S : ℕ → Type 0} → IsChainOf f form S xs → ((n : ℕ) → S n → (first ≤ n) × (n ≤ last))
+      → IsBlockChain f form first last xs
+  IsBlockChain-of_kind {S} h kind =
+      let chain = IsChain-from f form xs S h in
+      record {
+        chain = chain;
+        above = λ k d lt. (kind _ ((h.runs k d lt).inside _ (le_refl _, chain.ordered k d lt))).0;
+        below = λ k d lt. (kind _ ((h.runs k d lt).inside _ (chain.ordered k d lt, le_refl _))).1;
+      }
+
+  -- whose numbers are the kind's
+  pub IsBlockChain-kind : IsBlockChain f form first last xs → IsOfKind f first last xs
+  IsBlockChain-kind h n (k, x, lt, is, within) = grind (arith, h.above k x lt, h.below k x lt)
+
+-- so the chain of numbers that one of the kind covers is one too
+pub IsBlockChain-inside : {B : Type 0} {f : B → ℕ × ℕ} {form : ℕ × ℕ → B} {first last : ℕ} {S : ℕ → Type 0}
+    {xs ys : List B} → IsBlockChain f form first last ys → ((n : ℕ) → S n → Covers f ys n) → IsChainOf f form S xs
+    → IsBlockChain f form first last xs
+IsBlockChain-inside of inside h = IsBlockChain-of_kind h (λ n s. IsBlockChain-kind of n (inside n s))
 
 module _ {B : Type 0} (f : B → ℕ × ℕ) where
   -- the blocks that are made of the runs of a set have these runs for their bounds

@@ -74,7 +74,7 @@ impl<T: Block, A: Allocator> BlockSet<T, A> {
     pub fn from_vec(alloc: A, blocks: Vec<T, A>) -> Result<Self, AllocError>
         ensures { IfOk result (IsRunsOfBlocks T.bounds blocks.items) }
     {
-        Self::from_owned(alloc, OwnedChain::from_vec(blocks))
+        Self::from_owned_unchecked(alloc, OwnedChain::from_vec(blocks))
     }
 
     /// The set of the items of blocks that are its runs as they stand, each in the form that `new` gives. It is made in
@@ -91,6 +91,14 @@ impl<T: Block, A: Allocator> BlockSet<T, A> {
         ensures { IfOk result (λ set. set ≡ map T.bounds chain) }
     {
         read_ends(chain.as_chain().as_slice());
+        Self::from_owned_unchecked(alloc, chain)
+    }
+
+    /// The same of a chain whose numbers are known to be the kind's.
+    fn from_owned_unchecked(alloc: A, chain: OwnedChain<T, A>) -> Result<Self, AllocError>
+        requires { IsBlockChain T.bounds T.form T.first T.last chain }
+        ensures { IfOk result (λ set. set ≡ map T.bounds chain) }
+    {
         let chain = SharedChain::from_owned(alloc, chain)?;
         Ok(BlockSet { chain })
     }
@@ -180,7 +188,7 @@ impl<T: Block, A: Allocator> BlockSet<T, A> {
     {
         match self.as_chain().trim(alloc, other.as_chain()) {
             Ok(()) => self.clone(),
-            Err(OrMemory::Refused(common)) => Self::from_owned(alloc, common),
+            Err(OrMemory::Refused(common)) => Self::from_owned_unchecked(alloc, common),
             Err(OrMemory::Memory(error)) => Err(error),
         }
     }
@@ -209,7 +217,7 @@ impl<T: Block, A: Allocator> BlockSet<T, A> {
         ensures { IfOk result (IsDifference self.now other.now) }
     {
         let chain = self.as_chain().difference(alloc, other.as_chain())?;
-        Self::from_owned(alloc, chain)
+        Self::from_owned_unchecked(alloc, chain)
     }
 
     /// `Ok` where the other has each item, with no memory taken. Else `Refused` with the items that it doesn't have, or
@@ -263,9 +271,14 @@ impl<T: Block, A: Allocator> BlockSet<T, A> {
         alloc: A,
         chain: Result<OwnedChain<T, A>, AllocError>,
     ) -> OrMemory<BlockSet<T, A>>
+        requires { IfOk chain (IsBlockChain T.bounds T.form T.first T.last) }
         ensures { IfRefused (λ set. IsOkAnd chain (λ chain. set ≡ map T.bounds chain)) result }
     {
-        match chain.and_then(|chain| Self::from_owned(alloc, chain)) {
+        let set = match chain {
+            Ok(chain) => Self::from_owned_unchecked(alloc, chain),
+            Err(error) => Err(error),
+        };
+        match set {
             Ok(set) => OrMemory::Refused(set),
             Err(error) => OrMemory::Memory(error),
         }
@@ -286,7 +299,7 @@ impl<T: Block, A: Allocator> BlockSet<T, A> {
             return other.clone();
         }
         let chain = own.union(alloc, others)?;
-        Self::from_owned(alloc, chain)
+        Self::from_owned_unchecked(alloc, chain)
     }
 }
 

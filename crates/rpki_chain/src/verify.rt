@@ -125,12 +125,12 @@ fn none_left<T: Block, A: Allocator>(set: &BlockSet<T, A>) -> Result<(), OrMemor
     Err(OrMemory::Refused(shared(set)?))
 }
 
-/// The same set, with one owner more. Its blocks are looked at for what they tell: that the set is its runs.
+/// The same set, with one owner more.
 fn shared<T: Block, A: Allocator>(set: &BlockSet<T, A>) -> Result<BlockSet<T, A>, AllocError>
     ensures same { IfOk result (λ one. one ≡ set.now) }
     ensures runs { IsRunsOf (Holds set.now) set.now }
 {
-    let _blocks = set.as_slice();
+    set.is_lawful();
     set.clone()
 }
 

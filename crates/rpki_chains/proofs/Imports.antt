@@ -12,5 +12,5 @@ pub use Rattle.std.specs.Option.{option_copied, option_map}
 pub use Rattle.rpki_chains.specs.Fit.{IsFitIn}
 pub use Rattle.rpki_chains.specs.Joining.{IsBehind, IsHeld}
 pub use Rattle.rpki_chains.specs.Overhang.{Before, IsOverhang}
-pub use Rattle.rpki_chains.specs.Sets.{Covers, HoldsBlock, IsChain, IsChainOf, IsInside, IsNew, IsRun, IsRunFrom, IsWithin, numbers}
+pub use Rattle.rpki_chains.specs.Sets.{Covers, HoldsBlock, IsChain, IsChainOf, IsInside, IsNew, IsOfKind, IsRun, IsRunFrom, IsWithin, numbers}
 pub use Rattle.rpki_chains.specs.declared.overhang.Overhang.{Overhang}

@@ -1,5 +1,5 @@
 -- A run behind a chain is made longer, or closed: then it is the last block of the chain.
-use Rattle.rpki_chains.proofs.Imports.{List, [], ap, arith, get_or, length, sym, take, ℕ, ◌++◌, ◌+◌, ◌-◌, ◌<◌, ◌↔◌, ◌∙◌, ◌∷◌, ◌≡◌, ◌≤◌, ◌⊎◌, get_or_default, take_all, take_more, All-push, IsNonDecreasingBy, IsBehind, IsHeld, Covers, IsChain, IsWithin, numbers}
+use Rattle.rpki_chains.proofs.Imports.{List, [], ap, arith, get_or, length, sym, take, ℕ, ◌++◌, ◌+◌, ◌-◌, ◌<◌, ◌↔◌, ◌∙◌, ◌∷◌, ◌≡◌, ◌≤◌, ◌⊎◌, get_or_default, take_all, take_more, All-push, IsNonDecreasingBy, IsBehind, IsHeld, Covers, IsChain, IsOfKind, IsWithin, numbers}
 use Rattle.rpki_chains.proofs.Chains.{IsChain-push, Covers-nil, Covers-push_as}
 
 -- a turn of a walk: the next bounds are held too, behind the run that is at hand then
@@ -55,46 +55,50 @@ module _ {B : Type 0} {f : B → ℕ × ℕ} {form : ℕ × ℕ → B} {last : �
     }
 
 -- the blocks before `at` are joined: they are held, and the run begins no later than the last of them
-pub record Joined {B : Type 0} (f : B → ℕ × ℕ) (form : ℕ × ℕ → B) (last : ℕ) (zs : List B) (at : ℕ) (xs : List B)
+pub record Joined {B : Type 0} (f : B → ℕ × ℕ) (form : ℕ × ℕ → B) (first last : ℕ) (zs : List B) (at : ℕ) (xs : List B)
     (run : ℕ × ℕ) : Type 0 where
   pub within : (0 < at) × (at ≤ length zs)
   pub at_hand : IsBehind f form last xs run
   pub held : (n : ℕ) → IsHeld f xs run n ↔ Covers f (take at zs) n
+  pub of_kind : IsOfKind f first last (take at zs)
   pub behind : (k : ℕ) (d : B) → k + 1 ≡ at → run.0 ≤ (f (get_or zs k d)).0
 
-module _ {B : Type 0} {f : B → ℕ × ℕ} {form : ℕ × ℕ → B} {last : ℕ} {zs : List B} where
+module _ {B : Type 0} {f : B → ℕ × ℕ} {form : ℕ × ℕ → B} {first last : ℕ} {zs : List B} where
   -- at first the run is the first block
   pub Joined-first : {z : B} {run : ℕ × ℕ} → 0 < length zs → z ≡ get_or zs 0 z → run.0 ≡ (f z).0 → run.1 ≡ (f z).1
-      → run.0 ≤ run.1 → run.1 ≤ last → Joined f form last zs 1 [] run
-  Joined-first {z} {run} lt is low high ordered to = record {
+      → run.0 ≤ run.1 → first ≤ run.0 → run.1 ≤ last → Joined f form first last zs 1 [] run
+  Joined-first {z} {run} lt is low high ordered from to = record {
     within = omega arith;
     at_hand = first_run ordered to;
     held = λ n. grind (arith, Covers-nil, Covers-push_as, take_more);
+    of_kind = λ n. grind (arith, Covers-nil, Covers-push_as, take_more);
     behind = grind (arith, get_or_default);
   }
 
-  module _ {at : ℕ} {xs : List B} {run : ℕ × ℕ} {z : B} (joined : Joined f form last zs at xs run)
+  module _ {at : ℕ} {xs : List B} {run : ℕ × ℕ} {z : B} (joined : Joined f form first last zs at xs run)
       (lt : at < length zs) (is : z ≡ get_or zs at z) where
     -- the next one begins no earlier, where they ascend
     pub Joined-rises : {low : ℕ} → low ≡ (f z).0 → IsNonDecreasingBy (λ b. (f b).0) zs → run.0 ≤ low
     Joined-rises low ascends = grind (arith, joined.behind (at - 1) z, ascends (at - 1) at z)
 
     -- and is taken in
-    pub Joined-next : (new : List B) (next made : ℕ × ℕ) → next.0 ≡ (f z).0 → next.1 ≡ (f z).1
-        → Turn f form last xs run next new made → Joined f form last zs (at + 1) new made
-    Joined-next new next made low high turn =
+    pub Joined-next : (new : List B) (next made : ℕ × ℕ) → next.0 ≡ (f z).0 → next.1 ≡ (f z).1 → first ≤ next.0
+        → next.1 ≤ last → Turn f form last xs run next new made → Joined f form first last zs (at + 1) new made
+    Joined-next new next made low high from to turn =
         let same : f z ≡ next = λ i. (sym low i, sym high i) in
+        let more = Covers-push_as f (take at zs) z next same in
         record {
           within = omega arith;
           at_hand = turn.behind;
           held = λ n. rw (take_more zs at z lt, ← is)
-              (one_more _ _ _ _ _ (turn.held n) (joined.held n) (Covers-push_as f (take at zs) z next same n));
+              (one_more _ _ _ _ _ (turn.held n) (joined.held n) (more n));
+          of_kind = λ n. rw (take_more zs at z lt, ← is) (grind (arith, more n, joined.of_kind n));
           behind = λ k d now. let here = get_or_default zs k d z in grind (arith);
         }
 
   -- at the end all blocks are held by the run, which is closed, and the chain before it
-  pub Joined-covers : {at : ℕ} {xs : List B} {run : ℕ × ℕ} {y : B} → Joined f form last zs at xs run → f y ≡ run
-      → length zs ≤ at → (n : ℕ) → Covers f (xs ++ y ∷ []) n ↔ Covers f zs n
+  pub Joined-covers : {at : ℕ} {xs : List B} {run : ℕ × ℕ} {y : B} → Joined f form first last zs at xs run
+      → f y ≡ run → length zs ≤ at → (n : ℕ) → Covers f (xs ++ y ∷ []) n ↔ Covers f zs n
   Joined-covers {at} {xs} {run} {y} joined is end n =
       let all = joined.held n in
       let closed = Covers-push_as f xs y run is n in

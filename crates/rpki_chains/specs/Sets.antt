@@ -12,6 +12,10 @@ Covers bounds xs n = Any (λ x. IsWithin (bounds x) n) xs
 abbrev pub IsInside : {B : Type 0} → (B → ℕ × ℕ) → List B → List B → Type 0
 IsInside bounds xs ys = (n : ℕ) → Covers bounds xs n → Covers bounds ys n
 
+-- each number that the list covers is one of the kind's, from the first to the last
+abbrev pub IsOfKind : {B : Type 0} → (B → ℕ × ℕ) → ℕ → ℕ → List B → Type 0
+IsOfKind bounds first last xs = (n : ℕ) → Covers bounds xs n → (first ≤ n) × (n ≤ last)
+
 -- a run of S: all numbers from b.0 to b.1 are in S, and neither the one before them nor the one after them is
 pub record IsRun (S : ℕ → Type 0) (b : ℕ × ℕ) : Type 0 where
   pub ordered : b.0 ≤ b.1

@@ -2,7 +2,7 @@
 ghost use Rattle.std.specs.Prelude.{◌≡◌, ℕ, ◌+◌, ◌<◌, ◌≤◌, ◌↔◌, ◌⊎◌, IsTrue, IfSome, IfNone};
 ghost use Rattle.std.specs.List.Sorted.{IsNonDecreasingBy};
 ghost use Rattle.std.specs.Ordering.{nat_cmp};
-ghost use Rattle.rpki_chains.specs.Sets.{IsWithin, Covers, IsChain, numbers};
+ghost use Rattle.rpki_chains.specs.Sets.{IsWithin, Covers, IsChain, IsOfKind, numbers};
 
 use rpki_block::block::Block;
 use std::alloc::Allocator;
@@ -13,6 +13,7 @@ pub fn join<T: Block, A: Allocator>(blocks: &mut Vec<T, A>)
     ensures chain { IsChain T.bounds T.form blocks.new.items }
     ensures covers { (n : ℕ) →
         Covers T.bounds blocks.new.items n ↔ Covers T.bounds blocks.old.items n }
+    ensures kind { IsOfKind T.bounds T.first T.last blocks.old.items }
 {
     sort(blocks);
     join_ascending(blocks);
@@ -41,6 +42,7 @@ fn join_ascending<T: Block, A: Allocator>(blocks: &mut Vec<T, A>)
     ensures chain { IsChain T.bounds T.form blocks.new.items }
     ensures covers { (n : ℕ) →
         Covers T.bounds blocks.new.items n ↔ Covers T.bounds blocks.old.items n }
+    ensures kind { IsOfKind T.bounds T.first T.last blocks.old.items }
 {
     let Some(first) = blocks.first() else {
         return;

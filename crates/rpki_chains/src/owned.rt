@@ -2,7 +2,7 @@
 ghost use Rattle.std.specs.Prelude.{◌≡◌, ℕ, ◌↔◌, List, [], All, IsTrue, IfOk, OnOk, map};
 ghost use Rattle.rpki_chains.specs.Equality.{same_runs};
 ghost use Rattle.rpki_chains.specs.EqualityLaws.{chains_per, chains_equiv};
-ghost use Rattle.rpki_chains.specs.Sets.{Covers, IsNew, IsChain, IsChainOf};
+ghost use Rattle.rpki_chains.specs.Sets.{Covers, IsNew, IsChain, IsChainOf, IsOfKind};
 ghost use Rattle.rpki_chains.specs.Owned.{owned_blocks, IsOwned};
 ghost use Rattle.rpki_chains.specs.View.{chain_blocks};
 
@@ -54,7 +54,8 @@ impl<T: Block, A: Allocator> OwnedChain<T, A> {
     /// The chain of the numbers that the blocks cover. They may come in any order and may overlap. It is made in their
     /// own memory: none is taken, and the chain keeps all of it, but for an empty one, which holds none.
     pub fn from_vec(mut blocks: Vec<T, A>) -> Self
-        ensures { IsChainOf T.bounds T.form (Covers T.bounds blocks.items) result }
+        ensures chain { IsChainOf T.bounds T.form (Covers T.bounds blocks.items) result }
+        ensures kind { IsOfKind T.bounds T.first T.last blocks.items }
     {
         join(&mut blocks);
         Self::from_vec_unchecked(blocks)

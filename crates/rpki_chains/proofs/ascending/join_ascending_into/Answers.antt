@@ -8,7 +8,8 @@ loop-at-init g c =
     let first = c.in-Some.ensures.item in
     let bounds = c.bounds-run.ensures in
     rw c.requires
-    (Joined-first {zs = c.args.blocks.now} first.3.0 first.1 bounds.min bounds.max bounds.ordered bounds.to_last)
+    (Joined-first {zs = c.args.blocks.now} first.3.0 first.1 bounds.min bounds.max bounds.ordered bounds.from_first
+    bounds.to_last)
 
 pub returns-then-lt-clause-ascends : goal.returns-then-lt-clause-ascends
 returns-then-lt-clause-ascends g c ascends =
@@ -22,6 +23,7 @@ loop-at-preserved g c =
     let step = c.in_ok-take_in.ensures in
     Joined-next c.loop-at.invariant c.loop-at-test.true c.index-blocks-at.is _
     (numbers g.T.Block.number next.result) _ next.ensures.min next.ensures.max
+    next.ensures.from_first next.ensures.to_last
     record { behind = step.run; begins = step.behind; held = step.held }
 
 pub returns : goal.returns

@@ -1,5 +1,5 @@
 -- The first block is the run at hand; each turn takes in the next one; and the last run is closed in the end.
-use Rattle.rpki_chains.proofs.Imports.{arith, le_refl, length, numbers, refl, ◌<◌, ◌∙◌, get_or-set_other, length-set, take_more_set}
+use Rattle.rpki_chains.proofs.Imports.{arith, le_refl, length, numbers, refl, ◌<◌, ◌∙◌, ◌≤◌, get_or-set_other, length-set, take_all, take_more_set}
 use Rattle.rpki_chains.proofs.Joining.{Joined-first, Joined-rises, Joined-next, Joined-covers, closed_run, longer_turn, closed_turn}
 use Rattle.rpki_chains.proofs.build.join_ascending.Goals as goal
 
@@ -11,7 +11,8 @@ loop-at-init g c =
       passed = omega arith;
       as_many = refl;
       to_come = λ k d from. refl;
-      joined = Joined-first first.3.0 first.1 bounds.min bounds.max bounds.ordered bounds.to_last;
+      joined = Joined-first first.3.0 first.1 bounds.min bounds.max bounds.ordered
+          bounds.from_first bounds.to_last;
     }
 
 pub run_over-requires-clause-behind : goal.run_over-requires-clause-behind
@@ -34,8 +35,8 @@ loop-at-preserved-in-Some-run_over g c =
       passed = omega (arith, inv.passed);
       as_many = inv.as_many;
       to_come = λ k d above. inv.to_come k d (omega arith);
-      joined = Joined-next inv.joined here is _ (numbers number next) _ bounds.min bounds.max
-          (longer_turn number _ c.in-Some-run_over.longer c.loop-at.run next inv.joined.at_hand rises bounds.to_last
+      joined = Joined-next inv.joined here is _ (numbers number next) _ bounds.min bounds.max bounds.from_first
+          bounds.to_last (longer_turn number _ c.in-Some-run_over.longer c.loop-at.run next inv.joined.at_hand rises bounds.to_last
           over.from over.to over.over);
     }
 
@@ -54,7 +55,7 @@ loop-at-preserved g c =
       passed = omega (arith, inv.passed);
       as_many = length-set items end new ∙ inv.as_many;
       to_come = λ k d above. get_or-set_other items end k new d (λ e. omega arith) ∙ inv.to_come k d (omega arith);
-      joined = Joined-next inv.joined here is _ next next bounds.min bounds.max
+      joined = Joined-next inv.joined here is _ next next bounds.min bounds.max bounds.from_first bounds.to_last
           (closed_turn inv.joined.at_hand c.new.ensures.bounds c.new.ensures.value next bounds.ordered bounds.to_last
           c.in_default-run_over.ensures.apart);
     }
@@ -64,7 +65,9 @@ returns g c =
     let inv = c.loop-at.invariant in
     let room : c.loop-at.closed < length c.loop-at.blocks.items = omega (arith, inv) in
     let is = c.new-2.ensures.bounds in
+    let all : length c.args.blocks.now.items ≤ c.loop-at.at = omega (arith, c.loop-at-test.false) in
     rw (c.truncate.ensures.items, take_more_set) record {
       chain = closed_run inv.joined.at_hand is c.new-2.ensures.value;
-      covers = Joined-covers inv.joined is (omega (arith, c.loop-at-test.false));
+      covers = Joined-covers inv.joined is all;
+      kind = rw (take_all _ _ all) at inv.joined.of_kind;
     }

@@ -10,6 +10,6 @@ invariant-loop-at g l =
       passed : l.closed < l.at;
       as_many : length l.blocks.items ≡ length old;
       to_come : (k : ℕ) (d : _) → l.at ≤ k → get_or l.blocks.items k d ≡ get_or old k d;
-      joined : Joined g.T.Block.bounds g.T.Block.form g.T.Block.last old l.at (take l.closed l.blocks.items)
-          (numbers g.T.Block.number l.run);
+      joined : Joined g.T.Block.bounds g.T.Block.form g.T.Block.first g.T.Block.last old l.at
+          (take l.closed l.blocks.items) (numbers g.T.Block.number l.run);
     }

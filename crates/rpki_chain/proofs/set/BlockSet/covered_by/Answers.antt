@@ -1,7 +1,7 @@
 -- A block that leaves the other set shows that not all lie in it, and from it on the excess is what they differ by.
-use Rattle.rpki_chain.proofs.Common.{false≢true, refl}
+use Rattle.rpki_chain.proofs.Common.{IfOk-weaker, false≢true, refl}
 use Rattle.rpki_chain.proofs.RunLists.{excess_runs, inside_set}
-use Rattle.rpki_chain.proofs.SetLemmas.{leaves_some, refused_says}
+use Rattle.rpki_chain.proofs.SetLemmas.{IsBlockChain-inside, leaves_some, refused_says}
 use Rattle.rpki_chain.proofs.set.BlockSet.covered_by.Goals as goal
 
 pub returns-in-None-clause-ok : goal.returns-in-None-clause-ok
@@ -15,6 +15,10 @@ returns-in-Some-clause-ok g c = (
   λ all. absurd (leaves_some g.T.Block.form c.in-Some.ensures c.as_chain-own.ensures.blocks
       c.as_chain-others.ensures.blocks all),
 )
+
+pub refused_with-requires : goal.refused_with-requires
+refused_with-requires g c =
+    IfOk-weaker _ _ _ (λ xs. IsBlockChain-inside c.as_chain-own.ensures.chain (λ n s. s.0)) c.difference_from.ensures
 
 pub returns-in-Some-clause-refused : goal.returns-in-Some-clause-refused
 returns-in-Some-clause-refused g c =

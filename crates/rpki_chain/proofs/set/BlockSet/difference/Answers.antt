@@ -1,8 +1,12 @@
 use Rattle.rpki_chain.proofs.RunLists.{excess_runs}
-use Rattle.rpki_chain.proofs.SetLemmas.{made}
+use Rattle.rpki_chain.proofs.SetLemmas.{IsBlockChain-inside, made}
 use Rattle.rpki_chain.proofs.set.BlockSet.difference.Goals as goal
+
+pub from_owned_unchecked-requires : goal.from_owned_unchecked-requires
+from_owned_unchecked-requires g c =
+    IsBlockChain-inside c.as_chain.ensures.chain (λ n s. s.0) c.in_ok-chain.ensures.difference
 
 pub returns : goal.returns
 returns g c =
-    made c.from_owned.result c.from_owned.ensures
+    made c.from_owned_unchecked.result c.from_owned_unchecked.ensures
     (excess_runs _ _ c.as_chain.ensures.blocks c.as_chain-2.ensures.blocks c.in_ok-chain.ensures.difference)

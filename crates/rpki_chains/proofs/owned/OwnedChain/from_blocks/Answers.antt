@@ -6,7 +6,7 @@ use Rattle.rpki_chains.proofs.owned.OwnedChain.from_blocks.Goals as goal
 pub returns : goal.returns
 returns g c =
     let f = g.T.Block.bounds in
-    chain_of_same f g.T.Block.form _ _ (same_cover f f _ _ c.in_ok-rebuild.ensures.bounds) _ c.from_vec.ensures
+    chain_of_same f g.T.Block.form _ _ (same_cover f f _ _ c.in_ok-rebuild.ensures.bounds) _ c.from_vec.ensures.chain
 
 pub returns-then-branch : goal.returns-then-branch
 returns-then-branch g c =

@@ -1,10 +1,12 @@
 //! The command `der`: resources become their octets in DER, in hexadecimal.
-ghost use Rattle.std.specs.Prelude.{◌≡◌, [], OnOk, MatchResult};
+ghost use Rattle.std.specs.Prelude.{◌≡◌, ◌≢◌, [], IfOk, OnOk, MatchResult};
 ghost use Rattle.std.specs.String.{string_bytes};
 ghost use Rattle.rpki_text.specs.Memory.{IfRefused};
 ghost use Rattle.rpki_as.specs.AsDer.{as_resources_octets};
+ghost use Rattle.rpki_chain.specs.declared.choice.ResourcesChoice.TheVariants.{Missing};
 ghost use Rattle.rpki_ip_block.specs.ListText.{HasBlocksFault};
 ghost use Rattle.respath_lines.specs.Der.{HasIpResourcesFault, IsDerAnswer, IsDerAs, IsDerIp, IsIpResourcesText, IsListed, one_family_der, octets_text};
+ghost use Rattle.respath_lines.specs.Hexadecimal.{lower_hexadecimal};
 
 use crate::hexadecimal::hexadecimal_of;
 use crate::kind::{Kind, kind_named};
@@ -59,7 +61,15 @@ fn der_as<A: Allocator + Copy>(
     }
 }
 
-/// Tells the octets of AS resources, which are given back before the digits take their room.
+/// Tells octets, whose digits take their room.
+fn tell_octets<A: Allocator>(octets: Vec<u8, A>, answer: &mut String<A>) -> Result<(), AllocError>
+    ensures { OnOk result (string_bytes answer.new ≡ lower_hexadecimal octets.items) }
+{
+    *answer = hexadecimal_of(octets)?;
+    Ok(())
+}
+
+/// Tells the octets of AS resources.
 fn tell_as<A: Allocator + Copy>(
     alloc: A,
     resources: AsResources<A>,
@@ -70,11 +80,22 @@ fn tell_as<A: Allocator + Copy>(
     if resources.is_missing() {
         return tell(answer, "missing");
     }
+    let octets = as_octets(alloc, resources, answer)?;
+    tell_octets(octets, answer)
+}
+
+/// The octets of AS resources, which are given back, in the room of an answer.
+fn as_octets<A: Allocator + Copy>(
+    alloc: A,
+    resources: AsResources<A>,
+    answer: &mut String<A>,
+) -> Result<Vec<u8, A>, AllocError>
+    requires { resources ≢ Missing }
+    ensures { IfOk result (λ octets. octets.items ≡ as_resources_octets resources) }
+{
     let mut octets = room_of(alloc, answer);
     resources.encode(&mut octets)?;
-    drop(resources);
-    *answer = hexadecimal_of(octets)?;
-    Ok(())
+    Ok(octets)
 }
 
 /// Tells the octets of the resources of a family that a text writes, or the fault of the text.
@@ -122,8 +143,7 @@ fn listed<A: Allocator + Copy>(
     Ok(IpResources::blocks(set))
 }
 
-/// Tells the octets of a list of families that has resources of this family alone, which are given back before the
-/// digits take their room.
+/// Tells the octets of a list of families that has resources of this family alone.
 fn tell_ip<A: Allocator + Copy>(
     alloc: A,
     family: AddressFamily,
@@ -136,13 +156,39 @@ fn tell_ip<A: Allocator + Copy>(
     if resources.is_missing() {
         return tell(answer, "missing");
     }
-    let missing = IpResources::missing();
+    let octets = ip_octets(alloc, family, resources, answer)?;
+    tell_octets(octets, answer)
+}
+
+/// The octets of a list of families that has resources of this family alone, which are given back, in the room of an
+/// answer.
+fn ip_octets<A: Allocator + Copy>(
+    alloc: A,
+    family: AddressFamily,
+    resources: IpResources<A>,
+    answer: &mut String<A>,
+) -> Result<Vec<u8, A>, AllocError>
+    requires { resources ≢ Missing }
+    ensures { IfOk result (λ octets. octets.items ≡ one_family_der family resources) }
+{
     let mut octets = room_of(alloc, answer);
+    encode_alone(family, &resources, &mut octets)?;
+    Ok(octets)
+}
+
+/// Puts the octets of a list of families that has resources of this family alone into an empty vector.
+fn encode_alone<A: Allocator>(
+    family: AddressFamily,
+    resources: &IpResources<A>,
+    octets: &mut Vec<u8, A>,
+) -> Result<(), AllocError>
+    requires some { resources.now ≢ Missing }
+    requires empty { octets.old.items ≡ [] }
+    ensures { OnOk result (octets.new.items ≡ one_family_der family resources.now) }
+{
+    let missing = IpResources::missing();
     match family {
-        AddressFamily::Ipv4 => IpResources::encode_families(&resources, &missing, &mut octets)?,
-        AddressFamily::Ipv6 => IpResources::encode_families(&missing, &resources, &mut octets)?,
+        AddressFamily::Ipv4 => IpResources::encode_families(resources, &missing, octets),
+        AddressFamily::Ipv6 => IpResources::encode_families(&missing, resources, octets),
     }
-    drop(resources);
-    *answer = hexadecimal_of(octets)?;
-    Ok(())
 }

@@ -15,6 +15,11 @@ IsLeftBelow anchor certificates set = (root : Triple) × IsAnchorSet anchor root
 abbrev pub LiesInAnchor : Extensions → Triple → Type 0
 LiesInAnchor anchor set = (root : Triple) × IsAnchorSet anchor root × HasEachOf root set
 
+-- the certificate is the first that isn't verified by what the ones before it leave of the root
+abbrev pub IsRefusedBelowRoot : {A : Type 0} → Triple → List Extensions → RefusedBelow A → Type 0
+IsRefusedBelowRoot root certificates (Anchor reason) = ⊥
+IsRefusedBelowRoot root certificates (Certificate refusal) = IsFirstUnverified root certificates refusal
+
 -- the anchor lists none for the reason, or else the certificate is the first that isn't verified
 abbrev pub IsRefusedBelow : {A : Type 0} → Extensions → List Extensions → RefusedBelow A → Type 0
 IsRefusedBelow anchor certificates (Anchor reason) = IsNoAnchor anchor reason

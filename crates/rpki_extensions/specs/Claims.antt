@@ -1,5 +1,5 @@
 -- What a certificate's extensions claim, where either may be absent (RFC 6487, 4.8.10 and 4.8.11; RFC 9582, 5).
-use Rattle.std.specs.Prelude.{◌≡◌, ◌≢◌, ℕ, List, Option, Some, None, option_map}
+use Rattle.std.specs.Prelude.{◌≡◌, ℕ, List, Option, Some, None, option_map}
 use Rattle.rpki_der.specs.declared.error.DerError.{DerError}
 use Rattle.rpki_chain.specs.Claims.{Claim}
 use Rattle.rpki_chain.specs.declared.choice.ResourcesChoice.TheVariants.{Missing}

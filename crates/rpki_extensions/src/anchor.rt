@@ -1,10 +1,13 @@
 //! The resources of a trust anchor, which nobody issued.
-ghost use Rattle.std.specs.Prelude.{MatchResult};
+ghost use Rattle.std.specs.Prelude.{◌≡◌, MatchResult};
 ghost use Rattle.rpki_text.specs.Memory.{IfRefused};
+ghost use Rattle.rpki_ipres.specs.Resources.{IsWholeClaim};
+ghost use Rattle.rpki_resources.specs.Triples.{AreListed, IsOneInherited};
 ghost use Rattle.rpki_extensions.specs.Anchors.{IsAnchorSet, IsNoAnchor};
+ghost use Rattle.rpki_extensions.specs.declared.error.Unverified.TheVariants.{Inherited};
 
 use crate::error::Unverified;
-use crate::extensions::Extensions;
+use crate::extensions::{Claims, Extensions};
 use rpki_resources::OrMemory;
 use rpki_resources::repository::resources::ResourceSet;
 use std::alloc::Allocator;
@@ -20,10 +23,19 @@ pub fn anchor_set<A: Allocator + Copy>(
     ensures { MatchResult result (IsAnchorSet certificate.now)
         (IfRefused (IsNoAnchor certificate.now)) }
 {
-    let claims = match certificate.claims(alloc) {
-        Ok(claims) => claims,
-        Err(error) => return Err(error),
-    };
+    match certificate.claims(alloc) {
+        Ok(claims) => listed_by(&claims),
+        Err(error) => Err(error),
+    }
+}
+
+/// The set that claims list. `Refused` with [`Unverified::Inherited`] where some are inherited.
+fn listed_by<A: Allocator>(claims: &Claims<A>) -> Result<ResourceSet<A>, OrMemory<Unverified<A>>>
+    requires { IsWholeClaim claims.now.ipv4 }
+    ensures { MatchResult result (AreListed claims.now.asn claims.now.ipv4 claims.now.ipv6)
+        (IfRefused (λ reason. (reason ≡ Inherited)
+        × IsOneInherited claims.now.asn claims.now.ipv4 claims.now.ipv6)) }
+{
     match ResourceSet::from_resources(&claims.asn, &claims.ipv4, &claims.ipv6) {
         Ok(set) => Ok(set),
         Err(OrMemory::Refused(_)) => Err(OrMemory::Refused(Unverified::Inherited)),

@@ -3,7 +3,7 @@ ghost use Rattle.std.specs.Prelude.{◌≡◌, IfOk, MatchResult};
 ghost use Rattle.rpki_text.specs.Memory.{IfRefused};
 ghost use Rattle.rpki_resources.specs.Triples.{HasEachOf};
 ghost use Rattle.rpki_extensions.specs.Issued.{IsUnverified, IsVerified};
-ghost use Rattle.rpki_extensions.specs.Below.{IsLeftBelow, IsRefusedBelow, LiesInAnchor};
+ghost use Rattle.rpki_extensions.specs.Below.{IsLeftBelow, IsRefusedBelow, IsRefusedBelowRoot, LiesInAnchor};
 ghost use Rattle.rpki_extensions.specs.Paths.{IsFirstUnverified, IsVerifiedPath};
 
 use crate::anchor::anchor_set;
@@ -68,14 +68,24 @@ pub fn verified_below<A: Allocator + Copy>(
         (IfRefused (IsRefusedBelow anchor.now certificates.now)) }
     ensures inside { IfOk result (LiesInAnchor anchor.now) }
 {
-    let root = match anchor_set(alloc, anchor) {
-        Ok(root) => root,
-        Err(OrMemory::Refused(reason)) => {
-            return Err(OrMemory::Refused(RefusedBelow::Anchor(reason)));
-        }
-        Err(OrMemory::Memory(error)) => return Err(OrMemory::Memory(error)),
-    };
-    match verified_path(alloc, &root, certificates) {
+    match anchor_set(alloc, anchor) {
+        Ok(root) => below_root(alloc, &root, certificates),
+        Err(OrMemory::Refused(reason)) => Err(OrMemory::Refused(RefusedBelow::Anchor(reason))),
+        Err(OrMemory::Memory(error)) => Err(OrMemory::Memory(error)),
+    }
+}
+
+/// What the certificates on a path leave of the set that a trust anchor lists.
+fn below_root<A: Allocator + Copy>(
+    alloc: A,
+    root: &ResourceSet<A>,
+    certificates: &[Extensions<'_>],
+) -> Result<ResourceSet<A>, OrMemory<RefusedBelow<A>>>
+    ensures path { MatchResult result (IsVerifiedPath root.now certificates.now)
+        (IfRefused (IsRefusedBelowRoot root.now certificates.now)) }
+    ensures inside { IfOk result (HasEachOf root.now) }
+{
+    match verified_path(alloc, root, certificates) {
         Ok(set) => Ok(set),
         Err(OrMemory::Refused(refusal)) => {
             Err(OrMemory::Refused(RefusedBelow::Certificate(refusal)))

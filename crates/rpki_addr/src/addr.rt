@@ -141,6 +141,7 @@ pub enum IpAddr {
 }
 
 impl IpAddr {
+    ghost use Rattle.rpki_addr.specs.Prefixes.{width};
     ghost use Rattle.rpki_addr.specs.ReadsAddress.{IsV4};
 
     /// Is this an IPv4 address?
@@ -148,6 +149,16 @@ impl IpAddr {
         ensures { IsTrue result ↔ IsV4 self.now }
     {
         matches!(self, IpAddr::V4(_))
+    }
+
+    /// How many bits the address has, 32 or 128: the greatest length of a prefix of its family.
+    pub fn width(&self) -> u8
+        ensures { result ≡ width self.now }
+    {
+        match self {
+            IpAddr::V4(_) => 32,
+            IpAddr::V6(_) => 128,
+        }
     }
 }
 

@@ -8,11 +8,11 @@ pub use Rattle.std.proofs.lemmas.Nat.{and_block, and_comm, and_mask, div-add-mod
 pub use Rattle.std.proofs.lemmas.Str.Pattern.{split_parts}
 pub use Rattle.std.specs.Int.{bit_not, byte_at, bytes_high_first, from_be_bytes, to_be_bytes, trailing_ones, trailing_zeros, w128}
 pub use Rattle.std.specs.Int.Count.{count_leading_zeros, count_trailing_zeros}
-pub use Rattle.rpki_addr.proofs.PrefixNumbers.{cleared_first, power_is}
+pub use Rattle.rpki_addr.proofs.PrefixNumbers.{cleared_first, power_is, width_small}
 pub use Rattle.rpki_addr.specs.Bits.{cleared}
-pub use Rattle.rpki_addr.specs.Prefixes.{IsPrefix, PrefixValue, last_of}
+pub use Rattle.rpki_addr.specs.Prefixes.{IsPrefix, PrefixValue, last_of, width}
 pub use Rattle.rpki_base.proofs.FamilyLemmas.{family_reading, family_written, renamed}
-pub use Rattle.rpki_base.specs.Families.{bits_of, family_of}
+pub use Rattle.rpki_base.specs.Families.{bits_of}
 pub use Rattle.rpki_block.specs.Bounds.{IsWithin}
 pub use Rattle.rpki_cover.proofs.Multiples.{IsMultiple, mod_multiple, multiple_diff, multiple_gap, multiple_least, multiple_mod, multiple_self, multiple_smaller, multiple_sum, zeros_divide, zeros_greatest}
 pub use Rattle.rpki_cover.proofs.Shortest.{cover_prefixes}

@@ -1,5 +1,5 @@
 -- A length in digits at the front of a text.
-use Rattle.rpki_ip.proofs.Common.{List, arith, drop, length, length-drop, refl, take, ℕ, ◌-◌, ◌<◌, ◌≡◌, ◌≤◌, length-take, take-append-drop, cleared, PrefixValue, bits_of, family_of, IsPrefixAt}
+use Rattle.rpki_ip.proofs.Common.{List, arith, drop, length, length-drop, refl, take, ℕ, ◌-◌, ◌<◌, ◌≡◌, ◌≤◌, length-take, take-append-drop, cleared, PrefixValue, width, width_small, IsPrefixAt}
 use Rattle.std.specs.Str.Parse.{AllDigits, digits_value}
 use Rattle.std.proofs.lemmas.Str.Parse.{without_leading_plus_none, digit_at}
 use Rattle.rpki_text.specs.Numbers.{IsNumberText, AreDigitsFrom}
@@ -15,14 +15,14 @@ digits_are_number limit ds n some all value small =
 
 -- so digits at the front are a length, where the family has it
 pub prefix_at : (first : IpAddr) (text : List ℕ) (n end : ℕ) (p : PrefixValue) → AreDigitsFrom 0 end text n
-    → (end ≡ 0 → ⊥) → n ≤ bits_of (family_of first) → bits_of (family_of first) ≤ 128
-    → p ≡ record { first = cleared 128 (first_of first) n; len = n }
+    → (end ≡ 0 → ⊥) → n ≤ width first → p ≡ record { first = cleared 128 (first_of first) n; len = n }
     → IsAtFront (λ t p. AllDigits 10 t × IsPrefixAt first t p) text p (drop end text)
-prefix_at first text n end p h some small most is =
+prefix_at first text n end p h some small is =
     let digits = take (end - 0) (drop 0 text) in
     let count : length digits ≡ end = omega (arith, length-take {A = ℕ}, length-drop 0 text, h.digits.within) in
     let ten = h.digits.all_digits in
-    let number = digits_are_number 255 digits n (omega (arith, count, some)) ten h.digits.value (omega arith) in
+    let byte : n ≤ 255 = omega (arith, width_small first) in
+    let number = digits_are_number 255 digits n (omega (arith, count, some)) ten h.digits.value byte in
     record {
       front = digits;
       split = grind (arith, take-append-drop (end - 0) text);

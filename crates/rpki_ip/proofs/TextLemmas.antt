@@ -2,7 +2,7 @@
 use Rattle.std.proofs.Common.{◌≡◌, ℕ, ◌-◌, ◌^◌, ◌<◌, inl, inr, List, Option, Result, Ok, Err, MatchResult, arith, refl}
 use Rattle.rpki_text.specs.Cuts.{HasNo, IsCutAt, Around, slash, dash}
 use Rattle.rpki_text.specs.Numbers.{HasNumberFault, IsNumberText}
-use Rattle.rpki_addr.specs.Prefixes.{PrefixValue}
+use Rattle.rpki_addr.specs.Prefixes.{PrefixValue, width}
 use Rattle.rpki_text.specs.Reading.{Answers}
 use Rattle.rpki_addr.specs.declared.addr.IpAddr.{IpAddr}
 use Rattle.rpki_text.specs.declared.number.ParseIntError.{ParseIntError}
@@ -14,7 +14,6 @@ use Rattle.rpki_text.proofs.NumberLemmas.{number_answers}
 pub use Rattle.rpki_text.proofs.ReadingLemmas.{answers_by_one}
 use Rattle.rpki_addr.specs.AddrText.{first_of, greatest_of}
 use Rattle.rpki_ip.specs.BlockText.{IsAddressText, HasAddressFault, IsPrefixBetween, HasPrefixFault, IsRangeFrom, IsIpRangeBetween, HasRangeFault, IsSingleText, IsIpPrefixText, HasIpPrefixTextFault, IsRangeText, HasRangeTextFault, HasFaultAround}
-use Rattle.rpki_base.specs.Families.{bits_of, family_of}
 use Rattle.rpki_ip.specs.Ranges.{RangeValue}
 use Rattle.rpki_ip.specs.declared.error.FromStrError.{FromStrError}
 use Rattle.rpki_ip.specs.declared.error.FromStrError.TheVariants as Fault
@@ -83,7 +82,7 @@ single_one w text r s h k = grind (arith, IsIpText-one)
 
 -- an address, and a length that it doesn't have
 pub too_long : (w : Option AddressFamily) (left right : List ℕ) (a : IpAddr) (n : ℕ) → IsAddressText w left a
-    → IsNumberText (2 ^ 8 - 1) right n → bits_of (family_of a) < n
+    → IsNumberText (2 ^ 8 - 1) right n → width a < n
     → HasPrefixFault w left right (Fault.PrefixLen PosOverflow)
 too_long w left right a n is number above = inr (a, is, (PosOverflow, inr (n, number, above, refl), refl))
 

@@ -5,14 +5,14 @@ use Rattle.rpki_addr.specs.AddressText.{IsIpText}
 use Rattle.rpki_text.specs.Cuts.{HasNo, Around, slash, dash}
 use Rattle.rpki_text.specs.Numbers.{IsNumberText, HasNumberFault}
 use Rattle.rpki_addr.specs.Bits.{cleared}
-use Rattle.rpki_addr.specs.Prefixes.{PrefixValue}
+use Rattle.rpki_addr.specs.Prefixes.{PrefixValue, width}
 use Rattle.rpki_addr.specs.declared.addr.AddrParseError.{AddrParseError}
 use Rattle.rpki_addr.specs.declared.addr.AddrParseError.TheVariants as Address
 use Rattle.rpki_addr.specs.declared.addr.IpAddr.{IpAddr}
 use Rattle.rpki_text.specs.declared.number.ParseIntError.{ParseIntError}
 use Rattle.rpki_text.specs.declared.number.ParseIntError.TheVariants.{PosOverflow}
 use Rattle.rpki_addr.specs.AddrText.{first_of, greatest_of}
-use Rattle.rpki_base.specs.Families.{bits_of, family_of}
+use Rattle.rpki_base.specs.Families.{family_of}
 use Rattle.rpki_ip.specs.Ranges.{RangeValue}
 use Rattle.rpki_ip.specs.declared.error.FromStrError.{FromStrError}
 use Rattle.rpki_ip.specs.declared.error.FromStrError.TheVariants as Fault
@@ -45,12 +45,14 @@ WithAddress wanted text P = (a : IpAddr) × IsAddressText wanted text a × P a
 -- the text writes a length that the address's family has, and p is the prefix of that length at the address
 pub record IsPrefixAt (a : IpAddr) (text : List ℕ) (p : PrefixValue) : Type 0 where
   pub length_text : IsNumberText (2 ^ 8 - 1) text p.len
-  pub within : p.len ≤ bits_of (family_of a)
+  pub within : p.len ≤ width a
   pub first : p.first ≡ cleared 128 (first_of a) p.len
 
 -- the text is no number of a `u8` for the reason f, or one that is more than the address has bits
 abbrev pub HasLengthFault : IpAddr → List ℕ → ParseIntError → Type 0
-HasLengthFault a text f = HasNumberFault (2 ^ 8 - 1) text f ⊎ ((n : ℕ) × IsNumberText (2 ^ 8 - 1) text n × (bits_of (family_of a) < n) × (f ≡ PosOverflow))
+HasLengthFault a text f =
+    HasNumberFault (2 ^ 8 - 1) text f
+    ⊎ ((n : ℕ) × IsNumberText (2 ^ 8 - 1) text n × (width a < n) × (f ≡ PosOverflow))
 
 -- an address and a length write the prefix
 abbrev pub IsPrefixBetween : Option AddressFamily → List ℕ → List ℕ → PrefixValue → Type 0

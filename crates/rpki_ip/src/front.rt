@@ -9,7 +9,7 @@ ghost use Rattle.rpki_ip.specs.BlockText.{IsAddressText, IsPrefixAt, IsRangeFrom
 use crate::family::AddressFamily;
 use crate::prefix::Prefix;
 use crate::range::AddressRange;
-use crate::text::{family_of, greatest, range_from};
+use crate::text::{greatest, range_from};
 use rpki_addr::bits::Addr;
 use rpki_base::addr::IpAddr;
 use rpki_base::addr::front::{ipv4_front, ipv6_front};
@@ -62,7 +62,7 @@ pub fn prefix_to_front(first: IpAddr, text: &[u8]) -> Option<(Prefix, &[u8])>
         text.now found.0 found.1.now) }
 {
     let (len, end) = digits_from(text, 0);
-    if end == 0 || len > u64::from(family_of(&first).max_addr_len()) {
+    if end == 0 || len > u64::from(first.width()) {
         return None;
     }
     Some((Prefix::new(Addr::from(first), len as u8), &text[end..]))

@@ -7,7 +7,6 @@ ghost use Rattle.std.specs.Fmt.{WritesOnOk};
 ghost use Rattle.rpki_text.specs.Reading.{Answers};
 ghost use Rattle.rpki_addr.specs.AddrText.{greatest_of};
 ghost use Rattle.rpki_ip.specs.BlockText.{IsAddressText, address_fault, IsPrefixBetween, HasPrefixFault, IsRangeFrom, HasPairFault, IsIpRangeBetween, HasRangeFault, IsSingleText, HasAddressFault, IsIpPrefixText, HasIpPrefixTextFault, IsRangeText, HasRangeTextFault};
-ghost use Rattle.rpki_base.specs.Families.{family_of as the_family};
 ghost use Rattle.rpki_ip.specs.PrintedText.{shown_bits, as_ip, ip_prefix_text, ip_range_text};
 ghost use Rattle.rpki_base.specs.declared.family.AddressFamily.TheVariants.{Ipv4, Ipv6};
 
@@ -21,16 +20,6 @@ use rpki_base::addr::{AddrParseError, IpAddr, Ipv4Addr, Ipv6Addr};
 use rpki_base::number::{ParseIntError, parse_u8};
 use std::fmt;
 use std::str::FromStr;
-
-/// The family of an address.
-pub(crate) fn family_of(addr: &IpAddr) -> AddressFamily
-    ensures { result ≡ the_family addr.now }
-{
-    match addr {
-        IpAddr::V4(_) => AddressFamily::Ipv4,
-        IpAddr::V6(_) => AddressFamily::Ipv6,
-    }
-}
 
 /// The greatest number that an address stands for.
 pub(crate) fn greatest(addr: &IpAddr) -> Addr
@@ -67,7 +56,7 @@ pub fn prefix_between(
 {
     let addr = read_address(wanted, left)?;
     let len = parse_u8(right)?;
-    if len > family_of(&addr).max_addr_len() {
+    if len > addr.width() {
         return Err(FromStrError::PrefixLen(ParseIntError::PosOverflow));
     }
     Ok(Prefix::new(Addr::from(addr), len))
@@ -96,10 +85,13 @@ pub fn range_between(
 pub(crate) fn range_from(first: IpAddr, last: IpAddr) -> Result<AddressRange, FromStrError>
     ensures { MatchResult result (IsRangeFrom first last) (HasPairFault first last) }
 {
-    if family_of(&first) != family_of(&last) {
-        return Err(FromStrError::FamilyMismatch);
-    }
-    let (min, max) = (Addr::from(first), greatest(&last));
+    let (min, max) = match (&first, &last) {
+        (IpAddr::V4(first), IpAddr::V4(last)) => {
+            (Addr::from_v4(*first), Addr::from_v4(*last).to_max(32))
+        }
+        (IpAddr::V6(first), IpAddr::V6(last)) => (Addr::from_v6(*first), Addr::from_v6(*last)),
+        _ => return Err(FromStrError::FamilyMismatch),
+    };
     if min > max {
         return Err(FromStrError::BadRange);
     }
@@ -173,9 +165,9 @@ fn put_prefix(out: &mut [u8], family: AddressFamily, prefix: Prefix) -> usize
     ensures text { take result out.new ≡ ip_prefix_text family prefix }
     ensures end { result ≤ 44 }
 {
-    let addr = shown_addr(family, prefix.addr());
     let len = prefix.addr_len();
-    if len == family.max_addr_len() {
+    let addr = shown_addr(family, prefix.addr());
+    if len == addr.width() {
         return put_ip(out, 0, addr);
     }
     put_with_length(out, 0, addr, len)

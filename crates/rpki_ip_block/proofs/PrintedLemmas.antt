@@ -1,5 +1,6 @@
 -- What is printed of a block is a text of a block with its bounds.
 use Rattle.rpki_ip_block.proofs.Common.{List, MatchResult, None, Result, Some, ap, arith, decimal, inl, inr, refl, sym, ℕ, ◌∙◌, ◌≡◌, ◌≤◌, cases_eq, eq-eqb, ne_eqb, IsIpText-ip_text, cleared_first, first_of, greatest_of, cleared, ip_text, bits_of, family_of, AddressFamily, single_of, IsAddressText, as_ip, shown_bits, FromStrError, Answers, HasIpBlockFault, IsIpBlockText, ip_bounds, IsBlockOf, ReadsIpBlock, ip_block_text, IpBlock, Prefix, Range}
+use Rattle.rpki_addr.specs.Prefixes.{width}
 use Rattle.rpki_addr.specs.ReadsAddress.{IsAddress}
 use Rattle.rpki_text.proofs.NumberTexts.{IsNumberText-decimal}
 use Rattle.std.proofs.lemmas.Fmt.{decimal_is_IsNumeral}
@@ -9,6 +10,10 @@ use Rattle.rpki_ip_block.proofs.FrontLemmas.{IsPlainBlock, plain_prefix, plain_r
 -- the address of a family is of that family
 of_family : (family : AddressFamily) (bits : ℕ) → family_of (as_ip family bits) ≡ family
 of_family family bits = grind arith
+
+-- with as many bits
+as_wide : (family : AddressFamily) (bits : ℕ) → width (as_ip family bits) ≡ bits_of family
+as_wide family bits = grind arith
 
 -- and its text writes it
 is_written : (family : AddressFamily) (bits : ℕ) → IsAddress (as_ip family bits)
@@ -56,7 +61,7 @@ written_of family (Prefix p) h =
             (decimal_is_IsNumeral p.len (omega (arith, prefix.short))).0.1
             (record {
               length_text = IsNumberText-decimal 255 p.len (omega (arith, prefix.short)) (omega (arith, prefix.short));
-              within = rw (of_family family (shown_bits family p.first)) short;
+              within = rw (as_wide family (shown_bits family p.first)) short;
               first = sym (cleared_first 128 p prefix) ∙ ap (λ x. cleared 128 x p.len) begins.is;
             });
         bounds = refl;

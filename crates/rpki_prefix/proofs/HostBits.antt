@@ -16,7 +16,3 @@ filled_by w n len m r mask is = omega (arith, is, set_host (w - len) n m mask)
 pub relaxed_prefix : (a : IpAddr) (len : ℕ) → len ≤ width a → address_number a < 2 ^ width a
     → IsRelaxedPrefixOf a len (record { addr = cleared_addr a len; len = len })
 relaxed_prefix a len short below = grind (arith, cleared_holds, cleared_prefix)
-
--- no address has more than 128 bits
-pub few_bits : (a : IpAddr) → width a ≤ 128
-few_bits a = grind (arith)

@@ -8,7 +8,7 @@ use Rattle.rpki_addr.specs.PrintedAddress.{ip_text}
 use Rattle.rpki_prefix.specs.declared.error.MaxLenError.{MaxLenError}
 use Rattle.rpki_prefix.specs.declared.error.ParseMaxLenPrefixError.{ParseMaxLenPrefixError}
 use Rattle.rpki_prefix.specs.declared.error.ParseMaxLenPrefixError.TheVariants.{InvalidPrefix, InvalidMaxLenFormat, InvalidMaxLenValue}
-use Rattle.rpki_prefix.proofs.HostBits.{few_bits}
+use Rattle.rpki_addr.proofs.PrefixNumbers.{width_small}
 use Rattle.rpki_prefix.proofs.TextLemmas.{both_around, number_apart, same_number_fault, IsPrefixText-one, IsPrefixText-no_fault, HasPrefixTextFault-one, IsPrefixText-prefix_text}
 
 -- a text has one prefix and one greatest length round its first dash: what holds of some holds of others
@@ -90,7 +90,7 @@ fault_one text (InvalidMaxLenValue f) (InvalidMaxLenValue g) (p, m, both, fault)
 -- a printed prefix has no dash
 prefix_no_dash : (p : FamilyPrefix) → IsFamilyPrefix p → HasNo dash (prefix_text p)
 prefix_no_dash p h k l =
-    let numeral = decimal_is_IsNumeral p.len (omega (arith, h.short, few_bits p.addr)) in
+    let numeral = decimal_is_IsNumeral p.len (omega (arith, h.short, width_small p.addr)) in
     let digit = digit_at (decimal p.len) (k - length (ip_text p.addr) - 1) numeral.0.1 in
     grind (arith, common_steps, digit, not_dash, ip_bytes p.addr k 0)
 
@@ -99,7 +99,7 @@ written : (p : FamilyPrefix) (m : Option ℕ) → IsFamilyPrefix p → IsMaxLenO
     → IsMaxLenTextOf (prefix_text p ++ max_text m) p m
 written p None h within = rw (append-nil (prefix_text p)) (prefix_no_dash p h, IsPrefixText-prefix_text p h)
 written p (Some n) h within =
-    let few = few_bits p.addr in
+    let few = width_small p.addr in
     let max = IsNumberText-decimal (2 ^ 8 - 1) n (omega (arith, within.1, few)) (omega (arith, within.1, few)) in (
       record {
         left = prefix_text p;

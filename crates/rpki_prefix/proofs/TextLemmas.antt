@@ -7,7 +7,7 @@ use Rattle.rpki_text.specs.Reading.{Answers}
 use Rattle.rpki_text.specs.declared.number.ParseIntError.{ParseIntError}
 use Rattle.rpki_addr.proofs.AddressReads.{IsIpText-one, IsIpText-ip_text}
 use Rattle.rpki_text.proofs.NumberLemmas.{number_answers}
-use Rattle.rpki_prefix.proofs.HostBits.{few_bits}
+use Rattle.rpki_addr.proofs.PrefixNumbers.{width_small}
 use Rattle.rpki_prefix.specs.declared.error.ParsePrefixError.TheVariants.{Empty, MissingLen, InvalidAddr, InvalidLen, InvalidPrefix}
 use Rattle.rpki_prefix.specs.declared.error.PrefixError.{PrefixError}
 
@@ -129,7 +129,7 @@ HasPrefixTextFault-one = fault_one strict
 
 -- what is printed of a prefix writes it
 pub IsPrefixText-prefix_text : (p : FamilyPrefix) → IsFamilyPrefix p → IsPrefixText (prefix_text p) p
-IsPrefixText-prefix_text p h = grind (arith, IsIpText-ip_text, IsNumberText-decimal, few_bits, ip_bytes, no_slash)
+IsPrefixText-prefix_text p h = grind (arith, IsIpText-ip_text, IsNumberText-decimal, width_small, ip_bytes, no_slash)
 
 -- what is found by the strict reader is the answer, and what is printed is read back
 pub reads_prefix : (text : List ℕ) (r : Result FamilyPrefix ParsePrefixError)

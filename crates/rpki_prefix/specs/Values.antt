@@ -1,16 +1,12 @@
 -- Prefixes of addresses of one family (RFC 4632, 3.1; RFC 4291, 2.3).
 use Rattle.std.specs.Prelude.{◌≡◌, ◌≢◌, ℕ, ◌+◌, ◌-◌, ◌%◌, ◌^◌, ◌<◌, ◌≤◌, Bool, true, false, codes, List}
 use Rattle.rpki_addr.specs.Bits.{cleared}
+pub use Rattle.rpki_addr.specs.Prefixes.{width}
 use Rattle.rpki_addr.specs.Prefixes.{PrefixValue, IsPrefix, IsIn, LiesIn, last_of}
 use Rattle.rpki_addr.specs.declared.addr.IpAddr.{IpAddr}
 use Rattle.rpki_addr.specs.declared.addr.IpAddr.TheVariants.{V4, V6}
 use Rattle.rpki_prefix.specs.declared.error.PrefixError.{PrefixError}
 use Rattle.rpki_prefix.specs.declared.error.PrefixError.TheVariants.{LenOverflow, NonZeroHost}
-
--- how many bits an address has (RFC 791, 2.3; RFC 4291, 2)
-abbrev pub width : IpAddr → ℕ
-width (V4 n) = 32
-width (V6 n) = 128
 
 -- the number that the bits of an address write
 abbrev pub address_number : IpAddr → ℕ

@@ -29,16 +29,6 @@ impl Model for Prefix {
     ghost inverse = { λ p. record { addr = p.addr; len = p.len } };
 }
 
-/// How many bits an address has: the greatest length of a prefix of its family.
-fn address_bits(addr: &IpAddr) -> u8
-    ensures { result ≡ width addr.now }
-{
-    match addr {
-        IpAddr::V4(_) => 32,
-        IpAddr::V6(_) => 128,
-    }
-}
-
 /// The number whose last `count` bits are set, and no other.
 fn host_mask(count: u8) -> u128
     requires { count ≤ 128 }
@@ -57,7 +47,7 @@ fn clear_host(addr: &IpAddr, len: u8) -> IpAddr
     ensures value { result ≡ cleared_addr addr.now len }
     ensures below { address_number addr.now < 2 ^ width addr.now }
 {
-    let mask = host_mask(address_bits(addr) - len);
+    let mask = host_mask(addr.width() - len);
     match addr {
         IpAddr::V4(addr) => IpAddr::V4(Ipv4Addr::from_bits(addr.to_bits() & !(mask as u32))),
         IpAddr::V6(addr) => IpAddr::V6(Ipv6Addr::from_bits(addr.to_bits() & !mask)),
@@ -70,7 +60,7 @@ fn set_host(addr: &IpAddr, len: u8) -> IpAddr
     requires { len ≤ width addr.now }
     ensures { result ≡ filled_addr addr.now len }
 {
-    let mask = host_mask(address_bits(addr) - len);
+    let mask = host_mask(addr.width() - len);
     match addr {
         IpAddr::V4(addr) => IpAddr::V4(Ipv4Addr::from_bits(addr.to_bits() | mask as u32)),
         IpAddr::V6(addr) => IpAddr::V6(Ipv6Addr::from_bits(addr.to_bits() | mask)),
@@ -113,7 +103,7 @@ impl Prefix {
     pub fn new_relaxed(addr: IpAddr, len: u8) -> Result<Prefix, PrefixError>
         ensures { MatchResult result (IsRelaxedPrefixOf addr len) (HasRelaxedPrefixError addr len) }
     {
-        if len > address_bits(&addr) {
+        if len > addr.width() {
             return Err(PrefixError::LenOverflow);
         }
         Ok(Prefix {
@@ -183,7 +173,7 @@ impl Prefix {
         ensures value { result ≡ width self.addr }
         ensures prefix { IsFamilyPrefix self }
     {
-        address_bits(&self.addr)
+        self.addr.width()
     }
 
     /// The prefix's address and length.

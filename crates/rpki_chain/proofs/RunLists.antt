@@ -65,9 +65,12 @@ IsRunsOf-itself f form xs h =
 -- the chains of two sets, and one that is made of both
 module _ {B : Type 0} {f : B → ℕ × ℕ} (some others : List B) {a b : Runs} (one : map f some ≡ a)
     (two : map f others ≡ b) where
-  -- where the one lies in the other, so does its set
-  pub inside_set : IsInside f some others → (n : ℕ) → Holds a n → Holds b n
-  inside_set inside n held = grind (arith, inside n, Holds-map f some n, Holds-map f others n)
+  -- what tells whether the one lies in the other tells so of their sets
+  pub inside_set : (P : Type 0) → P ↔ IsInside f some others → P ↔ ((n : ℕ) → Holds a n → Holds b n)
+  inside_set P told = (
+    λ p n held. grind (arith, told.0 p n, Holds-map f some n, Holds-map f others n),
+    λ all. told.1 (λ n covered. grind (arith, all n, Holds-map f some n, Holds-map f others n)),
+  )
 
   module _ {form : ℕ × ℕ → B} {xs : List B} where
     -- the runs of what both have, of what the one has and the other has not, and of what one or the other has

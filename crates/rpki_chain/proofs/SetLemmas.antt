@@ -1,12 +1,8 @@
 -- Chains of blocks, and the sets that they are.
-use Rattle.rpki_chain.proofs.Common.{IfOk, IfRefused, List, OrMemory, Memory, Refused, Result, [], arith, get_or, length, map, refl, sym, ℕ, ◌-◌, ◌<◌, ◌↔◌, ◌∷◌, ◌≡◌, ◌≤◌, All-head, All-map, All-tail, Decides, All, Covers, Covers-nil, IsChain-from, is_same_pair, le_refl, same_runs, IsChain, IsChainOf, IsInside, IsOfKind, IsBlockChain, IsBlockSet, IsIntersection, Holds, IsRunsOf, IsRunsOfBlocks, Runs}
-use Rattle.std.specs.Prelude.{IsOkAnd, Ok, Err}
+use Rattle.rpki_chain.proofs.Common.{IfOk, List, Result, [], arith, get_or, length, map, refl, sym, ℕ, ◌-◌, ◌<◌, ◌↔◌, ◌∷◌, ◌≡◌, ◌≤◌, All-head, All-map, All-tail, Decides, All, Covers, Covers-nil, IsChain-from, is_same_pair, le_refl, same_runs, IsChain, IsChainOf, IsOfKind, IsBlockChain, IsBlockSet, Holds, IsRunsOf, IsRunsOfBlocks, Runs}
 use Rattle.std.specs.Cmp.Lexicographic.{pointwise_decides}
 use Rattle.std.proofs.lemmas.Grind.{common_steps}
-use Rattle.rpki_chains.specs.Overhang.{IsOverhang}
-use Rattle.rpki_chains.specs.declared.overhang.Overhang.{Overhang}
-use Rattle.rpki_chains.proofs.FitTurns.{overhang-not_inside}
-use Rattle.rpki_chain.proofs.RunLists.{IsRunsOf-itself, IsRunsOfBlocks-bounds, Holds-map, inside_set, same_numbers}
+use Rattle.rpki_chain.proofs.RunLists.{IsRunsOf-itself, IsRunsOfBlocks-bounds, same_numbers}
 use Rattle.rpki_chain.specs.Operations.{IsUnion}
 
 -- whether two sets are the same is what the comparison of their bounds tells
@@ -30,28 +26,11 @@ pub numbers_told : (P : Type 0) (a b : Runs) → IsRunsOf (Holds a) a → IsRuns
     → P ↔ ((n : ℕ) → Holds a n ↔ Holds b n)
 numbers_told P a b ha hb told = grind (arith, same_numbers)
 
--- where a block leaves the other set, not all numbers of the one are in the other
-pub leaves_some : {B I : Type 0} {f : B → ℕ × ℕ} {number : I → ℕ} {first last : ℕ} {own other : List B}
-    {o : Overhang I} {a b : Runs} (form : ℕ × ℕ → B) → IsOverhang f number first last own other o → map f own ≡ a
-    → map f other ≡ b → ((n : ℕ) → Holds a n → Holds b n) → ⊥
-leaves_some {B} {I} {f} {number} {first} {last} {own} {other} {o} form leaves one two inside =
-    overhang-not_inside f form number first last own other o leaves
-    (λ n covered. (Holds-map f other n).0 ((rw (← one, ← two) at inside) n ((Holds-map f own n).1 covered)))
-
--- what is right of the runs of each chain is right of the set that is refused with one
-pub refused_says : {B E : Type 0} {f : B → ℕ × ℕ} {Q : List B → Type 0} (P : Runs → Type 0)
-    (chain : Result (List B) E) (refused : OrMemory Runs)
-    → IfRefused (λ set. IsOkAnd chain (λ xs. set ≡ map f xs)) refused → IfOk chain Q
-    → ((xs : List B) → Q xs → P (map f xs)) → IfRefused P refused
-refused_says P (Ok xs) (Refused set) is chain says = rw is (says xs chain)
-refused_says P (Err e) (Refused set) is chain says = absurd is
-refused_says P chain (Memory e) is made says = tt
-
-module _ {B : Type 0} {f : B → ℕ × ℕ} {form : ℕ × ℕ → B} {first last : ℕ} {xs : List B} where
+module _ {B : Type 0} {f : B → ℕ × ℕ} {form : ℕ × ℕ → B} {first last : ℕ} where
   -- the chain of numbers of the kind is one of blocks of the kind
-  pub IsBlockChain-of_kind : {S : ℕ → Type 0} → IsChainOf f form S xs → ((n : ℕ) → S n → (first ≤ n) × (n ≤ last))
-      → IsBlockChain f form first last xs
-  IsBlockChain-of_kind {S} h kind =
+  pub IsBlockChain-of_kind : {S : ℕ → Type 0} {xs : List B} → IsChainOf f form S xs
+      → ((n : ℕ) → S n → (first ≤ n) × (n ≤ last)) → IsBlockChain f form first last xs
+  IsBlockChain-of_kind {S} {xs} h kind =
       let chain = IsChain-from f form xs S h in
       record {
         chain = chain;
@@ -60,14 +39,13 @@ module _ {B : Type 0} {f : B → ℕ × ℕ} {form : ℕ × ℕ → B} {first la
       }
 
   -- whose numbers are the kind's
-  pub IsBlockChain-kind : IsBlockChain f form first last xs → IsOfKind f first last xs
+  pub IsBlockChain-kind : {xs : List B} → IsBlockChain f form first last xs → IsOfKind f first last xs
   IsBlockChain-kind h n (k, x, lt, is, within) = grind (arith, h.above k x lt, h.below k x lt)
 
--- so the chain of numbers that one of the kind covers is one too
-pub IsBlockChain-inside : {B : Type 0} {f : B → ℕ × ℕ} {form : ℕ × ℕ → B} {first last : ℕ} {S : ℕ → Type 0}
-    {xs ys : List B} → IsBlockChain f form first last ys → ((n : ℕ) → S n → Covers f ys n) → IsChainOf f form S xs
-    → IsBlockChain f form first last xs
-IsBlockChain-inside of inside h = IsBlockChain-of_kind h (λ n s. IsBlockChain-kind of n (inside n s))
+  -- so the chain of some of its numbers is one too
+  pub IsBlockChain-part : {P : ℕ → Type 0} {xs ys : List B} → IsBlockChain f form first last ys
+      → IsChainOf f form (λ n. Covers f ys n × P n) xs → IsBlockChain f form first last xs
+  IsBlockChain-part of h = IsBlockChain-of_kind h (λ n s. IsBlockChain-kind of n s.0)
 
 module _ {B : Type 0} (f : B → ℕ × ℕ) where
   -- the blocks that are made of the runs of a set have these runs for their bounds
@@ -104,12 +82,6 @@ module _ {B : Type 0} {f : B → ℕ × ℕ} {form : ℕ × ℕ → B} {first la
       let above = All-map (λ (b : ℕ × ℕ). first ≤ b.0) f blocks chain.above in
       let below = All-map (λ (b : ℕ × ℕ). b.1 ≤ last) f blocks chain.below in
       rw (← own) (record { are_runs = IsRunsOf-itself f form blocks chain.chain; above = above; below = below })
-
-  -- a chain inside another is what they have in common
-  pub common_inside : (others : List B) {other : Runs} → map f others ≡ other → IsInside f blocks others
-      → IsIntersection set other set
-  common_inside others two inside =
-      grind (arith, inside_set blocks others own two inside, IsBlockSet-from_chain.are_runs)
 
   -- a chain is its union with one of no blocks, on either side
   pub joint_none : (others : List B) (other : Runs) → map f others ≡ other → others ≡ []

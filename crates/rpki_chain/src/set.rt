@@ -1,5 +1,5 @@
 //! Sets of the items of a kind.
-ghost use Rattle.std.specs.Prelude.{◌≡◌, ℕ, ◌↔◌, [], ◌∷◌, IsTrue, IsOk, IfOk, IsOkAnd, IfErr, OnOk, OnErr, map};
+ghost use Rattle.std.specs.Prelude.{◌≡◌, ℕ, ◌↔◌, [], ◌∷◌, IsTrue, IsOk, IfOk, IfErr, OnOk, OnErr, map};
 ghost use Rattle.std.specs.Slice.Iter.{iter_rest};
 ghost use Rattle.rpki_chain.specs.BlockSets.{IsBlockChain, IsBlockSet};
 ghost use Rattle.rpki_chains.specs.Equality.{same_runs};
@@ -56,7 +56,7 @@ impl<T: Block, A: Allocator> BlockSet<T, A> {
         let (min, max) = block.bounds();
         let mut blocks = Vec::with_capacity(alloc, 1)?;
         blocks.push(T::new(min, max))?;
-        Self::from_owned(alloc, OwnedChain::from_vec_unchecked(blocks))
+        Self::from_owned_unchecked(alloc, OwnedChain::from_vec_unchecked(blocks))
     }
 
     /// The set of the items that some block has. The blocks may come in any order and may overlap. `AllocError` where
@@ -66,7 +66,8 @@ impl<T: Block, A: Allocator> BlockSet<T, A> {
         A: Copy,
         ensures { IfOk result (IsRunsOfBlocks T.bounds blocks.now) }
     {
-        Self::from_owned(alloc, OwnedChain::from_blocks(alloc, blocks)?)
+        let chain = SharedChain::from_blocks(alloc, blocks)?;
+        Ok(BlockSet { chain })
     }
 
     /// The set of the items that some block has, made in the memory of the blocks, which may come in any order and may
@@ -74,7 +75,8 @@ impl<T: Block, A: Allocator> BlockSet<T, A> {
     pub fn from_vec(alloc: A, blocks: Vec<T, A>) -> Result<Self, AllocError>
         ensures { IfOk result (IsRunsOfBlocks T.bounds blocks.items) }
     {
-        Self::from_owned_unchecked(alloc, OwnedChain::from_vec(blocks))
+        let chain = SharedChain::from_vec(alloc, blocks)?;
+        Ok(BlockSet { chain })
     }
 
     /// The set of the items of blocks that are its runs as they stand, each in the form that `new` gives. It is made in
@@ -105,7 +107,8 @@ impl<T: Block, A: Allocator> BlockSet<T, A> {
 
     /// The same set, whose memory has one owner more. `AllocError` where std refuses that owner.
     pub fn clone(&self) -> Result<Self, AllocError>
-        ensures { IfOk result (λ set. set ≡ self.now) }
+        ensures same { IfOk result (λ set. set ≡ self.now) }
+        ensures set { IsBlockSet T.first T.last self.now }
     {
         let chain = self.chain.clone()?;
         Ok(BlockSet { chain })
@@ -186,9 +189,9 @@ impl<T: Block, A: Allocator> BlockSet<T, A> {
         A: Copy,
         ensures { IfOk result (IsIntersection self.now other.now) }
     {
-        match self.as_chain().trim(alloc, other.as_chain()) {
+        match self.trim(alloc, other) {
             Ok(()) => self.clone(),
-            Err(OrMemory::Refused(common)) => Self::from_owned_unchecked(alloc, common),
+            Err(OrMemory::Refused(common)) => Ok(common),
             Err(OrMemory::Memory(error)) => Err(error),
         }
     }
@@ -232,14 +235,10 @@ impl<T: Block, A: Allocator> BlockSet<T, A> {
         ensures ok { IsOk result ↔ ((n : ℕ) → Holds self.now n → Holds other.now n) }
         ensures refused { IfErr result (IfRefused (IsDifference self.now other.now)) }
     {
-        let own = self.as_chain();
-        let others = other.as_chain();
-        match own.overhang(others) {
-            None => Ok(()),
-            Some(overhang) => Err(Self::refused_with(
-                alloc,
-                own.difference_from(alloc, others, overhang),
-            )),
+        match self.chain.covered_by(alloc, &other.chain) {
+            Ok(()) => Ok(()),
+            Err(OrMemory::Refused(chain)) => Err(OrMemory::Refused(BlockSet { chain })),
+            Err(OrMemory::Memory(error)) => Err(OrMemory::Memory(error)),
         }
     }
 
@@ -255,32 +254,10 @@ impl<T: Block, A: Allocator> BlockSet<T, A> {
         ensures ok { IsOk result ↔ ((n : ℕ) → Holds self.now n → Holds other.now n) }
         ensures refused { IfErr result (IfRefused (IsIntersection self.now other.now)) }
     {
-        let own = self.as_chain();
-        let others = other.as_chain();
-        match own.overhang(others) {
-            None => Ok(()),
-            Some(overhang) => Err(Self::refused_with(
-                alloc,
-                own.common_from(alloc, others, overhang),
-            )),
-        }
-    }
-
-    /// `Refused` with the set of a chain, or `Memory` where there was none for the chain or is none for the set.
-    fn refused_with(
-        alloc: A,
-        chain: Result<OwnedChain<T, A>, AllocError>,
-    ) -> OrMemory<BlockSet<T, A>>
-        requires { IfOk chain (IsBlockChain T.bounds T.form T.first T.last) }
-        ensures { IfRefused (λ set. IsOkAnd chain (λ chain. set ≡ map T.bounds chain)) result }
-    {
-        let set = match chain {
-            Ok(chain) => Self::from_owned_unchecked(alloc, chain),
-            Err(error) => Err(error),
-        };
-        match set {
-            Ok(set) => OrMemory::Refused(set),
-            Err(error) => OrMemory::Memory(error),
+        match self.chain.trim(alloc, &other.chain) {
+            Ok(()) => Ok(()),
+            Err(OrMemory::Refused(chain)) => Err(OrMemory::Refused(BlockSet { chain })),
+            Err(OrMemory::Memory(error)) => Err(OrMemory::Memory(error)),
         }
     }
 

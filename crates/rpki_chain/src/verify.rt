@@ -1,5 +1,5 @@
 //! What claims leave of a set: one claim, a path of them, and the claim of an issuer who should have it all.
-ghost use Rattle.std.specs.Prelude.{◌≡◌, ◌↔◌, [], IsOk, IfOk, IfErr, MatchResult};
+ghost use Rattle.std.specs.Prelude.{◌≡◌, ◌↔◌, [], IsOk, IfErr, MatchResult};
 ghost use Rattle.rpki_text.specs.Memory.{IfRefused};
 ghost use Rattle.rpki_text.specs.Reading.{AnswersOrMemory};
 ghost use Rattle.rpki_chain.specs.Claims.{claim_by};
@@ -84,7 +84,7 @@ fn issued_by<T: Block, A: Allocator + Copy>(
 {
     match claim {
         ResourcesChoice::Missing => Ok(BlockSet::empty()),
-        ResourcesChoice::Inherit => Ok(shared(set)?),
+        ResourcesChoice::Inherit => Ok(set.clone()?),
         ResourcesChoice::Blocks(listed) => listed_by(set, alloc, listed, mode),
     }
 }
@@ -110,7 +110,7 @@ fn listed_by<T: Block, A: Allocator + Copy>(
             }
         }
     }
-    Ok(shared(listed)?)
+    Ok(listed.clone()?)
 }
 
 /// Whether a set is empty; else the refusal is the set itself.
@@ -122,16 +122,7 @@ fn none_left<T: Block, A: Allocator>(set: &BlockSet<T, A>) -> Result<(), OrMemor
     if set.as_slice().is_empty() {
         return Ok(());
     }
-    Err(OrMemory::Refused(shared(set)?))
-}
-
-/// The same set, with one owner more.
-fn shared<T: Block, A: Allocator>(set: &BlockSet<T, A>) -> Result<BlockSet<T, A>, AllocError>
-    ensures same { IfOk result (λ one. one ≡ set.now) }
-    ensures runs { IsRunsOf (Holds set.now) set.now }
-{
-    set.is_lawful();
-    set.clone()
+    Err(OrMemory::Refused(set.clone()?))
 }
 
 /// What a path leaves of a root, or its first refusal.
@@ -143,7 +134,7 @@ fn left_by<T: Block, A: Allocator + Copy, R: Claims<T, A>>(
     ensures { MatchResult result (IsPathResult R.claim (Holds root.now) steps.now)
         (IfRefused (IsFirstRefusal R.claim (Holds root.now) steps.now)) }
 {
-    let mut left = shared(root)?;
+    let mut left = root.clone()?;
     for (at, step) in steps.iter().enumerate() {
         match issued_by(&left, alloc, step.claim.claimed(), step.mode) {
             Ok(issued) => left = issued,

@@ -1,9 +1,11 @@
 -- A walk over two chains that finds the first block of the one that doesn't lie in the other.
 use Rattle.rpki_chains.proofs.Imports.{Bool, IsTrue, List, MatchOption, None, Option, Some, arith, drop, get_or, is_some, length, not, refl, subst, ℕ, ⊎_elim, ◌+◌, ◌-◌, ◌<◌, ◌↔◌, ◌∷◌, ◌≡◌, ◌≤◌, ◌⊎◌, cases_lt, drop_more, get_or_default, nat_tests, Before, Covers, HoldsBlock, IsChain, IsFitIn, IsInside, IsOverhang, IsWithin, Overhang, numbers}
-use Rattle.std.specs.Prelude.{⊤}
+use Rattle.std.specs.Prelude.{Result, ⊤, IfOk, IsOkAnd}
 use Rattle.rpki_chains.specs.declared.overhang.Fit.TheVariants as fit
 use Rattle.rpki_chains.proofs.Chains.{Covers-at, element_at}
 use Rattle.rpki_chains.proofs.Sides.{IsAt, IsAt-from, bounds_of, covers_at, lies_before, ordered_at}
+use Rattle.rpki_text.specs.Memory.{IfRefused}
+use Rattle.rpki_text.specs.declared.memory.OrMemory.{OrMemory}
 
 -- what lies in the first i blocks of xs lies in ys too, whose first j blocks end before the next block of xs begins
 pub record Passed {B : Type 0} (f : B → ℕ × ℕ) (form : ℕ × ℕ → B) (xs ys : List B) (i j : ℕ) : Type 0 where
@@ -128,3 +130,8 @@ module _ {B I : Type 0} (f : B → ℕ × ℕ) (form : ℕ × ℕ → B) (number
   pub none_leaves : (found : Option (Overhang I)) (none : Bool) → is_some found ≡ not none
       → MatchOption found (IsInside f xs ys) (IsOverhang f number first last xs ys) → IsTrue none ↔ IsInside f xs ys
   none_leaves found none e h = grind (arith, nat_tests, overhang-not_inside)
+
+-- what is right of the chain that was made is right of the refusal with it
+pub refused_is : {X E : Type 0} (P : X → Type 0) (made : Result X E) (refused : OrMemory X)
+    → IfRefused (λ shared. IsOkAnd made (λ chain. shared ≡ chain)) refused → IfOk made P → IfRefused P refused
+refused_is P made refused is h = grind arith

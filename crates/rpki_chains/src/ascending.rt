@@ -1,7 +1,7 @@
 //! Blocks that ascend become a chain while they are copied, in one pass.
 ghost use Rattle.std.specs.Prelude.{◌≡◌, ℕ, ◌↔◌, [], IsTrue, IfOk};
 ghost use Rattle.std.specs.List.Sorted.{IsNonDecreasingBy};
-ghost use Rattle.rpki_chains.specs.Sets.{Covers, IsChain};
+ghost use Rattle.rpki_chains.specs.Sets.{Covers, IsChain, IsOfKind};
 
 use crate::union::take_in;
 use rpki_block::block::Block;
@@ -19,6 +19,7 @@ pub fn join_ascending_into<T: Block, A: Allocator>(
         → IsChain T.bounds T.form chain.new.items) }
     ensures covers { IfOk result (λ ascend. IsTrue ascend → (n : ℕ) →
         Covers T.bounds chain.new.items n ↔ Covers T.bounds blocks.now n) }
+    ensures kind { IfOk result (λ ascend. IsTrue ascend → IsOfKind T.bounds T.first T.last blocks.now) }
     ensures ascends { IfOk result (λ ascend. IsNonDecreasingBy (λ b. (T.bounds b).0) blocks.now
         → IsTrue ascend) }
 {

@@ -4,9 +4,8 @@ ghost use Rattle.std.specs.Coded.{Coded-set};
 ghost use Rattle.rpki_chains.specs.Sets.{IsChain};
 ghost use Rattle.rpki_chains.specs.ChainLaws.{IsChain-prop};
 
-use crate::common::common_from;
 use crate::counted::Counted;
-use crate::difference::{difference_counted, difference_from};
+use crate::difference::difference_counted;
 use crate::membership::{contains_block, contains_item_counted, intersects_block};
 use crate::overhang::{Overhang, overhang_of};
 use crate::owned::OwnedChain;
@@ -124,7 +123,7 @@ impl<T: Block> Chain<'_, T> {
 
     /// Its first block that doesn't lie in the other, `None` where each does. This takes no memory. Where the other has
     /// many more blocks, each of its own is sought there by a binary search.
-    pub fn overhang(self, other: Chain<'_, T>) -> Option<Overhang<T::Item>>
+    pub(crate) fn overhang(self, other: Chain<'_, T>) -> Option<Overhang<T::Item>>
         ensures { MatchOption result
             (IsInside T.bounds (chain_blocks self.entry) (chain_blocks other.entry))
             (IsOverhang T.bounds T.number T.first T.last
@@ -134,50 +133,6 @@ impl<T: Block> Chain<'_, T> {
             return sought_overhang(&mut Counted::new(self), &mut Counted::new(other));
         }
         overhang_of(self.blocks, other.blocks)
-    }
-
-    /// The chain of the numbers that both have, where the overhang is known: the walk goes on from there. `AllocError`
-    /// where there is no memory for it.
-    pub fn common_from<A: Allocator>(
-        self,
-        alloc: A,
-        other: Chain<'_, T>,
-        overhang: Overhang<T::Item>,
-    ) -> Result<OwnedChain<T, A>, AllocError>
-        requires { IsOverhang T.bounds T.number T.first T.last
-            (chain_blocks self) (chain_blocks other) overhang }
-        ensures { IfOk result (IsChainOf T.bounds T.form (λ n.
-            Covers T.bounds (chain_blocks self.entry) n ×
-            Covers T.bounds (chain_blocks other.entry) n)) }
-    {
-        common_from(
-            alloc,
-            &mut Counted::new(self),
-            &mut Counted::new(other),
-            overhang,
-        )
-    }
-
-    /// The chain of its numbers that aren't the other's, where the overhang is known: the walk goes on from there.
-    /// `AllocError` where there is no memory for it.
-    pub fn difference_from<A: Allocator>(
-        self,
-        alloc: A,
-        other: Chain<'_, T>,
-        overhang: Overhang<T::Item>,
-    ) -> Result<OwnedChain<T, A>, AllocError>
-        requires { IsOverhang T.bounds T.number T.first T.last
-            (chain_blocks self) (chain_blocks other) overhang }
-        ensures { IfOk result (IsChainOf T.bounds T.form (λ n.
-            Covers T.bounds (chain_blocks self.entry) n ×
-            (Covers T.bounds (chain_blocks other.entry) n → ⊥))) }
-    {
-        difference_from(
-            alloc,
-            &mut Counted::new(self),
-            &mut Counted::new(other),
-            overhang,
-        )
     }
 
     /// `Ok` where each of its numbers is one of the other's, with no memory taken. Else `Refused` with the chain of the

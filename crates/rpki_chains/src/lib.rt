@@ -26,7 +26,6 @@ mod union;
 
 pub use difference::difference_counted;
 pub use membership::contains_item_counted;
-pub use overhang::Overhang;
 pub use trim::trim_counted;
 pub use union::union_counted;
 

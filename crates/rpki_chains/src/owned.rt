@@ -39,8 +39,9 @@ impl<T: Block, A: Allocator> OwnedChain<T, A> {
     /// The chain of the numbers that the blocks cover. They may come in any order and may overlap; where they ascend
     /// already they are not sorted. `AllocError` where there is no memory for as many blocks as there are.
     pub fn from_blocks(alloc: A, blocks: &[T]) -> Result<Self, AllocError>
-        ensures { IfOk result (λ chain.
+        ensures chain { IfOk result (λ chain.
             IsChainOf T.bounds T.form (Covers T.bounds blocks.now) chain) }
+        ensures kind { IfOk result (λ _. IsOfKind T.bounds T.first T.last blocks.now) }
     {
         let mut chain = Vec::with_capacity(alloc, blocks.len())?;
         if join_ascending_into(&mut chain, blocks)? {

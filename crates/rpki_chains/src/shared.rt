@@ -1,14 +1,19 @@
 //! A chain that several owners hold.
-ghost use Rattle.std.specs.Prelude.{◌≡◌, ℕ, ◌↔◌, List, [], IsTrue, IfOk, map};
+ghost use Rattle.std.specs.Prelude.{◌≡◌, ℕ, ◌↔◌, List, [], IsTrue, IsOk, IsOkAnd, IfOk, IfErr, map};
+ghost use Rattle.rpki_text.specs.Memory.{IfRefused};
 ghost use Rattle.rpki_chains.specs.Equality.{same_runs};
 ghost use Rattle.rpki_chains.specs.EqualityLaws.{chains_per, chains_equiv};
-ghost use Rattle.rpki_chains.specs.Sets.{Covers, IsChainOf};
+ghost use Rattle.rpki_chains.specs.Sets.{Covers, IsInside, IsChainOf, IsOfKind};
 ghost use Rattle.rpki_chains.specs.Owned.{shared_blocks, IsShared};
 ghost use Rattle.rpki_chains.specs.View.{chain_blocks};
 
 use crate::chain::Chain;
+use crate::common::common_from;
+use crate::counted::Counted;
+use crate::difference::difference_from;
 use crate::owned::OwnedChain;
 use rpki_block::block::Block;
+use rpki_text::memory::OrMemory;
 use std::alloc::{AllocError, Allocator, Global};
 use std::fmt;
 use std::marker::Model;
@@ -52,11 +57,22 @@ impl<T: Block, A: Allocator> SharedChain<T, A> {
     pub fn from_blocks(alloc: A, blocks: &[T]) -> Result<Self, AllocError>
     where
         A: Copy,
-        ensures { IfOk result (λ chain.
+        ensures chain { IfOk result (λ chain.
             IsChainOf T.bounds T.form (Covers T.bounds blocks.now) chain) }
+        ensures kind { IfOk result (λ _. IsOfKind T.bounds T.first T.last blocks.now) }
     {
         let chain = OwnedChain::from_blocks(alloc, blocks)?;
         Self::from_owned(alloc, chain)
+    }
+
+    /// The chain of the numbers that the blocks cover, made in their memory, as `OwnedChain::from_vec` makes it.
+    /// `AllocError` where there is no memory for what its owners share.
+    pub fn from_vec(alloc: A, blocks: Vec<T, A>) -> Result<Self, AllocError>
+        ensures chain { IfOk result (λ chain.
+            IsChainOf T.bounds T.form (Covers T.bounds blocks.items) chain) }
+        ensures kind { IfOk result (λ _. IsOfKind T.bounds T.first T.last blocks.items) }
+    {
+        Self::from_owned(alloc, OwnedChain::from_vec(blocks))
     }
 
     /// The view of the chain.
@@ -67,6 +83,71 @@ impl<T: Block, A: Allocator> SharedChain<T, A> {
             return Chain::empty();
         };
         chain.as_chain()
+    }
+
+    /// `Ok` where each of its numbers is one of the other's, with no memory taken. Else `Refused` with the chain of the
+    /// numbers that both have, or `Memory`. One walk over both.
+    pub fn trim(
+        &self,
+        alloc: A,
+        other: &SharedChain<T, A>,
+    ) -> Result<(), OrMemory<SharedChain<T, A>>>
+    where
+        A: Copy,
+        ensures ok { IsOk result ↔ IsInside T.bounds self.now other.now }
+        ensures refused { IfErr result (IfRefused (IsChainOf T.bounds T.form (λ n.
+            Covers T.bounds self.now n × Covers T.bounds other.now n))) }
+    {
+        let own = self.as_chain();
+        let others = other.as_chain();
+        let Some(overhang) = own.overhang(others) else {
+            return Ok(());
+        };
+        let mut own = Counted::new(own);
+        let mut others = Counted::new(others);
+        let chain = common_from(alloc, &mut own, &mut others, overhang);
+        Err(refused_with(alloc, chain))
+    }
+
+    /// `Ok` where each of its numbers is one of the other's, with no memory taken. Else `Refused` with the chain of its
+    /// numbers that aren't the other's, or `Memory`. One walk over both.
+    pub fn covered_by(
+        &self,
+        alloc: A,
+        other: &SharedChain<T, A>,
+    ) -> Result<(), OrMemory<SharedChain<T, A>>>
+    where
+        A: Copy,
+        ensures ok { IsOk result ↔ IsInside T.bounds self.now other.now }
+        ensures refused { IfErr result (IfRefused (IsChainOf T.bounds T.form (λ n.
+            Covers T.bounds self.now n × (Covers T.bounds other.now n → ⊥)))) }
+    {
+        let own = self.as_chain();
+        let others = other.as_chain();
+        let Some(overhang) = own.overhang(others) else {
+            return Ok(());
+        };
+        let mut own = Counted::new(own);
+        let mut others = Counted::new(others);
+        let chain = difference_from(alloc, &mut own, &mut others, overhang);
+        Err(refused_with(alloc, chain))
+    }
+}
+
+/// `Refused` with a chain, for several owners, or `Memory` where there was none for the chain or is none for them.
+fn refused_with<T: Block, A: Allocator>(
+    alloc: A,
+    chain: Result<OwnedChain<T, A>, AllocError>,
+) -> OrMemory<SharedChain<T, A>>
+    ensures { IfRefused (λ shared. IsOkAnd chain (λ chain. shared ≡ chain)) result }
+{
+    let shared = match chain {
+        Ok(chain) => SharedChain::from_owned(alloc, chain),
+        Err(error) => Err(error),
+    };
+    match shared {
+        Ok(chain) => OrMemory::Refused(chain),
+        Err(error) => OrMemory::Memory(error),
     }
 }
 

@@ -11,7 +11,7 @@ returns-in-Err-Refused g c =
 pub loop-at-init : goal.loop-at-init
 loop-at-init g c =
     let one = c.in_ok-left.ensures in
-    none_passed g.R.Claims.claim _ c.args.steps.now c.in_ok-left.left c.args.root.now one.same one.runs
+    none_passed g.R.Claims.claim _ c.args.steps.now c.in_ok-left.left c.args.root.now one.same one.set.are_runs
 
 pub loop-at-preserved : goal.loop-at-preserved
 loop-at-preserved g c =

@@ -21,5 +21,5 @@ returns g c =
       | in-Refuse+in_ok-covered_by-in-Refuse w ↦ w.in_ok-covered_by-in-Refuse.ensures.ok.0 refl
       | in-Trim+in_default w ↦ w.in_default.ensures.ok.0 refl
     ] in
-    let one = c.in_ok-shared.ensures in
-    issued_inside c.args.set.now c.args.mode c.args.listed.now _ inside one.same one.runs
+    let one = c.in_ok-clone.ensures in
+    issued_inside c.args.set.now c.args.mode c.args.listed.now _ inside one.same one.set.are_runs

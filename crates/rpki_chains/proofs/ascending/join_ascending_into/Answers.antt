@@ -1,5 +1,5 @@
 -- Each turn takes in the next block; and the last run is closed in the end.
-use Rattle.rpki_chains.proofs.Imports.{arith, nat_tests, numbers, refl}
+use Rattle.rpki_chains.proofs.Imports.{arith, nat_tests, numbers, refl, take_all}
 use Rattle.rpki_chains.proofs.Joining.{Joined-first, Joined-rises, Joined-next, Joined-covers, closed_run}
 use Rattle.rpki_chains.proofs.ascending.join_ascending_into.Goals as goal
 
@@ -33,5 +33,6 @@ returns g c =
     rw c.in_ok-push.ensures.items record {
       chain = λ _. closed_run joined.at_hand is c.new.ensures.value;
       covers = λ _. Joined-covers joined is c.loop-at-test.false;
+      kind = λ _. rw (take_all _ _ c.loop-at-test.false) at joined.of_kind;
       ascends = λ _. refl;
     }

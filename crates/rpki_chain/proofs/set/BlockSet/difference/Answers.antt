@@ -1,10 +1,9 @@
 use Rattle.rpki_chain.proofs.RunLists.{excess_runs}
-use Rattle.rpki_chain.proofs.SetLemmas.{IsBlockChain-inside, made}
+use Rattle.rpki_chain.proofs.SetLemmas.{IsBlockChain-part, made}
 use Rattle.rpki_chain.proofs.set.BlockSet.difference.Goals as goal
 
 pub from_owned_unchecked-requires : goal.from_owned_unchecked-requires
-from_owned_unchecked-requires g c =
-    IsBlockChain-inside c.as_chain.ensures.chain (λ n s. s.0) c.in_ok-chain.ensures.difference
+from_owned_unchecked-requires g c = IsBlockChain-part c.as_chain.ensures.chain c.in_ok-chain.ensures.difference
 
 pub returns : goal.returns
 returns g c =

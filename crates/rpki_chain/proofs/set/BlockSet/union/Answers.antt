@@ -8,13 +8,14 @@ pub returns-then-is_empty : goal.returns-then-is_empty
 returns-then-is_empty g c =
     let own = c.as_chain-own.ensures in
     let none = c.is_empty.ensures.0 c.if-is_empty.true in
-    made c.clone.result c.clone.ensures (joint_none own.chain own.blocks _ _ c.as_chain-others.ensures.blocks none).0
+    made c.clone.result c.clone.ensures.same
+    (joint_none own.chain own.blocks _ _ c.as_chain-others.ensures.blocks none).0
 
 pub returns-then-is_empty-2 : goal.returns-then-is_empty-2
 returns-then-is_empty-2 g c =
     let others = c.as_chain-others.ensures in
     let none = c.is_empty-2.ensures.0 c.if-is_empty-2.true in
-    made c.clone-then-is_empty-2.result c.clone-then-is_empty-2.ensures
+    made c.clone-then-is_empty-2.result c.clone-then-is_empty-2.ensures.same
     (joint_none others.chain others.blocks _ _ c.as_chain-own.ensures.blocks none).1
 
 pub from_owned_unchecked-requires : goal.from_owned_unchecked-requires

@@ -6,11 +6,17 @@ use Rattle.rpki_chains.proofs.owned.OwnedChain.from_blocks.Goals as goal
 pub returns : goal.returns
 returns g c =
     let f = g.T.Block.bounds in
-    chain_of_same f g.T.Block.form _ _ (same_cover f f _ _ c.in_ok-rebuild.ensures.bounds) _ c.from_vec.ensures.chain
+    let same = same_cover f f _ _ c.in_ok-rebuild.ensures.bounds in
+    record {
+      chain = chain_of_same f g.T.Block.form _ _ same _ c.from_vec.ensures.chain;
+      kind = λ n covered. c.from_vec.ensures.kind n ((same n).1 covered);
+    }
 
 pub returns-then-branch : goal.returns-then-branch
 returns-then-branch g c =
     let joined = c.in_ok-join_ascending_into.ensures in
     let ascend = c.if-branch.true in
-    rw c.from_vec_unchecked.ensures
-    (IsChainOf-from g.T.Block.bounds g.T.Block.form _ _ (joined.chain ascend) (joined.covers ascend))
+    rw c.from_vec_unchecked.ensures record {
+      chain = IsChainOf-from g.T.Block.bounds g.T.Block.form _ _ (joined.chain ascend) (joined.covers ascend);
+      kind = joined.kind ascend;
+    }

@@ -52,10 +52,6 @@ SEAMS = (
     "rpki_base::read_values",
     "rpki_base::sequence_len",
     "rpki_base::take_sequence_of",
-    "rpki_chains::chain::Chain::common_from",
-    "rpki_chains::chain::Chain::difference_from",
-    "rpki_chains::chain::Chain::overhang",
-    "rpki_chains::Overhang",
     "rpki_chains::reads::read_at",
     "rpki_chain::BlockSet::as_chain",
     "rpki_chain::BlockSet::from_owned",
@@ -75,6 +71,7 @@ SEAMS = (
     "rpki_ip::text",
     "rpki_ip_block::der::IpBlockReader",
     "rpki_ip_block::list",
+    "rpki_ip_block::SetPrefixes::over",
     "rpki_family::iter::BlockOfSet",
 )
 CLAUSE = re.compile(r"^\s*(?:ensures|requires|decreases|ghost)\b")

@@ -11,6 +11,6 @@ pub use Rattle.rpki_cover.specs.Covers.{IsShortestCover, IsV4CoverList, widened}
 pub use Rattle.rpki_ip.specs.Whole.{HasWholeBounds, IsWhole}
 pub use Rattle.rpki_ip_block.specs.Blocks.{ip_bounds, new_ip_block, prefix_bounds}
 pub use Rattle.rpki_ip_block.specs.declared.block.IpBlock.{IpBlock}
-pub use Rattle.rpki_ipres.specs.SetCovers.{runs_cover}
+pub use Rattle.rpki_ip_block.specs.BlockCovers.{runs_cover}
 pub use Rattle.rpki_ipres.specs.SetText.{IsFamilySet, IsIpSet}
 pub use Rattle.rpki_family.specs.Families.{HasBoundsIn, IsCoverListIn, Ipv4Of}

@@ -1,6 +1,7 @@
 pub mod BlockModes
 pub mod BlockWritten
 pub mod Common
+pub mod CoverLemmas
 pub mod DerFaults
 pub mod FormLemmas
 pub mod FrontLemmas

@@ -1,3 +1,4 @@
+pub mod BlockCovers
 pub mod BlockDer
 pub mod BlockFormLaws
 pub mod BlockFronts

@@ -12,7 +12,9 @@ pub mod block;
 pub mod der;
 mod front;
 pub mod list;
+pub mod prefixes;
 pub mod text;
 
 pub use block::IpBlock;
+pub use prefixes::SetPrefixes;
 pub use text::{DisplayV4Block, DisplayV6Block};

@@ -3,6 +3,5 @@ pub mod Modes
 pub mod Resources
 pub mod ResourcesDer
 pub mod ResourcesReadingLaws
-pub mod SetCovers
 pub mod SetDer
 pub mod SetText

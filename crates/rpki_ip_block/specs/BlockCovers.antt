@@ -1,14 +1,13 @@
--- Covers of sets of addresses.
+-- Covers of blocks of addresses by prefixes.
 use Rattle.std.specs.Prelude.{ℕ, List, map}
 use Rattle.std.specs.List.{flat_map}
 use Rattle.rpki_addr.specs.Prefixes.{PrefixValue}
-use Rattle.rpki_chain.specs.Runs.{Runs}
 use Rattle.rpki_cover.specs.Walk.{cover_list}
 use Rattle.rpki_ip_block.specs.Blocks.{ip_bounds}
 use Rattle.rpki_ip_block.specs.declared.block.IpBlock.{IpBlock}
 
 -- the cover lists, at width w, of runs, one after the other
-abbrev pub runs_cover : ℕ → Runs → List PrefixValue
+abbrev pub runs_cover : ℕ → List (ℕ × ℕ) → List PrefixValue
 runs_cover w runs = flat_map (λ b. cover_list w b.0 b.1) runs
 
 -- and those of blocks of addresses

@@ -1,0 +1,61 @@
+//! The shortest covers of blocks of addresses by prefixes.
+ghost use Rattle.std.specs.Prelude.{◌≡◌};
+ghost use Rattle.std.specs.Iterator.{YieldsFirst, item_count};
+ghost use Rattle.rpki_ip_block.specs.BlockCovers.{blocks_cover};
+
+use crate::block::IpBlock;
+use rpki_ip::cover::V6Prefixes;
+use rpki_ip::prefix::Prefix;
+use rpki_ip::range::AddressRange;
+use std::marker::Model;
+use std::slice::Iter;
+
+/// The prefixes of the shortest cover of a set of addresses that are left, ascending. Contracts see it as their list.
+#[derive(Debug, Drop)]
+pub struct SetPrefixes<'a> {
+    current: V6Prefixes, // of whole IPv4 addresses they are those that their first 32 bits have
+    later: Iter<'a, IpBlock>,
+}
+
+impl<'a> Model for SetPrefixes<'a> {
+    ghost use Rattle.std.specs.Prelude.{List, ◌++◌};
+    ghost use Rattle.std.specs.Slice.Iter.{iter_rest};
+    ghost use Rattle.rpki_addr.specs.Prefixes.{PrefixValue};
+    ghost use Rattle.rpki_ip_block.specs.BlockCovers.{blocks_cover};
+
+    ghost Value = { List PrefixValue };
+
+    ghost view = { λ p. p.current ++ blocks_cover (iter_rest p.later) };
+}
+
+impl<'a> SetPrefixes<'a> {
+    /// The prefixes of the shortest cover of each block, one block after the other. Of the blocks of a set, which
+    /// ascend and don't touch, these are the shortest cover of the set.
+    pub fn over(blocks: &'a [IpBlock]) -> SetPrefixes<'a>
+        ensures { result ≡ blocks_cover blocks.now }
+    {
+        SetPrefixes {
+            current: V6Prefixes::default(),
+            later: blocks.iter(),
+        }
+    }
+}
+
+impl Iterator for SetPrefixes<'_> {
+    type Item = Prefix;
+
+    ghost next_gives = { YieldsFirst (λ prefixes. prefixes) };
+
+    ghost remaining = { item_count (λ prefixes. prefixes) };
+
+    fn next(&mut self) -> Option<Prefix> {
+        if let Some(prefix) = self.current.next() {
+            return Some(prefix);
+        }
+        let Some(block) = self.later.next() else {
+            return None;
+        };
+        self.current = AddressRange::new(block.min(), block.max()).to_v6_prefixes();
+        self.current.next()
+    }
+}

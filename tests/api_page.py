@@ -37,6 +37,7 @@ CRATE_HEAD = """{about}
 SEAMS = (
     "rpki_text::list",
     "rpki_text::number",
+    "rpki_addr::IpAddr::width",
     "rpki_addr::addr::front",
     "rpki_addr::addr::print",
     "rpki_base::Asn::append",
@@ -53,6 +54,9 @@ SEAMS = (
     "rpki_base::sequence_len",
     "rpki_base::take_sequence_of",
     "rpki_chains::reads::read_at",
+    "rpki_chains::shared::SharedChain::covered_by",
+    "rpki_chains::shared::SharedChain::from_vec",
+    "rpki_chains::shared::SharedChain::trim",
     "rpki_chain::BlockSet::as_chain",
     "rpki_chain::BlockSet::from_owned",
     "rpki_chain::BlockSet::from_vec_unchecked",

@@ -188,7 +188,7 @@ end_build() {
 
 # Proves and builds the crates, those that don't stand on each other side by side, and says how long it takes.
 build() {
-    tell "the program is proved and built first, twelve to twenty-five minutes on four processors$meanwhile"
+    tell "the program is proved and built first, ten to twenty-five minutes on four processors$meanwhile"
     began=$(date +%s)
     all=$(needed_crates | wc -l)
     work=$(mktemp -d) || exit 1

@@ -42,7 +42,7 @@ without_rt() {
     PATH=$copy/tools "$@" </dev/null 2>&1
 }
 
-built_first="respath: the program is proved and built first, twelve to twenty-five minutes on four processors; with --try\
+built_first="respath: the program is proved and built first, ten to twenty-five minutes on four processors; with --try\
  it answers within a minute, by the sources unproved"
 
 # What lies there is run where nothing that it needs is newer.

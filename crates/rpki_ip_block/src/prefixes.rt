@@ -10,7 +10,8 @@ use rpki_ip::range::AddressRange;
 use std::marker::Model;
 use std::slice::Iter;
 
-/// The prefixes of the shortest cover of a set of addresses that are left, ascending. Contracts see it as their list.
+/// The prefixes that are left of the shortest covers of blocks, one block after the other. Of a set's blocks they are
+/// the set's shortest cover, ascending. Contracts see it as their list.
 #[derive(Debug, Drop)]
 pub struct SetPrefixes<'a> {
     current: V6Prefixes, // of whole IPv4 addresses they are those that their first 32 bits have
@@ -29,8 +30,7 @@ impl<'a> Model for SetPrefixes<'a> {
 }
 
 impl<'a> SetPrefixes<'a> {
-    /// The prefixes of the shortest cover of each block, one block after the other. Of the blocks of a set, which
-    /// ascend and don't touch, these are the shortest cover of the set.
+    /// The prefixes of the shortest cover of each block, one block after the other.
     pub fn over(blocks: &'a [IpBlock]) -> SetPrefixes<'a>
         ensures { result ≡ blocks_cover blocks.now }
     {

@@ -3,9 +3,10 @@ use Rattle.roa_origin.proofs.Common.{Bool, IsTrue, ap, arith, subst, true, ◌&&
 use Rattle.std.proofs.lemmas.Cmp.{nat_cmp_total, on_total, then_total, tied_itself}
 use Rattle.std.proofs.lemmas.Map.Lookups.{exact_pairs, exact_unsigned}
 use Rattle.std.specs.Ordering.{is_eq, is_lt}
+use Rattle.rpki_prefix.proofs.OrderLemmas.{max_len_one_place, max_len_total}
 
-pub total : IsTotalOrder max_len_cmp → IsTotalOrder payload_cmp
-total prefixes = then_total (on_total (λ p. p.0) prefixes) (on_total (λ p. p.1) nat_cmp_total)
+pub total : IsTotalOrder payload_cmp
+total = then_total (on_total (λ p. p.0) max_len_total) (on_total (λ p. p.1) nat_cmp_total)
 
 -- what is less isn't greater
 pub not_back : {X : Type 0} {R : X → X → Ordering} → IsTotalOrder R → (x y : X) → R x y ≡ Less → R y x ≢ Less
@@ -15,11 +16,10 @@ not_back is_total x y less back = let turned = ap ordering_reverse back in let i
 pub cases_ordering : (o : Ordering) → (o ≡ Less) ⊎ ((o ≡ Equal) ⊎ (o ≡ Greater))
 cases_ordering o = grind (arith)
 
-pub ties : ((m n : MaxLenValue) → (max_len_cmp m n ≡ Equal) ↔ (m ≡ n)) → IsTotalOrder payload_cmp → (p q : Payload)
-    → (payload_cmp p q ≡ Equal) ↔ (p ≡ q)
-ties prefixes is_total p q = (
-  exact_pairs max_len_cmp nat_cmp (λ m n. (prefixes m n).0) exact_unsigned p q,
-  λ e. subst (λ (r : Payload). payload_cmp p r ≡ Equal) e (tied_itself is_total p),
+pub ties : (p q : Payload) → (payload_cmp p q ≡ Equal) ↔ (p ≡ q)
+ties p q = (
+  exact_pairs max_len_cmp nat_cmp (λ m n. (max_len_one_place m n).0) exact_unsigned p q,
+  λ e. subst (λ (r : Payload). payload_cmp p r ≡ Equal) e (tied_itself total p),
 )
 
 pub less_of : (o : Ordering) → is_lt o ≡ true → o ≡ Less

@@ -63,7 +63,6 @@ fn left_of<A: Allocator>(
     requires other { IsAscending other.now }
     ensures { IfOk result (λ left. IsWithout one.now other.now left.items) }
 {
-    rpki_prefix::laws::total_order(); // so that the proof sees that the order is total
     let mut left = Vec::new(alloc);
     let mut at = 0;
     for payload in one {
@@ -93,11 +92,10 @@ fn not_less(payloads: &[(MaxLenPrefix, Asn)], from: usize, payload: &(MaxLenPref
 }
 
 /// Whether the payload stands at a place of a list.
-#[tactic(auto, using(crate::proofs::Totals::equal_of, crate::proofs::Totals::ties, crate::proofs::Totals::total))]
+#[tactic(auto, using(crate::proofs::Totals::equal_of, crate::proofs::Totals::ties))]
 fn stands_at(payloads: &[(MaxLenPrefix, Asn)], at: usize, payload: &(MaxLenPrefix, Asn)) -> bool
     ensures { IsTrue result ↔ ((at < length payloads.now)
         × (slice_index_or payloads.now at payload.now ≡ payload.now)) }
 {
-    rpki_prefix::laws::total_order(); // so that the proof sees that payloads which tie are the same
     at < payloads.len() && payloads[at].cmp(payload).is_eq()
 }

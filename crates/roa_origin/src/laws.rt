@@ -25,9 +25,7 @@ pub fn laws_of_tables()
         → IsTableOf payloads other → table ≡ other }
     ensures members { (table other : List Payload) → IsAscending table → IsAscending other
         → ((p : Payload) → Contains table p ↔ Contains other p) → table ≡ other }
-{
-    rpki_prefix::laws::total_order(); // so that the proof sees that the order is total
-}
+{}
 
 /// A table without what is withdrawn and with what is announced is the next one; from a table to itself nothing
 /// changes.
@@ -36,9 +34,7 @@ pub fn laws_of_changes()
         → IsWithout next table announced → IsWithout table next withdrawn
         → IsAfter table announced withdrawn set → set ≡ next }
     ensures none { (table left : List Payload) → IsWithout table table left → left ≡ [] }
-{
-    rpki_prefix::laws::total_order(); // so that the proof sees that the order is total
-}
+{}
 
 /// A table after changes has, as payloads are sent, those of the table before that aren't withdrawn, and those that are
 /// announced; it lists them as they were listed, and announced ones as they are sent. Changes lead to one list,

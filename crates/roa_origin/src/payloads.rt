@@ -35,9 +35,7 @@ impl<A: Allocator> PayloadTable<A> {
     pub fn new(alloc: A, payloads: &[(MaxLenPrefix, Asn)]) -> Result<PayloadTable<A>, AllocError>
         ensures { IfOk result (IsTableOf payloads.now) }
     {
-        // so that the proof sees that the order is total, and that only duplicates are dropped
-        rpki_prefix::laws::total_order();
-        rpki_prefix::laws::equal_where_the_same();
+        rpki_prefix::laws::equal_where_the_same(); // so that the proof sees that only duplicates are dropped
         let mut table = sent(alloc, payloads)?;
         table.sort_unstable();
         table.dedup();

@@ -121,7 +121,6 @@ fn origins_of(
         (λ octets. AreEach (IsOrigin payloads.now) routes.now octets.items)
         (IfRefused (IsFirstNone (IsOrigin payloads.now) IsNoRoute routes.now)) }
 {
-    roa_origin::laws::laws_of_validities(); // so that the proof sees that the table's order doesn't matter
     let table = OriginTable::new(alloc, payloads)?;
     origins_in(alloc, &table, routes)
 }

@@ -1,6 +1,13 @@
 -- What is written of claims is read as them.
 use Rattle.rpki_extensions.proofs.Common.{List, Some, [], arith, length, ℕ, ◌++◌, ◌<◌, ◌≡◌, ◌≢◌, ◌^◌, Ipv4, Ipv6, Claim, Missing, IsFamilyClaim, if_present, IsIpFamilies, ip_families_der, AreAddressClaims, claim_or_missing, IsAddressValue, Encoding}
+use Rattle.rpki_as.proofs.Common.{IsAsResources, IsAsSet, IsClaim, as_resources_octets, written_said}
+use Rattle.rpki_as.proofs.ResourcesDer.{resources_in_modes, resources_short}
+use Rattle.rpki_ipres.proofs.ResourcesWritten.{claims_written}
 use Rattle.rpki_extensions.specs.Written.{claimed_addresses}
+
+pub numbers_written : (claim : Claim) → IsClaim IsAsSet claim → claim ≢ Missing
+    → IsAsResources (as_resources_octets claim) claim
+numbers_written claim is some = written_said resources_in_modes claim (is, some) (resources_short claim is)
 
 some_addresses : (v4 v6 : Claim) → (v4 ≡ Missing → v6 ≢ Missing)
     → Some (ip_families_der v4 v6) ≡ claimed_addresses v4 v6
@@ -22,11 +29,9 @@ module _ (v4 v6 : Claim) (items old : List ℕ) (some : v4 ≡ Missing → v6 �
     pub is_written : Some items ≡ claimed_addresses v4 v6
     is_written = rw (ok, clean) (some_addresses v4 v6 some)
 
-    pub is_read_back : ((v4 v6 : Claim) → IsFamilyClaim Ipv4 v4 → IsFamilyClaim Ipv6 v6 → (v4 ≡ Missing → v6 ≢ Missing)
-        → length (ip_families_der v4 v6) < 2 ^ 64 → IsIpFamilies (ip_families_der v4 v6) (if_present v4, if_present v6))
-        → IsFamilyClaim Ipv4 v4 → IsFamilyClaim Ipv6 v6 → length items < 2 ^ 64 → (encoding : Encoding)
+    pub is_read_back : IsFamilyClaim Ipv4 v4 → IsFamilyClaim Ipv6 v6 → length items < 2 ^ 64 → (encoding : Encoding)
         → AreAddressClaims encoding (Some items) (v4, v6)
-    is_read_back law is also short encoding =
-        let octets = law v4 v6 is also some (rw (ok, clean) at short) in
+    is_read_back is also short encoding =
+        let octets = claims_written v4 v6 is also some (rw (ok, clean) at short) in
         let value = value_again v4 v6 some is also encoding octets in
         rw (ok, clean) ((if_present v4, if_present v6), value, λ i. (back_again v4 i, back_again v6 i))

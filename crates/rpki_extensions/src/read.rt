@@ -22,7 +22,6 @@ pub fn read_as<A: Allocator + Copy>(
     ensures { MatchResult result (IsAsValue encoding octets.now)
         (IfRefused (HasAsFault encoding octets.now)) }
 {
-    rpki_as::der::laws::written_resources(); // so that the proof sees that octets begin with one claim at most
     let mut cursor = encoding.cursor(octets);
     let resources = AsResources::take_from(alloc, &mut cursor)?;
     cursor.finish()?;
@@ -40,7 +39,6 @@ pub fn read_families<A: Allocator + Copy>(
         (IfRefused (HasAddressValueFault encoding octets.now)) }
     ensures whole { IfOk result (λ found. IfSome found.0 IsWholeClaim) }
 {
-    rpki_ipres::der::laws::one_value(); // so that the proof sees that octets begin with one list of families at most
     let mut cursor = encoding.cursor(octets);
     let families = IpResources::take_families_from(alloc, &mut cursor)?;
     cursor.finish()?;

@@ -11,6 +11,7 @@ use std::alloc::{AllocError, Allocator};
 
 /// The octets of AS identifiers (RFC 3779, 3.2.3) that make a claim, in their one form, or None where it is missing and
 /// the extension is absent. They are read back in either encoding. `AllocError` where there is no memory for them.
+#[tactic(auto, using(crate::proofs::WrittenLemmas::numbers_written))]
 pub fn write_numbers_claim<A: Allocator>(
     alloc: A,
     claim: &AsResources<A>,
@@ -20,7 +21,6 @@ pub fn write_numbers_claim<A: Allocator>(
     ensures reads_back { IfOk result (λ value. (encoding : Encoding) →
         IsNumbersClaim encoding (option_map (λ octets. octets.items) value) claim.now) }
 {
-    rpki_as::der::laws::written_resources(); // so that the proof sees that what is written is read
     if claim.is_missing() {
         return Ok(None);
     }
@@ -32,6 +32,7 @@ pub fn write_numbers_claim<A: Allocator>(
 /// The octets of IP address blocks (RFC 3779, 2.2.3) that make the claims on IPv4 and on IPv6, in their one form, or
 /// None where both are missing and the extension is absent. They are read back in either encoding, where what is
 /// claimed of IPv4 consists of whole addresses. `AllocError` where there is no memory for them.
+#[tactic(auto, using(crate::proofs::WrittenLemmas::is_written))]
 pub fn write_address_claims<A: Allocator>(
     alloc: A,
     v4: &IpResources<A>,
@@ -42,8 +43,6 @@ pub fn write_address_claims<A: Allocator>(
     ensures reads_back { IsWholeClaim v4.now → IfOk result (λ value. (encoding : Encoding) →
         AreAddressClaims encoding (option_map (λ octets. octets.items) value) (v4.now, v6.now)) }
 {
-    rpki_ipres::laws::claims_of_families(); // so that the proof sees that a whole claim is one on IPv4
-    rpki_ipres::der::laws::written_resources(); // and that what is written is read
     if v4.is_missing() && v6.is_missing() {
         return Ok(None);
     }
@@ -81,7 +80,6 @@ pub fn write_addresses<A: Allocator + Copy>(
         AreAddressClaims encoding (option_map (λ octets. octets.items) value)
         (claim_of set.now.ipv4, claim_of set.now.ipv6)) }
 {
-    rpki_ipres::laws::claims_of_families(); // so that the proof sees that a claim on IPv4 is whole
     let v4 = set.to_ip_resources_v4()?;
     let v6 = set.to_ip_resources_v6()?;
     write_address_claims(alloc, &v4, &v6)

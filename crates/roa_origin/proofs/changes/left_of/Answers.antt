@@ -8,10 +8,8 @@ use Rattle.roa_origin.proofs.changes.left_of.Goals as goal
 
 pub loop-payload-preserved : goal.loop-payload-preserved
 loop-payload-preserved g c =
-    let is_total = total c.total_order.ensures.max_len_total in
-    let same = ties c.total_order.ensures.max_len_ties is_total in
     let at = c.not_less-at.ensures in
-    let turn = turned is_total same c.loop-payload.invariant c.requires.one c.requires.other c.loop-payload-test.true
+    let turn = turned total ties c.loop-payload.invariant c.requires.one c.requires.other c.loop-payload-test.true
     c.payload-item.is at.within at.less at.not_less in
     elim c.if-not-stands_at.branch [
       | then-not-stands_at+in_ok-push w ↦

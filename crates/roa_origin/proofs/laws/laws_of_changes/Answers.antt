@@ -7,9 +7,8 @@ use Rattle.roa_origin.proofs.laws.laws_of_changes.Goals as goal
 
 pub returns-clause-leads : goal.returns-clause-leads
 returns-clause-leads c table next announced withdrawn set ascends new gone after =
-    let is_total = total c.total_order.ensures.max_len_total in
-    let cases = decide payload_cmp is_total (ties c.total_order.ensures.max_len_ties is_total) in
-    same_list (λ p q. payload_cmp p q ≡ Less) (not_back is_total) set next after.ascending ascends
+    let cases = decide payload_cmp total ties in
+    same_list (λ p q. payload_cmp p q ≡ Less) (not_back total) set next after.ascending ascends
     (λ p. only_next (cases table p) (cases next p) (new.members p) (gone.members p) (after.members p))
 
 pub returns-clause-none : goal.returns-clause-none

@@ -1,5 +1,7 @@
 -- What a table tells of routes, the list that it was made of tells too.
 use Rattle.route_calls.proofs.Common.{ℕ, IsOrigin, IsNoRoute, Route}
+use Rattle.roa_origin.proofs.Common.{IsPermutation-sym}
+use Rattle.roa_origin.proofs.Scans.{same_validity}
 use Rattle.route_calls.proofs.OriginLemmas.{by_another}
 use Rattle.route_calls.proofs.origin.origins_of.Goals as goal
 
@@ -9,7 +11,7 @@ returns c =
       prefix = told.prefix;
       is_route = told.is_route;
       validity = told.validity;
-      is_validity = (c.laws_of_validities.ensures.any_order told.prefix _ c.args.payloads.now _ told.validity c.in_ok-table.ensures.payloads).1 told.is_validity;
+      is_validity = same_validity told.prefix _ _ c.args.payloads.now told.validity (IsPermutation-sym _ _ c.in_ok-table.ensures.payloads) told.is_validity;
       told = told.told;
     } in
     by_another (IsOrigin c.in_ok-table.table) (IsOrigin c.args.payloads.now) by_list IsNoRoute c.args.routes.now _ _ c.origins_in.ensures

@@ -2,6 +2,7 @@
 use Rattle.rpki_extensions.proofs.Common.{IsRunsOfBlocks}
 use Rattle.rpki_as.specs.AsDer.{IsAsResources, IsPresentAsClaim, as_resources_octets}
 use Rattle.rpki_as.specs.AsDerReading.{as_choice_by}
+use Rattle.rpki_as.proofs.ResourcesDer.{one_resources}
 use Rattle.rpki_as_block.specs.Blocks.{as_bounds}
 use Rattle.rpki_chain.specs.Choices.{ListsBy}
 use Rattle.rpki_extensions.proofs.EndLemmas.{passed_on}
@@ -19,7 +20,7 @@ returns-in_err-finish g c =
     let told = c.in_ok-resources.ensures in
     passed_on _ _ _ _ c.from_residual-in_err-finish.ensures
     (rw c.cursor-cursor.ensures.octets at (more_in c.args.encoding IsAsResources IsPresentAsClaim as_resources_octets (ListsBy (IsRunsOfBlocks as_bounds)) as_choice_by c.cursor-cursor.result c.take_from.new.cursor c.cursor-cursor.ensures.mode _ _
-    c.written_resources.ensures.one (λ y rest p at. told.reads_back y rest p.0 p.1 at) told.reads told.strict told.by_mode c.in_err-finish.ensures.exact))
+    one_resources (λ y rest p at. told.reads_back y rest p.0 p.1 at) told.reads told.strict told.by_mode c.in_err-finish.ensures.exact))
 
 pub returns : goal.returns
 returns g c =

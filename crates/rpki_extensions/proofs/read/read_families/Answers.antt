@@ -1,5 +1,6 @@
 -- What a take at the front of the octets tells of all of them.
 use Rattle.rpki_extensions.proofs.Common.{families_der, ArePresentClaims, IsIpFamilies, SaysClaims, ip_resources_der}
+use Rattle.rpki_ipres.proofs.ResourcesWritten.{one_of_families}
 use Rattle.rpki_ipres.specs.Modes.{ip_families_by}
 use Rattle.rpki_extensions.proofs.EndLemmas.{passed_on}
 use Rattle.rpki_extensions.proofs.EncodingLemmas.{all_in, families_again, more_in, refused_in}
@@ -16,7 +17,7 @@ returns-in_err-finish-clause-claims g c =
     let told = c.in_ok-families.ensures in
     passed_on _ _ _ _ c.from_residual-in_err-finish.ensures
     (rw c.cursor-cursor.ensures.octets at (more_in c.args.encoding IsIpFamilies ArePresentClaims (families_der ip_resources_der) SaysClaims ip_families_by c.cursor-cursor.result c.take_families_from.new.cursor c.cursor-cursor.ensures.mode _ _
-    c.one_value.ensures.families (families_again c.cursor-cursor.result c.take_families_from.new.cursor _ told.reads_back) told.reads told.strict told.by_mode c.in_err-finish.ensures.exact))
+    one_of_families (families_again c.cursor-cursor.result c.take_families_from.new.cursor _ told.reads_back) told.reads told.strict told.by_mode c.in_err-finish.ensures.exact))
 
 pub returns-clause-claims : goal.returns-clause-claims
 returns-clause-claims g c =

@@ -8,12 +8,10 @@ use Rattle.roa_origin.proofs.payloads.PayloadTable.new.Goals as goal
 
 table : (g : given.Over) (c : goal.After-dedup g) → IsTableOf c.args.payloads.now c.dedup.new.self.items
 table g c =
-    let law = total c.total_order.ensures.max_len_total in
-    let same = ties c.total_order.ensures.max_len_ties law in
     let equal = equal_where_the_same c.equal_where_the_same.ensures.max_len in
     let moved = rw c.in_ok-table.ensures at c.sort_unstable.ensures.permutation in record {
-      ascending = ascending payload_cmp law same _ equal _ _ c.sort_unstable.ensures.sorted c.dedup.ensures.filtered;
-      members = members payload_cmp law same _ equal _ _ _ moved c.dedup.ensures.filtered;
+      ascending = ascending payload_cmp total ties _ equal _ _ c.sort_unstable.ensures.sorted c.dedup.ensures.filtered;
+      members = members payload_cmp total ties _ equal _ _ _ moved c.dedup.ensures.filtered;
     }
 
 pub invariant_of-result : goal.invariant_of-result

@@ -1,5 +1,5 @@
 -- Takes in either mode that answer what is said by what was found. Strictly, that is what is written of the answer.
-use Rattle.rpki_base.proofs.Common.{Bool, List, Ok, Result, [], arith, length, true, ℕ, ◌++◌, ◌<◌, ◌^◌, ◌≡◌, length-append, HasOctets, MatchResult, found_is, value_is, IsBytes, OneFront, Refines, IsModal, IsReading, Lenient, Strict, is_strict, left, Cursor, DerError, IsMemory, OrMemory, Encloses, IsSequenceFrom, enclosed_at, sequence_from, values_of, NotCanonicalOrMemory, ReadsOrMemory, TakesSaidOrMemory, lenient_is, refused_at, ok_is, ok_or_err}
+use Rattle.rpki_base.proofs.Common.{Bool, List, Ok, Result, [], arith, length, true, ℕ, ◌++◌, ◌<◌, ◌^◌, ◌≡◌, length-append, HasOctets, MatchResult, found_is, value_is, OneFront, Refines, IsModal, IsReading, Lenient, Strict, is_strict, left, Cursor, DerError, IsMemory, OrMemory, Encloses, IsSequenceFrom, enclosed_at, sequence_from, values_of, NotCanonicalOrMemory, ReadsOrMemory, TakesSaidOrMemory, lenient_is, refused_at, ok_is, ok_or_err}
 use Rattle.std.specs.Prelude.{IfOk}
 use Rattle.rpki_der.specs.Der.{Front, IsTag, Spells, value}
 use Rattle.rpki_der.specs.Reading.{refined, tagged_at}
@@ -31,10 +31,6 @@ pub record IsTakenInModes {X Y : Type 0} (G : List ℕ → Y → Type 0) (C : Y 
       → MatchResult result (λ read. (read ≡ x) × (left new ≡ rest)) IsMemory
   pub stands : IfOk result (λ x. Front (Refines G C) (left old) x (left new))
 
--- what stands at the front of octets is no longer than they are
-pub front_short : (bytes front rest : List ℕ) → length bytes < 2 ^ 64 → bytes ≡ front ++ rest → length front < 2 ^ 64
-front_short bytes front rest short at = grind (arith, length-append)
-
 module _ {X Y : Type 0} {G S : List ℕ → Y → Type 0} {C : Y → X → Type 0} {P : X → Type 0} {octets : X → List ℕ}
     {reading : List ℕ → Result (Y × List ℕ) DerError} {by : Bool → List ℕ → Result (Y × List ℕ) DerError}
     (is : IsSaidInModes G S C P octets reading by) where
@@ -50,25 +46,27 @@ module _ {X Y : Type 0} {G S : List ℕ → Y → Type 0} {C : Y → X → Type 
   pub said_alike : (a b : X) → P a → P b → length (octets a) < 2 ^ 64 → octets a ≡ octets b → a ≡ b
   said_alike a b p q short same = grind (arith, one_said (octets a) (octets b) a b [] [], written_said)
 
-  -- a take whose octets a length can tell
-  pub taken_said : (old new : Cursor) (result : Result X (OrMemory DerError)) → IsBytes (left old)
-      → ((x : X) (rest : List ℕ) → P x → left old ≡ octets x ++ rest → length (octets x) < 2 ^ 64)
+  -- a take
+  pub taken_said : (old new : Cursor) (result : Result X (OrMemory DerError))
       → TakesSaidOrMemory C old new result (by (is_strict old)) → IsTakenInModes G C P octets reading old new result
-  taken_said old new result fits short took = record {
-    exact = λ lenient. grind (arith, lenient_is S reading by is.modal);
-    reads = λ lenient. grind (arith, lenient_is S reading by is.modal, reads_said_by);
-    strict = λ strict. grind (arith, reads_said_by, is.modal.tight, is.spelled);
-    refused = grind (arith, refused_at);
-    reads_back = λ x rest p at.
-        let found = found_by S reading by is.modal (is_strict old) (octets x) in
-        grind (arith, ok_is, ok_or_err, is.one, found, is.says x p (short x rest p at));
-    stands = grind (arith, found_is, is.modal.tightens, is.lenient.takes);
-  }
+  taken_said old new result took =
+      let few : (x : X) (rest : List ℕ) → left old ≡ octets x ++ rest → length (octets x) < 2 ^ 64 =
+      λ x rest same. omega (arith, length-append (octets x) rest, rw same at old.few) in
+      record {
+        exact = λ lenient. grind (arith, lenient_is S reading by is.modal);
+        reads = λ lenient. grind (arith, old.bytes, lenient_is S reading by is.modal, reads_said_by);
+        strict = λ strict. grind (arith, old.bytes, few, is.says, reads_said_by, is.modal.tight, is.spelled);
+        refused = grind (arith, old.bytes, refused_at);
+        reads_back = λ x rest p same.
+            let found = found_by S reading by is.modal (is_strict old) (octets x) in
+            grind (arith, ok_is, ok_or_err, is.one, found, is.says x p (few x rest same));
+        stands = grind (arith, old.bytes, found_is, is.modal.tightens, is.lenient.takes);
+      }
 
   -- what a strict cursor found
-  pub strictly_found : (old : Cursor) (y : Y) (rest : List ℕ) → IsBytes (left old) → is_strict old ≡ true
+  pub strictly_found : (old : Cursor) (y : Y) (rest : List ℕ) → is_strict old ≡ true
       → by (is_strict old) (left old) ≡ Ok (y, rest) → Front S (left old) y rest
-  strictly_found old y rest fits strict read = grind (arith, is.modal.tight.takes)
+  strictly_found old y rest strict read = grind (arith, old.bytes, is.modal.tight.takes)
 
   -- a value is shorter than one that encloses it
   pub enclosed_said : (tag : ℕ) → IsTag tag

@@ -1,5 +1,5 @@
 -- Sets and resources of blocks in either mode: strictly, the octets are those that are written of them.
-use Rattle.rpki_chain.proofs.Common.{Bool, List, None, Ok, Option, Result, Some, [], arith, length, refl, true, ℕ, ◌<◌, ◌^◌, ◌∷◌, ◌≡◌, ◌≢◌, All, ⊤, IsSequenceFrom, Covers, IsChain, EachFrom, IsBytes, Where, IsModal, IsReading, DerError, IsBlockSet, IsChoiceOf, ListsBy, MatchChoice, Claim, IsRunsOfBlocks, Runs, ResourcesChoice, Blocks, Inherit, Missing, choice_at}
+use Rattle.rpki_chain.proofs.Common.{Bool, List, None, Ok, Option, Result, Some, [], arith, length, refl, true, ℕ, ◌<◌, ◌^◌, ◌∷◌, ◌≡◌, ◌≢◌, All, ⊤, IsSequenceFrom, Covers, IsChain, EachFrom, Where, IsModal, IsReading, DerError, IsBlockSet, IsChoiceOf, ListsBy, MatchChoice, Claim, IsRunsOfBlocks, Runs, ResourcesChoice, Blocks, Inherit, Missing, choice_at}
 use Rattle.rpki_der.proofs.Lists.{HasOctets}
 use Rattle.rpki_der.proofs.Written.{value_is}
 use Rattle.rpki_der.specs.Der.{Each}
@@ -75,9 +75,9 @@ module _ {B : Type 0} {f : B → ℕ × ℕ} {form : ℕ × ℕ → B} {octets :
   }
 
   -- strictly, its blocks are a chain
-  pub chain_read : (old : Cursor) (xs : List B) (rest : List ℕ) → IsBytes (left old) → is_strict old ≡ true
+  pub chain_read : (old : Cursor) (xs : List B) (rest : List ℕ) → is_strict old ≡ true
       → sequence_from Next (by (is_strict old)) None (left old) ≡ Ok (xs, rest) → IsChain f form xs
-  chain_read old xs rest fits strict read = grind (arith, set_said, strictly_found, taken_chain)
+  chain_read old xs rest strict read = grind (arith, set_said, strictly_found, taken_chain)
 
   -- ---- resources
 
@@ -90,7 +90,7 @@ module _ {B : Type 0} {f : B → ℕ × ℕ} {form : ℕ × ℕ → B} {octets :
       → IsRunsOfBlocks f xs set → set ≢ []
   some_numbers content [] set each some says = absurd (some refl)
   some_numbers content (x ∷ xs) set (rest, (front, (w, beyond), split), more) some says =
-      has_numbers f (x ∷ xs) x set some refl (is.written.ordered front x w) says
+      has_numbers f (x ∷ xs) set some (λ d any. is.written.ordered front x w) says
 
   some_blocks : (xs : List B) (set : Runs) → IsRunsOfBlocks f xs set → set ≢ [] → xs ≢ []
   some_blocks xs set says some none = some (no_numbers f set (rw none at says))
@@ -140,10 +140,9 @@ module _ {B : Type 0} {f : B → ℕ × ℕ} {form : ℕ × ℕ → B} {octets :
   }
 
   -- strictly, what is listed is a chain
-  pub chain_listed : (old : Cursor) (choice : ResourcesChoice (List B)) (rest : List ℕ) → IsBytes (left old)
-      → is_strict old ≡ true
+  pub chain_listed : (old : Cursor) (choice : ResourcesChoice (List B)) (rest : List ℕ) → is_strict old ≡ true
       → choice_at (values_from Next (by (is_strict old)) None) (left old) ≡ Ok (choice, rest)
       → MatchChoice choice ⊤ ⊤ (IsChain f form)
-  chain_listed old choice rest fits strict read =
-      let found = strictly_found choice_said old choice rest fits strict read in
+  chain_listed old choice rest strict read =
+      let found = strictly_found choice_said old choice rest strict read in
       listed_chain f form octets last Fits W is.written found.0 choice found.1

@@ -1,5 +1,6 @@
 //! A place in octets, from which values are taken one after another.
 
+ghost use Rattle.std.specs.Prelude.{◌<◌, ◌^◌, length};
 ghost use Rattle.rpki_der.specs.Der.{IsBytes};
 
 use crate::content::{BitString, Content};
@@ -19,6 +20,7 @@ pub struct Cursor<'a> {
     octets: &'a [u8],
     strict: bool,
     pub ghost bytes: { IsBytes octets.now },
+    pub ghost few: { length octets.now < 2 ^ 64 },
 }
 
 impl<'a> Cursor<'a> {
@@ -47,6 +49,7 @@ impl<'a> Cursor<'a> {
         ensures octets { left result ≡ octets.now }
         ensures mode { is_strict result ≡ strict }
     {
+        let _len = octets.len(); // read so that the proof sees that the octets are fewer than 2^64
         Cursor { octets, strict }
     }
 
@@ -67,9 +70,7 @@ impl<'a> Cursor<'a> {
     /// Tells a proof that fewer than 2^64 octets are left, and does nothing.
     pub fn is_lawful(&self)
         ensures { length (left self.now) < 2 ^ 64 }
-    {
-        let _len = self.octets.len();
-    }
+    {}
 
     /// The octets that are left.
     pub fn rest(&self) -> &'a [u8]

@@ -11,7 +11,7 @@ make_sets-requires-clause-chain g c strict =
     let said = c.in_ok-listed.ensures.by_mode in
     let tagged = c.in_ok-tagged.tagged in
     let mode = c.in_ok-tagged.ensures.hands_on_mode ∙ c.in_ok-inside.ensures.hands_on_mode ∙ sym c.is_strict.ensures.mode ∙ strict in
-    listed_are (λ blocks. blocks.items) (IsChain as_bounds new_as_block) said.0 c.in_ok-listed.listed said.2 (chain_listed blocks tagged said.0 _ tagged.bytes mode said.1)
+    listed_are (λ blocks. blocks.items) (IsChain as_bounds new_as_block) said.0 c.in_ok-listed.listed said.2 (chain_listed blocks tagged said.0 _ mode said.1)
 
 pub returns-clause-by_mode : goal.returns-clause-by_mode
 unfolding only refined

@@ -1,10 +1,10 @@
 -- What the reading gives is the value of the grammar of the mode, and it gives what was written.
-use Rattle.rpki_ipres.proofs.Common.{Ipv6, front_short, taken_said}
+use Rattle.rpki_ipres.proofs.Common.{Ipv6, taken_said}
 use Rattle.rpki_ipres.proofs.Modes.{set_in_modes}
 use Rattle.rpki_ipres.proofs.blocks.IpBlocks.take_from.Goals as goal
 
 pub returns : goal.returns
 returns g c =
     let taken = taken_said (set_in_modes Ipv6) c.args.cursor.now c.next_set.new.cursor c.next_set.result
-    c.args.cursor.now.bytes (λ set rest is. front_short _ _ rest c.next_set.ensures.short) c.next_set.ensures.by_mode in
+    c.next_set.ensures.by_mode in
     assumption taken

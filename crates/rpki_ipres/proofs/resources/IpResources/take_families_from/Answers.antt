@@ -1,5 +1,5 @@
 -- What stands at the cursor for IPv4 is whole, and what was written is read; strictly, nothing else.
-use Rattle.rpki_ipres.proofs.Common.{SaysClaimOf, front_short, if_present, stands_for, taken_said, IfOk-weaker}
+use Rattle.rpki_ipres.proofs.Common.{SaysClaimOf, if_present, stands_for, taken_said, IfOk-weaker}
 use Rattle.rpki_ipres.proofs.FamilyModes.{G, are_present, families_in_modes, refused_families}
 use Rattle.rpki_ipres.proofs.WholeReadings.{whole_families}
 use Rattle.rpki_ipres.proofs.resources.IpResources.take_families_from.Goals as goal
@@ -7,8 +7,7 @@ use Rattle.rpki_ipres.proofs.resources.IpResources.take_families_from.Goals as g
 pub returns : goal.returns
 returns g c =
     let next = c.next_families in
-    let taken = taken_said families_in_modes c.args.cursor.now next.new.cursor next.result c.args.cursor.now.bytes
-    (λ claims rest are. front_short _ _ rest next.ensures.short) next.ensures.by_mode in
+    let taken = taken_said families_in_modes c.args.cursor.now next.new.cursor next.result next.ensures.by_mode in
     record {
       reads = next.ensures.reads;
       exact = next.ensures.exact;

@@ -1,5 +1,5 @@
 -- What the reading gives is the value of the grammar of the mode, and it gives what was written.
-use Rattle.rpki_ipres.proofs.Common.{front_short, taken_said, IfOk-weaker}
+use Rattle.rpki_ipres.proofs.Common.{taken_said, IfOk-weaker}
 use Rattle.rpki_ipres.proofs.Modes.{claim_in_modes}
 use Rattle.rpki_ipres.proofs.WholeReadings.{whole_claim}
 use Rattle.rpki_ipres.proofs.resources.IpResources.take_from.Goals as goal
@@ -7,7 +7,7 @@ use Rattle.rpki_ipres.proofs.resources.IpResources.take_from.Goals as goal
 pub returns : goal.returns
 returns g c =
     let taken = taken_said (claim_in_modes c.args.family) c.args.cursor.now c.next.new.cursor c.next.result
-    c.args.cursor.now.bytes (λ claim rest is. front_short _ _ rest c.next.ensures.short) c.next.ensures.by_mode in
+    c.next.ensures.by_mode in
     record {
       reads = taken.reads;
       exact = taken.exact;

@@ -181,7 +181,7 @@ fn member_within<R: ReadClaim>(
     if is_among(found, family) {
         return Err(OrMemory::Refused(DerError::DuplicateFamily));
     }
-    look_at_order(content.is_strict(), found, family)?;
+    look_at_order(&content, found, family)?;
     let claim = reader.take_claim(family, &mut inside)?;
     inside.finish()?;
     Ok((family, claim))
@@ -197,17 +197,17 @@ fn is_among<C>(found: &ByFamily<C>, family: AddressFamily) -> bool
     }
 }
 
-/// Strictly, refuses IPv4 behind IPv6.
+/// Refuses IPv4 behind IPv6 in the content of a strict cursor.
 #[tactic(auto, unfolding(rpki_der::specs::Reading::passing))]
 fn look_at_order<C>(
-    strict: bool,
+    content: &Cursor<'_>,
     found: &ByFamily<C>,
     family: AddressFamily,
 ) -> Result<(), DerError>
     ensures exact { Gives (λ u. family) result
-        (passing strict (is_in_order (seen found.now)) family) }
+        (passing (is_strict content.now) (is_in_order (seen found.now)) family) }
 {
-    if strict && !is_in_order(found, family) {
+    if !is_in_order(found, family) && content.is_strict() {
         return Err(DerError::NotCanonical);
     }
     Ok(())

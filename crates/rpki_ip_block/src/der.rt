@@ -152,19 +152,22 @@ impl IpBlock {
     ghost use Rattle.rpki_ip_block.specs.BlockReading.{ip_block_by, ip_block_of_by, next_ip_block_by};
     ghost use Rattle.rpki_ip_block.specs.Blocks.{ip_bounds};
 
-    #[tactic(auto, unfolding(rpki_der::specs::Reading::optional))]
+    #[tactic(auto, unfolding(rpki_der::specs::Reading::optional, rpki_der::specs::Reading::refined))]
     fn next_opt(cursor: &mut Cursor<'_>, family: AddressFamily) -> Result<Option<IpBlock>, DerError>
         ensures by_mode { Takes (λ block. block) cursor.old cursor.new result
             (optional (ip_block_by (is_strict cursor.old) (bits_of family))) }
         ensures mode { is_strict cursor.new ≡ is_strict cursor.old }
     {
-        if cursor.is_empty() {
+        let mut ahead = *cursor;
+        let Some(value) = ahead.take_opt_value()? else {
             return Ok(None);
-        }
-        Ok(Some(Self::next(cursor, family)?))
+        };
+        let block = Self::of_value(&value, family)?;
+        *cursor = ahead;
+        Ok(Some(block))
     }
 
-    #[tactic(auto, unfolding(rpki_der::specs::Reading::optional))]
+    #[tactic(auto, unfolding(rpki_der::specs::Reading::optional, rpki_der::specs::Reading::refined, rpki_der::specs::Reading::passing))]
     fn next_opt_after(
         before: Option<Addr>,
         cursor: &mut Cursor<'_>,
@@ -174,29 +177,15 @@ impl IpBlock {
             (optional (next_ip_block_by (is_strict cursor.old) (bits_of family) before)) }
         ensures mode { is_strict cursor.new ≡ is_strict cursor.old }
     {
-        if cursor.is_empty() {
-            return Ok(None);
-        }
-        Ok(Some(Self::next_after(before, cursor, family)?))
-    }
-
-    #[tactic(auto, unfolding(rpki_der::specs::Reading::refined, rpki_der::specs::Reading::passing))]
-    fn next_after(
-        before: Option<Addr>,
-        cursor: &mut Cursor<'_>,
-        family: AddressFamily,
-    ) -> Result<IpBlock, DerError>
-        ensures by_mode { Takes (λ block. block) cursor.old cursor.new result
-            (next_ip_block_by (is_strict cursor.old) (bits_of family) before) }
-        ensures mode { is_strict cursor.new ≡ is_strict cursor.old }
-    {
         let mut ahead = *cursor;
-        let block = Self::next(&mut ahead, family)?;
+        let Some(block) = Self::next_opt(&mut ahead, family)? else {
+            return Ok(None);
+        };
         if cursor.is_strict() && !block.is_beyond(before) {
             return Err(DerError::NotCanonical);
         }
         *cursor = ahead;
-        Ok(block)
+        Ok(Some(block))
     }
 
     // Whether the block begins more than one above the address.
@@ -211,18 +200,6 @@ impl IpBlock {
                 greatest < min && min - greatest > 1
             }
         }
-    }
-
-    #[tactic(auto, unfolding(rpki_der::specs::Reading::refined))]
-    fn next(cursor: &mut Cursor<'_>, family: AddressFamily) -> Result<IpBlock, DerError>
-        ensures by_mode { Takes (λ block. block) cursor.old cursor.new result
-            (ip_block_by (is_strict cursor.old) (bits_of family)) }
-        ensures mode { is_strict cursor.new ≡ is_strict cursor.old }
-    {
-        let mut ahead = *cursor;
-        let block = Self::of_value(&ahead.take_value()?, family)?;
-        *cursor = ahead;
-        Ok(block)
     }
 
     #[tactic(auto, unfolding(rpki_base::specs::DerReading::by_tag))]

@@ -108,7 +108,7 @@ impl AsBlock {
     ghost use Rattle.rpki_as_block.specs.Blocks.{as_bounds};
     ghost use Rattle.rpki_der.specs.Reading.{Gives, optional};
     ghost use Rattle.rpki_der.specs.Views.{Takes, is_strict, tlv};
-    ghost use Rattle.rpki_as_block.specs.AsDerReading.{as_block_at, as_block_by, as_block_of, is_new_form, next_block_by, skip_block_at, skip_block_of};
+    ghost use Rattle.rpki_as_block.specs.AsDerReading.{as_block_by, as_block_of, is_new_form, next_block_by, skip_block_at, skip_block_of};
 
     fn put<A: Allocator>(&self, out: &mut Vec<u8, A>) -> Result<(), AllocError>
         ensures ok { OnOk result (out.new.items ≡ out.old.items ++ as_block_octets self.now) }
@@ -137,19 +137,25 @@ impl AsBlock {
         }
     }
 
-    #[tactic(auto, unfolding(rpki_der::specs::Reading::optional))]
+    #[tactic(auto, unfolding(rpki_der::specs::Reading::optional, rpki_der::specs::Reading::refined, rpki_der::specs::Reading::passing))]
     fn next_opt(cursor: &mut Cursor<'_>) -> Result<Option<AsBlock>, DerError>
         ensures by_mode { Takes (λ block. block) cursor.old cursor.new result
             (optional (as_block_by (is_strict cursor.old))) }
         ensures mode { is_strict cursor.new ≡ is_strict cursor.old }
     {
-        if cursor.is_empty() {
+        let mut ahead = *cursor;
+        let Some(value) = ahead.take_opt_value()? else {
             return Ok(None);
+        };
+        let block = AsBlock::of_value(&value)?;
+        if cursor.is_strict() && !block.is_new_form() {
+            return Err(DerError::NotCanonical);
         }
-        Ok(Some(AsBlock::next(cursor)?))
+        *cursor = ahead;
+        Ok(Some(block))
     }
 
-    #[tactic(auto, unfolding(rpki_der::specs::Reading::optional))]
+    #[tactic(auto, unfolding(rpki_der::specs::Reading::optional, rpki_der::specs::Reading::refined, rpki_der::specs::Reading::passing))]
     fn next_opt_after(
         before: Option<Asn>,
         cursor: &mut Cursor<'_>,
@@ -158,51 +164,15 @@ impl AsBlock {
             (optional (next_block_by (is_strict cursor.old) before)) }
         ensures mode { is_strict cursor.new ≡ is_strict cursor.old }
     {
-        if cursor.is_empty() {
+        let mut ahead = *cursor;
+        let Some(block) = AsBlock::next_opt(&mut ahead)? else {
             return Ok(None);
-        }
-        Ok(Some(AsBlock::next_after(before, cursor)?))
-    }
-
-    #[tactic(auto, unfolding(rpki_der::specs::Reading::refined, rpki_der::specs::Reading::passing))]
-    fn next_after(before: Option<Asn>, cursor: &mut Cursor<'_>) -> Result<AsBlock, DerError>
-        ensures by_mode { Takes (λ block. block) cursor.old cursor.new result
-            (next_block_by (is_strict cursor.old) before) }
-        ensures mode { is_strict cursor.new ≡ is_strict cursor.old }
-    {
-        let mut ahead = *cursor;
-        let block = AsBlock::next_in_any_form(&mut ahead)?;
-        if cursor.is_strict() && !(block.is_new_form() && block.is_beyond(before)) {
+        };
+        if cursor.is_strict() && !block.is_beyond(before) {
             return Err(DerError::NotCanonical);
         }
         *cursor = ahead;
-        Ok(block)
-    }
-
-    #[tactic(auto, unfolding(rpki_der::specs::Reading::refined, rpki_der::specs::Reading::passing))]
-    fn next(cursor: &mut Cursor<'_>) -> Result<AsBlock, DerError>
-        ensures by_mode { Takes (λ block. block) cursor.old cursor.new result
-            (as_block_by (is_strict cursor.old)) }
-        ensures mode { is_strict cursor.new ≡ is_strict cursor.old }
-    {
-        let mut ahead = *cursor;
-        let block = AsBlock::next_in_any_form(&mut ahead)?;
-        if cursor.is_strict() && !block.is_new_form() {
-            return Err(DerError::NotCanonical);
-        }
-        *cursor = ahead;
-        Ok(block)
-    }
-
-    #[tactic(auto, unfolding(rpki_der::specs::Reading::refined))]
-    fn next_in_any_form(cursor: &mut Cursor<'_>) -> Result<AsBlock, DerError>
-        ensures exact { Takes (λ block. block) cursor.old cursor.new result as_block_at }
-        ensures mode { is_strict cursor.new ≡ is_strict cursor.old }
-    {
-        let mut ahead = *cursor;
-        let block = AsBlock::of_value(&ahead.take_value()?)?;
-        *cursor = ahead;
-        Ok(block)
+        Ok(Some(block))
     }
 
     // Whether the block is the one that is made of its bounds.
@@ -238,26 +208,18 @@ impl AsBlock {
         }
     }
 
-    #[tactic(auto, unfolding(rpki_der::specs::Reading::optional))]
+    #[tactic(auto, unfolding(rpki_der::specs::Reading::optional, rpki_der::specs::Reading::refined))]
     fn pass_over_opt(cursor: &mut Cursor<'_>) -> Result<Option<()>, DerError>
         ensures exact { Takes (λ u. u) cursor.old cursor.new result (optional skip_block_at) }
         ensures mode { is_strict cursor.new ≡ is_strict cursor.old }
     {
-        if cursor.is_empty() {
-            return Ok(None);
-        }
-        Ok(Some(AsBlock::pass_over(cursor)?))
-    }
-
-    #[tactic(auto, unfolding(rpki_der::specs::Reading::refined))]
-    fn pass_over(cursor: &mut Cursor<'_>) -> Result<(), DerError>
-        ensures exact { Takes (λ u. u) cursor.old cursor.new result skip_block_at }
-        ensures mode { is_strict cursor.new ≡ is_strict cursor.old }
-    {
         let mut ahead = *cursor;
-        AsBlock::pass_over_value(&ahead.take_value()?)?;
+        let Some(value) = ahead.take_opt_value()? else {
+            return Ok(None);
+        };
+        AsBlock::pass_over_value(&value)?;
         *cursor = ahead;
-        Ok(())
+        Ok(Some(()))
     }
 
     #[tactic(auto, unfolding(rpki_base::specs::DerReading::by_tag))]

@@ -1,7 +1,8 @@
 //! Blocks, sets and resources that are written in DER, and read again from what was written: each is the same.
 ghost use Rattle.std.specs.Prelude.{◌≡◌, ◌≢◌, IfOk};
 ghost use Rattle.rpki_chain.specs.declared.choice.ResourcesChoice.TheVariants.{Missing};
-ghost use Rattle.rpki_ipres.specs.Resources.{IsWholeClaim, if_present};
+ghost use Rattle.rpki_ipres.specs.Resources.{IsWholeClaim};
+ghost use Rattle.rpki_chain.specs.Choices.{if_present};
 
 use rpki_der::{Cursor, put_header, tag};
 use rpki_resources::OrMemory;

@@ -1,5 +1,5 @@
 -- What is said of resources: that they are missing, inherited or listed (RFC 3779, 2.2.3.4, 2.2.3.5, 3.2.3.2, 3.2.3.3).
-use Rattle.std.specs.Prelude.{◌≡◌, ℕ, List, [], Option, Some, Result, Ok, Err, codes, ⊤}
+use Rattle.std.specs.Prelude.{◌≡◌, ℕ, List, [], Option, Some, None, Result, Ok, Err, codes, ⊤}
 use Rattle.rpki_text.specs.declared.memory.OrMemory.{OrMemory}
 use Rattle.rpki_text.specs.declared.memory.OrMemory.TheVariants.{Refused, Memory}
 use Rattle.rpki_chain.specs.declared.choice.ResourcesChoice.{ResourcesChoice}
@@ -14,6 +14,12 @@ MatchChoice (Blocks x) M I B = B x
 -- the same choice, where what is listed stands in the relation R
 abbrev pub ListsBy : {X Y : Type 0} → (X → Y → Type 0) → ResourcesChoice X → ResourcesChoice Y → Type 0
 ListsBy {X} {Y} R x y = MatchChoice x (y ≡ Missing) (y ≡ Inherit) (λ listed. (other : Y) × R listed other × (y ≡ Blocks other))
+
+-- resources that aren't missing
+abbrev pub if_present : {X : Type 0} → ResourcesChoice X → Option (ResourcesChoice X)
+if_present Missing = None
+if_present Inherit = Some Inherit
+if_present (Blocks x) = Some (Blocks x)
 
 -- the call refuses what it was given
 abbrev pub IsRefused : {X E : Type 0} → Result X (OrMemory E) → Type 0

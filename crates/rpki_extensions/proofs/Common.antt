@@ -10,7 +10,8 @@ pub use Rattle.rpki_chain.specs.Runs.{Holds, IsRunsOfBlocks, Runs}
 pub use Rattle.rpki_chain.specs.declared.choice.ResourcesChoice.TheVariants.{Missing}
 pub use Rattle.rpki_der.specs.Reading.{ended}
 pub use Rattle.rpki_der.specs.declared.error.DerError.{DerError}
-pub use Rattle.rpki_ipres.specs.Resources.{ArePresentClaims, IsFamilyClaim, IsPresentFamilyClaim, if_present}
+pub use Rattle.rpki_ipres.specs.Resources.{ArePresentClaims, IsFamilyClaim, IsPresentFamilyClaim}
+pub use Rattle.rpki_chain.specs.Choices.{if_present}
 pub use Rattle.rpki_ipres.specs.ResourcesDer.{IsIpFamilies, SaysClaims, ip_families_der, ip_resources_der}
 pub use Rattle.rpki_resources.specs.Triples.{HasEachOf, IsOneInherited, Triple}
 pub use Rattle.rpki_text.specs.Memory.{IfRefused}

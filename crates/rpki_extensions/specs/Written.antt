@@ -5,7 +5,7 @@ use Rattle.rpki_chain.specs.Claims.{Claim, claim_of}
 use Rattle.rpki_chain.specs.Runs.{Runs}
 use Rattle.rpki_chain.specs.declared.choice.ResourcesChoice.TheVariants.{Missing, Inherit, Blocks}
 use Rattle.rpki_as.specs.AsDer.{as_resources_octets}
-use Rattle.rpki_ipres.specs.Resources.{if_present}
+use Rattle.rpki_chain.specs.Choices.{if_present}
 use Rattle.rpki_ipres.specs.ResourcesDer.{ip_families_der}
 
 -- AS identifiers that make a claim

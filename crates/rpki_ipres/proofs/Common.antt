@@ -11,7 +11,7 @@ pub use Rattle.rpki_base.proofs.DerReadings.{one_front_said}
 pub use Rattle.rpki_base.proofs.DerWriting.{content_shorter, one_content, written_alike}
 pub use Rattle.rpki_base.proofs.FamiliesGathering.{IsThere, each_there}
 pub use Rattle.rpki_base.proofs.FamiliesSaid.{one_families, stands_for, stood_for}
-pub use Rattle.rpki_base.proofs.SaidInModes.{IsSaidInModes, front_short, taken_said, written_said}
+pub use Rattle.rpki_base.proofs.SaidInModes.{IsSaidInModes, taken_said, written_said}
 pub use Rattle.rpki_base.proofs.FamilyLemmas.{family_reading, family_written}
 pub use Rattle.rpki_base.specs.DerReading.{IsSequenceFrom, IsSequenceOf, values_of}
 pub use Rattle.rpki_base.specs.DerViews.{NotCanonicalOrMemory}
@@ -57,7 +57,8 @@ pub use Rattle.rpki_ip_block.specs.declared.block.IpBlock.TheVariants.{Prefix, R
 pub use Rattle.rpki_text.specs.declared.memory.OrMemory.{OrMemory}
 pub use Rattle.rpki_text.specs.declared.memory.OrMemory.TheVariants.{Memory, Refused}
 pub use Rattle.rpki_ipres.specs.Modes.{greatest_of_ip_block, ip_blocks_by, ip_families_by, ip_resources_by}
-pub use Rattle.rpki_ipres.specs.Resources.{ArePresentClaims, IsFamilyClaim, IsIpClaim, IsPresentFamilyClaim, IsWholeClaim, if_present}
+pub use Rattle.rpki_ipres.specs.Resources.{ArePresentClaims, IsFamilyClaim, IsIpClaim, IsPresentFamilyClaim, IsWholeClaim}
+pub use Rattle.rpki_chain.specs.Choices.{if_present}
 pub use Rattle.rpki_ipres.specs.ResourcesDer.{IsIpFamilies, IsIpResources, SaysClaimOf, SaysClaims, ip_families_at, ip_families_der, ip_member_der, ip_resources_at, ip_resources_der}
 pub use Rattle.rpki_ipres.specs.ResourcesReadingLaws.{resources_reading}
 pub use Rattle.rpki_ipres.specs.SetDer.{IsIpBlockSequence, IsIpFamily, ip_family_der, ip_run_der, ip_set_der}

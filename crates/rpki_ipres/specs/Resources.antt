@@ -23,12 +23,6 @@ IsWholeClaim Missing = ⊤
 IsWholeClaim Inherit = ⊤
 IsWholeClaim (Blocks set) = IsWhole (Holds set)
 
--- a claim that isn't missing
-abbrev pub if_present : Claim → Option Claim
-if_present Missing = None
-if_present Inherit = Some Inherit
-if_present (Blocks set) = Some (Blocks set)
-
 -- a claim of the family that has octets
 abbrev pub IsPresentFamilyClaim : AddressFamily → Claim → Type 0
 IsPresentFamilyClaim family claim = IsFamilyClaim family claim × (claim ≢ Missing)

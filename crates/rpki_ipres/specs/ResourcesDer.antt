@@ -3,7 +3,7 @@ use Rattle.std.specs.Prelude.{ℕ, List, Result}
 use Rattle.rpki_base.specs.DerReading.{IsSequenceOf, values_of}
 use Rattle.rpki_base.specs.DerWriting.{octets_of_all}
 use Rattle.rpki_chain.specs.ChoiceDer.{IsResourcesOf, choice_at, choice_octets}
-use Rattle.rpki_chain.specs.Choices.{ListsBy}
+use Rattle.rpki_chain.specs.Choices.{ListsBy, if_present}
 use Rattle.rpki_chain.specs.Claims.{Claim}
 use Rattle.rpki_chain.specs.Runs.{IsRunsOfBlocks}
 use Rattle.rpki_chain.specs.declared.choice.ResourcesChoice.{ResourcesChoice}
@@ -17,7 +17,6 @@ use Rattle.rpki_ip_block.specs.BlockReading.{ip_block_at}
 use Rattle.rpki_ip_block.specs.Blocks.{ip_bounds}
 use Rattle.rpki_ip_block.specs.declared.block.IpBlock.{IpBlock}
 use Rattle.rpki_ipres.specs.SetDer.{ip_run_der, ip_set_der}
-use Rattle.rpki_ipres.specs.Resources.{if_present}
 
 -- a NULL for inherited resources, else a SEQUENCE of blocks, one at least, which stands for the set
 -- of their addresses (2.2.3.4 to 2.2.3.6); limit is the greatest length of a prefix

@@ -58,7 +58,6 @@ SEAMS = (
     "rpki_chains::shared::SharedChain::from_vec",
     "rpki_chains::shared::SharedChain::trim",
     "rpki_chain::BlockSet::as_chain",
-    "rpki_chain::BlockSet::from_owned",
     "rpki_chain::BlockSet::from_vec_unchecked",
     "rpki_chain::Listed",
     "rpki_chain::der",

@@ -1,5 +1,5 @@
 -- The reading of resources finds what the grammar says, and nothing else.
-use Rattle.rpki_chain.proofs.Common.{Bool, List, Result, [], arith, get_or, inl, inr, refl, true, ℕ, ◌∷◌, ◌≡◌, ◌≢◌, ◌≤◌, SaysByTag, Covers-nil, Covers-head, IsBytes, IsNothing, IsSequence, IsTlv, Refines, IsModal, IsReading, Tightens, nothing, value_at, DerError, IsChoiceOf, choice_at, choice_in, inherited_in, listed_in, some_in, IsRunsOfBlocks, Runs, ResourcesChoice, Blocks, Inherit, Missing}
+use Rattle.rpki_chain.proofs.Common.{Bool, List, Result, [], arith, get_or, inl, inr, length, refl, true, ℕ, ◌<◌, ◌∷◌, ◌≡◌, ◌≢◌, ◌≤◌, SaysByTag, Covers-nil, Covers-head, IsBytes, IsNothing, IsSequence, IsTlv, Refines, IsModal, IsReading, Tightens, nothing, value_at, DerError, IsChoiceOf, choice_at, choice_in, inherited_in, listed_in, some_in, IsRunsOfBlocks, Runs, ResourcesChoice, Blocks, Inherit, Missing}
 use Rattle.rpki_der.proofs.Contents.{nothing_check}
 use Rattle.rpki_der.proofs.Modes.{bind_tightens, looked_tightens}
 use Rattle.rpki_der.proofs.Readings.{same_reading}
@@ -8,11 +8,11 @@ use Rattle.rpki_base.proofs.DerModes.{by_tag_tightens}
 use Rattle.rpki_base.proofs.DerReadings.{by_tag_reading, mapped_check}
 
 -- blocks of which the first has a number have numbers
-pub has_numbers : {B : Type 0} (f : B → ℕ × ℕ) (xs : List B) (x : B) (set : Runs) → xs ≢ [] → x ≡ get_or xs 0 x
-    → (f x).0 ≤ (f x).1 → IsRunsOfBlocks f xs set → set ≢ []
-has_numbers f [] x set some at ordered is none = some refl
-has_numbers f (y ∷ ys) x set some at ordered is none =
-    grind (arith, Covers-head f y ys (f y).0, Covers-nil (λ b. b) (f y).0, (is.members (f y).0).1)
+pub has_numbers : {B : Type 0} (f : B → ℕ × ℕ) (xs : List B) (set : Runs) → xs ≢ []
+    → ((d : B) → 0 < length xs → (f (get_or xs 0 d)).0 ≤ (f (get_or xs 0 d)).1) → IsRunsOfBlocks f xs set → set ≢ []
+has_numbers f [] set some ordered is none = some refl
+has_numbers f (y ∷ ys) set some ordered is none =
+    grind (arith, Covers-head f y ys (f y).0, Covers-nil (λ b. b) (f y).0, ordered y, (is.members (f y).0).1)
 
 module _ {X : Type 0} (Says : List ℕ → List X → Type 0) (values : List ℕ → Result (List X) DerError)
     (check : IsCheck IsBytes Says values) where

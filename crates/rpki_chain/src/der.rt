@@ -2,12 +2,12 @@
 //! 2.2.3.6, 3.2.3.2 to 3.2.3.4).
 ghost use Rattle.std.specs.Prelude.{◌≡◌, ◌≢◌, ◌≤◌, ◌<◌, ◌+◌, ◌^◌, ◌++◌, true, [], length, vec_len, IfOk, IfSome, IfNone, OnOk, OnErr, IsOk, ⊤};
 ghost use Rattle.std.specs.Vec.{vec_capacity};
-ghost use Rattle.rpki_der.specs.Views.{is_strict, is_strict_in, left, tlv};
+ghost use Rattle.rpki_der.specs.Views.{is_strict, left};
 ghost use Rattle.rpki_base.specs.DerReading.{values_from};
-ghost use Rattle.rpki_base.specs.DerViews.{GivesOrMemory, GivesSaidOrMemory, TakesSaidOrMemory};
+ghost use Rattle.rpki_base.specs.DerViews.{GivesOrMemory, TakesSaidOrMemory};
 ghost use Rattle.rpki_base.specs.DerWriting.{octets_of_all, sequence_octets};
 ghost use Rattle.rpki_chain.specs.Choices.{ListsBy, MatchChoice};
-ghost use Rattle.rpki_chain.specs.ChoiceDer.{choice_at, choice_in, choice_octets, some_in};
+ghost use Rattle.rpki_chain.specs.ChoiceDer.{choice_at, choice_octets, some_in};
 ghost use Rattle.rpki_chain.specs.Claims.{ListsSome};
 ghost use Rattle.rpki_chain.specs.Runs.{IsRunsOfBlocks};
 ghost use Rattle.rpki_chains.specs.Sets.{IsChain};
@@ -16,7 +16,7 @@ use crate::choice::ResourcesChoice;
 use crate::set::BlockSet;
 use rpki_base::der::{Encode, ReadNext, append_sequence, encode_sequence, len_of_all, read_values};
 use rpki_chains::block::Block;
-use rpki_der::{Content, Cursor, DerError, append_null, header_len, null_len, put_null, tag};
+use rpki_der::{Cursor, DerError, append_null, header_len, null_len, put_null, tag};
 use rpki_text::memory::OrMemory;
 use std::alloc::{AllocError, Allocator};
 
@@ -26,7 +26,7 @@ use std::alloc::{AllocError, Allocator};
 /// `Refused` with the first fault: one of [`Cursor::take_value`], `BadTag` where neither stands there, `BadNull` for a
 /// NULL with content, the fault of a block, or `EmptyBlocks` for a SEQUENCE of none. `Memory` where there is no memory
 /// for the blocks. The cursor then stays.
-#[tactic(auto, unfolding(rpki_der::specs::Reading::refined))]
+#[tactic(auto, unfolding(rpki_der::specs::Reading::refined, rpki_base::specs::DerReading::by_tag))]
 pub fn take_listed<R: ReadNext, A: Allocator + Copy>(
     alloc: A,
     reader: &R,
@@ -41,32 +41,17 @@ pub fn take_listed<R: ReadNext, A: Allocator + Copy>(
         MatchChoice choice ⊤ ⊤ (λ listed. listed.items ≢ [])) }
 {
     let mut ahead = *cursor;
-    let listed = listed_in(alloc, reader, &ahead.take_value()?)?;
-    *cursor = ahead;
-    Ok(listed)
-}
-
-#[tactic(auto, unfolding(rpki_base::specs::DerReading::by_tag))]
-fn listed_in<R: ReadNext, A: Allocator + Copy>(
-    alloc: A,
-    reader: &R,
-    value: &Content<'_>,
-) -> Result<ResourcesChoice<Vec<R::Value, A>>, OrMemory<DerError>>
-    ensures by_mode { GivesSaidOrMemory (ListsBy (λ values listed. listed.items ≡ values)) result
-        (choice_in (values_from (R.after reader.now)
-        (R.reading_by reader.now (is_strict_in value.now)) (R.first reader.now))
-        (tlv value.now)) }
-    ensures some { IfOk result (λ choice.
-        MatchChoice choice ⊤ ⊤ (λ listed. listed.items ≢ [])) }
-{
-    match value.tag() {
+    let value = ahead.take_value()?;
+    let listed = match value.tag() {
         tag::NULL => {
             value.to_null()?;
-            Ok(ResourcesChoice::Inherit)
+            ResourcesChoice::Inherit
         }
-        tag::SEQUENCE => Ok(ResourcesChoice::Blocks(read_some(alloc, reader, value.cursor())?)),
-        _ => Err(OrMemory::Refused(DerError::BadTag)),
-    }
+        tag::SEQUENCE => ResourcesChoice::Blocks(read_some(alloc, reader, value.cursor())?),
+        _ => return Err(OrMemory::Refused(DerError::BadTag)),
+    };
+    *cursor = ahead;
+    Ok(listed)
 }
 
 /// The values of a content, one at least.
@@ -111,7 +96,7 @@ pub fn make_sets<T: Block, A: Allocator>(
     }
 }
 
-/// The set of the blocks, of which there is one at least.
+/// The set of the blocks, of which there is one at least. They are joined where they are no chain yet.
 fn make_set<T: Block, A: Allocator>(
     alloc: A,
     blocks: Vec<T, A>,
@@ -122,25 +107,11 @@ fn make_set<T: Block, A: Allocator>(
     ensures runs { IfOk result (IsRunsOfBlocks T.bounds blocks.items) }
     ensures some { IfOk result (λ set. set ≢ []) }
 {
-    let _bounds = blocks[0].bounds(); // read so that the proof sees that the block, and so the set, has a number
-    let set = set_over(alloc, blocks, are_chain)?;
-    Ok(set)
-}
-
-/// The set of the blocks, which are joined where they are no chain yet.
-fn set_over<T: Block, A: Allocator>(
-    alloc: A,
-    blocks: Vec<T, A>,
-    are_chain: bool,
-) -> Result<BlockSet<T, A>, AllocError>
-    requires { are_chain ≡ true → IsChain T.bounds T.form blocks.items }
-    ensures { IfOk result (IsRunsOfBlocks T.bounds blocks.items) }
-{
     if are_chain {
-        BlockSet::from_vec_unchecked(alloc, blocks)
-    } else {
-        BlockSet::from_vec(alloc, blocks)
+        return BlockSet::from_vec_unchecked(alloc, blocks);
     }
+    let _least = blocks[0].min(); // read so that the proof sees that the block, and so the set, has a number
+    BlockSet::from_vec(alloc, blocks)
 }
 
 /// How many octets the blocks have that are listed, without the header of their SEQUENCE, or else all that is written;

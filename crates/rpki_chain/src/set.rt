@@ -56,7 +56,7 @@ impl<T: Block, A: Allocator> BlockSet<T, A> {
         let (min, max) = block.bounds();
         let mut blocks = Vec::with_capacity(alloc, 1)?;
         blocks.push(T::new(min, max))?;
-        Self::from_owned_unchecked(alloc, OwnedChain::from_vec_unchecked(blocks))
+        Self::from_owned(alloc, OwnedChain::from_vec_unchecked(blocks))
     }
 
     /// The set of the items that some block has. The blocks may come in any order and may overlap. `AllocError` where
@@ -85,19 +85,13 @@ impl<T: Block, A: Allocator> BlockSet<T, A> {
         requires { IsChain T.bounds T.form blocks.items }
         ensures { IfOk result (IsRunsOfBlocks T.bounds blocks.items) }
     {
-        Self::from_owned(alloc, OwnedChain::from_vec_unchecked(blocks))
+        read_ends(&blocks);
+        let chain = SharedChain::from_owned(alloc, OwnedChain::from_vec_unchecked(blocks))?;
+        Ok(BlockSet { chain })
     }
 
-    /// The set of a chain's items, for several owners. `AllocError` where there is no memory for it.
-    pub fn from_owned(alloc: A, chain: OwnedChain<T, A>) -> Result<Self, AllocError>
-        ensures { IfOk result (λ set. set ≡ map T.bounds chain) }
-    {
-        read_ends(chain.as_chain().as_slice());
-        Self::from_owned_unchecked(alloc, chain)
-    }
-
-    /// The same of a chain whose numbers are known to be the kind's.
-    fn from_owned_unchecked(alloc: A, chain: OwnedChain<T, A>) -> Result<Self, AllocError>
+    /// The set of the items of a chain of the kind, for several owners. `AllocError` where there is no memory for it.
+    fn from_owned(alloc: A, chain: OwnedChain<T, A>) -> Result<Self, AllocError>
         requires { IsBlockChain T.bounds T.form T.first T.last chain }
         ensures { IfOk result (λ set. set ≡ map T.bounds chain) }
     {
@@ -220,7 +214,7 @@ impl<T: Block, A: Allocator> BlockSet<T, A> {
         ensures { IfOk result (IsDifference self.now other.now) }
     {
         let chain = self.as_chain().difference(alloc, other.as_chain())?;
-        Self::from_owned_unchecked(alloc, chain)
+        Self::from_owned(alloc, chain)
     }
 
     /// `Ok` where the other has each item, with no memory taken. Else `Refused` with the items that it doesn't have, or
@@ -276,7 +270,7 @@ impl<T: Block, A: Allocator> BlockSet<T, A> {
             return other.clone();
         }
         let chain = own.union(alloc, others)?;
-        Self::from_owned_unchecked(alloc, chain)
+        Self::from_owned(alloc, chain)
     }
 }
 

@@ -1,11 +1,9 @@
 -- A chain is the runs of what it covers.
 use Rattle.rpki_chain.proofs.Common.{IsChainOf-itself}
 use Rattle.rpki_chain.proofs.RunLists.{IsRunsOf-from_chain}
-use Rattle.rpki_chain.proofs.SetLemmas.{made}
 use Rattle.rpki_chain.proofs.set.BlockSet.from_vec_unchecked.Goals as goal
 
 pub returns : goal.returns
 returns g c =
     let itself = IsChainOf-itself g.T.Block.bounds g.T.Block.form c.args.blocks.items c.requires in
-    made c.from_owned.result c.from_owned.ensures
-    (rw c.from_vec_unchecked.ensures (IsRunsOf-from_chain g.T.Block.bounds itself))
+    rw (c.in_ok-chain.ensures, c.from_vec_unchecked.ensures) (IsRunsOf-from_chain g.T.Block.bounds itself)

@@ -18,13 +18,13 @@ returns-then-is_empty-2 g c =
     made c.clone-then-is_empty-2.result c.clone-then-is_empty-2.ensures.same
     (joint_none others.chain others.blocks _ _ c.as_chain-own.ensures.blocks none).1
 
-pub from_owned_unchecked-requires : goal.from_owned_unchecked-requires
-from_owned_unchecked-requires g c =
+pub from_owned-requires : goal.from_owned-requires
+from_owned-requires g c =
     let own = IsBlockChain-kind c.as_chain-own.ensures.chain in
     let others = IsBlockChain-kind c.as_chain-others.ensures.chain in
     IsBlockChain-of_kind c.in_ok-chain.ensures.union (λ n s. grind (arith, own n, others n))
 
 pub returns : goal.returns
 returns g c =
-    made c.from_owned_unchecked.result c.from_owned_unchecked.ensures
+    made c.from_owned.result c.from_owned.ensures
     (joint_runs _ _ c.as_chain-own.ensures.blocks c.as_chain-others.ensures.blocks c.in_ok-chain.ensures.union)

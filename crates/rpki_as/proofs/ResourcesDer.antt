@@ -1,5 +1,5 @@
 -- What is written of AS resources, and what is taken of them in either mode.
-use Rattle.rpki_as.proofs.Common.{List, None, arith, length, ◌<◌, ◌^◌, ◌≡◌, IsNextBlock, as_bounds, AsBlock, IsSaidInModes, one_said, Encloses, IsSequenceFrom, IsChoiceOf, Claim, IsClaim, IsRunsOfBlocks, ResourcesChoice, OneFront, IsAsChoice, IsAsResources, IsPresentAsClaim, as_resources_octets, as_choice_at, as_choice_by, greatest_of_as_block, IsAsSet, enclosed_said, choice_said}
+use Rattle.rpki_as.proofs.Common.{List, None, arith, length, ◌<◌, ◌^◌, ◌≡◌, ◌≢◌, IsNextBlock, as_bounds, AsBlock, IsSaidInModes, one_said, written_said, Encloses, IsSequenceFrom, IsChoiceOf, Claim, IsClaim, IsRunsOfBlocks, ResourcesChoice, Missing, OneFront, IsAsChoice, IsAsResources, IsPresentAsClaim, as_resources_octets, as_choice_at, as_choice_by, greatest_of_as_block, IsAsSet, enclosed_said, choice_said}
 use Rattle.rpki_chain.specs.Choices.{ListsBy}
 use Rattle.rpki_as.proofs.AsDerLemmas.{blocks, length-value, set_octets_few}
 
@@ -20,6 +20,11 @@ resources_in_modes = enclosed_said (enclosed_said (choice_said blocks) 160 (omeg
 
 pub resources_short : (claim : Claim) → IsClaim IsAsSet claim → length (as_resources_octets claim) < 2 ^ 64
 resources_short claim is = grind (arith, length-value, set_octets_few)
+
+-- what is written of a claim that isn't missing stands for it
+pub resources_written : (claim : Claim) → IsClaim IsAsSet claim → claim ≢ Missing
+    → IsAsResources (as_resources_octets claim) claim
+resources_written claim is some = written_said resources_in_modes claim (is, some) (resources_short claim is)
 
 -- octets begin with at most one such value, which stands for one claim
 pub one_resources : OneFront IsAsResources

@@ -128,7 +128,8 @@ impl<A: Allocator> AsBlocks<A> {
 
     /// The same set, whose memory has one owner more. `AllocError` where std refuses that owner.
     pub fn clone(&self) -> Result<AsBlocks<A>, AllocError>
-        ensures { IfOk result (λ set. set ≡ self.now) }
+        ensures same { IfOk result (λ set. set ≡ self.now) }
+        ensures set { IsAsSet self.now }
     {
         let set = self.set.clone()?;
         Ok(Self::from_set(set))

@@ -87,7 +87,7 @@ impl<A: Allocator> AsResources<A> {
     pub fn is_missing(&self) -> bool
         ensures { IsTrue result ↔ (self.now ≡ Missing) }
     {
-        !self.choice.is_present()
+        matches!(self.choice, ResourcesChoice::Missing)
     }
 
     /// Whether the resources are inherited or listed.

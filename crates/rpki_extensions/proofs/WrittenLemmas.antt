@@ -1,13 +1,7 @@
 -- What is written of claims is read as them.
 use Rattle.rpki_extensions.proofs.Common.{List, Some, [], arith, length, ℕ, ◌++◌, ◌<◌, ◌≡◌, ◌≢◌, ◌^◌, Ipv4, Ipv6, Claim, Missing, IsFamilyClaim, if_present, IsIpFamilies, ip_families_der, AreAddressClaims, claim_or_missing, IsAddressValue, Encoding}
-use Rattle.rpki_as.proofs.Common.{IsAsResources, IsAsSet, IsClaim, as_resources_octets, written_said}
-use Rattle.rpki_as.proofs.ResourcesDer.{resources_in_modes, resources_short}
 use Rattle.rpki_ipres.proofs.ResourcesWritten.{claims_written}
 use Rattle.rpki_extensions.specs.Written.{claimed_addresses}
-
-pub numbers_written : (claim : Claim) → IsClaim IsAsSet claim → claim ≢ Missing
-    → IsAsResources (as_resources_octets claim) claim
-numbers_written claim is some = written_said resources_in_modes claim (is, some) (resources_short claim is)
 
 some_addresses : (v4 v6 : Claim) → (v4 ≡ Missing → v6 ≢ Missing)
     → Some (ip_families_der v4 v6) ≡ claimed_addresses v4 v6

@@ -11,7 +11,7 @@ use std::alloc::{AllocError, Allocator};
 
 /// The octets of AS identifiers (RFC 3779, 3.2.3) that make a claim, in their one form, or None where it is missing and
 /// the extension is absent. They are read back in either encoding. `AllocError` where there is no memory for them.
-#[tactic(auto, using(crate::proofs::WrittenLemmas::numbers_written))]
+#[tactic(auto, using(rpki_as::proofs::ResourcesDer::resources_written))]
 pub fn write_numbers_claim<A: Allocator>(
     alloc: A,
     claim: &AsResources<A>,

@@ -2,7 +2,6 @@
 use Rattle.rpki_ipres.proofs.Common.{arith, inl, inr, ℕ, ◌++◌, ◌<◌, ◌^◌, ◌∷◌, [], All, IsChain, Holds, Runs, IsIpSet}
 use Rattle.std.specs.Prelude.{◌⊎◌}
 use Rattle.std.proofs.lemmas.List.Elements.{All-head, All-tail}
-use Rattle.rpki_addr.specs.Prefixes.{PrefixValue}
 use Rattle.rpki_chains.proofs.Chains.{Covers-nil}
 use Rattle.rpki_chains.proofs.Unique.{Covers-beyond, Covers-cons_cases, Covers-head, Covers-tail, IsChain-tail}
 use Rattle.rpki_chains.specs.Sets.{IsWithin}

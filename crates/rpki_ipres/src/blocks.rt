@@ -114,7 +114,8 @@ impl<A: Allocator> IpBlocks<A> {
 
     /// The same set, whose memory has one owner more. `AllocError` where std refuses that owner.
     pub fn clone(&self) -> Result<IpBlocks<A>, AllocError>
-        ensures { IfOk result (λ set. set ≡ self.now) }
+        ensures same { IfOk result (λ set. set ≡ self.now) }
+        ensures set { IsIpSet self.now }
     {
         let set = self.set.clone()?;
         Ok(IpBlocks { set })

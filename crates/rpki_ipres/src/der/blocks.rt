@@ -2,10 +2,11 @@
 ghost use Rattle.std.specs.Prelude.{◌≡◌, ◌≤◌, ◌<◌, ◌+◌, ◌^◌, ◌++◌, length, vec_len, OnOk, OnErr, IsOk};
 ghost use Rattle.std.specs.Vec.{vec_capacity};
 ghost use Rattle.rpki_base.specs.DerWriting.{octets_of_all, sequence_octets};
+ghost use Rattle.rpki_base.specs.FamiliesDer.{option_der};
 ghost use Rattle.rpki_chain.specs.ChoiceDer.{choice_octets};
-ghost use Rattle.rpki_der.specs.Der.{sequence_value};
 ghost use Rattle.rpki_base.specs.FamilyDer.{family_der};
 ghost use Rattle.rpki_ip_block.specs.BlockDer.{ip_block_der};
+ghost use Rattle.rpki_chain.specs.Choices.{if_present};
 
 use crate::blocks::IpBlocks;
 use rpki_base::der::{encode_sequence, take_sequence_of};
@@ -19,7 +20,7 @@ use rpki_ip_block::der::IpBlockReader;
 use std::alloc::{AllocError, Allocator};
 
 impl<A: Allocator> IpBlocks<A> {
-    ghost use Rattle.std.specs.Prelude.{◌≡◌, ℕ, List, ◌<◌, ◌≤◌, ◌+◌, ◌^◌, ◌++◌, length, vec_len, OnOk, OnErr, IsOk, IfOk, MatchResult};
+    ghost use Rattle.std.specs.Prelude.{◌≡◌, ℕ, List, ◌≤◌, ◌+◌, ◌++◌, length, vec_len, OnOk, OnErr, IsOk, IfOk, MatchResult};
     ghost use Rattle.std.specs.Vec.{vec_capacity};
     ghost use Rattle.rpki_chain.specs.Runs.{Runs, Holds, IsRunsOfBlocks};
     ghost use Rattle.rpki_der.specs.Der.{Spells};
@@ -152,9 +153,7 @@ impl<A: Allocator> IpBlocks<A> {
         ensures by_mode { TakesSaidOrMemory (IsRunsOfBlocks ip_bounds) cursor.old cursor.new result
             (ip_blocks_by (is_strict cursor.old) (bits_of family)) }
         ensures mode { is_strict cursor.new ≡ is_strict cursor.old }
-        ensures short { length (left cursor.old) < 2 ^ 64 }
     {
-        cursor.is_lawful();
         let mut ahead = *cursor;
         let blocks = take_sequence_of(alloc, &IpBlockReader { family }, &mut ahead)?;
         let set = if cursor.is_strict() {
@@ -167,20 +166,19 @@ impl<A: Allocator> IpBlocks<A> {
     }
 }
 
-/// Appends the SEQUENCE of a family and of its resources.
+/// Appends the SEQUENCE of a family and of its resources, and nothing for missing ones.
 pub(crate) fn put_family<B: Allocator>(
     out: &mut Vec<u8, B>,
     family: AddressFamily,
     resources: &ResourcesChoice<&[IpBlock]>,
 ) -> Result<(), AllocError>
-    ensures ok { OnOk result (out.new.items
-        ≡ out.old.items ++ sequence_value
-        (family_der family ++ choice_octets (λ blocks. sequence_octets ip_block_der blocks.now)
-        resources.now)) }
+    ensures ok { OnOk result (out.new.items ≡ out.old.items
+        ++ option_der (choice_octets (λ blocks. sequence_octets ip_block_der blocks.now)) family
+        (if_present resources.now)) }
     ensures err { OnErr result (out.new.items ≡ out.old.items) }
     ensures succeeds { vec_len out.old + length
-        (sequence_value (family_der family
-        ++ choice_octets (λ blocks. sequence_octets ip_block_der blocks.now) resources.now))
+        (option_der (choice_octets (λ blocks. sequence_octets ip_block_der blocks.now)) family
+        (if_present resources.now))
         ≤ vec_capacity out.old → IsOk result }
     ensures capacity { vec_capacity out.old ≤ vec_capacity out.new }
 {
@@ -203,14 +201,17 @@ pub(crate) fn append_family<B: Allocator>(
         (λ blocks. octets_of_all ip_block_der blocks.now) resources.now) }
     requires few { content_len < 2 ^ 63 }
     requires room { vec_len out.old + length
-        (sequence_value (family_der family
-        ++ choice_octets (λ blocks. sequence_octets ip_block_der blocks.now) resources.now))
+        (option_der (choice_octets (λ blocks. sequence_octets ip_block_der blocks.now)) family
+        (if_present resources.now))
         ≤ vec_capacity out.old }
     ensures items { out.new.items ≡ out.old.items
-        ++ sequence_value (family_der family
-        ++ choice_octets (λ blocks. sequence_octets ip_block_der blocks.now) resources.now) }
+        ++ option_der (choice_octets (λ blocks. sequence_octets ip_block_der blocks.now)) family
+        (if_present resources.now) }
     ensures capacity { vec_capacity out.old ≤ vec_capacity out.new }
 {
+    if matches!(resources, ResourcesChoice::Missing) {
+        return;
+    }
     append_header(
         out,
         tag::SEQUENCE,
@@ -245,10 +246,13 @@ pub(crate) fn family_len(
     requires len { content_len ≡ length (choice_octets
         (λ blocks. octets_of_all ip_block_der blocks.now) resources.now) }
     requires few { content_len < 2 ^ 63 }
-    ensures len { result ≡ length (sequence_value
-        (family_der family ++ choice_octets (λ blocks. sequence_octets ip_block_der blocks.now)
-        resources.now)) }
+    ensures len { result ≡ length (option_der
+        (choice_octets (λ blocks. sequence_octets ip_block_der blocks.now)) family
+        (if_present resources.now)) }
 {
+    if matches!(resources, ResourcesChoice::Missing) {
+        return 0;
+    }
     let member_len = family_content_len(family, resources, content_len);
     header_len(tag::SEQUENCE, member_len) + member_len
 }

@@ -11,7 +11,8 @@ ghost use Rattle.rpki_base.specs.Families.{bits_of};
 ghost use Rattle.rpki_base.specs.declared.family.AddressFamily.TheVariants.{Ipv4, Ipv6};
 ghost use Rattle.rpki_ip_block.specs.BlockReading.{ip_blocks_at};
 ghost use Rattle.rpki_ipres.specs.SetDer.{IsIpBlockSequence, IsIpFamily, ip_family_der, ip_set_der};
-ghost use Rattle.rpki_ipres.specs.Resources.{IsFamilyClaim, IsIpClaim, if_present};
+ghost use Rattle.rpki_ipres.specs.Resources.{IsFamilyClaim, IsIpClaim};
+ghost use Rattle.rpki_chain.specs.Choices.{if_present};
 ghost use Rattle.rpki_ipres.specs.ResourcesDer.{IsIpFamilies, IsIpResources, ip_families_at, ip_families_der, ip_member_der, ip_resources_at, ip_resources_der};
 ghost use Rattle.rpki_ipres.specs.SetText.{IsFamilySet, IsIpSet};
 

@@ -10,7 +10,7 @@ use rpki_ip_block::der::IpBlockReader;
 use std::alloc::{AllocError, Allocator};
 
 impl<A: Allocator> IpResources<A> {
-    ghost use Rattle.std.specs.Prelude.{◌≡◌, ◌≢◌, List, ℕ, ◌<◌, ◌≤◌, ◌^◌, ◌+◌, ◌++◌, length, vec_len, OnOk, OnErr, IsOk, IfOk, IfSome, IfNone, MatchResult};
+    ghost use Rattle.std.specs.Prelude.{◌≡◌, ◌≢◌, List, ℕ, ◌≤◌, ◌+◌, ◌++◌, length, vec_len, OnOk, OnErr, IsOk, IfOk, IfSome, MatchResult};
     ghost use Rattle.std.specs.Vec.{vec_capacity};
     ghost use Rattle.rpki_text.specs.Memory.{IsMemory};
     ghost use Rattle.rpki_der.specs.Der.{Spells};
@@ -22,8 +22,9 @@ impl<A: Allocator> IpResources<A> {
     ghost use Rattle.rpki_base.specs.declared.family.AddressFamily.TheVariants.{Ipv4, Ipv6};
     ghost use Rattle.rpki_ipres.specs.Modes.{ip_families_by, ip_resources_by};
     ghost use Rattle.rpki_base.specs.FamiliesDer.{families_der};
-    ghost use Rattle.rpki_ipres.specs.Resources.{ArePresentClaims, IsPresentFamilyClaim, IsFamilyClaim, IsIpClaim, IsWholeClaim, if_present};
-    ghost use Rattle.rpki_ipres.specs.ResourcesDer.{IsIpFamilies, IsIpResources, SaysClaimOf, SaysClaims, ip_content_der, ip_families_at, ip_families_der, ip_member_der, ip_resources_at, ip_resources_der};
+    ghost use Rattle.rpki_ipres.specs.Resources.{ArePresentClaims, IsPresentFamilyClaim, IsFamilyClaim, IsIpClaim, IsWholeClaim};
+    ghost use Rattle.rpki_chain.specs.Choices.{if_present};
+    ghost use Rattle.rpki_ipres.specs.ResourcesDer.{IsIpFamilies, IsIpResources, SaysClaimOf, SaysClaims, ip_families_at, ip_families_der, ip_member_der, ip_resources_at, ip_resources_der};
 
     /// Takes the resources of a family: a NULL where they are inherited, and else a SEQUENCE of blocks of the family,
     /// one at least, in any order, overlapping or not.
@@ -99,57 +100,7 @@ impl<A: Allocator> IpResources<A> {
         ensures capacity { vec_capacity out.old ≤ vec_capacity out.new }
         ensures claim { IsIpClaim self.now }
     {
-        let resources = self.as_choice();
-        if self.is_missing() {
-            return Ok(());
-        }
-        put_family(out, family, &resources)
-    }
-
-    // How many octets stand in the SEQUENCE of the blocks, or else in all that is written of the resources; None where
-    // no vector can hold them.
-    fn content_len(&self) -> Option<usize>
-        ensures some { IfSome result (λ n. n ≡ length (ip_content_der self.now)) }
-        ensures few { IfSome result (λ n. n < 2 ^ 63) }
-        ensures none { IfNone result (2 ^ 63 ≤ length (ip_content_der self.now)) }
-        ensures claim { IsIpClaim self.now }
-    {
-        content_len(&self.as_choice())
-    }
-
-    // How many octets `encode_family` appends, of resources whose content has `content_len`.
-    fn member_len(&self, family: AddressFamily, content_len: usize) -> usize
-        requires len { content_len ≡ length (ip_content_der self.now) }
-        requires few { content_len < 2 ^ 63 }
-        ensures len { result ≡ length (ip_member_der family self.now) }
-    {
-        let resources = self.as_choice();
-        if self.is_missing() {
-            return 0;
-        }
-        family_len(family, &resources, content_len)
-    }
-
-    // Appends what `encode_family` does, where there is room for it, of resources whose content has `content_len`
-    // octets.
-    fn append_member<B: Allocator>(
-        &self,
-        family: AddressFamily,
-        content_len: usize,
-        out: &mut Vec<u8, B>,
-    )
-        requires len { content_len ≡ length (ip_content_der self.now) }
-        requires few { content_len < 2 ^ 63 }
-        requires room { vec_len out.old + length (ip_member_der family self.now)
-            ≤ vec_capacity out.old }
-        ensures items { out.new.items ≡ out.old.items ++ ip_member_der family self.now }
-        ensures capacity { vec_capacity out.old ≤ vec_capacity out.new }
-    {
-        let resources = self.as_choice();
-        if self.is_missing() {
-            return;
-        }
-        append_family(family, &resources, content_len, out);
+        put_family(out, family, &self.as_choice())
     }
 
     /// Takes a SEQUENCE of families and answers the resources of IPv4 and of IPv6, None where a family isn't there. The
@@ -206,12 +157,13 @@ impl<A: Allocator> IpResources<A> {
         ensures capacity { vec_capacity out.old ≤ vec_capacity out.new }
         ensures claims { IsIpClaim v4.now × IsIpClaim v6.now }
     {
-        let (Some(v4_len), Some(v6_len)) = (v4.content_len(), v6.content_len()) else {
+        let (v4, v6) = (v4.as_choice(), v6.as_choice());
+        let (Some(v4_len), Some(v6_len)) = (content_len(&v4), content_len(&v6)) else {
             return Err(AllocError);
         };
-        let v4_member = v4.member_len(AddressFamily::Ipv4, v4_len);
-        let Some(content_len) = v4_member.checked_add(v6.member_len(AddressFamily::Ipv6, v6_len))
-        else {
+        let v4_member = family_len(AddressFamily::Ipv4, &v4, v4_len);
+        let v6_member = family_len(AddressFamily::Ipv6, &v6, v6_len);
+        let Some(content_len) = v4_member.checked_add(v6_member) else {
             return Err(AllocError);
         };
         let Some(total) = header_len(tag::SEQUENCE, content_len).checked_add(content_len) else {
@@ -219,8 +171,8 @@ impl<A: Allocator> IpResources<A> {
         };
         out.reserve(total)?;
         append_header(out, tag::SEQUENCE, content_len);
-        v4.append_member(AddressFamily::Ipv4, v4_len, out);
-        v6.append_member(AddressFamily::Ipv6, v6_len, out);
+        append_family(AddressFamily::Ipv4, &v4, v4_len, out);
+        append_family(AddressFamily::Ipv6, &v6, v6_len, out);
         Ok(())
     }
 
@@ -235,9 +187,7 @@ impl<A: Allocator> IpResources<A> {
         ensures by_mode { TakesSaidOrMemory SaysClaimOf cursor.old cursor.new result
             (ip_resources_by (is_strict cursor.old) (bits_of family)) }
         ensures mode { is_strict cursor.new ≡ is_strict cursor.old }
-        ensures short { length (left cursor.old) < 2 ^ 64 }
     {
-        cursor.is_lawful();
         let mut ahead = *cursor;
         let listed = take_listed(alloc, &IpBlockReader { family }, &mut ahead)?;
         let choice = make_sets(alloc, listed, cursor.is_strict())?;
@@ -259,9 +209,7 @@ impl<A: Allocator> IpResources<A> {
         ensures by_mode { TakesSaidOrMemory SaysClaims cursor.old cursor.new result
             (ip_families_by (is_strict cursor.old)) }
         ensures mode { is_strict cursor.new ≡ is_strict cursor.old }
-        ensures short { length (left cursor.old) < 2 ^ 64 }
     {
-        cursor.is_lawful();
         take_families(&IpResourcesReader { alloc }, cursor)
     }
 }

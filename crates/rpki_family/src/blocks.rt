@@ -32,7 +32,7 @@ use std::marker::{Model, PhantomData};
 /// its greatest number. In IPv4 it consists of whole addresses.
 #[derive(Drop)]
 pub struct FamilyBlocks<F: Family, A: Allocator = Global> {
-    blocks: IpBlocks<A>,
+    pub(crate) blocks: IpBlocks<A>,
     family: PhantomData<F>,
 }
 
@@ -95,10 +95,11 @@ impl<F: Family, A: Allocator> FamilyBlocks<F, A> {
     }
 
     /// Tells a proof that the set is one of addresses of the family, and does nothing.
+    #[tactic(auto, using(crate::proofs::FamilyLemmas::is_family_set))]
     pub fn is_lawful(&self)
         ensures { IsFamilySet F.FAMILY self.now }
     {
-        let _blocks = self.ip_blocks();
+        self.blocks.is_lawful();
     }
 
     /// The set as one of addresses of either family.
@@ -122,11 +123,12 @@ impl<F: Family, A: Allocator> FamilyBlocks<F, A> {
 
     /// The resources that list the set, whose memory has one owner more, and missing ones where it has no addresses.
     /// `AllocError` where std refuses that owner.
+    #[tactic(auto, using(crate::proofs::FamilyLemmas::is_family_set))]
     pub fn to_ip_resources(&self) -> Result<IpResources<A>, AllocError>
         ensures claim { IfOk result (λ resources. resources ≡ claim_of self.now) }
         ensures family { IfOk result (IsFamilyClaim F.FAMILY) }
     {
-        let blocks = self.ip_blocks().clone()?;
+        let blocks = self.blocks.clone()?;
         Ok(IpResources::blocks(blocks))
     }
 
@@ -146,13 +148,13 @@ impl<F: Family, A: Allocator> FamilyBlocks<F, A> {
     }
 
     /// The blocks of the set one by one, ascending: its runs, each a prefix where it is one, and else a range.
-    #[tactic(auto, using(crate::proofs::FamilyLemmas::blocks_in))]
+    #[tactic(auto, using(crate::proofs::FamilyLemmas::is_family_set, crate::proofs::FamilyLemmas::blocks_in))]
     pub fn iter(&self) -> BlockIter<'_, FamilyBlock<F>>
         ensures blocks { map ip_bounds result ≡ self.now }
         ensures made { result ≡ map new_ip_block self.now }
         ensures set { IsFamilySet F.FAMILY self.now }
     {
-        BlockIter::over(self.ip_blocks().iter())
+        BlockIter::over(self.blocks.iter())
     }
 
     /// Whether the set has each address of another.

@@ -33,7 +33,7 @@ impl<F: Family, A: Allocator> FamilyBlocks<F, A> {
         ensures { AnswersOrMemory (λ set. set) (IsIssued (Holds self.now) resources.now mode)
             (IsExcess (Holds self.now) resources.now mode) result }
     {
-        match self.ip_blocks().verify_issued(alloc, resources, mode) {
+        match self.blocks.verify_issued(alloc, resources, mode) {
             Ok(set) => Ok(FamilyBlocks::of(set)),
             Err(OrMemory::Refused(fault)) => Err(OrMemory::Refused(fault.of_family())),
             Err(OrMemory::Memory(error)) => Err(OrMemory::Memory(error)),
@@ -54,7 +54,7 @@ impl<F: Family, A: Allocator> FamilyBlocks<F, A> {
         ensures ok { IsOk result ↔ IsCovered (Holds self.now) issuer.now }
         ensures refused { IfErr result (IfRefused (IsUncovered (Holds self.now) issuer.now)) }
     {
-        match self.ip_blocks().verify_covered(alloc, issuer) {
+        match self.blocks.verify_covered(alloc, issuer) {
             Ok(()) => Ok(()),
             Err(OrMemory::Refused(fault)) => Err(OrMemory::Refused(fault.of_family())),
             Err(OrMemory::Memory(error)) => Err(OrMemory::Memory(error)),
@@ -76,7 +76,7 @@ impl<F: Family, A: Allocator> FamilyBlocks<F, A> {
             (IsPathResult (λ claim. claim) (Holds self.now) steps.now)
             (IsFirstRefusal (λ claim. claim) (Holds self.now) steps.now) result }
     {
-        match self.ip_blocks().verify_path(alloc, steps) {
+        match self.blocks.verify_path(alloc, steps) {
             Ok(set) => Ok(FamilyBlocks::of(set)),
             Err(OrMemory::Refused(refusal)) => Err(OrMemory::Refused(PathRefusal {
                 step: refusal.step,

@@ -4,13 +4,12 @@ use Rattle.rpki_ipres.proofs.WholeClaims.{whole_refusal, whole_result}
 use Rattle.rpki_family.proofs.blocks.FamilyBlocks.verify_path.Goals as goal
 
 pub of-requires : goal.of-requires
-of-requires g c = grind (arith, whole_result c.args.self.now c.in-Ok.set c.args.steps.now)
+of-requires g c = grind (arith, whole_result c.self.inside.blocks c.in-Ok.set c.args.steps.now)
 
 pub of_family-requires : goal.of_family-requires
-of_family-requires g c =
-    grind (arith, whole_refusal c.args.self.now c.args.steps.now c.in-Err-Refused.refusal)
+of_family-requires g c = grind (arith, whole_refusal c.self.inside.blocks c.args.steps.now c.in-Err-Refused.refusal)
 
 pub returns-in-Err-Refused : goal.returns-in-Err-Refused
 returns-in-Err-Refused g c =
     let told = rw c.in-Err-Refused.field-0-is at c.in-Err-Refused.ensures in
-    rw (c.of_family.ensures, ← c.ip_blocks.ensures.value) told
+    rw (c.of_family.ensures, ← c.self.view_is) told

@@ -1,5 +1,5 @@
 -- What the proofs of this crate use of std, of the crates below and of its own definitions, passed on by one name.
-pub use Rattle.std.proofs.Common.{Bool, Err, IsTrue, List, Ok, Result, [], ap, ap₂, arith, codes, false, refl, subst, sym, true, ℕ, ◌++◌, ◌↔◌, ◌≡◌}
+pub use Rattle.std.proofs.Common.{Bool, Err, IsTrue, List, Ok, Result, [], ap₂, arith, codes, false, refl, subst, sym, true, ℕ, ◌++◌, ◌↔◌, ◌≡◌}
 pub use Rattle.std.specs.Prelude.{IfOk, MatchResult, if◌then◌else◌}
 pub use Rattle.rpki_as.specs.ListText.{IsAsListText, as_list_text}
 pub use Rattle.rpki_chain.specs.Operations.{IsDifference, IsUnion}

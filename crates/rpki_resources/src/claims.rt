@@ -1,5 +1,5 @@
 //! Sets of resources and claims on them.
-ghost use Rattle.std.specs.Prelude.{◌≡◌, ◌↔◌, IfOk, IsErr, Ok, MatchResult};
+ghost use Rattle.std.specs.Prelude.{◌≡◌, IfOk, MatchResult};
 ghost use Rattle.rpki_text.specs.Memory.{IfRefused};
 ghost use Rattle.rpki_chain.specs.Claims.{IsClaim, claim_of};
 ghost use Rattle.rpki_chain.specs.Choices.{IsRefused};
@@ -16,21 +16,10 @@ use rpki_family::{Ipv4Blocks, Ipv6Blocks};
 use rpki_ipres::IpResources;
 use std::alloc::{AllocError, Allocator};
 
-/// What resources of one kind list, with the refusal of inherited ones that all kinds share.
-fn listed<T: Drop, E: Drop>(blocks: Result<T, OrMemory<E>>) -> Result<T, OrMemory<InheritError>>
-    ensures listed { MatchResult blocks (λ set. result ≡ Ok set) (λ _. IsErr result) }
-    ensures refused { IsRefused result ↔ IsRefused blocks }
-{
-    match blocks {
-        Ok(set) => Ok(set),
-        Err(OrMemory::Refused(_)) => Err(OrMemory::Refused(InheritError)),
-        Err(OrMemory::Memory(error)) => Err(OrMemory::Memory(error)),
-    }
-}
-
 impl<A: Allocator> ResourceSet<A> {
     /// The set of what is listed, and of nothing where resources are missing; what is listed of IPv4 consists of whole
     /// addresses. [`InheritError`] where some are inherited. `Memory` where there is no memory for the set.
+    #[tactic(auto, using(crate::proofs::ClaimLemmas::lists))]
     pub fn from_resources(
         asn: &AsResources<A>,
         ipv4: &IpResources<A>,
@@ -41,17 +30,18 @@ impl<A: Allocator> ResourceSet<A> {
             (IfRefused (λ _. IsOneInherited asn.now ipv4.now ipv6.now)) }
         ensures inherited { IsOneInherited asn.now ipv4.now ipv6.now → IsRefused result }
     {
-        if asn.is_inherited() || ipv4.is_inherited() || ipv6.is_inherited() {
-            return Err(OrMemory::Refused(InheritError));
+        // All three are asked first: one that is inherited is told, even where there was no memory for another.
+        match (asn.to_blocks(), ipv4.to_blocks(), ipv6.to_blocks()) {
+            (Ok(asn), Ok(ipv4), Ok(ipv6)) => Ok(ResourceSet::new(
+                asn,
+                Ipv4Blocks::from_ip_blocks(ipv4),
+                Ipv6Blocks::from_ip_blocks(ipv6),
+            )),
+            (Err(OrMemory::Refused(_)), _, _)
+            | (_, Err(OrMemory::Refused(_)), _)
+            | (_, _, Err(OrMemory::Refused(_))) => Err(OrMemory::Refused(InheritError)),
+            _ => Err(OrMemory::Memory(AllocError)),
         }
-        let asn = listed(asn.to_blocks())?;
-        let ipv4 = listed(ipv4.to_blocks())?;
-        let ipv6 = listed(ipv6.to_blocks())?;
-        Ok(ResourceSet::new(
-            asn,
-            Ipv4Blocks::from_ip_blocks(ipv4),
-            Ipv6Blocks::from_ip_blocks(ipv6),
-        ))
     }
 
     /// Resources that list the AS numbers, and missing ones where there are none. `AllocError` where there is no memory
@@ -60,7 +50,7 @@ impl<A: Allocator> ResourceSet<A> {
         ensures claim { IfOk result (λ resources. resources ≡ claim_of self.now.asn) }
         ensures set { IfOk result (IsClaim IsAsSet) }
     {
-        let blocks = self.asn().clone()?;
+        let blocks = self.asn.clone()?;
         Ok(AsResources::blocks(blocks))
     }
 
@@ -70,7 +60,7 @@ impl<A: Allocator> ResourceSet<A> {
         ensures claim { IfOk result (λ resources. resources ≡ claim_of self.now.ipv4) }
         ensures family { IfOk result (IsFamilyClaim Ipv4) }
     {
-        self.ipv4().to_ip_resources()
+        self.ipv4.to_ip_resources()
     }
 
     /// Resources that list the IPv6 addresses, and missing ones where there are none. `AllocError` where there is no
@@ -79,6 +69,6 @@ impl<A: Allocator> ResourceSet<A> {
         ensures claim { IfOk result (λ resources. resources ≡ claim_of self.now.ipv6) }
         ensures family { IfOk result (IsFamilyClaim Ipv6) }
     {
-        self.ipv6().to_ip_resources()
+        self.ipv6.to_ip_resources()
     }
 }

@@ -24,9 +24,9 @@ use std::marker::Model;
 /// Contracts see the three as the ascending lists of their runs; that of IPv4 consists of whole addresses.
 #[derive(Drop)]
 pub struct ResourceSet<A: Allocator = Global> {
-    asn: AsBlocks<A>,
-    ipv4: Ipv4Blocks<A>,
-    ipv6: Ipv6Blocks<A>,
+    pub(crate) asn: AsBlocks<A>,
+    pub(crate) ipv4: Ipv4Blocks<A>,
+    pub(crate) ipv6: Ipv6Blocks<A>,
 }
 
 impl<A: Allocator> Model for ResourceSet<A> {

@@ -87,9 +87,9 @@ impl<A: Allocator> fmt::Display for ResourceSet<A> {
     ghost output = { λ set. Some (triple_text set) };
 
     fn fmt<W: fmt::Write>(&self, f: &mut fmt::Formatter<W>) -> fmt::Result {
-        let asn = self.asn();
-        let ipv4 = self.ipv4();
-        let ipv6 = self.ipv6();
+        let asn = &self.asn;
+        let ipv4 = &self.ipv4;
+        let ipv6 = &self.ipv6;
         write!(f, "asn: '{asn}', ipv4: '{ipv4}', ipv6: '{ipv6}'")
     }
 }
@@ -121,9 +121,9 @@ fn fmt_change<A: Allocator, W: fmt::Write>(
     ensures { WritesOnOk W.write_str_gives f.old result (change_text word.now set.now) f.new }
 {
     f.write_str(word)?;
-    fmt_kind(" asn: ", set.asn().is_empty(), set.asn(), f)?;
-    fmt_kind(" ipv4: ", set.ipv4().is_empty(), set.ipv4(), f)?;
-    fmt_kind(" ipv6: ", set.ipv6().is_empty(), set.ipv6(), f)
+    fmt_kind(" asn: ", set.asn.is_empty(), &set.asn, f)?;
+    fmt_kind(" ipv4: ", set.ipv4.is_empty(), &set.ipv4, f)?;
+    fmt_kind(" ipv6: ", set.ipv6.is_empty(), &set.ipv6, f)
 }
 
 /// Writes what is added and what is removed, with a space between them.

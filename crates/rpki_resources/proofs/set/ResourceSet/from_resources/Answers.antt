@@ -1,13 +1,15 @@
-use Rattle.rpki_resources.proofs.Common.{refl}
-use Rattle.rpki_resources.proofs.ClaimLemmas.{lists, lists_whole}
+use Rattle.rpki_resources.proofs.Common.{arith}
+use Rattle.rpki_resources.proofs.ClaimLemmas.{inherit, lists, lists_whole}
 use Rattle.rpki_resources.proofs.set.ResourceSet.from_resources.Goals as goal
 
 pub from_ip_blocks-requires : goal.from_ip_blocks-requires
-from_ip_blocks-requires g c = lists_whole c.args.ipv4.now _ (lists _ _ _ _ c.to_blocks-2.ensures refl c.in_ok-ipv4.ensures.listed) c.requires
+from_ip_blocks-requires g c =
+    lists_whole c.args.ipv4.now _ (lists _ _ c.to_blocks-2.ensures _ c.in-Ok-Ok-Ok.is-1) c.requires
 
-pub returns-clause-found : goal.returns-clause-found
-returns-clause-found g c = rw (c.new.ensures, c.from_ip_blocks.ensures, c.from_ip_blocks-2.ensures) (record {
-  asn = lists _ _ _ _ c.to_blocks.ensures refl c.in_ok-asn.ensures.listed;
-  ipv4 = lists _ _ _ _ c.to_blocks-2.ensures refl c.in_ok-ipv4.ensures.listed;
-  ipv6 = lists _ _ _ _ c.to_blocks-3.ensures refl c.in_ok-ipv6.ensures.listed;
-})
+pub returns-in_default-clause-inherited : goal.returns-in_default-clause-inherited
+returns-in_default-clause-inherited g c =
+    grind (arith, c.to_blocks.ensures, c.to_blocks-2.ensures, c.to_blocks-3.ensures)
+
+pub returns-in-Err-Refused-default-default-clause-found : goal.returns-in-Err-Refused-default-default-clause-found
+returns-in-Err-Refused-default-default-clause-found g c =
+    grind (arith, inherit _ _ c.to_blocks.ensures, inherit _ _ c.to_blocks-2.ensures, inherit _ _ c.to_blocks-3.ensures)

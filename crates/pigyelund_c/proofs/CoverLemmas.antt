@@ -25,5 +25,4 @@ one_more family done more left rest all p grown next so_far =
 pub all_done : (family : AddressFamily) (set : Runs) (done : List ℕ) (left all made : List PrefixValue) → left ≡ []
     → done ++ cover_octets family left ≡ cover_octets family all → all ≡ made → IsShortestCover 128 (Holds set) made
     → AreCoverOctets family set done
-all_done family set done left all made none so_far same is =
-    (made, is, rw (none, same, append-nil done) at so_far)
+all_done family set done left all made none so_far same is = (made, is, rw (none, same, append-nil done) at so_far)

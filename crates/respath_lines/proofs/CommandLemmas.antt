@@ -12,5 +12,4 @@ cut_before text at is small = grind (arith, nat_tests, passes_at_first is_space 
 
 pub cut_behind : (text : List ℕ) (at : ℕ) → IsUtf8 text → at ≡ position_or_len is_space text → at < length text
     → IsCharBoundary text (at + 1)
-cut_behind text at utf8 is small =
-    grind (arith, nat_tests, passes_at_first is_space text 0, IsCharBoundary-after_ascii)
+cut_behind text at utf8 is small = grind (arith, nat_tests, passes_at_first is_space text 0, IsCharBoundary-after_ascii)

@@ -23,8 +23,7 @@ empty_blocks =
 -- ---- which faults are named: none that isn't canonical
 
 pub blocks_names : (bytes : List ℕ) → NamesTo 10 (as_blocks_at bytes)
-blocks_names =
-    refined_names 10 (tagged_at 48) (values_of as_block_at) (header_names 10 48 (omega arith)) listed_names
+blocks_names = refined_names 10 (tagged_at 48) (values_of as_block_at) (header_names 10 48 (omega arith)) listed_names
 
 pub resources_names : (bytes : List ℕ) → NamesTo 11 (as_choice_at bytes)
 resources_names =

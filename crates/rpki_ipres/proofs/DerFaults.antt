@@ -23,15 +23,12 @@ families_empty = no_family (λ family. ip_resources_at (bits_of family)) (λ fam
 pub families_repeat : (bytes : List ℕ)
     → (ip_families_at bytes ≡ Err DuplicateFamily)
     ↔ BeginsWithValue 48 (BeginsWithRepeat (λ family. ip_resources_at (bits_of family))) bytes
-families_repeat =
-    family_twice (λ family. ip_resources_at (bits_of family)) (λ family. resources_names (bits_of family))
+families_repeat = family_twice (λ family. ip_resources_at (bits_of family)) (λ family. resources_names (bits_of family))
 
 -- ---- which faults are named: none that isn't canonical
 
 pub sequence_names : (limit : ℕ) (bytes : List ℕ) → NamesTo 10 (ip_blocks_at limit bytes)
-sequence_names limit =
-    refined_names 10 (tagged_at 48) _ (header_names 10 48 (omega arith)) (blocks_names limit)
+sequence_names limit = refined_names 10 (tagged_at 48) _ (header_names 10 48 (omega arith)) (blocks_names limit)
 
 pub all_names : (bytes : List ℕ) → NamesTo 13 (ip_families_at bytes)
-all_names =
-    families_names (λ family. ip_resources_at (bits_of family)) (λ family. resources_names (bits_of family))
+all_names = families_names (λ family. ip_resources_at (bits_of family)) (λ family. resources_names (bits_of family))

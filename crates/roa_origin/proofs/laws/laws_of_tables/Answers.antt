@@ -5,8 +5,7 @@ use Rattle.roa_origin.proofs.Totals.{not_back, total}
 use Rattle.roa_origin.proofs.laws.laws_of_tables.Goals as goal
 
 pub returns-clause-members : goal.returns-clause-members
-returns-clause-members c =
-    same_list (λ p q. payload_cmp p q ≡ Less) (not_back total)
+returns-clause-members c = same_list (λ p q. payload_cmp p q ≡ Less) (not_back total)
 
 pub returns-clause-one : goal.returns-clause-one
 returns-clause-one c payloads table other one two =
